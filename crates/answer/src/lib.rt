@@ -1,0 +1,1 @@
+// The form of an answer in numbers: definitions only, in specs/.

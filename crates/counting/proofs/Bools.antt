@@ -1,0 +1,71 @@
+-- Laws of tests.
+use Prim.Native.Nat.{ℕ}
+use mathlib.Core.Path.{_≡_, refl, sym, _∙_}
+use mathlib.Core.Logic.{_⊎_, inl, inr}
+use mathlib.Core.Bool.{Bool, true, false, not, _&&_, _||_}
+use native.Mathlib.Omega.{arith}
+use Rattle.counting.specs.Pick.{pick}
+
+-- a test does not both hold and fail
+pub clash : {A : Type 0} {b : Bool} → b ≡ true → b ≡ false → A
+clash e f = let z : _≡_ {A = ℕ} 0 1 = cc in absurd (omega arith)
+
+-- a test holds or fails
+pub holds-or : (b : Bool) → (b ≡ true) ⊎ (b ≡ false)
+holds-or true = inl refl
+holds-or false = inr refl
+
+pub pick-self : (b : Bool) → b ≡ pick b true false
+pick-self true = refl
+pick-self false = refl
+
+pub and-true : (a b : Bool) → a ≡ true → b ≡ true → (a && b) ≡ true
+and-true true true e f = refl
+and-true true false e f = f
+and-true false b e f = e
+
+pub and-left : (a b : Bool) → (a && b) ≡ true → a ≡ true
+and-left true b e = refl
+and-left false b e = e
+
+pub and-right : (a b : Bool) → (a && b) ≡ true → b ≡ true
+and-right true b e = e
+and-right false b e = clash e refl
+
+pub and-false-left : (a b : Bool) → a ≡ false → (a && b) ≡ false
+and-false-left true b e = clash refl e
+and-false-left false b e = refl
+
+pub and-false-right : (a b : Bool) → b ≡ false → (a && b) ≡ false
+and-false-right true b e = e
+and-false-right false b e = refl
+
+pub or-left : (a b : Bool) → a ≡ true → (a || b) ≡ true
+or-left true b e = refl
+or-left false b e = clash e refl
+
+pub or-right : (a b : Bool) → b ≡ true → (a || b) ≡ true
+or-right true b e = refl
+or-right false b e = e
+
+pub or-cases : (a b : Bool) → (a || b) ≡ true → (a ≡ true) ⊎ (b ≡ true)
+or-cases true b e = inl refl
+or-cases false b e = inr e
+
+pub or-false : (a b : Bool) → a ≡ false → b ≡ false → (a || b) ≡ false
+or-false true b e f = e
+or-false false b e f = f
+
+pub or-none : (a b : Bool) → (a || b) ≡ false → (a ≡ false) × (b ≡ false)
+or-none true b e = clash refl e
+or-none false b e = (refl, e)
+
+pub not-clash : (b : Bool) → (b ≡ true → ⊥) → b ≡ false
+not-clash true h = absurd (h refl)
+not-clash false h = refl
+
+-- tests that imply each other are equal
+pub bool-same : (a b : Bool) → (a ≡ true → b ≡ true) → (b ≡ true → a ≡ true) → a ≡ b
+bool-same true b f g = sym (f refl)
+bool-same false true f g = g refl
+bool-same false false f g = refl

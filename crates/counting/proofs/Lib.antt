@@ -1,0 +1,9 @@
+pub mod Bools
+pub mod Range
+pub mod Search
+pub mod Lists
+pub mod Pigeon
+pub mod Onto
+pub mod Involution
+pub mod Pack
+pub mod Reach

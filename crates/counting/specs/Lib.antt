@@ -1,0 +1,6 @@
+pub mod Pick
+pub mod Range
+pub mod Search
+pub mod Lists
+pub mod Pack
+pub mod Reach

@@ -1,0 +1,19 @@
+-- Sums and joined lists over a range of numbers.
+use Prim.Native.Nat.{ℕ, zero, suc, _+_}
+use mathlib.Core.List.{List, [], _++_}
+use lib.Dec.{eqb}
+use Rattle.counting.specs.Pick.{pick}
+
+-- the sum of n values of g, from the number p on
+unfoldable pub total : (ℕ → ℕ) → ℕ → ℕ → ℕ
+total g zero p = 0
+total g (suc n) p = g p + total g n (suc p)
+
+-- n lists of f, from the number p on, joined
+unfoldable pub over : {A : Type 0} → (ℕ → List A) → ℕ → ℕ → List A
+over f zero p = []
+over f (suc n) p = f p ++ over f n (suc p)
+
+-- the place after k in a round of n
+abbrev pub after : ℕ → ℕ → ℕ
+after n k = pick (eqb (suc k) n) 0 (suc k)
