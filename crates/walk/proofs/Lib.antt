@@ -1,0 +1,10 @@
+pub mod Iterate
+pub mod Curve
+pub mod Found
+pub mod Once
+pub mod Step
+pub mod All
+pub mod Marks
+pub mod Rest
+pub mod Claims
+pub mod Example

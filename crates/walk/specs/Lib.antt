@@ -1,0 +1,5 @@
+pub mod Iterate
+pub mod Darts
+pub mod Step
+pub mod Walk
+pub mod Claims
