@@ -1,18 +1,19 @@
 -- Laws of sums, tests and properties over a list.
 use Prim.Native.Nat.{ℕ, zero, suc, _+_, _≤_, _<_}
-use mathlib.Core.Path.{_≡_, refl, sym, ap, ap₂, _∙_}
-use mathlib.Core.Logic.{_≢_}
+use mathlib.Core.Path.{_≡_, refl, sym, ap, ap₂, _∙_, subst}
+use mathlib.Core.Logic.{_≢_, ⊎-elim}
 use mathlib.Core.Bool.{Bool, true, false}
 use mathlib.Core.List.{List, [], _∷_, _++_}
-use native.Mathlib.Nat.{zero-add, add-assoc, not-suc-le-zero}
+use native.Mathlib.Nat.{zero-add, add-assoc, not-suc-le-zero, eq-or-lt-of-le}
 use native.Mathlib.Omega.{arith}
 use lib.Dec.{eqb}
-use lib.ListN.{length, getD}
+use lib.ListN.{length, getD, length-append, List·getD-append}
+use lib.Seq.{getD-append-add}
 use borrow.Author.Tests.{eq-eqb, ne-eqb}
 use Rattle.counting.specs.Pick.{one}
 use Rattle.counting.specs.Range.{total, over}
 use Rattle.counting.specs.Lists.{weigh, tally, All}
-use Rattle.counting.proofs.Range.{total-zero, total-one, total-add, total-le, total-shift}
+use Rattle.counting.proofs.Range.{total-zero, total-one, total-add, total-le, total-shift, total-ext}
 
 module _ {A : Type 0} (h : A → ℕ) where
   pub weigh-append : (l m : List A) → weigh h (l ++ m) ≡ weigh h l + weigh h m
@@ -90,3 +91,53 @@ module _ {A : Type 0} (f : A → ℕ) (N : ℕ) where
   -- a list whose entries' numbers are below N, with each number at most once, has at most N entries
   pub room : (l : List A) → All (λ x. f x < N) l → ((v : ℕ) → tally (λ x. eqb (f x) v) l ≤ 1) → length l ≤ N
   room l h once = omega (arith, total-tally l h, total-le (λ v. tally (λ x. eqb (f x) v) l) N 0 once)
+
+module _ {A : Type 0} (f : ℕ → A) where
+  -- one entry for each number
+  pub length-singles : (n p : ℕ) → length (over (λ k. f k ∷ []) n p) ≡ n
+  unfolding over
+  length-singles zero p = refl
+  length-singles (suc n) p = ap suc (length-singles n (suc p))
+
+  pub getD-singles : (d : A) (n p k : ℕ) → k < n → getD (over (λ q. f q ∷ []) n p) k d ≡ f (p + k)
+  unfolding over
+  getD-singles d zero p k l = absurd (not-suc-le-zero l)
+  getD-singles d (suc n) p zero l = let e : p ≡ p + 0 = omega arith in ap f e
+  getD-singles d (suc n) p (suc k) l = let e : suc p + k ≡ p + suc k = omega arith in getD-singles d n (suc p) k (omega arith) ∙ ap f e
+
+module _ {A : Type 0} (d : A) where
+  -- v stands in the list
+  pub record Stands (l : List A) (v : A) : Type 0 where
+    pub at : ℕ
+    pub lt : at < length l
+    pub is : getD l at d ≡ v
+
+  stands-left : (l m : List A) (v : A) → Stands l v → Stands (l ++ m) v
+  stands-left l m v w = record { at = w .at; lt = omega (arith, w .lt, length-append l m); is = List·getD-append l m d (w .at) (w .lt) ∙ w .is }
+
+  stands-right : (l m : List A) (v : A) → Stands m v → Stands (l ++ m) v
+  stands-right l m v w = record { at = length l + w .at; lt = omega (arith, w .lt, length-append l m); is = getD-append-add l m (w .at) d ∙ w .is }
+
+  pub stands-over : (f : ℕ → List A) (n p q : ℕ) (v : A) → p ≤ q → q < p + n → Stands (f q) v → Stands (over f n p) v
+  unfolding over
+  stands-over f zero p q v a b w = absurd (omega arith)
+  stands-over f (suc n) p q v a b w =
+      ⊎-elim (λ (e : p ≡ q). stands-left (f p) (over f n (suc p)) v (subst (λ x. Stands (f x) v) (sym e) w))
+      (λ (h : p < q). stands-right (f p) (over f n (suc p)) v (stands-over f n (suc p) q v h (omega arith) w))
+      (eq-or-lt-of-le a)
+
+-- what is compared entry by entry
+pub weigh-mono : {A : Type 0} (g h : A → ℕ) (l : List A) → ((x : A) → g x ≤ h x) → weigh g l ≤ weigh h l
+unfolding weigh
+weigh-mono g h [] e = omega arith
+weigh-mono g h (x ∷ l) e = omega (arith, e x, weigh-mono g h l e)
+
+pub weigh-ext : {A : Type 0} (d : A) (g h : A → ℕ) (l : List A) → ((t : ℕ) → t < length l → g (getD l t d) ≡ h (getD l t d)) → weigh g l ≡ weigh h l
+weigh-ext d g h l e =
+    weigh-getD g d l ∙ total-ext (λ t. g (getD l t d)) (λ t. h (getD l t d)) (length l) 0 (λ t a b. e t (omega arith)) ∙ sym (weigh-getD h d l)
+
+-- what holds at each place holds of each entry
+pub at-all : {A : Type 0} (P : A → Type 0) (d : A) (l : List A) → ((i : ℕ) → i < length l → P (getD l i d)) → All P l
+unfolding All
+at-all P d [] h = tt
+at-all P d (x ∷ l) h = (h 0 (omega arith), at-all P d l (λ i k. h (suc i) (omega arith)))

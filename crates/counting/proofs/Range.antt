@@ -11,7 +11,7 @@ use lib.Dec.{eqb}
 use lib.ListN.{length, length-append}
 use borrow.Author.Tests.{eq-eqb, ne-eqb, eqb-true, eqb-false}
 use Rattle.counting.specs.Pick.{pick, one}
-use Rattle.counting.specs.Range.{total, over, after}
+use Rattle.counting.specs.Range.{total, over, after, before}
 
 -- values that agree place by place, or are compared so
 pub total-ext : (g h : ℕ → ℕ) (n p : ℕ) → ((q : ℕ) → p ≤ q → q < p + n → g q ≡ h q) → total g n p ≡ total h n p
@@ -251,3 +251,33 @@ unfolding over
 over-ext f g zero p e = refl
 over-ext f g (suc n) p e =
     ap₂ (λ a b. a ++ b) (e p (omega arith) (omega arith)) (over-ext f g n (suc p) (λ q a b. e q (omega arith) (omega arith)))
+
+-- the round: another place comes after each of two or more, no two places have one after them, and before goes back
+pub after-ne : (n k : ℕ) → k < n → n ≢ 1 → after n k ≢ k
+after-ne n k l h = go (eqb (suc k) n) refl
+  where
+    go : (b : Bool) → eqb (suc k) n ≡ b → pick b 0 (suc k) ≢ k
+    go true e = λ q. omega (arith, eqb-true (suc k) n e)
+    go false e = λ q. omega arith
+
+pub after-once : (n k l : ℕ) → k < n → l < n → after n k ≡ after n l → k ≡ l
+after-once n k l a b = go (eqb (suc k) n) (eqb (suc l) n) refl refl
+  where
+    go : (x y : Bool) → eqb (suc k) n ≡ x → eqb (suc l) n ≡ y → pick x 0 (suc k) ≡ pick y 0 (suc l) → k ≡ l
+    go true true u v e = omega (arith, eqb-true (suc k) n u, eqb-true (suc l) n v)
+    go true false u v e = omega (arith, e)
+    go false true u v e = omega (arith, e)
+    go false false u v e = omega (arith, e)
+
+pub before-lt : (n k : ℕ) → k < n → before n k < n
+before-lt n zero l = omega arith
+before-lt n (suc k) l = omega arith
+
+pub after-before : (n k : ℕ) → k < n → after n (before n k) ≡ k
+after-before n zero l = after-last n (n - 1) (omega arith)
+after-before n (suc k) l = after-on n k l
+
+pub before-after : (n k : ℕ) → k < n → before n (after n k) ≡ k
+before-after n k l =
+    let a = after-lt n k l in
+    after-once n (before n (after n k)) k (before-lt n (after n k) a) l (after-before n (after n k) a)

@@ -439,3 +439,7 @@ module _ (t u : ℕ → Bool) (into : (i : ℕ) → t i ≡ true → u i ≡ tru
       go ih m true false e f a = clash (into n e) f
       go ih m false true e f a = absurd (omega arith)
       go ih m false false e f a = at-last ih (omega arith) (e ∙ sym f)
+
+-- where some number below n passes, the search finds one, not above it
+pub first-found : (t : ℕ → Bool) (n i : ℕ) → i < n → t i ≡ true → first t n < n
+first-found t n i l e = ⊎-elim (λ (q : first t n ≡ n). clash e (first-below t n i (omega arith))) (λ h. h) (eq-or-lt-of-le (first-le t n))

@@ -1,5 +1,5 @@
 -- Sums and joined lists over a range of numbers.
-use Prim.Native.Nat.{ℕ, zero, suc, _+_}
+use Prim.Native.Nat.{ℕ, zero, suc, _+_, _-_}
 use mathlib.Core.List.{List, [], _++_}
 use lib.Dec.{eqb}
 use Rattle.counting.specs.Pick.{pick}
@@ -17,3 +17,8 @@ over f (suc n) p = f p ++ over f n (suc p)
 -- the place after k in a round of n
 abbrev pub after : ℕ → ℕ → ℕ
 after n k = pick (eqb (suc k) n) 0 (suc k)
+
+-- the place before k in a round of n
+abbrev pub before : ℕ → ℕ → ℕ
+before n zero = n - 1
+before n (suc k) = k

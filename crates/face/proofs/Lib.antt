@@ -1,0 +1,12 @@
+pub mod Corner
+pub mod Ends
+pub mod Gaps
+pub mod Branches
+pub mod Calls
+pub mod Answers
+pub mod Links
+pub mod Laws
+pub mod Rim
+pub mod Tally
+pub mod Claims
+pub mod Examples

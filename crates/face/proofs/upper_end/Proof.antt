@@ -1,0 +1,15 @@
+use borrow.Author.Tests.{eq-eqb, ne-eqb}
+use Rattle.face.specs.Face.{upper}
+use Rattle.face.proofs.upper_end.Statement.{statement}
+use Rattle.face.proofs.upper_end.Tie as tie
+
+returns : tie.Need-returns
+unfolding upper
+returns c = simp (eq-eqb _ _ (c .if1 .taken))
+
+returns-2 : tie.Need-returns-2
+unfolding upper
+returns-2 c = simp (ne-eqb _ _ (c .if1 .left))
+
+pub upper-end-spec : {M : Type 1} → statement M
+upper-end-spec = tie.close (tie.spec returns returns-2)

@@ -1,0 +1,79 @@
+-- The segments of a face (01): what each of its crossings is joined to, from the counts of its edges.
+-- The nodes a < b < c are 0, 1, 2; the edges ab, ac, bc are 0, 1, 2.
+use Prim.Native.Nat.{ℕ, _+_, _-_, _/_, _%_}
+use mathlib.Core.List.{List, [], _∷_}
+use lib.Dec.{eqb, ltb, leb}
+use Rattle.counting.specs.Pick.{pick}
+
+-- the answer of the face call in numbers, its cases in 01's order: joined, with the partner's edge and index; unjoined; no such crossing
+abbrev pub joined : ℕ → ℕ → List ℕ
+joined e t = 0 ∷ e ∷ t ∷ []
+
+abbrev pub unjoined : List ℕ
+unjoined = 1 ∷ []
+
+abbrev pub noCrossing : List ℕ
+noCrossing = 2 ∷ []
+
+-- the ends of an edge
+unfoldable pub lower : ℕ → ℕ
+lower e = pick (eqb e 2) 1 0
+
+unfoldable pub upper : ℕ → ℕ
+upper e = pick (eqb e 0) 1 2
+
+-- the other edge at the end w of the edge e: the numbers of the two edges at w add up to w + 1
+unfoldable pub other : ℕ → ℕ → ℕ
+other w e = w + 1 - e
+
+-- the edge that the node w is no end of
+unfoldable pub opposite : ℕ → ℕ
+opposite w = 2 - w
+
+-- half of what two counts have above a third: the corner count where no count is above the other two
+unfoldable pub half : ℕ → ℕ → ℕ → ℕ
+half p q o = (p + q - o) / 2
+
+-- the corner count (01) of a corner whose edges have p and q crossings, and whose opposite edge has o.
+-- Rule 3 with the one edge, the other, or the opposite one above the other two; rule 1; rule 2 with all counts less 1
+unfoldable pub corner : ℕ → ℕ → ℕ → ℕ
+corner p q o =
+    pick (ltb (q + o) p) q
+    (pick (ltb (p + o) q) p
+    (pick (ltb (p + q) o) 0
+    (pick (eqb ((p + q + o) % 2) 0) (half p q o)
+    (half (p - 1) (q - 1) (o - 1)))))
+
+-- residual (01) s of r, at the index t of the edge e: neighbours in pairs from the lower node, the first skipped if r is odd
+unfoldable pub residual : ℕ → ℕ → ℕ → ℕ → List ℕ
+residual e r s t = pick (ltb s (r % 2)) unjoined (joined e (pick (eqb ((s - r % 2) % 2) 0) (t + 1) (t - 1)))
+
+module _ (ab ac bc : ℕ) where
+  -- the count of an edge; a number over 2 is no edge, and has none
+  unfoldable pub count : ℕ → ℕ
+  count e = pick (eqb e 0) ab (pick (eqb e 1) ac (pick (eqb e 2) bc 0))
+
+  -- the sum of the counts of the other two edges
+  unfoldable pub others : ℕ → ℕ
+  others e = count (other (lower e) e) + count (other (upper e) e)
+
+  -- the index of the k-th crossing from the end w of the edge e (01)
+  unfoldable pub kth : ℕ → ℕ → ℕ → ℕ
+  kth w e k = pick (eqb w (lower e)) k (count e - 1 - k)
+
+  -- the corner count at the end w of the edge e
+  unfoldable pub cornerAt : ℕ → ℕ → ℕ
+  cornerAt w e = corner (count e) (count (other w e)) (count (opposite w))
+
+  -- the partner of the k-th crossing from w on the edge e, where k is below the corner count: the k-th from w on the other edge
+  unfoldable pub partner : ℕ → ℕ → ℕ → List ℕ
+  partner w e k = joined (other w e) (kth w (other w e) k)
+
+  -- the face call (01) for the crossing t of the edge e, which is the t-th from the lower end and the (count e - 1 - t)-th from the upper
+  unfoldable pub faceJoin : ℕ → ℕ → List ℕ
+  faceJoin e t =
+      pick (leb (count e) t) noCrossing
+      (pick (ltb t (cornerAt (lower e) e)) (partner (lower e) e t)
+      (pick (ltb (count e - 1 - t) (cornerAt (upper e) e)) (partner (upper e) e (count e - 1 - t))
+      (pick (ltb (others e) (count e)) (residual e (count e - others e) (t - cornerAt (lower e) e) t)
+      unjoined)))

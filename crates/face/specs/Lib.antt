@@ -1,0 +1,7 @@
+pub mod Face
+pub mod Join
+pub mod Ends
+pub mod Rim
+pub mod Tally
+pub mod Claims
+pub mod Examples

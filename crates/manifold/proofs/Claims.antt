@@ -1,0 +1,66 @@
+-- The laws of polygons and of complexes, together.
+use Prim.Native.Nat.{ℕ, _+_, _*_, _≤_, _<_}
+use mathlib.Core.Path.{_≡_, refl, sym, ap, _∙_}
+use mathlib.Core.Logic.{_⊎_, inl, inr, _≢_}
+use native.Mathlib.Omega.{arith}
+use lib.ListN.{length}
+use Rattle.counting.specs.Pick.{one}
+use Rattle.counting.specs.Range.{total}
+use Rattle.counting.specs.Lists.{tally}
+use Rattle.counting.proofs.Range.{total-zero, total-one}
+use Rattle.manifold.specs.Triangle.{Side, seg, inner, Tri, sideOf, hasSide, same, nth}
+use Rattle.manifold.specs.Polygon.{Polygon, shape, segment, spoke, inners, triangles, Simple}
+use Rattle.manifold.specs.Complex.{Complex, Lawful, mesh}
+use Rattle.manifold.specs.Claims.{PolygonLaws, Manifold}
+use Rattle.manifold.proofs.Triangle.{eq-same, ne-same}
+use Rattle.manifold.proofs.Sound.{member, tally-exact}
+use Rattle.manifold.proofs.Polygon.{fits, triangles-length, few-triangles, polygon-sides, Seen, seen, polygon-sound}
+use Rattle.manifold.proofs.Chain.{at-point, fan-ring}
+use Rattle.manifold.proofs.Sides.{at-most-two}
+use Rattle.manifold.proofs.Mesh.{mesh-sound, closed}
+use Rattle.manifold.proofs.Crossing.{crossing-ring}
+use Rattle.manifold.proofs.Middle.{middle-ring}
+
+pub polygonLaws : (G : Polygon) → 2 ≤ G .n → Simple G → PolygonLaws G
+polygonLaws G two D = record {
+  sides = λ t i lt li. sides t i (seen G ne (nth (triangles G) t) (member (triangles G) t lt) i li);
+  one = λ k l.
+      count (segment G k)
+      ∙ omega (
+        arith,
+        total-one (λ i. one (same (segment G k) (segment G i))) (G .n) 0 k (omega arith) (omega arith) (ap one (eq-same (segment G k) (segment G k) refl))
+            (λ i u v w. ap one (ne-same (segment G k) (segment G i) (λ e. w (D .segments i k (omega arith) l (sym e))))),
+        total-zero (λ i. 0) (inners G (shape G)) 0 (λ i u v. refl),
+      );
+  two = λ k l.
+      count (spoke G k)
+      ∙ omega (
+        arith,
+        total-zero (λ i. 0) (G .n) 0 (λ i u v. refl),
+        total-one (λ i. one (same (spoke G k) (spoke G i))) (inners G (shape G)) 0 k (omega arith) (omega arith) (ap one (eq-same (spoke G k) (spoke G k) refl))
+            (λ i u v w. ap one (ne-same (spoke G k) (spoke G i) (λ e. w (cc)))),
+      );
+  point = at-point G ne D;
+  ring = λ is. fan-ring G ne D is two;
+  few = omega (arith, triangles-length G, few-triangles G (shape G) (fits G ne));
+}
+  where
+    ne : G .n ≢ 1
+    ne e = omega arith
+
+    sides : (t i : ℕ) → Seen G (shape G) (nth (triangles G) t) i
+        → ((k : ℕ) × (k < G .n) × (sideOf (nth (triangles G) t) i ≡ segment G k)) ⊎ ((k : ℕ) × (k < inners G (shape G)) × (sideOf (nth (triangles G) t) i ≡ spoke G k))
+    sides t i (inl (k, s)) = inl (k, s .lt, s .is)
+    sides t i (inr (k, s)) = inr (k, s .lt, s .is)
+
+    count : (σ : Side) → tally (hasSide σ) (triangles G)
+        ≡ total (λ k. one (same σ (segment G k))) (G .n) 0 + 2 * total (λ k. one (same σ (spoke G k))) (inners G (shape G)) 0
+    count σ = tally-exact (polygon-sound G ne D) σ ∙ polygon-sides G σ ne
+
+pub manifold : (K : Complex) → Lawful K → Manifold K
+manifold K W = record {
+  most = at-most-two K W;
+  two = λ S t i lt li. tally-exact (mesh-sound K W) (sideOf (nth (mesh K) t) i) ∙ closed K W S .twice (nth (mesh K) t) i (member (mesh K) t lt) li;
+  ring = λ S g c h link. crossing-ring K W g S link c h;
+  round = λ S c p lc lp some is. middle-ring K W c p lc lp some is S;
+}

@@ -1,0 +1,15 @@
+pub mod Triangle
+pub mod Sound
+pub mod Polygon
+pub mod Chain
+pub mod Together
+pub mod Glue
+pub mod Twin
+pub mod Ring
+pub mod Piece
+pub mod Sides
+pub mod Mesh
+pub mod Crossing
+pub mod Middle
+pub mod Faces
+pub mod Claims

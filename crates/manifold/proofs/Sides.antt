@@ -1,0 +1,154 @@
+-- Steps 4 and 5: how often a side occurs in the mesh. A segment has at most two pieces, and each gives it at most once; an inner side belongs to
+-- one loop, which gives it twice. Where nothing is left open, a segment has two pieces, and each gives it once.
+use Prim.Native.Nat.{ℕ, zero, suc, _+_, _*_, _≤_, _<_}
+use mathlib.Core.Path.{_≡_, refl, sym, ap, _∙_, subst}
+use mathlib.Core.Logic.{_⊎_, inl, inr, _≢_, ⊎-elim}
+use mathlib.Core.List.{List}
+use native.Mathlib.Nat.{eq-zero-or-pos, le-of-eq}
+use native.Mathlib.Omega.{arith}
+use Rattle.counting.specs.Pick.{one}
+use Rattle.counting.specs.Range.{total, over}
+use Rattle.counting.specs.Lists.{tally, weigh}
+use Rattle.counting.proofs.Range.{total-zero, total-one, total-ext, total-pos, total-single, total-two, total-le-two}
+use Rattle.counting.proofs.Lists.{weigh-over}
+use Rattle.manifold.specs.Triangle.{Side, seg, inner, Tri, same, hasSide}
+use Rattle.manifold.specs.Polygon.{Polygon, shape, spoke, inners, triangles}
+use Rattle.manifold.specs.Piece.{Local, Piece, slotOf, lowerOf, segmentOf, dart, sizeOf}
+use Rattle.manifold.specs.Complex.{Complex, Lawful, Shut, loopOf, mesh}
+use Rattle.manifold.proofs.Triangle.{hits, eq-same, ne-same, one-same, tally-hits}
+use Rattle.manifold.proofs.Polygon.{polygon-sides}
+use Rattle.manifold.proofs.Piece.{Passed, counts, counted, count-one, count-le, size-ne, joins, covers, covers-segment}
+
+module _ (K : Complex) where
+  -- how often σ is a side of a triangle of the loop from p; of piece c
+  abbrev inLoop : Side → ℕ → ℕ → ℕ
+  inLoop σ c p = weigh (hits σ) (triangles (loopOf K c p))
+
+  inPiece : Side → ℕ → ℕ
+  inPiece σ c = total (inLoop σ c) (K .at c .N) 0
+
+  spokes : ℕ → ℕ → ℕ
+  spokes c p = inners (loopOf K c p) (shape (loopOf K c p))
+
+  whole : (σ : Side) → weigh (hits σ) (mesh K) ≡ total (inPiece σ) (K .pieces) 0
+  unfolding mesh inPiece
+  whole σ =
+      weigh-over (hits σ) (λ c. over (λ p. triangles (loopOf K c p)) (K .at c .N) 0) (K .pieces) 0
+      ∙ total-ext (λ c. weigh (hits σ) (over (λ p. triangles (loopOf K c p)) (K .at c .N) 0)) (inPiece σ) (K .pieces) 0
+      (λ c a b. weigh-over (hits σ) (λ p. triangles (loopOf K c p)) (K .at c .N) 0)
+
+  module _ (W : Lawful K) where
+    loop-sides : (σ : Side) (c p : ℕ) → c < K .pieces → p < K .at c .N
+        → inLoop σ c p ≡ counts (K .at c) σ p + 2 * total (λ k. one (same σ (spoke (loopOf K c p) k))) (spokes c p) 0
+    unfolding spokes
+    loop-sides σ c p lc lp = polygon-sides (loopOf K c p) σ (size-ne (K .at c) (W .piece c lc) p lp)
+
+    -- a segment
+    segment-count : (f l c : ℕ) → c < K .pieces → inPiece (seg f l) c ≡ total (counts (K .at c) (seg f l)) (K .at c .N) 0
+    unfolding inPiece
+    segment-count f l c lc =
+        total-ext (inLoop (seg f l) c) (counts (K .at c) (seg f l)) (K .at c .N) 0
+        (λ p a b. loop-sides (seg f l) c p lc (omega arith) ∙ omega (arith, total-zero (λ k. 0) (spokes c p) 0 (λ q u v. refl)))
+
+    segment-in : (f l c : ℕ) → c < K .pieces → 0 < inPiece (seg f l) c → Passed (K .at c) (seg f l)
+    segment-in f l c lc h = counted (K .at c) (W .piece c lc) (seg f l) (subst (λ x. 0 < x) (segment-count f l c lc) h)
+
+    no-three : (f l a b c : ℕ) → a < K .pieces → b < K .pieces → c < K .pieces → a ≢ b → a ≢ c → b ≢ c
+        → 0 < inPiece (seg f l) a → 0 < inPiece (seg f l) b → 0 < inPiece (seg f l) c → ⊥
+    no-three f l a b c la lb lc ab ac bc ha hb hc =
+        let u = segment-in f l a la ha in
+        let v = segment-in f l b lb hb in
+        let w = segment-in f l c lc hc in
+        W .few a b c (dart (K .at a) (u .p) (u .i)) (dart (K .at b) (v .p) (v .i)) (dart (K .at c) (w .p) (w .i)) la lb lc
+        (joins (K .at a) (W .piece a la) (u .on)) (joins (K .at b) (W .piece b lb) (v .on)) (joins (K .at c) (W .piece c lc) (w .on))
+        (sym (u .is) ∙ v .is) (sym (u .is) ∙ w .is) ab ac bc
+
+    segment-le : (f l : ℕ) → weigh (hits (seg f l)) (mesh K) ≤ 2
+    segment-le f l = subst (λ x. x ≤ 2) (sym (whole (seg f l)))
+        (total-le-two (inPiece (seg f l)) (K .pieces)
+        (λ c lc. subst (λ x. x ≤ 1) (sym (segment-count f l c lc)) (count-le (K .at c) (W .piece c lc) (seg f l)))
+        (no-three f l))
+
+    -- an inner side
+    pub record Inner (σ : Side) (c p k : ℕ) : Type 0 where
+      pub c-lt : c < K .pieces
+      pub p-lt : p < K .at c .N
+      pub k-lt : k < inners (loopOf K c p) (shape (loopOf K c p))
+      pub is : σ ≡ spoke (loopOf K c p) k
+
+    none : (c g k c′ p′ : ℕ) → c′ < K .pieces → p′ < K .at c′ .N → ((q : ℕ) → inner c g k ≢ spoke (loopOf K c′ p′) q) → inLoop (inner c g k) c′ p′ ≡ 0
+    none c g k c′ p′ lc lp ne =
+        loop-sides (inner c g k) c′ p′ lc lp
+        ∙ omega (
+          arith,
+          total-zero (λ i. 0) (sizeOf (K .at c′) p′) 0 (λ q u v. refl),
+          total-zero (λ i. one (same (inner c g k) (spoke (loopOf K c′ p′) i))) (spokes c′ p′) 0 (λ q u v. ap one (ne-same (inner c g k) (spoke (loopOf K c′ p′) q) (ne q))),
+        )
+
+    pub inner-two : (σ : Side) (c p k : ℕ) → Inner σ c p k → weigh (hits σ) (mesh K) ≡ 2
+    unfolding inPiece spokes
+    inner-two σ c p k w =
+        let g = K .at c .number p in
+        let τ = inner c g k in
+        ap (λ s. weigh (hits s) (mesh K)) (w .is) ∙ whole τ
+        ∙ total-single (inPiece τ) (K .pieces) 0 c (omega arith) (omega (arith, w .c-lt))
+        (λ c′ u v ne. total-zero (inLoop τ c′) (K .at c′ .N) 0 (λ p′ x y. none c g k c′ p′ (omega arith) (omega arith) (λ q e. ne (cc))))
+        ∙ total-single (inLoop τ c) (K .at c .N) 0 p (omega arith) (omega (arith, w .p-lt))
+        (λ p′ u v ne. none c g k c p′ (w .c-lt) (omega arith) (λ q e.
+        let f : K .at c .number p′ ≡ K .at c .number p = cc in
+        ne (W .piece c (w .c-lt) .numbers p′ p (omega arith) (w .p-lt) f)))
+        ∙ loop-sides τ c p (w .c-lt) (w .p-lt)
+        ∙ omega (
+          arith,
+          total-zero (λ i. 0) (sizeOf (K .at c) p) 0 (λ q u v. refl),
+          total-one (λ i. one (same τ (inner c g i))) (spokes c p) 0 k (omega arith) (omega (arith, w .k-lt))
+              (ap one (eq-same τ τ refl)) (λ q u v ne. ap one (ne-same τ (inner c g q) (λ e. ne (cc)))),
+        )
+
+    inner-le : (a g k : ℕ) → weigh (hits (inner a g k)) (mesh K) ≤ 2
+    unfolding inPiece spokes
+    inner-le a g k = ⊎-elim (λ (e : weigh (hits σ) (mesh K) ≡ 0). omega arith) find (eq-zero-or-pos (weigh (hits σ) (mesh K)))
+      where
+        σ : Side
+        σ = inner a g k
+
+        find : 0 < weigh (hits σ) (mesh K) → weigh (hits σ) (mesh K) ≤ 2
+        find h =
+            let (c, u, lc, hc) = total-pos (inPiece σ) (K .pieces) 0 (subst (λ x. 0 < x) (whole σ) h) in
+            let (p, v, lp, hp) = total-pos (inLoop σ c) (K .at c .N) 0 hc in
+            let (i, w, li, hi) = total-pos (λ i. one (same σ (spoke (loopOf K c p) i))) (spokes c p) 0
+            (omega (arith, hp, loop-sides σ c p (omega arith) (omega arith), total-zero (λ i. 0) (sizeOf (K .at c) p) 0 (λ q x y. refl))) in
+            le-of-eq (inner-two σ c p i (record {
+              c-lt = omega arith;
+              p-lt = omega arith;
+              k-lt = omega arith;
+              is = one-same σ (spoke (loopOf K c p) i) hi;
+            }))
+
+    side-le : (σ : Side) → weigh (hits σ) (mesh K) ≤ 2
+    side-le (seg f l) = segment-le f l
+    side-le (inner a g k) = inner-le a g k
+
+    -- (b) no side is in more than two triangles
+    pub at-most-two : (σ : Side) → tally (hasSide σ) (mesh K) ≤ 2
+    at-most-two σ = omega (arith, tally-hits σ (mesh K), side-le σ)
+
+    -- where nothing is left open, a segment of a piece occurs twice
+    module _ (S : Shut K) where
+      once : (c d : ℕ) → c < K .pieces → d < 2 * K .at c .N → inPiece (segmentOf (K .at c) d) c ≡ 1
+      once c d lc ld =
+          let w = covers (K .at c) (W .piece c lc) (λ e l. S .full c e lc l) d ld in
+          segment-count (K .at c .name (slotOf (K .at c) d)) (lowerOf (K .at c) d) c lc
+          ∙ count-one (K .at c) (W .piece c lc) (segmentOf (K .at c) d) (record { p = w .p; i = w .i; on = w .on; is = sym (covers-segment (K .at c) d w) })
+
+      pub segment-two : (c d : ℕ) → c < K .pieces → d < 2 * K .at c .N → weigh (hits (segmentOf (K .at c) d)) (mesh K) ≡ 2
+      segment-two c d lc ld =
+          let (b, lb, ne, x, lx, q) = S .paired c d lc ld in
+          let e : inPiece (segmentOf (K .at c) d) b ≡ 1 = subst (λ y. inPiece y b ≡ 1) q (once b x lb lx) in
+          let f = K .at c .name (slotOf (K .at c) d) in
+          let l = lowerOf (K .at c) d in
+          whole (segmentOf (K .at c) d)
+          ∙ total-two (inPiece (segmentOf (K .at c) d)) (K .pieces) c b lc lb (λ w. ne (sym w)) (once c d lc ld) e
+          (λ a la ac ab. ⊎-elim (λ z. z)
+          (λ (h : 0 < inPiece (segmentOf (K .at c) d) a). absurd (no-three f l c b a lc lb la (λ w. ne (sym w)) (λ w. ac (sym w)) (λ w. ab (sym w))
+          (omega (arith, once c d lc ld)) (omega (arith, e)) h)) (eq-zero-or-pos (inPiece (segmentOf (K .at c) d) a)))

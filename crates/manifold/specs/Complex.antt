@@ -1,0 +1,85 @@
+-- A complex of pieces that share segments, and its mesh.
+use Prim.Native.Nat.{ℕ, _*_, _/_, _<_}
+use mathlib.Core.Path.{_≡_}
+use mathlib.Core.Logic.{_⊎_, _≢_}
+use mathlib.Core.Bool.{Bool}
+use mathlib.Core.List.{List}
+use Rattle.counting.specs.Range.{over}
+use Rattle.walk.specs.Darts.{half}
+use Rattle.manifold.specs.Triangle.{Tri}
+use Rattle.manifold.specs.Polygon.{Polygon, triangles}
+use Rattle.manifold.specs.Piece.{Local, Piece, slotOf, mateOf, lowerOf, segmentOf, dart, sizeOf}
+
+pub record Complex : Type 0 where
+  pub pieces : ℕ
+  pub at : ℕ → Local
+  -- whether the loop of a piece from p is normal
+  pub normal : ℕ → ℕ → Bool
+
+module _ (K : Complex) where
+  -- the loop of piece c from its crossing p
+  abbrev pub loopOf : ℕ → ℕ → Polygon
+  loopOf c p = record {
+    cell = c;
+    p0 = K .at c .number p;
+    n = sizeOf (K .at c) p;
+    point = λ k. K .at c .number (half (dart (K .at c) p k));
+    face = λ k. K .at c .name (slotOf (K .at c) (dart (K .at c) p k));
+    lower = λ k. lowerOf (K .at c) (dart (K .at c) p k);
+    normal = K .normal c p;
+  }
+
+  -- all triangles, by piece and then by loop; a p that starts no loop has size 0 and gives none
+  unfoldable pub mesh : List Tri
+  unfolding triangles over
+  mesh = over (λ c. over (λ p. triangles (loopOf c p)) (K .at c .N) 0) (K .pieces) 0
+
+-- the dart d of the piece A is joined: it has a segment
+pub record Joins (A : Local) (d : ℕ) : Type 0 where
+  pub lt : d < 2 * A .N
+  pub joined : mateOf A d < A .N
+
+-- the segments of two darts have the same ends
+abbrev pub SameEnds : Local → ℕ → Local → ℕ → Type 0
+SameEnds A d B e =
+    ((A .number (half d) ≡ B .number (half e)) × (A .number (mateOf A d) ≡ B .number (mateOf B e)))
+    ⊎ ((A .number (half d) ≡ B .number (mateOf B e)) × (A .number (mateOf A d) ≡ B .number (half e)))
+
+-- what is asked of every complex
+pub record Lawful (K : Complex) : Type 0 where
+  pub piece : (c : ℕ) → c < K .pieces → Piece (K .at c)
+  -- a segment is in at most two pieces
+  pub few : (a b c d e f : ℕ) → a < K .pieces → b < K .pieces → c < K .pieces → Joins (K .at a) d → Joins (K .at b) e → Joins (K .at c) f
+      → segmentOf (K .at a) d ≡ segmentOf (K .at b) e → segmentOf (K .at a) d ≡ segmentOf (K .at c) f → a ≢ b → a ≢ c → b ≢ c → ⊥
+  -- and its name tells its ends
+  pub ends : (a b d e : ℕ) → a < K .pieces → b < K .pieces → Joins (K .at a) d → Joins (K .at b) e
+      → segmentOf (K .at a) d ≡ segmentOf (K .at b) e → SameEnds (K .at a) d (K .at b) e
+
+-- nothing is left open: each crossing of a piece is joined on both of its faces, and each segment is in a second piece
+pub record Shut (K : Complex) : Type 0 where
+  pub full : (c d : ℕ) → c < K .pieces → d < 2 * K .at c .N → mateOf (K .at c) d < K .at c .N
+  pub paired : (c d : ℕ) → c < K .pieces → d < 2 * K .at c .N
+      → (b : ℕ) × (b < K .pieces) × (b ≢ c) × (e : ℕ) × (e < 2 * K .at b .N) × (segmentOf (K .at b) e ≡ segmentOf (K .at c) d)
+
+-- the piece c has the crossing g
+pub record Has (K : Complex) (g c : ℕ) : Type 0 where
+  pub lt : c < K .pieces
+  pub x : ℕ
+  pub x-lt : x < K .at c .N
+  pub is : K .at c .number x ≡ g
+
+-- the pieces a and b share a segment that ends at g
+pub record Shares (K : Complex) (g a b : ℕ) : Type 0 where
+  pub a-lt : a < K .pieces
+  pub b-lt : b < K .pieces
+  pub d : ℕ
+  pub e : ℕ
+  pub d-lt : d < 2 * K .at a .N
+  pub e-lt : e < 2 * K .at b .N
+  pub at-d : K .at a .number (half d) ≡ g
+  pub at-e : K .at b .number (half e) ≡ g
+  pub same : segmentOf (K .at b) e ≡ segmentOf (K .at a) d
+
+-- the pieces with g are all linked through segments that end there: what holds of one of them and passes over these segments holds of all
+abbrev pub Linked : Complex → ℕ → Type 1
+Linked K g = (Q : ℕ → Type 0) → ((a b : ℕ) → Shares K g a b → Q a → Q b) → (a b : ℕ) → Has K g a → Has K g b → Q a → Q b

@@ -1,0 +1,7 @@
+pub mod Triangle
+pub mod Ring
+pub mod Polygon
+pub mod Piece
+pub mod Complex
+pub mod Faces
+pub mod Claims

@@ -1,0 +1,1 @@
+// Polygons, complexes of pieces and their meshes: definitions in specs/, laws in proofs/.

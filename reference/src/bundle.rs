@@ -1,0 +1,168 @@
+//! Records and bundles: the record reader's two calls, the bundle reader, the
+//! writer, and the three numbers for a host program.
+
+use crate::{refuse, Refusal};
+
+/// Kind of a cell record: four nodes.
+pub const CELL: u16 = 1;
+/// Kind of an edge record: two nodes and a count.
+pub const EDGE: u16 = 2;
+/// Kind of the record that ends a bundle.
+pub const END: u16 = 3;
+
+/// Bytes of the length and kind before a body.
+const HEAD: usize = 4;
+const CELL_BYTES: usize = HEAD + 8;
+const EDGE_BYTES: usize = HEAD + 5;
+const END_BYTES: usize = HEAD;
+
+/// How many cells and edges a bundle has.
+#[derive(Clone, Copy, Debug, PartialEq, Eq)]
+pub struct Sizes {
+    pub cells: usize,
+    pub edges: usize,
+}
+
+/// Kind of the record at `start`, and where the next one starts.
+pub fn record(bytes: &[u8], start: usize) -> Result<(u16, usize), Refusal> {
+    let Some(rest) = bytes.get(start..) else {
+        return refuse(13, bytes.len());
+    };
+    let size = match rest {
+        [low, high, kind_low, kind_high, ..] => {
+            let kind = u16::from_le_bytes([*kind_low, *kind_high]);
+            let length = usize::from(u16::from_le_bytes([*low, *high]));
+            record_bytes(kind).filter(|&size| size == 2 + length && size <= rest.len())
+        }
+        _ => None,
+    };
+    match size {
+        Some(size) => Ok((u16::from_le_bytes([rest[2], rest[3]]), start + size)),
+        None => refuse(13, start),
+    }
+}
+
+/// Body of the record at `start`, or the empty front of the input where
+/// `record` refuses.
+pub fn record_body(bytes: &[u8], start: usize) -> &[u8] {
+    match record(bytes, start) {
+        Ok((_, next)) => &bytes[start + HEAD..next],
+        Err(_) => &bytes[..0],
+    }
+}
+
+/// Reads a bundle into the lent lists.
+pub fn read(
+    bytes: &[u8],
+    cells: &mut [u16],
+    edges: &mut [u16],
+    counts: &mut [u8],
+) -> Result<Sizes, Refusal> {
+    let sizes = scan(bytes)?;
+    let room = cells.len() / 4 >= sizes.cells
+        && edges.len() / 2 >= sizes.edges
+        && counts.len() >= sizes.edges;
+    if !room {
+        return refuse(14, 0);
+    }
+    let (cell_records, others) = bytes.split_at(sizes.cells * CELL_BYTES);
+    for (record, nodes) in cell_records
+        .chunks_exact(CELL_BYTES)
+        .zip(cells.chunks_exact_mut(4))
+    {
+        copy_numbers(&record[HEAD..], nodes);
+    }
+    let edge_records = others[..sizes.edges * EDGE_BYTES].chunks_exact(EDGE_BYTES);
+    for ((record, ends), count) in edge_records.zip(edges.chunks_exact_mut(2)).zip(counts) {
+        copy_numbers(&record[HEAD..], ends);
+        *count = record[EDGE_BYTES - 1];
+    }
+    Ok(sizes)
+}
+
+/// Writes a bundle into `area`; the answer is the bytes written.
+pub fn write(
+    cells: &[u16],
+    edges: &[u16],
+    counts: &[u8],
+    area: &mut [u8],
+) -> Result<usize, Refusal> {
+    if !cells.len().is_multiple_of(4) || edges.len() != 2 * counts.len() {
+        return refuse(13, 0);
+    }
+    let edges_at = cells.len() / 4 * CELL_BYTES;
+    let end_at = edges_at + counts.len() * EDGE_BYTES;
+    let needed = end_at + END_BYTES;
+    if area.len() < needed {
+        return refuse(14, needed.min(u32::MAX as usize));
+    }
+    let cell_records = area[..edges_at].chunks_exact_mut(CELL_BYTES);
+    for (record, nodes) in cell_records.zip(cells.chunks_exact(4)) {
+        put_record(record, CELL, nodes);
+    }
+    let edge_records = area[edges_at..end_at].chunks_exact_mut(EDGE_BYTES);
+    for ((record, ends), &count) in edge_records.zip(edges.chunks_exact(2)).zip(counts) {
+        put_record(record, EDGE, ends);
+        record[EDGE_BYTES - 1] = count;
+    }
+    put_record(&mut area[end_at..needed], END, &[]);
+    Ok(needed)
+}
+
+/// The host's first number: 0, or the number of the bundle's refusal.
+pub fn host_refusal(bytes: &[u8]) -> u32 {
+    scan(bytes).map_or_else(|refusal| u32::from(refusal.number), |_| 0)
+}
+
+/// The host's second number: the bundle's cells, 0 if it is broken.
+pub fn host_cells(bytes: &[u8]) -> u32 {
+    scan(bytes).map_or(0, |sizes| sizes.cells as u32)
+}
+
+/// The host's third number: the bundle's edges, 0 if it is broken.
+pub fn host_edges(bytes: &[u8]) -> u32 {
+    scan(bytes).map_or(0, |sizes| sizes.edges as u32)
+}
+
+/// Row 13 over a whole bundle; counts its cells and edges.
+fn scan(bytes: &[u8]) -> Result<Sizes, Refusal> {
+    let mut sizes = Sizes { cells: 0, edges: 0 };
+    let mut start = 0;
+    loop {
+        let (kind, next) = record(bytes, start)?;
+        match kind {
+            CELL if sizes.edges == 0 => sizes.cells += 1,
+            EDGE => sizes.edges += 1,
+            END if next == bytes.len() => return Ok(sizes),
+            END => return refuse(13, next),
+            _ => return refuse(13, start),
+        }
+        start = next;
+    }
+}
+
+/// Bytes of a whole record of this kind.
+fn record_bytes(kind: u16) -> Option<usize> {
+    match kind {
+        CELL => Some(CELL_BYTES),
+        EDGE => Some(EDGE_BYTES),
+        END => Some(END_BYTES),
+        _ => None,
+    }
+}
+
+fn copy_numbers(body: &[u8], numbers: &mut [u16]) {
+    for (number, pair) in numbers.iter_mut().zip(body.chunks_exact(2)) {
+        *number = u16::from_le_bytes([pair[0], pair[1]]);
+    }
+}
+
+/// Fills in a record's length, kind and 16-bit numbers.
+fn put_record(record: &mut [u8], kind: u16, numbers: &[u16]) {
+    let length = (record.len() - 2) as u16;
+    record[..2].copy_from_slice(&length.to_le_bytes());
+    record[2..HEAD].copy_from_slice(&kind.to_le_bytes());
+    for (pair, number) in record[HEAD..].chunks_exact_mut(2).zip(numbers) {
+        pair.copy_from_slice(&number.to_le_bytes());
+    }
+}

@@ -1,0 +1,385 @@
+//! Records, bundles and the writer.
+
+use reference::bundle::{
+    host_cells, host_edges, host_refusal, read, record, record_body, write, Sizes,
+};
+use reference::gen::{Rng, Sample};
+use reference::Refusal;
+
+fn refused<T>(number: u8, place: usize) -> Result<T, Refusal> {
+    Err(Refusal {
+        number,
+        place: place as u64,
+    })
+}
+
+/// Any three lists of fitting lengths; they need not make a grid.
+fn random_lists(rng: &mut Rng, most: usize) -> Sample {
+    let cells = rng.between(0, most);
+    let edges = rng.between(0, most);
+    let mut words = |count| (0..count).map(|_| rng.word() as u16).collect::<Vec<u16>>();
+    Sample {
+        cells: words(4 * cells),
+        edges: words(2 * edges),
+        counts: words(edges).into_iter().map(|word| word as u8).collect(),
+    }
+}
+
+fn bundle_of(lists: &Sample) -> Vec<u8> {
+    let size = 3 * lists.cells.len() + 9 * lists.counts.len() + 4;
+    let mut area = vec![0xee; size + 3];
+    let written = write(&lists.cells, &lists.edges, &lists.counts, &mut area);
+    assert_eq!(written, Ok(size));
+    assert_eq!(area[size..], [0xee; 3]);
+    area.truncate(size);
+    area
+}
+
+fn small_bundle() -> Vec<u8> {
+    bundle_of(&Sample {
+        cells: vec![0, 1, 2, 3, 258, 65_535, 7, 10],
+        edges: vec![0, 1, 2, 3],
+        counts: vec![2, 7],
+    })
+}
+
+/// A second reader: eats cells, then edges, then wants exactly an end.
+fn plain_read(bytes: &[u8]) -> Result<Sample, usize> {
+    let word = |at: usize| u16::from(bytes[at]) + 256 * u16::from(bytes[at + 1]);
+    let left = |at: usize| bytes.len() - at;
+    let mut lists = empty_lists();
+    let mut at = 0;
+    while bytes[at..].starts_with(&[10, 0, 1, 0]) && left(at) >= 12 {
+        lists
+            .cells
+            .extend([4, 6, 8, 10].map(|offset| word(at + offset)));
+        at += 12;
+    }
+    while bytes[at..].starts_with(&[7, 0, 2, 0]) && left(at) >= 9 {
+        lists.edges.extend([4, 6].map(|offset| word(at + offset)));
+        lists.counts.push(bytes[at + 8]);
+        at += 9;
+    }
+    if bytes[at..] == [2, 0, 3, 0] {
+        Ok(lists)
+    } else if bytes[at..].starts_with(&[2, 0, 3, 0]) {
+        Err(at + 4)
+    } else {
+        Err(at)
+    }
+}
+
+/// Reads with ample lists and compares everything with the plain reader.
+fn compare(bytes: &[u8]) {
+    let room = bytes.len() + 8;
+    let mut cells = vec![0xaaaa; room];
+    let mut edges = vec![0xbbbb; room];
+    let mut counts = vec![0xcc; room];
+    let answer = read(bytes, &mut cells, &mut edges, &mut counts);
+    let expected = plain_read(bytes);
+    let number = if expected.is_ok() { 0 } else { 13 };
+    let lists = expected.unwrap_or_else(|place| {
+        assert_eq!(answer, refused(13, place), "{bytes:?}");
+        empty_lists()
+    });
+    let sizes = Sizes {
+        cells: lists.cells.len() / 4,
+        edges: lists.counts.len(),
+    };
+    assert!(number == 13 || answer == Ok(sizes));
+    assert_written(&cells, &lists.cells, 0xaaaa);
+    assert_written(&edges, &lists.edges, 0xbbbb);
+    assert_written(&counts, &lists.counts, 0xcc);
+    let host = (host_refusal(bytes), host_cells(bytes), host_edges(bytes));
+    assert_eq!(host, (number, sizes.cells as u32, sizes.edges as u32));
+}
+
+/// The list begins with what was to be written and is untouched beyond.
+fn assert_written<T: PartialEq>(list: &[T], written: &[T], untouched: T) {
+    let (front, rest) = list.split_at(written.len());
+    assert!(front == written && rest.iter().all(|value| *value == untouched));
+}
+
+fn empty_lists() -> Sample {
+    Sample {
+        cells: vec![],
+        edges: vec![],
+        counts: vec![],
+    }
+}
+
+#[test]
+fn written_bytes_are_as_laid_down() {
+    let lists = Sample {
+        cells: vec![0, 1, 2, 259],
+        edges: vec![0, 1],
+        counts: vec![200],
+    };
+    let cell = [10, 0, 1, 0, 0, 0, 1, 0, 2, 0, 3, 1];
+    let edge = [7, 0, 2, 0, 0, 0, 1, 0, 200];
+    let end = [2, 0, 3, 0];
+    assert_eq!(bundle_of(&lists), [&cell[..], &edge, &end].concat());
+}
+
+#[test]
+fn bundles_come_back_as_they_were() {
+    let mut rng = Rng::new(1);
+    for _ in 0..300 {
+        let lists = random_lists(&mut rng, 40);
+        let bytes = bundle_of(&lists);
+        assert_eq!(plain_read(&bytes), Ok(lists.clone()));
+        compare(&bytes);
+        let Sample {
+            mut cells,
+            mut edges,
+            mut counts,
+        } = lists.clone();
+        cells.fill(0);
+        edges.fill(0);
+        counts.fill(0);
+        assert!(read(&bytes, &mut cells, &mut edges, &mut counts).is_ok());
+        assert_eq!(
+            Sample {
+                cells,
+                edges,
+                counts
+            },
+            lists
+        );
+    }
+}
+
+#[test]
+fn every_truncation() {
+    let bytes = small_bundle();
+    for length in 0..=bytes.len() {
+        compare(&bytes[..length]);
+    }
+    assert_eq!(host_refusal(&[]), 13);
+    assert_eq!(read(&[], &mut [], &mut [], &mut []), refused(13, 0));
+    let no_end = bytes.len() - 4;
+    assert_eq!(
+        read(&bytes[..no_end], &mut [], &mut [], &mut []),
+        refused(13, no_end)
+    );
+}
+
+#[test]
+fn every_changed_byte() {
+    let mut bytes = small_bundle();
+    for at in 0..bytes.len() {
+        let kept = bytes[at];
+        for value in 0..=255 {
+            bytes[at] = value;
+            compare(&bytes);
+        }
+        bytes[at] = kept;
+    }
+}
+
+#[test]
+fn random_damage() {
+    let mut rng = Rng::new(2);
+    for _ in 0..20_000 {
+        let mut bytes = bundle_of(&random_lists(&mut rng, 4));
+        for _ in 0..rng.between(1, 3) {
+            let at = rng.below(bytes.len() + 1);
+            match rng.below(4) {
+                0 => bytes.insert(at, rng.below(12) as u8),
+                1 => bytes.truncate(at),
+                2 => {
+                    bytes.splice(at..at, [2, 0, 3, 0]);
+                }
+                _ => {
+                    let until = rng.between(at, bytes.len());
+                    bytes.drain(at..until);
+                }
+            }
+        }
+        compare(&bytes);
+    }
+}
+
+/// Whole records in any order, with ends anywhere.
+#[test]
+fn records_in_any_order() {
+    let mut rng = Rng::new(3);
+    let records: [&[u8]; 4] = [
+        &[10, 0, 1, 0, 1, 2, 3, 4, 5, 6, 7, 8],
+        &[7, 0, 2, 0, 9, 8, 7, 6, 5],
+        &[2, 0, 3, 0],
+        &[2, 0, 4, 0],
+    ];
+    for _ in 0..20_000 {
+        let chosen = (0..rng.below(6)).map(|_| records[rng.below(4)]);
+        let bytes = chosen.collect::<Vec<&[u8]>>().concat();
+        compare(&bytes);
+    }
+}
+
+#[test]
+fn row_13_places() {
+    let cell = [10, 0, 1, 0, 1, 2, 3, 4, 5, 6, 7, 8];
+    let edge = [7, 0, 2, 0, 9, 8, 7, 6, 5];
+    let end = [2, 0, 3, 0];
+    let cases: [(Vec<&[u8]>, usize); 8] = [
+        (vec![], 0),
+        (vec![&cell, &edge], 21),
+        (vec![&cell, &edge, &cell, &end], 21),
+        (vec![&edge, &cell], 9),
+        (vec![&end, &end], 4),
+        (vec![&cell, &end, &[0]], 16),
+        (vec![&cell, &[2], &end], 12),
+        (vec![&cell, &[0, 0], &end], 12),
+    ];
+    for (parts, place) in cases {
+        let bytes = parts.concat();
+        assert_eq!(read(&bytes, &mut [], &mut [], &mut []), refused(13, place));
+        compare(&bytes);
+    }
+    let only_end = read(&end, &mut [], &mut [], &mut []);
+    assert_eq!(only_end, Ok(Sizes { cells: 0, edges: 0 }));
+}
+
+#[test]
+fn row_14_short_lists() {
+    let bytes = small_bundle();
+    let sizes = Sizes { cells: 2, edges: 2 };
+    for (c, e, n) in [
+        (8, 4, 2),
+        (7, 4, 2),
+        (8, 3, 2),
+        (8, 4, 1),
+        (4, 4, 2),
+        (0, 0, 0),
+        (9, 5, 3),
+    ] {
+        let mut cells = vec![1; c];
+        let mut edges = vec![1; e];
+        let mut counts = vec![1; n];
+        let answer = read(&bytes, &mut cells, &mut edges, &mut counts);
+        if c >= 8 && e >= 4 && n >= 2 {
+            assert_eq!(answer, Ok(sizes));
+        } else {
+            assert_eq!(answer, refused(14, 0));
+            assert!(cells.iter().chain(&edges).all(|&node| node == 1));
+            assert!(counts.iter().all(|&count| count == 1));
+        }
+    }
+    let broken = &bytes[..bytes.len() - 1];
+    let place = bytes.len() - 4;
+    assert_eq!(read(broken, &mut [], &mut [], &mut []), refused(13, place));
+}
+
+/// Kind and size of the record that the bytes begin with, if any.
+fn plain_record(bytes: &[u8]) -> Option<(u16, usize)> {
+    let heads = [([10, 0, 1, 0], 12), ([7, 0, 2, 0], 9), ([2, 0, 3, 0], 4)];
+    let fits = |(head, size): &([u8; 4], usize)| bytes.starts_with(head) && bytes.len() >= *size;
+    let (head, size) = heads.into_iter().find(fits)?;
+    Some((u16::from(head[2]), size))
+}
+
+#[test]
+fn records_anywhere_in_random_bytes() {
+    let mut rng = Rng::new(4);
+    for _ in 0..3_000 {
+        let length = rng.below(40);
+        let few = [0, 0, 0, 1, 2, 3, 7, 10];
+        let bytes: Vec<u8> = (0..length).map(|_| few[rng.below(8)]).collect();
+        for start in 0..length {
+            let wanted = plain_record(&bytes[start..]);
+            let body = record_body(&bytes, start);
+            match wanted {
+                Some((kind, size)) => {
+                    assert_eq!(record(&bytes, start), Ok((kind, start + size)));
+                    assert_eq!(
+                        body.as_ptr_range(),
+                        bytes[start + 4..start + size].as_ptr_range()
+                    );
+                }
+                None => {
+                    assert_eq!(record(&bytes, start), refused(13, start));
+                    assert_eq!(body.as_ptr_range(), bytes[..0].as_ptr_range());
+                }
+            }
+        }
+    }
+}
+
+#[test]
+fn single_records() {
+    let bytes = small_bundle();
+    let starts = [
+        (0, 1, 12),
+        (12, 1, 24),
+        (24, 2, 33),
+        (33, 2, 42),
+        (42, 3, 46),
+    ];
+    for (start, kind, next) in starts {
+        assert_eq!(record(&bytes, start), Ok((kind, next)));
+        let body = record_body(&bytes, start);
+        assert_eq!(body.as_ptr_range(), bytes[start + 4..next].as_ptr_range());
+    }
+    for start in (0..46).filter(|&at| plain_record(&bytes[at..]).is_none()) {
+        assert_eq!(record(&bytes, start), refused(13, start));
+        let body = record_body(&bytes, start);
+        assert_eq!(body.as_ptr_range(), bytes[..0].as_ptr_range());
+    }
+    for start in [46, 47, usize::MAX] {
+        assert_eq!(record(&bytes, start), refused(13, 46));
+        assert_eq!(record_body(&bytes, start).as_ptr(), bytes.as_ptr());
+    }
+}
+
+#[test]
+fn records_are_not_judged_by_order() {
+    let bytes = [2, 0, 3, 0, 7, 0, 2, 0, 1, 0, 2, 0, 9, 10, 0, 1, 0];
+    assert_eq!(record(&bytes, 0), Ok((3, 4)));
+    assert_eq!(record_body(&bytes, 0), []);
+    assert_eq!(record(&bytes, 4), Ok((2, 13)));
+    assert_eq!(record_body(&bytes, 4), [1, 0, 2, 0, 9]);
+    assert_eq!(record(&bytes, 13), refused(13, 13));
+    assert_eq!(record(&bytes, 17), refused(13, 17));
+}
+
+#[test]
+fn writer_refusals() {
+    let mut area = [9; 64];
+    for (cells, edges, counts) in [
+        (3, 0, 0),
+        (4, 1, 0),
+        (4, 2, 0),
+        (4, 0, 1),
+        (5, 2, 1),
+        (4, 3, 1),
+    ] {
+        let answer = write(
+            &vec![0; cells],
+            &vec![0; edges],
+            &vec![0; counts],
+            &mut area,
+        );
+        assert_eq!(answer, refused(13, 0));
+    }
+    let answer = write(&[0, 1, 2, 3], &[0, 1], &[5], &mut area[..24]);
+    assert_eq!(answer, refused(14, 25));
+    assert_eq!(write(&[0, 1, 2], &[], &[], &mut []), refused(13, 0));
+    assert_eq!(write(&[], &[], &[], &mut area[..3]), refused(14, 4));
+    assert_eq!(area, [9; 64]);
+    assert_eq!(write(&[], &[], &[], &mut area), Ok(4));
+    assert_eq!(area[..5], [2, 0, 3, 0, 9]);
+}
+
+/// The lists are never looked at, so their zero pages are never brought in.
+#[test]
+#[ignore = "reserves 3 GB of address space"]
+fn writer_needs_more_than_32_bits_tell() {
+    let just = vec![0; 4 * 357_913_941];
+    assert_eq!(write(&just, &[], &[], &mut []), refused(14, 4_294_967_295));
+    drop(just);
+    let more = vec![0; 4 * 357_913_942];
+    assert_eq!(write(&more, &[], &[], &mut []), refused(14, 4_294_967_295));
+    let fewer = &more[..4 * 357_913_940];
+    assert_eq!(write(fewer, &[], &[], &mut []), refused(14, 4_294_967_284));
+}

@@ -1,0 +1,218 @@
+//! Laws and examples of the face call.
+
+use std::collections::BTreeMap;
+
+use reference::face::{join, Join};
+use reference::gen::Rng;
+use reference::manifold::alternates;
+
+type Crossing = (u32, u32);
+
+/// The edge between two corners (0 for a, 1 for b, 2 for c).
+fn edge_between(i: usize, j: usize) -> usize {
+    i + j - 1
+}
+
+/// The crossing that is `k`-th from corner `from` on the edge to corner `to`.
+fn ranked(counts: [u32; 3], from: usize, to: usize, k: u32) -> Crossing {
+    let edge = edge_between(from, to);
+    let index = if from < to { k } else { counts[edge] - 1 - k };
+    (edge as u32, index)
+}
+
+/// All segments, rule by rule.
+fn plain_segments(counts: [u32; 3]) -> Vec<(Crossing, Crossing)> {
+    let count = |i, j| counts[edge_between(i, j)];
+    let mut cuts = [0; 3];
+    let mut segments = Vec::new();
+    let triples = [[0, 1, 2], [0, 2, 1], [1, 2, 0]];
+    if let Some([i, j, k]) = triples
+        .into_iter()
+        .find(|&[i, j, k]| count(i, j) > count(i, k) + count(j, k))
+    {
+        let residual = count(i, j) - count(i, k) - count(j, k);
+        cuts[i] = count(i, k);
+        cuts[j] = count(j, k);
+        let mut rank = cuts[i] + residual % 2;
+        while rank < cuts[i] + residual {
+            segments.push((ranked(counts, i, j, rank), ranked(counts, i, j, rank + 1)));
+            rank += 2;
+        }
+    } else {
+        let less = counts.iter().sum::<u32>() % 2;
+        let count = |i, j| counts[edge_between(i, j)] - less;
+        for [i, j, k] in [[0, 1, 2], [1, 0, 2], [2, 0, 1]] {
+            cuts[i] = (count(i, j) + count(i, k) - count(j, k)) / 2;
+        }
+    }
+    for [i, j, k] in [[0, 1, 2], [1, 0, 2], [2, 0, 1]] {
+        for rank in 0..cuts[i] {
+            segments.push((ranked(counts, i, j, rank), ranked(counts, i, k, rank)));
+        }
+    }
+    segments
+}
+
+fn all_counts(most: u32) -> impl Iterator<Item = [u32; 3]> {
+    (0..(most + 1).pow(3)).map(move |code| {
+        let base = most + 1;
+        [code % base, code / base % base, code / base / base]
+    })
+}
+
+/// Every crossing with its partner, as the face call has it.
+fn partners(counts: [u32; 3]) -> BTreeMap<Crossing, Option<Crossing>> {
+    let mut found = BTreeMap::new();
+    for edge in 0..3 {
+        for index in 0..counts[edge as usize] {
+            let partner = match join(counts, edge, index) {
+                Join::Joined { edge, index } => Some((edge, index)),
+                Join::Unjoined => None,
+                Join::NoCrossing => panic!("{counts:?} has crossing {index} on edge {edge}"),
+            };
+            found.insert((edge, index), partner);
+        }
+    }
+    found
+}
+
+#[test]
+fn agrees_with_the_rules() {
+    for counts in all_counts(12) {
+        let mut expected = BTreeMap::new();
+        for (one, other) in plain_segments(counts) {
+            assert_eq!(expected.insert(one, other), None);
+            assert_eq!(expected.insert(other, one), None);
+        }
+        for (crossing, partner) in partners(counts) {
+            assert_eq!(
+                partner,
+                expected.remove(&crossing),
+                "{counts:?} {crossing:?}"
+            );
+        }
+        assert!(expected.is_empty());
+    }
+}
+
+#[test]
+fn partners_are_mutual_and_never_the_same() {
+    for counts in all_counts(12) {
+        let found = partners(counts);
+        for (&crossing, &partner) in &found {
+            if let Some(partner) = partner {
+                assert_ne!(partner, crossing);
+                assert_eq!(found[&partner], Some(crossing));
+            }
+        }
+    }
+}
+
+#[test]
+fn counts_sum_to_ends_and_unjoined() {
+    for counts in all_counts(12) {
+        let found = partners(counts);
+        let sum: u32 = counts.iter().sum();
+        let unjoined = found.values().filter(|partner| partner.is_none()).count();
+        let segments = plain_segments(counts).len();
+        assert_eq!(sum as usize, 2 * segments + unjoined);
+        let balanced = counts.iter().all(|&count| 2 * count <= sum);
+        let expected = match (sum % 2, balanced) {
+            (0, _) => 0,
+            (_, true) => 3,
+            _ => 1,
+        };
+        assert_eq!(unjoined, expected);
+    }
+}
+
+/// Place of a crossing on the walk a, b, c, a.
+fn rim_place(counts: [u32; 3], (edge, index): Crossing) -> u32 {
+    let [ab, ac, bc] = counts;
+    match edge {
+        0 => index,
+        2 => ab + index,
+        _ => ab + bc + (ac - 1 - index),
+    }
+}
+
+#[test]
+fn segments_never_alternate() {
+    for counts in all_counts(12) {
+        let mut spans = Vec::new();
+        for (crossing, partner) in partners(counts) {
+            let from = rim_place(counts, crossing);
+            let to = partner.map_or(0, |partner| rim_place(counts, partner));
+            if from < to {
+                spans.push((from, to));
+            }
+        }
+        for (from, to) in &spans {
+            for (begin, end) in &spans {
+                assert!(!(from < begin && begin < to && to < end), "{counts:?}");
+            }
+        }
+        assert!(!alternates(counts));
+    }
+}
+
+#[test]
+fn even_counts_of_three_leave_the_middles() {
+    let counts = [3, 3, 3];
+    assert_eq!(plain_segments(counts).len(), 3);
+    for edge in 0..3 {
+        assert_eq!(join(counts, edge, 1), Join::Unjoined);
+        assert_ne!(join(counts, edge, 0), Join::Unjoined);
+        assert_ne!(join(counts, edge, 2), Join::Unjoined);
+    }
+}
+
+#[test]
+fn long_edge_skips_its_first_residual() {
+    let counts = [5, 1, 1];
+    let joined = |edge, index| Join::Joined { edge, index };
+    assert_eq!(join(counts, 0, 0), joined(1, 0));
+    assert_eq!(join(counts, 0, 1), Join::Unjoined);
+    assert_eq!(join(counts, 0, 2), joined(0, 3));
+    assert_eq!(join(counts, 0, 3), joined(0, 2));
+    assert_eq!(join(counts, 0, 4), joined(2, 0));
+}
+
+#[test]
+fn no_crossing_outside_the_face() {
+    for (edge, index) in [(3, 0), (u32::MAX, 0), (0, 2), (1, 0), (2, 7), (0, u32::MAX)] {
+        assert_eq!(join([2, 0, 7], edge, index), Join::NoCrossing);
+    }
+}
+
+#[test]
+fn counts_of_any_size_are_mutual() {
+    let mut rng = Rng::new(5);
+    for _ in 0..100_000 {
+        let most = 1 << rng.between(1, 32);
+        let counts = [(); 3].map(|()| rng.below(most) as u32);
+        let edge = rng.below(3);
+        let index = rng.below(counts[edge].max(1) as usize) as u32;
+        match join(counts, edge as u32, index) {
+            Join::Joined {
+                edge: other,
+                index: there,
+            } => {
+                let back = Join::Joined {
+                    edge: edge as u32,
+                    index,
+                };
+                assert_eq!(join(counts, other, there), back);
+            }
+            Join::Unjoined => assert_eq!(counts.iter().fold(0, |sum, c| (sum + c % 2) % 2), 1),
+            Join::NoCrossing => assert_eq!(counts[edge], 0),
+        }
+    }
+    let full = [u32::MAX; 3];
+    assert_eq!(join(full, 1, u32::MAX / 2), Join::Unjoined);
+    let end = Join::Joined {
+        edge: 2,
+        index: u32::MAX - 1,
+    };
+    assert_eq!(join(full, 1, u32::MAX - 1), end);
+}

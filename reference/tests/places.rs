@@ -1,0 +1,307 @@
+//! The places call: examples, rows 15 to 17, and a plain second placing.
+
+use reference::cell::{NO_NUMBER, TRIANGLE_WORDS};
+use reference::gen::{random_shape, Rng, Sample};
+use reference::mesh::mesh;
+use reference::places::{places, Place};
+use reference::Refusal;
+
+const UNTOUCHED: f64 = -77.25;
+
+fn refused<T>(number: u8, place: u64) -> Result<T, Refusal> {
+    Err(Refusal { number, place })
+}
+
+fn one_cell(counts: [u8; 6]) -> Sample {
+    Sample {
+        cells: vec![0, 1, 2, 3],
+        edges: vec![0, 1, 0, 2, 0, 3, 1, 2, 1, 3, 2, 3],
+        counts: counts.to_vec(),
+    }
+}
+
+/// A call on one grid with everything it needs.
+struct Call {
+    grid: Sample,
+    nodes: Vec<f64>,
+    fractions: Vec<f64>,
+    area: Vec<f64>,
+}
+
+impl Call {
+    fn run(&mut self) -> Result<u32, Refusal> {
+        let Sample {
+            cells,
+            edges,
+            counts,
+        } = &self.grid;
+        places(
+            cells,
+            edges,
+            counts,
+            &self.nodes,
+            &self.fractions,
+            &mut self.area,
+        )
+    }
+
+    fn refuses(&mut self, number: u8, place: u64) {
+        assert_eq!(self.run(), refused(number, place));
+        assert!(self.area.iter().all(|&number| number == UNTOUCHED));
+    }
+}
+
+fn crossings(grid: &Sample) -> usize {
+    grid.counts.iter().map(|&count| usize::from(count)).sum()
+}
+
+/// Increasing fractions for each edge, all whole numbers of 1,024ths.
+fn fractions(rng: &mut Rng, grid: &Sample) -> Vec<f64> {
+    let mut all = Vec::new();
+    for &count in &grid.counts {
+        let mut steps: Vec<u16> = (1..1024).collect();
+        rng.shuffle(&mut steps);
+        steps.truncate(usize::from(count));
+        steps.sort_unstable();
+        all.extend(steps.into_iter().map(|step| f64::from(step) / 1024.0));
+    }
+    all
+}
+
+fn call(rng: &mut Rng, grid: Sample, whole: bool) -> Call {
+    let highest = usize::from(*grid.cells.iter().max().expect("a cell"));
+    let mut number = || {
+        let whole_part = rng.between(0, 2_000_000) as f64 - 1_000_000.0;
+        if whole {
+            whole_part
+        } else {
+            whole_part * 0.999_999_9 / 3.7
+        }
+    };
+    let nodes = (0..3 * (highest + 1)).map(|_| number()).collect();
+    let fractions = fractions(rng, &grid);
+    let area = vec![UNTOUCHED; 3 * (crossings(&grid) + fans(&grid).len()) + 5];
+    Call {
+        grid,
+        nodes,
+        fractions,
+        area,
+    }
+}
+
+/// Crossings round each middle, taken from the mesh's own triangles.
+fn fans(grid: &Sample) -> Vec<Vec<usize>> {
+    let Sample {
+        cells,
+        edges,
+        counts,
+    } = grid;
+    let mut area = vec![0; 2_000_000];
+    let triangles = mesh(cells, edges, counts, &mut area).expect("an accepted grid");
+    let mut found: Vec<((u32, u32), Vec<usize>)> = Vec::new();
+    for words in area.chunks(TRIANGLE_WORDS).take(triangles as usize) {
+        if words[4] == NO_NUMBER {
+            let name = (words[0], words[1]);
+            match found.last_mut() {
+                Some((last, points)) if *last == name => points.push(words[2] as usize),
+                _ => found.push((name, vec![words[2] as usize])),
+            }
+        }
+    }
+    found.into_iter().map(|(_, points)| points).collect()
+}
+
+/// Every number that the call should write.
+fn plain_places(call: &Call) -> Vec<f64> {
+    let mut numbers: Vec<f64> = Vec::new();
+    let mut crossing = 0;
+    for (edge, [u, v]) in call.grid.edge_list().into_iter().enumerate() {
+        for _ in 0..call.grid.counts[edge] {
+            for part in 0..3 {
+                let from = call.nodes[3 * usize::from(u) + part];
+                let along = call.nodes[3 * usize::from(v) + part] - from;
+                let moved = call.fractions[crossing] * along;
+                numbers.push(from + moved);
+            }
+            crossing += 1;
+        }
+    }
+    for points in fans(&call.grid) {
+        for part in 0..3 {
+            let mut sum = numbers[3 * points[0] + part];
+            for point in &points[1..] {
+                sum += numbers[3 * point + part];
+            }
+            numbers.push(sum / points.len() as f64);
+        }
+    }
+    numbers
+}
+
+#[test]
+fn random_grids_are_placed_alike() {
+    let mut rng = Rng::new(37);
+    let mut middles = 0;
+    for seed in 0..80 {
+        let most = rng.between(1, 12) as u8;
+        let grid = random_shape(&mut Rng::new(seed)).with_counts(&mut rng, 0, most);
+        let mut call = call(&mut rng, grid, seed % 2 == 0);
+        let expected = plain_places(&call);
+        assert_eq!(call.run(), Ok(expected.len() as u32 / 3));
+        let (written, rest) = call.area.split_at(expected.len());
+        let same = written
+            .iter()
+            .zip(&expected)
+            .all(|(a, b)| a.to_bits() == b.to_bits());
+        assert!(same);
+        assert_eq!(rest, [UNTOUCHED; 5]);
+        middles += expected.len() / 3 - crossings(&call.grid);
+    }
+    assert!(middles > 500);
+}
+
+#[test]
+fn whole_nodes_and_1024ths_are_exact() {
+    let mut rng = Rng::new(41);
+    for seed in 0..40 {
+        let grid = random_shape(&mut Rng::new(seed)).with_counts(&mut rng, 0, 6);
+        let mut call = call(&mut rng, grid, true);
+        assert!(call.run().is_ok());
+        let mut crossing = 0;
+        for (edge, [u, v]) in call.grid.edge_list().into_iter().enumerate() {
+            for _ in 0..call.grid.counts[edge] {
+                for part in 0..3 {
+                    let from = call.nodes[3 * usize::from(u) + part] as i64;
+                    let to = call.nodes[3 * usize::from(v) + part] as i64;
+                    let steps = (call.fractions[crossing] * 1024.0) as i64;
+                    let scaled = from * 1024 + steps * (to - from);
+                    let placed = call.area[3 * crossing + part];
+                    assert_eq!((placed * 1024.0) as i64, scaled);
+                    assert_eq!(placed, scaled as f64 / 1024.0);
+                }
+                crossing += 1;
+            }
+        }
+    }
+}
+
+#[test]
+fn two_crossings_and_their_middle() {
+    let mut call = call(&mut Rng::new(1), one_cell([2, 0, 0, 0, 0, 0]), true);
+    call.nodes = vec![0.0, 0.0, 1.0, 4.0, 8.0, 1.0, 9.0, 9.0, 9.0, 7.0, 7.0, 7.0];
+    call.fractions = vec![0.25, 0.5];
+    assert_eq!(call.run(), Ok(3));
+    let wanted = [1.0, 2.0, 1.0, 2.0, 4.0, 1.0, 1.5, 3.0, 1.0];
+    assert_eq!(call.area[..9], wanted);
+    let end = Place {
+        x: 8.0,
+        y: 0.0,
+        z: -4.0,
+    };
+    let start = Place {
+        x: 0.0,
+        y: 0.0,
+        z: 4.0,
+    };
+    assert_eq!(
+        start.toward(end, 0.5),
+        Place {
+            x: 4.0,
+            y: 0.0,
+            z: 0.0
+        }
+    );
+}
+
+#[test]
+fn row_15_lengths() {
+    let fresh = || call(&mut Rng::new(1), one_cell([2, 0, 0, 0, 0, 0]), true);
+    let mut no_fractions = fresh();
+    no_fractions.fractions.clear();
+    no_fractions.refuses(15, 0);
+    let mut too_many = fresh();
+    too_many.fractions.push(0.999);
+    too_many.refuses(15, 0);
+    let mut few_nodes = fresh();
+    few_nodes.nodes.pop();
+    few_nodes.refuses(15, 0);
+    let mut spare_nodes = fresh();
+    spare_nodes.nodes.push(f64::NAN);
+    assert_eq!(spare_nodes.run(), Ok(3));
+    let mut short = fresh();
+    short.area.truncate(8);
+    short.refuses(15, 0);
+    let mut exact = fresh();
+    exact.area.truncate(9);
+    assert_eq!(exact.run(), Ok(3));
+}
+
+#[test]
+fn row_16_node_places() {
+    let mut grid = Sample::from_cells([[1, 3, 5, 7]]);
+    grid.counts[0] = 1;
+    let fresh = || call(&mut Rng::new(1), grid.clone(), true);
+    let bad = [
+        f64::NAN,
+        f64::INFINITY,
+        f64::NEG_INFINITY,
+        1_000_000.000_1,
+        -1_000_001.0,
+    ];
+    for value in bad {
+        let mut one = fresh();
+        one.nodes[17] = value;
+        one.nodes[22] = value;
+        one.refuses(16, 17);
+        let mut unused = fresh();
+        unused.nodes[0] = value;
+        unused.nodes[8] = value;
+        unused.nodes[20] = value;
+        assert_eq!(unused.run(), Ok(1));
+    }
+    let mut ends = fresh();
+    ends.nodes.fill(-1_000_000.0);
+    ends.nodes[10] = 1_000_000.0;
+    assert_eq!(ends.run(), Ok(1));
+}
+
+#[test]
+fn row_17_fractions() {
+    let fresh = || {
+        let mut call = call(&mut Rng::new(1), one_cell([2, 1, 0, 0, 0, 1]), true);
+        call.fractions = vec![0.5, 0.75, 0.25, 0.5];
+        call
+    };
+    assert!(fresh().run().is_ok());
+    for (at, value) in [
+        (1, 0.5),
+        (1, 0.25),
+        (0, 0.0),
+        (2, 1.0),
+        (3, -0.5),
+        (3, 1.5),
+        (2, f64::NAN),
+    ] {
+        let mut one = fresh();
+        one.fractions[at] = value;
+        one.fractions[3] = if at < 3 { 2.0 } else { value };
+        one.refuses(17, at as u64);
+    }
+    let mut tiny = fresh();
+    tiny.fractions[0] = f64::MIN_POSITIVE;
+    tiny.fractions[3] = 1.0 - f64::EPSILON / 2.0;
+    assert!(tiny.run().is_ok());
+}
+
+#[test]
+fn earlier_rows_win() {
+    let mut one = call(&mut Rng::new(1), one_cell([2, 0, 0, 0, 0, 0]), true);
+    one.fractions[1] = 7.0;
+    one.refuses(17, 1);
+    one.nodes[11] = f64::NAN;
+    one.refuses(16, 11);
+    one.area.truncate(4);
+    one.refuses(15, 0);
+    one.grid.counts.pop();
+    one.refuses(2, 0);
+}

@@ -1,0 +1,13 @@
+#!/usr/bin/env bash
+# Installs what the gate needs beyond the Rattle kit, where it is missing: a C compiler and Rust, from Debian's packages.
+set -euo pipefail
+
+missing=()
+command -v cc >/dev/null 2>&1 || missing+=(gcc libc6-dev)
+command -v cargo >/dev/null 2>&1 || missing+=(cargo rustc)
+[ "${#missing[@]}" -eq 0 ] && exit 0
+
+as_root=()
+[ "$(id -u)" -eq 0 ] || as_root=(sudo)
+"${as_root[@]}" apt-get update -q
+"${as_root[@]}" apt-get install -y -q --no-install-recommends "${missing[@]}"
