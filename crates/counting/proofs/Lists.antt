@@ -3,7 +3,7 @@ use Prim.Native.Nat.{ℕ, zero, suc, _+_, _≤_, _<_}
 use mathlib.Core.Path.{_≡_, refl, sym, ap, ap₂, _∙_, subst}
 use mathlib.Core.Logic.{_≢_, ⊎-elim}
 use mathlib.Core.Bool.{Bool, true, false}
-use mathlib.Core.List.{List, [], _∷_, _++_}
+use mathlib.Core.List.{List, [], _∷_, _++_, map, map-append}
 use native.Mathlib.Nat.{zero-add, add-assoc, not-suc-le-zero, eq-or-lt-of-le}
 use native.Mathlib.Omega.{arith}
 use lib.Dec.{eqb}
@@ -141,3 +141,21 @@ pub at-all : {A : Type 0} (P : A → Type 0) (d : A) (l : List A) → ((i : ℕ)
 unfolding All
 at-all P d [] h = tt
 at-all P d (x ∷ l) h = (h 0 (omega arith), at-all P d l (λ i k. h (suc i) (omega arith)))
+
+-- a map of joined lists
+pub map-over : {A B : Type 0} (h : A → B) (f : ℕ → List A) (n p : ℕ) → map h (over f n p) ≡ over (λ q. map h (f q)) n p
+unfolding over
+map-over h f zero p = refl
+map-over h f (suc n) p = map-append h (f p) (over f n (suc p)) ∙ ap (λ l. map h (f p) ++ l) (map-over h f n (suc p))
+
+-- a list mapped entry by entry
+module _ {A B : Type 0} (f : A → B) where
+  pub getD-map : (a : A) (b : B) (l : List A) (t : ℕ) → t < length l → getD (map f l) t b ≡ f (getD l t a)
+  getD-map a b [] t h = absurd (not-suc-le-zero h)
+  getD-map a b (x ∷ l) zero h = refl
+  getD-map a b (x ∷ l) (suc t) h = getD-map a b l t (omega arith)
+
+  pub tally-map : (p : B → Bool) (l : List A) → tally p (map f l) ≡ tally (λ x. p (f x)) l
+  unfolding tally
+  tally-map p [] = refl
+  tally-map p (x ∷ l) = ap (λ n. one (p (f x)) + n) (tally-map p l)

@@ -20,8 +20,8 @@ module _ {ab ac bc e x p q t : ℕ} (o : OnEdge ab ac bc e x p q t) {w : ℕ} wh
   unfolding partner
   high-join u h = rw u (face-high (o .corners) t (o .there) (omega (arith, o .there)))
 
-pub middle-join : {ab ac bc e x p q t : ℕ} → OnEdge ab ac bc e x p q t → p ≤ t → q ≤ x - 1 - t →
-    faceJoin ab ac bc e t ≡ residual e (x - p - q) (t - p) (p + (t - p))
-middle-join {x = x} {p} {q} {t} o h k =
-    let s : p + (t - p) ≡ t = omega arith in
-    rw s (face-middle (o .corners) t h (omega (arith, o .there)))
+pub middle-join : {ab ac bc e x p q t : ℕ} → OnEdge ab ac bc e x p q t → (s : ℕ) → p + s ≡ t → q ≤ x - 1 - t →
+    faceJoin ab ac bc e t ≡ residual e (x - p - q) s (p + s)
+middle-join {x = x} {p} {q} {t} o s h k =
+    let r : t - p ≡ s = omega arith in
+    rw h (rw r at (face-middle (o .corners) t (omega arith) (omega (arith, o .there))))

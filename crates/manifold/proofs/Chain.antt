@@ -1,18 +1,16 @@
 -- Step 2, chains: at a point of a loop its triangles are a chain of one or two, and a fan is a ring round its middle.
-use Prim.Native.Nat.{ℕ, zero, suc, _+_, _*_, _-_, _≤_, _<_}
+use Prim.Native.Nat.{ℕ, zero, suc, _-_, _≤_, _<_}
 use mathlib.Core.Path.{_≡_, refl, sym, ap, _∙_, subst}
 use mathlib.Core.Logic.{_⊎_, inl, inr, _≢_, ⊎-elim}
-use mathlib.Core.Bool.{Bool, true, false}
-use native.Mathlib.Nat.{not-suc-le-zero}
 use native.Mathlib.Omega.{arith}
 use lib.Dec.{eqb}
 use lib.ListN.{length}
-use borrow.Author.Tests.{eqb-true, eqb-false, ne-eqb}
+use borrow.Author.Tests.{eq-eqb, ne-eqb}
 use Rattle.counting.specs.Pick.{pick}
 use Rattle.counting.specs.Range.{after, before}
 use Rattle.counting.proofs.Range.{after-lt, after-ne, after-once, before-lt, after-before}
-use Rattle.manifold.specs.Triangle.{Corner, Side, Tri, cornerOf, sideOf, prev, nth}
-use Rattle.manifold.specs.Ring.{Passes, Chain, OneRing}
+use Rattle.manifold.specs.Triangle.{Corner, Side, cornerOf, sideOf, prev, nth}
+use Rattle.manifold.specs.Ring.{Passes, OneRing}
 use Rattle.manifold.specs.Polygon.{Polygon, Shape, single, double, fan, shape, corner, centre, segment, spoke, triangle, many, inners, triangles, Simple}
 use Rattle.manifold.specs.Claims.{AtPoint}
 use Rattle.manifold.proofs.Triangle.{cross-middle}
@@ -236,7 +234,7 @@ module _ (G : Polygon) where
         once = λ i j a b e. e;
       };
       more = two;
-      home = ap (spoke G) (last (eqb (G .n) (G .n)) refl) ∙ ap (spoke G) (sym (round-lt 0 (omega arith)));
+      home = ap (spoke G) (round-n ∙ sym (round-lt 0 (omega arith)));
     }
       where
         -- the number of the inner side after i − 1
@@ -249,9 +247,8 @@ module _ (G : Polygon) where
         round-lt : (i : ℕ) → i < G .n → round i ≡ i
         round-lt i l = rw (ne-eqb i (G .n) (λ e. omega arith))
 
-        last : (b : Bool) → eqb (G .n) (G .n) ≡ b → pick b 0 (G .n) ≡ 0
-        last true e = refl
-        last false e = absurd (eqb-false (G .n) (G .n) e refl)
+        round-n : round (G .n) ≡ 0
+        round-n = rw (eq-eqb (G .n) (G .n) refl)
 
         nth-fan : (i : ℕ) → i < G .n → nth (triangles G) i ≡ triangle G fan i
         nth-fan i l = triangles-nth G i (omega (arith, count)) ∙ ap (λ s. triangle G s i) is

@@ -3,12 +3,11 @@ use Prim.Native.Nat.{ℕ, _+_, _*_, _≤_, _<_}
 use mathlib.Core.Path.{_≡_, refl, sym, ap, _∙_}
 use mathlib.Core.Logic.{_⊎_, inl, inr, _≢_}
 use native.Mathlib.Omega.{arith}
-use lib.ListN.{length}
 use Rattle.counting.specs.Pick.{one}
 use Rattle.counting.specs.Range.{total}
 use Rattle.counting.specs.Lists.{tally}
 use Rattle.counting.proofs.Range.{total-zero, total-one}
-use Rattle.manifold.specs.Triangle.{Side, seg, inner, Tri, sideOf, hasSide, same, nth}
+use Rattle.manifold.specs.Triangle.{Side, sideOf, hasSide, same, nth}
 use Rattle.manifold.specs.Polygon.{Polygon, shape, segment, spoke, inners, triangles, Simple}
 use Rattle.manifold.specs.Complex.{Complex, Lawful, mesh}
 use Rattle.manifold.specs.Claims.{PolygonLaws, Manifold}
@@ -18,6 +17,7 @@ use Rattle.manifold.proofs.Polygon.{fits, triangles-length, few-triangl
 use Rattle.manifold.proofs.Chain.{at-point, fan-ring}
 use Rattle.manifold.proofs.Sides.{at-most-two}
 use Rattle.manifold.proofs.Mesh.{mesh-sound, closed}
+use Rattle.manifold.proofs.Few.{piece-few}
 use Rattle.manifold.proofs.Crossing.{crossing-ring}
 use Rattle.manifold.proofs.Middle.{middle-ring}
 
@@ -59,6 +59,7 @@ polygonLaws G two D = record {
 
 pub manifold : (K : Complex) → Lawful K → Manifold K
 manifold K W = record {
+  few = piece-few K W;
   most = at-most-two K W;
   two = λ S t i lt li. tally-exact (mesh-sound K W) (sideOf (nth (mesh K) t) i) ∙ closed K W S .twice (nth (mesh K) t) i (member (mesh K) t lt) li;
   ring = λ S g c h link. crossing-ring K W g S link c h;

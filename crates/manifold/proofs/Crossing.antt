@@ -1,27 +1,25 @@
 -- Step 6: where nothing is left open and the pieces at a crossing are linked, the triangles there form one ring. In a piece they are the chain of
 -- step 2, from one face to the other; over a shared segment they meet those of the next piece.
-use Prim.Native.Nat.{ℕ, zero, suc, _+_, _*_, _-_, _/_, _≤_, _<_}
-use mathlib.Core.Path.{_≡_, refl, sym, ap, _∙_, subst}
-use mathlib.Core.Logic.{_⊎_, inl, inr, ⊎-elim}
+use Prim.Native.Nat.{ℕ, suc, _*_, _-_, _<_}
+use mathlib.Core.Path.{_≡_, sym, ap, _∙_, subst}
+use mathlib.Core.Logic.{⊎-elim}
 use mathlib.Core.Bool.{Bool}
-use mathlib.Core.List.{List}
 use native.Mathlib.Omega.{arith}
-use lib.ListN.{length}
-use Rattle.counting.specs.Range.{after, before}
+use Rattle.counting.specs.Range.{after}
 use Rattle.counting.proofs.Range.{after-lt, before-after}
 use Rattle.walk.specs.Darts.{half}
-use Rattle.manifold.specs.Triangle.{Corner, cross, Side, Tri, cornerOf, nth}
-use Rattle.manifold.specs.Ring.{Passes, Chain, OneRing}
+use Rattle.manifold.specs.Triangle.{cross, Side, Tri, cornerOf, nth}
+use Rattle.manifold.specs.Ring.{Chain, OneRing}
 use Rattle.manifold.specs.Polygon.{Polygon, corner, segment, triangles}
-use Rattle.manifold.specs.Piece.{mateOf, segmentOf, dart, sizeOf}
+use Rattle.manifold.specs.Piece.{mateOf, segmentOf, dart}
 use Rattle.manifold.specs.Complex.{Complex, Lawful, Shut, Has, Shares, Linked, loopOf, mesh}
 use Rattle.manifold.specs.Claims.{AtPoint}
-use Rattle.manifold.proofs.Sound.{Member, member}
+use Rattle.manifold.proofs.Sound.{member}
 use Rattle.manifold.proofs.Together.{port, Here, Spreads, Together, entered, left}
 use Rattle.manifold.proofs.Ring.{one-ring}
 use Rattle.manifold.proofs.Polygon.{of-cross}
 use Rattle.manifold.proofs.Chain.{at-point}
-use Rattle.manifold.proofs.Piece.{Listed, Covers, covers, covers-segment, dart-lt}
+use Rattle.manifold.proofs.Piece.{Covers, covers, covers-segment, dart-lt}
 use Rattle.manifold.proofs.Mesh.{Of, of, in-mesh-here, along, size-two, simple, on, point-once, goes-to, closed}
 
 -- corner i of v, a triangle of piece c, is at g, and has the side σ

@@ -1,12 +1,12 @@
 -- A complex whose pieces share whole faces, and agree on them, has the laws of a complex whose pieces share segments.
-use Prim.Native.Nat.{ℕ, _*_, _<_, min}
-use mathlib.Core.Path.{_≡_, refl, sym, ap, ap₂, _∙_}
-use mathlib.Core.Logic.{_⊎_, inl, inr, ⊎-elim}
+use Prim.Native.Nat.{ℕ, _<_, min}
+use mathlib.Core.Path.{_≡_, sym, ap, ap₂, _∙_}
+use mathlib.Core.Logic.{inl, inr, ⊎-elim}
 use Rattle.walk.specs.Darts.{half}
 use Rattle.manifold.specs.Triangle.{seg}
-use Rattle.manifold.specs.Piece.{Local, Piece, slotOf, mateOf, lowerOf, segmentOf}
+use Rattle.manifold.specs.Piece.{Local, slotOf, mateOf, segmentOf}
 use Rattle.manifold.specs.Complex.{Complex, Lawful, Joins, SameEnds, Shut, Linked}
-use Rattle.manifold.specs.Faces.{Match, Faced, FacesShut, SharesFace, FacesLinked}
+use Rattle.manifold.specs.Faces.{Match, Faced, FacesShut, FacesLinked}
 use Rattle.manifold.proofs.Piece.{segment-cases}
 
 match-segment : (A B : Local) (s d : ℕ) → mateOf A d < A .N → A .name (slotOf A d) ≡ B .name s → (m : Match A B s d) → segmentOf B (m .e) ≡ segmentOf A d

@@ -1,7 +1,7 @@
 -- Places glued in pairs. Place q is a corner and the side from it to the corner of `nxt q`; each side is that of two places, q and `tw q`, with
 -- the same ends. A corner then has two darts, its own side and the side before: crossing a side to the other place at the same point, and
 -- leaving by the other side there, is a step of `walk`'s kind. So the corners at a point close up in rings, in one where they are all joined.
-use Prim.Native.Nat.{ℕ, zero, suc, _+_, _*_, _/_, _%_, _≤_, _<_}
+use Prim.Native.Nat.{ℕ, zero, suc, _+_, _*_, _/_, _%_, _<_}
 use mathlib.Core.Path.{_≡_, refl, sym, ap, _∙_, subst}
 use mathlib.Core.Logic.{_⊎_, inl, inr, _≢_, ⊎-elim}
 use mathlib.Core.Bool.{Bool, true, false}
@@ -12,7 +12,7 @@ use Rattle.counting.specs.Pick.{pick}
 use Rattle.walk.specs.Iterate.{it}
 use Rattle.walk.specs.Darts.{half, rev, Darts, Loop, On}
 use Rattle.walk.proofs.Curve.{all-close, on-step}
-use Rattle.walk.proofs.Step.{rev-first, rev-second, by-parity, same-half}
+use Rattle.walk.proofs.Step.{by-parity, rev-rev, rev-lt, half-rev, rev-darts}
 use Rattle.manifold.specs.Triangle.{Corner, Side, alike}
 use Rattle.manifold.proofs.Triangle.{alike-true, alike-false}
 
@@ -133,42 +133,18 @@ module _ (N : ℕ) (nxt prv : ℕ → ℕ) (sd : ℕ → Side) (cn : ℕ → Cor
     unfolding Partner
     partner-ne d l e = G .tw-ne (exit prv d) (exit-lt d l) (sym (partner-is d l .1) ∙ ap (exit prv) e)
 
-    rev-rev : (d : ℕ) → rev (rev d) ≡ d
-    unfolding rev
-    rev-rev d = omega arith
-
-    rev-lt : (d : ℕ) → d < 2 * N → rev d < 2 * N
-    unfolding rev
-    rev-lt d l = omega arith
-
-    rev-ne : (d : ℕ) → rev d ≢ d
-    unfolding rev
-    rev-ne d e = omega (arith, e)
-
-    rev-half : (d : ℕ) → rev d / 2 ≡ d / 2
-    unfolding rev
-    rev-half d = omega arith
-
     pub corner-darts : Darts (2 * N) N turn rev half
     unfolding turn Partner
-    corner-darts = record {
-      rv-lt = rev-lt;
-      rv-rv = λ d l. rev-rev d;
-      rv-ne = λ d l e. rev-ne d e;
-      back = λ d l h. rw (rev-rev (partner d), partner-twice d l);
-      s-ne = λ d l e. partner-ne d l (sym (rev-rev (partner d)) ∙ ap rev e ∙ rev-rev d);
-      cr-lt = λ d l. omega arith;
-      cr-rv = λ d l. rev-half d;
-      same = λ d e a b h. same-half d e h;
-    }
+    corner-darts = rev-darts N turn (λ d l h. rw (rev-rev (partner d), partner-twice d l))
+        (λ d l e. partner-ne d l (sym (rev-rev (partner d)) ∙ ap rev e ∙ rev-rev d))
 
     turn-lt : (d : ℕ) → d < 2 * N → turn d < 2 * N
     unfolding turn Partner
-    turn-lt d l = rev-lt (partner d) (partner-is d l .0)
+    turn-lt d l = rev-lt N (partner d) (partner-is d l .0)
 
     turn-point : (d : ℕ) → d < 2 * N → cn (turn d / 2) ≡ cn (d / 2)
     unfolding turn Partner
-    turn-point d l = ap cn (rev-half (partner d)) ∙ partner-is d l .2
+    turn-point d l = ap cn (half-rev (partner d)) ∙ partner-is d l .2
 
     -- the side by which a dart leaves is the one by which the next corner is entered
     pub turn-side : (d : ℕ) → d < 2 * N → sd (exit prv (rev (turn d))) ≡ sd (exit prv d)
@@ -191,7 +167,7 @@ module _ (N : ℕ) (nxt prv : ℕ → ℕ) (sd : ℕ → Side) (cn : ℕ → Cor
         (λ (w : exit prv b ≡ exit prv a). subst (λ x. On turn half d k x) (sym ea ∙ ap half (sym (unique b a lb la w p)) ∙ eb) o)
         (λ (w : exit prv b ≡ tw (exit prv a)).
         let same : b ≡ partner a = unique b (partner a) lb (partner-is a la .0) (w ∙ sym (partner-is a la .1)) (p ∙ sym (partner-is a la .2)) in
-        subst (λ x. On turn half d k x) (rev-half (partner a) ∙ ap half (sym same) ∙ eb)
+        subst (λ x. On turn half d k x) (half-rev (partner a) ∙ ap half (sym same) ∙ eb)
         (on-step (2 * N) N turn rev half corner-darts L a la (subst (λ x. On turn half d k x) (sym ea) o)))
         (G .only (exit prv a) (exit prv b) (exit-lt a la) (exit-lt b lb) (sym e))
 

@@ -1,6 +1,7 @@
 pub mod Triangle
 pub mod Sound
 pub mod Polygon
+pub mod Shapes
 pub mod Chain
 pub mod Together
 pub mod Glue
@@ -9,7 +10,10 @@ pub mod Ring
 pub mod Piece
 pub mod Sides
 pub mod Mesh
+pub mod Few
 pub mod Crossing
 pub mod Middle
 pub mod Faces
 pub mod Claims
+pub mod Example
+pub mod Named

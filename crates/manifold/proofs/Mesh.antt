@@ -1,24 +1,22 @@
 -- Step 5, whole: the mesh of a complex is sound, and where nothing is left open each side of a triangle occurs twice in it.
-use Prim.Native.Nat.{ℕ, _+_, _*_, _≤_, _<_}
-use mathlib.Core.Path.{_≡_, refl, sym, ap, _∙_, subst}
-use mathlib.Core.Logic.{_⊎_, inl, inr, _≢_}
-use mathlib.Core.List.{List, _∷_, []}
+use Prim.Native.Nat.{ℕ, _<_}
+use mathlib.Core.Path.{_≡_, sym, ap, _∙_, subst}
+use mathlib.Core.Logic.{inl, inr, _≢_}
 use native.Mathlib.Omega.{arith}
-use lib.ListN.{length}
 use Rattle.counting.specs.Range.{over, after}
 use Rattle.counting.specs.Lists.{weigh, All}
 use Rattle.counting.proofs.Lists.{all-over, all-at, at-all, stands-over}
 use Rattle.walk.specs.Darts.{half}
-use Rattle.manifold.specs.Triangle.{Corner, cross, Side, Tri, cornerOf, sideOf, next, noTri, nth}
+use Rattle.manifold.specs.Triangle.{Corner, cross, Tri, cornerOf, sideOf, next, noTri}
 use Rattle.manifold.specs.Ring.{Chain}
-use Rattle.manifold.specs.Polygon.{Polygon, shape, corner, triangle, many, triangles, spoke, Simple}
-use Rattle.manifold.specs.Piece.{Local, mateOf, dart, sizeOf}
+use Rattle.manifold.specs.Polygon.{Polygon, shape, corner, triangles, spoke, Simple}
+use Rattle.manifold.specs.Piece.{mateOf, dart}
 use Rattle.manifold.specs.Complex.{Complex, Lawful, Shut, SameEnds, loopOf, mesh}
 use Rattle.manifold.proofs.Triangle.{hits, seg-inner}
 use Rattle.manifold.proofs.Sound.{Member, member, Ends, Sound}
 use Rattle.manifold.proofs.Together.{Here, Spreads, chain-together}
 use Rattle.manifold.proofs.Ring.{Closed}
-use Rattle.manifold.proofs.Polygon.{triangles-member, polygon-sound, Seen, seen}
+use Rattle.manifold.proofs.Polygon.{polygon-sound, Seen, seen}
 use Rattle.manifold.proofs.Piece.{Listed, dart-lt, joins, point-after, dart-once, segment-once, size-ne}
 use Rattle.manifold.proofs.Sides.{inner-two, segment-two}
 

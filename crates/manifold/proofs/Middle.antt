@@ -1,10 +1,10 @@
 -- Step 7: where nothing is left open, the triangles at the middle of a fan form one ring. They are those of the fan, a ring by step 2.
-use Prim.Native.Nat.{ℕ, _≤_, _<_}
-use mathlib.Core.Path.{_≡_, refl, sym, ap, _∙_, subst}
+use Prim.Native.Nat.{ℕ, _<_}
+use mathlib.Core.Path.{_≡_}
 use native.Mathlib.Omega.{arith}
-use Rattle.manifold.specs.Triangle.{Corner, middle, Tri, cornerOf, nth}
-use Rattle.manifold.specs.Ring.{Chain, OneRing}
-use Rattle.manifold.specs.Polygon.{Polygon, shape, fan, centre, triangles}
+use Rattle.manifold.specs.Triangle.{Tri, nth}
+use Rattle.manifold.specs.Ring.{OneRing}
+use Rattle.manifold.specs.Polygon.{shape, fan, centre, triangles}
 use Rattle.manifold.specs.Complex.{Complex, Lawful, Shut, loopOf, mesh}
 use Rattle.manifold.proofs.Sound.{Member, member}
 use Rattle.manifold.proofs.Together.{Here, Together}
@@ -14,9 +14,6 @@ use Rattle.manifold.proofs.Chain.{fan-ring}
 use Rattle.manifold.proofs.Mesh.{Of, of, in-mesh-here, along, size-two, simple, same-loop, closed}
 
 module _ (K : Complex) (W : Lawful K) (c p : ℕ) (lc : c < K .pieces) (lp : p < K .at c .N) (some : 0 < loopOf K c p .n) (is : shape (loopOf K c p) ≡ fan) where
-  G : Polygon
-  G = loopOf K c p
-
   ring : OneRing (triangles (loopOf K c p)) (centre (loopOf K c p))
   ring =
       let ne = size-two K W c p lc lp in

@@ -1,7 +1,6 @@
 -- A list of triangles in which each side occurs twice: where the triangles at a point are joined, they form one ring there (for steps 6 and 7).
 use Prim.Native.Nat.{ℕ, suc, _+_, _*_, _/_, _%_, _<_}
 use mathlib.Core.Path.{_≡_, refl, sym, ap, _∙_, subst}
-use mathlib.Core.Logic.{_≢_}
 use mathlib.Core.Bool.{Bool, true, false}
 use mathlib.Core.List.{List}
 use native.Mathlib.Omega.{arith}
@@ -22,7 +21,7 @@ use Rattle.manifold.specs.Triangle.{Corner, Side, Tri, cornerOf, sideOf,
 use Rattle.manifold.specs.Ring.{Passes, OneRing}
 use Rattle.manifold.proofs.Triangle.{hits, hits-is}
 use Rattle.manifold.proofs.Sound.{Member, member, Sound, corner-once, forward, backward}
-use Rattle.manifold.proofs.Together.{port, Touch, Here, Spreads, Together}
+use Rattle.manifold.proofs.Together.{port, Here, Spreads, Together}
 use Rattle.manifold.proofs.Glue.{Glued, exit, exit-even, exit-odd, Joined, turn, corner-darts, turn-side, point-on, ring-of}
 use Rattle.manifold.proofs.Twin.{twin, twin-is, twin-only, twin-twice}
 
@@ -67,9 +66,6 @@ module _ (mesh : List Tri) where
           hits-is σ (nth mesh t) ∙ rw (a, b, side-at t 1 (omega arith), side-at t 2 (omega arith))
 
   module _ (S : Closed mesh) where
-    N : ℕ
-    N = 3 * length mesh
-
     two : (q : ℕ) → q < 3 * length mesh → total (λ r. one (same (sideAt mesh q) (sideAt mesh r))) (3 * length mesh) 0 ≡ 2
     two q l = sym (count (sideAt mesh q)) ∙ S .twice (nth mesh (q / 3)) (q % 3) (member mesh (q / 3) (omega arith)) (omega arith)
 

@@ -1,9 +1,8 @@
 -- Steps 4 and 5: how often a side occurs in the mesh. A segment has at most two pieces, and each gives it at most once; an inner side belongs to
 -- one loop, which gives it twice. Where nothing is left open, a segment has two pieces, and each gives it once.
-use Prim.Native.Nat.{ℕ, zero, suc, _+_, _*_, _≤_, _<_}
+use Prim.Native.Nat.{ℕ, _+_, _*_, _≤_, _<_}
 use mathlib.Core.Path.{_≡_, refl, sym, ap, _∙_, subst}
-use mathlib.Core.Logic.{_⊎_, inl, inr, _≢_, ⊎-elim}
-use mathlib.Core.List.{List}
+use mathlib.Core.Logic.{_≢_, ⊎-elim}
 use native.Mathlib.Nat.{eq-zero-or-pos, le-of-eq}
 use native.Mathlib.Omega.{arith}
 use Rattle.counting.specs.Pick.{one}
@@ -11,9 +10,9 @@ use Rattle.counting.specs.Range.{total, over}
 use Rattle.counting.specs.Lists.{tally, weigh}
 use Rattle.counting.proofs.Range.{total-zero, total-one, total-ext, total-pos, total-single, total-two, total-le-two}
 use Rattle.counting.proofs.Lists.{weigh-over}
-use Rattle.manifold.specs.Triangle.{Side, seg, inner, Tri, same, hasSide}
-use Rattle.manifold.specs.Polygon.{Polygon, shape, spoke, inners, triangles}
-use Rattle.manifold.specs.Piece.{Local, Piece, slotOf, lowerOf, segmentOf, dart, sizeOf}
+use Rattle.manifold.specs.Triangle.{Side, seg, inner, same, hasSide}
+use Rattle.manifold.specs.Polygon.{shape, spoke, inners, triangles}
+use Rattle.manifold.specs.Piece.{slotOf, lowerOf, segmentOf, dart, sizeOf}
 use Rattle.manifold.specs.Complex.{Complex, Lawful, Shut, loopOf, mesh}
 use Rattle.manifold.proofs.Triangle.{hits, eq-same, ne-same, one-same, tally-hits}
 use Rattle.manifold.proofs.Polygon.{polygon-sides}

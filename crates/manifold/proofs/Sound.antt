@@ -32,6 +32,18 @@ via a b x y u v (inl p) (inr q) = inr (p .0 ∙ sym (q .1), p .1 ∙ sym (q .0))
 via a b x y u v (inr p) (inl q) = inr (p .0 ∙ sym (q .1), p .1 ∙ sym (q .0))
 via a b x y u v (inr p) (inr q) = inl (p .0 ∙ sym (q .0), p .1 ∙ sym (q .1))
 
+-- a triangle is passed both ways
+unfoldable pub turned : {v : Tri} {g : Corner} {σ τ : Side} → Passes v g σ τ → Passes v g τ σ
+turned {v} {g} {σ} {τ} p = record {
+  at = p .at;
+  at-lt = p .at-lt;
+  is = p .is;
+  only = p .only;
+  ways = ⊎-elim (λ (q : (σ ≡ sideOf v (p .at)) × (τ ≡ sideOf v (prev (p .at)))). inr (q .1, q .0))
+      (λ (q : (σ ≡ sideOf v (prev (p .at))) × (τ ≡ sideOf v (p .at))). inl (q .1, q .0)) (p .ways);
+  apart = λ e. p .apart (sym e);
+}
+
 pub record Sound (l : List Tri) : Type 0 where
   pub ends : (v : Tri) (i : ℕ) (w : Tri) (j : ℕ) → Member l v → Member l w → i < 3 → j < 3 → sideOf v i ≡ sideOf w j
       → Ends (cornerOf v i) (cornerOf v (next i)) (cornerOf w j) (cornerOf w (next j))
@@ -63,7 +75,7 @@ module _ {l : List Tri} (S : Sound l) where
       sym (tally-weigh (hasSide σ) l)
       ∙ weigh-ext noTri (λ v. one (hasSide σ v)) (hits σ) l (λ t h. hits-one σ (nth l t) (λ i k. sides-differ (nth l t) i (member l t h) k))
 
-  -- a triangle passed at its corner j, by the side before it and the side after it, or the other way
+  -- a triangle passed at its corner j, by the sides before and after it, or the other way
   module _ (v : Tri) (j : ℕ) (m : Member l v) (lj : j < 3) {g : Corner} (here : cornerOf v j ≡ g) where
     two : sideOf v (prev j) ≢ sideOf v j
     two e = let r : next (prev j) ≡ j = omega arith in sides-differ v (prev j) m (omega arith) (e ∙ ap (sideOf v) (sym r))
@@ -79,11 +91,4 @@ module _ {l : List Tri} (S : Sound l) where
     }
 
     pub backward : Passes v g (sideOf v j) (sideOf v (prev j))
-    backward = record {
-      at = j;
-      at-lt = lj;
-      is = here;
-      only = λ i h e. corner-once v i j m h lj (e ∙ sym here);
-      ways = inl (refl, refl);
-      apart = λ e. two (sym e);
-    }
+    backward = turned forward

@@ -1,14 +1,13 @@
 -- Triangles at a point that are joined over sides there. A chain joins all of its triangles (for steps 6 and 7).
 use Prim.Native.Nat.{ℕ, zero, suc, _<_}
-use mathlib.Core.Path.{_≡_, refl, sym, ap, _∙_, subst}
+use mathlib.Core.Path.{_≡_, sym, ap, _∙_, subst}
 use mathlib.Core.Logic.{_⊎_, inl, inr}
 use mathlib.Core.Bool.{Bool, true, false}
 use mathlib.Core.List.{List}
 use native.Mathlib.Omega.{arith}
-use lib.ListN.{length}
 use Rattle.manifold.specs.Triangle.{Corner, Side, Tri, cornerOf, sideOf, prev, nth}
 use Rattle.manifold.specs.Ring.{Passes, Chain}
-use Rattle.manifold.proofs.Sound.{Member, member}
+use Rattle.manifold.proofs.Sound.{Member, member, turned}
 
 -- the two sides at corner j
 abbrev pub port : Bool → Tri → ℕ → Side
@@ -42,11 +41,8 @@ entered {v} {g} {σ} {τ} p = go (p .ways)
     go (inr q) = (false, sym (q .0))
 
 pub left : {v : Tri} {g : Corner} {σ τ : Side} (p : Passes v g σ τ) → (b : Bool) × (port b v (p .at) ≡ τ)
-left {v} {g} {σ} {τ} p = go (p .ways)
-  where
-    go : ((σ ≡ sideOf v (p .at)) × (τ ≡ sideOf v (prev (p .at)))) ⊎ ((σ ≡ sideOf v (prev (p .at))) × (τ ≡ sideOf v (p .at))) → (b : Bool) × (port b v (p .at) ≡ τ)
-    go (inl q) = (false, sym (q .1))
-    go (inr q) = (true, sym (q .1))
+unfolding turned
+left p = entered (turned p)
 
 pub chain-together : {l : List Tri} {g : Corner} → Chain l g → Together l g
 chain-together {l} {g} C Q pass v i w j hv hw q =
@@ -70,23 +66,26 @@ chain-together {l} {g} C Q pass v i w j hv hw q =
     here : (a : ℕ) (la : a < C .n) → Here l g (tr a) (C .passes a la .at)
     here a la = let p = C .passes a la in record { member = member l (C .visit a) (C .within a la); lt = p .at-lt; is = p .is }
 
-    up : (a : ℕ) → suc a < C .n → Held a → Held (suc a)
-    up a h f =
-        let la : a < C .n = omega arith in
+    move : (a b : ℕ) (la : a < C .n) (lb : b < C .n) → Touch (tr a) (C .passes a la .at) (tr b) (C .passes b lb .at) → Held a → Held b
+    move a b la lb t f =
         let p = C .passes a la in
-        let r = C .passes (suc a) h in
-        let (x, ex) = left p in
-        let (y, ey) = entered r in
-        at (suc a) (r .at) h (r .at-lt) (r .is) (pass (tr a) (p .at) (tr (suc a)) (r .at) (here a la) (here (suc a) h) (x, y, ex ∙ sym ey) (f (p .at) (p .at-lt) (p .is)))
+        let r = C .passes b lb in
+        at b (r .at) lb (r .at-lt) (r .is) (pass (tr a) (p .at) (tr b) (r .at) (here a la) (here b lb) t (f (p .at) (p .at-lt) (p .is)))
+
+    -- to the next, over the side between, and back
+    up : (a : ℕ) → suc a < C .n → Held a → Held (suc a)
+    up a h =
+        let la : a < C .n = omega arith in
+        let (x, ex) = left (C .passes a la) in
+        let (y, ey) = entered (C .passes (suc a) h) in
+        move a (suc a) la h (x, y, ex ∙ sym ey)
 
     down : (a : ℕ) → suc a < C .n → Held (suc a) → Held a
-    down a h f =
+    down a h =
         let la : a < C .n = omega arith in
-        let p = C .passes a la in
-        let r = C .passes (suc a) h in
-        let (x, ex) = left p in
-        let (y, ey) = entered r in
-        at a (p .at) la (p .at-lt) (p .is) (pass (tr (suc a)) (r .at) (tr a) (p .at) (here (suc a) h) (here a la) (y, x, ey ∙ sym ex) (f (r .at) (r .at-lt) (r .is)))
+        let (x, ex) = left (C .passes a la) in
+        let (y, ey) = entered (C .passes (suc a) h) in
+        move (suc a) a h la (y, x, ey ∙ sym ex)
 
     climb : (a : ℕ) → a < C .n → Held 0 → Held a
     climb zero h f = f

@@ -1,5 +1,5 @@
 -- Of N sides, each of which occurs at exactly two places: the other place.
-use Prim.Native.Nat.{ℕ, _≤_, _<_}
+use Prim.Native.Nat.{ℕ, _<_}
 use mathlib.Core.Path.{_≡_, refl, sym, ap, _∙_}
 use mathlib.Core.Logic.{_⊎_, inl, inr, _≢_, ⊎-elim}
 use mathlib.Core.Bool.{Bool, true, false, not, _&&_}
@@ -9,7 +9,7 @@ use borrow.Author.Tests.{eqb-true, eqb-false, ltb-true, ltb-false}
 use Rattle.counting.specs.Pick.{one}
 use Rattle.counting.specs.Range.{total}
 use Rattle.counting.specs.Search.{first}
-use Rattle.counting.proofs.Bools.{and-left, and-right, clash}
+use Rattle.counting.proofs.Bools.{and-left, and-right, clash, not-true}
 use Rattle.counting.proofs.Range.{total-one, no-third}
 use Rattle.counting.proofs.Search.{first-is, first-none}
 use Rattle.manifold.specs.Triangle.{Side, same}
@@ -24,10 +24,6 @@ module _ (N : ℕ) (sd : ℕ → Side) where
   twin q = first (other q) N
 
   module _ (two : (q : ℕ) → q < N → total (λ r. one (same (sd q) (sd r))) N 0 ≡ 2) where
-    not-one : (x : Bool) → not x ≡ true → x ≡ false
-    not-one true e = sym e
-    not-one false e = refl
-
     pub twin-is : (q : ℕ) → q < N → (twin q < N) × (twin q ≢ q) × (sd (twin q) ≡ sd q)
     unfolding twin
     twin-is q l = go (ltb (first (other q) N) N) refl
@@ -43,7 +39,7 @@ module _ (N : ℕ) (sd : ℕ → Side) where
             let h : r < N = ltb-true r N b in
             let e : other q r ≡ true = first-is (other q) N h in (
               h,
-              eqb-false r q (not-one (eqb r q) (and-right (same (sd q) (sd r)) (not (eqb r q)) e)),
+              eqb-false r q (not-true (eqb r q) (and-right (same (sd q) (sd r)) (not (eqb r q)) e)),
               sym (same-true (sd q) (sd r) (and-left (same (sd q) (sd r)) (not (eqb r q)) e)),
             )
         go false b =

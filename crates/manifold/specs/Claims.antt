@@ -3,7 +3,7 @@ use Prim.Native.Nat.{ℕ, _≤_, _<_}
 use mathlib.Core.Path.{_≡_}
 use mathlib.Core.Logic.{_⊎_}
 use lib.ListN.{length}
-use Rattle.counting.specs.Range.{before}
+use Rattle.counting.specs.Range.{over, before}
 use Rattle.counting.specs.Lists.{tally}
 use Rattle.manifold.specs.Triangle.{Side, cross, sideOf, hasSide, nth}
 use Rattle.manifold.specs.Ring.{Chain, OneRing}
@@ -36,6 +36,8 @@ pub record PolygonLaws (G : Polygon) : Type 0 where
   pub few : length (triangles G) ≤ G .n
 
 pub record Manifold (K : Complex) : Type 1 where
+  -- a piece gives at most as many triangles as it has crossings
+  pub few : (c : ℕ) → c < K .pieces → length (over (λ p. triangles (loopOf K c p)) (K .at c .N) 0) ≤ K .at c .N
   -- no side is in more than two triangles
   pub most : (σ : Side) → tally (hasSide σ) (mesh K) ≤ 2
   -- where nothing is left open, each side is in exactly two

@@ -1,5 +1,5 @@
 -- A complex of pieces that share segments, and its mesh.
-use Prim.Native.Nat.{ℕ, _*_, _/_, _<_}
+use Prim.Native.Nat.{ℕ, _*_, _<_}
 use mathlib.Core.Path.{_≡_}
 use mathlib.Core.Logic.{_⊎_, _≢_}
 use mathlib.Core.Bool.{Bool}
@@ -10,6 +10,7 @@ use Rattle.manifold.specs.Triangle.{Tri}
 use Rattle.manifold.specs.Polygon.{Polygon, triangles}
 use Rattle.manifold.specs.Piece.{Local, Piece, slotOf, mateOf, lowerOf, segmentOf, dart, sizeOf}
 
+-- its pieces are numbered; piece c is the cell c of a grid
 pub record Complex : Type 0 where
   pub pieces : ℕ
   pub at : ℕ → Local
@@ -31,7 +32,6 @@ module _ (K : Complex) where
 
   -- all triangles, by piece and then by loop; a p that starts no loop has size 0 and gives none
   unfoldable pub mesh : List Tri
-  unfolding triangles over
   mesh = over (λ c. over (λ p. triangles (loopOf c p)) (K .at c .N) 0) (K .pieces) 0
 
 -- the dart d of the piece A is joined: it has a segment

@@ -65,7 +65,6 @@ module _ (G : Polygon) where
   inners fan = G .n
 
   unfoldable pub triangles : List Tri
-  unfolding over shape
   triangles = over (λ k. triangle (shape G) k ∷ []) (many (shape G)) 0
 
 -- no point twice, and no segment twice

@@ -125,3 +125,31 @@ module _ (N : ℕ) (fa fb : ℕ → ℕ) (mate : ℕ → ℕ → ℕ) where
       cr-rv = λ d l. rev-half d;
       same = λ d e a b h. same-half d e h;
     }
+
+-- the two darts of a crossing
+pub rev-rev : (d : ℕ) → rev (rev d) ≡ d
+unfolding rev
+rev-rev d = omega arith
+
+pub rev-lt : (N d : ℕ) → d < 2 * N → rev d < 2 * N
+unfolding rev
+rev-lt N d l = omega arith
+
+pub half-rev : (d : ℕ) → half (rev d) ≡ half d
+unfolding rev
+half-rev d = omega arith
+
+-- a step on them, of N crossings, that is undone by turning round and never comes back to its crossing
+pub rev-darts : (N : ℕ) (s : ℕ → ℕ) → ((d : ℕ) → d < 2 * N → s d < 2 * N → s (rev (s d)) ≡ rev d) → ((d : ℕ) → d < 2 * N → s d ≢ rev d)
+    → Darts (2 * N) N s rev half
+unfolding rev
+rev-darts N s back ne = record {
+  rv-lt = λ d l. omega arith;
+  rv-rv = λ d l. omega arith;
+  rv-ne = λ d l e. omega (arith, e);
+  back = back;
+  s-ne = ne;
+  cr-lt = λ d l. omega arith;
+  cr-rv = λ d l. half-rev d;
+  same = λ d e a b h. same-half d e h;
+}

@@ -42,7 +42,7 @@ residual-join-requires : tie.Need-residual-join-requires
 residual-join-requires c κs = search needs
 
 returns-3 : tie.Need-returns-3
-returns-3 c = c .residual-join .ensures ∙ sym (middle-join (c .before .before .before .pre) (c .before .before .if1 .left) (c .before .if2 .left))
+returns-3 c = c .residual-join .ensures ∙ sym (middle-join (c .before .before .before .pre) _ (omega arith) (c .before .if2 .left))
 
 pub join-on-spec : {M : Type 1} → statement M
 join-on-spec =
