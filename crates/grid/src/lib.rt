@@ -1,0 +1,4 @@
+pub enum Check {
+    Crossings(u32),
+    Refused(u8, usize),
+}
