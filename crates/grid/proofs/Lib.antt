@@ -1,1 +1,9 @@
+pub mod Chain
+pub mod Packed
+pub mod Mates
+pub mod Faces
+pub mod Sides
+pub mod Marks
+pub mod Ring
+pub mod Crossings
 pub mod Examples
