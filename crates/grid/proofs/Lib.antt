@@ -6,4 +6,5 @@ pub mod Sides
 pub mod Marks
 pub mod Ring
 pub mod Crossings
+pub mod Answers
 pub mod Examples

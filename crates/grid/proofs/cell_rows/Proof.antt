@@ -1,56 +1,63 @@
+use mathlib.Core.Path.{_∙_}
+use native.Mathlib.Omega.{arith}
 use borrow.Author.Needs.{needs}
+use Rattle.grid.specs.Rows.{rowAt, rows}
+use Rattle.grid.proofs.Answers.{answer-passes, answer-refuses, worked}
+use Rattle.grid.proofs.Packed.{ordered-cells}
 use Rattle.grid.proofs.cell_rows.Statement.{statement}
 use Rattle.grid.proofs.cell_rows.Tie as tie
-use Rattle.grid.proofs.cell_rows.Reads as reads
-use Rattle.grid.proofs.cell_rows.Lts as lts
-use Rattle.grid.proofs.cells.row_3.Reads as row-3-reads
-use Rattle.grid.proofs.cells.row_4.Reads as row-4-reads
-use Rattle.grid.proofs.cells.row_5.Reads as row-5-reads
-use Rattle.grid.proofs.edge_rows.Reads as edge-rows-reads
 
--- src/lib.rt:107:9
 row-3-requires : tie.Need-row-3-requires
 row-3-requires c κs = search needs
 
--- src/lib.rt:109:9
 returns : tie.Need-returns
-returns c = ?
+unfolding rowAt rows
+returns c = (answer-refuses _ _ _ 2 (omega arith) _ (c .before .row-3 .ensures) (c .if1 .taken), tt)
 
--- src/lib.rt:111:9
 row-4-requires : tie.Need-row-4-requires
-row-4-requires c κs = search needs
+row-4-requires c κs = c .before .before .before .before .before .before .before .pre .1 .0
 
--- src/lib.rt:113:9
 returns-2 : tie.Need-returns-2
-returns-2 c = ?
+unfolding rowAt rows
+returns-2 c = 
+    (answer-refuses _ _ _ 3 (omega arith) _ (c .before .row-4 .ensures) (c .if2 .taken)
+    ∙ answer-passes _ _ _ 2 (omega arith) _ (c .before .before .before .row-3 .ensures) (c .before .before .if1 .left), tt)
 
--- src/lib.rt:115:9
 row-5-requires : tie.Need-row-5-requires
-row-5-requires c κs = ?
+row-5-requires c κs = (ordered-cells _ (λ i. omega (arith, c .before .before .before .before .before .before .before .before .before .shared-slice-known .given i)) (c .before .before .before .before .before .before .before .before .before .before .pre .1 .0) (rw (c .before .before .before .before .row-3 .ensures) at (c .before .before .before .if1 .left)), c .before .before .before .before .before .before .before .before .before .before .pre .0 .near-is)
 
--- src/lib.rt:117:9
 same-length : tie.Need-same-length
-same-length c = search needs
+same-length c = c .before .before .before .row-5 .kept .1 .0
 
--- src/lib.rt:117:9
 returns-3 : tie.Need-returns-3
-returns-3 c = ?
+unfolding rowAt rows
+returns-3 c = 
+    (answer-refuses _ _ _ 4 (omega arith) _ (c .before .before .before .row-5 .ensures .0) (c .if3 .taken)
+    ∙ answer-passes _ _ _ 3 (omega arith) _ (c .before .before .before .before .before .before .row-4 .ensures) (c .before .before .before .before .before .if2 .left)
+    ∙ answer-passes _ _ _ 2 (omega arith) _ (c .before .before .before .before .before .before .before .before .row-3 .ensures) (c .before .before .before .before .before .before .before .if1 .left), tt)
 
--- src/lib.rt:119:5
 edge-rows-requires : tie.Need-edge-rows-requires
-edge-rows-requires c κs = ?
+edge-rows-requires c κs = 
+    record {
+      ordered = ordered-cells _ (λ i. omega (arith, c .before .before .before .before .before .before .before .before .before .before .before .before .before .before .before .shared-slice-known .given i)) (c .before .before .before .before .before .before .before .before .before .before .before .before .before .before .before .before .pre .1 .0) (rw (c .before .before .before .before .before .before .before .before .before .before .row-3 .ensures) at (c .before .before .before .before .before .before .before .before .before .if1 .left));
+      pairs = c .before .before .before .before .before .before .before .before .before .before .before .before .before .before .before .before .pre .1 .1;
+      near-is = c .before .before .before .before .before .row-5 .ensures .1 (c .before .before .if3 .left);
+      sides-is = c .before .before .before .before .before .before .before .before .before .before .before .before .before .before .before .before .pre .0 .sides-is;
+    }
 
--- src/lib.rt:99:1
 same-length-2 : tie.Need-same-length-2
-same-length-2 c = search needs
+same-length-2 c = c .before .before .before .before .before .before .before .before .row-5 .kept .1 .0
 
--- src/lib.rt:99:1
 same-length-3 : tie.Need-same-length-3
-same-length-3 c = search needs
+same-length-3 c = c .before .before .edge-rows .kept .1 .1 .1 .1 .0
 
--- src/lib.rt:99:1
 returns-4 : tie.Need-returns-4
-returns-4 c = ?
+unfolding rowAt rows
+returns-4 c = 
+    (c .before .before .edge-rows .ensures .0
+    ∙ answer-passes _ _ _ 4 (omega arith) _ (c .before .before .before .before .before .before .before .before .row-5 .ensures .0) (c .before .before .before .before .before .if3 .left)
+    ∙ answer-passes _ _ _ 3 (omega arith) _ (c .before .before .before .before .before .before .before .before .before .before .before .row-4 .ensures) (c .before .before .before .before .before .before .before .before .before .before .if2 .left)
+    ∙ answer-passes _ _ _ 2 (omega arith) _ (c .before .before .before .before .before .before .before .before .before .before .before .before .before .row-3 .ensures) (c .before .before .before .before .before .before .before .before .before .before .before .before .if1 .left), worked _ _ _ _ _ (c .before .before .edge-rows .result) (c .before .before .before .before .before .before .before .before .row-5 .ensures .1 (c .before .before .before .before .before .if3 .left)) (c .before .before .edge-rows .ensures .1))
 
 pub cell-rows-spec : {M : Type 1} → statement M
 cell-rows-spec =

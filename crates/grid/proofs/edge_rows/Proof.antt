@@ -1,30 +1,26 @@
-use borrow.Author.Needs.{needs}
+use mathlib.Core.Path.{_∙_}
+use native.Mathlib.Omega.{arith}
+use Rattle.grid.specs.Rows.{rowAt, rows}
+use Rattle.grid.proofs.Answers.{answer-passes, answer-refuses}
 use Rattle.grid.proofs.edge_rows.Statement.{statement}
 use Rattle.grid.proofs.edge_rows.Tie as tie
-use Rattle.grid.proofs.edge_rows.Reads as reads
-use Rattle.grid.proofs.edge_rows.Lts as lts
-use Rattle.grid.proofs.edges.row_6.Reads as row-6-reads
-use Rattle.grid.proofs.side_rows.Reads as side-rows-reads
 
--- src/lib.rt:91:9
 row-6-requires : tie.Need-row-6-requires
-row-6-requires c κs = search needs
+row-6-requires c κs = c .before .before .before .before .before .pre .pairs
 
--- src/lib.rt:93:9
 returns : tie.Need-returns
-returns c = ?
+unfolding rowAt rows
+returns c = (answer-refuses _ _ _ 5 (omega arith) _ (c .before .row-6 .ensures) (c .if1 .taken), tt)
 
--- src/lib.rt:95:5
 side-rows-requires : tie.Need-side-rows-requires
-side-rows-requires c κs = search needs
+side-rows-requires c κs = c .before .before .before .before .before .before .before .before .pre
 
--- src/lib.rt:86:1
 same-length : tie.Need-same-length
-same-length c = search needs
+same-length c = c .before .before .side-rows .kept .1 .1 .1 .1 .0
 
--- src/lib.rt:86:1
 returns-2 : tie.Need-returns-2
-returns-2 c = ?
+unfolding rowAt rows
+returns-2 c = (c .before .before .side-rows .ensures .0 ∙ answer-passes _ _ _ 5 (omega arith) _ (c .before .before .before .before .before .row-6 .ensures) (c .before .before .before .before .if1 .left), c .before .before .side-rows .ensures .1)
 
 pub edge-rows-spec : {M : Type 1} → statement M
 edge-rows-spec =
