@@ -7,4 +7,6 @@ pub mod Marks
 pub mod Ring
 pub mod Crossings
 pub mod Answers
+pub mod Claims
+pub mod Accepts
 pub mod Examples
