@@ -7,7 +7,7 @@ use native.Mathlib.Omega.{arith}
 use native.Mathlib.Nat.{eq-or-lt-of-le}
 use Rattle.counting.specs.Search.{some, count}
 use Rattle.counting.specs.Reach.{reach}
-use Rattle.counting.proofs.Bools.{and-true, and-left, and-right, or-left, or-right}
+use Rattle.counting.proofs.Bools.{and-true, and-left, and-right, or-left, or-right, or-cases}
 use Rattle.counting.proofs.Search.{some-ext, some-is, some-found, count-into, count-same, count-full}
 
 module _ (start : ℕ → Bool) (link : ℕ → ℕ → Bool) (C : ℕ) where
@@ -70,3 +70,15 @@ module _ (start : ℕ → Bool) (link : ℕ → ℕ → Bool) (C : ℕ) (P : ℕ
           let u = and-left (reach start link C n (w .0)) (link (w .0) c) (w .2) in
           let v = and-right (reach start link C n (w .0)) (link (w .0) c) (w .2) in
           l (w .0) c (w .1) h (all (w .0) (w .1) u) v
+
+-- the same of a property that is no test
+module _ (start : ℕ → Bool) (link : ℕ → ℕ → Bool) (C : ℕ) (P : ℕ → Type 0) (s : (c : ℕ) → start c ≡ true → P c)
+    (l : (d c : ℕ) → d < C → c < C → P d → link d c ≡ true → P c) where
+  pub reach-holds : (n c : ℕ) → c < C → reach start link C n c ≡ true → P c
+  unfolding reach
+  reach-holds zero c h e = s c e
+  reach-holds (suc n) c h e = ⊎-elim (λ (q : reach start link C n c ≡ true). reach-holds n c h q) (λ (q : some (λ d. reach start link C n d && link d c) C ≡ true).
+      (let w = some-is (λ d. reach start link C n d && link d c) C q in
+      l (w .0) c (w .1) h (reach-holds n (w .0) (w .1) (and-left (reach start link C n (w .0)) (link (w .0) c) (w .2)))
+      (and-right (reach start link C n (w .0)) (link (w .0) c) (w .2))))
+      (or-cases (reach start link C n c) (some (λ d. reach start link C n d && link d c) C) e)

@@ -1,11 +1,11 @@
 -- Laws of searches and of counts.
-use Prim.Native.Nat.{ℕ, zero, suc, _+_, _*_, _-_, _≤_, _<_}
+use Prim.Native.Nat.{ℕ, zero, suc, _+_, _*_, _-_, _/_, _%_, _≤_, _<_}
 use mathlib.Core.Path.{_≡_, refl, sym, ap, ap₂, _∙_}
 use mathlib.Core.Logic.{_⊎_, inl, inr, ⊎-elim}
 use mathlib.Core.Bool.{Bool, true, false, _&&_}
 use native.Mathlib.Omega.{arith}
 use native.Mathlib.Numerals.{add-one}
-use native.Mathlib.Nat.{mul-zero, mul-suc, not-suc-le-zero, eq-or-lt-of-le, le-of-suc-le-suc}
+use native.Mathlib.Nat.{mul-zero, mul-suc, mul-comm, mul-le-mul-left, mod-lt, div-add-mod, mul-div-cancel-left, div-lt-iff-lt-mul, not-suc-le-zero, eq-or-lt-of-le, le-of-suc-le-suc}
 use lib.Dec.{ltb}
 use borrow.Author.Tests.{lt-ltb, le-ltb}
 use Rattle.counting.specs.Pick.{pick, one}
@@ -440,6 +440,30 @@ module _ (t u : ℕ → Bool) (into : (i : ℕ) → t i ≡ true → u i ≡ tru
       go ih m false true e f a = absurd (omega arith)
       go ih m false false e f a = at-last ih (omega arith) (e ∙ sym f)
 
--- where some number below n passes, the search finds one, not above it
-pub first-found : (t : ℕ → Bool) (n i : ℕ) → i < n → t i ≡ true → first t n < n
-first-found t n i l e = ⊎-elim (λ (q : first t n ≡ n). clash e (first-below t n i (omega arith))) (λ h. h) (eq-or-lt-of-le (first-le t n))
+-- in blocks of b numbers: the first that passes stands in the first block that has one
+pub first-blocks : (t : ℕ → Bool) (b n : ℕ) → 0 < b → first t (b * n) / b ≡ first (λ d. some (λ i. t (b * d + i)) b) n
+first-blocks t b n pos =
+    ⊎-elim
+    (λ (e : first t (b * n) ≡ b * n).
+    rw e (mul-div-cancel-left n pos ∙ sym (none-first block n (λ d l. none-some (λ i. t (b * d + i)) b (λ i h. first-none t (b * n) (omega arith) (b * d + i) (inside d n i l h))))))
+    (λ (l : first t (b * n) < b * n).
+    let q = first t (b * n) / b in
+    let whole : b * q + first t (b * n) % b ≡ first t (b * n) = div-add-mod (first t (b * n)) b in
+    let below : q < n = div-lt-iff-lt-mul pos .1 (omega (arith, mul-comm b n)) in
+    sym (first-at block n q below (some-found (λ i. t (b * q + i)) b (first t (b * n) % b) (mod-lt (first t (b * n)) pos) (rw whole (first-is t (b * n) l)))
+    (λ d k. none-some (λ i. t (b * d + i)) b (λ i h. first-below t (b * n) (b * d + i) (omega (arith, inside d q i k h))))))
+    (eq-or-lt-of-le (first-le t (b * n)))
+  where
+    block : ℕ → Bool
+    block d = some (λ i. t (b * d + i)) b
+
+    inside : (d m i : ℕ) → d < m → i < b → b * d + i < b * m
+    inside d m i l h = omega (arith, mul-suc b d, mul-le-mul-left b l)
+
+-- where some number passes, the search finds one
+pub some-first : (t : ℕ → Bool) (n : ℕ) → some t n ≡ true → first t n < n
+some-first t n e =
+    ⊎-elim (λ (q : first t n ≡ n). (let w = some-is t n e in clash (w .2) (first-none t n (omega arith) (w .0) (w .1)))) (λ q. q) (eq-or-lt-of-le (first-le t n))
+
+pub first-some : (t : ℕ → Bool) (n : ℕ) → first t n < n → some t n ≡ true
+first-some t n h = some-found t n (first t n) h (first-is t n h)

@@ -8,10 +8,10 @@ use mathlib.Core.List.{[], _∷_}
 use native.Mathlib.Omega.{arith}
 use lib.Dec.{eqb, ltb}
 use lib.ListN.{getD}
-use borrow.Author.Tests.{eqb-true, eqb-false, ltb-true}
+use borrow.Author.Tests.{eqb-true, eqb-false, ltb-true, not-true}
 use Rattle.counting.specs.Range.{over}
 use Rattle.counting.specs.Search.{every}
-use Rattle.counting.proofs.Bools.{and-left, and-right, or-cases, not-true}
+use Rattle.counting.proofs.Bools.{and-left, and-right, or-cases}
 use Rattle.counting.proofs.Search.{every-is}
 use Rattle.walk.specs.Iterate.{it}
 use Rattle.walk.specs.Step.{face, step}

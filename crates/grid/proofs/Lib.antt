@@ -1,0 +1,12 @@
+pub mod Chain
+pub mod Packed
+pub mod Mates
+pub mod Faces
+pub mod Sides
+pub mod Marks
+pub mod Ring
+pub mod Crossings
+pub mod Answers
+pub mod Claims
+pub mod Accepts
+pub mod Examples

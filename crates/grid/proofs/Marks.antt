@@ -1,0 +1,376 @@
+-- Marks that spread over the cells of an edge.
+use Prim.Native.Nat.{ℕ, _%_, _*_, _+_, _-_, _/_, _<_, _≤_}
+use mathlib.Core.Path.{_∙_, _≡_, refl, sym}
+use mathlib.Core.Logic.{_≢_, _⊎_, inl, inr, ⊎-elim}
+use mathlib.Core.Bool.{Bool, _&&_, _||_, false, not, true}
+use mathlib.Core.List.{List, [], _∷_}
+use native.Mathlib.Nat.{eq-or-lt-of-le}
+use native.Mathlib.Omega.{arith}
+use lib.Dec.{eqb, leb, ltb}
+use lib.ListN.{getD, length, length-set, set}
+use lib.Seq.{getD-set-other, getD-set-same}
+use borrow.Author.Tests.{eq-eqb, eqb-false, eqb-true, leb-true, ltb-true, ne-eqb}
+use Rattle.counting.specs.Pick.{pick}
+use Rattle.counting.specs.Search.{count, every, last, some}
+use Rattle.counting.proofs.Bools.{and-false-left, and-left, and-right, imply}
+use Rattle.counting.proofs.Involution.{count-less, less}
+use Rattle.counting.proofs.Search.{count-ext, down-hit, down-miss, every-is, last-is, last-le, some-through, some-zero}
+use Rattle.slots.specs.Slots.{contains, hi, lo}
+use Rattle.grid.specs.Work.{Closed, Filled, Grown, Open, Paired, Side, Sought, Splitting, Spread, Spreading, missing, other, sameKey}
+
+-- it does, it is another, and there is no third: a test of all
+abbrev right : ℕ → ℕ → Bool
+right k s = not (contains k s) || ((ltb (other k s) 4 && contains k (other k s)) && every (λ u. not (contains k u) || (eqb u s || eqb u (other k s))) 4)
+
+all-right : every (λ k. every (right k) 4) 6 ≡ true
+unfolding every contains lo hi
+all-right = refl
+
+module _ (k s : ℕ) (hk : k < 6) (hs : s < 4) (h : contains k s ≡ true) where
+  rest : ((ltb (other k s) 4 && contains k (other k s)) && every (λ u. not (contains k u) || (eqb u s || eqb u (other k s))) 4) ≡ true
+  rest = imply (contains k s) _ h (every-is (right k) 4 (every-is (λ k. every (right k) 4) 6 all-right k hk) s hs)
+
+  pub other-lt : other k s < 4
+  other-lt = ltb-true (other k s) 4 (and-left _ (contains k (other k s)) (and-left _ (every (λ u. not (contains k u) || (eqb u s || eqb u (other k s))) 4) rest))
+
+  pub other-holds : contains k (other k s) ≡ true
+  other-holds = and-right (ltb (other k s) 4) _ (and-left _ (every (λ u. not (contains k u) || (eqb u s || eqb u (other k s))) 4) rest)
+
+  pub no-third : (u : ℕ) → u < 4 → contains k u ≡ true → (u ≡ s) ⊎ (u ≡ other k s)
+  no-third u hu e =
+      go (eqb u s) refl (imply (contains k u) _ e (every-is (λ u. not (contains k u) || (eqb u s || eqb u (other k s))) 4 (and-right (ltb (other k s) 4 && contains k (other k s)) _ rest) u hu))
+    where
+      go : (x : Bool) → eqb u s ≡ x → (x || eqb u (other k s)) ≡ true → (u ≡ s) ⊎ (u ≡ other k s)
+      go true q f = inl (eqb-true u s q)
+      go false q f = inr (eqb-true u (other k s) f)
+
+all-fit : every (λ k. every (λ s. not (contains k s) || leb (lo k + hi k + s) 6) 4) 6 ≡ true
+unfolding every contains lo hi
+all-fit = refl
+
+pub other-fits : (k s : ℕ) → k < 6 → s < 4 → contains k s ≡ true → lo k + hi k + s ≤ 6
+other-fits k s hk hs h =
+    leb-true (lo k + hi k + s) 6
+    (imply (contains k s) _ h (every-is (λ s. not (contains k s) || leb (lo k + hi k + s) 6) 4 (every-is (λ k. every (λ s. not (contains k s) || leb (lo k + hi k + s) 6) 4) 6 all-fit k hk) s hs))
+
+pub grown-none : (keys near : List ℕ) (n key mark : ℕ) (marks : List ℕ) → Grown keys near n key mark marks marks
+grown-none keys near n key mark marks = record { same = refl; keep = λ c e. e; only = λ c. inl refl; within = λ P cl h c e. h c e }
+
+-- the loop of `spread` is to cross slot j
+pub record Going (keys near : List ℕ) (n key mark b : ℕ) (marks₀ marks : List ℕ) (j : ℕ) : Type 0 where
+  pub slot : j < 4 * n
+  pub side : Side keys key j
+  pub here : getD marks (j / 4) 0 ≡ mark
+  pub opens : Open keys near n key mark marks j b
+  pub grown : Grown keys near n key mark marks₀ marks
+
+module _ {keys near : List ℕ} {n key mark b : ℕ} {marks₀ marks : List ℕ} {j : ℕ} (J : Paired keys near n) (g : Going keys near n key mark b marks₀ marks j) where
+  closing : (getD near j 0 ≡ 0) ⊎ (getD marks ((getD near j 0 - 1) / 4) 0 ≡ mark) → Open keys near n key mark marks b b
+  closing done = record { at = λ i l s m p q. go i l s m p (eqb i j) refl }
+    where
+      go : (i : ℕ) → i < 4 * n → Side keys key i → getD marks (i / 4) 0 ≡ mark → i ≢ b → (x : Bool) → eqb i j ≡ x
+          → (getD near i 0 ≡ 0) ⊎ (getD marks ((getD near i 0 - 1) / 4) 0 ≡ mark)
+      go i l s m p true e = let q : i ≡ j = eqb-true i j e in rw q done
+      go i l s m p false e = g .opens .at i l s m (eqb-false i j e) p
+
+  module _ (p : ℕ) (e : p ≡ getD near j 0) where
+    pub going-end : p ≤ 0 → Open keys near n key mark marks b b
+    going-end h = closing (inl (omega arith))
+
+    module _ (pos : 0 < p) where
+      there : 0 < getD near j 0
+      there = omega arith
+
+      pub going-met : getD marks ((p - 1) / 4) 0 ≡ mark → Open keys near n key mark marks b b
+      going-met h = closing (inr (rw (← e) h))
+
+      pub going-lt : p ≤ 4 * n
+      going-lt = omega (arith, J .back j (g .slot) there .0)
+
+      pub going-side : Side keys key (p - 1)
+      going-side = rw e (J .side key j (g .slot) there (g .side))
+
+      module _ (new : getD marks ((p - 1) / 4) 0 ≢ mark) (room : n ≤ length marks) (k : ℕ) (hk : k < 6) (at : getD keys (6 * ((p - 1) / 4) + k) 0 ≡ key) where
+        cell : (p - 1) / 4 < n
+        cell = omega (arith, going-lt)
+
+        -- any slot of the cell across has its edge at k
+        holds : (i : ℕ) → i / 4 ≡ (p - 1) / 4 → Side keys key i → contains k (i % 4) ≡ true
+        holds i q s =
+            let f : getD keys (6 * ((p - 1) / 4) + s .k) 0 ≡ key = rw (← q) (s .is) in
+            rw (J .one ((p - 1) / 4) k (s .k) cell hk (s .lt) (at ∙ sym f)) (s .holds)
+
+        pub h₁ : contains k ((p - 1) % 4) ≡ true
+        h₁ = holds (p - 1) refl going-side
+
+        o : ℕ
+        o = other k ((p - 1) % 4)
+
+        o-lt : o < 4
+        unfolding o
+        o-lt = other-lt k ((p - 1) % 4) hk (omega arith) h₁
+
+        next-div : (4 * ((p - 1) / 4) + o) / 4 ≡ (p - 1) / 4
+        next-div = omega (arith, o-lt)
+
+        next-mod : (4 * ((p - 1) / 4) + o) % 4 ≡ o
+        next-mod = omega (arith, o-lt)
+
+        now : getD (set marks ((p - 1) / 4) mark) ((p - 1) / 4) 0 ≡ mark
+        now = getD-set-same marks ((p - 1) / 4) mark 0 (omega (arith, cell))
+
+        kept : (c : ℕ) → getD marks c 0 ≡ mark → getD (set marks ((p - 1) / 4) mark) c 0 ≡ mark
+        kept c m = getD-set-other marks ((p - 1) / 4) c mark 0 (λ q. new (rw (← q) m)) ∙ m
+
+        was : (c : ℕ) → c ≢ (p - 1) / 4 → getD (set marks ((p - 1) / 4) mark) c 0 ≡ mark → getD marks c 0 ≡ mark
+        was c q m = sym (getD-set-other marks ((p - 1) / 4) c mark 0 q) ∙ m
+
+        opened : (i : ℕ) → i < 4 * n → Side keys key i → getD (set marks ((p - 1) / 4) mark) (i / 4) 0 ≡ mark → i ≢ 4 * ((p - 1) / 4) + o → i ≢ b
+            → (x y : Bool) → eqb (i / 4) ((p - 1) / 4) ≡ x → eqb i j ≡ y
+            → (getD near i 0 ≡ 0) ⊎ (getD (set marks ((p - 1) / 4) mark) ((getD near i 0 - 1) / 4) 0 ≡ mark)
+        unfolding o
+        opened i l s m q r true y ex ey =
+            let d : i / 4 ≡ (p - 1) / 4 = eqb-true _ _ ex in
+            let third = no-third k ((p - 1) % 4) hk (omega arith) h₁ (i % 4) (omega arith) (holds i d s) in
+            ⊎-elim
+            (λ (f : i % 4 ≡ (p - 1) % 4).
+            let same : i ≡ p - 1 = omega arith in
+            let bk : getD near i 0 ≡ j + 1 = rw (same, e) (J .back j (g .slot) there .1) in
+            let z : (j + 1 - 1) ≡ j = omega arith in
+            inr (rw (bk, z) (kept (j / 4) (g .here))))
+            (λ (f : i % 4 ≡ other k ((p - 1) % 4)). absurd (q (omega arith)))
+            third
+        opened i l s m q r false true ex ey = let f : i ≡ j = eqb-true i j ey in inr (rw (f, ← e) now)
+        opened i l s m q r false false ex ey =
+            ⊎-elim
+            (λ (z : getD near i 0 ≡ 0). inl z)
+            (λ (z : getD marks ((getD near i 0 - 1) / 4) 0 ≡ mark). inr (kept _ z))
+            (g .opens .at i l s (was (i / 4) (eqb-false _ _ ex) m) (eqb-false i j ey) r)
+
+        inside : (P : ℕ → Bool) → Closed keys near n key P → ((c : ℕ) → getD marks₀ c 0 ≡ mark → P c ≡ true) → (c : ℕ) → getD (set marks ((p - 1) / 4) mark) c 0 ≡ mark
+            → (x : Bool) → eqb c ((p - 1) / 4) ≡ x → P c ≡ true
+        inside P cl h c m true q =
+            let f : c ≡ (p - 1) / 4 = eqb-true _ _ q in
+            rw (f, e) (cl j (g .slot) (g .side) there (g .grown .within P cl h (j / 4) (g .here)))
+        inside P cl h c m false q = g .grown .within P cl h c (was c (eqb-false _ _ q) m)
+
+        pub going-more : Going keys near n key mark b marks₀ (set marks ((p - 1) / 4) mark) (4 * ((p - 1) / 4) + (6 - lo k - hi k - (p - 1) % 4))
+        unfolding o
+        going-more =
+            record {
+              slot = omega (arith, o-lt, cell);
+              side = record { k = k; lt = hk; is = rw next-div at-next; holds = rw next-mod (other-holds k ((p - 1) % 4) hk (omega arith) h₁) };
+              here = rw next-div now;
+              opens = record { at = λ i l s m q r. opened i l s m q r (eqb (i / 4) ((p - 1) / 4)) (eqb i j) refl refl };
+              grown = record {
+                same = length-set marks ((p - 1) / 4) mark ∙ g .grown .same;
+                keep = λ c m. kept c (g .grown .keep c m);
+                only = λ c. only c (eqb c ((p - 1) / 4)) refl;
+                within = λ P cl h c m. inside P cl h c m (eqb c ((p - 1) / 4)) refl;
+              };
+            }
+          where
+            at-next : getD keys (6 * ((p - 1) / 4) + k) 0 ≡ key
+            at-next = at
+
+            only : (c : ℕ) (x : Bool) → eqb c ((p - 1) / 4) ≡ x → (getD (set marks ((p - 1) / 4) mark) c 0 ≡ getD marks₀ c 0) ⊎ (getD (set marks ((p - 1) / 4) mark) c 0 ≡ mark)
+            only c true q = let f : c ≡ (p - 1) / 4 = eqb-true _ _ q in inr (rw f now)
+            only c false q =
+                let s = getD-set-other marks ((p - 1) / 4) c mark 0 (eqb-false _ _ q) in
+                ⊎-elim (λ (z : getD marks c 0 ≡ getD marks₀ c 0). inl (s ∙ z)) (λ (z : getD marks c 0 ≡ mark). inr (s ∙ z)) (g .grown .only c)
+
+pub side-sought : {keys : List ℕ} {key j : ℕ} → Side keys key j → Sought keys key (j / 4) 0
+side-sought s = record { w = s .k; lt = s .lt; from-k = omega arith; is = s .is }
+
+pub sought-more : {keys : List ℕ} {key c k : ℕ} → Sought keys key c k → (getD keys (6 * c + k) 0 ≡ key → ⊥) → Sought keys key c (k + 1)
+sought-more {keys} {key} {c} {k} s ne =
+    record { w = s .w; lt = s .lt; from-k = ⊎-elim (λ (q : k ≡ s .w). absurd (ne (rw q (s .is)))) (λ (g : k < s .w). omega arith) (eq-or-lt-of-le (s .from-k)); is = s .is }
+
+pub sought-last : {keys : List ℕ} {key c : ℕ} → (k : ℕ) → 5 ≤ k → Sought keys key c k → getD keys (6 * c + 5) 0 ≡ key
+sought-last k h s = let e : 5 ≡ s .w = omega (arith, s .lt, s .from-k) in rw e (s .is)
+
+-- how many of n cells are not marked
+unfoldable pub unmarked : List ℕ → ℕ → ℕ → ℕ
+unmarked marks mark n = count (λ c. not (eqb (getD marks c 0) mark)) n
+
+pub unmarked-less : (marks : List ℕ) (mark n c : ℕ) → c < n → c < length marks → (getD marks c 0 ≡ mark → ⊥) → unmarked (set marks c mark) mark n < unmarked marks mark n
+unfolding unmarked less
+unmarked-less marks mark n c h room ne =
+    omega (arith, count-less free c n h (rw (ne-eqb (getD marks c 0) mark ne)), count-ext (λ x. not (eqb (getD (set marks c mark) x 0) mark)) (less free c) n (λ i l. at i (eqb i c) refl))
+  where
+    free : ℕ → Bool
+    free x = not (eqb (getD marks x 0) mark)
+
+    at : (i : ℕ) (b : Bool) → eqb i c ≡ b → not (eqb (getD (set marks c mark) i 0) mark) ≡ pick (eqb i c) false (free i)
+    at i true q = let f : i ≡ c = eqb-true i c q in rw (q, f, getD-set-same marks c mark 0 room, eq-eqb mark mark refl)
+    at i false q = rw (q, getD-set-other marks c i mark 0 (eqb-false i c q))
+
+-- the loop of `left_out` stands at j
+pub record Looking (keys : List ℕ) (key : ℕ) (marks : List ℕ) (mark m j : ℕ) : Type 0 where
+  pub within : j ≤ m
+  pub at : 0 < j → getD keys (j - 1) 0 ≡ key
+  pub is : some (missing keys key marks mark) m ≡ some (missing keys key marks mark) j
+
+pub looking-start : (keys : List ℕ) (key : ℕ) (marks : List ℕ) (mark m j : ℕ) → j ≡ last (sameKey keys key) m → Looking keys key marks mark m j
+unfolding missing sameKey
+looking-start keys key marks mark m j e =
+    rw e (record {
+      within = last-le (sameKey keys key) m;
+      at = λ h. eqb-true (getD keys (last (sameKey keys key) m - 1) 0) key (last-is (sameKey keys key) m h);
+      is = some-through (missing keys key marks mark) (sameKey keys key) (λ x f. and-false-left (sameKey keys key x) (not (eqb (getD marks (x / 6) 0) mark)) f) m;
+    })
+
+module _ {keys : List ℕ} {key : ℕ} {marks : List ℕ} {mark m j : ℕ} (w : Looking keys key marks mark m j) where
+  pub looking-end : j ≤ 0 → some (missing keys key marks mark) m ≡ false
+  looking-end h = let e : j ≡ 0 = omega arith in w .is ∙ rw (e, some-zero)
+
+  module _ (pos : 0 < j) where
+    pub looking-hit : (getD marks ((j - 1) / 6) 0 ≡ mark → ⊥) → some (missing keys key marks mark) m ≡ true
+    unfolding missing sameKey
+    looking-hit ne = w .is ∙ down-hit (missing keys key marks mark) j pos (rw (eq-eqb _ _ (w .at pos), ne-eqb _ _ ne))
+
+    pub looking-more : getD marks ((j - 1) / 6) 0 ≡ mark → (i : ℕ) → i ≡ last (sameKey keys (getD keys (j - 1) 0)) (j - 1) → Looking keys key marks mark m i
+    unfolding missing sameKey
+    looking-more q i e =
+        let k : getD keys (j - 1) 0 ≡ key = w .at pos in
+        let v = looking-start keys key marks mark (j - 1) i (rw (← k) e) in
+        record {
+          within = omega (arith, v .within, w .within);
+          at = v .at;
+          is = w .is ∙ down-miss (missing keys key marks mark) j pos (rw (eq-eqb _ _ k, eq-eqb _ _ q)) ∙ v .is;
+        }
+
+-- a slot that contains edge k
+abbrev pub free : ℕ → ℕ
+free k = getD (2 ∷ 1 ∷ 1 ∷ 0 ∷ 0 ∷ 0 ∷ []) k 0
+
+free-right : every (λ k. contains k (free k) && ltb (free k) 4) 6 ≡ true
+unfolding every contains lo hi
+free-right = refl
+
+pub free-holds : (k : ℕ) → k < 6 → contains k (free k) ≡ true
+free-holds k h = and-left (contains k (free k)) (ltb (free k) 4) (every-is (λ k. contains k (free k) && ltb (free k) 4) 6 free-right k h)
+
+pub free-lt : (k : ℕ) → k < 6 → free k < 4
+free-lt k h = ltb-true (free k) 4 (and-right (contains k (free k)) (ltb (free k) 4) (every-is (λ k. contains k (free k) && ltb (free k) 4) 6 free-right k h))
+
+-- the first cell, marked alone
+module _ (keys near : List ℕ) (n key mark : ℕ) (marks : List ℕ) (J : Paired keys near n) (fresh : (d : ℕ) → getD marks d 0 ≢ mark)
+    (c k : ℕ) (hc : c < n) (hk : k < 6) (at : getD keys (6 * c + k) 0 ≡ key) (room : n ≤ length marks) where
+  pub marked : getD (set marks c mark) c 0 ≡ mark
+  marked = getD-set-same marks c mark 0 (omega arith)
+
+  alone : (d : ℕ) → getD (set marks c mark) d 0 ≡ mark → d ≡ c
+  alone d m = go (eqb d c) refl
+    where
+      go : (x : Bool) → eqb d c ≡ x → d ≡ c
+      go true e = eqb-true d c e
+      go false e = absurd (fresh d (sym (getD-set-other marks c d mark 0 (eqb-false d c e)) ∙ m))
+
+  slot-side : (s : ℕ) → s < 4 → contains k s ≡ true → Side keys key (4 * c + s)
+  slot-side s l h =
+      let a : (4 * c + s) / 4 ≡ c = omega arith in
+      let b : (4 * c + s) % 4 ≡ s = omega arith in
+      record { k = k; lt = hk; is = rw a at; holds = rw b h }
+
+  pub free-side : Side keys key (4 * c + free k)
+  free-side = slot-side (free k) (free-lt k hk) (free-holds k hk)
+
+  pub other-side : Side keys key (4 * c + other k (free k))
+  other-side = slot-side (other k (free k)) (other-lt k (free k) hk (free-lt k hk) (free-holds k hk)) (other-holds k (free k) hk (free-lt k hk) (free-holds k hk))
+
+  pub start-open : Open keys near n key mark (set marks c mark) (4 * c + free k) (4 * c + other k (free k))
+  start-open = record { at = λ j l s m p q. absurd (go j s (alone (j / 4) m) p q) }
+    where
+      go : (j : ℕ) → Side keys key j → j / 4 ≡ c → j ≢ 4 * c + free k → j ≢ 4 * c + other k (free k) → ⊥
+      go j s e p q =
+          let f : getD keys (6 * c + s .k) 0 ≡ key = rw (← e) (s .is) in
+          let h : contains k (j % 4) ≡ true = rw (J .one c k (s .k) hc hk (s .lt) (at ∙ sym f)) (s .holds) in
+          ⊎-elim (λ (u : j % 4 ≡ free k). p (omega arith)) (λ (u : j % 4 ≡ other k (free k)). q (omega arith))
+          (no-third k (free k) hk (free-lt k hk) (free-holds k hk) (j % 4) (omega arith) h)
+
+  -- after the two spreads
+  pub both-spread : (b : ℕ) → 4 * n ≤ b → (marks₁ marks₂ : List ℕ) → Grown keys near n key mark (set marks c mark) marks₁ → Grown keys near n key mark marks₁ marks₂
+      → Open keys near n key mark marks₂ b b → Filled keys near n key mark c marks marks₂
+  both-spread b hb marks₁ marks₂ g₁ g₂ o =
+      record {
+        same = g₂ .same ∙ g₁ .same ∙ length-set marks c mark;
+        has = g₂ .keep c (g₁ .keep c marked);
+        only = λ d. ⊎-elim (λ (e : getD marks₂ d 0 ≡ getD marks₁ d 0). ⊎-elim (λ (f : getD marks₁ d 0 ≡ getD (set marks c mark) d 0). first d (e ∙ f) (eqb d c) refl)
+            (λ (f : getD marks₁ d 0 ≡ mark). inr (e ∙ f)) (g₁ .only d)) (λ (e : getD marks₂ d 0 ≡ mark). inr e) (g₂ .only d);
+        closed = λ j l s p m. ⊎-elim (λ (z : getD near j 0 ≡ 0). absurd (omega arith)) (λ z. z) (o .at j l s m (λ q. omega arith) (λ q. omega arith));
+        within = λ P cl h d m. g₂ .within P cl (g₁ .within P cl (λ x y. rw (alone x y) h)) d m;
+      }
+    where
+      first : (d : ℕ) → getD marks₂ d 0 ≡ getD (set marks c mark) d 0 → (x : Bool) → eqb d c ≡ x → (getD marks₂ d 0 ≡ getD marks d 0) ⊎ (getD marks₂ d 0 ≡ mark)
+      first d e true q = let f : d ≡ c = eqb-true d c q in inr (e ∙ rw f marked)
+      first d e false q = inl (e ∙ getD-set-other marks c d mark 0 (eqb-false d c q))
+
+pub top-le : (keys : List ℕ) (key m top : ℕ) → top ≡ last (sameKey keys key) m → top ≤ m
+top-le keys key m top e = rw e (last-le (sameKey keys key) m)
+
+pub top-key : (keys : List ℕ) (key m top : ℕ) → top ≡ last (sameKey keys key) m → 0 < top → getD keys (6 * ((top - 1) / 6) + (top - 1) % 6) 0 ≡ key
+unfolding sameKey
+top-key keys key m top e pos =
+    let f : 6 * ((top - 1) / 6) + (top - 1) % 6 ≡ top - 1 = omega arith in
+    let t : eqb (getD keys (top - 1) 0) key ≡ true = rw e (last-is (sameKey keys key) m (rw (← e) pos)) in
+    rw f (eqb-true (getD keys (top - 1) 0) key t)
+
+pub open-free : {keys near : List ℕ} {n key mark : ℕ} {marks : List ℕ} {a : ℕ} → (b : ℕ) → Open keys near n key mark marks a a → Open keys near n key mark marks a b
+open-free b o = record { at = λ j l s m p q. o .at j l s m p p }
+
+pub grown-at : {keys near : List ℕ} {n key mark : ℕ} {marks₀ marks : List ℕ} → Grown keys near n key mark marks₀ marks → (c x : ℕ) → x / 4 ≡ c → getD marks₀ c 0 ≡ mark → getD marks (x / 4) 0 ≡ mark
+grown-at g c x e m = rw e (g .keep c m)
+
+-- the steps of `split_at`
+module _ {keys next near : List ℕ} {n key mark top : ℕ} {marks : List ℕ} (S : Splitting keys next near n key mark top marks) where
+  pub top-within : top ≤ 6 * n
+  top-within = top-le keys key (6 * n) top (S .top-is)
+
+  at-top : getD keys (6 * ((top - 1) / 6) + (top - 1) % 6) 0 ≡ key
+  at-top = top-key keys key (6 * n) top (S .top-is) (S .found)
+
+  cell-lt : (top - 1) / 6 < n
+  cell-lt = omega (arith, top-within, S .found)
+
+  edge-lt : (top - 1) % 6 < 6
+  edge-lt = omega arith
+
+  slot-lt : free ((top - 1) % 6) < 4
+  slot-lt = free-lt ((top - 1) % 6) edge-lt
+
+  pub spread-first : (o : ℕ) → o ≡ other ((top - 1) % 6) (free ((top - 1) % 6))
+      → Spreading keys near n key mark (4 * ((top - 1) / 6) + free ((top - 1) % 6)) (4 * ((top - 1) / 6) + o) (set marks ((top - 1) / 6) mark)
+  spread-first o e =
+      let d : (4 * ((top - 1) / 6) + free ((top - 1) % 6)) / 4 ≡ (top - 1) / 6 = omega (arith, slot-lt) in
+      record {
+        paired = S .paired;
+        room = simp length-set (S .room);
+        slot = omega (arith, slot-lt, cell-lt);
+        side = free-side keys near n key mark marks (S .paired) (S .fresh) ((top - 1) / 6) ((top - 1) % 6) cell-lt edge-lt at-top (S .room);
+        here = rw d (marked keys near n key mark marks (S .paired) (S .fresh) ((top - 1) / 6) ((top - 1) % 6) cell-lt edge-lt at-top (S .room));
+        opens = rw e (start-open keys near n key mark marks (S .paired) (S .fresh) ((top - 1) / 6) ((top - 1) % 6) cell-lt edge-lt at-top (S .room));
+      }
+
+  pub spread-second : (o b : ℕ) → o ≡ other ((top - 1) % 6) (free ((top - 1) % 6)) → o < 4 → (marks₁ : List ℕ)
+      → Spread keys near n key mark (4 * ((top - 1) / 6) + o) (set marks ((top - 1) / 6) mark) marks₁ → Spreading keys near n key mark (4 * ((top - 1) / 6) + o) b marks₁
+  spread-second o b e l marks₁ g =
+      record {
+        paired = S .paired;
+        room = omega (arith, g .grown .same, length-set marks ((top - 1) / 6) mark, S .room);
+        slot = omega (arith, cell-lt);
+        side = rw e (other-side keys near n key mark marks (S .paired) (S .fresh) ((top - 1) / 6) ((top - 1) % 6) cell-lt edge-lt at-top (S .room));
+        here = grown-at (g .grown) ((top - 1) / 6) (4 * ((top - 1) / 6) + o) (omega arith)
+            (marked keys near n key mark marks (S .paired) (S .fresh) ((top - 1) / 6) ((top - 1) % 6) cell-lt edge-lt at-top (S .room));
+        opens = open-free b (g .opens);
+      }
+
+  pub spread-both : (a b : ℕ) → 4 * n ≤ b → (marks₁ marks₂ : List ℕ) → Spread keys near n key mark a (set marks ((top - 1) / 6) mark) marks₁
+      → Spread keys near n key mark b marks₁ marks₂ → Filled keys near n key mark ((top - 1) / 6) marks marks₂
+  spread-both a b h marks₁ marks₂ g₁ g₂ =
+      both-spread keys near n key mark marks (S .paired) (S .fresh) ((top - 1) / 6) ((top - 1) % 6) cell-lt edge-lt at-top (S .room) b h marks₁ marks₂
+      (g₁ .grown) (g₂ .grown) (g₂ .opens)
+
+  pub spread-same : (a b : ℕ) (marks₁ marks₂ : List ℕ) → Spread keys near n key mark a (set marks ((top - 1) / 6) mark) marks₁
+      → Spread keys near n key mark b marks₁ marks₂ → length marks₂ ≡ length marks
+  spread-same a b marks₁ marks₂ g₁ g₂ = g₂ .grown .same ∙ g₁ .grown .same ∙ length-set marks ((top - 1) / 6) mark

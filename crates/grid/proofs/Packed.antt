@@ -1,0 +1,178 @@
+-- Tables filled from the front, and keys: equal exactly where the nodes are.
+use Prim.Native.Nat.{ℕ, zero, suc, _%_, _*_, _+_, _/_, _<_, _≤_}
+use mathlib.Core.Path.{_∙_, _≡_, refl}
+use mathlib.Core.Logic.{⊎-elim}
+use mathlib.Core.Bool.{Bool, _&&_, _||_, false, not, true}
+use mathlib.Core.List.{List}
+use native.Mathlib.Nat.{eq-or-lt-of-le, not-suc-le-zero}
+use native.Mathlib.Numerals.{add-one}
+use native.Mathlib.Omega.{arith}
+use lib.Dec.{eqb, leb, ltb}
+use lib.ListN.{getD, length, length-set, set}
+use lib.Seq.{getD-set-other, getD-set-same}
+use borrow.Author.Tests.{eq-eqb, eqb-false, eqb-true, le-leb, le-ltb, leb-false, lt-leb, ltb-false, ltb-true, ne-eqb}
+use Rattle.counting.specs.Pick.{pick}
+use Rattle.counting.specs.Search.{every, first, last, some}
+use Rattle.counting.proofs.Bools.{or-none, or-right}
+use Rattle.counting.proofs.Search.{every-is, first-none, is-every, none-some, some-ext, some-found, some-last, some-none}
+use Rattle.slots.specs.Slots.{corner}
+use Rattle.slots.proofs.Slots.{corner-lt, same-slot}
+use Rattle.grid.specs.Grid.{SameFace, cellCount, faceNode, highestNode, mostCells, node, sameFace}
+use Rattle.grid.specs.Rows.{badCell, badLength, repeats, sameCell}
+use Rattle.grid.specs.Work.{Ordered, Table, cellKey, faceKey, join, sameKey}
+
+pub table-none : (f : ℕ → ℕ) (l : List ℕ) → Table f 0 l
+table-none f l = record { room = omega arith; at = λ i h. absurd (not-suc-le-zero h) }
+
+pub table-more : {f : ℕ → ℕ} {n : ℕ} {l : List ℕ} → Table f n l → (x : ℕ) → n < length l → x ≡ f n → Table f (n + 1) (set l n x)
+table-more {f} {n} {l} w x room e =
+    record {
+      room = simp length-set (omega arith);
+      at = λ i h. ⊎-elim
+          (λ (q : i ≡ n). rw q (getD-set-same l n x 0 room ∙ e))
+          (λ (g : i < n). getD-set-other l n i x 0 (λ q. omega arith) ∙ w .at i g)
+          (eq-or-lt-of-le (omega arith));
+    }
+
+-- three cases
+pub below-three : (P : ℕ → Type 0) → P 0 → P 1 → P 2 → (i : ℕ) → i < 3 → P i
+below-three P a b c zero l = a
+below-three P a b c (suc zero) l = b
+below-three P a b c (suc (suc zero)) l = c
+below-three P a b c (suc (suc (suc i))) l = absurd (omega arith)
+
+-- row 1
+pub length-odd : (cells : List ℕ) → (length cells % 4 ≡ 0 → ⊥) → badLength cells ≡ true
+unfolding badLength
+length-odd cells h = rw (ne-eqb (length cells % 4) 0 h)
+
+pub length-none : (cells : List ℕ) → length cells ≡ 0 → badLength cells ≡ true
+unfolding badLength
+length-none cells h = rw (eq-eqb (length cells) 0 h) (or-right (not (eqb (length cells % 4) 0)) true refl)
+
+pub length-many : (cells : List ℕ) → length cells % 4 ≡ 0 → (length cells ≡ 0 → ⊥) → badLength cells ≡ ltb mostCells (cellCount cells)
+unfolding badLength
+length-many cells h l = rw (eq-eqb (length cells % 4) 0 h, ne-eqb (length cells) 0 l)
+
+module _ (cells : List ℕ) (c : ℕ) where
+  -- row 3
+  pub cell-drops : (i : ℕ) → i < 3 → node cells c (i + 1) ≤ node cells c i → badCell cells c ≡ true
+  unfolding badCell
+  cell-drops i l h =
+      or-right (some (λ i. ltb highestNode (node cells c i)) 4) (some (λ i. leb (node cells c (i + 1)) (node cells c i)) 3)
+      (some-found (λ i. leb (node cells c (i + 1)) (node cells c i)) 3 i l (le-leb (node cells c (i + 1)) (node cells c i) h))
+
+  pub cell-rises : ((i : ℕ) → i < 3 → node cells c i < node cells c (i + 1)) → badCell cells c ≡ ltb highestNode (node cells c 3)
+  unfolding badCell some
+  cell-rises h =
+      rw (none-some (λ i. leb (node cells c (i + 1)) (node cells c i)) 3 (λ i l. lt-leb (node cells c (i + 1)) (node cells c i) (h i l)))
+      (go (ltb highestNode (node cells c 3)) refl)
+    where
+      go : (b : Bool) → ltb highestNode (node cells c 3) ≡ b
+          → (pick b true (pick (ltb highestNode (node cells c 2)) true (pick (ltb highestNode (node cells c 1)) true (pick (ltb highestNode (node cells c 0)) true false))) || false) ≡ b
+      go true e = refl
+      go false e =
+          let l = ltb-false highestNode (node cells c 3) e in
+          let l2 = h 2 (omega arith) in
+          let l1 = h 1 (omega arith) in
+          let l0 = h 0 (omega arith) in
+          rw (le-ltb highestNode (node cells c 2) (omega arith), le-ltb highestNode (node cells c 1) (omega arith), le-ltb highestNode (node cells c 0) (omega arith))
+
+-- what rows 1 and 3 leave
+pub ordered-cells : (cells : List ℕ) → ((i : ℕ) → getD cells i 0 < 65536) → cellCount cells ≤ mostCells → cellCount cells ≤ first (badCell cells) (cellCount cells)
+    → Ordered cells
+unfolding badCell
+ordered-cells cells small few none =
+    record {
+      small = small;
+      few = few;
+      nodes = λ c i h l. ltb-false highestNode (node cells c i) (some-none (λ i. ltb highestNode (node cells c i)) 4 (fine c h .0) i l);
+      rising = λ c i h l. leb-false (node cells c (i + 1)) (node cells c i) (some-none (λ i. leb (node cells c (i + 1)) (node cells c i)) 3 (fine c h .1) i l);
+    }
+  where
+    fine : (c : ℕ) → c < cellCount cells
+        → (some (λ i. ltb highestNode (node cells c i)) 4 ≡ false) × (some (λ i. leb (node cells c (i + 1)) (node cells c i)) 3 ≡ false)
+    fine c h =
+        or-none (some (λ i. ltb highestNode (node cells c i)) 4) (some (λ i. leb (node cells c (i + 1)) (node cells c i)) 3)
+        (first-none (badCell cells) (cellCount cells) none c h)
+
+pub join-eqb : (a b c d : ℕ) → b < 65536 → d < 65536 → eqb (join a b) (join c d) ≡ eqb a c && eqb b d
+join-eqb a b c d h l = go (eqb a c) (eqb b d) refl refl
+  where
+    go : (x y : Bool) → eqb a c ≡ x → eqb b d ≡ y → eqb (join a b) (join c d) ≡ x && y
+    go true true e f = eq-eqb (join a b) (join c d) (omega (arith, eqb-true a c e, eqb-true b d f))
+    go true false e f = ne-eqb (join a b) (join c d) (λ q. eqb-false b d f (omega (arith, eqb-true a c e, q)))
+    go false y e f = ne-eqb (join a b) (join c d) (λ q. eqb-false a c e (omega (arith, q)))
+
+module _ (cells : List ℕ) (small : (i : ℕ) → getD cells i 0 < 65536) where
+  pub cell-eqb : (d c : ℕ) → sameCell cells d c ≡ eqb (cellKey cells d) (cellKey cells c)
+  unfolding sameCell every cellKey
+  cell-eqb d c =
+      rw (
+        join-eqb (join (join (node cells d 0) (node cells d 1)) (node cells d 2)) (node cells d 3) (join (join (node cells c 0) (node cells c 1)) (node cells c 2))
+            (node cells c 3) (small (4 * d + 3)) (small (4 * c + 3)),
+        join-eqb (join (node cells d 0) (node cells d 1)) (node cells d 2) (join (node cells c 0) (node cells c 1)) (node cells c 2) (small (4 * d + 2)) (small (4 * c + 2)),
+        join-eqb (node cells d 0) (node cells d 1) (node cells c 0) (node cells c 1) (small (4 * d + 1)) (small (4 * c + 1)),
+      )
+
+  -- what the loop of `row_4` asks of a cell
+  pub repeats-last : (n : ℕ) (keys : List ℕ) → Table (cellKey cells) n keys → (c : ℕ) → c < n
+      → repeats cells c ≡ ltb 0 (last (sameKey keys (getD keys c 0)) c)
+  unfolding repeats sameKey
+  repeats-last n keys w c h =
+      some-ext (λ d. sameCell cells d c) (λ d. eqb (getD keys d 0) (getD keys c 0)) c (λ d l. cell-eqb d c ∙ rw (w .at d (omega arith), w .at c h))
+      ∙ some-last (λ d. eqb (getD keys d 0) (getD keys c 0)) c
+
+  face-small : (c s i : ℕ) → faceNode cells c s i < 65536
+  unfolding faceNode
+  face-small c s i = small (4 * c + corner s i)
+
+  pub face-eqb : (d t c s : ℕ) → t < 4 → s < 4 → sameFace cells d t c s ≡ eqb (faceKey cells (4 * d + t)) (faceKey cells (4 * c + s))
+  unfolding sameFace every faceKey
+  face-eqb d t c s ht hs =
+      let a : (4 * d + t) / 4 ≡ d = omega arith in
+      let b : (4 * d + t) % 4 ≡ t = omega arith in
+      let e : (4 * c + s) / 4 ≡ c = omega arith in
+      let f : (4 * c + s) % 4 ≡ s = omega arith in
+      rw (
+        a,
+        b,
+        e,
+        f,
+        join-eqb (join (faceNode cells d t 0) (faceNode cells d t 1)) (faceNode cells d t 2) (join (faceNode cells c s 0) (faceNode cells c s 1)) (faceNode cells c s 2)
+            (face-small d t 2) (face-small c s 2),
+        join-eqb (faceNode cells d t 0) (faceNode cells d t 1) (faceNode cells c s 0) (faceNode cells c s 1) (face-small d t 1) (face-small c s 1),
+      )
+
+-- the same face, as a test and as equations of nodes
+module _ (cells : List ℕ) where
+  pub same-true : (d t c s : ℕ) → sameFace cells d t c s ≡ true → SameFace cells d t c s
+  unfolding sameFace faceNode
+  same-true d t c s e i l =
+      eqb-true (faceNode cells d t i) (faceNode cells c s i) (every-is (λ i. eqb (faceNode cells d t i) (faceNode cells c s i)) 3 e i l)
+
+  pub true-same : (d t c s : ℕ) → SameFace cells d t c s → sameFace cells d t c s ≡ true
+  unfolding sameFace faceNode
+  true-same d t c s h =
+      is-every (λ i. eqb (faceNode cells d t i) (faceNode cells c s i)) 3 (λ i l. eq-eqb (faceNode cells d t i) (faceNode cells c s i) (h i l))
+
+module _ (cells : List ℕ) (good : Ordered cells) where
+  -- a cell's nodes rise, so each position has its own
+  pub rises : (c : ℕ) → c < cellCount cells → (a b : ℕ) → a < b → b < 4 → node cells c a < node cells c b
+  rises c h a zero l m = absurd (not-suc-le-zero l)
+  rises c h a (suc b) l m =
+      let s : node cells c b < node cells c (suc b) = rw add-one at (good .rising c b h (omega arith)) in
+      ⊎-elim (λ (q : a ≡ b). rw q s) (λ (g : a < b). omega (arith, rises c h a b g (omega arith))) (eq-or-lt-of-le (omega arith))
+
+  pub same-node : (c : ℕ) → c < cellCount cells → (a b : ℕ) → a < 4 → b < 4 → node cells c a ≡ node cells c b → a ≡ b
+  same-node c h a b la lb e = go (eqb a b) refl (ltb a b) refl
+    where
+      go : (x : Bool) → eqb a b ≡ x → (y : Bool) → ltb a b ≡ y → a ≡ b
+      go true q y r = eqb-true a b q
+      go false q true r = absurd (omega (arith, rises c h a b (ltb-true a b r) lb))
+      go false q false r = absurd (omega (arith, rises c h b a (omega (arith, eqb-false a b q, ltb-false a b r)) la))
+
+  -- two slots of a cell are two faces
+  pub one-slot : (c t s : ℕ) → c < cellCount cells → t < 4 → s < 4 → sameFace cells c t c s ≡ true → t ≡ s
+  one-slot c t s h lt ls e =
+      same-slot t s lt ls (λ i l. same-node c h (corner t i) (corner s i) (corner-lt t i l) (corner-lt s i l) (same-true cells c t c s e i l))

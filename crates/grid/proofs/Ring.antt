@@ -1,0 +1,310 @@
+-- The cells of an edge: marks that spread over the slots across are what links lead to.
+use Prim.Native.Nat.{ℕ, _%_, _*_, _+_, _-_, _/_, _<_, _≤_}
+use mathlib.Core.Path.{_∙_, _≡_, ap, refl, sym}
+use mathlib.Core.Logic.{_≢_, _⊎_, inl, inr, ⊎-elim}
+use mathlib.Core.Bool.{Bool, _&&_, false, not, true}
+use mathlib.Core.List.{List}
+use native.Mathlib.Nat.{eq-or-lt-of-le}
+use native.Mathlib.Omega.{arith}
+use lib.Dec.{eqb, ltb}
+use lib.ListN.{getD}
+use borrow.Author.Tests.{eq-eqb, eqb-false, eqb-true, ltb-false, ltb-true, not-false, not-true}
+use Rattle.counting.specs.Pick.{one}
+use Rattle.counting.specs.Search.{first, last, some}
+use Rattle.counting.proofs.Bools.{and-left, and-right, and-true, bool-same, clash, holds-or}
+use Rattle.counting.proofs.Range.{mark}
+use Rattle.counting.proofs.Reach.{reach-closed, reach-start, reach-within}
+use Rattle.counting.proofs.Search.{first-is, first-le, first-none, some-and, some-blocks, some-ext, some-found, some-is, some-none}
+use Rattle.slots.specs.Slots.{contains, from, hi, lo, place, slotEdge, to}
+use Rattle.slots.proofs.Slots.{edge-order, edge-slot, face-ends, slot-edge, two-slots}
+use Rattle.grid.specs.Grid.{cellCount, hasEdge, hasFace, isEdge, node, sameFace}
+use Rattle.grid.specs.Rows.{joined, linked, split}
+use Rattle.grid.specs.Work.{Closed, Filled, Near, Ordered, Paired, Side, Table, edgeKey, join, missing, sameKey, sideKey}
+use Rattle.grid.proofs.Marks.{top-key, top-le}
+use Rattle.grid.proofs.Packed.{join-eqb, rises, same-true}
+use Rattle.grid.proofs.Sides.{is-side}
+
+module _ (cells : List ℕ) (good : Ordered cells) (keys near : List ℕ) (tk : Table (sideKey cells) (6 * cellCount cells) keys) (N : Near cells near) where
+  side-at : (c k : ℕ) → c < cellCount cells → k < 6 → getD keys (6 * c + k) 0 ≡ join (node cells c (lo k)) (node cells c (hi k))
+  unfolding sideKey
+  side-at c k h l =
+      let a : (6 * c + k) / 6 ≡ c = omega arith in
+      let b : (6 * c + k) % 6 ≡ k = omega arith in
+      tk .at (6 * c + k) (omega arith) ∙ rw (a, b)
+
+  -- two edges of a cell are two edges
+  earlier-edge : (c k m : ℕ) → c < cellCount cells → k < m → m < 6 → node cells c (lo k) ≡ node cells c (lo m) → node cells c (hi k) ≡ node cells c (hi m) → ⊥
+  earlier-edge c k m h l lm e f =
+      let a = two-slots k (omega arith) in
+      let b = two-slots m lm in
+      ⊎-elim (λ (o : lo k < lo m). omega (arith, rises cells good c h (lo k) (lo m) o (omega (arith, b .rising, b .within))))
+      (λ (o : (lo k ≡ lo m) × (hi k < hi m)). omega (arith, rises cells good c h (hi k) (hi m) (o .1) (b .within))) (edge-order k m l lm)
+
+  one-edge : (c k m : ℕ) → c < cellCount cells → k < 6 → m < 6 → getD keys (6 * c + k) 0 ≡ getD keys (6 * c + m) 0 → k ≡ m
+  one-edge c k m h lk lm e = go (ltb k m) refl (ltb m k) refl
+    where
+      both : (eqb (node cells c (lo k)) (node cells c (lo m)) && eqb (node cells c (hi k)) (node cells c (hi m))) ≡ true
+      both =
+          sym (join-eqb (node cells c (lo k)) (node cells c (hi k)) (node cells c (lo m)) (node cells c (hi m)) (good .small _) (good .small _))
+          ∙ eq-eqb _ _ (sym (side-at c k h lk) ∙ e ∙ side-at c m h lm)
+
+      lows : node cells c (lo k) ≡ node cells c (lo m)
+      lows = eqb-true _ _ (and-left (eqb (node cells c (lo k)) (node cells c (lo m))) (eqb (node cells c (hi k)) (node cells c (hi m))) both)
+
+      highs : node cells c (hi k) ≡ node cells c (hi m)
+      highs = eqb-true _ _ (and-right (eqb (node cells c (lo k)) (node cells c (lo m))) (eqb (node cells c (hi k)) (node cells c (hi m))) both)
+
+      go : (x : Bool) → ltb k m ≡ x → (y : Bool) → ltb m k ≡ y → k ≡ m
+      go true p y q = absurd (earlier-edge c k m h (ltb-true k m p) lm lows highs)
+      go false p true q = absurd (earlier-edge c m k h (ltb-true m k q) lk (sym lows) (sym highs))
+      go false p false q = omega (arith, ltb-false k m p, ltb-false m k q)
+
+  -- an edge of a face is an edge of both its cells
+  carried : (key d t c s k : ℕ) → d < cellCount cells → t < 4 → c < cellCount cells → s < 4 → k < 6 → sameFace cells d t c s ≡ true
+      → getD keys (6 * c + k) 0 ≡ key → contains k s ≡ true → (m : ℕ) × (m < 6) × (getD keys (6 * d + m) 0 ≡ key) × (contains m t ≡ true)
+  carried key d t c s k hd ht hc hs hk e is h =
+      let g = edge-slot k s hk hs h in
+      let j = place s k in
+      let u = slot-edge s j hs (g .place-lt) in
+      let v = slot-edge t j ht (g .place-lt) in
+      let (a, b) = face-ends j (g .place-lt) in
+      let same = same-true cells d t c s e in
+      let f : node cells d (lo (slotEdge t j)) ≡ node cells c (lo k) =
+      ap (node cells d) (v .lo-is) ∙ same (from j) (omega arith) ∙ ap (node cells c) (sym (u .lo-is) ∙ ap lo (g .edge-is)) in
+      let q : node cells d (hi (slotEdge t j)) ≡ node cells c (hi k) =
+      ap (node cells d) (v .hi-is) ∙ same (to j) b ∙ ap (node cells c) (sym (u .hi-is) ∙ ap hi (g .edge-is)) in
+      (slotEdge t j, v .lt, side-at d (slotEdge t j) hd (v .lt) ∙ rw (f, q) (sym (side-at c k hc hk) ∙ is), v .within)
+
+  pub paired : Paired keys near (cellCount cells)
+  paired =
+      record {
+        keyed = tk .room;
+        room = N .room;
+        few = good .few;
+        back = λ j l p. (N .pair j l p .lt, N .pair j l p .back);
+        side = λ key j l p s. (
+            let g = N .pair j l p in
+            let x = getD near j 0 - 1 in
+            let xl : x < 4 * cellCount cells = omega (arith, g .lt, p) in
+            let w = carried key (x / 4) (x % 4) (j / 4) (j % 4) (s .k) (omega arith) (omega arith) (omega arith) (omega arith) (s .lt) (g .same) (s .is) (s .holds) in
+            record { k = w .0; lt = w .1; is = w .2; holds = w .3 });
+        one = one-edge;
+      }
+
+  module _ (edges : List ℕ) (small : (i : ℕ) → getD edges i 0 < 65536) (e : ℕ) where
+    side : (c k : ℕ) → c < cellCount cells → k < 6 → isEdge cells edges c k e ≡ eqb (getD keys (6 * c + k) 0) (edgeKey edges e)
+    side c k h l = is-side cells edges (good .small) small keys tk c k e h l
+
+    has-side : (c : ℕ) → c < cellCount cells → hasEdge cells edges e c ≡ some (λ k. eqb (getD keys (6 * c + k) 0) (edgeKey edges e)) 6
+    unfolding hasEdge
+    has-side c h = some-ext (λ k. isEdge cells edges c k e) (λ k. eqb (getD keys (6 * c + k) 0) (edgeKey edges e)) 6 (λ k l. side c k h l)
+
+    -- a cell across a slot of the edge is linked
+    link-of : (j : ℕ) → j < 4 * cellCount cells → Side keys (edgeKey edges e) j → 0 < getD near j 0 → linked cells edges e (j / 4) ((getD near j 0 - 1) / 4) ≡ true
+    unfolding linked hasFace
+    link-of j l s p =
+        let x = getD near j 0 - 1 in
+        some-found (λ k. isEdge cells edges (j / 4) k e && some (λ s. contains k s && some (λ t. sameFace cells (x / 4) t (j / 4) s) 4) 4) 6 (s .k) (s .lt)
+        (and-true _ _ (side (j / 4) (s .k) (omega arith) (s .lt) ∙ eq-eqb _ _ (s .is))
+        (some-found (λ u. contains (s .k) u && some (λ t. sameFace cells (x / 4) t (j / 4) u) 4) 4 (j % 4) (omega arith)
+        (and-true _ _ (s .holds) (some-found (λ t. sameFace cells (x / 4) t (j / 4) (j % 4)) 4 (x % 4) (omega arith) (N .pair j l p .same)))))
+
+    -- and so is the cell that it is across from
+    link-back : (j : ℕ) → j < 4 * cellCount cells → Side keys (edgeKey edges e) j → 0 < getD near j 0 → linked cells edges e ((getD near j 0 - 1) / 4) (j / 4) ≡ true
+    link-back j l s p =
+        let g = N .pair j l p in
+        let x = getD near j 0 - 1 in
+        let q : j + 1 - 1 ≡ j = omega arith in
+        rw (g .back, q) at (link-of x (omega (arith, g .lt, p)) (paired .side (edgeKey edges e) j l p s) (omega (arith, g .back)))
+
+    -- the slot of cell d across which cell c is
+    pub record Crossed (d c : ℕ) : Type 0 where
+      pub j : ℕ
+      pub lt : j < 4 * cellCount cells
+      pub cell : j / 4 ≡ d
+      pub sided : Side keys (edgeKey edges e) j
+      pub there : 0 < getD near j 0
+      pub ends : (getD near j 0 - 1) / 4 ≡ c
+
+    -- a linked cell is the same, or across a slot of the edge
+    of-link : (d c : ℕ) → d < cellCount cells → c < cellCount cells → linked cells edges e d c ≡ true → (c ≡ d) ⊎ Crossed d c
+    unfolding linked hasFace
+    of-link d c hd hc h =
+        let w = some-is (λ k. isEdge cells edges d k e && some (λ s. contains k s && some (λ t. sameFace cells c t d s) 4) 4) 6 h in
+        let k = w .0 in
+        let v1 = and-left (isEdge cells edges d k e) (some (λ s. contains k s && some (λ t. sameFace cells c t d s) 4) 4) (w .2) in
+        let v2 = and-right (isEdge cells edges d k e) (some (λ s. contains k s && some (λ t. sameFace cells c t d s) 4) 4) (w .2) in
+        let u = some-is (λ s. contains k s && some (λ t. sameFace cells c t d s) 4) 4 v2 in
+        let s = u .0 in
+        let y1 = and-left (contains k s) (some (λ t. sameFace cells c t d s) 4) (u .2) in
+        let y2 = and-right (contains k s) (some (λ t. sameFace cells c t d s) 4) (u .2) in
+        let z = some-is (λ t. sameFace cells c t d s) 4 y2 in
+        let t = z .0 in
+        let ht = z .1 in
+        let hs = u .1 in
+        let a : (4 * d + s) / 4 ≡ d = omega arith in
+        let b : (4 * d + s) % 4 ≡ s = omega arith in
+        let sd : Side keys (edgeKey edges e) (4 * d + s) =
+        record { k = k; lt = w .1; is = rw a (eqb-true _ _ (sym (side d k hd (w .1)) ∙ v1)); holds = rw b y1 } in
+        go t s ht hs (z .2) sd (eqb c d) refl
+      where
+        go : (t s : ℕ) → t < 4 → s < 4 → sameFace cells c t d s ≡ true → Side keys (edgeKey edges e) (4 * d + s) → (x : Bool) → eqb c d ≡ x → (c ≡ d) ⊎ Crossed d c
+        go t s ht hs same sd true q = inl (eqb-true c d q)
+        go t s ht hs same sd false q =
+            let m : getD near (4 * d + s) 0 ≡ 4 * c + t + 1 = N .all c t d s hc ht hd hs (eqb-false c d q) same in
+            inr (record { j = 4 * d + s; lt = omega arith; cell = omega arith; sided = sd; there = omega arith; ends = omega arith })
+
+    module _ (top : ℕ) (et : top ≡ last (sameKey keys (edgeKey edges e)) (6 * cellCount cells)) (pos-top : 0 < top)
+        (mark : ℕ) (marks₀ marks : List ℕ) (F : Filled keys near (cellCount cells) (edgeKey edges e) mark ((top - 1) / 6) marks₀ marks) where
+      n : ℕ
+      n = cellCount cells
+
+      tl : top ≤ 6 * cellCount cells
+      tl = top-le keys (edgeKey edges e) (6 * cellCount cells) top et
+
+      -- the cell where the marks start has the edge
+      top-has : hasEdge cells edges e ((top - 1) / 6) ≡ true
+      top-has =
+          has-side ((top - 1) / 6) (omega (arith, tl))
+          ∙ some-found (λ k. eqb (getD keys (6 * ((top - 1) / 6) + k) 0) (edgeKey edges e)) 6 ((top - 1) % 6) (omega arith)
+          (eq-eqb _ _ (top-key keys (edgeKey edges e) (6 * cellCount cells) top et pos-top))
+
+      marked : ℕ → Bool
+      marked c = eqb (getD marks c 0) mark
+
+      A : ℕ → Bool
+      A = joined cells edges e
+
+      -- the first cell of the edge
+      f : ℕ
+      f = first (hasEdge cells edges e) (cellCount cells)
+
+      f-lt : f < cellCount cells
+      unfolding f
+      f-lt =
+          ⊎-elim (λ (q : f ≡ cellCount cells). clash top-has (first-none (hasEdge cells edges e) (cellCount cells) (omega arith) ((top - 1) / 6) (omega (arith, tl)))) (λ q. q)
+          (eq-or-lt-of-le (first-le (hasEdge cells edges e) (cellCount cells)))
+
+      f-has : hasEdge cells edges e f ≡ true
+      unfolding f
+      f-has = first-is (hasEdge cells edges e) (cellCount cells) f-lt
+
+      f-in : A f ≡ true
+      unfolding A joined f
+      f-in = reach-start (eqb f) (linked cells edges e) (cellCount cells) (cellCount cells) f (eq-eqb f f refl)
+
+      on-link : (d c : ℕ) → d < cellCount cells → c < cellCount cells → A d ≡ true → linked cells edges e d c ≡ true → A c ≡ true
+      unfolding A joined
+      on-link d c hd hc r l =
+          reach-closed (eqb (first (hasEdge cells edges e) (cellCount cells))) (linked cells edges e) (cellCount cells) d c hd hc r l
+
+      across-lt : (j : ℕ) → j < 4 * cellCount cells → 0 < getD near j 0 → (getD near j 0 - 1) / 4 < cellCount cells
+      across-lt j l p = omega (arith, N .pair j l p .lt, p)
+
+      -- what links lead to is closed, and so is the rest
+      in-closed : Closed keys near (cellCount cells) (edgeKey edges e) A
+      in-closed j l s p r = on-link (j / 4) ((getD near j 0 - 1) / 4) (omega arith) (across-lt j l p) r (link-of j l s p)
+
+      out-closed : Closed keys near (cellCount cells) (edgeKey edges e) (λ c. not (A c))
+      out-closed j l s p r =
+          ⊎-elim
+          (λ (q : A ((getD near j 0 - 1) / 4) ≡ true).
+          clash (on-link ((getD near j 0 - 1) / 4) (j / 4) (across-lt j l p) (omega arith) q (link-back j l s p)) (not-true _ r))
+          (λ (q : A ((getD near j 0 - 1) / 4) ≡ false). rw q) (holds-or (A ((getD near j 0 - 1) / 4)))
+
+      -- the marks are closed, and so is the rest
+      marks-on : (d c : ℕ) → d < cellCount cells → c < cellCount cells → marked d ≡ true → linked cells edges e d c ≡ true → marked c ≡ true
+      unfolding marked
+      marks-on d c hd hc m l =
+          ⊎-elim (λ (q : c ≡ d). rw q m)
+          (λ (w : Crossed d c). eq-eqb (getD marks c 0) mark (rw (← w .ends) (F .closed (w .j) (w .lt) (w .sided) (w .there) (rw (w .cell) (eqb-true (getD marks d 0) mark m)))))
+          (of-link d c hd hc l)
+
+      marks-off : (d c : ℕ) → d < cellCount cells → c < cellCount cells → not (marked d) ≡ true → linked cells edges e d c ≡ true → not (marked c) ≡ true
+      marks-off d c hd hc m l =
+          ⊎-elim (λ (q : marked c ≡ true). clash (marks-on c d hc hd q (back q)) (not-true (marked d) m)) (λ (q : marked c ≡ false). rw q) (holds-or (marked c))
+        where
+          back : marked c ≡ true → linked cells edges e c d ≡ true
+          back q = ⊎-elim (λ (p : c ≡ d). rw p (rw p at l))
+              (λ (w : Crossed d c). rw (w .ends, w .cell) at (link-back (w .j) (w .lt) (w .sided) (w .there))) (of-link d c hd hc l)
+
+      reach-in : (P : ℕ → Bool) → ((d c : ℕ) → d < cellCount cells → c < cellCount cells → P d ≡ true → linked cells edges e d c ≡ true → P c ≡ true) → P f ≡ true
+          → (c : ℕ) → c < cellCount cells → A c ≡ true → P c ≡ true
+      unfolding A joined f
+      reach-in P on start c h r =
+          reach-within (eqb f) (linked cells edges e) (cellCount cells) P (λ d q. rw (← eqb-true f d q) start) on (cellCount cells) c h r
+
+      -- a cell of the edge that is not linked, and one that is not marked
+      unlinked : ℕ → Bool
+      unlinked c = hasEdge cells edges e c && not (A c)
+
+      unmarked : ℕ → Bool
+      unmarked c = hasEdge cells edges e c && not (marked c)
+
+      to-unmarked : (c : ℕ) → c < cellCount cells → unlinked c ≡ true → some unmarked (cellCount cells) ≡ true
+      unfolding unlinked unmarked marked
+      to-unmarked c h u =
+          ⊎-elim (λ q. q)
+          (λ (q : some unmarked (cellCount cells) ≡ false).
+          let all : (d : ℕ) → d < cellCount cells → hasEdge cells edges e d ≡ true → marked d ≡ true =
+          (λ d l k. not-false (marked d) (sym (ap (λ (x : Bool). x && not (marked d)) k) ∙ some-none unmarked (cellCount cells) q d l)) in
+          let has = and-left (hasEdge cells edges e c) (not (A c)) u in
+          let out = not-true (A c) (and-right (hasEdge cells edges e c) (not (A c)) u) in
+          let m : (d : ℕ) → marked d ≡ true → getD marks d 0 ≡ mark = (λ d k. eqb-true (getD marks d 0) mark k) in
+          ⊎-elim
+          (λ (a : A ((top - 1) / 6) ≡ true). clash (F .within A in-closed a c (m c (all c h has))) out)
+          (λ (a : A ((top - 1) / 6) ≡ false). clash f-in (not-true (A f) (F .within (λ c. not (A c)) out-closed (rw a) f (m f (all f f-lt f-has)))))
+          (holds-or (A ((top - 1) / 6))))
+          (holds-or (some unmarked (cellCount cells)))
+
+      to-unlinked : (c : ℕ) → c < cellCount cells → unmarked c ≡ true → some unlinked (cellCount cells) ≡ true
+      unfolding unlinked unmarked marked
+      to-unlinked c h u =
+          ⊎-elim (λ q. q)
+          (λ (q : some unlinked (cellCount cells) ≡ false).
+          let all : (d : ℕ) → d < cellCount cells → hasEdge cells edges e d ≡ true → A d ≡ true =
+          (λ d l k. not-false (A d) (sym (ap (λ (x : Bool). x && not (A d)) k) ∙ some-none unlinked (cellCount cells) q d l)) in
+          let has = and-left (hasEdge cells edges e c) (not (marked c)) u in
+          let out = not-true (marked c) (and-right (hasEdge cells edges e c) (not (marked c)) u) in
+          let tm : marked ((top - 1) / 6) ≡ true = eq-eqb _ _ (F .has) in
+          ⊎-elim
+          (λ (a : marked f ≡ true). clash (reach-in marked marks-on a c h (all c h has)) out)
+          (λ (a : marked f ≡ false).
+          clash tm (not-true (marked ((top - 1) / 6)) (reach-in (λ c. not (marked c)) marks-off (rw a) ((top - 1) / 6) (omega (arith, tl)) (all ((top - 1) / 6) (omega (arith, tl)) top-has))))
+          (holds-or (marked f)))
+          (holds-or (some unlinked (cellCount cells)))
+
+      same-split : some unlinked (cellCount cells) ≡ some unmarked (cellCount cells)
+      same-split =
+          bool-same (some unlinked (cellCount cells)) (some unmarked (cellCount cells))
+          (λ q. (let w = some-is unlinked (cellCount cells) q in to-unmarked (w .0) (w .1) (w .2)))
+          (λ q. (let w = some-is unmarked (cellCount cells) q in to-unlinked (w .0) (w .1) (w .2)))
+
+      -- what `split_at` answers
+      pub split-missing : split cells edges e ≡ some (missing keys (edgeKey edges e) marks mark) (6 * cellCount cells)
+      unfolding split missing sameKey unlinked unmarked marked A
+      split-missing =
+          same-split
+          ∙ some-ext (λ c. hasEdge cells edges e c && not (eqb (getD marks c 0) mark))
+          (λ c. some (λ k. eqb (getD keys (6 * c + k) 0) (edgeKey edges e) && not (eqb (getD marks ((6 * c + k) / 6) 0) mark)) 6) (cellCount cells) each
+          ∙ sym (some-blocks (λ j. eqb (getD keys j 0) (edgeKey edges e) && not (eqb (getD marks (j / 6) 0) mark)) 6 (cellCount cells))
+        where
+          each : (c : ℕ) → c < cellCount cells → (hasEdge cells edges e c && not (eqb (getD marks c 0) mark))
+              ≡ some (λ k. eqb (getD keys (6 * c + k) 0) (edgeKey edges e) && not (eqb (getD marks ((6 * c + k) / 6) 0) mark)) 6
+          each c h =
+              rw (has-side c h)
+              (sym (some-and (λ k. eqb (getD keys (6 * c + k) 0) (edgeKey edges e)) (not (eqb (getD marks c 0) mark)) 6)
+              ∙ some-ext (λ k. eqb (getD keys (6 * c + k) 0) (edgeKey edges e) && not (eqb (getD marks c 0) mark))
+              (λ k. eqb (getD keys (6 * c + k) 0) (edgeKey edges e) && not (eqb (getD marks ((6 * c + k) / 6) 0) mark)) 6
+              (λ k l. (let q : (6 * c + k) / 6 ≡ c = omega arith in rw q)))
+
+-- all marks are at most e
+pub record Under (marks : List ℕ) (e : ℕ) : Type 0 where
+  pub at : (d : ℕ) → getD marks d 0 ≤ e
+
+pub under-fresh : {marks : List ℕ} {e : ℕ} → Under marks e → (d : ℕ) → getD marks d 0 ≢ e + 1
+under-fresh {marks} {e} u d q = omega (arith, u .at d, q)
+
+pub under-more : {keys near : List ℕ} {n key e c : ℕ} {marks₀ marks : List ℕ} → Under marks₀ e → Filled keys near n key (e + 1) c marks₀ marks → Under marks (e + 1)
+under-more {keys} {near} {n} {key} {e} {c} {marks₀} {marks} u f =
+    record { at = λ d. ⊎-elim (λ (q : getD marks d 0 ≡ getD marks₀ d 0). omega (arith, u .at d, q)) (λ (q : getD marks d 0 ≡ e + 1). omega (arith, q)) (f .only d) }

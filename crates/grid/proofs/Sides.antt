@@ -1,0 +1,220 @@
+-- The edges of the list and of the cells by their keys: rows 6, 7 and 8.
+use Prim.Native.Nat.{ℕ, suc, _%_, _*_, _+_, _-_, _/_, _<_, _≤_}
+use mathlib.Core.Path.{_∙_, _≡_, ap, refl, sym}
+use mathlib.Core.Logic.{_≢_, ⊎-elim}
+use mathlib.Core.Bool.{Bool, false, not, true}
+use mathlib.Core.List.{List}
+use native.Mathlib.Nat.{eq-or-lt-of-le}
+use native.Mathlib.Numerals.{add-one}
+use native.Mathlib.Omega.{arith}
+use lib.Dec.{eqb, leb, ltb}
+use lib.ListN.{getD, length, length-replicate, length-set, replicate, set}
+use lib.Seq.{getD-set-other, getD-set-same}
+use borrow.Author.Tests.{eq-eqb, eqb-false, eqb-true, le-leb, le-ltb, leb-false, leb-true, lt-leb, lt-ltb, ltb-false, ltb-true, ne-eqb, not-false}
+use Rattle.counting.specs.Pick.{pick}
+use Rattle.counting.specs.Search.{first, last, seek, some}
+use Rattle.counting.proofs.Bools.{clash, eqb-comm}
+use Rattle.counting.proofs.Search.{first-blocks, first-ext, first-le, first-none, last-above, last-is, last-le, none-first, seek-end, seek-hit, seek-miss, seek-start, some-blocks, some-ext, some-is, some-last, some-none}
+use Rattle.slots.specs.Slots.{hi, lo}
+use Rattle.grid.specs.Grid.{cellCount, hasEdge, high, isEdge, joins, low, mostCells, node}
+use Rattle.grid.specs.Rows.{after, unlisted, unused}
+use Rattle.grid.specs.Work.{Put, Table, blankIn, edgeKey, found, join, listedAt, sameKey, sideKey}
+use Rattle.grid.proofs.Mates.{zeros}
+use Rattle.grid.proofs.Packed.{join-eqb}
+
+pub leb-not : (a b : ℕ) → leb a b ≡ not (ltb b a)
+leb-not a b = go (ltb b a) refl
+  where
+    go : (x : Bool) → ltb b a ≡ x → leb a b ≡ not x
+    go true e = lt-leb a b (ltb-true b a e)
+    go false e = le-leb a b (ltb-false b a e)
+
+join-ltb : (a b c d : ℕ) → b < 65536 → d < 65536 → ltb (join a b) (join c d) ≡ pick (eqb a c) (ltb b d) (ltb a c)
+join-ltb a b c d h l = go (eqb a c) refl (ltb b d) refl (ltb a c) refl
+  where
+    go : (x : Bool) → eqb a c ≡ x → (y : Bool) → ltb b d ≡ y → (z : Bool) → ltb a c ≡ z → ltb (join a b) (join c d) ≡ pick x y z
+    go true e true f z g = lt-ltb (join a b) (join c d) (omega (arith, eqb-true a c e, ltb-true b d f))
+    go true e false f z g = le-ltb (join a b) (join c d) (omega (arith, eqb-true a c e, ltb-false b d f))
+    go false e y f true g = lt-ltb (join a b) (join c d) (omega (arith, ltb-true a c g))
+    go false e y f false g = le-ltb (join a b) (join c d) (omega (arith, ltb-false a c g, eqb-false a c e))
+
+pub after-key : (edges : List ℕ) → ((i : ℕ) → getD edges i 0 < 65536) → (d e : ℕ) → after edges d e ≡ ltb (edgeKey edges d) (edgeKey edges e)
+unfolding after edgeKey
+after-key edges small d e = sym (join-ltb (low edges d) (high edges d) (low edges e) (high edges e) (small (2 * d + 1)) (small (2 * e + 1)))
+
+module _ (cells edges : List ℕ) (smallC : (i : ℕ) → getD cells i 0 < 65536) (smallE : (i : ℕ) → getD edges i 0 < 65536) where
+  pub edge-eqb : (c k e : ℕ) → k < 6 → isEdge cells edges c k e ≡ eqb (sideKey cells (6 * c + k)) (edgeKey edges e)
+  unfolding isEdge joins edgeKey sideKey
+  edge-eqb c k e h =
+      let a : (6 * c + k) / 6 ≡ c = omega arith in
+      let b : (6 * c + k) % 6 ≡ k = omega arith in
+      rw (a, b) (sym (join-eqb (low edges e) (high edges e) (node cells c (lo k)) (node cells c (hi k)) (smallE (2 * e + 1)) (smallC _))
+      ∙ eqb-comm (join (low edges e) (high edges e)) (join (node cells c (lo k)) (node cells c (hi k))))
+
+  module _ (keys : List ℕ) (w : Table (sideKey cells) (6 * cellCount cells) keys) where
+    pub is-side : (c k e : ℕ) → c < cellCount cells → k < 6 → isEdge cells edges c k e ≡ eqb (getD keys (6 * c + k) 0) (edgeKey edges e)
+    is-side c k e h l = edge-eqb c k e l ∙ rw (w .at (6 * c + k) (omega arith))
+
+    -- what the loop of `row_8` asks of an edge
+    pub used-last : (e : ℕ) → some (hasEdge cells edges e) (cellCount cells) ≡ ltb 0 (last (sameKey keys (edgeKey edges e)) (6 * cellCount cells))
+    unfolding hasEdge sameKey
+    used-last e =
+        some-ext (λ c. some (λ k. isEdge cells edges c k e) 6) (λ c. some (λ k. eqb (getD keys (6 * c + k) 0) (edgeKey edges e)) 6) (cellCount cells)
+        (λ c l. some-ext (λ k. isEdge cells edges c k e) (λ k. eqb (getD keys (6 * c + k) 0) (edgeKey edges e)) 6 (λ k h. is-side c k e l h))
+        ∙ sym (some-blocks (λ j. eqb (getD keys j 0) (edgeKey edges e)) 6 (cellCount cells))
+        ∙ some-last (λ j. eqb (getD keys j 0) (edgeKey edges e)) (6 * cellCount cells)
+
+    pub unused-none : (e : ℕ) → last (sameKey keys (edgeKey edges e)) (6 * cellCount cells) ≡ 0 → unused cells edges e ≡ true
+    unfolding unused
+    unused-none e z = rw (used-last e, z)
+
+    pub unused-not : (e : ℕ) → 0 < last (sameKey keys (edgeKey edges e)) (6 * cellCount cells) → unused cells edges e ≡ false
+    unfolding unused
+    unused-not e h = rw (used-last e, lt-ltb 0 (last (sameKey keys (edgeKey edges e)) (6 * cellCount cells)) h)
+
+    pub used-found : (e : ℕ) → unused cells edges e ≡ false → 0 < last (sameKey keys (edgeKey edges e)) (6 * cellCount cells)
+    unfolding unused
+    used-found e f = ltb-true 0 _ (sym (used-last e) ∙ not-false _ f)
+
+-- the loop of `put` stands at j
+pub record Placing (keys : List ℕ) (n key x : ℕ) (sides₀ sides : List ℕ) (j : ℕ) : Type 0 where
+  pub same : length sides ≡ length sides₀
+  pub within : j ≤ n
+  pub at : 0 < j → getD keys (j - 1) 0 ≡ key
+  pub hit : (i : ℕ) → j ≤ i → i < n → getD keys i 0 ≡ key → getD sides i 0 ≡ x
+  pub miss : (i : ℕ) → getD keys i 0 ≢ key → getD sides i 0 ≡ getD sides₀ i 0
+
+pub placing-start : (keys : List ℕ) (n key x : ℕ) (sides : List ℕ) (j : ℕ) → j ≡ last (sameKey keys key) n → Placing keys n key x sides sides j
+unfolding sameKey
+placing-start keys n key x sides j e =
+    record {
+      same = refl;
+      within = omega (arith, e, last-le (sameKey keys key) n);
+      at = λ h. eqb-true _ key (rw e (last-is (sameKey keys key) n (omega (arith, e))));
+      hit = λ i l h k. absurd (eqb-false (getD keys i 0) key (last-above (sameKey keys key) n i (omega (arith, e)) h) k);
+      miss = λ i k. refl;
+    }
+
+module _ {keys : List ℕ} {n key x : ℕ} {sides₀ sides : List ℕ} {j : ℕ} (w : Placing keys n key x sides₀ sides j) (pos : 0 < j) (room : n ≤ length sides) where
+  pub placing-more : (i : ℕ) → i ≡ last (sameKey keys key) (j - 1) → Placing keys n key x sides₀ (set sides (j - 1) x) i
+  unfolding sameKey
+  placing-more i e =
+      record {
+        same = length-set sides (j - 1) x ∙ w .same;
+        within = omega (arith, e, last-le (sameKey keys key) (j - 1), w .within);
+        at = λ h. eqb-true _ key (rw e (last-is (sameKey keys key) (j - 1) (omega (arith, e))));
+        hit = λ y l h k. go y l h k (eqb y (j - 1)) refl;
+        miss = λ y k. getD-set-other sides (j - 1) y x 0 (λ q. k (rw q (w .at pos))) ∙ w .miss y k;
+      }
+    where
+      go : (y : ℕ) → i ≤ y → y < n → getD keys y 0 ≡ key → (b : Bool) → eqb y (j - 1) ≡ b → getD (set sides (j - 1) x) y 0 ≡ x
+      go y l h k true q = let f : y ≡ j - 1 = eqb-true y (j - 1) q in rw f (getD-set-same sides (j - 1) x 0 (omega (arith, w .within)))
+      go y l h k false q =
+          let f = eqb-false y (j - 1) q in
+          getD-set-other sides (j - 1) y x 0 f ∙ below y l h k f (leb j y) refl
+        where
+          below : (y : ℕ) → i ≤ y → y < n → getD keys y 0 ≡ key → y ≢ j - 1 → (b : Bool) → leb j y ≡ b → getD sides y 0 ≡ x
+          below y l h k f true q = w .hit y (leb-true j y q) h k
+          below y l h k f false q =
+              absurd (eqb-false (getD keys y 0) key (last-above (sameKey keys key) (j - 1) y (omega (arith, e)) (omega (arith, leb-false j y q, f))) k)
+
+pub placing-end : {keys : List ℕ} {n key x : ℕ} {sides₀ sides : List ℕ} {j : ℕ} → Placing keys n key x sides₀ sides j → j ≤ 0 → Put keys n key x sides₀ sides
+placing-end w h = record { same = w .same; hit = λ y l k. w .hit y (omega arith) l k; miss = w .miss }
+
+-- the loop of `row_8` has put the edges from e on
+pub record Listed (cells edges keys : List ℕ) (m e : ℕ) (sides : List ℕ) : Type 0 where
+  pub size : length sides ≡ 6 * mostCells
+  pub at : (j : ℕ) → j < 6 * cellCount cells → getD sides j 0 ≡ found m (seek (isEdge cells edges (j / 6) (j % 6)) (m - e) e)
+
+pub listed-none : (cells edges keys : List ℕ) (m : ℕ) (sides : List ℕ) → sides ≡ replicate (6 * mostCells) 0 → Listed cells edges keys m m sides
+listed-none cells edges keys m sides q =
+    rw q (record {
+      size = length-replicate {A = ℕ} (6 * mostCells) 0;
+      at = λ j h. zeros (6 * mostCells) j ∙ sym (rw (seek-end (isEdge cells edges (j / 6) (j % 6)) m m (omega arith), le-ltb m m (omega arith)));
+    })
+
+module _ {cells edges keys : List ℕ} {m e : ℕ} {sides : List ℕ} (small : (i : ℕ) → getD cells i 0 < 65536) (small-ends : (i : ℕ) → getD edges i 0 < 65536)
+    (t : Table (sideKey cells) (6 * cellCount cells) keys) (d : ℕ) (up : d ≡ e + 1) (v : Listed cells edges keys m d sides) (h : e < m) where
+  w : Listed cells edges keys m (e + 1) sides
+  w = rw up at v
+
+  side-of : (j : ℕ) → j < 6 * cellCount cells → isEdge cells edges (j / 6) (j % 6) e ≡ eqb (getD keys j 0) (edgeKey edges e)
+  side-of j l =
+      let q : 6 * (j / 6) + j % 6 ≡ j = omega arith in
+      is-side cells edges small small-ends keys t (j / 6) (j % 6) e (omega arith) (omega arith) ∙ rw q
+
+  next-miss : (j : ℕ) → j < 6 * cellCount cells → getD keys j 0 ≢ edgeKey edges e → getD sides j 0 ≡ found m (seek (isEdge cells edges (j / 6) (j % 6)) (m - e) e)
+  next-miss j l k =
+      w .at j l ∙ rw (seek-miss (isEdge cells edges (j / 6) (j % 6)) m e h (side-of j l ∙ ne-eqb (getD keys j 0) (edgeKey edges e) k))
+
+  next-hit : (j : ℕ) → j < 6 * cellCount cells → getD keys j 0 ≡ edgeKey edges e → e + 1 ≡ found m (seek (isEdge cells edges (j / 6) (j % 6)) (m - e) e)
+  next-hit j l k =
+      rw (seek-hit (isEdge cells edges (j / 6) (j % 6)) m e h (side-of j l ∙ eq-eqb (getD keys j 0) (edgeKey edges e) k), lt-ltb e m h) (add-one e)
+
+  pub listed-put : (sides′ : List ℕ) → Put keys (6 * cellCount cells) (edgeKey edges e) (e + 1) sides sides′ → Listed cells edges keys m e sides′
+  listed-put sides′ p =
+      record {
+        size = p .same ∙ w .size;
+        at = λ j l. go j l (eqb (getD keys j 0) (edgeKey edges e)) refl;
+      }
+    where
+      go : (j : ℕ) → j < 6 * cellCount cells → (b : Bool) → eqb (getD keys j 0) (edgeKey edges e) ≡ b
+          → getD sides′ j 0 ≡ found m (seek (isEdge cells edges (j / 6) (j % 6)) (m - e) e)
+      go j l true q = let k = eqb-true (getD keys j 0) (edgeKey edges e) q in p .hit j l k ∙ next-hit j l k
+      go j l false q = let k = eqb-false (getD keys j 0) (edgeKey edges e) q in p .miss j k ∙ next-miss j l k
+
+  -- where no place has the key
+  pub listed-skip : last (sameKey keys (edgeKey edges e)) (6 * cellCount cells) ≡ 0 → Listed cells edges keys m e sides
+  unfolding sameKey
+  listed-skip z =
+      record {
+        size = w .size;
+        at = λ j l. next-miss j l (λ k. eqb-false (getD keys j 0) (edgeKey edges e) (last-above (sameKey keys (edgeKey edges e)) (6 * cellCount cells) j (omega (arith, z)) l) k);
+      }
+
+pub listed-all : {cells edges keys : List ℕ} {m : ℕ} {sides : List ℕ} → cellCount cells ≤ mostCells → Listed cells edges keys m 0 sides
+    → Table (listedAt cells edges m) (6 * cellCount cells) sides
+unfolding listedAt
+listed-all {cells} {edges} {keys} {m} {sides} few w =
+    record {
+      room = omega (arith, w .size);
+      at = λ j l. w .at j l ∙ ap (found m) (sym (seek-start (isEdge cells edges (j / 6) (j % 6)) m));
+    }
+
+-- the lowest of the edges from e on
+pub lowest-hit : (t : ℕ → Bool) (m e : ℕ) → e < m → t e ≡ true → e ≡ seek t (m - e) e
+lowest-hit t m e h q = sym (seek-hit t m e h q)
+
+pub lowest-miss : (t : ℕ → Bool) (m e d r : ℕ) → d ≡ e + 1 → e < m → t e ≡ false → r ≡ seek t (m - d) d → r ≡ seek t (m - e) e
+lowest-miss t m e d r up h q w = w ∙ rw up (sym (seek-miss t m e h q))
+
+-- row 7: a cell with an edge that is not listed has an entry of 0
+module _ (cells edges : List ℕ) (m : ℕ) (sides : List ℕ) (t : Table (listedAt cells edges m) (6 * cellCount cells) sides) where
+  listed-zero : (c k : ℕ) → c < cellCount cells → k < 6 → not (some (isEdge cells edges c k) m) ≡ eqb (getD sides (6 * c + k) 0) 0
+  unfolding listedAt
+  listed-zero c k h l =
+      let a : (6 * c + k) / 6 ≡ c = omega arith in
+      let b : (6 * c + k) % 6 ≡ k = omega arith in
+      rw (t .at (6 * c + k) (omega arith), a, b) (go (some (isEdge cells edges c k) m) refl)
+    where
+      go : (x : Bool) → some (isEdge cells edges c k) m ≡ x → not x ≡ eqb (found m (first (isEdge cells edges c k) m)) 0
+      go true e =
+          let w = some-is (isEdge cells edges c k) m e in
+          let f : first (isEdge cells edges c k) m < m =
+          ⊎-elim (λ (q : first (isEdge cells edges c k) m ≡ m). clash (w .2) (first-none (isEdge cells edges c k) m (omega arith) (w .0) (w .1))) (λ q. q)
+          (eq-or-lt-of-le (first-le (isEdge cells edges c k) m)) in
+          rw (lt-ltb (first (isEdge cells edges c k) m) m f) (sym (ne-eqb (suc (first (isEdge cells edges c k) m)) 0 (λ q. omega arith)))
+      go false e =
+          let f = none-first (isEdge cells edges c k) m (some-none (isEdge cells edges c k) m e) in
+          rw (f, le-ltb m m (omega arith))
+
+  pub unlisted-blank : first (unlisted cells edges m) (cellCount cells) ≡ first (blankIn sides) (cellCount cells)
+  unfolding unlisted blankIn
+  unlisted-blank =
+      first-ext (unlisted cells edges m) (blankIn sides) (cellCount cells)
+      (λ c h. some-ext (λ k. not (some (isEdge cells edges c k) m)) (λ k. eqb (getD sides (6 * c + k) 0) 0) 6 (λ k l. listed-zero c k h l))
+
+-- what `row_7` answers
+pub blank-first : (sides : List ℕ) (n : ℕ) → first (λ j. eqb (getD sides j 0) 0) (6 * n) / 6 ≡ first (blankIn sides) n
+unfolding blankIn
+blank-first sides n = first-blocks (λ j. eqb (getD sides j 0) 0) 6 n (omega arith)

@@ -1,0 +1,56 @@
+use mathlib.Core.Path.{_∙_, sym}
+use native.Mathlib.Omega.{arith}
+use borrow.Author.Needs.{needs}
+use Rattle.grid.specs.Rows.{gridAnswer, rowAt, rows}
+use Rattle.grid.proofs.Answers.{answer-passes, answer-refuses, length-fine, pairs-fine, whole-fault, whole-fine}
+use Rattle.grid.proofs.all_rows.Statement.{statement}
+use Rattle.grid.proofs.all_rows.Tie as tie
+
+row-1-requires : tie.Need-row-1-requires
+row-1-requires c κs = search needs
+
+returns : tie.Need-returns
+unfolding rowAt rows gridAnswer
+returns c = (answer-refuses _ _ _ 0 (omega arith) 0 (whole-fault _ (sym (c .before .row-1 .ensures) ∙ c .if1 .taken)) (omega arith), tt)
+
+row-2-requires : tie.Need-row-2-requires
+row-2-requires c κs = search needs
+
+returns-2 : tie.Need-returns-2
+unfolding rowAt rows gridAnswer
+returns-2 c = (
+  answer-refuses _ _ _ 1 (omega arith) 0 (whole-fault _ (sym (c .before .row-2 .ensures) ∙ c .if2 .taken)) (omega arith)
+      ∙ answer-passes _ _ _ 0 (omega arith) 1 (whole-fine _ (sym (c .before .before .before .row-1 .ensures) ∙ c .before .before .if1 .left)) (omega arith),
+  tt,
+)
+
+cell-rows-requires : tie.Need-cell-rows-requires
+cell-rows-requires c κs = (c .before .before .before .before .before .before .before .before .before .before .before .pre, (length-fine _ (sym (c .before .before .before .before .before .row-1 .ensures) ∙ c .before .before .before .before .if1 .left) .2, pairs-fine _ _ (sym (c .before .before .before .row-2 .ensures) ∙ c .before .before .if2 .left)))
+
+same-length : tie.Need-same-length
+same-length c = c .before .before .before .before .cell-rows .kept .1 .1 .1 .0
+
+same-length-2 : tie.Need-same-length-2
+same-length-2 c = c .before .before .before .before .cell-rows .kept .1 .1 .1 .1 .0
+
+returns-3 : tie.Need-returns-3
+unfolding rowAt rows gridAnswer
+returns-3 c = (
+  c .before .before .before .before .cell-rows .ensures .0
+      ∙ answer-passes _ _ _ 1 (omega arith) 1 (whole-fine _ (sym (c .before .before .before .before .before .before .before .before .row-2 .ensures) ∙ c .before .before .before .before .before .before .before .if2 .left)) (omega arith)
+      ∙ answer-passes _ _ _ 0 (omega arith) 1 (whole-fine _ (sym (c .before .before .before .before .before .before .before .before .before .before .row-1 .ensures) ∙ c .before .before .before .before .before .before .before .before .before .if1 .left)) (omega arith),
+  c .before .before .before .before .cell-rows .ensures .1,
+)
+
+pub all-rows-spec : {M : Type 1} → statement M
+all-rows-spec =
+    tie.close
+    (tie.spec
+    row-1-requires
+    returns
+    row-2-requires
+    returns-2
+    cell-rows-requires
+    same-length
+    same-length-2
+    returns-3)

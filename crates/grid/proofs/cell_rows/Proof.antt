@@ -1,0 +1,82 @@
+use mathlib.Core.Path.{_∙_}
+use native.Mathlib.Omega.{arith}
+use borrow.Author.Needs.{needs}
+use Rattle.grid.specs.Rows.{rowAt, rows}
+use Rattle.grid.proofs.Answers.{answer-passes, answer-refuses, worked}
+use Rattle.grid.proofs.Packed.{ordered-cells}
+use Rattle.grid.proofs.cell_rows.Statement.{statement}
+use Rattle.grid.proofs.cell_rows.Tie as tie
+
+row-3-requires : tie.Need-row-3-requires
+row-3-requires c κs = search needs
+
+returns : tie.Need-returns
+unfolding rowAt rows
+returns c = (answer-refuses _ _ _ 2 (omega arith) _ (c .before .row-3 .ensures) (c .if1 .taken), tt)
+
+row-4-requires : tie.Need-row-4-requires
+row-4-requires c κs = c .before .before .before .before .before .before .before .pre .1 .0
+
+returns-2 : tie.Need-returns-2
+unfolding rowAt rows
+returns-2 c = (
+  answer-refuses _ _ _ 3 (omega arith) _ (c .before .row-4 .ensures) (c .if2 .taken)
+      ∙ answer-passes _ _ _ 2 (omega arith) _ (c .before .before .before .row-3 .ensures) (c .before .before .if1 .left),
+  tt,
+)
+
+row-5-requires : tie.Need-row-5-requires
+row-5-requires c κs = (ordered-cells _ (λ i. omega (arith, c .before .before .before .before .before .before .before .before .before .shared-slice-known .given i)) (c .before .before .before .before .before .before .before .before .before .before .pre .1 .0) (rw (c .before .before .before .before .row-3 .ensures) at (c .before .before .before .if1 .left)), c .before .before .before .before .before .before .before .before .before .before .pre .0 .near-is)
+
+same-length : tie.Need-same-length
+same-length c = c .before .before .before .row-5 .kept .1 .0
+
+returns-3 : tie.Need-returns-3
+unfolding rowAt rows
+returns-3 c = (
+  answer-refuses _ _ _ 4 (omega arith) _ (c .before .before .before .row-5 .ensures .0) (c .if3 .taken)
+      ∙ answer-passes _ _ _ 3 (omega arith) _ (c .before .before .before .before .before .before .row-4 .ensures) (c .before .before .before .before .before .if2 .left)
+      ∙ answer-passes _ _ _ 2 (omega arith) _ (c .before .before .before .before .before .before .before .before .row-3 .ensures) (c .before .before .before .before .before .before .before .if1 .left),
+  tt,
+)
+
+edge-rows-requires : tie.Need-edge-rows-requires
+edge-rows-requires c κs =
+    record {
+      ordered = ordered-cells _ (λ i. omega (arith, c .before .before .before .before .before .before .before .before .before .before .before .before .before .before .before .shared-slice-known .given i)) (c .before .before .before .before .before .before .before .before .before .before .before .before .before .before .before .before .pre .1 .0) (rw (c .before .before .before .before .before .before .before .before .before .before .row-3 .ensures) at (c .before .before .before .before .before .before .before .before .before .if1 .left));
+      pairs = c .before .before .before .before .before .before .before .before .before .before .before .before .before .before .before .before .pre .1 .1;
+      near-is = c .before .before .before .before .before .row-5 .ensures .1 (c .before .before .if3 .left);
+      sides-is = c .before .before .before .before .before .before .before .before .before .before .before .before .before .before .before .before .pre .0 .sides-is;
+    }
+
+same-length-2 : tie.Need-same-length-2
+same-length-2 c = c .before .before .before .before .before .before .before .before .row-5 .kept .1 .0
+
+same-length-3 : tie.Need-same-length-3
+same-length-3 c = c .before .before .edge-rows .kept .1 .1 .1 .1 .0
+
+returns-4 : tie.Need-returns-4
+unfolding rowAt rows
+returns-4 c = (
+  c .before .before .edge-rows .ensures .0
+      ∙ answer-passes _ _ _ 4 (omega arith) _ (c .before .before .before .before .before .before .before .before .row-5 .ensures .0) (c .before .before .before .before .before .if3 .left)
+      ∙ answer-passes _ _ _ 3 (omega arith) _ (c .before .before .before .before .before .before .before .before .before .before .before .row-4 .ensures) (c .before .before .before .before .before .before .before .before .before .before .if2 .left)
+      ∙ answer-passes _ _ _ 2 (omega arith) _ (c .before .before .before .before .before .before .before .before .before .before .before .before .before .row-3 .ensures) (c .before .before .before .before .before .before .before .before .before .before .before .before .if1 .left),
+  worked _ _ _ _ _ (c .before .before .edge-rows .result) (c .before .before .before .before .before .before .before .before .row-5 .ensures .1 (c .before .before .before .before .before .if3 .left)) (c .before .before .edge-rows .ensures .1),
+)
+
+pub cell-rows-spec : {M : Type 1} → statement M
+cell-rows-spec =
+    tie.close
+    (tie.spec
+    row-3-requires
+    returns
+    row-4-requires
+    returns-2
+    row-5-requires
+    same-length
+    returns-3
+    edge-rows-requires
+    same-length-2
+    same-length-3
+    returns-4)

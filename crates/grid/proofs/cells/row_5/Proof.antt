@@ -1,0 +1,71 @@
+use Prim.Native.Nat.{ℕ, _*_}
+use mathlib.Core.Path.{_∙_, _≡_, ap, refl}
+use native.Mathlib.Omega.{arith}
+use lib.ListN.{length, length-replicate}
+use borrow.Author.Needs.{needs}
+use Rattle.grid.specs.Grid.{mostCells}
+use Rattle.grid.proofs.Faces.{paired-near, third-first}
+use Rattle.grid.proofs.Mates.{mates-none, zeros}
+use Rattle.grid.proofs.cells.row_5.Statement.{statement}
+use Rattle.grid.proofs.cells.row_5.Tie as tie
+
+mul-n : tie.Need-mul-n
+mul-n c = search needs
+
+slice-aggregate-face-keys : tie.Need-slice-aggregate-face-keys
+slice-aggregate-face-keys c = search needs
+
+face-keys-requires : tie.Need-face-keys-requires
+face-keys-requires c κs = omega arith
+
+slice-aggregate-chain : tie.Need-slice-aggregate-chain
+slice-aggregate-chain c = search needs
+
+slice-aggregate-chain-2 : tie.Need-slice-aggregate-chain-2
+slice-aggregate-chain-2 c = search needs
+
+slice-aggregate-chain-3 : tie.Need-slice-aggregate-chain-3
+slice-aggregate-chain-3 c = search needs
+
+chain-requires : tie.Need-chain-requires
+chain-requires c κs = record { keyed = c .before .before .before .before .face-keys .ensures .room; room = omega arith; small = omega arith; blank = refl }
+
+slice-aggregate-pair : tie.Need-slice-aggregate-pair
+slice-aggregate-pair c = search needs
+
+slice-aggregate-pair-2 : tie.Need-slice-aggregate-pair-2
+slice-aggregate-pair-2 c = search needs
+
+pair-requires : tie.Need-pair-requires
+pair-requires c κs =
+    let e = c .before .before .before .before .before .before .before .before .before .before .before .before .before .before .pre .1 in
+    let ln : length (c .before .before .before .before .before .before .before .before .before .before .before .before .before .before .args .near .now) ≡ 4 * mostCells = ap length e ∙ length-replicate {A = ℕ} (4 * mostCells) 0 in
+    record { chained = c .before .before .before .before .before .chain .ensures .0; room = omega (arith, ln, c .before .before .before .before .before .before .before .before .before .before .before .before .before .before .pre .0 .few); small = omega (arith, c .before .before .before .before .before .before .before .before .before .before .before .before .before .before .pre .0 .few); blank = mates-none _ _ (λ i. rw e (zeros (4 * mostCells) i)) }
+
+same-length : tie.Need-same-length
+same-length c = search needs
+
+returns : tie.Need-returns
+returns c =
+    let g = c .before .before .before .before .before .before .before .before .before .before .before .before .before .before .before .before .before .pre .0 in
+    let p = c .before .before .pair .ensures in
+    let f = c .before .before .before .before .before .before .before .before .before .before .before .before .before .face-keys .ensures in
+    let ln : length (c .before .before .before .before .before .before .before .before .before .before .before .before .before .before .before .before .before .args .near .now) ≡ 4 * mostCells = ap length (c .before .before .before .before .before .before .before .before .before .before .before .before .before .before .before .before .before .pre .1) ∙ length-replicate {A = ℕ} (4 * mostCells) 0 in
+    (rw (p .is) (third-first _ g _ f), λ h. paired-near _ g _ f _ _ (omega (arith, c .before .before .pair .kept .1 .1 .1 .0, ln, g .few)) p h)
+
+pub row-5-spec : {M : Type 1} → statement M
+row-5-spec =
+    tie.close
+    (tie.spec
+    mul-n
+    slice-aggregate-face-keys
+    face-keys-requires
+    slice-aggregate-chain
+    slice-aggregate-chain-2
+    slice-aggregate-chain-3
+    chain-requires
+    slice-aggregate-pair
+    slice-aggregate-pair-2
+    pair-requires
+    same-length
+    returns)

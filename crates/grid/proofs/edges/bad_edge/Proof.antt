@@ -1,0 +1,70 @@
+use Prim.Native.Nat.{_-_}
+use native.Mathlib.Omega.{arith}
+use borrow.Author.Needs.{needs}
+use borrow.Author.Tests.{le-ltb, lt-ltb}
+use Rattle.grid.specs.Rows.{badEdge}
+use Rattle.grid.proofs.Sides.{after-key, leb-not}
+use Rattle.grid.proofs.edges.bad_edge.Statement.{statement}
+use Rattle.grid.proofs.edges.bad_edge.Tie as tie
+
+mul-end-at : tie.Need-mul-end-at
+mul-end-at c = search needs
+
+end-at-requires : tie.Need-end-at-requires
+end-at-requires c κs = search needs
+
+mul-end-at-2 : tie.Need-mul-end-at-2
+mul-end-at-2 c = search needs
+
+add-end-at : tie.Need-add-end-at
+add-end-at c = search needs
+
+end-at-requires-2 : tie.Need-end-at-requires-2
+end-at-requires-2 c κs = search needs
+
+returns : tie.Need-returns
+unfolding badEdge
+returns c = rw (← c .before .before .end-at .ensures .0, ← c .before .end-at2 .ensures .0, le-ltb _ _ (c .if1 .taken))
+
+returns-2 : tie.Need-returns-2
+unfolding badEdge
+returns-2 c = rw (← c .before .before .before .end-at .ensures .0, ← c .before .before .end-at2 .ensures .0, lt-ltb _ _ (c .before .if1 .left), le-ltb 0 (c .before .before .before .before .before .args .e) (omega arith))
+
+edge-key-requires : tie.Need-edge-key-requires
+edge-key-requires c κs = search needs
+
+sub-edge-key : tie.Need-sub-edge-key
+sub-edge-key c = search needs
+
+edge-key-requires-2 : tie.Need-edge-key-requires-2
+edge-key-requires-2 c κs = search needs
+
+returns-3 : tie.Need-returns-3
+unfolding badEdge
+returns-3 c =
+    rw (
+      ← c .before .before .before .before .before .end-at .ensures .0,
+      ← c .before .before .before .before .end-at2 .ensures .0,
+      lt-ltb _ _ (c .before .before .before .if1 .left),
+      lt-ltb 0 (c .before .before .before .before .before .before .before .args .e) (omega (arith, c .before .before .if2 .left)),
+      after-key (c .before .before .before .before .before .before .before .args .edges .now) (λ i. omega (arith, c .before .before .before .before .before .before .shared-slice-known .given i)) (c .before .before .before .before .before .before .before .args .e - 1) (c .before .before .before .before .before .before .before .args .e),
+      ← c .before .edge-key .ensures,
+      ← c .edge-key2 .ensures,
+    )
+    (leb-not (c .before .edge-key .result) (c .edge-key2 .result))
+
+pub bad-edge-spec : {M : Type 1} → statement M
+bad-edge-spec =
+    tie.close
+    (tie.spec
+    mul-end-at
+    end-at-requires
+    mul-end-at-2
+    add-end-at
+    end-at-requires-2
+    returns
+    returns-2
+    edge-key-requires
+    sub-edge-key
+    edge-key-requires-2
+    returns-3)

@@ -1,0 +1,70 @@
+use Prim.Native.Nat.{_-_}
+use mathlib.Core.Path.{_∙_}
+use native.Mathlib.Omega.{arith}
+use borrow.Author.Needs.{needs}
+use Rattle.counting.proofs.Search.{last-le}
+use Rattle.grid.specs.Work.{sameKey}
+use Rattle.grid.proofs.Sides.{Placing, placing-end, placing-more, placing-start}
+use Rattle.grid.proofs.edges.put.Statement.{statement}
+use Rattle.grid.proofs.edges.put.Tie as tie
+
+abbrev Inv-loop : tie.InvT-loop
+Inv-loop keys next n key top x sides₀ j₀ sides j = Placing keys n key x sides₀ sides j
+
+abbrev μ-loop : tie.MeasureT-loop
+μ-loop keys next n key top x sides₀ j₀ sides j = j
+
+loop-holds : tie.Need-loop-holds Inv-loop μ-loop
+loop-holds c = placing-start _ _ _ _ _ _ (c .before .before .before .pre .top-is)
+
+sub-i : tie.Need-sub-i Inv-loop μ-loop
+sub-i c = search needs
+
+mul-sides : tie.Need-mul-sides Inv-loop μ-loop
+mul-sides c = search needs
+
+slice-write-sides : tie.Need-slice-write-sides Inv-loop μ-loop
+slice-write-sides c = omega (arith, c .before .loop .inv .same, c .before .loop .inv .within, c .before .before .before .before .before .pre .room)
+
+mul-wide : tie.Need-mul-wide Inv-loop μ-loop
+mul-wide c = search needs
+
+shared-slice-read-wide : tie.Need-shared-slice-read-wide Inv-loop μ-loop
+shared-slice-read-wide c = omega (arith, c .before .before .loop .inv .within, c .before .before .before .before .before .before .pre .chained .room)
+
+wide-requires : tie.Need-wide-requires Inv-loop μ-loop
+wide-requires c κs = search needs
+
+walk-requires : tie.Need-walk-requires Inv-loop μ-loop
+walk-requires c κs = record { chained = c .before .before .before .before .before .before .before .pre .chained; within = omega (arith, c .before .before .before .loop .inv .within); starts = c .wide .ensures ∙ (rw (c .before .before .before .loop .inv .at (omega arith)) at (c .before .before .before .before .before .before .before .pre .chained .at (c .before .before .before .loop .j - 1) (omega (arith, c .before .before .before .loop .inv .within)))) }
+
+loop-less : tie.Need-loop-less Inv-loop μ-loop
+loop-less c = omega (arith, c .walk .ensures, last-le (sameKey (c .before .before .before .before .before .before .before .before .args .keys .now) (c .before .before .before .before .before .before .before .before .args .key)) (c .before .before .before .before .loop .j - 1))
+
+loop-again : tie.Need-loop-again Inv-loop μ-loop
+loop-again c = placing-more (c .before .before .before .before .loop .inv) (omega arith) (omega (arith, c .before .before .before .before .loop .inv .same, c .before .before .before .before .before .before .before .before .pre .room)) _ (c .walk .ensures)
+
+same-length : tie.Need-same-length Inv-loop μ-loop
+same-length c = c .before .loop .inv .same
+
+returns : tie.Need-returns Inv-loop μ-loop
+returns c = placing-end (c .before .loop .inv) (omega arith)
+
+pub put-spec : {M : Type 1} → statement M
+put-spec =
+    tie.close
+    (tie.spec
+    Inv-loop
+    μ-loop
+    loop-holds
+    sub-i
+    mul-sides
+    slice-write-sides
+    mul-wide
+    shared-slice-read-wide
+    wide-requires
+    walk-requires
+    loop-less
+    loop-again
+    same-length
+    returns)

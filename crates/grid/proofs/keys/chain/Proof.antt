@@ -1,0 +1,92 @@
+use Prim.Native.Nat.{_-_, _≤_}
+use mathlib.Core.Path.{_≡_, refl}
+use native.Mathlib.Nat.{mod-lt}
+use native.Mathlib.Omega.{arith}
+use lib.ListN.{length, length-set}
+use borrow.Author.Needs.{needs}
+use Rattle.grid.proofs.Chain.{Chaining, chaining-more, chaining-none}
+use Rattle.grid.proofs.keys.chain.Statement.{statement}
+use Rattle.grid.proofs.keys.chain.Tie as tie
+
+abbrev Inv-loop : tie.InvT-loop
+Inv-loop keys n head₀ next₀ j₀ head next j = (j ≤ n) × (length head ≡ length head₀) × Chaining keys head next₀ next j
+
+abbrev μ-loop : tie.MeasureT-loop
+μ-loop keys n head₀ next₀ j₀ head next j = n - j
+
+loop-holds : tie.Need-loop-holds Inv-loop μ-loop
+loop-holds c = (omega arith, refl, chaining-none _ _ _ (search needs))
+
+mul-h : tie.Need-mul-h Inv-loop μ-loop
+mul-h c = search needs
+
+shared-slice-read-h : tie.Need-shared-slice-read-h Inv-loop μ-loop
+shared-slice-read-h c = search needs
+
+mul-next : tie.Need-mul-next Inv-loop μ-loop
+mul-next c = search needs
+
+slice-read-next : tie.Need-slice-read-next Inv-loop μ-loop
+slice-read-next c = search needs
+
+mul-next-2 : tie.Need-mul-next-2 Inv-loop μ-loop
+mul-next-2 c = search needs
+
+slice-write-next : tie.Need-slice-write-next Inv-loop μ-loop
+slice-write-next c = search needs
+
+add-j : tie.Need-add-j Inv-loop μ-loop
+add-j c = search needs
+
+cast-head : tie.Need-cast-head Inv-loop μ-loop
+cast-head c = search needs
+
+mul-head : tie.Need-mul-head Inv-loop μ-loop
+mul-head c = search needs
+
+slice-write-head : tie.Need-slice-write-head Inv-loop μ-loop
+slice-write-head c = search needs
+
+loop-less : tie.Need-loop-less Inv-loop μ-loop
+loop-less c = search needs
+
+loop-again : tie.Need-loop-again Inv-loop μ-loop
+loop-again c =
+    let w = c .before .before .before .loop .inv .2 in
+    (omega arith, simp length-set (c .before .before .before .loop .inv .1), chaining-more w _ refl (omega (arith, w .same)) (mod-lt _ (omega arith)))
+
+same-length : tie.Need-same-length Inv-loop μ-loop
+same-length c = c .before .loop .inv .1
+
+same-length-2 : tie.Need-same-length-2 Inv-loop μ-loop
+same-length-2 c = c .before .loop .inv .2 .same
+
+returns : tie.Need-returns Inv-loop μ-loop
+returns c =
+    let w = c .before .loop .inv .2 in
+    let p = c .before .before .pre in
+    let e : c .before .loop .j ≡ c .before .before .args .n = omega arith in
+    (record { keyed = p .keyed; room = omega (arith, w .same); at = rw e at (w .chained) }, record { room = omega (arith, w .heads); at = rw e at (w .headed) })
+
+pub chain-spec : {M : Type 1} → statement M
+chain-spec =
+    tie.close
+    (tie.spec
+    Inv-loop
+    μ-loop
+    loop-holds
+    mul-h
+    shared-slice-read-h
+    mul-next
+    slice-read-next
+    mul-next-2
+    slice-write-next
+    add-j
+    cast-head
+    mul-head
+    slice-write-head
+    loop-less
+    loop-again
+    same-length
+    same-length-2
+    returns)

@@ -1,0 +1,71 @@
+use Prim.Native.Nat.{_-_}
+use mathlib.Core.Path.{sym}
+use native.Mathlib.Omega.{arith}
+use borrow.Author.Needs.{needs}
+use Rattle.grid.proofs.Chain.{Walked, chained-less, walked-end, walked-hit, walked-more, walked-start}
+use Rattle.grid.proofs.keys.walk.Statement.{statement}
+use Rattle.grid.proofs.keys.walk.Tie as tie
+
+abbrev Inv-loop : tie.InvT-loop
+Inv-loop keys next n m start key j₀ j = Walked keys m key j
+
+abbrev μ-loop : tie.MeasureT-loop
+μ-loop keys next n m start key j₀ j = j
+
+loop-holds : tie.Need-loop-holds Inv-loop μ-loop
+loop-holds c = walked-start _ _ _ _ (c .before .before .pre .starts)
+
+sub-i : tie.Need-sub-i Inv-loop μ-loop
+sub-i c = search needs
+
+mul-if1 : tie.Need-mul-if1 Inv-loop μ-loop
+mul-if1 c = search needs
+
+shared-slice-read-if1 : tie.Need-shared-slice-read-if1 Inv-loop μ-loop
+shared-slice-read-if1 c = search needs
+
+returns : tie.Need-returns Inv-loop μ-loop
+returns c = sym (walked-hit (c .before .before .before .loop .inv) (omega arith) (c .if1 .taken))
+
+mul-wide : tie.Need-mul-wide Inv-loop μ-loop
+mul-wide c = search needs
+
+shared-slice-read-wide : tie.Need-shared-slice-read-wide Inv-loop μ-loop
+shared-slice-read-wide c = search needs
+
+wide-requires : tie.Need-wide-requires Inv-loop μ-loop
+wide-requires c κs = search needs
+
+loop-less : tie.Need-loop-less Inv-loop μ-loop
+loop-less c =
+    let p = c .before .before .before .before .before .before .before .before .pre .chained in
+    let i = c .before .before .before .before .before .loop .inv .within in
+    omega (arith, chained-less p (c .before .before .before .before .before .loop .j - 1) (omega arith))
+
+loop-again : tie.Need-loop-again Inv-loop μ-loop
+loop-again c =
+    let p = c .before .before .before .before .before .before .before .before .pre .chained in
+    let w = c .before .before .before .before .before .loop .inv in
+    let i = w .within in
+    rw (c .wide .ensures) (walked-more w (omega arith) _ _ p (omega arith) (c .before .before .if1 .left))
+
+returns-2 : tie.Need-returns-2 Inv-loop μ-loop
+returns-2 c = sym (walked-end (c .before .loop .inv) (omega arith))
+
+pub walk-spec : {M : Type 1} → statement M
+walk-spec =
+    tie.close
+    (tie.spec
+    Inv-loop
+    μ-loop
+    loop-holds
+    sub-i
+    mul-if1
+    shared-slice-read-if1
+    returns
+    mul-wide
+    shared-slice-read-wide
+    wide-requires
+    loop-less
+    loop-again
+    returns-2)

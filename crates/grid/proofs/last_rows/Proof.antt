@@ -1,0 +1,43 @@
+use Prim.Native.Nat.{_/_}
+use mathlib.Core.Path.{_∙_, _≡_, sym}
+use native.Mathlib.Omega.{arith}
+use lib.ListN.{length}
+use borrow.Author.Needs.{needs}
+use Rattle.grid.specs.Rows.{rowAt, rows}
+use Rattle.grid.proofs.Answers.{answer-end, answer-passes, answer-refuses, whole-fault, whole-fine}
+use Rattle.grid.proofs.Crossings.{fine-capped, over-capped}
+use Rattle.grid.proofs.last_rows.Statement.{statement}
+use Rattle.grid.proofs.last_rows.Tie as tie
+
+row-9-requires : tie.Need-row-9-requires
+row-9-requires c κs = c .before .before .before .before .before .before .before .pre .0
+
+returns : tie.Need-returns
+unfolding rowAt rows
+returns c =
+    let e : length (c .before .before .before .before .before .before .before .before .before .args .edges .now) / 2 ≡ length (c .before .before .before .before .before .before .before .before .before .args .counts .now) = omega (arith, c .before .before .before .before .before .before .before .before .before .pre .1) in
+    answer-refuses _ _ _ 8 (omega arith) _ (rw e at (c .before .row-9 .ensures)) (c .if1 .taken)
+
+total-requires : tie.Need-total-requires
+total-requires c κs = search needs
+
+returns-2 : tie.Need-returns-2
+unfolding rowAt rows
+returns-2 c =
+    let e : length (c .before .before .before .before .before .before .before .before .before .before .before .args .edges .now) / 2 ≡ length (c .before .before .before .before .before .before .before .before .before .before .before .args .counts .now) = omega (arith, c .before .before .before .before .before .before .before .before .before .before .before .pre .1) in
+    let t = over-capped (c .before .before .before .before .before .before .before .before .before .before .before .args .counts .now) (rw (← c .before .total .ensures) (c .if2 .taken)) in
+    answer-refuses _ _ _ 9 (omega arith) 0 (whole-fault _ t) (omega arith)
+    ∙ answer-passes _ _ _ 8 (omega arith) _ (rw e at (c .before .before .before .row-9 .ensures)) (c .before .before .if1 .left)
+
+returns-3 : tie.Need-returns-3
+unfolding rowAt rows
+returns-3 c =
+    let e : length (c .before .before .before .before .before .before .before .before .before .before .before .args .edges .now) / 2 ≡ length (c .before .before .before .before .before .before .before .before .before .before .before .args .counts .now) = omega (arith, c .before .before .before .before .before .before .before .before .before .before .before .pre .1) in
+    let t = fine-capped (c .before .before .before .before .before .before .before .before .before .before .before .args .counts .now) (rw (← c .before .total .ensures) (c .if2 .left)) in
+    rw (c .before .total .ensures ∙ t .1)
+    (sym (answer-end (c .before .before .before .before .before .before .before .before .before .before .before .args .cells .now) (c .before .before .before .before .before .before .before .before .before .before .before .args .edges .now) (c .before .before .before .before .before .before .before .before .before .before .before .args .counts .now))
+    ∙ answer-passes _ _ _ 9 (omega arith) 1 (whole-fine _ (t .0)) (omega arith)
+    ∙ answer-passes _ _ _ 8 (omega arith) _ (rw e at (c .before .before .before .row-9 .ensures)) (c .before .before .if1 .left))
+
+pub last-rows-spec : {M : Type 1} → statement M
+last-rows-spec = tie.close (tie.spec row-9-requires returns total-requires returns-2 returns-3)

@@ -1,0 +1,110 @@
+-- Grids and their answers: the examples of 01's table for rows 1 to 9, limits, and grids with several faults.
+use Prim.Native.Nat.{ℕ}
+use mathlib.Core.List.{List, [], _∷_}
+use Rattle.answer.specs.Answer.{result, refusal}
+
+pub record Example : Type 0 where
+  pub cells : List ℕ
+  pub edges : List ℕ
+  pub counts : List ℕ
+  pub answer : List ℕ
+
+abbrev example : List ℕ → List ℕ → List ℕ → List ℕ → Example
+example cells edges counts answer = record { cells = cells; edges = edges; counts = counts; answer = answer }
+
+-- a list of each example
+unfoldable pub of : (Example → List ℕ) → List Example → List (List ℕ)
+of f [] = []
+of f (x ∷ l) = f x ∷ of f l
+
+-- one cell, its six edges, and counts for them
+abbrev cell : List ℕ
+cell = 0 ∷ 1 ∷ 2 ∷ 3 ∷ []
+
+abbrev six : List ℕ
+six = 0 ∷ 1 ∷ 0 ∷ 2 ∷ 0 ∷ 3 ∷ 1 ∷ 2 ∷ 1 ∷ 3 ∷ 2 ∷ 3 ∷ []
+
+abbrev zeros : List ℕ
+zeros = 0 ∷ 0 ∷ 0 ∷ 0 ∷ 0 ∷ 0 ∷ []
+
+-- cells 0123 and 0145, which share the edge 01 alone
+abbrev apart : List ℕ
+apart = 0 ∷ 1 ∷ 2 ∷ 3 ∷ 0 ∷ 1 ∷ 4 ∷ 5 ∷ []
+
+abbrev apartEdges : List ℕ
+apartEdges = 0 ∷ 1 ∷ 0 ∷ 2 ∷ 0 ∷ 3 ∷ 0 ∷ 4 ∷ 0 ∷ 5 ∷ 1 ∷ 2 ∷ 1 ∷ 3 ∷ 1 ∷ 4 ∷ 1 ∷ 5 ∷ 2 ∷ 3 ∷ 4 ∷ 5 ∷ []
+
+abbrev eleven : List ℕ
+eleven = 0 ∷ 0 ∷ 0 ∷ 0 ∷ 0 ∷ 0 ∷ 0 ∷ 0 ∷ 0 ∷ 0 ∷ 0 ∷ []
+
+-- cells 0123, 0134, 0145: the first and the last share the edge 01 and no face, and are linked through the one between
+abbrev chain : List ℕ
+chain = 0 ∷ 1 ∷ 2 ∷ 3 ∷ 0 ∷ 1 ∷ 3 ∷ 4 ∷ 0 ∷ 1 ∷ 4 ∷ 5 ∷ []
+
+abbrev chainEdges : List ℕ
+chainEdges = 0 ∷ 1 ∷ 0 ∷ 2 ∷ 0 ∷ 3 ∷ 0 ∷ 4 ∷ 0 ∷ 5 ∷ 1 ∷ 2 ∷ 1 ∷ 3 ∷ 1 ∷ 4 ∷ 1 ∷ 5 ∷ 2 ∷ 3 ∷ 3 ∷ 4 ∷ 4 ∷ 5 ∷ []
+
+abbrev twelve : List ℕ
+twelve = 0 ∷ 0 ∷ 0 ∷ 0 ∷ 0 ∷ 0 ∷ 0 ∷ 0 ∷ 0 ∷ 0 ∷ 0 ∷ 0 ∷ []
+
+unfoldable pub examples : List Example
+examples =
+    -- accepted: no crossing, one, and one count for each edge
+    example cell six zeros (result (0 ∷ []))
+    ∷ example cell six (1 ∷ 0 ∷ 0 ∷ 0 ∷ 0 ∷ 0 ∷ []) (result (1 ∷ []))
+    ∷ example cell six (1 ∷ 2 ∷ 3 ∷ 4 ∷ 5 ∷ 6 ∷ []) (result (21 ∷ []))
+    -- 1: five numbers, six, none
+    ∷ example (0 ∷ 1 ∷ 2 ∷ 3 ∷ 4 ∷ []) six zeros (refusal 1 0)
+    ∷ example (0 ∷ 1 ∷ 2 ∷ 3 ∷ 4 ∷ 5 ∷ []) six zeros (refusal 1 0)
+    ∷ example [] [] [] (refusal 1 0)
+    -- 2: three numbers and one count, one count too few, one too many, none
+    ∷ example cell (0 ∷ 1 ∷ 0 ∷ []) (0 ∷ []) (refusal 2 0)
+    ∷ example cell six (0 ∷ 0 ∷ 0 ∷ 0 ∷ 0 ∷ []) (refusal 2 0)
+    ∷ example cell six (0 ∷ 0 ∷ 0 ∷ 0 ∷ 0 ∷ 0 ∷ 0 ∷ []) (refusal 2 0)
+    ∷ example cell six [] (refusal 2 0)
+    -- 3: 0 2 1 3, a node twice, the node 4,096, the highest 16-bit node in the second cell
+    ∷ example (0 ∷ 2 ∷ 1 ∷ 3 ∷ []) six zeros (refusal 3 0)
+    ∷ example (0 ∷ 1 ∷ 1 ∷ 3 ∷ []) six zeros (refusal 3 0)
+    ∷ example (0 ∷ 1 ∷ 2 ∷ 4096 ∷ []) six zeros (refusal 3 0)
+    ∷ example (0 ∷ 1 ∷ 2 ∷ 3 ∷ 0 ∷ 1 ∷ 2 ∷ 65535 ∷ []) six zeros (refusal 3 1)
+    -- the node 4,095 is no fault, and then its edges are not listed
+    ∷ example (0 ∷ 1 ∷ 2 ∷ 4095 ∷ []) six zeros (refusal 7 0)
+    -- 4: 0 1 2 3 twice, and a third time after another cell
+    ∷ example (0 ∷ 1 ∷ 2 ∷ 3 ∷ 0 ∷ 1 ∷ 2 ∷ 3 ∷ []) six zeros (refusal 4 1)
+    ∷ example (0 ∷ 1 ∷ 2 ∷ 3 ∷ 0 ∷ 1 ∷ 2 ∷ 4 ∷ 0 ∷ 1 ∷ 2 ∷ 4 ∷ []) six zeros (refusal 4 2)
+    -- 5: the face 0 1 2 with 3, 4, 5; the fourth cell of it is no lower fault
+    ∷ example (0 ∷ 1 ∷ 2 ∷ 3 ∷ 0 ∷ 1 ∷ 2 ∷ 4 ∷ 0 ∷ 1 ∷ 2 ∷ 5 ∷ []) six zeros (refusal 5 2)
+    ∷ example (0 ∷ 1 ∷ 2 ∷ 3 ∷ 0 ∷ 1 ∷ 2 ∷ 4 ∷ 0 ∷ 1 ∷ 2 ∷ 5 ∷ 0 ∷ 1 ∷ 2 ∷ 6 ∷ []) six zeros (refusal 5 2)
+    -- 6: 1 1, an edge twice, two edges in the wrong order by the lower end and by the higher
+    ∷ example cell (1 ∷ 1 ∷ 0 ∷ 2 ∷ 0 ∷ 3 ∷ 1 ∷ 2 ∷ 1 ∷ 3 ∷ 2 ∷ 3 ∷ []) zeros (refusal 6 0)
+    ∷ example cell (0 ∷ 1 ∷ 0 ∷ 1 ∷ 0 ∷ 3 ∷ 1 ∷ 2 ∷ 1 ∷ 3 ∷ 2 ∷ 3 ∷ []) zeros (refusal 6 1)
+    ∷ example cell (0 ∷ 1 ∷ 0 ∷ 2 ∷ 0 ∷ 3 ∷ 1 ∷ 2 ∷ 2 ∷ 3 ∷ 1 ∷ 3 ∷ []) zeros (refusal 6 5)
+    ∷ example cell (0 ∷ 1 ∷ 0 ∷ 3 ∷ 0 ∷ 2 ∷ 1 ∷ 2 ∷ 1 ∷ 3 ∷ 2 ∷ 3 ∷ []) zeros (refusal 6 2)
+    -- 7: without 2 3, and without any
+    ∷ example cell (0 ∷ 1 ∷ 0 ∷ 2 ∷ 0 ∷ 3 ∷ 1 ∷ 2 ∷ 1 ∷ 3 ∷ []) (0 ∷ 0 ∷ 0 ∷ 0 ∷ 0 ∷ []) (refusal 7 0)
+    ∷ example cell [] [] (refusal 7 0)
+    ∷ example apart (0 ∷ 1 ∷ 0 ∷ 2 ∷ 0 ∷ 3 ∷ 1 ∷ 2 ∷ 1 ∷ 3 ∷ 2 ∷ 3 ∷ []) zeros (refusal 7 1)
+    -- 8: 7 8 added, an edge of two of the cell's nodes' neighbours before the others, and the highest nodes
+    ∷ example cell (0 ∷ 1 ∷ 0 ∷ 2 ∷ 0 ∷ 3 ∷ 1 ∷ 2 ∷ 1 ∷ 3 ∷ 2 ∷ 3 ∷ 7 ∷ 8 ∷ []) (0 ∷ 0 ∷ 0 ∷ 0 ∷ 0 ∷ 0 ∷ 0 ∷ []) (refusal 8 6)
+    ∷ example cell (0 ∷ 1 ∷ 0 ∷ 2 ∷ 0 ∷ 3 ∷ 0 ∷ 4 ∷ 1 ∷ 2 ∷ 1 ∷ 3 ∷ 2 ∷ 3 ∷ 7 ∷ 8 ∷ []) (0 ∷ 0 ∷ 0 ∷ 0 ∷ 0 ∷ 0 ∷ 0 ∷ 0 ∷ []) (refusal 8 3)
+    ∷ example cell (0 ∷ 1 ∷ 0 ∷ 2 ∷ 0 ∷ 3 ∷ 1 ∷ 2 ∷ 1 ∷ 3 ∷ 2 ∷ 3 ∷ 65534 ∷ 65535 ∷ []) (0 ∷ 0 ∷ 0 ∷ 0 ∷ 0 ∷ 0 ∷ 0 ∷ []) (refusal 8 6)
+    -- 9: 0123 and 0145 share an edge and no face; a chain of three cells about an edge is linked
+    ∷ example apart apartEdges eleven (refusal 9 0)
+    ∷ example chain chainEdges twelve (result (0 ∷ []))
+    -- 10: 65,535 crossings are allowed, one more is not
+    ∷ example cell six (0 ∷ 0 ∷ 65535 ∷ 0 ∷ 0 ∷ 0 ∷ []) (result (65535 ∷ []))
+    ∷ example cell six (0 ∷ 0 ∷ 65536 ∷ 0 ∷ 0 ∷ 0 ∷ []) (refusal 10 0)
+    ∷ example cell six (1 ∷ 0 ∷ 65534 ∷ 0 ∷ 0 ∷ 1 ∷ []) (refusal 10 0)
+    -- several faults: the first row, and in it the lowest place
+    ∷ example (0 ∷ 2 ∷ 1 ∷ 3 ∷ 9 ∷ []) (1 ∷ 1 ∷ 1 ∷ []) (65536 ∷ []) (refusal 1 0)
+    ∷ example (0 ∷ 2 ∷ 1 ∷ 3 ∷ []) (1 ∷ 1 ∷ 1 ∷ []) (65536 ∷ []) (refusal 2 0)
+    ∷ example (0 ∷ 1 ∷ 2 ∷ 3 ∷ 0 ∷ 1 ∷ 2 ∷ 3 ∷ 0 ∷ 1 ∷ 2 ∷ 3 ∷ 3 ∷ 2 ∷ 1 ∷ 0 ∷ []) (1 ∷ 1 ∷ []) (65536 ∷ []) (refusal 3 3)
+    ∷ example (0 ∷ 1 ∷ 2 ∷ 3 ∷ 0 ∷ 1 ∷ 2 ∷ 3 ∷ 0 ∷ 1 ∷ 2 ∷ 3 ∷ []) (1 ∷ 1 ∷ []) (65536 ∷ []) (refusal 4 1)
+    ∷ example (0 ∷ 1 ∷ 2 ∷ 3 ∷ 0 ∷ 1 ∷ 2 ∷ 4 ∷ 0 ∷ 1 ∷ 2 ∷ 5 ∷ []) (1 ∷ 1 ∷ []) (65536 ∷ []) (refusal 5 2)
+    ∷ example apart (0 ∷ 1 ∷ 7 ∷ 8 ∷ 1 ∷ 1 ∷ 2 ∷ 2 ∷ []) (65536 ∷ 0 ∷ 0 ∷ 0 ∷ []) (refusal 6 2)
+    ∷ example apart (0 ∷ 1 ∷ 7 ∷ 8 ∷ []) (65536 ∷ 0 ∷ []) (refusal 7 0)
+    ∷ example apart
+    (0 ∷ 1 ∷ 0 ∷ 2 ∷ 0 ∷ 3 ∷ 0 ∷ 4 ∷ 0 ∷ 5 ∷ 1 ∷ 2 ∷ 1 ∷ 3 ∷ 1 ∷ 4 ∷ 1 ∷ 5 ∷ 2 ∷ 3 ∷ 2 ∷ 4 ∷ 4 ∷ 5 ∷ 7 ∷ 8 ∷ [])
+    (65536 ∷ 0 ∷ 0 ∷ 0 ∷ 0 ∷ 0 ∷ 0 ∷ 0 ∷ 0 ∷ 0 ∷ 0 ∷ 0 ∷ 0 ∷ []) (refusal 8 10)
+    ∷ example apart apartEdges (65536 ∷ 0 ∷ 0 ∷ 0 ∷ 0 ∷ 0 ∷ 0 ∷ 0 ∷ 0 ∷ 0 ∷ 0 ∷ []) (refusal 9 0)
+    ∷ []

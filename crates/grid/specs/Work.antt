@@ -1,0 +1,278 @@
+-- What the check's own functions ask of each other: the meaning of their local tables. No call outside the crate depends on it.
+use Prim.Native.Nat.{ℕ, suc, _+_, _*_, _-_, _/_, _%_, _≤_, _<_}
+use mathlib.Core.Path.{_≡_}
+use mathlib.Core.Logic.{_⊎_, _≢_}
+use mathlib.Core.Bool.{Bool, true, false, not, _&&_}
+use mathlib.Core.List.{List, [], _∷_}
+use lib.ListN.{length, getD, replicate}
+use lib.Dec.{eqb, ltb}
+use Rattle.counting.specs.Pick.{pick}
+use Rattle.counting.specs.Search.{first, last, some, count}
+use Rattle.slots.specs.Slots.{lo, hi, contains}
+use Rattle.grid.specs.declared.Checked.{Checked}
+use Rattle.grid.specs.declared.Checked.the-variants.{Crossings, Refused}
+use Rattle.grid.specs.Grid.{highestNode, mostCells, mostCrossings, cellCount, node, faceNode, sameFace, low, high, isEdge, crossings}
+use Rattle.grid.specs.Rows.{unused}
+
+-- the first n entries of a list are f's values
+pub record Table (f : ℕ → ℕ) (n : ℕ) (l : List ℕ) : Type 0 where
+  pub room : n ≤ length l
+  pub at : (i : ℕ) → i < n → getD l i 0 ≡ f i
+
+-- KEYS: nodes packed into one number, so that equal keys are equal nodes
+
+abbrev pub join : ℕ → ℕ → ℕ
+join a b = a * 65536 + b
+
+unfoldable pub cellKey : List ℕ → ℕ → ℕ
+cellKey cells c = join (join (join (node cells c 0) (node cells c 1)) (node cells c 2)) (node cells c 3)
+
+unfoldable pub faceKey : List ℕ → ℕ → ℕ
+faceKey cells j =
+    join (join (faceNode cells (j / 4) (j % 4) 0) (faceNode cells (j / 4) (j % 4) 1)) (faceNode cells (j / 4) (j % 4) 2)
+
+unfoldable pub edgeKey : List ℕ → ℕ → ℕ
+edgeKey edges e = join (low edges e) (high edges e)
+
+-- CHAINS: keys with the same remainder, each with the one before it
+
+abbrev pub buckets : ℕ
+buckets = 7919
+
+unfoldable pub sameKey : List ℕ → ℕ → ℕ → Bool
+sameKey keys key x = eqb (getD keys x 0) key
+
+unfoldable pub inBucket : List ℕ → ℕ → ℕ → Bool
+inBucket keys h x = eqb (getD keys x 0 % buckets) h
+
+-- next chains the first n keys: one more than the last earlier place with the remainder, or 0
+pub record Chained (keys : List ℕ) (n : ℕ) (next : List ℕ) : Type 0 where
+  pub keyed : n ≤ length keys
+  pub room : n ≤ length next
+  pub at : (j : ℕ) → j < n → getD next j 0 ≡ last (inBucket keys (getD keys j 0 % buckets)) j
+
+-- head has the end of each chain
+pub record Headed (keys : List ℕ) (n : ℕ) (head : List ℕ) : Type 0 where
+  pub room : buckets ≤ length head
+  pub at : (h : ℕ) → h < buckets → getD head h 0 ≡ last (inBucket keys h) n
+
+-- what `chain` starts from
+pub record Chainable (keys : List ℕ) (n : ℕ) (head next : List ℕ) : Type 0 where
+  pub keyed : n ≤ length keys
+  pub room : n ≤ length next
+  pub small : n < 65536
+  pub blank : head ≡ replicate buckets 0
+
+-- what `walk` starts from: start is the last place before m with the key's remainder
+pub record Walkable (keys next : List ℕ) (n m start key : ℕ) : Type 0 where
+  pub chained : Chained keys n next
+  pub within : m ≤ n
+  pub starts : start ≡ last (inBucket keys (key % buckets)) m
+
+-- CELLS: what rows 1 and 3 leave of the cells
+
+pub record Ordered (cells : List ℕ) : Type 0 where
+  pub small : (i : ℕ) → getD cells i 0 < 65536
+  pub few : cellCount cells ≤ mostCells
+  pub nodes : (c i : ℕ) → c < cellCount cells → i < 4 → node cells c i ≤ highestNode
+  pub rising : (c i : ℕ) → c < cellCount cells → i < 3 → node cells c i < node cells c (i + 1)
+
+-- the key at j stands at two places before
+unfoldable pub thirdAt : List ℕ → ℕ → Bool
+thirdAt keys j = ltb 1 (count (sameKey keys (getD keys j 0)) j)
+
+-- place i has a mate: another place with its key, whose mate is i
+pub record Mate (keys near : List ℕ) (m i : ℕ) : Type 0 where
+  pub lt : getD near i 0 ≤ m
+  pub ne : getD near i 0 - 1 ≢ i
+  pub same : getD keys (getD near i 0 - 1) 0 ≡ getD keys i 0
+  pub back : getD near (getD near i 0 - 1) 0 ≡ i + 1
+
+-- near has the mates among the first m places, one more than each; 0 for none
+pub record Mates (keys : List ℕ) (m : ℕ) (near : List ℕ) : Type 0 where
+  pub pair : (i : ℕ) → i < m → 0 < getD near i 0 → Mate keys near m i
+  pub all : (i x : ℕ) → i < m → x < m → x ≢ i → getD keys x 0 ≡ getD keys i 0 → getD near i 0 ≡ x + 1
+  pub rest : (i : ℕ) → m ≤ i → getD near i 0 ≡ 0
+
+-- what `pair` starts from
+pub record Pairable (keys next : List ℕ) (n : ℕ) (near : List ℕ) : Type 0 where
+  pub chained : Chained keys n next
+  pub room : n ≤ length near
+  pub small : n < 65535
+  pub blank : Mates keys 0 near
+
+-- what `pair` leaves: the first place whose key has come twice before, and the mates below it
+pub record Pairing (keys : List ℕ) (n r : ℕ) (near : List ℕ) : Type 0 where
+  pub is : r ≡ first (thirdAt keys) n
+  pub mates : Mates keys r near
+
+-- the slot across slot j
+pub record Across (cells near : List ℕ) (j : ℕ) : Type 0 where
+  pub lt : getD near j 0 ≤ 4 * cellCount cells
+  pub other : (getD near j 0 - 1) / 4 ≢ j / 4
+  pub same : sameFace cells ((getD near j 0 - 1) / 4) ((getD near j 0 - 1) % 4) (j / 4) (j % 4) ≡ true
+  pub back : getD near (getD near j 0 - 1) 0 ≡ j + 1
+
+-- near has the slots across the faces of the cells, one more than each; 0 for none
+pub record Near (cells near : List ℕ) : Type 0 where
+  pub room : 4 * cellCount cells ≤ length near
+  pub pair : (j : ℕ) → j < 4 * cellCount cells → 0 < getD near j 0 → Across cells near j
+  pub all : (d t c s : ℕ) → d < cellCount cells → t < 4 → c < cellCount cells → s < 4 → d ≢ c → sameFace cells d t c s ≡ true
+      → getD near (4 * c + s) 0 ≡ 4 * d + t + 1
+
+-- EDGES: the edges of the cells by their ends, and their places in the list
+
+unfoldable pub sideKey : List ℕ → ℕ → ℕ
+sideKey cells j = join (node cells (j / 6) (lo (j % 6))) (node cells (j / 6) (hi (j % 6)))
+
+-- what rows 8 and 9 start from: the keys of the cells' edges, chained
+pub record Findable (cells edges keys head next : List ℕ) : Type 0 where
+  pub few : cellCount cells ≤ mostCells
+  pub small : (i : ℕ) → getD cells i 0 < 65536
+  pub small-ends : (i : ℕ) → getD edges i 0 < 65536
+  pub table : Table (sideKey cells) (6 * cellCount cells) keys
+  pub chained : Chained keys (6 * cellCount cells) next
+  pub headed : Headed keys (6 * cellCount cells) head
+
+-- what `put` starts from, and what it leaves: x at each of the first n places with the key
+pub record Putting (keys next : List ℕ) (n key top : ℕ) (sides : List ℕ) : Type 0 where
+  pub chained : Chained keys n next
+  pub room : n ≤ length sides
+  pub top-is : top ≡ last (sameKey keys key) n
+
+pub record Put (keys : List ℕ) (n key x : ℕ) (sides₀ sides : List ℕ) : Type 0 where
+  pub same : length sides ≡ length sides₀
+  pub hit : (j : ℕ) → j < n → getD keys j 0 ≡ key → getD sides j 0 ≡ x
+  pub miss : (j : ℕ) → getD keys j 0 ≢ key → getD sides j 0 ≡ getD sides₀ j 0
+
+-- one more than x where x is below m, else 0
+abbrev pub found : ℕ → ℕ → ℕ
+found m x = pick (ltb x m) (suc x) 0
+
+-- one more than the place, among m edges, of edge j % 6 of cell j / 6; 0 where it is not listed
+unfoldable pub listedAt : List ℕ → List ℕ → ℕ → ℕ → ℕ
+listedAt cells edges m j = found m (first (isEdge cells edges (j / 6) (j % 6)) m)
+
+-- one of the six entries of cell c is 0
+unfoldable pub blankIn : List ℕ → ℕ → Bool
+blankIn sides c = some (λ k. eqb (getD sides (6 * c + k) 0) 0) 6
+
+-- LINKS: marks spread over the cells of an edge, from a cell across its two faces that contain the edge
+
+-- the other slot that contains edge k
+abbrev pub other : ℕ → ℕ → ℕ
+other k s = 6 - lo k - hi k - s
+
+-- slot j is one of a cell's that contain the edge with this key
+pub record Side (keys : List ℕ) (key j : ℕ) : Type 0 where
+  pub k : ℕ
+  pub lt : k < 6
+  pub is : getD keys (6 * (j / 4) + k) 0 ≡ key
+  pub holds : contains k (j % 4) ≡ true
+
+-- the edge with this key is one of cell c's, from its edge k on
+pub record Sought (keys : List ℕ) (key c k : ℕ) : Type 0 where
+  pub w : ℕ
+  pub lt : w < 6
+  pub from-k : k ≤ w
+  pub is : getD keys (6 * c + w) 0 ≡ key
+
+-- near pairs the slots of n cells that are one face
+pub record Paired (keys near : List ℕ) (n : ℕ) : Type 0 where
+  pub keyed : 6 * n ≤ length keys
+  pub room : 4 * n ≤ length near
+  pub few : n ≤ mostCells
+  pub back : (j : ℕ) → j < 4 * n → 0 < getD near j 0 → (getD near j 0 ≤ 4 * n) × (getD near (getD near j 0 - 1) 0 ≡ j + 1)
+  pub side : (key j : ℕ) → j < 4 * n → 0 < getD near j 0 → Side keys key j → Side keys key (getD near j 0 - 1)
+  pub one : (c k m : ℕ) → c < n → k < 6 → m < 6 → getD keys (6 * c + k) 0 ≡ getD keys (6 * c + m) 0 → k ≡ m
+
+-- a test that goes on across each face that contains the edge
+abbrev pub Closed : List ℕ → List ℕ → ℕ → ℕ → (ℕ → Bool) → Type 0
+Closed keys near n key P = (j : ℕ) → j < 4 * n → Side keys key j → 0 < getD near j 0 → P (j / 4) ≡ true → P ((getD near j 0 - 1) / 4) ≡ true
+
+-- across each slot of a marked cell, but for slots a and b, there is no cell or a marked one
+pub record Open (keys near : List ℕ) (n key mark : ℕ) (marks : List ℕ) (a b : ℕ) : Type 0 where
+  pub at : (j : ℕ) → j < 4 * n → Side keys key j → getD marks (j / 4) 0 ≡ mark → j ≢ a → j ≢ b
+      → (getD near j 0 ≡ 0) ⊎ (getD marks ((getD near j 0 - 1) / 4) 0 ≡ mark)
+
+-- marks₀ has become marks
+pub record Grown (keys near : List ℕ) (n key mark : ℕ) (marks₀ marks : List ℕ) : Type 0 where
+  pub same : length marks ≡ length marks₀
+  pub keep : (c : ℕ) → getD marks₀ c 0 ≡ mark → getD marks c 0 ≡ mark
+  pub only : (c : ℕ) → (getD marks c 0 ≡ getD marks₀ c 0) ⊎ (getD marks c 0 ≡ mark)
+  pub within : (P : ℕ → Bool) → Closed keys near n key P → ((c : ℕ) → getD marks₀ c 0 ≡ mark → P c ≡ true)
+      → (c : ℕ) → getD marks c 0 ≡ mark → P c ≡ true
+
+-- what `spread` starts from, and what it leaves
+pub record Spreading (keys near : List ℕ) (n key mark start b : ℕ) (marks : List ℕ) : Type 0 where
+  pub paired : Paired keys near n
+  pub room : n ≤ length marks
+  pub slot : start < 4 * n
+  pub side : Side keys key start
+  pub here : getD marks (start / 4) 0 ≡ mark
+  pub opens : Open keys near n key mark marks start b
+
+pub record Spread (keys near : List ℕ) (n key mark b : ℕ) (marks₀ marks : List ℕ) : Type 0 where
+  pub grown : Grown keys near n key mark marks₀ marks
+  pub opens : Open keys near n key mark marks b b
+
+-- place j has the key, and its cell is not marked
+unfoldable pub missing : List ℕ → ℕ → List ℕ → ℕ → ℕ → Bool
+missing keys key marks mark j = sameKey keys key j && not (eqb (getD marks (j / 6) 0) mark)
+
+-- what `left_out` starts from
+pub record Leaving (keys next : List ℕ) (n key top : ℕ) (marks : List ℕ) : Type 0 where
+  pub chained : Chained keys (6 * n) next
+  pub room : n ≤ length marks
+  pub top-is : top ≡ last (sameKey keys key) (6 * n)
+
+-- what the marks of an edge are, from cell c on: closed, and within all that is closed
+pub record Filled (keys near : List ℕ) (n key mark c : ℕ) (marks₀ marks : List ℕ) : Type 0 where
+  pub same : length marks ≡ length marks₀
+  pub has : getD marks c 0 ≡ mark
+  pub only : (d : ℕ) → (getD marks d 0 ≡ getD marks₀ d 0) ⊎ (getD marks d 0 ≡ mark)
+  pub closed : (j : ℕ) → j < 4 * n → Side keys key j → 0 < getD near j 0 → getD marks (j / 4) 0 ≡ mark
+      → getD marks ((getD near j 0 - 1) / 4) 0 ≡ mark
+  pub within : (P : ℕ → Bool) → Closed keys near n key P → P c ≡ true → (d : ℕ) → getD marks d 0 ≡ mark → P d ≡ true
+
+-- what `split_at` starts from: no cell has the mark
+pub record Splitting (keys next near : List ℕ) (n key mark top : ℕ) (marks : List ℕ) : Type 0 where
+  pub chained : Chained keys (6 * n) next
+  pub paired : Paired keys near n
+  pub room : n ≤ length marks
+  pub top-is : top ≡ last (sameKey keys key) (6 * n)
+  pub found : 0 < top
+  pub fresh : (d : ℕ) → getD marks d 0 ≢ mark
+
+-- what row 9 starts from: besides, each edge has a cell
+pub record Linkable (cells edges near keys head next : List ℕ) : Type 0 where
+  pub ordered : Ordered cells
+  pub near-is : Near cells near
+  pub findable : Findable cells edges keys head next
+  pub used : (e : ℕ) → e < length edges / 2 → unused cells edges e ≡ false
+
+-- THE WHOLE
+
+-- the number of crossings, or 65,536 where it is more than 65,535
+unfoldable pub capped : List ℕ → ℕ
+capped counts = pick (ltb mostCrossings (crossings counts)) (mostCrossings + 1) (crossings counts)
+
+-- what the check starts from, and what it leaves in its two tables where it accepts
+pub record Blank (near sides : List ℕ) : Type 0 where
+  pub near-is : near ≡ replicate (4 * mostCells) 0
+  pub sides-is : sides ≡ replicate (6 * mostCells) 0
+
+pub record Worked (cells edges counts near sides : List ℕ) : Type 0 where
+  pub near-is : Near cells near
+  pub sided : Table (listedAt cells edges (length counts)) (6 * cellCount cells) sides
+
+abbrev pub WhereAccepted : Checked → Type 0 → Type 0
+WhereAccepted (Crossings n) T = T
+WhereAccepted (Refused row place) T = Unit {0}
+
+-- what row 6 and those after it start from
+pub record Edging (cells edges counts near sides : List ℕ) : Type 0 where
+  pub ordered : Ordered cells
+  pub pairs : length edges ≡ 2 * length counts
+  pub near-is : Near cells near
+  pub sides-is : sides ≡ replicate (6 * mostCells) 0

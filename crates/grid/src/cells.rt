@@ -1,0 +1,194 @@
+// Rows 1, 3, 4 and 5: the cells.
+ghost use mathlib.Core.Path.{_≡_};
+ghost use Prim.Native.Nat.{_+_, _*_, _/_, _%_, _<_, _≤_};
+ghost use lib.ListN.{length, replicate};
+ghost use Rattle.counting.specs.Search.{first};
+ghost use Rattle.grid.specs.Grid.{mostCells, cellCount, node, faceNode};
+ghost use Rattle.grid.specs.Rows.{badLength, badCell, repeats, third};
+ghost use Rattle.grid.specs.Work.{Table, cellKey, faceKey, Ordered, Pairable, Pairing, Near};
+use crate::keys::BUCKETS;
+use crate::keys::chain;
+use crate::keys::earlier;
+use crate::keys::wide;
+
+const HIGHEST_NODE: usize = 4095;
+
+const MOST_CELLS: usize = 2048;
+
+pub(crate) fn row_1(cells: &[u16]) -> bool
+    ensures { λ r. ⌜ r ≡ badLength (now (cells .entry)) ⌝ }
+{
+    let n = cells.len();
+    if n % 4 != 0 {
+        return true;
+    }
+    if n == 0 {
+        return true;
+    }
+    MOST_CELLS < n / 4
+}
+
+// Node i of cell c.
+pub(crate) fn node_at(cells: &[u16], c: usize, i: usize) -> usize
+    requires { ⌜ c < cellCount (now cells) ⌝ }
+    requires { ⌜ i < 4 ⌝ }
+    ensures { λ r. ⌜ r ≡ node (now (cells .entry)) c i ⌝ }
+    ensures { λ r. ⌜ r < 65536 ⌝ }
+{
+    wide(cells[4 * c + i])
+}
+
+fn bad_cell(cells: &[u16], c: usize) -> bool
+    requires { ⌜ c < cellCount (now cells) ⌝ }
+    ensures { λ r. ⌜ r ≡ badCell (now (cells .entry)) c ⌝ }
+{
+    let n0 = node_at(cells, c, 0);
+    let n1 = node_at(cells, c, 1);
+    let n2 = node_at(cells, c, 2);
+    let n3 = node_at(cells, c, 3);
+    if n1 <= n0 {
+        return true;
+    }
+    if n2 <= n1 {
+        return true;
+    }
+    if n3 <= n2 {
+        return true;
+    }
+    HIGHEST_NODE < n3
+}
+
+// The lowest cell with a node over 4,095 or nodes that do not increase; the number of cells where there is none.
+pub(crate) fn row_3(cells: &[u16]) -> usize
+    ensures { λ r. ⌜ r ≡ first (badCell (now (cells .entry))) (cellCount (now (cells .entry))) ⌝ }
+{
+    let n = cells.len() / 4;
+    let mut c = 0;
+    while c < n {
+        if bad_cell(cells, c) {
+            return c;
+        }
+        c += 1;
+    }
+    n
+}
+
+fn cell_key(cells: &[u16], c: usize) -> usize
+    requires { ⌜ c < cellCount (now cells) ⌝ }
+    ensures { λ r. ⌜ r ≡ cellKey (now (cells .entry)) c ⌝ }
+{
+    let n0 = node_at(cells, c, 0);
+    let n1 = node_at(cells, c, 1);
+    let n2 = node_at(cells, c, 2);
+    let n3 = node_at(cells, c, 3);
+    ((n0 * 65536 + n1) * 65536 + n2) * 65536 + n3
+}
+
+fn cell_keys(cells: &[u16], keys: &mut [usize])
+    requires { ⌜ cellCount (now cells) ≤ length (now keys) ⌝ }
+    ensures { λ _. ⌜ Table (cellKey (now (cells .entry))) (cellCount (now (cells .entry))) (now (keys .exit)) ⌝ }
+{
+    let n = cells.len() / 4;
+    let mut c = 0;
+    while c < n {
+        keys[c] = cell_key(cells, c);
+        c += 1;
+    }
+}
+
+// The lowest cell that equals an earlier one; the number of cells where there is none. Keeps 36 KB on the stack.
+pub(crate) fn row_4(cells: &[u16]) -> usize
+    requires { ⌜ cellCount (now cells) ≤ mostCells ⌝ }
+    ensures { λ r. ⌜ r ≡ first (repeats (now (cells .entry))) (cellCount (now (cells .entry))) ⌝ }
+{
+    let n = cells.len() / 4;
+    let mut keys = [0usize; MOST_CELLS];
+    let mut head = [0u16; BUCKETS];
+    let mut next = [0u16; MOST_CELLS];
+    cell_keys(cells, &mut keys);
+    chain(&keys, n, &mut head, &mut next);
+    let mut c = 0;
+    while c < n {
+        if 0 < earlier(&keys, &next, n, c) {
+            return c;
+        }
+        c += 1;
+    }
+    n
+}
+
+// Node i of the face at slot s of cell c.
+fn corner_at(cells: &[u16], c: usize, s: usize, i: usize) -> usize
+    requires { ⌜ c < cellCount (now cells) ⌝ }
+    requires { ⌜ i < 3 ⌝ }
+    ensures { λ r. ⌜ r ≡ faceNode (now (cells .entry)) c s i ⌝ }
+    ensures { λ r. ⌜ r < 65536 ⌝ }
+{
+    if i < s {
+        return node_at(cells, c, i);
+    }
+    node_at(cells, c, i + 1)
+}
+
+fn face_key(cells: &[u16], j: usize) -> usize
+    requires { ⌜ j < 4 * cellCount (now cells) ⌝ }
+    ensures { λ r. ⌜ r ≡ faceKey (now (cells .entry)) j ⌝ }
+{
+    let c = j / 4;
+    let s = j % 4;
+    let n0 = corner_at(cells, c, s, 0);
+    let n1 = corner_at(cells, c, s, 1);
+    let n2 = corner_at(cells, c, s, 2);
+    (n0 * 65536 + n1) * 65536 + n2
+}
+
+fn face_keys(cells: &[u16], keys: &mut [usize])
+    requires { ⌜ 4 * cellCount (now cells) ≤ length (now keys) ⌝ }
+    ensures { λ _. ⌜ Table (faceKey (now (cells .entry))) (4 * cellCount (now (cells .entry))) (now (keys .exit)) ⌝ }
+{
+    let n = 4 * (cells.len() / 4);
+    let mut j = 0;
+    while j < n {
+        keys[j] = face_key(cells, j);
+        j += 1;
+    }
+}
+
+// Gives each of the first n places the other place with its key, and stops at a key that comes a third time.
+fn pair(keys: &[usize], next: &[u16], n: usize, near: &mut [u16]) -> usize
+    requires { ⌜ Pairable (now keys) (now next) n (now near) ⌝ }
+    ensures { λ r. ⌜ Pairing (now (keys .entry)) n r (now (near .exit)) ⌝ }
+{
+    let mut j = 0;
+    while j < n {
+        let p = earlier(keys, next, n, j);
+        if p == 0 {
+            j += 1;
+            continue;
+        }
+        if near[p - 1] != 0 {
+            return j;
+        }
+        near[j] = p as u16;
+        j += 1;
+        near[p - 1] = j as u16;
+    }
+    n
+}
+
+// The lowest cell with a face of two earlier ones; the number of cells where there is none, and then near has the neighbours.
+// Keeps 97 KB on the stack.
+pub(crate) fn row_5(cells: &[u16], near: &mut [u16]) -> usize
+    requires { ⌜ Ordered (now cells) ⌝ }
+    requires { ⌜ now near ≡ replicate (4 * mostCells) 0 ⌝ }
+    ensures { λ r. ⌜ r ≡ first (third (now (cells .entry))) (cellCount (now (cells .entry))) ⌝ }
+    ensures { λ r. ⌜ (cellCount (now (cells .entry)) ≤ r → Near (now (cells .entry)) (now (near .exit))) ⌝ }
+{
+    let n = 4 * (cells.len() / 4);
+    let mut keys = [0usize; 4 * MOST_CELLS];
+    let mut head = [0u16; BUCKETS];
+    let mut next = [0u16; 4 * MOST_CELLS];
+    face_keys(cells, &mut keys);
+    chain(&keys, n, &mut head, &mut next);
+    pair(&keys, &next, n, near) / 4
+}

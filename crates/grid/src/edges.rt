@@ -1,0 +1,166 @@
+// Rows 2, 6, 7 and 8: the edges.
+ghost use mathlib.Core.Path.{_≡_};
+ghost use Prim.Native.Nat.{_+_, _*_, _/_, _<_, _≤_};
+ghost use lib.ListN.{length, getD, replicate};
+ghost use Rattle.counting.specs.Search.{first};
+ghost use Rattle.grid.specs.Grid.{mostCells, cellCount};
+ghost use Rattle.grid.specs.Rows.{badPairs, badEdge, unused};
+ghost use Rattle.grid.specs.Work.{Table, edgeKey, sideKey, Findable, Putting, Put, listedAt, blankIn};
+use crate::cells::node_at;
+use crate::keys::latest;
+use crate::keys::walk;
+use crate::keys::wide;
+
+// The positions that a cell's edges join.
+pub(crate) const LO: [usize; 6] = [0, 0, 0, 1, 1, 2];
+
+pub(crate) const HI: [usize; 6] = [1, 2, 3, 2, 3, 3];
+
+pub(crate) fn row_2(edges: &[u16], counts: &[u8]) -> bool
+    ensures { λ r. ⌜ r ≡ badPairs (now (edges .entry)) (now (counts .entry)) ⌝ }
+{
+    edges.len() != 2 * counts.len()
+}
+
+fn end_at(edges: &[u16], i: usize) -> usize
+    requires { ⌜ i < length (now edges) ⌝ }
+    ensures { λ r. ⌜ r ≡ getD (now (edges .entry)) i 0 ⌝ }
+    ensures { λ r. ⌜ r < 65536 ⌝ }
+{
+    wide(edges[i])
+}
+
+// The ends of edge e as one number.
+pub(crate) fn edge_key(edges: &[u16], e: usize) -> usize
+    requires { ⌜ 2 * e + 1 < length (now edges) ⌝ }
+    ensures { λ r. ⌜ r ≡ edgeKey (now (edges .entry)) e ⌝ }
+{
+    let u = end_at(edges, 2 * e);
+    let v = end_at(edges, 2 * e + 1);
+    u * 65536 + v
+}
+
+fn bad_edge(edges: &[u16], e: usize) -> bool
+    requires { ⌜ 2 * e + 1 < length (now edges) ⌝ }
+    ensures { λ r. ⌜ r ≡ badEdge (now (edges .entry)) e ⌝ }
+{
+    let u = end_at(edges, 2 * e);
+    let v = end_at(edges, 2 * e + 1);
+    if v <= u {
+        return true;
+    }
+    if e == 0 {
+        return false;
+    }
+    edge_key(edges, e) <= edge_key(edges, e - 1)
+}
+
+// The lowest edge not u < v, or not after the one before it; the number of edges where there is none.
+pub(crate) fn row_6(edges: &[u16], counts: &[u8]) -> usize
+    requires { ⌜ length (now edges) ≡ 2 * length (now counts) ⌝ }
+    ensures { λ r. ⌜ r ≡ first (badEdge (now (edges .entry))) (length (now (counts .entry))) ⌝ }
+{
+    let n = counts.len();
+    let mut e = 0;
+    while e < n {
+        if bad_edge(edges, e) {
+            return e;
+        }
+        e += 1;
+    }
+    n
+}
+
+// The ends of edge j % 6 of cell j / 6 as one number.
+fn side_key(cells: &[u16], j: usize) -> usize
+    requires { ⌜ j < 6 * cellCount (now cells) ⌝ }
+    ensures { λ r. ⌜ r ≡ sideKey (now (cells .entry)) j ⌝ }
+{
+    let c = j / 6;
+    let k = j % 6;
+    let u = node_at(cells, c, LO[k]);
+    let v = node_at(cells, c, HI[k]);
+    u * 65536 + v
+}
+
+pub(crate) fn side_keys(cells: &[u16], keys: &mut [usize])
+    requires { ⌜ 6 * cellCount (now cells) ≤ length (now keys) ⌝ }
+    ensures { λ _. ⌜ Table (sideKey (now (cells .entry))) (6 * cellCount (now (cells .entry))) (now (keys .exit)) ⌝ }
+{
+    let n = 6 * (cells.len() / 4);
+    let mut j = 0;
+    while j < n {
+        keys[j] = side_key(cells, j);
+        j += 1;
+    }
+}
+
+// Puts x at each of the first n places with this key, of which top - 1 is the last.
+fn put(
+    keys: &[usize],
+    next: &[u16],
+    n: usize,
+    key: usize,
+    top: usize,
+    x: usize,
+    sides: &mut [usize],
+)
+    requires { ⌜ Putting (now keys) (now next) n key top (now sides) ⌝ }
+    ensures { λ _. ⌜ Put (now (keys .entry)) n key x (now (sides .entry)) (now (sides .exit)) ⌝ }
+{
+    let mut j = top;
+    while 0 < j {
+        let i = j - 1;
+        sides[i] = x;
+        let start = wide(next[i]);
+        j = walk(keys, next, n, i, start, key);
+    }
+}
+
+// The lowest listed edge that no cell has; the number of edges where there is none. For row 7, each edge of each cell gets
+// one more than its place in the list, and keeps 0 where it is not listed.
+pub(crate) fn row_8(
+    cells: &[u16],
+    edges: &[u16],
+    keys: &[usize],
+    head: &[u16],
+    next: &[u16],
+    sides: &mut [usize],
+) -> usize
+    requires { ⌜ Findable (now cells) (now edges) (now keys) (now head) (now next) ⌝ }
+    requires { ⌜ now sides ≡ replicate (6 * mostCells) 0 ⌝ }
+    ensures { λ r. ⌜ r ≡ first (unused (now (cells .entry)) (now (edges .entry))) (length (now (edges .entry)) / 2) ⌝ }
+    ensures { λ _. ⌜ Table (listedAt (now (cells .entry)) (now (edges .entry)) (length (now (edges .entry)) / 2)) (6 * cellCount (now (cells .entry))) (now (sides .exit)) ⌝ }
+{
+    let n = 6 * (cells.len() / 4);
+    let m = edges.len() / 2;
+    let mut lowest = m;
+    let mut e = m;
+    while 0 < e {
+        e -= 1;
+        let key = edge_key(edges, e);
+        let top = latest(keys, head, next, n, key);
+        if top == 0 {
+            lowest = e;
+            continue;
+        }
+        put(keys, next, n, key, top, e + 1, sides);
+    }
+    lowest
+}
+
+// The lowest cell with an entry of 0 among its six; the number of cells where there is none.
+pub(crate) fn row_7(cells: &[u16], sides: &[usize]) -> usize
+    requires { ⌜ 6 * cellCount (now cells) ≤ length (now sides) ⌝ }
+    ensures { λ r. ⌜ r ≡ first (blankIn (now (sides .entry))) (cellCount (now (cells .entry))) ⌝ }
+{
+    let n = 6 * (cells.len() / 4);
+    let mut j = 0;
+    while j < n {
+        if sides[j] == 0 {
+            return j / 6;
+        }
+        j += 1;
+    }
+    n / 6
+}

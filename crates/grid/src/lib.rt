@@ -1,0 +1,176 @@
+// The grid check: cells, edges and counts of a grid.
+ghost use mathlib.Core.Path.{_≡_};
+ghost use Prim.Native.Nat.{_*_, _<_, _≤_};
+ghost use lib.ListN.{length};
+ghost use Rattle.grid.specs.Grid.{mostCells, cellCount};
+ghost use Rattle.grid.specs.Rows.{answerFrom, gridAnswer};
+ghost use Rattle.grid.specs.Check.{checkNumbers};
+ghost use Rattle.grid.specs.Work.{Table, listedAt, Edging, Linkable, capped, Blank, Worked, WhereAccepted};
+use keys::BUCKETS;
+
+mod cells;
+mod edges;
+mod keys;
+mod links;
+
+// The number of crossings, or the number and the place of a refusal.
+pub enum Checked {
+    Crossings(u32),
+    Refused(u8, usize),
+}
+
+fn size(x: u8) -> u32
+    ensures { λ r. ⌜ r ≡ x ⌝ }
+    ensures { λ r. ⌜ r < 256 ⌝ }
+{
+    x as u32
+}
+
+// The sum of the counts; 65,536 where it is more than 65,535.
+fn total(counts: &[u8]) -> u32
+    ensures { λ r. ⌜ r ≡ capped (now (counts .entry)) ⌝ }
+{
+    let mut s: u32 = 0;
+    let mut e = 0;
+    while e < counts.len() {
+        s += size(counts[e]);
+        if 65535 < s {
+            return 65536;
+        }
+        e += 1;
+    }
+    s
+}
+
+// Rows 9 and 10.
+fn last_rows(
+    cells: &[u16],
+    edges: &[u16],
+    counts: &[u8],
+    near: &[u16],
+    keys: &[usize],
+    head: &[u16],
+    next: &[u16],
+) -> Checked
+    requires { ⌜ Linkable (now cells) (now edges) (now near) (now keys) (now head) (now next) ⌝ }
+    requires { ⌜ length (now edges) ≡ 2 * length (now counts) ⌝ }
+    ensures { λ r. ⌜ checkNumbers r ≡ answerFrom 9 (now (cells .entry)) (now (edges .entry)) (now (counts .entry)) ⌝ }
+{
+    let p9 = links::row_9(cells, edges, near, keys, head, next);
+    if p9 < counts.len() {
+        return Checked::Refused(9, p9);
+    }
+    let s = total(counts);
+    if 65535 < s {
+        return Checked::Refused(10, 0);
+    }
+    Checked::Crossings(s)
+}
+
+// Rows 7 and 8, and those after them. Keeps 136 KB on the stack.
+fn side_rows(
+    cells: &[u16],
+    edges: &[u16],
+    counts: &[u8],
+    near: &[u16],
+    sides: &mut [usize],
+) -> Checked
+    requires { ⌜ Edging (now cells) (now edges) (now counts) (now near) (now sides) ⌝ }
+    ensures { λ r. ⌜ checkNumbers r ≡ answerFrom 7 (now (cells .entry)) (now (edges .entry)) (now (counts .entry)) ⌝ }
+    ensures { λ r. ⌜ WhereAccepted r (Table (listedAt (now (cells .entry)) (now (edges .entry)) (length (now (counts .entry)))) (6 * cellCount (now (cells .entry))) (now (sides .exit))) ⌝ }
+{
+    let n = cells.len() / 4;
+    let mut keys = [0usize; 12288];
+    let mut head = [0u16; BUCKETS];
+    let mut next = [0u16; 12288];
+    edges::side_keys(cells, &mut keys);
+    keys::chain(&keys, 6 * n, &mut head, &mut next);
+    let p8 = edges::row_8(cells, edges, &keys, &head, &next, sides);
+    let p7 = edges::row_7(cells, sides);
+    if p7 < n {
+        return Checked::Refused(7, p7);
+    }
+    if p8 < counts.len() {
+        return Checked::Refused(8, p8);
+    }
+    last_rows(cells, edges, counts, near, &keys, &head, &next)
+}
+
+// Row 6, and those after it.
+fn edge_rows(
+    cells: &[u16],
+    edges: &[u16],
+    counts: &[u8],
+    near: &[u16],
+    sides: &mut [usize],
+) -> Checked
+    requires { ⌜ Edging (now cells) (now edges) (now counts) (now near) (now sides) ⌝ }
+    ensures { λ r. ⌜ checkNumbers r ≡ answerFrom 6 (now (cells .entry)) (now (edges .entry)) (now (counts .entry)) ⌝ }
+    ensures { λ r. ⌜ WhereAccepted r (Table (listedAt (now (cells .entry)) (now (edges .entry)) (length (now (counts .entry)))) (6 * cellCount (now (cells .entry))) (now (sides .exit))) ⌝ }
+{
+    let p6 = edges::row_6(edges, counts);
+    if p6 < counts.len() {
+        return Checked::Refused(6, p6);
+    }
+    side_rows(cells, edges, counts, near, sides)
+}
+
+// Rows 3, 4 and 5, and those after them.
+fn cell_rows(
+    cells: &[u16],
+    edges: &[u16],
+    counts: &[u8],
+    near: &mut [u16],
+    sides: &mut [usize],
+) -> Checked
+    requires { ⌜ Blank (now near) (now sides) ⌝ }
+    requires { ⌜ cellCount (now cells) ≤ mostCells ⌝ }
+    requires { ⌜ length (now edges) ≡ 2 * length (now counts) ⌝ }
+    ensures { λ r. ⌜ checkNumbers r ≡ answerFrom 3 (now (cells .entry)) (now (edges .entry)) (now (counts .entry)) ⌝ }
+    ensures { λ r. ⌜ WhereAccepted r (Worked (now (cells .entry)) (now (edges .entry)) (now (counts .entry)) (now (near .exit)) (now (sides .exit))) ⌝ }
+{
+    let n = cells.len() / 4;
+    let p3 = cells::row_3(cells);
+    if p3 < n {
+        return Checked::Refused(3, p3);
+    }
+    let p4 = cells::row_4(cells);
+    if p4 < n {
+        return Checked::Refused(4, p4);
+    }
+    let p5 = cells::row_5(cells, near);
+    if p5 < n {
+        return Checked::Refused(5, p5);
+    }
+    edge_rows(cells, edges, counts, near, sides)
+}
+
+// All rows. Where the grid is accepted, near has the neighbours and sides the edges of the cells.
+fn all_rows(
+    cells: &[u16],
+    edges: &[u16],
+    counts: &[u8],
+    near: &mut [u16],
+    sides: &mut [usize],
+) -> Checked
+    requires { ⌜ Blank (now near) (now sides) ⌝ }
+    ensures { λ r. ⌜ checkNumbers r ≡ gridAnswer (now (cells .entry)) (now (edges .entry)) (now (counts .entry)) ⌝ }
+    ensures { λ r. ⌜ WhereAccepted r (Worked (now (cells .entry)) (now (edges .entry)) (now (counts .entry)) (now (near .exit)) (now (sides .exit))) ⌝ }
+{
+    if cells::row_1(cells) {
+        return Checked::Refused(1, 0);
+    }
+    if edges::row_2(edges, counts) {
+        return Checked::Refused(2, 0);
+    }
+    cell_rows(cells, edges, counts, near, sides)
+}
+
+// The grid check.
+pub fn check(cells: &[u16], edges: &[u16], counts: &[u8]) -> Checked
+    ensures { λ r. ⌜ checkNumbers r ≡ gridAnswer (now (cells .entry)) (now (edges .entry)) (now (counts .entry)) ⌝ }
+{
+    let mut near = [0u16; 8192];
+    let mut sides = [0usize; 12288];
+    all_rows(cells, edges, counts, &mut near, &mut sides)
+}
