@@ -1,7 +1,15 @@
 #!/usr/bin/env bash
-# Builds the proved calls as a static library and compares them with the second implementation in reference/.
+# Builds the proved calls as a static library, calls them from C, and compares them with the second implementation in reference/.
+# CITTERNBLAZE_SEED sets the seed of random input.
 set -euo pipefail
 cd "$(dirname "$0")/.."
 
 rt staticlib capi
-cargo test --quiet --release --manifest-path reference/Cargo.toml
+scripts/c_test.sh
+
+# an endless loop ends here, and not with the machine's memory
+ulimit -v 8000000
+within() { timeout --kill-after=10 "$@"; }
+within 600 cargo test --quiet --release --jobs 1 --manifest-path reference/Cargo.toml
+within 600 cargo test --quiet --release --jobs 1 --manifest-path reference/compare/Cargo.toml -- --nocapture --test-threads 1
+echo "compare: all calls as the second implementation has them"

@@ -1,0 +1,66 @@
+//! Areas lent to a call, with guards on both sides.
+
+/// How many guards stand on each side of an area.
+const GUARDS: usize = 4;
+
+/// More numbers than any answer has.
+const ANSWER_ROOM: usize = 16;
+
+/// An area whose values and guards are known, so that every write is seen.
+pub struct Lent<T> {
+    values: Vec<T>,
+}
+
+impl<T: Copy + PartialEq> Lent<T> {
+    /// An area of these values; `guard` stands before and behind it.
+    pub fn new(area: &[T], guard: T) -> Lent<T> {
+        let mut values = vec![guard; GUARDS];
+        values.extend_from_slice(area);
+        values.extend([guard; GUARDS]);
+        Lent { values }
+    }
+
+    pub fn area(&mut self) -> &mut [T] {
+        let end = self.values.len() - GUARDS;
+        &mut self.values[GUARDS..end]
+    }
+
+    /// Whether the area and its guards are those that `new` makes of this.
+    pub fn is(&self, area: &[T], guard: T) -> bool {
+        self.values == Lent::new(area, guard).values
+    }
+}
+
+/// The number at `place` of an answer area before a call, unlike any answer.
+fn filler(place: usize) -> u64 {
+    0xa5a5_0000_ffff_0000 + place as u64
+}
+
+/// An answer area of this length before a call.
+fn untouched(len: usize) -> Vec<u64> {
+    (0..len).map(filler).collect()
+}
+
+/// Makes a call on an answer area of this length. The call must return how many
+/// numbers it has to answer, put all of them at the front if they fit and none
+/// if they don't, and write nothing else.
+fn answers_in(len: usize, numbers: &[u64], call: &mut impl FnMut(&mut [u64]) -> usize) -> bool {
+    let mut expected = untouched(len);
+    if numbers.len() <= len {
+        expected[..numbers.len()].copy_from_slice(numbers);
+    }
+    let guard = filler(ANSWER_ROOM);
+    let mut lent = Lent::new(&untouched(len), guard);
+    call(lent.area()) == numbers.len() && lent.is(&expected, guard)
+}
+
+/// Whether a call answers these numbers, in a wide area.
+pub fn answers(numbers: &[u64], mut call: impl FnMut(&mut [u64]) -> usize) -> bool {
+    answers_in(ANSWER_ROOM, numbers, &mut call)
+}
+
+/// Whether a call answers these numbers in an area of every length up to one
+/// that is too long by one.
+pub fn answers_in_all(numbers: &[u64], mut call: impl FnMut(&mut [u64]) -> usize) -> bool {
+    (0..=numbers.len() + 1).all(|len| answers_in(len, numbers, &mut call))
+}
