@@ -3,14 +3,16 @@
 # target/staticlib/libcapi.a (`rt staticlib capi`).
 set -euo pipefail
 cd "$(dirname "$0")/.."
+library=target/staticlib/libcapi.a
 
 mkdir -p target/c
-cc -std=c99 -Wall -Wextra -Wpedantic -Werror -O2 -Iinclude -o target/c/capi_test tests/c/capi_test.c target/staticlib/libcapi.a
+cc -std=c99 -Wall -Wextra -Wpedantic -Werror -O2 -Iinclude -o target/c/capi_test tests/c/capi_test.c "$library"
 timeout 60 target/c/capi_test >target/c/capi_test.out
 diff tests/c/capi_test.out target/c/capi_test.out
-echo "C program: as expected"
 
-# a function of the header that the program does not call would be tested by nothing
-for function in $(grep -o 'citternblaze_[a-z_]*(' include/citternblaze.h | tr -d '(' | sort -u); do
-  grep -q "$function(" tests/c/capi_test.c || { echo "$function: declared and not called" >&2; exit 1; }
-done
+# the library's functions, those declared and those called are the same, so that none is left untested
+names() { grep -oE 'citternblaze_[a-z_]+\(' "$1" | tr -d '(' | sort -u; }
+diff <(nm -g --defined-only "$library" | awk '$2 == "T" { print $3 }' | sort) <(names include/citternblaze.h)
+diff <(names include/citternblaze.h) <(names tests/c/capi_test.c)
+
+echo "C program: as expected, $(names include/citternblaze.h | wc -l) functions called"

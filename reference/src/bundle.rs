@@ -25,8 +25,9 @@ pub struct Sizes {
 
 /// Kind of the record at `start`, and where the next one starts.
 pub fn record(bytes: &[u8], start: usize) -> Result<(u16, usize), Refusal> {
-    let Some(rest) = bytes.get(start..) else {
-        return refuse(13, bytes.len());
+    let rest = match bytes.get(start..) {
+        Some(rest) => rest,
+        None => return refuse(13, bytes.len()),
     };
     let size = match rest {
         [low, high, kind_low, kind_high, ..] => {
@@ -87,7 +88,7 @@ pub fn write(
     counts: &[u8],
     area: &mut [u8],
 ) -> Result<usize, Refusal> {
-    if !cells.len().is_multiple_of(4) || edges.len() != 2 * counts.len() {
+    if cells.len() % 4 != 0 || edges.len() != 2 * counts.len() {
         return refuse(13, 0);
     }
     let edges_at = cells.len() / 4 * CELL_BYTES;

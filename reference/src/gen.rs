@@ -474,7 +474,7 @@ fn flood(grid: &mut Sample) -> Option<()> {
     let mut fresh = fresh_nodes(&mut Rng::new(0), grid);
     fresh.sort_unstable();
     let mut cells = grid.cell_list();
-    let missing = (258_usize.saturating_sub(grid.counts.len())).div_ceil(6);
+    let missing = (258_usize.saturating_sub(grid.counts.len()) + 5) / 6;
     if cells.len() + missing > MAX_CELLS || fresh.len() < 4 * missing {
         return None;
     }

@@ -175,8 +175,9 @@ impl GridTables {
             let nodes = lists.cell(cell);
             let mut numbers = [0; 6];
             for (position, [low, high]) in EDGE_ENDS.into_iter().enumerate() {
-                let Some(edge) = self.find_edge(nodes[low], nodes[high]) else {
-                    return refuse(7, cell);
+                let edge = match self.find_edge(nodes[low], nodes[high]) {
+                    Some(edge) => edge,
+                    None => return refuse(7, cell),
                 };
                 numbers[position] = edge;
                 let star = &mut self.stars[edge as usize];
@@ -255,7 +256,7 @@ impl GridTables {
 
 /// Rows 1 and 2.
 fn check_lengths(lists: &Lists) -> Result<(), Refusal> {
-    let whole = lists.cells.len().is_multiple_of(4);
+    let whole = lists.cells.len() % 4 == 0;
     if !whole || lists.cells.is_empty() || lists.cell_count() > MAX_CELLS {
         return refuse(1, 0);
     }

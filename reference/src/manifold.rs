@@ -124,8 +124,9 @@ impl Pieces {
     /// Whether stepping round the point meets each of its triangles once and
     /// comes back over the side that was not left by.
     fn one_ring(&self, point: PointKey) -> bool {
-        let Some(around) = self.by_point.get(&point) else {
-            return false;
+        let around = match self.by_point.get(&point) {
+            Some(around) => around,
+            None => return false,
         };
         let first = around[0];
         let [mut side, last_side] = self.sides_at(first, point);
@@ -229,7 +230,7 @@ pub fn should_close(cells: &[u16], edges: &[u16], counts: &[u8]) -> bool {
     let faces = Faces::new(cells, edges, counts);
     faces.named.keys().all(|name| {
         let sum: u32 = faces.counts(*name).iter().sum();
-        sum.is_multiple_of(2) && (sum == 0 || !faces.single.contains(name))
+        sum % 2 == 0 && (sum == 0 || !faces.single.contains(name))
     })
 }
 
@@ -243,20 +244,17 @@ pub fn alternates(counts: [u32; 3]) -> bool {
     let mut begun = Vec::new();
     let mut ended = BTreeSet::new();
     for (edge, index) in rim {
-        let Join::Joined {
-            edge: other,
-            index: there,
-        } = join(counts, edge, index)
-        else {
-            continue;
+        let partner = match join(counts, edge, index) {
+            Join::Joined { edge, index } => (edge, index),
+            Join::Unjoined | Join::NoCrossing => continue,
         };
         if ended.contains(&(edge, index)) {
-            if begun.pop() != Some((other, there)) {
+            if begun.pop() != Some(partner) {
                 return true;
             }
         } else {
             begun.push((edge, index));
-            ended.insert((other, there));
+            ended.insert(partner);
         }
     }
     false

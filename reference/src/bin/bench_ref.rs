@@ -1,7 +1,6 @@
 //! Times the reference's mesh call and grid check; each figure is the best of
 //! several runs.
 
-use std::hint::black_box;
 use std::time::{Duration, Instant};
 
 use reference::cell::TRIANGLE_WORDS;
@@ -41,8 +40,8 @@ fn bench_mesh(name: &str, grid: &Sample) {
     };
     let mut area = vec![0; needed as usize * TRIANGLE_WORDS];
     let time = best(|| {
-        let answer = mesher.mesh(black_box(cells), edges, counts, &mut area);
-        assert_eq!(black_box(answer), Ok(needed as u32));
+        let answer = mesher.mesh(cells, edges, counts, &mut area);
+        assert_eq!(answer, Ok(needed as u32));
     });
     let crossings: u32 = counts.iter().map(|&count| u32::from(count)).sum();
     println!(
@@ -63,8 +62,8 @@ fn bench_check(name: &str, grid: &Sample) {
         counts: &grid.counts,
     };
     let time = best(|| {
-        let answer = tables.check(black_box(&lists));
-        assert!(black_box(answer).is_ok());
+        let answer = tables.check(&lists);
+        assert!(answer.is_ok());
     });
     println!(
         "{name}: {} cells, {} edges, {:.1} us a call",
