@@ -9,4 +9,5 @@ pub mod Crossings
 pub mod Answers
 pub mod Claims
 pub mod Accepts
+pub mod Filled
 pub mod Examples

@@ -276,3 +276,20 @@ pub record Edging (cells edges counts near sides : List ℕ) : Type 0 where
   pub pairs : length edges ≡ 2 * length counts
   pub near-is : Near cells near
   pub sides-is : sides ≡ replicate (6 * mostCells) 0
+
+-- TABLES: what the writers of the lent tables start from
+
+-- the lower of j and of the number that x is one more than; j where x is 0
+abbrev pub lowerOf : ℕ → ℕ → ℕ
+lowerOf j x = pick (eqb x 0) j (pick (ltb (x - 1) j) (x - 1) j)
+
+pub record Copying (n : ℕ) (across table : List ℕ) : Type 0 where
+  pub few : n ≤ 4 * mostCells
+  pub across-room : n ≤ length across
+  pub room : n ≤ length table
+
+pub record Lowering (n : ℕ) (listed table : List ℕ) : Type 0 where
+  pub few : n ≤ 6 * mostCells
+  pub listed-room : n ≤ length listed
+  pub room : n ≤ length table
+  pub entries : (j : ℕ) → j < n → (1 ≤ getD listed j 0) × (getD listed j 0 ≤ 65536)

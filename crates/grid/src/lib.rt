@@ -5,6 +5,7 @@ ghost use lib.ListN.{length};
 ghost use Rattle.grid.specs.Grid.{mostCells, cellCount};
 ghost use Rattle.grid.specs.Rows.{answerFrom, gridAnswer};
 ghost use Rattle.grid.specs.Check.{checkNumbers};
+ghost use Rattle.grid.specs.Tables.{Opened};
 ghost use Rattle.grid.specs.Work.{Table, listedAt, Edging, Linkable, capped, Blank, Worked, WhereAccepted};
 use keys::BUCKETS;
 
@@ -12,6 +13,7 @@ mod cells;
 mod edges;
 mod keys;
 mod links;
+mod tables;
 
 // The number of crossings, or the number and the place of a refusal.
 pub enum Checked {
@@ -19,7 +21,7 @@ pub enum Checked {
     Refused(u8, usize),
 }
 
-fn size(x: u8) -> u32
+pub(crate) fn size(x: u8) -> u32
     ensures { λ r. ⌜ r ≡ x ⌝ }
     ensures { λ r. ⌜ r < 256 ⌝ }
 {
@@ -173,4 +175,24 @@ pub fn check(cells: &[u16], edges: &[u16], counts: &[u8]) -> Checked
     let mut near = [0u16; 8192];
     let mut sides = [0usize; 12288];
     all_rows(cells, edges, counts, &mut near, &mut sides)
+}
+
+// The grid check, and where it accepts, the tables of the grid: the name of face 4 c + s of the cells, one more than the face across it or 0,
+// the place in the list of edge k of cell c at 6 c + k, and the start of each edge. Keeps as much on the stack as `check`.
+pub fn open(cells: &[u16], edges: &[u16], counts: &[u8], names: &mut [u16; 8192], near: &mut [u16; 8192], sides: &mut [u16; 12288], starts: &mut [u32; 12288]) -> Checked
+    ensures { λ r. ⌜ checkNumbers r ≡ gridAnswer (now (cells .entry)) (now (edges .entry)) (now (counts .entry)) ⌝ }
+    ensures { λ _. ⌜ Opened (now (cells .entry)) (now (edges .entry)) (now (counts .entry)) (now (names .entry)) (now (near .entry)) (now (sides .entry)) (now (starts .entry)) (now (names .exit)) (now (near .exit)) (now (sides .exit)) (now (starts .exit)) ⌝ }
+{
+    let n = cells.len() / 4;
+    let mut across = [0u16; 8192];
+    let mut listed = [0usize; 12288];
+    let r = all_rows(cells, edges, counts, &mut across, &mut listed);
+    if let Checked::Refused(_, _) = r {
+        return r;
+    }
+    tables::write_names(4 * n, &across, names);
+    tables::write_near(4 * n, &across, near);
+    tables::write_sides(6 * n, &listed, sides);
+    tables::write_starts(counts, starts);
+    r
 }

@@ -1,0 +1,237 @@
+-- Laws of lists filled from the front, and of the tables of an accepted grid.
+use Prim.Native.Nat.{ℕ, zero, suc, _%_, _*_, _+_, _-_, _/_, _<_, _≤_}
+use mathlib.Core.Path.{_∙_, _≡_, ap, refl, subst, sym}
+use mathlib.Core.Logic.{_≢_, _⊎_, inl, inr, ⊎-elim}
+use mathlib.Core.Bool.{Bool, _&&_, false, not, true}
+use mathlib.Core.List.{List, [], _∷_}
+use native.Mathlib.Nat.{eq-zero-or-pos, not-suc-le-zero}
+use native.Mathlib.Numerals.{add-one}
+use native.Mathlib.Omega.{arith}
+use lib.Dec.{eqb, ltb}
+use lib.ListN.{getD, length, length-set, set}
+use lib.Seq.{getD-set-other, getD-set-same}
+use borrow.Author.Tests.{eq-eqb, eqb-false, eqb-true, le-ltb, lt-ltb, ltb-false, ltb-true, ne-eqb, not-true}
+use Rattle.counting.specs.Pick.{pick}
+use Rattle.counting.specs.Search.{first}
+use Rattle.counting.proofs.Bools.{and-left, and-right, and-true, not-clash}
+use Rattle.counting.proofs.Search.{below-or, first-at, last-at, last-not}
+use Rattle.answer.specs.Answer.{refusal, result}
+use Rattle.grid.specs.Accepted.{Accepted}
+use Rattle.grid.specs.Check.{checkNumbers}
+use Rattle.grid.specs.Claims.{Refusal}
+use Rattle.grid.specs.Grid.{cellCount, crossings, edgeNumber, faceName, isEdge, neighbour, sameFace, start}
+use Rattle.grid.specs.Rows.{gridAnswer}
+use Rattle.grid.specs.Tables.{Opened, accepts, acrossAt, filled, nameAt, sideAt}
+use Rattle.grid.specs.Work.{Copying, Lowering, Near, Ordered, WhereAccepted, Worked, listedAt, lowerOf}
+use Rattle.grid.specs.declared.Checked.{Checked}
+use Rattle.grid.specs.declared.Checked.the-variants.{Crossings, Refused}
+use Rattle.grid.proofs.Accepts.{acceptance-yields, ordered}
+use Rattle.grid.proofs.Claims.{accepts-or-refuses, clear-where, refuses-fault}
+use Rattle.grid.proofs.Packed.{one-slot, true-same}
+
+pub filled-none : (f : ℕ → ℕ) (l : List ℕ) → l ≡ filled f 0 l
+unfolding filled
+filled-none f l = refl
+
+pub filled-more : (f : ℕ → ℕ) (n : ℕ) (l m : List ℕ) (x : ℕ) → m ≡ filled f n l → x ≡ f n → set m n x ≡ filled f (n + 1) l
+unfolding filled
+filled-more f n l m x e q = rw (add-one, e, q)
+
+pub length-filled : (f : ℕ → ℕ) (n : ℕ) (l : List ℕ) → length (filled f n l) ≡ length l
+unfolding filled
+length-filled f zero l = refl
+length-filled f (suc n) l = length-set (filled f n l) n (f n) ∙ length-filled f n l
+
+pub filled-ext : (f g : ℕ → ℕ) (n : ℕ) (l : List ℕ) → ((i : ℕ) → i < n → f i ≡ g i) → filled f n l ≡ filled g n l
+unfolding filled
+filled-ext f g zero l h = refl
+filled-ext f g (suc n) l h = rw (h n (omega arith), filled-ext f g n l (λ i k. h i (omega arith)))
+
+-- the entries
+pub filled-at : (f : ℕ → ℕ) (n : ℕ) (l : List ℕ) → n ≤ length l → (i : ℕ) → i < n → getD (filled f n l) i 0 ≡ f i
+unfolding filled
+filled-at f zero l r i h = absurd (not-suc-le-zero h)
+filled-at f (suc n) l r i h =
+    ⊎-elim (λ (q : i ≡ n). rw q (getD-set-same (filled f n l) n (f n) 0 (omega (arith, length-filled f n l))))
+    (λ (k : i < n). getD-set-other (filled f n l) n i (f n) 0 (λ q. omega arith) ∙ filled-at f n l (omega arith) i k) (below-or i n h)
+
+pub filled-beyond : (f : ℕ → ℕ) (n : ℕ) (l : List ℕ) (i : ℕ) → n ≤ i → getD (filled f n l) i 0 ≡ getD l i 0
+unfolding filled
+filled-beyond f zero l i h = refl
+filled-beyond f (suc n) l i h = getD-set-other (filled f n l) n i (f n) 0 (λ q. omega arith) ∙ filled-beyond f n l i (omega arith)
+
+-- the lower of two places
+pub lower-none : (j x : ℕ) → x ≡ 0 → j ≡ lowerOf j x
+lower-none j x e = rw (eq-eqb x 0 e)
+
+pub lower-other : (j x : ℕ) → (x ≡ 0 → ⊥) → x - 1 < j → x - 1 ≡ lowerOf j x
+lower-other j x n l = rw (ne-eqb x 0 n, lt-ltb (x - 1) j l)
+
+pub lower-own : (j x : ℕ) → (x ≡ 0 → ⊥) → j ≤ x - 1 → j ≡ lowerOf j x
+lower-own j x n l = rw (ne-eqb x 0 n, le-ltb (x - 1) j l)
+
+module _ (cells near : List ℕ) (good : Ordered cells) (N : Near cells near) (j : ℕ) (h : j < 4 * cellCount cells) where
+  c : ℕ
+  c = j / 4
+
+  s : ℕ
+  s = j % 4
+
+  whole : 4 * (j / 4) + j % 4 ≡ j
+  whole = omega arith
+
+  -- whatever is the same face is the slot itself or the one across
+  only : (m : ℕ) → m < 4 * cellCount cells → sameFace cells (m / 4) (m % 4) (j / 4) (j % 4) ≡ true → (m ≡ j) ⊎ ((m / 4 ≢ j / 4) × (getD near j 0 ≡ m + 1))
+  only m l e = go (eqb (m / 4) (j / 4)) refl
+    where
+      go : (b : Bool) → eqb (m / 4) (j / 4) ≡ b → (m ≡ j) ⊎ ((m / 4 ≢ j / 4) × (getD near j 0 ≡ m + 1))
+      go true q =
+          let f = eqb-true (m / 4) (j / 4) q in
+          let g = one-slot cells good (j / 4) (m % 4) (j % 4) (omega arith) (omega arith) (omega arith) (rw f at e) in
+          inl (omega arith)
+      go false q =
+          let f = eqb-false (m / 4) (j / 4) q in
+          let k : 4 * (m / 4) + m % 4 ≡ m = omega arith in
+          inr (f, rw (whole, k) at (N .all (m / 4) (m % 4) (j / 4) (j % 4) (omega arith) (omega arith) (omega arith) (omega arith) f e))
+
+  other-passes : ℕ → Bool
+  other-passes m = not (eqb (m / 4) (j / 4)) && sameFace cells (m / 4) (m % 4) (j / 4) (j % 4)
+
+  other-is : (m : ℕ) → m < 4 * cellCount cells → other-passes m ≡ true → getD near j 0 ≡ m + 1
+  unfolding other-passes
+  other-is m l e =
+      let a = not-true (eqb (m / 4) (j / 4)) (and-left (not (eqb (m / 4) (j / 4))) (sameFace cells (m / 4) (m % 4) (j / 4) (j % 4)) e) in
+      let b = and-right (not (eqb (m / 4) (j / 4))) (sameFace cells (m / 4) (m % 4) (j / 4) (j % 4)) e in
+      ⊎-elim (λ (q : m ≡ j). absurd (eqb-false (m / 4) (j / 4) a (ap (λ (x : ℕ). x / 4) q))) (λ (q : (m / 4 ≢ j / 4) × (getD near j 0 ≡ m + 1)). q .1) (only m l b)
+
+  pub near-is-neighbour : getD near j 0 ≡ neighbour cells (j / 4) (j % 4)
+  unfolding neighbour other-passes
+  near-is-neighbour =
+      ⊎-elim
+      (λ (z : getD near j 0 ≡ 0). z ∙ sym (last-not other-passes (4 * cellCount cells)
+      (λ m l. not-clash (other-passes m) (λ e. omega (arith, other-is m l e)))))
+      (λ (p : 0 < getD near j 0).
+      let g = N .pair j h p in
+      let x = getD near j 0 - 1 in
+      let u : x + 1 ≡ getD near j 0 = omega arith in
+      sym (last-at other-passes (4 * cellCount cells) x (omega (arith, g .lt))
+      (and-true (not (eqb (x / 4) (j / 4))) (sameFace cells (x / 4) (x % 4) (j / 4) (j % 4)) (rw (ne-eqb (x / 4) (j / 4) (g .other))) (g .same))
+      (λ m a b. not-clash (other-passes m) (λ e. omega (arith, other-is m b e))) ∙ u))
+      (eq-zero-or-pos (getD near j 0))
+
+  passes : ℕ → Bool
+  passes m = sameFace cells (m / 4) (m % 4) (j / 4) (j % 4)
+
+  itself : passes j ≡ true
+  unfolding passes
+  itself = true-same cells (j / 4) (j % 4) (j / 4) (j % 4) (λ i l. refl)
+
+  pub name-is-lower : lowerOf j (getD near j 0) ≡ faceName cells (j / 4) (j % 4)
+  unfolding faceName passes
+  name-is-lower =
+      ⊎-elim
+      (λ (z : getD near j 0 ≡ 0). sym (lower-none j (getD near j 0) z) ∙ sym (first-at passes (4 * cellCount cells) j h itself
+      (λ m l. not-clash (passes m) (λ e. alone m l z e))))
+      (λ (p : 0 < getD near j 0).
+      let g = N .pair j h p in
+      let x = getD near j 0 - 1 in
+      ⊎-elim
+      (λ (l : x < j). sym (lower-other j (getD near j 0) (λ q. omega arith) l) ∙ sym (first-at passes (4 * cellCount cells) x (omega (arith, g .lt)) (g .same)
+      (λ m k. not-clash (passes m) (λ e. below m (omega arith) (omega arith) e))))
+      (λ (l : j ≤ x). sym (lower-own j (getD near j 0) (λ q. omega arith) l) ∙ sym (first-at passes (4 * cellCount cells) j h itself
+      (λ m k. not-clash (passes m) (λ e. below m (omega arith) (omega arith) e))))
+      (lt-or-ge x j))
+      (eq-zero-or-pos (getD near j 0))
+    where
+      alone : (m : ℕ) → m < j → getD near j 0 ≡ 0 → passes m ≡ true → ⊥
+      alone m l z e = ⊎-elim (λ (q : m ≡ j). omega arith) (λ (q : (m / 4 ≢ j / 4) × (getD near j 0 ≡ m + 1)). omega (arith, q .1)) (only m (omega arith) e)
+
+      below : (m : ℕ) → m < j → m + 1 < getD near j 0 → passes m ≡ true → ⊥
+      below m l k e = ⊎-elim (λ (q : m ≡ j). omega arith) (λ (q : (m / 4 ≢ j / 4) × (getD near j 0 ≡ m + 1)). omega (arith, q .1)) (only m (omega arith) e)
+
+      lt-or-ge : (a b : ℕ) → (a < b) ⊎ (b ≤ a)
+      lt-or-ge a b = go (ltb a b) refl
+        where
+          go : (x : Bool) → ltb a b ≡ x → (a < b) ⊎ (b ≤ a)
+          go true e = inl (ltb-true a b e)
+          go false e = inr (ltb-false a b e)
+
+-- the place of a listed edge
+pub listed-side : (cells edges counts : List ℕ) → Accepted cells edges counts → (j : ℕ) → j < 6 * cellCount cells
+    → listedAt cells edges (length counts) j ≡ suc (sideAt cells edges counts j)
+unfolding listedAt edgeNumber
+listed-side cells edges counts A j h =
+    rw (lt-ltb (first (isEdge cells edges (j / 6) (j % 6)) (length counts)) (length counts) (A .listed (j / 6) (j % 6) (omega arith) (omega arith)))
+
+module _ (cells edges counts : List ℕ) where
+  -- a refusal's number is not 0
+  pub refused-keeps : (row place : ℕ) → checkNumbers (Refused row place) ≡ gridAnswer cells edges counts → accepts cells edges counts ≡ false
+  refused-keeps row place e = go (eqb row 0) refl e
+    where
+      never : [] ≡ gridAnswer cells edges counts → ⊥
+      never q =
+          ⊎-elim (λ (r : gridAnswer cells edges counts ≡ result (crossings counts ∷ [])). (let z : _≡_ {A = ℕ} 0 1 = cc in omega arith))
+          (λ (w : (n : ℕ) × (p : ℕ) × Refusal cells edges counts n p).
+          let r = refuses-fault cells edges counts (w .0) (w .1) (w .2) in let z : _≡_ {A = ℕ} 0 1 = cc in omega arith)
+          (accepts-or-refuses cells edges counts)
+
+      go : (b : Bool) → eqb row 0 ≡ b → pick b [] (refusal row place) ≡ gridAnswer cells edges counts → accepts cells edges counts ≡ false
+      go true q f = absurd (never f)
+      go false q f = rw (← f) q
+
+  pub crossings-accept : (n : ℕ) → checkNumbers (Crossings n) ≡ gridAnswer cells edges counts → accepts cells edges counts ≡ true
+  crossings-accept n e = rw (← e)
+
+  pub opened-kept : accepts cells edges counts ≡ false → (names near sides starts : List ℕ) → Opened cells edges counts names near sides starts names near sides starts
+  opened-kept e names near sides starts = record { names-are = rw e; near-are = rw e; sides-are = rw e; starts-are = rw e }
+
+  -- what the check leaves is what the writers take
+  module _ (across listed : List ℕ) (A : Accepted cells edges counts) (W : Worked cells edges counts across listed) where
+    pub lowering : (table : List ℕ) → 6 * cellCount cells ≤ length table → Lowering (6 * cellCount cells) listed table
+    lowering table room =
+        record {
+          few = omega (arith, A .few-cells);
+          listed-room = W .sided .room;
+          room = room;
+          entries = λ j h. (
+            let e = W .sided .at j h ∙ listed-side cells edges counts A j h in
+            let l = A .listed (j / 6) (j % 6) (omega arith) (omega arith) in
+            (omega (arith, e), omega (arith, e, l, A .few-edges, A .few-cells)));
+        }
+
+    pub copying : (table : List ℕ) → 4 * cellCount cells ≤ length table → Copying (4 * cellCount cells) across table
+    copying table room = record { few = omega (arith, A .few-cells); across-room = W .near-is .room; room = room }
+
+    pub opened-filled : accepts cells edges counts ≡ true → Ordered cells → (names₀ near₀ sides₀ starts₀ names near sides starts : List ℕ)
+        → names ≡ filled (λ j. lowerOf j (getD across j 0)) (4 * cellCount cells) names₀
+        → near ≡ filled (λ j. getD across j 0) (4 * cellCount cells) near₀
+        → sides ≡ filled (λ j. getD listed j 0 - 1) (6 * cellCount cells) sides₀
+        → starts ≡ filled (start counts) (length counts) starts₀
+        → Opened cells edges counts names₀ near₀ sides₀ starts₀ names near sides starts
+    opened-filled e good names₀ near₀ sides₀ starts₀ names near sides starts p q r t =
+        record {
+          names-are = rw e (p ∙ filled-ext (λ j. lowerOf j (getD across j 0)) (nameAt cells) (4 * cellCount cells) names₀
+              (λ j h. name-is-lower cells across good (W .near-is) j h));
+          near-are = rw e (q ∙ filled-ext (λ j. getD across j 0) (acrossAt cells) (4 * cellCount cells) near₀
+              (λ j h. near-is-neighbour cells across good (W .near-is) j h));
+          sides-are = rw e (r ∙ filled-ext (λ j. getD listed j 0 - 1) (sideAt cells edges counts) (6 * cellCount cells) sides₀
+              (λ j h. omega (arith, W .sided .at j h ∙ listed-side cells edges counts A j h)));
+          starts-are = rw e t;
+        }
+
+  -- an answer that is known to be a result
+  module _ (r : Checked) (n : ℕ) (e : r ≡ Crossings n) (h : checkNumbers r ≡ gridAnswer cells edges counts) where
+    is-result : gridAnswer cells edges counts ≡ result (n ∷ [])
+    is-result = sym h ∙ ap checkNumbers e
+
+    pub told-accepted : Accepted cells edges counts
+    told-accepted = acceptance-yields cells edges counts (n ∷ []) is-result
+
+    pub told-ordered : Ordered cells
+    told-ordered = ordered cells edges counts (clear-where cells edges counts (n ∷ []) is-result)
+
+    pub told-accepts : accepts cells edges counts ≡ true
+    told-accepts = crossings-accept n (sym is-result)
+
+pub told-where : {T : Type 0} (r : Checked) (n : ℕ) → r ≡ Crossings n → WhereAccepted r T → T
+told-where {T} r n e w = subst (λ r. WhereAccepted r T) e w

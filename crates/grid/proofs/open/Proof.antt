@@ -1,0 +1,111 @@
+use mathlib.Core.Path.{_∙_, ap, refl, sym}
+use native.Mathlib.Omega.{arith}
+use borrow.Author.Needs.{needs}
+use Rattle.grid.specs.Check.{checkNumbers}
+use Rattle.grid.proofs.Filled.{copying, lowering, opened-filled, opened-kept, refused-keeps, told-accepted, told-accepts, told-ordered, told-where}
+use Rattle.grid.proofs.open.Statement.{statement}
+use Rattle.grid.proofs.open.Tie as tie
+
+slice-aggregate-all-rows : tie.Need-slice-aggregate-all-rows
+slice-aggregate-all-rows c = search needs
+
+slice-aggregate-all-rows-2 : tie.Need-slice-aggregate-all-rows-2
+slice-aggregate-all-rows-2 c = search needs
+
+all-rows-requires : tie.Need-all-rows-requires
+all-rows-requires c κs = record { near-is = refl; sides-is = refl }
+
+enum-told : tie.Need-enum-told
+enum-told c = search needs
+
+returns : tie.Need-returns
+returns c = 
+    let a = c .before .before .before .before .before .before .before .before .before .before .args in
+    let w = c .enum-told .given in
+    let h = c .before .before .before .before .all-rows .ensures .0 in
+    (h, opened-kept (a .cells .now) (a .edges .now) (a .counts .now) (refused-keeps _ _ _ (w .0 .0) (w .0 .1 .0) (ap checkNumbers (sym (w .1)) ∙ h)) _ _ _ _)
+
+enum-told-2 : tie.Need-enum-told-2
+enum-told-2 c = search needs
+
+mul-write-names : tie.Need-mul-write-names
+mul-write-names c = search needs
+
+slice-aggregate-write-names : tie.Need-slice-aggregate-write-names
+slice-aggregate-write-names c = search needs
+
+write-names-requires : tie.Need-write-names-requires
+write-names-requires c κs = 
+    let a = c .before .before .before .before .before .before .before .before .before .before .before .before .args in
+    let w = c .before .before .enum-told2 .given in
+    let A = told-accepted (a .cells .now) (a .edges .now) (a .counts .now) (c .before .before .before .before .before .before .all-rows .result) _ (w .1) (c .before .before .before .before .before .before .all-rows .ensures .0) in
+    let W = told-where (c .before .before .before .before .before .before .all-rows .result) _ (w .1) (c .before .before .before .before .before .before .all-rows .ensures .1) in
+    copying (a .cells .now) (a .edges .now) (a .counts .now) _ _ A W _ (omega (arith, A .few-cells, c .before .before .before .before .before .before .before .before .before .before .before .before .good))
+
+mul-write-near : tie.Need-mul-write-near
+mul-write-near c = search needs
+
+slice-aggregate-write-near : tie.Need-slice-aggregate-write-near
+slice-aggregate-write-near c = search needs
+
+write-near-requires : tie.Need-write-near-requires
+write-near-requires c κs = 
+    let a = c .before .before .before .before .before .before .before .before .before .before .before .before .before .before .before .args in
+    let w = c .before .before .before .before .before .enum-told2 .given in
+    let A = told-accepted (a .cells .now) (a .edges .now) (a .counts .now) (c .before .before .before .before .before .before .before .before .before .all-rows .result) _ (w .1) (c .before .before .before .before .before .before .before .before .before .all-rows .ensures .0) in
+    let W = told-where (c .before .before .before .before .before .before .before .before .before .all-rows .result) _ (w .1) (c .before .before .before .before .before .before .before .before .before .all-rows .ensures .1) in
+    copying (a .cells .now) (a .edges .now) (a .counts .now) _ _ A W _ (omega (arith, A .few-cells, c .before .before .before .before .before .before .before .before .before .before .before .before .before .before .before .good))
+
+mul-write-sides : tie.Need-mul-write-sides
+mul-write-sides c = search needs
+
+slice-aggregate-write-sides : tie.Need-slice-aggregate-write-sides
+slice-aggregate-write-sides c = search needs
+
+write-sides-requires : tie.Need-write-sides-requires
+write-sides-requires c κs = 
+    let a = c .before .before .before .before .before .before .before .before .before .before .before .before .before .before .before .before .before .before .args in
+    let w = c .before .before .before .before .before .before .before .before .enum-told2 .given in
+    let A = told-accepted (a .cells .now) (a .edges .now) (a .counts .now) (c .before .before .before .before .before .before .before .before .before .before .before .before .all-rows .result) _ (w .1) (c .before .before .before .before .before .before .before .before .before .before .before .before .all-rows .ensures .0) in
+    let W = told-where (c .before .before .before .before .before .before .before .before .before .before .before .before .all-rows .result) _ (w .1) (c .before .before .before .before .before .before .before .before .before .before .before .before .all-rows .ensures .1) in
+    lowering (a .cells .now) (a .edges .now) (a .counts .now) _ _ A W _ (omega (arith, A .few-cells, c .before .before .before .before .before .before .before .before .before .before .before .before .before .before .before .before .before .before .good))
+
+write-starts-requires : tie.Need-write-starts-requires
+write-starts-requires c κs = 
+    let a = c .before .before .before .before .before .before .before .before .before .before .before .before .before .before .before .before .before .before .before .before .args in
+    let w = c .before .before .before .before .before .before .before .before .before .before .enum-told2 .given in
+    let A = told-accepted (a .cells .now) (a .edges .now) (a .counts .now) (c .before .before .before .before .before .before .before .before .before .before .before .before .before .before .all-rows .result) _ (w .1) (c .before .before .before .before .before .before .before .before .before .before .before .before .before .before .all-rows .ensures .0) in
+    (omega (arith, A .few-cells, A .few-edges, c .before .before .before .before .before .before .before .before .before .before .before .before .before .before .before .before .before .before .before .before .good), A .few-crossings)
+
+returns-2 : tie.Need-returns-2
+returns-2 c = 
+    let a = c .before .before .before .before .before .before .before .before .before .before .before .before .before .before .before .before .before .before .before .before .before .args in
+    let w = c .before .before .before .before .before .before .before .before .before .before .before .enum-told2 .given in
+    let h = c .before .before .before .before .before .before .before .before .before .before .before .before .before .before .before .all-rows .ensures .0 in
+    let r = c .before .before .before .before .before .before .before .before .before .before .before .before .before .before .before .all-rows .result in
+    let A = told-accepted (a .cells .now) (a .edges .now) (a .counts .now) r _ (w .1) h in
+    let W = told-where r _ (w .1) (c .before .before .before .before .before .before .before .before .before .before .before .before .before .before .before .all-rows .ensures .1) in
+    (h, opened-filled (a .cells .now) (a .edges .now) (a .counts .now) _ _ A W (told-accepts _ _ _ r _ (w .1) h) (told-ordered _ (a .edges .now) (a .counts .now) r _ (w .1) h) _ _ _ _ _ _ _ _
+    (c .before .before .before .before .before .before .before .before .write-names .ensures) (c .before .before .before .before .before .write-near .ensures) (c .before .before .write-sides .ensures) (c .write-starts .ensures))
+
+pub open-spec : {M : Type 1} → statement M
+open-spec =
+    tie.close
+    (tie.spec
+    slice-aggregate-all-rows
+    slice-aggregate-all-rows-2
+    all-rows-requires
+    enum-told
+    returns
+    enum-told-2
+    mul-write-names
+    slice-aggregate-write-names
+    write-names-requires
+    mul-write-near
+    slice-aggregate-write-near
+    write-near-requires
+    mul-write-sides
+    slice-aggregate-write-sides
+    write-sides-requires
+    write-starts-requires
+    returns-2)

@@ -1,0 +1,77 @@
+use Prim.Native.Nat.{ℕ, _-_, _≤_}
+use mathlib.Core.Path.{_∙_, _≡_, ap}
+use native.Mathlib.Omega.{arith}
+use lib.ListN.{getD, length}
+use borrow.Author.Needs.{needs}
+use Rattle.grid.specs.Tables.{filled}
+use Rattle.grid.specs.Work.{lowerOf}
+use Rattle.grid.proofs.Filled.{filled-more, filled-none, length-filled}
+use Rattle.grid.proofs.tables.write_names.Statement.{statement}
+use Rattle.grid.proofs.tables.write_names.Tie as tie
+
+abbrev Inv-loop : tie.InvT-loop
+Inv-loop n across names₀ j₀ names j = (j ≤ n) × (names ≡ filled (λ j. lowerOf j (getD across j 0)) j names₀)
+
+abbrev μ-loop : tie.MeasureT-loop
+μ-loop n across names₀ j₀ names j = n - j
+
+loop-holds : tie.Need-loop-holds Inv-loop μ-loop
+loop-holds c = (omega arith, filled-none _ _)
+
+mul-wide : tie.Need-mul-wide Inv-loop μ-loop
+mul-wide c = search needs
+
+shared-slice-read-wide : tie.Need-shared-slice-read-wide Inv-loop μ-loop
+shared-slice-read-wide c = omega (arith, c .before .before .before .before .before .pre .across-room)
+
+wide-requires : tie.Need-wide-requires Inv-loop μ-loop
+wide-requires c κs = search needs
+
+lower-requires : tie.Need-lower-requires Inv-loop μ-loop
+lower-requires c κs = search needs
+
+cast-names : tie.Need-cast-names Inv-loop μ-loop
+cast-names c = omega (arith, c .lower .ensures .1, c .before .before .before .before .before .before .before .pre .few)
+
+mul-names : tie.Need-mul-names Inv-loop μ-loop
+mul-names c = search needs
+
+slice-write-names : tie.Need-slice-write-names Inv-loop μ-loop
+slice-write-names c = omega (arith, c .before .before .before .before .before .before .before .pre .room, ap length (c .before .before .before .before .loop .inv .1), length-filled (λ j. lowerOf j (getD (c .before .before .before .before .before .before .before .args .across .now) j 0)) (c .before .before .before .before .loop .j) (c .before .before .before .before .before .before .before .args .names .now))
+
+add-j : tie.Need-add-j Inv-loop μ-loop
+add-j c = search needs
+
+loop-less : tie.Need-loop-less Inv-loop μ-loop
+loop-less c = search needs
+
+loop-again : tie.Need-loop-again Inv-loop μ-loop
+loop-again c = (omega arith, filled-more (λ j. lowerOf j (getD (c .before .before .before .before .before .before .before .args .across .now) j 0)) _ _ _ _ (c .before .before .before .before .loop .inv .1) (c .lower .ensures .0 ∙ ap (lowerOf (c .before .before .before .before .loop .j)) (c .before .wide .ensures)))
+
+same-length : tie.Need-same-length Inv-loop μ-loop
+same-length c = ap length (c .before .loop .inv .1) ∙ length-filled (λ j. lowerOf j (getD (c .before .before .before .before .args .across .now) j 0)) (c .before .loop .j) (c .before .before .before .before .args .names .now)
+
+returns : tie.Need-returns Inv-loop μ-loop
+returns c = 
+    let e : c .before .loop .j ≡ c .before .before .before .before .args .n = omega arith in
+    c .before .loop .inv .1 ∙ ap (λ (x : ℕ). filled (λ j. lowerOf j (getD (c .before .before .before .before .args .across .now) j 0)) x (c .before .before .before .before .args .names .now)) e
+
+pub write-names-spec : {M : Type 1} → statement M
+write-names-spec =
+    tie.close
+    (tie.spec
+    Inv-loop
+    μ-loop
+    loop-holds
+    mul-wide
+    shared-slice-read-wide
+    wide-requires
+    lower-requires
+    cast-names
+    mul-names
+    slice-write-names
+    add-j
+    loop-less
+    loop-again
+    same-length
+    returns)

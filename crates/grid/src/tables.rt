@@ -1,0 +1,72 @@
+// The tables of an accepted grid, written into lent memory.
+ghost use mathlib.Core.Path.{_≡_};
+ghost use Prim.Native.Nat.{_-_, _≤_};
+ghost use lib.ListN.{length, getD};
+ghost use Rattle.grid.specs.Grid.{mostCrossings, start, crossings};
+ghost use Rattle.grid.specs.Tables.{filled};
+ghost use Rattle.grid.specs.Work.{Copying, Lowering, lowerOf};
+use crate::keys::wide;
+use crate::size;
+
+// The lower of place j and the place that x is one more than; j where x is 0.
+fn lower(j: usize, x: usize) -> usize
+    ensures { λ r. ⌜ r ≡ lowerOf j x ⌝ }
+    ensures { λ r. ⌜ r ≤ j ⌝ }
+{
+    if x == 0 {
+        return j;
+    }
+    if x - 1 < j {
+        return x - 1;
+    }
+    j
+}
+
+// Names: a face has the lower of its two places, or its only one.
+pub(crate) fn write_names(n: usize, across: &[u16], names: &mut [u16])
+    requires { ⌜ Copying n (now across) (now names) ⌝ }
+    ensures { λ _. ⌜ now (names .exit) ≡ filled (λ j. lowerOf j (getD (now (across .entry)) j 0)) n (now (names .entry)) ⌝ }
+{
+    let mut j = 0;
+    while j < n {
+        names[j] = lower(j, wide(across[j])) as u16;
+        j += 1;
+    }
+}
+
+pub(crate) fn write_near(n: usize, across: &[u16], near: &mut [u16])
+    requires { ⌜ Copying n (now across) (now near) ⌝ }
+    ensures { λ _. ⌜ now (near .exit) ≡ filled (λ j. getD (now (across .entry)) j 0) n (now (near .entry)) ⌝ }
+{
+    let mut j = 0;
+    while j < n {
+        near[j] = across[j];
+        j += 1;
+    }
+}
+
+pub(crate) fn write_sides(n: usize, listed: &[usize], sides: &mut [u16])
+    requires { ⌜ Lowering n (now listed) (now sides) ⌝ }
+    ensures { λ _. ⌜ now (sides .exit) ≡ filled (λ j. getD (now (listed .entry)) j 0 - 1) n (now (sides .entry)) ⌝ }
+{
+    let mut j = 0;
+    while j < n {
+        let x = listed[j];
+        sides[j] = (x - 1) as u16;
+        j += 1;
+    }
+}
+
+pub(crate) fn write_starts(counts: &[u8], starts: &mut [u32])
+    requires { ⌜ length (now counts) ≤ length (now starts) ⌝ }
+    requires { ⌜ crossings (now counts) ≤ mostCrossings ⌝ }
+    ensures { λ _. ⌜ now (starts .exit) ≡ filled (start (now (counts .entry))) (length (now (counts .entry))) (now (starts .entry)) ⌝ }
+{
+    let mut s: u32 = 0;
+    let mut e = 0;
+    while e < counts.len() {
+        starts[e] = s;
+        s += size(counts[e]);
+        e += 1;
+    }
+}
