@@ -1,11 +1,20 @@
 // Bundles: records, the reader and the writer.
+mod reader;
 mod records;
 
+pub use reader::read;
+pub use reader::scan;
 pub use records::body_at;
 pub use records::record_at;
 
 // What stands at a start: a whole record's kind and the next start, or a refusal's number and place.
 pub enum Record {
     Whole(u16, usize),
+    Refused(u8, usize),
+}
+
+// What a bundle holds: the numbers of cells and edges, or a refusal's number and place.
+pub enum Contents {
+    Lists(usize, usize),
     Refused(u8, usize),
 }

@@ -7,3 +7,4 @@ pub mod Onto
 pub mod Involution
 pub mod Pack
 pub mod Reach
+pub mod Fronts

@@ -1,0 +1,18 @@
+-- What the private fillers of the reader ask of their callers.
+use Prim.Native.Nat.{ℕ, _*_, _≤_}
+use mathlib.Core.Path.{_≡_}
+use mathlib.Core.List.{List}
+use lib.ListN.{length}
+use Rattle.bundle.specs.Bundle.{cells, edgesFrom, edges, cellNodes, edgeEnds}
+
+-- all the cells of the bytes, and room for their nodes
+pub record CellsLent (s : List ℕ) (count : ℕ) (nodes : List ℕ) : Type 0 where
+  pub all : count ≡ cells s
+  pub room : cellNodes * count ≤ length nodes
+
+-- all the edges of the bytes, from their first place on, and room for their ends and counts
+pub record EdgesLent (s : List ℕ) (from count : ℕ) (ends counts : List ℕ) : Type 0 where
+  pub begin : from ≡ edgesFrom s
+  pub all : count ≡ edges s
+  pub endsRoom : edgeEnds * count ≤ length ends
+  pub countsRoom : count ≤ length counts

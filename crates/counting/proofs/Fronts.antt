@@ -1,0 +1,123 @@
+-- Lists of equal length joined over a range, and a list that is written over the front of another one, part after part.
+use Prim.Native.Nat.{ℕ, zero, suc, _+_, _*_, _≤_, _<_}
+use mathlib.Core.Path.{_≡_, refl, sym, ap, _∙_}
+use mathlib.Core.Logic.{_⊎_, inl, inr}
+use mathlib.Core.List.{List, [], _∷_, _++_, append-assoc}
+use native.Mathlib.Nat.{zero-add, mul-suc, mul-zero, mul-le-mul-left}
+use native.Mathlib.Numerals.{add-one}
+use native.Mathlib.Omega.{arith}
+use lib.ListN.{length, getD, take, drop, set, length-append, List·getD-append}
+use lib.Seq.{take-at, drop-at, drop-drop, take-add, take-all, sets, sets-eq, length-sets, getD-append-add}
+use Rattle.counting.specs.Range.{over}
+use Rattle.counting.proofs.Search.{below-or}
+use Rattle.counting.proofs.Range.{over-snoc, over-ext}
+
+module _ {A : Type 0} where
+  -- p is written over the front of l0, giving l; then r after it
+  pub extend : (p r p' l l0 : List A) (n n' : ℕ) → length p ≡ n → l ≡ p ++ drop n l0 → p' ≡ p ++ r → n' ≡ n + length r
+      → take n l ++ r ++ drop (n + length r) l ≡ p' ++ drop n' l0
+  extend p r p' l l0 n n' e h q m =
+      let t : take n l ≡ p = ap (take n) h ∙ take-at p (drop n l0) n e in
+      let d : drop n l ≡ drop n l0 = ap (drop n) h ∙ drop-at p (drop n l0) n e in
+      let f : drop (n + length r) l ≡ drop (n + length r) l0 = sym (drop-drop (length r) n l) ∙ ap (drop (length r)) d ∙ drop-drop (length r) n l0 in
+      ap (λ (x : List A). x ++ r ++ drop (n + length r) l) t
+      ∙ ap (λ (x : List A). p ++ r ++ x) f
+      ∙ ap (λ (x : List A). x ++ drop (n + length r) l0) (sym q)
+      ∙ ap (λ (k : ℕ). p' ++ drop k l0) (sym m)
+
+  -- the same, where r is stored entry by entry
+  pub stored : (p r p' l l0 : List A) (n n' : ℕ) → length p ≡ n → l ≡ p ++ drop n l0 → p' ≡ p ++ r → n' ≡ n + length r → n' ≤ length l
+      → sets l n r ≡ p' ++ drop n' l0
+  stored p r p' l l0 n n' e h q m b = sets-eq r l n (omega arith) ∙ extend p r p' l l0 n n' e h q m
+
+module _ {A : Type 0} (f : ℕ → List A) where
+  pub over-more : (n : ℕ) → over f (n + 1) 0 ≡ over f n 0 ++ f n
+  over-more n =
+      let e : n + 1 ≡ suc n = omega arith in
+      ap (λ k. over f k 0) e ∙ over-snoc f n 0 ∙ ap (λ k. over f n 0 ++ f k) (zero-add n)
+
+  -- n lists of w entries each
+  module _ (w : ℕ) where
+    pub length-blocks : (n : ℕ) → ((k : ℕ) → k < n → length (f k) ≡ w) → length (over f n 0) ≡ w * n
+    unfolding over
+    length-blocks zero h = sym (mul-zero w)
+    length-blocks (suc n) h =
+        over-snoc' n
+        ∙ ap (λ k. k + length (f n)) (length-blocks n (λ k l. h k (omega arith)))
+        ∙ ap (λ k. w * n + k) (h n (omega arith))
+        ∙ sym (mul-suc w n)
+      where
+        over-snoc' : (n : ℕ) → length (over f (suc n) 0) ≡ length (over f n 0) + length (f n)
+        over-snoc' n = ap length (over-snoc f n 0 ∙ ap (λ k. over f n 0 ++ f k) (zero-add n)) ∙ length-append (over f n 0) (f n)
+
+    -- entry i of list k
+    pub getD-blocks : (n : ℕ) → ((k : ℕ) → k < n → length (f k) ≡ w) → (k i : ℕ) (d : A) → k < n → i < w → getD (over f n 0) (w * k + i) d ≡ getD (f k) i d
+    getD-blocks zero h k i d l b = absurd (omega (arith, l))
+    getD-blocks (suc n) h k i d l b = go (below-or k n l) (λ q. getD-blocks n (λ j m. h j (omega arith)) k i d q b)
+      where
+        e : over f (suc n) 0 ≡ over f n 0 ++ f n
+        e = over-snoc f n 0 ∙ ap (λ j. over f n 0 ++ f j) (zero-add n)
+        front : length (over f n 0) ≡ w * n
+        front = length-blocks n (λ j m. h j (omega arith))
+        below : k < n → w * k + i < length (over f n 0)
+        below q =
+            let m : w * suc k ≤ w * n = mul-le-mul-left w q in
+            omega (arith, m, mul-suc w k, front)
+        go : (k ≡ n) ⊎ (k < n) → (k < n → getD (over f n 0) (w * k + i) d ≡ getD (f k) i d) → getD (over f (suc n) 0) (w * k + i) d ≡ getD (f k) i d
+        go (inl q) r =
+            let m : w * k + i ≡ length (over f n 0) + i = ap (λ j. w * j + i) q ∙ ap (λ j. j + i) (sym front) in
+            ap (λ (x : List A). getD x (w * k + i) d) e ∙ ap (λ j. getD (over f n 0 ++ f n) j d) m ∙ getD-append-add (over f n 0) (f n) i d ∙ ap (λ j. getD (f j) i d) (sym q)
+        go (inr q) r =
+            ap (λ (x : List A). getD x (w * k + i) d) e
+            ∙ List·getD-append (over f n 0) (f n) d (w * k + i) (below q)
+            ∙ r q
+
+-- the first parts of w entries of a list, joined; and a list of n times w entries is its parts
+pub first-parts : {A : Type 0} (w n : ℕ) (l : List A) → over (λ k. take w (drop (w * k) l)) n 0 ≡ take (w * n) l
+unfolding over
+first-parts {A} w zero l = sym (ap (λ k. take k l) (mul-zero w))
+first-parts {A} w (suc n) l =
+    let f : ℕ → List A = λ k. take w (drop (w * k) l) in
+    over-snoc f n 0
+    ∙ ap (λ k. over f n 0 ++ f k) (zero-add n)
+    ∙ ap (λ (x : List A). x ++ f n) (first-parts w n l)
+    ∙ sym (take-add (w * n) w l)
+    ∙ ap (λ k. take k l) (sym (mul-suc w n))
+
+pub in-parts : {A : Type 0} (w n : ℕ) (l : List A) → length l ≡ w * n → over (λ k. take w (drop (w * k) l)) n 0 ≡ l
+in-parts w n l h = first-parts w n l ∙ take-all (w * n) l (omega (arith, h))
+
+-- the first n lists of g, of w entries each, stand over the front of l0
+pub record Filled {A : Type 0} (g : ℕ → List A) (w n : ℕ) (l l0 : List A) : Type 0 where
+  pub long : length l ≡ length l0
+  pub front : l ≡ over g n 0 ++ drop (w * n) l0
+
+module _ {A : Type 0} (g : ℕ → List A) (w : ℕ) (l0 : List A) where
+  pub filled-none : Filled g w 0 l0 l0
+  unfolding over
+  filled-none = record { long = refl; front = sym (ap (λ k. drop k l0) (mul-zero w)) }
+
+  module _ (n : ℕ) (l : List A) (e : (k : ℕ) → length (g k) ≡ w) (f : Filled g w n l l0) where
+    pub filled-more : w * n + w ≤ length l0 → Filled g w (n + 1) (sets l (w * n) (g n)) l0
+    filled-more b =
+        let m : w * (n + 1) ≡ w * n + length (g n) = ap (λ k. w * k) (add-one n) ∙ mul-suc w n ∙ ap (λ k. w * n + k) (sym (e n)) in
+        record {
+          long = length-sets l (w * n) (g n) ∙ f .long;
+          front = stored (over g n 0) (g n) (over g (n + 1) 0) l l0 (w * n) (w * (n + 1)) (length-blocks g w n (λ k _. e k)) (f .front) (over-more g n) m (omega (arith, b, m, f .long, e n));
+        }
+
+    pub filled-all : l ≡ over g n 0 ++ drop (length (over g n 0)) l0
+    filled-all = f .front ∙ ap (λ k. over g n 0 ++ drop k l0) (sym (length-blocks g w n (λ k _. e k)))
+
+-- stores one after the other, as code writes them
+module _ {A : Type 0} (l : List A) (n : ℕ) where
+  pub sets-two : (a b : A) → set (set l n a) (n + 1) b ≡ sets l n (a ∷ b ∷ [])
+  sets-two a b = let e : n + 1 ≡ suc n = omega arith in ap (λ k. set (set l n a) k b) e
+
+  pub sets-four : (a b c d : A) → set (set (set (set l n a) (n + 1) b) (n + 2) c) (n + 3) d ≡ sets l n (a ∷ b ∷ c ∷ d ∷ [])
+  sets-four a b c d =
+      let e : n + 2 ≡ suc (suc n) = omega arith in
+      let f : n + 3 ≡ suc (suc (suc n)) = omega arith in
+      ap (λ (x : List A). set (set x (n + 2) c) (n + 3) d) (sets-two a b)
+      ∙ ap (λ k. set (set (sets l n (a ∷ b ∷ [])) k c) (n + 3) d) e
+      ∙ ap (λ k. set (sets l n (a ∷ b ∷ c ∷ [])) k d) f
