@@ -1,2 +1,4 @@
 pub mod OneRecord
 pub mod Runs
+pub mod Answers
+pub mod Fills

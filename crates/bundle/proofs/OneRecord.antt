@@ -32,7 +32,7 @@ pub record Stands (s : List ℕ) (at : ℕ) : Type 0 where
   pub fits : nextAt s at ≤ length s
 
 -- a result of two values is no refusal
-apart : {A : Type 0} (a b c d : ℕ) → result (a ∷ b ∷ []) ≡ refusal c d → A
+pub apart : {A : Type 0} (a b c d : ℕ) → result (a ∷ b ∷ []) ≡ refusal c d → A
 apart a b c d h = let z : _≡_ {A = ℕ} 0 1 = cc in absurd (omega arith)
 
 module _ (s : List ℕ) (at : ℕ) where

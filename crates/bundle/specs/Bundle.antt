@@ -62,13 +62,13 @@ edgeEnds = 2
 
 -- what the body of the record at a place means: the nodes of a cell; the ends of an edge and its count
 abbrev pub nodesAt : List ℕ → ℕ → List ℕ
-nodesAt s at = word s (at + headBytes) ∷ word s (at + headBytes + 2) ∷ word s (at + headBytes + 4) ∷ word s (at + headBytes + 6) ∷ []
+nodesAt s at = word s (at + headBytes) ∷ word s (at + (headBytes + 2)) ∷ word s (at + (headBytes + 4)) ∷ word s (at + (headBytes + 6)) ∷ []
 
 abbrev pub endsAt : List ℕ → ℕ → List ℕ
-endsAt s at = word s (at + headBytes) ∷ word s (at + headBytes + 2) ∷ []
+endsAt s at = word s (at + headBytes) ∷ word s (at + (headBytes + 2)) ∷ []
 
 abbrev pub countAt : List ℕ → ℕ → List ℕ
-countAt s at = getD s (at + headBytes + 4) 0 ∷ []
+countAt s at = getD s (at + (headBytes + 4)) 0 ∷ []
 
 -- the three lists
 unfoldable pub nodesOf : List ℕ → List ℕ

@@ -98,12 +98,15 @@ module _ {A : Type 0} (g : ℕ → List A) (w : ℕ) (l0 : List A) where
   filled-none = record { long = refl; front = sym (ap (λ k. drop k l0) (mul-zero w)) }
 
   module _ (n : ℕ) (l : List A) (e : (k : ℕ) → length (g k) ≡ w) (f : Filled g w n l l0) where
-    pub filled-more : w * n + w ≤ length l0 → Filled g w (n + 1) (sets l (w * n) (g n)) l0
-    filled-more b =
-        let m : w * (n + 1) ≡ w * n + length (g n) = ap (λ k. w * k) (add-one n) ∙ mul-suc w n ∙ ap (λ k. w * n + k) (sym (e n)) in
+    pub filled-more : (v : List A) → v ≡ g n → w * n + w ≤ length l0 → Filled g w (n + 1) (sets l (w * n) v) l0
+    filled-more v q b =
+        let z : length v ≡ w = ap length q ∙ e n in
+        let m : w * (n + 1) ≡ w * n + length v = ap (λ k. w * k) (add-one n) ∙ mul-suc w n ∙ ap (λ k. w * n + k) (sym z) in
         record {
-          long = length-sets l (w * n) (g n) ∙ f .long;
-          front = stored (over g n 0) (g n) (over g (n + 1) 0) l l0 (w * n) (w * (n + 1)) (length-blocks g w n (λ k _. e k)) (f .front) (over-more g n) m (omega (arith, b, m, f .long, e n));
+          long = length-sets l (w * n) v ∙ f .long;
+          front =
+            stored (over g n 0) v (over g (n + 1) 0) l l0 (w * n) (w * (n + 1)) (length-blocks g w n (λ k _. e k)) (f .front)
+            (over-more g n ∙ ap (λ (x : List A). over g n 0 ++ x) (sym q)) m (omega (arith, b, m, f .long, z));
         }
 
     pub filled-all : l ≡ over g n 0 ++ drop (length (over g n 0)) l0

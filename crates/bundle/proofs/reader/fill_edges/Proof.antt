@@ -1,3 +1,15 @@
+use Prim.Native.Nat.{ℕ, _+_, _-_, _*_, _≤_, _<_}
+use mathlib.Core.Path.{_≡_, refl, sym, ap, _∙_}
+use mathlib.Core.List.{List}
+use native.Mathlib.Omega.{arith}
+use borrow.Author.Needs.{needs}
+use lib.ListN.{length, length-set}
+use denote.Ref.{now}
+use Rattle.counting.specs.Range.{over}
+use Rattle.counting.proofs.Fronts.{Filled, filled-none, filled-all}
+use Rattle.bundle.specs.Bundle.{start, run, edges, edgesFrom, endsOf, countsOf, writtenOver}
+use Rattle.bundle.proofs.Runs.{Walked, walked, walked-fits, walked-on}
+use Rattle.bundle.proofs.Fills.{edge-size, endsBy, countBy, ends-turn, counts-turn}
 use Rattle.bundle.proofs.reader.fill_edges.Statement.{statement}
 use Rattle.bundle.proofs.reader.fill_edges.Tie as tie
 use Rattle.bundle.proofs.reader.fill_edges.Reads as reads
@@ -5,94 +17,143 @@ use Rattle.bundle.proofs.reader.fill_edges.Lts as lts
 use Rattle.bundle.proofs.records.word_at.Reads as word-at-reads
 
 abbrev Inv-loop : tie.InvT-loop
-Inv-loop bytes from count ends₀ counts₀ k₀ at₀ ends counts k at = ?
+Inv-loop bytes from count ends₀ counts₀ k₀ at₀ ends counts k at = Walked bytes from 2 at k × Filled (endsBy bytes from) 2 k ends ends₀ × Filled (countBy bytes from) 1 k counts counts₀
 
 abbrev μ-loop : tie.MeasureT-loop
-μ-loop bytes from count ends₀ counts₀ k₀ at₀ ends counts k at = ?
+μ-loop bytes from count ends₀ counts₀ k₀ at₀ ends counts k at = count - k
 
 -- src/reader.rt:89:5
 loop-holds : tie.Need-loop-holds Inv-loop μ-loop
-loop-holds c = ?
+loop-holds c = (walked _ _ 2, filled-none (endsBy (now (c .before .before .before .args .bytes)) (c .before .before .before .args .from)) 2 (now (c .before .before .before .args .ends)), filled-none (countBy (now (c .before .before .before .args .bytes)) (c .before .before .before .args .from)) 1 (now (c .before .before .before .args .counts)))
+
+-- within the loop the next record and the room for its numbers are there
+abbrev Turn : Type 0
+Turn = tie.In-loop Inv-loop μ-loop
+
+below : (c : Turn) → c .before .loop .k < run (now (c .before .before .before .before .before .args .bytes)) 2 (c .before .before .before .before .before .args .from)
+unfolding edges
+below c =
+    let p = c .before .before .before .before .before .pre in
+    let e = p .all ∙ ap (run (now (c .before .before .before .before .before .args .bytes)) 2) (sym (p .begin)) in
+    omega (arith, e, c .loop-test .taken)
+
+fits : (c : Turn) → c .before .loop .at + 9 ≤ length (now (c .before .before .before .before .before .args .bytes))
+fits c = walked-fits _ _ 2 9 _ _ edge-size (c .before .loop .inv .0) (below c)
+
+room : (c : Turn) → (2 * c .before .loop .k + 2 ≤ length (now (c .before .before .before .before .before .args .ends))) × (c .before .loop .k < length (now (c .before .before .before .before .before .args .counts)))
+room c =
+    let p = c .before .before .before .before .before .pre in
+    (omega (arith, p .endsRoom, c .loop-test .taken), omega (arith, p .countsRoom, c .loop-test .taken))
+
+space : (c : Turn) → (2 * c .before .loop .k + 2 ≤ length (c .before .loop .ends)) × (c .before .loop .k < length (c .before .loop .counts))
+space c = (omega (arith, room c .0, c .before .loop .inv .1 .long), omega (arith, room c .1, c .before .loop .inv .2 .long))
 
 -- src/reader.rt:90:17
 mul-j : tie.Need-mul-j Inv-loop μ-loop
-mul-j c = ?
+mul-j c = omega (arith, space c .0)
 
 -- src/reader.rt:91:34
 add-word-at : tie.Need-add-word-at Inv-loop μ-loop
-add-word-at c = ?
+add-word-at c = omega (arith, fits c)
 
 -- src/reader.rt:91:19
 word-at-requires : tie.Need-word-at-requires Inv-loop μ-loop
-word-at-requires c κs = ?
+word-at-requires c κs = omega (arith, fits c)
 
 -- src/reader.rt:91:9
 mul-ends : tie.Need-mul-ends Inv-loop μ-loop
-mul-ends c = ?
+mul-ends c = omega (arith, space (c .before) .0)
 
 -- src/reader.rt:91:9
 slice-write-ends : tie.Need-slice-write-ends Inv-loop μ-loop
-slice-write-ends c = ?
+slice-write-ends c = omega (arith, space (c .before) .0)
 
 -- src/reader.rt:92:38
 add-word-at-2 : tie.Need-add-word-at-2 Inv-loop μ-loop
-add-word-at-2 c = ?
+add-word-at-2 c = omega (arith, fits (c .before))
 
 -- src/reader.rt:92:23
 word-at-requires-2 : tie.Need-word-at-requires-2 Inv-loop μ-loop
-word-at-requires-2 c κs = ?
+word-at-requires-2 c κs = omega (arith, fits (c .before))
 
 -- src/reader.rt:92:14
 add-ends : tie.Need-add-ends Inv-loop μ-loop
-add-ends c = ?
+add-ends c = omega (arith, space (c .before .before) .0)
 
 -- src/reader.rt:92:9
 mul-ends-2 : tie.Need-mul-ends-2 Inv-loop μ-loop
-mul-ends-2 c = ?
+mul-ends-2 c = omega (arith, space (c .before .before) .0)
 
 -- src/reader.rt:92:9
 slice-write-ends-2 : tie.Need-slice-write-ends-2 Inv-loop μ-loop
-slice-write-ends-2 c = ?
+slice-write-ends-2 c = simp length-set (omega (arith, space (c .before .before) .0))
 
 -- src/reader.rt:93:27
 add-counts : tie.Need-add-counts Inv-loop μ-loop
-add-counts c = ?
+add-counts c = omega (arith, fits (c .before .before))
 
 -- src/reader.rt:93:21
 shared-slice-read-counts : tie.Need-shared-slice-read-counts Inv-loop μ-loop
-shared-slice-read-counts c = ?
+shared-slice-read-counts c = omega (arith, fits (c .before .before .before))
 
 -- src/reader.rt:93:9
 slice-write-counts : tie.Need-slice-write-counts Inv-loop μ-loop
-slice-write-counts c = ?
+slice-write-counts c = omega (arith, space (c .before .before .before) .1)
 
 -- src/reader.rt:94:9
 add-at : tie.Need-add-at Inv-loop μ-loop
-add-at c = ?
+add-at c = omega (arith, fits (c .before .before .before))
 
 -- src/reader.rt:95:9
 add-k : tie.Need-add-k Inv-loop μ-loop
-add-k c = ?
+add-k c = omega (arith, space (c .before .before .before) .1)
 
 -- src/reader.rt:89:5
 loop-less : tie.Need-loop-less Inv-loop μ-loop
-loop-less c = ?
+loop-less c = omega arith
 
 -- src/reader.rt:89:5
 loop-again : tie.Need-loop-again Inv-loop μ-loop
-loop-again c = ?
+loop-again c = 
+    let t = c .before .before .before in
+    let l = t .before .loop in (
+      walked-on _ _ 2 9 _ _ edge-size (l .inv .0) (below t),
+      ends-turn _ _ _ _ (l .inv .0 .reached) _ _ (l .inv .1) (room t .0) _ _ (c .before .before .word-at .ensures) (c .before .word-at2 .ensures),
+      counts-turn _ _ _ _ (l .inv .0 .reached) _ _ (l .inv .2) (room t .1),
+    )
 
 -- src/reader.rt:82:1
 same-length : tie.Need-same-length Inv-loop μ-loop
-same-length c = ?
+same-length c = c .before .loop .inv .1 .long
 
 -- src/reader.rt:82:1
 same-length-2 : tie.Need-same-length-2 Inv-loop μ-loop
-same-length-2 c = ?
+same-length-2 c = c .before .loop .inv .2 .long
+
+all-done : (c : tie.After-loop Inv-loop μ-loop) → c .before .loop .k ≡ edges (now (c .before .before .before .before .before .args .bytes))
+unfolding edges
+all-done c =
+    let p = c .before .before .before .before .before .pre in
+    let e = p .all ∙ ap (run (now (c .before .before .before .before .before .args .bytes)) 2) (sym (p .begin)) in
+    let u = c .before .loop .inv .0 .upto in
+    omega (arith, e, p .all, u)
 
 -- src/reader.rt:82:1
 returns : tie.Need-returns Inv-loop μ-loop
-returns c = ?
+unfolding endsOf countsOf
+returns c =
+    let l = c .before .loop in
+    let a = c .before .before .before .before .before .args in
+    let s = now (a .bytes) in
+    let b = c .before .before .before .before .before .pre .begin in
+    let e : l .k ≡ edges s = all-done c in (
+      filled-all (endsBy s (a .from)) 2 (now (a .ends)) (l .k) (l .ends) (λ j. refl) (l .inv .1)
+      ∙ ap (λ n. writtenOver (over (endsBy s n) (l .k) 0) (now (a .ends))) b
+      ∙ ap (λ n. writtenOver (over (endsBy s (edgesFrom s)) n 0) (now (a .ends))) e,
+      filled-all (countBy s (a .from)) 1 (now (a .counts)) (l .k) (l .counts) (λ j. refl) (l .inv .2)
+      ∙ ap (λ n. writtenOver (over (countBy s n) (l .k) 0) (now (a .counts))) b
+      ∙ ap (λ n. writtenOver (over (countBy s (edgesFrom s)) n 0) (now (a .counts))) e,
+    )
 
 pub fill-edges-spec : {M : Type 1} → statement M
 fill-edges-spec =

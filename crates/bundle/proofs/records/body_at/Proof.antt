@@ -24,7 +24,7 @@ enum-known-kind : tie.Need-enum-known-kind
 enum-known-kind c = search needs
 
 abbrev At : Type 0
-At = lts.After-known-told (record-at-reads.Asked, record-at-reads.Learnt) reads.Pre reads.Post
+At = tie.After-known-told
 
 abbrev bytes : At → List ℕ
 bytes c = now (c .before .before .before .before .before .args .bytes)

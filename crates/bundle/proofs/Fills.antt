@@ -1,0 +1,51 @@
+-- A turn of the loops that fill lists from records. Assumes nothing.
+use Prim.Native.Nat.{ℕ, _+_, _*_, _≤_, _<_}
+use mathlib.Core.Path.{_≡_, refl, sym, ap, _∙_}
+use mathlib.Core.List.{List, [], _∷_}
+use native.Mathlib.Omega.{arith}
+use lib.ListN.{length, getD, set}
+use lib.Seq.{sets}
+use Rattle.counting.proofs.Fronts.{Filled, filled-more, sets-two, sets-four}
+use Rattle.bundle.specs.Record.{word, lengthOf}
+use Rattle.bundle.specs.Bundle.{start, nodesAt, endsAt, countAt}
+
+pub cell-size : 2 + lengthOf 1 ≡ 12
+unfolding lengthOf
+cell-size = refl
+
+pub edge-size : 2 + lengthOf 2 ≡ 9
+unfolding lengthOf
+edge-size = refl
+
+pub end-size : 2 + lengthOf 3 ≡ 4
+unfolding lengthOf
+end-size = refl
+
+-- the nodes of record k from a place on, and its ends and count
+abbrev pub nodesBy : List ℕ → ℕ → ℕ → List ℕ
+nodesBy s from k = nodesAt s (start s from k)
+
+abbrev pub endsBy : List ℕ → ℕ → ℕ → List ℕ
+endsBy s from k = endsAt s (start s from k)
+
+abbrev pub countBy : List ℕ → ℕ → ℕ → List ℕ
+countBy s from k = countAt s (start s from k)
+
+module _ (s : List ℕ) (from at k : ℕ) (h : at ≡ start s from k) (l l0 : List ℕ) where
+  pub nodes-turn : Filled (nodesBy s from) 4 k l l0 → 4 * k + 4 ≤ length l0
+      → (x y z w : ℕ) → x ≡ word s (at + 4) → y ≡ word s (at + 6) → z ≡ word s (at + 8) → w ≡ word s (at + 10)
+      → Filled (nodesBy s from) 4 (k + 1) (set (set (set (set l (4 * k) x) (4 * k + 1) y) (4 * k + 2) z) (4 * k + 3) w) l0
+  nodes-turn f b x y z w ex ey ez ew =
+      let e : _≡_ {A = List ℕ} (x ∷ y ∷ z ∷ w ∷ []) (nodesAt s at) = cc in
+      rw sets-four (filled-more (nodesBy s from) 4 l0 k l (λ j. refl) f (x ∷ y ∷ z ∷ w ∷ []) (e ∙ ap (nodesAt s) h) b)
+
+  pub ends-turn : Filled (endsBy s from) 2 k l l0 → 2 * k + 2 ≤ length l0 → (x y : ℕ) → x ≡ word s (at + 4) → y ≡ word s (at + 6)
+      → Filled (endsBy s from) 2 (k + 1) (set (set l (2 * k) x) (2 * k + 1) y) l0
+  ends-turn f b x y ex ey =
+      let e : _≡_ {A = List ℕ} (x ∷ y ∷ []) (endsAt s at) = cc in
+      rw sets-two (filled-more (endsBy s from) 2 l0 k l (λ j. refl) f (x ∷ y ∷ []) (e ∙ ap (endsAt s) h) b)
+
+  pub counts-turn : Filled (countBy s from) 1 k l l0 → k < length l0 → Filled (countBy s from) 1 (k + 1) (set l k (getD s (at + 8) 0)) l0
+  counts-turn f b =
+      let m : 1 * k ≡ k = omega arith in
+      rw m at (filled-more (countBy s from) 1 l0 k l (λ j. refl) f (countAt s at) (ap (countAt s) h) (omega arith))
