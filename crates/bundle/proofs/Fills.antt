@@ -5,9 +5,10 @@ use mathlib.Core.List.{List, [], _∷_}
 use native.Mathlib.Omega.{arith}
 use lib.ListN.{length, getD, set}
 use lib.Seq.{sets}
-use Rattle.counting.proofs.Fronts.{Filled, filled-more, sets-two, sets-four}
+use Rattle.counting.specs.Range.{over}
+use Rattle.counting.proofs.Fronts.{Filled, filled-more, length-blocks, sets-front, sets-two, sets-four}
 use Rattle.bundle.specs.Record.{word, lengthOf}
-use Rattle.bundle.specs.Bundle.{start, nodesAt, endsAt, countAt}
+use Rattle.bundle.specs.Bundle.{start, nodesAt, endsAt, countAt, writtenOver}
 
 pub cell-size : 2 + lengthOf 1 ≡ 12
 unfolding lengthOf
@@ -32,20 +33,21 @@ abbrev pub countBy : List ℕ → ℕ → ℕ → List ℕ
 countBy s from k = countAt s (start s from k)
 
 module _ (s : List ℕ) (from at k : ℕ) (h : at ≡ start s from k) (l l0 : List ℕ) where
-  pub nodes-turn : Filled (nodesBy s from) 4 k l l0 → 4 * k + 4 ≤ length l0
-      → (x y z w : ℕ) → x ≡ word s (at + 4) → y ≡ word s (at + 6) → z ≡ word s (at + 8) → w ≡ word s (at + 10)
-      → Filled (nodesBy s from) 4 (k + 1) (set (set (set (set l (4 * k) x) (4 * k + 1) y) (4 * k + 2) z) (4 * k + 3) w) l0
-  nodes-turn f b x y z w ex ey ez ew =
+  pub nodes-turn : Filled (nodesBy s from) 4 0 k l l0 → (x y z w : ℕ) → x ≡ word s (at + 4) → y ≡ word s (at + 6) → z ≡ word s (at + 8) → w ≡ word s (at + 10)
+      → Filled (nodesBy s from) 4 0 (k + 1) (set (set (set (set l (4 * k) x) (4 * k + 1) y) (4 * k + 2) z) (4 * k + 3) w) l0
+  nodes-turn f x y z w ex ey ez ew =
       let e : _≡_ {A = List ℕ} (x ∷ y ∷ z ∷ w ∷ []) (nodesAt s at) = cc in
-      rw sets-four (filled-more (nodesBy s from) 4 l0 k l (λ j. refl) f (x ∷ y ∷ z ∷ w ∷ []) (e ∙ ap (nodesAt s) h) b)
+      rw sets-four (filled-more (nodesBy s from) 4 0 l0 (λ j. refl) k l f (4 * k) (x ∷ y ∷ z ∷ w ∷ []) (omega arith) (e ∙ ap (nodesAt s) h))
 
-  pub ends-turn : Filled (endsBy s from) 2 k l l0 → 2 * k + 2 ≤ length l0 → (x y : ℕ) → x ≡ word s (at + 4) → y ≡ word s (at + 6)
-      → Filled (endsBy s from) 2 (k + 1) (set (set l (2 * k) x) (2 * k + 1) y) l0
-  ends-turn f b x y ex ey =
+  pub ends-turn : Filled (endsBy s from) 2 0 k l l0 → (x y : ℕ) → x ≡ word s (at + 4) → y ≡ word s (at + 6)
+      → Filled (endsBy s from) 2 0 (k + 1) (set (set l (2 * k) x) (2 * k + 1) y) l0
+  ends-turn f x y ex ey =
       let e : _≡_ {A = List ℕ} (x ∷ y ∷ []) (endsAt s at) = cc in
-      rw sets-two (filled-more (endsBy s from) 2 l0 k l (λ j. refl) f (x ∷ y ∷ []) (e ∙ ap (endsAt s) h) b)
+      rw sets-two (filled-more (endsBy s from) 2 0 l0 (λ j. refl) k l f (2 * k) (x ∷ y ∷ []) (omega arith) (e ∙ ap (endsAt s) h))
 
-  pub counts-turn : Filled (countBy s from) 1 k l l0 → k < length l0 → Filled (countBy s from) 1 (k + 1) (set l k (getD s (at + 8) 0)) l0
-  counts-turn f b =
-      let m : 1 * k ≡ k = omega arith in
-      rw m at (filled-more (countBy s from) 1 l0 k l (λ j. refl) f (countAt s at) (ap (countAt s) h) (omega arith))
+  pub counts-turn : Filled (countBy s from) 1 0 k l l0 → Filled (countBy s from) 1 0 (k + 1) (set l k (getD s (at + 8) 0)) l0
+  counts-turn f = filled-more (countBy s from) 1 0 l0 (λ j. refl) k l f k (countAt s at) (omega arith) (ap (countAt s) h)
+
+-- all of them are stored
+pub filled-all : (g : ℕ → List ℕ) (w k n : ℕ) (l l0 : List ℕ) → ((j : ℕ) → length (g j) ≡ w) → Filled g w 0 k l l0 → k ≡ n → w * k ≤ length l0 → l ≡ writtenOver (over g n 0) l0
+filled-all g w k n l l0 e f h b = f .front ∙ sets-front (over g k 0) l0 (omega (arith, b, length-blocks g w k (λ j _. e j))) ∙ ap (λ m. writtenOver (over g m 0) l0) h

@@ -1,34 +1,25 @@
--- Lists of equal length joined over a range, and a list that is written over the front of another one, part after part.
+-- Lists of equal length joined over a range, and their entries stored in another list one after the other.
 use Prim.Native.Nat.{ℕ, zero, suc, _+_, _*_, _≤_, _<_}
 use mathlib.Core.Path.{_≡_, refl, sym, ap, _∙_}
 use mathlib.Core.Logic.{_⊎_, inl, inr}
 use mathlib.Core.List.{List, [], _∷_, _++_, append-assoc}
-use native.Mathlib.Nat.{zero-add, mul-suc, mul-zero, mul-le-mul-left}
+use native.Mathlib.Nat.{zero-add, add-zero, mul-suc, mul-zero, mul-le-mul-left}
 use native.Mathlib.Numerals.{add-one}
 use native.Mathlib.Omega.{arith}
 use lib.ListN.{length, getD, take, drop, set, length-append, List·getD-append}
-use lib.Seq.{take-at, drop-at, drop-drop, take-add, take-all, sets, sets-eq, length-sets, getD-append-add}
+use lib.Seq.{take-add, take-all, sets, sets-eq, length-sets, getD-append-add}
 use Rattle.counting.specs.Range.{over}
 use Rattle.counting.proofs.Search.{below-or}
 use Rattle.counting.proofs.Range.{over-snoc, over-ext}
 
-module _ {A : Type 0} where
-  -- p is written over the front of l0, giving l; then r after it
-  pub extend : (p r p' l l0 : List A) (n n' : ℕ) → length p ≡ n → l ≡ p ++ drop n l0 → p' ≡ p ++ r → n' ≡ n + length r
-      → take n l ++ r ++ drop (n + length r) l ≡ p' ++ drop n' l0
-  extend p r p' l l0 n n' e h q m =
-      let t : take n l ≡ p = ap (take n) h ∙ take-at p (drop n l0) n e in
-      let d : drop n l ≡ drop n l0 = ap (drop n) h ∙ drop-at p (drop n l0) n e in
-      let f : drop (n + length r) l ≡ drop (n + length r) l0 = sym (drop-drop (length r) n l) ∙ ap (drop (length r)) d ∙ drop-drop (length r) n l0 in
-      ap (λ (x : List A). x ++ r ++ drop (n + length r) l) t
-      ∙ ap (λ (x : List A). p ++ r ++ x) f
-      ∙ ap (λ (x : List A). x ++ drop (n + length r) l0) (sym q)
-      ∙ ap (λ (k : ℕ). p' ++ drop k l0) (sym m)
+-- stores of two lists, one after the other
+pub sets-append : {A : Type 0} (l : List A) (i : ℕ) (v r : List A) → sets l i (v ++ r) ≡ sets (sets l i v) (i + length v) r
+sets-append l i [] r = ap (λ k. sets l k r) (sym (add-zero i))
+sets-append l i (a ∷ v) r = let e : suc i + length v ≡ i + suc (length v) = omega arith in sets-append (set l i a) (suc i) v r ∙ ap (λ k. sets (sets (set l i a) (suc i) v) k r) e
 
-  -- the same, where r is stored entry by entry
-  pub stored : (p r p' l l0 : List A) (n n' : ℕ) → length p ≡ n → l ≡ p ++ drop n l0 → p' ≡ p ++ r → n' ≡ n + length r → n' ≤ length l
-      → sets l n r ≡ p' ++ drop n' l0
-  stored p r p' l l0 n n' e h q m b = sets-eq r l n (omega arith) ∙ extend p r p' l l0 n n' e h q m
+-- stores from the front on are a list written over it
+pub sets-front : {A : Type 0} (v l : List A) → length v ≤ length l → sets l 0 v ≡ v ++ drop (length v) l
+sets-front v l h = sets-eq v l 0 (omega arith) ∙ ap (λ k. v ++ drop k l) (zero-add (length v))
 
 module _ {A : Type 0} (f : ℕ → List A) where
   pub over-more : (n : ℕ) → over f (n + 1) 0 ≡ over f n 0 ++ f n
@@ -87,30 +78,29 @@ first-parts {A} w (suc n) l =
 pub in-parts : {A : Type 0} (w n : ℕ) (l : List A) → length l ≡ w * n → over (λ k. take w (drop (w * k) l)) n 0 ≡ l
 in-parts w n l h = first-parts w n l ∙ take-all (w * n) l (omega (arith, h))
 
--- the first n lists of g, of w entries each, stand over the front of l0
-pub record Filled {A : Type 0} (g : ℕ → List A) (w n : ℕ) (l l0 : List A) : Type 0 where
+-- the first n lists of g, of w entries each, are stored in l0 from i on
+pub record Filled {A : Type 0} (g : ℕ → List A) (w i n : ℕ) (l l0 : List A) : Type 0 where
   pub long : length l ≡ length l0
-  pub front : l ≡ over g n 0 ++ drop (w * n) l0
+  pub front : l ≡ sets l0 i (over g n 0)
 
-module _ {A : Type 0} (g : ℕ → List A) (w : ℕ) (l0 : List A) where
-  pub filled-none : Filled g w 0 l0 l0
+module _ {A : Type 0} (g : ℕ → List A) (w i : ℕ) (l0 : List A) where
+  pub filled-none : Filled g w i 0 l0 l0
   unfolding over
-  filled-none = record { long = refl; front = sym (ap (λ k. drop k l0) (mul-zero w)) }
+  filled-none = record { long = refl; front = refl }
 
-  module _ (n : ℕ) (l : List A) (e : (k : ℕ) → length (g k) ≡ w) (f : Filled g w n l l0) where
-    pub filled-more : (v : List A) → v ≡ g n → w * n + w ≤ length l0 → Filled g w (n + 1) (sets l (w * n) v) l0
-    filled-more v q b =
-        let z : length v ≡ w = ap length q ∙ e n in
-        let m : w * (n + 1) ≡ w * n + length v = ap (λ k. w * k) (add-one n) ∙ mul-suc w n ∙ ap (λ k. w * n + k) (sym z) in
+  module _ (e : (k : ℕ) → length (g k) ≡ w) (n : ℕ) (l : List A) (f : Filled g w i n l l0) where
+    -- the next list v is stored at its place
+    pub filled-more : (at : ℕ) (v : List A) → at ≡ i + w * n → v ≡ g n → Filled g w i (n + 1) (sets l at v) l0
+    filled-more at v q h =
+        let m : at ≡ i + length (over g n 0) = q ∙ ap (λ k. i + k) (sym (length-blocks g w n (λ k _. e k))) in
         record {
-          long = length-sets l (w * n) v ∙ f .long;
+          long = length-sets l at v ∙ f .long;
           front =
-            stored (over g n 0) v (over g (n + 1) 0) l l0 (w * n) (w * (n + 1)) (length-blocks g w n (λ k _. e k)) (f .front)
-            (over-more g n ∙ ap (λ (x : List A). over g n 0 ++ x) (sym q)) m (omega (arith, b, m, f .long, z));
+            ap (λ (x : List A). sets x at v) (f .front)
+            ∙ ap (λ k. sets (sets l0 i (over g n 0)) k v) m
+            ∙ sym (sets-append l0 i (over g n 0) v)
+            ∙ ap (sets l0 i) (ap (λ (x : List A). over g n 0 ++ x) h ∙ sym (over-more g n));
         }
-
-    pub filled-all : l ≡ over g n 0 ++ drop (length (over g n 0)) l0
-    filled-all = f .front ∙ ap (λ k. over g n 0 ++ drop k l0) (sym (length-blocks g w n (λ k _. e k)))
 
 -- stores one after the other, as code writes them
 module _ {A : Type 0} (l : List A) (n : ℕ) where

@@ -5,11 +5,10 @@ use native.Mathlib.Omega.{arith}
 use borrow.Author.Needs.{needs}
 use lib.ListN.{length, length-set}
 use denote.Ref.{now}
-use Rattle.counting.specs.Range.{over}
-use Rattle.counting.proofs.Fronts.{Filled, filled-none, filled-all}
-use Rattle.bundle.specs.Bundle.{start, run, cells, edgesFrom, nodesOf, writtenOver}
+use Rattle.counting.proofs.Fronts.{Filled, filled-none}
+use Rattle.bundle.specs.Bundle.{start, run, cells, edgesFrom, nodesOf}
 use Rattle.bundle.proofs.Runs.{Walked, walked, walked-fits, walked-on}
-use Rattle.bundle.proofs.Fills.{cell-size, nodesBy, nodes-turn}
+use Rattle.bundle.proofs.Fills.{cell-size, nodesBy, nodes-turn, filled-all}
 use Rattle.bundle.proofs.reader.fill_cells.Statement.{statement}
 use Rattle.bundle.proofs.reader.fill_cells.Tie as tie
 use Rattle.bundle.proofs.reader.fill_cells.Reads as reads
@@ -17,14 +16,14 @@ use Rattle.bundle.proofs.reader.fill_cells.Lts as lts
 use Rattle.bundle.proofs.records.word_at.Reads as word-at-reads
 
 abbrev Inv-loop : tie.InvT-loop
-Inv-loop bytes count nodes₀ k₀ at₀ nodes k at = Walked bytes 0 1 at k × Filled (nodesBy bytes 0) 4 k nodes nodes₀
+Inv-loop bytes count nodes₀ k₀ at₀ nodes k at = Walked bytes 0 1 at k × Filled (nodesBy bytes 0) 4 0 k nodes nodes₀
 
 abbrev μ-loop : tie.MeasureT-loop
 μ-loop bytes count nodes₀ k₀ at₀ nodes k at = count - k
 
 -- src/reader.rt:71:5
 loop-holds : tie.Need-loop-holds Inv-loop μ-loop
-loop-holds c = (walked _ 0 1, filled-none (nodesBy (now (c .before .before .args .bytes)) 0) 4 (now (c .before .before .args .nodes)))
+loop-holds c = (walked _ 0 1, filled-none (nodesBy (now (c .before .before .args .bytes)) 0) 4 0 (now (c .before .before .args .nodes)))
 
 -- within the loop the next record and the room for its nodes are there
 abbrev Turn : Type 0
@@ -140,7 +139,7 @@ loop-again : tie.Need-loop-again Inv-loop μ-loop
 loop-again c = 
     let t = c .before .before .before .before in
     let l = t .before .loop in
-    (walked-on _ 0 1 12 _ _ cell-size (l .inv .0) (below t), nodes-turn _ 0 _ _ (l .inv .0 .reached) _ _ (l .inv .1) (room t) _ _ _ _ (c .before .before .before .word-at .ensures) (c .before .before .word-at2 .ensures) (c .before .word-at3 .ensures) (c .word-at4 .ensures))
+    (walked-on _ 0 1 12 _ _ cell-size (l .inv .0) (below t), nodes-turn _ 0 _ _ (l .inv .0 .reached) _ _ (l .inv .1) _ _ _ _ (c .before .before .before .word-at .ensures) (c .before .before .word-at2 .ensures) (c .before .word-at3 .ensures) (c .word-at4 .ensures))
 
 -- src/reader.rt:64:1
 same-length : tie.Need-same-length Inv-loop μ-loop
@@ -158,7 +157,7 @@ returns c =
     let a = c .before .before .before .before .args in
     let s = now (a .bytes) in
     let e : l .k ≡ cells s = all-done c in
-    (l .inv .0 .reached ∙ ap (start s 0) e, filled-all (nodesBy s 0) 4 (now (a .nodes)) (l .k) (l .nodes) (λ j. refl) (l .inv .1) ∙ ap (λ n. writtenOver (over (nodesBy s 0) n 0) (now (a .nodes))) e)
+    (l .inv .0 .reached ∙ ap (start s 0) e, filled-all (nodesBy s 0) 4 (l .k) (cells s) (l .nodes) (now (a .nodes)) (λ j. refl) (l .inv .1) e (omega (arith, e, c .before .before .before .before .pre .all, c .before .before .before .before .pre .room)))
 
 pub fill-cells-spec : {M : Type 1} → statement M
 fill-cells-spec =

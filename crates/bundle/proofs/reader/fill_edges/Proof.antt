@@ -6,10 +6,10 @@ use borrow.Author.Needs.{needs}
 use lib.ListN.{length, length-set}
 use denote.Ref.{now}
 use Rattle.counting.specs.Range.{over}
-use Rattle.counting.proofs.Fronts.{Filled, filled-none, filled-all}
+use Rattle.counting.proofs.Fronts.{Filled, filled-none}
 use Rattle.bundle.specs.Bundle.{start, run, edges, edgesFrom, endsOf, countsOf, writtenOver}
 use Rattle.bundle.proofs.Runs.{Walked, walked, walked-fits, walked-on}
-use Rattle.bundle.proofs.Fills.{edge-size, endsBy, countBy, ends-turn, counts-turn}
+use Rattle.bundle.proofs.Fills.{edge-size, endsBy, countBy, ends-turn, counts-turn, filled-all}
 use Rattle.bundle.proofs.reader.fill_edges.Statement.{statement}
 use Rattle.bundle.proofs.reader.fill_edges.Tie as tie
 use Rattle.bundle.proofs.reader.fill_edges.Reads as reads
@@ -17,14 +17,14 @@ use Rattle.bundle.proofs.reader.fill_edges.Lts as lts
 use Rattle.bundle.proofs.records.word_at.Reads as word-at-reads
 
 abbrev Inv-loop : tie.InvT-loop
-Inv-loop bytes from count ends₀ counts₀ k₀ at₀ ends counts k at = Walked bytes from 2 at k × Filled (endsBy bytes from) 2 k ends ends₀ × Filled (countBy bytes from) 1 k counts counts₀
+Inv-loop bytes from count ends₀ counts₀ k₀ at₀ ends counts k at = Walked bytes from 2 at k × Filled (endsBy bytes from) 2 0 k ends ends₀ × Filled (countBy bytes from) 1 0 k counts counts₀
 
 abbrev μ-loop : tie.MeasureT-loop
 μ-loop bytes from count ends₀ counts₀ k₀ at₀ ends counts k at = count - k
 
 -- src/reader.rt:89:5
 loop-holds : tie.Need-loop-holds Inv-loop μ-loop
-loop-holds c = (walked _ _ 2, filled-none (endsBy (now (c .before .before .before .args .bytes)) (c .before .before .before .args .from)) 2 (now (c .before .before .before .args .ends)), filled-none (countBy (now (c .before .before .before .args .bytes)) (c .before .before .before .args .from)) 1 (now (c .before .before .before .args .counts)))
+loop-holds c = (walked _ _ 2, filled-none (endsBy (now (c .before .before .before .args .bytes)) (c .before .before .before .args .from)) 2 0 (now (c .before .before .before .args .ends)), filled-none (countBy (now (c .before .before .before .args .bytes)) (c .before .before .before .args .from)) 1 0 (now (c .before .before .before .args .counts)))
 
 -- within the loop the next record and the room for its numbers are there
 abbrev Turn : Type 0
@@ -118,8 +118,8 @@ loop-again c =
     let t = c .before .before .before in
     let l = t .before .loop in (
       walked-on _ _ 2 9 _ _ edge-size (l .inv .0) (below t),
-      ends-turn _ _ _ _ (l .inv .0 .reached) _ _ (l .inv .1) (room t .0) _ _ (c .before .before .word-at .ensures) (c .before .word-at2 .ensures),
-      counts-turn _ _ _ _ (l .inv .0 .reached) _ _ (l .inv .2) (room t .1),
+      ends-turn _ _ _ _ (l .inv .0 .reached) _ _ (l .inv .1) _ _ (c .before .before .word-at .ensures) (c .before .word-at2 .ensures),
+      counts-turn _ _ _ _ (l .inv .0 .reached) _ _ (l .inv .2),
     )
 
 -- src/reader.rt:82:1
@@ -146,13 +146,12 @@ returns c =
     let a = c .before .before .before .before .before .args in
     let s = now (a .bytes) in
     let b = c .before .before .before .before .before .pre .begin in
+    let p = c .before .before .before .before .before .pre in
     let e : l .k ≡ edges s = all-done c in (
-      filled-all (endsBy s (a .from)) 2 (now (a .ends)) (l .k) (l .ends) (λ j. refl) (l .inv .1)
-      ∙ ap (λ n. writtenOver (over (endsBy s n) (l .k) 0) (now (a .ends))) b
-      ∙ ap (λ n. writtenOver (over (endsBy s (edgesFrom s)) n 0) (now (a .ends))) e,
-      filled-all (countBy s (a .from)) 1 (now (a .counts)) (l .k) (l .counts) (λ j. refl) (l .inv .2)
-      ∙ ap (λ n. writtenOver (over (countBy s n) (l .k) 0) (now (a .counts))) b
-      ∙ ap (λ n. writtenOver (over (countBy s (edgesFrom s)) n 0) (now (a .counts))) e,
+      filled-all (endsBy s (a .from)) 2 (l .k) (edges s) (l .ends) (now (a .ends)) (λ j. refl) (l .inv .1) e (omega (arith, e, p .all, p .endsRoom))
+      ∙ ap (λ n. writtenOver (over (endsBy s n) (edges s) 0) (now (a .ends))) b,
+      filled-all (countBy s (a .from)) 1 (l .k) (edges s) (l .counts) (now (a .counts)) (λ j. refl) (l .inv .2) e (omega (arith, e, p .all, p .countsRoom))
+      ∙ ap (λ n. writtenOver (over (countBy s n) (edges s) 0) (now (a .counts))) b,
     )
 
 pub fill-edges-spec : {M : Type 1} → statement M
