@@ -2,3 +2,4 @@ pub mod OneRecord
 pub mod Runs
 pub mod Answers
 pub mod Fills
+pub mod Writes

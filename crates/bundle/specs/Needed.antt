@@ -1,5 +1,5 @@
--- What the private fillers of the reader ask of their callers.
-use Prim.Native.Nat.{ℕ, _*_, _≤_}
+-- What private functions of the reader and the writer ask of their callers.
+use Prim.Native.Nat.{ℕ, _+_, _*_, _/_, _≤_}
 use mathlib.Core.Path.{_≡_}
 use mathlib.Core.List.{List}
 use lib.ListN.{length}
@@ -16,3 +16,12 @@ pub record EdgesLent (s : List ℕ) (from count : ℕ) (ends counts : List ℕ) 
   pub all : count ≡ edges s
   pub endsRoom : edgeEnds * count ≤ length ends
   pub countsRoom : count ≤ length counts
+
+-- room for the records of all the cells at the front of the area
+pub record CellsFit (nodes area : List ℕ) : Type 0 where
+  pub fits : 12 * (length nodes / cellNodes) ≤ length area
+
+-- two ends to a count, and room for the records of all the edges from a place on
+pub record EdgesFit (ends counts : List ℕ) (at : ℕ) (area : List ℕ) : Type 0 where
+  pub pairs : length ends ≡ edgeEnds * length counts
+  pub fits : at + 9 * length counts ≤ length area

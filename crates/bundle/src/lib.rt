@@ -1,11 +1,13 @@
 // Bundles: records, the reader and the writer.
 mod reader;
 mod records;
+mod writer;
 
 pub use reader::read;
 pub use reader::scan;
 pub use records::body_at;
 pub use records::record_at;
+pub use writer::write;
 
 // What stands at a start: a whole record's kind and the next start, or a refusal's number and place.
 pub enum Record {
@@ -16,5 +18,11 @@ pub enum Record {
 // What a bundle holds: the numbers of cells and edges, or a refusal's number and place.
 pub enum Contents {
     Lists(usize, usize),
+    Refused(u8, usize),
+}
+
+// What was written: the number of bytes, or a refusal's number and place.
+pub enum Written {
+    Bytes(usize),
     Refused(u8, usize),
 }
