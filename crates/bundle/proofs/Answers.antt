@@ -97,6 +97,20 @@ module _ (s : List ℕ) where
         not-clash (a && b && c)
         (λ q. h (leb-true _ _ (and-left a b (and-left (a && b) c q))) (leb-true _ _ (and-right a b (and-left (a && b) c q))) (leb-true _ _ (and-right (a && b) c q)))
 
+  -- a result of the reader is the bundle's own
+  pub read-bundle : (n m l c e : ℕ) → readAnswer s n m l ≡ result (c ∷ e ∷ []) → bundleAnswer s ≡ result (c ∷ e ∷ [])
+  unfolding readAnswer
+  read-bundle n m l c e h = go (isBundle s && not (hasRoom s n m l)) h
+    where
+      go : (b : Bool) → pick b (refusal shortRow 0) (bundleAnswer s) ≡ result (c ∷ e ∷ []) → bundleAnswer s ≡ result (c ∷ e ∷ [])
+      go true q = apart _ _ _ _ (sym q)
+      go false q = q
+
+  -- and lists with room have it
+  pub read-lists : (n m l : ℕ) → isBundle s ≡ true → 4 * cells s ≤ n → 2 * edges s ≤ m → edges s ≤ l → readAnswer s n m l ≡ result (cells s ∷ edges s ∷ [])
+  unfolding readAnswer
+  read-lists n m l h a b c = simp (h, room n m l a b c) (bundle-answer h)
+
 -- what the reader answers and leaves in the lists that it was lent
 abbrev pub Leaves : (s ns es cs answer ns' es' cs' : List ℕ) → Type 0
 Leaves s ns es cs answer ns' es' cs' =

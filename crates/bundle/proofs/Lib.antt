@@ -3,3 +3,7 @@ pub mod Runs
 pub mod Answers
 pub mod Fills
 pub mod Writes
+pub mod Faults
+pub mod Within
+pub mod BytesBack
+pub mod ListsBack

@@ -81,6 +81,11 @@ module _ (nodes ends counts : List ℕ) where
       ∙ sym (sets-append area 0 (cellsPart ++ edgesPart) endRecord)
       ∙ sets-front (cellsPart ++ edgesPart ++ endRecord) area b
 
+  pub answer-written : (room : ℕ) → length nodes % 4 ≡ 0 → length ends ≡ 2 * length counts → length (bundleBytes nodes ends counts) ≤ room
+      → writeAnswer nodes ends counts room ≡ result (length (bundleBytes nodes ends counts) ∷ [])
+  unfolding writeAnswer isFormed fitsArea
+  answer-written room h4 h2 b = simp (eq-eqb _ _ h4, eq-eqb _ _ h2, le-leb _ _ b)
+
   -- the cases of the answer, with the area that each leaves
   module _ (area : List ℕ) where
     abbrev Left : (answer area' : List ℕ) → Type 0

@@ -1,5 +1,5 @@
 -- Lists of equal length joined over a range, and their entries stored in another list one after the other.
-use Prim.Native.Nat.{ℕ, zero, suc, _+_, _*_, _≤_, _<_}
+use Prim.Native.Nat.{ℕ, zero, suc, _+_, _-_, _*_, _≤_, _<_}
 use mathlib.Core.Path.{_≡_, refl, sym, ap, _∙_}
 use mathlib.Core.Logic.{_⊎_, inl, inr}
 use mathlib.Core.List.{List, [], _∷_, _++_, append-assoc}
@@ -7,7 +7,7 @@ use native.Mathlib.Nat.{zero-add, add-zero, mul-suc, mul-zero, mul-le-mul-left}
 use native.Mathlib.Numerals.{add-one}
 use native.Mathlib.Omega.{arith}
 use lib.ListN.{length, getD, take, drop, set, length-append, List·getD-append}
-use lib.Seq.{take-add, take-all, sets, sets-eq, length-sets, getD-append-add}
+use lib.Seq.{take-at, take-add, take-all, drop-cons, sets, sets-eq, length-sets, getD-append-add}
 use Rattle.counting.specs.Range.{over}
 use Rattle.counting.proofs.Search.{below-or}
 use Rattle.counting.proofs.Range.{over-snoc, over-ext}
@@ -114,3 +114,49 @@ module _ {A : Type 0} (l : List A) (n : ℕ) where
       ap (λ (x : List A). set (set x (n + 2) c) (n + 3) d) (sets-two a b)
       ∙ ap (λ k. set (set (sets l n (a ∷ b ∷ [])) k c) (n + 3) d) e
       ∙ ap (λ k. set (sets l n (a ∷ b ∷ c ∷ [])) k d) f
+
+-- m lists and then n
+pub over-split : {A : Type 0} (f : ℕ → List A) (m n p : ℕ) → over f (m + n) p ≡ over f m p ++ over f n (p + m)
+unfolding over
+over-split f zero n p = ap (λ k. over f k p) (zero-add n) ∙ ap (over f n) (sym (add-zero p))
+over-split f (suc m) n p =
+    let e : suc m + n ≡ suc (m + n) = omega arith in
+    let q : suc p + m ≡ p + suc m = omega arith in
+    ap (λ k. over f k p) e
+    ∙ ap (λ l. f p ++ l) (over-split f m n (suc p) ∙ ap (λ k. over f m (suc p) ++ over f n k) q)
+    ∙ sym (append-assoc (f p) (over f m (suc p)) (over f n (p + suc m)))
+
+-- list k and what stands before and after it
+pub over-at : {A : Type 0} (f : ℕ → List A) (n k : ℕ) → k < n → over f n 0 ≡ over f k 0 ++ (f k ++ over f (n - suc k) (suc k))
+unfolding over
+over-at f n k h =
+    let e : n ≡ k + suc (n - suc k) = omega arith in
+    ap (λ m. over f m 0) e ∙ over-split f k (suc (n - suc k)) 0 ∙ ap (λ m. over f k 0 ++ over f (suc (n - suc k)) m) (zero-add k)
+
+-- k entries of a list from a + j on
+module _ {A : Type 0} (l : List A) (d : A) where
+  unfoldable pub entries : ℕ → ℕ → ℕ → List A
+  entries a j zero = []
+  entries a j (suc k) = getD l (a + j) d ∷ entries a (suc j) k
+
+  pub drop-entries : (a j k : ℕ) → a + j + k ≤ length l → drop (a + j) l ≡ entries a j k ++ drop (a + j + k) l
+  unfolding entries
+  drop-entries a j zero h = ap (λ n. drop n l) (sym (add-zero (a + j)))
+  drop-entries a j (suc k) h =
+      let e : suc (a + j) ≡ a + suc j = omega arith in
+      let f : a + suc j + k ≡ a + j + suc k = omega arith in
+      drop-cons l (a + j) d (omega arith)
+      ∙ ap (λ n. getD l (a + j) d ∷ drop n l) e
+      ∙ ap (λ (x : List A). getD l (a + j) d ∷ x) (drop-entries a (suc j) k (omega arith))
+      ∙ ap (λ n. getD l (a + j) d ∷ (entries a (suc j) k ++ drop n l)) f
+
+  length-entries : (a j k : ℕ) → length (entries a j k) ≡ k
+  unfolding entries
+  length-entries a j zero = refl
+  length-entries a j (suc k) = ap suc (length-entries a (suc j) k)
+
+  pub take-entries : (a k : ℕ) → a + k ≤ length l → take k (drop a l) ≡ entries a 0 k
+  take-entries a k h =
+      ap (λ n. take k (drop n l)) (sym (add-zero a))
+      ∙ ap (take k) (drop-entries a 0 k (omega arith))
+      ∙ take-at (entries a 0 k) (drop (a + 0 + k) l) k (length-entries a 0 k)
