@@ -7,3 +7,4 @@ pub mod Faults
 pub mod Within
 pub mod BytesBack
 pub mod ListsBack
+pub mod Readings

@@ -5,10 +5,19 @@ use mathlib.Core.List.{List, [], _∷_}
 use lib.ListN.{length}
 use Rattle.answer.specs.Answer.{result, refusal}
 use Rattle.counting.specs.Lists.{All}
-use Rattle.bundle.specs.Record.{byteValues, headBytes, brokenRow, recordAnswer, bodyStart, bodySize}
-use Rattle.bundle.specs.Bundle.{cellNodes, bundleAnswer, readAnswer, nodesOf, endsOf, countsOf}
-use Rattle.bundle.specs.Written.{bundleBytes, writeAnswer}
+use Rattle.bundle.specs.Record.{byteValues, headBytes, brokenRow, recordAnswer, bodyStart, bodySize, recordNumbers}
+use Rattle.bundle.specs.Bundle.{cellNodes, bundleAnswer, readAnswer, nodesOf, endsOf, countsOf, contentsNumbers}
+use Rattle.bundle.specs.Written.{bundleBytes, writeAnswer, writtenNumbers}
+use Rattle.bundle.specs.declared.Record.{Record}
+use Rattle.bundle.specs.declared.Contents.{Contents}
+use Rattle.bundle.specs.declared.Written.{Written}
 use Rattle.bundle.specs.Fault.{Fault}
+
+-- the readings of the enums into numbers are one to one
+pub record OneToOne : Type 0 where
+  pub records : (x y : Record) → recordNumbers x ≡ recordNumbers y → x ≡ y
+  pub contents : (x y : Contents) → contentsNumbers x ≡ contentsNumbers y → x ≡ y
+  pub written : (x y : Written) → writtenNumbers x ≡ writtenNumbers y → x ≡ y
 
 -- a record and its body lie within the bytes
 abbrev pub RecordWithin : Type 0

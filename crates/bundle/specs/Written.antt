@@ -10,7 +10,7 @@ use Rattle.counting.specs.Range.{over}
 use Rattle.bundle.specs.Record.{byteValues, cellKind, edgeKind, endKind, lengthOf, brokenRow}
 use Rattle.bundle.specs.Bundle.{cellNodes, edgeEnds, shortRow}
 use Rattle.bundle.specs.declared.Written.{Written}
-use Rattle.bundle.specs.declared.Written.the-variants.{Bytes, Refused}
+use Rattle.bundle.specs.declared.Written.the-variants.{Bytes, Unformed, Short}
 
 -- the greatest number of bytes that a refusal names
 abbrev pub mostNamed : ℕ
@@ -74,4 +74,5 @@ writeAnswer nodes ends counts area =
 -- the enum's cases as the paper's numbers
 abbrev pub writtenNumbers : Written → List ℕ
 writtenNumbers (Bytes number) = result (number ∷ [])
-writtenNumbers (Refused number place) = refusal number place
+writtenNumbers Unformed = refusal brokenRow 0
+writtenNumbers (Short needed) = refusal shortRow needed

@@ -21,8 +21,9 @@ pub enum Contents {
     Refused(u8, usize),
 }
 
-// What was written: the number of bytes, or a refusal's number and place.
+// What was written: the number of bytes; or lists that are not 4 to a cell or 2 to a count; or an area too short, with the bytes needed.
 pub enum Written {
     Bytes(usize),
-    Refused(u8, usize),
+    Unformed,
+    Short(usize),
 }

@@ -1,7 +1,5 @@
 // The bundle writer.
 use crate::Written;
-use crate::reader::SHORT;
-use crate::records::BROKEN;
 ghost use mathlib.Core.Path.{_≡_};
 ghost use mathlib.Core.List.{_++_};
 ghost use Prim.Native.Nat.{_+_, _*_, _/_, _%_, _≤_, _<_, min};
@@ -153,16 +151,16 @@ pub fn write(nodes: &[u16], ends: &[u16], counts: &[u8], area: &mut [u8]) -> Wri
     let cells = nodes.len() / 4;
     let edges = counts.len();
     if nodes.len() % 4 != 0 {
-        return Written::Refused(BROKEN, 0);
+        return Written::Unformed;
     }
     if ends.len() % 2 != 0 {
-        return Written::Refused(BROKEN, 0);
+        return Written::Unformed;
     }
     if ends.len() / 2 != edges {
-        return Written::Refused(BROKEN, 0);
+        return Written::Unformed;
     }
     if !fits(cells, edges, area.len()) {
-        return Written::Refused(SHORT, needed(cells, edges));
+        return Written::Short(needed(cells, edges));
     }
     put_cells(nodes, area);
     put_edges(ends, counts, 12 * cells, area);
