@@ -8,3 +8,4 @@ pub mod Within
 pub mod BytesBack
 pub mod ListsBack
 pub mod Readings
+pub mod Computed
