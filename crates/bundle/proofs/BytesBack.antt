@@ -1,30 +1,27 @@
 -- A bundle that is read and written again has its bytes back. Assumes nothing.
-use Prim.Native.Nat.{ℕ, zero, suc, _+_, _*_, _/_, _%_, _≤_, _<_}
+use Prim.Native.Nat.{ℕ, zero, suc, _+_, _*_, _/_, _%_, _<_}
 use mathlib.Core.Path.{_≡_, refl, sym, ap, _∙_}
-use mathlib.Core.Bool.{Bool, true, false, not, _&&_}
+use mathlib.Core.Bool.{true}
 use mathlib.Core.List.{List, [], _∷_, _++_, append-assoc, append-nil}
-use native.Mathlib.Nat.{zero-add}
 use native.Mathlib.Decide.{decLt}
 use native.Mathlib.Omega.{arith}
 use lib.Dec.{eqb}
 use lib.ListN.{length, getD, drop, List·getD-eq-default}
 use lib.Seq.{drop-length}
 use borrow.Author.Tests.{eqb-true}
-use Rattle.answer.specs.Answer.{result, refusal}
-use Rattle.counting.specs.Pick.{pick}
+use Rattle.answer.specs.Answer.{result}
 use Rattle.counting.specs.Range.{over}
 use Rattle.counting.specs.Lists.{All}
 use Rattle.counting.proofs.Bools.{and-left, and-right}
 use Rattle.counting.proofs.Lists.{all-at}
-use Rattle.counting.proofs.Range.{over-ext}
 use Rattle.counting.proofs.Fronts.{over-more, length-blocks, getD-blocks, entries, drop-entries}
 use Rattle.bundle.specs.Record.{word, lengthOf, kindAt, nextAt, endKind}
-use Rattle.bundle.specs.Bundle.{isOf, start, run, cells, edgesFrom, edges, stop, isBundle, nodesAt, endsAt, countAt, nodesOf, endsOf, countsOf, bundleAnswer, readAnswer, hasRoom}
-use Rattle.bundle.specs.Written.{cellRecord, edgeRecord, endRecord, cellBytes, edgeBytes, bundleBytes, nodeOf, endOf, writeAnswer}
+use Rattle.bundle.specs.Bundle.{isOf, start, cells, edgesFrom, edges, stop, isBundle, nodesOf, endsOf, countsOf}
+use Rattle.bundle.specs.Written.{cellRecord, edgeRecord, endRecord, cellBytes, edgeBytes, bundleBytes, nodeOf, endOf}
 use Rattle.bundle.specs.Claims.{BytesBack, ReadWritten}
-use Rattle.bundle.proofs.OneRecord.{stands, apart}
-use Rattle.bundle.proofs.Runs.{of-record, of-kind, next-of, fits-of, run-all, start-more}
-use Rattle.bundle.proofs.Fills.{cell-size, edge-size, end-size, nodesBy, endsBy, countBy}
+use Rattle.bundle.proofs.OneRecord.{stands}
+use Rattle.bundle.proofs.Runs.{of-record, of-kind, next-of, fits-of, run-all}
+use Rattle.bundle.proofs.Fills.{nodesBy, endsBy, countBy}
 use Rattle.bundle.proofs.Answers.{accepted, read-bundle}
 use Rattle.bundle.proofs.Writes.{answer-written}
 
@@ -179,8 +176,8 @@ module _ (s : List ℕ) where
         record {
           bytes = e;
           answer = λ area l.
-            answer-written (nodesOf s) (endsOf s) (countsOf s) area (omega (arith, length-nodes)) (length-ends ∙ ap (λ n. 2 * n) (sym length-counts)) (omega (arith, ap length e, l))
-            ∙ ap (λ (z : List ℕ). result (length z ∷ [])) e;
+              answer-written (nodesOf s) (endsOf s) (countsOf s) area (omega (arith, length-nodes)) (length-ends ∙ ap (λ n. 2 * n) (sym length-counts)) (omega (arith, ap length e, l))
+              ∙ ap (λ (z : List ℕ). result (length z ∷ [])) e;
         }
 
 -- a byte at any place

@@ -3,14 +3,14 @@ use Prim.Native.Nat.{ℕ, zero, suc, _+_, _-_, _≤_, _<_}
 use mathlib.Core.Path.{_≡_, refl, sym, ap, _∙_, subst}
 use mathlib.Core.Logic.{_⊎_, inl, inr, ⊎-elim}
 use mathlib.Core.Bool.{Bool, true, false}
-use mathlib.Core.List.{List, [], _∷_}
+use mathlib.Core.List.{List}
 use native.Mathlib.Nat.{add-zero, le-refl}
 use native.Mathlib.Decide.{decLt}
 use native.Mathlib.Omega.{arith}
 use lib.Dec.{eqb}
 use lib.ListN.{length}
 use borrow.Author.Tests.{eqb-true, eqb-false}
-use Rattle.answer.specs.Answer.{result, refusal}
+use Rattle.answer.specs.Answer.{refusal}
 use Rattle.counting.specs.Pick.{pick}
 use Rattle.counting.proofs.Bools.{clash, and-left, and-right}
 use Rattle.bundle.specs.Record.{lengthOf, kindAt, nextAt, isRecord, endKind, brokenRow}
@@ -104,8 +104,9 @@ module _ (s : List ℕ) where
   kind : (j : ℕ) → j < cells s + edges s → Kind j
   kind j h =
       elim (decLt j (cells s)) [
-        yes l ↦ record { is = of-record s 1 _ (cell-record j l); which = inl (of-kind s 1 _ (cell-record j l), l) }
-        | no l ↦ let b : cells s ≤ j = omega arith in record { is = of-record s 2 _ (edge-record j b h); which = inr (of-kind s 2 _ (edge-record j b h), b) } ]
+        | yes l ↦ record { is = of-record s 1 _ (cell-record j l); which = inl (of-kind s 1 _ (cell-record j l), l) }
+        | no l ↦ let b : cells s ≤ j = omega arith in record { is = of-record s 2 _ (edge-record j b h); which = inr (of-kind s 2 _ (edge-record j b h), b) }
+      ]
 
   not-end : (j : ℕ) → j < cells s + edges s → kindOf s j ≡ endKind → ⊥
   not-end j h e = ⊎-elim (λ (w : (kindOf s j ≡ 1) × (j < cells s)). omega (arith, w, e)) (λ (w : (kindOf s j ≡ 2) × (cells s ≤ j)). omega (arith, w, e)) (kind j h .which)
@@ -129,12 +130,13 @@ module _ (s : List ℕ) where
         record {
           whole = λ j l. elim (decLt j (cells s + edges s)) [ yes b ↦ kind j b .is | no b ↦ let e : j ≡ cells s + edges s = omega arith in ap (λ i. isRecord s (start s 0 i)) e ∙ of-record s endKind _ end-record ];
           sorted = λ j k l b.
-            elim (decLt k (cells s + edges s)) [
-              yes r ↦ in-order j k l r
-              | no r ↦
-                let e : k ≡ cells s + edges s = omega arith in
-                let f : kindOf s k ≡ 3 = ap (kindOf s) e ∙ of-kind s endKind _ end-record in
-                ⊎-elim (λ (w : (kindOf s j ≡ 1) × (j < cells s)). omega (arith, w, f)) (λ (w : (kindOf s j ≡ 2) × (cells s ≤ j)). omega (arith, w, f)) (kind j (omega arith) .which) ];
+              elim (decLt k (cells s + edges s)) [
+                | yes r ↦ in-order j k l r
+                | no r ↦
+                    let e : k ≡ cells s + edges s = omega arith in
+                    let f : kindOf s k ≡ 3 = ap (kindOf s) e ∙ of-kind s endKind _ end-record in
+                    ⊎-elim (λ (w : (kindOf s j ≡ 1) × (j < cells s)). omega (arith, w, f)) (λ (w : (kindOf s j ≡ 2) × (cells s ≤ j)). omega (arith, w, f)) (kind j (omega arith) .which)
+              ];
           unclosed = λ j l e. not-end j (omega arith) e;
         }
 
@@ -153,16 +155,19 @@ module _ (s : List ℕ) where
       where
         e : start s 0 (suc (cells s + edges s)) ≡ length s
         e = ap (nextAt s) (sym stop-start) ∙ n
+
         below : q < length s → Fault s q → ⊥
         below l y = none-below (suc (cells s + edges s)) clean-end q (omega (arith, e, l)) y
+
         go : Fault s q → ⊥
         go (broken k p w b f) = below b (broken k p w b f)
         go (disordered j k p w b f) = let g = inside k (w k (omega arith)) in below (omega arith) (disordered j k p w b f)
         go (trailing k p w f b) = below b (trailing k p w f b)
         go (endless k p w b f) =
             elim (decLt (cells s + edges s) k) [
-              yes l ↦ f (cells s + edges s) l (of-kind s endKind _ end-record)
-              | no l ↦ let g = inside k (clean-end .whole k (omega arith)) in omega arith ]
+              | yes l ↦ f (cells s + edges s) l (of-kind s endKind _ end-record)
+              | no l ↦ let g = inside k (clean-end .whole k (omega arith)) in omega arith
+            ]
 
   no-more-cells : isOf s 1 (edgesFrom s) ≡ false
   unfolding edgesFrom cells
@@ -198,12 +203,13 @@ module _ (s : List ℕ) where
       go true w =
           ⊎-elim (λ (e : kindAt s (stop s) ≡ 1). cell-fault w e)
           (λ (o : (kindAt s (stop s) ≡ 2) ⊎ (kindAt s (stop s) ≡ 3)).
-            ⊎-elim (λ (e : kindAt s (stop s) ≡ 2). clash (is-of s 2 (stop s) w e) no-more-edges) (λ (e : kindAt s (stop s) ≡ 3). clash (is-of s endKind (stop s) w e) h) o)
+          ⊎-elim (λ (e : kindAt s (stop s) ≡ 2). clash (is-of s 2 (stop s) w e) no-more-edges) (λ (e : kindAt s (stop s) ≡ 3). clash (is-of s endKind (stop s) w e) h) o)
           (kind-cases (kindAt s (stop s)) (stands s (stop s) w .known))
       go false w =
           elim (decLt (stop s) (length s)) [
-            yes l ↦ broken (cells s + edges s) stop-start (clean .whole) l w
-            | no l ↦ let i = stop-inside in endless (cells s + edges s) stop-start (clean .whole) (omega arith) (λ j b e. not-end j b e) ]
+            | yes l ↦ broken (cells s + edges s) stop-start (clean .whole) l w
+            | no l ↦ let i = stop-inside in endless (cells s + edges s) stop-start (clean .whole) (omega arith) (λ j b e. not-end j b e)
+          ]
 
   abbrev Low : ℕ → Type 0
   Low place = Fault s place × ((q : ℕ) → q < place → Fault s q → ⊥)
@@ -217,6 +223,7 @@ module _ (s : List ℕ) where
       at-end : (h : isOf s endKind (stop s) ≡ true) → (b : Bool) → eqb (nextAt s (stop s)) (length s) ≡ b → Low place
       at-end h true e = apart _ _ _ _ (sym (answer-lists s h (eqb-true _ _ e)) ∙ a)
       at-end h false e = let n = eqb-false _ _ e in subst Low (same-place place (nextAt s (stop s)) a (answer-after s h n)) (tail-fault h n)
+
       go : (b : Bool) → isOf s endKind (stop s) ≡ b → Low place
       go true h = at-end h (eqb (nextAt s (stop s)) (length s)) refl
       go false h =

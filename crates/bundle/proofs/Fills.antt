@@ -1,10 +1,9 @@
 -- A turn of the loops that fill lists from records. Assumes nothing.
-use Prim.Native.Nat.{ℕ, _+_, _*_, _≤_, _<_}
-use mathlib.Core.Path.{_≡_, refl, sym, ap, _∙_}
+use Prim.Native.Nat.{ℕ, _+_, _*_, _≤_}
+use mathlib.Core.Path.{_≡_, refl, ap, _∙_}
 use mathlib.Core.List.{List, [], _∷_}
 use native.Mathlib.Omega.{arith}
 use lib.ListN.{length, getD, set}
-use lib.Seq.{sets}
 use Rattle.counting.specs.Range.{over}
 use Rattle.counting.proofs.Fronts.{Filled, filled-more, length-blocks, sets-front, sets-two, sets-four}
 use Rattle.bundle.specs.Record.{word, lengthOf}

@@ -1,8 +1,8 @@
 -- Lists that are written and read again are the same lists. Assumes nothing.
 use Prim.Native.Nat.{ℕ, zero, suc, _+_, _-_, _*_, _/_, _%_, _≤_, _<_, min}
 use mathlib.Core.Path.{_≡_, refl, sym, ap, _∙_, subst}
-use mathlib.Core.Bool.{Bool, true, false, _&&_}
-use mathlib.Core.List.{List, [], _∷_, _++_, append-assoc, append-nil}
+use mathlib.Core.Bool.{Bool, true, false}
+use mathlib.Core.List.{List, [], _∷_, _++_, append-assoc}
 use native.Mathlib.Nat.{zero-add, add-zero, mul-zero, mul-suc, le-refl}
 use native.Mathlib.Numerals.{add-one}
 use native.Mathlib.Decide.{decLt}
@@ -17,12 +17,12 @@ use Rattle.counting.specs.Range.{over}
 use Rattle.counting.proofs.Bools.{and-left, and-right, and-true}
 use Rattle.counting.proofs.Range.{over-ext}
 use Rattle.counting.proofs.Fronts.{length-blocks, over-at, in-parts, entries, take-entries}
-use Rattle.bundle.specs.Record.{word, lengthOf, kindAt, nextAt, isRecord, endKind, brokenRow}
+use Rattle.bundle.specs.Record.{word, lengthOf, kindAt, nextAt, brokenRow}
 use Rattle.bundle.specs.Bundle.{isOf, start, run, cells, edgesFrom, edges, stop, isBundle, nodesAt, endsAt, countAt, nodesOf, endsOf, countsOf, shortRow, readAnswer}
 use Rattle.bundle.specs.Written.{cellRecord, edgeRecord, endRecord, cellBytes, edgeBytes, bundleBytes, nodeOf, endOf, isFormed, fitsArea, mostNamed, writeAnswer}
 use Rattle.bundle.specs.Claims.{ListsBack, WrittenRead}
-use Rattle.bundle.proofs.OneRecord.{Stands, standing}
-use Rattle.bundle.proofs.Runs.{Going, going, on, arrived, is-of, of-kind, other-of, next-of, fits-of}
+use Rattle.bundle.proofs.OneRecord.{standing}
+use Rattle.bundle.proofs.Runs.{Going, going, on, arrived, is-of, of-kind, other-of, next-of}
 use Rattle.bundle.proofs.Fills.{cell-size, edge-size, end-size}
 use Rattle.bundle.proofs.Answers.{read-lists}
 use Rattle.bundle.proofs.Writes.{length-cell, length-edge, length-bundle}

@@ -10,7 +10,7 @@ use lib.ListN.{length, take, drop}
 use borrow.Author.Tests.{ltb-true, leb-true, eqb-true, lt-ltb, le-ltb, le-leb, eq-eqb}
 use Rattle.answer.specs.Answer.{result, refusal}
 use Rattle.counting.specs.Pick.{pick}
-use Rattle.counting.proofs.Bools.{and-left, and-right, and-true, not-clash}
+use Rattle.counting.proofs.Bools.{and-left, and-right, not-clash}
 use Rattle.bundle.specs.Record.{word, lengthOf, kindAt, nextAt, isRecord, recordAnswer, brokenRow, body, bodySize, bodyStart}
 
 -- each kind's record has at least the two bytes of its kind

@@ -1,8 +1,5 @@
 -- The readings of the enums are one to one. Assumes nothing.
-use Prim.Native.Nat.{ℕ}
-use mathlib.Core.Path.{_≡_, refl, ap}
-use mathlib.Core.List.{List}
-use native.Mathlib.Omega.{arith}
+use mathlib.Core.Path.{_≡_, refl}
 use Rattle.bundle.specs.Record.{recordNumbers}
 use Rattle.bundle.specs.Bundle.{contentsNumbers}
 use Rattle.bundle.specs.Written.{writtenNumbers}

@@ -1,8 +1,8 @@
 -- Records of one kind that stand one after the other. Assumes nothing.
-use Prim.Native.Nat.{ℕ, zero, suc, _+_, _-_, _*_, _≤_, _<_}
+use Prim.Native.Nat.{ℕ, zero, suc, _+_, _≤_, _<_}
 use mathlib.Core.Path.{_≡_, refl, sym, ap, _∙_}
 use mathlib.Core.Logic.{⊎-elim}
-use mathlib.Core.Bool.{Bool, true, false, not, _&&_}
+use mathlib.Core.Bool.{true, false, not}
 use mathlib.Core.List.{List}
 use native.Mathlib.Nat.{le-refl}
 use native.Mathlib.Numerals.{add-one}
@@ -10,12 +10,11 @@ use native.Mathlib.Omega.{arith}
 use lib.Dec.{eqb}
 use lib.ListN.{length}
 use borrow.Author.Tests.{eqb-true, eq-eqb, ne-eqb, not-true, not-false}
-use Rattle.counting.specs.Search.{first}
 use Rattle.counting.proofs.Bools.{and-left, and-right, and-true, and-false-left, and-false-right}
-use Rattle.counting.proofs.Search.{first-le, first-at, first-is, first-below, below-or}
+use Rattle.counting.proofs.Search.{first-at, first-is, first-below, below-or}
 use Rattle.bundle.specs.Record.{word, lengthOf, kindAt, nextAt, isRecord}
 use Rattle.bundle.specs.Bundle.{isOf, start, run}
-use Rattle.bundle.proofs.OneRecord.{Stands, stands, next-ge}
+use Rattle.bundle.proofs.OneRecord.{stands, next-ge}
 
 -- a record of a kind at a place
 module _ (s : List ℕ) (kind at : ℕ) where

@@ -1,11 +1,10 @@
 -- The writer: turns of its loops, the length of what it writes, and the cases of its answer. Assumes nothing.
 use Prim.Native.Nat.{ℕ, _+_, _*_, _/_, _%_, _≤_, _<_, min}
 use mathlib.Core.Path.{_≡_, refl, sym, ap, _∙_}
-use mathlib.Core.Bool.{true, false, _&&_}
+use mathlib.Core.Bool.{true, false}
 use mathlib.Core.List.{List, [], _∷_, _++_}
-use native.Mathlib.Nat.{zero-add}
 use native.Mathlib.Omega.{arith}
-use lib.Dec.{leb, eqb}
+use lib.Dec.{eqb}
 use lib.ListN.{length, getD, length-append}
 use lib.Seq.{sets}
 use borrow.Author.Tests.{eq-eqb, ne-eqb, le-leb, lt-leb}
@@ -13,7 +12,7 @@ use Rattle.answer.specs.Answer.{result, refusal}
 use Rattle.counting.specs.Range.{over}
 use Rattle.counting.proofs.Bools.{and-false-left, and-false-right}
 use Rattle.counting.proofs.Fronts.{Filled, filled-more, length-blocks, sets-append, sets-front}
-use Rattle.bundle.specs.Record.{lengthOf, brokenRow}
+use Rattle.bundle.specs.Record.{brokenRow}
 use Rattle.bundle.specs.Bundle.{shortRow, leaves, writtenOver}
 use Rattle.bundle.specs.Written.{mostNamed, nodeOf, endOf, cellRecord, edgeRecord, endRecord, cellBytes, edgeBytes, bundleBytes, isFormed, fitsArea, isWritten, writeAnswer}
 

@@ -1,7 +1,12 @@
 // The bundle reader: what the bytes hold, then the lists.
 use crate::Contents;
 use crate::Record;
-use crate::records::{BROKEN, CELL, EDGE, END, record_at, word_at};
+use crate::records::BROKEN;
+use crate::records::CELL;
+use crate::records::EDGE;
+use crate::records::END;
+use crate::records::record_at;
+use crate::records::word_at;
 ghost use mathlib.Core.Path.{_≡_};
 ghost use Prim.Native.Nat.{_+_, _*_, _≤_};
 ghost use lib.ListN.{length};

@@ -6,7 +6,9 @@ ghost use lib.ListN.{length};
 ghost use Rattle.bundle.specs.Record.{word, lengthOf, recordAnswer, recordNumbers, body, bodyStart};
 
 pub(crate) const CELL: u16 = 1;
+
 pub(crate) const EDGE: u16 = 2;
+
 pub(crate) const END: u16 = 3;
 
 // The row of refusals that speaks of records.

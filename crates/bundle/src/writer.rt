@@ -59,7 +59,18 @@ fn put_cell(area: &mut [u8], at: usize, a: u16, b: u16, c: u16, d: u16)
     ensures { λ _. ⌜ now (area .exit) ≡ sets (now (area .entry)) at (cellRecord a b c d) ⌝ }
 {
     let r = [
-        10, 0, 1, 0, low(a), high(a), low(b), high(b), low(c), high(c), low(d), high(d),
+        10,
+        0,
+        1,
+        0,
+        low(a),
+        high(a),
+        low(b),
+        high(b),
+        low(c),
+        high(c),
+        low(d),
+        high(d),
     ];
     put(area, at, &r);
 }

@@ -4,13 +4,12 @@ use mathlib.Core.Path.{_≡_, refl, sym, ap, _∙_}
 use mathlib.Core.Logic.{_⊎_, inl, inr}
 use mathlib.Core.List.{List, [], _∷_, _++_, append-assoc}
 use native.Mathlib.Nat.{zero-add, add-zero, mul-suc, mul-zero, mul-le-mul-left}
-use native.Mathlib.Numerals.{add-one}
 use native.Mathlib.Omega.{arith}
 use lib.ListN.{length, getD, take, drop, set, length-append, List·getD-append}
 use lib.Seq.{take-at, take-add, take-all, drop-cons, sets, sets-eq, length-sets, getD-append-add}
 use Rattle.counting.specs.Range.{over}
 use Rattle.counting.proofs.Search.{below-or}
-use Rattle.counting.proofs.Range.{over-snoc, over-ext}
+use Rattle.counting.proofs.Range.{over-snoc}
 
 -- stores of two lists, one after the other
 pub sets-append : {A : Type 0} (l : List A) (i : ℕ) (v r : List A) → sets l i (v ++ r) ≡ sets (sets l i v) (i + length v) r
@@ -48,12 +47,15 @@ module _ {A : Type 0} (f : ℕ → List A) where
       where
         e : over f (suc n) 0 ≡ over f n 0 ++ f n
         e = over-snoc f n 0 ∙ ap (λ j. over f n 0 ++ f j) (zero-add n)
+
         front : length (over f n 0) ≡ w * n
         front = length-blocks n (λ j m. h j (omega arith))
+
         below : k < n → w * k + i < length (over f n 0)
         below q =
             let m : w * suc k ≤ w * n = mul-le-mul-left w q in
             omega (arith, m, mul-suc w k, front)
+
         go : (k ≡ n) ⊎ (k < n) → (k < n → getD (over f n 0) (w * k + i) d ≡ getD (f k) i d) → getD (over f (suc n) 0) (w * k + i) d ≡ getD (f k) i d
         go (inl q) r =
             let m : w * k + i ≡ length (over f n 0) + i = ap (λ j. w * j + i) q ∙ ap (λ j. j + i) (sym front) in
@@ -96,10 +98,10 @@ module _ {A : Type 0} (g : ℕ → List A) (w i : ℕ) (l0 : List A) where
         record {
           long = length-sets l at v ∙ f .long;
           front =
-            ap (λ (x : List A). sets x at v) (f .front)
-            ∙ ap (λ k. sets (sets l0 i (over g n 0)) k v) m
-            ∙ sym (sets-append l0 i (over g n 0) v)
-            ∙ ap (sets l0 i) (ap (λ (x : List A). over g n 0 ++ x) h ∙ sym (over-more g n));
+              ap (λ (x : List A). sets x at v) (f .front)
+              ∙ ap (λ k. sets (sets l0 i (over g n 0)) k v) m
+              ∙ sym (sets-append l0 i (over g n 0) v)
+              ∙ ap (sets l0 i) (ap (λ (x : List A). over g n 0 ++ x) h ∙ sym (over-more g n));
         }
 
 -- stores one after the other, as code writes them

@@ -1,10 +1,10 @@
 -- What the answer of a scan tells the host. Assumes nothing.
 use Prim.Native.Nat.{ℕ}
-use mathlib.Core.Path.{_≡_, refl, sym, ap, _∙_}
-use mathlib.Core.Bool.{Bool, true, false, cond}
-use mathlib.Core.List.{List, [], _∷_}
+use mathlib.Core.Path.{_≡_, sym, ap, _∙_}
+use mathlib.Core.Bool.{cond}
+use mathlib.Core.List.{List}
 use lib.ListN.{getD}
-use Rattle.bundle.specs.Bundle.{cells, edges, isBundle, bundleAnswer, contentsNumbers}
+use Rattle.bundle.specs.Bundle.{cells, edges, bundleAnswer, contentsNumbers}
 use Rattle.bundle.specs.declared.Contents.{Contents}
 use Rattle.bundle.specs.declared.Contents.the-variants.{Lists, Refused}
 use Rattle.bundle.proofs.Answers.{accepted, accepted-cells, accepted-edges, rejected}

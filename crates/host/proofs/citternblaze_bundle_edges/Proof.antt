@@ -5,30 +5,22 @@ use Rattle.host.proofs.Told.{whole-edges, broken-edges}
 use borrow.Author.Needs.{needs}
 use Rattle.host.proofs.citternblaze_bundle_edges.Statement.{statement}
 use Rattle.host.proofs.citternblaze_bundle_edges.Tie as tie
-use Rattle.host.proofs.citternblaze_bundle_edges.Reads as reads
-use Rattle.host.proofs.citternblaze_bundle_edges.Lts as lts
-use Rattle.bundle.proofs.scan.Reads as scan-reads
 
--- src/lib.rt:33:11
 scan-requires : tie.Need-scan-requires
 scan-requires c κs = search needs
 
--- src/lib.rt:34:25
 enum-known-cells : tie.Need-enum-known-cells
 enum-known-cells c = search needs
 
--- src/lib.rt:35:27
 enum-known-number : tie.Need-enum-known-number
 enum-known-number c = search needs
 
--- src/lib.rt:29:1
 returns : tie.Need-returns
 returns c =
     let r = c .before .before .before .scan in
     let e : Lists (c .before .cells .given .0 .0) (c .before .cells .given .0 .1 .0) ≡ r .result = cc in
     whole-edges (now (c .before .before .before .before .before .args .bytes)) (r .result) (r .ensures) _ _ e
 
--- src/lib.rt:29:1
 returns-2 : tie.Need-returns-2
 returns-2 c =
     let r = c .before .before .before .scan in

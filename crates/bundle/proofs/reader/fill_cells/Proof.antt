@@ -1,8 +1,6 @@
-use Prim.Native.Nat.{ℕ, _+_, _-_, _*_, _≤_, _<_}
-use mathlib.Core.Path.{_≡_, refl, sym, ap, _∙_}
-use mathlib.Core.List.{List}
+use Prim.Native.Nat.{_+_, _-_, _*_, _≤_, _<_}
+use mathlib.Core.Path.{_≡_, refl, ap, _∙_}
 use native.Mathlib.Omega.{arith}
-use borrow.Author.Needs.{needs}
 use lib.ListN.{length, length-set}
 use denote.Ref.{now}
 use Rattle.counting.proofs.Fronts.{Filled, filled-none}
@@ -11,9 +9,6 @@ use Rattle.bundle.proofs.Runs.{Walked, walked, walked-fits, walked-on}
 use Rattle.bundle.proofs.Fills.{cell-size, nodesBy, nodes-turn, filled-all}
 use Rattle.bundle.proofs.reader.fill_cells.Statement.{statement}
 use Rattle.bundle.proofs.reader.fill_cells.Tie as tie
-use Rattle.bundle.proofs.reader.fill_cells.Reads as reads
-use Rattle.bundle.proofs.reader.fill_cells.Lts as lts
-use Rattle.bundle.proofs.records.word_at.Reads as word-at-reads
 
 abbrev Inv-loop : tie.InvT-loop
 Inv-loop bytes count nodes₀ k₀ at₀ nodes k at = Walked bytes 0 1 at k × Filled (nodesBy bytes 0) 4 0 k nodes nodes₀
@@ -21,7 +16,6 @@ Inv-loop bytes count nodes₀ k₀ at₀ nodes k at = Walked bytes 0 1 at k × F
 abbrev μ-loop : tie.MeasureT-loop
 μ-loop bytes count nodes₀ k₀ at₀ nodes k at = count - k
 
--- src/reader.rt:71:5
 loop-holds : tie.Need-loop-holds Inv-loop μ-loop
 loop-holds c = (walked _ 0 1, filled-none (nodesBy (now (c .before .before .args .bytes)) 0) 4 0 (now (c .before .before .args .nodes)))
 
@@ -42,106 +36,81 @@ room c = omega (arith, c .before .before .before .before .pre .room, c .loop-tes
 space : (c : Turn) → 4 * c .before .loop .k + 4 ≤ length (c .before .loop .nodes)
 space c = omega (arith, room c, c .before .loop .inv .1 .long)
 
--- src/reader.rt:72:17
 mul-j : tie.Need-mul-j Inv-loop μ-loop
 mul-j c = omega (arith, space c)
 
--- src/reader.rt:73:35
 add-word-at : tie.Need-add-word-at Inv-loop μ-loop
 add-word-at c = omega (arith, fits c)
 
--- src/reader.rt:73:20
 word-at-requires : tie.Need-word-at-requires Inv-loop μ-loop
 word-at-requires c κs = omega (arith, fits c)
 
--- src/reader.rt:73:9
 mul-nodes : tie.Need-mul-nodes Inv-loop μ-loop
 mul-nodes c = omega (arith, space (c .before))
 
--- src/reader.rt:73:9
 slice-write-nodes : tie.Need-slice-write-nodes Inv-loop μ-loop
 slice-write-nodes c = omega (arith, space (c .before))
 
--- src/reader.rt:74:39
 add-word-at-2 : tie.Need-add-word-at-2 Inv-loop μ-loop
 add-word-at-2 c = omega (arith, fits (c .before))
 
--- src/reader.rt:74:24
 word-at-requires-2 : tie.Need-word-at-requires-2 Inv-loop μ-loop
 word-at-requires-2 c κs = omega (arith, fits (c .before))
 
--- src/reader.rt:74:15
 add-nodes : tie.Need-add-nodes Inv-loop μ-loop
 add-nodes c = omega (arith, space (c .before .before))
 
--- src/reader.rt:74:9
 mul-nodes-2 : tie.Need-mul-nodes-2 Inv-loop μ-loop
 mul-nodes-2 c = omega (arith, space (c .before .before))
 
--- src/reader.rt:74:9
 slice-write-nodes-2 : tie.Need-slice-write-nodes-2 Inv-loop μ-loop
 slice-write-nodes-2 c = simp length-set (omega (arith, space (c .before .before)))
 
--- src/reader.rt:75:39
 add-word-at-3 : tie.Need-add-word-at-3 Inv-loop μ-loop
 add-word-at-3 c = omega (arith, fits (c .before .before))
 
--- src/reader.rt:75:24
 word-at-requires-3 : tie.Need-word-at-requires-3 Inv-loop μ-loop
 word-at-requires-3 c κs = omega (arith, fits (c .before .before))
 
--- src/reader.rt:75:15
 add-nodes-2 : tie.Need-add-nodes-2 Inv-loop μ-loop
 add-nodes-2 c = omega (arith, space (c .before .before .before))
 
--- src/reader.rt:75:9
 mul-nodes-3 : tie.Need-mul-nodes-3 Inv-loop μ-loop
 mul-nodes-3 c = omega (arith, space (c .before .before .before))
 
--- src/reader.rt:75:9
 slice-write-nodes-3 : tie.Need-slice-write-nodes-3 Inv-loop μ-loop
 slice-write-nodes-3 c = simp length-set (omega (arith, space (c .before .before .before)))
 
--- src/reader.rt:76:39
 add-word-at-4 : tie.Need-add-word-at-4 Inv-loop μ-loop
 add-word-at-4 c = omega (arith, fits (c .before .before .before))
 
--- src/reader.rt:76:24
 word-at-requires-4 : tie.Need-word-at-requires-4 Inv-loop μ-loop
 word-at-requires-4 c κs = omega (arith, fits (c .before .before .before))
 
--- src/reader.rt:76:15
 add-nodes-3 : tie.Need-add-nodes-3 Inv-loop μ-loop
 add-nodes-3 c = omega (arith, space (c .before .before .before .before))
 
--- src/reader.rt:76:9
 mul-nodes-4 : tie.Need-mul-nodes-4 Inv-loop μ-loop
 mul-nodes-4 c = omega (arith, space (c .before .before .before .before))
 
--- src/reader.rt:76:9
 slice-write-nodes-4 : tie.Need-slice-write-nodes-4 Inv-loop μ-loop
 slice-write-nodes-4 c = simp length-set (omega (arith, space (c .before .before .before .before)))
 
--- src/reader.rt:77:9
 add-at : tie.Need-add-at Inv-loop μ-loop
 add-at c = omega (arith, fits (c .before .before .before .before))
 
--- src/reader.rt:78:9
 add-k : tie.Need-add-k Inv-loop μ-loop
 add-k c = omega (arith, space (c .before .before .before .before))
 
--- src/reader.rt:71:5
 loop-less : tie.Need-loop-less Inv-loop μ-loop
 loop-less c = omega arith
 
--- src/reader.rt:71:5
 loop-again : tie.Need-loop-again Inv-loop μ-loop
-loop-again c = 
+loop-again c =
     let t = c .before .before .before .before in
     let l = t .before .loop in
     (walked-on _ 0 1 12 _ _ cell-size (l .inv .0) (below t), nodes-turn _ 0 _ _ (l .inv .0 .reached) _ _ (l .inv .1) _ _ _ _ (c .before .before .before .word-at .ensures) (c .before .before .word-at2 .ensures) (c .before .word-at3 .ensures) (c .word-at4 .ensures))
 
--- src/reader.rt:64:1
 same-length : tie.Need-same-length Inv-loop μ-loop
 same-length c = c .before .loop .inv .1 .long
 
@@ -149,7 +118,6 @@ all-done : (c : tie.After-loop Inv-loop μ-loop) → c .before .loop .k ≡ cell
 unfolding cells
 all-done c = let a = c .before .before .before .before .pre .all in omega (arith, a, c .before .loop .inv .0 .upto)
 
--- src/reader.rt:64:1
 returns : tie.Need-returns Inv-loop μ-loop
 unfolding edgesFrom nodesOf
 returns c =

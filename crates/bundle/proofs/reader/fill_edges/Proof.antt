@@ -1,20 +1,15 @@
-use Prim.Native.Nat.{ℕ, _+_, _-_, _*_, _≤_, _<_}
+use Prim.Native.Nat.{_+_, _-_, _*_, _≤_, _<_}
 use mathlib.Core.Path.{_≡_, refl, sym, ap, _∙_}
-use mathlib.Core.List.{List}
 use native.Mathlib.Omega.{arith}
-use borrow.Author.Needs.{needs}
 use lib.ListN.{length, length-set}
 use denote.Ref.{now}
 use Rattle.counting.specs.Range.{over}
 use Rattle.counting.proofs.Fronts.{Filled, filled-none}
-use Rattle.bundle.specs.Bundle.{start, run, edges, edgesFrom, endsOf, countsOf, writtenOver}
+use Rattle.bundle.specs.Bundle.{run, edges, endsOf, countsOf, writtenOver}
 use Rattle.bundle.proofs.Runs.{Walked, walked, walked-fits, walked-on}
 use Rattle.bundle.proofs.Fills.{edge-size, endsBy, countBy, ends-turn, counts-turn, filled-all}
 use Rattle.bundle.proofs.reader.fill_edges.Statement.{statement}
 use Rattle.bundle.proofs.reader.fill_edges.Tie as tie
-use Rattle.bundle.proofs.reader.fill_edges.Reads as reads
-use Rattle.bundle.proofs.reader.fill_edges.Lts as lts
-use Rattle.bundle.proofs.records.word_at.Reads as word-at-reads
 
 abbrev Inv-loop : tie.InvT-loop
 Inv-loop bytes from count ends₀ counts₀ k₀ at₀ ends counts k at = Walked bytes from 2 at k × Filled (endsBy bytes from) 2 0 k ends ends₀ × Filled (countBy bytes from) 1 0 k counts counts₀
@@ -22,7 +17,6 @@ Inv-loop bytes from count ends₀ counts₀ k₀ at₀ ends counts k at = Walked
 abbrev μ-loop : tie.MeasureT-loop
 μ-loop bytes from count ends₀ counts₀ k₀ at₀ ends counts k at = count - k
 
--- src/reader.rt:89:5
 loop-holds : tie.Need-loop-holds Inv-loop μ-loop
 loop-holds c = (walked _ _ 2, filled-none (endsBy (now (c .before .before .before .args .bytes)) (c .before .before .before .args .from)) 2 0 (now (c .before .before .before .args .ends)), filled-none (countBy (now (c .before .before .before .args .bytes)) (c .before .before .before .args .from)) 1 0 (now (c .before .before .before .args .counts)))
 
@@ -48,73 +42,56 @@ room c =
 space : (c : Turn) → (2 * c .before .loop .k + 2 ≤ length (c .before .loop .ends)) × (c .before .loop .k < length (c .before .loop .counts))
 space c = (omega (arith, room c .0, c .before .loop .inv .1 .long), omega (arith, room c .1, c .before .loop .inv .2 .long))
 
--- src/reader.rt:90:17
 mul-j : tie.Need-mul-j Inv-loop μ-loop
 mul-j c = omega (arith, space c .0)
 
--- src/reader.rt:91:34
 add-word-at : tie.Need-add-word-at Inv-loop μ-loop
 add-word-at c = omega (arith, fits c)
 
--- src/reader.rt:91:19
 word-at-requires : tie.Need-word-at-requires Inv-loop μ-loop
 word-at-requires c κs = omega (arith, fits c)
 
--- src/reader.rt:91:9
 mul-ends : tie.Need-mul-ends Inv-loop μ-loop
 mul-ends c = omega (arith, space (c .before) .0)
 
--- src/reader.rt:91:9
 slice-write-ends : tie.Need-slice-write-ends Inv-loop μ-loop
 slice-write-ends c = omega (arith, space (c .before) .0)
 
--- src/reader.rt:92:38
 add-word-at-2 : tie.Need-add-word-at-2 Inv-loop μ-loop
 add-word-at-2 c = omega (arith, fits (c .before))
 
--- src/reader.rt:92:23
 word-at-requires-2 : tie.Need-word-at-requires-2 Inv-loop μ-loop
 word-at-requires-2 c κs = omega (arith, fits (c .before))
 
--- src/reader.rt:92:14
 add-ends : tie.Need-add-ends Inv-loop μ-loop
 add-ends c = omega (arith, space (c .before .before) .0)
 
--- src/reader.rt:92:9
 mul-ends-2 : tie.Need-mul-ends-2 Inv-loop μ-loop
 mul-ends-2 c = omega (arith, space (c .before .before) .0)
 
--- src/reader.rt:92:9
 slice-write-ends-2 : tie.Need-slice-write-ends-2 Inv-loop μ-loop
 slice-write-ends-2 c = simp length-set (omega (arith, space (c .before .before) .0))
 
--- src/reader.rt:93:27
 add-counts : tie.Need-add-counts Inv-loop μ-loop
 add-counts c = omega (arith, fits (c .before .before))
 
--- src/reader.rt:93:21
 shared-slice-read-counts : tie.Need-shared-slice-read-counts Inv-loop μ-loop
 shared-slice-read-counts c = omega (arith, fits (c .before .before .before))
 
--- src/reader.rt:93:9
 slice-write-counts : tie.Need-slice-write-counts Inv-loop μ-loop
 slice-write-counts c = omega (arith, space (c .before .before .before) .1)
 
--- src/reader.rt:94:9
 add-at : tie.Need-add-at Inv-loop μ-loop
 add-at c = omega (arith, fits (c .before .before .before))
 
--- src/reader.rt:95:9
 add-k : tie.Need-add-k Inv-loop μ-loop
 add-k c = omega (arith, space (c .before .before .before) .1)
 
--- src/reader.rt:89:5
 loop-less : tie.Need-loop-less Inv-loop μ-loop
 loop-less c = omega arith
 
--- src/reader.rt:89:5
 loop-again : tie.Need-loop-again Inv-loop μ-loop
-loop-again c = 
+loop-again c =
     let t = c .before .before .before in
     let l = t .before .loop in (
       walked-on _ _ 2 9 _ _ edge-size (l .inv .0) (below t),
@@ -122,11 +99,9 @@ loop-again c =
       counts-turn _ _ _ _ (l .inv .0 .reached) _ _ (l .inv .2),
     )
 
--- src/reader.rt:82:1
 same-length : tie.Need-same-length Inv-loop μ-loop
 same-length c = c .before .loop .inv .1 .long
 
--- src/reader.rt:82:1
 same-length-2 : tie.Need-same-length-2 Inv-loop μ-loop
 same-length-2 c = c .before .loop .inv .2 .long
 
@@ -138,7 +113,6 @@ all-done c =
     let u = c .before .loop .inv .0 .upto in
     omega (arith, e, p .all, u)
 
--- src/reader.rt:82:1
 returns : tie.Need-returns Inv-loop μ-loop
 unfolding endsOf countsOf
 returns c =
@@ -149,9 +123,9 @@ returns c =
     let p = c .before .before .before .before .before .pre in
     let e : l .k ≡ edges s = all-done c in (
       filled-all (endsBy s (a .from)) 2 (l .k) (edges s) (l .ends) (now (a .ends)) (λ j. refl) (l .inv .1) e (omega (arith, e, p .all, p .endsRoom))
-      ∙ ap (λ n. writtenOver (over (endsBy s n) (edges s) 0) (now (a .ends))) b,
+          ∙ ap (λ n. writtenOver (over (endsBy s n) (edges s) 0) (now (a .ends))) b,
       filled-all (countBy s (a .from)) 1 (l .k) (edges s) (l .counts) (now (a .counts)) (λ j. refl) (l .inv .2) e (omega (arith, e, p .all, p .countsRoom))
-      ∙ ap (λ n. writtenOver (over (countBy s n) (edges s) 0) (now (a .counts))) b,
+          ∙ ap (λ n. writtenOver (over (countBy s n) (edges s) 0) (now (a .counts))) b,
     )
 
 pub fill-edges-spec : {M : Type 1} → statement M

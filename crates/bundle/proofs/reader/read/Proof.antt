@@ -1,32 +1,24 @@
-use Prim.Native.Nat.{ℕ, _+_, _*_, _/_, _≤_, _<_}
-use mathlib.Core.Path.{_≡_, sym, ap, _∙_}
-use mathlib.Core.Bool.{true, false}
+use Prim.Native.Nat.{ℕ, _*_, _≤_}
+use mathlib.Core.Path.{_≡_, ap, _∙_}
+use mathlib.Core.Bool.{true}
 use mathlib.Core.List.{List, [], _∷_}
 use native.Mathlib.Omega.{arith}
 use lib.ListN.{length}
 use denote.Ref.{now}
-use Rattle.answer.specs.Answer.{result, refusal}
-use Rattle.bundle.specs.Bundle.{cells, edges, isBundle, hasRoom, bundleAnswer, contentsNumbers}
+use Rattle.answer.specs.Answer.{result}
+use Rattle.bundle.specs.Bundle.{cells, edges, isBundle, bundleAnswer, contentsNumbers}
 use Rattle.bundle.specs.declared.Contents.the-variants.{Lists, Refused}
 use Rattle.bundle.proofs.Answers.{accepted, accepted-cells, accepted-edges, rejected, room, no-room, leaves-broken, leaves-short, leaves-lists}
 use borrow.Author.Needs.{needs}
 use Rattle.bundle.proofs.reader.read.Statement.{statement}
 use Rattle.bundle.proofs.reader.read.Tie as tie
-use Rattle.bundle.proofs.reader.read.Reads as reads
-use Rattle.bundle.proofs.reader.read.Lts as lts
-use Rattle.bundle.proofs.reader.fill_cells.Reads as fill-cells-reads
-use Rattle.bundle.proofs.reader.fill_edges.Reads as fill-edges-reads
-use Rattle.bundle.proofs.reader.scan.Reads as scan-reads
 
--- src/reader.rt:108:11
 scan-requires : tie.Need-scan-requires
 scan-requires c κs = search needs
 
--- src/reader.rt:109:27
 enum-known-number : tie.Need-enum-known-number
 enum-known-number c = search needs
 
--- src/reader.rt:110:25
 enum-known-cells : tie.Need-enum-known-cells
 enum-known-cells c = search needs
 
@@ -60,31 +52,26 @@ cells-are c = accepted-cells (bytes c) _ _ (told c)
 edges-are : (c : Good) → c .before .cells .given .0 .1 .0 ≡ edges (bytes c)
 edges-are c = accepted-edges (bytes c) _ _ (told c)
 
--- src/reader.rt:112:17
 returns : tie.Need-returns
 returns c =
     let g = c .before in
     leaves-short (bytes g) (nodes g) (ends g) (counts g) (good g) (no-room (bytes g) _ _ _ (λ x y z. omega (arith, c .if1 .taken, cells-are g, edges-are g)))
 
--- src/reader.rt:115:17
 returns-2 : tie.Need-returns-2
 returns-2 c =
     let g = c .before .before in
     leaves-short (bytes g) (nodes g) (ends g) (counts g) (good g) (no-room (bytes g) _ _ _ (λ x y z. omega (arith, c .if2 .taken, cells-are g, edges-are g)))
 
--- src/reader.rt:118:17
 returns-3 : tie.Need-returns-3
 returns-3 c =
     let g = c .before .before .before in
     leaves-short (bytes g) (nodes g) (ends g) (counts g) (good g) (no-room (bytes g) _ _ _ (λ x y z. omega (arith, c .if3 .taken, cells-are g, edges-are g)))
 
--- src/reader.rt:120:17
 fill-cells-requires : tie.Need-fill-cells-requires
 fill-cells-requires c κs =
     let g = c .before .before .before .before in
     record { all = cells-are g; room = omega (arith, c .before .before .before .if1 .left) }
 
--- src/reader.rt:121:13
 fill-edges-requires : tie.Need-fill-edges-requires
 fill-edges-requires c κs =
     let g = c .before .before .before .before .before .before .before .before .before in
@@ -95,7 +82,6 @@ fill-edges-requires c κs =
       countsRoom = c .before .before .before .before .before .before .if3 .left;
     }
 
--- src/reader.rt:102:1
 returns-4 : tie.Need-returns-4
 returns-4 c =
     let a = c .before .before .before .before .before .before .before .before .args in
@@ -104,19 +90,15 @@ returns-4 c =
     let l = leaves-broken (now (a .bytes)) (now (a .nodes)) (now (a .ends)) (now (a .counts)) (rejected (now (a .bytes)) _ _ t) in
     (t ∙ l .0, l .1)
 
--- src/reader.rt:102:1
 same-length : tie.Need-same-length
 same-length c = search needs
 
--- src/reader.rt:102:1
 same-length-2 : tie.Need-same-length-2
 same-length-2 c = search needs
 
--- src/reader.rt:102:1
 same-length-3 : tie.Need-same-length-3
 same-length-3 c = search needs
 
--- src/reader.rt:102:1
 returns-5 : tie.Need-returns-5
 returns-5 c =
     let g = c .before .before .before .before .before .before .before .before .before .before .before .before .before .before in

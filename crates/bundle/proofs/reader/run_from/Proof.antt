@@ -1,21 +1,16 @@
-use Prim.Native.Nat.{ℕ, _+_, _-_, _≤_, _<_}
+use Prim.Native.Nat.{ℕ, _+_, _-_}
 use mathlib.Core.Path.{_≡_, sym, ap, _∙_}
-use mathlib.Core.Bool.{true}
 use mathlib.Core.List.{List}
 use native.Mathlib.Omega.{arith}
 use borrow.Author.Needs.{needs}
 use lib.ListN.{length}
 use denote.Ref.{now}
-use Rattle.bundle.specs.Record.{nextAt, recordNumbers}
-use Rattle.bundle.specs.Bundle.{isOf}
+use Rattle.bundle.specs.Record.{recordNumbers}
 use Rattle.bundle.specs.declared.Record.the-variants.{Whole, Refused}
 use Rattle.bundle.proofs.OneRecord.{Found, found, not-found, stands, next-ge}
 use Rattle.bundle.proofs.Runs.{Going, going, on, arrived, is-of, none-of, other-of}
 use Rattle.bundle.proofs.reader.run_from.Statement.{statement}
 use Rattle.bundle.proofs.reader.run_from.Tie as tie
-use Rattle.bundle.proofs.reader.run_from.Reads as reads
-use Rattle.bundle.proofs.reader.run_from.Lts as lts
-use Rattle.bundle.proofs.records.record_at.Reads as record-at-reads
 
 abbrev Inv-loop : tie.InvT-loop
 Inv-loop bytes from kind at₀ count₀ at count = Going bytes from kind at count
@@ -23,19 +18,15 @@ Inv-loop bytes from kind at₀ count₀ at count = Going bytes from kind at coun
 abbrev μ-loop : tie.MeasureT-loop
 μ-loop bytes from kind at₀ count₀ at count = length bytes - at
 
--- src/reader.rt:26:5
 loop-holds : tie.Need-loop-holds Inv-loop μ-loop
 loop-holds c = going (now (c .before .args .bytes)) (c .before .args .from) (c .before .args .kind)
 
--- src/reader.rt:27:15
 record-at-requires : tie.Need-record-at-requires Inv-loop μ-loop
 record-at-requires c κs = search needs
 
--- src/reader.rt:28:29
 enum-known-number : tie.Need-enum-known-number Inv-loop μ-loop
 enum-known-number c = search needs
 
--- src/reader.rt:29:17
 returns : tie.Need-returns Inv-loop μ-loop
 returns c =
     let a = c .before .before .before .before .before .before .args in
@@ -44,7 +35,6 @@ returns c =
     let n = not-found (now (a .bytes)) (l .at) _ _ (ap recordNumbers e ∙ c .before .before .before .record-at .ensures) in
     (arrived _ _ _ _ _ (l .inv) (none-of _ _ _ n), l .inv .reached)
 
--- src/reader.rt:31:27
 enum-known-found : tie.Need-enum-known-found Inv-loop μ-loop
 enum-known-found c = search needs
 
@@ -70,28 +60,27 @@ more c h =
     let t = told c in
     rw (t .nextIs) (on _ _ _ _ _ (c .before .before .before .before .loop .inv) (is-of _ _ _ (t .whole) (sym (t .kindIs) ∙ h)))
 
--- src/reader.rt:33:21
 returns-2 : tie.Need-returns-2 Inv-loop μ-loop
 returns-2 c =
     let b = c .before in
     let t = told b in
     let l = b .before .before .before .before .loop in
-    (arrived _ _ _ _ _ (l .inv) (other-of _ _ _ (λ h. c .if1 .taken (t .kindIs ∙ h))), l .inv .reached)
+    (arrived _ _ _ _ _ (l .inv) (other-of _ _ _ (λ h. omega (arith, c .if1 .taken, t .kindIs, h))), l .inv .reached)
 
--- src/reader.rt:35:17
+same : (c : tie.Else1 Inv-loop μ-loop) → c .before .before .found .given .0 .0 ≡ c .before .before .before .before .before .before .before .args .kind
+same c = omega (arith, c .if1 .left)
+
 add-count : tie.Need-add-count Inv-loop μ-loop
-add-count c = let m = more (c .before) (c .if1 .left) in omega (arith, m .inside)
+add-count c = let m = more (c .before) (same c) in omega (arith, m .inside)
 
--- src/reader.rt:26:5
 loop-less : tie.Need-loop-less Inv-loop μ-loop
 loop-less c =
     let b = c .before in
     let t = told b in
     omega (arith, t .nextIs, next-ge (bytes b) (at b) (t .whole), stands (bytes b) (at b) (t .whole) .fits)
 
--- src/reader.rt:26:5
 loop-again : tie.Need-loop-again Inv-loop μ-loop
-loop-again c = more (c .before) (c .if1 .left)
+loop-again c = more (c .before) (same c)
 
 pub run-from-spec : {M : Type 1} → statement M
 run-from-spec =

@@ -1,10 +1,10 @@
 use Prim.Native.Nat.{ℕ}
 use mathlib.Core.Path.{_≡_, sym, ap, _∙_}
 use mathlib.Core.List.{List, [], _∷_}
-use lib.ListN.{length}
+use native.Mathlib.Omega.{arith}
 use denote.Ref.{now}
 use Rattle.answer.specs.Answer.{result, refusal}
-use Rattle.bundle.specs.Record.{brokenRow, kindAt, nextAt, recordNumbers}
+use Rattle.bundle.specs.Record.{brokenRow, nextAt, recordNumbers}
 use Rattle.bundle.specs.Bundle.{cells, edges, stop}
 use Rattle.bundle.specs.declared.Record.the-variants.{Whole, Refused}
 use Rattle.bundle.proofs.OneRecord.{Found, found, not-found}
@@ -13,28 +13,19 @@ use Rattle.bundle.proofs.Answers.{cells-are, edges-are, stop-is, answer
 use borrow.Author.Needs.{needs}
 use Rattle.bundle.proofs.reader.scan.Statement.{statement}
 use Rattle.bundle.proofs.reader.scan.Tie as tie
-use Rattle.bundle.proofs.reader.scan.Reads as reads
-use Rattle.bundle.proofs.reader.scan.Lts as lts
-use Rattle.bundle.proofs.reader.run_from.Reads as run-from-reads
-use Rattle.bundle.proofs.records.record_at.Reads as record-at-reads
 
--- src/reader.rt:46:9
 run-from-requires : tie.Need-run-from-requires
 run-from-requires c κs = search needs
 
--- src/reader.rt:47:9
 run-from-requires-2 : tie.Need-run-from-requires-2
 run-from-requires-2 c κs = search needs
 
--- src/reader.rt:49:11
 record-at-requires : tie.Need-record-at-requires
 record-at-requires c κs = search needs
 
--- src/reader.rt:50:25
 enum-known-number : tie.Need-enum-known-number
 enum-known-number c = search needs
 
--- src/reader.rt:51:23
 enum-known-kind : tie.Need-enum-known-kind
 enum-known-kind c = search needs
 
@@ -57,7 +48,6 @@ told c =
     let e : Whole (c .before .kind .given .0 .0) (c .before .kind .given .0 .1 .0) ≡ c .before .before .before .record-at .result = cc in
     found (bytes (c .before .before .before .before)) _ _ _ (ap recordNumbers e ∙ c .before .before .before .record-at .ensures)
 
--- src/reader.rt:53:17
 returns : tie.Need-returns
 returns c =
     let r = c .before .before .before .before .before in
@@ -65,7 +55,6 @@ returns c =
     let t = told (c .before) in
     ap (refusal brokenRow) e ∙ sym (answer-open (bytes r) (rw e at (other-of (bytes r) 3 _ (λ h. c .if1 .taken (t .kindIs ∙ h)))))
 
--- src/reader.rt:56:17
 returns-2 : tie.Need-returns-2
 returns-2 c =
     let r = c .before .before .before .before .before .before in
@@ -73,9 +62,8 @@ returns-2 c =
     let t = told (c .before .before) in
     let n = t .nextIs ∙ ap (nextAt (bytes r)) e in
     let k = rw e at (is-of (bytes r) 3 _ (t .whole) (sym (t .kindIs) ∙ c .before .if1 .left)) in
-    ap (refusal brokenRow) n ∙ sym (answer-after (bytes r) k (λ h. c .if2 .taken (n ∙ h)))
+    ap (refusal brokenRow) n ∙ sym (answer-after (bytes r) k (λ h. omega (arith, c .if2 .taken, n, h)))
 
--- src/reader.rt:43:1
 returns-3 : tie.Need-returns-3
 returns-3 c =
     let r = c .before .before .before .before in
@@ -84,7 +72,6 @@ returns-3 c =
     let n = not-found (bytes r) _ _ _ (ap recordNumbers t ∙ c .before .before .before .record-at .ensures) in
     ap (refusal brokenRow) e ∙ sym (answer-open (bytes r) (rw e at (none-of (bytes r) 3 _ n)))
 
--- src/reader.rt:43:1
 returns-4 : tie.Need-returns-4
 returns-4 c =
     let r = c .before .before .before .before .before .before in
@@ -96,7 +83,7 @@ returns-4 c =
     let g : r .run-from2 .result .count ≡ edges (bytes r) = edges-are (bytes r) _ _ _ _ (r .before .run-from .ensures .0) (r .before .run-from .ensures .1) (r .run-from2 .ensures .0) (r .run-from2 .ensures .1) in
     ap (λ (x : ℕ). result (x ∷ r .run-from2 .result .count ∷ [])) h
     ∙ ap (λ (x : ℕ). result (cells (bytes r) ∷ x ∷ [])) g
-    ∙ sym (answer-lists (bytes r) k (sym n ∙ c .if2 .left))
+    ∙ sym (answer-lists (bytes r) k (omega (arith, n, c .if2 .left)))
 
 pub scan-spec : {M : Type 1} → statement M
 scan-spec =

@@ -11,15 +11,10 @@ use Rattle.bundle.proofs.OneRecord.{Found, found, not-found, stands, ne
 use borrow.Author.Needs.{needs}
 use Rattle.bundle.proofs.records.body_at.Statement.{statement}
 use Rattle.bundle.proofs.records.body_at.Tie as tie
-use Rattle.bundle.proofs.records.body_at.Reads as reads
-use Rattle.bundle.proofs.records.body_at.Lts as lts
-use Rattle.bundle.proofs.records.record_at.Reads as record-at-reads
 
--- src/records.rt:70:11
 record-at-requires : tie.Need-record-at-requires
 record-at-requires c κs = search needs
 
--- src/records.rt:71:23
 enum-known-kind : tie.Need-enum-known-kind
 enum-known-kind c = search needs
 
@@ -48,31 +43,24 @@ within c =
     let w = stands (bytes c) (start c) (t .whole) in
     (omega (arith, next-ge (bytes c) (start c) (t .whole)), omega (arith, w .fits))
 
--- src/records.rt:71:45
 add-result : tie.Need-add-result
 add-result c = omega (arith, within c)
 
--- src/records.rt:71:38
 sub-result : tie.Need-sub-result
-sub-result c = within c .0
+sub-result c = omega (arith, within c)
 
--- src/records.rt:71:38
 part-result-start : tie.Need-part-result-start
-part-result-start c = within c .0
+part-result-start c = omega (arith, within c)
 
--- src/records.rt:71:38
 part-result-end : tie.Need-part-result-end
-part-result-end c = within c .1
+part-result-end c = omega (arith, within c)
 
--- src/records.rt:72:25
 enum-known-number : tie.Need-enum-known-number
 enum-known-number c = search needs
 
--- src/records.rt:72:43
 slice-aggregate-result : tie.Need-slice-aggregate-result
 slice-aggregate-result c = search needs
 
--- src/records.rt:66:1
 returns : tie.Need-returns
 returns c =
     let b = c .before in
@@ -80,7 +68,6 @@ returns c =
     let e = body-whole (bytes b) (start b) (t .whole) in
     (ap (λ (n : ℕ). take (n - (start b + 4)) (drop (start b + 4) (bytes b))) (t .nextIs) ∙ e .0, (refl, ap (λ (n : ℕ). n + c .before .before .before .before .before .before .args .bytes .ptr .1) (e .1)))
 
--- src/records.rt:66:1
 returns-2 : tie.Need-returns-2
 returns-2 c =
     let a = c .before .before .before .before .before .before .args in

@@ -3,38 +3,28 @@ use native.Mathlib.Omega.{arith}
 use borrow.Author.Needs.{needs}
 use Rattle.bundle.proofs.records.word_at.Statement.{statement}
 use Rattle.bundle.proofs.records.word_at.Tie as tie
-use Rattle.bundle.proofs.records.word_at.Reads as reads
-use Rattle.bundle.proofs.records.word_at.Lts as lts
 
--- src/records.rt:20:6
 shared-slice-read-result : tie.Need-shared-slice-read-result
 shared-slice-read-result c = search needs
 
--- src/records.rt:20:6
 cast-result : tie.Need-cast-result
 cast-result c = omega (arith, c .shared-slice-known .given (c .before .args .at))
 
--- src/records.rt:20:39
 add-result : tie.Need-add-result
 add-result c = search needs
 
--- src/records.rt:20:33
 shared-slice-read-result-2 : tie.Need-shared-slice-read-result-2
 shared-slice-read-result-2 c = search needs
 
--- src/records.rt:20:33
 cast-result-2 : tie.Need-cast-result-2
 cast-result-2 c = omega (arith, c .shared-slice-known2 .given (c .before .before .args .at + 1))
 
--- src/records.rt:20:26
 mul-result : tie.Need-mul-result
 mul-result c = omega (arith, c .shared-slice-known2 .given (c .before .before .args .at + 1))
 
--- src/records.rt:20:5
 add-result-2 : tie.Need-add-result-2
 add-result-2 c = omega (arith, c .shared-slice-known2 .given (c .before .before .args .at + 1), c .shared-slice-known2 .given (c .before .before .args .at))
 
--- src/records.rt:16:1
 returns : tie.Need-returns
 returns c = search needs
 

@@ -9,8 +9,6 @@ use lib.Seq.{paste, paste-zero, paste-suc, take-length, sets-eq}
 use denote.Ref.{now}
 use Rattle.bundle.proofs.writer.put.Statement.{statement}
 use Rattle.bundle.proofs.writer.put.Tie as tie
-use Rattle.bundle.proofs.writer.put.Reads as reads
-use Rattle.bundle.proofs.writer.put.Lts as lts
 
 abbrev Inv-loop : tie.InvT-loop
 Inv-loop area₀ at bytes i₀ area i = (i ≤ length bytes) × (length area ≡ length area₀) × (area ≡ paste area₀ at bytes i)
@@ -18,31 +16,24 @@ Inv-loop area₀ at bytes i₀ area i = (i ≤ length bytes) × (length area ≡
 abbrev μ-loop : tie.MeasureT-loop
 μ-loop area₀ at bytes i₀ area i = length bytes - i
 
--- src/lib.rt:15:5
 loop-holds : tie.Need-loop-holds Inv-loop μ-loop
 loop-holds c = (search needs, refl, paste-zero (now (c .args .area)) (c .args .at) (now (c .args .bytes)))
 
--- src/lib.rt:16:23
 shared-slice-read-area : tie.Need-shared-slice-read-area Inv-loop μ-loop
 shared-slice-read-area c = search needs
 
--- src/lib.rt:16:13
 add-area : tie.Need-add-area Inv-loop μ-loop
 add-area c = search needs
 
--- src/lib.rt:16:9
 slice-write-area : tie.Need-slice-write-area Inv-loop μ-loop
 slice-write-area c = search needs
 
--- src/lib.rt:17:9
 add-i : tie.Need-add-i Inv-loop μ-loop
 add-i c = search needs
 
--- src/lib.rt:15:5
 loop-less : tie.Need-loop-less Inv-loop μ-loop
 loop-less c = search needs
 
--- src/lib.rt:15:5
 loop-again : tie.Need-loop-again Inv-loop μ-loop
 loop-again c =
     let l = c .before .before .loop in
@@ -53,15 +44,13 @@ loop-again c =
       search needs,
       length-set (l .area) (a .at + l .i) (getD s (l .i) 0) ∙ l .inv .1,
       ap (λ (x : List ℕ). set x (a .at + l .i) (getD s (l .i) 0)) (l .inv .2)
-      ∙ paste-suc d (a .at) s (l .i) 0 h (c .before .loop-test .taken)
-      ∙ ap (paste d (a .at) s) (sym (add-one (l .i))),
+          ∙ paste-suc d (a .at) s (l .i) 0 h (c .before .loop-test .taken)
+          ∙ ap (paste d (a .at) s) (sym (add-one (l .i))),
     )
 
--- src/lib.rt:10:1
 same-length : tie.Need-same-length Inv-loop μ-loop
 same-length c = search needs
 
--- src/lib.rt:10:1
 returns : tie.Need-returns Inv-loop μ-loop
 returns c =
     let a = c .before .before .args in

@@ -2,57 +2,40 @@ use Rattle.bundle.specs.Record.{lengthOf}
 use borrow.Author.Needs.{needs}
 use Rattle.bundle.proofs.writer.put_cell.Statement.{statement}
 use Rattle.bundle.proofs.writer.put_cell.Tie as tie
-use Rattle.bundle.proofs.writer.put_cell.Reads as reads
-use Rattle.bundle.proofs.writer.put_cell.Lts as lts
-use Rattle.bundle.proofs.writer.high.Reads as high-reads
-use Rattle.bundle.proofs.writer.low.Reads as low-reads
-use Rattle.bundle.proofs.writer.put.Reads as put-reads
 
--- src/writer.rt:64:22
 low-requires : tie.Need-low-requires
 low-requires c κs = search needs
 
--- src/writer.rt:64:30
 high-requires : tie.Need-high-requires
 high-requires c κs = search needs
 
--- src/writer.rt:64:39
 low-requires-2 : tie.Need-low-requires-2
 low-requires-2 c κs = search needs
 
--- src/writer.rt:64:47
 high-requires-2 : tie.Need-high-requires-2
 high-requires-2 c κs = search needs
 
--- src/writer.rt:64:56
 low-requires-3 : tie.Need-low-requires-3
 low-requires-3 c κs = search needs
 
--- src/writer.rt:64:64
 high-requires-3 : tie.Need-high-requires-3
 high-requires-3 c κs = search needs
 
--- src/writer.rt:64:73
 low-requires-4 : tie.Need-low-requires-4
 low-requires-4 c κs = search needs
 
--- src/writer.rt:64:81
 high-requires-4 : tie.Need-high-requires-4
 high-requires-4 c κs = search needs
 
--- src/writer.rt:66:19
 slice-aggregate-put : tie.Need-slice-aggregate-put
 slice-aggregate-put c = search needs
 
--- src/writer.rt:66:5
 put-requires : tie.Need-put-requires
 put-requires c κs = search needs
 
--- src/writer.rt:59:1
 same-length : tie.Need-same-length
 same-length c = search needs
 
--- src/writer.rt:59:1
 returns : tie.Need-returns
 unfolding lengthOf
 returns c = cc

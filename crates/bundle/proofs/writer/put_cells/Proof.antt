@@ -1,20 +1,15 @@
-use Prim.Native.Nat.{ℕ, _+_, _-_, _*_, _/_, _≤_, _<_}
-use mathlib.Core.Path.{_≡_, refl, sym, ap, _∙_}
+use Prim.Native.Nat.{_-_, _/_, _≤_}
+use mathlib.Core.Path.{_≡_, ap, _∙_}
 use native.Mathlib.Omega.{arith}
-use borrow.Author.Needs.{needs}
 use lib.ListN.{length}
 use lib.Seq.{sets}
 use denote.Ref.{now}
 use Rattle.counting.specs.Range.{over}
 use Rattle.counting.proofs.Fronts.{Filled, filled-none}
-use Rattle.bundle.specs.Written.{cellBytes, edgeBytes}
-use Rattle.bundle.proofs.Writes.{cells-turn, edges-turn}
+use Rattle.bundle.specs.Written.{cellBytes}
+use Rattle.bundle.proofs.Writes.{cells-turn}
 use Rattle.bundle.proofs.writer.put_cells.Statement.{statement}
 use Rattle.bundle.proofs.writer.put_cells.Tie as tie
-use Rattle.bundle.proofs.writer.put_cells.Reads as reads
-use Rattle.bundle.proofs.writer.put_cells.Lts as lts
-use Rattle.bundle.proofs.writer.node_of.Reads as node-of-reads
-use Rattle.bundle.proofs.writer.put_cell.Reads as put-cell-reads
 
 abbrev Inv-loop : tie.InvT-loop
 Inv-loop nodes area₀ n k₀ area k = (k ≤ length nodes / 4) × Filled (cellBytes nodes) 12 0 k area area₀
@@ -22,53 +17,41 @@ Inv-loop nodes area₀ n k₀ area k = (k ≤ length nodes / 4) × Filled (cellB
 abbrev μ-loop : tie.MeasureT-loop
 μ-loop nodes area₀ n k₀ area k = length nodes / 4 - k
 
--- src/writer.rt:92:5
 loop-holds : tie.Need-loop-holds Inv-loop μ-loop
 loop-holds c = (omega arith, filled-none (cellBytes (now (c .before .before .args .nodes))) 12 0 (now (c .before .before .args .area)))
 
--- src/writer.rt:93:13
 node-of-requires : tie.Need-node-of-requires Inv-loop μ-loop
 node-of-requires c κs = omega arith
 
--- src/writer.rt:94:13
 node-of-requires-2 : tie.Need-node-of-requires-2 Inv-loop μ-loop
 node-of-requires-2 c κs = omega arith
 
--- src/writer.rt:95:13
 node-of-requires-3 : tie.Need-node-of-requires-3 Inv-loop μ-loop
 node-of-requires-3 c κs = omega arith
 
--- src/writer.rt:96:13
 node-of-requires-4 : tie.Need-node-of-requires-4 Inv-loop μ-loop
 node-of-requires-4 c κs = omega arith
 
--- src/writer.rt:97:24
 mul-put-cell : tie.Need-mul-put-cell Inv-loop μ-loop
 mul-put-cell c = omega (arith, c .before .before .before .before .before .before .before .before .before .pre .fits)
 
--- src/writer.rt:97:9
 put-cell-requires : tie.Need-put-cell-requires Inv-loop μ-loop
 put-cell-requires c κs = omega (arith, c .before .before .before .before .before .before .before .before .before .pre .fits, c .before .before .before .before .before .before .loop .inv .1 .long)
 
--- src/writer.rt:98:9
 add-k : tie.Need-add-k Inv-loop μ-loop
 add-k c = omega arith
 
--- src/writer.rt:92:5
 loop-less : tie.Need-loop-less Inv-loop μ-loop
 loop-less c = omega arith
 
--- src/writer.rt:92:5
 loop-again : tie.Need-loop-again Inv-loop μ-loop
 loop-again c = (omega arith, cells-turn _ _ _ _ _ _ _ _ _ (c .before .before .before .before .before .before .before .before .before .loop .inv .1) (c .before .before .before .before .before .before .before .node-of .ensures) (c .before .before .before .before .before .before .node-of2 .ensures) (c .before .before .before .before .before .node-of3 .ensures) (c .before .before .before .before .node-of4 .ensures) (c .before .before .put-cell .ensures))
 
--- src/writer.rt:86:1
 same-length : tie.Need-same-length Inv-loop μ-loop
 same-length c = c .before .loop .inv .1 .long
 
--- src/writer.rt:86:1
 returns : tie.Need-returns Inv-loop μ-loop
-returns c = 
+returns c =
     let a = c .before .before .before .before .args in
     let e : c .before .loop .k ≡ length (now (a .nodes)) / 4 = omega arith in
     c .before .loop .inv .1 .front ∙ ap (λ n. sets (now (a .area)) 0 (over (cellBytes (now (a .nodes))) n 0)) e

@@ -1,20 +1,15 @@
-use Prim.Native.Nat.{ℕ, _+_, _-_, _*_, _/_, _≤_, _<_}
-use mathlib.Core.Path.{_≡_, refl, sym, ap, _∙_}
+use Prim.Native.Nat.{_-_, _≤_}
+use mathlib.Core.Path.{_≡_, ap, _∙_}
 use native.Mathlib.Omega.{arith}
-use borrow.Author.Needs.{needs}
 use lib.ListN.{length}
 use lib.Seq.{sets}
 use denote.Ref.{now}
 use Rattle.counting.specs.Range.{over}
 use Rattle.counting.proofs.Fronts.{Filled, filled-none}
-use Rattle.bundle.specs.Written.{cellBytes, edgeBytes}
-use Rattle.bundle.proofs.Writes.{cells-turn, edges-turn}
+use Rattle.bundle.specs.Written.{edgeBytes}
+use Rattle.bundle.proofs.Writes.{edges-turn}
 use Rattle.bundle.proofs.writer.put_edges.Statement.{statement}
 use Rattle.bundle.proofs.writer.put_edges.Tie as tie
-use Rattle.bundle.proofs.writer.put_edges.Reads as reads
-use Rattle.bundle.proofs.writer.put_edges.Lts as lts
-use Rattle.bundle.proofs.writer.end_of.Reads as end-of-reads
-use Rattle.bundle.proofs.writer.put_edge.Reads as put-edge-reads
 
 abbrev Inv-loop : tie.InvT-loop
 Inv-loop ends counts at area₀ k₀ area k = (k ≤ length counts) × Filled (edgeBytes ends counts) 9 at k area area₀
@@ -22,53 +17,41 @@ Inv-loop ends counts at area₀ k₀ area k = (k ≤ length counts) × Filled (e
 abbrev μ-loop : tie.MeasureT-loop
 μ-loop ends counts at area₀ k₀ area k = length counts - k
 
--- src/writer.rt:108:5
 loop-holds : tie.Need-loop-holds Inv-loop μ-loop
 loop-holds c = (omega arith, filled-none (edgeBytes (now (c .before .before .before .args .ends)) (now (c .before .before .before .args .counts))) 9 (c .before .before .before .args .at) (now (c .before .before .before .args .area)))
 
--- src/writer.rt:109:13
 end-of-requires : tie.Need-end-of-requires Inv-loop μ-loop
 end-of-requires c κs = omega (arith, c .before .before .before .before .before .pre .pairs)
 
--- src/writer.rt:110:13
 end-of-requires-2 : tie.Need-end-of-requires-2 Inv-loop μ-loop
 end-of-requires-2 c κs = omega (arith, c .before .before .before .before .before .before .pre .pairs)
 
--- src/writer.rt:111:21
 shared-slice-read-count : tie.Need-shared-slice-read-count Inv-loop μ-loop
 shared-slice-read-count c = omega arith
 
--- src/writer.rt:112:29
 mul-put-edge : tie.Need-mul-put-edge Inv-loop μ-loop
 mul-put-edge c = omega (arith, c .before .before .before .before .before .before .before .before .before .pre .fits)
 
--- src/writer.rt:112:24
 add-put-edge : tie.Need-add-put-edge Inv-loop μ-loop
 add-put-edge c = omega (arith, c .before .before .before .before .before .before .before .before .before .pre .fits)
 
--- src/writer.rt:112:9
 put-edge-requires : tie.Need-put-edge-requires Inv-loop μ-loop
 put-edge-requires c κs = omega (arith, c .before .before .before .before .before .before .before .before .before .pre .fits, c .before .before .before .before .before .loop .inv .1 .long)
 
--- src/writer.rt:113:9
 add-k : tie.Need-add-k Inv-loop μ-loop
 add-k c = omega arith
 
--- src/writer.rt:108:5
 loop-less : tie.Need-loop-less Inv-loop μ-loop
 loop-less c = omega arith
 
--- src/writer.rt:108:5
 loop-again : tie.Need-loop-again Inv-loop μ-loop
 loop-again c = (omega arith, edges-turn _ _ _ _ _ _ _ _ _ (c .before .before .before .before .before .before .before .before .loop .inv .1) (c .before .before .before .before .before .before .end-of .ensures) (c .before .before .before .before .before .end-of2 .ensures) (c .before .before .put-edge .ensures))
 
--- src/writer.rt:103:1
 same-length : tie.Need-same-length Inv-loop μ-loop
 same-length c = c .before .loop .inv .1 .long
 
--- src/writer.rt:103:1
 returns : tie.Need-returns Inv-loop μ-loop
-returns c = 
+returns c =
     let a = c .before .before .before .before .before .args in
     let e : c .before .loop .k ≡ length (now (a .counts)) = omega arith in
     c .before .loop .inv .1 .front ∙ ap (λ n. sets (now (a .area)) (a .at) (over (edgeBytes (now (a .ends)) (now (a .counts))) n 0)) e

@@ -1,5 +1,5 @@
-use Prim.Native.Nat.{ℕ, _+_, _*_, _/_, _%_, _≤_, _<_}
-use mathlib.Core.Path.{_≡_, sym, ap, _∙_}
+use Prim.Native.Nat.{_+_, _*_, _/_, _≤_}
+use mathlib.Core.Path.{_≡_, sym, _∙_}
 use native.Mathlib.Omega.{arith}
 use lib.ListN.{length}
 use borrow.Author.Tests.{leb-true, leb-false, not-true, not-false}
@@ -8,27 +8,17 @@ use Rattle.bundle.proofs.Writes.{not-fours, not-pairs, too-short, fitti
 use borrow.Author.Needs.{needs}
 use Rattle.bundle.proofs.writer.write.Statement.{statement}
 use Rattle.bundle.proofs.writer.write.Tie as tie
-use Rattle.bundle.proofs.writer.write.Reads as reads
-use Rattle.bundle.proofs.writer.write.Lts as lts
-use Rattle.bundle.proofs.writer.fits.Reads as fits-reads
-use Rattle.bundle.proofs.writer.needed.Reads as needed-reads
-use Rattle.bundle.proofs.writer.put_cells.Reads as put-cells-reads
-use Rattle.bundle.proofs.writer.put_edges.Reads as put-edges-reads
-use Rattle.bundle.proofs.writer.put_end.Reads as put-end-reads
 
--- src/writer.rt:156:9
 returns : tie.Need-returns
 returns c =
     let a = c .before .before .before .before .before .args in
     not-fours (now (a .nodes)) (now (a .ends)) (now (a .counts)) (now (a .area)) (c .if1 .taken)
 
--- src/writer.rt:159:9
 returns-2 : tie.Need-returns-2
 returns-2 c =
     let a = c .before .before .before .before .before .before .args in
     not-pairs (now (a .nodes)) (now (a .ends)) (now (a .counts)) (now (a .area)) (λ h. c .if2 .taken (omega (arith, h)))
 
--- src/writer.rt:162:9
 returns-3 : tie.Need-returns-3
 returns-3 c =
     let a = c .before .before .before .before .before .before .before .args in
@@ -45,15 +35,12 @@ pairs c = omega (arith, c .if3 .left, c .before .if2 .left)
 enough : (c : tie.Else4) → 12 * (length (now (c .before .before .before .before .before .before .before .before .before .args .nodes)) / 4) + 9 * length (now (c .before .before .before .before .before .before .before .before .before .args .counts)) + 4 ≤ length (now (c .before .before .before .before .before .before .before .before .before .args .area))
 enough c = leb-true _ _ (sym (c .before .fits2 .ensures) ∙ not-false _ (c .if4 .left))
 
--- src/writer.rt:164:9
 fits-requires : tie.Need-fits-requires
 fits-requires c κs = search needs
 
--- src/writer.rt:165:40
 needed-requires : tie.Need-needed-requires
 needed-requires c κs = search needs
 
--- src/writer.rt:165:9
 returns-4 : tie.Need-returns-4
 returns-4 c =
     let f = c .before .before .before in
@@ -61,43 +48,33 @@ returns-4 c =
     let l = leb-false _ _ (sym (c .before .before .fits2 .ensures) ∙ not-true _ (c .before .if4 .taken)) in
     too-short (now (a .nodes)) (now (a .ends)) (now (a .counts)) (now (a .area)) (f .before .before .if1 .left) (pairs f) l _ (c .needed .ensures)
 
--- src/writer.rt:167:5
 put-cells-requires : tie.Need-put-cells-requires
 put-cells-requires c κs = record { fits = omega (arith, enough (c .before)) }
 
--- src/writer.rt:168:29
 mul-put-edges : tie.Need-mul-put-edges
 mul-put-edges c = search needs
 
--- src/writer.rt:168:5
 put-edges-requires : tie.Need-put-edges-requires
 put-edges-requires c κs = record { pairs = pairs (c .before .before .before .before .before .before .before); fits = omega (arith, enough (c .before .before .before .before .before)) }
 
--- src/writer.rt:169:16
 mul-stop : tie.Need-mul-stop
 mul-stop c = search needs
 
--- src/writer.rt:169:29
 mul-stop-2 : tie.Need-mul-stop-2
 mul-stop-2 c = omega (arith, enough (c .before .before .before .before .before .before .before .before))
 
--- src/writer.rt:169:16
 add-stop : tie.Need-add-stop
 add-stop c = omega (arith, enough (c .before .before .before .before .before .before .before .before))
 
--- src/writer.rt:170:5
 put-end-requires : tie.Need-put-end-requires
 put-end-requires c κs = omega (arith, enough (c .before .before .before .before .before .before .before .before .before))
 
--- src/writer.rt:171:20
 add-t9 : tie.Need-add-t9
 add-t9 c = omega (arith, enough (c .before .before .before .before .before .before .before .before .before .before .before .before))
 
--- src/writer.rt:149:1
 same-length : tie.Need-same-length
 same-length c = search needs
 
--- src/writer.rt:149:1
 returns-5 : tie.Need-returns-5
 returns-5 c =
     let f = c .before .before .before .before .before .before .before .before .before .before .before .before .before .before in
