@@ -8,7 +8,7 @@ use Rattle.answer.specs.Answer.{result, refusal}
 use Rattle.counting.specs.Pick.{pick}
 use Rattle.counting.specs.Range.{over}
 use Rattle.counting.specs.Search.{first}
-use Rattle.bundle.specs.Record.{cellKind, edgeKind, endKind, brokenRow, headBytes, word, kindAt, nextAt, isRecord}
+use Rattle.bundle.specs.Record.{cellKind, edgeKind, endKind, brokenRow, wordSize, headBytes, word, kindAt, nextAt, isRecord}
 use Rattle.bundle.specs.declared.Contents.{Contents}
 use Rattle.bundle.specs.declared.Contents.the-variants.{Lists, Refused}
 
@@ -53,22 +53,26 @@ bundleAnswer s =
 unfoldable pub isBundle : List ℕ → Bool
 isBundle s = isOf s endKind (stop s) && eqb (nextAt s (stop s)) (length s)
 
--- the numbers that a cell, an edge has in its list
+-- the numbers that a cell has in the list of nodes, and an edge in the list of ends
 abbrev pub cellNodes : ℕ
 cellNodes = 4
 
 abbrev pub edgeEnds : ℕ
 edgeEnds = 2
 
--- what the body of the record at a place means: the nodes of a cell; the ends of an edge and its count
+-- number i of 16 bits in the body of the record at a place
+abbrev pub bodyWord : List ℕ → ℕ → ℕ → ℕ
+bodyWord s at i = word s (at + (headBytes + wordSize * i))
+
+-- what the body means: the nodes of a cell; the ends of an edge, and its count after them
 abbrev pub nodesAt : List ℕ → ℕ → List ℕ
-nodesAt s at = word s (at + headBytes) ∷ word s (at + (headBytes + 2)) ∷ word s (at + (headBytes + 4)) ∷ word s (at + (headBytes + 6)) ∷ []
+nodesAt s at = bodyWord s at 0 ∷ bodyWord s at 1 ∷ bodyWord s at 2 ∷ bodyWord s at 3 ∷ []
 
 abbrev pub endsAt : List ℕ → ℕ → List ℕ
-endsAt s at = word s (at + headBytes) ∷ word s (at + (headBytes + 2)) ∷ []
+endsAt s at = bodyWord s at 0 ∷ bodyWord s at 1 ∷ []
 
 abbrev pub countAt : List ℕ → ℕ → List ℕ
-countAt s at = getD s (at + (headBytes + 4)) 0 ∷ []
+countAt s at = getD s (at + (headBytes + wordSize * edgeEnds)) 0 ∷ []
 
 -- the three lists
 unfoldable pub nodesOf : List ℕ → List ℕ

@@ -3,6 +3,7 @@ use Prim.Native.Nat.{ℕ, _+_, _*_, _/_, _≤_}
 use mathlib.Core.Path.{_≡_}
 use mathlib.Core.List.{List}
 use lib.ListN.{length}
+use Rattle.bundle.specs.Record.{lengthBytes, cellLength, edgeLength}
 use Rattle.bundle.specs.Bundle.{cells, edgesFrom, edges, cellNodes, edgeEnds}
 
 -- all the cells of the bytes, and room for their nodes
@@ -19,9 +20,9 @@ pub record EdgesLent (s : List ℕ) (from count : ℕ) (ends counts : List ℕ) 
 
 -- room for the records of all the cells at the front of the area
 pub record CellsFit (nodes area : List ℕ) : Type 0 where
-  pub fits : 12 * (length nodes / cellNodes) ≤ length area
+  pub fits : (lengthBytes + cellLength) * (length nodes / cellNodes) ≤ length area
 
 -- two ends to a count, and room for the records of all the edges from a place on
 pub record EdgesFit (ends counts : List ℕ) (at : ℕ) (area : List ℕ) : Type 0 where
   pub pairs : length ends ≡ edgeEnds * length counts
-  pub fits : at + 9 * length counts ≤ length area
+  pub fits : at + (lengthBytes + edgeLength) * length counts ≤ length area

@@ -27,16 +27,29 @@ edgeKind = 2
 abbrev pub endKind : ℕ
 endKind = 3
 
--- the length that a record of a kind has, which counts the bytes after the length itself; 0 where the number is no kind
-unfoldable pub lengthOf : ℕ → ℕ
-lengthOf kind = pick (eqb kind cellKind) 10 (pick (eqb kind edgeKind) 7 (pick (eqb kind endKind) 2 0))
+-- the bytes of a number of 16 bits; of the length; and of length and kind, which stand before the body
+abbrev pub wordSize : ℕ
+wordSize = 2
 
--- the bytes of the length, and of length and kind, which stand before the body
 abbrev pub lengthBytes : ℕ
-lengthBytes = 2
+lengthBytes = wordSize
 
 abbrev pub headBytes : ℕ
-headBytes = 4
+headBytes = lengthBytes + wordSize
+
+-- the lengths of the three kinds, which count the bytes after the length itself
+abbrev pub cellLength : ℕ
+cellLength = 10
+
+abbrev pub edgeLength : ℕ
+edgeLength = 7
+
+abbrev pub endLength : ℕ
+endLength = 2
+
+-- the length that a record of a kind has; 0 where the number is no kind
+unfoldable pub lengthOf : ℕ → ℕ
+lengthOf kind = pick (eqb kind cellKind) cellLength (pick (eqb kind edgeKind) edgeLength (pick (eqb kind endKind) endLength 0))
 
 -- the number of 16 bits at a place
 abbrev pub word : List ℕ → ℕ → ℕ
@@ -49,7 +62,7 @@ kindAt s at = word s (at + lengthBytes)
 unfoldable pub nextAt : List ℕ → ℕ → ℕ
 nextAt s at = at + lengthBytes + word s at
 
--- a record stands at a place: its length and kind are there, the kind is one of the three and has this length, and so are all its bytes
+-- a record stands at a place: its length and kind are there, the kind is one of the three and has this length, and all its bytes are there
 unfoldable pub isRecord : List ℕ → ℕ → Bool
 isRecord s at =
     leb (at + headBytes) (length s)
