@@ -8,3 +8,4 @@ pub mod Involution
 pub mod Pack
 pub mod Reach
 pub mod Rows
+pub mod Fronts

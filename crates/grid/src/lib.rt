@@ -179,7 +179,15 @@ pub fn check(cells: &[u16], edges: &[u16], counts: &[u8]) -> Checked
 
 // The grid check, and where it accepts, the tables of the grid: the name of face 4 c + s of the cells, one more than the face across it or 0,
 // the place in the list of edge k of cell c at 6 c + k, and the start of each edge. Keeps as much on the stack as `check`.
-pub fn open(cells: &[u16], edges: &[u16], counts: &[u8], names: &mut [u16; 8192], near: &mut [u16; 8192], sides: &mut [u16; 12288], starts: &mut [u32; 12288]) -> Checked
+pub fn open(
+    cells: &[u16],
+    edges: &[u16],
+    counts: &[u8],
+    names: &mut [u16; 8192],
+    near: &mut [u16; 8192],
+    sides: &mut [u16; 12288],
+    starts: &mut [u32; 12288],
+) -> Checked
     ensures { λ r. ⌜ checkNumbers r ≡ gridAnswer (now (cells .entry)) (now (edges .entry)) (now (counts .entry)) ⌝ }
     ensures { λ _. ⌜ Opened (now (cells .entry)) (now (edges .entry)) (now (counts .entry)) (now (names .entry)) (now (near .entry)) (now (sides .entry)) (now (starts .entry)) (now (names .exit)) (now (near .exit)) (now (sides .exit)) (now (starts .exit)) ⌝ }
 {

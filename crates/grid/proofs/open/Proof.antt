@@ -19,7 +19,7 @@ enum-told : tie.Need-enum-told
 enum-told c = search needs
 
 returns : tie.Need-returns
-returns c = 
+returns c =
     let a = c .before .before .before .before .before .before .before .before .before .before .args in
     let w = c .enum-told .given in
     let h = c .before .before .before .before .all-rows .ensures .0 in
@@ -35,7 +35,7 @@ slice-aggregate-write-names : tie.Need-slice-aggregate-write-names
 slice-aggregate-write-names c = search needs
 
 write-names-requires : tie.Need-write-names-requires
-write-names-requires c κs = 
+write-names-requires c κs =
     let a = c .before .before .before .before .before .before .before .before .before .before .before .before .args in
     let w = c .before .before .enum-told2 .given in
     let A = told-accepted (a .cells .now) (a .edges .now) (a .counts .now) (c .before .before .before .before .before .before .all-rows .result) _ (w .1) (c .before .before .before .before .before .before .all-rows .ensures .0) in
@@ -49,7 +49,7 @@ slice-aggregate-write-near : tie.Need-slice-aggregate-write-near
 slice-aggregate-write-near c = search needs
 
 write-near-requires : tie.Need-write-near-requires
-write-near-requires c κs = 
+write-near-requires c κs =
     let a = c .before .before .before .before .before .before .before .before .before .before .before .before .before .before .before .args in
     let w = c .before .before .before .before .before .enum-told2 .given in
     let A = told-accepted (a .cells .now) (a .edges .now) (a .counts .now) (c .before .before .before .before .before .before .before .before .before .all-rows .result) _ (w .1) (c .before .before .before .before .before .before .before .before .before .all-rows .ensures .0) in
@@ -63,7 +63,7 @@ slice-aggregate-write-sides : tie.Need-slice-aggregate-write-sides
 slice-aggregate-write-sides c = search needs
 
 write-sides-requires : tie.Need-write-sides-requires
-write-sides-requires c κs = 
+write-sides-requires c κs =
     let a = c .before .before .before .before .before .before .before .before .before .before .before .before .before .before .before .before .before .before .args in
     let w = c .before .before .before .before .before .before .before .before .enum-told2 .given in
     let A = told-accepted (a .cells .now) (a .edges .now) (a .counts .now) (c .before .before .before .before .before .before .before .before .before .before .before .before .all-rows .result) _ (w .1) (c .before .before .before .before .before .before .before .before .before .before .before .before .all-rows .ensures .0) in
@@ -71,22 +71,24 @@ write-sides-requires c κs =
     lowering (a .cells .now) (a .edges .now) (a .counts .now) _ _ A W _ (omega (arith, A .few-cells, c .before .before .before .before .before .before .before .before .before .before .before .before .before .before .before .before .before .before .good))
 
 write-starts-requires : tie.Need-write-starts-requires
-write-starts-requires c κs = 
+write-starts-requires c κs =
     let a = c .before .before .before .before .before .before .before .before .before .before .before .before .before .before .before .before .before .before .before .before .args in
     let w = c .before .before .before .before .before .before .before .before .before .before .enum-told2 .given in
     let A = told-accepted (a .cells .now) (a .edges .now) (a .counts .now) (c .before .before .before .before .before .before .before .before .before .before .before .before .before .before .all-rows .result) _ (w .1) (c .before .before .before .before .before .before .before .before .before .before .before .before .before .before .all-rows .ensures .0) in
     (omega (arith, A .few-cells, A .few-edges, c .before .before .before .before .before .before .before .before .before .before .before .before .before .before .before .before .before .before .before .before .good), A .few-crossings)
 
 returns-2 : tie.Need-returns-2
-returns-2 c = 
+returns-2 c =
     let a = c .before .before .before .before .before .before .before .before .before .before .before .before .before .before .before .before .before .before .before .before .before .args in
     let w = c .before .before .before .before .before .before .before .before .before .before .before .enum-told2 .given in
     let h = c .before .before .before .before .before .before .before .before .before .before .before .before .before .before .before .all-rows .ensures .0 in
     let r = c .before .before .before .before .before .before .before .before .before .before .before .before .before .before .before .all-rows .result in
     let A = told-accepted (a .cells .now) (a .edges .now) (a .counts .now) r _ (w .1) h in
-    let W = told-where r _ (w .1) (c .before .before .before .before .before .before .before .before .before .before .before .before .before .before .before .all-rows .ensures .1) in
-    (h, opened-filled (a .cells .now) (a .edges .now) (a .counts .now) _ _ A W (told-accepts _ _ _ r _ (w .1) h) (told-ordered _ (a .edges .now) (a .counts .now) r _ (w .1) h) _ _ _ _ _ _ _ _
-    (c .before .before .before .before .before .before .before .before .write-names .ensures) (c .before .before .before .before .before .write-near .ensures) (c .before .before .write-sides .ensures) (c .write-starts .ensures))
+    let W = told-where r _ (w .1) (c .before .before .before .before .before .before .before .before .before .before .before .before .before .before .before .all-rows .ensures .1) in (
+      h,
+      opened-filled (a .cells .now) (a .edges .now) (a .counts .now) _ _ A W (told-accepts _ _ _ r _ (w .1) h) (told-ordered _ (a .edges .now) (a .counts .now) r _ (w .1) h) _ _ _ _ _ _ _ _
+          (c .before .before .before .before .before .before .before .before .write-names .ensures) (c .before .before .before .before .before .write-near .ensures) (c .before .before .write-sides .ensures) (c .write-starts .ensures),
+    )
 
 pub open-spec : {M : Type 1} → statement M
 open-spec =

@@ -52,7 +52,7 @@ same-length : tie.Need-same-length Inv-loop μ-loop
 same-length c = ap length (c .before .loop .inv .1) ∙ length-filled (λ j. lowerOf j (getD (c .before .before .before .before .args .across .now) j 0)) (c .before .loop .j) (c .before .before .before .before .args .names .now)
 
 returns : tie.Need-returns Inv-loop μ-loop
-returns c = 
+returns c =
     let e : c .before .loop .j ≡ c .before .before .before .before .args .n = omega arith in
     c .before .loop .inv .1 ∙ ap (λ (x : ℕ). filled (λ j. lowerOf j (getD (c .before .before .before .before .args .across .now) j 0)) x (c .before .before .before .before .args .names .now)) e
 

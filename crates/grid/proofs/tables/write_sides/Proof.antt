@@ -48,7 +48,7 @@ same-length : tie.Need-same-length Inv-loop μ-loop
 same-length c = ap length (c .before .loop .inv .1) ∙ length-filled (λ j. getD (c .before .before .args .listed .now) j 0 - 1) (c .before .loop .j) (c .before .before .args .sides .now)
 
 returns : tie.Need-returns Inv-loop μ-loop
-returns c = 
+returns c =
     let e : c .before .loop .j ≡ c .before .before .args .n = omega arith in
     c .before .loop .inv .1 ∙ ap (λ (x : ℕ). filled (λ j. getD (c .before .before .args .listed .now) j 0 - 1) x (c .before .before .args .sides .now)) e
 

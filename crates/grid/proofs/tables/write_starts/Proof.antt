@@ -47,7 +47,7 @@ same-length : tie.Need-same-length Inv-loop μ-loop
 same-length c = ap length (c .before .loop .inv .2) ∙ length-filled (start (c .before .before .before .before .args .counts .now)) (c .before .loop .e) (c .before .before .before .before .args .starts .now)
 
 returns : tie.Need-returns Inv-loop μ-loop
-returns c = 
+returns c =
     let e : c .before .loop .e ≡ length (c .before .before .before .before .args .counts .now) = omega arith in
     c .before .loop .inv .2 ∙ ap (λ (x : ℕ). filled (start (c .before .before .before .before .args .counts .now)) x (c .before .before .before .before .args .starts .now)) e
 

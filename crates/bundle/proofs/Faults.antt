@@ -1,0 +1,243 @@
+-- The reader's refusal is the lowest fault. Assumes nothing.
+use Prim.Native.Nat.{ℕ, zero, suc, _+_, _-_, _≤_, _<_}
+use mathlib.Core.Path.{_≡_, refl, sym, ap, _∙_, subst}
+use mathlib.Core.Logic.{_⊎_, inl, inr, ⊎-elim}
+use mathlib.Core.Bool.{Bool, true, false}
+use mathlib.Core.List.{List}
+use native.Mathlib.Nat.{add-zero, le-refl}
+use native.Mathlib.Decide.{decLt}
+use native.Mathlib.Omega.{arith}
+use lib.Dec.{eqb}
+use lib.ListN.{length}
+use borrow.Author.Tests.{eqb-true, eqb-false}
+use Rattle.answer.specs.Answer.{refusal}
+use Rattle.counting.specs.Pick.{pick}
+use Rattle.counting.proofs.Bools.{clash, and-left, and-right}
+use Rattle.bundle.specs.Record.{lengthOf, kindAt, nextAt, isRecord, endKind, brokenRow}
+use Rattle.bundle.specs.Bundle.{isOf, start, run, cells, edgesFrom, edges, stop, bundleAnswer, isBundle}
+use Rattle.bundle.specs.Fault.{AllWhole, kindOf, Fault, broken, disordered, trailing, endless}
+use Rattle.bundle.specs.Claims.{LowestFault, NoFault}
+use Rattle.bundle.proofs.OneRecord.{apart, stands, next-ge}
+use Rattle.bundle.proofs.Runs.{of-record, of-kind, is-of, run-all, run-stop, run-inside}
+use Rattle.bundle.proofs.Answers.{answer-open, answer-after, answer-lists, accepted}
+
+-- a kind with a length is one of three
+kind-pick : (k : ℕ) (a b c : Bool) → eqb k 1 ≡ a → eqb k 2 ≡ b → eqb k 3 ≡ c → 0 < pick a 10 (pick b 7 (pick c 2 0)) → (k ≡ 1) ⊎ ((k ≡ 2) ⊎ (k ≡ 3))
+kind-pick k true b c ea eb ec h = inl (eqb-true k 1 ea)
+kind-pick k false true c ea eb ec h = inr (inl (eqb-true k 2 eb))
+kind-pick k false false true ea eb ec h = inr (inr (eqb-true k 3 ec))
+kind-pick k false false false ea eb ec h = absurd (omega (arith, h))
+
+kind-cases : (k : ℕ) → 0 < lengthOf k → (k ≡ 1) ⊎ ((k ≡ 2) ⊎ (k ≡ 3))
+unfolding lengthOf
+kind-cases k h = kind-pick k (eqb k 1) (eqb k 2) (eqb k 3) refl refl refl h
+
+start-add : (s : List ℕ) (p k j : ℕ) → start s (start s p k) j ≡ start s p (k + j)
+unfolding start
+start-add s p k zero = ap (start s p) (sym (add-zero k))
+start-add s p k (suc j) = let e : suc (k + j) ≡ k + suc j = omega arith in ap (nextAt s) (start-add s p k j) ∙ ap (start s p) e
+
+module _ (s : List ℕ) where
+  -- whole records start ever later
+  grows : (d m : ℕ) → AllWhole s (m + d) → start s 0 m ≤ start s 0 (m + d)
+  unfolding start
+  grows zero m w = omega (arith, ap (start s 0) (add-zero m))
+  grows (suc d) m w =
+      let e : m + suc d ≡ suc (m + d) = omega arith in
+      let h = grows d m (λ j l. w j (omega arith)) in
+      let n = next-ge s (start s 0 (m + d)) (w (m + d) (omega arith)) in
+      omega (arith, ap (start s 0) e, h, n)
+
+  later : (m k : ℕ) → m ≤ k → AllWhole s k → start s 0 m ≤ start s 0 k
+  later m k h w =
+      let e : m + (k - m) ≡ k = omega arith in
+      omega (arith, grows (k - m) m (λ j l. w j (omega arith)), ap (start s 0) e)
+
+  inside : (k : ℕ) → isRecord s (start s 0 k) ≡ true → start s 0 k + 4 ≤ length s
+  inside k h = stands s (start s 0 k) h .inside
+
+  -- the first m records are whole and in order, and no end stands before the last of them
+  record Clean (m : ℕ) : Type 0 where
+    whole : AllWhole s m
+    sorted : (j k : ℕ) → j < k → k < m → kindOf s j ≤ kindOf s k
+    unclosed : (j : ℕ) → suc j < m → kindOf s j ≡ endKind → ⊥
+
+  module _ (m : ℕ) (c : Clean m) where
+    none-below : (q : ℕ) → q < start s 0 m → Fault s q → ⊥
+    none-below q l (broken k e w b f) =
+        elim (decLt k m) [ yes h ↦ clash (ap (isRecord s) e ∙ c .whole k h) f | no h ↦ let g = later m k (omega arith) w in omega arith ]
+    none-below q l (disordered j k e w b f) =
+        elim (decLt k m) [ yes h ↦ let g = c .sorted j k b h in omega arith | no h ↦ let g = later m k (omega arith) (λ i r. w i (omega arith)) in omega arith ]
+    none-below q l (trailing k e w f b) =
+        elim (decLt (suc k) m) [ yes h ↦ c .unclosed k h f | no h ↦ let g = later m (suc k) (omega arith) w in omega arith ]
+    none-below q l (endless k e w b f) =
+        elim (decLt k m) [ yes h ↦ let g = inside k (c .whole k h) in omega arith | no h ↦ let g = later m k (omega arith) w in omega arith ]
+
+  -- the cells and edges of the bytes, by their numbers
+  cell-record : (j : ℕ) → j < cells s → isOf s 1 (start s 0 j) ≡ true
+  unfolding cells
+  cell-record j h = run-all s 0 1 j h
+
+  edge-record : (j : ℕ) → cells s ≤ j → j < cells s + edges s → isOf s 2 (start s 0 j) ≡ true
+  unfolding edgesFrom edges
+  edge-record j l h =
+      let e : cells s + (j - cells s) ≡ j = omega arith in
+      sym (ap (isOf s 2) (start-add s 0 (cells s) (j - cells s) ∙ ap (start s 0) e)) ∙ run-all s (edgesFrom s) 2 (j - cells s) (omega arith)
+
+  pub stop-start : stop s ≡ start s 0 (cells s + edges s)
+  unfolding stop edgesFrom
+  stop-start = start-add s 0 (cells s) (edges s)
+
+  from-inside : edgesFrom s ≤ length s
+  unfolding edgesFrom cells
+  from-inside = run-inside s 0 1 (run s 1 0) (omega arith) (le-refl (run s 1 0))
+
+  pub stop-inside : stop s ≤ length s
+  unfolding stop edges
+  stop-inside = run-inside s (edgesFrom s) 2 (run s 2 (edgesFrom s)) from-inside (le-refl (run s 2 (edgesFrom s)))
+
+  -- before the stop, a kind is that of cells or that of edges, by the number
+  record Kind (j : ℕ) : Type 0 where
+    is : isRecord s (start s 0 j) ≡ true
+    which : ((kindOf s j ≡ 1) × (j < cells s)) ⊎ ((kindOf s j ≡ 2) × (cells s ≤ j))
+
+  kind : (j : ℕ) → j < cells s + edges s → Kind j
+  kind j h =
+      elim (decLt j (cells s)) [
+        | yes l ↦ record { is = of-record s 1 _ (cell-record j l); which = inl (of-kind s 1 _ (cell-record j l), l) }
+        | no l ↦ let b : cells s ≤ j = omega arith in record { is = of-record s 2 _ (edge-record j b h); which = inr (of-kind s 2 _ (edge-record j b h), b) }
+      ]
+
+  not-end : (j : ℕ) → j < cells s + edges s → kindOf s j ≡ endKind → ⊥
+  not-end j h e = ⊎-elim (λ (w : (kindOf s j ≡ 1) × (j < cells s)). omega (arith, w, e)) (λ (w : (kindOf s j ≡ 2) × (cells s ≤ j)). omega (arith, w, e)) (kind j h .which)
+
+  in-order : (j k : ℕ) → j < k → k < cells s + edges s → kindOf s j ≤ kindOf s k
+  in-order j k l h =
+      ⊎-elim
+      (λ (w : (kindOf s j ≡ 1) × (j < cells s)). ⊎-elim (λ (v : (kindOf s k ≡ 1) × (k < cells s)). omega (arith, w, v)) (λ (v : (kindOf s k ≡ 2) × (cells s ≤ k)). omega (arith, w, v)) (kind k h .which))
+      (λ (w : (kindOf s j ≡ 2) × (cells s ≤ j)). ⊎-elim (λ (v : (kindOf s k ≡ 1) × (k < cells s)). omega (arith, w, v, l)) (λ (v : (kindOf s k ≡ 2) × (cells s ≤ k)). omega (arith, w, v)) (kind k h .which))
+      (kind j (omega arith) .which)
+
+  clean : Clean (cells s + edges s)
+  clean = record { whole = λ j h. kind j h .is; sorted = in-order; unclosed = λ j h e. not-end j (omega arith) e }
+
+  module _ (h : isOf s endKind (stop s) ≡ true) where
+    end-record : isOf s endKind (start s 0 (cells s + edges s)) ≡ true
+    end-record = ap (isOf s endKind) (sym stop-start) ∙ h
+
+    clean-end : Clean (suc (cells s + edges s))
+    clean-end =
+        record {
+          whole = λ j l. elim (decLt j (cells s + edges s)) [ yes b ↦ kind j b .is | no b ↦ let e : j ≡ cells s + edges s = omega arith in ap (λ i. isRecord s (start s 0 i)) e ∙ of-record s endKind _ end-record ];
+          sorted = λ j k l b.
+              elim (decLt k (cells s + edges s)) [
+                | yes r ↦ in-order j k l r
+                | no r ↦
+                    let e : k ≡ cells s + edges s = omega arith in
+                    let f : kindOf s k ≡ 3 = ap (kindOf s) e ∙ of-kind s endKind _ end-record in
+                    ⊎-elim (λ (w : (kindOf s j ≡ 1) × (j < cells s)). omega (arith, w, f)) (λ (w : (kindOf s j ≡ 2) × (cells s ≤ j)). omega (arith, w, f)) (kind j (omega arith) .which)
+              ];
+          unclosed = λ j l e. not-end j (omega arith) e;
+        }
+
+    -- bytes after the end
+    tail-fault : (nextAt s (stop s) ≡ length s → ⊥) → Fault s (nextAt s (stop s)) × ((q : ℕ) → q < nextAt s (stop s) → Fault s q → ⊥)
+    unfolding start
+    tail-fault n =
+        let e : nextAt s (stop s) ≡ start s 0 (suc (cells s + edges s)) = ap (nextAt s) stop-start in
+        let f = stands s (stop s) (of-record s endKind (stop s) h) .fits in
+        let l : nextAt s (stop s) < length s = omega (arith, f, n) in
+        (trailing (cells s + edges s) e (clean-end .whole) (of-kind s endKind _ end-record) l, λ q b. none-below (suc (cells s + edges s)) clean-end q (omega arith))
+
+    no-fault : nextAt s (stop s) ≡ length s → (q : ℕ) → Fault s q → ⊥
+    unfolding start
+    no-fault n q x = go x
+      where
+        e : start s 0 (suc (cells s + edges s)) ≡ length s
+        e = ap (nextAt s) (sym stop-start) ∙ n
+
+        below : q < length s → Fault s q → ⊥
+        below l y = none-below (suc (cells s + edges s)) clean-end q (omega (arith, e, l)) y
+
+        go : Fault s q → ⊥
+        go (broken k p w b f) = below b (broken k p w b f)
+        go (disordered j k p w b f) = let g = inside k (w k (omega arith)) in below (omega arith) (disordered j k p w b f)
+        go (trailing k p w f b) = below b (trailing k p w f b)
+        go (endless k p w b f) =
+            elim (decLt (cells s + edges s) k) [
+              | yes l ↦ f (cells s + edges s) l (of-kind s endKind _ end-record)
+              | no l ↦ let g = inside k (clean-end .whole k (omega arith)) in omega arith
+            ]
+
+  no-more-cells : isOf s 1 (edgesFrom s) ≡ false
+  unfolding edgesFrom cells
+  no-more-cells = run-stop s 0 1
+
+  no-more-edges : isOf s 2 (stop s) ≡ false
+  unfolding stop edges
+  no-more-edges = run-stop s (edgesFrom s) 2
+
+  same : edges s ≡ 0 → stop s ≡ edgesFrom s
+  unfolding stop start
+  same e = ap (start s (edgesFrom s)) e
+
+  -- a cell where the cells and edges stop comes after an edge
+  cell-fault : isRecord s (stop s) ≡ true → kindAt s (stop s) ≡ 1 → Fault s (stop s)
+  cell-fault w k = elim (decLt 0 (edges s)) [ yes l ↦ after l | no l ↦ clash (is-of s 1 (stop s) w k) (ap (isOf s 1) (same (omega arith)) ∙ no-more-cells) ]
+    where
+      after : 0 < edges s → Fault s (stop s)
+      after l =
+          let n = cells s + edges s in
+          let b : cells s ≤ n - 1 = omega arith in
+          let r : n - 1 < n = omega arith in
+          let f : kindOf s (n - 1) ≡ 2 = of-kind s 2 _ (edge-record (n - 1) b r) in
+          let g : kindOf s n ≡ 1 = ap (kindAt s) (sym stop-start) ∙ k in
+          let last : isRecord s (start s 0 n) ≡ true = ap (isRecord s) (sym stop-start) ∙ w in
+          disordered (n - 1) n stop-start
+          (λ j h. elim (decLt j n) [ yes q ↦ kind j q .is | no q ↦ let e : j ≡ n = omega arith in ap (λ i. isRecord s (start s 0 i)) e ∙ last ]) r (omega (arith, f, g))
+
+  stop-fault : isOf s endKind (stop s) ≡ false → Fault s (stop s)
+  stop-fault h = go (isRecord s (stop s)) refl
+    where
+      go : (b : Bool) → isRecord s (stop s) ≡ b → Fault s (stop s)
+      go true w =
+          ⊎-elim (λ (e : kindAt s (stop s) ≡ 1). cell-fault w e)
+          (λ (o : (kindAt s (stop s) ≡ 2) ⊎ (kindAt s (stop s) ≡ 3)).
+          ⊎-elim (λ (e : kindAt s (stop s) ≡ 2). clash (is-of s 2 (stop s) w e) no-more-edges) (λ (e : kindAt s (stop s) ≡ 3). clash (is-of s endKind (stop s) w e) h) o)
+          (kind-cases (kindAt s (stop s)) (stands s (stop s) w .known))
+      go false w =
+          elim (decLt (stop s) (length s)) [
+            | yes l ↦ broken (cells s + edges s) stop-start (clean .whole) l w
+            | no l ↦ let i = stop-inside in endless (cells s + edges s) stop-start (clean .whole) (omega arith) (λ j b e. not-end j b e)
+          ]
+
+  abbrev Low : ℕ → Type 0
+  Low place = Fault s place × ((q : ℕ) → q < place → Fault s q → ⊥)
+
+  same-place : (p q : ℕ) → bundleAnswer s ≡ refusal brokenRow p → bundleAnswer s ≡ refusal brokenRow q → q ≡ p
+  same-place p q a b = cc
+
+  lowest : (place : ℕ) → bundleAnswer s ≡ refusal brokenRow place → Low place
+  lowest place a = go (isOf s endKind (stop s)) refl
+    where
+      at-end : (h : isOf s endKind (stop s) ≡ true) → (b : Bool) → eqb (nextAt s (stop s)) (length s) ≡ b → Low place
+      at-end h true e = apart _ _ _ _ (sym (answer-lists s h (eqb-true _ _ e)) ∙ a)
+      at-end h false e = let n = eqb-false _ _ e in subst Low (same-place place (nextAt s (stop s)) a (answer-after s h n)) (tail-fault h n)
+
+      go : (b : Bool) → isOf s endKind (stop s) ≡ b → Low place
+      go true h = at-end h (eqb (nextAt s (stop s)) (length s)) refl
+      go false h =
+          let e = stop-start in
+          subst Low (same-place place (stop s) a (answer-open s h)) (stop-fault h, λ q l. none-below (cells s + edges s) clean q (omega (arith, e, l)))
+
+  none-where : isBundle s ≡ true → (q : ℕ) → Fault s q → ⊥
+  unfolding isBundle
+  none-where h =
+      no-fault (and-left (isOf s endKind (stop s)) (eqb (nextAt s (stop s)) (length s)) h)
+      (eqb-true _ _ (and-right (isOf s endKind (stop s)) (eqb (nextAt s (stop s)) (length s)) h))
+
+pub lowest-fault : LowestFault
+lowest-fault s place h = lowest s place h
+
+pub no-fault-accepted : NoFault
+no-fault-accepted s c e h q x = none-where s (accepted s c e (sym h)) q x

@@ -1,0 +1,11 @@
+pub mod OneRecord
+pub mod Runs
+pub mod Answers
+pub mod Fills
+pub mod Writes
+pub mod Faults
+pub mod Within
+pub mod BytesBack
+pub mod ListsBack
+pub mod Readings
+pub mod Computed

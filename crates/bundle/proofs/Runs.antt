@@ -1,0 +1,132 @@
+-- Records of one kind that stand one after the other. Assumes nothing.
+use Prim.Native.Nat.{ℕ, zero, suc, _+_, _≤_, _<_}
+use mathlib.Core.Path.{_≡_, refl, sym, ap, _∙_}
+use mathlib.Core.Logic.{⊎-elim}
+use mathlib.Core.Bool.{true, false, not}
+use mathlib.Core.List.{List}
+use native.Mathlib.Nat.{le-refl}
+use native.Mathlib.Numerals.{add-one}
+use native.Mathlib.Omega.{arith}
+use lib.Dec.{eqb}
+use lib.ListN.{length}
+use borrow.Author.Tests.{eqb-true, eq-eqb, ne-eqb, not-true, not-false}
+use Rattle.counting.proofs.Bools.{and-left, and-right, and-true, and-false-left, and-false-right}
+use Rattle.counting.proofs.Search.{first-at, first-is, first-below, below-or}
+use Rattle.bundle.specs.Record.{word, lengthOf, kindAt, nextAt, isRecord}
+use Rattle.bundle.specs.Bundle.{isOf, start, run}
+use Rattle.bundle.proofs.OneRecord.{stands, next-ge}
+
+-- a record of a kind at a place
+module _ (s : List ℕ) (kind at : ℕ) where
+  pub of-record : isOf s kind at ≡ true → isRecord s at ≡ true
+  unfolding isOf
+  of-record h = and-left (isRecord s at) (eqb (kindAt s at) kind) h
+
+  pub of-kind : isOf s kind at ≡ true → kindAt s at ≡ kind
+  unfolding isOf
+  of-kind h = eqb-true _ _ (and-right (isRecord s at) (eqb (kindAt s at) kind) h)
+
+  pub is-of : isRecord s at ≡ true → kindAt s at ≡ kind → isOf s kind at ≡ true
+  unfolding isOf
+  is-of h e = and-true _ _ h (eq-eqb _ _ e)
+
+  pub none-of : isRecord s at ≡ false → isOf s kind at ≡ false
+  unfolding isOf
+  none-of h = and-false-left (isRecord s at) (eqb (kindAt s at) kind) h
+
+  pub other-of : (kindAt s at ≡ kind → ⊥) → isOf s kind at ≡ false
+  unfolding isOf
+  other-of h = and-false-right (isRecord s at) (eqb (kindAt s at) kind) (ne-eqb _ _ h)
+
+  -- its bytes are all there, and the next record comes straight after them
+  pub next-of : isOf s kind at ≡ true → nextAt s at ≡ at + (2 + lengthOf kind)
+  unfolding nextAt
+  next-of h =
+      let w = stands s at (of-record h) in
+      let e : word s at ≡ lengthOf kind = w .right ∙ ap lengthOf (of-kind h) in
+      omega (arith, e)
+
+  pub fits-of : isOf s kind at ≡ true → at + (2 + lengthOf kind) ≤ length s
+  fits-of h = let w = stands s at (of-record h) in omega (arith, w .fits, next-of h)
+
+-- a walk over records of a kind, which came to a place after some of them
+pub record Going (s : List ℕ) (from kind at count : ℕ) : Type 0 where
+  pub reached : at ≡ start s from count
+  pub all : (j : ℕ) → j < count → isOf s kind (start s from j) ≡ true
+  pub few : count ≤ at
+  pub inside : count ≤ length s
+
+module _ (s : List ℕ) (from kind : ℕ) where
+  pub going : Going s from kind from 0
+  unfolding start
+  going = record { reached = refl; all = λ j h. absurd (omega (arith, h)); few = omega arith; inside = omega arith }
+
+  pub start-more : (k : ℕ) → start s from (k + 1) ≡ nextAt s (start s from k)
+  unfolding start
+  start-more k = ap (start s from) (add-one k)
+
+  module _ (at count : ℕ) (g : Going s from kind at count) where
+    pub on : isOf s kind at ≡ true → Going s from kind (nextAt s at) (count + 1)
+    on h =
+        let n = next-ge s at (of-record s kind at h) in
+        let w = stands s at (of-record s kind at h) in
+        record {
+          reached = ap (nextAt s) (g .reached) ∙ sym (start-more count);
+          all = λ j l. ⊎-elim (λ (e : j ≡ count). ap (λ i. isOf s kind (start s from i)) e ∙ ap (isOf s kind) (sym (g .reached)) ∙ h) (λ (b : j < count). g .all j b) (below-or j count (omega arith));
+          few = omega (arith, g .few, n);
+          inside = omega (arith, g .few, n, w .fits);
+        }
+
+    pub arrived : isOf s kind at ≡ false → count ≡ run s kind from
+    unfolding run
+    arrived h =
+        sym
+        (first-at (λ k. not (isOf s kind (start s from k))) (suc (length s)) count (omega (arith, g .inside))
+        (ap not (ap (isOf s kind) (sym (g .reached)) ∙ h))
+        (λ j b. ap not (g .all j b)))
+
+  -- the records of a run
+  pub run-all : (j : ℕ) → j < run s kind from → isOf s kind (start s from j) ≡ true
+  unfolding run
+  run-all j h = not-false _ (first-below (λ k. not (isOf s kind (start s from k))) (suc (length s)) j h)
+
+  pub run-going : (k : ℕ) → k ≤ run s kind from → Going s from kind (start s from k) k
+  unfolding start
+  run-going zero h = going
+  run-going (suc k) h = rw (← add-one k) (on (start s from k) k (run-going k (omega arith)) (run-all k h))
+
+  pub run-few : run s kind from ≤ length s
+  run-few = run-going (run s kind from) (le-refl (run s kind from)) .inside
+
+  pub run-inside : (k : ℕ) → from ≤ length s → k ≤ run s kind from → start s from k ≤ length s
+  unfolding start
+  run-inside zero l h = l
+  run-inside (suc k) l h = stands s (start s from k) (of-record s kind (start s from k) (run-all k h)) .fits
+
+  pub run-stop : isOf s kind (start s from (run s kind from)) ≡ false
+  unfolding run
+  run-stop = not-true _ (first-is (λ k. not (isOf s kind (start s from k))) (suc (length s)) (omega (arith, run-few)))
+
+-- a second walk over the records of a run, w bytes each
+pub record Walked (s : List ℕ) (from kind at k : ℕ) : Type 0 where
+  pub upto : k ≤ run s kind from
+  pub reached : at ≡ start s from k
+
+module _ (s : List ℕ) (from kind : ℕ) where
+  pub walked : Walked s from kind from 0
+  unfolding start
+  walked = record { upto = omega arith; reached = refl }
+
+  module _ (w at k : ℕ) (e : 2 + lengthOf kind ≡ w) (g : Walked s from kind at k) (l : k < run s kind from) where
+    here : isOf s kind at ≡ true
+    here = ap (isOf s kind) (g .reached) ∙ run-all s from kind k l
+
+    pub walked-fits : at + w ≤ length s
+    walked-fits = omega (arith, e, fits-of s kind at here)
+
+    pub walked-on : Walked s from kind (at + w) (k + 1)
+    walked-on =
+        record {
+          upto = omega arith;
+          reached = ap (λ n. at + n) (sym e) ∙ sym (next-of s kind at here) ∙ ap (nextAt s) (g .reached) ∙ sym (start-more s from kind k);
+        }

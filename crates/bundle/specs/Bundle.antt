@@ -1,0 +1,110 @@
+-- A bundle (01): cells, then edges, then one end. What the reader answers, and the lists that the bytes mean.
+use Prim.Native.Nat.{ℕ, zero, suc, _+_, _*_}
+use mathlib.Core.Bool.{Bool, not, _&&_}
+use mathlib.Core.List.{List, [], _∷_, _++_}
+use lib.Dec.{leb, eqb}
+use lib.ListN.{length, getD, drop}
+use Rattle.answer.specs.Answer.{result, refusal}
+use Rattle.counting.specs.Pick.{pick}
+use Rattle.counting.specs.Range.{over}
+use Rattle.counting.specs.Search.{first}
+use Rattle.bundle.specs.Record.{cellKind, edgeKind, endKind, brokenRow, wordSize, headBytes, word, kindAt, nextAt, isRecord}
+use Rattle.bundle.specs.declared.Contents.{Contents}
+use Rattle.bundle.specs.declared.Contents.the-variants.{Lists, Refused}
+
+-- the row of the table of refusals that speaks of short lists
+abbrev pub shortRow : ℕ
+shortRow = 14
+
+-- a record of a kind stands at a place
+unfoldable pub isOf : List ℕ → ℕ → ℕ → Bool
+isOf s kind at = isRecord s at && eqb (kindAt s at) kind
+
+-- where record k from a place on starts, each after the one before it
+unfoldable pub start : List ℕ → ℕ → ℕ → ℕ
+start s from zero = from
+start s from (suc k) = nextAt s (start s from k)
+
+-- how many records of a kind stand from a place on, one after the other
+unfoldable pub run : List ℕ → ℕ → ℕ → ℕ
+run s kind from = first (λ k. not (isOf s kind (start s from k))) (suc (length s))
+
+-- the cells, the edges after them, and the place where these stop
+unfoldable pub cells : List ℕ → ℕ
+cells s = run s cellKind 0
+
+unfoldable pub edgesFrom : List ℕ → ℕ
+edgesFrom s = start s 0 (cells s)
+
+unfoldable pub edges : List ℕ → ℕ
+edges s = run s edgeKind (edgesFrom s)
+
+unfoldable pub stop : List ℕ → ℕ
+stop s = start s (edgesFrom s) (edges s)
+
+-- row 13 over everything: there an end has to stand, with nothing after it. Where none stands, the fault starts at that place, which is the
+-- input's length if only whole records were met; where bytes follow the end, it starts at the first of these.
+unfoldable pub bundleAnswer : List ℕ → List ℕ
+bundleAnswer s =
+    pick (isOf s endKind (stop s))
+    (pick (eqb (nextAt s (stop s)) (length s)) (result (cells s ∷ edges s ∷ [])) (refusal brokenRow (nextAt s (stop s))))
+    (refusal brokenRow (stop s))
+
+unfoldable pub isBundle : List ℕ → Bool
+isBundle s = isOf s endKind (stop s) && eqb (nextAt s (stop s)) (length s)
+
+-- the numbers that a cell has in the list of nodes, and an edge in the list of ends
+abbrev pub cellNodes : ℕ
+cellNodes = 4
+
+abbrev pub edgeEnds : ℕ
+edgeEnds = 2
+
+-- number i of 16 bits in the body of the record at a place
+abbrev pub bodyWord : List ℕ → ℕ → ℕ → ℕ
+bodyWord s at i = word s (at + (headBytes + wordSize * i))
+
+-- what the body means: the nodes of a cell; the ends of an edge, and its count after them
+abbrev pub nodesAt : List ℕ → ℕ → List ℕ
+nodesAt s at = bodyWord s at 0 ∷ bodyWord s at 1 ∷ bodyWord s at 2 ∷ bodyWord s at 3 ∷ []
+
+abbrev pub endsAt : List ℕ → ℕ → List ℕ
+endsAt s at = bodyWord s at 0 ∷ bodyWord s at 1 ∷ []
+
+abbrev pub countAt : List ℕ → ℕ → List ℕ
+countAt s at = getD s (at + (headBytes + wordSize * edgeEnds)) 0 ∷ []
+
+-- the three lists
+unfoldable pub nodesOf : List ℕ → List ℕ
+nodesOf s = over (λ k. nodesAt s (start s 0 k)) (cells s) 0
+
+unfoldable pub endsOf : List ℕ → List ℕ
+endsOf s = over (λ k. endsAt s (start s (edgesFrom s) k)) (edges s) 0
+
+unfoldable pub countsOf : List ℕ → List ℕ
+countsOf s = over (λ k. countAt s (start s (edgesFrom s) k)) (edges s) 0
+
+-- lent lists of these lengths hold the bundle's
+unfoldable pub hasRoom : List ℕ → ℕ → ℕ → ℕ → Bool
+hasRoom s nodes ends counts = leb (cellNodes * cells s) nodes && leb (edgeEnds * edges s) ends && leb (edges s) counts
+
+-- the reader takes the bundle into lists of these lengths
+unfoldable pub isTaken : List ℕ → ℕ → ℕ → ℕ → Bool
+isTaken s nodes ends counts = isBundle s && hasRoom s nodes ends counts
+
+-- row 13, then row 14
+unfoldable pub readAnswer : List ℕ → ℕ → ℕ → ℕ → List ℕ
+readAnswer s nodes ends counts = pick (isBundle s && not (hasRoom s nodes ends counts)) (refusal shortRow 0) (bundleAnswer s)
+
+-- a list written over the front of a lent one, which keeps its values beyond
+abbrev pub writtenOver : List ℕ → List ℕ → List ℕ
+writtenOver new old = new ++ drop (length new) old
+
+-- what the reader leaves in a lent list, of which the bundle has `new`
+abbrev pub leaves : Bool → List ℕ → List ℕ → List ℕ
+leaves taken new old = pick taken (writtenOver new old) old
+
+-- the enum's cases as the paper's numbers
+abbrev pub contentsNumbers : Contents → List ℕ
+contentsNumbers (Lists cells edges) = result (cells ∷ edges ∷ [])
+contentsNumbers (Refused number place) = refusal number place

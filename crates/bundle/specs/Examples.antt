@@ -1,0 +1,128 @@
+-- Examples, each with the answer that document 01 asks. One computed theorem says that the definitions give these answers.
+use Prim.Native.Nat.{ℕ, _+_}
+use mathlib.Core.Path.{_≡_}
+use mathlib.Core.List.{List, [], _∷_, _++_, map}
+use lib.ListN.{take, drop}
+use Rattle.answer.specs.Answer.{result, refusal}
+use Rattle.counting.specs.Range.{over}
+use Rattle.bundle.specs.Record.{recordAnswer, bodyStart, body}
+use Rattle.bundle.specs.Bundle.{bundleAnswer, readAnswer, nodesOf, endsOf, countsOf}
+use Rattle.bundle.specs.Written.{bundleBytes, writeAnswer}
+
+pub record Example : Type 0 where
+  pub found : List ℕ
+  pub asked : List ℕ
+
+abbrev pub asks : List ℕ → List ℕ → Example
+asks found asked = record { found = found; asked = asked }
+
+-- the cell 0 1 2 3; the cell 258 3 4 4095, whose first node has the bytes 2 and 1; the edge 0 1 with count 5; the end
+abbrev pub cell : List ℕ
+cell = 10 ∷ 0 ∷ 1 ∷ 0 ∷ 0 ∷ 0 ∷ 1 ∷ 0 ∷ 2 ∷ 0 ∷ 3 ∷ 0 ∷ []
+
+abbrev pub high : List ℕ
+high = 10 ∷ 0 ∷ 1 ∷ 0 ∷ 2 ∷ 1 ∷ 3 ∷ 0 ∷ 4 ∷ 0 ∷ 255 ∷ 15 ∷ []
+
+abbrev pub edge : List ℕ
+edge = 7 ∷ 0 ∷ 2 ∷ 0 ∷ 0 ∷ 0 ∷ 1 ∷ 0 ∷ 5 ∷ []
+
+abbrev pub end : List ℕ
+end = 2 ∷ 0 ∷ 3 ∷ 0 ∷ []
+
+-- a record with other bytes for length and kind
+abbrev pub headed : ℕ → ℕ → ℕ → ℕ → List ℕ → List ℕ
+headed a b c d bytes = a ∷ b ∷ c ∷ d ∷ drop 4 bytes
+
+abbrev pub good : List Example
+good =
+    asks (bundleAnswer end) (result (0 ∷ 0 ∷ []))
+    ∷ asks (bundleAnswer (cell ++ end)) (result (1 ∷ 0 ∷ []))
+    ∷ asks (bundleAnswer (edge ++ end)) (result (0 ∷ 1 ∷ []))
+    ∷ asks (bundleAnswer (cell ++ high ++ edge ++ end)) (result (2 ∷ 1 ∷ []))
+    ∷ asks (nodesOf (cell ++ high ++ edge ++ end)) (0 ∷ 1 ∷ 2 ∷ 3 ∷ 258 ∷ 3 ∷ 4 ∷ 4095 ∷ [])
+    ∷ asks (endsOf (cell ++ high ++ edge ++ end)) (0 ∷ 1 ∷ [])
+    ∷ asks (countsOf (cell ++ high ++ edge ++ end)) (5 ∷ [])
+    ∷ []
+
+-- empty; only whole records and no end; a record that is cut short at each place
+abbrev pub short : List Example
+short =
+    asks (bundleAnswer []) (refusal 13 0)
+    ∷ asks (bundleAnswer cell) (refusal 13 12)
+    ∷ asks (bundleAnswer (cell ++ edge)) (refusal 13 21)
+    ∷ (over (λ k. asks (bundleAnswer (take (k + 1) cell)) (refusal 13 0) ∷ []) 11 0
+    ++ over (λ k. asks (bundleAnswer (cell ++ take (k + 1) edge)) (refusal 13 12) ∷ []) 8 0
+    ++ over (λ k. asks (bundleAnswer (cell ++ edge ++ take (k + 1) end)) (refusal 13 21) ∷ []) 3 0)
+
+-- a wrong length of each kind, lengths and kinds that are right in their low byte only, and no kind
+abbrev pub wrong : List Example
+wrong =
+    asks (bundleAnswer (headed 9 0 1 0 cell ++ end)) (refusal 13 0)
+    ∷ asks (bundleAnswer (headed 11 0 1 0 cell ++ end)) (refusal 13 0)
+    ∷ asks (bundleAnswer (cell ++ headed 8 0 2 0 edge ++ end)) (refusal 13 12)
+    ∷ asks (bundleAnswer (cell ++ headed 6 0 2 0 edge ++ end)) (refusal 13 12)
+    ∷ asks (bundleAnswer (headed 3 0 3 0 end ++ (0 ∷ []))) (refusal 13 0)
+    ∷ asks (bundleAnswer (headed 10 1 1 0 cell ++ end)) (refusal 13 0)
+    ∷ asks (bundleAnswer (headed 10 0 1 1 cell ++ end)) (refusal 13 0)
+    ∷ asks (bundleAnswer (headed 2 0 0 0 end)) (refusal 13 0)
+    ∷ asks (bundleAnswer (cell ++ headed 2 0 4 0 end)) (refusal 13 12)
+    ∷ []
+
+-- a cell after an edge, and bytes after the end: one, a second end, a cell
+abbrev pub disorder : List Example
+disorder =
+    asks (bundleAnswer (edge ++ cell ++ end)) (refusal 13 9)
+    ∷ asks (bundleAnswer (cell ++ edge ++ cell ++ end)) (refusal 13 21)
+    ∷ asks (bundleAnswer (end ++ (0 ∷ []))) (refusal 13 4)
+    ∷ asks (bundleAnswer (end ++ end)) (refusal 13 4)
+    ∷ asks (bundleAnswer (cell ++ end ++ cell)) (refusal 13 16)
+    ∷ []
+
+-- one record at a start, whatever its order, and its body
+abbrev pub starts : List Example
+starts =
+    asks (recordAnswer (cell ++ edge ++ end) 0) (result (1 ∷ 12 ∷ []))
+    ∷ asks (recordAnswer (cell ++ edge ++ end) 12) (result (2 ∷ 21 ∷ []))
+    ∷ asks (recordAnswer (end ++ cell) 4) (result (1 ∷ 16 ∷ []))
+    ∷ asks (recordAnswer (cell ++ end) 1) (refusal 13 1)
+    ∷ asks (recordAnswer (cell ++ end) 16) (refusal 13 16)
+    ∷ asks (recordAnswer (cell ++ end) 17) (refusal 13 16)
+    ∷ asks (recordAnswer [] 0) (refusal 13 0)
+    ∷ asks (body (cell ++ edge ++ end) 12) (0 ∷ 0 ∷ 1 ∷ 0 ∷ 5 ∷ [])
+    ∷ asks (bodyStart (cell ++ edge ++ end) 12 ∷ []) (16 ∷ [])
+    ∷ asks (body end 0) []
+    ∷ asks (bodyStart end 0 ∷ []) (4 ∷ [])
+    ∷ asks (body (cell ++ end) 1) []
+    ∷ asks (bodyStart (cell ++ end) 1 ∷ []) (0 ∷ [])
+    ∷ []
+
+-- lent lists that hold the bundle, and each of them one too short; 13 comes before 14
+abbrev pub lent : List Example
+lent =
+    asks (readAnswer (cell ++ high ++ edge ++ end) 8 2 1) (result (2 ∷ 1 ∷ []))
+    ∷ asks (readAnswer (cell ++ high ++ edge ++ end) 9 7 3) (result (2 ∷ 1 ∷ []))
+    ∷ asks (readAnswer (cell ++ high ++ edge ++ end) 7 2 1) (refusal 14 0)
+    ∷ asks (readAnswer (cell ++ high ++ edge ++ end) 8 1 1) (refusal 14 0)
+    ∷ asks (readAnswer (cell ++ high ++ edge ++ end) 8 2 0) (refusal 14 0)
+    ∷ asks (readAnswer (cell ++ edge) 0 0 0) (refusal 13 21)
+    ∷ []
+
+-- the writer: bytes, lists that are not formed, an area one byte too short
+abbrev pub writes : List Example
+writes =
+    asks (bundleBytes [] [] []) end
+    ∷ asks (bundleBytes (258 ∷ 3 ∷ 4 ∷ 4095 ∷ []) (0 ∷ 1 ∷ []) (5 ∷ [])) (high ++ edge ++ end)
+    ∷ asks (writeAnswer (0 ∷ 1 ∷ 2 ∷ 3 ∷ []) (0 ∷ 1 ∷ []) (5 ∷ []) 25) (result (25 ∷ []))
+    ∷ asks (writeAnswer (0 ∷ 1 ∷ 2 ∷ 3 ∷ []) (0 ∷ 1 ∷ []) (5 ∷ []) 24) (refusal 14 25)
+    ∷ asks (writeAnswer [] [] [] 0) (refusal 14 4)
+    ∷ asks (writeAnswer (0 ∷ 1 ∷ 2 ∷ []) [] [] 100) (refusal 13 0)
+    ∷ asks (writeAnswer [] (0 ∷ 1 ∷ 2 ∷ []) (5 ∷ []) 100) (refusal 13 0)
+    ∷ asks (writeAnswer [] (0 ∷ 1 ∷ 2 ∷ 3 ∷ []) (5 ∷ []) 0) (refusal 13 0)
+    ∷ []
+
+abbrev pub examples : List Example
+examples = good ++ short ++ wrong ++ disorder ++ starts ++ lent ++ writes
+
+-- the definitions give what is asked, for each
+abbrev pub Examples : Type 0
+Examples = map (λ x. x .found) examples ≡ map (λ x. x .asked) examples

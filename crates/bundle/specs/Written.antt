@@ -1,0 +1,78 @@
+-- The bytes of a bundle, and what the writer answers.
+use Prim.Native.Nat.{ℕ, _+_, _*_, _/_, _%_, min}
+use mathlib.Core.Bool.{Bool, _&&_}
+use mathlib.Core.List.{List, [], _∷_, _++_}
+use lib.Dec.{leb, eqb}
+use lib.ListN.{length, getD}
+use Rattle.answer.specs.Answer.{result, refusal}
+use Rattle.counting.specs.Pick.{pick}
+use Rattle.counting.specs.Range.{over}
+use Rattle.bundle.specs.Record.{byteValues, cellKind, edgeKind, endKind, lengthOf, brokenRow}
+use Rattle.bundle.specs.Bundle.{cellNodes, edgeEnds, shortRow}
+use Rattle.bundle.specs.declared.Written.{Written}
+use Rattle.bundle.specs.declared.Written.the-variants.{Bytes, Unformed, Short}
+
+-- the greatest number of bytes that a refusal names
+abbrev pub mostNamed : ℕ
+mostNamed = 4294967295
+
+-- the two bytes of a number of 16 bits
+abbrev pub wordBytes : ℕ → List ℕ
+wordBytes x = x % byteValues ∷ x / byteValues ∷ []
+
+-- a record: its length, its kind, its body
+abbrev pub recordBytes : ℕ → List ℕ → List ℕ
+recordBytes kind body = wordBytes (lengthOf kind) ++ wordBytes kind ++ body
+
+-- number i of cell k in a list of nodes, and of edge k in a list of ends
+abbrev pub nodeOf : List ℕ → ℕ → ℕ → ℕ
+nodeOf nodes k i = getD nodes (cellNodes * k + i) 0
+
+abbrev pub endOf : List ℕ → ℕ → ℕ → ℕ
+endOf ends k i = getD ends (edgeEnds * k + i) 0
+
+-- the records of cell k, of edge k, and of the end
+abbrev pub cellRecord : ℕ → ℕ → ℕ → ℕ → List ℕ
+cellRecord a b c d = recordBytes cellKind (wordBytes a ++ wordBytes b ++ wordBytes c ++ wordBytes d)
+
+abbrev pub edgeRecord : ℕ → ℕ → ℕ → List ℕ
+edgeRecord u v count = recordBytes edgeKind (wordBytes u ++ wordBytes v ++ (count ∷ []))
+
+abbrev pub endRecord : List ℕ
+endRecord = recordBytes endKind []
+
+unfoldable pub cellBytes : List ℕ → ℕ → List ℕ
+cellBytes nodes k = cellRecord (nodeOf nodes k 0) (nodeOf nodes k 1) (nodeOf nodes k 2) (nodeOf nodes k 3)
+
+unfoldable pub edgeBytes : List ℕ → List ℕ → ℕ → List ℕ
+edgeBytes ends counts k = edgeRecord (endOf ends k 0) (endOf ends k 1) (getD counts k 0)
+
+-- the whole bundle
+unfoldable pub bundleBytes : List ℕ → List ℕ → List ℕ → List ℕ
+bundleBytes nodes ends counts = over (cellBytes nodes) (length nodes / cellNodes) 0 ++ over (edgeBytes ends counts) (length counts) 0 ++ endRecord
+
+-- the lists have 4 numbers to a cell and 2 to a count
+unfoldable pub isFormed : List ℕ → List ℕ → List ℕ → Bool
+isFormed nodes ends counts = eqb (length nodes % cellNodes) 0 && eqb (length ends) (edgeEnds * length counts)
+
+-- the bundle of the lists fits an area of this length
+unfoldable pub fitsArea : List ℕ → List ℕ → List ℕ → ℕ → Bool
+fitsArea nodes ends counts area = leb (length (bundleBytes nodes ends counts)) area
+
+unfoldable pub isWritten : List ℕ → List ℕ → List ℕ → ℕ → Bool
+isWritten nodes ends counts area = isFormed nodes ends counts && fitsArea nodes ends counts area
+
+-- row 13, then row 14 with the bytes needed, then the number of bytes written
+unfoldable pub writeAnswer : List ℕ → List ℕ → List ℕ → ℕ → List ℕ
+writeAnswer nodes ends counts area =
+    pick (isFormed nodes ends counts)
+    (pick (fitsArea nodes ends counts area)
+    (result (length (bundleBytes nodes ends counts) ∷ []))
+    (refusal shortRow (min (length (bundleBytes nodes ends counts)) mostNamed)))
+    (refusal brokenRow 0)
+
+-- the enum's cases as the paper's numbers
+abbrev pub writtenNumbers : Written → List ℕ
+writtenNumbers (Bytes number) = result (number ∷ [])
+writtenNumbers Unformed = refusal brokenRow 0
+writtenNumbers (Short needed) = refusal shortRow needed

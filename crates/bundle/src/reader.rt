@@ -1,0 +1,130 @@
+// The bundle reader: what the bytes hold, then the lists.
+use crate::Contents;
+use crate::Record;
+use crate::records::BROKEN;
+use crate::records::CELL;
+use crate::records::EDGE;
+use crate::records::END;
+use crate::records::record_at;
+use crate::records::word_at;
+ghost use mathlib.Core.Path.{_≡_};
+ghost use Prim.Native.Nat.{_+_, _*_, _≤_};
+ghost use lib.ListN.{length};
+ghost use Rattle.bundle.specs.Bundle.{start, run, cells, edgesFrom, edges, bundleAnswer, isTaken, readAnswer, nodesOf, endsOf, countsOf, writtenOver, leaves, contentsNumbers};
+ghost use Rattle.bundle.specs.Needed.{CellsLent, EdgesLent};
+
+// The row of refusals that speaks of short lists.
+pub(crate) const SHORT: u8 = 14;
+
+// Records of one kind in a row: how many, and where they stop.
+struct Run {
+    count: usize,
+    stop: usize,
+}
+
+// The records of a kind from a place on.
+fn run_from(bytes: &[u8], from: usize, kind: u16) -> Run
+    ensures { λ r. ⌜ (r .count ≡ run (now (bytes .entry)) kind from) × (r .stop ≡ start (now (bytes .entry)) from (r .count)) ⌝ }
+{
+    let mut at = from;
+    let mut count: usize = 0;
+    loop {
+        match record_at(bytes, at) {
+            Record::Refused(number, place) => {
+                return Run { count, stop: at };
+            }
+            Record::Whole(found, next) => {
+                if found != kind {
+                    return Run { count, stop: at };
+                }
+                count += 1;
+                at = next;
+            }
+        }
+    }
+}
+
+// How many cells and edges the bundle has, or refusal 13; no list is lent.
+pub fn scan(bytes: &[u8]) -> Contents
+    ensures { λ r. ⌜ contentsNumbers r ≡ bundleAnswer (now (bytes .entry)) ⌝ }
+{
+    let cells = run_from(bytes, 0, CELL);
+    let edges = run_from(bytes, cells.stop, EDGE);
+    let stop = edges.stop;
+    match record_at(bytes, stop) {
+        Record::Refused(number, place) => Contents::Refused(BROKEN, stop),
+        Record::Whole(kind, next) => {
+            if kind != END {
+                return Contents::Refused(BROKEN, stop);
+            }
+            if next != bytes.len() {
+                return Contents::Refused(BROKEN, next);
+            }
+            Contents::Lists(cells.count, edges.count)
+        }
+    }
+}
+
+// Fills the nodes of the cells, and answers where the edges start.
+fn fill_cells(bytes: &[u8], count: usize, nodes: &mut [u16]) -> usize
+    requires { ⌜ CellsLent (now bytes) count (now nodes) ⌝ }
+    ensures { λ r. ⌜ r ≡ edgesFrom (now (bytes .entry)) ⌝ }
+    ensures { λ _. ⌜ now (nodes .exit) ≡ writtenOver (nodesOf (now (bytes .entry))) (now (nodes .entry)) ⌝ }
+{
+    let mut k: usize = 0;
+    let mut at: usize = 0;
+    while k < count {
+        let j = 4 * k;
+        nodes[j] = word_at(bytes, at + 4);
+        nodes[j + 1] = word_at(bytes, at + 6);
+        nodes[j + 2] = word_at(bytes, at + 8);
+        nodes[j + 3] = word_at(bytes, at + 10);
+        at += 12;
+        k += 1;
+    }
+    at
+}
+
+// Fills the ends and counts of the edges, whose records start at from.
+fn fill_edges(bytes: &[u8], from: usize, count: usize, ends: &mut [u16], counts: &mut [u8])
+    requires { ⌜ EdgesLent (now bytes) from count (now ends) (now counts) ⌝ }
+    ensures { λ _. ⌜ now (ends .exit) ≡ writtenOver (endsOf (now (bytes .entry))) (now (ends .entry)) ⌝ }
+    ensures { λ _. ⌜ now (counts .exit) ≡ writtenOver (countsOf (now (bytes .entry))) (now (counts .entry)) ⌝ }
+{
+    let mut k: usize = 0;
+    let mut at = from;
+    while k < count {
+        let j = 2 * k;
+        ends[j] = word_at(bytes, at + 4);
+        ends[j + 1] = word_at(bytes, at + 6);
+        counts[k] = bytes[at + 8];
+        at += 9;
+        k += 1;
+    }
+}
+
+// Fills the lists with the bundle's cells and edges, and answers how many there are; a refusal leaves the lists as they are.
+pub fn read(bytes: &[u8], nodes: &mut [u16], ends: &mut [u16], counts: &mut [u8]) -> Contents
+    ensures answer { λ r. ⌜ contentsNumbers r ≡ readAnswer (now (bytes .entry)) (length (now (nodes .entry))) (length (now (ends .entry))) (length (now (counts .entry))) ⌝ }
+    ensures nodes { λ r. ⌜ now (nodes .exit) ≡ leaves (isTaken (now (bytes .entry)) (length (now (nodes .entry))) (length (now (ends .entry))) (length (now (counts .entry)))) (nodesOf (now (bytes .entry))) (now (nodes .entry)) ⌝ }
+    ensures ends { λ r. ⌜ now (ends .exit) ≡ leaves (isTaken (now (bytes .entry)) (length (now (nodes .entry))) (length (now (ends .entry))) (length (now (counts .entry)))) (endsOf (now (bytes .entry))) (now (ends .entry)) ⌝ }
+    ensures counts { λ r. ⌜ now (counts .exit) ≡ leaves (isTaken (now (bytes .entry)) (length (now (nodes .entry))) (length (now (ends .entry))) (length (now (counts .entry)))) (countsOf (now (bytes .entry))) (now (counts .entry)) ⌝ }
+{
+    match scan(bytes) {
+        Contents::Refused(number, place) => Contents::Refused(number, place),
+        Contents::Lists(cells, edges) => {
+            if nodes.len() / 4 < cells {
+                return Contents::Refused(SHORT, 0);
+            }
+            if ends.len() / 2 < edges {
+                return Contents::Refused(SHORT, 0);
+            }
+            if counts.len() < edges {
+                return Contents::Refused(SHORT, 0);
+            }
+            let from = fill_cells(bytes, cells, nodes);
+            fill_edges(bytes, from, edges, ends, counts);
+            Contents::Lists(cells, edges)
+        }
+    }
+}

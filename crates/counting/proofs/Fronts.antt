@@ -1,0 +1,164 @@
+-- Lists of equal length joined over a range, and their entries stored in another list one after the other.
+use Prim.Native.Nat.{ℕ, zero, suc, _+_, _-_, _*_, _≤_, _<_}
+use mathlib.Core.Path.{_≡_, refl, sym, ap, _∙_}
+use mathlib.Core.Logic.{_⊎_, inl, inr}
+use mathlib.Core.List.{List, [], _∷_, _++_, append-assoc}
+use native.Mathlib.Nat.{zero-add, add-zero, mul-suc, mul-zero, mul-le-mul-left}
+use native.Mathlib.Omega.{arith}
+use lib.ListN.{length, getD, take, drop, set, length-append, List·getD-append}
+use lib.Seq.{take-at, take-add, take-all, drop-cons, sets, sets-eq, length-sets, getD-append-add}
+use Rattle.counting.specs.Range.{over}
+use Rattle.counting.proofs.Search.{below-or}
+use Rattle.counting.proofs.Range.{over-snoc}
+
+-- stores of two lists, one after the other
+pub sets-append : {A : Type 0} (l : List A) (i : ℕ) (v r : List A) → sets l i (v ++ r) ≡ sets (sets l i v) (i + length v) r
+sets-append l i [] r = ap (λ k. sets l k r) (sym (add-zero i))
+sets-append l i (a ∷ v) r = let e : suc i + length v ≡ i + suc (length v) = omega arith in sets-append (set l i a) (suc i) v r ∙ ap (λ k. sets (sets (set l i a) (suc i) v) k r) e
+
+-- stores from the front on are a list written over it
+pub sets-front : {A : Type 0} (v l : List A) → length v ≤ length l → sets l 0 v ≡ v ++ drop (length v) l
+sets-front v l h = sets-eq v l 0 (omega arith) ∙ ap (λ k. v ++ drop k l) (zero-add (length v))
+
+module _ {A : Type 0} (f : ℕ → List A) where
+  pub over-more : (n : ℕ) → over f (n + 1) 0 ≡ over f n 0 ++ f n
+  over-more n =
+      let e : n + 1 ≡ suc n = omega arith in
+      ap (λ k. over f k 0) e ∙ over-snoc f n 0 ∙ ap (λ k. over f n 0 ++ f k) (zero-add n)
+
+  -- n lists of w entries each
+  module _ (w : ℕ) where
+    pub length-blocks : (n : ℕ) → ((k : ℕ) → k < n → length (f k) ≡ w) → length (over f n 0) ≡ w * n
+    unfolding over
+    length-blocks zero h = sym (mul-zero w)
+    length-blocks (suc n) h =
+        over-snoc' n
+        ∙ ap (λ k. k + length (f n)) (length-blocks n (λ k l. h k (omega arith)))
+        ∙ ap (λ k. w * n + k) (h n (omega arith))
+        ∙ sym (mul-suc w n)
+      where
+        over-snoc' : (n : ℕ) → length (over f (suc n) 0) ≡ length (over f n 0) + length (f n)
+        over-snoc' n = ap length (over-snoc f n 0 ∙ ap (λ k. over f n 0 ++ f k) (zero-add n)) ∙ length-append (over f n 0) (f n)
+
+    -- entry i of list k
+    pub getD-blocks : (n : ℕ) → ((k : ℕ) → k < n → length (f k) ≡ w) → (k i : ℕ) (d : A) → k < n → i < w → getD (over f n 0) (w * k + i) d ≡ getD (f k) i d
+    getD-blocks zero h k i d l b = absurd (omega (arith, l))
+    getD-blocks (suc n) h k i d l b = go (below-or k n l) (λ q. getD-blocks n (λ j m. h j (omega arith)) k i d q b)
+      where
+        e : over f (suc n) 0 ≡ over f n 0 ++ f n
+        e = over-snoc f n 0 ∙ ap (λ j. over f n 0 ++ f j) (zero-add n)
+
+        front : length (over f n 0) ≡ w * n
+        front = length-blocks n (λ j m. h j (omega arith))
+
+        below : k < n → w * k + i < length (over f n 0)
+        below q =
+            let m : w * suc k ≤ w * n = mul-le-mul-left w q in
+            omega (arith, m, mul-suc w k, front)
+
+        go : (k ≡ n) ⊎ (k < n) → (k < n → getD (over f n 0) (w * k + i) d ≡ getD (f k) i d) → getD (over f (suc n) 0) (w * k + i) d ≡ getD (f k) i d
+        go (inl q) r =
+            let m : w * k + i ≡ length (over f n 0) + i = ap (λ j. w * j + i) q ∙ ap (λ j. j + i) (sym front) in
+            ap (λ (x : List A). getD x (w * k + i) d) e ∙ ap (λ j. getD (over f n 0 ++ f n) j d) m ∙ getD-append-add (over f n 0) (f n) i d ∙ ap (λ j. getD (f j) i d) (sym q)
+        go (inr q) r =
+            ap (λ (x : List A). getD x (w * k + i) d) e
+            ∙ List·getD-append (over f n 0) (f n) d (w * k + i) (below q)
+            ∙ r q
+
+-- the first parts of w entries of a list, joined; and a list of n times w entries is its parts
+pub first-parts : {A : Type 0} (w n : ℕ) (l : List A) → over (λ k. take w (drop (w * k) l)) n 0 ≡ take (w * n) l
+unfolding over
+first-parts {A} w zero l = sym (ap (λ k. take k l) (mul-zero w))
+first-parts {A} w (suc n) l =
+    let f : ℕ → List A = λ k. take w (drop (w * k) l) in
+    over-snoc f n 0
+    ∙ ap (λ k. over f n 0 ++ f k) (zero-add n)
+    ∙ ap (λ (x : List A). x ++ f n) (first-parts w n l)
+    ∙ sym (take-add (w * n) w l)
+    ∙ ap (λ k. take k l) (sym (mul-suc w n))
+
+pub in-parts : {A : Type 0} (w n : ℕ) (l : List A) → length l ≡ w * n → over (λ k. take w (drop (w * k) l)) n 0 ≡ l
+in-parts w n l h = first-parts w n l ∙ take-all (w * n) l (omega (arith, h))
+
+-- the first n lists of g, of w entries each, are stored in l0 from i on
+pub record Filled {A : Type 0} (g : ℕ → List A) (w i n : ℕ) (l l0 : List A) : Type 0 where
+  pub long : length l ≡ length l0
+  pub front : l ≡ sets l0 i (over g n 0)
+
+module _ {A : Type 0} (g : ℕ → List A) (w i : ℕ) (l0 : List A) where
+  pub filled-none : Filled g w i 0 l0 l0
+  unfolding over
+  filled-none = record { long = refl; front = refl }
+
+  module _ (e : (k : ℕ) → length (g k) ≡ w) (n : ℕ) (l : List A) (f : Filled g w i n l l0) where
+    -- the next list v is stored at its place
+    pub filled-more : (at : ℕ) (v : List A) → at ≡ i + w * n → v ≡ g n → Filled g w i (n + 1) (sets l at v) l0
+    filled-more at v q h =
+        let m : at ≡ i + length (over g n 0) = q ∙ ap (λ k. i + k) (sym (length-blocks g w n (λ k _. e k))) in
+        record {
+          long = length-sets l at v ∙ f .long;
+          front =
+              ap (λ (x : List A). sets x at v) (f .front)
+              ∙ ap (λ k. sets (sets l0 i (over g n 0)) k v) m
+              ∙ sym (sets-append l0 i (over g n 0) v)
+              ∙ ap (sets l0 i) (ap (λ (x : List A). over g n 0 ++ x) h ∙ sym (over-more g n));
+        }
+
+-- stores one after the other, as code writes them
+module _ {A : Type 0} (l : List A) (n : ℕ) where
+  pub sets-two : (a b : A) → set (set l n a) (n + 1) b ≡ sets l n (a ∷ b ∷ [])
+  sets-two a b = let e : n + 1 ≡ suc n = omega arith in ap (λ k. set (set l n a) k b) e
+
+  pub sets-four : (a b c d : A) → set (set (set (set l n a) (n + 1) b) (n + 2) c) (n + 3) d ≡ sets l n (a ∷ b ∷ c ∷ d ∷ [])
+  sets-four a b c d =
+      let e : n + 2 ≡ suc (suc n) = omega arith in
+      let f : n + 3 ≡ suc (suc (suc n)) = omega arith in
+      ap (λ (x : List A). set (set x (n + 2) c) (n + 3) d) (sets-two a b)
+      ∙ ap (λ k. set (set (sets l n (a ∷ b ∷ [])) k c) (n + 3) d) e
+      ∙ ap (λ k. set (sets l n (a ∷ b ∷ c ∷ [])) k d) f
+
+-- m lists and then n
+pub over-split : {A : Type 0} (f : ℕ → List A) (m n p : ℕ) → over f (m + n) p ≡ over f m p ++ over f n (p + m)
+unfolding over
+over-split f zero n p = ap (λ k. over f k p) (zero-add n) ∙ ap (over f n) (sym (add-zero p))
+over-split f (suc m) n p =
+    let e : suc m + n ≡ suc (m + n) = omega arith in
+    let q : suc p + m ≡ p + suc m = omega arith in
+    ap (λ k. over f k p) e
+    ∙ ap (λ l. f p ++ l) (over-split f m n (suc p) ∙ ap (λ k. over f m (suc p) ++ over f n k) q)
+    ∙ sym (append-assoc (f p) (over f m (suc p)) (over f n (p + suc m)))
+
+-- list k and what stands before and after it
+pub over-at : {A : Type 0} (f : ℕ → List A) (n k : ℕ) → k < n → over f n 0 ≡ over f k 0 ++ (f k ++ over f (n - suc k) (suc k))
+unfolding over
+over-at f n k h =
+    let e : n ≡ k + suc (n - suc k) = omega arith in
+    ap (λ m. over f m 0) e ∙ over-split f k (suc (n - suc k)) 0 ∙ ap (λ m. over f k 0 ++ over f (suc (n - suc k)) m) (zero-add k)
+
+-- k entries of a list from a + j on
+module _ {A : Type 0} (l : List A) (d : A) where
+  unfoldable pub entries : ℕ → ℕ → ℕ → List A
+  entries a j zero = []
+  entries a j (suc k) = getD l (a + j) d ∷ entries a (suc j) k
+
+  pub drop-entries : (a j k : ℕ) → a + j + k ≤ length l → drop (a + j) l ≡ entries a j k ++ drop (a + j + k) l
+  unfolding entries
+  drop-entries a j zero h = ap (λ n. drop n l) (sym (add-zero (a + j)))
+  drop-entries a j (suc k) h =
+      let e : suc (a + j) ≡ a + suc j = omega arith in
+      let f : a + suc j + k ≡ a + j + suc k = omega arith in
+      drop-cons l (a + j) d (omega arith)
+      ∙ ap (λ n. getD l (a + j) d ∷ drop n l) e
+      ∙ ap (λ (x : List A). getD l (a + j) d ∷ x) (drop-entries a (suc j) k (omega arith))
+      ∙ ap (λ n. getD l (a + j) d ∷ (entries a (suc j) k ++ drop n l)) f
+
+  length-entries : (a j k : ℕ) → length (entries a j k) ≡ k
+  unfolding entries
+  length-entries a j zero = refl
+  length-entries a j (suc k) = ap suc (length-entries a (suc j) k)
+
+  pub take-entries : (a k : ℕ) → a + k ≤ length l → take k (drop a l) ≡ entries a 0 k
+  take-entries a k h =
+      ap (λ n. take k (drop n l)) (sym (add-zero a))
+      ∙ ap (take k) (drop-entries a 0 k (omega arith))
+      ∙ take-at (entries a 0 k) (drop (a + 0 + k) l) k (length-entries a 0 k)

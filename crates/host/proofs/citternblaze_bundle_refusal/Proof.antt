@@ -1,0 +1,36 @@
+use mathlib.Core.Path.{_≡_}
+use denote.Ref.{now}
+use Rattle.bundle.specs.declared.Contents.the-variants.{Lists, Refused}
+use Rattle.host.proofs.Told.{whole-refusal, broken-refusal}
+use borrow.Author.Needs.{needs}
+use Rattle.host.proofs.citternblaze_bundle_refusal.Statement.{statement}
+use Rattle.host.proofs.citternblaze_bundle_refusal.Tie as tie
+
+scan-requires : tie.Need-scan-requires
+scan-requires c κs = search needs
+
+enum-known-cells : tie.Need-enum-known-cells
+enum-known-cells c = search needs
+
+enum-known-number : tie.Need-enum-known-number
+enum-known-number c = search needs
+
+cast-result : tie.Need-cast-result
+cast-result c = search needs
+
+returns : tie.Need-returns
+returns c =
+    let r = c .before .before .before .scan in
+    let e : Lists (c .before .cells .given .0 .0) (c .before .cells .given .0 .1 .0) ≡ r .result = cc in
+    whole-refusal (now (c .before .before .before .before .before .args .bytes)) (r .result) (r .ensures) _ _ e
+
+returns-2 : tie.Need-returns-2
+returns-2 c =
+    let r = c .before .before .before .scan in
+    let e : Refused (c .before .number .given .0 .0) (c .before .number .given .0 .1 .0) ≡ r .result = cc in
+    broken-refusal (now (c .before .before .before .before .before .args .bytes)) (r .result) (r .ensures) _ _ e
+
+pub citternblaze-bundle-refusal-spec : {M : Type 1} → statement M
+citternblaze-bundle-refusal-spec =
+    tie.close
+    (tie.spec scan-requires enum-known-cells enum-known-number cast-result returns returns-2)

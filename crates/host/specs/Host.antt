@@ -1,0 +1,17 @@
+-- What the C host is told of a bundle (01). It lends no lists, so of the table of refusals only row 13 can be met.
+use Prim.Native.Nat.{ℕ}
+use mathlib.Core.Bool.{cond}
+use mathlib.Core.List.{List}
+use lib.ListN.{getD}
+use Rattle.bundle.specs.Bundle.{cells, edges, isBundle, bundleAnswer}
+
+-- the number of the refusal, or 0: the first number of the bundle's answer
+abbrev pub refusalOf : List ℕ → ℕ
+refusalOf s = getD (bundleAnswer s) 0 0
+
+-- the cells and the edges of a bundle; 0 for a broken one
+abbrev pub cellsOf : List ℕ → ℕ
+cellsOf s = cond (isBundle s) (cells s) 0
+
+abbrev pub edgesOf : List ℕ → ℕ
+edgesOf s = cond (isBundle s) (edges s) 0

@@ -1,0 +1,30 @@
+/* What a C program can ask about the bytes of a bundle: the crate `host`, built by `rt staticlib host` into libhost.a.
+ *
+ * Each function takes the bytes and their number, reads nothing past them, writes nothing and keeps nothing. `bytes` may be NULL where
+ * `length` is 0. An input may have any length. A call walks over the records once.
+ */
+#ifndef CITTERNBLAZE_HOST_H
+#define CITTERNBLAZE_HOST_H
+
+#include <stddef.h>
+#include <stdint.h>
+
+#ifdef __cplusplus
+extern "C" {
+#endif
+
+/* The number of the bundle's refusal, or 0: 13 for a record that is cut short or has a wrong length, kind or order, for bytes after the
+ * end, and for no end. */
+uint32_t citternblaze_bundle_refusal(const uint8_t *bytes, size_t length);
+
+/* The number of the bundle's cells; 0 for a broken bundle. */
+uint64_t citternblaze_bundle_cells(const uint8_t *bytes, size_t length);
+
+/* The number of the bundle's edges; 0 for a broken bundle. */
+uint64_t citternblaze_bundle_edges(const uint8_t *bytes, size_t length);
+
+#ifdef __cplusplus
+}
+#endif
+
+#endif

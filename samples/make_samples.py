@@ -1,0 +1,157 @@
+#!/usr/bin/env python3
+"""Writes the sample bundles into this folder, from short descriptions of grids and of ways to break a bundle.
+
+    make_samples.py            write the files
+    make_samples.py --check    write nothing; fail if a file differs, is missing or is not described here
+
+Needs Python 3 and no package. The format is that of document 01, "Bundles".
+"""
+import itertools
+import pathlib
+import sys
+
+CELL, EDGE, END = 1, 2, 3
+
+
+def word(number):
+    return number.to_bytes(2, "little")
+
+
+def record(kind, body=b"", length=None):
+    """A record; `length` overrides the length that it states."""
+    return word(2 + len(body) if length is None else length) + word(kind) + body
+
+
+def cell(*nodes):
+    return record(CELL, b"".join(map(word, nodes)))
+
+
+def edge(u, v, count):
+    return record(EDGE, word(u) + word(v) + bytes([count]))
+
+
+def bundle(cells, edges):
+    """The bytes of cells (four nodes each) and edges (u, v, count), in the order given."""
+    return b"".join(cell(*c) for c in cells) + b"".join(edge(*e) for e in edges) + record(END)
+
+
+def pairs(cells):
+    """The edges of the cells, sorted, each once."""
+    return sorted({pair for c in cells for pair in itertools.combinations(c, 2)})
+
+
+def grid(cells, counts=None, other=0):
+    """A bundle of cells with every edge listed; `counts` gives some pairs' counts and `other` the rest."""
+    counts = counts or {}
+    return bundle(cells, [(u, v, counts.get((u, v), other)) for u, v in pairs(cells)])
+
+
+def one_cell(*counts):
+    """The cell 0 1 2 3, with the counts of 01, 02, 03, 12, 13, 23."""
+    return grid([(0, 1, 2, 3)], dict(zip(pairs([(0, 1, 2, 3)]), counts)))
+
+
+def separate(number):
+    """So many cells that share no node."""
+    return [tuple(range(4 * k, 4 * k + 4)) for k in range(number)]
+
+
+def chain(first, number):
+    """So many cells, each glued to a face of the one before it, on nodes from `first` on."""
+    return [tuple(range(k, k + 4)) for k in range(first, first + number)]
+
+
+def corners(*counts):
+    """Separate cells; cell k has counts[k] triangles round its lowest node."""
+    cells = separate(len(counts))
+    return grid(cells, {(c[0], v): n for c, n in zip(cells, counts) for v in c[1:]})
+
+
+def largest():
+    """An accepted grid of 32,767 bytes, the most that a whole bundle below 32,769 bytes can have: sizes leave 1 when divided by 3.
+    Three chains, with one triangle in the first cell."""
+    cells = chain(0, 836) + chain(839, 1) + chain(843, 1)
+    return grid(cells, {(0, 1): 1, (0, 2): 1, (0, 3): 1})
+
+
+ONE = [(0, 1, 2, 3)]
+ONE_EDGES = [(u, v, 0) for u, v in pairs(ONE)]
+GOOD = one_cell(1, 1, 1, 0, 0, 0)
+THREE = [(0, 1, 2, 3), (0, 1, 2, 4), (0, 1, 3, 4)]
+
+SAMPLES = {
+    # one cell (01, "Films to try")
+    "no-crossing": one_cell(0, 0, 0, 0, 0, 0),
+    "one-crossing": one_cell(1, 0, 0, 0, 0, 0),
+    "all-counts-1": one_cell(1, 1, 1, 1, 1, 1),
+    "corner-at-0": one_cell(1, 1, 1, 0, 0, 0),
+    "diagonal-0-with-1": one_cell(0, 1, 1, 1, 1, 0),
+    "loop-of-eight": one_cell(2, 1, 1, 1, 1, 2),
+    "two-on-01": one_cell(2, 0, 0, 0, 0, 0),
+    # several cells
+    "three-round-01": grid(THREE, {(0, 1): 2}),
+    "triangles-1489": corners(255, 255, 255, 255, 255, 214),
+    "bytes-32767": largest(),
+    # refusals of the grid and the mesh, by their rows
+    "refused-1-no-cell": bundle([], []),
+    "refused-1-2049-cells": bundle(separate(1023) * 2 + [(0, 1, 2, 3)] * 3, []),
+    "refused-3-node-4096": grid([(0, 1, 2, 4096)]),
+    "refused-3-not-increasing": bundle([(0, 2, 1, 3)], ONE_EDGES),
+    "refused-3-second-cell": bundle([(0, 1, 2, 3), (4, 5, 6, 6)], ONE_EDGES),
+    "refused-4-same-cell": bundle(ONE * 2, ONE_EDGES),
+    "refused-5-third-cell": grid([(0, 1, 2, 3), (0, 1, 2, 4), (0, 1, 2, 5)]),
+    "refused-6-equal-ends": bundle(ONE, [(1, 1, 0)] + ONE_EDGES),
+    "refused-6-falling-ends": bundle(ONE, ONE_EDGES[:5] + [(3, 2, 0)]),
+    "refused-6-unsorted": bundle(ONE, ONE_EDGES[:1] + [ONE_EDGES[2], ONE_EDGES[1]] + ONE_EDGES[3:]),
+    "refused-6-edge-twice": bundle(ONE, ONE_EDGES + ONE_EDGES[5:]),
+    "refused-7-edge-missing": bundle(ONE, ONE_EDGES[:5]),
+    "refused-8-edge-of-no-cell": bundle(ONE, ONE_EDGES + [(7, 8, 0)]),
+    "refused-9-not-linked": grid([(0, 1, 2, 3), (0, 1, 4, 5)]),
+    "refused-10-65790-crossings": grid(separate(43), other=255),
+    "refused-12-64260-crossings": grid(separate(42), other=255),
+    "refused-12-1490-triangles": corners(255, 255, 255, 255, 255, 215),
+    # row 13 in each of its ways
+    "refused-13-empty": b"",
+    "refused-13-cut-in-length": GOOD[:-3],
+    "refused-13-cut-in-kind": GOOD[:-1],
+    "refused-13-cut-in-body": GOOD[:-5],
+    "refused-13-cell-length": record(CELL, bytes(8), length=9) + GOOD[12:],
+    "refused-13-edge-length": GOOD[:12] + record(EDGE, bytes(5), length=8) + GOOD[21:],
+    "refused-13-end-length": GOOD[:-4] + record(END, length=3),
+    "refused-13-length-high-byte": record(CELL, bytes(8), length=256 + 10) + GOOD[12:],
+    "refused-13-kind-0": GOOD[:12] + record(0) + GOOD[12:],
+    "refused-13-kind-4": GOOD[:-4] + record(4) + GOOD[-4:],
+    "refused-13-kind-high-byte": record(256 + CELL, bytes(8)) + GOOD[12:],
+    "refused-13-cell-after-edge": GOOD[:-4] + cell(4, 5, 6, 7) + GOOD[-4:],
+    "refused-13-byte-after-end": GOOD + b"\0",
+    "refused-13-end-after-end": GOOD + record(END),
+    "refused-13-no-end": GOOD[:-4],
+    # the limit of the program's input: the fault stands at 32,767 in both, and one byte more is over the limit
+    "refused-13-32768-bytes": largest() + bytes(1),
+    "refused-13-32769-bytes": largest() + bytes(2),
+}
+
+SIZES = {"bytes-32767": 32767, "refused-13-32768-bytes": 32768, "refused-13-32769-bytes": 32769}
+
+
+def main():
+    folder = pathlib.Path(__file__).resolve().parent
+    for name, size in SIZES.items():
+        if len(SAMPLES[name]) != size:
+            sys.exit(f"{name} has {len(SAMPLES[name])} bytes")
+    if sys.argv[1:] == ["--check"]:
+        found = {path.stem: path.read_bytes() for path in folder.glob("*.bundle")}
+        wrong = sorted(name for name in found.keys() | SAMPLES.keys() if found.get(name) != SAMPLES.get(name))
+        if wrong:
+            sys.exit("not as described: " + " ".join(wrong))
+        print(f"{len(SAMPLES)} bundles are as described")
+        return
+    if sys.argv[1:]:
+        sys.exit(__doc__)
+    for name, data in SAMPLES.items():
+        (folder / f"{name}.bundle").write_bytes(data)
+    print(f"{len(SAMPLES)} bundles written")
+
+
+if __name__ == "__main__":
+    main()
