@@ -66,8 +66,11 @@ module _ (cells : List ℕ) (clear : (c : ℕ) → c < cellCount cells → third
   unfolding third hasFace
   no-three x y z u v w a b h lu lv lw f g =
       let k = ltb-false 1 (count (hasFace cells z w) z) (some-none (λ s. ltb 1 (count (hasFace cells z s) z)) 4 (clear z h) w lw) in
-      omega (arith, count-two-of (hasFace cells z w) z x y a b
-      (some-found (λ t. sameFace cells x t z w) 4 u lu (true-same cells x u z w f)) (some-found (λ t. sameFace cells y t z w) 4 v lv (true-same cells y v z w g)))
+      omega (
+        arith,
+        count-two-of (hasFace cells z w) z x y a b
+            (some-found (λ t. sameFace cells x t z w) 4 u lu (true-same cells x u z w f)) (some-found (λ t. sameFace cells y t z w) 4 v lv (true-same cells y v z w g)),
+      )
 
   pub no-third : (a b c r s t : ℕ) → a < cellCount cells → b < cellCount cells → c < cellCount cells → r < 4 → s < 4 → t < 4
       → SameFace cells a r b s → SameFace cells a r c t → a ≢ b → a ≢ c → b ≢ c → ⊥
@@ -321,9 +324,10 @@ module _ (cells edges counts : List ℕ) (clear : (n : ℕ) → 1 ≤ n → n �
         let p : low edges e ≡ node cells c (lo (slotEdge t j)) =
         a ∙ ap (node cells d) (sym (ap lo (g .edge-is)) ∙ u .lo-is) ∙ sym (face (from j) (omega arith)) ∙ ap (node cells c) (sym (v .lo-is)) in
         let q : high edges e ≡ node cells c (hi (slotEdge t j)) =
-        b ∙ ap (node cells d) (sym (ap hi (g .edge-is)) ∙ u .hi-is) ∙ sym (face (to j) y) ∙ ap (node cells c) (sym (v .hi-is)) in
-        (over d c s t j hd hc ls lt (g .place-lt) (flip cells c t d s face) (ap (number d) (g .edge-is) ∙ number-is d k e hd lk le is),
-        over c d t s j hc hd lt ls (g .place-lt) face (number-of c (slotEdge t j) e hc (v .lt) le p q))
+        b ∙ ap (node cells d) (sym (ap hi (g .edge-is)) ∙ u .hi-is) ∙ sym (face (to j) y) ∙ ap (node cells c) (sym (v .hi-is)) in (
+          over d c s t j hd hc ls lt (g .place-lt) (flip cells c t d s face) (ap (number d) (g .edge-is) ∙ number-is d k e hd lk le is),
+          over c d t s j hc hd lt ls (g .place-lt) face (number-of c (slotEdge t j) e hc (v .lt) le p q),
+        )
 
     link-pass : e < length counts → (d c : ℕ) → d < cellCount cells → c < cellCount cells → P d → linked cells edges e d c ≡ true → P c
     unfolding linked hasFace P

@@ -69,9 +69,9 @@ module _ (cells : List ℕ) (good : Ordered cells) (keys : List ℕ) (w : Table 
           record {
             lt = g .lt;
             other = λ q. (
-              let f : getD keys (4 * (j / 4) + x % 4) 0 ≡ getD keys (4 * (j / 4) + j % 4) 0 = rw q at k in
-              let r = apart (j / 4) (x % 4) (j % 4) (omega arith) (omega arith) (omega arith) f in
-              g .ne (omega (arith, q)));
+                let f : getD keys (4 * (j / 4) + x % 4) 0 ≡ getD keys (4 * (j / 4) + j % 4) 0 = rw q at k in
+                let r = apart (j / 4) (x % 4) (j % 4) (omega arith) (omega arith) (omega arith) f in
+                g .ne (omega (arith, q)));
             same = keys-face (x / 4) (x % 4) (j / 4) (j % 4) (omega arith) (omega arith) (omega arith) (omega arith) ∙ eq-eqb _ _ k;
             back = g .back;
           }

@@ -194,9 +194,9 @@ module _ (cells edges counts : List ℕ) where
           listed-room = W .sided .room;
           room = room;
           entries = λ j h. (
-            let e = W .sided .at j h ∙ listed-side cells edges counts A j h in
-            let l = A .listed (j / 6) (j % 6) (omega arith) (omega arith) in
-            (omega (arith, e), omega (arith, e, l, A .few-edges, A .few-cells)));
+              let e = W .sided .at j h ∙ listed-side cells edges counts A j h in
+              let l = A .listed (j / 6) (j % 6) (omega arith) (omega arith) in
+              (omega (arith, e), omega (arith, e, l, A .few-edges, A .few-cells)));
         }
 
     pub copying : (table : List ℕ) → 4 * cellCount cells ≤ length table → Copying (4 * cellCount cells) across table

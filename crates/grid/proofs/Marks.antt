@@ -134,10 +134,10 @@ module _ {keys near : List ℕ} {n key mark b : ℕ} {marks₀ marks : List ℕ}
             let third = no-third k ((p - 1) % 4) hk (omega arith) h₁ (i % 4) (omega arith) (holds i d s) in
             ⊎-elim
             (λ (f : i % 4 ≡ (p - 1) % 4).
-              let same : i ≡ p - 1 = omega arith in
-              let bk : getD near i 0 ≡ j + 1 = rw (same, e) (J .back j (g .slot) there .1) in
-              let z : (j + 1 - 1) ≡ j = omega arith in
-              inr (rw (bk, z) (kept (j / 4) (g .here))))
+            let same : i ≡ p - 1 = omega arith in
+            let bk : getD near i 0 ≡ j + 1 = rw (same, e) (J .back j (g .slot) there .1) in
+            let z : (j + 1 - 1) ≡ j = omega arith in
+            inr (rw (bk, z) (kept (j / 4) (g .here))))
             (λ (f : i % 4 ≡ other k ((p - 1) % 4)). absurd (q (omega arith)))
             third
         opened i l s m q r false true ex ey = let f : i ≡ j = eqb-true i j ey in inr (rw (f, ← e) now)
@@ -297,7 +297,7 @@ module _ (keys near : List ℕ) (n key mark : ℕ) (marks : List ℕ) (J : Paire
         same = g₂ .same ∙ g₁ .same ∙ length-set marks c mark;
         has = g₂ .keep c (g₁ .keep c marked);
         only = λ d. ⊎-elim (λ (e : getD marks₂ d 0 ≡ getD marks₁ d 0). ⊎-elim (λ (f : getD marks₁ d 0 ≡ getD (set marks c mark) d 0). first d (e ∙ f) (eqb d c) refl)
-          (λ (f : getD marks₁ d 0 ≡ mark). inr (e ∙ f)) (g₁ .only d)) (λ (e : getD marks₂ d 0 ≡ mark). inr e) (g₂ .only d);
+            (λ (f : getD marks₁ d 0 ≡ mark). inr (e ∙ f)) (g₁ .only d)) (λ (e : getD marks₂ d 0 ≡ mark). inr e) (g₂ .only d);
         closed = λ j l s p m. ⊎-elim (λ (z : getD near j 0 ≡ 0). absurd (omega arith)) (λ z. z) (o .at j l s m (λ q. omega arith) (λ q. omega arith));
         within = λ P cl h d m. g₂ .within P cl (g₁ .within P cl (λ x y. rw (alone x y) h)) d m;
       }

@@ -108,10 +108,12 @@ module _ (cells : List ℕ) (small : (i : ℕ) → getD cells i 0 < 65536) where
   pub cell-eqb : (d c : ℕ) → sameCell cells d c ≡ eqb (cellKey cells d) (cellKey cells c)
   unfolding sameCell every cellKey
   cell-eqb d c =
-      rw (join-eqb (join (join (node cells d 0) (node cells d 1)) (node cells d 2)) (node cells d 3) (join (join (node cells c 0) (node cells c 1)) (node cells c 2))
-      (node cells c 3) (small (4 * d + 3)) (small (4 * c + 3)),
-      join-eqb (join (node cells d 0) (node cells d 1)) (node cells d 2) (join (node cells c 0) (node cells c 1)) (node cells c 2) (small (4 * d + 2)) (small (4 * c + 2)),
-      join-eqb (node cells d 0) (node cells d 1) (node cells c 0) (node cells c 1) (small (4 * d + 1)) (small (4 * c + 1)))
+      rw (
+        join-eqb (join (join (node cells d 0) (node cells d 1)) (node cells d 2)) (node cells d 3) (join (join (node cells c 0) (node cells c 1)) (node cells c 2))
+            (node cells c 3) (small (4 * d + 3)) (small (4 * c + 3)),
+        join-eqb (join (node cells d 0) (node cells d 1)) (node cells d 2) (join (node cells c 0) (node cells c 1)) (node cells c 2) (small (4 * d + 2)) (small (4 * c + 2)),
+        join-eqb (node cells d 0) (node cells d 1) (node cells c 0) (node cells c 1) (small (4 * d + 1)) (small (4 * c + 1)),
+      )
 
   -- what the loop of `row_4` asks of a cell
   pub repeats-last : (n : ℕ) (keys : List ℕ) → Table (cellKey cells) n keys → (c : ℕ) → c < n
@@ -132,10 +134,15 @@ module _ (cells : List ℕ) (small : (i : ℕ) → getD cells i 0 < 65536) where
       let b : (4 * d + t) % 4 ≡ t = omega arith in
       let e : (4 * c + s) / 4 ≡ c = omega arith in
       let f : (4 * c + s) % 4 ≡ s = omega arith in
-      rw (a, b, e, f,
-      join-eqb (join (faceNode cells d t 0) (faceNode cells d t 1)) (faceNode cells d t 2) (join (faceNode cells c s 0) (faceNode cells c s 1)) (faceNode cells c s 2)
-      (face-small d t 2) (face-small c s 2),
-      join-eqb (faceNode cells d t 0) (faceNode cells d t 1) (faceNode cells c s 0) (faceNode cells c s 1) (face-small d t 1) (face-small c s 1))
+      rw (
+        a,
+        b,
+        e,
+        f,
+        join-eqb (join (faceNode cells d t 0) (faceNode cells d t 1)) (faceNode cells d t 2) (join (faceNode cells c s 0) (faceNode cells c s 1)) (faceNode cells c s 2)
+            (face-small d t 2) (face-small c s 2),
+        join-eqb (faceNode cells d t 0) (faceNode cells d t 1) (faceNode cells c s 0) (faceNode cells c s 1) (face-small d t 1) (face-small c s 1),
+      )
 
 -- the same face, as a test and as equations of nodes
 module _ (cells : List ℕ) where

@@ -83,11 +83,11 @@ module _ (cells : List ℕ) (good : Ordered cells) (keys near : List ℕ) (tk : 
         few = good .few;
         back = λ j l p. (N .pair j l p .lt, N .pair j l p .back);
         side = λ key j l p s. (
-          let g = N .pair j l p in
-          let x = getD near j 0 - 1 in
-          let xl : x < 4 * cellCount cells = omega (arith, g .lt, p) in
-          let w = carried key (x / 4) (x % 4) (j / 4) (j % 4) (s .k) (omega arith) (omega arith) (omega arith) (omega arith) (s .lt) (g .same) (s .is) (s .holds) in
-          record { k = w .0; lt = w .1; is = w .2; holds = w .3 });
+            let g = N .pair j l p in
+            let x = getD near j 0 - 1 in
+            let xl : x < 4 * cellCount cells = omega (arith, g .lt, p) in
+            let w = carried key (x / 4) (x % 4) (j / 4) (j % 4) (s .k) (omega arith) (omega arith) (omega arith) (omega arith) (s .lt) (g .same) (s .is) (s .holds) in
+            record { k = w .0; lt = w .1; is = w .2; holds = w .3 });
         one = one-edge;
       }
 

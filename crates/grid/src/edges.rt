@@ -13,6 +13,7 @@ use crate::keys::wide;
 
 // The positions that a cell's edges join.
 pub(crate) const LO: [usize; 6] = [0, 0, 0, 1, 1, 2];
+
 pub(crate) const HI: [usize; 6] = [1, 2, 3, 2, 3, 3];
 
 pub(crate) fn row_2(edges: &[u16], counts: &[u8]) -> bool
@@ -95,7 +96,15 @@ pub(crate) fn side_keys(cells: &[u16], keys: &mut [usize])
 }
 
 // Puts x at each of the first n places with this key, of which top - 1 is the last.
-fn put(keys: &[usize], next: &[u16], n: usize, key: usize, top: usize, x: usize, sides: &mut [usize])
+fn put(
+    keys: &[usize],
+    next: &[u16],
+    n: usize,
+    key: usize,
+    top: usize,
+    x: usize,
+    sides: &mut [usize],
+)
     requires { ⌜ Putting (now keys) (now next) n key top (now sides) ⌝ }
     ensures { λ _. ⌜ Put (now (keys .entry)) n key x (now (sides .entry)) (now (sides .exit)) ⌝ }
 {
@@ -110,7 +119,14 @@ fn put(keys: &[usize], next: &[u16], n: usize, key: usize, top: usize, x: usize,
 
 // The lowest listed edge that no cell has; the number of edges where there is none. For row 7, each edge of each cell gets
 // one more than its place in the list, and keeps 0 where it is not listed.
-pub(crate) fn row_8(cells: &[u16], edges: &[u16], keys: &[usize], head: &[u16], next: &[u16], sides: &mut [usize]) -> usize
+pub(crate) fn row_8(
+    cells: &[u16],
+    edges: &[u16],
+    keys: &[usize],
+    head: &[u16],
+    next: &[u16],
+    sides: &mut [usize],
+) -> usize
     requires { ⌜ Findable (now cells) (now edges) (now keys) (now head) (now next) ⌝ }
     requires { ⌜ now sides ≡ replicate (6 * mostCells) 0 ⌝ }
     ensures { λ r. ⌜ r ≡ first (unused (now (cells .entry)) (now (edges .entry))) (length (now (edges .entry)) / 2) ⌝ }

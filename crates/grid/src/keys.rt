@@ -15,7 +15,14 @@ pub(crate) fn wide(x: u16) -> usize
 }
 
 // One more than the last place before m with this key, or 0; start is the same for the key's remainder.
-pub(crate) fn walk(keys: &[usize], next: &[u16], n: usize, m: usize, start: usize, key: usize) -> usize
+pub(crate) fn walk(
+    keys: &[usize],
+    next: &[u16],
+    n: usize,
+    m: usize,
+    start: usize,
+    key: usize,
+) -> usize
     requires { ⌜ Walkable (now keys) (now next) n m start key ⌝ }
     ensures { λ r. ⌜ r ≡ last (sameKey (now (keys .entry)) key) m ⌝ }
 {

@@ -15,6 +15,11 @@ mod keys;
 mod links;
 mod tables;
 
+// The most cells and crossings that a grid may have.
+pub const MOST_CELLS: usize = 2048;
+const MOST_CROSSINGS: u32 = 65535;
+const TOO_MANY: u32 = MOST_CROSSINGS + 1;
+
 // The number of crossings, or the number and the place of a refusal.
 pub enum Checked {
     Crossings(u32),
@@ -36,8 +41,8 @@ fn total(counts: &[u8]) -> u32
     let mut e = 0;
     while e < counts.len() {
         s += size(counts[e]);
-        if 65535 < s {
-            return 65536;
+        if MOST_CROSSINGS < s {
+            return TOO_MANY;
         }
         e += 1;
     }
@@ -45,7 +50,15 @@ fn total(counts: &[u8]) -> u32
 }
 
 // Rows 9 and 10.
-fn last_rows(cells: &[u16], edges: &[u16], counts: &[u8], near: &[u16], keys: &[usize], head: &[u16], next: &[u16]) -> Checked
+fn last_rows(
+    cells: &[u16],
+    edges: &[u16],
+    counts: &[u8],
+    near: &[u16],
+    keys: &[usize],
+    head: &[u16],
+    next: &[u16],
+) -> Checked
     requires { ⌜ Linkable (now cells) (now edges) (now near) (now keys) (now head) (now next) ⌝ }
     requires { ⌜ length (now edges) ≡ 2 * length (now counts) ⌝ }
     ensures { λ r. ⌜ checkNumbers r ≡ answerFrom 9 (now (cells .entry)) (now (edges .entry)) (now (counts .entry)) ⌝ }
@@ -55,22 +68,28 @@ fn last_rows(cells: &[u16], edges: &[u16], counts: &[u8], near: &[u16], keys: &[
         return Checked::Refused(9, p9);
     }
     let s = total(counts);
-    if 65535 < s {
+    if MOST_CROSSINGS < s {
         return Checked::Refused(10, 0);
     }
     Checked::Crossings(s)
 }
 
 // Rows 7 and 8, and those after them. Keeps 136 KB on the stack.
-fn side_rows(cells: &[u16], edges: &[u16], counts: &[u8], near: &[u16], sides: &mut [usize]) -> Checked
+fn side_rows(
+    cells: &[u16],
+    edges: &[u16],
+    counts: &[u8],
+    near: &[u16],
+    sides: &mut [usize],
+) -> Checked
     requires { ⌜ Edging (now cells) (now edges) (now counts) (now near) (now sides) ⌝ }
     ensures { λ r. ⌜ checkNumbers r ≡ answerFrom 7 (now (cells .entry)) (now (edges .entry)) (now (counts .entry)) ⌝ }
     ensures { λ r. ⌜ WhereAccepted r (Table (listedAt (now (cells .entry)) (now (edges .entry)) (length (now (counts .entry)))) (6 * cellCount (now (cells .entry))) (now (sides .exit))) ⌝ }
 {
     let n = cells.len() / 4;
-    let mut keys = [0usize; 12288];
+    let mut keys = [0usize; 6 * MOST_CELLS];
     let mut head = [0u16; BUCKETS];
-    let mut next = [0u16; 12288];
+    let mut next = [0u16; 6 * MOST_CELLS];
     edges::side_keys(cells, &mut keys);
     keys::chain(&keys, 6 * n, &mut head, &mut next);
     let p8 = edges::row_8(cells, edges, &keys, &head, &next, sides);
@@ -85,7 +104,13 @@ fn side_rows(cells: &[u16], edges: &[u16], counts: &[u8], near: &[u16], sides: &
 }
 
 // Row 6, and those after it.
-fn edge_rows(cells: &[u16], edges: &[u16], counts: &[u8], near: &[u16], sides: &mut [usize]) -> Checked
+fn edge_rows(
+    cells: &[u16],
+    edges: &[u16],
+    counts: &[u8],
+    near: &[u16],
+    sides: &mut [usize],
+) -> Checked
     requires { ⌜ Edging (now cells) (now edges) (now counts) (now near) (now sides) ⌝ }
     ensures { λ r. ⌜ checkNumbers r ≡ answerFrom 6 (now (cells .entry)) (now (edges .entry)) (now (counts .entry)) ⌝ }
     ensures { λ r. ⌜ WhereAccepted r (Table (listedAt (now (cells .entry)) (now (edges .entry)) (length (now (counts .entry)))) (6 * cellCount (now (cells .entry))) (now (sides .exit))) ⌝ }
@@ -98,7 +123,13 @@ fn edge_rows(cells: &[u16], edges: &[u16], counts: &[u8], near: &[u16], sides: &
 }
 
 // Rows 3, 4 and 5, and those after them.
-fn cell_rows(cells: &[u16], edges: &[u16], counts: &[u8], near: &mut [u16], sides: &mut [usize]) -> Checked
+fn cell_rows(
+    cells: &[u16],
+    edges: &[u16],
+    counts: &[u8],
+    near: &mut [u16],
+    sides: &mut [usize],
+) -> Checked
     requires { ⌜ Blank (now near) (now sides) ⌝ }
     requires { ⌜ cellCount (now cells) ≤ mostCells ⌝ }
     requires { ⌜ length (now edges) ≡ 2 * length (now counts) ⌝ }
@@ -122,7 +153,13 @@ fn cell_rows(cells: &[u16], edges: &[u16], counts: &[u8], near: &mut [u16], side
 }
 
 // All rows. Where the grid is accepted, near has the neighbours and sides the edges of the cells.
-fn all_rows(cells: &[u16], edges: &[u16], counts: &[u8], near: &mut [u16], sides: &mut [usize]) -> Checked
+fn all_rows(
+    cells: &[u16],
+    edges: &[u16],
+    counts: &[u8],
+    near: &mut [u16],
+    sides: &mut [usize],
+) -> Checked
     requires { ⌜ Blank (now near) (now sides) ⌝ }
     ensures { λ r. ⌜ checkNumbers r ≡ gridAnswer (now (cells .entry)) (now (edges .entry)) (now (counts .entry)) ⌝ }
     ensures { λ r. ⌜ WhereAccepted r (Worked (now (cells .entry)) (now (edges .entry)) (now (counts .entry)) (now (near .exit)) (now (sides .exit))) ⌝ }
@@ -140,20 +177,28 @@ fn all_rows(cells: &[u16], edges: &[u16], counts: &[u8], near: &mut [u16], sides
 pub fn check(cells: &[u16], edges: &[u16], counts: &[u8]) -> Checked
     ensures { λ r. ⌜ checkNumbers r ≡ gridAnswer (now (cells .entry)) (now (edges .entry)) (now (counts .entry)) ⌝ }
 {
-    let mut near = [0u16; 8192];
-    let mut sides = [0usize; 12288];
+    let mut near = [0u16; 4 * MOST_CELLS];
+    let mut sides = [0usize; 6 * MOST_CELLS];
     all_rows(cells, edges, counts, &mut near, &mut sides)
 }
 
 // The grid check, and where it accepts, the tables of the grid: the name of face 4 c + s of the cells, one more than the face across it or 0,
 // the place in the list of edge k of cell c at 6 c + k, and the start of each edge. Keeps as much on the stack as `check`.
-pub fn open(cells: &[u16], edges: &[u16], counts: &[u8], names: &mut [u16; 8192], near: &mut [u16; 8192], sides: &mut [u16; 12288], starts: &mut [u32; 12288]) -> Checked
+pub fn open(
+    cells: &[u16],
+    edges: &[u16],
+    counts: &[u8],
+    names: &mut [u16; 4 * MOST_CELLS],
+    near: &mut [u16; 4 * MOST_CELLS],
+    sides: &mut [u16; 6 * MOST_CELLS],
+    starts: &mut [u32; 6 * MOST_CELLS],
+) -> Checked
     ensures { λ r. ⌜ checkNumbers r ≡ gridAnswer (now (cells .entry)) (now (edges .entry)) (now (counts .entry)) ⌝ }
     ensures { λ _. ⌜ Opened (now (cells .entry)) (now (edges .entry)) (now (counts .entry)) (now (names .entry)) (now (near .entry)) (now (sides .entry)) (now (starts .entry)) (now (names .exit)) (now (near .exit)) (now (sides .exit)) (now (starts .exit)) ⌝ }
 {
     let n = cells.len() / 4;
-    let mut across = [0u16; 8192];
-    let mut listed = [0usize; 12288];
+    let mut across = [0u16; 4 * MOST_CELLS];
+    let mut listed = [0usize; 6 * MOST_CELLS];
     let r = all_rows(cells, edges, counts, &mut across, &mut listed);
     if let Checked::Refused(_, _) = r {
         return r;

@@ -1,3 +1,4 @@
+-- `grid::edges::side_keys` meets its contract.
 use Prim.Native.Nat.{_*_, _-_, _/_, _≤_}
 use mathlib.Core.Path.{_≡_, refl}
 use native.Mathlib.Omega.{arith}
@@ -36,7 +37,7 @@ loop-less : tie.Need-loop-less Inv-loop μ-loop
 loop-less c = search needs
 
 loop-again : tie.Need-loop-again Inv-loop μ-loop
-loop-again c = 
+loop-again c =
     let w = c .before .before .loop .inv in
     (omega arith, simp length-set (w .1), table-more (w .2) _ (omega (arith, w .1)) (c .side-key .ensures))
 
@@ -44,8 +45,9 @@ same-length : tie.Need-same-length Inv-loop μ-loop
 same-length c = search needs
 
 returns : tie.Need-returns Inv-loop μ-loop
-returns c = 
-    let e : c .before .loop .j ≡ 6 * (length (c .before .before .before .before .args .cells .now) / 4) = omega arith in
+returns c =
+    let c-args = c .before .before .before .before .args in
+    let e : c .before .loop .j ≡ 6 * (length (c-args .cells .now) / 4) = omega arith in
     rw (← e) (c .before .loop .inv .2)
 
 pub side-keys-spec : {M : Type 1} → statement M

@@ -1,3 +1,4 @@
+-- `grid::keys::chain` meets its contract.
 use Prim.Native.Nat.{_-_, _≤_}
 use mathlib.Core.Path.{_≡_, refl}
 use native.Mathlib.Nat.{mod-lt}
@@ -51,9 +52,10 @@ loop-less : tie.Need-loop-less Inv-loop μ-loop
 loop-less c = search needs
 
 loop-again : tie.Need-loop-again Inv-loop μ-loop
-loop-again c = 
-    let w = c .before .before .before .loop .inv .2 in
-    (omega arith, simp length-set (c .before .before .before .loop .inv .1), chaining-more w _ refl (omega (arith, w .same)) (mod-lt _ (omega arith)))
+loop-again c =
+    let c-loop = c .before .before .before .loop in
+    let w = c-loop .inv .2 in
+    (omega arith, simp length-set (c-loop .inv .1), chaining-more w _ refl (omega (arith, w .same)) (mod-lt _ (omega arith)))
 
 same-length : tie.Need-same-length Inv-loop μ-loop
 same-length c = c .before .loop .inv .1
@@ -62,7 +64,7 @@ same-length-2 : tie.Need-same-length-2 Inv-loop μ-loop
 same-length-2 c = c .before .loop .inv .2 .same
 
 returns : tie.Need-returns Inv-loop μ-loop
-returns c = 
+returns c =
     let w = c .before .loop .inv .2 in
     let p = c .before .before .pre in
     let e : c .before .loop .j ≡ c .before .before .args .n = omega arith in

@@ -1,3 +1,4 @@
+-- `grid::links::other_side` meets its contract.
 use mathlib.Core.Path.{refl}
 use native.Mathlib.Omega.{arith}
 use borrow.Author.Needs.{needs}
