@@ -1,12 +1,12 @@
 // The grid check: cells, edges and counts of a grid.
 ghost use mathlib.Core.Path.{_≡_};
-ghost use Prim.Native.Nat.{_*_, _<_, _≤_};
+ghost use Prim.Native.Nat.{_*_, _<_};
 ghost use lib.ListN.{length};
-ghost use Rattle.grid.specs.Grid.{mostCells, cellCount};
+ghost use Rattle.grid.specs.Grid.{cellCount};
 ghost use Rattle.grid.specs.Rows.{answerFrom, gridAnswer};
 ghost use Rattle.grid.specs.Check.{checkNumbers};
 ghost use Rattle.grid.specs.Tables.{Opened};
-ghost use Rattle.grid.specs.Work.{Table, listedAt, Edging, Linkable, capped, Blank, Worked, WhereAccepted};
+ghost use Rattle.grid.specs.Work.{Table, listedAt, Celling, Edging, Lasting, capped, Blank, Worked, WhereAccepted};
 use keys::BUCKETS;
 
 mod cells;
@@ -17,7 +17,9 @@ mod tables;
 
 // The most cells and crossings that a grid may have.
 pub const MOST_CELLS: usize = 2048;
+
 const MOST_CROSSINGS: u32 = 65535;
+
 const TOO_MANY: u32 = MOST_CROSSINGS + 1;
 
 // The number of crossings, or the number and the place of a refusal.
@@ -59,8 +61,7 @@ fn last_rows(
     head: &[u16],
     next: &[u16],
 ) -> Checked
-    requires { ⌜ Linkable (now cells) (now edges) (now near) (now keys) (now head) (now next) ⌝ }
-    requires { ⌜ length (now edges) ≡ 2 * length (now counts) ⌝ }
+    requires { ⌜ Lasting (now cells) (now edges) (now counts) (now near) (now keys) (now head) (now next) ⌝ }
     ensures { λ r. ⌜ checkNumbers r ≡ answerFrom 9 (now (cells .entry)) (now (edges .entry)) (now (counts .entry)) ⌝ }
 {
     let p9 = links::row_9(cells, edges, near, keys, head, next);
@@ -130,9 +131,7 @@ fn cell_rows(
     near: &mut [u16],
     sides: &mut [usize],
 ) -> Checked
-    requires { ⌜ Blank (now near) (now sides) ⌝ }
-    requires { ⌜ cellCount (now cells) ≤ mostCells ⌝ }
-    requires { ⌜ length (now edges) ≡ 2 * length (now counts) ⌝ }
+    requires { ⌜ Celling (now cells) (now edges) (now counts) (now near) (now sides) ⌝ }
     ensures { λ r. ⌜ checkNumbers r ≡ answerFrom 3 (now (cells .entry)) (now (edges .entry)) (now (counts .entry)) ⌝ }
     ensures { λ r. ⌜ WhereAccepted r (Worked (now (cells .entry)) (now (edges .entry)) (now (counts .entry)) (now (near .exit)) (now (sides .exit))) ⌝ }
 {
@@ -173,7 +172,7 @@ fn all_rows(
     cell_rows(cells, edges, counts, near, sides)
 }
 
-// The grid check.
+// The grid check. Keeps 264 KB on the stack, with what its functions keep.
 pub fn check(cells: &[u16], edges: &[u16], counts: &[u8]) -> Checked
     ensures { λ r. ⌜ checkNumbers r ≡ gridAnswer (now (cells .entry)) (now (edges .entry)) (now (counts .entry)) ⌝ }
 {

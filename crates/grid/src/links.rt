@@ -1,19 +1,17 @@
 // Row 9: the cells of each edge, linked through faces that contain it.
 ghost use mathlib.Core.Path.{_≡_};
-ghost use mathlib.Core.Bool.{true};
 ghost use Prim.Native.Nat.{_+_, _-_, _*_, _/_, _<_};
 ghost use lib.ListN.{length, getD};
 ghost use Rattle.counting.specs.Search.{first, some};
-ghost use Rattle.slots.specs.Slots.{contains};
 ghost use Rattle.grid.specs.Rows.{split};
-ghost use Rattle.grid.specs.Work.{Sought, other, Spreading, Spread, missing, Leaving, Filled, Splitting, Linkable};
+ghost use Rattle.grid.specs.Work.{OnSlot, Sought, other, Spreading, Spread, missing, Leaving, Filled, Splitting, Linkable};
+use crate::MOST_CELLS;
 use crate::edges::HI;
 use crate::edges::LO;
 use crate::edges::edge_key;
 use crate::keys::earlier;
 use crate::keys::latest;
 use crate::keys::wide;
-use crate::MOST_CELLS;
 
 // Which edge of cell c has this key: one of them has.
 fn place(keys: &[usize], c: usize, key: usize) -> usize
@@ -34,9 +32,7 @@ fn place(keys: &[usize], c: usize, key: usize) -> usize
 
 // The other slot that contains edge k.
 fn other_side(k: usize, s: usize) -> usize
-    requires { ⌜ k < 6 ⌝ }
-    requires { ⌜ s < 4 ⌝ }
-    requires { ⌜ contains k s ≡ true ⌝ }
+    requires { ⌜ OnSlot k s ⌝ }
     ensures { λ r. ⌜ r ≡ other k s ⌝ }
     ensures { λ r. ⌜ r < 4 ⌝ }
 {

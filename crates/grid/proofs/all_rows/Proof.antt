@@ -32,7 +32,7 @@ cell-rows-requires c κs =
     let c-row-1 = c .before .before .before .before .before .row-1 in
     let c-if1 = c .before .before .before .before .if1 in
     let c-row-2 = c .before .before .before .row-2 in
-    (c-pre, (length-fine _ (sym (c-row-1 .ensures) ∙ c-if1 .left) .2, pairs-fine _ _ (sym (c-row-2 .ensures) ∙ c .before .before .if2 .left)))
+    record { few = length-fine _ (sym (c-row-1 .ensures) ∙ c-if1 .left) .2; pairs = pairs-fine _ _ (sym (c-row-2 .ensures) ∙ c .before .before .if2 .left); blank = c-pre }
 
 same-length : tie.Need-same-length
 same-length c =

@@ -19,7 +19,7 @@ returns c = (answer-refuses _ _ _ 2 (omega arith) _ (c .before .row-3 .ensures) 
 row-4-requires : tie.Need-row-4-requires
 row-4-requires c κs =
     let c-pre = c .before .before .before .before .before .before .before .pre in
-    c-pre .1 .0
+    c-pre .few
 
 returns-2 : tie.Need-returns-2
 unfolding rowAt rows
@@ -36,7 +36,7 @@ row-5-requires c κs =
     let c-shared-slice-known = c .before .before .before .before .before .before .before .before .before .shared-slice-known in
     let c-row-3 = c .before .before .before .before .row-3 in
     let c-if1 = c .before .before .before .if1 in
-    (ordered-cells _ (λ i. omega (arith, c-shared-slice-known .given i)) (c-pre .1 .0) (rw (c-row-3 .ensures) at (c-if1 .left)), c-pre .0 .near-is)
+    (ordered-cells _ (λ i. omega (arith, c-shared-slice-known .given i)) (c-pre .few) (rw (c-row-3 .ensures) at (c-if1 .left)), c-pre .blank .near-is)
 
 same-length : tie.Need-same-length
 same-length c =
@@ -65,10 +65,10 @@ edge-rows-requires c κs =
     let c-if1 = c .before .before .before .before .before .before .before .before .before .if1 in
     let c-row-5 = c .before .before .before .before .before .row-5 in
     record {
-      ordered = ordered-cells _ (λ i. omega (arith, c-shared-slice-known .given i)) (c-pre .1 .0) (rw (c-row-3 .ensures) at (c-if1 .left));
-      pairs = c-pre .1 .1;
+      ordered = ordered-cells _ (λ i. omega (arith, c-shared-slice-known .given i)) (c-pre .few) (rw (c-row-3 .ensures) at (c-if1 .left));
+      pairs = c-pre .pairs;
       near-is = c-row-5 .ensures .1 (c .before .before .if3 .left);
-      sides-is = c-pre .0 .sides-is;
+      sides-is = c-pre .blank .sides-is;
     }
 
 same-length-2 : tie.Need-same-length-2

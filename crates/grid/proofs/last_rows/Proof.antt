@@ -13,14 +13,14 @@ use Rattle.grid.proofs.last_rows.Tie as tie
 row-9-requires : tie.Need-row-9-requires
 row-9-requires c κs =
     let c-pre = c .before .before .before .before .before .before .before .pre in
-    c-pre .0
+    c-pre .linkable
 
 returns : tie.Need-returns
 unfolding rowAt rows
 returns c =
     let c-args = c .before .before .before .before .before .before .before .before .before .args in
     let c-pre = c .before .before .before .before .before .before .before .before .before .pre in
-    let e : length (c-args .edges .now) / 2 ≡ length (c-args .counts .now) = omega (arith, c-pre .1) in
+    let e : length (c-args .edges .now) / 2 ≡ length (c-args .counts .now) = omega (arith, c-pre .pairs) in
     answer-refuses _ _ _ 8 (omega arith) _ (rw e at (c .before .row-9 .ensures)) (c .if1 .taken)
 
 total-requires : tie.Need-total-requires
@@ -32,7 +32,7 @@ returns-2 c =
     let c-args = c .before .before .before .before .before .before .before .before .before .before .before .args in
     let c-pre = c .before .before .before .before .before .before .before .before .before .before .before .pre in
     let c-row-9 = c .before .before .before .row-9 in
-    let e : length (c-args .edges .now) / 2 ≡ length (c-args .counts .now) = omega (arith, c-pre .1) in
+    let e : length (c-args .edges .now) / 2 ≡ length (c-args .counts .now) = omega (arith, c-pre .pairs) in
     let t = over-capped (c-args .counts .now) (rw (← c .before .total .ensures) (c .if2 .taken)) in
     answer-refuses _ _ _ 9 (omega arith) 0 (whole-fault _ t) (omega arith)
     ∙ answer-passes _ _ _ 8 (omega arith) _ (rw e at (c-row-9 .ensures)) (c .before .before .if1 .left)
@@ -43,7 +43,7 @@ returns-3 c =
     let c-args = c .before .before .before .before .before .before .before .before .before .before .before .args in
     let c-pre = c .before .before .before .before .before .before .before .before .before .before .before .pre in
     let c-row-9 = c .before .before .before .row-9 in
-    let e : length (c-args .edges .now) / 2 ≡ length (c-args .counts .now) = omega (arith, c-pre .1) in
+    let e : length (c-args .edges .now) / 2 ≡ length (c-args .counts .now) = omega (arith, c-pre .pairs) in
     let t = fine-capped (c-args .counts .now) (rw (← c .before .total .ensures) (c .if2 .left)) in
     rw (c .before .total .ensures ∙ t .1)
     (sym (answer-end (c-args .cells .now) (c-args .edges .now) (c-args .counts .now))

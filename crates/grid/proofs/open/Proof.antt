@@ -3,6 +3,7 @@ use mathlib.Core.Path.{_∙_, ap, refl, sym}
 use native.Mathlib.Omega.{arith}
 use borrow.Author.Needs.{needs}
 use Rattle.grid.specs.Check.{checkNumbers}
+use Rattle.grid.specs.Work.{Worked}
 use Rattle.grid.proofs.Filled.{copying, lowering, opened-filled, opened-kept, refused-keeps, told-accepted, told-accepts, told-ordered, told-where}
 use Rattle.grid.proofs.open.Statement.{statement}
 use Rattle.grid.proofs.open.Tie as tie
@@ -45,7 +46,7 @@ write-names-requires c κs =
     let a = c-args in
     let w = c .before .before .enum-told2 .given in
     let A = told-accepted (a .cells .now) (a .edges .now) (a .counts .now) (c-all-rows .result) _ (w .1) (c-all-rows .ensures .0) in
-    let W = told-where (c-all-rows .result) _ (w .1) (c-all-rows .ensures .1) in
+    let W = told-where {T = Worked (a .cells .now) (a .edges .now) (a .counts .now) (c-all-rows .last .1 .1 .1 .0) (c-all-rows .last .1 .1 .1 .1 .0)} (c-all-rows .result) _ (w .1) (c-all-rows .ensures .1) in
     copying (a .cells .now) (a .edges .now) (a .counts .now) _ _ A W _ (omega (arith, A .few-cells, c-good))
 
 mul-write-near : tie.Need-mul-write-near
@@ -63,7 +64,7 @@ write-near-requires c κs =
     let a = c-args in
     let w = c-enum-told2 .given in
     let A = told-accepted (a .cells .now) (a .edges .now) (a .counts .now) (c-all-rows .result) _ (w .1) (c-all-rows .ensures .0) in
-    let W = told-where (c-all-rows .result) _ (w .1) (c-all-rows .ensures .1) in
+    let W = told-where {T = Worked (a .cells .now) (a .edges .now) (a .counts .now) (c-all-rows .last .1 .1 .1 .0) (c-all-rows .last .1 .1 .1 .1 .0)} (c-all-rows .result) _ (w .1) (c-all-rows .ensures .1) in
     copying (a .cells .now) (a .edges .now) (a .counts .now) _ _ A W _ (omega (arith, A .few-cells, c-good))
 
 mul-write-sides : tie.Need-mul-write-sides
@@ -81,7 +82,7 @@ write-sides-requires c κs =
     let a = c-args in
     let w = c-enum-told2 .given in
     let A = told-accepted (a .cells .now) (a .edges .now) (a .counts .now) (c-all-rows .result) _ (w .1) (c-all-rows .ensures .0) in
-    let W = told-where (c-all-rows .result) _ (w .1) (c-all-rows .ensures .1) in
+    let W = told-where {T = Worked (a .cells .now) (a .edges .now) (a .counts .now) (c-all-rows .last .1 .1 .1 .0) (c-all-rows .last .1 .1 .1 .1 .0)} (c-all-rows .result) _ (w .1) (c-all-rows .ensures .1) in
     lowering (a .cells .now) (a .edges .now) (a .counts .now) _ _ A W _ (omega (arith, A .few-cells, c-good))
 
 write-starts-requires : tie.Need-write-starts-requires
@@ -107,7 +108,7 @@ returns-2 c =
     let h = c-all-rows .ensures .0 in
     let r = c-all-rows .result in
     let A = told-accepted (a .cells .now) (a .edges .now) (a .counts .now) r _ (w .1) h in
-    let W = told-where r _ (w .1) (c-all-rows .ensures .1) in (
+    let W = told-where {T = Worked (a .cells .now) (a .edges .now) (a .counts .now) (c-all-rows .last .1 .1 .1 .0) (c-all-rows .last .1 .1 .1 .1 .0)} r _ (w .1) (c-all-rows .ensures .1) in (
       h,
       opened-filled (a .cells .now) (a .edges .now) (a .counts .now) _ _ A W (told-accepts _ _ _ r _ (w .1) h) (told-ordered _ (a .edges .now) (a .counts .now) r _ (w .1) h) _ _ _ _ _ _ _ _
           (c-write-names .ensures) (c-write-near .ensures) (c .before .before .write-sides .ensures) (c .write-starts .ensures),

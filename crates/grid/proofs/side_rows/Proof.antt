@@ -1,11 +1,13 @@
 -- `grid::side_rows` meets its contract.
-use Prim.Native.Nat.{_/_}
+use Prim.Native.Nat.{_*_, _/_}
 use mathlib.Core.Path.{_∙_, _≡_, refl, sym}
 use native.Mathlib.Omega.{arith}
 use lib.ListN.{length}
 use borrow.Author.Needs.{needs}
 use Rattle.counting.proofs.Search.{first-none}
-use Rattle.grid.specs.Rows.{rowAt, rows}
+use Rattle.grid.specs.Grid.{cellCount}
+use Rattle.grid.specs.Rows.{rowAt, rows, unused}
+use Rattle.grid.specs.Work.{Table, listedAt}
 use Rattle.grid.proofs.Accepts.{ordered}
 use Rattle.grid.proofs.Answers.{answer-passes, answer-refuses, where-accepted}
 use Rattle.grid.proofs.Sides.{unlisted-blank}
@@ -120,8 +122,9 @@ last-rows-requires c κs =
     let c-chain = c .before .before .before .before .before .before .before .before .before .before .before .before .before .before .before .before .chain in
     let c-row-8 = c .before .before .before .before .before .before .before .before .before .row-8 in
     let c-if2 = c .before .before .before .if2 in
-    let e : length (c-args .edges .now) / 2 ≡ length (c-args .counts .now) = omega (arith, c-pre .pairs) in (
-      record {
+    let e : length (c-args .edges .now) / 2 ≡ length (c-args .counts .now) = omega (arith, c-pre .pairs) in
+    record {
+      linkable = record {
         ordered = c-pre .ordered;
         near-is = c-pre .near-is;
         findable = record {
@@ -132,10 +135,10 @@ last-rows-requires c κs =
           chained = c-chain .ensures .0;
           headed = c-chain .ensures .1;
         };
-        used = first-none _ _ (omega (arith, c-row-8 .ensures .0, c-if2 .left, e));
-      },
-      c-pre .pairs,
-    )
+        used = first-none (unused (c-args .cells .now) (c-args .edges .now)) (length (c-args .edges .now) / 2) (omega (arith, c-row-8 .ensures .0, c-if2 .left, e));
+      };
+      pairs = c-pre .pairs;
+    }
 
 same-length-3 : tie.Need-same-length-3
 same-length-3 c =
@@ -156,7 +159,7 @@ returns-3 c =
       c .last-rows .ensures
           ∙ answer-passes _ _ _ 7 (omega arith) _ (rw e at (c-row-8 .ensures .0)) (c-if2 .left)
           ∙ answer-passes _ _ _ 6 (omega arith) _ (c-row-7 .ensures ∙ sym (unlisted-blank _ _ _ _ t)) (c-if1 .left),
-      where-accepted (c .last-rows .result) t,
+      where-accepted {T = Table (listedAt (c-args .cells .now) (c-args .edges .now) (length (c-args .counts .now))) (6 * cellCount (c-args .cells .now)) (c-row-8 .last .1 .1 .1 .1 .1 .0)} (c .last-rows .result) t,
     )
 
 pub side-rows-spec : {M : Type 1} → statement M

@@ -46,7 +46,7 @@ mul-b c =
 other-side-requires : tie.Need-other-side-requires
 other-side-requires c κs =
     let c-args = c .before .before .before .before .args in
-    (omega arith, (free-lt ((c-args .top - 1) % 6) (omega arith), free-holds ((c-args .top - 1) % 6) (omega arith)))
+    record { edge-lt = omega arith; slot-lt = free-lt ((c-args .top - 1) % 6) (omega arith); holds = free-holds ((c-args .top - 1) % 6) (omega arith) }
 
 add-b : tie.Need-add-b
 add-b c =

@@ -89,7 +89,7 @@ other-side-requires c κs =
     let c-loop = c .before .before .before .before .loop in
     let J = c-pre .paired in
     let w = c-loop .inv in
-    (c .place .ensures .0, (omega arith, h₁ J (w .1) _ (w .0) (omega arith) (c .before .if1 .left) (omega (arith, w .1 .grown .same, c-pre .room)) _ (c .place .ensures .0) (c .place .ensures .1)))
+    record { edge-lt = c .place .ensures .0; slot-lt = omega arith; holds = h₁ J (w .1) _ (w .0) (omega arith) (c .before .if1 .left) (omega (arith, w .1 .grown .same, c-pre .room)) _ (c .place .ensures .0) (c .place .ensures .1) }
 
 add-j : tie.Need-add-j Inv-loop μ-loop
 add-j c =
