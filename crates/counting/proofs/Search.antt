@@ -464,6 +464,3 @@ first-blocks t b n pos =
 pub some-first : (t : ℕ → Bool) (n : ℕ) → some t n ≡ true → first t n < n
 some-first t n e =
     ⊎-elim (λ (q : first t n ≡ n). (let w = some-is t n e in clash (w .2) (first-none t n (omega arith) (w .0) (w .1)))) (λ q. q) (eq-or-lt-of-le (first-le t n))
-
-pub first-some : (t : ℕ → Bool) (n : ℕ) → first t n < n → some t n ≡ true
-first-some t n h = some-found t n (first t n) h (first-is t n h)

@@ -5,15 +5,21 @@ use mathlib.Core.Logic.{_⊎_, inl, inr, ⊎-elim}
 use mathlib.Core.Bool.{Bool, false, true}
 use mathlib.Core.List.{List, [], _∷_}
 use native.Mathlib.Omega.{arith}
+use lib.Dec.{eqb}
 use lib.ListN.{length}
+use borrow.Author.Tests.{eqb-false}
 use Rattle.counting.specs.Pack.{col}
+use Rattle.counting.specs.Pick.{pick}
 use Rattle.counting.specs.Search.{some}
 use Rattle.counting.proofs.Pack.{col-lt, col-pack, pack-lt, pre-le, row-lt, row-pack, unpack}
 use Rattle.counting.proofs.Search.{first-at, first-below, first-is, least, none-first, none-some, some-first, some-none}
 use Rattle.answer.specs.Answer.{refusal, result}
-use Rattle.grid.specs.Claims.{AcceptsClear, AcceptsOrRefuses, Clear, ClearAccepted, CrossingNumbers, FaultRefused, Refusal, RefusesFault}
+use Rattle.grid.specs.Check.{checkNumbers}
+use Rattle.grid.specs.Claims.{AcceptsClear, AcceptsOrRefuses, AnswerTold, Clear, ClearAccepted, CrossingNumbers, FaultRefused, Refusal, RefusesFault}
 use Rattle.grid.specs.Grid.{countOf, crossings, low, start}
 use Rattle.grid.specs.Rows.{Row, answerFrom, gridAnswer, rowAt}
+use Rattle.grid.specs.declared.Checked.{Checked}
+use Rattle.grid.specs.declared.Checked.the-variants.{Crossings, Refused}
 use Rattle.grid.proofs.Answers.{answer-end, answer-passes, answer-refuses}
 
 module _ (cells edges counts : List ℕ) where
@@ -122,6 +128,36 @@ accepts-or-refuses cells edges counts =
     (λ (w : (n : ℕ) × Stop cells edges counts n).
     inr (suc (w .0), Rattle.counting.specs.Search.first (R cells edges counts (w .0) .fault) (R cells edges counts (w .0) .places), stop-refusal cells edges counts (w .0) (w .1)))
     (λ (k : (m : ℕ) → m < 10 → Clear (R cells edges counts m)). inl (accept cells edges counts k)) (search-rows cells edges counts)
+
+-- there is always an answer
+pub never-empty : (cells edges counts : List ℕ) → [] ≡ gridAnswer cells edges counts → ⊥
+never-empty cells edges counts q =
+    ⊎-elim (λ (r : gridAnswer cells edges counts ≡ result (crossings counts ∷ [])). (let z : _≡_ {A = ℕ} 0 1 = cc in omega arith))
+    (λ (w : (n : ℕ) × (p : ℕ) × Refusal cells edges counts n p).
+    let r = refuses-fault cells edges counts (w .0) (w .1) (w .2) in let z : _≡_ {A = ℕ} 0 1 = cc in omega arith)
+    (accepts-or-refuses cells edges counts)
+
+pub answer-told : AnswerTold
+answer-told cells edges counts r s e f = go r s e f
+  where
+    empty : [] ≡ gridAnswer cells edges counts → ⊥
+    empty = never-empty cells edges counts
+
+    mixed : (n k p : ℕ) (b : Bool) → eqb k 0 ≡ b → result (n ∷ []) ≡ gridAnswer cells edges counts → pick b [] (refusal k p) ≡ gridAnswer cells edges counts → ⊥
+    mixed n k p true q a c = empty c
+    mixed n k p false q a c = let z : k ≡ 0 = cc in eqb-false k 0 q z
+
+    refusals : (k p l q : ℕ) (b c : Bool) → pick b [] (refusal k p) ≡ gridAnswer cells edges counts → pick c [] (refusal l q) ≡ gridAnswer cells edges counts
+        → Refused k p ≡ Refused l q
+    refusals k p l q true c a d = absurd (empty a)
+    refusals k p l q false true a d = absurd (empty d)
+    refusals k p l q false false a d = let x : k ≡ l = cc in let y : p ≡ q = cc in rw (x, y)
+
+    go : (r s : Checked) → checkNumbers r ≡ gridAnswer cells edges counts → checkNumbers s ≡ gridAnswer cells edges counts → r ≡ s
+    go (Crossings n) (Crossings m) a b = let x : n ≡ m = cc in rw x
+    go (Crossings n) (Refused k p) a b = absurd (mixed n k p (eqb k 0) refl a b)
+    go (Refused k p) (Crossings n) a b = absurd (mixed n k p (eqb k 0) refl b a)
+    go (Refused k p) (Refused l q) a b = refusals k p l q (eqb k 0) (eqb l 0) a b
 
 pub crossing-numbers : CrossingNumbers
 unfolding start

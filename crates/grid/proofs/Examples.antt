@@ -1,15 +1,19 @@
--- Every example's answer is the definition's: one computed equation of lists.
+-- Every example's answer is the definition's, and so are the tables of two grids: computed equations of lists.
 use mathlib.Core.Path.{_≡_, refl}
 use Rattle.counting.specs.Search.{seek, first, last, some, every, count}
-use Rattle.counting.specs.Range.{total}
+use Rattle.counting.specs.Range.{total, over}
 use Rattle.counting.specs.Pack.{pre}
 use Rattle.counting.specs.Reach.{reach}
 use Rattle.slots.specs.Slots.{lo, hi, corner, contains}
-use Rattle.grid.specs.Grid.{faceNode, sameFace, hasFace, joins, isEdge, hasEdge, start}
+use Rattle.grid.specs.Grid.{faceNode, sameFace, hasFace, faceName, neighbour, joins, isEdge, hasEdge, outer, edgeNumber, start}
 use Rattle.grid.specs.Rows.{badLength, badPairs, badCell, sameCell, repeats, third, after, badEdge, unlisted, unused, linked, joined, split, tooMany, rows, orRefuse, answerOf, answerFrom, gridAnswer}
-use Rattle.grid.specs.Examples.{of, examples}
+use Rattle.grid.specs.Examples.{of, examples, found, expected}
 
 pub examples-hold : of (λ x. gridAnswer (x .cells) (x .edges) (x .counts)) examples ≡ of (λ x. x .answer) examples
 unfolding of examples seek first last some every count total pre reach lo hi corner contains faceNode sameFace hasFace joins isEdge hasEdge start
     badLength badPairs badCell sameCell repeats third after badEdge unlisted unused linked joined split tooMany rows orRefuse answerOf answerFrom gridAnswer
 examples-hold = refl
+
+pub tables-hold : found ≡ expected
+unfolding found expected seek first last some every count total over pre lo hi corner contains faceNode sameFace hasFace faceName neighbour joins isEdge outer edgeNumber start
+tables-hold = refl

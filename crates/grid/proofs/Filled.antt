@@ -18,15 +18,14 @@ use Rattle.counting.proofs.Search.{below-or, first-at, last-at, last-not}
 use Rattle.answer.specs.Answer.{refusal, result}
 use Rattle.grid.specs.Accepted.{Accepted}
 use Rattle.grid.specs.Check.{checkNumbers}
-use Rattle.grid.specs.Claims.{Refusal}
-use Rattle.grid.specs.Grid.{cellCount, crossings, edgeNumber, faceName, isEdge, neighbour, sameFace, start}
+use Rattle.grid.specs.Grid.{cellCount, edgeNumber, faceName, isEdge, neighbour, sameFace, start}
 use Rattle.grid.specs.Rows.{gridAnswer}
 use Rattle.grid.specs.Tables.{Opened, accepts, acrossAt, filled, nameAt, sideAt}
 use Rattle.grid.specs.Work.{Copying, Lowering, Near, Ordered, WhereAccepted, Worked, listedAt, lowerOf}
 use Rattle.grid.specs.declared.Checked.{Checked}
 use Rattle.grid.specs.declared.Checked.the-variants.{Crossings, Refused}
 use Rattle.grid.proofs.Accepts.{acceptance-yields, ordered}
-use Rattle.grid.proofs.Claims.{accepts-or-refuses, clear-where, refuses-fault}
+use Rattle.grid.proofs.Claims.{clear-where, never-empty}
 use Rattle.grid.proofs.Packed.{one-slot, true-same}
 
 pub filled-none : (f : ℕ → ℕ) (l : List ℕ) → l ≡ filled f 0 l
@@ -168,15 +167,8 @@ module _ (cells edges counts : List ℕ) where
   pub refused-keeps : (row place : ℕ) → checkNumbers (Refused row place) ≡ gridAnswer cells edges counts → accepts cells edges counts ≡ false
   refused-keeps row place e = go (eqb row 0) refl e
     where
-      never : [] ≡ gridAnswer cells edges counts → ⊥
-      never q =
-          ⊎-elim (λ (r : gridAnswer cells edges counts ≡ result (crossings counts ∷ [])). (let z : _≡_ {A = ℕ} 0 1 = cc in omega arith))
-          (λ (w : (n : ℕ) × (p : ℕ) × Refusal cells edges counts n p).
-          let r = refuses-fault cells edges counts (w .0) (w .1) (w .2) in let z : _≡_ {A = ℕ} 0 1 = cc in omega arith)
-          (accepts-or-refuses cells edges counts)
-
       go : (b : Bool) → eqb row 0 ≡ b → pick b [] (refusal row place) ≡ gridAnswer cells edges counts → accepts cells edges counts ≡ false
-      go true q f = absurd (never f)
+      go true q f = absurd (never-empty cells edges counts f)
       go false q f = rw (← f) q
 
   pub crossings-accept : (n : ℕ) → checkNumbers (Crossings n) ≡ gridAnswer cells edges counts → accepts cells edges counts ≡ true

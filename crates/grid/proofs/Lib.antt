@@ -10,4 +10,5 @@ pub mod Answers
 pub mod Claims
 pub mod Accepts
 pub mod Filled
+pub mod Names
 pub mod Examples

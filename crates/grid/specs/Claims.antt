@@ -8,6 +8,8 @@ use lib.ListN.{length}
 use Rattle.answer.specs.Answer.{result, refusal}
 use Rattle.grid.specs.Grid.{countOf, crossing, crossings}
 use Rattle.grid.specs.Rows.{Row, rowAt, gridAnswer}
+use Rattle.grid.specs.Check.{checkNumbers}
+use Rattle.grid.specs.declared.Checked.{Checked}
 use Rattle.grid.specs.Accepted.{Accepted}
 
 -- a row without a fault
@@ -40,6 +42,10 @@ FaultRefused = (cells edges counts : List ℕ) (n p : ℕ) → 1 ≤ n → gridA
 abbrev pub AcceptsOrRefuses : Type 0
 AcceptsOrRefuses =
     (cells edges counts : List ℕ) → (gridAnswer cells edges counts ≡ result (crossings counts ∷ [])) ⊎ ((n : ℕ) × (p : ℕ) × Refusal cells edges counts n p)
+
+-- the numbers tell the answer: no two values of the enum are read as the same answer
+abbrev pub AnswerTold : Type 0
+AnswerTold = (cells edges counts : List ℕ) (r s : Checked) → checkNumbers r ≡ gridAnswer cells edges counts → checkNumbers s ≡ gridAnswer cells edges counts → r ≡ s
 
 -- acceptance yields the record
 abbrev pub AcceptanceYields : Type 1

@@ -2,6 +2,10 @@
 use Prim.Native.Nat.{ℕ}
 use mathlib.Core.List.{List, [], _∷_}
 use Rattle.answer.specs.Answer.{result, refusal}
+use Rattle.counting.specs.Pick.{one}
+use Rattle.counting.specs.Range.{over}
+use Rattle.grid.specs.Grid.{outer, start}
+use Rattle.grid.specs.Tables.{nameAt, acrossAt, sideAt}
 
 pub record Example : Type 0 where
   pub cells : List ℕ
@@ -107,4 +111,34 @@ examples =
     (0 ∷ 1 ∷ 0 ∷ 2 ∷ 0 ∷ 3 ∷ 0 ∷ 4 ∷ 0 ∷ 5 ∷ 1 ∷ 2 ∷ 1 ∷ 3 ∷ 1 ∷ 4 ∷ 1 ∷ 5 ∷ 2 ∷ 3 ∷ 2 ∷ 4 ∷ 4 ∷ 5 ∷ 7 ∷ 8 ∷ [])
     (65536 ∷ 0 ∷ 0 ∷ 0 ∷ 0 ∷ 0 ∷ 0 ∷ 0 ∷ 0 ∷ 0 ∷ 0 ∷ 0 ∷ 0 ∷ []) (refusal 8 10)
     ∷ example apart apartEdges (65536 ∷ 0 ∷ 0 ∷ 0 ∷ 0 ∷ 0 ∷ 0 ∷ 0 ∷ 0 ∷ 0 ∷ 0 ∷ []) (refusal 9 0)
+    ∷ []
+
+-- the values of f below n
+abbrev values : ℕ → (ℕ → ℕ) → List ℕ
+values n f = over (λ i. f i ∷ []) n 0
+
+-- three cells round the edge 01, which is therefore not outer
+abbrev round : List ℕ
+round = 0 ∷ 1 ∷ 2 ∷ 3 ∷ 0 ∷ 1 ∷ 2 ∷ 4 ∷ 0 ∷ 1 ∷ 3 ∷ 4 ∷ []
+
+abbrev roundEdges : List ℕ
+roundEdges = 0 ∷ 1 ∷ 0 ∷ 2 ∷ 0 ∷ 3 ∷ 0 ∷ 4 ∷ 1 ∷ 2 ∷ 1 ∷ 3 ∷ 1 ∷ 4 ∷ 2 ∷ 3 ∷ 2 ∷ 4 ∷ 3 ∷ 4 ∷ []
+
+-- of the chain: names, what is across, edge numbers; of the three round an edge: outer edges; starts and the number of crossings
+unfoldable pub found : List (List ℕ)
+found =
+    values 12 (nameAt chain)
+    ∷ values 12 (acrossAt chain)
+    ∷ values 18 (sideAt chain chainEdges twelve)
+    ∷ values 10 (λ e. one (outer round roundEdges e))
+    ∷ values 7 (start (1 ∷ 2 ∷ 3 ∷ 4 ∷ 5 ∷ 6 ∷ []))
+    ∷ []
+
+unfoldable pub expected : List (List ℕ)
+expected =
+    (0 ∷ 1 ∷ 2 ∷ 3 ∷ 4 ∷ 5 ∷ 6 ∷ 2 ∷ 8 ∷ 9 ∷ 10 ∷ 6 ∷ [])
+    ∷ (0 ∷ 0 ∷ 8 ∷ 0 ∷ 0 ∷ 0 ∷ 12 ∷ 3 ∷ 0 ∷ 0 ∷ 0 ∷ 7 ∷ [])
+    ∷ (0 ∷ 1 ∷ 2 ∷ 5 ∷ 6 ∷ 9 ∷ 0 ∷ 2 ∷ 3 ∷ 6 ∷ 7 ∷ 10 ∷ 0 ∷ 3 ∷ 4 ∷ 7 ∷ 8 ∷ 11 ∷ [])
+    ∷ (0 ∷ 1 ∷ 1 ∷ 1 ∷ 1 ∷ 1 ∷ 1 ∷ 1 ∷ 1 ∷ 1 ∷ [])
+    ∷ (0 ∷ 1 ∷ 3 ∷ 6 ∷ 10 ∷ 15 ∷ 21 ∷ [])
     ∷ []

@@ -170,6 +170,12 @@ pub record Side (keys : List ℕ) (key j : ℕ) : Type 0 where
   pub is : getD keys (6 * (j / 4) + k) 0 ≡ key
   pub holds : contains k (j % 4) ≡ true
 
+-- what `other_side` starts from: slot s contains edge k
+pub record OnSlot (k s : ℕ) : Type 0 where
+  pub edge-lt : k < 6
+  pub slot-lt : s < 4
+  pub holds : contains k s ≡ true
+
 -- the edge with this key is one of cell c's, from its edge k on
 pub record Sought (keys : List ℕ) (key c k : ℕ) : Type 0 where
   pub w : ℕ
@@ -269,6 +275,17 @@ pub record Worked (cells edges counts near sides : List ℕ) : Type 0 where
 abbrev pub WhereAccepted : Checked → Type 0 → Type 0
 WhereAccepted (Crossings n) T = T
 WhereAccepted (Refused row place) T = Unit {0}
+
+-- what rows 9 and 10 start from
+pub record Lasting (cells edges counts near keys head next : List ℕ) : Type 0 where
+  pub linkable : Linkable cells edges near keys head next
+  pub pairs : length edges ≡ 2 * length counts
+
+-- what row 3 and those after it start from
+pub record Celling (cells edges counts near sides : List ℕ) : Type 0 where
+  pub few : cellCount cells ≤ mostCells
+  pub pairs : length edges ≡ 2 * length counts
+  pub blank : Blank near sides
 
 -- what row 6 and those after it start from
 pub record Edging (cells edges counts near sides : List ℕ) : Type 0 where

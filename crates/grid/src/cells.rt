@@ -6,14 +6,13 @@ ghost use Rattle.counting.specs.Search.{first};
 ghost use Rattle.grid.specs.Grid.{mostCells, cellCount, node, faceNode};
 ghost use Rattle.grid.specs.Rows.{badLength, badCell, repeats, third};
 ghost use Rattle.grid.specs.Work.{Table, cellKey, faceKey, Ordered, Pairable, Pairing, Near};
+use crate::MOST_CELLS;
 use crate::keys::BUCKETS;
 use crate::keys::chain;
 use crate::keys::earlier;
 use crate::keys::wide;
 
 const HIGHEST_NODE: usize = 4095;
-
-const MOST_CELLS: usize = 2048;
 
 pub(crate) fn row_1(cells: &[u16]) -> bool
     ensures { λ r. ⌜ r ≡ badLength (now (cells .entry)) ⌝ }

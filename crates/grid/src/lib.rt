@@ -1,12 +1,12 @@
 // The grid check: cells, edges and counts of a grid.
 ghost use mathlib.Core.Path.{_≡_};
-ghost use Prim.Native.Nat.{_*_, _<_, _≤_};
+ghost use Prim.Native.Nat.{_*_, _<_};
 ghost use lib.ListN.{length};
-ghost use Rattle.grid.specs.Grid.{mostCells, cellCount};
+ghost use Rattle.grid.specs.Grid.{cellCount};
 ghost use Rattle.grid.specs.Rows.{answerFrom, gridAnswer};
 ghost use Rattle.grid.specs.Check.{checkNumbers};
 ghost use Rattle.grid.specs.Tables.{Opened};
-ghost use Rattle.grid.specs.Work.{Table, listedAt, Edging, Linkable, capped, Blank, Worked, WhereAccepted};
+ghost use Rattle.grid.specs.Work.{Table, listedAt, Celling, Edging, Lasting, capped, Blank, Worked, WhereAccepted};
 use keys::BUCKETS;
 
 mod cells;
@@ -14,6 +14,13 @@ mod edges;
 mod keys;
 mod links;
 mod tables;
+
+// The most cells and crossings that a grid may have.
+pub const MOST_CELLS: usize = 2048;
+
+const MOST_CROSSINGS: u32 = 65535;
+
+const TOO_MANY: u32 = MOST_CROSSINGS + 1;
 
 // The number of crossings, or the number and the place of a refusal.
 pub enum Checked {
@@ -36,8 +43,8 @@ fn total(counts: &[u8]) -> u32
     let mut e = 0;
     while e < counts.len() {
         s += size(counts[e]);
-        if 65535 < s {
-            return 65536;
+        if MOST_CROSSINGS < s {
+            return TOO_MANY;
         }
         e += 1;
     }
@@ -54,8 +61,7 @@ fn last_rows(
     head: &[u16],
     next: &[u16],
 ) -> Checked
-    requires { ⌜ Linkable (now cells) (now edges) (now near) (now keys) (now head) (now next) ⌝ }
-    requires { ⌜ length (now edges) ≡ 2 * length (now counts) ⌝ }
+    requires { ⌜ Lasting (now cells) (now edges) (now counts) (now near) (now keys) (now head) (now next) ⌝ }
     ensures { λ r. ⌜ checkNumbers r ≡ answerFrom 9 (now (cells .entry)) (now (edges .entry)) (now (counts .entry)) ⌝ }
 {
     let p9 = links::row_9(cells, edges, near, keys, head, next);
@@ -63,7 +69,7 @@ fn last_rows(
         return Checked::Refused(9, p9);
     }
     let s = total(counts);
-    if 65535 < s {
+    if MOST_CROSSINGS < s {
         return Checked::Refused(10, 0);
     }
     Checked::Crossings(s)
@@ -82,9 +88,9 @@ fn side_rows(
     ensures { λ r. ⌜ WhereAccepted r (Table (listedAt (now (cells .entry)) (now (edges .entry)) (length (now (counts .entry)))) (6 * cellCount (now (cells .entry))) (now (sides .exit))) ⌝ }
 {
     let n = cells.len() / 4;
-    let mut keys = [0usize; 12288];
+    let mut keys = [0usize; 6 * MOST_CELLS];
     let mut head = [0u16; BUCKETS];
-    let mut next = [0u16; 12288];
+    let mut next = [0u16; 6 * MOST_CELLS];
     edges::side_keys(cells, &mut keys);
     keys::chain(&keys, 6 * n, &mut head, &mut next);
     let p8 = edges::row_8(cells, edges, &keys, &head, &next, sides);
@@ -125,9 +131,7 @@ fn cell_rows(
     near: &mut [u16],
     sides: &mut [usize],
 ) -> Checked
-    requires { ⌜ Blank (now near) (now sides) ⌝ }
-    requires { ⌜ cellCount (now cells) ≤ mostCells ⌝ }
-    requires { ⌜ length (now edges) ≡ 2 * length (now counts) ⌝ }
+    requires { ⌜ Celling (now cells) (now edges) (now counts) (now near) (now sides) ⌝ }
     ensures { λ r. ⌜ checkNumbers r ≡ answerFrom 3 (now (cells .entry)) (now (edges .entry)) (now (counts .entry)) ⌝ }
     ensures { λ r. ⌜ WhereAccepted r (Worked (now (cells .entry)) (now (edges .entry)) (now (counts .entry)) (now (near .exit)) (now (sides .exit))) ⌝ }
 {
@@ -168,12 +172,12 @@ fn all_rows(
     cell_rows(cells, edges, counts, near, sides)
 }
 
-// The grid check.
+// The grid check. Keeps 264 KB on the stack, with what its functions keep.
 pub fn check(cells: &[u16], edges: &[u16], counts: &[u8]) -> Checked
     ensures { λ r. ⌜ checkNumbers r ≡ gridAnswer (now (cells .entry)) (now (edges .entry)) (now (counts .entry)) ⌝ }
 {
-    let mut near = [0u16; 8192];
-    let mut sides = [0usize; 12288];
+    let mut near = [0u16; 4 * MOST_CELLS];
+    let mut sides = [0usize; 6 * MOST_CELLS];
     all_rows(cells, edges, counts, &mut near, &mut sides)
 }
 
@@ -183,17 +187,17 @@ pub fn open(
     cells: &[u16],
     edges: &[u16],
     counts: &[u8],
-    names: &mut [u16; 8192],
-    near: &mut [u16; 8192],
-    sides: &mut [u16; 12288],
-    starts: &mut [u32; 12288],
+    names: &mut [u16; 4 * MOST_CELLS],
+    near: &mut [u16; 4 * MOST_CELLS],
+    sides: &mut [u16; 6 * MOST_CELLS],
+    starts: &mut [u32; 6 * MOST_CELLS],
 ) -> Checked
     ensures { λ r. ⌜ checkNumbers r ≡ gridAnswer (now (cells .entry)) (now (edges .entry)) (now (counts .entry)) ⌝ }
     ensures { λ _. ⌜ Opened (now (cells .entry)) (now (edges .entry)) (now (counts .entry)) (now (names .entry)) (now (near .entry)) (now (sides .entry)) (now (starts .entry)) (now (names .exit)) (now (near .exit)) (now (sides .exit)) (now (starts .exit)) ⌝ }
 {
     let n = cells.len() / 4;
-    let mut across = [0u16; 8192];
-    let mut listed = [0usize; 12288];
+    let mut across = [0u16; 4 * MOST_CELLS];
+    let mut listed = [0usize; 6 * MOST_CELLS];
     let r = all_rows(cells, edges, counts, &mut across, &mut listed);
     if let Checked::Refused(_, _) = r {
         return r;

@@ -1,12 +1,11 @@
 // Row 9: the cells of each edge, linked through faces that contain it.
 ghost use mathlib.Core.Path.{_≡_};
-ghost use mathlib.Core.Bool.{true};
 ghost use Prim.Native.Nat.{_+_, _-_, _*_, _/_, _<_};
 ghost use lib.ListN.{length, getD};
 ghost use Rattle.counting.specs.Search.{first, some};
-ghost use Rattle.slots.specs.Slots.{contains};
 ghost use Rattle.grid.specs.Rows.{split};
-ghost use Rattle.grid.specs.Work.{Sought, other, Spreading, Spread, missing, Leaving, Filled, Splitting, Linkable};
+ghost use Rattle.grid.specs.Work.{OnSlot, Sought, other, Spreading, Spread, missing, Leaving, Filled, Splitting, Linkable};
+use crate::MOST_CELLS;
 use crate::edges::HI;
 use crate::edges::LO;
 use crate::edges::edge_key;
@@ -33,9 +32,7 @@ fn place(keys: &[usize], c: usize, key: usize) -> usize
 
 // The other slot that contains edge k.
 fn other_side(k: usize, s: usize) -> usize
-    requires { ⌜ k < 6 ⌝ }
-    requires { ⌜ s < 4 ⌝ }
-    requires { ⌜ contains k s ≡ true ⌝ }
+    requires { ⌜ OnSlot k s ⌝ }
     ensures { λ r. ⌜ r ≡ other k s ⌝ }
     ensures { λ r. ⌜ r < 4 ⌝ }
 {
@@ -95,6 +92,9 @@ fn left_out(
     false
 }
 
+// The number of no slot.
+const NO_SLOT: usize = 4 * MOST_CELLS;
+
 // A slot that contains each edge.
 const SLOT: [usize; 6] = [2, 1, 1, 0, 0, 0];
 
@@ -121,7 +121,7 @@ fn split_at(
     let a = 4 * c + s;
     let b = 4 * c + other_side(k, s);
     spread(keys, near, n, key, mark, a, b, marks);
-    spread(keys, near, n, key, mark, b, 8192, marks);
+    spread(keys, near, n, key, mark, b, NO_SLOT, marks);
     left_out(keys, next, n, key, mark, top, marks)
 }
 
@@ -139,7 +139,7 @@ pub(crate) fn row_9(
 {
     let n = cells.len() / 4;
     let m = edges.len() / 2;
-    let mut marks = [0usize; 2048];
+    let mut marks = [0usize; MOST_CELLS];
     let mut e = 0;
     while e < m {
         let key = edge_key(edges, e);

@@ -1,3 +1,4 @@
+-- `grid::all_rows` meets its contract.
 use mathlib.Core.Path.{_∙_, sym}
 use native.Mathlib.Omega.{arith}
 use borrow.Author.Needs.{needs}
@@ -18,29 +19,44 @@ row-2-requires c κs = search needs
 
 returns-2 : tie.Need-returns-2
 unfolding rowAt rows gridAnswer
-returns-2 c = (
-  answer-refuses _ _ _ 1 (omega arith) 0 (whole-fault _ (sym (c .before .row-2 .ensures) ∙ c .if2 .taken)) (omega arith)
-      ∙ answer-passes _ _ _ 0 (omega arith) 1 (whole-fine _ (sym (c .before .before .before .row-1 .ensures) ∙ c .before .before .if1 .left)) (omega arith),
-  tt,
-)
+returns-2 c =
+    let c-row-1 = c .before .before .before .row-1 in (
+      answer-refuses _ _ _ 1 (omega arith) 0 (whole-fault _ (sym (c .before .row-2 .ensures) ∙ c .if2 .taken)) (omega arith)
+          ∙ answer-passes _ _ _ 0 (omega arith) 1 (whole-fine _ (sym (c-row-1 .ensures) ∙ c .before .before .if1 .left)) (omega arith),
+      tt,
+    )
 
 cell-rows-requires : tie.Need-cell-rows-requires
-cell-rows-requires c κs = (c .before .before .before .before .before .before .before .before .before .before .before .pre, (length-fine _ (sym (c .before .before .before .before .before .row-1 .ensures) ∙ c .before .before .before .before .if1 .left) .2, pairs-fine _ _ (sym (c .before .before .before .row-2 .ensures) ∙ c .before .before .if2 .left)))
+cell-rows-requires c κs =
+    let c-pre = c .before .before .before .before .before .before .before .before .before .before .before .pre in
+    let c-row-1 = c .before .before .before .before .before .row-1 in
+    let c-if1 = c .before .before .before .before .if1 in
+    let c-row-2 = c .before .before .before .row-2 in
+    record { few = length-fine _ (sym (c-row-1 .ensures) ∙ c-if1 .left) .2; pairs = pairs-fine _ _ (sym (c-row-2 .ensures) ∙ c .before .before .if2 .left); blank = c-pre }
 
 same-length : tie.Need-same-length
-same-length c = c .before .before .before .before .cell-rows .kept .1 .1 .1 .0
+same-length c =
+    let c-cell-rows = c .before .before .before .before .cell-rows in
+    c-cell-rows .kept .1 .1 .1 .0
 
 same-length-2 : tie.Need-same-length-2
-same-length-2 c = c .before .before .before .before .cell-rows .kept .1 .1 .1 .1 .0
+same-length-2 c =
+    let c-cell-rows = c .before .before .before .before .cell-rows in
+    c-cell-rows .kept .1 .1 .1 .1 .0
 
 returns-3 : tie.Need-returns-3
 unfolding rowAt rows gridAnswer
-returns-3 c = (
-  c .before .before .before .before .cell-rows .ensures .0
-      ∙ answer-passes _ _ _ 1 (omega arith) 1 (whole-fine _ (sym (c .before .before .before .before .before .before .before .before .row-2 .ensures) ∙ c .before .before .before .before .before .before .before .if2 .left)) (omega arith)
-      ∙ answer-passes _ _ _ 0 (omega arith) 1 (whole-fine _ (sym (c .before .before .before .before .before .before .before .before .before .before .row-1 .ensures) ∙ c .before .before .before .before .before .before .before .before .before .if1 .left)) (omega arith),
-  c .before .before .before .before .cell-rows .ensures .1,
-)
+returns-3 c =
+    let c-row-1 = c .before .before .before .before .before .before .before .before .before .before .row-1 in
+    let c-if1 = c .before .before .before .before .before .before .before .before .before .if1 in
+    let c-row-2 = c .before .before .before .before .before .before .before .before .row-2 in
+    let c-if2 = c .before .before .before .before .before .before .before .if2 in
+    let c-cell-rows = c .before .before .before .before .cell-rows in (
+      c-cell-rows .ensures .0
+          ∙ answer-passes _ _ _ 1 (omega arith) 1 (whole-fine _ (sym (c-row-2 .ensures) ∙ c-if2 .left)) (omega arith)
+          ∙ answer-passes _ _ _ 0 (omega arith) 1 (whole-fine _ (sym (c-row-1 .ensures) ∙ c-if1 .left)) (omega arith),
+      c-cell-rows .ensures .1,
+    )
 
 pub all-rows-spec : {M : Type 1} → statement M
 all-rows-spec =

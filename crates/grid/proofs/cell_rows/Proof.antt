@@ -1,7 +1,9 @@
+-- `grid::cell_rows` meets its contract.
 use mathlib.Core.Path.{_∙_}
 use native.Mathlib.Omega.{arith}
 use borrow.Author.Needs.{needs}
 use Rattle.grid.specs.Rows.{rowAt, rows}
+use Rattle.grid.proofs.Accepts.{ordered}
 use Rattle.grid.proofs.Answers.{answer-passes, answer-refuses, worked}
 use Rattle.grid.proofs.Packed.{ordered-cells}
 use Rattle.grid.proofs.cell_rows.Statement.{statement}
@@ -15,55 +17,84 @@ unfolding rowAt rows
 returns c = (answer-refuses _ _ _ 2 (omega arith) _ (c .before .row-3 .ensures) (c .if1 .taken), tt)
 
 row-4-requires : tie.Need-row-4-requires
-row-4-requires c κs = c .before .before .before .before .before .before .before .pre .1 .0
+row-4-requires c κs =
+    let c-pre = c .before .before .before .before .before .before .before .pre in
+    c-pre .few
 
 returns-2 : tie.Need-returns-2
 unfolding rowAt rows
-returns-2 c = (
-  answer-refuses _ _ _ 3 (omega arith) _ (c .before .row-4 .ensures) (c .if2 .taken)
-      ∙ answer-passes _ _ _ 2 (omega arith) _ (c .before .before .before .row-3 .ensures) (c .before .before .if1 .left),
-  tt,
-)
+returns-2 c =
+    let c-row-3 = c .before .before .before .row-3 in (
+      answer-refuses _ _ _ 3 (omega arith) _ (c .before .row-4 .ensures) (c .if2 .taken)
+          ∙ answer-passes _ _ _ 2 (omega arith) _ (c-row-3 .ensures) (c .before .before .if1 .left),
+      tt,
+    )
 
 row-5-requires : tie.Need-row-5-requires
-row-5-requires c κs = (ordered-cells _ (λ i. omega (arith, c .before .before .before .before .before .before .before .before .before .shared-slice-known .given i)) (c .before .before .before .before .before .before .before .before .before .before .pre .1 .0) (rw (c .before .before .before .before .row-3 .ensures) at (c .before .before .before .if1 .left)), c .before .before .before .before .before .before .before .before .before .before .pre .0 .near-is)
+row-5-requires c κs =
+    let c-pre = c .before .before .before .before .before .before .before .before .before .before .pre in
+    let c-shared-slice-known = c .before .before .before .before .before .before .before .before .before .shared-slice-known in
+    let c-row-3 = c .before .before .before .before .row-3 in
+    let c-if1 = c .before .before .before .if1 in
+    (ordered-cells _ (λ i. omega (arith, c-shared-slice-known .given i)) (c-pre .few) (rw (c-row-3 .ensures) at (c-if1 .left)), c-pre .blank .near-is)
 
 same-length : tie.Need-same-length
-same-length c = c .before .before .before .row-5 .kept .1 .0
+same-length c =
+    let c-row-5 = c .before .before .before .row-5 in
+    c-row-5 .kept .1 .0
 
 returns-3 : tie.Need-returns-3
 unfolding rowAt rows
-returns-3 c = (
-  answer-refuses _ _ _ 4 (omega arith) _ (c .before .before .before .row-5 .ensures .0) (c .if3 .taken)
-      ∙ answer-passes _ _ _ 3 (omega arith) _ (c .before .before .before .before .before .before .row-4 .ensures) (c .before .before .before .before .before .if2 .left)
-      ∙ answer-passes _ _ _ 2 (omega arith) _ (c .before .before .before .before .before .before .before .before .row-3 .ensures) (c .before .before .before .before .before .before .before .if1 .left),
-  tt,
-)
+returns-3 c =
+    let c-row-3 = c .before .before .before .before .before .before .before .before .row-3 in
+    let c-if1 = c .before .before .before .before .before .before .before .if1 in
+    let c-row-4 = c .before .before .before .before .before .before .row-4 in
+    let c-if2 = c .before .before .before .before .before .if2 in
+    let c-row-5 = c .before .before .before .row-5 in (
+      answer-refuses _ _ _ 4 (omega arith) _ (c-row-5 .ensures .0) (c .if3 .taken)
+          ∙ answer-passes _ _ _ 3 (omega arith) _ (c-row-4 .ensures) (c-if2 .left)
+          ∙ answer-passes _ _ _ 2 (omega arith) _ (c-row-3 .ensures) (c-if1 .left),
+      tt,
+    )
 
 edge-rows-requires : tie.Need-edge-rows-requires
 edge-rows-requires c κs =
+    let c-pre = c .before .before .before .before .before .before .before .before .before .before .before .before .before .before .before .before .pre in
+    let c-shared-slice-known = c .before .before .before .before .before .before .before .before .before .before .before .before .before .before .before .shared-slice-known in
+    let c-row-3 = c .before .before .before .before .before .before .before .before .before .before .row-3 in
+    let c-if1 = c .before .before .before .before .before .before .before .before .before .if1 in
+    let c-row-5 = c .before .before .before .before .before .row-5 in
     record {
-      ordered = ordered-cells _ (λ i. omega (arith, c .before .before .before .before .before .before .before .before .before .before .before .before .before .before .before .shared-slice-known .given i)) (c .before .before .before .before .before .before .before .before .before .before .before .before .before .before .before .before .pre .1 .0) (rw (c .before .before .before .before .before .before .before .before .before .before .row-3 .ensures) at (c .before .before .before .before .before .before .before .before .before .if1 .left));
-      pairs = c .before .before .before .before .before .before .before .before .before .before .before .before .before .before .before .before .pre .1 .1;
-      near-is = c .before .before .before .before .before .row-5 .ensures .1 (c .before .before .if3 .left);
-      sides-is = c .before .before .before .before .before .before .before .before .before .before .before .before .before .before .before .before .pre .0 .sides-is;
+      ordered = ordered-cells _ (λ i. omega (arith, c-shared-slice-known .given i)) (c-pre .few) (rw (c-row-3 .ensures) at (c-if1 .left));
+      pairs = c-pre .pairs;
+      near-is = c-row-5 .ensures .1 (c .before .before .if3 .left);
+      sides-is = c-pre .blank .sides-is;
     }
 
 same-length-2 : tie.Need-same-length-2
-same-length-2 c = c .before .before .before .before .before .before .before .before .row-5 .kept .1 .0
+same-length-2 c =
+    let c-row-5 = c .before .before .before .before .before .before .before .before .row-5 in
+    c-row-5 .kept .1 .0
 
 same-length-3 : tie.Need-same-length-3
 same-length-3 c = c .before .before .edge-rows .kept .1 .1 .1 .1 .0
 
 returns-4 : tie.Need-returns-4
 unfolding rowAt rows
-returns-4 c = (
-  c .before .before .edge-rows .ensures .0
-      ∙ answer-passes _ _ _ 4 (omega arith) _ (c .before .before .before .before .before .before .before .before .row-5 .ensures .0) (c .before .before .before .before .before .if3 .left)
-      ∙ answer-passes _ _ _ 3 (omega arith) _ (c .before .before .before .before .before .before .before .before .before .before .before .row-4 .ensures) (c .before .before .before .before .before .before .before .before .before .before .if2 .left)
-      ∙ answer-passes _ _ _ 2 (omega arith) _ (c .before .before .before .before .before .before .before .before .before .before .before .before .before .row-3 .ensures) (c .before .before .before .before .before .before .before .before .before .before .before .before .if1 .left),
-  worked _ _ _ _ _ (c .before .before .edge-rows .result) (c .before .before .before .before .before .before .before .before .row-5 .ensures .1 (c .before .before .before .before .before .if3 .left)) (c .before .before .edge-rows .ensures .1),
-)
+returns-4 c =
+    let c-row-3 = c .before .before .before .before .before .before .before .before .before .before .before .before .before .row-3 in
+    let c-if1 = c .before .before .before .before .before .before .before .before .before .before .before .before .if1 in
+    let c-row-4 = c .before .before .before .before .before .before .before .before .before .before .before .row-4 in
+    let c-if2 = c .before .before .before .before .before .before .before .before .before .before .if2 in
+    let c-row-5 = c .before .before .before .before .before .before .before .before .row-5 in
+    let c-if3 = c .before .before .before .before .before .if3 in
+    let c-edge-rows = c .before .before .edge-rows in (
+      c-edge-rows .ensures .0
+          ∙ answer-passes _ _ _ 4 (omega arith) _ (c-row-5 .ensures .0) (c-if3 .left)
+          ∙ answer-passes _ _ _ 3 (omega arith) _ (c-row-4 .ensures) (c-if2 .left)
+          ∙ answer-passes _ _ _ 2 (omega arith) _ (c-row-3 .ensures) (c-if1 .left),
+      worked _ _ _ _ _ (c-edge-rows .result) (c-row-5 .ensures .1 (c-if3 .left)) (c-edge-rows .ensures .1),
+    )
 
 pub cell-rows-spec : {M : Type 1} → statement M
 cell-rows-spec =

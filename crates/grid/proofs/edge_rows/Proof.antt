@@ -1,3 +1,4 @@
+-- `grid::edge_rows` meets its contract.
 use mathlib.Core.Path.{_∙_}
 use native.Mathlib.Omega.{arith}
 use Rattle.grid.specs.Rows.{rowAt, rows}
@@ -6,21 +7,29 @@ use Rattle.grid.proofs.edge_rows.Statement.{statement}
 use Rattle.grid.proofs.edge_rows.Tie as tie
 
 row-6-requires : tie.Need-row-6-requires
-row-6-requires c κs = c .before .before .before .before .before .pre .pairs
+row-6-requires c κs =
+    let c-pre = c .before .before .before .before .before .pre in
+    c-pre .pairs
 
 returns : tie.Need-returns
 unfolding rowAt rows
 returns c = (answer-refuses _ _ _ 5 (omega arith) _ (c .before .row-6 .ensures) (c .if1 .taken), tt)
 
 side-rows-requires : tie.Need-side-rows-requires
-side-rows-requires c κs = c .before .before .before .before .before .before .before .before .pre
+side-rows-requires c κs =
+    let c-pre = c .before .before .before .before .before .before .before .before .pre in
+    c-pre
 
 same-length : tie.Need-same-length
 same-length c = c .before .before .side-rows .kept .1 .1 .1 .1 .0
 
 returns-2 : tie.Need-returns-2
 unfolding rowAt rows
-returns-2 c = (c .before .before .side-rows .ensures .0 ∙ answer-passes _ _ _ 5 (omega arith) _ (c .before .before .before .before .before .row-6 .ensures) (c .before .before .before .before .if1 .left), c .before .before .side-rows .ensures .1)
+returns-2 c =
+    let c-row-6 = c .before .before .before .before .before .row-6 in
+    let c-if1 = c .before .before .before .before .if1 in
+    let c-side-rows = c .before .before .side-rows in
+    (c-side-rows .ensures .0 ∙ answer-passes _ _ _ 5 (omega arith) _ (c-row-6 .ensures) (c-if1 .left), c-side-rows .ensures .1)
 
 pub edge-rows-spec : {M : Type 1} → statement M
 edge-rows-spec =

@@ -1,7 +1,9 @@
+-- `grid::open` meets its contract.
 use mathlib.Core.Path.{_∙_, ap, refl, sym}
 use native.Mathlib.Omega.{arith}
 use borrow.Author.Needs.{needs}
 use Rattle.grid.specs.Check.{checkNumbers}
+use Rattle.grid.specs.Work.{Worked}
 use Rattle.grid.proofs.Filled.{copying, lowering, opened-filled, opened-kept, refused-keeps, told-accepted, told-accepts, told-ordered, told-where}
 use Rattle.grid.proofs.open.Statement.{statement}
 use Rattle.grid.proofs.open.Tie as tie
@@ -20,9 +22,11 @@ enum-told c = search needs
 
 returns : tie.Need-returns
 returns c =
-    let a = c .before .before .before .before .before .before .before .before .before .before .args in
+    let c-args = c .before .before .before .before .before .before .before .before .before .before .args in
+    let c-all-rows = c .before .before .before .before .all-rows in
+    let a = c-args in
     let w = c .enum-told .given in
-    let h = c .before .before .before .before .all-rows .ensures .0 in
+    let h = c-all-rows .ensures .0 in
     (h, opened-kept (a .cells .now) (a .edges .now) (a .counts .now) (refused-keeps _ _ _ (w .0 .0) (w .0 .1 .0) (ap checkNumbers (sym (w .1)) ∙ h)) _ _ _ _)
 
 enum-told-2 : tie.Need-enum-told-2
@@ -36,11 +40,14 @@ slice-aggregate-write-names c = search needs
 
 write-names-requires : tie.Need-write-names-requires
 write-names-requires c κs =
-    let a = c .before .before .before .before .before .before .before .before .before .before .before .before .args in
+    let c-args = c .before .before .before .before .before .before .before .before .before .before .before .before .args in
+    let c-good = c .before .before .before .before .before .before .before .before .before .before .before .before .good in
+    let c-all-rows = c .before .before .before .before .before .before .all-rows in
+    let a = c-args in
     let w = c .before .before .enum-told2 .given in
-    let A = told-accepted (a .cells .now) (a .edges .now) (a .counts .now) (c .before .before .before .before .before .before .all-rows .result) _ (w .1) (c .before .before .before .before .before .before .all-rows .ensures .0) in
-    let W = told-where (c .before .before .before .before .before .before .all-rows .result) _ (w .1) (c .before .before .before .before .before .before .all-rows .ensures .1) in
-    copying (a .cells .now) (a .edges .now) (a .counts .now) _ _ A W _ (omega (arith, A .few-cells, c .before .before .before .before .before .before .before .before .before .before .before .before .good))
+    let A = told-accepted (a .cells .now) (a .edges .now) (a .counts .now) (c-all-rows .result) _ (w .1) (c-all-rows .ensures .0) in
+    let W = told-where {T = Worked (a .cells .now) (a .edges .now) (a .counts .now) (c-all-rows .last .1 .1 .1 .0) (c-all-rows .last .1 .1 .1 .1 .0)} (c-all-rows .result) _ (w .1) (c-all-rows .ensures .1) in
+    copying (a .cells .now) (a .edges .now) (a .counts .now) _ _ A W _ (omega (arith, A .few-cells, c-good))
 
 mul-write-near : tie.Need-mul-write-near
 mul-write-near c = search needs
@@ -50,11 +57,15 @@ slice-aggregate-write-near c = search needs
 
 write-near-requires : tie.Need-write-near-requires
 write-near-requires c κs =
-    let a = c .before .before .before .before .before .before .before .before .before .before .before .before .before .before .before .args in
-    let w = c .before .before .before .before .before .enum-told2 .given in
-    let A = told-accepted (a .cells .now) (a .edges .now) (a .counts .now) (c .before .before .before .before .before .before .before .before .before .all-rows .result) _ (w .1) (c .before .before .before .before .before .before .before .before .before .all-rows .ensures .0) in
-    let W = told-where (c .before .before .before .before .before .before .before .before .before .all-rows .result) _ (w .1) (c .before .before .before .before .before .before .before .before .before .all-rows .ensures .1) in
-    copying (a .cells .now) (a .edges .now) (a .counts .now) _ _ A W _ (omega (arith, A .few-cells, c .before .before .before .before .before .before .before .before .before .before .before .before .before .before .before .good))
+    let c-args = c .before .before .before .before .before .before .before .before .before .before .before .before .before .before .before .args in
+    let c-good = c .before .before .before .before .before .before .before .before .before .before .before .before .before .before .before .good in
+    let c-all-rows = c .before .before .before .before .before .before .before .before .before .all-rows in
+    let c-enum-told2 = c .before .before .before .before .before .enum-told2 in
+    let a = c-args in
+    let w = c-enum-told2 .given in
+    let A = told-accepted (a .cells .now) (a .edges .now) (a .counts .now) (c-all-rows .result) _ (w .1) (c-all-rows .ensures .0) in
+    let W = told-where {T = Worked (a .cells .now) (a .edges .now) (a .counts .now) (c-all-rows .last .1 .1 .1 .0) (c-all-rows .last .1 .1 .1 .1 .0)} (c-all-rows .result) _ (w .1) (c-all-rows .ensures .1) in
+    copying (a .cells .now) (a .edges .now) (a .counts .now) _ _ A W _ (omega (arith, A .few-cells, c-good))
 
 mul-write-sides : tie.Need-mul-write-sides
 mul-write-sides c = search needs
@@ -64,30 +75,43 @@ slice-aggregate-write-sides c = search needs
 
 write-sides-requires : tie.Need-write-sides-requires
 write-sides-requires c κs =
-    let a = c .before .before .before .before .before .before .before .before .before .before .before .before .before .before .before .before .before .before .args in
-    let w = c .before .before .before .before .before .before .before .before .enum-told2 .given in
-    let A = told-accepted (a .cells .now) (a .edges .now) (a .counts .now) (c .before .before .before .before .before .before .before .before .before .before .before .before .all-rows .result) _ (w .1) (c .before .before .before .before .before .before .before .before .before .before .before .before .all-rows .ensures .0) in
-    let W = told-where (c .before .before .before .before .before .before .before .before .before .before .before .before .all-rows .result) _ (w .1) (c .before .before .before .before .before .before .before .before .before .before .before .before .all-rows .ensures .1) in
-    lowering (a .cells .now) (a .edges .now) (a .counts .now) _ _ A W _ (omega (arith, A .few-cells, c .before .before .before .before .before .before .before .before .before .before .before .before .before .before .before .before .before .before .good))
+    let c-args = c .before .before .before .before .before .before .before .before .before .before .before .before .before .before .before .before .before .before .args in
+    let c-good = c .before .before .before .before .before .before .before .before .before .before .before .before .before .before .before .before .before .before .good in
+    let c-all-rows = c .before .before .before .before .before .before .before .before .before .before .before .before .all-rows in
+    let c-enum-told2 = c .before .before .before .before .before .before .before .before .enum-told2 in
+    let a = c-args in
+    let w = c-enum-told2 .given in
+    let A = told-accepted (a .cells .now) (a .edges .now) (a .counts .now) (c-all-rows .result) _ (w .1) (c-all-rows .ensures .0) in
+    let W = told-where {T = Worked (a .cells .now) (a .edges .now) (a .counts .now) (c-all-rows .last .1 .1 .1 .0) (c-all-rows .last .1 .1 .1 .1 .0)} (c-all-rows .result) _ (w .1) (c-all-rows .ensures .1) in
+    lowering (a .cells .now) (a .edges .now) (a .counts .now) _ _ A W _ (omega (arith, A .few-cells, c-good))
 
 write-starts-requires : tie.Need-write-starts-requires
 write-starts-requires c κs =
-    let a = c .before .before .before .before .before .before .before .before .before .before .before .before .before .before .before .before .before .before .before .before .args in
-    let w = c .before .before .before .before .before .before .before .before .before .before .enum-told2 .given in
-    let A = told-accepted (a .cells .now) (a .edges .now) (a .counts .now) (c .before .before .before .before .before .before .before .before .before .before .before .before .before .before .all-rows .result) _ (w .1) (c .before .before .before .before .before .before .before .before .before .before .before .before .before .before .all-rows .ensures .0) in
-    (omega (arith, A .few-cells, A .few-edges, c .before .before .before .before .before .before .before .before .before .before .before .before .before .before .before .before .before .before .before .before .good), A .few-crossings)
+    let c-args = c .before .before .before .before .before .before .before .before .before .before .before .before .before .before .before .before .before .before .before .before .args in
+    let c-good = c .before .before .before .before .before .before .before .before .before .before .before .before .before .before .before .before .before .before .before .before .good in
+    let c-all-rows = c .before .before .before .before .before .before .before .before .before .before .before .before .before .before .all-rows in
+    let c-enum-told2 = c .before .before .before .before .before .before .before .before .before .before .enum-told2 in
+    let a = c-args in
+    let w = c-enum-told2 .given in
+    let A = told-accepted (a .cells .now) (a .edges .now) (a .counts .now) (c-all-rows .result) _ (w .1) (c-all-rows .ensures .0) in
+    (omega (arith, A .few-cells, A .few-edges, c-good), A .few-crossings)
 
 returns-2 : tie.Need-returns-2
 returns-2 c =
-    let a = c .before .before .before .before .before .before .before .before .before .before .before .before .before .before .before .before .before .before .before .before .before .args in
-    let w = c .before .before .before .before .before .before .before .before .before .before .before .enum-told2 .given in
-    let h = c .before .before .before .before .before .before .before .before .before .before .before .before .before .before .before .all-rows .ensures .0 in
-    let r = c .before .before .before .before .before .before .before .before .before .before .before .before .before .before .before .all-rows .result in
+    let c-args = c .before .before .before .before .before .before .before .before .before .before .before .before .before .before .before .before .before .before .before .before .before .args in
+    let c-all-rows = c .before .before .before .before .before .before .before .before .before .before .before .before .before .before .before .all-rows in
+    let c-enum-told2 = c .before .before .before .before .before .before .before .before .before .before .before .enum-told2 in
+    let c-write-names = c .before .before .before .before .before .before .before .before .write-names in
+    let c-write-near = c .before .before .before .before .before .write-near in
+    let a = c-args in
+    let w = c-enum-told2 .given in
+    let h = c-all-rows .ensures .0 in
+    let r = c-all-rows .result in
     let A = told-accepted (a .cells .now) (a .edges .now) (a .counts .now) r _ (w .1) h in
-    let W = told-where r _ (w .1) (c .before .before .before .before .before .before .before .before .before .before .before .before .before .before .before .all-rows .ensures .1) in (
+    let W = told-where {T = Worked (a .cells .now) (a .edges .now) (a .counts .now) (c-all-rows .last .1 .1 .1 .0) (c-all-rows .last .1 .1 .1 .1 .0)} r _ (w .1) (c-all-rows .ensures .1) in (
       h,
       opened-filled (a .cells .now) (a .edges .now) (a .counts .now) _ _ A W (told-accepts _ _ _ r _ (w .1) h) (told-ordered _ (a .edges .now) (a .counts .now) r _ (w .1) h) _ _ _ _ _ _ _ _
-          (c .before .before .before .before .before .before .before .before .write-names .ensures) (c .before .before .before .before .before .write-near .ensures) (c .before .before .write-sides .ensures) (c .write-starts .ensures),
+          (c-write-names .ensures) (c-write-near .ensures) (c .before .before .write-sides .ensures) (c .write-starts .ensures),
     )
 
 pub open-spec : {M : Type 1} → statement M

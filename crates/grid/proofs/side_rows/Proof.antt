@@ -1,10 +1,14 @@
-use Prim.Native.Nat.{_/_}
+-- `grid::side_rows` meets its contract.
+use Prim.Native.Nat.{_*_, _/_}
 use mathlib.Core.Path.{_∙_, _≡_, refl, sym}
 use native.Mathlib.Omega.{arith}
 use lib.ListN.{length}
 use borrow.Author.Needs.{needs}
 use Rattle.counting.proofs.Search.{first-none}
-use Rattle.grid.specs.Rows.{rowAt, rows}
+use Rattle.grid.specs.Grid.{cellCount}
+use Rattle.grid.specs.Rows.{rowAt, rows, unused}
+use Rattle.grid.specs.Work.{Table, listedAt}
+use Rattle.grid.proofs.Accepts.{ordered}
 use Rattle.grid.proofs.Answers.{answer-passes, answer-refuses, where-accepted}
 use Rattle.grid.proofs.Sides.{unlisted-blank}
 use Rattle.grid.proofs.side_rows.Statement.{statement}
@@ -14,7 +18,9 @@ slice-aggregate-side-keys : tie.Need-slice-aggregate-side-keys
 slice-aggregate-side-keys c = search needs
 
 side-keys-requires : tie.Need-side-keys-requires
-side-keys-requires c κs = omega (arith, c .before .before .before .before .before .before .pre .ordered .few)
+side-keys-requires c κs =
+    let c-pre = c .before .before .before .before .before .before .pre in
+    omega (arith, c-pre .ordered .few)
 
 slice-aggregate-chain : tie.Need-slice-aggregate-chain
 slice-aggregate-chain c = search needs
@@ -29,7 +35,10 @@ slice-aggregate-chain-3 : tie.Need-slice-aggregate-chain-3
 slice-aggregate-chain-3 c = search needs
 
 chain-requires : tie.Need-chain-requires
-chain-requires c κs = record { keyed = c .before .before .before .before .side-keys .ensures .room; room = omega (arith, c .before .before .before .before .before .before .before .before .before .before .before .pre .ordered .few); small = omega (arith, c .before .before .before .before .before .before .before .before .before .before .before .pre .ordered .few); blank = refl }
+chain-requires c κs =
+    let c-pre = c .before .before .before .before .before .before .before .before .before .before .before .pre in
+    let c-side-keys = c .before .before .before .before .side-keys in
+    record { keyed = c-side-keys .ensures .room; room = omega (arith, c-pre .ordered .few); small = omega (arith, c-pre .ordered .few); blank = refl }
 
 slice-aggregate-row-8 : tie.Need-slice-aggregate-row-8
 slice-aggregate-row-8 c = search needs
@@ -41,40 +50,56 @@ slice-aggregate-row-8-3 : tie.Need-slice-aggregate-row-8-3
 slice-aggregate-row-8-3 c = search needs
 
 row-8-requires : tie.Need-row-8-requires
-row-8-requires c κs = (
-  record {
-    few = c .before .before .before .before .before .before .before .before .before .before .before .before .before .before .before .before .before .before .pre .ordered .few;
-    small = c .before .before .before .before .before .before .before .before .before .before .before .before .before .before .before .before .before .before .pre .ordered .small;
-    small-ends = λ i. omega (arith, c .before .before .before .before .before .before .before .before .before .before .before .before .before .before .before .before .shared-slice-known2 .given i);
-    table = c .before .before .before .before .before .before .before .before .before .before .before .side-keys .ensures;
-    chained = c .before .before .before .before .before .before .chain .ensures .0;
-    headed = c .before .before .before .before .before .before .chain .ensures .1;
-  },
-  c .before .before .before .before .before .before .before .before .before .before .before .before .before .before .before .before .before .before .pre .sides-is,
-)
+row-8-requires c κs =
+    let c-pre = c .before .before .before .before .before .before .before .before .before .before .before .before .before .before .before .before .before .before .pre in
+    let c-shared-slice-known2 = c .before .before .before .before .before .before .before .before .before .before .before .before .before .before .before .before .shared-slice-known2 in
+    let c-side-keys = c .before .before .before .before .before .before .before .before .before .before .before .side-keys in
+    let c-chain = c .before .before .before .before .before .before .chain in (
+      record {
+        few = c-pre .ordered .few;
+        small = c-pre .ordered .small;
+        small-ends = λ i. omega (arith, c-shared-slice-known2 .given i);
+        table = c-side-keys .ensures;
+        chained = c-chain .ensures .0;
+        headed = c-chain .ensures .1;
+      },
+      c-pre .sides-is,
+    )
 
 row-7-requires : tie.Need-row-7-requires
-row-7-requires c κs = c .before .before .before .row-8 .ensures .1 .room
+row-7-requires c κs =
+    let c-row-8 = c .before .before .before .row-8 in
+    c-row-8 .ensures .1 .room
 
 same-length : tie.Need-same-length
-same-length c = c .before .before .before .before .before .row-8 .kept .1 .1 .1 .1 .1 .0
+same-length c =
+    let c-row-8 = c .before .before .before .before .before .row-8 in
+    c-row-8 .kept .1 .1 .1 .1 .1 .0
 
 returns : tie.Need-returns
 unfolding rowAt rows
 returns c =
-    let e : length (c .before .before .before .before .before .before .before .before .before .before .before .before .before .before .before .before .before .before .before .before .before .before .before .before .args .edges .now) / 2 ≡ length (c .before .before .before .before .before .before .before .before .before .before .before .before .before .before .before .before .before .before .before .before .before .before .before .before .args .counts .now) = omega (arith, c .before .before .before .before .before .before .before .before .before .before .before .before .before .before .before .before .before .before .before .before .before .before .before .before .pre .pairs) in
-    let t = rw e at (c .before .before .before .before .before .row-8 .ensures .1) in
+    let c-args = c .before .before .before .before .before .before .before .before .before .before .before .before .before .before .before .before .before .before .before .before .before .before .before .before .args in
+    let c-pre = c .before .before .before .before .before .before .before .before .before .before .before .before .before .before .before .before .before .before .before .before .before .before .before .before .pre in
+    let c-row-8 = c .before .before .before .before .before .row-8 in
+    let e : length (c-args .edges .now) / 2 ≡ length (c-args .counts .now) = omega (arith, c-pre .pairs) in
+    let t = rw e at (c-row-8 .ensures .1) in
     (answer-refuses _ _ _ 6 (omega arith) _ (c .before .row-7 .ensures ∙ sym (unlisted-blank _ _ _ _ t)) (c .if1 .taken), tt)
 
 same-length-2 : tie.Need-same-length-2
-same-length-2 c = c .before .before .before .before .before .before .row-8 .kept .1 .1 .1 .1 .1 .0
+same-length-2 c =
+    let c-row-8 = c .before .before .before .before .before .before .row-8 in
+    c-row-8 .kept .1 .1 .1 .1 .1 .0
 
 returns-2 : tie.Need-returns-2
 unfolding rowAt rows
 returns-2 c =
-    let e : length (c .before .before .before .before .before .before .before .before .before .before .before .before .before .before .before .before .before .before .before .before .before .before .before .before .before .args .edges .now) / 2 ≡ length (c .before .before .before .before .before .before .before .before .before .before .before .before .before .before .before .before .before .before .before .before .before .before .before .before .before .args .counts .now) = omega (arith, c .before .before .before .before .before .before .before .before .before .before .before .before .before .before .before .before .before .before .before .before .before .before .before .before .before .pre .pairs) in
-    let t = rw e at (c .before .before .before .before .before .before .row-8 .ensures .1) in (
-      answer-refuses _ _ _ 7 (omega arith) _ (rw e at (c .before .before .before .before .before .before .row-8 .ensures .0)) (c .if2 .taken)
+    let c-args = c .before .before .before .before .before .before .before .before .before .before .before .before .before .before .before .before .before .before .before .before .before .before .before .before .before .args in
+    let c-pre = c .before .before .before .before .before .before .before .before .before .before .before .before .before .before .before .before .before .before .before .before .before .before .before .before .before .pre in
+    let c-row-8 = c .before .before .before .before .before .before .row-8 in
+    let e : length (c-args .edges .now) / 2 ≡ length (c-args .counts .now) = omega (arith, c-pre .pairs) in
+    let t = rw e at (c-row-8 .ensures .1) in (
+      answer-refuses _ _ _ 7 (omega arith) _ (rw e at (c-row-8 .ensures .0)) (c .if2 .taken)
           ∙ answer-passes _ _ _ 6 (omega arith) _ (c .before .before .row-7 .ensures ∙ sym (unlisted-blank _ _ _ _ t)) (c .before .if1 .left),
       tt,
     )
@@ -90,35 +115,51 @@ slice-aggregate-last-rows-3 c = search needs
 
 last-rows-requires : tie.Need-last-rows-requires
 last-rows-requires c κs =
-    let e : length (c .before .before .before .before .before .before .before .before .before .before .before .before .before .before .before .before .before .before .before .before .before .before .before .before .before .before .before .before .args .edges .now) / 2 ≡ length (c .before .before .before .before .before .before .before .before .before .before .before .before .before .before .before .before .before .before .before .before .before .before .before .before .before .before .before .before .args .counts .now) = omega (arith, c .before .before .before .before .before .before .before .before .before .before .before .before .before .before .before .before .before .before .before .before .before .before .before .before .before .before .before .before .pre .pairs) in (
-      record {
-        ordered = c .before .before .before .before .before .before .before .before .before .before .before .before .before .before .before .before .before .before .before .before .before .before .before .before .before .before .before .before .pre .ordered;
-        near-is = c .before .before .before .before .before .before .before .before .before .before .before .before .before .before .before .before .before .before .before .before .before .before .before .before .before .before .before .before .pre .near-is;
+    let c-args = c .before .before .before .before .before .before .before .before .before .before .before .before .before .before .before .before .before .before .before .before .before .before .before .before .before .before .before .before .args in
+    let c-pre = c .before .before .before .before .before .before .before .before .before .before .before .before .before .before .before .before .before .before .before .before .before .before .before .before .before .before .before .before .pre in
+    let c-shared-slice-known2 = c .before .before .before .before .before .before .before .before .before .before .before .before .before .before .before .before .before .before .before .before .before .before .before .before .before .before .shared-slice-known2 in
+    let c-side-keys = c .before .before .before .before .before .before .before .before .before .before .before .before .before .before .before .before .before .before .before .before .before .side-keys in
+    let c-chain = c .before .before .before .before .before .before .before .before .before .before .before .before .before .before .before .before .chain in
+    let c-row-8 = c .before .before .before .before .before .before .before .before .before .row-8 in
+    let c-if2 = c .before .before .before .if2 in
+    let e : length (c-args .edges .now) / 2 ≡ length (c-args .counts .now) = omega (arith, c-pre .pairs) in
+    record {
+      linkable = record {
+        ordered = c-pre .ordered;
+        near-is = c-pre .near-is;
         findable = record {
-          few = c .before .before .before .before .before .before .before .before .before .before .before .before .before .before .before .before .before .before .before .before .before .before .before .before .before .before .before .before .pre .ordered .few;
-          small = c .before .before .before .before .before .before .before .before .before .before .before .before .before .before .before .before .before .before .before .before .before .before .before .before .before .before .before .before .pre .ordered .small;
-          small-ends = λ i. omega (arith, c .before .before .before .before .before .before .before .before .before .before .before .before .before .before .before .before .before .before .before .before .before .before .before .before .before .before .shared-slice-known2 .given i);
-          table = c .before .before .before .before .before .before .before .before .before .before .before .before .before .before .before .before .before .before .before .before .before .side-keys .ensures;
-          chained = c .before .before .before .before .before .before .before .before .before .before .before .before .before .before .before .before .chain .ensures .0;
-          headed = c .before .before .before .before .before .before .before .before .before .before .before .before .before .before .before .before .chain .ensures .1;
+          few = c-pre .ordered .few;
+          small = c-pre .ordered .small;
+          small-ends = λ i. omega (arith, c-shared-slice-known2 .given i);
+          table = c-side-keys .ensures;
+          chained = c-chain .ensures .0;
+          headed = c-chain .ensures .1;
         };
-        used = first-none _ _ (omega (arith, c .before .before .before .before .before .before .before .before .before .row-8 .ensures .0, c .before .before .before .if2 .left, e));
-      },
-      c .before .before .before .before .before .before .before .before .before .before .before .before .before .before .before .before .before .before .before .before .before .before .before .before .before .before .before .before .pre .pairs,
-    )
+        used = first-none (unused (c-args .cells .now) (c-args .edges .now)) (length (c-args .edges .now) / 2) (omega (arith, c-row-8 .ensures .0, c-if2 .left, e));
+      };
+      pairs = c-pre .pairs;
+    }
 
 same-length-3 : tie.Need-same-length-3
-same-length-3 c = c .before .before .before .before .before .before .before .before .before .before .row-8 .kept .1 .1 .1 .1 .1 .0
+same-length-3 c =
+    let c-row-8 = c .before .before .before .before .before .before .before .before .before .before .row-8 in
+    c-row-8 .kept .1 .1 .1 .1 .1 .0
 
 returns-3 : tie.Need-returns-3
 unfolding rowAt rows
 returns-3 c =
-    let e : length (c .before .before .before .before .before .before .before .before .before .before .before .before .before .before .before .before .before .before .before .before .before .before .before .before .before .before .before .before .before .args .edges .now) / 2 ≡ length (c .before .before .before .before .before .before .before .before .before .before .before .before .before .before .before .before .before .before .before .before .before .before .before .before .before .before .before .before .before .args .counts .now) = omega (arith, c .before .before .before .before .before .before .before .before .before .before .before .before .before .before .before .before .before .before .before .before .before .before .before .before .before .before .before .before .before .pre .pairs) in
-    let t = rw e at (c .before .before .before .before .before .before .before .before .before .before .row-8 .ensures .1) in (
+    let c-args = c .before .before .before .before .before .before .before .before .before .before .before .before .before .before .before .before .before .before .before .before .before .before .before .before .before .before .before .before .before .args in
+    let c-pre = c .before .before .before .before .before .before .before .before .before .before .before .before .before .before .before .before .before .before .before .before .before .before .before .before .before .before .before .before .before .pre in
+    let c-row-8 = c .before .before .before .before .before .before .before .before .before .before .row-8 in
+    let c-row-7 = c .before .before .before .before .before .before .row-7 in
+    let c-if1 = c .before .before .before .before .before .if1 in
+    let c-if2 = c .before .before .before .before .if2 in
+    let e : length (c-args .edges .now) / 2 ≡ length (c-args .counts .now) = omega (arith, c-pre .pairs) in
+    let t = rw e at (c-row-8 .ensures .1) in (
       c .last-rows .ensures
-          ∙ answer-passes _ _ _ 7 (omega arith) _ (rw e at (c .before .before .before .before .before .before .before .before .before .before .row-8 .ensures .0)) (c .before .before .before .before .if2 .left)
-          ∙ answer-passes _ _ _ 6 (omega arith) _ (c .before .before .before .before .before .before .row-7 .ensures ∙ sym (unlisted-blank _ _ _ _ t)) (c .before .before .before .before .before .if1 .left),
-      where-accepted (c .last-rows .result) t,
+          ∙ answer-passes _ _ _ 7 (omega arith) _ (rw e at (c-row-8 .ensures .0)) (c-if2 .left)
+          ∙ answer-passes _ _ _ 6 (omega arith) _ (c-row-7 .ensures ∙ sym (unlisted-blank _ _ _ _ t)) (c-if1 .left),
+      where-accepted {T = Table (listedAt (c-args .cells .now) (c-args .edges .now) (length (c-args .counts .now))) (6 * cellCount (c-args .cells .now)) (c-row-8 .last .1 .1 .1 .1 .1 .0)} (c .last-rows .result) t,
     )
 
 pub side-rows-spec : {M : Type 1} → statement M

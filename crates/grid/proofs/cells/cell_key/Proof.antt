@@ -1,3 +1,4 @@
+-- `grid::cells::cell_key` meets its contract.
 use borrow.Author.Needs.{needs}
 use Rattle.grid.specs.Work.{cellKey}
 use Rattle.grid.proofs.cells.cell_key.Statement.{statement}
@@ -35,7 +36,9 @@ add-result-3 c = search needs
 
 returns : tie.Need-returns
 unfolding cellKey
-returns c = rw (c .before .before .before .node-at .ensures .0, c .before .before .node-at2 .ensures .0, c .before .node-at3 .ensures .0, c .node-at4 .ensures .0)
+returns c =
+    let c-node-at = c .before .before .before .node-at in
+    rw (c-node-at .ensures .0, c .before .before .node-at2 .ensures .0, c .before .node-at3 .ensures .0, c .node-at4 .ensures .0)
 
 pub cell-key-spec : {M : Type 1} → statement M
 cell-key-spec =

@@ -1,3 +1,4 @@
+-- `grid::cells::cell_keys` meets its contract.
 use Prim.Native.Nat.{_-_, _/_, _≤_}
 use mathlib.Core.Path.{_≡_, refl}
 use native.Mathlib.Omega.{arith}
@@ -42,7 +43,8 @@ same-length c = search needs
 
 returns : tie.Need-returns Inv-loop μ-loop
 returns c =
-    let e : c .before .loop .c ≡ length (c .before .before .before .before .args .cells .now) / 4 = omega arith in
+    let c-args = c .before .before .before .before .args in
+    let e : c .before .loop .c ≡ length (c-args .cells .now) / 4 = omega arith in
     rw (← e) (c .before .loop .inv .2)
 
 pub cell-keys-spec : {M : Type 1} → statement M

@@ -1,3 +1,4 @@
+-- `grid::cells::face_key` meets its contract.
 use borrow.Author.Needs.{needs}
 use Rattle.grid.specs.Work.{faceKey}
 use Rattle.grid.proofs.cells.face_key.Statement.{statement}
@@ -26,7 +27,9 @@ add-result-2 c = search needs
 
 returns : tie.Need-returns
 unfolding faceKey
-returns c = rw (c .before .before .corner-at .ensures .0, c .before .corner-at2 .ensures .0, c .corner-at3 .ensures .0)
+returns c =
+    let c-corner-at = c .before .before .corner-at in
+    rw (c-corner-at .ensures .0, c .before .corner-at2 .ensures .0, c .corner-at3 .ensures .0)
 
 pub face-key-spec : {M : Type 1} → statement M
 face-key-spec =

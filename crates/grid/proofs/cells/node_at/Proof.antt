@@ -1,3 +1,4 @@
+-- `grid::cells::node_at` meets its contract.
 use Prim.Native.Nat.{_*_, _+_}
 use native.Mathlib.Omega.{arith}
 use borrow.Author.Needs.{needs}
@@ -20,7 +21,9 @@ wide-requires : tie.Need-wide-requires
 wide-requires c κs = search needs
 
 returns : tie.Need-returns
-returns c = (c .wide .ensures, omega (arith, c .wide .ensures, c .before .shared-slice-known2 .given (4 * c .before .before .before .args .c + c .before .before .before .args .i)))
+returns c =
+    let c-args = c .before .before .before .args in
+    (c .wide .ensures, omega (arith, c .wide .ensures, c .before .shared-slice-known2 .given (4 * c-args .c + c-args .i)))
 
 pub node-at-spec : {M : Type 1} → statement M
 node-at-spec =

@@ -1,3 +1,4 @@
+-- `grid::cells::row_3` meets its contract.
 use Prim.Native.Nat.{_-_, _/_, _≤_}
 use mathlib.Core.Path.{_∙_, _≡_, sym}
 use native.Mathlib.Omega.{arith}
@@ -22,7 +23,9 @@ bad-cell-requires : tie.Need-bad-cell-requires Inv-loop μ-loop
 bad-cell-requires c κs = search needs
 
 returns : tie.Need-returns Inv-loop μ-loop
-returns c = sym (c .before .before .before .loop .inv .1 ∙ seek-hit _ _ _ (omega arith) (sym (c .before .bad-cell .ensures) ∙ c .if1 .taken))
+returns c =
+    let c-loop = c .before .before .before .loop in
+    sym (c-loop .inv .1 ∙ seek-hit _ _ _ (omega arith) (sym (c .before .bad-cell .ensures) ∙ c .if1 .taken))
 
 add-c : tie.Need-add-c Inv-loop μ-loop
 add-c c = search needs
@@ -31,11 +34,14 @@ loop-less : tie.Need-loop-less Inv-loop μ-loop
 loop-less c = search needs
 
 loop-again : tie.Need-loop-again Inv-loop μ-loop
-loop-again c = (omega arith, c .before .before .before .loop .inv .1 ∙ seek-miss _ _ _ (omega arith) (sym (c .before .bad-cell .ensures) ∙ c .if1 .left))
+loop-again c =
+    let c-loop = c .before .before .before .loop in
+    (omega arith, c-loop .inv .1 ∙ seek-miss _ _ _ (omega arith) (sym (c .before .bad-cell .ensures) ∙ c .if1 .left))
 
 returns-2 : tie.Need-returns-2 Inv-loop μ-loop
 returns-2 c =
-    let e : c .before .loop .c ≡ length (c .before .before .before .args .cells .now) / 4 = omega arith in
+    let c-args = c .before .before .before .args in
+    let e : c .before .loop .c ≡ length (c-args .cells .now) / 4 = omega arith in
     sym (c .before .loop .inv .1 ∙ seek-end _ _ _ (omega arith) ∙ e)
 
 pub row-3-spec : {M : Type 1} → statement M

@@ -1,3 +1,4 @@
+-- `grid::cells::row_4` meets its contract.
 use Prim.Native.Nat.{_-_, _≤_}
 use mathlib.Core.Path.{_∙_, _≡_, refl, sym}
 use native.Mathlib.Omega.{arith}
@@ -34,10 +35,14 @@ slice-aggregate-chain-3 : tie.Need-slice-aggregate-chain-3 Inv-loop μ-loop
 slice-aggregate-chain-3 c = search needs
 
 chain-requires : tie.Need-chain-requires Inv-loop μ-loop
-chain-requires c κs = record { keyed = c .before .before .before .before .cell-keys .ensures .room; room = omega arith; small = omega arith; blank = refl }
+chain-requires c κs =
+    let c-cell-keys = c .before .before .before .before .cell-keys in
+    record { keyed = c-cell-keys .ensures .room; room = omega arith; small = omega arith; blank = refl }
 
 loop-holds : tie.Need-loop-holds Inv-loop μ-loop
-loop-holds c = (omega arith, c .before .before .chain .ensures .0, c .before .before .before .before .before .before .before .cell-keys .ensures, seek-start _ _)
+loop-holds c =
+    let c-cell-keys = c .before .before .before .before .before .before .before .cell-keys in
+    (omega arith, c .before .before .chain .ensures .0, c-cell-keys .ensures, seek-start _ _)
 
 slice-aggregate-earlier : tie.Need-slice-aggregate-earlier Inv-loop μ-loop
 slice-aggregate-earlier c = search needs
@@ -46,12 +51,16 @@ slice-aggregate-earlier-2 : tie.Need-slice-aggregate-earlier-2 Inv-loop μ-loop
 slice-aggregate-earlier-2 c = search needs
 
 earlier-requires : tie.Need-earlier-requires Inv-loop μ-loop
-earlier-requires c κs = (c .before .before .before .loop .inv .1, omega arith)
+earlier-requires c κs =
+    let c-loop = c .before .before .before .loop in
+    (c-loop .inv .1, omega arith)
 
 returns : tie.Need-returns Inv-loop μ-loop
 returns c =
-    let w = c .before .before .before .before .before .loop .inv in
-    let t = repeats-last _ (λ i. omega (arith, c .before .before .before .before .before .before .before .before .before .before .before .before .before .before .before .shared-slice-known .given i)) _ _ (w .2) (c .before .before .before .before .before .loop .c) (omega arith) in
+    let c-shared-slice-known = c .before .before .before .before .before .before .before .before .before .before .before .before .before .before .before .shared-slice-known in
+    let c-loop = c .before .before .before .before .before .loop in
+    let w = c-loop .inv in
+    let t = repeats-last _ (λ i. omega (arith, c-shared-slice-known .given i)) _ _ (w .2) (c-loop .c) (omega arith) in
     sym (w .3 ∙ seek-hit _ _ _ (omega arith) (t ∙ rw (← c .before .earlier .ensures) (lt-ltb _ _ (c .if1 .taken))))
 
 add-c : tie.Need-add-c Inv-loop μ-loop
@@ -62,13 +71,16 @@ loop-less c = search needs
 
 loop-again : tie.Need-loop-again Inv-loop μ-loop
 loop-again c =
-    let w = c .before .before .before .before .before .loop .inv in
-    let t = repeats-last _ (λ i. omega (arith, c .before .before .before .before .before .before .before .before .before .before .before .before .before .before .before .shared-slice-known .given i)) _ _ (w .2) (c .before .before .before .before .before .loop .c) (omega arith) in
+    let c-shared-slice-known = c .before .before .before .before .before .before .before .before .before .before .before .before .before .before .before .shared-slice-known in
+    let c-loop = c .before .before .before .before .before .loop in
+    let w = c-loop .inv in
+    let t = repeats-last _ (λ i. omega (arith, c-shared-slice-known .given i)) _ _ (w .2) (c-loop .c) (omega arith) in
     (omega arith, w .1, w .2, w .3 ∙ seek-miss _ _ _ (omega arith) (t ∙ rw (← c .before .earlier .ensures) (le-ltb _ _ (c .if1 .left))))
 
 returns-2 : tie.Need-returns-2 Inv-loop μ-loop
 returns-2 c =
-    let e : c .before .loop .c ≡ cellCount (c .before .before .before .before .before .before .before .before .before .before .before .before .args .cells .now) = omega arith in
+    let c-args = c .before .before .before .before .before .before .before .before .before .before .before .before .args in
+    let e : c .before .loop .c ≡ cellCount (c-args .cells .now) = omega arith in
     sym (c .before .loop .inv .3 ∙ seek-end _ _ _ (omega arith) ∙ e)
 
 pub row-4-spec : {M : Type 1} → statement M

@@ -1,3 +1,4 @@
+-- `grid::cells::row_5` meets its contract.
 use Prim.Native.Nat.{ℕ, _*_}
 use mathlib.Core.Path.{_∙_, _≡_, ap, refl}
 use native.Mathlib.Omega.{arith}
@@ -28,7 +29,9 @@ slice-aggregate-chain-3 : tie.Need-slice-aggregate-chain-3
 slice-aggregate-chain-3 c = search needs
 
 chain-requires : tie.Need-chain-requires
-chain-requires c κs = record { keyed = c .before .before .before .before .face-keys .ensures .room; room = omega arith; small = omega arith; blank = refl }
+chain-requires c κs =
+    let c-face-keys = c .before .before .before .before .face-keys in
+    record { keyed = c-face-keys .ensures .room; room = omega arith; small = omega arith; blank = refl }
 
 slice-aggregate-pair : tie.Need-slice-aggregate-pair
 slice-aggregate-pair c = search needs
@@ -38,20 +41,27 @@ slice-aggregate-pair-2 c = search needs
 
 pair-requires : tie.Need-pair-requires
 pair-requires c κs =
-    let e = c .before .before .before .before .before .before .before .before .before .before .before .before .before .before .pre .1 in
-    let ln : length (c .before .before .before .before .before .before .before .before .before .before .before .before .before .before .args .near .now) ≡ 4 * mostCells = ap length e ∙ length-replicate {A = ℕ} (4 * mostCells) 0 in
-    record { chained = c .before .before .before .before .before .chain .ensures .0; room = omega (arith, ln, c .before .before .before .before .before .before .before .before .before .before .before .before .before .before .pre .0 .few); small = omega (arith, c .before .before .before .before .before .before .before .before .before .before .before .before .before .before .pre .0 .few); blank = mates-none _ _ (λ i. rw e (zeros (4 * mostCells) i)) }
+    let c-pre = c .before .before .before .before .before .before .before .before .before .before .before .before .before .before .pre in
+    let c-args = c .before .before .before .before .before .before .before .before .before .before .before .before .before .before .args in
+    let c-chain = c .before .before .before .before .before .chain in
+    let e = c-pre .1 in
+    let ln : length (c-args .near .now) ≡ 4 * mostCells = ap length e ∙ length-replicate {A = ℕ} (4 * mostCells) 0 in
+    record { chained = c-chain .ensures .0; room = omega (arith, ln, c-pre .0 .few); small = omega (arith, c-pre .0 .few); blank = mates-none _ _ (λ i. rw e (zeros (4 * mostCells) i)) }
 
 same-length : tie.Need-same-length
 same-length c = search needs
 
 returns : tie.Need-returns
 returns c =
-    let g = c .before .before .before .before .before .before .before .before .before .before .before .before .before .before .before .before .before .pre .0 in
-    let p = c .before .before .pair .ensures in
-    let f = c .before .before .before .before .before .before .before .before .before .before .before .before .before .face-keys .ensures in
-    let ln : length (c .before .before .before .before .before .before .before .before .before .before .before .before .before .before .before .before .before .args .near .now) ≡ 4 * mostCells = ap length (c .before .before .before .before .before .before .before .before .before .before .before .before .before .before .before .before .before .pre .1) ∙ length-replicate {A = ℕ} (4 * mostCells) 0 in
-    (rw (p .is) (third-first _ g _ f), λ h. paired-near _ g _ f _ _ (omega (arith, c .before .before .pair .kept .1 .1 .1 .0, ln, g .few)) p h)
+    let c-pre = c .before .before .before .before .before .before .before .before .before .before .before .before .before .before .before .before .before .pre in
+    let c-args = c .before .before .before .before .before .before .before .before .before .before .before .before .before .before .before .before .before .args in
+    let c-face-keys = c .before .before .before .before .before .before .before .before .before .before .before .before .before .face-keys in
+    let c-pair = c .before .before .pair in
+    let g = c-pre .0 in
+    let p = c-pair .ensures in
+    let f = c-face-keys .ensures in
+    let ln : length (c-args .near .now) ≡ 4 * mostCells = ap length (c-pre .1) ∙ length-replicate {A = ℕ} (4 * mostCells) 0 in
+    (rw (p .is) (third-first _ g _ f), λ h. paired-near _ g _ f _ _ (omega (arith, c-pair .kept .1 .1 .1 .0, ln, g .few)) p h)
 
 pub row-5-spec : {M : Type 1} → statement M
 row-5-spec =

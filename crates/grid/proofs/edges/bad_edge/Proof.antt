@@ -1,3 +1,4 @@
+-- `grid::edges::bad_edge` meets its contract.
 use Prim.Native.Nat.{_-_}
 use native.Mathlib.Omega.{arith}
 use borrow.Author.Needs.{needs}
@@ -24,11 +25,16 @@ end-at-requires-2 c κs = search needs
 
 returns : tie.Need-returns
 unfolding badEdge
-returns c = rw (← c .before .before .end-at .ensures .0, ← c .before .end-at2 .ensures .0, le-ltb _ _ (c .if1 .taken))
+returns c =
+    let c-end-at = c .before .before .end-at in
+    rw (← c-end-at .ensures .0, ← c .before .end-at2 .ensures .0, le-ltb _ _ (c .if1 .taken))
 
 returns-2 : tie.Need-returns-2
 unfolding badEdge
-returns-2 c = rw (← c .before .before .before .end-at .ensures .0, ← c .before .before .end-at2 .ensures .0, lt-ltb _ _ (c .before .if1 .left), le-ltb 0 (c .before .before .before .before .before .args .e) (omega arith))
+returns-2 c =
+    let c-args = c .before .before .before .before .before .args in
+    let c-end-at = c .before .before .before .end-at in
+    rw (← c-end-at .ensures .0, ← c .before .before .end-at2 .ensures .0, lt-ltb _ _ (c .before .if1 .left), le-ltb 0 (c-args .e) (omega arith))
 
 edge-key-requires : tie.Need-edge-key-requires
 edge-key-requires c κs = search needs
@@ -42,12 +48,17 @@ edge-key-requires-2 c κs = search needs
 returns-3 : tie.Need-returns-3
 unfolding badEdge
 returns-3 c =
+    let c-args = c .before .before .before .before .before .before .before .args in
+    let c-shared-slice-known = c .before .before .before .before .before .before .shared-slice-known in
+    let c-end-at = c .before .before .before .before .before .end-at in
+    let c-end-at2 = c .before .before .before .before .end-at2 in
+    let c-if1 = c .before .before .before .if1 in
     rw (
-      ← c .before .before .before .before .before .end-at .ensures .0,
-      ← c .before .before .before .before .end-at2 .ensures .0,
-      lt-ltb _ _ (c .before .before .before .if1 .left),
-      lt-ltb 0 (c .before .before .before .before .before .before .before .args .e) (omega (arith, c .before .before .if2 .left)),
-      after-key (c .before .before .before .before .before .before .before .args .edges .now) (λ i. omega (arith, c .before .before .before .before .before .before .shared-slice-known .given i)) (c .before .before .before .before .before .before .before .args .e - 1) (c .before .before .before .before .before .before .before .args .e),
+      ← c-end-at .ensures .0,
+      ← c-end-at2 .ensures .0,
+      lt-ltb _ _ (c-if1 .left),
+      lt-ltb 0 (c-args .e) (omega (arith, c .before .before .if2 .left)),
+      after-key (c-args .edges .now) (λ i. omega (arith, c-shared-slice-known .given i)) (c-args .e - 1) (c-args .e),
       ← c .before .edge-key .ensures,
       ← c .edge-key2 .ensures,
     )

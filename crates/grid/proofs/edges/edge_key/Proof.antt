@@ -1,3 +1,4 @@
+-- `grid::edges::edge_key` meets its contract.
 use borrow.Author.Needs.{needs}
 use Rattle.grid.specs.Work.{edgeKey}
 use Rattle.grid.proofs.edges.edge_key.Statement.{statement}

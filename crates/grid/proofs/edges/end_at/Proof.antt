@@ -1,3 +1,4 @@
+-- `grid::edges::end_at` meets its contract.
 use native.Mathlib.Omega.{arith}
 use borrow.Author.Needs.{needs}
 use Rattle.grid.proofs.edges.end_at.Statement.{statement}
@@ -13,7 +14,9 @@ wide-requires : tie.Need-wide-requires
 wide-requires c κs = search needs
 
 returns : tie.Need-returns
-returns c = (c .wide .ensures, omega (arith, c .wide .ensures, c .before .shared-slice-known2 .given (c .before .before .before .args .i)))
+returns c =
+    let c-args = c .before .before .before .args in
+    (c .wide .ensures, omega (arith, c .wide .ensures, c .before .shared-slice-known2 .given (c-args .i)))
 
 pub end-at-spec : {M : Type 1} → statement M
 end-at-spec = tie.close (tie.spec mul-wide shared-slice-read-wide wide-requires returns)

@@ -1,3 +1,4 @@
+-- `grid::edges::put` meets its contract.
 use Prim.Native.Nat.{_-_}
 use mathlib.Core.Path.{_∙_}
 use native.Mathlib.Omega.{arith}
@@ -15,7 +16,9 @@ abbrev μ-loop : tie.MeasureT-loop
 μ-loop keys next n key top x sides₀ j₀ sides j = j
 
 loop-holds : tie.Need-loop-holds Inv-loop μ-loop
-loop-holds c = placing-start _ _ _ _ _ _ (c .before .before .before .pre .top-is)
+loop-holds c =
+    let c-pre = c .before .before .before .pre in
+    placing-start _ _ _ _ _ _ (c-pre .top-is)
 
 sub-i : tie.Need-sub-i Inv-loop μ-loop
 sub-i c = search needs
@@ -24,25 +27,38 @@ mul-sides : tie.Need-mul-sides Inv-loop μ-loop
 mul-sides c = search needs
 
 slice-write-sides : tie.Need-slice-write-sides Inv-loop μ-loop
-slice-write-sides c = omega (arith, c .before .loop .inv .same, c .before .loop .inv .within, c .before .before .before .before .before .pre .room)
+slice-write-sides c =
+    let c-pre = c .before .before .before .before .before .pre in
+    omega (arith, c .before .loop .inv .same, c .before .loop .inv .within, c-pre .room)
 
 mul-wide : tie.Need-mul-wide Inv-loop μ-loop
 mul-wide c = search needs
 
 shared-slice-read-wide : tie.Need-shared-slice-read-wide Inv-loop μ-loop
-shared-slice-read-wide c = omega (arith, c .before .before .loop .inv .within, c .before .before .before .before .before .before .pre .chained .room)
+shared-slice-read-wide c =
+    let c-pre = c .before .before .before .before .before .before .pre in
+    omega (arith, c .before .before .loop .inv .within, c-pre .chained .room)
 
 wide-requires : tie.Need-wide-requires Inv-loop μ-loop
 wide-requires c κs = search needs
 
 walk-requires : tie.Need-walk-requires Inv-loop μ-loop
-walk-requires c κs = record { chained = c .before .before .before .before .before .before .before .pre .chained; within = omega (arith, c .before .before .before .loop .inv .within); starts = c .wide .ensures ∙ (rw (c .before .before .before .loop .inv .at (omega arith)) at (c .before .before .before .before .before .before .before .pre .chained .at (c .before .before .before .loop .j - 1) (omega (arith, c .before .before .before .loop .inv .within)))) }
+walk-requires c κs =
+    let c-pre = c .before .before .before .before .before .before .before .pre in
+    let c-loop = c .before .before .before .loop in
+    record { chained = c-pre .chained; within = omega (arith, c-loop .inv .within); starts = c .wide .ensures ∙ (rw (c-loop .inv .at (omega arith)) at (c-pre .chained .at (c-loop .j - 1) (omega (arith, c-loop .inv .within)))) }
 
 loop-less : tie.Need-loop-less Inv-loop μ-loop
-loop-less c = omega (arith, c .walk .ensures, last-le (sameKey (c .before .before .before .before .before .before .before .before .args .keys .now) (c .before .before .before .before .before .before .before .before .args .key)) (c .before .before .before .before .loop .j - 1))
+loop-less c =
+    let c-args = c .before .before .before .before .before .before .before .before .args in
+    let c-loop = c .before .before .before .before .loop in
+    omega (arith, c .walk .ensures, last-le (sameKey (c-args .keys .now) (c-args .key)) (c-loop .j - 1))
 
 loop-again : tie.Need-loop-again Inv-loop μ-loop
-loop-again c = placing-more (c .before .before .before .before .loop .inv) (omega arith) (omega (arith, c .before .before .before .before .loop .inv .same, c .before .before .before .before .before .before .before .before .pre .room)) _ (c .walk .ensures)
+loop-again c =
+    let c-pre = c .before .before .before .before .before .before .before .before .pre in
+    let c-loop = c .before .before .before .before .loop in
+    placing-more (c-loop .inv) (omega arith) (omega (arith, c-loop .inv .same, c-pre .room)) _ (c .walk .ensures)
 
 same-length : tie.Need-same-length Inv-loop μ-loop
 same-length c = c .before .loop .inv .same

@@ -1,3 +1,4 @@
+-- `grid::edges::row_2` meets its contract.
 use mathlib.Core.Path.{refl}
 use borrow.Author.Needs.{needs}
 use Rattle.grid.specs.Rows.{badPairs}

@@ -1,3 +1,4 @@
+-- `grid::edges::row_7` meets its contract.
 use Prim.Native.Nat.{ℕ, _*_, _-_, _/_, _≤_}
 use mathlib.Core.Path.{_∙_, _≡_, ap, sym}
 use native.Mathlib.Omega.{arith}
@@ -32,8 +33,10 @@ shared-slice-read-if1 c = search needs
 
 returns : tie.Need-returns Inv-loop μ-loop
 returns c =
-    let e = c .before .before .before .loop .inv .1 ∙ seek-hit _ _ _ (omega arith) (eq-eqb _ _ (c .if1 .taken)) in
-    sym (sym (blank-first (c .before .before .before .before .args .sides .now) (cellCount (c .before .before .before .before .args .cells .now))) ∙ ap (λ (x : ℕ). x / 6) e)
+    let c-args = c .before .before .before .before .args in
+    let c-loop = c .before .before .before .loop in
+    let e = c-loop .inv .1 ∙ seek-hit _ _ _ (omega arith) (eq-eqb _ _ (c .if1 .taken)) in
+    sym (sym (blank-first (c-args .sides .now) (cellCount (c-args .cells .now))) ∙ ap (λ (x : ℕ). x / 6) e)
 
 add-j : tie.Need-add-j Inv-loop μ-loop
 add-j c = search needs
@@ -42,13 +45,16 @@ loop-less : tie.Need-loop-less Inv-loop μ-loop
 loop-less c = search needs
 
 loop-again : tie.Need-loop-again Inv-loop μ-loop
-loop-again c = (omega arith, c .before .before .before .loop .inv .1 ∙ seek-miss _ _ _ (omega arith) (ne-eqb _ _ (c .if1 .left)))
+loop-again c =
+    let c-loop = c .before .before .before .loop in
+    (omega arith, c-loop .inv .1 ∙ seek-miss _ _ _ (omega arith) (ne-eqb _ _ (c .if1 .left)))
 
 returns-2 : tie.Need-returns-2 Inv-loop μ-loop
 returns-2 c =
+    let c-args = c .before .before .args in
     let e = c .before .loop .inv .1 ∙ seek-end _ _ _ (omega arith) in
-    let f : c .before .loop .j ≡ 6 * cellCount (c .before .before .args .cells .now) = omega arith in
-    sym (sym (blank-first (c .before .before .args .sides .now) (cellCount (c .before .before .args .cells .now))) ∙ ap (λ (x : ℕ). x / 6) (e ∙ f))
+    let f : c .before .loop .j ≡ 6 * cellCount (c-args .cells .now) = omega arith in
+    sym (sym (blank-first (c-args .sides .now) (cellCount (c-args .cells .now))) ∙ ap (λ (x : ℕ). x / 6) (e ∙ f))
 
 pub row-7-spec : {M : Type 1} → statement M
 row-7-spec =

@@ -1,3 +1,4 @@
+-- `grid::edges::row_8` meets its contract.
 use Prim.Native.Nat.{ℕ, _*_, _-_, _≤_}
 use mathlib.Core.Path.{_∙_, _≡_, ap, sym}
 use native.Mathlib.Omega.{arith}
@@ -21,7 +22,9 @@ mul-n : tie.Need-mul-n Inv-loop μ-loop
 mul-n c = search needs
 
 loop-holds : tie.Need-loop-holds Inv-loop μ-loop
-loop-holds c = (omega arith, listed-none _ _ _ _ _ (c .before .before .before .before .before .before .pre .1), sym (seek-end _ _ _ (omega arith)))
+loop-holds c =
+    let c-pre = c .before .before .before .before .before .before .pre in
+    (omega arith, listed-none _ _ _ _ _ (c-pre .1), sym (seek-end _ _ _ (omega arith)))
 
 sub-e : tie.Need-sub-e Inv-loop μ-loop
 sub-e c = search needs
@@ -30,15 +33,19 @@ edge-key-requires : tie.Need-edge-key-requires Inv-loop μ-loop
 edge-key-requires c κs = search needs
 
 latest-requires : tie.Need-latest-requires Inv-loop μ-loop
-latest-requires c κs = (c .before .before .before .before .before .before .before .before .before .pre .0 .chained, c .before .before .before .before .before .before .before .before .before .pre .0 .headed)
+latest-requires c κs =
+    let c-pre = c .before .before .before .before .before .before .before .before .before .pre in
+    (c-pre .0 .chained, c-pre .0 .headed)
 
 loop-less : tie.Need-loop-less Inv-loop μ-loop
 loop-less c = search needs
 
 loop-again : tie.Need-loop-again Inv-loop μ-loop
 loop-again c =
-    let w = c .before .before .before .before .loop .inv in
-    let p = c .before .before .before .before .before .before .before .before .before .before .before .pre .0 in
+    let c-pre = c .before .before .before .before .before .before .before .before .before .before .before .pre in
+    let c-loop = c .before .before .before .before .loop in
+    let w = c-loop .inv in
+    let p = c-pre .0 in
     let z = sym (rw (c .before .before .edge-key .ensures) at (c .before .latest .ensures)) ∙ c .if1 .taken in
     (omega arith, listed-skip (p .small) (p .small-ends) (p .table) _ (omega arith) (w .1) (omega arith) z, lowest-hit _ _ _ (omega arith) (unused-none _ _ (p .small) (p .small-ends) _ (p .table) _ z))
 
@@ -47,8 +54,10 @@ add-put c = search needs
 
 put-requires : tie.Need-put-requires Inv-loop μ-loop
 put-requires c κs =
-    let w = c .before .before .before .before .before .loop .inv in
-    let p = c .before .before .before .before .before .before .before .before .before .before .before .before .pre .0 in
+    let c-pre = c .before .before .before .before .before .before .before .before .before .before .before .before .pre in
+    let c-loop = c .before .before .before .before .before .loop in
+    let w = c-loop .inv in
+    let p = c-pre .0 in
     record { chained = p .chained; room = omega (arith, w .1 .size, p .few); top-is = c .before .before .latest .ensures }
 
 loop-less-2 : tie.Need-loop-less-2 Inv-loop μ-loop
@@ -56,22 +65,31 @@ loop-less-2 c = search needs
 
 loop-again-2 : tie.Need-loop-again-2 Inv-loop μ-loop
 loop-again-2 c =
-    let w = c .before .before .before .before .before .before .before .before .loop .inv in
-    let p = c .before .before .before .before .before .before .before .before .before .before .before .before .before .before .before .pre .0 in
-    let z = rw (c .before .before .before .before .before .before .edge-key .ensures) at (c .before .before .before .before .before .latest .ensures) in
-    let f = unused-not (c .before .before .before .before .before .before .before .before .before .before .before .before .before .before .before .args .cells .now) (c .before .before .before .before .before .before .before .before .before .before .before .before .before .before .before .args .edges .now) (p .small) (p .small-ends) (c .before .before .before .before .before .before .before .before .before .before .before .before .before .before .before .args .keys .now) (p .table) (c .before .before .before .before .before .before .before .before .loop .e - 1) (omega (arith, z, c .before .before .before .before .if1 .left)) in
-    (omega arith, listed-put (p .small) (p .small-ends) (p .table) _ (omega arith) (w .1) (omega arith) _ (rw (c .before .before .before .before .before .before .edge-key .ensures) at (c .before .before .put .ensures)), lowest-miss _ _ _ _ _ (omega arith) (omega arith) f (w .2))
+    let c-pre = c .before .before .before .before .before .before .before .before .before .before .before .before .before .before .before .pre in
+    let c-args = c .before .before .before .before .before .before .before .before .before .before .before .before .before .before .before .args in
+    let c-loop = c .before .before .before .before .before .before .before .before .loop in
+    let c-edge-key = c .before .before .before .before .before .before .edge-key in
+    let c-latest = c .before .before .before .before .before .latest in
+    let c-if1 = c .before .before .before .before .if1 in
+    let w = c-loop .inv in
+    let p = c-pre .0 in
+    let z = rw (c-edge-key .ensures) at (c-latest .ensures) in
+    let f = unused-not (c-args .cells .now) (c-args .edges .now) (p .small) (p .small-ends) (c-args .keys .now) (p .table) (c-loop .e - 1) (omega (arith, z, c-if1 .left)) in
+    (omega arith, listed-put (p .small) (p .small-ends) (p .table) _ (omega arith) (w .1) (omega arith) _ (rw (c-edge-key .ensures) at (c .before .before .put .ensures)), lowest-miss _ _ _ _ _ (omega arith) (omega arith) f (w .2))
 
 same-length : tie.Need-same-length Inv-loop μ-loop
 same-length c =
-    let e : length (c .before .before .before .before .before .before .before .before .args .sides .now) ≡ 6 * mostCells = ap length (c .before .before .before .before .before .before .before .before .pre .1) ∙ length-replicate {A = ℕ} (6 * mostCells) 0 in
+    let c-args = c .before .before .before .before .before .before .before .before .args in
+    let c-pre = c .before .before .before .before .before .before .before .before .pre in
+    let e : length (c-args .sides .now) ≡ 6 * mostCells = ap length (c-pre .1) ∙ length-replicate {A = ℕ} (6 * mostCells) 0 in
     c .before .loop .inv .1 .size ∙ sym e
 
 returns : tie.Need-returns Inv-loop μ-loop
 returns c =
+    let c-pre = c .before .before .before .before .before .before .before .before .pre in
     let w = c .before .loop .inv in
     let z : c .before .loop .e ≡ 0 = omega arith in
-    (w .2 ∙ rw z (sym (seek-start _ _)), listed-all (c .before .before .before .before .before .before .before .before .pre .0 .few) (rw z at (w .1)))
+    (w .2 ∙ rw z (sym (seek-start _ _)), listed-all (c-pre .0 .few) (rw z at (w .1)))
 
 pub row-8-spec : {M : Type 1} → statement M
 row-8-spec =

@@ -1,3 +1,4 @@
+-- `grid::keys::chain` meets its contract.
 use Prim.Native.Nat.{_-_, _≤_}
 use mathlib.Core.Path.{_≡_, refl}
 use native.Mathlib.Nat.{mod-lt}
@@ -52,8 +53,9 @@ loop-less c = search needs
 
 loop-again : tie.Need-loop-again Inv-loop μ-loop
 loop-again c =
-    let w = c .before .before .before .loop .inv .2 in
-    (omega arith, simp length-set (c .before .before .before .loop .inv .1), chaining-more w _ refl (omega (arith, w .same)) (mod-lt _ (omega arith)))
+    let c-loop = c .before .before .before .loop in
+    let w = c-loop .inv .2 in
+    (omega arith, simp length-set (c-loop .inv .1), chaining-more w _ refl (omega (arith, w .same)) (mod-lt _ (omega arith)))
 
 same-length : tie.Need-same-length Inv-loop μ-loop
 same-length c = c .before .loop .inv .1

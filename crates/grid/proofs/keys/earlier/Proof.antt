@@ -1,3 +1,4 @@
+-- `grid::keys::earlier` meets its contract.
 use mathlib.Core.Path.{_∙_}
 use native.Mathlib.Omega.{arith}
 use borrow.Author.Needs.{needs}
@@ -21,7 +22,8 @@ wide-requires c κs = search needs
 
 walk-requires : tie.Need-walk-requires
 walk-requires c κs =
-    let p = c .before .before .before .before .before .pre in
+    let c-pre = c .before .before .before .before .before .pre in
+    let p = c-pre in
     record { chained = p .0; within = omega arith; starts = c .wide .ensures ∙ p .0 .at _ (p .1) }
 
 returns : tie.Need-returns

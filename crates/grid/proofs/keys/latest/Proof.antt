@@ -1,3 +1,4 @@
+-- `grid::keys::latest` meets its contract.
 use mathlib.Core.Path.{_∙_}
 use native.Mathlib.Nat.{mod-lt}
 use native.Mathlib.Omega.{arith}
@@ -16,7 +17,8 @@ wide-requires c κs = search needs
 
 walk-requires : tie.Need-walk-requires
 walk-requires c κs =
-    let p = c .before .before .before .before .before .pre in
+    let c-pre = c .before .before .before .before .before .pre in
+    let p = c-pre in
     record { chained = p .0; within = omega arith; starts = c .wide .ensures ∙ p .1 .at _ (mod-lt _ (omega arith)) }
 
 returns : tie.Need-returns

@@ -1,3 +1,4 @@
+-- `grid::keys::walk` meets its contract.
 use Prim.Native.Nat.{_-_}
 use mathlib.Core.Path.{sym}
 use native.Mathlib.Omega.{arith}
@@ -25,7 +26,9 @@ shared-slice-read-if1 : tie.Need-shared-slice-read-if1 Inv-loop μ-loop
 shared-slice-read-if1 c = search needs
 
 returns : tie.Need-returns Inv-loop μ-loop
-returns c = sym (walked-hit (c .before .before .before .loop .inv) (omega arith) (c .if1 .taken))
+returns c =
+    let c-loop = c .before .before .before .loop in
+    sym (walked-hit (c-loop .inv) (omega arith) (c .if1 .taken))
 
 mul-wide : tie.Need-mul-wide Inv-loop μ-loop
 mul-wide c = search needs
@@ -38,14 +41,18 @@ wide-requires c κs = search needs
 
 loop-less : tie.Need-loop-less Inv-loop μ-loop
 loop-less c =
-    let p = c .before .before .before .before .before .before .before .before .pre .chained in
-    let i = c .before .before .before .before .before .loop .inv .within in
-    omega (arith, chained-less p (c .before .before .before .before .before .loop .j - 1) (omega arith))
+    let c-pre = c .before .before .before .before .before .before .before .before .pre in
+    let c-loop = c .before .before .before .before .before .loop in
+    let p = c-pre .chained in
+    let i = c-loop .inv .within in
+    omega (arith, chained-less p (c-loop .j - 1) (omega arith))
 
 loop-again : tie.Need-loop-again Inv-loop μ-loop
 loop-again c =
-    let p = c .before .before .before .before .before .before .before .before .pre .chained in
-    let w = c .before .before .before .before .before .loop .inv in
+    let c-pre = c .before .before .before .before .before .before .before .before .pre in
+    let c-loop = c .before .before .before .before .before .loop in
+    let p = c-pre .chained in
+    let w = c-loop .inv in
     let i = w .within in
     rw (c .wide .ensures) (walked-more w (omega arith) _ _ p (omega arith) (c .before .before .if1 .left))
 

@@ -1,3 +1,4 @@
+-- `grid::links::other_side` meets its contract.
 use mathlib.Core.Path.{refl}
 use native.Mathlib.Omega.{arith}
 use borrow.Author.Needs.{needs}
@@ -14,7 +15,7 @@ array-read-result c = search needs
 
 sub-result : tie.Need-sub-result
 unfolding lo hi
-sub-result c = omega (arith, other-fits (c .args .k) (c .args .s) (c .pre .0) (c .pre .1 .0) (c .pre .1 .1))
+sub-result c = omega (arith, other-fits (c .args .k) (c .args .s) (c .pre .edge-lt) (c .pre .slot-lt) (c .pre .holds))
 
 mul-result-2 : tie.Need-mul-result-2
 mul-result-2 c = search needs
@@ -24,15 +25,15 @@ array-read-result-2 c = search needs
 
 sub-result-2 : tie.Need-sub-result-2
 unfolding lo hi
-sub-result-2 c = omega (arith, other-fits (c .args .k) (c .args .s) (c .pre .0) (c .pre .1 .0) (c .pre .1 .1))
+sub-result-2 c = omega (arith, other-fits (c .args .k) (c .args .s) (c .pre .edge-lt) (c .pre .slot-lt) (c .pre .holds))
 
 sub-result-3 : tie.Need-sub-result-3
 unfolding lo hi
-sub-result-3 c = omega (arith, other-fits (c .args .k) (c .args .s) (c .pre .0) (c .pre .1 .0) (c .pre .1 .1))
+sub-result-3 c = omega (arith, other-fits (c .args .k) (c .args .s) (c .pre .edge-lt) (c .pre .slot-lt) (c .pre .holds))
 
 returns : tie.Need-returns
 unfolding lo hi
-returns c = (refl, other-lt (c .args .k) (c .args .s) (c .pre .0) (c .pre .1 .0) (c .pre .1 .1))
+returns c = (refl, other-lt (c .args .k) (c .args .s) (c .pre .edge-lt) (c .pre .slot-lt) (c .pre .holds))
 
 pub other-side-spec : {M : Type 1} → statement M
 other-side-spec =

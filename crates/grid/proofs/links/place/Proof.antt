@@ -1,3 +1,4 @@
+-- `grid::links::place` meets its contract.
 use Prim.Native.Nat.{_-_, _≤_}
 use native.Mathlib.Omega.{arith}
 use borrow.Author.Needs.{needs}
@@ -37,7 +38,9 @@ loop-less : tie.Need-loop-less Inv-loop μ-loop
 loop-less c = search needs
 
 loop-again : tie.Need-loop-again Inv-loop μ-loop
-loop-again c = (omega arith, sought-more (c .before .before .before .loop .inv .1) (c .if1 .left))
+loop-again c =
+    let c-loop = c .before .before .before .loop in
+    (omega arith, sought-more (c-loop .inv .1) (c .if1 .left))
 
 returns-2 : tie.Need-returns-2 Inv-loop μ-loop
 returns-2 c = (omega arith, sought-last (c .before .loop .k) (omega arith) (c .before .loop .inv .1))

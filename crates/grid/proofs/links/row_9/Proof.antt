@@ -1,3 +1,4 @@
+-- `grid::links::row_9` meets its contract.
 use Prim.Native.Nat.{_-_, _/_, _<_, _≤_}
 use mathlib.Core.Path.{_∙_, _≡_, refl, sym}
 use native.Mathlib.Omega.{arith}
@@ -26,10 +27,14 @@ edge-key-requires : tie.Need-edge-key-requires Inv-loop μ-loop
 edge-key-requires c κs = search needs
 
 mul-latest : tie.Need-mul-latest Inv-loop μ-loop
-mul-latest c = omega (arith, c .before .before .before .before .before .before .before .before .before .pre .ordered .few)
+mul-latest c =
+    let c-pre = c .before .before .before .before .before .before .before .before .before .pre in
+    omega (arith, c-pre .ordered .few)
 
 latest-requires : tie.Need-latest-requires Inv-loop μ-loop
-latest-requires c κs = (c .before .before .before .before .before .before .before .before .before .pre .findable .chained, c .before .before .before .before .before .before .before .before .before .pre .findable .headed)
+latest-requires c κs =
+    let c-pre = c .before .before .before .before .before .before .before .before .before .pre in
+    (c-pre .findable .chained, c-pre .findable .headed)
 
 add-split-at : tie.Need-add-split-at Inv-loop μ-loop
 add-split-at c = search needs
@@ -39,9 +44,11 @@ slice-aggregate-split-at c = search needs
 
 split-at-requires : tie.Need-split-at-requires Inv-loop μ-loop
 split-at-requires c κs =
-    let p = c .before .before .before .before .before .before .before .before .before .before .before .pre in
+    let c-pre = c .before .before .before .before .before .before .before .before .before .before .before .pre in
+    let c-loop = c .before .before .before .before .loop in
+    let p = c-pre in
     let f = p .findable in
-    let w = c .before .before .before .before .loop .inv in
+    let w = c-loop .inv in
     let z = rw (c .before .before .edge-key .ensures) at (c .before .latest .ensures) in
     record {
       chained = f .chained;
@@ -54,14 +61,19 @@ split-at-requires c κs =
 
 returns : tie.Need-returns Inv-loop μ-loop
 returns c =
-    let p = c .before .before .before .before .before .before .before .before .before .before .before .before .before .before .pre in
+    let c-pre = c .before .before .before .before .before .before .before .before .before .before .before .before .before .before .pre in
+    let c-loop = c .before .before .before .before .before .before .before .loop in
+    let c-edge-key = c .before .before .before .before .before .edge-key in
+    let c-latest = c .before .before .before .before .latest in
+    let c-split-at = c .before .before .split-at in
+    let p = c-pre in
     let f = p .findable in
-    let w = c .before .before .before .before .before .before .before .loop .inv in
-    let z = rw (c .before .before .before .before .before .edge-key .ensures) at (c .before .before .before .before .latest .ensures) in
-    let pos : 0 < c .before .before .before .before .latest .result = rw z (used-found _ _ (f .small) (f .small-ends) _ (f .table) _ (p .used _ (omega arith))) in
-    let F = rw (c .before .before .before .before .before .edge-key .ensures) at (c .before .before .split-at .ensures .0) in
+    let w = c-loop .inv in
+    let z = rw (c-edge-key .ensures) at (c-latest .ensures) in
+    let pos : 0 < c-latest .result = rw z (used-found _ _ (f .small) (f .small-ends) _ (f .table) _ (p .used _ (omega arith))) in
+    let F = rw (c-edge-key .ensures) at (c-split-at .ensures .0) in
     let t = split-missing _ (p .ordered) _ _ (f .table) (p .near-is) _ (f .small-ends) _ _ z pos _ _ _ F in
-    sym (w .3 ∙ seek-hit _ _ _ (omega arith) (t ∙ sym (rw (c .before .before .before .before .before .edge-key .ensures) at (c .before .before .split-at .ensures .1)) ∙ c .if1 .taken))
+    sym (w .3 ∙ seek-hit _ _ _ (omega arith) (t ∙ sym (rw (c-edge-key .ensures) at (c-split-at .ensures .1)) ∙ c .if1 .taken))
 
 add-e : tie.Need-add-e Inv-loop μ-loop
 add-e c = search needs
@@ -71,18 +83,24 @@ loop-less c = search needs
 
 loop-again : tie.Need-loop-again Inv-loop μ-loop
 loop-again c =
-    let p = c .before .before .before .before .before .before .before .before .before .before .before .before .before .before .pre in
+    let c-pre = c .before .before .before .before .before .before .before .before .before .before .before .before .before .before .pre in
+    let c-loop = c .before .before .before .before .before .before .before .loop in
+    let c-edge-key = c .before .before .before .before .before .edge-key in
+    let c-latest = c .before .before .before .before .latest in
+    let c-split-at = c .before .before .split-at in
+    let p = c-pre in
     let f = p .findable in
-    let w = c .before .before .before .before .before .before .before .loop .inv in
-    let z = rw (c .before .before .before .before .before .edge-key .ensures) at (c .before .before .before .before .latest .ensures) in
-    let pos : 0 < c .before .before .before .before .latest .result = rw z (used-found _ _ (f .small) (f .small-ends) _ (f .table) _ (p .used _ (omega arith))) in
-    let F = rw (c .before .before .before .before .before .edge-key .ensures) at (c .before .before .split-at .ensures .0) in
+    let w = c-loop .inv in
+    let z = rw (c-edge-key .ensures) at (c-latest .ensures) in
+    let pos : 0 < c-latest .result = rw z (used-found _ _ (f .small) (f .small-ends) _ (f .table) _ (p .used _ (omega arith))) in
+    let F = rw (c-edge-key .ensures) at (c-split-at .ensures .0) in
     let t = split-missing _ (p .ordered) _ _ (f .table) (p .near-is) _ (f .small-ends) _ _ z pos _ _ _ F in
-    (omega arith, F .same ∙ w .1, under-more (w .2) F, w .3 ∙ seek-miss _ _ _ (omega arith) (t ∙ sym (rw (c .before .before .before .before .before .edge-key .ensures) at (c .before .before .split-at .ensures .1)) ∙ c .if1 .left))
+    (omega arith, F .same ∙ w .1, under-more (w .2) F, w .3 ∙ seek-miss _ _ _ (omega arith) (t ∙ sym (rw (c-edge-key .ensures) at (c-split-at .ensures .1)) ∙ c .if1 .left))
 
 returns-2 : tie.Need-returns-2 Inv-loop μ-loop
 returns-2 c =
-    let e : c .before .loop .e ≡ length (c .before .before .before .before .before .before .before .before .args .edges .now) / 2 = omega arith in
+    let c-args = c .before .before .before .before .before .before .before .before .args in
+    let e : c .before .loop .e ≡ length (c-args .edges .now) / 2 = omega arith in
     sym (c .before .loop .inv .3 ∙ seek-end _ _ _ (omega arith) ∙ e)
 
 pub row-9-spec : {M : Type 1} → statement M

@@ -1,3 +1,4 @@
+-- `grid::links::split_at` meets its contract.
 use Prim.Native.Nat.{_%_, _-_}
 use native.Mathlib.Omega.{arith}
 use borrow.Author.Needs.{needs}
@@ -6,13 +7,19 @@ use Rattle.grid.proofs.links.split_at.Statement.{statement}
 use Rattle.grid.proofs.links.split_at.Tie as tie
 
 sub-x : tie.Need-sub-x
-sub-x c = omega (arith, c .before .before .before .before .pre .found)
+sub-x c =
+    let c-pre = c .before .before .before .before .pre in
+    omega (arith, c-pre .found)
 
 mul-marks : tie.Need-mul-marks
-mul-marks c = omega (arith, top-within (c .before .before .before .before .pre), c .before .before .before .before .pre .paired .few)
+mul-marks c =
+    let c-pre = c .before .before .before .before .pre in
+    omega (arith, top-within (c-pre), c-pre .paired .few)
 
 slice-write-marks : tie.Need-slice-write-marks
-slice-write-marks c = omega (arith, top-within (c .before .before .before .before .pre), c .before .before .before .before .pre .found, c .before .before .before .before .pre .room)
+slice-write-marks c =
+    let c-pre = c .before .before .before .before .pre in
+    omega (arith, top-within (c-pre), c-pre .found, c-pre .room)
 
 mul-s : tie.Need-mul-s
 mul-s c = search needs
@@ -21,34 +28,63 @@ array-read-s : tie.Need-array-read-s
 array-read-s c = search needs
 
 mul-a : tie.Need-mul-a
-mul-a c = omega (arith, top-within (c .before .before .before .before .pre), c .before .before .before .before .pre .paired .few)
+mul-a c =
+    let c-pre = c .before .before .before .before .pre in
+    omega (arith, top-within (c-pre), c-pre .paired .few)
 
 add-a : tie.Need-add-a
-add-a c = omega (arith, top-within (c .before .before .before .before .pre), c .before .before .before .before .pre .paired .few, free-lt ((c .before .before .before .before .args .top - 1) % 6) (omega arith))
+add-a c =
+    let c-pre = c .before .before .before .before .pre in
+    let c-args = c .before .before .before .before .args in
+    omega (arith, top-within (c-pre), c-pre .paired .few, free-lt ((c-args .top - 1) % 6) (omega arith))
 
 mul-b : tie.Need-mul-b
-mul-b c = omega (arith, top-within (c .before .before .before .before .pre), c .before .before .before .before .pre .paired .few)
+mul-b c =
+    let c-pre = c .before .before .before .before .pre in
+    omega (arith, top-within (c-pre), c-pre .paired .few)
 
 other-side-requires : tie.Need-other-side-requires
-other-side-requires c κs = (omega arith, (free-lt ((c .before .before .before .before .args .top - 1) % 6) (omega arith), free-holds ((c .before .before .before .before .args .top - 1) % 6) (omega arith)))
+other-side-requires c κs =
+    let c-args = c .before .before .before .before .args in
+    record { edge-lt = omega arith; slot-lt = free-lt ((c-args .top - 1) % 6) (omega arith); holds = free-holds ((c-args .top - 1) % 6) (omega arith) }
 
 add-b : tie.Need-add-b
-add-b c = omega (arith, top-within (c .before .before .before .before .before .pre), c .before .before .before .before .before .pre .paired .few, c .other-side .ensures .1)
+add-b c =
+    let c-pre = c .before .before .before .before .before .pre in
+    omega (arith, top-within (c-pre), c-pre .paired .few, c .other-side .ensures .1)
 
 spread-requires : tie.Need-spread-requires
-spread-requires c κs = spread-first (c .before .before .before .before .before .before .pre) _ (c .before .other-side .ensures .0)
+spread-requires c κs =
+    let c-pre = c .before .before .before .before .before .before .pre in
+    spread-first (c-pre) _ (c .before .other-side .ensures .0)
 
 spread-requires-2 : tie.Need-spread-requires-2
-spread-requires-2 c κs = spread-second (c .before .before .before .before .before .before .before .before .before .before .pre) _ 8192 (c .before .before .before .before .before .other-side .ensures .0) (c .before .before .before .before .before .other-side .ensures .1) _ (c .before .before .before .spread .ensures)
+spread-requires-2 c κs =
+    let c-pre = c .before .before .before .before .before .before .before .before .before .before .pre in
+    let c-other-side = c .before .before .before .before .before .other-side in
+    let c-spread = c .before .before .before .spread in
+    spread-second (c-pre) _ 8192 (c-other-side .ensures .0) (c-other-side .ensures .1) _ (c-spread .ensures)
 
 left-out-requires : tie.Need-left-out-requires
-left-out-requires c κs = record { chained = c .before .before .before .before .before .before .before .before .before .before .before .before .before .before .pre .chained; room = omega (arith, spread-same (c .before .before .before .before .before .before .before .before .before .before .before .before .before .before .pre) _ _ _ _ (c .before .before .before .before .before .before .before .spread .ensures) (c .before .before .before .spread2 .ensures), c .before .before .before .before .before .before .before .before .before .before .before .before .before .before .pre .room); top-is = c .before .before .before .before .before .before .before .before .before .before .before .before .before .before .pre .top-is }
+left-out-requires c κs =
+    let c-pre = c .before .before .before .before .before .before .before .before .before .before .before .before .before .before .pre in
+    let c-spread = c .before .before .before .before .before .before .before .spread in
+    let c-spread2 = c .before .before .before .spread2 in
+    record { chained = c-pre .chained; room = omega (arith, spread-same (c-pre) _ _ _ _ (c-spread .ensures) (c-spread2 .ensures), c-pre .room); top-is = c-pre .top-is }
 
 same-length : tie.Need-same-length
-same-length c = spread-same (c .before .before .before .before .before .before .before .before .before .before .before .before .before .before .before .pre) _ _ _ _ (c .before .before .before .before .before .before .before .before .spread .ensures) (c .before .before .before .before .spread2 .ensures)
+same-length c =
+    let c-pre = c .before .before .before .before .before .before .before .before .before .before .before .before .before .before .before .pre in
+    let c-spread = c .before .before .before .before .before .before .before .before .spread in
+    let c-spread2 = c .before .before .before .before .spread2 in
+    spread-same (c-pre) _ _ _ _ (c-spread .ensures) (c-spread2 .ensures)
 
 returns : tie.Need-returns
-returns c = (spread-both (c .before .before .before .before .before .before .before .before .before .before .before .before .before .before .before .pre) _ 8192 (omega (arith, c .before .before .before .before .before .before .before .before .before .before .before .before .before .before .before .pre .paired .few)) _ _ (c .before .before .before .before .before .before .before .before .spread .ensures) (c .before .before .before .before .spread2 .ensures), c .left-out .ensures)
+returns c =
+    let c-pre = c .before .before .before .before .before .before .before .before .before .before .before .before .before .before .before .pre in
+    let c-spread = c .before .before .before .before .before .before .before .before .spread in
+    let c-spread2 = c .before .before .before .before .spread2 in
+    (spread-both (c-pre) _ 8192 (omega (arith, c-pre .paired .few)) _ _ (c-spread .ensures) (c-spread2 .ensures), c .left-out .ensures)
 
 pub split-at-spec : {M : Type 1} → statement M
 split-at-spec =

@@ -1,3 +1,4 @@
+-- `grid::tables::write_names` meets its contract.
 use Prim.Native.Nat.{ℕ, _-_, _≤_}
 use mathlib.Core.Path.{_∙_, _≡_, ap}
 use native.Mathlib.Omega.{arith}
@@ -22,7 +23,9 @@ mul-wide : tie.Need-mul-wide Inv-loop μ-loop
 mul-wide c = search needs
 
 shared-slice-read-wide : tie.Need-shared-slice-read-wide Inv-loop μ-loop
-shared-slice-read-wide c = omega (arith, c .before .before .before .before .before .pre .across-room)
+shared-slice-read-wide c =
+    let c-pre = c .before .before .before .before .before .pre in
+    omega (arith, c-pre .across-room)
 
 wide-requires : tie.Need-wide-requires Inv-loop μ-loop
 wide-requires c κs = search needs
@@ -31,13 +34,19 @@ lower-requires : tie.Need-lower-requires Inv-loop μ-loop
 lower-requires c κs = search needs
 
 cast-names : tie.Need-cast-names Inv-loop μ-loop
-cast-names c = omega (arith, c .lower .ensures .1, c .before .before .before .before .before .before .before .pre .few)
+cast-names c =
+    let c-pre = c .before .before .before .before .before .before .before .pre in
+    omega (arith, c .lower .ensures .1, c-pre .few)
 
 mul-names : tie.Need-mul-names Inv-loop μ-loop
 mul-names c = search needs
 
 slice-write-names : tie.Need-slice-write-names Inv-loop μ-loop
-slice-write-names c = omega (arith, c .before .before .before .before .before .before .before .pre .room, ap length (c .before .before .before .before .loop .inv .1), length-filled (λ j. lowerOf j (getD (c .before .before .before .before .before .before .before .args .across .now) j 0)) (c .before .before .before .before .loop .j) (c .before .before .before .before .before .before .before .args .names .now))
+slice-write-names c =
+    let c-pre = c .before .before .before .before .before .before .before .pre in
+    let c-args = c .before .before .before .before .before .before .before .args in
+    let c-loop = c .before .before .before .before .loop in
+    omega (arith, c-pre .room, ap length (c-loop .inv .1), length-filled (λ j. lowerOf j (getD (c-args .across .now) j 0)) (c-loop .j) (c-args .names .now))
 
 add-j : tie.Need-add-j Inv-loop μ-loop
 add-j c = search needs
@@ -46,15 +55,21 @@ loop-less : tie.Need-loop-less Inv-loop μ-loop
 loop-less c = search needs
 
 loop-again : tie.Need-loop-again Inv-loop μ-loop
-loop-again c = (omega arith, filled-more (λ j. lowerOf j (getD (c .before .before .before .before .before .before .before .args .across .now) j 0)) _ _ _ _ (c .before .before .before .before .loop .inv .1) (c .lower .ensures .0 ∙ ap (lowerOf (c .before .before .before .before .loop .j)) (c .before .wide .ensures)))
+loop-again c =
+    let c-args = c .before .before .before .before .before .before .before .args in
+    let c-loop = c .before .before .before .before .loop in
+    (omega arith, filled-more (λ j. lowerOf j (getD (c-args .across .now) j 0)) _ _ _ _ (c-loop .inv .1) (c .lower .ensures .0 ∙ ap (lowerOf (c-loop .j)) (c .before .wide .ensures)))
 
 same-length : tie.Need-same-length Inv-loop μ-loop
-same-length c = ap length (c .before .loop .inv .1) ∙ length-filled (λ j. lowerOf j (getD (c .before .before .before .before .args .across .now) j 0)) (c .before .loop .j) (c .before .before .before .before .args .names .now)
+same-length c =
+    let c-args = c .before .before .before .before .args in
+    ap length (c .before .loop .inv .1) ∙ length-filled (λ j. lowerOf j (getD (c-args .across .now) j 0)) (c .before .loop .j) (c-args .names .now)
 
 returns : tie.Need-returns Inv-loop μ-loop
 returns c =
-    let e : c .before .loop .j ≡ c .before .before .before .before .args .n = omega arith in
-    c .before .loop .inv .1 ∙ ap (λ (x : ℕ). filled (λ j. lowerOf j (getD (c .before .before .before .before .args .across .now) j 0)) x (c .before .before .before .before .args .names .now)) e
+    let c-args = c .before .before .before .before .args in
+    let e : c .before .loop .j ≡ c-args .n = omega arith in
+    c .before .loop .inv .1 ∙ ap (λ (x : ℕ). filled (λ j. lowerOf j (getD (c-args .across .now) j 0)) x (c-args .names .now)) e
 
 pub write-names-spec : {M : Type 1} → statement M
 write-names-spec =

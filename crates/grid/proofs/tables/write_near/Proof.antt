@@ -1,3 +1,4 @@
+-- `grid::tables::write_near` meets its contract.
 use Prim.Native.Nat.{ℕ, _-_, _≤_}
 use mathlib.Core.Path.{_∙_, _≡_, ap, refl}
 use native.Mathlib.Omega.{arith}
@@ -21,13 +22,19 @@ mul-near : tie.Need-mul-near Inv-loop μ-loop
 mul-near c = search needs
 
 shared-slice-read-near : tie.Need-shared-slice-read-near Inv-loop μ-loop
-shared-slice-read-near c = omega (arith, c .before .before .before .pre .across-room)
+shared-slice-read-near c =
+    let c-pre = c .before .before .before .pre in
+    omega (arith, c-pre .across-room)
 
 mul-near-2 : tie.Need-mul-near-2 Inv-loop μ-loop
 mul-near-2 c = search needs
 
 slice-write-near : tie.Need-slice-write-near Inv-loop μ-loop
-slice-write-near c = omega (arith, c .before .before .before .pre .room, ap length (c .before .before .loop .inv .1), length-filled (λ j. getD (c .before .before .before .args .across .now) j 0) (c .before .before .loop .j) (c .before .before .before .args .near .now))
+slice-write-near c =
+    let c-pre = c .before .before .before .pre in
+    let c-args = c .before .before .before .args in
+    let c-loop = c .before .before .loop in
+    omega (arith, c-pre .room, ap length (c-loop .inv .1), length-filled (λ j. getD (c-args .across .now) j 0) (c-loop .j) (c-args .near .now))
 
 add-j : tie.Need-add-j Inv-loop μ-loop
 add-j c = search needs
@@ -36,15 +43,20 @@ loop-less : tie.Need-loop-less Inv-loop μ-loop
 loop-less c = search needs
 
 loop-again : tie.Need-loop-again Inv-loop μ-loop
-loop-again c = (omega arith, filled-more (λ j. getD (c .before .before .before .args .across .now) j 0) _ _ _ _ (c .before .before .loop .inv .1) refl)
+loop-again c =
+    let c-args = c .before .before .before .args in
+    (omega arith, filled-more (λ j. getD (c-args .across .now) j 0) _ _ _ _ (c .before .before .loop .inv .1) refl)
 
 same-length : tie.Need-same-length Inv-loop μ-loop
-same-length c = ap length (c .before .loop .inv .1) ∙ length-filled (λ j. getD (c .before .before .args .across .now) j 0) (c .before .loop .j) (c .before .before .args .near .now)
+same-length c =
+    let c-args = c .before .before .args in
+    ap length (c .before .loop .inv .1) ∙ length-filled (λ j. getD (c-args .across .now) j 0) (c .before .loop .j) (c-args .near .now)
 
 returns : tie.Need-returns Inv-loop μ-loop
 returns c =
-    let e : c .before .loop .j ≡ c .before .before .args .n = omega arith in
-    c .before .loop .inv .1 ∙ ap (λ (x : ℕ). filled (λ j. getD (c .before .before .args .across .now) j 0) x (c .before .before .args .near .now)) e
+    let c-args = c .before .before .args in
+    let e : c .before .loop .j ≡ c-args .n = omega arith in
+    c .before .loop .inv .1 ∙ ap (λ (x : ℕ). filled (λ j. getD (c-args .across .now) j 0) x (c-args .near .now)) e
 
 pub write-near-spec : {M : Type 1} → statement M
 write-near-spec =

@@ -1,3 +1,4 @@
+-- `grid::tables::write_sides` meets its contract.
 use Prim.Native.Nat.{ℕ, _-_, _≤_}
 use mathlib.Core.Path.{_∙_, _≡_, ap, refl}
 use native.Mathlib.Omega.{arith}
@@ -21,19 +22,29 @@ mul-x : tie.Need-mul-x Inv-loop μ-loop
 mul-x c = search needs
 
 shared-slice-read-x : tie.Need-shared-slice-read-x Inv-loop μ-loop
-shared-slice-read-x c = omega (arith, c .before .before .before .pre .listed-room)
+shared-slice-read-x c =
+    let c-pre = c .before .before .before .pre in
+    omega (arith, c-pre .listed-room)
 
 sub-sides : tie.Need-sub-sides Inv-loop μ-loop
-sub-sides c = omega (arith, c .before .before .before .pre .entries (c .before .before .loop .j) (omega arith) .0)
+sub-sides c =
+    let c-pre = c .before .before .before .pre in
+    omega (arith, c-pre .entries (c .before .before .loop .j) (omega arith) .0)
 
 cast-sides : tie.Need-cast-sides Inv-loop μ-loop
-cast-sides c = omega (arith, c .before .before .before .pre .entries (c .before .before .loop .j) (omega arith) .1)
+cast-sides c =
+    let c-pre = c .before .before .before .pre in
+    omega (arith, c-pre .entries (c .before .before .loop .j) (omega arith) .1)
 
 mul-sides : tie.Need-mul-sides Inv-loop μ-loop
 mul-sides c = search needs
 
 slice-write-sides : tie.Need-slice-write-sides Inv-loop μ-loop
-slice-write-sides c = omega (arith, c .before .before .before .pre .room, ap length (c .before .before .loop .inv .1), length-filled (λ j. getD (c .before .before .before .args .listed .now) j 0 - 1) (c .before .before .loop .j) (c .before .before .before .args .sides .now))
+slice-write-sides c =
+    let c-pre = c .before .before .before .pre in
+    let c-args = c .before .before .before .args in
+    let c-loop = c .before .before .loop in
+    omega (arith, c-pre .room, ap length (c-loop .inv .1), length-filled (λ j. getD (c-args .listed .now) j 0 - 1) (c-loop .j) (c-args .sides .now))
 
 add-j : tie.Need-add-j Inv-loop μ-loop
 add-j c = search needs
@@ -42,15 +53,20 @@ loop-less : tie.Need-loop-less Inv-loop μ-loop
 loop-less c = search needs
 
 loop-again : tie.Need-loop-again Inv-loop μ-loop
-loop-again c = (omega arith, filled-more (λ j. getD (c .before .before .before .args .listed .now) j 0 - 1) _ _ _ _ (c .before .before .loop .inv .1) refl)
+loop-again c =
+    let c-args = c .before .before .before .args in
+    (omega arith, filled-more (λ j. getD (c-args .listed .now) j 0 - 1) _ _ _ _ (c .before .before .loop .inv .1) refl)
 
 same-length : tie.Need-same-length Inv-loop μ-loop
-same-length c = ap length (c .before .loop .inv .1) ∙ length-filled (λ j. getD (c .before .before .args .listed .now) j 0 - 1) (c .before .loop .j) (c .before .before .args .sides .now)
+same-length c =
+    let c-args = c .before .before .args in
+    ap length (c .before .loop .inv .1) ∙ length-filled (λ j. getD (c-args .listed .now) j 0 - 1) (c .before .loop .j) (c-args .sides .now)
 
 returns : tie.Need-returns Inv-loop μ-loop
 returns c =
-    let e : c .before .loop .j ≡ c .before .before .args .n = omega arith in
-    c .before .loop .inv .1 ∙ ap (λ (x : ℕ). filled (λ j. getD (c .before .before .args .listed .now) j 0 - 1) x (c .before .before .args .sides .now)) e
+    let c-args = c .before .before .args in
+    let e : c .before .loop .j ≡ c-args .n = omega arith in
+    c .before .loop .inv .1 ∙ ap (λ (x : ℕ). filled (λ j. getD (c-args .listed .now) j 0 - 1) x (c-args .sides .now)) e
 
 pub write-sides-spec : {M : Type 1} → statement M
 write-sides-spec =

@@ -1,3 +1,4 @@
+-- `grid::tables::write_starts` meets its contract.
 use Prim.Native.Nat.{ℕ, _-_, _≤_}
 use mathlib.Core.Path.{_∙_, _≡_, ap, sym}
 use native.Mathlib.Omega.{arith}
@@ -23,7 +24,10 @@ mul-starts : tie.Need-mul-starts Inv-loop μ-loop
 mul-starts c = search needs
 
 slice-write-starts : tie.Need-slice-write-starts Inv-loop μ-loop
-slice-write-starts c = omega (arith, c .before .before .before .before .pre .0, ap length (c .before .loop .inv .2), length-filled (start (c .before .before .before .before .args .counts .now)) (c .before .loop .e) (c .before .before .before .before .args .starts .now))
+slice-write-starts c =
+    let c-pre = c .before .before .before .before .pre in
+    let c-args = c .before .before .before .before .args in
+    omega (arith, c-pre .0, ap length (c .before .loop .inv .2), length-filled (start (c-args .counts .now)) (c .before .loop .e) (c-args .starts .now))
 
 shared-slice-read-size : tie.Need-shared-slice-read-size Inv-loop μ-loop
 shared-slice-read-size c = search needs
@@ -32,7 +36,11 @@ size-requires : tie.Need-size-requires Inv-loop μ-loop
 size-requires c κs = search needs
 
 add-s : tie.Need-add-s Inv-loop μ-loop
-add-s c = omega (arith, c .before .before .before .before .before .before .pre .1, c .before .before .before .loop .inv .1, c .size .ensures .1, start-mono (c .before .before .before .before .before .before .args .counts .now) (c .before .before .before .loop .e) (length (c .before .before .before .before .before .before .args .counts .now)) (omega arith))
+add-s c =
+    let c-pre = c .before .before .before .before .before .before .pre in
+    let c-args = c .before .before .before .before .before .before .args in
+    let c-loop = c .before .before .before .loop in
+    omega (arith, c-pre .1, c-loop .inv .1, c .size .ensures .1, start-mono (c-args .counts .now) (c-loop .e) (length (c-args .counts .now)) (omega arith))
 
 add-e : tie.Need-add-e Inv-loop μ-loop
 add-e c = search needs
@@ -41,15 +49,21 @@ loop-less : tie.Need-loop-less Inv-loop μ-loop
 loop-less c = search needs
 
 loop-again : tie.Need-loop-again Inv-loop μ-loop
-loop-again c = (omega arith, omega (arith, start-next (c .before .before .before .before .before .before .args .counts .now) (c .before .before .before .loop .e), c .size .ensures .0, c .before .before .before .loop .inv .1), filled-more (start (c .before .before .before .before .before .before .args .counts .now)) _ _ _ _ (c .before .before .before .loop .inv .2) (c .before .before .before .loop .inv .1))
+loop-again c =
+    let c-args = c .before .before .before .before .before .before .args in
+    let c-loop = c .before .before .before .loop in
+    (omega arith, omega (arith, start-next (c-args .counts .now) (c-loop .e), c .size .ensures .0, c-loop .inv .1), filled-more (start (c-args .counts .now)) _ _ _ _ (c-loop .inv .2) (c-loop .inv .1))
 
 same-length : tie.Need-same-length Inv-loop μ-loop
-same-length c = ap length (c .before .loop .inv .2) ∙ length-filled (start (c .before .before .before .before .args .counts .now)) (c .before .loop .e) (c .before .before .before .before .args .starts .now)
+same-length c =
+    let c-args = c .before .before .before .before .args in
+    ap length (c .before .loop .inv .2) ∙ length-filled (start (c-args .counts .now)) (c .before .loop .e) (c-args .starts .now)
 
 returns : tie.Need-returns Inv-loop μ-loop
 returns c =
-    let e : c .before .loop .e ≡ length (c .before .before .before .before .args .counts .now) = omega arith in
-    c .before .loop .inv .2 ∙ ap (λ (x : ℕ). filled (start (c .before .before .before .before .args .counts .now)) x (c .before .before .before .before .args .starts .now)) e
+    let c-args = c .before .before .before .before .args in
+    let e : c .before .loop .e ≡ length (c-args .counts .now) = omega arith in
+    c .before .loop .inv .2 ∙ ap (λ (x : ℕ). filled (start (c-args .counts .now)) x (c-args .starts .now)) e
 
 pub write-starts-spec : {M : Type 1} → statement M
 write-starts-spec =

@@ -1,0 +1,91 @@
+-- What holds of every half-edge: one computed test, lifted to any of them.
+use Prim.Native.Nat.{ℕ, _+_, _*_, _/_, _%_, _<_}
+use mathlib.Core.Path.{_≡_, refl, sym, ap, _∙_}
+use mathlib.Core.Logic.{_≢_}
+use mathlib.Core.Bool.{Bool, true, false, not, _&&_}
+use native.Mathlib.Omega.{arith}
+use mathlib.Core.List.{List}
+use lib.Dec.{eqb, ltb}
+use lib.ListN.{getD}
+use borrow.Author.Tests.{eqb-true, eqb-false, ltb-true, eq-eqb, ne-eqb}
+use Rattle.counting.specs.Pick.{pick}
+use Rattle.counting.specs.Search.{every}
+use Rattle.counting.proofs.Bools.{and-left, and-right}
+use Rattle.counting.proofs.Search.{every-is}
+use Rattle.slots.specs.Slots.{slotEdge, place, contains, firstSlot, secondSlot}
+use Rattle.slots.proofs.Slots.{SlotEdge, slot-edge}
+use Rattle.cell.specs.Half.{halfEdges, slotOf, placeOf, edgeOf, halfOf, otherSlot, twin}
+
+-- the half-edge that follows lies in the other slot of the same edge: the first if this one lies in the second
+twinTest : ℕ → Bool
+twinTest h =
+    ltb (twin h) halfEdges
+    && (eqb (edgeOf (twin h)) (edgeOf h)
+    && pick (eqb (firstSlot (edgeOf h)) (slotOf h)) (not (eqb (firstSlot (edgeOf h)) (slotOf (twin h)))) (eqb (firstSlot (edgeOf h)) (slotOf (twin h))))
+
+twins-pass : every twinTest halfEdges ≡ true
+unfolding every twinTest twin edgeOf firstSlot
+twins-pass = refl
+
+module _ (h : ℕ) (l : h < halfEdges) where
+  pub slot-lt : slotOf h < 4
+  slot-lt = omega arith
+
+  pub place-lt : placeOf h < 3
+  place-lt = omega arith
+
+  pub edge-lt : edgeOf h < 6
+  unfolding edgeOf
+  edge-lt = slot-edge (slotOf h) (placeOf h) slot-lt place-lt .lt
+
+  pub place-is : place (slotOf h) (edgeOf h) ≡ placeOf h
+  unfolding edgeOf
+  place-is = slot-edge (slotOf h) (placeOf h) slot-lt place-lt .place-is
+
+  pub within : contains (edgeOf h) (slotOf h) ≡ true
+  unfolding edgeOf
+  within = slot-edge (slotOf h) (placeOf h) slot-lt place-lt .within
+
+  twin-passes : twinTest h ≡ true
+  twin-passes = every-is twinTest halfEdges twins-pass h l
+
+  pub twin-lt : twin h < halfEdges
+  unfolding twinTest
+  twin-lt = ltb-true (twin h) halfEdges (and-left (ltb (twin h) halfEdges) _ twin-passes)
+
+  pub twin-edge : edgeOf (twin h) ≡ edgeOf h
+  unfolding twinTest
+  twin-edge =
+      eqb-true (edgeOf (twin h)) (edgeOf h) (and-left (eqb (edgeOf (twin h)) (edgeOf h)) _ (and-right (ltb (twin h) halfEdges) _ twin-passes))
+
+  twin-slot : pick (eqb (firstSlot (edgeOf h)) (slotOf h)) (not (eqb (firstSlot (edgeOf h)) (slotOf (twin h)))) (eqb (firstSlot (edgeOf h)) (slotOf (twin h))) ≡ true
+  unfolding twinTest
+  twin-slot = and-right (eqb (edgeOf (twin h)) (edgeOf h)) _ (and-right (ltb (twin h) halfEdges) _ twin-passes)
+
+  -- the one half-edge of an edge lies in its first slot, the other in its second
+  pub twin-second : firstSlot (edgeOf h) ≡ slotOf h → eqb (firstSlot (edgeOf h)) (slotOf (twin h)) ≡ false
+  twin-second e = borrow.Author.Tests.not-true (eqb (firstSlot (edgeOf h)) (slotOf (twin h))) (rw (eq-eqb (firstSlot (edgeOf h)) (slotOf h) e) at twin-slot)
+
+  pub twin-first : firstSlot (edgeOf h) ≢ slotOf h → eqb (firstSlot (edgeOf h)) (slotOf (twin h)) ≡ true
+  twin-first e = rw (ne-eqb (firstSlot (edgeOf h)) (slotOf h) e) at twin-slot
+
+-- the half-edge of edge j in slot s
+pub half-slot : (s j : ℕ) → j < 3 → slotOf (3 * s + j) ≡ s
+half-slot s j l = omega arith
+
+pub half-place : (s j : ℕ) → j < 3 → placeOf (3 * s + j) ≡ j
+half-place s j l = omega arith
+
+pub half-edge : (s j : ℕ) → j < 3 → edgeOf (3 * s + j) ≡ slotEdge s j
+unfolding edgeOf
+half-edge s j l = rw (half-slot s j l, half-place s j l)
+
+-- a table of m entries that pass the test is right at each, and its entries are below the bound
+pub entry : (m : ℕ) (f : ℕ → ℕ) (n : ℕ) (l : List ℕ) → every (λ i. eqb (getD l i 0) (f i) && ltb (getD l i 0) n) m ≡ true
+    → (i : ℕ) → i < m → (getD l i 0 ≡ f i) × (getD l i 0 < n)
+entry m f n l e i lt =
+    let t = every-is (λ i. eqb (getD l i 0) (f i) && ltb (getD l i 0) n) m e i lt in
+    (
+      eqb-true (getD l i 0) (f i) (and-left (eqb (getD l i 0) (f i)) (ltb (getD l i 0) n) t),
+      ltb-true (getD l i 0) n (and-right (eqb (getD l i 0) (f i)) (ltb (getD l i 0) n) t),
+    )

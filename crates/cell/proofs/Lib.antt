@@ -1,0 +1,9 @@
+pub mod Half
+pub mod Step
+pub mod Reach
+pub mod Route
+pub mod Ready
+pub mod Mates
+pub mod Walking
+pub mod Recording
+pub mod Loops

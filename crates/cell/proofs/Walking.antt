@@ -1,0 +1,160 @@
+-- What a walk from the crossing p keeps.
+use Prim.Native.Nat.{ℕ, zero, suc, _+_, _*_, _-_, _/_, _≤_, _<_}
+use mathlib.Core.Path.{_≡_, refl, sym, ap, _∙_, subst}
+use mathlib.Core.Logic.{_≢_, ⊎-elim}
+use mathlib.Core.Bool.{Bool, true, false}
+use mathlib.Core.List.{List, [], _∷_, _++_}
+use native.Mathlib.Nat.{eq-or-lt-of-le, not-suc-le-zero}
+use native.Mathlib.Omega.{arith}
+use native.Mathlib.Numerals.{add-one}
+use native.Mathlib.Decide.{decLt}
+use lib.ListN.{getD, set, length, replicate, drop, length-replicate, length-append, length-drop, getD-replicate, List·getD-append, length-set}
+use lib.Seq.{drop-cons, getD-set-same, getD-set-other}
+use Rattle.counting.specs.Range.{total}
+use Rattle.counting.specs.Pack.{pre}
+use Rattle.counting.proofs.Pack.{pre-next}
+use Rattle.slots.specs.Slots.{firstSlot, place}
+use Rattle.slots.proofs.Slots.{EdgeSlot, first-slot}
+use Rattle.walk.specs.Iterate.{it}
+use Rattle.walk.specs.Darts.{half, rev}
+use Rattle.walk.proofs.Iterate.{it-suc}
+use Rattle.walk.proofs.Curve.{closes}
+use Rattle.walk.proofs.Rest.{rest, rest-start, rest-end, rest-low, rest-home, rest-on}
+use Rattle.walk.proofs.Marks.{Passed, Marks, marks-none, marks-more, met}
+use Rattle.cell.specs.declared.Cell.{Cell}
+use Rattle.cell.specs.declared.Dart.{Dart}
+use Rattle.cell.specs.Cell.{crossings, edge, index, slot, step}
+use Rattle.cell.specs.Loop.{loopSize, dart, inGrid}
+use Rattle.cell.specs.Of.{countOf, startOf}
+use Rattle.cell.specs.Half.{halfEdges, slotOf, placeOf, edgeOf, halfOf, halfEdge}
+use Rattle.cell.specs.Route.{mostCrossings, startLimit, Routed}
+use Rattle.cell.specs.Dart.{Parts, IsDart, dartNumber, dartOf}
+use Rattle.cell.specs.Walked.{Located, Starts, Marked, Scratch, Recorded, Walked}
+use Rattle.cell.proofs.Half.{half-slot, half-edge, place-is}
+use Rattle.cell.proofs.Step.{number-first, number-half, parts-number, parts-edge, parts-index, parts-slot}
+use Rattle.cell.proofs.Mates.{darts}
+use Rattle.cell.proofs.Route.{start-at, fits}
+
+-- one more of a list's first entries is v
+pub front-more : (l : List ℕ) (i v : ℕ) → i < length l → set (replicate i v ++ drop i l) i v ≡ replicate (i + 1) v ++ drop (i + 1) l
+front-more (x ∷ l) zero v h = refl
+front-more (x ∷ l) (suc i) v h =
+    let e : suc i + 1 ≡ suc (i + 1) = omega arith in
+    rw e (ap (λ m. v ∷ m) (front-more l i v (omega arith)))
+front-more [] i v h = absurd (not-suc-le-zero h)
+
+-- marks that are cleared say nothing
+pub cleared : (c : Cell) (n : ℕ) (m : List ℕ) → n ≡ crossings (countOf c) → n ≤ mostCrossings → length m ≡ mostCrossings → Marked c (replicate n 65535 ++ drop n m)
+cleared c n m e l h = record {
+  long = omega (arith, length-append front (drop n m), front-long);
+  by = λ x a b. absurd (omega (arith, List·getD-append front (drop n m) 0 x (omega (arith, front-long)), getD-replicate {A = ℕ} n x 65535 0 (omega arith)));
+}
+  where
+    front : List ℕ
+    front = replicate n 65535
+
+    front-long : length front ≡ n
+    front-long = length-replicate {A = ℕ} n 65535
+
+pub fresh : (c : Cell) → crossings (countOf c) ≤ mostCrossings → Marked c (replicate 1530 65535)
+fresh c l = marks-none (crossings (countOf c)) (step (countOf c)) 1530 65535 l (omega arith)
+
+-- the first dart of a crossing
+pub starts : {w : ℕ → ℕ} {e t p : ℕ} → Located w e t p → (h : ℕ) → h ≡ halfOf (firstSlot e) e → h < halfEdges → (d : Dart) → d .half ≡ h → d .index ≡ t → d .number ≡ p → Starts w p d
+unfolding halfOf
+starts {w} {e} {t} {p} L h q l d dh dt dp =
+    let S = first-slot e (L .edge-lt) in
+    let k : edgeOf h ≡ e = rw q (half-edge (firstSlot e) (place (firstSlot e) e) (S .place-lt) ∙ S .edge-is) in
+    let s : slotOf h ≡ firstSlot e = rw q (half-slot (firstSlot e) (place (firstSlot e) e) (S .place-lt)) in
+    record {
+      dart = record { half-lt = rw dh l; index-lt = rw (dh, dt, k) (L .index-lt); number-is = rw (dh, dt, dp, k) (sym (L .is)) };
+      is = rw (dh, dp) (number-first h p (ap firstSlot k ∙ sym s));
+    }
+
+-- a search for the edge of crossing p that has passed e edges, and has t crossings to go
+module _ (w : ℕ → ℕ) {p : ℕ} (e t : ℕ) (q : pre w e + t ≡ p) where
+  pub search-on : w e ≤ t → pre w (e + 1) + (t - w e) ≡ p
+  search-on h = rw add-one (omega (arith, pre-next w 6 e))
+
+  pub search-last : p < crossings w → e ≡ 5 → Located w e t p
+  search-last l f = record { edge-lt = omega arith; index-lt = rw f (omega (arith, rw f at q, pre-next w 6 5)); is = q }
+
+pub search-start : (w : ℕ → ℕ) (p : ℕ) → pre w 0 + p ≡ p
+unfolding pre total
+search-start w p = omega arith
+
+-- a walk from p that has come to its dart k, and was above p since it left
+pub record Walking (w : ℕ → ℕ) (p k : ℕ) : Type 0 where
+  pub start : p < crossings w
+  pub live : (j : ℕ) → j ≤ k → dart w p j < 2 * crossings w
+  pub up : (j : ℕ) → 0 < j → j ≤ k → p < dart w p j / 2
+  pub left : loopSize w p ≡ rest (crossings w) (step w) p (k + 1) (step w (dart w p k))
+
+pub dart-next : (w : ℕ → ℕ) (p k : ℕ) → dart w p (k + 1) ≡ step w (dart w p k)
+unfolding dart
+dart-next w p k = rw add-one (it-suc (step w) k (2 * p))
+
+pub walking-start : (w : ℕ → ℕ) (p : ℕ) → p < crossings w → Walking w p 0
+unfolding loopSize dart it
+walking-start w p l = record {
+  start = l;
+  live = λ j h. let z : j ≡ 0 = omega arith in rw z (omega arith);
+  up = λ j a h. absurd (omega arith);
+  left = rest-start (crossings w) (step w) p (step w (2 * p)) refl;
+}
+
+module _ {w : ℕ → ℕ} {p k : ℕ} (W : Walking w p k) where
+  abbrev N : ℕ
+  N = crossings w
+
+  -- where it goes on to
+  abbrev y : ℕ
+  y = step w (dart w p k)
+
+  -- a walk that does not come home passes ever new crossings, so it stops in time
+  pub walking-room : k < N
+  unfolding dart
+  walking-room =
+      elim (decLt k N) [
+        | yes h ↦ h
+        | no h ↦
+            let (j, jN, L) = closes (2 * N) N (step w) rev half (darts w) (2 * p) (λ j l. W .live j (omega arith)) in
+            absurd (omega (arith, W .up j (L .pos) (omega arith), L .home))
+      ]
+
+  pub walking-end : y ≡ 2 * N → loopSize w p ≡ 0
+  walking-end h = W .left ∙ rest-end N (step w) p (k + 1) y (omega (arith, walking-room)) (omega arith)
+
+  module _ (on : y < 2 * N) where
+    pub walking-low : y / 2 < p → loopSize w p ≡ 0
+    walking-low h = W .left ∙ rest-low N (step w) p (k + 1) y (omega (arith, walking-room)) on h
+
+    pub walking-home : y / 2 ≡ p → loopSize w p ≡ k + 1
+    walking-home h = W .left ∙ rest-home N (step w) p (k + 1) y (omega (arith, walking-room)) on h
+
+    lives : (j : ℕ) → j ≤ k + 1 → dart w p j < 2 * N
+    lives j h = ⊎-elim (λ (q : j ≡ k + 1). rw (q, dart-next w p k) on) (λ (l : j < k + 1). W .live j (omega arith)) (eq-or-lt-of-le h)
+
+    pub walking-on : p < y / 2 → Walking w p (k + 1)
+    walking-on h = record {
+      start = W .start;
+      live = lives;
+      up = λ j a l. ⊎-elim (λ (q : j ≡ k + 1). rw (q, dart-next w p k) h) (λ (g : j < k + 1). W .up j a (omega arith)) (eq-or-lt-of-le l);
+      left = W .left ∙ rest-on N (step w) p (k + 1) y (omega (arith, walking-room)) on (step w y) h refl ∙ rw (dart-next w p k) refl;
+    }
+
+    pub walking-mark : {m : List ℕ} → Marks N (step w) m → Marks N (step w) (set m (y / 2) p)
+    unfolding dart
+    walking-mark M = marks-more M p (k + 1) (y / 2) (record { start = W .start; live = lives; is = ap half (dart-next w p k) })
+
+    pub walking-met : {m : List ℕ} → Marks N (step w) m → getD m (y / 2) 0 < p → loopSize w p ≡ 0
+    unfolding loopSize dart
+    walking-met {m} M h =
+        let (i, P) = M .by (y / 2) (omega arith) (omega (arith, W .start)) in
+        met N (step w) rev (darts w) p (k + 1) (W .start) P h (ap half (dart-next w p k))
+
+pub start-met : (w : ℕ → ℕ) (m : List ℕ) (p : ℕ) → p < crossings w → Marks (crossings w) (step w) m → getD m p 0 < p → loopSize w p ≡ 0
+unfolding loopSize it
+start-met w m p l M h =
+    let (i, P) = M .by p l (omega arith) in
+    met (crossings w) (step w) rev (darts w) p 0 l P h (omega arith)

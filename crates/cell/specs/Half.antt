@@ -1,0 +1,46 @@
+-- The half-edges of a cell: edge j, ab ac bc, of slot s is half-edge 3 * s + j. An edge has two, one in each of its slots.
+use Prim.Native.Nat.{ℕ, _+_, _*_, _/_, _%_}
+use lib.Dec.{eqb}
+use Rattle.counting.specs.Pick.{pick}
+use Rattle.slots.specs.Slots.{slotEdge, place, firstSlot, secondSlot}
+use Rattle.face.specs.Face.{other}
+use Rattle.cell.specs.Cell.{edge, slot}
+
+abbrev pub halfEdges : ℕ
+halfEdges = 12
+
+-- the slot of half-edge h, which of the slot's edges it is, and the edge of the cell
+abbrev pub slotOf : ℕ → ℕ
+slotOf h = h / 3
+
+abbrev pub placeOf : ℕ → ℕ
+placeOf h = h % 3
+
+unfoldable pub edgeOf : ℕ → ℕ
+unfolding slotEdge
+edgeOf h = slotEdge (slotOf h) (placeOf h)
+
+-- the half-edge of edge k in slot s
+unfoldable pub halfOf : ℕ → ℕ → ℕ
+unfolding place
+halfOf s k = 3 * s + place s k
+
+-- the slot of edge k other than s
+unfoldable pub otherSlot : ℕ → ℕ → ℕ
+unfolding firstSlot secondSlot
+otherSlot k s = pick (eqb (firstSlot k) s) (secondSlot k) (firstSlot k)
+
+-- the half-edge of the same edge in its other slot
+unfoldable pub twin : ℕ → ℕ
+unfolding edgeOf halfOf otherSlot
+twin h = halfOf (otherSlot (edgeOf h) (slotOf h)) (edgeOf h)
+
+-- where a curve goes on that leaves half-edge h round the node v of its slot: over to the other edge there, and on by its other slot
+unfoldable pub around : ℕ → ℕ → ℕ
+unfolding twin
+around v h = twin (3 * slotOf h + other v (placeOf h))
+
+-- the half-edge by which dart d of a cell leaves
+unfoldable pub halfEdge : (ℕ → ℕ) → ℕ → ℕ
+unfolding slot halfOf
+halfEdge w d = halfOf (slot w d) (edge w (d / 2))

@@ -1,0 +1,9 @@
+pub mod Cell
+pub mod Loop
+pub mod Of
+pub mod Half
+pub mod Route
+pub mod Dart
+pub mod Walked
+pub mod Round
+pub mod Answer

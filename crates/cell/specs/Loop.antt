@@ -1,0 +1,85 @@
+-- The loops of a cell (01), each known by its least crossing p, in the cell's own numbers.
+use Prim.Native.Nat.{ℕ, _+_, _*_, _/_, _%_}
+use mathlib.Core.Bool.{Bool}
+use mathlib.Core.List.{List, [], _∷_}
+use lib.Dec.{eqb}
+use lib.ListN.{getD, drop}
+use Rattle.counting.specs.Pick.{pick, one}
+use Rattle.counting.specs.Range.{over}
+use Rattle.counting.specs.Lists.{tally}
+use Rattle.walk.specs.Iterate.{it}
+use Rattle.walk.specs.Walk as walk
+use Rattle.answer.specs.Answer.{result}
+use Rattle.cell.specs.Cell.{crossings, edge, index, step}
+
+module _ (w : ℕ → ℕ) where
+  -- the length (01) of the loop from p: its number of segments; 0 where there is no loop whose least crossing is p
+  unfoldable pub loopSize : ℕ → ℕ
+  unfolding step
+  loopSize p = walk.size (crossings w) (step w) p
+
+  -- its dart k, and all its darts
+  unfoldable pub dart : ℕ → ℕ → ℕ
+  unfolding step
+  dart p k = it (step w) k (2 * p)
+
+  unfoldable pub loopDarts : ℕ → List ℕ
+  unfolding step
+  loopDarts p = walk.loopAt (crossings w) (step w) p
+
+  -- the segment along dart d has both ends on one edge
+  unfoldable pub folded : ℕ → Bool
+  unfolding step
+  folded d = eqb (edge w (d / 2)) (edge w (step w d / 2))
+
+  -- normal (01): no segment has both ends on one edge
+  unfoldable pub normal : ℕ → Bool
+  unfolding folded loopDarts
+  normal p = eqb (tally folded (loopDarts p)) 0
+
+  -- the number of the loop's own crossings on edge k, mod 2
+  unfoldable pub parity : ℕ → ℕ → ℕ
+  unfolding loopDarts
+  parity p k = tally (λ d. eqb (edge w (d / 2)) k) (loopDarts p) % 2
+
+-- The type (01) in numbers, from the parities a, b, c on the edges from the cell's lowest node to its nodes at positions 1, 2, 3: their sum, and
+-- the node's number in the grid. v are the cell's nodes.
+module _ (v : List ℕ) (a b c : ℕ) where
+  -- the node at position 1, 2 or 3 whose parity is q
+  unfoldable pub nodeWith : ℕ → ℕ
+  nodeWith q = pick (eqb a q) (getD v 1 0) (pick (eqb b q) (getD v 2 0) (getD v 3 0))
+
+  -- 0 contractible; 2 diagonal, the lowest node paired with the node of parity 0; 3 corner at the lowest node; 1 corner at the node of parity 1
+  unfoldable pub typeBy : List ℕ
+  unfolding nodeWith
+  typeBy =
+      pick (eqb (a + b + c) 0) (0 ∷ [])
+      (pick (eqb (a + b + c) 2) (2 ∷ nodeWith 0 ∷ [])
+      (pick (eqb (a + b + c) 3) (3 ∷ getD v 0 0 ∷ [])
+      (1 ∷ nodeWith 1 ∷ [])))
+
+-- The loops of a cell in a grid: `start k` is the crossing number at index 0 of edge k.
+module _ (w start : ℕ → ℕ) (v : List ℕ) where
+  -- the crossing number (01) of crossing x
+  unfoldable pub inGrid : ℕ → ℕ
+  inGrid x = start (edge w x) + index w x
+
+  unfoldable pub typeOf : ℕ → List ℕ
+  unfolding typeBy parity
+  typeOf p = typeBy v (parity w p 0) (parity w p 1) (parity w p 2)
+
+  -- the least crossings of the loops, in order
+  unfoldable pub leasts : List ℕ
+  unfolding loopSize over
+  leasts = over (λ p. pick (eqb (loopSize w p) 0) [] (p ∷ [])) (crossings w) 0
+
+  -- what is answered of the loop from p: p0, n, normal or not, and its type; and of no loop
+  unfoldable pub answerOf : List ℕ → List ℕ
+  unfolding inGrid loopSize normal typeOf
+  answerOf [] = result []
+  answerOf (p ∷ l) = result (inGrid p ∷ loopSize w p ∷ one (normal w p) ∷ typeOf p)
+
+  -- loop k of the cell (01); none if there are k or fewer
+  unfoldable pub loopAnswer : ℕ → List ℕ
+  unfolding leasts answerOf
+  loopAnswer k = answerOf (drop k leasts)

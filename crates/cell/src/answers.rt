@@ -1,0 +1,111 @@
+// What is answered of a loop, from what its walk recorded.
+ghost use mathlib.Core.Path.{_≡_};
+ghost use mathlib.Core.List.{[], _∷_};
+ghost use Prim.Native.Nat.{_%_, _<_, _≤_};
+ghost use lib.Dec.{eqb};
+ghost use Rattle.counting.specs.Pick.{one};
+ghost use Rattle.counting.specs.Range.{after};
+ghost use Rattle.cell.specs.Of.{countOf, startOf};
+ghost use Rattle.cell.specs.Loop.{nodeWith, typeBy, answerOf, loopAnswer};
+ghost use Rattle.cell.specs.Route.{mostCrossings};
+ghost use Rattle.cell.specs.Walked.{Looped};
+ghost use Rattle.cell.specs.Round.{HalfEdges, foldsIn, crossesIn};
+ghost use Rattle.cell.specs.Answer.{typeNumbers, loopNumbers};
+use super::routes;
+use super::tables;
+use super::Cell;
+use super::Loop;
+use super::LoopType;
+
+fn same(a: usize, b: usize) -> usize
+    ensures { λ r. ⌜ (r ≡ one (eqb a b)) × (r ≤ 1) ⌝ }
+{
+    if a == b { 1 } else { 0 }
+}
+
+// The place after k in a round of n.
+fn after_of(n: usize, k: usize) -> usize
+    requires { ⌜ k < n ⌝ }
+    ensures { λ r. ⌜ (r ≡ after n k) × (r < n) ⌝ }
+{
+    if k + 1 == n { 0 } else { k + 1 }
+}
+
+// The folded segments of a recorded loop of n.
+pub fn folds_of(halves: &[u8; 1530], n: usize) -> usize
+    requires { ⌜ n ≤ mostCrossings ⌝ }
+    requires { ⌜ HalfEdges (now halves) n ⌝ }
+    ensures { λ r. ⌜ r ≡ foldsIn (now (halves .entry)) n ⌝ }
+{
+    let mut f: usize = 0;
+    let mut k: usize = 0;
+    while k < n {
+        let j = after_of(n, k);
+        let a = tables::edge_of(routes::wide8(halves[k]));
+        let b = tables::edge_of(routes::wide8(halves[j]));
+        f += same(a, b);
+        k += 1;
+    }
+    f
+}
+
+// The crossings of a recorded loop of n on edge e.
+pub fn crosses_of(halves: &[u8; 1530], n: usize, e: usize) -> usize
+    requires { ⌜ n ≤ mostCrossings ⌝ }
+    requires { ⌜ HalfEdges (now halves) n ⌝ }
+    ensures { λ r. ⌜ r ≡ crossesIn (now (halves .entry)) n e ⌝ }
+{
+    let mut x: usize = 0;
+    let mut k: usize = 0;
+    while k < n {
+        let a = tables::edge_of(routes::wide8(halves[k]));
+        x += same(a, e);
+        k += 1;
+    }
+    x
+}
+
+fn node_with(c: Cell, x: usize, y: usize, z: usize, q: usize) -> u16
+    ensures { λ r. ⌜ r ≡ nodeWith (c .nodes) x y z q ⌝ }
+{
+    if x == q {
+        return c.nodes[1];
+    }
+    if y == q {
+        return c.nodes[2];
+    }
+    c.nodes[3]
+}
+
+// The type of a loop with x, y and z crossings on the edges from the cell's lowest node.
+fn type_of(c: Cell, x: usize, y: usize, z: usize) -> LoopType
+    ensures { λ r. ⌜ typeNumbers r ≡ typeBy (c .nodes) (x % 2) (y % 2) (z % 2) ⌝ }
+{
+    let a = x % 2;
+    let b = y % 2;
+    let d = z % 2;
+    let sum = a + b + d;
+    if sum == 0 {
+        return LoopType::Contractible;
+    }
+    if sum == 2 {
+        return LoopType::Diagonal(node_with(c, a, b, d, 0));
+    }
+    if sum == 3 {
+        return LoopType::Corner(c.nodes[0], true);
+    }
+    LoopType::Corner(node_with(c, a, b, d, 1), false)
+}
+
+// What is answered of the recorded loop of n from crossing p.
+pub fn answer_of(c: Cell, p: usize, n: usize, halves: &[u8; 1530], points: &[u32; 1530]) -> Loop
+    requires { ⌜ Looped c p n (now halves) (now points) ⌝ }
+    ensures { λ r. ⌜ loopNumbers r ≡ answerOf (countOf c) (startOf c) (c .nodes) (p ∷ []) ⌝ }
+{
+    let x = crosses_of(halves, n, 0);
+    let y = crosses_of(halves, n, 1);
+    let z = crosses_of(halves, n, 2);
+    let t = type_of(c, x, y, z);
+    let normal = folds_of(halves, n) == 0;
+    Loop::Found(points[0], n as u32, normal, t)
+}

@@ -1,0 +1,78 @@
+// The loops of a cell, from the counts of its six edges.
+ghost use mathlib.Core.Path.{_≡_};
+ghost use Rattle.cell.specs.Of.{countOf, startOf};
+ghost use Rattle.cell.specs.Loop.{loopAnswer};
+ghost use Rattle.cell.specs.Answer.{loopNumbers};
+mod tables;
+mod routes;
+mod steps;
+mod walks;
+mod answers;
+
+pub use answers::folds_of;
+pub use routes::crossings_of;
+pub use routes::routes_of;
+pub use walks::clear;
+pub use walks::walk;
+
+// A cell: the counts of its edges 01, 02, 03, 12, 13, 23 and the crossing number at index 0 of each, the names of the faces in its
+// slots, its nodes' numbers, and its own number.
+pub struct Cell {
+    pub counts: [u8; 6],
+    pub starts: [u16; 6],
+    pub names: [u16; 4],
+    pub nodes: [u16; 4],
+    pub index: u16,
+}
+
+// The type of a loop, with the number of a node; a corner says too whether it is at the cell's lowest node.
+pub enum LoopType {
+    Contractible,
+    Diagonal(u16),
+    Corner(u16, bool),
+}
+
+// A loop of a cell: its least crossing in the grid, its length, normal or not, and its type; or that there is none.
+pub enum Loop {
+    Found(u32, u32, bool, LoopType),
+    Nothing,
+}
+
+// A dart: the crossing with an index on the edge of a half-edge, by its number in the cell, left by that half-edge.
+pub struct Dart {
+    pub half: usize,
+    pub index: usize,
+    pub number: usize,
+}
+
+// What follows a dart: another, or the end of its curve.
+pub enum Next {
+    On(Dart),
+    End,
+}
+
+// Loop k of the cell, or that there are k or fewer. The walks' marks and records stand on the stack: 11 kB.
+pub fn loop_at(c: Cell, k: usize) -> Loop
+    ensures { λ r. ⌜ loopNumbers r ≡ loopAnswer (countOf c) (startOf c) (c .nodes) k ⌝ }
+{
+    let n = crossings_of(c);
+    let routes = routes_of(c);
+    let mut marks = [65535u16; 1530];
+    let mut halves = [0u8; 1530];
+    let mut points = [0u32; 1530];
+    let mut left = k;
+    let mut p: usize = 0;
+    while p < n {
+        let m = walk(c, &routes, p, &mut marks, &mut halves, &mut points);
+        if m == 0 {
+            p += 1;
+            continue;
+        }
+        if left == 0 {
+            return answers::answer_of(c, p, m, &halves, &points);
+        }
+        left -= 1;
+        p += 1;
+    }
+    Loop::Nothing
+}

@@ -1,0 +1,102 @@
+// The walk along a loop, with marks: each crossing of a cell is passed a constant number of times for all its loops together.
+ghost use mathlib.Core.Path.{_≡_};
+ghost use mathlib.Core.List.{_++_};
+ghost use Prim.Native.Nat.{_<_, _≤_};
+ghost use lib.ListN.{length, replicate, drop};
+ghost use Rattle.cell.specs.Cell.{crossings};
+ghost use Rattle.cell.specs.Of.{countOf};
+ghost use Rattle.cell.specs.Route.{mostCrossings, Routed};
+ghost use Rattle.cell.specs.Walked.{Located, Starts, Marked, Scratch, Walked};
+use super::routes;
+use super::steps;
+use super::tables;
+use super::Cell;
+use super::Dart;
+use super::Next;
+
+// The first dart of the crossing with index t on edge e, which is crossing p.
+fn first_dart(c: Cell, e: usize, t: usize, p: usize) -> Dart
+    requires { ⌜ Located (countOf c) e t p ⌝ }
+    ensures { λ r. ⌜ Starts (countOf c) p r ⌝ }
+{
+    Dart {
+        half: tables::first_of(e),
+        index: t,
+        number: p,
+    }
+}
+
+// The first dart of crossing p.
+fn start_at(c: Cell, p: usize) -> Dart
+    requires { ⌜ p < crossings (countOf c) ⌝ }
+    ensures { λ r. ⌜ Starts (countOf c) p r ⌝ }
+{
+    let mut e: usize = 0;
+    let mut left = p;
+    while e < 5 {
+        let n = routes::count_at(c, e);
+        if left < n {
+            return first_dart(c, e, left, p);
+        }
+        left -= n;
+        e += 1;
+    }
+    first_dart(c, e, left, p)
+}
+
+// Clears the first n marks.
+pub fn clear(marks: &mut [u16; 1530], n: usize)
+    requires { ⌜ n ≤ mostCrossings ⌝ }
+    requires { ⌜ length (now marks) ≡ mostCrossings ⌝ }
+    ensures { λ _. ⌜ now (marks .exit) ≡ replicate n 65535 ++ drop n (now (marks .entry)) ⌝ }
+{
+    let mut i: usize = 0;
+    while i < n {
+        marks[i] = 65535;
+        i += 1;
+    }
+}
+
+// The loop whose least crossing is p: how many segments it has, or 0 if there is none. What the walk comes to is marked with p; it
+// stops where an earlier walk has been.
+pub fn walk(
+    c: Cell,
+    routes: &[usize; 108],
+    p: usize,
+    marks: &mut [u16; 1530],
+    halves: &mut [u8; 1530],
+    points: &mut [u32; 1530],
+) -> usize
+    requires { ⌜ Routed c (now routes) ⌝ }
+    requires { ⌜ p < crossings (countOf c) ⌝ }
+    requires { ⌜ Marked c (now marks) ⌝ }
+    requires { ⌜ Scratch (now marks) (now halves) (now points) ⌝ }
+    ensures { λ r. ⌜ Walked c p r (now (marks .exit)) (now (halves .exit)) (now (points .exit)) ⌝ }
+{
+    if routes::wide16(marks[p]) < p {
+        return 0;
+    }
+    let mut d = start_at(c, p);
+    let mut k: usize = 0;
+    loop {
+        let h = d.half;
+        halves[k] = h as u8;
+        points[k] = (routes[9 * h + 4] + d.index) as u32;
+        k += 1;
+        let Next::On(e) = steps::next(c, routes, d) else {
+            return 0;
+        };
+        let x = e.number;
+        if x < p {
+            return 0;
+        }
+        if x == p {
+            return k;
+        }
+        if routes::wide16(marks[x]) < p {
+            return 0;
+        }
+        marks[x] = p as u16;
+        d = e;
+    }
+}

@@ -1,0 +1,10 @@
+pub mod Polygons
+pub mod Storing
+pub mod Loops
+pub mod Filling
+pub mod Trace
+pub mod Walks
+pub mod Cells
+pub mod Fits
+pub mod Claims
+pub mod Examples

@@ -1,0 +1,42 @@
+use Rattle.triangle.specs.Triangles.{triangle, half0}
+use borrow.Author.Needs.{needs}
+use Rattle.triangle.proofs.make.half0_of.Statement.{statement}
+use Rattle.triangle.proofs.make.half0_of.Tie as tie
+
+segment-at-requires : tie.Need-segment-at-requires
+segment-at-requires c κs = search needs
+
+segment-at-requires-2 : tie.Need-segment-at-requires-2
+segment-at-requires-2 c κs = search needs
+
+word-requires : tie.Need-word-requires
+word-requires c κs = search needs
+
+element-copy-out-t9 : tie.Need-element-copy-out-t9
+element-copy-out-t9 c = search needs
+
+element-copy-out-t12 : tie.Need-element-copy-out-t12
+element-copy-out-t12 c = search needs
+
+element-copy-out-t16 : tie.Need-element-copy-out-t16
+element-copy-out-t16 c = search needs
+
+element-copy-out-t20 : tie.Need-element-copy-out-t20
+element-copy-out-t20 c = search needs
+
+returns : tie.Need-returns
+unfolding half0 triangle
+returns c = cc
+
+pub half0-of-spec : {M : Type 1} → statement M
+half0-of-spec =
+    tie.close
+    (tie.spec
+    segment-at-requires
+    segment-at-requires-2
+    word-requires
+    element-copy-out-t9
+    element-copy-out-t12
+    element-copy-out-t16
+    element-copy-out-t20
+    returns)

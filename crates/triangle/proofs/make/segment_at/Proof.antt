@@ -1,0 +1,59 @@
+use Rattle.triangle.specs.Traced.{segmentAt}
+use native.Mathlib.Omega.{arith}
+use borrow.Author.Needs.{needs}
+use Rattle.triangle.proofs.make.segment_at.Statement.{statement}
+use Rattle.triangle.proofs.make.segment_at.Tie as tie
+
+element-copy-out-wide : tie.Need-element-copy-out-wide
+element-copy-out-wide c = search needs
+
+wide-requires : tie.Need-wide-requires
+wide-requires c κs = search needs
+
+after-of-requires : tie.Need-after-of-requires
+after-of-requires c κs = search needs
+
+mul-word : tie.Need-mul-word
+mul-word c = search needs
+
+element-copy-out-word : tie.Need-element-copy-out-word
+element-copy-out-word c = omega (arith, c .before .wide .ensures, c .before .before .before .pre .0 .halves-are (c .before .before .before .args .k) (c .before .before .before .pre .1))
+
+word-requires : tie.Need-word-requires
+word-requires c κs = search needs
+
+mul-lower : tie.Need-mul-lower
+mul-lower c = search needs
+
+element-copy-out-lower : tie.Need-element-copy-out-lower
+element-copy-out-lower c = search needs
+
+mul-lower-2 : tie.Need-mul-lower-2
+mul-lower-2 c = search needs
+
+element-copy-out-lower-2 : tie.Need-element-copy-out-lower-2
+element-copy-out-lower-2 c = search needs
+
+lower-requires : tie.Need-lower-requires
+lower-requires c κs = search needs
+
+returns : tie.Need-returns
+unfolding segmentAt
+returns c = cc
+
+pub segment-at-spec : {M : Type 1} → statement M
+segment-at-spec =
+    tie.close
+    (tie.spec
+    element-copy-out-wide
+    wide-requires
+    after-of-requires
+    mul-word
+    element-copy-out-word
+    word-requires
+    mul-lower
+    element-copy-out-lower
+    mul-lower-2
+    element-copy-out-lower-2
+    lower-requires
+    returns)
