@@ -1,7 +1,7 @@
 //! Random grids for the comparison of every call that takes one.
 
 use reference::gen::{
-    box_of_five, box_of_six, box_ring, broken, closed_fan, gathered, linked, open_fan,
+    box_of_five, box_of_six, box_ring, broken, closed_fan, cone, gathered, linked, open_fan,
     random_shape, ring, separate, Rng, Sample,
 };
 use reference::grid::MAX_CELLS;
@@ -28,6 +28,8 @@ pub fn shapes(rng: &mut Rng) -> Vec<Sample> {
         closed_fan(30),
         ring(7),
         ring(30),
+        cone([1, 1, 1]),
+        cone([3, 2, 2]),
         separate(1),
         separate(20),
     ];
@@ -40,12 +42,13 @@ pub fn shapes(rng: &mut Rng) -> Vec<Sample> {
 /// A shape of more than 1,500 cells.
 fn large_shape(rng: &mut Rng) -> Sample {
     let many = rng.between(1_501, MAX_CELLS) as u16;
-    let shape = match rng.below(6) {
+    let shape = match rng.below(7) {
         0 => open_fan(many),
         1 => closed_fan(many),
         2 => ring(many),
         3 => box_of_five([7, 7, rng.between(7, 8)]),
         4 => box_of_six([5, 6, rng.between(9, 11)]),
+        5 => cone([13, 13, rng.between(9, 13)]),
         _ => box_of_six([5, 6, 11]).reordered(rng),
     };
     if rng.coin() {
