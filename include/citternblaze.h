@@ -29,4 +29,60 @@ size_t citternblaze_face(uint8_t ab, uint8_t ac, uint8_t bc,
                          uint32_t edge, uint32_t index,
                          uint64_t *answer, size_t answer_len);
 
+/* The grid check.
+ *
+ * Reads the cells, four nodes each; the edges, two nodes each; and a count for
+ * each edge.
+ *
+ * Answers 0 and the number of crossings, where the grid is accepted; or the
+ * number and the place of a refusal, 1 to 10. Takes up to 512 KB of the
+ * stack. */
+size_t citternblaze_check(const uint16_t *cells, size_t cells_len,
+                          const uint16_t *edges, size_t edges_len,
+                          const uint8_t *counts, size_t counts_len,
+                          uint64_t *answer, size_t answer_len);
+
+/* The record reader's first call. What stands at a start of a bundle's bytes.
+ *
+ * Answers 0, the record's kind (1 cell, 2 edge, 3 end) and the start of the next
+ * record; or 13 and the start, or 13 and bytes_len where the start is not below
+ * it. */
+size_t citternblaze_record(const uint8_t *bytes, size_t bytes_len, size_t start,
+                           uint64_t *answer, size_t answer_len);
+
+/* The record reader's second call. The body of the record at a start, as that
+ * part of the caller's bytes.
+ *
+ * Answers where in the bytes the body starts and how many bytes it has; 0 and 0,
+ * the empty part at the front, where citternblaze_record refuses. */
+size_t citternblaze_record_body(const uint8_t *bytes, size_t bytes_len,
+                                size_t start,
+                                uint64_t *answer, size_t answer_len);
+
+/* The bundle reader. Fills the lists with the bundle's cells, four nodes each,
+ * the ends of its edges, two to an edge, and their counts, and keeps the lists
+ * beyond them. It does not check the grid.
+ *
+ * Answers 0 and the numbers of cells and edges; or 13 and the place of a fault
+ * of the records; or 14 and 0 where a list is too short. A refusal keeps every
+ * value of the lists. */
+size_t citternblaze_bundle_read(const uint8_t *bytes, size_t bytes_len,
+                                uint16_t *nodes, size_t nodes_len,
+                                uint16_t *ends, size_t ends_len,
+                                uint8_t *counts, size_t counts_len,
+                                uint64_t *answer, size_t answer_len);
+
+/* The bundle writer. Writes the bundle of cells, edges and counts at the front
+ * of the area, and keeps the area beyond it. It does not check the grid.
+ *
+ * Answers 0 and the number of bytes written; or 13 and 0 where the lists are not
+ * 4 nodes to a cell or 2 ends to a count; or 14 and the number of bytes needed,
+ * 4294967295 if more, where the area is too short. A refusal keeps every value
+ * of the area. */
+size_t citternblaze_bundle_write(const uint16_t *nodes, size_t nodes_len,
+                                 const uint16_t *ends, size_t ends_len,
+                                 const uint8_t *counts, size_t counts_len,
+                                 uint8_t *area, size_t area_len,
+                                 uint64_t *answer, size_t answer_len);
+
 #endif

@@ -1,10 +1,10 @@
 #!/usr/bin/env bash
 # Builds the proved calls as a static library, calls them from C, and compares them with the second implementation in reference/.
-# CITTERNBLAZE_SEED sets the seed of random input.
+# CITTERNBLAZE_SEED sets the seed of random input, CITTERNBLAZE_GRIDS the number of random grids; RT names the kit's command, else rt.
 set -euo pipefail
 cd "$(dirname "$0")/.."
 
-rt staticlib capi
+"${RT:-rt}" staticlib capi
 scripts/c_test.sh
 
 # an endless loop ends here, and not with the machine's memory

@@ -149,15 +149,21 @@ fn cell_faces(cell: &Nodes) -> Vec<[u16; 3]> {
     vec![[b, c, d], [a, c, d], [a, b, d], [a, b, c]]
 }
 
-/// Edges of the faces that only one of the cells has.
-pub fn outer_edges(cells: &[Nodes]) -> BTreeSet<[u16; 2]> {
+/// Faces that only one of the cells has.
+fn outer_faces(cells: &[Nodes]) -> Vec<[u16; 3]> {
     let mut uses: BTreeMap<[u16; 3], usize> = BTreeMap::new();
     for face in cells.iter().flat_map(cell_faces) {
         *uses.entry(face).or_default() += 1;
     }
     let single = uses.into_iter().filter(|&(_, cells)| cells == 1);
-    single
-        .flat_map(|([a, b, c], _)| [[a, b], [a, c], [b, c]])
+    single.map(|(face, _)| face).collect()
+}
+
+/// Edges of the faces that only one of the cells has.
+pub fn outer_edges(cells: &[Nodes]) -> BTreeSet<[u16; 2]> {
+    let faces = outer_faces(cells).into_iter();
+    faces
+        .flat_map(|[a, b, c]| [[a, b], [a, c], [b, c]])
         .collect()
 }
 
@@ -243,6 +249,15 @@ pub fn closed_fan(cells: u16) -> Sample {
 /// Seven or more cells in a ring, each sharing a face with the next.
 pub fn ring(cells: u16) -> Sample {
     Sample::from_cells((0..cells).map(|k| [0, 1, 2, 3].map(|step| (k + step) % cells)))
+}
+
+/// Cells all round one node: from it to each face of a box of six that only one
+/// cell has.
+pub fn cone(size: BoxSize) -> Sample {
+    let cells = box_of_six(size).cell_list();
+    let hub = cells.iter().flatten().max().map_or(0, |node| node + 1);
+    let faces = outer_faces(&cells).into_iter();
+    Sample::from_cells(faces.map(|[a, b, c]| [a, b, c, hub]))
 }
 
 /// Cells that share nothing.

@@ -5,6 +5,7 @@
 
 #include <inttypes.h>
 #include <stdio.h>
+#include <string.h>
 
 #define ROOM 8
 #define UNTOUCHED UINT64_C(0xa5a5a5a5a5a5a5a5)
@@ -49,7 +50,125 @@ static void test_face(void) {
   face("face 5 1 1, edge 0, index 2, area of 0", 5, 1, 1, 0, 2, 0);
 }
 
+static const uint16_t cells[] = {0, 1, 2, 3, 0, 1, 2, 4};
+static const uint16_t edges[] = {0, 1, 0, 2, 0, 3, 0, 4, 1, 2,
+                                 1, 3, 1, 4, 2, 3, 2, 4};
+static const uint8_t counts[] = {1, 2, 3, 4, 5, 6, 7, 8, 255};
+
+static void check(const char *call, size_t cells_len, size_t edges_len,
+                  size_t counts_len, size_t answer_len) {
+  clear();
+  show(call, citternblaze_check(cells, cells_len, edges, edges_len, counts,
+                                counts_len, answer, answer_len));
+}
+
+static void test_check(void) {
+  check("check 2 cells", 8, 18, 9, ROOM);
+  check("check 5 numbers", 5, 18, 9, ROOM);
+  check("check no cells", 0, 18, 9, ROOM);
+  check("check 9 edges, 8 counts", 8, 18, 8, ROOM);
+  check("check 8 edges", 8, 16, 8, ROOM);
+  check("check 7 edges", 8, 14, 7, ROOM);
+  check("check 1 cell", 4, 18, 9, ROOM);
+  check("check 2 cells, area of 2", 8, 18, 9, 2);
+  check("check 2 cells, area of 1", 8, 18, 9, 1);
+  check("check 2 cells, area of 0", 8, 18, 9, 0);
+}
+
+/* A cell, an edge and an end. */
+static const uint8_t bundle[] = {10, 0, 1, 0, 0, 0, 1, 0, 2, 0, 3, 1, 7,
+                                 0,  2, 0, 5, 0, 6, 1, 9, 2, 0, 3, 0};
+
+static void record(const char *call, size_t bytes_len, size_t start,
+                   size_t answer_len) {
+  printf("%s, ", call);
+  clear();
+  show("kind and next start",
+       citternblaze_record(bundle, bytes_len, start, answer, answer_len));
+  printf("%s, ", call);
+  clear();
+  show("body",
+       citternblaze_record_body(bundle, bytes_len, start, answer, answer_len));
+}
+
+static void test_record(void) {
+  record("record at 0", sizeof bundle, 0, ROOM);
+  record("record at 12", sizeof bundle, 12, ROOM);
+  record("record at 21", sizeof bundle, 21, ROOM);
+  record("record at 1", sizeof bundle, 1, ROOM);
+  record("record at 25 of 25", sizeof bundle, sizeof bundle, ROOM);
+  record("record at the highest start", sizeof bundle, SIZE_MAX, ROOM);
+  record("record at 0 of 11", 11, 0, ROOM);
+  record("record at 0 of 0", 0, 0, ROOM);
+  record("record at 0, area of 1", sizeof bundle, 0, 1);
+}
+
+static void read_bundle(const char *call, size_t bytes_len, size_t nodes_len,
+                        size_t ends_len, size_t counts_len, size_t answer_len) {
+  uint16_t nodes[6], ends[4];
+  uint8_t count[3];
+  memset(nodes, 0xa5, sizeof nodes);
+  memset(ends, 0xa5, sizeof ends);
+  memset(count, 0xa5, sizeof count);
+  clear();
+  show(call, citternblaze_bundle_read(bundle, bytes_len, nodes, nodes_len, ends,
+                                      ends_len, count, counts_len, answer,
+                                      answer_len));
+  printf("  nodes");
+  for (size_t i = 0; i < 6; i++)
+    printf(" %x", nodes[i]);
+  printf(", ends");
+  for (size_t i = 0; i < 4; i++)
+    printf(" %x", ends[i]);
+  printf(", counts");
+  for (size_t i = 0; i < 3; i++)
+    printf(" %x", count[i]);
+  printf("\n");
+}
+
+static void test_bundle_read(void) {
+  read_bundle("read", sizeof bundle, 6, 4, 3, ROOM);
+  read_bundle("read into lists just long enough", sizeof bundle, 4, 2, 1, ROOM);
+  read_bundle("read, list of 3 nodes", sizeof bundle, 3, 4, 3, ROOM);
+  read_bundle("read, list of 1 end", sizeof bundle, 6, 1, 3, ROOM);
+  read_bundle("read, no list of counts", sizeof bundle, 6, 4, 0, ROOM);
+  read_bundle("read a bundle cut to 24", 24, 6, 4, 3, ROOM);
+  read_bundle("read a bundle cut to 21", 21, 6, 4, 3, ROOM);
+  read_bundle("read nothing", 0, 6, 4, 3, ROOM);
+  read_bundle("read, area of 2", sizeof bundle, 6, 4, 3, 2);
+}
+
+static void write_bundle(const char *call, size_t nodes_len, size_t ends_len,
+                         size_t counts_len, size_t area_len,
+                         size_t answer_len) {
+  uint8_t area[28];
+  memset(area, 0xa5, sizeof area);
+  clear();
+  show(call, citternblaze_bundle_write(cells, nodes_len, edges, ends_len,
+                                       counts, counts_len, area, area_len,
+                                       answer, answer_len));
+  printf("  area");
+  for (size_t i = 0; i < sizeof area; i++)
+    printf(" %x", area[i]);
+  printf("\n");
+}
+
+static void test_bundle_write(void) {
+  write_bundle("write a cell and an edge", 4, 2, 1, 28, ROOM);
+  write_bundle("write into an area just long enough", 4, 2, 1, 25, ROOM);
+  write_bundle("write into an area too short by one", 4, 2, 1, 24, ROOM);
+  write_bundle("write nothing", 0, 0, 0, 4, ROOM);
+  write_bundle("write 5 nodes", 5, 2, 1, 28, ROOM);
+  write_bundle("write 3 ends", 4, 3, 1, 28, ROOM);
+  write_bundle("write 2 ends, 2 counts", 4, 2, 2, 28, ROOM);
+  write_bundle("write, area of 1", 4, 2, 1, 28, 1);
+}
+
 int main(void) {
   test_face();
+  test_check();
+  test_record();
+  test_bundle_read();
+  test_bundle_write();
   return 0;
 }

@@ -4,7 +4,15 @@ use mathlib.Core.Path.{_≡_, subst, sym, ap, _∙_}
 use mathlib.Core.List.{List}
 use Rattle.capi.specs.Written.{Answers}
 
+-- what is known of an enum's reading holds of the case that the enum is told to be
+pub told-reads : {A : Type 0} (read : A → List ℕ) {j k : A} {numbers : List ℕ} → j ≡ k → read j ≡ numbers → read k ≡ numbers
+told-reads read told e = sym (ap read told) ∙ e
+
+-- a call that puts the numbers of its answer answers them
+pub answers-are : {put numbers was is : List ℕ} {returned : ℕ} → put ≡ numbers → Answers put was is returned → Answers numbers was is returned
+answers-are {was = w} {is = i} {returned = r} e = subst (λ l. Answers l w i r) e
+
 -- a call whose enum j reads as these numbers answers them where it is told the case k of j, and puts what k reads as
 pub answers-told : {A : Type 0} (read : A → List ℕ) {j k : A} {numbers was is : List ℕ} {returned : ℕ} →
     j ≡ k → read j ≡ numbers → Answers (read k) was is returned → Answers numbers was is returned
-answers-told read {was = w} {is = i} {returned = r} told e = subst (λ l. Answers l w i r) (sym (ap read told) ∙ e)
+answers-told read told e = answers-are (told-reads read told e)

@@ -1,8 +1,18 @@
 // The calls for C programs. Each puts the numbers of its answer at the front of a lent area and returns how many they are; an area that is too
 // short for them is left as it was. No pointer is kept.
-ghost use Rattle.capi.specs.Written.{Answers};
+ghost use mathlib.Core.Path.{_≡_};
+ghost use lib.ListN.{length};
+ghost use Rattle.capi.specs.Written.{Answers, bodyNumbers};
+ghost use Rattle.bundle.specs.Record.{recordAnswer};
+ghost use Rattle.bundle.specs.Bundle.{isTaken, readAnswer, nodesOf, endsOf, countsOf, leaves};
+ghost use Rattle.bundle.specs.Written.{bundleBytes, isWritten, writeAnswer};
 ghost use Rattle.face.specs.Face.{faceJoin};
+ghost use Rattle.grid.specs.Rows.{gridAnswer};
+use bundle::Contents;
+use bundle::Record;
+use bundle::Written;
 use face::Join;
+use grid::Checked;
 
 // Puts the numbers of an answer at the front of the area, and returns how many they are.
 fn put(answer: &mut [u64], numbers: &[u64]) -> usize
@@ -36,5 +46,85 @@ pub extern "C" fn citternblaze_face(
         Join::Joined(e, i) => put(answer, &[0, e as u64, i as u64]),
         Join::Unjoined => put(answer, &[1]),
         Join::NoCrossing => put(answer, &[2]),
+    }
+}
+
+// The grid check: 0 and the number of crossings, or the number and the place of a refusal.
+#[no_mangle]
+pub extern "C" fn citternblaze_check(
+    cells: &[u16],
+    edges: &[u16],
+    counts: &[u8],
+    answer: &mut [u64],
+) -> usize
+    ensures { λ r. ⌜ Answers (gridAnswer (now (cells .entry)) (now (edges .entry)) (now (counts .entry))) (now (answer .entry)) (now (answer .exit)) r ⌝ }
+{
+    match grid::check(cells, edges, counts) {
+        Checked::Crossings(n) => put(answer, &[0, n as u64]),
+        Checked::Refused(row, place) => put(answer, &[row as u64, place as u64]),
+    }
+}
+
+// One call of the record reader: 0, the kind of the record at a start and the next start, or the number and the place of a refusal.
+#[no_mangle]
+pub extern "C" fn citternblaze_record(bytes: &[u8], start: usize, answer: &mut [u64]) -> usize
+    ensures { λ r. ⌜ Answers (recordAnswer (now (bytes .entry)) start) (now (answer .entry)) (now (answer .exit)) r ⌝ }
+{
+    match bundle::record_at(bytes, start) {
+        Record::Whole(kind, next) => put(answer, &[0, kind as u64, next as u64]),
+        Record::Refused(row, place) => put(answer, &[row as u64, place as u64]),
+    }
+}
+
+// The other: where in the bytes the body of the record at a start stands, and how many bytes it has; 0 and 0 where no record stands there.
+#[no_mangle]
+pub extern "C" fn citternblaze_record_body(bytes: &[u8], start: usize, answer: &mut [u64]) -> usize
+    ensures { λ r. ⌜ Answers (bodyNumbers (now (bytes .entry)) start) (now (answer .entry)) (now (answer .exit)) r ⌝ }
+{
+    match bundle::record_at(bytes, start) {
+        Record::Whole(kind, next) => {
+            let from = start + 4;
+            put(answer, &[from as u64, (next - from) as u64])
+        }
+        Record::Refused(row, place) => put(answer, &[0, 0]),
+    }
+}
+
+// The bundle reader: 0 and the numbers of cells and edges, or the number and the place of a refusal, which leaves the lists as they are.
+#[no_mangle]
+pub extern "C" fn citternblaze_bundle_read(
+    bytes: &[u8],
+    nodes: &mut [u16],
+    ends: &mut [u16],
+    counts: &mut [u8],
+    answer: &mut [u64],
+) -> usize
+    ensures answer { λ r. ⌜ Answers (readAnswer (now (bytes .entry)) (length (now (nodes .entry))) (length (now (ends .entry))) (length (now (counts .entry)))) (now (answer .entry)) (now (answer .exit)) r ⌝ }
+    ensures nodes { λ r. ⌜ now (nodes .exit) ≡ leaves (isTaken (now (bytes .entry)) (length (now (nodes .entry))) (length (now (ends .entry))) (length (now (counts .entry)))) (nodesOf (now (bytes .entry))) (now (nodes .entry)) ⌝ }
+    ensures ends { λ r. ⌜ now (ends .exit) ≡ leaves (isTaken (now (bytes .entry)) (length (now (nodes .entry))) (length (now (ends .entry))) (length (now (counts .entry)))) (endsOf (now (bytes .entry))) (now (ends .entry)) ⌝ }
+    ensures counts { λ r. ⌜ now (counts .exit) ≡ leaves (isTaken (now (bytes .entry)) (length (now (nodes .entry))) (length (now (ends .entry))) (length (now (counts .entry)))) (countsOf (now (bytes .entry))) (now (counts .entry)) ⌝ }
+{
+    match bundle::read(bytes, nodes, ends, counts) {
+        Contents::Lists(cells, edges) => put(answer, &[0, cells as u64, edges as u64]),
+        Contents::Refused(row, place) => put(answer, &[row as u64, place as u64]),
+    }
+}
+
+// The bundle writer: 0 and the number of bytes written, or the number and the place of a refusal, which leaves the area as it is.
+#[no_mangle]
+pub extern "C" fn citternblaze_bundle_write(
+    nodes: &[u16],
+    ends: &[u16],
+    counts: &[u8],
+    area: &mut [u8],
+    answer: &mut [u64],
+) -> usize
+    ensures answer { λ r. ⌜ Answers (writeAnswer (now (nodes .entry)) (now (ends .entry)) (now (counts .entry)) (length (now (area .entry)))) (now (answer .entry)) (now (answer .exit)) r ⌝ }
+    ensures area { λ r. ⌜ now (area .exit) ≡ leaves (isWritten (now (nodes .entry)) (now (ends .entry)) (now (counts .entry)) (length (now (area .entry)))) (bundleBytes (now (nodes .entry)) (now (ends .entry)) (now (counts .entry))) (now (area .entry)) ⌝ }
+{
+    match bundle::write(nodes, ends, counts, area) {
+        Written::Bytes(n) => put(answer, &[0, n as u64]),
+        Written::Unformed => put(answer, &[13, 0]),
+        Written::Short(needed) => put(answer, &[14, needed as u64]),
     }
 }

@@ -13,12 +13,138 @@ mod c {
             answer: *mut u64,
             answer_len: usize,
         ) -> usize;
+
+        pub fn citternblaze_check(
+            cells: *const u16,
+            cells_len: usize,
+            edges: *const u16,
+            edges_len: usize,
+            counts: *const u8,
+            counts_len: usize,
+            answer: *mut u64,
+            answer_len: usize,
+        ) -> usize;
+
+        pub fn citternblaze_record(
+            bytes: *const u8,
+            bytes_len: usize,
+            start: usize,
+            answer: *mut u64,
+            answer_len: usize,
+        ) -> usize;
+
+        pub fn citternblaze_record_body(
+            bytes: *const u8,
+            bytes_len: usize,
+            start: usize,
+            answer: *mut u64,
+            answer_len: usize,
+        ) -> usize;
+
+        pub fn citternblaze_bundle_read(
+            bytes: *const u8,
+            bytes_len: usize,
+            nodes: *mut u16,
+            nodes_len: usize,
+            ends: *mut u16,
+            ends_len: usize,
+            counts: *mut u8,
+            counts_len: usize,
+            answer: *mut u64,
+            answer_len: usize,
+        ) -> usize;
+
+        pub fn citternblaze_bundle_write(
+            nodes: *const u16,
+            nodes_len: usize,
+            ends: *const u16,
+            ends_len: usize,
+            counts: *const u8,
+            counts_len: usize,
+            area: *mut u8,
+            area_len: usize,
+            answer: *mut u64,
+            answer_len: usize,
+        ) -> usize;
     }
 }
 
+// SAFETY of the calls below: each pointer and the length after it are those of
+// one slice, which is lent for the length of the call. What is lent for writing
+// is lent alone, since the slices are.
+
 pub fn face(counts: [u8; 3], edge: u32, index: u32, answer: &mut [u64]) -> usize {
     let [ab, ac, bc] = counts;
-    // SAFETY: pointer and length are those of one slice that is lent for the
-    // length of the call.
     unsafe { c::citternblaze_face(ab, ac, bc, edge, index, answer.as_mut_ptr(), answer.len()) }
+}
+
+pub fn check(cells: &[u16], edges: &[u16], counts: &[u8], answer: &mut [u64]) -> usize {
+    unsafe {
+        c::citternblaze_check(
+            cells.as_ptr(),
+            cells.len(),
+            edges.as_ptr(),
+            edges.len(),
+            counts.as_ptr(),
+            counts.len(),
+            answer.as_mut_ptr(),
+            answer.len(),
+        )
+    }
+}
+
+pub fn record(bytes: &[u8], start: usize, answer: &mut [u64]) -> usize {
+    let (area, len) = (answer.as_mut_ptr(), answer.len());
+    unsafe { c::citternblaze_record(bytes.as_ptr(), bytes.len(), start, area, len) }
+}
+
+pub fn record_body(bytes: &[u8], start: usize, answer: &mut [u64]) -> usize {
+    let (area, len) = (answer.as_mut_ptr(), answer.len());
+    unsafe { c::citternblaze_record_body(bytes.as_ptr(), bytes.len(), start, area, len) }
+}
+
+pub fn bundle_read(
+    bytes: &[u8],
+    nodes: &mut [u16],
+    ends: &mut [u16],
+    counts: &mut [u8],
+    answer: &mut [u64],
+) -> usize {
+    unsafe {
+        c::citternblaze_bundle_read(
+            bytes.as_ptr(),
+            bytes.len(),
+            nodes.as_mut_ptr(),
+            nodes.len(),
+            ends.as_mut_ptr(),
+            ends.len(),
+            counts.as_mut_ptr(),
+            counts.len(),
+            answer.as_mut_ptr(),
+            answer.len(),
+        )
+    }
+}
+
+pub fn bundle_write(
+    nodes: &[u16],
+    ends: &[u16],
+    counts: &[u8],
+    area: &mut [u8],
+    answer: &mut [u64],
+) -> usize {
+    unsafe {
+        c::citternblaze_bundle_write(
+            nodes.as_ptr(),
+            nodes.len(),
+            ends.as_ptr(),
+            ends.len(),
+            counts.as_ptr(),
+            counts.len(),
+            area.as_mut_ptr(),
+            area.len(),
+            answer.as_mut_ptr(),
+            answer.len(),
+        )
+    }
 }

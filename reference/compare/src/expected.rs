@@ -1,6 +1,18 @@
 //! The numbers that a call has to answer, by the second implementation.
 
+use reference::bundle::{self, Sizes};
 use reference::face::{self, Join};
+use reference::gen::Sample;
+use reference::grid;
+use reference::Refusal;
+
+/// 0 and the values of a result, or a refusal's number and place.
+fn numbers<T>(answer: Result<T, Refusal>, values: impl FnOnce(T) -> Vec<u64>) -> Vec<u64> {
+    match answer {
+        Ok(result) => [vec![0], values(result)].concat(),
+        Err(refusal) => vec![u64::from(refusal.number), refusal.place],
+    }
+}
 
 /// 0 and the partner's edge and index; 1 unjoined; 2 no such crossing.
 pub fn face(counts: [u8; 3], edge: u32, index: u32) -> Vec<u64> {
@@ -9,4 +21,42 @@ pub fn face(counts: [u8; 3], edge: u32, index: u32) -> Vec<u64> {
         Join::Unjoined => vec![1],
         Join::NoCrossing => vec![2],
     }
+}
+
+/// 0 and the number of crossings, or a refusal.
+pub fn check(grid: &Sample) -> Vec<u64> {
+    let answer = grid::check(&grid.cells, &grid.edges, &grid.counts);
+    numbers(answer, |crossings| vec![u64::from(crossings)])
+}
+
+/// 0, the kind and the next start, or a refusal.
+pub fn record(bytes: &[u8], start: usize) -> Vec<u64> {
+    let answer = bundle::record(bytes, start);
+    numbers(answer, |(kind, next)| vec![u64::from(kind), next as u64])
+}
+
+/// Where the body starts in the bytes, and its length.
+pub fn record_body(bytes: &[u8], start: usize) -> Vec<u64> {
+    let body = bundle::record_body(bytes, start);
+    let at = body.as_ptr() as usize - bytes.as_ptr() as usize;
+    vec![at as u64, body.len() as u64]
+}
+
+/// 0 and the numbers of cells and edges, or a refusal; fills the lists.
+pub fn bundle_read(
+    bytes: &[u8],
+    nodes: &mut [u16],
+    ends: &mut [u16],
+    counts: &mut [u8],
+) -> Vec<u64> {
+    let answer = bundle::read(bytes, nodes, ends, counts);
+    numbers(answer, |Sizes { cells, edges }| {
+        vec![cells as u64, edges as u64]
+    })
+}
+
+/// 0 and the number of bytes written, or a refusal; fills the area.
+pub fn bundle_write(nodes: &[u16], ends: &[u16], counts: &[u8], area: &mut [u8]) -> Vec<u64> {
+    let answer = bundle::write(nodes, ends, counts, area);
+    numbers(answer, |bytes| vec![bytes as u64])
 }

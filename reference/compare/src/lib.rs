@@ -5,6 +5,8 @@ pub mod calls;
 
 pub mod expected;
 
+pub mod grids;
+
 pub mod lent;
 
 use std::env;

@@ -1,0 +1,82 @@
+use borrow.Author.Needs.{needs}
+use Rattle.bundle.specs.Bundle.{contentsNumbers}
+use Rattle.capi.proofs.Answers.{answers-told}
+use Rattle.capi.proofs.citternblaze_bundle_read.Statement.{statement}
+use Rattle.capi.proofs.citternblaze_bundle_read.Tie as tie
+
+read-requires : tie.Need-read-requires
+read-requires c κs = search needs
+
+enum-known-cells : tie.Need-enum-known-cells
+enum-known-cells c = search needs
+
+slice-aggregate-put : tie.Need-slice-aggregate-put
+slice-aggregate-put c = search needs
+
+put-requires : tie.Need-put-requires
+put-requires c κs = search needs
+
+enum-known-row : tie.Need-enum-known-row
+enum-known-row c = search needs
+
+cast-t28 : tie.Need-cast-t28
+cast-t28 c = search needs
+
+slice-aggregate-put-2 : tie.Need-slice-aggregate-put-2
+slice-aggregate-put-2 c = search needs
+
+put-requires-2 : tie.Need-put-requires-2
+put-requires-2 c κs = search needs
+
+same-length : tie.Need-same-length
+same-length c = search needs
+
+same-length-2 : tie.Need-same-length-2
+same-length-2 c = search needs
+
+same-length-3 : tie.Need-same-length-3
+same-length-3 c = search needs
+
+same-length-4 : tie.Need-same-length-4
+same-length-4 c = search needs
+
+returns : tie.Need-returns
+returns c = (answers-told contentsNumbers (c .before .before .before .before .before .before .cells .given .1) (c .before .before .before .before .before .before .before .before .before .before .before .before .before .before .read .ensures .0) (c .before .before .put .ensures), c .before .before .before .before .before .before .before .before .before .before .before .before .before .before .read .ensures .1)
+
+same-length-5 : tie.Need-same-length-5
+same-length-5 c = search needs
+
+same-length-6 : tie.Need-same-length-6
+same-length-6 c = search needs
+
+same-length-7 : tie.Need-same-length-7
+same-length-7 c = search needs
+
+same-length-8 : tie.Need-same-length-8
+same-length-8 c = search needs
+
+returns-2 : tie.Need-returns-2
+returns-2 c = (answers-told contentsNumbers (c .before .before .before .before .before .before .row .given .1) (c .before .before .before .before .before .before .before .before .before .before .before .before .before .before .read .ensures .0) (c .before .before .put2 .ensures), c .before .before .before .before .before .before .before .before .before .before .before .before .before .before .read .ensures .1)
+
+pub citternblaze-bundle-read-spec : {M : Type 1} → statement M
+citternblaze-bundle-read-spec =
+    tie.close
+    (tie.spec
+    read-requires
+    enum-known-cells
+    slice-aggregate-put
+    put-requires
+    enum-known-row
+    cast-t28
+    slice-aggregate-put-2
+    put-requires-2
+    same-length
+    same-length-2
+    same-length-3
+    same-length-4
+    returns
+    same-length-5
+    same-length-6
+    same-length-7
+    same-length-8
+    returns-2)

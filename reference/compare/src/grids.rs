@@ -1,0 +1,136 @@
+//! Random grids for the comparison of every call that takes one.
+
+use reference::gen::{
+    box_of_five, box_of_six, box_ring, broken, closed_fan, cone, gathered, linked, open_fan,
+    random_shape, ring, separate, Rng, Sample,
+};
+use reference::grid::MAX_CELLS;
+
+/// The rows of refusals of the grid check.
+pub const ROWS: u8 = 10;
+
+/// The lowest number of crossings of a full grid, and the first one that a
+/// refusal could name.
+const FULL: [usize; 2] = [60_001, 66_000];
+
+/// One of each kind of shape, from the smallest on; counts are 0.
+pub fn shapes(rng: &mut Rng) -> Vec<Sample> {
+    let mut shapes = vec![
+        box_of_five([1, 1, 1]),
+        box_of_five([3, 4, 2]),
+        box_of_six([1, 1, 1]),
+        box_of_six([2, 3, 4]),
+        box_ring([3, 3, 1], 1),
+        box_ring([5, 4, 2], 1),
+        open_fan(1),
+        open_fan(30),
+        closed_fan(3),
+        closed_fan(30),
+        ring(7),
+        ring(30),
+        cone([1, 1, 1]),
+        cone([3, 2, 2]),
+        separate(1),
+        separate(20),
+    ];
+    shapes.push(linked(&gathered(rng, &box_of_six([3, 3, 3]), 40)));
+    let again: Vec<Sample> = shapes.iter().map(|shape| shape.renumbered(rng)).collect();
+    shapes.extend(again);
+    shapes
+}
+
+/// A shape of more than 1,500 cells.
+fn large_shape(rng: &mut Rng) -> Sample {
+    let many = rng.between(1_501, MAX_CELLS) as u16;
+    let shape = match rng.below(7) {
+        0 => open_fan(many),
+        1 => closed_fan(many),
+        2 => ring(many),
+        3 => box_of_five([7, 7, rng.between(7, 8)]),
+        4 => box_of_six([5, 6, rng.between(9, 11)]),
+        5 => cone([13, 13, rng.between(9, 13)]),
+        _ => box_of_six([5, 6, 11]).reordered(rng),
+    };
+    if rng.coin() {
+        shape.renumbered(rng)
+    } else {
+        shape
+    }
+}
+
+/// Counts of a random kind: few, some, any, even on each face, or 0 on the
+/// outer edges.
+pub fn with_random_counts(rng: &mut Rng, shape: Sample) -> Sample {
+    match rng.below(6) {
+        0 => shape.with_counts(rng, 0, 3),
+        1 => shape.with_counts(rng, 0, 12),
+        2 => shape.with_counts(rng, 0, 255),
+        3 => shape.with_even_counts(rng, 3),
+        4 => shape.with_closed_counts(rng, 3),
+        _ => shape.with_closed_counts(rng, 100),
+    }
+}
+
+/// Counts with this sum, or as near to it as they come, some of them moved
+/// from one edge to another.
+pub fn with_crossings(rng: &mut Rng, mut grid: Sample, sum: usize) -> Sample {
+    let edges = grid.counts.len();
+    for (edge, count) in grid.counts.iter_mut().enumerate() {
+        let share = sum / edges + usize::from(edge < sum % edges);
+        *count = share.min(255) as u8;
+    }
+    for _ in 0..edges {
+        let [from, to] = [rng.below(edges), rng.below(edges)];
+        let most = grid.counts[from].min(255 - grid.counts[to]);
+        let moved = rng.between(0, usize::from(most)) as u8;
+        grid.counts[from] -= moved;
+        grid.counts[to] += moved;
+    }
+    grid
+}
+
+/// A grid with about as many crossings as one may have, or a few too many.
+fn full_grid(rng: &mut Rng) -> Sample {
+    let shape = match rng.below(4) {
+        0 => box_of_six([3, 4, 4]),
+        1 => closed_fan(rng.between(200, 900) as u16),
+        2 => separate(rng.between(44, 400) as u16),
+        _ => large_shape(rng),
+    };
+    let sum = match rng.below(4) {
+        0 => rng.between(65_534, 65_537),
+        _ => rng.between(FULL[0], FULL[1]),
+    };
+    with_crossings(rng, shape, sum)
+}
+
+/// A grid of a random shape with random counts, most of them accepted.
+pub fn random_grid(rng: &mut Rng) -> Sample {
+    match rng.below(400) {
+        0 => full_grid(rng),
+        1 | 2 => {
+            let shape = large_shape(rng);
+            with_random_counts(rng, shape)
+        }
+        _ => {
+            let shape = random_shape(rng);
+            with_random_counts(rng, shape)
+        }
+    }
+}
+
+/// The grid with faults of one to three random rows.
+pub fn with_faults(rng: &mut Rng, mut grid: Sample) -> Sample {
+    let faults = [1, 1, 2, 3][rng.below(4)];
+    // later rows first: a fault of an early row can leave no room for them
+    let mut rows: Vec<u8> = (0..faults)
+        .map(|_| rng.between(1, usize::from(ROWS)) as u8)
+        .collect();
+    rows.sort_unstable();
+    for row in rows.into_iter().rev() {
+        if let Some(faulty) = broken(rng, &grid, row) {
+            grid = faulty;
+        }
+    }
+    grid
+}

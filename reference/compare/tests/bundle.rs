@@ -1,0 +1,314 @@
+//! Records, the bundle reader and the writer against the second implementation.
+
+use compare::lent::{answers, answers_in_all, Lent};
+use compare::{calls, expected, seed, setting};
+use reference::gen::{random_shape, Rng, Sample};
+
+/// A record of each kind.
+const CELL: [u8; 12] = [10, 0, 1, 0, 0, 0, 1, 0, 2, 0, 3, 1];
+const EDGE: [u8; 9] = [7, 0, 2, 0, 5, 0, 255, 255, 9];
+const END: [u8; 4] = [2, 0, 3, 0];
+
+/// Values before a call and guards; no two are alike.
+const NODE: u16 = 0xa5a4;
+const COUNT: u8 = 0xa7;
+const GUARD: u16 = 0xc3c2;
+const BYTE_GUARD: u8 = 0xc5;
+
+/// Lent lists of these lengths: nodes, ends, counts.
+type Room = [usize; 3];
+
+/// Compares the reader on lists of these lengths, in all and behind them; tells
+/// whether it took the bundle.
+fn compare_read(bytes: &[u8], [nodes, ends, counts]: Room) -> bool {
+    let before = (vec![NODE; nodes], vec![NODE + 1; ends], vec![COUNT; counts]);
+    let mut after = before.clone();
+    let numbers = expected::bundle_read(bytes, &mut after.0, &mut after.1, &mut after.2);
+    // that a refusal changes nothing is not left to the second implementation
+    assert!(numbers[0] == 0 || after == before);
+    let right = answers(&numbers, |answer| {
+        let mut lent_nodes = Lent::new(&before.0, GUARD);
+        let mut lent_ends = Lent::new(&before.1, GUARD);
+        let mut lent_counts = Lent::new(&before.2, BYTE_GUARD);
+        let many = calls::bundle_read(
+            bytes,
+            lent_nodes.area(),
+            lent_ends.area(),
+            lent_counts.area(),
+            answer,
+        );
+        assert!(lent_nodes.is(&after.0, GUARD), "{bytes:?}");
+        assert!(lent_ends.is(&after.1, GUARD), "{bytes:?}");
+        assert!(lent_counts.is(&after.2, BYTE_GUARD), "{bytes:?}");
+        many
+    });
+    assert!(right, "not answered with {numbers:?} alone: {bytes:?}");
+    numbers[0] == 0
+}
+
+/// Compares both calls of the record reader at one start.
+fn compare_record(bytes: &[u8], start: usize) {
+    let numbers = expected::record(bytes, start);
+    assert!(
+        answers(&numbers, |answer| calls::record(bytes, start, answer)),
+        "record at {start} not answered with {numbers:?} alone: {bytes:?}"
+    );
+    let body = expected::record_body(bytes, start);
+    assert!(
+        answers(&body, |answer| calls::record_body(bytes, start, answer)),
+        "body at {start} not answered with {body:?} alone: {bytes:?}"
+    );
+}
+
+/// Compares all three readers: records at every start and beyond, the bundle
+/// into ample lists; tells whether it was taken.
+fn compare_all(bytes: &[u8]) -> bool {
+    let len = bytes.len();
+    for start in 0..=len + 4 {
+        compare_record(bytes, start);
+    }
+    for start in [usize::MAX, usize::MAX - 4, 1 << 32, 1 << 16, 256] {
+        compare_record(bytes, start);
+    }
+    compare_read(bytes, [len / 3 + 5, len / 4 + 3, len / 9 + 2])
+}
+
+/// Compares the writer into an area of this length; the area after it.
+fn compare_write(lists: &Sample, area: usize) -> Vec<u8> {
+    let Sample {
+        cells,
+        edges,
+        counts,
+    } = lists;
+    let before = vec![COUNT; area];
+    let mut after = before.clone();
+    let numbers = expected::bundle_write(cells, edges, counts, &mut after);
+    assert!(numbers[0] == 0 || after == before);
+    let right = answers(&numbers, |answer| {
+        let mut lent = Lent::new(&before, BYTE_GUARD);
+        let many = calls::bundle_write(cells, edges, counts, lent.area(), answer);
+        assert!(lent.is(&after, BYTE_GUARD), "{lists:?}, area of {area}");
+        many
+    });
+    assert!(right, "not answered with {numbers:?} alone: {lists:?}");
+    after
+}
+
+/// Any lists with four numbers to a cell and two to a count.
+fn random_lists(rng: &mut Rng, most: usize) -> Sample {
+    let [cells, edges] = [(); 2].map(|()| rng.between(0, most));
+    let mut words = |many| (0..many).map(|_| rng.word() as u16).collect::<Vec<u16>>();
+    Sample {
+        cells: words(4 * cells),
+        edges: words(2 * edges),
+        counts: words(edges).into_iter().map(|word| word as u8).collect(),
+    }
+}
+
+fn size(lists: &Sample) -> usize {
+    3 * lists.cells.len() + 9 * lists.counts.len() + 4
+}
+
+/// The bundle of the lists, by the proved writer.
+fn bundle_of(lists: &Sample) -> Vec<u8> {
+    compare_write(lists, size(lists))
+}
+
+fn small_bundles() -> [Vec<u8>; 5] {
+    [
+        END.to_vec(),
+        [&CELL[..], &END].concat(),
+        [&EDGE[..], &END].concat(),
+        [&CELL[..], &EDGE, &END].concat(),
+        [&CELL[..], &CELL, &EDGE, &EDGE, &END].concat(),
+    ]
+}
+
+#[test]
+fn every_truncation() {
+    for bundle in small_bundles() {
+        for len in 0..bundle.len() {
+            assert!(!compare_all(&bundle[..len]));
+        }
+        assert!(compare_all(&bundle));
+        for byte in 0..=255 {
+            assert!(!compare_all(&[&bundle[..], &[byte]].concat()));
+        }
+    }
+}
+
+#[test]
+fn every_changed_byte() {
+    let [mut taken, mut refused] = [0, 0];
+    for bundle in small_bundles() {
+        for at in 0..bundle.len() {
+            for value in 0..=255 {
+                let mut bytes = bundle.clone();
+                bytes[at] = value;
+                if compare_all(&bytes) {
+                    taken += 1;
+                } else {
+                    refused += 1;
+                }
+            }
+        }
+    }
+    println!("bundles, each byte changed: {taken} taken, {refused} refused");
+    assert!(taken > 0 && refused > 0);
+}
+
+#[test]
+fn records_in_any_order() {
+    let records: [&[u8]; 5] = [&CELL, &EDGE, &END, &[2, 0, 4, 0], &[4, 0, 3, 0, 1, 1]];
+    let most = 6;
+    for many in 0..=most {
+        for mut order in 0..records.len().pow(many) {
+            let mut bytes = Vec::new();
+            for _ in 0..many {
+                bytes.extend(records[order % records.len()]);
+                order /= records.len();
+            }
+            let room = bytes.len();
+            compare_read(&bytes, [room; 3]);
+        }
+    }
+}
+
+#[test]
+fn random_bytes_and_damage() {
+    let mut rng = Rng::new(seed("bundle"));
+    let [mut taken, mut refused] = [0, 0];
+    for _ in 0..setting("CITTERNBLAZE_BUNDLES", 20_000) {
+        let mut bytes = match rng.below(4) {
+            0 => (0..rng.below(40)).map(|_| rng.word() as u8).collect(),
+            1 => (0..rng.below(40)).map(|_| rng.below(12) as u8).collect(),
+            _ => bundle_of(&random_lists(&mut rng, 4)),
+        };
+        for _ in 0..rng.below(4) {
+            let at = rng.below(bytes.len() + 1);
+            match rng.below(5) {
+                0 => bytes.insert(at, rng.below(12) as u8),
+                1 => bytes.truncate(at),
+                2 => drop(bytes.splice(at..at, END)),
+                3 if at < bytes.len() => bytes[at] = rng.word() as u8,
+                _ => {
+                    let until = rng.between(at, bytes.len());
+                    bytes.drain(at..until);
+                }
+            }
+        }
+        if compare_all(&bytes) {
+            taken += 1;
+        } else {
+            refused += 1;
+        }
+    }
+    println!("bundles, random: {taken} taken, {refused} refused");
+    assert!(taken > 0 && refused > 0);
+}
+
+#[test]
+fn lists_of_any_length_are_read() {
+    for bundle in small_bundles() {
+        for nodes in 0..=9 {
+            for ends in 0..=5 {
+                for counts in 0..=3 {
+                    compare_read(&bundle, [nodes, ends, counts]);
+                    compare_read(&bundle[..bundle.len() - 1], [nodes, ends, counts]);
+                }
+            }
+        }
+    }
+}
+
+#[test]
+fn lists_of_any_length_are_written() {
+    for cells in 0..=9 {
+        for edges in 0..=7 {
+            for counts in 0..=3 {
+                let lists = Sample {
+                    cells: (0..cells).map(|node| 0x0201 * node).collect(),
+                    edges: (0..edges).map(|node| 0xfefd - node).collect(),
+                    counts: (0..counts).map(|count| 0x7f + count).collect(),
+                };
+                for area in 0..=size(&lists) + 3 {
+                    compare_write(&lists, area);
+                }
+            }
+        }
+    }
+}
+
+#[test]
+fn grids_go_there_and_back() {
+    let mut rng = Rng::new(seed("bundle"));
+    for _ in 0..1_000 {
+        let lists = match rng.below(2) {
+            0 => random_shape(&mut rng).with_counts(&mut rng, 0, 255),
+            _ => random_lists(&mut rng, 300),
+        };
+        let mut area = vec![0; size(&lists)];
+        for cut in [1, 2, 100] {
+            compare_write(&lists, size(&lists).saturating_sub(cut));
+        }
+        area.copy_from_slice(&compare_write(&lists, size(&lists) + 7)[..size(&lists)]);
+        let room = [lists.cells.len(), lists.edges.len(), lists.counts.len()];
+        assert!(compare_read(&area, room));
+        let mut back = Sample {
+            cells: vec![0; room[0]],
+            edges: vec![0; room[1]],
+            counts: vec![0; room[2]],
+        };
+        let mut answer = [0; 3];
+        calls::bundle_read(
+            &area,
+            &mut back.cells,
+            &mut back.edges,
+            &mut back.counts,
+            &mut answer,
+        );
+        assert_eq!(back, lists);
+        for list in 0..3 {
+            let mut short = room;
+            short[list] = short[list].saturating_sub(1);
+            compare_read(&area, short);
+        }
+    }
+}
+
+#[test]
+fn any_answer_area() {
+    let bundle = [&CELL[..], &EDGE, &END].concat();
+    for (start, record, body) in [
+        (0, vec![0, 1, 12], [4, 8]),
+        (12, vec![0, 2, 21], [16, 5]),
+        (21, vec![0, 3, 25], [25, 0]),
+        (1, vec![13, 1], [0, 0]),
+        (25, vec![13, 25], [0, 0]),
+    ] {
+        let call = |answer: &mut [u64]| calls::record(&bundle, start, answer);
+        assert!(answers_in_all(&record, call));
+        let call = |answer: &mut [u64]| calls::record_body(&bundle, start, answer);
+        assert!(answers_in_all(&body, call));
+    }
+    let reads = [
+        (25, 4, vec![0, 1, 1]),
+        (24, 4, vec![13, 21]),
+        (25, 3, vec![14, 0]),
+    ];
+    for (len, nodes, numbers) in reads {
+        let bytes = &bundle[..len];
+        let mut nodes = vec![0; nodes];
+        let call = |answer: &mut [u64]| {
+            calls::bundle_read(bytes, &mut nodes, &mut [0; 2], &mut [0], answer)
+        };
+        assert!(answers_in_all(&numbers, call));
+    }
+    for (counts, area, numbers) in [(1, 25, [0, 25]), (2, 40, [13, 0]), (1, 24, [14, 25])] {
+        let mut area = vec![0; area];
+        let counts = vec![0; counts];
+        let call =
+            |answer: &mut [u64]| calls::bundle_write(&[0; 4], &[0; 2], &counts, &mut area, answer);
+        assert!(answers_in_all(&numbers, call));
+    }
+}
