@@ -84,8 +84,7 @@ half-edge s j l = rw (half-slot s j l, half-place s j l)
 pub entry : (m : ℕ) (f : ℕ → ℕ) (n : ℕ) (l : List ℕ) → every (λ i. eqb (getD l i 0) (f i) && ltb (getD l i 0) n) m ≡ true
     → (i : ℕ) → i < m → (getD l i 0 ≡ f i) × (getD l i 0 < n)
 entry m f n l e i lt =
-    let t = every-is (λ i. eqb (getD l i 0) (f i) && ltb (getD l i 0) n) m e i lt in
-    (
+    let t = every-is (λ i. eqb (getD l i 0) (f i) && ltb (getD l i 0) n) m e i lt in (
       eqb-true (getD l i 0) (f i) (and-left (eqb (getD l i 0) (f i)) (ltb (getD l i 0) n) t),
       ltb-true (getD l i 0) n (and-right (eqb (getD l i 0) (f i)) (ltb (getD l i 0) n) t),
     )

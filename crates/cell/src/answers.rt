@@ -11,11 +11,11 @@ ghost use Rattle.cell.specs.Route.{mostCrossings};
 ghost use Rattle.cell.specs.Walked.{Looped};
 ghost use Rattle.cell.specs.Round.{HalfEdges, foldsIn, crossesIn};
 ghost use Rattle.cell.specs.Answer.{typeNumbers, loopNumbers};
-use super::routes;
-use super::tables;
 use super::Cell;
 use super::Loop;
 use super::LoopType;
+use super::routes;
+use super::tables;
 
 fn same(a: usize, b: usize) -> usize
     ensures { λ r. ⌜ (r ≡ one (eqb a b)) × (r ≤ 1) ⌝ }

@@ -3,11 +3,12 @@ ghost use mathlib.Core.Path.{_≡_};
 ghost use Rattle.cell.specs.Of.{countOf, startOf};
 ghost use Rattle.cell.specs.Loop.{loopAnswer};
 ghost use Rattle.cell.specs.Answer.{loopNumbers};
-mod tables;
+
+mod answers;
 mod routes;
 mod steps;
+mod tables;
 mod walks;
-mod answers;
 
 pub use answers::folds_of;
 pub use routes::crossings_of;

@@ -9,8 +9,8 @@ ghost use Rattle.cell.specs.Cell.{crossings};
 ghost use Rattle.cell.specs.Of.{countOf, startOf};
 ghost use Rattle.cell.specs.Half.{halfEdges, placeOf, edgeOf, twin, around};
 ghost use Rattle.cell.specs.Route.{mostCrossings, startLimit, cornerOf, route, Firsts, Routed};
-use super::tables;
 use super::Cell;
+use super::tables;
 
 pub fn wide8(x: u8) -> usize
     ensures { λ r. ⌜ (r ≡ x) × (r < 256) ⌝ }

@@ -7,12 +7,12 @@ ghost use Rattle.cell.specs.Cell.{crossings};
 ghost use Rattle.cell.specs.Of.{countOf};
 ghost use Rattle.cell.specs.Route.{mostCrossings, Routed};
 ghost use Rattle.cell.specs.Walked.{Located, Starts, Marked, Scratch, Walked};
-use super::routes;
-use super::steps;
-use super::tables;
 use super::Cell;
 use super::Dart;
 use super::Next;
+use super::routes;
+use super::steps;
+use super::tables;
 
 // The first dart of the crossing with index t on edge e, which is crossing p.
 fn first_dart(c: Cell, e: usize, t: usize, p: usize) -> Dart

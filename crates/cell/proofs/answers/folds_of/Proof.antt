@@ -74,7 +74,7 @@ loop-less c = omega arith
 
 -- src/answers.rt:42:5
 loop-again : tie.Need-loop-again Inv-loop μ-loop
-loop-again c = 
+loop-again c =
     let hs = now (c .before .before .before .before .before .before .before .before .before .before .args .halves) in
     let n = c .before .before .before .before .before .before .before .before .before .before .args .n in
     let k = c .before .before .before .before .before .before .before .before .before .loop .k in

@@ -100,8 +100,6 @@ returns c =
     let s : startOf (a .args .c) (edgeOf h) ≡ c .wide16 .result = cc in
     (rw (p, q) (cc), rw s (c .wide16 .ensures .1))
 
-
-
 pub put-counts-spec : {M : Type 1} → statement M
 put-counts-spec =
     tie.close

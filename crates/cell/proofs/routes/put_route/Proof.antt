@@ -25,8 +25,7 @@ put-links-requires c κs = search needs
 -- src/routes.rt:87:1
 returns : tie.Need-returns
 returns c =
-    let a = c .before .before .before .before .before .before .args in
-    (
+    let a = c .before .before .before .before .before .before .args in (
       route-sets (countOf (a .c)) (startOf (a .c)) (a .h) (now (a .t)) (c .before .before .before .before .put-corners .ensures) (c .before .before .put-counts .ensures .0) (c .put-links .ensures),
       c .before .before .put-counts .ensures .1,
     )

@@ -1,0 +1,56 @@
+-- The mesh call, where the grid check refuses and where it accepts.
+use Prim.Native.Nat.{ℕ}
+use mathlib.Core.Path.{_≡_, refl, sym, ap, _∙_}
+use mathlib.Core.Bool.{Bool, true, false}
+use mathlib.Core.List.{List, [], _∷_}
+use lib.Dec.{eqb}
+use lib.ListN.{length}
+use Rattle.answer.specs.Answer.{result, refusal}
+use Rattle.counting.specs.Pick.{pick}
+use Rattle.grid.specs.declared.Checked.{Checked}
+use Rattle.grid.specs.declared.Checked.the-variants.{Crossings, Refused}
+use Rattle.grid.specs.Check.{checkNumbers}
+use Rattle.grid.specs.Rows.{gridAnswer}
+use Rattle.grid.specs.Tables.{accepts, Opened}
+use Rattle.grid.proofs.Accepts.{acceptance-yields}
+use Rattle.grid.proofs.Filled.{refused-keeps, crossings-accept}
+use Rattle.mesh.specs.Table.{Laid}
+use Rattle.mesh.specs.Room.{roomAnswer, roomArea}
+use Rattle.mesh.specs.Drawn.{Drawn}
+use Rattle.mesh.specs.Answer.{meshAnswer, meshArea}
+use Rattle.mesh.specs.Done.{Done}
+use Rattle.mesh.proofs.Demand.{demand3}
+use Rattle.mesh.proofs.Tables.{Tabled, tabled, laid, triangles-are}
+
+module _ (cells edges counts : List ℕ) where
+  pub refused-done : (r : Checked) (row place : ℕ) (area : List ℕ) → r ≡ Refused row place → checkNumbers r ≡ gridAnswer cells edges counts
+      → Done cells edges counts area area (pick (eqb row 0) [] (refusal row place))
+  unfolding meshAnswer meshArea
+  refused-done r row place area e q =
+      let n : checkNumbers (Refused row place) ≡ gridAnswer cells edges counts = ap checkNumbers (sym e) ∙ q in
+      let k = refused-keeps cells edges counts row place n in
+      record { answered = rw k n; area = rw k; demand = demand3 cells edges counts }
+
+  module _ (r : Checked) (n : ℕ) (e : r ≡ Crossings n) (q : checkNumbers r ≡ gridAnswer cells edges counts) where
+    is-result : checkNumbers (Crossings n) ≡ gridAnswer cells edges counts
+    is-result = ap checkNumbers (sym e) ∙ q
+
+    accepted : accepts cells edges counts ≡ true
+    accepted = crossings-accept cells edges counts n is-result
+
+    module _ (names₀ near₀ sides₀ starts₀ names near sides starts : List ℕ) (ln : length names₀ ≡ 8192) (ls : length sides₀ ≡ 12288) (lt : length starts₀ ≡ 12288)
+        (o : Opened cells edges counts names₀ near₀ sides₀ starts₀ names near sides starts) where
+      tables : Tabled cells edges counts names sides starts
+      tables =
+          tabled cells edges counts names₀ near₀ sides₀ starts₀ names near sides starts (acceptance-yields cells edges counts (n ∷ []) (sym is-result)) accepted ln ls lt o
+
+      pub opened-laid : Laid cells counts sides starts
+      opened-laid = laid tables
+
+      pub drawn-done : (before after answer : List ℕ) → Drawn cells counts names sides starts before after answer → Done cells edges counts before after answer
+      unfolding meshAnswer meshArea
+      drawn-done before after answer d = record {
+        answered = rw accepted (d .answered ∙ ap (λ m. roomAnswer m (length before)) (triangles-are tables));
+        area = rw accepted (d .area ∙ ap (λ m. roomArea m before) (triangles-are tables));
+        demand = demand3 cells edges counts;
+      }

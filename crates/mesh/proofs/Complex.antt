@@ -1,0 +1,242 @@
+-- An accepted grid is a complex whose cells share whole faces.
+use Prim.Native.Nat.{ℕ, zero, suc, _+_, _*_, _-_, _/_, _%_, _≤_, _<_}
+use mathlib.Core.Path.{_≡_, refl, sym, ap, ap₂, _∙_, subst}
+use mathlib.Core.Logic.{_⊎_, inl, inr, _≢_, ⊎-elim}
+use mathlib.Core.Bool.{Bool, true, false}
+use mathlib.Core.List.{List, [], _∷_}
+use native.Mathlib.Nat.{zero-add}
+use native.Mathlib.Omega.{arith}
+use native.Mathlib.Decide.{decLt}
+use lib.ListN.{getD, length}
+use Rattle.counting.specs.Range.{over}
+use Rattle.counting.specs.Pack.{pre, row, col}
+use Rattle.counting.proofs.Lists.{getD-singles}
+use Rattle.counting.proofs.Pack.{row-lt, col-lt, pre-le, later}
+use Rattle.counting.proofs.Search.{first-ext}
+use Rattle.slots.specs.Slots.{lo, hi, corner, from, to, slotEdge, place, firstSlot, secondSlot}
+use Rattle.slots.proofs.Slots.{slot-edge, EdgeSlot, first-slot, second-slot, face-ends, same-slot, corner-lt}
+use Rattle.face.specs.Face.{joined, unjoined, faceJoin}
+use Rattle.walk.specs.Darts.{half}
+use Rattle.walk.proofs.Step.{face-first, face-second}
+use Rattle.cell.specs.Cell as cell
+use Rattle.cell.specs.Cell.{crossings, edge, index, number, mate, joinAt}
+use Rattle.cell.specs.Loop.{inGrid, normal}
+use Rattle.cell.proofs.Mates.{ports}
+use Rattle.mesh.proofs.Joins.{three, On, index-in, num-lt, num-edge, num-index, num-place, num-on, is-num, Joined, joined-or, mate-joined, on-dart}
+use Rattle.triangle.specs.Triangles as triangles
+use Rattle.triangle.specs.Triangles.{numberOf}
+use Rattle.triangle.proofs.Polygons.{localOf}
+use Rattle.manifold.specs.Piece.{Local, Piece, slotOf, mateOf}
+use Rattle.manifold.specs.Complex.{Complex}
+use Rattle.manifold.specs.Faces.{Match, Faced}
+use Rattle.grid.specs.Grid as grid
+use Rattle.grid.specs.Grid.{cellCount, node, SameFace, faceName, joins, isEdge, edgeNumber, countOf, start}
+use Rattle.grid.specs.Accepted.{Accepted}
+use Rattle.mesh.specs.Mesh.{values, gridCell}
+use Rattle.mesh.proofs.Names.{same-named, named-same}
+
+values-at : (f : ℕ → ℕ) (n k : ℕ) → k < n → getD (values f n) k 0 ≡ f k
+values-at f n k l = getD-singles f 0 n 0 k l ∙ ap f (zero-add k)
+
+module _ (cells edges counts : List ℕ) where
+  -- the number of edge k of cell c, and the counts of the cell
+  abbrev pub en : ℕ → ℕ → ℕ
+  en c k = edgeNumber cells edges counts c k
+
+  abbrev pub w : ℕ → ℕ → ℕ
+  w c = triangles.countOf (gridCell cells edges counts c)
+
+  abbrev pub at : ℕ → Local
+  at c = localOf (gridCell cells edges counts c)
+
+  abbrev pub gridComplex : Complex
+  gridComplex = record { pieces = cellCount cells; at = at; normal = λ c p. normal (w c) p }
+
+  -- the count, the start and the face name of an edge and of a slot of cell c
+  pub count-of : (c k : ℕ) → k < 6 → w c k ≡ countOf counts (en c k)
+  unfolding gridCell
+  count-of c k l = values-at (λ k. countOf counts (en c k)) 6 k l
+
+  start-of : (c k : ℕ) → k < 6 → triangles.startOf (gridCell cells edges counts c) k ≡ start counts (en c k)
+  unfolding gridCell
+  start-of c k l = values-at (λ k. start counts (en c k)) 6 k l
+
+  pub name-of : (c s : ℕ) → s < 4 → at c .name s ≡ faceName cells c s
+  unfolding gridCell
+  name-of c s l = values-at (faceName cells c) 4 s l
+
+  -- the crossing number of crossing x of cell c
+  pub number-of : (c x : ℕ) → x < crossings (w c) → at c .number x ≡ start counts (en c (edge (w c) x)) + index (w c) x
+  unfolding numberOf inGrid
+  number-of c x l = ap (λ n. n + index (w c) x) (start-of c (edge (w c) x) (row-lt (w c) 6 x l))
+
+  pub start-le : (a b : ℕ) → a < b → start counts a + countOf counts a ≤ start counts b
+  unfolding start
+  start-le a b h = pre-le (countOf counts) 0 a b h
+
+  module _ (A : Accepted cells edges counts) where
+    number-rises : (c : ℕ) → c < cellCount cells → (x y : ℕ) → x < y → y < crossings (w c) → at c .number x < at c .number y
+    number-rises c lc x y h l =
+        let ex = row-lt (w c) 6 x (omega arith) in
+        let ey = row-lt (w c) 6 y l in
+        rw (number-of c x (omega arith), number-of c y l)
+        (⊎-elim
+        (λ (r : edge (w c) x < edge (w c) y).
+        omega (
+          arith,
+          start-le (en c (edge (w c) x)) (en c (edge (w c) y)) (A .rising c (edge (w c) x) (edge (w c) y) lc r ey),
+          col-lt (w c) 6 x (omega arith),
+          count-of c (edge (w c) x) ex,
+        ))
+        (λ (r : (edge (w c) x ≡ edge (w c) y) × (index (w c) x < index (w c) y)). omega (arith, r .1, ap (λ k. start counts (en c k)) (r .0)))
+        (later (w c) 6 x y h l))
+
+    pub number-once : (c : ℕ) → c < cellCount cells → (x y : ℕ) → x < crossings (w c) → y < crossings (w c) → at c .number x ≡ at c .number y → x ≡ y
+    number-once c lc x y lx ly e =
+        elim (decLt x y) [
+          | yes h ↦ absurd (omega (arith, number-rises c lc x y h ly))
+          | no h ↦ elim (decLt y x) [
+            | yes k ↦ absurd (omega (arith, number-rises c lc y x k lx))
+            | no k ↦ omega arith
+          ]
+        ]
+
+    node-once : (c i j : ℕ) → c < cellCount cells → i < 4 → j < 4 → node cells c i ≡ node cells c j → i ≡ j
+    node-once c i j lc li lj e =
+        elim (decLt i j) [
+          | yes h ↦ absurd (omega (arith, A .increasing c i j lc h lj))
+          | no h ↦ elim (decLt j i) [
+            | yes k ↦ absurd (omega (arith, A .increasing c j i lc k li))
+            | no k ↦ omega arith
+          ]
+        ]
+
+    names-once : (c : ℕ) → c < cellCount cells → (s t : ℕ) → s < 4 → t < 4 → at c .name s ≡ at c .name t → s ≡ t
+    names-once c lc s t ls lt e =
+        let h = same-named cells c s c t lc lc ls lt (sym (name-of c s ls) ∙ e ∙ name-of c t lt) in
+        same-slot s t ls lt (λ i l. node-once c (corner s i) (corner t i) lc (corner-lt s i l) (corner-lt t i l) (h i l))
+
+    piece-is : (c : ℕ) → c < cellCount cells → Piece (at c)
+    piece-is c lc = record {
+      ports = ports (w c);
+      numbers = number-once c lc;
+      slot = λ d l. on-dart (w c) d l .slot .lt;
+      names = names-once c lc;
+    }
+
+    -- two cells that share a face have the same edges there, and so the same counts and the same segments
+    module _ (a b r s : ℕ) (lr : r < 4) (ls : s < 4) (h : SameFace cells a r b s) where
+      same-edge : (j : ℕ) → j < 3 → en a (slotEdge r j) ≡ en b (slotEdge s j)
+      unfolding edgeNumber isEdge
+      same-edge j l =
+          let u = slot-edge r j lr l in
+          let v = slot-edge s j ls l in
+          let e = face-ends j l in
+          let x : node cells a (lo (slotEdge r j)) ≡ node cells b (lo (slotEdge s j)) = ap (node cells a) (u .lo-is) ∙ h (from j) (omega arith) ∙ ap (node cells b) (sym (v .lo-is)) in
+          let y : node cells a (hi (slotEdge r j)) ≡ node cells b (hi (slotEdge s j)) = ap (node cells a) (u .hi-is) ∙ h (to j) (omega arith) ∙ ap (node cells b) (sym (v .hi-is)) in
+          first-ext (isEdge cells edges a (slotEdge r j)) (isEdge cells edges b (slotEdge s j)) (length counts) (λ e m. ap₂ (λ p q. joins edges p q e) x y)
+
+      same-count : (j : ℕ) → j < 3 → three (w a) r j ≡ three (w b) s j
+      same-count j l =
+          count-of a (slotEdge r j) (slot-edge r j lr l .lt) ∙ ap (countOf counts) (same-edge j l) ∙ sym (count-of b (slotEdge s j) (slot-edge s j ls l .lt))
+
+      same-join : (j i : ℕ) → faceJoin (three (w a) r 0) (three (w a) r 1) (three (w a) r 2) j i ≡ faceJoin (three (w b) s 0) (three (w b) s 1) (three (w b) s 2) j i
+      same-join j i =
+          ap (λ n. faceJoin n (three (w a) r 1) (three (w a) r 2) j i) (same-count 0 (omega arith))
+          ∙ ap (λ n. faceJoin (three (w b) s 0) n (three (w a) r 2) j i) (same-count 1 (omega arith))
+          ∙ ap (λ n. faceJoin (three (w b) s 0) (three (w b) s 1) n j i) (same-count 2 (omega arith))
+
+      -- the crossing with index i on edge j of the face has one number in both
+      same-number : (j i : ℕ) → j < 3 → i < three (w a) r j → at b .number (number (w b) (slotEdge s j) i) ≡ at a .number (number (w a) (slotEdge r j) i)
+      same-number j i lj li =
+          let lb : i < three (w b) s j = subst (λ n. i < n) (same-count j lj) li in
+          number-of b (number (w b) (slotEdge s j) i) (num-lt (w b) s j i ls lj lb)
+          ∙ ap₂ (λ k m. start counts (en b k) + m) (num-edge (w b) s j i ls lj lb) (num-index (w b) s j i ls lj lb)
+          ∙ ap (λ e. start counts e + i) (sym (same-edge j lj))
+          ∙ sym (number-of a (number (w a) (slotEdge r j) i) (num-lt (w a) r j i lr lj li)
+          ∙ ap₂ (λ k m. start counts (en a k) + m) (num-edge (w a) r j i lr lj li) (num-index (w a) r j i lr lj li))
+
+      -- crossing x of cell a stands in cell b as y
+      module _ (x : ℕ) (o : On (w a) r x) where
+        j : ℕ
+        j = place r (edge (w a) x)
+
+        i : ℕ
+        i = index (w a) x
+
+        lj : j < 3
+        unfolding j
+        lj = o .slot .place-lt
+
+        li : i < three (w a) r j
+        unfolding i j
+        li = index-in (w a) o
+
+        lb : i < three (w b) s j
+        lb = subst (λ n. i < n) (same-count j lj) li
+
+        y : ℕ
+        unfolding i j
+        y = number (w b) (slotEdge s j) i
+
+        y-lt : y < crossings (w b)
+        unfolding y
+        y-lt = num-lt (w b) s j i ls lj lb
+
+        y-edge : edge (w b) y ≡ slotEdge s j
+        unfolding y
+        y-edge = num-edge (w b) s j i ls lj lb
+
+        y-number : at b .number y ≡ at a .number x
+        unfolding y i j
+        y-number = same-number j i lj li ∙ ap (at a .number) (is-num (w a) o)
+
+        y-join : joinAt (w b) s y ≡ joinAt (w a) r x
+        unfolding joinAt y
+        y-join =
+            ap₂ (faceJoin (three (w b) s 0) (three (w b) s 1) (three (w b) s 2)) (num-place (w b) s j i ls lj lb) (num-index (w b) s j i ls lj lb)
+            ∙ sym (unfold i j in same-join j i)
+
+        y-mate : mate (w a) r x < crossings (w a) → (mate (w b) s y < crossings (w b)) × (at b .number (mate (w b) s y) ≡ at a .number (mate (w a) r x))
+        y-mate l = go (joined-or (w a) o)
+          where
+            go : Joined (w a) r x ⊎ ((joinAt (w a) r x ≡ unjoined) × (mate (w a) r x ≡ crossings (w a)))
+                → (mate (w b) s y < crossings (w b)) × (at b .number (mate (w b) s y) ≡ at a .number (mate (w a) r x))
+            go (inr u) = absurd (omega (arith, u .1))
+            go (inl g) =
+                let m : mate (w b) s y ≡ number (w b) (slotEdge s (g .j)) (g .i) = mate-joined (w b) s y (g .j) (g .i) (y-join ∙ g .join) in
+                let gb : g .i < three (w b) s (g .j) = subst (λ n. g .i < n) (same-count (g .j) (g .j-lt)) (g .i-lt) in
+                (rw m (num-lt (w b) s (g .j) (g .i) ls (g .j-lt) gb), ap (at b .number) m ∙ same-number (g .j) (g .i) (g .j-lt) (g .i-lt) ∙ ap (at a .number) (sym (g .is)))
+
+        match : (d : ℕ) → half d ≡ x → slotOf (at a) d ≡ r → Match (at a) (at b) s d
+        match d hx hr =
+            ⊎-elim
+            (λ (u : firstSlot (slotEdge s j) ≡ s). make (2 * y) (omega arith) (omega (arith, y-lt)) (face-first (crossings (w b)) (cell.first (w b)) (cell.second (w b)) (mate (w b)) y ∙ ap firstSlot y-edge ∙ u))
+            (λ (u : secondSlot (slotEdge s j) ≡ s). make (2 * y + 1) (omega arith) (omega (arith, y-lt)) (face-second (crossings (w b)) (cell.first (w b)) (cell.second (w b)) (mate (w b)) y ∙ ap secondSlot y-edge ∙ u))
+            (slot-edge s j ls lj .on)
+          where
+            make : (e : ℕ) → half e ≡ y → e < 2 * crossings (w b) → slotOf (at b) e ≡ s → Match (at a) (at b) s d
+            make e he le fe =
+                let ta : mateOf (at a) d ≡ mate (w a) r x = ap₂ (mate (w a)) hr hx in
+                let tb : mateOf (at b) e ≡ mate (w b) s y = ap₂ (mate (w b)) fe he in
+                record {
+                  e = e;
+                  lt = le;
+                  slot = fe;
+                  point = ap (at b .number) he ∙ y-number ∙ ap (at a .number) (sym hx);
+                  mate = λ l. let (u, v) = y-mate (subst (λ z. z < crossings (w a)) ta l) in
+                      (subst (λ z. z < crossings (w b)) (sym tb) u, ap (at b .number) tb ∙ v ∙ ap (at a .number) (sym ta));
+                }
+
+    pub faced : Faced gridComplex
+    faced = record {
+      piece = piece-is;
+      few = λ a b c r s t la lb lc lr ls lt p q. A .third a b c r s t la lb lc lr ls lt
+          (same-named cells a r b s la lb lr ls (sym (name-of a r lr) ∙ p ∙ name-of b s ls))
+          (same-named cells a r c t la lc lr lt (sym (name-of a r lr) ∙ q ∙ name-of c t lt));
+      agree = λ a b s d la lb ls ld q.
+          let o = on-dart (w a) d ld in
+          let r = slotOf (at a) d in
+          let lr = o .slot .lt in
+          match a b r s lr ls (same-named cells a r b s la lb lr ls (sym (name-of a r lr) ∙ q ∙ name-of b s ls)) (d / 2) o d refl refl;
+    }

@@ -1,0 +1,11 @@
+pub mod Joins
+pub mod Names
+pub mod Progress
+pub mod Tables
+pub mod Rooms
+pub mod Calls
+pub mod Complex
+pub mod Shut
+pub mod Demand
+pub mod Examples
+pub mod Premises

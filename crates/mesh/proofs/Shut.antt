@@ -1,0 +1,187 @@
+-- Under the ring premises an accepted grid is a complex in which nothing is left open, and the cells at a crossing are linked.
+use Prim.Native.Nat.{ℕ, zero, suc, _+_, _*_, _-_, _/_, _%_, _≤_, _<_}
+use mathlib.Core.Path.{_≡_, refl, sym, ap, ap₂, _∙_, subst}
+use mathlib.Core.Logic.{_⊎_, inl, inr, _≢_, ⊎-elim}
+use mathlib.Core.Bool.{Bool, true, false, not, _&&_}
+use mathlib.Core.List.{List}
+use native.Mathlib.Omega.{arith}
+use native.Mathlib.Decide.{decLt}
+use lib.Dec.{eqb}
+use lib.ListN.{length}
+use borrow.Author.Tests.{eqb-true, eqb-false, eq-eqb, not-true}
+use Rattle.counting.specs.Search.{first, some, count}
+use Rattle.counting.specs.Pack.{pre}
+use Rattle.counting.proofs.Bools.{clash, and-true, and-left, and-right, holds-or}
+use Rattle.counting.proofs.Pack.{row-lt, col-lt}
+use Rattle.counting.proofs.Search.{least, some-is, some-found, first-is}
+use Rattle.counting.proofs.Rows.{count-only}
+use Rattle.slots.specs.Slots.{slotEdge, place, contains, firstSlot, secondSlot}
+use Rattle.slots.proofs.Slots.{slot-edge}
+use Rattle.face.specs.Face.{unjoined, faceJoin}
+use Rattle.face.proofs.Claims.{faceLaws}
+use Rattle.walk.specs.Darts.{half}
+use Rattle.walk.proofs.Step.{face-first, face-second}
+use Rattle.cell.specs.Cell as cell
+use Rattle.cell.specs.Cell.{crossings, edge, index, number, mate, joinAt}
+use Rattle.mesh.proofs.Joins.{three, On, index-in, num-lt, num-edge, num-index, Joined, joined-or, even-joined, on-dart}
+use Rattle.manifold.specs.Piece.{slotOf, mateOf}
+use Rattle.manifold.specs.Complex.{Complex, Has}
+use Rattle.manifold.specs.Faces.{FacesShut, SharesFace, FacesLinked}
+use Rattle.grid.specs.Grid.{cellCount, SameFace, hasFace, isEdge, outer, edgeNumber, countOf, start, sameFace}
+use Rattle.grid.specs.Accepted.{Accepted}
+use Rattle.mesh.specs.Demand.{RingPremises, faceCount}
+use Rattle.mesh.proofs.Names.{same-face, face-same, named-same, has-face}
+use Rattle.mesh.proofs.Complex.{w, at, en, gridComplex, count-of, name-of, number-of, start-le}
+
+module _ (cells edges counts : List ℕ) where
+  module _ (A : Accepted cells edges counts) (H : RingPremises cells edges counts) where
+    -- a face with a crossing is in a second cell: an edge of a face that only one cell has is outer
+    module _ (c s j : ℕ) (lc : c < cellCount cells) (ls : s < 4) (lj : j < 3) where
+      own : hasFace cells c s c ≡ true
+      unfolding hasFace
+      own = some-found (λ t. sameFace cells c t c s) 4 s ls (face-same cells c s c s (λ i l. refl))
+
+      alone-outer : count (hasFace cells c s) (cellCount cells) ≡ 1 → outer cells edges (en cells edges counts c (slotEdge s j)) ≡ true
+      unfolding outer edgeNumber
+      alone-outer e =
+          let k = slotEdge s j in
+          let sk = slot-edge s j ls lj in
+          let f = en cells edges counts c k in
+          let is : isEdge cells edges c k f ≡ true = first-is (isEdge cells edges c k) (length counts) (A .listed c k lc (sk .lt)) in
+          some-found (λ c. some (λ k. isEdge cells edges c k f && some (λ s. contains k s && eqb (count (hasFace cells c s) (cellCount cells)) 1) 4) 6) (cellCount cells) c lc
+          (some-found (λ k. isEdge cells edges c k f && some (λ s. contains k s && eqb (count (hasFace cells c s) (cellCount cells)) 1) 4) 6 k (sk .lt)
+          (and-true (isEdge cells edges c k f) (some (λ s. contains k s && eqb (count (hasFace cells c s) (cellCount cells)) 1) 4) is
+          (some-found (λ s. contains k s && eqb (count (hasFace cells c s) (cellCount cells)) 1) 4 s ls
+          (and-true (contains k s) (eqb (count (hasFace cells c s) (cellCount cells)) 1) (sk .within) (eq-eqb (count (hasFace cells c s) (cellCount cells)) 1 e)))))
+
+      pub beyond : (i : ℕ) → i < faceCount cells edges counts c s j → (b : ℕ) × (b < cellCount cells) × (b ≢ c) × (t : ℕ) × (t < 4) × SameFace cells c s b t
+      beyond i li = go (least (λ b. hasFace cells c s b && not (eqb b c)) (cellCount cells))
+        where
+          found : (b : ℕ) → b < cellCount cells → (hasFace cells c s b && not (eqb b c)) ≡ true → (b : ℕ) × (b < cellCount cells) × (b ≢ c) × (t : ℕ) × (t < 4) × SameFace cells c s b t
+          found b lb e =
+              let (t, lt, q) = shared b (and-left (hasFace cells c s b) (not (eqb b c)) e) in
+              (b, lb, eqb-false b c (not-true (eqb b c) (and-right (hasFace cells c s b) (not (eqb b c)) e)), t, lt, λ i l. sym (same-face cells b t c s q i l))
+            where
+              shared : (b : ℕ) → hasFace cells c s b ≡ true → (t : ℕ) × (t < 4) × (sameFace cells b t c s ≡ true)
+              shared b e = has-face cells c s b e
+
+          only : ((i : ℕ) → i < cellCount cells → (hasFace cells c s i && not (eqb i c)) ≡ false) → (b : ℕ) → b < cellCount cells → hasFace cells c s b ≡ true → b ≡ c
+          only none b lb e =
+              ⊎-elim (λ (q : eqb b c ≡ true). eqb-true b c q)
+              (λ (q : eqb b c ≡ false). clash (and-true (hasFace cells c s b) (not (eqb b c)) e (ap not q)) (none b lb)) (holds-or (eqb b c))
+
+          go : ((b : ℕ) × (b < cellCount cells) × ((hasFace cells c s b && not (eqb b c)) ≡ true) × ((i : ℕ) → i < b → (hasFace cells c s i && not (eqb i c)) ≡ false))
+              ⊎ ((i : ℕ) → i < cellCount cells → (hasFace cells c s i && not (eqb i c)) ≡ false)
+              → (b : ℕ) × (b < cellCount cells) × (b ≢ c) × (t : ℕ) × (t < 4) × SameFace cells c s b t
+          go (inl (b, lb, e, f)) = found b lb e
+          go (inr none) =
+              let one = count-only (hasFace cells c s) (cellCount cells) c lc own (only none) in
+              let z = H .outer-zero (en cells edges counts c (slotEdge s j)) (A .listed c (slotEdge s j) lc (slot-edge s j ls lj .lt)) (alone-outer one) in
+              absurd (omega (arith, z))
+
+    -- the three counts of a slot as the cell has them
+    three-is : (c s j : ℕ) → s < 4 → j < 3 → three (w cells edges counts c) s j ≡ faceCount cells edges counts c s j
+    three-is c s j ls lj = count-of cells edges counts c (slotEdge s j) (slot-edge s j ls lj .lt)
+
+    even-slot : (c s : ℕ) → c < cellCount cells → s < 4
+        → (three (w cells edges counts c) s 0 + three (w cells edges counts c) s 1 + three (w cells edges counts c) s 2) % 2 ≡ 0
+    even-slot c s lc ls =
+        rw (three-is c s 0 ls (omega arith), three-is c s 1 ls (omega arith), three-is c s 2 ls (omega arith)) (H .even c s lc ls)
+
+    pub facesShut : FacesShut (gridComplex cells edges counts)
+    facesShut = record { full = full; paired = paired }
+      where
+        full : (c d : ℕ) → c < cellCount cells → d < 2 * crossings (w cells edges counts c) → mateOf (at cells edges counts c) d < crossings (w cells edges counts c)
+        full c d lc ld = go (joined-or v o)
+          where
+            v : ℕ → ℕ
+            v = w cells edges counts c
+
+            s : ℕ
+            s = slotOf (at cells edges counts c) d
+
+            o : On v s (d / 2)
+            o = on-dart (w cells edges counts c) d ld
+
+            go : Joined v s (d / 2) ⊎ ((joinAt v s (d / 2) ≡ unjoined) × (mate v s (d / 2) ≡ crossings v)) → mate v s (d / 2) < crossings v
+            go (inl g) = rw (g .is) (num-lt v s (g .j) (g .i) (o .slot .lt) (g .j-lt) (g .i-lt))
+            go (inr u) = absurd (none (u .0))
+              where
+                none : joinAt v s (d / 2) ≡ unjoined → ⊥
+                none e = even-joined v s (d / 2) (even-slot c s lc (o .slot .lt)) e
+
+        paired : (c d : ℕ) → c < cellCount cells → d < 2 * crossings (w cells edges counts c)
+            → (b : ℕ) × (b < cellCount cells) × (b ≢ c) × (s : ℕ) × (s < 4) × (at cells edges counts c .name (slotOf (at cells edges counts c) d) ≡ at cells edges counts b .name s)
+        paired c d lc ld =
+            let v = w cells edges counts c in
+            let s = slotOf (at cells edges counts c) d in
+            let o = on-dart (w cells edges counts c) d ld in
+            let j = place s (edge v (d / 2)) in
+            let (b, lb, ne, t, lt, h) = beyond c s j lc (o .slot .lt) (o .slot .place-lt) (index v (d / 2)) (subst (λ n. index v (d / 2) < n) (three-is c s j (o .slot .lt) (o .slot .place-lt)) (index-in v o)) in
+            (b, lb, ne, t, lt, name-of cells edges counts c s (o .slot .lt) ∙ named-same cells c s b t h ∙ sym (name-of cells edges counts b t lt))
+
+    -- a crossing number tells its edge
+    edge-of-number : (e f i j : ℕ) → i < countOf counts e → j < countOf counts f → start counts e + i ≡ start counts f + j → e ≡ f
+    edge-of-number e f i j li lj q =
+        elim (decLt e f) [
+          | yes h ↦ absurd (omega (arith, start-le cells edges counts e f h))
+          | no h ↦ elim (decLt f e) [
+            | yes k ↦ absurd (omega (arith, start-le cells edges counts f e k))
+            | no k ↦ omega arith
+          ]
+        ]
+
+    -- the cells at a crossing are linked through faces on which it lies: those that contain its edge
+    pub facesLinked : (g : ℕ) → FacesLinked (gridComplex cells edges counts) g
+    facesLinked g Q pass a b ha hb =
+        let va = w cells edges counts a in
+        let vb = w cells edges counts b in
+        let ka = edge va (ha .x) in
+        let kb = edge vb (hb .x) in
+        let lka = row-lt va 6 (ha .x) (ha .x-lt) in
+        let lkb = row-lt vb 6 (hb .x) (hb .x-lt) in
+        let i = index va (ha .x) in
+        let li : i < countOf counts (en cells edges counts a ka) = subst (λ n. i < n) (count-of cells edges counts a ka lka) (col-lt va 6 (ha .x) (ha .x-lt)) in
+        let lj : index vb (hb .x) < countOf counts (en cells edges counts b kb) = subst (λ n. index vb (hb .x) < n) (count-of cells edges counts b kb lkb) (col-lt vb 6 (hb .x) (hb .x-lt)) in
+        let na : start counts (en cells edges counts a ka) + i ≡ g = sym (number-of cells edges counts a (ha .x) (ha .x-lt)) ∙ ha .is in
+        let nb : start counts (en cells edges counts b kb) + index vb (hb .x) ≡ g = sym (number-of cells edges counts b (hb .x) (hb .x-lt)) ∙ hb .is in
+        let e : en cells edges counts a ka ≡ en cells edges counts b kb = edge-of-number (en cells edges counts a ka) (en cells edges counts b kb) i (index vb (hb .x)) li lj (na ∙ sym nb) in
+        A .linked (en cells edges counts a ka) Q
+        (λ a′ b′ r s j la lb lr ls l h q. pass a′ b′ (step i (en cells edges counts a ka) li na a′ b′ r s j la lb lr ls l h q))
+        a b ka kb (ha .lt) (hb .lt) lka lkb refl (sym e)
+      where
+        step : (i e : ℕ) → i < countOf counts e → start counts e + i ≡ g → (a b r s j : ℕ) → a < cellCount cells → b < cellCount cells → r < 4 → s < 4 → j < 3
+            → SameFace cells a r b s → en cells edges counts a (slotEdge r j) ≡ e → SharesFace (gridComplex cells edges counts) g a b
+        step i e li q a b r s j la lb lr ls lj h m =
+            ⊎-elim
+            (λ (u : firstSlot (slotEdge r j) ≡ r). make (2 * x) (omega arith) (omega (arith, lx)) (face-first (crossings v) (cell.first v) (cell.second v) (mate v) x ∙ ap firstSlot ex ∙ u))
+            (λ (u : secondSlot (slotEdge r j) ≡ r). make (2 * x + 1) (omega arith) (omega (arith, lx)) (face-second (crossings v) (cell.first v) (cell.second v) (mate v) x ∙ ap secondSlot ex ∙ u))
+            (slot-edge r j lr lj .on)
+          where
+            v : ℕ → ℕ
+            v = w cells edges counts a
+
+            x : ℕ
+            x = number v (slotEdge r j) i
+
+            li′ : i < three v r j
+            li′ = subst (λ n. i < n) (sym (three-is a r j lr lj)) (subst (λ y. i < countOf counts y) (sym m) li)
+
+            lx : x < crossings v
+            lx = num-lt v r j i lr lj li′
+
+            ex : edge v x ≡ slotEdge r j
+            ex = num-edge v r j i lr lj li′
+
+            make : (d : ℕ) → half d ≡ x → d < 2 * crossings v → slotOf (at cells edges counts a) d ≡ r → SharesFace (gridComplex cells edges counts) g a b
+            make d hd ld fd = record {
+              a-lt = la;
+              b-lt = lb;
+              d = d;
+              d-lt = ld;
+              at-d = ap (at cells edges counts a .number) hd ∙ number-of cells edges counts a x lx
+                  ∙ ap₂ (λ k z. start counts (en cells edges counts a k) + z) ex (num-index v r j i lr lj li′) ∙ ap (λ y. start counts y + i) m ∙ q;
+              s = s;
+              s-lt = ls;
+              face = ap (at cells edges counts a .name) fd ∙ name-of cells edges counts a r lr ∙ named-same cells a r b s h ∙ sym (name-of cells edges counts b s ls);
+            }

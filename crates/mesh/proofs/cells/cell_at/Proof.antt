@@ -1,0 +1,53 @@
+use Rattle.mesh.specs.Table.{tableCell}
+use borrow.Author.Needs.{needs}
+use Rattle.mesh.proofs.cells.cell_at.Statement.{statement}
+use Rattle.mesh.proofs.cells.cell_at.Tie as tie
+use Rattle.mesh.proofs.cells.cell_at.Reads as reads
+use Rattle.mesh.proofs.cells.cell_at.Lts as lts
+use Rattle.mesh.proofs.cells.counts_of.Reads as counts-of-reads
+use Rattle.mesh.proofs.cells.four_of.Reads as four-of-reads
+use Rattle.mesh.proofs.cells.index_of.Reads as index-of-reads
+use Rattle.mesh.proofs.cells.starts_of.Reads as starts-of-reads
+
+-- src/cells.rt:93:9
+counts-of-requires : tie.Need-counts-of-requires
+counts-of-requires c κs = search needs
+
+-- src/cells.rt:94:9
+starts-of-requires : tie.Need-starts-of-requires
+starts-of-requires c κs = search needs
+
+-- src/cells.rt:95:9
+four-of-requires : tie.Need-four-of-requires
+four-of-requires c κs = search needs
+
+-- src/cells.rt:96:9
+four-of-requires-2 : tie.Need-four-of-requires-2
+four-of-requires-2 c κs = search needs
+
+-- src/cells.rt:102:16
+index-of-requires : tie.Need-index-of-requires
+index-of-requires c κs = search needs
+
+-- src/cells.rt:82:1
+returns : tie.Need-returns
+unfolding tableCell
+returns c =
+    simp (
+      c .before .before .before .before .before .counts-of .ensures,
+      c .before .before .before .before .starts-of .ensures,
+      c .before .before .four-of .ensures,
+      c .before .four-of2 .ensures,
+      c .index-of .ensures,
+    )
+
+pub cell-at-spec : {M : Type 1} → statement M
+cell-at-spec =
+    tie.close
+    (tie.spec
+    counts-of-requires
+    starts-of-requires
+    four-of-requires
+    four-of-requires-2
+    index-of-requires
+    returns)

@@ -1,0 +1,31 @@
+use borrow.Author.Needs.{needs}
+use Rattle.mesh.proofs.cells.count_at.Statement.{statement}
+use Rattle.mesh.proofs.cells.count_at.Tie as tie
+use Rattle.mesh.proofs.cells.count_at.Reads as reads
+use Rattle.mesh.proofs.cells.count_at.Lts as lts
+use Rattle.mesh.proofs.cells.wide.Reads as wide-reads
+
+-- src/cells.rt:26:18
+mul-wide : tie.Need-mul-wide
+mul-wide c = search needs
+
+-- src/cells.rt:26:18
+element-copy-out-wide : tie.Need-element-copy-out-wide
+element-copy-out-wide c = search needs
+
+-- src/cells.rt:26:9
+wide-requires : tie.Need-wide-requires
+wide-requires c κs = search needs
+
+-- src/cells.rt:27:5
+shared-slice-read-result : tie.Need-shared-slice-read-result
+shared-slice-read-result c = search needs
+
+-- src/cells.rt:22:1
+returns : tie.Need-returns
+returns c = cc
+
+pub count-at-spec : {M : Type 1} → statement M
+count-at-spec =
+    tie.close
+    (tie.spec mul-wide element-copy-out-wide wide-requires shared-slice-read-result returns)

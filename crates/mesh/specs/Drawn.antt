@@ -1,0 +1,11 @@
+-- What is answered and written for a grid whose tables are at hand.
+use mathlib.Core.Path.{_≡_}
+use mathlib.Core.List.{List}
+use Prim.Native.Nat.{ℕ}
+use lib.ListN.{length}
+use Rattle.mesh.specs.Room.{roomAnswer, roomArea}
+use Rattle.mesh.specs.Table.{tableTriangles}
+
+pub record Drawn (cells counts names sides starts before after answer : List ℕ) : Type 0 where
+  pub answered : answer ≡ roomAnswer (tableTriangles cells counts names sides starts) (length before)
+  pub area : after ≡ roomArea (tableTriangles cells counts names sides starts) before

@@ -1,0 +1,153 @@
+-- The examples that document 01 marks P, whole: faces with the answer for each of their crossings, and grids with the grid check's answer, each
+-- loop's answer, its points, and the words of the mesh.
+use Prim.Native.Nat.{ℕ, suc, _+_, _/_}
+use mathlib.Core.Path.{_≡_}
+use mathlib.Core.Bool.{Bool, true, false, not}
+use mathlib.Core.List.{List, [], _∷_, _++_}
+use lib.Dec.{eqb}
+use lib.ListN.{length, getD}
+use Rattle.answer.specs.Answer.{result}
+use Rattle.counting.specs.Pick.{pick, one}
+use Rattle.counting.specs.Range.{over}
+use Rattle.counting.specs.Lists.{tally}
+use Rattle.face.specs.Face.{joined, unjoined, count, faceJoin}
+use Rattle.cell.specs.Loop.{loopSize, dart, leasts, loopAnswer}
+use Rattle.grid.specs.Grid.{cellCount}
+use Rattle.grid.specs.Rows.{gridAnswer}
+use Rattle.triangle.specs.Triangles.{countOf, startOf, numberOf}
+use Rattle.triangle.specs.declared.Triangle.{Triangle}
+use Rattle.triangle.specs.Names.{sideAt}
+use Rattle.triangle.specs.Words.{noName}
+use Rattle.manifold.specs.Triangle.{Side, seg, inner, same}
+use Rattle.mesh.specs.Mesh.{values, gridCell, meshTriangles, meshWords}
+
+pub data Example : Type 0 where
+  -- counts; the answers for the crossings of ab, of ac and of bc
+  face : (ab ac bc : ℕ) (answers : List (List ℕ)) → Example
+  -- the lists; the grid check's answer; cell by cell the answers for loop 0 and on, to the first that is none; the points of each loop; the words
+  -- of the mesh; and how many triangles, segments and inner sides these are
+  grid : (cells edges counts answer : List ℕ) (loops points : List (List ℕ)) (words tallies : List ℕ) → Example
+
+-- the answers for all crossings of a face
+unfoldable pub faceAnswers : ℕ → ℕ → ℕ → List (List ℕ)
+faceAnswers ab ac bc = over (λ e. over (λ t. faceJoin ab ac bc e t ∷ []) (count ab ac bc e) 0) 3 0
+
+module _ (cells edges counts : List ℕ) where
+  -- the least crossings of the loops of cell c
+  unfoldable pub startsOf : ℕ → List ℕ
+  unfolding gridCell leasts
+  startsOf c = leasts (countOf (gridCell cells edges counts c)) (startOf (gridCell cells edges counts c)) (gridCell cells edges counts c .nodes)
+
+  unfoldable pub gridLoops : List (List ℕ)
+  unfolding startsOf loopAnswer
+  gridLoops =
+      over (λ c. over (λ k. loopAnswer (countOf (gridCell cells edges counts c)) (startOf (gridCell cells edges counts c)) (gridCell cells edges counts c .nodes) k ∷ [])
+      (suc (length (startsOf c))) 0) (cellCount cells) 0
+
+  -- the crossing numbers of a loop's points, in order
+  unfoldable pub loopPoints : ℕ → ℕ → List ℕ
+  unfolding numberOf dart loopSize
+  loopPoints c p = values (λ k. numberOf (gridCell cells edges counts c) (dart (countOf (gridCell cells edges counts c)) p k / 2)) (loopSize (countOf (gridCell cells edges counts c)) p)
+
+  unfoldable pub gridPoints : List (List ℕ)
+  unfolding startsOf loopPoints
+  gridPoints = over (λ c. over (λ k. loopPoints c (getD (startsOf c) k 0) ∷ []) (length (startsOf c)) 0) (cellCount cells) 0
+
+-- the sides of triangles, with a test which of them to take
+unfoldable pub sidesOf : (Side → Bool) → List Triangle → List Side
+sidesOf t [] = []
+sidesOf t (v ∷ l) = taken (sideAt v 0) (taken (sideAt v 1) (taken (sideAt v 2) (sidesOf t l)))
+  where
+    taken : Side → List Side → List Side
+    taken σ m = pick (t σ) (σ ∷ m) m
+
+-- how many different sides are in a list
+unfoldable pub different : List Side → ℕ
+different [] = 0
+different (σ ∷ l) = one (eqb (tally (same σ) l) 0) + different l
+
+abbrev pub isSegment : Side → Bool
+isSegment (seg f g) = true
+isSegment (inner c p k) = false
+
+unfoldable pub tallies : List Triangle → List ℕ
+unfolding different sidesOf
+tallies l = length l ∷ different (sidesOf isSegment l) ∷ different (sidesOf (λ σ. not (isSegment σ)) l) ∷ []
+
+-- what the definitions say of an example, and what stands in the table
+unfoldable pub computed : Example → List (List ℕ)
+computed (face ab ac bc answers) = faceAnswers ab ac bc
+computed (grid cells edges counts answer loops points words sizes) =
+    gridAnswer cells edges counts ∷ (gridLoops cells edges counts ++ (gridPoints cells edges counts ++ (meshWords cells edges counts ∷ tallies (meshTriangles cells edges counts) ∷ [])))
+
+unfoldable pub listed : Example → List (List ℕ)
+listed (face ab ac bc answers) = answers
+listed (grid cells edges counts answer loops points words sizes) = answer ∷ (loops ++ (points ++ (words ∷ sizes ∷ [])))
+
+unfoldable pub each : (Example → List (List ℕ)) → List Example → List (List (List ℕ))
+each f [] = []
+each f (x ∷ l) = f x ∷ each f l
+
+-- one cell 0 1 2 3; no loop
+abbrev cell : List ℕ
+cell = 0 ∷ 1 ∷ 2 ∷ 3 ∷ []
+
+abbrev six : List ℕ
+six = 0 ∷ 1 ∷ 0 ∷ 2 ∷ 0 ∷ 3 ∷ 1 ∷ 2 ∷ 1 ∷ 3 ∷ 2 ∷ 3 ∷ []
+
+abbrev no : List ℕ
+no = result []
+
+-- the cells 0123, 0124, 0134 round the edge 01, their edges, and two crossings on 01
+abbrev pub threeCells : List ℕ
+threeCells = 0 ∷ 1 ∷ 2 ∷ 3 ∷ 0 ∷ 1 ∷ 2 ∷ 4 ∷ 0 ∷ 1 ∷ 3 ∷ 4 ∷ []
+
+abbrev pub threeEdges : List ℕ
+threeEdges = 0 ∷ 1 ∷ 0 ∷ 2 ∷ 0 ∷ 3 ∷ 0 ∷ 4 ∷ 1 ∷ 2 ∷ 1 ∷ 3 ∷ 1 ∷ 4 ∷ 2 ∷ 3 ∷ 2 ∷ 4 ∷ 3 ∷ 4 ∷ []
+
+abbrev pub threeCounts : List ℕ
+threeCounts = 2 ∷ 0 ∷ 0 ∷ 0 ∷ 0 ∷ 0 ∷ 0 ∷ 0 ∷ 0 ∷ 0 ∷ []
+
+unfoldable pub examples : List Example
+examples =
+    -- nothing, one crossing, six: open curves give no loop
+    grid cell six (0 ∷ 0 ∷ 0 ∷ 0 ∷ 0 ∷ 0 ∷ []) (result (0 ∷ [])) (no ∷ []) [] [] (0 ∷ 0 ∷ 0 ∷ [])
+    ∷ grid cell six (1 ∷ 0 ∷ 0 ∷ 0 ∷ 0 ∷ 0 ∷ []) (result (1 ∷ [])) (no ∷ []) [] [] (0 ∷ 0 ∷ 0 ∷ [])
+    ∷ grid cell six (1 ∷ 1 ∷ 1 ∷ 1 ∷ 1 ∷ 1 ∷ []) (result (6 ∷ [])) (no ∷ []) [] [] (0 ∷ 0 ∷ 0 ∷ [])
+    -- corner at 0, one triangle
+    ∷ grid cell six (1 ∷ 1 ∷ 1 ∷ 0 ∷ 0 ∷ 0 ∷ []) (result (3 ∷ [])) (result (0 ∷ 3 ∷ 1 ∷ 3 ∷ 0 ∷ []) ∷ no ∷ []) ((0 ∷ 1 ∷ 2 ∷ []) ∷ [])
+    (0 ∷ 0 ∷ 0 ∷ 1 ∷ 2 ∷ 3 ∷ 0 ∷ 1 ∷ 1 ∷ 2 ∷ 0 ∷ []) (1 ∷ 3 ∷ 0 ∷ [])
+    -- diagonal, 0 with 1; two triangles
+    ∷ grid cell six (0 ∷ 1 ∷ 1 ∷ 1 ∷ 1 ∷ 0 ∷ []) (result (4 ∷ [])) (result (0 ∷ 4 ∷ 1 ∷ 2 ∷ 1 ∷ []) ∷ no ∷ []) ((0 ∷ 2 ∷ 3 ∷ 1 ∷ []) ∷ [])
+    (0 ∷ 0 ∷ 0 ∷ 2 ∷ 3 ∷ 3 ∷ 0 ∷ 0 ∷ 2 ∷ noName ∷ 0 ∷
+    0 ∷ 0 ∷ 0 ∷ 3 ∷ 1 ∷ noName ∷ 0 ∷ 2 ∷ 1 ∷ 1 ∷ 0 ∷ []) (2 ∷ 4 ∷ 1 ∷ [])
+    -- one loop of length 8, eight triangles
+    ∷ grid cell six (2 ∷ 1 ∷ 1 ∷ 1 ∷ 1 ∷ 2 ∷ []) (result (8 ∷ [])) (result (0 ∷ 8 ∷ 1 ∷ 2 ∷ 1 ∷ []) ∷ no ∷ [])
+    ((0 ∷ 2 ∷ 6 ∷ 4 ∷ 1 ∷ 5 ∷ 7 ∷ 3 ∷ []) ∷ [])
+    (0 ∷ 0 ∷ 0 ∷ 2 ∷ noName ∷ 3 ∷ 0 ∷ noName ∷ 1 ∷ noName ∷ 0 ∷
+    0 ∷ 0 ∷ 2 ∷ 6 ∷ noName ∷ 1 ∷ 2 ∷ noName ∷ 2 ∷ noName ∷ 1 ∷
+    0 ∷ 0 ∷ 6 ∷ 4 ∷ noName ∷ 0 ∷ 4 ∷ noName ∷ 3 ∷ noName ∷ 2 ∷
+    0 ∷ 0 ∷ 4 ∷ 1 ∷ noName ∷ 3 ∷ 1 ∷ noName ∷ 4 ∷ noName ∷ 3 ∷
+    0 ∷ 0 ∷ 1 ∷ 5 ∷ noName ∷ 2 ∷ 1 ∷ noName ∷ 5 ∷ noName ∷ 4 ∷
+    0 ∷ 0 ∷ 5 ∷ 7 ∷ noName ∷ 0 ∷ 5 ∷ noName ∷ 6 ∷ noName ∷ 5 ∷
+    0 ∷ 0 ∷ 7 ∷ 3 ∷ noName ∷ 1 ∷ 3 ∷ noName ∷ 7 ∷ noName ∷ 6 ∷
+    0 ∷ 0 ∷ 3 ∷ 0 ∷ noName ∷ 2 ∷ 0 ∷ noName ∷ 0 ∷ noName ∷ 7 ∷ []) (8 ∷ 8 ∷ 8 ∷ [])
+    -- a face 3 3 3: three segments, each index 1 unjoined
+    ∷ face 3 3 3 (joined 1 0 ∷ unjoined ∷ joined 2 0 ∷ joined 0 0 ∷ unjoined ∷ joined 2 2 ∷ joined 0 2 ∷ unjoined ∷ joined 1 2 ∷ [])
+    -- a face 5 1 1: index 1 unjoined, 2 joined to 3
+    ∷ face 5 1 1 (joined 1 0 ∷ unjoined ∷ joined 0 3 ∷ joined 0 2 ∷ joined 2 0 ∷ joined 0 0 ∷ joined 0 4 ∷ [])
+    -- three cells round an edge with two crossings: a loop of length 2 in each, six triangles, three segments (faces 2, 3, 6), six inner sides
+    ∷ grid threeCells threeEdges threeCounts (result (2 ∷ []))
+    (result (0 ∷ 2 ∷ 0 ∷ 0 ∷ []) ∷ no ∷ result (0 ∷ 2 ∷ 0 ∷ 0 ∷ []) ∷ no ∷ result (0 ∷ 2 ∷ 0 ∷ 0 ∷ []) ∷ no ∷ [])
+    ((0 ∷ 1 ∷ []) ∷ (0 ∷ 1 ∷ []) ∷ (0 ∷ 1 ∷ []) ∷ [])
+    (0 ∷ 0 ∷ 0 ∷ 1 ∷ noName ∷ 3 ∷ 0 ∷ noName ∷ 1 ∷ noName ∷ 0 ∷
+    0 ∷ 0 ∷ 1 ∷ 0 ∷ noName ∷ 2 ∷ 0 ∷ noName ∷ 0 ∷ noName ∷ 1 ∷
+    1 ∷ 0 ∷ 0 ∷ 1 ∷ noName ∷ 3 ∷ 0 ∷ noName ∷ 1 ∷ noName ∷ 0 ∷
+    1 ∷ 0 ∷ 1 ∷ 0 ∷ noName ∷ 6 ∷ 0 ∷ noName ∷ 0 ∷ noName ∷ 1 ∷
+    2 ∷ 0 ∷ 0 ∷ 1 ∷ noName ∷ 2 ∷ 0 ∷ noName ∷ 1 ∷ noName ∷ 0 ∷
+    2 ∷ 0 ∷ 1 ∷ 0 ∷ noName ∷ 6 ∷ 0 ∷ noName ∷ 0 ∷ noName ∷ 1 ∷ []) (6 ∷ 3 ∷ 6 ∷ [])
+    ∷ []
+
+-- every example is as the definitions say
+abbrev pub ExamplesHold : Type 0
+ExamplesHold = each computed examples ≡ each listed examples

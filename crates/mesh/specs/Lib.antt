@@ -1,0 +1,9 @@
+pub mod Mesh
+pub mod Room
+pub mod Table
+pub mod Drawn
+pub mod Answer
+pub mod Numbers
+pub mod Demand
+pub mod Done
+pub mod Examples

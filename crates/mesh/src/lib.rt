@@ -1,0 +1,59 @@
+// The mesh call and the loops call.
+ghost use mathlib.Core.Path.{_≡_};
+ghost use lib.ListN.{length};
+ghost use Rattle.mesh.specs.Numbers.{meshNumbers};
+ghost use Rattle.mesh.specs.Table.{Laid};
+ghost use Rattle.mesh.specs.Drawn.{Drawn};
+ghost use Rattle.mesh.specs.Done.{Done};
+use grid::Checked;
+
+mod cells;
+mod meshing;
+
+// The number of triangles, or the number and the place of a refusal.
+pub enum Meshed {
+    Triangles(u32),
+    Refused(u8, usize),
+}
+
+// The mesh of a grid from its tables: row 12, or the words.
+fn draw(
+    cells: &[u16],
+    counts: &[u8],
+    names: &[u16; 8192],
+    sides: &[u16; 12288],
+    starts: &[u32; 12288],
+    area: &mut [u32],
+) -> Meshed
+    requires { ⌜ Laid (now cells) (now counts) (now sides) (now starts) ⌝ }
+    ensures { λ r. ⌜ Drawn (now (cells .entry)) (now (counts .entry)) (now (names .entry)) (now (sides .entry)) (now (starts .entry)) (now (area .entry)) (now (area .exit)) (meshNumbers r) ⌝ }
+{
+    let n = meshing::count_all(cells, counts, names, sides, starts);
+    if area.len() < 11 * n {
+        return Meshed::Refused(12, n);
+    }
+    meshing::write_all(cells, counts, names, sides, starts, area);
+    Meshed::Triangles(n as u32)
+}
+
+// The mesh call. Keeps 112 KB on the stack for the grid's tables, besides what `grid::open` keeps.
+pub fn mesh(cells: &[u16], edges: &[u16], counts: &[u8], area: &mut [u32]) -> Meshed
+    ensures { λ r. ⌜ Done (now (cells .entry)) (now (edges .entry)) (now (counts .entry)) (now (area .entry)) (now (area .exit)) (meshNumbers r) ⌝ }
+{
+    let mut names = [0u16; 8192];
+    let mut near = [0u16; 8192];
+    let mut sides = [0u16; 12288];
+    let mut starts = [0u32; 12288];
+    match grid::open(
+        cells,
+        edges,
+        counts,
+        &mut names,
+        &mut near,
+        &mut sides,
+        &mut starts,
+    ) {
+        Checked::Refused(row, place) => Meshed::Refused(row, place),
+        Checked::Crossings(_) => draw(cells, counts, &names, &sides, &starts, area),
+    }
+}

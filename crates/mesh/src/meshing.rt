@@ -1,0 +1,59 @@
+// The triangles of all cells, counted and written.
+ghost use mathlib.Core.Path.{_≡_};
+ghost use Prim.Native.Nat.{_*_, _≤_};
+ghost use lib.ListN.{length};
+ghost use lib.Seq.{sets};
+ghost use Rattle.triangle.specs.Words.{wordCount, allWords};
+ghost use Rattle.mesh.specs.Table.{mostTriangles, tableTriangles, Laid};
+use crate::cells::cell_at;
+
+// How many triangles the cells have. About 11 KB of stack.
+pub(crate) fn count_all(
+    cells: &[u16],
+    counts: &[u8],
+    names: &[u16; 8192],
+    sides: &[u16; 12288],
+    starts: &[u32; 12288],
+) -> usize
+    requires { ⌜ Laid (now cells) (now counts) (now sides) (now starts) ⌝ }
+    ensures { λ r. ⌜ (r ≡ length (tableTriangles (now (cells .entry)) (now (counts .entry)) (now (names .entry)) (now (sides .entry)) (now (starts .entry)))) × (r ≤ mostTriangles) ⌝ }
+{
+    let mut marks = [0u16; 1530];
+    let mut halves = [0u8; 1530];
+    let mut points = [0u32; 1530];
+    let n = cells.len() / 4;
+    let mut t: usize = 0;
+    let mut c: usize = 0;
+    while c < n {
+        let cell = cell_at(cells, counts, names, sides, starts, c);
+        t += triangle::count_in(cell, &mut marks, &mut halves, &mut points);
+        c += 1;
+    }
+    t
+}
+
+// Writes the words of all the cells' triangles from the front of the area on. About 11 KB of stack.
+pub(crate) fn write_all(
+    cells: &[u16],
+    counts: &[u8],
+    names: &[u16; 8192],
+    sides: &[u16; 12288],
+    starts: &[u32; 12288],
+    area: &mut [u32],
+)
+    requires { ⌜ Laid (now cells) (now counts) (now sides) (now starts) ⌝ }
+    requires { ⌜ wordCount * length (tableTriangles (now cells) (now counts) (now names) (now sides) (now starts)) ≤ length (now area) ⌝ }
+    ensures { λ _. ⌜ now (area .exit) ≡ sets (now (area .entry)) 0 (allWords (tableTriangles (now (cells .entry)) (now (counts .entry)) (now (names .entry)) (now (sides .entry)) (now (starts .entry)))) ⌝ }
+{
+    let mut marks = [0u16; 1530];
+    let mut halves = [0u8; 1530];
+    let mut points = [0u32; 1530];
+    let n = cells.len() / 4;
+    let mut i: usize = 0;
+    let mut c: usize = 0;
+    while c < n {
+        let cell = cell_at(cells, counts, names, sides, starts, c);
+        i = triangle::write_in(cell, &mut marks, &mut halves, &mut points, area, i);
+        c += 1;
+    }
+}
