@@ -6,6 +6,7 @@ cd "$(dirname "$0")/.."
 
 "${RT:-rt}" staticlib capi
 scripts/c_test.sh
+tests/c/run_host.sh
 
 # an endless loop ends here, and not with the machine's memory
 ulimit -v 8000000
