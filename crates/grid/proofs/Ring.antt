@@ -72,9 +72,13 @@ module _ (cells : List ℕ) (good : Ordered cells) (keys near : List ℕ) (tk : 
       let f : node cells d (lo (slotEdge t j)) ≡ node cells c (lo k) =
       ap (node cells d) (v .lo-is) ∙ same (from j) (omega arith) ∙ ap (node cells c) (sym (u .lo-is) ∙ ap lo (g .edge-is)) in
       let q : node cells d (hi (slotEdge t j)) ≡ node cells c (hi k) =
-      ap (node cells d) (v .hi-is) ∙ same (to j) b ∙ ap (node cells c) (sym (u .hi-is) ∙ ap hi (g .edge-is)) in
-      (slotEdge t j, v .lt, side-at d (slotEdge t j) hd (v .lt) ∙ rw (f, q) (sym (side-at c k hc hk) ∙ is), v .within,
-      slot-rank t j ht (g .place-lt) ∙ sym (rw (g .edge-is) at (slot-rank s j hs (g .place-lt))))
+      ap (node cells d) (v .hi-is) ∙ same (to j) b ∙ ap (node cells c) (sym (u .hi-is) ∙ ap hi (g .edge-is)) in (
+        slotEdge t j,
+        v .lt,
+        side-at d (slotEdge t j) hd (v .lt) ∙ rw (f, q) (sym (side-at c k hc hk) ∙ is),
+        v .within,
+        slot-rank t j ht (g .place-lt) ∙ sym (rw (g .edge-is) at (slot-rank s j hs (g .place-lt))),
+      )
 
   pub paired : Paired keys near (cellCount cells)
   paired =

@@ -54,14 +54,7 @@ fn rank_of(s: usize, i: usize) -> usize
 
 // Marks the cells of an edge that are met across slot `start`, and across the other side of each cell met, until there is none or a marked one.
 // The edge is told by the rank in the slot of the node that is no end of it: a face has its nodes in the same order in both its cells.
-fn spread(
-    near: &[u16],
-    n: usize,
-    mark: usize,
-    start: usize,
-    rank: usize,
-    marks: &mut [usize],
-)
+fn spread(near: &[u16], n: usize, mark: usize, start: usize, rank: usize, marks: &mut [usize])
     requires { ⌜ Spreadable (now near) n start rank (now marks) ⌝ }
     ensures { λ _. ⌜ Spreads (now (near .entry)) n mark start rank (now (marks .entry)) (now (marks .exit)) ⌝ }
 {
