@@ -7,7 +7,7 @@ ghost use Rattle.mesh.specs.Drawn.{Drawn};
 ghost use Rattle.mesh.specs.Done.{Done};
 use grid::Checked;
 
-mod cells;
+pub mod cells;
 mod meshing;
 
 // The number of triangles, or the number and the place of a refusal.

@@ -1,0 +1,7 @@
+pub mod Place
+pub mod Points
+pub mod Rows
+pub mod Answer
+pub mod Exact
+pub mod Work
+pub mod Examples
