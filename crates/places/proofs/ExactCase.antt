@@ -4,8 +4,7 @@ use mathlib.Core.Path.{_≡_, refl, sym, ap, _∙_, subst}
 use mathlib.Core.Bool.{Bool, true, false, not, _&&_}
 use mathlib.Core.List.{List, [], _∷_, _++_}
 use native.Mathlib.Omega.{arith}
-use lib.ListN.{length, getD, drop, length-append, List·getD-append}
-use lib.Seq.{sets}
+use lib.ListN.{length, getD, length-append, List·getD-append}
 use lib.IntN.{ℤ, pos, _+ℤ_, _-ℤ_, _*ℤ_}
 use lib.Ieee.{Float, nan}
 use borrow.Author.Tests.{not-false}
@@ -13,7 +12,6 @@ use Rattle.answer.specs.Answer.{result}
 use Rattle.counting.specs.Range.{over}
 use Rattle.counting.proofs.Bools.{or-none}
 use Rattle.counting.proofs.Lists.{length-singles, getD-singles}
-use Rattle.counting.proofs.Fronts.{sets-front}
 use Rattle.counting.proofs.Pack.{row-lt}
 use native.Mathlib.Nat.{zero-add}
 use Rattle.grid.specs.Grid.{low, high, start, countOf, crossings}
@@ -23,7 +21,7 @@ use Rattle.places.specs.Points.{edgeOf, crossingPlace, middles, points}
 use Rattle.places.specs.Rows.{hasNode, nodeEnd, badNumber, badFractionAt, badFraction}
 use Rattle.places.specs.Answer.{needed, placesAnswer, placed, placesArea}
 use Rattle.places.specs.Exact.{Exactly, parts, WholeAt, ExactCase}
-use Rattle.places.proofs.Numbers.{length-numbers, numbers-at, number-loaded, number-between}
+use Rattle.places.proofs.Numbers.{front-at, number-loaded, number-between}
 use Rattle.places.proofs.Exact.{along-exact, within-whole, proper-part}
 use Rattle.places.proofs.Nodes.{End, low-end, high-end}
 use Rattle.places.proofs.Answers.{Passed, passed, placed-is}
@@ -67,11 +65,8 @@ module _ (cells edges counts : List ℕ) (nodes fractions : List Float) where
         let v = placeAt nodes (high edges (edgeOf counts g)) in
         let s = getD fractions g nan in
         let l = point-lt g h in
-        let n = length-numbers ps in
         rw (placed-is cells edges counts nodes fractions (length area) values e)
-        (ap (λ (x : List Float). getD x (coordinates * g + t) nan) (sets-front (allNumbers ps) area (omega (arith, n, ok .area-long)))
-        ∙ List·getD-append (allNumbers ps) (drop (length (allNumbers ps)) area) nan (coordinates * g + t) (omega (arith, n, l))
-        ∙ numbers-at ps g t u l k
+        (front-at ps area g t u (ok .rows .area-long) l k
         ∙ ap (λ (p : Place). getD (numbers p) t nan) (point-at g h u)
         ∙ number-between u v s t k
         ∙ ap (λ x. along x (getD (numbers v) t nan) s) (number-loaded nodes (low edges (edgeOf counts g)) t k)
@@ -83,13 +78,13 @@ module _ (cells edges counts : List ℕ) (nodes fractions : List Float) where
     within-at v t m k =
         let z : (coordinates * v + t) / coordinates ≡ v = omega arith in
         let p : hasNode cells ((coordinates * v + t) / coordinates) ≡ true = ap (hasNode cells) z ∙ m .has in
-        not-false _ (rw p at (ok .numbers-fine (coordinates * v + t) (omega (arith, m .below))))
+        not-false _ (rw p at (ok .rows .numbers-fine (coordinates * v + t) (omega (arith, m .below))))
 
     proper-at : (g : ℕ) → g < crossings counts → properFraction (getD fractions g nan) ≡ true
     unfolding badFraction badFractionAt
-    proper-at g h = not-false _ (or-none _ _ (ok .fractions-fine g h) .0)
+    proper-at g h = not-false _ (or-none _ _ (ok .rows .fractions-fine g h) .0)
 
-  pub exact-case : (area : List Float) → ExactCase cells edges counts nodes fractions area
+  pub exact-case : (area : List Float) → ExactCase edges counts nodes fractions (placesAnswer cells edges counts nodes fractions (length area)) (placesArea cells edges counts nodes fractions area)
   exact-case area values e g t h k u v n w =
       let a = ok area values e in
       let c = edge-lt g h in

@@ -4,7 +4,7 @@ pub mod Exact
 pub mod Nodes
 pub mod Marks
 pub mod Fractions
-pub mod Placed
+pub mod Stored
 pub mod Answers
 pub mod ExactCase
 pub mod Examples
@@ -12,3 +12,6 @@ pub mod Happens
 pub mod Middles
 pub mod Writing
 pub mod Passes
+pub mod Judged
+pub mod Whole
+pub mod Calls

@@ -4,10 +4,10 @@ use mathlib.Core.Path.{_≡_, refl, sym, ap, _∙_}
 use mathlib.Core.List.{List, [], _∷_, _++_, append-assoc}
 use native.Mathlib.Omega.{arith}
 use native.Mathlib.Nat.{not-suc-le-zero}
-use lib.ListN.{length, getD, set, List·getD-append}
+use lib.ListN.{length, getD, set, drop, List·getD-append}
 use lib.Seq.{sets, getD-append-add}
 use lib.Ieee.{Float, nan}
-use Rattle.counting.proofs.Fronts.{sets-two}
+use Rattle.counting.proofs.Fronts.{sets-two, sets-front}
 use Rattle.places.specs.declared.Place.{Place}
 use Rattle.places.specs.Place.{along, between, coordinates, placeAt, numbers, allNumbers}
 
@@ -35,6 +35,23 @@ numbers-at (q ∷ l) zero t p h k = let e : coordinates * 0 + t ≡ t = omega ar
 numbers-at (q ∷ l) (suc g) t p h k =
     let e : coordinates * suc g + t ≡ length (numbers q) + (coordinates * g + t) = omega arith in
     ap (λ n. getD (numbers q ++ allNumbers l) n nan) e ∙ getD-append-add (numbers q) (allNumbers l) (coordinates * g + t) nan ∙ numbers-at l g t p (omega arith) k
+
+-- and of the same in a list with these points at its front
+pub front-at : (ps : List Place) (l : List Float) (g t : ℕ) (p : Place) → coordinates * length ps ≤ length l → g < length ps → t < coordinates
+    → getD (sets l 0 (allNumbers ps)) (coordinates * g + t) nan ≡ getD (numbers (getD ps g p)) t nan
+front-at ps l g t p r h k =
+    let n = length-numbers ps in
+    ap (λ (x : List Float). getD x (coordinates * g + t) nan) (sets-front (allNumbers ps) l (omega (arith, n)))
+    ∙ List·getD-append (allNumbers ps) (drop (length (allNumbers ps)) l) nan (coordinates * g + t) (omega (arith, n))
+    ∙ numbers-at ps g t p h k
+
+pub front-place : (ps : List Place) (l : List Float) (g : ℕ) (p : Place) → coordinates * length ps ≤ length l → g < length ps → placeAt (sets l 0 (allNumbers ps)) g ≡ getD ps g p
+front-place ps l g p r h =
+    let e : coordinates * g ≡ coordinates * g + 0 = omega arith in
+    let a = ap (λ n. getD (sets l 0 (allNumbers ps)) n nan) e ∙ front-at ps l g 0 p r h (omega arith) in
+    let b = front-at ps l g 1 p r h (omega arith) in
+    let c = front-at ps l g 2 p r h (omega arith) in
+    rw (a, b, c)
 
 -- a number of a place that is loaded, and of one between two
 pub below-three : (P : ℕ → Type 0) → P 0 → P 1 → P 2 → (t : ℕ) → t < coordinates → P t

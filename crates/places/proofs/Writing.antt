@@ -11,7 +11,7 @@ use Rattle.counting.specs.Range.{over}
 use Rattle.counting.proofs.Fronts.{over-more, over-at}
 use Rattle.places.specs.declared.Place.{Place}
 use Rattle.places.specs.Place.{coordinates, placeAt, allNumbers}
-use Rattle.places.proofs.Placed.{stored-more}
+use Rattle.places.proofs.Stored.{stored-more}
 
 -- what stands before a store stays
 pub before-sets : {A : Type 0} (l : List A) (i : ℕ) (v : List A) (j : ℕ) (d : A) → j < i → getD (sets l i v) j d ≡ getD l j d

@@ -11,14 +11,14 @@ use Rattle.counting.specs.Pick.{pick}
 use Rattle.grid.specs.Grid.{crossings}
 use Rattle.grid.specs.Rows.{Row, whole, each, answerOf, gridAnswer}
 use Rattle.grid.specs.Tables.{accepts}
-use Rattle.places.specs.declared.Places.{Places}
-use Rattle.places.specs.declared.Places.the-variants.{Points, Refused}
+use Rattle.places.specs.declared.Placed.{Placed}
+use Rattle.places.specs.declared.Placed.the-variants.{Points, Refused}
 use Rattle.places.specs.Place.{coordinates, allNumbers}
 use Rattle.places.specs.Points.{points}
 use Rattle.places.specs.Rows.{nodeEnd, badLists, badNumber, badFraction}
 
 -- The call's answer as the numbers of 01. No row has the number 0, and a refusal with it would read as a result: it is given no reading.
-abbrev pub placesNumbers : Places → List ℕ
+abbrev pub placesNumbers : Placed → List ℕ
 placesNumbers (Points n) = result (n ∷ [])
 placesNumbers (Refused row place) = pick (eqb row 0) [] (refusal row place)
 

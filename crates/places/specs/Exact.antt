@@ -11,7 +11,7 @@ use Rattle.answer.specs.Answer.{result}
 use Rattle.grid.specs.Grid.{low, high, crossings}
 use Rattle.places.specs.Place.{coordinates}
 use Rattle.places.specs.Points.{edgeOf}
-use Rattle.places.specs.Answer.{placesAnswer, placesArea}
+use Rattle.places.specs.Answer.{placesAnswer}
 
 -- the whole number of this size, negative where the sign is true
 abbrev pub signed : Bool → ℕ → ℤ
@@ -36,13 +36,14 @@ module _ (edges counts : List ℕ) (nodes fractions : List Float) where
     pub upper : Exactly 1 (getD nodes (coordinates * high edges (edgeOf counts g) + t) nan) v
     pub part : Exactly parts (getD fractions g nan) k
 
-module _ (cells edges counts : List ℕ) (nodes fractions : List Float) where
-  -- where the call refuses nothing, number t of the place that it writes for crossing g is then (1,024 u + k (v − u)) / 1,024
-  abbrev pub ExactCase : List Float → Type 0
-  ExactCase area =
-      (values : List ℕ) → placesAnswer cells edges counts nodes fractions (length area) ≡ result values
+module _ (edges counts : List ℕ) (nodes fractions : List Float) where
+  -- where the call refuses nothing, number t of the place that it writes for crossing g is then (1,024 u + k (v − u)) / 1,024;
+  -- `answer` are the numbers answered, `after` is the lent area afterwards
+  abbrev pub ExactCase : (answer : List ℕ) (after : List Float) → Type 0
+  ExactCase answer after =
+      (values : List ℕ) → answer ≡ result values
       → (g t : ℕ) → g < crossings counts → t < coordinates → (u v k : ℤ) → WholeAt edges counts nodes fractions g t u v k
-      → Exactly parts (getD (placesArea cells edges counts nodes fractions area) (coordinates * g + t) nan) (pos parts *ℤ u +ℤ k *ℤ (v -ℤ u))
+      → Exactly parts (getD after (coordinates * g + t) nan) (pos parts *ℤ u +ℤ k *ℤ (v -ℤ u))
 
 -- the case is not empty: an input that is not refused, with a crossing, and whole numbers for each crossing and number
 pub record Happens : Type 0 where

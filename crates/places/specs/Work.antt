@@ -2,7 +2,7 @@
 use Prim.Native.Nat.{ℕ, suc, _+_, _*_, _/_, _≤_, _<_}
 use mathlib.Core.Path.{_≡_}
 use mathlib.Core.Bool.{Bool, not, _&&_}
-use mathlib.Core.List.{List, [], _∷_}
+use mathlib.Core.List.{List, [], _∷_, _++_}
 use lib.Dec.{eqb}
 use lib.ListN.{length, getD, replicate}
 use lib.Seq.{sets}
@@ -11,16 +11,17 @@ use Rattle.counting.specs.Pick.{pick, one}
 use Rattle.counting.specs.Range.{total, over}
 use Rattle.cell.specs.declared.Cell.{Cell}
 use Rattle.cell.specs.Of.{countOf, startOf}
-use Rattle.cell.specs.Route.{mostCrossings}
+use Rattle.cell.specs.Route as route
 use Rattle.cell.specs.Walked.{Scratch}
 use Rattle.cell.specs.Round.{foldsIn}
 use Rattle.triangle.specs.Traced.{Traced}
-use Rattle.mesh.specs.Table.{tableCell}
-use Rattle.grid.specs.Grid.{highestNode, cellCount, low, high, crossings}
+use Rattle.mesh.specs.Table.{tableCell, Laid}
+use Rattle.grid.specs.Grid.{highestNode, mostCrossings, cellCount, low, high, crossings}
 use Rattle.places.specs.declared.Place.{Place}
 use Rattle.places.specs.Place.{between, middle, coordinates, placeAt, allNumbers, within}
-use Rattle.places.specs.Points.{fanBy, fanCount, cellMiddles}
-use Rattle.places.specs.Rows.{hasNode}
+use Rattle.places.specs.Points.{fanBy, fanCount, cellMiddles, crossingPlace}
+use Rattle.places.specs.Rows.{hasNode, nodeEnd}
+use Rattle.places.specs.Answer.{rowsAnswer}
 
 -- what the table of nodes starts from: blank, for cells of four nodes within the limit
 pub record Markable (cells used : List ℕ) : Type 0 where
@@ -45,6 +46,13 @@ pub record Reaching (used : List ℕ) (nodes : List Float) (n : ℕ) : Type 0 wh
   pub table : n ≤ length used
   pub list : coordinates * n ≤ length nodes
 
+-- n crossings, and at least one cell, of four nodes within the limit
+pub record Judgeable (cells counts : List ℕ) (n : ℕ) : Type 0 where
+  pub fours : length cells ≡ 4 * cellCount cells
+  pub some : 0 < cellCount cells
+  pub nodes : (j : ℕ) → j < length cells → getD cells j 0 ≤ highestNode
+  pub all : n ≡ crossings counts
+
 -- n points between u and v, by the fractions from g on
 unfoldable pub onEdge : Place → Place → List Float → ℕ → ℕ → List Place
 onEdge u v fractions n g = over (λ q. between u v (getD fractions q nan) ∷ []) n g
@@ -65,7 +73,7 @@ pub record Placeable (edges counts : List ℕ) (nodes fractions area : List Floa
 -- n points, at least one, with their places in the list
 pub record Meanable (list : List Float) (points : List ℕ) (n : ℕ) : Type 0 where
   pub some : 0 < n
-  pub few : n ≤ mostCrossings
+  pub few : n ≤ route.mostCrossings
   pub placed : (k : ℕ) → k < n → coordinates * getD points k 0 + coordinates ≤ length list
 
 -- FANS
@@ -92,7 +100,7 @@ Below c n = (k : ℕ) → k < 6 → startOf c k + countOf c k ≤ n
 -- n is the number of the cell's fans; the lent arrays are scratch
 pub record FansIn (c : Cell) (n : ℕ) (marks halves points : List ℕ) : Type 0 where
   pub is : n ≡ fanCount c
-  pub few : n ≤ mostCrossings
+  pub few : n ≤ route.mostCrossings
   pub scratch : Scratch marks halves points
 
 -- the places of the cell's crossings stand before point `at`, and there is room for its middles from there on
@@ -118,3 +126,23 @@ module _ (cells counts names sides starts : List ℕ) where
   pub record TableRoom (area : List Float) (base : ℕ) : Type 0 where
     pub below : (c : ℕ) → c < cellCount cells → Below (tableCell cells counts names sides starts c) base
     pub room : coordinates * (base + tableFans) ≤ length area
+
+  -- all points
+  unfoldable pub tablePoints : (edges : List ℕ) (nodes fractions : List Float) → List Place
+  tablePoints edges nodes fractions =
+      over (λ g. crossingPlace edges counts nodes fractions g ∷ []) (crossings counts) 0 ++ tableMiddles (crossingPlace edges counts nodes fractions)
+
+  -- the tables of an accepted grid with n crossings: four nodes to a cell, two ends to an edge, each a node of a cell
+  pub record Ready (edges : List ℕ) (n : ℕ) : Type 0 where
+    pub judged : Judgeable cells counts n
+    pub few : n ≤ mostCrossings
+    pub laid : Laid cells counts sides starts
+    pub pairs : length edges ≡ 2 * length counts
+    pub lows : (e : ℕ) → e < length counts → low edges e < nodeEnd cells
+    pub highs : (e : ℕ) → e < length counts → high edges e < nodeEnd cells
+    pub below : (c : ℕ) → c < cellCount cells → Below (tableCell cells counts names sides starts c) n
+
+  -- the rows' answer for the points, which stand in the area where no row refuses
+  pub record PointsIn (edges : List ℕ) (nodes fractions before after : List Float) (answer : List ℕ) : Type 0 where
+    pub answered : answer ≡ rowsAnswer cells counts nodes fractions (length (tablePoints edges nodes fractions)) (length before)
+    pub area : after ≡ pick (eqb (getD answer 0 0) 0) (sets before 0 (allNumbers (tablePoints edges nodes fractions))) before

@@ -4,6 +4,10 @@ ghost use Prim.Native.Nat.{_+_, _*_, _≤_};
 ghost use lib.ListN.{length};
 ghost use lib.Seq.{sets};
 ghost use Rattle.places.specs.Place.{between, added, divided, coordinates, placeAt, numbers, within, properFraction};
+ghost use Rattle.places.specs.Answer.{placesNumbers};
+ghost use Rattle.places.specs.Done.{Done};
+ghost use Rattle.places.specs.Work.{Ready, PointsIn};
+use grid::Checked;
 
 mod fans;
 mod points;
@@ -17,7 +21,7 @@ pub struct Place {
 }
 
 // The number of points, or the number and the place of a refusal.
-pub enum Places {
+pub enum Placed {
     Points(u32),
     Refused(u8, usize),
 }
@@ -92,4 +96,72 @@ fn store(area: &mut [f64], k: usize, p: Place)
     area[at] = p.x;
     area[at + 1] = p.y;
     area[at + 2] = p.z;
+}
+
+// The points of a grid with n crossings, from its tables: the answer of rows 15 to 17, and where they refuse nothing, the points' places.
+fn place_all(
+    cells: &[u16],
+    edges: &[u16],
+    counts: &[u8],
+    names: &[u16; 8192],
+    sides: &[u16; 12288],
+    starts: &[u32; 12288],
+    nodes: &[f64],
+    fractions: &[f64],
+    area: &mut [f64],
+    n: usize,
+) -> Placed
+    requires { ⌜ Ready (now cells) (now counts) (now names) (now sides) (now starts) (now edges) n ⌝ }
+    ensures { λ r. ⌜ PointsIn (now (cells .entry)) (now (counts .entry)) (now (names .entry)) (now (sides .entry)) (now (starts .entry)) (now (edges .entry)) (now (nodes .entry)) (now (fractions .entry)) (now (area .entry)) (now (area .exit)) (placesNumbers r) ⌝ }
+{
+    let all = n + fans::count_fans(cells, counts, names, sides, starts);
+    let r = rows::judge(cells, counts, nodes, fractions, n, all, area.len());
+    if let Placed::Refused(_, _) = r {
+        return r;
+    }
+    points::place_crossings(edges, counts, nodes, fractions, area);
+    fans::write_middles(cells, counts, names, sides, starts, area, n);
+    r
+}
+
+// The places call. Keeps 112 KB on the stack for the grid's tables, besides what `grid::open` keeps.
+pub fn places(
+    cells: &[u16],
+    edges: &[u16],
+    counts: &[u8],
+    nodes: &[f64],
+    fractions: &[f64],
+    area: &mut [f64],
+) -> Placed
+    ensures { λ r. ⌜ Done (now (cells .entry)) (now (edges .entry)) (now (counts .entry)) (now (nodes .entry)) (now (fractions .entry)) (now (area .entry)) (now (area .exit)) (placesNumbers r) ⌝ }
+{
+    let mut names = [0u16; 8192];
+    let mut near = [0u16; 8192];
+    let mut sides = [0u16; 12288];
+    let mut starts = [0u32; 12288];
+    match grid::open(
+        cells,
+        edges,
+        counts,
+        &mut names,
+        &mut near,
+        &mut sides,
+        &mut starts,
+    ) {
+        Checked::Refused(row, place) => Placed::Refused(row, place),
+        Checked::Crossings(n) => {
+            place_all(
+                cells,
+                edges,
+                counts,
+                &names,
+                &sides,
+                &starts,
+                nodes,
+                fractions,
+                area,
+                n as usize,
+            )
+        }
+    }
 }

@@ -1,4 +1,4 @@
-// Rows 16 and 17: the numbers of the nodes' places, and the fractions.
+// Rows 15, 16 and 17: the lists' lengths, the numbers of the nodes' places, and the fractions.
 ghost use mathlib.Core.Path.{_≡_};
 ghost use mathlib.Core.Bool.{not, _&&_};
 ghost use Prim.Native.Nat.{_+_, _*_, _/_, _≤_, _<_};
@@ -7,7 +7,9 @@ ghost use Rattle.counting.specs.Search.{first, last};
 ghost use Rattle.grid.specs.Grid.{crossings};
 ghost use Rattle.places.specs.Place.{coordinates};
 ghost use Rattle.places.specs.Rows.{badFractionAt, badFraction};
-ghost use Rattle.places.specs.Work.{Markable, Marked, isMarked, badMarked, Reaching};
+ghost use Rattle.places.specs.Answer.{placesNumbers, rowsAnswer};
+ghost use Rattle.places.specs.Work.{Markable, Marked, isMarked, badMarked, Reaching, Judgeable};
+use super::Placed;
 use super::is_proper;
 use super::is_within;
 
@@ -127,4 +129,41 @@ pub(crate) fn row_17(counts: &[u8], fractions: &[f64]) -> usize
         e += 1;
     }
     g
+}
+
+// Rows 15, 16 and 17, for n crossings, so many points, and an area of `room` numbers. Keeps 4 KB on the stack.
+pub(crate) fn judge(
+    cells: &[u16],
+    counts: &[u8],
+    nodes: &[f64],
+    fractions: &[f64],
+    n: usize,
+    points: usize,
+    room: usize,
+) -> Placed
+    requires { ⌜ Judgeable (now cells) (now counts) n ⌝ }
+    requires { ⌜ points < 4294967296 ⌝ }
+    ensures { λ r. ⌜ placesNumbers r ≡ rowsAnswer (now (cells .entry)) (now (counts .entry)) (now (nodes .entry)) (now (fractions .entry)) points room ⌝ }
+{
+    let mut used = [0u8; 4096];
+    mark(cells, &mut used);
+    let end = marked_end(&used);
+    if nodes.len() < 3 * end {
+        return Placed::Refused(15, 0);
+    }
+    if fractions.len() != n {
+        return Placed::Refused(15, 0);
+    }
+    if room < 3 * points {
+        return Placed::Refused(15, 0);
+    }
+    let i = row_16(&used, nodes, end);
+    if i < 3 * end {
+        return Placed::Refused(16, i);
+    }
+    let g = row_17(counts, fractions);
+    if g < n {
+        return Placed::Refused(17, g);
+    }
+    Placed::Points(points as u32)
 }

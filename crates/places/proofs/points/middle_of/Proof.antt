@@ -8,7 +8,7 @@ use lib.Ieee.{inFloat}
 use denote.Ref.{now}
 use Rattle.places.specs.declared.Place.{Place}
 use Rattle.places.specs.Place.{floatOf, added, divided, placeAt, sumTo, middle}
-use Rattle.places.proofs.Placed.{sum-one, sum-more}
+use Rattle.places.proofs.Stored.{sum-one, sum-more}
 use borrow.Author.Needs.{needs}
 use Rattle.places.proofs.points.middle_of.Statement.{statement}
 use Rattle.places.proofs.points.middle_of.Tie as tie

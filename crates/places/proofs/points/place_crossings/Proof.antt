@@ -7,7 +7,7 @@ use denote.Ref.{now}
 use Rattle.grid.specs.Grid.{countOf, start}
 use Rattle.places.specs.Place.{placeAt, allNumbers}
 use Rattle.places.proofs.Fractions.{start-next, start-zero, start-fits}
-use Rattle.places.proofs.Placed.{front, front-none, front-more}
+use Rattle.places.proofs.Stored.{front, front-none, front-more}
 use borrow.Author.Needs.{needs}
 use Rattle.places.proofs.points.place_crossings.Statement.{statement}
 use Rattle.places.proofs.points.place_crossings.Tie as tie

@@ -7,7 +7,7 @@ use lib.Seq.{sets, length-sets}
 use denote.Ref.{now}
 use Rattle.places.specs.Place.{coordinates, allNumbers}
 use Rattle.places.specs.Work.{onEdge}
-use Rattle.places.proofs.Placed.{edge-none, edge-more}
+use Rattle.places.proofs.Stored.{edge-none, edge-more}
 use Rattle.places.proofs.points.place_edge.Statement.{statement}
 use Rattle.places.proofs.points.place_edge.Tie as tie
 
