@@ -12,3 +12,4 @@ pub mod Follow
 pub mod Leasts
 pub mod Three
 pub mod Claims
+pub mod Examples
