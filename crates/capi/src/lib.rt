@@ -8,11 +8,13 @@ ghost use Rattle.bundle.specs.Bundle.{isTaken, readAnswer, nodesOf, endsOf, cou
 ghost use Rattle.bundle.specs.Written.{bundleBytes, isWritten, writeAnswer};
 ghost use Rattle.face.specs.Face.{faceJoin};
 ghost use Rattle.grid.specs.Rows.{gridAnswer};
+ghost use Rattle.mesh.specs.Answer.{meshAnswer, meshArea};
 use bundle::Contents;
 use bundle::Record;
 use bundle::Written;
 use face::Join;
 use grid::Checked;
+use mesh::Meshed;
 
 // Puts the numbers of an answer at the front of the area, and returns how many they are.
 fn put(answer: &mut [u64], numbers: &[u64]) -> usize
@@ -62,6 +64,24 @@ pub extern "C" fn citternblaze_check(
     match grid::check(cells, edges, counts) {
         Checked::Crossings(n) => put(answer, &[0, n as u64]),
         Checked::Refused(row, place) => put(answer, &[row as u64, place as u64]),
+    }
+}
+
+// The mesh call: 0 and the number of triangles, or the number and the place of a refusal, which leaves the area as it is.
+#[no_mangle]
+pub extern "C" fn citternblaze_mesh(
+    cells: &[u16],
+    edges: &[u16],
+    counts: &[u8],
+    area: &mut [u32],
+    answer: &mut [u64],
+) -> usize
+    ensures answer { λ r. ⌜ Answers (meshAnswer (now (cells .entry)) (now (edges .entry)) (now (counts .entry)) (length (now (area .entry)))) (now (answer .entry)) (now (answer .exit)) r ⌝ }
+    ensures area { λ r. ⌜ now (area .exit) ≡ meshArea (now (cells .entry)) (now (edges .entry)) (now (counts .entry)) (now (area .entry)) ⌝ }
+{
+    match mesh::mesh(cells, edges, counts, area) {
+        Meshed::Triangles(n) => put(answer, &[0, n as u64]),
+        Meshed::Refused(row, place) => put(answer, &[row as u64, place as u64]),
     }
 }
 

@@ -4,6 +4,7 @@ use reference::bundle::{self, Sizes};
 use reference::face::{self, Join};
 use reference::gen::Sample;
 use reference::grid;
+use reference::mesh::Mesher;
 use reference::Refusal;
 
 /// 0 and the values of a result, or a refusal's number and place.
@@ -27,6 +28,12 @@ pub fn face(counts: [u8; 3], edge: u32, index: u32) -> Vec<u64> {
 pub fn check(grid: &Sample) -> Vec<u64> {
     let answer = grid::check(&grid.cells, &grid.edges, &grid.counts);
     numbers(answer, |crossings| vec![u64::from(crossings)])
+}
+
+/// 0 and the number of triangles, or a refusal; fills the area.
+pub fn mesh(mesher: &mut Mesher, grid: &Sample, area: &mut [u32]) -> Vec<u64> {
+    let answer = mesher.mesh(&grid.cells, &grid.edges, &grid.counts, area);
+    numbers(answer, |triangles| vec![u64::from(triangles)])
 }
 
 /// 0, the kind and the next start, or a refusal.
