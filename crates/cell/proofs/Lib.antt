@@ -7,3 +7,7 @@ pub mod Mates
 pub mod Walking
 pub mod Recording
 pub mod Loops
+pub mod Segments
+pub mod Leasts
+pub mod Three
+pub mod Claims

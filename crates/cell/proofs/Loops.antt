@@ -115,7 +115,7 @@ module _ (w : ℕ → ℕ) where
         (λ (g : 1 < loopSize w p). g) (eq-or-lt-of-le h)
 
     -- what is tallied of a loop, dart by dart
-    tally-darts : (t : ℕ → Bool) → tally t (loopDarts w p) ≡ total (λ k. one (t (dart w p k))) (loopSize w p) 0
+    pub tally-darts : (t : ℕ → Bool) → tally t (loopDarts w p) ≡ total (λ k. one (t (dart w p k))) (loopSize w p) 0
     unfolding loopDarts walk.loopAt loopSize dart
     tally-darts t = tally-orbit t (step w) (loopSize w p) (2 * p)
 

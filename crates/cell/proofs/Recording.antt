@@ -20,7 +20,7 @@ use Rattle.cell.specs.Dart.{Parts, IsDart, Ready, Leads, dartNumber, dar
 use Rattle.cell.specs.Walked.{Starts, Marked, Scratch, Recorded, Walked}
 use Rattle.cell.proofs.Half.{place-is}
 use Rattle.cell.proofs.Step.{number-half, parts-number, parts-edge, parts-index, parts-slot}
-use Rattle.cell.proofs.Route.{start-at, fits}
+use Rattle.cell.proofs.Route.{start-at, start-near, fits}
 use Rattle.cell.proofs.Walking.{Walking, dart-next, walking-start, walking-room, walking-end, walking-low, walking-home, walking-on, walking-mark, walking-met, start-met}
 
 -- a dart in parts leaves by its half-edge, from its point
@@ -104,7 +104,7 @@ module _ {c : Cell} {t : List ℕ} {p k : ℕ} {ms hs ps : List ℕ} {d : Dart} 
   going-room = omega (arith, walking-room (G .walking), R .few)
 
   pub going-point : point < 2 * startLimit
-  going-point = omega (arith, start-at R h (G .isDart .half-lt), R .near h (G .isDart .half-lt), fits R h (G .isDart .half-lt) (d .index) (G .isDart .index-lt))
+  going-point = omega (arith, start-at R h (G .isDart .half-lt), start-near R h (G .isDart .half-lt), fits R h (G .isDart .half-lt) (d .index) (G .isDart .index-lt))
 
   pub going-ready : Ready c t d
   going-ready = record { routed = R; dart = G .isDart }

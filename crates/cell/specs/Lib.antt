@@ -7,3 +7,4 @@ pub mod Dart
 pub mod Walked
 pub mod Round
 pub mod Answer
+pub mod Claims

@@ -1,6 +1,7 @@
 pub mod Joins
 pub mod Names
 pub mod Progress
+pub mod Askings
 pub mod Tables
 pub mod Rooms
 pub mod Calls

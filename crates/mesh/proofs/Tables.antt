@@ -18,7 +18,9 @@ use Rattle.grid.specs.Tables.{filled, accepts, Opened, nameAt, sideAt}
 use Rattle.grid.proofs.Filled.{filled-at}
 use Rattle.triangle.specs.Triangles.{cellTriangles}
 use Rattle.mesh.specs.Mesh.{values, gridCell, meshTriangles}
-use Rattle.mesh.specs.Table.{ofEdges, ofFour, side, tableCell, tableTriangles, Edged, Started, Reaches, Laid}
+use Rattle.mesh.specs.Table.{ofEdges, ofFour, side, tableCell, tableTriangles, tableLoop, Edged, Started, Reaches, Laid}
+use Rattle.mesh.specs.Asked.{askedLoop}
+use Rattle.mesh.proofs.Askings.{asked-ext}
 
 values-ext : (f g : ℕ → ℕ) (n : ℕ) → ((i : ℕ) → i < n → f i ≡ g i) → values f n ≡ values g n
 values-ext f g n h = over-ext (λ i. f i ∷ []) (λ i. g i ∷ []) n 0 (λ i a b. ap (λ x. x ∷ []) (h i (omega arith)))
@@ -75,6 +77,10 @@ module _ {cells edges counts names sides starts : List ℕ} (T : Tabled cells ed
   triangles-are =
       over-ext (λ c. cellTriangles (tableCell cells counts names sides starts c)) (λ c. cellTriangles (gridCell cells edges counts c)) (cellCount cells) 0
       (λ c a b. ap cellTriangles (cell-is c (omega arith)))
+
+  pub loop-is : (c k : ℕ) → tableLoop cells counts names sides starts c k ≡ askedLoop (gridCell cells edges counts) (cellCount cells) c k
+  unfolding tableLoop
+  loop-is c k = asked-ext (tableCell cells counts names sides starts) (gridCell cells edges counts) (cellCount cells) c k (cell-is c)
 
   pub laid : Laid cells counts sides starts
   laid = record {
