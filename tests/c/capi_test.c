@@ -75,6 +75,78 @@ static void test_check(void) {
   check("check 2 cells, area of 0", 8, 18, 9, 0);
 }
 
+#define WORDS 24
+
+/* The mesh of cells 0 1 2 3 and 0 1 2 4 with these counts, in an area of
+ * area_len words. */
+static void mesh(const char *call, const uint8_t *edge_counts, size_t cells_len,
+                 size_t area_len, size_t answer_len) {
+  uint32_t area[WORDS];
+  memset(area, 0xa5, sizeof area);
+  clear();
+  show(call, citternblaze_mesh(cells, cells_len, edges, 18, edge_counts, 9, area,
+                               area_len, answer, answer_len));
+  printf("  area");
+  for (size_t i = 0; i < WORDS; i++) {
+    if (area[i] == UINT32_C(0xa5a5a5a5))
+      printf(" -");
+    else
+      printf(" %" PRIu32, area[i]);
+  }
+  printf("\n");
+}
+
+static void test_mesh(void) {
+  static const uint8_t none[9] = {0};
+  /* corners at 0 of both cells, and at 3 of the first */
+  static const uint8_t corner[9] = {1, 1, 1, 1};
+  static const uint8_t at_3[9] = {0, 0, 1, 0, 0, 1, 0, 1};
+  /* edge 0 3: a loop of length 2 in the first cell */
+  static const uint8_t twice[9] = {0, 0, 2};
+  mesh("mesh without crossings", none, 8, WORDS, ROOM);
+  mesh("mesh of a corner in two cells", corner, 8, WORDS, ROOM);
+  mesh("mesh of a corner in one cell", at_3, 8, WORDS, ROOM);
+  mesh("mesh of a loop of two segments", twice, 8, WORDS, ROOM);
+  mesh("mesh, area of 22", twice, 8, 22, ROOM);
+  mesh("mesh, area of 21", twice, 8, 21, ROOM);
+  mesh("mesh, area of 0", twice, 8, 0, ROOM);
+  mesh("mesh of 5 numbers", twice, 5, WORDS, ROOM);
+  mesh("mesh of 1 cell", twice, 4, WORDS, ROOM);
+  mesh("mesh, answer area of 2", twice, 8, WORDS, 2);
+  mesh("mesh, answer area of 1", twice, 8, WORDS, 1);
+}
+
+/* Loop `index` of cell `cell` of cells 0 1 2 3 and 0 1 2 4 with these counts. */
+static void loop(const char *call, const uint8_t *edge_counts, size_t cells_len,
+                 size_t cell, size_t index, size_t answer_len) {
+  clear();
+  show(call, citternblaze_loops(cells, cells_len, edges, 18, edge_counts, 9, cell,
+                                index, answer, answer_len));
+}
+
+static void test_loops(void) {
+  /* a corner at 0 of both cells; a corner at 3; a loop of length 2; 0 and 1
+   * apart from 2, 3 and 4 */
+  static const uint8_t corner[9] = {1, 1, 1, 1};
+  static const uint8_t at_3[9] = {0, 0, 1, 0, 0, 1, 0, 1};
+  static const uint8_t twice[9] = {0, 0, 2};
+  static const uint8_t apart[9] = {0, 1, 1, 1, 1, 1, 1};
+  loop("loop 0 of cell 0, a corner at 0", corner, 8, 0, 0, ROOM);
+  loop("loop 0 of cell 1, a corner at 0", corner, 8, 1, 0, ROOM);
+  loop("loop 1 of cell 1", corner, 8, 1, 1, ROOM);
+  loop("loop 0 of cell 0, a corner at 3", at_3, 8, 0, 0, ROOM);
+  loop("loop 0 of cell 0, of two segments", twice, 8, 0, 0, ROOM);
+  loop("loop 0 of cell 1, none", twice, 8, 1, 0, ROOM);
+  loop("loop 0 of cell 1, diagonal", apart, 8, 1, 0, ROOM);
+  loop("the highest loop of cell 1", apart, 8, 1, SIZE_MAX, ROOM);
+  loop("loop 0 of cell 2 of 2", corner, 8, 2, 0, ROOM);
+  loop("loop 0 of the highest cell", corner, 8, SIZE_MAX, 0, ROOM);
+  loop("loop 0 of cell 2 of 5 numbers", corner, 5, 2, 0, ROOM);
+  loop("loop 0 of cell 0, area of 6", corner, 8, 0, 0, 6);
+  loop("loop 0 of cell 0, area of 5", corner, 8, 0, 0, 5);
+  loop("loop 0 of cell 2 of 2, area of 1", corner, 8, 2, 0, 1);
+}
+
 /* A cell, an edge and an end. */
 static const uint8_t bundle[] = {10, 0, 1, 0, 0, 0, 1, 0, 2, 0, 3, 1, 7,
                                  0,  2, 0, 5, 0, 6, 1, 9, 2, 0, 3, 0};
@@ -167,6 +239,8 @@ static void test_bundle_write(void) {
 int main(void) {
   test_face();
   test_check();
+  test_mesh();
+  test_loops();
   test_record();
   test_bundle_read();
   test_bundle_write();

@@ -9,7 +9,7 @@ ghost use Rattle.mesh.specs.Done.{Done};
 use cell::Loop;
 use grid::Checked;
 
-mod cells;
+pub mod cells;
 mod meshing;
 
 // The number of triangles, or the number and the place of a refusal.
