@@ -63,6 +63,25 @@ size_t citternblaze_mesh(const uint16_t *cells, size_t cells_len,
                          uint32_t *area, size_t area_len,
                          uint64_t *answer, size_t answer_len);
 
+/* The loops call. One loop of a cell; a cell's loops are ordered by their least
+ * crossings.
+ *
+ * Reads the cells, edges and counts, as citternblaze_check does; the number of a
+ * cell, and which of its loops is asked for, from 0.
+ *
+ * Answers 0; p0, the loop's least crossing; its length; 1 where it is normal, or
+ * else 0; and its type: 0, contractible; 1 and a node, the corner that it cuts
+ * off; 2 and a node, which it keeps together with the cell's lowest; 3 and the
+ * cell's lowest node, the corner that it cuts off. Or 0 alone, where the cell
+ * has no such loop. Or the number and the place of a refusal: 1 to 10 as
+ * citternblaze_check has them, or 11 and the cell asked for, where there is no
+ * such cell. Takes up to 640 KB of the stack. */
+size_t citternblaze_loops(const uint16_t *cells, size_t cells_len,
+                          const uint16_t *edges, size_t edges_len,
+                          const uint8_t *counts, size_t counts_len,
+                          size_t cell, size_t index,
+                          uint64_t *answer, size_t answer_len);
+
 /* The record reader's first call. What stands at a start of a bundle's bytes.
  *
  * Answers 0, the record's kind (1 cell, 2 edge, 3 end) and the start of the next

@@ -116,6 +116,37 @@ static void test_mesh(void) {
   mesh("mesh, answer area of 1", twice, 8, WORDS, 1);
 }
 
+/* Loop `index` of cell `cell` of cells 0 1 2 3 and 0 1 2 4 with these counts. */
+static void loop(const char *call, const uint8_t *edge_counts, size_t cells_len,
+                 size_t cell, size_t index, size_t answer_len) {
+  clear();
+  show(call, citternblaze_loops(cells, cells_len, edges, 18, edge_counts, 9, cell,
+                                index, answer, answer_len));
+}
+
+static void test_loops(void) {
+  /* a corner at 0 of both cells; a corner at 3; a loop of length 2; 0 and 1
+   * apart from 2, 3 and 4 */
+  static const uint8_t corner[9] = {1, 1, 1, 1};
+  static const uint8_t at_3[9] = {0, 0, 1, 0, 0, 1, 0, 1};
+  static const uint8_t twice[9] = {0, 0, 2};
+  static const uint8_t apart[9] = {0, 1, 1, 1, 1, 1, 1};
+  loop("loop 0 of cell 0, a corner at 0", corner, 8, 0, 0, ROOM);
+  loop("loop 0 of cell 1, a corner at 0", corner, 8, 1, 0, ROOM);
+  loop("loop 1 of cell 1", corner, 8, 1, 1, ROOM);
+  loop("loop 0 of cell 0, a corner at 3", at_3, 8, 0, 0, ROOM);
+  loop("loop 0 of cell 0, of two segments", twice, 8, 0, 0, ROOM);
+  loop("loop 0 of cell 1, none", twice, 8, 1, 0, ROOM);
+  loop("loop 0 of cell 1, diagonal", apart, 8, 1, 0, ROOM);
+  loop("the highest loop of cell 1", apart, 8, 1, SIZE_MAX, ROOM);
+  loop("loop 0 of cell 2 of 2", corner, 8, 2, 0, ROOM);
+  loop("loop 0 of the highest cell", corner, 8, SIZE_MAX, 0, ROOM);
+  loop("loop 0 of cell 2 of 5 numbers", corner, 5, 2, 0, ROOM);
+  loop("loop 0 of cell 0, area of 6", corner, 8, 0, 0, 6);
+  loop("loop 0 of cell 0, area of 5", corner, 8, 0, 0, 5);
+  loop("loop 0 of cell 2 of 2, area of 1", corner, 8, 2, 0, 1);
+}
+
 /* A cell, an edge and an end. */
 static const uint8_t bundle[] = {10, 0, 1, 0, 0, 0, 1, 0, 2, 0, 3, 1, 7,
                                  0,  2, 0, 5, 0, 6, 1, 9, 2, 0, 3, 0};
@@ -209,6 +240,7 @@ int main(void) {
   test_face();
   test_check();
   test_mesh();
+  test_loops();
   test_record();
   test_bundle_read();
   test_bundle_write();

@@ -5,19 +5,21 @@ use mathlib.Core.Logic.{⊎-elim}
 use mathlib.Core.Bool.{Bool, true, false}
 use mathlib.Core.List.{List, [], _∷_}
 use native.Mathlib.Omega.{arith}
-use lib.Dec.{eqb, leb}
-use lib.ListN.{length}
+use lib.Dec.{eqb, ltb, leb}
+use lib.ListN.{length, drop}
 use Rattle.answer.specs.Answer.{result, refusal}
 use Rattle.counting.specs.Pick.{pick}
-use Rattle.grid.specs.Grid.{crossings}
+use Rattle.grid.specs.Grid.{cellCount, crossings}
 use Rattle.grid.specs.Rows.{gridAnswer}
 use Rattle.grid.specs.Tables.{accepts}
 use Rattle.grid.specs.Claims.{Refusal}
 use Rattle.grid.proofs.Claims.{refuses-fault, accepts-or-refuses}
+use Rattle.cell.specs.Loop.{answerOf, loopAnswer, leasts}
 use Rattle.triangle.specs.Words.{wordCount}
-use Rattle.mesh.specs.Mesh.{meshTriangles}
+use Rattle.mesh.specs.Mesh.{gridCell, meshTriangles}
 use Rattle.mesh.specs.Room.{roomAnswer}
-use Rattle.mesh.specs.Answer.{meshAnswer}
+use Rattle.mesh.specs.Asked.{cellLoop, askedLoop}
+use Rattle.mesh.specs.Answer.{meshAnswer, loopsAnswer}
 
 some-pick : (b : Bool) (x y : List ℕ) → 0 < length x → 0 < length y → 0 < length (pick b x y)
 some-pick true x y h k = h
@@ -34,6 +36,15 @@ refused-numbers numbers row place h = go (eqb row 0)
     go true e = let z = some-equal [] numbers e h in absurd (omega arith)
     go false e = e
 
+some-told : (w start : ℕ → ℕ) (v l : List ℕ) → 0 < length (answerOf w start v l)
+unfolding answerOf
+some-told w start v [] = omega arith
+some-told w start v (p ∷ l) = omega arith
+
+some-loop : (w start : ℕ → ℕ) (v : List ℕ) (k : ℕ) → 0 < length (loopAnswer w start v k)
+unfolding loopAnswer
+some-loop w start v k = some-told w start v (drop k (leasts w start v))
+
 module _ (cells edges counts : List ℕ) where
   pub some-grid : 0 < length (gridAnswer cells edges counts)
   some-grid =
@@ -47,4 +58,11 @@ module _ (cells edges counts : List ℕ) where
   some-mesh room =
       some-pick (accepts cells edges counts) (roomAnswer (meshTriangles cells edges counts) room) (gridAnswer cells edges counts)
       (some-pick (leb (wordCount * length (meshTriangles cells edges counts)) room) (result (length (meshTriangles cells edges counts) ∷ [])) (refusal 12 (length (meshTriangles cells edges counts))) (omega arith) (omega arith))
+      some-grid
+
+  pub some-loops : (c k : ℕ) → 0 < length (loopsAnswer cells edges counts c k)
+  unfolding loopsAnswer askedLoop
+  some-loops c k =
+      some-pick (accepts cells edges counts) (askedLoop (gridCell cells edges counts) (cellCount cells) c k) (gridAnswer cells edges counts)
+      (some-pick (ltb c (cellCount cells)) (cellLoop (gridCell cells edges counts c) k) (refusal 11 c) (some-loop _ _ _ k) (omega arith))
       some-grid

@@ -38,6 +38,19 @@ mod c {
             answer_len: usize,
         ) -> usize;
 
+        pub fn citternblaze_loops(
+            cells: *const u16,
+            cells_len: usize,
+            edges: *const u16,
+            edges_len: usize,
+            counts: *const u8,
+            counts_len: usize,
+            cell: usize,
+            index: usize,
+            answer: *mut u64,
+            answer_len: usize,
+        ) -> usize;
+
         pub fn citternblaze_record(
             bytes: *const u8,
             bytes_len: usize,
@@ -123,6 +136,29 @@ pub fn mesh(
             counts.len(),
             area.as_mut_ptr(),
             area.len(),
+            answer.as_mut_ptr(),
+            answer.len(),
+        )
+    }
+}
+
+pub fn loops(
+    cells: &[u16],
+    edges: &[u16],
+    counts: &[u8],
+    [cell, index]: [usize; 2],
+    answer: &mut [u64],
+) -> usize {
+    unsafe {
+        c::citternblaze_loops(
+            cells.as_ptr(),
+            cells.len(),
+            edges.as_ptr(),
+            edges.len(),
+            counts.as_ptr(),
+            counts.len(),
+            cell,
+            index,
             answer.as_mut_ptr(),
             answer.len(),
         )

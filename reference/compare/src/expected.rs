@@ -1,6 +1,7 @@
 //! The numbers that a call has to answer, by the second implementation.
 
 use reference::bundle::{self, Sizes};
+use reference::cell::LoopType;
 use reference::face::{self, Join};
 use reference::gen::Sample;
 use reference::grid;
@@ -34,6 +35,25 @@ pub fn check(grid: &Sample) -> Vec<u64> {
 pub fn mesh(mesher: &mut Mesher, grid: &Sample, area: &mut [u32]) -> Vec<u64> {
     let answer = mesher.mesh(&grid.cells, &grid.edges, &grid.counts, area);
     numbers(answer, |triangles| vec![u64::from(triangles)])
+}
+
+/// 0, p0, the length, 1 for normal or 0, the type and its node; 0 alone for no
+/// such loop; or a refusal.
+pub fn loops(mesher: &mut Mesher, grid: &Sample, [cell, index]: [usize; 2]) -> Vec<u64> {
+    let [cell, index] = [cell as u64, index as u64];
+    let answer = mesher.loop_of_cell(&grid.cells, &grid.edges, &grid.counts, cell, index);
+    numbers(answer, |found| match found {
+        None => vec![],
+        Some(told) => {
+            let normal = u32::from(told.normal);
+            let mut values = vec![told.p0, told.length, normal, told.parity_sum];
+            match told.kind {
+                LoopType::Contractible => {}
+                LoopType::Corner(node) | LoopType::Diagonal(node) => values.push(node),
+            }
+            values.into_iter().map(u64::from).collect()
+        }
+    })
 }
 
 /// 0, the kind and the next start, or a refusal.

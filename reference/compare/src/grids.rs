@@ -69,7 +69,10 @@ pub fn with_random_counts(rng: &mut Rng, shape: Sample) -> Sample {
         2 => shape.with_counts(rng, 0, 255),
         3 => shape.with_even_counts(rng, 3),
         4 => shape.with_closed_counts(rng, 3),
-        _ => shape.with_closed_counts(rng, 100),
+        _ => {
+            let pairs = if shape.counts.len() < 100 { 100 } else { 10 };
+            shape.with_closed_counts(rng, pairs)
+        }
     }
 }
 
@@ -151,8 +154,8 @@ pub fn closed_grid(rng: &mut Rng) -> Sample {
     };
     let pairs = match (shape.counts.len(), rng.below(16)) {
         (0..=60, 0) => 127,
-        (_, 1..=3) => 12,
-        _ => rng.between(0, 3),
+        (_, 1) => 12,
+        _ => rng.between(0, 2),
     };
     let grid = shape.with_closed_counts(rng, pairs);
     if rng.coin() {

@@ -327,8 +327,7 @@ fn each_shape_broken_in_each_way() {
     tally.report("each shape broken in each way");
 }
 
-/// Two grids of five are made to close, and one is of a random kind and then
-/// broken.
+/// Three grids of ten are made to close, and two are broken.
 #[test]
 fn random_grids() {
     let mut rng = Rng::new(seed("mesh"));
@@ -336,9 +335,9 @@ fn random_grids() {
     let mut tally = Tally::default();
     let grids = setting("CITTERNBLAZE_GRIDS", 20_000);
     while tally.grids < grids {
-        let grid = match rng.below(5) {
-            0 | 1 => closed_grid(&mut rng),
-            2 => {
+        let grid = match rng.below(10) {
+            0..=2 => closed_grid(&mut rng),
+            3..=4 => {
                 let grid = random_grid(&mut rng);
                 with_faults(&mut rng, grid)
             }

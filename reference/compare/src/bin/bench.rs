@@ -11,7 +11,8 @@ use reference::grid::{self, GridTables, Lists, MAX_CELLS};
 use reference::mesh::{self, Mesher};
 
 /// How long the calls on one grid are repeated: so many milliseconds, or those
-/// of the first argument.
+/// of the first argument. A second argument is the front of the names of the
+/// only measures to take.
 const PATIENCE: u64 = 1_500;
 
 /// Least rounds on one grid, however long they take.
@@ -122,53 +123,67 @@ fn size(grid: &Sample) -> String {
     )
 }
 
-fn bench_mesh(name: &str, grid: &Sample, patience: Duration) {
-    let ([proved, kept, new], triangles) = mesh_times(grid, patience);
-    let speed = |micros: f64| triangles as f64 / micros;
-    println!(
-        "{name}: {}, {triangles} triangles\n\
+/// How long to measure, and the front of the names of what is measured.
+struct Bench {
+    patience: Duration,
+    only: String,
+}
+
+impl Bench {
+    fn mesh(&self, name: &str, grid: &Sample) {
+        if !name.starts_with(&self.only) {
+            return;
+        }
+        let ([proved, kept, new], triangles) = mesh_times(grid, self.patience);
+        let speed = |micros: f64| triangles as f64 / micros;
+        println!(
+            "{name}: {}, {triangles} triangles\n\
          \x20 best:   proved {:8.1} us, {:6.2} M/s; reference {:8.1} us, {:6.2} M/s, \
          ratio {:.2}; with new memory {:8.1} us, ratio {:.2}\n\
          \x20 median: proved {:8.1} us, {:6.2} M/s; reference {:8.1} us, {:6.2} M/s, \
          ratio {:.2}; with new memory {:8.1} us, ratio {:.2}",
-        size(grid),
-        proved.best,
-        speed(proved.best),
-        kept.best,
-        speed(kept.best),
-        proved.best / kept.best,
-        new.best,
-        proved.best / new.best,
-        proved.median,
-        speed(proved.median),
-        kept.median,
-        speed(kept.median),
-        proved.median / kept.median,
-        new.median,
-        proved.median / new.median,
-    );
-}
+            size(grid),
+            proved.best,
+            speed(proved.best),
+            kept.best,
+            speed(kept.best),
+            proved.best / kept.best,
+            new.best,
+            proved.best / new.best,
+            proved.median,
+            speed(proved.median),
+            kept.median,
+            speed(kept.median),
+            proved.median / kept.median,
+            new.median,
+            proved.median / new.median,
+        );
+    }
 
-fn bench_check(name: &str, grid: &Sample, patience: Duration) {
-    let [proved, kept, new] = check_times(grid, patience);
-    println!(
-        "{name}: {}\n\
+    fn check(&self, name: &str, grid: &Sample) {
+        if !name.starts_with(&self.only) {
+            return;
+        }
+        let [proved, kept, new] = check_times(grid, self.patience);
+        println!(
+            "{name}: {}\n\
          \x20 best:   proved {:8.1} us; reference {:8.1} us, ratio {:.2}; with new memory \
          {:8.1} us, ratio {:.2}\n\
          \x20 median: proved {:8.1} us; reference {:8.1} us, ratio {:.2}; with new memory \
          {:8.1} us, ratio {:.2}",
-        size(grid),
-        proved.best,
-        kept.best,
-        proved.best / kept.best,
-        new.best,
-        proved.best / new.best,
-        proved.median,
-        kept.median,
-        proved.median / kept.median,
-        new.median,
-        proved.median / new.median,
-    );
+            size(grid),
+            proved.best,
+            kept.best,
+            proved.best / kept.best,
+            new.best,
+            proved.best / new.best,
+            proved.median,
+            kept.median,
+            proved.median / kept.median,
+            new.median,
+            proved.median / new.median,
+        );
+    }
 }
 
 /// A box of this many cells.
@@ -183,43 +198,43 @@ fn main() {
         Some(text) => text.parse().expect("milliseconds"),
         None => PATIENCE,
     };
-    let patience = Duration::from_millis(millis);
+    let bench = Bench {
+        patience: Duration::from_millis(millis),
+        only: env::args().nth(2).unwrap_or_default(),
+    };
     println!(
-        "At least {ROUNDS} rounds and {patience:?} on each grid, the calls in turn. M/s: million \
+        "At least {ROUNDS} rounds and {:?} on each grid, the calls in turn. M/s: million \
          triangles a second. A ratio is the proved time over the reference's. The proved calls \
          clear their tables, on the stack, in each call; the reference keeps its own from call to \
          call, uncleared, or makes new ones. Triangle areas are written before the first round \
-         and not cleared between rounds."
+         and not cleared between rounds.",
+        bench.patience
     );
     let mut rng = Rng::new(1);
     let shape = box_of_six([6, 5, 10]);
     let few = shape.clone().with_counts(&mut rng, 0, 3);
-    bench_mesh("1 mesh, box, counts 0..3", &few, patience);
+    bench.mesh("1 mesh, box, counts 0..3", &few);
     let closed = shape.clone().with_closed_counts(&mut rng, 1);
-    bench_mesh("1 mesh, box, closed, counts 0..3", &closed, patience);
+    bench.mesh("1 mesh, box, closed, counts 0..3", &closed);
     let many = shape.clone().with_counts(&mut rng, 16, 24);
-    bench_mesh("2 mesh, box, counts 16..24", &many, patience);
+    bench.mesh("2 mesh, box, counts 16..24", &many);
     let even = shape.with_even_counts(&mut rng, 10);
-    bench_mesh("2 mesh, box, even faces, counts 0..21", &even, patience);
+    bench.mesh("2 mesh, box, even faces, counts 0..21", &even);
     let full = separate(42).with_counts(&mut rng, 255, 255);
-    bench_mesh("3 mesh, separate cells, counts 255", &full, patience);
+    bench.mesh("3 mesh, separate cells, counts 255", &full);
     let fan = closed_fan(MAX_CELLS as u16).with_counts(&mut rng, 4, 14);
-    bench_mesh("4 mesh, cells round one edge, counts 4..14", &fan, patience);
+    bench.mesh("4 mesh, cells round one edge, counts 4..14", &fan);
     let boxed = part_of_box(MAX_CELLS).with_counts(&mut rng, 0, 20);
-    bench_check("5 check, box", &boxed, patience);
+    bench.check("5 check, box", &boxed);
     let mixed = boxed.renumbered(&mut rng).reordered(&mut rng);
-    bench_check("5 check, box, shuffled nodes and cells", &mixed, patience);
-    bench_check("5 check, cells round one edge", &fan, patience);
-    bench_check(
-        "5 check, cells round one node",
-        &cone([13, 13, 13]),
-        patience,
-    );
+    bench.check("5 check, box, shuffled nodes and cells", &mixed);
+    bench.check("5 check, cells round one edge", &fan);
+    bench.check("5 check, cells round one node", &cone([13, 13, 13]));
     let apart = separate((MAX_CELLS / 2) as u16);
-    bench_check("5 check, cells that share nothing", &apart, patience);
+    bench.check("5 check, cells that share nothing", &apart);
     for cells in [1, 100, 500, 1_000, 2_000] {
         let part = part_of_box(cells).with_counts(&mut rng, 16, 24);
-        bench_mesh("growth, mesh, box, counts 16..24", &part, patience);
-        bench_check("growth, check", &part, patience);
+        bench.mesh("growth, mesh, box, counts 16..24", &part);
+        bench.check("growth, check", &part);
     }
 }
