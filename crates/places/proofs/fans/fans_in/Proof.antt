@@ -7,13 +7,8 @@ use Rattle.cell.specs.Of.{countOf}
 use Rattle.triangle.proofs.Cells.{Going, going-start, going-in, going-more}
 use Rattle.triangle.proofs.Walks.{walked-traced}
 use Rattle.places.proofs.Middles.{Counting, counting-none, counting-more, counting-all, walked-fan}
-use borrow.Author.Needs.{needs}
 use Rattle.places.proofs.fans.fans_in.Statement.{statement}
 use Rattle.places.proofs.fans.fans_in.Tie as tie
-use Rattle.cell.proofs.crossings_of.Reads as crossings-of-reads
-use Rattle.cell.proofs.routes_of.Reads as routes-of-reads
-use Rattle.cell.proofs.clear.Reads as clear-reads
-use Rattle.cell.proofs.walk.Reads as walk-reads
 
 abbrev Inv-loop : tie.InvT-loop
 Inv-loop c marks₀ halves₀ points₀ n routes t₀ p₀ marks halves points t p = Going c n routes marks halves points p × Counting c p t

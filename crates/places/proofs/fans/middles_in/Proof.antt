@@ -6,13 +6,8 @@ use Rattle.places.specs.Place.{placeAt}
 use Rattle.places.specs.Points.{loopMiddle}
 use Rattle.places.proofs.Writing.{Writing, writing-none}
 use Rattle.places.proofs.Passes.{loop-room, loop-next, loops-done}
-use borrow.Author.Needs.{needs}
 use Rattle.places.proofs.fans.middles_in.Statement.{statement}
 use Rattle.places.proofs.fans.middles_in.Tie as tie
-use Rattle.cell.proofs.crossings_of.Reads as crossings-of-reads
-use Rattle.cell.proofs.routes_of.Reads as routes-of-reads
-use Rattle.cell.proofs.clear.Reads as clear-reads
-use Rattle.cell.proofs.walk.Reads as walk-reads
 
 abbrev Inv-loop : tie.InvT-loop
 Inv-loop c marks₀ halves₀ points₀ area₀ at n routes i₀ p₀ marks halves points area i p = Going c n routes marks halves points p × Writing (loopMiddle (placeAt area₀) c) n p area₀ area at i
