@@ -147,6 +147,54 @@ static void test_loops(void) {
   loop("loop 0 of cell 2 of 2, area of 1", corner, 8, 2, 0, 1);
 }
 
+#define NUMBERS 14
+
+/* The places of cells 0 1 2 3 and 0 1 2 4, with crossings on edge 0 3 only:
+ * count_03 of them. Node k is at 8k, -k, 0.5. */
+static void place(const char *call, uint8_t count_03, const double *fractions,
+                  size_t fractions_len, size_t nodes_len, size_t area_len,
+                  size_t answer_len) {
+  const uint8_t edge_counts[9] = {0, 0, count_03};
+  double nodes[15], area[NUMBERS];
+  for (int k = 0; k < 5; k++) {
+    nodes[3 * k] = 8 * k;
+    nodes[3 * k + 1] = -k;
+    nodes[3 * k + 2] = 0.5;
+  }
+  for (size_t i = 0; i < NUMBERS; i++)
+    area[i] = -77;
+  clear();
+  show(call, citternblaze_places(cells, 8, edges, 18, edge_counts, 9, nodes,
+                                 nodes_len, fractions, fractions_len, area,
+                                 area_len, answer, answer_len));
+  printf("  area");
+  for (size_t i = 0; i < NUMBERS; i++) {
+    if (area[i] == -77)
+      printf(" -");
+    else
+      printf(" %g", area[i]);
+  }
+  printf("\n");
+}
+
+static void test_places(void) {
+  static const double quarters[3] = {0.25, 0.75, 0.875};
+  static const double equal[2] = {0.5, 0.5};
+  static const double ends[2] = {0.5, 1};
+  place("places of no points", 0, quarters, 0, 15, NUMBERS, ROOM);
+  place("places of a crossing", 1, quarters, 1, 15, NUMBERS, ROOM);
+  place("places of two crossings and a middle", 2, quarters, 2, 15, NUMBERS,
+        ROOM);
+  place("places, area of 9", 2, quarters, 2, 15, 9, ROOM);
+  place("places, area of 8", 2, quarters, 2, 15, 8, ROOM);
+  place("places, 14 numbers for 5 nodes", 2, quarters, 2, 14, NUMBERS, ROOM);
+  place("places, a fraction too few", 2, quarters, 1, 15, NUMBERS, ROOM);
+  place("places, a fraction too many", 2, quarters, 3, 15, NUMBERS, ROOM);
+  place("places, equal fractions", 2, equal, 2, 15, NUMBERS, ROOM);
+  place("places, a fraction of 1", 2, ends, 2, 15, NUMBERS, ROOM);
+  place("places, answer area of 1", 2, quarters, 2, 15, NUMBERS, 1);
+}
+
 /* A cell, an edge and an end. */
 static const uint8_t bundle[] = {10, 0, 1, 0, 0, 0, 1, 0, 2, 0, 3, 1, 7,
                                  0,  2, 0, 5, 0, 6, 1, 9, 2, 0, 3, 0};
@@ -241,6 +289,7 @@ int main(void) {
   test_check();
   test_mesh();
   test_loops();
+  test_places();
   test_record();
   test_bundle_read();
   test_bundle_write();
