@@ -1,6 +1,6 @@
 -- The laws of a cell's loops, together.
-use Prim.Native.Nat.{ℕ, _*_, _/_, _≤_, _<_}
-use mathlib.Core.Path.{_≡_, refl, sym, _∙_}
+use Prim.Native.Nat.{ℕ, _*_}
+use mathlib.Core.Path.{_≡_, refl}
 use mathlib.Core.Bool.{Bool, true, false}
 use mathlib.Core.List.{List, [], _∷_}
 use native.Mathlib.Omega.{arith}
@@ -12,27 +12,29 @@ use Rattle.cell.specs.declared.LoopType.{LoopType}
 use Rattle.cell.specs.declared.LoopType.the-variants.{Contractible, Diagonal, Corner}
 use Rattle.cell.specs.declared.Loop.{Loop}
 use Rattle.cell.specs.declared.Loop.the-variants.{Found, Nothing}
-use Rattle.cell.specs.Cell.{crossings, step}
+use Rattle.cell.specs.Cell.{crossings}
 use Rattle.cell.specs.Loop.{loopSize, dart, leasts}
 use Rattle.cell.specs.Answer.{typeNumbers, loopNumbers}
 use Rattle.cell.specs.Claims.{OneToOne, CellLaws}
 use Rattle.cell.proofs.Mates.{ports, darts, laws}
 use Rattle.cell.proofs.Loops.{the-loop, size-le, size-two}
-use Rattle.cell.proofs.Segments.{segment-most, segment-once}
+use Rattle.cell.proofs.Follow.{step-of, goes-on, along-most, along-once}
 use Rattle.cell.proofs.Leasts.{kept-is, kept-rise, kept-all}
-use Rattle.cell.proofs.Three.{segment-of, three-normal, three-corner}
+use Rattle.cell.proofs.Three.{three-normal, three-corner}
 
 pub cellLaws : (w start : ℕ → ℕ) (v : List ℕ) → CellLaws w start v
 unfolding dart leasts
 cellLaws w start v = record {
   ports = ports w;
+  darts = darts w;
   walks = laws w;
   longer = size-two w;
   shorter = size-le w;
   distinct = λ p i j l a b e. laws w .distinct (2 * p) (loopSize w p) (the-loop w p l (omega arith)) i j a b e;
-  segment = segment-of w;
-  most = λ d l on. segment-most (crossings w) (step w) (darts w) d l on;
-  exactly = λ total d l. segment-once (crossings w) (step w) (darts w) d l (total d l) total;
+  follows = step-of w;
+  goes = goes-on w;
+  most = along-most w;
+  exactly = λ all s x L. along-once w s x L (all s x L) all;
   three-normal = three-normal w;
   three-corner = λ p l e. three-corner w p l e start v;
   rising = kept-rise none (crossings w) 0;

@@ -8,6 +8,8 @@ pub mod Walking
 pub mod Recording
 pub mod Loops
 pub mod Segments
+pub mod Follow
 pub mod Leasts
 pub mod Three
 pub mod Claims
+pub mod Examples

@@ -1,11 +1,10 @@
 -- The branches of a step, in the terms in which the code meets them: by what it reads from the routes.
 use Prim.Native.Nat.{ℕ, _+_, _*_, _-_, _%_, _≤_, _<_}
-use mathlib.Core.Path.{_≡_, refl, sym, ap, _∙_, subst}
+use mathlib.Core.Path.{_≡_, refl, sym, _∙_, subst}
 use mathlib.Core.Logic.{_≢_}
 use mathlib.Core.List.{List}
 use native.Mathlib.Omega.{arith}
 use lib.ListN.{getD}
-use Rattle.counting.specs.Pack.{pre}
 use Rattle.face.specs.Face.{lower, upper}
 use Rattle.cell.specs.declared.Cell.{Cell}
 use Rattle.cell.specs.declared.Dart.{Dart}
@@ -13,12 +12,12 @@ use Rattle.cell.specs.declared.Next.{Next}
 use Rattle.cell.specs.declared.Next.the-variants.{On, End}
 use Rattle.cell.specs.Cell.{crossings, step}
 use Rattle.cell.specs.Of.{countOf}
-use Rattle.cell.specs.Half.{halfEdges, placeOf, edgeOf, twin, around}
-use Rattle.cell.specs.Route.{cornerOf, Routed, mostCrossings}
-use Rattle.cell.specs.Dart.{Parts, IsDart, Spot, IsDartAt, Ready, FromUpper, Between, Leads, Onward, dartNumber, dartOf}
+use Rattle.cell.specs.Half.{halfEdges, placeOf, edgeOf}
+use Rattle.cell.specs.Route.{cornerOf, mostCrossings}
+use Rattle.cell.specs.Dart.{Spot, IsDartAt, Ready, FromUpper, Between, Leads, Onward, dartOf}
 use Rattle.cell.proofs.Half.{twin-lt}
 use Rattle.cell.proofs.Reach.{Reach, low-lt, high-lt, low-fits, high-fits, low-on, low-over, high-on, high-over, between-end, between-up, between-down}
-use Rattle.cell.proofs.Route.{low-at, high-at, count-at, first-at, low-next-at, high-next-at, twin-at, place-at, fits}
+use Rattle.cell.proofs.Route.{low-at, high-at, count-at, low-next-at, high-next-at, twin-at, place-at, fits}
 
 odd-one : (n : ℕ) → n % 2 ≢ 0 → n % 2 ≡ 1
 odd-one n z = omega arith

@@ -1,7 +1,7 @@
 -- Each segment is on at most one loop, once; where no curve ends, on exactly one.
-use Prim.Native.Nat.{ℕ, zero, suc, _+_, _*_, _-_, _/_, _≤_, _<_}
-use mathlib.Core.Path.{_≡_, refl, sym, ap, _∙_, subst}
-use mathlib.Core.Logic.{_⊎_, inl, inr, _≢_, ⊎-elim}
+use Prim.Native.Nat.{ℕ, zero, suc, _+_, _*_, _-_, _≤_, _<_}
+use mathlib.Core.Path.{_≡_, refl, sym, ap, _∙_}
+use mathlib.Core.Logic.{_⊎_, _≢_, ⊎-elim}
 use mathlib.Core.Bool.{Bool, true, false, _||_}
 use mathlib.Core.List.{List, [], _∷_}
 use native.Mathlib.Nat.{not-suc-le-zero, eq-or-lt-of-le, eq-zero-or-pos}
@@ -9,12 +9,12 @@ use native.Mathlib.Omega.{arith}
 use lib.Dec.{eqb}
 use borrow.Author.Tests.{eqb-true, eqb-false, eq-eqb, ne-eqb}
 use Rattle.counting.specs.Pick.{one}
-use Rattle.counting.specs.Range.{total, over}
+use Rattle.counting.specs.Range.{total}
 use Rattle.counting.specs.Lists.{tally}
 use Rattle.counting.proofs.Bools.{clash}
 use Rattle.counting.proofs.Range.{total-pos, total-has}
 use Rattle.counting.proofs.Lists.{tally-over}
-use Rattle.walk.specs.Iterate.{it, orbit}
+use Rattle.walk.specs.Iterate.{it}
 use Rattle.walk.specs.Darts.{Darts, Loop, half, rev}
 use Rattle.walk.specs.Walk.{size, loopAt, flat}
 use Rattle.walk.specs.Claims.{ofCrossing}
@@ -35,7 +35,7 @@ tally-or p q apart (d ∷ l) = go (p d) (q d) refl refl (tally-or p q apart l)
     go false true e f ih = omega arith
     go false false e f ih = omega arith
 
-tally-ext : (p q : ℕ → Bool) → ((d : ℕ) → p d ≡ q d) → (l : List ℕ) → tally p l ≡ tally q l
+pub tally-ext : (p q : ℕ → Bool) → ((d : ℕ) → p d ≡ q d) → (l : List ℕ) → tally p l ≡ tally q l
 unfolding tally
 tally-ext p q e [] = refl
 tally-ext p q e (d ∷ l) = rw (e d, tally-ext p q e l) refl

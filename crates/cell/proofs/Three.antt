@@ -1,32 +1,27 @@
 -- A loop of three segments runs round a node of the cell: its segments lie on three slots, and its points on the three edges at that node.
-use Prim.Native.Nat.{ℕ, zero, suc, _+_, _*_, _-_, _/_, _%_, _≤_, _<_}
-use mathlib.Core.Path.{_≡_, refl, sym, ap, ap₂, _∙_, subst}
+use Prim.Native.Nat.{ℕ, _+_, _*_, _-_, _/_, _%_, _<_}
+use mathlib.Core.Path.{_≡_, refl, sym, ap, _∙_}
 use mathlib.Core.Logic.{_⊎_, inl, inr, _≢_, ⊎-elim}
 use mathlib.Core.Bool.{Bool, true, false, not, _&&_, _||_}
 use mathlib.Core.List.{List}
 use native.Mathlib.Omega.{arith}
-use lib.Dec.{eqb, ltb}
+use lib.Dec.{eqb}
 use lib.ListN.{getD}
-use borrow.Author.Tests.{eqb-true, eqb-false, eq-eqb, ne-eqb, not-true}
-use Rattle.counting.specs.Pick.{pick, one}
+use borrow.Author.Tests.{eqb-true, eq-eqb, ne-eqb, not-true}
+use Rattle.counting.specs.Pick.{one}
 use Rattle.counting.specs.Range.{total}
 use Rattle.counting.specs.Search.{first as least, every}
 use Rattle.counting.specs.Lists.{tally}
-use Rattle.counting.proofs.Bools.{clash, and-left, and-right, and-true, or-cases}
+use Rattle.counting.proofs.Bools.{and-left, and-right, or-cases}
 use Rattle.counting.proofs.Search.{every-is}
-use Rattle.slots.specs.Slots.{place, contains, firstSlot, secondSlot}
-use Rattle.slots.proofs.Slots.{EdgeSlot, two-slots, slot-edge}
+use Rattle.slots.specs.Slots.{contains}
 use Rattle.walk.specs.Iterate.{it}
-use Rattle.walk.specs.Darts.{half, rev}
-use Rattle.walk.specs.Step as walk
-use Rattle.walk.proofs.Step as walks
 use Rattle.counting.proofs.Pack.{row-lt}
-use Rattle.cell.specs.Cell.{crossings, edge, mate, first, second, slot, step}
+use Rattle.cell.specs.Cell.{crossings, edge, slot, step}
 use Rattle.cell.specs.Loop.{loopSize, dart, loopDarts, folded, normal, parity, typeBy, typeOf}
-use Rattle.cell.specs.Claims.{back, SegmentOf}
-use Rattle.cell.proofs.Step.{step-is, slot-first, slot-second}
-use Rattle.cell.proofs.Mates.{slot-has, ports, darts}
-use Rattle.cell.proofs.Loops.{the-loop, dart-live, dart-zero, tally-darts}
+use Rattle.cell.proofs.Mates.{slot-has}
+use Rattle.cell.proofs.Follow.{contained, next-on, next-apart}
+use Rattle.cell.proofs.Loops.{the-loop, dart-live, tally-darts}
 
 -- the edge that two slots share
 edgeIn : ℕ → ℕ → ℕ
@@ -73,49 +68,6 @@ module _ (w : ℕ → ℕ) where
   abbrev N : ℕ
   N = crossings w
 
-  contained : (k s : ℕ) → EdgeSlot k s → contains k s ≡ true
-  contained k s S = rw (S .edge-is) at (slot-edge s (place s k) (S .lt) (S .place-lt) .within)
-
-  -- the two darts of a crossing leave by its two slots
-  slots-apart : (d : ℕ) → d < 2 * N → slot w (rev d) ≢ slot w d
-  slots-apart = walks.by-parity N (λ d. slot w (rev d) ≢ slot w d)
-      (λ x l e. omega (arith, two-slots (edge w x) (row-lt w 6 x l) .apart, rw (walks.rev-first x, slot-second w x, slot-first w x) at e))
-      (λ x l e. omega (arith, two-slots (edge w x) (row-lt w 6 x l) .apart, rw (walks.rev-second x, slot-second w x, slot-first w x) at e))
-
-  module _ (d : ℕ) (l : d < 2 * N) (on : step w d < 2 * N) where
-    goes : mate w (slot w d) (d / 2) < N
-    unfolding step slot
-    goes = walks.live N (first w) (second w) (mate w) (ports w) d on
-
-    back-slot : slot w (rev (step w d)) ≡ slot w d
-    unfolding slot
-    back-slot =
-        ap (λ x. slot w (rev x)) (step-is w d)
-        ∙ walks.land-face N (first w) (second w) (mate w) (slot w d) (mate w (slot w d) (d / 2)) goes (ports w .lies d l goes)
-
-    back-half : rev (step w d) / 2 ≡ mate w (slot w d) (d / 2)
-    back-half =
-        walks.half-rev (step w d) ∙ ap half (step-is w d)
-        ∙ walks.land-half N (first w) (second w) (mate w) (slot w d) (mate w (slot w d) (d / 2)) goes
-
-    back-lt : rev (step w d) < 2 * N
-    back-lt = walks.rev-lt N (step w d) on
-
-    pub segment-of : SegmentOf w d
-    segment-of = record {
-      back-slot = back-slot;
-      back-end = back-half;
-      on-slot = contained (edge w (d / 2)) (slot w d) (slot-has w d l);
-      back-on = rw back-slot at (contained (edge w (rev (step w d) / 2)) (slot w (rev (step w d))) (slot-has w (rev (step w d)) back-lt));
-    }
-
-    -- the next dart's edge is on the slot, and the next dart leaves by its other
-    next-on : contains (edge w (step w d / 2)) (slot w d) ≡ true
-    next-on = rw (walks.half-rev (step w d)) at (segment-of .back-on)
-
-    next-apart : slot w d ≢ slot w (step w d)
-    next-apart e = slots-apart (step w d) on (back-slot ∙ e)
-
   module _ (p : ℕ) (l : p < N) (three : loopSize w p ≡ 3) where
     d0 : ℕ
     d0 = dart w p 0
@@ -154,12 +106,12 @@ module _ (w : ℕ → ℕ) where
     between : (d e : ℕ) → d < 2 * N → e < 2 * N → e ≡ step w d → edge w (e / 2) ≡ edgeIn (slot w d) (slot w e)
     between d e ld le q =
         let on : step w d < 2 * N = rw (← q) le in
-        let a = next-on d ld on in
+        let a = next-on w d ld on in
         shared (slot w d) (slot w e) (edge w (e / 2)) (slot-has w d ld .lt) (slot-has w e le .lt) (row-lt w 6 (e / 2) (omega arith))
-        (λ f. next-apart d ld on (f ∙ ap (slot w) q)) (rw (← q) at a) (contained (edge w (e / 2)) (slot w e) (slot-has w e le))
+        (λ f. next-apart w d ld on (f ∙ ap (slot w) q)) (rw (← q) at a) (contained (slot-has w e le))
 
     apart : (d e : ℕ) → d < 2 * N → e < 2 * N → e ≡ step w d → slot w d ≢ slot w e
-    apart d e ld le q f = next-apart d ld (rw (← q) le) (f ∙ ap (slot w) q)
+    apart d e ld le q f = next-apart w d ld (rw (← q) le) (f ∙ ap (slot w) q)
 
     l0 : d0 < 2 * N
     unfolding d0

@@ -8,3 +8,4 @@ pub mod Walked
 pub mod Round
 pub mod Answer
 pub mod Claims
+pub mod Examples

@@ -123,13 +123,13 @@ const LINKS: [usize; 108] = [
     2,
 ];
 
-pub fn wide8(x: u8) -> usize
+pub(crate) fn wide8(x: u8) -> usize
     ensures { λ r. ⌜ (r ≡ x) × (r < 256) ⌝ }
 {
     x as usize
 }
 
-pub fn wide16(x: u16) -> usize
+pub(crate) fn wide16(x: u16) -> usize
     ensures { λ r. ⌜ (r ≡ x) × (r < startLimit) ⌝ }
 {
     x as usize
@@ -149,7 +149,7 @@ fn start_of(c: Cell, e: usize) -> u16
     c.starts[e]
 }
 
-pub fn count_at(c: Cell, e: usize) -> usize
+pub(crate) fn count_at(c: Cell, e: usize) -> usize
     requires { ⌜ e < 6 ⌝ }
     ensures { λ r. ⌜ r ≡ countOf c e ⌝ }
 {

@@ -77,7 +77,7 @@ fn between(c: Cell, routes: &[usize; 108], d: Dart) -> Next
 }
 
 // What follows a dart.
-pub fn next(c: Cell, routes: &[usize; 108], d: Dart) -> Next
+pub(crate) fn next(c: Cell, routes: &[usize; 108], d: Dart) -> Next
     requires { ⌜ Ready c (now routes) d ⌝ }
     ensures { λ r. ⌜ Onward (countOf c) d r ⌝ }
 {

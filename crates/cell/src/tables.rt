@@ -9,7 +9,7 @@ const EDGE: [usize; 12] = [3, 4, 5, 1, 2, 5, 0, 2, 4, 0, 1, 3];
 const FIRST: [usize; 6] = [9, 10, 7, 11, 8, 5];
 
 // The edge of a half-edge.
-pub fn edge_of(h: usize) -> usize
+pub(crate) fn edge_of(h: usize) -> usize
     requires { ⌜ h < halfEdges ⌝ }
     ensures { λ r. ⌜ (r ≡ edgeOf h) × (r < 6) ⌝ }
 {
@@ -17,7 +17,7 @@ pub fn edge_of(h: usize) -> usize
 }
 
 // The half-edge of an edge in its first slot.
-pub fn first_of(e: usize) -> usize
+pub(crate) fn first_of(e: usize) -> usize
     requires { ⌜ e < 6 ⌝ }
     ensures { λ r. ⌜ (r ≡ halfOf (firstSlot e) e) × (r < halfEdges) ⌝ }
 {

@@ -1,5 +1,4 @@
 pub mod Joins
-pub mod Names
 pub mod Progress
 pub mod Askings
 pub mod Tables

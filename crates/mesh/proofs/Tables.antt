@@ -1,24 +1,20 @@
 -- The tables of an accepted grid give its cells.
-use Prim.Native.Nat.{ℕ, zero, suc, _+_, _*_, _-_, _/_, _%_, _≤_, _<_}
-use mathlib.Core.Path.{_≡_, refl, sym, ap, ap₂, _∙_, subst}
-use mathlib.Core.Bool.{Bool, true, false}
+use Prim.Native.Nat.{ℕ, _+_, _*_, _-_, _/_, _%_, _<_}
+use mathlib.Core.Path.{_≡_, ap, ap₂, _∙_}
+use mathlib.Core.Bool.{true}
 use mathlib.Core.List.{List, [], _∷_}
 use native.Mathlib.Omega.{arith}
-use lib.Dec.{eqb}
 use lib.ListN.{length, getD}
-use Rattle.answer.specs.Answer.{result}
 use Rattle.counting.specs.Pick.{pick}
-use Rattle.counting.specs.Range.{over}
 use Rattle.counting.proofs.Range.{over-ext}
 use Rattle.counting.proofs.Pack.{pre-le}
-use Rattle.grid.specs.Grid.{cellCount, node, faceName, edgeNumber, countOf, start, crossings}
-use Rattle.grid.specs.Rows.{gridAnswer}
+use Rattle.grid.specs.Grid.{cellCount, node, faceName, edgeNumber, countOf, start}
 use Rattle.grid.specs.Accepted.{Accepted}
 use Rattle.grid.specs.Tables.{filled, accepts, Opened, nameAt, sideAt}
 use Rattle.grid.proofs.Filled.{filled-at}
 use Rattle.triangle.specs.Triangles.{cellTriangles}
 use Rattle.mesh.specs.Mesh.{values, gridCell, meshTriangles}
-use Rattle.mesh.specs.Table.{ofEdges, ofFour, side, tableCell, tableTriangles, tableLoop, Edged, Started, Reaches, Laid}
+use Rattle.mesh.specs.Table.{ofEdges, ofFour, side, tableCell, tableTriangles, tableLoop, Laid}
 use Rattle.mesh.specs.Asked.{askedLoop}
 use Rattle.mesh.proofs.Askings.{asked-ext}
 

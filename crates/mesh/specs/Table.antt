@@ -1,6 +1,5 @@
 -- A cell of a grid from the grid's tables.
 use Prim.Native.Nat.{ℕ, _+_, _*_, _≤_, _<_}
-use mathlib.Core.Path.{_≡_}
 use mathlib.Core.List.{List}
 use lib.ListN.{getD, length}
 use Rattle.counting.specs.Range.{over}

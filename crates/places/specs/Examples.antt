@@ -120,6 +120,15 @@ eight =
     ∷ bits 0x3fef333333333334 ∷ bits 0x3ffb70a3d70a3d70 ∷ bits 0xbfc47ae147ae147a
     ∷ bits 0x3fcb47ae147ae149 ∷ bits 0x3ffadeb851eb851f ∷ bits 0xbfd6f5c28f5c28f7 ∷ []
 
+abbrev five : List Float
+five =
+    bits 0x3fd199999999999a ∷ bits 0xbffa28f5c28f5c29 ∷ bits 0x40047ae147ae147b
+    ∷ bits 0x3fedeb851eb851ec ∷ bits 0x40043d70a3d70a3d ∷ bits 0x4001147ae147ae14
+    ∷ bits 0xbfe6e147ae147ae4 ∷ bits 0xbfc5c28f5c28f5e0 ∷ bits 0xbfe07ae147ae147c
+    ∷ bits 0x3ff47ae147ae147b ∷ bits 0x3ff451eb851eb852 ∷ bits 0x4001c28f5c28f5c2
+    ∷ bits 0xc0000a3d70a3d70b ∷ bits 0xc004ae147ae147ae ∷ bits 0xc00551eb851eb852
+    ∷ bits 0xbfa78d4fdf3b6466 ∷ bits 0xbfbe353f7ced9173 ∷ bits 0x3fe7e76c8b43957e ∷ []
+
 abbrev twoFans : List Float
 twoFans =
     bits 0x3fe2666666666666 ∷ bits 0xbffc666666666666 ∷ bits 0x4003333333333333
@@ -188,6 +197,8 @@ examples =
     ∷ cell (2 ∷ 2 ∷ 0 ∷ 0 ∷ 0 ∷ 0 ∷ []) someNodes (twentieths 5 ∷ twentieths 15 ∷ twentieths 6 ∷ twentieths 16 ∷ []) 15 (result (5 ∷ [])) foldedQuad
     -- eight points: the middle's three numbers differ where the points are added from the last down, or by crossing number
     ∷ cell (2 ∷ 1 ∷ 1 ∷ 1 ∷ 1 ∷ 2 ∷ []) otherNodes (twentieths 8 ∷ twentieths 17 ∷ twentieths 16 ∷ twentieths 9 ∷ twentieths 16 ∷ twentieths 17 ∷ twentieths 12 ∷ twentieths 17 ∷ []) 30 (result (9 ∷ [])) eight
+    -- five points: the middle's three numbers differ too where the sum is multiplied by a fifth
+    ∷ cell (0 ∷ 0 ∷ 1 ∷ 2 ∷ 1 ∷ 1 ∷ []) someNodes (twentieths 1 ∷ twentieths 1 ∷ twentieths 11 ∷ twentieths 6 ∷ twentieths 1 ∷ []) 18 (result (6 ∷ [])) five
     -- an open curve: one point, no middle
     ∷ onTwo 1 0 (half ∷ []) (result (1 ∷ [])) (replicate 3 (floatOf 0))
     -- middles by cell, not by crossing number

@@ -1,0 +1,95 @@
+use mathlib.Core.Path.{refl, sym, ap, _∙_}
+use native.Mathlib.Omega.{arith}
+use lib.Seq.{length-take-le}
+use Rattle.bundle.specs.Bundle.{contentsNumbers}
+use Rattle.listing.specs.Listing.{roomBytes}
+use Rattle.listing.proofs.Stores.{wider, renamed}
+use Rattle.listing.proofs.Bundles.{read-refused, few-cells, few-edges, nodes-front, ends-front, counts-front, read-listed, too-long, all-listed}
+use borrow.Author.Needs.{needs}
+use Rattle.listing.proofs.list.Statement.{statement}
+use Rattle.listing.proofs.list.Tie as tie
+
+put-refused-requires : tie.Need-put-refused-requires
+put-refused-requires c κs = search needs
+
+returns : tie.Need-returns
+returns c = all-listed (c .before .before .before .before .args .bytes .now) (wider (c .put-refused .ensures) roomBytes (omega arith)) (too-long (c .before .before .before .before .args .bytes .now) (c .before .before .if1 .taken)) (search needs)
+
+slice-aggregate-read : tie.Need-slice-aggregate-read
+slice-aggregate-read c = search needs
+
+slice-aggregate-read-2 : tie.Need-slice-aggregate-read-2
+slice-aggregate-read-2 c = search needs
+
+slice-aggregate-read-3 : tie.Need-slice-aggregate-read-3
+slice-aggregate-read-3 c = search needs
+
+read-requires : tie.Need-read-requires
+read-requires c κs = search needs
+
+enum-known-row : tie.Need-enum-known-row
+enum-known-row c = search needs
+
+put-refused-requires-2 : tie.Need-put-refused-requires-2
+put-refused-requires-2 c κs = search needs
+
+enum-known-cells : tie.Need-enum-known-cells
+enum-known-cells c = search needs
+
+mul-n : tie.Need-mul-n
+mul-n c = omega (arith, few-cells (c .before .before .before .before .before .before .before .before .before .before .before .before .args .bytes .now) (c .before .before .before .before .before .before .before .before .before .before .if1 .left) _ _ (sym (ap contentsNumbers (c .before .cells .given .1)) ∙ c .before .before .before .before .before .before .read .ensures .0))
+
+mul-m : tie.Need-mul-m
+mul-m c = omega (arith, few-edges (c .before .before .before .before .before .before .before .before .before .before .before .before .args .bytes .now) (c .before .before .before .before .before .before .before .before .before .before .if1 .left) _ _ (sym (ap contentsNumbers (c .before .cells .given .1)) ∙ c .before .before .before .before .before .before .read .ensures .0))
+
+array-share-prefix-nodes : tie.Need-array-share-prefix-nodes
+array-share-prefix-nodes c = omega (arith, few-cells (c .before .before .before .before .before .before .before .before .before .before .before .before .args .bytes .now) (c .before .before .before .before .before .before .before .before .before .before .if1 .left) _ _ (sym (ap contentsNumbers (c .before .cells .given .1)) ∙ c .before .before .before .before .before .before .read .ensures .0))
+
+slice-aggregate-list-grid : tie.Need-slice-aggregate-list-grid
+slice-aggregate-list-grid c = sym (length-take-le _ _ (omega (arith, few-cells (c .before .before .before .before .before .before .before .before .before .before .before .before .before .args .bytes .now) (c .before .before .before .before .before .before .before .before .before .before .before .if1 .left) _ _ (sym (ap contentsNumbers (c .before .before .cells .given .1)) ∙ c .before .before .before .before .before .before .before .read .ensures .0))))
+
+array-share-prefix-ends : tie.Need-array-share-prefix-ends
+array-share-prefix-ends c = omega (arith, few-edges (c .before .before .before .before .before .before .before .before .before .before .before .before .before .args .bytes .now) (c .before .before .before .before .before .before .before .before .before .before .before .if1 .left) _ _ (sym (ap contentsNumbers (c .before .before .cells .given .1)) ∙ c .before .before .before .before .before .before .before .read .ensures .0))
+
+slice-aggregate-list-grid-2 : tie.Need-slice-aggregate-list-grid-2
+slice-aggregate-list-grid-2 c = sym (length-take-le _ _ (omega (arith, few-edges (c .before .before .before .before .before .before .before .before .before .before .before .before .before .before .args .bytes .now) (c .before .before .before .before .before .before .before .before .before .before .before .before .if1 .left) _ _ (sym (ap contentsNumbers (c .before .before .before .cells .given .1)) ∙ c .before .before .before .before .before .before .before .before .read .ensures .0))))
+
+array-share-prefix-counts : tie.Need-array-share-prefix-counts
+array-share-prefix-counts c = omega (arith, few-edges (c .before .before .before .before .before .before .before .before .before .before .before .before .before .before .args .bytes .now) (c .before .before .before .before .before .before .before .before .before .before .before .before .if1 .left) _ _ (sym (ap contentsNumbers (c .before .before .before .cells .given .1)) ∙ c .before .before .before .before .before .before .before .before .read .ensures .0))
+
+slice-aggregate-list-grid-3 : tie.Need-slice-aggregate-list-grid-3
+slice-aggregate-list-grid-3 c = sym (length-take-le _ _ (omega (arith, few-edges (c .before .before .before .before .before .before .before .before .before .before .before .before .before .before .before .args .bytes .now) (c .before .before .before .before .before .before .before .before .before .before .before .before .before .if1 .left) _ _ (sym (ap contentsNumbers (c .before .before .before .before .cells .given .1)) ∙ c .before .before .before .before .before .before .before .before .before .read .ensures .0))))
+
+list-grid-requires : tie.Need-list-grid-requires
+list-grid-requires c κs = search needs
+
+returns-2 : tie.Need-returns-2
+returns-2 c = all-listed (c .before .before .before .before .before .before .before .before .before .before .before .before .before .before .args .bytes .now) (wider (c .put-refused2 .ensures) roomBytes (omega arith)) (read-refused (c .before .before .before .before .before .before .before .before .before .before .before .before .before .before .args .bytes .now) (c .before .before .before .before .before .before .before .before .before .before .before .before .if1 .left) _ _ (sym (ap contentsNumbers (c .before .before .before .row .given .1)) ∙ c .before .before .before .before .before .before .before .before .read .ensures .0)) (search needs)
+
+returns-3 : tie.Need-returns-3
+returns-3 c = all-listed (c .before .before .before .before .before .before .before .before .before .before .before .before .before .before .before .before .before .args .bytes .now) (c .list-grid .ensures) (read-listed (c .before .before .before .before .before .before .before .before .before .before .before .before .before .before .before .before .before .args .bytes .now) (c .before .before .before .before .before .before .before .before .before .before .before .before .before .before .before .if1 .left) _ _ (sym (ap contentsNumbers (c .before .before .before .before .before .before .cells .given .1)) ∙ c .before .before .before .before .before .before .before .before .before .before .before .read .ensures .0) _ _ _ (nodes-front (c .before .before .before .before .before .before .before .before .before .before .before .before .before .before .before .before .before .args .bytes .now) (c .before .before .before .before .before .before .before .before .before .before .before .before .before .before .before .if1 .left) _ _ (sym (ap contentsNumbers (c .before .before .before .before .before .before .cells .given .1)) ∙ c .before .before .before .before .before .before .before .before .before .before .before .read .ensures .0) _ _ (c .before .before .before .before .before .before .before .before .before .before .before .read .ensures .1 .0)) (ends-front (c .before .before .before .before .before .before .before .before .before .before .before .before .before .before .before .before .before .args .bytes .now) (c .before .before .before .before .before .before .before .before .before .before .before .before .before .before .before .if1 .left) _ _ (sym (ap contentsNumbers (c .before .before .before .before .before .before .cells .given .1)) ∙ c .before .before .before .before .before .before .before .before .before .before .before .read .ensures .0) _ _ (c .before .before .before .before .before .before .before .before .before .before .before .read .ensures .1 .1 .0)) (counts-front (c .before .before .before .before .before .before .before .before .before .before .before .before .before .before .before .before .before .args .bytes .now) (c .before .before .before .before .before .before .before .before .before .before .before .before .before .before .before .if1 .left) _ _ (sym (ap contentsNumbers (c .before .before .before .before .before .before .cells .given .1)) ∙ c .before .before .before .before .before .before .before .before .before .before .before .read .ensures .0) _ _ (c .before .before .before .before .before .before .before .before .before .before .before .read .ensures .1 .1 .1))) (search needs)
+
+pub list-spec : {M : Type 1} → statement M
+list-spec =
+    tie.close
+    (tie.spec
+    put-refused-requires
+    returns
+    slice-aggregate-read
+    slice-aggregate-read-2
+    slice-aggregate-read-3
+    read-requires
+    enum-known-row
+    put-refused-requires-2
+    enum-known-cells
+    mul-n
+    mul-m
+    array-share-prefix-nodes
+    slice-aggregate-list-grid
+    array-share-prefix-ends
+    slice-aggregate-list-grid-2
+    array-share-prefix-counts
+    slice-aggregate-list-grid-3
+    list-grid-requires
+    returns-2
+    returns-3)

@@ -1,0 +1,21 @@
+use borrow.Author.Needs.{needs}
+use native.Mathlib.Omega.{arith}
+use Rattle.listing.proofs.Digits.{decimal-64}
+use Rattle.listing.proofs.Numbers.{named-stored}
+use Rattle.listing.proofs.text.put_named.Statement.{statement}
+use Rattle.listing.proofs.text.put_named.Tie as tie
+
+put-requires : tie.Need-put-requires
+put-requires c κs = search needs
+
+put-number-requires : tie.Need-put-number-requires
+put-number-requires c κs = omega (arith, decimal-64 (c .before .before .before .before .before .before .before .args .n) (omega arith))
+
+same-length : tie.Need-same-length
+same-length c = search needs
+
+returns : tie.Need-returns
+returns c = named-stored (c .before .before .before .before .before .before .before .before .before .before .args .label .now) (c .before .before .before .before .before .before .before .before .before .before .args .n) (omega arith) (c .before .before .before .before .before .before .put .ensures) (c .before .before .put-number .ensures)
+
+pub put-named-spec : {M : Type 1} → statement M
+put-named-spec = tie.close (tie.spec put-requires put-number-requires same-length returns)

@@ -1,0 +1,68 @@
+// The listing of a bundle: the text that the program meshlist prints.
+ghost use mathlib.Core.Path.{_≡_};
+ghost use Prim.Native.Nat.{_≤_};
+ghost use lib.ListN.{length};
+ghost use Rattle.listing.specs.Text.{refusedLine};
+ghost use Rattle.listing.specs.Stored.{Stored, Heard};
+ghost use Rattle.listing.specs.Listing.{roomBytes, gridListing, listing, Listed};
+use bundle::Contents;
+use grid::Checked;
+use mesh::Meshed;
+
+mod lines;
+mod text;
+
+// The most bytes of a bundle, and the words of an area for 1,489 triangles.
+pub const MOST_BYTES: usize = 32768;
+
+const AREA: usize = 11 * 1489;
+
+// Bytes for the longest listing: a first line of 116, and 1,489 lines of 123.
+pub const ROOM: usize = 116 + 123 * 1489;
+
+// The listing of a grid that the check accepts with so many crossings. About 64 KB of stack, besides what `mesh::mesh` keeps.
+fn list_mesh(nodes: &[u16], ends: &[u16], counts: &[u8], crossings: u32, out: &mut [u8]) -> usize
+    requires { ⌜ Heard (now nodes) (now ends) (now counts) crossings (now out) ⌝ }
+    ensures { λ r. ⌜ Stored roomBytes (gridListing (now (nodes .entry)) (now (ends .entry)) (now (counts .entry))) (now (out .entry)) 0 (now (out .exit)) r ⌝ }
+{
+    let mut area = [0u32; AREA];
+    match mesh::mesh(nodes, ends, counts, &mut area) {
+        Meshed::Refused(row, place) => lines::put_refused(out, row, place),
+        Meshed::Triangles(n) => {
+            let at = lines::put_head(out, nodes.len() / 4, counts.len(), crossings, n);
+            lines::put_lines(out, at, &area, n)
+        }
+    }
+}
+
+// The listing of a grid.
+fn list_grid(nodes: &[u16], ends: &[u16], counts: &[u8], out: &mut [u8]) -> usize
+    requires { ⌜ roomBytes ≤ length (now out) ⌝ }
+    ensures { λ r. ⌜ Stored roomBytes (gridListing (now (nodes .entry)) (now (ends .entry)) (now (counts .entry))) (now (out .entry)) 0 (now (out .exit)) r ⌝ }
+{
+    match grid::check(nodes, ends, counts) {
+        Checked::Refused(row, place) => lines::put_refused(out, row, place),
+        Checked::Crossings(x) => list_mesh(nodes, ends, counts, x, out),
+    }
+}
+
+// Puts the listing of any bytes at the front of the area, and answers how many bytes it has. Keeps 40 KB on the stack, besides what the mesh call and
+// the check keep.
+pub fn list(bytes: &[u8], out: &mut [u8; ROOM]) -> usize
+    ensures { λ r. ⌜ Listed (now (bytes .entry)) (now (out .entry)) (now (out .exit)) r ⌝ }
+{
+    if MOST_BYTES < bytes.len() {
+        return lines::put_refused(out, 13, MOST_BYTES);
+    }
+    let mut nodes = [0u16; 10920];
+    let mut ends = [0u16; 7280];
+    let mut counts = [0u8; 3640];
+    match bundle::read(bytes, &mut nodes, &mut ends, &mut counts) {
+        Contents::Refused(row, place) => lines::put_refused(out, row, place),
+        Contents::Lists(cells, edges) => {
+            let n = 4 * cells;
+            let m = 2 * edges;
+            list_grid(&nodes[..n], &ends[..m], &counts[..edges], out)
+        }
+    }
+}
