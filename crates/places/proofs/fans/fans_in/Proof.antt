@@ -29,7 +29,7 @@ loop-holds : tie.Need-loop-holds Inv-loop μ-loop
 loop-holds c = (going-start (c .before .before .before .crossings-of .ensures) (c .before .before .routes-of .ensures) (c .before .before .before .before .pre) (c .clear .ensures), counting-none _)
 
 walk-requires : tie.Need-walk-requires Inv-loop μ-loop
-walk-requires c κs = let l = c .before .before .before .before .before .loop in (l .inv .0 .routed, (going-in (l .inv .0) (omega arith), (l .inv .0 .marked, l .inv .0 .scratch)))
+walk-requires c κs = let l = c .before .before .before .before .before .loop in record { routed = l .inv .0 .routed; inside = going-in (l .inv .0) (omega arith); marked = l .inv .0 .marked; scratch = l .inv .0 .scratch }
 
 fan-of-requires : tie.Need-fan-of-requires Inv-loop μ-loop
 fan-of-requires c κs = walked-traced (going-in (c .before .before .before .before .before .before .before .loop .inv .0) (omega arith)) (c .before .walk .ensures)

@@ -28,7 +28,7 @@ loop-holds : tie.Need-loop-holds Inv-loop μ-loop
 loop-holds c = (going-start (c .before .before .before .crossings-of .ensures) (c .before .before .routes-of .ensures) (c .before .before .before .before .before .pre .0) (c .clear .ensures), writing-none _ _ _ _)
 
 walk-requires : tie.Need-walk-requires Inv-loop μ-loop
-walk-requires c κs = let l = c .before .before .before .before .before .loop in (l .inv .0 .routed, (going-in (l .inv .0) (omega arith), (l .inv .0 .marked, l .inv .0 .scratch)))
+walk-requires c κs = let l = c .before .before .before .before .before .loop in record { routed = l .inv .0 .routed; inside = going-in (l .inv .0) (omega arith); marked = l .inv .0 .marked; scratch = l .inv .0 .scratch }
 
 put-middle-requires : tie.Need-put-middle-requires Inv-loop μ-loop
 put-middle-requires c κs = let l = c .before .before .before .before .before .before .before .before .before .loop in let a = c .before .before .before .before .before .before .before .before .before .before .before .before .before .before .before .args in loop-room (a .c) (now (a .area)) (a .at) (c .before .before .before .before .before .before .before .before .before .before .before .before .before .before .before .pre .1) (l .inv .0 .all) (l .inv .1) (omega arith) (c .before .before .before .walk .ensures)
