@@ -9,3 +9,4 @@ pub mod Shut
 pub mod Demand
 pub mod Examples
 pub mod Premises
+pub mod Claims

@@ -139,8 +139,8 @@ twoCounts = 2 ∷ 0 ∷ 0 ∷ 0 ∷ 0 ∷ 1 ∷ 0 ∷ 1 ∷ 1 ∷ []
 abbrev cornerCounts : List ℕ
 cornerCounts = 1 ∷ 1 ∷ 1 ∷ 0 ∷ 0 ∷ 0 ∷ []
 
-abbrev spiralCounts : List ℕ
-spiralCounts = 3 ∷ 1 ∷ 1 ∷ 0 ∷ 0 ∷ 0 ∷ []
+abbrev twoLoopCounts : List ℕ
+twoLoopCounts = 3 ∷ 1 ∷ 1 ∷ 0 ∷ 0 ∷ 0 ∷ []
 
 unfoldable pub examples : List Example
 examples =
@@ -191,7 +191,7 @@ examples =
     0 ∷ 0 ∷ 3 ∷ 1 ∷ noName ∷ 3 ∷ 1 ∷ noName ∷ 3 ∷ noName ∷ 2 ∷
     0 ∷ 0 ∷ 1 ∷ 0 ∷ noName ∷ 2 ∷ 0 ∷ noName ∷ 0 ∷ noName ∷ 3 ∷ []) (4 ∷ 4 ∷ 4 ∷ [])
     -- two loops, by p0; the second is contractible, though the cell's counts 3 1 1 are odd
-    ∷ grid cell six spiralCounts (result (5 ∷ [])) (result (0 ∷ 3 ∷ 1 ∷ 3 ∷ 0 ∷ []) ∷ result (1 ∷ 2 ∷ 0 ∷ 0 ∷ []) ∷ no ∷ [])
+    ∷ grid cell six twoLoopCounts (result (5 ∷ [])) (result (0 ∷ 3 ∷ 1 ∷ 3 ∷ 0 ∷ []) ∷ result (1 ∷ 2 ∷ 0 ∷ 0 ∷ []) ∷ no ∷ [])
     ((0 ∷ 3 ∷ 4 ∷ []) ∷ (1 ∷ 2 ∷ []) ∷ [])
     (0 ∷ 0 ∷ 0 ∷ 3 ∷ 4 ∷ 3 ∷ 0 ∷ 1 ∷ 3 ∷ 2 ∷ 0 ∷
     0 ∷ 1 ∷ 1 ∷ 2 ∷ noName ∷ 3 ∷ 1 ∷ noName ∷ 1 ∷ noName ∷ 0 ∷
@@ -213,8 +213,8 @@ examples =
     ∷ join 255 255 255 0 126 (joined 1 126) ∷ join 255 255 255 0 127 unjoined ∷ join 255 255 255 0 128 (joined 2 126)
     ∷ join 255 0 0 0 0 unjoined ∷ join 255 0 0 0 254 (joined 0 253) ∷ join 255 255 0 0 254 (joined 1 254) ∷ join 0 255 255 2 0 (joined 1 0)
     -- a triangle of a cell: the second, and one too many
-    ∷ nth cell six spiralCounts 0 1 (result (0 ∷ 1 ∷ 1 ∷ 2 ∷ noName ∷ 3 ∷ 1 ∷ noName ∷ 1 ∷ noName ∷ 0 ∷ []))
-    ∷ nth cell six spiralCounts 0 3 no ∷ nth cell six cornerCounts 0 18446744073709551615 no
+    ∷ nth cell six twoLoopCounts 0 1 (result (0 ∷ 1 ∷ 1 ∷ 2 ∷ noName ∷ 3 ∷ 1 ∷ noName ∷ 1 ∷ noName ∷ 0 ∷ []))
+    ∷ nth cell six twoLoopCounts 0 3 no ∷ nth cell six cornerCounts 0 18446744073709551615 no
     -- the mesh call: words beyond the mesh keep their values; 10 words for 1 triangle are left as they were, and so are 65 words for 6 triangles,
     -- where five fit; a refused grid comes first
     ∷ mesh cell six cornerCounts (replicate 13 9) (result (1 ∷ [])) (0 ∷ 0 ∷ 0 ∷ 1 ∷ 2 ∷ 3 ∷ 0 ∷ 1 ∷ 1 ∷ 2 ∷ 0 ∷ 9 ∷ 9 ∷ [])
@@ -222,8 +222,8 @@ examples =
     ∷ mesh threeCells threeEdges threeCounts (replicate 65 9) (refusal 12 6) (replicate 65 9)
     ∷ mesh cell [] cornerCounts [] (refusal 2 0) []
     -- the loops call: loop after loop, none after the last; a later cell; cell 1 of 1; a refused grid comes first
-    ∷ loop cell six spiralCounts 0 0 (result (0 ∷ 3 ∷ 1 ∷ 3 ∷ 0 ∷ [])) ∷ loop cell six spiralCounts 0 1 (result (1 ∷ 2 ∷ 0 ∷ 0 ∷ []))
-    ∷ loop cell six spiralCounts 0 2 no ∷ loop cell six spiralCounts 0 18446744073709551615 no
+    ∷ loop cell six twoLoopCounts 0 0 (result (0 ∷ 3 ∷ 1 ∷ 3 ∷ 0 ∷ [])) ∷ loop cell six twoLoopCounts 0 1 (result (1 ∷ 2 ∷ 0 ∷ 0 ∷ []))
+    ∷ loop cell six twoLoopCounts 0 2 no ∷ loop cell six twoLoopCounts 0 18446744073709551615 no
     ∷ loop twoCells twoEdges twoCounts 1 0 (result (2 ∷ 3 ∷ 1 ∷ 1 ∷ 4 ∷ [])) ∷ loop twoCells twoEdges twoCounts 1 1 no
     ∷ loop twoCells twoEdges twoCounts 18446744073709551615 0 (refusal 11 18446744073709551615)
     ∷ loop cell six cornerCounts 1 0 (refusal 11 1)

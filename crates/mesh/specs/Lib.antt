@@ -8,3 +8,4 @@ pub mod Numbers
 pub mod Demand
 pub mod Done
 pub mod Examples
+pub mod Claims
