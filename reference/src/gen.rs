@@ -260,6 +260,14 @@ pub fn cone(size: BoxSize) -> Sample {
     Sample::from_cells(faces.map(|[a, b, c]| [a, b, c, hub]))
 }
 
+/// A box of six with cells all round it, from one further node to each of its
+/// faces that only one cell has: every face is in two cells.
+pub fn sphere(size: BoxSize) -> Sample {
+    let mut cells = box_of_six(size).cell_list();
+    cells.extend(cone(size).cell_list());
+    Sample::from_cells(cells)
+}
+
 /// Cells that share nothing.
 pub fn separate(cells: u16) -> Sample {
     Sample::from_cells((0..cells).map(|k| [0, 1, 2, 3].map(|place| 4 * k + place)))

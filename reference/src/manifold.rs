@@ -2,7 +2,7 @@
 //! each side is used, whether the triangles round each point form one ring,
 //! and whether the segments of each face keep apart.
 
-use std::collections::{BTreeMap, BTreeSet, HashMap};
+use std::collections::{BTreeMap, BTreeSet, HashMap, HashSet};
 
 use crate::cell::{NO_NUMBER, TRIANGLE_WORDS};
 use crate::face::{join, Join};
@@ -81,15 +81,15 @@ fn read_piece(words: &[u32]) -> Piece {
 /// The triangles of a mesh, found by side and by point.
 struct Pieces {
     all: Vec<Piece>,
-    by_side: BTreeMap<SideKey, Vec<usize>>,
-    by_point: BTreeMap<PointKey, Vec<usize>>,
+    by_side: HashMap<SideKey, Vec<usize>>,
+    by_point: HashMap<PointKey, Vec<usize>>,
 }
 
 impl Pieces {
     fn new(words: &[u32]) -> Pieces {
         let all: Vec<Piece> = words.chunks_exact(TRIANGLE_WORDS).map(read_piece).collect();
-        let mut by_side: BTreeMap<SideKey, Vec<usize>> = BTreeMap::new();
-        let mut by_point: BTreeMap<PointKey, Vec<usize>> = BTreeMap::new();
+        let mut by_side: HashMap<SideKey, Vec<usize>> = HashMap::new();
+        let mut by_point: HashMap<PointKey, Vec<usize>> = HashMap::new();
         for (number, piece) in all.iter().enumerate() {
             for turn in 0..3 {
                 by_side.entry(piece.sides[turn]).or_default().push(number);
@@ -130,7 +130,7 @@ impl Pieces {
         };
         let first = around[0];
         let [mut side, last_side] = self.sides_at(first, point);
-        let mut visited = BTreeSet::from([first]);
+        let mut visited = HashSet::from([first]);
         let mut here = first;
         loop {
             match self.across(here, side) {
@@ -288,7 +288,7 @@ fn inspect_sides(pieces: &Pieces, report: &mut Report) {
 }
 
 fn inspect_segments(faces: &Faces, pieces: &Pieces, report: &mut Report) {
-    let mut real = BTreeSet::new();
+    let mut real = HashSet::new();
     for &name in faces.named.keys() {
         report.alternating_faces += usize::from(alternates(faces.counts(name)));
         for [lower, higher] in faces.segments(name) {

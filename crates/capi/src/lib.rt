@@ -1,6 +1,7 @@
 // The calls for C programs. Each puts the numbers of its answer at the front of a lent area and returns how many they are; an area that is too
 // short for them is left as it was. No pointer is kept.
 ghost use mathlib.Core.Path.{_≡_};
+ghost use mathlib.Core.List.{_∷_};
 ghost use lib.ListN.{length};
 ghost use Rattle.capi.specs.Written.{Answers, bodyNumbers};
 ghost use Rattle.bundle.specs.Record.{recordAnswer};
@@ -8,11 +9,21 @@ ghost use Rattle.bundle.specs.Bundle.{isTaken, readAnswer, nodesOf, endsOf, cou
 ghost use Rattle.bundle.specs.Written.{bundleBytes, isWritten, writeAnswer};
 ghost use Rattle.face.specs.Face.{faceJoin};
 ghost use Rattle.grid.specs.Rows.{gridAnswer};
+ghost use Rattle.counting.specs.Pick.{pick, one};
+ghost use Rattle.answer.specs.Answer.{result};
+ghost use Rattle.cell.specs.Answer.{typeNumbers, loopNumbers};
+ghost use Rattle.mesh.specs.Answer.{meshAnswer, meshArea, loopsAnswer};
+ghost use Rattle.places.specs.Answer.{placesAnswer, placesArea};
 use bundle::Contents;
 use bundle::Record;
 use bundle::Written;
+use cell::Loop;
+use cell::LoopType;
 use face::Join;
 use grid::Checked;
+use mesh::Looped;
+use mesh::Meshed;
+use places::Placed;
 
 // Puts the numbers of an answer at the front of the area, and returns how many they are.
 fn put(answer: &mut [u64], numbers: &[u64]) -> usize
@@ -62,6 +73,102 @@ pub extern "C" fn citternblaze_check(
     match grid::check(cells, edges, counts) {
         Checked::Crossings(n) => put(answer, &[0, n as u64]),
         Checked::Refused(row, place) => put(answer, &[row as u64, place as u64]),
+    }
+}
+
+// The mesh call: 0 and the number of triangles, or the number and the place of a refusal, which leaves the area as it is.
+#[no_mangle]
+pub extern "C" fn citternblaze_mesh(
+    cells: &[u16],
+    edges: &[u16],
+    counts: &[u8],
+    area: &mut [u32],
+    answer: &mut [u64],
+) -> usize
+    ensures answer { λ r. ⌜ Answers (meshAnswer (now (cells .entry)) (now (edges .entry)) (now (counts .entry)) (length (now (area .entry)))) (now (answer .entry)) (now (answer .exit)) r ⌝ }
+    ensures area { λ r. ⌜ now (area .exit) ≡ meshArea (now (cells .entry)) (now (edges .entry)) (now (counts .entry)) (now (area .entry)) ⌝ }
+{
+    match mesh::mesh(cells, edges, counts, area) {
+        Meshed::Triangles(n) => put(answer, &[0, n as u64]),
+        Meshed::Refused(row, place) => put(answer, &[row as u64, place as u64]),
+    }
+}
+
+fn number_of(b: bool) -> u64
+    ensures { λ r. ⌜ r ≡ one b ⌝ }
+{
+    if b { 1 } else { 0 }
+}
+
+// The type's number of a corner, at the cell's lowest node or at another.
+fn corner_number(lowest: bool) -> u64
+    ensures { λ r. ⌜ r ≡ pick lowest 3 1 ⌝ }
+{
+    if lowest { 3 } else { 1 }
+}
+
+// Puts the numbers of a loop that there is.
+fn put_found(answer: &mut [u64], p0: u32, many: u32, normal: bool, of: LoopType) -> usize
+    ensures { λ r. ⌜ Answers (result (p0 ∷ many ∷ one normal ∷ typeNumbers of)) (now (answer .entry)) (now (answer .exit)) r ⌝ }
+{
+    let p = p0 as u64;
+    let n = many as u64;
+    let b = number_of(normal);
+    match of {
+        LoopType::Contractible => put(answer, &[0, p, n, b, 0]),
+        LoopType::Diagonal(v) => put(answer, &[0, p, n, b, 2, v as u64]),
+        LoopType::Corner(v, lowest) => {
+            let k = corner_number(lowest);
+            put(answer, &[0, p, n, b, k, v as u64])
+        }
+    }
+}
+
+fn put_loop(answer: &mut [u64], l: Loop) -> usize
+    ensures { λ r. ⌜ Answers (loopNumbers l) (now (answer .entry)) (now (answer .exit)) r ⌝ }
+{
+    match l {
+        Loop::Found(p, n, normal, of) => put_found(answer, p, n, normal, of),
+        Loop::Nothing => put(answer, &[0]),
+    }
+}
+
+// The loops call: 0, p0, the length, 1 for normal or 0, the type and its node; 0 alone where there is no such loop; or the number and the place of
+// a refusal.
+#[no_mangle]
+pub extern "C" fn citternblaze_loops(
+    cells: &[u16],
+    edges: &[u16],
+    counts: &[u8],
+    cell: usize,
+    index: usize,
+    answer: &mut [u64],
+) -> usize
+    ensures { λ r. ⌜ Answers (loopsAnswer (now (cells .entry)) (now (edges .entry)) (now (counts .entry)) cell index) (now (answer .entry)) (now (answer .exit)) r ⌝ }
+{
+    match mesh::loops(cells, edges, counts, cell, index) {
+        Looped::Told(l) => put_loop(answer, l),
+        Looped::Refused(row, place) => put(answer, &[row as u64, place as u64]),
+    }
+}
+
+// The places call: 0 and the number of points, or the number and the place of a refusal, which leaves the area as it is.
+#[no_mangle]
+pub extern "C" fn citternblaze_places(
+    cells: &[u16],
+    edges: &[u16],
+    counts: &[u8],
+    nodes: &[f64],
+    fractions: &[f64],
+    area: &mut [f64],
+    answer: &mut [u64],
+) -> usize
+    ensures answer { λ r. ⌜ Answers (placesAnswer (now (cells .entry)) (now (edges .entry)) (now (counts .entry)) (now (nodes .entry)) (now (fractions .entry)) (length (now (area .entry)))) (now (answer .entry)) (now (answer .exit)) r ⌝ }
+    ensures area { λ r. ⌜ now (area .exit) ≡ placesArea (now (cells .entry)) (now (edges .entry)) (now (counts .entry)) (now (nodes .entry)) (now (fractions .entry)) (now (area .entry)) ⌝ }
+{
+    match places::places(cells, edges, counts, nodes, fractions, area) {
+        Placed::Points(n) => put(answer, &[0, n as u64]),
+        Placed::Refused(row, place) => put(answer, &[row as u64, place as u64]),
     }
 }
 

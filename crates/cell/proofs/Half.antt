@@ -1,20 +1,20 @@
 -- What holds of every half-edge: one computed test, lifted to any of them.
-use Prim.Native.Nat.{ℕ, _+_, _*_, _/_, _%_, _<_}
-use mathlib.Core.Path.{_≡_, refl, sym, ap, _∙_}
+use Prim.Native.Nat.{ℕ, _+_, _*_, _<_}
+use mathlib.Core.Path.{_≡_, refl}
 use mathlib.Core.Logic.{_≢_}
 use mathlib.Core.Bool.{Bool, true, false, not, _&&_}
 use native.Mathlib.Omega.{arith}
 use mathlib.Core.List.{List}
 use lib.Dec.{eqb, ltb}
 use lib.ListN.{getD}
-use borrow.Author.Tests.{eqb-true, eqb-false, ltb-true, eq-eqb, ne-eqb}
+use borrow.Author.Tests.{eqb-true, ltb-true, eq-eqb, ne-eqb}
 use Rattle.counting.specs.Pick.{pick}
 use Rattle.counting.specs.Search.{every}
 use Rattle.counting.proofs.Bools.{and-left, and-right}
 use Rattle.counting.proofs.Search.{every-is}
-use Rattle.slots.specs.Slots.{slotEdge, place, contains, firstSlot, secondSlot}
-use Rattle.slots.proofs.Slots.{SlotEdge, slot-edge}
-use Rattle.cell.specs.Half.{halfEdges, slotOf, placeOf, edgeOf, halfOf, otherSlot, twin}
+use Rattle.slots.specs.Slots.{slotEdge, place, contains, firstSlot}
+use Rattle.slots.proofs.Slots.{slot-edge}
+use Rattle.cell.specs.Half.{halfEdges, slotOf, placeOf, edgeOf, twin}
 
 -- the half-edge that follows lies in the other slot of the same edge: the first if this one lies in the second
 twinTest : ℕ → Bool

@@ -7,3 +7,9 @@ pub mod Mates
 pub mod Walking
 pub mod Recording
 pub mod Loops
+pub mod Segments
+pub mod Follow
+pub mod Leasts
+pub mod Three
+pub mod Claims
+pub mod Examples

@@ -1,6 +1,6 @@
 -- The loops of a cell, and what is read of one from its record.
 use Prim.Native.Nat.{ℕ, zero, suc, _+_, _*_, _-_, _/_, _%_, _≤_, _<_}
-use mathlib.Core.Path.{_≡_, refl, sym, ap, ap₂, _∙_, subst}
+use mathlib.Core.Path.{_≡_, refl, sym, ap, ap₂, _∙_}
 use mathlib.Core.Logic.{_≢_, ⊎-elim}
 use mathlib.Core.Bool.{Bool}
 use mathlib.Core.List.{List, [], _∷_}
@@ -13,13 +13,12 @@ use lib.Seq.{drop-nil}
 use borrow.Author.Tests.{eq-eqb, ne-eqb}
 use Rattle.answer.specs.Answer.{result}
 use Rattle.counting.specs.Pick.{pick, one}
-use Rattle.counting.specs.Range.{total, over, after}
+use Rattle.counting.specs.Range.{total, over, after, before}
 use Rattle.counting.specs.Lists.{tally}
-use Rattle.counting.proofs.Range.{total-ext, total-next, after-last, after-on, after-lt, over-next, over-none}
-use Rattle.slots.specs.Slots.{slotEdge, place}
-use Rattle.slots.proofs.Slots.{EdgeSlot}
-use Rattle.walk.specs.Iterate.{it, orbit}
-use Rattle.walk.specs.Darts.{Loop, Lowest, half, rev}
+use Rattle.counting.proofs.Range.{total-ext, total-next, total-round, before-after, after-last, after-on, after-lt, over-next, over-none}
+use Rattle.slots.specs.Slots.{place}
+use Rattle.walk.specs.Iterate.{it}
+use Rattle.walk.specs.Darts.{Loop, half, rev}
 use Rattle.walk.specs.Walk as walk
 use Rattle.walk.proofs.Step as walks
 use Rattle.walk.proofs.Curve.{loop-short}
@@ -27,10 +26,10 @@ use Rattle.walk.proofs.Iterate.{tally-orbit, it-suc}
 use Rattle.cell.specs.declared.Cell.{Cell}
 use Rattle.cell.specs.declared.LoopType.{LoopType}
 use Rattle.cell.specs.declared.Loop.the-variants.{Found}
-use Rattle.cell.specs.Cell.{crossings, edge, index, slot, first, second, mate, step}
+use Rattle.cell.specs.Cell.{crossings, edge, slot, first, second, mate, step}
 use Rattle.cell.specs.Loop.{loopSize, dart, loopDarts, folded, normal, parity, inGrid, typeBy, typeOf, leasts, answerOf, loopAnswer}
 use Rattle.cell.specs.Of.{countOf, startOf}
-use Rattle.cell.specs.Half.{halfEdges, slotOf, edgeOf, halfOf, halfEdge}
+use Rattle.cell.specs.Half.{halfEdges, edgeOf, halfOf, halfEdge}
 use Rattle.cell.specs.Walked.{Recorded, Looped}
 use Rattle.cell.specs.Answer.{typeNumbers, loopNumbers}
 use Rattle.cell.specs.Round.{HalfEdges, foldsIn, crossesIn}
@@ -49,6 +48,25 @@ summed-none g = record { is = refl; few = omega arith }
 
 pub summed-more : {g : ℕ → ℕ} {k x : ℕ} → Summed g k x → (y : ℕ) → y ≡ g k → y ≤ 1 → Summed g (k + 1) (x + y)
 summed-more {g} {k} {x} S y e h = record { is = omega (arith, S .is, total-next g k); few = omega (arith, S .few) }
+
+-- the folded segments of a record, each counted at the place that it comes to
+module _ (l : List ℕ) (n : ℕ) where
+  unfoldable pub foldAt : ℕ → ℕ
+  foldAt k = one (eqb (edgeOf (getD l (before n k) 0)) (edgeOf (getD l k 0)))
+
+  pub folds-none : n ≡ 0 → foldsIn l n ≡ 0
+  unfolding foldsIn total
+  folds-none e = rw e
+
+  pub folds-all : {k x : ℕ} → Summed foldAt k x → k ≡ n → x ≡ foldsIn l n
+  unfolding foldsIn foldAt
+  folds-all {k} {x} S e =
+      S .is ∙ ap (λ m. total foldAt m 0) e ∙ sym (total-round foldAt n)
+      ∙ total-ext (λ k. foldAt (after n k)) (λ k. one (eqb (edgeOf (getD l k 0)) (edgeOf (getD l (after n k) 0)))) n 0
+      (λ k a b. ap (λ j. one (eqb (edgeOf (getD l j 0)) (edgeOf (getD l (after n k) 0)))) (before-after n k (omega arith)))
+
+  pub before-next : (k : ℕ) → before n (k + 1) ≡ k
+  before-next k = ap (before n) (add-one k)
 
 module _ (w : ℕ → ℕ) where
   abbrev N : ℕ
@@ -115,7 +133,7 @@ module _ (w : ℕ → ℕ) where
         (λ (g : 1 < loopSize w p). g) (eq-or-lt-of-le h)
 
     -- what is tallied of a loop, dart by dart
-    tally-darts : (t : ℕ → Bool) → tally t (loopDarts w p) ≡ total (λ k. one (t (dart w p k))) (loopSize w p) 0
+    pub tally-darts : (t : ℕ → Bool) → tally t (loopDarts w p) ≡ total (λ k. one (t (dart w p k))) (loopSize w p) 0
     unfolding loopDarts walk.loopAt loopSize dart
     tally-darts t = tally-orbit t (step w) (loopSize w p) (2 * p)
 

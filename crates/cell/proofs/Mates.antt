@@ -1,15 +1,12 @@
 -- The mates of a cell's crossings meet what a walk asks, from the laws of a face, on any slot.
-use Prim.Native.Nat.{ℕ, zero, suc, _+_, _*_, _-_, _/_, _%_, _≤_, _<_}
-use mathlib.Core.Path.{_≡_, refl, sym, ap, _∙_, subst}
-use mathlib.Core.Logic.{_⊎_, inl, inr, _≢_, ⊎-elim}
-use mathlib.Core.Bool.{Bool, true, false}
+use Prim.Native.Nat.{ℕ, _+_, _*_, _-_, _/_, _<_}
+use mathlib.Core.Path.{_≡_, sym, ap, _∙_}
+use mathlib.Core.Logic.{_⊎_, _≢_, ⊎-elim}
 use native.Mathlib.Omega.{arith}
-use lib.Dec.{eqb}
-use borrow.Author.Tests.{eqb-true, eqb-false}
 use Rattle.counting.proofs.Pack.{row-lt, col-lt, unpack}
 use Rattle.slots.specs.Slots.{slotEdge, place, firstSlot, secondSlot}
 use Rattle.slots.proofs.Slots.{EdgeSlot, first-slot, second-slot, slot-edge, two-slots}
-use Rattle.face.specs.Face.{joined, unjoined, count, faceJoin}
+use Rattle.face.specs.Face.{joined, unjoined, count}
 use Rattle.face.proofs.Ends.{edge-lt as face-edge-lt, edge-with}
 use Rattle.face.proofs.Claims.{faceLaws}
 use Rattle.walk.specs.Darts.{Darts, half, rev}

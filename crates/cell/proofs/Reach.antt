@@ -1,24 +1,23 @@
 -- A step from a dart in parts, branch by branch: round the lower end of its edge, round the upper end, or between.
-use Prim.Native.Nat.{ℕ, zero, suc, _+_, _*_, _-_, _/_, _%_, _≤_, _<_}
-use mathlib.Core.Path.{_≡_, refl, sym, ap, _∙_, subst}
+use Prim.Native.Nat.{ℕ, zero, suc, _+_, _*_, _-_, _%_, _≤_, _<_}
+use mathlib.Core.Path.{_≡_, refl, sym, ap, _∙_}
 use mathlib.Core.Logic.{_≢_}
 use mathlib.Core.Bool.{Bool, true, false}
 use native.Mathlib.Omega.{arith}
-use native.Mathlib.Decide.{decLt}
 use lib.Dec.{eqb}
 use Rattle.counting.specs.Pick.{pick}
 use Rattle.counting.specs.Pack.{pre}
 use Rattle.slots.specs.Slots.{slotEdge}
-use Rattle.face.specs.Face.{joined, lower, upper, other, corner, count, kth, cornerAt, faceJoin}
+use Rattle.face.specs.Face.{joined, lower, upper, other, corner, count, kth, faceJoin}
 use Rattle.face.specs.Ends.{Edge, on-ab, on-ac, on-bc, End, low, high, Corners}
 use Rattle.face.proofs.Ends.{edge-of, edge-lt as face-edge-lt, on, end-other}
 use Rattle.face.proofs.Gaps.{corner-lower, corner-upper, corner-fits}
 use Rattle.face.proofs.Branches.{face-low, face-high, face-skip, face-up, face-down}
-use Rattle.cell.specs.Cell.{crossings, number, step}
+use Rattle.cell.specs.Cell.{crossings, step}
 use Rattle.cell.specs.Half.{halfEdges, slotOf, placeOf, edgeOf, twin, around}
 use Rattle.cell.specs.Route.{cornerOf}
 use Rattle.cell.specs.Dart.{Parts, dartNumber}
-use Rattle.cell.proofs.Half.{place-lt, twin-lt, twin-edge, half-slot, half-edge}
+use Rattle.cell.proofs.Half.{place-lt, twin-lt, twin-edge, half-edge}
 use Rattle.cell.proofs.Step.{joinOn, step-joined, step-unjoined}
 
 -- a step from crossing x over half-edge h leads to index u of the edge of half-edge g, left by g

@@ -1,27 +1,26 @@
 -- A walk in the terms of the code: the dart it stands at, its marks, and what it has recorded.
-use Prim.Native.Nat.{ℕ, zero, suc, _+_, _*_, _-_, _/_, _%_, _≤_, _<_}
-use mathlib.Core.Path.{_≡_, refl, sym, ap, _∙_, subst}
-use mathlib.Core.Logic.{_≢_, ⊎-elim}
+use Prim.Native.Nat.{ℕ, _+_, _*_, _-_, _/_, _<_}
+use mathlib.Core.Path.{_≡_, refl, sym, ap, _∙_}
+use mathlib.Core.Logic.{⊎-elim}
 use mathlib.Core.List.{List}
 use native.Mathlib.Nat.{eq-or-lt-of-le, not-suc-le-zero}
 use native.Mathlib.Omega.{arith}
 use lib.ListN.{getD, set, length, length-set}
 use lib.Seq.{getD-set-same, getD-set-other}
 use Rattle.walk.specs.Iterate.{it}
-use Rattle.walk.proofs.Marks.{Marks}
 use Rattle.cell.specs.declared.Cell.{Cell}
 use Rattle.cell.specs.declared.Dart.{Dart}
-use Rattle.cell.specs.Cell.{crossings, edge, index, slot, step}
+use Rattle.cell.specs.Cell.{crossings, index, step}
 use Rattle.cell.specs.Loop.{loopSize, dart, inGrid}
 use Rattle.cell.specs.Of.{countOf, startOf}
-use Rattle.cell.specs.Half.{halfEdges, slotOf, placeOf, edgeOf, halfOf, halfEdge}
+use Rattle.cell.specs.Half.{edgeOf, halfOf, halfEdge}
 use Rattle.cell.specs.Route.{mostCrossings, startLimit, Routed}
 use Rattle.cell.specs.Dart.{Parts, IsDart, Ready, Leads, dartNumber, dartOf}
 use Rattle.cell.specs.Walked.{Starts, Marked, Scratch, Recorded, Walked}
 use Rattle.cell.proofs.Half.{place-is}
 use Rattle.cell.proofs.Step.{number-half, parts-number, parts-edge, parts-index, parts-slot}
-use Rattle.cell.proofs.Route.{start-at, fits}
-use Rattle.cell.proofs.Walking.{Walking, dart-next, walking-start, walking-room, walking-end, walking-low, walking-home, walking-on, walking-mark, walking-met, start-met}
+use Rattle.cell.proofs.Route.{start-at, start-near, fits}
+use Rattle.cell.proofs.Walking.{Walking, dart-next, walking-start, walking-room, walking-end, walking-low, walking-home, walking-on, walking-mark, walking-met}
 
 -- a dart in parts leaves by its half-edge, from its point
 module _ {w : ℕ → ℕ} {h t x : ℕ} (P : Parts w h t x) where
@@ -104,7 +103,7 @@ module _ {c : Cell} {t : List ℕ} {p k : ℕ} {ms hs ps : List ℕ} {d : Dart} 
   going-room = omega (arith, walking-room (G .walking), R .few)
 
   pub going-point : point < 2 * startLimit
-  going-point = omega (arith, start-at R h (G .isDart .half-lt), R .near h (G .isDart .half-lt), fits R h (G .isDart .half-lt) (d .index) (G .isDart .index-lt))
+  going-point = omega (arith, start-at R h (G .isDart .half-lt), start-near R h (G .isDart .half-lt), fits R h (G .isDart .half-lt) (d .index) (G .isDart .index-lt))
 
   pub going-ready : Ready c t d
   going-ready = record { routed = R; dart = G .isDart }

@@ -1,17 +1,15 @@
 -- A step from a dart in parts, through the answer of the face call.
-use Prim.Native.Nat.{ℕ, zero, suc, _+_, _*_, _-_, _/_, _%_, _≤_, _<_}
-use mathlib.Core.Path.{_≡_, refl, sym, ap, _∙_, subst}
-use mathlib.Core.Logic.{_⊎_, inl, inr, _≢_, ⊎-elim}
+use Prim.Native.Nat.{ℕ, _+_, _*_, _-_, _/_, _≤_, _<_}
+use mathlib.Core.Path.{_≡_, refl, sym, ap, _∙_}
+use mathlib.Core.Logic.{_⊎_, _≢_, ⊎-elim}
 use mathlib.Core.Bool.{Bool, true, false, not}
 use mathlib.Core.List.{List}
 use native.Mathlib.Omega.{arith}
-use lib.Dec.{eqb, ltb}
-use lib.ListN.{getD}
+use lib.Dec.{eqb}
 use borrow.Author.Tests.{eqb-true, eqb-false, eq-eqb, ne-eqb, le-ltb}
-use Rattle.counting.specs.Pick.{pick, one}
-use Rattle.counting.specs.Pack.{pre, row, col}
+use Rattle.counting.specs.Pick.{one}
 use Rattle.counting.proofs.Pack.{row-pack, col-pack, pack-lt}
-use Rattle.slots.specs.Slots.{slotEdge, place, firstSlot, secondSlot}
+use Rattle.slots.specs.Slots.{slotEdge, firstSlot, secondSlot}
 use Rattle.slots.proofs.Slots.{one-of-two}
 use Rattle.face.specs.Face.{joined, unjoined, faceJoin}
 use Rattle.walk.specs.Step as walk
@@ -19,7 +17,7 @@ use Rattle.walk.proofs.Step.{face-first, face-second, land-first, land-second}
 use Rattle.cell.specs.Cell.{crossings, edge, index, number, joinAt, joinedTo, mate, first, second, slot, step}
 use Rattle.cell.specs.Half.{halfEdges, slotOf, placeOf, edgeOf, twin}
 use Rattle.cell.specs.Dart.{Parts, dartNumber}
-use Rattle.cell.proofs.Half.{slot-lt, place-lt, edge-lt, place-is, within, twin-lt, twin-edge, twin-second, twin-first, half-slot, half-place, half-edge}
+use Rattle.cell.proofs.Half.{slot-lt, edge-lt, place-is, within, twin-edge, twin-second, twin-first, half-slot, half-edge}
 
 -- the answer of the face call on the slot of half-edge h
 unfoldable pub joinOn : (ℕ → ℕ) → ℕ → ℕ → List ℕ

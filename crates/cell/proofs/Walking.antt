@@ -1,39 +1,35 @@
 -- What a walk from the crossing p keeps.
 use Prim.Native.Nat.{ℕ, zero, suc, _+_, _*_, _-_, _/_, _≤_, _<_}
-use mathlib.Core.Path.{_≡_, refl, sym, ap, _∙_, subst}
-use mathlib.Core.Logic.{_≢_, ⊎-elim}
-use mathlib.Core.Bool.{Bool, true, false}
+use mathlib.Core.Path.{_≡_, refl, sym, ap, _∙_}
+use mathlib.Core.Logic.{⊎-elim}
 use mathlib.Core.List.{List, [], _∷_, _++_}
 use native.Mathlib.Nat.{eq-or-lt-of-le, not-suc-le-zero}
 use native.Mathlib.Omega.{arith}
 use native.Mathlib.Numerals.{add-one}
 use native.Mathlib.Decide.{decLt}
-use lib.ListN.{getD, set, length, replicate, drop, length-replicate, length-append, length-drop, getD-replicate, List·getD-append, length-set}
-use lib.Seq.{drop-cons, getD-set-same, getD-set-other}
+use lib.ListN.{getD, set, length, replicate, drop, length-replicate, length-append, getD-replicate, List·getD-append}
 use Rattle.counting.specs.Range.{total}
 use Rattle.counting.specs.Pack.{pre}
 use Rattle.counting.proofs.Pack.{pre-next}
 use Rattle.slots.specs.Slots.{firstSlot, place}
-use Rattle.slots.proofs.Slots.{EdgeSlot, first-slot}
+use Rattle.slots.proofs.Slots.{first-slot}
 use Rattle.walk.specs.Iterate.{it}
 use Rattle.walk.specs.Darts.{half, rev}
 use Rattle.walk.proofs.Iterate.{it-suc}
 use Rattle.walk.proofs.Curve.{closes}
 use Rattle.walk.proofs.Rest.{rest, rest-start, rest-end, rest-low, rest-home, rest-on}
-use Rattle.walk.proofs.Marks.{Passed, Marks, marks-none, marks-more, met}
+use Rattle.walk.proofs.Marks.{Marks, marks-none, marks-more, met}
 use Rattle.cell.specs.declared.Cell.{Cell}
 use Rattle.cell.specs.declared.Dart.{Dart}
-use Rattle.cell.specs.Cell.{crossings, edge, index, slot, step}
-use Rattle.cell.specs.Loop.{loopSize, dart, inGrid}
-use Rattle.cell.specs.Of.{countOf, startOf}
-use Rattle.cell.specs.Half.{halfEdges, slotOf, placeOf, edgeOf, halfOf, halfEdge}
-use Rattle.cell.specs.Route.{mostCrossings, startLimit, Routed}
-use Rattle.cell.specs.Dart.{Parts, IsDart, dartNumber, dartOf}
-use Rattle.cell.specs.Walked.{Located, Starts, Marked, Scratch, Recorded, Walked}
-use Rattle.cell.proofs.Half.{half-slot, half-edge, place-is}
-use Rattle.cell.proofs.Step.{number-first, number-half, parts-number, parts-edge, parts-index, parts-slot}
+use Rattle.cell.specs.Cell.{crossings, index, step}
+use Rattle.cell.specs.Loop.{loopSize, dart}
+use Rattle.cell.specs.Of.{countOf}
+use Rattle.cell.specs.Half.{halfEdges, slotOf, edgeOf, halfOf}
+use Rattle.cell.specs.Route.{mostCrossings}
+use Rattle.cell.specs.Walked.{Located, Starts, Marked}
+use Rattle.cell.proofs.Half.{half-slot, half-edge}
+use Rattle.cell.proofs.Step.{number-first}
 use Rattle.cell.proofs.Mates.{darts}
-use Rattle.cell.proofs.Route.{start-at, fits}
 
 -- one more of a list's first entries is v
 pub front-more : (l : List ℕ) (i v : ℕ) → i < length l → set (replicate i v ++ drop i l) i v ≡ replicate (i + 1) v ++ drop (i + 1) l

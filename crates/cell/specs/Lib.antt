@@ -7,3 +7,5 @@ pub mod Dart
 pub mod Walked
 pub mod Round
 pub mod Answer
+pub mod Claims
+pub mod Examples

@@ -4,14 +4,14 @@ use mathlib.Core.Path.{_≡_}
 use mathlib.Core.List.{List}
 use lib.ListN.{getD, length}
 use Rattle.counting.specs.Pack.{pre}
-use Rattle.walk.proofs.Marks.{Marks}
+use Rattle.walk.specs.Marks.{Marks}
 use Rattle.cell.specs.declared.Cell.{Cell}
 use Rattle.cell.specs.declared.Dart.{Dart}
 use Rattle.cell.specs.Cell.{crossings, step}
 use Rattle.cell.specs.Loop.{loopSize, dart, inGrid}
 use Rattle.cell.specs.Of.{countOf, startOf}
 use Rattle.cell.specs.Half.{halfEdge}
-use Rattle.cell.specs.Route.{mostCrossings}
+use Rattle.cell.specs.Route.{mostCrossings, Routed}
 use Rattle.cell.specs.Dart.{IsDart, dartOf}
 
 -- the crossing with index t on edge e is crossing p
@@ -34,6 +34,13 @@ pub record Scratch (marks halves points : List ℕ) : Type 0 where
   pub marks-long : length marks ≡ mostCrossings
   pub halves-long : length halves ≡ mostCrossings
   pub points-long : length points ≡ mostCrossings
+
+-- what the walk from p is given: the cell's routes, sound marks, and room
+pub record Lent (c : Cell) (routes : List ℕ) (p : ℕ) (marks halves points : List ℕ) : Type 0 where
+  pub routed : Routed c routes
+  pub inside : p < crossings (countOf c)
+  pub marked : Marked c marks
+  pub scratch : Scratch marks halves points
 
 -- the first n darts from crossing p are recorded: the half-edge that each leaves by, and the number in the grid of its crossing
 pub record Recorded (c : Cell) (p n : ℕ) (halves points : List ℕ) : Type 0 where

@@ -3,12 +3,13 @@ ghost use mathlib.Core.Path.{_≡_};
 ghost use mathlib.Core.List.{[], _∷_};
 ghost use Prim.Native.Nat.{_%_, _<_, _≤_};
 ghost use lib.Dec.{eqb};
+ghost use lib.ListN.{getD};
 ghost use Rattle.counting.specs.Pick.{one};
-ghost use Rattle.counting.specs.Range.{after};
 ghost use Rattle.cell.specs.Of.{countOf, startOf};
-ghost use Rattle.cell.specs.Loop.{nodeWith, typeBy, answerOf, loopAnswer};
+ghost use Rattle.cell.specs.Loop.{nodeWith, typeBy, answerOf};
 ghost use Rattle.cell.specs.Route.{mostCrossings};
 ghost use Rattle.cell.specs.Walked.{Looped};
+ghost use Rattle.cell.specs.Half.{halfEdges, edgeOf};
 ghost use Rattle.cell.specs.Round.{HalfEdges, foldsIn, crossesIn};
 ghost use Rattle.cell.specs.Answer.{typeNumbers, loopNumbers};
 use super::Cell;
@@ -23,34 +24,38 @@ fn same(a: usize, b: usize) -> usize
     if a == b { 1 } else { 0 }
 }
 
-// The place after k in a round of n.
-fn after_of(n: usize, k: usize) -> usize
-    requires { ⌜ k < n ⌝ }
-    ensures { λ r. ⌜ (r ≡ after n k) × (r < n) ⌝ }
+// The edge of the half-edge recorded at place k.
+fn edge_at(halves: &[u8; 1530], k: usize) -> usize
+    requires { ⌜ k < mostCrossings ⌝ }
+    requires { ⌜ getD (now halves) k 0 < halfEdges ⌝ }
+    ensures { λ r. ⌜ r ≡ edgeOf (getD (now (halves .entry)) k 0) ⌝ }
 {
-    if k + 1 == n { 0 } else { k + 1 }
+    tables::edge_of(routes::wide8(halves[k]))
 }
 
-// The folded segments of a recorded loop of n.
+// The folded segments of a recorded loop of n, from the one that comes to place 0 on.
 pub fn folds_of(halves: &[u8; 1530], n: usize) -> usize
     requires { ⌜ n ≤ mostCrossings ⌝ }
     requires { ⌜ HalfEdges (now halves) n ⌝ }
     ensures { λ r. ⌜ r ≡ foldsIn (now (halves .entry)) n ⌝ }
 {
+    if n == 0 {
+        return 0;
+    }
+    let mut a = edge_at(halves, n - 1);
     let mut f: usize = 0;
     let mut k: usize = 0;
     while k < n {
-        let j = after_of(n, k);
-        let a = tables::edge_of(routes::wide8(halves[k]));
-        let b = tables::edge_of(routes::wide8(halves[j]));
+        let b = edge_at(halves, k);
         f += same(a, b);
+        a = b;
         k += 1;
     }
     f
 }
 
 // The crossings of a recorded loop of n on edge e.
-pub fn crosses_of(halves: &[u8; 1530], n: usize, e: usize) -> usize
+fn crosses_of(halves: &[u8; 1530], n: usize, e: usize) -> usize
     requires { ⌜ n ≤ mostCrossings ⌝ }
     requires { ⌜ HalfEdges (now halves) n ⌝ }
     ensures { λ r. ⌜ r ≡ crossesIn (now (halves .entry)) n e ⌝ }
@@ -58,8 +63,7 @@ pub fn crosses_of(halves: &[u8; 1530], n: usize, e: usize) -> usize
     let mut x: usize = 0;
     let mut k: usize = 0;
     while k < n {
-        let a = tables::edge_of(routes::wide8(halves[k]));
-        x += same(a, e);
+        x += same(edge_at(halves, k), e);
         k += 1;
     }
     x
@@ -98,7 +102,13 @@ fn type_of(c: Cell, x: usize, y: usize, z: usize) -> LoopType
 }
 
 // What is answered of the recorded loop of n from crossing p.
-pub fn answer_of(c: Cell, p: usize, n: usize, halves: &[u8; 1530], points: &[u32; 1530]) -> Loop
+pub(crate) fn answer_of(
+    c: Cell,
+    p: usize,
+    n: usize,
+    halves: &[u8; 1530],
+    points: &[u32; 1530],
+) -> Loop
     requires { ⌜ Looped c p n (now halves) (now points) ⌝ }
     ensures { λ r. ⌜ loopNumbers r ≡ answerOf (countOf c) (startOf c) (c .nodes) (p ∷ []) ⌝ }
 {

@@ -39,15 +39,22 @@ pub enum Loop {
     Nothing,
 }
 
+// The crossings of an edge: how many they are, and the number of the first in the cell and in the grid.
+struct Run {
+    count: u8,
+    first: usize,
+    start: usize,
+}
+
 // A dart: the crossing with an index on the edge of a half-edge, by its number in the cell, left by that half-edge.
-pub struct Dart {
-    pub half: usize,
-    pub index: usize,
-    pub number: usize,
+struct Dart {
+    half: usize,
+    index: usize,
+    number: usize,
 }
 
 // What follows a dart: another, or the end of its curve.
-pub enum Next {
+enum Next {
     On(Dart),
     End,
 }

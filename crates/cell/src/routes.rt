@@ -3,22 +3,133 @@ ghost use mathlib.Core.Path.{_≡_};
 ghost use mathlib.Core.List.{[], _∷_};
 ghost use Prim.Native.Nat.{_+_, _*_, _<_, _≤_};
 ghost use lib.Seq.{sets};
-ghost use Rattle.counting.specs.Pack.{pre};
-ghost use Rattle.face.specs.Face.{lower, upper};
 ghost use Rattle.cell.specs.Cell.{crossings};
 ghost use Rattle.cell.specs.Of.{countOf, startOf};
-ghost use Rattle.cell.specs.Half.{halfEdges, placeOf, edgeOf, twin, around};
-ghost use Rattle.cell.specs.Route.{mostCrossings, startLimit, cornerOf, route, Firsts, Routed};
+ghost use Rattle.cell.specs.Half.{halfEdges};
+ghost use Rattle.cell.specs.Route.{mostCrossings, startLimit, fronts, Firsts, IsRun, SlotRuns, Routed};
 use super::Cell;
-use super::tables;
+use super::Run;
 
-pub fn wide8(x: u8) -> usize
+// Nine numbers to a half-edge, of which the last four are the same in each cell: those that follow round the lower end, round the upper
+// end and after a folded segment, and the place in the slot.
+const LINKS: [usize; 108] = [
+    0,
+    0,
+    0,
+    0,
+    0,
+    8,
+    5,
+    11,
+    0,
+    0,
+    0,
+    0,
+    0,
+    0,
+    11,
+    5,
+    8,
+    1,
+    0,
+    0,
+    0,
+    0,
+    0,
+    11,
+    8,
+    5,
+    2,
+    0,
+    0,
+    0,
+    0,
+    0,
+    7,
+    2,
+    10,
+    0,
+    0,
+    0,
+    0,
+    0,
+    0,
+    10,
+    2,
+    7,
+    1,
+    0,
+    0,
+    0,
+    0,
+    0,
+    10,
+    7,
+    2,
+    2,
+    0,
+    0,
+    0,
+    0,
+    0,
+    4,
+    1,
+    9,
+    0,
+    0,
+    0,
+    0,
+    0,
+    0,
+    9,
+    1,
+    4,
+    1,
+    0,
+    0,
+    0,
+    0,
+    0,
+    9,
+    4,
+    1,
+    2,
+    0,
+    0,
+    0,
+    0,
+    0,
+    3,
+    0,
+    6,
+    0,
+    0,
+    0,
+    0,
+    0,
+    0,
+    6,
+    0,
+    3,
+    1,
+    0,
+    0,
+    0,
+    0,
+    0,
+    6,
+    3,
+    0,
+    2,
+];
+
+pub(crate) fn wide8(x: u8) -> usize
     ensures { λ r. ⌜ (r ≡ x) × (r < 256) ⌝ }
 {
     x as usize
 }
 
-pub fn wide16(x: u16) -> usize
+pub(crate) fn wide16(x: u16) -> usize
     ensures { λ r. ⌜ (r ≡ x) × (r < startLimit) ⌝ }
 {
     x as usize
@@ -38,7 +149,7 @@ fn start_of(c: Cell, e: usize) -> u16
     c.starts[e]
 }
 
-pub fn count_at(c: Cell, e: usize) -> usize
+pub(crate) fn count_at(c: Cell, e: usize) -> usize
     requires { ⌜ e < 6 ⌝ }
     ensures { λ r. ⌜ r ≡ countOf c e ⌝ }
 {
@@ -66,46 +177,44 @@ pub fn crossings_of(c: Cell) -> usize
     firsts[6]
 }
 
-fn put_corners(c: Cell, t: &mut [usize; 108], h: usize)
-    requires { ⌜ h < halfEdges ⌝ }
-    ensures { λ _. ⌜ now (t .exit) ≡ sets (now (t .entry)) (9 * h) (cornerOf (countOf c) (lower (placeOf h)) h ∷ cornerOf (countOf c) (upper (placeOf h)) h ∷ []) ⌝ }
-{
-    let p = count_of(c, tables::edge_of(h));
-    let q = count_of(c, tables::edge_of(tables::low_of(h)));
-    let o = count_of(c, tables::edge_of(tables::high_of(h)));
-    t[9 * h] = wide8(face::corner_count(p, q, o));
-    t[9 * h + 1] = wide8(face::corner_count(p, o, q));
-}
-
-fn put_counts(c: Cell, firsts: &[usize; 7], t: &mut [usize; 108], h: usize)
-    requires { ⌜ h < halfEdges ⌝ }
+// The crossings of edge e.
+fn run_of(c: Cell, firsts: &[usize; 7], e: usize) -> Run
+    requires { ⌜ e < 6 ⌝ }
     requires { ⌜ Firsts c (now firsts) ⌝ }
-    ensures { λ _. ⌜ (now (t .exit) ≡ sets (now (t .entry)) (9 * h + 2) (countOf c (edgeOf h) ∷ pre (countOf c) (edgeOf h) ∷ startOf c (edgeOf h) ∷ [])) × (startOf c (edgeOf h) < startLimit) ⌝ }
+    ensures { λ r. ⌜ IsRun c e r ⌝ }
 {
-    let e = tables::edge_of(h);
-    t[9 * h + 2] = count_at(c, e);
-    t[9 * h + 3] = firsts[e];
-    t[9 * h + 4] = wide16(start_of(c, e));
+    let first = firsts[e];
+    Run {
+        count: count_of(c, e),
+        first,
+        start: wide16(start_of(c, e)),
+    }
 }
 
-fn put_links(t: &mut [usize; 108], h: usize)
+// The five numbers of half-edge h that differ from cell to cell.
+fn put_front(t: &mut [usize; 108], h: usize, low: usize, high: usize, x: Run)
     requires { ⌜ h < halfEdges ⌝ }
-    ensures { λ _. ⌜ now (t .exit) ≡ sets (now (t .entry)) (9 * h + 5) (around (lower (placeOf h)) h ∷ around (upper (placeOf h)) h ∷ twin h ∷ placeOf h ∷ []) ⌝ }
+    ensures { λ _. ⌜ now (t .exit) ≡ sets (now (t .entry)) (9 * h) (low ∷ high ∷ x .count ∷ x .first ∷ x .start ∷ []) ⌝ }
 {
-    t[9 * h + 5] = tables::low_of(h);
-    t[9 * h + 6] = tables::high_of(h);
-    t[9 * h + 7] = tables::twin_of(h);
-    t[9 * h + 8] = h % 3;
+    t[9 * h] = low;
+    t[9 * h + 1] = high;
+    t[9 * h + 2] = wide8(x.count);
+    t[9 * h + 3] = x.first;
+    t[9 * h + 4] = x.start;
 }
 
-fn put_route(c: Cell, firsts: &[usize; 7], t: &mut [usize; 108], h: usize)
-    requires { ⌜ h < halfEdges ⌝ }
-    requires { ⌜ Firsts c (now firsts) ⌝ }
-    ensures { λ _. ⌜ (now (t .exit) ≡ sets (now (t .entry)) (9 * h) (route (countOf c) (startOf c) h)) × (startOf c (edgeOf h) < startLimit) ⌝ }
+// Those of the three half-edges of slot s, whose edges have the runs ab, ac, bc.
+fn put_slot(c: Cell, t: &mut [usize; 108], s: usize, ab: Run, ac: Run, bc: Run)
+    requires { ⌜ s < 4 ⌝ }
+    requires { ⌜ SlotRuns c s ab ac bc ⌝ }
+    ensures { λ _. ⌜ now (t .exit) ≡ fronts (countOf c) (startOf c) s (now (t .entry)) ⌝ }
 {
-    put_corners(c, t, h);
-    put_counts(c, firsts, t, h);
-    put_links(t, h);
+    let low = wide8(face::corner_count(ab.count, ac.count, bc.count));
+    let middle = wide8(face::corner_count(ab.count, bc.count, ac.count));
+    let high = wide8(face::corner_count(ac.count, bc.count, ab.count));
+    put_front(t, 3 * s, low, middle, ab);
+    put_front(t, 3 * s + 1, low, high, ac);
+    put_front(t, 3 * s + 2, middle, high, bc);
 }
 
 // The routes of the cell.
@@ -113,11 +222,16 @@ pub fn routes_of(c: Cell) -> [usize; 108]
     ensures { λ r. ⌜ Routed c r ⌝ }
 {
     let firsts = firsts_of(c);
-    let mut t = [0usize; 108];
-    let mut h: usize = 0;
-    while h < 12 {
-        put_route(c, &firsts, &mut t, h);
-        h += 1;
-    }
+    let e01 = run_of(c, &firsts, 0);
+    let e02 = run_of(c, &firsts, 1);
+    let e03 = run_of(c, &firsts, 2);
+    let e12 = run_of(c, &firsts, 3);
+    let e13 = run_of(c, &firsts, 4);
+    let e23 = run_of(c, &firsts, 5);
+    let mut t = LINKS;
+    put_slot(c, &mut t, 0, e12, e13, e23);
+    put_slot(c, &mut t, 1, e02, e03, e23);
+    put_slot(c, &mut t, 2, e01, e03, e13);
+    put_slot(c, &mut t, 3, e01, e02, e12);
     t
 }

@@ -1,12 +1,13 @@
-// The walk along a loop, with marks: each crossing of a cell is passed a constant number of times for all its loops together.
+// The walk along a loop, with marks. A walk passes its start, unless that is marked, and then crossings that no earlier walk has passed, which it
+// marks: so for all loops of a cell together there are no more steps than crossings.
 ghost use mathlib.Core.Path.{_≡_};
 ghost use mathlib.Core.List.{_++_};
 ghost use Prim.Native.Nat.{_<_, _≤_};
 ghost use lib.ListN.{length, replicate, drop};
 ghost use Rattle.cell.specs.Cell.{crossings};
 ghost use Rattle.cell.specs.Of.{countOf};
-ghost use Rattle.cell.specs.Route.{mostCrossings, Routed};
-ghost use Rattle.cell.specs.Walked.{Located, Starts, Marked, Scratch, Walked};
+ghost use Rattle.cell.specs.Route.{mostCrossings};
+ghost use Rattle.cell.specs.Walked.{Located, Starts, Lent, Walked};
 use super::Cell;
 use super::Dart;
 use super::Next;
@@ -67,10 +68,7 @@ pub fn walk(
     halves: &mut [u8; 1530],
     points: &mut [u32; 1530],
 ) -> usize
-    requires { ⌜ Routed c (now routes) ⌝ }
-    requires { ⌜ p < crossings (countOf c) ⌝ }
-    requires { ⌜ Marked c (now marks) ⌝ }
-    requires { ⌜ Scratch (now marks) (now halves) (now points) ⌝ }
+    requires { ⌜ Lent c (now routes) p (now marks) (now halves) (now points) ⌝ }
     ensures { λ r. ⌜ Walked c p r (now (marks .exit)) (now (halves .exit)) (now (points .exit)) ⌝ }
 {
     if routes::wide16(marks[p]) < p {

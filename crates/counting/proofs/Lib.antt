@@ -9,3 +9,4 @@ pub mod Pack
 pub mod Reach
 pub mod Rows
 pub mod Fronts
+pub mod Stores

@@ -9,4 +9,3 @@ pub mod Laws
 pub mod Rim
 pub mod Tally
 pub mod Claims
-pub mod Examples

@@ -1,6 +1,6 @@
 -- No two segments of a face alternate round its rim.
 use Prim.Native.Nat.{ℕ, _+_, _*_, _<_, _≤_, min}
-use mathlib.Core.Path.{_≡_}
+use mathlib.Core.Path.{_≡_, refl}
 use mathlib.Core.Logic.{inl, inr}
 use native.Mathlib.Omega.{arith}
 use Rattle.face.specs.Face.{lower, upper, other, corner, count, kth, cornerAt}
@@ -117,3 +117,20 @@ module _ (ab ac bc : ℕ) where
   pub never-alternate : (e t e′ t′ u i u′ i′ : ℕ) → Segment ab ac bc e t e′ t′ → Segment ab ac bc u i u′ i′ → Alternate ab ac bc e t e′ t′ u i u′ i′ → ⊥
   never-alternate e t e′ t′ u i u′ i′ j k (inl m) = never-meets (link ab ac bc j) (link ab ac bc k) m
   never-alternate e t e′ t′ u i u′ i′ j k (inr m) = never-meets (link ab ac bc k) (link ab ac bc j) m
+
+-- alternation can be met: joined so, 0 of ab to 0 of bc and 1 of ab to 1 of bc would alternate
+pub alternating : Alternate 2 0 2 0 0 2 0 0 1 2 1
+unfolding rim
+alternating = inl (record {
+  p = 0;
+  q = 1;
+  r = 2;
+  s = 3;
+  of-first = inl refl;
+  of-second = inl refl;
+  of-first-again = inr refl;
+  of-second-again = inr refl;
+  p-q = omega arith;
+  q-r = omega arith;
+  r-s = omega arith;
+})

@@ -4,4 +4,3 @@ pub mod Ends
 pub mod Rim
 pub mod Tally
 pub mod Claims
-pub mod Examples

@@ -1,22 +1,23 @@
 -- Marks that spread over the cells of an edge.
-use Prim.Native.Nat.{ℕ, _%_, _*_, _+_, _-_, _/_, _<_, _≤_}
-use mathlib.Core.Path.{_∙_, _≡_, refl, sym}
+use Prim.Native.Nat.{ℕ, zero-le, _%_, _*_, _+_, _-_, _/_, _<_, _≤_}
+use mathlib.Core.Path.{_∙_, _≡_, ap, refl, sym}
 use mathlib.Core.Logic.{_≢_, _⊎_, inl, inr, ⊎-elim}
 use mathlib.Core.Bool.{Bool, _&&_, _||_, false, not, true}
 use mathlib.Core.List.{List, [], _∷_}
-use native.Mathlib.Nat.{eq-or-lt-of-le}
+use native.Mathlib.Nat.{eq-or-lt-of-le, le-refl}
 use native.Mathlib.Omega.{arith}
 use lib.Dec.{eqb, leb, ltb}
 use lib.ListN.{getD, length, length-set, set}
 use lib.Seq.{getD-set-other, getD-set-same}
-use borrow.Author.Tests.{eq-eqb, eqb-false, eqb-true, leb-true, ltb-true, ne-eqb}
+use borrow.Author.Tests.{eq-eqb, eqb-false, eqb-true, le-ltb, leb-true, lt-ltb, ltb-true, ne-eqb, not-true}
 use Rattle.counting.specs.Pick.{pick}
 use Rattle.counting.specs.Search.{count, every, last, some}
 use Rattle.counting.proofs.Bools.{and-false-left, and-left, and-right, imply}
 use Rattle.counting.proofs.Involution.{count-less, less}
 use Rattle.counting.proofs.Search.{count-ext, down-hit, down-miss, every-is, last-is, last-le, some-through, some-zero}
-use Rattle.slots.specs.Slots.{contains, hi, lo}
-use Rattle.grid.specs.Work.{Closed, Filled, Grown, Open, Paired, Side, Sought, Splitting, Spread, Spreading, missing, other, sameKey}
+use Rattle.slots.specs.Slots.{contains, corner, hi, lo, slotEdge}
+use Rattle.slots.proofs.Slots.{each}
+use Rattle.grid.specs.Work.{Closed, Filled, Grown, Open, Paired, Side, Splitting, Spread, Spreadable, Spreading, Spreads, missing, other, rank, sameKey, under}
 
 -- it does, it is another, and there is no third: a test of all
 abbrev right : ℕ → ℕ → Bool
@@ -44,27 +45,101 @@ module _ (k s : ℕ) (hk : k < 6) (hs : s < 4) (h : contains k s ≡ true) where
       go true q f = inl (eqb-true u s q)
       go false q f = inr (eqb-true u (other k s) f)
 
+-- the other of the other is the first; positions and ranks tell each other: a test of all
+abbrev turned : ℕ → ℕ → Bool
+turned k s = not (contains k s) || ((eqb (other k (other k s)) s && eqb (corner s (rank k s)) (other k s)) && (ltb (rank k s) 3 && not (eqb (other k s) s)))
+
+all-turned : every (λ k. every (turned k) 4) 6 ≡ true
+unfolding every contains lo hi corner
+all-turned = refl
+
+module _ (k s : ℕ) (hk : k < 6) (hs : s < 4) (h : contains k s ≡ true) where
+  turn : ((eqb (other k (other k s)) s && eqb (corner s (rank k s)) (other k s)) && (ltb (rank k s) 3 && not (eqb (other k s) s))) ≡ true
+  turn = imply (contains k s) _ h (each 6 4 turned all-turned k s hk hs)
+
+  pub other-twice : other k (other k s) ≡ s
+  other-twice = eqb-true _ _ (and-left _ (eqb (corner s (rank k s)) (other k s)) (and-left _ (ltb (rank k s) 3 && not (eqb (other k s) s)) turn))
+
+  pub corner-rank : corner s (rank k s) ≡ other k s
+  corner-rank = eqb-true _ _ (and-right (eqb (other k (other k s)) s) _ (and-left _ (ltb (rank k s) 3 && not (eqb (other k s) s)) turn))
+
+  pub rank-lt : rank k s < 3
+  rank-lt = ltb-true _ _ (and-left _ (not (eqb (other k s) s)) (and-right (eqb (other k (other k s)) s && eqb (corner s (rank k s)) (other k s)) _ turn))
+
+  pub other-ne : other k s ≢ s
+  other-ne = eqb-false _ _ (not-true _ (and-right (ltb (rank k s) 3) _ (and-right (eqb (other k (other k s)) s && eqb (corner s (rank k s)) (other k s)) _ turn)))
+
+-- an edge of a face has the same rank in each slot that is the face
+ranked : ℕ → ℕ → Bool
+ranked s j = eqb (rank (slotEdge s j) s) (2 - j)
+
+all-ranked : every (λ s. every (ranked s) 3) 4 ≡ true
+unfolding every ranked slotEdge lo hi
+all-ranked = refl
+
+pub slot-rank : (s j : ℕ) → s < 4 → j < 3 → rank (slotEdge s j) s ≡ 2 - j
+unfolding ranked
+slot-rank s j hs hj = eqb-true _ _ (each 4 3 ranked all-ranked s j hs hj)
+
+-- positions and ranks, case by case
+pub corner-low : (s i : ℕ) → i < s → i ≡ corner s i
+unfolding corner
+corner-low s i h = rw (lt-ltb i s h)
+
+pub corner-high : (s i : ℕ) → s ≤ i → i + 1 ≡ corner s i
+unfolding corner
+corner-high s i h = rw (le-ltb i s h) (omega arith)
+
+pub under-low : (s i : ℕ) → i < s → i ≡ under s i
+under-low s i h = rw (lt-ltb i s h)
+
+pub under-high : (s i : ℕ) → s ≤ i → i - 1 ≡ under s i
+under-high s i h = rw (le-ltb i s h)
+
+-- how the other slot is found: the sum of an edge's ends
+summed : ℕ → Bool
+summed k = eqb (lo k + hi k) (pick (ltb k 3) (k + 1) k)
+
+all-summed : every summed 6 ≡ true
+unfolding every summed lo hi
+all-summed = refl
+
+pub ends-sum : (k : ℕ) → k < 6 → lo k + hi k ≡ pick (ltb k 3) (k + 1) k
+unfolding summed
+ends-sum k h = eqb-true _ _ (every-is summed 6 all-summed k h)
+
+pub other-low : (k s : ℕ) → k < 3 → 5 - k - s ≡ other k s
+other-low k s h = let e : lo k + hi k ≡ k + 1 = rw (lt-ltb k 3 h) at (ends-sum k (omega arith)) in omega arith
+
+pub other-high : (k s : ℕ) → 3 ≤ k → k < 6 → 6 - k - s ≡ other k s
+other-high k s h l = let e : lo k + hi k ≡ k = rw (le-ltb k 3 h) at (ends-sum k l) in omega arith
+
 all-fit : every (λ k. every (λ s. not (contains k s) || leb (lo k + hi k + s) 6) 4) 6 ≡ true
 unfolding every contains lo hi
 all-fit = refl
 
-pub other-fits : (k s : ℕ) → k < 6 → s < 4 → contains k s ≡ true → lo k + hi k + s ≤ 6
+pub other-fits : (k s : ℕ) → k < 6 → s < 4 → contains k s ≡ true → k + s ≤ 6
 other-fits k s hk hs h =
-    leb-true (lo k + hi k + s) 6
-    (imply (contains k s) _ h (every-is (λ s. not (contains k s) || leb (lo k + hi k + s) 6) 4 (every-is (λ k. every (λ s. not (contains k s) || leb (lo k + hi k + s) 6) 4) 6 all-fit k hk) s hs))
+    let f = leb-true (lo k + hi k + s) 6 (imply (contains k s) _ h (each 6 4 (λ k s. not (contains k s) || leb (lo k + hi k + s) 6) all-fit k s hk hs)) in
+    go f (ltb k 3) refl
+  where
+    go : lo k + hi k + s ≤ 6 → (x : Bool) → ltb k 3 ≡ x → k + s ≤ 6
+    go f true q = omega (arith, ltb-true k 3 q, hs)
+    go f false q = let e : lo k + hi k ≡ k = rw q at (ends-sum k hk) in omega arith
 
 pub grown-none : (keys near : List ℕ) (n key mark : ℕ) (marks : List ℕ) → Grown keys near n key mark marks marks
 grown-none keys near n key mark marks = record { same = refl; keep = λ c e. e; only = λ c. inl refl; within = λ P cl h c e. h c e }
 
 -- the loop of `spread` is to cross slot j
-pub record Going (keys near : List ℕ) (n key mark b : ℕ) (marks₀ marks : List ℕ) (j : ℕ) : Type 0 where
+pub record Going (keys near : List ℕ) (n key mark b : ℕ) (marks₀ marks : List ℕ) (j r : ℕ) : Type 0 where
   pub slot : j < 4 * n
   pub side : Side keys key j
+  pub rank-is : r ≡ rank (side .k) (j % 4)
   pub here : getD marks (j / 4) 0 ≡ mark
   pub opens : Open keys near n key mark marks j b
   pub grown : Grown keys near n key mark marks₀ marks
 
-module _ {keys near : List ℕ} {n key mark b : ℕ} {marks₀ marks : List ℕ} {j : ℕ} (J : Paired keys near n) (g : Going keys near n key mark b marks₀ marks j) where
+module _ {keys near : List ℕ} {n key mark b : ℕ} {marks₀ marks : List ℕ} {j r : ℕ} (J : Paired keys near n) (g : Going keys near n key mark b marks₀ marks j r) where
   closing : (getD near j 0 ≡ 0) ⊎ (getD marks ((getD near j 0 - 1) / 4) 0 ≡ mark) → Open keys near n key mark marks b b
   closing done = record { at = λ i l s m p q. go i l s m p (eqb i j) refl }
     where
@@ -87,10 +162,22 @@ module _ {keys near : List ℕ} {n key mark b : ℕ} {marks₀ marks : List ℕ}
       pub going-lt : p ≤ 4 * n
       going-lt = omega (arith, J .back j (g .slot) there .0)
 
-      pub going-side : Side keys key (p - 1)
-      going-side = rw e (J .side key j (g .slot) there (g .side))
+      -- the slot across, with the edge's rank there
+      across : (t : Side keys key (p - 1)) × (r ≡ rank (t .k) ((p - 1) % 4))
+      across = let w = J .side key j (g .slot) there (g .side) in rw e (w .0, g .rank-is ∙ sym (w .1))
 
-      module _ (new : getD marks ((p - 1) / 4) 0 ≢ mark) (room : n ≤ length marks) (k : ℕ) (hk : k < 6) (at : getD keys (6 * ((p - 1) / 4) + k) 0 ≡ key) where
+      module _ (new : getD marks ((p - 1) / 4) 0 ≢ mark) (room : n ≤ length marks) where
+        k : ℕ
+        k = across .0 .k
+
+        hk : k < 6
+        unfolding k
+        hk = across .0 .lt
+
+        at : getD keys (6 * ((p - 1) / 4) + k) 0 ≡ key
+        unfolding k
+        at = across .0 .is
+
         cell : (p - 1) / 4 < n
         cell = omega (arith, going-lt)
 
@@ -100,8 +187,9 @@ module _ {keys near : List ℕ} {n key mark b : ℕ} {marks₀ marks : List ℕ}
             let f : getD keys (6 * ((p - 1) / 4) + s .k) 0 ≡ key = rw (← q) (s .is) in
             rw (J .one ((p - 1) / 4) k (s .k) cell hk (s .lt) (at ∙ sym f)) (s .holds)
 
-        pub h₁ : contains k ((p - 1) % 4) ≡ true
-        h₁ = holds (p - 1) refl going-side
+        h₁ : contains k ((p - 1) % 4) ≡ true
+        unfolding k
+        h₁ = across .0 .holds
 
         o : ℕ
         o = other k ((p - 1) % 4)
@@ -109,6 +197,10 @@ module _ {keys near : List ℕ} {n key mark b : ℕ} {marks₀ marks : List ℕ}
         o-lt : o < 4
         unfolding o
         o-lt = other-lt k ((p - 1) % 4) hk (omega arith) h₁
+
+        o-is : corner ((p - 1) % 4) r ≡ o
+        unfolding o k
+        o-is = ap (corner ((p - 1) % 4)) (across .1) ∙ corner-rank k ((p - 1) % 4) hk (omega arith) h₁
 
         next-div : (4 * ((p - 1) / 4) + o) / 4 ≡ (p - 1) / 4
         next-div = omega (arith, o-lt)
@@ -154,10 +246,11 @@ module _ {keys near : List ℕ} {n key mark b : ℕ} {marks₀ marks : List ℕ}
             rw (f, e) (cl j (g .slot) (g .side) there (g .grown .within P cl h (j / 4) (g .here)))
         inside P cl h c m false q = g .grown .within P cl h c (was c (eqb-false _ _ q) m)
 
-        pub going-more : Going keys near n key mark b marks₀ (set marks ((p - 1) / 4) mark) (4 * ((p - 1) / 4) + (6 - lo k - hi k - (p - 1) % 4))
+        on-edge : Going keys near n key mark b marks₀ (set marks ((p - 1) / 4) mark) (4 * ((p - 1) / 4) + o) (under o ((p - 1) % 4))
         unfolding o
-        going-more =
+        on-edge =
             record {
+              rank-is = rw (next-mod, other-twice k ((p - 1) % 4) hk (omega arith) h₁);
               slot = omega (arith, o-lt, cell);
               side = record { k = k; lt = hk; is = rw next-div at-next; holds = rw next-mod (other-holds k ((p - 1) % 4) hk (omega arith) h₁) };
               here = rw next-div now;
@@ -179,15 +272,63 @@ module _ {keys near : List ℕ} {n key mark b : ℕ} {marks₀ marks : List ℕ}
                 let s = getD-set-other marks ((p - 1) / 4) c mark 0 (eqb-false _ _ q) in
                 ⊎-elim (λ (z : getD marks c 0 ≡ getD marks₀ c 0). inl (s ∙ z)) (λ (z : getD marks c 0 ≡ mark). inr (s ∙ z)) (g .grown .only c)
 
-pub side-sought : {keys : List ℕ} {key j : ℕ} → Side keys key j → Sought keys key (j / 4) 0
-side-sought s = record { w = s .k; lt = s .lt; from-k = omega arith; is = s .is }
+        -- the loop goes on across the other slot
+        pub going-more : (s q : ℕ) → s ≡ corner ((p - 1) % 4) r → q ≡ under s ((p - 1) % 4)
+            → Going keys near n key mark b marks₀ (set marks ((p - 1) / 4) mark) (4 * ((p - 1) / 4) + s) q
+        going-more s q es eq = rw (eq, es, o-is) on-edge
 
-pub sought-more : {keys : List ℕ} {key c k : ℕ} → Sought keys key c k → (getD keys (6 * c + k) 0 ≡ key → ⊥) → Sought keys key c (k + 1)
-sought-more {keys} {key} {c} {k} s ne =
-    record { w = s .w; lt = s .lt; from-k = ⊎-elim (λ (q : k ≡ s .w). absurd (ne (rw q (s .is)))) (λ (g : k < s .w). omega arith) (eq-or-lt-of-le (s .from-k)); is = s .is }
+-- the loop of `spread`: p is what near has at the slot to be crossed
+pub record Walking (near : List ℕ) (n mark start q : ℕ) (marks₀ marks : List ℕ) (r p : ℕ) : Type 0 where
+  pub j : ℕ
+  pub slot : j < 4 * n
+  pub p-is : p ≡ getD near j 0
+  pub rank-lt : r < 3
+  pub same : length marks ≡ length marks₀
+  pub over : (keys : List ℕ) (key b : ℕ) → Spreading keys near n key mark start q b marks₀ → Going keys near n key mark b marks₀ marks j r
 
-pub sought-last : {keys : List ℕ} {key c : ℕ} → (k : ℕ) → 5 ≤ k → Sought keys key c k → getD keys (6 * c + 5) 0 ≡ key
-sought-last k h s = let e : 5 ≡ s .w = omega (arith, s .lt, s .from-k) in rw e (s .is)
+module _ {near : List ℕ} {n mark start q : ℕ} {marks₀ : List ℕ} (P : Spreadable near n start q marks₀) where
+  pub walking-start : (p : ℕ) → p ≡ getD near start 0 → Walking near n mark start q marks₀ marks₀ q p
+  walking-start p e =
+      record {
+        j = start;
+        slot = P .slot;
+        p-is = e;
+        rank-lt = P .rank-lt;
+        same = refl;
+        over = λ keys key b w.
+            record { slot = P .slot; side = w .side; rank-is = w .rank-is; here = w .here; opens = w .opens; grown = grown-none keys near n key mark marks₀ };
+      }
+
+  module _ {marks : List ℕ} {r p : ℕ} (w : Walking near n mark start q marks₀ marks r p) where
+    pub walking-lt : p ≤ 4 * n
+    walking-lt = omega (arith, w .p-is, P .within (w .j) (w .slot))
+
+    pub walking-end : p ≤ 0 → Spreads near n mark start q marks₀ marks
+    walking-end h =
+        record {
+          same = w .same;
+          over = λ keys key b s. (let g = w .over keys key b s in record { grown = g .grown; opens = going-end (s .paired) g p (w .p-is) h });
+        }
+
+    module _ (pos : 0 < p) where
+      pub walking-met : getD marks ((p - 1) / 4) 0 ≡ mark → Spreads near n mark start q marks₀ marks
+      walking-met h =
+          record {
+            same = w .same;
+            over = λ keys key b s. (let g = w .over keys key b s in record { grown = g .grown; opens = going-met (s .paired) g p (w .p-is) pos h });
+          }
+
+      pub walking-more : getD marks ((p - 1) / 4) 0 ≢ mark → (s t x : ℕ) → s < 4 → s ≡ corner ((p - 1) % 4) r → t < 3 → t ≡ under s ((p - 1) % 4)
+          → x ≡ getD near (4 * ((p - 1) / 4) + s) 0 → Walking near n mark start q marks₀ (set marks ((p - 1) / 4) mark) t x
+      walking-more new s t x hs es ht et ex =
+          record {
+            j = 4 * ((p - 1) / 4) + s;
+            slot = omega (arith, walking-lt);
+            p-is = ex;
+            rank-lt = ht;
+            same = length-set marks ((p - 1) / 4) mark ∙ w .same;
+            over = λ keys key b v. going-more (v .paired) (w .over keys key b v) p (w .p-is) pos new (omega (arith, w .same, P .room)) s t es et;
+          }
 
 -- how many of n cells are not marked
 unfoldable pub unmarked : List ℕ → ℕ → ℕ → ℕ
@@ -267,17 +408,11 @@ module _ (keys near : List ℕ) (n key mark : ℕ) (marks : List ℕ) (J : Paire
       go true e = eqb-true d c e
       go false e = absurd (fresh d (sym (getD-set-other marks c d mark 0 (eqb-false d c e)) ∙ m))
 
-  slot-side : (s : ℕ) → s < 4 → contains k s ≡ true → Side keys key (4 * c + s)
+  pub slot-side : (s : ℕ) → s < 4 → contains k s ≡ true → Side keys key (4 * c + s)
   slot-side s l h =
       let a : (4 * c + s) / 4 ≡ c = omega arith in
       let b : (4 * c + s) % 4 ≡ s = omega arith in
       record { k = k; lt = hk; is = rw a at; holds = rw b h }
-
-  pub free-side : Side keys key (4 * c + free k)
-  free-side = slot-side (free k) (free-lt k hk) (free-holds k hk)
-
-  pub other-side : Side keys key (4 * c + other k (free k))
-  other-side = slot-side (other k (free k)) (other-lt k (free k) hk (free-lt k hk) (free-holds k hk)) (other-holds k (free k) hk (free-lt k hk) (free-holds k hk))
 
   pub start-open : Open keys near n key mark (set marks c mark) (4 * c + free k) (4 * c + other k (free k))
   start-open = record { at = λ j l s m p q. absurd (go j s (alone (j / 4) m) p q) }
@@ -339,38 +474,67 @@ module _ {keys next near : List ℕ} {n key mark top : ℕ} {marks : List ℕ} (
   slot-lt : free ((top - 1) % 6) < 4
   slot-lt = free-lt ((top - 1) % 6) edge-lt
 
-  pub spread-first : (o : ℕ) → o ≡ other ((top - 1) % 6) (free ((top - 1) % 6))
-      → Spreading keys near n key mark (4 * ((top - 1) / 6) + free ((top - 1) % 6)) (4 * ((top - 1) / 6) + o) (set marks ((top - 1) / 6) mark)
-  spread-first o e =
+  slot-has : contains ((top - 1) % 6) (free ((top - 1) % 6)) ≡ true
+  slot-has = free-holds ((top - 1) % 6) edge-lt
+
+  pub other-apart : (o : ℕ) → o ≡ other ((top - 1) % 6) (free ((top - 1) % 6)) → o ≢ free ((top - 1) % 6)
+  other-apart o e = rw e (other-ne ((top - 1) % 6) (free ((top - 1) % 6)) edge-lt slot-lt slot-has)
+
+  -- near leads to slots of the cells
+  near-within : (j : ℕ) → j < 4 * n → getD near j 0 ≤ 4 * n
+  near-within j l =
+      ⊎-elim (λ (q : 0 ≡ getD near j 0). omega arith) (λ (q : 0 < getD near j 0). S .paired .back j l q .0) (eq-or-lt-of-le zero-le)
+
+  pub may-spread : (t r : ℕ) → t < 4 → r < 3 → (marks₁ : List ℕ) → length marks₁ ≡ length marks → Spreadable near n (4 * ((top - 1) / 6) + t) r marks₁
+  may-spread t r l lr marks₁ e =
+      record { near-room = S .paired .room; few = S .paired .few; within = near-within; room = omega (arith, e, S .room); slot = omega (arith, cell-lt); rank-lt = lr }
+
+  pub may-spread-first : (r : ℕ) → r < 3 → Spreadable near n (4 * ((top - 1) / 6) + free ((top - 1) % 6)) r (set marks ((top - 1) / 6) mark)
+  may-spread-first r l = may-spread (free ((top - 1) % 6)) r slot-lt l (set marks ((top - 1) / 6) mark) (length-set marks ((top - 1) / 6) mark)
+
+  pub spread-first : (o r : ℕ) → o ≡ other ((top - 1) % 6) (free ((top - 1) % 6)) → r ≡ under (free ((top - 1) % 6)) o
+      → Spreading keys near n key mark (4 * ((top - 1) / 6) + free ((top - 1) % 6)) r (4 * ((top - 1) / 6) + o) (set marks ((top - 1) / 6) mark)
+  unfolding lo slot-side
+  spread-first o r e f =
       let d : (4 * ((top - 1) / 6) + free ((top - 1) % 6)) / 4 ≡ (top - 1) / 6 = omega (arith, slot-lt) in
+      let m : (4 * ((top - 1) / 6) + free ((top - 1) % 6)) % 4 ≡ free ((top - 1) % 6) = omega (arith, slot-lt) in
       record {
         paired = S .paired;
-        room = simp length-set (S .room);
-        slot = omega (arith, slot-lt, cell-lt);
-        side = free-side keys near n key mark marks (S .paired) (S .fresh) ((top - 1) / 6) ((top - 1) % 6) cell-lt edge-lt at-top (S .room);
+        side = slot-side keys near n key mark marks (S .paired) (S .fresh) ((top - 1) / 6) ((top - 1) % 6) cell-lt edge-lt at-top (S .room) (free ((top - 1) % 6)) slot-lt slot-has;
+        rank-is = rw (m, ← e) f;
         here = rw d (marked keys near n key mark marks (S .paired) (S .fresh) ((top - 1) / 6) ((top - 1) % 6) cell-lt edge-lt at-top (S .room));
         opens = rw e (start-open keys near n key mark marks (S .paired) (S .fresh) ((top - 1) / 6) ((top - 1) % 6) cell-lt edge-lt at-top (S .room));
       }
 
-  pub spread-second : (o b : ℕ) → o ≡ other ((top - 1) % 6) (free ((top - 1) % 6)) → o < 4 → (marks₁ : List ℕ)
-      → Spread keys near n key mark (4 * ((top - 1) / 6) + o) (set marks ((top - 1) / 6) mark) marks₁ → Spreading keys near n key mark (4 * ((top - 1) / 6) + o) b marks₁
-  spread-second o b e l marks₁ g =
+  pub spread-second : (o r b : ℕ) → o ≡ other ((top - 1) % 6) (free ((top - 1) % 6)) → o < 4 → r ≡ under o (free ((top - 1) % 6)) → (marks₁ : List ℕ)
+      → Spread keys near n key mark (4 * ((top - 1) / 6) + o) (set marks ((top - 1) / 6) mark) marks₁ → Spreading keys near n key mark (4 * ((top - 1) / 6) + o) r b marks₁
+  unfolding lo slot-side
+  spread-second o r b e l f marks₁ g =
+      let m : (4 * ((top - 1) / 6) + o) % 4 ≡ o = omega arith in
+      let t : other ((top - 1) % 6) o ≡ free ((top - 1) % 6) = rw e (other-twice ((top - 1) % 6) (free ((top - 1) % 6)) edge-lt slot-lt slot-has) in
       record {
         paired = S .paired;
-        room = omega (arith, g .grown .same, length-set marks ((top - 1) / 6) mark, S .room);
-        slot = omega (arith, cell-lt);
-        side = rw e (other-side keys near n key mark marks (S .paired) (S .fresh) ((top - 1) / 6) ((top - 1) % 6) cell-lt edge-lt at-top (S .room));
+        side = slot-side keys near n key mark marks (S .paired) (S .fresh) ((top - 1) / 6) ((top - 1) % 6) cell-lt edge-lt at-top (S .room) o l
+            (rw e (other-holds ((top - 1) % 6) (free ((top - 1) % 6)) edge-lt slot-lt slot-has));
+        rank-is = rw (m, t) f;
         here = grown-at (g .grown) ((top - 1) / 6) (4 * ((top - 1) / 6) + o) (omega arith)
             (marked keys near n key mark marks (S .paired) (S .fresh) ((top - 1) / 6) ((top - 1) % 6) cell-lt edge-lt at-top (S .room));
         opens = open-free b (g .opens);
       }
 
-  pub spread-both : (a b : ℕ) → 4 * n ≤ b → (marks₁ marks₂ : List ℕ) → Spread keys near n key mark a (set marks ((top - 1) / 6) mark) marks₁
-      → Spread keys near n key mark b marks₁ marks₂ → Filled keys near n key mark ((top - 1) / 6) marks marks₂
-  spread-both a b h marks₁ marks₂ g₁ g₂ =
-      both-spread keys near n key mark marks (S .paired) (S .fresh) ((top - 1) / 6) ((top - 1) % 6) cell-lt edge-lt at-top (S .room) b h marks₁ marks₂
-      (g₁ .grown) (g₂ .grown) (g₂ .opens)
+  pub first-same : {x y : ℕ} {marks₁ : List ℕ} → Spreads near n mark x y (set marks ((top - 1) / 6) mark) marks₁ → length marks₁ ≡ length marks
+  first-same g = g .same ∙ length-set marks ((top - 1) / 6) mark
 
-  pub spread-same : (a b : ℕ) (marks₁ marks₂ : List ℕ) → Spread keys near n key mark a (set marks ((top - 1) / 6) mark) marks₁
-      → Spread keys near n key mark b marks₁ marks₂ → length marks₂ ≡ length marks
-  spread-same a b marks₁ marks₂ g₁ g₂ = g₂ .grown .same ∙ g₁ .grown .same ∙ length-set marks ((top - 1) / 6) mark
+  pub both-same : {x y z w : ℕ} {marks₁ marks₂ : List ℕ} → Spreads near n mark x y (set marks ((top - 1) / 6) mark) marks₁ → Spreads near n mark z w marks₁ marks₂
+      → length marks₂ ≡ length marks
+  both-same g h = h .same ∙ first-same g
+
+  -- after both: no slot has the number 4 n
+  pub spread-both : (o r q : ℕ) → o ≡ other ((top - 1) % 6) (free ((top - 1) % 6)) → o < 4 → r ≡ under (free ((top - 1) % 6)) o → q ≡ under o (free ((top - 1) % 6))
+      → (marks₁ marks₂ : List ℕ) → Spreads near n mark (4 * ((top - 1) / 6) + free ((top - 1) % 6)) r (set marks ((top - 1) / 6) mark) marks₁
+      → Spreads near n mark (4 * ((top - 1) / 6) + o) q marks₁ marks₂ → Filled keys near n key mark ((top - 1) / 6) marks marks₂
+  spread-both o r q e l f h marks₁ marks₂ g₁ g₂ =
+      let a = g₁ .over keys key (4 * ((top - 1) / 6) + o) (spread-first o r e f) in
+      let b = g₂ .over keys key (4 * n) (spread-second o q (4 * n) e l h marks₁ a) in
+      both-spread keys near n key mark marks (S .paired) (S .fresh) ((top - 1) / 6) ((top - 1) % 6) cell-lt edge-lt at-top (S .room) (4 * n) (le-refl (4 * n)) marks₁ marks₂
+      (a .grown) (b .grown) (b .opens)

@@ -34,6 +34,13 @@ table-more {f} {n} {l} w x room e =
           (eq-or-lt-of-le (omega arith));
     }
 
+-- the same at a place that is told, and the number of entries under another name
+pub table-put : {f : ℕ → ℕ} {n : ℕ} {l : List ℕ} → Table f n l → (i x : ℕ) → i ≡ n → i < length l → x ≡ f i → Table f (i + 1) (set l i x)
+table-put {f} {n} {l} w i x q room e = table-more {l = l} (rw q w) x room e
+
+pub table-to : {f : ℕ → ℕ} {n m : ℕ} {l : List ℕ} → n ≡ m → Table f n l → Table f m l
+table-to e w = rw (← e) w
+
 -- three cases
 pub below-three : (P : ℕ → Type 0) → P 0 → P 1 → P 2 → (i : ℕ) → i < 3 → P i
 below-three P a b c zero l = a

@@ -19,8 +19,8 @@ use Rattle.slots.specs.Slots.{contains, from, hi, lo, place, slotEdge, to}
 use Rattle.slots.proofs.Slots.{edge-order, edge-slot, face-ends, slot-edge, two-slots}
 use Rattle.grid.specs.Grid.{cellCount, hasEdge, hasFace, isEdge, node, sameFace}
 use Rattle.grid.specs.Rows.{joined, linked, split}
-use Rattle.grid.specs.Work.{Closed, Filled, Near, Ordered, Paired, Side, Table, edgeKey, join, missing, sameKey, sideKey}
-use Rattle.grid.proofs.Marks.{top-key, top-le}
+use Rattle.grid.specs.Work.{Closed, Filled, Near, Ordered, Paired, Side, Table, edgeKey, join, missing, rank, sameKey, sideKey}
+use Rattle.grid.proofs.Marks.{slot-rank, top-key, top-le}
 use Rattle.grid.proofs.Packed.{join-eqb, rises, same-true}
 use Rattle.grid.proofs.Sides.{is-side}
 
@@ -61,7 +61,7 @@ module _ (cells : List ℕ) (good : Ordered cells) (keys near : List ℕ) (tk : 
 
   -- an edge of a face is an edge of both its cells
   carried : (key d t c s k : ℕ) → d < cellCount cells → t < 4 → c < cellCount cells → s < 4 → k < 6 → sameFace cells d t c s ≡ true
-      → getD keys (6 * c + k) 0 ≡ key → contains k s ≡ true → (m : ℕ) × (m < 6) × (getD keys (6 * d + m) 0 ≡ key) × (contains m t ≡ true)
+      → getD keys (6 * c + k) 0 ≡ key → contains k s ≡ true → (m : ℕ) × (m < 6) × (getD keys (6 * d + m) 0 ≡ key) × (contains m t ≡ true) × (rank m t ≡ rank k s)
   carried key d t c s k hd ht hc hs hk e is h =
       let g = edge-slot k s hk hs h in
       let j = place s k in
@@ -72,8 +72,13 @@ module _ (cells : List ℕ) (good : Ordered cells) (keys near : List ℕ) (tk : 
       let f : node cells d (lo (slotEdge t j)) ≡ node cells c (lo k) =
       ap (node cells d) (v .lo-is) ∙ same (from j) (omega arith) ∙ ap (node cells c) (sym (u .lo-is) ∙ ap lo (g .edge-is)) in
       let q : node cells d (hi (slotEdge t j)) ≡ node cells c (hi k) =
-      ap (node cells d) (v .hi-is) ∙ same (to j) b ∙ ap (node cells c) (sym (u .hi-is) ∙ ap hi (g .edge-is)) in
-      (slotEdge t j, v .lt, side-at d (slotEdge t j) hd (v .lt) ∙ rw (f, q) (sym (side-at c k hc hk) ∙ is), v .within)
+      ap (node cells d) (v .hi-is) ∙ same (to j) b ∙ ap (node cells c) (sym (u .hi-is) ∙ ap hi (g .edge-is)) in (
+        slotEdge t j,
+        v .lt,
+        side-at d (slotEdge t j) hd (v .lt) ∙ rw (f, q) (sym (side-at c k hc hk) ∙ is),
+        v .within,
+        slot-rank t j ht (g .place-lt) ∙ sym (rw (g .edge-is) at (slot-rank s j hs (g .place-lt))),
+      )
 
   pub paired : Paired keys near (cellCount cells)
   paired =
@@ -87,7 +92,7 @@ module _ (cells : List ℕ) (good : Ordered cells) (keys near : List ℕ) (tk : 
             let x = getD near j 0 - 1 in
             let xl : x < 4 * cellCount cells = omega (arith, g .lt, p) in
             let w = carried key (x / 4) (x % 4) (j / 4) (j % 4) (s .k) (omega arith) (omega arith) (omega arith) (omega arith) (s .lt) (g .same) (s .is) (s .holds) in
-            record { k = w .0; lt = w .1; is = w .2; holds = w .3 });
+            (record { k = w .0; lt = w .1; is = w .2; holds = w .3 }, w .4));
         one = one-edge;
       }
 
@@ -115,7 +120,7 @@ module _ (cells : List ℕ) (good : Ordered cells) (keys near : List ℕ) (tk : 
         let g = N .pair j l p in
         let x = getD near j 0 - 1 in
         let q : j + 1 - 1 ≡ j = omega arith in
-        rw (g .back, q) at (link-of x (omega (arith, g .lt, p)) (paired .side (edgeKey edges e) j l p s) (omega (arith, g .back)))
+        rw (g .back, q) at (link-of x (omega (arith, g .lt, p)) (paired .side (edgeKey edges e) j l p s .0) (omega (arith, g .back)))
 
     -- the slot of cell d across which cell c is
     pub record Crossed (d c : ℕ) : Type 0 where

@@ -163,6 +163,14 @@ blankIn sides c = some (λ k. eqb (getD sides (6 * c + k) 0) 0) 6
 abbrev pub other : ℕ → ℕ → ℕ
 other k s = 6 - lo k - hi k - s
 
+-- the rank, among the nodes of slot s, of the one at position i
+abbrev pub under : ℕ → ℕ → ℕ
+under s i = pick (ltb i s) i (i - 1)
+
+-- the rank in slot s of the node that is no end of edge k
+abbrev pub rank : ℕ → ℕ → ℕ
+rank k s = under s (other k s)
+
 -- slot j is one of a cell's that contain the edge with this key
 pub record Side (keys : List ℕ) (key j : ℕ) : Type 0 where
   pub k : ℕ
@@ -176,20 +184,14 @@ pub record OnSlot (k s : ℕ) : Type 0 where
   pub slot-lt : s < 4
   pub holds : contains k s ≡ true
 
--- the edge with this key is one of cell c's, from its edge k on
-pub record Sought (keys : List ℕ) (key c k : ℕ) : Type 0 where
-  pub w : ℕ
-  pub lt : w < 6
-  pub from-k : k ≤ w
-  pub is : getD keys (6 * c + w) 0 ≡ key
-
 -- near pairs the slots of n cells that are one face
 pub record Paired (keys near : List ℕ) (n : ℕ) : Type 0 where
   pub keyed : 6 * n ≤ length keys
   pub room : 4 * n ≤ length near
   pub few : n ≤ mostCells
   pub back : (j : ℕ) → j < 4 * n → 0 < getD near j 0 → (getD near j 0 ≤ 4 * n) × (getD near (getD near j 0 - 1) 0 ≡ j + 1)
-  pub side : (key j : ℕ) → j < 4 * n → 0 < getD near j 0 → Side keys key j → Side keys key (getD near j 0 - 1)
+  pub side : (key j : ℕ) → j < 4 * n → 0 < getD near j 0 → (s : Side keys key j)
+      → (t : Side keys key (getD near j 0 - 1)) × (rank (t .k) ((getD near j 0 - 1) % 4) ≡ rank (s .k) (j % 4))
   pub one : (c k m : ℕ) → c < n → k < 6 → m < 6 → getD keys (6 * c + k) 0 ≡ getD keys (6 * c + m) 0 → k ≡ m
 
 -- a test that goes on across each face that contains the edge
@@ -209,18 +211,29 @@ pub record Grown (keys near : List ℕ) (n key mark : ℕ) (marks₀ marks : Lis
   pub within : (P : ℕ → Bool) → Closed keys near n key P → ((c : ℕ) → getD marks₀ c 0 ≡ mark → P c ≡ true)
       → (c : ℕ) → getD marks c 0 ≡ mark → P c ≡ true
 
--- what `spread` starts from, and what it leaves
-pub record Spreading (keys near : List ℕ) (n key mark start b : ℕ) (marks : List ℕ) : Type 0 where
-  pub paired : Paired keys near n
+-- what `spread` starts from, and what it leaves of any edge that start and rank tell
+pub record Spreadable (near : List ℕ) (n start rank : ℕ) (marks : List ℕ) : Type 0 where
+  pub near-room : 4 * n ≤ length near
+  pub few : n ≤ mostCells
+  pub within : (j : ℕ) → j < 4 * n → getD near j 0 ≤ 4 * n
   pub room : n ≤ length marks
   pub slot : start < 4 * n
+  pub rank-lt : rank < 3
+
+pub record Spreading (keys near : List ℕ) (n key mark start r b : ℕ) (marks : List ℕ) : Type 0 where
+  pub paired : Paired keys near n
   pub side : Side keys key start
+  pub rank-is : r ≡ rank (side .k) (start % 4)
   pub here : getD marks (start / 4) 0 ≡ mark
   pub opens : Open keys near n key mark marks start b
 
 pub record Spread (keys near : List ℕ) (n key mark b : ℕ) (marks₀ marks : List ℕ) : Type 0 where
   pub grown : Grown keys near n key mark marks₀ marks
   pub opens : Open keys near n key mark marks b b
+
+pub record Spreads (near : List ℕ) (n mark start r : ℕ) (marks₀ marks : List ℕ) : Type 0 where
+  pub same : length marks ≡ length marks₀
+  pub over : (keys : List ℕ) (key b : ℕ) → Spreading keys near n key mark start r b marks₀ → Spread keys near n key mark b marks₀ marks
 
 -- place j has the key, and its cell is not marked
 unfoldable pub missing : List ℕ → ℕ → List ℕ → ℕ → ℕ → Bool

@@ -129,27 +129,41 @@ fn corner_at(cells: &[u16], c: usize, s: usize, i: usize) -> usize
     node_at(cells, c, i + 1)
 }
 
-fn face_key(cells: &[u16], j: usize) -> usize
-    requires { ⌜ j < 4 * cellCount (now cells) ⌝ }
-    ensures { λ r. ⌜ r ≡ faceKey (now (cells .entry)) j ⌝ }
+// The nodes of slot s of cell c as one number.
+fn face_key(cells: &[u16], c: usize, s: usize) -> usize
+    requires { ⌜ c < cellCount (now cells) ⌝ }
+    requires { ⌜ s < 4 ⌝ }
+    ensures { λ r. ⌜ r ≡ faceKey (now (cells .entry)) (4 * c + s) ⌝ }
 {
-    let c = j / 4;
-    let s = j % 4;
     let n0 = corner_at(cells, c, s, 0);
     let n1 = corner_at(cells, c, s, 1);
     let n2 = corner_at(cells, c, s, 2);
     (n0 * 65536 + n1) * 65536 + n2
 }
 
+// The keys of cell c's faces.
+fn put_faces(cells: &[u16], c: usize, keys: &mut [usize])
+    requires { ⌜ c < cellCount (now cells) ⌝ }
+    requires { ⌜ 4 * cellCount (now cells) ≤ length (now keys) ⌝ }
+    requires { ⌜ Table (faceKey (now cells)) (4 * c) (now keys) ⌝ }
+    ensures { λ _. ⌜ length (now (keys .exit)) ≡ length (now (keys .entry)) ⌝ }
+    ensures { λ _. ⌜ Table (faceKey (now (cells .entry))) (4 * c + 4) (now (keys .exit)) ⌝ }
+{
+    keys[4 * c] = face_key(cells, c, 0);
+    keys[4 * c + 1] = face_key(cells, c, 1);
+    keys[4 * c + 2] = face_key(cells, c, 2);
+    keys[4 * c + 3] = face_key(cells, c, 3);
+}
+
 fn face_keys(cells: &[u16], keys: &mut [usize])
     requires { ⌜ 4 * cellCount (now cells) ≤ length (now keys) ⌝ }
     ensures { λ _. ⌜ Table (faceKey (now (cells .entry))) (4 * cellCount (now (cells .entry))) (now (keys .exit)) ⌝ }
 {
-    let n = 4 * (cells.len() / 4);
-    let mut j = 0;
-    while j < n {
-        keys[j] = face_key(cells, j);
-        j += 1;
+    let n = cells.len() / 4;
+    let mut c = 0;
+    while c < n {
+        put_faces(cells, c, keys);
+        c += 1;
     }
 }
 

@@ -12,9 +12,9 @@ use crate::keys::walk;
 use crate::keys::wide;
 
 // The positions that a cell's edges join.
-pub(crate) const LO: [usize; 6] = [0, 0, 0, 1, 1, 2];
+const LO: [usize; 6] = [0, 0, 0, 1, 1, 2];
 
-pub(crate) const HI: [usize; 6] = [1, 2, 3, 2, 3, 3];
+const HI: [usize; 6] = [1, 2, 3, 2, 3, 3];
 
 pub(crate) fn row_2(edges: &[u16], counts: &[u8]) -> bool
     ensures { λ r. ⌜ r ≡ badPairs (now (edges .entry)) (now (counts .entry)) ⌝ }
@@ -71,27 +71,42 @@ pub(crate) fn row_6(edges: &[u16], counts: &[u8]) -> usize
     n
 }
 
-// The ends of edge j % 6 of cell j / 6 as one number.
-fn side_key(cells: &[u16], j: usize) -> usize
-    requires { ⌜ j < 6 * cellCount (now cells) ⌝ }
-    ensures { λ r. ⌜ r ≡ sideKey (now (cells .entry)) j ⌝ }
+// The ends of edge k of cell c as one number.
+fn side_key(cells: &[u16], c: usize, k: usize) -> usize
+    requires { ⌜ c < cellCount (now cells) ⌝ }
+    requires { ⌜ k < 6 ⌝ }
+    ensures { λ r. ⌜ r ≡ sideKey (now (cells .entry)) (6 * c + k) ⌝ }
 {
-    let c = j / 6;
-    let k = j % 6;
     let u = node_at(cells, c, LO[k]);
     let v = node_at(cells, c, HI[k]);
     u * 65536 + v
+}
+
+// The keys of cell c's edges. Each edge is named here, so that the compiler looks its ends up.
+fn put_sides(cells: &[u16], c: usize, keys: &mut [usize])
+    requires { ⌜ c < cellCount (now cells) ⌝ }
+    requires { ⌜ 6 * cellCount (now cells) ≤ length (now keys) ⌝ }
+    requires { ⌜ Table (sideKey (now cells)) (6 * c) (now keys) ⌝ }
+    ensures { λ _. ⌜ length (now (keys .exit)) ≡ length (now (keys .entry)) ⌝ }
+    ensures { λ _. ⌜ Table (sideKey (now (cells .entry))) (6 * c + 6) (now (keys .exit)) ⌝ }
+{
+    keys[6 * c] = side_key(cells, c, 0);
+    keys[6 * c + 1] = side_key(cells, c, 1);
+    keys[6 * c + 2] = side_key(cells, c, 2);
+    keys[6 * c + 3] = side_key(cells, c, 3);
+    keys[6 * c + 4] = side_key(cells, c, 4);
+    keys[6 * c + 5] = side_key(cells, c, 5);
 }
 
 pub(crate) fn side_keys(cells: &[u16], keys: &mut [usize])
     requires { ⌜ 6 * cellCount (now cells) ≤ length (now keys) ⌝ }
     ensures { λ _. ⌜ Table (sideKey (now (cells .entry))) (6 * cellCount (now (cells .entry))) (now (keys .exit)) ⌝ }
 {
-    let n = 6 * (cells.len() / 4);
-    let mut j = 0;
-    while j < n {
-        keys[j] = side_key(cells, j);
-        j += 1;
+    let n = cells.len() / 4;
+    let mut c = 0;
+    while c < n {
+        put_sides(cells, c, keys);
+        c += 1;
     }
 }
 

@@ -1,70 +1,76 @@
 // Row 9: the cells of each edge, linked through faces that contain it.
 ghost use mathlib.Core.Path.{_≡_};
-ghost use Prim.Native.Nat.{_+_, _-_, _*_, _/_, _<_};
-ghost use lib.ListN.{length, getD};
+ghost use mathlib.Core.Logic.{_≢_};
+ghost use Prim.Native.Nat.{_-_, _*_, _/_, _<_};
+ghost use lib.ListN.{length};
 ghost use Rattle.counting.specs.Search.{first, some};
+ghost use Rattle.slots.specs.Slots.{corner};
 ghost use Rattle.grid.specs.Rows.{split};
-ghost use Rattle.grid.specs.Work.{OnSlot, Sought, other, Spreading, Spread, missing, Leaving, Filled, Splitting, Linkable};
+ghost use Rattle.grid.specs.Work.{OnSlot, other, under, Spreadable, Spreads, missing, Leaving, Filled, Splitting, Linkable};
 use crate::MOST_CELLS;
-use crate::edges::HI;
-use crate::edges::LO;
 use crate::edges::edge_key;
 use crate::keys::earlier;
 use crate::keys::latest;
 use crate::keys::wide;
 
-// Which edge of cell c has this key: one of them has.
-fn place(keys: &[usize], c: usize, key: usize) -> usize
-    requires { ⌜ 6 * c + 5 < length (now keys) ⌝ }
-    requires { ⌜ Sought (now keys) key c 0 ⌝ }
-    ensures { λ r. ⌜ r < 6 ⌝ }
-    ensures { λ r. ⌜ getD (now (keys .entry)) (6 * c + r) 0 ≡ key ⌝ }
-{
-    let mut k = 0;
-    while k < 5 {
-        if keys[6 * c + k] == key {
-            return k;
-        }
-        k += 1;
-    }
-    5
-}
-
-// The other slot that contains edge k.
+// The other slot that contains edge k. The positions of an edge's ends add up to k + 1 from the lowest node, else to k.
 fn other_side(k: usize, s: usize) -> usize
     requires { ⌜ OnSlot k s ⌝ }
     ensures { λ r. ⌜ r ≡ other k s ⌝ }
     ensures { λ r. ⌜ r < 4 ⌝ }
 {
-    6 - LO[k] - HI[k] - s
+    if k < 3 {
+        return 5 - k - s;
+    }
+    6 - k - s
+}
+
+// The position of slot s's node of this rank, of three.
+fn position(s: usize, rank: usize) -> usize
+    requires { ⌜ rank < 3 ⌝ }
+    ensures { λ r. ⌜ r ≡ corner s rank ⌝ }
+    ensures { λ r. ⌜ r < 4 ⌝ }
+    ensures { λ r. ⌜ r ≢ s ⌝ }
+{
+    if rank < s {
+        return rank;
+    }
+    rank + 1
+}
+
+// The rank in slot s of the node at position i.
+fn rank_of(s: usize, i: usize) -> usize
+    requires { ⌜ i < 4 ⌝ }
+    requires { ⌜ s < 4 ⌝ }
+    requires { ⌜ i ≢ s ⌝ }
+    ensures { λ r. ⌜ r ≡ under s i ⌝ }
+    ensures { λ r. ⌜ r < 3 ⌝ }
+{
+    if i < s {
+        return i;
+    }
+    i - 1
 }
 
 // Marks the cells of an edge that are met across slot `start`, and across the other side of each cell met, until there is none or a marked one.
-fn spread(
-    keys: &[usize],
-    near: &[u16],
-    n: usize,
-    key: usize,
-    mark: usize,
-    start: usize,
-    b: usize,
-    marks: &mut [usize],
-)
-    requires { ⌜ Spreading (now keys) (now near) n key mark start b (now marks) ⌝ }
-    ensures { λ _. ⌜ Spread (now (keys .entry)) (now (near .entry)) n key mark b (now (marks .entry)) (now (marks .exit)) ⌝ }
+// The edge is told by the rank in the slot of the node that is no end of it: a face has its nodes in the same order in both its cells.
+fn spread(near: &[u16], n: usize, mark: usize, start: usize, rank: usize, marks: &mut [usize])
+    requires { ⌜ Spreadable (now near) n start rank (now marks) ⌝ }
+    ensures { λ _. ⌜ Spreads (now (near .entry)) n mark start rank (now (marks .entry)) (now (marks .exit)) ⌝ }
 {
-    let mut j = start;
-    let mut p = wide(near[j]);
+    let mut r = rank;
+    let mut p = wide(near[start]);
     while 0 < p {
         let x = p - 1;
         let c = x / 4;
+        let t = x % 4;
         if marks[c] == mark {
             return;
         }
         marks[c] = mark;
-        let k = place(keys, c, key);
-        j = 4 * c + other_side(k, x % 4);
-        p = wide(near[j]);
+        let s = position(t, r);
+        r = rank_of(s, t);
+        p = wide(near[4 * c + s]);
     }
 }
 
@@ -92,9 +98,6 @@ fn left_out(
     false
 }
 
-// The number of no slot.
-const NO_SLOT: usize = 4 * MOST_CELLS;
-
 // A slot that contains each edge.
 const SLOT: [usize; 6] = [2, 1, 1, 0, 0, 0];
 
@@ -118,10 +121,9 @@ fn split_at(
     let k = x % 6;
     marks[c] = mark;
     let s = SLOT[k];
-    let a = 4 * c + s;
-    let b = 4 * c + other_side(k, s);
-    spread(keys, near, n, key, mark, a, b, marks);
-    spread(keys, near, n, key, mark, b, NO_SLOT, marks);
+    let t = other_side(k, s);
+    spread(near, n, mark, 4 * c + s, rank_of(s, t), marks);
+    spread(near, n, mark, 4 * c + t, rank_of(t, s), marks);
     left_out(keys, next, n, key, mark, top, marks)
 }
 

@@ -1,11 +1,11 @@
--- The mesh call, where the grid check refuses and where it accepts.
+-- The mesh call and the loops call, where the grid check refuses and where it accepts.
 use Prim.Native.Nat.{ℕ}
-use mathlib.Core.Path.{_≡_, refl, sym, ap, _∙_}
-use mathlib.Core.Bool.{Bool, true, false}
+use mathlib.Core.Path.{_≡_, sym, ap, _∙_}
+use mathlib.Core.Bool.{true, false}
 use mathlib.Core.List.{List, [], _∷_}
 use lib.Dec.{eqb}
 use lib.ListN.{length}
-use Rattle.answer.specs.Answer.{result, refusal}
+use Rattle.answer.specs.Answer.{refusal}
 use Rattle.counting.specs.Pick.{pick}
 use Rattle.grid.specs.declared.Checked.{Checked}
 use Rattle.grid.specs.declared.Checked.the-variants.{Crossings, Refused}
@@ -14,22 +14,29 @@ use Rattle.grid.specs.Rows.{gridAnswer}
 use Rattle.grid.specs.Tables.{accepts, Opened}
 use Rattle.grid.proofs.Accepts.{acceptance-yields}
 use Rattle.grid.proofs.Filled.{refused-keeps, crossings-accept}
-use Rattle.mesh.specs.Table.{Laid}
+use Rattle.mesh.specs.Table.{Laid, tableLoop}
 use Rattle.mesh.specs.Room.{roomAnswer, roomArea}
 use Rattle.mesh.specs.Drawn.{Drawn}
-use Rattle.mesh.specs.Answer.{meshAnswer, meshArea}
+use Rattle.mesh.specs.Answer.{meshAnswer, meshArea, loopsAnswer}
 use Rattle.mesh.specs.Done.{Done}
 use Rattle.mesh.proofs.Demand.{demand3}
-use Rattle.mesh.proofs.Tables.{Tabled, tabled, laid, triangles-are}
+use Rattle.mesh.proofs.Tables.{Tabled, tabled, laid, triangles-are, loop-is}
 
 module _ (cells edges counts : List ℕ) where
-  pub refused-done : (r : Checked) (row place : ℕ) (area : List ℕ) → r ≡ Refused row place → checkNumbers r ≡ gridAnswer cells edges counts
-      → Done cells edges counts area area (pick (eqb row 0) [] (refusal row place))
-  unfolding meshAnswer meshArea
-  refused-done r row place area e q =
-      let n : checkNumbers (Refused row place) ≡ gridAnswer cells edges counts = ap checkNumbers (sym e) ∙ q in
-      let k = refused-keeps cells edges counts row place n in
-      record { answered = rw k n; area = rw k; demand = demand3 cells edges counts }
+  module _ (r : Checked) (row place : ℕ) (e : r ≡ Refused row place) (q : checkNumbers r ≡ gridAnswer cells edges counts) where
+    is-refusal : checkNumbers (Refused row place) ≡ gridAnswer cells edges counts
+    is-refusal = ap checkNumbers (sym e) ∙ q
+
+    keeps : accepts cells edges counts ≡ false
+    keeps = refused-keeps cells edges counts row place is-refusal
+
+    pub refused-done : (area : List ℕ) → Done cells edges counts area area (pick (eqb row 0) [] (refusal row place))
+    unfolding meshAnswer meshArea
+    refused-done area = record { answered = rw keeps is-refusal; area = rw keeps; demand = demand3 cells edges counts }
+
+    pub refused-loops : (c k : ℕ) → pick (eqb row 0) [] (refusal row place) ≡ loopsAnswer cells edges counts c k
+    unfolding loopsAnswer
+    refused-loops c k = rw keeps is-refusal
 
   module _ (r : Checked) (n : ℕ) (e : r ≡ Crossings n) (q : checkNumbers r ≡ gridAnswer cells edges counts) where
     is-result : checkNumbers (Crossings n) ≡ gridAnswer cells edges counts
@@ -54,3 +61,7 @@ module _ (cells edges counts : List ℕ) where
         area = rw accepted (d .area ∙ ap (λ m. roomArea m before) (triangles-are tables));
         demand = demand3 cells edges counts;
       }
+
+      pub told-loops : (c k : ℕ) → tableLoop cells counts names sides starts c k ≡ loopsAnswer cells edges counts c k
+      unfolding loopsAnswer
+      told-loops c k = rw accepted (loop-is tables c k)

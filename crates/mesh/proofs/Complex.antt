@@ -1,39 +1,35 @@
 -- An accepted grid is a complex whose cells share whole faces.
-use Prim.Native.Nat.{ℕ, zero, suc, _+_, _*_, _-_, _/_, _%_, _≤_, _<_}
+use Prim.Native.Nat.{ℕ, _+_, _*_, _-_, _/_, _≤_, _<_}
 use mathlib.Core.Path.{_≡_, refl, sym, ap, ap₂, _∙_, subst}
-use mathlib.Core.Logic.{_⊎_, inl, inr, _≢_, ⊎-elim}
-use mathlib.Core.Bool.{Bool, true, false}
-use mathlib.Core.List.{List, [], _∷_}
+use mathlib.Core.Logic.{_⊎_, inl, inr, ⊎-elim}
+use mathlib.Core.List.{List}
 use native.Mathlib.Nat.{zero-add}
 use native.Mathlib.Omega.{arith}
 use native.Mathlib.Decide.{decLt}
 use lib.ListN.{getD, length}
-use Rattle.counting.specs.Range.{over}
-use Rattle.counting.specs.Pack.{pre, row, col}
 use Rattle.counting.proofs.Lists.{getD-singles}
 use Rattle.counting.proofs.Pack.{row-lt, col-lt, pre-le, later}
 use Rattle.counting.proofs.Search.{first-ext}
 use Rattle.slots.specs.Slots.{lo, hi, corner, from, to, slotEdge, place, firstSlot, secondSlot}
-use Rattle.slots.proofs.Slots.{slot-edge, EdgeSlot, first-slot, second-slot, face-ends, same-slot, corner-lt}
-use Rattle.face.specs.Face.{joined, unjoined, faceJoin}
+use Rattle.slots.proofs.Slots.{slot-edge, face-ends, same-slot, corner-lt}
+use Rattle.face.specs.Face.{unjoined, faceJoin}
 use Rattle.walk.specs.Darts.{half}
 use Rattle.walk.proofs.Step.{face-first, face-second}
 use Rattle.cell.specs.Cell as cell
 use Rattle.cell.specs.Cell.{crossings, edge, index, number, mate, joinAt}
 use Rattle.cell.specs.Loop.{inGrid, normal}
-use Rattle.cell.proofs.Mates.{ports}
-use Rattle.mesh.proofs.Joins.{three, On, index-in, num-lt, num-edge, num-index, num-place, num-on, is-num, Joined, joined-or, mate-joined, on-dart}
+use Rattle.cell.proofs.Mates.{mate-joined}
+use Rattle.mesh.proofs.Joins.{three, On, index-in, num-lt, num-edge, num-index, num-place, is-num, Joined, joined-or, on-dart}
 use Rattle.triangle.specs.Triangles as triangles
 use Rattle.triangle.specs.Triangles.{numberOf}
-use Rattle.triangle.proofs.Polygons.{localOf}
+use Rattle.triangle.proofs.Polygons.{localOf, piece}
 use Rattle.manifold.specs.Piece.{Local, Piece, slotOf, mateOf}
 use Rattle.manifold.specs.Complex.{Complex}
 use Rattle.manifold.specs.Faces.{Match, Faced}
-use Rattle.grid.specs.Grid as grid
 use Rattle.grid.specs.Grid.{cellCount, node, SameFace, faceName, joins, isEdge, edgeNumber, countOf, start}
 use Rattle.grid.specs.Accepted.{Accepted}
+use Rattle.grid.proofs.Names.{same-named}
 use Rattle.mesh.specs.Mesh.{values, gridCell}
-use Rattle.mesh.proofs.Names.{same-named, named-same}
 
 values-at : (f : ℕ → ℕ) (n k : ℕ) → k < n → getD (values f n) k 0 ≡ f k
 values-at f n k l = getD-singles f 0 n 0 k l ∙ ap f (zero-add k)
@@ -117,12 +113,7 @@ module _ (cells edges counts : List ℕ) where
         same-slot s t ls lt (λ i l. node-once c (corner s i) (corner t i) lc (corner-lt s i l) (corner-lt t i l) (h i l))
 
     piece-is : (c : ℕ) → c < cellCount cells → Piece (at c)
-    piece-is c lc = record {
-      ports = ports (w c);
-      numbers = number-once c lc;
-      slot = λ d l. on-dart (w c) d l .slot .lt;
-      names = names-once c lc;
-    }
+    piece-is c lc = piece (gridCell cells edges counts c) (record { numbers = number-once c lc; names = names-once c lc })
 
     -- two cells that share a face have the same edges there, and so the same counts and the same segments
     module _ (a b r s : ℕ) (lr : r < 4) (ls : s < 4) (h : SameFace cells a r b s) where
@@ -204,7 +195,7 @@ module _ (cells edges counts : List ℕ) where
                 → (mate (w b) s y < crossings (w b)) × (at b .number (mate (w b) s y) ≡ at a .number (mate (w a) r x))
             go (inr u) = absurd (omega (arith, u .1))
             go (inl g) =
-                let m : mate (w b) s y ≡ number (w b) (slotEdge s (g .j)) (g .i) = mate-joined (w b) s y (g .j) (g .i) (y-join ∙ g .join) in
+                let m : mate (w b) s y ≡ number (w b) (slotEdge s (g .j)) (g .i) = mate-joined (w b) s y (y-join ∙ g .join) in
                 let gb : g .i < three (w b) s (g .j) = subst (λ n. g .i < n) (same-count (g .j) (g .j-lt)) (g .i-lt) in
                 (rw m (num-lt (w b) s (g .j) (g .i) ls (g .j-lt) gb), ap (at b .number) m ∙ same-number (g .j) (g .i) (g .j-lt) (g .i-lt) ∙ ap (at a .number) (sym (g .is)))
 

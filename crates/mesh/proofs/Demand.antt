@@ -1,5 +1,5 @@
 -- Demand 3 from what acceptance yields.
-use Prim.Native.Nat.{ℕ, zero, suc, _+_, _*_, _/_, _%_, _≤_, _<_}
+use Prim.Native.Nat.{ℕ, _+_, _<_}
 use mathlib.Core.Path.{_≡_, refl, sym, ap, ap₂, _∙_, subst}
 use mathlib.Core.Logic.{_⊎_, inl, inr}
 use mathlib.Core.Bool.{Bool, true, false, _&&_, _||_}
@@ -18,18 +18,17 @@ use Rattle.face.proofs.Claims.{faceLaws}
 use Rattle.cell.specs.Cell as cell
 use Rattle.cell.specs.Loop.{loopSize, normal}
 use Rattle.manifold.specs.Triangle as names
-use Rattle.manifold.specs.Triangle.{Corner, Side, Tri, noTri, nth, cross, middle, same}
+use Rattle.manifold.specs.Triangle.{Corner, Side, noTri, nth, cross, middle, same}
 use Rattle.manifold.specs.Polygon.{shape, shapeBy, fan, triangles}
 use Rattle.manifold.specs.Complex as complex
-use Rattle.manifold.specs.Complex.{Complex, Shut, Has, Linked, loopOf}
+use Rattle.manifold.specs.Complex.{Complex, Shut, Has, loopOf}
 use Rattle.manifold.specs.Ring.{RingIn}
 use Rattle.manifold.specs.Claims.{Manifold}
 use Rattle.manifold.proofs.Claims.{manifold}
 use Rattle.manifold.proofs.Faces.{faces-lawful, faces-shut, faces-linked}
 use Rattle.manifold.proofs.Named.{ring-named}
 use Rattle.triangle.specs.declared.Triangle.{Triangle}
-use Rattle.triangle.specs.Names.{cornerAt, sideAt, hasSide}
-use Rattle.triangle.specs.Triangles as triangle
+use Rattle.triangle.specs.Names.{sideAt, hasSide}
 use Rattle.triangle.specs.Triangles.{cellTriangles, numberOf}
 use Rattle.triangle.proofs.Polygons.{named, corner-named, side-named, polygonOf, cell-named}
 use Rattle.grid.specs.Grid.{cellCount, countOf, start, crossings}
@@ -41,7 +40,7 @@ use Rattle.grid.proofs.Claims.{accepts-or-refuses, refuses-fault}
 use Rattle.grid.proofs.Accepts.{acceptance-yields}
 use Rattle.mesh.specs.Mesh.{gridCell, meshTriangles}
 use Rattle.mesh.specs.Demand.{none, faceCount, RingPremises, OneRing, Fan, Demand3}
-use Rattle.mesh.proofs.Complex.{w, at, en, gridComplex, count-of, number-of, faced}
+use Rattle.mesh.proofs.Complex.{w, en, gridComplex, count-of, number-of, faced}
 use Rattle.mesh.proofs.Shut.{facesShut, facesLinked}
 
 -- a triangle has a side exactly where its names have it

@@ -16,7 +16,11 @@ use Rattle.grid.specs.Grid.{faceNode, sameFace, hasFace, faceName, joins, isEdg
 use Rattle.grid.specs.Rows.{badLength, badPairs, badCell, sameCell, repeats, third, after, badEdge, unlisted, unused, linked, joined, split, tooMany, rows, orRefuse, answerOf, answerFrom, gridAnswer}
 use Rattle.triangle.specs.Triangles as triangle
 use Rattle.triangle.specs.Words.{cornerWords, words, allWords}
+use Rattle.triangle.specs.Answer.{nthAnswer}
 use Rattle.mesh.specs.Mesh.{gridCell, meshTriangles, meshWords}
+use Rattle.mesh.specs.Room.{roomAnswer, roomArea}
+use Rattle.mesh.specs.Asked.{askedLoop}
+use Rattle.mesh.specs.Answer.{meshAnswer, meshArea, loopsAnswer}
 use Rattle.mesh.specs.Examples.{faceAnswers, startsOf, gridLoops, loopPoints, gridPoints, sidesOf, different, tallies, computed, listed, each, examples, ExamplesHold}
 
 pub examples-hold : ExamplesHold
@@ -29,6 +33,6 @@ unfolding seek first last some every count total over tally pre rowFrom colFrom 
     faceNode sameFace hasFace faceName joins isEdge hasEdge edgeNumber start
     badLength badPairs badCell sameCell repeats third after badEdge unlisted unused linked joined split tooMany rows orRefuse answerOf answerFrom gridAnswer
     triangle.numberOf triangle.segmentOf triangle.point triangle.segment triangle.triangle triangle.whole triangle.half0 triangle.half1 triangle.spoke triangle.fan triangle.trianglesBy triangle.inTwo triangle.loopTriangles triangle.cellTriangles
-    cornerWords words allWords gridCell meshTriangles meshWords
+    cornerWords words allWords nthAnswer gridCell meshTriangles meshWords roomAnswer roomArea askedLoop meshAnswer meshArea loopsAnswer
     faceAnswers startsOf gridLoops loopPoints gridPoints sidesOf different tallies computed listed each examples
 examples-hold = refl

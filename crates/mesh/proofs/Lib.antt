@@ -1,6 +1,6 @@
 pub mod Joins
-pub mod Names
 pub mod Progress
+pub mod Askings
 pub mod Tables
 pub mod Rooms
 pub mod Calls
@@ -9,3 +9,4 @@ pub mod Shut
 pub mod Demand
 pub mod Examples
 pub mod Premises
+pub mod Claims

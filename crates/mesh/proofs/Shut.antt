@@ -1,5 +1,5 @@
 -- Under the ring premises an accepted grid is a complex in which nothing is left open, and the cells at a crossing are linked.
-use Prim.Native.Nat.{ℕ, zero, suc, _+_, _*_, _-_, _/_, _%_, _≤_, _<_}
+use Prim.Native.Nat.{ℕ, _+_, _*_, _-_, _/_, _%_, _<_}
 use mathlib.Core.Path.{_≡_, refl, sym, ap, ap₂, _∙_, subst}
 use mathlib.Core.Logic.{_⊎_, inl, inr, _≢_, ⊎-elim}
 use mathlib.Core.Bool.{Bool, true, false, not, _&&_}
@@ -7,77 +7,52 @@ use mathlib.Core.List.{List}
 use native.Mathlib.Omega.{arith}
 use native.Mathlib.Decide.{decLt}
 use lib.Dec.{eqb}
-use lib.ListN.{length}
-use borrow.Author.Tests.{eqb-true, eqb-false, eq-eqb, not-true}
-use Rattle.counting.specs.Search.{first, some, count}
-use Rattle.counting.specs.Pack.{pre}
+use borrow.Author.Tests.{eqb-true, eqb-false, not-true}
+use Rattle.counting.specs.Search.{some}
 use Rattle.counting.proofs.Bools.{clash, and-true, and-left, and-right, holds-or}
 use Rattle.counting.proofs.Pack.{row-lt, col-lt}
-use Rattle.counting.proofs.Search.{least, some-is, some-found, first-is}
-use Rattle.counting.proofs.Rows.{count-only}
-use Rattle.slots.specs.Slots.{slotEdge, place, contains, firstSlot, secondSlot}
+use Rattle.counting.proofs.Search.{least, some-is, some-found}
+use Rattle.slots.specs.Slots.{slotEdge, place, firstSlot, secondSlot}
 use Rattle.slots.proofs.Slots.{slot-edge}
-use Rattle.face.specs.Face.{unjoined, faceJoin}
-use Rattle.face.proofs.Claims.{faceLaws}
+use Rattle.face.specs.Face.{unjoined}
 use Rattle.walk.specs.Darts.{half}
 use Rattle.walk.proofs.Step.{face-first, face-second}
 use Rattle.cell.specs.Cell as cell
 use Rattle.cell.specs.Cell.{crossings, edge, index, number, mate, joinAt}
 use Rattle.mesh.proofs.Joins.{three, On, index-in, num-lt, num-edge, num-index, Joined, joined-or, even-joined, on-dart}
 use Rattle.manifold.specs.Piece.{slotOf, mateOf}
-use Rattle.manifold.specs.Complex.{Complex, Has}
 use Rattle.manifold.specs.Faces.{FacesShut, SharesFace, FacesLinked}
-use Rattle.grid.specs.Grid.{cellCount, SameFace, hasFace, isEdge, outer, edgeNumber, countOf, start, sameFace}
+use Rattle.grid.specs.Grid.{cellCount, SameFace, countOf, start, sameFace}
 use Rattle.grid.specs.Accepted.{Accepted}
+use Rattle.grid.proofs.Packed.{same-true, true-same}
+use Rattle.grid.proofs.Names.{named-same, outer-edge}
 use Rattle.mesh.specs.Demand.{RingPremises, faceCount}
-use Rattle.mesh.proofs.Names.{same-face, face-same, named-same, has-face}
 use Rattle.mesh.proofs.Complex.{w, at, en, gridComplex, count-of, name-of, number-of, start-le}
 
 module _ (cells edges counts : List ℕ) where
   module _ (A : Accepted cells edges counts) (H : RingPremises cells edges counts) where
     -- a face with a crossing is in a second cell: an edge of a face that only one cell has is outer
-    module _ (c s j : ℕ) (lc : c < cellCount cells) (ls : s < 4) (lj : j < 3) where
-      own : hasFace cells c s c ≡ true
-      unfolding hasFace
-      own = some-found (λ t. sameFace cells c t c s) 4 s ls (face-same cells c s c s (λ i l. refl))
+    pub beyond : (c s j : ℕ) → c < cellCount cells → s < 4 → j < 3 → (i : ℕ) → i < faceCount cells edges counts c s j
+        → (b : ℕ) × (b < cellCount cells) × (b ≢ c) × (t : ℕ) × (t < 4) × SameFace cells c s b t
+    beyond c s j lc ls lj i li = go (least other (cellCount cells))
+      where
+        other : ℕ → Bool
+        other b = some (λ t. sameFace cells b t c s) 4 && not (eqb b c)
 
-      alone-outer : count (hasFace cells c s) (cellCount cells) ≡ 1 → outer cells edges (en cells edges counts c (slotEdge s j)) ≡ true
-      unfolding outer edgeNumber
-      alone-outer e =
-          let k = slotEdge s j in
-          let sk = slot-edge s j ls lj in
-          let f = en cells edges counts c k in
-          let is : isEdge cells edges c k f ≡ true = first-is (isEdge cells edges c k) (length counts) (A .listed c k lc (sk .lt)) in
-          some-found (λ c. some (λ k. isEdge cells edges c k f && some (λ s. contains k s && eqb (count (hasFace cells c s) (cellCount cells)) 1) 4) 6) (cellCount cells) c lc
-          (some-found (λ k. isEdge cells edges c k f && some (λ s. contains k s && eqb (count (hasFace cells c s) (cellCount cells)) 1) 4) 6 k (sk .lt)
-          (and-true (isEdge cells edges c k f) (some (λ s. contains k s && eqb (count (hasFace cells c s) (cellCount cells)) 1) 4) is
-          (some-found (λ s. contains k s && eqb (count (hasFace cells c s) (cellCount cells)) 1) 4 s ls
-          (and-true (contains k s) (eqb (count (hasFace cells c s) (cellCount cells)) 1) (sk .within) (eq-eqb (count (hasFace cells c s) (cellCount cells)) 1 e)))))
-
-      pub beyond : (i : ℕ) → i < faceCount cells edges counts c s j → (b : ℕ) × (b < cellCount cells) × (b ≢ c) × (t : ℕ) × (t < 4) × SameFace cells c s b t
-      beyond i li = go (least (λ b. hasFace cells c s b && not (eqb b c)) (cellCount cells))
-        where
-          found : (b : ℕ) → b < cellCount cells → (hasFace cells c s b && not (eqb b c)) ≡ true → (b : ℕ) × (b < cellCount cells) × (b ≢ c) × (t : ℕ) × (t < 4) × SameFace cells c s b t
-          found b lb e =
-              let (t, lt, q) = shared b (and-left (hasFace cells c s b) (not (eqb b c)) e) in
-              (b, lb, eqb-false b c (not-true (eqb b c) (and-right (hasFace cells c s b) (not (eqb b c)) e)), t, lt, λ i l. sym (same-face cells b t c s q i l))
-            where
-              shared : (b : ℕ) → hasFace cells c s b ≡ true → (t : ℕ) × (t < 4) × (sameFace cells b t c s ≡ true)
-              shared b e = has-face cells c s b e
-
-          only : ((i : ℕ) → i < cellCount cells → (hasFace cells c s i && not (eqb i c)) ≡ false) → (b : ℕ) → b < cellCount cells → hasFace cells c s b ≡ true → b ≡ c
-          only none b lb e =
-              ⊎-elim (λ (q : eqb b c ≡ true). eqb-true b c q)
-              (λ (q : eqb b c ≡ false). clash (and-true (hasFace cells c s b) (not (eqb b c)) e (ap not q)) (none b lb)) (holds-or (eqb b c))
-
-          go : ((b : ℕ) × (b < cellCount cells) × ((hasFace cells c s b && not (eqb b c)) ≡ true) × ((i : ℕ) → i < b → (hasFace cells c s i && not (eqb i c)) ≡ false))
-              ⊎ ((i : ℕ) → i < cellCount cells → (hasFace cells c s i && not (eqb i c)) ≡ false)
-              → (b : ℕ) × (b < cellCount cells) × (b ≢ c) × (t : ℕ) × (t < 4) × SameFace cells c s b t
-          go (inl (b, lb, e, f)) = found b lb e
-          go (inr none) =
-              let one = count-only (hasFace cells c s) (cellCount cells) c lc own (only none) in
-              let z = H .outer-zero (en cells edges counts c (slotEdge s j)) (A .listed c (slotEdge s j) lc (slot-edge s j ls lj .lt)) (alone-outer one) in
-              absurd (omega (arith, z))
+        go : ((b : ℕ) × (b < cellCount cells) × (other b ≡ true) × ((k : ℕ) → k < b → other k ≡ false)) ⊎ ((k : ℕ) → k < cellCount cells → other k ≡ false)
+            → (b : ℕ) × (b < cellCount cells) × (b ≢ c) × (t : ℕ) × (t < 4) × SameFace cells c s b t
+        go (inl (b, lb, e, f)) =
+            let (t, lt, q) = some-is (λ t. sameFace cells b t c s) 4 (and-left (some (λ t. sameFace cells b t c s) 4) (not (eqb b c)) e) in
+            (b, lb, eqb-false b c (not-true (eqb b c) (and-right (some (λ t. sameFace cells b t c s) 4) (not (eqb b c)) e)), t, lt, λ i l. sym (same-true cells b t c s q i l))
+        go (inr none) =
+            let z = H .outer-zero (en cells edges counts c (slotEdge s j)) (A .listed c (slotEdge s j) lc (slot-edge s j ls lj .lt)) (outer-edge cells edges counts A c s j lc ls lj alone) in
+            absurd (omega (arith, z))
+          where
+            alone : (b t : ℕ) → b < cellCount cells → t < 4 → SameFace cells c s b t → b ≡ c
+            alone b t lb lt h =
+                ⊎-elim (λ (q : eqb b c ≡ true). eqb-true b c q)
+                (λ (q : eqb b c ≡ false). clash (and-true (some (λ t. sameFace cells b t c s) 4) (not (eqb b c))
+                (some-found (λ t. sameFace cells b t c s) 4 t lt (true-same cells b t c s (λ i l. sym (h i l)))) (ap not q)) (none b lb)) (holds-or (eqb b c))
 
     -- the three counts of a slot as the cell has them
     three-is : (c s j : ℕ) → s < 4 → j < 3 → three (w cells edges counts c) s j ≡ faceCount cells edges counts c s j

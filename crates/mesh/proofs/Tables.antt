@@ -1,24 +1,22 @@
 -- The tables of an accepted grid give its cells.
-use Prim.Native.Nat.{ℕ, zero, suc, _+_, _*_, _-_, _/_, _%_, _≤_, _<_}
-use mathlib.Core.Path.{_≡_, refl, sym, ap, ap₂, _∙_, subst}
-use mathlib.Core.Bool.{Bool, true, false}
+use Prim.Native.Nat.{ℕ, _+_, _*_, _-_, _/_, _%_, _<_}
+use mathlib.Core.Path.{_≡_, ap, ap₂, _∙_}
+use mathlib.Core.Bool.{true}
 use mathlib.Core.List.{List, [], _∷_}
 use native.Mathlib.Omega.{arith}
-use lib.Dec.{eqb}
 use lib.ListN.{length, getD}
-use Rattle.answer.specs.Answer.{result}
 use Rattle.counting.specs.Pick.{pick}
-use Rattle.counting.specs.Range.{over}
 use Rattle.counting.proofs.Range.{over-ext}
 use Rattle.counting.proofs.Pack.{pre-le}
-use Rattle.grid.specs.Grid.{cellCount, node, faceName, edgeNumber, countOf, start, crossings}
-use Rattle.grid.specs.Rows.{gridAnswer}
+use Rattle.grid.specs.Grid.{cellCount, node, faceName, edgeNumber, countOf, start}
 use Rattle.grid.specs.Accepted.{Accepted}
 use Rattle.grid.specs.Tables.{filled, accepts, Opened, nameAt, sideAt}
 use Rattle.grid.proofs.Filled.{filled-at}
 use Rattle.triangle.specs.Triangles.{cellTriangles}
 use Rattle.mesh.specs.Mesh.{values, gridCell, meshTriangles}
-use Rattle.mesh.specs.Table.{ofEdges, ofFour, side, tableCell, tableTriangles, Edged, Started, Reaches, Laid}
+use Rattle.mesh.specs.Table.{ofEdges, ofFour, side, tableCell, tableTriangles, tableLoop, Laid}
+use Rattle.mesh.specs.Asked.{askedLoop}
+use Rattle.mesh.proofs.Askings.{asked-ext}
 
 values-ext : (f g : ℕ → ℕ) (n : ℕ) → ((i : ℕ) → i < n → f i ≡ g i) → values f n ≡ values g n
 values-ext f g n h = over-ext (λ i. f i ∷ []) (λ i. g i ∷ []) n 0 (λ i a b. ap (λ x. x ∷ []) (h i (omega arith)))
@@ -75,6 +73,10 @@ module _ {cells edges counts names sides starts : List ℕ} (T : Tabled cells ed
   triangles-are =
       over-ext (λ c. cellTriangles (tableCell cells counts names sides starts c)) (λ c. cellTriangles (gridCell cells edges counts c)) (cellCount cells) 0
       (λ c a b. ap cellTriangles (cell-is c (omega arith)))
+
+  pub loop-is : (c k : ℕ) → tableLoop cells counts names sides starts c k ≡ askedLoop (gridCell cells edges counts) (cellCount cells) c k
+  unfolding tableLoop
+  loop-is c k = asked-ext (tableCell cells counts names sides starts) (gridCell cells edges counts) (cellCount cells) c k (cell-is c)
 
   pub laid : Laid cells counts sides starts
   laid = record {

@@ -1,16 +1,13 @@
 -- The answers of the mesh call and of the loops call, and the lent area after the mesh call.
 use Prim.Native.Nat.{ℕ}
 use mathlib.Core.List.{List}
-use lib.Dec.{ltb}
-use Rattle.answer.specs.Answer.{refusal}
 use Rattle.counting.specs.Pick.{pick}
 use Rattle.grid.specs.Grid.{cellCount}
 use Rattle.grid.specs.Rows.{gridAnswer}
 use Rattle.grid.specs.Tables.{accepts}
-use Rattle.cell.specs.Loop.{loopAnswer}
-use Rattle.triangle.specs.Triangles.{countOf, startOf}
 use Rattle.mesh.specs.Mesh.{gridCell, meshTriangles}
 use Rattle.mesh.specs.Room.{roomAnswer, roomArea}
+use Rattle.mesh.specs.Asked.{askedLoop}
 
 module _ (cells edges counts : List ℕ) where
   -- the mesh call (01): rows 1 to 10; then 12 with the number of triangles needed; else the number of triangles
@@ -25,10 +22,4 @@ module _ (cells edges counts : List ℕ) where
 
   -- the loops call (01): rows 1 to 10; then 11 with the cell asked for; else loop k of cell c
   unfoldable pub loopsAnswer : ℕ → ℕ → List ℕ
-  unfolding gridCell
-  loopsAnswer c k =
-      pick (accepts cells edges counts)
-      (pick (ltb c (cellCount cells))
-      (loopAnswer (countOf (gridCell cells edges counts c)) (startOf (gridCell cells edges counts c)) (gridCell cells edges counts c .nodes) k)
-      (refusal 11 c))
-      (gridAnswer cells edges counts)
+  loopsAnswer c k = pick (accepts cells edges counts) (askedLoop (gridCell cells edges counts) (cellCount cells) c k) (gridAnswer cells edges counts)

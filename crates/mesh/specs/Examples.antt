@@ -1,25 +1,28 @@
--- The examples that document 01 marks P, whole: faces with the answer for each of their crossings, and grids with the grid check's answer, each
--- loop's answer, its points, and the words of the mesh.
+-- One table of examples: those that document 01 marks P, and others that tell wrong answers from right ones. Faces have the answer for each of
+-- their crossings; grids have the grid check's answer, each loop's answer, its points, and the words of the mesh; and there are single calls.
 use Prim.Native.Nat.{ℕ, suc, _+_, _/_}
 use mathlib.Core.Path.{_≡_}
 use mathlib.Core.Bool.{Bool, true, false, not}
 use mathlib.Core.List.{List, [], _∷_, _++_}
 use lib.Dec.{eqb}
-use lib.ListN.{length, getD}
-use Rattle.answer.specs.Answer.{result}
+use lib.ListN.{length, getD, replicate}
+use Rattle.answer.specs.Answer.{result, refusal}
 use Rattle.counting.specs.Pick.{pick, one}
 use Rattle.counting.specs.Range.{over}
 use Rattle.counting.specs.Lists.{tally}
-use Rattle.face.specs.Face.{joined, unjoined, count, faceJoin}
-use Rattle.cell.specs.Loop.{loopSize, dart, leasts, loopAnswer}
+use Rattle.face.specs.Face.{joined, unjoined, noCrossing, count, faceJoin}
+use Rattle.cell.specs.Loop.{loopSize, dart, leasts}
 use Rattle.grid.specs.Grid.{cellCount}
 use Rattle.grid.specs.Rows.{gridAnswer}
-use Rattle.triangle.specs.Triangles.{countOf, startOf, numberOf}
+use Rattle.triangle.specs.Triangles.{countOf, startOf, numberOf, cellTriangles}
+use Rattle.triangle.specs.Answer.{nthAnswer}
 use Rattle.triangle.specs.declared.Triangle.{Triangle}
 use Rattle.triangle.specs.Names.{sideAt}
 use Rattle.triangle.specs.Words.{noName}
 use Rattle.manifold.specs.Triangle.{Side, seg, inner, same}
 use Rattle.mesh.specs.Mesh.{values, gridCell, meshTriangles, meshWords}
+use Rattle.mesh.specs.Asked.{cellLoop}
+use Rattle.mesh.specs.Answer.{meshAnswer, meshArea, loopsAnswer}
 
 pub data Example : Type 0 where
   -- counts; the answers for the crossings of ab, of ac and of bc
@@ -27,6 +30,14 @@ pub data Example : Type 0 where
   -- the lists; the grid check's answer; cell by cell the answers for loop 0 and on, to the first that is none; the points of each loop; the words
   -- of the mesh; and how many triangles, segments and inner sides these are
   grid : (cells edges counts answer : List ℕ) (loops points : List (List ℕ)) (words tallies : List ℕ) → Example
+  -- the face call: counts, edge, index; the answer
+  join : (ab ac bc e t : ℕ) (answer : List ℕ) → Example
+  -- triangle t of cell c; the answer
+  nth : (cells edges counts : List ℕ) (c t : ℕ) (answer : List ℕ) → Example
+  -- the mesh call: the lists and the lent area; the answer, and the area afterwards
+  mesh : (cells edges counts area answer after : List ℕ) → Example
+  -- the loops call: the lists, cell c, k; the answer
+  loop : (cells edges counts : List ℕ) (c k : ℕ) (answer : List ℕ) → Example
 
 -- the answers for all crossings of a face
 unfoldable pub faceAnswers : ℕ → ℕ → ℕ → List (List ℕ)
@@ -39,10 +50,8 @@ module _ (cells edges counts : List ℕ) where
   startsOf c = leasts (countOf (gridCell cells edges counts c)) (startOf (gridCell cells edges counts c)) (gridCell cells edges counts c .nodes)
 
   unfoldable pub gridLoops : List (List ℕ)
-  unfolding startsOf loopAnswer
-  gridLoops =
-      over (λ c. over (λ k. loopAnswer (countOf (gridCell cells edges counts c)) (startOf (gridCell cells edges counts c)) (gridCell cells edges counts c .nodes) k ∷ [])
-      (suc (length (startsOf c))) 0) (cellCount cells) 0
+  unfolding startsOf
+  gridLoops = over (λ c. over (λ k. cellLoop (gridCell cells edges counts c) k ∷ []) (suc (length (startsOf c))) 0) (cellCount cells) 0
 
   -- the crossing numbers of a loop's points, in order
   unfoldable pub loopPoints : ℕ → ℕ → List ℕ
@@ -79,10 +88,18 @@ unfoldable pub computed : Example → List (List ℕ)
 computed (face ab ac bc answers) = faceAnswers ab ac bc
 computed (grid cells edges counts answer loops points words sizes) =
     gridAnswer cells edges counts ∷ (gridLoops cells edges counts ++ (gridPoints cells edges counts ++ (meshWords cells edges counts ∷ tallies (meshTriangles cells edges counts) ∷ [])))
+computed (join ab ac bc e t answer) = faceJoin ab ac bc e t ∷ []
+computed (nth cells edges counts c t answer) = nthAnswer (cellTriangles (gridCell cells edges counts c)) t ∷ []
+computed (mesh cells edges counts area answer after) = meshAnswer cells edges counts (length area) ∷ meshArea cells edges counts area ∷ []
+computed (loop cells edges counts c k answer) = loopsAnswer cells edges counts c k ∷ []
 
 unfoldable pub listed : Example → List (List ℕ)
 listed (face ab ac bc answers) = answers
 listed (grid cells edges counts answer loops points words sizes) = answer ∷ (loops ++ (points ++ (words ∷ sizes ∷ [])))
+listed (join ab ac bc e t answer) = answer ∷ []
+listed (nth cells edges counts c t answer) = answer ∷ []
+listed (mesh cells edges counts area answer after) = answer ∷ after ∷ []
+listed (loop cells edges counts c k answer) = answer ∷ []
 
 unfoldable pub each : (Example → List (List ℕ)) → List Example → List (List (List ℕ))
 each f [] = []
@@ -108,20 +125,37 @@ threeEdges = 0 ∷ 1 ∷ 0 ∷ 2 ∷ 0 ∷ 3 ∷ 0 ∷ 4 ∷ 1 ∷ 2 ∷ 1 ∷ 3
 abbrev pub threeCounts : List ℕ
 threeCounts = 2 ∷ 0 ∷ 0 ∷ 0 ∷ 0 ∷ 0 ∷ 0 ∷ 0 ∷ 0 ∷ 0 ∷ []
 
+-- the cells 0123, 1234 with the face 123 in common, their edges; two crossings on 01, and one on each edge of node 4
+abbrev twoCells : List ℕ
+twoCells = 0 ∷ 1 ∷ 2 ∷ 3 ∷ 1 ∷ 2 ∷ 3 ∷ 4 ∷ []
+
+abbrev twoEdges : List ℕ
+twoEdges = 0 ∷ 1 ∷ 0 ∷ 2 ∷ 0 ∷ 3 ∷ 1 ∷ 2 ∷ 1 ∷ 3 ∷ 1 ∷ 4 ∷ 2 ∷ 3 ∷ 2 ∷ 4 ∷ 3 ∷ 4 ∷ []
+
+abbrev twoCounts : List ℕ
+twoCounts = 2 ∷ 0 ∷ 0 ∷ 0 ∷ 0 ∷ 1 ∷ 0 ∷ 1 ∷ 1 ∷ []
+
+-- counts of one cell
+abbrev cornerCounts : List ℕ
+cornerCounts = 1 ∷ 1 ∷ 1 ∷ 0 ∷ 0 ∷ 0 ∷ []
+
+abbrev twoLoopCounts : List ℕ
+twoLoopCounts = 3 ∷ 1 ∷ 1 ∷ 0 ∷ 0 ∷ 0 ∷ []
+
 unfoldable pub examples : List Example
 examples =
-    -- nothing, one crossing, six: open curves give no loop
+    -- P: nothing, one crossing, six: open curves give no loop
     grid cell six (0 ∷ 0 ∷ 0 ∷ 0 ∷ 0 ∷ 0 ∷ []) (result (0 ∷ [])) (no ∷ []) [] [] (0 ∷ 0 ∷ 0 ∷ [])
     ∷ grid cell six (1 ∷ 0 ∷ 0 ∷ 0 ∷ 0 ∷ 0 ∷ []) (result (1 ∷ [])) (no ∷ []) [] [] (0 ∷ 0 ∷ 0 ∷ [])
     ∷ grid cell six (1 ∷ 1 ∷ 1 ∷ 1 ∷ 1 ∷ 1 ∷ []) (result (6 ∷ [])) (no ∷ []) [] [] (0 ∷ 0 ∷ 0 ∷ [])
-    -- corner at 0, one triangle
-    ∷ grid cell six (1 ∷ 1 ∷ 1 ∷ 0 ∷ 0 ∷ 0 ∷ []) (result (3 ∷ [])) (result (0 ∷ 3 ∷ 1 ∷ 3 ∷ 0 ∷ []) ∷ no ∷ []) ((0 ∷ 1 ∷ 2 ∷ []) ∷ [])
+    -- P: corner at 0, one triangle
+    ∷ grid cell six cornerCounts (result (3 ∷ [])) (result (0 ∷ 3 ∷ 1 ∷ 3 ∷ 0 ∷ []) ∷ no ∷ []) ((0 ∷ 1 ∷ 2 ∷ []) ∷ [])
     (0 ∷ 0 ∷ 0 ∷ 1 ∷ 2 ∷ 3 ∷ 0 ∷ 1 ∷ 1 ∷ 2 ∷ 0 ∷ []) (1 ∷ 3 ∷ 0 ∷ [])
-    -- diagonal, 0 with 1; two triangles
+    -- P: diagonal, 0 with 1; two triangles
     ∷ grid cell six (0 ∷ 1 ∷ 1 ∷ 1 ∷ 1 ∷ 0 ∷ []) (result (4 ∷ [])) (result (0 ∷ 4 ∷ 1 ∷ 2 ∷ 1 ∷ []) ∷ no ∷ []) ((0 ∷ 2 ∷ 3 ∷ 1 ∷ []) ∷ [])
     (0 ∷ 0 ∷ 0 ∷ 2 ∷ 3 ∷ 3 ∷ 0 ∷ 0 ∷ 2 ∷ noName ∷ 0 ∷
     0 ∷ 0 ∷ 0 ∷ 3 ∷ 1 ∷ noName ∷ 0 ∷ 2 ∷ 1 ∷ 1 ∷ 0 ∷ []) (2 ∷ 4 ∷ 1 ∷ [])
-    -- one loop of length 8, eight triangles
+    -- P: one loop of length 8, eight triangles
     ∷ grid cell six (2 ∷ 1 ∷ 1 ∷ 1 ∷ 1 ∷ 2 ∷ []) (result (8 ∷ [])) (result (0 ∷ 8 ∷ 1 ∷ 2 ∷ 1 ∷ []) ∷ no ∷ [])
     ((0 ∷ 2 ∷ 6 ∷ 4 ∷ 1 ∷ 5 ∷ 7 ∷ 3 ∷ []) ∷ [])
     (0 ∷ 0 ∷ 0 ∷ 2 ∷ noName ∷ 3 ∷ 0 ∷ noName ∷ 1 ∷ noName ∷ 0 ∷
@@ -132,11 +166,11 @@ examples =
     0 ∷ 0 ∷ 5 ∷ 7 ∷ noName ∷ 0 ∷ 5 ∷ noName ∷ 6 ∷ noName ∷ 5 ∷
     0 ∷ 0 ∷ 7 ∷ 3 ∷ noName ∷ 1 ∷ 3 ∷ noName ∷ 7 ∷ noName ∷ 6 ∷
     0 ∷ 0 ∷ 3 ∷ 0 ∷ noName ∷ 2 ∷ 0 ∷ noName ∷ 0 ∷ noName ∷ 7 ∷ []) (8 ∷ 8 ∷ 8 ∷ [])
-    -- a face 3 3 3: three segments, each index 1 unjoined
+    -- P: a face 3 3 3: three segments, each index 1 unjoined
     ∷ face 3 3 3 (joined 1 0 ∷ unjoined ∷ joined 2 0 ∷ joined 0 0 ∷ unjoined ∷ joined 2 2 ∷ joined 0 2 ∷ unjoined ∷ joined 1 2 ∷ [])
-    -- a face 5 1 1: index 1 unjoined, 2 joined to 3
+    -- P: a face 5 1 1: index 1 unjoined, 2 joined to 3
     ∷ face 5 1 1 (joined 1 0 ∷ unjoined ∷ joined 0 3 ∷ joined 0 2 ∷ joined 2 0 ∷ joined 0 0 ∷ joined 0 4 ∷ [])
-    -- three cells round an edge with two crossings: a loop of length 2 in each, six triangles, three segments (faces 2, 3, 6), six inner sides
+    -- P: three cells round an edge with two crossings: a loop of length 2 in each, six triangles, three segments (faces 2, 3, 6), six inner sides
     ∷ grid threeCells threeEdges threeCounts (result (2 ∷ []))
     (result (0 ∷ 2 ∷ 0 ∷ 0 ∷ []) ∷ no ∷ result (0 ∷ 2 ∷ 0 ∷ 0 ∷ []) ∷ no ∷ result (0 ∷ 2 ∷ 0 ∷ 0 ∷ []) ∷ no ∷ [])
     ((0 ∷ 1 ∷ []) ∷ (0 ∷ 1 ∷ []) ∷ (0 ∷ 1 ∷ []) ∷ [])
@@ -146,6 +180,54 @@ examples =
     1 ∷ 0 ∷ 1 ∷ 0 ∷ noName ∷ 6 ∷ 0 ∷ noName ∷ 0 ∷ noName ∷ 1 ∷
     2 ∷ 0 ∷ 0 ∷ 1 ∷ noName ∷ 2 ∷ 0 ∷ noName ∷ 1 ∷ noName ∷ 0 ∷
     2 ∷ 0 ∷ 1 ∷ 0 ∷ noName ∷ 6 ∷ 0 ∷ noName ∷ 0 ∷ noName ∷ 1 ∷ []) (6 ∷ 3 ∷ 6 ∷ [])
+    -- a loop of length 2: two segments with equal ends on two faces are two sides
+    ∷ grid cell six (2 ∷ 0 ∷ 0 ∷ 0 ∷ 0 ∷ 0 ∷ []) (result (2 ∷ [])) (result (0 ∷ 2 ∷ 0 ∷ 0 ∷ []) ∷ no ∷ []) ((0 ∷ 1 ∷ []) ∷ [])
+    (0 ∷ 0 ∷ 0 ∷ 1 ∷ noName ∷ 3 ∷ 0 ∷ noName ∷ 1 ∷ noName ∷ 0 ∷
+    0 ∷ 0 ∷ 1 ∷ 0 ∷ noName ∷ 2 ∷ 0 ∷ noName ∷ 0 ∷ noName ∷ 1 ∷ []) (2 ∷ 2 ∷ 2 ∷ [])
+    -- length 4 and not normal: a fan
+    ∷ grid cell six (2 ∷ 2 ∷ 0 ∷ 0 ∷ 0 ∷ 0 ∷ []) (result (4 ∷ [])) (result (0 ∷ 4 ∷ 0 ∷ 0 ∷ []) ∷ no ∷ []) ((0 ∷ 2 ∷ 3 ∷ 1 ∷ []) ∷ [])
+    (0 ∷ 0 ∷ 0 ∷ 2 ∷ noName ∷ 3 ∷ 0 ∷ noName ∷ 1 ∷ noName ∷ 0 ∷
+    0 ∷ 0 ∷ 2 ∷ 3 ∷ noName ∷ 1 ∷ 2 ∷ noName ∷ 2 ∷ noName ∷ 1 ∷
+    0 ∷ 0 ∷ 3 ∷ 1 ∷ noName ∷ 3 ∷ 1 ∷ noName ∷ 3 ∷ noName ∷ 2 ∷
+    0 ∷ 0 ∷ 1 ∷ 0 ∷ noName ∷ 2 ∷ 0 ∷ noName ∷ 0 ∷ noName ∷ 3 ∷ []) (4 ∷ 4 ∷ 4 ∷ [])
+    -- two loops, by p0; the second is contractible, though the cell's counts 3 1 1 are odd
+    ∷ grid cell six twoLoopCounts (result (5 ∷ [])) (result (0 ∷ 3 ∷ 1 ∷ 3 ∷ 0 ∷ []) ∷ result (1 ∷ 2 ∷ 0 ∷ 0 ∷ []) ∷ no ∷ [])
+    ((0 ∷ 3 ∷ 4 ∷ []) ∷ (1 ∷ 2 ∷ []) ∷ [])
+    (0 ∷ 0 ∷ 0 ∷ 3 ∷ 4 ∷ 3 ∷ 0 ∷ 1 ∷ 3 ∷ 2 ∷ 0 ∷
+    0 ∷ 1 ∷ 1 ∷ 2 ∷ noName ∷ 3 ∷ 1 ∷ noName ∷ 1 ∷ noName ∷ 0 ∷
+    0 ∷ 1 ∷ 2 ∷ 1 ∷ noName ∷ 2 ∷ 1 ∷ noName ∷ 0 ∷ noName ∷ 1 ∷ []) (3 ∷ 5 ∷ 2 ∷ [])
+    -- a later cell has the crossing numbers of the whole grid, and its type the number of a node, not its position
+    ∷ grid twoCells twoEdges twoCounts (result (5 ∷ [])) (result (0 ∷ 2 ∷ 0 ∷ 0 ∷ []) ∷ no ∷ result (2 ∷ 3 ∷ 1 ∷ 1 ∷ 4 ∷ []) ∷ no ∷ [])
+    ((0 ∷ 1 ∷ []) ∷ (2 ∷ 3 ∷ 4 ∷ []) ∷ [])
+    (0 ∷ 0 ∷ 0 ∷ 1 ∷ noName ∷ 3 ∷ 0 ∷ noName ∷ 1 ∷ noName ∷ 0 ∷
+    0 ∷ 0 ∷ 1 ∷ 0 ∷ noName ∷ 2 ∷ 0 ∷ noName ∷ 0 ∷ noName ∷ 1 ∷
+    1 ∷ 2 ∷ 2 ∷ 3 ∷ 4 ∷ 6 ∷ 2 ∷ 4 ∷ 3 ∷ 5 ∷ 2 ∷ []) (3 ∷ 5 ∷ 2 ∷ [])
+    -- faces: rule 3 on the other edges, with an even and an odd number of residuals; three corner counts that differ; a count that is the sum of
+    -- the other two
+    ∷ face 1 4 1 (joined 1 0 ∷ joined 0 0 ∷ joined 1 2 ∷ joined 1 1 ∷ joined 2 0 ∷ joined 1 3 ∷ [])
+    ∷ face 0 1 4 (joined 2 3 ∷ unjoined ∷ joined 2 2 ∷ joined 2 1 ∷ joined 1 0 ∷ [])
+    ∷ face 3 4 5 (joined 1 0 ∷ joined 2 1 ∷ joined 2 0 ∷ joined 0 0 ∷ joined 2 2 ∷ joined 2 3 ∷ joined 2 4 ∷ joined 0 2 ∷ joined 0 1 ∷ joined 1 1 ∷ joined 1 2 ∷ joined 1 3 ∷ [])
+    ∷ face 2 1 1 (joined 1 0 ∷ joined 2 0 ∷ joined 0 0 ∷ joined 0 1 ∷ [])
+    -- no such crossing, and the largest counts of a byte
+    ∷ join 0 0 0 0 0 noCrossing ∷ join 5 1 1 0 5 noCrossing ∷ join 3 3 3 3 0 noCrossing ∷ join 3 3 3 4294967295 4294967295 noCrossing
+    ∷ join 255 255 255 0 126 (joined 1 126) ∷ join 255 255 255 0 127 unjoined ∷ join 255 255 255 0 128 (joined 2 126)
+    ∷ join 255 0 0 0 0 unjoined ∷ join 255 0 0 0 254 (joined 0 253) ∷ join 255 255 0 0 254 (joined 1 254) ∷ join 0 255 255 2 0 (joined 1 0)
+    -- a triangle of a cell: the second, and one too many
+    ∷ nth cell six twoLoopCounts 0 1 (result (0 ∷ 1 ∷ 1 ∷ 2 ∷ noName ∷ 3 ∷ 1 ∷ noName ∷ 1 ∷ noName ∷ 0 ∷ []))
+    ∷ nth cell six twoLoopCounts 0 3 no ∷ nth cell six cornerCounts 0 18446744073709551615 no
+    -- the mesh call: words beyond the mesh keep their values; 10 words for 1 triangle are left as they were, and so are 65 words for 6 triangles,
+    -- where five fit; a refused grid comes first
+    ∷ mesh cell six cornerCounts (replicate 13 9) (result (1 ∷ [])) (0 ∷ 0 ∷ 0 ∷ 1 ∷ 2 ∷ 3 ∷ 0 ∷ 1 ∷ 1 ∷ 2 ∷ 0 ∷ 9 ∷ 9 ∷ [])
+    ∷ mesh cell six cornerCounts (replicate 10 9) (refusal 12 1) (replicate 10 9)
+    ∷ mesh threeCells threeEdges threeCounts (replicate 65 9) (refusal 12 6) (replicate 65 9)
+    ∷ mesh cell [] cornerCounts [] (refusal 2 0) []
+    -- the loops call: loop after loop, none after the last; a later cell; cell 1 of 1; a refused grid comes first
+    ∷ loop cell six twoLoopCounts 0 0 (result (0 ∷ 3 ∷ 1 ∷ 3 ∷ 0 ∷ [])) ∷ loop cell six twoLoopCounts 0 1 (result (1 ∷ 2 ∷ 0 ∷ 0 ∷ []))
+    ∷ loop cell six twoLoopCounts 0 2 no ∷ loop cell six twoLoopCounts 0 18446744073709551615 no
+    ∷ loop twoCells twoEdges twoCounts 1 0 (result (2 ∷ 3 ∷ 1 ∷ 1 ∷ 4 ∷ [])) ∷ loop twoCells twoEdges twoCounts 1 1 no
+    ∷ loop twoCells twoEdges twoCounts 18446744073709551615 0 (refusal 11 18446744073709551615)
+    ∷ loop cell six cornerCounts 1 0 (refusal 11 1)
+    ∷ loop cell [] cornerCounts 1 0 (refusal 2 0)
     ∷ []
 
 -- every example is as the definitions say

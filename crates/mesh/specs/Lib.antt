@@ -1,5 +1,6 @@
 pub mod Mesh
 pub mod Room
+pub mod Asked
 pub mod Table
 pub mod Drawn
 pub mod Answer
@@ -7,3 +8,4 @@ pub mod Numbers
 pub mod Demand
 pub mod Done
 pub mod Examples
+pub mod Claims

@@ -1,6 +1,5 @@
 -- A cell of a grid from the grid's tables.
 use Prim.Native.Nat.{ℕ, _+_, _*_, _≤_, _<_}
-use mathlib.Core.Path.{_≡_}
 use mathlib.Core.List.{List}
 use lib.ListN.{getD, length}
 use Rattle.counting.specs.Range.{over}
@@ -9,6 +8,7 @@ use Rattle.triangle.specs.declared.Triangle.{Triangle}
 use Rattle.triangle.specs.Triangles.{cellTriangles}
 use Rattle.grid.specs.Grid.{cellCount}
 use Rattle.mesh.specs.Mesh.{values}
+use Rattle.mesh.specs.Asked.{askedLoop}
 
 -- the edge k of cell c
 abbrev pub side : List ℕ → ℕ → ℕ → ℕ
@@ -66,6 +66,10 @@ pub record Laid (cells counts sides starts : List ℕ) : Type 0 where
 unfoldable pub tableTriangles : (cells counts names sides starts : List ℕ) → List Triangle
 unfolding tableCell over cellTriangles
 tableTriangles cells counts names sides starts = over (λ c. cellTriangles (tableCell cells counts names sides starts c)) (cellCount cells) 0
+
+-- loop k of cell c, or row 11
+unfoldable pub tableLoop : (cells counts names sides starts : List ℕ) → ℕ → ℕ → List ℕ
+tableLoop cells counts names sides starts c k = askedLoop (tableCell cells counts names sides starts) (cellCount cells) c k
 
 -- the most triangles that a grid can have
 abbrev pub mostTriangles : ℕ

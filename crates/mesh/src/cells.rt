@@ -79,7 +79,7 @@ fn index_of(c: usize) -> u16
 }
 
 // Cell c.
-pub(crate) fn cell_at(
+pub fn cell_at(
     cells: &[u16],
     counts: &[u8],
     names: &[u16; 8192],

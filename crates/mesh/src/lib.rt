@@ -1,18 +1,26 @@
 // The mesh call and the loops call.
 ghost use mathlib.Core.Path.{_≡_};
 ghost use lib.ListN.{length};
-ghost use Rattle.mesh.specs.Numbers.{meshNumbers};
-ghost use Rattle.mesh.specs.Table.{Laid};
+ghost use Rattle.mesh.specs.Numbers.{meshNumbers, loopsNumbers};
+ghost use Rattle.mesh.specs.Table.{Laid, tableLoop};
+ghost use Rattle.mesh.specs.Answer.{loopsAnswer};
 ghost use Rattle.mesh.specs.Drawn.{Drawn};
 ghost use Rattle.mesh.specs.Done.{Done};
+use cell::Loop;
 use grid::Checked;
 
-mod cells;
+pub mod cells;
 mod meshing;
 
 // The number of triangles, or the number and the place of a refusal.
 pub enum Meshed {
     Triangles(u32),
+    Refused(u8, usize),
+}
+
+// What is told of loop k of a cell, or the number and the place of a refusal.
+pub enum Looped {
+    Told(Loop),
     Refused(u8, usize),
 }
 
@@ -55,5 +63,47 @@ pub fn mesh(cells: &[u16], edges: &[u16], counts: &[u8], area: &mut [u32]) -> Me
     ) {
         Checked::Refused(row, place) => Meshed::Refused(row, place),
         Checked::Crossings(_) => draw(cells, counts, &names, &sides, &starts, area),
+    }
+}
+
+// Loop k of cell c of a grid from its tables: row 11, or what the cell tells.
+fn loop_of(
+    cells: &[u16],
+    counts: &[u8],
+    names: &[u16; 8192],
+    sides: &[u16; 12288],
+    starts: &[u32; 12288],
+    c: usize,
+    k: usize,
+) -> Looped
+    requires { ⌜ Laid (now cells) (now counts) (now sides) (now starts) ⌝ }
+    ensures { λ r. ⌜ loopsNumbers r ≡ tableLoop (now (cells .entry)) (now (counts .entry)) (now (names .entry)) (now (sides .entry)) (now (starts .entry)) c k ⌝ }
+{
+    if c < cells.len() / 4 {
+        let cell = cells::cell_at(cells, counts, names, sides, starts, c);
+        return Looped::Told(cell::loop_at(cell, k));
+    }
+    Looped::Refused(11, c)
+}
+
+// The loops call: loop k of cell c. Keeps 112 KB on the stack for the grid's tables, besides what `grid::open` keeps.
+pub fn loops(cells: &[u16], edges: &[u16], counts: &[u8], c: usize, k: usize) -> Looped
+    ensures { λ r. ⌜ loopsNumbers r ≡ loopsAnswer (now (cells .entry)) (now (edges .entry)) (now (counts .entry)) c k ⌝ }
+{
+    let mut names = [0u16; 8192];
+    let mut near = [0u16; 8192];
+    let mut sides = [0u16; 12288];
+    let mut starts = [0u32; 12288];
+    match grid::open(
+        cells,
+        edges,
+        counts,
+        &mut names,
+        &mut near,
+        &mut sides,
+        &mut starts,
+    ) {
+        Checked::Refused(row, place) => Looped::Refused(row, place),
+        Checked::Crossings(_) => loop_of(cells, counts, &names, &sides, &starts, c, k),
     }
 }

@@ -1,30 +1,22 @@
 -- What holds of every edge and every slot of a cell: each fact is one computed test over the edges, the slots or both, lifted to any of them.
-use Prim.Native.Nat.{ℕ, zero, suc, _+_, _-_, _≤_, _<_}
-use mathlib.Core.Path.{_≡_, refl, sym, ap, _∙_}
-use mathlib.Core.Logic.{_⊎_, inl, inr, _≢_, ⊎-elim}
+use Prim.Native.Nat.{ℕ, suc, _-_, _<_}
+use mathlib.Core.Path.{_≡_, refl}
+use mathlib.Core.Logic.{_⊎_, inl, inr, ⊎-elim}
 use mathlib.Core.Bool.{Bool, true, false, not, _&&_, _||_}
 use native.Mathlib.Omega.{arith}
 use lib.Dec.{eqb, ltb}
-use borrow.Author.Tests.{eqb-true, eqb-false, ltb-true, ltb-false, eq-eqb, lt-ltb, not-true}
+use borrow.Author.Tests.{eqb-true, ltb-true, eq-eqb, lt-ltb, not-true}
 use Rattle.counting.specs.Pick.{pick}
 use Rattle.counting.specs.Search.{every}
 use Rattle.counting.proofs.Bools.{clash, and-left, and-right, or-cases}
 use Rattle.counting.proofs.Search.{every-is, is-every}
-use Rattle.slots.specs.Slots.{lo, hi, corner, from, to, edgeOf, slotEdge, place, contains, third, firstSlot, secondSlot}
+pub use Rattle.slots.specs.Claims.{SlotEdge, EdgeSlot, TwoSlots}
+use Rattle.slots.specs.Slots.{lo, hi, corner, from, to, slotEdge, place, contains, third, firstSlot, secondSlot}
 
 -- a test of each edge of each slot, for any of them
 module _ (m n : ℕ) (t : ℕ → ℕ → Bool) (passes : every (λ a. every (t a) n) m ≡ true) where
   pub each : (a b : ℕ) → a < m → b < n → t a b ≡ true
   each a b la lb = every-is (t a) n (every-is (λ a. every (t a) n) m passes a la) b lb
-
--- the edge j of slot s
-pub record SlotEdge (s j : ℕ) : Type 0 where
-  pub lt : slotEdge s j < 6
-  pub place-is : place s (slotEdge s j) ≡ j
-  pub on : (firstSlot (slotEdge s j) ≡ s) ⊎ (secondSlot (slotEdge s j) ≡ s)
-  pub lo-is : lo (slotEdge s j) ≡ corner s (from j)
-  pub hi-is : hi (slotEdge s j) ≡ corner s (to j)
-  pub within : contains (slotEdge s j) s ≡ true
 
 slotTest : ℕ → ℕ → Bool
 slotTest s j =
@@ -72,12 +64,6 @@ slot-edge s j ls lj =
     g : Bool
     g = contains (slotEdge s j) s
 
--- edge k is an edge of slot s
-pub record EdgeSlot (k s : ℕ) : Type 0 where
-  pub lt : s < 4
-  pub place-lt : place s k < 3
-  pub edge-is : slotEdge s (place s k) ≡ k
-
 -- exactly the slots that contain an edge have it
 containTest : ℕ → ℕ → Bool
 containTest k s = not (contains k s) || ((ltb (place s k) 3 && eqb (slotEdge s (place s k)) k) && (eqb (firstSlot k) s || eqb (secondSlot k) s))
@@ -119,16 +105,6 @@ edgeTest k =
 edges-pass : every edgeTest 6 ≡ true
 unfolding every edgeTest contains firstSlot secondSlot third lo hi
 edges-pass = refl
-
-pub record TwoSlots (k : ℕ) : Type 0 where
-  pub first-lt : firstSlot k < 4
-  pub second-lt : secondSlot k < 4
-  pub first-has : contains k (firstSlot k) ≡ true
-  pub second-has : contains k (secondSlot k) ≡ true
-  pub apart : secondSlot k < firstSlot k
-  pub lower-third : third k (firstSlot k) < third k (secondSlot k)
-  pub rising : lo k < hi k
-  pub within : hi k < 4
 
 pub two-slots : (k : ℕ) → k < 6 → TwoSlots k
 unfolding edgeTest

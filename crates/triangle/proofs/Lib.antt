@@ -7,4 +7,3 @@ pub mod Walks
 pub mod Cells
 pub mod Fits
 pub mod Claims
-pub mod Examples

@@ -7,4 +7,3 @@ pub mod Fits
 pub mod Names
 pub mod Polygons
 pub mod Claims
-pub mod Examples

@@ -129,7 +129,7 @@ fn spoke_of(c: Cell, halves: &[u8; 1530], points: &[u32; 1530], n: usize, k: usi
 }
 
 // Whether a recorded loop of n is in two triangles: n is 4, and no segment has both ends on one edge.
-pub fn in_two(halves: &[u8; 1530], n: usize) -> bool
+pub(crate) fn in_two(halves: &[u8; 1530], n: usize) -> bool
     requires { ⌜ Traced (now halves) n ⌝ }
     ensures { λ r. ⌜ r ≡ (eqb n 4 && eqb (foldsIn (now (halves .entry)) n) 0) ⌝ }
 {
@@ -140,7 +140,7 @@ pub fn in_two(halves: &[u8; 1530], n: usize) -> bool
 }
 
 // How many triangles a loop of n gives; `two` says that it is in two.
-pub fn many(n: usize, two: bool) -> usize
+pub(crate) fn many(n: usize, two: bool) -> usize
     ensures { λ r. ⌜ r ≡ manyBy n two ⌝ }
 {
     if n == 3 {
@@ -150,7 +150,7 @@ pub fn many(n: usize, two: bool) -> usize
 }
 
 // Triangle k of a recorded loop of n.
-pub fn triangle_of(
+pub(crate) fn triangle_of(
     c: Cell,
     halves: &[u8; 1530],
     points: &[u32; 1530],

@@ -66,7 +66,7 @@ fn put_corners(area: &mut [u32], at: usize, t: Triangle)
 }
 
 // Writes a triangle's words from index `at` on.
-pub fn put(area: &mut [u32], at: usize, t: Triangle)
+pub(crate) fn put(area: &mut [u32], at: usize, t: Triangle)
     requires { ⌜ at + 11 ≤ length (now area) ⌝ }
     ensures { λ _. ⌜ now (area .exit) ≡ sets (now (area .entry)) at (words t) ⌝ }
 {

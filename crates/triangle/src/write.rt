@@ -13,7 +13,7 @@ use super::words::put;
 use cell::Cell;
 
 // Writes the triangles of a recorded loop of n from index `at` on, and answers the next index.
-pub fn write_loop(
+pub(crate) fn write_loop(
     c: Cell,
     halves: &[u8; 1530],
     points: &[u32; 1530],

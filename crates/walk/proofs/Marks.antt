@@ -11,20 +11,10 @@ use lib.Seq.{getD-set-same, getD-set-other}
 use Rattle.walk.specs.Iterate.{it}
 use Rattle.walk.specs.Darts.{half, Darts, Loop, On, Lowest, Live}
 use Rattle.walk.specs.Walk.{size}
+pub use Rattle.walk.specs.Marks.{Passed, Marks}
 use Rattle.walk.proofs.Iterate.{it-suc}
 use Rattle.walk.proofs.Curve.{Next, on-walk, on-it}
 use Rattle.walk.proofs.Found.{found}
-
--- the curve from q comes to the crossing x after i steps
-pub record Passed (N : ℕ) (s : ℕ → ℕ) (q i x : ℕ) : Type 0 where
-  pub start : q < N
-  pub live : Live (2 * N) s (2 * q) i
-  pub is : half (it s i (2 * q)) ≡ x
-
--- a mark below N at x is the start of a curve that comes to x
-pub record Marks (N : ℕ) (s : ℕ → ℕ) (m : List ℕ) : Type 0 where
-  pub long : N ≤ length m
-  pub by : (x : ℕ) → x < N → getD m x 0 < N → (i : ℕ) × Passed N s (getD m x 0) i x
 
 pub marks-none : (N : ℕ) (s : ℕ → ℕ) (n v : ℕ) → N ≤ n → N ≤ v → Marks N s (replicate n v)
 marks-none N s n v h l = record {

@@ -1,10 +1,15 @@
 //! The numbers that a call has to answer, by the second implementation.
 
 use reference::bundle::{self, Sizes};
+use reference::cell::LoopType;
 use reference::face::{self, Join};
 use reference::gen::Sample;
 use reference::grid;
+use reference::mesh::Mesher;
+use reference::places;
 use reference::Refusal;
+
+use crate::placing::Placing;
 
 /// 0 and the values of a result, or a refusal's number and place.
 fn numbers<T>(answer: Result<T, Refusal>, values: impl FnOnce(T) -> Vec<u64>) -> Vec<u64> {
@@ -27,6 +32,54 @@ pub fn face(counts: [u8; 3], edge: u32, index: u32) -> Vec<u64> {
 pub fn check(grid: &Sample) -> Vec<u64> {
     let answer = grid::check(&grid.cells, &grid.edges, &grid.counts);
     numbers(answer, |crossings| vec![u64::from(crossings)])
+}
+
+/// 0 and the number of triangles, or a refusal; fills the area.
+pub fn mesh(mesher: &mut Mesher, grid: &Sample, area: &mut [u32]) -> Vec<u64> {
+    let answer = mesher.mesh(&grid.cells, &grid.edges, &grid.counts, area);
+    numbers(answer, |triangles| vec![u64::from(triangles)])
+}
+
+/// 0, p0, the length, 1 for normal or 0, the type and its node; 0 alone for no
+/// such loop; or a refusal.
+pub fn loops(mesher: &mut Mesher, grid: &Sample, [cell, index]: [usize; 2]) -> Vec<u64> {
+    let [cell, index] = [cell as u64, index as u64];
+    let answer = mesher.loop_of_cell(&grid.cells, &grid.edges, &grid.counts, cell, index);
+    numbers(answer, |found| match found {
+        None => vec![],
+        Some(told) => {
+            let normal = u32::from(told.normal);
+            let mut values = vec![told.p0, told.length, normal, told.parity_sum];
+            match told.kind {
+                LoopType::Contractible => {}
+                LoopType::Corner(node) | LoopType::Diagonal(node) => values.push(node),
+            }
+            values.into_iter().map(u64::from).collect()
+        }
+    })
+}
+
+/// 0 and the number of points, or a refusal; fills the area, which has the bits
+/// of its numbers.
+pub fn places(placing: &Placing, area: &mut [u64]) -> Vec<u64> {
+    let Placing {
+        grid,
+        nodes,
+        fractions,
+    } = placing;
+    let mut numbers_in: Vec<f64> = area.iter().copied().map(f64::from_bits).collect();
+    let answer = places::places(
+        &grid.cells,
+        &grid.edges,
+        &grid.counts,
+        nodes,
+        fractions,
+        &mut numbers_in,
+    );
+    for (bits, number) in area.iter_mut().zip(numbers_in) {
+        *bits = number.to_bits();
+    }
+    numbers(answer, |points| vec![u64::from(points)])
 }
 
 /// 0, the kind and the next start, or a refusal.

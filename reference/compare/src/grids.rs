@@ -2,7 +2,7 @@
 
 use reference::gen::{
     box_of_five, box_of_six, box_ring, broken, closed_fan, cone, gathered, linked, open_fan,
-    random_shape, ring, separate, Rng, Sample,
+    random_shape, ring, separate, sphere, Rng, Sample,
 };
 use reference::grid::MAX_CELLS;
 
@@ -30,6 +30,8 @@ pub fn shapes(rng: &mut Rng) -> Vec<Sample> {
         ring(30),
         cone([1, 1, 1]),
         cone([3, 2, 2]),
+        sphere([1, 1, 1]),
+        sphere([2, 3, 2]),
         separate(1),
         separate(20),
     ];
@@ -67,7 +69,10 @@ pub fn with_random_counts(rng: &mut Rng, shape: Sample) -> Sample {
         2 => shape.with_counts(rng, 0, 255),
         3 => shape.with_even_counts(rng, 3),
         4 => shape.with_closed_counts(rng, 3),
-        _ => shape.with_closed_counts(rng, 100),
+        _ => {
+            let pairs = if shape.counts.len() < 100 { 100 } else { 10 };
+            shape.with_closed_counts(rng, pairs)
+        }
     }
 }
 
@@ -117,6 +122,60 @@ pub fn random_grid(rng: &mut Rng) -> Sample {
             with_random_counts(rng, shape)
         }
     }
+}
+
+/// A shape of at most about 400 cells, most of which have an edge that is not
+/// outer.
+fn shape_with_inside(rng: &mut Rng) -> Sample {
+    let size = [(); 3].map(|()| rng.between(1, 3));
+    let shape = match rng.below(8) {
+        0 => box_of_six(size),
+        1 => box_of_five(size.map(|cubes| cubes + 1)),
+        2 => closed_fan(rng.between(3, 40) as u16),
+        3 => cone(size),
+        4 => sphere(size),
+        5 => box_ring([3, rng.between(3, 4), rng.between(2, 3)], 1),
+        6 => linked(&gathered(rng, &sphere(size), 90)),
+        _ => sphere([1, 1, 1]),
+    };
+    if rng.coin() {
+        shape.renumbered(rng)
+    } else {
+        shape
+    }
+}
+
+/// A grid that meets the premises of the rings: even sums on all faces, and 0
+/// on every outer edge.
+pub fn closed_grid(rng: &mut Rng) -> Sample {
+    let shape = match rng.below(500) {
+        0 => large_shape(rng),
+        _ => shape_with_inside(rng),
+    };
+    let pairs = match (shape.counts.len(), rng.below(16)) {
+        (0..=60, 0) => 127,
+        (_, 1) => 12,
+        _ => rng.between(0, 2),
+    };
+    let grid = shape.with_closed_counts(rng, pairs);
+    if rng.coin() {
+        grid.reordered(rng)
+    } else {
+        grid
+    }
+}
+
+/// One cell with random nodes and counts up to `most`.
+pub fn single_cell(rng: &mut Rng, most: u8) -> Sample {
+    let top = rng.between(3, 4_095);
+    let mut nodes: Vec<u16> = Vec::new();
+    while nodes.len() < 4 {
+        let node = rng.between(0, top) as u16;
+        if !nodes.contains(&node) {
+            nodes.push(node);
+        }
+    }
+    Sample::from_cells([[nodes[0], nodes[1], nodes[2], nodes[3]]]).with_counts(rng, 0, most)
 }
 
 /// The grid with faults of one to three random rows.

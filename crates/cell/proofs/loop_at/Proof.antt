@@ -33,7 +33,7 @@ loop-holds c = (omega arith, fresh (c .before .before .args .c) (c .routes-of .e
 
 -- src/lib.rt:66:13
 walk-requires : tie.Need-walk-requires Inv-loop μ-loop
-walk-requires c κs = (c .before .before .before .before .before .before .routes-of .ensures, (omega (arith, c .before .before .before .before .before .before .before .crossings-of .ensures), (c .before .before .before .before .before .loop .inv .1, c .before .before .before .before .before .loop .inv .2)))
+walk-requires c κs = record { routed = c .before .before .before .before .before .before .routes-of .ensures; inside = omega (arith, c .before .before .before .before .before .before .before .crossings-of .ensures); marked = c .before .before .before .before .before .loop .inv .1; scratch = c .before .before .before .before .before .loop .inv .2 }
 
 -- src/lib.rt:68:13
 add-p : tie.Need-add-p Inv-loop μ-loop

@@ -26,7 +26,7 @@ draw-requires c κs = opened-laid (c .before .before .before .before .before .be
 
 -- src/lib.rt:42:1
 returns : tie.Need-returns
-returns c = refused-done (c .before .before .before .before .before .before .before .before .before .before .before .before .args .cells .now) (c .before .before .before .before .before .before .before .before .before .before .before .before .args .edges .now) (c .before .before .before .before .before .before .before .before .before .before .before .before .args .counts .now) (c .before .before .before .«open» .result) _ _ (c .before .before .before .before .before .before .before .before .before .before .before .before .args .area .now) (c .before .row .given .1) (c .before .before .before .«open» .ensures .0)
+returns c = refused-done (c .before .before .before .before .before .before .before .before .before .before .before .before .args .cells .now) (c .before .before .before .before .before .before .before .before .before .before .before .before .args .edges .now) (c .before .before .before .before .before .before .before .before .before .before .before .before .args .counts .now) (c .before .before .before .«open» .result) _ _ (c .before .row .given .1) (c .before .before .before .«open» .ensures .0) (c .before .before .before .before .before .before .before .before .before .before .before .before .args .area .now)
 
 -- src/lib.rt:42:1
 same-length : tie.Need-same-length

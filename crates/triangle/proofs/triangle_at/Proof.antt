@@ -23,7 +23,7 @@ loop-holds : tie.Need-loop-holds Inv-loop μ-loop
 loop-holds c = (going-fresh (c .before .crossings-of .ensures) (c .routes-of .ensures), seeking-none _ _)
 
 walk-requires : tie.Need-walk-requires Inv-loop μ-loop
-walk-requires c κs = (c .before .before .before .before .before .loop .inv .0 .routed, (going-in (c .before .before .before .before .before .loop .inv .0) (omega arith), (c .before .before .before .before .before .loop .inv .0 .marked, c .before .before .before .before .before .loop .inv .0 .scratch)))
+walk-requires c κs = record { routed = c .before .before .before .before .before .loop .inv .0 .routed; inside = going-in (c .before .before .before .before .before .loop .inv .0) (omega arith); marked = c .before .before .before .before .before .loop .inv .0 .marked; scratch = c .before .before .before .before .before .loop .inv .0 .scratch }
 
 in-two-requires : tie.Need-in-two-requires Inv-loop μ-loop
 in-two-requires c κs = walked-traced (going-in (c .before .before .before .before .before .before .before .loop .inv .0) (omega arith)) (c .before .walk .ensures)

@@ -24,7 +24,7 @@ loop-holds : tie.Need-loop-holds Inv-loop μ-loop
 loop-holds c = (going-start (c .before .before .before .crossings-of .ensures) (c .before .before .routes-of .ensures) (c .before .before .before .before .before .pre .0) (c .clear .ensures), writing-none _ _ _)
 
 walk-requires : tie.Need-walk-requires Inv-loop μ-loop
-walk-requires c κs = (c .before .before .before .before .before .loop .inv .0 .routed, (going-in (c .before .before .before .before .before .loop .inv .0) (omega arith), (c .before .before .before .before .before .loop .inv .0 .marked, c .before .before .before .before .before .loop .inv .0 .scratch)))
+walk-requires c κs = record { routed = c .before .before .before .before .before .loop .inv .0 .routed; inside = going-in (c .before .before .before .before .before .loop .inv .0) (omega arith); marked = c .before .before .before .before .before .loop .inv .0 .marked; scratch = c .before .before .before .before .before .loop .inv .0 .scratch }
 
 in-two-requires : tie.Need-in-two-requires Inv-loop μ-loop
 in-two-requires c κs = walked-traced (going-in (c .before .before .before .before .before .before .before .loop .inv .0) (omega arith)) (c .before .walk .ensures)

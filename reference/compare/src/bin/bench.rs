@@ -1,29 +1,96 @@
-//! Times the proved calls and the second implementation's in one run. Both work
-//! on the same grid in turn, and each figure is the best of all its calls.
+//! Times the proved mesh call and grid check and the second implementation's in
+//! one run. All work on the same grid in turn; the order of a round alternates.
 
+use std::env;
 use std::time::{Duration, Instant};
 
 use compare::calls;
+use reference::cell::TRIANGLE_WORDS;
 use reference::gen::{box_of_six, closed_fan, cone, separate, Rng, Sample};
 use reference::grid::{self, GridTables, Lists, MAX_CELLS};
+use reference::mesh::{self, Mesher};
 
-/// How long the calls on one grid are repeated.
-const PATIENCE: Duration = Duration::from_millis(1_500);
+/// How long the calls on one grid are repeated: so many milliseconds, or those
+/// of the first argument. A second argument is the front of the names of the
+/// only measures to take.
+const PATIENCE: u64 = 1_500;
 
-/// The time of one call.
-fn time(call: impl FnOnce()) -> Duration {
-    let start = Instant::now();
-    call();
-    start.elapsed()
+/// Least rounds on one grid, however long they take.
+const ROUNDS: usize = 15;
+
+/// What is timed in each round: the proved call, the second implementation with
+/// memory kept from the call before, and with new memory.
+const WAYS: usize = 3;
+
+/// Times of one way's calls on one grid, in microseconds.
+struct Times {
+    best: f64,
+    median: f64,
 }
 
-fn micros(time: Duration) -> f64 {
-    time.as_secs_f64() * 1e6
+/// Times of each way, `call(way)` in turn.
+fn times(patience: Duration, mut call: impl FnMut(usize)) -> [Times; WAYS] {
+    let mut micros: [Vec<f64>; WAYS] = Default::default();
+    let begin = Instant::now();
+    for round in 0.. {
+        if round >= ROUNDS && begin.elapsed() >= patience {
+            break;
+        }
+        for turn in 0..WAYS {
+            let way = if round % 2 == 0 {
+                turn
+            } else {
+                WAYS - 1 - turn
+            };
+            let start = Instant::now();
+            call(way);
+            micros[way].push(start.elapsed().as_secs_f64() * 1e6);
+        }
+    }
+    micros.map(|mut all| {
+        all.sort_unstable_by(f64::total_cmp);
+        Times {
+            best: all[0],
+            median: all[all.len() / 2],
+        }
+    })
 }
 
-/// Shortest times of a grid's check: the proved one, and the second
-/// implementation's with tables kept from the call before and with new ones.
-fn check_times(grid: &Sample) -> [Duration; 3] {
+/// Times of a grid's mesh, and its triangles. Each way has an area of its own,
+/// which is written before the first round and not cleared between rounds.
+fn mesh_times(grid: &Sample, patience: Duration) -> ([Times; WAYS], usize) {
+    let Sample {
+        cells,
+        edges,
+        counts,
+    } = grid;
+    let needed = match mesh::mesh(cells, edges, counts, &mut []) {
+        Ok(triangles) => triangles as usize,
+        Err(refusal) => refusal.place as usize,
+    };
+    let mut areas = [(); WAYS].map(|()| vec![1; needed * TRIANGLE_WORDS]);
+    let mut mesher = Mesher::default();
+    let mut answer = [1; 2];
+    let times = times(patience, |way| match way {
+        0 => {
+            calls::mesh(cells, edges, counts, &mut areas[0], &mut answer);
+            assert_eq!(answer, [0, needed as u64]);
+        }
+        1 => {
+            let answer = mesher.mesh(cells, edges, counts, &mut areas[1]);
+            assert_eq!(answer, Ok(needed as u32));
+        }
+        _ => {
+            let answer = mesh::mesh(cells, edges, counts, &mut areas[2]);
+            assert_eq!(answer, Ok(needed as u32));
+        }
+    });
+    assert!(areas[0] == areas[1] && areas[1] == areas[2]);
+    (times, needed)
+}
+
+/// Times of a grid's check.
+fn check_times(grid: &Sample, patience: Duration) -> [Times; WAYS] {
     let Sample {
         cells,
         edges,
@@ -36,33 +103,87 @@ fn check_times(grid: &Sample) -> [Duration; 3] {
     };
     let crossings = grid::check(cells, edges, counts).expect("the grid is accepted");
     let mut tables = GridTables::default();
-    let mut answer = [0; 2];
-    let mut shortest = [Duration::MAX; 3];
-    let begin = Instant::now();
-    while begin.elapsed() < PATIENCE {
-        let times = [
-            time(|| {
-                calls::check(cells, edges, counts, &mut answer);
-            }),
-            time(|| assert_eq!(tables.check(&lists), Ok(crossings))),
-            time(|| assert_eq!(grid::check(cells, edges, counts), Ok(crossings))),
-        ];
-        assert_eq!(answer, [0, u64::from(crossings)]);
-        shortest = [0, 1, 2].map(|place| shortest[place].min(times[place]));
-    }
-    shortest
+    let mut answer = [1; 2];
+    times(patience, |way| match way {
+        0 => {
+            calls::check(cells, edges, counts, &mut answer);
+            assert_eq!(answer, [0, u64::from(crossings)]);
+        }
+        1 => assert_eq!(tables.check(&lists), Ok(crossings)),
+        _ => assert_eq!(grid::check(cells, edges, counts), Ok(crossings)),
+    })
 }
 
-fn bench_check(name: &str, grid: &Sample) {
-    let [proved, kept, new] = check_times(grid).map(micros);
-    println!(
-        "check, {name}: {} cells, {} edges: proved {proved:.1} us, reference {kept:.1} us \
-         with kept tables (ratio {:.2}), {new:.1} us with new ones (ratio {:.2})",
-        grid.cells.len() / 4,
-        grid.counts.len(),
-        proved / kept,
-        proved / new,
-    );
+fn size(grid: &Sample) -> String {
+    let crossings: u32 = grid.counts.iter().map(|&count| u32::from(count)).sum();
+    let cells = grid.cells.len() / 4;
+    format!(
+        "{cells} cells, {} edges, {crossings} crossings",
+        grid.counts.len()
+    )
+}
+
+/// How long to measure, and the front of the names of what is measured.
+struct Bench {
+    patience: Duration,
+    only: String,
+}
+
+impl Bench {
+    fn mesh(&self, name: &str, grid: &Sample) {
+        if !name.starts_with(&self.only) {
+            return;
+        }
+        let ([proved, kept, new], triangles) = mesh_times(grid, self.patience);
+        let speed = |micros: f64| triangles as f64 / micros;
+        println!(
+            "{name}: {}, {triangles} triangles\n\
+         \x20 best:   proved {:8.1} us, {:6.2} M/s; reference {:8.1} us, {:6.2} M/s, \
+         ratio {:.2}; with new memory {:8.1} us, ratio {:.2}\n\
+         \x20 median: proved {:8.1} us, {:6.2} M/s; reference {:8.1} us, {:6.2} M/s, \
+         ratio {:.2}; with new memory {:8.1} us, ratio {:.2}",
+            size(grid),
+            proved.best,
+            speed(proved.best),
+            kept.best,
+            speed(kept.best),
+            proved.best / kept.best,
+            new.best,
+            proved.best / new.best,
+            proved.median,
+            speed(proved.median),
+            kept.median,
+            speed(kept.median),
+            proved.median / kept.median,
+            new.median,
+            proved.median / new.median,
+        );
+    }
+
+    fn check(&self, name: &str, grid: &Sample) {
+        if !name.starts_with(&self.only) {
+            return;
+        }
+        let [proved, kept, new] = check_times(grid, self.patience);
+        println!(
+            "{name}: {}\n\
+         \x20 best:   proved {:8.1} us; reference {:8.1} us, ratio {:.2}; with new memory \
+         {:8.1} us, ratio {:.2}\n\
+         \x20 median: proved {:8.1} us; reference {:8.1} us, ratio {:.2}; with new memory \
+         {:8.1} us, ratio {:.2}",
+            size(grid),
+            proved.best,
+            kept.best,
+            proved.best / kept.best,
+            new.best,
+            proved.best / new.best,
+            proved.median,
+            kept.median,
+            proved.median / kept.median,
+            new.median,
+            proved.median / new.median,
+        );
+    }
 }
 
 /// A box of this many cells.
@@ -73,25 +194,47 @@ fn part_of_box(cells: usize) -> Sample {
 }
 
 fn main() {
+    let millis = match env::args().nth(1) {
+        Some(text) => text.parse().expect("milliseconds"),
+        None => PATIENCE,
+    };
+    let bench = Bench {
+        patience: Duration::from_millis(millis),
+        only: env::args().nth(2).unwrap_or_default(),
+    };
     println!(
-        "Best of all calls within {PATIENCE:?} on each grid, the implementations in turn. The \
-         proved check clears its tables, on the stack, in each call; the reference keeps \
-         its own between calls, or makes new ones. A ratio is the proved time over the \
-         reference's."
+        "At least {ROUNDS} rounds and {:?} on each grid, the calls in turn. M/s: million \
+         triangles a second. A ratio is the proved time over the reference's. The proved calls \
+         clear their tables, on the stack, in each call; the reference keeps its own from call to \
+         call, uncleared, or makes new ones. Triangle areas are written before the first round \
+         and not cleared between rounds.",
+        bench.patience
     );
     let mut rng = Rng::new(1);
-    let full = part_of_box(MAX_CELLS).with_counts(&mut rng, 0, 20);
-    bench_check("box", &full);
-    let mixed = full.renumbered(&mut rng).reordered(&mut rng);
-    bench_check("box with shuffled nodes and cells", &mixed);
-    let fan = closed_fan(MAX_CELLS as u16);
-    bench_check("closed fan round one edge", &fan);
-    bench_check("cells round one node", &cone([13, 13, 13]));
-    bench_check(
-        "cells that share nothing",
-        &separate((MAX_CELLS / 2) as u16),
-    );
+    let shape = box_of_six([6, 5, 10]);
+    let few = shape.clone().with_counts(&mut rng, 0, 3);
+    bench.mesh("1 mesh, box, counts 0..3", &few);
+    let closed = shape.clone().with_closed_counts(&mut rng, 1);
+    bench.mesh("1 mesh, box, closed, counts 0..3", &closed);
+    let many = shape.clone().with_counts(&mut rng, 16, 24);
+    bench.mesh("2 mesh, box, counts 16..24", &many);
+    let even = shape.with_even_counts(&mut rng, 10);
+    bench.mesh("2 mesh, box, even faces, counts 0..21", &even);
+    let full = separate(42).with_counts(&mut rng, 255, 255);
+    bench.mesh("3 mesh, separate cells, counts 255", &full);
+    let fan = closed_fan(MAX_CELLS as u16).with_counts(&mut rng, 4, 14);
+    bench.mesh("4 mesh, cells round one edge, counts 4..14", &fan);
+    let boxed = part_of_box(MAX_CELLS).with_counts(&mut rng, 0, 20);
+    bench.check("5 check, box", &boxed);
+    let mixed = boxed.renumbered(&mut rng).reordered(&mut rng);
+    bench.check("5 check, box, shuffled nodes and cells", &mixed);
+    bench.check("5 check, cells round one edge", &fan);
+    bench.check("5 check, cells round one node", &cone([13, 13, 13]));
+    let apart = separate((MAX_CELLS / 2) as u16);
+    bench.check("5 check, cells that share nothing", &apart);
     for cells in [1, 100, 500, 1_000, 2_000] {
-        bench_check("part of the box", &part_of_box(cells));
+        let part = part_of_box(cells).with_counts(&mut rng, 16, 24);
+        bench.mesh("growth, mesh, box, counts 16..24", &part);
+        bench.check("growth, check", &part);
     }
 }

@@ -1,6 +1,6 @@
 use native.Mathlib.Omega.{arith}
 use Prim.Native.Nat.{_≤_, _-_}
-use mathlib.Core.Path.{_≡_, sym, ap, ap₂, _∙_}
+use mathlib.Core.Path.{_≡_, ap, _∙_}
 use lib.Dec.{eqb}
 use lib.ListN.{getD}
 use denote.Ref.{now}
@@ -13,9 +13,8 @@ use Rattle.cell.proofs.answers.crosses_of.Statement.{statement}
 use Rattle.cell.proofs.answers.crosses_of.Tie as tie
 use Rattle.cell.proofs.answers.crosses_of.Reads as reads
 use Rattle.cell.proofs.answers.crosses_of.Lts as lts
+use Rattle.cell.proofs.answers.edge_at.Reads as edge-at-reads
 use Rattle.cell.proofs.answers.same.Reads as same-reads
-use Rattle.cell.proofs.routes.wide8.Reads as wide8-reads
-use Rattle.cell.proofs.tables.edge_of.Reads as edge-of-reads
 
 abbrev Inv-loop : tie.InvT-loop
 Inv-loop halves n e x₀ k₀ x k = (k ≤ n) × Summed (λ i. one (eqb (edgeOf (getD halves i 0)) e)) k x
@@ -23,43 +22,35 @@ Inv-loop halves n e x₀ k₀ x k = (k ≤ n) × Summed (λ i. one (eqb (edgeOf 
 abbrev μ-loop : tie.MeasureT-loop
 μ-loop halves n e x₀ k₀ x k = n - k
 
--- src/answers.rt:60:5
+-- src/answers.rt:65:5
 loop-holds : tie.Need-loop-holds Inv-loop μ-loop
 loop-holds c = (omega arith, summed-none _)
 
--- src/answers.rt:61:47
-element-copy-out-wide8 : tie.Need-element-copy-out-wide8 Inv-loop μ-loop
-element-copy-out-wide8 c = omega arith
+-- src/answers.rt:66:19
+edge-at-requires : tie.Need-edge-at-requires Inv-loop μ-loop
+edge-at-requires c κs = (omega arith, c .before .before .pre .1 (c .before .loop .k) (omega arith))
 
--- src/answers.rt:61:33
-wide8-requires : tie.Need-wide8-requires Inv-loop μ-loop
-wide8-requires c κs = tt
-
--- src/answers.rt:61:13
-edge-of-requires : tie.Need-edge-of-requires Inv-loop μ-loop
-edge-of-requires c κs = rw (c .wide8 .ensures .0) (c .before .before .before .before .pre .1 (c .before .before .before .loop .k) (omega arith))
-
--- src/answers.rt:62:14
+-- src/answers.rt:66:14
 same-requires : tie.Need-same-requires Inv-loop μ-loop
 same-requires c κs = tt
 
--- src/answers.rt:62:9
+-- src/answers.rt:66:9
 add-x : tie.Need-add-x Inv-loop μ-loop
-add-x c = omega (arith, c .before .before .before .before .before .loop .inv .1 .few)
+add-x c = omega (arith, c .before .before .before .loop .inv .1 .few)
 
--- src/answers.rt:63:9
+-- src/answers.rt:67:9
 add-k : tie.Need-add-k Inv-loop μ-loop
 add-k c = omega arith
 
--- src/answers.rt:60:5
+-- src/answers.rt:65:5
 loop-less : tie.Need-loop-less Inv-loop μ-loop
 loop-less c = omega arith
 
--- src/answers.rt:60:5
+-- src/answers.rt:65:5
 loop-again : tie.Need-loop-again Inv-loop μ-loop
-loop-again c = (omega arith, summed-more (c .before .before .before .before .before .loop .inv .1) _ (c .same .ensures .0 ∙ ap (λ x. one (eqb x (c .before .before .before .before .before .before .args .e))) (c .before .edge-of .ensures .0 ∙ ap edgeOf (c .before .before .wide8 .ensures .0))) (c .same .ensures .1))
+loop-again c = (omega arith, summed-more (c .before .before .before .loop .inv .1) _ (c .same .ensures .0 ∙ ap (λ x. one (eqb x (c .before .before .before .before .args .e))) (c .before .edge-at .ensures)) (c .same .ensures .1))
 
--- src/answers.rt:53:1
+-- src/answers.rt:58:1
 returns : tie.Need-returns Inv-loop μ-loop
 unfolding crossesIn
 returns c = let q : c .before .loop .k ≡ c .before .before .args .n = omega arith in c .before .loop .inv .1 .is ∙ ap (λ m. total (λ i. one (eqb (edgeOf (getD (now (c .before .before .args .halves)) i 0)) (c .before .before .args .e))) m 0) q
@@ -71,9 +62,7 @@ crosses-of-spec =
     Inv-loop
     μ-loop
     loop-holds
-    element-copy-out-wide8
-    wide8-requires
-    edge-of-requires
+    edge-at-requires
     same-requires
     add-x
     add-k

@@ -1,60 +1,86 @@
-use Prim.Native.Nat.{_≤_, _-_}
-use lib.ListN.{length}
-use mathlib.Core.Path.{_≡_, refl}
 use native.Mathlib.Omega.{arith}
-use Rattle.cell.specs.Route.{Firsts}
-use Rattle.cell.proofs.Route.{Written, written-none, written-more, written-all}
+use Rattle.slots.specs.Slots.{slotEdge}
+use Rattle.cell.proofs.Route.{linkTable, written-none, written-slot, written-all, near-all}
+use borrow.Author.Needs.{needs}
 use Rattle.cell.proofs.routes.routes_of.Statement.{statement}
 use Rattle.cell.proofs.routes.routes_of.Tie as tie
 use Rattle.cell.proofs.routes.routes_of.Reads as reads
 use Rattle.cell.proofs.routes.routes_of.Lts as lts
 use Rattle.cell.proofs.routes.firsts_of.Reads as firsts-of-reads
-use Rattle.cell.proofs.routes.put_route.Reads as put-route-reads
+use Rattle.cell.proofs.routes.put_slot.Reads as put-slot-reads
+use Rattle.cell.proofs.routes.run_of.Reads as run-of-reads
 
-abbrev Inv-loop : tie.InvT-loop
-Inv-loop c firsts t₀ h₀ t h = (h ≤ 12) × Written c h t t₀ × (length t₀ ≡ 108) × Firsts c firsts
+-- src/routes.rt:128:18
+firsts-of-requires : tie.Need-firsts-of-requires
+firsts-of-requires c κs = search needs
 
-abbrev μ-loop : tie.MeasureT-loop
-μ-loop c firsts t₀ h₀ t h = 12 - h
+-- src/routes.rt:129:9
+run-of-requires : tie.Need-run-of-requires
+run-of-requires c κs = search needs
 
--- src/routes.rt:101:18
-firsts-of-requires : tie.Need-firsts-of-requires Inv-loop μ-loop
-firsts-of-requires c κs = tt
+-- src/routes.rt:130:9
+run-of-requires-2 : tie.Need-run-of-requires-2
+run-of-requires-2 c κs = search needs
 
--- src/routes.rt:104:5
-loop-holds : tie.Need-loop-holds Inv-loop μ-loop
-loop-holds c = (omega arith, written-none _ _, refl, c .firsts-of .ensures)
+-- src/routes.rt:131:9
+run-of-requires-3 : tie.Need-run-of-requires-3
+run-of-requires-3 c κs = search needs
 
--- src/routes.rt:105:9
-put-route-requires : tie.Need-put-route-requires Inv-loop μ-loop
-put-route-requires c κs = (omega arith, c .before .before .before .loop .inv .3)
+-- src/routes.rt:132:9
+run-of-requires-4 : tie.Need-run-of-requires-4
+run-of-requires-4 c κs = search needs
 
--- src/routes.rt:106:9
-add-h : tie.Need-add-h Inv-loop μ-loop
-add-h c = omega arith
+-- src/routes.rt:133:9
+run-of-requires-5 : tie.Need-run-of-requires-5
+run-of-requires-5 c κs = search needs
 
--- src/routes.rt:104:5
-loop-less : tie.Need-loop-less Inv-loop μ-loop
-loop-less c = omega arith
+-- src/routes.rt:134:9
+run-of-requires-6 : tie.Need-run-of-requires-6
+run-of-requires-6 c κs = search needs
 
--- src/routes.rt:104:5
-loop-again : tie.Need-loop-again Inv-loop μ-loop
-loop-again c = (omega arith, written-more (c .before .before .before .before .loop .inv .1) _ (c .put-route .ensures .0) (c .put-route .ensures .1), c .before .before .before .before .loop .inv .2, c .before .before .before .before .loop .inv .3)
+-- src/routes.rt:136:5
+put-slot-requires : tie.Need-put-slot-requires
+unfolding slotEdge
+put-slot-requires c κs = (omega arith, record { of-ab = c .before .before .before .before .before .run-of4 .ensures; of-ac = c .before .before .before .run-of5 .ensures; of-bc = c .before .run-of6 .ensures })
 
--- src/routes.rt:98:1
-returns : tie.Need-returns Inv-loop μ-loop
-returns c = let e : c .before .loop .h ≡ 12 = omega arith in written-all (rw e at (c .before .loop .inv .1)) (c .before .loop .inv .2) (c .before .loop .inv .3 .few)
+-- src/routes.rt:137:5
+put-slot-requires-2 : tie.Need-put-slot-requires-2
+unfolding slotEdge
+put-slot-requires-2 c κs = (omega arith, record { of-ab = c .before .before .before .before .before .before .before .before .before .before .before .run-of2 .ensures; of-ac = c .before .before .before .before .before .before .before .before .before .run-of3 .ensures; of-bc = c .before .before .before .run-of6 .ensures })
+
+-- src/routes.rt:138:5
+put-slot-requires-3 : tie.Need-put-slot-requires-3
+unfolding slotEdge
+put-slot-requires-3 c κs = (omega arith, record { of-ab = c .before .before .before .before .before .before .before .before .before .before .before .before .before .before .before .run-of .ensures; of-ac = c .before .before .before .before .before .before .before .before .before .before .before .run-of3 .ensures; of-bc = c .before .before .before .before .before .before .before .run-of5 .ensures })
+
+-- src/routes.rt:139:5
+put-slot-requires-4 : tie.Need-put-slot-requires-4
+unfolding slotEdge
+put-slot-requires-4 c κs = (omega arith, record { of-ab = c .before .before .before .before .before .before .before .before .before .before .before .before .before .before .before .before .before .run-of .ensures; of-ac = c .before .before .before .before .before .before .before .before .before .before .before .before .before .before .before .run-of2 .ensures; of-bc = c .before .before .before .before .before .before .before .before .before .before .before .run-of4 .ensures })
+
+-- src/routes.rt:125:1
+returns : tie.Need-returns
+unfolding linkTable
+returns c =
+    let a = written-slot 0 (written-none (c .before .before .before .before .before .before .before .before .before .before .before .before .before .before .before .before .before .before .before .before .before .args .c)) (omega arith) _ (c .before .before .before .before .before .before .put-slot .ensures) in
+    let b = written-slot 1 a (omega arith) _ (c .before .before .before .before .put-slot2 .ensures) in
+    let d = written-slot 2 b (omega arith) _ (c .before .before .put-slot3 .ensures) in
+    let e = written-slot 3 d (omega arith) _ (c .put-slot4 .ensures) in
+    written-all e (c .before .before .before .before .before .before .before .before .before .before .before .before .before .before .before .before .before .before .before .before .firsts-of .ensures .few) (near-all (c .before .before .before .before .before .before .before .before .before .before .before .before .before .before .before .before .before .before .run-of .ensures) (c .before .before .before .before .before .before .before .before .before .before .before .before .before .before .before .before .run-of2 .ensures) (c .before .before .before .before .before .before .before .before .before .before .before .before .before .before .run-of3 .ensures) (c .before .before .before .before .before .before .before .before .before .before .before .before .run-of4 .ensures) (c .before .before .before .before .before .before .before .before .before .before .run-of5 .ensures) (c .before .before .before .before .before .before .before .before .run-of6 .ensures))
 
 pub routes-of-spec : {M : Type 1} → statement M
 routes-of-spec =
     tie.close
     (tie.spec
-    Inv-loop
-    μ-loop
     firsts-of-requires
-    loop-holds
-    put-route-requires
-    add-h
-    loop-less
-    loop-again
+    run-of-requires
+    run-of-requires-2
+    run-of-requires-3
+    run-of-requires-4
+    run-of-requires-5
+    run-of-requires-6
+    put-slot-requires
+    put-slot-requires-2
+    put-slot-requires-3
+    put-slot-requires-4
     returns)

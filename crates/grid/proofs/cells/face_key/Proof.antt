@@ -1,4 +1,7 @@
 -- `grid::cells::face_key` meets its contract.
+use Prim.Native.Nat.{_%_, _*_, _+_, _/_}
+use mathlib.Core.Path.{_≡_}
+use native.Mathlib.Omega.{arith}
 use borrow.Author.Needs.{needs}
 use Rattle.grid.specs.Work.{faceKey}
 use Rattle.grid.proofs.cells.face_key.Statement.{statement}
@@ -28,8 +31,10 @@ add-result-2 c = search needs
 returns : tie.Need-returns
 unfolding faceKey
 returns c =
-    let c-corner-at = c .before .before .corner-at in
-    rw (c-corner-at .ensures .0, c .before .corner-at2 .ensures .0, c .corner-at3 .ensures .0)
+    let a = c .before .before .before .before .args in
+    let d : (4 * a .c + a .s) / 4 ≡ a .c = omega arith in
+    let m : (4 * a .c + a .s) % 4 ≡ a .s = omega arith in
+    rw (c .before .before .corner-at .ensures .0, c .before .corner-at2 .ensures .0, c .corner-at3 .ensures .0, d, m)
 
 pub face-key-spec : {M : Type 1} → statement M
 face-key-spec =

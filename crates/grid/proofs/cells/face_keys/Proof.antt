@@ -1,53 +1,47 @@
 -- `grid::cells::face_keys` meets its contract.
-use Prim.Native.Nat.{_*_, _-_, _/_, _≤_}
-use mathlib.Core.Path.{_≡_, refl}
+use Prim.Native.Nat.{_*_, _+_, _-_, _/_, _≤_}
+use mathlib.Core.Path.{_∙_, _≡_, refl}
 use native.Mathlib.Omega.{arith}
-use lib.ListN.{length, length-set}
+use lib.ListN.{length}
 use borrow.Author.Needs.{needs}
 use Rattle.grid.specs.Work.{Table, faceKey}
-use Rattle.grid.proofs.Packed.{table-more, table-none}
+use Rattle.grid.proofs.Packed.{table-none}
 use Rattle.grid.proofs.cells.face_keys.Statement.{statement}
 use Rattle.grid.proofs.cells.face_keys.Tie as tie
 
 abbrev Inv-loop : tie.InvT-loop
-Inv-loop cells keys₀ n j₀ keys j = (j ≤ n) × (length keys ≡ length keys₀) × Table (faceKey cells) j keys
+Inv-loop cells keys₀ n c₀ keys c = (c ≤ n) × (length keys ≡ length keys₀) × Table (faceKey cells) (4 * c) keys
 
 abbrev μ-loop : tie.MeasureT-loop
-μ-loop cells keys₀ n j₀ keys j = n - j
-
-mul-n : tie.Need-mul-n Inv-loop μ-loop
-mul-n c = search needs
+μ-loop cells keys₀ n c₀ keys c = n - c
 
 loop-holds : tie.Need-loop-holds Inv-loop μ-loop
 loop-holds c = (omega arith, refl, table-none _ _)
 
-face-key-requires : tie.Need-face-key-requires Inv-loop μ-loop
-face-key-requires c κs = search needs
+put-faces-requires : tie.Need-put-faces-requires Inv-loop μ-loop
+put-faces-requires c κs =
+    let w = c .before .before .loop .inv in
+    (omega arith, (omega (arith, w .1), w .2))
 
-mul-keys : tie.Need-mul-keys Inv-loop μ-loop
-mul-keys c = search needs
-
-slice-write-keys : tie.Need-slice-write-keys Inv-loop μ-loop
-slice-write-keys c = search needs
-
-add-j : tie.Need-add-j Inv-loop μ-loop
-add-j c = search needs
+add-c : tie.Need-add-c Inv-loop μ-loop
+add-c c = search needs
 
 loop-less : tie.Need-loop-less Inv-loop μ-loop
 loop-less c = search needs
 
 loop-again : tie.Need-loop-again Inv-loop μ-loop
 loop-again c =
-    let w = c .before .before .loop .inv in
-    (omega arith, simp length-set (w .1), table-more (w .2) _ (omega (arith, w .1)) (c .face-key .ensures))
+    let w = c .before .before .before .before .before .loop .inv in
+    let e = c .before .before .put-faces .ensures in
+    let i : 4 * (c .before .before .before .before .before .loop .c + 1) ≡ 4 * c .before .before .before .before .before .loop .c + 4 = omega arith in
+    (omega arith, e .0 ∙ w .1, rw i (e .1))
 
 same-length : tie.Need-same-length Inv-loop μ-loop
-same-length c = search needs
+same-length c = c .before .loop .inv .1
 
 returns : tie.Need-returns Inv-loop μ-loop
 returns c =
-    let c-args = c .before .before .before .before .args in
-    let e : c .before .loop .j ≡ 4 * (length (c-args .cells .now) / 4) = omega arith in
+    let e : c .before .loop .c ≡ length (c .before .before .before .before .args .cells .now) / 4 = omega arith in
     rw (← e) (c .before .loop .inv .2)
 
 pub face-keys-spec : {M : Type 1} → statement M
@@ -56,12 +50,9 @@ face-keys-spec =
     (tie.spec
     Inv-loop
     μ-loop
-    mul-n
     loop-holds
-    face-key-requires
-    mul-keys
-    slice-write-keys
-    add-j
+    put-faces-requires
+    add-c
     loop-less
     loop-again
     same-length

@@ -1,5 +1,6 @@
 -- `grid::edges::side_key` meets its contract.
-use Prim.Native.Nat.{_%_}
+use Prim.Native.Nat.{_%_, _*_, _+_, _/_}
+use mathlib.Core.Path.{_≡_}
 use native.Mathlib.Omega.{arith}
 use borrow.Author.Needs.{needs}
 use Rattle.slots.specs.Slots.{hi, lo}
@@ -16,7 +17,7 @@ array-read-node-at c = search needs
 
 node-at-requires : tie.Need-node-at-requires
 unfolding lo
-node-at-requires c κs = (omega arith, omega (arith, two-slots (c .before .args .j % 6) (omega arith) .rising, two-slots (c .before .args .j % 6) (omega arith) .within))
+node-at-requires c κs = (omega arith, omega (arith, two-slots (c .before .args .k) (omega arith) .rising, two-slots (c .before .args .k) (omega arith) .within))
 
 mul-node-at-2 : tie.Need-mul-node-at-2
 mul-node-at-2 c = search needs
@@ -26,7 +27,7 @@ array-read-node-at-2 c = search needs
 
 node-at-requires-2 : tie.Need-node-at-requires-2
 unfolding hi
-node-at-requires-2 c κs = (omega arith, two-slots (c .before .before .args .j % 6) (omega arith) .within)
+node-at-requires-2 c κs = (omega arith, two-slots (c .before .before .args .k) (omega arith) .within)
 
 mul-result : tie.Need-mul-result
 mul-result c = search needs
@@ -36,7 +37,11 @@ add-result c = search needs
 
 returns : tie.Need-returns
 unfolding sideKey lo hi
-returns c = rw (c .before .node-at .ensures .0, c .node-at2 .ensures .0)
+returns c =
+    let a = c .before .before .before .args in
+    let d : (6 * a .c + a .k) / 6 ≡ a .c = omega arith in
+    let m : (6 * a .c + a .k) % 6 ≡ a .k = omega arith in
+    rw (c .before .node-at .ensures .0, c .node-at2 .ensures .0, d, m)
 
 pub side-key-spec : {M : Type 1} → statement M
 side-key-spec =

@@ -1,53 +1,47 @@
 -- `grid::edges::side_keys` meets its contract.
-use Prim.Native.Nat.{_*_, _-_, _/_, _≤_}
-use mathlib.Core.Path.{_≡_, refl}
+use Prim.Native.Nat.{_*_, _+_, _-_, _/_, _≤_}
+use mathlib.Core.Path.{_∙_, _≡_, refl}
 use native.Mathlib.Omega.{arith}
-use lib.ListN.{length, length-set}
+use lib.ListN.{length}
 use borrow.Author.Needs.{needs}
 use Rattle.grid.specs.Work.{Table, sideKey}
-use Rattle.grid.proofs.Packed.{table-more, table-none}
+use Rattle.grid.proofs.Packed.{table-none}
 use Rattle.grid.proofs.edges.side_keys.Statement.{statement}
 use Rattle.grid.proofs.edges.side_keys.Tie as tie
 
 abbrev Inv-loop : tie.InvT-loop
-Inv-loop cells keys₀ n j₀ keys j = (j ≤ n) × (length keys ≡ length keys₀) × Table (sideKey cells) j keys
+Inv-loop cells keys₀ n c₀ keys c = (c ≤ n) × (length keys ≡ length keys₀) × Table (sideKey cells) (6 * c) keys
 
 abbrev μ-loop : tie.MeasureT-loop
-μ-loop cells keys₀ n j₀ keys j = n - j
-
-mul-n : tie.Need-mul-n Inv-loop μ-loop
-mul-n c = search needs
+μ-loop cells keys₀ n c₀ keys c = n - c
 
 loop-holds : tie.Need-loop-holds Inv-loop μ-loop
 loop-holds c = (omega arith, refl, table-none _ _)
 
-side-key-requires : tie.Need-side-key-requires Inv-loop μ-loop
-side-key-requires c κs = search needs
+put-sides-requires : tie.Need-put-sides-requires Inv-loop μ-loop
+put-sides-requires c κs =
+    let w = c .before .before .loop .inv in
+    (omega arith, (omega (arith, w .1), w .2))
 
-mul-keys : tie.Need-mul-keys Inv-loop μ-loop
-mul-keys c = search needs
-
-slice-write-keys : tie.Need-slice-write-keys Inv-loop μ-loop
-slice-write-keys c = search needs
-
-add-j : tie.Need-add-j Inv-loop μ-loop
-add-j c = search needs
+add-c : tie.Need-add-c Inv-loop μ-loop
+add-c c = search needs
 
 loop-less : tie.Need-loop-less Inv-loop μ-loop
 loop-less c = search needs
 
 loop-again : tie.Need-loop-again Inv-loop μ-loop
 loop-again c =
-    let w = c .before .before .loop .inv in
-    (omega arith, simp length-set (w .1), table-more (w .2) _ (omega (arith, w .1)) (c .side-key .ensures))
+    let w = c .before .before .before .before .before .loop .inv in
+    let e = c .before .before .put-sides .ensures in
+    let i : 6 * (c .before .before .before .before .before .loop .c + 1) ≡ 6 * c .before .before .before .before .before .loop .c + 6 = omega arith in
+    (omega arith, e .0 ∙ w .1, rw i (e .1))
 
 same-length : tie.Need-same-length Inv-loop μ-loop
-same-length c = search needs
+same-length c = c .before .loop .inv .1
 
 returns : tie.Need-returns Inv-loop μ-loop
 returns c =
-    let c-args = c .before .before .before .before .args in
-    let e : c .before .loop .j ≡ 6 * (length (c-args .cells .now) / 4) = omega arith in
+    let e : c .before .loop .c ≡ length (c .before .before .before .before .args .cells .now) / 4 = omega arith in
     rw (← e) (c .before .loop .inv .2)
 
 pub side-keys-spec : {M : Type 1} → statement M
@@ -56,12 +50,9 @@ side-keys-spec =
     (tie.spec
     Inv-loop
     μ-loop
-    mul-n
     loop-holds
-    side-key-requires
-    mul-keys
-    slice-write-keys
-    add-j
+    put-sides-requires
+    add-c
     loop-less
     loop-again
     same-length

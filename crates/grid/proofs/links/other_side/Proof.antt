@@ -1,49 +1,34 @@
 -- `grid::links::other_side` meets its contract.
-use mathlib.Core.Path.{refl}
 use native.Mathlib.Omega.{arith}
 use borrow.Author.Needs.{needs}
-use Rattle.slots.specs.Slots.{hi, lo}
-use Rattle.grid.proofs.Marks.{other-fits, other-lt}
+use Rattle.grid.proofs.Marks.{other-fits, other-high, other-low, other-lt}
 use Rattle.grid.proofs.links.other_side.Statement.{statement}
 use Rattle.grid.proofs.links.other_side.Tie as tie
 
-mul-result : tie.Need-mul-result
-mul-result c = search needs
-
-array-read-result : tie.Need-array-read-result
-array-read-result c = search needs
-
 sub-result : tie.Need-sub-result
-unfolding lo hi
-sub-result c = omega (arith, other-fits (c .args .k) (c .args .s) (c .pre .edge-lt) (c .pre .slot-lt) (c .pre .holds))
-
-mul-result-2 : tie.Need-mul-result-2
-mul-result-2 c = search needs
-
-array-read-result-2 : tie.Need-array-read-result-2
-array-read-result-2 c = search needs
+sub-result c = search needs
 
 sub-result-2 : tie.Need-sub-result-2
-unfolding lo hi
-sub-result-2 c = omega (arith, other-fits (c .args .k) (c .args .s) (c .pre .edge-lt) (c .pre .slot-lt) (c .pre .holds))
-
-sub-result-3 : tie.Need-sub-result-3
-unfolding lo hi
-sub-result-3 c = omega (arith, other-fits (c .args .k) (c .args .s) (c .pre .edge-lt) (c .pre .slot-lt) (c .pre .holds))
+sub-result-2 c = search needs
 
 returns : tie.Need-returns
-unfolding lo hi
-returns c = (refl, other-lt (c .args .k) (c .args .s) (c .pre .edge-lt) (c .pre .slot-lt) (c .pre .holds))
+returns c =
+    let p = c .before .pre in
+    let a = c .before .args in
+    (other-low (a .k) (a .s) (omega arith), rw (other-low (a .k) (a .s) (omega arith)) (other-lt _ _ (p .edge-lt) (p .slot-lt) (p .holds)))
+
+sub-result-3 : tie.Need-sub-result-3
+sub-result-3 c = search needs
+
+sub-result-4 : tie.Need-sub-result-4
+sub-result-4 c = let p = c .before .pre in omega (arith, other-fits _ _ (p .edge-lt) (p .slot-lt) (p .holds))
+
+returns-2 : tie.Need-returns-2
+returns-2 c =
+    let p = c .before .pre in
+    let a = c .before .args in
+    (other-high (a .k) (a .s) (omega arith) (p .edge-lt), rw (other-high (a .k) (a .s) (omega arith) (p .edge-lt)) (other-lt _ _ (p .edge-lt) (p .slot-lt) (p .holds)))
 
 pub other-side-spec : {M : Type 1} → statement M
 other-side-spec =
-    tie.close
-    (tie.spec
-    mul-result
-    array-read-result
-    sub-result
-    mul-result-2
-    array-read-result-2
-    sub-result-2
-    sub-result-3
-    returns)
+    tie.close (tie.spec sub-result sub-result-2 returns sub-result-3 sub-result-4 returns-2)

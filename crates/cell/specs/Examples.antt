@@ -1,0 +1,120 @@
+-- Examples of cells beside those of mesh's table: every loop's answer and points, the routes of some half-edges, and what is counted of a
+-- recorded loop.
+use Prim.Native.Nat.{ℕ, suc, _+_, _/_}
+use mathlib.Core.Path.{_≡_}
+use mathlib.Core.List.{List, [], _∷_, _++_}
+use lib.ListN.{length, getD}
+use Rattle.counting.specs.Range.{over}
+use Rattle.answer.specs.Answer.{result}
+use Rattle.cell.specs.Cell.{crossings}
+use Rattle.cell.specs.Loop.{loopSize, dart, inGrid, leasts, loopAnswer}
+use Rattle.cell.specs.Route.{front, links}
+use Rattle.cell.specs.Round.{foldsIn, crossesIn}
+
+-- a cell by its counts, its edges' first crossing numbers and its nodes; how many crossings it has, the answers for loop 0 and on to the first
+-- that is none, and the points of each loop
+pub record Example : Type 0 where
+  pub counts : List ℕ
+  pub starts : List ℕ
+  pub nodes : List ℕ
+  pub crossings : ℕ
+  pub loops : List (List ℕ)
+  pub points : List (List ℕ)
+
+abbrev pub at : List ℕ → ℕ → ℕ
+at l = λ e. getD l e 0
+
+-- the only cell of a grid, 0 1 2 3
+unfoldable pub alone : (a b c d e f : ℕ) (loops points : List (List ℕ)) → Example
+alone a b c d e f loops points = record {
+  counts = a ∷ b ∷ c ∷ d ∷ e ∷ f ∷ [];
+  starts = 0 ∷ a ∷ (a + b) ∷ (a + b + c) ∷ (a + b + c + d) ∷ (a + b + c + d + e) ∷ [];
+  nodes = 0 ∷ 1 ∷ 2 ∷ 3 ∷ [];
+  crossings = a + b + c + d + e + f;
+  loops = loops;
+  points = points;
+}
+
+-- a cell of some grid
+unfoldable pub among : (counts : List ℕ) (crossings : ℕ) (loops points : List (List ℕ)) → Example
+among counts n loops points = record {
+  counts = counts;
+  starts = 10 ∷ 20 ∷ 30 ∷ 40 ∷ 50 ∷ 60 ∷ [];
+  nodes = 4 ∷ 7 ∷ 9 ∷ 11 ∷ [];
+  crossings = n;
+  loops = loops;
+  points = points;
+}
+
+abbrev no : List ℕ
+no = result []
+
+unfoldable pub examples : List Example
+unfolding alone among
+examples =
+    -- an open curve and a loop: the first crossing is unjoined, the others are a loop
+    alone 3 0 0 0 0 0 (result (1 ∷ 2 ∷ 0 ∷ 0 ∷ []) ∷ no ∷ []) ((1 ∷ 2 ∷ []) ∷ [])
+    -- two loops, each typed by its own crossings: both are corners, though the cell's counts are even
+    ∷ alone 2 2 2 0 0 0 (result (0 ∷ 3 ∷ 1 ∷ 3 ∷ 0 ∷ []) ∷ result (1 ∷ 3 ∷ 1 ∷ 3 ∷ 0 ∷ []) ∷ no ∷ []) ((0 ∷ 2 ∷ 4 ∷ []) ∷ (1 ∷ 3 ∷ 5 ∷ []) ∷ [])
+    -- corners at the other nodes
+    ∷ alone 1 0 0 1 1 0 (result (0 ∷ 3 ∷ 1 ∷ 1 ∷ 1 ∷ []) ∷ no ∷ []) ((0 ∷ 1 ∷ 2 ∷ []) ∷ [])
+    ∷ alone 0 1 0 1 0 1 (result (0 ∷ 3 ∷ 1 ∷ 1 ∷ 2 ∷ []) ∷ no ∷ []) ((0 ∷ 1 ∷ 2 ∷ []) ∷ [])
+    ∷ alone 0 0 1 0 1 1 (result (0 ∷ 3 ∷ 1 ∷ 1 ∷ 3 ∷ []) ∷ no ∷ []) ((0 ∷ 1 ∷ 2 ∷ []) ∷ [])
+    -- diagonal, the lowest node with 2 and with 3
+    ∷ alone 1 0 1 1 0 1 (result (0 ∷ 4 ∷ 1 ∷ 2 ∷ 2 ∷ []) ∷ no ∷ []) ((0 ∷ 2 ∷ 3 ∷ 1 ∷ []) ∷ [])
+    ∷ alone 1 1 0 0 1 1 (result (0 ∷ 4 ∷ 1 ∷ 2 ∷ 3 ∷ []) ∷ no ∷ []) ((0 ∷ 1 ∷ 3 ∷ 2 ∷ []) ∷ [])
+    -- the numbers of crossings and nodes are those of the grid
+    ∷ among (0 ∷ 1 ∷ 1 ∷ 1 ∷ 1 ∷ 0 ∷ []) 4 (result (20 ∷ 4 ∷ 1 ∷ 2 ∷ 7 ∷ []) ∷ no ∷ []) ((20 ∷ 40 ∷ 50 ∷ 30 ∷ []) ∷ [])
+    ∷ among (1 ∷ 1 ∷ 1 ∷ 0 ∷ 0 ∷ 0 ∷ []) 3 (result (10 ∷ 3 ∷ 1 ∷ 3 ∷ 4 ∷ []) ∷ no ∷ []) ((10 ∷ 20 ∷ 30 ∷ []) ∷ [])
+    ∷ []
+
+-- what the definitions say of a cell, and what stands in the table
+module _ (w start : ℕ → ℕ) (v : List ℕ) where
+  unfoldable pub loopsOf : List (List ℕ)
+  loopsOf = over (λ k. loopAnswer w start v k ∷ []) (suc (length (leasts w start v))) 0
+
+  unfoldable pub pointsOf : ℕ → List ℕ
+  pointsOf p = over (λ k. inGrid w start v (dart w p k / 2) ∷ []) (loopSize w p) 0
+
+  unfoldable pub allPoints : List (List ℕ)
+  allPoints = over (λ k. pointsOf (getD (leasts w start v) k 0) ∷ []) (length (leasts w start v)) 0
+
+unfoldable pub computed : List Example → List (List ℕ)
+computed [] = []
+computed (x ∷ l) =
+    (crossings (at (x .counts)) ∷ [])
+    ∷ (loopsOf (at (x .counts)) (at (x .starts)) (x .nodes) ++ (allPoints (at (x .counts)) (at (x .starts)) (x .nodes) ++ computed l))
+
+unfoldable pub listed : List Example → List (List ℕ)
+listed [] = []
+listed (x ∷ l) = (x .crossings ∷ []) ∷ (x .loops ++ (x .points ++ listed l))
+
+-- Counts 5 1 0 1 0 0 with starts of their own: the routes of half-edges 9, 10, 11 in slot 3, a face 5 1 1, and of 6 in slot 2, a face 5 0 0.
+-- A recorded loop of edges 01, 02, 02, 01, and one of 01, 01: folded segments, and crossings on edge 01; of none.
+unfoldable pub parts : List (List ℕ)
+parts =
+    front w start 9 ∷ front w start 10 ∷ front w start 11 ∷ front w start 6 ∷ links 9 ∷ links 10 ∷ links 6
+    ∷ (foldsIn round 4 ∷ crossesIn round 4 0 ∷ foldsIn pair 2 ∷ crossesIn pair 2 0 ∷ foldsIn round 0 ∷ [])
+    ∷ []
+  where
+    w : ℕ → ℕ
+    w = at (5 ∷ 1 ∷ 0 ∷ 1 ∷ 0 ∷ 0 ∷ [])
+
+    start : ℕ → ℕ
+    start = at (10 ∷ 20 ∷ 30 ∷ 40 ∷ 50 ∷ 60 ∷ [])
+
+    round : List ℕ
+    round = 9 ∷ 3 ∷ 10 ∷ 6 ∷ []
+
+    pair : List ℕ
+    pair = 9 ∷ 6 ∷ []
+
+unfoldable pub partsListed : List (List ℕ)
+partsListed =
+    (1 ∷ 1 ∷ 5 ∷ 0 ∷ 10 ∷ []) ∷ (1 ∷ 0 ∷ 1 ∷ 5 ∷ 20 ∷ []) ∷ (1 ∷ 0 ∷ 1 ∷ 6 ∷ 40 ∷ []) ∷ (0 ∷ 0 ∷ 5 ∷ 0 ∷ 10 ∷ [])
+    ∷ (3 ∷ 0 ∷ 6 ∷ 0 ∷ []) ∷ (6 ∷ 0 ∷ 3 ∷ 1 ∷ []) ∷ (4 ∷ 1 ∷ 9 ∷ 0 ∷ [])
+    ∷ (2 ∷ 2 ∷ 2 ∷ 2 ∷ 0 ∷ [])
+    ∷ []
+
+abbrev pub ExamplesHold : Type 0
+ExamplesHold = computed examples ++ parts ≡ listed examples ++ partsListed

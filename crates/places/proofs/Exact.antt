@@ -1,0 +1,66 @@
+-- Where both ends' numbers are whole and the fraction is a whole number of 1,024ths, no operation of a placed crossing rounds.
+use mathlib.Core.Path.{_≡_, refl, sym, ap, _∙_, subst}
+use Prim.Native.Nat.{ℕ, _+_, _*_, _≤_, _<_}
+use native.Mathlib.Nat.{le-of-mul-le-mul-right, le-of-lt}
+use native.Mathlib.Omega.{arith}
+use mathlib.Core.Bool.{Bool, true, false, _&&_, _||_}
+use lib.Dec.{lit<, lit≤, ltb, eqb}
+use lib.IntN.{ℤ, pos, negℤ, natAbs, _+ℤ_, _-ℤ_, _*ℤ_, *ℤ-comm}
+use lib.Ieee.{Float, nan, inf, fin, binary64, up, down, sub, mul, lt, le, eq, ofInt}
+use lib.Ieee.Fits.{down-pos}
+use borrow.Author.Tests.{ltb-true, eqb-true}
+use Rattle.counting.proofs.Bools.{and-left, and-right, or-cases, clash}
+use mathlib.Core.Logic.{⊎-elim}
+use Rattle.places.specs.Place.{floatOf, along, farthest, within, properFraction}
+use Rattle.places.specs.Exact.{Exactly, parts}
+use Rattle.places.proofs.Values.{Val, size-of, add-val, sub-val, mul-val, scale-val}
+
+bounded : (x : Float) (z : ℤ) (c N : ℕ) → Exactly c x z → natAbs z ≤ N → Val x z c N
+bounded x z c N X l = record { sign = X .sign; size = X .size; has = X .has; is = X .is; small = subst (λ (k : ℕ). k ≤ N) (ap natAbs (sym (X .is)) ∙ size-of (X .sign) (X .size)) l }
+
+-- 1,024 times the placed number is 1024 u + k (v - u)
+pub along-exact : (U W S : Float) (u v k : ℤ) → Exactly 1 U u → Exactly 1 W v → Exactly parts S k
+    → natAbs u ≤ farthest → natAbs v ≤ farthest → natAbs k ≤ parts
+    → Exactly parts (along U W S) (pos parts *ℤ u +ℤ k *ℤ (v -ℤ u))
+along-exact U W S u v k hU hV hS lu lv lk =
+    let f = binary64 in
+    let VU = bounded U u 1 farthest hU lu in
+    let D = sub-val f W U v u 0 farthest farthest (lit≤ tt) (lit< tt) (bounded W v 1 farthest hV lv) VU in
+    let M = mul-val f S (sub f W U) k (v -ℤ u) 10 0 parts (farthest + farthest) (lit≤ tt) (lit< tt) (bounded S k parts parts hS lk) D in
+    let R = add-val f U (mul f S (sub f W U)) (u *ℤ pos parts) (k *ℤ (v -ℤ u)) 10 (farthest * parts) (parts * (farthest + farthest)) (lit≤ tt) (lit< tt) (scale-val U u 1 farthest parts VU) M in
+    record { sign = R .sign; size = R .size; has = R .has; is = R .is ∙ ap (λ (z : ℤ). z +ℤ k *ℤ (v -ℤ u)) (*ℤ-comm u (pos parts)) }
+
+size-is : {x : Float} {z : ℤ} {c : ℕ} (X : Exactly c x z) → natAbs z ≡ X .size
+size-is X = ap natAbs (sym (X .is)) ∙ size-of (X .sign) (X .size)
+
+at-most : (a b : ℕ) (q : Bool) → (q ≡ true → a ≡ b) → (ltb a b || q) ≡ true → a ≤ b
+at-most a b q f h = ⊎-elim (λ e. le-of-lt (ltb-true a b e)) (λ e. (let z = f e in omega arith)) (or-cases (ltb a b) q h)
+
+-- the limits of rows 16 and 17 are limits on such numbers
+pub within-whole : (x : Float) (z : ℤ) → Exactly 1 x z → within x ≡ true → natAbs z ≤ farthest
+unfolding within ofInt le lt eq
+within-whole nan z X h = absurd (X .has)
+within-whole (inf s) z X h = absurd (X .has)
+within-whole (fin true m e) z X h =
+    let n = m * up e * 1 in
+    let b = farthest * down e in
+    let a = at-most n b (eqb b n && true) (λ q. sym (eqb-true b n (and-left (eqb b n) true q))) (and-left (ltb n b || (eqb b n && true)) (le (fin true m e) (floatOf farthest)) h) in
+    let l : X .size * down e ≤ farthest * down e = omega (arith, a, X .has .1) in
+    subst (λ k. k ≤ farthest) (sym (size-is X)) (le-of-mul-le-mul-right l (down-pos e))
+within-whole (fin false m e) z X h =
+    let n = m * up e * 1 in
+    let b = farthest * down e in
+    let a = at-most n b (eqb n b && true) (λ q. eqb-true n b (and-left (eqb n b) true q)) (and-right (le (ofInt binary64 (negℤ (pos farthest))) (fin false m e)) (ltb n b || (eqb n b && true)) h) in
+    let l : X .size * down e ≤ farthest * down e = omega (arith, a, X .has .1) in
+    subst (λ k. k ≤ farthest) (sym (size-is X)) (le-of-mul-le-mul-right l (down-pos e))
+
+pub proper-part : (x : Float) (z : ℤ) → Exactly parts x z → properFraction x ≡ true → natAbs z ≤ parts
+unfolding properFraction ofInt lt
+proper-part nan z X h = absurd (X .has)
+proper-part (inf s) z X h = absurd (X .has)
+proper-part (fin true m e) z X h = clash h refl
+proper-part (fin false m e) z X h =
+    let n = m * up e * 1 in
+    let a = ltb-true n (1 * down e) (and-right (lt (floatOf 0) (fin false m e)) (ltb n (1 * down e)) h) in
+    let l : X .size * down e ≤ parts * down e = omega (arith, a, X .has .1) in
+    subst (λ k. k ≤ parts) (sym (size-is X)) (le-of-mul-le-mul-right l (down-pos e))

@@ -1,0 +1,39 @@
+-- The examples, by computation.
+use mathlib.Core.Path.{refl}
+use lib.Ieee.{add, sub, mul, div, neg, lt, le, eq, ofInt, ofBits}
+use Rattle.counting.specs.Search.{seek, first, last, some, every, count}
+use Rattle.counting.specs.Range.{total, over}
+use Rattle.counting.specs.Lists.{tally}
+use Rattle.counting.specs.Pack.{pre, rowFrom, colFrom, row, col}
+use Rattle.counting.specs.Reach.{reach}
+use Rattle.slots.specs.Slots.{lo, hi, corner, from, to, edgeOf, slotEdge, place, contains, firstSlot, secondSlot}
+use Rattle.face.specs.Face as face
+use Rattle.walk.specs.Iterate.{it, orbit}
+use Rattle.walk.specs.Step as step
+use Rattle.walk.specs.Walk as walk
+use Rattle.cell.specs.Cell as cell
+use Rattle.cell.specs.Loop as loop
+use Rattle.grid.specs.Grid.{faceNode, sameFace, hasFace, faceName, joins, isEdge, hasEdge, edgeNumber, start}
+use Rattle.grid.specs.Rows.{badLength, badPairs, badCell, sameCell, repeats, third, after, badEdge, unlisted, unused, linked, joined, split, tooMany, rows, orRefuse, answerOf, answerFrom, gridAnswer}
+use Rattle.triangle.specs.Triangles.{numberOf, inTwo}
+use Rattle.mesh.specs.Mesh.{gridCell}
+use Rattle.places.specs.Place.{sumTo, middle, allNumbers, within, properFraction}
+use Rattle.places.specs.Points as points
+use Rattle.places.specs.Rows.{hasNode, highest, badLists, badNumber, badFractionAt, badFraction}
+use Rattle.places.specs.Answer.{placeRows, rowsAnswer, placesAnswer, placed, placesArea}
+use Rattle.places.specs.Examples.{examples, asked, listed, ExamplesHold}
+
+pub examples-hold : ExamplesHold
+unfolding add sub mul div neg lt le eq ofInt ofBits
+    seek first last some every count total over tally pre rowFrom colFrom row col reach
+    lo hi corner from to edgeOf slotEdge place contains firstSlot secondSlot
+    face.lower face.upper face.other face.opposite face.half face.corner face.residual face.count face.others face.kth face.cornerAt face.partner face.faceJoin
+    it orbit step.face step.land step.step walk.place walk.turn walk.size walk.loopAt
+    cell.joinAt cell.joinedTo cell.mate cell.slot cell.step
+    loop.loopSize loop.dart loop.loopDarts loop.folded loop.normal loop.inGrid
+    faceNode sameFace hasFace faceName joins isEdge hasEdge edgeNumber start
+    badLength badPairs badCell sameCell repeats third after badEdge unlisted unused linked joined split tooMany rows orRefuse answerOf answerFrom gridAnswer
+    numberOf inTwo gridCell
+    sumTo middle allNumbers within properFraction points.edgeOf points.indexOf points.fanBy points.isFan points.pointOf points.crossingPlace points.loopMiddle points.cellMiddles points.middles points.points
+    hasNode highest badLists badNumber badFractionAt badFraction placeRows rowsAnswer placesAnswer placed placesArea examples asked listed
+examples-hold = refl

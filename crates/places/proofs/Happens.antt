@@ -1,0 +1,120 @@
+-- The exact case happens: one cell, its first edge crossed half way.
+use Prim.Native.Nat.{ℕ, _<_}
+use mathlib.Core.Path.{_≡_, refl}
+use mathlib.Core.Bool.{true, false}
+use mathlib.Core.List.{List, [], _∷_}
+use native.Mathlib.Omega.{arith}
+use lib.ListN.{length}
+use lib.IntN.{ℤ, pos, negsuc}
+use lib.Ieee.{Float, nan, fin}
+use Rattle.answer.specs.Answer.{result}
+use lib.Ieee.{add, sub, mul, div, neg, lt, le, eq, ofInt, ofBits}
+use Rattle.counting.specs.Search.{seek, first, last, some, every, count}
+use Rattle.counting.specs.Range.{total, over}
+use Rattle.counting.specs.Lists.{tally}
+use Rattle.counting.specs.Pack.{pre, rowFrom, colFrom, row, col}
+use Rattle.counting.specs.Reach.{reach}
+use Rattle.slots.specs.Slots.{lo, hi, corner, from, to, edgeOf, slotEdge, place, contains, firstSlot, secondSlot}
+use Rattle.face.specs.Face as face
+use Rattle.walk.specs.Iterate.{it, orbit}
+use Rattle.walk.specs.Step as step
+use Rattle.walk.specs.Walk as walk
+use Rattle.cell.specs.Cell as cell
+use Rattle.cell.specs.Loop as loop
+use Rattle.grid.specs.Grid.{crossings, faceNode, sameFace, hasFace, faceName, joins, isEdge, hasEdge, edgeNumber, start}
+use Rattle.grid.specs.Rows.{badLength, badPairs, badCell, sameCell, repeats, third, after, badEdge, unlisted, unused, linked, joined, split, tooMany, rows, orRefuse, answerOf, answerFrom, gridAnswer}
+use Rattle.triangle.specs.Triangles.{numberOf, inTwo}
+use Rattle.mesh.specs.Mesh.{gridCell}
+use Rattle.places.specs.Place.{sumTo, middle, allNumbers, within, properFraction}
+use Rattle.places.specs.Points as points
+use Rattle.places.specs.Rows.{hasNode, highest, badLists, badNumber, badFractionAt, badFraction}
+use Rattle.places.specs.Answer.{placeRows, rowsAnswer, placesAnswer, placed, placesArea}
+use Rattle.places.specs.Exact.{WholeAt, Happens}
+use Rattle.places.proofs.Numbers.{below-three}
+
+theCells : List ℕ
+theCells = 0 ∷ 1 ∷ 2 ∷ 3 ∷ []
+
+theEdges : List ℕ
+theEdges = 0 ∷ 1 ∷ 0 ∷ 2 ∷ 0 ∷ 3 ∷ 1 ∷ 2 ∷ 1 ∷ 3 ∷ 2 ∷ 3 ∷ []
+
+theCounts : List ℕ
+theCounts = 1 ∷ 0 ∷ 0 ∷ 0 ∷ 0 ∷ 0 ∷ []
+
+-- node 0 at 3, 0, 0 and node 1 at 1000000, -7, 0
+theNodes : List Float
+theNodes =
+    fin false 3 (pos 0) ∷ fin false 0 (pos 0) ∷ fin true 0 (pos 0) ∷ fin false 15625 (pos 6) ∷ fin true 7 (pos 0) ∷ fin false 0 (pos 0)
+    ∷ fin false 0 (pos 0) ∷ fin false 0 (pos 0) ∷ fin false 0 (pos 0) ∷ fin false 0 (pos 0) ∷ fin false 0 (pos 0) ∷ fin false 0 (pos 0) ∷ []
+
+theFractions : List Float
+theFractions = fin false 1 (negsuc 0) ∷ []
+
+theArea : List Float
+theArea = nan ∷ nan ∷ nan ∷ []
+
+answered : placesAnswer theCells theEdges theCounts theNodes theFractions (length theArea) ≡ result (1 ∷ [])
+unfolding add sub mul div neg lt le eq ofInt ofBits
+    seek first last some every count total over tally pre rowFrom colFrom row col reach
+    lo hi corner from to edgeOf slotEdge place contains firstSlot secondSlot
+    face.lower face.upper face.other face.opposite face.half face.corner face.residual face.count face.others face.kth face.cornerAt face.partner face.faceJoin
+    it orbit step.face step.land step.step walk.place walk.turn walk.size walk.loopAt
+    cell.joinAt cell.joinedTo cell.mate cell.slot cell.step
+    loop.loopSize loop.dart loop.loopDarts loop.folded loop.normal loop.inGrid
+    faceNode sameFace hasFace faceName joins isEdge hasEdge edgeNumber start
+    badLength badPairs badCell sameCell repeats third after badEdge unlisted unused linked joined split tooMany rows orRefuse answerOf answerFrom gridAnswer
+    numberOf inTwo gridCell
+    sumTo middle allNumbers within properFraction points.edgeOf points.indexOf points.fanBy points.isFan points.pointOf points.crossingPlace points.loopMiddle points.cellMiddles points.middles points.points
+    hasNode highest badLists badNumber badFractionAt badFraction placeRows rowsAnswer placesAnswer placed placesArea
+    theCells theEdges theCounts theNodes theFractions theArea
+answered = refl
+
+one-crossing : crossings theCounts ≡ 1
+unfolding start pre total theCounts
+one-crossing = refl
+
+module _ where
+  at-first : (t : ℕ) → t < 3 → (u : ℤ) × (v : ℤ) × (k : ℤ) × WholeAt theEdges theCounts theNodes theFractions 0 t u v k
+  unfolding row rowFrom points.edgeOf theEdges theCounts theNodes theFractions
+  at-first =
+      below-three (λ t. (u : ℤ) × (v : ℤ) × (k : ℤ) × WholeAt theEdges theCounts theNodes theFractions 0 t u v k) (
+        pos 3,
+        pos 1000000,
+        pos 512,
+        record {
+          lower = record { sign = false; size = 3; has = (refl, refl); is = refl };
+          upper = record { sign = false; size = 1000000; has = (refl, refl); is = refl };
+          part = record { sign = false; size = 512; has = (refl, refl); is = refl };
+        },
+      ) (
+        pos 0,
+        negsuc 6,
+        pos 512,
+        record {
+          lower = record { sign = false; size = 0; has = (refl, refl); is = refl };
+          upper = record { sign = true; size = 7; has = (refl, refl); is = refl };
+          part = record { sign = false; size = 512; has = (refl, refl); is = refl };
+        },
+      ) (
+        pos 0,
+        pos 0,
+        pos 512,
+        record {
+          lower = record { sign = true; size = 0; has = (refl, refl); is = refl };
+          upper = record { sign = false; size = 0; has = (refl, refl); is = refl };
+          part = record { sign = false; size = 512; has = (refl, refl); is = refl };
+        },
+      )
+
+pub happens : Happens
+happens = record {
+  cells = theCells;
+  edges = theEdges;
+  counts = theCounts;
+  nodes = theNodes;
+  fractions = theFractions;
+  area = theArea;
+  placed = (1 ∷ [], answered);
+  some = omega (arith, one-crossing);
+  whole = λ g t h k. (let z : g ≡ 0 = omega (arith, one-crossing) in rw z (at-first t k));
+}

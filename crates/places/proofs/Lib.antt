@@ -1,0 +1,17 @@
+pub mod Numbers
+pub mod Values
+pub mod Exact
+pub mod Nodes
+pub mod Marks
+pub mod Fractions
+pub mod Stored
+pub mod Answers
+pub mod ExactCase
+pub mod Examples
+pub mod Happens
+pub mod Middles
+pub mod Writing
+pub mod Passes
+pub mod Judged
+pub mod Whole
+pub mod Calls

@@ -1,0 +1,231 @@
+-- The fans of a cell and their middles, from what walks record.
+use Prim.Native.Nat.{ℕ, zero, suc, _+_, _-_, _*_, _/_, _≤_, _<_}
+use mathlib.Core.Path.{_≡_, refl, sym, ap, ap₂, _∙_}
+use mathlib.Core.Bool.{Bool, true, false, not, _&&_, _||_}
+use mathlib.Core.List.{List, [], _∷_}
+use native.Mathlib.Omega.{arith}
+use lib.Dec.{eqb, ltb}
+use lib.ListN.{length, getD}
+use lib.Seq.{sets}
+use lib.Ieee.{Float}
+use borrow.Author.Tests.{lt-ltb, ltb-true, ne-eqb}
+use Rattle.counting.specs.Pick.{pick, one}
+use Rattle.counting.specs.Range.{total}
+use Rattle.counting.specs.Search.{count}
+use Rattle.counting.proofs.Bools.{and-left}
+use Rattle.counting.proofs.Range.{length-over, total-ext, total-next, over-ext}
+use Rattle.counting.proofs.Search.{count-total, count-le}
+use Rattle.counting.proofs.Pack.{row-lt, col-lt}
+use Rattle.cell.specs.declared.Cell.{Cell}
+use Rattle.cell.specs.Cell.{crossings, edge}
+use Rattle.cell.specs.Loop.{loopSize, dart, inGrid}
+use Rattle.cell.specs.Of.{countOf}
+use Rattle.cell.specs.Walked.{Walked, Scratch}
+use Rattle.cell.specs.Route.{mostCrossings}
+use Rattle.cell.specs.Round.{foldsIn}
+use Rattle.cell.proofs.Loops.{normal-is, dart-live}
+use Rattle.triangle.specs.Triangles.{numberOf, inTwo}
+use Rattle.grid.specs.Grid.{cellCount}
+use Rattle.mesh.specs.Table.{tableCell}
+use Rattle.places.specs.declared.Place.{Place}
+use Rattle.places.specs.Place.{floatOf, added, divided, coordinates, placeAt, numbers, allNumbers, sumTo, middle}
+use Rattle.places.specs.Points.{fanBy, isFan, pointOf, fanCount, loopMiddle, cellMiddles}
+use Rattle.places.specs.Work.{tracedFan, tracedMiddle, Meanable, Room, Below, tableFans, tableMiddles}
+
+-- the cases of the code
+pub fan-none : (n : ℕ) (two : Bool) → n ≡ 0 → 0 ≡ one (fanBy n two)
+unfolding fanBy
+fan-none n two e = rw e
+
+pub fan-three : (n : ℕ) (two : Bool) → n ≡ 3 → 0 ≡ one (fanBy n two)
+unfolding fanBy
+fan-three n two e = rw e
+
+module _ (n f : ℕ) (some : n ≡ 0 → ⊥) (three : n ≡ 3 → ⊥) where
+  pub fan-other : (n ≡ 4 → ⊥) → 1 ≡ one (fanBy n (eqb n 4 && eqb f 0))
+  unfolding fanBy
+  fan-other h = rw (lt-ltb 0 n (omega arith), ne-eqb n 3 three, ne-eqb n 4 h)
+
+  pub fan-normal : n ≡ 4 → f ≡ 0 → 0 ≡ one (fanBy n (eqb n 4 && eqb f 0))
+  unfolding fanBy
+  fan-normal h e = rw (h, e)
+
+  pub fan-folded : n ≡ 4 → (f ≡ 0 → ⊥) → 1 ≡ one (fanBy n (eqb n 4 && eqb f 0))
+  unfolding fanBy
+  fan-folded h e = rw (h, ne-eqb f 0 e)
+
+pub fan-some : (n : ℕ) (two : Bool) → fanBy n two ≡ true → 0 < n
+unfolding fanBy
+fan-some n two e = ltb-true 0 n (and-left (ltb 0 n) (not (eqb n 3 || two)) e)
+
+-- how many middles there are
+pub one-long : (b : Bool) (p : Place) → length (pick b (p ∷ []) []) ≡ one b
+one-long true p = refl
+one-long false p = refl
+
+module _ (place : ℕ → Place) (c : Cell) where
+  pub length-loop : (p : ℕ) → length (loopMiddle place c p) ≡ one (isFan c p)
+  unfolding loopMiddle
+  length-loop p = one-long (isFan c p) (middle (λ k. place (pointOf c p k)) (loopSize (countOf c) p))
+
+  pub length-cell : length (cellMiddles place c) ≡ fanCount c
+  unfolding cellMiddles fanCount
+  length-cell =
+      length-over (loopMiddle place c) (crossings (countOf c)) 0
+      ∙ total-ext (λ p. length (loopMiddle place c p)) (λ p. one (isFan c p)) (crossings (countOf c)) 0 (λ p a b. length-loop p)
+      ∙ sym (count-total (isFan c) (crossings (countOf c)))
+
+pub fans-few : (c : Cell) → fanCount c ≤ crossings (countOf c)
+unfolding fanCount
+fans-few c = count-le (isFan c) (crossings (countOf c))
+
+pub length-table : (place : ℕ → Place) (cells counts names sides starts : List ℕ) → length (tableMiddles cells counts names sides starts place) ≡ tableFans cells counts names sides starts
+unfolding tableMiddles tableFans
+length-table place cells counts names sides starts =
+    length-over (λ c. cellMiddles place (tableCell cells counts names sides starts c)) (cellCount cells) 0
+    ∙ total-ext (λ c. length (cellMiddles place (tableCell cells counts names sides starts c))) (λ c. fanCount (tableCell cells counts names sides starts c)) (cellCount cells) 0
+    (λ c a b. length-cell place (tableCell cells counts names sides starts c))
+
+-- a middle is of its points' places alone
+sum-ext : (p q : ℕ → Place) (n : ℕ) → ((k : ℕ) → k ≤ n → p k ≡ q k) → sumTo p n ≡ sumTo q n
+unfolding sumTo
+sum-ext p q zero h = h 0 (omega arith)
+sum-ext p q (suc n) h = ap₂ added (sum-ext p q n (λ k l. h k (omega arith))) (h (suc n) (omega arith))
+
+pub middle-ext : (p q : ℕ → Place) (n : ℕ) → 0 < n → ((k : ℕ) → k < n → p k ≡ q k) → middle p n ≡ middle q n
+unfolding middle
+middle-ext p q n l h = ap (λ (x : Place). divided x (floatOf n)) (sum-ext p q (n - 1) (λ k m. h k (omega arith)))
+
+pick-ext : (b : Bool) (p q : Place) → (b ≡ true → p ≡ q) → pick b (p ∷ []) [] ≡ pick b (q ∷ []) []
+pick-ext true p q h = ap (λ (x : Place). x ∷ []) (h refl)
+pick-ext false p q h = refl
+
+module _ (c : Cell) (p : ℕ) (l : p < crossings (countOf c)) where
+  -- the points of a loop are crossings of its cell
+  pub point-below : (n k : ℕ) → Below c n → k < loopSize (countOf c) p → pointOf c p k < n
+  unfolding pointOf numberOf inGrid
+  point-below n k b h =
+      let w = countOf c in
+      let x = dart w p k / 2 in
+      let d : x < crossings w = omega (arith, dart-live w p l k h) in
+      omega (arith, b (edge w x) (row-lt w 6 x d), col-lt w 6 x d)
+
+  module _ (n : ℕ) (b : Below c n) (place other : ℕ → Place) (same : (g : ℕ) → g < n → place g ≡ other g) where
+    pub loop-ext : loopMiddle place c p ≡ loopMiddle other c p
+    unfolding loopMiddle isFan
+    loop-ext =
+        pick-ext (isFan c p) (middle (λ k. place (pointOf c p k)) (loopSize (countOf c) p)) (middle (λ k. other (pointOf c p k)) (loopSize (countOf c) p))
+        (λ e. middle-ext (λ k. place (pointOf c p k)) (λ k. other (pointOf c p k)) (loopSize (countOf c) p) (fan-some (loopSize (countOf c) p) (inTwo c p) e)
+        (λ k h. same (pointOf c p k) (point-below n k b h)))
+
+  -- what a walk recorded
+  module _ {n : ℕ} {marks halves points : List ℕ} (W : Walked c p n marks halves points) where
+    pub walked-fan : tracedFan halves n ≡ isFan c p
+    unfolding isFan inTwo
+    walked-fan = ap₂ (λ m b. fanBy m (eqb m 4 && b)) (W .size) (sym (normal-is (W .recorded) (W .size) l))
+
+    pub walked-point : (k : ℕ) → k < n → getD points k 0 ≡ pointOf c p k
+    unfolding pointOf numberOf
+    walked-point k h = W .recorded .point k h
+
+    pub walked-below : (m : ℕ) → Below c m → (k : ℕ) → k < n → getD points k 0 < m
+    walked-below m b k h = omega (arith, walked-point k h, point-below m k b (omega (arith, W .size)))
+
+    pub walked-middle : (area : List Float) → tracedMiddle halves points n area ≡ loopMiddle (placeAt area) c p
+    unfolding tracedMiddle loopMiddle
+    walked-middle area =
+        pick-ext (tracedFan halves n) (middle (λ k. placeAt area (getD points k 0)) n) (middle (λ k. placeAt area (pointOf c p k)) n)
+        (λ e. middle-ext (λ k. placeAt area (getD points k 0)) (λ k. placeAt area (pointOf c p k)) n (fan-some n (eqb n 4 && eqb (foldsIn halves n) 0) e)
+        (λ k h. ap (placeAt area) (walked-point k h)))
+        ∙ ap₂ (λ (b : Bool) (m : ℕ). pick b (middle (λ k. placeAt area (pointOf c p k)) m ∷ []) []) walked-fan (W .size)
+
+pub cell-ext : (c : Cell) (n : ℕ) → Below c n → (place other : ℕ → Place) → ((g : ℕ) → g < n → place g ≡ other g) → cellMiddles place c ≡ cellMiddles other c
+unfolding cellMiddles
+cell-ext c n b place other same =
+    over-ext (loopMiddle place c) (loopMiddle other c) (crossings (countOf c)) 0 (λ p a l. loop-ext c p (omega arith) n b place other same)
+
+pub table-ext : (cells counts names sides starts : List ℕ) (n : ℕ) → ((c : ℕ) → c < cellCount cells → Below (tableCell cells counts names sides starts c) n)
+    → (place other : ℕ → Place) → ((g : ℕ) → g < n → place g ≡ other g) → tableMiddles cells counts names sides starts place ≡ tableMiddles cells counts names sides starts other
+unfolding tableMiddles
+table-ext cells counts names sides starts n b place other same =
+    over-ext (λ c. cellMiddles place (tableCell cells counts names sides starts c)) (λ c. cellMiddles other (tableCell cells counts names sides starts c)) (cellCount cells) 0
+    (λ c a l. cell-ext (tableCell cells counts names sides starts c) n (b c (omega arith)) place other same)
+
+-- the fans of the first p crossings' loops
+pub record Counting (c : Cell) (p t : ℕ) : Type 0 where
+  pub is : t ≡ count (isFan c) p
+  pub few : t ≤ p
+
+pub counting-none : (c : Cell) → Counting c 0 0
+unfolding count
+counting-none c = record { is = refl; few = omega arith }
+
+pub counting-more : {c : Cell} {p t : ℕ} → Counting c p t → (m : ℕ) → m ≡ one (isFan c p) → Counting c (p + 1) (t + m)
+unfolding count
+counting-more {c} {p} {t} C m e =
+    let z : p + 1 ≡ suc p = omega arith in
+    record { is = ap (λ k. k + m) (C .is) ∙ ap (λ k. count (isFan c) p + k) e ∙ ap (count (isFan c)) (sym z); few = omega (arith, C .few, e, one-le (isFan c p)) }
+  where
+    one-le : (b : Bool) → one b ≤ 1
+    one-le true = omega arith
+    one-le false = omega arith
+
+pub counting-all : {c : Cell} {p t : ℕ} → Counting c p t → p ≡ crossings (countOf c) → t ≡ fanCount c
+unfolding fanCount
+counting-all {c} C e = C .is ∙ ap (count (isFan c)) e
+
+pub length-traced : (halves points : List ℕ) (n : ℕ) (area : List Float) → length (tracedMiddle halves points n area) ≡ one (tracedFan halves n)
+unfolding tracedMiddle
+length-traced halves points n area = one-long (tracedFan halves n) (middle (λ k. placeAt area (getD points k 0)) n)
+
+-- a loop's middle is written, or there is none
+one-none : (b : Bool) → one b ≡ 0 → b ≡ false
+one-none true e = absurd (omega (arith, e))
+one-none false e = refl
+
+one-some : (b : Bool) → (one b ≡ 0 → ⊥) → b ≡ true
+one-some true e = refl
+one-some false e = absurd (e refl)
+
+module _ (halves points : List ℕ) (n : ℕ) (area : List Float) (at r : ℕ) (q : r ≡ one (tracedFan halves n)) where
+  pub put-none : r ≡ 0 → (at ≡ at + one (tracedFan halves n)) × (area ≡ sets area (coordinates * at) (allNumbers (tracedMiddle halves points n area)))
+  unfolding tracedMiddle allNumbers
+  put-none e = let f = one-none (tracedFan halves n) (sym q ∙ e) in (rw f (omega arith), rw f)
+
+  module _ (h : r ≡ 0 → ⊥) where
+    fan : tracedFan halves n ≡ true
+    fan = one-some (tracedFan halves n) (λ e. h (q ∙ e))
+
+    pub put-one : (p : Place) → p ≡ middle (λ k. placeAt area (getD points k 0)) n
+        → (at + 1 ≡ at + one (tracedFan halves n)) × (sets area (coordinates * at) (numbers p) ≡ sets area (coordinates * at) (allNumbers (tracedMiddle halves points n area)))
+    unfolding tracedMiddle allNumbers
+    put-one p e = (rw fan, rw (fan, e))
+
+    module _ (R : Room halves points n area at) where
+      pub put-points : Meanable area points n
+      put-points = record {
+        some = fan-some n (eqb n 4 && eqb (foldsIn halves n) 0) fan;
+        few = R .traced .few;
+        placed = λ k l. omega (arith, R .below k l, R .front);
+      }
+
+      pub put-room : coordinates * at + coordinates ≤ length area
+      put-room = omega (arith, R .room, ap one fan)
+
+-- the fans of the first c cells, of n; the lent arrays are scratch
+pub record Adding (f : ℕ → ℕ) (n c t : ℕ) (marks halves points : List ℕ) : Type 0 where
+  pub up : c ≤ n
+  pub is : t ≡ total f c 0
+  pub few : t ≤ mostCrossings * c
+  pub scratch : Scratch marks halves points
+
+pub adding-none : (f : ℕ → ℕ) (n : ℕ) {marks halves points : List ℕ} → Scratch marks halves points → Adding f n 0 0 marks halves points
+unfolding total
+adding-none f n s = record { up = omega arith; is = refl; few = omega arith; scratch = s }
+
+pub adding-more : {f : ℕ → ℕ} {n c t : ℕ} {marks halves points : List ℕ} → Adding f n c t marks halves points → c < n → (m : ℕ) {marks′ halves′ points′ : List ℕ}
+    → m ≡ f c → m ≤ mostCrossings → Scratch marks′ halves′ points′ → Adding f n (c + 1) (t + m) marks′ halves′ points′
+adding-more {f} {n} {c} {t} w h m e l s = record { up = omega arith; is = omega (arith, w .is, e, total-next f c); few = omega (arith, w .few); scratch = s }
+
+pub adding-all : {f : ℕ → ℕ} {n c t : ℕ} {marks halves points : List ℕ} → Adding f n c t marks halves points → n ≤ c → t ≡ total f n 0
+adding-all {f} {n} {c} {t} w h = let e : c ≡ n = omega (arith, w .up) in w .is ∙ ap (λ k. total f k 0) e

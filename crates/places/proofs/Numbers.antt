@@ -1,0 +1,69 @@
+-- Points as numbers in a list.
+use Prim.Native.Nat.{ℕ, zero, suc, _+_, _*_, _≤_, _<_}
+use mathlib.Core.Path.{_≡_, refl, sym, ap, _∙_}
+use mathlib.Core.List.{List, [], _∷_, _++_, append-assoc}
+use native.Mathlib.Omega.{arith}
+use native.Mathlib.Nat.{not-suc-le-zero}
+use lib.ListN.{length, getD, set, drop, List·getD-append}
+use lib.Seq.{sets, getD-append-add}
+use lib.Ieee.{Float, nan}
+use Rattle.counting.proofs.Fronts.{sets-two, sets-front}
+use Rattle.places.specs.declared.Place.{Place}
+use Rattle.places.specs.Place.{along, between, coordinates, placeAt, numbers, allNumbers}
+
+-- three stores, as code writes them
+pub sets-three : {A : Type 0} (l : List A) (n : ℕ) (a b c : A) → set (set (set l n a) (n + 1) b) (n + 2) c ≡ sets l n (a ∷ b ∷ c ∷ [])
+sets-three {A} l n a b c =
+    let e : n + 2 ≡ suc (suc n) = omega arith in
+    ap (λ (x : List A). set x (n + 2) c) (sets-two l n a b) ∙ ap (λ k. set (sets l n (a ∷ b ∷ [])) k c) e
+
+pub numbers-append : (l m : List Place) → allNumbers (l ++ m) ≡ allNumbers l ++ allNumbers m
+unfolding allNumbers
+numbers-append [] m = refl
+numbers-append (p ∷ l) m = ap (λ (x : List Float). numbers p ++ x) (numbers-append l m) ∙ sym (append-assoc (numbers p) (allNumbers l) (allNumbers m))
+
+pub length-numbers : (l : List Place) → length (allNumbers l) ≡ coordinates * length l
+unfolding allNumbers
+length-numbers [] = refl
+length-numbers (p ∷ l) = omega (arith, length-numbers l)
+
+-- number t of point g
+pub numbers-at : (l : List Place) (g t : ℕ) (p : Place) → g < length l → t < coordinates → getD (allNumbers l) (coordinates * g + t) nan ≡ getD (numbers (getD l g p)) t nan
+unfolding allNumbers
+numbers-at [] g t p h k = absurd (not-suc-le-zero h)
+numbers-at (q ∷ l) zero t p h k = let e : coordinates * 0 + t ≡ t = omega arith in ap (λ n. getD (numbers q ++ allNumbers l) n nan) e ∙ List·getD-append (numbers q) (allNumbers l) nan t k
+numbers-at (q ∷ l) (suc g) t p h k =
+    let e : coordinates * suc g + t ≡ length (numbers q) + (coordinates * g + t) = omega arith in
+    ap (λ n. getD (numbers q ++ allNumbers l) n nan) e ∙ getD-append-add (numbers q) (allNumbers l) (coordinates * g + t) nan ∙ numbers-at l g t p (omega arith) k
+
+-- and of the same in a list with these points at its front
+pub front-at : (ps : List Place) (l : List Float) (g t : ℕ) (p : Place) → coordinates * length ps ≤ length l → g < length ps → t < coordinates
+    → getD (sets l 0 (allNumbers ps)) (coordinates * g + t) nan ≡ getD (numbers (getD ps g p)) t nan
+front-at ps l g t p r h k =
+    let n = length-numbers ps in
+    ap (λ (x : List Float). getD x (coordinates * g + t) nan) (sets-front (allNumbers ps) l (omega (arith, n)))
+    ∙ List·getD-append (allNumbers ps) (drop (length (allNumbers ps)) l) nan (coordinates * g + t) (omega (arith, n))
+    ∙ numbers-at ps g t p h k
+
+pub front-place : (ps : List Place) (l : List Float) (g : ℕ) (p : Place) → coordinates * length ps ≤ length l → g < length ps → placeAt (sets l 0 (allNumbers ps)) g ≡ getD ps g p
+front-place ps l g p r h =
+    let e : coordinates * g ≡ coordinates * g + 0 = omega arith in
+    let a = ap (λ n. getD (sets l 0 (allNumbers ps)) n nan) e ∙ front-at ps l g 0 p r h (omega arith) in
+    let b = front-at ps l g 1 p r h (omega arith) in
+    let c = front-at ps l g 2 p r h (omega arith) in
+    rw (a, b, c)
+
+-- a number of a place that is loaded, and of one between two
+pub below-three : (P : ℕ → Type 0) → P 0 → P 1 → P 2 → (t : ℕ) → t < coordinates → P t
+below-three P a b c zero h = a
+below-three P a b c (suc zero) h = b
+below-three P a b c (suc (suc zero)) h = c
+below-three P a b c (suc (suc (suc t))) h = absurd (omega arith)
+
+pub number-loaded : (l : List Float) (k t : ℕ) → t < coordinates → getD (numbers (placeAt l k)) t nan ≡ getD l (coordinates * k + t) nan
+number-loaded l k =
+    let e : coordinates * k ≡ coordinates * k + 0 = omega arith in
+    below-three (λ t. getD (numbers (placeAt l k)) t nan ≡ getD l (coordinates * k + t) nan) (ap (λ n. getD l n nan) e) refl refl
+
+pub number-between : (u v : Place) (s : Float) (t : ℕ) → t < coordinates → getD (numbers (between u v s)) t nan ≡ along (getD (numbers u) t nan) (getD (numbers v) t nan) s
+number-between u v s = below-three (λ t. getD (numbers (between u v s)) t nan ≡ along (getD (numbers u) t nan) (getD (numbers v) t nan) s) refl refl refl

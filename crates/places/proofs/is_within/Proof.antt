@@ -1,0 +1,15 @@
+use lib.Ieee.{ofBits, neg, ofInt}
+use Rattle.places.specs.Place.{within}
+use Rattle.places.proofs.is_within.Statement.{statement}
+use Rattle.places.proofs.is_within.Tie as tie
+
+returns : tie.Need-returns
+unfolding within ofBits neg ofInt
+returns c = rw (c .if1 .taken)
+
+returns-2 : tie.Need-returns-2
+unfolding within ofBits neg ofInt
+returns-2 c = rw (c .if1 .left)
+
+pub is-within-spec : {M : Type 1} → statement M
+is-within-spec = tie.close (tie.spec returns returns-2)

@@ -1,0 +1,67 @@
+use Prim.Native.Nat.{_-_, _≤_}
+use mathlib.Core.Path.{_∙_, _≡_, ap}
+use native.Mathlib.Omega.{arith}
+use lib.ListN.{length}
+use denote.Ref.{now}
+use Rattle.grid.specs.Grid.{start}
+use Rattle.places.proofs.Fractions.{Fine, start-next, start-zero, start-fits, fault-found, fine-on, fine-none, fine-end}
+use borrow.Author.Needs.{needs}
+use Rattle.places.proofs.rows.row_17.Statement.{statement}
+use Rattle.places.proofs.rows.row_17.Tie as tie
+
+abbrev Inv-loop : tie.InvT-loop
+Inv-loop counts fractions g₀ e₀ g e = (e ≤ length counts) × (g ≡ start counts e) × Fine counts fractions g
+
+abbrev μ-loop : tie.MeasureT-loop
+μ-loop counts fractions g₀ e₀ g e = length counts - e
+
+loop-holds : tie.Need-loop-holds Inv-loop μ-loop
+loop-holds c = (omega arith, start-zero _, fine-none _ _)
+
+shared-slice-read-size : tie.Need-shared-slice-read-size Inv-loop μ-loop
+shared-slice-read-size c = omega arith
+
+size-requires : tie.Need-size-requires Inv-loop μ-loop
+size-requires c κs = search needs
+
+bad-on-edge-requires : tie.Need-bad-on-edge-requires Inv-loop μ-loop
+bad-on-edge-requires c κs = let a = c .before .before .before .before .before .before .args in let l = c .before .before .before .loop in omega (arith, l .inv .1, c .size .ensures .0, c .before .before .before .before .before .before .pre, start-fits (now (a .counts)) (l .e) (omega arith))
+
+add-result : tie.Need-add-result Inv-loop μ-loop
+add-result c = let a = c .before .before .before .before .before .before .before .before .args in let l = c .before .before .before .before .before .loop in omega (arith, l .inv .1, c .before .before .size .ensures .0, c .before .before .before .before .before .before .before .before .pre, start-fits (now (a .counts)) (l .e) (omega arith))
+
+returns : tie.Need-returns Inv-loop μ-loop
+returns c = let a = c .before .before .before .before .before .before .before .before .args in let l = c .before .before .before .before .before .loop in fault-found (now (a .counts)) (now (a .fractions)) (l .e) (omega arith) (l .g) (c .before .before .size .result) (c .before .bad-on-edge .result) (l .inv .1) (c .before .before .size .ensures .0) (c .before .bad-on-edge .ensures) (l .inv .2) (c .if1 .taken)
+
+add-g : tie.Need-add-g Inv-loop μ-loop
+add-g c = let a = c .before .before .before .before .before .before .before .before .args in let l = c .before .before .before .before .before .loop in omega (arith, l .inv .1, c .before .before .size .ensures .0, c .before .before .before .before .before .before .before .before .pre, start-fits (now (a .counts)) (l .e) (omega arith))
+
+add-e : tie.Need-add-e Inv-loop μ-loop
+add-e c = search needs
+
+loop-less : tie.Need-loop-less Inv-loop μ-loop
+loop-less c = search needs
+
+loop-again : tie.Need-loop-again Inv-loop μ-loop
+loop-again c = let a = c .before .before .before .before .before .before .before .before .args in let l = c .before .before .before .before .before .loop in (omega arith, omega (arith, l .inv .1, c .before .before .size .ensures .0, start-next (now (a .counts)) (l .e)), fine-on (now (a .counts)) (now (a .fractions)) (l .e) (omega arith) (l .g) (c .before .before .size .result) (c .before .bad-on-edge .result) (l .inv .1) (c .before .before .size .ensures .0) (c .before .bad-on-edge .ensures) (l .inv .2) (c .if1 .left))
+
+returns-2 : tie.Need-returns-2 Inv-loop μ-loop
+returns-2 c = let a = c .before .before .before .before .args in let l = c .before .loop in let z : l .e ≡ length (now (a .counts)) = omega arith in fine-end (now (a .counts)) (now (a .fractions)) (l .g) (l .inv .1 ∙ ap (start (now (a .counts))) z) (l .inv .2)
+
+pub row-17-spec : {M : Type 1} → statement M
+row-17-spec =
+    tie.close
+    (tie.spec
+    Inv-loop
+    μ-loop
+    loop-holds
+    shared-slice-read-size
+    size-requires
+    bad-on-edge-requires
+    add-result
+    returns
+    add-g
+    add-e
+    loop-less
+    loop-again
+    returns-2)

@@ -1,0 +1,41 @@
+-- What the places call refuses besides the grid's rows: rows 15, 16 and 17 of the table of 01.
+use Prim.Native.Nat.{ℕ, _+_, _*_, _-_, _/_, max}
+use mathlib.Core.Bool.{Bool, not, _&&_, _||_}
+use mathlib.Core.List.{List, [], _∷_}
+use lib.Dec.{eqb, ltb}
+use lib.ListN.{length, getD}
+use lib.Ieee.{Float, nan, lt}
+use Rattle.counting.specs.Search.{some}
+use Rattle.grid.specs.Grid.{cellCount, node, crossings}
+use Rattle.places.specs.Place.{coordinates, within, properFraction}
+use Rattle.places.specs.Points.{indexOf}
+
+-- v is a node of some cell
+unfoldable pub hasNode : (cells : List ℕ) → ℕ → Bool
+hasNode cells v = some (λ c. some (λ i. eqb (node cells c i) v) 4) (cellCount cells)
+
+-- the highest node of the cells
+unfoldable pub highest : (cells : List ℕ) → ℕ
+highest [] = 0
+highest (v ∷ l) = max v (highest l)
+
+-- one more
+abbrev pub nodeEnd : List ℕ → ℕ
+nodeEnd cells = highest cells + 1
+
+-- 15: node places fewer than 3 × (highest node + 1), fractions not one a crossing, or an area of `room` numbers short for the points
+unfoldable pub badLists : (cells counts : List ℕ) (nodes fractions : List Float) (needed room : ℕ) → Bool
+badLists cells counts nodes fractions needed room =
+    ltb (length nodes) (coordinates * nodeEnd cells) || (not (eqb (length fractions) (crossings counts)) || ltb room (coordinates * needed))
+
+-- 16: number i is of the place of a node of some cell, and is not within the limit
+unfoldable pub badNumber : (cells : List ℕ) (nodes : List Float) → ℕ → Bool
+badNumber cells nodes i = hasNode cells (i / coordinates) && not (within (getD nodes i nan))
+
+-- 17: a fraction is not above 0 and below 1, or, where its index is not 0, not above the one before
+unfoldable pub badFractionAt : (fractions : List Float) (g index : ℕ) → Bool
+badFractionAt fractions g index =
+    not (properFraction (getD fractions g nan)) || (ltb 0 index && not (lt (getD fractions (g - 1) nan) (getD fractions g nan)))
+
+unfoldable pub badFraction : (counts : List ℕ) (fractions : List Float) → ℕ → Bool
+badFraction counts fractions g = badFractionAt fractions g (indexOf counts g)

@@ -1,0 +1,167 @@
+// Places: points of three 64-bit floats.
+ghost use mathlib.Core.Path.{_≡_};
+ghost use Prim.Native.Nat.{_+_, _*_, _≤_};
+ghost use lib.ListN.{length};
+ghost use lib.Seq.{sets};
+ghost use Rattle.places.specs.Place.{between, added, divided, coordinates, placeAt, numbers, within, properFraction};
+ghost use Rattle.places.specs.Answer.{placesNumbers};
+ghost use Rattle.places.specs.Done.{Done};
+ghost use Rattle.places.specs.Work.{Ready, PointsIn};
+use grid::Checked;
+
+mod fans;
+mod points;
+mod rows;
+
+// A point.
+pub struct Place {
+    pub x: f64,
+    pub y: f64,
+    pub z: f64,
+}
+
+// The number of points, or the number and the place of a refusal.
+pub enum Placed {
+    Points(u32),
+    Refused(u8, usize),
+}
+
+// The point with fraction s from u to v.
+pub fn interpolate(u: Place, v: Place, s: f64) -> Place
+    ensures { λ r. ⌜ r ≡ between u v s ⌝ }
+{
+    Place {
+        x: u.x + s * (v.x - u.x),
+        y: u.y + s * (v.y - u.y),
+        z: u.z + s * (v.z - u.z),
+    }
+}
+
+pub fn plus(p: Place, q: Place) -> Place
+    ensures { λ r. ⌜ r ≡ added p q ⌝ }
+{
+    Place {
+        x: p.x + q.x,
+        y: p.y + q.y,
+        z: p.z + q.z,
+    }
+}
+
+pub fn over(p: Place, n: f64) -> Place
+    ensures { λ r. ⌜ r ≡ divided p n ⌝ }
+{
+    Place {
+        x: p.x / n,
+        y: p.y / n,
+        z: p.z / n,
+    }
+}
+
+// Whether a number is within a million, the ends allowed.
+fn is_within(x: f64) -> bool
+    ensures { λ r. ⌜ r ≡ within x ⌝ }
+{
+    if -1000000.0 <= x {
+        x <= 1000000.0
+    } else {
+        false
+    }
+}
+
+// Whether a fraction is above 0 and below 1.
+fn is_proper(s: f64) -> bool
+    ensures { λ r. ⌜ r ≡ properFraction s ⌝ }
+{
+    if 0.0 < s { s < 1.0 } else { false }
+}
+
+// Point k of a list.
+fn load(list: &[f64], k: usize) -> Place
+    requires { ⌜ coordinates * k + coordinates ≤ length (now list) ⌝ }
+    ensures { λ r. ⌜ r ≡ placeAt (now (list .entry)) k ⌝ }
+{
+    let at = 3 * k;
+    let x = list[at];
+    let y = list[at + 1];
+    let z = list[at + 2];
+    Place { x, y, z }
+}
+
+// Writes p as point k of the area.
+fn store(area: &mut [f64], k: usize, p: Place)
+    requires { ⌜ coordinates * k + coordinates ≤ length (now area) ⌝ }
+    ensures { λ _. ⌜ now (area .exit) ≡ sets (now (area .entry)) (coordinates * k) (numbers p) ⌝ }
+{
+    let at = 3 * k;
+    area[at] = p.x;
+    area[at + 1] = p.y;
+    area[at + 2] = p.z;
+}
+
+// The points of a grid with n crossings, from its tables: the answer of rows 15 to 17, and where they refuse nothing, the points' places.
+fn place_all(
+    cells: &[u16],
+    edges: &[u16],
+    counts: &[u8],
+    names: &[u16; 8192],
+    sides: &[u16; 12288],
+    starts: &[u32; 12288],
+    nodes: &[f64],
+    fractions: &[f64],
+    area: &mut [f64],
+    n: usize,
+) -> Placed
+    requires { ⌜ Ready (now cells) (now counts) (now names) (now sides) (now starts) (now edges) n ⌝ }
+    ensures { λ r. ⌜ PointsIn (now (cells .entry)) (now (counts .entry)) (now (names .entry)) (now (sides .entry)) (now (starts .entry)) (now (edges .entry)) (now (nodes .entry)) (now (fractions .entry)) (now (area .entry)) (now (area .exit)) (placesNumbers r) ⌝ }
+{
+    let all = n + fans::count_fans(cells, counts, names, sides, starts);
+    let r = rows::judge(cells, counts, nodes, fractions, n, all, area.len());
+    if let Placed::Refused(_, _) = r {
+        return r;
+    }
+    points::place_crossings(edges, counts, nodes, fractions, area);
+    fans::write_middles(cells, counts, names, sides, starts, area, n);
+    r
+}
+
+// The places call. Keeps 112 KB on the stack for the grid's tables, besides what `grid::open` keeps while it runs; measured, about 357 KB in all.
+pub fn places(
+    cells: &[u16],
+    edges: &[u16],
+    counts: &[u8],
+    nodes: &[f64],
+    fractions: &[f64],
+    area: &mut [f64],
+) -> Placed
+    ensures { λ r. ⌜ Done (now (cells .entry)) (now (edges .entry)) (now (counts .entry)) (now (nodes .entry)) (now (fractions .entry)) (now (area .entry)) (now (area .exit)) (placesNumbers r) ⌝ }
+{
+    let mut names = [0u16; 8192];
+    let mut near = [0u16; 8192];
+    let mut sides = [0u16; 12288];
+    let mut starts = [0u32; 12288];
+    match grid::open(
+        cells,
+        edges,
+        counts,
+        &mut names,
+        &mut near,
+        &mut sides,
+        &mut starts,
+    ) {
+        Checked::Refused(row, place) => Placed::Refused(row, place),
+        Checked::Crossings(n) => {
+            place_all(
+                cells,
+                edges,
+                counts,
+                &names,
+                &sides,
+                &starts,
+                nodes,
+                fractions,
+                area,
+                n as usize,
+            )
+        }
+    }
+}

@@ -1,0 +1,55 @@
+-- What the tables say of a cell's positions, edges and slots (01), for any of them.
+use Prim.Native.Nat.{ℕ, _<_}
+use mathlib.Core.Path.{_≡_}
+use mathlib.Core.Logic.{_⊎_, _≢_}
+use mathlib.Core.Bool.{true}
+use Rattle.slots.specs.Slots.{lo, hi, corner, from, to, edgeOf, slotEdge, place, contains, third, firstSlot, secondSlot}
+
+-- edge j, ab ac bc, of slot s: it joins the slot's positions a b, a c or b c
+pub record SlotEdge (s j : ℕ) : Type 0 where
+  pub lt : slotEdge s j < 6
+  pub place-is : place s (slotEdge s j) ≡ j
+  pub on : (firstSlot (slotEdge s j) ≡ s) ⊎ (secondSlot (slotEdge s j) ≡ s)
+  pub lo-is : lo (slotEdge s j) ≡ corner s (from j)
+  pub hi-is : hi (slotEdge s j) ≡ corner s (to j)
+  pub within : contains (slotEdge s j) s ≡ true
+
+-- edge k is an edge of slot s
+pub record EdgeSlot (k s : ℕ) : Type 0 where
+  pub lt : s < 4
+  pub place-lt : place s k < 3
+  pub edge-is : slotEdge s (place s k) ≡ k
+
+-- edge k: its ends rise; two slots contain it, and the third node of the first is the lower
+pub record TwoSlots (k : ℕ) : Type 0 where
+  pub first-lt : firstSlot k < 4
+  pub second-lt : secondSlot k < 4
+  pub first-has : contains k (firstSlot k) ≡ true
+  pub second-has : contains k (secondSlot k) ≡ true
+  pub apart : secondSlot k < firstSlot k
+  pub lower-third : third k (firstSlot k) < third k (secondSlot k)
+  pub rising : lo k < hi k
+  pub within : hi k < 4
+
+-- the third position of slot s, which contains edge k
+pub record Third (k s : ℕ) : Type 0 where
+  pub lt : third k s < 4
+  pub not-omitted : third k s ≢ s
+  pub not-lo : third k s ≢ lo k
+  pub not-hi : third k s ≢ hi k
+
+pub record SlotLaws : Type 0 where
+  -- any two positions are the ends of one edge, and the edges are in the order of their ends, by the lower and then the higher
+  pub pair : (a b : ℕ) → a < b → b < 4 → (edgeOf a b < 6) × (lo (edgeOf a b) ≡ a) × (hi (edgeOf a b) ≡ b)
+  pub order : (k l : ℕ) → k < l → l < 6 → (lo k < lo l) ⊎ ((lo k ≡ lo l) × (hi k < hi l))
+  -- slot s has three positions, which rise: every one but s
+  pub rise : (s i j : ℕ) → s < 4 → i < j → j < 3 → corner s i < corner s j
+  pub omits : (s i : ℕ) → s < 4 → i < 3 → (corner s i < 4) × (corner s i ≢ s)
+  pub others : (s a : ℕ) → s < 4 → a < 4 → a ≢ s → (i : ℕ) × (i < 3) × (corner s i ≡ a)
+  -- the edges of a slot; the slots of an edge
+  pub edges : (s j : ℕ) → s < 4 → j < 3 → SlotEdge s j
+  pub slots : (k : ℕ) → k < 6 → TwoSlots k
+  -- a slot that contains an edge is one of its two, has it among its edges, and has a third position
+  pub either : (k s : ℕ) → k < 6 → s < 4 → contains k s ≡ true → (firstSlot k ≡ s) ⊎ (secondSlot k ≡ s)
+  pub has : (k s : ℕ) → k < 6 → s < 4 → contains k s ≡ true → EdgeSlot k s
+  pub third-of : (k s : ℕ) → k < 6 → s < 4 → contains k s ≡ true → Third k s

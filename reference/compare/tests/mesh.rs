@@ -1,0 +1,377 @@
+//! The mesh call against the second implementation.
+
+use std::thread;
+
+use compare::grids::{
+    closed_grid, random_grid, shapes, single_cell, with_faults, with_random_counts, ROWS,
+};
+use compare::lent::{answers, answers_in_all, Lent};
+use compare::{calls, expected, seed, setting};
+use reference::cell::{NO_NUMBER, TRIANGLE_WORDS};
+use reference::gen::{broken, separate, sphere, Rng, Sample};
+use reference::manifold::{inspect, should_close};
+use reference::mesh::Mesher;
+
+/// Stands on both sides of a lent area.
+const GUARD: u32 = 0x5a5a_5a5a;
+
+/// Meshes of at most so many triangles are inspected also where they need not
+/// close.
+const INSPECTED: usize = 300;
+
+/// An area before a call: words that no triangle has.
+fn untouched(len: usize) -> Vec<u32> {
+    (0..len)
+        .map(|at| 0xa5a5_0000 | at as u32 & 0xffff)
+        .collect()
+}
+
+/// What the compared grids were.
+#[derive(Default)]
+struct Tally {
+    grids: u64,
+    triangles: u64,
+    hundred_cells: u64,
+    over_1500_cells: u64,
+    over_60000_crossings: u64,
+    count_of_255: u64,
+    closed: u64,
+    inspected: u64,
+    refused: [u64; ROWS as usize + 1],
+    short: u64,
+}
+
+impl Tally {
+    fn accepted(&mut self, grid: &Sample, triangles: usize) {
+        let cells = grid.cells.len() / 4;
+        let crossings: u64 = grid.counts.iter().map(|&count| u64::from(count)).sum();
+        self.triangles += triangles as u64;
+        self.hundred_cells += u64::from(cells >= 100);
+        self.over_1500_cells += u64::from(cells > 1_500);
+        self.over_60000_crossings += u64::from(crossings > 60_000);
+        self.count_of_255 += u64::from(grid.counts.contains(&255));
+    }
+
+    fn report(&self, what: &str) {
+        println!(
+            "mesh, {what}: {} grids, of these {} accepted ({} of 100 cells or more, {} of over \
+             1,500, {} with over 60,000 crossings, {} with a count of 255), {} that must close \
+             and have triangles; {} triangles; sides and rings counted in {} meshes; {} areas too \
+             short; refused by rows 1 to 10: {:?}",
+            self.grids,
+            self.refused[0],
+            self.hundred_cells,
+            self.over_1500_cells,
+            self.over_60000_crossings,
+            self.count_of_255,
+            self.closed,
+            self.triangles,
+            self.inspected,
+            self.short,
+            &self.refused[1..]
+        );
+    }
+}
+
+/// The call on an area of this length: numbers answered, and the whole area
+/// with its guards. The area afterwards, as it has to be.
+fn compare_in(mesher: &mut Mesher, grid: &Sample, len: usize) -> (Vec<u64>, Vec<u32>) {
+    let mut area = untouched(len);
+    let mut lent = Lent::new(&area, GUARD);
+    let numbers = expected::mesh(mesher, grid, &mut area);
+    let right = answers(&numbers, |answer| {
+        calls::mesh(&grid.cells, &grid.edges, &grid.counts, lent.area(), answer)
+    });
+    assert!(
+        right,
+        "area of {len}: not answered with {numbers:?} alone: {grid:?}"
+    );
+    assert!(
+        lent.is(&area, GUARD),
+        "area of {len}: another mesh: {grid:?}"
+    );
+    if numbers[0] != 0 {
+        assert_eq!(area, untouched(len));
+    }
+    (numbers, area)
+}
+
+/// Sides and rings, counted in the words that the proved call wrote.
+fn count_sides(grid: &Sample, words: &[u32], tally: &mut Tally) {
+    let Sample {
+        cells,
+        edges,
+        counts,
+    } = grid;
+    let closed = should_close(cells, edges, counts);
+    if closed || words.len() <= INSPECTED * TRIANGLE_WORDS {
+        let report = inspect(cells, edges, counts, words);
+        assert!(report.sound(), "{report:?}: {grid:?}");
+        assert!(!closed || report.closed(), "{report:?}: {grid:?}");
+        tally.inspected += 1;
+        tally.closed += u64::from(closed && !words.is_empty());
+    }
+}
+
+/// Compares the mesh of a grid in an area with room for it and some words more,
+/// and in one that is too short.
+fn compare(mesher: &mut Mesher, rng: &mut Rng, grid: &Sample, tally: &mut Tally) {
+    tally.grids += 1;
+    let [number, place] = match expected::mesh(mesher, grid, &mut [])[..] {
+        [number, place] => [number as usize, place as usize],
+        _ => panic!("two numbers"),
+    };
+    let triangles = match number {
+        0 | 12 => place,
+        _ => 0,
+    };
+    let exact = TRIANGLE_WORDS * triangles;
+    let (numbers, area) = compare_in(mesher, grid, exact + rng.below(13));
+    tally.refused[numbers[0] as usize] += 1;
+    if numbers[0] == 0 {
+        tally.accepted(grid, triangles);
+        count_sides(grid, &area[..exact], tally);
+    }
+    if triangles > 0 {
+        let short = [0, exact - 1, rng.below(exact)][rng.below(3)];
+        let (numbers, _) = compare_in(mesher, grid, short);
+        assert_eq!(numbers, [12, triangles as u64]);
+        tally.short += 1;
+    }
+}
+
+const CELL: [u16; 4] = [0, 1, 2, 3];
+
+fn one_cell(counts: [u8; 6]) -> Sample {
+    let mut grid = Sample::from_cells([CELL]);
+    grid.counts = counts.to_vec();
+    grid
+}
+
+/// Compares a grid with the numbers and the words that it has to give, in any
+/// answer area.
+fn compare_with(numbers: [u64; 2], words: &[u32], len: usize, grid: &Sample) {
+    let (answered, area) = compare_in(&mut Mesher::default(), grid, len);
+    assert_eq!(answered, numbers, "{grid:?}");
+    assert_eq!(area[..words.len()], *words, "{grid:?}");
+    assert_eq!(
+        area[words.len()..],
+        untouched(len)[words.len()..],
+        "{grid:?}"
+    );
+    let mut lent = Lent::new(&untouched(len), GUARD);
+    let right = answers_in_all(&numbers, |answer| {
+        calls::mesh(&grid.cells, &grid.edges, &grid.counts, lent.area(), answer)
+    });
+    assert!(right, "{grid:?}");
+    assert!(lent.is(&area, GUARD), "{grid:?}");
+}
+
+const M: u32 = NO_NUMBER;
+
+#[test]
+fn examples_of_one_cell() {
+    let corner = [0, 0, 0, 1, 2, 3, 0, 1, 1, 2, 0];
+    let diagonal = [
+        [0, 0, 0, 2, 3, 3, 0, 0, 2, M, 0],
+        [0, 0, 0, 3, 1, M, 0, 1, 1, 2, 0],
+    ];
+    let fan = [
+        [0, 0, 0, 1, M, 3, 0, M, 1, M, 0],
+        [0, 0, 1, 0, M, 2, 0, M, 0, M, 1],
+    ];
+    compare_with([0, 0], &[], 30, &one_cell([0; 6]));
+    compare_with([0, 0], &[], 0, &one_cell([0; 6]));
+    compare_with([0, 0], &[], 30, &one_cell([1, 0, 0, 0, 0, 0]));
+    compare_with([0, 0], &[], 30, &one_cell([1; 6]));
+    let grid = one_cell([2, 0, 0, 0, 0, 0]);
+    compare_with([0, 2], &fan.concat(), 30, &grid);
+    compare_with([0, 2], &fan.concat(), 22, &grid);
+    compare_with([12, 2], &[], 21, &grid);
+    compare_with([12, 2], &[], 11, &grid);
+    let grid = one_cell([1, 1, 1, 0, 0, 0]);
+    compare_with([12, 1], &[], 10, &grid);
+    compare_with([12, 1], &[], 0, &grid);
+    let (_, area) = compare_in(&mut Mesher::default(), &grid, 11);
+    assert_eq!(area[..5], corner[..5]);
+    compare_with([0, 1], &area, 11, &grid);
+    let grid = one_cell([0, 1, 1, 1, 1, 0]);
+    let (_, area) = compare_in(&mut Mesher::default(), &grid, 22);
+    let corners = |at: usize| area[11 * at..11 * at + 5].to_vec();
+    assert_eq!(
+        [corners(0), corners(1)],
+        diagonal.map(|words| words[..5].to_vec())
+    );
+    compare_with([0, 2], &area, 22, &grid);
+    let grid = one_cell([2, 1, 1, 1, 1, 2]);
+    let (numbers, area) = compare_in(&mut Mesher::default(), &grid, 88);
+    assert_eq!(numbers, [0, 8]);
+    let points: Vec<u32> = area.chunks(11).map(|words| words[2]).collect();
+    assert_eq!(points, [0, 2, 6, 4, 1, 5, 7, 3]);
+}
+
+/// A grid of these cells in this order, with its edges, all of count 0.
+fn of_cells(cells: &[[u16; 4]]) -> Sample {
+    let mut grid = Sample::from_cells(cells.iter().copied());
+    grid.cells = cells.concat();
+    grid
+}
+
+#[test]
+fn examples_of_several_cells() {
+    let mut grid = of_cells(&[CELL, [0, 1, 2, 4], [0, 1, 3, 4]]);
+    grid.counts[0] = 2;
+    let (numbers, area) = compare_in(&mut Mesher::default(), &grid, 66);
+    assert_eq!(numbers, [0, 6]);
+    let named = |at: usize| area[11 * at + 5..11 * at + 7].to_vec();
+    assert_eq!(
+        [0, 1, 2, 3, 4, 5].map(named),
+        [[3, 0], [2, 0], [3, 0], [6, 0], [2, 0], [6, 0]]
+    );
+    let full = |cells| {
+        let mut grid = separate(cells);
+        grid.counts.fill(255);
+        grid
+    };
+    // 127 corners at each node
+    let grid = full(42);
+    let (numbers, _) = compare_in(&mut Mesher::default(), &grid, 11 * 21_336);
+    assert_eq!(numbers, [0, 42 * 4 * 127]);
+    compare_with([12, 21_336], &[], 11 * 21_336 - 1, &grid);
+    compare_with([10, 0], &[], 30, &full(43));
+}
+
+#[test]
+fn examples_of_the_table() {
+    let edges = || one_cell([1, 1, 1, 0, 0, 0]);
+    let cells = |cells: &[u16]| Sample {
+        cells: cells.to_vec(),
+        ..edges()
+    };
+    let mut odd = edges();
+    odd.edges.truncate(3);
+    odd.counts.truncate(1);
+    let mut unordered = edges();
+    unordered.edges[0] = 1;
+    let mut without = edges();
+    without.edges.truncate(10);
+    without.counts.truncate(5);
+    let mut added = edges();
+    added.edges.extend([7, 8]);
+    added.counts.push(0);
+    let cases = [
+        ([1, 0], cells(&[0, 1, 2, 3, 4])),
+        ([2, 0], odd),
+        ([3, 0], cells(&[0, 2, 1, 3])),
+        ([4, 1], of_cells(&[CELL, CELL])),
+        ([5, 2], of_cells(&[CELL, [0, 1, 2, 4], [0, 1, 2, 5]])),
+        ([6, 0], unordered),
+        ([7, 0], without),
+        ([8, 6], added),
+        ([9, 0], of_cells(&[CELL, [0, 1, 4, 5]])),
+    ];
+    for (numbers, grid) in &cases {
+        for len in [0, 10, 11, 40] {
+            compare_with(*numbers, &[], len, grid);
+        }
+    }
+}
+
+/// The counts of six edges that a number below 4096 tells.
+fn small_counts(of: u16) -> [u8; 6] {
+    [0, 2, 4, 6, 8, 10].map(|shift| (of >> shift & 3) as u8)
+}
+
+#[test]
+fn single_cells() {
+    let mut rng = Rng::new(seed("mesh"));
+    let mut mesher = Mesher::default();
+    let mut tally = Tally::default();
+    for of in 0..4_096 {
+        compare(
+            &mut mesher,
+            &mut rng,
+            &one_cell(small_counts(of)),
+            &mut tally,
+        );
+    }
+    tally.report("single cells, all counts 0..3");
+    for (most, cells) in [(3, 1_000), (12, 4_000), (255, 2_000)] {
+        let mut tally = Tally::default();
+        for _ in 0..cells {
+            let grid = single_cell(&mut rng, most);
+            compare(&mut mesher, &mut rng, &grid, &mut tally);
+        }
+        tally.report(&format!("single cells, counts 0..{most}"));
+        assert_eq!(tally.refused[0], cells);
+    }
+}
+
+#[test]
+fn each_shape_broken_in_each_way() {
+    let mut rng = Rng::new(seed("mesh"));
+    let mut mesher = Mesher::default();
+    let mut tally = Tally::default();
+    for shape in shapes(&mut rng) {
+        let whole = with_random_counts(&mut rng, shape).reordered(&mut rng);
+        compare(&mut mesher, &mut rng, &whole, &mut tally);
+        for row in 1..=ROWS {
+            if let Some(faulty) = broken(&mut rng, &whole, row) {
+                compare(&mut mesher, &mut rng, &faulty, &mut tally);
+            }
+            let several = with_faults(&mut rng, whole.clone());
+            compare(&mut mesher, &mut rng, &several, &mut tally);
+        }
+    }
+    assert!(tally.refused.iter().all(|&grids| grids > 0));
+    tally.report("each shape broken in each way");
+}
+
+/// Three grids of ten are made to close, and two are broken.
+#[test]
+fn random_grids() {
+    let mut rng = Rng::new(seed("mesh"));
+    let mut mesher = Mesher::default();
+    let mut tally = Tally::default();
+    let grids = setting("CITTERNBLAZE_GRIDS", 20_000);
+    while tally.grids < grids {
+        let grid = match rng.below(10) {
+            0..=2 => closed_grid(&mut rng),
+            3..=4 => {
+                let grid = random_grid(&mut rng);
+                with_faults(&mut rng, grid)
+            }
+            _ => random_grid(&mut rng),
+        };
+        compare(&mut mesher, &mut rng, &grid, &mut tally);
+    }
+    tally.report("random grids");
+    if grids >= 20_000 {
+        assert!(tally.hundred_cells >= 1_000);
+        assert!(tally.over_1500_cells >= 20);
+        assert!(tally.over_60000_crossings >= 10);
+        assert!(tally.closed >= tally.grids / 4);
+        assert!(tally.count_of_255 >= 100);
+        assert!(tally.refused.iter().all(|&grids| grids > 0));
+    }
+}
+
+/// What the header says of the stack.
+#[test]
+fn stack_of_640_kilobytes() {
+    let grid = sphere([5, 5, 5]).with_counts(&mut Rng::new(1), 0, 12);
+    let call = move || {
+        let mut area = vec![0; 11 * 65_535];
+        let mut answer = [1; 2];
+        calls::mesh(
+            &grid.cells,
+            &grid.edges,
+            &grid.counts,
+            &mut area,
+            &mut answer,
+        );
+        answer[0]
+    };
+    let thread = thread::Builder::new().stack_size(640 * 1024).spawn(call);
+    assert_eq!(thread.expect("a thread").join().expect("an answer"), 0);
+}
