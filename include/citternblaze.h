@@ -3,9 +3,9 @@
  *
  * A list or an area is a pointer and the number of its elements. The caller
  * lends it for the length of the call: no call keeps a pointer, reads or writes
- * anything outside of what it is lent, or uses the heap. The pointer is not
- * null, also where the number of elements is 0. An area that a call writes
- * overlaps nothing else that is lent to that call.
+ * anything outside of what it is lent, or uses the heap. The pointer may be NULL
+ * where the number of elements is 0, and is aligned for its elements else. An
+ * area that a call writes overlaps nothing else that is lent to that call.
  *
  * Every call has an area `answer` for the numbers of its answer. It puts them at
  * the front of the area, keeps what stands behind them, and returns how many
@@ -81,6 +81,30 @@ size_t citternblaze_loops(const uint16_t *cells, size_t cells_len,
                           const uint8_t *counts, size_t counts_len,
                           size_t cell, size_t index,
                           uint64_t *answer, size_t answer_len);
+
+/* The places call. Writes the places of a grid's points at the front of the area,
+ * three numbers each, and keeps the area beyond them: first the crossings, by
+ * number, then the middles of the loops that are drawn as fans, in mesh order.
+ *
+ * Reads the cells, edges and counts, as citternblaze_check does; the places of
+ * the nodes, three numbers for each node from 0 to the highest of a cell; and a
+ * fraction for each crossing, which says how far from its edge's lower node to
+ * the higher it lies.
+ *
+ * Answers 0 and the number of points; or the number and the place of a refusal:
+ * 1 to 10 as citternblaze_check has them; 15 and 0 where the list of places or
+ * the area is too short, or the fractions are not one to a crossing; 16 and the
+ * index of a number among the places of the cells' nodes that is not from
+ * -1000000 to 1000000; 17 and a crossing whose fraction is not above 0 and below
+ * 1, or not above the one before it on its edge. A refusal keeps every number of
+ * the area. Takes up to 640 KB of the stack. */
+size_t citternblaze_places(const uint16_t *cells, size_t cells_len,
+                           const uint16_t *edges, size_t edges_len,
+                           const uint8_t *counts, size_t counts_len,
+                           const double *nodes, size_t nodes_len,
+                           const double *fractions, size_t fractions_len,
+                           double *area, size_t area_len,
+                           uint64_t *answer, size_t answer_len);
 
 /* The record reader's first call. What stands at a start of a bundle's bytes.
  *

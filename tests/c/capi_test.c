@@ -17,7 +17,8 @@ static void clear(void) {
     answer[i] = UNTOUCHED;
 }
 
-/* The number that a call returned, and the whole area behind it. */
+/* The number that a call returned, and the whole area behind it, which is made
+ * ready for the next call. */
 static void show(const char *call, size_t many) {
   printf("%s: %zu:", call, many);
   for (size_t i = 0; i < ROOM; i++) {
@@ -27,11 +28,11 @@ static void show(const char *call, size_t many) {
       printf(" %" PRIu64, answer[i]);
   }
   printf("\n");
+  clear();
 }
 
 static void face(const char *call, uint8_t ab, uint8_t ac, uint8_t bc,
                  uint32_t edge, uint32_t index, size_t answer_len) {
-  clear();
   show(call, citternblaze_face(ab, ac, bc, edge, index, answer, answer_len));
 }
 
@@ -57,7 +58,6 @@ static const uint8_t counts[] = {1, 2, 3, 4, 5, 6, 7, 8, 255};
 
 static void check(const char *call, size_t cells_len, size_t edges_len,
                   size_t counts_len, size_t answer_len) {
-  clear();
   show(call, citternblaze_check(cells, cells_len, edges, edges_len, counts,
                                 counts_len, answer, answer_len));
 }
@@ -83,7 +83,6 @@ static void mesh(const char *call, const uint8_t *edge_counts, size_t cells_len,
                  size_t area_len, size_t answer_len) {
   uint32_t area[WORDS];
   memset(area, 0xa5, sizeof area);
-  clear();
   show(call, citternblaze_mesh(cells, cells_len, edges, 18, edge_counts, 9, area,
                                area_len, answer, answer_len));
   printf("  area");
@@ -119,7 +118,6 @@ static void test_mesh(void) {
 /* Loop `index` of cell `cell` of cells 0 1 2 3 and 0 1 2 4 with these counts. */
 static void loop(const char *call, const uint8_t *edge_counts, size_t cells_len,
                  size_t cell, size_t index, size_t answer_len) {
-  clear();
   show(call, citternblaze_loops(cells, cells_len, edges, 18, edge_counts, 9, cell,
                                 index, answer, answer_len));
 }
@@ -147,6 +145,53 @@ static void test_loops(void) {
   loop("loop 0 of cell 2 of 2, area of 1", corner, 8, 2, 0, 1);
 }
 
+#define NUMBERS 14
+
+/* The places of cells 0 1 2 3 and 0 1 2 4, with crossings on edge 0 3 only:
+ * count_03 of them. Node k is at 8k, -k, 0.5. */
+static void place(const char *call, uint8_t count_03, const double *fractions,
+                  size_t fractions_len, size_t nodes_len, size_t area_len,
+                  size_t answer_len) {
+  const uint8_t edge_counts[9] = {0, 0, count_03};
+  double nodes[15], area[NUMBERS];
+  for (int k = 0; k < 5; k++) {
+    nodes[3 * k] = 8 * k;
+    nodes[3 * k + 1] = -k;
+    nodes[3 * k + 2] = 0.5;
+  }
+  for (size_t i = 0; i < NUMBERS; i++)
+    area[i] = -77;
+  show(call, citternblaze_places(cells, 8, edges, 18, edge_counts, 9, nodes,
+                                 nodes_len, fractions, fractions_len, area,
+                                 area_len, answer, answer_len));
+  printf("  area");
+  for (size_t i = 0; i < NUMBERS; i++) {
+    if (area[i] == -77)
+      printf(" -");
+    else
+      printf(" %g", area[i]);
+  }
+  printf("\n");
+}
+
+static void test_places(void) {
+  static const double quarters[3] = {0.25, 0.75, 0.875};
+  static const double equal[2] = {0.5, 0.5};
+  static const double ends[2] = {0.5, 1};
+  place("places of no points", 0, quarters, 0, 15, NUMBERS, ROOM);
+  place("places of a crossing", 1, quarters, 1, 15, NUMBERS, ROOM);
+  place("places of two crossings and a middle", 2, quarters, 2, 15, NUMBERS,
+        ROOM);
+  place("places, area of 9", 2, quarters, 2, 15, 9, ROOM);
+  place("places, area of 8", 2, quarters, 2, 15, 8, ROOM);
+  place("places, 14 numbers for 5 nodes", 2, quarters, 2, 14, NUMBERS, ROOM);
+  place("places, a fraction too few", 2, quarters, 1, 15, NUMBERS, ROOM);
+  place("places, a fraction too many", 2, quarters, 3, 15, NUMBERS, ROOM);
+  place("places, equal fractions", 2, equal, 2, 15, NUMBERS, ROOM);
+  place("places, a fraction of 1", 2, ends, 2, 15, NUMBERS, ROOM);
+  place("places, answer area of 1", 2, quarters, 2, 15, NUMBERS, 1);
+}
+
 /* A cell, an edge and an end. */
 static const uint8_t bundle[] = {10, 0, 1, 0, 0, 0, 1, 0, 2, 0, 3, 1, 7,
                                  0,  2, 0, 5, 0, 6, 1, 9, 2, 0, 3, 0};
@@ -154,11 +199,9 @@ static const uint8_t bundle[] = {10, 0, 1, 0, 0, 0, 1, 0, 2, 0, 3, 1, 7,
 static void record(const char *call, size_t bytes_len, size_t start,
                    size_t answer_len) {
   printf("%s, ", call);
-  clear();
   show("kind and next start",
        citternblaze_record(bundle, bytes_len, start, answer, answer_len));
   printf("%s, ", call);
-  clear();
   show("body",
        citternblaze_record_body(bundle, bytes_len, start, answer, answer_len));
 }
@@ -182,7 +225,6 @@ static void read_bundle(const char *call, size_t bytes_len, size_t nodes_len,
   memset(nodes, 0xa5, sizeof nodes);
   memset(ends, 0xa5, sizeof ends);
   memset(count, 0xa5, sizeof count);
-  clear();
   show(call, citternblaze_bundle_read(bundle, bytes_len, nodes, nodes_len, ends,
                                       ends_len, count, counts_len, answer,
                                       answer_len));
@@ -215,7 +257,6 @@ static void write_bundle(const char *call, size_t nodes_len, size_t ends_len,
                          size_t answer_len) {
   uint8_t area[28];
   memset(area, 0xa5, sizeof area);
-  clear();
   show(call, citternblaze_bundle_write(cells, nodes_len, edges, ends_len,
                                        counts, counts_len, area, area_len,
                                        answer, answer_len));
@@ -236,13 +277,53 @@ static void test_bundle_write(void) {
   write_bundle("write, area of 1", 4, 2, 1, 28, 1);
 }
 
+/* Every list and every area as (NULL, 0). */
+static void test_null(void) {
+  uint8_t area[4];
+  show("face, no answer area", citternblaze_face(5, 1, 1, 0, 2, NULL, 0));
+  show("check of nothing",
+       citternblaze_check(NULL, 0, NULL, 0, NULL, 0, answer, ROOM));
+  show("check without edges",
+       citternblaze_check(cells, 8, NULL, 0, NULL, 0, answer, ROOM));
+  show("mesh of nothing",
+       citternblaze_mesh(NULL, 0, NULL, 0, NULL, 0, NULL, 0, answer, ROOM));
+  show("mesh, no area", citternblaze_mesh(cells, 8, edges, 18, counts, 9, NULL, 0,
+                                          answer, ROOM));
+  show("loop of nothing",
+       citternblaze_loops(NULL, 0, NULL, 0, NULL, 0, 0, 0, answer, ROOM));
+  show("places of nothing",
+       citternblaze_places(NULL, 0, NULL, 0, NULL, 0, NULL, 0, NULL, 0, NULL, 0,
+                           answer, ROOM));
+  show("places, no numbers",
+       citternblaze_places(cells, 8, edges, 18, counts, 9, NULL, 0, NULL, 0, NULL,
+                           0, answer, ROOM));
+  show("record of nothing", citternblaze_record(NULL, 0, 0, answer, ROOM));
+  show("body of nothing", citternblaze_record_body(NULL, 0, 0, answer, ROOM));
+  show("read nothing", citternblaze_bundle_read(NULL, 0, NULL, 0, NULL, 0, NULL,
+                                                0, answer, ROOM));
+  show("read an end into no lists",
+       citternblaze_bundle_read(bundle + 21, 4, NULL, 0, NULL, 0, NULL, 0, answer,
+                                ROOM));
+  show("read into no lists",
+       citternblaze_bundle_read(bundle, sizeof bundle, NULL, 0, NULL, 0, NULL, 0,
+                                answer, ROOM));
+  show("write nothing", citternblaze_bundle_write(NULL, 0, NULL, 0, NULL, 0, area,
+                                                  4, answer, ROOM));
+  show("write nothing into no area",
+       citternblaze_bundle_write(NULL, 0, NULL, 0, NULL, 0, NULL, 0, answer,
+                                 ROOM));
+}
+
 int main(void) {
+  clear();
   test_face();
   test_check();
   test_mesh();
   test_loops();
+  test_places();
   test_record();
   test_bundle_read();
   test_bundle_write();
+  test_null();
   return 0;
 }

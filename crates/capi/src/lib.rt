@@ -13,6 +13,7 @@ ghost use Rattle.counting.specs.Pick.{pick, one};
 ghost use Rattle.answer.specs.Answer.{result};
 ghost use Rattle.cell.specs.Answer.{typeNumbers, loopNumbers};
 ghost use Rattle.mesh.specs.Answer.{meshAnswer, meshArea, loopsAnswer};
+ghost use Rattle.places.specs.Answer.{placesAnswer, placesArea};
 use bundle::Contents;
 use bundle::Record;
 use bundle::Written;
@@ -22,6 +23,7 @@ use face::Join;
 use grid::Checked;
 use mesh::Looped;
 use mesh::Meshed;
+use places::Placed;
 
 // Puts the numbers of an answer at the front of the area, and returns how many they are.
 fn put(answer: &mut [u64], numbers: &[u64]) -> usize
@@ -147,6 +149,26 @@ pub extern "C" fn citternblaze_loops(
     match mesh::loops(cells, edges, counts, cell, index) {
         Looped::Told(l) => put_loop(answer, l),
         Looped::Refused(row, place) => put(answer, &[row as u64, place as u64]),
+    }
+}
+
+// The places call: 0 and the number of points, or the number and the place of a refusal, which leaves the area as it is.
+#[no_mangle]
+pub extern "C" fn citternblaze_places(
+    cells: &[u16],
+    edges: &[u16],
+    counts: &[u8],
+    nodes: &[f64],
+    fractions: &[f64],
+    area: &mut [f64],
+    answer: &mut [u64],
+) -> usize
+    ensures answer { λ r. ⌜ Answers (placesAnswer (now (cells .entry)) (now (edges .entry)) (now (counts .entry)) (now (nodes .entry)) (now (fractions .entry)) (length (now (area .entry)))) (now (answer .entry)) (now (answer .exit)) r ⌝ }
+    ensures area { λ r. ⌜ now (area .exit) ≡ placesArea (now (cells .entry)) (now (edges .entry)) (now (counts .entry)) (now (nodes .entry)) (now (fractions .entry)) (now (area .entry)) ⌝ }
+{
+    match places::places(cells, edges, counts, nodes, fractions, area) {
+        Placed::Points(n) => put(answer, &[0, n as u64]),
+        Placed::Refused(row, place) => put(answer, &[row as u64, place as u64]),
     }
 }
 

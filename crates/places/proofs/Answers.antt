@@ -1,6 +1,6 @@
 -- The rows of the places call in turn.
 use Prim.Native.Nat.{ℕ, suc, _*_, _≤_, _<_}
-use mathlib.Core.Path.{_≡_, refl, sym, ap, _∙_, subst}
+use mathlib.Core.Path.{_≡_, refl, sym, ap, _∙_}
 use mathlib.Core.Logic.{⊎-elim}
 use mathlib.Core.Bool.{Bool, true, false, not, _||_}
 use mathlib.Core.List.{List, [], _∷_}
@@ -8,14 +8,14 @@ use native.Mathlib.Omega.{arith}
 use lib.Dec.{eqb, ltb}
 use lib.ListN.{length, getD}
 use lib.Ieee.{Float}
-use borrow.Author.Tests.{ltb-false, ltb-true, eqb-true, not-false, eq-eqb}
+use borrow.Author.Tests.{ltb-false, eqb-true, not-false}
 use Rattle.answer.specs.Answer.{result, refusal}
 use Rattle.counting.specs.Pick.{pick}
 use Rattle.counting.specs.Search.{first}
 use Rattle.counting.proofs.Bools.{clash, or-none}
 use Rattle.counting.proofs.Search.{first-none}
 use Rattle.grid.specs.Grid.{crossings}
-use Rattle.grid.specs.Rows.{Row, whole, each, orRefuse, answerOf, gridAnswer}
+use Rattle.grid.specs.Rows.{Row, orRefuse, answerOf, gridAnswer}
 use Rattle.grid.specs.Tables.{accepts}
 use Rattle.grid.specs.Claims.{Clear}
 use Rattle.grid.specs.Accepted.{Accepted}

@@ -1,18 +1,18 @@
 -- Where both ends' numbers are whole and the fraction is a whole number of 1,024ths, no operation of a placed crossing rounds.
 use mathlib.Core.Path.{_≡_, refl, sym, ap, _∙_, subst}
 use Prim.Native.Nat.{ℕ, _+_, _*_, _≤_, _<_}
-use native.Mathlib.Nat.{mul-one, one-mul, mul-assoc, mul-comm, le-of-mul-le-mul-right, mul-le-mul-right, le-of-lt, le-refl}
+use native.Mathlib.Nat.{le-of-mul-le-mul-right, le-of-lt}
 use native.Mathlib.Omega.{arith}
 use mathlib.Core.Bool.{Bool, true, false, _&&_, _||_}
 use lib.Dec.{lit<, lit≤, ltb, eqb}
 use lib.IntN.{ℤ, pos, negℤ, natAbs, _+ℤ_, _-ℤ_, _*ℤ_, *ℤ-comm}
-use lib.Ieee.{Float, nan, inf, fin, binary64, up, down, add, sub, mul, lt, le, eq, ofInt}
+use lib.Ieee.{Float, nan, inf, fin, binary64, up, down, sub, mul, lt, le, eq, ofInt}
 use lib.Ieee.Fits.{down-pos}
 use borrow.Author.Tests.{ltb-true, eqb-true}
 use Rattle.counting.proofs.Bools.{and-left, and-right, or-cases, clash}
 use mathlib.Core.Logic.{⊎-elim}
 use Rattle.places.specs.Place.{floatOf, along, farthest, within, properFraction}
-use Rattle.places.specs.Exact.{signed, Exactly, parts}
+use Rattle.places.specs.Exact.{Exactly, parts}
 use Rattle.places.proofs.Values.{Val, size-of, add-val, sub-val, mul-val, scale-val}
 
 bounded : (x : Float) (z : ℤ) (c N : ℕ) → Exactly c x z → natAbs z ≤ N → Val x z c N

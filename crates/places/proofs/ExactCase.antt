@@ -1,8 +1,8 @@
 -- The exact case for every placed crossing of an accepted input.
-use Prim.Native.Nat.{ℕ, _+_, _*_, _/_, _≤_, _<_}
-use mathlib.Core.Path.{_≡_, refl, sym, ap, _∙_, subst}
-use mathlib.Core.Bool.{Bool, true, false, not, _&&_}
-use mathlib.Core.List.{List, [], _∷_, _++_}
+use Prim.Native.Nat.{ℕ, _+_, _*_, _/_, _<_}
+use mathlib.Core.Path.{_≡_, sym, ap, _∙_, subst}
+use mathlib.Core.Bool.{true}
+use mathlib.Core.List.{List, [], _∷_}
 use native.Mathlib.Omega.{arith}
 use lib.ListN.{length, getD, length-append, List·getD-append}
 use lib.IntN.{ℤ, pos, _+ℤ_, _-ℤ_, _*ℤ_}
@@ -16,11 +16,11 @@ use Rattle.counting.proofs.Pack.{row-lt}
 use native.Mathlib.Nat.{zero-add}
 use Rattle.grid.specs.Grid.{low, high, start, countOf, crossings}
 use Rattle.places.specs.declared.Place.{Place}
-use Rattle.places.specs.Place.{along, coordinates, placeAt, numbers, allNumbers, within, properFraction}
+use Rattle.places.specs.Place.{along, coordinates, placeAt, numbers, within, properFraction}
 use Rattle.places.specs.Points.{edgeOf, crossingPlace, middles, points}
-use Rattle.places.specs.Rows.{hasNode, nodeEnd, badNumber, badFractionAt, badFraction}
-use Rattle.places.specs.Answer.{needed, placesAnswer, placed, placesArea}
-use Rattle.places.specs.Exact.{Exactly, parts, WholeAt, ExactCase}
+use Rattle.places.specs.Rows.{hasNode, badNumber, badFractionAt, badFraction}
+use Rattle.places.specs.Answer.{needed, placesAnswer, placesArea}
+use Rattle.places.specs.Exact.{Exactly, parts, ExactCase}
 use Rattle.places.proofs.Numbers.{front-at, number-loaded, number-between}
 use Rattle.places.proofs.Exact.{along-exact, within-whole, proper-part}
 use Rattle.places.proofs.Nodes.{End, low-end, high-end}

@@ -1,10 +1,10 @@
 -- The exact case happens: one cell, its first edge crossed half way.
-use Prim.Native.Nat.{ℕ, _*_, _≤_, _<_}
+use Prim.Native.Nat.{ℕ, _<_}
 use mathlib.Core.Path.{_≡_, refl}
 use mathlib.Core.Bool.{true, false}
 use mathlib.Core.List.{List, [], _∷_}
 use native.Mathlib.Omega.{arith}
-use lib.ListN.{length, replicate}
+use lib.ListN.{length}
 use lib.IntN.{ℤ, pos, negsuc}
 use lib.Ieee.{Float, nan, fin}
 use Rattle.answer.specs.Answer.{result}
@@ -25,11 +25,11 @@ use Rattle.grid.specs.Grid.{crossings, faceNode, sameFace, hasFace, faceName, j
 use Rattle.grid.specs.Rows.{badLength, badPairs, badCell, sameCell, repeats, third, after, badEdge, unlisted, unused, linked, joined, split, tooMany, rows, orRefuse, answerOf, answerFrom, gridAnswer}
 use Rattle.triangle.specs.Triangles.{numberOf, inTwo}
 use Rattle.mesh.specs.Mesh.{gridCell}
-use Rattle.places.specs.Place.{floatOf, sumTo, middle, allNumbers, within, properFraction}
+use Rattle.places.specs.Place.{sumTo, middle, allNumbers, within, properFraction}
 use Rattle.places.specs.Points as points
 use Rattle.places.specs.Rows.{hasNode, highest, badLists, badNumber, badFractionAt, badFraction}
 use Rattle.places.specs.Answer.{placeRows, rowsAnswer, placesAnswer, placed, placesArea}
-use Rattle.places.specs.Exact.{Exactly, WholeAt, Happens}
+use Rattle.places.specs.Exact.{WholeAt, Happens}
 use Rattle.places.proofs.Numbers.{below-three}
 
 theCells : List ℕ

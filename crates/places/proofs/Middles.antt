@@ -1,6 +1,6 @@
 -- The fans of a cell and their middles, from what walks record.
 use Prim.Native.Nat.{ℕ, zero, suc, _+_, _-_, _*_, _/_, _≤_, _<_}
-use mathlib.Core.Path.{_≡_, refl, sym, ap, ap₂, _∙_, subst}
+use mathlib.Core.Path.{_≡_, refl, sym, ap, ap₂, _∙_}
 use mathlib.Core.Bool.{Bool, true, false, not, _&&_, _||_}
 use mathlib.Core.List.{List, [], _∷_}
 use native.Mathlib.Omega.{arith}
@@ -8,19 +8,18 @@ use lib.Dec.{eqb, ltb}
 use lib.ListN.{length, getD}
 use lib.Seq.{sets}
 use lib.Ieee.{Float}
-use borrow.Author.Tests.{lt-ltb, ltb-true, eq-eqb, ne-eqb}
+use borrow.Author.Tests.{lt-ltb, ltb-true, ne-eqb}
 use Rattle.counting.specs.Pick.{pick, one}
-use Rattle.counting.specs.Range.{total, over}
+use Rattle.counting.specs.Range.{total}
 use Rattle.counting.specs.Search.{count}
-use Rattle.counting.specs.Pack.{pre}
 use Rattle.counting.proofs.Bools.{and-left}
 use Rattle.counting.proofs.Range.{length-over, total-ext, total-next, over-ext}
 use Rattle.counting.proofs.Search.{count-total, count-le}
 use Rattle.counting.proofs.Pack.{row-lt, col-lt}
 use Rattle.cell.specs.declared.Cell.{Cell}
-use Rattle.cell.specs.Cell.{crossings, edge, index}
+use Rattle.cell.specs.Cell.{crossings, edge}
 use Rattle.cell.specs.Loop.{loopSize, dart, inGrid}
-use Rattle.cell.specs.Of.{countOf, startOf}
+use Rattle.cell.specs.Of.{countOf}
 use Rattle.cell.specs.Walked.{Walked, Scratch}
 use Rattle.cell.specs.Route.{mostCrossings}
 use Rattle.cell.specs.Round.{foldsIn}

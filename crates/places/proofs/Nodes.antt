@@ -1,7 +1,7 @@
 -- The nodes of an accepted grid's cells, and the ends of its edges among them.
 use Prim.Native.Nat.{ℕ, zero, suc, _+_, _-_, _*_, _/_, _%_, _≤_, _<_}
-use mathlib.Core.Path.{_≡_, refl, sym, ap, _∙_, subst}
-use mathlib.Core.Bool.{Bool, true, false, not}
+use mathlib.Core.Path.{_≡_, sym, ap, _∙_, subst}
+use mathlib.Core.Bool.{true}
 use mathlib.Core.List.{List, [], _∷_}
 use native.Mathlib.Decide.{decLt}
 use native.Mathlib.Nat.{not-suc-le-zero}
@@ -13,7 +13,7 @@ use Rattle.counting.specs.Search.{some}
 use Rattle.counting.proofs.Search.{some-found, some-is, some-blocks}
 use Rattle.slots.specs.Slots.{lo, hi}
 use Rattle.slots.proofs.Slots.{two-slots}
-use Rattle.grid.specs.Grid.{highestNode, cellCount, node, low, high, edgeNumber}
+use Rattle.grid.specs.Grid.{highestNode, cellCount, node, low, high}
 use Rattle.grid.specs.Accepted.{Accepted}
 use Rattle.places.specs.Rows.{hasNode, highest, nodeEnd}
 

@@ -1,6 +1,6 @@
 -- The middles of a cell, loop by loop, and of all cells, cell by cell.
-use Prim.Native.Nat.{ℕ, _+_, _*_, _/_, _≤_, _<_}
-use mathlib.Core.Path.{_≡_, refl, sym, ap, _∙_, subst}
+use Prim.Native.Nat.{ℕ, _+_, _*_, _≤_, _<_}
+use mathlib.Core.Path.{_≡_, sym, ap, _∙_, subst}
 use mathlib.Core.List.{List}
 use native.Mathlib.Omega.{arith}
 use lib.ListN.{length}
@@ -17,9 +17,9 @@ use Rattle.grid.specs.Grid.{cellCount}
 use Rattle.mesh.specs.Table.{tableCell}
 use Rattle.places.specs.declared.Place.{Place}
 use Rattle.places.specs.Place.{coordinates, placeAt, allNumbers}
-use Rattle.places.specs.Points.{isFan, fanCount, loopMiddle, cellMiddles}
-use Rattle.places.specs.Work.{tracedFan, tracedMiddle, Room, Below, CellRoom, MiddlesIn, tableFans, tableMiddles, TableRoom}
-use Rattle.places.proofs.Middles.{one-long, length-loop, length-cell, length-table, walked-fan, walked-below, walked-middle, length-traced, loop-ext, cell-ext}
+use Rattle.places.specs.Points.{fanCount, loopMiddle, cellMiddles}
+use Rattle.places.specs.Work.{tracedFan, tracedMiddle, Room, CellRoom, MiddlesIn, tableFans, tableMiddles, TableRoom}
+use Rattle.places.proofs.Middles.{length-loop, length-cell, length-table, walked-fan, walked-below, walked-middle, length-traced, loop-ext, cell-ext}
 use Rattle.places.proofs.Writing.{Writing, writing-room, writing-more, writing-keeps, writing-all}
 
 -- loop by loop

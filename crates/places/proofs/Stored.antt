@@ -1,19 +1,18 @@
 -- Places written one after the other: those of an edge, those of all crossings; and sums of places.
-use Prim.Native.Nat.{ℕ, zero, suc, _+_, _-_, _*_, _≤_, _<_}
-use mathlib.Core.Path.{_≡_, refl, sym, ap, ap₂, _∙_}
+use Prim.Native.Nat.{ℕ, zero, suc, _+_, _-_, _*_, _<_}
+use mathlib.Core.Path.{_≡_, refl, sym, ap, _∙_}
 use mathlib.Core.List.{List, [], _∷_, _++_}
-use native.Mathlib.Nat.{zero-add, add-zero}
+use native.Mathlib.Nat.{zero-add}
 use native.Mathlib.Omega.{arith}
 use lib.ListN.{length, getD}
 use lib.Seq.{sets}
 use lib.Ieee.{Float, nan}
 use Rattle.counting.specs.Range.{over}
-use Rattle.counting.specs.Pack.{pre}
 use Rattle.counting.proofs.Range.{over-snoc, over-ext}
 use Rattle.counting.proofs.Lists.{length-singles}
 use Rattle.counting.proofs.Fronts.{sets-append, over-split}
 use Rattle.counting.proofs.Pack.{row-pack}
-use Rattle.grid.specs.Grid.{low, high, countOf, start, crossings}
+use Rattle.grid.specs.Grid.{low, high, countOf, start}
 use Rattle.places.specs.declared.Place.{Place}
 use Rattle.places.specs.Place.{between, added, coordinates, placeAt, numbers, allNumbers, sumTo}
 use Rattle.places.specs.Points.{edgeOf, crossingPlace}

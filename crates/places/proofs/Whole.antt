@@ -2,18 +2,18 @@
 use Prim.Native.Nat.{ℕ, _+_, _*_, _≤_, _<_}
 use mathlib.Core.Path.{_≡_, refl, sym, ap, _∙_}
 use mathlib.Core.Bool.{Bool, true, false}
-use mathlib.Core.List.{List, [], _∷_, _++_}
+use mathlib.Core.List.{List, [], _∷_}
 use native.Mathlib.Nat.{zero-add}
 use native.Mathlib.Omega.{arith}
 use lib.Dec.{eqb}
 use lib.ListN.{length, getD, length-append}
 use lib.Seq.{sets, length-sets}
 use lib.Ieee.{Float}
-use Rattle.answer.specs.Answer.{result, refusal}
+use Rattle.answer.specs.Answer.{refusal}
 use Rattle.counting.specs.Pick.{pick}
 use Rattle.counting.specs.Range.{over}
 use Rattle.counting.proofs.Lists.{length-singles, getD-singles}
-use Rattle.grid.specs.Grid.{cellCount, low, high, crossings}
+use Rattle.grid.specs.Grid.{crossings}
 use Rattle.places.specs.declared.Place.{Place}
 use Rattle.places.specs.declared.Placed.{Placed}
 use Rattle.places.specs.declared.Placed.the-variants.{Points, Refused}

@@ -3,9 +3,8 @@ use Prim.Native.Nat.{ℕ, _-_}
 use mathlib.Core.Path.{_≡_}
 use mathlib.Core.Bool.{true, false}
 use mathlib.Core.List.{List, [], _∷_, _++_}
-use lib.ListN.{length, take, replicate}
-use lib.IntN.{pos, negsuc}
-use lib.Ieee.{Float, nan, inf, fin, binary64, div, neg, ofBits}
+use lib.ListN.{length, replicate}
+use lib.Ieee.{Float, nan, inf, binary64, div, neg, ofBits}
 use Rattle.answer.specs.Answer.{result, refusal}
 use Rattle.places.specs.Place.{floatOf}
 use Rattle.places.specs.Answer.{placesAnswer, placesArea}

@@ -1,7 +1,6 @@
 // The fans of the cells: counted, and their middles written.
 ghost use mathlib.Core.Path.{_≡_};
 ghost use Prim.Native.Nat.{_+_, _*_, _≤_};
-ghost use lib.ListN.{length};
 ghost use lib.Seq.{sets};
 ghost use Rattle.counting.specs.Pick.{one};
 ghost use Rattle.cell.specs.Walked.{Scratch};

@@ -1,6 +1,5 @@
 // Rows 15, 16 and 17: the lists' lengths, the numbers of the nodes' places, and the fractions.
 ghost use mathlib.Core.Path.{_≡_};
-ghost use mathlib.Core.Bool.{not, _&&_};
 ghost use Prim.Native.Nat.{_+_, _*_, _/_, _≤_, _<_};
 ghost use lib.ListN.{length};
 ghost use Rattle.counting.specs.Search.{first, last};

@@ -51,6 +51,23 @@ mod c {
             answer_len: usize,
         ) -> usize;
 
+        pub fn citternblaze_places(
+            cells: *const u16,
+            cells_len: usize,
+            edges: *const u16,
+            edges_len: usize,
+            counts: *const u8,
+            counts_len: usize,
+            nodes: *const f64,
+            nodes_len: usize,
+            fractions: *const f64,
+            fractions_len: usize,
+            area: *mut f64,
+            area_len: usize,
+            answer: *mut u64,
+            answer_len: usize,
+        ) -> usize;
+
         pub fn citternblaze_record(
             bytes: *const u8,
             bytes_len: usize,
@@ -159,6 +176,34 @@ pub fn loops(
             counts.len(),
             cell,
             index,
+            answer.as_mut_ptr(),
+            answer.len(),
+        )
+    }
+}
+
+/// The area has the bits of its numbers, so that each of them is told apart.
+pub fn places(
+    (cells, edges, counts): (&[u16], &[u16], &[u8]),
+    nodes: &[f64],
+    fractions: &[f64],
+    area: &mut [u64],
+    answer: &mut [u64],
+) -> usize {
+    unsafe {
+        c::citternblaze_places(
+            cells.as_ptr(),
+            cells.len(),
+            edges.as_ptr(),
+            edges.len(),
+            counts.as_ptr(),
+            counts.len(),
+            nodes.as_ptr(),
+            nodes.len(),
+            fractions.as_ptr(),
+            fractions.len(),
+            area.as_mut_ptr().cast(),
+            area.len(),
             answer.as_mut_ptr(),
             answer.len(),
         )

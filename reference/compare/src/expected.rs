@@ -6,7 +6,10 @@ use reference::face::{self, Join};
 use reference::gen::Sample;
 use reference::grid;
 use reference::mesh::Mesher;
+use reference::places;
 use reference::Refusal;
+
+use crate::placing::Placing;
 
 /// 0 and the values of a result, or a refusal's number and place.
 fn numbers<T>(answer: Result<T, Refusal>, values: impl FnOnce(T) -> Vec<u64>) -> Vec<u64> {
@@ -54,6 +57,29 @@ pub fn loops(mesher: &mut Mesher, grid: &Sample, [cell, index]: [usize; 2]) -> V
             values.into_iter().map(u64::from).collect()
         }
     })
+}
+
+/// 0 and the number of points, or a refusal; fills the area, which has the bits
+/// of its numbers.
+pub fn places(placing: &Placing, area: &mut [u64]) -> Vec<u64> {
+    let Placing {
+        grid,
+        nodes,
+        fractions,
+    } = placing;
+    let mut numbers_in: Vec<f64> = area.iter().copied().map(f64::from_bits).collect();
+    let answer = places::places(
+        &grid.cells,
+        &grid.edges,
+        &grid.counts,
+        nodes,
+        fractions,
+        &mut numbers_in,
+    );
+    for (bits, number) in area.iter_mut().zip(numbers_in) {
+        *bits = number.to_bits();
+    }
+    numbers(answer, |points| vec![u64::from(points)])
 }
 
 /// 0, the kind and the next start, or a refusal.

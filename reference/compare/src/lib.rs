@@ -9,6 +9,8 @@ pub mod grids;
 
 pub mod lent;
 
+pub mod placing;
+
 use std::env;
 use std::str::FromStr;
 

@@ -6,30 +6,19 @@ use Rattle.places.proofs.Whole.{refused-in, placeable, table-room, poin
 use borrow.Author.Needs.{needs}
 use Rattle.places.proofs.place_all.Statement.{statement}
 use Rattle.places.proofs.place_all.Tie as tie
-use Rattle.places.proofs.place_all.Reads as reads
-use Rattle.places.proofs.place_all.Lts as lts
-use Rattle.places.proofs.fans.count_fans.Reads as count-fans-reads
-use Rattle.places.proofs.fans.write_middles.Reads as write-middles-reads
-use Rattle.places.proofs.points.place_crossings.Reads as place-crossings-reads
-use Rattle.places.proofs.rows.judge.Reads as judge-reads
 
--- src/lib.rt:117:19
 count-fans-requires : tie.Need-count-fans-requires
 count-fans-requires c κs = c .before .before .before .before .before .before .pre .laid
 
--- src/lib.rt:117:15
 add-all : tie.Need-add-all
 add-all c = omega (arith, c .before .before .before .before .before .before .before .pre .few, c .count-fans .ensures .1)
 
--- src/lib.rt:118:9
 judge-requires : tie.Need-judge-requires
 judge-requires c κs = (c .before .before .before .before .before .before .before .pre .judged, omega (arith, c .before .before .before .before .before .before .before .pre .few, c .count-fans .ensures .1))
 
--- src/lib.rt:120:9
 enum-told : tie.Need-enum-told
 enum-told c = search needs
 
--- src/lib.rt:120:9
 returns : tie.Need-returns
 returns c =
     let a = c .before .before .before .before .before .before .before .before .before .before .args in
@@ -41,7 +30,6 @@ returns c =
 enum-told-2 : tie.Need-enum-told-2
 enum-told-2 c = search needs
 
--- src/lib.rt:122:5
 place-crossings-requires : tie.Need-place-crossings-requires
 place-crossings-requires c κs =
     let a = c .before .before .before .before .before .before .before .before .before .before .before .args in
@@ -50,7 +38,6 @@ place-crossings-requires c κs =
     let t = c .before .before .before .before .count-fans in
     placeable (now (a .cells)) (now (a .edges)) (now (a .counts)) (now (a .names)) (now (a .sides)) (now (a .starts)) (now (a .nodes)) (now (a .fractions)) (a .n) R (now (a .area)) (j .result) (a .n + t .result) (ap (λ k. a .n + k) (t .ensures .0)) (j .ensures) _ (c .before .enum-told2 .given .1)
 
--- src/lib.rt:123:5
 write-middles-requires : tie.Need-write-middles-requires
 write-middles-requires c κs =
     let a = c .before .before .before .before .before .before .before .before .before .before .before .before .before .before .before .args in
@@ -59,11 +46,9 @@ write-middles-requires c κs =
     let t = c .before .before .before .before .before .before .before .before .count-fans in
     (R .laid, table-room (now (a .cells)) (now (a .edges)) (now (a .counts)) (now (a .names)) (now (a .sides)) (now (a .starts)) (now (a .nodes)) (now (a .fractions)) (a .n) R (now (a .area)) (j .result) (a .n + t .result) (ap (λ k. a .n + k) (t .ensures .0)) (j .ensures) _ (c .before .before .before .before .before .enum-told2 .given .1) _ (c .before .before .before .place-crossings .ensures))
 
--- src/lib.rt:102:1
 same-length : tie.Need-same-length
 same-length c = search needs
 
--- src/lib.rt:102:1
 returns-2 : tie.Need-returns-2
 returns-2 c =
     let a = c .before .before .before .before .before .before .before .before .before .before .before .before .before .before .before .before .before .before .args in

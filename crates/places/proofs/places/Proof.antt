@@ -4,46 +4,34 @@ use Rattle.places.proofs.Calls.{refused-done, opened-ready, placed-done
 use borrow.Author.Needs.{needs}
 use Rattle.places.proofs.places.Statement.{statement}
 use Rattle.places.proofs.places.Tie as tie
-use Rattle.places.proofs.places.Reads as reads
-use Rattle.places.proofs.places.Lts as lts
-use Rattle.grid.proofs.open.Reads as open-reads
-use Rattle.places.proofs.place_all.Reads as place-all-reads
 
--- src/lib.rt:142:11
 open-requires : tie.Need-open-requires
 open-requires c κs = search needs
 
--- src/lib.rt:151:26
 enum-known-row : tie.Need-enum-known-row
 enum-known-row c = search needs
 
--- src/lib.rt:152:28
 enum-known-n : tie.Need-enum-known-n
 enum-known-n c = search needs
 
--- src/lib.rt:153:94
 cast-place-all : tie.Need-cast-place-all
 cast-place-all c = search needs
 
--- src/lib.rt:153:13
 place-all-requires : tie.Need-place-all-requires
 place-all-requires c κs =
     let a = c .before .before .before .before .before .before .before .before .before .before .before .before .before .before .before .before .before .before .args in
     let o = c .before .before .before .before .before .before .before .«open» in
     opened-ready (now (a .cells)) (now (a .edges)) (now (a .counts)) (now (a .nodes)) (now (a .fractions)) (o .result) _ (c .before .before .before .before .before .n .given .1) (o .ensures .0) _ _ _ _ _ _ _ _ refl refl refl (o .ensures .1)
 
--- src/lib.rt:128:1
 returns : tie.Need-returns
 returns c =
     let a = c .before .before .before .before .before .before .before .before .before .before .before .before .before .before .args in
     let o = c .before .before .before .«open» in
     refused-done (now (a .cells)) (now (a .edges)) (now (a .counts)) (now (a .nodes)) (now (a .fractions)) (o .result) _ _ (now (a .area)) (c .before .row .given .1) (o .ensures .0)
 
--- src/lib.rt:128:1
 same-length : tie.Need-same-length
 same-length c = search needs
 
--- src/lib.rt:128:1
 returns-2 : tie.Need-returns-2
 returns-2 c =
     let a = c .before .before .before .before .before .before .before .before .before .before .before .before .before .before .before .before .before .before .before .before .before .args in

@@ -7,50 +7,37 @@ use Rattle.places.proofs.Numbers.{sets-three}
 use borrow.Author.Needs.{needs}
 use Rattle.places.proofs.store.Statement.{statement}
 use Rattle.places.proofs.store.Tie as tie
-use Rattle.places.proofs.store.Reads as reads
-use Rattle.places.proofs.store.Lts as lts
 
--- src/lib.rt:83:14
 mul-at : tie.Need-mul-at
 mul-at c = search needs
 
--- src/lib.rt:84:5
 mul-area : tie.Need-mul-area
 mul-area c = search needs
 
--- src/lib.rt:84:5
 slice-write-area : tie.Need-slice-write-area
 slice-write-area c = search needs
 
--- src/lib.rt:85:10
 add-area : tie.Need-add-area
 add-area c = search needs
 
--- src/lib.rt:85:5
 mul-area-2 : tie.Need-mul-area-2
 mul-area-2 c = search needs
 
--- src/lib.rt:85:5
 slice-write-area-2 : tie.Need-slice-write-area-2
 slice-write-area-2 c = simp length-set (omega arith)
 
--- src/lib.rt:86:10
 add-area-2 : tie.Need-add-area-2
 add-area-2 c = search needs
 
--- src/lib.rt:86:5
 mul-area-3 : tie.Need-mul-area-3
 mul-area-3 c = search needs
 
--- src/lib.rt:86:5
 slice-write-area-3 : tie.Need-slice-write-area-3
 slice-write-area-3 c = simp length-set (omega arith)
 
--- src/lib.rt:79:1
 same-length : tie.Need-same-length
 same-length c = search needs
 
--- src/lib.rt:79:1
 returns : tie.Need-returns
 returns c = let a = c .args in sets-three (now (a .area)) (coordinates * a .k) (a .p .x) (a .p .y) (a .p .z)
 

@@ -6,10 +6,8 @@ use Rattle.mesh.specs.Table.{tableCell}
 use Rattle.places.specs.Points.{fanCount}
 use Rattle.places.specs.Work.{tableFans}
 use Rattle.places.proofs.Middles.{Adding, adding-none, adding-more, adding-all}
-use borrow.Author.Needs.{needs}
 use Rattle.places.proofs.fans.count_fans.Statement.{statement}
 use Rattle.places.proofs.fans.count_fans.Tie as tie
-use Rattle.mesh.proofs.cells.cell_at.Reads as cell-at-reads
 
 abbrev Inv-loop : tie.InvT-loop
 Inv-loop cells counts names sides starts marks₀ halves₀ points₀ n t₀ c₀ marks halves points t c = Adding (λ k. fanCount (tableCell cells counts names sides starts k)) (length cells / 4) c t marks halves points × (n ≡ length cells / 4)

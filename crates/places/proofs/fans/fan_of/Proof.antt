@@ -2,10 +2,8 @@ use denote.Ref.{now}
 use Rattle.cell.specs.Round.{foldsIn}
 use Rattle.places.proofs.Middles.{fan-none, fan-three, fan-other, fan-normal, fan-folded}
 use mathlib.Core.Path.{_∙_, sym}
-use borrow.Author.Needs.{needs}
 use Rattle.places.proofs.fans.fan_of.Statement.{statement}
 use Rattle.places.proofs.fans.fan_of.Tie as tie
-use Rattle.cell.proofs.folds_of.Reads as folds-of-reads
 
 returns : tie.Need-returns
 returns c = fan-none _ _ (c .if1 .taken)

@@ -7,13 +7,8 @@ use Rattle.cell.specs.Of.{countOf}
 use Rattle.triangle.proofs.Cells.{Going, going-start, going-in, going-more}
 use Rattle.triangle.proofs.Walks.{walked-traced}
 use Rattle.places.proofs.Middles.{Counting, counting-none, counting-more, counting-all, walked-fan}
-use borrow.Author.Needs.{needs}
 use Rattle.places.proofs.fans.fans_in.Statement.{statement}
 use Rattle.places.proofs.fans.fans_in.Tie as tie
-use Rattle.cell.proofs.crossings_of.Reads as crossings-of-reads
-use Rattle.cell.proofs.routes_of.Reads as routes-of-reads
-use Rattle.cell.proofs.clear.Reads as clear-reads
-use Rattle.cell.proofs.walk.Reads as walk-reads
 
 abbrev Inv-loop : tie.InvT-loop
 Inv-loop c marks₀ halves₀ points₀ n routes t₀ p₀ marks halves points t p = Going c n routes marks halves points p × Counting c p t
@@ -34,7 +29,7 @@ loop-holds : tie.Need-loop-holds Inv-loop μ-loop
 loop-holds c = (going-start (c .before .before .before .crossings-of .ensures) (c .before .before .routes-of .ensures) (c .before .before .before .before .pre) (c .clear .ensures), counting-none _)
 
 walk-requires : tie.Need-walk-requires Inv-loop μ-loop
-walk-requires c κs = let l = c .before .before .before .before .before .loop in (l .inv .0 .routed, (going-in (l .inv .0) (omega arith), (l .inv .0 .marked, l .inv .0 .scratch)))
+walk-requires c κs = let l = c .before .before .before .before .before .loop in record { routed = l .inv .0 .routed; inside = going-in (l .inv .0) (omega arith); marked = l .inv .0 .marked; scratch = l .inv .0 .scratch }
 
 fan-of-requires : tie.Need-fan-of-requires Inv-loop μ-loop
 fan-of-requires c κs = walked-traced (going-in (c .before .before .before .before .before .before .before .loop .inv .0) (omega arith)) (c .before .walk .ensures)

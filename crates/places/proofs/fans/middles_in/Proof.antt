@@ -6,13 +6,8 @@ use Rattle.places.specs.Place.{placeAt}
 use Rattle.places.specs.Points.{loopMiddle}
 use Rattle.places.proofs.Writing.{Writing, writing-none}
 use Rattle.places.proofs.Passes.{loop-room, loop-next, loops-done}
-use borrow.Author.Needs.{needs}
 use Rattle.places.proofs.fans.middles_in.Statement.{statement}
 use Rattle.places.proofs.fans.middles_in.Tie as tie
-use Rattle.cell.proofs.crossings_of.Reads as crossings-of-reads
-use Rattle.cell.proofs.routes_of.Reads as routes-of-reads
-use Rattle.cell.proofs.clear.Reads as clear-reads
-use Rattle.cell.proofs.walk.Reads as walk-reads
 
 abbrev Inv-loop : tie.InvT-loop
 Inv-loop c marks₀ halves₀ points₀ area₀ at n routes i₀ p₀ marks halves points area i p = Going c n routes marks halves points p × Writing (loopMiddle (placeAt area₀) c) n p area₀ area at i
@@ -33,7 +28,7 @@ loop-holds : tie.Need-loop-holds Inv-loop μ-loop
 loop-holds c = (going-start (c .before .before .before .crossings-of .ensures) (c .before .before .routes-of .ensures) (c .before .before .before .before .before .pre .0) (c .clear .ensures), writing-none _ _ _ _)
 
 walk-requires : tie.Need-walk-requires Inv-loop μ-loop
-walk-requires c κs = let l = c .before .before .before .before .before .loop in (l .inv .0 .routed, (going-in (l .inv .0) (omega arith), (l .inv .0 .marked, l .inv .0 .scratch)))
+walk-requires c κs = let l = c .before .before .before .before .before .loop in record { routed = l .inv .0 .routed; inside = going-in (l .inv .0) (omega arith); marked = l .inv .0 .marked; scratch = l .inv .0 .scratch }
 
 put-middle-requires : tie.Need-put-middle-requires Inv-loop μ-loop
 put-middle-requires c κs = let l = c .before .before .before .before .before .before .before .before .before .loop in let a = c .before .before .before .before .before .before .before .before .before .before .before .before .before .before .before .args in loop-room (a .c) (now (a .area)) (a .at) (c .before .before .before .before .before .before .before .before .before .before .before .before .before .before .before .pre .1) (l .inv .0 .all) (l .inv .1) (omega arith) (c .before .before .before .walk .ensures)

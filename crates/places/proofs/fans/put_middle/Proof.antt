@@ -2,7 +2,6 @@ use mathlib.Core.Path.{_∙_}
 use native.Mathlib.Omega.{arith}
 use denote.Ref.{now}
 use Rattle.places.proofs.Middles.{put-none, put-one, put-points, put-room}
-use borrow.Author.Needs.{needs}
 use Rattle.places.proofs.fans.put_middle.Statement.{statement}
 use Rattle.places.proofs.fans.put_middle.Tie as tie
 

@@ -9,10 +9,8 @@ use Rattle.places.specs.Place.{placeAt}
 use Rattle.places.specs.Points.{cellMiddles}
 use Rattle.places.proofs.Writing.{Writing, writing-none}
 use Rattle.places.proofs.Passes.{cell-room, cell-next, cells-done}
-use borrow.Author.Needs.{needs}
 use Rattle.places.proofs.fans.write_middles.Statement.{statement}
 use Rattle.places.proofs.fans.write_middles.Tie as tie
-use Rattle.mesh.proofs.cells.cell_at.Reads as cell-at-reads
 
 abbrev Inv-loop : tie.InvT-loop
 Inv-loop cells counts names sides starts area₀ base marks₀ halves₀ points₀ n i₀ c₀ area marks halves points i c =

@@ -4,7 +4,7 @@ use native.Mathlib.Omega.{arith}
 use lib.ListN.{length}
 use lib.Seq.{sets}
 use denote.Ref.{now}
-use Rattle.grid.specs.Grid.{countOf, start}
+use Rattle.grid.specs.Grid.{start}
 use Rattle.places.specs.Place.{placeAt, allNumbers}
 use Rattle.places.proofs.Fractions.{start-next, start-zero, start-fits}
 use Rattle.places.proofs.Stored.{front, front-none, front-more}

@@ -3,7 +3,7 @@ use Prim.Native.Nat.{_+_, _-_, _*_, _≤_}
 use mathlib.Core.Path.{_∙_, _≡_, refl, ap}
 use native.Mathlib.Omega.{arith}
 use lib.ListN.{length}
-use lib.Seq.{sets, length-sets}
+use lib.Seq.{sets}
 use denote.Ref.{now}
 use Rattle.places.specs.Place.{coordinates, allNumbers}
 use Rattle.places.specs.Work.{onEdge}

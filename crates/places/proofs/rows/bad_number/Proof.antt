@@ -1,4 +1,4 @@
-use mathlib.Core.Path.{_∙_, ap, sym}
+use mathlib.Core.Path.{_∙_, ap}
 use mathlib.Core.Bool.{not}
 use denote.Ref.{now}
 use Rattle.places.proofs.Marks.{number-marked, number-free}

@@ -4,30 +4,19 @@ use Rattle.places.proofs.Judged.{end-small, table-reaches, short-nodes,
 use borrow.Author.Needs.{needs}
 use Rattle.places.proofs.rows.judge.Statement.{statement}
 use Rattle.places.proofs.rows.judge.Tie as tie
-use Rattle.places.proofs.rows.judge.Reads as reads
-use Rattle.places.proofs.rows.judge.Lts as lts
-use Rattle.places.proofs.rows.mark.Reads as mark-reads
-use Rattle.places.proofs.rows.marked_end.Reads as marked-end-reads
-use Rattle.places.proofs.rows.row_16.Reads as row-16-reads
-use Rattle.places.proofs.rows.row_17.Reads as row-17-reads
 
--- src/rows.rt:149:17
 slice-aggregate-mark : tie.Need-slice-aggregate-mark
 slice-aggregate-mark c = search needs
 
--- src/rows.rt:149:5
 mark-requires : tie.Need-mark-requires
 mark-requires c κs = search needs
 
--- src/rows.rt:150:26
 slice-aggregate-marked-end : tie.Need-slice-aggregate-marked-end
 slice-aggregate-marked-end c = search needs
 
--- src/rows.rt:150:9
 marked-end-requires : tie.Need-marked-end-requires
 marked-end-requires c κs = search needs
 
--- src/rows.rt:151:22
 mul-if1 : tie.Need-mul-if1
 mul-if1 c =
     let a = c .before .before .before .before .before .before .before .before .before .args in
@@ -36,7 +25,6 @@ mul-if1 c =
     let J = c .before .before .before .before .before .before .before .before .before .pre .0 in
     omega (arith, end-small (now (a .cells)) (now (a .counts)) (a .n) J _ m (c .marked-end .result) e)
 
--- src/rows.rt:152:9
 returns : tie.Need-returns
 returns c =
     let a = c .before .before .before .before .before .before .before .before .before .before .args in
@@ -45,7 +33,6 @@ returns c =
     let J = c .before .before .before .before .before .before .before .before .before .before .pre .0 in
     short-nodes (now (a .cells)) (now (a .counts)) (a .n) J _ m (c .before .marked-end .result) e (now (a .nodes)) (now (a .fractions)) (a .points) (a .room) (c .if1 .taken)
 
--- src/rows.rt:155:9
 returns-2 : tie.Need-returns-2
 returns-2 c =
     let a = c .before .before .before .before .before .before .before .before .before .before .before .args in
@@ -54,11 +41,9 @@ returns-2 c =
     let J = c .before .before .before .before .before .before .before .before .before .before .before .pre .0 in
     other-fractions (now (a .cells)) (now (a .counts)) (a .n) J _ m (c .before .before .marked-end .result) e (now (a .nodes)) (now (a .fractions)) (a .points) (a .room) (c .before .if1 .left) (c .if2 .taken)
 
--- src/rows.rt:157:15
 mul-if3 : tie.Need-mul-if3
 mul-if3 c = search needs
 
--- src/rows.rt:158:9
 returns-3 : tie.Need-returns-3
 returns-3 c =
     let a = c .before .before .before .before .before .before .before .before .before .before .before .before .args in
@@ -67,11 +52,9 @@ returns-3 c =
     let J = c .before .before .before .before .before .before .before .before .before .before .before .before .pre .0 in
     short-area (now (a .cells)) (now (a .counts)) (a .n) J _ m (c .before .before .before .marked-end .result) e (now (a .nodes)) (now (a .fractions)) (a .points) (a .room) (c .before .before .if1 .left) (c .before .if2 .left) (c .if3 .taken)
 
--- src/rows.rt:160:20
 slice-aggregate-row-16 : tie.Need-slice-aggregate-row-16
 slice-aggregate-row-16 c = search needs
 
--- src/rows.rt:160:9
 row-16-requires : tie.Need-row-16-requires
 row-16-requires c κs =
     let a = c .before .before .before .before .before .before .before .before .before .before .before .before .before .args in
@@ -80,11 +63,9 @@ row-16-requires c κs =
     let J = c .before .before .before .before .before .before .before .before .before .before .before .before .before .pre .0 in
     table-reaches (now (a .cells)) (now (a .counts)) (a .n) J _ m (c .before .before .before .before .marked-end .result) e (now (a .nodes)) (c .before .before .before .if1 .left)
 
--- src/rows.rt:161:12
 mul-if4 : tie.Need-mul-if4
 mul-if4 c = search needs
 
--- src/rows.rt:162:9
 returns-4 : tie.Need-returns-4
 returns-4 c =
     let a = c .before .before .before .before .before .before .before .before .before .before .before .before .before .before .before .args in
@@ -93,11 +74,9 @@ returns-4 c =
     let J = c .before .before .before .before .before .before .before .before .before .before .before .before .before .before .before .pre .0 in
     bad-number-found (now (a .cells)) (now (a .counts)) (a .n) J _ m (c .before .before .before .before .before .before .marked-end .result) e (now (a .nodes)) (now (a .fractions)) (a .points) (a .room) (c .before .before .before .before .before .if1 .left) (c .before .before .before .before .if2 .left) (c .before .before .before .if3 .left) (c .before .row-16 .result) (c .before .row-16 .ensures) (c .if4 .taken)
 
--- src/rows.rt:164:9
 row-17-requires : tie.Need-row-17-requires
 row-17-requires c κs = search needs
 
--- src/rows.rt:166:9
 returns-5 : tie.Need-returns-5
 returns-5 c =
     let a = c .before .before .before .before .before .before .before .before .before .before .before .before .before .before .before .before .before .args in
@@ -106,11 +85,9 @@ returns-5 c =
     let J = c .before .before .before .before .before .before .before .before .before .before .before .before .before .before .before .before .before .pre .0 in
     bad-fraction-found (now (a .cells)) (now (a .counts)) (a .n) J _ m (c .before .before .before .before .before .before .before .before .marked-end .result) e (now (a .nodes)) (now (a .fractions)) (a .points) (a .room) (c .before .before .before .before .before .before .before .if1 .left) (c .before .before .before .before .before .before .if2 .left) (c .before .before .before .before .before .if3 .left) (c .before .before .before .row-16 .result) (c .before .before .before .row-16 .ensures) (c .before .before .if4 .left) (c .before .row-17 .result) (c .before .row-17 .ensures) (c .if5 .taken)
 
--- src/rows.rt:168:20
 cast-t22 : tie.Need-cast-t22
 cast-t22 c = search needs
 
--- src/rows.rt:135:1
 returns-6 : tie.Need-returns-6
 returns-6 c =
     let a = c .before .before .before .before .before .before .before .before .before .before .before .before .before .before .before .before .before .args in

@@ -1,7 +1,7 @@
 use Prim.Native.Nat.{_-_, _≤_}
 use mathlib.Core.Path.{_∙_, _≡_, sym, ap}
 use native.Mathlib.Omega.{arith}
-use lib.ListN.{length, length-replicate}
+use lib.ListN.{length}
 use denote.Ref.{now}
 use Rattle.places.proofs.Marks.{Marking, marking-none, marking-more, marked}
 use borrow.Author.Needs.{needs}

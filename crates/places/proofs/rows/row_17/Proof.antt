@@ -1,9 +1,9 @@
 use Prim.Native.Nat.{_-_, _≤_}
-use mathlib.Core.Path.{_∙_, _≡_, sym, ap, refl}
+use mathlib.Core.Path.{_∙_, _≡_, ap}
 use native.Mathlib.Omega.{arith}
 use lib.ListN.{length}
 use denote.Ref.{now}
-use Rattle.grid.specs.Grid.{countOf, start}
+use Rattle.grid.specs.Grid.{start}
 use Rattle.places.proofs.Fractions.{Fine, start-next, start-zero, start-fits, fault-found, fine-on, fine-none, fine-end}
 use borrow.Author.Needs.{needs}
 use Rattle.places.proofs.rows.row_17.Statement.{statement}

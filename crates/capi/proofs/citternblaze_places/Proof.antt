@@ -1,0 +1,71 @@
+use borrow.Author.Needs.{needs}
+use Rattle.places.specs.Answer.{placesNumbers}
+use Rattle.capi.proofs.Answers.{told-reads, answers-are, answers-told}
+use Rattle.capi.proofs.Refused.{refused-numbers, some-places}
+use Rattle.capi.proofs.citternblaze_places.Statement.{statement}
+use Rattle.capi.proofs.citternblaze_places.Tie as tie
+
+places-requires : tie.Need-places-requires
+places-requires c κs = search needs
+
+enum-known-n : tie.Need-enum-known-n
+enum-known-n c = search needs
+
+cast-t18 : tie.Need-cast-t18
+cast-t18 c = search needs
+
+slice-aggregate-put : tie.Need-slice-aggregate-put
+slice-aggregate-put c = search needs
+
+put-requires : tie.Need-put-requires
+put-requires c κs = search needs
+
+enum-known-row : tie.Need-enum-known-row
+enum-known-row c = search needs
+
+cast-t24 : tie.Need-cast-t24
+cast-t24 c = search needs
+
+slice-aggregate-put-2 : tie.Need-slice-aggregate-put-2
+slice-aggregate-put-2 c = search needs
+
+put-requires-2 : tie.Need-put-requires-2
+put-requires-2 c κs = search needs
+
+same-length : tie.Need-same-length
+same-length c = search needs
+
+same-length-2 : tie.Need-same-length-2
+same-length-2 c = search needs
+
+returns : tie.Need-returns
+returns c = (answers-told placesNumbers (c .before .before .before .before .before .before .n .given .1) (c .before .before .before .before .before .before .before .before .before .before .places .ensures .answered) (c .before .before .put .ensures), c .before .before .before .before .before .before .before .before .before .before .places .ensures .area)
+
+same-length-3 : tie.Need-same-length-3
+same-length-3 c = search needs
+
+same-length-4 : tie.Need-same-length-4
+same-length-4 c = search needs
+
+returns-2 : tie.Need-returns-2
+returns-2 c = (answers-are (refused-numbers _ _ _ (some-places _ _ _ _ _ _) (told-reads placesNumbers (c .before .before .before .before .before .before .row .given .1) (c .before .before .before .before .before .before .before .before .before .before .places .ensures .answered))) (c .before .before .put2 .ensures), c .before .before .before .before .before .before .before .before .before .before .places .ensures .area)
+
+pub citternblaze-places-spec : {M : Type 1} → statement M
+citternblaze-places-spec =
+    tie.close
+    (tie.spec
+    places-requires
+    enum-known-n
+    cast-t18
+    slice-aggregate-put
+    put-requires
+    enum-known-row
+    cast-t24
+    slice-aggregate-put-2
+    put-requires-2
+    same-length
+    same-length-2
+    returns
+    same-length-3
+    same-length-4
+    returns-2)

@@ -1,0 +1,295 @@
+//! The places call against the second implementation, bit by bit.
+
+use std::thread;
+
+use compare::grids::{closed_grid, random_grid, single_cell, with_faults};
+use compare::lent::{answers, answers_in_all, Lent};
+use compare::placing::{placing, spoiled, Kind, Placing, KINDS};
+use compare::{calls, expected, seed, setting};
+use reference::cell::{NO_NUMBER, TRIANGLE_WORDS};
+use reference::gen::{sphere, Rng, Sample};
+use reference::mesh::Mesher;
+
+/// Stands on both sides of a lent area: a not-a-number.
+const GUARD: u64 = 0x7ff5_5a5a_5a5a_5a5a;
+
+/// An area before a call: the bits of numbers that no call writes, among them
+/// not-a-numbers.
+fn untouched(len: usize) -> Vec<u64> {
+    let bits = |at: usize| match at % 2 {
+        0 => 0x7ff4_0000_0000_0001 + at as u64,
+        _ => 0xfff8_0000_0000_0001 + at as u64,
+    };
+    (0..len).map(bits).collect()
+}
+
+/// What the compared calls answered.
+#[derive(Default)]
+struct Tally {
+    grids: u64,
+    points: u64,
+    middles: u64,
+    exact: u64,
+    refused: [u64; 18],
+}
+
+impl Tally {
+    fn report(&self, what: &str) {
+        println!(
+            "places, {what}: {} calls, {} placed: {} points, {} of them middles; {} numbers also \
+             compared with exact ones; refused by rows 1 to 10: {:?}, 15 to 17: {:?}",
+            self.grids,
+            self.refused[0],
+            self.points,
+            self.middles,
+            self.exact,
+            &self.refused[1..=10],
+            &self.refused[15..]
+        );
+    }
+}
+
+/// Compares a call on an area of this length: the numbers answered and every
+/// bit of the area and its guards. Tells both.
+fn compare_in(placing: &Placing, len: usize) -> (Vec<u64>, Vec<u64>) {
+    let mut area = untouched(len);
+    let mut lent = Lent::new(&area, GUARD);
+    let numbers = expected::places(placing, &mut area);
+    let Sample {
+        cells,
+        edges,
+        counts,
+    } = &placing.grid;
+    let (nodes, fractions) = (&placing.nodes, &placing.fractions);
+    let right = answers(&numbers, |answer| {
+        calls::places(
+            (cells, edges, counts),
+            nodes,
+            fractions,
+            lent.area(),
+            answer,
+        )
+    });
+    assert!(
+        right,
+        "area of {len}: not answered with {numbers:?} alone: {placing:?}"
+    );
+    assert!(
+        lent.is(&area, GUARD),
+        "area of {len}: other places: {placing:?}"
+    );
+    if numbers[0] != 0 {
+        assert_eq!(area, untouched(len));
+    }
+    (numbers, area)
+}
+
+fn crossings(grid: &Sample) -> usize {
+    grid.counts.iter().map(|&count| usize::from(count)).sum()
+}
+
+/// How many points a grid has, 0 where it is refused: its crossings, and each
+/// fan by its last triangle, the one whose side 1 is inner side 0.
+fn points(grid: &Sample) -> usize {
+    let mut mesher = Mesher::default();
+    let triangles = match expected::mesh(&mut mesher, grid, &mut [])[..] {
+        [0 | 12, triangles] => triangles as usize,
+        _ => return 0,
+    };
+    let mut words = vec![0; TRIANGLE_WORDS * triangles];
+    expected::mesh(&mut mesher, grid, &mut words);
+    let all = words.chunks_exact(TRIANGLE_WORDS);
+    let last = |words: &&[u32]| words[4] == NO_NUMBER && words[8] == 0;
+    crossings(grid) + all.filter(last).count()
+}
+
+/// Compares a call in an area with room, and in one that is too short by a few
+/// numbers.
+fn compare(rng: &mut Rng, placing: &Placing, points: usize, tally: &mut Tally) -> Vec<u64> {
+    let exact = 3 * points;
+    let (numbers, area) = compare_in(placing, exact + rng.below(5));
+    tally.grids += 1;
+    tally.refused[numbers[0] as usize] += 1;
+    if numbers[0] == 0 {
+        tally.points += numbers[1];
+        tally.middles += numbers[1] - crossings(&placing.grid) as u64;
+    }
+    if exact > 0 {
+        let short = exact - rng.between(1, 4.min(exact));
+        assert_eq!(compare_in(placing, short).0, [15, 0]);
+        tally.grids += 1;
+        tally.refused[15] += 1;
+    }
+    area
+}
+
+/// Whole numbers and 1,024ths: each crossing is where whole arithmetic has it.
+fn compare_exact(placing: &Placing, area: &[u64], tally: &mut Tally) {
+    let edges = placing.grid.edge_list().into_iter();
+    let counted = edges.zip(&placing.grid.counts);
+    let ends = counted.flat_map(|(edge, &count)| (0..count).map(move |_| edge));
+    for (crossing, [u, v]) in ends.enumerate() {
+        let parts = (placing.fractions[crossing] * 1_024.0) as i64;
+        for part in 0..3 {
+            let [u, v] = [u, v].map(|node| placing.nodes[3 * usize::from(node) + part] as i64);
+            let scaled = 1_024 * u + parts * (v - u);
+            let placed = f64::from_bits(area[3 * crossing + part]);
+            assert_eq!((placed * 1_024.0) as i64, scaled, "{placing:?}");
+            assert_eq!(placed * 1_024.0, scaled as f64, "{placing:?}");
+            tally.exact += 1;
+        }
+    }
+}
+
+/// Compares a grid with numbers of each kind, whole and spoiled.
+fn compare_kinds(rng: &mut Rng, grid: &Sample, tally: &mut Tally) {
+    let points = points(grid);
+    for kind in KINDS {
+        let whole = placing(rng, grid.clone(), kind);
+        let area = compare(rng, &whole, points, tally);
+        if kind == Kind::Whole {
+            compare_exact(&whole, &area, tally);
+        }
+        let odd = spoiled(rng, whole);
+        compare(rng, &odd, points, tally);
+    }
+}
+
+fn one_cell(counts: [u8; 6]) -> Sample {
+    let mut grid = Sample::from_cells([[0, 1, 2, 3]]);
+    grid.counts = counts.to_vec();
+    grid
+}
+
+/// Compares a call with the numbers that it has to answer, in any answer area.
+fn compare_with(numbers: [u64; 2], placing: &Placing, len: usize) -> Vec<f64> {
+    let (answered, area) = compare_in(placing, len);
+    assert_eq!(answered, numbers, "{placing:?}");
+    let mut lent = Lent::new(&untouched(len), GUARD);
+    let Sample {
+        cells,
+        edges,
+        counts,
+    } = &placing.grid;
+    let (nodes, fractions) = (&placing.nodes, &placing.fractions);
+    let right = answers_in_all(&numbers, |answer| {
+        calls::places(
+            (cells, edges, counts),
+            nodes,
+            fractions,
+            lent.area(),
+            answer,
+        )
+    });
+    assert!(right && lent.is(&area, GUARD), "{placing:?}");
+    area.into_iter().map(f64::from_bits).collect()
+}
+
+#[test]
+fn examples() {
+    let nodes: Vec<f64> = (0..12).map(f64::from).collect();
+    let of = |counts, fractions: &[f64]| Placing {
+        grid: one_cell(counts),
+        nodes: nodes.clone(),
+        fractions: fractions.to_vec(),
+    };
+    let one = [1, 0, 0, 0, 0, 0];
+    let two = [2, 0, 0, 0, 0, 0];
+    assert_eq!(compare_with([0, 0], &of([0; 6], &[]), 0), []);
+    let area = compare_with([0, 1], &of(one, &[0.5]), 3);
+    assert_eq!(area, [1.5, 2.5, 3.5]);
+    compare_with([15, 0], &of(one, &[]), 3);
+    compare_with([15, 0], &of(one, &[0.25, 0.5]), 3);
+    compare_with([15, 0], &of(one, &[0.5]), 2);
+    let area = compare_with([0, 3], &of(two, &[0.25, 0.75]), 9);
+    assert_eq!(area, [0.75, 1.75, 2.75, 2.25, 3.25, 4.25, 1.5, 2.5, 3.5]);
+    compare_with([17, 1], &of(two, &[0.5, 0.5]), 9);
+    compare_with([17, 0], &of(two, &[0.0, 0.5]), 9);
+    compare_with([17, 1], &of(two, &[0.5, 1.0]), 9);
+    let corner = compare_with([0, 3], &of([1, 1, 1, 0, 0, 0], &[0.5; 3]), 9);
+    assert_eq!(corner[..3], [1.5, 2.5, 3.5]);
+    for at in 0..12 {
+        let beyond = f64::from_bits(1_000_000f64.to_bits() + 1);
+        for odd in [f64::NAN, f64::INFINITY, -f64::INFINITY, beyond, -beyond] {
+            let mut spoiled = of(two, &[0.25, 0.75]);
+            spoiled.nodes[at] = odd;
+            compare_with([16, at as u64], &spoiled, 9);
+        }
+        for end in [1_000_000.0, -1_000_000.0, -0.0] {
+            let mut allowed = of(two, &[0.25, 0.75]);
+            allowed.nodes[at] = end;
+            compare_with([0, 3], &allowed, 9);
+        }
+        let mut short = of(two, &[0.25, 0.75]);
+        short.nodes.truncate(at);
+        compare_with([15, 0], &short, 9);
+    }
+}
+
+#[test]
+fn single_cells() {
+    let mut rng = Rng::new(seed("places"));
+    for (most, cells) in [(3, 1_000), (12, 500), (255, 50)] {
+        let mut tally = Tally::default();
+        for _ in 0..cells {
+            let grid = single_cell(&mut rng, most);
+            compare_kinds(&mut rng, &grid, &mut tally);
+        }
+        tally.report(&format!("single cells, counts 0..{most}"));
+    }
+}
+
+#[test]
+fn random_grids() {
+    let mut rng = Rng::new(seed("places"));
+    let mut tally = Tally::default();
+    let grids = setting("CITTERNBLAZE_GRIDS", 20_000);
+    for _ in 0..grids / 10 {
+        let grid = match rng.below(3) {
+            0 => closed_grid(&mut rng),
+            _ => random_grid(&mut rng),
+        };
+        let accepted = expected::check(&grid)[0] == 0;
+        if accepted {
+            compare_kinds(&mut rng, &grid, &mut tally);
+        }
+        let whole = placing(&mut rng, grid, Kind::Any);
+        let faulty = with_faults(&mut rng, whole.grid.clone());
+        let broken = Placing {
+            grid: faulty,
+            ..whole
+        };
+        let broken = spoiled(&mut rng, broken);
+        compare(&mut rng, &broken, points(&broken.grid), &mut tally);
+    }
+    tally.report("random grids");
+    if grids >= 20_000 {
+        assert!(tally.middles > 0 && tally.exact > 0);
+        assert!(tally.refused[..=10].iter().all(|&calls| calls > 0));
+        assert!(tally.refused[15..].iter().all(|&calls| calls > 0));
+    }
+}
+
+/// What the header says of the stack.
+#[test]
+fn stack_of_640_kilobytes() {
+    let mut rng = Rng::new(1);
+    let grid = sphere([5, 5, 5]).with_counts(&mut rng, 0, 12);
+    let placing = placing(&mut rng, grid, Kind::Any);
+    let call = move || {
+        let mut area = vec![0; 9 * 65_535];
+        let mut answer = [1; 2];
+        let grid = &placing.grid;
+        let lists = (&grid.cells[..], &grid.edges[..], &grid.counts[..]);
+        calls::places(
+            lists,
+            &placing.nodes,
+            &placing.fractions,
+            &mut area,
+            &mut answer,
+        );
+        answer[0]
+    };
+    let thread = thread::Builder::new().stack_size(640 * 1024).spawn(call);
+    assert_eq!(thread.expect("a thread").join().expect("an answer"), 0);
+}
