@@ -174,35 +174,31 @@ fn examples_of_one_cell() {
     let corner = [0, 0, 0, 1, 2, 3, 0, 1, 1, 2, 0];
     let diagonal = [
         [0, 0, 0, 2, 3, 3, 0, 0, 2, M, 0],
-        [0, 0, 0, 3, 1, M, 0, 1, 1, 2, 0],
+        [0, 0, 0, 3, 1, M, 0, 2, 1, 1, 0],
     ];
     let fan = [
         [0, 0, 0, 1, M, 3, 0, M, 1, M, 0],
         [0, 0, 1, 0, M, 2, 0, M, 0, M, 1],
     ];
-    compare_with([0, 0], &[], 30, &one_cell([0; 6]));
-    compare_with([0, 0], &[], 0, &one_cell([0; 6]));
-    compare_with([0, 0], &[], 30, &one_cell([1, 0, 0, 0, 0, 0]));
-    compare_with([0, 0], &[], 30, &one_cell([1; 6]));
-    let grid = one_cell([2, 0, 0, 0, 0, 0]);
-    compare_with([0, 2], &fan.concat(), 30, &grid);
-    compare_with([0, 2], &fan.concat(), 22, &grid);
-    compare_with([12, 2], &[], 21, &grid);
-    compare_with([12, 2], &[], 11, &grid);
-    let grid = one_cell([1, 1, 1, 0, 0, 0]);
-    compare_with([12, 1], &[], 10, &grid);
-    compare_with([12, 1], &[], 0, &grid);
-    let (_, area) = compare_in(&mut Mesher::default(), &grid, 11);
-    assert_eq!(area[..5], corner[..5]);
-    compare_with([0, 1], &area, 11, &grid);
-    let grid = one_cell([0, 1, 1, 1, 1, 0]);
-    let (_, area) = compare_in(&mut Mesher::default(), &grid, 22);
-    let corners = |at: usize| area[11 * at..11 * at + 5].to_vec();
-    assert_eq!(
-        [corners(0), corners(1)],
-        diagonal.map(|words| words[..5].to_vec())
-    );
-    compare_with([0, 2], &area, 22, &grid);
+    for counts in [[0; 6], [1, 0, 0, 0, 0, 0], [1; 6]] {
+        compare_with([0, 0], &[], 0, &one_cell(counts));
+        compare_with([0, 0], &[], 30, &one_cell(counts));
+    }
+    let cases: [(_, &[u32]); 3] = [
+        ([1, 1, 1, 0, 0, 0], &corner),
+        ([0, 1, 1, 1, 1, 0], &diagonal.concat()),
+        ([2, 0, 0, 0, 0, 0], &fan.concat()),
+    ];
+    for (counts, words) in cases {
+        let grid = one_cell(counts);
+        let triangles = (words.len() / TRIANGLE_WORDS) as u64;
+        for more in [0, 1, 8] {
+            compare_with([0, triangles], words, words.len() + more, &grid);
+        }
+        for len in 0..words.len() {
+            compare_with([12, triangles], &[], len, &grid);
+        }
+    }
     let grid = one_cell([2, 1, 1, 1, 1, 2]);
     let (numbers, area) = compare_in(&mut Mesher::default(), &grid, 88);
     assert_eq!(numbers, [0, 8]);

@@ -193,6 +193,49 @@ fn part_of_box(cells: usize) -> Sample {
     Sample::from_cells(part)
 }
 
+/// About 1,800 cells with few and with more crossings, cells full of them, and
+/// cells round one edge.
+fn meshes(bench: &Bench) {
+    let mut rng = Rng::new(1);
+    let shape = box_of_six([6, 5, 10]);
+    let few = shape.clone().with_counts(&mut rng, 0, 3);
+    bench.mesh("1 mesh, box, counts 0..3", &few);
+    let closed = shape.clone().with_closed_counts(&mut rng, 1);
+    bench.mesh("1 mesh, box, closed, counts 0..3", &closed);
+    let many = shape.clone().with_counts(&mut rng, 16, 24);
+    bench.mesh("2 mesh, box, counts 16..24", &many);
+    let even = shape.with_even_counts(&mut rng, 10);
+    bench.mesh("2 mesh, box, even faces, counts 0..21", &even);
+    let full = separate(42).with_counts(&mut rng, 255, 255);
+    bench.mesh("3 mesh, separate cells, counts 255", &full);
+    let fan = closed_fan(MAX_CELLS as u16).with_counts(&mut rng, 4, 14);
+    bench.mesh("4 mesh, cells round one edge, counts 4..14", &fan);
+}
+
+/// As many cells as a grid may have, in several shapes.
+fn checks(bench: &Bench) {
+    let mut rng = Rng::new(2);
+    let boxed = part_of_box(MAX_CELLS).with_counts(&mut rng, 0, 20);
+    bench.check("5 check, box", &boxed);
+    let mixed = boxed.renumbered(&mut rng).reordered(&mut rng);
+    bench.check("5 check, box, shuffled nodes and cells", &mixed);
+    let fan = closed_fan(MAX_CELLS as u16);
+    bench.check("5 check, cells round one edge", &fan);
+    bench.check("5 check, cells round one node", &cone([13, 13, 13]));
+    let apart = separate((MAX_CELLS / 2) as u16);
+    bench.check("5 check, cells that share nothing", &apart);
+}
+
+/// How time grows with the cells.
+fn growth(bench: &Bench) {
+    let mut rng = Rng::new(3);
+    for cells in [1, 100, 500, 1_000, 2_000] {
+        let part = part_of_box(cells).with_counts(&mut rng, 16, 24);
+        bench.mesh("growth, mesh, box, counts 16..24", &part);
+        bench.check("growth, check", &part);
+    }
+}
+
 fn main() {
     let millis = match env::args().nth(1) {
         Some(text) => text.parse().expect("milliseconds"),
@@ -210,31 +253,7 @@ fn main() {
          and not cleared between rounds.",
         bench.patience
     );
-    let mut rng = Rng::new(1);
-    let shape = box_of_six([6, 5, 10]);
-    let few = shape.clone().with_counts(&mut rng, 0, 3);
-    bench.mesh("1 mesh, box, counts 0..3", &few);
-    let closed = shape.clone().with_closed_counts(&mut rng, 1);
-    bench.mesh("1 mesh, box, closed, counts 0..3", &closed);
-    let many = shape.clone().with_counts(&mut rng, 16, 24);
-    bench.mesh("2 mesh, box, counts 16..24", &many);
-    let even = shape.with_even_counts(&mut rng, 10);
-    bench.mesh("2 mesh, box, even faces, counts 0..21", &even);
-    let full = separate(42).with_counts(&mut rng, 255, 255);
-    bench.mesh("3 mesh, separate cells, counts 255", &full);
-    let fan = closed_fan(MAX_CELLS as u16).with_counts(&mut rng, 4, 14);
-    bench.mesh("4 mesh, cells round one edge, counts 4..14", &fan);
-    let boxed = part_of_box(MAX_CELLS).with_counts(&mut rng, 0, 20);
-    bench.check("5 check, box", &boxed);
-    let mixed = boxed.renumbered(&mut rng).reordered(&mut rng);
-    bench.check("5 check, box, shuffled nodes and cells", &mixed);
-    bench.check("5 check, cells round one edge", &fan);
-    bench.check("5 check, cells round one node", &cone([13, 13, 13]));
-    let apart = separate((MAX_CELLS / 2) as u16);
-    bench.check("5 check, cells that share nothing", &apart);
-    for cells in [1, 100, 500, 1_000, 2_000] {
-        let part = part_of_box(cells).with_counts(&mut rng, 16, 24);
-        bench.mesh("growth, mesh, box, counts 16..24", &part);
-        bench.check("growth, check", &part);
-    }
+    meshes(&bench);
+    checks(&bench);
+    growth(&bench);
 }
