@@ -1,23 +1,26 @@
 -- The laws of a cell's loops, together.
-use Prim.Native.Nat.{ℕ, _*_}
-use mathlib.Core.Path.{_≡_, refl}
+use Prim.Native.Nat.{ℕ, _*_, _/_, _≤_, _<_}
+use mathlib.Core.Path.{_≡_, refl, ap}
+use mathlib.Core.Logic.{⊎-elim}
 use mathlib.Core.Bool.{Bool, true, false}
 use mathlib.Core.List.{List, [], _∷_}
+use native.Mathlib.Nat.{eq-or-lt-of-le}
 use native.Mathlib.Omega.{arith}
 use lib.Dec.{eqb}
 use lib.ListN.{getD}
 use borrow.Author.Tests.{eqb-false, ne-eqb}
 use Rattle.counting.specs.Pick.{one}
+use Rattle.counting.proofs.Pack.{row-lt, col-lt, later}
 use Rattle.cell.specs.declared.LoopType.{LoopType}
 use Rattle.cell.specs.declared.LoopType.the-variants.{Contractible, Diagonal, Corner}
 use Rattle.cell.specs.declared.Loop.{Loop}
 use Rattle.cell.specs.declared.Loop.the-variants.{Found, Nothing}
-use Rattle.cell.specs.Cell.{crossings}
-use Rattle.cell.specs.Loop.{loopSize, dart, leasts}
+use Rattle.cell.specs.Cell.{crossings, edge, index}
+use Rattle.cell.specs.Loop.{loopSize, dart, inGrid, leasts}
 use Rattle.cell.specs.Answer.{typeNumbers, loopNumbers}
-use Rattle.cell.specs.Claims.{OneToOne, CellLaws}
+use Rattle.cell.specs.Claims.{OneToOne, CellLaws, Rising, Ordered}
 use Rattle.cell.proofs.Mates.{ports, darts, laws}
-use Rattle.cell.proofs.Loops.{the-loop, size-le, size-two}
+use Rattle.cell.proofs.Loops.{the-loop, dart-live, size-le, size-two}
 use Rattle.cell.proofs.Follow.{step-of, goes-on, along-most, along-once}
 use Rattle.cell.proofs.Leasts.{kept-is, kept-rise, kept-all}
 use Rattle.cell.proofs.Three.{three-normal, three-corner}
@@ -44,6 +47,31 @@ cellLaws w start v = record {
   where
     none : ℕ → Bool
     none p = eqb (loopSize w p) 0
+
+-- where the numbers rise from edge to edge
+module _ (w start : ℕ → ℕ) (v : List ℕ) (R : Rising w start) where
+  numbers : (x y : ℕ) → x < y → y < crossings w → inGrid w start v x < inGrid w start v y
+  unfolding inGrid
+  numbers x y h l =
+      ⊎-elim
+      (λ (r : edge w x < edge w y). omega (arith, R (edge w x) (edge w y) r (row-lt w 6 y l), col-lt w 6 x (omega arith)))
+      (λ (r : (edge w x ≡ edge w y) × (index w x < index w y)). omega (arith, r .1, ap start (r .0)))
+      (later w 6 x y h l)
+
+  numbers-le : (x y : ℕ) → x ≤ y → y < crossings w → inGrid w start v x ≤ inGrid w start v y
+  numbers-le x y h l =
+      ⊎-elim (λ (e : x ≡ y). omega (arith, ap (inGrid w start v) e)) (λ (g : x < y). omega (arith, numbers x y g l)) (eq-or-lt-of-le h)
+
+  lowest : (p k : ℕ) → p < crossings w → k < loopSize w p → p ≤ dart w p k / 2
+  unfolding dart loopSize
+  lowest p k l h = omega (arith, laws w .found p l (omega arith) .1 (dart w p k / 2) (record { at = k; at-lt = h; is = refl }))
+
+pub ordered : Ordered
+ordered w start v R = record {
+  numbers = numbers w start v R;
+  least = λ p k l h. numbers-le w start v R p (dart w p k / 2) (lowest w start v R p k l h) (omega (arith, dart-live w p l k h));
+  ordered = λ i j l h. numbers w start v R (getD (leasts w start v) i 0) (getD (leasts w start v) j 0) (cellLaws w start v .rising i j l h) (cellLaws w start v .listed j h .0);
+}
 
 -- the first numbers of two types tell their cases apart
 two-cases : {A : Type 0} {a b : ℕ} {k l : List ℕ} → (a ≡ b → ⊥) → a ∷ k ≡ b ∷ l → A

@@ -1,15 +1,10 @@
 -- The branches of a step, in the terms in which the code meets them: by what it reads from the routes.
 use Prim.Native.Nat.{ℕ, _+_, _*_, _-_, _%_, _≤_, _<_}
 use mathlib.Core.Path.{_≡_, refl, sym, _∙_, subst}
-use mathlib.Core.Logic.{_≢_, _⊎_, ⊎-elim}
-use mathlib.Core.Bool.{Bool, true, false, not}
+use mathlib.Core.Logic.{_≢_}
 use mathlib.Core.List.{List}
 use native.Mathlib.Omega.{arith}
-use lib.Dec.{eqb, ltb}
 use lib.ListN.{getD}
-use borrow.Author.Tests.{eqb-true, eqb-false, ltb-true, ltb-false}
-use Rattle.counting.specs.Pick.{pick}
-use Rattle.counting.proofs.Bools.{clash}
 use Rattle.face.specs.Face.{lower, upper}
 use Rattle.cell.specs.declared.Cell.{Cell}
 use Rattle.cell.specs.declared.Dart.{Dart}
@@ -19,7 +14,7 @@ use Rattle.cell.specs.Cell.{crossings, step}
 use Rattle.cell.specs.Of.{countOf}
 use Rattle.cell.specs.Half.{halfEdges, placeOf, edgeOf}
 use Rattle.cell.specs.Route.{cornerOf, mostCrossings}
-use Rattle.cell.specs.Dart.{Spot, IsDartAt, Ready, AtEnd, over, Between, Leads, Onward, dartOf}
+use Rattle.cell.specs.Dart.{Spot, IsDartAt, Ready, FromUpper, Between, Leads, Onward, dartOf}
 use Rattle.cell.proofs.Half.{twin-lt}
 use Rattle.cell.proofs.Reach.{Reach, low-lt, high-lt, low-fits, high-fits, low-on, low-over, high-on, high-over, between-end, between-up, between-down}
 use Rattle.cell.proofs.Route.{low-at, high-at, count-at, low-next-at, high-next-at, twin-at, place-at, fits}
@@ -75,61 +70,32 @@ module _ {c : Cell} {t : List ℕ} {d : Dart} (R : Ready c t d) where
   pub index-small : d .index < mostCrossings
   index-small = omega (arith, fits (R .routed) h l (d .index) (R .dart .index-lt))
 
-  -- below either corner count; and below neither
-  pub at-end : (k : ℕ) → k ≡ own 2 - 1 - d .index → (ltb (d .index) (getD t (9 * h) 0) ≡ true) ⊎ (ltb k (own 1) ≡ true) → AtEnd w d (ltb (d .index) (getD t (9 * h) 0)) k
-  at-end k e o = record {
-    is = rw (← count-is) e;
-    below-low = λ q. rw low-is at (ltb-true (d .index) (getD t (9 * h) 0) q);
-    below-high = λ q. ⊎-elim (λ (p : ltb (d .index) (getD t (9 * h) 0) ≡ true). clash p q) (λ (p : ltb k (own 1) ≡ true). rw high-is at (ltb-true k (own 1) p)) o;
-  }
+  module _ (b : d .index < cornerOf w (lower (placeOf h)) h) where
+    pub low-room : d .index < getD t (9 * own 5 + 2) 0
+    low-room = rw (count-at (R .routed) (own 5) low-next-lt, low-next-at (R .routed) h l) (low-fits w h l (d .index) b)
 
-  pub past-ends : (k : ℕ) → k ≡ own 2 - 1 - d .index → ltb (d .index) (getD t (9 * h) 0) ≡ false → ltb k (own 1) ≡ false → Between w d
-  past-ends k e p q = record {
-    low = rw low-is at (ltb-false (d .index) (getD t (9 * h) 0) p);
-    high = omega (arith, e, high-is, count-is, R .dart .index-lt, ltb-false k (own 1) q);
-  }
+    pub to-low-on : own 8 ≢ 2 → Reach w h (d .number) (own 5) (d .index)
+    to-low-on n = rw (low-next-at (R .routed) h l) (low-on w (R .dart) b (rw (place-at (R .routed) h l) at n))
 
-  module _ {low : Bool} {k : ℕ} (A : AtEnd w d low k) where
-    -- the half-edge that follows, and how many crossings there are before the dart from the end
-    abbrev next : ℕ
-    next = pick low (own 5) (own 6)
+    pub to-low-over : own 8 ≡ 2 → Reach w h (d .number) (own 5) (getD t (9 * own 5 + 2) 0 - 1 - d .index)
+    to-low-over n =
+        rw (count-at (R .routed) (own 5) low-next-lt, low-next-at (R .routed) h l)
+        (low-over w (R .dart) b (sym (place-at (R .routed) h l) ∙ n))
 
-    abbrev from-end : ℕ
-    from-end = pick low (d .index) k
+  module _ {k : ℕ} (F : FromUpper w d k) where
+    above : w (edgeOf h) - 1 - d .index < cornerOf w (upper (placeOf h)) h
+    above = rw (F .is) at (F .below)
 
-    pub next-lt : next < halfEdges
-    next-lt = go low
-      where
-        go : (b : Bool) → pick b (own 5) (own 6) < halfEdges
-        go true = rw (low-next-at (R .routed) h l) (low-lt w h l)
-        go false = rw (high-next-at (R .routed) h l) (high-lt w h l)
+    pub high-room : k < getD t (9 * own 6 + 2) 0
+    high-room = rw (count-at (R .routed) (own 6) high-next-lt, high-next-at (R .routed) h l) (high-fits w h l k (F .below))
 
-    pub room : from-end < getD t (9 * next + 2) 0
-    room = go low refl
-      where
-        go : (b : Bool) → low ≡ b → pick b (d .index) k < getD t (9 * pick b (own 5) (own 6) + 2) 0
-        go true e = rw (count-at (R .routed) (own 5) low-next-lt, low-next-at (R .routed) h l) (low-fits w h l (d .index) (A .below-low e))
-        go false e = rw (count-at (R .routed) (own 6) high-next-lt, high-next-at (R .routed) h l) (high-fits w h l k (A .below-high e))
+    pub to-high-on : own 8 ≡ 0 → Reach w h (d .number) (own 6) k
+    to-high-on n = rw (F .is, high-next-at (R .routed) h l) (high-on w (R .dart) above (sym (place-at (R .routed) h l) ∙ n))
 
-    pub to-round : Reach w h (d .number) next (pick (over low (own 8)) (getD t (9 * next + 2) 0 - 1 - from-end) from-end)
-    to-round = go low refl (eqb (own 8) 2) refl (eqb (own 8) 0) refl
-      where
-        go : (b : Bool) → low ≡ b → (x : Bool) → eqb (own 8) 2 ≡ x → (y : Bool) → eqb (own 8) 0 ≡ y
-            → Reach w h (d .number) (pick b (own 5) (own 6)) (pick (pick b x (not y)) (getD t (9 * pick b (own 5) (own 6) + 2) 0 - 1 - pick b (d .index) k) (pick b (d .index) k))
-        go true e true ex y ey =
-            rw (count-at (R .routed) (own 5) low-next-lt, low-next-at (R .routed) h l)
-            (low-over w (R .dart) (A .below-low e) (sym (place-at (R .routed) h l) ∙ eqb-true _ _ ex))
-        go true e false ex y ey =
-            let n : own 8 ≢ 2 = eqb-false (own 8) 2 ex in
-            rw (low-next-at (R .routed) h l) (low-on w (R .dart) (A .below-low e) (rw (place-at (R .routed) h l) at n))
-        go false e x ex true ey =
-            let b = A .below-high e in
-            rw (A .is, high-next-at (R .routed) h l) (high-on w (R .dart) (rw (A .is) at b) (sym (place-at (R .routed) h l) ∙ eqb-true _ _ ey))
-        go false e x ex false ey =
-            let b = A .below-high e in
-            let n : own 8 ≢ 0 = eqb-false (own 8) 0 ey in
-            rw (A .is, count-at (R .routed) (own 6) high-next-lt, high-next-at (R .routed) h l)
-            (high-over w (R .dart) (rw (A .is) at b) (rw (place-at (R .routed) h l) at n))
+    pub to-high-over : own 8 ≢ 0 → Reach w h (d .number) (own 6) (getD t (9 * own 6 + 2) 0 - 1 - k)
+    to-high-over n =
+        rw (F .is, count-at (R .routed) (own 6) high-next-lt, high-next-at (R .routed) h l)
+        (high-over w (R .dart) above (rw (place-at (R .routed) h l) at n))
 
   module _ (B : Between w d) where
     -- the crossings from this one to the upper corner

@@ -1,5 +1,5 @@
 -- What is proved of the loops of a cell, for all counts.
-use Prim.Native.Nat.{ℕ, _*_, _/_, _≤_, _<_}
+use Prim.Native.Nat.{ℕ, _+_, _*_, _/_, _≤_, _<_}
 use mathlib.Core.Path.{_≡_}
 use mathlib.Core.Logic.{_⊎_, _≢_}
 use mathlib.Core.Bool.{Bool, true, _&&_, _||_}
@@ -15,7 +15,7 @@ use Rattle.walk.specs.Claims.{WalkLaws}
 use Rattle.cell.specs.declared.LoopType.{LoopType}
 use Rattle.cell.specs.declared.Loop.{Loop}
 use Rattle.cell.specs.Cell.{crossings, edge, joinAt, mate, first, second, slot, step}
-use Rattle.cell.specs.Loop.{loopSize, dart, normal, typeOf, leasts}
+use Rattle.cell.specs.Loop.{loopSize, dart, normal, typeOf, inGrid, leasts}
 use Rattle.cell.specs.Answer.{typeNumbers, loopNumbers}
 
 -- the readings of the answer in numbers are one to one, so that the numbers determine the enums
@@ -74,3 +74,16 @@ pub record CellLaws (w start : ℕ → ℕ) (v : List ℕ) : Type 0 where
   pub listed : (i : ℕ) → i < length (leasts w start v)
       → (getD (leasts w start v) i 0 < crossings w) × (0 < loopSize w (getD (leasts w start v) i 0))
   pub all : (p : ℕ) → p < crossings w → 0 < loopSize w p → (i : ℕ) × (i < length (leasts w start v)) × (getD (leasts w start v) i 0 ≡ p)
+
+-- the crossings of an earlier edge have lower numbers, as those of a cell of an accepted grid
+abbrev pub Rising : (w start : ℕ → ℕ) → Type 0
+Rising w start = (j k : ℕ) → j < k → k < 6 → start j + w j ≤ start k
+
+-- then crossing numbers have the order of the cell's own; p0 is the least crossing number of its loop (01), and the loops are ordered by p0
+pub record OrderLaws (w start : ℕ → ℕ) (v : List ℕ) : Type 0 where
+  pub numbers : (x y : ℕ) → x < y → y < crossings w → inGrid w start v x < inGrid w start v y
+  pub least : (p k : ℕ) → p < crossings w → k < loopSize w p → inGrid w start v p ≤ inGrid w start v (dart w p k / 2)
+  pub ordered : (i j : ℕ) → i < j → j < length (leasts w start v) → inGrid w start v (getD (leasts w start v) i 0) < inGrid w start v (getD (leasts w start v) j 0)
+
+abbrev pub Ordered : Type 0
+Ordered = (w start : ℕ → ℕ) (v : List ℕ) → Rising w start → OrderLaws w start v

@@ -1,10 +1,10 @@
 -- Darts in parts: the crossing with index t on the edge of half-edge h, which is crossing x of the cell, left by h.
 use Prim.Native.Nat.{ℕ, _+_, _*_, _-_, _≤_, _<_}
 use mathlib.Core.Path.{_≡_}
-use mathlib.Core.Bool.{Bool, true, false, not}
+use mathlib.Core.Bool.{not}
 use mathlib.Core.List.{List}
 use lib.Dec.{eqb}
-use Rattle.counting.specs.Pick.{one, pick}
+use Rattle.counting.specs.Pick.{one}
 use Rattle.counting.specs.Pack.{pre}
 use Rattle.slots.specs.Slots.{firstSlot}
 use Rattle.face.specs.Face.{lower, upper}
@@ -40,15 +40,10 @@ pub record Ready (c : Cell) (t : List ℕ) (d : Dart) : Type 0 where
   pub routed : Routed c t
   pub dart : IsDart (countOf c) d
 
--- the dart is the k-th crossing from the upper end of its edge, and below the corner count at the lower end where `low`, else at the upper end
-pub record AtEnd (w : ℕ → ℕ) (d : Dart) (low : Bool) (k : ℕ) : Type 0 where
+-- the dart is the k-th crossing from the upper end of its edge, below the corner count there
+pub record FromUpper (w : ℕ → ℕ) (d : Dart) (k : ℕ) : Type 0 where
   pub is : k ≡ w (edgeOf (d .half)) - 1 - d .index
-  pub below-low : low ≡ true → d .index < cornerOf w (lower (placeOf (d .half))) (d .half)
-  pub below-high : low ≡ false → k < cornerOf w (upper (placeOf (d .half))) (d .half)
-
--- at the lower end, or the upper, of edge `place` of a face: the other edge there has its upper, or lower, end there; so its crossings count from the other side
-abbrev pub over : Bool → ℕ → Bool
-over low place = pick low (eqb place 2) (not (eqb place 0))
+  pub below : k < cornerOf w (upper (placeOf (d .half))) (d .half)
 
 -- the dart is below neither corner count
 pub record Between (w : ℕ → ℕ) (d : Dart) : Type 0 where

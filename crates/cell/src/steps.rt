@@ -1,9 +1,10 @@
 // The step from dart to dart, by the routes of a cell.
-ghost use mathlib.Core.Path.{_≡_};
-ghost use Rattle.counting.specs.Pick.{pick};
+ghost use Prim.Native.Nat.{_<_};
+ghost use Rattle.face.specs.Face.{lower};
 ghost use Rattle.cell.specs.Of.{countOf};
-ghost use Rattle.cell.specs.Route.{Routed};
-ghost use Rattle.cell.specs.Dart.{IsDartAt, Spot, Ready, AtEnd, over, Between, Leads, Onward};
+ghost use Rattle.cell.specs.Half.{placeOf};
+ghost use Rattle.cell.specs.Route.{cornerOf, Routed};
+ghost use Rattle.cell.specs.Dart.{IsDartAt, Spot, Ready, FromUpper, Between, Leads, Onward};
 use super::Cell;
 use super::Dart;
 use super::Next;
@@ -22,33 +23,37 @@ fn onto(c: Cell, routes: &[usize; 108], g: usize, u: usize) -> Dart
     }
 }
 
-// One of two numbers. Both are at hand, so that the compiler selects and does not branch.
-fn either(first: bool, x: usize, y: usize) -> usize
-    ensures { λ r. ⌜ r ≡ pick first x y ⌝ }
-{
-    if first { x } else { y }
-}
-
-// Whether the other edge at an end of this one, the lower end or the upper, has the face's middle node for its other end there.
-fn turned(low: bool, place: usize) -> bool
-    ensures { λ r. ⌜ r ≡ over low place ⌝ }
-{
-    if low { place == 2 } else { place != 0 }
-}
-
-// Round the lower end of the dart's edge, or the upper end, from which the dart is the k-th crossing, to the other edge there.
-// Which end it is cannot be foreseen: one path serves both.
-fn round(c: Cell, routes: &[usize; 108], d: Dart, low: bool, k: usize) -> Dart
+// Round the lower end of the dart's edge, to the other edge there.
+fn round_low(c: Cell, routes: &[usize; 108], d: Dart) -> Dart
     requires { ⌜ Ready c (now routes) d ⌝ }
-    requires { ⌜ AtEnd (countOf c) d low k ⌝ }
+    requires { ⌜ d .index < cornerOf (countOf c) (lower (placeOf (d .half))) (d .half) ⌝ }
     ensures { λ r. ⌜ Leads (countOf c) d r ⌝ }
 {
     let h = d.half;
-    let g = either(low, routes[9 * h + 5], routes[9 * h + 6]);
-    let j = either(low, d.index, k);
-    let last = routes[9 * g + 2] - 1;
-    let u = either(turned(low, routes[9 * h + 8]), last - j, j);
-    onto(c, routes, g, u)
+    let t = d.index;
+    let g = routes[9 * h + 5];
+    let place = routes[9 * h + 8];
+    if place == 2 {
+        let n = routes[9 * g + 2];
+        return onto(c, routes, g, n - 1 - t);
+    }
+    onto(c, routes, g, t)
+}
+
+// Round the upper end; the dart is the k-th crossing from there.
+fn round_high(c: Cell, routes: &[usize; 108], d: Dart, k: usize) -> Dart
+    requires { ⌜ Ready c (now routes) d ⌝ }
+    requires { ⌜ FromUpper (countOf c) d k ⌝ }
+    ensures { λ r. ⌜ Leads (countOf c) d r ⌝ }
+{
+    let h = d.half;
+    let g = routes[9 * h + 6];
+    let place = routes[9 * h + 8];
+    if place == 0 {
+        return onto(c, routes, g, k);
+    }
+    let n = routes[9 * g + 2];
+    onto(c, routes, g, n - 1 - k)
 }
 
 // Past both corners: neighbours are joined in pairs, down from the upper corner, and the lowest is left over if they are odd.
@@ -78,11 +83,14 @@ pub(crate) fn next(c: Cell, routes: &[usize; 108], d: Dart) -> Next
 {
     let h = d.half;
     let t = d.index;
-    let low = t < routes[9 * h];
+    let low = routes[9 * h];
+    if t < low {
+        return Next::On(round_low(c, routes, d));
+    }
     let k = routes[9 * h + 2] - 1 - t;
-    let high = k < routes[9 * h + 1];
-    if low || high {
-        return Next::On(round(c, routes, d, low, k));
+    let high = routes[9 * h + 1];
+    if k < high {
+        return Next::On(round_high(c, routes, d, k));
     }
     between(c, routes, d)
 }

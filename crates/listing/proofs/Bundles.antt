@@ -2,7 +2,7 @@
 use Prim.Native.Nat.{ℕ, zero, suc, _+_, _*_, _≤_, _<_}
 use mathlib.Core.Path.{_≡_, refl, sym, ap, _∙_}
 use mathlib.Core.Bool.{Bool, true, false, not, _&&_}
-use mathlib.Core.List.{List, [], _∷_, _++_}
+use mathlib.Core.List.{List, [], _∷_}
 use native.Mathlib.Nat.{mul-suc, le-refl}
 use native.Mathlib.Numerals.{add-one}
 use native.Mathlib.Omega.{arith}
@@ -12,14 +12,13 @@ use lib.Seq.{take-at, length-sets}
 use borrow.Author.Tests.{lt-ltb, le-ltb}
 use Rattle.answer.specs.Answer.{result, refusal}
 use Rattle.counting.specs.Pick.{pick}
-use Rattle.counting.specs.Range.{over}
 use Rattle.counting.proofs.Bools.{and-left, and-true}
 use Rattle.counting.proofs.Fronts.{sets-front, length-blocks}
 use Rattle.bundle.specs.Record.{brokenRow, endKind, lengthOf, nextAt}
-use Rattle.bundle.specs.Bundle.{isOf, start, run, cells, edgesFrom, edges, stop, bundleAnswer, isBundle, hasRoom, isTaken, readAnswer, nodesOf, endsOf, countsOf, writtenOver, leaves, shortRow}
+use Rattle.bundle.specs.Bundle.{isOf, run, cells, edgesFrom, edges, stop, bundleAnswer, isBundle, hasRoom, isTaken, readAnswer, nodesOf, endsOf, countsOf, writtenOver, leaves, shortRow}
 use Rattle.bundle.proofs.Runs.{Walked, walked, walked-on, fits-of}
 use Rattle.bundle.proofs.Fills.{cell-size, edge-size, end-size}
-use Rattle.bundle.proofs.Answers.{accepted, accepted-cells, accepted-edges, bundle-answer, read-bundle, room}
+use Rattle.bundle.proofs.Answers.{accepted, accepted-cells, accepted-edges, room}
 use Rattle.listing.specs.Text.{refusedLine}
 use Rattle.listing.specs.Listing.{mostBytes, roomBytes, gridListing, bundleListing, listing, Listed}
 use Rattle.listing.specs.Stored.{Stored}

@@ -1,10 +1,8 @@
 // The listing of a bundle: the text that the program meshlist prints.
-ghost use mathlib.Core.Path.{_≡_};
 ghost use Prim.Native.Nat.{_≤_};
 ghost use lib.ListN.{length};
-ghost use Rattle.listing.specs.Text.{refusedLine};
 ghost use Rattle.listing.specs.Stored.{Stored, Heard};
-ghost use Rattle.listing.specs.Listing.{roomBytes, gridListing, listing, Listed};
+ghost use Rattle.listing.specs.Listing.{roomBytes, gridListing, Listed};
 use bundle::Contents;
 use grid::Checked;
 use mesh::Meshed;
@@ -12,9 +10,14 @@ use mesh::Meshed;
 mod lines;
 mod text;
 
-// The most bytes of a bundle, and the words of an area for 1,489 triangles.
+// The most bytes of a bundle, and the most cells and edges that so many bytes hold: 12 to a cell, 9 to an edge, and 4 for the end.
 pub const MOST_BYTES: usize = 32768;
 
+const MOST_CELLS: usize = 2730;
+
+const MOST_EDGES: usize = 3640;
+
+// The words of an area for 1,489 triangles.
 const AREA: usize = 11 * 1489;
 
 // Bytes for the longest listing: a first line of 116, and 1,489 lines of 123.
@@ -46,17 +49,16 @@ fn list_grid(nodes: &[u16], ends: &[u16], counts: &[u8], out: &mut [u8]) -> usiz
     }
 }
 
-// Puts the listing of any bytes at the front of the area, and answers how many bytes it has. Keeps 40 KB on the stack, besides what the mesh call and
-// the check keep.
+// Puts the listing of any bytes at the front of the area, and answers how many bytes it has. Keeps 40 KB on the stack, besides what `list_grid` keeps.
 pub fn list(bytes: &[u8], out: &mut [u8; ROOM]) -> usize
     ensures { λ r. ⌜ Listed (now (bytes .entry)) (now (out .entry)) (now (out .exit)) r ⌝ }
 {
     if MOST_BYTES < bytes.len() {
         return lines::put_refused(out, 13, MOST_BYTES);
     }
-    let mut nodes = [0u16; 10920];
-    let mut ends = [0u16; 7280];
-    let mut counts = [0u8; 3640];
+    let mut nodes = [0u16; 4 * MOST_CELLS];
+    let mut ends = [0u16; 2 * MOST_EDGES];
+    let mut counts = [0u8; MOST_EDGES];
     match bundle::read(bytes, &mut nodes, &mut ends, &mut counts) {
         Contents::Refused(row, place) => lines::put_refused(out, row, place),
         Contents::Lists(cells, edges) => {

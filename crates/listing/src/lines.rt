@@ -1,6 +1,5 @@
 // The lines of a listing.
-ghost use mathlib.Core.Path.{_≡_};
-ghost use Prim.Native.Nat.{_+_, _*_, _≤_, _<_};
+ghost use Prim.Native.Nat.{_+_, _*_, _≤_};
 ghost use lib.ListN.{length};
 ghost use Rattle.counting.specs.Range.{over};
 ghost use Rattle.listing.specs.Text.{headBytes, lineBytes, refusedLine, head, wordAt, line};

@@ -1,9 +1,9 @@
-use mathlib.Core.Path.{refl, sym, ap, _∙_}
+use mathlib.Core.Path.{sym, ap, _∙_}
 use native.Mathlib.Omega.{arith}
 use lib.Seq.{length-take-le}
 use Rattle.bundle.specs.Bundle.{contentsNumbers}
 use Rattle.listing.specs.Listing.{roomBytes}
-use Rattle.listing.proofs.Stores.{wider, renamed}
+use Rattle.listing.proofs.Stores.{wider}
 use Rattle.listing.proofs.Bundles.{read-refused, few-cells, few-edges, nodes-front, ends-front, counts-front, read-listed, too-long, all-listed}
 use borrow.Author.Needs.{needs}
 use Rattle.listing.proofs.list.Statement.{statement}
@@ -13,7 +13,7 @@ put-refused-requires : tie.Need-put-refused-requires
 put-refused-requires c κs = search needs
 
 returns : tie.Need-returns
-returns c = all-listed (c .before .before .before .before .args .bytes .now) (wider (c .put-refused .ensures) roomBytes (omega arith)) (too-long (c .before .before .before .before .args .bytes .now) (c .before .before .if1 .taken)) (search needs)
+returns c = all-listed (c .before .before .before .before .args .bytes .now) (wider (c .put-refused .ensures) roomBytes (omega arith)) (too-long (c .before .before .before .before .args .bytes .now) (omega arith)) (search needs)
 
 slice-aggregate-read : tie.Need-slice-aggregate-read
 slice-aggregate-read c = search needs

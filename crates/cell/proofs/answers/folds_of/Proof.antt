@@ -32,7 +32,7 @@ sub-edge-at c = omega arith
 
 -- src/answers.rt:45:9
 edge-at-requires : tie.Need-edge-at-requires Inv-loop μ-loop
-edge-at-requires c κs = (omega arith, c .before .pre .1 (c .before .args .n - 1) (omega arith))
+edge-at-requires c κs = (omega arith, c .before .pre .1 _ (omega arith))
 
 -- src/answers.rt:48:5
 loop-holds : tie.Need-loop-holds Inv-loop μ-loop

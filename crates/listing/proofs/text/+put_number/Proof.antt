@@ -1,10 +1,7 @@
-use mathlib.Core.Path.{_≡_}
 use Rattle.listing.proofs.Numbers.{length-one, length-last, number-one, number-last}
-use Prim.Native.Nat.{ℕ, _+_, _/_, _<_}
+use Prim.Native.Nat.{ℕ, _+_, _<_}
 use native.Mathlib.Omega.{arith}
 use borrow.Author.Needs.{needs}
-use Rattle.listing.proofs.Stores.{single, wider, renamed, then}
-use Rattle.listing.proofs.Digits.{decimal-one, decimal-last}
 use borrow.Fn.Kinds.{In}
 use borrow.Fn.PlainCycle.{Measures, is, falls, and}
 use Rattle.listing.proofs.text.put_number.Reads as put-number

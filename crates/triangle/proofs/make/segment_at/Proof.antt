@@ -1,3 +1,8 @@
+use Prim.Native.Nat.{_/_, min}
+use mathlib.Core.Path.{ap, ap₂, _∙_}
+use lib.ListN.{getD}
+use denote.Ref.{now}
+use Rattle.triangle.specs.declared.Side.the-variants.{Segment}
 use Rattle.triangle.specs.Traced.{segmentAt}
 use native.Mathlib.Omega.{arith}
 use borrow.Author.Needs.{needs}
@@ -39,7 +44,10 @@ lower-requires c κs = search needs
 
 returns : tie.Need-returns
 unfolding segmentAt
-returns c = cc
+returns c =
+    let face = c .before .before .before .word .ensures ∙ ap (λ h. getD (c .before .before .before .before .before .before .before .before .args .t1 .names) (h / 3) 0) (c .before .before .before .before .before .before .wide .ensures) in
+    let low = c .lower .ensures ∙ ap (λ j. min (getD (now (c .before .before .before .before .before .before .before .before .args .points)) (c .before .before .before .before .before .before .before .before .args .k) 0) (getD (now (c .before .before .before .before .before .before .before .before .args .points)) j 0)) (c .before .before .before .before .before .after-of .ensures .0) in
+    ap₂ Segment face low
 
 pub segment-at-spec : {M : Type 1} → statement M
 segment-at-spec =
