@@ -15,15 +15,12 @@ use Rattle.mesh.proofs.draw.Lts as lts
 use Rattle.mesh.proofs.meshing.count_all.Reads as count-all-reads
 use Rattle.mesh.proofs.meshing.write_all.Reads as write-all-reads
 
--- src/lib.rt:33:9
 count-all-requires : tie.Need-count-all-requires
 count-all-requires c κs = search needs
 
--- src/lib.rt:34:21
 mul-if1 : tie.Need-mul-if1
 mul-if1 c = search needs
 
--- src/lib.rt:35:9
 returns : tie.Need-returns
 returns c =
     let e = c .before .count-all .ensures .0 in
@@ -33,19 +30,15 @@ returns c =
       area = area-short (tableTriangles (c .before .before .before .before .before .args .cells .now) (c .before .before .before .before .before .args .counts .now) (c .before .before .before .before .before .args .names .now) (c .before .before .before .before .before .args .sides .now) (c .before .before .before .before .before .args .starts .now)) (c .before .before .before .before .before .args .area .now) h;
     }
 
--- src/lib.rt:37:5
 write-all-requires : tie.Need-write-all-requires
 write-all-requires c κs = (c .before .before .before .before .before .before .pre, omega (arith, c .before .before .count-all .ensures .0))
 
--- src/lib.rt:38:23
 cast-t14 : tie.Need-cast-t14
 cast-t14 c = search needs
 
--- src/lib.rt:21:1
 same-length : tie.Need-same-length
 same-length c = search needs
 
--- src/lib.rt:21:1
 returns-2 : tie.Need-returns-2
 returns-2 c =
     let e = c .before .before .before .before .before .count-all .ensures .0 in

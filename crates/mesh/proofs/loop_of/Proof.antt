@@ -11,20 +11,16 @@ use Rattle.mesh.proofs.loop_of.Lts as lts
 use Rattle.cell.proofs.loop_at.Reads as loop-at-reads
 use Rattle.mesh.proofs.cells.cell_at.Reads as cell-at-reads
 
--- src/lib.rt:83:13
 cell-at-requires : tie.Need-cell-at-requires
 cell-at-requires c κs = c .before .before .before .pre .reaches _ (omega arith)
 
--- src/lib.rt:84:29
 loop-at-requires : tie.Need-loop-at-requires
 loop-at-requires c κs = search needs
 
--- src/lib.rt:84:9
 returns : tie.Need-returns
 unfolding tableLoop
 returns c = c .loop-at .ensures ∙ ap (λ v. cellLoop v (c .before .before .before .before .before .args .k)) (c .before .cell-at .ensures) ∙ asked-there _ _ _ _ (omega arith)
 
--- src/lib.rt:70:1
 returns-2 : tie.Need-returns-2
 unfolding tableLoop
 returns-2 c = asked-beyond _ _ _ _ (omega arith)

@@ -8,27 +8,21 @@ use Rattle.mesh.proofs.loops.Lts as lts
 use Rattle.grid.proofs.open.Reads as open-reads
 use Rattle.mesh.proofs.loop_of.Reads as loop-of-reads
 
--- src/lib.rt:97:11
 open-requires : tie.Need-open-requires
 open-requires c κs = search needs
 
--- src/lib.rt:106:26
 enum-known-row : tie.Need-enum-known-row
 enum-known-row c = search needs
 
--- src/lib.rt:107:57
 enum-told : tie.Need-enum-told
 enum-told c = search needs
 
--- src/lib.rt:107:34
 loop-of-requires : tie.Need-loop-of-requires
 loop-of-requires c κs = opened-laid (c .before .before .before .before .before .before .before .before .before .before .before .before .before .args .cells .now) (c .before .before .before .before .before .before .before .before .before .before .before .before .before .args .edges .now) (c .before .before .before .before .before .before .before .before .before .before .before .before .before .args .counts .now) (c .before .before .before .before .before .«open» .result) _ (c .before .before .before .enum-told .given .1) (c .before .before .before .before .before .«open» .ensures .0) _ _ _ _ _ _ _ _ refl refl refl (c .before .before .before .before .before .«open» .ensures .1)
 
--- src/lib.rt:90:1
 returns : tie.Need-returns
 returns c = refused-loops (c .before .before .before .before .before .before .before .before .before .before .before .args .cells .now) (c .before .before .before .before .before .before .before .before .before .before .before .args .edges .now) (c .before .before .before .before .before .before .before .before .before .before .before .args .counts .now) (c .before .before .before .«open» .result) _ _ (c .before .row .given .1) (c .before .before .before .«open» .ensures .0) _ _
 
--- src/lib.rt:90:1
 returns-2 : tie.Need-returns-2
 returns-2 c = c .loop-of .ensures ∙ told-loops (c .before .before .before .before .before .before .before .before .before .before .before .before .before .before .args .cells .now) (c .before .before .before .before .before .before .before .before .before .before .before .before .before .before .args .edges .now) (c .before .before .before .before .before .before .before .before .before .before .before .before .before .before .args .counts .now) (c .before .before .before .before .before .before .«open» .result) _ (c .before .before .before .before .enum-told .given .1) (c .before .before .before .before .before .before .«open» .ensures .0) _ _ _ _ _ _ _ _ refl refl refl (c .before .before .before .before .before .before .«open» .ensures .1) _ _
 

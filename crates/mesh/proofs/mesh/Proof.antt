@@ -8,31 +8,24 @@ use Rattle.mesh.proofs.mesh.Lts as lts
 use Rattle.grid.proofs.open.Reads as open-reads
 use Rattle.mesh.proofs.draw.Reads as draw-reads
 
--- src/lib.rt:50:11
 open-requires : tie.Need-open-requires
 open-requires c κs = search needs
 
--- src/lib.rt:59:26
 enum-known-row : tie.Need-enum-known-row
 enum-known-row c = search needs
 
--- src/lib.rt:60:54
 enum-told : tie.Need-enum-told
 enum-told c = search needs
 
--- src/lib.rt:60:34
 draw-requires : tie.Need-draw-requires
 draw-requires c κs = opened-laid (c .before .before .before .before .before .before .before .before .before .before .before .before .before .before .before .args .cells .now) (c .before .before .before .before .before .before .before .before .before .before .before .before .before .before .before .args .edges .now) (c .before .before .before .before .before .before .before .before .before .before .before .before .before .before .before .args .counts .now) (c .before .before .before .before .before .before .«open» .result) _ (c .before .before .before .before .enum-told .given .1) (c .before .before .before .before .before .before .«open» .ensures .0) _ _ _ _ _ _ _ _ refl refl refl (c .before .before .before .before .before .before .«open» .ensures .1)
 
--- src/lib.rt:42:1
 returns : tie.Need-returns
 returns c = refused-done (c .before .before .before .before .before .before .before .before .before .before .before .before .args .cells .now) (c .before .before .before .before .before .before .before .before .before .before .before .before .args .edges .now) (c .before .before .before .before .before .before .before .before .before .before .before .before .args .counts .now) (c .before .before .before .«open» .result) _ _ (c .before .row .given .1) (c .before .before .before .«open» .ensures .0) (c .before .before .before .before .before .before .before .before .before .before .before .before .args .area .now)
 
--- src/lib.rt:42:1
 same-length : tie.Need-same-length
 same-length c = search needs
 
--- src/lib.rt:42:1
 returns-2 : tie.Need-returns-2
 returns-2 c = drawn-done (c .before .before .before .before .before .before .before .before .before .before .before .before .before .before .before .before .before .before .args .cells .now) (c .before .before .before .before .before .before .before .before .before .before .before .before .before .before .before .before .before .before .args .edges .now) (c .before .before .before .before .before .before .before .before .before .before .before .before .before .before .before .before .before .before .args .counts .now) (c .before .before .before .before .before .before .before .before .before .«open» .result) _ (c .before .before .before .before .before .before .before .enum-told .given .1) (c .before .before .before .before .before .before .before .before .before .«open» .ensures .0) _ _ _ _ _ _ _ _ refl refl refl (c .before .before .before .before .before .before .before .before .before .«open» .ensures .1) _ _ _ (c .before .before .draw .ensures)
 

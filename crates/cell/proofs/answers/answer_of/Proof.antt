@@ -10,35 +10,27 @@ use Rattle.cell.proofs.answers.crosses_of.Reads as crosses-of-reads
 use Rattle.cell.proofs.answers.folds_of.Reads as folds-of-reads
 use Rattle.cell.proofs.answers.type_of.Reads as type-of-reads
 
--- src/answers.rt:105:9
 crosses-of-requires : tie.Need-crosses-of-requires
 crosses-of-requires c κs = (c .pre .few, recorded-halves (c .pre .recorded) (c .pre .size) (c .pre .inside))
 
--- src/answers.rt:106:9
 crosses-of-requires-2 : tie.Need-crosses-of-requires-2
 crosses-of-requires-2 c κs = (c .before .pre .few, recorded-halves (c .before .pre .recorded) (c .before .pre .size) (c .before .pre .inside))
 
--- src/answers.rt:107:9
 crosses-of-requires-3 : tie.Need-crosses-of-requires-3
 crosses-of-requires-3 c κs = (c .before .before .pre .few, recorded-halves (c .before .before .pre .recorded) (c .before .before .pre .size) (c .before .before .pre .inside))
 
--- src/answers.rt:108:9
 type-of-requires : tie.Need-type-of-requires
 type-of-requires c κs = search needs
 
--- src/answers.rt:109:18
 folds-of-requires : tie.Need-folds-of-requires
 folds-of-requires c κs = (c .before .before .before .before .pre .few, recorded-halves (c .before .before .before .before .pre .recorded) (c .before .before .before .before .pre .size) (c .before .before .before .before .pre .inside))
 
--- src/answers.rt:110:17
 element-copy-out-t14 : tie.Need-element-copy-out-t14
 element-copy-out-t14 c = search needs
 
--- src/answers.rt:110:28
 cast-t15 : tie.Need-cast-t15
 cast-t15 c = search needs
 
--- src/answers.rt:101:1
 returns : tie.Need-returns
 returns c = answer-is (c .before .before .before .before .before .before .pre) _ _ _ (c .before .before .type-of .result) refl refl (ap (λ x. eqb x 0) (c .before .folds-of .ensures)) (c .before .before .type-of .ensures ∙ rw (c .before .before .before .before .before .crosses-of .ensures, c .before .before .before .before .crosses-of2 .ensures, c .before .before .before .crosses-of3 .ensures) refl)
 

@@ -22,35 +22,27 @@ Inv-loop halves n e x₀ k₀ x k = (k ≤ n) × Summed (λ i. one (eqb (edgeOf 
 abbrev μ-loop : tie.MeasureT-loop
 μ-loop halves n e x₀ k₀ x k = n - k
 
--- src/answers.rt:65:5
 loop-holds : tie.Need-loop-holds Inv-loop μ-loop
 loop-holds c = (omega arith, summed-none _)
 
--- src/answers.rt:66:19
 edge-at-requires : tie.Need-edge-at-requires Inv-loop μ-loop
 edge-at-requires c κs = (omega arith, c .before .before .pre .1 (c .before .loop .k) (omega arith))
 
--- src/answers.rt:66:14
 same-requires : tie.Need-same-requires Inv-loop μ-loop
 same-requires c κs = tt
 
--- src/answers.rt:66:9
 add-x : tie.Need-add-x Inv-loop μ-loop
 add-x c = omega (arith, c .before .before .before .loop .inv .1 .few)
 
--- src/answers.rt:67:9
 add-k : tie.Need-add-k Inv-loop μ-loop
 add-k c = omega arith
 
--- src/answers.rt:65:5
 loop-less : tie.Need-loop-less Inv-loop μ-loop
 loop-less c = omega arith
 
--- src/answers.rt:65:5
 loop-again : tie.Need-loop-again Inv-loop μ-loop
 loop-again c = (omega arith, summed-more (c .before .before .before .loop .inv .1) _ (c .same .ensures .0 ∙ ap (λ x. one (eqb x (c .before .before .before .before .args .e))) (c .before .edge-at .ensures)) (c .same .ensures .1))
 
--- src/answers.rt:58:1
 returns : tie.Need-returns Inv-loop μ-loop
 unfolding crossesIn
 returns c = let q : c .before .loop .k ≡ c .before .before .args .n = omega arith in c .before .loop .inv .1 .is ∙ ap (λ m. total (λ i. one (eqb (edgeOf (getD (now (c .before .before .args .halves)) i 0)) (c .before .before .args .e))) m 0) q

@@ -9,19 +9,15 @@ use Rattle.cell.proofs.answers.edge_at.Lts as lts
 use Rattle.cell.proofs.routes.wide8.Reads as wide8-reads
 use Rattle.cell.proofs.tables.edge_of.Reads as edge-of-reads
 
--- src/answers.rt:33:35
 element-copy-out-wide8 : tie.Need-element-copy-out-wide8
 element-copy-out-wide8 c = search needs
 
--- src/answers.rt:33:21
 wide8-requires : tie.Need-wide8-requires
 wide8-requires c κs = search needs
 
--- src/answers.rt:33:5
 edge-of-requires : tie.Need-edge-of-requires
 edge-of-requires c κs = search needs
 
--- src/answers.rt:28:1
 returns : tie.Need-returns
 returns c = c .edge-of .ensures .0 ∙ ap edgeOf (c .before .wide8 .ensures .0)
 

@@ -22,43 +22,33 @@ Inv-loop halves n a₀ f₀ k₀ a f k = (k ≤ n) × Summed (foldAt halves n) k
 abbrev μ-loop : tie.MeasureT-loop
 μ-loop halves n a₀ f₀ k₀ a f k = n - k
 
--- src/answers.rt:43:9
 returns : tie.Need-returns Inv-loop μ-loop
 returns c = sym (folds-none (now (c .before .args .halves)) (c .before .args .n) (omega arith))
 
--- src/answers.rt:45:33
 sub-edge-at : tie.Need-sub-edge-at Inv-loop μ-loop
 sub-edge-at c = omega arith
 
--- src/answers.rt:45:9
 edge-at-requires : tie.Need-edge-at-requires Inv-loop μ-loop
 edge-at-requires c κs = (omega arith, c .before .pre .1 _ (omega arith))
 
--- src/answers.rt:48:5
 loop-holds : tie.Need-loop-holds Inv-loop μ-loop
 loop-holds c = (omega arith, summed-none _, c .edge-at .ensures)
 
--- src/answers.rt:49:13
 edge-at-requires-2 : tie.Need-edge-at-requires-2 Inv-loop μ-loop
 edge-at-requires-2 c κs = (omega arith, c .before .before .before .before .pre .1 (c .before .loop .k) (omega arith))
 
--- src/answers.rt:50:14
 same-requires : tie.Need-same-requires Inv-loop μ-loop
 same-requires c κs = tt
 
--- src/answers.rt:50:9
 add-f : tie.Need-add-f Inv-loop μ-loop
 add-f c = omega (arith, c .before .before .before .loop .inv .1 .few)
 
--- src/answers.rt:52:9
 add-k : tie.Need-add-k Inv-loop μ-loop
 add-k c = omega arith
 
--- src/answers.rt:48:5
 loop-less : tie.Need-loop-less Inv-loop μ-loop
 loop-less c = omega arith
 
--- src/answers.rt:48:5
 loop-again : tie.Need-loop-again Inv-loop μ-loop
 unfolding foldAt
 loop-again c =
@@ -71,7 +61,6 @@ loop-again c =
       c .before .edge-at2 .ensures ∙ ap (λ j. edgeOf (getD hs j 0)) (sym (before-next hs n k)),
     )
 
--- src/answers.rt:37:1
 returns-2 : tie.Need-returns-2 Inv-loop μ-loop
 returns-2 c = folds-all (now (c .before .before .before .before .args .halves)) (c .before .before .before .before .args .n) (c .before .loop .inv .1) (omega arith)
 

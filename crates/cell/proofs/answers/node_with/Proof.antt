@@ -6,29 +6,23 @@ use Rattle.cell.proofs.answers.node_with.Tie as tie
 use Rattle.cell.proofs.answers.node_with.Reads as reads
 use Rattle.cell.proofs.answers.node_with.Lts as lts
 
--- src/answers.rt:72:16
 element-copy-out-result : tie.Need-element-copy-out-result
 element-copy-out-result c = search needs
 
--- src/answers.rt:72:9
 returns : tie.Need-returns
 unfolding nodeWith
 returns c = simp (eq-eqb _ _ (c .before .if1 .taken))
 
--- src/answers.rt:75:16
 element-copy-out-result-2 : tie.Need-element-copy-out-result-2
 element-copy-out-result-2 c = search needs
 
--- src/answers.rt:75:9
 returns-2 : tie.Need-returns-2
 unfolding nodeWith
 returns-2 c = simp (ne-eqb _ _ (c .before .before .if1 .left), eq-eqb _ _ (c .before .if2 .taken))
 
--- src/answers.rt:77:5
 element-copy-out-result-3 : tie.Need-element-copy-out-result-3
 element-copy-out-result-3 c = search needs
 
--- src/answers.rt:68:1
 returns-3 : tie.Need-returns-3
 unfolding nodeWith
 returns-3 c = simp (ne-eqb _ _ (c .before .before .if1 .left), ne-eqb _ _ (c .before .if2 .left))

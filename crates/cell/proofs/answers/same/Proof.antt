@@ -5,11 +5,9 @@ use Rattle.cell.proofs.answers.same.Tie as tie
 use Rattle.cell.proofs.answers.same.Reads as reads
 use Rattle.cell.proofs.answers.same.Lts as lts
 
--- src/answers.rt:20:1
 returns : tie.Need-returns
 returns c = (rw (eq-eqb _ _ (c .if1 .taken)), omega arith)
 
--- src/answers.rt:20:1
 returns-2 : tie.Need-returns-2
 returns-2 c = (rw (ne-eqb _ _ (c .if1 .left)), omega arith)
 

@@ -10,42 +10,33 @@ use Rattle.cell.proofs.answers.type_of.Reads as reads
 use Rattle.cell.proofs.answers.type_of.Lts as lts
 use Rattle.cell.proofs.answers.node_with.Reads as node-with-reads
 
--- src/answers.rt:87:15
 add-sum : tie.Need-add-sum
 add-sum c = search needs
 
--- src/answers.rt:87:15
 add-sum-2 : tie.Need-add-sum-2
 add-sum-2 c = search needs
 
--- src/answers.rt:89:9
 returns : tie.Need-returns
 unfolding typeBy
 returns c = simp (eq-eqb _ _ (c .if1 .taken))
 
--- src/answers.rt:92:35
 node-with-requires : tie.Need-node-with-requires
 node-with-requires c κs = search needs
 
--- src/answers.rt:92:9
 returns-2 : tie.Need-returns-2
 unfolding typeBy
 returns-2 c = simp (ne-eqb _ _ (c .before .before .if1 .left), eq-eqb _ _ (c .before .if2 .taken)) (ap (λ (x : ℕ). 2 ∷ x ∷ []) (c .node-with .ensures))
 
--- src/answers.rt:95:33
 element-copy-out-t16 : tie.Need-element-copy-out-t16
 element-copy-out-t16 c = search needs
 
--- src/answers.rt:95:9
 returns-3 : tie.Need-returns-3
 unfolding typeBy
 returns-3 c = simp (ne-eqb _ _ (c .before .before .before .if1 .left), ne-eqb _ _ (c .before .before .if2 .left), eq-eqb _ _ (c .before .if3 .taken))
 
--- src/answers.rt:97:22
 node-with-requires-2 : tie.Need-node-with-requires-2
 node-with-requires-2 c κs = search needs
 
--- src/answers.rt:81:1
 returns-4 : tie.Need-returns-4
 unfolding typeBy
 returns-4 c = simp (ne-eqb _ _ (c .before .before .before .if1 .left), ne-eqb _ _ (c .before .before .if2 .left), ne-eqb _ _ (c .before .if3 .left)) (ap (λ (x : ℕ). 1 ∷ x ∷ []) (c .node-with2 .ensures))

@@ -6,15 +6,12 @@ use Rattle.cell.proofs.routes.crossings_of.Reads as reads
 use Rattle.cell.proofs.routes.crossings_of.Lts as lts
 use Rattle.cell.proofs.routes.firsts_of.Reads as firsts-of-reads
 
--- src/routes.rt:51:18
 firsts-of-requires : tie.Need-firsts-of-requires
 firsts-of-requires c κs = search needs
 
--- src/routes.rt:52:5
 array-read-result : tie.Need-array-read-result
 array-read-result c = search needs
 
--- src/routes.rt:48:1
 returns : tie.Need-returns
 returns c = (c .firsts-of .ensures .at 6 (omega arith), rw (c .firsts-of .ensures .at 6 (omega arith)) (c .firsts-of .ensures .few))
 

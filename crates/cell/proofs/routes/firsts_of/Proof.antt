@@ -7,75 +7,57 @@ use Rattle.cell.proofs.routes.firsts_of.Reads as reads
 use Rattle.cell.proofs.routes.firsts_of.Lts as lts
 use Rattle.cell.proofs.routes.wide8.Reads as wide8-reads
 
--- src/routes.rt:38:19
 element-copy-out-wide8 : tie.Need-element-copy-out-wide8
 element-copy-out-wide8 c = search needs
 
--- src/routes.rt:38:9
 wide8-requires : tie.Need-wide8-requires
 wide8-requires c κs = search needs
 
--- src/routes.rt:39:23
 element-copy-out-wide8-2 : tie.Need-element-copy-out-wide8-2
 element-copy-out-wide8-2 c = search needs
 
--- src/routes.rt:39:17
 wide8-requires-2 : tie.Need-wide8-requires-2
 wide8-requires-2 c κs = search needs
 
--- src/routes.rt:39:13
 add-b : tie.Need-add-b
 add-b c = search needs
 
--- src/routes.rt:40:23
 element-copy-out-wide8-3 : tie.Need-element-copy-out-wide8-3
 element-copy-out-wide8-3 c = search needs
 
--- src/routes.rt:40:17
 wide8-requires-3 : tie.Need-wide8-requires-3
 wide8-requires-3 c κs = search needs
 
--- src/routes.rt:40:13
 add-d : tie.Need-add-d
 add-d c = search needs
 
--- src/routes.rt:41:23
 element-copy-out-wide8-4 : tie.Need-element-copy-out-wide8-4
 element-copy-out-wide8-4 c = search needs
 
--- src/routes.rt:41:17
 wide8-requires-4 : tie.Need-wide8-requires-4
 wide8-requires-4 c κs = search needs
 
--- src/routes.rt:41:13
 add-e : tie.Need-add-e
 add-e c = search needs
 
--- src/routes.rt:42:23
 element-copy-out-wide8-5 : tie.Need-element-copy-out-wide8-5
 element-copy-out-wide8-5 c = search needs
 
--- src/routes.rt:42:17
 wide8-requires-5 : tie.Need-wide8-requires-5
 wide8-requires-5 c κs = search needs
 
--- src/routes.rt:42:13
 add-f : tie.Need-add-f
 add-f c = search needs
 
--- src/routes.rt:43:23
 element-copy-out-wide8-6 : tie.Need-element-copy-out-wide8-6
 element-copy-out-wide8-6 c = search needs
 
--- src/routes.rt:43:17
 wide8-requires-6 : tie.Need-wide8-requires-6
 wide8-requires-6 c κs = search needs
 
--- src/routes.rt:43:13
 add-g : tie.Need-add-g
 add-g c = search needs
 
--- src/routes.rt:35:1
 returns : tie.Need-returns
 returns c = firsts _ _ _ _ _ _ _ (omega arith) (omega arith) (omega arith) (omega arith) (omega arith) (omega arith) (omega arith)
 

@@ -8,87 +8,66 @@ use Rattle.cell.proofs.routes.put_front.Reads as reads
 use Rattle.cell.proofs.routes.put_front.Lts as lts
 use Rattle.cell.proofs.routes.wide8.Reads as wide8-reads
 
--- src/routes.rt:103:7
 mul-t : tie.Need-mul-t
 mul-t c = search needs
 
--- src/routes.rt:103:5
 mul-t-2 : tie.Need-mul-t-2
 mul-t-2 c = search needs
 
--- src/routes.rt:103:5
 element-write-t : tie.Need-element-write-t
 element-write-t c = search needs
 
--- src/routes.rt:104:7
 mul-t-3 : tie.Need-mul-t-3
 mul-t-3 c = search needs
 
--- src/routes.rt:104:7
 add-t : tie.Need-add-t
 add-t c = search needs
 
--- src/routes.rt:104:5
 mul-t-4 : tie.Need-mul-t-4
 mul-t-4 c = search needs
 
--- src/routes.rt:104:5
 element-write-t-2 : tie.Need-element-write-t-2
 element-write-t-2 c = search needs
 
--- src/routes.rt:105:20
 wide8-requires : tie.Need-wide8-requires
 wide8-requires c κs = search needs
 
--- src/routes.rt:105:7
 mul-t-5 : tie.Need-mul-t-5
 mul-t-5 c = search needs
 
--- src/routes.rt:105:7
 add-t-2 : tie.Need-add-t-2
 add-t-2 c = search needs
 
--- src/routes.rt:105:5
 mul-t-6 : tie.Need-mul-t-6
 mul-t-6 c = search needs
 
--- src/routes.rt:105:5
 element-write-t-3 : tie.Need-element-write-t-3
 element-write-t-3 c = search needs
 
--- src/routes.rt:106:7
 mul-t-7 : tie.Need-mul-t-7
 mul-t-7 c = search needs
 
--- src/routes.rt:106:7
 add-t-3 : tie.Need-add-t-3
 add-t-3 c = search needs
 
--- src/routes.rt:106:5
 mul-t-8 : tie.Need-mul-t-8
 mul-t-8 c = search needs
 
--- src/routes.rt:106:5
 element-write-t-4 : tie.Need-element-write-t-4
 element-write-t-4 c = search needs
 
--- src/routes.rt:107:7
 mul-t-9 : tie.Need-mul-t-9
 mul-t-9 c = search needs
 
--- src/routes.rt:107:7
 add-t-4 : tie.Need-add-t-4
 add-t-4 c = search needs
 
--- src/routes.rt:107:5
 mul-t-10 : tie.Need-mul-t-10
 mul-t-10 c = search needs
 
--- src/routes.rt:107:5
 element-write-t-5 : tie.Need-element-write-t-5
 element-write-t-5 c = search needs
 
--- src/routes.rt:99:1
 returns : tie.Need-returns
 returns c =
     let h = c .before .args .h in

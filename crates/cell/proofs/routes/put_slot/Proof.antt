@@ -9,63 +9,48 @@ use Rattle.cell.proofs.routes.put_front.Reads as put-front-reads
 use Rattle.cell.proofs.routes.wide8.Reads as wide8-reads
 use Rattle.face.proofs.corner_count.Reads as corner-count-reads
 
--- src/routes.rt:116:21
 corner-count-requires : tie.Need-corner-count-requires
 corner-count-requires c κs = search needs
 
--- src/routes.rt:116:9
 wide8-requires : tie.Need-wide8-requires
 wide8-requires c κs = search needs
 
--- src/routes.rt:117:24
 corner-count-requires-2 : tie.Need-corner-count-requires-2
 corner-count-requires-2 c κs = search needs
 
--- src/routes.rt:117:9
 wide8-requires-2 : tie.Need-wide8-requires-2
 wide8-requires-2 c κs = search needs
 
--- src/routes.rt:118:22
 corner-count-requires-3 : tie.Need-corner-count-requires-3
 corner-count-requires-3 c κs = search needs
 
--- src/routes.rt:118:9
 wide8-requires-3 : tie.Need-wide8-requires-3
 wide8-requires-3 c κs = search needs
 
--- src/routes.rt:119:18
 mul-put-front : tie.Need-mul-put-front
 mul-put-front c = search needs
 
--- src/routes.rt:119:5
 put-front-requires : tie.Need-put-front-requires
 put-front-requires c κs = search needs
 
--- src/routes.rt:120:18
 mul-put-front-2 : tie.Need-mul-put-front-2
 mul-put-front-2 c = search needs
 
--- src/routes.rt:120:18
 add-put-front : tie.Need-add-put-front
 add-put-front c = search needs
 
--- src/routes.rt:120:5
 put-front-requires-2 : tie.Need-put-front-requires-2
 put-front-requires-2 c κs = search needs
 
--- src/routes.rt:121:18
 mul-put-front-3 : tie.Need-mul-put-front-3
 mul-put-front-3 c = search needs
 
--- src/routes.rt:121:18
 add-put-front-2 : tie.Need-add-put-front-2
 add-put-front-2 c = search needs
 
--- src/routes.rt:121:5
 put-front-requires-3 : tie.Need-put-front-requires-3
 put-front-requires-3 c κs = search needs
 
--- src/routes.rt:111:1
 returns : tie.Need-returns
 returns c = slot-fronts (c .before .before .before .before .before .before .before .before .before .before .before .before .pre .1) _ _ _ _ _ _ _ (c .before .before .before .before .before .before .before .before .before .before .wide8 .ensures .0 ∙ c .before .before .before .before .before .before .before .before .before .before .before .corner-count .ensures) (c .before .before .before .before .before .before .before .before .wide82 .ensures .0 ∙ c .before .before .before .before .before .before .before .before .before .corner-count2 .ensures) (c .before .before .before .before .before .before .wide83 .ensures .0 ∙ c .before .before .before .before .before .before .before .corner-count3 .ensures) (c .before .before .before .before .put-front .ensures) (c .before .before .put-front2 .ensures) (c .put-front3 .ensures)
 

@@ -10,55 +10,43 @@ use Rattle.cell.proofs.routes.firsts_of.Reads as firsts-of-reads
 use Rattle.cell.proofs.routes.put_slot.Reads as put-slot-reads
 use Rattle.cell.proofs.routes.run_of.Reads as run-of-reads
 
--- src/routes.rt:128:18
 firsts-of-requires : tie.Need-firsts-of-requires
 firsts-of-requires c κs = search needs
 
--- src/routes.rt:129:9
 run-of-requires : tie.Need-run-of-requires
 run-of-requires c κs = search needs
 
--- src/routes.rt:130:9
 run-of-requires-2 : tie.Need-run-of-requires-2
 run-of-requires-2 c κs = search needs
 
--- src/routes.rt:131:9
 run-of-requires-3 : tie.Need-run-of-requires-3
 run-of-requires-3 c κs = search needs
 
--- src/routes.rt:132:9
 run-of-requires-4 : tie.Need-run-of-requires-4
 run-of-requires-4 c κs = search needs
 
--- src/routes.rt:133:9
 run-of-requires-5 : tie.Need-run-of-requires-5
 run-of-requires-5 c κs = search needs
 
--- src/routes.rt:134:9
 run-of-requires-6 : tie.Need-run-of-requires-6
 run-of-requires-6 c κs = search needs
 
--- src/routes.rt:136:5
 put-slot-requires : tie.Need-put-slot-requires
 unfolding slotEdge
 put-slot-requires c κs = (omega arith, record { of-ab = c .before .before .before .before .before .run-of4 .ensures; of-ac = c .before .before .before .run-of5 .ensures; of-bc = c .before .run-of6 .ensures })
 
--- src/routes.rt:137:5
 put-slot-requires-2 : tie.Need-put-slot-requires-2
 unfolding slotEdge
 put-slot-requires-2 c κs = (omega arith, record { of-ab = c .before .before .before .before .before .before .before .before .before .before .before .run-of2 .ensures; of-ac = c .before .before .before .before .before .before .before .before .before .run-of3 .ensures; of-bc = c .before .before .before .run-of6 .ensures })
 
--- src/routes.rt:138:5
 put-slot-requires-3 : tie.Need-put-slot-requires-3
 unfolding slotEdge
 put-slot-requires-3 c κs = (omega arith, record { of-ab = c .before .before .before .before .before .before .before .before .before .before .before .before .before .before .before .run-of .ensures; of-ac = c .before .before .before .before .before .before .before .before .before .before .before .run-of3 .ensures; of-bc = c .before .before .before .before .before .before .before .run-of5 .ensures })
 
--- src/routes.rt:139:5
 put-slot-requires-4 : tie.Need-put-slot-requires-4
 unfolding slotEdge
 put-slot-requires-4 c κs = (omega arith, record { of-ab = c .before .before .before .before .before .before .before .before .before .before .before .before .before .before .before .before .before .run-of .ensures; of-ac = c .before .before .before .before .before .before .before .before .before .before .before .before .before .before .before .run-of2 .ensures; of-bc = c .before .before .before .before .before .before .before .before .before .before .before .run-of4 .ensures })
 
--- src/routes.rt:125:1
 returns : tie.Need-returns
 unfolding linkTable
 returns c =

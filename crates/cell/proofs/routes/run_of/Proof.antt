@@ -9,27 +9,21 @@ use Rattle.cell.proofs.routes.count_of.Reads as count-of-reads
 use Rattle.cell.proofs.routes.start_of.Reads as start-of-reads
 use Rattle.cell.proofs.routes.wide16.Reads as wide16-reads
 
--- src/routes.rt:90:17
 mul-first : tie.Need-mul-first
 mul-first c = search needs
 
--- src/routes.rt:90:17
 element-copy-out-first : tie.Need-element-copy-out-first
 element-copy-out-first c = search needs
 
--- src/routes.rt:92:16
 count-of-requires : tie.Need-count-of-requires
 count-of-requires c κs = search needs
 
--- src/routes.rt:94:23
 start-of-requires : tie.Need-start-of-requires
 start-of-requires c κs = search needs
 
--- src/routes.rt:94:16
 wide16-requires : tie.Need-wide16-requires
 wide16-requires c κs = search needs
 
--- src/routes.rt:85:1
 returns : tie.Need-returns
 returns c = record { count-is = c .before .before .count-of .ensures; first-is = c .before .before .before .before .pre .1 .at (c .before .before .before .before .args .e) (omega (arith, c .before .before .before .before .pre .0)); start-is = c .wide16 .ensures .0 ∙ c .before .start-of .ensures; near = c .wide16 .ensures .1 }
 

@@ -7,99 +7,75 @@ use Rattle.cell.proofs.steps.between.Reads as reads
 use Rattle.cell.proofs.steps.between.Lts as lts
 use Rattle.cell.proofs.steps.onto.Reads as onto-reads
 
--- src/steps.rt:67:20
 mul-g : tie.Need-mul-g
 mul-g c = search needs
 
--- src/steps.rt:67:20
 add-g : tie.Need-add-g
 add-g c = search needs
 
--- src/steps.rt:67:13
 mul-g-2 : tie.Need-mul-g-2
 mul-g-2 c = search needs
 
--- src/steps.rt:67:13
 element-copy-out-g : tie.Need-element-copy-out-g
 element-copy-out-g c = search needs
 
--- src/steps.rt:68:21
 mul-up : tie.Need-mul-up
 mul-up c = search needs
 
--- src/steps.rt:68:21
 add-up : tie.Need-add-up
 add-up c = search needs
 
--- src/steps.rt:68:14
 mul-up-2 : tie.Need-mul-up-2
 mul-up-2 c = search needs
 
--- src/steps.rt:68:14
 element-copy-out-up : tie.Need-element-copy-out-up
 element-copy-out-up c = search needs
 
--- src/steps.rt:68:41
 mul-up-3 : tie.Need-mul-up-3
 mul-up-3 c = search needs
 
--- src/steps.rt:68:41
 add-up-2 : tie.Need-add-up-2
 add-up-2 c = search needs
 
--- src/steps.rt:68:34
 mul-up-4 : tie.Need-mul-up-4
 mul-up-4 c = search needs
 
--- src/steps.rt:68:34
 element-copy-out-up-2 : tie.Need-element-copy-out-up-2
 element-copy-out-up-2 c = search needs
 
--- src/steps.rt:68:14
 sub-up : tie.Need-sub-up
 sub-up c = omega (arith, below-high (c .before .before .before .pre .0) (c .before .before .before .pre .1))
 
--- src/steps.rt:68:14
 sub-up-2 : tie.Need-sub-up-2
 sub-up-2 c = omega (arith, below-high (c .before .before .before .pre .0) (c .before .before .before .pre .1))
 
--- src/steps.rt:70:44
 add-onto : tie.Need-add-onto
 add-onto c = omega (arith, index-small (c .before .before .before .before .pre .0))
 
--- src/steps.rt:70:25
 onto-requires : tie.Need-onto-requires
 onto-requires c κs = (c .before .before .before .before .pre .0 .routed, spot (to-up (c .before .before .before .before .pre .0) (c .before .before .before .before .pre .1) (c .if1 .taken)))
 
--- src/steps.rt:70:9
 returns : tie.Need-returns
 returns c = leads (to-up (c .before .before .before .before .before .pre .0) (c .before .before .before .before .before .pre .1) (c .before .if1 .taken)) (c .onto .ensures)
 
--- src/steps.rt:72:22
 mul-low : tie.Need-mul-low
 mul-low c = search needs
 
--- src/steps.rt:72:15
 mul-low-2 : tie.Need-mul-low-2
 mul-low-2 c = search needs
 
--- src/steps.rt:72:15
 element-copy-out-low : tie.Need-element-copy-out-low
 element-copy-out-low c = search needs
 
--- src/steps.rt:74:9
 returns-2 : tie.Need-returns-2
 returns-2 c = to-end (c .before .before .before .before .before .before .pre .0) (c .before .before .before .before .before .before .pre .1) (c .before .before .if1 .left) (c .if2 .taken)
 
--- src/steps.rt:76:33
 sub-onto : tie.Need-sub-onto
 sub-onto c = down-pos (c .before .before .before .before .before .before .pre .0) (c .before .before .before .before .before .before .pre .1) (c .before .before .if1 .left) (c .if2 .left)
 
--- src/steps.rt:76:14
 onto-requires-2 : tie.Need-onto-requires-2
 onto-requires-2 c κs = (c .before .before .before .before .before .before .pre .0 .routed, spot (to-down (c .before .before .before .before .before .before .pre .0) (c .before .before .before .before .before .before .pre .1) (c .before .before .if1 .left) (c .if2 .left)))
 
--- src/steps.rt:60:1
 returns-3 : tie.Need-returns-3
 returns-3 c = leads (to-down (c .before .before .before .before .before .before .before .pre .0) (c .before .before .before .before .before .before .before .pre .1) (c .before .before .before .if1 .left) (c .before .if2 .left)) (c .onto2 .ensures)
 

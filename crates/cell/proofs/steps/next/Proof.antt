@@ -10,79 +10,60 @@ use Rattle.cell.proofs.steps.between.Reads as between-reads
 use Rattle.cell.proofs.steps.round_high.Reads as round-high-reads
 use Rattle.cell.proofs.steps.round_low.Reads as round-low-reads
 
--- src/steps.rt:88:22
 mul-low : tie.Need-mul-low
 mul-low c = search needs
 
--- src/steps.rt:88:15
 mul-low-2 : tie.Need-mul-low-2
 mul-low-2 c = search needs
 
--- src/steps.rt:88:15
 element-copy-out-low : tie.Need-element-copy-out-low
 element-copy-out-low c = search needs
 
--- src/steps.rt:90:25
 round-low-requires : tie.Need-round-low-requires
 round-low-requires c κs = let a = c .before .before in (a .pre, rw (low-is (a .pre)) at (c .if1 .taken))
 
--- src/steps.rt:90:9
 returns : tie.Need-returns
 returns c = search needs
 
--- src/steps.rt:92:20
 mul-k : tie.Need-mul-k
 mul-k c = search needs
 
--- src/steps.rt:92:20
 add-k : tie.Need-add-k
 add-k c = search needs
 
--- src/steps.rt:92:13
 mul-k-2 : tie.Need-mul-k-2
 mul-k-2 c = search needs
 
--- src/steps.rt:92:13
 element-copy-out-k : tie.Need-element-copy-out-k
 element-copy-out-k c = search needs
 
--- src/steps.rt:92:13
 sub-k : tie.Need-sub-k
 sub-k c = let a = c .before .before .before in omega (arith, count-is (a .pre), a .pre .dart .index-lt)
 
--- src/steps.rt:92:13
 sub-k-2 : tie.Need-sub-k-2
 sub-k-2 c = let a = c .before .before .before in omega (arith, count-is (a .pre), a .pre .dart .index-lt)
 
--- src/steps.rt:93:23
 mul-high : tie.Need-mul-high
 mul-high c = search needs
 
--- src/steps.rt:93:23
 add-high : tie.Need-add-high
 add-high c = search needs
 
--- src/steps.rt:93:16
 mul-high-2 : tie.Need-mul-high-2
 mul-high-2 c = search needs
 
--- src/steps.rt:93:16
 element-copy-out-high : tie.Need-element-copy-out-high
 element-copy-out-high c = search needs
 
--- src/steps.rt:95:25
 round-high-requires : tie.Need-round-high-requires
 round-high-requires c κs = let a = c .before .before .before .before .before in (a .pre, record { is = rw (count-is (a .pre)) refl; below = rw (high-is (a .pre)) at (c .if2 .taken) })
 
--- src/steps.rt:95:9
 returns-2 : tie.Need-returns-2
 returns-2 c = search needs
 
--- src/steps.rt:97:5
 between-requires : tie.Need-between-requires
 between-requires c κs = let a = c .before .before .before .before .before in (a .pre, record { low = rw (low-is (a .pre)) at (c .before .before .before .if1 .left); high = omega (arith, high-is (a .pre), count-is (a .pre), a .pre .dart .index-lt) })
 
--- src/steps.rt:82:1
 returns-3 : tie.Need-returns-3
 returns-3 c = search needs
 

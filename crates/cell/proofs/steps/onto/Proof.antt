@@ -7,27 +7,21 @@ use Rattle.cell.proofs.steps.onto.Tie as tie
 use Rattle.cell.proofs.steps.onto.Reads as reads
 use Rattle.cell.proofs.steps.onto.Lts as lts
 
--- src/steps.rt:18:24
 mul-first : tie.Need-mul-first
 mul-first c = search needs
 
--- src/steps.rt:18:24
 add-first : tie.Need-add-first
 add-first c = search needs
 
--- src/steps.rt:18:17
 mul-first-2 : tie.Need-mul-first-2
 mul-first-2 c = search needs
 
--- src/steps.rt:18:17
 element-copy-out-first : tie.Need-element-copy-out-first
 element-copy-out-first c = search needs
 
--- src/steps.rt:22:17
 add-t6 : tie.Need-add-t6
 add-t6 c = let a = c .before in omega (arith, first-at (a .pre .0) (a .args .g) (a .pre .1 .half-lt), fits (a .pre .0) (a .args .g) (a .pre .1 .half-lt) (a .args .u) (a .pre .1 .index-lt))
 
--- src/steps.rt:13:1
 returns : tie.Need-returns
 returns c = let a = c .before in record { half-is = refl; index-is = refl; number-is = rw (first-at (a .pre .0) (a .args .g) (a .pre .1 .half-lt)) refl }
 

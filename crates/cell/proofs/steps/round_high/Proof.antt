@@ -7,75 +7,57 @@ use Rattle.cell.proofs.steps.round_high.Reads as reads
 use Rattle.cell.proofs.steps.round_high.Lts as lts
 use Rattle.cell.proofs.steps.onto.Reads as onto-reads
 
--- src/steps.rt:50:20
 mul-g : tie.Need-mul-g
 mul-g c = search needs
 
--- src/steps.rt:50:20
 add-g : tie.Need-add-g
 add-g c = search needs
 
--- src/steps.rt:50:13
 mul-g-2 : tie.Need-mul-g-2
 mul-g-2 c = search needs
 
--- src/steps.rt:50:13
 element-copy-out-g : tie.Need-element-copy-out-g
 element-copy-out-g c = search needs
 
--- src/steps.rt:51:24
 mul-place : tie.Need-mul-place
 mul-place c = search needs
 
--- src/steps.rt:51:24
 add-place : tie.Need-add-place
 add-place c = search needs
 
--- src/steps.rt:51:17
 mul-place-2 : tie.Need-mul-place-2
 mul-place-2 c = search needs
 
--- src/steps.rt:51:17
 element-copy-out-place : tie.Need-element-copy-out-place
 element-copy-out-place c = search needs
 
--- src/steps.rt:53:9
 onto-requires : tie.Need-onto-requires
 onto-requires c κs = let a = c .before .before .before in (a .pre .0 .routed, spot (to-high-on (a .pre .0) (a .pre .1) (c .if1 .taken)))
 
--- src/steps.rt:53:9
 returns : tie.Need-returns
 returns c = let a = c .before .before .before .before in leads (to-high-on (a .pre .0) (a .pre .1) (c .before .if1 .taken)) (c .onto .ensures)
 
--- src/steps.rt:55:20
 mul-n : tie.Need-mul-n
 mul-n c = omega (arith, high-next-lt (c .before .before .before .pre .0))
 
--- src/steps.rt:55:20
 add-n : tie.Need-add-n
 add-n c = omega (arith, high-next-lt (c .before .before .before .pre .0))
 
--- src/steps.rt:55:13
 mul-n-2 : tie.Need-mul-n-2
 mul-n-2 c = omega (arith, high-next-lt (c .before .before .before .pre .0))
 
--- src/steps.rt:55:13
 element-copy-out-n : tie.Need-element-copy-out-n
 element-copy-out-n c = omega (arith, high-next-lt (c .before .before .before .pre .0))
 
--- src/steps.rt:56:24
 sub-onto : tie.Need-sub-onto
 sub-onto c = omega (arith, high-room (c .before .before .before .before .pre .0) (c .before .before .before .before .pre .1))
 
--- src/steps.rt:56:24
 sub-onto-2 : tie.Need-sub-onto-2
 sub-onto-2 c = omega (arith, high-room (c .before .before .before .before .pre .0) (c .before .before .before .before .pre .1))
 
--- src/steps.rt:56:5
 onto-requires-2 : tie.Need-onto-requires-2
 onto-requires-2 c κs = let a = c .before .before .before .before in (a .pre .0 .routed, spot (to-high-over (a .pre .0) (a .pre .1) (c .before .if1 .left)))
 
--- src/steps.rt:44:1
 returns-2 : tie.Need-returns-2
 returns-2 c = let a = c .before .before .before .before .before in leads (to-high-over (a .pre .0) (a .pre .1) (c .before .before .if1 .left)) (c .onto2 .ensures)
 

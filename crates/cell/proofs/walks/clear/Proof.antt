@@ -16,31 +16,24 @@ Inv-loop marks₀ n i₀ marks i = (i ≤ n) × (marks ≡ replicate i 65535 ++ 
 abbrev μ-loop : tie.MeasureT-loop
 μ-loop marks₀ n i₀ marks i = n - i
 
--- src/walks.rt:46:5
 loop-holds : tie.Need-loop-holds Inv-loop μ-loop
 loop-holds c = (omega arith, refl, c .pre .1)
 
--- src/walks.rt:47:9
 mul-marks : tie.Need-mul-marks Inv-loop μ-loop
 mul-marks c = omega arith
 
--- src/walks.rt:47:9
 element-write-marks : tie.Need-element-write-marks Inv-loop μ-loop
 element-write-marks c = omega arith
 
--- src/walks.rt:48:9
 add-i : tie.Need-add-i Inv-loop μ-loop
 add-i c = omega arith
 
--- src/walks.rt:46:5
 loop-less : tie.Need-loop-less Inv-loop μ-loop
 loop-less c = omega arith
 
--- src/walks.rt:46:5
 loop-again : tie.Need-loop-again Inv-loop μ-loop
 loop-again c = (omega arith, ap (λ l. set l (c .before .loop .i) 65535) (c .before .loop .inv .1) ∙ front-more (now (c .before .before .args .marks)) (c .before .loop .i) 65535 (omega (arith, c .before .loop .inv .2)), c .before .loop .inv .2)
 
--- src/walks.rt:40:1
 returns : tie.Need-returns Inv-loop μ-loop
 returns c = let e : c .before .loop .i ≡ c .before .before .args .n = omega arith in rw e at (c .before .loop .inv .1)
 

@@ -7,11 +7,9 @@ use Rattle.cell.proofs.walks.first_dart.Reads as reads
 use Rattle.cell.proofs.walks.first_dart.Lts as lts
 use Rattle.cell.proofs.tables.first_of.Reads as first-of-reads
 
--- src/walks.rt:23:15
 first-of-requires : tie.Need-first-of-requires
 first-of-requires c κs = search needs
 
--- src/walks.rt:18:1
 returns : tie.Need-returns
 returns c = starts (c .before .pre) (c .first-of .result) (c .first-of .ensures .0) (c .first-of .ensures .1) _ refl refl refl
 

@@ -17,39 +17,30 @@ Inv-loop c p e₀ left₀ e left = (e ≤ 5) × (pre (countOf c) e + left ≡ p)
 abbrev μ-loop : tie.MeasureT-loop
 μ-loop c p e₀ left₀ e left = 5 - e
 
--- src/walks.rt:36:5
 loop-holds : tie.Need-loop-holds Inv-loop μ-loop
 loop-holds c = (omega arith, search-start _ _)
 
--- src/walks.rt:37:13
 count-at-requires : tie.Need-count-at-requires Inv-loop μ-loop
 count-at-requires c κs = omega arith
 
--- src/walks.rt:39:13
 first-dart-requires : tie.Need-first-dart-requires Inv-loop μ-loop
 first-dart-requires c κs = record { edge-lt = omega arith; index-lt = rw (c .before .count-at .ensures) at (c .if1 .taken); is = c .before .before .before .loop .inv .1 }
 
--- src/walks.rt:39:13
 returns : tie.Need-returns Inv-loop μ-loop
 returns c = c .first-dart .ensures
 
--- src/walks.rt:42:9
 add-e : tie.Need-add-e Inv-loop μ-loop
 add-e c = omega arith
 
--- src/walks.rt:36:5
 loop-less : tie.Need-loop-less Inv-loop μ-loop
 loop-less c = omega arith
 
--- src/walks.rt:36:5
 loop-again : tie.Need-loop-again Inv-loop μ-loop
 loop-again c = (omega arith, rw (c .before .count-at .ensures) (search-on (countOf (c .before .before .before .before .args .c)) (c .before .before .before .loop .e) (c .before .before .before .loop .left) (c .before .before .before .loop .inv .1) (rw (c .before .count-at .ensures) at (c .if1 .left))))
 
--- src/walks.rt:44:5
 first-dart-requires-2 : tie.Need-first-dart-requires-2 Inv-loop μ-loop
 first-dart-requires-2 c κs = search-last _ _ _ (c .before .loop .inv .1) (c .before .before .pre) (omega arith)
 
--- src/walks.rt:30:1
 returns-2 : tie.Need-returns-2 Inv-loop μ-loop
 returns-2 c = c .first-dart2 .ensures
 

@@ -18,131 +18,99 @@ Inv-loop c routes p marks₀ halves₀ points₀ d₀ k₀ marks halves points d
 abbrev μ-loop : tie.MeasureT-loop
 μ-loop c routes p marks₀ halves₀ points₀ d₀ k₀ marks halves points d k = 1530 - k
 
--- src/walks.rt:76:23
 mul-wide16 : tie.Need-mul-wide16 Inv-loop μ-loop
 mul-wide16 c = omega (arith, c .pre .routed .few)
 
--- src/walks.rt:76:23
 element-copy-out-wide16 : tie.Need-element-copy-out-wide16 Inv-loop μ-loop
 element-copy-out-wide16 c = omega (arith, c .pre .routed .few)
 
--- src/walks.rt:76:8
 wide16-requires : tie.Need-wide16-requires Inv-loop μ-loop
 wide16-requires c κs = tt
 
--- src/walks.rt:77:9
 returns : tie.Need-returns Inv-loop μ-loop
 returns c = walked-none (start-met _ _ _ (c .before .before .before .pre .inside) (c .before .before .before .pre .marked) (rw (c .before .wide16 .ensures .0) at (c .if1 .taken))) (c .before .before .before .pre .marked) (c .before .before .before .pre .scratch)
 
--- src/walks.rt:79:9
 start-at-requires : tie.Need-start-at-requires Inv-loop μ-loop
 start-at-requires c κs = c .before .before .before .pre .inside
 
--- src/walks.rt:81:5
 loop-holds : tie.Need-loop-holds Inv-loop μ-loop
 loop-holds c = going-start (c .before .before .before .before .pre .inside) (c .before .before .before .before .pre .marked) (c .before .before .before .before .pre .scratch) (c .start-at .ensures)
 
--- src/walks.rt:83:21
 cast-halves : tie.Need-cast-halves Inv-loop μ-loop
 cast-halves c = omega (arith, c .loop .inv .isDart .half-lt)
 
--- src/walks.rt:83:9
 element-write-halves : tie.Need-element-write-halves Inv-loop μ-loop
 element-write-halves c = omega (arith, going-room (c .before .before .before .before .before .pre .routed) (c .loop .inv))
 
--- src/walks.rt:84:29
 mul-points : tie.Need-mul-points Inv-loop μ-loop
 mul-points c = omega (arith, c .loop .inv .isDart .half-lt)
 
--- src/walks.rt:84:29
 add-points : tie.Need-add-points Inv-loop μ-loop
 add-points c = omega (arith, c .loop .inv .isDart .half-lt)
 
--- src/walks.rt:84:22
 mul-points-2 : tie.Need-mul-points-2 Inv-loop μ-loop
 mul-points-2 c = omega (arith, c .loop .inv .isDart .half-lt)
 
--- src/walks.rt:84:22
 element-copy-out-points : tie.Need-element-copy-out-points Inv-loop μ-loop
 element-copy-out-points c = omega (arith, c .loop .inv .isDart .half-lt)
 
--- src/walks.rt:84:22
 add-points-2 : tie.Need-add-points-2 Inv-loop μ-loop
 add-points-2 c = omega (arith, going-point (c .before .before .before .before .before .before .before .pre .routed) (c .before .before .loop .inv))
 
--- src/walks.rt:84:21
 cast-points : tie.Need-cast-points Inv-loop μ-loop
 cast-points c = omega (arith, going-point (c .before .before .before .before .before .before .before .pre .routed) (c .before .before .loop .inv))
 
--- src/walks.rt:84:9
 mul-points-3 : tie.Need-mul-points-3 Inv-loop μ-loop
 mul-points-3 c = omega (arith, going-room (c .before .before .before .before .before .before .before .pre .routed) (c .before .before .loop .inv))
 
--- src/walks.rt:84:9
 element-write-points : tie.Need-element-write-points Inv-loop μ-loop
 element-write-points c = omega (arith, going-room (c .before .before .before .before .before .before .before .pre .routed) (c .before .before .loop .inv))
 
--- src/walks.rt:85:9
 add-k : tie.Need-add-k Inv-loop μ-loop
 add-k c = omega (arith, going-room (c .before .before .before .before .before .before .before .pre .routed) (c .before .before .loop .inv))
 
--- src/walks.rt:86:27
 next-requires : tie.Need-next-requires Inv-loop μ-loop
 next-requires c κs = going-ready (c .before .before .before .before .before .before .before .pre .routed) (c .before .before .loop .inv)
 
--- src/walks.rt:86:22
 enum-known-e : tie.Need-enum-known-e Inv-loop μ-loop
 enum-known-e c = search needs
 
--- src/walks.rt:87:13
 enum-told : tie.Need-enum-told Inv-loop μ-loop
 enum-told c = search needs
 
--- src/walks.rt:87:13
 returns-2 : tie.Need-returns-2 Inv-loop μ-loop
 returns-2 c = going-end (c .before .before .before .before .before .before .before .before .before .before .pre .routed) (c .before .before .before .before .before .loop .inv) (onward-end _ _ (c .before .before .next .ensures) (c .enum-told .given .1))
 
--- src/walks.rt:91:13
 returns-3 : tie.Need-returns-3 Inv-loop μ-loop
 returns-3 c = going-low (c .before .before .before .before .before .before .before .before .before .before .before .before .pre .routed) (c .before .before .before .before .before .before .before .loop .inv) (onward-on (c .before .before .before .before .next .ensures) (c .before .before .e .given .1)) (c .if2 .taken)
 
--- src/walks.rt:94:13
 returns-4 : tie.Need-returns-4 Inv-loop μ-loop
 returns-4 c = going-home (c .before .before .before .before .before .before .before .before .before .before .before .before .before .pre .routed) (c .before .before .before .before .before .before .before .before .loop .inv) (onward-on (c .before .before .before .before .before .next .ensures) (c .before .before .before .e .given .1)) (c .if3 .taken)
 
--- src/walks.rt:96:27
 mul-wide16-2 : tie.Need-mul-wide16-2 Inv-loop μ-loop
 mul-wide16-2 c = omega (arith, going-lt (c .before .before .before .before .before .before .before .before .before .before .before .before .before .pre .routed) (c .before .before .before .before .before .before .before .before .loop .inv) (onward-on (c .before .before .before .before .before .next .ensures) (c .before .before .before .e .given .1)), (c .before .before .before .before .before .before .before .before .before .before .before .before .before .pre .routed) .few)
 
--- src/walks.rt:96:27
 element-copy-out-wide16-2 : tie.Need-element-copy-out-wide16-2 Inv-loop μ-loop
 element-copy-out-wide16-2 c = omega (arith, going-lt (c .before .before .before .before .before .before .before .before .before .before .before .before .before .pre .routed) (c .before .before .before .before .before .before .before .before .loop .inv) (onward-on (c .before .before .before .before .before .next .ensures) (c .before .before .before .e .given .1)), (c .before .before .before .before .before .before .before .before .before .before .before .before .before .pre .routed) .few)
 
--- src/walks.rt:96:12
 wide16-requires-2 : tie.Need-wide16-requires-2 Inv-loop μ-loop
 wide16-requires-2 c κs = tt
 
--- src/walks.rt:97:13
 returns-5 : tie.Need-returns-5 Inv-loop μ-loop
 returns-5 c = going-met (c .before .before .before .before .before .before .before .before .before .before .before .before .before .before .before .before .pre .routed) (c .before .before .before .before .before .before .before .before .before .before .before .loop .inv) (onward-on (c .before .before .before .before .before .before .before .before .next .ensures) (c .before .before .before .before .before .before .e .given .1)) (rw (c .before .wide162 .ensures .0) at (c .if4 .taken))
 
--- src/walks.rt:99:20
 cast-marks : tie.Need-cast-marks Inv-loop μ-loop
 cast-marks c = omega (arith, c .before .before .before .before .before .before .before .before .before .before .before .before .before .before .before .before .pre .inside, (c .before .before .before .before .before .before .before .before .before .before .before .before .before .before .before .before .pre .routed) .few)
 
--- src/walks.rt:99:9
 mul-marks : tie.Need-mul-marks Inv-loop μ-loop
 mul-marks c = omega (arith, going-lt (c .before .before .before .before .before .before .before .before .before .before .before .before .before .before .before .before .pre .routed) (c .before .before .before .before .before .before .before .before .before .before .before .loop .inv) (onward-on (c .before .before .before .before .before .before .before .before .next .ensures) (c .before .before .before .before .before .before .e .given .1)), (c .before .before .before .before .before .before .before .before .before .before .before .before .before .before .before .before .pre .routed) .few)
 
--- src/walks.rt:99:9
 element-write-marks : tie.Need-element-write-marks Inv-loop μ-loop
 element-write-marks c = omega (arith, going-lt (c .before .before .before .before .before .before .before .before .before .before .before .before .before .before .before .before .pre .routed) (c .before .before .before .before .before .before .before .before .before .before .before .loop .inv) (onward-on (c .before .before .before .before .before .before .before .before .next .ensures) (c .before .before .before .before .before .before .e .given .1)), (c .before .before .before .before .before .before .before .before .before .before .before .before .before .before .before .before .pre .routed) .few)
 
--- src/walks.rt:81:5
 loop-less : tie.Need-loop-less Inv-loop μ-loop
 loop-less c = omega (arith, going-room (c .before .before .before .before .before .before .before .before .before .before .before .before .before .before .before .before .pre .routed) (c .before .before .before .before .before .before .before .before .before .before .before .loop .inv))
 
--- src/walks.rt:81:5
 loop-again : tie.Need-loop-again Inv-loop μ-loop
 loop-again c = going-on (c .before .before .before .before .before .before .before .before .before .before .before .before .before .before .before .before .pre .routed) (c .before .before .before .before .before .before .before .before .before .before .before .loop .inv) (onward-on (c .before .before .before .before .before .before .before .before .next .ensures) (c .before .before .before .before .before .before .e .given .1)) (omega arith)
 

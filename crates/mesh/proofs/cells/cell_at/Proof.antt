@@ -9,27 +9,21 @@ use Rattle.mesh.proofs.cells.four_of.Reads as four-of-reads
 use Rattle.mesh.proofs.cells.index_of.Reads as index-of-reads
 use Rattle.mesh.proofs.cells.starts_of.Reads as starts-of-reads
 
--- src/cells.rt:93:9
 counts-of-requires : tie.Need-counts-of-requires
 counts-of-requires c κs = search needs
 
--- src/cells.rt:94:9
 starts-of-requires : tie.Need-starts-of-requires
 starts-of-requires c κs = search needs
 
--- src/cells.rt:95:9
 four-of-requires : tie.Need-four-of-requires
 four-of-requires c κs = search needs
 
--- src/cells.rt:96:9
 four-of-requires-2 : tie.Need-four-of-requires-2
 four-of-requires-2 c κs = search needs
 
--- src/cells.rt:102:16
 index-of-requires : tie.Need-index-of-requires
 index-of-requires c κs = search needs
 
--- src/cells.rt:82:1
 returns : tie.Need-returns
 unfolding tableCell
 returns c =

@@ -5,23 +5,18 @@ use Rattle.mesh.proofs.cells.count_at.Reads as reads
 use Rattle.mesh.proofs.cells.count_at.Lts as lts
 use Rattle.mesh.proofs.cells.wide.Reads as wide-reads
 
--- src/cells.rt:26:18
 mul-wide : tie.Need-mul-wide
 mul-wide c = search needs
 
--- src/cells.rt:26:18
 element-copy-out-wide : tie.Need-element-copy-out-wide
 element-copy-out-wide c = search needs
 
--- src/cells.rt:26:9
 wide-requires : tie.Need-wide-requires
 wide-requires c κs = search needs
 
--- src/cells.rt:27:5
 shared-slice-read-result : tie.Need-shared-slice-read-result
 shared-slice-read-result c = search needs
 
--- src/cells.rt:22:1
 returns : tie.Need-returns
 returns c = cc
 

@@ -10,55 +10,42 @@ use Rattle.mesh.proofs.cells.counts_of.Reads as reads
 use Rattle.mesh.proofs.cells.counts_of.Lts as lts
 use Rattle.mesh.proofs.cells.count_at.Reads as count-at-reads
 
--- src/cells.rt:42:13
 mul-i : tie.Need-mul-i
 mul-i c = search needs
 
--- src/cells.rt:43:9
 count-at-requires : tie.Need-count-at-requires
 count-at-requires c κs = let e : 6 * c .before .args .c + 0 ≡ 6 * c .before .args .c = omega arith in (omega (arith, c .before .pre .cell), rw e at (c .before .pre .edge 0 (omega arith)))
 
--- src/cells.rt:44:38
 add-count-at : tie.Need-add-count-at
 add-count-at c = search needs
 
--- src/cells.rt:44:9
 count-at-requires-2 : tie.Need-count-at-requires-2
 count-at-requires-2 c κs = (omega (arith, c .before .before .pre .cell), c .before .before .pre .edge 1 (omega arith))
 
--- src/cells.rt:45:38
 add-count-at-2 : tie.Need-add-count-at-2
 add-count-at-2 c = search needs
 
--- src/cells.rt:45:9
 count-at-requires-3 : tie.Need-count-at-requires-3
 count-at-requires-3 c κs = (omega (arith, c .before .before .before .pre .cell), c .before .before .before .pre .edge 2 (omega arith))
 
--- src/cells.rt:46:38
 add-count-at-3 : tie.Need-add-count-at-3
 add-count-at-3 c = search needs
 
--- src/cells.rt:46:9
 count-at-requires-4 : tie.Need-count-at-requires-4
 count-at-requires-4 c κs = (omega (arith, c .before .before .before .before .pre .cell), c .before .before .before .before .pre .edge 3 (omega arith))
 
--- src/cells.rt:47:38
 add-count-at-4 : tie.Need-add-count-at-4
 add-count-at-4 c = search needs
 
--- src/cells.rt:47:9
 count-at-requires-5 : tie.Need-count-at-requires-5
 count-at-requires-5 c κs = (omega (arith, c .before .before .before .before .before .pre .cell), c .before .before .before .before .before .pre .edge 4 (omega arith))
 
--- src/cells.rt:48:38
 add-count-at-5 : tie.Need-add-count-at-5
 add-count-at-5 c = search needs
 
--- src/cells.rt:48:9
 count-at-requires-6 : tie.Need-count-at-requires-6
 count-at-requires-6 c κs = (omega (arith, c .before .before .before .before .before .before .pre .cell), c .before .before .before .before .before .before .pre .edge 5 (omega arith))
 
--- src/cells.rt:38:1
 returns : tie.Need-returns
 unfolding over
 returns c =

@@ -6,55 +6,42 @@ use Rattle.mesh.proofs.cells.four_of.Tie as tie
 use Rattle.mesh.proofs.cells.four_of.Reads as reads
 use Rattle.mesh.proofs.cells.four_of.Lts as lts
 
--- src/cells.rt:62:13
 mul-i : tie.Need-mul-i
 mul-i c = search needs
 
--- src/cells.rt:63:6
 mul-t4 : tie.Need-mul-t4
 mul-t4 c = search needs
 
--- src/cells.rt:63:6
 shared-slice-read-t6 : tie.Need-shared-slice-read-t6
 shared-slice-read-t6 c = search needs
 
--- src/cells.rt:63:20
 add-t7 : tie.Need-add-t7
 add-t7 c = search needs
 
--- src/cells.rt:63:15
 mul-t8 : tie.Need-mul-t8
 mul-t8 c = search needs
 
--- src/cells.rt:63:15
 shared-slice-read-t10 : tie.Need-shared-slice-read-t10
 shared-slice-read-t10 c = search needs
 
--- src/cells.rt:63:33
 add-t11 : tie.Need-add-t11
 add-t11 c = search needs
 
--- src/cells.rt:63:28
 mul-t12 : tie.Need-mul-t12
 mul-t12 c = search needs
 
--- src/cells.rt:63:28
 shared-slice-read-t14 : tie.Need-shared-slice-read-t14
 shared-slice-read-t14 c = search needs
 
--- src/cells.rt:63:46
 add-t15 : tie.Need-add-t15
 add-t15 c = search needs
 
--- src/cells.rt:63:41
 mul-t16 : tie.Need-mul-t16
 mul-t16 c = search needs
 
--- src/cells.rt:63:41
 shared-slice-read-t18 : tie.Need-shared-slice-read-t18
 shared-slice-read-t18 c = search needs
 
--- src/cells.rt:58:1
 returns : tie.Need-returns
 unfolding over
 returns c = simp add-zero

@@ -10,55 +10,42 @@ use Rattle.mesh.proofs.cells.starts_of.Reads as reads
 use Rattle.mesh.proofs.cells.starts_of.Lts as lts
 use Rattle.mesh.proofs.cells.start_at.Reads as start-at-reads
 
--- src/cells.rt:56:13
 mul-i : tie.Need-mul-i
 mul-i c = search needs
 
--- src/cells.rt:57:9
 start-at-requires : tie.Need-start-at-requires
 start-at-requires c κs = let e : 6 * c .args .c + 0 ≡ 6 * c .args .c = omega arith in (omega (arith, c .pre .edged .cell), rw e at (c .pre .edged .edge 0 (omega arith)), rw e at (c .pre .start 0 (omega arith)))
 
--- src/cells.rt:58:38
 add-start-at : tie.Need-add-start-at
 add-start-at c = search needs
 
--- src/cells.rt:58:9
 start-at-requires-2 : tie.Need-start-at-requires-2
 start-at-requires-2 c κs = (omega (arith, c .before .pre .edged .cell), c .before .pre .edged .edge 1 (omega arith), c .before .pre .start 1 (omega arith))
 
--- src/cells.rt:59:38
 add-start-at-2 : tie.Need-add-start-at-2
 add-start-at-2 c = search needs
 
--- src/cells.rt:59:9
 start-at-requires-3 : tie.Need-start-at-requires-3
 start-at-requires-3 c κs = (omega (arith, c .before .before .pre .edged .cell), c .before .before .pre .edged .edge 2 (omega arith), c .before .before .pre .start 2 (omega arith))
 
--- src/cells.rt:60:38
 add-start-at-3 : tie.Need-add-start-at-3
 add-start-at-3 c = search needs
 
--- src/cells.rt:60:9
 start-at-requires-4 : tie.Need-start-at-requires-4
 start-at-requires-4 c κs = (omega (arith, c .before .before .before .pre .edged .cell), c .before .before .before .pre .edged .edge 3 (omega arith), c .before .before .before .pre .start 3 (omega arith))
 
--- src/cells.rt:61:38
 add-start-at-4 : tie.Need-add-start-at-4
 add-start-at-4 c = search needs
 
--- src/cells.rt:61:9
 start-at-requires-5 : tie.Need-start-at-requires-5
 start-at-requires-5 c κs = (omega (arith, c .before .before .before .before .pre .edged .cell), c .before .before .before .before .pre .edged .edge 4 (omega arith), c .before .before .before .before .pre .start 4 (omega arith))
 
--- src/cells.rt:62:38
 add-start-at-5 : tie.Need-add-start-at-5
 add-start-at-5 c = search needs
 
--- src/cells.rt:62:9
 start-at-requires-6 : tie.Need-start-at-requires-6
 start-at-requires-6 c κs = (omega (arith, c .before .before .before .before .before .pre .edged .cell), c .before .before .before .before .before .pre .edged .edge 5 (omega arith), c .before .before .before .before .before .pre .start 5 (omega arith))
 
--- src/cells.rt:52:1
 returns : tie.Need-returns
 unfolding over
 returns c =

@@ -19,31 +19,24 @@ Inv-loop cells counts names sides starts marks₀ halves₀ points₀ n t₀ c�
 abbrev μ-loop : tie.MeasureT-loop
 μ-loop cells counts names sides starts marks₀ halves₀ points₀ n t₀ c₀ marks halves points t c = n - c
 
--- src/meshing.rt:29:5
 loop-holds : tie.Need-loop-holds Inv-loop μ-loop
 loop-holds c = (counting-none _ _ (record { marks-long = refl; halves-long = refl; points-long = refl }), refl)
 
--- src/meshing.rt:30:13
 cell-at-requires : tie.Need-cell-at-requires Inv-loop μ-loop
 cell-at-requires c κs = c .before .before .before .before .pre .reaches (c .before .loop .c) (omega (arith, c .before .loop .inv .1))
 
--- src/meshing.rt:31:14
 count-in-requires : tie.Need-count-in-requires Inv-loop μ-loop
 count-in-requires c κs = c .before .before .before .before .before .loop .inv .0 .scratch
 
--- src/meshing.rt:31:9
 add-t : tie.Need-add-t Inv-loop μ-loop
 add-t c = omega (arith, c .count-in .ensures .few, c .before .before .before .before .before .before .loop .inv .0 .few, c .before .before .before .before .before .before .loop .inv .0 .up, c .before .before .before .before .before .before .before .before .before .pre .few)
 
--- src/meshing.rt:32:9
 add-c : tie.Need-add-c Inv-loop μ-loop
 add-c c = omega (arith, c .before .before .before .before .before .before .loop .inv .0 .up)
 
--- src/meshing.rt:29:5
 loop-less : tie.Need-loop-less Inv-loop μ-loop
 loop-less c = omega arith
 
--- src/meshing.rt:29:5
 loop-again : tie.Need-loop-again Inv-loop μ-loop
 loop-again c = (
   counting-more (c .before .before .before .before .before .before .loop .inv .0) (omega (arith, c .before .before .before .before .before .before .loop .inv .1)) _ (c .count-in .ensures .is ∙ ap (λ v. length (cellTriangles v)) (c .before .before .before .before .cell-at .ensures))
@@ -51,7 +44,6 @@ loop-again c = (
   c .before .before .before .before .before .before .loop .inv .1,
 )
 
--- src/meshing.rt:12:1
 returns : tie.Need-returns Inv-loop μ-loop
 unfolding tableTriangles
 returns c =

@@ -22,15 +22,12 @@ abbrev μ-loop : tie.MeasureT-loop
 μ-loop cells counts names sides starts area₀ marks₀ halves₀ points₀ n i₀ c₀ area marks halves points i c =
     n - c
 
--- src/meshing.rt:57:5
 loop-holds : tie.Need-loop-holds Inv-loop μ-loop
 loop-holds c = (writing-none _ _ _ (record { marks-long = refl; halves-long = refl; points-long = refl }), refl)
 
--- src/meshing.rt:58:13
 cell-at-requires : tie.Need-cell-at-requires Inv-loop μ-loop
 cell-at-requires c κs = c .before .before .before .before .before .pre .0 .reaches (c .before .loop .c) (omega (arith, c .before .loop .inv .1))
 
--- src/meshing.rt:59:9
 write-in-requires : tie.Need-write-in-requires Inv-loop μ-loop
 unfolding tableTriangles
 write-in-requires c κs = (
@@ -38,15 +35,12 @@ write-in-requires c κs = (
   rw (c .before .before .before .before .cell-at .ensures) (writing-room (c .before .before .before .before .before .before .loop .inv .0) (omega (arith, c .before .before .before .before .before .before .loop .inv .1)) (c .before .before .before .before .before .before .before .before .before .before .pre .1)),
 )
 
--- src/meshing.rt:67:9
 add-c : tie.Need-add-c Inv-loop μ-loop
 add-c c = omega (arith, c .before .before .before .before .before .before .before .before .before .loop .inv .0 .up)
 
--- src/meshing.rt:57:5
 loop-less : tie.Need-loop-less Inv-loop μ-loop
 loop-less c = omega arith
 
--- src/meshing.rt:57:5
 loop-again : tie.Need-loop-again Inv-loop μ-loop
 loop-again c = (
   writing-more (c .before .before .before .before .before .before .before .before .before .loop .inv .0) (omega (arith, c .before .before .before .before .before .before .before .before .before .loop .inv .1)) _ _
@@ -56,11 +50,9 @@ loop-again c = (
   c .before .before .before .before .before .before .before .before .before .loop .inv .1,
 )
 
--- src/meshing.rt:38:1
 same-length : tie.Need-same-length Inv-loop μ-loop
 same-length c = c .before .loop .inv .0 .same
 
--- src/meshing.rt:38:1
 returns : tie.Need-returns Inv-loop μ-loop
 unfolding tableTriangles
 returns c = writing-all (c .before .loop .inv .0) (omega (arith, c .before .loop .inv .1))
