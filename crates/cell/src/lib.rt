@@ -59,7 +59,7 @@ enum Next {
     End,
 }
 
-// Loop k of the cell, or that there are k or fewer. The walks' marks and records stand on the stack: 11 kB.
+// Loop k of the cell, or that there are k or fewer. The walks' marks and records stand on the stack: 11 KB.
 pub fn loop_at(c: Cell, k: usize) -> Loop
     ensures { λ r. ⌜ loopNumbers r ≡ loopAnswer (countOf c) (startOf c) (c .nodes) k ⌝ }
 {
