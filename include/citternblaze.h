@@ -3,9 +3,10 @@
  *
  * A list or an area is a pointer and the number of its elements. The caller
  * lends it for the length of the call: no call keeps a pointer, reads or writes
- * anything outside of what it is lent, or uses the heap. The pointer may be NULL
- * where the number of elements is 0, and is aligned for its elements else. An
- * area that a call writes overlaps nothing else that is lent to that call.
+ * the caller's memory outside of what it is lent, or uses the heap. The pointer
+ * may be NULL where the number of elements is 0; otherwise it must be aligned for
+ * its elements. An area that a call writes must overlap nothing else that is lent
+ * to that call.
  *
  * Every call has an area `answer` for the numbers of its answer. It puts them at
  * the front of the area, keeps what stands behind them, and returns how many

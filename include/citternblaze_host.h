@@ -1,7 +1,7 @@
 /* What a C program can ask about the bytes of a bundle: the crate `host`, built by `rt staticlib host` into libhost.a.
  *
- * Each function takes the bytes and their number, reads nothing past them, writes nothing and keeps nothing. `bytes` may be NULL where
- * `length` is 0. An input may have any length. A call walks over the records once.
+ * Each function takes the bytes and their number. It reads nothing outside of them, writes nothing that is the caller's, and keeps no pointer.
+ * `bytes` may be NULL where `length` is 0. An input may have any length. A call goes over the records once.
  */
 #ifndef CITTERNBLAZE_HOST_H
 #define CITTERNBLAZE_HOST_H
