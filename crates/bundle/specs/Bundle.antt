@@ -104,7 +104,7 @@ writtenOver new old = new ++ drop (length new) old
 abbrev pub leaves : Bool → List ℕ → List ℕ → List ℕ
 leaves taken new old = pick taken (writtenOver new old) old
 
--- the enum's cases as the paper's numbers
+-- the enum's cases as document 01's numbers
 abbrev pub contentsNumbers : Contents → List ℕ
 contentsNumbers (Lists cells edges) = result (cells ∷ edges ∷ [])
 contentsNumbers (Refused number place) = refusal number place

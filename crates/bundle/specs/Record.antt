@@ -87,7 +87,7 @@ bodySize s at = pick (isRecord s at) (nextAt s at - (at + headBytes)) 0
 unfoldable pub body : List ℕ → ℕ → List ℕ
 body s at = take (bodySize s at) (drop (bodyStart s at) s)
 
--- the enum's cases as the paper's numbers
+-- the enum's cases as document 01's numbers
 abbrev pub recordNumbers : Record → List ℕ
 recordNumbers (Whole kind next) = result (kind ∷ next ∷ [])
 recordNumbers (Refused number place) = refusal number place

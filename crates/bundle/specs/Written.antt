@@ -71,7 +71,7 @@ writeAnswer nodes ends counts area =
     (refusal shortRow (min (length (bundleBytes nodes ends counts)) mostNamed)))
     (refusal brokenRow 0)
 
--- the enum's cases as the paper's numbers
+-- the enum's cases as document 01's numbers
 abbrev pub writtenNumbers : Written → List ℕ
 writtenNumbers (Bytes number) = result (number ∷ [])
 writtenNumbers Unformed = refusal brokenRow 0

@@ -11,27 +11,27 @@ use Rattle.counting.specs.Reach.{reach}
 use Rattle.slots.specs.Slots.{contains}
 use Rattle.grid.specs.Grid.{highestNode, mostCells, mostCrossings, cellCount, node, hasFace, low, high, isEdge, hasEdge, crossings}
 
--- 1: cell numbers not 4 to a cell, or 0 or over 2,048 cells
+-- 1: the list of nodes is not one of whole cells, or has no cell or more than 2,048
 unfoldable pub badLength : List ℕ → Bool
 badLength cells = not (eqb (length cells % 4) 0) || (eqb (length cells) 0 || ltb mostCells (cellCount cells))
 
--- 2: edge numbers not 2 to a count
+-- 2: the list of ends does not have two for each count
 unfoldable pub badPairs : List ℕ → List ℕ → Bool
 badPairs edges counts = not (eqb (length edges) (2 * length counts))
 
 module _ (cells : List ℕ) where
-  -- 3: node over 4,095, or cell not increasing
+  -- 3: a node of the cell is above 4,095, or its nodes do not rise
   unfoldable pub badCell : ℕ → Bool
   badCell c = some (λ i. ltb highestNode (node cells c i)) 4 || some (λ i. leb (node cells c (i + 1)) (node cells c i)) 3
 
-  -- 4: cell equals an earlier one
+  -- 4: an earlier cell is the same
   unfoldable pub sameCell : ℕ → ℕ → Bool
   sameCell d c = every (λ i. eqb (node cells d i) (node cells c i)) 4
 
   unfoldable pub repeats : ℕ → Bool
   repeats c = some (λ d. sameCell d c) c
 
-  -- 5: face in a third cell, which is a cell with a face that two earlier ones have
+  -- 5: two earlier cells have a face of the cell
   unfoldable pub third : ℕ → Bool
   third c = some (λ s. ltb 1 (count (hasFace cells c s) c)) 4
 
@@ -40,20 +40,20 @@ module _ (edges : List ℕ) where
   unfoldable pub after : ℕ → ℕ → Bool
   after d e = pick (eqb (low edges d) (low edges e)) (ltb (high edges d) (high edges e)) (ltb (low edges d) (low edges e))
 
-  -- 6: edge not u < v, or not after the one before it
+  -- 6: the ends of the edge do not rise, or it is not after its predecessor
   unfoldable pub badEdge : ℕ → Bool
   badEdge e = not (ltb (low edges e) (high edges e)) || (ltb 0 e && not (after (e - 1) e))
 
 module _ (cells edges : List ℕ) where
-  -- 7: cell's edge not listed, among n edges
+  -- 7: an edge of the cell is not among the n listed
   unfoldable pub unlisted : ℕ → ℕ → Bool
   unlisted n c = some (λ k. not (some (isEdge cells edges c k) n)) 6
 
-  -- 8: listed edge in no cell
+  -- 8: no cell has the edge
   unfoldable pub unused : ℕ → Bool
   unused e = not (some (hasEdge cells edges e) (cellCount cells))
 
-  -- 9: the cells of an edge not all linked through faces that contain it
+  -- 9: faces that contain the edge do not link all of its cells
   -- cell d has a face of cell c that contains edge e
   unfoldable pub linked : ℕ → ℕ → ℕ → Bool
   linked e c d = some (λ k. isEdge cells edges c k e && some (λ s. contains k s && hasFace cells c s d) 4) 6
@@ -65,7 +65,7 @@ module _ (cells edges : List ℕ) where
   unfoldable pub split : ℕ → Bool
   split e = some (λ c. hasEdge cells edges e c && not (joined e c)) (cellCount cells)
 
--- 10: over 65,535 crossings
+-- 10: there are more than 65,535 crossings
 unfoldable pub tooMany : List ℕ → Bool
 tooMany counts = ltb mostCrossings (crossings counts)
 

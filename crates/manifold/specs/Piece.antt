@@ -1,4 +1,4 @@
--- A piece of a complex: a cell, or what a cell is split into. It knows nothing of the others but the names of its crossings and faces.
+-- A piece of a complex, as a cell of a grid is one. What it shares with other pieces goes by the names of its crossings and faces.
 use Prim.Native.Nat.{ℕ, _*_, _/_, _<_, min}
 use mathlib.Core.Path.{_≡_}
 use Rattle.walk.specs.Iterate.{it}

@@ -23,7 +23,7 @@ highest (v ∷ l) = max v (highest l)
 abbrev pub nodeEnd : List ℕ → ℕ
 nodeEnd cells = highest cells + 1
 
--- 15: node places fewer than 3 × (highest node + 1), fractions not one a crossing, or an area of `room` numbers short for the points
+-- 15: there are not three numbers for each node up to the highest, not as many fractions as crossings, or not three of `room` numbers for each point
 unfoldable pub badLists : (cells counts : List ℕ) (nodes fractions : List Float) (needed room : ℕ) → Bool
 badLists cells counts nodes fractions needed room =
     ltb (length nodes) (coordinates * nodeEnd cells) || (not (eqb (length fractions) (crossings counts)) || ltb room (coordinates * needed))
@@ -32,7 +32,7 @@ badLists cells counts nodes fractions needed room =
 unfoldable pub badNumber : (cells : List ℕ) (nodes : List Float) → ℕ → Bool
 badNumber cells nodes i = hasNode cells (i / coordinates) && not (within (getD nodes i nan))
 
--- 17: a fraction is not above 0 and below 1, or, where its index is not 0, not above the one before
+-- 17: the fraction does not lie between 0 and 1, ends left out, or where its index is not 0, the one before is not below it
 unfoldable pub badFractionAt : (fractions : List Float) (g index : ℕ) → Bool
 badFractionAt fractions g index =
     not (properFraction (getD fractions g nan)) || (ltb 0 index && not (lt (getD fractions (g - 1) nan) (getD fractions g nan)))

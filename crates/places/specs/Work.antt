@@ -76,7 +76,7 @@ pub record Meanable (list : List Float) (points : List ℕ) (n : ℕ) : Type 0 w
   pub few : n ≤ route.mostCrossings
   pub placed : (k : ℕ) → k < n → coordinates * getD points k 0 + coordinates ≤ length list
 
--- FANS
+-- FANS: the fans among recorded loops and cells, and the room for their middles
 
 -- a recorded loop of n is drawn as a fan
 abbrev pub tracedFan : List ℕ → ℕ → Bool
