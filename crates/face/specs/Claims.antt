@@ -32,7 +32,7 @@ pub record FaceLaws (ab ac bc : ℕ) : Type 0 where
   pub not-both : (e t e′ t′ : ℕ) → Segment ab ac bc e t e′ t′ → faceJoin ab ac bc e t ≡ unjoined → ⊥
   -- an even sum leaves no crossing unjoined
   pub even : (ab + ac + bc) % 2 ≡ 0 → (e t : ℕ) → faceJoin ab ac bc e t ≡ unjoined → ⊥
-  -- the counts sum to twice the segments plus the unjoined crossings
+  -- the crossings are the two ends of each segment and those that are unjoined
   pub sum : ab + ac + bc ≡ 2 * segments ab ac bc + unjoinedCount ab ac bc
   -- the unjoined crossings: none for an even sum, three in rule 2, and in rule 3 one if r is odd, else none
   pub unjoined-even : (ab + ac + bc) % 2 ≡ 0 → unjoinedCount ab ac bc ≡ 0

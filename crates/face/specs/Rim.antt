@@ -6,7 +6,7 @@ use lib.Dec.{eqb}
 use Rattle.counting.specs.Pick.{pick}
 use Rattle.face.specs.Face.{joined, faceJoin}
 
--- a walk meets an end of a first segment, of a second, of the first and of the second, in that order, at the places p < q < r < s;
+-- a walk meets ends of two segments in turn, at the places p < q < r < s: p and r are ends of the first, q and s of the second;
 -- a segment is given by the places of its ends
 pub record Meets (first second : ℕ → Type 0) : Type 0 where
   pub p : ℕ

@@ -55,7 +55,7 @@ fn bad_edge(edges: &[u16], e: usize) -> bool
     edge_key(edges, e) <= edge_key(edges, e - 1)
 }
 
-// The lowest edge not u < v, or not after the one before it; the number of edges where there is none.
+// The lowest edge whose ends do not rise, or that is not after its predecessor; the number of edges where there is none.
 pub(crate) fn row_6(edges: &[u16], counts: &[u8]) -> usize
     requires { ⌜ length (now edges) ≡ 2 * length (now counts) ⌝ }
     ensures { λ r. ⌜ r ≡ first (badEdge (now (edges .entry))) (length (now (counts .entry))) ⌝ }
