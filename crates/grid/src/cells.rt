@@ -190,7 +190,7 @@ fn pair(keys: &[usize], next: &[u16], n: usize, near: &mut [u16]) -> usize
 }
 
 // The lowest cell with a face of two earlier ones; the number of cells where there is none, and then near has the neighbours.
-// Keeps 97 KB on the stack.
+// Keeps 96 KB on the stack.
 pub(crate) fn row_5(cells: &[u16], near: &mut [u16]) -> usize
     requires { ⌜ Ordered (now cells) ⌝ }
     requires { ⌜ now near ≡ replicate (4 * mostCells) 0 ⌝ }

@@ -44,7 +44,7 @@ fn draw(
     Meshed::Triangles(n as u32)
 }
 
-// The mesh call. Keeps 112 KB on the stack for the grid's tables, besides what `grid::open` keeps.
+// The mesh call. Keeps 104 KB on the stack for the grid's tables, besides what `grid::open` keeps.
 pub fn mesh(cells: &[u16], edges: &[u16], counts: &[u8], area: &mut [u32]) -> Meshed
     ensures { λ r. ⌜ Done (now (cells .entry)) (now (edges .entry)) (now (counts .entry)) (now (area .entry)) (now (area .exit)) (meshNumbers r) ⌝ }
 {
@@ -86,7 +86,7 @@ fn loop_of(
     Looped::Refused(11, c)
 }
 
-// The loops call: loop k of cell c. Keeps 112 KB on the stack for the grid's tables, besides what `grid::open` keeps.
+// The loops call: loop k of cell c. Keeps 104 KB on the stack for the grid's tables, besides what `grid::open` keeps.
 pub fn loops(cells: &[u16], edges: &[u16], counts: &[u8], c: usize, k: usize) -> Looped
     ensures { λ r. ⌜ loopsNumbers r ≡ loopsAnswer (now (cells .entry)) (now (edges .entry)) (now (counts .entry)) c k ⌝ }
 {

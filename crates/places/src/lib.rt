@@ -124,7 +124,7 @@ fn place_all(
     r
 }
 
-// The places call. Keeps 112 KB on the stack for the grid's tables, besides what `grid::open` keeps while it runs; measured, about 357 KB in all.
+// The places call. Keeps 104 KB on the stack for the grid's tables, besides what `grid::open` keeps while it runs; measured, about 357 KB in all.
 pub fn places(
     cells: &[u16],
     edges: &[u16],
