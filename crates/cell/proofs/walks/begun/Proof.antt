@@ -1,0 +1,14 @@
+-- `cell::walks::begun` meets its contract.
+use native.Mathlib.Omega.{arith}
+use borrow.Author.Tests.{le-leb, lt-leb}
+use Rattle.cell.proofs.walks.begun.Statement.{statement}
+use Rattle.cell.proofs.walks.begun.Tie as tie
+
+returns : tie.Need-returns
+returns c = (rw (le-leb _ _ (c .if1 .taken)), omega arith)
+
+returns-2 : tie.Need-returns-2
+returns-2 c = (rw (lt-leb _ _ (c .if1 .left)), omega arith)
+
+pub begun-spec : {M : Type 1} → statement M
+begun-spec = tie.close (tie.spec returns returns-2)
