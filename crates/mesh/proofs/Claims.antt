@@ -69,11 +69,11 @@ module _ (cells edges counts : List ℕ) where
 
 -- two values with one reading that is an answer
 module _ (answer : List ℕ) (some : [] ≡ answer → ⊥) where
-  mixed : (k p : ℕ) (l : List ℕ) (b : Bool) → eqb k 0 ≡ b → result l ≡ answer → pick b [] (refusal k p) ≡ answer → ⊥
+  pub mixed : (k p : ℕ) (l : List ℕ) (b : Bool) → eqb k 0 ≡ b → result l ≡ answer → pick b [] (refusal k p) ≡ answer → ⊥
   mixed k p l true q a c = some c
   mixed k p l false q a c = let z : k ≡ 0 = cc in eqb-false k 0 q z
 
-  refusals : (k p l q : ℕ) (b c : Bool) → pick b [] (refusal k p) ≡ answer → pick c [] (refusal l q) ≡ answer → (k ≡ l) × (p ≡ q)
+  pub refusals : (k p l q : ℕ) (b c : Bool) → pick b [] (refusal k p) ≡ answer → pick c [] (refusal l q) ≡ answer → (k ≡ l) × (p ≡ q)
   refusals k p l q true c a d = absurd (some a)
   refusals k p l q false true a d = absurd (some d)
   refusals k p l q false false a d = (cc, cc)

@@ -15,3 +15,4 @@ pub mod Passes
 pub mod Judged
 pub mod Whole
 pub mod Calls
+pub mod Claims

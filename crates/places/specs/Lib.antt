@@ -6,3 +6,4 @@ pub mod Exact
 pub mod Done
 pub mod Work
 pub mod Examples
+pub mod Claims
