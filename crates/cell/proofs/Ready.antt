@@ -2,13 +2,9 @@
 use Prim.Native.Nat.{ℕ, _+_, _*_, _-_, _%_, _≤_, _<_}
 use mathlib.Core.Path.{_≡_, refl, sym, _∙_, subst}
 use mathlib.Core.Logic.{_≢_}
-use mathlib.Core.Bool.{Bool, true, false}
 use mathlib.Core.List.{List}
 use native.Mathlib.Omega.{arith}
-use lib.Dec.{eqb}
 use lib.ListN.{getD}
-use borrow.Author.Tests.{eqb-true, eqb-false}
-use Rattle.counting.specs.Pick.{pick}
 use Rattle.face.specs.Face.{lower, upper}
 use Rattle.cell.specs.declared.Cell.{Cell}
 use Rattle.cell.specs.declared.Dart.{Dart}
@@ -78,20 +74,13 @@ module _ {c : Cell} {t : List ℕ} {d : Dart} (R : Ready c t d) where
     pub low-room : d .index < getD t (9 * own 5 + 2) 0
     low-room = rw (count-at (R .routed) (own 5) low-next-lt, low-next-at (R .routed) h l) (low-fits w h l (d .index) b)
 
-    to-low-on : own 8 ≢ 2 → Reach w h (d .number) (own 5) (d .index)
+    pub to-low-on : own 8 ≢ 2 → Reach w h (d .number) (own 5) (d .index)
     to-low-on n = rw (low-next-at (R .routed) h l) (low-on w (R .dart) b (rw (place-at (R .routed) h l) at n))
 
-    to-low-over : own 8 ≡ 2 → Reach w h (d .number) (own 5) (getD t (9 * own 5 + 2) 0 - 1 - d .index)
+    pub to-low-over : own 8 ≡ 2 → Reach w h (d .number) (own 5) (getD t (9 * own 5 + 2) 0 - 1 - d .index)
     to-low-over n =
         rw (count-at (R .routed) (own 5) low-next-lt, low-next-at (R .routed) h l)
         (low-over w (R .dart) b (sym (place-at (R .routed) h l) ∙ n))
-
-    pub to-low : Reach w h (d .number) (own 5) (pick (eqb (own 8) 2) (getD t (9 * own 5 + 2) 0 - 1 - d .index) (d .index))
-    to-low = go (eqb (own 8) 2) refl
-      where
-        go : (x : Bool) → eqb (own 8) 2 ≡ x → Reach w h (d .number) (own 5) (pick x (getD t (9 * own 5 + 2) 0 - 1 - d .index) (d .index))
-        go true e = to-low-over (eqb-true (own 8) 2 e)
-        go false e = to-low-on (eqb-false (own 8) 2 e)
 
   module _ {k : ℕ} (F : FromUpper w d k) where
     above : w (edgeOf h) - 1 - d .index < cornerOf w (upper (placeOf h)) h
@@ -100,20 +89,13 @@ module _ {c : Cell} {t : List ℕ} {d : Dart} (R : Ready c t d) where
     pub high-room : k < getD t (9 * own 6 + 2) 0
     high-room = rw (count-at (R .routed) (own 6) high-next-lt, high-next-at (R .routed) h l) (high-fits w h l k (F .below))
 
-    to-high-on : own 8 ≡ 0 → Reach w h (d .number) (own 6) k
+    pub to-high-on : own 8 ≡ 0 → Reach w h (d .number) (own 6) k
     to-high-on n = rw (F .is, high-next-at (R .routed) h l) (high-on w (R .dart) above (sym (place-at (R .routed) h l) ∙ n))
 
-    to-high-over : own 8 ≢ 0 → Reach w h (d .number) (own 6) (getD t (9 * own 6 + 2) 0 - 1 - k)
+    pub to-high-over : own 8 ≢ 0 → Reach w h (d .number) (own 6) (getD t (9 * own 6 + 2) 0 - 1 - k)
     to-high-over n =
         rw (F .is, count-at (R .routed) (own 6) high-next-lt, high-next-at (R .routed) h l)
         (high-over w (R .dart) above (rw (place-at (R .routed) h l) at n))
-
-    pub to-high : Reach w h (d .number) (own 6) (pick (eqb (own 8) 0) k (getD t (9 * own 6 + 2) 0 - 1 - k))
-    to-high = go (eqb (own 8) 0) refl
-      where
-        go : (x : Bool) → eqb (own 8) 0 ≡ x → Reach w h (d .number) (own 6) (pick x k (getD t (9 * own 6 + 2) 0 - 1 - k))
-        go true e = to-high-on (eqb-true (own 8) 0 e)
-        go false e = to-high-over (eqb-false (own 8) 0 e)
 
   module _ (B : Between w d) where
     -- the crossings from this one to the upper corner

@@ -1,7 +1,5 @@
 // The step from dart to dart, by the routes of a cell.
-ghost use mathlib.Core.Path.{_≡_};
 ghost use Prim.Native.Nat.{_<_};
-ghost use Rattle.counting.specs.Pick.{pick};
 ghost use Rattle.face.specs.Face.{lower};
 ghost use Rattle.cell.specs.Of.{countOf};
 ghost use Rattle.cell.specs.Half.{placeOf};
@@ -25,13 +23,6 @@ fn onto(c: Cell, routes: &[usize; 108], g: usize, u: usize) -> Dart
     }
 }
 
-// One of two numbers that are both at hand: the compiler selects and does not branch.
-fn either(first: bool, x: usize, y: usize) -> usize
-    ensures { λ r. ⌜ r ≡ pick first x y ⌝ }
-{
-    if first { x } else { y }
-}
-
 // Round the lower end of the dart's edge, to the other edge there.
 fn round_low(c: Cell, routes: &[usize; 108], d: Dart) -> Dart
     requires { ⌜ Ready c (now routes) d ⌝ }
@@ -41,9 +32,12 @@ fn round_low(c: Cell, routes: &[usize; 108], d: Dart) -> Dart
     let h = d.half;
     let t = d.index;
     let g = routes[9 * h + 5];
-    let n = routes[9 * g + 2];
-    let u = either(routes[9 * h + 8] == 2, n - 1 - t, t);
-    onto(c, routes, g, u)
+    let place = routes[9 * h + 8];
+    if place == 2 {
+        let n = routes[9 * g + 2];
+        return onto(c, routes, g, n - 1 - t);
+    }
+    onto(c, routes, g, t)
 }
 
 // Round the upper end; the dart is the k-th crossing from there.
@@ -54,9 +48,12 @@ fn round_high(c: Cell, routes: &[usize; 108], d: Dart, k: usize) -> Dart
 {
     let h = d.half;
     let g = routes[9 * h + 6];
+    let place = routes[9 * h + 8];
+    if place == 0 {
+        return onto(c, routes, g, k);
+    }
     let n = routes[9 * g + 2];
-    let u = either(routes[9 * h + 8] == 0, k, n - 1 - k);
-    onto(c, routes, g, u)
+    onto(c, routes, g, n - 1 - k)
 }
 
 // Past both corners: neighbours are joined in pairs, down from the upper corner, and the lowest is left over if they are odd.

@@ -1,60 +1,83 @@
--- `cell::steps::round_high` meets its contract.
 use native.Mathlib.Omega.{arith}
-use Rattle.cell.proofs.Ready.{leads, high-next-lt, high-room, spot, to-high}
+use Rattle.cell.proofs.Ready.{spot, leads, high-next-lt, high-room, to-high-on, to-high-over}
 use borrow.Author.Needs.{needs}
 use Rattle.cell.proofs.steps.round_high.Statement.{statement}
 use Rattle.cell.proofs.steps.round_high.Tie as tie
+use Rattle.cell.proofs.steps.round_high.Reads as reads
+use Rattle.cell.proofs.steps.round_high.Lts as lts
+use Rattle.cell.proofs.steps.onto.Reads as onto-reads
 
+-- src/steps.rt:50:20
 mul-g : tie.Need-mul-g
 mul-g c = search needs
 
+-- src/steps.rt:50:20
 add-g : tie.Need-add-g
 add-g c = search needs
 
+-- src/steps.rt:50:13
 mul-g-2 : tie.Need-mul-g-2
 mul-g-2 c = search needs
 
+-- src/steps.rt:50:13
 element-copy-out-g : tie.Need-element-copy-out-g
 element-copy-out-g c = search needs
 
-mul-n : tie.Need-mul-n
-mul-n c = omega (arith, high-next-lt (c .before .pre .0))
+-- src/steps.rt:51:24
+mul-place : tie.Need-mul-place
+mul-place c = search needs
 
-add-n : tie.Need-add-n
-add-n c = omega (arith, high-next-lt (c .before .pre .0))
+-- src/steps.rt:51:24
+add-place : tie.Need-add-place
+add-place c = search needs
 
-mul-n-2 : tie.Need-mul-n-2
-mul-n-2 c = omega (arith, high-next-lt (c .before .pre .0))
+-- src/steps.rt:51:17
+mul-place-2 : tie.Need-mul-place-2
+mul-place-2 c = search needs
 
-element-copy-out-n : tie.Need-element-copy-out-n
-element-copy-out-n c = omega (arith, high-next-lt (c .before .pre .0))
+-- src/steps.rt:51:17
+element-copy-out-place : tie.Need-element-copy-out-place
+element-copy-out-place c = search needs
 
-mul-either : tie.Need-mul-either
-mul-either c = search needs
-
-add-either : tie.Need-add-either
-add-either c = search needs
-
-mul-either-2 : tie.Need-mul-either-2
-mul-either-2 c = search needs
-
-element-copy-out-either : tie.Need-element-copy-out-either
-element-copy-out-either c = search needs
-
-sub-either : tie.Need-sub-either
-sub-either c = let a = c .before .before .before .pre in omega (arith, high-room (a .0) (a .1))
-
-sub-either-2 : tie.Need-sub-either-2
-sub-either-2 c = let a = c .before .before .before .pre in omega (arith, high-room (a .0) (a .1))
-
-either-requires : tie.Need-either-requires
-either-requires c κs = search needs
-
+-- src/steps.rt:53:9
 onto-requires : tie.Need-onto-requires
-onto-requires c κs = let a = c .before .before .before .before .pre in (a .0 .routed, rw (c .either .ensures) (spot (to-high (a .0) (a .1))))
+onto-requires c κs = let a = c .before .before .before in (a .pre .0 .routed, spot (to-high-on (a .pre .0) (a .pre .1) (c .if1 .taken)))
 
+-- src/steps.rt:53:9
 returns : tie.Need-returns
-returns c = let a = c .before .before .before .before .before .pre in let o = c .onto .ensures in leads (to-high (a .0) (a .1)) (rw (c .before .either .ensures) at o)
+returns c = let a = c .before .before .before .before in leads (to-high-on (a .pre .0) (a .pre .1) (c .before .if1 .taken)) (c .onto .ensures)
+
+-- src/steps.rt:55:20
+mul-n : tie.Need-mul-n
+mul-n c = omega (arith, high-next-lt (c .before .before .before .pre .0))
+
+-- src/steps.rt:55:20
+add-n : tie.Need-add-n
+add-n c = omega (arith, high-next-lt (c .before .before .before .pre .0))
+
+-- src/steps.rt:55:13
+mul-n-2 : tie.Need-mul-n-2
+mul-n-2 c = omega (arith, high-next-lt (c .before .before .before .pre .0))
+
+-- src/steps.rt:55:13
+element-copy-out-n : tie.Need-element-copy-out-n
+element-copy-out-n c = omega (arith, high-next-lt (c .before .before .before .pre .0))
+
+-- src/steps.rt:56:24
+sub-onto : tie.Need-sub-onto
+sub-onto c = omega (arith, high-room (c .before .before .before .before .pre .0) (c .before .before .before .before .pre .1))
+
+-- src/steps.rt:56:24
+sub-onto-2 : tie.Need-sub-onto-2
+sub-onto-2 c = omega (arith, high-room (c .before .before .before .before .pre .0) (c .before .before .before .before .pre .1))
+
+-- src/steps.rt:56:5
+onto-requires-2 : tie.Need-onto-requires-2
+onto-requires-2 c κs = let a = c .before .before .before .before in (a .pre .0 .routed, spot (to-high-over (a .pre .0) (a .pre .1) (c .before .if1 .left)))
+
+-- src/steps.rt:44:1
+returns-2 : tie.Need-returns-2
+returns-2 c = let a = c .before .before .before .before .before in leads (to-high-over (a .pre .0) (a .pre .1) (c .before .before .if1 .left)) (c .onto2 .ensures)
 
 pub round-high-spec : {M : Type 1} → statement M
 round-high-spec =
@@ -64,16 +87,17 @@ round-high-spec =
     add-g
     mul-g-2
     element-copy-out-g
+    mul-place
+    add-place
+    mul-place-2
+    element-copy-out-place
+    onto-requires
+    returns
     mul-n
     add-n
     mul-n-2
     element-copy-out-n
-    mul-either
-    add-either
-    mul-either-2
-    element-copy-out-either
-    sub-either
-    sub-either-2
-    either-requires
-    onto-requires
-    returns)
+    sub-onto
+    sub-onto-2
+    onto-requires-2
+    returns-2)
