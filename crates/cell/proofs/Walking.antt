@@ -7,14 +7,10 @@ use native.Mathlib.Nat.{eq-or-lt-of-le, not-suc-le-zero}
 use native.Mathlib.Omega.{arith}
 use native.Mathlib.Numerals.{add-one}
 use native.Mathlib.Decide.{decLt}
-use lib.Dec.{leb}
 use lib.ListN.{getD, set, length, replicate, drop, length-replicate, length-append, getD-replicate, List·getD-append}
 use Rattle.counting.specs.Range.{total}
-use Rattle.counting.specs.Pick.{one}
-use Rattle.counting.specs.Search.{count}
 use Rattle.counting.specs.Pack.{pre}
 use Rattle.counting.proofs.Pack.{pre-next}
-use Rattle.counting.proofs.Begun.{begun}
 use Rattle.slots.specs.Slots.{firstSlot, place}
 use Rattle.slots.proofs.Slots.{first-slot}
 use Rattle.walk.specs.Iterate.{it}
@@ -29,10 +25,9 @@ use Rattle.cell.specs.Cell.{crossings, index, step}
 use Rattle.cell.specs.Loop.{loopSize, dart}
 use Rattle.cell.specs.Of.{countOf}
 use Rattle.cell.specs.Half.{halfEdges, slotOf, edgeOf, halfOf}
-use Rattle.cell.specs.Route.{mostCrossings, Routed}
+use Rattle.cell.specs.Route.{mostCrossings}
 use Rattle.cell.specs.Walked.{Located, Starts, Marked}
 use Rattle.cell.proofs.Half.{half-slot, half-edge}
-use Rattle.cell.proofs.Route.{first-at}
 use Rattle.cell.proofs.Step.{number-first}
 use Rattle.cell.proofs.Mates.{darts}
 
@@ -60,36 +55,29 @@ cleared c n m e l h = record {
 pub fresh : (c : Cell) → crossings (countOf c) ≤ mostCrossings → Marked c (replicate 1530 65535)
 fresh c l = marks-none (crossings (countOf c)) (step (countOf c)) 1530 65535 l (omega arith)
 
--- the half-edge of edge e in its first slot
-pub first-edge : (e h : ℕ) → e < 6 → h ≡ halfOf (firstSlot e) e → edgeOf h ≡ e
-unfolding halfOf
-first-edge e h l q = let S = first-slot e l in rw q (half-edge (firstSlot e) (place (firstSlot e) e) (S .place-lt) ∙ S .edge-is)
-
-pub first-number : {c : Cell} {t : List ℕ} → Routed c t → (e h : ℕ) → e < 6 → h ≡ halfOf (firstSlot e) e → h < halfEdges → getD t (9 * h + 3) 0 ≡ pre (countOf c) e
-first-number {c} R e h l q k = first-at R h k ∙ ap (pre (countOf c)) (first-edge e h l q)
-
 -- the first dart of a crossing
 pub starts : {w : ℕ → ℕ} {e t p : ℕ} → Located w e t p → (h : ℕ) → h ≡ halfOf (firstSlot e) e → h < halfEdges → (d : Dart) → d .half ≡ h → d .index ≡ t → d .number ≡ p → Starts w p d
 unfolding halfOf
 starts {w} {e} {t} {p} L h q l d dh dt dp =
     let S = first-slot e (L .edge-lt) in
-    let k : edgeOf h ≡ e = first-edge e h (L .edge-lt) q in
+    let k : edgeOf h ≡ e = rw q (half-edge (firstSlot e) (place (firstSlot e) e) (S .place-lt) ∙ S .edge-is) in
     let s : slotOf h ≡ firstSlot e = rw q (half-slot (firstSlot e) (place (firstSlot e) e) (S .place-lt)) in
     record {
       dart = record { half-lt = rw dh l; index-lt = rw (dh, dt, k) (L .index-lt); number-is = rw (dh, dt, dp, k) (sym (L .is)) };
       is = rw (dh, dp) (number-first h p (ap firstSlot k ∙ sym s));
     }
 
--- the edge of a crossing is told by how many edges have begun
-pub located : (w : ℕ → ℕ) (p e : ℕ) → p < crossings w
-    → e ≡ one (leb (pre w 1) p) + one (leb (pre w 2) p) + one (leb (pre w 3) p) + one (leb (pre w 4) p) + one (leb (pre w 5) p) → Located w e (p - pre w e) p
-unfolding count
-located w p e l q =
-    let B = begun w p 5 l in
-    let f : count (λ k. leb (pre w (suc k)) p) 5 ≡ e = omega arith in
-    let lo : pre w e ≤ p = rw (← f) (B .low) in
-    let hi : p < pre w (suc e) = rw (← f) (B .high) in
-    record { edge-lt = rw (← f) (omega (arith, B .few)); index-lt = omega (arith, pre-next w 6 e); is = omega arith }
+-- a search for the edge of crossing p that has passed e edges, and has t crossings to go
+module _ (w : ℕ → ℕ) {p : ℕ} (e t : ℕ) (q : pre w e + t ≡ p) where
+  pub search-on : w e ≤ t → pre w (e + 1) + (t - w e) ≡ p
+  search-on h = rw add-one (omega (arith, pre-next w 6 e))
+
+  pub search-last : p < crossings w → e ≡ 5 → Located w e t p
+  search-last l f = record { edge-lt = omega arith; index-lt = rw f (omega (arith, rw f at q, pre-next w 6 5)); is = q }
+
+pub search-start : (w : ℕ → ℕ) (p : ℕ) → pre w 0 + p ≡ p
+unfolding pre total
+search-start w p = omega arith
 
 -- a walk from p that has come to its dart k, and was above p since it left
 pub record Walking (w : ℕ → ℕ) (p k : ℕ) : Type 0 where

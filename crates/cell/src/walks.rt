@@ -2,14 +2,11 @@
 // marks: so for all loops of a cell together there are no more steps than crossings.
 ghost use mathlib.Core.Path.{_≡_};
 ghost use mathlib.Core.List.{_++_};
-ghost use Prim.Native.Nat.{_-_, _<_, _≤_};
-ghost use lib.Dec.{leb};
-ghost use Rattle.counting.specs.Pick.{one};
-ghost use Rattle.counting.specs.Pack.{pre};
+ghost use Prim.Native.Nat.{_<_, _≤_};
 ghost use lib.ListN.{length, replicate, drop};
 ghost use Rattle.cell.specs.Cell.{crossings};
 ghost use Rattle.cell.specs.Of.{countOf};
-ghost use Rattle.cell.specs.Route.{mostCrossings, Routed};
+ghost use Rattle.cell.specs.Route.{mostCrossings};
 ghost use Rattle.cell.specs.Walked.{Located, Starts, Lent, Walked};
 use super::Cell;
 use super::Dart;
@@ -18,51 +15,34 @@ use super::routes;
 use super::steps;
 use super::tables;
 
-// The number of the first crossing of edge e, by the routes.
-fn first_at(c: Cell, routes: &[usize; 108], e: usize) -> usize
-    requires { ⌜ Routed c (now routes) ⌝ }
-    requires { ⌜ e < 6 ⌝ }
-    ensures { λ r. ⌜ r ≡ pre (countOf c) e ⌝ }
+// The first dart of the crossing with index t on edge e, which is crossing p.
+fn first_dart(c: Cell, e: usize, t: usize, p: usize) -> Dart
+    requires { ⌜ Located (countOf c) e t p ⌝ }
+    ensures { λ r. ⌜ Starts (countOf c) p r ⌝ }
 {
-    let h = tables::first_of(e);
-    routes[9 * h + 3]
-}
-
-// 1 where p has come to `first`, else 0.
-fn begun(first: usize, p: usize) -> usize
-    ensures { λ r. ⌜ r ≡ one (leb first p) ⌝ }
-    ensures { λ r. ⌜ r ≤ 1 ⌝ }
-{
-    if first <= p { 1 } else { 0 }
-}
-
-// The edge of crossing p: as many edges after the first have begun by p. A sum takes no branch, as a search would.
-fn edge_with(c: Cell, routes: &[usize; 108], p: usize) -> usize
-    requires { ⌜ Routed c (now routes) ⌝ }
-    requires { ⌜ p < crossings (countOf c) ⌝ }
-    ensures { λ r. ⌜ Located (countOf c) r (p - pre (countOf c) r) p ⌝ }
-{
-    let b = begun(first_at(c, routes, 1), p);
-    let d = begun(first_at(c, routes, 2), p);
-    let e = begun(first_at(c, routes, 3), p);
-    let f = begun(first_at(c, routes, 4), p);
-    let g = begun(first_at(c, routes, 5), p);
-    b + d + e + f + g
+    Dart {
+        half: tables::first_of(e),
+        index: t,
+        number: p,
+    }
 }
 
 // The first dart of crossing p.
-fn start_at(c: Cell, routes: &[usize; 108], p: usize) -> Dart
-    requires { ⌜ Routed c (now routes) ⌝ }
+fn start_at(c: Cell, p: usize) -> Dart
     requires { ⌜ p < crossings (countOf c) ⌝ }
     ensures { λ r. ⌜ Starts (countOf c) p r ⌝ }
 {
-    let e = edge_with(c, routes, p);
-    let h = tables::first_of(e);
-    Dart {
-        half: h,
-        index: p - routes[9 * h + 3],
-        number: p,
+    let mut e: usize = 0;
+    let mut left = p;
+    while e < 5 {
+        let n = routes::count_at(c, e);
+        if left < n {
+            return first_dart(c, e, left, p);
+        }
+        left -= n;
+        e += 1;
     }
+    first_dart(c, e, left, p)
 }
 
 // Clears the first n marks.
@@ -94,7 +74,7 @@ pub fn walk(
     if routes::wide16(marks[p]) < p {
         return 0;
     }
-    let mut d = start_at(c, routes, p);
+    let mut d = start_at(c, p);
     let mut k: usize = 0;
     loop {
         let h = d.half;

@@ -10,4 +10,3 @@ pub mod Reach
 pub mod Rows
 pub mod Fronts
 pub mod Stores
-pub mod Begun

@@ -1,45 +1,70 @@
--- `cell::walks::start_at` meets its contract.
-use Prim.Native.Nat.{_-_}
-use mathlib.Core.Path.{ap, refl}
 use native.Mathlib.Omega.{arith}
-use Rattle.cell.proofs.Walking.{first-number, starts}
-use borrow.Author.Needs.{needs}
+use Prim.Native.Nat.{_+_, _-_, _≤_}
+use mathlib.Core.Path.{_≡_}
+use Rattle.counting.specs.Pack.{pre}
+use Rattle.cell.specs.Of.{countOf}
+use Rattle.cell.proofs.Walking.{search-start, search-on, search-last}
 use Rattle.cell.proofs.walks.start_at.Statement.{statement}
 use Rattle.cell.proofs.walks.start_at.Tie as tie
+use Rattle.cell.proofs.walks.start_at.Reads as reads
+use Rattle.cell.proofs.walks.start_at.Lts as lts
+use Rattle.cell.proofs.routes.count_at.Reads as count-at-reads
+use Rattle.cell.proofs.walks.first_dart.Reads as first-dart-reads
 
-edge-with-requires : tie.Need-edge-with-requires
-edge-with-requires c κs = search needs
+abbrev Inv-loop : tie.InvT-loop
+Inv-loop c p e₀ left₀ e left = (e ≤ 5) × (pre (countOf c) e + left ≡ p)
 
-first-of-requires : tie.Need-first-of-requires
-first-of-requires c κs = search needs
+abbrev μ-loop : tie.MeasureT-loop
+μ-loop c p e₀ left₀ e left = 5 - e
 
-mul-t6 : tie.Need-mul-t6
-mul-t6 c = search needs
+-- src/walks.rt:36:5
+loop-holds : tie.Need-loop-holds Inv-loop μ-loop
+loop-holds c = (omega arith, search-start _ _)
 
-add-t7 : tie.Need-add-t7
-add-t7 c = search needs
+-- src/walks.rt:37:13
+count-at-requires : tie.Need-count-at-requires Inv-loop μ-loop
+count-at-requires c κs = omega arith
 
-mul-t8 : tie.Need-mul-t8
-mul-t8 c = search needs
+-- src/walks.rt:39:13
+first-dart-requires : tie.Need-first-dart-requires Inv-loop μ-loop
+first-dart-requires c κs = record { edge-lt = omega arith; index-lt = rw (c .before .count-at .ensures) at (c .if1 .taken); is = c .before .before .before .loop .inv .1 }
 
-element-copy-out-t11 : tie.Need-element-copy-out-t11
-element-copy-out-t11 c = search needs
+-- src/walks.rt:39:13
+returns : tie.Need-returns Inv-loop μ-loop
+returns c = c .first-dart .ensures
 
-sub-t12 : tie.Need-sub-t12
-sub-t12 c = let f = c .before .first-of .ensures in let L = c .before .before .edge-with .ensures in let e = first-number (c .before .before .before .pre .0) _ _ (L .edge-lt) (f .0) (f .1) in omega (arith, e, L .is)
+-- src/walks.rt:42:9
+add-e : tie.Need-add-e Inv-loop μ-loop
+add-e c = omega arith
 
-returns : tie.Need-returns
-returns c = let f = c .before .first-of .ensures in let L = c .before .before .edge-with .ensures in let e = first-number (c .before .before .before .pre .0) _ _ (L .edge-lt) (f .0) (f .1) in starts L _ (f .0) (f .1) _ refl (ap (λ n. c .before .before .before .args .p - n) e) refl
+-- src/walks.rt:36:5
+loop-less : tie.Need-loop-less Inv-loop μ-loop
+loop-less c = omega arith
+
+-- src/walks.rt:36:5
+loop-again : tie.Need-loop-again Inv-loop μ-loop
+loop-again c = (omega arith, rw (c .before .count-at .ensures) (search-on (countOf (c .before .before .before .before .args .c)) (c .before .before .before .loop .e) (c .before .before .before .loop .left) (c .before .before .before .loop .inv .1) (rw (c .before .count-at .ensures) at (c .if1 .left))))
+
+-- src/walks.rt:44:5
+first-dart-requires-2 : tie.Need-first-dart-requires-2 Inv-loop μ-loop
+first-dart-requires-2 c κs = search-last _ _ _ (c .before .loop .inv .1) (c .before .before .pre) (omega arith)
+
+-- src/walks.rt:30:1
+returns-2 : tie.Need-returns-2 Inv-loop μ-loop
+returns-2 c = c .first-dart2 .ensures
 
 pub start-at-spec : {M : Type 1} → statement M
 start-at-spec =
     tie.close
     (tie.spec
-    edge-with-requires
-    first-of-requires
-    mul-t6
-    add-t7
-    mul-t8
-    element-copy-out-t11
-    sub-t12
-    returns)
+    Inv-loop
+    μ-loop
+    loop-holds
+    count-at-requires
+    first-dart-requires
+    returns
+    add-e
+    loop-less
+    loop-again
+    first-dart-requires-2
+    returns-2)

@@ -36,7 +36,7 @@ returns c = walked-none (start-met _ _ _ (c .before .before .before .pre .inside
 
 -- src/walks.rt:79:9
 start-at-requires : tie.Need-start-at-requires Inv-loop μ-loop
-start-at-requires c κs = let p = c .before .before .before .pre in (p .routed, p .inside)
+start-at-requires c κs = c .before .before .before .pre .inside
 
 -- src/walks.rt:81:5
 loop-holds : tie.Need-loop-holds Inv-loop μ-loop
