@@ -49,6 +49,22 @@ counting-more {f} {n} {c} {t} w h m e l s = record {
 pub counting-all : {f : ℕ → List Triangle} {n c t : ℕ} {marks halves points : List ℕ} → Counting f n c t marks halves points → n ≤ c → t ≡ length (over f n 0)
 counting-all {f} {n} {c} {t} w h = let e : c ≡ n = omega (arith, w .up) in w .is ∙ ap (λ k. length (over f k 0)) e
 
+-- the first c cells, of n, have no more than t triangles
+pub record Bounding (f : ℕ → List Triangle) (n c t : ℕ) : Type 0 where
+  pub up : c ≤ n
+  pub is : length (over f c 0) ≤ t
+  pub few : t ≤ 1530 * c
+
+pub bounding-none : (f : ℕ → List Triangle) (n : ℕ) → Bounding f n 0 0
+unfolding over
+bounding-none f n = record { up = omega arith; is = omega arith; few = omega arith }
+
+pub bounding-more : {f : ℕ → List Triangle} {n c t : ℕ} → Bounding f n c t → c < n → (m : ℕ) → length (f c) ≤ m → m ≤ 1530 → Bounding f n (c + 1) (t + m)
+bounding-more {f} {n} {c} {t} w h m e l = record { up = omega arith; is = omega (arith, w .is, length-more f c); few = omega (arith, w .few) }
+
+pub bounding-all : {f : ℕ → List Triangle} {n c t : ℕ} → Bounding f n c t → n ≤ c → length (over f n 0) ≤ t
+bounding-all {f} {n} {c} {t} w h = let e : c ≡ n = omega (arith, w .up) in rw (← e) (w .is)
+
 -- the words of the first c cells are written over out₀, which makes it out; i is the next index
 pub record Writing (f : ℕ → List Triangle) (n c : ℕ) (out₀ out : List ℕ) (i : ℕ) (marks halves points : List ℕ) : Type 0 where
   pub up : c ≤ n
@@ -80,3 +96,6 @@ module _ {f : ℕ → List Triangle} {n c : ℕ} {out₀ out : List ℕ} {i : �
 
   pub writing-all : n ≤ c → out ≡ sets out₀ 0 (allWords (over f n 0))
   writing-all h = let e : c ≡ n = omega (arith, w .up) in w .is ∙ ap (λ k. sets out₀ 0 (allWords (over f k 0))) e
+
+  pub writing-next : n ≤ c → i ≡ wordCount * length (over f n 0)
+  writing-next h = let e : c ≡ n = omega (arith, w .up) in w .next ∙ ap (λ k. wordCount * length (over f k 0)) e

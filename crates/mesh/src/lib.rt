@@ -24,7 +24,7 @@ pub enum Looped {
     Refused(u8, usize),
 }
 
-// The mesh of a grid from its tables: row 12, or the words.
+// The mesh of a grid from its tables: row 12, or the words. Where the area has room for any mesh of so many crossings, nothing is counted first.
 fn draw(
     cells: &[u16],
     counts: &[u8],
@@ -36,6 +36,11 @@ fn draw(
     requires { ⌜ Laid (now cells) (now counts) (now sides) (now starts) ⌝ }
     ensures { λ r. ⌜ Drawn (now (cells .entry)) (now (counts .entry)) (now (names .entry)) (now (sides .entry)) (now (starts .entry)) (now (area .entry)) (now (area .exit)) (meshNumbers r) ⌝ }
 {
+    let most = meshing::most_all(cells, counts, names, sides, starts);
+    if 11 * most <= area.len() {
+        let words = meshing::write_all(cells, counts, names, sides, starts, area);
+        return Meshed::Triangles((words / 11) as u32);
+    }
     let n = meshing::count_all(cells, counts, names, sides, starts);
     if area.len() < 11 * n {
         return Meshed::Refused(12, n);

@@ -32,7 +32,28 @@ pub(crate) fn count_all(
     t
 }
 
-// Writes the words of all the cells' triangles from the front of the area on. About 11 KB of stack.
+// At least as many as the cells have triangles: a cell has no more than crossings.
+pub(crate) fn most_all(
+    cells: &[u16],
+    counts: &[u8],
+    names: &[u16; 8192],
+    sides: &[u16; 12288],
+    starts: &[u32; 12288],
+) -> usize
+    requires { ⌜ Laid (now cells) (now counts) (now sides) (now starts) ⌝ }
+    ensures { λ r. ⌜ (length (tableTriangles (now (cells .entry)) (now (counts .entry)) (now (names .entry)) (now (sides .entry)) (now (starts .entry))) ≤ r) × (r ≤ mostTriangles) ⌝ }
+{
+    let n = cells.len() / 4;
+    let mut t: usize = 0;
+    let mut c: usize = 0;
+    while c < n {
+        t += cell::crossings_of(cell_at(cells, counts, names, sides, starts, c));
+        c += 1;
+    }
+    t
+}
+
+// Writes the words of all the cells' triangles from the front of the area on, and answers how many words. About 11 KB of stack.
 pub(crate) fn write_all(
     cells: &[u16],
     counts: &[u8],
@@ -40,10 +61,10 @@ pub(crate) fn write_all(
     sides: &[u16; 12288],
     starts: &[u32; 12288],
     area: &mut [u32],
-)
+) -> usize
     requires { ⌜ Laid (now cells) (now counts) (now sides) (now starts) ⌝ }
     requires { ⌜ wordCount * length (tableTriangles (now cells) (now counts) (now names) (now sides) (now starts)) ≤ length (now area) ⌝ }
-    ensures { λ _. ⌜ now (area .exit) ≡ sets (now (area .entry)) 0 (allWords (tableTriangles (now (cells .entry)) (now (counts .entry)) (now (names .entry)) (now (sides .entry)) (now (starts .entry)))) ⌝ }
+    ensures { λ r. ⌜ (r ≡ wordCount * length (tableTriangles (now (cells .entry)) (now (counts .entry)) (now (names .entry)) (now (sides .entry)) (now (starts .entry)))) × (now (area .exit) ≡ sets (now (area .entry)) 0 (allWords (tableTriangles (now (cells .entry)) (now (counts .entry)) (now (names .entry)) (now (sides .entry)) (now (starts .entry))))) ⌝ }
 {
     let mut marks = [0u16; 1530];
     let mut halves = [0u8; 1530];
@@ -56,4 +77,5 @@ pub(crate) fn write_all(
         i = triangle::write_in(cell, &mut marks, &mut halves, &mut points, area, i);
         c += 1;
     }
+    i
 }

@@ -6,7 +6,7 @@ use lib.Seq.{sets}
 use Rattle.triangle.specs.Triangles.{cellTriangles}
 use Rattle.triangle.specs.Words.{wordCount, allWords}
 use Rattle.mesh.specs.Table.{tableCell, tableTriangles}
-use Rattle.mesh.proofs.Progress.{Writing, writing-none, writing-room, writing-more, writing-all}
+use Rattle.mesh.proofs.Progress.{Writing, writing-none, writing-room, writing-more, writing-all, writing-next}
 use Rattle.mesh.proofs.meshing.write_all.Statement.{statement}
 use Rattle.mesh.proofs.meshing.write_all.Tie as tie
 use Rattle.mesh.proofs.meshing.write_all.Reads as reads
@@ -55,7 +55,9 @@ same-length c = c .before .loop .inv .0 .same
 
 returns : tie.Need-returns Inv-loop μ-loop
 unfolding tableTriangles
-returns c = writing-all (c .before .loop .inv .0) (omega (arith, c .before .loop .inv .1))
+returns c =
+    let w = c .before .loop .inv in
+    (writing-next (w .0) (omega (arith, w .1)), writing-all (w .0) (omega (arith, w .1)))
 
 pub write-all-spec : {M : Type 1} → statement M
 write-all-spec =
