@@ -18,6 +18,10 @@
 #include <stddef.h>
 #include <stdint.h>
 
+#ifdef __cplusplus
+extern "C" {
+#endif
+
 /* The face call. What a crossing of a face a < b < c is joined to.
  *
  * Reads the counts of the edges ab, ac, bc; an edge, 0 ab, 1 ac, 2 bc; and an
@@ -57,7 +61,11 @@ size_t citternblaze_check(const uint16_t *cells, size_t cells_len,
  * Answers 0 and the number of triangles; or the number and the place of a
  * refusal: 1 to 10 as citternblaze_check has them, or 12 and the number of
  * triangles needed, where the area is too short. A refusal keeps every word of
- * the area. Takes up to 640 KB of the stack. */
+ * the area. Takes up to 640 KB of the stack.
+ *
+ * A cell has no more triangles than crossings. Where the area has room for as
+ * many triangles as the cells have crossings together, the call goes over the
+ * cells once; else twice, first to count. */
 size_t citternblaze_mesh(const uint16_t *cells, size_t cells_len,
                          const uint16_t *edges, size_t edges_len,
                          const uint8_t *counts, size_t counts_len,
@@ -149,5 +157,9 @@ size_t citternblaze_bundle_write(const uint16_t *nodes, size_t nodes_len,
                                  const uint8_t *counts, size_t counts_len,
                                  uint8_t *area, size_t area_len,
                                  uint64_t *answer, size_t answer_len);
+
+#ifdef __cplusplus
+}
+#endif
 
 #endif

@@ -312,6 +312,21 @@ static void test_null(void) {
   show("write nothing into no area",
        citternblaze_bundle_write(NULL, 0, NULL, 0, NULL, 0, NULL, 0, answer,
                                  ROOM));
+  show("check, no answer area",
+       citternblaze_check(NULL, 0, NULL, 0, NULL, 0, NULL, 0));
+  show("mesh, no answer area",
+       citternblaze_mesh(NULL, 0, NULL, 0, NULL, 0, NULL, 0, NULL, 0));
+  show("loops, no answer area",
+       citternblaze_loops(NULL, 0, NULL, 0, NULL, 0, 0, 0, NULL, 0));
+  show("places, no answer area",
+       citternblaze_places(NULL, 0, NULL, 0, NULL, 0, NULL, 0, NULL, 0, NULL, 0,
+                           NULL, 0));
+  show("record, no answer area", citternblaze_record(NULL, 0, 0, NULL, 0));
+  show("body, no answer area", citternblaze_record_body(NULL, 0, 0, NULL, 0));
+  show("read, no answer area",
+       citternblaze_bundle_read(NULL, 0, NULL, 0, NULL, 0, NULL, 0, NULL, 0));
+  show("write, no answer area",
+       citternblaze_bundle_write(NULL, 0, NULL, 0, NULL, 0, NULL, 0, NULL, 0));
 }
 
 int main(void) {
