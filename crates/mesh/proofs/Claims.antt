@@ -1,4 +1,4 @@
--- The numbers tell the answer.
+-- The numbers tell the answer; the loops of a cell are ordered by p0.
 use Prim.Native.Nat.{ℕ, _*_}
 use mathlib.Core.Path.{_≡_, refl, sym, ap, _∙_}
 use mathlib.Core.Bool.{Bool, true, false}
@@ -15,12 +15,13 @@ use Rattle.cell.specs.declared.Loop.the-variants.{Found, Nothing}
 use Rattle.cell.specs.Of.{countOf, startOf}
 use Rattle.cell.specs.Loop.{leasts, answerOf, loopAnswer}
 use Rattle.cell.specs.Answer.{typeNumbers, loopNumbers}
-use Rattle.cell.proofs.Claims.{oneToOne}
+use Rattle.cell.proofs.Claims.{oneToOne, ordered}
 use Rattle.triangle.specs.declared.Triangle.{Triangle}
 use Rattle.triangle.specs.Words.{wordCount}
 use Rattle.grid.specs.Grid.{cellCount}
 use Rattle.grid.specs.Tables.{accepts}
 use Rattle.grid.specs.Rows.{gridAnswer}
+use Rattle.grid.proofs.Accepts.{acceptance-yields}
 use Rattle.grid.proofs.Claims.{never-empty}
 use Rattle.mesh.specs.declared.Meshed.{Meshed}
 use Rattle.mesh.specs.declared.Meshed.the-variants.{Triangles, Refused}
@@ -31,7 +32,8 @@ use Rattle.mesh.specs.Room.{roomAnswer}
 use Rattle.mesh.specs.Asked.{cellLoop, askedLoop}
 use Rattle.mesh.specs.Answer.{meshAnswer, loopsAnswer}
 use Rattle.mesh.specs.Numbers.{meshNumbers, loopsNumbers}
-use Rattle.mesh.specs.Claims.{MeshTold, LoopsTold}
+use Rattle.mesh.specs.Claims.{MeshTold, LoopsTold, LoopsOrdered}
+use Rattle.mesh.proofs.Complex.{count-of, en, start-le, start-of}
 
 -- there is always an answer
 no-nil : {a : ℕ} {l : List ℕ} → [] ≡ a ∷ l → ⊥
@@ -99,3 +101,16 @@ mesh-told cells edges counts room = mesh-tells (meshAnswer cells edges counts ro
 
 pub loops-told : LoopsTold
 loops-told cells edges counts c k = loops-tell (loopsAnswer cells edges counts c k) (loops-some cells edges counts c k)
+
+-- in a cell of an accepted grid the crossings of an earlier edge have lower numbers
+pub loopsOrdered : LoopsOrdered
+loopsOrdered cells edges counts total e c l =
+    ordered (countOf (gridCell cells edges counts c)) (startOf (gridCell cells edges counts c)) (gridCell cells edges counts c .nodes) (λ j k h lk.
+    let A = acceptance-yields cells edges counts (total ∷ []) e in
+    omega (
+      arith,
+      start-of cells edges counts c j (omega arith),
+      start-of cells edges counts c k lk,
+      count-of cells edges counts c j (omega arith),
+      start-le cells edges counts (en cells edges counts c j) (en cells edges counts c k) (A .rising c j k l h lk),
+    ))

@@ -53,7 +53,7 @@ module _ (cells edges counts : List ℕ) where
   unfolding gridCell
   count-of c k l = values-at (λ k. countOf counts (en c k)) 6 k l
 
-  start-of : (c k : ℕ) → k < 6 → triangles.startOf (gridCell cells edges counts c) k ≡ start counts (en c k)
+  pub start-of : (c k : ℕ) → k < 6 → triangles.startOf (gridCell cells edges counts c) k ≡ start counts (en c k)
   unfolding gridCell
   start-of c k l = values-at (λ k. start counts (en c k)) 6 k l
 

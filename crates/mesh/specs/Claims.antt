@@ -1,12 +1,19 @@
--- The numbers tell the answer: no two values of an enum are read as the same answer of its call.
-use Prim.Native.Nat.{ℕ}
+-- What holds of the calls and of the cells of an accepted grid.
+use Prim.Native.Nat.{ℕ, _<_}
 use mathlib.Core.Path.{_≡_}
-use mathlib.Core.List.{List}
+use mathlib.Core.List.{List, [], _∷_}
+use Rattle.answer.specs.Answer.{result}
+use Rattle.cell.specs.Of.{countOf, startOf}
+use Rattle.cell.specs.Claims.{OrderLaws}
+use Rattle.grid.specs.Grid.{cellCount}
+use Rattle.grid.specs.Rows.{gridAnswer}
 use Rattle.mesh.specs.declared.Meshed.{Meshed}
 use Rattle.mesh.specs.declared.Looped.{Looped}
 use Rattle.mesh.specs.Numbers.{meshNumbers, loopsNumbers}
+use Rattle.mesh.specs.Mesh.{gridCell}
 use Rattle.mesh.specs.Answer.{meshAnswer, loopsAnswer}
 
+-- the numbers tell the answer: no two values of an enum are read as the same answer of its call
 abbrev pub MeshTold : Type 0
 MeshTold = (cells edges counts : List ℕ) (room : ℕ) (r s : Meshed)
     → meshNumbers r ≡ meshAnswer cells edges counts room → meshNumbers s ≡ meshAnswer cells edges counts room → r ≡ s
@@ -14,3 +21,8 @@ MeshTold = (cells edges counts : List ℕ) (room : ℕ) (r s : Meshed)
 abbrev pub LoopsTold : Type 0
 LoopsTold = (cells edges counts : List ℕ) (c k : ℕ) (r s : Looped)
     → loopsNumbers r ≡ loopsAnswer cells edges counts c k → loopsNumbers s ≡ loopsAnswer cells edges counts c k → r ≡ s
+
+-- in each cell of an accepted grid p0 is the least crossing number of its loop (01), and the loops are ordered by p0
+abbrev pub LoopsOrdered : Type 0
+LoopsOrdered = (cells edges counts : List ℕ) (total : ℕ) → gridAnswer cells edges counts ≡ result (total ∷ []) → (c : ℕ) → c < cellCount cells
+    → OrderLaws (countOf (gridCell cells edges counts c)) (startOf (gridCell cells edges counts c)) (gridCell cells edges counts c .nodes)
