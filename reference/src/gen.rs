@@ -80,6 +80,20 @@ impl Sample {
         self.edges.chunks_exact(2).map(|e| [e[0], e[1]]).collect()
     }
 
+    /// How many crossings the cells have, each counted in every cell that has
+    /// it. No mesh of the grid has more triangles.
+    pub fn crossings_in_cells(&self) -> usize {
+        let pairs = self.edges.chunks_exact(2).map(|ends| (ends[0], ends[1]));
+        let counts: BTreeMap<_, _> = pairs.zip(&self.counts).collect();
+        let crossings = |cell: &[u16]| -> usize {
+            let pairs = (0..4).flat_map(|high| (0..high).map(move |low| (low, high)));
+            pairs
+                .map(|(low, high)| usize::from(*counts[&(cell[low], cell[high])]))
+                .sum()
+        };
+        self.cells.chunks_exact(4).map(crossings).sum()
+    }
+
     /// Gives every edge a count from `low` to `high`.
     pub fn with_counts(mut self, rng: &mut Rng, low: u8, high: u8) -> Sample {
         for count in &mut self.counts {

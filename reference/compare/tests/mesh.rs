@@ -39,6 +39,7 @@ struct Tally {
     inspected: u64,
     refused: [u64; ROWS as usize + 1],
     short: u64,
+    ample: u64,
 }
 
 impl Tally {
@@ -57,7 +58,7 @@ impl Tally {
             "mesh, {what}: {} grids, of these {} accepted ({} of 100 cells or more, {} of over \
              1,500, {} with over 60,000 crossings, {} with a count of 255), {} that must close \
              and have triangles; {} triangles; sides and rings counted in {} meshes; {} areas too \
-             short; refused by rows 1 to 10: {:?}",
+             short, {} with room for any mesh; refused by rows 1 to 10: {:?}",
             self.grids,
             self.refused[0],
             self.hundred_cells,
@@ -68,6 +69,7 @@ impl Tally {
             self.triangles,
             self.inspected,
             self.short,
+            self.ample,
             &self.refused[1..]
         );
     }
@@ -114,7 +116,9 @@ fn count_sides(grid: &Sample, words: &[u32], tally: &mut Tally) {
 }
 
 /// Compares the mesh of a grid in an area with room for it and some words more,
-/// and in one that is too short.
+/// in one that is too short, and, of every other grid, in one with room for any
+/// mesh of so many crossings or a word less, where the proved call takes another
+/// way.
 fn compare(mesher: &mut Mesher, rng: &mut Rng, grid: &Sample, tally: &mut Tally) {
     tally.grids += 1;
     let [number, place] = match expected::mesh(mesher, grid, &mut [])[..] {
@@ -131,6 +135,12 @@ fn compare(mesher: &mut Mesher, rng: &mut Rng, grid: &Sample, tally: &mut Tally)
     if numbers[0] == 0 {
         tally.accepted(grid, triangles);
         count_sides(grid, &area[..exact], tally);
+        if tally.grids % 2 == 0 {
+            let most = TRIANGLE_WORDS * grid.crossings_in_cells();
+            let len = [most, most.saturating_sub(1), most + rng.below(13)][rng.below(3)];
+            compare_in(mesher, grid, len);
+            tally.ample += u64::from(len >= most);
+        }
     }
     if triangles > 0 {
         let short = [0, exact - 1, rng.below(exact)][rng.below(3)];

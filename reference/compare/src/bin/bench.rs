@@ -1,7 +1,6 @@
 //! Times the proved mesh call and grid check and the second implementation's in
 //! one run. All work on the same grid in turn; the order of a round alternates.
 
-use std::collections::HashMap;
 use std::env;
 use std::time::{Duration, Instant};
 
@@ -63,20 +62,6 @@ fn triangles(grid: &Sample) -> usize {
         Ok(triangles) => triangles as usize,
         Err(refusal) => refusal.place as usize,
     }
-}
-
-/// How many triangles a grid with so many crossings in its cells can have: a
-/// cell has no more than crossings.
-fn most_triangles(grid: &Sample) -> usize {
-    let pairs = grid.edges.chunks_exact(2).map(|pair| (pair[0], pair[1]));
-    let counts: HashMap<_, _> = pairs.zip(&grid.counts).collect();
-    let crossings = |cell: &[u16]| -> usize {
-        let pairs = (0..4).flat_map(|high| (0..high).map(move |low| (low, high)));
-        pairs
-            .map(|(low, high)| usize::from(*counts[&(cell[low], cell[high])]))
-            .sum()
-    };
-    grid.cells.chunks_exact(4).map(crossings).sum()
 }
 
 /// Times of a grid's mesh in an area with room for so many triangles. Each way
@@ -157,7 +142,10 @@ impl Bench {
         }
         let triangles = triangles(grid);
         println!("{name}: {}, {triangles} triangles", size(grid));
-        let rooms = [("any mesh", most_triangles(grid)), ("this mesh", triangles)];
+        let rooms = [
+            ("any mesh", grid.crossings_in_cells()),
+            ("this mesh", triangles),
+        ];
         for (text, room) in rooms {
             let [proved, kept, new] = mesh_times(grid, room, self.patience);
             let line = |[proved, kept, new]: [f64; WAYS]| {
