@@ -6,12 +6,6 @@ use Rattle.cell.proofs.Walking.{fresh}
 use Rattle.cell.proofs.Loops.{Seeking, seeking-start, seeking-none, seeking-skip, seeking-pass, seeking-here}
 use Rattle.cell.proofs.loop_at.Statement.{statement}
 use Rattle.cell.proofs.loop_at.Tie as tie
-use Rattle.cell.proofs.loop_at.Reads as reads
-use Rattle.cell.proofs.loop_at.Lts as lts
-use Rattle.cell.proofs.answers.answer_of.Reads as answer-of-reads
-use Rattle.cell.proofs.routes.crossings_of.Reads as crossings-of-reads
-use Rattle.cell.proofs.routes.routes_of.Reads as routes-of-reads
-use Rattle.cell.proofs.walks.walk.Reads as walk-reads
 
 abbrev Inv-loop : tie.InvT-loop
 Inv-loop c k n routes marks₀ halves₀ points₀ left₀ p₀ marks halves points left p = (p ≤ n) × Marked c marks × Scratch marks halves points × Seeking c k p left

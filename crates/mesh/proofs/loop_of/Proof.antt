@@ -6,10 +6,6 @@ use Rattle.mesh.proofs.Askings.{asked-there, asked-beyond}
 use borrow.Author.Needs.{needs}
 use Rattle.mesh.proofs.loop_of.Statement.{statement}
 use Rattle.mesh.proofs.loop_of.Tie as tie
-use Rattle.mesh.proofs.loop_of.Reads as reads
-use Rattle.mesh.proofs.loop_of.Lts as lts
-use Rattle.cell.proofs.loop_at.Reads as loop-at-reads
-use Rattle.mesh.proofs.cells.cell_at.Reads as cell-at-reads
 
 cell-at-requires : tie.Need-cell-at-requires
 cell-at-requires c κs = c .before .before .before .pre .reaches _ (omega arith)

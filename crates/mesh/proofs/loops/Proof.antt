@@ -3,10 +3,6 @@ use Rattle.mesh.proofs.Calls.{refused-loops, opened-laid, told-loops}
 use borrow.Author.Needs.{needs}
 use Rattle.mesh.proofs.loops.Statement.{statement}
 use Rattle.mesh.proofs.loops.Tie as tie
-use Rattle.mesh.proofs.loops.Reads as reads
-use Rattle.mesh.proofs.loops.Lts as lts
-use Rattle.grid.proofs.open.Reads as open-reads
-use Rattle.mesh.proofs.loop_of.Reads as loop-of-reads
 
 open-requires : tie.Need-open-requires
 open-requires c κs = search needs

@@ -3,10 +3,6 @@ use Rattle.mesh.proofs.Calls.{refused-done, opened-laid, drawn-done}
 use borrow.Author.Needs.{needs}
 use Rattle.mesh.proofs.mesh.Statement.{statement}
 use Rattle.mesh.proofs.mesh.Tie as tie
-use Rattle.mesh.proofs.mesh.Reads as reads
-use Rattle.mesh.proofs.mesh.Lts as lts
-use Rattle.grid.proofs.open.Reads as open-reads
-use Rattle.mesh.proofs.draw.Reads as draw-reads
 
 open-requires : tie.Need-open-requires
 open-requires c κs = search needs

@@ -4,11 +4,6 @@ use Rattle.cell.proofs.Loops.{recorded-halves, answer-is}
 use borrow.Author.Needs.{needs}
 use Rattle.cell.proofs.answers.answer_of.Statement.{statement}
 use Rattle.cell.proofs.answers.answer_of.Tie as tie
-use Rattle.cell.proofs.answers.answer_of.Reads as reads
-use Rattle.cell.proofs.answers.answer_of.Lts as lts
-use Rattle.cell.proofs.answers.crosses_of.Reads as crosses-of-reads
-use Rattle.cell.proofs.answers.folds_of.Reads as folds-of-reads
-use Rattle.cell.proofs.answers.type_of.Reads as type-of-reads
 
 crosses-of-requires : tie.Need-crosses-of-requires
 crosses-of-requires c κs = (c .pre .few, recorded-halves (c .pre .recorded) (c .pre .size) (c .pre .inside))

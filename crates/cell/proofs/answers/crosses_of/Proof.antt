@@ -11,10 +11,6 @@ use Rattle.cell.specs.Round.{crossesIn}
 use Rattle.cell.proofs.Loops.{Summed, summed-none, summed-more}
 use Rattle.cell.proofs.answers.crosses_of.Statement.{statement}
 use Rattle.cell.proofs.answers.crosses_of.Tie as tie
-use Rattle.cell.proofs.answers.crosses_of.Reads as reads
-use Rattle.cell.proofs.answers.crosses_of.Lts as lts
-use Rattle.cell.proofs.answers.edge_at.Reads as edge-at-reads
-use Rattle.cell.proofs.answers.same.Reads as same-reads
 
 abbrev Inv-loop : tie.InvT-loop
 Inv-loop halves n e x₀ k₀ x k = (k ≤ n) × Summed (λ i. one (eqb (edgeOf (getD halves i 0)) e)) k x

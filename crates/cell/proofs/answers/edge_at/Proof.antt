@@ -4,10 +4,6 @@ use borrow.Author.Needs.{needs}
 use Rattle.cell.specs.Half.{edgeOf}
 use Rattle.cell.proofs.answers.edge_at.Statement.{statement}
 use Rattle.cell.proofs.answers.edge_at.Tie as tie
-use Rattle.cell.proofs.answers.edge_at.Reads as reads
-use Rattle.cell.proofs.answers.edge_at.Lts as lts
-use Rattle.cell.proofs.routes.wide8.Reads as wide8-reads
-use Rattle.cell.proofs.tables.edge_of.Reads as edge-of-reads
 
 element-copy-out-wide8 : tie.Need-element-copy-out-wide8
 element-copy-out-wide8 c = search needs

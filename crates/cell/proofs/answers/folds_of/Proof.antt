@@ -11,10 +11,6 @@ use Rattle.cell.specs.Round.{foldsIn}
 use Rattle.cell.proofs.Loops.{Summed, summed-none, summed-more, foldAt, folds-none, folds-all, before-next}
 use Rattle.cell.proofs.answers.folds_of.Statement.{statement}
 use Rattle.cell.proofs.answers.folds_of.Tie as tie
-use Rattle.cell.proofs.answers.folds_of.Reads as reads
-use Rattle.cell.proofs.answers.folds_of.Lts as lts
-use Rattle.cell.proofs.answers.edge_at.Reads as edge-at-reads
-use Rattle.cell.proofs.answers.same.Reads as same-reads
 
 abbrev Inv-loop : tie.InvT-loop
 Inv-loop halves n a₀ f₀ k₀ a f k = (k ≤ n) × Summed (foldAt halves n) k f × (a ≡ edgeOf (getD halves (before n k) 0))

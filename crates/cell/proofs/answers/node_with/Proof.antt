@@ -3,8 +3,6 @@ use Rattle.cell.specs.Loop.{nodeWith}
 use borrow.Author.Needs.{needs}
 use Rattle.cell.proofs.answers.node_with.Statement.{statement}
 use Rattle.cell.proofs.answers.node_with.Tie as tie
-use Rattle.cell.proofs.answers.node_with.Reads as reads
-use Rattle.cell.proofs.answers.node_with.Lts as lts
 
 element-copy-out-result : tie.Need-element-copy-out-result
 element-copy-out-result c = search needs

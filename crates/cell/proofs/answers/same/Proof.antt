@@ -2,8 +2,6 @@ use native.Mathlib.Omega.{arith}
 use borrow.Author.Tests.{eq-eqb, ne-eqb}
 use Rattle.cell.proofs.answers.same.Statement.{statement}
 use Rattle.cell.proofs.answers.same.Tie as tie
-use Rattle.cell.proofs.answers.same.Reads as reads
-use Rattle.cell.proofs.answers.same.Lts as lts
 
 returns : tie.Need-returns
 returns c = (rw (eq-eqb _ _ (c .if1 .taken)), omega arith)

@@ -6,9 +6,6 @@ use Rattle.cell.specs.Loop.{typeBy}
 use borrow.Author.Needs.{needs}
 use Rattle.cell.proofs.answers.type_of.Statement.{statement}
 use Rattle.cell.proofs.answers.type_of.Tie as tie
-use Rattle.cell.proofs.answers.type_of.Reads as reads
-use Rattle.cell.proofs.answers.type_of.Lts as lts
-use Rattle.cell.proofs.answers.node_with.Reads as node-with-reads
 
 add-sum : tie.Need-add-sum
 add-sum c = search needs

@@ -2,9 +2,6 @@ use native.Mathlib.Omega.{arith}
 use borrow.Author.Needs.{needs}
 use Rattle.cell.proofs.routes.crossings_of.Statement.{statement}
 use Rattle.cell.proofs.routes.crossings_of.Tie as tie
-use Rattle.cell.proofs.routes.crossings_of.Reads as reads
-use Rattle.cell.proofs.routes.crossings_of.Lts as lts
-use Rattle.cell.proofs.routes.firsts_of.Reads as firsts-of-reads
 
 firsts-of-requires : tie.Need-firsts-of-requires
 firsts-of-requires c κs = search needs

@@ -3,9 +3,6 @@ use Rattle.cell.proofs.Route.{firsts}
 use borrow.Author.Needs.{needs}
 use Rattle.cell.proofs.routes.firsts_of.Statement.{statement}
 use Rattle.cell.proofs.routes.firsts_of.Tie as tie
-use Rattle.cell.proofs.routes.firsts_of.Reads as reads
-use Rattle.cell.proofs.routes.firsts_of.Lts as lts
-use Rattle.cell.proofs.routes.wide8.Reads as wide8-reads
 
 element-copy-out-wide8 : tie.Need-element-copy-out-wide8
 element-copy-out-wide8 c = search needs

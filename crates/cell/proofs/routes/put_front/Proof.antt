@@ -4,9 +4,6 @@ use mathlib.Core.Path.{_≡_, refl}
 use borrow.Author.Needs.{needs}
 use Rattle.cell.proofs.routes.put_front.Statement.{statement}
 use Rattle.cell.proofs.routes.put_front.Tie as tie
-use Rattle.cell.proofs.routes.put_front.Reads as reads
-use Rattle.cell.proofs.routes.put_front.Lts as lts
-use Rattle.cell.proofs.routes.wide8.Reads as wide8-reads
 
 mul-t : tie.Need-mul-t
 mul-t c = search needs

@@ -3,11 +3,6 @@ use Rattle.cell.proofs.Route.{slot-fronts}
 use borrow.Author.Needs.{needs}
 use Rattle.cell.proofs.routes.put_slot.Statement.{statement}
 use Rattle.cell.proofs.routes.put_slot.Tie as tie
-use Rattle.cell.proofs.routes.put_slot.Reads as reads
-use Rattle.cell.proofs.routes.put_slot.Lts as lts
-use Rattle.cell.proofs.routes.put_front.Reads as put-front-reads
-use Rattle.cell.proofs.routes.wide8.Reads as wide8-reads
-use Rattle.face.proofs.corner_count.Reads as corner-count-reads
 
 corner-count-requires : tie.Need-corner-count-requires
 corner-count-requires c κs = search needs

@@ -4,11 +4,6 @@ use Rattle.cell.proofs.Route.{linkTable, written-none, written-slot, wr
 use borrow.Author.Needs.{needs}
 use Rattle.cell.proofs.routes.routes_of.Statement.{statement}
 use Rattle.cell.proofs.routes.routes_of.Tie as tie
-use Rattle.cell.proofs.routes.routes_of.Reads as reads
-use Rattle.cell.proofs.routes.routes_of.Lts as lts
-use Rattle.cell.proofs.routes.firsts_of.Reads as firsts-of-reads
-use Rattle.cell.proofs.routes.put_slot.Reads as put-slot-reads
-use Rattle.cell.proofs.routes.run_of.Reads as run-of-reads
 
 firsts-of-requires : tie.Need-firsts-of-requires
 firsts-of-requires c κs = search needs

@@ -3,11 +3,6 @@ use mathlib.Core.Path.{_∙_}
 use borrow.Author.Needs.{needs}
 use Rattle.cell.proofs.routes.run_of.Statement.{statement}
 use Rattle.cell.proofs.routes.run_of.Tie as tie
-use Rattle.cell.proofs.routes.run_of.Reads as reads
-use Rattle.cell.proofs.routes.run_of.Lts as lts
-use Rattle.cell.proofs.routes.count_of.Reads as count-of-reads
-use Rattle.cell.proofs.routes.start_of.Reads as start-of-reads
-use Rattle.cell.proofs.routes.wide16.Reads as wide16-reads
 
 mul-first : tie.Need-mul-first
 mul-first c = search needs

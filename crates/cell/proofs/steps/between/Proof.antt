@@ -3,9 +3,6 @@ use Rattle.cell.proofs.Ready.{spot, leads, below-high, index-small, to-
 use borrow.Author.Needs.{needs}
 use Rattle.cell.proofs.steps.between.Statement.{statement}
 use Rattle.cell.proofs.steps.between.Tie as tie
-use Rattle.cell.proofs.steps.between.Reads as reads
-use Rattle.cell.proofs.steps.between.Lts as lts
-use Rattle.cell.proofs.steps.onto.Reads as onto-reads
 
 mul-g : tie.Need-mul-g
 mul-g c = search needs

@@ -4,11 +4,6 @@ use Rattle.cell.proofs.Ready.{low-is, high-is, count-is}
 use borrow.Author.Needs.{needs}
 use Rattle.cell.proofs.steps.next.Statement.{statement}
 use Rattle.cell.proofs.steps.next.Tie as tie
-use Rattle.cell.proofs.steps.next.Reads as reads
-use Rattle.cell.proofs.steps.next.Lts as lts
-use Rattle.cell.proofs.steps.between.Reads as between-reads
-use Rattle.cell.proofs.steps.round_high.Reads as round-high-reads
-use Rattle.cell.proofs.steps.round_low.Reads as round-low-reads
 
 mul-low : tie.Need-mul-low
 mul-low c = search needs

@@ -4,8 +4,6 @@ use Rattle.cell.proofs.Route.{first-at, fits}
 use borrow.Author.Needs.{needs}
 use Rattle.cell.proofs.steps.onto.Statement.{statement}
 use Rattle.cell.proofs.steps.onto.Tie as tie
-use Rattle.cell.proofs.steps.onto.Reads as reads
-use Rattle.cell.proofs.steps.onto.Lts as lts
 
 mul-first : tie.Need-mul-first
 mul-first c = search needs

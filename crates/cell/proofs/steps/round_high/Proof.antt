@@ -3,9 +3,6 @@ use Rattle.cell.proofs.Ready.{spot, leads, high-next-lt, high-room, to-
 use borrow.Author.Needs.{needs}
 use Rattle.cell.proofs.steps.round_high.Statement.{statement}
 use Rattle.cell.proofs.steps.round_high.Tie as tie
-use Rattle.cell.proofs.steps.round_high.Reads as reads
-use Rattle.cell.proofs.steps.round_high.Lts as lts
-use Rattle.cell.proofs.steps.onto.Reads as onto-reads
 
 mul-g : tie.Need-mul-g
 mul-g c = search needs

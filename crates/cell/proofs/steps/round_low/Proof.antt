@@ -3,9 +3,6 @@ use Rattle.cell.proofs.Ready.{spot, leads, low-next-lt, low-room, to-lo
 use borrow.Author.Needs.{needs}
 use Rattle.cell.proofs.steps.round_low.Statement.{statement}
 use Rattle.cell.proofs.steps.round_low.Tie as tie
-use Rattle.cell.proofs.steps.round_low.Reads as reads
-use Rattle.cell.proofs.steps.round_low.Lts as lts
-use Rattle.cell.proofs.steps.onto.Reads as onto-reads
 
 mul-g : tie.Need-mul-g
 mul-g c = search needs

@@ -7,8 +7,6 @@ use denote.Ref.{now}
 use Rattle.cell.proofs.Walking.{front-more}
 use Rattle.cell.proofs.walks.clear.Statement.{statement}
 use Rattle.cell.proofs.walks.clear.Tie as tie
-use Rattle.cell.proofs.walks.clear.Reads as reads
-use Rattle.cell.proofs.walks.clear.Lts as lts
 
 abbrev Inv-loop : tie.InvT-loop
 Inv-loop marks₀ n i₀ marks i = (i ≤ n) × (marks ≡ replicate i 65535 ++ drop i marks₀) × (length marks₀ ≡ 1530)

@@ -3,9 +3,6 @@ use Rattle.cell.proofs.Walking.{starts}
 use borrow.Author.Needs.{needs}
 use Rattle.cell.proofs.walks.first_dart.Statement.{statement}
 use Rattle.cell.proofs.walks.first_dart.Tie as tie
-use Rattle.cell.proofs.walks.first_dart.Reads as reads
-use Rattle.cell.proofs.walks.first_dart.Lts as lts
-use Rattle.cell.proofs.tables.first_of.Reads as first-of-reads
 
 first-of-requires : tie.Need-first-of-requires
 first-of-requires c κs = search needs

@@ -6,10 +6,6 @@ use Rattle.cell.specs.Of.{countOf}
 use Rattle.cell.proofs.Walking.{search-start, search-on, search-last}
 use Rattle.cell.proofs.walks.start_at.Statement.{statement}
 use Rattle.cell.proofs.walks.start_at.Tie as tie
-use Rattle.cell.proofs.walks.start_at.Reads as reads
-use Rattle.cell.proofs.walks.start_at.Lts as lts
-use Rattle.cell.proofs.routes.count_at.Reads as count-at-reads
-use Rattle.cell.proofs.walks.first_dart.Reads as first-dart-reads
 
 abbrev Inv-loop : tie.InvT-loop
 Inv-loop c p e₀ left₀ e left = (e ≤ 5) × (pre (countOf c) e + left ≡ p)

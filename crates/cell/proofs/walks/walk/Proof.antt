@@ -6,11 +6,6 @@ use Rattle.cell.proofs.Walking.{start-met}
 use Rattle.cell.proofs.Recording.{Going, walked-none, going-start, going-room, going-point, going-ready, going-end, going-lt, going-low, going-home, going-met, going-on}
 use Rattle.cell.proofs.walks.walk.Statement.{statement}
 use Rattle.cell.proofs.walks.walk.Tie as tie
-use Rattle.cell.proofs.walks.walk.Reads as reads
-use Rattle.cell.proofs.walks.walk.Lts as lts
-use Rattle.cell.proofs.routes.wide16.Reads as wide16-reads
-use Rattle.cell.proofs.steps.next.Reads as next-reads
-use Rattle.cell.proofs.walks.start_at.Reads as start-at-reads
 
 abbrev Inv-loop : tie.InvT-loop
 Inv-loop c routes p marks₀ halves₀ points₀ d₀ k₀ marks halves points d k = Going c p k marks halves points d

@@ -2,12 +2,6 @@ use Rattle.mesh.specs.Table.{tableCell}
 use borrow.Author.Needs.{needs}
 use Rattle.mesh.proofs.cells.cell_at.Statement.{statement}
 use Rattle.mesh.proofs.cells.cell_at.Tie as tie
-use Rattle.mesh.proofs.cells.cell_at.Reads as reads
-use Rattle.mesh.proofs.cells.cell_at.Lts as lts
-use Rattle.mesh.proofs.cells.counts_of.Reads as counts-of-reads
-use Rattle.mesh.proofs.cells.four_of.Reads as four-of-reads
-use Rattle.mesh.proofs.cells.index_of.Reads as index-of-reads
-use Rattle.mesh.proofs.cells.starts_of.Reads as starts-of-reads
 
 counts-of-requires : tie.Need-counts-of-requires
 counts-of-requires c κs = search needs

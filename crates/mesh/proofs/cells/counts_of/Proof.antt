@@ -6,9 +6,6 @@ use Rattle.counting.specs.Range.{over}
 use borrow.Author.Needs.{needs}
 use Rattle.mesh.proofs.cells.counts_of.Statement.{statement}
 use Rattle.mesh.proofs.cells.counts_of.Tie as tie
-use Rattle.mesh.proofs.cells.counts_of.Reads as reads
-use Rattle.mesh.proofs.cells.counts_of.Lts as lts
-use Rattle.mesh.proofs.cells.count_at.Reads as count-at-reads
 
 mul-i : tie.Need-mul-i
 mul-i c = search needs

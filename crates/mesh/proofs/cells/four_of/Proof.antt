@@ -3,8 +3,6 @@ use Rattle.counting.specs.Range.{over}
 use borrow.Author.Needs.{needs}
 use Rattle.mesh.proofs.cells.four_of.Statement.{statement}
 use Rattle.mesh.proofs.cells.four_of.Tie as tie
-use Rattle.mesh.proofs.cells.four_of.Reads as reads
-use Rattle.mesh.proofs.cells.four_of.Lts as lts
 
 mul-i : tie.Need-mul-i
 mul-i c = search needs

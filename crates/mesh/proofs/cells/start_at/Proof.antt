@@ -1,10 +1,6 @@
 use borrow.Author.Needs.{needs}
 use Rattle.mesh.proofs.cells.start_at.Statement.{statement}
 use Rattle.mesh.proofs.cells.start_at.Tie as tie
-use Rattle.mesh.proofs.cells.start_at.Reads as reads
-use Rattle.mesh.proofs.cells.start_at.Lts as lts
-use Rattle.mesh.proofs.cells.low.Reads as low-reads
-use Rattle.mesh.proofs.cells.wide.Reads as wide-reads
 
 mul-wide : tie.Need-mul-wide
 mul-wide c = search needs

@@ -6,9 +6,6 @@ use Rattle.counting.specs.Range.{over}
 use borrow.Author.Needs.{needs}
 use Rattle.mesh.proofs.cells.starts_of.Statement.{statement}
 use Rattle.mesh.proofs.cells.starts_of.Tie as tie
-use Rattle.mesh.proofs.cells.starts_of.Reads as reads
-use Rattle.mesh.proofs.cells.starts_of.Lts as lts
-use Rattle.mesh.proofs.cells.start_at.Reads as start-at-reads
 
 mul-i : tie.Need-mul-i
 mul-i c = search needs

@@ -7,10 +7,6 @@ use Rattle.mesh.specs.Table.{tableCell, tableTriangles}
 use Rattle.mesh.proofs.Progress.{Counting, counting-none, counting-more, counting-all}
 use Rattle.mesh.proofs.meshing.count_all.Statement.{statement}
 use Rattle.mesh.proofs.meshing.count_all.Tie as tie
-use Rattle.mesh.proofs.meshing.count_all.Reads as reads
-use Rattle.mesh.proofs.meshing.count_all.Lts as lts
-use Rattle.mesh.proofs.cells.cell_at.Reads as cell-at-reads
-use Rattle.triangle.proofs.count_in.Reads as count-in-reads
 
 abbrev Inv-loop : tie.InvT-loop
 Inv-loop cells counts names sides starts marks₀ halves₀ points₀ n t₀ c₀ marks halves points t c =

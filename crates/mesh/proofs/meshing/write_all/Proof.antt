@@ -9,10 +9,6 @@ use Rattle.mesh.specs.Table.{tableCell, tableTriangles}
 use Rattle.mesh.proofs.Progress.{Writing, writing-none, writing-room, writing-more, writing-all, writing-next}
 use Rattle.mesh.proofs.meshing.write_all.Statement.{statement}
 use Rattle.mesh.proofs.meshing.write_all.Tie as tie
-use Rattle.mesh.proofs.meshing.write_all.Reads as reads
-use Rattle.mesh.proofs.meshing.write_all.Lts as lts
-use Rattle.mesh.proofs.cells.cell_at.Reads as cell-at-reads
-use Rattle.triangle.proofs.write_in.Reads as write-in-reads
 
 abbrev Inv-loop : tie.InvT-loop
 Inv-loop cells counts names sides starts area₀ marks₀ halves₀ points₀ n i₀ c₀ area marks halves points i c =
