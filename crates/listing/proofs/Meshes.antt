@@ -25,6 +25,7 @@ use Rattle.triangle.proofs.Storing.{length-all}
 use Rattle.mesh.specs.Room.{roomAnswer, roomArea}
 use Rattle.mesh.specs.Mesh.{meshTriangles, meshWords}
 use Rattle.mesh.specs.Answer.{meshAnswer, meshArea}
+use Rattle.mesh.proofs.Claims.{mesh-some}
 use Rattle.listing.specs.Text.{refusedLine, head, wordText, wordAt, line}
 use Rattle.listing.specs.Listing.{areaTriangles, orRefused, meshListing, gridListing}
 
@@ -87,20 +88,10 @@ module _ (mesh : List Triangle) (t : ℕ) (area : List ℕ) (h : result (t ∷ [
       go false e = absurd (omega (arith, leb-false (wordCount * length mesh) (length area) e, room-fits))
 
 module _ (cells edges counts : List ℕ) where
-  some-mesh : (room : ℕ) → [] ≡ meshAnswer cells edges counts room → ⊥
-  unfolding meshAnswer roomAnswer
-  some-mesh room h = go (accepts cells edges counts) (leb (wordCount * length (meshTriangles cells edges counts)) room) h
-    where
-      go : (a b : Bool)
-          → [] ≡ pick a (pick b (result (length (meshTriangles cells edges counts) ∷ [])) (refusal 12 (length (meshTriangles cells edges counts)))) (gridAnswer cells edges counts) → ⊥
-      go true true q = let z : _≡_ {A = ℕ} 0 1 = cc in omega arith
-      go true false q = let z : _≡_ {A = ℕ} 0 1 = cc in omega arith
-      go false b q = never-empty cells edges counts q
-
   -- what the mesh call refuses
   pub mesh-refused : (n p : ℕ) → pick (eqb n 0) [] (refusal n p) ≡ meshAnswer cells edges counts (wordCount * areaTriangles) → refusedLine n p ≡ gridListing cells edges counts
   unfolding gridListing
-  mesh-refused n p h = or-numbers n p _ (meshListing cells edges counts) (some-mesh (wordCount * areaTriangles)) h
+  mesh-refused n p h = or-numbers n p _ (meshListing cells edges counts) (mesh-some cells edges counts (wordCount * areaTriangles)) h
 
   -- what the check refuses, the mesh call refuses
   pub check-refused : (n p : ℕ) → pick (eqb n 0) [] (refusal n p) ≡ gridAnswer cells edges counts → refusedLine n p ≡ gridListing cells edges counts

@@ -44,7 +44,7 @@ pick-some true x y f g q = f q
 pick-some false x y f g q = g q
 
 module _ (cells edges counts : List ℕ) where
-  mesh-some : (room : ℕ) → [] ≡ meshAnswer cells edges counts room → ⊥
+  pub mesh-some : (room : ℕ) → [] ≡ meshAnswer cells edges counts room → ⊥
   unfolding meshAnswer roomAnswer
   mesh-some room =
       pick-some (accepts cells edges counts) (roomAnswer mesh room) (gridAnswer cells edges counts)
@@ -62,7 +62,7 @@ module _ (cells edges counts : List ℕ) where
       go [] q = no-nil q
       go (p ∷ l) q = no-nil q
 
-  loops-some : (c k : ℕ) → [] ≡ loopsAnswer cells edges counts c k → ⊥
+  pub loops-some : (c k : ℕ) → [] ≡ loopsAnswer cells edges counts c k → ⊥
   unfolding loopsAnswer askedLoop
   loops-some c k =
       pick-some (accepts cells edges counts) (askedLoop (gridCell cells edges counts) (cellCount cells) c k) (gridAnswer cells edges counts)

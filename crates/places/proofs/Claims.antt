@@ -18,7 +18,7 @@ use Rattle.places.proofs.Answers.{rows-some}
 
 module _ (cells edges counts : List ℕ) (nodes fractions : List Float) (room : ℕ) where
   -- there is always an answer
-  places-some : [] ≡ placesAnswer cells edges counts nodes fractions room → ⊥
+  pub places-some : [] ≡ placesAnswer cells edges counts nodes fractions room → ⊥
   unfolding placesAnswer
   places-some = go (accepts cells edges counts)
     where

@@ -1,5 +1,5 @@
 -- Row 17, edge by edge.
-use Prim.Native.Nat.{ℕ, suc, _+_, _-_, _≤_, _<_}
+use Prim.Native.Nat.{ℕ, _+_, _-_, _≤_, _<_}
 use mathlib.Core.Path.{_≡_, refl, sym, ap, _∙_}
 use mathlib.Core.Bool.{Bool, true, false, not}
 use mathlib.Core.List.{List}
@@ -11,7 +11,7 @@ use borrow.Author.Tests.{lt-ltb}
 use Rattle.counting.specs.Search.{first}
 use Rattle.counting.specs.Pack.{pre}
 use Rattle.counting.proofs.Search.{first-le, first-is, first-below, first-at, none-first}
-use Rattle.counting.proofs.Pack.{col-pack, pre-next, pre-le, pack-lt}
+use Rattle.counting.proofs.Pack.{col-pack, pre-le, pack-lt}
 use Rattle.grid.specs.Grid.{countOf, start, crossings}
 use Rattle.places.specs.Place.{properFraction}
 use Rattle.places.specs.Points.{indexOf}
@@ -32,15 +32,6 @@ module _ (fractions : List Float) (g i : ℕ) where
   following h e = rw (h, lt-ltb 0 i (omega arith))
 
 module _ (counts : List ℕ) where
-  -- the start of the next edge
-  pub start-next : (e : ℕ) → start counts (e + 1) ≡ start counts e + countOf counts e
-  unfolding start
-  start-next e = let z : e + 1 ≡ suc e = omega arith in ap (pre (countOf counts)) z ∙ pre-next (countOf counts) e e
-
-  pub start-zero : 0 ≡ start counts 0
-  unfolding start pre
-  start-zero = refl
-
   pub start-fits : (e : ℕ) → e < length counts → start counts e + countOf counts e ≤ crossings counts
   unfolding start
   start-fits e h = pre-le (countOf counts) (length counts) e (length counts) h

@@ -49,27 +49,24 @@ impl Tally {
     }
 }
 
-/// Compares a call on an area of this length: the numbers answered and every
-/// bit of the area and its guards. Tells both.
-fn compare_in(placing: &Placing, len: usize) -> (Vec<u64>, Vec<u64>) {
-    let mut area = untouched(len);
-    let mut lent = Lent::new(&area, GUARD);
-    let numbers = expected::places(placing, &mut area);
+/// The proved call.
+fn call(placing: &Placing, area: &mut [u64], answer: &mut [u64]) -> usize {
     let Sample {
         cells,
         edges,
         counts,
     } = &placing.grid;
     let (nodes, fractions) = (&placing.nodes, &placing.fractions);
-    let right = answers(&numbers, |answer| {
-        calls::places(
-            (cells, edges, counts),
-            nodes,
-            fractions,
-            lent.area(),
-            answer,
-        )
-    });
+    calls::places((cells, edges, counts), nodes, fractions, area, answer)
+}
+
+/// Compares a call on an area of this length: the numbers answered and every
+/// bit of the area and its guards. Tells both.
+fn compare_in(placing: &Placing, len: usize) -> (Vec<u64>, Vec<u64>) {
+    let mut area = untouched(len);
+    let mut lent = Lent::new(&area, GUARD);
+    let numbers = expected::places(placing, &mut area);
+    let right = answers(&numbers, |answer| call(placing, lent.area(), answer));
     assert!(
         right,
         "area of {len}: not answered with {numbers:?} alone: {placing:?}"
@@ -166,21 +163,7 @@ fn compare_with(numbers: [u64; 2], placing: &Placing, len: usize) -> Vec<f64> {
     let (answered, area) = compare_in(placing, len);
     assert_eq!(answered, numbers, "{placing:?}");
     let mut lent = Lent::new(&untouched(len), GUARD);
-    let Sample {
-        cells,
-        edges,
-        counts,
-    } = &placing.grid;
-    let (nodes, fractions) = (&placing.nodes, &placing.fractions);
-    let right = answers_in_all(&numbers, |answer| {
-        calls::places(
-            (cells, edges, counts),
-            nodes,
-            fractions,
-            lent.area(),
-            answer,
-        )
-    });
+    let right = answers_in_all(&numbers, |answer| call(placing, lent.area(), answer));
     assert!(right && lent.is(&area, GUARD), "{placing:?}");
     area.into_iter().map(f64::from_bits).collect()
 }

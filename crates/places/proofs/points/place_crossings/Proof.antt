@@ -1,12 +1,13 @@
 use Prim.Native.Nat.{_-_, _≤_}
-use mathlib.Core.Path.{_∙_, _≡_, ap, refl}
+use mathlib.Core.Path.{_∙_, _≡_, ap, refl, sym}
 use native.Mathlib.Omega.{arith}
 use lib.ListN.{length}
 use lib.Seq.{sets}
 use denote.Ref.{now}
 use Rattle.grid.specs.Grid.{start}
 use Rattle.places.specs.Place.{placeAt, allNumbers}
-use Rattle.places.proofs.Fractions.{start-next, start-zero, start-fits}
+use Rattle.grid.proofs.Crossings.{start-next, start-zero}
+use Rattle.places.proofs.Fractions.{start-fits}
 use Rattle.places.proofs.Stored.{front, front-none, front-more}
 use borrow.Author.Needs.{needs}
 use Rattle.places.proofs.points.place_crossings.Statement.{statement}
@@ -19,7 +20,7 @@ abbrev μ-loop : tie.MeasureT-loop
 μ-loop edges counts nodes fractions area₀ g₀ e₀ area g e = length counts - e
 
 loop-holds : tie.Need-loop-holds Inv-loop μ-loop
-loop-holds c = let a = c .before .before .before .before .before .args in (omega arith, start-zero _, refl, front-none (now (a .edges)) (now (a .counts)) (now (a .nodes)) (now (a .fractions)) (now (a .area)))
+loop-holds c = let a = c .before .before .before .before .before .args in (omega arith, sym (start-zero _), refl, front-none (now (a .edges)) (now (a .counts)) (now (a .nodes)) (now (a .fractions)) (now (a .area)))
 
 mul-wide : tie.Need-mul-wide Inv-loop μ-loop
 mul-wide c = omega (arith, c .before .before .before .before .before .before .before .pre .pairs)

@@ -1,10 +1,11 @@
 use Prim.Native.Nat.{_-_, _≤_}
-use mathlib.Core.Path.{_∙_, _≡_, ap}
+use mathlib.Core.Path.{_∙_, _≡_, ap, sym}
 use native.Mathlib.Omega.{arith}
 use lib.ListN.{length}
 use denote.Ref.{now}
 use Rattle.grid.specs.Grid.{start}
-use Rattle.places.proofs.Fractions.{Fine, start-next, start-zero, start-fits, fault-found, fine-on, fine-none, fine-end}
+use Rattle.grid.proofs.Crossings.{start-next, start-zero}
+use Rattle.places.proofs.Fractions.{Fine, start-fits, fault-found, fine-on, fine-none, fine-end}
 use borrow.Author.Needs.{needs}
 use Rattle.places.proofs.rows.row_17.Statement.{statement}
 use Rattle.places.proofs.rows.row_17.Tie as tie
@@ -16,7 +17,7 @@ abbrev μ-loop : tie.MeasureT-loop
 μ-loop counts fractions g₀ e₀ g e = length counts - e
 
 loop-holds : tie.Need-loop-holds Inv-loop μ-loop
-loop-holds c = (omega arith, start-zero _, fine-none _ _)
+loop-holds c = (omega arith, sym (start-zero _), fine-none _ _)
 
 shared-slice-read-size : tie.Need-shared-slice-read-size Inv-loop μ-loop
 shared-slice-read-size c = omega arith
