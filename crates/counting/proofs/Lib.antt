@@ -10,3 +10,4 @@ pub mod Reach
 pub mod Rows
 pub mod Fronts
 pub mod Stores
+pub mod Stored
