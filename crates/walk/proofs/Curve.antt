@@ -1,7 +1,7 @@
 -- Laws of walks: a walk that does not end closes, its crossings are distinct, and loops that share a crossing share all.
 use Prim.Native.Nat.{ℕ, zero, suc, _+_, _-_, _≤_, _<_}
 use mathlib.Core.Path.{_≡_, refl, sym, ap, _∙_, subst}
-use mathlib.Core.Logic.{_⊎_, inl, inr, _≢_, ⊎-elim}
+use mathlib.Core.Logic.{inl, inr, _≢_, ⊎-elim}
 use mathlib.Core.Bool.{Bool, true, false}
 use native.Mathlib.Nat.{not-suc-le-zero, zero-add, suc-add, eq-or-lt-of-le, le-refl, le-trans, le-of-eq}
 use native.Mathlib.Decide.{decLt}
@@ -9,14 +9,10 @@ use native.Mathlib.Omega.{arith}
 use lib.Dec.{eqb, leb, ltb}
 use borrow.Author.Tests.{eqb-true, eqb-false, leb-true, leb-false, ltb-true, ltb-false}
 use Rattle.counting.proofs.Pigeon.{pigeonhole}
-use Rattle.counting.proofs.Search.{least}
+use Rattle.counting.proofs.Search.{Least, least}
 use Rattle.walk.specs.Iterate.{it}
 use Rattle.walk.specs.Darts.{Darts, Live, Loop, On, Lowest}
 use Rattle.walk.proofs.Iterate.{it-suc, it-sub}
-
--- a least number that passes, or none
-abbrev Found : (ℕ → Bool) → ℕ → Type 0
-Found t n = ((k : ℕ) × (k < n) × (t k ≡ true) × ((i : ℕ) → i < k → t i ≡ false)) ⊎ ((i : ℕ) → i < n → t i ≡ false)
 
 -- what holds of each i + 1 with i < n holds from 1 to n
 from-one : (P : ℕ → Type 0) (n : ℕ) → ((i : ℕ) → i < n → P (suc i)) → (i : ℕ) → 0 < i → i ≤ n → P i
@@ -129,7 +125,7 @@ module _ (M N : ℕ) (s rv cr : ℕ → ℕ) (D : Darts M N s rv cr) where
   pub closes : (p : ℕ) → Live M s p N → (k : ℕ) × (k ≤ N) × Loop M s p k
   closes p live = go (least (λ i. eqb (it s (suc i) p) p) N)
     where
-      go : Found (λ i. eqb (it s (suc i) p) p) N → (k : ℕ) × (k ≤ N) × Loop M s p k
+      go : Least (λ i. eqb (it s (suc i) p) p) N → (k : ℕ) × (k ≤ N) × Loop M s p k
       go (inl w) = (
         suc (w .0),
         w .1,
