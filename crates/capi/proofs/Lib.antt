@@ -1,4 +1,3 @@
 pub mod Answers
 pub mod Body
 pub mod Putting
-pub mod Refused

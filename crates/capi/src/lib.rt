@@ -8,6 +8,7 @@ ghost use Rattle.bundle.specs.Record.{recordAnswer};
 ghost use Rattle.bundle.specs.Bundle.{isTaken, readAnswer, nodesOf, endsOf, countsOf, leaves};
 ghost use Rattle.bundle.specs.Written.{bundleBytes, isWritten, writeAnswer};
 ghost use Rattle.face.specs.Face.{faceJoin};
+ghost use Rattle.grid.specs.Grid.{gridOf};
 ghost use Rattle.grid.specs.Rows.{gridAnswer};
 ghost use Rattle.counting.specs.Pick.{pick, one};
 ghost use Rattle.answer.specs.Answer.{result};
@@ -68,7 +69,7 @@ pub extern "C" fn citternblaze_check(
     counts: &[u8],
     answer: &mut [u64],
 ) -> usize
-    ensures { λ r. ⌜ Answers (gridAnswer (now (cells .entry)) (now (edges .entry)) (now (counts .entry))) (now (answer .entry)) (now (answer .exit)) r ⌝ }
+    ensures { λ r. ⌜ Answers (gridAnswer (gridOf (now (cells .entry)) (now (edges .entry)) (now (counts .entry)))) (now (answer .entry)) (now (answer .exit)) r ⌝ }
 {
     match grid::check(cells, edges, counts) {
         Checked::Crossings(n) => put(answer, &[0, n as u64]),
@@ -85,8 +86,8 @@ pub extern "C" fn citternblaze_mesh(
     area: &mut [u32],
     answer: &mut [u64],
 ) -> usize
-    ensures answer { λ r. ⌜ Answers (meshAnswer (now (cells .entry)) (now (edges .entry)) (now (counts .entry)) (length (now (area .entry)))) (now (answer .entry)) (now (answer .exit)) r ⌝ }
-    ensures area { λ r. ⌜ now (area .exit) ≡ meshArea (now (cells .entry)) (now (edges .entry)) (now (counts .entry)) (now (area .entry)) ⌝ }
+    ensures answer { λ r. ⌜ Answers (meshAnswer (gridOf (now (cells .entry)) (now (edges .entry)) (now (counts .entry))) (length (now (area .entry)))) (now (answer .entry)) (now (answer .exit)) r ⌝ }
+    ensures area { λ r. ⌜ now (area .exit) ≡ meshArea (gridOf (now (cells .entry)) (now (edges .entry)) (now (counts .entry))) (now (area .entry)) ⌝ }
 {
     match mesh::mesh(cells, edges, counts, area) {
         Meshed::Triangles(n) => put(answer, &[0, n as u64]),
@@ -144,7 +145,7 @@ pub extern "C" fn citternblaze_loops(
     index: usize,
     answer: &mut [u64],
 ) -> usize
-    ensures { λ r. ⌜ Answers (loopsAnswer (now (cells .entry)) (now (edges .entry)) (now (counts .entry)) cell index) (now (answer .entry)) (now (answer .exit)) r ⌝ }
+    ensures { λ r. ⌜ Answers (loopsAnswer (gridOf (now (cells .entry)) (now (edges .entry)) (now (counts .entry))) cell index) (now (answer .entry)) (now (answer .exit)) r ⌝ }
 {
     match mesh::loops(cells, edges, counts, cell, index) {
         Looped::Told(l) => put_loop(answer, l),
@@ -163,8 +164,8 @@ pub extern "C" fn citternblaze_places(
     area: &mut [f64],
     answer: &mut [u64],
 ) -> usize
-    ensures answer { λ r. ⌜ Answers (placesAnswer (now (cells .entry)) (now (edges .entry)) (now (counts .entry)) (now (nodes .entry)) (now (fractions .entry)) (length (now (area .entry)))) (now (answer .entry)) (now (answer .exit)) r ⌝ }
-    ensures area { λ r. ⌜ now (area .exit) ≡ placesArea (now (cells .entry)) (now (edges .entry)) (now (counts .entry)) (now (nodes .entry)) (now (fractions .entry)) (now (area .entry)) ⌝ }
+    ensures answer { λ r. ⌜ Answers (placesAnswer (gridOf (now (cells .entry)) (now (edges .entry)) (now (counts .entry))) (now (nodes .entry)) (now (fractions .entry)) (length (now (area .entry)))) (now (answer .entry)) (now (answer .exit)) r ⌝ }
+    ensures area { λ r. ⌜ now (area .exit) ≡ placesArea (gridOf (now (cells .entry)) (now (edges .entry)) (now (counts .entry))) (now (nodes .entry)) (now (fractions .entry)) (now (area .entry)) ⌝ }
 {
     match places::places(cells, edges, counts, nodes, fractions, area) {
         Placed::Points(n) => put(answer, &[0, n as u64]),

@@ -1,19 +1,20 @@
 -- Every example's answer is the definition's, and so are the tables of two grids: computed equations of lists.
 use mathlib.Core.Path.{_≡_, refl}
+use Rattle.answer.specs.Rows.{orRefuse, answerOf}
 use Rattle.counting.specs.Search.{seek, first, last, some, every, count}
 use Rattle.counting.specs.Range.{total, over}
 use Rattle.counting.specs.Pack.{pre}
 use Rattle.counting.specs.Reach.{reach}
 use Rattle.slots.specs.Slots.{lo, hi, corner, contains}
-use Rattle.grid.specs.Grid.{faceNode, sameFace, hasFace, faceName, neighbour, joins, isEdge, hasEdge, outer, edgeNumber, start}
-use Rattle.grid.specs.Rows.{badLength, badPairs, badCell, sameCell, repeats, third, after, badEdge, unlisted, unused, linked, joined, split, tooMany, rows, orRefuse, answerOf, answerFrom, gridAnswer}
+use Rattle.grid.specs.Grid.{faceNode, sameFace, hasFace, faceName, joins, isEdge, hasEdge, outer, edgeNumber, start}
+use Rattle.grid.specs.Rows.{badLength, badPairs, badCell, sameCell, repeats, third, after, badEdge, unlisted, unused, linked, joined, split, tooMany, rows, gridAnswer}
 use Rattle.grid.specs.Examples.{of, examples, found, expected}
 
-pub examples-hold : of (λ x. gridAnswer (x .cells) (x .edges) (x .counts)) examples ≡ of (λ x. x .answer) examples
+pub examples-hold : of (λ x. gridAnswer (x .grid)) examples ≡ of (λ x. x .answer) examples
 unfolding of examples seek first last some every count total pre reach lo hi corner contains faceNode sameFace hasFace joins isEdge hasEdge start
-    badLength badPairs badCell sameCell repeats third after badEdge unlisted unused linked joined split tooMany rows orRefuse answerOf answerFrom gridAnswer
+    badLength badPairs badCell sameCell repeats third after badEdge unlisted unused linked joined split tooMany rows orRefuse answerOf gridAnswer
 examples-hold = refl
 
 pub tables-hold : found ≡ expected
-unfolding found expected seek first last some every count total over pre lo hi corner contains faceNode sameFace hasFace faceName neighbour joins isEdge outer edgeNumber start
+unfolding found expected seek first last some every count total over pre lo hi corner contains faceNode sameFace hasFace faceName joins isEdge outer edgeNumber start
 tables-hold = refl

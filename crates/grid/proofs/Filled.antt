@@ -2,7 +2,7 @@
 use Prim.Native.Nat.{ℕ, zero, suc, _%_, _*_, _+_, _-_, _/_, _<_, _≤_}
 use mathlib.Core.Path.{_∙_, _≡_, ap, refl, subst, sym}
 use mathlib.Core.Logic.{_≢_, _⊎_, inl, inr, ⊎-elim}
-use mathlib.Core.Bool.{Bool, _&&_, false, not, true}
+use mathlib.Core.Bool.{Bool, false, true}
 use mathlib.Core.List.{List, [], _∷_}
 use native.Mathlib.Nat.{eq-zero-or-pos, not-suc-le-zero}
 use native.Mathlib.Numerals.{add-one}
@@ -10,22 +10,22 @@ use native.Mathlib.Omega.{arith}
 use lib.Dec.{eqb, ltb}
 use lib.ListN.{getD, length, length-set, set}
 use lib.Seq.{getD-set-other, getD-set-same}
-use borrow.Author.Tests.{eq-eqb, eqb-false, eqb-true, le-ltb, lt-ltb, ltb-false, ltb-true, ne-eqb, not-true}
-use Rattle.counting.specs.Pick.{pick}
+use borrow.Author.Tests.{eq-eqb, eqb-false, eqb-true, le-ltb, lt-ltb, ltb-false, ltb-true, ne-eqb}
 use Rattle.counting.specs.Search.{first}
-use Rattle.counting.proofs.Bools.{and-left, and-right, and-true, not-clash}
-use Rattle.counting.proofs.Search.{below-or, first-at, last-at, last-not}
-use Rattle.answer.specs.Answer.{refusal, result}
+use Rattle.counting.proofs.Bools.{not-clash}
+use Rattle.counting.proofs.Search.{below-or, first-at}
+use Rattle.answer.specs.Answer.{result}
+use Rattle.answer.proofs.Answer.{refused-not}
 use Rattle.grid.specs.Accepted.{Accepted}
 use Rattle.grid.specs.Check.{checkNumbers}
-use Rattle.grid.specs.Grid.{cellCount, edgeNumber, faceName, isEdge, neighbour, sameFace, start}
+use Rattle.grid.specs.Grid.{Grid, cellCount, edgeNumber, faceName, isEdge, sameFace, start}
 use Rattle.grid.specs.Rows.{gridAnswer}
-use Rattle.grid.specs.Tables.{Opened, accepts, acrossAt, filled, nameAt, sideAt}
+use Rattle.grid.specs.Tables.{Opened, accepts, filled, nameAt, sideAt}
 use Rattle.grid.specs.Work.{Copying, Lowering, Near, Ordered, WhereAccepted, Worked, listedAt, lowerOf}
 use Rattle.grid.specs.declared.Checked.{Checked}
 use Rattle.grid.specs.declared.Checked.the-variants.{Crossings, Refused}
 use Rattle.grid.proofs.Accepts.{acceptance-yields, ordered}
-use Rattle.grid.proofs.Claims.{clear-where, never-empty}
+use Rattle.grid.proofs.Claims.{clear-accepted, never-empty}
 use Rattle.grid.proofs.Packed.{one-slot, true-same}
 
 pub filled-none : (f : ℕ → ℕ) (l : List ℕ) → l ≡ filled f 0 l
@@ -93,31 +93,6 @@ module _ (cells near : List ℕ) (good : Ordered cells) (N : Near cells near) (j
           let k : 4 * (m / 4) + m % 4 ≡ m = omega arith in
           inr (f, rw (whole, k) at (N .all (m / 4) (m % 4) (j / 4) (j % 4) (omega arith) (omega arith) (omega arith) (omega arith) f e))
 
-  other-passes : ℕ → Bool
-  other-passes m = not (eqb (m / 4) (j / 4)) && sameFace cells (m / 4) (m % 4) (j / 4) (j % 4)
-
-  other-is : (m : ℕ) → m < 4 * cellCount cells → other-passes m ≡ true → getD near j 0 ≡ m + 1
-  unfolding other-passes
-  other-is m l e =
-      let a = not-true (eqb (m / 4) (j / 4)) (and-left (not (eqb (m / 4) (j / 4))) (sameFace cells (m / 4) (m % 4) (j / 4) (j % 4)) e) in
-      let b = and-right (not (eqb (m / 4) (j / 4))) (sameFace cells (m / 4) (m % 4) (j / 4) (j % 4)) e in
-      ⊎-elim (λ (q : m ≡ j). absurd (eqb-false (m / 4) (j / 4) a (ap (λ (x : ℕ). x / 4) q))) (λ (q : (m / 4 ≢ j / 4) × (getD near j 0 ≡ m + 1)). q .1) (only m l b)
-
-  pub near-is-neighbour : getD near j 0 ≡ neighbour cells (j / 4) (j % 4)
-  unfolding neighbour other-passes
-  near-is-neighbour =
-      ⊎-elim
-      (λ (z : getD near j 0 ≡ 0). z ∙ sym (last-not other-passes (4 * cellCount cells)
-      (λ m l. not-clash (other-passes m) (λ e. omega (arith, other-is m l e)))))
-      (λ (p : 0 < getD near j 0).
-      let g = N .pair j h p in
-      let x = getD near j 0 - 1 in
-      let u : x + 1 ≡ getD near j 0 = omega arith in
-      sym (last-at other-passes (4 * cellCount cells) x (omega (arith, g .lt))
-      (and-true (not (eqb (x / 4) (j / 4))) (sameFace cells (x / 4) (x % 4) (j / 4) (j % 4)) (rw (ne-eqb (x / 4) (j / 4) (g .other))) (g .same))
-      (λ m a b. not-clash (other-passes m) (λ e. omega (arith, other-is m b e))) ∙ u))
-      (eq-zero-or-pos (getD near j 0))
-
   passes : ℕ → Bool
   passes m = sameFace cells (m / 4) (m % 4) (j / 4) (j % 4)
 
@@ -156,73 +131,66 @@ module _ (cells near : List ℕ) (good : Ordered cells) (N : Near cells near) (j
           go false e = inr (ltb-false a b e)
 
 -- the place of a listed edge
-pub listed-side : (cells edges counts : List ℕ) → Accepted cells edges counts → (j : ℕ) → j < 6 * cellCount cells
-    → listedAt cells edges (length counts) j ≡ suc (sideAt cells edges counts j)
+pub listed-side : (G : Grid) → Accepted G → (j : ℕ) → j < 6 * cellCount (G .cells)
+    → listedAt G j ≡ suc (sideAt G j)
 unfolding listedAt edgeNumber
-listed-side cells edges counts A j h =
-    rw (lt-ltb (first (isEdge cells edges (j / 6) (j % 6)) (length counts)) (length counts) (A .listed (j / 6) (j % 6) (omega arith) (omega arith)))
+listed-side G A j h =
+    rw (lt-ltb (first (isEdge G (j / 6) (j % 6)) (length (G .counts))) (length (G .counts)) (A .listed (j / 6) (j % 6) (omega arith) (omega arith)))
 
-module _ (cells edges counts : List ℕ) where
+module _ (G : Grid) where
   -- a refusal's number is not 0
-  pub refused-keeps : (row place : ℕ) → checkNumbers (Refused row place) ≡ gridAnswer cells edges counts → accepts cells edges counts ≡ false
-  refused-keeps row place e = go (eqb row 0) refl e
-    where
-      go : (b : Bool) → eqb row 0 ≡ b → pick b [] (refusal row place) ≡ gridAnswer cells edges counts → accepts cells edges counts ≡ false
-      go true q f = absurd (never-empty cells edges counts f)
-      go false q f = rw (← f) q
+  pub refused-keeps : (row place : ℕ) → checkNumbers (Refused row place) ≡ gridAnswer G → accepts G ≡ false
+  refused-keeps row place e = refused-not (gridAnswer G) (never-empty G) row place e
 
-  pub crossings-accept : (n : ℕ) → checkNumbers (Crossings n) ≡ gridAnswer cells edges counts → accepts cells edges counts ≡ true
+  pub crossings-accept : (n : ℕ) → checkNumbers (Crossings n) ≡ gridAnswer G → accepts G ≡ true
   crossings-accept n e = rw (← e)
 
-  pub opened-kept : accepts cells edges counts ≡ false → (names near sides starts : List ℕ) → Opened cells edges counts names near sides starts names near sides starts
-  opened-kept e names near sides starts = record { names-are = rw e; near-are = rw e; sides-are = rw e; starts-are = rw e }
+  pub opened-kept : accepts G ≡ false → (names sides starts : List ℕ) → Opened G names sides starts names sides starts
+  opened-kept e names sides starts = record { names-are = rw e; sides-are = rw e; starts-are = rw e }
 
   -- what the check leaves is what the writers take
-  module _ (across listed : List ℕ) (A : Accepted cells edges counts) (W : Worked cells edges counts across listed) where
-    pub lowering : (table : List ℕ) → 6 * cellCount cells ≤ length table → Lowering (6 * cellCount cells) listed table
+  module _ (across listed : List ℕ) (A : Accepted G) (W : Worked G across listed) where
+    pub lowering : (table : List ℕ) → 6 * cellCount (G .cells) ≤ length table → Lowering (6 * cellCount (G .cells)) listed table
     lowering table room =
         record {
           few = omega (arith, A .few-cells);
           listed-room = W .sided .room;
           room = room;
           entries = λ j h. (
-              let e = W .sided .at j h ∙ listed-side cells edges counts A j h in
+              let e = W .sided .at j h ∙ listed-side G A j h in
               let l = A .listed (j / 6) (j % 6) (omega arith) (omega arith) in
               (omega (arith, e), omega (arith, e, l, A .few-edges, A .few-cells)));
         }
 
-    pub copying : (table : List ℕ) → 4 * cellCount cells ≤ length table → Copying (4 * cellCount cells) across table
+    pub copying : (table : List ℕ) → 4 * cellCount (G .cells) ≤ length table → Copying (4 * cellCount (G .cells)) across table
     copying table room = record { few = omega (arith, A .few-cells); across-room = W .near-is .room; room = room }
 
-    pub opened-filled : accepts cells edges counts ≡ true → Ordered cells → (names₀ near₀ sides₀ starts₀ names near sides starts : List ℕ)
-        → names ≡ filled (λ j. lowerOf j (getD across j 0)) (4 * cellCount cells) names₀
-        → near ≡ filled (λ j. getD across j 0) (4 * cellCount cells) near₀
-        → sides ≡ filled (λ j. getD listed j 0 - 1) (6 * cellCount cells) sides₀
-        → starts ≡ filled (start counts) (length counts) starts₀
-        → Opened cells edges counts names₀ near₀ sides₀ starts₀ names near sides starts
-    opened-filled e good names₀ near₀ sides₀ starts₀ names near sides starts p q r t =
+    pub opened-filled : accepts G ≡ true → Ordered (G .cells) → (names₀ sides₀ starts₀ names sides starts : List ℕ)
+        → names ≡ filled (λ j. lowerOf j (getD across j 0)) (4 * cellCount (G .cells)) names₀
+        → sides ≡ filled (λ j. getD listed j 0 - 1) (6 * cellCount (G .cells)) sides₀
+        → starts ≡ filled (start (G .counts)) (length (G .counts)) starts₀
+        → Opened G names₀ sides₀ starts₀ names sides starts
+    opened-filled e good names₀ sides₀ starts₀ names sides starts p r t =
         record {
-          names-are = rw e (p ∙ filled-ext (λ j. lowerOf j (getD across j 0)) (nameAt cells) (4 * cellCount cells) names₀
-              (λ j h. name-is-lower cells across good (W .near-is) j h));
-          near-are = rw e (q ∙ filled-ext (λ j. getD across j 0) (acrossAt cells) (4 * cellCount cells) near₀
-              (λ j h. near-is-neighbour cells across good (W .near-is) j h));
-          sides-are = rw e (r ∙ filled-ext (λ j. getD listed j 0 - 1) (sideAt cells edges counts) (6 * cellCount cells) sides₀
-              (λ j h. omega (arith, W .sided .at j h ∙ listed-side cells edges counts A j h)));
+          names-are = rw e (p ∙ filled-ext (λ j. lowerOf j (getD across j 0)) (nameAt (G .cells)) (4 * cellCount (G .cells)) names₀
+              (λ j h. name-is-lower (G .cells) across good (W .near-is) j h));
+          sides-are = rw e (r ∙ filled-ext (λ j. getD listed j 0 - 1) (sideAt G) (6 * cellCount (G .cells)) sides₀
+              (λ j h. omega (arith, W .sided .at j h ∙ listed-side G A j h)));
           starts-are = rw e t;
         }
 
   -- an answer that is known to be a result
-  module _ (r : Checked) (n : ℕ) (e : r ≡ Crossings n) (h : checkNumbers r ≡ gridAnswer cells edges counts) where
-    is-result : gridAnswer cells edges counts ≡ result (n ∷ [])
+  module _ (r : Checked) (n : ℕ) (e : r ≡ Crossings n) (h : checkNumbers r ≡ gridAnswer G) where
+    is-result : gridAnswer G ≡ result (n ∷ [])
     is-result = sym h ∙ ap checkNumbers e
 
-    pub told-accepted : Accepted cells edges counts
-    told-accepted = acceptance-yields cells edges counts (n ∷ []) is-result
+    pub told-accepted : Accepted G
+    told-accepted = acceptance-yields G (n ∷ []) is-result
 
-    pub told-ordered : Ordered cells
-    told-ordered = ordered cells edges counts (clear-where cells edges counts (n ∷ []) is-result)
+    pub told-ordered : Ordered (G .cells)
+    told-ordered = ordered G (clear-accepted G (n ∷ []) is-result)
 
-    pub told-accepts : accepts cells edges counts ≡ true
+    pub told-accepts : accepts G ≡ true
     told-accepts = crossings-accept n (sym is-result)
 
 pub told-where : {T : Type 0} (r : Checked) (n : ℕ) → r ≡ Crossings n → WhereAccepted r T → T

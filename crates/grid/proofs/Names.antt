@@ -13,7 +13,7 @@ use Rattle.counting.proofs.Search.{count-one, first-ext, first-is, some-first, 
 use Rattle.slots.specs.Slots.{contains, corner, slotEdge}
 use Rattle.slots.proofs.Slots.{SlotEdge, slot-edge}
 use Rattle.grid.specs.Accepted.{Accepted}
-use Rattle.grid.specs.Grid.{SameFace, cellCount, edgeNumber, faceName, hasFace, isEdge, node, outer, sameFace}
+use Rattle.grid.specs.Grid.{Grid, SameFace, cellCount, edgeNumber, faceName, hasFace, isEdge, node, outer, sameFace}
 use Rattle.grid.proofs.Packed.{same-true, true-same}
 
 module _ (cells : List ℕ) where
@@ -51,32 +51,32 @@ module _ (cells : List ℕ) where
       (λ e. true-same cells (m / 4) (m % 4) a r (λ i k. same-true cells (m / 4) (m % 4) b s e i k ∙ sym (h i k))))
 
 -- the edges of a face that only one cell has are outer
-pub outer-edge : (cells edges counts : List ℕ) → Accepted cells edges counts → (c s j : ℕ) → c < cellCount cells → s < 4 → j < 3
-    → ((b t : ℕ) → b < cellCount cells → t < 4 → SameFace cells c s b t → b ≡ c) → outer cells edges (edgeNumber cells edges counts c (slotEdge s j)) ≡ true
+pub outer-edge : (G : Grid) → Accepted G → (c s j : ℕ) → c < cellCount (G .cells) → s < 4 → j < 3
+    → ((b t : ℕ) → b < cellCount (G .cells) → t < 4 → SameFace (G .cells) c s b t → b ≡ c) → outer G (edgeNumber G c (slotEdge s j)) ≡ true
 unfolding outer hasFace edgeNumber
-outer-edge cells edges counts A c s j h ls lj alone =
-    some-found (λ c. some (λ k. isEdge cells edges c k e && some (λ s. contains k s && eqb (count (hasFace cells c s) (cellCount cells)) 1) 4) 6) (cellCount cells) c h
-    (some-found (λ k. isEdge cells edges c k e && some (λ s. contains k s && eqb (count (hasFace cells c s) (cellCount cells)) 1) 4) 6 (slotEdge s j) (g .lt)
-    (and-true (isEdge cells edges c (slotEdge s j) e) (some (λ u. contains (slotEdge s j) u && eqb (count (hasFace cells c u) (cellCount cells)) 1) 4)
-    (first-is (isEdge cells edges c (slotEdge s j)) (length counts) (A .listed c (slotEdge s j) h (g .lt)))
-    (some-found (λ u. contains (slotEdge s j) u && eqb (count (hasFace cells c u) (cellCount cells)) 1) 4 s ls
-    (and-true (contains (slotEdge s j) s) (eqb (count (hasFace cells c s) (cellCount cells)) 1) (g .within) (eq-eqb (count (hasFace cells c s) (cellCount cells)) 1 single)))))
+outer-edge G A c s j h ls lj alone =
+    some-found (λ c. some (λ k. isEdge G c k e && some (λ s. contains k s && eqb (count (hasFace (G .cells) c s) (cellCount (G .cells))) 1) 4) 6) (cellCount (G .cells)) c h
+    (some-found (λ k. isEdge G c k e && some (λ s. contains k s && eqb (count (hasFace (G .cells) c s) (cellCount (G .cells))) 1) 4) 6 (slotEdge s j) (g .lt)
+    (and-true (isEdge G c (slotEdge s j) e) (some (λ u. contains (slotEdge s j) u && eqb (count (hasFace (G .cells) c u) (cellCount (G .cells))) 1) 4)
+    (first-is (isEdge G c (slotEdge s j)) (length (G .counts)) (A .listed c (slotEdge s j) h (g .lt)))
+    (some-found (λ u. contains (slotEdge s j) u && eqb (count (hasFace (G .cells) c u) (cellCount (G .cells))) 1) 4 s ls
+    (and-true (contains (slotEdge s j) s) (eqb (count (hasFace (G .cells) c s) (cellCount (G .cells))) 1) (g .within) (eq-eqb (count (hasFace (G .cells) c s) (cellCount (G .cells))) 1 single)))))
   where
     e : ℕ
-    e = first (isEdge cells edges c (slotEdge s j)) (length counts)
+    e = first (isEdge G c (slotEdge s j)) (length (G .counts))
 
     g : SlotEdge s j
     g = slot-edge s j ls lj
 
-    has : (d : ℕ) → d < cellCount cells → hasFace cells c s d ≡ true → d ≡ c
+    has : (d : ℕ) → d < cellCount (G .cells) → hasFace (G .cells) c s d ≡ true → d ≡ c
     has d l q =
-        let w = some-is (λ t. sameFace cells d t c s) 4 q in
-        alone d (w .0) l (w .1) (λ i k. sym (same-true cells d (w .0) c s (w .2) i k))
+        let w = some-is (λ t. sameFace (G .cells) d t c s) 4 q in
+        alone d (w .0) l (w .1) (λ i k. sym (same-true (G .cells) d (w .0) c s (w .2) i k))
 
-    itself : hasFace cells c s c ≡ true
-    itself = some-found (λ t. sameFace cells c t c s) 4 s ls (true-same cells c s c s (λ i k. refl))
+    itself : hasFace (G .cells) c s c ≡ true
+    itself = some-found (λ t. sameFace (G .cells) c t c s) 4 s ls (true-same (G .cells) c s c s (λ i k. refl))
 
-    single : count (hasFace cells c s) (cellCount cells) ≡ 1
+    single : count (hasFace (G .cells) c s) (cellCount (G .cells)) ≡ 1
     single =
-        count-one (hasFace cells c s) (cellCount cells) (λ i k a b p q. omega (arith, has i (omega arith) p, has k b q))
-        ∙ rw (some-found (hasFace cells c s) (cellCount cells) c h itself)
+        count-one (hasFace (G .cells) c s) (cellCount (G .cells)) (λ i k a b p q. omega (arith, has i (omega arith) p, has k b q))
+        ∙ rw (some-found (hasFace (G .cells) c s) (cellCount (G .cells)) c h itself)

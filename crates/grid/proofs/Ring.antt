@@ -17,7 +17,7 @@ use Rattle.counting.proofs.Reach.{reach-closed, reach-start, reach-within}
 use Rattle.counting.proofs.Search.{first-is, first-le, first-none, some-and, some-blocks, some-ext, some-found, some-is, some-none}
 use Rattle.slots.specs.Slots.{contains, from, hi, lo, place, slotEdge, to}
 use Rattle.slots.proofs.Slots.{edge-order, edge-slot, face-ends, slot-edge, two-slots}
-use Rattle.grid.specs.Grid.{cellCount, hasEdge, hasFace, isEdge, node, sameFace}
+use Rattle.grid.specs.Grid.{Grid, cellCount, hasEdge, hasFace, isEdge, node, sameFace}
 use Rattle.grid.specs.Rows.{joined, linked, split}
 use Rattle.grid.specs.Work.{Closed, Filled, Near, Ordered, Paired, Side, Table, edgeKey, join, missing, rank, sameKey, sideKey}
 use Rattle.grid.proofs.Marks.{slot-rank, top-key, top-le}
@@ -96,212 +96,214 @@ module _ (cells : List ℕ) (good : Ordered cells) (keys near : List ℕ) (tk : 
         one = one-edge;
       }
 
-  module _ (edges : List ℕ) (small : (i : ℕ) → getD edges i 0 < 65536) (e : ℕ) where
-    side : (c k : ℕ) → c < cellCount cells → k < 6 → isEdge cells edges c k e ≡ eqb (getD keys (6 * c + k) 0) (edgeKey edges e)
-    side c k h l = is-side cells edges (good .small) small keys tk c k e h l
+-- the cells of edge e of a grid
+module _ (G : Grid) (good : Ordered (G .cells)) (keys near : List ℕ) (tk : Table (sideKey (G .cells)) (6 * cellCount (G .cells)) keys) (N : Near (G .cells) near)
+    (small : (i : ℕ) → getD (G .edges) i 0 < 65536) (e : ℕ) where
+  side : (c k : ℕ) → c < cellCount (G .cells) → k < 6 → isEdge G c k e ≡ eqb (getD keys (6 * c + k) 0) (edgeKey (G .edges) e)
+  side c k h l = is-side G (good .small) small keys tk c k e h l
 
-    has-side : (c : ℕ) → c < cellCount cells → hasEdge cells edges e c ≡ some (λ k. eqb (getD keys (6 * c + k) 0) (edgeKey edges e)) 6
-    unfolding hasEdge
-    has-side c h = some-ext (λ k. isEdge cells edges c k e) (λ k. eqb (getD keys (6 * c + k) 0) (edgeKey edges e)) 6 (λ k l. side c k h l)
+  has-side : (c : ℕ) → c < cellCount (G .cells) → hasEdge G e c ≡ some (λ k. eqb (getD keys (6 * c + k) 0) (edgeKey (G .edges) e)) 6
+  unfolding hasEdge
+  has-side c h = some-ext (λ k. isEdge G c k e) (λ k. eqb (getD keys (6 * c + k) 0) (edgeKey (G .edges) e)) 6 (λ k l. side c k h l)
 
-    -- a cell across a slot of the edge is linked
-    link-of : (j : ℕ) → j < 4 * cellCount cells → Side keys (edgeKey edges e) j → 0 < getD near j 0 → linked cells edges e (j / 4) ((getD near j 0 - 1) / 4) ≡ true
-    unfolding linked hasFace
-    link-of j l s p =
-        let x = getD near j 0 - 1 in
-        some-found (λ k. isEdge cells edges (j / 4) k e && some (λ s. contains k s && some (λ t. sameFace cells (x / 4) t (j / 4) s) 4) 4) 6 (s .k) (s .lt)
-        (and-true _ _ (side (j / 4) (s .k) (omega arith) (s .lt) ∙ eq-eqb _ _ (s .is))
-        (some-found (λ u. contains (s .k) u && some (λ t. sameFace cells (x / 4) t (j / 4) u) 4) 4 (j % 4) (omega arith)
-        (and-true _ _ (s .holds) (some-found (λ t. sameFace cells (x / 4) t (j / 4) (j % 4)) 4 (x % 4) (omega arith) (N .pair j l p .same)))))
+  -- a cell across a slot of the edge is linked
+  link-of : (j : ℕ) → j < 4 * cellCount (G .cells) → Side keys (edgeKey (G .edges) e) j → 0 < getD near j 0 → linked G e (j / 4) ((getD near j 0 - 1) / 4) ≡ true
+  unfolding linked hasFace
+  link-of j l s p =
+      let x = getD near j 0 - 1 in
+      some-found (λ k. isEdge G (j / 4) k e && some (λ s. contains k s && some (λ t. sameFace (G .cells) (x / 4) t (j / 4) s) 4) 4) 6 (s .k) (s .lt)
+      (and-true _ _ (side (j / 4) (s .k) (omega arith) (s .lt) ∙ eq-eqb _ _ (s .is))
+      (some-found (λ u. contains (s .k) u && some (λ t. sameFace (G .cells) (x / 4) t (j / 4) u) 4) 4 (j % 4) (omega arith)
+      (and-true _ _ (s .holds) (some-found (λ t. sameFace (G .cells) (x / 4) t (j / 4) (j % 4)) 4 (x % 4) (omega arith) (N .pair j l p .same)))))
 
-    -- and so is the cell that it is across from
-    link-back : (j : ℕ) → j < 4 * cellCount cells → Side keys (edgeKey edges e) j → 0 < getD near j 0 → linked cells edges e ((getD near j 0 - 1) / 4) (j / 4) ≡ true
-    link-back j l s p =
-        let g = N .pair j l p in
-        let x = getD near j 0 - 1 in
-        let q : j + 1 - 1 ≡ j = omega arith in
-        rw (g .back, q) at (link-of x (omega (arith, g .lt, p)) (paired .side (edgeKey edges e) j l p s .0) (omega (arith, g .back)))
+  -- and so is the cell that it is across from
+  link-back : (j : ℕ) → j < 4 * cellCount (G .cells) → Side keys (edgeKey (G .edges) e) j → 0 < getD near j 0 → linked G e ((getD near j 0 - 1) / 4) (j / 4) ≡ true
+  link-back j l s p =
+      let g = N .pair j l p in
+      let x = getD near j 0 - 1 in
+      let q : j + 1 - 1 ≡ j = omega arith in
+      rw (g .back, q) at (link-of x (omega (arith, g .lt, p)) (paired (G .cells) good keys near tk N .side (edgeKey (G .edges) e) j l p s .0) (omega (arith, g .back)))
 
-    -- the slot of cell d across which cell c is
-    pub record Crossed (d c : ℕ) : Type 0 where
-      pub j : ℕ
-      pub lt : j < 4 * cellCount cells
-      pub cell : j / 4 ≡ d
-      pub sided : Side keys (edgeKey edges e) j
-      pub there : 0 < getD near j 0
-      pub ends : (getD near j 0 - 1) / 4 ≡ c
+  -- the slot of cell d across which cell c is
+  pub record Crossed (d c : ℕ) : Type 0 where
+    pub j : ℕ
+    pub lt : j < 4 * cellCount (G .cells)
+    pub cell : j / 4 ≡ d
+    pub sided : Side keys (edgeKey (G .edges) e) j
+    pub there : 0 < getD near j 0
+    pub ends : (getD near j 0 - 1) / 4 ≡ c
 
-    -- a linked cell is the same, or across a slot of the edge
-    of-link : (d c : ℕ) → d < cellCount cells → c < cellCount cells → linked cells edges e d c ≡ true → (c ≡ d) ⊎ Crossed d c
-    unfolding linked hasFace
-    of-link d c hd hc h =
-        let w = some-is (λ k. isEdge cells edges d k e && some (λ s. contains k s && some (λ t. sameFace cells c t d s) 4) 4) 6 h in
-        let k = w .0 in
-        let v1 = and-left (isEdge cells edges d k e) (some (λ s. contains k s && some (λ t. sameFace cells c t d s) 4) 4) (w .2) in
-        let v2 = and-right (isEdge cells edges d k e) (some (λ s. contains k s && some (λ t. sameFace cells c t d s) 4) 4) (w .2) in
-        let u = some-is (λ s. contains k s && some (λ t. sameFace cells c t d s) 4) 4 v2 in
-        let s = u .0 in
-        let y1 = and-left (contains k s) (some (λ t. sameFace cells c t d s) 4) (u .2) in
-        let y2 = and-right (contains k s) (some (λ t. sameFace cells c t d s) 4) (u .2) in
-        let z = some-is (λ t. sameFace cells c t d s) 4 y2 in
-        let t = z .0 in
-        let ht = z .1 in
-        let hs = u .1 in
-        let a : (4 * d + s) / 4 ≡ d = omega arith in
-        let b : (4 * d + s) % 4 ≡ s = omega arith in
-        let sd : Side keys (edgeKey edges e) (4 * d + s) =
-        record { k = k; lt = w .1; is = rw a (eqb-true _ _ (sym (side d k hd (w .1)) ∙ v1)); holds = rw b y1 } in
-        go t s ht hs (z .2) sd (eqb c d) refl
+  -- a linked cell is the same, or across a slot of the edge
+  of-link : (d c : ℕ) → d < cellCount (G .cells) → c < cellCount (G .cells) → linked G e d c ≡ true → (c ≡ d) ⊎ Crossed d c
+  unfolding linked hasFace
+  of-link d c hd hc h =
+      let w = some-is (λ k. isEdge G d k e && some (λ s. contains k s && some (λ t. sameFace (G .cells) c t d s) 4) 4) 6 h in
+      let k = w .0 in
+      let v1 = and-left (isEdge G d k e) (some (λ s. contains k s && some (λ t. sameFace (G .cells) c t d s) 4) 4) (w .2) in
+      let v2 = and-right (isEdge G d k e) (some (λ s. contains k s && some (λ t. sameFace (G .cells) c t d s) 4) 4) (w .2) in
+      let u = some-is (λ s. contains k s && some (λ t. sameFace (G .cells) c t d s) 4) 4 v2 in
+      let s = u .0 in
+      let y1 = and-left (contains k s) (some (λ t. sameFace (G .cells) c t d s) 4) (u .2) in
+      let y2 = and-right (contains k s) (some (λ t. sameFace (G .cells) c t d s) 4) (u .2) in
+      let z = some-is (λ t. sameFace (G .cells) c t d s) 4 y2 in
+      let t = z .0 in
+      let ht = z .1 in
+      let hs = u .1 in
+      let a : (4 * d + s) / 4 ≡ d = omega arith in
+      let b : (4 * d + s) % 4 ≡ s = omega arith in
+      let sd : Side keys (edgeKey (G .edges) e) (4 * d + s) =
+      record { k = k; lt = w .1; is = rw a (eqb-true _ _ (sym (side d k hd (w .1)) ∙ v1)); holds = rw b y1 } in
+      go t s ht hs (z .2) sd (eqb c d) refl
+    where
+      go : (t s : ℕ) → t < 4 → s < 4 → sameFace (G .cells) c t d s ≡ true → Side keys (edgeKey (G .edges) e) (4 * d + s) → (x : Bool) → eqb c d ≡ x → (c ≡ d) ⊎ Crossed d c
+      go t s ht hs same sd true q = inl (eqb-true c d q)
+      go t s ht hs same sd false q =
+          let m : getD near (4 * d + s) 0 ≡ 4 * c + t + 1 = N .all c t d s hc ht hd hs (eqb-false c d q) same in
+          inr (record { j = 4 * d + s; lt = omega arith; cell = omega arith; sided = sd; there = omega arith; ends = omega arith })
+
+  module _ (top : ℕ) (et : top ≡ last (sameKey keys (edgeKey (G .edges) e)) (6 * cellCount (G .cells))) (pos-top : 0 < top)
+      (mark : ℕ) (marks₀ marks : List ℕ) (F : Filled keys near (cellCount (G .cells)) (edgeKey (G .edges) e) mark ((top - 1) / 6) marks₀ marks) where
+    n : ℕ
+    n = cellCount (G .cells)
+
+    tl : top ≤ 6 * cellCount (G .cells)
+    tl = top-le keys (edgeKey (G .edges) e) (6 * cellCount (G .cells)) top et
+
+    -- the cell where the marks start has the edge
+    top-has : hasEdge G e ((top - 1) / 6) ≡ true
+    top-has =
+        has-side ((top - 1) / 6) (omega (arith, tl))
+        ∙ some-found (λ k. eqb (getD keys (6 * ((top - 1) / 6) + k) 0) (edgeKey (G .edges) e)) 6 ((top - 1) % 6) (omega arith)
+        (eq-eqb _ _ (top-key keys (edgeKey (G .edges) e) (6 * cellCount (G .cells)) top et pos-top))
+
+    marked : ℕ → Bool
+    marked c = eqb (getD marks c 0) mark
+
+    A : ℕ → Bool
+    A = joined G e
+
+    -- the first cell of the edge
+    f : ℕ
+    f = first (hasEdge G e) (cellCount (G .cells))
+
+    f-lt : f < cellCount (G .cells)
+    unfolding f
+    f-lt =
+        ⊎-elim (λ (q : f ≡ cellCount (G .cells)). clash top-has (first-none (hasEdge G e) (cellCount (G .cells)) (omega arith) ((top - 1) / 6) (omega (arith, tl)))) (λ q. q)
+        (eq-or-lt-of-le (first-le (hasEdge G e) (cellCount (G .cells))))
+
+    f-has : hasEdge G e f ≡ true
+    unfolding f
+    f-has = first-is (hasEdge G e) (cellCount (G .cells)) f-lt
+
+    f-in : A f ≡ true
+    unfolding A joined f
+    f-in = reach-start (eqb f) (linked G e) (cellCount (G .cells)) (cellCount (G .cells)) f (eq-eqb f f refl)
+
+    on-link : (d c : ℕ) → d < cellCount (G .cells) → c < cellCount (G .cells) → A d ≡ true → linked G e d c ≡ true → A c ≡ true
+    unfolding A joined
+    on-link d c hd hc r l =
+        reach-closed (eqb (first (hasEdge G e) (cellCount (G .cells)))) (linked G e) (cellCount (G .cells)) d c hd hc r l
+
+    across-lt : (j : ℕ) → j < 4 * cellCount (G .cells) → 0 < getD near j 0 → (getD near j 0 - 1) / 4 < cellCount (G .cells)
+    across-lt j l p = omega (arith, N .pair j l p .lt, p)
+
+    -- what links lead to is closed, and so is the rest
+    in-closed : Closed keys near (cellCount (G .cells)) (edgeKey (G .edges) e) A
+    in-closed j l s p r = on-link (j / 4) ((getD near j 0 - 1) / 4) (omega arith) (across-lt j l p) r (link-of j l s p)
+
+    out-closed : Closed keys near (cellCount (G .cells)) (edgeKey (G .edges) e) (λ c. not (A c))
+    out-closed j l s p r =
+        ⊎-elim
+        (λ (q : A ((getD near j 0 - 1) / 4) ≡ true).
+        clash (on-link ((getD near j 0 - 1) / 4) (j / 4) (across-lt j l p) (omega arith) q (link-back j l s p)) (not-true _ r))
+        (λ (q : A ((getD near j 0 - 1) / 4) ≡ false). rw q) (holds-or (A ((getD near j 0 - 1) / 4)))
+
+    -- the marks are closed, and so is the rest
+    marks-on : (d c : ℕ) → d < cellCount (G .cells) → c < cellCount (G .cells) → marked d ≡ true → linked G e d c ≡ true → marked c ≡ true
+    unfolding marked
+    marks-on d c hd hc m l =
+        ⊎-elim (λ (q : c ≡ d). rw q m)
+        (λ (w : Crossed d c). eq-eqb (getD marks c 0) mark (rw (← w .ends) (F .closed (w .j) (w .lt) (w .sided) (w .there) (rw (w .cell) (eqb-true (getD marks d 0) mark m)))))
+        (of-link d c hd hc l)
+
+    marks-off : (d c : ℕ) → d < cellCount (G .cells) → c < cellCount (G .cells) → not (marked d) ≡ true → linked G e d c ≡ true → not (marked c) ≡ true
+    marks-off d c hd hc m l =
+        ⊎-elim (λ (q : marked c ≡ true). clash (marks-on c d hc hd q (back q)) (not-true (marked d) m)) (λ (q : marked c ≡ false). rw q) (holds-or (marked c))
       where
-        go : (t s : ℕ) → t < 4 → s < 4 → sameFace cells c t d s ≡ true → Side keys (edgeKey edges e) (4 * d + s) → (x : Bool) → eqb c d ≡ x → (c ≡ d) ⊎ Crossed d c
-        go t s ht hs same sd true q = inl (eqb-true c d q)
-        go t s ht hs same sd false q =
-            let m : getD near (4 * d + s) 0 ≡ 4 * c + t + 1 = N .all c t d s hc ht hd hs (eqb-false c d q) same in
-            inr (record { j = 4 * d + s; lt = omega arith; cell = omega arith; sided = sd; there = omega arith; ends = omega arith })
+        back : marked c ≡ true → linked G e c d ≡ true
+        back q = ⊎-elim (λ (p : c ≡ d). rw p (rw p at l))
+            (λ (w : Crossed d c). rw (w .ends, w .cell) at (link-back (w .j) (w .lt) (w .sided) (w .there))) (of-link d c hd hc l)
 
-    module _ (top : ℕ) (et : top ≡ last (sameKey keys (edgeKey edges e)) (6 * cellCount cells)) (pos-top : 0 < top)
-        (mark : ℕ) (marks₀ marks : List ℕ) (F : Filled keys near (cellCount cells) (edgeKey edges e) mark ((top - 1) / 6) marks₀ marks) where
-      n : ℕ
-      n = cellCount cells
+    reach-in : (P : ℕ → Bool) → ((d c : ℕ) → d < cellCount (G .cells) → c < cellCount (G .cells) → P d ≡ true → linked G e d c ≡ true → P c ≡ true) → P f ≡ true
+        → (c : ℕ) → c < cellCount (G .cells) → A c ≡ true → P c ≡ true
+    unfolding A joined f
+    reach-in P on start c h r =
+        reach-within (eqb f) (linked G e) (cellCount (G .cells)) P (λ d q. rw (← eqb-true f d q) start) on (cellCount (G .cells)) c h r
 
-      tl : top ≤ 6 * cellCount cells
-      tl = top-le keys (edgeKey edges e) (6 * cellCount cells) top et
+    -- a cell of the edge that is not linked, and one that is not marked
+    unlinked : ℕ → Bool
+    unlinked c = hasEdge G e c && not (A c)
 
-      -- the cell where the marks start has the edge
-      top-has : hasEdge cells edges e ((top - 1) / 6) ≡ true
-      top-has =
-          has-side ((top - 1) / 6) (omega (arith, tl))
-          ∙ some-found (λ k. eqb (getD keys (6 * ((top - 1) / 6) + k) 0) (edgeKey edges e)) 6 ((top - 1) % 6) (omega arith)
-          (eq-eqb _ _ (top-key keys (edgeKey edges e) (6 * cellCount cells) top et pos-top))
+    unmarked : ℕ → Bool
+    unmarked c = hasEdge G e c && not (marked c)
 
-      marked : ℕ → Bool
-      marked c = eqb (getD marks c 0) mark
+    to-unmarked : (c : ℕ) → c < cellCount (G .cells) → unlinked c ≡ true → some unmarked (cellCount (G .cells)) ≡ true
+    unfolding unlinked unmarked marked
+    to-unmarked c h u =
+        ⊎-elim (λ q. q)
+        (λ (q : some unmarked (cellCount (G .cells)) ≡ false).
+        let all : (d : ℕ) → d < cellCount (G .cells) → hasEdge G e d ≡ true → marked d ≡ true =
+        (λ d l k. not-false (marked d) (sym (ap (λ (x : Bool). x && not (marked d)) k) ∙ some-none unmarked (cellCount (G .cells)) q d l)) in
+        let has = and-left (hasEdge G e c) (not (A c)) u in
+        let out = not-true (A c) (and-right (hasEdge G e c) (not (A c)) u) in
+        let m : (d : ℕ) → marked d ≡ true → getD marks d 0 ≡ mark = (λ d k. eqb-true (getD marks d 0) mark k) in
+        ⊎-elim
+        (λ (a : A ((top - 1) / 6) ≡ true). clash (F .within A in-closed a c (m c (all c h has))) out)
+        (λ (a : A ((top - 1) / 6) ≡ false). clash f-in (not-true (A f) (F .within (λ c. not (A c)) out-closed (rw a) f (m f (all f f-lt f-has)))))
+        (holds-or (A ((top - 1) / 6))))
+        (holds-or (some unmarked (cellCount (G .cells))))
 
-      A : ℕ → Bool
-      A = joined cells edges e
+    to-unlinked : (c : ℕ) → c < cellCount (G .cells) → unmarked c ≡ true → some unlinked (cellCount (G .cells)) ≡ true
+    unfolding unlinked unmarked marked
+    to-unlinked c h u =
+        ⊎-elim (λ q. q)
+        (λ (q : some unlinked (cellCount (G .cells)) ≡ false).
+        let all : (d : ℕ) → d < cellCount (G .cells) → hasEdge G e d ≡ true → A d ≡ true =
+        (λ d l k. not-false (A d) (sym (ap (λ (x : Bool). x && not (A d)) k) ∙ some-none unlinked (cellCount (G .cells)) q d l)) in
+        let has = and-left (hasEdge G e c) (not (marked c)) u in
+        let out = not-true (marked c) (and-right (hasEdge G e c) (not (marked c)) u) in
+        let tm : marked ((top - 1) / 6) ≡ true = eq-eqb _ _ (F .has) in
+        ⊎-elim
+        (λ (a : marked f ≡ true). clash (reach-in marked marks-on a c h (all c h has)) out)
+        (λ (a : marked f ≡ false).
+        clash tm (not-true (marked ((top - 1) / 6)) (reach-in (λ c. not (marked c)) marks-off (rw a) ((top - 1) / 6) (omega (arith, tl)) (all ((top - 1) / 6) (omega (arith, tl)) top-has))))
+        (holds-or (marked f)))
+        (holds-or (some unlinked (cellCount (G .cells))))
 
-      -- the first cell of the edge
-      f : ℕ
-      f = first (hasEdge cells edges e) (cellCount cells)
+    same-split : some unlinked (cellCount (G .cells)) ≡ some unmarked (cellCount (G .cells))
+    same-split =
+        bool-same (some unlinked (cellCount (G .cells))) (some unmarked (cellCount (G .cells)))
+        (λ q. (let w = some-is unlinked (cellCount (G .cells)) q in to-unmarked (w .0) (w .1) (w .2)))
+        (λ q. (let w = some-is unmarked (cellCount (G .cells)) q in to-unlinked (w .0) (w .1) (w .2)))
 
-      f-lt : f < cellCount cells
-      unfolding f
-      f-lt =
-          ⊎-elim (λ (q : f ≡ cellCount cells). clash top-has (first-none (hasEdge cells edges e) (cellCount cells) (omega arith) ((top - 1) / 6) (omega (arith, tl)))) (λ q. q)
-          (eq-or-lt-of-le (first-le (hasEdge cells edges e) (cellCount cells)))
-
-      f-has : hasEdge cells edges e f ≡ true
-      unfolding f
-      f-has = first-is (hasEdge cells edges e) (cellCount cells) f-lt
-
-      f-in : A f ≡ true
-      unfolding A joined f
-      f-in = reach-start (eqb f) (linked cells edges e) (cellCount cells) (cellCount cells) f (eq-eqb f f refl)
-
-      on-link : (d c : ℕ) → d < cellCount cells → c < cellCount cells → A d ≡ true → linked cells edges e d c ≡ true → A c ≡ true
-      unfolding A joined
-      on-link d c hd hc r l =
-          reach-closed (eqb (first (hasEdge cells edges e) (cellCount cells))) (linked cells edges e) (cellCount cells) d c hd hc r l
-
-      across-lt : (j : ℕ) → j < 4 * cellCount cells → 0 < getD near j 0 → (getD near j 0 - 1) / 4 < cellCount cells
-      across-lt j l p = omega (arith, N .pair j l p .lt, p)
-
-      -- what links lead to is closed, and so is the rest
-      in-closed : Closed keys near (cellCount cells) (edgeKey edges e) A
-      in-closed j l s p r = on-link (j / 4) ((getD near j 0 - 1) / 4) (omega arith) (across-lt j l p) r (link-of j l s p)
-
-      out-closed : Closed keys near (cellCount cells) (edgeKey edges e) (λ c. not (A c))
-      out-closed j l s p r =
-          ⊎-elim
-          (λ (q : A ((getD near j 0 - 1) / 4) ≡ true).
-          clash (on-link ((getD near j 0 - 1) / 4) (j / 4) (across-lt j l p) (omega arith) q (link-back j l s p)) (not-true _ r))
-          (λ (q : A ((getD near j 0 - 1) / 4) ≡ false). rw q) (holds-or (A ((getD near j 0 - 1) / 4)))
-
-      -- the marks are closed, and so is the rest
-      marks-on : (d c : ℕ) → d < cellCount cells → c < cellCount cells → marked d ≡ true → linked cells edges e d c ≡ true → marked c ≡ true
-      unfolding marked
-      marks-on d c hd hc m l =
-          ⊎-elim (λ (q : c ≡ d). rw q m)
-          (λ (w : Crossed d c). eq-eqb (getD marks c 0) mark (rw (← w .ends) (F .closed (w .j) (w .lt) (w .sided) (w .there) (rw (w .cell) (eqb-true (getD marks d 0) mark m)))))
-          (of-link d c hd hc l)
-
-      marks-off : (d c : ℕ) → d < cellCount cells → c < cellCount cells → not (marked d) ≡ true → linked cells edges e d c ≡ true → not (marked c) ≡ true
-      marks-off d c hd hc m l =
-          ⊎-elim (λ (q : marked c ≡ true). clash (marks-on c d hc hd q (back q)) (not-true (marked d) m)) (λ (q : marked c ≡ false). rw q) (holds-or (marked c))
-        where
-          back : marked c ≡ true → linked cells edges e c d ≡ true
-          back q = ⊎-elim (λ (p : c ≡ d). rw p (rw p at l))
-              (λ (w : Crossed d c). rw (w .ends, w .cell) at (link-back (w .j) (w .lt) (w .sided) (w .there))) (of-link d c hd hc l)
-
-      reach-in : (P : ℕ → Bool) → ((d c : ℕ) → d < cellCount cells → c < cellCount cells → P d ≡ true → linked cells edges e d c ≡ true → P c ≡ true) → P f ≡ true
-          → (c : ℕ) → c < cellCount cells → A c ≡ true → P c ≡ true
-      unfolding A joined f
-      reach-in P on start c h r =
-          reach-within (eqb f) (linked cells edges e) (cellCount cells) P (λ d q. rw (← eqb-true f d q) start) on (cellCount cells) c h r
-
-      -- a cell of the edge that is not linked, and one that is not marked
-      unlinked : ℕ → Bool
-      unlinked c = hasEdge cells edges e c && not (A c)
-
-      unmarked : ℕ → Bool
-      unmarked c = hasEdge cells edges e c && not (marked c)
-
-      to-unmarked : (c : ℕ) → c < cellCount cells → unlinked c ≡ true → some unmarked (cellCount cells) ≡ true
-      unfolding unlinked unmarked marked
-      to-unmarked c h u =
-          ⊎-elim (λ q. q)
-          (λ (q : some unmarked (cellCount cells) ≡ false).
-          let all : (d : ℕ) → d < cellCount cells → hasEdge cells edges e d ≡ true → marked d ≡ true =
-          (λ d l k. not-false (marked d) (sym (ap (λ (x : Bool). x && not (marked d)) k) ∙ some-none unmarked (cellCount cells) q d l)) in
-          let has = and-left (hasEdge cells edges e c) (not (A c)) u in
-          let out = not-true (A c) (and-right (hasEdge cells edges e c) (not (A c)) u) in
-          let m : (d : ℕ) → marked d ≡ true → getD marks d 0 ≡ mark = (λ d k. eqb-true (getD marks d 0) mark k) in
-          ⊎-elim
-          (λ (a : A ((top - 1) / 6) ≡ true). clash (F .within A in-closed a c (m c (all c h has))) out)
-          (λ (a : A ((top - 1) / 6) ≡ false). clash f-in (not-true (A f) (F .within (λ c. not (A c)) out-closed (rw a) f (m f (all f f-lt f-has)))))
-          (holds-or (A ((top - 1) / 6))))
-          (holds-or (some unmarked (cellCount cells)))
-
-      to-unlinked : (c : ℕ) → c < cellCount cells → unmarked c ≡ true → some unlinked (cellCount cells) ≡ true
-      unfolding unlinked unmarked marked
-      to-unlinked c h u =
-          ⊎-elim (λ q. q)
-          (λ (q : some unlinked (cellCount cells) ≡ false).
-          let all : (d : ℕ) → d < cellCount cells → hasEdge cells edges e d ≡ true → A d ≡ true =
-          (λ d l k. not-false (A d) (sym (ap (λ (x : Bool). x && not (A d)) k) ∙ some-none unlinked (cellCount cells) q d l)) in
-          let has = and-left (hasEdge cells edges e c) (not (marked c)) u in
-          let out = not-true (marked c) (and-right (hasEdge cells edges e c) (not (marked c)) u) in
-          let tm : marked ((top - 1) / 6) ≡ true = eq-eqb _ _ (F .has) in
-          ⊎-elim
-          (λ (a : marked f ≡ true). clash (reach-in marked marks-on a c h (all c h has)) out)
-          (λ (a : marked f ≡ false).
-          clash tm (not-true (marked ((top - 1) / 6)) (reach-in (λ c. not (marked c)) marks-off (rw a) ((top - 1) / 6) (omega (arith, tl)) (all ((top - 1) / 6) (omega (arith, tl)) top-has))))
-          (holds-or (marked f)))
-          (holds-or (some unlinked (cellCount cells)))
-
-      same-split : some unlinked (cellCount cells) ≡ some unmarked (cellCount cells)
-      same-split =
-          bool-same (some unlinked (cellCount cells)) (some unmarked (cellCount cells))
-          (λ q. (let w = some-is unlinked (cellCount cells) q in to-unmarked (w .0) (w .1) (w .2)))
-          (λ q. (let w = some-is unmarked (cellCount cells) q in to-unlinked (w .0) (w .1) (w .2)))
-
-      -- what `split_at` answers
-      pub split-missing : split cells edges e ≡ some (missing keys (edgeKey edges e) marks mark) (6 * cellCount cells)
-      unfolding split missing sameKey unlinked unmarked marked A
-      split-missing =
-          same-split
-          ∙ some-ext (λ c. hasEdge cells edges e c && not (eqb (getD marks c 0) mark))
-          (λ c. some (λ k. eqb (getD keys (6 * c + k) 0) (edgeKey edges e) && not (eqb (getD marks ((6 * c + k) / 6) 0) mark)) 6) (cellCount cells) each
-          ∙ sym (some-blocks (λ j. eqb (getD keys j 0) (edgeKey edges e) && not (eqb (getD marks (j / 6) 0) mark)) 6 (cellCount cells))
-        where
-          each : (c : ℕ) → c < cellCount cells → (hasEdge cells edges e c && not (eqb (getD marks c 0) mark))
-              ≡ some (λ k. eqb (getD keys (6 * c + k) 0) (edgeKey edges e) && not (eqb (getD marks ((6 * c + k) / 6) 0) mark)) 6
-          each c h =
-              rw (has-side c h)
-              (sym (some-and (λ k. eqb (getD keys (6 * c + k) 0) (edgeKey edges e)) (not (eqb (getD marks c 0) mark)) 6)
-              ∙ some-ext (λ k. eqb (getD keys (6 * c + k) 0) (edgeKey edges e) && not (eqb (getD marks c 0) mark))
-              (λ k. eqb (getD keys (6 * c + k) 0) (edgeKey edges e) && not (eqb (getD marks ((6 * c + k) / 6) 0) mark)) 6
-              (λ k l. (let q : (6 * c + k) / 6 ≡ c = omega arith in rw q)))
+    -- what `split_at` answers
+    pub split-missing : split G e ≡ some (missing keys (edgeKey (G .edges) e) marks mark) (6 * cellCount (G .cells))
+    unfolding split missing sameKey unlinked unmarked marked A
+    split-missing =
+        same-split
+        ∙ some-ext (λ c. hasEdge G e c && not (eqb (getD marks c 0) mark))
+        (λ c. some (λ k. eqb (getD keys (6 * c + k) 0) (edgeKey (G .edges) e) && not (eqb (getD marks ((6 * c + k) / 6) 0) mark)) 6) (cellCount (G .cells)) each
+        ∙ sym (some-blocks (λ j. eqb (getD keys j 0) (edgeKey (G .edges) e) && not (eqb (getD marks (j / 6) 0) mark)) 6 (cellCount (G .cells)))
+      where
+        each : (c : ℕ) → c < cellCount (G .cells) → (hasEdge G e c && not (eqb (getD marks c 0) mark))
+            ≡ some (λ k. eqb (getD keys (6 * c + k) 0) (edgeKey (G .edges) e) && not (eqb (getD marks ((6 * c + k) / 6) 0) mark)) 6
+        each c h =
+            rw (has-side c h)
+            (sym (some-and (λ k. eqb (getD keys (6 * c + k) 0) (edgeKey (G .edges) e)) (not (eqb (getD marks c 0) mark)) 6)
+            ∙ some-ext (λ k. eqb (getD keys (6 * c + k) 0) (edgeKey (G .edges) e) && not (eqb (getD marks c 0) mark))
+            (λ k. eqb (getD keys (6 * c + k) 0) (edgeKey (G .edges) e) && not (eqb (getD marks ((6 * c + k) / 6) 0) mark)) 6
+            (λ k l. (let q : (6 * c + k) / 6 ≡ c = omega arith in rw q)))
 
 -- all marks are at most e
 pub record Under (marks : List ℕ) (e : ℕ) : Type 0 where

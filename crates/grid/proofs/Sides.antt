@@ -16,7 +16,7 @@ use Rattle.counting.specs.Search.{first, last, seek, some}
 use Rattle.counting.proofs.Bools.{clash, eqb-comm}
 use Rattle.counting.proofs.Search.{first-blocks, first-ext, first-le, first-none, last-above, last-is, last-le, none-first, seek-end, seek-hit, seek-miss, seek-start, some-blocks, some-ext, some-is, some-last, some-none}
 use Rattle.slots.specs.Slots.{hi, lo}
-use Rattle.grid.specs.Grid.{cellCount, hasEdge, high, isEdge, joins, low, mostCells, node}
+use Rattle.grid.specs.Grid.{Grid, cellCount, hasEdge, high, isEdge, joins, low, mostCells, mostEdges, node}
 use Rattle.grid.specs.Rows.{after, unlisted, unused}
 use Rattle.grid.specs.Work.{Put, Table, blankIn, edgeKey, found, join, listedAt, sameKey, sideKey}
 use Rattle.grid.proofs.Mates.{zeros}
@@ -42,37 +42,37 @@ pub after-key : (edges : List ℕ) → ((i : ℕ) → getD edges i 0 < 65536) �
 unfolding after edgeKey
 after-key edges small d e = sym (join-ltb (low edges d) (high edges d) (low edges e) (high edges e) (small (2 * d + 1)) (small (2 * e + 1)))
 
-module _ (cells edges : List ℕ) (smallC : (i : ℕ) → getD cells i 0 < 65536) (smallE : (i : ℕ) → getD edges i 0 < 65536) where
-  pub edge-eqb : (c k e : ℕ) → k < 6 → isEdge cells edges c k e ≡ eqb (sideKey cells (6 * c + k)) (edgeKey edges e)
+module _ (G : Grid) (smallC : (i : ℕ) → getD (G .cells) i 0 < 65536) (smallE : (i : ℕ) → getD (G .edges) i 0 < 65536) where
+  pub edge-eqb : (c k e : ℕ) → k < 6 → isEdge G c k e ≡ eqb (sideKey (G .cells) (6 * c + k)) (edgeKey (G .edges) e)
   unfolding isEdge joins edgeKey sideKey
   edge-eqb c k e h =
       let a : (6 * c + k) / 6 ≡ c = omega arith in
       let b : (6 * c + k) % 6 ≡ k = omega arith in
-      rw (a, b) (sym (join-eqb (low edges e) (high edges e) (node cells c (lo k)) (node cells c (hi k)) (smallE (2 * e + 1)) (smallC _))
-      ∙ eqb-comm (join (low edges e) (high edges e)) (join (node cells c (lo k)) (node cells c (hi k))))
+      rw (a, b) (sym (join-eqb (low (G .edges) e) (high (G .edges) e) (node (G .cells) c (lo k)) (node (G .cells) c (hi k)) (smallE (2 * e + 1)) (smallC _))
+      ∙ eqb-comm (join (low (G .edges) e) (high (G .edges) e)) (join (node (G .cells) c (lo k)) (node (G .cells) c (hi k))))
 
-  module _ (keys : List ℕ) (w : Table (sideKey cells) (6 * cellCount cells) keys) where
-    pub is-side : (c k e : ℕ) → c < cellCount cells → k < 6 → isEdge cells edges c k e ≡ eqb (getD keys (6 * c + k) 0) (edgeKey edges e)
+  module _ (keys : List ℕ) (w : Table (sideKey (G .cells)) (6 * cellCount (G .cells)) keys) where
+    pub is-side : (c k e : ℕ) → c < cellCount (G .cells) → k < 6 → isEdge G c k e ≡ eqb (getD keys (6 * c + k) 0) (edgeKey (G .edges) e)
     is-side c k e h l = edge-eqb c k e l ∙ rw (w .at (6 * c + k) (omega arith))
 
     -- what the loop of `row_8` asks of an edge
-    pub used-last : (e : ℕ) → some (hasEdge cells edges e) (cellCount cells) ≡ ltb 0 (last (sameKey keys (edgeKey edges e)) (6 * cellCount cells))
+    pub used-last : (e : ℕ) → some (hasEdge G e) (cellCount (G .cells)) ≡ ltb 0 (last (sameKey keys (edgeKey (G .edges) e)) (6 * cellCount (G .cells)))
     unfolding hasEdge sameKey
     used-last e =
-        some-ext (λ c. some (λ k. isEdge cells edges c k e) 6) (λ c. some (λ k. eqb (getD keys (6 * c + k) 0) (edgeKey edges e)) 6) (cellCount cells)
-        (λ c l. some-ext (λ k. isEdge cells edges c k e) (λ k. eqb (getD keys (6 * c + k) 0) (edgeKey edges e)) 6 (λ k h. is-side c k e l h))
-        ∙ sym (some-blocks (λ j. eqb (getD keys j 0) (edgeKey edges e)) 6 (cellCount cells))
-        ∙ some-last (λ j. eqb (getD keys j 0) (edgeKey edges e)) (6 * cellCount cells)
+        some-ext (λ c. some (λ k. isEdge G c k e) 6) (λ c. some (λ k. eqb (getD keys (6 * c + k) 0) (edgeKey (G .edges) e)) 6) (cellCount (G .cells))
+        (λ c l. some-ext (λ k. isEdge G c k e) (λ k. eqb (getD keys (6 * c + k) 0) (edgeKey (G .edges) e)) 6 (λ k h. is-side c k e l h))
+        ∙ sym (some-blocks (λ j. eqb (getD keys j 0) (edgeKey (G .edges) e)) 6 (cellCount (G .cells)))
+        ∙ some-last (λ j. eqb (getD keys j 0) (edgeKey (G .edges) e)) (6 * cellCount (G .cells))
 
-    pub unused-none : (e : ℕ) → last (sameKey keys (edgeKey edges e)) (6 * cellCount cells) ≡ 0 → unused cells edges e ≡ true
+    pub unused-none : (e : ℕ) → last (sameKey keys (edgeKey (G .edges) e)) (6 * cellCount (G .cells)) ≡ 0 → unused G e ≡ true
     unfolding unused
     unused-none e z = rw (used-last e, z)
 
-    pub unused-not : (e : ℕ) → 0 < last (sameKey keys (edgeKey edges e)) (6 * cellCount cells) → unused cells edges e ≡ false
+    pub unused-not : (e : ℕ) → 0 < last (sameKey keys (edgeKey (G .edges) e)) (6 * cellCount (G .cells)) → unused G e ≡ false
     unfolding unused
-    unused-not e h = rw (used-last e, lt-ltb 0 (last (sameKey keys (edgeKey edges e)) (6 * cellCount cells)) h)
+    unused-not e h = rw (used-last e, lt-ltb 0 (last (sameKey keys (edgeKey (G .edges) e)) (6 * cellCount (G .cells))) h)
 
-    pub used-found : (e : ℕ) → unused cells edges e ≡ false → 0 < last (sameKey keys (edgeKey edges e)) (6 * cellCount cells)
+    pub used-found : (e : ℕ) → unused G e ≡ false → 0 < last (sameKey keys (edgeKey (G .edges) e)) (6 * cellCount (G .cells))
     unfolding unused
     used-found e f = ltb-true 0 _ (sym (used-last e) ∙ not-false _ f)
 
@@ -122,63 +122,63 @@ pub placing-end : {keys : List ℕ} {n key x : ℕ} {sides₀ sides : List ℕ} 
 placing-end w h = record { same = w .same; hit = λ y l k. w .hit y (omega arith) l k; miss = w .miss }
 
 -- the loop of `row_8` has put the edges from e on
-pub record Listed (cells edges keys : List ℕ) (m e : ℕ) (sides : List ℕ) : Type 0 where
-  pub size : length sides ≡ 6 * mostCells
-  pub at : (j : ℕ) → j < 6 * cellCount cells → getD sides j 0 ≡ found m (seek (isEdge cells edges (j / 6) (j % 6)) (m - e) e)
+pub record Listed (G : Grid) (m e : ℕ) (sides : List ℕ) : Type 0 where
+  pub size : length sides ≡ mostEdges
+  pub at : (j : ℕ) → j < 6 * cellCount (G .cells) → getD sides j 0 ≡ found m (seek (isEdge G (j / 6) (j % 6)) (m - e) e)
 
-pub listed-none : (cells edges keys : List ℕ) (m : ℕ) (sides : List ℕ) → sides ≡ replicate (6 * mostCells) 0 → Listed cells edges keys m m sides
-listed-none cells edges keys m sides q =
+pub listed-none : (G : Grid) (m : ℕ) (sides : List ℕ) → sides ≡ replicate (mostEdges) 0 → Listed G m m sides
+listed-none G m sides q =
     rw q (record {
-      size = length-replicate {A = ℕ} (6 * mostCells) 0;
-      at = λ j h. zeros (6 * mostCells) j ∙ sym (rw (seek-end (isEdge cells edges (j / 6) (j % 6)) m m (omega arith), le-ltb m m (omega arith)));
+      size = length-replicate {A = ℕ} (mostEdges) 0;
+      at = λ j h. zeros (mostEdges) j ∙ sym (rw (seek-end (isEdge G (j / 6) (j % 6)) m m (omega arith), le-ltb m m (omega arith)));
     })
 
-module _ {cells edges keys : List ℕ} {m e : ℕ} {sides : List ℕ} (small : (i : ℕ) → getD cells i 0 < 65536) (small-ends : (i : ℕ) → getD edges i 0 < 65536)
-    (t : Table (sideKey cells) (6 * cellCount cells) keys) (d : ℕ) (up : d ≡ e + 1) (v : Listed cells edges keys m d sides) (h : e < m) where
-  w : Listed cells edges keys m (e + 1) sides
+module _ {G : Grid} {keys : List ℕ} {m e : ℕ} {sides : List ℕ} (small : (i : ℕ) → getD (G .cells) i 0 < 65536) (small-ends : (i : ℕ) → getD (G .edges) i 0 < 65536)
+    (t : Table (sideKey (G .cells)) (6 * cellCount (G .cells)) keys) (d : ℕ) (up : d ≡ e + 1) (v : Listed G m d sides) (h : e < m) where
+  w : Listed G m (e + 1) sides
   w = rw up at v
 
-  side-of : (j : ℕ) → j < 6 * cellCount cells → isEdge cells edges (j / 6) (j % 6) e ≡ eqb (getD keys j 0) (edgeKey edges e)
+  side-of : (j : ℕ) → j < 6 * cellCount (G .cells) → isEdge G (j / 6) (j % 6) e ≡ eqb (getD keys j 0) (edgeKey (G .edges) e)
   side-of j l =
       let q : 6 * (j / 6) + j % 6 ≡ j = omega arith in
-      is-side cells edges small small-ends keys t (j / 6) (j % 6) e (omega arith) (omega arith) ∙ rw q
+      is-side G small small-ends keys t (j / 6) (j % 6) e (omega arith) (omega arith) ∙ rw q
 
-  next-miss : (j : ℕ) → j < 6 * cellCount cells → getD keys j 0 ≢ edgeKey edges e → getD sides j 0 ≡ found m (seek (isEdge cells edges (j / 6) (j % 6)) (m - e) e)
+  next-miss : (j : ℕ) → j < 6 * cellCount (G .cells) → getD keys j 0 ≢ edgeKey (G .edges) e → getD sides j 0 ≡ found m (seek (isEdge G (j / 6) (j % 6)) (m - e) e)
   next-miss j l k =
-      w .at j l ∙ rw (seek-miss (isEdge cells edges (j / 6) (j % 6)) m e h (side-of j l ∙ ne-eqb (getD keys j 0) (edgeKey edges e) k))
+      w .at j l ∙ rw (seek-miss (isEdge G (j / 6) (j % 6)) m e h (side-of j l ∙ ne-eqb (getD keys j 0) (edgeKey (G .edges) e) k))
 
-  next-hit : (j : ℕ) → j < 6 * cellCount cells → getD keys j 0 ≡ edgeKey edges e → e + 1 ≡ found m (seek (isEdge cells edges (j / 6) (j % 6)) (m - e) e)
+  next-hit : (j : ℕ) → j < 6 * cellCount (G .cells) → getD keys j 0 ≡ edgeKey (G .edges) e → e + 1 ≡ found m (seek (isEdge G (j / 6) (j % 6)) (m - e) e)
   next-hit j l k =
-      rw (seek-hit (isEdge cells edges (j / 6) (j % 6)) m e h (side-of j l ∙ eq-eqb (getD keys j 0) (edgeKey edges e) k), lt-ltb e m h) (add-one e)
+      rw (seek-hit (isEdge G (j / 6) (j % 6)) m e h (side-of j l ∙ eq-eqb (getD keys j 0) (edgeKey (G .edges) e) k), lt-ltb e m h) (add-one e)
 
-  pub listed-put : (sides′ : List ℕ) → Put keys (6 * cellCount cells) (edgeKey edges e) (e + 1) sides sides′ → Listed cells edges keys m e sides′
+  pub listed-put : (sides′ : List ℕ) → Put keys (6 * cellCount (G .cells)) (edgeKey (G .edges) e) (e + 1) sides sides′ → Listed G m e sides′
   listed-put sides′ p =
       record {
         size = p .same ∙ w .size;
-        at = λ j l. go j l (eqb (getD keys j 0) (edgeKey edges e)) refl;
+        at = λ j l. go j l (eqb (getD keys j 0) (edgeKey (G .edges) e)) refl;
       }
     where
-      go : (j : ℕ) → j < 6 * cellCount cells → (b : Bool) → eqb (getD keys j 0) (edgeKey edges e) ≡ b
-          → getD sides′ j 0 ≡ found m (seek (isEdge cells edges (j / 6) (j % 6)) (m - e) e)
-      go j l true q = let k = eqb-true (getD keys j 0) (edgeKey edges e) q in p .hit j l k ∙ next-hit j l k
-      go j l false q = let k = eqb-false (getD keys j 0) (edgeKey edges e) q in p .miss j k ∙ next-miss j l k
+      go : (j : ℕ) → j < 6 * cellCount (G .cells) → (b : Bool) → eqb (getD keys j 0) (edgeKey (G .edges) e) ≡ b
+          → getD sides′ j 0 ≡ found m (seek (isEdge G (j / 6) (j % 6)) (m - e) e)
+      go j l true q = let k = eqb-true (getD keys j 0) (edgeKey (G .edges) e) q in p .hit j l k ∙ next-hit j l k
+      go j l false q = let k = eqb-false (getD keys j 0) (edgeKey (G .edges) e) q in p .miss j k ∙ next-miss j l k
 
   -- where no place has the key
-  pub listed-skip : last (sameKey keys (edgeKey edges e)) (6 * cellCount cells) ≡ 0 → Listed cells edges keys m e sides
+  pub listed-skip : last (sameKey keys (edgeKey (G .edges) e)) (6 * cellCount (G .cells)) ≡ 0 → Listed G m e sides
   unfolding sameKey
   listed-skip z =
       record {
         size = w .size;
-        at = λ j l. next-miss j l (λ k. eqb-false (getD keys j 0) (edgeKey edges e) (last-above (sameKey keys (edgeKey edges e)) (6 * cellCount cells) j (omega (arith, z)) l) k);
+        at = λ j l. next-miss j l (λ k. eqb-false (getD keys j 0) (edgeKey (G .edges) e) (last-above (sameKey keys (edgeKey (G .edges) e)) (6 * cellCount (G .cells)) j (omega (arith, z)) l) k);
       }
 
-pub listed-all : {cells edges keys : List ℕ} {m : ℕ} {sides : List ℕ} → cellCount cells ≤ mostCells → Listed cells edges keys m 0 sides
-    → Table (listedAt cells edges m) (6 * cellCount cells) sides
+pub listed-all : {G : Grid} {sides : List ℕ} → cellCount (G .cells) ≤ mostCells → Listed G (length (G .counts)) 0 sides
+    → Table (listedAt G) (6 * cellCount (G .cells)) sides
 unfolding listedAt
-listed-all {cells} {edges} {keys} {m} {sides} few w =
+listed-all {G} {sides} few w =
     record {
       room = omega (arith, w .size);
-      at = λ j l. w .at j l ∙ ap (found m) (sym (seek-start (isEdge cells edges (j / 6) (j % 6)) m));
+      at = λ j l. w .at j l ∙ ap (found (length (G .counts))) (sym (seek-start (isEdge G (j / 6) (j % 6)) (length (G .counts))));
     }
 
 -- the lowest of the edges from e on
@@ -189,30 +189,33 @@ pub lowest-miss : (t : ℕ → Bool) (m e d r : ℕ) → d ≡ e + 1 → e < m �
 lowest-miss t m e d r up h q w = w ∙ rw up (sym (seek-miss t m e h q))
 
 -- row 7: a cell with an edge that is not listed has an entry of 0
-module _ (cells edges : List ℕ) (m : ℕ) (sides : List ℕ) (t : Table (listedAt cells edges m) (6 * cellCount cells) sides) where
-  listed-zero : (c k : ℕ) → c < cellCount cells → k < 6 → not (some (isEdge cells edges c k) m) ≡ eqb (getD sides (6 * c + k) 0) 0
+module _ (G : Grid) (sides : List ℕ) (t : Table (listedAt G) (6 * cellCount (G .cells)) sides) where
+  abbrev m : ℕ
+  m = length (G .counts)
+
+  listed-zero : (c k : ℕ) → c < cellCount (G .cells) → k < 6 → not (some (isEdge G c k) m) ≡ eqb (getD sides (6 * c + k) 0) 0
   unfolding listedAt
   listed-zero c k h l =
       let a : (6 * c + k) / 6 ≡ c = omega arith in
       let b : (6 * c + k) % 6 ≡ k = omega arith in
-      rw (t .at (6 * c + k) (omega arith), a, b) (go (some (isEdge cells edges c k) m) refl)
+      rw (t .at (6 * c + k) (omega arith), a, b) (go (some (isEdge G c k) m) refl)
     where
-      go : (x : Bool) → some (isEdge cells edges c k) m ≡ x → not x ≡ eqb (found m (first (isEdge cells edges c k) m)) 0
+      go : (x : Bool) → some (isEdge G c k) m ≡ x → not x ≡ eqb (found m (first (isEdge G c k) m)) 0
       go true e =
-          let w = some-is (isEdge cells edges c k) m e in
-          let f : first (isEdge cells edges c k) m < m =
-          ⊎-elim (λ (q : first (isEdge cells edges c k) m ≡ m). clash (w .2) (first-none (isEdge cells edges c k) m (omega arith) (w .0) (w .1))) (λ q. q)
-          (eq-or-lt-of-le (first-le (isEdge cells edges c k) m)) in
-          rw (lt-ltb (first (isEdge cells edges c k) m) m f) (sym (ne-eqb (suc (first (isEdge cells edges c k) m)) 0 (λ q. omega arith)))
+          let w = some-is (isEdge G c k) m e in
+          let f : first (isEdge G c k) m < m =
+          ⊎-elim (λ (q : first (isEdge G c k) m ≡ m). clash (w .2) (first-none (isEdge G c k) m (omega arith) (w .0) (w .1))) (λ q. q)
+          (eq-or-lt-of-le (first-le (isEdge G c k) m)) in
+          rw (lt-ltb (first (isEdge G c k) m) m f) (sym (ne-eqb (suc (first (isEdge G c k) m)) 0 (λ q. omega arith)))
       go false e =
-          let f = none-first (isEdge cells edges c k) m (some-none (isEdge cells edges c k) m e) in
+          let f = none-first (isEdge G c k) m (some-none (isEdge G c k) m e) in
           rw (f, le-ltb m m (omega arith))
 
-  pub unlisted-blank : first (unlisted cells edges m) (cellCount cells) ≡ first (blankIn sides) (cellCount cells)
+  pub unlisted-blank : first (unlisted G) (cellCount (G .cells)) ≡ first (blankIn sides) (cellCount (G .cells))
   unfolding unlisted blankIn
   unlisted-blank =
-      first-ext (unlisted cells edges m) (blankIn sides) (cellCount cells)
-      (λ c h. some-ext (λ k. not (some (isEdge cells edges c k) m)) (λ k. eqb (getD sides (6 * c + k) 0) 0) 6 (λ k l. listed-zero c k h l))
+      first-ext (unlisted G) (blankIn sides) (cellCount (G .cells))
+      (λ c h. some-ext (λ k. not (some (isEdge G c k) m)) (λ k. eqb (getD sides (6 * c + k) 0) 0) 6 (λ k l. listed-zero c k h l))
 
 -- what `row_7` answers
 pub blank-first : (sides : List ℕ) (n : ℕ) → first (λ j. eqb (getD sides j 0) 0) (6 * n) / 6 ≡ first (blankIn sides) n

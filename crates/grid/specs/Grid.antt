@@ -1,13 +1,22 @@
 -- A grid (01): a list of cells, four nodes each; a list of edges, two nodes each; a count for each edge.
 use Prim.Native.Nat.{ℕ, _+_, _*_, _/_, _%_, _<_}
 use mathlib.Core.Path.{_≡_}
-use mathlib.Core.Bool.{Bool, not, _&&_}
+use mathlib.Core.Bool.{Bool, _&&_}
 use mathlib.Core.List.{List}
 use lib.ListN.{length, getD}
 use lib.Dec.{eqb}
-use Rattle.counting.specs.Search.{first, last, some, every, count}
+use Rattle.counting.specs.Search.{first, some, every, count}
 use Rattle.counting.specs.Pack.{pre}
 use Rattle.slots.specs.Slots.{lo, hi, corner, contains}
+
+-- the three lists, four numbers to a cell, two to an edge, one to a count
+pub record Grid : Type 0 where
+  pub cells : List ℕ
+  pub edges : List ℕ
+  pub counts : List ℕ
+
+abbrev pub gridOf : List ℕ → List ℕ → List ℕ → Grid
+gridOf cells edges counts = record { cells = cells; edges = edges; counts = counts }
 
 -- the highest node, and the most cells and crossings that a grid may have
 abbrev pub highestNode : ℕ
@@ -18,6 +27,13 @@ mostCells = 2048
 
 abbrev pub mostCrossings : ℕ
 mostCrossings = 65535
+
+-- so many slots the cells have at most, and so many edges
+abbrev pub mostSlots : ℕ
+mostSlots = 4 * mostCells
+
+abbrev pub mostEdges : ℕ
+mostEdges = 6 * mostCells
 
 module _ (cells : List ℕ) where
   abbrev pub cellCount : ℕ
@@ -47,10 +63,6 @@ module _ (cells : List ℕ) where
   unfoldable pub faceName : ℕ → ℕ → ℕ
   faceName c s = first (λ m. sameFace (m / 4) (m % 4) c s) (4 * cellCount)
 
-  -- across slot s of cell c: 1 plus 4 times the other cell that has the face plus the slot there; 0 where there is none
-  unfoldable pub neighbour : ℕ → ℕ → ℕ
-  neighbour c s = last (λ m. not (eqb (m / 4) c) && sameFace (m / 4) (m % 4) c s) (4 * cellCount)
-
 -- the ends of edge e, the lower first
 abbrev pub low : List ℕ → ℕ → ℕ
 low edges e = getD edges (2 * e) 0
@@ -62,10 +74,10 @@ high edges e = getD edges (2 * e + 1) 0
 unfoldable pub joins : List ℕ → ℕ → ℕ → ℕ → Bool
 joins edges u v e = eqb (low edges e) u && eqb (high edges e) v
 
-module _ (cells edges : List ℕ) where
+module _ (G : Grid) where
   -- edge e of the list is edge k of cell c
   unfoldable pub isEdge : ℕ → ℕ → ℕ → Bool
-  isEdge c k e = joins edges (node cells c (lo k)) (node cells c (hi k)) e
+  isEdge c k e = joins (G .edges) (node (G .cells) c (lo k)) (node (G .cells) c (hi k)) e
 
   -- cell c has edge e of the list
   unfoldable pub hasEdge : ℕ → ℕ → Bool
@@ -74,11 +86,12 @@ module _ (cells edges : List ℕ) where
   -- edge e is outer (01): it belongs to a face that only one cell has
   unfoldable pub outer : ℕ → Bool
   outer e =
-      some (λ c. some (λ k. isEdge c k e && some (λ s. contains k s && eqb (count (hasFace cells c s) (cellCount cells)) 1) 4) 6) (cellCount cells)
+      some (λ c. some (λ k. isEdge c k e && some (λ s. contains k s && eqb (count (hasFace (G .cells) c s) (cellCount (G .cells))) 1) 4) 6)
+      (cellCount (G .cells))
 
--- the place in the list of edge k of cell c
-unfoldable pub edgeNumber : List ℕ → List ℕ → List ℕ → ℕ → ℕ → ℕ
-edgeNumber cells edges counts c k = first (isEdge cells edges c k) (length counts)
+  -- the place in the list of edge k of cell c
+  unfoldable pub edgeNumber : ℕ → ℕ → ℕ
+  edgeNumber c k = first (isEdge c k) (length (G .counts))
 
 module _ (counts : List ℕ) where
   -- the count of edge e

@@ -6,13 +6,15 @@ use mathlib.Core.Bool.{Bool, true, false, not, _&&_}
 use mathlib.Core.List.{List, [], _∷_}
 use lib.ListN.{length, getD, replicate}
 use lib.Dec.{eqb, ltb}
+use Rattle.answer.specs.Answer.{result}
+use Rattle.answer.specs.Rows.{answerOf, since}
 use Rattle.counting.specs.Pick.{pick}
 use Rattle.counting.specs.Search.{first, last, some, count}
 use Rattle.slots.specs.Slots.{lo, hi, contains}
 use Rattle.grid.specs.declared.Checked.{Checked}
 use Rattle.grid.specs.declared.Checked.the-variants.{Crossings, Refused}
-use Rattle.grid.specs.Grid.{highestNode, mostCells, mostCrossings, cellCount, node, faceNode, sameFace, low, high, isEdge, crossings}
-use Rattle.grid.specs.Rows.{unused}
+use Rattle.grid.specs.Grid.{Grid, highestNode, mostCells, mostCrossings, mostSlots, mostEdges, cellCount, node, faceNode, sameFace, low, high, isEdge, crossings}
+use Rattle.grid.specs.Rows.{rows, unused}
 
 -- the first n entries of a list are f's values
 pub record Table (f : ℕ → ℕ) (n : ℕ) (l : List ℕ) : Type 0 where
@@ -126,13 +128,14 @@ unfoldable pub sideKey : List ℕ → ℕ → ℕ
 sideKey cells j = join (node cells (j / 6) (lo (j % 6))) (node cells (j / 6) (hi (j % 6)))
 
 -- what rows 8 and 9 start from: the keys of the cells' edges, chained
-pub record Findable (cells edges keys head next : List ℕ) : Type 0 where
-  pub few : cellCount cells ≤ mostCells
-  pub small : (i : ℕ) → getD cells i 0 < 65536
-  pub small-ends : (i : ℕ) → getD edges i 0 < 65536
-  pub table : Table (sideKey cells) (6 * cellCount cells) keys
-  pub chained : Chained keys (6 * cellCount cells) next
-  pub headed : Headed keys (6 * cellCount cells) head
+pub record Findable (G : Grid) (keys head next : List ℕ) : Type 0 where
+  pub few : cellCount (G .cells) ≤ mostCells
+  pub small : (i : ℕ) → getD (G .cells) i 0 < 65536
+  pub small-ends : (i : ℕ) → getD (G .edges) i 0 < 65536
+  pub pairs : length (G .edges) ≡ 2 * length (G .counts)
+  pub table : Table (sideKey (G .cells)) (6 * cellCount (G .cells)) keys
+  pub chained : Chained keys (6 * cellCount (G .cells)) next
+  pub headed : Headed keys (6 * cellCount (G .cells)) head
 
 -- what `put` starts from, and what it leaves: x at each of the first n places with the key
 pub record Putting (keys next : List ℕ) (n key top : ℕ) (sides : List ℕ) : Type 0 where
@@ -149,9 +152,9 @@ pub record Put (keys : List ℕ) (n key x : ℕ) (sides₀ sides : List ℕ) : T
 abbrev pub found : ℕ → ℕ → ℕ
 found m x = pick (ltb x m) (suc x) 0
 
--- one more than the place, among m edges, of edge j % 6 of cell j / 6; 0 where it is not listed
-unfoldable pub listedAt : List ℕ → List ℕ → ℕ → ℕ → ℕ
-listedAt cells edges m j = found m (first (isEdge cells edges (j / 6) (j % 6)) m)
+-- one more than the place in the list of edge j % 6 of cell j / 6; 0 where it is not listed
+unfoldable pub listedAt : Grid → ℕ → ℕ
+listedAt G j = found (length (G .counts)) (first (isEdge G (j / 6) (j % 6)) (length (G .counts)))
 
 -- one of the six entries of cell c is 0
 unfoldable pub blankIn : List ℕ → ℕ → Bool
@@ -264,11 +267,11 @@ pub record Splitting (keys next near : List ℕ) (n key mark top : ℕ) (marks :
   pub fresh : (d : ℕ) → getD marks d 0 ≢ mark
 
 -- what row 9 starts from: besides, each edge has a cell
-pub record Linkable (cells edges near keys head next : List ℕ) : Type 0 where
-  pub ordered : Ordered cells
-  pub near-is : Near cells near
-  pub findable : Findable cells edges keys head next
-  pub used : (e : ℕ) → e < length edges / 2 → unused cells edges e ≡ false
+pub record Linkable (G : Grid) (near keys head next : List ℕ) : Type 0 where
+  pub ordered : Ordered (G .cells)
+  pub near-is : Near (G .cells) near
+  pub findable : Findable G keys head next
+  pub used : (e : ℕ) → e < length (G .counts) → unused G e ≡ false
 
 -- THE WHOLE
 
@@ -278,34 +281,33 @@ capped counts = pick (ltb mostCrossings (crossings counts)) (mostCrossings + 1) 
 
 -- what the check starts from, and what it leaves in its two tables where it accepts
 pub record Blank (near sides : List ℕ) : Type 0 where
-  pub near-is : near ≡ replicate (4 * mostCells) 0
-  pub sides-is : sides ≡ replicate (6 * mostCells) 0
+  pub near-is : near ≡ replicate mostSlots 0
+  pub sides-is : sides ≡ replicate mostEdges 0
 
-pub record Worked (cells edges counts near sides : List ℕ) : Type 0 where
-  pub near-is : Near cells near
-  pub sided : Table (listedAt cells edges (length counts)) (6 * cellCount cells) sides
+pub record Worked (G : Grid) (near sides : List ℕ) : Type 0 where
+  pub near-is : Near (G .cells) near
+  pub sided : Table (listedAt G) (6 * cellCount (G .cells)) sides
 
 abbrev pub WhereAccepted : Checked → Type 0 → Type 0
 WhereAccepted (Crossings n) T = T
 WhereAccepted (Refused row place) T = Unit {0}
 
--- what rows 9 and 10 start from
-pub record Lasting (cells edges counts near keys head next : List ℕ) : Type 0 where
-  pub linkable : Linkable cells edges near keys head next
-  pub pairs : length edges ≡ 2 * length counts
+-- the answer of the rows from number n on
+unfoldable pub answerFrom : ℕ → Grid → List ℕ
+answerFrom n G = answerOf (since n (rows G)) (result (crossings (G .counts) ∷ []))
 
 -- what row 3 and those after it start from
-pub record Celling (cells edges counts near sides : List ℕ) : Type 0 where
-  pub few : cellCount cells ≤ mostCells
-  pub pairs : length edges ≡ 2 * length counts
+pub record Celling (G : Grid) (near sides : List ℕ) : Type 0 where
+  pub few : cellCount (G .cells) ≤ mostCells
+  pub pairs : length (G .edges) ≡ 2 * length (G .counts)
   pub blank : Blank near sides
 
 -- what row 6 and those after it start from
-pub record Edging (cells edges counts near sides : List ℕ) : Type 0 where
-  pub ordered : Ordered cells
-  pub pairs : length edges ≡ 2 * length counts
-  pub near-is : Near cells near
-  pub sides-is : sides ≡ replicate (6 * mostCells) 0
+pub record Edging (G : Grid) (near sides : List ℕ) : Type 0 where
+  pub ordered : Ordered (G .cells)
+  pub pairs : length (G .edges) ≡ 2 * length (G .counts)
+  pub near-is : Near (G .cells) near
+  pub sides-is : sides ≡ replicate mostEdges 0
 
 -- TABLES: what the writers of the lent tables start from
 
@@ -314,12 +316,12 @@ abbrev pub lowerOf : ℕ → ℕ → ℕ
 lowerOf j x = pick (eqb x 0) j (pick (ltb (x - 1) j) (x - 1) j)
 
 pub record Copying (n : ℕ) (across table : List ℕ) : Type 0 where
-  pub few : n ≤ 4 * mostCells
+  pub few : n ≤ mostSlots
   pub across-room : n ≤ length across
   pub room : n ≤ length table
 
 pub record Lowering (n : ℕ) (listed table : List ℕ) : Type 0 where
-  pub few : n ≤ 6 * mostCells
+  pub few : n ≤ mostEdges
   pub listed-room : n ≤ length listed
   pub room : n ≤ length table
   pub entries : (j : ℕ) → j < n → (1 ≤ getD listed j 0) × (getD listed j 0 ≤ 65536)

@@ -3,16 +3,16 @@ ghost use mathlib.Core.Path.{_≡_};
 ghost use Prim.Native.Nat.{_+_, _*_, _/_, _%_, _<_, _≤_};
 ghost use lib.ListN.{length, replicate};
 ghost use Rattle.counting.specs.Search.{first};
-ghost use Rattle.grid.specs.Grid.{mostCells, cellCount, node, faceNode};
+ghost use Rattle.grid.specs.Grid.{mostCells, mostSlots, cellCount, node, faceNode};
 ghost use Rattle.grid.specs.Rows.{badLength, badCell, repeats, third};
 ghost use Rattle.grid.specs.Work.{Table, cellKey, faceKey, Ordered, Pairable, Pairing, Near};
+use crate::HIGHEST_NODE;
 use crate::MOST_CELLS;
+use crate::MOST_SLOTS;
 use crate::keys::BUCKETS;
 use crate::keys::chain;
 use crate::keys::earlier;
 use crate::keys::wide;
-
-const HIGHEST_NODE: usize = 4095;
 
 pub(crate) fn row_1(cells: &[u16]) -> bool
     ensures { λ r. ⌜ r ≡ badLength (now (cells .entry)) ⌝ }
@@ -193,14 +193,14 @@ fn pair(keys: &[usize], next: &[u16], n: usize, near: &mut [u16]) -> usize
 // Keeps 96 KB on the stack.
 pub(crate) fn row_5(cells: &[u16], near: &mut [u16]) -> usize
     requires { ⌜ Ordered (now cells) ⌝ }
-    requires { ⌜ now near ≡ replicate (4 * mostCells) 0 ⌝ }
+    requires { ⌜ now near ≡ replicate mostSlots 0 ⌝ }
     ensures { λ r. ⌜ r ≡ first (third (now (cells .entry))) (cellCount (now (cells .entry))) ⌝ }
     ensures { λ r. ⌜ (cellCount (now (cells .entry)) ≤ r → Near (now (cells .entry)) (now (near .exit))) ⌝ }
 {
     let n = 4 * (cells.len() / 4);
-    let mut keys = [0usize; 4 * MOST_CELLS];
+    let mut keys = [0usize; MOST_SLOTS];
     let mut head = [0u16; BUCKETS];
-    let mut next = [0u16; 4 * MOST_CELLS];
+    let mut next = [0u16; MOST_SLOTS];
     face_keys(cells, &mut keys);
     chain(&keys, n, &mut head, &mut next);
     pair(&keys, &next, n, near) / 4

@@ -1,9 +1,9 @@
 // Rows 2, 6, 7 and 8: the edges.
 ghost use mathlib.Core.Path.{_≡_};
-ghost use Prim.Native.Nat.{_+_, _*_, _/_, _<_, _≤_};
+ghost use Prim.Native.Nat.{_+_, _*_, _<_, _≤_};
 ghost use lib.ListN.{length, getD, replicate};
 ghost use Rattle.counting.specs.Search.{first};
-ghost use Rattle.grid.specs.Grid.{mostCells, cellCount};
+ghost use Rattle.grid.specs.Grid.{gridOf, mostEdges, cellCount};
 ghost use Rattle.grid.specs.Rows.{badPairs, badEdge, unused};
 ghost use Rattle.grid.specs.Work.{Table, edgeKey, sideKey, Findable, Putting, Put, listedAt, blankIn};
 use crate::cells::node_at;
@@ -137,18 +137,19 @@ fn put(
 pub(crate) fn row_8(
     cells: &[u16],
     edges: &[u16],
+    counts: &[u8],
     keys: &[usize],
     head: &[u16],
     next: &[u16],
     sides: &mut [usize],
 ) -> usize
-    requires { ⌜ Findable (now cells) (now edges) (now keys) (now head) (now next) ⌝ }
-    requires { ⌜ now sides ≡ replicate (6 * mostCells) 0 ⌝ }
-    ensures { λ r. ⌜ r ≡ first (unused (now (cells .entry)) (now (edges .entry))) (length (now (edges .entry)) / 2) ⌝ }
-    ensures { λ _. ⌜ Table (listedAt (now (cells .entry)) (now (edges .entry)) (length (now (edges .entry)) / 2)) (6 * cellCount (now (cells .entry))) (now (sides .exit)) ⌝ }
+    requires { ⌜ Findable (gridOf (now cells) (now edges) (now counts)) (now keys) (now head) (now next) ⌝ }
+    requires { ⌜ now sides ≡ replicate mostEdges 0 ⌝ }
+    ensures { λ r. ⌜ r ≡ first (unused (gridOf (now (cells .entry)) (now (edges .entry)) (now (counts .entry)))) (length (now (counts .entry))) ⌝ }
+    ensures { λ _. ⌜ Table (listedAt (gridOf (now (cells .entry)) (now (edges .entry)) (now (counts .entry)))) (6 * cellCount (now (cells .entry))) (now (sides .exit)) ⌝ }
 {
     let n = 6 * (cells.len() / 4);
-    let m = edges.len() / 2;
+    let m = counts.len();
     let mut lowest = m;
     let mut e = m;
     while 0 < e {

@@ -2,11 +2,11 @@
 ghost use mathlib.Core.Path.{_≡_};
 ghost use Prim.Native.Nat.{_*_, _<_};
 ghost use lib.ListN.{length};
-ghost use Rattle.grid.specs.Grid.{cellCount};
-ghost use Rattle.grid.specs.Rows.{answerFrom, gridAnswer};
+ghost use Rattle.grid.specs.Grid.{gridOf, cellCount};
+ghost use Rattle.grid.specs.Rows.{gridAnswer};
 ghost use Rattle.grid.specs.Check.{checkNumbers};
 ghost use Rattle.grid.specs.Tables.{Opened};
-ghost use Rattle.grid.specs.Work.{Table, listedAt, Celling, Edging, Lasting, capped, Blank, Worked, WhereAccepted};
+ghost use Rattle.grid.specs.Work.{Table, listedAt, answerFrom, Celling, Edging, Linkable, capped, Blank, Worked, WhereAccepted};
 use keys::BUCKETS;
 
 mod cells;
@@ -15,10 +15,17 @@ mod keys;
 mod links;
 mod tables;
 
-// The most cells and crossings that a grid may have.
+// The highest node, and the most cells and crossings that a grid may have.
+pub const HIGHEST_NODE: usize = 4095;
+
 pub const MOST_CELLS: usize = 2048;
 
-const MOST_CROSSINGS: u32 = 65535;
+pub const MOST_CROSSINGS: u32 = 65535;
+
+// So many slots the cells have at most, and so many edges.
+pub const MOST_SLOTS: usize = 4 * MOST_CELLS;
+
+pub const MOST_EDGES: usize = 6 * MOST_CELLS;
 
 const TOO_MANY: u32 = MOST_CROSSINGS + 1;
 
@@ -61,10 +68,10 @@ fn last_rows(
     head: &[u16],
     next: &[u16],
 ) -> Checked
-    requires { ⌜ Lasting (now cells) (now edges) (now counts) (now near) (now keys) (now head) (now next) ⌝ }
-    ensures { λ r. ⌜ checkNumbers r ≡ answerFrom 9 (now (cells .entry)) (now (edges .entry)) (now (counts .entry)) ⌝ }
+    requires { ⌜ Linkable (gridOf (now cells) (now edges) (now counts)) (now near) (now keys) (now head) (now next) ⌝ }
+    ensures { λ r. ⌜ checkNumbers r ≡ answerFrom 9 (gridOf (now (cells .entry)) (now (edges .entry)) (now (counts .entry))) ⌝ }
 {
-    let p9 = links::row_9(cells, edges, near, keys, head, next);
+    let p9 = links::row_9(cells, edges, counts, near, keys, head, next);
     if p9 < counts.len() {
         return Checked::Refused(9, p9);
     }
@@ -83,17 +90,17 @@ fn side_rows(
     near: &[u16],
     sides: &mut [usize],
 ) -> Checked
-    requires { ⌜ Edging (now cells) (now edges) (now counts) (now near) (now sides) ⌝ }
-    ensures { λ r. ⌜ checkNumbers r ≡ answerFrom 7 (now (cells .entry)) (now (edges .entry)) (now (counts .entry)) ⌝ }
-    ensures { λ r. ⌜ WhereAccepted r (Table (listedAt (now (cells .entry)) (now (edges .entry)) (length (now (counts .entry)))) (6 * cellCount (now (cells .entry))) (now (sides .exit))) ⌝ }
+    requires { ⌜ Edging (gridOf (now cells) (now edges) (now counts)) (now near) (now sides) ⌝ }
+    ensures { λ r. ⌜ checkNumbers r ≡ answerFrom 7 (gridOf (now (cells .entry)) (now (edges .entry)) (now (counts .entry))) ⌝ }
+    ensures { λ r. ⌜ WhereAccepted r (Table (listedAt (gridOf (now (cells .entry)) (now (edges .entry)) (now (counts .entry)))) (6 * cellCount (now (cells .entry))) (now (sides .exit))) ⌝ }
 {
     let n = cells.len() / 4;
-    let mut keys = [0usize; 6 * MOST_CELLS];
+    let mut keys = [0usize; MOST_EDGES];
     let mut head = [0u16; BUCKETS];
-    let mut next = [0u16; 6 * MOST_CELLS];
+    let mut next = [0u16; MOST_EDGES];
     edges::side_keys(cells, &mut keys);
     keys::chain(&keys, 6 * n, &mut head, &mut next);
-    let p8 = edges::row_8(cells, edges, &keys, &head, &next, sides);
+    let p8 = edges::row_8(cells, edges, counts, &keys, &head, &next, sides);
     let p7 = edges::row_7(cells, sides);
     if p7 < n {
         return Checked::Refused(7, p7);
@@ -112,9 +119,9 @@ fn edge_rows(
     near: &[u16],
     sides: &mut [usize],
 ) -> Checked
-    requires { ⌜ Edging (now cells) (now edges) (now counts) (now near) (now sides) ⌝ }
-    ensures { λ r. ⌜ checkNumbers r ≡ answerFrom 6 (now (cells .entry)) (now (edges .entry)) (now (counts .entry)) ⌝ }
-    ensures { λ r. ⌜ WhereAccepted r (Table (listedAt (now (cells .entry)) (now (edges .entry)) (length (now (counts .entry)))) (6 * cellCount (now (cells .entry))) (now (sides .exit))) ⌝ }
+    requires { ⌜ Edging (gridOf (now cells) (now edges) (now counts)) (now near) (now sides) ⌝ }
+    ensures { λ r. ⌜ checkNumbers r ≡ answerFrom 6 (gridOf (now (cells .entry)) (now (edges .entry)) (now (counts .entry))) ⌝ }
+    ensures { λ r. ⌜ WhereAccepted r (Table (listedAt (gridOf (now (cells .entry)) (now (edges .entry)) (now (counts .entry)))) (6 * cellCount (now (cells .entry))) (now (sides .exit))) ⌝ }
 {
     let p6 = edges::row_6(edges, counts);
     if p6 < counts.len() {
@@ -131,9 +138,9 @@ fn cell_rows(
     near: &mut [u16],
     sides: &mut [usize],
 ) -> Checked
-    requires { ⌜ Celling (now cells) (now edges) (now counts) (now near) (now sides) ⌝ }
-    ensures { λ r. ⌜ checkNumbers r ≡ answerFrom 3 (now (cells .entry)) (now (edges .entry)) (now (counts .entry)) ⌝ }
-    ensures { λ r. ⌜ WhereAccepted r (Worked (now (cells .entry)) (now (edges .entry)) (now (counts .entry)) (now (near .exit)) (now (sides .exit))) ⌝ }
+    requires { ⌜ Celling (gridOf (now cells) (now edges) (now counts)) (now near) (now sides) ⌝ }
+    ensures { λ r. ⌜ checkNumbers r ≡ answerFrom 3 (gridOf (now (cells .entry)) (now (edges .entry)) (now (counts .entry))) ⌝ }
+    ensures { λ r. ⌜ WhereAccepted r (Worked (gridOf (now (cells .entry)) (now (edges .entry)) (now (counts .entry))) (now (near .exit)) (now (sides .exit))) ⌝ }
 {
     let n = cells.len() / 4;
     let p3 = cells::row_3(cells);
@@ -160,8 +167,8 @@ fn all_rows(
     sides: &mut [usize],
 ) -> Checked
     requires { ⌜ Blank (now near) (now sides) ⌝ }
-    ensures { λ r. ⌜ checkNumbers r ≡ gridAnswer (now (cells .entry)) (now (edges .entry)) (now (counts .entry)) ⌝ }
-    ensures { λ r. ⌜ WhereAccepted r (Worked (now (cells .entry)) (now (edges .entry)) (now (counts .entry)) (now (near .exit)) (now (sides .exit))) ⌝ }
+    ensures { λ r. ⌜ checkNumbers r ≡ gridAnswer (gridOf (now (cells .entry)) (now (edges .entry)) (now (counts .entry))) ⌝ }
+    ensures { λ r. ⌜ WhereAccepted r (Worked (gridOf (now (cells .entry)) (now (edges .entry)) (now (counts .entry))) (now (near .exit)) (now (sides .exit))) ⌝ }
 {
     if cells::row_1(cells) {
         return Checked::Refused(1, 0);
@@ -174,36 +181,34 @@ fn all_rows(
 
 // The grid check. Keeps 264 KB on the stack, with what its functions keep.
 pub fn check(cells: &[u16], edges: &[u16], counts: &[u8]) -> Checked
-    ensures { λ r. ⌜ checkNumbers r ≡ gridAnswer (now (cells .entry)) (now (edges .entry)) (now (counts .entry)) ⌝ }
+    ensures { λ r. ⌜ checkNumbers r ≡ gridAnswer (gridOf (now (cells .entry)) (now (edges .entry)) (now (counts .entry))) ⌝ }
 {
-    let mut near = [0u16; 4 * MOST_CELLS];
-    let mut sides = [0usize; 6 * MOST_CELLS];
+    let mut near = [0u16; MOST_SLOTS];
+    let mut sides = [0usize; MOST_EDGES];
     all_rows(cells, edges, counts, &mut near, &mut sides)
 }
 
-// The grid check, and where it accepts, the tables of the grid: the name of face 4 c + s of the cells, one more than the face across it or 0,
-// the place in the list of edge k of cell c at 6 c + k, and the start of each edge. Keeps as much on the stack as `check`.
+// The grid check, and where it accepts, the tables of the grid: the name of face 4 c + s of the cells, the place in the list of edge k of cell c at
+// 6 c + k, and the start of each edge. Keeps as much on the stack as `check`.
 pub fn open(
     cells: &[u16],
     edges: &[u16],
     counts: &[u8],
-    names: &mut [u16; 4 * MOST_CELLS],
-    near: &mut [u16; 4 * MOST_CELLS],
-    sides: &mut [u16; 6 * MOST_CELLS],
-    starts: &mut [u32; 6 * MOST_CELLS],
+    names: &mut [u16; MOST_SLOTS],
+    sides: &mut [u16; MOST_EDGES],
+    starts: &mut [u32; MOST_EDGES],
 ) -> Checked
-    ensures { λ r. ⌜ checkNumbers r ≡ gridAnswer (now (cells .entry)) (now (edges .entry)) (now (counts .entry)) ⌝ }
-    ensures { λ _. ⌜ Opened (now (cells .entry)) (now (edges .entry)) (now (counts .entry)) (now (names .entry)) (now (near .entry)) (now (sides .entry)) (now (starts .entry)) (now (names .exit)) (now (near .exit)) (now (sides .exit)) (now (starts .exit)) ⌝ }
+    ensures { λ r. ⌜ checkNumbers r ≡ gridAnswer (gridOf (now (cells .entry)) (now (edges .entry)) (now (counts .entry))) ⌝ }
+    ensures { λ _. ⌜ Opened (gridOf (now (cells .entry)) (now (edges .entry)) (now (counts .entry))) (now (names .entry)) (now (sides .entry)) (now (starts .entry)) (now (names .exit)) (now (sides .exit)) (now (starts .exit)) ⌝ }
 {
     let n = cells.len() / 4;
-    let mut across = [0u16; 4 * MOST_CELLS];
-    let mut listed = [0usize; 6 * MOST_CELLS];
+    let mut across = [0u16; MOST_SLOTS];
+    let mut listed = [0usize; MOST_EDGES];
     let r = all_rows(cells, edges, counts, &mut across, &mut listed);
     if let Checked::Refused(_, _) = r {
         return r;
     }
     tables::write_names(4 * n, &across, names);
-    tables::write_near(4 * n, &across, near);
     tables::write_sides(6 * n, &listed, sides);
     tables::write_starts(counts, starts);
     r

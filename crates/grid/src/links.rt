@@ -5,6 +5,7 @@ ghost use Prim.Native.Nat.{_-_, _*_, _/_, _<_};
 ghost use lib.ListN.{length};
 ghost use Rattle.counting.specs.Search.{first, some};
 ghost use Rattle.slots.specs.Slots.{corner};
+ghost use Rattle.grid.specs.Grid.{gridOf};
 ghost use Rattle.grid.specs.Rows.{split};
 ghost use Rattle.grid.specs.Work.{OnSlot, other, under, Spreadable, Spreads, missing, Leaving, Filled, Splitting, Linkable};
 use crate::MOST_CELLS;
@@ -131,16 +132,17 @@ fn split_at(
 pub(crate) fn row_9(
     cells: &[u16],
     edges: &[u16],
+    counts: &[u8],
     near: &[u16],
     keys: &[usize],
     head: &[u16],
     next: &[u16],
 ) -> usize
-    requires { ⌜ Linkable (now cells) (now edges) (now near) (now keys) (now head) (now next) ⌝ }
-    ensures { λ r. ⌜ r ≡ first (split (now (cells .entry)) (now (edges .entry))) (length (now (edges .entry)) / 2) ⌝ }
+    requires { ⌜ Linkable (gridOf (now cells) (now edges) (now counts)) (now near) (now keys) (now head) (now next) ⌝ }
+    ensures { λ r. ⌜ r ≡ first (split (gridOf (now (cells .entry)) (now (edges .entry)) (now (counts .entry)))) (length (now (counts .entry))) ⌝ }
 {
     let n = cells.len() / 4;
-    let m = edges.len() / 2;
+    let m = counts.len();
     let mut marks = [0usize; MOST_CELLS];
     let mut e = 0;
     while e < m {

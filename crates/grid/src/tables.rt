@@ -34,17 +34,6 @@ pub(crate) fn write_names(n: usize, across: &[u16], names: &mut [u16])
     }
 }
 
-pub(crate) fn write_near(n: usize, across: &[u16], near: &mut [u16])
-    requires { ⌜ Copying n (now across) (now near) ⌝ }
-    ensures { λ _. ⌜ now (near .exit) ≡ filled (λ j. getD (now (across .entry)) j 0) n (now (near .entry)) ⌝ }
-{
-    let mut j = 0;
-    while j < n {
-        near[j] = across[j];
-        j += 1;
-    }
-}
-
 pub(crate) fn write_sides(n: usize, listed: &[usize], sides: &mut [u16])
     requires { ⌜ Lowering n (now listed) (now sides) ⌝ }
     ensures { λ _. ⌜ now (sides .exit) ≡ filled (λ j. getD (now (listed .entry)) j 0 - 1) n (now (sides .entry)) ⌝ }

@@ -19,6 +19,7 @@ use Rattle.bundle.specs.Bundle.{isOf, run, cells, edgesFrom, edges, stop, bundl
 use Rattle.bundle.proofs.Runs.{Walked, walked, walked-on, fits-of}
 use Rattle.bundle.proofs.Fills.{cell-size, edge-size, end-size}
 use Rattle.bundle.proofs.Answers.{accepted, accepted-cells, accepted-edges, room}
+use Rattle.grid.specs.Grid.{gridOf}
 use Rattle.listing.specs.Text.{refusedLine}
 use Rattle.listing.specs.Listing.{mostBytes, roomBytes, gridListing, bundleListing, listing, Listed}
 use Rattle.listing.specs.Stored.{Stored}
@@ -111,12 +112,12 @@ module _ (s : List ℕ) where
       unfolding countsOf
       counts-front old left q = front _ old left e (length-blocks _ 1 (edges s) (λ k l. refl) ∙ omega (arith, accepted-edges s c e (h ∙ read-is))) q
 
-      pub read-listed : (ns es cs : List ℕ) → ns ≡ nodesOf s → es ≡ endsOf s → cs ≡ countsOf s → gridListing ns es cs ≡ listing s
+      pub read-listed : (ns es cs : List ℕ) → ns ≡ nodesOf s → es ≡ endsOf s → cs ≡ countsOf s → gridListing (gridOf ns es cs) ≡ listing s
       unfolding bundleListing
       read-listed ns es cs p q r =
-          ap (λ (l : List ℕ). gridListing l es cs) p
-          ∙ ap (λ (l : List ℕ). gridListing (nodesOf s) l cs) q
-          ∙ ap (gridListing (nodesOf s) (endsOf s)) r
+          ap (λ (l : List ℕ). gridListing (gridOf l es cs)) p
+          ∙ ap (λ (l : List ℕ). gridListing (gridOf (nodesOf s) l cs)) q
+          ∙ ap (λ (l : List ℕ). gridListing (gridOf (nodesOf s) (endsOf s) l)) r
           ∙ or-result (c ∷ e ∷ []) (bundleAnswer s) _ (h ∙ read-is)
           ∙ sym listing-is
 

@@ -1,24 +1,23 @@
 -- The listing of a grid, from the answers of the check and of the mesh call. Assumes nothing.
 use Prim.Native.Nat.{ℕ, _+_, _*_, _/_, _≤_, _<_}
 use mathlib.Core.Path.{_≡_, refl, sym, ap, ap₂, _∙_}
-use mathlib.Core.Logic.{⊎-elim}
 use mathlib.Core.Bool.{Bool, true, false}
 use mathlib.Core.List.{List, [], _∷_, _++_}
 use native.Mathlib.Omega.{arith}
-use lib.Dec.{leb, eqb}
+use lib.Dec.{leb}
 use lib.ListN.{length, getD, drop, List·getD-append}
 use lib.Seq.{sets}
-use borrow.Author.Tests.{leb-true, leb-false, ne-eqb, eqb-false}
-use Rattle.answer.specs.Answer.{result, refusal}
+use borrow.Author.Tests.{leb-true, leb-false, ne-eqb}
+use Rattle.answer.specs.Answer.{result, refusal, refused}
+use Rattle.answer.proofs.Answer.{refused-not, refused-numbers}
 use Rattle.counting.specs.Pick.{pick}
 use Rattle.counting.specs.Range.{over}
 use Rattle.counting.proofs.Range.{over-ext}
 use Rattle.counting.proofs.Fronts.{sets-front}
-use Rattle.grid.specs.Grid.{crossings}
+use Rattle.grid.specs.Grid.{Grid, crossings}
 use Rattle.grid.specs.Rows.{gridAnswer}
 use Rattle.grid.specs.Tables.{accepts}
-use Rattle.grid.specs.Claims.{Refusal}
-use Rattle.grid.proofs.Claims.{accepts-or-refuses, refuses-fault, never-empty}
+use Rattle.grid.proofs.Claims.{accepted-is, never-empty}
 use Rattle.triangle.specs.declared.Triangle.{Triangle}
 use Rattle.triangle.specs.Words.{wordCount, allWords}
 use Rattle.triangle.proofs.Storing.{length-all}
@@ -39,12 +38,9 @@ unfolding orRefused
 or-refusal n p answer rest z h = rw (← h) (simp (ne-eqb n 0 z))
 
 -- a refusal as the enums are read: with the number 0 it has no reading
-pub or-numbers : (n p : ℕ) (answer rest : List ℕ) → ([] ≡ answer → ⊥) → pick (eqb n 0) [] (refusal n p) ≡ answer → refusedLine n p ≡ orRefused answer rest
-or-numbers n p answer rest some h = go (eqb n 0) refl h
-  where
-    go : (b : Bool) → eqb n 0 ≡ b → pick b [] (refusal n p) ≡ answer → refusedLine n p ≡ orRefused answer rest
-    go true e q = absurd (some q)
-    go false e q = or-refusal n p answer rest (eqb-false n 0 e) q
+pub or-numbers : (n p : ℕ) (answer rest : List ℕ) → ([] ≡ answer → ⊥) → refused n p ≡ answer → refusedLine n p ≡ orRefused answer rest
+unfolding orRefused
+or-numbers n p answer rest some h = rw (refused-not answer some n p h, ← refused-numbers answer some n p h)
 
 -- the words of triangles, stored at the front of an area, give the same lines
 module _ (words area : List ℕ) (n : ℕ) (fits : wordCount * n ≤ length words) (room : length words ≤ length area) where
@@ -87,63 +83,54 @@ module _ (mesh : List Triangle) (t : ℕ) (area : List ℕ) (h : result (t ∷ [
       go true e = refl
       go false e = absurd (omega (arith, leb-false (wordCount * length mesh) (length area) e, room-fits))
 
-module _ (cells edges counts : List ℕ) where
+module _ (G : Grid) where
   -- what the mesh call refuses
-  pub mesh-refused : (n p : ℕ) → pick (eqb n 0) [] (refusal n p) ≡ meshAnswer cells edges counts (wordCount * areaTriangles) → refusedLine n p ≡ gridListing cells edges counts
+  pub mesh-refused : (n p : ℕ) → refused n p ≡ meshAnswer G (wordCount * areaTriangles) → refusedLine n p ≡ gridListing G
   unfolding gridListing
-  mesh-refused n p h = or-numbers n p _ (meshListing cells edges counts) (mesh-some cells edges counts (wordCount * areaTriangles)) h
+  mesh-refused n p h = or-numbers n p _ (meshListing G) (mesh-some G (wordCount * areaTriangles)) h
 
   -- what the check refuses, the mesh call refuses
-  pub check-refused : (n p : ℕ) → pick (eqb n 0) [] (refusal n p) ≡ gridAnswer cells edges counts → refusedLine n p ≡ gridListing cells edges counts
+  pub check-refused : (n p : ℕ) → refused n p ≡ gridAnswer G → refusedLine n p ≡ gridListing G
   unfolding gridListing meshAnswer
-  check-refused n p h = go (eqb n 0) refl h
-    where
-      go : (b : Bool) → eqb n 0 ≡ b → pick b [] (refusal n p) ≡ gridAnswer cells edges counts → refusedLine n p ≡ gridListing cells edges counts
-      go true e q = absurd (never-empty cells edges counts q)
-      go false e q = or-refusal n p _ (meshListing cells edges counts) (eqb-false n 0 e) (rw (← q) (simp e))
+  check-refused n p h =
+      or-numbers n p _ (meshListing G) (mesh-some G (wordCount * areaTriangles)) (h ∙ rw (refused-not (gridAnswer G) (never-empty G) n p h))
 
   -- an accepted grid
-  module _ (x : ℕ) (h : result (x ∷ []) ≡ gridAnswer cells edges counts) where
-    accepted : accepts cells edges counts ≡ true
+  module _ (x : ℕ) (h : result (x ∷ []) ≡ gridAnswer G) where
+    accepted : accepts G ≡ true
     accepted = rw (← h)
 
-    all-crossings : x ≡ crossings counts
-    all-crossings =
-        ⊎-elim (λ (e : gridAnswer cells edges counts ≡ result (crossings counts ∷ [])). cc)
-        (λ (w : (n : ℕ) × (p : ℕ) × Refusal cells edges counts n p).
-        (let r = refuses-fault cells edges counts (w .0) (w .1) (w .2) in
-        let z : w .0 ≡ 0 = cc in
-        absurd (omega (arith, z, w .2 .row-lt .0))))
-        (accepts-or-refuses cells edges counts)
+    all-crossings : x ≡ crossings (G .counts)
+    all-crossings = let e = accepted-is G accepted in cc
 
     module _ (t : ℕ) (before after : List ℕ) (room : length before ≡ wordCount * areaTriangles)
-        (answer : result (t ∷ []) ≡ meshAnswer cells edges counts (length before)) (area : after ≡ meshArea cells edges counts before) where
+        (answer : result (t ∷ []) ≡ meshAnswer G (length before)) (area : after ≡ meshArea G before) where
       mesh : List Triangle
-      mesh = meshTriangles cells edges counts
+      mesh = meshTriangles G
 
       answered : result (t ∷ []) ≡ roomAnswer mesh (length before)
       unfolding meshAnswer mesh
       answered = answer ∙ simp accepted
 
-      stored : after ≡ sets before 0 (meshWords cells edges counts)
+      stored : after ≡ sets before 0 (meshWords G)
       unfolding meshArea meshWords mesh
       stored = area ∙ simp accepted (sym (room-area mesh t before answered))
 
-      long : length (meshWords cells edges counts) ≡ wordCount * length mesh
+      long : length (meshWords G) ≡ wordCount * length mesh
       unfolding meshWords mesh
-      long = length-all (meshTriangles cells edges counts)
+      long = length-all (meshTriangles G)
 
       -- the triangles are no more than the area holds
       pub few : t ≤ areaTriangles
       few = omega (arith, room-total mesh t before answered, room-fits mesh t before answered, room)
 
       -- the text that is put is the listing
-      pub listed : head (length cells / 4) (length counts) x t ++ over (line after) t 0 ≡ gridListing cells edges counts
+      pub listed : head (length (G .cells) / 4) (length (G .counts)) x t ++ over (line after) t 0 ≡ gridListing G
       unfolding gridListing meshListing mesh
       listed =
           let total = room-total mesh t before answered in
-          ap (λ (l : List ℕ). head (length cells / 4) (length counts) x t ++ over (line l) t 0) stored
-          ∙ ap (λ (l : List ℕ). head (length cells / 4) (length counts) x t ++ l)
-          (same-lines (meshWords cells edges counts) before t (omega (arith, total, long)) (omega (arith, long, room-fits mesh t before answered)))
-          ∙ ap₂ (λ y k. head (length cells / 4) (length counts) y k ++ over (line (meshWords cells edges counts)) k 0) all-crossings total
-          ∙ or-result (t ∷ []) _ (meshListing cells edges counts) (answer ∙ ap (meshAnswer cells edges counts) room)
+          ap (λ (l : List ℕ). head (length (G .cells) / 4) (length (G .counts)) x t ++ over (line l) t 0) stored
+          ∙ ap (λ (l : List ℕ). head (length (G .cells) / 4) (length (G .counts)) x t ++ l)
+          (same-lines (meshWords G) before t (omega (arith, total, long)) (omega (arith, long, room-fits mesh t before answered)))
+          ∙ ap₂ (λ y k. head (length (G .cells) / 4) (length (G .counts)) y k ++ over (line (meshWords G)) k 0) all-crossings total
+          ∙ or-result (t ∷ []) _ (meshListing G) (answer ∙ ap (meshAnswer G) room)

@@ -2,13 +2,14 @@
 use Prim.Native.Nat.{ℕ, _+_, _*_, _≤_}
 use mathlib.Core.Path.{_≡_}
 use mathlib.Core.List.{List, _++_}
-use lib.Dec.{ltb, eqb}
+use lib.Dec.{ltb}
 use lib.ListN.{length, getD}
+use Rattle.answer.specs.Answer.{isResult}
 use Rattle.counting.specs.Pick.{pick}
 use Rattle.counting.specs.Range.{over}
 use Rattle.bundle.specs.Record.{brokenRow}
 use Rattle.bundle.specs.Bundle.{bundleAnswer, nodesOf, endsOf, countsOf, writtenOver}
-use Rattle.grid.specs.Grid.{cellCount, crossings}
+use Rattle.grid.specs.Grid.{Grid, gridOf, cellCount, crossings}
 use Rattle.triangle.specs.Words.{wordCount}
 use Rattle.mesh.specs.Mesh.{meshTriangles, meshWords}
 use Rattle.mesh.specs.Answer.{meshAnswer}
@@ -27,22 +28,22 @@ roomBytes = headBytes + lineBytes * areaTriangles
 
 -- the line of the refusal where an answer is one; else what follows
 unfoldable pub orRefused : List ℕ → List ℕ → List ℕ
-orRefused answer rest = pick (eqb (getD answer 0 0) 0) rest (refusedLine (getD answer 0 0) (getD answer 1 0))
+orRefused answer rest = pick (isResult answer) rest (refusedLine (getD answer 0 0) (getD answer 1 0))
 
-module _ (cells edges counts : List ℕ) where
+module _ (G : Grid) where
   -- the listing of a mesh: the numbers of cells, edges, crossings and triangles, and a line for each triangle
   unfoldable pub meshListing : List ℕ
   meshListing =
-      head (cellCount cells) (length counts) (crossings counts) (length (meshTriangles cells edges counts))
-      ++ over (line (meshWords cells edges counts)) (length (meshTriangles cells edges counts)) 0
+      head (cellCount (G .cells)) (length (G .counts)) (crossings (G .counts)) (length (meshTriangles G))
+      ++ over (line (meshWords G)) (length (meshTriangles G)) 0
 
   -- the mesh call's refusal (rows 1 to 10, 12), or the listing of the mesh
   unfoldable pub gridListing : List ℕ
-  gridListing = orRefused (meshAnswer cells edges counts (wordCount * areaTriangles)) meshListing
+  gridListing = orRefused (meshAnswer G (wordCount * areaTriangles)) meshListing
 
 -- the bundle reader's refusal (row 13), or the listing of the grid of its lists
 unfoldable pub bundleListing : List ℕ → List ℕ
-bundleListing s = orRefused (bundleAnswer s) (gridListing (nodesOf s) (endsOf s) (countsOf s))
+bundleListing s = orRefused (bundleAnswer s) (gridListing (gridOf (nodesOf s) (endsOf s) (countsOf s)))
 
 -- over the most bytes, row 13 at that number, whatever they are
 unfoldable pub listing : List ℕ → List ℕ

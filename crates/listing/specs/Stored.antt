@@ -5,6 +5,7 @@ use mathlib.Core.List.{List, [], _∷_}
 use lib.ListN.{length}
 use lib.Seq.{sets}
 use Rattle.answer.specs.Answer.{result}
+use Rattle.grid.specs.Grid.{Grid}
 use Rattle.grid.specs.Rows.{gridAnswer}
 use Rattle.listing.specs.Listing.{roomBytes}
 
@@ -15,6 +16,6 @@ pub record Stored (w : ℕ) (text was : List ℕ) (at : ℕ) (is : List ℕ) (ne
   pub after : next ≡ at + length text
 
 -- the check has accepted a grid with so many crossings, and the area has room for any listing
-pub record Heard (cells edges counts : List ℕ) (crossings : ℕ) (out : List ℕ) : Type 0 where
-  pub accepted : result (crossings ∷ []) ≡ gridAnswer cells edges counts
+pub record Heard (G : Grid) (crossings : ℕ) (out : List ℕ) : Type 0 where
+  pub accepted : result (crossings ∷ []) ≡ gridAnswer G
   pub room : roomBytes ≤ length out

@@ -1,6 +1,7 @@
 // The listing of a bundle: the text that the program meshlist prints.
 ghost use Prim.Native.Nat.{_≤_};
 ghost use lib.ListN.{length};
+ghost use Rattle.grid.specs.Grid.{gridOf};
 ghost use Rattle.listing.specs.Stored.{Stored, Heard};
 ghost use Rattle.listing.specs.Listing.{roomBytes, gridListing, Listed};
 use bundle::Contents;
@@ -25,8 +26,8 @@ pub const ROOM: usize = 116 + 123 * 1489;
 
 // The listing of a grid that the check accepts with so many crossings. About 64 KB of stack, besides what `mesh::mesh` keeps.
 fn list_mesh(nodes: &[u16], ends: &[u16], counts: &[u8], crossings: u32, out: &mut [u8]) -> usize
-    requires { ⌜ Heard (now nodes) (now ends) (now counts) crossings (now out) ⌝ }
-    ensures { λ r. ⌜ Stored roomBytes (gridListing (now (nodes .entry)) (now (ends .entry)) (now (counts .entry))) (now (out .entry)) 0 (now (out .exit)) r ⌝ }
+    requires { ⌜ Heard (gridOf (now nodes) (now ends) (now counts)) crossings (now out) ⌝ }
+    ensures { λ r. ⌜ Stored roomBytes (gridListing (gridOf (now (nodes .entry)) (now (ends .entry)) (now (counts .entry)))) (now (out .entry)) 0 (now (out .exit)) r ⌝ }
 {
     let mut area = [0u32; AREA];
     match mesh::mesh(nodes, ends, counts, &mut area) {
@@ -41,7 +42,7 @@ fn list_mesh(nodes: &[u16], ends: &[u16], counts: &[u8], crossings: u32, out: &m
 // The listing of a grid.
 fn list_grid(nodes: &[u16], ends: &[u16], counts: &[u8], out: &mut [u8]) -> usize
     requires { ⌜ roomBytes ≤ length (now out) ⌝ }
-    ensures { λ r. ⌜ Stored roomBytes (gridListing (now (nodes .entry)) (now (ends .entry)) (now (counts .entry))) (now (out .entry)) 0 (now (out .exit)) r ⌝ }
+    ensures { λ r. ⌜ Stored roomBytes (gridListing (gridOf (now (nodes .entry)) (now (ends .entry)) (now (counts .entry)))) (now (out .entry)) 0 (now (out .exit)) r ⌝ }
 {
     match grid::check(nodes, ends, counts) {
         Checked::Refused(row, place) => lines::put_refused(out, row, place),

@@ -3,10 +3,9 @@ use Prim.Native.Nat.{ℕ}
 use mathlib.Core.Path.{_≡_, sym, ap, _∙_}
 use mathlib.Core.Bool.{true, false}
 use mathlib.Core.List.{List, [], _∷_}
-use lib.Dec.{eqb}
 use lib.ListN.{length}
-use Rattle.answer.specs.Answer.{refusal}
-use Rattle.counting.specs.Pick.{pick}
+use Rattle.answer.specs.Answer.{refused}
+use Rattle.grid.specs.Grid.{Grid, mostSlots, mostEdges}
 use Rattle.grid.specs.declared.Checked.{Checked}
 use Rattle.grid.specs.declared.Checked.the-variants.{Crossings, Refused}
 use Rattle.grid.specs.Check.{checkNumbers}
@@ -22,46 +21,46 @@ use Rattle.mesh.specs.Done.{Done}
 use Rattle.mesh.proofs.Demand.{demand3}
 use Rattle.mesh.proofs.Tables.{Tabled, tabled, laid, triangles-are, loop-is}
 
-module _ (cells edges counts : List ℕ) where
-  module _ (r : Checked) (row place : ℕ) (e : r ≡ Refused row place) (q : checkNumbers r ≡ gridAnswer cells edges counts) where
-    is-refusal : checkNumbers (Refused row place) ≡ gridAnswer cells edges counts
+module _ (G : Grid) where
+  module _ (r : Checked) (row place : ℕ) (e : r ≡ Refused row place) (q : checkNumbers r ≡ gridAnswer G) where
+    is-refusal : checkNumbers (Refused row place) ≡ gridAnswer G
     is-refusal = ap checkNumbers (sym e) ∙ q
 
-    keeps : accepts cells edges counts ≡ false
-    keeps = refused-keeps cells edges counts row place is-refusal
+    keeps : accepts G ≡ false
+    keeps = refused-keeps G row place is-refusal
 
-    pub refused-done : (area : List ℕ) → Done cells edges counts area area (pick (eqb row 0) [] (refusal row place))
+    pub refused-done : (area : List ℕ) → Done G area area (refused row place)
     unfolding meshAnswer meshArea
-    refused-done area = record { answered = rw keeps is-refusal; area = rw keeps; demand = demand3 cells edges counts }
+    refused-done area = record { answered = rw keeps is-refusal; area = rw keeps; demand = demand3 G }
 
-    pub refused-loops : (c k : ℕ) → pick (eqb row 0) [] (refusal row place) ≡ loopsAnswer cells edges counts c k
+    pub refused-loops : (c k : ℕ) → refused row place ≡ loopsAnswer G c k
     unfolding loopsAnswer
     refused-loops c k = rw keeps is-refusal
 
-  module _ (r : Checked) (n : ℕ) (e : r ≡ Crossings n) (q : checkNumbers r ≡ gridAnswer cells edges counts) where
-    is-result : checkNumbers (Crossings n) ≡ gridAnswer cells edges counts
+  module _ (r : Checked) (n : ℕ) (e : r ≡ Crossings n) (q : checkNumbers r ≡ gridAnswer G) where
+    is-result : checkNumbers (Crossings n) ≡ gridAnswer G
     is-result = ap checkNumbers (sym e) ∙ q
 
-    accepted : accepts cells edges counts ≡ true
-    accepted = crossings-accept cells edges counts n is-result
+    accepted : accepts G ≡ true
+    accepted = crossings-accept G n is-result
 
-    module _ (names₀ near₀ sides₀ starts₀ names near sides starts : List ℕ) (ln : length names₀ ≡ 8192) (ls : length sides₀ ≡ 12288) (lt : length starts₀ ≡ 12288)
-        (o : Opened cells edges counts names₀ near₀ sides₀ starts₀ names near sides starts) where
-      tables : Tabled cells edges counts names sides starts
+    module _ (names₀ sides₀ starts₀ names sides starts : List ℕ) (ln : length names₀ ≡ mostSlots) (ls : length sides₀ ≡ mostEdges) (lt : length starts₀ ≡ mostEdges)
+        (o : Opened G names₀ sides₀ starts₀ names sides starts) where
+      tables : Tabled G names sides starts
       tables =
-          tabled cells edges counts names₀ near₀ sides₀ starts₀ names near sides starts (acceptance-yields cells edges counts (n ∷ []) (sym is-result)) accepted ln ls lt o
+          tabled G names₀ sides₀ starts₀ names sides starts (acceptance-yields G (n ∷ []) (sym is-result)) accepted ln ls lt o
 
-      pub opened-laid : Laid cells counts sides starts
+      pub opened-laid : Laid (G .cells) (G .counts) sides starts
       opened-laid = laid tables
 
-      pub drawn-done : (before after answer : List ℕ) → Drawn cells counts names sides starts before after answer → Done cells edges counts before after answer
+      pub drawn-done : (before after answer : List ℕ) → Drawn (G .cells) (G .counts) names sides starts before after answer → Done G before after answer
       unfolding meshAnswer meshArea
       drawn-done before after answer d = record {
         answered = rw accepted (d .answered ∙ ap (λ m. roomAnswer m (length before)) (triangles-are tables));
         area = rw accepted (d .area ∙ ap (λ m. roomArea m before) (triangles-are tables));
-        demand = demand3 cells edges counts;
+        demand = demand3 G;
       }
 
-      pub told-loops : (c k : ℕ) → tableLoop cells counts names sides starts c k ≡ loopsAnswer cells edges counts c k
+      pub told-loops : (c k : ℕ) → tableLoop (G .cells) (G .counts) names sides starts c k ≡ loopsAnswer G c k
       unfolding loopsAnswer
       told-loops c k = rw accepted (loop-is tables c k)

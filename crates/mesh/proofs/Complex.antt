@@ -26,7 +26,7 @@ use Rattle.triangle.proofs.Polygons.{localOf, piece}
 use Rattle.manifold.specs.Piece.{Local, Piece, slotOf, mateOf}
 use Rattle.manifold.specs.Complex.{Complex}
 use Rattle.manifold.specs.Faces.{Match, Faced}
-use Rattle.grid.specs.Grid.{cellCount, node, SameFace, faceName, joins, isEdge, edgeNumber, countOf, start}
+use Rattle.grid.specs.Grid.{Grid, cellCount, node, SameFace, faceName, joins, isEdge, edgeNumber, countOf, start}
 use Rattle.grid.specs.Accepted.{Accepted}
 use Rattle.grid.proofs.Names.{same-named}
 use Rattle.mesh.specs.Mesh.{values, gridCell}
@@ -34,44 +34,44 @@ use Rattle.mesh.specs.Mesh.{values, gridCell}
 values-at : (f : ℕ → ℕ) (n k : ℕ) → k < n → getD (values f n) k 0 ≡ f k
 values-at f n k l = getD-singles f 0 n 0 k l ∙ ap f (zero-add k)
 
-module _ (cells edges counts : List ℕ) where
+module _ (G : Grid) where
   -- the number of edge k of cell c, and the counts of the cell
   abbrev pub en : ℕ → ℕ → ℕ
-  en c k = edgeNumber cells edges counts c k
+  en c k = edgeNumber G c k
 
   abbrev pub w : ℕ → ℕ → ℕ
-  w c = triangles.countOf (gridCell cells edges counts c)
+  w c = triangles.countOf (gridCell G c)
 
   abbrev pub at : ℕ → Local
-  at c = localOf (gridCell cells edges counts c)
+  at c = localOf (gridCell G c)
 
   abbrev pub gridComplex : Complex
-  gridComplex = record { pieces = cellCount cells; at = at; tag = λ c. c; normal = λ c p. normal (w c) p }
+  gridComplex = record { pieces = cellCount (G .cells); at = at; tag = λ c. c; normal = λ c p. normal (w c) p }
 
   -- the count, the start and the face name of an edge and of a slot of cell c
-  pub count-of : (c k : ℕ) → k < 6 → w c k ≡ countOf counts (en c k)
+  pub count-of : (c k : ℕ) → k < 6 → w c k ≡ countOf (G .counts) (en c k)
   unfolding gridCell
-  count-of c k l = values-at (λ k. countOf counts (en c k)) 6 k l
+  count-of c k l = values-at (λ k. countOf (G .counts) (en c k)) 6 k l
 
-  pub start-of : (c k : ℕ) → k < 6 → triangles.startOf (gridCell cells edges counts c) k ≡ start counts (en c k)
+  pub start-of : (c k : ℕ) → k < 6 → triangles.startOf (gridCell G c) k ≡ start (G .counts) (en c k)
   unfolding gridCell
-  start-of c k l = values-at (λ k. start counts (en c k)) 6 k l
+  start-of c k l = values-at (λ k. start (G .counts) (en c k)) 6 k l
 
-  pub name-of : (c s : ℕ) → s < 4 → at c .name s ≡ faceName cells c s
+  pub name-of : (c s : ℕ) → s < 4 → at c .name s ≡ faceName (G .cells) c s
   unfolding gridCell
-  name-of c s l = values-at (faceName cells c) 4 s l
+  name-of c s l = values-at (faceName (G .cells) c) 4 s l
 
   -- the crossing number of crossing x of cell c
-  pub number-of : (c x : ℕ) → x < crossings (w c) → at c .number x ≡ start counts (en c (edge (w c) x)) + index (w c) x
+  pub number-of : (c x : ℕ) → x < crossings (w c) → at c .number x ≡ start (G .counts) (en c (edge (w c) x)) + index (w c) x
   unfolding numberOf inGrid
   number-of c x l = ap (λ n. n + index (w c) x) (start-of c (edge (w c) x) (row-lt (w c) 6 x l))
 
-  pub start-le : (a b : ℕ) → a < b → start counts a + countOf counts a ≤ start counts b
+  pub start-le : (a b : ℕ) → a < b → start (G .counts) a + countOf (G .counts) a ≤ start (G .counts) b
   unfolding start
-  start-le a b h = pre-le (countOf counts) 0 a b h
+  start-le a b h = pre-le (countOf (G .counts)) 0 a b h
 
-  module _ (A : Accepted cells edges counts) where
-    number-rises : (c : ℕ) → c < cellCount cells → (x y : ℕ) → x < y → y < crossings (w c) → at c .number x < at c .number y
+  module _ (A : Accepted G) where
+    number-rises : (c : ℕ) → c < cellCount (G .cells) → (x y : ℕ) → x < y → y < crossings (w c) → at c .number x < at c .number y
     number-rises c lc x y h l =
         let ex = row-lt (w c) 6 x (omega arith) in
         let ey = row-lt (w c) 6 y l in
@@ -84,10 +84,10 @@ module _ (cells edges counts : List ℕ) where
           col-lt (w c) 6 x (omega arith),
           count-of c (edge (w c) x) ex,
         ))
-        (λ (r : (edge (w c) x ≡ edge (w c) y) × (index (w c) x < index (w c) y)). omega (arith, r .1, ap (λ k. start counts (en c k)) (r .0)))
+        (λ (r : (edge (w c) x ≡ edge (w c) y) × (index (w c) x < index (w c) y)). omega (arith, r .1, ap (λ k. start (G .counts) (en c k)) (r .0)))
         (later (w c) 6 x y h l))
 
-    pub number-once : (c : ℕ) → c < cellCount cells → (x y : ℕ) → x < crossings (w c) → y < crossings (w c) → at c .number x ≡ at c .number y → x ≡ y
+    pub number-once : (c : ℕ) → c < cellCount (G .cells) → (x y : ℕ) → x < crossings (w c) → y < crossings (w c) → at c .number x ≡ at c .number y → x ≡ y
     number-once c lc x y lx ly e =
         elim (decLt x y) [
           | yes h ↦ absurd (omega (arith, number-rises c lc x y h ly))
@@ -97,7 +97,7 @@ module _ (cells edges counts : List ℕ) where
           ]
         ]
 
-    node-once : (c i j : ℕ) → c < cellCount cells → i < 4 → j < 4 → node cells c i ≡ node cells c j → i ≡ j
+    node-once : (c i j : ℕ) → c < cellCount (G .cells) → i < 4 → j < 4 → node (G .cells) c i ≡ node (G .cells) c j → i ≡ j
     node-once c i j lc li lj e =
         elim (decLt i j) [
           | yes h ↦ absurd (omega (arith, A .increasing c i j lc h lj))
@@ -107,29 +107,29 @@ module _ (cells edges counts : List ℕ) where
           ]
         ]
 
-    names-once : (c : ℕ) → c < cellCount cells → (s t : ℕ) → s < 4 → t < 4 → at c .name s ≡ at c .name t → s ≡ t
+    names-once : (c : ℕ) → c < cellCount (G .cells) → (s t : ℕ) → s < 4 → t < 4 → at c .name s ≡ at c .name t → s ≡ t
     names-once c lc s t ls lt e =
-        let h = same-named cells c s c t lc lc ls lt (sym (name-of c s ls) ∙ e ∙ name-of c t lt) in
+        let h = same-named (G .cells) c s c t lc lc ls lt (sym (name-of c s ls) ∙ e ∙ name-of c t lt) in
         same-slot s t ls lt (λ i l. node-once c (corner s i) (corner t i) lc (corner-lt s i l) (corner-lt t i l) (h i l))
 
-    piece-is : (c : ℕ) → c < cellCount cells → Piece (at c)
-    piece-is c lc = piece (gridCell cells edges counts c) (record { numbers = number-once c lc; names = names-once c lc })
+    piece-is : (c : ℕ) → c < cellCount (G .cells) → Piece (at c)
+    piece-is c lc = piece (gridCell G c) (record { numbers = number-once c lc; names = names-once c lc })
 
     -- two cells that share a face have the same edges there, and so the same counts and the same segments
-    module _ (a b r s : ℕ) (lr : r < 4) (ls : s < 4) (h : SameFace cells a r b s) where
+    module _ (a b r s : ℕ) (lr : r < 4) (ls : s < 4) (h : SameFace (G .cells) a r b s) where
       same-edge : (j : ℕ) → j < 3 → en a (slotEdge r j) ≡ en b (slotEdge s j)
       unfolding edgeNumber isEdge
       same-edge j l =
           let u = slot-edge r j lr l in
           let v = slot-edge s j ls l in
           let e = face-ends j l in
-          let x : node cells a (lo (slotEdge r j)) ≡ node cells b (lo (slotEdge s j)) = ap (node cells a) (u .lo-is) ∙ h (from j) (omega arith) ∙ ap (node cells b) (sym (v .lo-is)) in
-          let y : node cells a (hi (slotEdge r j)) ≡ node cells b (hi (slotEdge s j)) = ap (node cells a) (u .hi-is) ∙ h (to j) (omega arith) ∙ ap (node cells b) (sym (v .hi-is)) in
-          first-ext (isEdge cells edges a (slotEdge r j)) (isEdge cells edges b (slotEdge s j)) (length counts) (λ e m. ap₂ (λ p q. joins edges p q e) x y)
+          let x : node (G .cells) a (lo (slotEdge r j)) ≡ node (G .cells) b (lo (slotEdge s j)) = ap (node (G .cells) a) (u .lo-is) ∙ h (from j) (omega arith) ∙ ap (node (G .cells) b) (sym (v .lo-is)) in
+          let y : node (G .cells) a (hi (slotEdge r j)) ≡ node (G .cells) b (hi (slotEdge s j)) = ap (node (G .cells) a) (u .hi-is) ∙ h (to j) (omega arith) ∙ ap (node (G .cells) b) (sym (v .hi-is)) in
+          first-ext (isEdge G a (slotEdge r j)) (isEdge G b (slotEdge s j)) (length (G .counts)) (λ e m. ap₂ (λ p q. joins (G .edges) p q e) x y)
 
       same-count : (j : ℕ) → j < 3 → three (w a) r j ≡ three (w b) s j
       same-count j l =
-          count-of a (slotEdge r j) (slot-edge r j lr l .lt) ∙ ap (countOf counts) (same-edge j l) ∙ sym (count-of b (slotEdge s j) (slot-edge s j ls l .lt))
+          count-of a (slotEdge r j) (slot-edge r j lr l .lt) ∙ ap (countOf (G .counts)) (same-edge j l) ∙ sym (count-of b (slotEdge s j) (slot-edge s j ls l .lt))
 
       same-join : (j i : ℕ) → faceJoin (three (w a) r 0) (three (w a) r 1) (three (w a) r 2) j i ≡ faceJoin (three (w b) s 0) (three (w b) s 1) (three (w b) s 2) j i
       same-join j i =
@@ -142,10 +142,10 @@ module _ (cells edges counts : List ℕ) where
       same-number j i lj li =
           let lb : i < three (w b) s j = subst (λ n. i < n) (same-count j lj) li in
           number-of b (number (w b) (slotEdge s j) i) (num-lt (w b) s j i ls lj lb)
-          ∙ ap₂ (λ k m. start counts (en b k) + m) (num-edge (w b) s j i ls lj lb) (num-index (w b) s j i ls lj lb)
-          ∙ ap (λ e. start counts e + i) (sym (same-edge j lj))
+          ∙ ap₂ (λ k m. start (G .counts) (en b k) + m) (num-edge (w b) s j i ls lj lb) (num-index (w b) s j i ls lj lb)
+          ∙ ap (λ e. start (G .counts) e + i) (sym (same-edge j lj))
           ∙ sym (number-of a (number (w a) (slotEdge r j) i) (num-lt (w a) r j i lr lj li)
-          ∙ ap₂ (λ k m. start counts (en a k) + m) (num-edge (w a) r j i lr lj li) (num-index (w a) r j i lr lj li))
+          ∙ ap₂ (λ k m. start (G .counts) (en a k) + m) (num-edge (w a) r j i lr lj li) (num-index (w a) r j i lr lj li))
 
       -- crossing x of cell a stands in cell b as y
       module _ (x : ℕ) (o : On (w a) r x) where
@@ -224,11 +224,11 @@ module _ (cells edges counts : List ℕ) where
       piece = piece-is;
       tags = λ a b la lb e. e;
       few = λ a b c r s t la lb lc lr ls lt p q. A .third a b c r s t la lb lc lr ls lt
-          (same-named cells a r b s la lb lr ls (sym (name-of a r lr) ∙ p ∙ name-of b s ls))
-          (same-named cells a r c t la lc lr lt (sym (name-of a r lr) ∙ q ∙ name-of c t lt));
+          (same-named (G .cells) a r b s la lb lr ls (sym (name-of a r lr) ∙ p ∙ name-of b s ls))
+          (same-named (G .cells) a r c t la lc lr lt (sym (name-of a r lr) ∙ q ∙ name-of c t lt));
       agree = λ a b s d la lb ls ld q.
           let o = on-dart (w a) d ld in
           let r = slotOf (at a) d in
           let lr = o .slot .lt in
-          match a b r s lr ls (same-named cells a r b s la lb lr ls (sym (name-of a r lr) ∙ q ∙ name-of b s ls)) (d / 2) o d refl refl;
+          match a b r s lr ls (same-named (G .cells) a r b s la lb lr ls (sym (name-of a r lr) ∙ q ∙ name-of b s ls)) (d / 2) o d refl refl;
     }

@@ -31,12 +31,11 @@ use Rattle.triangle.specs.declared.Triangle.{Triangle}
 use Rattle.triangle.specs.Names.{sideAt, hasSide}
 use Rattle.triangle.specs.Triangles.{cellTriangles, numberOf}
 use Rattle.triangle.proofs.Polygons.{named, corner-named, side-named, polygonOf, cell-named}
-use Rattle.grid.specs.Grid.{cellCount, countOf, start, crossings}
+use Rattle.grid.specs.Grid.{Grid, cellCount, countOf, start, crossings}
 use Rattle.grid.specs.Accepted.{Accepted}
-use Rattle.answer.specs.Answer.{result}
+use Rattle.answer.specs.Answer.{isResult, result}
 use Rattle.grid.specs.Rows.{gridAnswer}
-use Rattle.grid.specs.Claims.{Refusal}
-use Rattle.grid.proofs.Claims.{accepts-or-refuses, refuses-fault}
+use Rattle.grid.proofs.Claims.{accepted-is}
 use Rattle.grid.proofs.Accepts.{acceptance-yields}
 use Rattle.mesh.specs.Mesh.{gridCell, meshTriangles}
 use Rattle.mesh.specs.Demand.{none, faceCount, RingPremises, OneRing, Fan, Demand3}
@@ -55,80 +54,80 @@ has-named σ t = go (same σ (sideAt t 0)) (same σ (sideAt t 1)) (same σ (side
 half-of : (x : ℕ) → 2 * x / 2 ≡ x
 half-of x = omega arith
 
-module _ (cells edges counts : List ℕ) where
-  index-of : (c : ℕ) → gridCell cells edges counts c .index ≡ c
+module _ (G : Grid) where
+  index-of : (c : ℕ) → gridCell G c .index ≡ c
   unfolding gridCell
   index-of c = refl
 
   -- the loops of the grid's cells are those of the complex
-  loop-of : (c p : ℕ) → polygonOf (gridCell cells edges counts c) p ≡ loopOf (gridComplex cells edges counts) c p
+  loop-of : (c p : ℕ) → polygonOf (gridCell G c) p ≡ loopOf (gridComplex G) c p
   loop-of c p =
-      let G = loopOf (gridComplex cells edges counts) c p in
-      ap (λ i. record { cell = i; p0 = G .p0; n = G .n; point = G .point; face = G .face; lower = G .lower; normal = G .normal }) (index-of c)
+      let L = loopOf (gridComplex G) c p in
+      ap (λ i. record { cell = i; p0 = L .p0; n = L .n; point = L .point; face = L .face; lower = L .lower; normal = L .normal }) (index-of c)
 
-  cell-of : (c : ℕ) → map named (cellTriangles (gridCell cells edges counts c))
-      ≡ over (λ p. triangles (loopOf (gridComplex cells edges counts) c p)) (cell.crossings (w cells edges counts c)) 0
+  cell-of : (c : ℕ) → map named (cellTriangles (gridCell G c))
+      ≡ over (λ p. triangles (loopOf (gridComplex G) c p)) (cell.crossings (w G c)) 0
   cell-of c =
-      cell-named (gridCell cells edges counts c)
-      ∙ over-ext (λ p. triangles (polygonOf (gridCell cells edges counts c) p)) (λ p. triangles (loopOf (gridComplex cells edges counts) c p))
-      (cell.crossings (w cells edges counts c)) 0 (λ p a b. ap triangles (loop-of c p))
+      cell-named (gridCell G c)
+      ∙ over-ext (λ p. triangles (polygonOf (gridCell G c) p)) (λ p. triangles (loopOf (gridComplex G) c p))
+      (cell.crossings (w G c)) 0 (λ p a b. ap triangles (loop-of c p))
 
-  mesh-named : map named (meshTriangles cells edges counts) ≡ complex.mesh (gridComplex cells edges counts)
+  mesh-named : map named (meshTriangles G) ≡ complex.mesh (gridComplex G)
   unfolding meshTriangles complex.mesh
   mesh-named =
-      map-over named (λ c. cellTriangles (gridCell cells edges counts c)) (cellCount cells) 0
-      ∙ over-ext (λ c. map named (cellTriangles (gridCell cells edges counts c)))
-      (λ c. over (λ p. triangles (loopOf (gridComplex cells edges counts) c p)) (cell.crossings (w cells edges counts c)) 0) (cellCount cells) 0
+      map-over named (λ c. cellTriangles (gridCell G c)) (cellCount (G .cells)) 0
+      ∙ over-ext (λ c. map named (cellTriangles (gridCell G c)))
+      (λ c. over (λ p. triangles (loopOf (gridComplex G) c p)) (cell.crossings (w G c)) 0) (cellCount (G .cells)) 0
       (λ c a b. cell-of c)
 
   -- a count of the complex's triangles is one of the mesh's
-  tally-named : (σ : Side) → tally (names.hasSide σ) (complex.mesh (gridComplex cells edges counts)) ≡ tally (hasSide σ) (meshTriangles cells edges counts)
+  tally-named : (σ : Side) → tally (names.hasSide σ) (complex.mesh (gridComplex G)) ≡ tally (hasSide σ) (meshTriangles G)
   tally-named σ =
-      ap (tally (names.hasSide σ)) (sym mesh-named) ∙ tally-map named (names.hasSide σ) (meshTriangles cells edges counts)
-      ∙ ap (λ f. tally f (meshTriangles cells edges counts)) (λ i t. has-named σ t i)
+      ap (tally (names.hasSide σ)) (sym mesh-named) ∙ tally-map named (names.hasSide σ) (meshTriangles G)
+      ∙ ap (λ f. tally f (meshTriangles G)) (λ i t. has-named σ t i)
 
-  ring-of : (g : Corner) → Rattle.manifold.specs.Ring.OneRing (complex.mesh (gridComplex cells edges counts)) g → OneRing cells edges counts g
+  ring-of : (g : Corner) → Rattle.manifold.specs.Ring.OneRing (complex.mesh (gridComplex G)) g → OneRing G g
   ring-of g r =
-      subst (λ f. RingIn none f sideAt (meshTriangles cells edges counts) g) (λ k t i. corner-named t i k)
-      (subst (λ f. RingIn none (λ t i. names.cornerOf (named t) i) f (meshTriangles cells edges counts) g) (λ k t i. side-named t i k)
-      (ring-named none named (meshTriangles cells edges counts) g (rw mesh-named r)))
+      subst (λ f. RingIn none f sideAt (meshTriangles G) g) (λ k t i. corner-named t i k)
+      (subst (λ f. RingIn none (λ t i. names.cornerOf (named t) i) f (meshTriangles G) g) (λ k t i. side-named t i k)
+      (ring-named none named (meshTriangles G) g (rw mesh-named r)))
 
-  module _ (A : Accepted cells edges counts) where
+  module _ (A : Accepted G) where
     abbrev K : Complex
-    K = gridComplex cells edges counts
+    K = gridComplex G
 
     claims : Manifold K
-    claims = manifold K (faces-lawful K (faced cells edges counts A))
+    claims = manifold K (faces-lawful K (faced G A))
 
-    closed : RingPremises cells edges counts → Shut K
-    closed H = faces-shut K (faced cells edges counts A) (facesShut cells edges counts A H)
+    closed : RingPremises G → Shut K
+    closed H = faces-shut K (faced G A) (facesShut G A H)
 
     -- each crossing number is that of a crossing of a cell
-    has : RingPremises cells edges counts → (g : ℕ) → g < crossings counts → (c : ℕ) × Has K g c
+    has : RingPremises G → (g : ℕ) → g < crossings (G .counts) → (c : ℕ) × Has K g c
     unfolding start
     has H g l =
-        let n = length counts in
-        let e = row (countOf counts) n g in
-        let i = col (countOf counts) n g in
-        let (c, k, lc, lk, q) = A .used e (row-lt (countOf counts) n g l) in
-        let v = w cells edges counts c in
-        let li : i < v k = rw (count-of cells edges counts c k lk, q) (col-lt (countOf counts) n g l) in
+        let n = length (G .counts) in
+        let e = row (countOf (G .counts)) n g in
+        let i = col (countOf (G .counts)) n g in
+        let (c, k, lc, lk, q) = A .used e (row-lt (countOf (G .counts)) n g l) in
+        let v = w G c in
+        let li : i < v k = rw (count-of G c k lk, q) (col-lt (countOf (G .counts)) n g l) in
         let x = pre v k + i in
         let lx : x < cell.crossings v = pack-lt v 6 k i lk li in (
           c,
           record {
             lt = lc;
             d = 2 * x;
-            on = record { lt = omega arith; joined = facesShut cells edges counts A H .full c (2 * x) lc (omega arith) };
-            is = ap (K .at c .number) (half-of x) ∙ number-of cells edges counts c x lx
-                ∙ ap₂ (λ a b. start counts (en cells edges counts c a) + b) (row-pack v 6 k i lk li) (col-pack v 6 k i lk li)
-                ∙ ap (λ a. start counts a + i) q ∙ unpack (countOf counts) n g l;
+            on = record { lt = omega arith; joined = facesShut G A H .full c (2 * x) lc (omega arith) };
+            is = ap (K .at c .number) (half-of x) ∙ number-of G c x lx
+                ∙ ap₂ (λ a b. start (G .counts) (en G c a) + b) (row-pack v 6 k i lk li) (col-pack v 6 k i lk li)
+                ∙ ap (λ a. start (G .counts) a + i) q ∙ unpack (countOf (G .counts)) n g l;
           },
         )
 
-    fan-shape : (c p : ℕ) → Fan cells edges counts c p → shape (loopOf K c p) ≡ fan
+    fan-shape : (c p : ℕ) → Fan G c p → shape (loopOf K c p) ≡ fan
     unfolding shape loopSize cell.step
-    fan-shape c p F = go (eqb (loopSize (w cells edges counts c) p) 3) (eqb (loopSize (w cells edges counts c) p) 4) (normal (w cells edges counts c) p) (F .not-three) (F .not-four)
+    fan-shape c p F = go (eqb (loopSize (w G c) p) 3) (eqb (loopSize (w G c) p) 4) (normal (w G c) p) (F .not-three) (F .not-four)
       where
         go : (x y z : Bool) → x ≡ false → (y && z) ≡ false → shapeBy x y z ≡ fan
         go true y z e f = clash refl e
@@ -136,22 +135,22 @@ module _ (cells edges counts : List ℕ) where
         go false true false e f = refl
         go false false z e f = refl
 
-    pub accepted-demand : Demand3 cells edges counts (crossings counts)
+    pub accepted-demand : Demand3 G (crossings (G .counts))
     unfolding loopSize cell.step
     accepted-demand = record {
-      no-alternation = λ c s lc ls. faceLaws (faceCount cells edges counts c s 0) (faceCount cells edges counts c s 1) (faceCount cells edges counts c s 2) .no-alternation;
+      no-alternation = λ c s lc ls. faceLaws (faceCount G c s 0) (faceCount G c s 1) (faceCount G c s 2) .no-alternation;
       at-most-two = λ σ. rw (sym (tally-named σ)) (claims .most σ);
       exactly-two = λ H t i lt li. two H t i lt li;
       ring-at-crossing = λ H g l.
           let (c, h) = has H g l in
-          ring-of (cross g) (claims .ring (closed H) g c h (faces-linked K (faced cells edges counts A) (facesShut cells edges counts A H) g (facesLinked cells edges counts A H g)));
-      ring-at-middle = λ H c p F. ring-of (middle c (numberOf (gridCell cells edges counts c) p)) (claims .round (closed H) c p (F .cell-lt) (F .start-lt) (F .some) (fan-shape c p F));
+          ring-of (cross g) (claims .ring (closed H) g c h (faces-linked K (faced G A) (facesShut G A H) g (facesLinked G A H g)));
+      ring-at-middle = λ H c p F. ring-of (middle c (numberOf (gridCell G c) p)) (claims .round (closed H) c p (F .cell-lt) (F .start-lt) (F .some) (fan-shape c p F));
     }
       where
-        two : RingPremises cells edges counts → (t i : ℕ) → t < length (meshTriangles cells edges counts) → i < 3
-            → tally (hasSide (sideAt (getD (meshTriangles cells edges counts) t none) i)) (meshTriangles cells edges counts) ≡ 2
+        two : RingPremises G → (t i : ℕ) → t < length (meshTriangles G) → i < 3
+            → tally (hasSide (sideAt (getD (meshTriangles G) t none) i)) (meshTriangles G) ≡ 2
         two H t i lt li =
-            let m = meshTriangles cells edges counts in
+            let m = meshTriangles G in
             let e : nth (complex.mesh K) t ≡ named (getD m t none) = ap (λ l. nth l t) (sym mesh-named) ∙ getD-map named none noTri m t lt in
             let lt′ : t < length (complex.mesh K) = rw (sym mesh-named, length-map) lt in
             sym (tally-named (sideAt (getD m t none) i))
@@ -159,15 +158,11 @@ module _ (cells edges counts : List ℕ) where
             ∙ claims .two (closed H) t i lt′ li
 
 -- the answer of an accepted grid is its number of crossings
-total-is : (cells edges counts : List ℕ) (total : ℕ) → gridAnswer cells edges counts ≡ result (total ∷ []) → crossings counts ≡ total
-total-is cells edges counts total e = go (accepts-or-refuses cells edges counts)
-  where
-    go : (gridAnswer cells edges counts ≡ result (crossings counts ∷ [])) ⊎ ((n : ℕ) × (p : ℕ) × Refusal cells edges counts n p) → crossings counts ≡ total
-    go (inl q) = cc
-    go (inr (n, p, r)) = let z : n ≡ 0 = cc (refuses-fault cells edges counts n p r) in absurd (omega (arith, r .row-lt .0))
+total-is : (G : Grid) (total : ℕ) → gridAnswer G ≡ result (total ∷ []) → crossings (G .counts) ≡ total
+total-is G total e = let f = accepted-is G (ap isResult e) in cc
 
 -- Demand 3: for every three lists that the grid check accepts
-pub demand3 : (cells edges counts : List ℕ) (total : ℕ) → gridAnswer cells edges counts ≡ result (total ∷ []) → Demand3 cells edges counts total
-demand3 cells edges counts total e =
-    subst (Demand3 cells edges counts) (total-is cells edges counts total e)
-    (accepted-demand cells edges counts (acceptance-yields cells edges counts (total ∷ []) e))
+pub demand3 : (G : Grid) (total : ℕ) → gridAnswer G ≡ result (total ∷ []) → Demand3 G total
+demand3 G total e =
+    subst (Demand3 G) (total-is G total e)
+    (accepted-demand G (acceptance-yields G (total ∷ []) e))

@@ -22,61 +22,61 @@ use Rattle.cell.specs.Cell.{crossings, edge, index, number, mate, joinAt}
 use Rattle.mesh.proofs.Joins.{three, On, index-in, num-lt, num-edge, num-index, Joined, joined-or, even-joined, on-dart}
 use Rattle.manifold.specs.Piece.{slotOf, mateOf}
 use Rattle.manifold.specs.Faces.{FacesShut, SharesFace, FacesLinked}
-use Rattle.grid.specs.Grid.{cellCount, SameFace, countOf, start, sameFace}
+use Rattle.grid.specs.Grid.{Grid, cellCount, SameFace, countOf, start, sameFace}
 use Rattle.grid.specs.Accepted.{Accepted}
 use Rattle.grid.proofs.Packed.{same-true, true-same}
 use Rattle.grid.proofs.Names.{named-same, outer-edge}
 use Rattle.mesh.specs.Demand.{RingPremises, faceCount}
 use Rattle.mesh.proofs.Complex.{w, at, en, gridComplex, count-of, name-of, number-of, start-le}
 
-module _ (cells edges counts : List ℕ) where
-  module _ (A : Accepted cells edges counts) (H : RingPremises cells edges counts) where
+module _ (G : Grid) where
+  module _ (A : Accepted G) (H : RingPremises G) where
     -- a face with a crossing is in a second cell: an edge of a face that only one cell has is outer
-    pub beyond : (c s j : ℕ) → c < cellCount cells → s < 4 → j < 3 → (i : ℕ) → i < faceCount cells edges counts c s j
-        → (b : ℕ) × (b < cellCount cells) × (b ≢ c) × (t : ℕ) × (t < 4) × SameFace cells c s b t
-    beyond c s j lc ls lj i li = go (least other (cellCount cells))
+    pub beyond : (c s j : ℕ) → c < cellCount (G .cells) → s < 4 → j < 3 → (i : ℕ) → i < faceCount G c s j
+        → (b : ℕ) × (b < cellCount (G .cells)) × (b ≢ c) × (t : ℕ) × (t < 4) × SameFace (G .cells) c s b t
+    beyond c s j lc ls lj i li = go (least other (cellCount (G .cells)))
       where
         other : ℕ → Bool
-        other b = some (λ t. sameFace cells b t c s) 4 && not (eqb b c)
+        other b = some (λ t. sameFace (G .cells) b t c s) 4 && not (eqb b c)
 
-        go : ((b : ℕ) × (b < cellCount cells) × (other b ≡ true) × ((k : ℕ) → k < b → other k ≡ false)) ⊎ ((k : ℕ) → k < cellCount cells → other k ≡ false)
-            → (b : ℕ) × (b < cellCount cells) × (b ≢ c) × (t : ℕ) × (t < 4) × SameFace cells c s b t
+        go : ((b : ℕ) × (b < cellCount (G .cells)) × (other b ≡ true) × ((k : ℕ) → k < b → other k ≡ false)) ⊎ ((k : ℕ) → k < cellCount (G .cells) → other k ≡ false)
+            → (b : ℕ) × (b < cellCount (G .cells)) × (b ≢ c) × (t : ℕ) × (t < 4) × SameFace (G .cells) c s b t
         go (inl (b, lb, e, f)) =
-            let (t, lt, q) = some-is (λ t. sameFace cells b t c s) 4 (and-left (some (λ t. sameFace cells b t c s) 4) (not (eqb b c)) e) in
-            (b, lb, eqb-false b c (not-true (eqb b c) (and-right (some (λ t. sameFace cells b t c s) 4) (not (eqb b c)) e)), t, lt, λ i l. sym (same-true cells b t c s q i l))
+            let (t, lt, q) = some-is (λ t. sameFace (G .cells) b t c s) 4 (and-left (some (λ t. sameFace (G .cells) b t c s) 4) (not (eqb b c)) e) in
+            (b, lb, eqb-false b c (not-true (eqb b c) (and-right (some (λ t. sameFace (G .cells) b t c s) 4) (not (eqb b c)) e)), t, lt, λ i l. sym (same-true (G .cells) b t c s q i l))
         go (inr none) =
-            let z = H .outer-zero (en cells edges counts c (slotEdge s j)) (A .listed c (slotEdge s j) lc (slot-edge s j ls lj .lt)) (outer-edge cells edges counts A c s j lc ls lj alone) in
+            let z = H .outer-zero (en G c (slotEdge s j)) (A .listed c (slotEdge s j) lc (slot-edge s j ls lj .lt)) (outer-edge G A c s j lc ls lj alone) in
             absurd (omega (arith, z))
           where
-            alone : (b t : ℕ) → b < cellCount cells → t < 4 → SameFace cells c s b t → b ≡ c
+            alone : (b t : ℕ) → b < cellCount (G .cells) → t < 4 → SameFace (G .cells) c s b t → b ≡ c
             alone b t lb lt h =
                 ⊎-elim (λ (q : eqb b c ≡ true). eqb-true b c q)
-                (λ (q : eqb b c ≡ false). clash (and-true (some (λ t. sameFace cells b t c s) 4) (not (eqb b c))
-                (some-found (λ t. sameFace cells b t c s) 4 t lt (true-same cells b t c s (λ i l. sym (h i l)))) (ap not q)) (none b lb)) (holds-or (eqb b c))
+                (λ (q : eqb b c ≡ false). clash (and-true (some (λ t. sameFace (G .cells) b t c s) 4) (not (eqb b c))
+                (some-found (λ t. sameFace (G .cells) b t c s) 4 t lt (true-same (G .cells) b t c s (λ i l. sym (h i l)))) (ap not q)) (none b lb)) (holds-or (eqb b c))
 
     -- the three counts of a slot as the cell has them
-    three-is : (c s j : ℕ) → s < 4 → j < 3 → three (w cells edges counts c) s j ≡ faceCount cells edges counts c s j
-    three-is c s j ls lj = count-of cells edges counts c (slotEdge s j) (slot-edge s j ls lj .lt)
+    three-is : (c s j : ℕ) → s < 4 → j < 3 → three (w G c) s j ≡ faceCount G c s j
+    three-is c s j ls lj = count-of G c (slotEdge s j) (slot-edge s j ls lj .lt)
 
-    even-slot : (c s : ℕ) → c < cellCount cells → s < 4
-        → (three (w cells edges counts c) s 0 + three (w cells edges counts c) s 1 + three (w cells edges counts c) s 2) % 2 ≡ 0
+    even-slot : (c s : ℕ) → c < cellCount (G .cells) → s < 4
+        → (three (w G c) s 0 + three (w G c) s 1 + three (w G c) s 2) % 2 ≡ 0
     even-slot c s lc ls =
         rw (three-is c s 0 ls (omega arith), three-is c s 1 ls (omega arith), three-is c s 2 ls (omega arith)) (H .even c s lc ls)
 
-    pub facesShut : FacesShut (gridComplex cells edges counts)
+    pub facesShut : FacesShut (gridComplex G)
     facesShut = record { full = full; paired = paired }
       where
-        full : (c d : ℕ) → c < cellCount cells → d < 2 * crossings (w cells edges counts c) → mateOf (at cells edges counts c) d < crossings (w cells edges counts c)
+        full : (c d : ℕ) → c < cellCount (G .cells) → d < 2 * crossings (w G c) → mateOf (at G c) d < crossings (w G c)
         full c d lc ld = go (joined-or v o)
           where
             v : ℕ → ℕ
-            v = w cells edges counts c
+            v = w G c
 
             s : ℕ
-            s = slotOf (at cells edges counts c) d
+            s = slotOf (at G c) d
 
             o : On v s (d / 2)
-            o = on-dart (w cells edges counts c) d ld
+            o = on-dart (w G c) d ld
 
             go : Joined v s (d / 2) ⊎ ((joinAt v s (d / 2) ≡ unjoined) × (mate v s (d / 2) ≡ crossings v)) → mate v s (d / 2) < crossings v
             go (inl g) = rw (g .is) (num-lt v s (g .j) (g .i) (o .slot .lt) (g .j-lt) (g .i-lt))
@@ -85,32 +85,32 @@ module _ (cells edges counts : List ℕ) where
                 none : joinAt v s (d / 2) ≡ unjoined → ⊥
                 none e = even-joined v s (d / 2) (even-slot c s lc (o .slot .lt)) e
 
-        paired : (c d : ℕ) → c < cellCount cells → d < 2 * crossings (w cells edges counts c)
-            → (b : ℕ) × (b < cellCount cells) × (b ≢ c) × (s : ℕ) × (s < 4) × (at cells edges counts c .name (slotOf (at cells edges counts c) d) ≡ at cells edges counts b .name s)
+        paired : (c d : ℕ) → c < cellCount (G .cells) → d < 2 * crossings (w G c)
+            → (b : ℕ) × (b < cellCount (G .cells)) × (b ≢ c) × (s : ℕ) × (s < 4) × (at G c .name (slotOf (at G c) d) ≡ at G b .name s)
         paired c d lc ld =
-            let v = w cells edges counts c in
-            let s = slotOf (at cells edges counts c) d in
-            let o = on-dart (w cells edges counts c) d ld in
+            let v = w G c in
+            let s = slotOf (at G c) d in
+            let o = on-dart (w G c) d ld in
             let j = place s (edge v (d / 2)) in
             let (b, lb, ne, t, lt, h) = beyond c s j lc (o .slot .lt) (o .slot .place-lt) (index v (d / 2)) (subst (λ n. index v (d / 2) < n) (three-is c s j (o .slot .lt) (o .slot .place-lt)) (index-in v o)) in
-            (b, lb, ne, t, lt, name-of cells edges counts c s (o .slot .lt) ∙ named-same cells c s b t h ∙ sym (name-of cells edges counts b t lt))
+            (b, lb, ne, t, lt, name-of G c s (o .slot .lt) ∙ named-same (G .cells) c s b t h ∙ sym (name-of G b t lt))
 
     -- a crossing number tells its edge
-    edge-of-number : (e f i j : ℕ) → i < countOf counts e → j < countOf counts f → start counts e + i ≡ start counts f + j → e ≡ f
+    edge-of-number : (e f i j : ℕ) → i < countOf (G .counts) e → j < countOf (G .counts) f → start (G .counts) e + i ≡ start (G .counts) f + j → e ≡ f
     edge-of-number e f i j li lj q =
         elim (decLt e f) [
-          | yes h ↦ absurd (omega (arith, start-le cells edges counts e f h))
+          | yes h ↦ absurd (omega (arith, start-le G e f h))
           | no h ↦ elim (decLt f e) [
-            | yes k ↦ absurd (omega (arith, start-le cells edges counts f e k))
+            | yes k ↦ absurd (omega (arith, start-le G f e k))
             | no k ↦ omega arith
           ]
         ]
 
     -- the cells at a crossing are linked through faces on which it lies: those that contain its edge
-    pub facesLinked : (g : ℕ) → FacesLinked (gridComplex cells edges counts) g
+    pub facesLinked : (g : ℕ) → FacesLinked (gridComplex G) g
     facesLinked g Q pass a b ha hb =
-        let va = w cells edges counts a in
-        let vb = w cells edges counts b in
+        let va = w G a in
+        let vb = w G b in
         let xa = half (ha .d) in
         let xb = half (hb .d) in
         let ja = ha .on .lt in
@@ -122,17 +122,17 @@ module _ (cells edges counts : List ℕ) where
         let lka = row-lt va 6 xa la in
         let lkb = row-lt vb 6 xb lb in
         let i = index va xa in
-        let li : i < countOf counts (en cells edges counts a ka) = subst (λ n. i < n) (count-of cells edges counts a ka lka) (col-lt va 6 xa la) in
-        let lj : index vb xb < countOf counts (en cells edges counts b kb) = subst (λ n. index vb xb < n) (count-of cells edges counts b kb lkb) (col-lt vb 6 xb lb) in
-        let na : start counts (en cells edges counts a ka) + i ≡ g = sym (number-of cells edges counts a xa la) ∙ ha .is in
-        let nb : start counts (en cells edges counts b kb) + index vb xb ≡ g = sym (number-of cells edges counts b xb lb) ∙ hb .is in
-        let e : en cells edges counts a ka ≡ en cells edges counts b kb = edge-of-number (en cells edges counts a ka) (en cells edges counts b kb) i (index vb xb) li lj (na ∙ sym nb) in
-        A .linked (en cells edges counts a ka) Q
-        (λ a′ b′ r s j la lb lr ls l h q. pass a′ b′ (step i (en cells edges counts a ka) li na a′ b′ r s j la lb lr ls l h q))
+        let li : i < countOf (G .counts) (en G a ka) = subst (λ n. i < n) (count-of G a ka lka) (col-lt va 6 xa la) in
+        let lj : index vb xb < countOf (G .counts) (en G b kb) = subst (λ n. index vb xb < n) (count-of G b kb lkb) (col-lt vb 6 xb lb) in
+        let na : start (G .counts) (en G a ka) + i ≡ g = sym (number-of G a xa la) ∙ ha .is in
+        let nb : start (G .counts) (en G b kb) + index vb xb ≡ g = sym (number-of G b xb lb) ∙ hb .is in
+        let e : en G a ka ≡ en G b kb = edge-of-number (en G a ka) (en G b kb) i (index vb xb) li lj (na ∙ sym nb) in
+        A .linked (en G a ka) Q
+        (λ a′ b′ r s j la lb lr ls l h q. pass a′ b′ (step i (en G a ka) li na a′ b′ r s j la lb lr ls l h q))
         a b ka kb (ha .lt) (hb .lt) lka lkb refl (sym e)
       where
-        step : (i e : ℕ) → i < countOf counts e → start counts e + i ≡ g → (a b r s j : ℕ) → a < cellCount cells → b < cellCount cells → r < 4 → s < 4 → j < 3
-            → SameFace cells a r b s → en cells edges counts a (slotEdge r j) ≡ e → SharesFace (gridComplex cells edges counts) g a b
+        step : (i e : ℕ) → i < countOf (G .counts) e → start (G .counts) e + i ≡ g → (a b r s j : ℕ) → a < cellCount (G .cells) → b < cellCount (G .cells) → r < 4 → s < 4 → j < 3
+            → SameFace (G .cells) a r b s → en G a (slotEdge r j) ≡ e → SharesFace (gridComplex G) g a b
         step i e li q a b r s j la lb lr ls lj h m =
             ⊎-elim
             (λ (u : firstSlot (slotEdge r j) ≡ r). make (2 * x) (omega arith) (omega (arith, lx)) (face-first (crossings v) (cell.first v) (cell.second v) (mate v) x ∙ ap firstSlot ex ∙ u))
@@ -140,13 +140,13 @@ module _ (cells edges counts : List ℕ) where
             (slot-edge r j lr lj .on)
           where
             v : ℕ → ℕ
-            v = w cells edges counts a
+            v = w G a
 
             x : ℕ
             x = number v (slotEdge r j) i
 
             li′ : i < three v r j
-            li′ = subst (λ n. i < n) (sym (three-is a r j lr lj)) (subst (λ y. i < countOf counts y) (sym m) li)
+            li′ = subst (λ n. i < n) (sym (three-is a r j lr lj)) (subst (λ y. i < countOf (G .counts) y) (sym m) li)
 
             lx : x < crossings v
             lx = num-lt v r j i lr lj li′
@@ -154,15 +154,15 @@ module _ (cells edges counts : List ℕ) where
             ex : edge v x ≡ slotEdge r j
             ex = num-edge v r j i lr lj li′
 
-            make : (d : ℕ) → half d ≡ x → d < 2 * crossings v → slotOf (at cells edges counts a) d ≡ r → SharesFace (gridComplex cells edges counts) g a b
+            make : (d : ℕ) → half d ≡ x → d < 2 * crossings v → slotOf (at G a) d ≡ r → SharesFace (gridComplex G) g a b
             make d hd ld fd = record {
               a-lt = la;
               b-lt = lb;
               d = d;
               d-lt = ld;
-              at-d = ap (at cells edges counts a .number) hd ∙ number-of cells edges counts a x lx
-                  ∙ ap₂ (λ k z. start counts (en cells edges counts a k) + z) ex (num-index v r j i lr lj li′) ∙ ap (λ y. start counts y + i) m ∙ q;
+              at-d = ap (at G a .number) hd ∙ number-of G a x lx
+                  ∙ ap₂ (λ k z. start (G .counts) (en G a k) + z) ex (num-index v r j i lr lj li′) ∙ ap (λ y. start (G .counts) y + i) m ∙ q;
               s = s;
               s-lt = ls;
-              face = ap (at cells edges counts a .name) fd ∙ name-of cells edges counts a r lr ∙ named-same cells a r b s h ∙ sym (name-of cells edges counts b s ls);
+              face = ap (at G a .name) fd ∙ name-of G a r lr ∙ named-same (G .cells) a r b s h ∙ sym (name-of G b s ls);
             }

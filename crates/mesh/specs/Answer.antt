@@ -2,24 +2,24 @@
 use Prim.Native.Nat.{ℕ}
 use mathlib.Core.List.{List}
 use Rattle.counting.specs.Pick.{pick}
-use Rattle.grid.specs.Grid.{cellCount}
+use Rattle.grid.specs.Grid.{Grid, cellCount}
 use Rattle.grid.specs.Rows.{gridAnswer}
 use Rattle.grid.specs.Tables.{accepts}
 use Rattle.mesh.specs.Mesh.{gridCell, meshTriangles}
 use Rattle.mesh.specs.Room.{roomAnswer, roomArea}
 use Rattle.mesh.specs.Asked.{askedLoop}
 
-module _ (cells edges counts : List ℕ) where
+module _ (G : Grid) where
   -- the mesh call (01): rows 1 to 10; then 12 with the number of triangles needed; else the number of triangles
   unfoldable pub meshAnswer : ℕ → List ℕ
   unfolding roomAnswer
-  meshAnswer room = pick (accepts cells edges counts) (roomAnswer (meshTriangles cells edges counts) room) (gridAnswer cells edges counts)
+  meshAnswer room = pick (accepts G) (roomAnswer (meshTriangles G) room) (gridAnswer G)
 
   -- the lent area afterwards: the words of the mesh at its front, and the rest as it was; all as it was where the call refuses
   unfoldable pub meshArea : List ℕ → List ℕ
   unfolding roomArea
-  meshArea area = pick (accepts cells edges counts) (roomArea (meshTriangles cells edges counts) area) area
+  meshArea area = pick (accepts G) (roomArea (meshTriangles G) area) area
 
   -- the loops call (01): rows 1 to 10; then 11 with the cell asked for; else loop k of cell c
   unfoldable pub loopsAnswer : ℕ → ℕ → List ℕ
-  loopsAnswer c k = pick (accepts cells edges counts) (askedLoop (gridCell cells edges counts) (cellCount cells) c k) (gridAnswer cells edges counts)
+  loopsAnswer c k = pick (accepts G) (askedLoop (gridCell G) (cellCount (G .cells)) c k) (gridAnswer G)

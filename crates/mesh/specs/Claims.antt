@@ -5,7 +5,7 @@ use mathlib.Core.List.{List, [], _∷_}
 use Rattle.answer.specs.Answer.{result}
 use Rattle.cell.specs.Of.{countOf, startOf}
 use Rattle.cell.specs.Claims.{OrderLaws}
-use Rattle.grid.specs.Grid.{cellCount}
+use Rattle.grid.specs.Grid.{Grid, cellCount}
 use Rattle.grid.specs.Rows.{gridAnswer}
 use Rattle.mesh.specs.declared.Meshed.{Meshed}
 use Rattle.mesh.specs.declared.Looped.{Looped}
@@ -15,14 +15,14 @@ use Rattle.mesh.specs.Answer.{meshAnswer, loopsAnswer}
 
 -- the numbers tell the answer: no two values of an enum are read as the same answer of its call
 abbrev pub MeshTold : Type 0
-MeshTold = (cells edges counts : List ℕ) (room : ℕ) (r s : Meshed)
-    → meshNumbers r ≡ meshAnswer cells edges counts room → meshNumbers s ≡ meshAnswer cells edges counts room → r ≡ s
+MeshTold = (G : Grid) (room : ℕ) (r s : Meshed)
+    → meshNumbers r ≡ meshAnswer G room → meshNumbers s ≡ meshAnswer G room → r ≡ s
 
 abbrev pub LoopsTold : Type 0
-LoopsTold = (cells edges counts : List ℕ) (c k : ℕ) (r s : Looped)
-    → loopsNumbers r ≡ loopsAnswer cells edges counts c k → loopsNumbers s ≡ loopsAnswer cells edges counts c k → r ≡ s
+LoopsTold = (G : Grid) (c k : ℕ) (r s : Looped)
+    → loopsNumbers r ≡ loopsAnswer G c k → loopsNumbers s ≡ loopsAnswer G c k → r ≡ s
 
 -- in each cell of an accepted grid p0 is the least crossing number of its loop (01), and the loops are ordered by p0
 abbrev pub LoopsOrdered : Type 0
-LoopsOrdered = (cells edges counts : List ℕ) (total : ℕ) → gridAnswer cells edges counts ≡ result (total ∷ []) → (c : ℕ) → c < cellCount cells
-    → OrderLaws (countOf (gridCell cells edges counts c)) (startOf (gridCell cells edges counts c)) (gridCell cells edges counts c .nodes)
+LoopsOrdered = (G : Grid) (total : ℕ) → gridAnswer G ≡ result (total ∷ []) → (c : ℕ) → c < cellCount (G .cells)
+    → OrderLaws (countOf (gridCell G c)) (startOf (gridCell G c)) (gridCell G c .nodes)

@@ -17,7 +17,7 @@ use Rattle.triangle.specs.declared.Triangle.{Triangle}
 use Rattle.triangle.specs.Names.{cornerAt, sideAt, hasSide}
 use Rattle.triangle.specs.Triangles as triangle
 use Rattle.triangle.specs.Triangles.{numberOf}
-use Rattle.grid.specs.Grid.{cellCount, edgeNumber, countOf, outer}
+use Rattle.grid.specs.Grid.{Grid, cellCount, edgeNumber, countOf, outer}
 use Rattle.cell.specs.Cell as cell
 use Rattle.mesh.specs.Mesh.{gridCell, meshTriangles}
 
@@ -25,41 +25,41 @@ use Rattle.mesh.specs.Mesh.{gridCell, meshTriangles}
 abbrev pub none : Triangle
 none = record { cell = 0; p0 = 0; corner0 = Middle; corner1 = Middle; corner2 = Middle; side0 = Inner 0; side1 = Inner 0; side2 = Inner 0 }
 
-module _ (cells edges counts : List ℕ) where
+module _ (G : Grid) where
   -- the count of edge j, ab ac bc, of the face at slot s of cell c
   abbrev pub faceCount : ℕ → ℕ → ℕ → ℕ
-  faceCount c s j = countOf counts (edgeNumber cells edges counts c (slotEdge s j))
+  faceCount c s j = countOf (G .counts) (edgeNumber G c (slotEdge s j))
 
   -- the premises of the rings: every outer edge has count zero, and the three counts of every face have an even sum
   pub record RingPremises : Type 0 where
-    pub outer-zero : (e : ℕ) → e < length counts → outer cells edges e ≡ true → countOf counts e ≡ 0
-    pub even : (c s : ℕ) → c < cellCount cells → s < 4 → (faceCount c s 0 + faceCount c s 1 + faceCount c s 2) % 2 ≡ 0
+    pub outer-zero : (e : ℕ) → e < length (G .counts) → outer G e ≡ true → countOf (G .counts) e ≡ 0
+    pub even : (c s : ℕ) → c < cellCount (G .cells) → s < 4 → (faceCount c s 0 + faceCount c s 1 + faceCount c s 2) % 2 ≡ 0
 
   -- one ring (01) of the mesh's triangles at a point
   abbrev pub OneRing : Corner → Type 0
-  OneRing = RingIn none cornerAt sideAt (meshTriangles cells edges counts)
+  OneRing = RingIn none cornerAt sideAt (meshTriangles G)
 
   -- the loop of cell c from its crossing p is drawn as a fan
   pub record Fan (c p : ℕ) : Type 0 where
-    pub cell-lt : c < cellCount cells
-    pub start-lt : p < cell.crossings (triangle.countOf (gridCell cells edges counts c))
-    pub some : 0 < loopSize (triangle.countOf (gridCell cells edges counts c)) p
-    pub not-three : eqb (loopSize (triangle.countOf (gridCell cells edges counts c)) p) 3 ≡ false
-    pub not-four : (eqb (loopSize (triangle.countOf (gridCell cells edges counts c)) p) 4 && normal (triangle.countOf (gridCell cells edges counts c)) p) ≡ false
+    pub cell-lt : c < cellCount (G .cells)
+    pub start-lt : p < cell.crossings (triangle.countOf (gridCell G c))
+    pub some : 0 < loopSize (triangle.countOf (gridCell G c)) p
+    pub not-three : eqb (loopSize (triangle.countOf (gridCell G c)) p) 3 ≡ false
+    pub not-four : (eqb (loopSize (triangle.countOf (gridCell G c)) p) 4 && normal (triangle.countOf (gridCell G c)) p) ≡ false
 
   -- of an accepted grid, whose number of crossings the grid check answers as `total`
   pub record Demand3 (total : ℕ) : Type 0 where
     -- (a) on each face, with its segments as the face call answers them from its three counts, no two segments alternate round the rim
-    pub no-alternation : (c s : ℕ) → c < cellCount cells → s < 4 → (e t e′ t′ u i u′ i′ : ℕ)
+    pub no-alternation : (c s : ℕ) → c < cellCount (G .cells) → s < 4 → (e t e′ t′ u i u′ i′ : ℕ)
         → Segment (faceCount c s 0) (faceCount c s 1) (faceCount c s 2) e t e′ t′
         → Segment (faceCount c s 0) (faceCount c s 1) (faceCount c s 2) u i u′ i′
         → Alternate (faceCount c s 0) (faceCount c s 1) (faceCount c s 2) e t e′ t′ u i u′ i′ → ⊥
     -- (b) no side is in more than two triangles
-    pub at-most-two : (σ : Side) → tally (hasSide σ) (meshTriangles cells edges counts) ≤ 2
+    pub at-most-two : (σ : Side) → tally (hasSide σ) (meshTriangles G) ≤ 2
     -- (c) under the premises each side of each triangle is in exactly two triangles
-    pub exactly-two : RingPremises → (t i : ℕ) → t < length (meshTriangles cells edges counts) → i < 3
-        → tally (hasSide (sideAt (getD (meshTriangles cells edges counts) t none) i)) (meshTriangles cells edges counts) ≡ 2
+    pub exactly-two : RingPremises → (t i : ℕ) → t < length (meshTriangles G) → i < 3
+        → tally (hasSide (sideAt (getD (meshTriangles G) t none) i)) (meshTriangles G) ≡ 2
     -- and there is one ring at each crossing of the grid
     pub ring-at-crossing : RingPremises → (g : ℕ) → g < total → OneRing (cross g)
     -- and at the middle of every fan
-    pub ring-at-middle : RingPremises → (c p : ℕ) → Fan c p → OneRing (middle c (numberOf (gridCell cells edges counts c) p))
+    pub ring-at-middle : RingPremises → (c p : ℕ) → Fan c p → OneRing (middle c (numberOf (gridCell G c) p))

@@ -12,7 +12,7 @@ use Rattle.counting.specs.Range.{over}
 use Rattle.counting.specs.Lists.{tally}
 use Rattle.face.specs.Face.{joined, unjoined, noCrossing, count, faceJoin}
 use Rattle.cell.specs.Loop.{loopSize, dart, leasts}
-use Rattle.grid.specs.Grid.{cellCount}
+use Rattle.grid.specs.Grid.{Grid, gridOf, cellCount}
 use Rattle.grid.specs.Rows.{gridAnswer}
 use Rattle.triangle.specs.Triangles.{countOf, startOf, numberOf, cellTriangles}
 use Rattle.triangle.specs.Answer.{nthAnswer}
@@ -43,24 +43,24 @@ pub data Example : Type 0 where
 unfoldable pub faceAnswers : ℕ → ℕ → ℕ → List (List ℕ)
 faceAnswers ab ac bc = over (λ e. over (λ t. faceJoin ab ac bc e t ∷ []) (count ab ac bc e) 0) 3 0
 
-module _ (cells edges counts : List ℕ) where
+module _ (G : Grid) where
   -- the least crossings of the loops of cell c
   unfoldable pub startsOf : ℕ → List ℕ
   unfolding gridCell leasts
-  startsOf c = leasts (countOf (gridCell cells edges counts c)) (startOf (gridCell cells edges counts c)) (gridCell cells edges counts c .nodes)
+  startsOf c = leasts (countOf (gridCell G c)) (startOf (gridCell G c)) (gridCell G c .nodes)
 
   unfoldable pub gridLoops : List (List ℕ)
   unfolding startsOf
-  gridLoops = over (λ c. over (λ k. cellLoop (gridCell cells edges counts c) k ∷ []) (suc (length (startsOf c))) 0) (cellCount cells) 0
+  gridLoops = over (λ c. over (λ k. cellLoop (gridCell G c) k ∷ []) (suc (length (startsOf c))) 0) (cellCount (G .cells)) 0
 
   -- the crossing numbers of a loop's points, in order
   unfoldable pub loopPoints : ℕ → ℕ → List ℕ
   unfolding numberOf dart loopSize
-  loopPoints c p = values (λ k. numberOf (gridCell cells edges counts c) (dart (countOf (gridCell cells edges counts c)) p k / 2)) (loopSize (countOf (gridCell cells edges counts c)) p)
+  loopPoints c p = values (λ k. numberOf (gridCell G c) (dart (countOf (gridCell G c)) p k / 2)) (loopSize (countOf (gridCell G c)) p)
 
   unfoldable pub gridPoints : List (List ℕ)
   unfolding startsOf loopPoints
-  gridPoints = over (λ c. over (λ k. loopPoints c (getD (startsOf c) k 0) ∷ []) (length (startsOf c)) 0) (cellCount cells) 0
+  gridPoints = over (λ c. over (λ k. loopPoints c (getD (startsOf c) k 0) ∷ []) (length (startsOf c)) 0) (cellCount (G .cells)) 0
 
 -- the sides of triangles, with a test which of them to take
 unfoldable pub sidesOf : (Side → Bool) → List Triangle → List Side
@@ -87,11 +87,11 @@ tallies l = length l ∷ different (sidesOf isSegment l) ∷ different (sidesOf 
 unfoldable pub computed : Example → List (List ℕ)
 computed (face ab ac bc answers) = faceAnswers ab ac bc
 computed (grid cells edges counts answer loops points words sizes) =
-    gridAnswer cells edges counts ∷ (gridLoops cells edges counts ++ (gridPoints cells edges counts ++ (meshWords cells edges counts ∷ tallies (meshTriangles cells edges counts) ∷ [])))
+    gridAnswer (gridOf cells edges counts) ∷ (gridLoops (gridOf cells edges counts) ++ (gridPoints (gridOf cells edges counts) ++ (meshWords (gridOf cells edges counts) ∷ tallies (meshTriangles (gridOf cells edges counts)) ∷ [])))
 computed (join ab ac bc e t answer) = faceJoin ab ac bc e t ∷ []
-computed (nth cells edges counts c t answer) = nthAnswer (cellTriangles (gridCell cells edges counts c)) t ∷ []
-computed (mesh cells edges counts area answer after) = meshAnswer cells edges counts (length area) ∷ meshArea cells edges counts area ∷ []
-computed (loop cells edges counts c k answer) = loopsAnswer cells edges counts c k ∷ []
+computed (nth cells edges counts c t answer) = nthAnswer (cellTriangles (gridCell (gridOf cells edges counts) c)) t ∷ []
+computed (mesh cells edges counts area answer after) = meshAnswer (gridOf cells edges counts) (length area) ∷ meshArea (gridOf cells edges counts) area ∷ []
+computed (loop cells edges counts c k answer) = loopsAnswer (gridOf cells edges counts) c k ∷ []
 
 unfoldable pub listed : Example → List (List ℕ)
 listed (face ab ac bc answers) = answers

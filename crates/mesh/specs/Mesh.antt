@@ -2,7 +2,7 @@
 use Prim.Native.Nat.{ℕ}
 use mathlib.Core.List.{List, [], _∷_}
 use Rattle.counting.specs.Range.{over}
-use Rattle.grid.specs.Grid.{cellCount, node, faceName, edgeNumber, countOf, start}
+use Rattle.grid.specs.Grid.{Grid, cellCount, node, faceName, edgeNumber, countOf, start}
 use Rattle.cell.specs.declared.Cell.{Cell}
 use Rattle.triangle.specs.declared.Triangle.{Triangle}
 use Rattle.triangle.specs.Triangles.{cellTriangles}
@@ -12,22 +12,22 @@ use Rattle.triangle.specs.Words.{allWords}
 abbrev pub values : (ℕ → ℕ) → ℕ → List ℕ
 values f n = over (λ i. f i ∷ []) n 0
 
-module _ (cells edges counts : List ℕ) where
+module _ (G : Grid) where
   -- cell c with all that belongs to it: the counts and starts of its six edges, the names of its four faces, its nodes
   unfoldable pub gridCell : ℕ → Cell
   unfolding over edgeNumber start faceName
   gridCell c = record {
-    counts = values (λ k. countOf counts (edgeNumber cells edges counts c k)) 6;
-    starts = values (λ k. start counts (edgeNumber cells edges counts c k)) 6;
-    names = values (faceName cells c) 4;
-    nodes = values (node cells c) 4;
+    counts = values (λ k. countOf (G .counts) (edgeNumber G c k)) 6;
+    starts = values (λ k. start (G .counts) (edgeNumber G c k)) 6;
+    names = values (faceName (G .cells) c) 4;
+    nodes = values (node (G .cells) c) 4;
     index = c;
   }
 
   -- all triangles, by cell, then loop, then in the order of the loop
   unfoldable pub meshTriangles : List Triangle
   unfolding gridCell over cellTriangles
-  meshTriangles = over (λ c. cellTriangles (gridCell c)) (cellCount cells) 0
+  meshTriangles = over (λ c. cellTriangles (gridCell c)) (cellCount (G .cells)) 0
 
   -- the words of all triangles
   unfoldable pub meshWords : List ℕ

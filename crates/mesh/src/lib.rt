@@ -1,6 +1,7 @@
 // The mesh call and the loops call.
 ghost use mathlib.Core.Path.{_≡_};
 ghost use lib.ListN.{length};
+ghost use Rattle.grid.specs.Grid.{gridOf};
 ghost use Rattle.mesh.specs.Numbers.{meshNumbers, loopsNumbers};
 ghost use Rattle.mesh.specs.Table.{Laid, tableLoop};
 ghost use Rattle.mesh.specs.Answer.{loopsAnswer};
@@ -8,6 +9,8 @@ ghost use Rattle.mesh.specs.Drawn.{Drawn};
 ghost use Rattle.mesh.specs.Done.{Done};
 use cell::Loop;
 use grid::Checked;
+use grid::MOST_EDGES;
+use grid::MOST_SLOTS;
 
 pub mod cells;
 mod meshing;
@@ -28,9 +31,9 @@ pub enum Looped {
 fn draw(
     cells: &[u16],
     counts: &[u8],
-    names: &[u16; 8192],
-    sides: &[u16; 12288],
-    starts: &[u32; 12288],
+    names: &[u16; MOST_SLOTS],
+    sides: &[u16; MOST_EDGES],
+    starts: &[u32; MOST_EDGES],
     area: &mut [u32],
 ) -> Meshed
     requires { ⌜ Laid (now cells) (now counts) (now sides) (now starts) ⌝ }
@@ -49,23 +52,14 @@ fn draw(
     Meshed::Triangles(n as u32)
 }
 
-// The mesh call. Keeps 104 KB on the stack for the grid's tables, besides what `grid::open` keeps.
+// The mesh call. Keeps 88 KB on the stack for the grid's tables, besides what `grid::open` keeps.
 pub fn mesh(cells: &[u16], edges: &[u16], counts: &[u8], area: &mut [u32]) -> Meshed
-    ensures { λ r. ⌜ Done (now (cells .entry)) (now (edges .entry)) (now (counts .entry)) (now (area .entry)) (now (area .exit)) (meshNumbers r) ⌝ }
+    ensures { λ r. ⌜ Done (gridOf (now (cells .entry)) (now (edges .entry)) (now (counts .entry))) (now (area .entry)) (now (area .exit)) (meshNumbers r) ⌝ }
 {
-    let mut names = [0u16; 8192];
-    let mut near = [0u16; 8192];
-    let mut sides = [0u16; 12288];
-    let mut starts = [0u32; 12288];
-    match grid::open(
-        cells,
-        edges,
-        counts,
-        &mut names,
-        &mut near,
-        &mut sides,
-        &mut starts,
-    ) {
+    let mut names = [0u16; MOST_SLOTS];
+    let mut sides = [0u16; MOST_EDGES];
+    let mut starts = [0u32; MOST_EDGES];
+    match grid::open(cells, edges, counts, &mut names, &mut sides, &mut starts) {
         Checked::Refused(row, place) => Meshed::Refused(row, place),
         Checked::Crossings(_) => draw(cells, counts, &names, &sides, &starts, area),
     }
@@ -75,9 +69,9 @@ pub fn mesh(cells: &[u16], edges: &[u16], counts: &[u8], area: &mut [u32]) -> Me
 fn loop_of(
     cells: &[u16],
     counts: &[u8],
-    names: &[u16; 8192],
-    sides: &[u16; 12288],
-    starts: &[u32; 12288],
+    names: &[u16; MOST_SLOTS],
+    sides: &[u16; MOST_EDGES],
+    starts: &[u32; MOST_EDGES],
     c: usize,
     k: usize,
 ) -> Looped
@@ -91,23 +85,14 @@ fn loop_of(
     Looped::Refused(11, c)
 }
 
-// The loops call: loop k of cell c. Keeps 104 KB on the stack for the grid's tables, besides what `grid::open` keeps.
+// The loops call: loop k of cell c. Keeps 88 KB on the stack for the grid's tables, besides what `grid::open` keeps.
 pub fn loops(cells: &[u16], edges: &[u16], counts: &[u8], c: usize, k: usize) -> Looped
-    ensures { λ r. ⌜ loopsNumbers r ≡ loopsAnswer (now (cells .entry)) (now (edges .entry)) (now (counts .entry)) c k ⌝ }
+    ensures { λ r. ⌜ loopsNumbers r ≡ loopsAnswer (gridOf (now (cells .entry)) (now (edges .entry)) (now (counts .entry))) c k ⌝ }
 {
-    let mut names = [0u16; 8192];
-    let mut near = [0u16; 8192];
-    let mut sides = [0u16; 12288];
-    let mut starts = [0u32; 12288];
-    match grid::open(
-        cells,
-        edges,
-        counts,
-        &mut names,
-        &mut near,
-        &mut sides,
-        &mut starts,
-    ) {
+    let mut names = [0u16; MOST_SLOTS];
+    let mut sides = [0u16; MOST_EDGES];
+    let mut starts = [0u32; MOST_EDGES];
+    match grid::open(cells, edges, counts, &mut names, &mut sides, &mut starts) {
         Checked::Refused(row, place) => Looped::Refused(row, place),
         Checked::Crossings(_) => loop_of(cells, counts, &names, &sides, &starts, c, k),
     }

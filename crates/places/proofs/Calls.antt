@@ -5,11 +5,10 @@ use mathlib.Core.Bool.{true}
 use mathlib.Core.List.{List, [], _∷_, _++_}
 use native.Mathlib.Nat.{zero-add}
 use native.Mathlib.Omega.{arith}
-use lib.Dec.{eqb}
 use lib.ListN.{length, getD}
 use lib.Seq.{sets}
 use lib.Ieee.{Float}
-use Rattle.answer.specs.Answer.{result, refusal}
+use Rattle.answer.specs.Answer.{result, isResult, refused}
 use Rattle.counting.specs.Pick.{pick}
 use Rattle.counting.specs.Range.{over}
 use Rattle.counting.proofs.Range.{over-ext}
@@ -18,10 +17,11 @@ use Rattle.cell.specs.declared.Cell.{Cell}
 use Rattle.grid.specs.declared.Checked.{Checked}
 use Rattle.grid.specs.declared.Checked.the-variants.{Crossings, Refused}
 use Rattle.grid.specs.Check.{checkNumbers}
-use Rattle.grid.specs.Grid.{cellCount, edgeNumber, countOf, start, crossings}
+use Rattle.grid.specs.Grid.{Grid, mostSlots, mostEdges, cellCount, edgeNumber, countOf, start, crossings}
 use Rattle.grid.specs.Rows.{gridAnswer}
 use Rattle.grid.specs.Tables.{accepts, Opened}
 use Rattle.grid.proofs.Accepts.{acceptance-yields}
+use Rattle.grid.proofs.Claims.{accepted-is}
 use Rattle.grid.proofs.Filled.{refused-keeps, crossings-accept}
 use Rattle.mesh.specs.Mesh.{gridCell}
 use Rattle.mesh.specs.Table.{tableCell}
@@ -34,82 +34,81 @@ use Rattle.places.specs.Done.{Done}
 use Rattle.places.specs.Work.{Below, tableMiddles, tablePoints, Ready, PointsIn}
 use Rattle.places.proofs.Nodes.{numbers-small, low-end, high-end}
 use Rattle.places.proofs.Fractions.{start-fits}
-use Rattle.places.proofs.Answers.{accepted-is}
 use Rattle.places.proofs.ExactCase.{exact-case}
 
-module _ {cells edges counts names sides starts : List ℕ} (T : Tabled cells edges counts names sides starts) where
+module _ {G : Grid} {names sides starts : List ℕ} (T : Tabled G names sides starts) where
   -- the crossings of a cell are those of its edges
-  grid-below : (c : ℕ) → c < cellCount cells → Below (gridCell cells edges counts c) (crossings counts)
+  grid-below : (c : ℕ) → c < cellCount (G .cells) → Below (gridCell G c) (crossings (G .counts))
   unfolding gridCell
   grid-below c l k h =
-      let e = edgeNumber cells edges counts c in
+      let e = edgeNumber G c in
       omega (
         arith,
-        getD-singles (λ i. start counts (e i)) 0 6 0 k h ∙ ap (λ i. start counts (e i)) (zero-add k),
-        getD-singles (λ i. countOf counts (e i)) 0 6 0 k h ∙ ap (λ i. countOf counts (e i)) (zero-add k),
-        start-fits counts (e k) (T .accepted .listed c k l h),
+        getD-singles (λ i. start (G .counts) (e i)) 0 6 0 k h ∙ ap (λ i. start (G .counts) (e i)) (zero-add k),
+        getD-singles (λ i. countOf (G .counts) (e i)) 0 6 0 k h ∙ ap (λ i. countOf (G .counts) (e i)) (zero-add k),
+        start-fits (G .counts) (e k) (T .accepted .listed c k l h),
       )
 
-  pub ready : (n : ℕ) → n ≡ crossings counts → Ready cells counts names sides starts edges n
+  pub ready : (n : ℕ) → n ≡ crossings (G .counts) → Ready (G .cells) (G .counts) names sides starts (G .edges) n
   ready n e = record {
-    judged = record { fours = T .accepted .fours; some = T .accepted .some-cell; nodes = numbers-small cells edges counts (T .accepted); all = e };
+    judged = record { fours = T .accepted .fours; some = T .accepted .some-cell; nodes = numbers-small G (T .accepted); all = e };
     few = omega (arith, e, T .accepted .few-crossings);
     laid = laid T;
     pairs = T .accepted .pairs;
-    lows = λ x l. low-end cells edges counts (T .accepted) x l .below;
-    highs = λ x l. high-end cells edges counts (T .accepted) x l .below;
-    below = λ c l. subst (λ (x : Cell). Below x n) (sym (cell-is T c l)) (subst (λ k. Below (gridCell cells edges counts c) k) (sym e) (grid-below c l));
+    lows = λ x l. low-end G (T .accepted) x l .below;
+    highs = λ x l. high-end G (T .accepted) x l .below;
+    below = λ c l. subst (λ (x : Cell). Below x n) (sym (cell-is T c l)) (subst (λ k. Below (gridCell G c) k) (sym e) (grid-below c l));
   }
 
-  pub points-are : (nodes fractions : List Float) → tablePoints cells counts names sides starts edges nodes fractions ≡ points cells edges counts nodes fractions
+  pub points-are : (nodes fractions : List Float) → tablePoints (G .cells) (G .counts) names sides starts (G .edges) nodes fractions ≡ points G nodes fractions
   unfolding tablePoints tableMiddles points middles
   points-are nodes fractions =
-      ap (λ (x : List Place). over (λ g. crossingPlace edges counts nodes fractions g ∷ []) (crossings counts) 0 ++ x)
-      (over-ext (λ c. cellMiddles (crossingPlace edges counts nodes fractions) (tableCell cells counts names sides starts c))
-      (λ c. cellMiddles (crossingPlace edges counts nodes fractions) (gridCell cells edges counts c)) (cellCount cells) 0
-      (λ c a b. ap (cellMiddles (crossingPlace edges counts nodes fractions)) (cell-is T c (omega arith))))
+      ap (λ (x : List Place). over (λ g. crossingPlace (G .edges) (G .counts) nodes fractions g ∷ []) (crossings (G .counts)) 0 ++ x)
+      (over-ext (λ c. cellMiddles (crossingPlace (G .edges) (G .counts) nodes fractions) (tableCell (G .cells) (G .counts) names sides starts c))
+      (λ c. cellMiddles (crossingPlace (G .edges) (G .counts) nodes fractions) (gridCell G c)) (cellCount (G .cells)) 0
+      (λ c a b. ap (cellMiddles (crossingPlace (G .edges) (G .counts) nodes fractions)) (cell-is T c (omega arith))))
 
-module _ (cells edges counts : List ℕ) (nodes fractions : List Float) where
+module _ (G : Grid) (nodes fractions : List Float) where
   -- the two equations give the exact case
-  done : (before after : List Float) (answer : List ℕ) → answer ≡ placesAnswer cells edges counts nodes fractions (length before)
-      → after ≡ placesArea cells edges counts nodes fractions before → Done cells edges counts nodes fractions before after answer
-  done before after answer a b = record { answered = a; area = b; exact = rw (a, b) (exact-case cells edges counts nodes fractions before) }
+  done : (before after : List Float) (answer : List ℕ) → answer ≡ placesAnswer G nodes fractions (length before)
+      → after ≡ placesArea G nodes fractions before → Done G nodes fractions before after answer
+  done before after answer a b = record { answered = a; area = b; exact = rw (a, b) (exact-case G nodes fractions before) }
 
-  pub refused-done : (r : Checked) (row place : ℕ) (area : List Float) → r ≡ Refused row place → checkNumbers r ≡ gridAnswer cells edges counts
-      → Done cells edges counts nodes fractions area area (pick (eqb row 0) [] (refusal row place))
+  pub refused-done : (r : Checked) (row place : ℕ) (area : List Float) → r ≡ Refused row place → checkNumbers r ≡ gridAnswer G
+      → Done G nodes fractions area area (refused row place)
   unfolding placesAnswer placesArea placed
   refused-done r row place area e q =
-      let n : checkNumbers (Refused row place) ≡ gridAnswer cells edges counts = ap checkNumbers (sym e) ∙ q in
-      let k = refused-keeps cells edges counts row place n in
-      done area area (pick (eqb row 0) [] (refusal row place)) (rw k n) (rw (k, k))
+      let n : checkNumbers (Refused row place) ≡ gridAnswer G = ap checkNumbers (sym e) ∙ q in
+      let k = refused-keeps G row place n in
+      done area area (refused row place) (rw k n) (rw (k, k))
 
-  module _ (r : Checked) (n : ℕ) (e : r ≡ Crossings n) (q : checkNumbers r ≡ gridAnswer cells edges counts) where
-    is-result : gridAnswer cells edges counts ≡ result (n ∷ [])
+  module _ (r : Checked) (n : ℕ) (e : r ≡ Crossings n) (q : checkNumbers r ≡ gridAnswer G) where
+    is-result : gridAnswer G ≡ result (n ∷ [])
     is-result = sym q ∙ ap checkNumbers e
 
-    accepted : accepts cells edges counts ≡ true
-    accepted = crossings-accept cells edges counts n (sym is-result)
+    accepted : accepts G ≡ true
+    accepted = crossings-accept G n (sym is-result)
 
-    number-is : n ≡ crossings counts
-    number-is = ap (λ (l : List ℕ). getD l 1 0) (sym is-result ∙ accepted-is cells edges counts accepted)
+    number-is : n ≡ crossings (G .counts)
+    number-is = ap (λ (l : List ℕ). getD l 1 0) (sym is-result ∙ accepted-is G accepted)
 
-    module _ (names₀ near₀ sides₀ starts₀ names near sides starts : List ℕ) (ln : length names₀ ≡ 8192) (ls : length sides₀ ≡ 12288) (lt : length starts₀ ≡ 12288)
-        (o : Opened cells edges counts names₀ near₀ sides₀ starts₀ names near sides starts) where
-      tables : Tabled cells edges counts names sides starts
+    module _ (names₀ sides₀ starts₀ names sides starts : List ℕ) (ln : length names₀ ≡ mostSlots) (ls : length sides₀ ≡ mostEdges) (lt : length starts₀ ≡ mostEdges)
+        (o : Opened G names₀ sides₀ starts₀ names sides starts) where
+      tables : Tabled G names sides starts
       tables =
-          tabled cells edges counts names₀ near₀ sides₀ starts₀ names near sides starts (acceptance-yields cells edges counts (n ∷ []) is-result) accepted ln ls lt o
+          tabled G names₀ sides₀ starts₀ names sides starts (acceptance-yields G (n ∷ []) is-result) accepted ln ls lt o
 
-      pub opened-ready : Ready cells counts names sides starts edges n
+      pub opened-ready : Ready (G .cells) (G .counts) names sides starts (G .edges) n
       opened-ready = ready tables n number-is
 
-      pub placed-done : (before after : List Float) (answer : List ℕ) → PointsIn cells counts names sides starts edges nodes fractions before after answer
-          → Done cells edges counts nodes fractions before after answer
+      pub placed-done : (before after : List Float) (answer : List ℕ) → PointsIn (G .cells) (G .counts) names sides starts (G .edges) nodes fractions before after answer
+          → Done G nodes fractions before after answer
       unfolding placesAnswer placesArea placed
       placed-done before after answer d =
           let p = points-are tables nodes fractions in
-          let a : answer ≡ placesAnswer cells edges counts nodes fractions (length before) =
-          rw accepted (d .answered ∙ ap (λ (x : List Place). rowsAnswer cells counts nodes fractions (length x) (length before)) p) in
+          let a : answer ≡ placesAnswer G nodes fractions (length before) =
+          rw accepted (d .answered ∙ ap (λ (x : List Place). rowsAnswer (G .cells) (G .counts) nodes fractions (length x) (length before)) p) in
           done before after answer a
           (d .area
-          ∙ ap (λ (x : List Place). pick (eqb (getD answer 0 0) 0) (sets before 0 (allNumbers x)) before) p
-          ∙ ap (λ (x : List ℕ). pick (eqb (getD x 0 0) 0) (sets before 0 (allNumbers (points cells edges counts nodes fractions))) before) a)
+          ∙ ap (λ (x : List Place). pick (isResult answer) (sets before 0 (allNumbers x)) before) p
+          ∙ ap (λ (x : List ℕ). pick (isResult x) (sets before 0 (allNumbers (points G nodes fractions))) before) a)

@@ -14,7 +14,7 @@ use Rattle.counting.proofs.Bools.{or-none}
 use Rattle.counting.proofs.Lists.{length-singles, getD-singles}
 use Rattle.counting.proofs.Pack.{row-lt}
 use native.Mathlib.Nat.{zero-add}
-use Rattle.grid.specs.Grid.{low, high, start, countOf, crossings}
+use Rattle.grid.specs.Grid.{Grid, low, high, start, countOf, crossings}
 use Rattle.places.specs.declared.Place.{Place}
 use Rattle.places.specs.Place.{along, coordinates, placeAt, numbers, within, properFraction}
 use Rattle.places.specs.Points.{edgeOf, crossingPlace, middles, points}
@@ -26,70 +26,70 @@ use Rattle.places.proofs.Exact.{along-exact, within-whole, proper-part}
 use Rattle.places.proofs.Nodes.{End, low-end, high-end}
 use Rattle.places.proofs.Answers.{Passed, passed, placed-is}
 
-module _ (cells edges counts : List ℕ) (nodes fractions : List Float) where
+module _ (G : Grid) (nodes fractions : List Float) where
   abbrev at : ℕ → Place
-  at g = crossingPlace edges counts nodes fractions g
+  at g = crossingPlace (G .edges) (G .counts) nodes fractions g
 
   -- point g of the list is crossing g, where there is one
-  module _ (g : ℕ) (h : g < crossings counts) where
-    front-long : length (over (λ x. at x ∷ []) (crossings counts) 0) ≡ crossings counts
-    front-long = length-singles at (crossings counts) 0
+  module _ (g : ℕ) (h : g < crossings (G .counts)) where
+    front-long : length (over (λ x. at x ∷ []) (crossings (G .counts)) 0) ≡ crossings (G .counts)
+    front-long = length-singles at (crossings (G .counts)) 0
 
-    pub point-at : (p : Place) → getD (points cells edges counts nodes fractions) g p ≡ at g
+    pub point-at : (p : Place) → getD (points G nodes fractions) g p ≡ at g
     unfolding points
     point-at p =
-        List·getD-append (over (λ x. at x ∷ []) (crossings counts) 0) (middles cells edges counts nodes fractions) p g (omega (arith, front-long))
-        ∙ getD-singles at p (crossings counts) 0 g h
+        List·getD-append (over (λ x. at x ∷ []) (crossings (G .counts)) 0) (middles G nodes fractions) p g (omega (arith, front-long))
+        ∙ getD-singles at p (crossings (G .counts)) 0 g h
         ∙ ap at (zero-add g)
 
-    pub point-lt : g < needed cells edges counts nodes fractions
+    pub point-lt : g < needed G nodes fractions
     unfolding points
-    point-lt = omega (arith, front-long, length-append (over (λ x. at x ∷ []) (crossings counts) 0) (middles cells edges counts nodes fractions))
+    point-lt = omega (arith, front-long, length-append (over (λ x. at x ∷ []) (crossings (G .counts)) 0) (middles G nodes fractions))
 
-    edge-lt : edgeOf counts g < length counts
+    edge-lt : edgeOf (G .counts) g < length (G .counts)
     unfolding edgeOf start
-    edge-lt = row-lt (countOf counts) (length counts) g h
+    edge-lt = row-lt (countOf (G .counts)) (length (G .counts)) g h
 
-  module _ (area : List Float) (values : List ℕ) (e : placesAnswer cells edges counts nodes fractions (length area) ≡ result values) where
-    ok : Passed cells edges counts nodes fractions (length area)
-    ok = passed cells edges counts nodes fractions (length area) values e
+  module _ (area : List Float) (values : List ℕ) (e : placesAnswer G nodes fractions (length area) ≡ result values) where
+    ok : Passed G nodes fractions (length area)
+    ok = passed G nodes fractions (length area) values e
 
     -- number t of the place that is written for crossing g
-    pub written : (g t : ℕ) → g < crossings counts → t < coordinates
-        → getD (placesArea cells edges counts nodes fractions area) (coordinates * g + t) nan
-        ≡ along (getD nodes (coordinates * low edges (edgeOf counts g) + t) nan) (getD nodes (coordinates * high edges (edgeOf counts g) + t) nan) (getD fractions g nan)
+    pub written : (g t : ℕ) → g < crossings (G .counts) → t < coordinates
+        → getD (placesArea G nodes fractions area) (coordinates * g + t) nan
+        ≡ along (getD nodes (coordinates * low (G .edges) (edgeOf (G .counts) g) + t) nan) (getD nodes (coordinates * high (G .edges) (edgeOf (G .counts) g) + t) nan) (getD fractions g nan)
     unfolding placesArea crossingPlace
     written g t h k =
-        let ps = points cells edges counts nodes fractions in
-        let u = placeAt nodes (low edges (edgeOf counts g)) in
-        let v = placeAt nodes (high edges (edgeOf counts g)) in
+        let ps = points G nodes fractions in
+        let u = placeAt nodes (low (G .edges) (edgeOf (G .counts) g)) in
+        let v = placeAt nodes (high (G .edges) (edgeOf (G .counts) g)) in
         let s = getD fractions g nan in
         let l = point-lt g h in
-        rw (placed-is cells edges counts nodes fractions (length area) values e)
+        rw (placed-is G nodes fractions (length area) values e)
         (front-at ps area g t u (ok .rows .area-long) l k
         ∙ ap (λ (p : Place). getD (numbers p) t nan) (point-at g h u)
         ∙ number-between u v s t k
-        ∙ ap (λ x. along x (getD (numbers v) t nan) s) (number-loaded nodes (low edges (edgeOf counts g)) t k)
-        ∙ ap (λ x. along (getD nodes (coordinates * low edges (edgeOf counts g) + t) nan) x s) (number-loaded nodes (high edges (edgeOf counts g)) t k))
+        ∙ ap (λ x. along x (getD (numbers v) t nan) s) (number-loaded nodes (low (G .edges) (edgeOf (G .counts) g)) t k)
+        ∙ ap (λ x. along (getD nodes (coordinates * low (G .edges) (edgeOf (G .counts) g) + t) nan) x s) (number-loaded nodes (high (G .edges) (edgeOf (G .counts) g)) t k))
 
     -- rows 16 and 17 at the numbers it is made of
-    within-at : (v t : ℕ) → End cells edges counts (ok .grid) v → t < coordinates → within (getD nodes (coordinates * v + t) nan) ≡ true
+    within-at : (v t : ℕ) → End G (ok .grid) v → t < coordinates → within (getD nodes (coordinates * v + t) nan) ≡ true
     unfolding badNumber
     within-at v t m k =
         let z : (coordinates * v + t) / coordinates ≡ v = omega arith in
-        let p : hasNode cells ((coordinates * v + t) / coordinates) ≡ true = ap (hasNode cells) z ∙ m .has in
+        let p : hasNode (G .cells) ((coordinates * v + t) / coordinates) ≡ true = ap (hasNode (G .cells)) z ∙ m .has in
         not-false _ (rw p at (ok .rows .numbers-fine (coordinates * v + t) (omega (arith, m .below))))
 
-    proper-at : (g : ℕ) → g < crossings counts → properFraction (getD fractions g nan) ≡ true
+    proper-at : (g : ℕ) → g < crossings (G .counts) → properFraction (getD fractions g nan) ≡ true
     unfolding badFraction badFractionAt
     proper-at g h = not-false _ (or-none _ _ (ok .rows .fractions-fine g h) .0)
 
-  pub exact-case : (area : List Float) → ExactCase edges counts nodes fractions (placesAnswer cells edges counts nodes fractions (length area)) (placesArea cells edges counts nodes fractions area)
+  pub exact-case : (area : List Float) → ExactCase (G .edges) (G .counts) nodes fractions (placesAnswer G nodes fractions (length area)) (placesArea G nodes fractions area)
   exact-case area values e g t h k u v n w =
       let a = ok area values e in
       let c = edge-lt g h in
-      let lw = within-at area values e (low edges (edgeOf counts g)) t (low-end cells edges counts (a .grid) (edgeOf counts g) c) k in
-      let hw = within-at area values e (high edges (edgeOf counts g)) t (high-end cells edges counts (a .grid) (edgeOf counts g) c) k in
+      let lw = within-at area values e (low (G .edges) (edgeOf (G .counts) g)) t (low-end G (a .grid) (edgeOf (G .counts) g) c) k in
+      let hw = within-at area values e (high (G .edges) (edgeOf (G .counts) g)) t (high-end G (a .grid) (edgeOf (G .counts) g) c) k in
       subst (λ x. Exactly parts x (pos parts *ℤ u +ℤ n *ℤ (v -ℤ u))) (sym (written area values e g t h k))
       (along-exact _ _ _ u v n (w .lower) (w .upper) (w .part) (within-whole _ u (w .lower) lw) (within-whole _ v (w .upper) hw)
       (proper-part _ n (w .part) (proper-at area values e g h)))

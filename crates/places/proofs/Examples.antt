@@ -14,7 +14,8 @@ use Rattle.walk.specs.Walk as walk
 use Rattle.cell.specs.Cell as cell
 use Rattle.cell.specs.Loop as loop
 use Rattle.grid.specs.Grid.{faceNode, sameFace, hasFace, faceName, joins, isEdge, hasEdge, edgeNumber, start}
-use Rattle.grid.specs.Rows.{badLength, badPairs, badCell, sameCell, repeats, third, after, badEdge, unlisted, unused, linked, joined, split, tooMany, rows, orRefuse, answerOf, answerFrom, gridAnswer}
+use Rattle.answer.specs.Rows.{orRefuse, answerOf}
+use Rattle.grid.specs.Rows.{badLength, badPairs, badCell, sameCell, repeats, third, after, badEdge, unlisted, unused, linked, joined, split, tooMany, rows, gridAnswer}
 use Rattle.triangle.specs.Triangles.{numberOf, inTwo}
 use Rattle.mesh.specs.Mesh.{gridCell}
 use Rattle.places.specs.Place.{sumTo, middle, allNumbers, within, properFraction}
@@ -32,7 +33,7 @@ unfolding add sub mul div neg lt le eq ofInt ofBits
     cell.joinAt cell.joinedTo cell.mate cell.slot cell.step
     loop.loopSize loop.dart loop.loopDarts loop.folded loop.normal loop.inGrid
     faceNode sameFace hasFace faceName joins isEdge hasEdge edgeNumber start
-    badLength badPairs badCell sameCell repeats third after badEdge unlisted unused linked joined split tooMany rows orRefuse answerOf answerFrom gridAnswer
+    badLength badPairs badCell sameCell repeats third after badEdge unlisted unused linked joined split tooMany rows orRefuse answerOf gridAnswer
     numberOf inTwo gridCell
     sumTo middle allNumbers within properFraction points.edgeOf points.indexOf points.fanBy points.isFan points.pointOf points.crossingPlace points.loopMiddle points.cellMiddles points.middles points.points
     hasNode highest badLists badNumber badFractionAt badFraction placeRows rowsAnswer placesAnswer placed placesArea examples asked listed

@@ -21,8 +21,9 @@ use Rattle.walk.specs.Step as step
 use Rattle.walk.specs.Walk as walk
 use Rattle.cell.specs.Cell as cell
 use Rattle.cell.specs.Loop as loop
-use Rattle.grid.specs.Grid.{crossings, faceNode, sameFace, hasFace, faceName, joins, isEdge, hasEdge, edgeNumber, start}
-use Rattle.grid.specs.Rows.{badLength, badPairs, badCell, sameCell, repeats, third, after, badEdge, unlisted, unused, linked, joined, split, tooMany, rows, orRefuse, answerOf, answerFrom, gridAnswer}
+use Rattle.grid.specs.Grid.{gridOf, crossings, faceNode, sameFace, hasFace, faceName, joins, isEdge, hasEdge, edgeNumber, start}
+use Rattle.answer.specs.Rows.{orRefuse, answerOf}
+use Rattle.grid.specs.Rows.{badLength, badPairs, badCell, sameCell, repeats, third, after, badEdge, unlisted, unused, linked, joined, split, tooMany, rows, gridAnswer}
 use Rattle.triangle.specs.Triangles.{numberOf, inTwo}
 use Rattle.mesh.specs.Mesh.{gridCell}
 use Rattle.places.specs.Place.{sumTo, middle, allNumbers, within, properFraction}
@@ -53,7 +54,7 @@ theFractions = fin false 1 (negsuc 0) ∷ []
 theArea : List Float
 theArea = nan ∷ nan ∷ nan ∷ []
 
-answered : placesAnswer theCells theEdges theCounts theNodes theFractions (length theArea) ≡ result (1 ∷ [])
+answered : placesAnswer (gridOf theCells theEdges theCounts) theNodes theFractions (length theArea) ≡ result (1 ∷ [])
 unfolding add sub mul div neg lt le eq ofInt ofBits
     seek first last some every count total over tally pre rowFrom colFrom row col reach
     lo hi corner from to edgeOf slotEdge place contains firstSlot secondSlot
@@ -62,7 +63,7 @@ unfolding add sub mul div neg lt le eq ofInt ofBits
     cell.joinAt cell.joinedTo cell.mate cell.slot cell.step
     loop.loopSize loop.dart loop.loopDarts loop.folded loop.normal loop.inGrid
     faceNode sameFace hasFace faceName joins isEdge hasEdge edgeNumber start
-    badLength badPairs badCell sameCell repeats third after badEdge unlisted unused linked joined split tooMany rows orRefuse answerOf answerFrom gridAnswer
+    badLength badPairs badCell sameCell repeats third after badEdge unlisted unused linked joined split tooMany rows orRefuse answerOf gridAnswer
     numberOf inTwo gridCell
     sumTo middle allNumbers within properFraction points.edgeOf points.indexOf points.fanBy points.isFan points.pointOf points.crossingPlace points.loopMiddle points.cellMiddles points.middles points.points
     hasNode highest badLists badNumber badFractionAt badFraction placeRows rowsAnswer placesAnswer placed placesArea
@@ -108,9 +109,7 @@ module _ where
 
 pub happens : Happens
 happens = record {
-  cells = theCells;
-  edges = theEdges;
-  counts = theCounts;
+  grid = gridOf theCells theEdges theCounts;
   nodes = theNodes;
   fractions = theFractions;
   area = theArea;

@@ -8,26 +8,15 @@ use lib.ListN.{length}
 use lib.Ieee.{Float}
 use borrow.Author.Tests.{lt-ltb, le-ltb, eq-eqb, ne-eqb}
 use Rattle.answer.specs.Answer.{result, refusal}
+use Rattle.answer.proofs.Rows.{row-passes, row-refuses, rows-end, whole-fault, whole-fine}
 use Rattle.counting.specs.Search.{first, last}
 use Rattle.grid.specs.Grid.{highestNode, crossings}
-use Rattle.grid.specs.Rows.{Row, orRefuse, answerOf}
-use Rattle.grid.proofs.Answers.{whole-fault, whole-fine}
 use Rattle.places.specs.Place.{coordinates}
 use Rattle.places.specs.Rows.{highest, nodeEnd, badLists, badNumber, badFraction}
 use Rattle.places.specs.Answer.{placeRows, rowsAnswer}
 use Rattle.places.specs.Work.{Marked, isMarked, badMarked, Reaching, Judgeable}
 use Rattle.places.proofs.Nodes.{highest-small}
 use Rattle.places.proofs.Marks.{end-is, row-16-is}
-
--- a row refuses at its lowest fault, and passes on without one
-module _ (n : ℕ) (row : Row) (rest : List ℕ) (p : ℕ) (e : p ≡ first (row .fault) (row .places)) where
-  refuses : p < row .places → refusal n p ≡ orRefuse n row rest
-  unfolding orRefuse
-  refuses h = rw (← e, lt-ltb p (row .places) h)
-
-  passes : row .places ≤ p → rest ≡ orRefuse n row rest
-  unfolding orRefuse
-  passes h = rw (← e, le-ltb p (row .places) h)
 
 module _ (cells counts : List ℕ) (nodes fractions : List Float) (needed room : ℕ) where
   abbrev answer : List ℕ
@@ -57,22 +46,22 @@ module _ (cells counts : List ℕ) (nodes fractions : List Float) (needed room :
         lists-good h = rw (le-ltb (length nodes) (coordinates * nodeEnd cells) (omega (arith, e)), eq-eqb (length fractions) (crossings counts) (b ∙ c), le-ltb room (coordinates * needed) h)
 
   row-15 : Bad true → refusal 15 0 ≡ answer
-  unfolding rowsAnswer placeRows answerOf
-  row-15 h = refuses 15 _ _ 0 (whole-fault _ h) (omega arith)
+  unfolding rowsAnswer placeRows
+  row-15 h = row-refuses _ _ _ 0 (whole-fault _ h) (omega arith)
 
   module _ (g : Bad false) (i : ℕ) (e : i ≡ first (badNumber cells nodes) (coordinates * nodeEnd cells)) where
     row-16 : i < coordinates * nodeEnd cells → refusal 16 i ≡ answer
-    unfolding rowsAnswer placeRows answerOf
-    row-16 h = refuses 16 _ _ i e h ∙ passes 15 _ _ 1 (whole-fine _ g) (omega arith)
+    unfolding rowsAnswer placeRows
+    row-16 h = row-refuses _ _ _ i e h ∙ row-passes _ _ _ 1 (whole-fine _ g) (omega arith)
 
     module _ (a : coordinates * nodeEnd cells ≤ i) (x : ℕ) (f : x ≡ first (badFraction counts fractions) (crossings counts)) where
       row-17 : x < crossings counts → refusal 17 x ≡ answer
-      unfolding rowsAnswer placeRows answerOf
-      row-17 h = refuses 17 _ _ x f h ∙ passes 16 _ _ i e a ∙ passes 15 _ _ 1 (whole-fine _ g) (omega arith)
+      unfolding rowsAnswer placeRows
+      row-17 h = row-refuses _ _ _ x f h ∙ row-passes _ _ _ i e a ∙ row-passes _ _ _ 1 (whole-fine _ g) (omega arith)
 
       no-row : crossings counts ≤ x → result (needed ∷ []) ≡ answer
-      unfolding rowsAnswer placeRows answerOf
-      no-row h = passes 17 _ _ x f h ∙ passes 16 _ _ i e a ∙ passes 15 _ _ 1 (whole-fine _ g) (omega arith)
+      unfolding rowsAnswer placeRows
+      no-row h = rows-end _ ∙ row-passes _ _ _ x f h ∙ row-passes _ _ _ i e a ∙ row-passes _ _ _ 1 (whole-fine _ g) (omega arith)
 
 -- the highest node, by the table
 module _ (cells counts : List ℕ) (n : ℕ) (J : Judgeable cells counts n) (used : List ℕ) (M : Marked cells used) (end : ℕ) (e : end ≡ last (isMarked used) (length used)) where

@@ -13,7 +13,7 @@ use Rattle.counting.specs.Search.{some}
 use Rattle.counting.proofs.Search.{some-found, some-is, some-blocks}
 use Rattle.slots.specs.Slots.{lo, hi}
 use Rattle.slots.proofs.Slots.{two-slots}
-use Rattle.grid.specs.Grid.{highestNode, cellCount, node, low, high}
+use Rattle.grid.specs.Grid.{Grid, highestNode, cellCount, node, low, high}
 use Rattle.grid.specs.Accepted.{Accepted}
 use Rattle.places.specs.Rows.{hasNode, highest, nodeEnd}
 
@@ -67,32 +67,32 @@ unfolding highest
 highest-small [] n h = omega arith
 highest-small (v ∷ l) n h = let s = highest-stands v l in omega (arith, s .is, h (s .at) (s .lt))
 
-module _ (cells edges counts : List ℕ) (a : Accepted cells edges counts) where
+module _ (G : Grid) (a : Accepted G) where
   -- each number of the cell list is within the limit
-  pub numbers-small : (j : ℕ) → j < length cells → getD cells j 0 ≤ highestNode
+  pub numbers-small : (j : ℕ) → j < length (G .cells) → getD (G .cells) j 0 ≤ highestNode
   numbers-small j h =
       let e : 4 * (j / 4) + j % 4 ≡ j = omega arith in
-      subst (λ k. getD cells k 0 ≤ highestNode) e (a .within (j / 4) (j % 4) (omega (arith, a .fours)) (omega arith))
+      subst (λ k. getD (G .cells) k 0 ≤ highestNode) e (a .within (j / 4) (j % 4) (omega (arith, a .fours)) (omega arith))
 
   -- the ends of a listed edge are nodes of some cell
   pub record End (v : ℕ) : Type 0 where
-    pub has : hasNode cells v ≡ true
-    pub below : v < nodeEnd cells
+    pub has : hasNode (G .cells) v ≡ true
+    pub below : v < nodeEnd (G .cells)
 
-  end-of : (c i v : ℕ) → c < cellCount cells → i < 4 → v ≡ node cells c i → End v
+  end-of : (c i v : ℕ) → c < cellCount (G .cells) → i < 4 → v ≡ node (G .cells) c i → End v
   end-of c i v h l e =
-      let m = node-of cells c i v h l (sym e) in
-      record { has = m; below = omega (arith, has-highest cells v m) }
+      let m = node-of (G .cells) c i v h l (sym e) in
+      record { has = m; below = omega (arith, has-highest (G .cells) v m) }
 
-  module _ (e : ℕ) (h : e < length counts) where
-    pub low-end : End (low edges e)
+  module _ (e : ℕ) (h : e < length (G .counts)) where
+    pub low-end : End (low (G .edges) e)
     low-end =
         let u = a .used e h in
-        end-of (u .0) (lo (u .1)) (low edges e) (u .2) (omega (arith, two-slots (u .1) (u .3) .rising, two-slots (u .1) (u .3) .within))
-        (ap (low edges) (sym (u .4)) ∙ a .low-is (u .0) (u .1) (u .2) (u .3))
+        end-of (u .0) (lo (u .1)) (low (G .edges) e) (u .2) (omega (arith, two-slots (u .1) (u .3) .rising, two-slots (u .1) (u .3) .within))
+        (ap (low (G .edges)) (sym (u .4)) ∙ a .low-is (u .0) (u .1) (u .2) (u .3))
 
-    pub high-end : End (high edges e)
+    pub high-end : End (high (G .edges) e)
     high-end =
         let u = a .used e h in
-        end-of (u .0) (hi (u .1)) (high edges e) (u .2) (two-slots (u .1) (u .3) .within)
-        (ap (high edges) (sym (u .4)) ∙ a .high-is (u .0) (u .1) (u .2) (u .3))
+        end-of (u .0) (hi (u .1)) (high (G .edges) e) (u .2) (two-slots (u .1) (u .3) .within)
+        (ap (high (G .edges)) (sym (u .4)) ∙ a .high-is (u .0) (u .1) (u .2) (u .3))

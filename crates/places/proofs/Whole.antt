@@ -1,16 +1,13 @@
 -- All points of a grid from its tables: judged, and written.
 use Prim.Native.Nat.{ℕ, _+_, _*_, _≤_, _<_}
-use mathlib.Core.Path.{_≡_, refl, sym, ap, _∙_}
-use mathlib.Core.Bool.{Bool, true, false}
+use mathlib.Core.Path.{_≡_, sym, ap, _∙_}
 use mathlib.Core.List.{List, [], _∷_}
 use native.Mathlib.Nat.{zero-add}
 use native.Mathlib.Omega.{arith}
-use lib.Dec.{eqb}
-use lib.ListN.{length, getD, length-append}
+use lib.ListN.{length, length-append}
 use lib.Seq.{sets, length-sets}
 use lib.Ieee.{Float}
-use Rattle.answer.specs.Answer.{refusal}
-use Rattle.counting.specs.Pick.{pick}
+use Rattle.answer.proofs.Answer.{refused-not}
 use Rattle.counting.specs.Range.{over}
 use Rattle.counting.proofs.Lists.{length-singles, getD-singles}
 use Rattle.grid.specs.Grid.{crossings}
@@ -56,14 +53,10 @@ module _ (cells edges counts names sides starts : List ℕ) (nodes fractions : L
     answered = h ∙ ap (λ k. rowsAnswer cells counts nodes fractions k (length before)) many
 
     pub refused-in : (row p : ℕ) → r ≡ Refused row p → PointsIn cells counts names sides starts edges nodes fractions before before (placesNumbers r)
-    refused-in row p e = record { answered = answered; area = go (eqb row 0) refl }
-      where
-        reads : placesNumbers r ≡ pick (eqb row 0) [] (refusal row p)
-        reads = ap placesNumbers e
-
-        go : (b : Bool) → eqb row 0 ≡ b → before ≡ pick (eqb (getD (placesNumbers r) 0 0) 0) (sets before 0 (allNumbers all)) before
-        go true q = absurd (rows-some cells counts nodes fractions (length all) (length before) (sym answered ∙ reads ∙ ap (λ b. pick b [] (refusal row p)) q))
-        go false q = rw (reads, q, q)
+    refused-in row p e = record {
+      answered = answered;
+      area = rw (refused-not (placesNumbers r) (λ q. rows-some cells counts nodes fractions (length all) (length before) (q ∙ answered)) row p (ap placesNumbers (sym e)));
+    }
 
     module _ (k : ℕ) (e : r ≡ Points k) where
       fine : Fine cells counts nodes fractions (length all) (length before)

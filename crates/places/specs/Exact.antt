@@ -8,7 +8,7 @@ use lib.IntN.{ℤ, pos, negℤ, _+ℤ_, _-ℤ_, _*ℤ_}
 use lib.Ieee.{Float, nan}
 use lib.Ieee.Exact.{HasValue}
 use Rattle.answer.specs.Answer.{result}
-use Rattle.grid.specs.Grid.{low, high, crossings}
+use Rattle.grid.specs.Grid.{Grid, low, high, crossings}
 use Rattle.places.specs.Place.{coordinates}
 use Rattle.places.specs.Points.{edgeOf}
 use Rattle.places.specs.Answer.{placesAnswer}
@@ -47,12 +47,10 @@ module _ (edges counts : List ℕ) (nodes fractions : List Float) where
 
 -- the case is not empty: an input that is not refused, with a crossing, and whole numbers for each crossing and number
 pub record Happens : Type 0 where
-  pub cells : List ℕ
-  pub edges : List ℕ
-  pub counts : List ℕ
+  pub grid : Grid
   pub nodes : List Float
   pub fractions : List Float
   pub area : List Float
-  pub placed : (values : List ℕ) × (placesAnswer cells edges counts nodes fractions (length area) ≡ result values)
-  pub some : 0 < crossings counts
-  pub whole : (g t : ℕ) → g < crossings counts → t < coordinates → (u : ℤ) × (v : ℤ) × (k : ℤ) × WholeAt edges counts nodes fractions g t u v k
+  pub placed : (values : List ℕ) × (placesAnswer grid nodes fractions (length area) ≡ result values)
+  pub some : 0 < crossings (grid .counts)
+  pub whole : (g t : ℕ) → g < crossings (grid .counts) → t < coordinates → (u : ℤ) × (v : ℤ) × (k : ℤ) × WholeAt (grid .edges) (grid .counts) nodes fractions g t u v k

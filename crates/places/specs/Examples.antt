@@ -6,6 +6,7 @@ use mathlib.Core.List.{List, [], _∷_, _++_}
 use lib.ListN.{length, replicate}
 use lib.Ieee.{Float, nan, inf, binary64, div, neg, ofBits}
 use Rattle.answer.specs.Answer.{result, refusal}
+use Rattle.grid.specs.Grid.{gridOf}
 use Rattle.places.specs.Place.{floatOf}
 use Rattle.places.specs.Answer.{placesAnswer, placesArea}
 
@@ -250,8 +251,8 @@ unfoldable pub asked : List Example → List Outcome
 asked [] = []
 asked (x ∷ l) =
     record {
-      answer = placesAnswer (x .cells) (x .edges) (x .counts) (x .nodes) (x .fractions) (length (lent (x .room)));
-      area = placesArea (x .cells) (x .edges) (x .counts) (x .nodes) (x .fractions) (lent (x .room));
+      answer = placesAnswer (gridOf (x .cells) (x .edges) (x .counts)) (x .nodes) (x .fractions) (length (lent (x .room)));
+      area = placesArea (gridOf (x .cells) (x .edges) (x .counts)) (x .nodes) (x .fractions) (lent (x .room));
     } ∷ asked l
 
 unfoldable pub listed : List Example → List Outcome

@@ -14,7 +14,7 @@ use Rattle.cell.specs.Cell as cell
 use Rattle.cell.specs.Loop.{loopSize, dart}
 use Rattle.triangle.specs.Triangles as triangle
 use Rattle.triangle.specs.Triangles.{numberOf, inTwo}
-use Rattle.grid.specs.Grid.{cellCount, low, high, countOf, crossings}
+use Rattle.grid.specs.Grid.{Grid, cellCount, low, high, countOf, crossings}
 use Rattle.mesh.specs.Mesh.{gridCell}
 use Rattle.places.specs.declared.Place.{Place}
 use Rattle.places.specs.Place.{between, middle, placeAt}
@@ -58,9 +58,9 @@ module _ (edges counts : List ℕ) (nodes fractions : List Float) where
   unfoldable pub crossingPlace : ℕ → Place
   crossingPlace g = between (placeAt nodes (low edges (edgeOf counts g))) (placeAt nodes (high edges (edgeOf counts g))) (getD fractions g nan)
 
-module _ (cells edges counts : List ℕ) (nodes fractions : List Float) where
+module _ (G : Grid) (nodes fractions : List Float) where
   unfoldable pub middles : List Place
-  middles = over (λ c. cellMiddles (crossingPlace edges counts nodes fractions) (gridCell cells edges counts c)) (cellCount cells) 0
+  middles = over (λ c. cellMiddles (crossingPlace (G .edges) (G .counts) nodes fractions) (gridCell G c)) (cellCount (G .cells)) 0
 
   unfoldable pub points : List Place
-  points = over (λ g. crossingPlace edges counts nodes fractions g ∷ []) (crossings counts) 0 ++ middles
+  points = over (λ g. crossingPlace (G .edges) (G .counts) nodes fractions g ∷ []) (crossings (G .counts)) 0 ++ middles

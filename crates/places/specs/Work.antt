@@ -7,6 +7,7 @@ use lib.Dec.{eqb}
 use lib.ListN.{length, getD, replicate}
 use lib.Seq.{sets}
 use lib.Ieee.{Float, nan}
+use Rattle.answer.specs.Answer.{isResult}
 use Rattle.counting.specs.Pick.{pick, one}
 use Rattle.counting.specs.Range.{total, over}
 use Rattle.cell.specs.declared.Cell.{Cell}
@@ -145,4 +146,4 @@ module _ (cells counts names sides starts : List ℕ) where
   -- the rows' answer for the points, which stand in the area where no row refuses
   pub record PointsIn (edges : List ℕ) (nodes fractions before after : List Float) (answer : List ℕ) : Type 0 where
     pub answered : answer ≡ rowsAnswer cells counts nodes fractions (length (tablePoints edges nodes fractions)) (length before)
-    pub area : after ≡ pick (eqb (getD answer 0 0) 0) (sets before 0 (allNumbers (tablePoints edges nodes fractions))) before
+    pub area : after ≡ pick (isResult answer) (sets before 0 (allNumbers (tablePoints edges nodes fractions))) before

@@ -3,11 +3,14 @@ ghost use mathlib.Core.Path.{_≡_};
 ghost use Prim.Native.Nat.{_+_, _*_, _≤_};
 ghost use lib.ListN.{length};
 ghost use lib.Seq.{sets};
+ghost use Rattle.grid.specs.Grid.{gridOf};
 ghost use Rattle.places.specs.Place.{between, added, divided, coordinates, placeAt, numbers, within, properFraction};
 ghost use Rattle.places.specs.Answer.{placesNumbers};
 ghost use Rattle.places.specs.Done.{Done};
 ghost use Rattle.places.specs.Work.{Ready, PointsIn};
 use grid::Checked;
+use grid::MOST_EDGES;
+use grid::MOST_SLOTS;
 
 mod fans;
 mod points;
@@ -103,9 +106,9 @@ fn place_all(
     cells: &[u16],
     edges: &[u16],
     counts: &[u8],
-    names: &[u16; 8192],
-    sides: &[u16; 12288],
-    starts: &[u32; 12288],
+    names: &[u16; MOST_SLOTS],
+    sides: &[u16; MOST_EDGES],
+    starts: &[u32; MOST_EDGES],
     nodes: &[f64],
     fractions: &[f64],
     area: &mut [f64],
@@ -124,7 +127,7 @@ fn place_all(
     r
 }
 
-// The places call. Keeps 104 KB on the stack for the grid's tables, besides what `grid::open` keeps while it runs; measured, about 357 KB in all.
+// The places call. Keeps 88 KB on the stack for the grid's tables, besides what `grid::open` keeps while it runs; measured, about 341 KB in all.
 pub fn places(
     cells: &[u16],
     edges: &[u16],
@@ -133,21 +136,12 @@ pub fn places(
     fractions: &[f64],
     area: &mut [f64],
 ) -> Placed
-    ensures { λ r. ⌜ Done (now (cells .entry)) (now (edges .entry)) (now (counts .entry)) (now (nodes .entry)) (now (fractions .entry)) (now (area .entry)) (now (area .exit)) (placesNumbers r) ⌝ }
+    ensures { λ r. ⌜ Done (gridOf (now (cells .entry)) (now (edges .entry)) (now (counts .entry))) (now (nodes .entry)) (now (fractions .entry)) (now (area .entry)) (now (area .exit)) (placesNumbers r) ⌝ }
 {
-    let mut names = [0u16; 8192];
-    let mut near = [0u16; 8192];
-    let mut sides = [0u16; 12288];
-    let mut starts = [0u32; 12288];
-    match grid::open(
-        cells,
-        edges,
-        counts,
-        &mut names,
-        &mut near,
-        &mut sides,
-        &mut starts,
-    ) {
+    let mut names = [0u16; MOST_SLOTS];
+    let mut sides = [0u16; MOST_EDGES];
+    let mut starts = [0u32; MOST_EDGES];
+    match grid::open(cells, edges, counts, &mut names, &mut sides, &mut starts) {
         Checked::Refused(row, place) => Placed::Refused(row, place),
         Checked::Crossings(n) => {
             place_all(

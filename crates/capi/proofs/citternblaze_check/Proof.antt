@@ -2,7 +2,7 @@ use borrow.Author.Needs.{needs}
 use Rattle.grid.specs.Check.{checkNumbers}
 use Rattle.capi.proofs.Answers.{told-reads, answers-are, answers-told}
 use Rattle.grid.proofs.Claims.{never-empty}
-use Rattle.capi.proofs.Refused.{refused-numbers}
+use Rattle.answer.proofs.Answer.{refused-numbers}
 use Rattle.capi.proofs.citternblaze_check.Statement.{statement}
 use Rattle.capi.proofs.citternblaze_check.Tie as tie
 
@@ -43,7 +43,7 @@ same-length-2 : tie.Need-same-length-2
 same-length-2 c = search needs
 
 returns-2 : tie.Need-returns-2
-returns-2 c = answers-are (refused-numbers _ _ _ (never-empty _ _ _) (told-reads checkNumbers (c .before .before .before .before .before .before .row .given .1) (c .before .before .before .before .before .before .before .before .check .ensures))) (c .before .before .put2 .ensures)
+returns-2 c = answers-are (refused-numbers _ (never-empty _) _ _ (told-reads checkNumbers (c .before .before .before .before .before .before .row .given .1) (c .before .before .before .before .before .before .before .before .check .ensures))) (c .before .before .put2 .ensures)
 
 pub citternblaze-check-spec : {M : Type 1} → statement M
 citternblaze-check-spec =

@@ -2,7 +2,7 @@ use borrow.Author.Needs.{needs}
 use Rattle.mesh.specs.Numbers.{meshNumbers}
 use Rattle.capi.proofs.Answers.{told-reads, answers-are, answers-told}
 use Rattle.mesh.proofs.Claims.{mesh-some}
-use Rattle.capi.proofs.Refused.{refused-numbers}
+use Rattle.answer.proofs.Answer.{refused-numbers}
 use Rattle.capi.proofs.citternblaze_mesh.Statement.{statement}
 use Rattle.capi.proofs.citternblaze_mesh.Tie as tie
 
@@ -49,7 +49,7 @@ same-length-4 : tie.Need-same-length-4
 same-length-4 c = search needs
 
 returns-2 : tie.Need-returns-2
-returns-2 c = (answers-are (refused-numbers _ _ _ (mesh-some _ _ _ _) (told-reads meshNumbers (c .before .before .before .before .before .before .row .given .1) (c .before .before .before .before .before .before .before .before .before .before .mesh .ensures .answered))) (c .before .before .put2 .ensures), c .before .before .before .before .before .before .before .before .before .before .mesh .ensures .area)
+returns-2 c = (answers-are (refused-numbers _ (mesh-some _ _) _ _ (told-reads meshNumbers (c .before .before .before .before .before .before .row .given .1) (c .before .before .before .before .before .before .before .before .before .before .mesh .ensures .answered))) (c .before .before .put2 .ensures), c .before .before .before .before .before .before .before .before .before .before .mesh .ensures .area)
 
 pub citternblaze-mesh-spec : {M : Type 1} → statement M
 citternblaze-mesh-spec =

@@ -2,7 +2,7 @@ use borrow.Author.Needs.{needs}
 use Rattle.places.specs.Answer.{placesNumbers}
 use Rattle.capi.proofs.Answers.{told-reads, answers-are, answers-told}
 use Rattle.places.proofs.Claims.{places-some}
-use Rattle.capi.proofs.Refused.{refused-numbers}
+use Rattle.answer.proofs.Answer.{refused-numbers}
 use Rattle.capi.proofs.citternblaze_places.Statement.{statement}
 use Rattle.capi.proofs.citternblaze_places.Tie as tie
 
@@ -49,7 +49,7 @@ same-length-4 : tie.Need-same-length-4
 same-length-4 c = search needs
 
 returns-2 : tie.Need-returns-2
-returns-2 c = (answers-are (refused-numbers _ _ _ (places-some _ _ _ _ _ _) (told-reads placesNumbers (c .before .before .before .before .before .before .row .given .1) (c .before .before .before .before .before .before .before .before .before .before .places .ensures .answered))) (c .before .before .put2 .ensures), c .before .before .before .before .before .before .before .before .before .before .places .ensures .area)
+returns-2 c = (answers-are (refused-numbers _ (places-some _ _ _ _) _ _ (told-reads placesNumbers (c .before .before .before .before .before .before .row .given .1) (c .before .before .before .before .before .before .before .before .before .before .places .ensures .answered))) (c .before .before .put2 .ensures), c .before .before .before .before .before .before .before .before .before .before .places .ensures .area)
 
 pub citternblaze-places-spec : {M : Type 1} → statement M
 citternblaze-places-spec =

@@ -1,9 +1,11 @@
 -- `grid::all_rows` meets its contract.
-use mathlib.Core.Path.{_∙_, sym}
+use mathlib.Core.Path.{_∙_, refl, sym}
 use native.Mathlib.Omega.{arith}
 use borrow.Author.Needs.{needs}
-use Rattle.grid.specs.Rows.{gridAnswer, rowAt, rows}
-use Rattle.grid.proofs.Answers.{answer-passes, answer-refuses, length-fine, pairs-fine, whole-fault, whole-fine}
+use Rattle.answer.specs.Rows.{since}
+use Rattle.answer.proofs.Rows.{whole-fault, whole-fine}
+use Rattle.grid.specs.Rows.{rows}
+use Rattle.grid.proofs.Answers.{answer-passes, answer-refuses, answer-start, length-fine, pairs-fine}
 use Rattle.grid.proofs.all_rows.Statement.{statement}
 use Rattle.grid.proofs.all_rows.Tie as tie
 
@@ -11,18 +13,18 @@ row-1-requires : tie.Need-row-1-requires
 row-1-requires c κs = search needs
 
 returns : tie.Need-returns
-unfolding rowAt rows gridAnswer
-returns c = (answer-refuses _ _ _ 0 (omega arith) 0 (whole-fault _ (sym (c .before .row-1 .ensures) ∙ c .if1 .taken)) (omega arith), tt)
+unfolding since rows
+returns c = (answer-refuses _ 1 2 refl 0 (whole-fault _ (sym (c .before .row-1 .ensures) ∙ c .if1 .taken)) (omega arith) ∙ answer-start _, tt)
 
 row-2-requires : tie.Need-row-2-requires
 row-2-requires c κs = search needs
 
 returns-2 : tie.Need-returns-2
-unfolding rowAt rows gridAnswer
+unfolding since rows
 returns-2 c =
     let c-row-1 = c .before .before .before .row-1 in (
-      answer-refuses _ _ _ 1 (omega arith) 0 (whole-fault _ (sym (c .before .row-2 .ensures) ∙ c .if2 .taken)) (omega arith)
-          ∙ answer-passes _ _ _ 0 (omega arith) 1 (whole-fine _ (sym (c-row-1 .ensures) ∙ c .before .before .if1 .left)) (omega arith),
+      answer-refuses _ 2 3 refl 0 (whole-fault _ (sym (c .before .row-2 .ensures) ∙ c .if2 .taken)) (omega arith)
+          ∙ answer-passes _ 1 2 refl 1 (whole-fine _ (sym (c-row-1 .ensures) ∙ c .before .before .if1 .left)) (omega arith) ∙ answer-start _,
       tt,
     )
 
@@ -45,7 +47,7 @@ same-length-2 c =
     c-cell-rows .kept .1 .1 .1 .1 .0
 
 returns-3 : tie.Need-returns-3
-unfolding rowAt rows gridAnswer
+unfolding since rows
 returns-3 c =
     let c-row-1 = c .before .before .before .before .before .before .before .before .before .before .row-1 in
     let c-if1 = c .before .before .before .before .before .before .before .before .before .if1 in
@@ -53,8 +55,8 @@ returns-3 c =
     let c-if2 = c .before .before .before .before .before .before .before .if2 in
     let c-cell-rows = c .before .before .before .before .cell-rows in (
       c-cell-rows .ensures .0
-          ∙ answer-passes _ _ _ 1 (omega arith) 1 (whole-fine _ (sym (c-row-2 .ensures) ∙ c-if2 .left)) (omega arith)
-          ∙ answer-passes _ _ _ 0 (omega arith) 1 (whole-fine _ (sym (c-row-1 .ensures) ∙ c-if1 .left)) (omega arith),
+          ∙ answer-passes _ 2 3 refl 1 (whole-fine _ (sym (c-row-2 .ensures) ∙ c-if2 .left)) (omega arith)
+          ∙ answer-passes _ 1 2 refl 1 (whole-fine _ (sym (c-row-1 .ensures) ∙ c-if1 .left)) (omega arith) ∙ answer-start _,
       c-cell-rows .ensures .1,
     )
 

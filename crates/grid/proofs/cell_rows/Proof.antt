@@ -1,8 +1,9 @@
 -- `grid::cell_rows` meets its contract.
-use mathlib.Core.Path.{_∙_}
+use mathlib.Core.Path.{_∙_, refl}
 use native.Mathlib.Omega.{arith}
 use borrow.Author.Needs.{needs}
-use Rattle.grid.specs.Rows.{rowAt, rows}
+use Rattle.answer.specs.Rows.{since}
+use Rattle.grid.specs.Rows.{rows}
 use Rattle.grid.proofs.Accepts.{ordered}
 use Rattle.grid.proofs.Answers.{answer-passes, answer-refuses, worked}
 use Rattle.grid.proofs.Packed.{ordered-cells}
@@ -13,8 +14,8 @@ row-3-requires : tie.Need-row-3-requires
 row-3-requires c κs = search needs
 
 returns : tie.Need-returns
-unfolding rowAt rows
-returns c = (answer-refuses _ _ _ 2 (omega arith) _ (c .before .row-3 .ensures) (c .if1 .taken), tt)
+unfolding since rows
+returns c = (answer-refuses _ 3 4 refl _ (c .before .row-3 .ensures) (c .if1 .taken), tt)
 
 row-4-requires : tie.Need-row-4-requires
 row-4-requires c κs =
@@ -22,11 +23,11 @@ row-4-requires c κs =
     c-pre .few
 
 returns-2 : tie.Need-returns-2
-unfolding rowAt rows
+unfolding since rows
 returns-2 c =
     let c-row-3 = c .before .before .before .row-3 in (
-      answer-refuses _ _ _ 3 (omega arith) _ (c .before .row-4 .ensures) (c .if2 .taken)
-          ∙ answer-passes _ _ _ 2 (omega arith) _ (c-row-3 .ensures) (c .before .before .if1 .left),
+      answer-refuses _ 4 5 refl _ (c .before .row-4 .ensures) (c .if2 .taken)
+          ∙ answer-passes _ 3 4 refl _ (c-row-3 .ensures) (c .before .before .if1 .left),
       tt,
     )
 
@@ -44,16 +45,16 @@ same-length c =
     c-row-5 .kept .1 .0
 
 returns-3 : tie.Need-returns-3
-unfolding rowAt rows
+unfolding since rows
 returns-3 c =
     let c-row-3 = c .before .before .before .before .before .before .before .before .row-3 in
     let c-if1 = c .before .before .before .before .before .before .before .if1 in
     let c-row-4 = c .before .before .before .before .before .before .row-4 in
     let c-if2 = c .before .before .before .before .before .if2 in
     let c-row-5 = c .before .before .before .row-5 in (
-      answer-refuses _ _ _ 4 (omega arith) _ (c-row-5 .ensures .0) (c .if3 .taken)
-          ∙ answer-passes _ _ _ 3 (omega arith) _ (c-row-4 .ensures) (c-if2 .left)
-          ∙ answer-passes _ _ _ 2 (omega arith) _ (c-row-3 .ensures) (c-if1 .left),
+      answer-refuses _ 5 6 refl _ (c-row-5 .ensures .0) (c .if3 .taken)
+          ∙ answer-passes _ 4 5 refl _ (c-row-4 .ensures) (c-if2 .left)
+          ∙ answer-passes _ 3 4 refl _ (c-row-3 .ensures) (c-if1 .left),
       tt,
     )
 
@@ -80,7 +81,7 @@ same-length-3 : tie.Need-same-length-3
 same-length-3 c = c .before .before .edge-rows .kept .1 .1 .1 .1 .0
 
 returns-4 : tie.Need-returns-4
-unfolding rowAt rows
+unfolding since rows
 returns-4 c =
     let c-row-3 = c .before .before .before .before .before .before .before .before .before .before .before .before .before .row-3 in
     let c-if1 = c .before .before .before .before .before .before .before .before .before .before .before .before .if1 in
@@ -90,10 +91,10 @@ returns-4 c =
     let c-if3 = c .before .before .before .before .before .if3 in
     let c-edge-rows = c .before .before .edge-rows in (
       c-edge-rows .ensures .0
-          ∙ answer-passes _ _ _ 4 (omega arith) _ (c-row-5 .ensures .0) (c-if3 .left)
-          ∙ answer-passes _ _ _ 3 (omega arith) _ (c-row-4 .ensures) (c-if2 .left)
-          ∙ answer-passes _ _ _ 2 (omega arith) _ (c-row-3 .ensures) (c-if1 .left),
-      worked _ _ _ _ _ (c-edge-rows .result) (c-row-5 .ensures .1 (c-if3 .left)) (c-edge-rows .ensures .1),
+          ∙ answer-passes _ 5 6 refl _ (c-row-5 .ensures .0) (c-if3 .left)
+          ∙ answer-passes _ 4 5 refl _ (c-row-4 .ensures) (c-if2 .left)
+          ∙ answer-passes _ 3 4 refl _ (c-row-3 .ensures) (c-if1 .left),
+      worked _ _ _ (c-edge-rows .result) (c-row-5 .ensures .1 (c-if3 .left)) (c-edge-rows .ensures .1),
     )
 
 pub cell-rows-spec : {M : Type 1} → statement M

@@ -3,6 +3,7 @@ use mathlib.Core.Path.{_∙_, ap, refl, sym}
 use native.Mathlib.Omega.{arith}
 use borrow.Author.Needs.{needs}
 use Rattle.grid.specs.Check.{checkNumbers}
+use Rattle.grid.specs.Grid.{gridOf}
 use Rattle.grid.specs.Work.{Worked}
 use Rattle.grid.proofs.Filled.{copying, lowering, opened-filled, opened-kept, refused-keeps, told-accepted, told-accepts, told-ordered, told-where}
 use Rattle.grid.proofs.open.Statement.{statement}
@@ -25,9 +26,10 @@ returns c =
     let c-args = c .before .before .before .before .before .before .before .before .before .before .args in
     let c-all-rows = c .before .before .before .before .all-rows in
     let a = c-args in
+    let G = gridOf (a .cells .now) (a .edges .now) (a .counts .now) in
     let w = c .enum-told .given in
     let h = c-all-rows .ensures .0 in
-    (h, opened-kept (a .cells .now) (a .edges .now) (a .counts .now) (refused-keeps _ _ _ (w .0 .0) (w .0 .1 .0) (ap checkNumbers (sym (w .1)) ∙ h)) _ _ _ _)
+    (h, opened-kept G (refused-keeps _ (w .0 .0) (w .0 .1 .0) (ap checkNumbers (sym (w .1)) ∙ h)) _ _ _)
 
 enum-told-2 : tie.Need-enum-told-2
 enum-told-2 c = search needs
@@ -44,28 +46,11 @@ write-names-requires c κs =
     let c-good = c .before .before .before .before .before .before .before .before .before .before .before .before .good in
     let c-all-rows = c .before .before .before .before .before .before .all-rows in
     let a = c-args in
+    let G = gridOf (a .cells .now) (a .edges .now) (a .counts .now) in
     let w = c .before .before .enum-told2 .given in
-    let A = told-accepted (a .cells .now) (a .edges .now) (a .counts .now) (c-all-rows .result) _ (w .1) (c-all-rows .ensures .0) in
-    let W = told-where {T = Worked (a .cells .now) (a .edges .now) (a .counts .now) (c-all-rows .last .1 .1 .1 .0) (c-all-rows .last .1 .1 .1 .1 .0)} (c-all-rows .result) _ (w .1) (c-all-rows .ensures .1) in
-    copying (a .cells .now) (a .edges .now) (a .counts .now) _ _ A W _ (omega (arith, A .few-cells, c-good))
-
-mul-write-near : tie.Need-mul-write-near
-mul-write-near c = search needs
-
-slice-aggregate-write-near : tie.Need-slice-aggregate-write-near
-slice-aggregate-write-near c = search needs
-
-write-near-requires : tie.Need-write-near-requires
-write-near-requires c κs =
-    let c-args = c .before .before .before .before .before .before .before .before .before .before .before .before .before .before .before .args in
-    let c-good = c .before .before .before .before .before .before .before .before .before .before .before .before .before .before .before .good in
-    let c-all-rows = c .before .before .before .before .before .before .before .before .before .all-rows in
-    let c-enum-told2 = c .before .before .before .before .before .enum-told2 in
-    let a = c-args in
-    let w = c-enum-told2 .given in
-    let A = told-accepted (a .cells .now) (a .edges .now) (a .counts .now) (c-all-rows .result) _ (w .1) (c-all-rows .ensures .0) in
-    let W = told-where {T = Worked (a .cells .now) (a .edges .now) (a .counts .now) (c-all-rows .last .1 .1 .1 .0) (c-all-rows .last .1 .1 .1 .1 .0)} (c-all-rows .result) _ (w .1) (c-all-rows .ensures .1) in
-    copying (a .cells .now) (a .edges .now) (a .counts .now) _ _ A W _ (omega (arith, A .few-cells, c-good))
+    let A = told-accepted G (c-all-rows .result) _ (w .1) (c-all-rows .ensures .0) in
+    let W = told-where {T = Worked G (c-all-rows .last .1 .1 .1 .0) (c-all-rows .last .1 .1 .1 .1 .0)} (c-all-rows .result) _ (w .1) (c-all-rows .ensures .1) in
+    copying G _ _ A W _ (omega (arith, A .few-cells, c-good))
 
 mul-write-sides : tie.Need-mul-write-sides
 mul-write-sides c = search needs
@@ -75,43 +60,45 @@ slice-aggregate-write-sides c = search needs
 
 write-sides-requires : tie.Need-write-sides-requires
 write-sides-requires c κs =
-    let c-args = c .before .before .before .before .before .before .before .before .before .before .before .before .before .before .before .before .before .before .args in
-    let c-good = c .before .before .before .before .before .before .before .before .before .before .before .before .before .before .before .before .before .before .good in
-    let c-all-rows = c .before .before .before .before .before .before .before .before .before .before .before .before .all-rows in
-    let c-enum-told2 = c .before .before .before .before .before .before .before .before .enum-told2 in
+    let c-args = c .before .before .before .before .before .before .before .before .before .before .before .before .before .before .before .args in
+    let c-good = c .before .before .before .before .before .before .before .before .before .before .before .before .before .before .before .good in
+    let c-all-rows = c .before .before .before .before .before .before .before .before .before .all-rows in
+    let c-enum-told2 = c .before .before .before .before .before .enum-told2 in
     let a = c-args in
+    let G = gridOf (a .cells .now) (a .edges .now) (a .counts .now) in
     let w = c-enum-told2 .given in
-    let A = told-accepted (a .cells .now) (a .edges .now) (a .counts .now) (c-all-rows .result) _ (w .1) (c-all-rows .ensures .0) in
-    let W = told-where {T = Worked (a .cells .now) (a .edges .now) (a .counts .now) (c-all-rows .last .1 .1 .1 .0) (c-all-rows .last .1 .1 .1 .1 .0)} (c-all-rows .result) _ (w .1) (c-all-rows .ensures .1) in
-    lowering (a .cells .now) (a .edges .now) (a .counts .now) _ _ A W _ (omega (arith, A .few-cells, c-good))
+    let A = told-accepted G (c-all-rows .result) _ (w .1) (c-all-rows .ensures .0) in
+    let W = told-where {T = Worked G (c-all-rows .last .1 .1 .1 .0) (c-all-rows .last .1 .1 .1 .1 .0)} (c-all-rows .result) _ (w .1) (c-all-rows .ensures .1) in
+    lowering G _ _ A W _ (omega (arith, A .few-cells, c-good))
 
 write-starts-requires : tie.Need-write-starts-requires
 write-starts-requires c κs =
-    let c-args = c .before .before .before .before .before .before .before .before .before .before .before .before .before .before .before .before .before .before .before .before .args in
-    let c-good = c .before .before .before .before .before .before .before .before .before .before .before .before .before .before .before .before .before .before .before .before .good in
-    let c-all-rows = c .before .before .before .before .before .before .before .before .before .before .before .before .before .before .all-rows in
-    let c-enum-told2 = c .before .before .before .before .before .before .before .before .before .before .enum-told2 in
+    let c-args = c .before .before .before .before .before .before .before .before .before .before .before .before .before .before .before .before .before .args in
+    let c-good = c .before .before .before .before .before .before .before .before .before .before .before .before .before .before .before .before .before .good in
+    let c-all-rows = c .before .before .before .before .before .before .before .before .before .before .before .all-rows in
+    let c-enum-told2 = c .before .before .before .before .before .before .before .enum-told2 in
     let a = c-args in
+    let G = gridOf (a .cells .now) (a .edges .now) (a .counts .now) in
     let w = c-enum-told2 .given in
-    let A = told-accepted (a .cells .now) (a .edges .now) (a .counts .now) (c-all-rows .result) _ (w .1) (c-all-rows .ensures .0) in
+    let A = told-accepted G (c-all-rows .result) _ (w .1) (c-all-rows .ensures .0) in
     (omega (arith, A .few-cells, A .few-edges, c-good), A .few-crossings)
 
 returns-2 : tie.Need-returns-2
 returns-2 c =
-    let c-args = c .before .before .before .before .before .before .before .before .before .before .before .before .before .before .before .before .before .before .before .before .before .args in
-    let c-all-rows = c .before .before .before .before .before .before .before .before .before .before .before .before .before .before .before .all-rows in
-    let c-enum-told2 = c .before .before .before .before .before .before .before .before .before .before .before .enum-told2 in
-    let c-write-names = c .before .before .before .before .before .before .before .before .write-names in
-    let c-write-near = c .before .before .before .before .before .write-near in
+    let c-args = c .before .before .before .before .before .before .before .before .before .before .before .before .before .before .before .before .before .before .args in
+    let c-all-rows = c .before .before .before .before .before .before .before .before .before .before .before .before .all-rows in
+    let c-enum-told2 = c .before .before .before .before .before .before .before .before .enum-told2 in
+    let c-write-names = c .before .before .before .before .before .write-names in
     let a = c-args in
+    let G = gridOf (a .cells .now) (a .edges .now) (a .counts .now) in
     let w = c-enum-told2 .given in
     let h = c-all-rows .ensures .0 in
     let r = c-all-rows .result in
-    let A = told-accepted (a .cells .now) (a .edges .now) (a .counts .now) r _ (w .1) h in
-    let W = told-where {T = Worked (a .cells .now) (a .edges .now) (a .counts .now) (c-all-rows .last .1 .1 .1 .0) (c-all-rows .last .1 .1 .1 .1 .0)} r _ (w .1) (c-all-rows .ensures .1) in (
+    let A = told-accepted G r _ (w .1) h in
+    let W = told-where {T = Worked G (c-all-rows .last .1 .1 .1 .0) (c-all-rows .last .1 .1 .1 .1 .0)} r _ (w .1) (c-all-rows .ensures .1) in (
       h,
-      opened-filled (a .cells .now) (a .edges .now) (a .counts .now) _ _ A W (told-accepts _ _ _ r _ (w .1) h) (told-ordered _ (a .edges .now) (a .counts .now) r _ (w .1) h) _ _ _ _ _ _ _ _
-          (c-write-names .ensures) (c-write-near .ensures) (c .before .before .write-sides .ensures) (c .write-starts .ensures),
+      opened-filled G _ _ A W (told-accepts _ r _ (w .1) h) (told-ordered G r _ (w .1) h) _ _ _ _ _ _
+          (c-write-names .ensures) (c .before .before .write-sides .ensures) (c .write-starts .ensures),
     )
 
 pub open-spec : {M : Type 1} → statement M
@@ -127,9 +114,6 @@ open-spec =
     mul-write-names
     slice-aggregate-write-names
     write-names-requires
-    mul-write-near
-    slice-aggregate-write-near
-    write-near-requires
     mul-write-sides
     slice-aggregate-write-sides
     write-sides-requires

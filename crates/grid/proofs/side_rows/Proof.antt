@@ -1,12 +1,13 @@
 -- `grid::side_rows` meets its contract.
-use Prim.Native.Nat.{_*_, _/_}
+use Prim.Native.Nat.{_*_}
 use mathlib.Core.Path.{_∙_, _≡_, refl, sym}
 use native.Mathlib.Omega.{arith}
 use lib.ListN.{length}
 use borrow.Author.Needs.{needs}
 use Rattle.counting.proofs.Search.{first-none}
-use Rattle.grid.specs.Grid.{cellCount}
-use Rattle.grid.specs.Rows.{rowAt, rows, unused}
+use Rattle.grid.specs.Grid.{cellCount, gridOf}
+use Rattle.answer.specs.Rows.{since}
+use Rattle.grid.specs.Rows.{rows, unused}
 use Rattle.grid.specs.Work.{Table, listedAt}
 use Rattle.grid.proofs.Accepts.{ordered}
 use Rattle.grid.proofs.Answers.{answer-passes, answer-refuses, where-accepted}
@@ -59,6 +60,7 @@ row-8-requires c κs =
         few = c-pre .ordered .few;
         small = c-pre .ordered .small;
         small-ends = λ i. omega (arith, c-shared-slice-known2 .given i);
+        pairs = c-pre .pairs;
         table = c-side-keys .ensures;
         chained = c-chain .ensures .0;
         headed = c-chain .ensures .1;
@@ -74,33 +76,31 @@ row-7-requires c κs =
 same-length : tie.Need-same-length
 same-length c =
     let c-row-8 = c .before .before .before .before .before .row-8 in
-    c-row-8 .kept .1 .1 .1 .1 .1 .0
+    c-row-8 .kept .1 .1 .1 .1 .1 .1 .0
 
 returns : tie.Need-returns
-unfolding rowAt rows
+unfolding since rows
 returns c =
     let c-args = c .before .before .before .before .before .before .before .before .before .before .before .before .before .before .before .before .before .before .before .before .before .before .before .before .args in
     let c-pre = c .before .before .before .before .before .before .before .before .before .before .before .before .before .before .before .before .before .before .before .before .before .before .before .before .pre in
     let c-row-8 = c .before .before .before .before .before .row-8 in
-    let e : length (c-args .edges .now) / 2 ≡ length (c-args .counts .now) = omega (arith, c-pre .pairs) in
-    let t = rw e at (c-row-8 .ensures .1) in
-    (answer-refuses _ _ _ 6 (omega arith) _ (c .before .row-7 .ensures ∙ sym (unlisted-blank _ _ _ _ t)) (c .if1 .taken), tt)
+    let t = c-row-8 .ensures .1 in
+    (answer-refuses _ 7 8 refl _ (c .before .row-7 .ensures ∙ sym (unlisted-blank _ _ t)) (c .if1 .taken), tt)
 
 same-length-2 : tie.Need-same-length-2
 same-length-2 c =
     let c-row-8 = c .before .before .before .before .before .before .row-8 in
-    c-row-8 .kept .1 .1 .1 .1 .1 .0
+    c-row-8 .kept .1 .1 .1 .1 .1 .1 .0
 
 returns-2 : tie.Need-returns-2
-unfolding rowAt rows
+unfolding since rows
 returns-2 c =
     let c-args = c .before .before .before .before .before .before .before .before .before .before .before .before .before .before .before .before .before .before .before .before .before .before .before .before .before .args in
     let c-pre = c .before .before .before .before .before .before .before .before .before .before .before .before .before .before .before .before .before .before .before .before .before .before .before .before .before .pre in
     let c-row-8 = c .before .before .before .before .before .before .row-8 in
-    let e : length (c-args .edges .now) / 2 ≡ length (c-args .counts .now) = omega (arith, c-pre .pairs) in
-    let t = rw e at (c-row-8 .ensures .1) in (
-      answer-refuses _ _ _ 7 (omega arith) _ (rw e at (c-row-8 .ensures .0)) (c .if2 .taken)
-          ∙ answer-passes _ _ _ 6 (omega arith) _ (c .before .before .row-7 .ensures ∙ sym (unlisted-blank _ _ _ _ t)) (c .before .if1 .left),
+    let t = c-row-8 .ensures .1 in (
+      answer-refuses _ 8 9 refl _ (c-row-8 .ensures .0) (c .if2 .taken)
+          ∙ answer-passes _ 7 8 refl _ (c .before .before .row-7 .ensures ∙ sym (unlisted-blank _ _ t)) (c .before .if1 .left),
       tt,
     )
 
@@ -122,31 +122,29 @@ last-rows-requires c κs =
     let c-chain = c .before .before .before .before .before .before .before .before .before .before .before .before .before .before .before .before .chain in
     let c-row-8 = c .before .before .before .before .before .before .before .before .before .row-8 in
     let c-if2 = c .before .before .before .if2 in
-    let e : length (c-args .edges .now) / 2 ≡ length (c-args .counts .now) = omega (arith, c-pre .pairs) in
     record {
-      linkable = record {
-        ordered = c-pre .ordered;
-        near-is = c-pre .near-is;
-        findable = record {
-          few = c-pre .ordered .few;
-          small = c-pre .ordered .small;
-          small-ends = λ i. omega (arith, c-shared-slice-known2 .given i);
-          table = c-side-keys .ensures;
-          chained = c-chain .ensures .0;
-          headed = c-chain .ensures .1;
-        };
-        used = first-none (unused (c-args .cells .now) (c-args .edges .now)) (length (c-args .edges .now) / 2) (omega (arith, c-row-8 .ensures .0, c-if2 .left, e));
+      ordered = c-pre .ordered;
+      near-is = c-pre .near-is;
+      findable = record {
+        few = c-pre .ordered .few;
+        small = c-pre .ordered .small;
+        small-ends = λ i. omega (arith, c-shared-slice-known2 .given i);
+        pairs = c-pre .pairs;
+        table = c-side-keys .ensures;
+        chained = c-chain .ensures .0;
+        headed = c-chain .ensures .1;
       };
-      pairs = c-pre .pairs;
+      used = first-none (unused (gridOf (c-args .cells .now) (c-args .edges .now) (c-args .counts .now))) (length (c-args .counts .now))
+          (omega (arith, c-row-8 .ensures .0, c-if2 .left));
     }
 
 same-length-3 : tie.Need-same-length-3
 same-length-3 c =
     let c-row-8 = c .before .before .before .before .before .before .before .before .before .before .row-8 in
-    c-row-8 .kept .1 .1 .1 .1 .1 .0
+    c-row-8 .kept .1 .1 .1 .1 .1 .1 .0
 
 returns-3 : tie.Need-returns-3
-unfolding rowAt rows
+unfolding since rows
 returns-3 c =
     let c-args = c .before .before .before .before .before .before .before .before .before .before .before .before .before .before .before .before .before .before .before .before .before .before .before .before .before .before .before .before .before .args in
     let c-pre = c .before .before .before .before .before .before .before .before .before .before .before .before .before .before .before .before .before .before .before .before .before .before .before .before .before .before .before .before .before .pre in
@@ -154,12 +152,11 @@ returns-3 c =
     let c-row-7 = c .before .before .before .before .before .before .row-7 in
     let c-if1 = c .before .before .before .before .before .if1 in
     let c-if2 = c .before .before .before .before .if2 in
-    let e : length (c-args .edges .now) / 2 ≡ length (c-args .counts .now) = omega (arith, c-pre .pairs) in
-    let t = rw e at (c-row-8 .ensures .1) in (
+    let t = c-row-8 .ensures .1 in (
       c .last-rows .ensures
-          ∙ answer-passes _ _ _ 7 (omega arith) _ (rw e at (c-row-8 .ensures .0)) (c-if2 .left)
-          ∙ answer-passes _ _ _ 6 (omega arith) _ (c-row-7 .ensures ∙ sym (unlisted-blank _ _ _ _ t)) (c-if1 .left),
-      where-accepted {T = Table (listedAt (c-args .cells .now) (c-args .edges .now) (length (c-args .counts .now))) (6 * cellCount (c-args .cells .now)) (c-row-8 .last .1 .1 .1 .1 .1 .0)} (c .last-rows .result) t,
+          ∙ answer-passes _ 8 9 refl _ (c-row-8 .ensures .0) (c-if2 .left)
+          ∙ answer-passes _ 7 8 refl _ (c-row-7 .ensures ∙ sym (unlisted-blank _ _ t)) (c-if1 .left),
+      where-accepted {T = Table (listedAt (gridOf (c-args .cells .now) (c-args .edges .now) (c-args .counts .now))) (6 * cellCount (c-args .cells .now)) (c-row-8 .last .1 .1 .1 .1 .1 .1 .0)} (c .last-rows .result) t,
     )
 
 pub side-rows-spec : {M : Type 1} → statement M

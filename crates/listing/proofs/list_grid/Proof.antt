@@ -1,6 +1,7 @@
 use mathlib.Core.Path.{sym, ap, _∙_}
 use native.Mathlib.Omega.{arith}
 use Rattle.grid.specs.Check.{checkNumbers}
+use Rattle.grid.specs.Grid.{gridOf}
 use Rattle.listing.specs.Listing.{roomBytes}
 use Rattle.listing.proofs.Stores.{wider, renamed}
 use Rattle.listing.proofs.Meshes.{check-refused}
@@ -27,7 +28,7 @@ same-length : tie.Need-same-length
 same-length c = search needs
 
 returns : tie.Need-returns
-returns c = wider (renamed (c .before .before .put-refused .ensures) (check-refused (c .before .before .before .before .before .before .before .before .before .before .before .before .args .nodes .now) (c .before .before .before .before .before .before .before .before .before .before .before .before .args .ends .now) (c .before .before .before .before .before .before .before .before .before .before .before .before .args .counts .now) _ _ (sym (ap checkNumbers (c .before .before .before .before .before .row .given .1)) ∙ c .before .before .before .before .before .before .before .check .ensures))) roomBytes (omega arith)
+returns c = wider (renamed (c .before .before .put-refused .ensures) (check-refused (gridOf (c .before .before .before .before .before .before .before .before .before .before .before .before .args .nodes .now) (c .before .before .before .before .before .before .before .before .before .before .before .before .args .ends .now) (c .before .before .before .before .before .before .before .before .before .before .before .before .args .counts .now)) _ _ (sym (ap checkNumbers (c .before .before .before .before .before .row .given .1)) ∙ c .before .before .before .before .before .before .before .check .ensures))) roomBytes (omega arith)
 
 same-length-2 : tie.Need-same-length-2
 same-length-2 c = search needs

@@ -1,4 +1,5 @@
 use mathlib.Core.Path.{refl, _∙_}
+use Rattle.grid.specs.Grid.{gridOf}
 use Rattle.mesh.proofs.Calls.{refused-loops, opened-laid, told-loops}
 use borrow.Author.Needs.{needs}
 use Rattle.mesh.proofs.loops.Statement.{statement}
@@ -14,13 +15,13 @@ enum-told : tie.Need-enum-told
 enum-told c = search needs
 
 loop-of-requires : tie.Need-loop-of-requires
-loop-of-requires c κs = opened-laid (c .before .before .before .before .before .before .before .before .before .before .before .before .before .args .cells .now) (c .before .before .before .before .before .before .before .before .before .before .before .before .before .args .edges .now) (c .before .before .before .before .before .before .before .before .before .before .before .before .before .args .counts .now) (c .before .before .before .before .before .«open» .result) _ (c .before .before .before .enum-told .given .1) (c .before .before .before .before .before .«open» .ensures .0) _ _ _ _ _ _ _ _ refl refl refl (c .before .before .before .before .before .«open» .ensures .1)
+loop-of-requires c κs = opened-laid (gridOf (c .before .before .before .before .before .before .before .before .before .before .before .before .args .cells .now) (c .before .before .before .before .before .before .before .before .before .before .before .before .args .edges .now) (c .before .before .before .before .before .before .before .before .before .before .before .before .args .counts .now)) (c .before .before .before .before .before .«open» .result) _ (c .before .before .before .enum-told .given .1) (c .before .before .before .before .before .«open» .ensures .0) _ _ _ _ _ _ refl refl refl (c .before .before .before .before .before .«open» .ensures .1)
 
 returns : tie.Need-returns
-returns c = refused-loops (c .before .before .before .before .before .before .before .before .before .before .before .args .cells .now) (c .before .before .before .before .before .before .before .before .before .before .before .args .edges .now) (c .before .before .before .before .before .before .before .before .before .before .before .args .counts .now) (c .before .before .before .«open» .result) _ _ (c .before .row .given .1) (c .before .before .before .«open» .ensures .0) _ _
+returns c = refused-loops (gridOf (c .before .before .before .before .before .before .before .before .before .before .args .cells .now) (c .before .before .before .before .before .before .before .before .before .before .args .edges .now) (c .before .before .before .before .before .before .before .before .before .before .args .counts .now)) (c .before .before .before .«open» .result) _ _ (c .before .row .given .1) (c .before .before .before .«open» .ensures .0) _ _
 
 returns-2 : tie.Need-returns-2
-returns-2 c = c .loop-of .ensures ∙ told-loops (c .before .before .before .before .before .before .before .before .before .before .before .before .before .before .args .cells .now) (c .before .before .before .before .before .before .before .before .before .before .before .before .before .before .args .edges .now) (c .before .before .before .before .before .before .before .before .before .before .before .before .before .before .args .counts .now) (c .before .before .before .before .before .before .«open» .result) _ (c .before .before .before .before .enum-told .given .1) (c .before .before .before .before .before .before .«open» .ensures .0) _ _ _ _ _ _ _ _ refl refl refl (c .before .before .before .before .before .before .«open» .ensures .1) _ _
+returns-2 c = c .loop-of .ensures ∙ told-loops (gridOf (c .before .before .before .before .before .before .before .before .before .before .before .before .before .args .cells .now) (c .before .before .before .before .before .before .before .before .before .before .before .before .before .args .edges .now) (c .before .before .before .before .before .before .before .before .before .before .before .before .before .args .counts .now)) (c .before .before .before .before .before .before .«open» .result) _ (c .before .before .before .before .enum-told .given .1) (c .before .before .before .before .before .before .«open» .ensures .0) _ _ _ _ _ _ refl refl refl (c .before .before .before .before .before .before .«open» .ensures .1) _ _
 
 pub loops-spec : {M : Type 1} → statement M
 loops-spec =

@@ -1,4 +1,5 @@
 use mathlib.Core.Path.{refl}
+use Rattle.grid.specs.Grid.{gridOf}
 use Rattle.mesh.proofs.Calls.{refused-done, opened-laid, drawn-done}
 use borrow.Author.Needs.{needs}
 use Rattle.mesh.proofs.mesh.Statement.{statement}
@@ -14,16 +15,16 @@ enum-told : tie.Need-enum-told
 enum-told c = search needs
 
 draw-requires : tie.Need-draw-requires
-draw-requires c κs = opened-laid (c .before .before .before .before .before .before .before .before .before .before .before .before .before .before .before .args .cells .now) (c .before .before .before .before .before .before .before .before .before .before .before .before .before .before .before .args .edges .now) (c .before .before .before .before .before .before .before .before .before .before .before .before .before .before .before .args .counts .now) (c .before .before .before .before .before .before .«open» .result) _ (c .before .before .before .before .enum-told .given .1) (c .before .before .before .before .before .before .«open» .ensures .0) _ _ _ _ _ _ _ _ refl refl refl (c .before .before .before .before .before .before .«open» .ensures .1)
+draw-requires c κs = opened-laid (gridOf (c .before .before .before .before .before .before .before .before .before .before .before .before .before .before .args .cells .now) (c .before .before .before .before .before .before .before .before .before .before .before .before .before .before .args .edges .now) (c .before .before .before .before .before .before .before .before .before .before .before .before .before .before .args .counts .now)) (c .before .before .before .before .before .before .«open» .result) _ (c .before .before .before .before .enum-told .given .1) (c .before .before .before .before .before .before .«open» .ensures .0) _ _ _ _ _ _ refl refl refl (c .before .before .before .before .before .before .«open» .ensures .1)
 
 returns : tie.Need-returns
-returns c = refused-done (c .before .before .before .before .before .before .before .before .before .before .before .before .args .cells .now) (c .before .before .before .before .before .before .before .before .before .before .before .before .args .edges .now) (c .before .before .before .before .before .before .before .before .before .before .before .before .args .counts .now) (c .before .before .before .«open» .result) _ _ (c .before .row .given .1) (c .before .before .before .«open» .ensures .0) (c .before .before .before .before .before .before .before .before .before .before .before .before .args .area .now)
+returns c = refused-done (gridOf (c .before .before .before .before .before .before .before .before .before .before .before .args .cells .now) (c .before .before .before .before .before .before .before .before .before .before .before .args .edges .now) (c .before .before .before .before .before .before .before .before .before .before .before .args .counts .now)) (c .before .before .before .«open» .result) _ _ (c .before .row .given .1) (c .before .before .before .«open» .ensures .0) (c .before .before .before .before .before .before .before .before .before .before .before .args .area .now)
 
 same-length : tie.Need-same-length
 same-length c = search needs
 
 returns-2 : tie.Need-returns-2
-returns-2 c = drawn-done (c .before .before .before .before .before .before .before .before .before .before .before .before .before .before .before .before .before .before .args .cells .now) (c .before .before .before .before .before .before .before .before .before .before .before .before .before .before .before .before .before .before .args .edges .now) (c .before .before .before .before .before .before .before .before .before .before .before .before .before .before .before .before .before .before .args .counts .now) (c .before .before .before .before .before .before .before .before .before .«open» .result) _ (c .before .before .before .before .before .before .before .enum-told .given .1) (c .before .before .before .before .before .before .before .before .before .«open» .ensures .0) _ _ _ _ _ _ _ _ refl refl refl (c .before .before .before .before .before .before .before .before .before .«open» .ensures .1) _ _ _ (c .before .before .draw .ensures)
+returns-2 c = drawn-done (gridOf (c .before .before .before .before .before .before .before .before .before .before .before .before .before .before .before .before .before .args .cells .now) (c .before .before .before .before .before .before .before .before .before .before .before .before .before .before .before .before .before .args .edges .now) (c .before .before .before .before .before .before .before .before .before .before .before .before .before .before .before .before .before .args .counts .now)) (c .before .before .before .before .before .before .before .before .before .«open» .result) _ (c .before .before .before .before .before .before .before .enum-told .given .1) (c .before .before .before .before .before .before .before .before .before .«open» .ensures .0) _ _ _ _ _ _ refl refl refl (c .before .before .before .before .before .before .before .before .before .«open» .ensures .1) _ _ _ (c .before .before .draw .ensures)
 
 pub mesh-spec : {M : Type 1} → statement M
 mesh-spec =

@@ -6,25 +6,26 @@ use lib.ListN.{length, length-replicate}
 use borrow.Author.Needs.{needs}
 use Rattle.counting.specs.Search.{seek}
 use Rattle.counting.proofs.Search.{seek-end, seek-start}
-use Rattle.grid.specs.Grid.{mostCells}
+use Rattle.grid.specs.Grid.{gridOf, mostEdges}
 use Rattle.grid.specs.Rows.{unused}
 use Rattle.grid.proofs.Sides.{Listed, listed-all, listed-none, listed-put, listed-skip, lowest-hit, lowest-miss, unused-none, unused-not}
 use Rattle.grid.proofs.edges.row_8.Statement.{statement}
 use Rattle.grid.proofs.edges.row_8.Tie as tie
 
 abbrev Inv-loop : tie.InvT-loop
-Inv-loop cells edges keys head next sides₀ n m lowest₀ e₀ sides lowest e = (e ≤ m) × Listed cells edges keys m e sides × (lowest ≡ seek (unused cells edges) (m - e) e)
+Inv-loop cells edges counts keys head next sides₀ n m lowest₀ e₀ sides lowest e =
+    (e ≤ m) × Listed (gridOf cells edges counts) m e sides × (lowest ≡ seek (unused (gridOf cells edges counts)) (m - e) e)
 
 abbrev μ-loop : tie.MeasureT-loop
-μ-loop cells edges keys head next sides₀ n m lowest₀ e₀ sides lowest e = e
+μ-loop cells edges counts keys head next sides₀ n m lowest₀ e₀ sides lowest e = e
 
 mul-n : tie.Need-mul-n Inv-loop μ-loop
 mul-n c = search needs
 
 loop-holds : tie.Need-loop-holds Inv-loop μ-loop
 loop-holds c =
-    let c-pre = c .before .before .before .before .before .before .pre in
-    (omega arith, listed-none _ _ _ _ _ (c-pre .1), sym (seek-end _ _ _ (omega arith)))
+    let c-pre = c .before .before .before .before .before .before .before .pre in
+    (omega arith, listed-none _ _ _ (c-pre .1), sym (seek-end _ _ _ (omega arith)))
 
 sub-e : tie.Need-sub-e Inv-loop μ-loop
 sub-e c = search needs
@@ -34,7 +35,7 @@ edge-key-requires c κs = search needs
 
 latest-requires : tie.Need-latest-requires Inv-loop μ-loop
 latest-requires c κs =
-    let c-pre = c .before .before .before .before .before .before .before .before .before .pre in
+    let c-pre = c .before .before .before .before .before .before .before .before .before .before .pre in
     (c-pre .0 .chained, c-pre .0 .headed)
 
 loop-less : tie.Need-loop-less Inv-loop μ-loop
@@ -42,19 +43,19 @@ loop-less c = search needs
 
 loop-again : tie.Need-loop-again Inv-loop μ-loop
 loop-again c =
-    let c-pre = c .before .before .before .before .before .before .before .before .before .before .before .pre in
+    let c-pre = c .before .before .before .before .before .before .before .before .before .before .before .before .pre in
     let c-loop = c .before .before .before .before .loop in
     let w = c-loop .inv in
     let p = c-pre .0 in
     let z = sym (rw (c .before .before .edge-key .ensures) at (c .before .latest .ensures)) ∙ c .if1 .taken in
-    (omega arith, listed-skip (p .small) (p .small-ends) (p .table) _ (omega arith) (w .1) (omega arith) z, lowest-hit _ _ _ (omega arith) (unused-none _ _ (p .small) (p .small-ends) _ (p .table) _ z))
+    (omega arith, listed-skip (p .small) (p .small-ends) (p .table) _ (omega arith) (w .1) (omega arith) z, lowest-hit _ _ _ (omega arith) (unused-none _ (p .small) (p .small-ends) _ (p .table) _ z))
 
 add-put : tie.Need-add-put Inv-loop μ-loop
 add-put c = search needs
 
 put-requires : tie.Need-put-requires Inv-loop μ-loop
 put-requires c κs =
-    let c-pre = c .before .before .before .before .before .before .before .before .before .before .before .before .pre in
+    let c-pre = c .before .before .before .before .before .before .before .before .before .before .before .before .before .pre in
     let c-loop = c .before .before .before .before .before .loop in
     let w = c-loop .inv in
     let p = c-pre .0 in
@@ -65,8 +66,8 @@ loop-less-2 c = search needs
 
 loop-again-2 : tie.Need-loop-again-2 Inv-loop μ-loop
 loop-again-2 c =
-    let c-pre = c .before .before .before .before .before .before .before .before .before .before .before .before .before .before .before .pre in
-    let c-args = c .before .before .before .before .before .before .before .before .before .before .before .before .before .before .before .args in
+    let c-pre = c .before .before .before .before .before .before .before .before .before .before .before .before .before .before .before .before .pre in
+    let c-args = c .before .before .before .before .before .before .before .before .before .before .before .before .before .before .before .before .args in
     let c-loop = c .before .before .before .before .before .before .before .before .loop in
     let c-edge-key = c .before .before .before .before .before .before .edge-key in
     let c-latest = c .before .before .before .before .before .latest in
@@ -74,19 +75,19 @@ loop-again-2 c =
     let w = c-loop .inv in
     let p = c-pre .0 in
     let z = rw (c-edge-key .ensures) at (c-latest .ensures) in
-    let f = unused-not (c-args .cells .now) (c-args .edges .now) (p .small) (p .small-ends) (c-args .keys .now) (p .table) (c-loop .e - 1) (omega (arith, z, c-if1 .left)) in
+    let f = unused-not (gridOf (c-args .cells .now) (c-args .edges .now) (c-args .counts .now)) (p .small) (p .small-ends) (c-args .keys .now) (p .table) (c-loop .e - 1) (omega (arith, z, c-if1 .left)) in
     (omega arith, listed-put (p .small) (p .small-ends) (p .table) _ (omega arith) (w .1) (omega arith) _ (rw (c-edge-key .ensures) at (c .before .before .put .ensures)), lowest-miss _ _ _ _ _ (omega arith) (omega arith) f (w .2))
 
 same-length : tie.Need-same-length Inv-loop μ-loop
 same-length c =
-    let c-args = c .before .before .before .before .before .before .before .before .args in
-    let c-pre = c .before .before .before .before .before .before .before .before .pre in
-    let e : length (c-args .sides .now) ≡ 6 * mostCells = ap length (c-pre .1) ∙ length-replicate {A = ℕ} (6 * mostCells) 0 in
+    let c-args = c .before .before .before .before .before .before .before .before .before .args in
+    let c-pre = c .before .before .before .before .before .before .before .before .before .pre in
+    let e : length (c-args .sides .now) ≡ mostEdges = ap length (c-pre .1) ∙ length-replicate {A = ℕ} (mostEdges) 0 in
     c .before .loop .inv .1 .size ∙ sym e
 
 returns : tie.Need-returns Inv-loop μ-loop
 returns c =
-    let c-pre = c .before .before .before .before .before .before .before .before .pre in
+    let c-pre = c .before .before .before .before .before .before .before .before .before .pre in
     let w = c .before .loop .inv in
     let z : c .before .loop .e ≡ 0 = omega arith in
     (w .2 ∙ rw z (sym (seek-start _ _)), listed-all (c-pre .0 .few) (rw z at (w .1)))
