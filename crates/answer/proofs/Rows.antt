@@ -10,6 +10,7 @@ use lib.Dec.{eqb, ltb}
 use lib.ListN.{length}
 use borrow.Author.Tests.{eqb-true, eqb-false, le-ltb, lt-ltb, not-true}
 use Rattle.counting.specs.Pick.{pick}
+use Rattle.counting.specs.Lists.{All}
 use Rattle.counting.specs.Search.{first, seek, some}
 use Rattle.counting.proofs.Bools.{and-left, and-right}
 use Rattle.counting.proofs.Search.{first-at, first-below, first-is, none-first, some-first, some-none}
@@ -51,6 +52,11 @@ earlier-cons row more n h k (suc i) l = k i (omega arith)
 
 clear-none : (rows : List Row) → rows ≡ [] → AllClear rows
 clear-none rows e = rw e (λ i l. absurd (not-suc-le-zero l))
+
+pub clear-each : (rows : List Row) → All Clear rows → AllClear rows
+unfolding All
+clear-each [] a = clear-none [] refl
+clear-each (row ∷ more) a = clear-cons row more (a .0) (clear-each more (a .1))
 
 pub clear-or-refusal : (rows : List Row) → AllClear rows ⊎ ((n : ℕ) × (p : ℕ) × Refusal rows n p)
 clear-or-refusal [] = inl (clear-none [] refl)

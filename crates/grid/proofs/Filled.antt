@@ -16,7 +16,7 @@ use Rattle.counting.proofs.Bools.{not-clash}
 use Rattle.counting.proofs.Search.{below-or, first-at}
 use Rattle.answer.specs.Answer.{result}
 use Rattle.answer.proofs.Answer.{refused-not}
-use Rattle.grid.specs.Accepted.{Accepted}
+use Rattle.grid.specs.Accepted.{EdgeNumbers, Sound}
 use Rattle.grid.specs.Check.{checkNumbers}
 use Rattle.grid.specs.Grid.{Grid, cellCount, edgeNumber, faceName, isEdge, sameFace, start}
 use Rattle.grid.specs.Rows.{gridAnswer}
@@ -25,7 +25,8 @@ use Rattle.grid.specs.Work.{Copying, Lowering, Near, Ordered, WhereAccep
 use Rattle.grid.specs.declared.Checked.{Checked}
 use Rattle.grid.specs.declared.Checked.the-variants.{Crossings, Refused}
 use Rattle.grid.proofs.Accepts.{acceptance-yields, ordered}
-use Rattle.grid.proofs.Claims.{clear-accepted, never-empty}
+use Rattle.grid.proofs.Sound.{edge-numbers}
+use Rattle.grid.proofs.Claims.{never-empty}
 use Rattle.grid.proofs.Packed.{one-slot, true-same}
 
 pub filled-none : (f : ℕ → ℕ) (l : List ℕ) → l ≡ filled f 0 l
@@ -131,11 +132,11 @@ module _ (cells near : List ℕ) (good : Ordered cells) (N : Near cells near) (j
           go false e = inr (ltb-false a b e)
 
 -- the place of a listed edge
-pub listed-side : (G : Grid) → Accepted G → (j : ℕ) → j < 6 * cellCount (G .cells)
+pub listed-side : (G : Grid) → EdgeNumbers G → (j : ℕ) → j < 6 * cellCount (G .cells)
     → listedAt G j ≡ suc (sideAt G j)
 unfolding listedAt edgeNumber
-listed-side G A j h =
-    rw (lt-ltb (first (isEdge G (j / 6) (j % 6)) (length (G .counts))) (length (G .counts)) (A .listed (j / 6) (j % 6) (omega arith) (omega arith)))
+listed-side G E j h =
+    rw (lt-ltb (first (isEdge G (j / 6) (j % 6)) (length (G .counts))) (length (G .counts)) (E .listed (j / 6) (j % 6) (omega arith) (omega arith)))
 
 module _ (G : Grid) where
   -- a refusal's number is not 0
@@ -149,21 +150,24 @@ module _ (G : Grid) where
   opened-kept e names sides starts = record { names-are = rw e; sides-are = rw e; starts-are = rw e }
 
   -- what the check leaves is what the writers take
-  module _ (across listed : List ℕ) (A : Accepted G) (W : Worked G across listed) where
+  module _ (across listed : List ℕ) (S : Sound G) (W : Worked G across listed) where
+    E : EdgeNumbers G
+    E = edge-numbers G S
+
     pub lowering : (table : List ℕ) → 6 * cellCount (G .cells) ≤ length table → Lowering (6 * cellCount (G .cells)) listed table
     lowering table room =
         record {
-          few = omega (arith, A .few-cells);
+          few = omega (arith, S .few-cells);
           listed-room = W .sided .room;
           room = room;
           entries = λ j h. (
-              let e = W .sided .at j h ∙ listed-side G A j h in
-              let l = A .listed (j / 6) (j % 6) (omega arith) (omega arith) in
-              (omega (arith, e), omega (arith, e, l, A .few-edges, A .few-cells)));
+              let e = W .sided .at j h ∙ listed-side G E j h in
+              let l = E .listed (j / 6) (j % 6) (omega arith) (omega arith) in
+              (omega (arith, e), omega (arith, e, l, E .few, S .few-cells)));
         }
 
     pub copying : (table : List ℕ) → 4 * cellCount (G .cells) ≤ length table → Copying (4 * cellCount (G .cells)) across table
-    copying table room = record { few = omega (arith, A .few-cells); across-room = W .near-is .room; room = room }
+    copying table room = record { few = omega (arith, S .few-cells); across-room = W .near-is .room; room = room }
 
     pub opened-filled : accepts G ≡ true → Ordered (G .cells) → (names₀ sides₀ starts₀ names sides starts : List ℕ)
         → names ≡ filled (λ j. lowerOf j (getD across j 0)) (4 * cellCount (G .cells)) names₀
@@ -175,7 +179,7 @@ module _ (G : Grid) where
           names-are = rw e (p ∙ filled-ext (λ j. lowerOf j (getD across j 0)) (nameAt (G .cells)) (4 * cellCount (G .cells)) names₀
               (λ j h. name-is-lower (G .cells) across good (W .near-is) j h));
           sides-are = rw e (r ∙ filled-ext (λ j. getD listed j 0 - 1) (sideAt G) (6 * cellCount (G .cells)) sides₀
-              (λ j h. omega (arith, W .sided .at j h ∙ listed-side G A j h)));
+              (λ j h. omega (arith, W .sided .at j h ∙ listed-side G E j h)));
           starts-are = rw e t;
         }
 
@@ -184,11 +188,11 @@ module _ (G : Grid) where
     is-result : gridAnswer G ≡ result (n ∷ [])
     is-result = sym h ∙ ap checkNumbers e
 
-    pub told-accepted : Accepted G
-    told-accepted = acceptance-yields G (n ∷ []) is-result
+    pub told-sound : Sound G
+    told-sound = acceptance-yields G (n ∷ []) is-result .sound
 
     pub told-ordered : Ordered (G .cells)
-    told-ordered = ordered G (clear-accepted G (n ∷ []) is-result)
+    told-ordered = ordered G told-sound
 
     pub told-accepts : accepts G ≡ true
     told-accepts = crossings-accept n (sym is-result)

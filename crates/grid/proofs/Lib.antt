@@ -8,6 +8,8 @@ pub mod Ring
 pub mod Crossings
 pub mod Answers
 pub mod Claims
+pub mod Sound
+pub mod Linking
 pub mod Accepts
 pub mod Filled
 pub mod Names

@@ -12,7 +12,7 @@ use Rattle.counting.proofs.Bools.{and-true, bool-same}
 use Rattle.counting.proofs.Search.{count-one, first-ext, first-is, some-first, some-found, some-is}
 use Rattle.slots.specs.Slots.{contains, corner, slotEdge}
 use Rattle.slots.proofs.Slots.{SlotEdge, slot-edge}
-use Rattle.grid.specs.Accepted.{Accepted}
+use Rattle.grid.specs.Accepted.{EdgeNumbers}
 use Rattle.grid.specs.Grid.{Grid, SameFace, cellCount, edgeNumber, faceName, hasFace, isEdge, node, outer, sameFace}
 use Rattle.grid.proofs.Packed.{same-true, true-same}
 
@@ -51,14 +51,14 @@ module _ (cells : List ℕ) where
       (λ e. true-same cells (m / 4) (m % 4) a r (λ i k. same-true cells (m / 4) (m % 4) b s e i k ∙ sym (h i k))))
 
 -- the edges of a face that only one cell has are outer
-pub outer-edge : (G : Grid) → Accepted G → (c s j : ℕ) → c < cellCount (G .cells) → s < 4 → j < 3
+pub outer-edge : (G : Grid) → EdgeNumbers G → (c s j : ℕ) → c < cellCount (G .cells) → s < 4 → j < 3
     → ((b t : ℕ) → b < cellCount (G .cells) → t < 4 → SameFace (G .cells) c s b t → b ≡ c) → outer G (edgeNumber G c (slotEdge s j)) ≡ true
 unfolding outer hasFace edgeNumber
-outer-edge G A c s j h ls lj alone =
+outer-edge G E c s j h ls lj alone =
     some-found (λ c. some (λ k. isEdge G c k e && some (λ s. contains k s && eqb (count (hasFace (G .cells) c s) (cellCount (G .cells))) 1) 4) 6) (cellCount (G .cells)) c h
     (some-found (λ k. isEdge G c k e && some (λ s. contains k s && eqb (count (hasFace (G .cells) c s) (cellCount (G .cells))) 1) 4) 6 (slotEdge s j) (g .lt)
     (and-true (isEdge G c (slotEdge s j) e) (some (λ u. contains (slotEdge s j) u && eqb (count (hasFace (G .cells) c u) (cellCount (G .cells))) 1) 4)
-    (first-is (isEdge G c (slotEdge s j)) (length (G .counts)) (A .listed c (slotEdge s j) h (g .lt)))
+    (first-is (isEdge G c (slotEdge s j)) (length (G .counts)) (E .listed c (slotEdge s j) h (g .lt)))
     (some-found (λ u. contains (slotEdge s j) u && eqb (count (hasFace (G .cells) c u) (cellCount (G .cells))) 1) 4 s ls
     (and-true (contains (slotEdge s j) s) (eqb (count (hasFace (G .cells) c s) (cellCount (G .cells))) 1) (g .within) (eq-eqb (count (hasFace (G .cells) c s) (cellCount (G .cells))) 1 single)))))
   where

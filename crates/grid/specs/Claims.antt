@@ -10,7 +10,7 @@ use Rattle.grid.specs.Grid.{Grid, countOf, crossing, crossings}
 use Rattle.grid.specs.Rows.{rows, gridAnswer}
 use Rattle.grid.specs.Check.{checkNumbers}
 use Rattle.grid.specs.declared.Checked.{Checked}
-use Rattle.grid.specs.Accepted.{Accepted}
+use Rattle.grid.specs.Accepted.{Accepted, Sound, EdgeNumbers}
 
 -- a grid is accepted exactly where no row has a fault, and then the answer is the number of crossings
 abbrev pub AcceptsClear : Type 0
@@ -34,9 +34,16 @@ AcceptsOrRefuses = (G : Grid) → (gridAnswer G ≡ result (crossings (G .counts
 abbrev pub AnswerTold : Type 0
 AnswerTold = (G : Grid) (r s : Checked) → checkNumbers r ≡ gridAnswer G → checkNumbers s ≡ gridAnswer G → r ≡ s
 
--- acceptance yields the record
+-- a grid is accepted exactly where it is as 01 asks, said without the tests of the rows
 abbrev pub AcceptanceYields : Type 1
 AcceptanceYields = (G : Grid) (values : List ℕ) → gridAnswer G ≡ result values → Accepted G
+
+abbrev pub AcceptedAnswer : Type 1
+AcceptedAnswer = (G : Grid) → Accepted G → gridAnswer G ≡ result (crossings (G .counts) ∷ [])
+
+-- what the rows 1 to 8 give the edges' numbers
+abbrev pub NumbersOfSound : Type 0
+NumbersOfSound = (G : Grid) → Sound G → EdgeNumbers G
 
 -- crossing numbers, from edge and index and back: one to one and in order
 pub record Numbered (counts : List ℕ) (edgeOf indexOf : ℕ → ℕ) : Type 0 where

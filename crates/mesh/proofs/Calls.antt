@@ -48,7 +48,7 @@ module _ (G : Grid) where
         (o : Opened G names₀ sides₀ starts₀ names sides starts) where
       tables : Tabled G names sides starts
       tables =
-          tabled G names₀ sides₀ starts₀ names sides starts (acceptance-yields G (n ∷ []) (sym is-result)) accepted ln ls lt o
+          tabled G names₀ sides₀ starts₀ names sides starts (acceptance-yields G (n ∷ []) (sym is-result) .sound) accepted ln ls lt o
 
       pub opened-laid : Laid (G .cells) (G .counts) sides starts
       opened-laid = laid tables

@@ -20,6 +20,7 @@ use Rattle.triangle.specs.Words.{wordCount}
 use Rattle.grid.specs.Grid.{Grid, cellCount}
 use Rattle.grid.specs.Tables.{accepts}
 use Rattle.grid.specs.Rows.{gridAnswer}
+use Rattle.grid.proofs.Sound.{edge-numbers}
 use Rattle.grid.proofs.Accepts.{acceptance-yields}
 use Rattle.grid.proofs.Claims.{never-empty}
 use Rattle.mesh.specs.declared.Meshed.{Meshed}
@@ -95,5 +96,5 @@ loopsOrdered G total e c l =
       start-of G c j (omega arith),
       start-of G c k lk,
       count-of G c j (omega arith),
-      start-le G (en G c j) (en G c k) (A .rising c j k l h lk),
+      start-le G (en G c j) (en G c k) (edge-numbers G (A .sound) .rising c j k l h lk),
     ))

@@ -27,7 +27,8 @@ use Rattle.manifold.specs.Piece.{Local, Piece, slotOf, mateOf}
 use Rattle.manifold.specs.Complex.{Complex}
 use Rattle.manifold.specs.Faces.{Match, Faced}
 use Rattle.grid.specs.Grid.{Grid, cellCount, node, SameFace, faceName, joins, isEdge, edgeNumber, countOf, start}
-use Rattle.grid.specs.Accepted.{Accepted}
+use Rattle.grid.specs.Accepted.{Sound}
+use Rattle.grid.proofs.Sound.{edge-numbers}
 use Rattle.grid.proofs.Names.{same-named}
 use Rattle.mesh.specs.Mesh.{values, gridCell}
 
@@ -70,7 +71,7 @@ module _ (G : Grid) where
   unfolding start
   start-le a b h = pre-le (countOf (G .counts)) 0 a b h
 
-  module _ (A : Accepted G) where
+  module _ (S : Sound G) where
     number-rises : (c : ℕ) → c < cellCount (G .cells) → (x y : ℕ) → x < y → y < crossings (w c) → at c .number x < at c .number y
     number-rises c lc x y h l =
         let ex = row-lt (w c) 6 x (omega arith) in
@@ -80,7 +81,7 @@ module _ (G : Grid) where
         (λ (r : edge (w c) x < edge (w c) y).
         omega (
           arith,
-          start-le (en c (edge (w c) x)) (en c (edge (w c) y)) (A .rising c (edge (w c) x) (edge (w c) y) lc r ey),
+          start-le (en c (edge (w c) x)) (en c (edge (w c) y)) (edge-numbers G S .rising c (edge (w c) x) (edge (w c) y) lc r ey),
           col-lt (w c) 6 x (omega arith),
           count-of c (edge (w c) x) ex,
         ))
@@ -100,9 +101,9 @@ module _ (G : Grid) where
     node-once : (c i j : ℕ) → c < cellCount (G .cells) → i < 4 → j < 4 → node (G .cells) c i ≡ node (G .cells) c j → i ≡ j
     node-once c i j lc li lj e =
         elim (decLt i j) [
-          | yes h ↦ absurd (omega (arith, A .increasing c i j lc h lj))
+          | yes h ↦ absurd (omega (arith, S .increasing c i j lc h lj))
           | no h ↦ elim (decLt j i) [
-            | yes k ↦ absurd (omega (arith, A .increasing c j i lc k li))
+            | yes k ↦ absurd (omega (arith, S .increasing c j i lc k li))
             | no k ↦ omega arith
           ]
         ]
@@ -223,7 +224,7 @@ module _ (G : Grid) where
     faced = record {
       piece = piece-is;
       tags = λ a b la lb e. e;
-      few = λ a b c r s t la lb lc lr ls lt p q. A .third a b c r s t la lb lc lr ls lt
+      few = λ a b c r s t la lb lc lr ls lt p q. S .third a b c r s t la lb lc lr ls lt
           (same-named (G .cells) a r b s la lb lr ls (sym (name-of a r lr) ∙ p ∙ name-of b s ls))
           (same-named (G .cells) a r c t la lc lr lt (sym (name-of a r lr) ∙ q ∙ name-of c t lt));
       agree = λ a b s d la lb ls ld q.

@@ -36,6 +36,7 @@ use Rattle.grid.specs.Accepted.{Accepted}
 use Rattle.answer.specs.Answer.{isResult, result}
 use Rattle.grid.specs.Rows.{gridAnswer}
 use Rattle.grid.proofs.Claims.{accepted-is}
+use Rattle.grid.proofs.Sound.{edge-numbers}
 use Rattle.grid.proofs.Accepts.{acceptance-yields}
 use Rattle.mesh.specs.Mesh.{gridCell, meshTriangles}
 use Rattle.mesh.specs.Demand.{none, faceCount, RingPremises, OneRing, Fan, Demand3}
@@ -97,10 +98,10 @@ module _ (G : Grid) where
     K = gridComplex G
 
     claims : Manifold K
-    claims = manifold K (faces-lawful K (faced G A))
+    claims = manifold K (faces-lawful K (faced G (A .sound)))
 
     closed : RingPremises G → Shut K
-    closed H = faces-shut K (faced G A) (facesShut G A H)
+    closed H = faces-shut K (faced G (A .sound)) (facesShut G (A .sound) H)
 
     -- each crossing number is that of a crossing of a cell
     has : RingPremises G → (g : ℕ) → g < crossings (G .counts) → (c : ℕ) × Has K g c
@@ -109,7 +110,7 @@ module _ (G : Grid) where
         let n = length (G .counts) in
         let e = row (countOf (G .counts)) n g in
         let i = col (countOf (G .counts)) n g in
-        let (c, k, lc, lk, q) = A .used e (row-lt (countOf (G .counts)) n g l) in
+        let (c, k, lc, lk, q) = edge-numbers G (A .sound) .used e (row-lt (countOf (G .counts)) n g l) in
         let v = w G c in
         let li : i < v k = rw (count-of G c k lk, q) (col-lt (countOf (G .counts)) n g l) in
         let x = pre v k + i in
@@ -118,7 +119,7 @@ module _ (G : Grid) where
           record {
             lt = lc;
             d = 2 * x;
-            on = record { lt = omega arith; joined = facesShut G A H .full c (2 * x) lc (omega arith) };
+            on = record { lt = omega arith; joined = facesShut G (A .sound) H .full c (2 * x) lc (omega arith) };
             is = ap (K .at c .number) (half-of x) ∙ number-of G c x lx
                 ∙ ap₂ (λ a b. start (G .counts) (en G c a) + b) (row-pack v 6 k i lk li) (col-pack v 6 k i lk li)
                 ∙ ap (λ a. start (G .counts) a + i) q ∙ unpack (countOf (G .counts)) n g l;
@@ -143,7 +144,7 @@ module _ (G : Grid) where
       exactly-two = λ H t i lt li. two H t i lt li;
       ring-at-crossing = λ H g l.
           let (c, h) = has H g l in
-          ring-of (cross g) (claims .ring (closed H) g c h (faces-linked K (faced G A) (facesShut G A H) g (facesLinked G A H g)));
+          ring-of (cross g) (claims .ring (closed H) g c h (faces-linked K (faced G (A .sound)) (facesShut G (A .sound) H) g (facesLinked G (A .sound) H (A .linked) g)));
       ring-at-middle = λ H c p F. ring-of (middle c (numberOf (gridCell G c) p)) (claims .round (closed H) c p (F .cell-lt) (F .start-lt) (F .some) (fan-shape c p F));
     }
       where

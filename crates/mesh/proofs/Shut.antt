@@ -23,14 +23,15 @@ use Rattle.mesh.proofs.Joins.{three, On, index-in, num-lt, num-edge, nu
 use Rattle.manifold.specs.Piece.{slotOf, mateOf}
 use Rattle.manifold.specs.Faces.{FacesShut, SharesFace, FacesLinked}
 use Rattle.grid.specs.Grid.{Grid, cellCount, SameFace, countOf, start, sameFace}
-use Rattle.grid.specs.Accepted.{Accepted}
+use Rattle.grid.specs.Accepted.{Linked, Sound}
+use Rattle.grid.proofs.Sound.{edge-numbers}
 use Rattle.grid.proofs.Packed.{same-true, true-same}
 use Rattle.grid.proofs.Names.{named-same, outer-edge}
 use Rattle.mesh.specs.Demand.{RingPremises, faceCount}
 use Rattle.mesh.proofs.Complex.{w, at, en, gridComplex, count-of, name-of, number-of, start-le}
 
 module _ (G : Grid) where
-  module _ (A : Accepted G) (H : RingPremises G) where
+  module _ (S : Sound G) (H : RingPremises G) where
     -- a face with a crossing is in a second cell: an edge of a face that only one cell has is outer
     pub beyond : (c s j : ℕ) → c < cellCount (G .cells) → s < 4 → j < 3 → (i : ℕ) → i < faceCount G c s j
         → (b : ℕ) × (b < cellCount (G .cells)) × (b ≢ c) × (t : ℕ) × (t < 4) × SameFace (G .cells) c s b t
@@ -45,7 +46,7 @@ module _ (G : Grid) where
             let (t, lt, q) = some-is (λ t. sameFace (G .cells) b t c s) 4 (and-left (some (λ t. sameFace (G .cells) b t c s) 4) (not (eqb b c)) e) in
             (b, lb, eqb-false b c (not-true (eqb b c) (and-right (some (λ t. sameFace (G .cells) b t c s) 4) (not (eqb b c)) e)), t, lt, λ i l. sym (same-true (G .cells) b t c s q i l))
         go (inr none) =
-            let z = H .outer-zero (en G c (slotEdge s j)) (A .listed c (slotEdge s j) lc (slot-edge s j ls lj .lt)) (outer-edge G A c s j lc ls lj alone) in
+            let z = H .outer-zero (en G c (slotEdge s j)) (edge-numbers G S .listed c (slotEdge s j) lc (slot-edge s j ls lj .lt)) (outer-edge G (edge-numbers G S) c s j lc ls lj alone) in
             absurd (omega (arith, z))
           where
             alone : (b t : ℕ) → b < cellCount (G .cells) → t < 4 → SameFace (G .cells) c s b t → b ≡ c
@@ -107,8 +108,8 @@ module _ (G : Grid) where
         ]
 
     -- the cells at a crossing are linked through faces on which it lies: those that contain its edge
-    pub facesLinked : (g : ℕ) → FacesLinked (gridComplex G) g
-    facesLinked g Q pass a b ha hb =
+    pub facesLinked : Linked G → (g : ℕ) → FacesLinked (gridComplex G) g
+    facesLinked link g Q pass a b ha hb =
         let va = w G a in
         let vb = w G b in
         let xa = half (ha .d) in
@@ -127,9 +128,11 @@ module _ (G : Grid) where
         let na : start (G .counts) (en G a ka) + i ≡ g = sym (number-of G a xa la) ∙ ha .is in
         let nb : start (G .counts) (en G b kb) + index vb xb ≡ g = sym (number-of G b xb lb) ∙ hb .is in
         let e : en G a ka ≡ en G b kb = edge-of-number (en G a ka) (en G b kb) i (index vb xb) li lj (na ∙ sym nb) in
-        A .linked (en G a ka) Q
-        (λ a′ b′ r s j la lb lr ls l h q. pass a′ b′ (step i (en G a ka) li na a′ b′ r s j la lb lr ls l h q))
-        a b ka kb (ha .lt) (hb .lt) lka lkb refl (sym e)
+        let E = edge-numbers G S in
+        let le = E .listed a ka (ha .lt) lka in
+        link (en G a ka) le Q
+        (λ a′ b′ r s j la lb lr ls l h is q. pass a′ b′ (step i (en G a ka) li na a′ b′ r s j la lb lr ls l h (E .only a′ (slotEdge r j) (en G a ka) la (slot-edge r j lr l .lt) le is)) q)
+        a b ka kb (ha .lt) (hb .lt) lka lkb (E .is a ka (ha .lt) lka) (rw e (E .is b kb (hb .lt) lkb))
       where
         step : (i e : ℕ) → i < countOf (G .counts) e → start (G .counts) e + i ≡ g → (a b r s j : ℕ) → a < cellCount (G .cells) → b < cellCount (G .cells) → r < 4 → s < 4 → j < 3
             → SameFace (G .cells) a r b s → en G a (slotEdge r j) ≡ e → SharesFace (gridComplex G) g a b

@@ -9,7 +9,8 @@ use Rattle.counting.specs.Pick.{pick}
 use Rattle.counting.proofs.Range.{over-ext}
 use Rattle.counting.proofs.Pack.{pre-le}
 use Rattle.grid.specs.Grid.{Grid, cellCount, node, faceName, edgeNumber, countOf, start, mostSlots, mostEdges}
-use Rattle.grid.specs.Accepted.{Accepted}
+use Rattle.grid.specs.Accepted.{Sound}
+use Rattle.grid.proofs.Sound.{edge-numbers}
 use Rattle.grid.specs.Tables.{filled, accepts, Opened, nameAt, sideAt}
 use Rattle.grid.proofs.Filled.{filled-at}
 use Rattle.triangle.specs.Triangles.{cellTriangles}
@@ -22,8 +23,8 @@ values-ext : (f g : ℕ → ℕ) (n : ℕ) → ((i : ℕ) → i < n → f i ≡ 
 values-ext f g n h = over-ext (λ i. f i ∷ []) (λ i. g i ∷ []) n 0 (λ i a b. ap (λ x. x ∷ []) (h i (omega arith)))
 
 -- the tables of an accepted grid, in arrays that are long enough
-pub record Tabled (G : Grid) (names sides starts : List ℕ) : Type 1 where
-  pub accepted : Accepted G
+pub record Tabled (G : Grid) (names sides starts : List ℕ) : Type 0 where
+  pub sound : Sound G
   pub name : (j : ℕ) → j < 4 * cellCount (G .cells) → getD names j 0 ≡ nameAt (G .cells) j
   pub edge : (j : ℕ) → j < 6 * cellCount (G .cells) → getD sides j 0 ≡ sideAt G j
   pub first : (e : ℕ) → e < length (G .counts) → getD starts e 0 ≡ start (G .counts) e
@@ -42,14 +43,14 @@ module _ {G : Grid} {names sides starts : List ℕ} (T : Tabled G names sides st
       T .name (4 * c + s) (omega arith) ∙ ap₂ (faceName (G .cells)) a b
 
   side-lt : (c k : ℕ) → c < cellCount (G .cells) → k < 6 → side sides c k < length (G .counts)
-  side-lt c k lc lk = rw (side-is c k lc lk) (T .accepted .listed c k lc lk)
+  side-lt c k lc lk = rw (side-is c k lc lk) (edge-numbers G (T .sound) .listed c k lc lk)
 
   start-is : (c k : ℕ) → c < cellCount (G .cells) → k < 6 → getD starts (side sides c k) 0 ≡ start (G .counts) (edgeNumber G c k)
   start-is c k lc lk = T .first (side sides c k) (side-lt c k lc lk) ∙ ap (start (G .counts)) (side-is c k lc lk)
 
   start-small : (e : ℕ) → e < length (G .counts) → start (G .counts) e < 65536
   unfolding start
-  start-small e l = omega (arith, pre-le (countOf (G .counts)) 0 e (length (G .counts)) l, T .accepted .few-crossings)
+  start-small e l = omega (arith, pre-le (countOf (G .counts)) 0 e (length (G .counts)) l, T .sound .few-crossings)
 
   pub cell-is : (c : ℕ) → c < cellCount (G .cells) → tableCell (G .cells) (G .counts) names sides starts c ≡ gridCell G c
   unfolding tableCell gridCell
@@ -80,26 +81,26 @@ module _ {G : Grid} {names sides starts : List ℕ} (T : Tabled G names sides st
 
   pub laid : Laid (G .cells) (G .counts) sides starts
   laid = record {
-    few = T .accepted .few-cells;
+    few = T .sound .few-cells;
     reaches = λ c lc. record {
-      node = omega (arith, T .accepted .fours);
-      edged = record { cell = omega (arith, T .accepted .few-cells); edge = λ k l. side-lt c k lc l };
+      node = omega (arith, T .sound .fours);
+      edged = record { cell = omega (arith, T .sound .few-cells); edge = λ k l. side-lt c k lc l };
       started = record {
-        edged = record { cell = omega (arith, T .accepted .few-cells); edge = λ k l. omega (arith, side-lt c k lc l, T .accepted .few-edges, T .accepted .few-cells) };
-        start = λ k l. rw (start-is c k lc l) (start-small (edgeNumber G c k) (T .accepted .listed c k lc l));
+        edged = record { cell = omega (arith, T .sound .few-cells); edge = λ k l. omega (arith, side-lt c k lc l, edge-numbers G (T .sound) .few, T .sound .few-cells) };
+        start = λ k l. rw (start-is c k lc l) (start-small (edgeNumber G c k) (edge-numbers G (T .sound) .listed c k lc l));
       };
     };
   }
 
 -- what `open` leaves where the grid is accepted
-pub tabled : (G : Grid) (names₀ sides₀ starts₀ names sides starts : List ℕ) → Accepted G → accepts G ≡ true
+pub tabled : (G : Grid) (names₀ sides₀ starts₀ names sides starts : List ℕ) → Sound G → accepts G ≡ true
     → length names₀ ≡ mostSlots → length sides₀ ≡ mostEdges → length starts₀ ≡ mostEdges
     → Opened G names₀ sides₀ starts₀ names sides starts → Tabled G names sides starts
-tabled G names₀ sides₀ starts₀ names sides starts A e ln ls lt o = record {
-  accepted = A;
-  name = λ j h. ap (λ l. getD l j 0) (taken (filled (nameAt (G .cells)) (4 * cellCount (G .cells)) names₀) names₀ names (o .names-are)) ∙ filled-at (nameAt (G .cells)) (4 * cellCount (G .cells)) names₀ (omega (arith, A .few-cells)) j h;
-  edge = λ j h. ap (λ l. getD l j 0) (taken (filled (sideAt G) (6 * cellCount (G .cells)) sides₀) sides₀ sides (o .sides-are)) ∙ filled-at (sideAt G) (6 * cellCount (G .cells)) sides₀ (omega (arith, A .few-cells)) j h;
-  first = λ f h. ap (λ l. getD l f 0) (taken (filled (start (G .counts)) (length (G .counts)) starts₀) starts₀ starts (o .starts-are)) ∙ filled-at (start (G .counts)) (length (G .counts)) starts₀ (omega (arith, A .few-cells, A .few-edges)) f h;
+tabled G names₀ sides₀ starts₀ names sides starts S e ln ls lt o = record {
+  sound = S;
+  name = λ j h. ap (λ l. getD l j 0) (taken (filled (nameAt (G .cells)) (4 * cellCount (G .cells)) names₀) names₀ names (o .names-are)) ∙ filled-at (nameAt (G .cells)) (4 * cellCount (G .cells)) names₀ (omega (arith, S .few-cells)) j h;
+  edge = λ j h. ap (λ l. getD l j 0) (taken (filled (sideAt G) (6 * cellCount (G .cells)) sides₀) sides₀ sides (o .sides-are)) ∙ filled-at (sideAt G) (6 * cellCount (G .cells)) sides₀ (omega (arith, S .few-cells)) j h;
+  first = λ f h. ap (λ l. getD l f 0) (taken (filled (start (G .counts)) (length (G .counts)) starts₀) starts₀ starts (o .starts-are)) ∙ filled-at (start (G .counts)) (length (G .counts)) starts₀ (omega (arith, S .few-cells, edge-numbers G S .few)) f h;
 }
   where
     taken : (x y l : List ℕ) → l ≡ pick (accepts G) x y → l ≡ x

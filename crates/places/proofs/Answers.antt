@@ -16,7 +16,7 @@ use Rattle.counting.proofs.Bools.{clash, or-none}
 use Rattle.grid.specs.Grid.{Grid, crossings}
 use Rattle.grid.specs.Rows.{gridAnswer}
 use Rattle.grid.specs.Tables.{accepts}
-use Rattle.grid.specs.Accepted.{Accepted}
+use Rattle.grid.specs.Accepted.{Sound}
 use Rattle.grid.proofs.Claims.{accepted-is}
 use Rattle.grid.proofs.Accepts.{acceptance-yields}
 use Rattle.places.specs.Place.{coordinates}
@@ -59,7 +59,7 @@ module _ (cells counts : List ℕ) (nodes fractions : List Float) (needed room :
 
 -- what a result of the places call tells
 pub record Passed (G : Grid) (nodes fractions : List Float) (room : ℕ) : Type 1 where
-  pub grid : Accepted G
+  pub grid : Sound G
   pub rows : Fine (G .cells) (G .counts) nodes fractions (needed G nodes fractions) room
 
 module _ (G : Grid) (nodes fractions : List Float) (room : ℕ) (values : List ℕ) where
@@ -72,7 +72,7 @@ module _ (G : Grid) (nodes fractions : List Float) (room : ℕ) (values : List �
           → Passed G nodes fractions room
       go false q h = absurd (clash {A = ⊥} (ap isResult h) q)
       go true q h = record {
-        grid = acceptance-yields G (crossings (G .counts) ∷ []) (accepted-is G q);
+        grid = acceptance-yields G (crossings (G .counts) ∷ []) (accepted-is G q) .sound;
         rows = rows-fine (G .cells) (G .counts) nodes fractions (needed G nodes fractions) room values h;
       }
 

@@ -20,6 +20,7 @@ use Rattle.grid.specs.Check.{checkNumbers}
 use Rattle.grid.specs.Grid.{Grid, mostSlots, mostEdges, cellCount, edgeNumber, countOf, start, crossings}
 use Rattle.grid.specs.Rows.{gridAnswer}
 use Rattle.grid.specs.Tables.{accepts, Opened}
+use Rattle.grid.proofs.Sound.{edge-numbers}
 use Rattle.grid.proofs.Accepts.{acceptance-yields}
 use Rattle.grid.proofs.Claims.{accepted-is}
 use Rattle.grid.proofs.Filled.{refused-keeps, crossings-accept}
@@ -46,17 +47,17 @@ module _ {G : Grid} {names sides starts : List ℕ} (T : Tabled G names sides st
         arith,
         getD-singles (λ i. start (G .counts) (e i)) 0 6 0 k h ∙ ap (λ i. start (G .counts) (e i)) (zero-add k),
         getD-singles (λ i. countOf (G .counts) (e i)) 0 6 0 k h ∙ ap (λ i. countOf (G .counts) (e i)) (zero-add k),
-        start-fits (G .counts) (e k) (T .accepted .listed c k l h),
+        start-fits (G .counts) (e k) (edge-numbers G (T .sound) .listed c k l h),
       )
 
   pub ready : (n : ℕ) → n ≡ crossings (G .counts) → Ready (G .cells) (G .counts) names sides starts (G .edges) n
   ready n e = record {
-    judged = record { fours = T .accepted .fours; some = T .accepted .some-cell; nodes = numbers-small G (T .accepted); all = e };
-    few = omega (arith, e, T .accepted .few-crossings);
+    judged = record { fours = T .sound .fours; some = T .sound .some-cell; nodes = numbers-small G (T .sound); all = e };
+    few = omega (arith, e, T .sound .few-crossings);
     laid = laid T;
-    pairs = T .accepted .pairs;
-    lows = λ x l. low-end G (T .accepted) x l .below;
-    highs = λ x l. high-end G (T .accepted) x l .below;
+    pairs = T .sound .pairs;
+    lows = λ x l. low-end G (T .sound) x l .below;
+    highs = λ x l. high-end G (T .sound) x l .below;
     below = λ c l. subst (λ (x : Cell). Below x n) (sym (cell-is T c l)) (subst (λ k. Below (gridCell G c) k) (sym e) (grid-below c l));
   }
 
@@ -96,7 +97,7 @@ module _ (G : Grid) (nodes fractions : List Float) where
         (o : Opened G names₀ sides₀ starts₀ names sides starts) where
       tables : Tabled G names sides starts
       tables =
-          tabled G names₀ sides₀ starts₀ names sides starts (acceptance-yields G (n ∷ []) is-result) accepted ln ls lt o
+          tabled G names₀ sides₀ starts₀ names sides starts (acceptance-yields G (n ∷ []) is-result .sound) accepted ln ls lt o
 
       pub opened-ready : Ready (G .cells) (G .counts) names sides starts (G .edges) n
       opened-ready = ready tables n number-is

@@ -14,7 +14,7 @@ use Rattle.counting.proofs.Search.{some-found, some-is, some-blocks}
 use Rattle.slots.specs.Slots.{lo, hi}
 use Rattle.slots.proofs.Slots.{two-slots}
 use Rattle.grid.specs.Grid.{Grid, highestNode, cellCount, node, low, high}
-use Rattle.grid.specs.Accepted.{Accepted}
+use Rattle.grid.specs.Accepted.{Sound}
 use Rattle.places.specs.Rows.{hasNode, highest, nodeEnd}
 
 pub node-of : (cells : List ℕ) (c i v : ℕ) → c < cellCount cells → i < 4 → node cells c i ≡ v → hasNode cells v ≡ true
@@ -67,12 +67,12 @@ unfolding highest
 highest-small [] n h = omega arith
 highest-small (v ∷ l) n h = let s = highest-stands v l in omega (arith, s .is, h (s .at) (s .lt))
 
-module _ (G : Grid) (a : Accepted G) where
+module _ (G : Grid) (S : Sound G) where
   -- each number of the cell list is within the limit
   pub numbers-small : (j : ℕ) → j < length (G .cells) → getD (G .cells) j 0 ≤ highestNode
   numbers-small j h =
       let e : 4 * (j / 4) + j % 4 ≡ j = omega arith in
-      subst (λ k. getD (G .cells) k 0 ≤ highestNode) e (a .within (j / 4) (j % 4) (omega (arith, a .fours)) (omega arith))
+      subst (λ k. getD (G .cells) k 0 ≤ highestNode) e (S .within (j / 4) (j % 4) (omega (arith, S .fours)) (omega arith))
 
   -- the ends of a listed edge are nodes of some cell
   pub record End (v : ℕ) : Type 0 where
@@ -87,12 +87,12 @@ module _ (G : Grid) (a : Accepted G) where
   module _ (e : ℕ) (h : e < length (G .counts)) where
     pub low-end : End (low (G .edges) e)
     low-end =
-        let u = a .used e h in
+        let u = S .used e h in
         end-of (u .0) (lo (u .1)) (low (G .edges) e) (u .2) (omega (arith, two-slots (u .1) (u .3) .rising, two-slots (u .1) (u .3) .within))
-        (ap (low (G .edges)) (sym (u .4)) ∙ a .low-is (u .0) (u .1) (u .2) (u .3))
+        (u .4 .low-is)
 
     pub high-end : End (high (G .edges) e)
     high-end =
-        let u = a .used e h in
+        let u = S .used e h in
         end-of (u .0) (hi (u .1)) (high (G .edges) e) (u .2) (two-slots (u .1) (u .3) .within)
-        (ap (high (G .edges)) (sym (u .4)) ∙ a .high-is (u .0) (u .1) (u .2) (u .3))
+        (u .4 .high-is)

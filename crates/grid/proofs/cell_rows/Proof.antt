@@ -4,7 +4,6 @@ use native.Mathlib.Omega.{arith}
 use borrow.Author.Needs.{needs}
 use Rattle.answer.specs.Rows.{since}
 use Rattle.grid.specs.Rows.{rows}
-use Rattle.grid.proofs.Accepts.{ordered}
 use Rattle.grid.proofs.Answers.{answer-passes, answer-refuses, worked}
 use Rattle.grid.proofs.Packed.{ordered-cells}
 use Rattle.grid.proofs.cell_rows.Statement.{statement}

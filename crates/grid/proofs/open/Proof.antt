@@ -5,7 +5,8 @@ use borrow.Author.Needs.{needs}
 use Rattle.grid.specs.Check.{checkNumbers}
 use Rattle.grid.specs.Grid.{gridOf}
 use Rattle.grid.specs.Work.{Worked}
-use Rattle.grid.proofs.Filled.{copying, lowering, opened-filled, opened-kept, refused-keeps, told-accepted, told-accepts, told-ordered, told-where}
+use Rattle.grid.proofs.Sound.{edge-numbers}
+use Rattle.grid.proofs.Filled.{copying, lowering, opened-filled, opened-kept, refused-keeps, told-sound, told-accepts, told-ordered, told-where}
 use Rattle.grid.proofs.open.Statement.{statement}
 use Rattle.grid.proofs.open.Tie as tie
 
@@ -48,9 +49,9 @@ write-names-requires c κs =
     let a = c-args in
     let G = gridOf (a .cells .now) (a .edges .now) (a .counts .now) in
     let w = c .before .before .enum-told2 .given in
-    let A = told-accepted G (c-all-rows .result) _ (w .1) (c-all-rows .ensures .0) in
+    let S = told-sound G (c-all-rows .result) _ (w .1) (c-all-rows .ensures .0) in
     let W = told-where {T = Worked G (c-all-rows .last .1 .1 .1 .0) (c-all-rows .last .1 .1 .1 .1 .0)} (c-all-rows .result) _ (w .1) (c-all-rows .ensures .1) in
-    copying G _ _ A W _ (omega (arith, A .few-cells, c-good))
+    copying G _ _ S W _ (omega (arith, S .few-cells, c-good))
 
 mul-write-sides : tie.Need-mul-write-sides
 mul-write-sides c = search needs
@@ -67,9 +68,9 @@ write-sides-requires c κs =
     let a = c-args in
     let G = gridOf (a .cells .now) (a .edges .now) (a .counts .now) in
     let w = c-enum-told2 .given in
-    let A = told-accepted G (c-all-rows .result) _ (w .1) (c-all-rows .ensures .0) in
+    let S = told-sound G (c-all-rows .result) _ (w .1) (c-all-rows .ensures .0) in
     let W = told-where {T = Worked G (c-all-rows .last .1 .1 .1 .0) (c-all-rows .last .1 .1 .1 .1 .0)} (c-all-rows .result) _ (w .1) (c-all-rows .ensures .1) in
-    lowering G _ _ A W _ (omega (arith, A .few-cells, c-good))
+    lowering G _ _ S W _ (omega (arith, S .few-cells, c-good))
 
 write-starts-requires : tie.Need-write-starts-requires
 write-starts-requires c κs =
@@ -80,8 +81,8 @@ write-starts-requires c κs =
     let a = c-args in
     let G = gridOf (a .cells .now) (a .edges .now) (a .counts .now) in
     let w = c-enum-told2 .given in
-    let A = told-accepted G (c-all-rows .result) _ (w .1) (c-all-rows .ensures .0) in
-    (omega (arith, A .few-cells, A .few-edges, c-good), A .few-crossings)
+    let S = told-sound G (c-all-rows .result) _ (w .1) (c-all-rows .ensures .0) in
+    (omega (arith, S .few-cells, edge-numbers G S .few, c-good), S .few-crossings)
 
 returns-2 : tie.Need-returns-2
 returns-2 c =
@@ -94,10 +95,10 @@ returns-2 c =
     let w = c-enum-told2 .given in
     let h = c-all-rows .ensures .0 in
     let r = c-all-rows .result in
-    let A = told-accepted G r _ (w .1) h in
+    let S = told-sound G r _ (w .1) h in
     let W = told-where {T = Worked G (c-all-rows .last .1 .1 .1 .0) (c-all-rows .last .1 .1 .1 .1 .0)} r _ (w .1) (c-all-rows .ensures .1) in (
       h,
-      opened-filled G _ _ A W (told-accepts _ r _ (w .1) h) (told-ordered G r _ (w .1) h) _ _ _ _ _ _
+      opened-filled G _ _ S W (told-accepts _ r _ (w .1) h) (told-ordered G r _ (w .1) h) _ _ _ _ _ _
           (c-write-names .ensures) (c .before .before .write-sides .ensures) (c .write-starts .ensures),
     )
 

@@ -9,7 +9,6 @@ use Rattle.grid.specs.Grid.{cellCount, gridOf}
 use Rattle.answer.specs.Rows.{since}
 use Rattle.grid.specs.Rows.{rows, unused}
 use Rattle.grid.specs.Work.{Table, listedAt}
-use Rattle.grid.proofs.Accepts.{ordered}
 use Rattle.grid.proofs.Answers.{answer-passes, answer-refuses, where-accepted}
 use Rattle.grid.proofs.Sides.{unlisted-blank}
 use Rattle.grid.proofs.side_rows.Statement.{statement}
