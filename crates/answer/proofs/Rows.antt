@@ -2,11 +2,11 @@
 use Prim.Native.Nat.{ℕ, zero, suc, _<_, _≤_}
 use mathlib.Core.Path.{_≡_, refl, sym, _∙_}
 use mathlib.Core.Logic.{_⊎_, inl, inr, ⊎-elim}
-use mathlib.Core.Bool.{Bool, true, false, not, _&&_}
+use mathlib.Core.Bool.{Bool, true, false, not}
 use mathlib.Core.List.{List, [], _∷_}
 use native.Mathlib.Nat.{not-suc-le-zero}
 use native.Mathlib.Omega.{arith}
-use lib.Dec.{eqb, ltb}
+use lib.Dec.{eqb}
 use lib.ListN.{length}
 use borrow.Author.Tests.{eqb-true, eqb-false, le-ltb, lt-ltb, not-true}
 use Rattle.counting.specs.Pick.{pick}
@@ -15,7 +15,7 @@ use Rattle.counting.specs.Search.{first, seek, some}
 use Rattle.counting.proofs.Bools.{and-left, and-right}
 use Rattle.counting.proofs.Search.{first-at, first-below, first-is, none-first, some-first, some-none}
 use Rattle.answer.specs.Answer.{refusal, result, isResult}
-use Rattle.answer.specs.Rows.{Row, whole, orRefuse, answerOf, since, numbered, rowAt, Clear, AllClear, Refusal}
+use Rattle.answer.specs.Rows.{Row, orRefuse, answerOf, since, numbered, rowAt, Clear, AllClear, Refusal}
 use Rattle.answer.proofs.Answer.{no-nil}
 
 module _ (row : Row) (more : List Row) (rest : List ℕ) (p : ℕ) (e : p ≡ first (row .fault) (row .places)) where
@@ -50,16 +50,13 @@ earlier-cons : (row : Row) (more : List Row) (n : ℕ) → Clear row → ((i : �
 earlier-cons row more n h k zero l = h
 earlier-cons row more n h k (suc i) l = k i (omega arith)
 
-clear-none : (rows : List Row) → rows ≡ [] → AllClear rows
-clear-none rows e = rw e (λ i l. absurd (not-suc-le-zero l))
-
 pub clear-each : (rows : List Row) → All Clear rows → AllClear rows
 unfolding All
-clear-each [] a = clear-none [] refl
+clear-each [] a = λ i l. absurd (not-suc-le-zero l)
 clear-each (row ∷ more) a = clear-cons row more (a .0) (clear-each more (a .1))
 
 pub clear-or-refusal : (rows : List Row) → AllClear rows ⊎ ((n : ℕ) × (p : ℕ) × Refusal rows n p)
-clear-or-refusal [] = inl (clear-none [] refl)
+clear-or-refusal [] = inl (λ i l. absurd (not-suc-le-zero l))
 clear-or-refusal (row ∷ more) = go (some (row .fault) (row .places)) refl (clear-or-refusal more)
   where
     go : (b : Bool) → some (row .fault) (row .places) ≡ b → AllClear more ⊎ ((n : ℕ) × (p : ℕ) × Refusal more n p)

@@ -1,5 +1,4 @@
 -- Accepted exactly where no row has a fault; refused at the first row with one, at its lowest place; crossing numbers.
-use Prim.Native.Nat.{ℕ}
 use mathlib.Core.Path.{_≡_, ap, refl}
 use mathlib.Core.Logic.{inl, inr, ⊎-elim}
 use mathlib.Core.Bool.{true}
@@ -9,7 +8,7 @@ use lib.ListN.{length}
 use Rattle.counting.specs.Pack.{col}
 use Rattle.counting.proofs.Pack.{col-lt, col-pack, pack-lt, pre-le, row-lt, row-pack, unpack}
 use Rattle.answer.specs.Answer.{isResult, result}
-use Rattle.answer.specs.Rows.{AllClear, Refusal, numbered}
+use Rattle.answer.specs.Rows.{AllClear, numbered}
 use Rattle.answer.proofs.Answer.{mixed, refusals}
 use Rattle.answer.proofs.Rows.{answer-some, clear-answer, clear-or-refusal, refusal-answer, refused-by, result-clear, result-is}
 use Rattle.grid.specs.Check.{checkNumbers}

@@ -1,7 +1,6 @@
 // The grid check: cells, edges and counts of a grid.
 ghost use mathlib.Core.Path.{_≡_};
 ghost use Prim.Native.Nat.{_*_, _<_};
-ghost use lib.ListN.{length};
 ghost use Rattle.grid.specs.Grid.{gridOf, cellCount};
 ghost use Rattle.grid.specs.Rows.{gridAnswer};
 ghost use Rattle.grid.specs.Check.{checkNumbers};

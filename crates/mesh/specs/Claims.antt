@@ -1,7 +1,7 @@
 -- What holds of the calls and of the cells of an accepted grid.
 use Prim.Native.Nat.{ℕ, _<_}
 use mathlib.Core.Path.{_≡_}
-use mathlib.Core.List.{List, [], _∷_}
+use mathlib.Core.List.{[], _∷_}
 use Rattle.answer.specs.Answer.{result}
 use Rattle.cell.specs.Of.{countOf, startOf}
 use Rattle.cell.specs.Claims.{OrderLaws}

@@ -127,7 +127,7 @@ fn place_all(
     r
 }
 
-// The places call. Keeps 88 KB on the stack for the grid's tables, besides what `grid::open` keeps while it runs; measured, about 341 KB in all.
+// The places call. Keeps 88 KB on the stack for the grid's tables, besides what `grid::open` keeps while it runs.
 pub fn places(
     cells: &[u16],
     edges: &[u16],

@@ -11,6 +11,7 @@ ghost use Rattle.places.specs.Work.{Markable, Marked, isMarked, badMarke
 use super::Placed;
 use super::is_proper;
 use super::is_within;
+use grid::HIGHEST_NODE;
 
 // A node's number.
 pub(crate) fn wide(x: u16) -> usize
@@ -144,7 +145,7 @@ pub(crate) fn judge(
     requires { ⌜ points < 4294967296 ⌝ }
     ensures { λ r. ⌜ placesNumbers r ≡ rowsAnswer (now (cells .entry)) (now (counts .entry)) (now (nodes .entry)) (now (fractions .entry)) points room ⌝ }
 {
-    let mut used = [0u8; 4096];
+    let mut used = [0u8; HIGHEST_NODE + 1];
     mark(cells, &mut used);
     let end = marked_end(&used);
     if nodes.len() < 3 * end {

@@ -1,6 +1,5 @@
 -- `grid::edge_rows` meets its contract.
 use mathlib.Core.Path.{_∙_, refl}
-use native.Mathlib.Omega.{arith}
 use Rattle.answer.specs.Rows.{since}
 use Rattle.grid.specs.Rows.{rows}
 use Rattle.grid.proofs.Answers.{answer-passes, answer-refuses}

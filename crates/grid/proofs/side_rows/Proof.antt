@@ -1,6 +1,6 @@
 -- `grid::side_rows` meets its contract.
 use Prim.Native.Nat.{_*_}
-use mathlib.Core.Path.{_∙_, _≡_, refl, sym}
+use mathlib.Core.Path.{_∙_, refl, sym}
 use native.Mathlib.Omega.{arith}
 use lib.ListN.{length}
 use borrow.Author.Needs.{needs}
