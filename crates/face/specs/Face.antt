@@ -44,6 +44,10 @@ corner p q o =
     (pick (eqb ((p + q + o) % 2) 0) (half p q o)
     (half (p - 1) (q - 1) (o - 1)))))
 
+-- the corner counts at the nodes a, b, c of a face
+abbrev pub corners : ℕ → ℕ → ℕ → List ℕ
+corners ab ac bc = corner ab ac bc ∷ corner ab bc ac ∷ corner ac bc ab ∷ []
+
 -- residual (01) s of r, at the index t of the edge e: neighbours in pairs from the lower node, the first skipped if r is odd
 unfoldable pub residual : ℕ → ℕ → ℕ → ℕ → List ℕ
 residual e r s t = pick (ltb s (r % 2)) unjoined (joined e (pick (eqb ((s - r % 2) % 2) 0) (t + 1) (t - 1)))
