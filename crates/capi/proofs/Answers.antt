@@ -1,7 +1,7 @@
 -- Laws of what a call answers.
 use Prim.Native.Nat.{ℕ}
-use mathlib.Core.Path.{_≡_, refl, subst, sym, ap, _∙_}
-use mathlib.Core.List.{List, [], _∷_}
+use mathlib.Core.Path.{_≡_, subst, sym, ap, _∙_}
+use mathlib.Core.List.{List, _∷_}
 use Rattle.answer.specs.Answer.{result}
 use Rattle.cell.specs.declared.LoopType.{LoopType}
 use Rattle.cell.specs.Answer.{typeNumbers}
