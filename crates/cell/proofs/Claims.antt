@@ -1,6 +1,6 @@
 -- The laws of a cell's loops, together.
 use Prim.Native.Nat.{ℕ, _*_, _/_, _≤_, _<_}
-use mathlib.Core.Path.{_≡_, refl, ap}
+use mathlib.Core.Path.{_≡_, refl, sym, ap, _∙_}
 use mathlib.Core.Logic.{⊎-elim}
 use mathlib.Core.Bool.{Bool, true, false}
 use mathlib.Core.List.{List, [], _∷_}
@@ -9,10 +9,10 @@ use native.Mathlib.Omega.{arith}
 use lib.Dec.{eqb}
 use lib.ListN.{getD}
 use borrow.Author.Tests.{eqb-false, ne-eqb}
-use Rattle.counting.specs.Pick.{one}
+use Rattle.counting.specs.Pick.{pick, one}
 use Rattle.counting.proofs.Pack.{row-lt, col-lt, later}
 use Rattle.cell.specs.declared.LoopType.{LoopType}
-use Rattle.cell.specs.declared.LoopType.the-variants.{Contractible, Diagonal, Corner}
+use Rattle.cell.specs.declared.LoopType.the-variants.{Contractible, Corner, Diagonal, LowestCorner}
 use Rattle.cell.specs.declared.Loop.{Loop}
 use Rattle.cell.specs.declared.Loop.the-variants.{Found, Nothing}
 use Rattle.cell.specs.Cell.{crossings, edge, index}
@@ -73,27 +73,23 @@ ordered w start v R = record {
   ordered = λ i j l h. numbers w start v R (getD (leasts w start v) i 0) (getD (leasts w start v) j 0) (cellLaws w start v .rising i j l h) (cellLaws w start v .listed j h .0);
 }
 
--- the first numbers of two types tell their cases apart
-two-cases : {A : Type 0} {a b : ℕ} {k l : List ℕ} → (a ≡ b → ⊥) → a ∷ k ≡ b ∷ l → A
-two-cases n q = absurd (n (cc))
+-- the type with these numbers
+typeWith : List ℕ → LoopType
+typeWith l =
+    pick (eqb (getD l 0 0) 0) Contractible
+    (pick (eqb (getD l 0 0) 1) (Corner (getD l 1 0))
+    (pick (eqb (getD l 0 0) 2) (Diagonal (getD l 1 0))
+    (LowestCorner (getD l 1 0))))
+
+type-back : (t : LoopType) → typeWith (typeNumbers t) ≡ t
+unfolding typeWith
+type-back Contractible = refl
+type-back (Corner v) = refl
+type-back (Diagonal v) = refl
+type-back (LowestCorner v) = refl
 
 types : (s t : LoopType) → typeNumbers s ≡ typeNumbers t → s ≡ t
-types Contractible Contractible q = refl
-types Contractible (Diagonal v) q = two-cases (λ e. omega arith) q
-types Contractible (Corner v true) q = two-cases (λ e. omega arith) q
-types Contractible (Corner v false) q = two-cases (λ e. omega arith) q
-types (Diagonal v) Contractible q = two-cases (λ e. omega arith) q
-types (Diagonal v) (Diagonal u) q = cc
-types (Diagonal v) (Corner u true) q = two-cases (λ e. omega arith) q
-types (Diagonal v) (Corner u false) q = two-cases (λ e. omega arith) q
-types (Corner v true) Contractible q = two-cases (λ e. omega arith) q
-types (Corner v true) (Diagonal u) q = two-cases (λ e. omega arith) q
-types (Corner v true) (Corner u true) q = cc
-types (Corner v true) (Corner u false) q = two-cases (λ e. omega arith) q
-types (Corner v false) Contractible q = two-cases (λ e. omega arith) q
-types (Corner v false) (Diagonal u) q = two-cases (λ e. omega arith) q
-types (Corner v false) (Corner u true) q = two-cases (λ e. omega arith) q
-types (Corner v false) (Corner u false) q = cc
+types s t q = sym (type-back s) ∙ ap typeWith q ∙ type-back t
 
 flags : (a b : Bool) → one a ≡ one b → a ≡ b
 flags true true q = refl

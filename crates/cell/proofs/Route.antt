@@ -18,7 +18,7 @@ use Rattle.counting.proofs.Search.{every-is}
 use Rattle.counting.proofs.Stores.{getD-sets-in, getD-sets-out}
 use Rattle.counting.proofs.Pack.{pre-le}
 use Rattle.slots.specs.Slots.{slotEdge}
-use Rattle.face.specs.Face.{lower, upper, other, corner, cornerAt}
+use Rattle.face.specs.Face.{lower, upper, other, corner, corners, cornerAt}
 use Rattle.face.specs.Ends.{on-ab, on-ac, on-bc, low, high}
 use Rattle.face.proofs.Gaps.{corner-node}
 use Rattle.cell.specs.declared.Cell.{Cell}
@@ -64,14 +64,14 @@ module _ (w start : ℕ → ℕ) (h s : ℕ) (e : slotOf h ≡ s) where
   front-bc f = front-at 2 f ∙ rw (corner-node ab ac bc (low on-bc), corner-node ab ac bc (high on-bc)) refl
 
 -- the half-edges of a slot are written one after the other
-pub slot-fronts : {c : Cell} {s : ℕ} {x y z : Run} → SlotRuns c s x y z → (l m n o : List ℕ) (a b d : ℕ)
-    → a ≡ corner (x .count) (y .count) (z .count) → b ≡ corner (x .count) (z .count) (y .count) → d ≡ corner (y .count) (z .count) (x .count)
+pub slot-fronts : {c : Cell} {s : ℕ} {x y z : Run} → SlotRuns c s x y z → (l m n o : List ℕ) {a b d a′ b′ d′ : ℕ} → a ≡ a′ → b ≡ b′ → d ≡ d′
+    → a′ ∷ b′ ∷ d′ ∷ [] ≡ corners (x .count) (y .count) (z .count)
     → m ≡ sets l (9 * (3 * s)) (a ∷ b ∷ x .count ∷ x .first ∷ x .start ∷ [])
     → n ≡ sets m (9 * (3 * s + 1)) (a ∷ d ∷ y .count ∷ y .first ∷ y .start ∷ [])
     → o ≡ sets n (9 * (3 * s + 2)) (b ∷ d ∷ z .count ∷ z .first ∷ z .start ∷ [])
     → o ≡ fronts (countOf c) (startOf c) s l
 unfolding fronts
-slot-fronts {c} {s} {x} {y} {z} R l m n o a b d ea eb ed em en eo =
+slot-fronts {c} {s} {x} {y} {z} R l m n o {a} {b} {d} ea eb ed k em en eo =
     let A : front (countOf c) (startOf c) (3 * s) ≡ a ∷ b ∷ x .count ∷ x .first ∷ x .start ∷ [] = front-ab (countOf c) (startOf c) (3 * s) s (omega arith) (omega arith) ∙ cc in
     let B : front (countOf c) (startOf c) (3 * s + 1) ≡ a ∷ d ∷ y .count ∷ y .first ∷ y .start ∷ [] = front-ac (countOf c) (startOf c) (3 * s + 1) s (omega arith) (omega arith) ∙ cc in
     let D : front (countOf c) (startOf c) (3 * s + 2) ≡ b ∷ d ∷ z .count ∷ z .first ∷ z .start ∷ [] = front-bc (countOf c) (startOf c) (3 * s + 2) s (omega arith) (omega arith) ∙ cc in

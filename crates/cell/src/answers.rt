@@ -96,9 +96,9 @@ fn type_of(c: Cell, x: usize, y: usize, z: usize) -> LoopType
         return LoopType::Diagonal(node_with(c, a, b, d, 0));
     }
     if sum == 3 {
-        return LoopType::Corner(c.nodes[0], true);
+        return LoopType::LowestCorner(c.nodes[0]);
     }
-    LoopType::Corner(node_with(c, a, b, d, 1), false)
+    LoopType::Corner(node_with(c, a, b, d, 1))
 }
 
 // What is answered of the recorded loop of n from crossing p.

@@ -26,11 +26,13 @@ pub struct Cell {
     pub index: u16,
 }
 
-// The type of a loop, with the number of a node; a corner says too whether it is at the cell's lowest node.
+// The type of a loop: a case for each of document 01's numbers 0 to 3. With it the number of a node: the corner's, where it is not the cell's
+// lowest node; that of the node paired with the lowest; the lowest node's.
 pub enum LoopType {
     Contractible,
+    Corner(u16),
     Diagonal(u16),
-    Corner(u16, bool),
+    LowestCorner(u16),
 }
 
 // A loop of a cell: its least crossing in the grid, its length, normal or not, and its type; or that there is none.

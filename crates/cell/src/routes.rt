@@ -209,12 +209,13 @@ fn put_slot(c: Cell, t: &mut [usize; 108], s: usize, ab: Run, ac: Run, bc: Run)
     requires { ⌜ SlotRuns c s ab ac bc ⌝ }
     ensures { λ _. ⌜ now (t .exit) ≡ fronts (countOf c) (startOf c) s (now (t .entry)) ⌝ }
 {
-    let low = wide8(face::corner_count(ab.count, ac.count, bc.count));
-    let middle = wide8(face::corner_count(ab.count, bc.count, ac.count));
-    let high = wide8(face::corner_count(ac.count, bc.count, ab.count));
-    put_front(t, 3 * s, low, middle, ab);
-    put_front(t, 3 * s + 1, low, high, ac);
-    put_front(t, 3 * s + 2, middle, high, bc);
+    let corners = face::corners_of(ab.count, ac.count, bc.count);
+    let a = wide8(corners.a);
+    let b = wide8(corners.b);
+    let d = wide8(corners.c);
+    put_front(t, 3 * s, a, b, ab);
+    put_front(t, 3 * s + 1, a, d, ac);
+    put_front(t, 3 * s + 2, b, d, bc);
 }
 
 // The routes of the cell.

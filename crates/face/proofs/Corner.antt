@@ -2,13 +2,14 @@
 use Prim.Native.Nat.{ℕ, _+_, _-_, _/_, _%_, _<_, _≤_}
 use mathlib.Core.Path.{_≡_, refl}
 use mathlib.Core.Bool.{Bool, true, false}
+use mathlib.Core.List.{[], _∷_}
 use mathlib.Core.Logic.{_⊎_, inl, inr}
 use native.Mathlib.Omega.{arith}
 use native.Mathlib.Decide.{decLt}
 use lib.Dec.{eqb}
 use borrow.Author.Tests.{lt-ltb, le-ltb, eqb-false}
 use Rattle.counting.specs.Pick.{pick}
-use Rattle.face.specs.Face.{half, corner}
+use Rattle.face.specs.Face.{halfAbove, corner, corners}
 
 module _ (p q o : ℕ) where
   pub corner-first : q + o < p → corner p q o ≡ q
@@ -24,8 +25,8 @@ module _ (p q o : ℕ) where
   corner-none h = simp (le-ltb (q + o) p (omega arith), le-ltb (p + o) q (omega arith), lt-ltb (p + q) o h)
 
   halves : (b : Bool) → eqb ((p + q + o) % 2) 0 ≡ b → p ≤ q + o → q ≤ p + o → o ≤ p + q →
-      pick b (half p q o) (half (p - 1) (q - 1) (o - 1)) ≡ (p + q - o) / 2
-  unfolding half
+      pick b (halfAbove p q o) (halfAbove (p - 1) (q - 1) (o - 1)) ≡ (p + q - o) / 2
+  unfolding halfAbove
   halves true e h k l = refl
   halves false e h k l = let odd = eqb-false ((p + q + o) % 2) 0 e in omega arith
 
@@ -34,6 +35,21 @@ module _ (p q o : ℕ) where
   unfolding corner
   corner-half h k l =
       simp (le-ltb (q + o) p h, le-ltb (p + o) q k, le-ltb (p + q) o l) (halves (eqb ((p + q + o) % 2) 0) refl h k l)
+
+-- the three corner counts of a face: with one count above the other two, and with none
+module _ (ab ac bc : ℕ) where
+  pub corners-ab : ac + bc < ab → corners ab ac bc ≡ ac ∷ bc ∷ 0 ∷ []
+  corners-ab h = simp (corner-first ab ac bc h, corner-first ab bc ac (omega arith), corner-none ac bc ab h)
+
+  pub corners-ac : ab + bc < ac → corners ab ac bc ≡ ab ∷ 0 ∷ bc ∷ []
+  corners-ac h = simp (corner-second ab ac bc h, corner-none ab bc ac h, corner-first ac bc ab (omega arith))
+
+  pub corners-bc : ab + ac < bc → corners ab ac bc ≡ 0 ∷ ab ∷ ac ∷ []
+  corners-bc h = simp (corner-none ab ac bc h, corner-second ab bc ac h, corner-second ac bc ab (omega arith))
+
+  pub corners-level : ab ≤ ac + bc → ac ≤ ab + bc → bc ≤ ab + ac → corners ab ac bc ≡ (ab + ac - bc) / 2 ∷ (ab + bc - ac) / 2 ∷ (ac + bc - ab) / 2 ∷ []
+  corners-level h k l =
+      simp (corner-half ab ac bc h k l, corner-half ab bc ac (omega arith) l k, corner-half ac bc ab (omega arith) (omega arith) h)
 
 -- which rule holds at a corner
 pub data Rule (p q o : ℕ) : Type 0 where

@@ -1,13 +1,13 @@
 -- The corner counts at the two ends of an edge, and what they leave of it between them.
 use Prim.Native.Nat.{ℕ, _+_, _-_, _%_, _<_, _≤_}
-use mathlib.Core.Path.{_≡_, refl}
-use mathlib.Core.List.{[], _∷_}
+use mathlib.Core.Path.{_≡_, refl, _∙_}
+use mathlib.Core.List.{List}
 use mathlib.Core.Logic.{_⊎_, inl, inr}
 use native.Mathlib.Omega.{arith}
 use native.Mathlib.Decide.{decLt, ℕ-discrete}
 use lib.ListN.{getD}
 use borrow.Author.Tests.{eq-eqb, ne-eqb}
-use Rattle.face.specs.Face.{lower, upper, other, opposite, corner, count, others, kth, cornerAt}
+use Rattle.face.specs.Face.{lower, upper, other, opposite, corner, corners, count, others, kth, cornerAt}
 use Rattle.face.specs.Ends.{Edge, on-ab, on-ac, on-bc, End, low, high}
 use Rattle.face.proofs.Corner.{first, second, third, level, rule, corner-swap, corner-le, left-long, left-short, left-even, left-odd}
 use Rattle.face.proofs.Ends.{ends-differ, opposite-lower, opposite-upper, other-other, all-three}
@@ -45,7 +45,7 @@ module _ (ab ac bc : ℕ) where
   corner-upper d = rw (opposite-upper d)
 
   -- the corner count at a node, on either edge there
-  pub corner-node : {w e : ℕ} → End w e → cornerAt ab ac bc w e ≡ getD (corner ab ac bc ∷ corner ab bc ac ∷ corner ac bc ab ∷ []) w 0
+  pub corner-node : {w e : ℕ} → End w e → cornerAt ab ac bc w e ≡ getD (corners ab ac bc) w 0
   unfolding cornerAt lower upper other opposite count
   corner-node (low on-ab) = refl
   corner-node (low on-ac) = corner-swap ac ab bc
@@ -53,6 +53,9 @@ module _ (ab ac bc : ℕ) where
   corner-node (high on-ab) = refl
   corner-node (high on-ac) = refl
   corner-node (high on-bc) = corner-swap bc ac ab
+
+  pub corner-read : {w e v p : ℕ} {l : List ℕ} → End w e → l ≡ corners ab ac bc → v ≡ w → p ≡ getD l v 0 → p ≡ cornerAt ab ac bc w e
+  corner-read d f g h = rw (corner-node d) (h ∙ rw (f, g))
 
   pub corner-other : {w e : ℕ} → End w e → cornerAt ab ac bc w (other w e) ≡ cornerAt ab ac bc w e
   unfolding cornerAt

@@ -1,8 +1,10 @@
 // The face call: what a crossing of a face is joined to, from the counts of the face's edges.
 ghost use mathlib.Core.Path.{_≡_};
 ghost use Prim.Native.Nat.{_+_, _<_};
-ghost use Rattle.face.specs.Face.{lower, upper, other, corner, residual, count, kth, cornerAt, partner, faceJoin};
+ghost use lib.ListN.{getD};
+ghost use Rattle.face.specs.Face.{lower, upper, other, corners, residual, count, kth, partner, faceJoin};
 ghost use Rattle.face.specs.Join.{joinNumbers};
+ghost use Rattle.face.specs.Corners.{cornerList};
 ghost use Rattle.face.specs.Ends.{End, AtCorner, OnEdge};
 
 // Where a crossing goes: to the partner's edge and index, nowhere, or there is no such crossing.
@@ -17,6 +19,13 @@ struct Face {
     ab: u8,
     ac: u8,
     bc: u8,
+}
+
+// The corner counts of a face, at its nodes a, b, c.
+pub struct CornerCounts {
+    pub a: u8,
+    pub b: u8,
+    pub c: u8,
 }
 
 fn lower_end(edge: u32) -> u32
@@ -50,33 +59,39 @@ fn count_of(f: Face, edge: u32) -> u8
     if edge == 2 { f.bc } else { 0 }
 }
 
-// The corner count of a corner whose edges have p and q crossings, and whose opposite edge has o.
-pub fn corner_count(p: u8, q: u8, o: u8) -> u8
-    ensures { λ r. ⌜ r ≡ corner p q o ⌝ }
+// The corner counts of the face with these counts: rule 3 with ab, ac or bc above the other two, else rules 1 and 2.
+pub fn corners_of(ab: u8, ac: u8, bc: u8) -> CornerCounts
+    ensures { λ r. ⌜ cornerList r ≡ corners ab ac bc ⌝ }
 {
-    let wp = p as u32;
-    let wq = q as u32;
-    let wo = o as u32;
-    if wq + wo < wp {
-        return q;
+    let x = ab as u32;
+    let y = ac as u32;
+    let z = bc as u32;
+    if y + z < x {
+        return CornerCounts { a: ac, b: bc, c: 0 };
     }
-    if wp + wo < wq {
-        return p;
+    if x + z < y {
+        return CornerCounts { a: ab, b: 0, c: bc };
     }
-    if wp + wq < wo {
-        return 0;
+    if x + y < z {
+        return CornerCounts { a: 0, b: ab, c: ac };
     }
-    ((wp + wq - wo) / 2) as u8
+    CornerCounts {
+        a: ((x + y - z) / 2) as u8,
+        b: ((x + z - y) / 2) as u8,
+        c: ((y + z - x) / 2) as u8,
+    }
 }
 
-fn corner_at(f: Face, node: u32, edge: u32) -> u32
-    requires { ⌜ End node edge ⌝ }
-    ensures { λ r. ⌜ r ≡ cornerAt (f .ab) (f .ac) (f .bc) node edge ⌝ }
+fn corner_at(c: CornerCounts, node: u32) -> u8
+    ensures { λ r. ⌜ r ≡ getD (cornerList c) node 0 ⌝ }
 {
-    let p = count_of(f, edge);
-    let q = count_of(f, other_edge(node, edge));
-    let o = count_of(f, 2 - node);
-    corner_count(p, q, o) as u32
+    if node == 0 {
+        return c.a;
+    }
+    if node == 1 {
+        return c.b;
+    }
+    if node == 2 { c.c } else { 0 }
 }
 
 fn kth_of(f: Face, node: u32, edge: u32, k: u32) -> u32
@@ -98,16 +113,18 @@ fn partner_of(f: Face, node: u32, edge: u32, k: u32) -> Join
     Join::Joined(e, kth_of(f, node, e, k))
 }
 
-// Residual s of r, on an edge whose first residual has index p.
+// Residual s of r, on an edge whose first residual has index p: the first is skipped if r is odd, and each other is joined to the one above it
+// if an odd number is above it, else to the one below.
 fn residual_join(edge: u32, r: u32, p: u32, s: u32) -> Join
-    requires { ⌜ p + s < 4294967295 ⌝ }
+    requires { ⌜ (s < r) × (p + r < 4294967296) ⌝ }
     ensures { λ j. ⌜ joinNumbers j ≡ residual edge r s (p + s) ⌝ }
 {
     let skip = r % 2;
+    let above = r - 1 - s;
     if s < skip {
         return Join::Unjoined;
     }
-    if (s - skip) % 2 == 0 {
+    if above % 2 == 1 {
         Join::Joined(edge, p + s + 1)
     } else {
         Join::Joined(edge, p + s - 1)
@@ -139,7 +156,8 @@ pub fn face_join(ab: u8, ac: u8, bc: u8, edge: u32, index: u32) -> Join
     if x <= index {
         return Join::NoCrossing;
     }
-    let p = corner_at(f, lower_end(edge), edge);
-    let q = corner_at(f, upper_end(edge), edge);
+    let c = corners_of(ab, ac, bc);
+    let p = corner_at(c, lower_end(edge)) as u32;
+    let q = corner_at(c, upper_end(edge)) as u32;
     join_on(f, edge, x, p, q, index)
 }

@@ -10,7 +10,7 @@ use Rattle.counting.specs.Search.{first, some}
 use Rattle.counting.proofs.Bools.{and-false-left, and-false-right, and-left, and-right, and-true}
 use Rattle.counting.proofs.Reach.{reach-closed, reach-holds, reach-start}
 use Rattle.counting.proofs.Search.{first-is, none-some, some-first, some-found, some-is, some-none}
-use Rattle.slots.specs.Slots.{contains, from, hi, lo, place, slotEdge, to}
+use Rattle.slots.specs.Slots.{contains, hi, lo, lower, place, slotEdge, upper}
 use Rattle.slots.proofs.Slots.{edge-slot, face-ends, slot-edge}
 use Rattle.grid.specs.Accepted.{EdgeIs, Linked}
 use Rattle.grid.specs.Grid.{Grid, SameFace, cellCount, hasEdge, hasFace, high, isEdge, low, node, sameFace}
@@ -26,8 +26,8 @@ module _ (G : Grid) (a b r s j e : ℕ) (lr : r < 4) (ls : s < 4) (lj : j < 3) (
       let v = slot-edge s j ls lj in
       let (x, y) = face-ends j lj in
       record {
-        low-is = is .low-is ∙ ap (node (G .cells) a) (u .lo-is) ∙ face (from j) (omega arith) ∙ ap (node (G .cells) b) (sym (v .lo-is));
-        high-is = is .high-is ∙ ap (node (G .cells) a) (u .hi-is) ∙ face (to j) y ∙ ap (node (G .cells) b) (sym (v .hi-is));
+        low-is = is .low-is ∙ ap (node (G .cells) a) (u .lo-is) ∙ face (lower j) (omega arith) ∙ ap (node (G .cells) b) (sym (v .lo-is));
+        high-is = is .high-is ∙ ap (node (G .cells) a) (u .hi-is) ∙ face (upper j) y ∙ ap (node (G .cells) b) (sym (v .hi-is));
       }
 
 -- cells that share a face with the edge e

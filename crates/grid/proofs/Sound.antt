@@ -11,6 +11,7 @@ use lib.ListN.{length}
 use borrow.Author.Tests.{eq-eqb, eqb-true, le-ltb, leb-false, lt-leb, lt-ltb, ltb-false, ltb-true, ne-eqb, not-false}
 use Rattle.counting.specs.Pick.{pick}
 use Rattle.counting.specs.Search.{count, first, some}
+use Rattle.counting.proofs.Below.{trichotomy}
 use Rattle.counting.proofs.Bools.{and-left, and-right, and-true, clash, holds-or, not-clash, or-false, or-none}
 use Rattle.counting.proofs.Pigeon.{pigeonhole}
 use Rattle.counting.proofs.Search.{below-or, count-two-of, every-is, first-is, is-every, none-some, some-first, some-found, some-is, some-none, two-counted}
@@ -75,15 +76,6 @@ module _ (G : Grid) (c k e : ℕ) where
   true-edge h =
       and-true (eqb (low (G .edges) e) (node (G .cells) c (lo k))) (eqb (high (G .edges) e) (node (G .cells) c (hi k)))
       (eq-eqb (low (G .edges) e) (node (G .cells) c (lo k)) (h .low-is)) (eq-eqb (high (G .edges) e) (node (G .cells) c (hi k)) (h .high-is))
-
--- two numbers are in order or equal
-trichotomy : {T : Type 0} (a b : ℕ) → (a < b → T) → (b < a → T) → (a ≡ b → T) → T
-trichotomy {T} a b l g e = go (ltb a b) (ltb b a) refl refl
-  where
-    go : (x y : Bool) → ltb a b ≡ x → ltb b a ≡ y → T
-    go true y p q = l (ltb-true a b p)
-    go false true p q = g (ltb-true b a q)
-    go false false p q = e (omega (arith, ltb-false a b p, ltb-false b a q))
 
 -- no face is in three cells
 module _ (cells : List ℕ) (clear : (c : ℕ) → c < cellCount cells → third cells c ≡ false) where

@@ -1,7 +1,9 @@
 use borrow.Author.Needs.{needs}
-use mathlib.Core.Path.{sym, _∙_}
+use mathlib.Core.Path.{sym}
 use native.Mathlib.Omega.{arith}
-use Rattle.face.proofs.Ends.{edge-counted, low-end, high-end}
+use Rattle.face.specs.Ends.{low, high}
+use Rattle.face.proofs.Ends.{edge-counted}
+use Rattle.face.proofs.Gaps.{corner-read}
 use Rattle.face.proofs.Branches.{face-off}
 use Rattle.face.proofs.face_join.Statement.{statement}
 use Rattle.face.proofs.face_join.Tie as tie
@@ -15,28 +17,39 @@ cast-x c = search needs
 returns : tie.Need-returns
 returns c = sym (face-off _ _ _ _ _ (omega arith))
 
+corners-of-requires : tie.Need-corners-of-requires
+corners-of-requires c κs = search needs
+
 lower-end-requires : tie.Need-lower-end-requires
 lower-end-requires c κs = search needs
 
 corner-at-requires : tie.Need-corner-at-requires
-corner-at-requires c κs = low-end (c .lower-end .ensures) (edge-counted _ _ _ _ _ (c .before .before .count-of .ensures) (c .before .if1 .left))
+corner-at-requires c κs = search needs
+
+cast-p : tie.Need-cast-p
+cast-p c = search needs
 
 upper-end-requires : tie.Need-upper-end-requires
 upper-end-requires c κs = search needs
 
 corner-at-requires-2 : tie.Need-corner-at-requires-2
-corner-at-requires-2 c κs = high-end (c .upper-end .ensures) (edge-counted _ _ _ _ _ (c .before .before .before .before .count-of .ensures) (c .before .before .before .if1 .left))
+corner-at-requires-2 c κs = search needs
+
+cast-q : tie.Need-cast-q
+cast-q c = search needs
 
 join-on-requires : tie.Need-join-on-requires
 join-on-requires c κs =
+    let d = edge-counted _ _ _ _ _ (c .before .before .before .before .before .before .count-of .ensures) (c .before .before .before .before .before .if1 .left) in
+    let r = c .before .before .before .before .corners-of .ensures in
     record {
       corners = record {
-        edge = edge-counted _ _ _ _ _ (c .before .before .before .before .before .count-of .ensures) (c .before .before .before .before .if1 .left);
-        own = c .before .before .before .before .before .count-of .ensures;
-        at-lower = c .before .before .corner-at .ensures ∙ rw (c .before .before .before .lower-end .ensures);
-        at-upper = c .corner-at2 .ensures ∙ rw (c .before .upper-end .ensures);
+        edge = d;
+        own = c .before .before .before .before .before .before .count-of .ensures;
+        at-lower = corner-read _ _ _ (low d) r (c .before .before .before .lower-end .ensures) (c .before .before .corner-at .ensures);
+        at-upper = corner-read _ _ _ (high d) r (c .before .upper-end .ensures) (c .corner-at2 .ensures);
       };
-      there = c .before .before .before .before .if1 .left;
+      there = c .before .before .before .before .before .if1 .left;
     }
 
 returns-2 : tie.Need-returns-2
@@ -49,9 +62,12 @@ face-join-spec =
     count-of-requires
     cast-x
     returns
+    corners-of-requires
     lower-end-requires
     corner-at-requires
+    cast-p
     upper-end-requires
     corner-at-requires-2
+    cast-q
     join-on-requires
     returns-2)

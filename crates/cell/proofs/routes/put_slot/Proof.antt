@@ -1,23 +1,17 @@
 use mathlib.Core.Path.{_∙_}
-use Rattle.cell.proofs.Route.{slot-fronts}
 use borrow.Author.Needs.{needs}
+use Rattle.cell.proofs.Route.{slot-fronts}
 use Rattle.cell.proofs.routes.put_slot.Statement.{statement}
 use Rattle.cell.proofs.routes.put_slot.Tie as tie
 
-corner-count-requires : tie.Need-corner-count-requires
-corner-count-requires c κs = search needs
+corners-of-requires : tie.Need-corners-of-requires
+corners-of-requires c κs = search needs
 
 wide8-requires : tie.Need-wide8-requires
 wide8-requires c κs = search needs
 
-corner-count-requires-2 : tie.Need-corner-count-requires-2
-corner-count-requires-2 c κs = search needs
-
 wide8-requires-2 : tie.Need-wide8-requires-2
 wide8-requires-2 c κs = search needs
-
-corner-count-requires-3 : tie.Need-corner-count-requires-3
-corner-count-requires-3 c κs = search needs
 
 wide8-requires-3 : tie.Need-wide8-requires-3
 wide8-requires-3 c κs = search needs
@@ -47,17 +41,18 @@ put-front-requires-3 : tie.Need-put-front-requires-3
 put-front-requires-3 c κs = search needs
 
 returns : tie.Need-returns
-returns c = slot-fronts (c .before .before .before .before .before .before .before .before .before .before .before .before .pre .1) _ _ _ _ _ _ _ (c .before .before .before .before .before .before .before .before .before .before .wide8 .ensures .0 ∙ c .before .before .before .before .before .before .before .before .before .before .before .corner-count .ensures) (c .before .before .before .before .before .before .before .before .wide82 .ensures .0 ∙ c .before .before .before .before .before .before .before .before .before .corner-count2 .ensures) (c .before .before .before .before .before .before .wide83 .ensures .0 ∙ c .before .before .before .before .before .before .before .corner-count3 .ensures) (c .before .before .before .before .put-front .ensures) (c .before .before .put-front2 .ensures) (c .put-front3 .ensures)
+returns c =
+    let r = c .before .before .before .before .before .before .before .before .before .corners-of .ensures in
+    slot-fronts (c .before .before .before .before .before .before .before .before .before .before .pre .1) _ _ _ _ (c .before .before .before .before .before .before .before .before .wide8 .ensures .0) (c .before .before .before .before .before .before .before .wide82 .ensures .0) (c .before .before .before .before .before .before .wide83 .ensures .0) r
+    (c .before .before .before .before .put-front .ensures) (c .before .before .put-front2 .ensures) (c .put-front3 .ensures)
 
 pub put-slot-spec : {M : Type 1} → statement M
 put-slot-spec =
     tie.close
     (tie.spec
-    corner-count-requires
+    corners-of-requires
     wide8-requires
-    corner-count-requires-2
     wide8-requires-2
-    corner-count-requires-3
     wide8-requires-3
     mul-put-front
     put-front-requires

@@ -1,0 +1,18 @@
+-- Three numbers one by one; two numbers in order or equal; a function that rises tells its arguments.
+use Prim.Native.Nat.{ℕ, zero, suc, _<_}
+use mathlib.Core.Path.{_≡_}
+use native.Mathlib.Decide.{decLt}
+use native.Mathlib.Omega.{arith}
+
+pub below-three : (P : ℕ → Type 0) → P 0 → P 1 → P 2 → (i : ℕ) → i < 3 → P i
+below-three P a b c zero h = a
+below-three P a b c (suc zero) h = b
+below-three P a b c (suc (suc zero)) h = c
+below-three P a b c (suc (suc (suc i))) h = absurd (omega arith)
+
+pub trichotomy : {T : Type 0} (a b : ℕ) → (a < b → T) → (b < a → T) → (a ≡ b → T) → T
+trichotomy a b l g e = elim (decLt a b) [ yes h ↦ l h | no h ↦ elim (decLt b a) [ yes k ↦ g k | no k ↦ e (omega arith) ] ]
+
+pub rising-once : (f : ℕ → ℕ) (n : ℕ) → ((i j : ℕ) → i < j → j < n → f i < f j) → (i j : ℕ) → i < n → j < n → f i ≡ f j → i ≡ j
+rising-once f n rises i j li lj e =
+    trichotomy i j (λ h. absurd (omega (arith, rises i j h lj))) (λ h. absurd (omega (arith, rises j i h li))) (λ h. h)
