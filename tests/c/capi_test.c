@@ -8,6 +8,9 @@
 #include <string.h>
 
 #define ROOM 8
+/* answer areas just long enough, and too short by one */
+#define ENOUGH CITTERNBLAZE_ANSWER_WORDS
+#define SHORT (CITTERNBLAZE_ANSWER_WORDS - 1)
 #define UNTOUCHED UINT64_C(0xa5a5a5a5a5a5a5a5)
 
 static uint64_t answer[ROOM];
@@ -46,9 +49,9 @@ static void test_face(void) {
   face("face 0 255 255, edge 2, index 0", 0, 255, 255, 2, 0, ROOM);
   face("face 255 0 0, edge 4294967295, index 4294967295", 255, 0, 0, UINT32_MAX,
        UINT32_MAX, ROOM);
-  face("face 5 1 1, edge 0, index 2, area of 3", 5, 1, 1, 0, 2, 3);
-  face("face 5 1 1, edge 0, index 2, area of 2", 5, 1, 1, 0, 2, 2);
-  face("face 5 1 1, edge 0, index 2, area of 0", 5, 1, 1, 0, 2, 0);
+  face("face 5 1 1, edge 0, index 2, answer area of 6", 5, 1, 1, 0, 2, ENOUGH);
+  face("face 5 1 1, edge 0, index 2, answer area of 5", 5, 1, 1, 0, 2, SHORT);
+  face("face 5 1 1, edge 0, index 2, answer area of 0", 5, 1, 1, 0, 2, 0);
 }
 
 static const uint16_t cells[] = {0, 1, 2, 3, 0, 1, 2, 4};
@@ -70,9 +73,9 @@ static void test_check(void) {
   check("check 8 edges", 8, 16, 8, ROOM);
   check("check 7 edges", 8, 14, 7, ROOM);
   check("check 1 cell", 4, 18, 9, ROOM);
-  check("check 2 cells, area of 2", 8, 18, 9, 2);
-  check("check 2 cells, area of 1", 8, 18, 9, 1);
-  check("check 2 cells, area of 0", 8, 18, 9, 0);
+  check("check 2 cells, answer area of 6", 8, 18, 9, ENOUGH);
+  check("check 2 cells, answer area of 5", 8, 18, 9, SHORT);
+  check("check 2 cells, answer area of 0", 8, 18, 9, 0);
 }
 
 #define WORDS 24
@@ -111,8 +114,9 @@ static void test_mesh(void) {
   mesh("mesh, area of 0", twice, 8, 0, ROOM);
   mesh("mesh of 5 numbers", twice, 5, WORDS, ROOM);
   mesh("mesh of 1 cell", twice, 4, WORDS, ROOM);
-  mesh("mesh, answer area of 2", twice, 8, WORDS, 2);
-  mesh("mesh, answer area of 1", twice, 8, WORDS, 1);
+  mesh("mesh, answer area of 6", twice, 8, WORDS, ENOUGH);
+  mesh("mesh, answer area of 5", twice, 8, WORDS, SHORT);
+  mesh("mesh, answer area of 0", twice, 8, WORDS, 0);
 }
 
 /* Loop `index` of cell `cell` of cells 0 1 2 3 and 0 1 2 4 with these counts. */
@@ -140,9 +144,9 @@ static void test_loops(void) {
   loop("loop 0 of cell 2 of 2", corner, 8, 2, 0, ROOM);
   loop("loop 0 of the highest cell", corner, 8, SIZE_MAX, 0, ROOM);
   loop("loop 0 of cell 2 of 5 numbers", corner, 5, 2, 0, ROOM);
-  loop("loop 0 of cell 0, area of 6", corner, 8, 0, 0, 6);
-  loop("loop 0 of cell 0, area of 5", corner, 8, 0, 0, 5);
-  loop("loop 0 of cell 2 of 2, area of 1", corner, 8, 2, 0, 1);
+  loop("loop 0 of cell 0, answer area of 6", corner, 8, 0, 0, ENOUGH);
+  loop("loop 0 of cell 0, answer area of 5", corner, 8, 0, 0, SHORT);
+  loop("loop 0 of cell 2 of 2, answer area of 5", corner, 8, 2, 0, SHORT);
 }
 
 #define NUMBERS 14
@@ -189,7 +193,8 @@ static void test_places(void) {
   place("places, a fraction too many", 2, quarters, 3, 15, NUMBERS, ROOM);
   place("places, equal fractions", 2, equal, 2, 15, NUMBERS, ROOM);
   place("places, a fraction of 1", 2, ends, 2, 15, NUMBERS, ROOM);
-  place("places, answer area of 1", 2, quarters, 2, 15, NUMBERS, 1);
+  place("places, answer area of 6", 2, quarters, 2, 15, NUMBERS, ENOUGH);
+  place("places, answer area of 5", 2, quarters, 2, 15, NUMBERS, SHORT);
 }
 
 /* A cell, an edge and an end. */
@@ -215,7 +220,8 @@ static void test_record(void) {
   record("record at the highest start", sizeof bundle, SIZE_MAX, ROOM);
   record("record at 0 of 11", 11, 0, ROOM);
   record("record at 0 of 0", 0, 0, ROOM);
-  record("record at 0, area of 1", sizeof bundle, 0, 1);
+  record("record at 0, answer area of 6", sizeof bundle, 0, ENOUGH);
+  record("record at 0, answer area of 5", sizeof bundle, 0, SHORT);
 }
 
 static void read_bundle(const char *call, size_t bytes_len, size_t nodes_len,
@@ -249,7 +255,8 @@ static void test_bundle_read(void) {
   read_bundle("read a bundle cut to 24", 24, 6, 4, 3, ROOM);
   read_bundle("read a bundle cut to 21", 21, 6, 4, 3, ROOM);
   read_bundle("read nothing", 0, 6, 4, 3, ROOM);
-  read_bundle("read, area of 2", sizeof bundle, 6, 4, 3, 2);
+  read_bundle("read, answer area of 6", sizeof bundle, 6, 4, 3, ENOUGH);
+  read_bundle("read, answer area of 5", sizeof bundle, 6, 4, 3, SHORT);
 }
 
 static void write_bundle(const char *call, size_t nodes_len, size_t ends_len,
@@ -274,7 +281,8 @@ static void test_bundle_write(void) {
   write_bundle("write 5 nodes", 5, 2, 1, 28, ROOM);
   write_bundle("write 3 ends", 4, 3, 1, 28, ROOM);
   write_bundle("write 2 ends, 2 counts", 4, 2, 2, 28, ROOM);
-  write_bundle("write, area of 1", 4, 2, 1, 28, 1);
+  write_bundle("write, answer area of 6", 4, 2, 1, 28, ENOUGH);
+  write_bundle("write, answer area of 5", 4, 2, 1, 28, SHORT);
 }
 
 /* Every list and every area as (NULL, 0). */
