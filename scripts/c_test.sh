@@ -15,4 +15,8 @@ names() { grep -oE 'citternblaze_[a-z_]+\(' "$1" | tr -d '(' | sort -u; }
 diff <(nm -g --defined-only "$library" | awk '$2 == "T" { print $3 }' | sort) <(names include/citternblaze.h)
 diff <(names include/citternblaze.h) <(names tests/c/capi_test.c)
 
+# every refusal of the header has an example
+diff <(grep -oE 'REFUSED_[A-Z_]+' include/citternblaze.h | sort -u) \
+  <(grep -oE '^  REFUSAL\([A-Z_]+' tests/c/capi_test.c | sed 's/.*(/REFUSED_/' | sort -u)
+
 echo "C program: as expected, $(names include/citternblaze.h | wc -l) functions called"

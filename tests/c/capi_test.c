@@ -285,6 +285,104 @@ static void test_bundle_write(void) {
   write_bundle("write, answer area of 5", 4, 2, 1, 28, SHORT);
 }
 
+/* A refusal of docs/FORMAT.md: its name and number in the header, and what an
+ * example of it answers. */
+static void refusal(const char *name, uint64_t number, size_t many) {
+  printf("%s %" PRIu64 "%s, ", name, number,
+         answer[0] == number ? "" : " IS NOT ANSWERED");
+  show("example", many);
+}
+
+#define REFUSAL(NAME, call) refusal(#NAME, CITTERNBLAZE_REFUSED_##NAME, call)
+
+/* The grid check of cells_len nodes, edges_len ends and edges_len / 2 counts of
+ * 0. */
+static size_t check_of(const uint16_t *of_cells, size_t cells_len,
+                       const uint16_t *of_edges, size_t edges_len) {
+  static const uint8_t zeros[11] = {0};
+  return citternblaze_check(of_cells, cells_len, of_edges, edges_len, zeros,
+                            edges_len / 2, answer, ROOM);
+}
+
+#define CHECK(of_cells, of_edges)                                              \
+  check_of(of_cells, sizeof of_cells / sizeof *of_cells, of_edges,             \
+           sizeof of_edges / sizeof *of_edges)
+
+#define FULL 43
+
+/* So many cells that share no node, with their edges; every count is 255. */
+static size_t check_full(void) {
+  static const int ends[12] = {0, 1, 0, 2, 0, 3, 1, 2, 1, 3, 2, 3};
+  static uint16_t many_cells[4 * FULL], many_edges[12 * FULL];
+  static uint8_t many_counts[6 * FULL];
+  for (int i = 0; i < 4 * FULL; i++)
+    many_cells[i] = (uint16_t)i;
+  for (int i = 0; i < 12 * FULL; i++)
+    many_edges[i] = (uint16_t)(i / 12 * 4 + ends[i % 12]);
+  memset(many_counts, 255, sizeof many_counts);
+  return citternblaze_check(many_cells, 4 * FULL, many_edges, 12 * FULL,
+                            many_counts, 6 * FULL, answer, ROOM);
+}
+
+static void test_grid_refusals(void) {
+  static const uint16_t one[] = {0, 1, 2, 3}, five[] = {0, 1, 2, 3, 4};
+  static const uint16_t falls[] = {0, 2, 1, 3};
+  static const uint16_t again[] = {0, 1, 2, 3, 0, 1, 2, 3};
+  static const uint16_t three[] = {0, 1, 2, 3, 0, 1, 2, 4, 0, 1, 2, 5};
+  static const uint16_t apart[] = {0, 1, 2, 3, 0, 1, 4, 5};
+  static const uint16_t six[] = {0, 1, 0, 2, 0, 3, 1, 2, 1, 3, 2, 3};
+  static const uint16_t without[] = {0, 1, 0, 2, 0, 3, 1, 2, 1, 3};
+  static const uint16_t added[] = {0, 1, 0, 2, 0, 3, 1, 2, 1, 3, 2, 3, 7, 8};
+  static const uint16_t odd[] = {0, 1, 0}, equal[] = {1, 1};
+  static const uint16_t swapped[] = {0, 2, 0, 1, 0, 3, 1, 2, 1, 3, 2, 3};
+  static const uint16_t of_apart[] = {0, 1, 0, 2, 0, 3, 0, 4, 0, 5, 1,
+                                      2, 1, 3, 1, 4, 1, 5, 2, 3, 4, 5};
+  REFUSAL(CELL_LIST, CHECK(five, six));
+  REFUSAL(EDGE_LIST, CHECK(one, odd));
+  REFUSAL(CELL_NODES, CHECK(falls, six));
+  REFUSAL(CELL_REPEATED, CHECK(again, six));
+  REFUSAL(FACE_CROWDED, CHECK(three, six));
+  REFUSAL(EDGE_ORDER, CHECK(one, equal));
+  REFUSAL(EDGE_ORDER, CHECK(one, swapped));
+  REFUSAL(EDGE_MISSING, CHECK(one, without));
+  REFUSAL(EDGE_STRAY, CHECK(one, added));
+  REFUSAL(EDGE_UNLINKED, CHECK(apart, of_apart));
+  REFUSAL(CROSSINGS, check_full());
+}
+
+static void test_other_refusals(void) {
+  static const uint16_t six[] = {0, 1, 0, 2, 0, 3, 1, 2, 1, 3, 2, 3};
+  static const uint8_t corner[6] = {1, 1, 1}, twice[6] = {2};
+  static const double halves[2] = {0.5, 0.5};
+  double nodes[12] = {0, 0, 0, 8, 0, 0, 0, 8, 0, 0, 0, 8}, points[9];
+  uint8_t bytes[70];
+  uint16_t lists[12];
+  uint32_t words[11];
+  REFUSAL(NO_CELL, citternblaze_loops(cells, 4, six, 12, corner, 6, 1, 0, answer,
+                                      ROOM));
+  REFUSAL(MESH_AREA, citternblaze_mesh(cells, 4, six, 12, corner, 6, words, 10,
+                                       answer, ROOM));
+  show("write", citternblaze_bundle_write(cells, 4, six, 12, twice, 6, bytes, 70,
+                                          answer, ROOM));
+  REFUSAL(RECORDS, citternblaze_bundle_read(bytes, 69, lists, 4, NULL, 0, NULL,
+                                            0, answer, ROOM));
+  REFUSAL(BUNDLE_AREA, citternblaze_bundle_read(bytes, 70, lists, 3, NULL, 0,
+                                                NULL, 0, answer, ROOM));
+  REFUSAL(BUNDLE_AREA, citternblaze_bundle_write(cells, 4, six, 12, twice, 6,
+                                                 bytes, 69, answer, ROOM));
+  REFUSAL(PLACE_LISTS,
+          citternblaze_places(cells, 4, six, 12, twice, 6, nodes, 12, halves, 1,
+                              points, 9, answer, ROOM));
+  nodes[4] = nodes[0] / nodes[0];
+  REFUSAL(NODE_PLACE,
+          citternblaze_places(cells, 4, six, 12, twice, 6, nodes, 12, halves, 2,
+                              points, 9, answer, ROOM));
+  nodes[4] = 0;
+  REFUSAL(FRACTION,
+          citternblaze_places(cells, 4, six, 12, twice, 6, nodes, 12, halves, 2,
+                              points, 9, answer, ROOM));
+}
+
 /* Every list and every area as (NULL, 0). */
 static void test_null(void) {
   uint8_t area[4];
@@ -347,6 +445,8 @@ int main(void) {
   test_record();
   test_bundle_read();
   test_bundle_write();
+  test_grid_refusals();
+  test_other_refusals();
   test_null();
   return 0;
 }
