@@ -29,7 +29,8 @@ use places::Placed;
 // The words that hold any answer: CITTERNBLAZE_ANSWER_WORDS of the header.
 const ANSWER_WORDS: usize = 6;
 
-// Puts the numbers of an answer at the front of the area, and returns how many they are.
+// Puts the numbers of an answer at the front of the area, and returns how many they are. The calls that write to other areas too ask for the
+// room before they do.
 fn put(answer: &mut [u64], numbers: &[u64]) -> usize
     requires { ⌜ length (now numbers) ≤ answerWords ⌝ }
     ensures { λ r. ⌜ Answers (now (numbers .entry)) (now (answer .entry)) (now (answer .exit)) r ⌝ }
