@@ -1,22 +1,107 @@
 /* Citternblaze: a tetrahedral mesher whose every call is proved. The calls are
- * in libcapi.a (`rt staticlib capi`).
+ * in libcapi.a (`rt staticlib capi`). docs/FORMAT.md says what a grid, a mesh, a
+ * bundle and each refusal are; examples/ has a program.
  *
- * A list or an area is a pointer and the number of its elements. The caller
- * lends it for the length of the call: no call keeps a pointer, reads or writes
- * the caller's memory outside of what it is lent, or uses the heap. The pointer
- * may be NULL where the number of elements is 0; otherwise it must be aligned for
- * its elements. An area that a call writes must overlap nothing else that is lent
- * to that call.
+ * Lists and areas. A list or an area is a pointer and the number of its
+ * elements. The caller lends it for the length of the call: no call keeps a
+ * pointer, reads or writes the caller's memory outside of what it is lent, or
+ * uses the heap. The pointer may be NULL where the number of elements is 0;
+ * otherwise it must be aligned for its elements. An area that a call writes must
+ * overlap nothing else that is lent to that call.
  *
- * Every call has an area `answer` for the numbers of its answer. It puts them at
- * the front of the area, keeps what stands behind them, and returns how many
- * they are. An area that is too short for all of them keeps every value, and the
- * call returns how many they are all the same. */
+ * Answers. Every call has an area `answer` for the numbers of its answer. It must
+ * have CITTERNBLAZE_ANSWER_WORDS elements or more:
+ * - With them, the call puts its numbers at the front of the area, keeps what
+ *   stands behind them, and returns how many they are: at most
+ *   CITTERNBLAZE_ANSWER_WORDS.
+ * - With fewer, the call changes nothing at all, in no area or list that it is
+ *   lent, and returns CITTERNBLAZE_ANSWER_WORDS.
+ * So a call that returns more than answer_len did nothing. In a call's text below
+ * "answers" means the numbers that it puts.
+ *
+ * What the calls need:
+ * - A processor of the kind x86-64, with no extension beyond SSE2, and the
+ *   System V calling convention, as Linux has it.
+ * - Two functions of C: memcpy and memset.
+ * - Stack: CITTERNBLAZE_STACK_BYTES suffice for any call. The four calls on a
+ *   grid take 264 to 380 KB, as measured, each other call under 1 KB.
+ * - For citternblaze_places, 64-bit floating point as a C program finds it at its
+ *   start: rounding to nearest, subnormal numbers on (no flush to zero), no
+ *   exception trapped. The other calls do not compute with it.
+ * - Nothing of threads: there is no state between calls, and any number of
+ *   threads may call at once, where no area that one of them writes is lent to
+ *   another. */
 #ifndef CITTERNBLAZE_H
 #define CITTERNBLAZE_H
 
 #include <stddef.h>
 #include <stdint.h>
+
+/* The elements that an answer area must have; no answer has more numbers. */
+#define CITTERNBLAZE_ANSWER_WORDS 6
+
+/* The bytes of stack that suffice for any call. */
+#define CITTERNBLAZE_STACK_BYTES (640 * 1024)
+
+/* What an accepted grid has at most. */
+#define CITTERNBLAZE_MOST_CELLS 2048
+#define CITTERNBLAZE_MOST_EDGES 12288
+#define CITTERNBLAZE_HIGHEST_NODE 4095
+#define CITTERNBLAZE_MOST_CROSSINGS 65535
+
+/* The first number of an answer that is a result, of every call but
+ * citternblaze_face and citternblaze_record_body; any other is a refusal. */
+#define CITTERNBLAZE_DONE 0
+
+/* The first number of citternblaze_face's answer. */
+#define CITTERNBLAZE_JOINED 0
+#define CITTERNBLAZE_UNJOINED 1
+#define CITTERNBLAZE_NO_CROSSING 2
+
+/* The words of a triangle: how many they are, and where each stands. A side has
+ * two words, and corner 0 is the start of side 0. */
+#define CITTERNBLAZE_TRIANGLE_WORDS 11
+#define CITTERNBLAZE_TRIANGLE_CELL 0
+#define CITTERNBLAZE_TRIANGLE_P0 1
+#define CITTERNBLAZE_TRIANGLE_CORNERS 2
+#define CITTERNBLAZE_TRIANGLE_SIDES 5
+
+/* The word of a corner that is its loop's middle, and the first word of a side
+ * that is an inner side. */
+#define CITTERNBLAZE_MIDDLE 4294967295u
+#define CITTERNBLAZE_INNER 4294967295u
+
+/* The types of a loop: contractible; corner, at a node that is not the cell's
+ * lowest; diagonal; corner, at the cell's lowest node. */
+#define CITTERNBLAZE_CONTRACTIBLE 0
+#define CITTERNBLAZE_CORNER 1
+#define CITTERNBLAZE_DIAGONAL 2
+#define CITTERNBLAZE_LOWEST_CORNER 3
+
+/* The kinds of a record. */
+#define CITTERNBLAZE_KIND_CELL 1
+#define CITTERNBLAZE_KIND_EDGE 2
+#define CITTERNBLAZE_KIND_END 3
+
+/* The refusals: the first number of an answer that is not a result. The second is
+ * the refusal's place, as docs/FORMAT.md has it. */
+#define CITTERNBLAZE_REFUSED_CELL_LIST 1     /* cells: length or number */
+#define CITTERNBLAZE_REFUSED_EDGE_LIST 2     /* edges: length */
+#define CITTERNBLAZE_REFUSED_CELL_NODES 3    /* a cell's nodes */
+#define CITTERNBLAZE_REFUSED_CELL_REPEATED 4 /* a cell twice */
+#define CITTERNBLAZE_REFUSED_FACE_CROWDED 5  /* a face in three cells */
+#define CITTERNBLAZE_REFUSED_EDGE_ORDER 6    /* edges: order */
+#define CITTERNBLAZE_REFUSED_EDGE_MISSING 7  /* a cell's edge not listed */
+#define CITTERNBLAZE_REFUSED_EDGE_STRAY 8    /* an edge in no cell */
+#define CITTERNBLAZE_REFUSED_EDGE_UNLINKED 9 /* cells of an edge not linked */
+#define CITTERNBLAZE_REFUSED_CROSSINGS 10    /* too many crossings */
+#define CITTERNBLAZE_REFUSED_NO_CELL 11      /* no such cell */
+#define CITTERNBLAZE_REFUSED_MESH_AREA 12    /* area too short for the mesh */
+#define CITTERNBLAZE_REFUSED_RECORDS 13      /* not the records of a bundle */
+#define CITTERNBLAZE_REFUSED_BUNDLE_AREA 14  /* lists or area too short */
+#define CITTERNBLAZE_REFUSED_PLACE_LISTS 15  /* places: lengths */
+#define CITTERNBLAZE_REFUSED_NODE_PLACE 16   /* a number of a node's place */
+#define CITTERNBLAZE_REFUSED_FRACTION 17     /* a fraction */
 
 #ifdef __cplusplus
 extern "C" {

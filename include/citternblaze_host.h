@@ -1,7 +1,11 @@
-/* What a C program can ask about the bytes of a bundle: the crate `host`, built by `rt staticlib host` into libhost.a.
+/* What a C program can ask about the bytes of a bundle: the crate `host`, built by `rt staticlib host` into libhost.a. docs/FORMAT.md says what a
+ * bundle is. The calls that read and write bundles and mesh grids are in citternblaze.h.
  *
  * Each function takes the bytes and their number. It reads nothing outside of them, writes nothing that is the caller's, and keeps no pointer.
  * `bytes` may be NULL where `length` is 0. An input may have any length. A call goes over the records once.
+ *
+ * The functions need a processor of the kind x86-64 and the System V calling convention, as Linux has it; under 1 KB of stack; no function of C.
+ * There is no state between calls: any number of threads may call at once.
  */
 #ifndef CITTERNBLAZE_HOST_H
 #define CITTERNBLAZE_HOST_H

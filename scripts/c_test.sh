@@ -15,4 +15,15 @@ names() { grep -oE 'citternblaze_[a-z_]+\(' "$1" | tr -d '(' | sort -u; }
 diff <(nm -g --defined-only "$library" | awk '$2 == "T" { print $3 }' | sort) <(names include/citternblaze.h)
 diff <(names include/citternblaze.h) <(names tests/c/capi_test.c)
 
+# what the header says that they need: two functions of C, and no memory of their own that is written
+diff <(nm -u "$library" | awk '$1 == "U" { print $2 }' | sort -u) <(printf 'memcpy\nmemset\n')
+if nm "$library" | grep -E ' [BbDdCSs] '; then
+  echo "c_test: the library has memory of its own" >&2
+  exit 1
+fi
+
+# every refusal of the header has an example
+diff <(grep -oE 'REFUSED_[A-Z_]+' include/citternblaze.h | sort -u) \
+  <(grep -oE '^  REFUSAL\([A-Z_]+' tests/c/capi_test.c | sed 's/.*(/REFUSED_/' | sort -u)
+
 echo "C program: as expected, $(names include/citternblaze.h | wc -l) functions called"

@@ -1,9 +1,10 @@
 #!/usr/bin/env bash
-# Installs what the gate needs beyond the Rattle kit, where it is missing: a C compiler and Rust, from Debian's packages.
+# Installs what the gate needs beyond the Rattle kit, where it is missing: compilers for C and C++, and Rust, from Debian's packages.
 set -euo pipefail
 
 missing=()
 command -v cc >/dev/null 2>&1 || missing+=(gcc libc6-dev)
+command -v c++ >/dev/null 2>&1 || missing+=(g++)
 command -v cargo >/dev/null 2>&1 || missing+=(cargo rustc)
 [ "${#missing[@]}" -eq 0 ] && exit 0
 

@@ -8,6 +8,9 @@
 #include <string.h>
 
 #define ROOM 8
+/* answer areas just long enough, and too short by one */
+#define ENOUGH CITTERNBLAZE_ANSWER_WORDS
+#define SHORT (CITTERNBLAZE_ANSWER_WORDS - 1)
 #define UNTOUCHED UINT64_C(0xa5a5a5a5a5a5a5a5)
 
 static uint64_t answer[ROOM];
@@ -46,9 +49,9 @@ static void test_face(void) {
   face("face 0 255 255, edge 2, index 0", 0, 255, 255, 2, 0, ROOM);
   face("face 255 0 0, edge 4294967295, index 4294967295", 255, 0, 0, UINT32_MAX,
        UINT32_MAX, ROOM);
-  face("face 5 1 1, edge 0, index 2, area of 3", 5, 1, 1, 0, 2, 3);
-  face("face 5 1 1, edge 0, index 2, area of 2", 5, 1, 1, 0, 2, 2);
-  face("face 5 1 1, edge 0, index 2, area of 0", 5, 1, 1, 0, 2, 0);
+  face("face 5 1 1, edge 0, index 2, answer area of 6", 5, 1, 1, 0, 2, ENOUGH);
+  face("face 5 1 1, edge 0, index 2, answer area of 5", 5, 1, 1, 0, 2, SHORT);
+  face("face 5 1 1, edge 0, index 2, answer area of 0", 5, 1, 1, 0, 2, 0);
 }
 
 static const uint16_t cells[] = {0, 1, 2, 3, 0, 1, 2, 4};
@@ -70,9 +73,9 @@ static void test_check(void) {
   check("check 8 edges", 8, 16, 8, ROOM);
   check("check 7 edges", 8, 14, 7, ROOM);
   check("check 1 cell", 4, 18, 9, ROOM);
-  check("check 2 cells, area of 2", 8, 18, 9, 2);
-  check("check 2 cells, area of 1", 8, 18, 9, 1);
-  check("check 2 cells, area of 0", 8, 18, 9, 0);
+  check("check 2 cells, answer area of 6", 8, 18, 9, ENOUGH);
+  check("check 2 cells, answer area of 5", 8, 18, 9, SHORT);
+  check("check 2 cells, answer area of 0", 8, 18, 9, 0);
 }
 
 #define WORDS 24
@@ -111,8 +114,9 @@ static void test_mesh(void) {
   mesh("mesh, area of 0", twice, 8, 0, ROOM);
   mesh("mesh of 5 numbers", twice, 5, WORDS, ROOM);
   mesh("mesh of 1 cell", twice, 4, WORDS, ROOM);
-  mesh("mesh, answer area of 2", twice, 8, WORDS, 2);
-  mesh("mesh, answer area of 1", twice, 8, WORDS, 1);
+  mesh("mesh, answer area of 6", twice, 8, WORDS, ENOUGH);
+  mesh("mesh, answer area of 5", twice, 8, WORDS, SHORT);
+  mesh("mesh, answer area of 0", twice, 8, WORDS, 0);
 }
 
 /* Loop `index` of cell `cell` of cells 0 1 2 3 and 0 1 2 4 with these counts. */
@@ -140,9 +144,9 @@ static void test_loops(void) {
   loop("loop 0 of cell 2 of 2", corner, 8, 2, 0, ROOM);
   loop("loop 0 of the highest cell", corner, 8, SIZE_MAX, 0, ROOM);
   loop("loop 0 of cell 2 of 5 numbers", corner, 5, 2, 0, ROOM);
-  loop("loop 0 of cell 0, area of 6", corner, 8, 0, 0, 6);
-  loop("loop 0 of cell 0, area of 5", corner, 8, 0, 0, 5);
-  loop("loop 0 of cell 2 of 2, area of 1", corner, 8, 2, 0, 1);
+  loop("loop 0 of cell 0, answer area of 6", corner, 8, 0, 0, ENOUGH);
+  loop("loop 0 of cell 0, answer area of 5", corner, 8, 0, 0, SHORT);
+  loop("loop 0 of cell 2 of 2, answer area of 5", corner, 8, 2, 0, SHORT);
 }
 
 #define NUMBERS 14
@@ -189,7 +193,8 @@ static void test_places(void) {
   place("places, a fraction too many", 2, quarters, 3, 15, NUMBERS, ROOM);
   place("places, equal fractions", 2, equal, 2, 15, NUMBERS, ROOM);
   place("places, a fraction of 1", 2, ends, 2, 15, NUMBERS, ROOM);
-  place("places, answer area of 1", 2, quarters, 2, 15, NUMBERS, 1);
+  place("places, answer area of 6", 2, quarters, 2, 15, NUMBERS, ENOUGH);
+  place("places, answer area of 5", 2, quarters, 2, 15, NUMBERS, SHORT);
 }
 
 /* A cell, an edge and an end. */
@@ -215,7 +220,8 @@ static void test_record(void) {
   record("record at the highest start", sizeof bundle, SIZE_MAX, ROOM);
   record("record at 0 of 11", 11, 0, ROOM);
   record("record at 0 of 0", 0, 0, ROOM);
-  record("record at 0, area of 1", sizeof bundle, 0, 1);
+  record("record at 0, answer area of 6", sizeof bundle, 0, ENOUGH);
+  record("record at 0, answer area of 5", sizeof bundle, 0, SHORT);
 }
 
 static void read_bundle(const char *call, size_t bytes_len, size_t nodes_len,
@@ -249,7 +255,8 @@ static void test_bundle_read(void) {
   read_bundle("read a bundle cut to 24", 24, 6, 4, 3, ROOM);
   read_bundle("read a bundle cut to 21", 21, 6, 4, 3, ROOM);
   read_bundle("read nothing", 0, 6, 4, 3, ROOM);
-  read_bundle("read, area of 2", sizeof bundle, 6, 4, 3, 2);
+  read_bundle("read, answer area of 6", sizeof bundle, 6, 4, 3, ENOUGH);
+  read_bundle("read, answer area of 5", sizeof bundle, 6, 4, 3, SHORT);
 }
 
 static void write_bundle(const char *call, size_t nodes_len, size_t ends_len,
@@ -274,7 +281,106 @@ static void test_bundle_write(void) {
   write_bundle("write 5 nodes", 5, 2, 1, 28, ROOM);
   write_bundle("write 3 ends", 4, 3, 1, 28, ROOM);
   write_bundle("write 2 ends, 2 counts", 4, 2, 2, 28, ROOM);
-  write_bundle("write, area of 1", 4, 2, 1, 28, 1);
+  write_bundle("write, answer area of 6", 4, 2, 1, 28, ENOUGH);
+  write_bundle("write, answer area of 5", 4, 2, 1, 28, SHORT);
+}
+
+/* A refusal of docs/FORMAT.md: its name and number in the header, and what an
+ * example of it answers. */
+static void refusal(const char *name, uint64_t number, size_t many) {
+  printf("%s %" PRIu64 "%s, ", name, number,
+         answer[0] == number ? "" : " IS NOT ANSWERED");
+  show("example", many);
+}
+
+#define REFUSAL(NAME, call) refusal(#NAME, CITTERNBLAZE_REFUSED_##NAME, call)
+
+/* The grid check of cells_len nodes, edges_len ends and edges_len / 2 counts of
+ * 0. */
+static size_t check_of(const uint16_t *of_cells, size_t cells_len,
+                       const uint16_t *of_edges, size_t edges_len) {
+  static const uint8_t zeros[11] = {0};
+  return citternblaze_check(of_cells, cells_len, of_edges, edges_len, zeros,
+                            edges_len / 2, answer, ROOM);
+}
+
+#define CHECK(of_cells, of_edges)                                              \
+  check_of(of_cells, sizeof of_cells / sizeof *of_cells, of_edges,             \
+           sizeof of_edges / sizeof *of_edges)
+
+#define FULL 43
+
+/* So many cells that share no node, with their edges; every count is 255. */
+static size_t check_full(void) {
+  static const int ends[12] = {0, 1, 0, 2, 0, 3, 1, 2, 1, 3, 2, 3};
+  static uint16_t many_cells[4 * FULL], many_edges[12 * FULL];
+  static uint8_t many_counts[6 * FULL];
+  for (int i = 0; i < 4 * FULL; i++)
+    many_cells[i] = (uint16_t)i;
+  for (int i = 0; i < 12 * FULL; i++)
+    many_edges[i] = (uint16_t)(i / 12 * 4 + ends[i % 12]);
+  memset(many_counts, 255, sizeof many_counts);
+  return citternblaze_check(many_cells, 4 * FULL, many_edges, 12 * FULL,
+                            many_counts, 6 * FULL, answer, ROOM);
+}
+
+static void test_grid_refusals(void) {
+  static const uint16_t one[] = {0, 1, 2, 3}, five[] = {0, 1, 2, 3, 4};
+  static const uint16_t falls[] = {0, 2, 1, 3};
+  static const uint16_t again[] = {0, 1, 2, 3, 0, 1, 2, 3};
+  static const uint16_t three[] = {0, 1, 2, 3, 0, 1, 2, 4, 0, 1, 2, 5};
+  static const uint16_t apart[] = {0, 1, 2, 3, 0, 1, 4, 5};
+  static const uint16_t six[] = {0, 1, 0, 2, 0, 3, 1, 2, 1, 3, 2, 3};
+  static const uint16_t without[] = {0, 1, 0, 2, 0, 3, 1, 2, 1, 3};
+  static const uint16_t added[] = {0, 1, 0, 2, 0, 3, 1, 2, 1, 3, 2, 3, 7, 8};
+  static const uint16_t odd[] = {0, 1, 0}, equal[] = {1, 1};
+  static const uint16_t swapped[] = {0, 2, 0, 1, 0, 3, 1, 2, 1, 3, 2, 3};
+  static const uint16_t of_apart[] = {0, 1, 0, 2, 0, 3, 0, 4, 0, 5, 1,
+                                      2, 1, 3, 1, 4, 1, 5, 2, 3, 4, 5};
+  REFUSAL(CELL_LIST, CHECK(five, six));
+  REFUSAL(EDGE_LIST, CHECK(one, odd));
+  REFUSAL(CELL_NODES, CHECK(falls, six));
+  REFUSAL(CELL_REPEATED, CHECK(again, six));
+  REFUSAL(FACE_CROWDED, CHECK(three, six));
+  REFUSAL(EDGE_ORDER, CHECK(one, equal));
+  REFUSAL(EDGE_ORDER, CHECK(one, swapped));
+  REFUSAL(EDGE_MISSING, CHECK(one, without));
+  REFUSAL(EDGE_STRAY, CHECK(one, added));
+  REFUSAL(EDGE_UNLINKED, CHECK(apart, of_apart));
+  REFUSAL(CROSSINGS, check_full());
+}
+
+static void test_other_refusals(void) {
+  static const uint16_t six[] = {0, 1, 0, 2, 0, 3, 1, 2, 1, 3, 2, 3};
+  static const uint8_t corner[6] = {1, 1, 1}, twice[6] = {2};
+  static const double halves[2] = {0.5, 0.5};
+  double nodes[12] = {0, 0, 0, 8, 0, 0, 0, 8, 0, 0, 0, 8}, points[9];
+  uint8_t bytes[70];
+  uint16_t lists[12];
+  uint32_t words[11];
+  REFUSAL(NO_CELL, citternblaze_loops(cells, 4, six, 12, corner, 6, 1, 0, answer,
+                                      ROOM));
+  REFUSAL(MESH_AREA, citternblaze_mesh(cells, 4, six, 12, corner, 6, words, 10,
+                                       answer, ROOM));
+  show("write", citternblaze_bundle_write(cells, 4, six, 12, twice, 6, bytes, 70,
+                                          answer, ROOM));
+  REFUSAL(RECORDS, citternblaze_bundle_read(bytes, 69, lists, 4, NULL, 0, NULL,
+                                            0, answer, ROOM));
+  REFUSAL(BUNDLE_AREA, citternblaze_bundle_read(bytes, 70, lists, 3, NULL, 0,
+                                                NULL, 0, answer, ROOM));
+  REFUSAL(BUNDLE_AREA, citternblaze_bundle_write(cells, 4, six, 12, twice, 6,
+                                                 bytes, 69, answer, ROOM));
+  REFUSAL(PLACE_LISTS,
+          citternblaze_places(cells, 4, six, 12, twice, 6, nodes, 12, halves, 1,
+                              points, 9, answer, ROOM));
+  nodes[4] = nodes[0] / nodes[0];
+  REFUSAL(NODE_PLACE,
+          citternblaze_places(cells, 4, six, 12, twice, 6, nodes, 12, halves, 2,
+                              points, 9, answer, ROOM));
+  nodes[4] = 0;
+  REFUSAL(FRACTION,
+          citternblaze_places(cells, 4, six, 12, twice, 6, nodes, 12, halves, 2,
+                              points, 9, answer, ROOM));
 }
 
 /* Every list and every area as (NULL, 0). */
@@ -339,6 +445,8 @@ int main(void) {
   test_record();
   test_bundle_read();
   test_bundle_write();
+  test_grid_refusals();
+  test_other_refusals();
   test_null();
   return 0;
 }

@@ -14,6 +14,11 @@ if [ ! -s "$library" ]; then
     echo "run_host: $library is missing" >&2
     exit 1
 fi
+# as the header says, no function of C is needed
+if nm -u "$library" | grep ' U '; then
+    echo "run_host: the library needs a function" >&2
+    exit 1
+fi
 work=$(mktemp -d)
 trap 'rm -rf "$work"' EXIT
 "$cc" -std=c11 -Wall -Wextra -Werror -O2 -I include -o "$work/host_test" tests/c/host_test.c "$library"

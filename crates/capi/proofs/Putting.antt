@@ -7,17 +7,27 @@ use native.Mathlib.Omega.{arith}
 use lib.ListN.{length, drop, getD, set, length-set, drop-of-length-le}
 use lib.Seq.{sets, drop-cons}
 use borrow.Author.Tests.{le-leb, lt-leb}
-use Rattle.capi.specs.Written.{written}
+use Rattle.capi.specs.Written.{answerWords, ifRoom, Answers}
 
--- an area that is too short is left as it was
-pub written-short : (area numbers : List ℕ) → length area < length numbers → area ≡ written area numbers
-unfolding written
-written-short area numbers h = simp (lt-leb _ _ h)
+-- what is chosen with too little room, and with enough
+module _ {A : Type 0} (answer : List ℕ) (made kept : A) where
+  pub room-short : length answer < answerWords → kept ≡ ifRoom answer made kept
+  unfolding ifRoom
+  room-short h = simp (lt-leb _ _ h)
+
+  pub room-enough : answerWords ≤ length answer → {is : A} → is ≡ made → is ≡ ifRoom answer made kept
+  unfolding ifRoom
+  room-enough h e = simp (le-leb _ _ h) e
+
+-- a call that is lent an answer area of too few words leaves it as it was
+pub answers-short : {numbers area : List ℕ} → length area < answerWords → Answers numbers area area answerWords
+answers-short h = record { many = room-short _ _ _ h; most = omega arith; area = room-short _ _ _ h }
 
 -- before number i of n, the whole is what is left to put into the area as it is
 pub record Putting (area₀ numbers : List ℕ) (n : ℕ) (area : List ℕ) (i : ℕ) : Type 0 where
   pub all : n ≡ length numbers
-  pub room : n ≤ length area₀
+  pub most : n ≤ answerWords
+  pub room : answerWords ≤ length area₀
   pub within : i ≤ n
   pub same : length area ≡ length area₀
   pub is : sets area₀ 0 numbers ≡ sets area i (drop i numbers)
@@ -28,15 +38,18 @@ module _ {area₀ numbers : List ℕ} {n : ℕ} {area : List ℕ} {i : ℕ} (P :
       let below : i < length numbers = omega arith in
       record {
         all = P .all;
+        most = P .most;
         room = P .room;
         within = omega arith;
         same = length-set area i (getD numbers i 0) ∙ P .same;
         is = P .is ∙ rw (add-one, drop-cons numbers i 0 below);
       }
 
-  pub putting-all : n ≤ i → area ≡ written area₀ numbers
-  unfolding written
+  pub putting-all : n ≤ i → Answers numbers area₀ area n
   putting-all h =
-      let room : length numbers ≤ length area₀ = omega arith in
       let end : length numbers ≤ i = omega arith in
-      simp (le-leb _ _ room) (sym (P .is ∙ rw (drop-of-length-le numbers end)))
+      record {
+        many = room-enough _ _ _ (P .room) (P .all);
+        most = P .most;
+        area = room-enough _ _ _ (P .room) (sym (P .is ∙ rw (drop-of-length-le numbers end)));
+      }

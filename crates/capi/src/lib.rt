@@ -1,9 +1,10 @@
-// The calls for C programs. Each puts the numbers of its answer at the front of a lent area and returns how many they are; an area that is too
-// short for them is left as it was. No pointer is kept.
+// The calls for C programs. Each puts the numbers of its answer at the front of a lent area and returns how many they are. Where that area has
+// too few words for any answer, the call changes nothing at all and returns how many are needed. No pointer is kept.
+ghost use Prim.Native.Nat.{_≤_};
 ghost use mathlib.Core.Path.{_≡_};
 ghost use mathlib.Core.List.{_∷_};
 ghost use lib.ListN.{length};
-ghost use Rattle.capi.specs.Written.{Answers, bodyNumbers};
+ghost use Rattle.capi.specs.Written.{answerWords, ifRoom, Answers, bodyNumbers};
 ghost use Rattle.bundle.specs.Record.{recordAnswer};
 ghost use Rattle.bundle.specs.Bundle.{isTaken, readAnswer, nodesOf, endsOf, countsOf, leaves};
 ghost use Rattle.bundle.specs.Written.{bundleBytes, isWritten, writeAnswer};
@@ -26,14 +27,19 @@ use mesh::Looped;
 use mesh::Meshed;
 use places::Placed;
 
-// Puts the numbers of an answer at the front of the area, and returns how many they are.
+// The words that hold any answer: CITTERNBLAZE_ANSWER_WORDS of the header.
+const ANSWER_WORDS: usize = 6;
+
+// Puts the numbers of an answer at the front of the area, and returns how many they are. The calls that write to other areas too ask for the
+// room before they do.
 fn put(answer: &mut [u64], numbers: &[u64]) -> usize
+    requires { ⌜ length (now numbers) ≤ answerWords ⌝ }
     ensures { λ r. ⌜ Answers (now (numbers .entry)) (now (answer .entry)) (now (answer .exit)) r ⌝ }
 {
-    let n = numbers.len();
-    if answer.len() < n {
-        return n;
+    if answer.len() < ANSWER_WORDS {
+        return ANSWER_WORDS;
     }
+    let n = numbers.len();
     let mut i = 0;
     while i < n {
         answer[i] = numbers[i];
@@ -87,8 +93,11 @@ pub extern "C" fn citternblaze_mesh(
     answer: &mut [u64],
 ) -> usize
     ensures answer { λ r. ⌜ Answers (meshAnswer (gridOf (now (cells .entry)) (now (edges .entry)) (now (counts .entry))) (length (now (area .entry)))) (now (answer .entry)) (now (answer .exit)) r ⌝ }
-    ensures area { λ r. ⌜ now (area .exit) ≡ meshArea (gridOf (now (cells .entry)) (now (edges .entry)) (now (counts .entry))) (now (area .entry)) ⌝ }
+    ensures area { λ r. ⌜ now (area .exit) ≡ ifRoom (now (answer .entry)) (meshArea (gridOf (now (cells .entry)) (now (edges .entry)) (now (counts .entry))) (now (area .entry))) (now (area .entry)) ⌝ }
 {
+    if answer.len() < ANSWER_WORDS {
+        return ANSWER_WORDS;
+    }
     match mesh::mesh(cells, edges, counts, area) {
         Meshed::Triangles(n) => put(answer, &[0, n as u64]),
         Meshed::Refused(row, place) => put(answer, &[row as u64, place as u64]),
@@ -156,8 +165,11 @@ pub extern "C" fn citternblaze_places(
     answer: &mut [u64],
 ) -> usize
     ensures answer { λ r. ⌜ Answers (placesAnswer (gridOf (now (cells .entry)) (now (edges .entry)) (now (counts .entry))) (now (nodes .entry)) (now (fractions .entry)) (length (now (area .entry)))) (now (answer .entry)) (now (answer .exit)) r ⌝ }
-    ensures area { λ r. ⌜ now (area .exit) ≡ placesArea (gridOf (now (cells .entry)) (now (edges .entry)) (now (counts .entry))) (now (nodes .entry)) (now (fractions .entry)) (now (area .entry)) ⌝ }
+    ensures area { λ r. ⌜ now (area .exit) ≡ ifRoom (now (answer .entry)) (placesArea (gridOf (now (cells .entry)) (now (edges .entry)) (now (counts .entry))) (now (nodes .entry)) (now (fractions .entry)) (now (area .entry))) (now (area .entry)) ⌝ }
 {
+    if answer.len() < ANSWER_WORDS {
+        return ANSWER_WORDS;
+    }
     match places::places(cells, edges, counts, nodes, fractions, area) {
         Placed::Points(n) => put(answer, &[0, n as u64]),
         Placed::Refused(row, place) => put(answer, &[row as u64, place as u64]),
@@ -199,10 +211,13 @@ pub extern "C" fn citternblaze_bundle_read(
     answer: &mut [u64],
 ) -> usize
     ensures answer { λ r. ⌜ Answers (readAnswer (now (bytes .entry)) (length (now (nodes .entry))) (length (now (ends .entry))) (length (now (counts .entry)))) (now (answer .entry)) (now (answer .exit)) r ⌝ }
-    ensures nodes { λ r. ⌜ now (nodes .exit) ≡ leaves (isTaken (now (bytes .entry)) (length (now (nodes .entry))) (length (now (ends .entry))) (length (now (counts .entry)))) (nodesOf (now (bytes .entry))) (now (nodes .entry)) ⌝ }
-    ensures ends { λ r. ⌜ now (ends .exit) ≡ leaves (isTaken (now (bytes .entry)) (length (now (nodes .entry))) (length (now (ends .entry))) (length (now (counts .entry)))) (endsOf (now (bytes .entry))) (now (ends .entry)) ⌝ }
-    ensures counts { λ r. ⌜ now (counts .exit) ≡ leaves (isTaken (now (bytes .entry)) (length (now (nodes .entry))) (length (now (ends .entry))) (length (now (counts .entry)))) (countsOf (now (bytes .entry))) (now (counts .entry)) ⌝ }
+    ensures nodes { λ r. ⌜ now (nodes .exit) ≡ ifRoom (now (answer .entry)) (leaves (isTaken (now (bytes .entry)) (length (now (nodes .entry))) (length (now (ends .entry))) (length (now (counts .entry)))) (nodesOf (now (bytes .entry))) (now (nodes .entry))) (now (nodes .entry)) ⌝ }
+    ensures ends { λ r. ⌜ now (ends .exit) ≡ ifRoom (now (answer .entry)) (leaves (isTaken (now (bytes .entry)) (length (now (nodes .entry))) (length (now (ends .entry))) (length (now (counts .entry)))) (endsOf (now (bytes .entry))) (now (ends .entry))) (now (ends .entry)) ⌝ }
+    ensures counts { λ r. ⌜ now (counts .exit) ≡ ifRoom (now (answer .entry)) (leaves (isTaken (now (bytes .entry)) (length (now (nodes .entry))) (length (now (ends .entry))) (length (now (counts .entry)))) (countsOf (now (bytes .entry))) (now (counts .entry))) (now (counts .entry)) ⌝ }
 {
+    if answer.len() < ANSWER_WORDS {
+        return ANSWER_WORDS;
+    }
     match bundle::read(bytes, nodes, ends, counts) {
         Contents::Lists(cells, edges) => put(answer, &[0, cells as u64, edges as u64]),
         Contents::Refused(row, place) => put(answer, &[row as u64, place as u64]),
@@ -219,8 +234,11 @@ pub extern "C" fn citternblaze_bundle_write(
     answer: &mut [u64],
 ) -> usize
     ensures answer { λ r. ⌜ Answers (writeAnswer (now (nodes .entry)) (now (ends .entry)) (now (counts .entry)) (length (now (area .entry)))) (now (answer .entry)) (now (answer .exit)) r ⌝ }
-    ensures area { λ r. ⌜ now (area .exit) ≡ leaves (isWritten (now (nodes .entry)) (now (ends .entry)) (now (counts .entry)) (length (now (area .entry)))) (bundleBytes (now (nodes .entry)) (now (ends .entry)) (now (counts .entry))) (now (area .entry)) ⌝ }
+    ensures area { λ r. ⌜ now (area .exit) ≡ ifRoom (now (answer .entry)) (leaves (isWritten (now (nodes .entry)) (now (ends .entry)) (now (counts .entry)) (length (now (area .entry)))) (bundleBytes (now (nodes .entry)) (now (ends .entry)) (now (counts .entry))) (now (area .entry))) (now (area .entry)) ⌝ }
 {
+    if answer.len() < ANSWER_WORDS {
+        return ANSWER_WORDS;
+    }
     match bundle::write(nodes, ends, counts, area) {
         Written::Bytes(n) => put(answer, &[0, n as u64]),
         Written::Unformed => put(answer, &[13, 0]),

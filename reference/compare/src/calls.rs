@@ -1,7 +1,7 @@
-//! The calls of include/citternblaze.h, over slices.
+//! The calls of include/citternblaze.h and of include/citternblaze_host.h, over
+//! slices.
 
-/// The declarations of include/citternblaze.h. A slice is a pointer and a
-/// length.
+/// The declarations of the two headers. A slice is a pointer and a length.
 mod c {
     extern "C" {
         pub fn citternblaze_face(
@@ -109,6 +109,12 @@ mod c {
             answer: *mut u64,
             answer_len: usize,
         ) -> usize;
+
+        pub fn citternblaze_bundle_refusal(bytes: *const u8, length: usize) -> u32;
+
+        pub fn citternblaze_bundle_cells(bytes: *const u8, length: usize) -> u64;
+
+        pub fn citternblaze_bundle_edges(bytes: *const u8, length: usize) -> u64;
     }
 }
 
@@ -263,5 +269,17 @@ pub fn bundle_write(
             answer.as_mut_ptr(),
             answer.len(),
         )
+    }
+}
+
+/// The host's three numbers: the refusal or 0, the cells, the edges.
+pub fn host(bytes: &[u8]) -> [u64; 3] {
+    let (start, length) = (bytes.as_ptr(), bytes.len());
+    unsafe {
+        [
+            u64::from(c::citternblaze_bundle_refusal(start, length)),
+            c::citternblaze_bundle_cells(start, length),
+            c::citternblaze_bundle_edges(start, length),
+        ]
     }
 }

@@ -113,3 +113,13 @@ pub fn bundle_write(nodes: &[u16], ends: &[u16], counts: &[u8], area: &mut [u8])
     let answer = bundle::write(nodes, ends, counts, area);
     numbers(answer, |bytes| vec![bytes as u64])
 }
+
+/// The host's three numbers: the refusal or 0, the cells, the edges.
+pub fn host(bytes: &[u8]) -> [u64; 3] {
+    [
+        bundle::host_refusal(bytes),
+        bundle::host_cells(bytes),
+        bundle::host_edges(bytes),
+    ]
+    .map(u64::from)
+}

@@ -41,17 +41,32 @@ fn untouched(len: usize) -> Vec<u64> {
     (0..len).map(filler).collect()
 }
 
+/// What an answer area must have: CITTERNBLAZE_ANSWER_WORDS of the header.
+pub const ANSWER_WORDS: usize = 6;
+
+/// What has to stand in a lent area after a call with this answer area: what the
+/// call makes of it, or, where the answer area is too short, what was there.
+pub fn after<'a, T>(answer: &[u64], before: &'a [T], made: &'a [T]) -> &'a [T] {
+    if answer.len() < ANSWER_WORDS {
+        before
+    } else {
+        made
+    }
+}
+
 /// Makes a call on an answer area of this length. The call must return how many
-/// numbers it has to answer, put all of them at the front if they fit and none
-/// if they don't, and write nothing else.
+/// numbers it has to answer and put them at the front, or, where the area is too
+/// short for any answer, return how long it must be; and write nothing else.
 fn answers_in(len: usize, numbers: &[u64], call: &mut impl FnMut(&mut [u64]) -> usize) -> bool {
     let mut expected = untouched(len);
-    if numbers.len() <= len {
-        expected[..numbers.len()].copy_from_slice(numbers);
+    let mut returned = ANSWER_WORDS;
+    if len >= ANSWER_WORDS {
+        returned = numbers.len();
+        expected[..returned].copy_from_slice(numbers);
     }
     let guard = filler(ANSWER_ROOM);
     let mut lent = Lent::new(&untouched(len), guard);
-    call(lent.area()) == numbers.len() && lent.is(&expected, guard)
+    call(lent.area()) == returned && lent.is(&expected, guard)
 }
 
 /// Whether a call answers these numbers, in a wide area.
@@ -62,5 +77,5 @@ pub fn answers(numbers: &[u64], mut call: impl FnMut(&mut [u64]) -> usize) -> bo
 /// Whether a call answers these numbers in an area of every length up to one
 /// that is too long by one.
 pub fn answers_in_all(numbers: &[u64], mut call: impl FnMut(&mut [u64]) -> usize) -> bool {
-    (0..=numbers.len() + 1).all(|len| answers_in(len, numbers, &mut call))
+    (0..=ANSWER_WORDS + 1).all(|len| answers_in(len, numbers, &mut call))
 }

@@ -1,6 +1,8 @@
 //! Comparison of the proved calls, as a C program has them, with the second
 //! implementation.
 
+pub mod bundles;
+
 pub mod calls;
 
 pub mod expected;

@@ -1,13 +1,9 @@
 //! Records, the bundle reader and the writer against the second implementation.
 
-use compare::lent::{answers, answers_in_all, Lent};
+use compare::bundles::{random_bytes, random_lists, size, small_bundles, CELL, EDGE, END};
+use compare::lent::{after, answers, answers_in_all, Lent, ANSWER_WORDS};
 use compare::{calls, expected, seed, setting};
 use reference::gen::{random_shape, Rng, Sample};
-
-/// A record of each kind.
-const CELL: [u8; 12] = [10, 0, 1, 0, 0, 0, 1, 0, 2, 0, 3, 1];
-const EDGE: [u8; 9] = [7, 0, 2, 0, 5, 0, 255, 255, 9];
-const END: [u8; 4] = [2, 0, 3, 0];
 
 /// Values before a call and guards; no two are alike.
 const NODE: u16 = 0xa5a4;
@@ -94,34 +90,9 @@ fn compare_write(lists: &Sample, area: usize) -> Vec<u8> {
     after
 }
 
-/// Any lists with four numbers to a cell and two to a count.
-fn random_lists(rng: &mut Rng, most: usize) -> Sample {
-    let [cells, edges] = [(); 2].map(|()| rng.between(0, most));
-    let mut words = |many| (0..many).map(|_| rng.word() as u16).collect::<Vec<u16>>();
-    Sample {
-        cells: words(4 * cells),
-        edges: words(2 * edges),
-        counts: words(edges).into_iter().map(|word| word as u8).collect(),
-    }
-}
-
-fn size(lists: &Sample) -> usize {
-    3 * lists.cells.len() + 9 * lists.counts.len() + 4
-}
-
 /// The bundle of the lists, by the proved writer.
 fn bundle_of(lists: &Sample) -> Vec<u8> {
     compare_write(lists, size(lists))
-}
-
-fn small_bundles() -> [Vec<u8>; 5] {
-    [
-        END.to_vec(),
-        [&CELL[..], &END].concat(),
-        [&EDGE[..], &END].concat(),
-        [&CELL[..], &EDGE, &END].concat(),
-        [&CELL[..], &CELL, &EDGE, &EDGE, &END].concat(),
-    ]
 }
 
 #[test]
@@ -179,24 +150,7 @@ fn random_bytes_and_damage() {
     let mut rng = Rng::new(seed("bundle"));
     let [mut taken, mut refused] = [0, 0];
     for _ in 0..setting("CITTERNBLAZE_BUNDLES", 20_000) {
-        let mut bytes = match rng.below(4) {
-            0 => (0..rng.below(40)).map(|_| rng.word() as u8).collect(),
-            1 => (0..rng.below(40)).map(|_| rng.below(12) as u8).collect(),
-            _ => bundle_of(&random_lists(&mut rng, 4)),
-        };
-        for _ in 0..rng.below(4) {
-            let at = rng.below(bytes.len() + 1);
-            match rng.below(5) {
-                0 => bytes.insert(at, rng.below(12) as u8),
-                1 => bytes.truncate(at),
-                2 => drop(bytes.splice(at..at, END)),
-                3 if at < bytes.len() => bytes[at] = rng.word() as u8,
-                _ => {
-                    let until = rng.between(at, bytes.len());
-                    bytes.drain(at..until);
-                }
-            }
-        }
+        let bytes = random_bytes(&mut rng, bundle_of);
         if compare_all(&bytes) {
             taken += 1;
         } else {
@@ -259,7 +213,7 @@ fn grids_go_there_and_back() {
             edges: vec![0; room[1]],
             counts: vec![0; room[2]],
         };
-        let mut answer = [0; 3];
+        let mut answer = [0; ANSWER_WORDS];
         calls::bundle_read(
             &area,
             &mut back.cells,
@@ -298,17 +252,30 @@ fn any_answer_area() {
     ];
     for (len, nodes, numbers) in reads {
         let bytes = &bundle[..len];
-        let mut nodes = vec![0; nodes];
+        let before = (vec![NODE; nodes], [NODE + 1; 2], [COUNT]);
+        let mut read = before.clone();
+        expected::bundle_read(bytes, &mut read.0, &mut read.1, &mut read.2);
         let call = |answer: &mut [u64]| {
-            calls::bundle_read(bytes, &mut nodes, &mut [0; 2], &mut [0], answer)
+            let mut lent = before.clone();
+            let many = calls::bundle_read(bytes, &mut lent.0, &mut lent.1, &mut lent.2, answer);
+            assert_eq!(lent.0, after(answer, &before.0, &read.0));
+            assert_eq!(lent.1, after(answer, &before.1, &read.1));
+            assert_eq!(lent.2, after(answer, &before.2, &read.2));
+            many
         };
         assert!(answers_in_all(&numbers, call));
     }
     for (counts, area, numbers) in [(1, 25, [0, 25]), (2, 40, [13, 0]), (1, 24, [14, 25])] {
-        let mut area = vec![0; area];
+        let before = vec![COUNT; area];
         let counts = vec![0; counts];
-        let call =
-            |answer: &mut [u64]| calls::bundle_write(&[0; 4], &[0; 2], &counts, &mut area, answer);
+        let mut written = before.clone();
+        expected::bundle_write(&[0; 4], &[0; 2], &counts, &mut written);
+        let call = |answer: &mut [u64]| {
+            let mut lent = before.clone();
+            let many = calls::bundle_write(&[0; 4], &[0; 2], &counts, &mut lent, answer);
+            assert_eq!(lent, after(answer, &before, &written));
+            many
+        };
         assert!(answers_in_all(&numbers, call));
     }
 }

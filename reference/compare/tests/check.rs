@@ -3,7 +3,7 @@
 use std::thread;
 
 use compare::grids::{random_grid, shapes, with_crossings, with_faults, with_random_counts, ROWS};
-use compare::lent::{answers, answers_in_all};
+use compare::lent::{answers, answers_in_all, ANSWER_WORDS};
 use compare::{calls, expected, seed, setting};
 use reference::gen::{broken, closed_fan, open_fan, ring, separate, Rng, Sample};
 use reference::grid::MAX_CELLS;
@@ -263,7 +263,7 @@ fn random_grids() {
 fn stack_of_512_kilobytes() {
     let check = || {
         let grid = closed_fan(MAX_CELLS as u16);
-        let mut answer = [0; 2];
+        let mut answer = [0; ANSWER_WORDS];
         calls::check(&grid.cells, &grid.edges, &grid.counts, &mut answer)
     };
     let thread = thread::Builder::new().stack_size(512 * 1024).spawn(check);

@@ -1,12 +1,13 @@
 //! That the comparison sees each way to answer wrongly.
 
-use compare::lent::{answers, answers_in_all, Lent};
+use compare::lent::{after, answers, answers_in_all, Lent, ANSWER_WORDS};
 
 /// A call that answers 0, 7, 9 as a call must.
 fn right(area: &mut [u64]) -> usize {
-    if area.len() >= 3 {
-        area[..3].copy_from_slice(&[0, 7, 9]);
+    if area.len() < ANSWER_WORDS {
+        return ANSWER_WORDS;
     }
+    area[..3].copy_from_slice(&[0, 7, 9]);
     3
 }
 
@@ -34,6 +35,26 @@ fn a_number_behind_the_answer_is_seen() {
         right(area)
     };
     assert!(!answers(&[0, 7, 9], call));
+}
+
+#[test]
+fn an_answer_in_a_short_area_is_seen() {
+    let call = |area: &mut [u64]| {
+        if area.len() < 3 {
+            return right(area);
+        }
+        area[..3].copy_from_slice(&[0, 7, 9]);
+        3
+    };
+    assert!(answers(&[0, 7, 9], call));
+    assert!(!answers_in_all(&[0, 7, 9], call));
+    assert!(!answers_in_all(&[0, 7, 9], |area| right(area).min(3)));
+}
+
+#[test]
+fn a_short_answer_area_keeps_every_area() {
+    assert_eq!(after(&[0; ANSWER_WORDS], &[1], &[2]), [2]);
+    assert_eq!(after(&[0; ANSWER_WORDS - 1], &[1], &[2]), [1]);
 }
 
 #[test]

@@ -3,7 +3,7 @@
 use std::thread;
 
 use compare::grids::{closed_grid, random_grid, single_cell, with_faults};
-use compare::lent::{answers, answers_in_all};
+use compare::lent::{answers, answers_in_all, ANSWER_WORDS};
 use compare::{calls, expected, seed, setting};
 use reference::gen::{random_shape, sphere, Rng, Sample};
 use reference::mesh::Mesher;
@@ -167,11 +167,14 @@ fn all_loops_of_small_grids() {
     let mut rng = Rng::new(seed("loops"));
     let mut mesher = Mesher::default();
     let mut tally = Tally::default();
-    for _ in 0..setting("CITTERNBLAZE_GRIDS", 20_000) / 20 {
+    let grids = setting("CITTERNBLAZE_GRIDS", 20_000);
+    for _ in 0..grids / 20 {
         compare_all(&mut mesher, &small_grid(&mut rng), &mut tally);
     }
     tally.report("small grids");
-    assert!(tally.types.iter().all(|&loops| loops > 1_000));
+    if grids >= 20_000 {
+        assert!(tally.types.iter().all(|&loops| loops > 1_000));
+    }
 }
 
 /// A few cells of each grid, some of which it has not, and a few loops.
@@ -206,7 +209,7 @@ fn random_grids() {
 fn stack_of_640_kilobytes() {
     let grid = sphere([5, 5, 5]).with_counts(&mut Rng::new(1), 0, 12);
     let call = move || {
-        let mut answer = [1; 6];
+        let mut answer = [1; ANSWER_WORDS];
         calls::loops(&grid.cells, &grid.edges, &grid.counts, [9, 0], &mut answer);
         answer[0]
     };

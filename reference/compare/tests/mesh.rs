@@ -5,7 +5,7 @@ use std::thread;
 use compare::grids::{
     closed_grid, random_grid, shapes, single_cell, with_faults, with_random_counts, ROWS,
 };
-use compare::lent::{answers, answers_in_all, Lent};
+use compare::lent::{after, answers, answers_in_all, Lent, ANSWER_WORDS};
 use compare::{calls, expected, seed, setting};
 use reference::cell::{NO_NUMBER, TRIANGLE_WORDS};
 use reference::gen::{broken, separate, sphere, Rng, Sample};
@@ -169,12 +169,14 @@ fn compare_with(numbers: [u64; 2], words: &[u32], len: usize, grid: &Sample) {
         untouched(len)[words.len()..],
         "{grid:?}"
     );
-    let mut lent = Lent::new(&untouched(len), GUARD);
+    let before = untouched(len);
     let right = answers_in_all(&numbers, |answer| {
-        calls::mesh(&grid.cells, &grid.edges, &grid.counts, lent.area(), answer)
+        let mut lent = Lent::new(&before, GUARD);
+        let many = calls::mesh(&grid.cells, &grid.edges, &grid.counts, lent.area(), answer);
+        assert!(lent.is(after(answer, &before, &area), GUARD), "{grid:?}");
+        many
     });
     assert!(right, "{grid:?}");
-    assert!(lent.is(&area, GUARD), "{grid:?}");
 }
 
 const M: u32 = NO_NUMBER;
@@ -368,7 +370,7 @@ fn stack_of_640_kilobytes() {
     let grid = sphere([5, 5, 5]).with_counts(&mut Rng::new(1), 0, 12);
     let call = move || {
         let mut area = vec![0; 11 * 65_535];
-        let mut answer = [1; 2];
+        let mut answer = [1; ANSWER_WORDS];
         calls::mesh(
             &grid.cells,
             &grid.edges,

@@ -3,7 +3,7 @@
 use std::thread;
 
 use compare::grids::{closed_grid, random_grid, single_cell, with_faults};
-use compare::lent::{answers, answers_in_all, Lent};
+use compare::lent::{after, answers, answers_in_all, Lent, ANSWER_WORDS};
 use compare::placing::{placing, spoiled, Kind, Placing, KINDS};
 use compare::{calls, expected, seed, setting};
 use reference::cell::{NO_NUMBER, TRIANGLE_WORDS};
@@ -162,9 +162,14 @@ fn one_cell(counts: [u8; 6]) -> Sample {
 fn compare_with(numbers: [u64; 2], placing: &Placing, len: usize) -> Vec<f64> {
     let (answered, area) = compare_in(placing, len);
     assert_eq!(answered, numbers, "{placing:?}");
-    let mut lent = Lent::new(&untouched(len), GUARD);
-    let right = answers_in_all(&numbers, |answer| call(placing, lent.area(), answer));
-    assert!(right && lent.is(&area, GUARD), "{placing:?}");
+    let before = untouched(len);
+    let right = answers_in_all(&numbers, |answer| {
+        let mut lent = Lent::new(&before, GUARD);
+        let many = call(placing, lent.area(), answer);
+        assert!(lent.is(after(answer, &before, &area), GUARD), "{placing:?}");
+        many
+    });
+    assert!(right, "{placing:?}");
     area.into_iter().map(f64::from_bits).collect()
 }
 
@@ -261,7 +266,7 @@ fn stack_of_640_kilobytes() {
     let placing = placing(&mut rng, grid, Kind::Any);
     let call = move || {
         let mut area = vec![0; 9 * 65_535];
-        let mut answer = [1; 2];
+        let mut answer = [1; ANSWER_WORDS];
         let grid = &placing.grid;
         let lists = (&grid.cells[..], &grid.edges[..], &grid.counts[..]);
         calls::places(

@@ -1,8 +1,12 @@
 use borrow.Author.Needs.{needs}
 use Rattle.bundle.specs.Written.{writtenNumbers}
 use Rattle.capi.proofs.Answers.{answers-told}
+use Rattle.capi.proofs.Putting.{room-short, room-enough, answers-short}
 use Rattle.capi.proofs.citternblaze_bundle_write.Statement.{statement}
 use Rattle.capi.proofs.citternblaze_bundle_write.Tie as tie
+
+returns : tie.Need-returns
+returns c = (answers-short (search needs), room-short _ _ _ (search needs))
 
 write-requires : tie.Need-write-requires
 write-requires c κs = search needs
@@ -40,8 +44,8 @@ same-length c = search needs
 same-length-2 : tie.Need-same-length-2
 same-length-2 c = search needs
 
-returns : tie.Need-returns
-returns c = (answers-told writtenNumbers (c .before .before .before .before .before .before .n .given .1) (c .before .before .before .before .before .before .before .before .before .before .write .ensures .0) (c .before .before .put .ensures), c .before .before .before .before .before .before .before .before .before .before .write .ensures .1)
+returns-2 : tie.Need-returns-2
+returns-2 c = (answers-told writtenNumbers (c .before .before .before .before .before .before .n .given .1) (c .before .before .before .before .before .before .before .before .before .before .write .ensures .0) (c .before .before .put .ensures), room-enough _ _ _ (search needs) (c .before .before .before .before .before .before .before .before .before .before .write .ensures .1))
 
 same-length-3 : tie.Need-same-length-3
 same-length-3 c = search needs
@@ -49,8 +53,8 @@ same-length-3 c = search needs
 same-length-4 : tie.Need-same-length-4
 same-length-4 c = search needs
 
-returns-2 : tie.Need-returns-2
-returns-2 c = (answers-told writtenNumbers (c .before .before .before .before .before .enum-told .given .1) (c .before .before .before .before .before .before .before .before .before .write .ensures .0) (c .before .before .put2 .ensures), c .before .before .before .before .before .before .before .before .before .write .ensures .1)
+returns-3 : tie.Need-returns-3
+returns-3 c = (answers-told writtenNumbers (c .before .before .before .before .before .enum-told .given .1) (c .before .before .before .before .before .before .before .before .before .write .ensures .0) (c .before .before .put2 .ensures), room-enough _ _ _ (search needs) (c .before .before .before .before .before .before .before .before .before .write .ensures .1))
 
 same-length-5 : tie.Need-same-length-5
 same-length-5 c = search needs
@@ -58,13 +62,14 @@ same-length-5 c = search needs
 same-length-6 : tie.Need-same-length-6
 same-length-6 c = search needs
 
-returns-3 : tie.Need-returns-3
-returns-3 c = (answers-told writtenNumbers (c .before .before .before .before .before .before .needed .given .1) (c .before .before .before .before .before .before .before .before .before .before .write .ensures .0) (c .before .before .put3 .ensures), c .before .before .before .before .before .before .before .before .before .before .write .ensures .1)
+returns-4 : tie.Need-returns-4
+returns-4 c = (answers-told writtenNumbers (c .before .before .before .before .before .before .needed .given .1) (c .before .before .before .before .before .before .before .before .before .before .write .ensures .0) (c .before .before .put3 .ensures), room-enough _ _ _ (search needs) (c .before .before .before .before .before .before .before .before .before .before .write .ensures .1))
 
 pub citternblaze-bundle-write-spec : {M : Type 1} → statement M
 citternblaze-bundle-write-spec =
     tie.close
     (tie.spec
+    returns
     write-requires
     enum-known-n
     slice-aggregate-put
@@ -77,10 +82,10 @@ citternblaze-bundle-write-spec =
     put-requires-3
     same-length
     same-length-2
-    returns
+    returns-2
     same-length-3
     same-length-4
-    returns-2
+    returns-3
     same-length-5
     same-length-6
-    returns-3)
+    returns-4)

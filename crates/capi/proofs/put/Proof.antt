@@ -1,7 +1,7 @@
 use borrow.Author.Needs.{needs}
 use Prim.Native.Nat.{_-_}
 use mathlib.Core.Path.{refl}
-use Rattle.capi.proofs.Putting.{Putting, written-short, putting-more, putting-all}
+use Rattle.capi.proofs.Putting.{Putting, answers-short, putting-more, putting-all}
 use Rattle.capi.proofs.put.Statement.{statement}
 use Rattle.capi.proofs.put.Tie as tie
 
@@ -12,10 +12,10 @@ abbrev μ-loop : tie.MeasureT-loop
 μ-loop answer₀ numbers n i₀ answer i = n - i
 
 returns : tie.Need-returns Inv-loop μ-loop
-returns c = record { many = refl; area = written-short _ _ (search needs) }
+returns c = answers-short (search needs)
 
 loop-holds : tie.Need-loop-holds Inv-loop μ-loop
-loop-holds c = record { all = search needs; room = search needs; within = search needs; same = refl; is = refl }
+loop-holds c = record { all = search needs; most = search needs; room = search needs; within = search needs; same = refl; is = refl }
 
 mul-answer : tie.Need-mul-answer Inv-loop μ-loop
 mul-answer c = search needs
@@ -42,7 +42,7 @@ same-length : tie.Need-same-length Inv-loop μ-loop
 same-length c = search needs
 
 returns-2 : tie.Need-returns-2 Inv-loop μ-loop
-returns-2 c = record { many = refl; area = putting-all (c .before .loop .inv) (search needs) }
+returns-2 c = putting-all (c .before .loop .inv) (search needs)
 
 pub put-spec : {M : Type 1} → statement M
 put-spec =

@@ -1,0 +1,74 @@
+//! Random bundles, whole and damaged.
+
+use reference::bundle;
+use reference::gen::{Rng, Sample};
+
+/// A record of each kind.
+pub const CELL: [u8; 12] = [10, 0, 1, 0, 0, 0, 1, 0, 2, 0, 3, 1];
+pub const EDGE: [u8; 9] = [7, 0, 2, 0, 5, 0, 255, 255, 9];
+pub const END: [u8; 4] = [2, 0, 3, 0];
+
+pub fn small_bundles() -> [Vec<u8>; 5] {
+    [
+        END.to_vec(),
+        [&CELL[..], &END].concat(),
+        [&EDGE[..], &END].concat(),
+        [&CELL[..], &EDGE, &END].concat(),
+        [&CELL[..], &CELL, &EDGE, &EDGE, &END].concat(),
+    ]
+}
+
+/// The bytes of the bundle of these lists.
+pub fn size(lists: &Sample) -> usize {
+    3 * lists.cells.len() + 9 * lists.counts.len() + 4
+}
+
+/// The bundle of the lists, by the second implementation, or none where they are
+/// not four numbers to a cell and two to a count.
+pub fn written(lists: &Sample) -> Option<Vec<u8>> {
+    let mut area = vec![0; size(lists)];
+    match bundle::write(&lists.cells, &lists.edges, &lists.counts, &mut area) {
+        Ok(_) => Some(area),
+        Err(_) => None,
+    }
+}
+
+/// Any lists with four numbers to a cell and two to a count.
+pub fn random_lists(rng: &mut Rng, most: usize) -> Sample {
+    let [cells, edges] = [(); 2].map(|()| rng.between(0, most));
+    let mut words = |many| (0..many).map(|_| rng.word() as u16).collect::<Vec<u16>>();
+    Sample {
+        cells: words(4 * cells),
+        edges: words(2 * edges),
+        counts: words(edges).into_iter().map(|word| word as u8).collect(),
+    }
+}
+
+/// Changes the bytes at one place.
+pub fn damage(rng: &mut Rng, bytes: &mut Vec<u8>) {
+    let at = rng.below(bytes.len() + 1);
+    match rng.below(5) {
+        0 => bytes.insert(at, rng.below(12) as u8),
+        1 => bytes.truncate(at),
+        2 => drop(bytes.splice(at..at, END)),
+        3 if at < bytes.len() => bytes[at] = rng.word() as u8,
+        _ => {
+            let until = rng.between(at, bytes.len());
+            bytes.drain(at..until);
+        }
+    }
+}
+
+/// Any few bytes, or a bundle of any few cells and edges, whose writer is
+/// `bundle_of`; damaged at up to three places.
+pub fn random_bytes(rng: &mut Rng, bundle_of: impl Fn(&Sample) -> Vec<u8>) -> Vec<u8> {
+    let mut bytes = match rng.below(4) {
+        0 => (0..rng.below(40)).map(|_| rng.word() as u8).collect(),
+        1 => (0..rng.below(40)).map(|_| rng.below(12) as u8).collect(),
+        _ => bundle_of(&random_lists(rng, 4)),
+    };
+    for _ in 0..rng.below(4) {
+        damage(rng, &mut bytes);
+    }
+    bytes
+}

@@ -1,0 +1,55 @@
+//! Calls from several threads at once, each against the second implementation.
+
+use std::thread;
+
+use compare::grids::single_cell;
+use compare::lent::answers;
+use compare::{calls, expected};
+use reference::gen::{random_shape, Rng, Sample};
+use reference::mesh::Mesher;
+
+/// More threads than a small machine has processors.
+const THREADS: u64 = 8;
+
+/// Compares checks, meshes and loops of random grids.
+fn compare(seed: u64) {
+    let mut rng = Rng::new(seed);
+    let mut mesher = Mesher::default();
+    for turn in 0..100 {
+        let grid = match turn % 2 {
+            0 => single_cell(&mut rng, 255),
+            _ => random_shape(&mut rng).with_counts(&mut rng, 0, 5),
+        };
+        let Sample {
+            cells,
+            edges,
+            counts,
+        } = &grid;
+        let numbers = expected::check(&grid);
+        assert!(answers(&numbers, |answer| calls::check(
+            cells, edges, counts, answer
+        )));
+        let mut made = vec![7; 11 * grid.crossings_in_cells()];
+        let mut area = made.clone();
+        let numbers = expected::mesh(&mut mesher, &grid, &mut made);
+        assert!(answers(&numbers, |answer| {
+            calls::mesh(cells, edges, counts, &mut area, answer)
+        }));
+        assert_eq!(area, made);
+        let ask = [rng.below(cells.len() / 4), rng.below(3)];
+        let numbers = expected::loops(&mut mesher, &grid, ask);
+        assert!(answers(&numbers, |answer| calls::loops(
+            cells, edges, counts, ask, answer
+        )));
+    }
+}
+
+#[test]
+fn several_threads_at_once() {
+    let threads: Vec<_> = (0..THREADS)
+        .map(|seed| thread::spawn(move || compare(seed)))
+        .collect();
+    for thread in threads {
+        thread.join().expect("right answers");
+    }
+}
