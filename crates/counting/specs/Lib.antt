@@ -4,3 +4,4 @@ pub mod Search
 pub mod Lists
 pub mod Pack
 pub mod Reach
+pub mod Stores
