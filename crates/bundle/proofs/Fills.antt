@@ -3,15 +3,19 @@ use Prim.Native.Nat.{ℕ, _+_, _*_, _≤_, _<_}
 use mathlib.Core.Path.{_≡_, refl, sym, ap, _∙_}
 use mathlib.Core.Bool.{true}
 use mathlib.Core.List.{List, [], _∷_}
+use native.Mathlib.Nat.{zero-add, le-refl}
 use native.Mathlib.Omega.{arith}
+use lib.Dec.{eqb}
 use lib.ListN.{length, getD, set}
+use borrow.Author.Tests.{eqb-true}
 use Rattle.counting.specs.Range.{over}
 use Rattle.counting.specs.Stores.{Stored}
+use Rattle.counting.proofs.Bools.{and-left, and-right}
 use Rattle.counting.proofs.Fronts.{length-blocks}
 use Rattle.counting.proofs.Stores.{stored-one, stored-more, stored-front}
-use Rattle.bundle.specs.Record.{cellKind, edgeKind, endKind, wordSize, lengthBytes, cellSize, edgeSize, endSize, word, lengthOf, body}
-use Rattle.bundle.specs.Bundle.{isOf, start, cells, edgesFrom, edges, cellNodes, edgeEnds, words, nodesIn, endsIn, countIn, nodesOf, endsOf, countsOf, writtenOver}
-use Rattle.bundle.proofs.Runs.{body-of}
+use Rattle.bundle.specs.Record.{cellKind, edgeKind, endKind, wordSize, lengthBytes, cellSize, edgeSize, endSize, word, lengthOf, nextAt, body}
+use Rattle.bundle.specs.Bundle.{isOf, start, cells, edgesFrom, edges, stop, isBundle, cellNodes, edgeEnds, words, nodesIn, endsIn, countIn, nodesOf, endsOf, countsOf, writtenOver}
+use Rattle.bundle.proofs.Runs.{next-of, body-of, run-apart}
 
 -- the three sizes are those of the kinds' lengths
 pub cell-size : lengthBytes + lengthOf cellKind ≡ cellSize
@@ -59,6 +63,23 @@ module _ (s : List ℕ) where
   pub length-counts : length (countsOf s) ≡ edges s
   unfolding countsOf
   length-counts = let e : 1 * edges s ≡ edges s = omega arith in length-blocks (countBy s (edgesFrom s)) 1 (edges s) (λ j _. refl) ∙ e
+
+  -- and so is the bundle
+  cells-apart : edgesFrom s ≡ cellSize * cells s
+  unfolding edgesFrom cells
+  cells-apart = run-apart s 0 cellKind (cells s) (le-refl (cells s)) ∙ ap (λ w. 0 + w * cells s) cell-size ∙ zero-add (cellSize * cells s)
+
+  edges-apart : stop s ≡ edgesFrom s + edgeSize * edges s
+  unfolding stop edges
+  edges-apart = run-apart s (edgesFrom s) edgeKind (edges s) (le-refl (edges s)) ∙ ap (λ w. edgesFrom s + w * edges s) edge-size
+
+  pub bundle-size : isBundle s ≡ true → length s ≡ cellSize * cells s + edgeSize * edges s + endSize
+  unfolding isBundle
+  bundle-size h =
+      let t = eqb (nextAt s (stop s)) (length s) in
+      let o = and-left (isOf s endKind (stop s)) t h in
+      let n : nextAt s (stop s) ≡ length s = eqb-true _ _ (and-right (isOf s endKind (stop s)) t h) in
+      omega (arith, n, next-of s endKind (stop s) o, end-size, cells-apart, edges-apart)
 
 -- what the body of record k means to a list is stored next
 module _ (s : List ℕ) (from at k : ℕ) (h : at ≡ start s from k) where
