@@ -13,7 +13,7 @@ use borrow.Author.Tests.{eqb-true, eqb-false}
 use Rattle.answer.specs.Answer.{refusal}
 use Rattle.counting.proofs.Bools.{clash, and-left, and-right}
 use Rattle.bundle.specs.Record.{headBytes, cellKind, edgeKind, endKind, brokenRow, kindAt, nextAt, isRecord}
-use Rattle.bundle.specs.Bundle.{isOf, start, run, cells, edgesFrom, edges, stop, bundleAnswer, isBundle}
+use Rattle.bundle.specs.Bundle.{isOf, start, cells, edgesFrom, edges, stop, bundleAnswer, isBundle}
 use Rattle.bundle.specs.Fault.{AllWhole, kindOf, Fault, broken, disordered, trailing, endless}
 use Rattle.bundle.specs.Claims.{LowestFault, NoFault}
 use Rattle.bundle.proofs.OneRecord.{Kind, cell, edge, end, kind-cases, apart, stands, next-ge}

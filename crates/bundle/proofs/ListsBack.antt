@@ -266,8 +266,8 @@ formed nodes ends counts area n h = go (isFormed nodes ends counts) (fitsArea no
         → pick f (pick t (result (length (bundleBytes nodes ends counts) ∷ [])) (refusal shortRow (min (length (bundleBytes nodes ends counts)) mostNamed))) (refusal brokenRow 0) ≡ result (n ∷ [])
         → Formed nodes ends counts area n
     go true true p q r = record { fours = eqb-true _ _ (and-left a b p); pairs = eqb-true _ _ (and-right a b p); written = and-true _ _ p q; all = cc }
-    go true false p q r = let z : _≡_ {A = ℕ} 14 0 = cc in absurd (omega arith)
-    go false t p q r = let z : _≡_ {A = ℕ} 13 0 = cc in absurd (omega arith)
+    go true false p q r = let z : _≡_ {A = ℕ} shortRow 0 = cc in absurd (omega arith)
+    go false t p q r = let z : _≡_ {A = ℕ} brokenRow 0 = cc in absurd (omega arith)
 
 pub written-read : WrittenRead
 written-read nodes ends counts area n h ns es cs hn he hc =

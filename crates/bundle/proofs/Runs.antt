@@ -38,16 +38,13 @@ module _ (s : List ℕ) (kind at : ℕ) where
   unfolding isOf
   other-of h = and-false-right (isRecord s at) (eqb (kindAt s at) kind) (ne-eqb _ _ h)
 
-  -- its bytes are all there, and the next record comes straight after them
+  -- the next record comes straight after its bytes
   pub next-of : isOf s kind at ≡ true → nextAt s at ≡ at + (lengthBytes + lengthOf kind)
   unfolding nextAt
   next-of h =
       let w = stands s at (of-record h) in
       let e : word s at ≡ lengthOf kind = w .right ∙ ap lengthOf (of-kind h) in
       omega (arith, e)
-
-  pub fits-of : isOf s kind at ≡ true → at + (lengthBytes + lengthOf kind) ≤ length s
-  fits-of h = let w = stands s at (of-record h) in omega (arith, w .fits, next-of h)
 
   -- its body is what its length counts besides the kind
   pub body-of : isOf s kind at ≡ true → wordSize + length (body s at) ≡ lengthOf kind

@@ -19,7 +19,7 @@ ghost use Rattle.counting.specs.Range.{over};
 ghost use Rattle.counting.specs.Stores.{Stored};
 ghost use Rattle.bundle.specs.Record.{byteValues, wordSize, headBytes, cellSize, edgeSize, endSize};
 ghost use Rattle.bundle.specs.Bundle.{cellNodes};
-ghost use Rattle.bundle.specs.Written.{mostNamed, wordBytes, headOf, listBytes, cellBytes, edgeBytes, endRecord, writeAnswer, areaLeft, writtenNumbers};
+ghost use Rattle.bundle.specs.Written.{mostNamed, wordBytes, headOf, listBytes, cellBytes, edgeBytes, writeAnswer, areaLeft, writtenNumbers};
 ghost use Rattle.bundle.specs.Needed.{ListFits, CellFits, EdgeFits, CellsFit, EdgesFit};
 
 // The greatest number of bytes that a refusal names.

@@ -1,5 +1,5 @@
 use Prim.Native.Nat.{_+_, _-_, _*_, _≤_, _<_}
-use mathlib.Core.Path.{_≡_, refl, ap, _∙_}
+use mathlib.Core.Path.{_≡_, ap, _∙_}
 use native.Mathlib.Omega.{arith}
 use lib.ListN.{length}
 use denote.Ref.{now}
@@ -7,7 +7,7 @@ use borrow.Author.Needs.{needs}
 use Rattle.counting.specs.Range.{over}
 use Rattle.counting.specs.Stores.{Stored}
 use Rattle.counting.proofs.Stores.{stored-none, stored-long}
-use Rattle.bundle.specs.Record.{cellKind, headBytes, body}
+use Rattle.bundle.specs.Record.{cellKind, wordSize, headBytes, body}
 use Rattle.bundle.specs.Bundle.{cellNodes, start, run, cells, edgesFrom, nodesIn, nodesOf}
 use Rattle.bundle.proofs.Runs.{Walked, walked, here, walked-fits, walked-on}
 use Rattle.bundle.proofs.Fills.{cell-body, nodesBy, turn, filled-all}
@@ -32,7 +32,7 @@ below : (c : Turn) → c .before .loop .k < run (now (c .before .before .before 
 unfolding cells
 below c = omega (arith, c .before .before .before .before .pre .all, c .loop-test .taken)
 
-size : (c : Turn) → length (body (now (c .before .before .before .before .args .bytes)) (c .before .loop .at)) ≡ 8
+size : (c : Turn) → length (body (now (c .before .before .before .before .args .bytes)) (c .before .loop .at)) ≡ wordSize * cellNodes
 size c = cell-body _ _ (here _ 0 cellKind _ _ (c .before .loop .inv .0) (below c))
 
 fits : (c : Turn) → c .before .loop .at + (headBytes + length (body (now (c .before .before .before .before .args .bytes)) (c .before .loop .at))) ≤ length (now (c .before .before .before .before .args .bytes))

@@ -1,5 +1,5 @@
 use Prim.Native.Nat.{_+_, _-_, _*_, _≤_, _<_}
-use mathlib.Core.Path.{_≡_, refl, sym, ap, _∙_}
+use mathlib.Core.Path.{_≡_, sym, ap, _∙_}
 use native.Mathlib.Omega.{arith}
 use lib.ListN.{length}
 use denote.Ref.{now}
@@ -7,7 +7,7 @@ use borrow.Author.Needs.{needs}
 use Rattle.counting.specs.Range.{over}
 use Rattle.counting.specs.Stores.{Stored}
 use Rattle.counting.proofs.Stores.{stored-none, stored-long}
-use Rattle.bundle.specs.Record.{edgeKind, headBytes, body}
+use Rattle.bundle.specs.Record.{edgeKind, wordSize, headBytes, body}
 use Rattle.bundle.specs.Bundle.{edgeEnds, run, edges, endsIn, endsOf, countsOf, writtenOver}
 use Rattle.bundle.proofs.Runs.{Walked, walked, here, walked-fits, walked-on}
 use Rattle.bundle.proofs.Fills.{edge-body, endsBy, countBy, turn, count-turn, filled-all}
@@ -35,7 +35,7 @@ below c =
     let e = p .all ∙ ap (run (now (c .before .before .before .before .before .args .bytes)) edgeKind) (sym (p .begin)) in
     omega (arith, e, c .loop-test .taken)
 
-size : (c : Turn) → length (body (now (c .before .before .before .before .before .args .bytes)) (c .before .loop .at)) ≡ 5
+size : (c : Turn) → length (body (now (c .before .before .before .before .before .args .bytes)) (c .before .loop .at)) ≡ wordSize * edgeEnds + 1
 size c = edge-body _ _ (here _ _ edgeKind _ _ (c .before .loop .inv .0) (below c))
 
 fits : (c : Turn) → c .before .loop .at + (headBytes + length (body (now (c .before .before .before .before .before .args .bytes)) (c .before .loop .at))) ≤ length (now (c .before .before .before .before .before .args .bytes))

@@ -1,4 +1,3 @@
-use mathlib.Core.Path.{_≡_}
 use Rattle.counting.proofs.Stores.{stored-then}
 use borrow.Author.Needs.{needs}
 use Rattle.bundle.proofs.writer.put_head.Statement.{statement}
