@@ -4,7 +4,7 @@ use mathlib.Core.Path.{_≡_, refl, sym, ap, _∙_}
 use mathlib.Core.Bool.{Bool, true, false, not, _&&_}
 use mathlib.Core.List.{List, [], _∷_}
 use lib.Dec.{leb, eqb}
-use lib.ListN.{length, take, drop}
+use lib.ListN.{length, take}
 use lib.Seq.{take-at}
 use borrow.Author.Tests.{leb-true, eq-eqb, ne-eqb, le-leb}
 use Rattle.answer.specs.Answer.{result, refusal}
@@ -126,7 +126,7 @@ module _ (s : List ℕ) where
 
 -- the front of a lent list after a call that accepts
 pub left-front : {b : Bool} → b ≡ true → (new old : List ℕ) (n : ℕ) → length new ≡ n → take n (leaves b new old) ≡ new
-left-front h new old n l = simp h (take-at new (drop (length new) old) n l)
+left-front h new old n l = simp h (take-at new _ n l)
 
 -- what the reader answers and leaves in the lists that it was lent
 abbrev pub Leaves : (s ns es cs answer ns' es' cs' : List ℕ) → Type 0

@@ -94,4 +94,4 @@ module _ (s : List ℕ) (from at k : ℕ) (h : at ≡ start s from k) where
 
 -- all of them are stored
 pub filled-all : (g : ℕ → List ℕ) (k n : ℕ) {next : ℕ} {l l0 : List ℕ} → Stored (over g k 0) l0 0 l next → k ≡ n → next ≤ length l0 → l ≡ writtenOver (over g n 0) l0
-filled-all g k n {next} {l} {l0} p h b = stored-front p (omega (arith, p .after, b)) ∙ ap (λ m. writtenOver (over g m 0) l0) h
+filled-all g k n {next} {l} {l0} p h b = let e : l ≡ writtenOver (over g k 0) l0 = stored-front p (omega (arith, p .after, b)) in e ∙ ap (λ m. writtenOver (over g m 0) l0) h
