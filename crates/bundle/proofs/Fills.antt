@@ -9,10 +9,10 @@ use lib.Dec.{eqb}
 use lib.ListN.{length, getD, set}
 use borrow.Author.Tests.{eqb-true}
 use Rattle.counting.specs.Range.{over}
-use Rattle.counting.specs.Stores.{Stored}
+use Rattle.counting.specs.Stored.{Stored}
 use Rattle.counting.proofs.Bools.{and-left, and-right}
 use Rattle.counting.proofs.Fronts.{length-blocks}
-use Rattle.counting.proofs.Stores.{stored-one, stored-more, stored-front}
+use Rattle.counting.proofs.Stored.{stored-one, stored-more, stored-front}
 use Rattle.bundle.specs.Record.{cellKind, edgeKind, endKind, wordSize, lengthBytes, cellSize, edgeSize, endSize, word, lengthOf, nextAt, body}
 use Rattle.bundle.specs.Bundle.{isOf, start, cells, edgesFrom, edges, stop, isBundle, cellNodes, edgeEnds, words, nodesIn, endsIn, countIn, nodesOf, endsOf, countsOf, writtenOver}
 use Rattle.bundle.proofs.Runs.{next-of, body-of, run-apart}
@@ -84,14 +84,14 @@ module _ (s : List ℕ) where
 -- what the body of record k means to a list is stored next
 module _ (s : List ℕ) (from at k : ℕ) (h : at ≡ start s from k) where
   pub turn : (f : List ℕ → List ℕ) {l0 l l' : List ℕ} {m next : ℕ}
-      → Stored (over (λ j. f (body s (start s from j))) k 0) l0 0 l m → Stored (f (body s at)) l m l' next
-      → Stored (over (λ j. f (body s (start s from j))) (k + 1) 0) l0 0 l' next
+      → Stored l0 0 (over (λ j. f (body s (start s from j))) k 0) l m → Stored l m (f (body s at)) l' next
+      → Stored l0 0 (over (λ j. f (body s (start s from j))) (k + 1) 0) l' next
   turn f p q = stored-more (λ j. f (body s (start s from j))) k p (rw h at q)
 
   pub count-turn : (b : List ℕ) → b ≡ body s at → {l0 l : List ℕ}
-      → Stored (over (countBy s from) k 0) l0 0 l k → Stored (over (countBy s from) (k + 1) 0) l0 0 (set l k (getD b (wordSize * edgeEnds) 0)) (k + 1)
+      → Stored l0 0 (over (countBy s from) k 0) l k → Stored l0 0 (over (countBy s from) (k + 1) 0) (set l k (getD b (wordSize * edgeEnds) 0)) (k + 1)
   count-turn b e {l0} {l} p = turn countIn p (rw (← e) (stored-one l k (getD b (wordSize * edgeEnds) 0)))
 
 -- all of them are stored
-pub filled-all : (g : ℕ → List ℕ) (k n : ℕ) {next : ℕ} {l l0 : List ℕ} → Stored (over g k 0) l0 0 l next → k ≡ n → next ≤ length l0 → l ≡ writtenOver (over g n 0) l0
+pub filled-all : (g : ℕ → List ℕ) (k n : ℕ) {next : ℕ} {l l0 : List ℕ} → Stored l0 0 (over g k 0) l next → k ≡ n → next ≤ length l0 → l ≡ writtenOver (over g n 0) l0
 filled-all g k n {next} {l} {l0} p h b = let e : l ≡ writtenOver (over g k 0) l0 = stored-front p (omega (arith, p .after, b)) in e ∙ ap (λ m. writtenOver (over g m 0) l0) h

@@ -10,10 +10,10 @@ use lib.ListN.{length, getD, length-append}
 use borrow.Author.Tests.{eq-eqb, ne-eqb, le-leb, lt-leb}
 use Rattle.answer.specs.Answer.{result, refusal}
 use Rattle.counting.specs.Range.{over}
-use Rattle.counting.specs.Stores.{Stored}
+use Rattle.counting.specs.Stored.{Stored}
 use Rattle.counting.proofs.Bools.{and-false-left, and-false-right}
 use Rattle.counting.proofs.Fronts.{length-blocks}
-use Rattle.counting.proofs.Stores.{stored-then, stored-front}
+use Rattle.counting.proofs.Stored.{stored-then, stored-front}
 use Rattle.bundle.specs.Record.{brokenRow, wordSize, cellSize, edgeSize, endSize}
 use Rattle.bundle.specs.Bundle.{cellNodes, edgeEnds, shortRow}
 use Rattle.bundle.specs.Written.{mostNamed, wordBytes, listBytes, endRecord, cellBytes, edgeBytes, bundleBytes, isFormed, fitsArea, isWritten, writeAnswer, areaLeft}
@@ -51,8 +51,8 @@ module _ (nodes ends counts : List ℕ) where
   length-bundle = omega (arith, length-append (cellsPart ++ edgesPart) endRecord, length-append cellsPart edgesPart, length-cells, length-edges)
 
   -- the three parts stored one after the other
-  pub all-stored : {area l1 l2 l3 : List ℕ} {a b n : ℕ} → Stored cellsPart area 0 l1 a → Stored edgesPart l1 a l2 b → Stored endRecord l2 b l3 n
-      → Stored (bundleBytes nodes ends counts) area 0 l3 n
+  pub all-stored : {area l1 l2 l3 : List ℕ} {a b n : ℕ} → Stored area 0 cellsPart l1 a → Stored l1 a edgesPart l2 b → Stored l2 b endRecord l3 n
+      → Stored area 0 (bundleBytes nodes ends counts) l3 n
   unfolding bundleBytes
   all-stored p q r = stored-then (stored-then p q) r
 
@@ -86,7 +86,7 @@ module _ (nodes ends counts : List ℕ) where
           let m = e ∙ ap (λ x. min x mostNamed) (sym length-bundle) in
           (ap (refusal shortRow) m ∙ simp (eq-eqb _ _ h4, eq-eqb _ _ h2, lt-leb _ _ b), simp (eq-eqb _ _ h4, eq-eqb _ _ h2, lt-leb _ _ b))
 
-      pub all-written : sizeBy ≤ length area → {l : List ℕ} {n : ℕ} → Stored (bundleBytes nodes ends counts) area 0 l n → Left (result (n ∷ [])) l
+      pub all-written : sizeBy ≤ length area → {l : List ℕ} {n : ℕ} → Stored area 0 (bundleBytes nodes ends counts) l n → Left (result (n ∷ [])) l
       all-written r p =
           let b : length (bundleBytes nodes ends counts) ≤ length area = omega (arith, r, length-bundle) in
           let w = answer-written (length area) h4 h2 b in

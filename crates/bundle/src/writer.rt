@@ -16,7 +16,7 @@ ghost use Prim.Native.Nat.{_+_, _*_, _/_, _%_, _≤_, min};
 ghost use lib.Dec.{leb};
 ghost use lib.ListN.{length};
 ghost use Rattle.counting.specs.Range.{over};
-ghost use Rattle.counting.specs.Stores.{Stored};
+ghost use Rattle.counting.specs.Stored.{Stored};
 ghost use Rattle.bundle.specs.Record.{byteValues, wordSize, headBytes, cellSize, edgeSize, endSize};
 ghost use Rattle.bundle.specs.Bundle.{cellNodes};
 ghost use Rattle.bundle.specs.Written.{mostNamed, wordBytes, headOf, listBytes, cellBytes, edgeBytes, writeAnswer, areaLeft, writtenNumbers};
@@ -39,7 +39,7 @@ fn high(x: u16) -> u8
 
 fn put_word(area: &mut [u8], at: usize, x: u16) -> usize
     requires { ⌜ at + wordSize ≤ length (now area) ⌝ }
-    ensures { λ r. ⌜ Stored (wordBytes x) (now (area .entry)) at (now (area .exit)) r ⌝ }
+    ensures { λ r. ⌜ Stored (now (area .entry)) at (wordBytes x) (now (area .exit)) r ⌝ }
 {
     area[at] = low(x);
     area[at + 1] = high(x);
@@ -49,7 +49,7 @@ fn put_word(area: &mut [u8], at: usize, x: u16) -> usize
 // The length and the kind of a record.
 fn put_head(area: &mut [u8], at: usize, kind: u16) -> usize
     requires { ⌜ at + headBytes ≤ length (now area) ⌝ }
-    ensures { λ r. ⌜ Stored (headOf kind) (now (area .entry)) at (now (area .exit)) r ⌝ }
+    ensures { λ r. ⌜ Stored (now (area .entry)) at (headOf kind) (now (area .exit)) r ⌝ }
 {
     let length = length_of(kind);
     let next = put_word(area, at, length);
@@ -59,7 +59,7 @@ fn put_head(area: &mut [u8], at: usize, kind: u16) -> usize
 // The n numbers of a list from a place on.
 fn put_words(area: &mut [u8], at: usize, list: &[u16], from: usize, n: usize) -> usize
     requires { ⌜ ListFits (now area) at (now list) from n ⌝ }
-    ensures { λ r. ⌜ Stored (listBytes (now (list .entry)) from n) (now (area .entry)) at (now (area .exit)) r ⌝ }
+    ensures { λ r. ⌜ Stored (now (area .entry)) at (listBytes (now (list .entry)) from n) (now (area .exit)) r ⌝ }
 {
     let mut next = at;
     let mut i: usize = 0;
@@ -74,7 +74,7 @@ fn put_words(area: &mut [u8], at: usize, list: &[u16], from: usize, n: usize) ->
 // The record of cell k.
 fn put_cell(area: &mut [u8], at: usize, nodes: &[u16], k: usize) -> usize
     requires { ⌜ CellFits (now area) at (now nodes) k ⌝ }
-    ensures { λ r. ⌜ Stored (cellBytes (now (nodes .entry)) k) (now (area .entry)) at (now (area .exit)) r ⌝ }
+    ensures { λ r. ⌜ Stored (now (area .entry)) at (cellBytes (now (nodes .entry)) k) (now (area .exit)) r ⌝ }
 {
     let body = put_head(area, at, CELL);
     put_words(area, body, nodes, CELL_NODES * k, CELL_NODES)
@@ -83,7 +83,7 @@ fn put_cell(area: &mut [u8], at: usize, nodes: &[u16], k: usize) -> usize
 // The record of edge k.
 fn put_edge(area: &mut [u8], at: usize, ends: &[u16], counts: &[u8], k: usize) -> usize
     requires { ⌜ EdgeFits (now area) at (now ends) (now counts) k ⌝ }
-    ensures { λ r. ⌜ Stored (edgeBytes (now (ends .entry)) (now (counts .entry)) k) (now (area .entry)) at (now (area .exit)) r ⌝ }
+    ensures { λ r. ⌜ Stored (now (area .entry)) at (edgeBytes (now (ends .entry)) (now (counts .entry)) k) (now (area .exit)) r ⌝ }
 {
     let body = put_head(area, at, EDGE);
     let next = put_words(area, body, ends, EDGE_ENDS * k, EDGE_ENDS);
@@ -94,7 +94,7 @@ fn put_edge(area: &mut [u8], at: usize, ends: &[u16], counts: &[u8], k: usize) -
 // The records of the cells, at the front of the area.
 fn put_cells(nodes: &[u16], area: &mut [u8]) -> usize
     requires { ⌜ CellsFit (now nodes) (now area) ⌝ }
-    ensures { λ r. ⌜ Stored (over (cellBytes (now (nodes .entry))) (length (now (nodes .entry)) / cellNodes) 0) (now (area .entry)) 0 (now (area .exit)) r ⌝ }
+    ensures { λ r. ⌜ Stored (now (area .entry)) 0 (over (cellBytes (now (nodes .entry))) (length (now (nodes .entry)) / cellNodes) 0) (now (area .exit)) r ⌝ }
 {
     let n = nodes.len() / CELL_NODES;
     let mut at: usize = 0;
@@ -109,7 +109,7 @@ fn put_cells(nodes: &[u16], area: &mut [u8]) -> usize
 // The records of the edges, from a place on.
 fn put_edges(ends: &[u16], counts: &[u8], from: usize, area: &mut [u8]) -> usize
     requires { ⌜ EdgesFit (now ends) (now counts) from (now area) ⌝ }
-    ensures { λ r. ⌜ Stored (over (edgeBytes (now (ends .entry)) (now (counts .entry))) (length (now (counts .entry))) 0) (now (area .entry)) from (now (area .exit)) r ⌝ }
+    ensures { λ r. ⌜ Stored (now (area .entry)) from (over (edgeBytes (now (ends .entry)) (now (counts .entry))) (length (now (counts .entry))) 0) (now (area .exit)) r ⌝ }
 {
     let mut at = from;
     let mut k: usize = 0;

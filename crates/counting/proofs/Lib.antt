@@ -8,5 +8,8 @@ pub mod Involution
 pub mod Pack
 pub mod Reach
 pub mod Rows
+pub mod Kept
+pub mod Gcd
 pub mod Fronts
 pub mod Stores
+pub mod Stored

@@ -1,10 +1,10 @@
 -- Laws of sums, tests and properties over a list.
-use Prim.Native.Nat.{ℕ, zero, suc, _+_, _≤_, _<_}
+use Prim.Native.Nat.{ℕ, zero, suc, _+_, _*_, _≤_, _<_}
 use mathlib.Core.Path.{_≡_, refl, sym, ap, ap₂, _∙_, subst}
 use mathlib.Core.Logic.{_≢_, ⊎-elim}
 use mathlib.Core.Bool.{Bool, true, false}
 use mathlib.Core.List.{List, [], _∷_, _++_, map, map-append}
-use native.Mathlib.Nat.{zero-add, add-assoc, not-suc-le-zero, eq-or-lt-of-le}
+use native.Mathlib.Nat.{zero-add, add-assoc, mul-zero, mul-one, mul-add, not-suc-le-zero, eq-or-lt-of-le}
 use native.Mathlib.Omega.{arith}
 use lib.Dec.{eqb}
 use lib.ListN.{length, getD, length-append, List·getD-append}
@@ -13,7 +13,7 @@ use borrow.Author.Tests.{eq-eqb, ne-eqb}
 use Rattle.counting.specs.Pick.{one}
 use Rattle.counting.specs.Range.{total, over}
 use Rattle.counting.specs.Lists.{weigh, tally, All}
-use Rattle.counting.proofs.Range.{total-zero, total-one, total-add, total-le, total-shift, total-ext}
+use Rattle.counting.proofs.Range.{total-zero, total-single, total-add, total-le, total-shift, total-ext}
 
 module _ {A : Type 0} (h : A → ℕ) where
   pub weigh-append : (l m : List A) → weigh h (l ++ m) ≡ weigh h l + weigh h m
@@ -75,18 +75,31 @@ module _ {A : Type 0} (P : A → Type 0) where
   all-at d (x ∷ xs) h zero l = h .0
   all-at d (x ∷ xs) h (suc i) l = all-at d xs (h .1) i (omega arith)
 
+pub weigh-one : {A : Type 0} (l : List A) → weigh (λ x. 1) l ≡ length l
+unfolding weigh
+weigh-one [] = refl
+weigh-one (x ∷ l) = omega (arith, weigh-one l)
+
 module _ {A : Type 0} (f : A → ℕ) (N : ℕ) where
+  -- a sum over a list of what goes by its entries' numbers, number by number
+  pub weigh-numbers : (h : ℕ → ℕ) (l : List A) → All (λ x. f x < N) l → total (λ v. h v * tally (λ x. eqb (f x) v) l) N 0 ≡ weigh (λ x. h (f x)) l
+  unfolding All tally weigh
+  weigh-numbers h [] a = total-zero (λ v. h v * 0) N 0 (λ q _ _. mul-zero (h q))
+  weigh-numbers h (x ∷ l) a =
+      total-ext (λ v. h v * (one (eqb (f x) v) + tally (λ y. eqb (f y) v) l)) (λ v. h v * one (eqb (f x) v) + h v * tally (λ y. eqb (f y) v) l) N 0
+      (λ q _ _. mul-add (h q) (one (eqb (f x) q)) (tally (λ y. eqb (f y) q) l))
+      ∙ total-add (λ v. h v * one (eqb (f x) v)) (λ v. h v * tally (λ y. eqb (f y) v) l) N 0
+      ∙ ap₂ (λ m n. m + n)
+      (total-single (λ v. h v * one (eqb (f x) v)) N 0 (f x) (omega arith) (omega (arith, a .0))
+      (λ q _ _ n. ap (λ m. h q * m) (ap one (ne-eqb (f x) q (λ e. n (sym e)))) ∙ mul-zero (h q))
+      ∙ ap (λ m. h (f x) * m) (ap one (eq-eqb (f x) (f x) refl)) ∙ mul-one (h (f x)))
+      (weigh-numbers h l (a .1))
+
   -- how often each number below N is met makes up the length
   pub total-tally : (l : List A) → All (λ x. f x < N) l → total (λ v. tally (λ x. eqb (f x) v) l) N 0 ≡ length l
-  unfolding All tally
-  total-tally [] h = total-zero (λ v. 0) N 0 (λ q a b. refl)
-  total-tally (x ∷ l) h =
-      total-add (λ v. one (eqb (f x) v)) (λ v. tally (λ y. eqb (f y) v) l) N 0
-      ∙ ap₂ (λ a b. a + b)
-      (total-one (λ v. one (eqb (f x) v)) N 0 (f x) (omega arith) (omega (arith, h .0)) (ap one (eq-eqb (f x) (f x) refl))
-      (λ q a b w. ap one (ne-eqb (f x) q (λ e. w (sym e)))))
-      (total-tally l (h .1))
-      ∙ omega arith
+  total-tally l a =
+      total-ext (λ v. tally (λ x. eqb (f x) v) l) (λ v. 1 * tally (λ x. eqb (f x) v) l) N 0 (λ q _ _. omega arith)
+      ∙ weigh-numbers (λ v. 1) l a ∙ weigh-one l
 
   -- a list whose entries' numbers are below N, with each number at most once, has at most N entries
   pub room : (l : List A) → All (λ x. f x < N) l → ((v : ℕ) → tally (λ x. eqb (f x) v) l ≤ 1) → length l ≤ N

@@ -2,21 +2,25 @@
 use Prim.Native.Nat.{ℕ, zero, suc, _+_, _*_, _-_, _/_, _%_, _≤_, _<_}
 use mathlib.Core.Path.{_≡_, refl, sym, ap, ap₂, _∙_}
 use mathlib.Core.Logic.{_⊎_, inl, inr, ⊎-elim}
-use mathlib.Core.Bool.{Bool, true, false, _&&_}
+use mathlib.Core.Bool.{Bool, true, false, _&&_, _||_}
 use native.Mathlib.Omega.{arith}
 use native.Mathlib.Numerals.{add-one}
 use native.Mathlib.Nat.{mul-zero, mul-suc, mul-comm, mul-le-mul-left, mod-lt, div-add-mod, mul-div-cancel-left, div-lt-iff-lt-mul, not-suc-le-zero, eq-or-lt-of-le, le-of-suc-le-suc}
-use lib.Dec.{ltb}
-use borrow.Author.Tests.{lt-ltb, le-ltb}
+use lib.Dec.{ltb, leb}
+use borrow.Author.Tests.{lt-ltb, le-ltb, ltb-true, le-leb, lt-leb}
 use Rattle.counting.specs.Pick.{pick, one}
 use Rattle.counting.specs.Range.{total}
 use Rattle.counting.specs.Search.{seek, first, last, some, every, count}
-use Rattle.counting.proofs.Bools.{clash, and-true, and-left, and-right, holds-or}
+use Rattle.counting.proofs.Bools.{clash, and-true, and-left, and-right, or-left, or-right, or-false, holds-or}
 use Rattle.counting.proofs.Range.{total-snoc}
 
 -- below n, or at the last of suc n numbers
 pub below-or : (i n : ℕ) → i < suc n → (i ≡ n) ⊎ (i < n)
 below-or i n h = eq-or-lt-of-le (le-of-suc-le-suc h)
+
+-- a least number below n that passes, or that none does
+abbrev pub Least : (ℕ → Bool) → ℕ → Type 0
+Least t n = ((k : ℕ) × (k < n) × (t k ≡ true) × ((i : ℕ) → i < k → t i ≡ false)) ⊎ ((i : ℕ) → i < n → t i ≡ false)
 
 module _ (t : ℕ → Bool) where
   -- the turns of a loop that seeks upward from k to n
@@ -90,8 +94,7 @@ module _ (t : ℕ → Bool) where
       go false p true q = clash e (first-below n i (borrow.Author.Tests.ltb-true i (first t n) q))
       go false p false q = omega (arith, borrow.Author.Tests.ltb-false (first t n) i p, borrow.Author.Tests.ltb-false i (first t n) q)
 
-  -- a number that passes, or that none does
-  pub least : (n : ℕ) → ((k : ℕ) × (k < n) × (t k ≡ true) × ((i : ℕ) → i < k → t i ≡ false)) ⊎ ((i : ℕ) → i < n → t i ≡ false)
+  pub least : (n : ℕ) → Least t n
   least n =
       ⊎-elim (λ (e : first t n ≡ n). inr (λ i h. first-below n i (omega arith)))
       (λ (l : first t n < n). inl (first t n, l, first-is n l, λ i h. first-below n i h)) (eq-or-lt-of-le (first-le n))
@@ -397,6 +400,16 @@ count-two t n h = rw (count-last t n, lt-ltb 0 (last t n) h, count-last t (last 
 pub count-zero : (t : ℕ → Bool) (n : ℕ) → last t n ≡ 0 → ltb 1 (count t n) ≡ false
 count-zero t n h = rw (count-last t n, h)
 
+pub two-counted : (t : ℕ → Bool) (n : ℕ) → ltb 1 (count t n) ≡ true → (i : ℕ) × (j : ℕ) × (i < j) × (j < n) × (t i ≡ true) × (t j ≡ true)
+two-counted t n h = go (last t n) refl
+  where
+    go : (m : ℕ) → last t n ≡ m → (i : ℕ) × (j : ℕ) × (i < j) × (j < n) × (t i ≡ true) × (t j ≡ true)
+    go zero e = absurd (clash h (count-zero t n e))
+    go (suc m) e =
+        let p : 0 < last t n = omega arith in
+        let q = ltb-true 0 (last t (last t n - 1)) (sym (count-two t n p) ∙ h) in
+        (last t (last t n - 1) - 1, last t n - 1, omega (arith, last-le t (last t n - 1)), omega (arith, last-le t n), last-is t (last t n - 1) q, last-is t n p)
+
 -- in blocks of b numbers, of which at most one passes
 pub count-blocks : (t : ℕ → Bool) (b n : ℕ) → ((d : ℕ) → d < n → AtMostOne (λ i. t (b * d + i)) b)
     → count t (b * n) ≡ count (λ d. some (λ i. t (b * d + i)) b) n
@@ -464,3 +477,19 @@ first-blocks t b n pos =
 pub some-first : (t : ℕ → Bool) (n : ℕ) → some t n ≡ true → first t n < n
 some-first t n e =
     ⊎-elim (λ (q : first t n ≡ n). (let w = some-is t n e in clash (w .2) (first-none t n (omega arith) (w .0) (w .1)))) (λ q. q) (eq-or-lt-of-le (first-le t n))
+
+-- of n numbers, the first a and the last b
+pub count-ends : (n a b : ℕ) → a + b ≤ n → count (λ i. ltb i a || leb n (i + b)) n ≡ a + b
+count-ends n a b h =
+    let e : n ≡ a + (n - a - b + b) = omega arith in
+    ap (count t) e ∙ count-plus t a (n - a - b + b)
+    ∙ omega (
+      arith,
+      count-plus (λ i. t (a + i)) (n - a - b) b,
+      count-all t a (λ i l. or-left (ltb i a) (leb n (i + b)) (lt-ltb i a l)),
+      count-none (λ i. t (a + i)) (n - a - b) (λ i l. or-false (ltb (a + i) a) (leb n (a + i + b)) (le-ltb (a + i) a (omega arith)) (lt-leb n (a + i + b) (omega arith))),
+      count-all (λ i. t (a + (n - a - b + i))) b (λ i l. or-right (ltb (a + (n - a - b + i)) a) (leb n (a + (n - a - b + i) + b)) (le-leb n (a + (n - a - b + i) + b) (omega arith))),
+    )
+  where
+    t : ℕ → Bool
+    t i = ltb i a || leb n (i + b)

@@ -1,15 +1,12 @@
--- What has been stored in a list so far, and the entries of a list after a run of stores.
+-- The entries of a list after a run of stores.
 use Prim.Native.Nat.{ℕ, zero, suc, _+_, _≤_, _<_}
 use mathlib.Core.Path.{_≡_, refl, sym, ap, _∙_}
 use mathlib.Core.Logic.{_⊎_, inl, inr, ⊎-elim}
-use mathlib.Core.List.{List, [], _∷_, _++_}
+use mathlib.Core.List.{List, [], _∷_}
 use native.Mathlib.Nat.{add-zero, not-suc-le-zero}
 use native.Mathlib.Omega.{arith}
-use lib.ListN.{length, getD, drop, set, length-set, length-append}
-use lib.Seq.{sets, length-sets, getD-set-same, getD-set-other}
-use Rattle.counting.specs.Range.{over}
-use Rattle.counting.specs.Stores.{Stored}
-use Rattle.counting.proofs.Fronts.{sets-append, sets-front, over-more}
+use lib.ListN.{length, getD, set, length-set}
+use lib.Seq.{sets, getD-set-same, getD-set-other}
 
 module _ {A : Type 0} where
   -- outside the run
@@ -28,31 +25,3 @@ module _ {A : Type 0} where
   getD-sets-in (v ∷ vs) l i (suc k) d h b =
       let e : i + suc k ≡ suc i + k = omega arith in
       ap (λ n. getD (sets (set l i v) (suc i) vs) n d) e ∙ getD-sets-in vs (set l i v) (suc i) k d (omega arith) (omega (arith, length-set l i v))
-
-module _ {A : Type 0} where
-  -- nothing, and one entry
-  pub stored-none : (l : List A) (i : ℕ) → Stored [] l i l i
-  stored-none l i = record { area = refl; after = sym (add-zero i) }
-
-  pub stored-one : (l : List A) (i : ℕ) (a : A) → Stored (a ∷ []) l i (set l i a) (i + 1)
-  stored-one l i a = record { area = refl; after = refl }
-
-  -- a list and then another
-  pub stored-then : {v w was mid is : List A} {i m next : ℕ} → Stored v was i mid m → Stored w mid m is next → Stored (v ++ w) was i is next
-  stored-then {v} {w} {was} {mid} {is} {i} {m} {next} p q =
-      record {
-        area = q .area ∙ ap (λ (x : List A). sets x m w) (p .area) ∙ ap (λ k. sets (sets was i v) k w) (p .after) ∙ sym (sets-append was i v w);
-        after = omega (arith, p .after, q .after, length-append v w);
-      }
-
-  -- n lists of g and then the next
-  pub stored-more : (g : ℕ → List A) (n : ℕ) {was mid is : List A} {i m next : ℕ}
-      → Stored (over g n 0) was i mid m → Stored (g n) mid m is next → Stored (over g (n + 1) 0) was i is next
-  stored-more g n p q = rw over-more (stored-then p q)
-
-  pub stored-long : {v was is : List A} {i next : ℕ} → Stored v was i is next → length is ≡ length was
-  stored-long {v} {was} {is} {i} p = ap length (p .area) ∙ length-sets was i v
-
-  -- at the front
-  pub stored-front : {v was is : List A} {next : ℕ} → Stored v was 0 is next → length v ≤ length was → is ≡ v ++ drop (length v) was
-  stored-front {v} {was} p h = p .area ∙ sets-front v was h

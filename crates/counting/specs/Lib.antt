@@ -4,4 +4,5 @@ pub mod Search
 pub mod Lists
 pub mod Pack
 pub mod Reach
-pub mod Stores
+pub mod Stored
+pub mod Gcd

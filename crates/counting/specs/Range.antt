@@ -1,6 +1,7 @@
 -- Sums and joined lists over a range of numbers.
 use Prim.Native.Nat.{ℕ, zero, suc, _+_, _-_}
-use mathlib.Core.List.{List, [], _++_}
+use mathlib.Core.Bool.{Bool}
+use mathlib.Core.List.{List, [], _∷_, _++_}
 use lib.Dec.{eqb}
 use Rattle.counting.specs.Pick.{pick}
 
@@ -13,6 +14,10 @@ total g (suc n) p = g p + total g n (suc p)
 unfoldable pub over : {A : Type 0} → (ℕ → List A) → ℕ → ℕ → List A
 over f zero p = []
 over f (suc n) p = f p ++ over f n (suc p)
+
+-- the numbers that pass a test, of n from the number p on, in order
+unfoldable pub kept : (ℕ → Bool) → ℕ → ℕ → List ℕ
+kept t n p = over (λ q. pick (t q) (q ∷ []) []) n p
 
 -- the place after k in a round of n
 abbrev pub after : ℕ → ℕ → ℕ

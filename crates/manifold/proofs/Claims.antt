@@ -13,7 +13,8 @@ use Rattle.manifold.specs.Complex.{Complex, Lawful, mesh}
 use Rattle.manifold.specs.Claims.{PolygonLaws, Manifold}
 use Rattle.manifold.proofs.Triangle.{eq-same, ne-same}
 use Rattle.manifold.proofs.Sound.{member, tally-exact}
-use Rattle.manifold.proofs.Polygon.{fits, triangles-length, few-triangles, polygon-sides, Seen, seen, polygon-sound}
+use Rattle.manifold.proofs.Shapes.{many-le}
+use Rattle.manifold.proofs.Polygon.{fits, triangles-length, polygon-sides, Seen, seen, polygon-sound}
 use Rattle.manifold.proofs.Chain.{at-point, fan-ring}
 use Rattle.manifold.proofs.Sides.{at-most-two}
 use Rattle.manifold.proofs.Mesh.{mesh-sound, closed}
@@ -42,7 +43,7 @@ polygonLaws G two D = record {
       );
   point = at-point G ne D;
   ring = λ is. fan-ring G ne D is two;
-  few = omega (arith, triangles-length G, few-triangles G (shape G) (fits G ne));
+  few = omega (arith, triangles-length G, many-le (shape G) (G .n) (fits G ne));
 }
   where
     ne : G .n ≢ 1

@@ -12,14 +12,14 @@ use Rattle.manifold.specs.Triangle.{cross, Side, Tri, cornerOf, nth}
 use Rattle.manifold.specs.Ring.{Chain, OneRing}
 use Rattle.manifold.specs.Polygon.{Polygon, corner, segment, triangles}
 use Rattle.manifold.specs.Piece.{mateOf, segmentOf, dart}
-use Rattle.manifold.specs.Complex.{Complex, Lawful, Shut, Has, Shares, Linked, loopOf, mesh}
+use Rattle.manifold.specs.Complex.{Complex, Joins, Lawful, Shut, Has, Shares, Linked, loopOf, mesh}
 use Rattle.manifold.specs.Claims.{AtPoint}
 use Rattle.manifold.proofs.Sound.{member}
 use Rattle.manifold.proofs.Together.{port, Here, Spreads, Together, entered, left}
 use Rattle.manifold.proofs.Ring.{one-ring}
 use Rattle.manifold.proofs.Polygon.{of-cross}
 use Rattle.manifold.proofs.Chain.{at-point}
-use Rattle.manifold.proofs.Piece.{Covers, covers, covers-segment, dart-lt}
+use Rattle.manifold.proofs.Piece.{Covers, covers, covers-segment, joins}
 use Rattle.manifold.proofs.Mesh.{Of, of, in-mesh-here, along, size-two, simple, on, point-once, goes-to, closed}
 
 -- corner i of v, a triangle of piece c, is at g, and has the side σ
@@ -48,8 +48,8 @@ module _ (K : Complex) (W : Lawful K) where
         let (m, lm, q) = at-g (a .c) (a .p) (a .c-lt) (a .p-lt) v i (record { member = a .in-loop; lt = l; is = e }) in
         record {
           lt = a .c-lt;
-          x = half (dart (K .at (a .c)) (a .p) m);
-          x-lt = omega (arith, dart-lt (K .at (a .c)) (W .piece (a .c) (a .c-lt)) (on K W (a .c) (a .p) m (a .p-lt) lm));
+          d = dart (K .at (a .c)) (a .p) m;
+          on = joins (K .at (a .c)) (W .piece (a .c) (a .c-lt)) (on K W (a .c) (a .p) m (a .p-lt) lm);
           is = q;
         }
 
@@ -70,8 +70,8 @@ module _ (K : Complex) (W : Lawful K) where
 
     module _ (S : Shut K) where
       -- a triangle at each end of a chain: it has the segment of a dart there
-      flag : (c d : ℕ) → c < K .pieces → d < 2 * K .at c .N → K .at c .number (half d) ≡ g → Flag K g c (segmentOf (K .at c) d)
-      flag c d lc ld e = go (covers (K .at c) (W .piece c lc) (λ x l. S .full c x lc l) d ld)
+      flag : (c d : ℕ) → c < K .pieces → Joins (K .at c) d → K .at c .number (half d) ≡ g → Flag K g c (segmentOf (K .at c) d)
+      flag c d lc ld e = go (covers (K .at c) (W .piece c lc) (S .full c lc) d ld)
         where
           go : Covers (K .at c) d → Flag K g c (segmentOf (K .at c) d)
           go w = ⊎-elim same-way other-way (w .ends)
@@ -120,8 +120,8 @@ module _ (K : Complex) (W : Lawful K) where
       cross-over : (Q : Tri → ℕ → Type 0) (pass : Spreads (mesh K) (cross g) Q) (a b : ℕ) → Shares K g a b → Held Q pass a → Held Q pass b
       unfolding Held
       cross-over Q pass a b h f =
-          let u = flag a (h .d) (h .a-lt) (h .d-lt) (h .at-d) in
-          let w = flag b (h .e) (h .b-lt) (h .e-lt) (h .at-e) in
+          let u = flag a (h .d) (h .a-lt) (h .d-on) (h .at-d) in
+          let w = flag b (h .e) (h .b-lt) (h .e-on) (h .at-e) in
           spread Q pass b (w .p) (h .b-lt) (w .p-lt) (w .v) (w .i) (w .here)
           (pass (u .v) (u .i) (w .v) (w .i) (in-mesh-here K a (u .p) (h .a-lt) (u .p-lt) (u .v) (u .i) (u .here)) (in-mesh-here K b (w .p) (h .b-lt) (w .p-lt) (w .v) (w .i) (w .here))
           (u .b, w .b, u .by ∙ sym (h .same) ∙ sym (w .by)) (f (u .p) (u .p-lt) (u .v) (u .i) (u .here)))
@@ -138,6 +138,5 @@ module _ (K : Complex) (W : Lawful K) where
 
       pub crossing-ring : Linked K g → (c : ℕ) → Has K g c → OneRing (mesh K) (cross g)
       crossing-ring link c h =
-          let e : half (2 * h .x) ≡ h .x = omega arith in
-          let f = flag c (2 * h .x) (h .lt) (omega (arith, h .x-lt)) (ap (K .at c .number) e ∙ h .is) in
+          let f = flag c (h .d) (h .lt) (h .on) (h .is) in
           one-ring (mesh K) (closed K W S) (cross g) (together link) (f .v) (f .i) (in-mesh-here K c (f .p) (h .lt) (f .p-lt) (f .v) (f .i) (f .here))

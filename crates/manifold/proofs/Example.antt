@@ -38,7 +38,7 @@ part = record {
 }
 
 abbrev pair : Complex
-pair = record { pieces = 2; at = λ c. part; normal = λ c p. true }
+pair = record { pieces = 2; at = λ c. part; tag = λ c. c; normal = λ c p. true }
 
 two-triangles : mesh pair
     ≡ tri (cross 0) (cross 1) (cross 2) (seg 0 0) (seg 1 1) (seg 2 0) ∷ tri (cross 0) (cross 1) (cross 2) (seg 0 0) (seg 1 1) (seg 2 0) ∷ []
@@ -104,6 +104,7 @@ joined d l = ltb-true (mateOf part d) 3 (and-right (ltb (slotOf part d) 3) (ltb 
 faced : Faced pair
 faced = record {
   piece = λ c l. is-piece;
+  tags = λ a b la lb e. e;
   few = λ a b c r s t la lb lc lr ls lt p q ab ac bc. omega (arith, ab, ac, bc);
   agree = λ a b s d la lb ls ld e. record { e = d; lt = ld; slot = e; point = refl; mate = λ h. (h, refl) };
 }
@@ -120,20 +121,20 @@ facesShut = record {
 
 linked : (g : ℕ) → FacesLinked pair g
 linked g Q pass a b ha hb =
-    let e : 2 * ha .x / 2 ≡ ha .x = omega arith in
     pass a b (record {
       a-lt = ha .lt;
       b-lt = hb .lt;
-      d = 2 * ha .x;
-      d-lt = omega (arith, ha .x-lt);
-      at-d = e ∙ ha .is;
-      s = slotOf part (2 * ha .x);
-      s-lt = is-piece .slot (2 * ha .x) (omega (arith, ha .x-lt));
+      d = ha .d;
+      d-lt = ha .on .lt;
+      at-d = ha .is;
+      s = slotOf part (ha .d);
+      s-lt = is-piece .slot (ha .d) (ha .on .lt);
       face = refl;
     })
 
 -- a ring at each of the three crossings
 rings : (g : ℕ) → g < 3 → OneRing (mesh pair) (cross g)
 rings g l =
-    manifold pair (faces-lawful pair faced) .ring (faces-shut pair faced facesShut) g 0 (record { lt = omega arith; x = g; x-lt = l; is = refl })
+    manifold pair (faces-lawful pair faced) .ring (faces-shut pair faced facesShut) g 0
+    (record { lt = omega arith; d = 2 * g; on = record { lt = omega arith; joined = joined (2 * g) (omega arith) }; is = omega arith })
     (faces-linked pair faced facesShut g (linked g))

@@ -34,6 +34,7 @@ module _ (K : Complex) (W : Faced K) where
   pub faces-lawful : Lawful K
   faces-lawful = record {
     piece = W .piece;
+    tags = W .tags;
     few = λ a b c d e f la lb lc hd he hf p q. W .few a b c (slotOf (K .at a) d) (slotOf (K .at b) e) (slotOf (K .at c) f) la lb lc
         (W .piece a la .slot d (hd .lt)) (W .piece b lb .slot e (he .lt)) (W .piece c lc .slot f (hf .lt)) (face-of a b d e p) (face-of a c d f q);
     ends = ends;
@@ -42,11 +43,11 @@ module _ (K : Complex) (W : Faced K) where
   module _ (F : FacesShut K) where
     pub faces-shut : Shut K
     faces-shut = record {
-      full = F .full;
-      paired = λ c d lc ld.
-          let (b, lb, ne, s, ls, q) = F .paired c d lc ld in
-          let m = W .agree c b s d lc lb ls ld q in
-          (b, lb, ne, m .e, m .lt, match-segment (K .at c) (K .at b) s d (F .full c d lc ld) q m);
+      full = λ c lc d j ld. F .full c d lc ld;
+      paired = λ c d lc j.
+          let (b, lb, ne, s, ls, q) = F .paired c d lc (j .lt) in
+          let m = W .agree c b s d lc lb ls (j .lt) q in
+          (b, lb, ne, m .e, record { lt = m .lt; joined = m .mate (j .joined) .0 }, match-segment (K .at c) (K .at b) s d (j .joined) q m);
     }
 
     pub faces-linked : (g : ℕ) → FacesLinked K g → Linked K g
@@ -57,8 +58,8 @@ module _ (K : Complex) (W : Faced K) where
           b-lt = h .b-lt;
           d = h .d;
           e = m .e;
-          d-lt = h .d-lt;
-          e-lt = m .lt;
+          d-on = record { lt = h .d-lt; joined = F .full a (h .d) (h .a-lt) (h .d-lt) };
+          e-on = record { lt = m .lt; joined = m .mate (F .full a (h .d) (h .a-lt) (h .d-lt)) .0 };
           at-d = h .at-d;
           at-e = m .point ∙ h .at-d;
           same = match-segment (K .at a) (K .at b) (h .s) (h .d) (F .full a (h .d) (h .a-lt) (h .d-lt)) (h .face) m;

@@ -1,7 +1,7 @@
 pub mod Triangle
 pub mod Sound
-pub mod Polygon
 pub mod Shapes
+pub mod Polygon
 pub mod Chain
 pub mod Together
 pub mod Glue

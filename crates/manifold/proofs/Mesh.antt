@@ -127,7 +127,7 @@ module _ (K : Complex) where
             go (inr (k, s)) (inl (l, t)) = absurd (seg-inner (sym (t .is) ∙ sym e ∙ s .is))
             go (inr (k, s)) (inr (l, t)) =
                 let q : spoke G k ≡ spoke H l = sym (s .is) ∙ e ∙ t .is in
-                loop-sound (a .c) (a .p) (a .c-lt) (a .p-lt) .ends v i w j (a .in-loop) (same-loop v w a b (cc) (cc)) li lj e
+                loop-sound (a .c) (a .p) (a .c-lt) (a .p-lt) .ends v i w j (a .in-loop) (same-loop v w a b (W .tags (a .c) (b .c) (a .c-lt) (b .c-lt) (cc)) (cc)) li lj e
 
     pub closed : Shut K → Closed (mesh K)
     closed S = record { sound = mesh-sound; twice = λ v i m l. twice v i (of v m) l }
@@ -137,5 +137,5 @@ module _ (K : Complex) where
           where
             go : Seen (loopOf K (a .c) (a .p)) (shape (loopOf K (a .c) (a .p))) v i → weigh (hits (sideOf v i)) (mesh K) ≡ 2
             go (inl (k, s)) =
-                rw (s .is) (segment-two K W S (a .c) (dart (K .at (a .c)) (a .p) k) (a .c-lt) (dart-lt (K .at (a .c)) (W .piece (a .c) (a .c-lt)) (on (a .c) (a .p) k (a .p-lt) (s .lt))))
+                rw (s .is) (segment-two K W S (a .c) (dart (K .at (a .c)) (a .p) k) (a .c-lt) (joins (K .at (a .c)) (W .piece (a .c) (a .c-lt)) (on (a .c) (a .p) k (a .p-lt) (s .lt))))
             go (inr (k, s)) = inner-two K W (sideOf v i) (a .c) (a .p) k (record { c-lt = a .c-lt; p-lt = a .p-lt; k-lt = s .lt; is = s .is })

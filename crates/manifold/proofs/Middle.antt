@@ -31,9 +31,9 @@ module _ (K : Complex) (W : Lawful K) (c p : ℕ) (lc : c < K .pieces) (lp : p <
     where
       go : Of K v → Member (triangles (loopOf K c p)) v
       go a =
-          let (f, e) = of-middle (loopOf K (a .c) (a .p)) v i c (K .at c .number p) (a .in-loop) (h .lt) (h .is) in
+          let (f, e) = of-middle (loopOf K (a .c) (a .p)) v i (K .tag c) (K .at c .number p) (a .in-loop) (h .lt) (h .is) in
           let t : Of K (nth (triangles (loopOf K c p)) (ring .chain .visit 0)) = record { c = c; p = p; c-lt = lc; p-lt = lp; in-loop = first .member } in
-          same-loop K W (nth (triangles (loopOf K c p)) (ring .chain .visit 0)) v t a (cc) (cc)
+          same-loop K W (nth (triangles (loopOf K c p)) (ring .chain .visit 0)) v t a (W .tags c (a .c) lc (a .c-lt) (cc)) (cc)
 
   together : Together (mesh K) (centre (loopOf K c p))
   together Q pass v i w j hv hw q = along K c p lc lp (ring .chain) Q pass v i w j (in-fan v i hv) (in-fan w j hw) q

@@ -1,5 +1,5 @@
 -- Step 3: in a piece each segment is on at most one loop, once; on exactly one where every crossing is joined on both of its faces.
-use Prim.Native.Nat.{ℕ, suc, _*_, _/_, _≤_, _<_, min}
+use Prim.Native.Nat.{ℕ, zero, suc, _*_, _/_, _≤_, _<_, min}
 use mathlib.Core.Path.{_≡_, refl, sym, ap, ap₂, _∙_, subst}
 use mathlib.Core.Logic.{_⊎_, inl, inr, _≢_, ⊎-elim}
 use mathlib.Core.Bool.{Bool, true, false}
@@ -14,13 +14,13 @@ use Rattle.walk.specs.Iterate.{it}
 use Rattle.walk.specs.Darts.{half, rev, Darts, Loop}
 use Rattle.walk.specs.Step.{step}
 use Rattle.walk.proofs.Iterate.{it-suc}
-use Rattle.walk.proofs.Curve.{loop-distinct, all-close}
+use Rattle.walk.proofs.Curve.{loop-distinct, closes}
 use Rattle.walk.proofs.Found.{size-live}
 use Rattle.walk.proofs.Once.{listed, same-start, closed-in}
 use Rattle.walk.proofs.Step.{rev-first, rev-second, by-parity, same-half, darts, live, land-half, land-face, face-first, face-second}
 use Rattle.manifold.specs.Triangle.{Side, seg, same}
 use Rattle.manifold.specs.Piece.{Local, Piece, slotOf, mateOf, lowerOf, segmentOf, onward, dart, sizeOf}
-use Rattle.manifold.specs.Complex.{Joins}
+use Rattle.manifold.specs.Complex.{Joins, Whole}
 use Rattle.manifold.proofs.Triangle.{eq-same, ne-same, one-same}
 
 module _ (A : Local) where
@@ -191,10 +191,28 @@ module _ (A : Local) where
         let b : onward A (2 * p) ≡ 2 * p = sym (dart-after h) ∙ ap (dart A p) (after-last (sizeOf A p) 0 (sym e)) in
         K .ports .other (2 * p) (omega arith) (sym (step-mate (2 * p) (joins h .joined)) ∙ ap half b)
 
-    -- where each crossing is joined on both faces, the segment of each dart is on a listed loop
-    pub covers : ((d : ℕ) → d < 2 * A .N → mateOf A d < A .N) → (e : ℕ) → e < 2 * A .N → Covers e
-    covers full e l =
-        let (k, le, L) = all-close (2 * A .N) (A .N) (onward A) rev half cell-darts (λ d h. omega (arith, full d h, step-mate d (full d h))) e l in
+    -- where no curve ends, the segment of each dart is on a listed loop
+    step-lt : (d : ℕ) → mateOf A d < A .N → onward A d < 2 * A .N
+    step-lt d l = omega (arith, l, step-mate d l)
+
+    -- a step to a crossing that is joined on the face by which it is come to
+    step-joined : (d : ℕ) → Joins A d → Joins A (rev (onward A d))
+    step-joined d j =
+        let l = step-lt d (j .joined) in
+        let m : mateOf A (rev (onward A d)) ≡ half d =
+        ap₂ (A .mate) (step-slot d (j .lt) (j .joined)) (cell-darts .cr-rv (onward A d) l ∙ step-mate d (j .joined)) ∙ K .ports .both d (j .lt) (j .joined) in
+        record { lt = cell-darts .rv-lt (onward A d) l; joined = rw m (omega (arith, j .lt)) }
+
+    steps : Whole A → (i e : ℕ) → Joins A e → it (onward A) i e < 2 * A .N
+    unfolding it
+    steps full zero e j = j .lt
+    steps full (suc i) e j =
+        let l = step-lt e (j .joined) in
+        steps full i (onward A e) (record { lt = l; joined = full (onward A e) (step-joined e j) l })
+
+    pub covers : Whole A → (e : ℕ) → Joins A e → Covers e
+    covers full e on =
+        let (k, le, L) = closes (2 * A .N) (A .N) (onward A) rev half cell-darts e (λ i h. steps full i e on) in
         let (p, lp, o) = closed-in (A .N) (onward A) rev cell-darts e k L in
         ⊎-elim (forth p (o .at) (record { start = lp; lt = o .at-lt }))
         (back p (o .at) (record { start = lp; lt = o .at-lt }))
@@ -209,6 +227,6 @@ module _ (A : Local) where
             let g : Listed p j = record { start = h .start; lt = before-lt (sizeOf A p) i (h .lt) } in
             let s : onward A (dart A p j) ≡ rev e = sym (dart-after g) ∙ ap (dart A p) (after-before (sizeOf A p) i (h .lt)) ∙ q in
             let f : slotOf A (dart A p j) ≡ slotOf A e =
-            sym (step-slot (dart A p j) (dart-lt g) (joins g .joined)) ∙ ap (λ x. slotOf A (rev x)) s ∙ ap (slotOf A) (cell-darts .rv-rv e l) in
-            let t : mateOf A (dart A p j) ≡ half e = sym (step-mate (dart A p j) (joins g .joined)) ∙ ap half s ∙ cell-darts .cr-rv e l in
+            sym (step-slot (dart A p j) (dart-lt g) (joins g .joined)) ∙ ap (λ x. slotOf A (rev x)) s ∙ ap (slotOf A) (cell-darts .rv-rv e (on .lt)) in
+            let t : mateOf A (dart A p j) ≡ half e = sym (step-mate (dart A p j) (joins g .joined)) ∙ ap half s ∙ cell-darts .cr-rv e (on .lt) in
             record { p = p; i = j; on = g; slot = f; ends = inr (sym (K .ports .both (dart A p j) (dart-lt g) (joins g .joined)) ∙ ap₂ (A .mate) f t, t) }

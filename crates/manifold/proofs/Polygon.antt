@@ -2,50 +2,35 @@
 use Prim.Native.Nat.{ℕ, zero, suc, _+_, _*_, _≤_, _<_}
 use mathlib.Core.Path.{_≡_, refl, sym, ap, _∙_, subst}
 use mathlib.Core.Logic.{_⊎_, inl, inr, _≢_, ⊎-elim}
-use mathlib.Core.Bool.{Bool, true, false}
 use mathlib.Core.List.{[], _∷_}
 use native.Mathlib.Nat.{not-suc-le-zero}
 use native.Mathlib.Omega.{arith}
-use lib.Dec.{eqb}
 use lib.ListN.{length}
-use borrow.Author.Tests.{eqb-true}
 use Rattle.counting.specs.Pick.{one}
 use Rattle.counting.specs.Range.{total, over, after}
 use Rattle.counting.specs.Lists.{weigh}
 use Rattle.counting.proofs.Range.{total-ext, total-add, total-round, after-on, after-last, after-lt, after-ne}
-use Rattle.counting.proofs.Lists.{weigh-over, length-singles, getD-singles}
-use Rattle.manifold.specs.Triangle.{Corner, cross, middle, Side, Tri, cornerOf, sideOf, next, same, noTri, nth}
-use Rattle.manifold.specs.Polygon.{Polygon, Shape, single, double, fan, shapeBy, shape, corner, centre, segment, spoke, triangle, many, inners, triangles, Simple}
+use Rattle.counting.proofs.Lists.{weigh-over}
+use Rattle.manifold.specs.Triangle.{Corner, cross, middle, Side, Tri, tri, cornerOf, sideOf, next, same, noTri, nth}
+use Rattle.manifold.specs.Polygon.{Polygon, Shape, single, double, fan, shape, corner, centre, segment, spoke, triangle, many, inners, triangles, Simple}
+pub use Rattle.manifold.proofs.Shapes.{Fits}
+use Rattle.manifold.proofs.Shapes.{fits as shape-fits, length-triangles, getD-triangles}
 use Rattle.manifold.proofs.Triangle.{hits, cross-middle, seg-inner}
 use Rattle.manifold.proofs.Sound.{Member, Ends, via, Sound}
 
--- what a shape says of the number of points
-abbrev pub Fits : Shape → ℕ → Type 0
-Fits single n = n ≡ 3
-Fits double n = n ≡ 4
-Fits fan n = n ≢ 1
-
 pub fits : (G : Polygon) → G .n ≢ 1 → Fits (shape G) (G .n)
 unfolding shape
-fits G h = go (eqb (G .n) 3) (eqb (G .n) 4) (G .normal) refl refl
-  where
-    go : (a b c : Bool) → eqb (G .n) 3 ≡ a → eqb (G .n) 4 ≡ b → Fits (shapeBy a b c) (G .n)
-    go true b c u v = eqb-true (G .n) 3 u
-    go false true true u v = eqb-true (G .n) 4 v
-    go false true false u v = h
-    go false false c u v = h
+fits G h = shape-fits (G .n) (G .normal) h
 
 module _ (G : Polygon) where
   -- its triangles, as a list, by number
   pub triangles-length : length (triangles G) ≡ many G (shape G)
   unfolding triangles
-  triangles-length = length-singles (triangle G (shape G)) (many G (shape G)) 0
+  triangles-length = length-triangles tri (corner G) (centre G) (segment G) (spoke G) (G .n) (shape G)
 
   pub triangles-nth : (k : ℕ) → k < many G (shape G) → nth (triangles G) k ≡ triangle G (shape G) k
   unfolding triangles
-  triangles-nth k l =
-      let e : 0 + k ≡ k = omega arith in
-      getD-singles (triangle G (shape G)) noTri (many G (shape G)) 0 k l ∙ ap (triangle G (shape G)) e
+  triangles-nth k l = getD-triangles tri (corner G) (centre G) (segment G) (spoke G) (G .n) noTri (shape G) k l
 
   pub triangles-member : (k : ℕ) → k < many G (shape G) → Member (triangles G) (triangle G (shape G) k)
   triangles-member k l = record { at = k; lt = omega (arith, triangles-length); is = triangles-nth k l }
@@ -54,11 +39,6 @@ module _ (G : Polygon) where
   triangles-of v m =
       let l : m .at < many G (shape G) = omega (arith, m .lt, triangles-length) in
       (m .at, l, sym (m .is) ∙ triangles-nth (m .at) l)
-
-  pub few-triangles : (sh : Shape) → Fits sh (G .n) → many G sh ≤ G .n
-  few-triangles single e = omega arith
-  few-triangles double e = omega arith
-  few-triangles fan e = omega arith
 
   -- each segment is a side once, and each inner side twice
   counted : (σ : Side) (sh : Shape) → Fits sh (G .n)

@@ -13,7 +13,7 @@ use Rattle.counting.proofs.Lists.{weigh-over}
 use Rattle.manifold.specs.Triangle.{Side, seg, inner, same, hasSide}
 use Rattle.manifold.specs.Polygon.{shape, spoke, inners, triangles}
 use Rattle.manifold.specs.Piece.{slotOf, lowerOf, segmentOf, dart, sizeOf}
-use Rattle.manifold.specs.Complex.{Complex, Lawful, Shut, loopOf, mesh}
+use Rattle.manifold.specs.Complex.{Complex, Joins, Lawful, Shut, loopOf, mesh}
 use Rattle.manifold.proofs.Triangle.{hits, eq-same, ne-same, one-same, tally-hits}
 use Rattle.manifold.proofs.Polygon.{polygon-sides}
 use Rattle.manifold.proofs.Piece.{Passed, counts, counted, count-one, count-le, size-ne, joins, covers, covers-segment}
@@ -88,20 +88,21 @@ module _ (K : Complex) where
     unfolding inPiece spokes
     inner-two σ c p k w =
         let g = K .at c .number p in
-        let τ = inner c g k in
+        let t = K .tag c in
+        let τ = inner t g k in
         ap (λ s. weigh (hits s) (mesh K)) (w .is) ∙ whole τ
         ∙ total-single (inPiece τ) (K .pieces) 0 c (omega arith) (omega (arith, w .c-lt))
-        (λ c′ u v ne. total-zero (inLoop τ c′) (K .at c′ .N) 0 (λ p′ x y. none c g k c′ p′ (omega arith) (omega arith) (λ q e. ne (cc))))
+        (λ c′ u v ne. total-zero (inLoop τ c′) (K .at c′ .N) 0 (λ p′ x y. none t g k c′ p′ (omega arith) (omega arith) (λ q e. ne (W .tags c′ c (omega arith) (w .c-lt) (cc)))))
         ∙ total-single (inLoop τ c) (K .at c .N) 0 p (omega arith) (omega (arith, w .p-lt))
-        (λ p′ u v ne. none c g k c p′ (w .c-lt) (omega arith) (λ q e.
+        (λ p′ u v ne. none t g k c p′ (w .c-lt) (omega arith) (λ q e.
         let f : K .at c .number p′ ≡ K .at c .number p = cc in
         ne (W .piece c (w .c-lt) .numbers p′ p (omega arith) (w .p-lt) f)))
         ∙ loop-sides τ c p (w .c-lt) (w .p-lt)
         ∙ omega (
           arith,
           total-zero (λ i. 0) (sizeOf (K .at c) p) 0 (λ q u v. refl),
-          total-one (λ i. one (same τ (inner c g i))) (spokes c p) 0 k (omega arith) (omega (arith, w .k-lt))
-              (ap one (eq-same τ τ refl)) (λ q u v ne. ap one (ne-same τ (inner c g q) (λ e. ne (cc)))),
+          total-one (λ i. one (same τ (inner t g i))) (spokes c p) 0 k (omega arith) (omega (arith, w .k-lt))
+              (ap one (eq-same τ τ refl)) (λ q u v ne. ap one (ne-same τ (inner t g q) (λ e. ne (cc)))),
         )
 
     inner-le : (a g k : ℕ) → weigh (hits (inner a g k)) (mesh K) ≤ 2
@@ -134,13 +135,13 @@ module _ (K : Complex) where
 
     -- where nothing is left open, a segment of a piece occurs twice
     module _ (S : Shut K) where
-      once : (c d : ℕ) → c < K .pieces → d < 2 * K .at c .N → inPiece (segmentOf (K .at c) d) c ≡ 1
+      once : (c d : ℕ) → c < K .pieces → Joins (K .at c) d → inPiece (segmentOf (K .at c) d) c ≡ 1
       once c d lc ld =
-          let w = covers (K .at c) (W .piece c lc) (λ e l. S .full c e lc l) d ld in
+          let w = covers (K .at c) (W .piece c lc) (S .full c lc) d ld in
           segment-count (K .at c .name (slotOf (K .at c) d)) (lowerOf (K .at c) d) c lc
           ∙ count-one (K .at c) (W .piece c lc) (segmentOf (K .at c) d) (record { p = w .p; i = w .i; on = w .on; is = sym (covers-segment (K .at c) d w) })
 
-      pub segment-two : (c d : ℕ) → c < K .pieces → d < 2 * K .at c .N → weigh (hits (segmentOf (K .at c) d)) (mesh K) ≡ 2
+      pub segment-two : (c d : ℕ) → c < K .pieces → Joins (K .at c) d → weigh (hits (segmentOf (K .at c) d)) (mesh K) ≡ 2
       segment-two c d lc ld =
           let (b, lb, ne, x, lx, q) = S .paired c d lc ld in
           let e : inPiece (segmentOf (K .at c) d) b ≡ 1 = subst (λ y. inPiece y b ≡ 1) q (once b x lb lx) in

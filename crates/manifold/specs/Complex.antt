@@ -5,15 +5,17 @@ use mathlib.Core.Logic.{_⊎_, _≢_}
 use mathlib.Core.Bool.{Bool}
 use mathlib.Core.List.{List}
 use Rattle.counting.specs.Range.{over}
-use Rattle.walk.specs.Darts.{half}
+use Rattle.walk.specs.Darts.{half, rev}
 use Rattle.manifold.specs.Triangle.{Tri}
 use Rattle.manifold.specs.Polygon.{Polygon, triangles}
 use Rattle.manifold.specs.Piece.{Local, Piece, slotOf, mateOf, lowerOf, segmentOf, dart, sizeOf}
 
--- its pieces are numbered; piece c is the cell c of a grid
+-- its pieces are numbered
 pub record Complex : Type 0 where
   pub pieces : ℕ
   pub at : ℕ → Local
+  -- what the middles and the inner sides of a piece go by
+  pub tag : ℕ → ℕ
   -- whether the loop of a piece from p is normal
   pub normal : ℕ → ℕ → Bool
 
@@ -21,7 +23,7 @@ module _ (K : Complex) where
   -- the loop of piece c from its crossing p
   abbrev pub loopOf : ℕ → ℕ → Polygon
   loopOf c p = record {
-    cell = c;
+    cell = K .tag c;
     p0 = K .at c .number p;
     n = sizeOf (K .at c) p;
     point = λ k. K .at c .number (half (dart (K .at c) p k));
@@ -48,6 +50,7 @@ SameEnds A d B e =
 -- what is asked of every complex
 pub record Lawful (K : Complex) : Type 0 where
   pub piece : (c : ℕ) → c < K .pieces → Piece (K .at c)
+  pub tags : (a b : ℕ) → a < K .pieces → b < K .pieces → K .tag a ≡ K .tag b → a ≡ b
   -- a segment is in at most two pieces
   pub few : (a b c d e f : ℕ) → a < K .pieces → b < K .pieces → c < K .pieces → Joins (K .at a) d → Joins (K .at b) e → Joins (K .at c) f
       → segmentOf (K .at a) d ≡ segmentOf (K .at b) e → segmentOf (K .at a) d ≡ segmentOf (K .at c) f → a ≢ b → a ≢ c → b ≢ c → ⊥
@@ -55,18 +58,22 @@ pub record Lawful (K : Complex) : Type 0 where
   pub ends : (a b d e : ℕ) → a < K .pieces → b < K .pieces → Joins (K .at a) d → Joins (K .at b) e
       → segmentOf (K .at a) d ≡ segmentOf (K .at b) e → SameEnds (K .at a) d (K .at b) e
 
--- nothing is left open: each crossing of a piece is joined on both of its faces, and each segment is in a second piece
-pub record Shut (K : Complex) : Type 0 where
-  pub full : (c d : ℕ) → c < K .pieces → d < 2 * K .at c .N → mateOf (K .at c) d < K .at c .N
-  pub paired : (c d : ℕ) → c < K .pieces → d < 2 * K .at c .N
-      → (b : ℕ) × (b < K .pieces) × (b ≢ c) × (e : ℕ) × (e < 2 * K .at b .N) × (segmentOf (K .at b) e ≡ segmentOf (K .at c) d)
+-- no curve ends in the piece A: a crossing is joined on both of its faces, or on neither
+abbrev pub Whole : Local → Type 0
+Whole A = (d : ℕ) → Joins A (rev d) → d < 2 * A .N → mateOf A d < A .N
 
--- the piece c has the crossing g
+-- nothing is left open: no curve ends in a piece, and each segment is in a second piece
+pub record Shut (K : Complex) : Type 0 where
+  pub full : (c : ℕ) → c < K .pieces → Whole (K .at c)
+  pub paired : (c d : ℕ) → c < K .pieces → Joins (K .at c) d
+      → (b : ℕ) × (b < K .pieces) × (b ≢ c) × (e : ℕ) × Joins (K .at b) e × (segmentOf (K .at b) e ≡ segmentOf (K .at c) d)
+
+-- the piece c has a segment that ends at the crossing g
 pub record Has (K : Complex) (g c : ℕ) : Type 0 where
   pub lt : c < K .pieces
-  pub x : ℕ
-  pub x-lt : x < K .at c .N
-  pub is : K .at c .number x ≡ g
+  pub d : ℕ
+  pub on : Joins (K .at c) d
+  pub is : K .at c .number (half d) ≡ g
 
 -- the pieces a and b share a segment that ends at g
 pub record Shares (K : Complex) (g a b : ℕ) : Type 0 where
@@ -74,8 +81,8 @@ pub record Shares (K : Complex) (g a b : ℕ) : Type 0 where
   pub b-lt : b < K .pieces
   pub d : ℕ
   pub e : ℕ
-  pub d-lt : d < 2 * K .at a .N
-  pub e-lt : e < 2 * K .at b .N
+  pub d-on : Joins (K .at a) d
+  pub e-on : Joins (K .at b) e
   pub at-d : K .at a .number (half d) ≡ g
   pub at-e : K .at b .number (half e) ≡ g
   pub same : segmentOf (K .at b) e ≡ segmentOf (K .at a) d

@@ -17,6 +17,7 @@ pub record Match (A B : Local) (s d : ℕ) : Type 0 where
 -- a face is in at most two pieces, and these agree on it
 pub record Faced (K : Complex) : Type 0 where
   pub piece : (c : ℕ) → c < K .pieces → Piece (K .at c)
+  pub tags : (a b : ℕ) → a < K .pieces → b < K .pieces → K .tag a ≡ K .tag b → a ≡ b
   pub few : (a b c r s t : ℕ) → a < K .pieces → b < K .pieces → c < K .pieces → r < K .at a .slots → s < K .at b .slots → t < K .at c .slots
       → K .at a .name r ≡ K .at b .name s → K .at a .name r ≡ K .at c .name t → a ≢ b → a ≢ c → b ≢ c → ⊥
   pub agree : (a b s d : ℕ) → a < K .pieces → b < K .pieces → s < K .at b .slots → d < 2 * K .at a .N

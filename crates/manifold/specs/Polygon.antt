@@ -1,11 +1,11 @@
 -- The triangles of one loop (01, "Triangles").
-use Prim.Native.Nat.{ℕ, zero, suc, _<_}
+use Prim.Native.Nat.{ℕ, _<_}
 use mathlib.Core.Path.{_≡_}
-use mathlib.Core.Bool.{Bool, true, false}
-use mathlib.Core.List.{List, [], _∷_}
-use lib.Dec.{eqb}
-use Rattle.counting.specs.Range.{over, after}
+use mathlib.Core.Bool.{Bool}
+use mathlib.Core.List.{List}
 use Rattle.manifold.specs.Triangle.{Corner, cross, middle, Side, seg, inner, Tri, tri}
+pub use Rattle.manifold.specs.Shape.{Shape, single, double, fan, shapeBy}
+use Rattle.manifold.specs.Shape.{shapeOf, manyOf, innersOf, triangleOf, trianglesOf}
 
 -- a loop by its numbers
 pub record Polygon : Type 0 where
@@ -20,19 +20,8 @@ pub record Polygon : Type 0 where
   pub lower : ℕ → ℕ
   pub normal : Bool
 
--- one triangle, two, or a fan
-pub data Shape : Type 0 where
-  single double fan : Shape
-
--- by three tests: n = 3, n = 4, normal
-abbrev pub shapeBy : Bool → Bool → Bool → Shape
-shapeBy true four normal = single
-shapeBy false true true = double
-shapeBy false true false = fan
-shapeBy false false normal = fan
-
 unfoldable pub shape : Polygon → Shape
-shape G = shapeBy (eqb (G .n) 3) (eqb (G .n) 4) (G .normal)
+shape G = shapeOf (G .n) (G .normal)
 
 module _ (G : Polygon) where
   abbrev pub corner : ℕ → Corner
@@ -49,23 +38,16 @@ module _ (G : Polygon) where
 
   -- triangle k of each shape, how many there are, and how many inner sides
   abbrev pub triangle : Shape → ℕ → Tri
-  triangle single k = tri (corner 0) (corner 1) (corner 2) (segment 0) (segment 1) (segment 2)
-  triangle double zero = tri (corner 0) (corner 1) (corner 2) (segment 0) (segment 1) (spoke 0)
-  triangle double (suc k) = tri (corner 0) (corner 2) (corner 3) (spoke 0) (segment 2) (segment 3)
-  triangle fan k = tri (corner k) (corner (after (G .n) k)) centre (segment k) (spoke (after (G .n) k)) (spoke k)
+  triangle sh k = triangleOf tri corner centre segment spoke (G .n) sh k
 
   abbrev pub many : Shape → ℕ
-  many single = 1
-  many double = 2
-  many fan = G .n
+  many sh = manyOf sh (G .n)
 
   abbrev pub inners : Shape → ℕ
-  inners single = 0
-  inners double = 1
-  inners fan = G .n
+  inners sh = innersOf sh (G .n)
 
   unfoldable pub triangles : List Tri
-  triangles = over (λ k. triangle (shape G) k ∷ []) (many (shape G)) 0
+  triangles = trianglesOf tri corner centre segment spoke (G .n) (shape G)
 
 -- no point twice, and no segment twice
 pub record Simple (G : Polygon) : Type 0 where

@@ -46,7 +46,7 @@ module _ (cells edges counts : List ℕ) where
   at c = localOf (gridCell cells edges counts c)
 
   abbrev pub gridComplex : Complex
-  gridComplex = record { pieces = cellCount cells; at = at; normal = λ c p. normal (w c) p }
+  gridComplex = record { pieces = cellCount cells; at = at; tag = λ c. c; normal = λ c p. normal (w c) p }
 
   -- the count, the start and the face name of an edge and of a slot of cell c
   pub count-of : (c k : ℕ) → k < 6 → w c k ≡ countOf counts (en c k)
@@ -222,6 +222,7 @@ module _ (cells edges counts : List ℕ) where
     pub faced : Faced gridComplex
     faced = record {
       piece = piece-is;
+      tags = λ a b la lb e. e;
       few = λ a b c r s t la lb lc lr ls lt p q. A .third a b c r s t la lb lc lr ls lt
           (same-named cells a r b s la lb lr ls (sym (name-of a r lr) ∙ p ∙ name-of b s ls))
           (same-named cells a r c t la lc lr lt (sym (name-of a r lr) ∙ q ∙ name-of c t lt));

@@ -1,5 +1,5 @@
 -- Demand 3 from what acceptance yields.
-use Prim.Native.Nat.{ℕ, _+_, _<_}
+use Prim.Native.Nat.{ℕ, _+_, _*_, _/_, _<_}
 use mathlib.Core.Path.{_≡_, refl, sym, ap, ap₂, _∙_, subst}
 use mathlib.Core.Logic.{_⊎_, inl, inr}
 use mathlib.Core.Bool.{Bool, true, false, _&&_, _||_}
@@ -52,6 +52,9 @@ has-named σ t = go (same σ (sideAt t 0)) (same σ (sideAt t 1)) (same σ (side
     go true y z = refl
     go false y z = refl
 
+half-of : (x : ℕ) → 2 * x / 2 ≡ x
+half-of x = omega arith
+
 module _ (cells edges counts : List ℕ) where
   index-of : (c : ℕ) → gridCell cells edges counts c .index ≡ c
   unfolding gridCell
@@ -101,9 +104,9 @@ module _ (cells edges counts : List ℕ) where
     closed H = faces-shut K (faced cells edges counts A) (facesShut cells edges counts A H)
 
     -- each crossing number is that of a crossing of a cell
-    has : (g : ℕ) → g < crossings counts → (c : ℕ) × Has K g c
+    has : RingPremises cells edges counts → (g : ℕ) → g < crossings counts → (c : ℕ) × Has K g c
     unfolding start
-    has g l =
+    has H g l =
         let n = length counts in
         let e = row (countOf counts) n g in
         let i = col (countOf counts) n g in
@@ -115,9 +118,9 @@ module _ (cells edges counts : List ℕ) where
           c,
           record {
             lt = lc;
-            x = x;
-            x-lt = lx;
-            is = number-of cells edges counts c x lx
+            d = 2 * x;
+            on = record { lt = omega arith; joined = facesShut cells edges counts A H .full c (2 * x) lc (omega arith) };
+            is = ap (K .at c .number) (half-of x) ∙ number-of cells edges counts c x lx
                 ∙ ap₂ (λ a b. start counts (en cells edges counts c a) + b) (row-pack v 6 k i lk li) (col-pack v 6 k i lk li)
                 ∙ ap (λ a. start counts a + i) q ∙ unpack (countOf counts) n g l;
           },
@@ -140,7 +143,7 @@ module _ (cells edges counts : List ℕ) where
       at-most-two = λ σ. rw (sym (tally-named σ)) (claims .most σ);
       exactly-two = λ H t i lt li. two H t i lt li;
       ring-at-crossing = λ H g l.
-          let (c, h) = has g l in
+          let (c, h) = has H g l in
           ring-of (cross g) (claims .ring (closed H) g c h (faces-linked K (faced cells edges counts A) (facesShut cells edges counts A H) g (facesLinked cells edges counts A H g)));
       ring-at-middle = λ H c p F. ring-of (middle c (numberOf (gridCell cells edges counts c) p)) (claims .round (closed H) c p (F .cell-lt) (F .start-lt) (F .some) (fan-shape c p F));
     }

@@ -111,16 +111,22 @@ module _ (cells edges counts : List ℕ) where
     facesLinked g Q pass a b ha hb =
         let va = w cells edges counts a in
         let vb = w cells edges counts b in
-        let ka = edge va (ha .x) in
-        let kb = edge vb (hb .x) in
-        let lka = row-lt va 6 (ha .x) (ha .x-lt) in
-        let lkb = row-lt vb 6 (hb .x) (hb .x-lt) in
-        let i = index va (ha .x) in
-        let li : i < countOf counts (en cells edges counts a ka) = subst (λ n. i < n) (count-of cells edges counts a ka lka) (col-lt va 6 (ha .x) (ha .x-lt)) in
-        let lj : index vb (hb .x) < countOf counts (en cells edges counts b kb) = subst (λ n. index vb (hb .x) < n) (count-of cells edges counts b kb lkb) (col-lt vb 6 (hb .x) (hb .x-lt)) in
-        let na : start counts (en cells edges counts a ka) + i ≡ g = sym (number-of cells edges counts a (ha .x) (ha .x-lt)) ∙ ha .is in
-        let nb : start counts (en cells edges counts b kb) + index vb (hb .x) ≡ g = sym (number-of cells edges counts b (hb .x) (hb .x-lt)) ∙ hb .is in
-        let e : en cells edges counts a ka ≡ en cells edges counts b kb = edge-of-number (en cells edges counts a ka) (en cells edges counts b kb) i (index vb (hb .x)) li lj (na ∙ sym nb) in
+        let xa = half (ha .d) in
+        let xb = half (hb .d) in
+        let ja = ha .on .lt in
+        let jb = hb .on .lt in
+        let la : half (ha .d) < crossings va = omega arith in
+        let lb : half (hb .d) < crossings vb = omega arith in
+        let ka = edge va xa in
+        let kb = edge vb xb in
+        let lka = row-lt va 6 xa la in
+        let lkb = row-lt vb 6 xb lb in
+        let i = index va xa in
+        let li : i < countOf counts (en cells edges counts a ka) = subst (λ n. i < n) (count-of cells edges counts a ka lka) (col-lt va 6 xa la) in
+        let lj : index vb xb < countOf counts (en cells edges counts b kb) = subst (λ n. index vb xb < n) (count-of cells edges counts b kb lkb) (col-lt vb 6 xb lb) in
+        let na : start counts (en cells edges counts a ka) + i ≡ g = sym (number-of cells edges counts a xa la) ∙ ha .is in
+        let nb : start counts (en cells edges counts b kb) + index vb xb ≡ g = sym (number-of cells edges counts b xb lb) ∙ hb .is in
+        let e : en cells edges counts a ka ≡ en cells edges counts b kb = edge-of-number (en cells edges counts a ka) (en cells edges counts b kb) i (index vb xb) li lj (na ∙ sym nb) in
         A .linked (en cells edges counts a ka) Q
         (λ a′ b′ r s j la lb lr ls l h q. pass a′ b′ (step i (en cells edges counts a ka) li na a′ b′ r s j la lb lr ls l h q))
         a b ka kb (ha .lt) (hb .lt) lka lkb refl (sym e)

@@ -1,21 +1,18 @@
 -- Laws of walks: a walk that does not end closes, its crossings are distinct, and loops that share a crossing share all.
 use Prim.Native.Nat.{ℕ, zero, suc, _+_, _-_, _≤_, _<_}
 use mathlib.Core.Path.{_≡_, refl, sym, ap, _∙_, subst}
-use mathlib.Core.Logic.{_⊎_, inl, inr, _≢_, ⊎-elim}
+use mathlib.Core.Logic.{inl, inr, _≢_, ⊎-elim}
 use mathlib.Core.Bool.{Bool, true, false}
 use native.Mathlib.Nat.{not-suc-le-zero, zero-add, suc-add, eq-or-lt-of-le, le-refl, le-trans, le-of-eq}
+use native.Mathlib.Decide.{decLt}
 use native.Mathlib.Omega.{arith}
 use lib.Dec.{eqb, leb, ltb}
 use borrow.Author.Tests.{eqb-true, eqb-false, leb-true, leb-false, ltb-true, ltb-false}
 use Rattle.counting.proofs.Pigeon.{pigeonhole}
-use Rattle.counting.proofs.Search.{least}
+use Rattle.counting.proofs.Search.{Least, least}
 use Rattle.walk.specs.Iterate.{it}
 use Rattle.walk.specs.Darts.{Darts, Live, Loop, On, Lowest}
 use Rattle.walk.proofs.Iterate.{it-suc, it-sub}
-
--- a least number that passes, or none
-abbrev Found : (ℕ → Bool) → ℕ → Type 0
-Found t n = ((k : ℕ) × (k < n) × (t k ≡ true) × ((i : ℕ) → i < k → t i ≡ false)) ⊎ ((i : ℕ) → i < n → t i ≡ false)
 
 -- what holds of each i + 1 with i < n holds from 1 to n
 from-one : (P : ℕ → Type 0) (n : ℕ) → ((i : ℕ) → i < n → P (suc i)) → (i : ℕ) → 0 < i → i ≤ n → P i
@@ -95,11 +92,40 @@ module _ (M N : ℕ) (s rv cr : ℕ → ℕ) (D : Darts M N s rv cr) where
       go false true u v = absurd (apart j i (ltb-true j i v) a (sym e))
       go false false u v = omega (arith, ltb-false i j u, ltb-false j i v)
 
+  -- a loop has one length, from each of its darts
+  pub loop-length : {p k l : ℕ} → Loop M s p k → Loop M s p l → k ≡ l
+  loop-length {p} {k} {l} K L =
+      elim (decLt k l) [
+        | yes h ↦ absurd (L .first k (K .pos) h (K .home))
+        | no h ↦ elim (decLt l k) [
+          | yes g ↦ absurd (K .first l (L .pos) g (L .home))
+          | no g ↦ omega arith
+        ]
+      ]
+
+  pub loop-next : {p k : ℕ} → Loop M s p k → Loop M s (s p) k
+  unfolding it
+  loop-next {p} {k} K = record {
+    pos = K .pos;
+    live = λ i h. ⊎-elim (λ (e : i ≡ k). rw (e, home) (K .live 1 (K .pos))) (λ (g : i < k). K .live (suc i) g) (eq-or-lt-of-le h);
+    home = home;
+    first = λ i z h e. K .first i z h
+        (inj (it s i p) p (K .live i (omega arith)) (K .live 0 (omega arith)) (subst (λ x. x < M) (it-suc s i p) (K .live (suc i) h)) (sym (it-suc s i p) ∙ e));
+  }
+    where
+      home : it s k (s p) ≡ s p
+      home = it-suc s k p ∙ ap s (K .home)
+
+  pub loop-later : {p k : ℕ} → Loop M s p k → (i : ℕ) → Loop M s (it s i p) k
+  unfolding it
+  loop-later K zero = K
+  loop-later K (suc i) = loop-later (loop-next K) i
+
   -- a curve that does not end within N steps comes back within N
   pub closes : (p : ℕ) → Live M s p N → (k : ℕ) × (k ≤ N) × Loop M s p k
   closes p live = go (least (λ i. eqb (it s (suc i) p) p) N)
     where
-      go : Found (λ i. eqb (it s (suc i) p) p) N → (k : ℕ) × (k ≤ N) × Loop M s p k
+      go : Least (λ i. eqb (it s (suc i) p) p) N → (k : ℕ) × (k ≤ N) × Loop M s p k
       go (inl w) = (
         suc (w .0),
         w .1,

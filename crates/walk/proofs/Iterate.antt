@@ -8,8 +8,9 @@ use native.Mathlib.Omega.{arith}
 use lib.ListN.{length}
 use Rattle.counting.specs.Pick.{one}
 use Rattle.counting.specs.Range.{total}
-use Rattle.counting.specs.Lists.{tally, All}
+use Rattle.counting.specs.Lists.{weigh, tally, All}
 use Rattle.counting.proofs.Range.{total-shift}
+use Rattle.counting.proofs.Lists.{tally-weigh}
 use Rattle.walk.specs.Iterate.{it, orbit}
 
 module _ (s : ℕ → ℕ) where
@@ -42,11 +43,13 @@ module _ (s : ℕ → ℕ) where
   length-orbit zero d = refl
   length-orbit (suc k) d = ap suc (length-orbit k (s d))
 
-module _ (t : ℕ → Bool) (s : ℕ → ℕ) where
-  pub tally-orbit : (k d : ℕ) → tally t (orbit s k d) ≡ total (λ i. one (t (it s i d))) k 0
-  unfolding tally orbit total it
-  tally-orbit zero d = refl
-  tally-orbit (suc k) d = ap (λ m. one (t d) + m) (tally-orbit k (s d) ∙ sym (total-shift (λ i. one (t (it s i d))) k 0))
+pub weigh-orbit : (g s : ℕ → ℕ) (k d : ℕ) → weigh g (orbit s k d) ≡ total (λ i. g (it s i d)) k 0
+unfolding weigh orbit total it
+weigh-orbit g s zero d = refl
+weigh-orbit g s (suc k) d = ap (λ m. g d + m) (weigh-orbit g s k (s d) ∙ sym (total-shift (λ i. g (it s i d)) k 0))
+
+pub tally-orbit : (t : ℕ → Bool) (s : ℕ → ℕ) (k d : ℕ) → tally t (orbit s k d) ≡ total (λ i. one (t (it s i d))) k 0
+tally-orbit t s k d = sym (tally-weigh t (orbit s k d)) ∙ weigh-orbit (λ e. one (t e)) s k d
 
 pub all-orbit : (P : ℕ → Type 0) (s : ℕ → ℕ) (k d : ℕ) → ((i : ℕ) → i < k → P (it s i d)) → All P (orbit s k d)
 unfolding All orbit it

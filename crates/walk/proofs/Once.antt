@@ -3,20 +3,21 @@ use Prim.Native.Nat.{ℕ, zero, suc, _*_, _/_, _≤_, _<_}
 use mathlib.Core.Path.{_≡_, refl, sym, ap, _∙_, subst}
 use mathlib.Core.Logic.{_⊎_, inl, inr}
 use mathlib.Core.Bool.{Bool, true, false}
-use native.Mathlib.Nat.{not-suc-le-zero, eq-zero-or-pos, le-of-eq}
+use native.Mathlib.Nat.{not-suc-le-zero, eq-zero-or-pos, le-of-eq, mul-one}
 use native.Mathlib.Omega.{arith}
 use lib.ListN.{length}
 use borrow.Author.Tests.{eq-eqb, ne-eqb, eqb-true}
 use Rattle.counting.specs.Pick.{one}
-use Rattle.counting.specs.Lists.{tally}
-use Rattle.counting.proofs.Range.{total-zero, total-one, total-pos}
-use Rattle.counting.proofs.Lists.{tally-over, all-over, room}
+use Rattle.counting.specs.Range.{total}
+use Rattle.counting.specs.Lists.{weigh, tally, All}
+use Rattle.counting.proofs.Range.{total-ext, total-zero, total-one, total-pos}
+use Rattle.counting.proofs.Lists.{weigh-over, weigh-numbers, tally-over, all-over, room}
 use Rattle.walk.specs.Iterate.{it, orbit}
 use Rattle.walk.specs.Darts.{half, Darts, Loop, On, Lowest}
 use Rattle.walk.specs.Walk.{size, loopAt, flat}
 use Rattle.walk.specs.Claims.{ofCrossing}
-use Rattle.walk.proofs.Iterate.{tally-orbit, all-orbit}
-use Rattle.walk.proofs.Curve.{loop-distinct, one-loop, covered, all-close}
+use Rattle.walk.proofs.Iterate.{weigh-orbit, tally-orbit, all-orbit}
+use Rattle.walk.proofs.Curve.{loop-distinct, loop-later, one-loop, covered, all-close}
 use Rattle.walk.proofs.Found.{found, finds, size-live}
 
 module _ (N : ℕ) (s rv : ℕ → ℕ) (D : Darts (2 * N) N s rv half) where
@@ -66,18 +67,19 @@ module _ (N : ℕ) (s rv : ℕ → ℕ) (D : Darts (2 * N) N s rv half) where
       let w = covered (2 * N) N s rv half D (λ y. 2 * y) (λ y h. omega arith) (λ y h. omega arith) K in
       (w .0, w .1, rw (finds N s rv D (w .0) (w .2) (w .3) (w .1) (w .4) (w .5)) (w .6))
 
-  -- each crossing of a closed curve does
-  pub closed-once : (e k : ℕ) → Loop (2 * N) s e k → tally (ofCrossing (half e)) (flat N s) ≡ 1
-  closed-once e k K =
-      let w = covered (2 * N) N s rv half D (λ y. 2 * y) (λ y h. omega arith) (λ y h. omega arith) K in
-      once (w .0) (half e) (w .1) (rw (finds N s rv D (w .0) (w .2) (w .3) (w .1) (w .4) (w .5)) (w .6))
+  -- each crossing of a closed curve does, whatever other curves do
+  pub closed-once : (e k : ℕ) → Loop (2 * N) s e k → (i : ℕ) → tally (ofCrossing (half (it s i e))) (flat N s) ≡ 1
+  closed-once e k K i =
+      let (p, l, o) = closed-in (it s i e) k (loop-later (2 * N) N s rv half D K i) in
+      once p (half (it s i e)) l o
 
   -- so where no curve ends, each crossing
   pub each-once : ((d : ℕ) → d < 2 * N → s d < 2 * N) → (x : ℕ) → x < N → tally (ofCrossing x) (flat N s) ≡ 1
+  unfolding it
   each-once closed x l =
       let K = all-close (2 * N) N s rv half D closed (2 * x) (omega arith) in
       let same : half (2 * x) ≡ x = omega arith in
-      subst (λ y. tally (ofCrossing y) (flat N s) ≡ 1) same (closed-once (2 * x) (K .0) (K .2))
+      subst (λ y. tally (ofCrossing y) (flat N s) ≡ 1) same (closed-once (2 * x) (K .0) (K .2) 0)
 
   -- and every crossing at most once
   counted-in : (p x : ℕ) → 0 < tally (ofCrossing x) (loopAt N s p) → In p x
@@ -101,9 +103,20 @@ module _ (N : ℕ) (s rv : ℕ → ℕ) (D : Darts (2 * N) N s rv half) where
           le-of-eq (once (w .0) x (omega (arith, w .2)) (counted-in (w .0) x (w .3)))
 
   -- so N darts have room for all
-  pub flat-room : length (flat N s) ≤ N
+  flat-low : All (λ d. half d < N) (flat N s)
   unfolding flat loopAt
-  flat-room =
-      room half N (flat N s)
-      (all-over (λ d. half d < N) (loopAt N s) N 0 (λ p a b. all-orbit (λ d. half d < N) s (size N s p) (2 * p) (λ i l. omega (arith, size-live N s p i (omega arith) l))))
-      at-most-once
+  flat-low = all-over (λ d. half d < N) (loopAt N s) N 0
+      (λ p a b. all-orbit (λ d. half d < N) s (size N s p) (2 * p) (λ i l. omega (arith, size-live N s p i (omega arith) l)))
+
+  pub flat-room : length (flat N s) ≤ N
+  flat-room = room half N (flat N s) flat-low at-most-once
+
+  -- where no curve ends, a sum over the crossings is that over the loops, and over the crossings of each
+  pub sum-loops : ((d : ℕ) → d < 2 * N → s d < 2 * N) → (f : ℕ → ℕ) → total f N 0 ≡ total (λ p. total (λ i. f (half (it s i (2 * p)))) (size N s p) 0) N 0
+  unfolding flat loopAt
+  sum-loops goes f =
+      total-ext f (λ v. f v * tally (ofCrossing v) (flat N s)) N 0 (λ q a b. sym (ap (λ m. f q * m) (each-once goes q (omega arith)) ∙ mul-one (f q)))
+      ∙ weigh-numbers half N f (flat N s) flat-low
+      ∙ weigh-over (λ d. f (half d)) (loopAt N s) N 0
+      ∙ total-ext (λ p. weigh (λ d. f (half d)) (loopAt N s p)) (λ p. total (λ i. f (half (it s i (2 * p)))) (size N s p) 0) N 0
+      (λ p _ _. weigh-orbit (λ d. f (half d)) s (size N s p) (2 * p))

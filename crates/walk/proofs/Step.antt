@@ -33,6 +33,33 @@ same-half d e h = go (eqb d e) refl
     go true q = inl (eqb-true d e q)
     go false q = inr (omega (arith, eqb-false d e q))
 
+pub rev-rev : (d : ℕ) → rev (rev d) ≡ d
+unfolding rev
+rev-rev d = omega arith
+
+pub rev-lt : (N d : ℕ) → d < 2 * N → rev d < 2 * N
+unfolding rev
+rev-lt N d l = omega arith
+
+pub half-rev : (d : ℕ) → half (rev d) ≡ half d
+unfolding rev
+half-rev d = omega arith
+
+-- a step on them, of N crossings, that is undone by turning round and never comes back to its crossing
+pub rev-darts : (N : ℕ) (s : ℕ → ℕ) → ((d : ℕ) → d < 2 * N → s d < 2 * N → s (rev (s d)) ≡ rev d) → ((d : ℕ) → d < 2 * N → s d ≢ rev d)
+    → Darts (2 * N) N s rev half
+unfolding rev
+rev-darts N s back ne = record {
+  rv-lt = λ d l. rev-lt N d l;
+  rv-rv = λ d l. rev-rev d;
+  rv-ne = λ d l e. omega (arith, e);
+  back = back;
+  s-ne = ne;
+  cr-lt = λ d l. omega arith;
+  cr-rv = λ d l. half-rev d;
+  same = λ d e a b h. same-half d e h;
+}
+
 module _ (N : ℕ) (fa fb : ℕ → ℕ) (mate : ℕ → ℕ → ℕ) where
   abbrev fc : ℕ → ℕ
   fc = face N fa fb mate
@@ -95,61 +122,19 @@ module _ (N : ℕ) (fa fb : ℕ → ℕ) (mate : ℕ → ℕ → ℕ) where
         go true e = ltb-true (mate (fc d) (d / 2)) N e
         go false e = absurd (omega (arith, land-end (fc d) (mate (fc d) (d / 2)) (ltb-false (mate (fc d) (d / 2)) N e), h))
 
-    pub rev-half : (d : ℕ) → rev d / 2 ≡ d / 2
-    unfolding rev
-    rev-half d = omega arith
-
     back : (d : ℕ) → d < 2 * N → st d < 2 * N → st (rev (st d)) ≡ rev d
     unfolding step
     back d l h =
         let m = live d h in
         let f : fc (rev (st d)) ≡ fc d = land-face (fc d) (mate (fc d) (d / 2)) m (C .lies d l m) in
-        let c : rev (st d) / 2 ≡ mate (fc d) (d / 2) = rev-half (st d) ∙ land-half (fc d) (mate (fc d) (d / 2)) m in
+        let c : rev (st d) / 2 ≡ mate (fc d) (d / 2) = half-rev (st d) ∙ land-half (fc d) (mate (fc d) (d / 2)) m in
         rw (f, c, C .both d l m) (land-back d l)
 
     step-ne : (d : ℕ) → d < 2 * N → st d ≢ rev d
     unfolding step rev
     step-ne d l e =
         let h : st d < 2 * N = omega (arith, e) in
-        C .other d l (sym (land-half (fc d) (mate (fc d) (d / 2)) (live d h)) ∙ ap half e ∙ rev-half d)
+        C .other d l (sym (land-half (fc d) (mate (fc d) (d / 2)) (live d h)) ∙ ap half e ∙ half-rev d)
 
     pub darts : Darts (2 * N) N st rev half
-    unfolding rev
-    darts = record {
-      rv-lt = λ d l. omega arith;
-      rv-rv = λ d l. omega arith;
-      rv-ne = λ d l e. omega (arith, e);
-      back = back;
-      s-ne = step-ne;
-      cr-lt = λ d l. omega arith;
-      cr-rv = λ d l. rev-half d;
-      same = λ d e a b h. same-half d e h;
-    }
-
--- the two darts of a crossing
-pub rev-rev : (d : ℕ) → rev (rev d) ≡ d
-unfolding rev
-rev-rev d = omega arith
-
-pub rev-lt : (N d : ℕ) → d < 2 * N → rev d < 2 * N
-unfolding rev
-rev-lt N d l = omega arith
-
-pub half-rev : (d : ℕ) → half (rev d) ≡ half d
-unfolding rev
-half-rev d = omega arith
-
--- a step on them, of N crossings, that is undone by turning round and never comes back to its crossing
-pub rev-darts : (N : ℕ) (s : ℕ → ℕ) → ((d : ℕ) → d < 2 * N → s d < 2 * N → s (rev (s d)) ≡ rev d) → ((d : ℕ) → d < 2 * N → s d ≢ rev d)
-    → Darts (2 * N) N s rev half
-unfolding rev
-rev-darts N s back ne = record {
-  rv-lt = λ d l. omega arith;
-  rv-rv = λ d l. omega arith;
-  rv-ne = λ d l e. omega (arith, e);
-  back = back;
-  s-ne = ne;
-  cr-lt = λ d l. omega arith;
-  cr-rv = λ d l. half-rev d;
-  same = λ d e a b h. same-half d e h;
-}
+    darts = rev-darts N st back step-ne

@@ -20,8 +20,12 @@ pub record WalkLaws (N : ℕ) (s : ℕ → ℕ) : Type 0 where
   -- what is listed is a loop that starts at its least crossing, and each such loop is listed
   pub found : (p : ℕ) → p < N → 0 < size N s p → Loop (2 * N) s (2 * p) (size N s p) × Lowest s half (2 * p) (size N s p)
   pub finds : (p k : ℕ) → p < N → Loop (2 * N) s (2 * p) k → Lowest s half (2 * p) k → size N s p ≡ k
-  -- each crossing is on at most one listed loop, once; on exactly one where every step is defined
+  -- a loop has one length, from each of its darts
+  pub one-length : (d k l i : ℕ) → Loop (2 * N) s d k → Loop (2 * N) s (it s i d) l → k ≡ l
+  -- each crossing is on at most one listed loop, once
   pub most : (x : ℕ) → tally (ofCrossing x) (flat N s) ≤ 1
+  -- each crossing of a closed curve is on exactly one, whatever other curves do; each crossing, where no curve ends
+  pub closed : (d k : ℕ) → Loop (2 * N) s d k → (i : ℕ) → tally (ofCrossing (half (it s i d))) (flat N s) ≡ 1
   pub exactly : ((d : ℕ) → d < 2 * N → s d < 2 * N) → (x : ℕ) → x < N → tally (ofCrossing x) (flat N s) ≡ 1
   -- a loop of as many crossings as there are has all of them
   pub all : (d : ℕ) → Loop (2 * N) s d N → (x : ℕ) → x < N → On s half d N x

@@ -5,8 +5,8 @@ use lib.ListN.{length}
 use denote.Ref.{now}
 use borrow.Author.Needs.{needs}
 use Rattle.counting.specs.Range.{over}
-use Rattle.counting.specs.Stores.{Stored}
-use Rattle.counting.proofs.Stores.{stored-none, stored-long}
+use Rattle.counting.specs.Stored.{Stored}
+use Rattle.counting.proofs.Stored.{stored-none, stored-long}
 use Rattle.bundle.specs.Record.{cellKind, wordSize, headBytes, body}
 use Rattle.bundle.specs.Bundle.{cellNodes, start, run, cells, edgesFrom, nodesIn, nodesOf}
 use Rattle.bundle.proofs.Runs.{Walked, walked, here, walked-fits, walked-on}
@@ -15,7 +15,7 @@ use Rattle.bundle.proofs.reader.fill_cells.Statement.{statement}
 use Rattle.bundle.proofs.reader.fill_cells.Tie as tie
 
 abbrev Inv-loop : tie.InvT-loop
-Inv-loop bytes count nodes₀ k₀ at₀ nodes k at = Walked bytes 0 cellKind at k × Stored (over (nodesBy bytes 0) k 0) nodes₀ 0 nodes (cellNodes * k)
+Inv-loop bytes count nodes₀ k₀ at₀ nodes k at = Walked bytes 0 cellKind at k × Stored nodes₀ 0 (over (nodesBy bytes 0) k 0) nodes (cellNodes * k)
 
 abbrev μ-loop : tie.MeasureT-loop
 μ-loop bytes count nodes₀ k₀ at₀ nodes k at = count - k

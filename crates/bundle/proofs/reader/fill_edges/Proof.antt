@@ -5,8 +5,8 @@ use lib.ListN.{length}
 use denote.Ref.{now}
 use borrow.Author.Needs.{needs}
 use Rattle.counting.specs.Range.{over}
-use Rattle.counting.specs.Stores.{Stored}
-use Rattle.counting.proofs.Stores.{stored-none, stored-long}
+use Rattle.counting.specs.Stored.{Stored}
+use Rattle.counting.proofs.Stored.{stored-none, stored-long}
 use Rattle.bundle.specs.Record.{edgeKind, wordSize, headBytes, body}
 use Rattle.bundle.specs.Bundle.{edgeEnds, run, edges, endsIn, endsOf, countsOf, writtenOver}
 use Rattle.bundle.proofs.Runs.{Walked, walked, here, walked-fits, walked-on}
@@ -15,7 +15,7 @@ use Rattle.bundle.proofs.reader.fill_edges.Statement.{statement}
 use Rattle.bundle.proofs.reader.fill_edges.Tie as tie
 
 abbrev Inv-loop : tie.InvT-loop
-Inv-loop bytes from count ends₀ counts₀ k₀ at₀ ends counts k at = Walked bytes from edgeKind at k × Stored (over (endsBy bytes from) k 0) ends₀ 0 ends (edgeEnds * k) × Stored (over (countBy bytes from) k 0) counts₀ 0 counts k
+Inv-loop bytes from count ends₀ counts₀ k₀ at₀ ends counts k at = Walked bytes from edgeKind at k × Stored ends₀ 0 (over (endsBy bytes from) k 0) ends (edgeEnds * k) × Stored counts₀ 0 (over (countBy bytes from) k 0) counts k
 
 abbrev μ-loop : tie.MeasureT-loop
 μ-loop bytes from count ends₀ counts₀ k₀ at₀ ends counts k at = count - k

@@ -4,15 +4,15 @@ use mathlib.Core.List.{[], _∷_}
 use native.Mathlib.Omega.{arith}
 use denote.Ref.{now}
 use Rattle.counting.specs.Range.{over}
-use Rattle.counting.specs.Stores.{Stored}
-use Rattle.counting.proofs.Stores.{stored-one, stored-more, stored-long}
+use Rattle.counting.specs.Stored.{Stored}
+use Rattle.counting.proofs.Stored.{stored-one, stored-more, stored-long}
 use Rattle.bundle.specs.Record.{wordSize, word}
 use Rattle.bundle.specs.Bundle.{words}
 use Rattle.bundle.proofs.reader.fill_words.Statement.{statement}
 use Rattle.bundle.proofs.reader.fill_words.Tie as tie
 
 abbrev Inv-loop : tie.InvT-loop
-Inv-loop body n list₀ at i₀ list i = (i ≤ n) × Stored (words i body) list₀ at list (at + i)
+Inv-loop body n list₀ at i₀ list i = (i ≤ n) × Stored list₀ at (words i body) list (at + i)
 
 abbrev μ-loop : tie.MeasureT-loop
 μ-loop body n list₀ at i₀ list i = n - i

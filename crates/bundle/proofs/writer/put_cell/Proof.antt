@@ -1,4 +1,4 @@
-use Rattle.counting.proofs.Stores.{stored-then}
+use Rattle.counting.proofs.Stored.{stored-then}
 use Rattle.bundle.specs.Written.{cellBytes}
 use borrow.Author.Needs.{needs}
 use Rattle.bundle.proofs.writer.put_cell.Statement.{statement}

@@ -4,9 +4,9 @@ use native.Mathlib.Omega.{arith}
 use lib.ListN.{length}
 use denote.Ref.{now}
 use Rattle.counting.specs.Range.{over}
-use Rattle.counting.specs.Stores.{Stored}
+use Rattle.counting.specs.Stored.{Stored}
 use Rattle.counting.proofs.Fronts.{over-within}
-use Rattle.counting.proofs.Stores.{stored-none, stored-more, stored-long}
+use Rattle.counting.proofs.Stored.{stored-none, stored-more, stored-long}
 use Rattle.bundle.specs.Bundle.{cellNodes}
 use Rattle.bundle.specs.Written.{cellBytes}
 use Rattle.bundle.proofs.Writes.{length-cell}
@@ -14,7 +14,7 @@ use Rattle.bundle.proofs.writer.put_cells.Statement.{statement}
 use Rattle.bundle.proofs.writer.put_cells.Tie as tie
 
 abbrev Inv-loop : tie.InvT-loop
-Inv-loop nodes area₀ n at₀ k₀ area at k = (k ≤ length nodes / cellNodes) × Stored (over (cellBytes nodes) k 0) area₀ 0 area at
+Inv-loop nodes area₀ n at₀ k₀ area at k = (k ≤ length nodes / cellNodes) × Stored area₀ 0 (over (cellBytes nodes) k 0) area at
 
 abbrev μ-loop : tie.MeasureT-loop
 μ-loop nodes area₀ n at₀ k₀ area at k = length nodes / cellNodes - k

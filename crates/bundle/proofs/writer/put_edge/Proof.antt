@@ -3,7 +3,7 @@ use mathlib.Core.Path.{_≡_, _∙_}
 use native.Mathlib.Omega.{arith}
 use lib.ListN.{length, length-set}
 use denote.Ref.{now}
-use Rattle.counting.proofs.Stores.{stored-then, stored-one, stored-long}
+use Rattle.counting.proofs.Stored.{stored-then, stored-one, stored-long}
 use Rattle.bundle.specs.Bundle.{edgeEnds}
 use Rattle.bundle.specs.Written.{edgeBytes}
 use Rattle.bundle.proofs.Writes.{length-list}

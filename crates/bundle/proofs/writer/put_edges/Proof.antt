@@ -4,16 +4,16 @@ use native.Mathlib.Omega.{arith}
 use lib.ListN.{length}
 use denote.Ref.{now}
 use Rattle.counting.specs.Range.{over}
-use Rattle.counting.specs.Stores.{Stored}
+use Rattle.counting.specs.Stored.{Stored}
 use Rattle.counting.proofs.Fronts.{over-within}
-use Rattle.counting.proofs.Stores.{stored-none, stored-more, stored-long}
+use Rattle.counting.proofs.Stored.{stored-none, stored-more, stored-long}
 use Rattle.bundle.specs.Written.{edgeBytes}
 use Rattle.bundle.proofs.Writes.{length-edge}
 use Rattle.bundle.proofs.writer.put_edges.Statement.{statement}
 use Rattle.bundle.proofs.writer.put_edges.Tie as tie
 
 abbrev Inv-loop : tie.InvT-loop
-Inv-loop ends counts from area₀ at₀ k₀ area at k = (k ≤ length counts) × Stored (over (edgeBytes ends counts) k 0) area₀ from area at
+Inv-loop ends counts from area₀ at₀ k₀ area at k = (k ≤ length counts) × Stored area₀ from (over (edgeBytes ends counts) k 0) area at
 
 abbrev μ-loop : tie.MeasureT-loop
 μ-loop ends counts from area₀ at₀ k₀ area at k = length counts - k

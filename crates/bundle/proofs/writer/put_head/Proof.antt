@@ -1,4 +1,4 @@
-use Rattle.counting.proofs.Stores.{stored-then}
+use Rattle.counting.proofs.Stored.{stored-then}
 use borrow.Author.Needs.{needs}
 use Rattle.bundle.proofs.writer.put_head.Statement.{statement}
 use Rattle.bundle.proofs.writer.put_head.Tie as tie

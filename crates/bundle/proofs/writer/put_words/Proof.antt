@@ -4,15 +4,15 @@ use native.Mathlib.Omega.{arith}
 use lib.ListN.{getD}
 use denote.Ref.{now}
 use Rattle.counting.specs.Range.{over}
-use Rattle.counting.specs.Stores.{Stored}
-use Rattle.counting.proofs.Stores.{stored-none, stored-more, stored-long}
+use Rattle.counting.specs.Stored.{Stored}
+use Rattle.counting.proofs.Stored.{stored-none, stored-more, stored-long}
 use Rattle.bundle.specs.Written.{wordBytes, listBytes}
 use Rattle.bundle.proofs.Writes.{length-list}
 use Rattle.bundle.proofs.writer.put_words.Statement.{statement}
 use Rattle.bundle.proofs.writer.put_words.Tie as tie
 
 abbrev Inv-loop : tie.InvT-loop
-Inv-loop area₀ at list from n next₀ i₀ area next i = (i ≤ n) × Stored (listBytes list from i) area₀ at area next
+Inv-loop area₀ at list from n next₀ i₀ area next i = (i ≤ n) × Stored area₀ at (listBytes list from i) area next
 
 abbrev μ-loop : tie.MeasureT-loop
 μ-loop area₀ at list from n next₀ i₀ area next i = n - i

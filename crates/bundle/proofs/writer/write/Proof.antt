@@ -4,7 +4,7 @@ use native.Mathlib.Omega.{arith}
 use lib.ListN.{length}
 use borrow.Author.Tests.{leb-true, leb-false, not-true, not-false}
 use denote.Ref.{now}
-use Rattle.counting.proofs.Stores.{stored-long}
+use Rattle.counting.proofs.Stored.{stored-long}
 use Rattle.bundle.specs.Bundle.{edgeEnds}
 use Rattle.bundle.proofs.Writes.{sizeBy, length-cells, length-edges, not-fours, not-pairs, too-short, all-written, all-stored}
 use borrow.Author.Needs.{needs}
