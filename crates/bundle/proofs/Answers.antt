@@ -4,18 +4,19 @@ use mathlib.Core.Path.{_≡_, refl, sym, ap, _∙_}
 use mathlib.Core.Bool.{Bool, true, false, not, _&&_}
 use mathlib.Core.List.{List, [], _∷_}
 use lib.Dec.{leb, eqb}
-use lib.ListN.{length}
+use lib.ListN.{length, take}
+use lib.Seq.{take-at}
 use borrow.Author.Tests.{leb-true, eq-eqb, ne-eqb, le-leb}
 use Rattle.answer.specs.Answer.{result, refusal}
 use Rattle.counting.specs.Pick.{pick}
 use Rattle.counting.proofs.Bools.{clash, not-clash, and-left, and-right}
-use Rattle.bundle.specs.Record.{endKind, brokenRow, nextAt}
-use Rattle.bundle.specs.Bundle.{isOf, start, run, cells, edgesFrom, edges, stop, bundleAnswer, isBundle, hasRoom, isTaken, readAnswer, nodesOf, endsOf, countsOf, writtenOver, leaves, shortRow}
+use Rattle.bundle.specs.Record.{cellKind, edgeKind, endKind, brokenRow, nextAt}
+use Rattle.bundle.specs.Bundle.{isOf, start, run, cells, edgesFrom, edges, stop, bundleAnswer, isBundle, hasRoom, isTaken, readAnswer, nodesOf, endsOf, countsOf, cellNodes, edgeEnds, writtenOver, leaves, nodesLeft, endsLeft, countsLeft, shortRow}
 use Rattle.bundle.proofs.OneRecord.{apart}
 
 module _ (s : List ℕ) where
   -- the numbers of two runs are those of the bundle
-  module _ (c p e q : ℕ) (hc : c ≡ run s 1 0) (hp : p ≡ start s 0 c) (he : e ≡ run s 2 p) (hq : q ≡ start s p e) where
+  module _ (c p e q : ℕ) (hc : c ≡ run s cellKind 0) (hp : p ≡ start s 0 c) (he : e ≡ run s edgeKind p) (hq : q ≡ start s p e) where
     pub cells-are : c ≡ cells s
     unfolding cells
     cells-are = hc
@@ -26,7 +27,7 @@ module _ (s : List ℕ) where
 
     pub edges-are : e ≡ edges s
     unfolding edges
-    edges-are = he ∙ ap (run s 2) from-is
+    edges-are = he ∙ ap (run s edgeKind) from-is
 
     pub stop-is : q ≡ stop s
     unfolding stop
@@ -83,40 +84,55 @@ module _ (s : List ℕ) where
 
   -- row 14
   module _ (n m l : ℕ) where
-    pub room : 4 * cells s ≤ n → 2 * edges s ≤ m → edges s ≤ l → hasRoom s n m l ≡ true
+    pub room : cellNodes * cells s ≤ n → edgeEnds * edges s ≤ m → edges s ≤ l → hasRoom s n m l ≡ true
     unfolding hasRoom
     room a b c = simp (le-leb _ _ a, le-leb _ _ b, le-leb _ _ c)
 
-    pub no-room : (4 * cells s ≤ n → 2 * edges s ≤ m → edges s ≤ l → ⊥) → hasRoom s n m l ≡ false
+    pub no-room : (cellNodes * cells s ≤ n → edgeEnds * edges s ≤ m → edges s ≤ l → ⊥) → hasRoom s n m l ≡ false
     unfolding hasRoom
     no-room h =
-        let a = leb (4 * cells s) n in
-        let b = leb (2 * edges s) m in
+        let a = leb (cellNodes * cells s) n in
+        let b = leb (edgeEnds * edges s) m in
         let c = leb (edges s) l in
         not-clash (a && b && c)
         (λ q. h (leb-true _ _ (and-left a b (and-left (a && b) c q))) (leb-true _ _ (and-right a b (and-left (a && b) c q))) (leb-true _ _ (and-right (a && b) c q)))
 
-  -- a result of the reader is the bundle's own
-  pub read-bundle : (n m l c e : ℕ) → readAnswer s n m l ≡ result (c ∷ e ∷ []) → bundleAnswer s ≡ result (c ∷ e ∷ [])
+  -- a result of the reader is the bundle's own, and the lists have room
+  read-result : (n m l c e : ℕ) → readAnswer s n m l ≡ result (c ∷ e ∷ []) → (bundleAnswer s ≡ result (c ∷ e ∷ [])) × ((isBundle s && not (hasRoom s n m l)) ≡ false)
   unfolding readAnswer
-  read-bundle n m l c e h = go (isBundle s && not (hasRoom s n m l)) h
+  read-result n m l c e h = go (isBundle s && not (hasRoom s n m l)) h
     where
-      go : (b : Bool) → pick b (refusal shortRow 0) (bundleAnswer s) ≡ result (c ∷ e ∷ []) → bundleAnswer s ≡ result (c ∷ e ∷ [])
+      go : (b : Bool) → pick b (refusal shortRow 0) (bundleAnswer s) ≡ result (c ∷ e ∷ []) → (bundleAnswer s ≡ result (c ∷ e ∷ [])) × (b ≡ false)
       go true q = apart _ _ _ _ (sym q)
-      go false q = q
+      go false q = (q, refl)
+
+  pub read-bundle : (n m l c e : ℕ) → readAnswer s n m l ≡ result (c ∷ e ∷ []) → bundleAnswer s ≡ result (c ∷ e ∷ [])
+  read-bundle n m l c e h = read-result n m l c e h .0
+
+  pub read-taken : (n m l c e : ℕ) → readAnswer s n m l ≡ result (c ∷ e ∷ []) → isTaken s n m l ≡ true
+  unfolding isTaken
+  read-taken n m l c e h = go (isBundle s) (hasRoom s n m l) (accepted c e (sym (read-bundle n m l c e h))) (read-result n m l c e h .1)
+    where
+      go : (a b : Bool) → a ≡ true → (a && not b) ≡ false → (a && b) ≡ true
+      go true true p q = refl
+      go true false p q = clash refl q
+      go false b p q = p
 
   -- and lists with room have it
-  pub read-lists : (n m l : ℕ) → isBundle s ≡ true → 4 * cells s ≤ n → 2 * edges s ≤ m → edges s ≤ l → readAnswer s n m l ≡ result (cells s ∷ edges s ∷ [])
-  unfolding readAnswer
-  read-lists n m l h a b c = simp (h, room n m l a b c) (bundle-answer h)
+  pub read-lists : (n m l : ℕ) → isBundle s ≡ true → cellNodes * cells s ≤ n → edgeEnds * edges s ≤ m → edges s ≤ l
+      → (readAnswer s n m l ≡ result (cells s ∷ edges s ∷ [])) × (isTaken s n m l ≡ true)
+  unfolding readAnswer isTaken
+  read-lists n m l h a b c = (simp (h, room n m l a b c) (bundle-answer h), simp (h, room n m l a b c))
+
+-- the front of a lent list after a call that accepts
+pub left-front : {b : Bool} → b ≡ true → (new old : List ℕ) (n : ℕ) → length new ≡ n → take n (leaves b new old) ≡ new
+left-front h new old n l = simp h (take-at new _ n l)
 
 -- what the reader answers and leaves in the lists that it was lent
 abbrev pub Leaves : (s ns es cs answer ns' es' cs' : List ℕ) → Type 0
 Leaves s ns es cs answer ns' es' cs' =
     (answer ≡ readAnswer s (length ns) (length es) (length cs))
-    × ((ns' ≡ leaves (isTaken s (length ns) (length es) (length cs)) (nodesOf s) ns)
-    × ((es' ≡ leaves (isTaken s (length ns) (length es) (length cs)) (endsOf s) es)
-    × (cs' ≡ leaves (isTaken s (length ns) (length es) (length cs)) (countsOf s) cs)))
+    × ((ns' ≡ nodesLeft s ns es cs) × ((es' ≡ endsLeft s ns es cs) × (cs' ≡ countsLeft s ns es cs)))
 
 module _ (s ns es cs : List ℕ) where
   pub leaves-broken : isBundle s ≡ false → Leaves s ns es cs (bundleAnswer s) ns es cs

@@ -1,90 +1,81 @@
 -- A bundle that is read and written again has its bytes back. Assumes nothing.
-use Prim.Native.Nat.{ℕ, zero, suc, _+_, _*_, _/_, _%_, _<_}
+use Prim.Native.Nat.{ℕ, zero, suc, _+_, _-_, _*_, _/_, _%_, _≤_, _<_}
 use mathlib.Core.Path.{_≡_, refl, sym, ap, _∙_}
 use mathlib.Core.Bool.{true}
-use mathlib.Core.List.{List, [], _∷_, _++_, append-assoc, append-nil}
+use mathlib.Core.List.{List, [], _∷_, _++_, append-assoc}
 use native.Mathlib.Decide.{decLt}
 use native.Mathlib.Omega.{arith}
 use lib.Dec.{eqb}
-use lib.ListN.{length, getD, drop, List·getD-eq-default}
-use lib.Seq.{drop-length}
+use lib.ListN.{length, getD, take, drop, take-append-drop, length-take, List·getD-eq-default}
+use lib.Seq.{take-all, take-suc, take-add, getD-take, getD-drop, drop-cons, drop-drop, drop-length}
 use borrow.Author.Tests.{eqb-true}
 use Rattle.answer.specs.Answer.{result}
 use Rattle.counting.specs.Range.{over}
 use Rattle.counting.specs.Lists.{All}
 use Rattle.counting.proofs.Bools.{and-left, and-right}
 use Rattle.counting.proofs.Lists.{all-at}
-use Rattle.counting.proofs.Fronts.{over-more, length-blocks, getD-blocks, entries, drop-entries}
-use Rattle.bundle.specs.Record.{word, lengthOf, kindAt, nextAt, endKind}
-use Rattle.bundle.specs.Bundle.{isOf, start, cells, edgesFrom, edges, stop, isBundle, nodesOf, endsOf, countsOf}
-use Rattle.bundle.specs.Written.{cellRecord, edgeRecord, endRecord, cellBytes, edgeBytes, bundleBytes, nodeOf, endOf}
+use Rattle.counting.proofs.Range.{over-ext}
+use Rattle.counting.proofs.Fronts.{over-more, getD-blocks, first-parts}
+use Rattle.bundle.specs.Record.{byteValues, cellKind, edgeKind, endKind, wordSize, lengthBytes, headBytes, word, lengthOf, kindAt, nextAt, bodyStart, bodySize, body}
+use Rattle.bundle.specs.Bundle.{cellNodes, edgeEnds, isOf, start, cells, edgesFrom, edges, stop, isBundle, words, nodesOf, endsOf, countsOf, writtenOver}
+use Rattle.bundle.specs.Written.{wordBytes, headOf, recordBytes, listBytes, endRecord, cellBytes, edgeBytes, bundleBytes}
 use Rattle.bundle.specs.Claims.{BytesBack, ReadWritten}
-use Rattle.bundle.proofs.OneRecord.{stands}
-use Rattle.bundle.proofs.Runs.{of-record, of-kind, next-of, fits-of, run-all}
-use Rattle.bundle.proofs.Fills.{nodesBy, endsBy, countBy}
-use Rattle.bundle.proofs.Answers.{accepted, read-bundle}
+use Rattle.bundle.proofs.OneRecord.{stands, next-ge, body-whole}
+use Rattle.bundle.proofs.Runs.{of-record, of-kind, body-of, run-all}
+use Rattle.bundle.proofs.Fills.{end-size, cell-body, edge-body, length-words, countBy, length-nodes, length-ends, length-counts}
+use Rattle.bundle.proofs.Answers.{accepted, accepted-cells, accepted-edges, read-bundle, read-taken, left-front}
 use Rattle.bundle.proofs.Writes.{answer-written}
 
-low-half : (x y : ℕ) → x < 256 → x ≡ (x + 256 * y) % 256
+low-half : (x y : ℕ) → x < byteValues → x ≡ (x + byteValues * y) % byteValues
 low-half x y h = omega arith
 
-high-half : (x y : ℕ) → x < 256 → y ≡ (x + 256 * y) / 256
+high-half : (x y : ℕ) → x < byteValues → y ≡ (x + byteValues * y) / byteValues
 high-half x y h = omega arith
 
-module _ (s : List ℕ) (bytes : (k : ℕ) → getD s k 0 < 256) where
-  -- the two bytes of a word
-  lo : (a j : ℕ) → getD s (a + j) 0 ≡ word s (a + j) % 256
-  lo a j = low-half (getD s (a + j) 0) (getD s (a + j + 1) 0) (bytes (a + j))
+-- numbers of 16 bits in a list of bytes
+module _ (s : List ℕ) (bytes : (k : ℕ) → getD s k 0 < byteValues) where
+  word-back : (a : ℕ) → a + wordSize ≤ length s → take wordSize (drop a s) ≡ wordBytes (word s a)
+  word-back a h =
+      let q : suc a ≡ a + 1 = omega arith in
+      ap (take wordSize) (drop-cons s a 0 (omega arith) ∙ ap (λ n. getD s a 0 ∷ drop n s) q ∙ ap (λ (x : List ℕ). getD s a 0 ∷ x) (drop-cons s (a + 1) 0 (omega arith)))
+      ∙ cc (low-half (getD s a 0) (getD s (a + 1) 0) (bytes a), high-half (getD s a 0) (getD s (a + 1) 0) (bytes a))
 
-  hi : (a j k : ℕ) → a + j + 1 ≡ a + k → getD s (a + k) 0 ≡ word s (a + j) / 256
-  hi a j k e = ap (λ n. getD s n 0) (sym e) ∙ high-half (getD s (a + j) 0) (getD s (a + j + 1) 0) (bytes (a + j))
+  words-back : (n : ℕ) → wordSize * n ≤ length s → over (λ i. wordBytes (word s (wordSize * i))) n 0 ≡ take (wordSize * n) s
+  words-back n h = over-ext _ _ n 0 (λ k _ l. sym (word-back (wordSize * k) (omega (arith, l, h)))) ∙ first-parts wordSize n s
 
-  -- a record's first bytes are those of its length and kind
-  head : (a k l : ℕ) → l < 256 → k < 256 → word s a ≡ l → word s (a + 2) ≡ k
-      → (getD s (a + 0) 0 ≡ l) × (getD s (a + 1) 0 ≡ 0) × (getD s (a + 2) 0 ≡ k) × (getD s (a + 3) 0 ≡ 0)
-  head a k l hl hk e1 e2 =
-      let z : a + 0 ≡ a = omega arith in
-      let q : a + 2 + 1 ≡ a + 3 = omega arith in
-      let f : getD s (a + 2) 0 + 256 * getD s (a + 3) 0 ≡ k = sym (ap (λ n. getD s (a + 2) 0 + 256 * getD s n 0) q) ∙ e2 in (
-        ap (λ n. getD s n 0) z ∙ omega (arith, e1, bytes a, bytes (a + 1)),
-        omega (arith, e1, bytes a, bytes (a + 1)),
-        omega (arith, f, bytes (a + 2), bytes (a + 3)),
-        omega (arith, f, bytes (a + 2), bytes (a + 3)),
-      )
+  -- a record is its length, its kind and its body
+  record-back : (kind a : ℕ) → isOf s kind a ≡ true → drop a s ≡ recordBytes kind (body s a) ++ drop (nextAt s a) s
+  unfolding kindAt
+  record-back kind a h =
+      let r = of-record s kind a h in
+      let w = stands s a r in
+      let m = nextAt s a - (a + headBytes) in
+      let n : a + headBytes + m ≡ nextAt s a = omega (arith, next-ge s a r) in
+      let len : word s a ≡ lengthOf kind = w .right ∙ ap lengthOf (of-kind s kind a h) in
+      let head : take headBytes (drop a s) ≡ headOf kind =
+      take-add wordSize wordSize (drop a s)
+      ∙ ap (λ (x : List ℕ). take wordSize (drop a s) ++ take wordSize x) (drop-drop wordSize a s)
+      ∙ cc (word-back a (omega (arith, w .inside)), word-back (a + lengthBytes) (omega (arith, w .inside)), len, of-kind s kind a h) in
+      let rest : drop (a + headBytes) s ≡ body s a ++ drop (nextAt s a) s =
+      sym (take-append-drop m (drop (a + headBytes) s))
+      ∙ ap (λ (x : List ℕ). take m (drop (a + headBytes) s) ++ x) (drop-drop m (a + headBytes) s ∙ ap (λ k. drop k s) n)
+      ∙ ap (λ (x : List ℕ). x ++ drop (nextAt s a) s) (body-whole s a r .0) in
+      sym (take-append-drop headBytes (drop a s))
+      ∙ ap (λ (x : List ℕ). take headBytes (drop a s) ++ x) (drop-drop headBytes a s ∙ rest)
+      ∙ ap (λ (x : List ℕ). x ++ (body s a ++ drop (nextAt s a) s)) head
+      ∙ sym (append-assoc (headOf kind) (body s a) (drop (nextAt s a) s))
 
-  module _ (kind a : ℕ) (h : isOf s kind a ≡ true) where
-    right : word s a ≡ lengthOf kind
-    right = stands s a (of-record s kind a h) .right ∙ ap lengthOf (of-kind s kind a h)
+-- the numbers of bodies in a list, w of each, as bytes again
+module _ (b : ℕ → List ℕ) (w n k : ℕ) (l : k < n) where
+  entry : (i : ℕ) → i < w → getD (over (λ j. words w (b j)) n 0) (w * k + i) 0 ≡ word (b k) (wordSize * i)
+  entry i h =
+      let e : i ≡ 1 * i + 0 = omega arith in
+      getD-blocks (λ j. words w (b j)) w n (λ j _. length-words w (b j)) k i 0 l h
+      ∙ ap (λ m. getD (words w (b k)) m 0) e
+      ∙ getD-blocks (λ j. word (b k) (wordSize * j) ∷ []) 1 w (λ _ _. refl) i 0 0 h (omega arith)
 
-    kind-is : word s (a + 2) ≡ kind
-    unfolding kindAt
-    kind-is = of-kind s kind a h
-
-    -- all of a record's bytes, w of them, and what is after it
-    laid : (w : ℕ) → 2 + lengthOf kind ≡ w → drop a s ≡ entries s 0 a 0 w ++ drop (nextAt s a) s
-    laid w e =
-        let z : a ≡ a + 0 = omega arith in
-        let n : a + 0 + w ≡ nextAt s a = omega (arith, e, next-of s kind a h) in
-        ap (λ k. drop k s) z ∙ drop-entries s 0 a 0 w (omega (arith, e, fits-of s kind a h)) ∙ ap (λ k. entries s 0 a 0 w ++ drop k s) n
-
-  cell-back : (a : ℕ) → isOf s 1 a ≡ true → drop a s ≡ cellRecord (word s (a + 4)) (word s (a + 6)) (word s (a + 8)) (word s (a + 10)) ++ drop (nextAt s a) s
-  unfolding entries lengthOf
-  cell-back a h =
-      let t = head a 1 10 (omega arith) (omega arith) (right 1 a h) (kind-is 1 a h) in
-      laid 1 a h 12 refl
-      ∙ cc (t .0, t .1, t .2, t .3, lo a 4, hi a 4 5 (omega arith), lo a 6, hi a 6 7 (omega arith), lo a 8, hi a 8 9 (omega arith), lo a 10, hi a 10 11 (omega arith))
-
-  edge-back : (a : ℕ) → isOf s 2 a ≡ true → drop a s ≡ edgeRecord (word s (a + 4)) (word s (a + 6)) (getD s (a + 8) 0) ++ drop (nextAt s a) s
-  unfolding entries lengthOf
-  edge-back a h =
-      let t = head a 2 7 (omega arith) (omega arith) (right 2 a h) (kind-is 2 a h) in
-      laid 2 a h 9 refl ∙ cc (t .0, t .1, t .2, t .3, lo a 4, hi a 4 5 (omega arith), lo a 6, hi a 6 7 (omega arith))
-
-  end-back : (a : ℕ) → isOf s 3 a ≡ true → drop a s ≡ endRecord ++ drop (nextAt s a) s
-  unfolding entries lengthOf
-  end-back a h =
-      let t = head a 3 2 (omega arith) (omega arith) (right 3 a h) (kind-is 3 a h) in
-      laid 3 a h 4 refl ∙ cc (t .0, t .1, t .2, t .3)
+  list-back : ((j : ℕ) → getD (b k) j 0 < byteValues) → wordSize * w ≤ length (b k) → listBytes (over (λ j. words w (b j)) n 0) (w * k) w ≡ take (wordSize * w) (b k)
+  list-back bytes h = over-ext _ _ w 0 (λ i _ q. ap wordBytes (entry i (omega (arith, q)))) ∙ words-back (b k) bytes w h
 
 -- records one after the other, from the bytes of each
 chain : (s : List ℕ) (from n : ℕ) (g : ℕ → List ℕ) → ((k : ℕ) → k < n → drop (start s from k) s ≡ g k ++ drop (nextAt s (start s from k)) s)
@@ -98,91 +89,88 @@ chain s from (suc n) g h =
     ∙ sym (append-assoc (over g n 0) (g n) (drop (nextAt s (start s from n)) s))
     ∙ ap (λ (x : List ℕ). x ++ drop (nextAt s (start s from n)) s) (sym (over-more g n) ∙ ap (λ k. over g k 0) e)
 
-module _ (s : List ℕ) where
-  -- the lists' entries are the words of the records
-  node-is : (k i : ℕ) → k < cells s → i < 4 → nodeOf (nodesOf s) k i ≡ getD (nodesBy s 0 k) i 0
-  unfolding nodesOf
-  node-is k i h l = getD-blocks (nodesBy s 0) 4 (cells s) (λ j _. refl) k i 0 h l
+module _ (s : List ℕ) (bytes : (k : ℕ) → getD s k 0 < byteValues) where
+  -- a body's bytes are the bundle's
+  body-bytes : (a j : ℕ) → getD (body s a) j 0 < byteValues
+  unfolding body
+  body-bytes a j =
+      let n = bodySize s a in
+      let m = bodyStart s a in
+      elim (decLt j n) [
+        | yes l ↦ omega (arith, getD-take n (drop m s) j 0 l, getD-drop m s j 0, bytes (m + j))
+        | no l ↦ omega (arith, List·getD-eq-default (take n (drop m s)) 0 {n = j} (simp length-take (omega arith)))
+      ]
 
-  end-is : (k i : ℕ) → k < edges s → i < 2 → endOf (endsOf s) k i ≡ getD (endsBy s (edgesFrom s) k) i 0
-  unfolding endsOf
-  end-is k i h l = getD-blocks (endsBy s (edgesFrom s)) 2 (edges s) (λ j _. refl) k i 0 h l
+  cell-bytes : (k : ℕ) → k < cells s → drop (start s 0 k) s ≡ cellBytes (nodesOf s) k ++ drop (nextAt s (start s 0 k)) s
+  unfolding cellBytes cells nodesOf
+  cell-bytes k h =
+      let a = start s 0 k in
+      let o = run-all s 0 cellKind k h in
+      let n = cell-body s a o in
+      let e : listBytes (nodesOf s) (cellNodes * k) cellNodes ≡ body s a =
+      list-back (λ j. body s (start s 0 j)) cellNodes (cells s) k h (body-bytes a) (omega (arith, n)) ∙ take-all (wordSize * cellNodes) (body s a) (omega (arith, n)) in
+      record-back s bytes cellKind a o ∙ ap (λ (x : List ℕ). recordBytes cellKind x ++ drop (nextAt s a) s) (sym e)
 
-  count-is : (k : ℕ) → k < edges s → getD (countsOf s) k 0 ≡ getD s (start s (edgesFrom s) k + 8) 0
-  unfolding countsOf
-  count-is k h =
-      let e : k ≡ 1 * k + 0 = omega arith in
-      ap (λ n. getD (over (countBy s (edgesFrom s)) (edges s) 0) n 0) e ∙ getD-blocks (countBy s (edgesFrom s)) 1 (edges s) (λ j _. refl) k 0 0 h (omega arith)
+  edge-bytes : (k : ℕ) → k < edges s → drop (start s (edgesFrom s) k) s ≡ edgeBytes (endsOf s) (countsOf s) k ++ drop (nextAt s (start s (edgesFrom s) k)) s
+  unfolding edgeBytes edges endsOf countsOf
+  edge-bytes k h =
+      let from = edgesFrom s in
+      let a = start s from k in
+      let o = run-all s from edgeKind k h in
+      let n = edge-body s a o in
+      let one : k ≡ 1 * k + 0 = omega arith in
+      let u : listBytes (endsOf s) (edgeEnds * k) edgeEnds ≡ take (wordSize * edgeEnds) (body s a) =
+      list-back (λ j. body s (start s from j)) edgeEnds (edges s) k h (body-bytes a) (omega (arith, n)) in
+      let v : getD (countsOf s) k 0 ≡ getD (body s a) (wordSize * edgeEnds) 0 =
+      ap (λ i. getD (countsOf s) i 0) one ∙ getD-blocks (countBy s from) 1 (edges s) (λ _ _. refl) k 0 0 h (omega arith) in
+      let e : listBytes (endsOf s) (edgeEnds * k) edgeEnds ++ (getD (countsOf s) k 0 ∷ []) ≡ body s a =
+      cc (u, v) ∙ sym (take-suc (body s a) (wordSize * edgeEnds) 0 (omega (arith, n))) ∙ take-all (suc (wordSize * edgeEnds)) (body s a) (omega (arith, n)) in
+      record-back s bytes edgeKind a o ∙ ap (λ (x : List ℕ). recordBytes edgeKind x ++ drop (nextAt s a) s) (sym e)
 
-  length-nodes : length (nodesOf s) ≡ 4 * cells s
-  unfolding nodesOf
-  length-nodes = length-blocks (nodesBy s 0) 4 (cells s) (λ j _. refl)
+  end-bytes : isBundle s ≡ true → drop (stop s) s ≡ endRecord
+  unfolding isBundle
+  end-bytes h =
+      let t = eqb (nextAt s (stop s)) (length s) in
+      let o = and-left (isOf s endKind (stop s)) t h in
+      let none : body s (stop s) ≡ [] = sym (take-all 0 (body s (stop s)) (omega (arith, body-of s endKind (stop s) o, end-size))) in
+      let last : drop (nextAt s (stop s)) s ≡ [] = ap (λ n. drop n s) (eqb-true (nextAt s (stop s)) (length s) (and-right (isOf s endKind (stop s)) t h)) ∙ drop-length s in
+      record-back s bytes endKind (stop s) o ∙ cc (none, last)
 
-  length-ends : length (endsOf s) ≡ 2 * edges s
-  unfolding endsOf
-  length-ends = length-blocks (endsBy s (edgesFrom s)) 2 (edges s) (λ j _. refl)
+  all-back : isBundle s ≡ true → bundleBytes (nodesOf s) (endsOf s) (countsOf s) ≡ s
+  unfolding bundleBytes edgesFrom stop
+  all-back h =
+      let c : length (nodesOf s) / cellNodes ≡ cells s = omega (arith, length-nodes s) in
+      let x = over (cellBytes (nodesOf s)) (cells s) 0 in
+      let y = over (edgeBytes (endsOf s) (countsOf s)) (edges s) 0 in
+      ap (λ n. over (cellBytes (nodesOf s)) n 0 ++ over (edgeBytes (endsOf s) (countsOf s)) (length (countsOf s)) 0 ++ endRecord) c
+      ∙ ap (λ n. x ++ over (edgeBytes (endsOf s) (countsOf s)) n 0 ++ endRecord) (length-counts s)
+      ∙ append-assoc x y endRecord
+      ∙ ap (λ (z : List ℕ). x ++ (y ++ z)) (sym (end-bytes h))
+      ∙ ap (λ (z : List ℕ). x ++ z) (sym (chain s (edgesFrom s) (edges s) (edgeBytes (endsOf s) (countsOf s)) edge-bytes))
+      ∙ sym (chain s 0 (cells s) (cellBytes (nodesOf s)) cell-bytes)
 
-  length-counts : length (countsOf s) ≡ edges s
-  unfolding countsOf
-  length-counts = let e : 1 * edges s ≡ edges s = omega arith in length-blocks (countBy s (edgesFrom s)) 1 (edges s) (λ j _. refl) ∙ e
-
-  module _ (bytes : (k : ℕ) → getD s k 0 < 256) where
-    cell-bytes : (k : ℕ) → k < cells s → drop (start s 0 k) s ≡ cellBytes (nodesOf s) k ++ drop (nextAt s (start s 0 k)) s
-    unfolding cellBytes cells
-    cell-bytes k h =
-        cell-back s bytes (start s 0 k) (run-all s 0 1 k h)
-        ∙ cc (node-is k 0 h (omega arith), node-is k 1 h (omega arith), node-is k 2 h (omega arith), node-is k 3 h (omega arith))
-
-    edge-bytes : (k : ℕ) → k < edges s → drop (start s (edgesFrom s) k) s ≡ edgeBytes (endsOf s) (countsOf s) k ++ drop (nextAt s (start s (edgesFrom s) k)) s
-    unfolding edgeBytes edges
-    edge-bytes k h =
-        edge-back s bytes (start s (edgesFrom s) k) (run-all s (edgesFrom s) 2 k h)
-        ∙ cc (end-is k 0 h (omega arith), end-is k 1 h (omega arith), count-is k h)
-
-    cells-back : s ≡ over (cellBytes (nodesOf s)) (cells s) 0 ++ drop (edgesFrom s) s
-    unfolding edgesFrom
-    cells-back = chain s 0 (cells s) (cellBytes (nodesOf s)) cell-bytes
-
-    edges-back : drop (edgesFrom s) s ≡ over (edgeBytes (endsOf s) (countsOf s)) (edges s) 0 ++ drop (stop s) s
-    unfolding stop
-    edges-back = chain s (edgesFrom s) (edges s) (edgeBytes (endsOf s) (countsOf s)) edge-bytes
-
-    whole : isBundle s ≡ true → drop (stop s) s ≡ endRecord
-    unfolding isBundle
-    whole h =
-        let a = isOf s endKind (stop s) in
-        let b = eqb (nextAt s (stop s)) (length s) in
-        end-back s bytes (stop s) (and-left a b h)
-        ∙ ap (λ n. endRecord ++ drop n s) (eqb-true (nextAt s (stop s)) (length s) (and-right a b h))
-        ∙ ap (λ (x : List ℕ). endRecord ++ x) (drop-length s)
-        ∙ append-nil endRecord
-
-    all-back : isBundle s ≡ true → bundleBytes (nodesOf s) (endsOf s) (countsOf s) ≡ s
-    unfolding bundleBytes
-    all-back h =
-        let c : length (nodesOf s) / 4 ≡ cells s = omega (arith, length-nodes) in
-        let x = over (cellBytes (nodesOf s)) (cells s) 0 in
-        let y = over (edgeBytes (endsOf s) (countsOf s)) (edges s) 0 in
-        ap (λ n. over (cellBytes (nodesOf s)) n 0 ++ over (edgeBytes (endsOf s) (countsOf s)) (length (countsOf s)) 0 ++ endRecord) c
-        ∙ ap (λ n. x ++ over (edgeBytes (endsOf s) (countsOf s)) n 0 ++ endRecord) length-counts
-        ∙ append-assoc x y endRecord
-        ∙ ap (λ (z : List ℕ). x ++ (y ++ z)) (sym (whole h))
-        ∙ ap (λ (z : List ℕ). x ++ z) (sym edges-back)
-        ∙ sym cells-back
-
-    back : isBundle s ≡ true → BytesBack s
-    back h =
-        let e = all-back h in
-        record {
-          bytes = e;
-          answer = λ area l.
-              answer-written (nodesOf s) (endsOf s) (countsOf s) area (omega (arith, length-nodes)) (length-ends ∙ ap (λ n. 2 * n) (sym length-counts)) (omega (arith, ap length e, l))
-              ∙ ap (λ (z : List ℕ). result (length z ∷ [])) e;
-        }
+  back : isBundle s ≡ true → (area : List ℕ) → length s ≤ length area → BytesBack s (nodesOf s) (endsOf s) (countsOf s) area
+  back h area l =
+      let e = all-back h in
+      let w = answer-written (nodesOf s) (endsOf s) (countsOf s) (length area) (omega (arith, length-nodes s)) (length-ends s ∙ ap (λ n. edgeEnds * n) (sym (length-counts s))) (omega (arith, ap length e, l)) in
+      record {
+        answer = w .0 ∙ ap (λ (z : List ℕ). result (length z ∷ [])) e;
+        bytes = simp (w .1) (ap (λ (z : List ℕ). writtenOver z area) e);
+      }
 
 -- a byte at any place
-byte : (s : List ℕ) → All (λ x. x < 256) s → (k : ℕ) → getD s k 0 < 256
-byte s h k = elim (decLt k (length s)) [ yes l ↦ all-at (λ x. x < 256) 0 s h k l | no l ↦ omega (arith, List·getD-eq-default s 0 {n = k} (omega arith)) ]
+byte : (s : List ℕ) → All (λ x. x < byteValues) s → (k : ℕ) → getD s k 0 < byteValues
+byte s h k =
+    elim (decLt k (length s)) [
+      | yes l ↦ all-at (λ x. x < byteValues) 0 s h k l
+      | no l ↦ omega (arith, List·getD-eq-default s 0 {n = k} (omega arith))
+    ]
 
 pub read-written : ReadWritten
-read-written s b n m l c e h = back s (byte s b) (accepted s c e (sym (read-bundle s n m l c e h)))
+read-written s b nodes ends counts c e h area l =
+    let g = sym (read-bundle s _ _ _ c e h) in
+    let t = read-taken s _ _ _ c e h in
+    let n : take (cellNodes * c) _ ≡ nodesOf s = left-front t (nodesOf s) nodes _ (length-nodes s ∙ ap (λ k. cellNodes * k) (sym (accepted-cells s c e g))) in
+    let m : take (edgeEnds * e) _ ≡ endsOf s = left-front t (endsOf s) ends _ (length-ends s ∙ ap (λ k. edgeEnds * k) (sym (accepted-edges s c e g))) in
+    let k : take e _ ≡ countsOf s = left-front t (countsOf s) counts _ (length-counts s ∙ sym (accepted-edges s c e g)) in
+    rw (n, m, k) (back s (byte s b) (accepted s c e g) area l)

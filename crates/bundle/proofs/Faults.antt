@@ -11,26 +11,14 @@ use lib.Dec.{eqb}
 use lib.ListN.{length}
 use borrow.Author.Tests.{eqb-true, eqb-false}
 use Rattle.answer.specs.Answer.{refusal}
-use Rattle.counting.specs.Pick.{pick}
 use Rattle.counting.proofs.Bools.{clash, and-left, and-right}
-use Rattle.bundle.specs.Record.{lengthOf, kindAt, nextAt, isRecord, endKind, brokenRow}
-use Rattle.bundle.specs.Bundle.{isOf, start, run, cells, edgesFrom, edges, stop, bundleAnswer, isBundle}
+use Rattle.bundle.specs.Record.{headBytes, cellKind, edgeKind, endKind, brokenRow, kindAt, nextAt, isRecord}
+use Rattle.bundle.specs.Bundle.{isOf, start, cells, edgesFrom, edges, stop, bundleAnswer, isBundle}
 use Rattle.bundle.specs.Fault.{AllWhole, kindOf, Fault, broken, disordered, trailing, endless}
 use Rattle.bundle.specs.Claims.{LowestFault, NoFault}
-use Rattle.bundle.proofs.OneRecord.{apart, stands, next-ge}
+use Rattle.bundle.proofs.OneRecord.{Kind, cell, edge, end, kind-cases, apart, stands, next-ge}
 use Rattle.bundle.proofs.Runs.{of-record, of-kind, is-of, run-all, run-stop, run-inside}
 use Rattle.bundle.proofs.Answers.{answer-open, answer-after, answer-lists, accepted}
-
--- a kind with a length is one of three
-kind-pick : (k : ℕ) (a b c : Bool) → eqb k 1 ≡ a → eqb k 2 ≡ b → eqb k 3 ≡ c → 0 < pick a 10 (pick b 7 (pick c 2 0)) → (k ≡ 1) ⊎ ((k ≡ 2) ⊎ (k ≡ 3))
-kind-pick k true b c ea eb ec h = inl (eqb-true k 1 ea)
-kind-pick k false true c ea eb ec h = inr (inl (eqb-true k 2 eb))
-kind-pick k false false true ea eb ec h = inr (inr (eqb-true k 3 ec))
-kind-pick k false false false ea eb ec h = absurd (omega (arith, h))
-
-kind-cases : (k : ℕ) → 0 < lengthOf k → (k ≡ 1) ⊎ ((k ≡ 2) ⊎ (k ≡ 3))
-unfolding lengthOf
-kind-cases k h = kind-pick k (eqb k 1) (eqb k 2) (eqb k 3) refl refl refl h
 
 start-add : (s : List ℕ) (p k j : ℕ) → start s (start s p k) j ≡ start s p (k + j)
 unfolding start
@@ -53,7 +41,7 @@ module _ (s : List ℕ) where
       let e : m + (k - m) ≡ k = omega arith in
       omega (arith, grows (k - m) m (λ j l. w j (omega arith)), ap (start s 0) e)
 
-  inside : (k : ℕ) → isRecord s (start s 0 k) ≡ true → start s 0 k + 4 ≤ length s
+  inside : (k : ℕ) → isRecord s (start s 0 k) ≡ true → start s 0 k + headBytes ≤ length s
   inside k h = stands s (start s 0 k) h .inside
 
   -- the first m records are whole and in order, and no end stands before the last of them
@@ -74,15 +62,15 @@ module _ (s : List ℕ) where
         elim (decLt k m) [ yes h ↦ let g = inside k (c .whole k h) in omega arith | no h ↦ let g = later m k (omega arith) w in omega arith ]
 
   -- the cells and edges of the bytes, by their numbers
-  cell-record : (j : ℕ) → j < cells s → isOf s 1 (start s 0 j) ≡ true
+  cell-record : (j : ℕ) → j < cells s → isOf s cellKind (start s 0 j) ≡ true
   unfolding cells
-  cell-record j h = run-all s 0 1 j h
+  cell-record j h = run-all s 0 cellKind j h
 
-  edge-record : (j : ℕ) → cells s ≤ j → j < cells s + edges s → isOf s 2 (start s 0 j) ≡ true
+  edge-record : (j : ℕ) → cells s ≤ j → j < cells s + edges s → isOf s edgeKind (start s 0 j) ≡ true
   unfolding edgesFrom edges
   edge-record j l h =
       let e : cells s + (j - cells s) ≡ j = omega arith in
-      sym (ap (isOf s 2) (start-add s 0 (cells s) (j - cells s) ∙ ap (start s 0) e)) ∙ run-all s (edgesFrom s) 2 (j - cells s) (omega arith)
+      sym (ap (isOf s edgeKind) (start-add s 0 (cells s) (j - cells s) ∙ ap (start s 0) e)) ∙ run-all s (edgesFrom s) edgeKind (j - cells s) (omega arith)
 
   pub stop-start : stop s ≡ start s 0 (cells s + edges s)
   unfolding stop edgesFrom
@@ -90,32 +78,32 @@ module _ (s : List ℕ) where
 
   from-inside : edgesFrom s ≤ length s
   unfolding edgesFrom cells
-  from-inside = run-inside s 0 1 (run s 1 0) (omega arith) (le-refl (run s 1 0))
+  from-inside = run-inside s 0 cellKind (cells s) (omega arith) (le-refl (cells s))
 
   pub stop-inside : stop s ≤ length s
   unfolding stop edges
-  stop-inside = run-inside s (edgesFrom s) 2 (run s 2 (edgesFrom s)) from-inside (le-refl (run s 2 (edgesFrom s)))
+  stop-inside = run-inside s (edgesFrom s) edgeKind (edges s) from-inside (le-refl (edges s))
 
   -- before the stop, a kind is that of cells or that of edges, by the number
-  record Kind (j : ℕ) : Type 0 where
+  record Before (j : ℕ) : Type 0 where
     is : isRecord s (start s 0 j) ≡ true
-    which : ((kindOf s j ≡ 1) × (j < cells s)) ⊎ ((kindOf s j ≡ 2) × (cells s ≤ j))
+    which : ((kindOf s j ≡ cellKind) × (j < cells s)) ⊎ ((kindOf s j ≡ edgeKind) × (cells s ≤ j))
 
-  kind : (j : ℕ) → j < cells s + edges s → Kind j
+  kind : (j : ℕ) → j < cells s + edges s → Before j
   kind j h =
       elim (decLt j (cells s)) [
-        | yes l ↦ record { is = of-record s 1 _ (cell-record j l); which = inl (of-kind s 1 _ (cell-record j l), l) }
-        | no l ↦ let b : cells s ≤ j = omega arith in record { is = of-record s 2 _ (edge-record j b h); which = inr (of-kind s 2 _ (edge-record j b h), b) }
+        | yes l ↦ record { is = of-record s cellKind _ (cell-record j l); which = inl (of-kind s cellKind _ (cell-record j l), l) }
+        | no l ↦ let b : cells s ≤ j = omega arith in record { is = of-record s edgeKind _ (edge-record j b h); which = inr (of-kind s edgeKind _ (edge-record j b h), b) }
       ]
 
   not-end : (j : ℕ) → j < cells s + edges s → kindOf s j ≡ endKind → ⊥
-  not-end j h e = ⊎-elim (λ (w : (kindOf s j ≡ 1) × (j < cells s)). omega (arith, w, e)) (λ (w : (kindOf s j ≡ 2) × (cells s ≤ j)). omega (arith, w, e)) (kind j h .which)
+  not-end j h e = ⊎-elim (λ (w : (kindOf s j ≡ cellKind) × (j < cells s)). omega (arith, w, e)) (λ (w : (kindOf s j ≡ edgeKind) × (cells s ≤ j)). omega (arith, w, e)) (kind j h .which)
 
   in-order : (j k : ℕ) → j < k → k < cells s + edges s → kindOf s j ≤ kindOf s k
   in-order j k l h =
       ⊎-elim
-      (λ (w : (kindOf s j ≡ 1) × (j < cells s)). ⊎-elim (λ (v : (kindOf s k ≡ 1) × (k < cells s)). omega (arith, w, v)) (λ (v : (kindOf s k ≡ 2) × (cells s ≤ k)). omega (arith, w, v)) (kind k h .which))
-      (λ (w : (kindOf s j ≡ 2) × (cells s ≤ j)). ⊎-elim (λ (v : (kindOf s k ≡ 1) × (k < cells s)). omega (arith, w, v, l)) (λ (v : (kindOf s k ≡ 2) × (cells s ≤ k)). omega (arith, w, v)) (kind k h .which))
+      (λ (w : (kindOf s j ≡ cellKind) × (j < cells s)). ⊎-elim (λ (v : (kindOf s k ≡ cellKind) × (k < cells s)). omega (arith, w, v)) (λ (v : (kindOf s k ≡ edgeKind) × (cells s ≤ k)). omega (arith, w, v)) (kind k h .which))
+      (λ (w : (kindOf s j ≡ edgeKind) × (cells s ≤ j)). ⊎-elim (λ (v : (kindOf s k ≡ cellKind) × (k < cells s)). omega (arith, w, v, l)) (λ (v : (kindOf s k ≡ edgeKind) × (cells s ≤ k)). omega (arith, w, v)) (kind k h .which))
       (kind j (omega arith) .which)
 
   clean : Clean (cells s + edges s)
@@ -134,8 +122,8 @@ module _ (s : List ℕ) where
                 | yes r ↦ in-order j k l r
                 | no r ↦
                     let e : k ≡ cells s + edges s = omega arith in
-                    let f : kindOf s k ≡ 3 = ap (kindOf s) e ∙ of-kind s endKind _ end-record in
-                    ⊎-elim (λ (w : (kindOf s j ≡ 1) × (j < cells s)). omega (arith, w, f)) (λ (w : (kindOf s j ≡ 2) × (cells s ≤ j)). omega (arith, w, f)) (kind j (omega arith) .which)
+                    let f : kindOf s k ≡ endKind = ap (kindOf s) e ∙ of-kind s endKind _ end-record in
+                    ⊎-elim (λ (w : (kindOf s j ≡ cellKind) × (j < cells s)). omega (arith, w, f)) (λ (w : (kindOf s j ≡ edgeKind) × (cells s ≤ j)). omega (arith, w, f)) (kind j (omega arith) .which)
               ];
           unclosed = λ j l e. not-end j (omega arith) e;
         }
@@ -169,29 +157,29 @@ module _ (s : List ℕ) where
               | no l ↦ let g = inside k (clean-end .whole k (omega arith)) in omega arith
             ]
 
-  no-more-cells : isOf s 1 (edgesFrom s) ≡ false
+  no-more-cells : isOf s cellKind (edgesFrom s) ≡ false
   unfolding edgesFrom cells
-  no-more-cells = run-stop s 0 1
+  no-more-cells = run-stop s 0 cellKind
 
-  no-more-edges : isOf s 2 (stop s) ≡ false
+  no-more-edges : isOf s edgeKind (stop s) ≡ false
   unfolding stop edges
-  no-more-edges = run-stop s (edgesFrom s) 2
+  no-more-edges = run-stop s (edgesFrom s) edgeKind
 
   same : edges s ≡ 0 → stop s ≡ edgesFrom s
   unfolding stop start
   same e = ap (start s (edgesFrom s)) e
 
   -- a cell where the cells and edges stop comes after an edge
-  cell-fault : isRecord s (stop s) ≡ true → kindAt s (stop s) ≡ 1 → Fault s (stop s)
-  cell-fault w k = elim (decLt 0 (edges s)) [ yes l ↦ after l | no l ↦ clash (is-of s 1 (stop s) w k) (ap (isOf s 1) (same (omega arith)) ∙ no-more-cells) ]
+  cell-fault : isRecord s (stop s) ≡ true → kindAt s (stop s) ≡ cellKind → Fault s (stop s)
+  cell-fault w k = elim (decLt 0 (edges s)) [ yes l ↦ after l | no l ↦ clash (is-of s cellKind (stop s) w k) (ap (isOf s cellKind) (same (omega arith)) ∙ no-more-cells) ]
     where
       after : 0 < edges s → Fault s (stop s)
       after l =
           let n = cells s + edges s in
           let b : cells s ≤ n - 1 = omega arith in
           let r : n - 1 < n = omega arith in
-          let f : kindOf s (n - 1) ≡ 2 = of-kind s 2 _ (edge-record (n - 1) b r) in
-          let g : kindOf s n ≡ 1 = ap (kindAt s) (sym stop-start) ∙ k in
+          let f : kindOf s (n - 1) ≡ edgeKind = of-kind s edgeKind _ (edge-record (n - 1) b r) in
+          let g : kindOf s n ≡ cellKind = ap (kindAt s) (sym stop-start) ∙ k in
           let last : isRecord s (start s 0 n) ≡ true = ap (isRecord s) (sym stop-start) ∙ w in
           disordered (n - 1) n stop-start
           (λ j h. elim (decLt j n) [ yes q ↦ kind j q .is | no q ↦ let e : j ≡ n = omega arith in ap (λ i. isRecord s (start s 0 i)) e ∙ last ]) r (omega (arith, f, g))
@@ -200,11 +188,12 @@ module _ (s : List ℕ) where
   stop-fault h = go (isRecord s (stop s)) refl
     where
       go : (b : Bool) → isRecord s (stop s) ≡ b → Fault s (stop s)
-      go true w =
-          ⊎-elim (λ (e : kindAt s (stop s) ≡ 1). cell-fault w e)
-          (λ (o : (kindAt s (stop s) ≡ 2) ⊎ (kindAt s (stop s) ≡ 3)).
-          ⊎-elim (λ (e : kindAt s (stop s) ≡ 2). clash (is-of s 2 (stop s) w e) no-more-edges) (λ (e : kindAt s (stop s) ≡ 3). clash (is-of s endKind (stop s) w e) h) o)
-          (kind-cases (kindAt s (stop s)) (stands s (stop s) w .known))
+      go true w = known (kind-cases (kindAt s (stop s)) (stands s (stop s) w .known))
+        where
+          known : Kind (kindAt s (stop s)) → Fault s (stop s)
+          known (cell e) = cell-fault w e
+          known (edge e) = clash (is-of s edgeKind (stop s) w e) no-more-edges
+          known (end e) = clash (is-of s endKind (stop s) w e) h
       go false w =
           elim (decLt (stop s) (length s)) [
             | yes l ↦ broken (cells s + edges s) stop-start (clean .whole) l w

@@ -1,52 +1,97 @@
--- A turn of the loops that fill lists from records. Assumes nothing.
+-- The sizes of records, and a turn of the loops that fill lists from records. Assumes nothing.
 use Prim.Native.Nat.{ℕ, _+_, _*_, _≤_}
 use mathlib.Core.Path.{_≡_, refl, ap, _∙_}
+use mathlib.Core.Bool.{true}
 use mathlib.Core.List.{List, [], _∷_}
+use native.Mathlib.Nat.{zero-add, le-refl}
 use native.Mathlib.Omega.{arith}
+use lib.Dec.{eqb}
 use lib.ListN.{length, getD, set}
+use borrow.Author.Tests.{eqb-true}
 use Rattle.counting.specs.Range.{over}
-use Rattle.counting.proofs.Fronts.{Filled, filled-more, length-blocks, sets-front, sets-two, sets-four}
-use Rattle.bundle.specs.Record.{word, lengthOf}
-use Rattle.bundle.specs.Bundle.{start, nodesAt, endsAt, countAt, writtenOver}
+use Rattle.counting.specs.Stored.{Stored}
+use Rattle.counting.proofs.Bools.{and-left, and-right}
+use Rattle.counting.proofs.Fronts.{length-blocks}
+use Rattle.counting.proofs.Stored.{stored-one, stored-more, stored-front}
+use Rattle.bundle.specs.Record.{cellKind, edgeKind, endKind, wordSize, lengthBytes, cellSize, edgeSize, endSize, word, lengthOf, nextAt, body}
+use Rattle.bundle.specs.Bundle.{isOf, start, cells, edgesFrom, edges, stop, isBundle, cellNodes, edgeEnds, words, nodesIn, endsIn, countIn, nodesOf, endsOf, countsOf, writtenOver}
+use Rattle.bundle.proofs.Runs.{next-of, body-of, run-apart}
 
-pub cell-size : 2 + lengthOf 1 ≡ 12
+-- the three sizes are those of the kinds' lengths
+pub cell-size : lengthBytes + lengthOf cellKind ≡ cellSize
 unfolding lengthOf
 cell-size = refl
 
-pub edge-size : 2 + lengthOf 2 ≡ 9
+pub edge-size : lengthBytes + lengthOf edgeKind ≡ edgeSize
 unfolding lengthOf
 edge-size = refl
 
-pub end-size : 2 + lengthOf 3 ≡ 4
+pub end-size : lengthBytes + lengthOf endKind ≡ endSize
 unfolding lengthOf
 end-size = refl
 
--- the nodes of record k from a place on, and its ends and count
+-- the body of a cell is its nodes, that of an edge its ends and a byte
+pub cell-body : (s : List ℕ) (at : ℕ) → isOf s cellKind at ≡ true → length (body s at) ≡ wordSize * cellNodes
+cell-body s at h = omega (arith, body-of s cellKind at h, cell-size)
+
+pub edge-body : (s : List ℕ) (at : ℕ) → isOf s edgeKind at ≡ true → length (body s at) ≡ wordSize * edgeEnds + 1
+edge-body s at h = omega (arith, body-of s edgeKind at h, edge-size)
+
+pub length-words : (n : ℕ) (b : List ℕ) → length (words n b) ≡ n
+length-words n b = let e : 1 * n ≡ n = omega arith in length-blocks (λ i. word b (wordSize * i) ∷ []) 1 n (λ _ _. refl) ∙ e
+
+-- what a list has of record k from a place on
 abbrev pub nodesBy : List ℕ → ℕ → ℕ → List ℕ
-nodesBy s from k = nodesAt s (start s from k)
+nodesBy s from k = nodesIn (body s (start s from k))
 
 abbrev pub endsBy : List ℕ → ℕ → ℕ → List ℕ
-endsBy s from k = endsAt s (start s from k)
+endsBy s from k = endsIn (body s (start s from k))
 
 abbrev pub countBy : List ℕ → ℕ → ℕ → List ℕ
-countBy s from k = countAt s (start s from k)
+countBy s from k = countIn (body s (start s from k))
 
-module _ (s : List ℕ) (from at k : ℕ) (h : at ≡ start s from k) (l l0 : List ℕ) where
-  pub nodes-turn : Filled (nodesBy s from) 4 0 k l l0 → (x y z w : ℕ) → x ≡ word s (at + 4) → y ≡ word s (at + 6) → z ≡ word s (at + 8) → w ≡ word s (at + 10)
-      → Filled (nodesBy s from) 4 0 (k + 1) (set (set (set (set l (4 * k) x) (4 * k + 1) y) (4 * k + 2) z) (4 * k + 3) w) l0
-  nodes-turn f x y z w ex ey ez ew =
-      let e : _≡_ {A = List ℕ} (x ∷ y ∷ z ∷ w ∷ []) (nodesAt s at) = cc in
-      rw sets-four (filled-more (nodesBy s from) 4 0 l0 (λ j. refl) k l f (4 * k) (x ∷ y ∷ z ∷ w ∷ []) (omega arith) (e ∙ ap (nodesAt s) h))
+-- the lists are as long as the bundle's numbers say
+module _ (s : List ℕ) where
+  pub length-nodes : length (nodesOf s) ≡ cellNodes * cells s
+  unfolding nodesOf
+  length-nodes = length-blocks (nodesBy s 0) cellNodes (cells s) (λ j _. length-words cellNodes (body s (start s 0 j)))
 
-  pub ends-turn : Filled (endsBy s from) 2 0 k l l0 → (x y : ℕ) → x ≡ word s (at + 4) → y ≡ word s (at + 6)
-      → Filled (endsBy s from) 2 0 (k + 1) (set (set l (2 * k) x) (2 * k + 1) y) l0
-  ends-turn f x y ex ey =
-      let e : _≡_ {A = List ℕ} (x ∷ y ∷ []) (endsAt s at) = cc in
-      rw sets-two (filled-more (endsBy s from) 2 0 l0 (λ j. refl) k l f (2 * k) (x ∷ y ∷ []) (omega arith) (e ∙ ap (endsAt s) h))
+  pub length-ends : length (endsOf s) ≡ edgeEnds * edges s
+  unfolding endsOf
+  length-ends = length-blocks (endsBy s (edgesFrom s)) edgeEnds (edges s) (λ j _. length-words edgeEnds (body s (start s (edgesFrom s) j)))
 
-  pub counts-turn : Filled (countBy s from) 1 0 k l l0 → Filled (countBy s from) 1 0 (k + 1) (set l k (getD s (at + 8) 0)) l0
-  counts-turn f = filled-more (countBy s from) 1 0 l0 (λ j. refl) k l f k (countAt s at) (omega arith) (ap (countAt s) h)
+  pub length-counts : length (countsOf s) ≡ edges s
+  unfolding countsOf
+  length-counts = let e : 1 * edges s ≡ edges s = omega arith in length-blocks (countBy s (edgesFrom s)) 1 (edges s) (λ j _. refl) ∙ e
+
+  -- and so is the bundle
+  cells-apart : edgesFrom s ≡ cellSize * cells s
+  unfolding edgesFrom cells
+  cells-apart = run-apart s 0 cellKind (cells s) (le-refl (cells s)) ∙ ap (λ w. 0 + w * cells s) cell-size ∙ zero-add (cellSize * cells s)
+
+  edges-apart : stop s ≡ edgesFrom s + edgeSize * edges s
+  unfolding stop edges
+  edges-apart = run-apart s (edgesFrom s) edgeKind (edges s) (le-refl (edges s)) ∙ ap (λ w. edgesFrom s + w * edges s) edge-size
+
+  pub bundle-size : isBundle s ≡ true → length s ≡ cellSize * cells s + edgeSize * edges s + endSize
+  unfolding isBundle
+  bundle-size h =
+      let t = eqb (nextAt s (stop s)) (length s) in
+      let o = and-left (isOf s endKind (stop s)) t h in
+      let n : nextAt s (stop s) ≡ length s = eqb-true _ _ (and-right (isOf s endKind (stop s)) t h) in
+      omega (arith, n, next-of s endKind (stop s) o, end-size, cells-apart, edges-apart)
+
+-- what the body of record k means to a list is stored next
+module _ (s : List ℕ) (from at k : ℕ) (h : at ≡ start s from k) where
+  pub turn : (f : List ℕ → List ℕ) {l0 l l' : List ℕ} {m next : ℕ}
+      → Stored l0 0 (over (λ j. f (body s (start s from j))) k 0) l m → Stored l m (f (body s at)) l' next
+      → Stored l0 0 (over (λ j. f (body s (start s from j))) (k + 1) 0) l' next
+  turn f p q = stored-more (λ j. f (body s (start s from j))) k p (rw h at q)
+
+  pub count-turn : (b : List ℕ) → b ≡ body s at → {l0 l : List ℕ}
+      → Stored l0 0 (over (countBy s from) k 0) l k → Stored l0 0 (over (countBy s from) (k + 1) 0) (set l k (getD b (wordSize * edgeEnds) 0)) (k + 1)
+  count-turn b e {l0} {l} p = turn countIn p (rw (← e) (stored-one l k (getD b (wordSize * edgeEnds) 0)))
 
 -- all of them are stored
-pub filled-all : (g : ℕ → List ℕ) (w k n : ℕ) (l l0 : List ℕ) → ((j : ℕ) → length (g j) ≡ w) → Filled g w 0 k l l0 → k ≡ n → w * k ≤ length l0 → l ≡ writtenOver (over g n 0) l0
-filled-all g w k n l l0 e f h b = f .front ∙ sets-front (over g k 0) l0 (omega (arith, b, length-blocks g w k (λ j _. e j))) ∙ ap (λ m. writtenOver (over g m 0) l0) h
+pub filled-all : (g : ℕ → List ℕ) (k n : ℕ) {next : ℕ} {l l0 : List ℕ} → Stored l0 0 (over g k 0) l next → k ≡ n → next ≤ length l0 → l ≡ writtenOver (over g n 0) l0
+filled-all g k n {next} {l} {l0} p h b = let e : l ≡ writtenOver (over g k 0) l0 = stored-front p (omega (arith, p .after, b)) in e ∙ ap (λ m. writtenOver (over g m 0) l0) h

@@ -1,31 +1,31 @@
 -- Lists that are written and read again are the same lists. Assumes nothing.
 use Prim.Native.Nat.{ℕ, zero, suc, _+_, _-_, _*_, _/_, _%_, _≤_, _<_, min}
-use mathlib.Core.Path.{_≡_, refl, sym, ap, _∙_, subst}
+use mathlib.Core.Path.{_≡_, refl, sym, ap, _∙_}
 use mathlib.Core.Bool.{Bool, true, false}
-use mathlib.Core.List.{List, [], _∷_, _++_, append-assoc}
-use native.Mathlib.Nat.{zero-add, add-zero, mul-zero, mul-suc, le-refl}
+use mathlib.Core.List.{List, [], _∷_, _++_, append-assoc, append-nil}
+use native.Mathlib.Nat.{zero-add, add-zero, le-refl}
 use native.Mathlib.Numerals.{add-one}
 use native.Mathlib.Decide.{decLt}
 use native.Mathlib.Omega.{arith}
 use lib.Dec.{eqb}
-use lib.ListN.{length, getD, take, drop, length-append}
-use lib.Seq.{getD-append-add}
+use lib.ListN.{length, getD, take, drop, length-append, List·getD-append}
+use lib.Seq.{getD-append-add, getD-at, take-at, drop-append-add, drop-cons}
 use borrow.Author.Tests.{eqb-true, eq-eqb}
 use Rattle.answer.specs.Answer.{result, refusal}
 use Rattle.counting.specs.Pick.{pick}
 use Rattle.counting.specs.Range.{over}
 use Rattle.counting.proofs.Bools.{and-left, and-right, and-true}
 use Rattle.counting.proofs.Range.{over-ext}
-use Rattle.counting.proofs.Fronts.{length-blocks, over-at, in-parts, entries, take-entries}
-use Rattle.bundle.specs.Record.{word, lengthOf, kindAt, nextAt, brokenRow}
-use Rattle.bundle.specs.Bundle.{isOf, start, run, cells, edgesFrom, edges, stop, isBundle, nodesAt, endsAt, countAt, nodesOf, endsOf, countsOf, shortRow, readAnswer}
-use Rattle.bundle.specs.Written.{cellRecord, edgeRecord, endRecord, cellBytes, edgeBytes, bundleBytes, nodeOf, endOf, isFormed, fitsArea, mostNamed, writeAnswer}
+use Rattle.counting.proofs.Fronts.{getD-blocks, over-more, over-at, in-parts, singles}
+use Rattle.bundle.specs.Record.{byteValues, brokenRow, cellKind, edgeKind, endKind, wordSize, lengthBytes, headBytes, word, lengthOf, kindAt, nextAt, body}
+use Rattle.bundle.specs.Bundle.{cellNodes, edgeEnds, isOf, start, run, cells, edgesFrom, edges, stop, isBundle, words, nodesIn, endsIn, countIn, nodesOf, endsOf, countsOf, shortRow, writtenOver}
+use Rattle.bundle.specs.Written.{wordBytes, recordBytes, listBytes, endRecord, cellBytes, edgeBytes, bundleBytes, isFormed, fitsArea, isWritten, mostNamed, writeAnswer}
 use Rattle.bundle.specs.Claims.{ListsBack, WrittenRead}
-use Rattle.bundle.proofs.OneRecord.{standing}
-use Rattle.bundle.proofs.Runs.{Going, going, on, arrived, is-of, of-kind, other-of, next-of}
-use Rattle.bundle.proofs.Fills.{cell-size, edge-size, end-size}
-use Rattle.bundle.proofs.Answers.{read-lists}
-use Rattle.bundle.proofs.Writes.{length-cell, length-edge, length-bundle}
+use Rattle.bundle.proofs.OneRecord.{standing, body-whole}
+use Rattle.bundle.proofs.Runs.{Going, going, on, arrived, of-record, is-of, of-kind, other-of, next-of}
+use Rattle.bundle.proofs.Fills.{end-size}
+use Rattle.bundle.proofs.Answers.{read-lists, left-front}
+use Rattle.bundle.proofs.Writes.{length-list, length-edges}
 
 -- a word after a front of the bytes
 word-in : (p t : List ℕ) (j : ℕ) → word (p ++ t) (length p + j) ≡ word t j
@@ -34,238 +34,242 @@ word-in p t j =
     let f : getD (p ++ t) (length p + j + 1) 0 ≡ getD t (j + 1) 0 = ap (λ k. getD (p ++ t) k 0) e ∙ getD-append-add p t (j + 1) 0 in
     cc (getD-append-add p t j 0, f)
 
-halves : (x : ℕ) → x % 256 + 256 * (x / 256) ≡ x
+halves : (x : ℕ) → x % byteValues + byteValues * (x / byteValues) ≡ x
 halves x = omega arith
 
--- a record after a front p, and what it means
-module _ (p t : List ℕ) where
-  put : (kind : ℕ) → 2 ≤ lengthOf kind → word t 0 ≡ lengthOf kind → word t 2 ≡ kind → 2 + lengthOf kind ≤ length t → isOf (p ++ t) kind (length p) ≡ true
+-- a record with the body b after a front p
+module _ (p r b : List ℕ) (kind : ℕ) (size : wordSize + length b ≡ lengthOf kind) where
+  abbrev bytes : List ℕ
+  bytes = p ++ (recordBytes kind b ++ r)
+
+  record-put : isOf bytes kind (length p) ≡ true
   unfolding kindAt nextAt
-  put kind h0 el ek h =
-      let a : word (p ++ t) (length p) ≡ lengthOf kind = ap (word (p ++ t)) (sym (add-zero (length p))) ∙ word-in p t 0 ∙ el in
-      let b : kindAt (p ++ t) (length p) ≡ kind = word-in p t 2 ∙ ek in
-      let c : lengthOf (kindAt (p ++ t) (length p)) ≡ lengthOf kind = ap lengthOf b in
+  record-put =
+      let t = recordBytes kind b ++ r in
+      let e : word bytes (length p) ≡ lengthOf kind = ap (word bytes) (sym (add-zero (length p))) ∙ word-in p t 0 ∙ halves (lengthOf kind) in
+      let k : kindAt bytes (length p) ≡ kind = word-in p t wordSize ∙ halves kind in
       let n = length-append p t in
-      is-of (p ++ t) kind (length p) (standing (p ++ t) (length p) (record { inside = omega arith; known = omega arith; right = a ∙ sym c; fits = omega arith })) b
+      let m = length-append b r in
+      is-of bytes kind (length p)
+      (standing bytes (length p) (record { inside = omega arith; known = omega (arith, ap lengthOf k, size); right = e ∙ sym (ap lengthOf k); fits = omega arith }))
+      k
 
-module _ (p r : List ℕ) where
-  cell-put : (a b c d : ℕ) → isOf (p ++ (cellRecord a b c d ++ r)) 1 (length p) ≡ true
-  unfolding lengthOf
-  cell-put a b c d = put p (cellRecord a b c d ++ r) 1 (omega arith) refl refl (omega arith)
+  body-put : body bytes (length p) ≡ b
+  body-put =
+      let o = record-put in
+      let n : nextAt bytes (length p) - (length p + headBytes) ≡ length b = omega (arith, next-of bytes kind (length p) o, size) in
+      sym (body-whole bytes (length p) (of-record bytes kind (length p) o) .0)
+      ∙ ap (λ k. take k (drop (length p + headBytes) bytes)) n
+      ∙ ap (take (length b)) (drop-append-add p (recordBytes kind b ++ r) headBytes)
+      ∙ take-at b r (length b) refl
 
-  cell-nodes : (a b c d : ℕ) → nodesAt (p ++ (cellRecord a b c d ++ r)) (length p) ≡ a ∷ b ∷ c ∷ d ∷ []
-  cell-nodes a b c d =
-      let t = cellRecord a b c d ++ r in
-      cc (word-in p t 4 ∙ halves a, word-in p t 6 ∙ halves b, word-in p t 8 ∙ halves c, word-in p t 10 ∙ halves d)
+-- records of one kind, each with its body, between a front and a rest
+record Laid (s p r : List ℕ) (kind n : ℕ) (g b : ℕ → List ℕ) : Type 0 where
+  whole : s ≡ p ++ (over g n 0 ++ r)
+  each : (k : ℕ) → g k ≡ recordBytes kind (b k)
+  size : (k : ℕ) → wordSize + length (b k) ≡ lengthOf kind
 
-  edge-put : (u v n : ℕ) → isOf (p ++ (edgeRecord u v n ++ r)) 2 (length p) ≡ true
-  unfolding lengthOf
-  edge-put u v n = put p (edgeRecord u v n ++ r) 2 (omega arith) refl refl (omega arith)
+module _ {s p r : List ℕ} {kind n : ℕ} {g b : ℕ → List ℕ} (l : Laid s p r kind n g b) where
+  -- where record k stands
+  abbrev place : ℕ → ℕ
+  place k = length p + length (over g k 0)
 
-  edge-ends : (u v n : ℕ) → endsAt (p ++ (edgeRecord u v n ++ r)) (length p) ≡ u ∷ v ∷ []
-  edge-ends u v n = let t = edgeRecord u v n ++ r in cc (word-in p t 4 ∙ halves u, word-in p t 6 ∙ halves v)
+  place-zero : place 0 ≡ length p
+  unfolding over
+  place-zero = add-zero (length p)
 
-  edge-count : (u v n : ℕ) → countAt (p ++ (edgeRecord u v n ++ r)) (length p) ≡ n ∷ []
-  edge-count u v n = ap (λ x. x ∷ []) (getD-append-add p (edgeRecord u v n ++ r) 8 0)
+  place-more : (k : ℕ) → place (k + 1) ≡ place k + (lengthBytes + lengthOf kind)
+  place-more k = omega (arith, ap length (over-more g k), length-append (over g k 0) (g k), ap length (l .each k), l .size k)
 
-  end-put : isOf (p ++ (endRecord ++ r)) 3 (length p) ≡ true
-  unfolding lengthOf
-  end-put = put p (endRecord ++ r) 3 (omega arith) refl refl (omega arith)
+  split : (k : ℕ) → k < n → s ≡ (p ++ over g k 0) ++ (recordBytes kind (b k) ++ (over g (n - suc k) (suc k) ++ r))
+  split k h =
+      let x = over g k 0 in
+      let y = over g (n - suc k) (suc k) in
+      let e : p ++ ((x ++ (g k ++ y)) ++ r) ≡ (p ++ x) ++ (g k ++ (y ++ r)) = simp append-assoc in
+      l .whole ∙ ap (λ (z : List ℕ). p ++ (z ++ r)) (over-at g n k h) ∙ e ∙ ap (λ (z : List ℕ). (p ++ x) ++ (z ++ (y ++ r))) (l .each k)
 
--- n records of a kind, w bytes each, and none after them, are a run
-module _ (s : List ℕ) (from kind w n : ℕ) (e : 2 + lengthOf kind ≡ w) (h : (k : ℕ) → k < n → isOf s kind (from + w * k) ≡ true) where
-  goes : (k : ℕ) → k ≤ n → Going s from kind (from + w * k) k
-  goes zero l = let z : from ≡ from + w * 0 = sym (ap (λ i. from + i) (mul-zero w) ∙ add-zero from) in subst (λ a. Going s from kind a 0) z (going s from kind)
-  goes (suc k) l =
-      let q : nextAt s (from + w * k) ≡ from + w * suc k = next-of s kind (from + w * k) (h k l) ∙ omega (arith, e, mul-suc w k) in
-      subst (λ i. Going s from kind (from + w * suc k) i) (add-one k) (subst (λ a. Going s from kind a (k + 1)) q (on s from kind (from + w * k) k (goes k (omega arith)) (h k l)))
+  -- what is so of a record after any front is so there
+  there : {A : Type 0} (f : List ℕ → ℕ → A) (v : A) (k : ℕ) → k < n → ((q t : List ℕ) → f (q ++ (recordBytes kind (b k) ++ t)) (length q) ≡ v) → f s (place k) ≡ v
+  there f v k h e = ap (λ x. f x (place k)) (split k h) ∙ ap (f _) (sym (length-append p (over g k 0))) ∙ e (p ++ over g k 0) _
 
-  run-is : isOf s kind (from + w * n) ≡ false → run s kind from ≡ n
-  run-is f = sym (arrived s from kind (from + w * n) n (goes n (le-refl n)) f)
+  is-at : (k : ℕ) → k < n → isOf s kind (place k) ≡ true
+  is-at k h = there (λ x. isOf x kind) true k h (λ q t. record-put q t (b k) kind (l .size k))
 
--- what stands at a place of bytes that are a front and a rest
-module _ {A : Type 0} (f : List ℕ → ℕ → A) where
-  placed : (s p t : List ℕ) (at : ℕ) (v : A) → s ≡ p ++ t → length p ≡ at → f (p ++ t) (length p) ≡ v → f s at ≡ v
-  placed s p t at v e l h = ap (λ x. f x at) e ∙ ap (f (p ++ t)) (sym l) ∙ h
+  goes : (k : ℕ) → k ≤ n → Going s (length p) kind (place k) k
+  goes zero h = rw place-zero (going s (length p) kind)
+  goes (suc k) h =
+      let o = is-at k h in
+      let q : place (k + 1) ≡ nextAt s (place k) = place-more k ∙ sym (next-of s kind (place k) o) in
+      rw (← add-one k, q) (on s (length p) kind (place k) k (goes k (omega arith)) o)
+
+  -- none after them: they are a run
+  run-is : isOf s kind (place n) ≡ false → run s kind (length p) ≡ n
+  run-is f = sym (arrived s (length p) kind (place n) n (goes n (le-refl n)) f)
+
+  starts : (k : ℕ) → k ≤ n → start s (length p) k ≡ place k
+  starts k h = sym (goes k h .reached)
+
+  bodies : (k : ℕ) → k < n → body s (start s (length p) k) ≡ b k
+  bodies k h = ap (body s) (starts k (omega arith)) ∙ there body (b k) k h (λ q t. body-put q t (b k) kind (l .size k))
+
+-- the words of bytes that begin with those of a list
+words-of : (l t : List ℕ) (from n : ℕ) → from + n ≤ length l → words n (listBytes l from n ++ t) ≡ take n (drop from l)
+words-of l t from n h = over-ext _ _ n 0 (λ i _ q. ap (λ x. x ∷ []) (entry i (omega (arith, q)))) ∙ singles l 0 from n h
+  where
+    f : ℕ → List ℕ
+    f i = wordBytes (getD l (from + i) 0)
+
+    half : (i j : ℕ) → i < n → j < wordSize → getD (listBytes l from n ++ t) (wordSize * i + j) 0 ≡ getD (f i) j 0
+    half i j a b =
+        List·getD-append (listBytes l from n) t 0 (wordSize * i + j) (omega (arith, length-list l from n))
+        ∙ getD-blocks f wordSize n (λ _ _. refl) i j 0 a b
+
+    entry : (i : ℕ) → i < n → word (listBytes l from n ++ t) (wordSize * i) ≡ getD l (from + i) 0
+    entry i a =
+        let z : wordSize * i ≡ wordSize * i + 0 = omega arith in
+        let x : getD (listBytes l from n ++ t) (wordSize * i) 0 ≡ getD l (from + i) 0 % byteValues = ap (λ k. getD (listBytes l from n ++ t) k 0) z ∙ half i 0 a (omega arith) in
+        cc (x, half i 1 a (omega arith)) ∙ halves (getD l (from + i) 0)
 
 module _ (nodes ends counts : List ℕ) where
-  c : ℕ
-  c = length nodes / 4
+  abbrev c : ℕ
+  c = length nodes / cellNodes
 
-  e : ℕ
+  abbrev e : ℕ
   e = length counts
 
-  abbrev cs : ℕ → List ℕ
-  cs n = over (cellBytes nodes) n 0
-
-  abbrev es : ℕ → List ℕ
-  es n = over (edgeBytes ends counts) n 0
-
-  s : List ℕ
+  abbrev s : List ℕ
   s = bundleBytes nodes ends counts
 
-  length-cs : (k : ℕ) → length (cs k) ≡ 12 * k
-  length-cs k = length-blocks (cellBytes nodes) 12 k (λ j _. length-cell nodes j)
+  abbrev cs : List ℕ
+  cs = over (cellBytes nodes) c 0
 
-  length-es : (k : ℕ) → length (es k) ≡ 9 * k
-  length-es k = length-blocks (edgeBytes ends counts) 9 k (λ j _. length-edge ends counts j)
+  abbrev es : List ℕ
+  es = over (edgeBytes ends counts) e 0
 
-  -- the bytes before record k, the record, and the bytes after it
-  cell-split : (k : ℕ) → k < c → s ≡ cs k ++ (cellBytes nodes k ++ (over (cellBytes nodes) (c - suc k) (suc k) ++ (es e ++ endRecord)))
-  unfolding s c e bundleBytes
-  cell-split k h =
-      append-assoc (cs c) (es e) endRecord
-      ∙ ap (λ x. x ++ (es e ++ endRecord)) (over-at (cellBytes nodes) c k h)
-      ∙ append-assoc (cs k) (cellBytes nodes k ++ over (cellBytes nodes) (c - suc k) (suc k)) (es e ++ endRecord)
-      ∙ ap (λ x. cs k ++ x) (append-assoc (cellBytes nodes k) (over (cellBytes nodes) (c - suc k) (suc k)) (es e ++ endRecord))
+  abbrev cellBody : ℕ → List ℕ
+  cellBody k = listBytes nodes (cellNodes * k) cellNodes
 
-  edge-split : (k : ℕ) → k < e → s ≡ (cs c ++ es k) ++ (edgeBytes ends counts k ++ (over (edgeBytes ends counts) (e - suc k) (suc k) ++ endRecord))
-  unfolding s c e bundleBytes
-  edge-split k h =
-      let r = over (edgeBytes ends counts) (e - suc k) (suc k) in
-      let g = edgeBytes ends counts k in
-      ap (λ x. cs c ++ x ++ endRecord) (over-at (edgeBytes ends counts) e k h)
-      ∙ ap (λ x. x ++ endRecord) (sym (append-assoc (cs c) (es k) (g ++ r)))
-      ∙ append-assoc (cs c ++ es k) (g ++ r) endRecord
-      ∙ ap (λ x. (cs c ++ es k) ++ x) (append-assoc g r endRecord)
+  abbrev edgeBody : ℕ → List ℕ
+  edgeBody k = listBytes ends (edgeEnds * k) edgeEnds ++ (getD counts k 0 ∷ [])
 
-  end-split : s ≡ (cs c ++ es e) ++ (endRecord ++ [])
-  unfolding s c e bundleBytes
-  end-split = refl
+  cells-laid : Laid s [] (es ++ endRecord) cellKind c (cellBytes nodes) cellBody
+  unfolding bundleBytes cellBytes lengthOf over
+  cells-laid = record { whole = append-assoc cs es endRecord; each = λ k. refl; size = λ k. refl }
 
-  length-both : (k : ℕ) → length (cs c ++ es k) ≡ 12 * c + 9 * k
-  length-both k = length-append (cs c) (es k) ∙ ap (λ n. n + length (es k)) (length-cs c) ∙ ap (λ n. 12 * c + n) (length-es k)
+  edges-laid : Laid s cs endRecord edgeKind e (edgeBytes ends counts) edgeBody
+  unfolding bundleBytes edgeBytes lengthOf over
+  edges-laid = record { whole = append-assoc cs es endRecord; each = λ k. refl; size = λ k. refl }
 
-  -- what stands at each record's place
-  cell-at : (k : ℕ) → k < c → isOf s 1 (0 + 12 * k) ≡ true
-  unfolding cellBytes
-  cell-at k h = placed (λ x. isOf x 1) s (cs k) _ (0 + 12 * k) true (cell-split k h) (length-cs k ∙ sym (zero-add (12 * k))) (cell-put (cs k) _ _ _ _ _)
-
-  nodes-at : (k : ℕ) → k < c → nodesAt s (0 + 12 * k) ≡ nodeOf nodes k 0 ∷ nodeOf nodes k 1 ∷ nodeOf nodes k 2 ∷ nodeOf nodes k 3 ∷ []
-  unfolding cellBytes
-  nodes-at k h = placed nodesAt s (cs k) _ (0 + 12 * k) _ (cell-split k h) (length-cs k ∙ sym (zero-add (12 * k))) (cell-nodes (cs k) _ _ _ _ _)
-
-  edge-at : (k : ℕ) → k < e → isOf s 2 (12 * c + 9 * k) ≡ true
-  unfolding edgeBytes
-  edge-at k h = placed (λ x. isOf x 2) s (cs c ++ es k) _ (12 * c + 9 * k) true (edge-split k h) (length-both k) (edge-put (cs c ++ es k) _ _ _ _)
-
-  ends-at : (k : ℕ) → k < e → endsAt s (12 * c + 9 * k) ≡ endOf ends k 0 ∷ endOf ends k 1 ∷ []
-  unfolding edgeBytes
-  ends-at k h = placed endsAt s (cs c ++ es k) _ (12 * c + 9 * k) _ (edge-split k h) (length-both k) (edge-ends (cs c ++ es k) _ _ _ _)
-
-  count-at : (k : ℕ) → k < e → countAt s (12 * c + 9 * k) ≡ getD counts k 0 ∷ []
-  unfolding edgeBytes
-  count-at k h = placed countAt s (cs c ++ es k) _ (12 * c + 9 * k) _ (edge-split k h) (length-both k) (edge-count (cs c ++ es k) _ _ _ _)
-
-  end-at : isOf s 3 (12 * c + 9 * e) ≡ true
-  end-at = placed (λ x. isOf x 3) s (cs c ++ es e) _ (12 * c + 9 * e) true end-split (length-both e) (end-put (cs c ++ es e) [])
+  end-at : isOf s endKind (length (cs ++ es)) ≡ true
+  unfolding bundleBytes lengthOf
+  end-at = record-put (cs ++ es) [] [] endKind refl
 
   -- no cell after the cells, and no edge after the edges
-  no-cell : isOf s 1 (0 + 12 * c) ≡ false
-  no-cell = elim (decLt 0 e) [ yes l ↦ other 2 (12 * c + 9 * 0) (edge-at 0 l) (omega arith) (omega arith) | no l ↦ other 3 (12 * c + 9 * e) end-at (omega arith) (omega arith) ]
+  no-cell : isOf s cellKind (length cs) ≡ false
+  no-cell = elim (decLt 0 e) [ yes l ↦ other edgeKind _ (is-at edges-laid 0 l) (place-zero edges-laid) (omega arith) | no l ↦ other endKind _ end-at (omega (arith, length-append cs es, length-edges nodes ends counts)) (omega arith) ]
     where
-      other : (kind at : ℕ) → isOf s kind at ≡ true → at ≡ 0 + 12 * c → 1 < kind → isOf s 1 (0 + 12 * c) ≡ false
-      other kind at h p l = other-of s 1 (0 + 12 * c) (λ q. let k = of-kind s kind at h in let f = ap (kindAt s) p in omega (arith, k, f, q, l))
+      other : (kind at : ℕ) → isOf s kind at ≡ true → at ≡ length cs → cellKind < kind → isOf s cellKind (length cs) ≡ false
+      other kind at h p l = other-of s cellKind (length cs) (λ q. let k = of-kind s kind at h in let f = ap (kindAt s) p in omega (arith, k, f, q, l))
 
-  no-edge : isOf s 2 (12 * c + 9 * e) ≡ false
-  no-edge = other-of s 2 _ (λ q. let k = of-kind s 3 _ end-at in omega (arith, k, q))
+  no-edge : isOf s edgeKind (length cs + length es) ≡ false
+  no-edge = other-of s edgeKind _ (λ q. let k = of-kind s endKind _ end-at in omega (arith, k, q, ap (kindAt s) (length-append cs es)))
 
   -- so the reader finds them all
   cells-are : cells s ≡ c
   unfolding cells
-  cells-are = run-is s 0 1 12 c cell-size cell-at no-cell
+  cells-are = run-is cells-laid (ap (isOf s cellKind) (zero-add (length cs)) ∙ no-cell)
 
-  starts : (k : ℕ) → k ≤ c → start s 0 k ≡ 0 + 12 * k
-  starts k l = sym (goes s 0 1 12 c cell-size cell-at k l .reached)
-
-  from-is : edgesFrom s ≡ 12 * c
+  from-is : edgesFrom s ≡ length cs
   unfolding edgesFrom
-  from-is = ap (start s 0) cells-are ∙ starts c (le-refl c) ∙ zero-add (12 * c)
+  from-is = ap (start s 0) cells-are ∙ starts cells-laid c (le-refl c) ∙ zero-add (length cs)
 
   edges-are : edges s ≡ e
   unfolding edges
-  edges-are = ap (run s 2) from-is ∙ run-is s (12 * c) 2 9 e edge-size edge-at no-edge
+  edges-are = ap (run s edgeKind) from-is ∙ run-is edges-laid no-edge
 
-  edge-starts : (k : ℕ) → k ≤ e → start s (edgesFrom s) k ≡ 12 * c + 9 * k
-  edge-starts k l = ap (λ n. start s n k) from-is ∙ sym (goes s (12 * c) 2 9 e edge-size edge-at k l .reached)
-
-  stop-is : stop s ≡ 12 * c + 9 * e
+  stop-is : stop s ≡ length (cs ++ es)
   unfolding stop
-  stop-is = ap (start s (edgesFrom s)) edges-are ∙ edge-starts e (le-refl e)
+  stop-is = ap (start s (edgesFrom s)) edges-are ∙ ap (λ n. start s n e) from-is ∙ starts edges-laid e (le-refl e) ∙ sym (length-append cs es)
 
   next-is : nextAt s (stop s) ≡ length s
-  unfolding s c e
+  unfolding bundleBytes
   next-is =
       ap (nextAt s) stop-is
-      ∙ next-of s 3 (12 * c + 9 * e) end-at
-      ∙ ap (λ n. 12 * c + 9 * e + n) end-size
-      ∙ sym (length-bundle nodes ends counts)
+      ∙ next-of s endKind (length (cs ++ es)) end-at
+      ∙ ap (λ n. length (cs ++ es) + n) end-size
+      ∙ sym (length-append (cs ++ es) endRecord)
 
   is-bundle : isBundle s ≡ true
   unfolding isBundle
-  is-bundle = and-true _ _ (ap (isOf s 3) stop-is ∙ end-at) (eq-eqb _ _ next-is)
+  is-bundle = and-true _ _ (ap (isOf s endKind) stop-is ∙ end-at) (eq-eqb _ _ next-is)
 
-  module _ (h4 : length nodes % 4 ≡ 0) (h2 : length ends ≡ 2 * length counts) where
-    fours : length nodes ≡ 4 * c
-    unfolding c
+  edge-of : (k : ℕ) → k < e → body s (start s (edgesFrom s) k) ≡ edgeBody k
+  edge-of k h = ap (λ n. body s (start s n k)) from-is ∙ bodies edges-laid k h
+
+  -- a list of what the bodies mean, w entries each, is the list that was written
+  listed : (f : ℕ → List ℕ) (w n m : ℕ) (l : List ℕ) → m ≡ n → length l ≡ w * n → ((k : ℕ) → k < n → f k ≡ take w (drop (w * k) l)) → over f m 0 ≡ l
+  listed f w n m l q h g = ap (λ k. over f k 0) q ∙ over-ext _ _ n 0 (λ k _ i. g k (omega (arith, i))) ∙ in-parts w n l h
+
+  module _ (h4 : length nodes % cellNodes ≡ 0) (h2 : length ends ≡ edgeEnds * e) where
+    fours : length nodes ≡ cellNodes * c
     fours = omega (arith, h4)
 
-    pairs : length ends ≡ 2 * e
-    unfolding e
-    pairs = h2
+    nodes-are : nodesOf s ≡ nodes
+    unfolding nodesOf
+    nodes-are = listed _ cellNodes c (cells s) nodes cells-are fours (λ k l. ap nodesIn (bodies cells-laid k l ∙ sym (append-nil (cellBody k))) ∙ words-of nodes [] (cellNodes * k) cellNodes (omega (arith, fours)))
 
-    ones : length counts ≡ 1 * e
-    unfolding e
-    ones = omega arith
+    ends-are : endsOf s ≡ ends
+    unfolding endsOf
+    ends-are = listed _ edgeEnds e (edges s) ends edges-are h2 (λ k l. ap endsIn (edge-of k l) ∙ words-of ends (getD counts k 0 ∷ []) (edgeEnds * k) edgeEnds (omega (arith, h2)))
 
-    four-of : (k : ℕ) → k < c → nodesAt s (start s 0 k) ≡ take 4 (drop (4 * k) nodes)
-    unfolding entries
-    four-of k l = ap (nodesAt s) (starts k (omega arith)) ∙ nodes-at k l ∙ sym (take-entries nodes 0 (4 * k) 4 (omega (arith, fours)))
+    counts-are : countsOf s ≡ counts
+    unfolding countsOf
+    counts-are = listed _ 1 e (edges s) counts edges-are (omega arith) one-of
+      where
+        one-of : (k : ℕ) → k < e → countIn (body s (start s (edgesFrom s) k)) ≡ take 1 (drop (1 * k) counts)
+        one-of k l =
+            let z : k ≡ 1 * k = omega arith in
+            ap countIn (edge-of k l)
+            ∙ ap (λ x. x ∷ []) (getD-at (listBytes ends (edgeEnds * k) edgeEnds) (getD counts k 0) [] 0 (wordSize * edgeEnds) (length-list ends (edgeEnds * k) edgeEnds))
+            ∙ ap (take 1) (sym (drop-cons counts k 0 l))
+            ∙ ap (λ n. take 1 (drop n counts)) z
 
-    two-of : (k : ℕ) → k < e → endsAt s (start s (edgesFrom s) k) ≡ take 2 (drop (2 * k) ends)
-    unfolding entries
-    two-of k l = ap (endsAt s) (edge-starts k (omega arith)) ∙ ends-at k l ∙ sym (take-entries ends 0 (2 * k) 2 (omega (arith, pairs)))
+    module _ (ns es' cs' : List ℕ) (hn : length nodes ≤ length ns) (he : length ends ≤ length es') (hc : length counts ≤ length cs') where
+      back : ListsBack nodes ends counts s ns es' cs'
+      back =
+          let r = read-lists s (length ns) (length es') (length cs') is-bundle (omega (arith, cells-are, fours, hn)) (omega (arith, edges-are, h2, he)) (omega (arith, edges-are, hc)) in
+          record {
+            answer = r .0 ∙ cc (cells-are, edges-are);
+            nodesBack = simp (r .1) (ap (λ x. writtenOver x ns) nodes-are);
+            endsBack = simp (r .1) (ap (λ x. writtenOver x es') ends-are);
+            countsBack = simp (r .1) (ap (λ x. writtenOver x cs') counts-are);
+          }
 
-    one-of : (k : ℕ) → k < e → countAt s (start s (edgesFrom s) k) ≡ take 1 (drop (1 * k) counts)
-    unfolding entries
-    one-of k l =
-        let z : k ≡ 1 * k + 0 = omega arith in
-        ap (countAt s) (edge-starts k (omega arith))
-        ∙ count-at k l
-        ∙ ap (λ n. getD counts n 0 ∷ []) z
-        ∙ sym (take-entries counts 0 (1 * k) 1 (omega (arith, ones)))
+-- what a result of the writer says
+record Formed (nodes ends counts : List ℕ) (area n : ℕ) : Type 0 where
+  fours : length nodes % cellNodes ≡ 0
+  pairs : length ends ≡ edgeEnds * length counts
+  written : isWritten nodes ends counts area ≡ true
+  all : n ≡ length (bundleBytes nodes ends counts)
 
-    answered : readAnswer s (length nodes) (length ends) (length counts) ≡ result (length nodes / 4 ∷ length counts ∷ [])
-    unfolding c e
-    answered =
-        read-lists s _ _ _ is-bundle (omega (arith, cells-are, fours)) (omega (arith, edges-are, pairs)) (omega (arith, edges-are, ones))
-        ∙ cc (cells-are, edges-are)
-
-    back : ListsBack nodes ends counts s
-    unfolding nodesOf endsOf countsOf
-    back =
-        record {
-          nodesBack = ap (λ n. over (λ k. nodesAt s (start s 0 k)) n 0) cells-are ∙ over-ext _ _ c 0 (λ k _ l. four-of k (omega (arith, l))) ∙ in-parts 4 c nodes fours;
-          endsBack = ap (λ n. over (λ k. endsAt s (start s (edgesFrom s) k)) n 0) edges-are ∙ over-ext _ _ e 0 (λ k _ l. two-of k (omega (arith, l))) ∙ in-parts 2 e ends pairs;
-          countsBack = ap (λ n. over (λ k. countAt s (start s (edgesFrom s) k)) n 0) edges-are ∙ over-ext _ _ e 0 (λ k _ l. one-of k (omega (arith, l))) ∙ in-parts 1 e counts ones;
-          answer = answered;
-        }
-
--- a result of the writer says that the lists are formed
-formed : (nodes ends counts : List ℕ) (area n : ℕ) → writeAnswer nodes ends counts area ≡ result (n ∷ []) → isFormed nodes ends counts ≡ true
-unfolding writeAnswer
-formed nodes ends counts area n h = go (isFormed nodes ends counts) refl h
+formed : (nodes ends counts : List ℕ) (area n : ℕ) → writeAnswer nodes ends counts area ≡ result (n ∷ []) → Formed nodes ends counts area n
+unfolding writeAnswer isWritten isFormed
+formed nodes ends counts area n h = go (isFormed nodes ends counts) (fitsArea nodes ends counts area) refl refl h
   where
-    go : (b : Bool) → isFormed nodes ends counts ≡ b
-        → pick b (pick (fitsArea nodes ends counts area) (result (length (bundleBytes nodes ends counts) ∷ [])) (refusal shortRow (min (length (bundleBytes nodes ends counts)) mostNamed))) (refusal brokenRow 0) ≡ result (n ∷ [])
-        → isFormed nodes ends counts ≡ true
-    go true e q = e
-    go false e q = let z : _≡_ {A = ℕ} 13 0 = cc in absurd (omega arith)
+    a : Bool
+    a = eqb (length nodes % cellNodes) 0
+
+    b : Bool
+    b = eqb (length ends) (edgeEnds * length counts)
+
+    go : (f t : Bool) → isFormed nodes ends counts ≡ f → fitsArea nodes ends counts area ≡ t
+        → pick f (pick t (result (length (bundleBytes nodes ends counts) ∷ [])) (refusal shortRow (min (length (bundleBytes nodes ends counts)) mostNamed))) (refusal brokenRow 0) ≡ result (n ∷ [])
+        → Formed nodes ends counts area n
+    go true true p q r = record { fours = eqb-true _ _ (and-left a b p); pairs = eqb-true _ _ (and-right a b p); written = and-true _ _ p q; all = cc }
+    go true false p q r = let z : _≡_ {A = ℕ} shortRow 0 = cc in absurd (omega arith)
+    go false t p q r = let z : _≡_ {A = ℕ} brokenRow 0 = cc in absurd (omega arith)
 
 pub written-read : WrittenRead
-unfolding s isFormed
-written-read nodes ends counts area n h =
-    let a = eqb (length nodes % 4) 0 in
-    let b = eqb (length ends) (2 * length counts) in
-    let f = formed nodes ends counts area n h in
-    back nodes ends counts (eqb-true _ _ (and-left a b f)) (eqb-true _ _ (and-right a b f))
+written-read nodes ends counts area n h ns es cs hn he hc =
+    let f = formed nodes ends counts (length area) n h in
+    rw (left-front (f .written) (bundleBytes nodes ends counts) area n (sym (f .all))) (back nodes ends counts (f .fours) (f .pairs) ns es cs hn he hc)

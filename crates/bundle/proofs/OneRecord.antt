@@ -6,27 +6,43 @@ use mathlib.Core.List.{List, [], _∷_}
 use native.Mathlib.Decide.{decLt}
 use native.Mathlib.Omega.{arith}
 use lib.Dec.{ltb, leb, eqb}
-use lib.ListN.{length, take, drop}
+use lib.ListN.{length, take, drop, length-take, length-drop}
 use borrow.Author.Tests.{ltb-true, leb-true, eqb-true, lt-ltb, le-ltb, le-leb, eq-eqb}
 use Rattle.answer.specs.Answer.{result, refusal}
 use Rattle.counting.specs.Pick.{pick}
 use Rattle.counting.proofs.Bools.{and-left, and-right, not-clash}
-use Rattle.bundle.specs.Record.{word, lengthOf, kindAt, nextAt, isRecord, recordAnswer, brokenRow, body, bodySize, bodyStart}
+use Rattle.bundle.specs.Record.{cellKind, edgeKind, endKind, wordSize, lengthBytes, headBytes, cellLength, edgeLength, endLength, word, lengthOf, kindAt, nextAt, isRecord, recordAnswer, brokenRow, body, bodySize, bodyStart}
 
--- each kind's record has at least the two bytes of its kind
-length-pick : (a b c : Bool) → 0 < pick a 10 (pick b 7 (pick c 2 0)) → 2 ≤ pick a 10 (pick b 7 (pick c 2 0))
-length-pick true b c h = omega arith
-length-pick false true c h = omega arith
-length-pick false false true h = omega arith
-length-pick false false false h = omega arith
+-- a kind with a length is one of three
+pub data Kind (k : ℕ) : Type 0 where
+  cell : k ≡ cellKind → Kind k
+  edge : k ≡ edgeKind → Kind k
+  end : k ≡ endKind → Kind k
 
-pub length-ge : (kind : ℕ) → 0 < lengthOf kind → 2 ≤ lengthOf kind
+kind-pick : (k : ℕ) (a b c : Bool) → eqb k cellKind ≡ a → eqb k edgeKind ≡ b → eqb k endKind ≡ c
+    → 0 < pick a cellLength (pick b edgeLength (pick c endLength 0)) → Kind k
+kind-pick k true b c ea eb ec h = cell (eqb-true _ _ ea)
+kind-pick k false true c ea eb ec h = edge (eqb-true _ _ eb)
+kind-pick k false false true ea eb ec h = end (eqb-true _ _ ec)
+kind-pick k false false false ea eb ec h = absurd (omega (arith, h))
+
+pub kind-cases : (k : ℕ) → 0 < lengthOf k → Kind k
 unfolding lengthOf
-length-ge kind h = length-pick (eqb kind 1) (eqb kind 2) (eqb kind 3) h
+kind-cases k h = kind-pick k (eqb k cellKind) (eqb k edgeKind) (eqb k endKind) refl refl refl h
+
+-- whose record has at least the two bytes of the kind
+pub length-ge : (kind : ℕ) → 0 < lengthOf kind → wordSize ≤ lengthOf kind
+unfolding lengthOf
+length-ge kind h = go (kind-cases kind h)
+  where
+    go : Kind kind → wordSize ≤ lengthOf kind
+    go (cell e) = omega (arith, ap lengthOf e)
+    go (edge e) = omega (arith, ap lengthOf e)
+    go (end e) = omega (arith, ap lengthOf e)
 
 -- the four parts of `isRecord`
 pub record Stands (s : List ℕ) (at : ℕ) : Type 0 where
-  pub inside : at + 4 ≤ length s
+  pub inside : at + headBytes ≤ length s
   pub known : 0 < lengthOf (kindAt s at)
   pub right : word s at ≡ lengthOf (kindAt s at)
   pub fits : nextAt s at ≤ length s
@@ -39,7 +55,7 @@ module _ (s : List ℕ) (at : ℕ) where
   pub stands : isRecord s at ≡ true → Stands s at
   unfolding isRecord
   stands h =
-      let a = leb (at + 4) (length s) in
+      let a = leb (at + headBytes) (length s) in
       let b = ltb 0 (lengthOf (kindAt s at)) in
       let c = eqb (word s at) (lengthOf (kindAt s at)) in
       let d = leb (nextAt s at) (length s) in
@@ -57,8 +73,8 @@ module _ (s : List ℕ) (at : ℕ) where
   pub absent : (Stands s at → ⊥) → isRecord s at ≡ false
   absent h = not-clash (isRecord s at) (λ e. h (stands e))
 
-  -- a record is at least four bytes long
-  pub next-ge : isRecord s at ≡ true → at + 4 ≤ nextAt s at
+  -- a record has at least the bytes of length and kind
+  pub next-ge : isRecord s at ≡ true → at + headBytes ≤ nextAt s at
   unfolding nextAt
   next-ge h = let w = stands h in let l = length-ge _ (w .known) in let r = w .right in omega arith
 
@@ -92,9 +108,15 @@ module _ (s : List ℕ) (at : ℕ) where
   not-found number place h = not-clash (isRecord s at) (λ e. apart _ _ _ _ (sym (h ∙ answer-whole e)))
 
   -- the body, and where it starts
-  pub body-whole : isRecord s at ≡ true → (take (nextAt s at - (at + 4)) (drop (at + 4) s) ≡ body s at) × (at + 4 ≡ bodyStart s at)
+  pub body-whole : isRecord s at ≡ true → (take (nextAt s at - (at + headBytes)) (drop (at + headBytes) s) ≡ body s at) × (at + headBytes ≡ bodyStart s at)
   unfolding body bodySize bodyStart
   body-whole h = (simp h, simp h)
+
+  -- its bytes reach to the next record
+  pub body-length : isRecord s at ≡ true → at + (headBytes + length (body s at)) ≡ nextAt s at
+  body-length h =
+      let e : length (body s at) ≡ nextAt s at - (at + headBytes) = sym (ap length (body-whole h .0)) ∙ simp (length-take, length-drop) (omega (arith, next-ge h, stands h .fits)) in
+      omega (arith, e, next-ge h)
 
   pub body-none : isRecord s at ≡ false → ([] ≡ body s at) × (0 ≡ bodyStart s at)
   unfolding body bodySize bodyStart
@@ -102,10 +124,10 @@ module _ (s : List ℕ) (at : ℕ) where
 
 -- the cases of the record reader: the length l, the kind k and its kind's length w were read at a place within the bytes
 module _ (s : List ℕ) (at : ℕ) (l : at < length s) where
-  pub case-short : length s - at < 4 → refusal brokenRow at ≡ recordAnswer s at
+  pub case-short : length s - at < headBytes → refusal brokenRow at ≡ recordAnswer s at
   case-short h = sym (answer-refused s at l (absent s at (λ w. omega (arith, w .inside, h))))
 
-  module _ (len kind right : ℕ) (el : len ≡ word s at) (ek : kind ≡ word s (at + 2)) (er : right ≡ lengthOf kind) where
+  module _ (len kind right : ℕ) (el : len ≡ word s at) (ek : kind ≡ word s (at + lengthBytes)) (er : right ≡ lengthOf kind) where
     len-of : right ≡ lengthOf (kindAt s at)
     unfolding kindAt
     len-of = er ∙ ap lengthOf ek
@@ -116,11 +138,11 @@ module _ (s : List ℕ) (at : ℕ) (l : at < length s) where
     pub case-wrong : (len ≡ right → ⊥) → refusal brokenRow at ≡ recordAnswer s at
     case-wrong h = sym (answer-refused s at l (absent s at (λ w. h (el ∙ w .right ∙ sym len-of))))
 
-    pub case-cut : length s - at < 2 + len → refusal brokenRow at ≡ recordAnswer s at
+    pub case-cut : length s - at < lengthBytes + len → refusal brokenRow at ≡ recordAnswer s at
     unfolding nextAt
     case-cut h = sym (answer-refused s at l (absent s at (λ w. omega (arith, w .fits, h, el, l))))
 
-    pub case-whole : 4 ≤ length s - at → (right ≡ 0 → ⊥) → len ≡ right → 2 + len ≤ length s - at → result (kind ∷ (at + (2 + len)) ∷ []) ≡ recordAnswer s at
+    pub case-whole : headBytes ≤ length s - at → (right ≡ 0 → ⊥) → len ≡ right → lengthBytes + len ≤ length s - at → result (kind ∷ (at + (lengthBytes + len)) ∷ []) ≡ recordAnswer s at
     unfolding nextAt kindAt
     case-whole h4 h0 h1 h2 =
         let w : Stands s at = record {
@@ -129,5 +151,5 @@ module _ (s : List ℕ) (at : ℕ) (l : at < length s) where
           right = sym el ∙ h1 ∙ len-of;
           fits = omega arith;
         } in
-        let e : at + (2 + len) ≡ at + 2 + word s at = omega arith in
+        let e : at + (lengthBytes + len) ≡ at + lengthBytes + word s at = omega arith in
         cc (answer-whole s at (standing s at w))

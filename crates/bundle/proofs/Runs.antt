@@ -1,10 +1,10 @@
 -- Records of one kind that stand one after the other. Assumes nothing.
-use Prim.Native.Nat.{ℕ, zero, suc, _+_, _≤_, _<_}
+use Prim.Native.Nat.{ℕ, zero, suc, _+_, _*_, _≤_, _<_}
 use mathlib.Core.Path.{_≡_, refl, sym, ap, _∙_}
 use mathlib.Core.Logic.{⊎-elim}
 use mathlib.Core.Bool.{true, false, not}
 use mathlib.Core.List.{List}
-use native.Mathlib.Nat.{le-refl}
+use native.Mathlib.Nat.{le-refl, mul-zero, mul-suc}
 use native.Mathlib.Numerals.{add-one}
 use native.Mathlib.Omega.{arith}
 use lib.Dec.{eqb}
@@ -12,9 +12,9 @@ use lib.ListN.{length}
 use borrow.Author.Tests.{eqb-true, eq-eqb, ne-eqb, not-true, not-false}
 use Rattle.counting.proofs.Bools.{and-left, and-right, and-true, and-false-left, and-false-right}
 use Rattle.counting.proofs.Search.{first-at, first-is, first-below, below-or}
-use Rattle.bundle.specs.Record.{word, lengthOf, kindAt, nextAt, isRecord}
+use Rattle.bundle.specs.Record.{wordSize, lengthBytes, headBytes, word, lengthOf, kindAt, nextAt, isRecord, body}
 use Rattle.bundle.specs.Bundle.{isOf, start, run}
-use Rattle.bundle.proofs.OneRecord.{stands, next-ge}
+use Rattle.bundle.proofs.OneRecord.{stands, next-ge, body-length}
 
 -- a record of a kind at a place
 module _ (s : List ℕ) (kind at : ℕ) where
@@ -38,16 +38,17 @@ module _ (s : List ℕ) (kind at : ℕ) where
   unfolding isOf
   other-of h = and-false-right (isRecord s at) (eqb (kindAt s at) kind) (ne-eqb _ _ h)
 
-  -- its bytes are all there, and the next record comes straight after them
-  pub next-of : isOf s kind at ≡ true → nextAt s at ≡ at + (2 + lengthOf kind)
+  -- the next record comes straight after its bytes
+  pub next-of : isOf s kind at ≡ true → nextAt s at ≡ at + (lengthBytes + lengthOf kind)
   unfolding nextAt
   next-of h =
       let w = stands s at (of-record h) in
       let e : word s at ≡ lengthOf kind = w .right ∙ ap lengthOf (of-kind h) in
       omega (arith, e)
 
-  pub fits-of : isOf s kind at ≡ true → at + (2 + lengthOf kind) ≤ length s
-  fits-of h = let w = stands s at (of-record h) in omega (arith, w .fits, next-of h)
+  -- its body is what its length counts besides the kind
+  pub body-of : isOf s kind at ≡ true → wordSize + length (body s at) ≡ lengthOf kind
+  body-of h = omega (arith, body-length s at (of-record h), next-of h)
 
 -- a walk over records of a kind, which came to a place after some of them
 pub record Going (s : List ℕ) (from kind at count : ℕ) : Type 0 where
@@ -107,7 +108,13 @@ module _ (s : List ℕ) (from kind : ℕ) where
   unfolding run
   run-stop = not-true _ (first-is (λ k. not (isOf s kind (start s from k))) (suc (length s)) (omega (arith, run-few)))
 
--- a second walk over the records of a run, w bytes each
+  -- they start as far apart as the kind says
+  pub run-apart : (k : ℕ) → k ≤ run s kind from → start s from k ≡ from + (lengthBytes + lengthOf kind) * k
+  unfolding start
+  run-apart zero h = omega (arith, mul-zero (lengthBytes + lengthOf kind))
+  run-apart (suc k) h = omega (arith, next-of s kind (start s from k) (run-all k h), run-apart k (omega arith), mul-suc (lengthBytes + lengthOf kind) k)
+
+-- a second walk over the records of a run, body by body
 pub record Walked (s : List ℕ) (from kind at k : ℕ) : Type 0 where
   pub upto : k ≤ run s kind from
   pub reached : at ≡ start s from k
@@ -117,16 +124,16 @@ module _ (s : List ℕ) (from kind : ℕ) where
   unfolding start
   walked = record { upto = omega arith; reached = refl }
 
-  module _ (w at k : ℕ) (e : 2 + lengthOf kind ≡ w) (g : Walked s from kind at k) (l : k < run s kind from) where
-    here : isOf s kind at ≡ true
+  module _ (at k : ℕ) (g : Walked s from kind at k) (l : k < run s kind from) where
+    pub here : isOf s kind at ≡ true
     here = ap (isOf s kind) (g .reached) ∙ run-all s from kind k l
 
-    pub walked-fits : at + w ≤ length s
-    walked-fits = omega (arith, e, fits-of s kind at here)
+    pub walked-fits : at + (headBytes + length (body s at)) ≤ length s
+    walked-fits = let r = of-record s kind at here in omega (arith, body-length s at r, stands s at r .fits)
 
-    pub walked-on : Walked s from kind (at + w) (k + 1)
+    pub walked-on : Walked s from kind (at + (headBytes + length (body s at))) (k + 1)
     walked-on =
         record {
           upto = omega arith;
-          reached = ap (λ n. at + n) (sym e) ∙ sym (next-of s kind at here) ∙ ap (nextAt s) (g .reached) ∙ sym (start-more s from kind k);
+          reached = body-length s at (of-record s kind at here) ∙ ap (nextAt s) (g .reached) ∙ sym (start-more s from kind k);
         }

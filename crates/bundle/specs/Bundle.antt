@@ -1,5 +1,5 @@
 -- A bundle (01): cells, then edges, then one end. What the reader answers, and the lists that the bytes mean.
-use Prim.Native.Nat.{ℕ, zero, suc, _+_, _*_}
+use Prim.Native.Nat.{ℕ, zero, suc, _*_}
 use mathlib.Core.Bool.{Bool, not, _&&_}
 use mathlib.Core.List.{List, [], _∷_, _++_}
 use lib.Dec.{leb, eqb}
@@ -8,7 +8,7 @@ use Rattle.answer.specs.Answer.{result, refusal}
 use Rattle.counting.specs.Pick.{pick}
 use Rattle.counting.specs.Range.{over}
 use Rattle.counting.specs.Search.{first}
-use Rattle.bundle.specs.Record.{cellKind, edgeKind, endKind, brokenRow, wordSize, headBytes, word, kindAt, nextAt, isRecord}
+use Rattle.bundle.specs.Record.{cellKind, edgeKind, endKind, brokenRow, wordSize, word, kindAt, nextAt, isRecord, body}
 use Rattle.bundle.specs.declared.Contents.{Contents}
 use Rattle.bundle.specs.declared.Contents.the-variants.{Lists, Refused}
 
@@ -60,29 +60,29 @@ cellNodes = 4
 abbrev pub edgeEnds : ℕ
 edgeEnds = 2
 
--- number i of 16 bits in the body of the record at a place
-abbrev pub bodyWord : List ℕ → ℕ → ℕ → ℕ
-bodyWord s at i = word s (at + (headBytes + wordSize * i))
+-- the first n numbers of 16 bits in a body
+abbrev pub words : ℕ → List ℕ → List ℕ
+words n b = over (λ i. word b (wordSize * i) ∷ []) n 0
 
--- what the body means: the nodes of a cell; the ends of an edge, and its count after them
-abbrev pub nodesAt : List ℕ → ℕ → List ℕ
-nodesAt s at = bodyWord s at 0 ∷ bodyWord s at 1 ∷ bodyWord s at 2 ∷ bodyWord s at 3 ∷ []
+-- what a body means: the nodes of a cell; the ends of an edge, and its count after them
+abbrev pub nodesIn : List ℕ → List ℕ
+nodesIn b = words cellNodes b
 
-abbrev pub endsAt : List ℕ → ℕ → List ℕ
-endsAt s at = bodyWord s at 0 ∷ bodyWord s at 1 ∷ []
+abbrev pub endsIn : List ℕ → List ℕ
+endsIn b = words edgeEnds b
 
-abbrev pub countAt : List ℕ → ℕ → List ℕ
-countAt s at = getD s (at + (headBytes + wordSize * edgeEnds)) 0 ∷ []
+abbrev pub countIn : List ℕ → List ℕ
+countIn b = getD b (wordSize * edgeEnds) 0 ∷ []
 
 -- the three lists
 unfoldable pub nodesOf : List ℕ → List ℕ
-nodesOf s = over (λ k. nodesAt s (start s 0 k)) (cells s) 0
+nodesOf s = over (λ k. nodesIn (body s (start s 0 k))) (cells s) 0
 
 unfoldable pub endsOf : List ℕ → List ℕ
-endsOf s = over (λ k. endsAt s (start s (edgesFrom s) k)) (edges s) 0
+endsOf s = over (λ k. endsIn (body s (start s (edgesFrom s) k))) (edges s) 0
 
 unfoldable pub countsOf : List ℕ → List ℕ
-countsOf s = over (λ k. countAt s (start s (edgesFrom s) k)) (edges s) 0
+countsOf s = over (λ k. countIn (body s (start s (edgesFrom s) k))) (edges s) 0
 
 -- lent lists of these lengths hold the bundle's
 unfoldable pub hasRoom : List ℕ → ℕ → ℕ → ℕ → Bool
@@ -100,9 +100,20 @@ readAnswer s nodes ends counts = pick (isBundle s && not (hasRoom s nodes ends c
 abbrev pub writtenOver : List ℕ → List ℕ → List ℕ
 writtenOver new old = new ++ drop (length new) old
 
--- what the reader leaves in a lent list, of which the bundle has `new`
+-- a lent list after a call that writes `new` over its front where it accepts, and else leaves it as it is
 abbrev pub leaves : Bool → List ℕ → List ℕ → List ℕ
 leaves taken new old = pick taken (writtenOver new old) old
+
+-- what the reader leaves in the three lists that it is lent
+module _ (s nodes ends counts : List ℕ) where
+  abbrev pub nodesLeft : List ℕ
+  nodesLeft = leaves (isTaken s (length nodes) (length ends) (length counts)) (nodesOf s) nodes
+
+  abbrev pub endsLeft : List ℕ
+  endsLeft = leaves (isTaken s (length nodes) (length ends) (length counts)) (endsOf s) ends
+
+  abbrev pub countsLeft : List ℕ
+  countsLeft = leaves (isTaken s (length nodes) (length ends) (length counts)) (countsOf s) counts
 
 -- the enum's cases as document 01's numbers
 abbrev pub contentsNumbers : Contents → List ℕ

@@ -1,13 +1,13 @@
 -- What is claimed of the definitions that the contracts cite.
-use Prim.Native.Nat.{ℕ, _+_, _/_, _≤_, _<_}
+use Prim.Native.Nat.{ℕ, _+_, _*_, _/_, _≤_, _<_}
 use mathlib.Core.Path.{_≡_}
 use mathlib.Core.List.{List, [], _∷_}
-use lib.ListN.{length}
+use lib.ListN.{length, take}
 use Rattle.answer.specs.Answer.{result, refusal}
 use Rattle.counting.specs.Lists.{All}
 use Rattle.bundle.specs.Record.{byteValues, headBytes, brokenRow, recordAnswer, bodyStart, bodySize, recordNumbers}
-use Rattle.bundle.specs.Bundle.{cellNodes, bundleAnswer, readAnswer, nodesOf, endsOf, countsOf, contentsNumbers}
-use Rattle.bundle.specs.Written.{bundleBytes, writeAnswer, writtenNumbers}
+use Rattle.bundle.specs.Bundle.{cellNodes, edgeEnds, bundleAnswer, readAnswer, writtenOver, nodesLeft, endsLeft, countsLeft, contentsNumbers}
+use Rattle.bundle.specs.Written.{writeAnswer, areaLeft, writtenNumbers}
 use Rattle.bundle.specs.declared.Record.{Record}
 use Rattle.bundle.specs.declared.Contents.{Contents}
 use Rattle.bundle.specs.declared.Written.{Written}
@@ -33,20 +33,33 @@ LowestFault = (s : List ℕ) (place : ℕ) → bundleAnswer s ≡ refusal broken
 abbrev pub NoFault : Type 0
 NoFault = (s : List ℕ) (c e : ℕ) → bundleAnswer s ≡ result (c ∷ e ∷ []) → (q : ℕ) → Fault s q → ⊥
 
--- a bundle that is read without refusal, into lists of whatever length, and written again has its bytes back
-pub record BytesBack (s : List ℕ) : Type 0 where
-  pub bytes : bundleBytes (nodesOf s) (endsOf s) (countsOf s) ≡ s
-  pub answer : (area : ℕ) → length s ≤ area → writeAnswer (nodesOf s) (endsOf s) (countsOf s) area ≡ result (length s ∷ [])
+-- a bundle that is read without refusal, into lists of whatever length, and written again from the fronts of the lists as they are left, into an
+-- area that holds it, has its bytes back; the area keeps its values beyond them
+pub record BytesBack (s nodes ends counts area : List ℕ) : Type 0 where
+  pub answer : writeAnswer nodes ends counts (length area) ≡ result (length s ∷ [])
+  pub bytes : areaLeft nodes ends counts area ≡ writtenOver s area
 
 abbrev pub ReadWritten : Type 0
-ReadWritten = (s : List ℕ) → All (λ x. x < byteValues) s → (n m l c e : ℕ) → readAnswer s n m l ≡ result (c ∷ e ∷ []) → BytesBack s
+ReadWritten =
+    (s : List ℕ) → All (λ x. x < byteValues) s
+    → (nodes ends counts : List ℕ) (c e : ℕ) → readAnswer s (length nodes) (length ends) (length counts) ≡ result (c ∷ e ∷ [])
+    → (area : List ℕ) → length s ≤ length area
+    → BytesBack s
+    (take (cellNodes * c) (nodesLeft s nodes ends counts))
+    (take (edgeEnds * e) (endsLeft s nodes ends counts))
+    (take e (countsLeft s nodes ends counts))
+    area
 
--- lists that are written without refusal, into an area of whatever length, and read again are the same lists
-pub record ListsBack (nodes ends counts s : List ℕ) : Type 0 where
-  pub nodesBack : nodesOf s ≡ nodes
-  pub endsBack : endsOf s ≡ ends
-  pub countsBack : countsOf s ≡ counts
-  pub answer : readAnswer s (length nodes) (length ends) (length counts) ≡ result (length nodes / cellNodes ∷ length counts ∷ [])
+-- lists that are written without refusal, into an area of whatever length, and read again from the front of the area as it is left, into lists
+-- that hold them, are the same lists; the lent lists keep their values beyond them
+pub record ListsBack (nodes ends counts s ns es cs : List ℕ) : Type 0 where
+  pub answer : readAnswer s (length ns) (length es) (length cs) ≡ result (length nodes / cellNodes ∷ length counts ∷ [])
+  pub nodesBack : nodesLeft s ns es cs ≡ writtenOver nodes ns
+  pub endsBack : endsLeft s ns es cs ≡ writtenOver ends es
+  pub countsBack : countsLeft s ns es cs ≡ writtenOver counts cs
 
 abbrev pub WrittenRead : Type 0
-WrittenRead = (nodes ends counts : List ℕ) (area n : ℕ) → writeAnswer nodes ends counts area ≡ result (n ∷ []) → ListsBack nodes ends counts (bundleBytes nodes ends counts)
+WrittenRead =
+    (nodes ends counts area : List ℕ) (n : ℕ) → writeAnswer nodes ends counts (length area) ≡ result (n ∷ [])
+    → (ns es cs : List ℕ) → length nodes ≤ length ns → length ends ≤ length es → length counts ≤ length cs
+    → ListsBack nodes ends counts (take n (areaLeft nodes ends counts area)) ns es cs

@@ -1,10 +1,17 @@
--- What private functions of the reader and the writer ask of their callers.
-use Prim.Native.Nat.{ℕ, _+_, _*_, _/_, _≤_}
+-- What private functions of the reader and the writer ask of their callers; only their contracts cite this file.
+use Prim.Native.Nat.{ℕ, _+_, _*_, _/_, _≤_, _<_}
 use mathlib.Core.Path.{_≡_}
 use mathlib.Core.List.{List}
 use lib.ListN.{length}
-use Rattle.bundle.specs.Record.{lengthBytes, cellLength, edgeLength}
+use Rattle.counting.specs.Range.{over}
+use Rattle.bundle.specs.Record.{wordSize, cellSize, edgeSize}
 use Rattle.bundle.specs.Bundle.{cells, edgesFrom, edges, cellNodes, edgeEnds}
+use Rattle.bundle.specs.Written.{cellBytes, edgeBytes}
+
+-- n numbers of 16 bits in a body, and room for them in a list
+pub record WordsLent (body : List ℕ) (n : ℕ) (list : List ℕ) (at : ℕ) : Type 0 where
+  pub all : wordSize * n ≤ length body
+  pub room : at + n ≤ length list
 
 -- all the cells of the bytes, and room for their nodes
 pub record CellsLent (s : List ℕ) (count : ℕ) (nodes : List ℕ) : Type 0 where
@@ -18,11 +25,27 @@ pub record EdgesLent (s : List ℕ) (from count : ℕ) (ends counts : List ℕ) 
   pub endsRoom : edgeEnds * count ≤ length ends
   pub countsRoom : count ≤ length counts
 
+-- n numbers of a list, and room for their bytes
+pub record ListFits (area : List ℕ) (at : ℕ) (list : List ℕ) (from n : ℕ) : Type 0 where
+  pub all : from + n ≤ length list
+  pub room : at + wordSize * n ≤ length area
+
+-- cell k, and room for its record
+pub record CellFits (area : List ℕ) (at : ℕ) (nodes : List ℕ) (k : ℕ) : Type 0 where
+  pub all : cellNodes * k + cellNodes ≤ length nodes
+  pub room : at + cellSize ≤ length area
+
+-- edge k, and room for its record
+pub record EdgeFits (area : List ℕ) (at : ℕ) (ends counts : List ℕ) (k : ℕ) : Type 0 where
+  pub pair : edgeEnds * k + edgeEnds ≤ length ends
+  pub all : k < length counts
+  pub room : at + edgeSize ≤ length area
+
 -- room for the records of all the cells at the front of the area
 pub record CellsFit (nodes area : List ℕ) : Type 0 where
-  pub fits : (lengthBytes + cellLength) * (length nodes / cellNodes) ≤ length area
+  pub room : length (over (cellBytes nodes) (length nodes / cellNodes) 0) ≤ length area
 
 -- two ends to a count, and room for the records of all the edges from a place on
-pub record EdgesFit (ends counts : List ℕ) (at : ℕ) (area : List ℕ) : Type 0 where
+pub record EdgesFit (ends counts : List ℕ) (from : ℕ) (area : List ℕ) : Type 0 where
   pub pairs : length ends ≡ edgeEnds * length counts
-  pub fits : at + (lengthBytes + edgeLength) * length counts ≤ length area
+  pub room : from + length (over (edgeBytes ends counts) (length counts) 0) ≤ length area

@@ -47,6 +47,16 @@ edgeLength = 7
 abbrev pub endLength : ℕ
 endLength = 2
 
+-- the bytes of a whole record of each kind
+abbrev pub cellSize : ℕ
+cellSize = lengthBytes + cellLength
+
+abbrev pub edgeSize : ℕ
+edgeSize = lengthBytes + edgeLength
+
+abbrev pub endSize : ℕ
+endSize = lengthBytes + endLength
+
 -- the length that a record of a kind has; 0 where the number is no kind
 unfoldable pub lengthOf : ℕ → ℕ
 lengthOf kind = pick (eqb kind cellKind) cellLength (pick (eqb kind edgeKind) edgeLength (pick (eqb kind endKind) endLength 0))

@@ -8,7 +8,7 @@ use Rattle.answer.specs.Answer.{result, refusal}
 use Rattle.counting.specs.Pick.{pick}
 use Rattle.counting.specs.Range.{over}
 use Rattle.bundle.specs.Record.{byteValues, cellKind, edgeKind, endKind, lengthOf, brokenRow}
-use Rattle.bundle.specs.Bundle.{cellNodes, edgeEnds, shortRow}
+use Rattle.bundle.specs.Bundle.{cellNodes, edgeEnds, shortRow, leaves}
 use Rattle.bundle.specs.declared.Written.{Written}
 use Rattle.bundle.specs.declared.Written.the-variants.{Bytes, Unformed, Short}
 
@@ -21,31 +21,25 @@ abbrev pub wordBytes : ℕ → List ℕ
 wordBytes x = x % byteValues ∷ x / byteValues ∷ []
 
 -- a record: its length, its kind, its body
+abbrev pub headOf : ℕ → List ℕ
+headOf kind = wordBytes (lengthOf kind) ++ wordBytes kind
+
 abbrev pub recordBytes : ℕ → List ℕ → List ℕ
-recordBytes kind body = wordBytes (lengthOf kind) ++ wordBytes kind ++ body
+recordBytes kind body = headOf kind ++ body
 
--- number i of cell k in a list of nodes, and of edge k in a list of ends
-abbrev pub nodeOf : List ℕ → ℕ → ℕ → ℕ
-nodeOf nodes k i = getD nodes (cellNodes * k + i) 0
-
-abbrev pub endOf : List ℕ → ℕ → ℕ → ℕ
-endOf ends k i = getD ends (edgeEnds * k + i) 0
+-- the bytes of n numbers of a list, from a place on
+abbrev pub listBytes : List ℕ → ℕ → ℕ → List ℕ
+listBytes l from n = over (λ i. wordBytes (getD l (from + i) 0)) n 0
 
 -- the records of cell k, of edge k, and of the end
-abbrev pub cellRecord : ℕ → ℕ → ℕ → ℕ → List ℕ
-cellRecord a b c d = recordBytes cellKind (wordBytes a ++ wordBytes b ++ wordBytes c ++ wordBytes d)
+unfoldable pub cellBytes : List ℕ → ℕ → List ℕ
+cellBytes nodes k = recordBytes cellKind (listBytes nodes (cellNodes * k) cellNodes)
 
-abbrev pub edgeRecord : ℕ → ℕ → ℕ → List ℕ
-edgeRecord u v count = recordBytes edgeKind (wordBytes u ++ wordBytes v ++ (count ∷ []))
+unfoldable pub edgeBytes : List ℕ → List ℕ → ℕ → List ℕ
+edgeBytes ends counts k = recordBytes edgeKind (listBytes ends (edgeEnds * k) edgeEnds ++ (getD counts k 0 ∷ []))
 
 abbrev pub endRecord : List ℕ
 endRecord = recordBytes endKind []
-
-unfoldable pub cellBytes : List ℕ → ℕ → List ℕ
-cellBytes nodes k = cellRecord (nodeOf nodes k 0) (nodeOf nodes k 1) (nodeOf nodes k 2) (nodeOf nodes k 3)
-
-unfoldable pub edgeBytes : List ℕ → List ℕ → ℕ → List ℕ
-edgeBytes ends counts k = edgeRecord (endOf ends k 0) (endOf ends k 1) (getD counts k 0)
 
 -- the whole bundle
 unfoldable pub bundleBytes : List ℕ → List ℕ → List ℕ → List ℕ
@@ -70,6 +64,10 @@ writeAnswer nodes ends counts area =
     (result (length (bundleBytes nodes ends counts) ∷ []))
     (refusal shortRow (min (length (bundleBytes nodes ends counts)) mostNamed)))
     (refusal brokenRow 0)
+
+-- what the writer leaves in its area
+abbrev pub areaLeft : (nodes ends counts area : List ℕ) → List ℕ
+areaLeft nodes ends counts area = leaves (isWritten nodes ends counts (length area)) (bundleBytes nodes ends counts) area
 
 -- the enum's cases as document 01's numbers
 abbrev pub writtenNumbers : Written → List ℕ

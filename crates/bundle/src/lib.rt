@@ -5,6 +5,11 @@ mod writer;
 
 pub use reader::read;
 pub use reader::scan;
+pub use records::CELL_BYTES;
+pub use records::CELL_NODES;
+pub use records::EDGE_BYTES;
+pub use records::EDGE_ENDS;
+pub use records::END_BYTES;
 pub use records::body_at;
 pub use records::record_at;
 pub use writer::write;

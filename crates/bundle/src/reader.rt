@@ -3,15 +3,21 @@ use crate::Contents;
 use crate::Record;
 use crate::records::BROKEN;
 use crate::records::CELL;
+use crate::records::CELL_NODES;
 use crate::records::EDGE;
+use crate::records::EDGE_ENDS;
 use crate::records::END;
+use crate::records::HEAD_BYTES;
+use crate::records::WORD_BYTES;
+use crate::records::body_at;
 use crate::records::record_at;
 use crate::records::word_at;
 ghost use mathlib.Core.Path.{_≡_};
-ghost use Prim.Native.Nat.{_+_, _*_, _≤_};
+ghost use Prim.Native.Nat.{_+_};
 ghost use lib.ListN.{length};
-ghost use Rattle.bundle.specs.Bundle.{start, run, cells, edgesFrom, edges, bundleAnswer, isTaken, readAnswer, nodesOf, endsOf, countsOf, writtenOver, leaves, contentsNumbers};
-ghost use Rattle.bundle.specs.Needed.{CellsLent, EdgesLent};
+ghost use Rattle.counting.specs.Stored.{Stored};
+ghost use Rattle.bundle.specs.Bundle.{start, run, words, edgesFrom, bundleAnswer, readAnswer, nodesOf, endsOf, countsOf, writtenOver, nodesLeft, endsLeft, countsLeft, contentsNumbers};
+ghost use Rattle.bundle.specs.Needed.{WordsLent, CellsLent, EdgesLent};
 
 // The row of refusals that speaks of short lists.
 pub(crate) const SHORT: u8 = 14;
@@ -65,6 +71,18 @@ pub fn scan(bytes: &[u8]) -> Contents
     }
 }
 
+// Fills n entries of a list, from a place on, with the first numbers of a body.
+fn fill_words(body: &[u8], n: usize, list: &mut [u16], at: usize)
+    requires { ⌜ WordsLent (now body) n (now list) at ⌝ }
+    ensures { λ _. ⌜ Stored (now (list .entry)) at (words n (now (body .entry))) (now (list .exit)) (at + n) ⌝ }
+{
+    let mut i: usize = 0;
+    while i < n {
+        list[at + i] = word_at(body, WORD_BYTES * i);
+        i += 1;
+    }
+}
+
 // Fills the nodes of the cells, and answers where the edges start.
 fn fill_cells(bytes: &[u8], count: usize, nodes: &mut [u16]) -> usize
     requires { ⌜ CellsLent (now bytes) count (now nodes) ⌝ }
@@ -74,12 +92,9 @@ fn fill_cells(bytes: &[u8], count: usize, nodes: &mut [u16]) -> usize
     let mut k: usize = 0;
     let mut at: usize = 0;
     while k < count {
-        let j = 4 * k;
-        nodes[j] = word_at(bytes, at + 4);
-        nodes[j + 1] = word_at(bytes, at + 6);
-        nodes[j + 2] = word_at(bytes, at + 8);
-        nodes[j + 3] = word_at(bytes, at + 10);
-        at += 12;
+        let body = body_at(bytes, at);
+        fill_words(body, CELL_NODES, nodes, CELL_NODES * k);
+        at += HEAD_BYTES + body.len();
         k += 1;
     }
     at
@@ -94,11 +109,10 @@ fn fill_edges(bytes: &[u8], from: usize, count: usize, ends: &mut [u16], counts:
     let mut k: usize = 0;
     let mut at = from;
     while k < count {
-        let j = 2 * k;
-        ends[j] = word_at(bytes, at + 4);
-        ends[j + 1] = word_at(bytes, at + 6);
-        counts[k] = bytes[at + 8];
-        at += 9;
+        let body = body_at(bytes, at);
+        fill_words(body, EDGE_ENDS, ends, EDGE_ENDS * k);
+        counts[k] = body[WORD_BYTES * EDGE_ENDS];
+        at += HEAD_BYTES + body.len();
         k += 1;
     }
 }
@@ -106,17 +120,17 @@ fn fill_edges(bytes: &[u8], from: usize, count: usize, ends: &mut [u16], counts:
 // Fills the lists with the bundle's cells and edges, and answers how many there are; a refusal leaves the lists as they are.
 pub fn read(bytes: &[u8], nodes: &mut [u16], ends: &mut [u16], counts: &mut [u8]) -> Contents
     ensures answer { λ r. ⌜ contentsNumbers r ≡ readAnswer (now (bytes .entry)) (length (now (nodes .entry))) (length (now (ends .entry))) (length (now (counts .entry))) ⌝ }
-    ensures nodes { λ r. ⌜ now (nodes .exit) ≡ leaves (isTaken (now (bytes .entry)) (length (now (nodes .entry))) (length (now (ends .entry))) (length (now (counts .entry)))) (nodesOf (now (bytes .entry))) (now (nodes .entry)) ⌝ }
-    ensures ends { λ r. ⌜ now (ends .exit) ≡ leaves (isTaken (now (bytes .entry)) (length (now (nodes .entry))) (length (now (ends .entry))) (length (now (counts .entry)))) (endsOf (now (bytes .entry))) (now (ends .entry)) ⌝ }
-    ensures counts { λ r. ⌜ now (counts .exit) ≡ leaves (isTaken (now (bytes .entry)) (length (now (nodes .entry))) (length (now (ends .entry))) (length (now (counts .entry)))) (countsOf (now (bytes .entry))) (now (counts .entry)) ⌝ }
+    ensures nodes { λ r. ⌜ now (nodes .exit) ≡ nodesLeft (now (bytes .entry)) (now (nodes .entry)) (now (ends .entry)) (now (counts .entry)) ⌝ }
+    ensures ends { λ r. ⌜ now (ends .exit) ≡ endsLeft (now (bytes .entry)) (now (nodes .entry)) (now (ends .entry)) (now (counts .entry)) ⌝ }
+    ensures counts { λ r. ⌜ now (counts .exit) ≡ countsLeft (now (bytes .entry)) (now (nodes .entry)) (now (ends .entry)) (now (counts .entry)) ⌝ }
 {
     match scan(bytes) {
         Contents::Refused(number, place) => Contents::Refused(number, place),
         Contents::Lists(cells, edges) => {
-            if nodes.len() / 4 < cells {
+            if nodes.len() / CELL_NODES < cells {
                 return Contents::Refused(SHORT, 0);
             }
-            if ends.len() / 2 < edges {
+            if ends.len() / EDGE_ENDS < edges {
                 return Contents::Refused(SHORT, 0);
             }
             if counts.len() < edges {

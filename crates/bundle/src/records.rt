@@ -11,6 +11,33 @@ pub(crate) const EDGE: u16 = 2;
 
 pub(crate) const END: u16 = 3;
 
+// The lengths of the three kinds, which count the bytes after the length itself.
+const CELL_LENGTH: u16 = 10;
+
+const EDGE_LENGTH: u16 = 7;
+
+const END_LENGTH: u16 = 2;
+
+// The values of a byte.
+pub(crate) const BYTE_VALUES: u16 = 256;
+
+// The bytes of a number of 16 bits; and of length and kind, which stand before the body.
+pub(crate) const WORD_BYTES: usize = 2;
+
+pub(crate) const HEAD_BYTES: usize = WORD_BYTES + WORD_BYTES;
+
+// The bytes of a whole record of each kind.
+pub const CELL_BYTES: usize = WORD_BYTES + CELL_LENGTH as usize;
+
+pub const EDGE_BYTES: usize = WORD_BYTES + EDGE_LENGTH as usize;
+
+pub const END_BYTES: usize = WORD_BYTES + END_LENGTH as usize;
+
+// The numbers that a cell has in the list of nodes, and an edge in the list of ends.
+pub const CELL_NODES: usize = 4;
+
+pub const EDGE_ENDS: usize = 2;
+
 // The row of refusals that speaks of records.
 pub(crate) const BROKEN: u8 = 13;
 
@@ -19,7 +46,7 @@ pub(crate) fn word_at(bytes: &[u8], at: usize) -> u16
     requires { ⌜ at + 1 < length (now bytes) ⌝ }
     ensures { λ r. ⌜ r ≡ word (now (bytes .entry)) at ⌝ }
 {
-    (bytes[at] as u16) + 256 * (bytes[at + 1] as u16)
+    (bytes[at] as u16) + BYTE_VALUES * (bytes[at + 1] as u16)
 }
 
 // The length of a record of a kind; 0 where the number is no kind.
@@ -27,13 +54,13 @@ pub(crate) fn length_of(kind: u16) -> u16
     ensures { λ r. ⌜ r ≡ lengthOf kind ⌝ }
 {
     if kind == CELL {
-        return 10;
+        return CELL_LENGTH;
     }
     if kind == EDGE {
-        return 7;
+        return EDGE_LENGTH;
     }
     if kind == END {
-        return 2;
+        return END_LENGTH;
     }
     0
 }
@@ -45,11 +72,11 @@ pub fn record_at(bytes: &[u8], start: usize) -> Record
     if bytes.len() <= start {
         return Record::Refused(BROKEN, bytes.len());
     }
-    if bytes.len() - start < 4 {
+    if bytes.len() - start < HEAD_BYTES {
         return Record::Refused(BROKEN, start);
     }
     let length = word_at(bytes, start);
-    let kind = word_at(bytes, start + 2);
+    let kind = word_at(bytes, start + WORD_BYTES);
     let right = length_of(kind);
     if right == 0 {
         return Record::Refused(BROKEN, start);
@@ -57,7 +84,7 @@ pub fn record_at(bytes: &[u8], start: usize) -> Record
     if length != right {
         return Record::Refused(BROKEN, start);
     }
-    let size = 2 + (length as usize);
+    let size = WORD_BYTES + (length as usize);
     if bytes.len() - start < size {
         return Record::Refused(BROKEN, start);
     }
@@ -70,7 +97,7 @@ pub fn body_at(bytes: &[u8], start: usize) -> &[u8]
     ensures place { λ r. ⌜ (r .ptr .0 ≡ bytes .entry .ptr .0) × (r .ptr .1 ≡ bodyStart (now (bytes .entry)) start + bytes .entry .ptr .1) ⌝ }
 {
     match record_at(bytes, start) {
-        Record::Whole(kind, next) => &bytes[start + 4..next],
+        Record::Whole(kind, next) => &bytes[start + HEAD_BYTES..next],
         Record::Refused(number, place) => &bytes[..0],
     }
 }

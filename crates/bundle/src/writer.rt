@@ -1,153 +1,150 @@
-// The bundle writer.
+// The bundle writer. What is put stands in the area from a place on, and the place after it is answered.
 use crate::Written;
+use crate::records::BYTE_VALUES;
+use crate::records::CELL;
+use crate::records::CELL_BYTES;
+use crate::records::CELL_NODES;
+use crate::records::EDGE;
+use crate::records::EDGE_BYTES;
+use crate::records::EDGE_ENDS;
+use crate::records::END;
+use crate::records::END_BYTES;
+use crate::records::WORD_BYTES;
+use crate::records::length_of;
 ghost use mathlib.Core.Path.{_≡_};
-ghost use mathlib.Core.List.{_++_};
-ghost use Prim.Native.Nat.{_+_, _*_, _/_, _%_, _≤_, _<_, min};
+ghost use Prim.Native.Nat.{_+_, _*_, _/_, _%_, _≤_, min};
 ghost use lib.Dec.{leb};
 ghost use lib.ListN.{length};
-ghost use lib.Seq.{sets};
 ghost use Rattle.counting.specs.Range.{over};
-ghost use Rattle.bundle.specs.Bundle.{leaves};
-ghost use Rattle.bundle.specs.Written.{mostNamed, nodeOf, endOf, cellRecord, edgeRecord, endRecord, cellBytes, edgeBytes, bundleBytes, isWritten, writeAnswer, writtenNumbers};
-ghost use Rattle.bundle.specs.Needed.{CellsFit, EdgesFit};
+ghost use Rattle.counting.specs.Stored.{Stored};
+ghost use Rattle.bundle.specs.Record.{byteValues, wordSize, headBytes, cellSize, edgeSize, endSize};
+ghost use Rattle.bundle.specs.Bundle.{cellNodes};
+ghost use Rattle.bundle.specs.Written.{mostNamed, wordBytes, headOf, listBytes, cellBytes, edgeBytes, writeAnswer, areaLeft, writtenNumbers};
+ghost use Rattle.bundle.specs.Needed.{ListFits, CellFits, EdgeFits, CellsFit, EdgesFit};
 
 // The greatest number of bytes that a refusal names.
 const MOST: usize = 4294967295;
 
 fn low(x: u16) -> u8
-    ensures { λ r. ⌜ r ≡ x % 256 ⌝ }
+    ensures { λ r. ⌜ r ≡ x % byteValues ⌝ }
 {
-    (x % 256) as u8
+    (x % BYTE_VALUES) as u8
 }
 
 fn high(x: u16) -> u8
-    ensures { λ r. ⌜ r ≡ x / 256 ⌝ }
+    ensures { λ r. ⌜ r ≡ x / byteValues ⌝ }
 {
-    (x / 256) as u8
+    (x / BYTE_VALUES) as u8
 }
 
-// Number i of cell k.
-fn node_of(nodes: &[u16], k: usize, i: usize) -> u16
-    requires { ⌜ 4 * k + i < length (now nodes) ⌝ }
-    ensures { λ r. ⌜ r ≡ nodeOf (now (nodes .entry)) k i ⌝ }
+fn put_word(area: &mut [u8], at: usize, x: u16) -> usize
+    requires { ⌜ at + wordSize ≤ length (now area) ⌝ }
+    ensures { λ r. ⌜ Stored (now (area .entry)) at (wordBytes x) (now (area .exit)) r ⌝ }
 {
-    nodes[4 * k + i]
+    area[at] = low(x);
+    area[at + 1] = high(x);
+    at + WORD_BYTES
 }
 
-// Number i of edge k.
-fn end_of(ends: &[u16], k: usize, i: usize) -> u16
-    requires { ⌜ 2 * k + i < length (now ends) ⌝ }
-    ensures { λ r. ⌜ r ≡ endOf (now (ends .entry)) k i ⌝ }
+// The length and the kind of a record.
+fn put_head(area: &mut [u8], at: usize, kind: u16) -> usize
+    requires { ⌜ at + headBytes ≤ length (now area) ⌝ }
+    ensures { λ r. ⌜ Stored (now (area .entry)) at (headOf kind) (now (area .exit)) r ⌝ }
 {
-    ends[2 * k + i]
+    let length = length_of(kind);
+    let next = put_word(area, at, length);
+    put_word(area, next, kind)
 }
 
-// Stores bytes in the area from a place on.
-fn put(area: &mut [u8], at: usize, bytes: &[u8])
-    requires { ⌜ at + length (now bytes) ≤ length (now area) ⌝ }
-    ensures { λ _. ⌜ now (area .exit) ≡ sets (now (area .entry)) at (now (bytes .entry)) ⌝ }
+// The n numbers of a list from a place on.
+fn put_words(area: &mut [u8], at: usize, list: &[u16], from: usize, n: usize) -> usize
+    requires { ⌜ ListFits (now area) at (now list) from n ⌝ }
+    ensures { λ r. ⌜ Stored (now (area .entry)) at (listBytes (now (list .entry)) from n) (now (area .exit)) r ⌝ }
 {
+    let mut next = at;
     let mut i: usize = 0;
-    while i < bytes.len() {
-        area[at + i] = bytes[i];
+    while i < n {
+        let x = list[from + i];
+        next = put_word(area, next, x);
         i += 1;
     }
+    next
 }
 
-fn put_cell(area: &mut [u8], at: usize, a: u16, b: u16, c: u16, d: u16)
-    requires { ⌜ at + 12 ≤ length (now area) ⌝ }
-    ensures { λ _. ⌜ now (area .exit) ≡ sets (now (area .entry)) at (cellRecord a b c d) ⌝ }
+// The record of cell k.
+fn put_cell(area: &mut [u8], at: usize, nodes: &[u16], k: usize) -> usize
+    requires { ⌜ CellFits (now area) at (now nodes) k ⌝ }
+    ensures { λ r. ⌜ Stored (now (area .entry)) at (cellBytes (now (nodes .entry)) k) (now (area .exit)) r ⌝ }
 {
-    let r = [
-        10,
-        0,
-        1,
-        0,
-        low(a),
-        high(a),
-        low(b),
-        high(b),
-        low(c),
-        high(c),
-        low(d),
-        high(d),
-    ];
-    put(area, at, &r);
+    let body = put_head(area, at, CELL);
+    put_words(area, body, nodes, CELL_NODES * k, CELL_NODES)
 }
 
-fn put_edge(area: &mut [u8], at: usize, u: u16, v: u16, count: u8)
-    requires { ⌜ at + 9 ≤ length (now area) ⌝ }
-    ensures { λ _. ⌜ now (area .exit) ≡ sets (now (area .entry)) at (edgeRecord u v count) ⌝ }
+// The record of edge k.
+fn put_edge(area: &mut [u8], at: usize, ends: &[u16], counts: &[u8], k: usize) -> usize
+    requires { ⌜ EdgeFits (now area) at (now ends) (now counts) k ⌝ }
+    ensures { λ r. ⌜ Stored (now (area .entry)) at (edgeBytes (now (ends .entry)) (now (counts .entry)) k) (now (area .exit)) r ⌝ }
 {
-    let r = [7, 0, 2, 0, low(u), high(u), low(v), high(v), count];
-    put(area, at, &r);
+    let body = put_head(area, at, EDGE);
+    let next = put_words(area, body, ends, EDGE_ENDS * k, EDGE_ENDS);
+    area[next] = counts[k];
+    next + 1
 }
 
-fn put_end(area: &mut [u8], at: usize)
-    requires { ⌜ at + 4 ≤ length (now area) ⌝ }
-    ensures { λ _. ⌜ now (area .exit) ≡ sets (now (area .entry)) at endRecord ⌝ }
-{
-    let r = [2, 0, 3, 0];
-    put(area, at, &r);
-}
-
-// Writes the records of the cells at the front of the area.
-fn put_cells(nodes: &[u16], area: &mut [u8])
+// The records of the cells, at the front of the area.
+fn put_cells(nodes: &[u16], area: &mut [u8]) -> usize
     requires { ⌜ CellsFit (now nodes) (now area) ⌝ }
-    ensures { λ _. ⌜ now (area .exit) ≡ sets (now (area .entry)) 0 (over (cellBytes (now (nodes .entry))) (length (now (nodes .entry)) / 4) 0) ⌝ }
+    ensures { λ r. ⌜ Stored (now (area .entry)) 0 (over (cellBytes (now (nodes .entry))) (length (now (nodes .entry)) / cellNodes) 0) (now (area .exit)) r ⌝ }
 {
-    let n = nodes.len() / 4;
+    let n = nodes.len() / CELL_NODES;
+    let mut at: usize = 0;
     let mut k: usize = 0;
     while k < n {
-        let a = node_of(nodes, k, 0);
-        let b = node_of(nodes, k, 1);
-        let c = node_of(nodes, k, 2);
-        let d = node_of(nodes, k, 3);
-        put_cell(area, 12 * k, a, b, c, d);
+        at = put_cell(area, at, nodes, k);
         k += 1;
     }
+    at
 }
 
-// Writes the records of the edges from a place on.
-fn put_edges(ends: &[u16], counts: &[u8], at: usize, area: &mut [u8])
-    requires { ⌜ EdgesFit (now ends) (now counts) at (now area) ⌝ }
-    ensures { λ _. ⌜ now (area .exit) ≡ sets (now (area .entry)) at (over (edgeBytes (now (ends .entry)) (now (counts .entry))) (length (now (counts .entry))) 0) ⌝ }
+// The records of the edges, from a place on.
+fn put_edges(ends: &[u16], counts: &[u8], from: usize, area: &mut [u8]) -> usize
+    requires { ⌜ EdgesFit (now ends) (now counts) from (now area) ⌝ }
+    ensures { λ r. ⌜ Stored (now (area .entry)) from (over (edgeBytes (now (ends .entry)) (now (counts .entry))) (length (now (counts .entry))) 0) (now (area .exit)) r ⌝ }
 {
+    let mut at = from;
     let mut k: usize = 0;
     while k < counts.len() {
-        let u = end_of(ends, k, 0);
-        let v = end_of(ends, k, 1);
-        let count = counts[k];
-        put_edge(area, at + 9 * k, u, v, count);
+        at = put_edge(area, at, ends, counts, k);
         k += 1;
     }
+    at
 }
 
 // Whether a bundle of so many cells and edges fits a number of bytes.
 fn fits(cells: usize, edges: usize, room: usize) -> bool
-    ensures { λ r. ⌜ r ≡ leb (12 * cells + 9 * edges + 4) room ⌝ }
+    ensures { λ r. ⌜ r ≡ leb (cellSize * cells + edgeSize * edges + endSize) room ⌝ }
 {
-    if room < 4 {
+    if room < END_BYTES {
         return false;
     }
-    if (room - 4) / 12 < cells {
+    if (room - END_BYTES) / CELL_BYTES < cells {
         return false;
     }
-    let left = room - 4 - 12 * cells;
-    edges <= left / 9
+    let left = room - END_BYTES - CELL_BYTES * cells;
+    edges <= left / EDGE_BYTES
 }
 
 // The bytes of a bundle of so many cells and edges, as a refusal names them.
 fn needed(cells: usize, edges: usize) -> usize
-    ensures { λ r. ⌜ r ≡ min (12 * cells + 9 * edges + 4) mostNamed ⌝ }
+    ensures { λ r. ⌜ r ≡ min (cellSize * cells + edgeSize * edges + endSize) mostNamed ⌝ }
 {
-    if MOST / 12 < cells {
+    if MOST / CELL_BYTES < cells {
         return MOST;
     }
-    if MOST / 9 < edges {
+    if MOST / EDGE_BYTES < edges {
         return MOST;
     }
-    let n = 12 * cells + 9 * edges + 4;
+    let n = CELL_BYTES * cells + EDGE_BYTES * edges + END_BYTES;
     if MOST < n {
         return MOST;
     }
@@ -157,25 +154,24 @@ fn needed(cells: usize, edges: usize) -> usize
 // Writes the bundle of the lists and answers its number of bytes; a refusal leaves the area as it is.
 pub fn write(nodes: &[u16], ends: &[u16], counts: &[u8], area: &mut [u8]) -> Written
     ensures answer { λ r. ⌜ writtenNumbers r ≡ writeAnswer (now (nodes .entry)) (now (ends .entry)) (now (counts .entry)) (length (now (area .entry))) ⌝ }
-    ensures area { λ r. ⌜ now (area .exit) ≡ leaves (isWritten (now (nodes .entry)) (now (ends .entry)) (now (counts .entry)) (length (now (area .entry)))) (bundleBytes (now (nodes .entry)) (now (ends .entry)) (now (counts .entry))) (now (area .entry)) ⌝ }
+    ensures area { λ r. ⌜ now (area .exit) ≡ areaLeft (now (nodes .entry)) (now (ends .entry)) (now (counts .entry)) (now (area .entry)) ⌝ }
 {
-    let cells = nodes.len() / 4;
+    let cells = nodes.len() / CELL_NODES;
     let edges = counts.len();
-    if nodes.len() % 4 != 0 {
+    if nodes.len() % CELL_NODES != 0 {
         return Written::Unformed;
     }
-    if ends.len() % 2 != 0 {
+    if ends.len() % EDGE_ENDS != 0 {
         return Written::Unformed;
     }
-    if ends.len() / 2 != edges {
+    if ends.len() / EDGE_ENDS != edges {
         return Written::Unformed;
     }
     if !fits(cells, edges, area.len()) {
         return Written::Short(needed(cells, edges));
     }
-    put_cells(nodes, area);
-    put_edges(ends, counts, 12 * cells, area);
-    let stop = 12 * cells + 9 * edges;
-    put_end(area, stop);
-    Written::Bytes(stop + 4)
+    let from = put_cells(nodes, area);
+    let stop = put_edges(ends, counts, from, area);
+    let size = put_head(area, stop, END);
+    Written::Bytes(size)
 }

@@ -5,8 +5,8 @@ use mathlib.Core.Logic.{_⊎_, inl, inr}
 use mathlib.Core.List.{List, [], _∷_, _++_, append-assoc}
 use native.Mathlib.Nat.{zero-add, add-zero, mul-suc, mul-zero, mul-le-mul-left}
 use native.Mathlib.Omega.{arith}
-use lib.ListN.{length, getD, take, drop, set, length-append, List·getD-append}
-use lib.Seq.{take-at, take-add, take-all, drop-cons, sets, sets-eq, length-sets, getD-append-add}
+use lib.ListN.{length, getD, take, drop, set, length-append, length-drop, List·getD-append}
+use lib.Seq.{take-suc, take-add, take-all, getD-drop, sets, sets-eq, getD-append-add}
 use Rattle.counting.specs.Range.{over}
 use Rattle.counting.proofs.Search.{below-or}
 use Rattle.counting.proofs.Range.{over-snoc}
@@ -80,42 +80,10 @@ first-parts {A} w (suc n) l =
 pub in-parts : {A : Type 0} (w n : ℕ) (l : List A) → length l ≡ w * n → over (λ k. take w (drop (w * k) l)) n 0 ≡ l
 in-parts w n l h = first-parts w n l ∙ take-all (w * n) l (omega (arith, h))
 
--- the first n lists of g, of w entries each, are stored in l0 from i on
-pub record Filled {A : Type 0} (g : ℕ → List A) (w i n : ℕ) (l l0 : List A) : Type 0 where
-  pub long : length l ≡ length l0
-  pub front : l ≡ sets l0 i (over g n 0)
-
-module _ {A : Type 0} (g : ℕ → List A) (w i : ℕ) (l0 : List A) where
-  pub filled-none : Filled g w i 0 l0 l0
-  unfolding over
-  filled-none = record { long = refl; front = refl }
-
-  module _ (e : (k : ℕ) → length (g k) ≡ w) (n : ℕ) (l : List A) (f : Filled g w i n l l0) where
-    -- the next list v is stored at its place
-    pub filled-more : (at : ℕ) (v : List A) → at ≡ i + w * n → v ≡ g n → Filled g w i (n + 1) (sets l at v) l0
-    filled-more at v q h =
-        let m : at ≡ i + length (over g n 0) = q ∙ ap (λ k. i + k) (sym (length-blocks g w n (λ k _. e k))) in
-        record {
-          long = length-sets l at v ∙ f .long;
-          front =
-              ap (λ (x : List A). sets x at v) (f .front)
-              ∙ ap (λ k. sets (sets l0 i (over g n 0)) k v) m
-              ∙ sym (sets-append l0 i (over g n 0) v)
-              ∙ ap (sets l0 i) (ap (λ (x : List A). over g n 0 ++ x) h ∙ sym (over-more g n));
-        }
-
 -- stores one after the other, as code writes them
 module _ {A : Type 0} (l : List A) (n : ℕ) where
   pub sets-two : (a b : A) → set (set l n a) (n + 1) b ≡ sets l n (a ∷ b ∷ [])
   sets-two a b = let e : n + 1 ≡ suc n = omega arith in ap (λ k. set (set l n a) k b) e
-
-  pub sets-four : (a b c d : A) → set (set (set (set l n a) (n + 1) b) (n + 2) c) (n + 3) d ≡ sets l n (a ∷ b ∷ c ∷ d ∷ [])
-  sets-four a b c d =
-      let e : n + 2 ≡ suc (suc n) = omega arith in
-      let f : n + 3 ≡ suc (suc (suc n)) = omega arith in
-      ap (λ (x : List A). set (set x (n + 2) c) (n + 3) d) (sets-two a b)
-      ∙ ap (λ k. set (set (sets l n (a ∷ b ∷ [])) k c) (n + 3) d) e
-      ∙ ap (λ k. set (sets l n (a ∷ b ∷ c ∷ [])) k d) f
 
 -- m lists and then n
 pub over-split : {A : Type 0} (f : ℕ → List A) (m n p : ℕ) → over f (m + n) p ≡ over f m p ++ over f n (p + m)
@@ -156,30 +124,19 @@ over-at f n k h =
     let e : n ≡ k + suc (n - suc k) = omega arith in
     ap (λ m. over f m 0) e ∙ over-split f k (suc (n - suc k)) 0 ∙ ap (λ m. over f k 0 ++ over f (suc (n - suc k)) m) (zero-add k)
 
--- k entries of a list from a + j on
-module _ {A : Type 0} (l : List A) (d : A) where
-  unfoldable pub entries : ℕ → ℕ → ℕ → List A
-  entries a j zero = []
-  entries a j (suc k) = getD l (a + j) d ∷ entries a (suc j) k
+pub over-within : {A : Type 0} (f : ℕ → List A) (n k : ℕ) → k < n → length (over f k 0) + length (f k) ≤ length (over f n 0)
+over-within f n k h =
+    let r = over f (n - suc k) (suc k) in
+    omega (arith, ap length (over-at f n k h), length-append (over f k 0) (f k ++ r), length-append (f k) r)
 
-  pub drop-entries : (a j k : ℕ) → a + j + k ≤ length l → drop (a + j) l ≡ entries a j k ++ drop (a + j + k) l
-  unfolding entries
-  drop-entries a j zero h = ap (λ n. drop n l) (sym (add-zero (a + j)))
-  drop-entries a j (suc k) h =
-      let e : suc (a + j) ≡ a + suc j = omega arith in
-      let f : a + suc j + k ≡ a + j + suc k = omega arith in
-      drop-cons l (a + j) d (omega arith)
-      ∙ ap (λ n. getD l (a + j) d ∷ drop n l) e
-      ∙ ap (λ (x : List A). getD l (a + j) d ∷ x) (drop-entries a (suc j) k (omega arith))
-      ∙ ap (λ n. getD l (a + j) d ∷ (entries a (suc j) k ++ drop n l)) f
-
-  length-entries : (a j k : ℕ) → length (entries a j k) ≡ k
-  unfolding entries
-  length-entries a j zero = refl
-  length-entries a j (suc k) = ap suc (length-entries a (suc j) k)
-
-  pub take-entries : (a k : ℕ) → a + k ≤ length l → take k (drop a l) ≡ entries a 0 k
-  take-entries a k h =
-      ap (λ n. take k (drop n l)) (sym (add-zero a))
-      ∙ ap (take k) (drop-entries a 0 k (omega arith))
-      ∙ take-at (entries a 0 k) (drop (a + 0 + k) l) k (length-entries a 0 k)
+-- n entries of a list from a place on, one by one
+pub singles : {A : Type 0} (l : List A) (d : A) (a n : ℕ) → a + n ≤ length l → over (λ i. getD l (a + i) d ∷ []) n 0 ≡ take n (drop a l)
+unfolding over
+singles l d a zero h = refl
+singles {A} l d a (suc n) h =
+    let f : ℕ → List A = λ i. getD l (a + i) d ∷ [] in
+    over-snoc f n 0
+    ∙ ap (λ k. over f n 0 ++ f k) (zero-add n)
+    ∙ ap (λ (x : List A). x ++ f n) (singles l d a n (omega arith))
+    ∙ ap (λ (x : A). take n (drop a l) ++ (x ∷ [])) (sym (getD-drop a l n d))
+    ∙ sym (take-suc (drop a l) n d (simp length-drop (omega arith)))

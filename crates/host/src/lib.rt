@@ -3,15 +3,39 @@ use bundle::Contents;
 ghost use mathlib.Core.Path.{_≡_};
 ghost use Rattle.host.specs.Host.{refusalOf, cellsOf, edgesOf};
 
+// What the host is told: the number of the refusal or 0, the cells and the edges.
+struct Numbers {
+    refusal: u32,
+    cells: u64,
+    edges: u64,
+}
+
+fn numbers_of(bytes: &[u8]) -> Numbers
+    ensures { λ r. ⌜ (r .refusal ≡ refusalOf (now (bytes .entry))) × ((r .cells ≡ cellsOf (now (bytes .entry))) × (r .edges ≡ edgesOf (now (bytes .entry)))) ⌝ }
+{
+    match bundle::scan(bytes) {
+        Contents::Lists(cells, edges) => {
+            Numbers {
+                refusal: 0,
+                cells: cells as u64,
+                edges: edges as u64,
+            }
+        }
+        Contents::Refused(number, place) => Numbers {
+            refusal: number as u32,
+            cells: 0,
+            edges: 0,
+        },
+    }
+}
+
 // The number of the bundle's refusal, or 0.
 #[no_mangle]
 pub extern "C" fn citternblaze_bundle_refusal(bytes: &[u8]) -> u32
     ensures { λ r. ⌜ r ≡ refusalOf (now (bytes .entry)) ⌝ }
 {
-    match bundle::scan(bytes) {
-        Contents::Lists(cells, edges) => 0,
-        Contents::Refused(number, place) => number as u32,
-    }
+    let t = numbers_of(bytes);
+    t.refusal
 }
 
 // The cells of a bundle, or 0 for a broken one.
@@ -19,10 +43,8 @@ pub extern "C" fn citternblaze_bundle_refusal(bytes: &[u8]) -> u32
 pub extern "C" fn citternblaze_bundle_cells(bytes: &[u8]) -> u64
     ensures { λ r. ⌜ r ≡ cellsOf (now (bytes .entry)) ⌝ }
 {
-    match bundle::scan(bytes) {
-        Contents::Lists(cells, edges) => cells as u64,
-        Contents::Refused(number, place) => 0,
-    }
+    let t = numbers_of(bytes);
+    t.cells
 }
 
 // The edges of a bundle, or 0 for a broken one.
@@ -30,8 +52,6 @@ pub extern "C" fn citternblaze_bundle_cells(bytes: &[u8]) -> u64
 pub extern "C" fn citternblaze_bundle_edges(bytes: &[u8]) -> u64
     ensures { λ r. ⌜ r ≡ edgesOf (now (bytes .entry)) ⌝ }
 {
-    match bundle::scan(bytes) {
-        Contents::Lists(cells, edges) => edges as u64,
-        Contents::Refused(number, place) => 0,
-    }
+    let t = numbers_of(bytes);
+    t.edges
 }

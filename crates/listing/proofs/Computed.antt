@@ -38,7 +38,7 @@ unfolding seek first last some every count total over tally pre rowFrom colFrom 
     badLength badPairs badCell sameCell repeats third after badEdge unlisted unused linked joined split tooMany rows orRefuse answerOf gridAnswer
     triangle.numberOf triangle.segmentOf triangle.point triangle.segment triangle.triangle triangle.whole triangle.half0 triangle.half1 triangle.spoke triangle.fan triangle.trianglesBy triangle.inTwo triangle.loopTriangles triangle.cellTriangles
     cornerWords words allWords gridCell meshTriangles meshWords roomAnswer meshAnswer
-    bytes.lengthOf bytes.kindAt bytes.nextAt bytes.isRecord
+    bytes.lengthOf bytes.kindAt bytes.nextAt bytes.isRecord bytes.bodyStart bytes.bodySize bytes.body
     bundle.isOf bundle.start bundle.run bundle.cells bundle.edgesFrom bundle.edges bundle.stop bundle.bundleAnswer bundle.nodesOf bundle.endsOf bundle.countsOf
     cellBytes edgeBytes bundleBytes
     digits decimal named refusedLine head wordText wordAt line orRefused meshListing gridListing bundleListing listing

@@ -1,5 +1,5 @@
 -- The listing of a bundle (01): what meshlist prints for the bytes that it reads.
-use Prim.Native.Nat.{ℕ, _+_, _*_, _≤_}
+use Prim.Native.Nat.{ℕ, _+_, _-_, _*_, _/_, _≤_}
 use mathlib.Core.Path.{_≡_}
 use mathlib.Core.List.{List, _++_}
 use lib.Dec.{ltb}
@@ -7,7 +7,7 @@ use lib.ListN.{length, getD}
 use Rattle.answer.specs.Answer.{isResult}
 use Rattle.counting.specs.Pick.{pick}
 use Rattle.counting.specs.Range.{over}
-use Rattle.bundle.specs.Record.{brokenRow}
+use Rattle.bundle.specs.Record.{brokenRow, cellSize, edgeSize, endSize}
 use Rattle.bundle.specs.Bundle.{bundleAnswer, nodesOf, endsOf, countsOf, writtenOver}
 use Rattle.grid.specs.Grid.{Grid, gridOf, cellCount, crossings}
 use Rattle.triangle.specs.Words.{wordCount}
@@ -15,9 +15,15 @@ use Rattle.mesh.specs.Mesh.{meshTriangles, meshWords}
 use Rattle.mesh.specs.Answer.{meshAnswer}
 use Rattle.listing.specs.Text.{refusedLine, head, line, headBytes, lineBytes}
 
--- the most bytes that are read, and the triangles that the area holds
+-- the most bytes that are read, the most cells and edges that so many bytes hold besides the end, and the triangles that the area holds
 abbrev pub mostBytes : ℕ
 mostBytes = 32768
+
+abbrev pub mostCells : ℕ
+mostCells = (mostBytes - endSize) / cellSize
+
+abbrev pub mostEdges : ℕ
+mostEdges = (mostBytes - endSize) / edgeSize
 
 abbrev pub areaTriangles : ℕ
 areaTriangles = 1489

@@ -4,19 +4,24 @@ ghost use lib.ListN.{length};
 ghost use Rattle.grid.specs.Grid.{gridOf};
 ghost use Rattle.listing.specs.Stored.{Stored, Heard};
 ghost use Rattle.listing.specs.Listing.{roomBytes, gridListing, Listed};
+use bundle::CELL_BYTES;
+use bundle::CELL_NODES;
 use bundle::Contents;
+use bundle::EDGE_BYTES;
+use bundle::EDGE_ENDS;
+use bundle::END_BYTES;
 use grid::Checked;
 use mesh::Meshed;
 
 mod lines;
 mod text;
 
-// The most bytes of a bundle, and the most cells and edges that so many bytes hold: 12 to a cell, 9 to an edge, and 4 for the end.
+// The most bytes of a bundle, and the most cells and edges that so many bytes hold besides the end: 2,730 and 3,640.
 pub const MOST_BYTES: usize = 32768;
 
-const MOST_CELLS: usize = 2730;
+const MOST_CELLS: usize = (MOST_BYTES - END_BYTES) / CELL_BYTES;
 
-const MOST_EDGES: usize = 3640;
+const MOST_EDGES: usize = (MOST_BYTES - END_BYTES) / EDGE_BYTES;
 
 // The words of an area for 1,489 triangles.
 const AREA: usize = 11 * 1489;
@@ -33,7 +38,7 @@ fn list_mesh(nodes: &[u16], ends: &[u16], counts: &[u8], crossings: u32, out: &m
     match mesh::mesh(nodes, ends, counts, &mut area) {
         Meshed::Refused(row, place) => lines::put_refused(out, row, place),
         Meshed::Triangles(n) => {
-            let at = lines::put_head(out, nodes.len() / 4, counts.len(), crossings, n);
+            let at = lines::put_head(out, nodes.len() / CELL_NODES, counts.len(), crossings, n);
             lines::put_lines(out, at, &area, n)
         }
     }
@@ -57,14 +62,14 @@ pub fn list(bytes: &[u8], out: &mut [u8; ROOM]) -> usize
     if MOST_BYTES < bytes.len() {
         return lines::put_refused(out, 13, MOST_BYTES);
     }
-    let mut nodes = [0u16; 4 * MOST_CELLS];
-    let mut ends = [0u16; 2 * MOST_EDGES];
+    let mut nodes = [0u16; CELL_NODES * MOST_CELLS];
+    let mut ends = [0u16; EDGE_ENDS * MOST_EDGES];
     let mut counts = [0u8; MOST_EDGES];
     match bundle::read(bytes, &mut nodes, &mut ends, &mut counts) {
         Contents::Refused(row, place) => lines::put_refused(out, row, place),
         Contents::Lists(cells, edges) => {
-            let n = 4 * cells;
-            let m = 2 * edges;
+            let n = CELL_NODES * cells;
+            let m = EDGE_ENDS * edges;
             list_grid(&nodes[..n], &ends[..m], &counts[..edges], out)
         }
     }

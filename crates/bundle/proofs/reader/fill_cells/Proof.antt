@@ -1,131 +1,93 @@
 use Prim.Native.Nat.{_+_, _-_, _*_, _≤_, _<_}
-use mathlib.Core.Path.{_≡_, refl, ap, _∙_}
+use mathlib.Core.Path.{_≡_, ap, _∙_}
 use native.Mathlib.Omega.{arith}
-use lib.ListN.{length, length-set}
+use lib.ListN.{length}
 use denote.Ref.{now}
-use Rattle.counting.proofs.Fronts.{Filled, filled-none}
-use Rattle.bundle.specs.Bundle.{start, run, cells, edgesFrom, nodesOf}
-use Rattle.bundle.proofs.Runs.{Walked, walked, walked-fits, walked-on}
-use Rattle.bundle.proofs.Fills.{cell-size, nodesBy, nodes-turn, filled-all}
+use borrow.Author.Needs.{needs}
+use Rattle.counting.specs.Range.{over}
+use Rattle.counting.specs.Stored.{Stored}
+use Rattle.counting.proofs.Stored.{stored-none, stored-long}
+use Rattle.bundle.specs.Record.{cellKind, wordSize, headBytes, body}
+use Rattle.bundle.specs.Bundle.{cellNodes, start, run, cells, edgesFrom, nodesIn, nodesOf}
+use Rattle.bundle.proofs.Runs.{Walked, walked, here, walked-fits, walked-on}
+use Rattle.bundle.proofs.Fills.{cell-body, nodesBy, turn, filled-all}
 use Rattle.bundle.proofs.reader.fill_cells.Statement.{statement}
 use Rattle.bundle.proofs.reader.fill_cells.Tie as tie
 
 abbrev Inv-loop : tie.InvT-loop
-Inv-loop bytes count nodes₀ k₀ at₀ nodes k at = Walked bytes 0 1 at k × Filled (nodesBy bytes 0) 4 0 k nodes nodes₀
+Inv-loop bytes count nodes₀ k₀ at₀ nodes k at = Walked bytes 0 cellKind at k × Stored nodes₀ 0 (over (nodesBy bytes 0) k 0) nodes (cellNodes * k)
 
 abbrev μ-loop : tie.MeasureT-loop
 μ-loop bytes count nodes₀ k₀ at₀ nodes k at = count - k
 
 loop-holds : tie.Need-loop-holds Inv-loop μ-loop
-loop-holds c = (walked _ 0 1, filled-none (nodesBy (now (c .before .before .args .bytes)) 0) 4 0 (now (c .before .before .args .nodes)))
+unfolding over
+loop-holds c = (walked _ 0 cellKind, stored-none _ _)
 
 -- within the loop the next record and the room for its nodes are there
 abbrev Turn : Type 0
 Turn = tie.In-loop Inv-loop μ-loop
 
-below : (c : Turn) → c .before .loop .k < run (now (c .before .before .before .before .args .bytes)) 1 0
+below : (c : Turn) → c .before .loop .k < run (now (c .before .before .before .before .args .bytes)) cellKind 0
 unfolding cells
-below c = let a = c .before .before .before .before .pre .all in omega (arith, a, c .loop-test .taken)
+below c = omega (arith, c .before .before .before .before .pre .all, c .loop-test .taken)
 
-fits : (c : Turn) → c .before .loop .at + 12 ≤ length (now (c .before .before .before .before .args .bytes))
-fits c = walked-fits _ 0 1 12 _ _ cell-size (c .before .loop .inv .0) (below c)
+size : (c : Turn) → length (body (now (c .before .before .before .before .args .bytes)) (c .before .loop .at)) ≡ wordSize * cellNodes
+size c = cell-body _ _ (here _ 0 cellKind _ _ (c .before .loop .inv .0) (below c))
 
-room : (c : Turn) → 4 * c .before .loop .k + 4 ≤ length (now (c .before .before .before .before .args .nodes))
-room c = omega (arith, c .before .before .before .before .pre .room, c .loop-test .taken)
+fits : (c : Turn) → c .before .loop .at + (headBytes + length (body (now (c .before .before .before .before .args .bytes)) (c .before .loop .at))) ≤ length (now (c .before .before .before .before .args .bytes))
+fits c = walked-fits _ 0 cellKind _ _ (c .before .loop .inv .0) (below c)
 
-space : (c : Turn) → 4 * c .before .loop .k + 4 ≤ length (c .before .loop .nodes)
-space c = omega (arith, room c, c .before .loop .inv .1 .long)
+space : (c : Turn) → cellNodes * c .before .loop .k + cellNodes ≤ length (c .before .loop .nodes)
+space c = omega (arith, c .before .before .before .before .pre .room, c .loop-test .taken, stored-long (c .before .loop .inv .1))
 
-mul-j : tie.Need-mul-j Inv-loop μ-loop
-mul-j c = omega (arith, space c)
+body-at-requires : tie.Need-body-at-requires Inv-loop μ-loop
+body-at-requires c κs = search needs
 
-add-word-at : tie.Need-add-word-at Inv-loop μ-loop
-add-word-at c = omega (arith, fits c)
+mul-fill-words : tie.Need-mul-fill-words Inv-loop μ-loop
+mul-fill-words c = omega (arith, space (c .before .before))
 
-word-at-requires : tie.Need-word-at-requires Inv-loop μ-loop
-word-at-requires c κs = omega (arith, fits c)
-
-mul-nodes : tie.Need-mul-nodes Inv-loop μ-loop
-mul-nodes c = omega (arith, space (c .before))
-
-slice-write-nodes : tie.Need-slice-write-nodes Inv-loop μ-loop
-slice-write-nodes c = omega (arith, space (c .before))
-
-add-word-at-2 : tie.Need-add-word-at-2 Inv-loop μ-loop
-add-word-at-2 c = omega (arith, fits (c .before))
-
-word-at-requires-2 : tie.Need-word-at-requires-2 Inv-loop μ-loop
-word-at-requires-2 c κs = omega (arith, fits (c .before))
-
-add-nodes : tie.Need-add-nodes Inv-loop μ-loop
-add-nodes c = omega (arith, space (c .before .before))
-
-mul-nodes-2 : tie.Need-mul-nodes-2 Inv-loop μ-loop
-mul-nodes-2 c = omega (arith, space (c .before .before))
-
-slice-write-nodes-2 : tie.Need-slice-write-nodes-2 Inv-loop μ-loop
-slice-write-nodes-2 c = simp length-set (omega (arith, space (c .before .before)))
-
-add-word-at-3 : tie.Need-add-word-at-3 Inv-loop μ-loop
-add-word-at-3 c = omega (arith, fits (c .before .before))
-
-word-at-requires-3 : tie.Need-word-at-requires-3 Inv-loop μ-loop
-word-at-requires-3 c κs = omega (arith, fits (c .before .before))
-
-add-nodes-2 : tie.Need-add-nodes-2 Inv-loop μ-loop
-add-nodes-2 c = omega (arith, space (c .before .before .before))
-
-mul-nodes-3 : tie.Need-mul-nodes-3 Inv-loop μ-loop
-mul-nodes-3 c = omega (arith, space (c .before .before .before))
-
-slice-write-nodes-3 : tie.Need-slice-write-nodes-3 Inv-loop μ-loop
-slice-write-nodes-3 c = simp length-set (omega (arith, space (c .before .before .before)))
-
-add-word-at-4 : tie.Need-add-word-at-4 Inv-loop μ-loop
-add-word-at-4 c = omega (arith, fits (c .before .before .before))
-
-word-at-requires-4 : tie.Need-word-at-requires-4 Inv-loop μ-loop
-word-at-requires-4 c κs = omega (arith, fits (c .before .before .before))
-
-add-nodes-3 : tie.Need-add-nodes-3 Inv-loop μ-loop
-add-nodes-3 c = omega (arith, space (c .before .before .before .before))
-
-mul-nodes-4 : tie.Need-mul-nodes-4 Inv-loop μ-loop
-mul-nodes-4 c = omega (arith, space (c .before .before .before .before))
-
-slice-write-nodes-4 : tie.Need-slice-write-nodes-4 Inv-loop μ-loop
-slice-write-nodes-4 c = simp length-set (omega (arith, space (c .before .before .before .before)))
+fill-words-requires : tie.Need-fill-words-requires Inv-loop μ-loop
+fill-words-requires c κs =
+    let t = c .before .before in
+    record { all = omega (arith, ap length (c .before .body-at .ensures .0), size t); room = omega (arith, space t) }
 
 add-at : tie.Need-add-at Inv-loop μ-loop
-add-at c = omega (arith, fits (c .before .before .before .before))
+add-at c = omega (arith, fits (c .before .before .before .before .before), ap length (c .before .before .before .before .body-at .ensures .0))
+
+add-at-2 : tie.Need-add-at-2 Inv-loop μ-loop
+add-at-2 c = omega (arith, fits (c .before .before .before .before .before), ap length (c .before .before .before .before .body-at .ensures .0))
 
 add-k : tie.Need-add-k Inv-loop μ-loop
-add-k c = omega (arith, space (c .before .before .before .before))
+add-k c = omega (arith, space (c .before .before .before .before .before))
 
 loop-less : tie.Need-loop-less Inv-loop μ-loop
 loop-less c = omega arith
 
 loop-again : tie.Need-loop-again Inv-loop μ-loop
 loop-again c =
-    let t = c .before .before .before .before in
+    let t = c .before .before .before .before .before in
     let l = t .before .loop in
-    (walked-on _ 0 1 12 _ _ cell-size (l .inv .0) (below t), nodes-turn _ 0 _ _ (l .inv .0 .reached) _ _ (l .inv .1) _ _ _ _ (c .before .before .before .word-at .ensures) (c .before .before .word-at2 .ensures) (c .before .word-at3 .ensures) (c .word-at4 .ensures))
+    let e = c .before .before .before .before .body-at .ensures .0 in
+    let n : cellNodes * (l .k + 1) ≡ cellNodes * l .k + cellNodes = omega arith in
+    (rw e (walked-on _ 0 cellKind _ _ (l .inv .0) (below t)), rw n (turn _ 0 _ _ (l .inv .0 .reached) nodesIn (l .inv .1) (rw e at (c .before .before .fill-words .ensures))))
 
 same-length : tie.Need-same-length Inv-loop μ-loop
-same-length c = c .before .loop .inv .1 .long
+same-length c = stored-long (c .before .loop .inv .1)
 
 all-done : (c : tie.After-loop Inv-loop μ-loop) → c .before .loop .k ≡ cells (now (c .before .before .before .before .args .bytes))
 unfolding cells
-all-done c = let a = c .before .before .before .before .pre .all in omega (arith, a, c .before .loop .inv .0 .upto)
+all-done c = omega (arith, c .before .before .before .before .pre .all, c .before .loop .inv .0 .upto)
 
 returns : tie.Need-returns Inv-loop μ-loop
 unfolding edgesFrom nodesOf
 returns c =
     let l = c .before .loop in
     let a = c .before .before .before .before .args in
+    let p = c .before .before .before .before .pre in
     let s = now (a .bytes) in
     let e : l .k ≡ cells s = all-done c in
-    (l .inv .0 .reached ∙ ap (start s 0) e, filled-all (nodesBy s 0) 4 (l .k) (cells s) (l .nodes) (now (a .nodes)) (λ j. refl) (l .inv .1) e (omega (arith, e, c .before .before .before .before .pre .all, c .before .before .before .before .pre .room)))
+    (l .inv .0 .reached ∙ ap (start s 0) e, filled-all (nodesBy s 0) (l .k) (cells s) (l .inv .1) e (omega (arith, e, p .all, p .room)))
 
 pub fill-cells-spec : {M : Type 1} → statement M
 fill-cells-spec =
@@ -134,27 +96,11 @@ fill-cells-spec =
     Inv-loop
     μ-loop
     loop-holds
-    mul-j
-    add-word-at
-    word-at-requires
-    mul-nodes
-    slice-write-nodes
-    add-word-at-2
-    word-at-requires-2
-    add-nodes
-    mul-nodes-2
-    slice-write-nodes-2
-    add-word-at-3
-    word-at-requires-3
-    add-nodes-2
-    mul-nodes-3
-    slice-write-nodes-3
-    add-word-at-4
-    word-at-requires-4
-    add-nodes-3
-    mul-nodes-4
-    slice-write-nodes-4
+    body-at-requires
+    mul-fill-words
+    fill-words-requires
     add-at
+    add-at-2
     add-k
     loop-less
     loop-again

@@ -6,7 +6,7 @@ use native.Mathlib.Omega.{arith}
 use lib.ListN.{length}
 use denote.Ref.{now}
 use Rattle.answer.specs.Answer.{result}
-use Rattle.bundle.specs.Bundle.{cells, edges, isBundle, bundleAnswer, contentsNumbers}
+use Rattle.bundle.specs.Bundle.{cellNodes, edgeEnds, cells, edges, isBundle, bundleAnswer, contentsNumbers}
 use Rattle.bundle.specs.declared.Contents.the-variants.{Lists, Refused}
 use Rattle.bundle.proofs.Answers.{accepted, accepted-cells, accepted-edges, rejected, room, no-room, leaves-broken, leaves-short, leaves-lists}
 use borrow.Author.Needs.{needs}
@@ -102,8 +102,8 @@ same-length-3 c = search needs
 returns-5 : tie.Need-returns-5
 returns-5 c =
     let g = c .before .before .before .before .before .before .before .before .before .before .before .before .before .before in
-    let n : 4 * cells (bytes g) ≤ length (nodes g) = omega (arith, cells-are g, c .before .before .before .before .before .before .before .before .before .before .before .before .before .if1 .left) in
-    let m : 2 * edges (bytes g) ≤ length (ends g) = omega (arith, edges-are g, c .before .before .before .before .before .before .before .before .before .before .before .before .if2 .left) in
+    let n : cellNodes * cells (bytes g) ≤ length (nodes g) = omega (arith, cells-are g, c .before .before .before .before .before .before .before .before .before .before .before .before .before .if1 .left) in
+    let m : edgeEnds * edges (bytes g) ≤ length (ends g) = omega (arith, edges-are g, c .before .before .before .before .before .before .before .before .before .before .before .before .if2 .left) in
     let k : edges (bytes g) ≤ length (counts g) = omega (arith, edges-are g, c .before .before .before .before .before .before .before .before .before .before .before .if3 .left) in
     let l = leaves-lists (bytes g) (nodes g) (ends g) (counts g) (good g) (room (bytes g) _ _ _ n m k) in
     (told g ∙ l .0, (c .before .before .before .before .before .before .before .before .before .fill-cells .ensures .1 ∙ l .1 .0, (c .before .before .before .before .fill-edges .ensures .0 ∙ l .1 .1 .0, c .before .before .before .before .fill-edges .ensures .1 ∙ l .1 .1 .1)))

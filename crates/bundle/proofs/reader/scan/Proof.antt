@@ -4,7 +4,7 @@ use mathlib.Core.List.{List, [], _∷_}
 use native.Mathlib.Omega.{arith}
 use denote.Ref.{now}
 use Rattle.answer.specs.Answer.{result, refusal}
-use Rattle.bundle.specs.Record.{brokenRow, nextAt, recordNumbers}
+use Rattle.bundle.specs.Record.{endKind, brokenRow, nextAt, recordNumbers}
 use Rattle.bundle.specs.Bundle.{cells, edges, stop}
 use Rattle.bundle.specs.declared.Record.the-variants.{Whole, Refused}
 use Rattle.bundle.proofs.OneRecord.{Found, found, not-found}
@@ -53,7 +53,7 @@ returns c =
     let r = c .before .before .before .before .before in
     let e = stopped r in
     let t = told (c .before) in
-    ap (refusal brokenRow) e ∙ sym (answer-open (bytes r) (rw e at (other-of (bytes r) 3 _ (λ h. c .if1 .taken (t .kindIs ∙ h)))))
+    ap (refusal brokenRow) e ∙ sym (answer-open (bytes r) (rw e at (other-of (bytes r) endKind _ (λ h. c .if1 .taken (t .kindIs ∙ h)))))
 
 returns-2 : tie.Need-returns-2
 returns-2 c =
@@ -61,7 +61,7 @@ returns-2 c =
     let e = stopped r in
     let t = told (c .before .before) in
     let n = t .nextIs ∙ ap (nextAt (bytes r)) e in
-    let k = rw e at (is-of (bytes r) 3 _ (t .whole) (sym (t .kindIs) ∙ c .before .if1 .left)) in
+    let k = rw e at (is-of (bytes r) endKind _ (t .whole) (sym (t .kindIs) ∙ c .before .if1 .left)) in
     ap (refusal brokenRow) n ∙ sym (answer-after (bytes r) k (λ h. omega (arith, c .if2 .taken, n, h)))
 
 returns-3 : tie.Need-returns-3
@@ -70,7 +70,7 @@ returns-3 c =
     let e = stopped r in
     let t : Refused (c .before .number .given .0 .0) (c .before .number .given .0 .1 .0) ≡ c .before .before .before .record-at .result = cc in
     let n = not-found (bytes r) _ _ _ (ap recordNumbers t ∙ c .before .before .before .record-at .ensures) in
-    ap (refusal brokenRow) e ∙ sym (answer-open (bytes r) (rw e at (none-of (bytes r) 3 _ n)))
+    ap (refusal brokenRow) e ∙ sym (answer-open (bytes r) (rw e at (none-of (bytes r) endKind _ n)))
 
 returns-4 : tie.Need-returns-4
 returns-4 c =
@@ -78,7 +78,7 @@ returns-4 c =
     let e = stopped r in
     let t = told (c .before .before) in
     let n = t .nextIs ∙ ap (nextAt (bytes r)) e in
-    let k = rw e at (is-of (bytes r) 3 _ (t .whole) (sym (t .kindIs) ∙ c .before .if1 .left)) in
+    let k = rw e at (is-of (bytes r) endKind _ (t .whole) (sym (t .kindIs) ∙ c .before .if1 .left)) in
     let h : r .before .run-from .result .count ≡ cells (bytes r) = cells-are (bytes r) _ _ _ _ (r .before .run-from .ensures .0) (r .before .run-from .ensures .1) (r .run-from2 .ensures .0) (r .run-from2 .ensures .1) in
     let g : r .run-from2 .result .count ≡ edges (bytes r) = edges-are (bytes r) _ _ _ _ (r .before .run-from .ensures .0) (r .before .run-from .ensures .1) (r .run-from2 .ensures .0) (r .run-from2 .ensures .1) in
     ap (λ (x : ℕ). result (x ∷ r .run-from2 .result .count ∷ [])) h

@@ -5,7 +5,7 @@ use native.Mathlib.Nat.{zero-add}
 use native.Mathlib.Omega.{arith}
 use lib.ListN.{length, take, drop}
 use denote.Ref.{now}
-use Rattle.bundle.specs.Record.{recordNumbers}
+use Rattle.bundle.specs.Record.{headBytes, recordNumbers}
 use Rattle.bundle.specs.declared.Record.the-variants.{Whole, Refused}
 use Rattle.bundle.proofs.OneRecord.{Found, found, not-found, stands, next-ge, body-whole, body-none}
 use borrow.Author.Needs.{needs}
@@ -36,7 +36,7 @@ told c =
     let e : Whole (c .before .kind .given .0 .0) (next c) ≡ c .before .before .before .record-at .result = cc in
     found (bytes c) (start c) _ _ (ap recordNumbers e ∙ c .before .before .before .record-at .ensures)
 
-within : (c : At) → (start c + 4 ≤ next c) × (next c ≤ length (bytes c))
+within : (c : At) → (start c + headBytes ≤ next c) × (next c ≤ length (bytes c))
 within c =
     let t = told c in
     let e = t .nextIs in
@@ -66,7 +66,7 @@ returns c =
     let b = c .before in
     let t = told b in
     let e = body-whole (bytes b) (start b) (t .whole) in
-    (ap (λ (n : ℕ). take (n - (start b + 4)) (drop (start b + 4) (bytes b))) (t .nextIs) ∙ e .0, (refl, ap (λ (n : ℕ). n + c .before .before .before .before .before .before .args .bytes .ptr .1) (e .1)))
+    (ap (λ (n : ℕ). take (n - (start b + headBytes)) (drop (start b + headBytes) (bytes b))) (t .nextIs) ∙ e .0, (refl, ap (λ (n : ℕ). n + c .before .before .before .before .before .before .args .bytes .ptr .1) (e .1)))
 
 returns-2 : tie.Need-returns-2
 returns-2 c =

@@ -1,58 +1,25 @@
-use Rattle.bundle.specs.Record.{lengthOf}
+use Rattle.counting.proofs.Stored.{stored-then}
+use Rattle.bundle.specs.Written.{cellBytes}
 use borrow.Author.Needs.{needs}
 use Rattle.bundle.proofs.writer.put_cell.Statement.{statement}
 use Rattle.bundle.proofs.writer.put_cell.Tie as tie
 
-low-requires : tie.Need-low-requires
-low-requires c κs = search needs
+put-head-requires : tie.Need-put-head-requires
+put-head-requires c κs = search needs
 
-high-requires : tie.Need-high-requires
-high-requires c κs = search needs
+mul-put-words : tie.Need-mul-put-words
+mul-put-words c = search needs
 
-low-requires-2 : tie.Need-low-requires-2
-low-requires-2 c κs = search needs
-
-high-requires-2 : tie.Need-high-requires-2
-high-requires-2 c κs = search needs
-
-low-requires-3 : tie.Need-low-requires-3
-low-requires-3 c κs = search needs
-
-high-requires-3 : tie.Need-high-requires-3
-high-requires-3 c κs = search needs
-
-low-requires-4 : tie.Need-low-requires-4
-low-requires-4 c κs = search needs
-
-high-requires-4 : tie.Need-high-requires-4
-high-requires-4 c κs = search needs
-
-slice-aggregate-put : tie.Need-slice-aggregate-put
-slice-aggregate-put c = search needs
-
-put-requires : tie.Need-put-requires
-put-requires c κs = search needs
+put-words-requires : tie.Need-put-words-requires
+put-words-requires c κs = search needs
 
 same-length : tie.Need-same-length
 same-length c = search needs
 
 returns : tie.Need-returns
-unfolding lengthOf
-returns c = cc
+unfolding cellBytes
+returns c = stored-then (c .before .before .before .before .before .before .put-head .ensures) (c .before .before .put-words .ensures)
 
 pub put-cell-spec : {M : Type 1} → statement M
 put-cell-spec =
-    tie.close
-    (tie.spec
-    low-requires
-    high-requires
-    low-requires-2
-    high-requires-2
-    low-requires-3
-    high-requires-3
-    low-requires-4
-    high-requires-4
-    slice-aggregate-put
-    put-requires
-    same-length
-    returns)
+    tie.close (tie.spec put-head-requires mul-put-words put-words-requires same-length returns)

@@ -1,42 +1,35 @@
 use Prim.Native.Nat.{_-_, _/_, _≤_}
-use mathlib.Core.Path.{_≡_, ap, _∙_}
+use mathlib.Core.Path.{_≡_}
 use native.Mathlib.Omega.{arith}
 use lib.ListN.{length}
-use lib.Seq.{sets}
 use denote.Ref.{now}
 use Rattle.counting.specs.Range.{over}
-use Rattle.counting.proofs.Fronts.{Filled, filled-none}
+use Rattle.counting.specs.Stored.{Stored}
+use Rattle.counting.proofs.Fronts.{over-within}
+use Rattle.counting.proofs.Stored.{stored-none, stored-more, stored-long}
+use Rattle.bundle.specs.Bundle.{cellNodes}
 use Rattle.bundle.specs.Written.{cellBytes}
-use Rattle.bundle.proofs.Writes.{cells-turn}
+use Rattle.bundle.proofs.Writes.{length-cell}
 use Rattle.bundle.proofs.writer.put_cells.Statement.{statement}
 use Rattle.bundle.proofs.writer.put_cells.Tie as tie
 
 abbrev Inv-loop : tie.InvT-loop
-Inv-loop nodes area₀ n k₀ area k = (k ≤ length nodes / 4) × Filled (cellBytes nodes) 12 0 k area area₀
+Inv-loop nodes area₀ n at₀ k₀ area at k = (k ≤ length nodes / cellNodes) × Stored area₀ 0 (over (cellBytes nodes) k 0) area at
 
 abbrev μ-loop : tie.MeasureT-loop
-μ-loop nodes area₀ n k₀ area k = length nodes / 4 - k
+μ-loop nodes area₀ n at₀ k₀ area at k = length nodes / cellNodes - k
 
 loop-holds : tie.Need-loop-holds Inv-loop μ-loop
-loop-holds c = (omega arith, filled-none (cellBytes (now (c .before .before .args .nodes))) 12 0 (now (c .before .before .args .area)))
-
-node-of-requires : tie.Need-node-of-requires Inv-loop μ-loop
-node-of-requires c κs = omega arith
-
-node-of-requires-2 : tie.Need-node-of-requires-2 Inv-loop μ-loop
-node-of-requires-2 c κs = omega arith
-
-node-of-requires-3 : tie.Need-node-of-requires-3 Inv-loop μ-loop
-node-of-requires-3 c κs = omega arith
-
-node-of-requires-4 : tie.Need-node-of-requires-4 Inv-loop μ-loop
-node-of-requires-4 c κs = omega arith
-
-mul-put-cell : tie.Need-mul-put-cell Inv-loop μ-loop
-mul-put-cell c = omega (arith, c .before .before .before .before .before .before .before .before .before .pre .fits)
+unfolding over
+loop-holds c = (omega arith, stored-none _ _)
 
 put-cell-requires : tie.Need-put-cell-requires Inv-loop μ-loop
-put-cell-requires c κs = omega (arith, c .before .before .before .before .before .before .before .before .before .pre .fits, c .before .before .before .before .before .before .loop .inv .1 .long)
+put-cell-requires c κs =
+    let l = c .before .before .loop in
+    let s = c .before .before .before .before .before in
+    let nodes = now (s .args .nodes) in
+    let p = l .inv .1 in
+    record { all = omega arith; room = omega (arith, over-within (cellBytes nodes) (length nodes / cellNodes) (l .k) (omega arith), length-cell nodes (l .k), p .after, stored-long p, s .pre .room) }
 
 add-k : tie.Need-add-k Inv-loop μ-loop
 add-k c = omega arith
@@ -45,16 +38,18 @@ loop-less : tie.Need-loop-less Inv-loop μ-loop
 loop-less c = omega arith
 
 loop-again : tie.Need-loop-again Inv-loop μ-loop
-loop-again c = (omega arith, cells-turn _ _ _ _ _ _ _ _ _ (c .before .before .before .before .before .before .before .before .before .loop .inv .1) (c .before .before .before .before .before .before .before .node-of .ensures) (c .before .before .before .before .before .before .node-of2 .ensures) (c .before .before .before .before .before .node-of3 .ensures) (c .before .before .before .before .node-of4 .ensures) (c .before .before .put-cell .ensures))
+loop-again c =
+    let l = c .before .before .before .before .before .loop in
+    (omega arith, stored-more (cellBytes (now (c .before .before .before .before .before .before .before .before .args .nodes))) (l .k) (l .inv .1) (c .before .before .put-cell .ensures))
 
 same-length : tie.Need-same-length Inv-loop μ-loop
-same-length c = c .before .loop .inv .1 .long
+same-length c = stored-long (c .before .loop .inv .1)
 
 returns : tie.Need-returns Inv-loop μ-loop
 returns c =
-    let a = c .before .before .before .before .args in
-    let e : c .before .loop .k ≡ length (now (a .nodes)) / 4 = omega arith in
-    c .before .loop .inv .1 .front ∙ ap (λ n. sets (now (a .area)) 0 (over (cellBytes (now (a .nodes))) n 0)) e
+    let l = c .before .loop in
+    let e : l .k ≡ length (now (c .before .before .before .before .args .nodes)) / cellNodes = omega arith in
+    rw e at (l .inv .1)
 
 pub put-cells-spec : {M : Type 1} → statement M
 put-cells-spec =
@@ -63,11 +58,6 @@ put-cells-spec =
     Inv-loop
     μ-loop
     loop-holds
-    node-of-requires
-    node-of-requires-2
-    node-of-requires-3
-    node-of-requires-4
-    mul-put-cell
     put-cell-requires
     add-k
     loop-less

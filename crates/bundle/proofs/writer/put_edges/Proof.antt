@@ -1,42 +1,35 @@
 use Prim.Native.Nat.{_-_, _≤_}
-use mathlib.Core.Path.{_≡_, ap, _∙_}
+use mathlib.Core.Path.{_≡_}
 use native.Mathlib.Omega.{arith}
 use lib.ListN.{length}
-use lib.Seq.{sets}
 use denote.Ref.{now}
 use Rattle.counting.specs.Range.{over}
-use Rattle.counting.proofs.Fronts.{Filled, filled-none}
+use Rattle.counting.specs.Stored.{Stored}
+use Rattle.counting.proofs.Fronts.{over-within}
+use Rattle.counting.proofs.Stored.{stored-none, stored-more, stored-long}
 use Rattle.bundle.specs.Written.{edgeBytes}
-use Rattle.bundle.proofs.Writes.{edges-turn}
+use Rattle.bundle.proofs.Writes.{length-edge}
 use Rattle.bundle.proofs.writer.put_edges.Statement.{statement}
 use Rattle.bundle.proofs.writer.put_edges.Tie as tie
 
 abbrev Inv-loop : tie.InvT-loop
-Inv-loop ends counts at area₀ k₀ area k = (k ≤ length counts) × Filled (edgeBytes ends counts) 9 at k area area₀
+Inv-loop ends counts from area₀ at₀ k₀ area at k = (k ≤ length counts) × Stored area₀ from (over (edgeBytes ends counts) k 0) area at
 
 abbrev μ-loop : tie.MeasureT-loop
-μ-loop ends counts at area₀ k₀ area k = length counts - k
+μ-loop ends counts from area₀ at₀ k₀ area at k = length counts - k
 
 loop-holds : tie.Need-loop-holds Inv-loop μ-loop
-loop-holds c = (omega arith, filled-none (edgeBytes (now (c .before .before .before .args .ends)) (now (c .before .before .before .args .counts))) 9 (c .before .before .before .args .at) (now (c .before .before .before .args .area)))
-
-end-of-requires : tie.Need-end-of-requires Inv-loop μ-loop
-end-of-requires c κs = omega (arith, c .before .before .before .before .before .pre .pairs)
-
-end-of-requires-2 : tie.Need-end-of-requires-2 Inv-loop μ-loop
-end-of-requires-2 c κs = omega (arith, c .before .before .before .before .before .before .pre .pairs)
-
-shared-slice-read-count : tie.Need-shared-slice-read-count Inv-loop μ-loop
-shared-slice-read-count c = omega arith
-
-mul-put-edge : tie.Need-mul-put-edge Inv-loop μ-loop
-mul-put-edge c = omega (arith, c .before .before .before .before .before .before .before .before .before .pre .fits)
-
-add-put-edge : tie.Need-add-put-edge Inv-loop μ-loop
-add-put-edge c = omega (arith, c .before .before .before .before .before .before .before .before .before .pre .fits)
+unfolding over
+loop-holds c = (omega arith, stored-none _ _)
 
 put-edge-requires : tie.Need-put-edge-requires Inv-loop μ-loop
-put-edge-requires c κs = omega (arith, c .before .before .before .before .before .before .before .before .before .pre .fits, c .before .before .before .before .before .loop .inv .1 .long)
+put-edge-requires c κs =
+    let l = c .before .before .loop in
+    let s = c .before .before .before .before .before .before in
+    let ends = now (s .args .ends) in
+    let counts = now (s .args .counts) in
+    let p = l .inv .1 in
+    record { pair = omega (arith, s .pre .pairs); all = omega arith; room = omega (arith, over-within (edgeBytes ends counts) (length counts) (l .k) (omega arith), length-edge ends counts (l .k), p .after, stored-long p, s .pre .room) }
 
 add-k : tie.Need-add-k Inv-loop μ-loop
 add-k c = omega arith
@@ -45,16 +38,19 @@ loop-less : tie.Need-loop-less Inv-loop μ-loop
 loop-less c = omega arith
 
 loop-again : tie.Need-loop-again Inv-loop μ-loop
-loop-again c = (omega arith, edges-turn _ _ _ _ _ _ _ _ _ (c .before .before .before .before .before .before .before .before .loop .inv .1) (c .before .before .before .before .before .before .end-of .ensures) (c .before .before .before .before .before .end-of2 .ensures) (c .before .before .put-edge .ensures))
+loop-again c =
+    let l = c .before .before .before .before .before .loop in
+    let a = c .before .before .before .before .before .before .before .before .before .args in
+    (omega arith, stored-more (edgeBytes (now (a .ends)) (now (a .counts))) (l .k) (l .inv .1) (c .before .before .put-edge .ensures))
 
 same-length : tie.Need-same-length Inv-loop μ-loop
-same-length c = c .before .loop .inv .1 .long
+same-length c = stored-long (c .before .loop .inv .1)
 
 returns : tie.Need-returns Inv-loop μ-loop
 returns c =
-    let a = c .before .before .before .before .before .args in
-    let e : c .before .loop .k ≡ length (now (a .counts)) = omega arith in
-    c .before .loop .inv .1 .front ∙ ap (λ n. sets (now (a .area)) (a .at) (over (edgeBytes (now (a .ends)) (now (a .counts))) n 0)) e
+    let l = c .before .loop in
+    let e : l .k ≡ length (now (c .before .before .before .before .before .args .counts)) = omega arith in
+    rw e at (l .inv .1)
 
 pub put-edges-spec : {M : Type 1} → statement M
 put-edges-spec =
@@ -63,11 +59,6 @@ put-edges-spec =
     Inv-loop
     μ-loop
     loop-holds
-    end-of-requires
-    end-of-requires-2
-    shared-slice-read-count
-    mul-put-edge
-    add-put-edge
     put-edge-requires
     add-k
     loop-less

@@ -1,10 +1,12 @@
-use Prim.Native.Nat.{_+_, _*_, _/_, _≤_}
+use Prim.Native.Nat.{_*_, _≤_}
 use mathlib.Core.Path.{_≡_, sym, _∙_}
 use native.Mathlib.Omega.{arith}
 use lib.ListN.{length}
 use borrow.Author.Tests.{leb-true, leb-false, not-true, not-false}
 use denote.Ref.{now}
-use Rattle.bundle.proofs.Writes.{not-fours, not-pairs, too-short, fitting, all-written, all-stored}
+use Rattle.counting.proofs.Stored.{stored-long}
+use Rattle.bundle.specs.Bundle.{edgeEnds}
+use Rattle.bundle.proofs.Writes.{sizeBy, length-cells, length-edges, not-fours, not-pairs, too-short, all-written, all-stored}
 use borrow.Author.Needs.{needs}
 use Rattle.bundle.proofs.writer.write.Statement.{statement}
 use Rattle.bundle.proofs.writer.write.Tie as tie
@@ -28,11 +30,11 @@ returns-3 c =
 abbrev Formed : Type 0
 Formed = tie.Else3
 
-pairs : (c : Formed) → length (now (c .before .before .before .before .before .before .before .args .ends)) ≡ 2 * length (now (c .before .before .before .before .before .before .before .args .counts))
+pairs : (c : Formed) → length (now (c .before .before .before .before .before .before .before .args .ends)) ≡ edgeEnds * length (now (c .before .before .before .before .before .before .before .args .counts))
 pairs c = omega (arith, c .if3 .left, c .before .if2 .left)
 
 -- and the area is long enough
-enough : (c : tie.Else4) → 12 * (length (now (c .before .before .before .before .before .before .before .before .before .args .nodes)) / 4) + 9 * length (now (c .before .before .before .before .before .before .before .before .before .args .counts)) + 4 ≤ length (now (c .before .before .before .before .before .before .before .before .before .args .area))
+enough : (c : tie.Else4) → sizeBy (now (c .before .before .before .before .before .before .before .before .before .args .nodes)) (now (c .before .before .before .before .before .before .before .before .before .args .ends)) (now (c .before .before .before .before .before .before .before .before .before .args .counts)) ≤ length (now (c .before .before .before .before .before .before .before .before .before .args .area))
 enough c = leb-true _ _ (sym (c .before .fits2 .ensures) ∙ not-false _ (c .if4 .left))
 
 fits-requires : tie.Need-fits-requires
@@ -44,44 +46,41 @@ needed-requires c κs = search needs
 returns-4 : tie.Need-returns-4
 returns-4 c =
     let f = c .before .before .before in
-    let a = c .before .before .before .before .before .before .before .before .before .before .args in
+    let a = f .before .before .before .before .before .before .before .args in
     let l = leb-false _ _ (sym (c .before .before .fits2 .ensures) ∙ not-true _ (c .before .if4 .taken)) in
     too-short (now (a .nodes)) (now (a .ends)) (now (a .counts)) (now (a .area)) (f .before .before .if1 .left) (pairs f) l _ (c .needed .ensures)
 
 put-cells-requires : tie.Need-put-cells-requires
-put-cells-requires c κs = record { fits = omega (arith, enough (c .before)) }
-
-mul-put-edges : tie.Need-mul-put-edges
-mul-put-edges c = search needs
+put-cells-requires c κs =
+    let a = c .before .before .before .before .before .before .before .before .before .before .args in
+    record { room = omega (arith, enough (c .before), length-cells (now (a .nodes)) (now (a .ends)) (now (a .counts))) }
 
 put-edges-requires : tie.Need-put-edges-requires
-put-edges-requires c κs = record { pairs = pairs (c .before .before .before .before .before .before .before); fits = omega (arith, enough (c .before .before .before .before .before)) }
+put-edges-requires c κs =
+    let a = c .before .before .before .before .before .before .before .before .before .before .before .before .before .before .args in
+    let p = c .before .before .before .put-cells .ensures in
+    record {
+      pairs = pairs (c .before .before .before .before .before .before .before);
+      room = omega (arith, enough (c .before .before .before .before .before), p .after, stored-long p, length-cells (now (a .nodes)) (now (a .ends)) (now (a .counts)), length-edges (now (a .nodes)) (now (a .ends)) (now (a .counts)));
+    }
 
-mul-stop : tie.Need-mul-stop
-mul-stop c = search needs
-
-mul-stop-2 : tie.Need-mul-stop-2
-mul-stop-2 c = omega (arith, enough (c .before .before .before .before .before .before .before .before))
-
-add-stop : tie.Need-add-stop
-add-stop c = omega (arith, enough (c .before .before .before .before .before .before .before .before))
-
-put-end-requires : tie.Need-put-end-requires
-put-end-requires c κs = omega (arith, enough (c .before .before .before .before .before .before .before .before .before))
-
-add-t9 : tie.Need-add-t9
-add-t9 c = omega (arith, enough (c .before .before .before .before .before .before .before .before .before .before .before .before))
+put-head-requires : tie.Need-put-head-requires
+put-head-requires c κs =
+    let a = c .before .before .before .before .before .before .before .before .before .before .before .before .before .before .before .before .before .before .args in
+    let p = c .before .before .before .before .before .before .before .put-cells .ensures in
+    let q = c .before .before .before .put-edges .ensures in
+    omega (arith, enough (c .before .before .before .before .before .before .before .before .before), p .after, stored-long p, q .after, stored-long q, length-cells (now (a .nodes)) (now (a .ends)) (now (a .counts)), length-edges (now (a .nodes)) (now (a .ends)) (now (a .counts)))
 
 same-length : tie.Need-same-length
 same-length c = search needs
 
 returns-5 : tie.Need-returns-5
 returns-5 c =
-    let f = c .before .before .before .before .before .before .before .before .before .before .before .before .before .before in
-    let a = c .before .before .before .before .before .before .before .before .before .before .before .before .before .before .before .before .before .before .before .before .before .args in
-    let w = all-written (now (a .nodes)) (now (a .ends)) (now (a .counts)) (now (a .area)) (f .before .before .if1 .left) (pairs f) (enough (c .before .before .before .before .before .before .before .before .before .before .before .before)) in
-    let s = all-stored (now (a .nodes)) (now (a .ends)) (now (a .counts)) (now (a .area)) _ _ _ (fitting (now (a .nodes)) (now (a .ends)) (now (a .counts)) (now (a .area)) (f .before .before .if1 .left) (pairs f) (enough (c .before .before .before .before .before .before .before .before .before .before .before .before))) (c .before .before .before .before .before .before .before .before .before .before .put-cells .ensures) (c .before .before .before .before .before .before .put-edges .ensures) (c .before .before .put-end .ensures) in
-    (w .0, s ∙ w .1)
+    let e = c .before .before .before .before .before .before .before .before .before .before .before .before in
+    let f = e .before .before in
+    let a = f .before .before .before .before .before .before .before .args in
+    all-written (now (a .nodes)) (now (a .ends)) (now (a .counts)) (now (a .area)) (f .before .before .if1 .left) (pairs f) (enough e)
+    (all-stored (now (a .nodes)) (now (a .ends)) (now (a .counts)) (c .before .before .before .before .before .before .before .before .before .before .put-cells .ensures) (c .before .before .before .before .before .before .put-edges .ensures) (c .before .before .put-head .ensures))
 
 pub write-spec : {M : Type 1} → statement M
 write-spec =
@@ -94,12 +93,7 @@ write-spec =
     needed-requires
     returns-4
     put-cells-requires
-    mul-put-edges
     put-edges-requires
-    mul-stop
-    mul-stop-2
-    add-stop
-    put-end-requires
-    add-t9
+    put-head-requires
     same-length
     returns-5)

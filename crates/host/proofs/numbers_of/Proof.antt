@@ -1,10 +1,10 @@
 use mathlib.Core.Path.{_≡_}
 use denote.Ref.{now}
 use Rattle.bundle.specs.declared.Contents.the-variants.{Lists, Refused}
-use Rattle.host.proofs.Told.{whole-edges, broken-edges}
+use Rattle.host.proofs.Told.{whole, broken}
 use borrow.Author.Needs.{needs}
-use Rattle.host.proofs.citternblaze_bundle_edges.Statement.{statement}
-use Rattle.host.proofs.citternblaze_bundle_edges.Tie as tie
+use Rattle.host.proofs.numbers_of.Statement.{statement}
+use Rattle.host.proofs.numbers_of.Tie as tie
 
 scan-requires : tie.Need-scan-requires
 scan-requires c κs = search needs
@@ -15,18 +15,22 @@ enum-known-cells c = search needs
 enum-known-number : tie.Need-enum-known-number
 enum-known-number c = search needs
 
+cast-t10 : tie.Need-cast-t10
+cast-t10 c = search needs
+
 returns : tie.Need-returns
 returns c =
     let r = c .before .before .before .scan in
     let e : Lists (c .before .cells .given .0 .0) (c .before .cells .given .0 .1 .0) ≡ r .result = cc in
-    whole-edges (now (c .before .before .before .before .before .args .bytes)) (r .result) (r .ensures) _ _ e
+    whole (now (c .before .before .before .before .before .args .bytes)) (r .result) (r .ensures) _ _ e
 
 returns-2 : tie.Need-returns-2
 returns-2 c =
     let r = c .before .before .before .scan in
     let e : Refused (c .before .number .given .0 .0) (c .before .number .given .0 .1 .0) ≡ r .result = cc in
-    broken-edges (now (c .before .before .before .before .before .args .bytes)) (r .result) (r .ensures) _ _ e
+    broken (now (c .before .before .before .before .before .args .bytes)) (r .result) (r .ensures) _ _ e
 
-pub citternblaze-bundle-edges-spec : {M : Type 1} → statement M
-citternblaze-bundle-edges-spec =
-    tie.close (tie.spec scan-requires enum-known-cells enum-known-number returns returns-2)
+pub numbers-of-spec : {M : Type 1} → statement M
+numbers-of-spec =
+    tie.close
+    (tie.spec scan-requires enum-known-cells enum-known-number cast-t10 returns returns-2)
