@@ -10,10 +10,10 @@ use Rattle.cell.specs.declared.Cell.{Cell}
 use Rattle.cell.specs.declared.Dart.{Dart}
 use Rattle.cell.specs.declared.Next.{Next}
 use Rattle.cell.specs.declared.Next.the-variants.{On, End}
-use Rattle.cell.specs.Cell.{crossings, step}
-use Rattle.cell.specs.Of.{countOf}
+use Rattle.cell.specs.Cell.{Edges, crossings, step}
+use Rattle.cell.specs.Of.{edgesOf}
 use Rattle.cell.specs.Half.{halfEdges, placeOf, edgeOf}
-use Rattle.cell.specs.Route.{cornerOf, mostCrossings}
+use Rattle.cell.specs.Route.{cornerOf, mostInCell}
 use Rattle.cell.specs.Dart.{Spot, IsDartAt, Ready, FromUpper, Between, Leads, Onward, dartOf}
 use Rattle.cell.proofs.Half.{twin-lt}
 use Rattle.cell.proofs.Reach.{Reach, low-lt, high-lt, low-fits, high-fits, low-on, low-over, high-on, high-over, between-end, between-up, between-down}
@@ -22,10 +22,10 @@ use Rattle.cell.proofs.Route.{low-at, high-at, count-at, low-next-at, h
 odd-one : (n : ℕ) → n % 2 ≢ 0 → n % 2 ≡ 1
 odd-one n z = omega arith
 
-pub spot : {w : ℕ → ℕ} {h x g u : ℕ} → Reach w h x g u → Spot w g u
+pub spot : {w : Edges} {h x g u : ℕ} → Reach w h x g u → Spot w g u
 spot r = record { half-lt = r .parts .half-lt; index-lt = r .parts .index-lt }
 
-pub leads : {w : ℕ → ℕ} {d r : Dart} {g u : ℕ} → Reach w (d .half) (d .number) g u → IsDartAt w g u r → Leads w d r
+pub leads : {w : Edges} {d r : Dart} {g u : ℕ} → Reach w (d .half) (d .number) g u → IsDartAt w g u r → Leads w d r
 leads {w} {d} {r} R A = record {
   to = record {
     half-lt = rw (A .half-is) (R .parts .half-lt);
@@ -36,8 +36,8 @@ leads {w} {d} {r} R A = record {
 }
 
 module _ {c : Cell} {t : List ℕ} {d : Dart} (R : Ready c t d) where
-  abbrev w : ℕ → ℕ
-  w = countOf c
+  abbrev w : Edges
+  w = edgesOf c
 
   abbrev h : ℕ
   h = d .half
@@ -55,7 +55,7 @@ module _ {c : Cell} {t : List ℕ} {d : Dart} (R : Ready c t d) where
   pub high-is : own 1 ≡ cornerOf w (upper (placeOf h)) h
   high-is = high-at (R .routed) h l
 
-  pub count-is : own 2 ≡ w (edgeOf h)
+  pub count-is : own 2 ≡ w .count (edgeOf h)
   count-is = count-at (R .routed) h l
 
   pub low-next-lt : own 5 < halfEdges
@@ -67,7 +67,7 @@ module _ {c : Cell} {t : List ℕ} {d : Dart} (R : Ready c t d) where
   pub twin-next-lt : own 7 < halfEdges
   twin-next-lt = rw (twin-at (R .routed) h l) (twin-lt h l)
 
-  pub index-small : d .index < mostCrossings
+  pub index-small : d .index < mostInCell
   index-small = omega (arith, fits (R .routed) h l (d .index) (R .dart .index-lt))
 
   module _ (b : d .index < cornerOf w (lower (placeOf h)) h) where
@@ -83,7 +83,7 @@ module _ {c : Cell} {t : List ℕ} {d : Dart} (R : Ready c t d) where
         (low-over w (R .dart) b (sym (place-at (R .routed) h l) ∙ n))
 
   module _ {k : ℕ} (F : FromUpper w d k) where
-    above : w (edgeOf h) - 1 - d .index < cornerOf w (upper (placeOf h)) h
+    above : w .count (edgeOf h) - 1 - d .index < cornerOf w (upper (placeOf h)) h
     above = rw (F .is) at (F .below)
 
     pub high-room : k < getD t (9 * own 6 + 2) 0
@@ -102,7 +102,7 @@ module _ {c : Cell} {t : List ℕ} {d : Dart} (R : Ready c t d) where
     abbrev up : ℕ
     up = own 2 - own 1 - d .index
 
-    up-is : up ≡ w (edgeOf h) - cornerOf w (upper (placeOf h)) h - d .index
+    up-is : up ≡ w .count (edgeOf h) - cornerOf w (upper (placeOf h)) h - d .index
     up-is = rw (high-is, count-is) refl
 
     -- it stands below them
@@ -113,8 +113,8 @@ module _ {c : Cell} {t : List ℕ} {d : Dart} (R : Ready c t d) where
     to-up z = rw (twin-at (R .routed) h l) (between-up w (R .dart) (B .low) (B .high) (rw up-is at z))
 
     module _ (z : up % 2 ≢ 0) where
-      odd : (w (edgeOf h) - cornerOf w (upper (placeOf h)) h - d .index) % 2 ≡ 1
-      odd = let n = rw up-is at z in odd-one (w (edgeOf h) - cornerOf w (upper (placeOf h)) h - d .index) n
+      odd : (w .count (edgeOf h) - cornerOf w (upper (placeOf h)) h - d .index) % 2 ≡ 1
+      odd = let n = rw up-is at z in odd-one (w .count (edgeOf h) - cornerOf w (upper (placeOf h)) h - d .index) n
 
       pub to-end : d .index ≡ getD t (9 * h) 0 → step w (dartOf d) ≡ 2 * crossings w
       to-end e = between-end w (R .dart) (B .low) (B .high) odd (e ∙ low-is)
@@ -130,8 +130,8 @@ module _ {c : Cell} {t : List ℕ} {d : Dart} (R : Ready c t d) where
         to-down = rw (twin-at (R .routed) h l) (between-down w (R .dart) (B .low) (B .high) odd past-low)
 
 -- what a step came to, by its case
-pub onward-on : {w : ℕ → ℕ} {d e : Dart} {r : Next} → Onward w d r → r ≡ On e → Leads w d e
+pub onward-on : {w : Edges} {d e : Dart} {r : Next} → Onward w d r → r ≡ On e → Leads w d e
 onward-on {w} {d} o q = subst (Onward w d) q o
 
-pub onward-end : (w : ℕ → ℕ) (d : Dart) {r : Next} → Onward w d r → r ≡ End → step w (dartOf d) ≡ 2 * crossings w
+pub onward-end : (w : Edges) (d : Dart) {r : Next} → Onward w d r → r ≡ End → step w (dartOf d) ≡ 2 * crossings w
 onward-end w d o q = subst (Onward w d) q o

@@ -4,7 +4,7 @@ use lib.Dec.{eqb}
 use Rattle.counting.specs.Pick.{pick}
 use Rattle.slots.specs.Slots.{slotEdge, place, firstSlot, secondSlot}
 use Rattle.face.specs.Face.{other}
-use Rattle.cell.specs.Cell.{edge, slot}
+use Rattle.cell.specs.Cell.{Edges, edge, slot}
 
 abbrev pub halfEdges : ℕ
 halfEdges = 12
@@ -41,6 +41,6 @@ unfolding twin
 around v h = twin (3 * slotOf h + other v (placeOf h))
 
 -- the half-edge by which dart d of a cell leaves
-unfoldable pub halfEdge : (ℕ → ℕ) → ℕ → ℕ
+unfoldable pub halfEdge : Edges → ℕ → ℕ
 unfolding slot halfOf
 halfEdge w d = halfOf (slot w d) (edge w (d / 2))

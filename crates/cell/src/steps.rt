@@ -1,7 +1,7 @@
 // The step from dart to dart, by the routes of a cell.
 ghost use Prim.Native.Nat.{_<_};
 ghost use Rattle.face.specs.Face.{lower};
-ghost use Rattle.cell.specs.Of.{countOf};
+ghost use Rattle.cell.specs.Of.{edgesOf};
 ghost use Rattle.cell.specs.Half.{placeOf};
 ghost use Rattle.cell.specs.Route.{cornerOf, Routed};
 ghost use Rattle.cell.specs.Dart.{IsDartAt, Spot, Ready, FromUpper, Between, Leads, Onward};
@@ -12,8 +12,8 @@ use super::Next;
 // The dart at index u that leaves by half-edge g.
 fn onto(c: Cell, routes: &[usize; 108], g: usize, u: usize) -> Dart
     requires { ⌜ Routed c (now routes) ⌝ }
-    requires { ⌜ Spot (countOf c) g u ⌝ }
-    ensures { λ r. ⌜ IsDartAt (countOf c) g u r ⌝ }
+    requires { ⌜ Spot (edgesOf c) g u ⌝ }
+    ensures { λ r. ⌜ IsDartAt (edgesOf c) g u r ⌝ }
 {
     let first = routes[9 * g + 3];
     Dart {
@@ -26,8 +26,8 @@ fn onto(c: Cell, routes: &[usize; 108], g: usize, u: usize) -> Dart
 // Round the lower end of the dart's edge, to the other edge there.
 fn round_low(c: Cell, routes: &[usize; 108], d: Dart) -> Dart
     requires { ⌜ Ready c (now routes) d ⌝ }
-    requires { ⌜ d .index < cornerOf (countOf c) (lower (placeOf (d .half))) (d .half) ⌝ }
-    ensures { λ r. ⌜ Leads (countOf c) d r ⌝ }
+    requires { ⌜ d .index < cornerOf (edgesOf c) (lower (placeOf (d .half))) (d .half) ⌝ }
+    ensures { λ r. ⌜ Leads (edgesOf c) d r ⌝ }
 {
     let h = d.half;
     let t = d.index;
@@ -43,8 +43,8 @@ fn round_low(c: Cell, routes: &[usize; 108], d: Dart) -> Dart
 // Round the upper end; the dart is the k-th crossing from there.
 fn round_high(c: Cell, routes: &[usize; 108], d: Dart, k: usize) -> Dart
     requires { ⌜ Ready c (now routes) d ⌝ }
-    requires { ⌜ FromUpper (countOf c) d k ⌝ }
-    ensures { λ r. ⌜ Leads (countOf c) d r ⌝ }
+    requires { ⌜ FromUpper (edgesOf c) d k ⌝ }
+    ensures { λ r. ⌜ Leads (edgesOf c) d r ⌝ }
 {
     let h = d.half;
     let g = routes[9 * h + 6];
@@ -59,8 +59,8 @@ fn round_high(c: Cell, routes: &[usize; 108], d: Dart, k: usize) -> Dart
 // Past both corners: neighbours are joined in pairs, down from the upper corner, and the lowest is left over if they are odd.
 fn between(c: Cell, routes: &[usize; 108], d: Dart) -> Next
     requires { ⌜ Ready c (now routes) d ⌝ }
-    requires { ⌜ Between (countOf c) d ⌝ }
-    ensures { λ r. ⌜ Onward (countOf c) d r ⌝ }
+    requires { ⌜ Between (edgesOf c) d ⌝ }
+    ensures { λ r. ⌜ Onward (edgesOf c) d r ⌝ }
 {
     let h = d.half;
     let t = d.index;
@@ -79,7 +79,7 @@ fn between(c: Cell, routes: &[usize; 108], d: Dart) -> Next
 // What follows a dart.
 pub(crate) fn next(c: Cell, routes: &[usize; 108], d: Dart) -> Next
     requires { ⌜ Ready c (now routes) d ⌝ }
-    ensures { λ r. ⌜ Onward (countOf c) d r ⌝ }
+    ensures { λ r. ⌜ Onward (edgesOf c) d r ⌝ }
 {
     let h = d.half;
     let t = d.index;

@@ -12,7 +12,7 @@ use Rattle.counting.specs.Pick.{pick, one}
 use Rattle.cell.specs.declared.Cell.{Cell}
 use Rattle.cell.specs.declared.Loop.{Loop}
 use Rattle.cell.specs.declared.Loop.the-variants.{Found, Nothing}
-use Rattle.cell.specs.Of.{countOf, startOf}
+use Rattle.cell.specs.Of.{edgesOf}
 use Rattle.cell.specs.Loop.{leasts, answerOf, loopAnswer}
 use Rattle.cell.specs.Answer.{typeNumbers, loopNumbers}
 use Rattle.cell.proofs.Claims.{oneToOne, ordered}
@@ -33,7 +33,7 @@ use Rattle.mesh.specs.Asked.{cellLoop, askedLoop}
 use Rattle.mesh.specs.Answer.{meshAnswer, loopsAnswer}
 use Rattle.mesh.specs.Numbers.{meshNumbers, loopsNumbers}
 use Rattle.mesh.specs.Claims.{MeshTold, LoopsTold, LoopsOrdered}
-use Rattle.mesh.proofs.Complex.{count-of, en, start-le, start-of}
+use Rattle.mesh.proofs.Complex.{separate}
 
 -- there is always an answer
 no-nil : {a : ℕ} {l : List ℕ} → [] ≡ a ∷ l → ⊥
@@ -56,9 +56,9 @@ module _ (cells edges counts : List ℕ) where
 
   loop-some : (c : Cell) (k : ℕ) → [] ≡ cellLoop c k → ⊥
   unfolding loopAnswer answerOf
-  loop-some c k = go (drop k (leasts (countOf c) (startOf c) (c .nodes)))
+  loop-some c k = go (drop k (leasts (edgesOf c)))
     where
-      go : (l : List ℕ) → [] ≡ answerOf (countOf c) (startOf c) (c .nodes) l → ⊥
+      go : (l : List ℕ) → [] ≡ answerOf (edgesOf c) (c .nodes) l → ⊥
       go [] q = no-nil q
       go (p ∷ l) q = no-nil q
 
@@ -102,15 +102,6 @@ mesh-told cells edges counts room = mesh-tells (meshAnswer cells edges counts ro
 pub loops-told : LoopsTold
 loops-told cells edges counts c k = loops-tell (loopsAnswer cells edges counts c k) (loops-some cells edges counts c k)
 
--- in a cell of an accepted grid the crossings of an earlier edge have lower numbers
 pub loopsOrdered : LoopsOrdered
 loopsOrdered cells edges counts total e c l =
-    ordered (countOf (gridCell cells edges counts c)) (startOf (gridCell cells edges counts c)) (gridCell cells edges counts c .nodes) (λ j k h lk.
-    let A = acceptance-yields cells edges counts (total ∷ []) e in
-    omega (
-      arith,
-      start-of cells edges counts c j (omega arith),
-      start-of cells edges counts c k lk,
-      count-of cells edges counts c j (omega arith),
-      start-le cells edges counts (en cells edges counts c j) (en cells edges counts c k) (A .rising c j k l h lk),
-    ))
+    ordered (edgesOf (gridCell cells edges counts c)) (separate cells edges counts (acceptance-yields cells edges counts (total ∷ []) e) c l)

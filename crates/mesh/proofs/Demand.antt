@@ -9,14 +9,15 @@ use lib.Dec.{eqb}
 use lib.ListN.{length, getD, length-map}
 use Rattle.counting.specs.Range.{over}
 use Rattle.counting.specs.Lists.{tally}
-use Rattle.counting.specs.Pack.{pre, row, col}
+use Rattle.counting.specs.Pack.{row, col}
 use Rattle.counting.proofs.Bools.{clash}
 use Rattle.counting.proofs.Lists.{getD-map, tally-map, map-over}
 use Rattle.counting.proofs.Range.{over-ext}
-use Rattle.counting.proofs.Pack.{row-lt, col-lt, unpack, row-pack, col-pack, pack-lt}
+use Rattle.counting.proofs.Pack.{row-lt, col-lt, unpack}
 use Rattle.face.proofs.Claims.{faceLaws}
 use Rattle.cell.specs.Cell as cell
 use Rattle.cell.specs.Loop.{loopSize, normal}
+use Rattle.cell.proofs.Lay.{lay}
 use Rattle.manifold.specs.Triangle as names
 use Rattle.manifold.specs.Triangle.{Corner, Side, noTri, nth, cross, middle, same}
 use Rattle.manifold.specs.Polygon.{shape, shapeBy, fan, triangles}
@@ -109,16 +110,16 @@ module _ (cells edges counts : List ℕ) where
         let i = col (countOf counts) n g in
         let (c, k, lc, lk, q) = A .used e (row-lt (countOf counts) n g l) in
         let v = w cells edges counts c in
-        let li : i < v k = rw (count-of cells edges counts c k lk, q) (col-lt (countOf counts) n g l) in
-        let x = pre v k + i in
-        let lx : x < cell.crossings v = pack-lt v 6 k i lk li in (
+        let li : i < v .count k = rw (count-of cells edges counts c k lk, q) (col-lt (countOf counts) n g l) in
+        let x = cell.number v k i in
+        let lx : x < cell.crossings v = lay v .number-lt k i lk li in (
           c,
           record {
             lt = lc;
             x = x;
             x-lt = lx;
             is = number-of cells edges counts c x lx
-                ∙ ap₂ (λ a b. start counts (en cells edges counts c a) + b) (row-pack v 6 k i lk li) (col-pack v 6 k i lk li)
+                ∙ ap₂ (λ a b. start counts (en cells edges counts c a) + b) (lay v .number-edge k i lk li) (lay v .number-index k i lk li)
                 ∙ ap (λ a. start counts a + i) q ∙ unpack (countOf counts) n g l;
           },
         )

@@ -10,7 +10,6 @@ use lib.Dec.{eqb}
 use borrow.Author.Tests.{eqb-true, eqb-false, not-true}
 use Rattle.counting.specs.Search.{some}
 use Rattle.counting.proofs.Bools.{clash, and-true, and-left, and-right, holds-or}
-use Rattle.counting.proofs.Pack.{row-lt, col-lt}
 use Rattle.counting.proofs.Search.{least, some-is, some-found}
 use Rattle.slots.specs.Slots.{slotEdge, place, firstSlot, secondSlot}
 use Rattle.slots.proofs.Slots.{slot-edge}
@@ -18,7 +17,8 @@ use Rattle.face.specs.Face.{unjoined}
 use Rattle.walk.specs.Darts.{half}
 use Rattle.walk.proofs.Step.{face-first, face-second}
 use Rattle.cell.specs.Cell as cell
-use Rattle.cell.specs.Cell.{crossings, edge, index, number, mate, joinAt}
+use Rattle.cell.specs.Cell.{Edges, crossings, edge, index, number, mate, joinAt}
+use Rattle.cell.proofs.Lay.{lay}
 use Rattle.mesh.proofs.Joins.{three, On, index-in, num-lt, num-edge, num-index, Joined, joined-or, even-joined, on-dart}
 use Rattle.manifold.specs.Piece.{slotOf, mateOf}
 use Rattle.manifold.specs.Faces.{FacesShut, SharesFace, FacesLinked}
@@ -69,7 +69,7 @@ module _ (cells edges counts : List ℕ) where
         full : (c d : ℕ) → c < cellCount cells → d < 2 * crossings (w cells edges counts c) → mateOf (at cells edges counts c) d < crossings (w cells edges counts c)
         full c d lc ld = go (joined-or v o)
           where
-            v : ℕ → ℕ
+            v : Edges
             v = w cells edges counts c
 
             s : ℕ
@@ -113,11 +113,11 @@ module _ (cells edges counts : List ℕ) where
         let vb = w cells edges counts b in
         let ka = edge va (ha .x) in
         let kb = edge vb (hb .x) in
-        let lka = row-lt va 6 (ha .x) (ha .x-lt) in
-        let lkb = row-lt vb 6 (hb .x) (hb .x-lt) in
+        let lka = lay va .edge-lt (ha .x) (ha .x-lt) in
+        let lkb = lay vb .edge-lt (hb .x) (hb .x-lt) in
         let i = index va (ha .x) in
-        let li : i < countOf counts (en cells edges counts a ka) = subst (λ n. i < n) (count-of cells edges counts a ka lka) (col-lt va 6 (ha .x) (ha .x-lt)) in
-        let lj : index vb (hb .x) < countOf counts (en cells edges counts b kb) = subst (λ n. index vb (hb .x) < n) (count-of cells edges counts b kb lkb) (col-lt vb 6 (hb .x) (hb .x-lt)) in
+        let li : i < countOf counts (en cells edges counts a ka) = subst (λ n. i < n) (count-of cells edges counts a ka lka) (lay va .index-lt (ha .x) (ha .x-lt)) in
+        let lj : index vb (hb .x) < countOf counts (en cells edges counts b kb) = subst (λ n. index vb (hb .x) < n) (count-of cells edges counts b kb lkb) (lay vb .index-lt (hb .x) (hb .x-lt)) in
         let na : start counts (en cells edges counts a ka) + i ≡ g = sym (number-of cells edges counts a (ha .x) (ha .x-lt)) ∙ ha .is in
         let nb : start counts (en cells edges counts b kb) + index vb (hb .x) ≡ g = sym (number-of cells edges counts b (hb .x) (hb .x-lt)) ∙ hb .is in
         let e : en cells edges counts a ka ≡ en cells edges counts b kb = edge-of-number (en cells edges counts a ka) (en cells edges counts b kb) i (index vb (hb .x)) li lj (na ∙ sym nb) in
@@ -133,7 +133,7 @@ module _ (cells edges counts : List ℕ) where
             (λ (u : secondSlot (slotEdge r j) ≡ r). make (2 * x + 1) (omega arith) (omega (arith, lx)) (face-second (crossings v) (cell.first v) (cell.second v) (mate v) x ∙ ap secondSlot ex ∙ u))
             (slot-edge r j lr lj .on)
           where
-            v : ℕ → ℕ
+            v : Edges
             v = w cells edges counts a
 
             x : ℕ

@@ -3,7 +3,7 @@ use Prim.Native.Nat.{ℕ, _<_}
 use mathlib.Core.Path.{_≡_}
 use mathlib.Core.List.{List, [], _∷_}
 use Rattle.answer.specs.Answer.{result}
-use Rattle.cell.specs.Of.{countOf, startOf}
+use Rattle.cell.specs.Of.{edgesOf}
 use Rattle.cell.specs.Claims.{OrderLaws}
 use Rattle.grid.specs.Grid.{cellCount}
 use Rattle.grid.specs.Rows.{gridAnswer}
@@ -25,4 +25,4 @@ LoopsTold = (cells edges counts : List ℕ) (c k : ℕ) (r s : Looped)
 -- in each cell of an accepted grid p0 is the least crossing number of its loop (01), and the loops are ordered by p0
 abbrev pub LoopsOrdered : Type 0
 LoopsOrdered = (cells edges counts : List ℕ) (total : ℕ) → gridAnswer cells edges counts ≡ result (total ∷ []) → (c : ℕ) → c < cellCount cells
-    → OrderLaws (countOf (gridCell cells edges counts c)) (startOf (gridCell cells edges counts c)) (gridCell cells edges counts c .nodes)
+    → OrderLaws (edgesOf (gridCell cells edges counts c))

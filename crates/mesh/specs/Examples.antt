@@ -14,7 +14,7 @@ use Rattle.face.specs.Face.{joined, unjoined, noCrossing, count, faceJoin}
 use Rattle.cell.specs.Loop.{loopSize, dart, leasts}
 use Rattle.grid.specs.Grid.{cellCount}
 use Rattle.grid.specs.Rows.{gridAnswer}
-use Rattle.triangle.specs.Triangles.{countOf, startOf, numberOf, cellTriangles}
+use Rattle.triangle.specs.Triangles.{edgesOf, numberOf, cellTriangles}
 use Rattle.triangle.specs.Answer.{nthAnswer}
 use Rattle.triangle.specs.declared.Triangle.{Triangle}
 use Rattle.triangle.specs.Names.{sideAt}
@@ -47,7 +47,7 @@ module _ (cells edges counts : List ℕ) where
   -- the least crossings of the loops of cell c
   unfoldable pub startsOf : ℕ → List ℕ
   unfolding gridCell leasts
-  startsOf c = leasts (countOf (gridCell cells edges counts c)) (startOf (gridCell cells edges counts c)) (gridCell cells edges counts c .nodes)
+  startsOf c = leasts (edgesOf (gridCell cells edges counts c))
 
   unfoldable pub gridLoops : List (List ℕ)
   unfolding startsOf
@@ -56,7 +56,7 @@ module _ (cells edges counts : List ℕ) where
   -- the crossing numbers of a loop's points, in order
   unfoldable pub loopPoints : ℕ → ℕ → List ℕ
   unfolding numberOf dart loopSize
-  loopPoints c p = values (λ k. numberOf (gridCell cells edges counts c) (dart (countOf (gridCell cells edges counts c)) p k / 2)) (loopSize (countOf (gridCell cells edges counts c)) p)
+  loopPoints c p = values (λ k. numberOf (gridCell cells edges counts c) (dart (edgesOf (gridCell cells edges counts c)) p k / 2)) (loopSize (edgesOf (gridCell cells edges counts c)) p)
 
   unfoldable pub gridPoints : List (List ℕ)
   unfolding startsOf loopPoints
