@@ -1,12 +1,9 @@
 -- Laws of what a call answers.
 use Prim.Native.Nat.{ℕ}
-use mathlib.Core.Path.{_≡_, refl, subst, sym, ap, _∙_}
-use mathlib.Core.Bool.{Bool, true, false}
-use mathlib.Core.List.{List, [], _∷_}
+use mathlib.Core.Path.{_≡_, subst, sym, ap, _∙_}
+use mathlib.Core.List.{List, _∷_}
 use Rattle.answer.specs.Answer.{result}
-use Rattle.counting.specs.Pick.{pick}
 use Rattle.cell.specs.declared.LoopType.{LoopType}
-use Rattle.cell.specs.declared.LoopType.the-variants.{Corner}
 use Rattle.cell.specs.Answer.{typeNumbers}
 use Rattle.capi.specs.Written.{Answers}
 
@@ -26,14 +23,6 @@ answers-told read told e = answers-are (told-reads read told e)
 -- the numbers of a type that is told to be k
 pub type-told : {of k : LoopType} → of ≡ k → typeNumbers k ≡ typeNumbers of
 type-told told = ap typeNumbers (sym told)
-
--- and of one that is told to be a corner, from the number of its kind
-pub corner-told : {of : LoopType} {v number : ℕ} {lowest : Bool} → of ≡ Corner v lowest → number ≡ pick lowest 3 1 → number ∷ v ∷ [] ≡ typeNumbers of
-corner-told {v = v} {lowest = lowest} told is = ap (λ k. k ∷ v ∷ []) is ∙ go lowest ∙ type-told told
-  where
-    go : (b : Bool) → pick b 3 1 ∷ v ∷ [] ≡ typeNumbers (Corner v b)
-    go true = refl
-    go false = refl
 
 -- the numbers of a loop, from those of its type
 pub loop-told : {p n b flag : ℕ} {types numbers : List ℕ} → b ≡ flag → types ≡ numbers → 0 ∷ p ∷ n ∷ b ∷ types ≡ result (p ∷ n ∷ flag ∷ numbers)

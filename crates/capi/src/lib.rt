@@ -9,7 +9,7 @@ ghost use Rattle.bundle.specs.Bundle.{isTaken, readAnswer, nodesOf, endsOf, cou
 ghost use Rattle.bundle.specs.Written.{bundleBytes, isWritten, writeAnswer};
 ghost use Rattle.face.specs.Face.{faceJoin};
 ghost use Rattle.grid.specs.Rows.{gridAnswer};
-ghost use Rattle.counting.specs.Pick.{pick, one};
+ghost use Rattle.counting.specs.Pick.{one};
 ghost use Rattle.answer.specs.Answer.{result};
 ghost use Rattle.cell.specs.Answer.{typeNumbers, loopNumbers};
 ghost use Rattle.mesh.specs.Answer.{meshAnswer, meshArea, loopsAnswer};
@@ -100,13 +100,6 @@ fn number_of(b: bool) -> u64
     if b { 1 } else { 0 }
 }
 
-// The type's number of a corner, at the cell's lowest node or at another.
-fn corner_number(lowest: bool) -> u64
-    ensures { λ r. ⌜ r ≡ pick lowest 3 1 ⌝ }
-{
-    if lowest { 3 } else { 1 }
-}
-
 // Puts the numbers of a loop that there is.
 fn put_found(answer: &mut [u64], p0: u32, many: u32, normal: bool, of: LoopType) -> usize
     ensures { λ r. ⌜ Answers (result (p0 ∷ many ∷ one normal ∷ typeNumbers of)) (now (answer .entry)) (now (answer .exit)) r ⌝ }
@@ -116,11 +109,9 @@ fn put_found(answer: &mut [u64], p0: u32, many: u32, normal: bool, of: LoopType)
     let b = number_of(normal);
     match of {
         LoopType::Contractible => put(answer, &[0, p, n, b, 0]),
+        LoopType::Corner(v) => put(answer, &[0, p, n, b, 1, v as u64]),
         LoopType::Diagonal(v) => put(answer, &[0, p, n, b, 2, v as u64]),
-        LoopType::Corner(v, lowest) => {
-            let k = corner_number(lowest);
-            put(answer, &[0, p, n, b, k, v as u64])
-        }
+        LoopType::LowestCorner(v) => put(answer, &[0, p, n, b, 3, v as u64]),
     }
 }
 

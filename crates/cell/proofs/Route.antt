@@ -52,17 +52,6 @@ front-at w s j l k e =
       corner-node (w .count (slotEdge s 0)) (w .count (slotEdge s 1)) (w .count (slotEdge s 2)) (high (edge-of j l)),
     ) refl
 
--- the runs of a slot, by the edges of its half-edges
-pub slot-runs : {c : Cell} {s e f g : ℕ} {x y z : Run} → e ≡ edgeOf (3 * s) → f ≡ edgeOf (3 * s + 1) → g ≡ edgeOf (3 * s + 2) → IsRun c e x → IsRun c f y → IsRun c g z
-    → SlotRuns c s x y z
-slot-runs {c} {s} p q r a b d =
-    let z : 3 * s + 0 ≡ 3 * s = omega arith in
-    record {
-      of-ab = rw (p ∙ (rw z at (half-edge s 0 (omega arith)))) at a;
-      of-ac = rw (q ∙ half-edge s 1 (omega arith)) at b;
-      of-bc = rw (r ∙ half-edge s 2 (omega arith)) at d;
-    }
-
 -- the half-edges of a slot are written one after the other
 pub slot-fronts : {c : Cell} {s : ℕ} {x y z : Run} → SlotRuns c s x y z → (l m n o : List ℕ) {a b d a′ b′ d′ : ℕ} → a ≡ a′ → b ≡ b′ → d ≡ d′
     → a′ ∷ b′ ∷ d′ ∷ [] ≡ corners (x .count) (y .count) (z .count)

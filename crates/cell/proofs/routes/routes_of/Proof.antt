@@ -1,91 +1,69 @@
-use Prim.Native.Nat.{_*_, _-_, _≤_}
 use native.Mathlib.Omega.{arith}
-use Rattle.cell.proofs.Route.{linkTable, Written, slot-runs, written-none, written-slot, written-all}
+use Rattle.slots.specs.Slots.{slotEdge}
+use Rattle.cell.proofs.Route.{linkTable, written-none, written-slot, written-all}
+use borrow.Author.Needs.{needs}
 use Rattle.cell.proofs.routes.routes_of.Statement.{statement}
 use Rattle.cell.proofs.routes.routes_of.Tie as tie
 
-abbrev Inv-loop : tie.InvT-loop
-Inv-loop c firsts t₀ s₀ t s = (s ≤ 4) × Written c (3 * s) t
+firsts-of-requires : tie.Need-firsts-of-requires
+firsts-of-requires c κs = search needs
 
-abbrev μ-loop : tie.MeasureT-loop
-μ-loop c firsts t₀ s₀ t s = 4 - s
+run-of-requires : tie.Need-run-of-requires
+run-of-requires c κs = search needs
 
-firsts-of-requires : tie.Need-firsts-of-requires Inv-loop μ-loop
-firsts-of-requires c κs = tt
+run-of-requires-2 : tie.Need-run-of-requires-2
+run-of-requires-2 c κs = search needs
 
-loop-holds : tie.Need-loop-holds Inv-loop μ-loop
-unfolding linkTable
-loop-holds c = (omega arith, written-none _)
+run-of-requires-3 : tie.Need-run-of-requires-3
+run-of-requires-3 c κs = search needs
 
-mul-edge-of : tie.Need-mul-edge-of Inv-loop μ-loop
-mul-edge-of c = omega arith
+run-of-requires-4 : tie.Need-run-of-requires-4
+run-of-requires-4 c κs = search needs
 
-edge-of-requires : tie.Need-edge-of-requires Inv-loop μ-loop
-edge-of-requires c κs = omega arith
+run-of-requires-5 : tie.Need-run-of-requires-5
+run-of-requires-5 c κs = search needs
 
-run-of-requires : tie.Need-run-of-requires Inv-loop μ-loop
-run-of-requires c κs = (c .edge-of .ensures .1, c .before .before .before .before .firsts-of .ensures)
+run-of-requires-6 : tie.Need-run-of-requires-6
+run-of-requires-6 c κs = search needs
 
-mul-edge-of-2 : tie.Need-mul-edge-of-2 Inv-loop μ-loop
-mul-edge-of-2 c = omega arith
+put-slot-requires : tie.Need-put-slot-requires
+unfolding slotEdge
+put-slot-requires c κs = (omega arith, record { of-ab = c .before .before .before .before .before .run-of4 .ensures; of-ac = c .before .before .before .run-of5 .ensures; of-bc = c .before .run-of6 .ensures })
 
-add-edge-of : tie.Need-add-edge-of Inv-loop μ-loop
-add-edge-of c = omega arith
+put-slot-requires-2 : tie.Need-put-slot-requires-2
+unfolding slotEdge
+put-slot-requires-2 c κs = (omega arith, record { of-ab = c .before .before .before .before .before .before .before .before .before .before .before .run-of2 .ensures; of-ac = c .before .before .before .before .before .before .before .before .before .run-of3 .ensures; of-bc = c .before .before .before .run-of6 .ensures })
 
-edge-of-requires-2 : tie.Need-edge-of-requires-2 Inv-loop μ-loop
-edge-of-requires-2 c κs = omega arith
+put-slot-requires-3 : tie.Need-put-slot-requires-3
+unfolding slotEdge
+put-slot-requires-3 c κs = (omega arith, record { of-ab = c .before .before .before .before .before .before .before .before .before .before .before .before .before .before .before .run-of .ensures; of-ac = c .before .before .before .before .before .before .before .before .before .before .before .run-of3 .ensures; of-bc = c .before .before .before .before .before .before .before .run-of5 .ensures })
 
-run-of-requires-2 : tie.Need-run-of-requires-2 Inv-loop μ-loop
-run-of-requires-2 c κs = (c .edge-of2 .ensures .1, c .before .before .before .before .before .before .before .firsts-of .ensures)
+put-slot-requires-4 : tie.Need-put-slot-requires-4
+unfolding slotEdge
+put-slot-requires-4 c κs = (omega arith, record { of-ab = c .before .before .before .before .before .before .before .before .before .before .before .before .before .before .before .before .before .run-of .ensures; of-ac = c .before .before .before .before .before .before .before .before .before .before .before .before .before .before .before .run-of2 .ensures; of-bc = c .before .before .before .before .before .before .before .before .before .before .before .run-of4 .ensures })
 
-mul-edge-of-3 : tie.Need-mul-edge-of-3 Inv-loop μ-loop
-mul-edge-of-3 c = omega arith
-
-add-edge-of-2 : tie.Need-add-edge-of-2 Inv-loop μ-loop
-add-edge-of-2 c = omega arith
-
-edge-of-requires-3 : tie.Need-edge-of-requires-3 Inv-loop μ-loop
-edge-of-requires-3 c κs = omega arith
-
-run-of-requires-3 : tie.Need-run-of-requires-3 Inv-loop μ-loop
-run-of-requires-3 c κs = (c .edge-of3 .ensures .1, c .before .before .before .before .before .before .before .before .before .before .firsts-of .ensures)
-
-put-slot-requires : tie.Need-put-slot-requires Inv-loop μ-loop
-put-slot-requires c κs = (omega arith, slot-runs (c .before .before .before .before .before .before .before .before .edge-of .ensures .0) (c .before .before .before .before .before .edge-of2 .ensures .0) (c .before .before .edge-of3 .ensures .0) (c .before .before .before .before .before .before .before .run-of .ensures) (c .before .before .before .before .run-of2 .ensures) (c .before .run-of3 .ensures))
-
-add-s : tie.Need-add-s Inv-loop μ-loop
-add-s c = omega arith
-
-loop-less : tie.Need-loop-less Inv-loop μ-loop
-loop-less c = omega arith
-
-loop-again : tie.Need-loop-again Inv-loop μ-loop
-loop-again c = (omega arith, written-slot (c .before .before .before .before .before .before .before .before .before .before .before .before .loop .inv .1) (omega arith) (slot-runs (c .before .before .before .before .before .before .before .before .before .edge-of .ensures .0) (c .before .before .before .before .before .before .edge-of2 .ensures .0) (c .before .before .before .edge-of3 .ensures .0) (c .before .before .before .before .before .before .before .before .run-of .ensures) (c .before .before .before .before .before .run-of2 .ensures) (c .before .before .run-of3 .ensures)) _ (c .put-slot .ensures))
-
-returns : tie.Need-returns Inv-loop μ-loop
-returns c = written-all (c .before .loop .inv .1) (omega arith)
+returns : tie.Need-returns
+unfolding linkTable slotEdge
+returns c =
+    let w0 = written-slot {s = 0} (written-none (c .before .before .before .before .before .before .before .before .before .before .before .before .before .before .before .before .before .before .before .before .before .args .c)) (omega arith) (record { of-ab = c .before .before .before .before .before .before .before .before .before .before .before .before .run-of4 .ensures; of-ac = c .before .before .before .before .before .before .before .before .before .before .run-of5 .ensures; of-bc = c .before .before .before .before .before .before .before .before .run-of6 .ensures }) _ (c .before .before .before .before .before .before .put-slot .ensures) in
+    let w1 = written-slot {s = 1} w0 (omega arith) (record { of-ab = c .before .before .before .before .before .before .before .before .before .before .before .before .before .before .before .before .run-of2 .ensures; of-ac = c .before .before .before .before .before .before .before .before .before .before .before .before .before .before .run-of3 .ensures; of-bc = c .before .before .before .before .before .before .before .before .run-of6 .ensures }) _ (c .before .before .before .before .put-slot2 .ensures) in
+    let w2 = written-slot {s = 2} w1 (omega arith) (record { of-ab = c .before .before .before .before .before .before .before .before .before .before .before .before .before .before .before .before .before .before .run-of .ensures; of-ac = c .before .before .before .before .before .before .before .before .before .before .before .before .before .before .run-of3 .ensures; of-bc = c .before .before .before .before .before .before .before .before .before .before .run-of5 .ensures }) _ (c .before .before .put-slot3 .ensures) in
+    let w3 = written-slot {s = 3} w2 (omega arith) (record { of-ab = c .before .before .before .before .before .before .before .before .before .before .before .before .before .before .before .before .before .before .run-of .ensures; of-ac = c .before .before .before .before .before .before .before .before .before .before .before .before .before .before .before .before .run-of2 .ensures; of-bc = c .before .before .before .before .before .before .before .before .before .before .before .before .run-of4 .ensures }) _ (c .put-slot4 .ensures) in
+    written-all {s = 4} w3 (omega arith)
 
 pub routes-of-spec : {M : Type 1} → statement M
 routes-of-spec =
     tie.close
     (tie.spec
-    Inv-loop
-    μ-loop
     firsts-of-requires
-    loop-holds
-    mul-edge-of
-    edge-of-requires
     run-of-requires
-    mul-edge-of-2
-    add-edge-of
-    edge-of-requires-2
     run-of-requires-2
-    mul-edge-of-3
-    add-edge-of-2
-    edge-of-requires-3
     run-of-requires-3
+    run-of-requires-4
+    run-of-requires-5
+    run-of-requires-6
     put-slot-requires
-    add-s
-    loop-less
-    loop-again
+    put-slot-requires-2
+    put-slot-requires-3
+    put-slot-requires-4
     returns)
