@@ -1,10 +1,9 @@
 -- A step from a dart in parts, branch by branch: round the lower end of its edge, round the upper end, or between.
 use Prim.Native.Nat.{ℕ, zero, suc, _+_, _*_, _-_, _%_, _≤_, _<_}
 use mathlib.Core.Path.{_≡_, refl, sym, ap, _∙_}
-use mathlib.Core.Logic.{_≢_}
 use mathlib.Core.Bool.{Bool, true, false}
 use native.Mathlib.Omega.{arith}
-use lib.Dec.{eqb}
+use lib.Dec.{eqb, ltb}
 use Rattle.counting.specs.Pick.{pick}
 use Rattle.slots.specs.Slots.{slotEdge}
 use Rattle.face.specs.Face.{joined, lower, upper, other, corner, count, kth, faceJoin}
@@ -29,29 +28,17 @@ before-lt l = omega arith
 
 -- the k-th crossing from the shared node, on the other edge there: counted from its own lower end, or turned
 module _ (ab ac bc : ℕ) where
-  low-straight : {e : ℕ} → Edge e → e ≢ 2 → (k : ℕ) → kth ab ac bc (lower e) (other (lower e) e) k ≡ k
+  kth-low : {e : ℕ} → Edge e → (k : ℕ) → kth ab ac bc (lower e) (other (lower e) e) k ≡ pick (eqb e 2) (count ab ac bc (other (lower e) e) - 1 - k) k
   unfolding kth lower other
-  low-straight on-ab n k = refl
-  low-straight on-ac n k = refl
-  low-straight on-bc n k = absurd (n refl)
+  kth-low on-ab k = refl
+  kth-low on-ac k = refl
+  kth-low on-bc k = refl
 
-  low-turned : {e : ℕ} → Edge e → e ≡ 2 → (k : ℕ) → kth ab ac bc (lower e) (other (lower e) e) k ≡ count ab ac bc (other (lower e) e) - 1 - k
-  unfolding kth lower other
-  low-turned on-ab n k = absurd (omega arith)
-  low-turned on-ac n k = absurd (omega arith)
-  low-turned on-bc n k = refl
-
-  high-straight : {e : ℕ} → Edge e → e ≡ 0 → (k : ℕ) → kth ab ac bc (upper e) (other (upper e) e) k ≡ k
+  kth-high : {e : ℕ} → Edge e → (k : ℕ) → kth ab ac bc (upper e) (other (upper e) e) k ≡ pick (ltb 0 e) (count ab ac bc (other (upper e) e) - 1 - k) k
   unfolding kth lower upper other
-  high-straight on-ab n k = refl
-  high-straight on-ac n k = absurd (omega arith)
-  high-straight on-bc n k = absurd (omega arith)
-
-  high-turned : {e : ℕ} → Edge e → e ≢ 0 → (k : ℕ) → kth ab ac bc (upper e) (other (upper e) e) k ≡ count ab ac bc (other (upper e) e) - 1 - k
-  unfolding kth lower upper other
-  high-turned on-ab n k = absurd (n refl)
-  high-turned on-ac n k = refl
-  high-turned on-bc n k = refl
+  kth-high on-ab k = refl
+  kth-high on-ac k = refl
+  kth-high on-bc k = refl
 
   kth-lt : (v e k : ℕ) → k < count ab ac bc e → kth ab ac bc v e k < count ab ac bc e
   unfolding kth
@@ -165,25 +152,17 @@ module _ (w : Edges) where
     unfolding joinOn
     join-face = refl
 
-    module _ (b : t < cornerOf w (lower j) h) where
-      round-low : Reach w h x (around (lower j) h) (kth (ab h) (ac h) (bc h) (lower j) (other (lower j) j) t)
-      round-low = round t (low (own h l)) b (join-face ∙ face-low (corners h l) t b)
+    -- the k-th from its lower or its upper end
+    pub turn-low : t < cornerOf w (lower j) h → Reach w h x (around (lower j) h) (pick (eqb j 2) (w .count (edgeOf (around (lower j) h)) - 1 - t) t)
+    turn-low b =
+        rw (kth-low (ab h) (ac h) (bc h) (own h l) t, next-count h l (lower j) (low (own h l)))
+        at (round t (low (own h l)) b (join-face ∙ face-low (corners h l) t b))
 
-      pub low-on : j ≢ 2 → Reach w h x (around (lower j) h) t
-      low-on n = rw (low-straight (ab h) (ac h) (bc h) (own h l) n t) at round-low
-
-      pub low-over : j ≡ 2 → Reach w h x (around (lower j) h) (w .count (edgeOf (around (lower j) h)) - 1 - t)
-      low-over n = rw (low-turned (ab h) (ac h) (bc h) (own h l) n t, next-count h l (lower j) (low (own h l))) at round-low
-
-    module _ (b : w .count (edgeOf h) - 1 - t < cornerOf w (upper j) h) where
-      round-high : Reach w h x (around (upper j) h) (kth (ab h) (ac h) (bc h) (upper j) (other (upper j) j) (w .count (edgeOf h) - 1 - t))
-      round-high = round (w .count (edgeOf h) - 1 - t) (high (own h l)) b (join-face ∙ face-high (corners h l) t (P .index-lt) (omega arith))
-
-      pub high-on : j ≡ 0 → Reach w h x (around (upper j) h) (w .count (edgeOf h) - 1 - t)
-      high-on n = rw (high-straight (ab h) (ac h) (bc h) (own h l) n (w .count (edgeOf h) - 1 - t)) at round-high
-
-      pub high-over : j ≢ 0 → Reach w h x (around (upper j) h) (w .count (edgeOf (around (upper j) h)) - 1 - (w .count (edgeOf h) - 1 - t))
-      high-over n = rw (high-turned (ab h) (ac h) (bc h) (own h l) n (w .count (edgeOf h) - 1 - t), next-count h l (upper j) (high (own h l))) at round-high
+    pub turn-high : (k : ℕ) → k ≡ w .count (edgeOf h) - 1 - t → k < cornerOf w (upper j) h
+        → Reach w h x (around (upper j) h) (pick (ltb 0 j) (w .count (edgeOf (around (upper j) h)) - 1 - k) k)
+    turn-high k e b =
+        rw (kth-high (ab h) (ac h) (bc h) (own h l) k, next-count h l (upper j) (high (own h l)))
+        at (round k (high (own h l)) b (join-face ∙ rw e (face-high (corners h l) t (P .index-lt) (omega arith))))
 
     -- past both corners: neighbours in pairs, down from the upper one
     module _ (a : cornerOf w (lower j) h ≤ t) (b : t + cornerOf w (upper j) h < w .count (edgeOf h)) where

@@ -30,7 +30,7 @@ use Rattle.cell.specs.declared.Run.{Run}
 use Rattle.cell.specs.Cell.{Edges, ahead, base, number, holds, crossings}
 use Rattle.cell.specs.Of.{countOf, startOf, edgesOf}
 use Rattle.cell.specs.Half.{halfEdges, slotOf, placeOf, edgeOf, halfOf, twin, around}
-use Rattle.cell.specs.Route.{cornerOf, front, fronts, links, Firsts, IsRun, SlotRuns, Routed, mostCount, mostInCell, startLimit}
+use Rattle.cell.specs.Route.{columns, lowAt, highAt, countAt, firstAt, startAt, roundLowAt, roundHighAt, twinAt, placeAt, cornerOf, front, fronts, links, Firsts, IsRun, SlotRuns, Routed, mostCount, mostInCell, startLimit}
 use Rattle.cell.proofs.Lay.{base-all, laid-same}
 use Rattle.cell.proofs.Half.{edge-lt, half-slot, half-place, half-edge, first-half}
 
@@ -210,47 +210,47 @@ module _ {c : Cell} {t : List ℕ} (R : Routed c t) where
   w = edgesOf c
 
   module _ (h : ℕ) (l : h < halfEdges) where
-    pub low-at : getD t (9 * h) 0 ≡ cornerOf w (lower (placeOf h)) h
+    pub low-at : getD t (columns * h + lowAt) 0 ≡ cornerOf w (lower (placeOf h)) h
     unfolding front
-    low-at = let z : 9 * h + 0 ≡ 9 * h = omega arith in rw (← z) (R .counted h 0 l (omega arith))
+    low-at = R .counted h lowAt l (omega arith)
 
-    pub high-at : getD t (9 * h + 1) 0 ≡ cornerOf w (upper (placeOf h)) h
+    pub high-at : getD t (columns * h + highAt) 0 ≡ cornerOf w (upper (placeOf h)) h
     unfolding front
     high-at = R .counted h 1 l (omega arith)
 
-    pub count-at : getD t (9 * h + 2) 0 ≡ w .count (edgeOf h)
+    pub count-at : getD t (columns * h + countAt) 0 ≡ w .count (edgeOf h)
     unfolding front
     count-at = R .counted h 2 l (omega arith)
 
-    pub first-at : getD t (9 * h + 3) 0 ≡ base w (edgeOf h)
+    pub first-at : getD t (columns * h + firstAt) 0 ≡ base w (edgeOf h)
     unfolding front
     first-at = R .counted h 3 l (omega arith)
 
-    pub start-at : getD t (9 * h + 4) 0 ≡ startOf c (edgeOf h)
+    pub start-at : getD t (columns * h + startAt) 0 ≡ startOf c (edgeOf h)
     unfolding front
     start-at = R .counted h 4 l (omega arith)
 
     pub start-near : startOf c (edgeOf h) < startLimit
     start-near = R .near (edgeOf h) (edge-lt h l)
 
-    pub low-next-at : getD t (9 * h + 5) 0 ≡ around (lower (placeOf h)) h
+    pub low-next-at : getD t (columns * h + roundLowAt) 0 ≡ around (lower (placeOf h)) h
     unfolding links
     low-next-at = R .linked h 0 l (omega arith)
 
-    pub high-next-at : getD t (9 * h + 6) 0 ≡ around (upper (placeOf h)) h
+    pub high-next-at : getD t (columns * h + roundHighAt) 0 ≡ around (upper (placeOf h)) h
     unfolding links
     high-next-at = R .linked h 1 l (omega arith)
 
-    pub twin-at : getD t (9 * h + 7) 0 ≡ twin h
+    pub twin-at : getD t (columns * h + twinAt) 0 ≡ twin h
     unfolding links
     twin-at = R .linked h 2 l (omega arith)
 
-    pub place-at : getD t (9 * h + 8) 0 ≡ placeOf h
+    pub place-at : getD t (columns * h + placeAt) 0 ≡ placeOf h
     unfolding links
     place-at = R .linked h 3 l (omega arith)
 
     -- all of an edge's crossings are among those of the cell
-    pub fits-all : getD t (9 * h + 3) 0 + getD t (9 * h + 2) 0 ≤ mostInCell
+    pub fits-all : getD t (columns * h + firstAt) 0 + getD t (columns * h + countAt) 0 ≤ mostInCell
     fits-all = omega (arith, first-at, count-at, base-all w (edgeOf h) (edge-lt h l), R .few)
 
     pub fits : (u : ℕ) → u < w .count (edgeOf h) → number w (edgeOf h) u < mostInCell

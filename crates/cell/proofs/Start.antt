@@ -16,7 +16,7 @@ use Rattle.cell.specs.declared.Dart.{Dart}
 use Rattle.cell.specs.Cell.{Edges, base, crossings, holds, edge, index}
 use Rattle.cell.specs.Of.{edgesOf}
 use Rattle.cell.specs.Half.{halfEdges, slotOf, edgeOf, halfOf}
-use Rattle.cell.specs.Route.{Routed}
+use Rattle.cell.specs.Route.{columns, countAt, firstAt, Routed}
 use Rattle.cell.specs.Walked.{Located, Starts}
 use Rattle.cell.proofs.Lay.{lay}
 use Rattle.cell.proofs.Half.{first-half}
@@ -25,17 +25,17 @@ use Rattle.cell.proofs.Route.{count-at, first-at}
 
 -- what is read there tells whether crossing p is one of edge e
 module _ {c : Cell} {t : List ℕ} (R : Routed c t) (e p : ℕ) {h : ℕ} (le : e < 6) (q : h ≡ halfOf (firstSlot e) e) (l : h < halfEdges) where
-  first-is : getD t (9 * h + 3) 0 ≡ base (edgesOf c) e
+  first-is : getD t (columns * h + firstAt) 0 ≡ base (edgesOf c) e
   first-is = first-at R h l ∙ ap (base (edgesOf c)) (first-half le q .0)
 
-  count-is : getD t (9 * h + 2) 0 ≡ edgesOf c .count e
+  count-is : getD t (columns * h + countAt) 0 ≡ edgesOf c .count e
   count-is = count-at R h l ∙ ap (edgesOf c .count) (first-half le q .0)
 
-  pub not-on : p < getD t (9 * h + 3) 0 → false ≡ holds (edgesOf c) p e
+  pub not-on : p < getD t (columns * h + firstAt) 0 → false ≡ holds (edgesOf c) p e
   unfolding holds
   not-on b = rw (lt-leb (base (edgesOf c) e) p (omega (arith, first-is)))
 
-  pub may-on : getD t (9 * h + 3) 0 ≤ p → ltb p (getD t (9 * h + 3) 0 + getD t (9 * h + 2) 0) ≡ holds (edgesOf c) p e
+  pub may-on : getD t (columns * h + firstAt) 0 ≤ p → ltb p (getD t (columns * h + firstAt) 0 + getD t (columns * h + countAt) 0) ≡ holds (edgesOf c) p e
   unfolding holds
   may-on b = rw (le-leb (base (edgesOf c) e) p (omega (arith, first-is)), first-is, count-is)
 
@@ -59,12 +59,12 @@ module _ {c : Cell} {t : List ℕ} {p e : ℕ} (L : Located c t p e) where
   pub located-lt : e < 6
   located-lt = rw (L .is) (lay (edgesOf c) .edge-lt p (L .inside))
 
-  pub located-first : {h : ℕ} → h ≡ halfOf (firstSlot e) e → h < halfEdges → getD t (9 * h + 3) 0 ≤ p
+  pub located-first : {h : ℕ} → h ≡ halfOf (firstSlot e) e → h < halfEdges → getD t (columns * h + firstAt) 0 ≤ p
   located-first q l = omega (arith, first-is (L .routed) e p located-lt q l, ap (base (edgesOf c)) (L .is), lay (edgesOf c) .back p (L .inside))
 
 -- the first dart of a crossing of edge e
 pub starts : {c : Cell} {t : List ℕ} {p e : ℕ} → Located c t p e → (h : ℕ) → h ≡ halfOf (firstSlot e) e → h < halfEdges
-    → (d : Dart) → d .half ≡ h → d .index ≡ p - getD t (9 * h + 3) 0 → d .number ≡ p → Starts (edgesOf c) p d
+    → (d : Dart) → d .half ≡ h → d .index ≡ p - getD t (columns * h + firstAt) 0 → d .number ≡ p → Starts (edgesOf c) p d
 unfolding index
 starts {c} {t} {p} {e} L h q l d dh dt dp =
     let w = edgesOf c in

@@ -1,10 +1,10 @@
 -- Darts in parts: the crossing with index t on the edge of half-edge h, which is crossing x of the cell, left by h.
 use Prim.Native.Nat.{ℕ, _+_, _*_, _-_, _≤_, _<_}
 use mathlib.Core.Path.{_≡_}
-use mathlib.Core.Bool.{not}
+use mathlib.Core.Bool.{Bool, not}
 use mathlib.Core.List.{List}
 use lib.Dec.{eqb}
-use Rattle.counting.specs.Pick.{one}
+use Rattle.counting.specs.Pick.{pick, one}
 use Rattle.slots.specs.Slots.{firstSlot}
 use Rattle.face.specs.Face.{lower, upper}
 use Rattle.cell.specs.declared.Cell.{Cell}
@@ -39,11 +39,6 @@ pub record Ready (c : Cell) (t : List ℕ) (d : Dart) : Type 0 where
   pub routed : Routed c t
   pub dart : IsDart (edgesOf c) d
 
--- the dart is the k-th crossing from the upper end of its edge, below the corner count there
-pub record FromUpper (w : Edges) (d : Dart) (k : ℕ) : Type 0 where
-  pub is : k ≡ w .count (edgeOf (d .half)) - 1 - d .index
-  pub below : k < cornerOf w (upper (placeOf (d .half))) (d .half)
-
 -- the dart is below neither corner count
 pub record Between (w : Edges) (d : Dart) : Type 0 where
   pub low : cornerOf w (lower (placeOf (d .half))) (d .half) ≤ d .index
@@ -56,6 +51,12 @@ dartNumber h x = 2 * x + one (not (eqb (firstSlot (edgeOf h)) (slotOf h)))
 
 abbrev pub dartOf : Dart → ℕ
 dartOf d = dartNumber (d .half) (d .number)
+
+-- a step leads from dart d round an end of its edge to the edge of half-edge g, to the k-th crossing from its lower end or, if `over`, from its upper
+pub record Turns (w : Edges) (d : Dart) (g k : ℕ) (over : Bool) : Type 0 where
+  pub half-lt : g < halfEdges
+  pub room : k < w .count (edgeOf g)
+  pub is : step w (dartOf d) ≡ dartNumber g (number w (edgeOf g) (pick over (w .count (edgeOf g) - 1 - k) k))
 
 -- a step leads from dart d to dart r
 pub record Leads (w : Edges) (d r : Dart) : Type 0 where
