@@ -13,5 +13,7 @@ pub mod Segments
 pub mod Follow
 pub mod Leasts
 pub mod Three
+pub mod Nodes
+pub mod Turn
 pub mod Claims
 pub mod Examples

@@ -16,7 +16,8 @@ use Rattle.counting.specs.Pick.{pick, one}
 use Rattle.counting.specs.Range.{total, over, after, before}
 use Rattle.counting.specs.Lists.{tally}
 use Rattle.counting.proofs.Range.{total-ext, total-next, total-round, before-after, after-last, after-on, after-lt, over-next, over-none}
-use Rattle.slots.specs.Slots.{place}
+use Rattle.slots.specs.Slots.{place, firstSlot}
+use Rattle.slots.proofs.Slots.{two-slots}
 use Rattle.walk.specs.Iterate.{it}
 use Rattle.walk.specs.Darts.{Loop, half, rev}
 use Rattle.walk.specs.Walk as walk
@@ -30,11 +31,13 @@ use Rattle.cell.specs.Cell.{Edges, crossings, edge, slot, first, second,
 use Rattle.cell.specs.Loop.{loopSize, dart, loopDarts, folded, normal, parity, inGrid, typeBy, typeOf, leasts, answerOf, loopAnswer}
 use Rattle.cell.specs.Of.{edgesOf}
 use Rattle.cell.specs.Half.{halfEdges, edgeOf, halfOf, halfEdge}
+use Rattle.cell.specs.Dart.{dartNumber}
 use Rattle.cell.specs.Walked.{Recorded, Looped}
 use Rattle.cell.specs.Answer.{typeNumbers, loopNumbers}
 use Rattle.cell.specs.Round.{HalfEdges, foldsIn, crossesIn}
 use Rattle.cell.proofs.Half as halves
-use Rattle.cell.proofs.Step.{step-is}
+use Rattle.cell.proofs.Lay.{lay}
+use Rattle.cell.proofs.Step.{number-first, number-second, slot-first, slot-second, step-is}
 use Rattle.cell.proofs.Mates.{slot-has, ports, darts, laws}
 
 -- a sum of k ones and zeros on the way
@@ -93,6 +96,24 @@ module _ (w : Edges) where
         let P = ports w in
         let m = walks.live N (first w) (second w) (mate w) P d h in
         λ e. P .other d l (sym (ap (λ n. n / 2) (step-is w d) ∙ walks.land-half N (first w) (second w) (mate w) (slot w d) (mate w (slot w d) (d / 2)) m) ∙ e)
+
+  -- a dart is the one of its crossing that leaves by its half-edge
+  pub dart-number : (d : ℕ) → d < 2 * N → dartNumber (halfEdge w d) (d / 2) ≡ d
+  dart-number = walks.by-parity N (λ d. dartNumber (halfEdge w d) (d / 2) ≡ d)
+      (λ x l.
+      let d = 2 * x in
+      let e : d / 2 ≡ x = omega arith in
+      rw e (number-first (halfEdge w d) x (ap firstSlot (half-edge d (omega arith) ∙ ap (edge w) e) ∙ sym (half-slot d (omega arith) ∙ slot-first w x))))
+      (λ x l.
+      let d = 2 * x + 1 in
+      let e : d / 2 ≡ x = omega arith in
+      rw e (number-second (halfEdge w d) x (λ q. omega (
+        arith,
+        q,
+        ap firstSlot (half-edge d (omega arith) ∙ ap (edge w) e),
+        half-slot d (omega arith) ∙ slot-second w x,
+        two-slots (edge w x) (lay w .edge-lt x l) .apart,
+      ))))
 
   module _ (p : ℕ) (l : p < N) where
     -- a loop that is found

@@ -1,4 +1,4 @@
--- What is proved of the loops of a cell, for all counts.
+-- What is proved of the loops of a cell, for all counts and first numbers.
 use Prim.Native.Nat.{ℕ, _+_, _*_, _/_, _≤_, _<_}
 use mathlib.Core.Path.{_≡_}
 use mathlib.Core.Logic.{_⊎_, _≢_}

@@ -36,15 +36,18 @@ alone a b c d e f loops points = record {
 }
 
 -- a cell of some grid
-unfoldable pub among : (counts : List ℕ) (crossings : ℕ) (loops points : List (List ℕ)) → Example
-among counts n loops points = record {
+unfoldable pub among : (counts starts : List ℕ) (crossings : ℕ) (loops points : List (List ℕ)) → Example
+among counts starts n loops points = record {
   counts = counts;
-  starts = 10 ∷ 20 ∷ 30 ∷ 40 ∷ 50 ∷ 60 ∷ [];
+  starts = starts;
   nodes = 4 ∷ 7 ∷ 9 ∷ 11 ∷ [];
   crossings = n;
   loops = loops;
   points = points;
 }
+
+abbrev rising : List ℕ
+rising = 10 ∷ 20 ∷ 30 ∷ 40 ∷ 50 ∷ 60 ∷ []
 
 abbrev no : List ℕ
 no = result []
@@ -64,8 +67,11 @@ examples =
     ∷ alone 1 0 1 1 0 1 (result (0 ∷ 4 ∷ 1 ∷ 2 ∷ 2 ∷ []) ∷ no ∷ []) ((0 ∷ 2 ∷ 3 ∷ 1 ∷ []) ∷ [])
     ∷ alone 1 1 0 0 1 1 (result (0 ∷ 4 ∷ 1 ∷ 2 ∷ 3 ∷ []) ∷ no ∷ []) ((0 ∷ 1 ∷ 3 ∷ 2 ∷ []) ∷ [])
     -- the numbers of crossings and nodes are those of the grid
-    ∷ among (0 ∷ 1 ∷ 1 ∷ 1 ∷ 1 ∷ 0 ∷ []) 4 (result (20 ∷ 4 ∷ 1 ∷ 2 ∷ 7 ∷ []) ∷ no ∷ []) ((20 ∷ 40 ∷ 50 ∷ 30 ∷ []) ∷ [])
-    ∷ among (1 ∷ 1 ∷ 1 ∷ 0 ∷ 0 ∷ 0 ∷ []) 3 (result (10 ∷ 3 ∷ 1 ∷ 3 ∷ 4 ∷ []) ∷ no ∷ []) ((10 ∷ 20 ∷ 30 ∷ []) ∷ [])
+    ∷ among (0 ∷ 1 ∷ 1 ∷ 1 ∷ 1 ∷ 0 ∷ []) rising 4 (result (20 ∷ 4 ∷ 1 ∷ 2 ∷ 7 ∷ []) ∷ no ∷ []) ((20 ∷ 40 ∷ 50 ∷ 30 ∷ []) ∷ [])
+    ∷ among (1 ∷ 1 ∷ 1 ∷ 0 ∷ 0 ∷ 0 ∷ []) rising 3 (result (10 ∷ 3 ∷ 1 ∷ 3 ∷ 4 ∷ []) ∷ no ∷ []) ((10 ∷ 20 ∷ 30 ∷ []) ∷ [])
+    -- first numbers that do not rise: p0 is the least number, and the loops are ordered by it
+    ∷ among (2 ∷ 2 ∷ 2 ∷ 0 ∷ 0 ∷ 0 ∷ []) (20 ∷ 30 ∷ 10 ∷ 40 ∷ 40 ∷ 40 ∷ []) 6
+    (result (10 ∷ 3 ∷ 1 ∷ 3 ∷ 4 ∷ []) ∷ result (11 ∷ 3 ∷ 1 ∷ 3 ∷ 4 ∷ []) ∷ no ∷ []) ((10 ∷ 20 ∷ 30 ∷ []) ∷ (11 ∷ 21 ∷ 31 ∷ []) ∷ [])
     ∷ []
 
 -- what the definitions say of a cell, and what stands in the table

@@ -1,4 +1,4 @@
--- What a walk along a loop is given, and what it leaves.
+-- Only contracts of parts cite this file. What a walk along a loop is given, and what it leaves.
 use Prim.Native.Nat.{ℕ, _+_, _*_, _/_, _≤_, _<_}
 use mathlib.Core.Path.{_≡_}
 use mathlib.Core.List.{List}
