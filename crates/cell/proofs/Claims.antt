@@ -1,33 +1,35 @@
 -- The laws of a cell's loops, together.
-use Prim.Native.Nat.{ℕ, _*_, _/_, _≤_, _<_}
+use Prim.Native.Nat.{ℕ, _+_, _*_, _/_, _≤_, _<_}
 use mathlib.Core.Path.{_≡_, refl, sym, ap, _∙_}
 use mathlib.Core.Logic.{⊎-elim}
 use mathlib.Core.Bool.{Bool, true, false}
 use mathlib.Core.List.{List, [], _∷_}
 use native.Mathlib.Nat.{eq-or-lt-of-le}
 use native.Mathlib.Omega.{arith}
+use native.Mathlib.Decide.{decLt, ℕ-discrete}
 use lib.Dec.{eqb}
 use lib.ListN.{getD}
 use borrow.Author.Tests.{eqb-false, ne-eqb}
 use Rattle.counting.specs.Pick.{pick, one}
-use Rattle.counting.proofs.Pack.{row-lt, col-lt, later}
 use Rattle.cell.specs.declared.LoopType.{LoopType}
 use Rattle.cell.specs.declared.LoopType.the-variants.{Contractible, Corner, Diagonal, LowestCorner}
 use Rattle.cell.specs.declared.Loop.{Loop}
 use Rattle.cell.specs.declared.Loop.the-variants.{Found, Nothing}
-use Rattle.cell.specs.Cell.{crossings, edge, index}
+use Rattle.cell.specs.Cell.{Edges, base, crossings, edge, index}
 use Rattle.cell.specs.Loop.{loopSize, dart, inGrid, leasts}
 use Rattle.cell.specs.Answer.{typeNumbers, loopNumbers}
-use Rattle.cell.specs.Claims.{OneToOne, CellLaws, Rising, Ordered}
+use Rattle.cell.specs.Claims.{OneToOne, CellLaws, Separate, Ordered}
+use Rattle.cell.proofs.Lay.{lay, lower-numbers}
 use Rattle.cell.proofs.Mates.{ports, darts, laws}
 use Rattle.cell.proofs.Loops.{the-loop, dart-live, size-le, size-two}
 use Rattle.cell.proofs.Follow.{step-of, goes-on, along-most, along-once}
 use Rattle.cell.proofs.Leasts.{kept-is, kept-rise, kept-all}
 use Rattle.cell.proofs.Three.{three-normal, three-corner}
 
-pub cellLaws : (w start : ℕ → ℕ) (v : List ℕ) → CellLaws w start v
+pub cellLaws : (w : Edges) (v : List ℕ) → CellLaws w v
 unfolding dart leasts
-cellLaws w start v = record {
+cellLaws w v = record {
+  lay = lay w;
   ports = ports w;
   darts = darts w;
   walks = laws w;
@@ -39,39 +41,54 @@ cellLaws w start v = record {
   most = along-most w;
   exactly = λ all s x L. along-once w s x L (all s x L) all;
   three-normal = three-normal w;
-  three-corner = λ p l e. three-corner w p l e start v;
+  three-corner = λ p l e. three-corner w p l e v;
   rising = kept-rise none (crossings w) 0;
-  listed = λ i l. let K = kept-is none (crossings w) 0 i l in (omega (arith, K .high), omega (arith, eqb-false (loopSize w (getD (leasts w start v) i 0)) 0 (K .fails)));
+  listed = λ i l. let K = kept-is none (crossings w) 0 i l in (omega (arith, K .high), omega (arith, eqb-false (loopSize w (getD (leasts w) i 0)) 0 (K .fails)));
   all = λ p l h. kept-all none (crossings w) 0 p (omega arith) (omega arith) (ne-eqb (loopSize w p) 0 (λ e. omega arith));
 }
   where
     none : ℕ → Bool
     none p = eqb (loopSize w p) 0
 
--- where the numbers rise from edge to edge
-module _ (w start : ℕ → ℕ) (v : List ℕ) (R : Rising w start) where
-  numbers : (x y : ℕ) → x < y → y < crossings w → inGrid w start v x < inGrid w start v y
+-- where no crossing number belongs to two edges
+module _ (w : Edges) (S : Separate w) where
+  numbers : (x y : ℕ) → x < y → y < crossings w → inGrid w x < inGrid w y
   unfolding inGrid
-  numbers x y h l =
-      ⊎-elim
-      (λ (r : edge w x < edge w y). omega (arith, R (edge w x) (edge w y) r (row-lt w 6 y l), col-lt w 6 x (omega arith)))
-      (λ (r : (edge w x ≡ edge w y) × (index w x < index w y)). omega (arith, r .1, ap start (r .0)))
-      (later w 6 x y h l)
+  numbers x y h ly =
+      let lx : x < crossings w = omega arith in
+      let ix = lay w .index-lt x lx in
+      let iy = lay w .index-lt y ly in
+      elim (ℕ-discrete (edge w x) (edge w y)) [
+        | yes e ↦ omega (arith, lay w .back x lx, lay w .back y ly, ap (base w) e, ap (w .start) e)
+        | no n ↦ ⊎-elim
+            (λ a. omega (arith, ix, lower-numbers w S (edge w x) (edge w y) (lay w .edge-lt x lx) (lay w .edge-lt y ly) n (omega (arith, ix)) (omega (arith, iy)) a))
+            (λ r. absurd (n (r .0))) (lay w .later x y h ly)
+      ]
 
-  numbers-le : (x y : ℕ) → x ≤ y → y < crossings w → inGrid w start v x ≤ inGrid w start v y
-  numbers-le x y h l =
-      ⊎-elim (λ (e : x ≡ y). omega (arith, ap (inGrid w start v) e)) (λ (g : x < y). omega (arith, numbers x y g l)) (eq-or-lt-of-le h)
+  numbers-le : (x y : ℕ) → x ≤ y → y < crossings w → inGrid w x ≤ inGrid w y
+  numbers-le x y h l = ⊎-elim (λ (e : x ≡ y). omega (arith, ap (inGrid w) e)) (λ (g : x < y). omega (arith, numbers x y g l)) (eq-or-lt-of-le h)
 
-  lowest : (p k : ℕ) → p < crossings w → k < loopSize w p → p ≤ dart w p k / 2
-  unfolding dart loopSize
-  lowest p k l h = omega (arith, laws w .found p l (omega arith) .1 (dart w p k / 2) (record { at = k; at-lt = h; is = refl }))
+lowest : (w : Edges) (p k : ℕ) → p < crossings w → k < loopSize w p → p ≤ dart w p k / 2
+unfolding dart loopSize
+lowest w p k l h = omega (arith, laws w .found p l (omega arith) .1 (dart w p k / 2) (record { at = k; at-lt = h; is = refl }))
 
 pub ordered : Ordered
-ordered w start v R = record {
-  numbers = numbers w start v R;
-  least = λ p k l h. numbers-le w start v R p (dart w p k / 2) (lowest w start v R p k l h) (omega (arith, dart-live w p l k h));
-  ordered = λ i j l h. numbers w start v R (getD (leasts w start v) i 0) (getD (leasts w start v) j 0) (cellLaws w start v .rising i j l h) (cellLaws w start v .listed j h .0);
+ordered w S = record {
+  numbers = numbers w S;
+  least = λ p k l h. numbers-le w S p (dart w p k / 2) (lowest w p k l h) (omega (arith, dart-live w p l k h));
+  ordered = λ i j l h. numbers w S (getD (leasts w) i 0) (getD (leasts w) j 0) (cellLaws w [] .rising i j l h) (cellLaws w [] .listed j h .0);
 }
+
+-- where the numbers of an edge are below those of each later one
+pub rising-separate : (w : Edges) → ((j k : ℕ) → j < k → k < 6 → w .start j + w .count j ≤ w .start k) → Separate w
+rising-separate w R j k t u lj lk lt lu e =
+    elim (ℕ-discrete j k) [
+      | yes q ↦ q
+      | no n ↦ elim (decLt j k) [
+        | yes h ↦ absurd (omega (arith, R j k h lk))
+        | no h ↦ absurd (omega (arith, R k j (omega (arith, n)) lj))
+      ]
+    ]
 
 -- the type with these numbers
 typeWith : List ℕ → LoopType

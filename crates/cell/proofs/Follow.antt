@@ -7,14 +7,14 @@ use native.Mathlib.Omega.{arith}
 use lib.Dec.{eqb}
 use borrow.Author.Tests.{eqb-true, eqb-false, eq-eqb}
 use Rattle.counting.specs.Lists.{tally}
-use Rattle.counting.proofs.Pack.{row-lt}
 use Rattle.slots.specs.Slots.{place, contains, firstSlot, secondSlot}
 use Rattle.slots.proofs.Slots.{EdgeSlot, edge-slot, one-of-two, two-slots, slot-edge}
 use Rattle.walk.specs.Darts.{half, rev}
 use Rattle.walk.specs.Walk.{flat}
 use Rattle.walk.proofs.Step as walks
-use Rattle.cell.specs.Cell.{crossings, edge, mate, first, second, slot, step}
+use Rattle.cell.specs.Cell.{Edges, crossings, edge, mate, first, second, slot, step}
 use Rattle.cell.specs.Claims.{Lies, Joined, AllJoined, along, StepOf}
+use Rattle.cell.proofs.Lay.{lay}
 use Rattle.cell.proofs.Step.{step-is, slot-first, slot-second}
 use Rattle.cell.proofs.Mates.{slot-has, ports, darts, mate-cases, mate-unjoined, joined-lt}
 use Rattle.cell.proofs.Segments.{tally-ext, segment-most, segment-once}
@@ -22,15 +22,15 @@ use Rattle.cell.proofs.Segments.{tally-ext, segment-most, segment-once}
 pub contained : {k s : ℕ} → EdgeSlot k s → contains k s ≡ true
 contained {k} {s} S = rw (S .edge-is) at (slot-edge s (place s k) (S .lt) (S .place-lt) .within)
 
-module _ (w : ℕ → ℕ) where
+module _ (w : Edges) where
   abbrev N : ℕ
   N = crossings w
 
   -- the two darts of a crossing leave by its two slots
   slots-apart : (d : ℕ) → d < 2 * N → slot w (rev d) ≢ slot w d
   slots-apart = walks.by-parity N (λ d. slot w (rev d) ≢ slot w d)
-      (λ x l e. omega (arith, two-slots (edge w x) (row-lt w 6 x l) .apart, rw (walks.rev-first x, slot-second w x, slot-first w x) at e))
-      (λ x l e. omega (arith, two-slots (edge w x) (row-lt w 6 x l) .apart, rw (walks.rev-second x, slot-second w x, slot-first w x) at e))
+      (λ x l e. omega (arith, two-slots (edge w x) (lay w .edge-lt x l) .apart, rw (walks.rev-first x, slot-second w x, slot-first w x) at e))
+      (λ x l e. omega (arith, two-slots (edge w x) (lay w .edge-lt x l) .apart, rw (walks.rev-second x, slot-second w x, slot-first w x) at e))
 
   lies-at : (d : ℕ) → d < 2 * N → Lies w (slot w d) (d / 2)
   lies-at d l = record { slot-lt = slot-has w d l .lt; inside = omega arith; on = contained (slot-has w d l) }
@@ -76,7 +76,7 @@ module _ (w : ℕ → ℕ) where
   -- a crossing that lies on a slot and is joined there goes on
   module _ (s x : ℕ) (L : Lies w s x) where
     edge-lt : edge w x < 6
-    edge-lt = row-lt w 6 x (L .inside)
+    edge-lt = lay w .edge-lt x (L .inside)
 
     here : EdgeSlot (edge w x) s
     here = edge-slot (edge w x) s edge-lt (L .slot-lt) (L .on)

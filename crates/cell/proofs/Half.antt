@@ -1,6 +1,6 @@
 -- What holds of every half-edge: one computed test, lifted to any of them.
 use Prim.Native.Nat.{ℕ, _+_, _*_, _<_}
-use mathlib.Core.Path.{_≡_, refl}
+use mathlib.Core.Path.{_≡_, refl, _∙_}
 use mathlib.Core.Logic.{_≢_}
 use mathlib.Core.Bool.{Bool, true, false, not, _&&_}
 use native.Mathlib.Omega.{arith}
@@ -13,8 +13,8 @@ use Rattle.counting.specs.Search.{every}
 use Rattle.counting.proofs.Bools.{and-left, and-right}
 use Rattle.counting.proofs.Search.{every-is}
 use Rattle.slots.specs.Slots.{slotEdge, place, contains, firstSlot}
-use Rattle.slots.proofs.Slots.{slot-edge}
-use Rattle.cell.specs.Half.{halfEdges, slotOf, placeOf, edgeOf, twin}
+use Rattle.slots.proofs.Slots.{slot-edge, first-slot}
+use Rattle.cell.specs.Half.{halfEdges, slotOf, placeOf, edgeOf, halfOf, twin}
 
 -- the half-edge that follows lies in the other slot of the same edge: the first if this one lies in the second
 twinTest : ℕ → Bool
@@ -79,6 +79,13 @@ half-place s j l = omega arith
 pub half-edge : (s j : ℕ) → j < 3 → edgeOf (3 * s + j) ≡ slotEdge s j
 unfolding edgeOf
 half-edge s j l = rw (half-slot s j l, half-place s j l)
+
+-- the half-edge of edge e in its first slot
+pub first-half : {e h : ℕ} → e < 6 → h ≡ halfOf (firstSlot e) e → (edgeOf h ≡ e) × (slotOf h ≡ firstSlot e) × (h < halfEdges)
+unfolding halfOf
+first-half {e} {h} le q =
+    let S = first-slot e le in
+    (rw q (half-edge (firstSlot e) (place (firstSlot e) e) (S .place-lt) ∙ S .edge-is), rw q (half-slot (firstSlot e) (place (firstSlot e) e) (S .place-lt)), omega (arith, q, S .place-lt, S .lt))
 
 -- a table of m entries that pass the test is right at each, and its entries are below the bound
 pub entry : (m : ℕ) (f : ℕ → ℕ) (n : ℕ) (l : List ℕ) → every (λ i. eqb (getD l i 0) (f i) && ltb (getD l i 0) n) m ≡ true

@@ -1,9 +1,11 @@
+pub mod Lay
 pub mod Half
 pub mod Step
 pub mod Reach
 pub mod Route
 pub mod Ready
 pub mod Mates
+pub mod Start
 pub mod Walking
 pub mod Recording
 pub mod Loops
@@ -11,5 +13,7 @@ pub mod Segments
 pub mod Follow
 pub mod Leasts
 pub mod Three
+pub mod Nodes
+pub mod Turn
 pub mod Claims
 pub mod Examples

@@ -16,7 +16,8 @@ use Rattle.counting.specs.Pick.{pick, one}
 use Rattle.counting.specs.Range.{total, over, after, before}
 use Rattle.counting.specs.Lists.{tally}
 use Rattle.counting.proofs.Range.{total-ext, total-next, total-round, before-after, after-last, after-on, after-lt, over-next, over-none}
-use Rattle.slots.specs.Slots.{place}
+use Rattle.slots.specs.Slots.{place, firstSlot}
+use Rattle.slots.proofs.Slots.{two-slots}
 use Rattle.walk.specs.Iterate.{it}
 use Rattle.walk.specs.Darts.{Loop, half, rev}
 use Rattle.walk.specs.Walk as walk
@@ -26,15 +27,17 @@ use Rattle.walk.proofs.Iterate.{tally-orbit, it-suc}
 use Rattle.cell.specs.declared.Cell.{Cell}
 use Rattle.cell.specs.declared.LoopType.{LoopType}
 use Rattle.cell.specs.declared.Loop.the-variants.{Found}
-use Rattle.cell.specs.Cell.{crossings, edge, slot, first, second, mate, step}
+use Rattle.cell.specs.Cell.{Edges, crossings, edge, slot, first, second, mate, step}
 use Rattle.cell.specs.Loop.{loopSize, dart, loopDarts, folded, normal, parity, inGrid, typeBy, typeOf, leasts, answerOf, loopAnswer}
-use Rattle.cell.specs.Of.{countOf, startOf}
+use Rattle.cell.specs.Of.{edgesOf}
 use Rattle.cell.specs.Half.{halfEdges, edgeOf, halfOf, halfEdge}
+use Rattle.cell.specs.Dart.{dartNumber}
 use Rattle.cell.specs.Walked.{Recorded, Looped}
 use Rattle.cell.specs.Answer.{typeNumbers, loopNumbers}
 use Rattle.cell.specs.Round.{HalfEdges, foldsIn, crossesIn}
 use Rattle.cell.proofs.Half as halves
-use Rattle.cell.proofs.Step.{step-is}
+use Rattle.cell.proofs.Lay.{lay}
+use Rattle.cell.proofs.Step.{number-first, number-second, slot-first, slot-second, step-is}
 use Rattle.cell.proofs.Mates.{slot-has, ports, darts, laws}
 
 -- a sum of k ones and zeros on the way
@@ -68,7 +71,7 @@ module _ (l : List ℕ) (n : ℕ) where
   pub before-next : (k : ℕ) → before n (k + 1) ≡ k
   before-next k = ap (before n) (add-one k)
 
-module _ (w : ℕ → ℕ) where
+module _ (w : Edges) where
   abbrev N : ℕ
   N = crossings w
 
@@ -93,6 +96,24 @@ module _ (w : ℕ → ℕ) where
         let P = ports w in
         let m = walks.live N (first w) (second w) (mate w) P d h in
         λ e. P .other d l (sym (ap (λ n. n / 2) (step-is w d) ∙ walks.land-half N (first w) (second w) (mate w) (slot w d) (mate w (slot w d) (d / 2)) m) ∙ e)
+
+  -- a dart is the one of its crossing that leaves by its half-edge
+  pub dart-number : (d : ℕ) → d < 2 * N → dartNumber (halfEdge w d) (d / 2) ≡ d
+  dart-number = walks.by-parity N (λ d. dartNumber (halfEdge w d) (d / 2) ≡ d)
+      (λ x l.
+      let d = 2 * x in
+      let e : d / 2 ≡ x = omega arith in
+      rw e (number-first (halfEdge w d) x (ap firstSlot (half-edge d (omega arith) ∙ ap (edge w) e) ∙ sym (half-slot d (omega arith) ∙ slot-first w x))))
+      (λ x l.
+      let d = 2 * x + 1 in
+      let e : d / 2 ≡ x = omega arith in
+      rw e (number-second (halfEdge w d) x (λ q. omega (
+        arith,
+        q,
+        ap firstSlot (half-edge d (omega arith) ∙ ap (edge w) e),
+        half-slot d (omega arith) ∙ slot-second w x,
+        two-slots (edge w x) (lay w .edge-lt x l) .apart,
+      ))))
 
   module _ (p : ℕ) (l : p < N) where
     -- a loop that is found
@@ -137,9 +158,9 @@ module _ (w : ℕ → ℕ) where
     unfolding loopDarts walk.loopAt loopSize dart
     tally-darts t = tally-orbit t (step w) (loopSize w p) (2 * p)
 
-module _ {c : Cell} {p n : ℕ} {hs ps : List ℕ} (R : Recorded c p n hs ps) (size : n ≡ loopSize (countOf c) p) (l : p < crossings (countOf c)) where
-  abbrev cw : ℕ → ℕ
-  cw = countOf c
+module _ {c : Cell} {p n : ℕ} {hs ps : List ℕ} (R : Recorded c p n hs ps) (size : n ≡ loopSize (edgesOf c) p) (l : p < crossings (edgesOf c)) where
+  abbrev cw : Edges
+  cw = edgesOf c
 
   live : (k : ℕ) → k < n → dart cw p k < 2 * crossings cw
   live k h = dart-live cw p l k (omega arith)
@@ -175,11 +196,11 @@ module _ {c : Cell} {p n : ℕ} {hs ps : List ℕ} (R : Recorded c p n hs ps) (s
 pub answer-is : {c : Cell} {p n : ℕ} {hs ps : List ℕ} → Looped c p n hs ps → (q m : ℕ) (b : Bool) (t : LoopType)
     → q ≡ getD ps 0 0 → m ≡ n → b ≡ eqb (foldsIn hs n) 0
     → typeNumbers t ≡ typeBy (c .nodes) (crossesIn hs n 0 % 2) (crossesIn hs n 1 % 2) (crossesIn hs n 2 % 2)
-    → loopNumbers (Found q m b t) ≡ answerOf (countOf c) (startOf c) (c .nodes) (p ∷ [])
+    → loopNumbers (Found q m b t) ≡ answerOf (edgesOf c) (c .nodes) (p ∷ [])
 unfolding answerOf typeOf
 answer-is {c} {p} {n} {hs} {ps} L q m b t eq em eb et =
-    let x : dart (countOf c) p 0 / 2 ≡ p = omega (arith, dart-zero (countOf c) p (L .inside)) in
-    let point : q ≡ inGrid (countOf c) (startOf c) (c .nodes) p = eq ∙ L .recorded .point 0 (L .some) ∙ ap (inGrid (countOf c) (startOf c) (c .nodes)) x in
+    let x : dart (edgesOf c) p 0 / 2 ≡ p = omega (arith, dart-zero (edgesOf c) p (L .inside)) in
+    let point : q ≡ inGrid (edgesOf c) p = eq ∙ L .recorded .point 0 (L .some) ∙ ap (inGrid (edgesOf c)) x in
     rw (point, em, L .size, eb, ← normal-is (L .recorded) (L .size) (L .inside), et, ← parity-is (L .recorded) (L .size) (L .inside) 0, ← parity-is (L .recorded) (L .size) (L .inside) 1, ← parity-is (L .recorded) (L .size) (L .inside) 2)
     refl
 
@@ -189,17 +210,17 @@ drop-one (suc j) x l h = let e : suc j - 1 ≡ j = omega arith in rw e
 
 -- a search for loop k that has passed the crossings below p, and has j loops more to pass
 module _ (c : Cell) (k : ℕ) where
-  abbrev w : ℕ → ℕ
-  w = countOf c
+  abbrev w : Edges
+  w = edgesOf c
 
   abbrev answer : List ℕ → List ℕ
-  answer = answerOf w (startOf c) (c .nodes)
+  answer = answerOf w (c .nodes)
 
   abbrev least : ℕ → List ℕ
   least p = pick (eqb (loopSize w p) 0) [] (p ∷ [])
 
   pub record Seeking (p j : ℕ) : Type 0 where
-    pub is : loopAnswer w (startOf c) (c .nodes) k ≡ answer (drop j (over least (crossings w - p) p))
+    pub is : loopAnswer w (c .nodes) k ≡ answer (drop j (over least (crossings w - p) p))
 
   pub seeking-start : Seeking 0 k
   unfolding loopAnswer leasts
@@ -211,7 +232,7 @@ module _ (c : Cell) (k : ℕ) where
   answer-first p l = refl
 
   module _ {p j : ℕ} (S : Seeking p j) where
-    pub seeking-none : crossings w ≤ p → loopAnswer w (startOf c) (c .nodes) k ≡ result []
+    pub seeking-none : crossings w ≤ p → loopAnswer w (c .nodes) k ≡ result []
     unfolding answerOf
     seeking-none h = S .is ∙ rw (over-none least (crossings w) p h, drop-nil {A = ℕ} j) refl
 
@@ -224,5 +245,5 @@ module _ (c : Cell) (k : ℕ) where
         is = S .is ∙ rw (over-next least (crossings w) p l, ne-eqb (loopSize w p) 0 e) (ap answer (drop-one j p (over least (crossings w - (p + 1)) (p + 1)) h));
       }
 
-      pub seeking-here : (loopSize w p ≡ 0 → ⊥) → j ≡ 0 → loopAnswer w (startOf c) (c .nodes) k ≡ answer (p ∷ [])
+      pub seeking-here : (loopSize w p ≡ 0 → ⊥) → j ≡ 0 → loopAnswer w (c .nodes) k ≡ answer (p ∷ [])
       seeking-here e h = S .is ∙ rw (over-next least (crossings w) p l, ne-eqb (loopSize w p) 0 e, h) (answer-first p (over least (crossings w - (p + 1)) (p + 1)))

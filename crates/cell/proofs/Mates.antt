@@ -3,7 +3,6 @@ use Prim.Native.Nat.{ℕ, _+_, _*_, _-_, _/_, _<_}
 use mathlib.Core.Path.{_≡_, sym, ap, _∙_}
 use mathlib.Core.Logic.{_⊎_, _≢_, ⊎-elim}
 use native.Mathlib.Omega.{arith}
-use Rattle.counting.proofs.Pack.{row-lt, col-lt, unpack}
 use Rattle.slots.specs.Slots.{slotEdge, place, firstSlot, secondSlot}
 use Rattle.slots.proofs.Slots.{EdgeSlot, first-slot, second-slot, slot-edge, two-slots}
 use Rattle.face.specs.Face.{joined, unjoined, count}
@@ -14,24 +13,25 @@ use Rattle.walk.specs.Claims.{WalkLaws}
 use Rattle.walk.specs.Step as walk
 use Rattle.walk.proofs.Step as walks
 use Rattle.walk.proofs.Claims.{walkLaws}
-use Rattle.cell.specs.Cell.{crossings, edge, index, number, joinAt, joinedTo, mate, first, second, slot, step}
+use Rattle.cell.specs.Cell.{Edges, crossings, edge, index, number, joinAt, joinedTo, mate, first, second, slot, step}
+use Rattle.cell.proofs.Lay.{lay}
 use Rattle.cell.proofs.Step.{number-lt, edge-number, index-number, slot-first, slot-second}
 use Rattle.cell.proofs.Reach.{slot-count}
 
-module _ (w : ℕ → ℕ) where
+module _ (w : Edges) where
   abbrev N : ℕ
   N = crossings w
 
   -- crossing x of a slot: its edge there, its index, and that it is a crossing of the slot's face
   module _ (s x : ℕ) where
     abbrev ab : ℕ
-    ab = w (slotEdge s 0)
+    ab = w .count (slotEdge s 0)
 
     abbrev ac : ℕ
-    ac = w (slotEdge s 1)
+    ac = w .count (slotEdge s 1)
 
     abbrev bc : ℕ
-    bc = w (slotEdge s 2)
+    bc = w .count (slotEdge s 2)
 
     abbrev j : ℕ
     j = place s (edge w x)
@@ -56,12 +56,12 @@ module _ (w : ℕ → ℕ) where
       pub joined-edge : i < 3
       joined-edge = face-edge-lt (edge-with ab ac bc i u there)
 
-      pub joined-index : u < w (slotEdge s i)
+      pub joined-index : u < w .count (slotEdge s i)
       joined-index = rw (slot-count w s i joined-edge) at there
 
     module _ (l : x < N) (S : EdgeSlot (edge w x) s) where
       within : t < count ab ac bc j
-      within = rw (slot-count w s j (S .place-lt), S .edge-is) (col-lt w 6 x l)
+      within = rw (slot-count w s j (S .place-lt), S .edge-is) (lay w .index-lt x l)
 
       -- joined or not
       pub mate-cases : ((i : ℕ) × (u : ℕ) × (joinAt w s x ≡ joined i u)) ⊎ (joinAt w s x ≡ unjoined)
@@ -70,7 +70,7 @@ module _ (w : ℕ → ℕ) where
 
       -- the number of the crossing
       here : number w (slotEdge s j) t ≡ x
-      here = ap (λ k. number w k t) (S .edge-is) ∙ unpack w 6 x l
+      here = ap (λ k. number w k t) (S .edge-is) ∙ lay w .back x l
 
   module _ {s x : ℕ} (l : x < N) (S : EdgeSlot (edge w x) s) where
     abbrev sl : s < 4
@@ -87,7 +87,7 @@ module _ (w : ℕ → ℕ) where
       unfolding joinAt
       back =
           rw (edge-number w (slotEdge s i) u kl (joined-index s x e), index-number w (slotEdge s i) u kl (joined-index s x e), slot-edge s i sl il .place-is)
-          (faceLaws (w (slotEdge s 0)) (w (slotEdge s 1)) (w (slotEdge s 2)) .back (place s (edge w x)) (index w x) i u e)
+          (faceLaws (w .count (slotEdge s 0)) (w .count (slotEdge s 1)) (w .count (slotEdge s 2)) .back (place s (edge w x)) (index w x) i u e)
 
       pub joined-lt : mate w s x < N
       joined-lt = rw (mate-joined s x e) (number-lt w (slotEdge s i) u kl (joined-index s x e))
@@ -102,7 +102,7 @@ module _ (w : ℕ → ℕ) where
           let a : slotEdge s i ≡ edge w x = sym (edge-number w (slotEdge s i) u kl (joined-index s x e)) ∙ ap (edge w) m in
           let b : u ≡ index w x = sym (index-number w (slotEdge s i) u kl (joined-index s x e)) ∙ ap (index w) m in
           let k : place s (edge w x) ≡ i = sym (ap (place s) a) ∙ slot-edge s i sl il .place-is in
-          faceLaws (w (slotEdge s 0)) (w (slotEdge s 1)) (w (slotEdge s 2)) .another (place s (edge w x)) (index w x) i u e (k, sym b)
+          faceLaws (w .count (slotEdge s 0)) (w .count (slotEdge s 1)) (w .count (slotEdge s 2)) .another (place s (edge w x)) (index w x) i u e (k, sym b)
 
       joined-lies : (firstSlot (edge w (mate w s x)) ≡ s) ⊎ (secondSlot (edge w (mate w s x)) ≡ s)
       joined-lies = rw (mate-joined s x e, edge-number w (slotEdge s i) u kl (joined-index s x e)) (slot-edge s i sl il .on)
@@ -119,13 +119,13 @@ module _ (w : ℕ → ℕ) where
   -- the slot of a dart has its edge
   pub slot-has : (d : ℕ) → d < 2 * N → EdgeSlot (edge w (d / 2)) (slot w d)
   slot-has = walks.by-parity N (λ d. EdgeSlot (edge w (d / 2)) (slot w d))
-      (λ x l. let h : 2 * x / 2 ≡ x = omega arith in rw (h, slot-first w x) (first-slot (edge w x) (row-lt w 6 x l)))
-      (λ x l. let h : (2 * x + 1) / 2 ≡ x = omega arith in rw (h, slot-second w x) (second-slot (edge w x) (row-lt w 6 x l)))
+      (λ x l. let h : 2 * x / 2 ≡ x = omega arith in rw (h, slot-first w x) (first-slot (edge w x) (lay w .edge-lt x l)))
+      (λ x l. let h : (2 * x + 1) / 2 ≡ x = omega arith in rw (h, slot-second w x) (second-slot (edge w x) (lay w .edge-lt x l)))
 
   pub ports : walk.Ports N (first w) (second w) (mate w)
   unfolding slot
   ports = record {
-    apart = λ x l e. omega (arith, e, two-slots (edge w x) (row-lt w 6 x l) .apart);
+    apart = λ x l e. omega (arith, e, two-slots (edge w x) (lay w .edge-lt x l) .apart);
     both = λ d l h. mate-both (omega arith) (slot-has d l) h;
     other = λ d l. mate-other (omega arith) (slot-has d l);
     lies = λ d l h. mate-lies (omega arith) (slot-has d l) h;

@@ -1,19 +1,17 @@
 -- A step from a dart in parts, branch by branch: round the lower end of its edge, round the upper end, or between.
 use Prim.Native.Nat.{ℕ, zero, suc, _+_, _*_, _-_, _%_, _≤_, _<_}
 use mathlib.Core.Path.{_≡_, refl, sym, ap, _∙_}
-use mathlib.Core.Logic.{_≢_}
 use mathlib.Core.Bool.{Bool, true, false}
 use native.Mathlib.Omega.{arith}
-use lib.Dec.{eqb}
+use lib.Dec.{eqb, ltb}
 use Rattle.counting.specs.Pick.{pick}
-use Rattle.counting.specs.Pack.{pre}
 use Rattle.slots.specs.Slots.{slotEdge}
 use Rattle.face.specs.Face.{joined, lower, upper, other, corner, count, kth, faceJoin}
 use Rattle.face.specs.Ends.{Edge, on-ab, on-ac, on-bc, End, low, high, Corners}
 use Rattle.face.proofs.Ends.{edge-of, edge-lt as face-edge-lt, on, end-other}
 use Rattle.face.proofs.Gaps.{corner-lower, corner-upper, corner-fits}
 use Rattle.face.proofs.Branches.{face-low, face-high, face-skip, face-up, face-down}
-use Rattle.cell.specs.Cell.{crossings, step}
+use Rattle.cell.specs.Cell.{Edges, number, crossings, step}
 use Rattle.cell.specs.Half.{halfEdges, slotOf, placeOf, edgeOf, twin, around}
 use Rattle.cell.specs.Route.{cornerOf}
 use Rattle.cell.specs.Dart.{Parts, dartNumber}
@@ -21,38 +19,26 @@ use Rattle.cell.proofs.Half.{place-lt, twin-lt, twin-edge, half-edge}
 use Rattle.cell.proofs.Step.{joinOn, step-joined, step-unjoined}
 
 -- a step from crossing x over half-edge h leads to index u of the edge of half-edge g, left by g
-pub record Reach (w : ℕ → ℕ) (h x g u : ℕ) : Type 0 where
-  pub parts : Parts w g u (pre w (edgeOf g) + u)
-  pub is : step w (dartNumber h x) ≡ dartNumber g (pre w (edgeOf g) + u)
+pub record Reach (w : Edges) (h x g u : ℕ) : Type 0 where
+  pub parts : Parts w g u (number w (edgeOf g) u)
+  pub is : step w (dartNumber h x) ≡ dartNumber g (number w (edgeOf g) u)
 
 before-lt : {t n : ℕ} → t < n → t - 1 < n
 before-lt l = omega arith
 
 -- the k-th crossing from the shared node, on the other edge there: counted from its own lower end, or turned
 module _ (ab ac bc : ℕ) where
-  low-straight : {e : ℕ} → Edge e → e ≢ 2 → (k : ℕ) → kth ab ac bc (lower e) (other (lower e) e) k ≡ k
+  kth-low : {e : ℕ} → Edge e → (k : ℕ) → kth ab ac bc (lower e) (other (lower e) e) k ≡ pick (eqb e 2) (count ab ac bc (other (lower e) e) - 1 - k) k
   unfolding kth lower other
-  low-straight on-ab n k = refl
-  low-straight on-ac n k = refl
-  low-straight on-bc n k = absurd (n refl)
+  kth-low on-ab k = refl
+  kth-low on-ac k = refl
+  kth-low on-bc k = refl
 
-  low-turned : {e : ℕ} → Edge e → e ≡ 2 → (k : ℕ) → kth ab ac bc (lower e) (other (lower e) e) k ≡ count ab ac bc (other (lower e) e) - 1 - k
-  unfolding kth lower other
-  low-turned on-ab n k = absurd (omega arith)
-  low-turned on-ac n k = absurd (omega arith)
-  low-turned on-bc n k = refl
-
-  high-straight : {e : ℕ} → Edge e → e ≡ 0 → (k : ℕ) → kth ab ac bc (upper e) (other (upper e) e) k ≡ k
+  kth-high : {e : ℕ} → Edge e → (k : ℕ) → kth ab ac bc (upper e) (other (upper e) e) k ≡ pick (ltb 0 e) (count ab ac bc (other (upper e) e) - 1 - k) k
   unfolding kth lower upper other
-  high-straight on-ab n k = refl
-  high-straight on-ac n k = absurd (omega arith)
-  high-straight on-bc n k = absurd (omega arith)
-
-  high-turned : {e : ℕ} → Edge e → e ≢ 0 → (k : ℕ) → kth ab ac bc (upper e) (other (upper e) e) k ≡ count ab ac bc (other (upper e) e) - 1 - k
-  unfolding kth lower upper other
-  high-turned on-ab n k = absurd (n refl)
-  high-turned on-ac n k = refl
-  high-turned on-bc n k = refl
+  kth-high on-ab k = refl
+  kth-high on-ac k = refl
+  kth-high on-bc k = refl
 
   kth-lt : (v e k : ℕ) → k < count ab ac bc e → kth ab ac bc v e k < count ab ac bc e
   unfolding kth
@@ -62,9 +48,9 @@ module _ (ab ac bc : ℕ) where
       go true = l
       go false = omega arith
 
-module _ (w : ℕ → ℕ) where
+module _ (w : Edges) where
   -- the count of edge j of slot s, as its face has it
-  pub slot-count : (s j : ℕ) → j < 3 → count (w (slotEdge s 0)) (w (slotEdge s 1)) (w (slotEdge s 2)) j ≡ w (slotEdge s j)
+  pub slot-count : (s j : ℕ) → j < 3 → count (w .count (slotEdge s 0)) (w .count (slotEdge s 1)) (w .count (slotEdge s 2)) j ≡ w .count (slotEdge s j)
   unfolding count
   slot-count s zero l = refl
   slot-count s (suc zero) l = refl
@@ -73,35 +59,35 @@ module _ (w : ℕ → ℕ) where
 
   module _ (h : ℕ) where
     abbrev ab : ℕ
-    ab = w (slotEdge (slotOf h) 0)
+    ab = w .count (slotEdge (slotOf h) 0)
 
     abbrev ac : ℕ
-    ac = w (slotEdge (slotOf h) 1)
+    ac = w .count (slotEdge (slotOf h) 1)
 
     abbrev bc : ℕ
-    bc = w (slotEdge (slotOf h) 2)
+    bc = w .count (slotEdge (slotOf h) 2)
 
     module _ (l : h < halfEdges) where
       own : Edge (placeOf h)
       own = edge-of (placeOf h) (place-lt h l)
 
-      own-count : count ab ac bc (placeOf h) ≡ w (edgeOf h)
+      own-count : count ab ac bc (placeOf h) ≡ w .count (edgeOf h)
       unfolding edgeOf
       own-count = slot-count (slotOf h) (placeOf h) (place-lt h l)
 
       -- the counts of the edge and of its two corners, as its face has them
-      corners : Corners ab ac bc (placeOf h) (w (edgeOf h)) (cornerOf w (lower (placeOf h)) h) (cornerOf w (upper (placeOf h)) h)
+      corners : Corners ab ac bc (placeOf h) (w .count (edgeOf h)) (cornerOf w (lower (placeOf h)) h) (cornerOf w (upper (placeOf h)) h)
       unfolding cornerOf
       corners = record { edge = own; own = sym own-count; at-lower = refl; at-upper = refl }
 
       -- the crossings of the next edge round the node v
-      next-count : (v : ℕ) → End v (placeOf h) → count ab ac bc (other v (placeOf h)) ≡ w (edgeOf (around v h))
+      next-count : (v : ℕ) → End v (placeOf h) → count ab ac bc (other v (placeOf h)) ≡ w .count (edgeOf (around v h))
       unfolding around
       next-count v E =
           let i = other v (placeOf h) in
           let il : i < 3 = face-edge-lt (on (end-other E)) in
           let gl : 3 * slotOf h + i < halfEdges = omega arith in
-          slot-count (slotOf h) i il ∙ ap w (sym (twin-edge (3 * slotOf h + i) gl ∙ half-edge (slotOf h) i il))
+          slot-count (slotOf h) i il ∙ ap (w .count) (sym (twin-edge (3 * slotOf h + i) gl ∙ half-edge (slotOf h) i il))
 
       around-lt : (v : ℕ) → End v (placeOf h) → around v h < halfEdges
       unfolding around
@@ -116,22 +102,22 @@ module _ (w : ℕ → ℕ) where
       high-lt = around-lt (upper (placeOf h)) (high own)
 
       -- a corner's crossings are on both of its edges
-      around-fits : (v k : ℕ) → End v (placeOf h) → k < cornerOf w v h → k < w (edgeOf (around v h))
+      around-fits : (v k : ℕ) → End v (placeOf h) → k < cornerOf w v h → k < w .count (edgeOf (around v h))
       unfolding cornerOf
       around-fits v k E l = omega (arith, next-count v E, corner-fits ab ac bc v (placeOf h))
 
-      pub low-fits : (k : ℕ) → k < cornerOf w (lower (placeOf h)) h → k < w (edgeOf (around (lower (placeOf h)) h))
+      pub low-fits : (k : ℕ) → k < cornerOf w (lower (placeOf h)) h → k < w .count (edgeOf (around (lower (placeOf h)) h))
       low-fits k = around-fits (lower (placeOf h)) k (low own)
 
-      pub high-fits : (k : ℕ) → k < cornerOf w (upper (placeOf h)) h → k < w (edgeOf (around (upper (placeOf h)) h))
+      pub high-fits : (k : ℕ) → k < cornerOf w (upper (placeOf h)) h → k < w .count (edgeOf (around (upper (placeOf h)) h))
       high-fits k = around-fits (upper (placeOf h)) k (high own)
 
       -- the corner counts at the two ends, from the counts of the edge and of the next edges there
-      pub low-corner : cornerOf w (lower (placeOf h)) h ≡ corner (w (edgeOf h)) (w (edgeOf (around (lower (placeOf h)) h))) (w (edgeOf (around (upper (placeOf h)) h)))
+      pub low-corner : cornerOf w (lower (placeOf h)) h ≡ corner (w .count (edgeOf h)) (w .count (edgeOf (around (lower (placeOf h)) h))) (w .count (edgeOf (around (upper (placeOf h)) h)))
       unfolding cornerOf
       low-corner = corner-lower ab ac bc own ∙ rw (own-count, next-count (lower (placeOf h)) (low own), next-count (upper (placeOf h)) (high own)) refl
 
-      pub high-corner : cornerOf w (upper (placeOf h)) h ≡ corner (w (edgeOf h)) (w (edgeOf (around (upper (placeOf h)) h))) (w (edgeOf (around (lower (placeOf h)) h)))
+      pub high-corner : cornerOf w (upper (placeOf h)) h ≡ corner (w .count (edgeOf h)) (w .count (edgeOf (around (upper (placeOf h)) h))) (w .count (edgeOf (around (lower (placeOf h)) h)))
       unfolding cornerOf
       high-corner = corner-upper ab ac bc own ∙ rw (own-count, next-count (lower (placeOf h)) (low own), next-count (upper (placeOf h)) (high own)) refl
 
@@ -142,7 +128,7 @@ module _ (w : ℕ → ℕ) where
     abbrev l : h < halfEdges
     l = P .half-lt
 
-    reach : (i u : ℕ) → i < 3 → u < w (slotEdge (slotOf h) i) → joinOn w h t ≡ joined i u → Reach w h x (twin (3 * slotOf h + i)) u
+    reach : (i u : ℕ) → i < 3 → u < w .count (slotEdge (slotOf h) i) → joinOn w h t ≡ joined i u → Reach w h x (twin (3 * slotOf h + i)) u
     reach i u il ul e =
         let g = 3 * slotOf h + i in
         let gl : g < halfEdges = omega (arith, P .half-lt) in
@@ -166,39 +152,31 @@ module _ (w : ℕ → ℕ) where
     unfolding joinOn
     join-face = refl
 
-    module _ (b : t < cornerOf w (lower j) h) where
-      round-low : Reach w h x (around (lower j) h) (kth (ab h) (ac h) (bc h) (lower j) (other (lower j) j) t)
-      round-low = round t (low (own h l)) b (join-face ∙ face-low (corners h l) t b)
+    -- the k-th from its lower or its upper end
+    pub turn-low : t < cornerOf w (lower j) h → Reach w h x (around (lower j) h) (pick (eqb j 2) (w .count (edgeOf (around (lower j) h)) - 1 - t) t)
+    turn-low b =
+        rw (kth-low (ab h) (ac h) (bc h) (own h l) t, next-count h l (lower j) (low (own h l)))
+        at (round t (low (own h l)) b (join-face ∙ face-low (corners h l) t b))
 
-      pub low-on : j ≢ 2 → Reach w h x (around (lower j) h) t
-      low-on n = rw (low-straight (ab h) (ac h) (bc h) (own h l) n t) at round-low
-
-      pub low-over : j ≡ 2 → Reach w h x (around (lower j) h) (w (edgeOf (around (lower j) h)) - 1 - t)
-      low-over n = rw (low-turned (ab h) (ac h) (bc h) (own h l) n t, next-count h l (lower j) (low (own h l))) at round-low
-
-    module _ (b : w (edgeOf h) - 1 - t < cornerOf w (upper j) h) where
-      round-high : Reach w h x (around (upper j) h) (kth (ab h) (ac h) (bc h) (upper j) (other (upper j) j) (w (edgeOf h) - 1 - t))
-      round-high = round (w (edgeOf h) - 1 - t) (high (own h l)) b (join-face ∙ face-high (corners h l) t (P .index-lt) (omega arith))
-
-      pub high-on : j ≡ 0 → Reach w h x (around (upper j) h) (w (edgeOf h) - 1 - t)
-      high-on n = rw (high-straight (ab h) (ac h) (bc h) (own h l) n (w (edgeOf h) - 1 - t)) at round-high
-
-      pub high-over : j ≢ 0 → Reach w h x (around (upper j) h) (w (edgeOf (around (upper j) h)) - 1 - (w (edgeOf h) - 1 - t))
-      high-over n = rw (high-turned (ab h) (ac h) (bc h) (own h l) n (w (edgeOf h) - 1 - t), next-count h l (upper j) (high (own h l))) at round-high
+    pub turn-high : (k : ℕ) → k ≡ w .count (edgeOf h) - 1 - t → k < cornerOf w (upper j) h
+        → Reach w h x (around (upper j) h) (pick (ltb 0 j) (w .count (edgeOf (around (upper j) h)) - 1 - k) k)
+    turn-high k e b =
+        rw (kth-high (ab h) (ac h) (bc h) (own h l) k, next-count h l (upper j) (high (own h l)))
+        at (round k (high (own h l)) b (join-face ∙ rw e (face-high (corners h l) t (P .index-lt) (omega arith))))
 
     -- past both corners: neighbours in pairs, down from the upper one
-    module _ (a : cornerOf w (lower j) h ≤ t) (b : t + cornerOf w (upper j) h < w (edgeOf h)) where
-      fold : (u : ℕ) → u < w (edgeOf h) → faceJoin (ab h) (ac h) (bc h) j t ≡ joined j u → Reach w h x (twin h) u
+    module _ (a : cornerOf w (lower j) h ≤ t) (b : t + cornerOf w (upper j) h < w .count (edgeOf h)) where
+      fold : (u : ℕ) → u < w .count (edgeOf h) → faceJoin (ab h) (ac h) (bc h) j t ≡ joined j u → Reach w h x (twin h) u
       unfolding edgeOf
       fold u ul e =
           let here : 3 * slotOf h + j ≡ h = omega arith in
           let r = reach j u (place-lt h l) ul (join-face ∙ e) in
           rw here at r
 
-      pub between-up : (w (edgeOf h) - cornerOf w (upper j) h - t) % 2 ≡ 0 → Reach w h x (twin h) (t + 1)
+      pub between-up : (w .count (edgeOf h) - cornerOf w (upper j) h - t) % 2 ≡ 0 → Reach w h x (twin h) (t + 1)
       between-up z = fold (t + 1) (omega arith) (face-up (corners h l) t a b z)
 
-      module _ (z : (w (edgeOf h) - cornerOf w (upper j) h - t) % 2 ≡ 1) where
+      module _ (z : (w .count (edgeOf h) - cornerOf w (upper j) h - t) % 2 ≡ 1) where
         pub between-end : t ≡ cornerOf w (lower j) h → step w (dartNumber h x) ≡ 2 * crossings w
         between-end e = step-unjoined w P (join-face ∙ face-skip (corners h l) t a b z e)
 

@@ -10,27 +10,27 @@ use lib.Seq.{getD-set-same, getD-set-other}
 use Rattle.walk.specs.Iterate.{it}
 use Rattle.cell.specs.declared.Cell.{Cell}
 use Rattle.cell.specs.declared.Dart.{Dart}
-use Rattle.cell.specs.Cell.{crossings, index, step}
+use Rattle.cell.specs.Cell.{Edges, crossings, index, step}
 use Rattle.cell.specs.Loop.{loopSize, dart, inGrid}
-use Rattle.cell.specs.Of.{countOf, startOf}
+use Rattle.cell.specs.Of.{edgesOf}
 use Rattle.cell.specs.Half.{edgeOf, halfOf, halfEdge}
-use Rattle.cell.specs.Route.{mostCrossings, startLimit, Routed}
+use Rattle.cell.specs.Route.{mostInCell, startLimit, Routed}
 use Rattle.cell.specs.Dart.{Parts, IsDart, Ready, Leads, dartNumber, dartOf}
 use Rattle.cell.specs.Walked.{Starts, Marked, Scratch, Recorded, Walked}
 use Rattle.cell.proofs.Half.{place-is}
 use Rattle.cell.proofs.Step.{number-half, parts-number, parts-edge, parts-index, parts-slot}
-use Rattle.cell.proofs.Route.{start-at, start-near, fits}
+use Rattle.cell.proofs.Route.{stored, start-at, start-near, fits}
 use Rattle.cell.proofs.Walking.{Walking, dart-next, walking-start, walking-room, walking-end, walking-low, walking-home, walking-on, walking-mark, walking-met}
 
 -- a dart in parts leaves by its half-edge, from its point
-module _ {w : ℕ → ℕ} {h t x : ℕ} (P : Parts w h t x) where
+module _ {w : Edges} {h t x : ℕ} (P : Parts w h t x) where
   pub parts-half : halfEdge w (dartNumber h x) ≡ h
   unfolding halfEdge halfOf
   parts-half = rw (parts-slot w P, parts-edge w P, place-is h (P .half-lt)) (omega arith)
 
-  pub parts-point : (start : ℕ → ℕ) (v : List ℕ) → inGrid w start v (dartNumber h x / 2) ≡ start (edgeOf h) + t
+  pub parts-point : inGrid w (dartNumber h x / 2) ≡ w .start (edgeOf h) + t
   unfolding inGrid
-  parts-point start v = rw (parts-edge w P, parts-index w P) refl
+  parts-point = rw (parts-edge w P, parts-index w P) refl
 
   pub parts-lt : dartNumber h x < 2 * crossings w
   parts-lt = let l = parts-number w P in omega (arith, number-half h x)
@@ -39,19 +39,12 @@ module _ {w : ℕ → ℕ} {h t x : ℕ} (P : Parts w h t x) where
 pub recorded-none : (c : Cell) (p : ℕ) (hs ps : List ℕ) → Recorded c p 0 hs ps
 recorded-none c p hs ps = record { half = λ k l. absurd (not-suc-le-zero l); point = λ k l. absurd (not-suc-le-zero l) }
 
--- what holds of the entries of a list below k, and of v at k, holds below k + 1 after v is stored at k
-stored : (f : ℕ → ℕ) (l : List ℕ) (k v : ℕ) → k < length l → ((i : ℕ) → i < k → getD l i 0 ≡ f i) → v ≡ f k
-    → (i : ℕ) → i < k + 1 → getD (set l k v) i 0 ≡ f i
-stored f l k v h before now i b =
-    ⊎-elim (λ (q : i ≡ k). rw q (getD-set-same l k v 0 h ∙ now))
-    (λ (g : i < k). getD-set-other l k i v 0 (λ e. omega arith) ∙ before i g) (eq-or-lt-of-le (omega arith))
-
 pub recorded-more : {c : Cell} {p k : ℕ} {hs ps : List ℕ} → Recorded c p k hs ps → k < length hs → k < length ps → (v u : ℕ)
-    → v ≡ halfEdge (countOf c) (dart (countOf c) p k) → u ≡ inGrid (countOf c) (startOf c) (c .nodes) (dart (countOf c) p k / 2)
+    → v ≡ halfEdge (edgesOf c) (dart (edgesOf c) p k) → u ≡ inGrid (edgesOf c) (dart (edgesOf c) p k / 2)
     → Recorded c p (k + 1) (set hs k v) (set ps k u)
 recorded-more {c} {p} {k} {hs} {ps} R a b v u e f = record {
-  half = stored (λ i. halfEdge (countOf c) (dart (countOf c) p i)) hs k v a (R .half) e;
-  point = stored (λ i. inGrid (countOf c) (startOf c) (c .nodes) (dart (countOf c) p i / 2)) ps k u b (R .point) f;
+  half = stored (λ i. halfEdge (edgesOf c) (dart (edgesOf c) p i)) hs k v a (R .half) e;
+  point = stored (λ i. inGrid (edgesOf c) (dart (edgesOf c) p i / 2)) ps k u b (R .point) f;
 }
 
 pub scratch-record : {ms hs ps : List ℕ} → Scratch ms hs ps → (k v u : ℕ) → Scratch ms (set hs k v) (set ps k u)
@@ -65,22 +58,22 @@ pub scratch-mark : {ms hs ps : List ℕ} → Scratch ms hs ps → (x v : ℕ) �
 scratch-mark {ms} S x v = record { marks-long = length-set ms x v ∙ S .marks-long; halves-long = S .halves-long; points-long = S .points-long }
 
 -- no loop starts at p
-pub walked-none : {c : Cell} {p : ℕ} {ms hs ps : List ℕ} → loopSize (countOf c) p ≡ 0 → Marked c ms → Scratch ms hs ps → Walked c p 0 ms hs ps
+pub walked-none : {c : Cell} {p : ℕ} {ms hs ps : List ℕ} → loopSize (edgesOf c) p ≡ 0 → Marked c ms → Scratch ms hs ps → Walked c p 0 ms hs ps
 walked-none {c} {p} {ms} {hs} {ps} e M S = record { size = sym e; few = omega arith; marked = M; scratch = S; recorded = recorded-none c p hs ps }
 
 -- at dart k, with those before it recorded
 pub record Going (c : Cell) (p k : ℕ) (ms hs ps : List ℕ) (d : Dart) : Type 0 where
-  pub walking : Walking (countOf c) p k
-  pub isDart : IsDart (countOf c) d
-  pub at : dartOf d ≡ dart (countOf c) p k
+  pub walking : Walking (edgesOf c) p k
+  pub isDart : IsDart (edgesOf c) d
+  pub at : dartOf d ≡ dart (edgesOf c) p k
   pub marked : Marked c ms
   pub scratch : Scratch ms hs ps
   pub recorded : Recorded c p k hs ps
 
-pub going-start : {c : Cell} {p : ℕ} {ms hs ps : List ℕ} {d : Dart} → p < crossings (countOf c) → Marked c ms → Scratch ms hs ps → Starts (countOf c) p d → Going c p 0 ms hs ps d
+pub going-start : {c : Cell} {p : ℕ} {ms hs ps : List ℕ} {d : Dart} → p < crossings (edgesOf c) → Marked c ms → Scratch ms hs ps → Starts (edgesOf c) p d → Going c p 0 ms hs ps d
 unfolding dart it
 going-start {c} {p} {ms} {hs} {ps} l M S D = record {
-  walking = walking-start (countOf c) p l;
+  walking = walking-start (edgesOf c) p l;
   isDart = D .dart;
   at = D .is;
   marked = M;
@@ -89,8 +82,8 @@ going-start {c} {p} {ms} {hs} {ps} l M S D = record {
 }
 
 module _ {c : Cell} {t : List ℕ} {p k : ℕ} {ms hs ps : List ℕ} {d : Dart} (R : Routed c t) (G : Going c p k ms hs ps d) where
-  abbrev w : ℕ → ℕ
-  w = countOf c
+  abbrev w : Edges
+  w = edgesOf c
 
   abbrev h : ℕ
   h = d .half
@@ -99,7 +92,7 @@ module _ {c : Cell} {t : List ℕ} {p k : ℕ} {ms hs ps : List ℕ} {d : Dart} 
   abbrev point : ℕ
   point = getD t (9 * h + 4) 0 + d .index
 
-  pub going-room : k < mostCrossings
+  pub going-room : k < mostInCell
   going-room = omega (arith, walking-room (G .walking), R .few)
 
   pub going-point : point < 2 * startLimit
@@ -112,7 +105,7 @@ module _ {c : Cell} {t : List ℕ} {p k : ℕ} {ms hs ps : List ℕ} {d : Dart} 
   going-recorded =
       recorded-more (G .recorded) (omega (arith, going-room, G .scratch .halves-long)) (omega (arith, going-room, G .scratch .points-long)) h point
       (sym (parts-half (G .isDart)) ∙ ap (halfEdge w) (G .at))
-      (ap (λ n. n + d .index) (start-at R h (G .isDart .half-lt)) ∙ sym (parts-point (G .isDart) (startOf c) (c .nodes)) ∙ ap (λ n. inGrid w (startOf c) (c .nodes) (n / 2)) (G .at))
+      (ap (λ n. n + d .index) (start-at R h (G .isDart .half-lt)) ∙ sym (parts-point (G .isDart)) ∙ ap (λ n. inGrid w (n / 2)) (G .at))
 
   pub going-scratch : Scratch ms (set hs k h) (set ps k point)
   going-scratch = scratch-record (G .scratch) k h point

@@ -8,20 +8,20 @@ use native.Mathlib.Omega.{arith}
 use lib.Dec.{eqb}
 use borrow.Author.Tests.{eqb-true, eqb-false, eq-eqb, ne-eqb, le-ltb}
 use Rattle.counting.specs.Pick.{one}
-use Rattle.counting.proofs.Pack.{row-pack, col-pack, pack-lt}
 use Rattle.slots.specs.Slots.{slotEdge, firstSlot, secondSlot}
 use Rattle.slots.proofs.Slots.{one-of-two}
 use Rattle.face.specs.Face.{joined, unjoined, faceJoin}
 use Rattle.walk.specs.Step as walk
 use Rattle.walk.proofs.Step.{face-first, face-second, land-first, land-second}
-use Rattle.cell.specs.Cell.{crossings, edge, index, number, joinAt, joinedTo, mate, first, second, slot, step}
+use Rattle.cell.specs.Cell.{Edges, crossings, edge, index, number, joinAt, joinedTo, mate, first, second, slot, step}
 use Rattle.cell.specs.Half.{halfEdges, slotOf, placeOf, edgeOf, twin}
 use Rattle.cell.specs.Dart.{Parts, dartNumber}
+use Rattle.cell.proofs.Lay.{lay}
 use Rattle.cell.proofs.Half.{slot-lt, edge-lt, place-is, within, twin-edge, twin-second, twin-first, half-slot, half-edge}
 
 -- the answer of the face call on the slot of half-edge h
-unfoldable pub joinOn : (ℕ → ℕ) → ℕ → ℕ → List ℕ
-joinOn w h t = faceJoin (w (slotEdge (slotOf h) 0)) (w (slotEdge (slotOf h) 1)) (w (slotEdge (slotOf h) 2)) (placeOf h) t
+unfoldable pub joinOn : Edges → ℕ → ℕ → List ℕ
+joinOn w h t = faceJoin (w .count (slotEdge (slotOf h) 0)) (w .count (slotEdge (slotOf h) 1)) (w .count (slotEdge (slotOf h) 2)) (placeOf h) t
 
 -- the dart of crossing x that leaves by half-edge h is the first or the second
 module _ (h x : ℕ) where
@@ -41,17 +41,17 @@ module _ (h x : ℕ) where
       go true = omega arith
       go false = omega arith
 
-module _ (w : ℕ → ℕ) where
+module _ (w : Edges) where
   -- the crossing with index t on edge k
-  module _ (k t : ℕ) (l : k < 6) (tl : t < w k) where
+  module _ (k t : ℕ) (l : k < 6) (tl : t < w .count k) where
     pub number-lt : number w k t < crossings w
-    number-lt = pack-lt w 6 k t l tl
+    number-lt = lay w .number-lt k t l tl
 
     pub edge-number : edge w (number w k t) ≡ k
-    edge-number = row-pack w 6 k t l tl
+    edge-number = lay w .number-edge k t l tl
 
     pub index-number : index w (number w k t) ≡ t
-    index-number = col-pack w 6 k t l tl
+    index-number = lay w .number-index k t l tl
 
   pub slot-first : (x : ℕ) → slot w (2 * x) ≡ firstSlot (edge w x)
   unfolding slot
@@ -70,7 +70,7 @@ module _ (w : ℕ → ℕ) where
   land-none s x l = rw (le-ltb x (crossings w) l)
 
   -- a crossing that is come to over half-edge g is left by its twin
-  pub land-twin : (g u : ℕ) → g < halfEdges → u < w (edgeOf g)
+  pub land-twin : (g u : ℕ) → g < halfEdges → u < w .count (edgeOf g)
       → walk.land (crossings w) (first w) (second w) (mate w) (slotOf g) (number w (edgeOf g) u) ≡ dartNumber (twin g) (number w (edgeOf g) u)
   land-twin g u l ul = go (eqb (firstSlot (edgeOf g)) (slotOf g)) refl
     where
@@ -131,7 +131,7 @@ module _ (w : ℕ → ℕ) where
     step-land = step-is (dartNumber h x) ∙ rw (parts-slot, number-half h x)
 
     -- a step over a segment, and one from an unjoined crossing
-    pub step-joined : (j u : ℕ) → j < 3 → u < w (slotEdge (slotOf h) j) → joinOn w h t ≡ joined j u
+    pub step-joined : (j u : ℕ) → j < 3 → u < w .count (slotEdge (slotOf h) j) → joinOn w h t ≡ joined j u
         → step w (dartNumber h x) ≡ dartNumber (twin (3 * slotOf h + j)) (number w (slotEdge (slotOf h) j) u)
     unfolding mate joinedTo
     step-joined j u jl ul e =

@@ -16,9 +16,9 @@ use Rattle.counting.proofs.Bools.{and-left, and-right, or-cases}
 use Rattle.counting.proofs.Search.{every-is}
 use Rattle.slots.specs.Slots.{contains}
 use Rattle.walk.specs.Iterate.{it}
-use Rattle.counting.proofs.Pack.{row-lt}
-use Rattle.cell.specs.Cell.{crossings, edge, slot, step}
+use Rattle.cell.specs.Cell.{Edges, crossings, edge, slot, step}
 use Rattle.cell.specs.Loop.{loopSize, dart, loopDarts, folded, normal, parity, typeBy, typeOf}
+use Rattle.cell.proofs.Lay.{lay}
 use Rattle.cell.proofs.Mates.{slot-has}
 use Rattle.cell.proofs.Follow.{contained, next-on, next-apart}
 use Rattle.cell.proofs.Loops.{the-loop, dart-live, tally-darts}
@@ -64,7 +64,7 @@ round s t u ls lt lu a b d =
     let e = every-is (threeTest s t) 4 (every-is (λ t. every (threeTest s t) 4) 4 (every-is (λ s. every (λ t. every (threeTest s t) 4) 4) 4 three-pass s ls) t lt) u lu in
     rw (ne-eqb s t a, ne-eqb t u b, ne-eqb u s d) at e
 
-module _ (w : ℕ → ℕ) where
+module _ (w : Edges) where
   abbrev N : ℕ
   N = crossings w
 
@@ -107,7 +107,7 @@ module _ (w : ℕ → ℕ) where
     between d e ld le q =
         let on : step w d < 2 * N = rw (← q) le in
         let a = next-on w d ld on in
-        shared (slot w d) (slot w e) (edge w (e / 2)) (slot-has w d ld .lt) (slot-has w e le .lt) (row-lt w 6 (e / 2) (omega arith))
+        shared (slot w d) (slot w e) (edge w (e / 2)) (slot-has w d ld .lt) (slot-has w e le .lt) (lay w .edge-lt (e / 2) (omega arith))
         (λ f. next-apart w d ld on (f ∙ ap (slot w) q)) (rw (← q) at a) (contained (slot-has w e le))
 
     apart : (d e : ℕ) → d < 2 * N → e < 2 * N → e ≡ step w d → slot w d ≢ slot w e
@@ -159,9 +159,9 @@ module _ (w : ℕ → ℕ) where
     unfolding parity
     parity-three k = ap (λ x. x % 2) (tally-three (λ d. eqb (edge w (d / 2)) k))
 
-    pub three-corner : (start : ℕ → ℕ) (v : List ℕ) → (getD (typeOf w start v p) 0 0 ≡ 1) ⊎ (getD (typeOf w start v p) 0 0 ≡ 3)
+    pub three-corner : (v : List ℕ) → (getD (typeOf w v p) 0 0 ≡ 1) ⊎ (getD (typeOf w v p) 0 0 ≡ 3)
     unfolding typeOf typeBy roundTest
-    three-corner start v =
+    three-corner v =
         rw (parity-three 0, parity-three 1, parity-three 2)
         (⊎-elim
         (λ (q : eqb (pars e0 e1 e2) 1 ≡ true). (let s = eqb-true (pars e0 e1 e2) 1 q in

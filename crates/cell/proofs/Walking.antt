@@ -8,11 +8,6 @@ use native.Mathlib.Omega.{arith}
 use native.Mathlib.Numerals.{add-one}
 use native.Mathlib.Decide.{decLt}
 use lib.ListN.{getD, set, length, replicate, drop, length-replicate, length-append, getD-replicate, List·getD-append}
-use Rattle.counting.specs.Range.{total}
-use Rattle.counting.specs.Pack.{pre}
-use Rattle.counting.proofs.Pack.{pre-next}
-use Rattle.slots.specs.Slots.{firstSlot, place}
-use Rattle.slots.proofs.Slots.{first-slot}
 use Rattle.walk.specs.Iterate.{it}
 use Rattle.walk.specs.Darts.{half, rev}
 use Rattle.walk.proofs.Iterate.{it-suc}
@@ -20,15 +15,11 @@ use Rattle.walk.proofs.Curve.{closes}
 use Rattle.walk.proofs.Rest.{rest, rest-start, rest-end, rest-low, rest-home, rest-on}
 use Rattle.walk.proofs.Marks.{Marks, marks-none, marks-more, met}
 use Rattle.cell.specs.declared.Cell.{Cell}
-use Rattle.cell.specs.declared.Dart.{Dart}
-use Rattle.cell.specs.Cell.{crossings, index, step}
+use Rattle.cell.specs.Cell.{Edges, crossings, step}
 use Rattle.cell.specs.Loop.{loopSize, dart}
-use Rattle.cell.specs.Of.{countOf}
-use Rattle.cell.specs.Half.{halfEdges, slotOf, edgeOf, halfOf}
-use Rattle.cell.specs.Route.{mostCrossings}
-use Rattle.cell.specs.Walked.{Located, Starts, Marked}
-use Rattle.cell.proofs.Half.{half-slot, half-edge}
-use Rattle.cell.proofs.Step.{number-first}
+use Rattle.cell.specs.Of.{edgesOf}
+use Rattle.cell.specs.Route.{mostInCell}
+use Rattle.cell.specs.Walked.{Marked}
 use Rattle.cell.proofs.Mates.{darts}
 
 -- one more of a list's first entries is v
@@ -40,7 +31,7 @@ front-more (x ∷ l) (suc i) v h =
 front-more [] i v h = absurd (not-suc-le-zero h)
 
 -- marks that are cleared say nothing
-pub cleared : (c : Cell) (n : ℕ) (m : List ℕ) → n ≡ crossings (countOf c) → n ≤ mostCrossings → length m ≡ mostCrossings → Marked c (replicate n 65535 ++ drop n m)
+pub cleared : (c : Cell) (n : ℕ) (m : List ℕ) → n ≡ crossings (edgesOf c) → n ≤ mostInCell → length m ≡ mostInCell → Marked c (replicate n 65535 ++ drop n m)
 cleared c n m e l h = record {
   long = omega (arith, length-append front (drop n m), front-long);
   by = λ x a b. absurd (omega (arith, List·getD-append front (drop n m) 0 x (omega (arith, front-long)), getD-replicate {A = ℕ} n x 65535 0 (omega arith)));
@@ -52,45 +43,21 @@ cleared c n m e l h = record {
     front-long : length front ≡ n
     front-long = length-replicate {A = ℕ} n 65535
 
-pub fresh : (c : Cell) → crossings (countOf c) ≤ mostCrossings → Marked c (replicate 1530 65535)
-fresh c l = marks-none (crossings (countOf c)) (step (countOf c)) 1530 65535 l (omega arith)
-
--- the first dart of a crossing
-pub starts : {w : ℕ → ℕ} {e t p : ℕ} → Located w e t p → (h : ℕ) → h ≡ halfOf (firstSlot e) e → h < halfEdges → (d : Dart) → d .half ≡ h → d .index ≡ t → d .number ≡ p → Starts w p d
-unfolding halfOf
-starts {w} {e} {t} {p} L h q l d dh dt dp =
-    let S = first-slot e (L .edge-lt) in
-    let k : edgeOf h ≡ e = rw q (half-edge (firstSlot e) (place (firstSlot e) e) (S .place-lt) ∙ S .edge-is) in
-    let s : slotOf h ≡ firstSlot e = rw q (half-slot (firstSlot e) (place (firstSlot e) e) (S .place-lt)) in
-    record {
-      dart = record { half-lt = rw dh l; index-lt = rw (dh, dt, k) (L .index-lt); number-is = rw (dh, dt, dp, k) (sym (L .is)) };
-      is = rw (dh, dp) (number-first h p (ap firstSlot k ∙ sym s));
-    }
-
--- a search for the edge of crossing p that has passed e edges, and has t crossings to go
-module _ (w : ℕ → ℕ) {p : ℕ} (e t : ℕ) (q : pre w e + t ≡ p) where
-  pub search-on : w e ≤ t → pre w (e + 1) + (t - w e) ≡ p
-  search-on h = rw add-one (omega (arith, pre-next w 6 e))
-
-  pub search-last : p < crossings w → e ≡ 5 → Located w e t p
-  search-last l f = record { edge-lt = omega arith; index-lt = rw f (omega (arith, rw f at q, pre-next w 6 5)); is = q }
-
-pub search-start : (w : ℕ → ℕ) (p : ℕ) → pre w 0 + p ≡ p
-unfolding pre total
-search-start w p = omega arith
+pub fresh : (c : Cell) → crossings (edgesOf c) ≤ mostInCell → Marked c (replicate 1530 65535)
+fresh c l = marks-none (crossings (edgesOf c)) (step (edgesOf c)) 1530 65535 l (omega arith)
 
 -- a walk from p that has come to its dart k, and was above p since it left
-pub record Walking (w : ℕ → ℕ) (p k : ℕ) : Type 0 where
+pub record Walking (w : Edges) (p k : ℕ) : Type 0 where
   pub start : p < crossings w
   pub live : (j : ℕ) → j ≤ k → dart w p j < 2 * crossings w
   pub up : (j : ℕ) → 0 < j → j ≤ k → p < dart w p j / 2
   pub left : loopSize w p ≡ rest (crossings w) (step w) p (k + 1) (step w (dart w p k))
 
-pub dart-next : (w : ℕ → ℕ) (p k : ℕ) → dart w p (k + 1) ≡ step w (dart w p k)
+pub dart-next : (w : Edges) (p k : ℕ) → dart w p (k + 1) ≡ step w (dart w p k)
 unfolding dart
 dart-next w p k = rw add-one (it-suc (step w) k (2 * p))
 
-pub walking-start : (w : ℕ → ℕ) (p : ℕ) → p < crossings w → Walking w p 0
+pub walking-start : (w : Edges) (p : ℕ) → p < crossings w → Walking w p 0
 unfolding loopSize dart it
 walking-start w p l = record {
   start = l;
@@ -99,7 +66,7 @@ walking-start w p l = record {
   left = rest-start (crossings w) (step w) p (step w (2 * p)) refl;
 }
 
-module _ {w : ℕ → ℕ} {p k : ℕ} (W : Walking w p k) where
+module _ {w : Edges} {p k : ℕ} (W : Walking w p k) where
   abbrev N : ℕ
   N = crossings w
 
@@ -149,7 +116,7 @@ module _ {w : ℕ → ℕ} {p k : ℕ} (W : Walking w p k) where
         let (i, P) = M .by (y / 2) (omega arith) (omega (arith, W .start)) in
         met N (step w) rev (darts w) p (k + 1) (W .start) P h (ap half (dart-next w p k))
 
-pub start-met : (w : ℕ → ℕ) (m : List ℕ) (p : ℕ) → p < crossings w → Marks (crossings w) (step w) m → getD m p 0 < p → loopSize w p ≡ 0
+pub start-met : (w : Edges) (m : List ℕ) (p : ℕ) → p < crossings w → Marks (crossings w) (step w) m → getD m p 0 < p → loopSize w p ≡ 0
 unfolding loopSize it
 start-met w m p l M h =
     let (i, P) = M .by p l (omega arith) in

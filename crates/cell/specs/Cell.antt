@@ -1,34 +1,55 @@
--- The crossings of a cell, their mates on its four faces, and the step from dart to dart. A cell is the six counts of its edges, `w k` for edge k.
--- Its crossings are numbered from 0 in the order of edge and index; in an accepted grid that is the order of their crossing numbers.
-use Prim.Native.Nat.{ℕ, _+_}
+-- The crossings of a cell, their mates on its four faces, and the step from dart to dart. The cell's edges are laid end to end by their first
+-- crossing numbers, of two with the same by edge, and its crossings are numbered from 0 along them: so where no crossing number belongs to two
+-- edges, the order of crossings is that of their crossing numbers.
+use Prim.Native.Nat.{ℕ, _+_, _-_}
+use mathlib.Core.Bool.{Bool, _&&_, _||_}
 use mathlib.Core.List.{List}
-use lib.Dec.{eqb}
+use lib.Dec.{eqb, ltb, leb}
 use lib.ListN.{getD}
 use Rattle.counting.specs.Pick.{pick}
-use Rattle.counting.specs.Pack.{pre, row, col}
+use Rattle.counting.specs.Range.{total}
+use Rattle.counting.specs.Search as search
+use Rattle.counting.specs.Pack.{pre}
 use Rattle.slots.specs.Slots.{slotEdge, place, firstSlot, secondSlot}
 use Rattle.face.specs.Face.{faceJoin}
 use Rattle.walk.specs.Step as walk
 
-module _ (w : ℕ → ℕ) where
-  -- how many crossings the cell has
+-- the six edges of a cell: the count of edge k, and the crossing number (01) at its index 0
+pub record Edges : Type 0 where
+  pub count : ℕ → ℕ
+  pub start : ℕ → ℕ
+
+module _ (w : Edges) where
+  -- edge j is laid before edge k
+  unfoldable pub ahead : ℕ → ℕ → Bool
+  ahead k j = ltb (w .start j) (w .start k) || (eqb (w .start j) (w .start k) && ltb j k)
+
+  -- how many crossings are laid before edge k, and how many the cell has
+  unfoldable pub base : ℕ → ℕ
+  base k = total (λ j. pick (ahead k j) (w .count j) 0) 6 0
+
   abbrev pub crossings : ℕ
-  crossings = pre w 6
+  crossings = pre (w .count) 6
 
-  -- the edge and the index of crossing x, and the number of the crossing with index t on edge k
-  abbrev pub edge : ℕ → ℕ
-  edge x = row w 6 x
-
-  abbrev pub index : ℕ → ℕ
-  index x = col w 6 x
-
+  -- the number of the crossing with index t on edge k
   abbrev pub number : ℕ → ℕ → ℕ
-  number k t = pre w k + t
+  number k t = base k + t
+
+  -- crossing x is one of edge k
+  unfoldable pub holds : ℕ → ℕ → Bool
+  holds x k = leb (base k) x && ltb x (base k + w .count k)
+
+  -- the edge and the index of crossing x
+  unfoldable pub edge : ℕ → ℕ
+  edge x = search.first (holds x) 6
+
+  unfoldable pub index : ℕ → ℕ
+  index x = x - base (edge x)
 
   -- the face call's answer for crossing x on slot s
   unfoldable pub joinAt : ℕ → ℕ → List ℕ
   unfolding faceJoin
-  joinAt s x = faceJoin (w (slotEdge s 0)) (w (slotEdge s 1)) (w (slotEdge s 2)) (place s (edge x)) (index x)
+  joinAt s x = faceJoin (w .count (slotEdge s 0)) (w .count (slotEdge s 1)) (w .count (slotEdge s 2)) (place s (edge x)) (index x)
 
   -- the crossing that an answer on slot s leads to, by its case, edge and index; the number of crossings where it is not joined
   unfoldable pub joinedTo : ℕ → List ℕ → ℕ

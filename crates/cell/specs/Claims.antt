@@ -1,4 +1,4 @@
--- What is proved of the loops of a cell, for all counts.
+-- What is proved of the loops of a cell, for all counts and first numbers.
 use Prim.Native.Nat.{ℕ, _+_, _*_, _/_, _≤_, _<_}
 use mathlib.Core.Path.{_≡_}
 use mathlib.Core.Logic.{_⊎_, _≢_}
@@ -7,6 +7,7 @@ use mathlib.Core.List.{List}
 use lib.Dec.{eqb}
 use lib.ListN.{length, getD}
 use Rattle.counting.specs.Lists.{tally}
+use Rattle.counting.specs.Pack.{pre}
 use Rattle.slots.specs.Slots.{contains}
 use Rattle.walk.specs.Darts.{Darts, half, rev}
 use Rattle.walk.specs.Step.{Ports}
@@ -14,7 +15,7 @@ use Rattle.walk.specs.Walk.{flat}
 use Rattle.walk.specs.Claims.{WalkLaws}
 use Rattle.cell.specs.declared.LoopType.{LoopType}
 use Rattle.cell.specs.declared.Loop.{Loop}
-use Rattle.cell.specs.Cell.{crossings, edge, joinAt, mate, first, second, slot, step}
+use Rattle.cell.specs.Cell.{Edges, ahead, base, crossings, edge, index, number, joinAt, mate, first, second, slot, step}
 use Rattle.cell.specs.Loop.{loopSize, dart, normal, typeOf, inGrid, leasts}
 use Rattle.cell.specs.Answer.{typeNumbers, loopNumbers}
 
@@ -23,7 +24,7 @@ pub record OneToOne : Type 0 where
   pub types : (s t : LoopType) → typeNumbers s ≡ typeNumbers t → s ≡ t
   pub loops : (k l : Loop) → loopNumbers k ≡ loopNumbers l → k ≡ l
 
-module _ (w : ℕ → ℕ) where
+module _ (w : Edges) where
   -- crossing x lies on slot s
   pub record Lies (s x : ℕ) : Type 0 where
     pub slot-lt : s < 4
@@ -50,7 +51,18 @@ module _ (w : ℕ → ℕ) where
     pub to : step w d / 2 ≡ mate w (slot w d) (d / 2)
     pub turned : slot w d ≢ slot w (step w d)
 
-pub record CellLaws (w start : ℕ → ℕ) (v : List ℕ) : Type 0 where
+-- numbers and pairs of edge and index are one to one, in the order in which the edges are laid
+pub record Lay (w : Edges) : Type 0 where
+  pub edge-lt : (x : ℕ) → x < crossings w → edge w x < 6
+  pub index-lt : (x : ℕ) → x < crossings w → index w x < w .count (edge w x)
+  pub back : (x : ℕ) → x < crossings w → number w (edge w x) (index w x) ≡ x
+  pub number-lt : (k t : ℕ) → k < 6 → t < w .count k → number w k t < crossings w
+  pub number-edge : (k t : ℕ) → k < 6 → t < w .count k → edge w (number w k t) ≡ k
+  pub number-index : (k t : ℕ) → k < 6 → t < w .count k → index w (number w k t) ≡ t
+  pub later : (x y : ℕ) → x < y → y < crossings w → (ahead w (edge w y) (edge w x) ≡ true) ⊎ ((edge w x ≡ edge w y) × (index w x < index w y))
+
+pub record CellLaws (w : Edges) (v : List ℕ) : Type 0 where
+  pub lay : Lay w
   -- faces and mates, and so the step, are as a walk asks; so what holds of walks holds of the cell's
   pub ports : Ports (crossings w) (first w) (second w) (mate w)
   pub darts : Darts (2 * crossings w) (crossings w) (step w) rev half
@@ -68,22 +80,29 @@ pub record CellLaws (w start : ℕ → ℕ) (v : List ℕ) : Type 0 where
   pub exactly : AllJoined w → (s x : ℕ) → Lies w s x → tally (along w s x) (flat (crossings w) (step w)) ≡ 1
   -- a loop of three segments is normal, and a corner
   pub three-normal : (p : ℕ) → p < crossings w → loopSize w p ≡ 3 → normal w p ≡ true
-  pub three-corner : (p : ℕ) → p < crossings w → loopSize w p ≡ 3 → (getD (typeOf w start v p) 0 0 ≡ 1) ⊎ (getD (typeOf w start v p) 0 0 ≡ 3)
+  pub three-corner : (p : ℕ) → p < crossings w → loopSize w p ≡ 3 → (getD (typeOf w v p) 0 0 ≡ 1) ⊎ (getD (typeOf w v p) 0 0 ≡ 3)
   -- the loops are listed by least crossing, each that there is and no other
-  pub rising : (i j : ℕ) → i < j → j < length (leasts w start v) → getD (leasts w start v) i 0 < getD (leasts w start v) j 0
-  pub listed : (i : ℕ) → i < length (leasts w start v)
-      → (getD (leasts w start v) i 0 < crossings w) × (0 < loopSize w (getD (leasts w start v) i 0))
-  pub all : (p : ℕ) → p < crossings w → 0 < loopSize w p → (i : ℕ) × (i < length (leasts w start v)) × (getD (leasts w start v) i 0 ≡ p)
+  pub rising : (i j : ℕ) → i < j → j < length (leasts w) → getD (leasts w) i 0 < getD (leasts w) j 0
+  pub listed : (i : ℕ) → i < length (leasts w)
+      → (getD (leasts w) i 0 < crossings w) × (0 < loopSize w (getD (leasts w) i 0))
+  pub all : (p : ℕ) → p < crossings w → 0 < loopSize w p → (i : ℕ) × (i < length (leasts w)) × (getD (leasts w) i 0 ≡ p)
 
--- the crossings of an earlier edge have lower numbers, as those of a cell of an accepted grid
-abbrev pub Rising : (w start : ℕ → ℕ) → Type 0
-Rising w start = (j k : ℕ) → j < k → k < 6 → start j + w j ≤ start k
+-- no crossing number belongs to two edges
+abbrev pub Separate : Edges → Type 0
+Separate w = (j k t u : ℕ) → j < 6 → k < 6 → t < w .count j → u < w .count k → w .start j + t ≡ w .start k + u → j ≡ k
 
--- then crossing numbers have the order of the cell's own; p0 is the least crossing number of its loop (01), and the loops are ordered by p0
-pub record OrderLaws (w start : ℕ → ℕ) (v : List ℕ) : Type 0 where
-  pub numbers : (x y : ℕ) → x < y → y < crossings w → inGrid w start v x < inGrid w start v y
-  pub least : (p k : ℕ) → p < crossings w → k < loopSize w p → inGrid w start v p ≤ inGrid w start v (dart w p k / 2)
-  pub ordered : (i j : ℕ) → i < j → j < length (leasts w start v) → inGrid w start v (getD (leasts w start v) i 0) < inGrid w start v (getD (leasts w start v) j 0)
+-- then the cell's crossings have the order of their crossing numbers; p0 is the least crossing number of its loop (01), and the loops are ordered by p0
+pub record OrderLaws (w : Edges) : Type 0 where
+  pub numbers : (x y : ℕ) → x < y → y < crossings w → inGrid w x < inGrid w y
+  pub least : (p k : ℕ) → p < crossings w → k < loopSize w p → inGrid w p ≤ inGrid w (dart w p k / 2)
+  pub ordered : (i j : ℕ) → i < j → j < length (leasts w) → inGrid w (getD (leasts w) i 0) < inGrid w (getD (leasts w) j 0)
 
 abbrev pub Ordered : Type 0
-Ordered = (w start : ℕ → ℕ) (v : List ℕ) → Rising w start → OrderLaws w start v
+Ordered = (w : Edges) → Separate w → OrderLaws w
+
+-- the first numbers rise from edge to edge, as in a cell of an accepted grid; then the edges are laid as they stand
+abbrev pub Rising : Edges → Type 0
+Rising w = (j k : ℕ) → j < k → k < 6 → w .start j ≤ w .start k
+
+abbrev pub LaidSame : Type 0
+LaidSame = (w : Edges) → Rising w → (k : ℕ) → k < 6 → base w k ≡ pre (w .count) k

@@ -1,54 +1,48 @@
--- Darts in parts: the crossing with index t on the edge of half-edge h, which is crossing x of the cell, left by h.
+-- Only contracts of parts cite this file. Darts in parts: the crossing with index t on the edge of half-edge h, which is crossing x of the cell, left by h.
 use Prim.Native.Nat.{ℕ, _+_, _*_, _-_, _≤_, _<_}
 use mathlib.Core.Path.{_≡_}
-use mathlib.Core.Bool.{not}
+use mathlib.Core.Bool.{Bool, not}
 use mathlib.Core.List.{List}
 use lib.Dec.{eqb}
-use Rattle.counting.specs.Pick.{one}
-use Rattle.counting.specs.Pack.{pre}
+use Rattle.counting.specs.Pick.{pick, one}
 use Rattle.slots.specs.Slots.{firstSlot}
 use Rattle.face.specs.Face.{lower, upper}
 use Rattle.cell.specs.declared.Cell.{Cell}
 use Rattle.cell.specs.declared.Dart.{Dart}
 use Rattle.cell.specs.declared.Next.{Next}
 use Rattle.cell.specs.declared.Next.the-variants.{On, End}
-use Rattle.cell.specs.Cell.{crossings, step}
+use Rattle.cell.specs.Cell.{Edges, number, crossings, step}
 use Rattle.cell.specs.Half.{halfEdges, slotOf, placeOf, edgeOf}
-use Rattle.cell.specs.Of.{countOf}
+use Rattle.cell.specs.Of.{edgesOf}
 use Rattle.cell.specs.Route.{cornerOf, Routed}
 
-pub record Parts (w : ℕ → ℕ) (h t x : ℕ) : Type 0 where
+pub record Parts (w : Edges) (h t x : ℕ) : Type 0 where
   pub half-lt : h < halfEdges
-  pub index-lt : t < w (edgeOf h)
-  pub number-is : x ≡ pre w (edgeOf h) + t
+  pub index-lt : t < w .count (edgeOf h)
+  pub number-is : x ≡ number w (edgeOf h) t
 
-abbrev pub IsDart : (ℕ → ℕ) → Dart → Type 0
+abbrev pub IsDart : Edges → Dart → Type 0
 IsDart w d = Parts w (d .half) (d .index) (d .number)
 
 -- a place to go on from: index u of the edge of half-edge g; and the dart there
-pub record Spot (w : ℕ → ℕ) (g u : ℕ) : Type 0 where
+pub record Spot (w : Edges) (g u : ℕ) : Type 0 where
   pub half-lt : g < halfEdges
-  pub index-lt : u < w (edgeOf g)
+  pub index-lt : u < w .count (edgeOf g)
 
-pub record IsDartAt (w : ℕ → ℕ) (g u : ℕ) (r : Dart) : Type 0 where
+pub record IsDartAt (w : Edges) (g u : ℕ) (r : Dart) : Type 0 where
   pub half-is : r .half ≡ g
   pub index-is : r .index ≡ u
-  pub number-is : r .number ≡ pre w (edgeOf g) + u
+  pub number-is : r .number ≡ number w (edgeOf g) u
 
 -- a dart of the cell whose routes are t
 pub record Ready (c : Cell) (t : List ℕ) (d : Dart) : Type 0 where
   pub routed : Routed c t
-  pub dart : IsDart (countOf c) d
-
--- the dart is the k-th crossing from the upper end of its edge, below the corner count there
-pub record FromUpper (w : ℕ → ℕ) (d : Dart) (k : ℕ) : Type 0 where
-  pub is : k ≡ w (edgeOf (d .half)) - 1 - d .index
-  pub below : k < cornerOf w (upper (placeOf (d .half))) (d .half)
+  pub dart : IsDart (edgesOf c) d
 
 -- the dart is below neither corner count
-pub record Between (w : ℕ → ℕ) (d : Dart) : Type 0 where
+pub record Between (w : Edges) (d : Dart) : Type 0 where
   pub low : cornerOf w (lower (placeOf (d .half))) (d .half) ≤ d .index
-  pub high : d .index + cornerOf w (upper (placeOf (d .half))) (d .half) < w (edgeOf (d .half))
+  pub high : d .index + cornerOf w (upper (placeOf (d .half))) (d .half) < w .count (edgeOf (d .half))
 
 -- its number: the first dart of its crossing if it leaves by the first slot, else the second
 unfoldable pub dartNumber : ℕ → ℕ → ℕ
@@ -58,12 +52,18 @@ dartNumber h x = 2 * x + one (not (eqb (firstSlot (edgeOf h)) (slotOf h)))
 abbrev pub dartOf : Dart → ℕ
 dartOf d = dartNumber (d .half) (d .number)
 
+-- a step leads from dart d round an end of its edge to the edge of half-edge g, to the k-th crossing from its lower end or, if `over`, from its upper
+pub record Turns (w : Edges) (d : Dart) (g k : ℕ) (over : Bool) : Type 0 where
+  pub half-lt : g < halfEdges
+  pub room : k < w .count (edgeOf g)
+  pub is : step w (dartOf d) ≡ dartNumber g (number w (edgeOf g) (pick over (w .count (edgeOf g) - 1 - k) k))
+
 -- a step leads from dart d to dart r
-pub record Leads (w : ℕ → ℕ) (d r : Dart) : Type 0 where
+pub record Leads (w : Edges) (d r : Dart) : Type 0 where
   pub to : IsDart w r
   pub is : step w (dartOf d) ≡ dartOf r
 
 -- what a step from dart d comes to: a dart, or the end of the curve
-abbrev pub Onward : (ℕ → ℕ) → Dart → Next → Type 0
+abbrev pub Onward : Edges → Dart → Next → Type 0
 Onward w d (On r) = Leads w d r
 Onward w d End = step w (dartOf d) ≡ 2 * crossings w

@@ -6,7 +6,7 @@ use mathlib.Core.List.{List, [], _∷_, _++_}
 use lib.ListN.{length, getD}
 use Rattle.counting.specs.Range.{over}
 use Rattle.answer.specs.Answer.{result}
-use Rattle.cell.specs.Cell.{crossings}
+use Rattle.cell.specs.Cell.{Edges, crossings}
 use Rattle.cell.specs.Loop.{loopSize, dart, inGrid, leasts, loopAnswer}
 use Rattle.cell.specs.Route.{front, links}
 use Rattle.cell.specs.Round.{foldsIn, crossesIn}
@@ -21,8 +21,8 @@ pub record Example : Type 0 where
   pub loops : List (List ℕ)
   pub points : List (List ℕ)
 
-abbrev pub at : List ℕ → ℕ → ℕ
-at l = λ e. getD l e 0
+abbrev pub edges : (counts starts : List ℕ) → Edges
+edges counts starts = record { count = λ e. getD counts e 0; start = λ e. getD starts e 0 }
 
 -- the only cell of a grid, 0 1 2 3
 unfoldable pub alone : (a b c d e f : ℕ) (loops points : List (List ℕ)) → Example
@@ -36,15 +36,18 @@ alone a b c d e f loops points = record {
 }
 
 -- a cell of some grid
-unfoldable pub among : (counts : List ℕ) (crossings : ℕ) (loops points : List (List ℕ)) → Example
-among counts n loops points = record {
+unfoldable pub among : (counts starts : List ℕ) (crossings : ℕ) (loops points : List (List ℕ)) → Example
+among counts starts n loops points = record {
   counts = counts;
-  starts = 10 ∷ 20 ∷ 30 ∷ 40 ∷ 50 ∷ 60 ∷ [];
+  starts = starts;
   nodes = 4 ∷ 7 ∷ 9 ∷ 11 ∷ [];
   crossings = n;
   loops = loops;
   points = points;
 }
+
+abbrev rising : List ℕ
+rising = 10 ∷ 20 ∷ 30 ∷ 40 ∷ 50 ∷ 60 ∷ []
 
 abbrev no : List ℕ
 no = result []
@@ -64,26 +67,29 @@ examples =
     ∷ alone 1 0 1 1 0 1 (result (0 ∷ 4 ∷ 1 ∷ 2 ∷ 2 ∷ []) ∷ no ∷ []) ((0 ∷ 2 ∷ 3 ∷ 1 ∷ []) ∷ [])
     ∷ alone 1 1 0 0 1 1 (result (0 ∷ 4 ∷ 1 ∷ 2 ∷ 3 ∷ []) ∷ no ∷ []) ((0 ∷ 1 ∷ 3 ∷ 2 ∷ []) ∷ [])
     -- the numbers of crossings and nodes are those of the grid
-    ∷ among (0 ∷ 1 ∷ 1 ∷ 1 ∷ 1 ∷ 0 ∷ []) 4 (result (20 ∷ 4 ∷ 1 ∷ 2 ∷ 7 ∷ []) ∷ no ∷ []) ((20 ∷ 40 ∷ 50 ∷ 30 ∷ []) ∷ [])
-    ∷ among (1 ∷ 1 ∷ 1 ∷ 0 ∷ 0 ∷ 0 ∷ []) 3 (result (10 ∷ 3 ∷ 1 ∷ 3 ∷ 4 ∷ []) ∷ no ∷ []) ((10 ∷ 20 ∷ 30 ∷ []) ∷ [])
+    ∷ among (0 ∷ 1 ∷ 1 ∷ 1 ∷ 1 ∷ 0 ∷ []) rising 4 (result (20 ∷ 4 ∷ 1 ∷ 2 ∷ 7 ∷ []) ∷ no ∷ []) ((20 ∷ 40 ∷ 50 ∷ 30 ∷ []) ∷ [])
+    ∷ among (1 ∷ 1 ∷ 1 ∷ 0 ∷ 0 ∷ 0 ∷ []) rising 3 (result (10 ∷ 3 ∷ 1 ∷ 3 ∷ 4 ∷ []) ∷ no ∷ []) ((10 ∷ 20 ∷ 30 ∷ []) ∷ [])
+    -- first numbers that do not rise: p0 is the least number, and the loops are ordered by it
+    ∷ among (2 ∷ 2 ∷ 2 ∷ 0 ∷ 0 ∷ 0 ∷ []) (20 ∷ 30 ∷ 10 ∷ 40 ∷ 40 ∷ 40 ∷ []) 6
+    (result (10 ∷ 3 ∷ 1 ∷ 3 ∷ 4 ∷ []) ∷ result (11 ∷ 3 ∷ 1 ∷ 3 ∷ 4 ∷ []) ∷ no ∷ []) ((10 ∷ 20 ∷ 30 ∷ []) ∷ (11 ∷ 21 ∷ 31 ∷ []) ∷ [])
     ∷ []
 
 -- what the definitions say of a cell, and what stands in the table
-module _ (w start : ℕ → ℕ) (v : List ℕ) where
+module _ (w : Edges) (v : List ℕ) where
   unfoldable pub loopsOf : List (List ℕ)
-  loopsOf = over (λ k. loopAnswer w start v k ∷ []) (suc (length (leasts w start v))) 0
+  loopsOf = over (λ k. loopAnswer w v k ∷ []) (suc (length (leasts w))) 0
 
   unfoldable pub pointsOf : ℕ → List ℕ
-  pointsOf p = over (λ k. inGrid w start v (dart w p k / 2) ∷ []) (loopSize w p) 0
+  pointsOf p = over (λ k. inGrid w (dart w p k / 2) ∷ []) (loopSize w p) 0
 
   unfoldable pub allPoints : List (List ℕ)
-  allPoints = over (λ k. pointsOf (getD (leasts w start v) k 0) ∷ []) (length (leasts w start v)) 0
+  allPoints = over (λ k. pointsOf (getD (leasts w) k 0) ∷ []) (length (leasts w)) 0
 
 unfoldable pub computed : List Example → List (List ℕ)
 computed [] = []
 computed (x ∷ l) =
-    (crossings (at (x .counts)) ∷ [])
-    ∷ (loopsOf (at (x .counts)) (at (x .starts)) (x .nodes) ++ (allPoints (at (x .counts)) (at (x .starts)) (x .nodes) ++ computed l))
+    (crossings (edges (x .counts) (x .starts)) ∷ [])
+    ∷ (loopsOf (edges (x .counts) (x .starts)) (x .nodes) ++ (allPoints (edges (x .counts) (x .starts)) (x .nodes) ++ computed l))
 
 unfoldable pub listed : List Example → List (List ℕ)
 listed [] = []
@@ -93,15 +99,12 @@ listed (x ∷ l) = (x .crossings ∷ []) ∷ (x .loops ++ (x .points ++ listed l
 -- A recorded loop of edges 01, 02, 02, 01, and one of 01, 01: folded segments, and crossings on edge 01; of none.
 unfoldable pub parts : List (List ℕ)
 parts =
-    front w start 9 ∷ front w start 10 ∷ front w start 11 ∷ front w start 6 ∷ links 9 ∷ links 10 ∷ links 6
+    front w 9 ∷ front w 10 ∷ front w 11 ∷ front w 6 ∷ links 9 ∷ links 10 ∷ links 6
     ∷ (foldsIn round 4 ∷ crossesIn round 4 0 ∷ foldsIn pair 2 ∷ crossesIn pair 2 0 ∷ foldsIn round 0 ∷ [])
     ∷ []
   where
-    w : ℕ → ℕ
-    w = at (5 ∷ 1 ∷ 0 ∷ 1 ∷ 0 ∷ 0 ∷ [])
-
-    start : ℕ → ℕ
-    start = at (10 ∷ 20 ∷ 30 ∷ 40 ∷ 50 ∷ 60 ∷ [])
+    w : Edges
+    w = edges (5 ∷ 1 ∷ 0 ∷ 1 ∷ 0 ∷ 0 ∷ []) (10 ∷ 20 ∷ 30 ∷ 40 ∷ 50 ∷ 60 ∷ [])
 
     round : List ℕ
     round = 9 ∷ 3 ∷ 10 ∷ 6 ∷ []

@@ -1,8 +1,8 @@
--- The half-edges of a cell: edge j, ab ac bc, of slot s is half-edge 3 * s + j. An edge has two, one in each of its slots.
+-- Only contracts of parts cite this file. The half-edges of a cell: edge j, ab ac bc, of slot s is half-edge 3 * s + j. An edge has two, one in each of its slots.
 use Prim.Native.Nat.{ℕ, _+_, _*_, _/_, _%_}
 use Rattle.slots.specs.Slots.{slotEdge, place, otherSlot}
 use Rattle.face.specs.Face.{other}
-use Rattle.cell.specs.Cell.{edge, slot}
+use Rattle.cell.specs.Cell.{Edges, edge, slot}
 
 abbrev pub halfEdges : ℕ
 halfEdges = 12
@@ -34,6 +34,6 @@ unfolding twin
 around v h = twin (3 * slotOf h + other v (placeOf h))
 
 -- the half-edge by which dart d of a cell leaves
-unfoldable pub halfEdge : (ℕ → ℕ) → ℕ → ℕ
+unfoldable pub halfEdge : Edges → ℕ → ℕ
 unfolding slot halfOf
 halfEdge w d = halfOf (slot w d) (edge w (d / 2))

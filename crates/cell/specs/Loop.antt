@@ -1,4 +1,4 @@
--- The loops of a cell (01), each known by its least crossing p, in the cell's own numbers.
+-- The loops of a cell (01), each known by its least crossing p.
 use Prim.Native.Nat.{ℕ, _+_, _*_, _/_, _%_}
 use mathlib.Core.Bool.{Bool}
 use mathlib.Core.List.{List, [], _∷_}
@@ -10,9 +10,9 @@ use Rattle.counting.specs.Lists.{tally}
 use Rattle.walk.specs.Iterate.{it}
 use Rattle.walk.specs.Walk as walk
 use Rattle.answer.specs.Answer.{result}
-use Rattle.cell.specs.Cell.{crossings, edge, index, step}
+use Rattle.cell.specs.Cell.{Edges, crossings, edge, index, step}
 
-module _ (w : ℕ → ℕ) where
+module _ (w : Edges) where
   -- the length (01) of the loop from p: its number of segments; 0 where there is no loop whose least crossing is p
   unfoldable pub loopSize : ℕ → ℕ
   unfolding step
@@ -58,28 +58,29 @@ module _ (v : List ℕ) (a b c : ℕ) where
       (pick (eqb (a + b + c) 3) (3 ∷ getD v 0 0 ∷ [])
       (1 ∷ nodeWith 1 ∷ [])))
 
--- The loops of a cell in a grid: `start k` is the crossing number at index 0 of edge k.
-module _ (w start : ℕ → ℕ) (v : List ℕ) where
+-- The loops of a cell in a grid; v are its nodes.
+module _ (w : Edges) where
   -- the crossing number (01) of crossing x
   unfoldable pub inGrid : ℕ → ℕ
-  inGrid x = start (edge w x) + index w x
-
-  unfoldable pub typeOf : ℕ → List ℕ
-  unfolding typeBy parity
-  typeOf p = typeBy v (parity w p 0) (parity w p 1) (parity w p 2)
+  inGrid x = w .start (edge w x) + index w x
 
   -- the least crossings of the loops, in order
   unfoldable pub leasts : List ℕ
   unfolding loopSize over
   leasts = over (λ p. pick (eqb (loopSize w p) 0) [] (p ∷ [])) (crossings w) 0
 
-  -- what is answered of the loop from p: p0, n, normal or not, and its type; and of no loop
-  unfoldable pub answerOf : List ℕ → List ℕ
-  unfolding inGrid loopSize normal typeOf
-  answerOf [] = result []
-  answerOf (p ∷ l) = result (inGrid p ∷ loopSize w p ∷ one (normal w p) ∷ typeOf p)
+  module _ (v : List ℕ) where
+    unfoldable pub typeOf : ℕ → List ℕ
+    unfolding typeBy parity
+    typeOf p = typeBy v (parity w p 0) (parity w p 1) (parity w p 2)
 
-  -- loop k of the cell (01); none if there are k or fewer
-  unfoldable pub loopAnswer : ℕ → List ℕ
-  unfolding leasts answerOf
-  loopAnswer k = answerOf (drop k leasts)
+    -- what is answered of the loop from p: p0, n, normal or not, and its type; and of no loop
+    unfoldable pub answerOf : List ℕ → List ℕ
+    unfolding inGrid loopSize normal typeOf
+    answerOf [] = result []
+    answerOf (p ∷ l) = result (inGrid p ∷ loopSize w p ∷ one (normal w p) ∷ typeOf p)
+
+    -- loop k of the cell (01); none if there are k or fewer
+    unfoldable pub loopAnswer : ℕ → List ℕ
+    unfolding leasts answerOf
+    loopAnswer k = answerOf (drop k leasts)

@@ -1,4 +1,4 @@
--- What is counted of a recorded loop: the n half-edges at the front of a list, taken as a round.
+-- Only contracts of parts cite this file. What is counted of a recorded loop: the n half-edges at the front of a list, taken as a round.
 use Prim.Native.Nat.{ℕ, _<_}
 use mathlib.Core.List.{List}
 use lib.Dec.{eqb}

@@ -1,34 +1,68 @@
--- The routes of a cell: nine numbers to each half-edge, from which a step over it is found. They are worked out once a cell.
+-- Only contracts of parts cite this file. The routes of a cell: nine numbers to each half-edge, from which a step over it is found. They are worked out once a cell.
 use Prim.Native.Nat.{ℕ, _+_, _*_, _<_, _≤_}
 use mathlib.Core.Path.{_≡_}
 use mathlib.Core.List.{List, [], _∷_}
 use lib.ListN.{getD}
 use lib.Seq.{sets}
-use Rattle.counting.specs.Pack.{pre}
 use Rattle.slots.specs.Slots.{slotEdge}
 use Rattle.face.specs.Face.{lower, upper, cornerAt}
 use Rattle.cell.specs.declared.Cell.{Cell}
 use Rattle.cell.specs.declared.Run.{Run}
-use Rattle.cell.specs.Cell.{crossings}
-use Rattle.cell.specs.Of.{countOf, startOf}
+use Rattle.cell.specs.Cell.{Edges, base, crossings}
+use Rattle.cell.specs.Of.{countOf, startOf, edgesOf}
 use Rattle.cell.specs.Half.{halfEdges, slotOf, placeOf, edgeOf, twin, around}
 
--- the most crossings that a cell can have: six counts of one byte
-abbrev pub mostCrossings : ℕ
-mostCrossings = 1530
+-- the greatest count of an edge, a byte; and the most crossings that a cell can have
+abbrev pub mostCount : ℕ
+mostCount = 255
+
+abbrev pub mostInCell : ℕ
+mostInCell = 6 * mostCount
 
 -- one more than the greatest number that a start can have
 abbrev pub startLimit : ℕ
 startLimit = 65536
 
--- the corner count at the node v of the slot, on half-edge h
-unfoldable pub cornerOf : (ℕ → ℕ) → ℕ → ℕ → ℕ
-cornerOf w v h = cornerAt (w (slotEdge (slotOf h) 0)) (w (slotEdge (slotOf h) 1)) (w (slotEdge (slotOf h) 2)) v (placeOf h)
+-- the columns of the routes: the corner counts at the lower and the upper end of the half-edge's edge; the edge's count, its first number in the cell
+-- and in the grid; the half-edges that follow round the lower end, round the upper end, and after a folded segment; the place in the slot
+abbrev pub columns : ℕ
+columns = 9
 
-module _ (w start : ℕ → ℕ) where
+abbrev pub lowAt : ℕ
+lowAt = 0
+
+abbrev pub highAt : ℕ
+highAt = 1
+
+abbrev pub countAt : ℕ
+countAt = 2
+
+abbrev pub firstAt : ℕ
+firstAt = 3
+
+abbrev pub startAt : ℕ
+startAt = 4
+
+abbrev pub roundLowAt : ℕ
+roundLowAt = 5
+
+abbrev pub roundHighAt : ℕ
+roundHighAt = 6
+
+abbrev pub twinAt : ℕ
+twinAt = 7
+
+abbrev pub placeAt : ℕ
+placeAt = 8
+
+-- the corner count at the node v of the slot, on half-edge h
+unfoldable pub cornerOf : Edges → ℕ → ℕ → ℕ
+cornerOf w v h = cornerAt (w .count (slotEdge (slotOf h) 0)) (w .count (slotEdge (slotOf h) 1)) (w .count (slotEdge (slotOf h) 2)) v (placeOf h)
+
+module _ (w : Edges) where
   -- the corner counts at the lower and the upper end; the edge's count, its first number in the cell and in the grid
   unfoldable pub front : ℕ → List ℕ
-  front h = cornerOf w (lower (placeOf h)) h ∷ cornerOf w (upper (placeOf h)) h ∷ w (edgeOf h) ∷ pre w (edgeOf h) ∷ start (edgeOf h) ∷ []
+  front h = cornerOf w (lower (placeOf h)) h ∷ cornerOf w (upper (placeOf h)) h ∷ w .count (edgeOf h) ∷ base w (edgeOf h) ∷ w .start (edgeOf h) ∷ []
 
   -- t with these numbers for the three half-edges of slot s
   unfoldable pub fronts : ℕ → List ℕ → List ℕ
@@ -38,15 +72,15 @@ module _ (w start : ℕ → ℕ) where
 unfoldable pub links : ℕ → List ℕ
 links h = around (lower (placeOf h)) h ∷ around (upper (placeOf h)) h ∷ twin h ∷ placeOf h ∷ []
 
--- the numbers of crossings before each edge and in all, from counts that are bytes
-pub record Firsts (c : Cell) (f : List ℕ) : Type 0 where
-  pub at : (k : ℕ) → k ≤ 6 → getD f k 0 ≡ pre (countOf c) k
-  pub few : crossings (countOf c) ≤ mostCrossings
+-- the numbers of crossings laid before each edge
+abbrev pub Firsts : Cell → List ℕ → Type 0
+Firsts c f = (k : ℕ) → k < 6 → getD f k 0 ≡ base (edgesOf c) k
 
 -- x is the run of edge e
 pub record IsRun (c : Cell) (e : ℕ) (x : Run) : Type 0 where
   pub count-is : x .count ≡ countOf c e
-  pub first-is : x .first ≡ pre (countOf c) e
+  pub small : x .count ≤ mostCount
+  pub first-is : x .first ≡ base (edgesOf c) e
   pub start-is : x .start ≡ startOf c e
   pub near : x .start < startLimit
 
@@ -58,7 +92,7 @@ pub record SlotRuns (c : Cell) (s : ℕ) (ab ac bc : Run) : Type 0 where
 
 -- t has the routes of the cell: five numbers and four to each half-edge
 pub record Routed (c : Cell) (t : List ℕ) : Type 0 where
-  pub counted : (h i : ℕ) → h < halfEdges → i < 5 → getD t (9 * h + i) 0 ≡ getD (front (countOf c) (startOf c) h) i 0
+  pub counted : (h i : ℕ) → h < halfEdges → i < 5 → getD t (9 * h + i) 0 ≡ getD (front (edgesOf c) h) i 0
   pub linked : (h i : ℕ) → h < halfEdges → i < 4 → getD t (9 * h + (5 + i)) 0 ≡ getD (links h) i 0
-  pub few : crossings (countOf c) ≤ mostCrossings
+  pub few : crossings (edgesOf c) ≤ mostInCell
   pub near : (e : ℕ) → e < 6 → startOf c e < startLimit

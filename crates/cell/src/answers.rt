@@ -5,9 +5,9 @@ ghost use Prim.Native.Nat.{_%_, _<_, _≤_};
 ghost use lib.Dec.{eqb};
 ghost use lib.ListN.{getD};
 ghost use Rattle.counting.specs.Pick.{one};
-ghost use Rattle.cell.specs.Of.{countOf, startOf};
+ghost use Rattle.cell.specs.Of.{edgesOf};
 ghost use Rattle.cell.specs.Loop.{nodeWith, typeBy, answerOf};
-ghost use Rattle.cell.specs.Route.{mostCrossings};
+ghost use Rattle.cell.specs.Route.{mostInCell};
 ghost use Rattle.cell.specs.Walked.{Looped};
 ghost use Rattle.cell.specs.Half.{halfEdges, edgeOf};
 ghost use Rattle.cell.specs.Round.{HalfEdges, foldsIn, crossesIn};
@@ -26,7 +26,7 @@ fn same(a: usize, b: usize) -> usize
 
 // The edge of the half-edge recorded at place k.
 fn edge_at(halves: &[u8; 1530], k: usize) -> usize
-    requires { ⌜ k < mostCrossings ⌝ }
+    requires { ⌜ k < mostInCell ⌝ }
     requires { ⌜ getD (now halves) k 0 < halfEdges ⌝ }
     ensures { λ r. ⌜ r ≡ edgeOf (getD (now (halves .entry)) k 0) ⌝ }
 {
@@ -35,7 +35,7 @@ fn edge_at(halves: &[u8; 1530], k: usize) -> usize
 
 // The folded segments of a recorded loop of n, from the one that comes to place 0 on.
 pub fn folds_of(halves: &[u8; 1530], n: usize) -> usize
-    requires { ⌜ n ≤ mostCrossings ⌝ }
+    requires { ⌜ n ≤ mostInCell ⌝ }
     requires { ⌜ HalfEdges (now halves) n ⌝ }
     ensures { λ r. ⌜ r ≡ foldsIn (now (halves .entry)) n ⌝ }
 {
@@ -56,7 +56,7 @@ pub fn folds_of(halves: &[u8; 1530], n: usize) -> usize
 
 // The crossings of a recorded loop of n on edge e.
 fn crosses_of(halves: &[u8; 1530], n: usize, e: usize) -> usize
-    requires { ⌜ n ≤ mostCrossings ⌝ }
+    requires { ⌜ n ≤ mostInCell ⌝ }
     requires { ⌜ HalfEdges (now halves) n ⌝ }
     ensures { λ r. ⌜ r ≡ crossesIn (now (halves .entry)) n e ⌝ }
 {
@@ -110,7 +110,7 @@ pub(crate) fn answer_of(
     points: &[u32; 1530],
 ) -> Loop
     requires { ⌜ Looped c p n (now halves) (now points) ⌝ }
-    ensures { λ r. ⌜ loopNumbers r ≡ answerOf (countOf c) (startOf c) (c .nodes) (p ∷ []) ⌝ }
+    ensures { λ r. ⌜ loopNumbers r ≡ answerOf (edgesOf c) (c .nodes) (p ∷ []) ⌝ }
 {
     let x = crosses_of(halves, n, 0);
     let y = crosses_of(halves, n, 1);

@@ -1,6 +1,6 @@
 // The loops of a cell, from the counts of its six edges.
 ghost use mathlib.Core.Path.{_≡_};
-ghost use Rattle.cell.specs.Of.{countOf, startOf};
+ghost use Rattle.cell.specs.Of.{edgesOf};
 ghost use Rattle.cell.specs.Loop.{loopAnswer};
 ghost use Rattle.cell.specs.Answer.{loopNumbers};
 
@@ -63,7 +63,7 @@ enum Next {
 
 // Loop k of the cell, or that there are k or fewer. The walks' marks and records stand on the stack: 11 KB.
 pub fn loop_at(c: Cell, k: usize) -> Loop
-    ensures { λ r. ⌜ loopNumbers r ≡ loopAnswer (countOf c) (startOf c) (c .nodes) k ⌝ }
+    ensures { λ r. ⌜ loopNumbers r ≡ loopAnswer (edgesOf c) (c .nodes) k ⌝ }
 {
     let n = crossings_of(c);
     let routes = routes_of(c);

@@ -2,13 +2,35 @@
 ghost use mathlib.Core.Path.{_≡_};
 ghost use mathlib.Core.List.{[], _∷_};
 ghost use Prim.Native.Nat.{_+_, _*_, _<_, _≤_};
+ghost use lib.ListN.{getD};
 ghost use lib.Seq.{sets};
-ghost use Rattle.cell.specs.Cell.{crossings};
-ghost use Rattle.cell.specs.Of.{countOf, startOf};
+ghost use Rattle.cell.specs.Cell.{ahead, base, crossings};
+ghost use Rattle.cell.specs.Of.{countOf, startOf, edgesOf};
 ghost use Rattle.cell.specs.Half.{halfEdges};
-ghost use Rattle.cell.specs.Route.{mostCrossings, startLimit, fronts, Firsts, IsRun, SlotRuns, Routed};
+ghost use Rattle.cell.specs.Route.{columns, mostCount, mostInCell, startLimit, fronts, Firsts, IsRun, SlotRuns, Routed};
 use super::Cell;
 use super::Run;
+
+// The columns of the routes.
+pub(crate) const LOW: usize = 0;
+
+pub(crate) const HIGH: usize = 1;
+
+pub(crate) const COUNT: usize = 2;
+
+pub(crate) const FIRST: usize = 3;
+
+pub(crate) const START: usize = 4;
+
+pub(crate) const ROUND_LOW: usize = 5;
+
+pub(crate) const ROUND_HIGH: usize = 6;
+
+pub(crate) const TWIN: usize = 7;
+
+pub(crate) const PLACE: usize = 8;
+
+const COLUMNS: usize = 9;
 
 // Nine numbers to a half-edge, of which the last four are the same in each cell: those that follow round the lower end, round the upper
 // end and after a folded segment, and the place in the slot.
@@ -124,7 +146,7 @@ const LINKS: [usize; 108] = [
 ];
 
 pub(crate) fn wide8(x: u8) -> usize
-    ensures { λ r. ⌜ (r ≡ x) × (r < 256) ⌝ }
+    ensures { λ r. ⌜ (r ≡ x) × (r ≤ mostCount) ⌝ }
 {
     x as usize
 }
@@ -151,34 +173,98 @@ fn start_of(c: Cell, e: usize) -> u16
 
 pub(crate) fn count_at(c: Cell, e: usize) -> usize
     requires { ⌜ e < 6 ⌝ }
-    ensures { λ r. ⌜ r ≡ countOf c e ⌝ }
+    ensures { λ r. ⌜ (r ≡ countOf c e) × (r ≤ mostCount) ⌝ }
 {
     wide8(count_of(c, e))
 }
 
-// How many crossings stand before each edge, and in all.
-fn firsts_of(c: Cell) -> [usize; 7]
-    ensures { λ r. ⌜ Firsts c r ⌝ }
-{
-    let a = wide8(c.counts[0]);
-    let b = a + wide8(c.counts[1]);
-    let d = b + wide8(c.counts[2]);
-    let e = d + wide8(c.counts[3]);
-    let f = e + wide8(c.counts[4]);
-    let g = f + wide8(c.counts[5]);
-    [0, a, b, d, e, f, g]
-}
-
 // How many crossings the cell has.
 pub fn crossings_of(c: Cell) -> usize
-    ensures { λ r. ⌜ (r ≡ crossings (countOf c)) × (r ≤ mostCrossings) ⌝ }
+    ensures { λ r. ⌜ (r ≡ crossings (edgesOf c)) × (r ≤ mostInCell) ⌝ }
 {
-    let firsts = firsts_of(c);
-    firsts[6]
+    let mut n: usize = 0;
+    let mut k: usize = 0;
+    while k < 6 {
+        n += count_at(c, k);
+        k += 1;
+    }
+    n
+}
+
+// Whether edge j is laid before edge k.
+fn is_ahead(c: Cell, k: usize, j: usize) -> bool
+    requires { ⌜ k < 6 ⌝ }
+    requires { ⌜ j < 6 ⌝ }
+    ensures { λ r. ⌜ r ≡ ahead (edgesOf c) k j ⌝ }
+{
+    let a = start_of(c, j);
+    let b = start_of(c, k);
+    if a == b {
+        return j < k;
+    }
+    a < b
+}
+
+// How many crossings are laid before edge k.
+fn laid_before(c: Cell, k: usize) -> usize
+    requires { ⌜ k < 6 ⌝ }
+    ensures { λ r. ⌜ r ≡ base (edgesOf c) k ⌝ }
+{
+    let mut n: usize = 0;
+    let mut j: usize = 0;
+    while j < 6 {
+        if is_ahead(c, k, j) {
+            n += count_at(c, j);
+            j += 1;
+            continue;
+        }
+        j += 1;
+    }
+    n
+}
+
+// How many crossings are laid before each edge.
+fn laid_of(c: Cell) -> [usize; 6]
+    ensures { λ r. ⌜ Firsts c r ⌝ }
+{
+    let mut f = [0usize; 6];
+    let mut k: usize = 0;
+    while k < 6 {
+        f[k] = laid_before(c, k);
+        k += 1;
+    }
+    f
+}
+
+// The same. Where the first numbers rise from edge to edge, the edges are laid as they stand.
+fn firsts_of(c: Cell) -> [usize; 6]
+    ensures { λ r. ⌜ Firsts c r ⌝ }
+{
+    let mut f = [0usize; 6];
+    let mut n = count_at(c, 0);
+    let mut k: usize = 1;
+    while k < 6 {
+        if start_of(c, k) < start_of(c, k - 1) {
+            return laid_of(c);
+        }
+        f[k] = n;
+        n += count_at(c, k);
+        k += 1;
+    }
+    f
+}
+
+// Column i of half-edge h.
+pub(crate) fn route(routes: &[usize; 108], h: usize, i: usize) -> usize
+    requires { ⌜ h < halfEdges ⌝ }
+    requires { ⌜ i < columns ⌝ }
+    ensures { λ r. ⌜ r ≡ getD (now (routes .entry)) (columns * h + i) 0 ⌝ }
+{
+    routes[COLUMNS * h + i]
 }
 
 // The crossings of edge e.
-fn run_of(c: Cell, firsts: &[usize; 7], e: usize) -> Run
+fn run_of(c: Cell, firsts: &[usize; 6], e: usize) -> Run
     requires { ⌜ e < 6 ⌝ }
     requires { ⌜ Firsts c (now firsts) ⌝ }
     ensures { λ r. ⌜ IsRun c e r ⌝ }
@@ -207,7 +293,7 @@ fn put_front(t: &mut [usize; 108], h: usize, low: usize, high: usize, x: Run)
 fn put_slot(c: Cell, t: &mut [usize; 108], s: usize, ab: Run, ac: Run, bc: Run)
     requires { ⌜ s < 4 ⌝ }
     requires { ⌜ SlotRuns c s ab ac bc ⌝ }
-    ensures { λ _. ⌜ now (t .exit) ≡ fronts (countOf c) (startOf c) s (now (t .entry)) ⌝ }
+    ensures { λ _. ⌜ now (t .exit) ≡ fronts (edgesOf c) s (now (t .entry)) ⌝ }
 {
     let corners = face::corners_of(ab.count, ac.count, bc.count);
     let a = wide8(corners.a);
@@ -218,7 +304,7 @@ fn put_slot(c: Cell, t: &mut [usize; 108], s: usize, ab: Run, ac: Run, bc: Run)
     put_front(t, 3 * s + 2, b, d, bc);
 }
 
-// The routes of the cell.
+// The routes of the cell. Slot by slot at constant places, so that the compiler works the tables out: a loop takes half as long again (SPEED.md).
 pub fn routes_of(c: Cell) -> [usize; 108]
     ensures { λ r. ⌜ Routed c r ⌝ }
 {

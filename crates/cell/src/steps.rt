@@ -1,21 +1,19 @@
 // The step from dart to dart, by the routes of a cell.
-ghost use Prim.Native.Nat.{_<_};
-ghost use Rattle.face.specs.Face.{lower};
-ghost use Rattle.cell.specs.Of.{countOf};
-ghost use Rattle.cell.specs.Half.{placeOf};
-ghost use Rattle.cell.specs.Route.{cornerOf, Routed};
-ghost use Rattle.cell.specs.Dart.{IsDartAt, Spot, Ready, FromUpper, Between, Leads, Onward};
+ghost use Rattle.cell.specs.Of.{edgesOf};
+ghost use Rattle.cell.specs.Route.{Routed};
+ghost use Rattle.cell.specs.Dart.{IsDartAt, Spot, Ready, Turns, Between, Leads, Onward};
 use super::Cell;
 use super::Dart;
 use super::Next;
+use super::routes;
 
 // The dart at index u that leaves by half-edge g.
 fn onto(c: Cell, routes: &[usize; 108], g: usize, u: usize) -> Dart
     requires { ⌜ Routed c (now routes) ⌝ }
-    requires { ⌜ Spot (countOf c) g u ⌝ }
-    ensures { λ r. ⌜ IsDartAt (countOf c) g u r ⌝ }
+    requires { ⌜ Spot (edgesOf c) g u ⌝ }
+    ensures { λ r. ⌜ IsDartAt (edgesOf c) g u r ⌝ }
 {
-    let first = routes[9 * g + 3];
+    let first = routes::route(routes, g, routes::FIRST);
     Dart {
         half: g,
         index: u,
@@ -23,53 +21,36 @@ fn onto(c: Cell, routes: &[usize; 108], g: usize, u: usize) -> Dart
     }
 }
 
-// Round the lower end of the dart's edge, to the other edge there.
-fn round_low(c: Cell, routes: &[usize; 108], d: Dart) -> Dart
-    requires { ⌜ Ready c (now routes) d ⌝ }
-    requires { ⌜ d .index < cornerOf (countOf c) (lower (placeOf (d .half))) (d .half) ⌝ }
-    ensures { λ r. ⌜ Leads (countOf c) d r ⌝ }
+// Round an end of the dart's edge, of which the dart is the k-th crossing: to the k-th from there on the edge of half-edge g, which has the
+// end as its upper one if `over`.
+fn round(c: Cell, routes: &[usize; 108], d: Dart, g: usize, k: usize, over: bool) -> Dart
+    requires { ⌜ Routed c (now routes) ⌝ }
+    requires { ⌜ Turns (edgesOf c) d g k over ⌝ }
+    ensures { λ r. ⌜ Leads (edgesOf c) d r ⌝ }
 {
-    let h = d.half;
-    let t = d.index;
-    let g = routes[9 * h + 5];
-    let place = routes[9 * h + 8];
-    if place == 2 {
-        let n = routes[9 * g + 2];
-        return onto(c, routes, g, n - 1 - t);
+    if over {
+        let n = routes::route(routes, g, routes::COUNT);
+        return onto(c, routes, g, n - 1 - k);
     }
-    onto(c, routes, g, t)
-}
-
-// Round the upper end; the dart is the k-th crossing from there.
-fn round_high(c: Cell, routes: &[usize; 108], d: Dart, k: usize) -> Dart
-    requires { ⌜ Ready c (now routes) d ⌝ }
-    requires { ⌜ FromUpper (countOf c) d k ⌝ }
-    ensures { λ r. ⌜ Leads (countOf c) d r ⌝ }
-{
-    let h = d.half;
-    let g = routes[9 * h + 6];
-    let place = routes[9 * h + 8];
-    if place == 0 {
-        return onto(c, routes, g, k);
-    }
-    let n = routes[9 * g + 2];
-    onto(c, routes, g, n - 1 - k)
+    onto(c, routes, g, k)
 }
 
 // Past both corners: neighbours are joined in pairs, down from the upper corner, and the lowest is left over if they are odd.
 fn between(c: Cell, routes: &[usize; 108], d: Dart) -> Next
     requires { ⌜ Ready c (now routes) d ⌝ }
-    requires { ⌜ Between (countOf c) d ⌝ }
-    ensures { λ r. ⌜ Onward (countOf c) d r ⌝ }
+    requires { ⌜ Between (edgesOf c) d ⌝ }
+    ensures { λ r. ⌜ Onward (edgesOf c) d r ⌝ }
 {
     let h = d.half;
     let t = d.index;
-    let g = routes[9 * h + 7];
-    let up = routes[9 * h + 2] - routes[9 * h + 1] - t;
+    let g = routes::route(routes, h, routes::TWIN);
+    let n = routes::route(routes, h, routes::COUNT);
+    let high = routes::route(routes, h, routes::HIGH);
+    let up = n - high - t;
     if up % 2 == 0 {
         return Next::On(onto(c, routes, g, t + 1));
     }
-    let low = routes[9 * h];
+    let low = routes::route(routes, h, routes::LOW);
     if t == low {
         return Next::End;
     }
@@ -79,18 +60,23 @@ fn between(c: Cell, routes: &[usize; 108], d: Dart) -> Next
 // What follows a dart.
 pub(crate) fn next(c: Cell, routes: &[usize; 108], d: Dart) -> Next
     requires { ⌜ Ready c (now routes) d ⌝ }
-    ensures { λ r. ⌜ Onward (countOf c) d r ⌝ }
+    ensures { λ r. ⌜ Onward (edgesOf c) d r ⌝ }
 {
     let h = d.half;
     let t = d.index;
-    let low = routes[9 * h];
+    let low = routes::route(routes, h, routes::LOW);
     if t < low {
-        return Next::On(round_low(c, routes, d));
+        let g = routes::route(routes, h, routes::ROUND_LOW);
+        let place = routes::route(routes, h, routes::PLACE);
+        return Next::On(round(c, routes, d, g, t, place == 2));
     }
-    let k = routes[9 * h + 2] - 1 - t;
-    let high = routes[9 * h + 1];
+    let n = routes::route(routes, h, routes::COUNT);
+    let k = n - 1 - t;
+    let high = routes::route(routes, h, routes::HIGH);
     if k < high {
-        return Next::On(round_high(c, routes, d, k));
+        let g = routes::route(routes, h, routes::ROUND_HIGH);
+        let place = routes::route(routes, h, routes::PLACE);
+        return Next::On(round(c, routes, d, g, k, 0 < place));
     }
     between(c, routes, d)
 }

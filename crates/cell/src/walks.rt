@@ -4,9 +4,9 @@ ghost use mathlib.Core.Path.{_≡_};
 ghost use mathlib.Core.List.{_++_};
 ghost use Prim.Native.Nat.{_<_, _≤_};
 ghost use lib.ListN.{length, replicate, drop};
-ghost use Rattle.cell.specs.Cell.{crossings};
-ghost use Rattle.cell.specs.Of.{countOf};
-ghost use Rattle.cell.specs.Route.{mostCrossings};
+ghost use Rattle.cell.specs.Cell.{crossings, holds};
+ghost use Rattle.cell.specs.Of.{edgesOf};
+ghost use Rattle.cell.specs.Route.{mostInCell, Routed};
 ghost use Rattle.cell.specs.Walked.{Located, Starts, Lent, Walked};
 use super::Cell;
 use super::Dart;
@@ -15,40 +15,55 @@ use super::routes;
 use super::steps;
 use super::tables;
 
-// The first dart of the crossing with index t on edge e, which is crossing p.
-fn first_dart(c: Cell, e: usize, t: usize, p: usize) -> Dart
-    requires { ⌜ Located (countOf c) e t p ⌝ }
-    ensures { λ r. ⌜ Starts (countOf c) p r ⌝ }
+// Whether crossing p is one of edge e.
+fn is_on(c: Cell, routes: &[usize; 108], e: usize, p: usize) -> bool
+    requires { ⌜ Routed c (now routes) ⌝ }
+    requires { ⌜ e < 6 ⌝ }
+    ensures { λ r. ⌜ r ≡ holds (edgesOf c) p e ⌝ }
 {
+    let h = tables::first_of(e);
+    let first = routes::route(routes, h, routes::FIRST);
+    if p < first {
+        return false;
+    }
+    let n = routes::route(routes, h, routes::COUNT);
+    p < first + n
+}
+
+// The first dart of crossing p, which is one of edge e.
+fn first_dart(c: Cell, routes: &[usize; 108], e: usize, p: usize) -> Dart
+    requires { ⌜ Located c (now routes) p e ⌝ }
+    ensures { λ r. ⌜ Starts (edgesOf c) p r ⌝ }
+{
+    let h = tables::first_of(e);
+    let first = routes::route(routes, h, routes::FIRST);
     Dart {
-        half: tables::first_of(e),
-        index: t,
+        half: h,
+        index: p - first,
         number: p,
     }
 }
 
 // The first dart of crossing p.
-fn start_at(c: Cell, p: usize) -> Dart
-    requires { ⌜ p < crossings (countOf c) ⌝ }
-    ensures { λ r. ⌜ Starts (countOf c) p r ⌝ }
+fn start_at(c: Cell, routes: &[usize; 108], p: usize) -> Dart
+    requires { ⌜ Routed c (now routes) ⌝ }
+    requires { ⌜ p < crossings (edgesOf c) ⌝ }
+    ensures { λ r. ⌜ Starts (edgesOf c) p r ⌝ }
 {
     let mut e: usize = 0;
-    let mut left = p;
     while e < 5 {
-        let n = routes::count_at(c, e);
-        if left < n {
-            return first_dart(c, e, left, p);
+        if is_on(c, routes, e, p) {
+            return first_dart(c, routes, e, p);
         }
-        left -= n;
         e += 1;
     }
-    first_dart(c, e, left, p)
+    first_dart(c, routes, e, p)
 }
 
 // Clears the first n marks.
 pub fn clear(marks: &mut [u16; 1530], n: usize)
-    requires { ⌜ n ≤ mostCrossings ⌝ }
-    requires { ⌜ length (now marks) ≡ mostCrossings ⌝ }
+    requires { ⌜ n ≤ mostInCell ⌝ }
+    requires { ⌜ length (now marks) ≡ mostInCell ⌝ }
     ensures { λ _. ⌜ now (marks .exit) ≡ replicate n 65535 ++ drop n (now (marks .entry)) ⌝ }
 {
     let mut i: usize = 0;
@@ -74,7 +89,7 @@ pub fn walk(
     if routes::wide16(marks[p]) < p {
         return 0;
     }
-    let mut d = start_at(c, p);
+    let mut d = start_at(c, routes, p);
     let mut k: usize = 0;
     loop {
         let h = d.half;

@@ -11,7 +11,7 @@ use Rattle.counting.specs.Pick.{one}
 use Rattle.cell.specs.declared.Cell.{Cell}
 use Rattle.cell.specs.declared.Loop.{Loop}
 use Rattle.cell.specs.declared.Loop.the-variants.{Found, Nothing}
-use Rattle.cell.specs.Of.{countOf, startOf}
+use Rattle.cell.specs.Of.{edgesOf}
 use Rattle.cell.specs.Loop.{leasts, answerOf, loopAnswer}
 use Rattle.cell.specs.Answer.{typeNumbers, loopNumbers}
 use Rattle.cell.proofs.Claims.{oneToOne, ordered}
@@ -33,7 +33,7 @@ use Rattle.mesh.specs.Asked.{cellLoop, askedLoop}
 use Rattle.mesh.specs.Answer.{meshAnswer, loopsAnswer}
 use Rattle.mesh.specs.Numbers.{meshNumbers, loopsNumbers}
 use Rattle.mesh.specs.Claims.{MeshTold, LoopsTold, LoopsOrdered}
-use Rattle.mesh.proofs.Complex.{count-of, en, start-le, start-of}
+use Rattle.mesh.proofs.Complex.{separate}
 
 -- there is always an answer
 module _ (G : Grid) where
@@ -49,9 +49,9 @@ module _ (G : Grid) where
 
   loop-some : (c : Cell) (k : ℕ) → [] ≡ cellLoop c k → ⊥
   unfolding loopAnswer answerOf
-  loop-some c k = go (drop k (leasts (countOf c) (startOf c) (c .nodes)))
+  loop-some c k = go (drop k (leasts (edgesOf c)))
     where
-      go : (l : List ℕ) → [] ≡ answerOf (countOf c) (startOf c) (c .nodes) l → ⊥
+      go : (l : List ℕ) → [] ≡ answerOf (edgesOf c) (c .nodes) l → ⊥
       go [] q = no-nil q
       go (p ∷ l) q = no-nil q
 
@@ -86,15 +86,6 @@ mesh-told G room = mesh-tells (meshAnswer G room) (mesh-some G room)
 pub loops-told : LoopsTold
 loops-told G c k = loops-tell (loopsAnswer G c k) (loops-some G c k)
 
--- in a cell of an accepted grid the crossings of an earlier edge have lower numbers
 pub loopsOrdered : LoopsOrdered
 loopsOrdered G total e c l =
-    ordered (countOf (gridCell G c)) (startOf (gridCell G c)) (gridCell G c .nodes) (λ j k h lk.
-    let A = acceptance-yields G (total ∷ []) e in
-    omega (
-      arith,
-      start-of G c j (omega arith),
-      start-of G c k lk,
-      count-of G c j (omega arith),
-      start-le G (en G c j) (en G c k) (edge-numbers G (A .sound) .rising c j k l h lk),
-    ))
+    ordered (edgesOf (gridCell G c)) (separate G (acceptance-yields G (total ∷ []) e .sound) c l)

@@ -7,7 +7,7 @@ use native.Mathlib.Omega.{arith}
 use lib.ListN.{getD, length}
 use Rattle.counting.proofs.Below.{rising-once}
 use Rattle.counting.proofs.Lists.{getD-singles}
-use Rattle.counting.proofs.Pack.{row-lt, col-lt, pre-le, later}
+use Rattle.counting.proofs.Pack.{pre-le}
 use Rattle.counting.proofs.Search.{first-ext}
 use Rattle.slots.specs.Slots.{lo, hi, corner, lower, upper, slotEdge, place, firstSlot, secondSlot}
 use Rattle.slots.proofs.Slots.{slot-edge, face-ends, same-slot, corner-lt}
@@ -15,9 +15,12 @@ use Rattle.face.specs.Face.{unjoined, faceJoin}
 use Rattle.walk.specs.Darts.{half}
 use Rattle.walk.proofs.Step.{face-first, face-second}
 use Rattle.cell.specs.Cell as cell
-use Rattle.cell.specs.Cell.{crossings, edge, index, number, mate, joinAt}
+use Rattle.cell.specs.Cell.{Edges, crossings, edge, index, number, mate, joinAt}
+use Rattle.cell.specs.Claims.{Separate}
 use Rattle.cell.specs.Loop.{inGrid, normal}
+use Rattle.cell.proofs.Lay.{lay}
 use Rattle.cell.proofs.Mates.{mate-joined}
+use Rattle.cell.proofs.Claims.{ordered, rising-separate}
 use Rattle.mesh.proofs.Joins.{three, On, index-in, num-lt, num-edge, num-index, num-place, is-num, Joined, joined-or, on-dart}
 use Rattle.triangle.specs.Triangles as triangles
 use Rattle.triangle.specs.Triangles.{numberOf}
@@ -35,12 +38,12 @@ values-at : (f : ℕ → ℕ) (n k : ℕ) → k < n → getD (values f n) k 0 �
 values-at f n k l = getD-singles f 0 n 0 k l ∙ ap f (zero-add k)
 
 module _ (G : Grid) where
-  -- the number of edge k of cell c, and the counts of the cell
+  -- the number of edge k of cell c, and the edges of the cell
   abbrev pub en : ℕ → ℕ → ℕ
   en c k = edgeNumber G c k
 
-  abbrev pub w : ℕ → ℕ → ℕ
-  w c = triangles.countOf (gridCell G c)
+  abbrev pub w : ℕ → Edges
+  w c = triangles.edgesOf (gridCell G c)
 
   abbrev pub at : ℕ → Local
   at c = localOf (gridCell G c)
@@ -49,11 +52,11 @@ module _ (G : Grid) where
   gridComplex = record { pieces = cellCount (G .cells); at = at; tag = λ c. c; normal = λ c p. normal (w c) p }
 
   -- the count, the start and the face name of an edge and of a slot of cell c
-  pub count-of : (c k : ℕ) → k < 6 → w c k ≡ countOf (G .counts) (en c k)
+  pub count-of : (c k : ℕ) → k < 6 → w c .count k ≡ countOf (G .counts) (en c k)
   unfolding gridCell
   count-of c k l = values-at (λ k. countOf (G .counts) (en c k)) 6 k l
 
-  pub start-of : (c k : ℕ) → k < 6 → triangles.startOf (gridCell G c) k ≡ start (G .counts) (en c k)
+  pub start-of : (c k : ℕ) → k < 6 → w c .start k ≡ start (G .counts) (en c k)
   unfolding gridCell
   start-of c k l = values-at (λ k. start (G .counts) (en c k)) 6 k l
 
@@ -64,28 +67,21 @@ module _ (G : Grid) where
   -- the crossing number of crossing x of cell c
   pub number-of : (c x : ℕ) → x < crossings (w c) → at c .number x ≡ start (G .counts) (en c (edge (w c) x)) + index (w c) x
   unfolding numberOf inGrid
-  number-of c x l = ap (λ n. n + index (w c) x) (start-of c (edge (w c) x) (row-lt (w c) 6 x l))
+  number-of c x l = ap (λ n. n + index (w c) x) (start-of c (edge (w c) x) (lay (w c) .edge-lt x l))
 
   pub start-le : (a b : ℕ) → a < b → start (G .counts) a + countOf (G .counts) a ≤ start (G .counts) b
   unfolding start
   start-le a b h = pre-le (countOf (G .counts)) 0 a b h
 
   module _ (S : Sound G) where
+    -- no crossing number belongs to two edges of a cell, so the crossing numbers of a cell rise
+    pub separate : (c : ℕ) → c < cellCount (G .cells) → Separate (w c)
+    separate c lc = rising-separate (w c)
+        (λ j k h lk. omega (arith, start-of c j (omega arith), start-of c k lk, count-of c j (omega arith), start-le (en c j) (en c k) (edge-numbers G S .rising c j k lc h lk)))
+
     number-rises : (c : ℕ) → c < cellCount (G .cells) → (x y : ℕ) → x < y → y < crossings (w c) → at c .number x < at c .number y
-    number-rises c lc x y h l =
-        let ex = row-lt (w c) 6 x (omega arith) in
-        let ey = row-lt (w c) 6 y l in
-        rw (number-of c x (omega arith), number-of c y l)
-        (⊎-elim
-        (λ (r : edge (w c) x < edge (w c) y).
-        omega (
-          arith,
-          start-le (en c (edge (w c) x)) (en c (edge (w c) y)) (edge-numbers G S .rising c (edge (w c) x) (edge (w c) y) lc r ey),
-          col-lt (w c) 6 x (omega arith),
-          count-of c (edge (w c) x) ex,
-        ))
-        (λ (r : (edge (w c) x ≡ edge (w c) y) × (index (w c) x < index (w c) y)). omega (arith, r .1, ap (λ k. start (G .counts) (en c k)) (r .0)))
-        (later (w c) 6 x y h l))
+    unfolding numberOf
+    number-rises c lc = ordered (w c) (separate c lc) .numbers
 
     pub number-once : (c : ℕ) → c < cellCount (G .cells) → (x y : ℕ) → x < crossings (w c) → y < crossings (w c) → at c .number x ≡ at c .number y → x ≡ y
     number-once c lc = rising-once (at c .number) (crossings (w c)) (number-rises c lc)

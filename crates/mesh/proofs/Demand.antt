@@ -8,14 +8,15 @@ use lib.Dec.{eqb}
 use lib.ListN.{length, getD, length-map}
 use Rattle.counting.specs.Range.{over}
 use Rattle.counting.specs.Lists.{tally}
-use Rattle.counting.specs.Pack.{pre, row, col}
+use Rattle.counting.specs.Pack.{row, col}
 use Rattle.counting.proofs.Bools.{clash}
 use Rattle.counting.proofs.Lists.{getD-map, tally-map, map-over}
 use Rattle.counting.proofs.Range.{over-ext}
-use Rattle.counting.proofs.Pack.{row-lt, col-lt, unpack, row-pack, col-pack, pack-lt}
+use Rattle.counting.proofs.Pack.{row-lt, col-lt, unpack}
 use Rattle.face.proofs.Claims.{faceLaws}
 use Rattle.cell.specs.Cell as cell
 use Rattle.cell.specs.Loop.{loopSize, normal}
+use Rattle.cell.proofs.Lay.{lay}
 use Rattle.manifold.specs.Triangle as names
 use Rattle.manifold.specs.Triangle.{Corner, Side, noTri, nth, cross, middle, same}
 use Rattle.manifold.specs.Polygon.{shape, shapeBy, fan, triangles}
@@ -111,16 +112,16 @@ module _ (G : Grid) where
         let i = col (countOf (G .counts)) n g in
         let (c, k, lc, lk, q) = edge-numbers G (A .sound) .used e (row-lt (countOf (G .counts)) n g l) in
         let v = w G c in
-        let li : i < v k = rw (count-of G c k lk, q) (col-lt (countOf (G .counts)) n g l) in
-        let x = pre v k + i in
-        let lx : x < cell.crossings v = pack-lt v 6 k i lk li in (
+        let li : i < v .count k = rw (count-of G c k lk, q) (col-lt (countOf (G .counts)) n g l) in
+        let x = cell.number v k i in
+        let lx : x < cell.crossings v = lay v .number-lt k i lk li in (
           c,
           record {
             lt = lc;
             d = 2 * x;
             on = record { lt = omega arith; joined = facesShut G (A .sound) H .full c (2 * x) lc (omega arith) };
             is = ap (K .at c .number) (half-of x) ∙ number-of G c x lx
-                ∙ ap₂ (λ a b. start (G .counts) (en G c a) + b) (row-pack v 6 k i lk li) (col-pack v 6 k i lk li)
+                ∙ ap₂ (λ a b. start (G .counts) (en G c a) + b) (lay v .number-edge k i lk li) (lay v .number-index k i lk li)
                 ∙ ap (λ a. start (G .counts) a + i) q ∙ unpack (countOf (G .counts)) n g l;
           },
         )

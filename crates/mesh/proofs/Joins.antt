@@ -3,20 +3,19 @@ use Prim.Native.Nat.{ℕ, _+_, _*_, _/_, _%_, _<_}
 use mathlib.Core.Path.{_≡_, ap, _∙_}
 use mathlib.Core.Logic.{_⊎_, inl, inr}
 use native.Mathlib.Omega.{arith}
-use Rattle.counting.proofs.Pack.{col-lt, unpack}
 use Rattle.slots.specs.Slots.{slotEdge, place}
 use Rattle.slots.proofs.Slots.{slot-edge, EdgeSlot}
 use Rattle.face.specs.Face.{joined, unjoined}
 use Rattle.face.proofs.Claims.{faceLaws}
 use Rattle.walk.specs.Step as walk
-use Rattle.cell.specs.Cell.{crossings, edge, index, number, joinAt, mate, first, second, slot}
-use Rattle.cell.proofs.Step.{number-lt, edge-number, index-number}
+use Rattle.cell.specs.Cell.{Edges, crossings, edge, index, number, joinAt, mate, first, second, slot}
+use Rattle.cell.proofs.Lay.{lay}
 use Rattle.cell.proofs.Mates.{mate-joined, mate-unjoined, mate-cases, joined-edge, joined-index, slot-has}
 
-module _ (w : ℕ → ℕ) where
+module _ (w : Edges) where
   -- the counts of slot s
   abbrev pub three : ℕ → ℕ → ℕ
-  three s j = w (slotEdge s j)
+  three s j = w .count (slotEdge s j)
 
   -- crossing x lies on slot s
   pub record On (s x : ℕ) : Type 0 where
@@ -30,21 +29,21 @@ module _ (w : ℕ → ℕ) where
 
   -- its index is below the count of its edge there, and edge and index tell it
   pub index-in : {s x : ℕ} → On s x → index w x < three s (place s (edge w x))
-  index-in {s} {x} o = rw (o .slot .edge-is) (col-lt w 6 x (o .lt))
+  index-in {s} {x} o = rw (three, o .slot .edge-is) (lay w .index-lt x (o .lt))
 
   pub is-num : {s x : ℕ} → On s x → number w (slotEdge s (place s (edge w x))) (index w x) ≡ x
-  is-num {s} {x} o = rw (o .slot .edge-is) (unpack w 6 x (o .lt))
+  is-num {s} {x} o = rw (o .slot .edge-is) (lay w .back x (o .lt))
 
   -- a crossing by its slot, edge and index
   module _ (s j i : ℕ) (ls : s < 4) (lj : j < 3) (li : i < three s j) where
     pub num-lt : number w (slotEdge s j) i < crossings w
-    num-lt = number-lt w (slotEdge s j) i (slot-edge s j ls lj .lt) li
+    num-lt = lay w .number-lt (slotEdge s j) i (slot-edge s j ls lj .lt) li
 
     pub num-edge : edge w (number w (slotEdge s j) i) ≡ slotEdge s j
-    num-edge = edge-number w (slotEdge s j) i (slot-edge s j ls lj .lt) li
+    num-edge = lay w .number-edge (slotEdge s j) i (slot-edge s j ls lj .lt) li
 
     pub num-index : index w (number w (slotEdge s j) i) ≡ i
-    num-index = index-number w (slotEdge s j) i (slot-edge s j ls lj .lt) li
+    num-index = lay w .number-index (slotEdge s j) i (slot-edge s j ls lj .lt) li
 
     pub num-place : place s (edge w (number w (slotEdge s j) i)) ≡ j
     num-place = ap (place s) num-edge ∙ slot-edge s j ls lj .place-is

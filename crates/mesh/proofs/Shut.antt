@@ -9,7 +9,6 @@ use lib.Dec.{eqb}
 use borrow.Author.Tests.{eqb-true, eqb-false, not-true}
 use Rattle.counting.specs.Search.{some}
 use Rattle.counting.proofs.Bools.{clash, and-true, and-left, and-right, holds-or}
-use Rattle.counting.proofs.Pack.{row-lt, col-lt}
 use Rattle.counting.proofs.Search.{least, some-is, some-found}
 use Rattle.slots.specs.Slots.{slotEdge, place, firstSlot, secondSlot}
 use Rattle.slots.proofs.Slots.{slot-edge}
@@ -17,7 +16,8 @@ use Rattle.face.specs.Face.{unjoined}
 use Rattle.walk.specs.Darts.{half}
 use Rattle.walk.proofs.Step.{face-first, face-second}
 use Rattle.cell.specs.Cell as cell
-use Rattle.cell.specs.Cell.{crossings, edge, index, number, mate, joinAt}
+use Rattle.cell.specs.Cell.{Edges, crossings, edge, index, number, mate, joinAt}
+use Rattle.cell.proofs.Lay.{lay}
 use Rattle.mesh.proofs.Joins.{three, On, index-in, num-lt, num-edge, num-index, Joined, joined-or, even-joined, on-dart}
 use Rattle.manifold.specs.Piece.{slotOf, mateOf}
 use Rattle.manifold.specs.Faces.{FacesShut, SharesFace, FacesLinked}
@@ -69,7 +69,7 @@ module _ (G : Grid) where
         full : (c d : ℕ) → c < cellCount (G .cells) → d < 2 * crossings (w G c) → mateOf (at G c) d < crossings (w G c)
         full c d lc ld = go (joined-or v o)
           where
-            v : ℕ → ℕ
+            v : Edges
             v = w G c
 
             s : ℕ
@@ -119,11 +119,11 @@ module _ (G : Grid) where
         let lb : half (hb .d) < crossings vb = omega arith in
         let ka = edge va xa in
         let kb = edge vb xb in
-        let lka = row-lt va 6 xa la in
-        let lkb = row-lt vb 6 xb lb in
+        let lka = lay va .edge-lt xa la in
+        let lkb = lay vb .edge-lt xb lb in
         let i = index va xa in
-        let li : i < countOf (G .counts) (en G a ka) = subst (λ n. i < n) (count-of G a ka lka) (col-lt va 6 xa la) in
-        let lj : index vb xb < countOf (G .counts) (en G b kb) = subst (λ n. index vb xb < n) (count-of G b kb lkb) (col-lt vb 6 xb lb) in
+        let li : i < countOf (G .counts) (en G a ka) = subst (λ n. i < n) (count-of G a ka lka) (lay va .index-lt xa la) in
+        let lj : index vb xb < countOf (G .counts) (en G b kb) = subst (λ n. index vb xb < n) (count-of G b kb lkb) (lay vb .index-lt xb lb) in
         let na : start (G .counts) (en G a ka) + i ≡ g = sym (number-of G a xa la) ∙ ha .is in
         let nb : start (G .counts) (en G b kb) + index vb xb ≡ g = sym (number-of G b xb lb) ∙ hb .is in
         let e : en G a ka ≡ en G b kb = edge-of-number (en G a ka) (en G b kb) i (index vb xb) li lj (na ∙ sym nb) in
@@ -141,7 +141,7 @@ module _ (G : Grid) where
             (λ (u : secondSlot (slotEdge r j) ≡ r). make (2 * x + 1) (omega arith) (omega (arith, lx)) (face-second (crossings v) (cell.first v) (cell.second v) (mate v) x ∙ ap secondSlot ex ∙ u))
             (slot-edge r j lr lj .on)
           where
-            v : ℕ → ℕ
+            v : Edges
             v = w G a
 
             x : ℕ

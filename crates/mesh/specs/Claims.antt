@@ -3,7 +3,7 @@ use Prim.Native.Nat.{ℕ, _<_}
 use mathlib.Core.Path.{_≡_}
 use mathlib.Core.List.{[], _∷_}
 use Rattle.answer.specs.Answer.{result}
-use Rattle.cell.specs.Of.{countOf, startOf}
+use Rattle.cell.specs.Of.{edgesOf}
 use Rattle.cell.specs.Claims.{OrderLaws}
 use Rattle.grid.specs.Grid.{Grid, cellCount}
 use Rattle.grid.specs.Rows.{gridAnswer}
@@ -25,4 +25,4 @@ LoopsTold = (G : Grid) (c k : ℕ) (r s : Looped)
 -- in each cell of an accepted grid p0 is the least crossing number of its loop (01), and the loops are ordered by p0
 abbrev pub LoopsOrdered : Type 0
 LoopsOrdered = (G : Grid) (total : ℕ) → gridAnswer G ≡ result (total ∷ []) → (c : ℕ) → c < cellCount (G .cells)
-    → OrderLaws (countOf (gridCell G c)) (startOf (gridCell G c)) (gridCell G c .nodes)
+    → OrderLaws (edgesOf (gridCell G c))

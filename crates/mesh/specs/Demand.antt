@@ -41,10 +41,10 @@ module _ (G : Grid) where
   -- the loop of cell c from its crossing p is drawn as a fan
   pub record Fan (c p : ℕ) : Type 0 where
     pub cell-lt : c < cellCount (G .cells)
-    pub start-lt : p < cell.crossings (triangle.countOf (gridCell G c))
-    pub some : 0 < loopSize (triangle.countOf (gridCell G c)) p
-    pub not-three : eqb (loopSize (triangle.countOf (gridCell G c)) p) 3 ≡ false
-    pub not-four : (eqb (loopSize (triangle.countOf (gridCell G c)) p) 4 && normal (triangle.countOf (gridCell G c)) p) ≡ false
+    pub start-lt : p < cell.crossings (triangle.edgesOf (gridCell G c))
+    pub some : 0 < loopSize (triangle.edgesOf (gridCell G c)) p
+    pub not-three : eqb (loopSize (triangle.edgesOf (gridCell G c)) p) 3 ≡ false
+    pub not-four : (eqb (loopSize (triangle.edgesOf (gridCell G c)) p) 4 && normal (triangle.edgesOf (gridCell G c)) p) ≡ false
 
   -- of an accepted grid, whose number of crossings the grid check answers as `total`
   pub record Demand3 (total : ℕ) : Type 0 where

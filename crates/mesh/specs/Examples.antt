@@ -14,7 +14,7 @@ use Rattle.face.specs.Face.{joined, unjoined, noCrossing, count, faceJoin}
 use Rattle.cell.specs.Loop.{loopSize, dart, leasts}
 use Rattle.grid.specs.Grid.{Grid, gridOf, cellCount}
 use Rattle.grid.specs.Rows.{gridAnswer}
-use Rattle.triangle.specs.Triangles.{countOf, startOf, numberOf, cellTriangles}
+use Rattle.triangle.specs.Triangles.{edgesOf, numberOf, cellTriangles}
 use Rattle.triangle.specs.Answer.{nthAnswer}
 use Rattle.triangle.specs.declared.Triangle.{Triangle}
 use Rattle.triangle.specs.Names.{sideAt}
@@ -47,7 +47,7 @@ module _ (G : Grid) where
   -- the least crossings of the loops of cell c
   unfoldable pub startsOf : ℕ → List ℕ
   unfolding gridCell leasts
-  startsOf c = leasts (countOf (gridCell G c)) (startOf (gridCell G c)) (gridCell G c .nodes)
+  startsOf c = leasts (edgesOf (gridCell G c))
 
   unfoldable pub gridLoops : List (List ℕ)
   unfolding startsOf
@@ -56,7 +56,7 @@ module _ (G : Grid) where
   -- the crossing numbers of a loop's points, in order
   unfoldable pub loopPoints : ℕ → ℕ → List ℕ
   unfolding numberOf dart loopSize
-  loopPoints c p = values (λ k. numberOf (gridCell G c) (dart (countOf (gridCell G c)) p k / 2)) (loopSize (countOf (gridCell G c)) p)
+  loopPoints c p = values (λ k. numberOf (gridCell G c) (dart (edgesOf (gridCell G c)) p k / 2)) (loopSize (edgesOf (gridCell G c)) p)
 
   unfoldable pub gridPoints : List (List ℕ)
   unfolding startsOf loopPoints

@@ -60,7 +60,7 @@ unfolding add sub mul div neg lt le eq ofInt ofBits
     lo hi corner lower upper edgeOf slotEdge place contains firstSlot secondSlot
     face.other face.opposite face.halfAbove face.corner face.residual face.count face.others face.kth face.cornerAt face.partner face.faceJoin
     it orbit step.face step.land step.step walk.place walk.turn walk.size walk.loopAt
-    cell.joinAt cell.joinedTo cell.mate cell.slot cell.step
+    cell.ahead cell.base cell.holds cell.edge cell.index cell.joinAt cell.joinedTo cell.mate cell.slot cell.step
     loop.loopSize loop.dart loop.loopDarts loop.folded loop.normal loop.inGrid
     faceNode sameFace hasFace faceName joins isEdge hasEdge edgeNumber start
     badLength badPairs badCell sameCell repeats third after badEdge unlisted unused linked joined split tooMany rows orRefuse answerOf gridAnswer

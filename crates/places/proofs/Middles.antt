@@ -15,14 +15,14 @@ use Rattle.counting.specs.Search.{count}
 use Rattle.counting.proofs.Bools.{and-left}
 use Rattle.counting.proofs.Range.{length-over, total-ext, total-next, over-ext}
 use Rattle.counting.proofs.Search.{count-total, count-le}
-use Rattle.counting.proofs.Pack.{row-lt, col-lt}
 use Rattle.cell.specs.declared.Cell.{Cell}
 use Rattle.cell.specs.Cell.{crossings, edge}
 use Rattle.cell.specs.Loop.{loopSize, dart, inGrid}
-use Rattle.cell.specs.Of.{countOf}
+use Rattle.cell.specs.Of.{edgesOf}
 use Rattle.cell.specs.Walked.{Walked, Scratch}
-use Rattle.cell.specs.Route.{mostCrossings}
+use Rattle.cell.specs.Route.{mostInCell}
 use Rattle.cell.specs.Round.{foldsIn}
+use Rattle.cell.proofs.Lay.{lay}
 use Rattle.cell.proofs.Loops.{normal-is, dart-live}
 use Rattle.triangle.specs.Triangles.{numberOf, inTwo}
 use Rattle.grid.specs.Grid.{cellCount}
@@ -66,18 +66,18 @@ one-long false p = refl
 module _ (place : ℕ → Place) (c : Cell) where
   pub length-loop : (p : ℕ) → length (loopMiddle place c p) ≡ one (isFan c p)
   unfolding loopMiddle
-  length-loop p = one-long (isFan c p) (middle (λ k. place (pointOf c p k)) (loopSize (countOf c) p))
+  length-loop p = one-long (isFan c p) (middle (λ k. place (pointOf c p k)) (loopSize (edgesOf c) p))
 
   pub length-cell : length (cellMiddles place c) ≡ fanCount c
   unfolding cellMiddles fanCount
   length-cell =
-      length-over (loopMiddle place c) (crossings (countOf c)) 0
-      ∙ total-ext (λ p. length (loopMiddle place c p)) (λ p. one (isFan c p)) (crossings (countOf c)) 0 (λ p a b. length-loop p)
-      ∙ sym (count-total (isFan c) (crossings (countOf c)))
+      length-over (loopMiddle place c) (crossings (edgesOf c)) 0
+      ∙ total-ext (λ p. length (loopMiddle place c p)) (λ p. one (isFan c p)) (crossings (edgesOf c)) 0 (λ p a b. length-loop p)
+      ∙ sym (count-total (isFan c) (crossings (edgesOf c)))
 
-pub fans-few : (c : Cell) → fanCount c ≤ crossings (countOf c)
+pub fans-few : (c : Cell) → fanCount c ≤ crossings (edgesOf c)
 unfolding fanCount
-fans-few c = count-le (isFan c) (crossings (countOf c))
+fans-few c = count-le (isFan c) (crossings (edgesOf c))
 
 pub length-table : (place : ℕ → Place) (cells counts names sides starts : List ℕ) → length (tableMiddles cells counts names sides starts place) ≡ tableFans cells counts names sides starts
 unfolding tableMiddles tableFans
@@ -100,22 +100,22 @@ pick-ext : (b : Bool) (p q : Place) → (b ≡ true → p ≡ q) → pick b (p �
 pick-ext true p q h = ap (λ (x : Place). x ∷ []) (h refl)
 pick-ext false p q h = refl
 
-module _ (c : Cell) (p : ℕ) (l : p < crossings (countOf c)) where
+module _ (c : Cell) (p : ℕ) (l : p < crossings (edgesOf c)) where
   -- the points of a loop are crossings of its cell
-  pub point-below : (n k : ℕ) → Below c n → k < loopSize (countOf c) p → pointOf c p k < n
+  pub point-below : (n k : ℕ) → Below c n → k < loopSize (edgesOf c) p → pointOf c p k < n
   unfolding pointOf numberOf inGrid
   point-below n k b h =
-      let w = countOf c in
+      let w = edgesOf c in
       let x = dart w p k / 2 in
       let d : x < crossings w = omega (arith, dart-live w p l k h) in
-      omega (arith, b (edge w x) (row-lt w 6 x d), col-lt w 6 x d)
+      omega (arith, b (edge w x) (lay w .edge-lt x d), lay w .index-lt x d)
 
   module _ (n : ℕ) (b : Below c n) (place other : ℕ → Place) (same : (g : ℕ) → g < n → place g ≡ other g) where
     pub loop-ext : loopMiddle place c p ≡ loopMiddle other c p
     unfolding loopMiddle isFan
     loop-ext =
-        pick-ext (isFan c p) (middle (λ k. place (pointOf c p k)) (loopSize (countOf c) p)) (middle (λ k. other (pointOf c p k)) (loopSize (countOf c) p))
-        (λ e. middle-ext (λ k. place (pointOf c p k)) (λ k. other (pointOf c p k)) (loopSize (countOf c) p) (fan-some (loopSize (countOf c) p) (inTwo c p) e)
+        pick-ext (isFan c p) (middle (λ k. place (pointOf c p k)) (loopSize (edgesOf c) p)) (middle (λ k. other (pointOf c p k)) (loopSize (edgesOf c) p))
+        (λ e. middle-ext (λ k. place (pointOf c p k)) (λ k. other (pointOf c p k)) (loopSize (edgesOf c) p) (fan-some (loopSize (edgesOf c) p) (inTwo c p) e)
         (λ k h. same (pointOf c p k) (point-below n k b h)))
 
   -- what a walk recorded
@@ -142,7 +142,7 @@ module _ (c : Cell) (p : ℕ) (l : p < crossings (countOf c)) where
 pub cell-ext : (c : Cell) (n : ℕ) → Below c n → (place other : ℕ → Place) → ((g : ℕ) → g < n → place g ≡ other g) → cellMiddles place c ≡ cellMiddles other c
 unfolding cellMiddles
 cell-ext c n b place other same =
-    over-ext (loopMiddle place c) (loopMiddle other c) (crossings (countOf c)) 0 (λ p a l. loop-ext c p (omega arith) n b place other same)
+    over-ext (loopMiddle place c) (loopMiddle other c) (crossings (edgesOf c)) 0 (λ p a l. loop-ext c p (omega arith) n b place other same)
 
 pub table-ext : (cells counts names sides starts : List ℕ) (n : ℕ) → ((c : ℕ) → c < cellCount cells → Below (tableCell cells counts names sides starts c) n)
     → (place other : ℕ → Place) → ((g : ℕ) → g < n → place g ≡ other g) → tableMiddles cells counts names sides starts place ≡ tableMiddles cells counts names sides starts other
@@ -170,7 +170,7 @@ counting-more {c} {p} {t} C m e =
     one-le true = omega arith
     one-le false = omega arith
 
-pub counting-all : {c : Cell} {p t : ℕ} → Counting c p t → p ≡ crossings (countOf c) → t ≡ fanCount c
+pub counting-all : {c : Cell} {p t : ℕ} → Counting c p t → p ≡ crossings (edgesOf c) → t ≡ fanCount c
 unfolding fanCount
 counting-all {c} C e = C .is ∙ ap (count (isFan c)) e
 
@@ -216,7 +216,7 @@ module _ (halves points : List ℕ) (n : ℕ) (area : List Float) (at r : ℕ) (
 pub record Adding (f : ℕ → ℕ) (n c t : ℕ) (marks halves points : List ℕ) : Type 0 where
   pub up : c ≤ n
   pub is : t ≡ total f c 0
-  pub few : t ≤ mostCrossings * c
+  pub few : t ≤ mostInCell * c
   pub scratch : Scratch marks halves points
 
 pub adding-none : (f : ℕ → ℕ) (n : ℕ) {marks halves points : List ℕ} → Scratch marks halves points → Adding f n 0 0 marks halves points
@@ -224,7 +224,7 @@ unfolding total
 adding-none f n s = record { up = omega arith; is = refl; few = omega arith; scratch = s }
 
 pub adding-more : {f : ℕ → ℕ} {n c t : ℕ} {marks halves points : List ℕ} → Adding f n c t marks halves points → c < n → (m : ℕ) {marks′ halves′ points′ : List ℕ}
-    → m ≡ f c → m ≤ mostCrossings → Scratch marks′ halves′ points′ → Adding f n (c + 1) (t + m) marks′ halves′ points′
+    → m ≡ f c → m ≤ mostInCell → Scratch marks′ halves′ points′ → Adding f n (c + 1) (t + m) marks′ halves′ points′
 adding-more {f} {n} {c} {t} w h m e l s = record { up = omega arith; is = omega (arith, w .is, e, total-next f c); few = omega (arith, w .few); scratch = s }
 
 pub adding-all : {f : ℕ → ℕ} {n c t : ℕ} {marks halves points : List ℕ} → Adding f n c t marks halves points → n ≤ c → t ≡ total f n 0

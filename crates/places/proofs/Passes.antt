@@ -10,7 +10,7 @@ use Rattle.counting.specs.Pick.{one}
 use Rattle.counting.specs.Range.{over}
 use Rattle.cell.specs.declared.Cell.{Cell}
 use Rattle.cell.specs.Cell.{crossings}
-use Rattle.cell.specs.Of.{countOf}
+use Rattle.cell.specs.Of.{edgesOf}
 use Rattle.cell.specs.Walked.{Walked, Scratch}
 use Rattle.triangle.proofs.Walks.{walked-traced}
 use Rattle.grid.specs.Grid.{cellCount}
@@ -27,13 +27,13 @@ module _ (c : Cell) (area₀ : List Float) (at : ℕ) (R : CellRoom c area₀ at
   abbrev loops : ℕ → List Place
   loops = loopMiddle (placeAt area₀) c
 
-  module _ {n p : ℕ} {area : List Float} {i : ℕ} (all : n ≡ crossings (countOf c)) (w : Writing loops n p area₀ area at i) where
+  module _ {n p : ℕ} {area : List Float} {i : ℕ} (all : n ≡ crossings (edgesOf c)) (w : Writing loops n p area₀ area at i) where
     all-long : length (over loops n 0) ≡ fanCount c
     unfolding cellMiddles
     all-long = ap (λ k. length (over loops k 0)) all ∙ length-cell (placeAt area₀) c
 
     module _ (l : p < n) {m : ℕ} {marks halves points : List ℕ} (W : Walked c p m marks halves points) where
-      inside : p < crossings (countOf c)
+      inside : p < crossings (edgesOf c)
       inside = omega arith
 
       pub loop-room : Room halves points m area i

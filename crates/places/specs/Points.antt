@@ -34,24 +34,24 @@ fanBy n two = ltb 0 n && not (eqb n 3 || two)
 module _ (c : Cell) (p : ℕ) where
   -- the loop of the cell from its crossing p is drawn as a fan
   unfoldable pub isFan : Bool
-  isFan = fanBy (loopSize (triangle.countOf c) p) (inTwo c p)
+  isFan = fanBy (loopSize (triangle.edgesOf c) p) (inTwo c p)
 
   -- the crossing number of its point k
   unfoldable pub pointOf : ℕ → ℕ
-  pointOf k = numberOf c (dart (triangle.countOf c) p k / 2)
+  pointOf k = numberOf c (dart (triangle.edgesOf c) p k / 2)
 
 -- how many fans a cell has
 unfoldable pub fanCount : Cell → ℕ
-fanCount c = count (isFan c) (cell.crossings (triangle.countOf c))
+fanCount c = count (isFan c) (cell.crossings (triangle.edgesOf c))
 
 -- the middles of fans, where the crossings are at `place`
 module _ (place : ℕ → Place) where
   -- of the loop of a cell from its crossing p, where it is drawn as a fan
   unfoldable pub loopMiddle : Cell → ℕ → List Place
-  loopMiddle c p = pick (isFan c p) (middle (λ k. place (pointOf c p k)) (loopSize (triangle.countOf c) p) ∷ []) []
+  loopMiddle c p = pick (isFan c p) (middle (λ k. place (pointOf c p k)) (loopSize (triangle.edgesOf c) p) ∷ []) []
 
   unfoldable pub cellMiddles : Cell → List Place
-  cellMiddles c = over (loopMiddle c) (cell.crossings (triangle.countOf c)) 0
+  cellMiddles c = over (loopMiddle c) (cell.crossings (triangle.edgesOf c)) 0
 
 module _ (edges counts : List ℕ) (nodes fractions : List Float) where
   -- where crossing g is placed: on its edge, from the lower end to the higher by its fraction

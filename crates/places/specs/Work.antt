@@ -74,7 +74,7 @@ pub record Placeable (edges counts : List ℕ) (nodes fractions area : List Floa
 -- n points, at least one, with their places in the list
 pub record Meanable (list : List Float) (points : List ℕ) (n : ℕ) : Type 0 where
   pub some : 0 < n
-  pub few : n ≤ route.mostCrossings
+  pub few : n ≤ route.mostInCell
   pub placed : (k : ℕ) → k < n → coordinates * getD points k 0 + coordinates ≤ length list
 
 -- FANS: the fans among recorded loops and cells, and the room for their middles
@@ -101,7 +101,7 @@ Below c n = (k : ℕ) → k < 6 → startOf c k + countOf c k ≤ n
 -- n is the number of the cell's fans; the lent arrays are scratch
 pub record FansIn (c : Cell) (n : ℕ) (marks halves points : List ℕ) : Type 0 where
   pub is : n ≡ fanCount c
-  pub few : n ≤ route.mostCrossings
+  pub few : n ≤ route.mostInCell
   pub scratch : Scratch marks halves points
 
 -- the places of the cell's crossings stand before point `at`, and there is room for its middles from there on

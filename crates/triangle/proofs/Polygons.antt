@@ -26,7 +26,7 @@ use Rattle.manifold.proofs.Claims.{polygonLaws}
 use Rattle.triangle.specs.declared.Triangle.{Triangle}
 use Rattle.triangle.specs.Names.{cornerAt, sideAt}
 use Rattle.triangle.specs.Triangles as triangles
-use Rattle.triangle.specs.Triangles.{countOf, numberOf, segmentOf, point, segment, triangle, spoke, trianglesBy, inTwo, loopTriangles, cellTriangles}
+use Rattle.triangle.specs.Triangles.{edgesOf, numberOf, segmentOf, point, segment, triangle, spoke, trianglesBy, inTwo, loopTriangles, cellTriangles}
 pub use Rattle.triangle.specs.Polygons.{localOf, polygonOf, named}
 use Rattle.triangle.specs.Polygons.{Apart}
 
@@ -51,20 +51,20 @@ module _ (c : Cell) (p : ℕ) where
   unfolding triangles.half0 triangles.half1 point segment segmentOf slot step dart triangle over
   halves-named = refl
 
-  fan-named : map named (triangles.fan (c .index) (numberOf c p) (point c p) (segment c p) (loopSize (countOf c) p))
-      ≡ over (λ k. manifold.triangle (polygonOf c p) fan k ∷ []) (loopSize (countOf c) p) 0
+  fan-named : map named (triangles.fan (c .index) (numberOf c p) (point c p) (segment c p) (loopSize (edgesOf c) p))
+      ≡ over (λ k. manifold.triangle (polygonOf c p) fan k ∷ []) (loopSize (edgesOf c) p) 0
   unfolding triangles.fan spoke point segment segmentOf slot step dart triangle loopSize
-  fan-named = map-over named (λ k. spoke (c .index) (numberOf c p) (point c p) (segment c p) (loopSize (countOf c) p) k ∷ []) (loopSize (countOf c) p) 0
+  fan-named = map-over named (λ k. spoke (c .index) (numberOf c p) (point c p) (segment c p) (loopSize (edgesOf c) p) k ∷ []) (loopSize (edgesOf c) p) 0
 
   pub loop-named : map named (loopTriangles c p) ≡ manifold.triangles (polygonOf c p)
   unfolding loopTriangles trianglesBy inTwo manifold.triangles shape loopSize step
-  loop-named = go (eqb (loopSize (countOf c) p) 3) (eqb (loopSize (countOf c) p) 4) (normal (countOf c) p)
+  loop-named = go (eqb (loopSize (edgesOf c) p) 3) (eqb (loopSize (edgesOf c) p) 4) (normal (edgesOf c) p)
     where
       go : (x y z : Bool)
           → map named (pick x (triangles.whole (c .index) (numberOf c p) (point c p) (segment c p) ∷ [])
           (pick (y && z)
           (triangles.half0 (c .index) (numberOf c p) (point c p) (segment c p) ∷ triangles.half1 (c .index) (numberOf c p) (point c p) (segment c p) ∷ [])
-          (triangles.fan (c .index) (numberOf c p) (point c p) (segment c p) (loopSize (countOf c) p))))
+          (triangles.fan (c .index) (numberOf c p) (point c p) (segment c p) (loopSize (edgesOf c) p))))
           ≡ over (λ k. manifold.triangle (polygonOf c p) (shapeBy x y z) k ∷ []) (manifold.many (polygonOf c p) (shapeBy x y z)) 0
       go true y z = whole-named
       go false true true = halves-named
@@ -72,19 +72,19 @@ module _ (c : Cell) (p : ℕ) where
       go false false z = fan-named
 
 -- the triangles of a cell are those of the polygons of its loops
-pub cell-named : (c : Cell) → map named (cellTriangles c) ≡ over (λ p. manifold.triangles (polygonOf c p)) (crossings (countOf c)) 0
+pub cell-named : (c : Cell) → map named (cellTriangles c) ≡ over (λ p. manifold.triangles (polygonOf c p)) (crossings (edgesOf c)) 0
 unfolding cellTriangles
 cell-named c =
-    map-over named (loopTriangles c) (crossings (countOf c)) 0
-    ∙ over-ext (λ p. map named (loopTriangles c p)) (λ p. manifold.triangles (polygonOf c p)) (crossings (countOf c)) 0 (λ p a b. loop-named c p)
+    map-over named (loopTriangles c) (crossings (edgesOf c)) 0
+    ∙ over-ext (λ p. map named (loopTriangles c p)) (λ p. manifold.triangles (polygonOf c p)) (crossings (edgesOf c)) 0 (λ p a b. loop-named c p)
 
 -- where names tell crossings and faces apart, a cell is a piece, and its loops are simple
 module _ (c : Cell) (A : Apart c) where
   pub piece : Piece (localOf c)
   unfolding slot
-  piece = record { ports = ports (countOf c); numbers = A .numbers; slot = λ d l. slot-has (countOf c) d l .lt; names = A .names }
+  piece = record { ports = ports (edgesOf c); numbers = A .numbers; slot = λ d l. slot-has (edgesOf c) d l .lt; names = A .names }
 
-  module _ (p : ℕ) (l : p < crossings (countOf c)) where
+  module _ (p : ℕ) (l : p < crossings (edgesOf c)) where
     on : (i : ℕ) → i < sizeOf (localOf c) p → Listed (localOf c) p i
     on i h = record { start = l; lt = h }
 
@@ -96,7 +96,7 @@ module _ (c : Cell) (A : Apart c) where
       segments = λ i j a b e. segment-once (localOf c) piece (on i a) (on j b) e .1;
     }
 
-    pub polygon-laws : 0 < loopSize (countOf c) p → PolygonLaws (polygonOf c p)
+    pub polygon-laws : 0 < loopSize (edgesOf c) p → PolygonLaws (polygonOf c p)
     unfolding loopSize step
     polygon-laws h = polygonLaws (polygonOf c p) (two h (size-ne (localOf c) piece p l)) simple
       where

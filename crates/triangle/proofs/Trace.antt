@@ -18,36 +18,36 @@ use Rattle.walk.proofs.Iterate.{length-orbit}
 use Rattle.walk.proofs.Once.{flat-room}
 use Rattle.walk.proofs.Step.{live, land-half}
 use Rattle.cell.specs.declared.Cell.{Cell}
-use Rattle.cell.specs.Cell.{crossings, first, second, mate, slot, step}
+use Rattle.cell.specs.Cell.{Edges, crossings, first, second, mate, slot, step}
 use Rattle.cell.proofs.Mates.{ports, darts}
 use Rattle.cell.proofs.Loops.{dart-live, dart-after}
 use Rattle.cell.specs.Loop.{loopSize, dart, normal}
 use Rattle.triangle.specs.declared.Corner.the-variants.{Crossing}
-use Rattle.triangle.specs.Triangles.{trianglesBy, manyBy, countOf, numberOf, segmentOf, point, segment, inTwo, loopTriangles, cellTriangles}
+use Rattle.triangle.specs.Triangles.{trianglesBy, manyBy, edgesOf, numberOf, segmentOf, point, segment, inTwo, loopTriangles, cellTriangles}
 use Rattle.triangle.specs.Traced.{pointAt, segmentAt, tracedTriangles}
 use Rattle.triangle.proofs.Loops.{by-ext, length-by, many-le}
 
 module _ (c : Cell) (p : ℕ) where
-  pub two-four : inTwo c p ≡ true → loopSize (countOf c) p ≡ 4
+  pub two-four : inTwo c p ≡ true → loopSize (edgesOf c) p ≡ 4
   unfolding inTwo
-  two-four e = eqb-true (loopSize (countOf c) p) 4 (and-left (eqb (loopSize (countOf c) p) 4) (normal (countOf c) p) e)
+  two-four e = eqb-true (loopSize (edgesOf c) p) 4 (and-left (eqb (loopSize (edgesOf c) p) 4) (normal (edgesOf c) p) e)
 
-  pub length-loop : length (loopTriangles c p) ≡ manyBy (loopSize (countOf c) p) (inTwo c p)
+  pub length-loop : length (loopTriangles c p) ≡ manyBy (loopSize (edgesOf c) p) (inTwo c p)
   unfolding loopTriangles
-  length-loop = length-by (c .index) (numberOf c p) (point c p) (segment c p) (loopSize (countOf c) p) (inTwo c p)
+  length-loop = length-by (c .index) (numberOf c p) (point c p) (segment c p) (loopSize (edgesOf c) p) (inTwo c p)
 
-  pub loop-few : length (loopTriangles c p) ≤ loopSize (countOf c) p
-  loop-few = omega (arith, length-loop, many-le (loopSize (countOf c) p) (inTwo c p) two-four)
+  pub loop-few : length (loopTriangles c p) ≤ loopSize (edgesOf c) p
+  loop-few = omega (arith, length-loop, many-le (loopSize (edgesOf c) p) (inTwo c p) two-four)
 
-  first-point : numberOf c (dart (countOf c) p 0 / 2) ≡ numberOf c p
+  first-point : numberOf c (dart (edgesOf c) p 0 / 2) ≡ numberOf c p
   unfolding dart it
   first-point = let e : 2 * p / 2 ≡ p = omega arith in ap (numberOf c) e
 
   -- the slots and crossing numbers of the loop's darts are recorded, and each dart leads to the next point
-  module _ (halves points : List ℕ) (n : ℕ) (size : n ≡ loopSize (countOf c) p)
-      (slots : (k : ℕ) → k < n → getD halves k 0 / 3 ≡ slot (countOf c) (dart (countOf c) p k))
-      (numbers : (k : ℕ) → k < n → getD points k 0 ≡ numberOf c (dart (countOf c) p k / 2))
-      (leads : (k : ℕ) → k < n → mate (countOf c) (slot (countOf c) (dart (countOf c) p k)) (dart (countOf c) p k / 2) ≡ dart (countOf c) p (after n k) / 2) where
+  module _ (halves points : List ℕ) (n : ℕ) (size : n ≡ loopSize (edgesOf c) p)
+      (slots : (k : ℕ) → k < n → getD halves k 0 / 3 ≡ slot (edgesOf c) (dart (edgesOf c) p k))
+      (numbers : (k : ℕ) → k < n → getD points k 0 ≡ numberOf c (dart (edgesOf c) p k / 2))
+      (leads : (k : ℕ) → k < n → mate (edgesOf c) (slot (edgesOf c) (dart (edgesOf c) p k)) (dart (edgesOf c) p k / 2) ≡ dart (edgesOf c) p (after n k) / 2) where
     traced-point : (k : ℕ) → k < n → pointAt points k ≡ point c p k
     unfolding point
     traced-point k l = ap Crossing (numbers k l)
@@ -63,9 +63,9 @@ module _ (c : Cell) (p : ℕ) where
         ∙ ap₂ (λ m t. trianglesBy (c .index) (numberOf c p) (point c p) (segment c p) m t) size e
 
 -- each dart of a loop leads to its next point, the last back to the first
-module _ (c : Cell) (p : ℕ) (l : p < crossings (countOf c)) where
-  abbrev w : ℕ → ℕ
-  w = countOf c
+module _ (c : Cell) (p : ℕ) (l : p < crossings (edgesOf c)) where
+  abbrev w : Edges
+  w = edgesOf c
 
   pub dart-leads : (k : ℕ) → k < loopSize w p → mate w (slot w (dart w p k)) (dart w p k / 2) ≡ dart w p (after (loopSize w p) k) / 2
   unfolding slot step steps.step
@@ -76,12 +76,12 @@ module _ (c : Cell) (p : ℕ) (l : p < crossings (countOf c)) where
       sym (ap (λ x. x / 2) e ∙ land-half (crossings w) (first w) (second w) (mate w) (slot w d) (mate w (slot w d) (d / 2)) m)
 
 -- loop by loop
-pub length-cell : (c : Cell) → length (cellTriangles c) ≡ total (λ p. length (loopTriangles c p)) (crossings (countOf c)) 0
+pub length-cell : (c : Cell) → length (cellTriangles c) ≡ total (λ p. length (loopTriangles c p)) (crossings (edgesOf c)) 0
 unfolding cellTriangles
-length-cell c = length-over (loopTriangles c) (crossings (countOf c)) 0
+length-cell c = length-over (loopTriangles c) (crossings (edgesOf c)) 0
 
 -- no crossing is on two loops
-sizes : (w : ℕ → ℕ) → total (loopSize w) (crossings w) 0 ≤ crossings w
+sizes : (w : Edges) → total (loopSize w) (crossings w) 0 ≤ crossings w
 unfolding loopSize step walk.flat walk.loopAt
 sizes w =
     let s = step w in
@@ -92,11 +92,11 @@ sizes w =
       flat-room (crossings w) s rev (darts w),
     )
 
-pub cell-few : (c : Cell) → length (cellTriangles c) ≤ crossings (countOf c)
+pub cell-few : (c : Cell) → length (cellTriangles c) ≤ crossings (edgesOf c)
 cell-few c =
     omega (
       arith,
       length-cell c,
-      total-mono (λ p. length (loopTriangles c p)) (loopSize (countOf c)) (crossings (countOf c)) 0 (λ p a b. loop-few c p),
-      sizes (countOf c),
+      total-mono (λ p. length (loopTriangles c p)) (loopSize (edgesOf c)) (crossings (edgesOf c)) 0 (λ p a b. loop-few c p),
+      sizes (edgesOf c),
     )

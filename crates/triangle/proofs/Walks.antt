@@ -13,21 +13,21 @@ use Rattle.cell.specs.Loop.{dart}
 use Rattle.cell.specs.Walked.{Walked}
 use Rattle.cell.specs.Round.{foldsIn}
 use Rattle.cell.proofs.Loops.{recorded-halves, recorded-slot, normal-is}
-use Rattle.triangle.specs.Triangles.{countOf, numberOf, manyBy, inTwo, loopTriangles}
+use Rattle.triangle.specs.Triangles.{edgesOf, numberOf, manyBy, inTwo, loopTriangles}
 use Rattle.triangle.specs.Traced.{Traced, tracedTriangles}
 use Rattle.triangle.proofs.Loops.{length-traced}
 use Rattle.triangle.proofs.Trace.{two-four, dart-leads, traced-loop}
 
-module _ {c : Cell} {p n : ℕ} {marks halves points : List ℕ} (l : p < crossings (countOf c)) (W : Walked c p n marks halves points) where
+module _ {c : Cell} {p n : ℕ} {marks halves points : List ℕ} (l : p < crossings (edgesOf c)) (W : Walked c p n marks halves points) where
   pub walked-traced : Traced halves n
   walked-traced = record { few = W .few; halves-are = recorded-halves (W .recorded) (W .size) l }
 
-  numbers : (k : ℕ) → k < n → getD points k 0 ≡ numberOf c (dart (countOf c) p k / 2)
+  numbers : (k : ℕ) → k < n → getD points k 0 ≡ numberOf c (dart (edgesOf c) p k / 2)
   unfolding numberOf
   numbers k h = W .recorded .point k h
 
-  leads : (k : ℕ) → k < n → mate (countOf c) (slot (countOf c) (dart (countOf c) p k)) (dart (countOf c) p k / 2) ≡ dart (countOf c) p (after n k) / 2
-  leads k h = dart-leads c p l k (omega (arith, W .size)) ∙ ap (λ m. dart (countOf c) p (after m k) / 2) (sym (W .size))
+  leads : (k : ℕ) → k < n → mate (edgesOf c) (slot (edgesOf c) (dart (edgesOf c) p k)) (dart (edgesOf c) p k / 2) ≡ dart (edgesOf c) p (after n k) / 2
+  leads k h = dart-leads c p l k (omega (arith, W .size)) ∙ ap (λ m. dart (edgesOf c) p (after m k) / 2) (sym (W .size))
 
   module _ {two : Bool} (is : two ≡ (eqb n 4 && eqb (foldsIn halves n) 0)) where
     walked-two : two ≡ inTwo c p

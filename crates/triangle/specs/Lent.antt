@@ -5,7 +5,7 @@ use mathlib.Core.List.{List}
 use lib.ListN.{length}
 use lib.Seq.{sets}
 use Rattle.cell.specs.declared.Cell.{Cell}
-use Rattle.cell.specs.Route.{mostCrossings}
+use Rattle.cell.specs.Route.{mostInCell}
 use Rattle.cell.specs.Walked.{Scratch}
 use Rattle.triangle.specs.Words.{wordCount, allWords}
 use Rattle.triangle.specs.Triangles.{cellTriangles}
@@ -13,7 +13,7 @@ use Rattle.triangle.specs.Triangles.{cellTriangles}
 -- n is the number of the cell's triangles
 pub record Counted (c : Cell) (n : ℕ) (marks halves points : List ℕ) : Type 0 where
   pub is : n ≡ length (cellTriangles c)
-  pub few : n ≤ mostCrossings
+  pub few : n ≤ mostInCell
   pub scratch : Scratch marks halves points
 
 -- the words of its triangles are written over `area` from `at` on, which makes it out, and the next index is i

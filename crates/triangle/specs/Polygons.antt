@@ -10,17 +10,17 @@ use Rattle.manifold.specs.Polygon.{Polygon}
 use Rattle.manifold.specs.Piece.{Local, slotOf, lowerOf, dart, sizeOf}
 use Rattle.triangle.specs.declared.Triangle.{Triangle}
 use Rattle.triangle.specs.Names.{cornerAt, sideAt}
-use Rattle.triangle.specs.Triangles.{countOf, numberOf}
+use Rattle.triangle.specs.Triangles.{edgesOf, numberOf}
 
 abbrev pub slotCount : ℕ
 slotCount = 4
 
 abbrev pub localOf : Cell → Local
 localOf c = record {
-  N = crossings (countOf c);
-  fa = first (countOf c);
-  fb = second (countOf c);
-  mate = mate (countOf c);
+  N = crossings (edgesOf c);
+  fa = first (edgesOf c);
+  fb = second (edgesOf c);
+  mate = mate (edgesOf c);
   number = numberOf c;
   slots = slotCount;
   name = λ s. getD (c .names) s 0;
@@ -35,7 +35,7 @@ polygonOf c p = record {
   point = λ k. numberOf c (dart (localOf c) p k / 2);
   face = λ k. getD (c .names) (slotOf (localOf c) (dart (localOf c) p k)) 0;
   lower = λ k. lowerOf (localOf c) (dart (localOf c) p k);
-  normal = normal (countOf c) p;
+  normal = normal (edgesOf c) p;
 }
 
 -- a triangle by the names of its corners and sides alone
@@ -44,5 +44,5 @@ named t = tri (cornerAt t 0) (cornerAt t 1) (cornerAt t 2) (sideAt t 0) (sideAt 
 
 -- crossing numbers tell the cell's crossings apart, and names its faces
 pub record Apart (c : Cell) : Type 0 where
-  pub numbers : (x y : ℕ) → x < crossings (countOf c) → y < crossings (countOf c) → numberOf c x ≡ numberOf c y → x ≡ y
+  pub numbers : (x y : ℕ) → x < crossings (edgesOf c) → y < crossings (edgesOf c) → numberOf c x ≡ numberOf c y → x ≡ y
   pub names : (s t : ℕ) → s < slotCount → t < slotCount → getD (c .names) s 0 ≡ getD (c .names) t 0 → s ≡ t

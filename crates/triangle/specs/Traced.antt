@@ -6,7 +6,7 @@ use mathlib.Core.List.{List}
 use lib.ListN.{getD}
 use Rattle.counting.specs.Range.{after}
 use Rattle.cell.specs.declared.Cell.{Cell}
-use Rattle.cell.specs.Route.{mostCrossings}
+use Rattle.cell.specs.Route.{mostInCell}
 use Rattle.cell.specs.Round.{HalfEdges}
 use Rattle.triangle.specs.declared.Corner.{Corner}
 use Rattle.triangle.specs.declared.Corner.the-variants.{Crossing}
@@ -17,7 +17,7 @@ use Rattle.triangle.specs.Triangles.{trianglesBy}
 
 -- n places are recorded
 pub record Traced (halves : List ℕ) (n : ℕ) : Type 0 where
-  pub few : n ≤ mostCrossings
+  pub few : n ≤ mostInCell
   pub halves-are : HalfEdges halves n
 
 abbrev pub pointAt : List ℕ → ℕ → Corner

@@ -8,7 +8,7 @@ use Rattle.counting.specs.Pick.{pick}
 use Rattle.counting.specs.Range.{over, after}
 use Rattle.cell.specs.declared.Cell.{Cell}
 use Rattle.cell.specs.Cell.{crossings, mate, slot}
-pub use Rattle.cell.specs.Of.{countOf, startOf}
+pub use Rattle.cell.specs.Of.{edgesOf}
 use Rattle.cell.specs.Loop.{loopSize, dart, normal, inGrid}
 use Rattle.triangle.specs.declared.Corner.{Corner}
 use Rattle.triangle.specs.declared.Corner.the-variants.{Crossing, Middle}
@@ -67,33 +67,33 @@ module _ (c : Cell) where
   -- the crossing number of the cell's crossing x
   unfoldable pub numberOf : ℕ → ℕ
   unfolding inGrid
-  numberOf x = inGrid (countOf c) (startOf c) (c .nodes) x
+  numberOf x = inGrid (edgesOf c) x
 
   -- the segment along a dart, from its crossing to its mate: named by its face's name and its lower crossing number
   unfoldable pub segmentOf : ℕ → Side
   unfolding numberOf slot mate
-  segmentOf d = Segment (getD (c .names) (slot (countOf c) d) 0) (min (numberOf (d / 2)) (numberOf (mate (countOf c) (slot (countOf c) d) (d / 2))))
+  segmentOf d = Segment (getD (c .names) (slot (edgesOf c) d) 0) (min (numberOf (d / 2)) (numberOf (mate (edgesOf c) (slot (edgesOf c) d) (d / 2))))
 
   -- the loop from the crossing p: its point k, its segment g(k), whether its length is 4 and it is normal
   module _ (p : ℕ) where
     unfoldable pub point : ℕ → Corner
     unfolding numberOf dart
-    point k = Crossing (numberOf (dart (countOf c) p k / 2))
+    point k = Crossing (numberOf (dart (edgesOf c) p k / 2))
 
     unfoldable pub segment : ℕ → Side
     unfolding segmentOf dart
-    segment k = segmentOf (dart (countOf c) p k)
+    segment k = segmentOf (dart (edgesOf c) p k)
 
     unfoldable pub inTwo : Bool
     unfolding loopSize normal
-    inTwo = eqb (loopSize (countOf c) p) 4 && normal (countOf c) p
+    inTwo = eqb (loopSize (edgesOf c) p) 4 && normal (edgesOf c) p
 
     -- the triangles of the loop: none where there is no loop from p
     unfoldable pub loopTriangles : List Triangle
     unfolding numberOf point segment inTwo loopSize trianglesBy
-    loopTriangles = trianglesBy (c .index) (numberOf p) point segment (loopSize (countOf c) p) inTwo
+    loopTriangles = trianglesBy (c .index) (numberOf p) point segment (loopSize (edgesOf c) p) inTwo
 
   -- the triangles of the cell, loop by loop
   unfoldable pub cellTriangles : List Triangle
   unfolding loopTriangles over
-  cellTriangles = over loopTriangles (crossings (countOf c)) 0
+  cellTriangles = over loopTriangles (crossings (edgesOf c)) 0

@@ -2,7 +2,7 @@
 ghost use mathlib.Core.Path.{_≡_};
 ghost use Prim.Native.Nat.{_+_, _*_, _≤_};
 ghost use lib.ListN.{length};
-ghost use Rattle.cell.specs.Route.{mostCrossings};
+ghost use Rattle.cell.specs.Route.{mostInCell};
 ghost use Rattle.cell.specs.Walked.{Scratch};
 ghost use Rattle.triangle.specs.Words.{wordCount};
 ghost use Rattle.triangle.specs.Triangles.{cellTriangles};
@@ -98,7 +98,7 @@ pub fn write_in(
 
 // How many triangles the cell has. About 11 KB of stack.
 pub fn triangle_count(c: Cell) -> usize
-    ensures { λ r. ⌜ (r ≡ length (cellTriangles c)) × (r ≤ mostCrossings) ⌝ }
+    ensures { λ r. ⌜ (r ≡ length (cellTriangles c)) × (r ≤ mostInCell) ⌝ }
 {
     let mut marks = [0u16; 1530];
     let mut halves = [0u8; 1530];

@@ -1,16 +1,49 @@
+use Prim.Native.Nat.{_-_, _≤_}
 use native.Mathlib.Omega.{arith}
-use borrow.Author.Needs.{needs}
+use mathlib.Core.Path.{_≡_, _∙_, ap}
+use Rattle.counting.specs.Pack.{pre}
+use Rattle.cell.specs.Of.{countOf, edgesOf}
+use Rattle.cell.proofs.Route.{Sum, sum-none, sum-more}
 use Rattle.cell.proofs.routes.crossings_of.Statement.{statement}
 use Rattle.cell.proofs.routes.crossings_of.Tie as tie
 
-firsts-of-requires : tie.Need-firsts-of-requires
-firsts-of-requires c κs = search needs
+abbrev Inv-loop : tie.InvT-loop
+Inv-loop c n₀ k₀ n k = (k ≤ 6) × Sum (edgesOf c) k n
 
-array-read-result : tie.Need-array-read-result
-array-read-result c = search needs
+abbrev μ-loop : tie.MeasureT-loop
+μ-loop c n₀ k₀ n k = 6 - k
 
-returns : tie.Need-returns
-returns c = (c .firsts-of .ensures .at 6 (omega arith), rw (c .firsts-of .ensures .at 6 (omega arith)) (c .firsts-of .ensures .few))
+loop-holds : tie.Need-loop-holds Inv-loop μ-loop
+loop-holds c = (omega arith, sum-none)
+
+count-at-requires : tie.Need-count-at-requires Inv-loop μ-loop
+count-at-requires c κs = omega arith
+
+add-n : tie.Need-add-n Inv-loop μ-loop
+add-n c = omega (arith, c .before .before .loop .inv .1 .few, c .count-at .ensures .1)
+
+add-k : tie.Need-add-k Inv-loop μ-loop
+add-k c = omega arith
+
+loop-less : tie.Need-loop-less Inv-loop μ-loop
+loop-less c = omega arith
+
+loop-again : tie.Need-loop-again Inv-loop μ-loop
+loop-again c = (omega arith, sum-more (c .before .before .loop .inv .1) _ (c .count-at .ensures))
+
+returns : tie.Need-returns Inv-loop μ-loop
+returns c = let e : c .before .loop .k ≡ 6 = omega arith in (c .before .loop .inv .1 .is ∙ ap (pre (countOf (c .before .before .args .c))) e, omega (arith, c .before .loop .inv .1 .few))
 
 pub crossings-of-spec : {M : Type 1} → statement M
-crossings-of-spec = tie.close (tie.spec firsts-of-requires array-read-result returns)
+crossings-of-spec =
+    tie.close
+    (tie.spec
+    Inv-loop
+    μ-loop
+    loop-holds
+    count-at-requires
+    add-n
+    add-k
+    loop-less
+    loop-again
+    returns)

@@ -1,82 +1,80 @@
+use Prim.Native.Nat.{_-_, _≤_}
 use native.Mathlib.Omega.{arith}
-use Rattle.cell.proofs.Route.{firsts}
-use borrow.Author.Needs.{needs}
+use mathlib.Core.Path.{_≡_}
+use Rattle.cell.specs.Of.{edgesOf}
+use Rattle.cell.proofs.Route.{Rises, rises-one, rises-more, rises-all}
 use Rattle.cell.proofs.routes.firsts_of.Statement.{statement}
 use Rattle.cell.proofs.routes.firsts_of.Tie as tie
 
-element-copy-out-wide8 : tie.Need-element-copy-out-wide8
-element-copy-out-wide8 c = search needs
+abbrev Inv-loop : tie.InvT-loop
+Inv-loop c f₀ n₀ k₀ f n k = (1 ≤ k) × (k ≤ 6) × Rises (edgesOf c) k n f
 
-wide8-requires : tie.Need-wide8-requires
-wide8-requires c κs = search needs
+abbrev μ-loop : tie.MeasureT-loop
+μ-loop c f₀ n₀ k₀ f n k = 6 - k
 
-element-copy-out-wide8-2 : tie.Need-element-copy-out-wide8-2
-element-copy-out-wide8-2 c = search needs
+count-at-requires : tie.Need-count-at-requires Inv-loop μ-loop
+count-at-requires c κs = omega arith
 
-wide8-requires-2 : tie.Need-wide8-requires-2
-wide8-requires-2 c κs = search needs
+loop-holds : tie.Need-loop-holds Inv-loop μ-loop
+loop-holds c = (omega arith, omega arith, rises-one _ (c .count-at .ensures))
 
-add-b : tie.Need-add-b
-add-b c = search needs
+start-of-requires : tie.Need-start-of-requires Inv-loop μ-loop
+start-of-requires c κs = omega arith
 
-element-copy-out-wide8-3 : tie.Need-element-copy-out-wide8-3
-element-copy-out-wide8-3 c = search needs
+sub-start-of : tie.Need-sub-start-of Inv-loop μ-loop
+sub-start-of c = omega arith
 
-wide8-requires-3 : tie.Need-wide8-requires-3
-wide8-requires-3 c κs = search needs
+start-of-requires-2 : tie.Need-start-of-requires-2 Inv-loop μ-loop
+start-of-requires-2 c κs = omega arith
 
-add-d : tie.Need-add-d
-add-d c = search needs
+laid-of-requires : tie.Need-laid-of-requires Inv-loop μ-loop
+laid-of-requires c κs = tt
 
-element-copy-out-wide8-4 : tie.Need-element-copy-out-wide8-4
-element-copy-out-wide8-4 c = search needs
+returns : tie.Need-returns Inv-loop μ-loop
+returns c = c .laid-of .ensures
 
-wide8-requires-4 : tie.Need-wide8-requires-4
-wide8-requires-4 c κs = search needs
+mul-f : tie.Need-mul-f Inv-loop μ-loop
+mul-f c = omega arith
 
-add-e : tie.Need-add-e
-add-e c = search needs
+array-write-f : tie.Need-array-write-f Inv-loop μ-loop
+array-write-f c = omega (arith, c .before .before .before .before .loop .inv .2 .long)
 
-element-copy-out-wide8-5 : tie.Need-element-copy-out-wide8-5
-element-copy-out-wide8-5 c = search needs
+count-at-requires-2 : tie.Need-count-at-requires-2 Inv-loop μ-loop
+count-at-requires-2 c κs = omega arith
 
-wide8-requires-5 : tie.Need-wide8-requires-5
-wide8-requires-5 c κs = search needs
+add-n : tie.Need-add-n Inv-loop μ-loop
+add-n c = omega (arith, c .before .before .before .before .before .loop .inv .2 .sum .few, c .count-at2 .ensures .1)
 
-add-f : tie.Need-add-f
-add-f c = search needs
+add-k : tie.Need-add-k Inv-loop μ-loop
+add-k c = omega arith
 
-element-copy-out-wide8-6 : tie.Need-element-copy-out-wide8-6
-element-copy-out-wide8-6 c = search needs
+loop-less : tie.Need-loop-less Inv-loop μ-loop
+loop-less c = omega arith
 
-wide8-requires-6 : tie.Need-wide8-requires-6
-wide8-requires-6 c κs = search needs
+loop-again : tie.Need-loop-again Inv-loop μ-loop
+loop-again c = (omega arith, omega arith, rises-more (c .before .before .before .before .before .loop .inv .2) (omega arith) (omega arith) (omega (arith, c .before .if1 .left, c .before .before .start-of2 .ensures, c .before .before .before .start-of .ensures)) _ (c .count-at2 .ensures))
 
-add-g : tie.Need-add-g
-add-g c = search needs
-
-returns : tie.Need-returns
-returns c = firsts _ _ _ _ _ _ _ (omega arith) (omega arith) (omega arith) (omega arith) (omega arith) (omega arith) (omega arith)
+returns-2 : tie.Need-returns-2 Inv-loop μ-loop
+returns-2 c = rises-all (c .before .loop .inv .2) (omega arith)
 
 pub firsts-of-spec : {M : Type 1} → statement M
 firsts-of-spec =
     tie.close
     (tie.spec
-    element-copy-out-wide8
-    wide8-requires
-    element-copy-out-wide8-2
-    wide8-requires-2
-    add-b
-    element-copy-out-wide8-3
-    wide8-requires-3
-    add-d
-    element-copy-out-wide8-4
-    wide8-requires-4
-    add-e
-    element-copy-out-wide8-5
-    wide8-requires-5
-    add-f
-    element-copy-out-wide8-6
-    wide8-requires-6
-    add-g
-    returns)
+    Inv-loop
+    μ-loop
+    count-at-requires
+    loop-holds
+    start-of-requires
+    sub-start-of
+    start-of-requires-2
+    laid-of-requires
+    returns
+    mul-f
+    array-write-f
+    count-at-requires-2
+    add-n
+    add-k
+    loop-less
+    loop-again
+    returns-2)

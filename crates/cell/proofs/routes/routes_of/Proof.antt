@@ -1,6 +1,6 @@
 use native.Mathlib.Omega.{arith}
 use Rattle.slots.specs.Slots.{slotEdge}
-use Rattle.cell.proofs.Route.{linkTable, written-none, written-slot, written-all, near-all}
+use Rattle.cell.proofs.Route.{linkTable, written-none, written-slot, written-all}
 use borrow.Author.Needs.{needs}
 use Rattle.cell.proofs.routes.routes_of.Statement.{statement}
 use Rattle.cell.proofs.routes.routes_of.Tie as tie
@@ -43,13 +43,13 @@ unfolding slotEdge
 put-slot-requires-4 c κs = (omega arith, record { of-ab = c .before .before .before .before .before .before .before .before .before .before .before .before .before .before .before .before .before .run-of .ensures; of-ac = c .before .before .before .before .before .before .before .before .before .before .before .before .before .before .before .run-of2 .ensures; of-bc = c .before .before .before .before .before .before .before .before .before .before .before .run-of4 .ensures })
 
 returns : tie.Need-returns
-unfolding linkTable
+unfolding linkTable slotEdge
 returns c =
-    let a = written-slot 0 (written-none (c .before .before .before .before .before .before .before .before .before .before .before .before .before .before .before .before .before .before .before .before .before .args .c)) (omega arith) _ (c .before .before .before .before .before .before .put-slot .ensures) in
-    let b = written-slot 1 a (omega arith) _ (c .before .before .before .before .put-slot2 .ensures) in
-    let d = written-slot 2 b (omega arith) _ (c .before .before .put-slot3 .ensures) in
-    let e = written-slot 3 d (omega arith) _ (c .put-slot4 .ensures) in
-    written-all e (c .before .before .before .before .before .before .before .before .before .before .before .before .before .before .before .before .before .before .before .before .firsts-of .ensures .few) (near-all (c .before .before .before .before .before .before .before .before .before .before .before .before .before .before .before .before .before .before .run-of .ensures) (c .before .before .before .before .before .before .before .before .before .before .before .before .before .before .before .before .run-of2 .ensures) (c .before .before .before .before .before .before .before .before .before .before .before .before .before .before .run-of3 .ensures) (c .before .before .before .before .before .before .before .before .before .before .before .before .run-of4 .ensures) (c .before .before .before .before .before .before .before .before .before .before .run-of5 .ensures) (c .before .before .before .before .before .before .before .before .run-of6 .ensures))
+    let w0 = written-slot {s = 0} (written-none (c .before .before .before .before .before .before .before .before .before .before .before .before .before .before .before .before .before .before .before .before .before .args .c)) (omega arith) (record { of-ab = c .before .before .before .before .before .before .before .before .before .before .before .before .run-of4 .ensures; of-ac = c .before .before .before .before .before .before .before .before .before .before .run-of5 .ensures; of-bc = c .before .before .before .before .before .before .before .before .run-of6 .ensures }) _ (c .before .before .before .before .before .before .put-slot .ensures) in
+    let w1 = written-slot {s = 1} w0 (omega arith) (record { of-ab = c .before .before .before .before .before .before .before .before .before .before .before .before .before .before .before .before .run-of2 .ensures; of-ac = c .before .before .before .before .before .before .before .before .before .before .before .before .before .before .run-of3 .ensures; of-bc = c .before .before .before .before .before .before .before .before .run-of6 .ensures }) _ (c .before .before .before .before .put-slot2 .ensures) in
+    let w2 = written-slot {s = 2} w1 (omega arith) (record { of-ab = c .before .before .before .before .before .before .before .before .before .before .before .before .before .before .before .before .before .before .run-of .ensures; of-ac = c .before .before .before .before .before .before .before .before .before .before .before .before .before .before .run-of3 .ensures; of-bc = c .before .before .before .before .before .before .before .before .before .before .run-of5 .ensures }) _ (c .before .before .put-slot3 .ensures) in
+    let w3 = written-slot {s = 3} w2 (omega arith) (record { of-ab = c .before .before .before .before .before .before .before .before .before .before .before .before .before .before .before .before .before .before .run-of .ensures; of-ac = c .before .before .before .before .before .before .before .before .before .before .before .before .before .before .before .before .run-of2 .ensures; of-bc = c .before .before .before .before .before .before .before .before .before .before .before .before .run-of4 .ensures }) _ (c .put-slot4 .ensures) in
+    written-all {s = 4} w3 (omega arith)
 
 pub routes-of-spec : {M : Type 1} → statement M
 routes-of-spec =

@@ -1,14 +1,21 @@
-use mathlib.Core.Path.{refl}
-use Rattle.cell.proofs.Walking.{starts}
+use native.Mathlib.Omega.{arith}
+use mathlib.Core.Path.{refl, ap, _∙_}
+use Rattle.cell.proofs.Start.{located-lt, located-first, starts}
 use borrow.Author.Needs.{needs}
 use Rattle.cell.proofs.walks.first_dart.Statement.{statement}
 use Rattle.cell.proofs.walks.first_dart.Tie as tie
 
 first-of-requires : tie.Need-first-of-requires
-first-of-requires c κs = search needs
+first-of-requires c κs = located-lt (c .pre)
+
+route-requires : tie.Need-route-requires
+route-requires c κs = search needs
+
+sub-t7 : tie.Need-sub-t7
+sub-t7 c = omega (arith, c .route .ensures, located-first (c .before .before .pre) (c .before .first-of .ensures .0) (c .before .first-of .ensures .1))
 
 returns : tie.Need-returns
-returns c = starts (c .before .pre) (c .first-of .result) (c .first-of .ensures .0) (c .first-of .ensures .1) _ refl refl refl
+returns c = starts (c .before .before .pre) _ (c .before .first-of .ensures .0) (c .before .first-of .ensures .1) _ refl (rw (c .route .ensures) refl) refl
 
 pub first-dart-spec : {M : Type 1} → statement M
-first-dart-spec = tie.close (tie.spec first-of-requires returns)
+first-dart-spec = tie.close (tie.spec first-of-requires route-requires sub-t7 returns)

@@ -26,7 +26,7 @@ returns : tie.Need-returns Inv-loop μ-loop
 returns c = walked-none (start-met _ _ _ (c .before .before .before .pre .inside) (c .before .before .before .pre .marked) (rw (c .before .wide16 .ensures .0) at (c .if1 .taken))) (c .before .before .before .pre .marked) (c .before .before .before .pre .scratch)
 
 start-at-requires : tie.Need-start-at-requires Inv-loop μ-loop
-start-at-requires c κs = c .before .before .before .pre .inside
+start-at-requires c κs = (c .before .before .before .pre .routed, c .before .before .before .pre .inside)
 
 loop-holds : tie.Need-loop-holds Inv-loop μ-loop
 loop-holds c = going-start (c .before .before .before .before .pre .inside) (c .before .before .before .before .pre .marked) (c .before .before .before .before .pre .scratch) (c .start-at .ensures)

@@ -3,7 +3,7 @@ use mathlib.Core.Path.{_≡_, ap, _∙_}
 use native.Mathlib.Omega.{arith}
 use Rattle.counting.specs.Pick.{one}
 use Rattle.cell.specs.Cell.{crossings}
-use Rattle.cell.specs.Of.{countOf}
+use Rattle.cell.specs.Of.{edgesOf}
 use Rattle.triangle.proofs.Cells.{Going, going-start, going-in, going-more}
 use Rattle.triangle.proofs.Walks.{walked-traced}
 use Rattle.places.proofs.Middles.{Counting, counting-none, counting-more, counting-all, walked-fan}
@@ -47,7 +47,7 @@ loop-again : tie.Need-loop-again Inv-loop μ-loop
 loop-again c = let l = c .before .before .before .before .before .before .before .before .loop in (going-more (l .inv .0) (omega arith) (c .before .before .walk .ensures), counting-more (l .inv .1) (c .fan-of .result) (c .fan-of .ensures ∙ ap one (walked-fan (c .before .before .before .before .before .before .before .before .before .before .before .before .before .args .c) (l .p) (going-in (l .inv .0) (omega arith)) (c .before .before .walk .ensures))))
 
 returns : tie.Need-returns Inv-loop μ-loop
-returns c = let l = c .before .loop in let e : l .p ≡ crossings (countOf (c .before .before .before .before .before .before .args .c)) = omega (arith, l .inv .0 .all, l .inv .0 .up) in record { is = counting-all (l .inv .1) e; few = omega (arith, l .inv .1 .few, l .inv .0 .few, l .inv .0 .up); scratch = l .inv .0 .scratch }
+returns c = let l = c .before .loop in let e : l .p ≡ crossings (edgesOf (c .before .before .before .before .before .before .args .c)) = omega (arith, l .inv .0 .all, l .inv .0 .up) in record { is = counting-all (l .inv .1) e; few = omega (arith, l .inv .1 .few, l .inv .0 .few, l .inv .0 .up); scratch = l .inv .0 .scratch }
 
 pub fans-in-spec : {M : Type 1} → statement M
 fans-in-spec =
