@@ -12,3 +12,4 @@ pub mod Kept
 pub mod Gcd
 pub mod Fronts
 pub mod Stores
+pub mod Stored

@@ -7,7 +7,7 @@ use native.Mathlib.Omega.{arith}
 use native.Mathlib.Numerals.{add-one}
 use native.Mathlib.Nat.{mul-zero, mul-suc, mul-comm, mul-le-mul-left, mod-lt, div-add-mod, mul-div-cancel-left, div-lt-iff-lt-mul, not-suc-le-zero, eq-or-lt-of-le, le-of-suc-le-suc}
 use lib.Dec.{ltb, leb}
-use borrow.Author.Tests.{lt-ltb, le-ltb, le-leb, lt-leb}
+use borrow.Author.Tests.{lt-ltb, le-ltb, ltb-true, le-leb, lt-leb}
 use Rattle.counting.specs.Pick.{pick, one}
 use Rattle.counting.specs.Range.{total}
 use Rattle.counting.specs.Search.{seek, first, last, some, every, count}
@@ -399,6 +399,16 @@ count-two t n h = rw (count-last t n, lt-ltb 0 (last t n) h, count-last t (last 
 
 pub count-zero : (t : ℕ → Bool) (n : ℕ) → last t n ≡ 0 → ltb 1 (count t n) ≡ false
 count-zero t n h = rw (count-last t n, h)
+
+pub two-counted : (t : ℕ → Bool) (n : ℕ) → ltb 1 (count t n) ≡ true → (i : ℕ) × (j : ℕ) × (i < j) × (j < n) × (t i ≡ true) × (t j ≡ true)
+two-counted t n h = go (last t n) refl
+  where
+    go : (m : ℕ) → last t n ≡ m → (i : ℕ) × (j : ℕ) × (i < j) × (j < n) × (t i ≡ true) × (t j ≡ true)
+    go zero e = absurd (clash h (count-zero t n e))
+    go (suc m) e =
+        let p : 0 < last t n = omega arith in
+        let q = ltb-true 0 (last t (last t n - 1)) (sym (count-two t n p) ∙ h) in
+        (last t (last t n - 1) - 1, last t n - 1, omega (arith, last-le t (last t n - 1)), omega (arith, last-le t n), last-is t (last t n - 1) q, last-is t n p)
 
 -- in blocks of b numbers, of which at most one passes
 pub count-blocks : (t : ℕ → Bool) (b n : ℕ) → ((d : ℕ) → d < n → AtMostOne (λ i. t (b * d + i)) b)

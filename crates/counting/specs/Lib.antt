@@ -5,3 +5,4 @@ pub mod Lists
 pub mod Pack
 pub mod Reach
 pub mod Gcd
+pub mod Stored
