@@ -3,11 +3,9 @@ use Prim.Native.Nat.{ℕ, _+_, _*_, _-_, _/_, _≤_, _<_}
 use mathlib.Core.Path.{_≡_, refl, sym, ap, ap₂, _∙_, subst}
 use mathlib.Core.Logic.{_⊎_, inl, inr, ⊎-elim}
 use mathlib.Core.List.{List}
-use native.Mathlib.Nat.{zero-add}
 use native.Mathlib.Omega.{arith}
 use native.Mathlib.Decide.{decLt}
 use lib.ListN.{getD, length}
-use Rattle.counting.proofs.Lists.{getD-singles}
 use Rattle.counting.proofs.Pack.{row-lt, col-lt, pre-le, later}
 use Rattle.counting.proofs.Search.{first-ext}
 use Rattle.slots.specs.Slots.{lo, hi, corner, from, to, slotEdge, place, firstSlot, secondSlot}
@@ -29,10 +27,8 @@ use Rattle.manifold.specs.Faces.{Match, Faced}
 use Rattle.grid.specs.Grid.{cellCount, node, SameFace, faceName, joins, isEdge, edgeNumber, countOf, start}
 use Rattle.grid.specs.Accepted.{Accepted}
 use Rattle.grid.proofs.Names.{same-named}
-use Rattle.mesh.specs.Mesh.{values, gridCell}
-
-values-at : (f : ℕ → ℕ) (n k : ℕ) → k < n → getD (values f n) k 0 ≡ f k
-values-at f n k l = getD-singles f 0 n 0 k l ∙ ap f (zero-add k)
+use Rattle.mesh.specs.Mesh.{gridCell}
+use Rattle.mesh.proofs.Values.{values-at}
 
 module _ (cells edges counts : List ℕ) where
   -- the number of edge k of cell c, and the counts of the cell

@@ -2,24 +2,23 @@
 use Prim.Native.Nat.{ℕ, _+_, _*_, _-_, _/_, _%_, _<_}
 use mathlib.Core.Path.{_≡_, ap, ap₂, _∙_}
 use mathlib.Core.Bool.{true}
-use mathlib.Core.List.{List, [], _∷_}
+use mathlib.Core.List.{List}
 use native.Mathlib.Omega.{arith}
 use lib.ListN.{length, getD}
 use Rattle.counting.specs.Pick.{pick}
 use Rattle.counting.proofs.Range.{over-ext}
 use Rattle.counting.proofs.Pack.{pre-le}
-use Rattle.grid.specs.Grid.{cellCount, node, faceName, edgeNumber, countOf, start}
+use Rattle.cell.specs.Route.{startLimit}
+use Rattle.grid.specs.Grid.{mostCells, cellCount, node, faceName, edgeNumber, countOf, start}
 use Rattle.grid.specs.Accepted.{Accepted}
 use Rattle.grid.specs.Tables.{filled, accepts, Opened, nameAt, sideAt}
 use Rattle.grid.proofs.Filled.{filled-at}
 use Rattle.triangle.specs.Triangles.{cellTriangles}
 use Rattle.mesh.specs.Mesh.{values, gridCell, meshTriangles}
-use Rattle.mesh.specs.Table.{ofEdges, ofFour, side, tableCell, tableTriangles, tableLoop, Laid}
+use Rattle.mesh.specs.Table.{tableCounts, tableStarts, ofFour, side, tableCell, tableTriangles, tableLoop}
 use Rattle.mesh.specs.Asked.{askedLoop}
+use Rattle.mesh.proofs.Values.{values-ext}
 use Rattle.mesh.proofs.Askings.{asked-ext}
-
-values-ext : (f g : ℕ → ℕ) (n : ℕ) → ((i : ℕ) → i < n → f i ≡ g i) → values f n ≡ values g n
-values-ext f g n h = over-ext (λ i. f i ∷ []) (λ i. g i ∷ []) n 0 (λ i a b. ap (λ x. x ∷ []) (h i (omega arith)))
 
 -- the tables of an accepted grid, in arrays that are long enough
 pub record Tabled (cells edges counts names sides starts : List ℕ) : Type 1 where
@@ -44,29 +43,31 @@ module _ {cells edges counts names sides starts : List ℕ} (T : Tabled cells ed
   side-lt : (c k : ℕ) → c < cellCount cells → k < 6 → side sides c k < length counts
   side-lt c k lc lk = rw (side-is c k lc lk) (T .accepted .listed c k lc lk)
 
-  start-is : (c k : ℕ) → c < cellCount cells → k < 6 → getD starts (side sides c k) 0 ≡ start counts (edgeNumber cells edges counts c k)
-  start-is c k lc lk = T .first (side sides c k) (side-lt c k lc lk) ∙ ap (start counts) (side-is c k lc lk)
-
-  start-small : (e : ℕ) → e < length counts → start counts e < 65536
+  start-is : (c k : ℕ) → c < cellCount cells → k < 6 → getD starts (side sides c k) 0 % startLimit ≡ start counts (edgeNumber cells edges counts c k)
   unfolding start
-  start-small e l = omega (arith, pre-le (countOf counts) 0 e (length counts) l, T .accepted .few-crossings)
+  start-is c k lc lk =
+      let e = edgeNumber cells edges counts c k in
+      let l : e < length counts = T .accepted .listed c k lc lk in
+      let q : getD starts (side sides c k) 0 ≡ start counts e = T .first (side sides c k) (side-lt c k lc lk) ∙ ap (start counts) (side-is c k lc lk) in
+      omega (arith, q, pre-le (countOf counts) 0 e (length counts) l, T .accepted .few-crossings)
 
   pub cell-is : (c : ℕ) → c < cellCount cells → tableCell cells counts names sides starts c ≡ gridCell cells edges counts c
   unfolding tableCell gridCell
   cell-is c lc =
-      let a : ofEdges counts sides c ≡ values (λ k. countOf counts (edgeNumber cells edges counts c k)) 6 =
+      let m : c % mostCells ≡ c = omega (arith, T .accepted .few-cells) in
+      let a : tableCounts counts sides c ≡ values (λ k. countOf counts (edgeNumber cells edges counts c k)) 6 =
       values-ext (λ k. getD counts (side sides c k) 0) (λ k. countOf counts (edgeNumber cells edges counts c k)) 6 (λ k l. ap (countOf counts) (side-is c k lc l)) in
-      let b : ofEdges starts sides c ≡ values (λ k. start counts (edgeNumber cells edges counts c k)) 6 =
-      values-ext (λ k. getD starts (side sides c k) 0) (λ k. start counts (edgeNumber cells edges counts c k)) 6 (λ k l. start-is c k lc l) in
+      let b : tableStarts starts sides c ≡ values (λ k. start counts (edgeNumber cells edges counts c k)) 6 =
+      values-ext (λ k. getD starts (side sides c k) 0 % startLimit) (λ k. start counts (edgeNumber cells edges counts c k)) 6 (λ k l. start-is c k lc l) in
       let d : ofFour names c ≡ values (faceName cells c) 4 = values-ext (λ s. getD names (4 * c + s) 0) (faceName cells c) 4 (λ s l. name-is c s lc l) in
-      ap₂ (λ x y. record { counts = x; starts = y; names = ofFour names c; nodes = ofFour cells c; index = c }) a b
+      rw m (ap₂ (λ x y. record { counts = x; starts = y; names = ofFour names c; nodes = ofFour cells c; index = c }) a b
       ∙ ap (λ z. record {
         counts = values (λ k. countOf counts (edgeNumber cells edges counts c k)) 6;
         starts = values (λ k. start counts (edgeNumber cells edges counts c k)) 6;
         names = z;
         nodes = ofFour cells c;
         index = c;
-      }) d
+      }) d)
 
   pub triangles-are : tableTriangles cells counts names sides starts ≡ meshTriangles cells edges counts
   unfolding tableTriangles meshTriangles
@@ -77,19 +78,6 @@ module _ {cells edges counts names sides starts : List ℕ} (T : Tabled cells ed
   pub loop-is : (c k : ℕ) → tableLoop cells counts names sides starts c k ≡ askedLoop (gridCell cells edges counts) (cellCount cells) c k
   unfolding tableLoop
   loop-is c k = asked-ext (tableCell cells counts names sides starts) (gridCell cells edges counts) (cellCount cells) c k (cell-is c)
-
-  pub laid : Laid cells counts sides starts
-  laid = record {
-    few = T .accepted .few-cells;
-    reaches = λ c lc. record {
-      node = omega (arith, T .accepted .fours);
-      edged = record { cell = omega (arith, T .accepted .few-cells); edge = λ k l. side-lt c k lc l };
-      started = record {
-        edged = record { cell = omega (arith, T .accepted .few-cells); edge = λ k l. omega (arith, side-lt c k lc l, T .accepted .few-edges, T .accepted .few-cells) };
-        start = λ k l. rw (start-is c k lc l) (start-small (edgeNumber cells edges counts c k) (T .accepted .listed c k lc l));
-      };
-    };
-  }
 
 -- what `open` leaves where the grid is accepted
 pub tabled : (cells edges counts names₀ near₀ sides₀ starts₀ names near sides starts : List ℕ) → Accepted cells edges counts → accepts cells edges counts ≡ true
