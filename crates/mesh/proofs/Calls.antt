@@ -34,7 +34,7 @@ module _ (cells edges counts : List ℕ) where
 
     pub refused-done : (area : List ℕ) → Done cells edges counts area area (pick (eqb row 0) [] (refusal row place))
     unfolding meshAnswer meshArea
-    refused-done area = record { answered = rw keeps is-refusal; area = rw keeps; demand = demand3 cells edges counts }
+    refused-done area = record { answered = rw keeps is-refusal; area = rw keeps; demand = demand3 }
 
     pub refused-loops : (c k : ℕ) → pick (eqb row 0) [] (refusal row place) ≡ loopsAnswer cells edges counts c k
     unfolding loopsAnswer
@@ -64,7 +64,7 @@ module _ (cells edges counts : List ℕ) where
       drawn-done before after answer d = record {
         answered = rw accepted (d .answered ∙ ap (λ m. roomAnswer m (length before)) (triangles-are tables));
         area = rw accepted (d .area ∙ ap (λ m. roomArea m before) (triangles-are tables));
-        demand = demand3 cells edges counts;
+        demand = demand3;
       }
 
       pub told-loops : (c k : ℕ) → tableLoop cells counts names sides starts c k ≡ loopsAnswer cells edges counts c k

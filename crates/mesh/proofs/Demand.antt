@@ -19,7 +19,7 @@ use Rattle.cell.specs.Cell as cell
 use Rattle.cell.specs.Loop.{loopSize, normal}
 use Rattle.manifold.specs.Triangle as names
 use Rattle.manifold.specs.Triangle.{Corner, Side, noTri, nth, cross, middle, same}
-use Rattle.manifold.specs.Polygon.{shape, shapeBy, fan, triangles}
+use Rattle.manifold.specs.Polygon.{shape, triangles}
 use Rattle.manifold.specs.Complex as complex
 use Rattle.manifold.specs.Complex.{Complex, Shut, Has, loopOf}
 use Rattle.manifold.specs.Ring.{RingIn}
@@ -39,7 +39,7 @@ use Rattle.grid.specs.Claims.{Refusal}
 use Rattle.grid.proofs.Claims.{accepts-or-refuses, refuses-fault}
 use Rattle.grid.proofs.Accepts.{acceptance-yields}
 use Rattle.mesh.specs.Mesh.{gridCell, meshTriangles}
-use Rattle.mesh.specs.Demand.{none, faceCount, RingPremises, OneRing, Fan, Demand3}
+use Rattle.mesh.specs.Demand.{none, faceCount, RingPremises, OneRing, MeshLaws, Demand3}
 use Rattle.mesh.proofs.Complex.{w, en, gridComplex, count-of, number-of, faced}
 use Rattle.mesh.proofs.Shut.{facesShut, facesLinked}
 
@@ -126,26 +126,16 @@ module _ (cells edges counts : List ℕ) where
           },
         )
 
-    fan-shape : (c p : ℕ) → Fan cells edges counts c p → shape (loopOf K c p) ≡ fan
-    unfolding shape loopSize cell.step
-    fan-shape c p F = go (eqb (loopSize (w cells edges counts c) p) 3) (eqb (loopSize (w cells edges counts c) p) 4) (normal (w cells edges counts c) p) (F .not-three) (F .not-four)
-      where
-        go : (x y z : Bool) → x ≡ false → (y && z) ≡ false → shapeBy x y z ≡ fan
-        go true y z e f = clash refl e
-        go false true true e f = clash refl f
-        go false true false e f = refl
-        go false false z e f = refl
-
-    pub accepted-demand : Demand3 cells edges counts (crossings counts)
-    unfolding loopSize cell.step
-    accepted-demand = record {
+    pub accepted-laws : MeshLaws cells edges counts (crossings counts)
+    unfolding loopSize cell.step shape
+    accepted-laws = record {
       no-alternation = λ c s lc ls. faceLaws (faceCount cells edges counts c s 0) (faceCount cells edges counts c s 1) (faceCount cells edges counts c s 2) .no-alternation;
       at-most-two = λ σ. rw (sym (tally-named σ)) (claims .most σ);
       exactly-two = λ H t i lt li. two H t i lt li;
       ring-at-crossing = λ H g l.
           let (c, h) = has H g l in
           ring-of (cross g) (claims .ring (closed H) g c h (faces-linked K (faced cells edges counts A) (facesShut cells edges counts A H) g (facesLinked cells edges counts A H g)));
-      ring-at-middle = λ H c p F. ring-of (middle c (numberOf (gridCell cells edges counts c) p)) (claims .round (closed H) c p (F .cell-lt) (F .start-lt) (F .some) (fan-shape c p F));
+      ring-at-middle = λ H c p F. ring-of (middle c (numberOf (gridCell cells edges counts c) p)) (claims .round (closed H) c p (F .cell-lt) (F .start-lt) (F .some) (F .is));
     }
       where
         two : RingPremises cells edges counts → (t i : ℕ) → t < length (meshTriangles cells edges counts) → i < 3
@@ -166,8 +156,7 @@ total-is cells edges counts total e = go (accepts-or-refuses cells edges counts)
     go (inl q) = cc
     go (inr (n, p, r)) = let z : n ≡ 0 = cc (refuses-fault cells edges counts n p r) in absurd (omega (arith, r .row-lt .0))
 
--- Demand 3: for every three lists that the grid check accepts
-pub demand3 : (cells edges counts : List ℕ) (total : ℕ) → gridAnswer cells edges counts ≡ result (total ∷ []) → Demand3 cells edges counts total
+pub demand3 : Demand3
 demand3 cells edges counts total e =
-    subst (Demand3 cells edges counts) (total-is cells edges counts total e)
-    (accepted-demand cells edges counts (acceptance-yields cells edges counts (total ∷ []) e))
+    subst (MeshLaws cells edges counts) (total-is cells edges counts total e)
+    (accepted-laws cells edges counts (acceptance-yields cells edges counts (total ∷ []) e))

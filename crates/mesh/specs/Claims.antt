@@ -2,6 +2,7 @@
 use Prim.Native.Nat.{ℕ, _<_}
 use mathlib.Core.Path.{_≡_}
 use mathlib.Core.List.{List, [], _∷_}
+use lib.ListN.{length}
 use Rattle.answer.specs.Answer.{result}
 use Rattle.cell.specs.Of.{countOf, startOf}
 use Rattle.cell.specs.Claims.{OrderLaws}
@@ -10,7 +11,9 @@ use Rattle.grid.specs.Rows.{gridAnswer}
 use Rattle.mesh.specs.declared.Meshed.{Meshed}
 use Rattle.mesh.specs.declared.Looped.{Looped}
 use Rattle.mesh.specs.Numbers.{meshNumbers, loopsNumbers}
-use Rattle.mesh.specs.Mesh.{gridCell}
+use Rattle.mesh.specs.Mesh.{gridCell, meshTriangles}
+use Rattle.mesh.specs.Demand.{RingPremises}
+use Rattle.mesh.specs.Examples.{threeCells, threeEdges, threeCounts}
 use Rattle.mesh.specs.Answer.{meshAnswer, loopsAnswer}
 
 -- the numbers tell the answer: no two values of an enum are read as the same answer of its call
@@ -26,3 +29,9 @@ LoopsTold = (cells edges counts : List ℕ) (c k : ℕ) (r s : Looped)
 abbrev pub LoopsOrdered : Type 0
 LoopsOrdered = (cells edges counts : List ℕ) (total : ℕ) → gridAnswer cells edges counts ≡ result (total ∷ []) → (c : ℕ) → c < cellCount cells
     → OrderLaws (countOf (gridCell cells edges counts c)) (startOf (gridCell cells edges counts c)) (gridCell cells edges counts c .nodes)
+
+-- demand 3 is not empty: three cells round an edge (01) are accepted, meet both premises of the rings, and have six triangles
+pub record RingsHappen : Type 0 where
+  pub accepted : gridAnswer threeCells threeEdges threeCounts ≡ result (2 ∷ [])
+  pub premises : RingPremises threeCells threeEdges threeCounts
+  pub triangles : length (meshTriangles threeCells threeEdges threeCounts) ≡ 6
