@@ -33,7 +33,7 @@ use Rattle.mesh.specs.Asked.{cellLoop, askedLoop}
 use Rattle.mesh.specs.Answer.{meshAnswer, loopsAnswer}
 use Rattle.mesh.specs.Numbers.{meshNumbers, loopsNumbers}
 use Rattle.mesh.specs.Claims.{MeshTold, LoopsTold, LoopsOrdered}
-use Rattle.mesh.proofs.Complex.{count-of, en, start-le, start-of}
+use Rattle.mesh.proofs.Complex.{rising}
 
 -- there is always an answer
 no-nil : {a : ℕ} {l : List ℕ} → [] ≡ a ∷ l → ⊥
@@ -102,15 +102,7 @@ mesh-told cells edges counts room = mesh-tells (meshAnswer cells edges counts ro
 pub loops-told : LoopsTold
 loops-told cells edges counts c k = loops-tell (loopsAnswer cells edges counts c k) (loops-some cells edges counts c k)
 
--- in a cell of an accepted grid the crossings of an earlier edge have lower numbers
 pub loopsOrdered : LoopsOrdered
 loopsOrdered cells edges counts total e c l =
-    ordered (countOf (gridCell cells edges counts c)) (startOf (gridCell cells edges counts c)) (gridCell cells edges counts c .nodes) (λ j k h lk.
-    let A = acceptance-yields cells edges counts (total ∷ []) e in
-    omega (
-      arith,
-      start-of cells edges counts c j (omega arith),
-      start-of cells edges counts c k lk,
-      count-of cells edges counts c j (omega arith),
-      start-le cells edges counts (en cells edges counts c j) (en cells edges counts c k) (A .rising c j k l h lk),
-    ))
+    ordered (countOf (gridCell cells edges counts c)) (startOf (gridCell cells edges counts c)) (gridCell cells edges counts c .nodes)
+    (rising cells edges counts (acceptance-yields cells edges counts (total ∷ []) e) c l)

@@ -4,9 +4,9 @@ use mathlib.Core.Path.{_≡_, refl, sym, ap, ap₂, _∙_, subst}
 use mathlib.Core.Logic.{_⊎_, inl, inr, ⊎-elim}
 use mathlib.Core.List.{List}
 use native.Mathlib.Omega.{arith}
-use native.Mathlib.Decide.{decLt}
 use lib.ListN.{getD, length}
-use Rattle.counting.proofs.Pack.{row-lt, col-lt, pre-le, later}
+use Rattle.counting.proofs.Onto.{rise-once}
+use Rattle.counting.proofs.Pack.{row-lt, pre-le}
 use Rattle.counting.proofs.Search.{first-ext}
 use Rattle.slots.specs.Slots.{lo, hi, corner, from, to, slotEdge, place, firstSlot, secondSlot}
 use Rattle.slots.proofs.Slots.{slot-edge, face-ends, same-slot, corner-lt}
@@ -16,6 +16,8 @@ use Rattle.walk.proofs.Step.{face-first, face-second}
 use Rattle.cell.specs.Cell as cell
 use Rattle.cell.specs.Cell.{crossings, edge, index, number, mate, joinAt}
 use Rattle.cell.specs.Loop.{inGrid, normal}
+use Rattle.cell.specs.Claims.{Rising}
+use Rattle.cell.proofs.Claims.{ordered}
 use Rattle.cell.proofs.Mates.{mate-joined}
 use Rattle.mesh.proofs.Joins.{three, On, index-in, num-lt, num-edge, num-index, num-place, is-num, Joined, joined-or, on-dart}
 use Rattle.triangle.specs.Triangles as triangles
@@ -67,41 +69,18 @@ module _ (cells edges counts : List ℕ) where
   start-le a b h = pre-le (countOf counts) 0 a b h
 
   module _ (A : Accepted cells edges counts) where
-    number-rises : (c : ℕ) → c < cellCount cells → (x y : ℕ) → x < y → y < crossings (w c) → at c .number x < at c .number y
-    number-rises c lc x y h l =
-        let ex = row-lt (w c) 6 x (omega arith) in
-        let ey = row-lt (w c) 6 y l in
-        rw (number-of c x (omega arith), number-of c y l)
-        (⊎-elim
-        (λ (r : edge (w c) x < edge (w c) y).
-        omega (
-          arith,
-          start-le (en c (edge (w c) x)) (en c (edge (w c) y)) (A .rising c (edge (w c) x) (edge (w c) y) lc r ey),
-          col-lt (w c) 6 x (omega arith),
-          count-of c (edge (w c) x) ex,
-        ))
-        (λ (r : (edge (w c) x ≡ edge (w c) y) × (index (w c) x < index (w c) y)). omega (arith, r .1, ap (λ k. start counts (en c k)) (r .0)))
-        (later (w c) 6 x y h l))
+    -- the crossings of an earlier edge have lower numbers
+    pub rising : (c : ℕ) → c < cellCount cells → Rising (w c) (triangles.startOf (gridCell cells edges counts c))
+    rising c lc j k h l =
+        omega (arith, start-of c j (omega arith), start-of c k l, count-of c j (omega arith), start-le (en c j) (en c k) (A .rising c j k lc h l))
 
-    pub number-once : (c : ℕ) → c < cellCount cells → (x y : ℕ) → x < crossings (w c) → y < crossings (w c) → at c .number x ≡ at c .number y → x ≡ y
-    number-once c lc x y lx ly e =
-        elim (decLt x y) [
-          | yes h ↦ absurd (omega (arith, number-rises c lc x y h ly))
-          | no h ↦ elim (decLt y x) [
-            | yes k ↦ absurd (omega (arith, number-rises c lc y x k lx))
-            | no k ↦ omega arith
-          ]
-        ]
+    number-once : (c : ℕ) → c < cellCount cells → (x y : ℕ) → x < crossings (w c) → y < crossings (w c) → at c .number x ≡ at c .number y → x ≡ y
+    unfolding numberOf
+    number-once c lc =
+        rise-once (at c .number) (crossings (w c)) (ordered (w c) (triangles.startOf (gridCell cells edges counts c)) (gridCell cells edges counts c .nodes) (rising c lc) .numbers)
 
     node-once : (c i j : ℕ) → c < cellCount cells → i < 4 → j < 4 → node cells c i ≡ node cells c j → i ≡ j
-    node-once c i j lc li lj e =
-        elim (decLt i j) [
-          | yes h ↦ absurd (omega (arith, A .increasing c i j lc h lj))
-          | no h ↦ elim (decLt j i) [
-            | yes k ↦ absurd (omega (arith, A .increasing c j i lc k li))
-            | no k ↦ omega arith
-          ]
-        ]
+    node-once c i j lc = rise-once (node cells c) 4 (λ a b. A .increasing c a b lc) i j
 
     names-once : (c : ℕ) → c < cellCount cells → (s t : ℕ) → s < 4 → t < 4 → at c .name s ≡ at c .name t → s ≡ t
     names-once c lc s t ls lt e =
