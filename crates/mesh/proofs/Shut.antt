@@ -4,14 +4,15 @@ use mathlib.Core.Path.{_≡_, refl, sym, ap, ap₂, _∙_, subst}
 use mathlib.Core.Logic.{_⊎_, inl, inr, _≢_, ⊎-elim}
 use mathlib.Core.Bool.{Bool, true, false, not, _&&_}
 use mathlib.Core.List.{List}
+use lib.ListN.{length}
 use native.Mathlib.Omega.{arith}
-use native.Mathlib.Decide.{decLt}
 use lib.Dec.{eqb}
 use borrow.Author.Tests.{eqb-true, eqb-false, not-true}
 use Rattle.counting.specs.Search.{some}
 use Rattle.counting.proofs.Bools.{clash, and-true, and-left, and-right, holds-or}
-use Rattle.counting.proofs.Pack.{row-lt, col-lt}
-use Rattle.counting.proofs.Search.{least, some-is, some-found}
+use Rattle.counting.specs.Pack.{row}
+use Rattle.counting.proofs.Pack.{row-lt, col-lt, row-pack}
+use Rattle.counting.proofs.Search.{Least, least, some-is, some-found}
 use Rattle.slots.specs.Slots.{slotEdge, place, firstSlot, secondSlot}
 use Rattle.slots.proofs.Slots.{slot-edge}
 use Rattle.face.specs.Face.{unjoined}
@@ -27,7 +28,7 @@ use Rattle.grid.specs.Accepted.{Accepted}
 use Rattle.grid.proofs.Packed.{same-true, true-same}
 use Rattle.grid.proofs.Names.{named-same, outer-edge}
 use Rattle.mesh.specs.Demand.{RingPremises, faceCount}
-use Rattle.mesh.proofs.Complex.{w, at, en, gridComplex, count-of, name-of, number-of, start-le}
+use Rattle.mesh.proofs.Complex.{w, at, en, gridComplex, count-of, name-of, number-of}
 
 module _ (cells edges counts : List ℕ) where
   module _ (A : Accepted cells edges counts) (H : RingPremises cells edges counts) where
@@ -39,8 +40,7 @@ module _ (cells edges counts : List ℕ) where
         other : ℕ → Bool
         other b = some (λ t. sameFace cells b t c s) 4 && not (eqb b c)
 
-        go : ((b : ℕ) × (b < cellCount cells) × (other b ≡ true) × ((k : ℕ) → k < b → other k ≡ false)) ⊎ ((k : ℕ) → k < cellCount cells → other k ≡ false)
-            → (b : ℕ) × (b < cellCount cells) × (b ≢ c) × (t : ℕ) × (t < 4) × SameFace cells c s b t
+        go : Least other (cellCount cells) → (b : ℕ) × (b < cellCount cells) × (b ≢ c) × (t : ℕ) × (t < 4) × SameFace cells c s b t
         go (inl (b, lb, e, f)) =
             let (t, lt, q) = some-is (λ t. sameFace cells b t c s) 4 (and-left (some (λ t. sameFace cells b t c s) 4) (not (eqb b c)) e) in
             (b, lb, eqb-false b c (not-true (eqb b c) (and-right (some (λ t. sameFace cells b t c s) 4) (not (eqb b c)) e)), t, lt, λ i l. sym (same-true cells b t c s q i l))
@@ -96,15 +96,10 @@ module _ (cells edges counts : List ℕ) where
             (b, lb, ne, t, lt, name-of cells edges counts c s (o .slot .lt) ∙ named-same cells c s b t h ∙ sym (name-of cells edges counts b t lt))
 
     -- a crossing number tells its edge
-    edge-of-number : (e f i j : ℕ) → i < countOf counts e → j < countOf counts f → start counts e + i ≡ start counts f + j → e ≡ f
-    edge-of-number e f i j li lj q =
-        elim (decLt e f) [
-          | yes h ↦ absurd (omega (arith, start-le cells edges counts e f h))
-          | no h ↦ elim (decLt f e) [
-            | yes k ↦ absurd (omega (arith, start-le cells edges counts f e k))
-            | no k ↦ omega arith
-          ]
-        ]
+    edge-of-number : (e f i j : ℕ) → e < length counts → f < length counts → i < countOf counts e → j < countOf counts f → start counts e + i ≡ start counts f + j → e ≡ f
+    unfolding start
+    edge-of-number e f i j le lf li lj q =
+        sym (row-pack (countOf counts) (length counts) e i le li) ∙ ap (row (countOf counts) (length counts)) q ∙ row-pack (countOf counts) (length counts) f j lf lj
 
     -- the cells at a crossing are linked through faces on which it lies: those that contain its edge
     pub facesLinked : (g : ℕ) → FacesLinked (gridComplex cells edges counts) g
@@ -126,7 +121,7 @@ module _ (cells edges counts : List ℕ) where
         let lj : index vb xb < countOf counts (en cells edges counts b kb) = subst (λ n. index vb xb < n) (count-of cells edges counts b kb lkb) (col-lt vb 6 xb lb) in
         let na : start counts (en cells edges counts a ka) + i ≡ g = sym (number-of cells edges counts a xa la) ∙ ha .is in
         let nb : start counts (en cells edges counts b kb) + index vb xb ≡ g = sym (number-of cells edges counts b xb lb) ∙ hb .is in
-        let e : en cells edges counts a ka ≡ en cells edges counts b kb = edge-of-number (en cells edges counts a ka) (en cells edges counts b kb) i (index vb xb) li lj (na ∙ sym nb) in
+        let e : en cells edges counts a ka ≡ en cells edges counts b kb = edge-of-number (en cells edges counts a ka) (en cells edges counts b kb) i (index vb xb) (A .listed a ka (ha .lt) lka) (A .listed b kb (hb .lt) lkb) li lj (na ∙ sym nb) in
         A .linked (en cells edges counts a ka) Q
         (λ a′ b′ r s j la lb lr ls l h q. pass a′ b′ (step i (en cells edges counts a ka) li na a′ b′ r s j la lb lr ls l h q))
         a b ka kb (ha .lt) (hb .lt) lka lkb refl (sym e)
