@@ -1,5 +1,5 @@
 -- The mesh call and the loops call, where the grid check refuses and where it accepts.
-use Prim.Native.Nat.{ℕ}
+use Prim.Native.Nat.{ℕ, _≤_}
 use mathlib.Core.Path.{_≡_, sym, ap, _∙_}
 use mathlib.Core.Bool.{true, false}
 use mathlib.Core.List.{List, [], _∷_}
@@ -8,18 +8,20 @@ use Rattle.answer.specs.Answer.{refused}
 use Rattle.grid.specs.Grid.{Grid, mostSlots, mostEdges}
 use Rattle.grid.specs.declared.Checked.{Checked}
 use Rattle.grid.specs.declared.Checked.the-variants.{Crossings, Refused}
+use Rattle.grid.specs.Grid.{mostCells, cellCount}
+use Rattle.grid.specs.Accepted.{Sound}
 use Rattle.grid.specs.Check.{checkNumbers}
 use Rattle.grid.specs.Rows.{gridAnswer}
 use Rattle.grid.specs.Tables.{accepts, Opened}
 use Rattle.grid.proofs.Accepts.{acceptance-yields}
 use Rattle.grid.proofs.Filled.{refused-keeps, crossings-accept}
-use Rattle.mesh.specs.Table.{Laid, tableLoop}
+use Rattle.mesh.specs.Table.{tableLoop}
 use Rattle.mesh.specs.Room.{roomAnswer, roomArea}
 use Rattle.mesh.specs.Drawn.{Drawn}
 use Rattle.mesh.specs.Answer.{meshAnswer, meshArea, loopsAnswer}
 use Rattle.mesh.specs.Done.{Done}
 use Rattle.mesh.proofs.Demand.{demand3}
-use Rattle.mesh.proofs.Tables.{Tabled, tabled, laid, triangles-are, loop-is}
+use Rattle.mesh.proofs.Tables.{Tabled, tabled, triangles-are, loop-is}
 
 module _ (G : Grid) where
   module _ (r : Checked) (row place : ℕ) (e : r ≡ Refused row place) (q : checkNumbers r ≡ gridAnswer G) where
@@ -31,7 +33,7 @@ module _ (G : Grid) where
 
     pub refused-done : (area : List ℕ) → Done G area area (refused row place)
     unfolding meshAnswer meshArea
-    refused-done area = record { answered = rw keeps is-refusal; area = rw keeps; demand = demand3 G }
+    refused-done area = record { answered = rw keeps is-refusal; area = rw keeps; demand = demand3 }
 
     pub refused-loops : (c k : ℕ) → refused row place ≡ loopsAnswer G c k
     unfolding loopsAnswer
@@ -44,21 +46,23 @@ module _ (G : Grid) where
     accepted : accepts G ≡ true
     accepted = crossings-accept G n is-result
 
+    yields : Sound G
+    yields = acceptance-yields G (n ∷ []) (sym is-result) .sound
+
+    pub accepted-few : cellCount (G .cells) ≤ mostCells
+    accepted-few = yields .few-cells
+
     module _ (names₀ sides₀ starts₀ names sides starts : List ℕ) (ln : length names₀ ≡ mostSlots) (ls : length sides₀ ≡ mostEdges) (lt : length starts₀ ≡ mostEdges)
         (o : Opened G names₀ sides₀ starts₀ names sides starts) where
       tables : Tabled G names sides starts
-      tables =
-          tabled G names₀ sides₀ starts₀ names sides starts (acceptance-yields G (n ∷ []) (sym is-result) .sound) accepted ln ls lt o
-
-      pub opened-laid : Laid (G .cells) (G .counts) sides starts
-      opened-laid = laid tables
+      tables = tabled G names₀ sides₀ starts₀ names sides starts yields accepted ln ls lt o
 
       pub drawn-done : (before after answer : List ℕ) → Drawn (G .cells) (G .counts) names sides starts before after answer → Done G before after answer
       unfolding meshAnswer meshArea
       drawn-done before after answer d = record {
         answered = rw accepted (d .answered ∙ ap (λ m. roomAnswer m (length before)) (triangles-are tables));
         area = rw accepted (d .area ∙ ap (λ m. roomArea m before) (triangles-are tables));
-        demand = demand3 G;
+        demand = demand3;
       }
 
       pub told-loops : (c k : ℕ) → tableLoop (G .cells) (G .counts) names sides starts c k ≡ loopsAnswer G c k

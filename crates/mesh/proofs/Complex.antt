@@ -2,11 +2,9 @@
 use Prim.Native.Nat.{ℕ, _+_, _*_, _-_, _/_, _≤_, _<_}
 use mathlib.Core.Path.{_≡_, refl, sym, ap, ap₂, _∙_, subst}
 use mathlib.Core.Logic.{_⊎_, inl, inr, ⊎-elim}
-use native.Mathlib.Nat.{zero-add}
 use native.Mathlib.Omega.{arith}
 use lib.ListN.{getD, length}
 use Rattle.counting.proofs.Below.{rising-once}
-use Rattle.counting.proofs.Lists.{getD-singles}
 use Rattle.counting.proofs.Pack.{pre-le}
 use Rattle.counting.proofs.Search.{first-ext}
 use Rattle.slots.specs.Slots.{lo, hi, corner, lower, upper, slotEdge, place, firstSlot, secondSlot}
@@ -32,10 +30,8 @@ use Rattle.grid.specs.Grid.{Grid, cellCount, node, SameFace, faceName, joins, i
 use Rattle.grid.specs.Accepted.{Sound}
 use Rattle.grid.proofs.Sound.{edge-numbers}
 use Rattle.grid.proofs.Names.{same-named}
-use Rattle.mesh.specs.Mesh.{values, gridCell}
-
-values-at : (f : ℕ → ℕ) (n k : ℕ) → k < n → getD (values f n) k 0 ≡ f k
-values-at f n k l = getD-singles f 0 n 0 k l ∙ ap f (zero-add k)
+use Rattle.mesh.specs.Mesh.{gridCell}
+use Rattle.mesh.proofs.Values.{values-at}
 
 module _ (G : Grid) where
   -- the number of edge k of cell c, and the edges of the cell

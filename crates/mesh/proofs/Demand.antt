@@ -19,7 +19,7 @@ use Rattle.cell.specs.Loop.{loopSize, normal}
 use Rattle.cell.proofs.Lay.{lay}
 use Rattle.manifold.specs.Triangle as names
 use Rattle.manifold.specs.Triangle.{Corner, Side, noTri, nth, cross, middle, same}
-use Rattle.manifold.specs.Polygon.{shape, shapeBy, fan, triangles}
+use Rattle.manifold.specs.Polygon.{shape, triangles}
 use Rattle.manifold.specs.Complex as complex
 use Rattle.manifold.specs.Complex.{Complex, Shut, Has, loopOf}
 use Rattle.manifold.specs.Ring.{RingIn}
@@ -39,7 +39,7 @@ use Rattle.grid.proofs.Claims.{accepted-is}
 use Rattle.grid.proofs.Sound.{edge-numbers}
 use Rattle.grid.proofs.Accepts.{acceptance-yields}
 use Rattle.mesh.specs.Mesh.{gridCell, meshTriangles}
-use Rattle.mesh.specs.Demand.{none, faceCount, RingPremises, OneRing, Fan, Demand3}
+use Rattle.mesh.specs.Demand.{none, faceCount, RingPremises, OneRing, MeshLaws, Demand3}
 use Rattle.mesh.proofs.Complex.{w, en, gridComplex, count-of, number-of, faced}
 use Rattle.mesh.proofs.Shut.{facesShut, facesLinked}
 
@@ -126,26 +126,16 @@ module _ (G : Grid) where
           },
         )
 
-    fan-shape : (c p : ℕ) → Fan G c p → shape (loopOf K c p) ≡ fan
-    unfolding shape loopSize cell.step
-    fan-shape c p F = go (eqb (loopSize (w G c) p) 3) (eqb (loopSize (w G c) p) 4) (normal (w G c) p) (F .not-three) (F .not-four)
-      where
-        go : (x y z : Bool) → x ≡ false → (y && z) ≡ false → shapeBy x y z ≡ fan
-        go true y z e f = clash refl e
-        go false true true e f = clash refl f
-        go false true false e f = refl
-        go false false z e f = refl
-
-    pub accepted-demand : Demand3 G (crossings (G .counts))
-    unfolding loopSize cell.step
-    accepted-demand = record {
+    pub accepted-laws : MeshLaws G (crossings (G .counts))
+    unfolding loopSize cell.step shape
+    accepted-laws = record {
       no-alternation = λ c s lc ls. faceLaws (faceCount G c s 0) (faceCount G c s 1) (faceCount G c s 2) .no-alternation;
       at-most-two = λ σ. rw (sym (tally-named σ)) (claims .most σ);
       exactly-two = λ H t i lt li. two H t i lt li;
       ring-at-crossing = λ H g l.
           let (c, h) = has H g l in
           ring-of (cross g) (claims .ring (closed H) g c h (faces-linked K (faced G (A .sound)) (facesShut G (A .sound) H) g (facesLinked G (A .sound) H (A .linked) g)));
-      ring-at-middle = λ H c p F. ring-of (middle c (numberOf (gridCell G c) p)) (claims .round (closed H) c p (F .cell-lt) (F .start-lt) (F .some) (fan-shape c p F));
+      ring-at-middle = λ H c p F. ring-of (middle c (numberOf (gridCell G c) p)) (claims .round (closed H) c p (F .cell-lt) (F .start-lt) (F .some) (F .is));
     }
       where
         two : RingPremises G → (t i : ℕ) → t < length (meshTriangles G) → i < 3
@@ -162,8 +152,7 @@ module _ (G : Grid) where
 total-is : (G : Grid) (total : ℕ) → gridAnswer G ≡ result (total ∷ []) → crossings (G .counts) ≡ total
 total-is G total e = let f = accepted-is G (ap isResult e) in cc
 
--- Demand 3: for every three lists that the grid check accepts
-pub demand3 : (G : Grid) (total : ℕ) → gridAnswer G ≡ result (total ∷ []) → Demand3 G total
+pub demand3 : Demand3
 demand3 G total e =
-    subst (Demand3 G) (total-is G total e)
-    (accepted-demand G (acceptance-yields G (total ∷ []) e))
+    subst (MeshLaws G) (total-is G total e)
+    (accepted-laws G (acceptance-yields G (total ∷ []) e))

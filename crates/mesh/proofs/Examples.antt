@@ -1,12 +1,13 @@
 -- The examples, by computation.
 use mathlib.Core.Path.{refl}
-use Rattle.counting.specs.Search.{seek, first, last, some, every, count}
+use Rattle.counting.specs.Search.{seek, first, last, some, every, count, rise}
 use Rattle.counting.specs.Range.{total, over}
 use Rattle.counting.specs.Lists.{tally}
 use Rattle.counting.specs.Pack.{pre, rowFrom, colFrom, row, col}
 use Rattle.counting.specs.Reach.{reach}
 use Rattle.slots.specs.Slots.{lo, hi, corner, lower, upper, edgeOf, slotEdge, place, contains, firstSlot, secondSlot}
 use Rattle.face.specs.Face as face
+use Rattle.face.specs.Tally.{answerOf as faceAnswer, segments, unjoinedCount}
 use Rattle.walk.specs.Iterate.{it, orbit}
 use Rattle.walk.specs.Step as step
 use Rattle.walk.specs.Walk as walk
@@ -22,10 +23,10 @@ use Rattle.mesh.specs.Mesh.{gridCell, meshTriangles, meshWords}
 use Rattle.mesh.specs.Room.{roomAnswer, roomArea}
 use Rattle.mesh.specs.Asked.{askedLoop}
 use Rattle.mesh.specs.Answer.{meshAnswer, meshArea, loopsAnswer}
-use Rattle.mesh.specs.Examples.{faceAnswers, startsOf, gridLoops, loopPoints, gridPoints, sidesOf, different, tallies, computed, listed, each, examples, ExamplesHold}
+use Rattle.mesh.specs.Examples.{faceAnswers, startsOf, gridLoops, loopPoints, gridPoints, sidesOf, different, tallies, computed, examples, ExamplesHold}
 
 pub examples-hold : ExamplesHold
-unfolding seek first last some every count total over tally pre rowFrom colFrom row col reach
+unfolding seek first last some every count rise faceAnswer segments unjoinedCount total over tally pre rowFrom colFrom row col reach
     lo hi corner lower upper edgeOf slotEdge place contains firstSlot secondSlot
     face.other face.opposite face.halfAbove face.corner face.residual face.count face.others face.kth face.cornerAt face.partner face.faceJoin
     it orbit step.face step.land step.step walk.place walk.turn walk.size walk.loopAt
@@ -35,5 +36,5 @@ unfolding seek first last some every count total over tally pre rowFrom colFrom 
     badLength badPairs badCell sameCell repeats third after badEdge unlisted unused linked joined split tooMany rows rows.orRefuse rows.answerOf gridAnswer
     triangle.numberOf triangle.segmentOf triangle.point triangle.segment triangle.triangle triangle.whole triangle.half0 triangle.half1 triangle.spoke triangle.fan triangle.trianglesBy triangle.inTwo triangle.loopTriangles triangle.cellTriangles
     cornerWords words allWords nthAnswer gridCell meshTriangles meshWords roomAnswer roomArea askedLoop meshAnswer meshArea loopsAnswer
-    faceAnswers startsOf gridLoops loopPoints gridPoints sidesOf different tallies computed listed each examples
+    faceAnswers startsOf gridLoops loopPoints gridPoints sidesOf different tallies computed examples
 examples-hold = refl

@@ -1,6 +1,7 @@
 pub mod Joins
 pub mod Progress
 pub mod Askings
+pub mod Values
 pub mod Tables
 pub mod Rooms
 pub mod Calls

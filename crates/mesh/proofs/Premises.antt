@@ -3,17 +3,31 @@ use Prim.Native.Nat.{ℕ, _+_, _%_}
 use mathlib.Core.Path.{_≡_, refl}
 use mathlib.Core.Logic.{⊎-elim}
 use mathlib.Core.Bool.{Bool, true, not, _&&_, _||_}
+use mathlib.Core.List.{List, [], _∷_}
 use lib.Dec.{eqb}
 use lib.ListN.{length}
 use borrow.Author.Tests.{eqb-true, not-true}
 use Rattle.counting.specs.Search.{seek, first, last, some, every, count}
 use Rattle.counting.specs.Range.{total, over}
-use Rattle.counting.specs.Pack.{pre}
+use Rattle.counting.specs.Pack.{pre, rowFrom, colFrom, row, col}
+use Rattle.counting.specs.Reach.{reach}
 use Rattle.counting.proofs.Bools.{clash, and-left, and-right, or-cases}
 use Rattle.counting.proofs.Search.{every-is}
-use Rattle.slots.specs.Slots.{lo, hi, corner, lower, upper, edgeOf, slotEdge, contains}
-use Rattle.grid.specs.Grid.{Grid, gridOf, cellCount, countOf, outer, faceNode, sameFace, hasFace, joins, isEdge, edgeNumber}
+use Rattle.answer.specs.Answer.{result}
+use Rattle.slots.specs.Slots.{lo, hi, corner, lower, upper, edgeOf, slotEdge, place, contains, firstSlot, secondSlot}
+use Rattle.face.specs.Face as face
+use Rattle.walk.specs.Iterate.{it, orbit}
+use Rattle.walk.specs.Step as step
+use Rattle.walk.specs.Walk as walk
+use Rattle.cell.specs.Cell as cell
+use Rattle.cell.specs.Loop as loop
+use Rattle.grid.specs.Grid.{Grid, gridOf, cellCount, countOf, outer, faceNode, sameFace, hasFace, faceName, joins, isEdge, hasEdge, edgeNumber, start}
+use Rattle.grid.specs.Rows.{badLength, badPairs, badCell, sameCell, repeats, third, after, badEdge, unlisted, unused, linked, joined, split, tooMany, rows, gridAnswer}
+use Rattle.answer.specs.Rows.{orRefuse, answerOf}
+use Rattle.triangle.specs.Triangles as triangle
+use Rattle.mesh.specs.Mesh.{gridCell, meshTriangles}
 use Rattle.mesh.specs.Demand.{faceCount, RingPremises}
+use Rattle.mesh.specs.Claims.{RingsHappen}
 use Rattle.mesh.specs.Examples.{threeCells, threeEdges, threeCounts}
 
 module _ (G : Grid) where
@@ -44,5 +58,25 @@ unfolding premiseTest zeroTest evenTest every some count seek first last total o
     outer faceNode sameFace hasFace joins isEdge edgeNumber
 three-pass = refl
 
-pub three-premises : RingPremises (gridOf threeCells threeEdges threeCounts)
-three-premises = tested (gridOf threeCells threeEdges threeCounts) three-pass
+three-accepted : gridAnswer (gridOf threeCells threeEdges threeCounts) ≡ result (2 ∷ [])
+unfolding every some count seek first last total over pre reach lo hi corner lower upper edgeOf slotEdge contains
+    faceNode sameFace hasFace joins isEdge hasEdge edgeNumber start
+    badLength badPairs badCell sameCell repeats third after badEdge unlisted unused linked joined split tooMany rows orRefuse answerOf gridAnswer
+three-accepted = refl
+
+three-triangles : length (meshTriangles (gridOf threeCells threeEdges threeCounts)) ≡ 6
+unfolding every some count seek first last total over pre rowFrom colFrom row col lo hi corner lower upper edgeOf slotEdge place contains firstSlot secondSlot
+    face.other face.opposite face.halfAbove face.corner face.residual face.count face.others face.kth face.cornerAt face.partner face.faceJoin
+    it orbit step.face step.land step.step walk.place walk.turn walk.size walk.loopAt
+    cell.ahead cell.base cell.holds cell.edge cell.index cell.joinAt cell.joinedTo cell.mate cell.slot cell.step loop.loopSize loop.dart loop.loopDarts loop.folded loop.normal
+    faceNode sameFace faceName joins isEdge edgeNumber start
+    triangle.numberOf triangle.segmentOf triangle.point triangle.segment triangle.triangle triangle.whole triangle.half0 triangle.half1 triangle.spoke triangle.fan triangle.trianglesBy triangle.inTwo triangle.loopTriangles triangle.cellTriangles
+    gridCell meshTriangles
+three-triangles = refl
+
+pub ringsHappen : RingsHappen
+ringsHappen = record {
+  accepted = three-accepted;
+  premises = tested (gridOf threeCells threeEdges threeCounts) three-pass;
+  triangles = three-triangles;
+}

@@ -3,13 +3,15 @@ use Prim.Native.Nat.{ℕ, _+_, _*_, _-_, _/_, _%_, _<_}
 use mathlib.Core.Path.{_≡_, refl, sym, ap, ap₂, _∙_, subst}
 use mathlib.Core.Logic.{_⊎_, inl, inr, _≢_, ⊎-elim}
 use mathlib.Core.Bool.{Bool, true, false, not, _&&_}
+use lib.ListN.{length}
 use native.Mathlib.Omega.{arith}
-use native.Mathlib.Decide.{decLt}
 use lib.Dec.{eqb}
 use borrow.Author.Tests.{eqb-true, eqb-false, not-true}
 use Rattle.counting.specs.Search.{some}
 use Rattle.counting.proofs.Bools.{clash, and-true, and-left, and-right, holds-or}
-use Rattle.counting.proofs.Search.{least, some-is, some-found}
+use Rattle.counting.specs.Pack.{row}
+use Rattle.counting.proofs.Pack.{row-pack}
+use Rattle.counting.proofs.Search.{Least, least, some-is, some-found}
 use Rattle.slots.specs.Slots.{slotEdge, place, firstSlot, secondSlot}
 use Rattle.slots.proofs.Slots.{slot-edge}
 use Rattle.face.specs.Face.{unjoined}
@@ -27,7 +29,7 @@ use Rattle.grid.proofs.Sound.{edge-numbers}
 use Rattle.grid.proofs.Packed.{same-true, true-same}
 use Rattle.grid.proofs.Names.{named-same, outer-edge}
 use Rattle.mesh.specs.Demand.{RingPremises, faceCount}
-use Rattle.mesh.proofs.Complex.{w, at, en, gridComplex, count-of, name-of, number-of, start-le}
+use Rattle.mesh.proofs.Complex.{w, at, en, gridComplex, count-of, name-of, number-of}
 
 module _ (G : Grid) where
   module _ (S : Sound G) (H : RingPremises G) where
@@ -39,8 +41,7 @@ module _ (G : Grid) where
         other : ℕ → Bool
         other b = some (λ t. sameFace (G .cells) b t c s) 4 && not (eqb b c)
 
-        go : ((b : ℕ) × (b < cellCount (G .cells)) × (other b ≡ true) × ((k : ℕ) → k < b → other k ≡ false)) ⊎ ((k : ℕ) → k < cellCount (G .cells) → other k ≡ false)
-            → (b : ℕ) × (b < cellCount (G .cells)) × (b ≢ c) × (t : ℕ) × (t < 4) × SameFace (G .cells) c s b t
+        go : Least other (cellCount (G .cells)) → (b : ℕ) × (b < cellCount (G .cells)) × (b ≢ c) × (t : ℕ) × (t < 4) × SameFace (G .cells) c s b t
         go (inl (b, lb, e, f)) =
             let (t, lt, q) = some-is (λ t. sameFace (G .cells) b t c s) 4 (and-left (some (λ t. sameFace (G .cells) b t c s) 4) (not (eqb b c)) e) in
             (b, lb, eqb-false b c (not-true (eqb b c) (and-right (some (λ t. sameFace (G .cells) b t c s) 4) (not (eqb b c)) e)), t, lt, λ i l. sym (same-true (G .cells) b t c s q i l))
@@ -96,15 +97,10 @@ module _ (G : Grid) where
             (b, lb, ne, t, lt, name-of G c s (o .slot .lt) ∙ named-same (G .cells) c s b t h ∙ sym (name-of G b t lt))
 
     -- a crossing number tells its edge
-    edge-of-number : (e f i j : ℕ) → i < countOf (G .counts) e → j < countOf (G .counts) f → start (G .counts) e + i ≡ start (G .counts) f + j → e ≡ f
-    edge-of-number e f i j li lj q =
-        elim (decLt e f) [
-          | yes h ↦ absurd (omega (arith, start-le G e f h))
-          | no h ↦ elim (decLt f e) [
-            | yes k ↦ absurd (omega (arith, start-le G f e k))
-            | no k ↦ omega arith
-          ]
-        ]
+    edge-of-number : (e f i j : ℕ) → e < length (G .counts) → f < length (G .counts) → i < countOf (G .counts) e → j < countOf (G .counts) f → start (G .counts) e + i ≡ start (G .counts) f + j → e ≡ f
+    unfolding start
+    edge-of-number e f i j le lf li lj q =
+        sym (row-pack (countOf (G .counts)) (length (G .counts)) e i le li) ∙ ap (row (countOf (G .counts)) (length (G .counts))) q ∙ row-pack (countOf (G .counts)) (length (G .counts)) f j lf lj
 
     -- the cells at a crossing are linked through faces on which it lies: those that contain its edge
     pub facesLinked : Linked G → (g : ℕ) → FacesLinked (gridComplex G) g
@@ -122,13 +118,13 @@ module _ (G : Grid) where
         let lka = lay va .edge-lt xa la in
         let lkb = lay vb .edge-lt xb lb in
         let i = index va xa in
+        let E = edge-numbers G S in
+        let le = E .listed a ka (ha .lt) lka in
         let li : i < countOf (G .counts) (en G a ka) = subst (λ n. i < n) (count-of G a ka lka) (lay va .index-lt xa la) in
         let lj : index vb xb < countOf (G .counts) (en G b kb) = subst (λ n. index vb xb < n) (count-of G b kb lkb) (lay vb .index-lt xb lb) in
         let na : start (G .counts) (en G a ka) + i ≡ g = sym (number-of G a xa la) ∙ ha .is in
         let nb : start (G .counts) (en G b kb) + index vb xb ≡ g = sym (number-of G b xb lb) ∙ hb .is in
-        let e : en G a ka ≡ en G b kb = edge-of-number (en G a ka) (en G b kb) i (index vb xb) li lj (na ∙ sym nb) in
-        let E = edge-numbers G S in
-        let le = E .listed a ka (ha .lt) lka in
+        let e : en G a ka ≡ en G b kb = edge-of-number (en G a ka) (en G b kb) i (index vb xb) le (E .listed b kb (hb .lt) lkb) li lj (na ∙ sym nb) in
         link (en G a ka) le Q
         (λ a′ b′ r s j la lb lr ls l h is q. pass a′ b′ (step i (en G a ka) li na a′ b′ r s j la lb lr ls l h (E .only a′ (slotEdge r j) (en G a ka) la (slot-edge r j lr l .lt) le is)) q)
         a b ka kb (ha .lt) (hb .lt) lka lkb (E .is a ka (ha .lt) lka) (rw e (E .is b kb (hb .lt) lkb))

@@ -2,25 +2,24 @@
 use Prim.Native.Nat.{ℕ, _+_, _*_, _-_, _/_, _%_, _<_}
 use mathlib.Core.Path.{_≡_, ap, ap₂, _∙_}
 use mathlib.Core.Bool.{true}
-use mathlib.Core.List.{List, [], _∷_}
+use mathlib.Core.List.{List}
 use native.Mathlib.Omega.{arith}
 use lib.ListN.{length, getD}
 use Rattle.counting.specs.Pick.{pick}
 use Rattle.counting.proofs.Range.{over-ext}
 use Rattle.counting.proofs.Pack.{pre-le}
-use Rattle.grid.specs.Grid.{Grid, cellCount, node, faceName, edgeNumber, countOf, start, mostSlots, mostEdges}
+use Rattle.cell.specs.Route.{startLimit}
+use Rattle.grid.specs.Grid.{Grid, mostCells, cellCount, node, faceName, edgeNumber, countOf, start, mostSlots, mostEdges}
 use Rattle.grid.specs.Accepted.{Sound}
 use Rattle.grid.proofs.Sound.{edge-numbers}
 use Rattle.grid.specs.Tables.{filled, accepts, Opened, nameAt, sideAt}
 use Rattle.grid.proofs.Filled.{filled-at}
 use Rattle.triangle.specs.Triangles.{cellTriangles}
 use Rattle.mesh.specs.Mesh.{values, gridCell, meshTriangles}
-use Rattle.mesh.specs.Table.{ofEdges, ofFour, side, tableCell, tableTriangles, tableLoop, Laid}
+use Rattle.mesh.specs.Table.{tableCounts, tableStarts, ofFour, side, tableCell, tableTriangles, tableLoop}
 use Rattle.mesh.specs.Asked.{askedLoop}
+use Rattle.mesh.proofs.Values.{values-ext}
 use Rattle.mesh.proofs.Askings.{asked-ext}
-
-values-ext : (f g : ℕ → ℕ) (n : ℕ) → ((i : ℕ) → i < n → f i ≡ g i) → values f n ≡ values g n
-values-ext f g n h = over-ext (λ i. f i ∷ []) (λ i. g i ∷ []) n 0 (λ i a b. ap (λ x. x ∷ []) (h i (omega arith)))
 
 -- the tables of an accepted grid, in arrays that are long enough
 pub record Tabled (G : Grid) (names sides starts : List ℕ) : Type 0 where
@@ -45,29 +44,31 @@ module _ {G : Grid} {names sides starts : List ℕ} (T : Tabled G names sides st
   side-lt : (c k : ℕ) → c < cellCount (G .cells) → k < 6 → side sides c k < length (G .counts)
   side-lt c k lc lk = rw (side-is c k lc lk) (edge-numbers G (T .sound) .listed c k lc lk)
 
-  start-is : (c k : ℕ) → c < cellCount (G .cells) → k < 6 → getD starts (side sides c k) 0 ≡ start (G .counts) (edgeNumber G c k)
-  start-is c k lc lk = T .first (side sides c k) (side-lt c k lc lk) ∙ ap (start (G .counts)) (side-is c k lc lk)
-
-  start-small : (e : ℕ) → e < length (G .counts) → start (G .counts) e < 65536
+  start-is : (c k : ℕ) → c < cellCount (G .cells) → k < 6 → getD starts (side sides c k) 0 % startLimit ≡ start (G .counts) (edgeNumber G c k)
   unfolding start
-  start-small e l = omega (arith, pre-le (countOf (G .counts)) 0 e (length (G .counts)) l, T .sound .few-crossings)
+  start-is c k lc lk =
+      let e = edgeNumber G c k in
+      let l : e < length (G .counts) = edge-numbers G (T .sound) .listed c k lc lk in
+      let q : getD starts (side sides c k) 0 ≡ start (G .counts) e = T .first (side sides c k) (side-lt c k lc lk) ∙ ap (start (G .counts)) (side-is c k lc lk) in
+      omega (arith, q, pre-le (countOf (G .counts)) 0 e (length (G .counts)) l, T .sound .few-crossings)
 
   pub cell-is : (c : ℕ) → c < cellCount (G .cells) → tableCell (G .cells) (G .counts) names sides starts c ≡ gridCell G c
   unfolding tableCell gridCell
   cell-is c lc =
-      let a : ofEdges (G .counts) sides c ≡ values (λ k. countOf (G .counts) (edgeNumber G c k)) 6 =
+      let m : c % mostCells ≡ c = omega (arith, T .sound .few-cells) in
+      let a : tableCounts (G .counts) sides c ≡ values (λ k. countOf (G .counts) (edgeNumber G c k)) 6 =
       values-ext (λ k. getD (G .counts) (side sides c k) 0) (λ k. countOf (G .counts) (edgeNumber G c k)) 6 (λ k l. ap (countOf (G .counts)) (side-is c k lc l)) in
-      let b : ofEdges starts sides c ≡ values (λ k. start (G .counts) (edgeNumber G c k)) 6 =
-      values-ext (λ k. getD starts (side sides c k) 0) (λ k. start (G .counts) (edgeNumber G c k)) 6 (λ k l. start-is c k lc l) in
+      let b : tableStarts starts sides c ≡ values (λ k. start (G .counts) (edgeNumber G c k)) 6 =
+      values-ext (λ k. getD starts (side sides c k) 0 % startLimit) (λ k. start (G .counts) (edgeNumber G c k)) 6 (λ k l. start-is c k lc l) in
       let d : ofFour names c ≡ values (faceName (G .cells) c) 4 = values-ext (λ s. getD names (4 * c + s) 0) (faceName (G .cells) c) 4 (λ s l. name-is c s lc l) in
-      ap₂ (λ x y. record { counts = x; starts = y; names = ofFour names c; nodes = ofFour (G .cells) c; index = c }) a b
+      rw m (ap₂ (λ x y. record { counts = x; starts = y; names = ofFour names c; nodes = ofFour (G .cells) c; index = c }) a b
       ∙ ap (λ z. record {
         counts = values (λ k. countOf (G .counts) (edgeNumber G c k)) 6;
         starts = values (λ k. start (G .counts) (edgeNumber G c k)) 6;
         names = z;
         nodes = ofFour (G .cells) c;
         index = c;
-      }) d
+      }) d)
 
   pub triangles-are : tableTriangles (G .cells) (G .counts) names sides starts ≡ meshTriangles G
   unfolding tableTriangles meshTriangles
@@ -78,19 +79,6 @@ module _ {G : Grid} {names sides starts : List ℕ} (T : Tabled G names sides st
   pub loop-is : (c k : ℕ) → tableLoop (G .cells) (G .counts) names sides starts c k ≡ askedLoop (gridCell G) (cellCount (G .cells)) c k
   unfolding tableLoop
   loop-is c k = asked-ext (tableCell (G .cells) (G .counts) names sides starts) (gridCell G) (cellCount (G .cells)) c k (cell-is c)
-
-  pub laid : Laid (G .cells) (G .counts) sides starts
-  laid = record {
-    few = T .sound .few-cells;
-    reaches = λ c lc. record {
-      node = omega (arith, T .sound .fours);
-      edged = record { cell = omega (arith, T .sound .few-cells); edge = λ k l. side-lt c k lc l };
-      started = record {
-        edged = record { cell = omega (arith, T .sound .few-cells); edge = λ k l. omega (arith, side-lt c k lc l, edge-numbers G (T .sound) .few, T .sound .few-cells) };
-        start = λ k l. rw (start-is c k lc l) (start-small (edgeNumber G c k) (edge-numbers G (T .sound) .listed c k lc l));
-      };
-    };
-  }
 
 -- what `open` leaves where the grid is accepted
 pub tabled : (G : Grid) (names₀ sides₀ starts₀ names sides starts : List ℕ) → Sound G → accepts G ≡ true

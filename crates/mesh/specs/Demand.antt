@@ -1,15 +1,17 @@
--- Demand 3, for every accepted grid: its statement.
+-- Demand 3: its statement.
 use Prim.Native.Nat.{ℕ, _+_, _%_, _≤_, _<_}
 use mathlib.Core.Path.{_≡_}
-use mathlib.Core.Bool.{true, false, _&&_}
-use lib.Dec.{eqb}
+use mathlib.Core.Bool.{true}
+use mathlib.Core.List.{[], _∷_}
 use lib.ListN.{length, getD}
+use Rattle.answer.specs.Answer.{result}
 use Rattle.counting.specs.Lists.{tally}
 use Rattle.slots.specs.Slots.{slotEdge}
 use Rattle.face.specs.Rim.{Segment, Alternate}
 use Rattle.cell.specs.Loop.{loopSize, normal}
 use Rattle.manifold.specs.Triangle.{Corner, Side, cross, middle}
 use Rattle.manifold.specs.Ring.{RingIn}
+use Rattle.manifold.specs.Shape.{fan, shapeOf}
 use Rattle.triangle.specs.declared.Corner.the-variants.{Middle}
 use Rattle.triangle.specs.declared.Side.the-variants.{Inner}
 use Rattle.triangle.specs.declared.Triangle.{Triangle}
@@ -17,6 +19,7 @@ use Rattle.triangle.specs.Names.{cornerAt, sideAt, hasSide}
 use Rattle.triangle.specs.Triangles as triangle
 use Rattle.triangle.specs.Triangles.{numberOf}
 use Rattle.grid.specs.Grid.{Grid, cellCount, edgeNumber, countOf, outer}
+use Rattle.grid.specs.Rows.{gridAnswer}
 use Rattle.cell.specs.Cell as cell
 use Rattle.mesh.specs.Mesh.{gridCell, meshTriangles}
 
@@ -43,11 +46,10 @@ module _ (G : Grid) where
     pub cell-lt : c < cellCount (G .cells)
     pub start-lt : p < cell.crossings (triangle.edgesOf (gridCell G c))
     pub some : 0 < loopSize (triangle.edgesOf (gridCell G c)) p
-    pub not-three : eqb (loopSize (triangle.edgesOf (gridCell G c)) p) 3 ≡ false
-    pub not-four : (eqb (loopSize (triangle.edgesOf (gridCell G c)) p) 4 && normal (triangle.edgesOf (gridCell G c)) p) ≡ false
+    pub is : shapeOf (loopSize (triangle.edgesOf (gridCell G c)) p) (normal (triangle.edgesOf (gridCell G c)) p) ≡ fan
 
-  -- of an accepted grid, whose number of crossings the grid check answers as `total`
-  pub record Demand3 (total : ℕ) : Type 0 where
+  -- what demand 3 says of a grid with so many crossings
+  pub record MeshLaws (total : ℕ) : Type 0 where
     -- (a) on each face, with its segments as the face call answers them from its three counts, no two segments alternate round the rim
     pub no-alternation : (c s : ℕ) → c < cellCount (G .cells) → s < 4 → (e t e′ t′ u i u′ i′ : ℕ)
         → Segment (faceCount c s 0) (faceCount c s 1) (faceCount c s 2) e t e′ t′
@@ -62,3 +64,7 @@ module _ (G : Grid) where
     pub ring-at-crossing : RingPremises → (g : ℕ) → g < total → OneRing (cross g)
     -- and at the middle of every fan
     pub ring-at-middle : RingPremises → (c p : ℕ) → Fan c p → OneRing (middle c (numberOf (gridCell G c) p))
+
+-- the whole of it: for every three lists that the grid check accepts, answering the number of crossings
+abbrev pub Demand3 : Type 0
+Demand3 = (G : Grid) (total : ℕ) → gridAnswer G ≡ result (total ∷ []) → MeshLaws G total

@@ -1,11 +1,9 @@
 -- What the mesh call promises.
 use Prim.Native.Nat.{ℕ}
 use mathlib.Core.Path.{_≡_}
-use mathlib.Core.List.{List, [], _∷_}
+use mathlib.Core.List.{List}
 use lib.ListN.{length}
-use Rattle.answer.specs.Answer.{result}
 use Rattle.grid.specs.Grid.{Grid}
-use Rattle.grid.specs.Rows.{gridAnswer}
 use Rattle.mesh.specs.Answer.{meshAnswer, meshArea}
 use Rattle.mesh.specs.Demand.{Demand3}
 
@@ -13,5 +11,5 @@ use Rattle.mesh.specs.Demand.{Demand3}
 pub record Done (G : Grid) (before after answer : List ℕ) : Type 0 where
   pub answered : answer ≡ meshAnswer G (length before)
   pub area : after ≡ meshArea G before
-  -- the mesh of an accepted grid is as demand 3 says
-  pub demand : (total : ℕ) → gridAnswer G ≡ result (total ∷ []) → Demand3 G total
+  -- the mesh of every accepted grid, so of this one, is as demand 3 says
+  pub demand : Demand3

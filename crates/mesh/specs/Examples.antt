@@ -3,7 +3,7 @@
 use Prim.Native.Nat.{ℕ, suc, _+_, _/_}
 use mathlib.Core.Path.{_≡_}
 use mathlib.Core.Bool.{Bool, true, false, not}
-use mathlib.Core.List.{List, [], _∷_, _++_}
+use mathlib.Core.List.{List, [], _∷_, map}
 use lib.Dec.{eqb}
 use lib.ListN.{length, getD, replicate}
 use Rattle.answer.specs.Answer.{result, refusal}
@@ -11,6 +11,7 @@ use Rattle.counting.specs.Pick.{pick, one}
 use Rattle.counting.specs.Range.{over}
 use Rattle.counting.specs.Lists.{tally}
 use Rattle.face.specs.Face.{joined, unjoined, noCrossing, count, faceJoin}
+use Rattle.face.specs.Tally.{segments, unjoinedCount}
 use Rattle.cell.specs.Loop.{loopSize, dart, leasts}
 use Rattle.grid.specs.Grid.{Grid, gridOf, cellCount}
 use Rattle.grid.specs.Rows.{gridAnswer}
@@ -25,8 +26,8 @@ use Rattle.mesh.specs.Asked.{cellLoop}
 use Rattle.mesh.specs.Answer.{meshAnswer, meshArea, loopsAnswer}
 
 pub data Example : Type 0 where
-  -- counts; the answers for the crossings of ab, of ac and of bc
-  face : (ab ac bc : ℕ) (answers : List (List ℕ)) → Example
+  -- counts; the answers for the crossings of ab, of ac and of bc; how many segments there are, and how many unjoined crossings
+  face : (ab ac bc : ℕ) (answers : List (List ℕ)) (segments unjoined : ℕ) → Example
   -- the lists; the grid check's answer; cell by cell the answers for loop 0 and on, to the first that is none; the points of each loop; the words
   -- of the mesh; and how many triangles, segments and inner sides these are
   grid : (cells edges counts answer : List ℕ) (loops points : List (List ℕ)) (words tallies : List ℕ) → Example
@@ -83,27 +84,16 @@ unfoldable pub tallies : List Triangle → List ℕ
 unfolding different sidesOf
 tallies l = length l ∷ different (sidesOf isSegment l) ∷ different (sidesOf (λ σ. not (isSegment σ)) l) ∷ []
 
--- what the definitions say of an example, and what stands in the table
-unfoldable pub computed : Example → List (List ℕ)
-computed (face ab ac bc answers) = faceAnswers ab ac bc
+-- the example with what the definitions say in place of what stands in the table
+unfoldable pub computed : Example → Example
+computed (face ab ac bc answers sides free) = face ab ac bc (faceAnswers ab ac bc) (segments ab ac bc) (unjoinedCount ab ac bc)
 computed (grid cells edges counts answer loops points words sizes) =
-    gridAnswer (gridOf cells edges counts) ∷ (gridLoops (gridOf cells edges counts) ++ (gridPoints (gridOf cells edges counts) ++ (meshWords (gridOf cells edges counts) ∷ tallies (meshTriangles (gridOf cells edges counts)) ∷ [])))
-computed (join ab ac bc e t answer) = faceJoin ab ac bc e t ∷ []
-computed (nth cells edges counts c t answer) = nthAnswer (cellTriangles (gridCell (gridOf cells edges counts) c)) t ∷ []
-computed (mesh cells edges counts area answer after) = meshAnswer (gridOf cells edges counts) (length area) ∷ meshArea (gridOf cells edges counts) area ∷ []
-computed (loop cells edges counts c k answer) = loopsAnswer (gridOf cells edges counts) c k ∷ []
-
-unfoldable pub listed : Example → List (List ℕ)
-listed (face ab ac bc answers) = answers
-listed (grid cells edges counts answer loops points words sizes) = answer ∷ (loops ++ (points ++ (words ∷ sizes ∷ [])))
-listed (join ab ac bc e t answer) = answer ∷ []
-listed (nth cells edges counts c t answer) = answer ∷ []
-listed (mesh cells edges counts area answer after) = answer ∷ after ∷ []
-listed (loop cells edges counts c k answer) = answer ∷ []
-
-unfoldable pub each : (Example → List (List ℕ)) → List Example → List (List (List ℕ))
-each f [] = []
-each f (x ∷ l) = f x ∷ each f l
+    grid cells edges counts (gridAnswer (gridOf cells edges counts)) (gridLoops (gridOf cells edges counts)) (gridPoints (gridOf cells edges counts)) (meshWords (gridOf cells edges counts))
+    (tallies (meshTriangles (gridOf cells edges counts)))
+computed (join ab ac bc e t answer) = join ab ac bc e t (faceJoin ab ac bc e t)
+computed (nth cells edges counts c t answer) = nth cells edges counts c t (nthAnswer (cellTriangles (gridCell (gridOf cells edges counts) c)) t)
+computed (mesh cells edges counts area answer after) = mesh cells edges counts area (meshAnswer (gridOf cells edges counts) (length area)) (meshArea (gridOf cells edges counts) area)
+computed (loop cells edges counts c k answer) = loop cells edges counts c k (loopsAnswer (gridOf cells edges counts) c k)
 
 -- one cell 0 1 2 3; no loop
 abbrev cell : List ℕ
@@ -166,10 +156,10 @@ examples =
     0 ∷ 0 ∷ 5 ∷ 7 ∷ noName ∷ 0 ∷ 5 ∷ noName ∷ 6 ∷ noName ∷ 5 ∷
     0 ∷ 0 ∷ 7 ∷ 3 ∷ noName ∷ 1 ∷ 3 ∷ noName ∷ 7 ∷ noName ∷ 6 ∷
     0 ∷ 0 ∷ 3 ∷ 0 ∷ noName ∷ 2 ∷ 0 ∷ noName ∷ 0 ∷ noName ∷ 7 ∷ []) (8 ∷ 8 ∷ 8 ∷ [])
-    -- P: a face 3 3 3: three segments, each index 1 unjoined
-    ∷ face 3 3 3 (joined 1 0 ∷ unjoined ∷ joined 2 0 ∷ joined 0 0 ∷ unjoined ∷ joined 2 2 ∷ joined 0 2 ∷ unjoined ∷ joined 1 2 ∷ [])
+    -- P: a face 3 3 3: three segments, each index 1 unjoined, so that three crossings are
+    ∷ face 3 3 3 (joined 1 0 ∷ unjoined ∷ joined 2 0 ∷ joined 0 0 ∷ unjoined ∷ joined 2 2 ∷ joined 0 2 ∷ unjoined ∷ joined 1 2 ∷ []) 3 3
     -- P: a face 5 1 1: index 1 unjoined, 2 joined to 3
-    ∷ face 5 1 1 (joined 1 0 ∷ unjoined ∷ joined 0 3 ∷ joined 0 2 ∷ joined 2 0 ∷ joined 0 0 ∷ joined 0 4 ∷ [])
+    ∷ face 5 1 1 (joined 1 0 ∷ unjoined ∷ joined 0 3 ∷ joined 0 2 ∷ joined 2 0 ∷ joined 0 0 ∷ joined 0 4 ∷ []) 3 1
     -- P: three cells round an edge with two crossings: a loop of length 2 in each, six triangles, three segments (faces 2, 3, 6), six inner sides
     ∷ grid threeCells threeEdges threeCounts (result (2 ∷ []))
     (result (0 ∷ 2 ∷ 0 ∷ 0 ∷ []) ∷ no ∷ result (0 ∷ 2 ∷ 0 ∷ 0 ∷ []) ∷ no ∷ result (0 ∷ 2 ∷ 0 ∷ 0 ∷ []) ∷ no ∷ [])
@@ -204,10 +194,10 @@ examples =
     1 ∷ 2 ∷ 2 ∷ 3 ∷ 4 ∷ 6 ∷ 2 ∷ 4 ∷ 3 ∷ 5 ∷ 2 ∷ []) (3 ∷ 5 ∷ 2 ∷ [])
     -- faces: rule 3 on the other edges, with an even and an odd number of residuals; three corner counts that differ; a count that is the sum of
     -- the other two
-    ∷ face 1 4 1 (joined 1 0 ∷ joined 0 0 ∷ joined 1 2 ∷ joined 1 1 ∷ joined 2 0 ∷ joined 1 3 ∷ [])
-    ∷ face 0 1 4 (joined 2 3 ∷ unjoined ∷ joined 2 2 ∷ joined 2 1 ∷ joined 1 0 ∷ [])
-    ∷ face 3 4 5 (joined 1 0 ∷ joined 2 1 ∷ joined 2 0 ∷ joined 0 0 ∷ joined 2 2 ∷ joined 2 3 ∷ joined 2 4 ∷ joined 0 2 ∷ joined 0 1 ∷ joined 1 1 ∷ joined 1 2 ∷ joined 1 3 ∷ [])
-    ∷ face 2 1 1 (joined 1 0 ∷ joined 2 0 ∷ joined 0 0 ∷ joined 0 1 ∷ [])
+    ∷ face 1 4 1 (joined 1 0 ∷ joined 0 0 ∷ joined 1 2 ∷ joined 1 1 ∷ joined 2 0 ∷ joined 1 3 ∷ []) 3 0
+    ∷ face 0 1 4 (joined 2 3 ∷ unjoined ∷ joined 2 2 ∷ joined 2 1 ∷ joined 1 0 ∷ []) 2 1
+    ∷ face 3 4 5 (joined 1 0 ∷ joined 2 1 ∷ joined 2 0 ∷ joined 0 0 ∷ joined 2 2 ∷ joined 2 3 ∷ joined 2 4 ∷ joined 0 2 ∷ joined 0 1 ∷ joined 1 1 ∷ joined 1 2 ∷ joined 1 3 ∷ []) 6 0
+    ∷ face 2 1 1 (joined 1 0 ∷ joined 2 0 ∷ joined 0 0 ∷ joined 0 1 ∷ []) 2 0
     -- no such crossing, and the largest counts of a byte
     ∷ join 0 0 0 0 0 noCrossing ∷ join 5 1 1 0 5 noCrossing ∷ join 3 3 3 3 0 noCrossing ∷ join 3 3 3 4294967295 4294967295 noCrossing
     ∷ join 255 255 255 0 126 (joined 1 126) ∷ join 255 255 255 0 127 unjoined ∷ join 255 255 255 0 128 (joined 2 126)
@@ -230,6 +220,6 @@ examples =
     ∷ loop cell [] cornerCounts 1 0 (refusal 2 0)
     ∷ []
 
--- every example is as the definitions say
+-- every example is as the definitions say, part by part
 abbrev pub ExamplesHold : Type 0
-ExamplesHold = each computed examples ≡ each listed examples
+ExamplesHold = map computed examples ≡ examples

@@ -15,7 +15,6 @@ values f n = over (λ i. f i ∷ []) n 0
 module _ (G : Grid) where
   -- cell c with all that belongs to it: the counts and starts of its six edges, the names of its four faces, its nodes
   unfoldable pub gridCell : ℕ → Cell
-  unfolding over edgeNumber start faceName
   gridCell c = record {
     counts = values (λ k. countOf (G .counts) (edgeNumber G c k)) 6;
     starts = values (λ k. start (G .counts) (edgeNumber G c k)) 6;
@@ -26,10 +25,8 @@ module _ (G : Grid) where
 
   -- all triangles, by cell, then loop, then in the order of the loop
   unfoldable pub meshTriangles : List Triangle
-  unfolding gridCell over cellTriangles
   meshTriangles = over (λ c. cellTriangles (gridCell c)) (cellCount (G .cells)) 0
 
   -- the words of all triangles
   unfoldable pub meshWords : List ℕ
-  unfolding meshTriangles allWords
   meshWords = allWords meshTriangles

@@ -1,9 +1,9 @@
 // The mesh call and the loops call.
 ghost use mathlib.Core.Path.{_≡_};
-ghost use lib.ListN.{length};
-ghost use Rattle.grid.specs.Grid.{gridOf};
+ghost use Prim.Native.Nat.{_≤_};
+ghost use Rattle.grid.specs.Grid.{gridOf, mostCells, cellCount};
 ghost use Rattle.mesh.specs.Numbers.{meshNumbers, loopsNumbers};
-ghost use Rattle.mesh.specs.Table.{Laid, tableLoop};
+ghost use Rattle.mesh.specs.Table.{tableLoop};
 ghost use Rattle.mesh.specs.Answer.{loopsAnswer};
 ghost use Rattle.mesh.specs.Drawn.{Drawn};
 ghost use Rattle.mesh.specs.Done.{Done};
@@ -36,7 +36,7 @@ fn draw(
     starts: &[u32; MOST_EDGES],
     area: &mut [u32],
 ) -> Meshed
-    requires { ⌜ Laid (now cells) (now counts) (now sides) (now starts) ⌝ }
+    requires { ⌜ cellCount (now cells) ≤ mostCells ⌝ }
     ensures { λ r. ⌜ Drawn (now (cells .entry)) (now (counts .entry)) (now (names .entry)) (now (sides .entry)) (now (starts .entry)) (now (area .entry)) (now (area .exit)) (meshNumbers r) ⌝ }
 {
     let most = meshing::most_all(cells, counts, names, sides, starts);
@@ -75,7 +75,6 @@ fn loop_of(
     c: usize,
     k: usize,
 ) -> Looped
-    requires { ⌜ Laid (now cells) (now counts) (now sides) (now starts) ⌝ }
     ensures { λ r. ⌜ loopsNumbers r ≡ tableLoop (now (cells .entry)) (now (counts .entry)) (now (names .entry)) (now (sides .entry)) (now (starts .entry)) c k ⌝ }
 {
     if c < cells.len() / 4 {

@@ -4,7 +4,8 @@ ghost use Prim.Native.Nat.{_*_, _≤_};
 ghost use lib.ListN.{length};
 ghost use lib.Seq.{sets};
 ghost use Rattle.triangle.specs.Words.{wordCount, allWords};
-ghost use Rattle.mesh.specs.Table.{mostTriangles, tableTriangles, Laid};
+ghost use Rattle.grid.specs.Grid.{mostCells, cellCount};
+ghost use Rattle.mesh.specs.Table.{mostTriangles, tableTriangles};
 use crate::cells::cell_at;
 
 // How many triangles the cells have. About 11 KB of stack.
@@ -15,7 +16,7 @@ pub(crate) fn count_all(
     sides: &[u16; 12288],
     starts: &[u32; 12288],
 ) -> usize
-    requires { ⌜ Laid (now cells) (now counts) (now sides) (now starts) ⌝ }
+    requires { ⌜ cellCount (now cells) ≤ mostCells ⌝ }
     ensures { λ r. ⌜ (r ≡ length (tableTriangles (now (cells .entry)) (now (counts .entry)) (now (names .entry)) (now (sides .entry)) (now (starts .entry)))) × (r ≤ mostTriangles) ⌝ }
 {
     let mut marks = [0u16; 1530];
@@ -40,7 +41,7 @@ pub(crate) fn most_all(
     sides: &[u16; 12288],
     starts: &[u32; 12288],
 ) -> usize
-    requires { ⌜ Laid (now cells) (now counts) (now sides) (now starts) ⌝ }
+    requires { ⌜ cellCount (now cells) ≤ mostCells ⌝ }
     ensures { λ r. ⌜ (length (tableTriangles (now (cells .entry)) (now (counts .entry)) (now (names .entry)) (now (sides .entry)) (now (starts .entry))) ≤ r) × (r ≤ mostTriangles) ⌝ }
 {
     let n = cells.len() / 4;
@@ -62,7 +63,6 @@ pub(crate) fn write_all(
     starts: &[u32; 12288],
     area: &mut [u32],
 ) -> usize
-    requires { ⌜ Laid (now cells) (now counts) (now sides) (now starts) ⌝ }
     requires { ⌜ wordCount * length (tableTriangles (now cells) (now counts) (now names) (now sides) (now starts)) ≤ length (now area) ⌝ }
     ensures { λ r. ⌜ (r ≡ wordCount * length (tableTriangles (now (cells .entry)) (now (counts .entry)) (now (names .entry)) (now (sides .entry)) (now (starts .entry)))) × (now (area .exit) ≡ sets (now (area .entry)) 0 (allWords (tableTriangles (now (cells .entry)) (now (counts .entry)) (now (names .entry)) (now (sides .entry)) (now (starts .entry))))) ⌝ }
 {

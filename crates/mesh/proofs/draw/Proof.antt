@@ -13,7 +13,7 @@ mul-if1 : tie.Need-mul-if1
 mul-if1 c = search needs
 
 write-all-requires : tie.Need-write-all-requires
-write-all-requires c κs = (c .before .before .before .before .before .before .pre, omega (arith, c .before .before .most-all .ensures .0))
+write-all-requires c κs = omega (arith, c .before .before .most-all .ensures .0)
 
 cast-t16 : tie.Need-cast-t16
 cast-t16 c = omega (arith, c .before .before .write-all .ensures .0, c .before .before .before .before .before .most-all .ensures .0, c .before .before .before .before .before .most-all .ensures .1)
@@ -36,7 +36,7 @@ returns-2 : tie.Need-returns-2
 returns-2 c = drawn-short _ (c .before .count-all .ensures .0) (omega arith)
 
 write-all-requires-2 : tie.Need-write-all-requires-2
-write-all-requires-2 c κs = (c .before .before .before .before .before .before .before .before .pre, omega (arith, c .before .before .count-all .ensures .0))
+write-all-requires-2 c κs = omega (arith, c .before .before .count-all .ensures .0)
 
 cast-t19 : tie.Need-cast-t19
 cast-t19 c = search needs

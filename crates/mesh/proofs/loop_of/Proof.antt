@@ -8,7 +8,7 @@ use Rattle.mesh.proofs.loop_of.Statement.{statement}
 use Rattle.mesh.proofs.loop_of.Tie as tie
 
 cell-at-requires : tie.Need-cell-at-requires
-cell-at-requires c κs = c .before .before .before .pre .reaches _ (omega arith)
+cell-at-requires c κs = tt
 
 loop-at-requires : tie.Need-loop-at-requires
 loop-at-requires c κs = search needs

@@ -1,6 +1,6 @@
 use mathlib.Core.Path.{refl, _∙_}
 use Rattle.grid.specs.Grid.{gridOf}
-use Rattle.mesh.proofs.Calls.{refused-loops, opened-laid, told-loops}
+use Rattle.mesh.proofs.Calls.{refused-loops, told-loops}
 use borrow.Author.Needs.{needs}
 use Rattle.mesh.proofs.loops.Statement.{statement}
 use Rattle.mesh.proofs.loops.Tie as tie
@@ -15,7 +15,7 @@ enum-told : tie.Need-enum-told
 enum-told c = search needs
 
 loop-of-requires : tie.Need-loop-of-requires
-loop-of-requires c κs = opened-laid (gridOf (c .before .before .before .before .before .before .before .before .before .before .before .before .args .cells .now) (c .before .before .before .before .before .before .before .before .before .before .before .before .args .edges .now) (c .before .before .before .before .before .before .before .before .before .before .before .before .args .counts .now)) (c .before .before .before .before .before .«open» .result) _ (c .before .before .before .enum-told .given .1) (c .before .before .before .before .before .«open» .ensures .0) _ _ _ _ _ _ refl refl refl (c .before .before .before .before .before .«open» .ensures .1)
+loop-of-requires c κs = tt
 
 returns : tie.Need-returns
 returns c = refused-loops (gridOf (c .before .before .before .before .before .before .before .before .before .before .args .cells .now) (c .before .before .before .before .before .before .before .before .before .before .args .edges .now) (c .before .before .before .before .before .before .before .before .before .before .args .counts .now)) (c .before .before .before .«open» .result) _ _ (c .before .row .given .1) (c .before .before .before .«open» .ensures .0) _ _

@@ -1,6 +1,6 @@
 use mathlib.Core.Path.{refl}
 use Rattle.grid.specs.Grid.{gridOf}
-use Rattle.mesh.proofs.Calls.{refused-done, opened-laid, drawn-done}
+use Rattle.mesh.proofs.Calls.{refused-done, accepted-few, drawn-done}
 use borrow.Author.Needs.{needs}
 use Rattle.mesh.proofs.mesh.Statement.{statement}
 use Rattle.mesh.proofs.mesh.Tie as tie
@@ -15,7 +15,7 @@ enum-told : tie.Need-enum-told
 enum-told c = search needs
 
 draw-requires : tie.Need-draw-requires
-draw-requires c κs = opened-laid (gridOf (c .before .before .before .before .before .before .before .before .before .before .before .before .before .before .args .cells .now) (c .before .before .before .before .before .before .before .before .before .before .before .before .before .before .args .edges .now) (c .before .before .before .before .before .before .before .before .before .before .before .before .before .before .args .counts .now)) (c .before .before .before .before .before .before .«open» .result) _ (c .before .before .before .before .enum-told .given .1) (c .before .before .before .before .before .before .«open» .ensures .0) _ _ _ _ _ _ refl refl refl (c .before .before .before .before .before .before .«open» .ensures .1)
+draw-requires c κs = accepted-few (gridOf (c .before .before .before .before .before .before .before .before .before .before .before .before .before .before .args .cells .now) (c .before .before .before .before .before .before .before .before .before .before .before .before .before .before .args .edges .now) (c .before .before .before .before .before .before .before .before .before .before .before .before .before .before .args .counts .now)) (c .before .before .before .before .before .before .«open» .result) _ (c .before .before .before .before .enum-told .given .1) (c .before .before .before .before .before .before .«open» .ensures .0)
 
 returns : tie.Need-returns
 returns c = refused-done (gridOf (c .before .before .before .before .before .before .before .before .before .before .before .args .cells .now) (c .before .before .before .before .before .before .before .before .before .before .before .args .edges .now) (c .before .before .before .before .before .before .before .before .before .before .before .args .counts .now)) (c .before .before .before .«open» .result) _ _ (c .before .row .given .1) (c .before .before .before .«open» .ensures .0) (c .before .before .before .before .before .before .before .before .before .before .before .args .area .now)

@@ -15,18 +15,17 @@ four-of-requires c κs = search needs
 four-of-requires-2 : tie.Need-four-of-requires-2
 four-of-requires-2 c κs = search needs
 
-index-of-requires : tie.Need-index-of-requires
-index-of-requires c κs = search needs
+cast-t20 : tie.Need-cast-t20
+cast-t20 c = search needs
 
 returns : tie.Need-returns
 unfolding tableCell
 returns c =
     simp (
-      c .before .before .before .before .before .counts-of .ensures,
-      c .before .before .before .before .starts-of .ensures,
-      c .before .before .four-of .ensures,
-      c .before .four-of2 .ensures,
-      c .index-of .ensures,
+      c .before .before .before .before .before .before .counts-of .ensures,
+      c .before .before .before .starts-of .ensures,
+      c .before .four-of .ensures,
+      c .four-of2 .ensures,
     )
 
 pub cell-at-spec : {M : Type 1} → statement M
@@ -37,5 +36,5 @@ cell-at-spec =
     starts-of-requires
     four-of-requires
     four-of-requires-2
-    index-of-requires
+    cast-t20
     returns)

@@ -1,23 +1,17 @@
+use native.Mathlib.Omega.{arith}
+use Rattle.mesh.proofs.Values.{past-end}
 use borrow.Author.Needs.{needs}
 use Rattle.mesh.proofs.cells.count_at.Statement.{statement}
 use Rattle.mesh.proofs.cells.count_at.Tie as tie
-
-mul-wide : tie.Need-mul-wide
-mul-wide c = search needs
-
-element-copy-out-wide : tie.Need-element-copy-out-wide
-element-copy-out-wide c = search needs
-
-wide-requires : tie.Need-wide-requires
-wide-requires c κs = search needs
 
 shared-slice-read-result : tie.Need-shared-slice-read-result
 shared-slice-read-result c = search needs
 
 returns : tie.Need-returns
-returns c = cc
+returns c = search needs
+
+returns-2 : tie.Need-returns-2
+returns-2 c = past-end (c .before .args .counts .now) (c .before .args .i) (omega arith)
 
 pub count-at-spec : {M : Type 1} → statement M
-count-at-spec =
-    tie.close
-    (tie.spec mul-wide element-copy-out-wide wide-requires shared-slice-read-result returns)
+count-at-spec = tie.close (tie.spec shared-slice-read-result returns returns-2)

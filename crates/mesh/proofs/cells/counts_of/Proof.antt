@@ -1,75 +1,68 @@
-use Prim.Native.Nat.{_+_, _*_}
-use mathlib.Core.Path.{_≡_}
-use native.Mathlib.Nat.{add-zero}
+use Prim.Native.Nat.{_-_}
+use mathlib.Core.Path.{refl, ap, _∙_}
 use native.Mathlib.Omega.{arith}
-use Rattle.counting.specs.Range.{over}
-use borrow.Author.Needs.{needs}
+use lib.ListN.{getD}
+use Rattle.mesh.specs.Table.{side}
+use Rattle.mesh.proofs.Values.{Valued, valued-none, valued-more, valued-all}
 use Rattle.mesh.proofs.cells.counts_of.Statement.{statement}
 use Rattle.mesh.proofs.cells.counts_of.Tie as tie
 
-mul-i : tie.Need-mul-i
-mul-i c = search needs
+abbrev Inv-loop : tie.InvT-loop
+Inv-loop counts sides c six₀ k₀ six k =
+    Valued (λ j. getD counts (side sides c j) 0) 6 six₀ k six
 
-count-at-requires : tie.Need-count-at-requires
-count-at-requires c κs = let e : 6 * c .before .args .c + 0 ≡ 6 * c .before .args .c = omega arith in (omega (arith, c .before .pre .cell), rw e at (c .before .pre .edge 0 (omega arith)))
+abbrev μ-loop : tie.MeasureT-loop
+μ-loop counts sides c six₀ k₀ six k = 6 - k
 
-add-count-at : tie.Need-add-count-at
-add-count-at c = search needs
+loop-holds : tie.Need-loop-holds Inv-loop μ-loop
+loop-holds c = valued-none _ _ refl
 
-count-at-requires-2 : tie.Need-count-at-requires-2
-count-at-requires-2 c κs = (omega (arith, c .before .before .pre .cell), c .before .before .pre .edge 1 (omega arith))
+mul-entry : tie.Need-mul-entry Inv-loop μ-loop
+mul-entry c = omega arith
 
-add-count-at-2 : tie.Need-add-count-at-2
-add-count-at-2 c = search needs
+add-entry : tie.Need-add-entry Inv-loop μ-loop
+add-entry c = omega arith
 
-count-at-requires-3 : tie.Need-count-at-requires-3
-count-at-requires-3 c κs = (omega (arith, c .before .before .before .pre .cell), c .before .before .before .pre .edge 2 (omega arith))
+entry-requires : tie.Need-entry-requires Inv-loop μ-loop
+entry-requires c κs = tt
 
-add-count-at-3 : tie.Need-add-count-at-3
-add-count-at-3 c = search needs
+wide-requires : tie.Need-wide-requires Inv-loop μ-loop
+wide-requires c κs = tt
 
-count-at-requires-4 : tie.Need-count-at-requires-4
-count-at-requires-4 c κs = (omega (arith, c .before .before .before .before .pre .cell), c .before .before .before .before .pre .edge 3 (omega arith))
+count-at-requires : tie.Need-count-at-requires Inv-loop μ-loop
+count-at-requires c κs = tt
 
-add-count-at-4 : tie.Need-add-count-at-4
-add-count-at-4 c = search needs
+array-write-six : tie.Need-array-write-six Inv-loop μ-loop
+array-write-six c = omega arith
 
-count-at-requires-5 : tie.Need-count-at-requires-5
-count-at-requires-5 c κs = (omega (arith, c .before .before .before .before .before .pre .cell), c .before .before .before .before .before .pre .edge 4 (omega arith))
+add-k : tie.Need-add-k Inv-loop μ-loop
+add-k c = omega arith
 
-add-count-at-5 : tie.Need-add-count-at-5
-add-count-at-5 c = search needs
+loop-less : tie.Need-loop-less Inv-loop μ-loop
+loop-less c = omega arith
 
-count-at-requires-6 : tie.Need-count-at-requires-6
-count-at-requires-6 c κs = (omega (arith, c .before .before .before .before .before .before .pre .cell), c .before .before .before .before .before .before .pre .edge 5 (omega arith))
+loop-again : tie.Need-loop-again Inv-loop μ-loop
+loop-again c =
+    valued-more _ _ (c .before .before .before .before .loop .inv) (omega arith) _
+    (c .count-at .ensures ∙ ap (λ e. getD (c .before .before .before .before .before .before .before .args .counts .now) e 0) (c .before .wide .ensures ∙ c .before .before .entry .ensures))
 
-returns : tie.Need-returns
-unfolding over
-returns c =
-    simp (
-      add-zero,
-      c .before .before .before .before .before .count-at .ensures,
-      c .before .before .before .before .count-at2 .ensures,
-      c .before .before .before .count-at3 .ensures,
-      c .before .before .count-at4 .ensures,
-      c .before .count-at5 .ensures,
-      c .count-at6 .ensures,
-    )
+returns : tie.Need-returns Inv-loop μ-loop
+returns c = valued-all _ _ (c .before .loop .inv) (omega arith)
 
 pub counts-of-spec : {M : Type 1} → statement M
 counts-of-spec =
     tie.close
     (tie.spec
-    mul-i
+    Inv-loop
+    μ-loop
+    loop-holds
+    mul-entry
+    add-entry
+    entry-requires
+    wide-requires
     count-at-requires
-    add-count-at
-    count-at-requires-2
-    add-count-at-2
-    count-at-requires-3
-    add-count-at-3
-    count-at-requires-4
-    add-count-at-4
-    count-at-requires-5
-    add-count-at-5
-    count-at-requires-6
+    array-write-six
+    add-k
+    loop-less
+    loop-again
     returns)

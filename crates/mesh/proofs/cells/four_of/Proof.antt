@@ -1,63 +1,61 @@
-use native.Mathlib.Nat.{add-zero}
-use Rattle.counting.specs.Range.{over}
-use borrow.Author.Needs.{needs}
+use Prim.Native.Nat.{_+_, _*_, _-_}
+use mathlib.Core.Path.{refl}
+use native.Mathlib.Omega.{arith}
+use lib.ListN.{getD}
+use Rattle.mesh.proofs.Values.{Valued, valued-none, valued-more, valued-all}
 use Rattle.mesh.proofs.cells.four_of.Statement.{statement}
 use Rattle.mesh.proofs.cells.four_of.Tie as tie
 
-mul-i : tie.Need-mul-i
-mul-i c = search needs
+abbrev Inv-loop : tie.InvT-loop
+Inv-loop list c four₀ i₀ four i =
+    Valued (λ j. getD list (4 * c + j) 0) 4 four₀ i four
 
-mul-t4 : tie.Need-mul-t4
-mul-t4 c = search needs
+abbrev μ-loop : tie.MeasureT-loop
+μ-loop list c four₀ i₀ four i = 4 - i
 
-shared-slice-read-t6 : tie.Need-shared-slice-read-t6
-shared-slice-read-t6 c = search needs
+loop-holds : tie.Need-loop-holds Inv-loop μ-loop
+loop-holds c = valued-none _ _ refl
 
-add-t7 : tie.Need-add-t7
-add-t7 c = search needs
+mul-entry : tie.Need-mul-entry Inv-loop μ-loop
+mul-entry c = omega arith
 
-mul-t8 : tie.Need-mul-t8
-mul-t8 c = search needs
+add-entry : tie.Need-add-entry Inv-loop μ-loop
+add-entry c = omega arith
 
-shared-slice-read-t10 : tie.Need-shared-slice-read-t10
-shared-slice-read-t10 c = search needs
+entry-requires : tie.Need-entry-requires Inv-loop μ-loop
+entry-requires c κs = tt
 
-add-t11 : tie.Need-add-t11
-add-t11 c = search needs
+mul-four : tie.Need-mul-four Inv-loop μ-loop
+mul-four c = omega arith
 
-mul-t12 : tie.Need-mul-t12
-mul-t12 c = search needs
+array-write-four : tie.Need-array-write-four Inv-loop μ-loop
+array-write-four c = omega arith
 
-shared-slice-read-t14 : tie.Need-shared-slice-read-t14
-shared-slice-read-t14 c = search needs
+add-i : tie.Need-add-i Inv-loop μ-loop
+add-i c = omega arith
 
-add-t15 : tie.Need-add-t15
-add-t15 c = search needs
+loop-less : tie.Need-loop-less Inv-loop μ-loop
+loop-less c = omega arith
 
-mul-t16 : tie.Need-mul-t16
-mul-t16 c = search needs
+loop-again : tie.Need-loop-again Inv-loop μ-loop
+loop-again c = valued-more _ _ (c .before .before .loop .inv) (omega arith) _ (c .entry .ensures)
 
-shared-slice-read-t18 : tie.Need-shared-slice-read-t18
-shared-slice-read-t18 c = search needs
-
-returns : tie.Need-returns
-unfolding over
-returns c = simp add-zero
+returns : tie.Need-returns Inv-loop μ-loop
+returns c = valued-all _ _ (c .before .loop .inv) (omega arith)
 
 pub four-of-spec : {M : Type 1} → statement M
 four-of-spec =
     tie.close
     (tie.spec
-    mul-i
-    mul-t4
-    shared-slice-read-t6
-    add-t7
-    mul-t8
-    shared-slice-read-t10
-    add-t11
-    mul-t12
-    shared-slice-read-t14
-    add-t15
-    mul-t16
-    shared-slice-read-t18
+    Inv-loop
+    μ-loop
+    loop-holds
+    mul-entry
+    add-entry
+    entry-requires
+    mul-four
+    array-write-four
+    add-i
+    loop-less
+    loop-again
     returns)

@@ -1,36 +1,26 @@
+use Prim.Native.Nat.{_%_}
+use mathlib.Core.Path.{ap}
+use native.Mathlib.Omega.{arith}
+use Rattle.mesh.proofs.Values.{past-end}
 use borrow.Author.Needs.{needs}
 use Rattle.mesh.proofs.cells.start_at.Statement.{statement}
 use Rattle.mesh.proofs.cells.start_at.Tie as tie
 
-mul-wide : tie.Need-mul-wide
-mul-wide c = search needs
+mul-result : tie.Need-mul-result
+mul-result c = search needs
 
-element-copy-out-wide : tie.Need-element-copy-out-wide
-element-copy-out-wide c = search needs
+shared-slice-read-result : tie.Need-shared-slice-read-result
+shared-slice-read-result c = search needs
 
-wide-requires : tie.Need-wide-requires
-wide-requires c κs = search needs
-
-mul-low : tie.Need-mul-low
-mul-low c = search needs
-
-element-copy-out-low : tie.Need-element-copy-out-low
-element-copy-out-low c = search needs
-
-low-requires : tie.Need-low-requires
-low-requires c κs = rw (c .before .wide .ensures) (c .before .before .before .pre .2)
+cast-result : tie.Need-cast-result
+cast-result c = search needs
 
 returns : tie.Need-returns
-returns c = cc
+returns c = search needs
+
+returns-2 : tie.Need-returns-2
+returns-2 c = ap (λ x. x % 65536) (past-end (c .before .args .starts .now) (c .before .args .i) (omega arith))
 
 pub start-at-spec : {M : Type 1} → statement M
 start-at-spec =
-    tie.close
-    (tie.spec
-    mul-wide
-    element-copy-out-wide
-    wide-requires
-    mul-low
-    element-copy-out-low
-    low-requires
-    returns)
+    tie.close (tie.spec mul-result shared-slice-read-result cast-result returns returns-2)

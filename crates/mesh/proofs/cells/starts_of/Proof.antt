@@ -1,75 +1,73 @@
-use Prim.Native.Nat.{_+_, _*_}
-use mathlib.Core.Path.{_≡_}
-use native.Mathlib.Nat.{add-zero}
+use Prim.Native.Nat.{_-_, _%_}
+use mathlib.Core.Path.{refl, ap, _∙_}
 use native.Mathlib.Omega.{arith}
-use Rattle.counting.specs.Range.{over}
-use borrow.Author.Needs.{needs}
+use lib.ListN.{getD}
+use Rattle.cell.specs.Route.{startLimit}
+use Rattle.mesh.specs.Table.{side}
+use Rattle.mesh.proofs.Values.{Valued, valued-none, valued-more, valued-all}
 use Rattle.mesh.proofs.cells.starts_of.Statement.{statement}
 use Rattle.mesh.proofs.cells.starts_of.Tie as tie
 
-mul-i : tie.Need-mul-i
-mul-i c = search needs
+abbrev Inv-loop : tie.InvT-loop
+Inv-loop starts sides c six₀ k₀ six k =
+    Valued (λ j. getD starts (side sides c j) 0 % startLimit) 6 six₀ k six
 
-start-at-requires : tie.Need-start-at-requires
-start-at-requires c κs = let e : 6 * c .args .c + 0 ≡ 6 * c .args .c = omega arith in (omega (arith, c .pre .edged .cell), rw e at (c .pre .edged .edge 0 (omega arith)), rw e at (c .pre .start 0 (omega arith)))
+abbrev μ-loop : tie.MeasureT-loop
+μ-loop starts sides c six₀ k₀ six k = 6 - k
 
-add-start-at : tie.Need-add-start-at
-add-start-at c = search needs
+loop-holds : tie.Need-loop-holds Inv-loop μ-loop
+loop-holds c = valued-none _ _ refl
 
-start-at-requires-2 : tie.Need-start-at-requires-2
-start-at-requires-2 c κs = (omega (arith, c .before .pre .edged .cell), c .before .pre .edged .edge 1 (omega arith), c .before .pre .start 1 (omega arith))
+mul-entry : tie.Need-mul-entry Inv-loop μ-loop
+mul-entry c = omega arith
 
-add-start-at-2 : tie.Need-add-start-at-2
-add-start-at-2 c = search needs
+add-entry : tie.Need-add-entry Inv-loop μ-loop
+add-entry c = omega arith
 
-start-at-requires-3 : tie.Need-start-at-requires-3
-start-at-requires-3 c κs = (omega (arith, c .before .before .pre .edged .cell), c .before .before .pre .edged .edge 2 (omega arith), c .before .before .pre .start 2 (omega arith))
+entry-requires : tie.Need-entry-requires Inv-loop μ-loop
+entry-requires c κs = tt
 
-add-start-at-3 : tie.Need-add-start-at-3
-add-start-at-3 c = search needs
+wide-requires : tie.Need-wide-requires Inv-loop μ-loop
+wide-requires c κs = tt
 
-start-at-requires-4 : tie.Need-start-at-requires-4
-start-at-requires-4 c κs = (omega (arith, c .before .before .before .pre .edged .cell), c .before .before .before .pre .edged .edge 3 (omega arith), c .before .before .before .pre .start 3 (omega arith))
+start-at-requires : tie.Need-start-at-requires Inv-loop μ-loop
+start-at-requires c κs = tt
 
-add-start-at-4 : tie.Need-add-start-at-4
-add-start-at-4 c = search needs
+mul-six : tie.Need-mul-six Inv-loop μ-loop
+mul-six c = omega arith
 
-start-at-requires-5 : tie.Need-start-at-requires-5
-start-at-requires-5 c κs = (omega (arith, c .before .before .before .before .pre .edged .cell), c .before .before .before .before .pre .edged .edge 4 (omega arith), c .before .before .before .before .pre .start 4 (omega arith))
+array-write-six : tie.Need-array-write-six Inv-loop μ-loop
+array-write-six c = omega arith
 
-add-start-at-5 : tie.Need-add-start-at-5
-add-start-at-5 c = search needs
+add-k : tie.Need-add-k Inv-loop μ-loop
+add-k c = omega arith
 
-start-at-requires-6 : tie.Need-start-at-requires-6
-start-at-requires-6 c κs = (omega (arith, c .before .before .before .before .before .pre .edged .cell), c .before .before .before .before .before .pre .edged .edge 5 (omega arith), c .before .before .before .before .before .pre .start 5 (omega arith))
+loop-less : tie.Need-loop-less Inv-loop μ-loop
+loop-less c = omega arith
 
-returns : tie.Need-returns
-unfolding over
-returns c =
-    simp (
-      add-zero,
-      c .before .before .before .before .before .start-at .ensures,
-      c .before .before .before .before .start-at2 .ensures,
-      c .before .before .before .start-at3 .ensures,
-      c .before .before .start-at4 .ensures,
-      c .before .start-at5 .ensures,
-      c .start-at6 .ensures,
-    )
+loop-again : tie.Need-loop-again Inv-loop μ-loop
+loop-again c =
+    valued-more _ _ (c .before .before .before .before .loop .inv) (omega arith) _
+    (c .start-at .ensures ∙ ap (λ e. getD (c .before .before .before .before .before .before .before .args .starts .now) e 0 % startLimit) (c .before .wide .ensures ∙ c .before .before .entry .ensures))
+
+returns : tie.Need-returns Inv-loop μ-loop
+returns c = valued-all _ _ (c .before .loop .inv) (omega arith)
 
 pub starts-of-spec : {M : Type 1} → statement M
 starts-of-spec =
     tie.close
     (tie.spec
-    mul-i
+    Inv-loop
+    μ-loop
+    loop-holds
+    mul-entry
+    add-entry
+    entry-requires
+    wide-requires
     start-at-requires
-    add-start-at
-    start-at-requires-2
-    add-start-at-2
-    start-at-requires-3
-    add-start-at-3
-    start-at-requires-4
-    add-start-at-4
-    start-at-requires-5
-    add-start-at-5
-    start-at-requires-6
+    mul-six
+    array-write-six
+    add-k
+    loop-less
+    loop-again
     returns)

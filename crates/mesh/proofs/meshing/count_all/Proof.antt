@@ -19,13 +19,13 @@ loop-holds : tie.Need-loop-holds Inv-loop μ-loop
 loop-holds c = (counting-none _ _ (record { marks-long = refl; halves-long = refl; points-long = refl }), refl)
 
 cell-at-requires : tie.Need-cell-at-requires Inv-loop μ-loop
-cell-at-requires c κs = c .before .before .before .before .pre .reaches (c .before .loop .c) (omega (arith, c .before .loop .inv .1))
+cell-at-requires c κs = tt
 
 count-in-requires : tie.Need-count-in-requires Inv-loop μ-loop
 count-in-requires c κs = c .before .before .before .before .before .loop .inv .0 .scratch
 
 add-t : tie.Need-add-t Inv-loop μ-loop
-add-t c = omega (arith, c .count-in .ensures .few, c .before .before .before .before .before .before .loop .inv .0 .few, c .before .before .before .before .before .before .loop .inv .0 .up, c .before .before .before .before .before .before .before .before .before .pre .few)
+add-t c = omega (arith, c .count-in .ensures .few, c .before .before .before .before .before .before .loop .inv .0 .few, c .before .before .before .before .before .before .loop .inv .0 .up, c .before .before .before .before .before .before .before .before .before .pre)
 
 add-c : tie.Need-add-c Inv-loop μ-loop
 add-c c = omega (arith, c .before .before .before .before .before .before .loop .inv .0 .up)
@@ -44,7 +44,7 @@ returns : tie.Need-returns Inv-loop μ-loop
 unfolding tableTriangles
 returns c =
     let e = counting-all (c .before .loop .inv .0) (omega (arith, c .before .loop .inv .1)) in
-    (e, omega (arith, c .before .loop .inv .0 .few, c .before .loop .inv .0 .up, c .before .before .before .before .pre .few))
+    (e, omega (arith, c .before .loop .inv .0 .few, c .before .loop .inv .0 .up, c .before .before .before .before .pre))
 
 pub count-all-spec : {M : Type 1} → statement M
 count-all-spec =

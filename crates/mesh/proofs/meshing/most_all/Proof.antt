@@ -21,13 +21,13 @@ loop-holds : tie.Need-loop-holds Inv-loop μ-loop
 loop-holds c = (bounding-none _ _, refl)
 
 cell-at-requires : tie.Need-cell-at-requires Inv-loop μ-loop
-cell-at-requires c κs = c .before .before .before .before .pre .reaches (c .before .loop .c) (omega (arith, c .before .loop .inv .1))
+cell-at-requires c κs = tt
 
 crossings-of-requires : tie.Need-crossings-of-requires Inv-loop μ-loop
 crossings-of-requires c κs = tt
 
 add-t : tie.Need-add-t Inv-loop μ-loop
-add-t c = omega (arith, c .crossings-of .ensures .1, c .before .before .before .loop .inv .0 .few, c .before .before .before .loop .inv .0 .up, c .before .before .before .before .before .before .pre .few)
+add-t c = omega (arith, c .crossings-of .ensures .1, c .before .before .before .loop .inv .0 .few, c .before .before .before .loop .inv .0 .up, c .before .before .before .before .before .before .pre)
 
 add-c : tie.Need-add-c Inv-loop μ-loop
 add-c c = omega (arith, c .before .before .before .loop .inv .0 .up)
@@ -45,7 +45,7 @@ returns : tie.Need-returns Inv-loop μ-loop
 unfolding tableTriangles
 returns c =
     let w = c .before .loop .inv in
-    (bounding-all (w .0) (omega (arith, w .1)), omega (arith, w .0 .few, w .0 .up, c .before .before .before .before .pre .few))
+    (bounding-all (w .0) (omega (arith, w .1)), omega (arith, w .0 .few, w .0 .up, c .before .before .before .before .pre))
 
 pub most-all-spec : {M : Type 1} → statement M
 most-all-spec =

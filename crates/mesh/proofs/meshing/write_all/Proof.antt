@@ -22,13 +22,13 @@ loop-holds : tie.Need-loop-holds Inv-loop μ-loop
 loop-holds c = (writing-none _ _ _ (record { marks-long = refl; halves-long = refl; points-long = refl }), refl)
 
 cell-at-requires : tie.Need-cell-at-requires Inv-loop μ-loop
-cell-at-requires c κs = c .before .before .before .before .before .pre .0 .reaches (c .before .loop .c) (omega (arith, c .before .loop .inv .1))
+cell-at-requires c κs = tt
 
 write-in-requires : tie.Need-write-in-requires Inv-loop μ-loop
 unfolding tableTriangles
 write-in-requires c κs = (
   c .before .before .before .before .before .before .loop .inv .0 .scratch,
-  rw (c .before .before .before .before .cell-at .ensures) (writing-room (c .before .before .before .before .before .before .loop .inv .0) (omega (arith, c .before .before .before .before .before .before .loop .inv .1)) (c .before .before .before .before .before .before .before .before .before .before .pre .1)),
+  rw (c .before .before .before .before .cell-at .ensures) (writing-room (c .before .before .before .before .before .before .loop .inv .0) (omega (arith, c .before .before .before .before .before .before .loop .inv .1)) (c .before .before .before .before .before .before .before .before .before .before .pre)),
 )
 
 add-c : tie.Need-add-c Inv-loop μ-loop
