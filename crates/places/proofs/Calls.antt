@@ -26,7 +26,7 @@ use Rattle.grid.proofs.Claims.{accepted-is}
 use Rattle.grid.proofs.Filled.{refused-keeps, crossings-accept}
 use Rattle.mesh.specs.Mesh.{gridCell}
 use Rattle.mesh.specs.Table.{tableCell}
-use Rattle.mesh.proofs.Tables.{Tabled, tabled, laid, cell-is}
+use Rattle.mesh.proofs.Tables.{Tabled, tabled, cell-is}
 use Rattle.places.specs.declared.Place.{Place}
 use Rattle.places.specs.Place.{allNumbers}
 use Rattle.places.specs.Points.{crossingPlace, cellMiddles, middles, points}
@@ -54,7 +54,7 @@ module _ {G : Grid} {names sides starts : List ℕ} (T : Tabled G names sides st
   ready n e = record {
     judged = record { fours = T .sound .fours; some = T .sound .some-cell; nodes = numbers-small G (T .sound); all = e };
     few = omega (arith, e, T .sound .few-crossings);
-    laid = laid T;
+    few-cells = T .sound .few-cells;
     pairs = T .sound .pairs;
     lows = λ x l. low-end G (T .sound) x l .below;
     highs = λ x l. high-end G (T .sound) x l .below;

@@ -16,8 +16,8 @@ use Rattle.cell.specs.Route as route
 use Rattle.cell.specs.Walked.{Scratch}
 use Rattle.cell.specs.Round.{foldsIn}
 use Rattle.triangle.specs.Traced.{Traced}
-use Rattle.mesh.specs.Table.{tableCell, Laid}
-use Rattle.grid.specs.Grid.{highestNode, mostCrossings, cellCount, low, high, crossings}
+use Rattle.mesh.specs.Table.{tableCell}
+use Rattle.grid.specs.Grid.{highestNode, mostCells, mostCrossings, cellCount, low, high, crossings}
 use Rattle.places.specs.declared.Place.{Place}
 use Rattle.places.specs.Place.{between, middle, coordinates, placeAt, allNumbers, within}
 use Rattle.places.specs.Points.{fanBy, fanCount, cellMiddles, crossingPlace}
@@ -137,7 +137,7 @@ module _ (cells counts names sides starts : List ℕ) where
   pub record Ready (edges : List ℕ) (n : ℕ) : Type 0 where
     pub judged : Judgeable cells counts n
     pub few : n ≤ mostCrossings
-    pub laid : Laid cells counts sides starts
+    pub few-cells : cellCount cells ≤ mostCells
     pub pairs : length edges ≡ 2 * length counts
     pub lows : (e : ℕ) → e < length counts → low edges e < nodeEnd cells
     pub highs : (e : ℕ) → e < length counts → high edges e < nodeEnd cells

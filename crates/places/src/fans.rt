@@ -5,7 +5,8 @@ ghost use lib.Seq.{sets};
 ghost use Rattle.counting.specs.Pick.{one};
 ghost use Rattle.cell.specs.Walked.{Scratch};
 ghost use Rattle.triangle.specs.Traced.{Traced};
-ghost use Rattle.mesh.specs.Table.{Laid, mostTriangles};
+ghost use Rattle.grid.specs.Grid.{mostCells, cellCount};
+ghost use Rattle.mesh.specs.Table.{mostTriangles};
 ghost use Rattle.places.specs.Place.{coordinates, placeAt, allNumbers};
 ghost use Rattle.places.specs.Work.{tracedFan, tracedMiddle, Room, FansIn, CellRoom, MiddlesIn, tableFans, tableMiddles, TableRoom};
 use super::points::middle_of;
@@ -107,7 +108,7 @@ pub(crate) fn count_fans(
     sides: &[u16; 12288],
     starts: &[u32; 12288],
 ) -> usize
-    requires { ⌜ Laid (now cells) (now counts) (now sides) (now starts) ⌝ }
+    requires { ⌜ cellCount (now cells) ≤ mostCells ⌝ }
     ensures { λ r. ⌜ (r ≡ tableFans (now (cells .entry)) (now (counts .entry)) (now (names .entry)) (now (sides .entry)) (now (starts .entry))) × (r ≤ mostTriangles) ⌝ }
 {
     let mut marks = [0u16; 1530];
@@ -134,7 +135,6 @@ pub(crate) fn write_middles(
     area: &mut [f64],
     base: usize,
 )
-    requires { ⌜ Laid (now cells) (now counts) (now sides) (now starts) ⌝ }
     requires { ⌜ TableRoom (now cells) (now counts) (now names) (now sides) (now starts) (now area) base ⌝ }
     ensures { λ _. ⌜ now (area .exit) ≡ sets (now (area .entry)) (coordinates * base) (allNumbers (tableMiddles (now (cells .entry)) (now (counts .entry)) (now (names .entry)) (now (sides .entry)) (now (starts .entry)) (placeAt (now (area .entry))))) ⌝ }
 {

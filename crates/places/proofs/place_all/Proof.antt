@@ -8,7 +8,7 @@ use Rattle.places.proofs.place_all.Statement.{statement}
 use Rattle.places.proofs.place_all.Tie as tie
 
 count-fans-requires : tie.Need-count-fans-requires
-count-fans-requires c κs = c .before .before .before .before .before .before .pre .laid
+count-fans-requires c κs = c .before .before .before .before .before .before .pre .few-cells
 
 add-all : tie.Need-add-all
 add-all c = omega (arith, c .before .before .before .before .before .before .before .pre .few, c .count-fans .ensures .1)
@@ -44,7 +44,7 @@ write-middles-requires c κs =
     let R = c .before .before .before .before .before .before .before .before .before .before .before .before .before .before .before .pre in
     let j = c .before .before .before .before .before .before .before .judge in
     let t = c .before .before .before .before .before .before .before .before .count-fans in
-    (R .laid, table-room (now (a .cells)) (now (a .edges)) (now (a .counts)) (now (a .names)) (now (a .sides)) (now (a .starts)) (now (a .nodes)) (now (a .fractions)) (a .n) R (now (a .area)) (j .result) (a .n + t .result) (ap (λ k. a .n + k) (t .ensures .0)) (j .ensures) _ (c .before .before .before .before .before .enum-told2 .given .1) _ (c .before .before .before .place-crossings .ensures))
+    (table-room (now (a .cells)) (now (a .edges)) (now (a .counts)) (now (a .names)) (now (a .sides)) (now (a .starts)) (now (a .nodes)) (now (a .fractions)) (a .n) R (now (a .area)) (j .result) (a .n + t .result) (ap (λ k. a .n + k) (t .ensures .0)) (j .ensures) _ (c .before .before .before .before .before .enum-told2 .given .1) _ (c .before .before .before .place-crossings .ensures))
 
 same-length : tie.Need-same-length
 same-length c = search needs

@@ -19,13 +19,13 @@ loop-holds : tie.Need-loop-holds Inv-loop μ-loop
 loop-holds c = (adding-none _ _ (record { marks-long = refl; halves-long = refl; points-long = refl }), refl)
 
 cell-at-requires : tie.Need-cell-at-requires Inv-loop μ-loop
-cell-at-requires c κs = c .before .before .before .before .pre .reaches (c .before .loop .c) (omega (arith, c .before .loop .inv .1))
+cell-at-requires c κs = tt
 
 fans-in-requires : tie.Need-fans-in-requires Inv-loop μ-loop
 fans-in-requires c κs = c .before .before .before .before .before .loop .inv .0 .scratch
 
 add-t : tie.Need-add-t Inv-loop μ-loop
-add-t c = let l = c .before .before .before .before .before .before .loop in omega (arith, c .fans-in .ensures .few, l .inv .0 .few, l .inv .0 .up, c .before .before .before .before .before .before .before .before .before .pre .few)
+add-t c = let l = c .before .before .before .before .before .before .loop in omega (arith, c .fans-in .ensures .few, l .inv .0 .few, l .inv .0 .up, c .before .before .before .before .before .before .before .before .before .pre)
 
 add-c : tie.Need-add-c Inv-loop μ-loop
 add-c c = omega (arith, c .before .before .before .before .before .before .loop .inv .0 .up)
@@ -38,7 +38,7 @@ loop-again c = let l = c .before .before .before .before .before .before .loop i
 
 returns : tie.Need-returns Inv-loop μ-loop
 unfolding tableFans
-returns c = let l = c .before .loop in (adding-all (l .inv .0) (omega (arith, l .inv .1)), omega (arith, l .inv .0 .few, l .inv .0 .up, c .before .before .before .before .pre .few))
+returns c = let l = c .before .loop in (adding-all (l .inv .0) (omega (arith, l .inv .1)), omega (arith, l .inv .0 .few, l .inv .0 .up, c .before .before .before .before .pre))
 
 pub count-fans-spec : {M : Type 1} → statement M
 count-fans-spec =

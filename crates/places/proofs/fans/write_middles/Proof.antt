@@ -25,10 +25,10 @@ loop-holds : tie.Need-loop-holds Inv-loop μ-loop
 loop-holds c = (writing-none _ _ _ _, refl, record { marks-long = refl; halves-long = refl; points-long = refl })
 
 cell-at-requires : tie.Need-cell-at-requires Inv-loop μ-loop
-cell-at-requires c κs = c .before .before .before .before .before .pre .0 .reaches (c .before .loop .c) (omega (arith, c .before .loop .inv .1))
+cell-at-requires c κs = tt
 
 middles-in-requires : tie.Need-middles-in-requires Inv-loop μ-loop
-middles-in-requires c κs = let l = c .before .before .before .before .before .before .loop in let a = c .before .before .before .before .before .before .before .before .before .before .args in (l .inv .2, cell-room (now (a .cells)) (now (a .counts)) (now (a .names)) (now (a .sides)) (now (a .starts)) (now (a .area)) (a .base) (c .before .before .before .before .before .before .before .before .before .before .pre .1) (l .inv .0) (omega (arith, l .inv .1)) (c .before .before .before .before .cell-at .result) (c .before .before .before .before .cell-at .ensures))
+middles-in-requires c κs = let l = c .before .before .before .before .before .before .loop in let a = c .before .before .before .before .before .before .before .before .before .before .args in (l .inv .2, cell-room (now (a .cells)) (now (a .counts)) (now (a .names)) (now (a .sides)) (now (a .starts)) (now (a .area)) (a .base) (c .before .before .before .before .before .before .before .before .before .before .pre) (l .inv .0) (omega (arith, l .inv .1)) (c .before .before .before .before .cell-at .result) (c .before .before .before .before .cell-at .ensures))
 
 add-c : tie.Need-add-c Inv-loop μ-loop
 add-c c = omega (arith, c .before .before .before .before .before .before .before .before .before .loop .inv .0 .up)
@@ -37,13 +37,13 @@ loop-less : tie.Need-loop-less Inv-loop μ-loop
 loop-less c = omega arith
 
 loop-again : tie.Need-loop-again Inv-loop μ-loop
-loop-again c = let l = c .before .before .before .before .before .before .before .before .before .loop in let a = c .before .before .before .before .before .before .before .before .before .before .before .before .before .args in (cell-next (now (a .cells)) (now (a .counts)) (now (a .names)) (now (a .sides)) (now (a .starts)) (now (a .area)) (a .base) (c .before .before .before .before .before .before .before .before .before .before .before .before .before .pre .1) (l .inv .0) (omega (arith, l .inv .1)) (c .before .before .before .before .before .before .before .cell-at .result) (c .before .before .before .before .before .before .before .cell-at .ensures) _ _ (c .before .before .middles-in .ensures), l .inv .1, c .before .before .middles-in .ensures .scratch)
+loop-again c = let l = c .before .before .before .before .before .before .before .before .before .loop in let a = c .before .before .before .before .before .before .before .before .before .before .before .before .before .args in (cell-next (now (a .cells)) (now (a .counts)) (now (a .names)) (now (a .sides)) (now (a .starts)) (now (a .area)) (a .base) (c .before .before .before .before .before .before .before .before .before .before .before .before .before .pre) (l .inv .0) (omega (arith, l .inv .1)) (c .before .before .before .before .before .before .before .cell-at .result) (c .before .before .before .before .before .before .before .cell-at .ensures) _ _ (c .before .before .middles-in .ensures), l .inv .1, c .before .before .middles-in .ensures .scratch)
 
 same-length : tie.Need-same-length Inv-loop μ-loop
 same-length c = c .before .loop .inv .0 .same
 
 returns : tie.Need-returns Inv-loop μ-loop
-returns c = let l = c .before .loop in let a = c .before .before .before .before .before .args in cells-done (now (a .cells)) (now (a .counts)) (now (a .names)) (now (a .sides)) (now (a .starts)) (now (a .area)) (a .base) (c .before .before .before .before .before .pre .1) (l .inv .0) (omega (arith, l .inv .1))
+returns c = let l = c .before .loop in let a = c .before .before .before .before .before .args in cells-done (now (a .cells)) (now (a .counts)) (now (a .names)) (now (a .sides)) (now (a .starts)) (now (a .area)) (a .base) (c .before .before .before .before .before .pre) (l .inv .0) (omega (arith, l .inv .1))
 
 pub write-middles-spec : {M : Type 1} → statement M
 write-middles-spec =
