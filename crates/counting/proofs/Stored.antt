@@ -87,9 +87,9 @@ module _ {A : Type 0} where
         ∙ getD-sets-in (values f n) l 0 i d (omega arith) (omega arith) ∙ values-at f n i d h
 
     -- the whole of a list
-    pub filled-all : (n : ℕ) (l : List A) → length l ≡ n → filled f n l ≡ values f n
+    pub filled-whole : (n : ℕ) (l : List A) → length l ≡ n → filled f n l ≡ values f n
     unfolding filled
-    filled-all n l e =
+    filled-whole n l e =
         let s = length-singles f n 0 in
         sets-front (values f n) l (omega arith)
         ∙ ap (λ (r : List A). values f n ++ r) (ap (λ i. drop i l) (s ∙ sym e) ∙ drop-length l)
