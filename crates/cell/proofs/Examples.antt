@@ -11,17 +11,17 @@ use Rattle.walk.specs.Step as steps
 use Rattle.walk.specs.Walk as walk
 use Rattle.cell.specs.Cell.{ahead, base, holds, edge, index, joinAt, joinedTo, mate, slot, step}
 use Rattle.cell.specs.Loop.{loopSize, dart, loopDarts, folded, normal, parity, nodeWith, typeBy, typeOf, inGrid, leasts, answerOf, loopAnswer}
-use Rattle.cell.specs.Half.{edgeOf, halfOf, otherSlot, twin, around}
+use Rattle.cell.specs.Half.{edgeOf, halfOf, twin, around}
 use Rattle.cell.specs.Route.{cornerOf, front, links}
 use Rattle.cell.specs.Round.{foldsIn, crossesIn}
 use Rattle.cell.specs.Examples.{ExamplesHold, alone, among, examples, loopsOf, pointsOf, allPoints, computed, listed, parts, partsListed}
 
 pub examples-hold : ExamplesHold
 unfolding total over seek first last tally pre
-    slots.lo slots.hi slots.corner slots.from slots.to slots.edgeOf slots.slotEdge slots.place slots.contains slots.firstSlot slots.secondSlot
-    face.lower face.upper face.other face.opposite face.half face.corner face.residual face.count face.others face.kth face.cornerAt face.partner face.faceJoin
+    slots.lo slots.hi slots.corner slots.lower slots.upper slots.edgeOf slots.slotEdge slots.place slots.contains slots.firstSlot slots.secondSlot
+    face.other face.opposite face.halfAbove face.corner face.residual face.count face.others face.kth face.cornerAt face.partner face.faceJoin
     it orbit steps.face steps.land steps.step walk.place walk.turn walk.size walk.loopAt
     ahead base holds edge index joinAt joinedTo mate slot step loopSize dart loopDarts folded normal parity nodeWith typeBy typeOf inGrid leasts answerOf loopAnswer
-    edgeOf halfOf otherSlot twin around cornerOf front links foldsIn crossesIn
+    edgeOf halfOf twin around cornerOf front links foldsIn crossesIn
     alone among examples loopsOf pointsOf allPoints computed listed parts partsListed
 examples-hold = refl

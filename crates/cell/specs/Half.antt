@@ -1,8 +1,6 @@
 -- Only contracts of parts cite this file. The half-edges of a cell: edge j, ab ac bc, of slot s is half-edge 3 * s + j. An edge has two, one in each of its slots.
 use Prim.Native.Nat.{ℕ, _+_, _*_, _/_, _%_}
-use lib.Dec.{eqb}
-use Rattle.counting.specs.Pick.{pick}
-use Rattle.slots.specs.Slots.{slotEdge, place, firstSlot, secondSlot}
+use Rattle.slots.specs.Slots.{slotEdge, place, otherSlot}
 use Rattle.face.specs.Face.{other}
 use Rattle.cell.specs.Cell.{Edges, edge, slot}
 
@@ -25,14 +23,9 @@ unfoldable pub halfOf : ℕ → ℕ → ℕ
 unfolding place
 halfOf s k = 3 * s + place s k
 
--- the slot of edge k other than s
-unfoldable pub otherSlot : ℕ → ℕ → ℕ
-unfolding firstSlot secondSlot
-otherSlot k s = pick (eqb (firstSlot k) s) (secondSlot k) (firstSlot k)
-
 -- the half-edge of the same edge in its other slot
 unfoldable pub twin : ℕ → ℕ
-unfolding edgeOf halfOf otherSlot
+unfolding edgeOf halfOf
 twin h = halfOf (otherSlot (edgeOf h) (slotOf h)) (edgeOf h)
 
 -- where a curve goes on that leaves half-edge h round the node v of its slot: over to the other edge there, and on by its other slot

@@ -1,3 +1,4 @@
+pub mod Below
 pub mod Bools
 pub mod Range
 pub mod Search

@@ -9,7 +9,7 @@ use native.Mathlib.Decide.{decLt}
 use lib.Dec.{eqb}
 use borrow.Author.Tests.{lt-ltb, le-ltb, eqb-false}
 use Rattle.counting.specs.Pick.{pick}
-use Rattle.face.specs.Face.{half, corner, corners}
+use Rattle.face.specs.Face.{halfAbove, corner, corners}
 
 module _ (p q o : ℕ) where
   pub corner-first : q + o < p → corner p q o ≡ q
@@ -25,8 +25,8 @@ module _ (p q o : ℕ) where
   corner-none h = simp (le-ltb (q + o) p (omega arith), le-ltb (p + o) q (omega arith), lt-ltb (p + q) o h)
 
   halves : (b : Bool) → eqb ((p + q + o) % 2) 0 ≡ b → p ≤ q + o → q ≤ p + o → o ≤ p + q →
-      pick b (half p q o) (half (p - 1) (q - 1) (o - 1)) ≡ (p + q - o) / 2
-  unfolding half
+      pick b (halfAbove p q o) (halfAbove (p - 1) (q - 1) (o - 1)) ≡ (p + q - o) / 2
+  unfolding halfAbove
   halves true e h k l = refl
   halves false e h k l = let odd = eqb-false ((p + q + o) % 2) 0 e in omega arith
 

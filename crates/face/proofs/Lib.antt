@@ -8,4 +8,6 @@ pub mod Links
 pub mod Laws
 pub mod Rim
 pub mod Tally
+pub mod Level
+pub mod Shift
 pub mod Claims

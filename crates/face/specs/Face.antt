@@ -4,6 +4,7 @@ use Prim.Native.Nat.{ℕ, _+_, _-_, _/_, _%_}
 use mathlib.Core.List.{List, [], _∷_}
 use lib.Dec.{eqb, ltb, leb}
 use Rattle.counting.specs.Pick.{pick}
+unfoldable pub use Rattle.slots.specs.Slots.{lower, upper}
 
 -- the answer of the face call in numbers, its cases in 01's order: joined, with the partner's edge and index; unjoined; no such crossing
 abbrev pub joined : ℕ → ℕ → List ℕ
@@ -15,13 +16,6 @@ unjoined = 1 ∷ []
 abbrev pub noCrossing : List ℕ
 noCrossing = 2 ∷ []
 
--- the ends of an edge
-unfoldable pub lower : ℕ → ℕ
-lower e = pick (eqb e 2) 1 0
-
-unfoldable pub upper : ℕ → ℕ
-upper e = pick (eqb e 0) 1 2
-
 -- the other edge at the end w of the edge e: the numbers of the two edges at w add up to w + 1
 unfoldable pub other : ℕ → ℕ → ℕ
 other w e = w + 1 - e
@@ -30,9 +24,9 @@ other w e = w + 1 - e
 unfoldable pub opposite : ℕ → ℕ
 opposite w = 2 - w
 
--- half of what two counts have above a third: the corner count where no count is above the other two
-unfoldable pub half : ℕ → ℕ → ℕ → ℕ
-half p q o = (p + q - o) / 2
+-- half of what two counts have above a third: the corner count of rule 1
+unfoldable pub halfAbove : ℕ → ℕ → ℕ → ℕ
+halfAbove p q o = (p + q - o) / 2
 
 -- the corner count (01) of a corner whose edges have p and q crossings, and whose opposite edge has o.
 -- Rule 3 with the one edge, the other, or the opposite one above the other two; rule 1; rule 2 with all counts less 1
@@ -41,8 +35,8 @@ corner p q o =
     pick (ltb (q + o) p) q
     (pick (ltb (p + o) q) p
     (pick (ltb (p + q) o) 0
-    (pick (eqb ((p + q + o) % 2) 0) (half p q o)
-    (half (p - 1) (q - 1) (o - 1)))))
+    (pick (eqb ((p + q + o) % 2) 0) (halfAbove p q o)
+    (halfAbove (p - 1) (q - 1) (o - 1)))))
 
 -- the corner counts at the nodes a, b, c of a face
 abbrev pub corners : ℕ → ℕ → ℕ → List ℕ

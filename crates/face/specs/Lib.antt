@@ -4,4 +4,5 @@ pub mod Corners
 pub mod Ends
 pub mod Rim
 pub mod Tally
+pub mod Level
 pub mod Claims

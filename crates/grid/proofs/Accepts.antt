@@ -16,7 +16,7 @@ use Rattle.counting.proofs.Bools.{and-left, and-right, clash, or-none}
 use Rattle.counting.proofs.Pigeon.{pigeonhole}
 use Rattle.counting.proofs.Reach.{reach-holds}
 use Rattle.counting.proofs.Search.{below-or, count-two-of, first-is, is-every, some-first, some-found, some-is, some-none}
-use Rattle.slots.specs.Slots.{contains, from, hi, lo, place, slotEdge, to}
+use Rattle.slots.specs.Slots.{contains, hi, lo, lower, place, slotEdge, upper}
 use Rattle.slots.proofs.Slots.{edge-order, edge-slot, face-ends, slot-edge, two-slots}
 use Rattle.grid.specs.Accepted.{Accepted, Before}
 use Rattle.grid.specs.Claims.{AcceptanceYields, Clear}
@@ -322,9 +322,9 @@ module _ (cells edges counts : List ℕ) (clear : (n : ℕ) → 1 ≤ n → n �
         let face = same-true cells c t d s same in
         let (a, b) = ends-of d k e is in
         let p : low edges e ≡ node cells c (lo (slotEdge t j)) =
-        a ∙ ap (node cells d) (sym (ap lo (g .edge-is)) ∙ u .lo-is) ∙ sym (face (from j) (omega arith)) ∙ ap (node cells c) (sym (v .lo-is)) in
+        a ∙ ap (node cells d) (sym (ap lo (g .edge-is)) ∙ u .lo-is) ∙ sym (face (lower j) (omega arith)) ∙ ap (node cells c) (sym (v .lo-is)) in
         let q : high edges e ≡ node cells c (hi (slotEdge t j)) =
-        b ∙ ap (node cells d) (sym (ap hi (g .edge-is)) ∙ u .hi-is) ∙ sym (face (to j) y) ∙ ap (node cells c) (sym (v .hi-is)) in (
+        b ∙ ap (node cells d) (sym (ap hi (g .edge-is)) ∙ u .hi-is) ∙ sym (face (upper j) y) ∙ ap (node cells c) (sym (v .hi-is)) in (
           over d c s t j hd hc ls lt (g .place-lt) (flip cells c t d s face) (ap (number d) (g .edge-is) ∙ number-is d k e hd lk le is),
           over c d t s j hc hd lt ls (g .place-lt) face (number-of c (slotEdge t j) e hc (v .lt) le p q),
         )

@@ -12,7 +12,7 @@ use Rattle.counting.specs.Search.{count, first, some}
 use Rattle.counting.proofs.Search.{AtMostOne, count-blocks, count-ext, count-none, count-plus, first-blocks, first-ext, first-le, some-ext}
 use Rattle.grid.specs.Grid.{cellCount, hasFace, sameFace}
 use Rattle.grid.specs.Rows.{third}
-use Rattle.grid.specs.Work.{Across, Mates, Near, Ordered, Pairing, Table, faceKey, other, sameKey, thirdAt}
+use Rattle.grid.specs.Work.{Across, Mates, Near, Ordered, Pairing, Table, faceKey, sameKey, thirdAt}
 use Rattle.grid.proofs.Packed.{face-eqb, one-slot}
 
 module _ (cells : List ℕ) (good : Ordered cells) (keys : List ℕ) (w : Table (faceKey cells) (4 * cellCount cells) keys) where

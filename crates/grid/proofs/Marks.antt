@@ -2,130 +2,37 @@
 use Prim.Native.Nat.{ℕ, zero-le, _%_, _*_, _+_, _-_, _/_, _<_, _≤_}
 use mathlib.Core.Path.{_∙_, _≡_, ap, refl, sym}
 use mathlib.Core.Logic.{_≢_, _⊎_, inl, inr, ⊎-elim}
-use mathlib.Core.Bool.{Bool, _&&_, _||_, false, not, true}
+use mathlib.Core.Bool.{Bool, _&&_, false, not, true}
 use mathlib.Core.List.{List, [], _∷_}
 use native.Mathlib.Nat.{eq-or-lt-of-le, le-refl}
+use native.Mathlib.Decide.{decLt}
 use native.Mathlib.Omega.{arith}
-use lib.Dec.{eqb, leb, ltb}
+use lib.Dec.{eqb, ltb}
 use lib.ListN.{getD, length, length-set, set}
 use lib.Seq.{getD-set-other, getD-set-same}
-use borrow.Author.Tests.{eq-eqb, eqb-false, eqb-true, le-ltb, leb-true, lt-ltb, ltb-true, ne-eqb, not-true}
+use borrow.Author.Tests.{eq-eqb, eqb-false, eqb-true, le-ltb, lt-ltb, ltb-true, ne-eqb}
 use Rattle.counting.specs.Pick.{pick}
 use Rattle.counting.specs.Search.{count, every, last, some}
-use Rattle.counting.proofs.Bools.{and-false-left, and-left, and-right, imply}
+use Rattle.counting.proofs.Bools.{and-false-left, and-left, and-right}
 use Rattle.counting.proofs.Involution.{count-less, less}
 use Rattle.counting.proofs.Search.{count-ext, down-hit, down-miss, every-is, last-is, last-le, some-through, some-zero}
-use Rattle.slots.specs.Slots.{contains, corner, hi, lo, slotEdge}
-use Rattle.slots.proofs.Slots.{each}
-use Rattle.grid.specs.Work.{Closed, Filled, Grown, Open, Paired, Side, Splitting, Spread, Spreadable, Spreading, Spreads, missing, other, rank, sameKey, under}
+use Rattle.slots.specs.Slots.{contains, corner, hi, lo, otherSlot, rankIn}
+use Rattle.slots.proofs.Slots.{ends-sum, rank-of, third-of}
+use Rattle.grid.specs.Work.{Closed, Filled, Grown, Open, Paired, Side, Splitting, Spread, Spreadable, Spreading, Spreads, missing, rank, sameKey}
 
--- it does, it is another, and there is no third: a test of all
-abbrev right : ℕ → ℕ → Bool
-right k s = not (contains k s) || ((ltb (other k s) 4 && contains k (other k s)) && every (λ u. not (contains k u) || (eqb u s || eqb u (other k s))) 4)
-
-all-right : every (λ k. every (right k) 4) 6 ≡ true
-unfolding every contains lo hi
-all-right = refl
-
-module _ (k s : ℕ) (hk : k < 6) (hs : s < 4) (h : contains k s ≡ true) where
-  rest : ((ltb (other k s) 4 && contains k (other k s)) && every (λ u. not (contains k u) || (eqb u s || eqb u (other k s))) 4) ≡ true
-  rest = imply (contains k s) _ h (every-is (right k) 4 (every-is (λ k. every (right k) 4) 6 all-right k hk) s hs)
-
-  pub other-lt : other k s < 4
-  other-lt = ltb-true (other k s) 4 (and-left _ (contains k (other k s)) (and-left _ (every (λ u. not (contains k u) || (eqb u s || eqb u (other k s))) 4) rest))
-
-  pub other-holds : contains k (other k s) ≡ true
-  other-holds = and-right (ltb (other k s) 4) _ (and-left _ (every (λ u. not (contains k u) || (eqb u s || eqb u (other k s))) 4) rest)
-
-  pub no-third : (u : ℕ) → u < 4 → contains k u ≡ true → (u ≡ s) ⊎ (u ≡ other k s)
-  no-third u hu e =
-      go (eqb u s) refl (imply (contains k u) _ e (every-is (λ u. not (contains k u) || (eqb u s || eqb u (other k s))) 4 (and-right (ltb (other k s) 4 && contains k (other k s)) _ rest) u hu))
-    where
-      go : (x : Bool) → eqb u s ≡ x → (x || eqb u (other k s)) ≡ true → (u ≡ s) ⊎ (u ≡ other k s)
-      go true q f = inl (eqb-true u s q)
-      go false q f = inr (eqb-true u (other k s) f)
-
--- the other of the other is the first; positions and ranks tell each other: a test of all
-abbrev turned : ℕ → ℕ → Bool
-turned k s = not (contains k s) || ((eqb (other k (other k s)) s && eqb (corner s (rank k s)) (other k s)) && (ltb (rank k s) 3 && not (eqb (other k s) s)))
-
-all-turned : every (λ k. every (turned k) 4) 6 ≡ true
-unfolding every contains lo hi corner
-all-turned = refl
-
-module _ (k s : ℕ) (hk : k < 6) (hs : s < 4) (h : contains k s ≡ true) where
-  turn : ((eqb (other k (other k s)) s && eqb (corner s (rank k s)) (other k s)) && (ltb (rank k s) 3 && not (eqb (other k s) s))) ≡ true
-  turn = imply (contains k s) _ h (each 6 4 turned all-turned k s hk hs)
-
-  pub other-twice : other k (other k s) ≡ s
-  other-twice = eqb-true _ _ (and-left _ (eqb (corner s (rank k s)) (other k s)) (and-left _ (ltb (rank k s) 3 && not (eqb (other k s) s)) turn))
-
-  pub corner-rank : corner s (rank k s) ≡ other k s
-  corner-rank = eqb-true _ _ (and-right (eqb (other k (other k s)) s) _ (and-left _ (ltb (rank k s) 3 && not (eqb (other k s) s)) turn))
-
-  pub rank-lt : rank k s < 3
-  rank-lt = ltb-true _ _ (and-left _ (not (eqb (other k s) s)) (and-right (eqb (other k (other k s)) s && eqb (corner s (rank k s)) (other k s)) _ turn))
-
-  pub other-ne : other k s ≢ s
-  other-ne = eqb-false _ _ (not-true _ (and-right (ltb (rank k s) 3) _ (and-right (eqb (other k (other k s)) s && eqb (corner s (rank k s)) (other k s)) _ turn)))
-
--- an edge of a face has the same rank in each slot that is the face
-ranked : ℕ → ℕ → Bool
-ranked s j = eqb (rank (slotEdge s j) s) (2 - j)
-
-all-ranked : every (λ s. every (ranked s) 3) 4 ≡ true
-unfolding every ranked slotEdge lo hi
-all-ranked = refl
-
-pub slot-rank : (s j : ℕ) → s < 4 → j < 3 → rank (slotEdge s j) s ≡ 2 - j
-unfolding ranked
-slot-rank s j hs hj = eqb-true _ _ (each 4 3 ranked all-ranked s j hs hj)
-
--- positions and ranks, case by case
-pub corner-low : (s i : ℕ) → i < s → i ≡ corner s i
-unfolding corner
-corner-low s i h = rw (lt-ltb i s h)
-
-pub corner-high : (s i : ℕ) → s ≤ i → i + 1 ≡ corner s i
-unfolding corner
-corner-high s i h = rw (le-ltb i s h) (omega arith)
-
-pub under-low : (s i : ℕ) → i < s → i ≡ under s i
-under-low s i h = rw (lt-ltb i s h)
-
-pub under-high : (s i : ℕ) → s ≤ i → i - 1 ≡ under s i
-under-high s i h = rw (le-ltb i s h)
-
--- how the other slot is found: the sum of an edge's ends
-summed : ℕ → Bool
-summed k = eqb (lo k + hi k) (pick (ltb k 3) (k + 1) k)
-
-all-summed : every summed 6 ≡ true
-unfolding every summed lo hi
-all-summed = refl
-
-pub ends-sum : (k : ℕ) → k < 6 → lo k + hi k ≡ pick (ltb k 3) (k + 1) k
-unfolding summed
-ends-sum k h = eqb-true _ _ (every-is summed 6 all-summed k h)
-
-pub other-low : (k s : ℕ) → k < 3 → 5 - k - s ≡ other k s
+-- how the other slot is found, from the sum of an edge's ends
+pub other-low : (k s : ℕ) → k < 3 → 5 - k - s ≡ otherSlot k s
 other-low k s h = let e : lo k + hi k ≡ k + 1 = rw (lt-ltb k 3 h) at (ends-sum k (omega arith)) in omega arith
 
-pub other-high : (k s : ℕ) → 3 ≤ k → k < 6 → 6 - k - s ≡ other k s
+pub other-high : (k s : ℕ) → 3 ≤ k → k < 6 → 6 - k - s ≡ otherSlot k s
 other-high k s h l = let e : lo k + hi k ≡ k = rw (le-ltb k 3 h) at (ends-sum k l) in omega arith
-
-all-fit : every (λ k. every (λ s. not (contains k s) || leb (lo k + hi k + s) 6) 4) 6 ≡ true
-unfolding every contains lo hi
-all-fit = refl
 
 pub other-fits : (k s : ℕ) → k < 6 → s < 4 → contains k s ≡ true → k + s ≤ 6
 other-fits k s hk hs h =
-    let f = leb-true (lo k + hi k + s) 6 (imply (contains k s) _ h (each 6 4 (λ k s. not (contains k s) || leb (lo k + hi k + s) 6) all-fit k s hk hs)) in
-    go f (ltb k 3) refl
-  where
-    go : lo k + hi k + s ≤ 6 → (x : Bool) → ltb k 3 ≡ x → k + s ≤ 6
-    go f true q = omega (arith, ltb-true k 3 q, hs)
-    go f false q = let e : lo k + hi k ≡ k = rw q at (ends-sum k hk) in omega arith
+    elim (decLt k 3) [
+      | yes l ↦ omega arith
+      | no l ↦ omega (arith, other-high k (otherSlot k s) (omega arith) hk, third-of k s hk hs h .back, third-of k s hk hs h .lt)
+    ]
 
 pub grown-none : (keys near : List ℕ) (n key mark : ℕ) (marks : List ℕ) → Grown keys near n key mark marks marks
 grown-none keys near n key mark marks = record { same = refl; keep = λ c e. e; only = λ c. inl refl; within = λ P cl h c e. h c e }
@@ -192,15 +99,15 @@ module _ {keys near : List ℕ} {n key mark b : ℕ} {marks₀ marks : List ℕ}
         h₁ = across .0 .holds
 
         o : ℕ
-        o = other k ((p - 1) % 4)
+        o = otherSlot k ((p - 1) % 4)
 
         o-lt : o < 4
         unfolding o
-        o-lt = other-lt k ((p - 1) % 4) hk (omega arith) h₁
+        o-lt = third-of k ((p - 1) % 4) hk (omega arith) h₁ .lt
 
         o-is : corner ((p - 1) % 4) r ≡ o
         unfolding o k
-        o-is = ap (corner ((p - 1) % 4)) (across .1) ∙ corner-rank k ((p - 1) % 4) hk (omega arith) h₁
+        o-is = ap (corner ((p - 1) % 4)) (across .1) ∙ (let T = third-of k ((p - 1) % 4) hk (omega arith) h₁ in rank-of ((p - 1) % 4) o (omega arith) (T .lt) (T .not-omitted) .1)
 
         next-div : (4 * ((p - 1) / 4) + o) / 4 ≡ (p - 1) / 4
         next-div = omega (arith, o-lt)
@@ -223,14 +130,14 @@ module _ {keys near : List ℕ} {n key mark b : ℕ} {marks₀ marks : List ℕ}
         unfolding o
         opened i l s m q r true y ex ey =
             let d : i / 4 ≡ (p - 1) / 4 = eqb-true _ _ ex in
-            let third = no-third k ((p - 1) % 4) hk (omega arith) h₁ (i % 4) (omega arith) (holds i d s) in
+            let third = third-of k ((p - 1) % 4) hk (omega arith) h₁ .only (i % 4) (omega arith) (holds i d s) in
             ⊎-elim
             (λ (f : i % 4 ≡ (p - 1) % 4).
             let same : i ≡ p - 1 = omega arith in
             let bk : getD near i 0 ≡ j + 1 = rw (same, e) (J .back j (g .slot) there .1) in
             let z : (j + 1 - 1) ≡ j = omega arith in
             inr (rw (bk, z) (kept (j / 4) (g .here))))
-            (λ (f : i % 4 ≡ other k ((p - 1) % 4)). absurd (q (omega arith)))
+            (λ (f : i % 4 ≡ otherSlot k ((p - 1) % 4)). absurd (q (omega arith)))
             third
         opened i l s m q r false true ex ey = let f : i ≡ j = eqb-true i j ey in inr (rw (f, ← e) now)
         opened i l s m q r false false ex ey =
@@ -246,13 +153,13 @@ module _ {keys near : List ℕ} {n key mark b : ℕ} {marks₀ marks : List ℕ}
             rw (f, e) (cl j (g .slot) (g .side) there (g .grown .within P cl h (j / 4) (g .here)))
         inside P cl h c m false q = g .grown .within P cl h c (was c (eqb-false _ _ q) m)
 
-        on-edge : Going keys near n key mark b marks₀ (set marks ((p - 1) / 4) mark) (4 * ((p - 1) / 4) + o) (under o ((p - 1) % 4))
+        on-edge : Going keys near n key mark b marks₀ (set marks ((p - 1) / 4) mark) (4 * ((p - 1) / 4) + o) (rankIn o ((p - 1) % 4))
         unfolding o
         on-edge =
             record {
-              rank-is = rw (next-mod, other-twice k ((p - 1) % 4) hk (omega arith) h₁);
+              rank-is = rw (next-mod, third-of k ((p - 1) % 4) hk (omega arith) h₁ .back);
               slot = omega (arith, o-lt, cell);
-              side = record { k = k; lt = hk; is = rw next-div at-next; holds = rw next-mod (other-holds k ((p - 1) % 4) hk (omega arith) h₁) };
+              side = record { k = k; lt = hk; is = rw next-div at-next; holds = rw next-mod (third-of k ((p - 1) % 4) hk (omega arith) h₁ .other) };
               here = rw next-div now;
               opens = record { at = λ i l s m q r. opened i l s m q r (eqb (i / 4) ((p - 1) / 4)) (eqb i j) refl refl };
               grown = record {
@@ -273,7 +180,7 @@ module _ {keys near : List ℕ} {n key mark b : ℕ} {marks₀ marks : List ℕ}
                 ⊎-elim (λ (z : getD marks c 0 ≡ getD marks₀ c 0). inl (s ∙ z)) (λ (z : getD marks c 0 ≡ mark). inr (s ∙ z)) (g .grown .only c)
 
         -- the loop goes on across the other slot
-        pub going-more : (s q : ℕ) → s ≡ corner ((p - 1) % 4) r → q ≡ under s ((p - 1) % 4)
+        pub going-more : (s q : ℕ) → s ≡ corner ((p - 1) % 4) r → q ≡ rankIn s ((p - 1) % 4)
             → Going keys near n key mark b marks₀ (set marks ((p - 1) / 4) mark) (4 * ((p - 1) / 4) + s) q
         going-more s q es eq = rw (eq, es, o-is) on-edge
 
@@ -318,7 +225,7 @@ module _ {near : List ℕ} {n mark start q : ℕ} {marks₀ : List ℕ} (P : Spr
             over = λ keys key b s. (let g = w .over keys key b s in record { grown = g .grown; opens = going-met (s .paired) g p (w .p-is) pos h });
           }
 
-      pub walking-more : getD marks ((p - 1) / 4) 0 ≢ mark → (s t x : ℕ) → s < 4 → s ≡ corner ((p - 1) % 4) r → t < 3 → t ≡ under s ((p - 1) % 4)
+      pub walking-more : getD marks ((p - 1) / 4) 0 ≢ mark → (s t x : ℕ) → s < 4 → s ≡ corner ((p - 1) % 4) r → t < 3 → t ≡ rankIn s ((p - 1) % 4)
           → x ≡ getD near (4 * ((p - 1) / 4) + s) 0 → Walking near n mark start q marks₀ (set marks ((p - 1) / 4) mark) t x
       walking-more new s t x hs es ht et ex =
           record {
@@ -414,15 +321,15 @@ module _ (keys near : List ℕ) (n key mark : ℕ) (marks : List ℕ) (J : Paire
       let b : (4 * c + s) % 4 ≡ s = omega arith in
       record { k = k; lt = hk; is = rw a at; holds = rw b h }
 
-  pub start-open : Open keys near n key mark (set marks c mark) (4 * c + free k) (4 * c + other k (free k))
+  pub start-open : Open keys near n key mark (set marks c mark) (4 * c + free k) (4 * c + otherSlot k (free k))
   start-open = record { at = λ j l s m p q. absurd (go j s (alone (j / 4) m) p q) }
     where
-      go : (j : ℕ) → Side keys key j → j / 4 ≡ c → j ≢ 4 * c + free k → j ≢ 4 * c + other k (free k) → ⊥
+      go : (j : ℕ) → Side keys key j → j / 4 ≡ c → j ≢ 4 * c + free k → j ≢ 4 * c + otherSlot k (free k) → ⊥
       go j s e p q =
           let f : getD keys (6 * c + s .k) 0 ≡ key = rw (← e) (s .is) in
           let h : contains k (j % 4) ≡ true = rw (J .one c k (s .k) hc hk (s .lt) (at ∙ sym f)) (s .holds) in
-          ⊎-elim (λ (u : j % 4 ≡ free k). p (omega arith)) (λ (u : j % 4 ≡ other k (free k)). q (omega arith))
-          (no-third k (free k) hk (free-lt k hk) (free-holds k hk) (j % 4) (omega arith) h)
+          ⊎-elim (λ (u : j % 4 ≡ free k). p (omega arith)) (λ (u : j % 4 ≡ otherSlot k (free k)). q (omega arith))
+          (third-of k (free k) hk (free-lt k hk) (free-holds k hk) .only (j % 4) (omega arith) h)
 
   -- after the two spreads
   pub both-spread : (b : ℕ) → 4 * n ≤ b → (marks₁ marks₂ : List ℕ) → Grown keys near n key mark (set marks c mark) marks₁ → Grown keys near n key mark marks₁ marks₂
@@ -477,8 +384,8 @@ module _ {keys next near : List ℕ} {n key mark top : ℕ} {marks : List ℕ} (
   slot-has : contains ((top - 1) % 6) (free ((top - 1) % 6)) ≡ true
   slot-has = free-holds ((top - 1) % 6) edge-lt
 
-  pub other-apart : (o : ℕ) → o ≡ other ((top - 1) % 6) (free ((top - 1) % 6)) → o ≢ free ((top - 1) % 6)
-  other-apart o e = rw e (other-ne ((top - 1) % 6) (free ((top - 1) % 6)) edge-lt slot-lt slot-has)
+  pub other-apart : (o : ℕ) → o ≡ otherSlot ((top - 1) % 6) (free ((top - 1) % 6)) → o ≢ free ((top - 1) % 6)
+  other-apart o e = rw e (third-of ((top - 1) % 6) (free ((top - 1) % 6)) edge-lt slot-lt slot-has .not-omitted)
 
   -- near leads to slots of the cells
   near-within : (j : ℕ) → j < 4 * n → getD near j 0 ≤ 4 * n
@@ -492,7 +399,7 @@ module _ {keys next near : List ℕ} {n key mark top : ℕ} {marks : List ℕ} (
   pub may-spread-first : (r : ℕ) → r < 3 → Spreadable near n (4 * ((top - 1) / 6) + free ((top - 1) % 6)) r (set marks ((top - 1) / 6) mark)
   may-spread-first r l = may-spread (free ((top - 1) % 6)) r slot-lt l (set marks ((top - 1) / 6) mark) (length-set marks ((top - 1) / 6) mark)
 
-  pub spread-first : (o r : ℕ) → o ≡ other ((top - 1) % 6) (free ((top - 1) % 6)) → r ≡ under (free ((top - 1) % 6)) o
+  pub spread-first : (o r : ℕ) → o ≡ otherSlot ((top - 1) % 6) (free ((top - 1) % 6)) → r ≡ rankIn (free ((top - 1) % 6)) o
       → Spreading keys near n key mark (4 * ((top - 1) / 6) + free ((top - 1) % 6)) r (4 * ((top - 1) / 6) + o) (set marks ((top - 1) / 6) mark)
   unfolding lo slot-side
   spread-first o r e f =
@@ -506,16 +413,16 @@ module _ {keys next near : List ℕ} {n key mark top : ℕ} {marks : List ℕ} (
         opens = rw e (start-open keys near n key mark marks (S .paired) (S .fresh) ((top - 1) / 6) ((top - 1) % 6) cell-lt edge-lt at-top (S .room));
       }
 
-  pub spread-second : (o r b : ℕ) → o ≡ other ((top - 1) % 6) (free ((top - 1) % 6)) → o < 4 → r ≡ under o (free ((top - 1) % 6)) → (marks₁ : List ℕ)
+  pub spread-second : (o r b : ℕ) → o ≡ otherSlot ((top - 1) % 6) (free ((top - 1) % 6)) → o < 4 → r ≡ rankIn o (free ((top - 1) % 6)) → (marks₁ : List ℕ)
       → Spread keys near n key mark (4 * ((top - 1) / 6) + o) (set marks ((top - 1) / 6) mark) marks₁ → Spreading keys near n key mark (4 * ((top - 1) / 6) + o) r b marks₁
   unfolding lo slot-side
   spread-second o r b e l f marks₁ g =
       let m : (4 * ((top - 1) / 6) + o) % 4 ≡ o = omega arith in
-      let t : other ((top - 1) % 6) o ≡ free ((top - 1) % 6) = rw e (other-twice ((top - 1) % 6) (free ((top - 1) % 6)) edge-lt slot-lt slot-has) in
+      let t : otherSlot ((top - 1) % 6) o ≡ free ((top - 1) % 6) = rw e (third-of ((top - 1) % 6) (free ((top - 1) % 6)) edge-lt slot-lt slot-has .back) in
       record {
         paired = S .paired;
         side = slot-side keys near n key mark marks (S .paired) (S .fresh) ((top - 1) / 6) ((top - 1) % 6) cell-lt edge-lt at-top (S .room) o l
-            (rw e (other-holds ((top - 1) % 6) (free ((top - 1) % 6)) edge-lt slot-lt slot-has));
+            (rw e (third-of ((top - 1) % 6) (free ((top - 1) % 6)) edge-lt slot-lt slot-has .other));
         rank-is = rw (m, t) f;
         here = grown-at (g .grown) ((top - 1) / 6) (4 * ((top - 1) / 6) + o) (omega arith)
             (marked keys near n key mark marks (S .paired) (S .fresh) ((top - 1) / 6) ((top - 1) % 6) cell-lt edge-lt at-top (S .room));
@@ -530,7 +437,7 @@ module _ {keys next near : List ℕ} {n key mark top : ℕ} {marks : List ℕ} (
   both-same g h = h .same ∙ first-same g
 
   -- after both: no slot has the number 4 n
-  pub spread-both : (o r q : ℕ) → o ≡ other ((top - 1) % 6) (free ((top - 1) % 6)) → o < 4 → r ≡ under (free ((top - 1) % 6)) o → q ≡ under o (free ((top - 1) % 6))
+  pub spread-both : (o r q : ℕ) → o ≡ otherSlot ((top - 1) % 6) (free ((top - 1) % 6)) → o < 4 → r ≡ rankIn (free ((top - 1) % 6)) o → q ≡ rankIn o (free ((top - 1) % 6))
       → (marks₁ marks₂ : List ℕ) → Spreads near n mark (4 * ((top - 1) / 6) + free ((top - 1) % 6)) r (set marks ((top - 1) / 6) mark) marks₁
       → Spreads near n mark (4 * ((top - 1) / 6) + o) q marks₁ marks₂ → Filled keys near n key mark ((top - 1) / 6) marks marks₂
   spread-both o r q e l f h marks₁ marks₂ g₁ g₂ =

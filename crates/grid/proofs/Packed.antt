@@ -10,9 +10,10 @@ use native.Mathlib.Omega.{arith}
 use lib.Dec.{eqb, leb, ltb}
 use lib.ListN.{getD, length, length-set, set}
 use lib.Seq.{getD-set-other, getD-set-same}
-use borrow.Author.Tests.{eq-eqb, eqb-false, eqb-true, le-leb, le-ltb, leb-false, lt-leb, ltb-false, ltb-true, ne-eqb}
+use borrow.Author.Tests.{eq-eqb, eqb-false, eqb-true, le-leb, le-ltb, leb-false, lt-leb, ltb-false, ne-eqb}
 use Rattle.counting.specs.Pick.{pick}
 use Rattle.counting.specs.Search.{every, first, last, some}
+use Rattle.counting.proofs.Below.{rising-once}
 use Rattle.counting.proofs.Bools.{or-none, or-right}
 use Rattle.counting.proofs.Search.{every-is, first-none, is-every, none-some, some-ext, some-found, some-last, some-none}
 use Rattle.slots.specs.Slots.{corner}
@@ -40,13 +41,6 @@ table-put {f} {n} {l} w i x q room e = table-more {l = l} (rw q w) x room e
 
 pub table-to : {f : ℕ → ℕ} {n m : ℕ} {l : List ℕ} → n ≡ m → Table f n l → Table f m l
 table-to e w = rw (← e) w
-
--- three cases
-pub below-three : (P : ℕ → Type 0) → P 0 → P 1 → P 2 → (i : ℕ) → i < 3 → P i
-below-three P a b c zero l = a
-below-three P a b c (suc zero) l = b
-below-three P a b c (suc (suc zero)) l = c
-below-three P a b c (suc (suc (suc i))) l = absurd (omega arith)
 
 -- row 1
 pub length-odd : (cells : List ℕ) → (length cells % 4 ≡ 0 → ⊥) → badLength cells ≡ true
@@ -164,22 +158,14 @@ module _ (cells : List ℕ) where
       is-every (λ i. eqb (faceNode cells d t i) (faceNode cells c s i)) 3 (λ i l. eq-eqb (faceNode cells d t i) (faceNode cells c s i) (h i l))
 
 module _ (cells : List ℕ) (good : Ordered cells) where
-  -- a cell's nodes rise, so each position has its own
+  -- a cell's nodes rise
   pub rises : (c : ℕ) → c < cellCount cells → (a b : ℕ) → a < b → b < 4 → node cells c a < node cells c b
   rises c h a zero l m = absurd (not-suc-le-zero l)
   rises c h a (suc b) l m =
       let s : node cells c b < node cells c (suc b) = rw add-one at (good .rising c b h (omega arith)) in
       ⊎-elim (λ (q : a ≡ b). rw q s) (λ (g : a < b). omega (arith, rises c h a b g (omega arith))) (eq-or-lt-of-le (omega arith))
 
-  pub same-node : (c : ℕ) → c < cellCount cells → (a b : ℕ) → a < 4 → b < 4 → node cells c a ≡ node cells c b → a ≡ b
-  same-node c h a b la lb e = go (eqb a b) refl (ltb a b) refl
-    where
-      go : (x : Bool) → eqb a b ≡ x → (y : Bool) → ltb a b ≡ y → a ≡ b
-      go true q y r = eqb-true a b q
-      go false q true r = absurd (omega (arith, rises c h a b (ltb-true a b r) lb))
-      go false q false r = absurd (omega (arith, rises c h b a (omega (arith, eqb-false a b q, ltb-false a b r)) la))
-
   -- two slots of a cell are two faces
   pub one-slot : (c t s : ℕ) → c < cellCount cells → t < 4 → s < 4 → sameFace cells c t c s ≡ true → t ≡ s
   one-slot c t s h lt ls e =
-      same-slot t s lt ls (λ i l. same-node c h (corner t i) (corner s i) (corner-lt t i l) (corner-lt s i l) (same-true cells c t c s e i l))
+      same-slot t s lt ls (λ i l. rising-once (node cells c) 4 (rises c h) (corner t i) (corner s i) (corner-lt t i l) (corner-lt s i l) (same-true cells c t c s e i l))

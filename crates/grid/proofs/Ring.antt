@@ -15,12 +15,12 @@ use Rattle.counting.proofs.Bools.{and-left, and-right, and-true, bool-same, cla
 use Rattle.counting.proofs.Range.{mark}
 use Rattle.counting.proofs.Reach.{reach-closed, reach-start, reach-within}
 use Rattle.counting.proofs.Search.{first-is, first-le, first-none, some-and, some-blocks, some-ext, some-found, some-is, some-none}
-use Rattle.slots.specs.Slots.{contains, from, hi, lo, place, slotEdge, to}
-use Rattle.slots.proofs.Slots.{edge-order, edge-slot, face-ends, slot-edge, two-slots}
+use Rattle.slots.specs.Slots.{contains, hi, lo, lower, place, slotEdge, upper}
+use Rattle.slots.proofs.Slots.{edge-order, edge-slot, face-ends, slot-edge, slot-rank, two-slots}
 use Rattle.grid.specs.Grid.{cellCount, hasEdge, hasFace, isEdge, node, sameFace}
 use Rattle.grid.specs.Rows.{joined, linked, split}
 use Rattle.grid.specs.Work.{Closed, Filled, Near, Ordered, Paired, Side, Table, edgeKey, join, missing, rank, sameKey, sideKey}
-use Rattle.grid.proofs.Marks.{slot-rank, top-key, top-le}
+use Rattle.grid.proofs.Marks.{top-key, top-le}
 use Rattle.grid.proofs.Packed.{join-eqb, rises, same-true}
 use Rattle.grid.proofs.Sides.{is-side}
 
@@ -70,9 +70,9 @@ module _ (cells : List ℕ) (good : Ordered cells) (keys near : List ℕ) (tk : 
       let (a, b) = face-ends j (g .place-lt) in
       let same = same-true cells d t c s e in
       let f : node cells d (lo (slotEdge t j)) ≡ node cells c (lo k) =
-      ap (node cells d) (v .lo-is) ∙ same (from j) (omega arith) ∙ ap (node cells c) (sym (u .lo-is) ∙ ap lo (g .edge-is)) in
+      ap (node cells d) (v .lo-is) ∙ same (lower j) (omega arith) ∙ ap (node cells c) (sym (u .lo-is) ∙ ap lo (g .edge-is)) in
       let q : node cells d (hi (slotEdge t j)) ≡ node cells c (hi k) =
-      ap (node cells d) (v .hi-is) ∙ same (to j) b ∙ ap (node cells c) (sym (u .hi-is) ∙ ap hi (g .edge-is)) in (
+      ap (node cells d) (v .hi-is) ∙ same (upper j) b ∙ ap (node cells c) (sym (u .hi-is) ∙ ap hi (g .edge-is)) in (
         slotEdge t j,
         v .lt,
         side-at d (slotEdge t j) hd (v .lt) ∙ rw (f, q) (sym (side-at c k hc hk) ∙ is),

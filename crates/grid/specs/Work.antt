@@ -8,7 +8,7 @@ use lib.ListN.{length, getD, replicate}
 use lib.Dec.{eqb, ltb}
 use Rattle.counting.specs.Pick.{pick}
 use Rattle.counting.specs.Search.{first, last, some, count}
-use Rattle.slots.specs.Slots.{lo, hi, contains}
+use Rattle.slots.specs.Slots.{lo, hi, rankIn, contains, third}
 use Rattle.grid.specs.declared.Checked.{Checked}
 use Rattle.grid.specs.declared.Checked.the-variants.{Crossings, Refused}
 use Rattle.grid.specs.Grid.{highestNode, mostCells, mostCrossings, cellCount, node, faceNode, sameFace, low, high, isEdge, crossings}
@@ -159,17 +159,9 @@ blankIn sides c = some (λ k. eqb (getD sides (6 * c + k) 0) 0) 6
 
 -- LINKS: marks spread over the cells of an edge, from a cell across its two faces that contain the edge
 
--- the other slot that contains edge k
-abbrev pub other : ℕ → ℕ → ℕ
-other k s = 6 - lo k - hi k - s
-
--- the rank, among the nodes of slot s, of the one at position i
-abbrev pub under : ℕ → ℕ → ℕ
-under s i = pick (ltb i s) i (i - 1)
-
 -- the rank in slot s of the node that is no end of edge k
 abbrev pub rank : ℕ → ℕ → ℕ
-rank k s = under s (other k s)
+rank k s = rankIn s (third k s)
 
 -- slot j is one of a cell's that contain the edge with this key
 pub record Side (keys : List ℕ) (key j : ℕ) : Type 0 where

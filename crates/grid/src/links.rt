@@ -4,9 +4,9 @@ ghost use mathlib.Core.Logic.{_≢_};
 ghost use Prim.Native.Nat.{_-_, _*_, _/_, _<_};
 ghost use lib.ListN.{length};
 ghost use Rattle.counting.specs.Search.{first, some};
-ghost use Rattle.slots.specs.Slots.{corner};
+ghost use Rattle.slots.specs.Slots.{corner, rankIn, otherSlot};
 ghost use Rattle.grid.specs.Rows.{split};
-ghost use Rattle.grid.specs.Work.{OnSlot, other, under, Spreadable, Spreads, missing, Leaving, Filled, Splitting, Linkable};
+ghost use Rattle.grid.specs.Work.{OnSlot, Spreadable, Spreads, missing, Leaving, Filled, Splitting, Linkable};
 use crate::MOST_CELLS;
 use crate::edges::edge_key;
 use crate::keys::earlier;
@@ -16,7 +16,7 @@ use crate::keys::wide;
 // The other slot that contains edge k. The positions of an edge's ends add up to k + 1 from the lowest node, else to k.
 fn other_side(k: usize, s: usize) -> usize
     requires { ⌜ OnSlot k s ⌝ }
-    ensures { λ r. ⌜ r ≡ other k s ⌝ }
+    ensures { λ r. ⌜ r ≡ otherSlot k s ⌝ }
     ensures { λ r. ⌜ r < 4 ⌝ }
 {
     if k < 3 {
@@ -43,7 +43,7 @@ fn rank_of(s: usize, i: usize) -> usize
     requires { ⌜ i < 4 ⌝ }
     requires { ⌜ s < 4 ⌝ }
     requires { ⌜ i ≢ s ⌝ }
-    ensures { λ r. ⌜ r ≡ under s i ⌝ }
+    ensures { λ r. ⌜ r ≡ rankIn s i ⌝ }
     ensures { λ r. ⌜ r < 3 ⌝ }
 {
     if i < s {

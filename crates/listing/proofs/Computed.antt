@@ -5,7 +5,7 @@ use Rattle.counting.specs.Range.{total, over}
 use Rattle.counting.specs.Lists.{tally}
 use Rattle.counting.specs.Pack.{pre, rowFrom, colFrom, row, col}
 use Rattle.counting.specs.Reach.{reach}
-use Rattle.slots.specs.Slots.{lo, hi, corner, from, to, edgeOf, slotEdge, place, contains, firstSlot, secondSlot}
+use Rattle.slots.specs.Slots.{lo, hi, corner, lower, upper, edgeOf, slotEdge, place, contains, firstSlot, secondSlot}
 use Rattle.face.specs.Face as face
 use Rattle.walk.specs.Iterate.{it, orbit}
 use Rattle.walk.specs.Step as step
@@ -28,8 +28,8 @@ use Rattle.listing.specs.Examples.{Examples}
 
 pub computed : Examples
 unfolding seek first last some every count total over tally pre rowFrom colFrom row col reach
-    lo hi corner from to edgeOf slotEdge place contains firstSlot secondSlot
-    face.lower face.upper face.other face.opposite face.half face.corner face.residual face.count face.others face.kth face.cornerAt face.partner face.faceJoin
+    lo hi corner lower upper edgeOf slotEdge place contains firstSlot secondSlot
+    face.other face.opposite face.halfAbove face.corner face.residual face.count face.others face.kth face.cornerAt face.partner face.faceJoin
     it orbit step.face step.land step.step walk.place walk.turn walk.size walk.loopAt
     cell.ahead cell.base cell.holds cell.edge cell.index cell.joinAt cell.joinedTo cell.mate cell.slot cell.step
     loop.loopSize loop.dart loop.loopDarts loop.folded loop.normal loop.parity loop.nodeWith loop.typeBy loop.inGrid loop.typeOf loop.leasts loop.answerOf loop.loopAnswer

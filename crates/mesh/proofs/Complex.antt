@@ -5,12 +5,12 @@ use mathlib.Core.Logic.{_⊎_, inl, inr, ⊎-elim}
 use mathlib.Core.List.{List}
 use native.Mathlib.Nat.{zero-add}
 use native.Mathlib.Omega.{arith}
-use native.Mathlib.Decide.{decLt}
 use lib.ListN.{getD, length}
+use Rattle.counting.proofs.Below.{rising-once}
 use Rattle.counting.proofs.Lists.{getD-singles}
 use Rattle.counting.proofs.Pack.{pre-le}
 use Rattle.counting.proofs.Search.{first-ext}
-use Rattle.slots.specs.Slots.{lo, hi, corner, from, to, slotEdge, place, firstSlot, secondSlot}
+use Rattle.slots.specs.Slots.{lo, hi, corner, lower, upper, slotEdge, place, firstSlot, secondSlot}
 use Rattle.slots.proofs.Slots.{slot-edge, face-ends, same-slot, corner-lt}
 use Rattle.face.specs.Face.{unjoined, faceJoin}
 use Rattle.walk.specs.Darts.{half}
@@ -84,29 +84,12 @@ module _ (cells edges counts : List ℕ) where
     number-rises c lc = ordered (w c) (separate c lc) .numbers
 
     pub number-once : (c : ℕ) → c < cellCount cells → (x y : ℕ) → x < crossings (w c) → y < crossings (w c) → at c .number x ≡ at c .number y → x ≡ y
-    number-once c lc x y lx ly e =
-        elim (decLt x y) [
-          | yes h ↦ absurd (omega (arith, number-rises c lc x y h ly))
-          | no h ↦ elim (decLt y x) [
-            | yes k ↦ absurd (omega (arith, number-rises c lc y x k lx))
-            | no k ↦ omega arith
-          ]
-        ]
-
-    node-once : (c i j : ℕ) → c < cellCount cells → i < 4 → j < 4 → node cells c i ≡ node cells c j → i ≡ j
-    node-once c i j lc li lj e =
-        elim (decLt i j) [
-          | yes h ↦ absurd (omega (arith, A .increasing c i j lc h lj))
-          | no h ↦ elim (decLt j i) [
-            | yes k ↦ absurd (omega (arith, A .increasing c j i lc k li))
-            | no k ↦ omega arith
-          ]
-        ]
+    number-once c lc = rising-once (at c .number) (crossings (w c)) (number-rises c lc)
 
     names-once : (c : ℕ) → c < cellCount cells → (s t : ℕ) → s < 4 → t < 4 → at c .name s ≡ at c .name t → s ≡ t
     names-once c lc s t ls lt e =
         let h = same-named cells c s c t lc lc ls lt (sym (name-of c s ls) ∙ e ∙ name-of c t lt) in
-        same-slot s t ls lt (λ i l. node-once c (corner s i) (corner t i) lc (corner-lt s i l) (corner-lt t i l) (h i l))
+        same-slot s t ls lt (λ i l. rising-once (node cells c) 4 (λ a b. A .increasing c a b lc) (corner s i) (corner t i) (corner-lt s i l) (corner-lt t i l) (h i l))
 
     piece-is : (c : ℕ) → c < cellCount cells → Piece (at c)
     piece-is c lc = piece (gridCell cells edges counts c) (record { numbers = number-once c lc; names = names-once c lc })
@@ -119,8 +102,8 @@ module _ (cells edges counts : List ℕ) where
           let u = slot-edge r j lr l in
           let v = slot-edge s j ls l in
           let e = face-ends j l in
-          let x : node cells a (lo (slotEdge r j)) ≡ node cells b (lo (slotEdge s j)) = ap (node cells a) (u .lo-is) ∙ h (from j) (omega arith) ∙ ap (node cells b) (sym (v .lo-is)) in
-          let y : node cells a (hi (slotEdge r j)) ≡ node cells b (hi (slotEdge s j)) = ap (node cells a) (u .hi-is) ∙ h (to j) (omega arith) ∙ ap (node cells b) (sym (v .hi-is)) in
+          let x : node cells a (lo (slotEdge r j)) ≡ node cells b (lo (slotEdge s j)) = ap (node cells a) (u .lo-is) ∙ h (lower j) (omega arith) ∙ ap (node cells b) (sym (v .lo-is)) in
+          let y : node cells a (hi (slotEdge r j)) ≡ node cells b (hi (slotEdge s j)) = ap (node cells a) (u .hi-is) ∙ h (upper j) (omega arith) ∙ ap (node cells b) (sym (v .hi-is)) in
           first-ext (isEdge cells edges a (slotEdge r j)) (isEdge cells edges b (slotEdge s j)) (length counts) (λ e m. ap₂ (λ p q. joins edges p q e) x y)
 
       same-count : (j : ℕ) → j < 3 → three (w a) r j ≡ three (w b) s j

@@ -12,7 +12,7 @@ use Rattle.counting.specs.Range.{total, over}
 use Rattle.counting.specs.Pack.{pre}
 use Rattle.counting.proofs.Bools.{clash, and-left, and-right, or-cases}
 use Rattle.counting.proofs.Search.{every-is}
-use Rattle.slots.specs.Slots.{lo, hi, corner, from, to, edgeOf, slotEdge, contains}
+use Rattle.slots.specs.Slots.{lo, hi, corner, lower, upper, edgeOf, slotEdge, contains}
 use Rattle.grid.specs.Grid.{cellCount, countOf, outer, faceNode, sameFace, hasFace, joins, isEdge, edgeNumber}
 use Rattle.mesh.specs.Demand.{faceCount, RingPremises}
 use Rattle.mesh.specs.Examples.{threeCells, threeEdges, threeCounts}
@@ -41,7 +41,7 @@ module _ (cells edges counts : List ℕ) where
 
 -- three cells round an edge: every outer edge has count zero, and each face an even sum
 three-pass : premiseTest threeCells threeEdges threeCounts ≡ true
-unfolding premiseTest zeroTest evenTest every some count seek first last total over pre lo hi corner from to edgeOf slotEdge contains
+unfolding premiseTest zeroTest evenTest every some count seek first last total over pre lo hi corner lower upper edgeOf slotEdge contains
     outer faceNode sameFace hasFace joins isEdge edgeNumber
 three-pass = refl
 

@@ -7,6 +7,7 @@ use native.Mathlib.Omega.{arith}
 use lib.ListN.{length}
 use lib.IntN.{ℤ, pos, negsuc}
 use lib.Ieee.{Float, nan, fin}
+use Rattle.counting.proofs.Below.{below-three}
 use Rattle.answer.specs.Answer.{result}
 use lib.Ieee.{add, sub, mul, div, neg, lt, le, eq, ofInt, ofBits}
 use Rattle.counting.specs.Search.{seek, first, last, some, every, count}
@@ -14,7 +15,7 @@ use Rattle.counting.specs.Range.{total, over}
 use Rattle.counting.specs.Lists.{tally}
 use Rattle.counting.specs.Pack.{pre, rowFrom, colFrom, row, col}
 use Rattle.counting.specs.Reach.{reach}
-use Rattle.slots.specs.Slots.{lo, hi, corner, from, to, edgeOf, slotEdge, place, contains, firstSlot, secondSlot}
+use Rattle.slots.specs.Slots.{lo, hi, corner, lower, upper, edgeOf, slotEdge, place, contains, firstSlot, secondSlot}
 use Rattle.face.specs.Face as face
 use Rattle.walk.specs.Iterate.{it, orbit}
 use Rattle.walk.specs.Step as step
@@ -30,7 +31,6 @@ use Rattle.places.specs.Points as points
 use Rattle.places.specs.Rows.{hasNode, highest, badLists, badNumber, badFractionAt, badFraction}
 use Rattle.places.specs.Answer.{placeRows, rowsAnswer, placesAnswer, placed, placesArea}
 use Rattle.places.specs.Exact.{WholeAt, Happens}
-use Rattle.places.proofs.Numbers.{below-three}
 
 theCells : List ℕ
 theCells = 0 ∷ 1 ∷ 2 ∷ 3 ∷ []
@@ -56,8 +56,8 @@ theArea = nan ∷ nan ∷ nan ∷ []
 answered : placesAnswer theCells theEdges theCounts theNodes theFractions (length theArea) ≡ result (1 ∷ [])
 unfolding add sub mul div neg lt le eq ofInt ofBits
     seek first last some every count total over tally pre rowFrom colFrom row col reach
-    lo hi corner from to edgeOf slotEdge place contains firstSlot secondSlot
-    face.lower face.upper face.other face.opposite face.half face.corner face.residual face.count face.others face.kth face.cornerAt face.partner face.faceJoin
+    lo hi corner lower upper edgeOf slotEdge place contains firstSlot secondSlot
+    face.other face.opposite face.halfAbove face.corner face.residual face.count face.others face.kth face.cornerAt face.partner face.faceJoin
     it orbit step.face step.land step.step walk.place walk.turn walk.size walk.loopAt
     cell.ahead cell.base cell.holds cell.edge cell.index cell.joinAt cell.joinedTo cell.mate cell.slot cell.step
     loop.loopSize loop.dart loop.loopDarts loop.folded loop.normal loop.inGrid

@@ -7,6 +7,7 @@ use native.Mathlib.Nat.{not-suc-le-zero}
 use lib.ListN.{length, getD, set, drop, List·getD-append}
 use lib.Seq.{sets, getD-append-add}
 use lib.Ieee.{Float, nan}
+use Rattle.counting.proofs.Below.{below-three}
 use Rattle.counting.proofs.Fronts.{sets-two, sets-front}
 use Rattle.places.specs.declared.Place.{Place}
 use Rattle.places.specs.Place.{along, between, coordinates, placeAt, numbers, allNumbers}
@@ -54,12 +55,6 @@ front-place ps l g p r h =
     rw (a, b, c)
 
 -- a number of a place that is loaded, and of one between two
-pub below-three : (P : ℕ → Type 0) → P 0 → P 1 → P 2 → (t : ℕ) → t < coordinates → P t
-below-three P a b c zero h = a
-below-three P a b c (suc zero) h = b
-below-three P a b c (suc (suc zero)) h = c
-below-three P a b c (suc (suc (suc t))) h = absurd (omega arith)
-
 pub number-loaded : (l : List Float) (k t : ℕ) → t < coordinates → getD (numbers (placeAt l k)) t nan ≡ getD l (coordinates * k + t) nan
 number-loaded l k =
     let e : coordinates * k ≡ coordinates * k + 0 = omega arith in

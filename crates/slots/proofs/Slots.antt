@@ -1,155 +1,86 @@
--- What holds of every edge and every slot of a cell: each fact is one computed test over the edges, the slots or both, lifted to any of them.
-use Prim.Native.Nat.{ℕ, suc, _-_, _<_}
-use mathlib.Core.Path.{_≡_, refl}
-use mathlib.Core.Logic.{_⊎_, inl, inr, ⊎-elim}
-use mathlib.Core.Bool.{Bool, true, false, not, _&&_, _||_}
+-- What holds of every edge and every slot of a cell: each fact is a computed test over the edges, the slots or both, lifted to any of them.
+use Prim.Native.Nat.{ℕ, _+_, _-_, _<_, _≤_}
+use mathlib.Core.Path.{_≡_, refl, sym, _∙_}
+use mathlib.Core.Logic.{_⊎_, inl, inr, ⊎-elim, _≢_}
+use mathlib.Core.Bool.{Bool, true, not, _&&_, _||_}
 use native.Mathlib.Omega.{arith}
+use native.Mathlib.Decide.{decLt}
 use lib.Dec.{eqb, ltb}
-use borrow.Author.Tests.{eqb-true, ltb-true, eq-eqb, lt-ltb, not-true}
+use borrow.Author.Tests.{eqb-true, eqb-false, ltb-true, eq-eqb, lt-ltb, le-ltb, not-true}
 use Rattle.counting.specs.Pick.{pick}
 use Rattle.counting.specs.Search.{every}
-use Rattle.counting.proofs.Bools.{clash, and-left, and-right, or-cases}
+use Rattle.counting.proofs.Bools.{clash, and-left, and-right, or-cases, imply}
 use Rattle.counting.proofs.Search.{every-is, is-every}
-pub use Rattle.slots.specs.Claims.{SlotEdge, EdgeSlot, TwoSlots}
-use Rattle.slots.specs.Slots.{lo, hi, corner, from, to, slotEdge, place, contains, third, firstSlot, secondSlot}
+pub use Rattle.slots.specs.Claims.{SlotEdge, EdgeSlot, TwoSlots, Third}
+use Rattle.slots.specs.Slots.{lo, hi, corner, rankIn, lower, upper, edgeOf, slotEdge, place, contains, third, otherSlot, firstSlot, secondSlot}
 
--- a test of each edge of each slot, for any of them
+-- a test of two numbers, for any of them
 module _ (m n : ℕ) (t : ℕ → ℕ → Bool) (passes : every (λ a. every (t a) n) m ≡ true) where
   pub each : (a b : ℕ) → a < m → b < n → t a b ≡ true
   each a b la lb = every-is (t a) n (every-is (λ a. every (t a) n) m passes a la) b lb
 
-slotTest : ℕ → ℕ → Bool
-slotTest s j =
-    (ltb (slotEdge s j) 6 && eqb (place s (slotEdge s j)) j)
-    && ((eqb (firstSlot (slotEdge s j)) s || eqb (secondSlot (slotEdge s j)) s)
-    && ((eqb (lo (slotEdge s j)) (corner s (from j)) && eqb (hi (slotEdge s j)) (corner s (to j))) && contains (slotEdge s j) s))
+-- a test of each slot with each edge that it contains
+module _ (t : ℕ → ℕ → Bool) (passes : every (λ k. every (λ s. not (contains k s) || t k s) 4) 6 ≡ true) where
+  each-in : (k s : ℕ) → k < 6 → s < 4 → contains k s ≡ true → t k s ≡ true
+  each-in k s lk ls h = imply (contains k s) (t k s) h (each 6 4 (λ k s. not (contains k s) || t k s) passes k s lk ls)
 
-slots-pass : every (λ s. every (slotTest s) 3) 4 ≡ true
-unfolding every slotTest slotEdge place firstSlot secondSlot contains corner
-slots-pass = refl
+-- which of two numbers it is
+either : (a b n : ℕ) → (eqb a n || eqb b n) ≡ true → (a ≡ n) ⊎ (b ≡ n)
+either a b n e = ⊎-elim (λ q. inl (eqb-true a n q)) (λ q. inr (eqb-true b n q)) (or-cases (eqb a n) (eqb b n) e)
 
 pub slot-edge : (s j : ℕ) → s < 4 → j < 3 → SlotEdge s j
-unfolding slotTest
-slot-edge s j ls lj =
-    let e = each 4 3 slotTest slots-pass s j ls lj in
-    let u = and-left (a && b) (c && ((d && f) && g)) e in
-    let v = and-right (a && b) (c && ((d && f) && g)) e in
-    let w = and-right c ((d && f) && g) v in
-    let x = and-left (d && f) g w in
-    record {
-      lt = ltb-true (slotEdge s j) 6 (and-left a b u);
-      place-is = eqb-true (place s (slotEdge s j)) j (and-right a b u);
-      on = ⊎-elim (λ y. inl (eqb-true (firstSlot (slotEdge s j)) s y)) (λ y. inr (eqb-true (secondSlot (slotEdge s j)) s y))
-          (or-cases (eqb (firstSlot (slotEdge s j)) s) (eqb (secondSlot (slotEdge s j)) s) (and-left c ((d && f) && g) v));
-      lo-is = eqb-true (lo (slotEdge s j)) (corner s (from j)) (and-left d f x);
-      hi-is = eqb-true (hi (slotEdge s j)) (corner s (to j)) (and-right d f x);
-      within = and-right (d && f) g w;
-    }
-  where
-    a : Bool
-    a = ltb (slotEdge s j) 6
+unfolding every slotEdge place firstSlot secondSlot contains corner
+slot-edge s j ls lj = record {
+  lt = ltb-true (slotEdge s j) 6 (each 4 3 (λ s j. ltb (slotEdge s j) 6) refl s j ls lj);
+  place-is = eqb-true (place s (slotEdge s j)) j (each 4 3 (λ s j. eqb (place s (slotEdge s j)) j) refl s j ls lj);
+  on = either (firstSlot (slotEdge s j)) (secondSlot (slotEdge s j)) s
+      (each 4 3 (λ s j. eqb (firstSlot (slotEdge s j)) s || eqb (secondSlot (slotEdge s j)) s) refl s j ls lj);
+  lo-is = eqb-true (lo (slotEdge s j)) (corner s (lower j)) (each 4 3 (λ s j. eqb (lo (slotEdge s j)) (corner s (lower j))) refl s j ls lj);
+  hi-is = eqb-true (hi (slotEdge s j)) (corner s (upper j)) (each 4 3 (λ s j. eqb (hi (slotEdge s j)) (corner s (upper j))) refl s j ls lj);
+  within = each 4 3 (λ s j. contains (slotEdge s j) s) refl s j ls lj;
+}
 
-    b : Bool
-    b = eqb (place s (slotEdge s j)) j
-
-    c : Bool
-    c = eqb (firstSlot (slotEdge s j)) s || eqb (secondSlot (slotEdge s j)) s
-
-    d : Bool
-    d = eqb (lo (slotEdge s j)) (corner s (from j))
-
-    f : Bool
-    f = eqb (hi (slotEdge s j)) (corner s (to j))
-
-    g : Bool
-    g = contains (slotEdge s j) s
-
--- exactly the slots that contain an edge have it
-containTest : ℕ → ℕ → Bool
-containTest k s = not (contains k s) || ((ltb (place s k) 3 && eqb (slotEdge s (place s k)) k) && (eqb (firstSlot k) s || eqb (secondSlot k) s))
-
-contains-pass : every (λ k. every (containTest k) 4) 6 ≡ true
-unfolding every containTest contains slotEdge place firstSlot secondSlot
-contains-pass = refl
-
+-- the slots that contain an edge
 module _ (k s : ℕ) (lk : k < 6) (ls : s < 4) (h : contains k s ≡ true) where
-  contained : ((ltb (place s k) 3 && eqb (slotEdge s (place s k)) k) && (eqb (firstSlot k) s || eqb (secondSlot k) s)) ≡ true
-  unfolding containTest
-  contained =
-      ⊎-elim (λ (e : not (contains k s) ≡ true). clash h (not-true (contains k s) e)) (λ e. e)
-      (or-cases (not (contains k s)) ((ltb (place s k) 3 && eqb (slotEdge s (place s k)) k) && (eqb (firstSlot k) s || eqb (secondSlot k) s))
-      (each 6 4 containTest contains-pass k s lk ls))
-
   pub edge-slot : EdgeSlot k s
-  edge-slot =
-      let u = and-left (ltb (place s k) 3 && eqb (slotEdge s (place s k)) k) (eqb (firstSlot k) s || eqb (secondSlot k) s) contained in
-      record {
-        lt = ls;
-        place-lt = ltb-true (place s k) 3 (and-left (ltb (place s k) 3) (eqb (slotEdge s (place s k)) k) u);
-        edge-is = eqb-true (slotEdge s (place s k)) k (and-right (ltb (place s k) 3) (eqb (slotEdge s (place s k)) k) u);
-      }
+  unfolding every contains slotEdge place
+  edge-slot = record {
+    lt = ls;
+    place-lt = ltb-true (place s k) 3 (each-in (λ k s. ltb (place s k) 3) refl k s lk ls h);
+    edge-is = eqb-true (slotEdge s (place s k)) k (each-in (λ k s. eqb (slotEdge s (place s k)) k) refl k s lk ls h);
+  }
 
   pub one-of-two : (firstSlot k ≡ s) ⊎ (secondSlot k ≡ s)
-  one-of-two =
-      ⊎-elim (λ e. inl (eqb-true (firstSlot k) s e)) (λ e. inr (eqb-true (secondSlot k) s e))
-      (or-cases (eqb (firstSlot k) s) (eqb (secondSlot k) s)
-      (and-right (ltb (place s k) 3 && eqb (slotEdge s (place s k)) k) (eqb (firstSlot k) s || eqb (secondSlot k) s) contained))
+  unfolding every contains firstSlot secondSlot
+  one-of-two = either (firstSlot k) (secondSlot k) s (each-in (λ k s. eqb (firstSlot k) s || eqb (secondSlot k) s) refl k s lk ls h)
 
--- the two slots of an edge: different, and the third node of the first is the lower
-edgeTest : ℕ → Bool
-edgeTest k =
-    (ltb (firstSlot k) 4 && ltb (secondSlot k) 4)
-    && ((contains k (firstSlot k) && contains k (secondSlot k))
-    && (ltb (secondSlot k) (firstSlot k) && (ltb (third k (firstSlot k)) (third k (secondSlot k)) && (ltb (lo k) (hi k) && ltb (hi k) 4))))
-
-edges-pass : every edgeTest 6 ≡ true
-unfolding every edgeTest contains firstSlot secondSlot third lo hi
-edges-pass = refl
+  pub third-of : Third k s
+  unfolding every contains lo hi
+  third-of = record {
+    lt = ltb-true (third k s) 4 (each-in (λ k s. ltb (third k s) 4) refl k s lk ls h);
+    not-omitted = eqb-false (third k s) s (not-true _ (each-in (λ k s. not (eqb (third k s) s)) refl k s lk ls h));
+    not-lo = eqb-false (third k s) (lo k) (not-true _ (each-in (λ k s. not (eqb (third k s) (lo k))) refl k s lk ls h));
+    not-hi = eqb-false (third k s) (hi k) (not-true _ (each-in (λ k s. not (eqb (third k s) (hi k))) refl k s lk ls h));
+    other = each-in (λ k s. contains k (otherSlot k s)) refl k s lk ls h;
+    back = eqb-true (otherSlot k (otherSlot k s)) s (each-in (λ k s. eqb (otherSlot k (otherSlot k s)) s) refl k s lk ls h);
+    only = λ t lt i. ⊎-elim (λ q. inl (sym q)) (λ q. inr (sym q)) (either s (otherSlot k s) t
+        (imply (contains k t) (eqb s t || eqb (otherSlot k s) t) i
+        (every-is (λ t. not (contains k t) || (eqb s t || eqb (otherSlot k s) t)) 4
+        (each-in (λ k s. every (λ t. not (contains k t) || (eqb s t || eqb (otherSlot k s) t)) 4) refl k s lk ls h) t lt)));
+  }
 
 pub two-slots : (k : ℕ) → k < 6 → TwoSlots k
-unfolding edgeTest
-two-slots k lk =
-    let e = every-is edgeTest 6 edges-pass k lk in
-    let p = and-left (a && b) ((c && d) && (f && (g && (h && i)))) e in
-    let q = and-right (a && b) ((c && d) && (f && (g && (h && i)))) e in
-    let r = and-left (c && d) (f && (g && (h && i))) q in
-    let s = and-right (c && d) (f && (g && (h && i))) q in
-    let t = and-right f (g && (h && i)) s in
-    let u = and-right g (h && i) t in
-    record {
-      first-lt = ltb-true (firstSlot k) 4 (and-left a b p);
-      second-lt = ltb-true (secondSlot k) 4 (and-right a b p);
-      first-has = and-left c d r;
-      second-has = and-right c d r;
-      apart = ltb-true (secondSlot k) (firstSlot k) (and-left f (g && (h && i)) s);
-      lower-third = ltb-true (third k (firstSlot k)) (third k (secondSlot k)) (and-left g (h && i) t);
-      rising = ltb-true (lo k) (hi k) (and-left h i u);
-      within = ltb-true (hi k) 4 (and-right h i u);
-    }
-  where
-    a : Bool
-    a = ltb (firstSlot k) 4
-
-    b : Bool
-    b = ltb (secondSlot k) 4
-
-    c : Bool
-    c = contains k (firstSlot k)
-
-    d : Bool
-    d = contains k (secondSlot k)
-
-    f : Bool
-    f = ltb (secondSlot k) (firstSlot k)
-
-    g : Bool
-    g = ltb (third k (firstSlot k)) (third k (secondSlot k))
-
-    h : Bool
-    h = ltb (lo k) (hi k)
-
-    i : Bool
-    i = ltb (hi k) 4
+unfolding every contains firstSlot secondSlot lo hi
+two-slots k l = record {
+  first-lt = ltb-true (firstSlot k) 4 (every-is (λ k. ltb (firstSlot k) 4) 6 refl k l);
+  second-lt = ltb-true (secondSlot k) 4 (every-is (λ k. ltb (secondSlot k) 4) 6 refl k l);
+  first-has = every-is (λ k. contains k (firstSlot k)) 6 refl k l;
+  second-has = every-is (λ k. contains k (secondSlot k)) 6 refl k l;
+  apart = ltb-true (secondSlot k) (firstSlot k) (every-is (λ k. ltb (secondSlot k) (firstSlot k)) 6 refl k l);
+  lower-third = ltb-true (third k (firstSlot k)) (third k (secondSlot k)) (every-is (λ k. ltb (third k (firstSlot k)) (third k (secondSlot k))) 6 refl k l);
+  rising = ltb-true (lo k) (hi k) (every-is (λ k. ltb (lo k) (hi k)) 6 refl k l);
+  within = ltb-true (hi k) 4 (every-is (λ k. ltb (hi k) 4) 6 refl k l);
+}
 
 pub first-slot : (k : ℕ) → k < 6 → EdgeSlot k (firstSlot k)
 first-slot k l = edge-slot k (firstSlot k) l (two-slots k l .first-lt) (two-slots k l .first-has)
@@ -157,60 +88,93 @@ first-slot k l = edge-slot k (firstSlot k) l (two-slots k l .first-lt) (two-slot
 pub second-slot : (k : ℕ) → k < 6 → EdgeSlot k (secondSlot k)
 second-slot k l = edge-slot k (secondSlot k) l (two-slots k l .second-lt) (two-slots k l .second-has)
 
--- the positions of a slot rise, are not the omitted one, and tell the slot
+-- positions and ranks in a slot, case by case
+module _ (s i : ℕ) where
+  pub corner-low : i < s → i ≡ corner s i
+  unfolding corner
+  corner-low h = rw (lt-ltb i s h)
+
+  pub corner-high : s ≤ i → i + 1 ≡ corner s i
+  unfolding corner
+  corner-high h = rw (le-ltb i s h) (omega arith)
+
+  pub rank-low : i < s → i ≡ rankIn s i
+  rank-low h = rw (lt-ltb i s h)
+
+  pub rank-high : s ≤ i → i - 1 ≡ rankIn s i
+  rank-high h = rw (le-ltb i s h)
+
+-- they tell each other
 pub corner-lt : (s i : ℕ) → i < 3 → corner s i < 4
-unfolding corner
-corner-lt s i l = go (ltb i s)
-  where
-    go : (b : Bool) → pick b i (suc i) < 4
-    go true = omega arith
-    go false = omega arith
+corner-lt s i l = elim (decLt i s) [ yes h ↦ omega (arith, corner-low s i h) | no h ↦ omega (arith, corner-high s i (omega arith)) ]
 
-differTest : ℕ → ℕ → Bool
-differTest s t = eqb s t || not (every (λ i. eqb (corner s i) (corner t i)) 3)
+pub omitted : (s i : ℕ) → corner s i ≢ s
+omitted s i e = elim (decLt i s) [ yes h ↦ omega (arith, corner-low s i h) | no h ↦ omega (arith, corner-high s i (omega arith)) ]
 
-differ-pass : every (λ s. every (differTest s) 4) 4 ≡ true
-unfolding every differTest corner
-differ-pass = refl
+pub corners-rise : (s i j : ℕ) → i < j → corner s i < corner s j
+corners-rise s i j l =
+    elim (decLt j s) [
+      | yes h ↦ omega (arith, corner-low s i (omega arith), corner-low s j h)
+      | no h ↦ elim (decLt i s) [
+        | yes k ↦ omega (arith, corner-low s i k, corner-high s j (omega arith))
+        | no k ↦ omega (arith, corner-high s i (omega arith), corner-high s j (omega arith))
+      ]
+    ]
 
+pub rank-of : (s i : ℕ) → s < 4 → i < 4 → i ≢ s → (rankIn s i < 3) × (corner s (rankIn s i) ≡ i)
+rank-of s i ls li n =
+    elim (decLt i s) [
+      | yes h ↦ let e = rank-low s i h in (omega arith, rw (← e) (sym (corner-low s i h)))
+      | no h ↦ let e = rank-high s i (omega arith) in (omega arith, rw (← e) (sym (corner-high s (i - 1) (omega arith)) ∙ omega arith))
+    ]
+
+-- edge j of a slot has its third position at the rank 2 - j
+pub slot-rank : (s j : ℕ) → s < 4 → j < 3 → rankIn s (third (slotEdge s j) s) ≡ 2 - j
+unfolding every slotEdge lo hi
+slot-rank s j ls lj = eqb-true _ _ (each 4 3 (λ s j. eqb (rankIn s (third (slotEdge s j) s)) (2 - j)) refl s j ls lj)
+
+-- the positions of a slot tell it
 pub same-slot : (s t : ℕ) → s < 4 → t < 4 → ((i : ℕ) → i < 3 → corner s i ≡ corner t i) → s ≡ t
-unfolding differTest
+unfolding every corner
 same-slot s t ls lt h =
     ⊎-elim (λ (e : eqb s t ≡ true). eqb-true s t e)
     (λ (e : not (every (λ i. eqb (corner s i) (corner t i)) 3) ≡ true).
-    clash (is-every (λ i. eqb (corner s i) (corner t i)) 3 (λ i l. eq-eqb (corner s i) (corner t i) (h i l)))
-    (not-true (every (λ i. eqb (corner s i) (corner t i)) 3) e))
-    (or-cases (eqb s t) (not (every (λ i. eqb (corner s i) (corner t i)) 3)) (each 4 4 differTest differ-pass s t ls lt))
+    clash (is-every (λ i. eqb (corner s i) (corner t i)) 3 (λ i l. eq-eqb (corner s i) (corner t i) (h i l))) (not-true _ e))
+    (or-cases (eqb s t) (not (every (λ i. eqb (corner s i) (corner t i)) 3))
+    (each 4 4 (λ s t. eqb s t || not (every (λ i. eqb (corner s i) (corner t i)) 3)) refl s t ls lt))
+
+-- two positions and their edge
+pub edge-pair : (a b : ℕ) → a < b → b < 4 → (edgeOf a b < 6) × (lo (edgeOf a b) ≡ a) × (hi (edgeOf a b) ≡ b)
+unfolding every edgeOf lo hi
+edge-pair a b l h = (
+  ltb-true _ _ (rising (λ a b. ltb (edgeOf a b) 6) refl),
+  eqb-true _ _ (rising (λ a b. eqb (lo (edgeOf a b)) a) refl),
+  eqb-true _ _ (rising (λ a b. eqb (hi (edgeOf a b)) b) refl),
+)
+  where
+    rising : (t : ℕ → ℕ → Bool) → every (λ a. every (λ b. not (ltb a b) || t a b) 4) 4 ≡ true → t a b ≡ true
+    rising t passes = imply (ltb a b) (t a b) (lt-ltb a b l) (each 4 4 (λ a b. not (ltb a b) || t a b) passes a b (omega arith) h)
 
 -- earlier edges have earlier ends, by the lower and then the higher
-orderTest : ℕ → ℕ → Bool
-orderTest k l = not (ltb k l) || (ltb (lo k) (lo l) || (eqb (lo k) (lo l) && ltb (hi k) (hi l)))
-
-order-pass : every (λ k. every (orderTest k) 6) 6 ≡ true
-unfolding every orderTest lo hi
-order-pass = refl
-
 pub edge-order : (k l : ℕ) → k < l → l < 6 → (lo k < lo l) ⊎ ((lo k ≡ lo l) × (hi k < hi l))
-unfolding orderTest
+unfolding every lo hi
 edge-order k l h ll =
-    ⊎-elim (λ (e : not (ltb k l) ≡ true). clash (lt-ltb k l h) (not-true (ltb k l) e))
-    (λ (e : (ltb (lo k) (lo l) || (eqb (lo k) (lo l) && ltb (hi k) (hi l))) ≡ true).
     ⊎-elim (λ (q : ltb (lo k) (lo l) ≡ true). inl (ltb-true (lo k) (lo l) q))
     (λ (q : (eqb (lo k) (lo l) && ltb (hi k) (hi l)) ≡ true).
-    inr (eqb-true (lo k) (lo l) (and-left (eqb (lo k) (lo l)) (ltb (hi k) (hi l)) q), ltb-true (hi k) (hi l) (and-right (eqb (lo k) (lo l)) (ltb (hi k) (hi l)) q)))
-    (or-cases (ltb (lo k) (lo l)) (eqb (lo k) (lo l) && ltb (hi k) (hi l)) e))
-    (or-cases (not (ltb k l)) (ltb (lo k) (lo l) || (eqb (lo k) (lo l) && ltb (hi k) (hi l))) (each 6 6 orderTest order-pass k l (omega arith) ll))
+    inr (eqb-true (lo k) (lo l) (and-left _ (ltb (hi k) (hi l)) q), ltb-true (hi k) (hi l) (and-right (eqb (lo k) (lo l)) _ q)))
+    (or-cases (ltb (lo k) (lo l)) (eqb (lo k) (lo l) && ltb (hi k) (hi l))
+    (imply (ltb k l) (ltb (lo k) (lo l) || (eqb (lo k) (lo l) && ltb (hi k) (hi l))) (lt-ltb k l h)
+    (each 6 6 (λ k l. not (ltb k l) || (ltb (lo k) (lo l) || (eqb (lo k) (lo l) && ltb (hi k) (hi l)))) refl k l (omega arith) ll)))
 
 -- the ends of a face's edges are two of its three positions
-endTest : ℕ → Bool
-endTest j = ltb (from j) (to j) && ltb (to j) 3
+pub face-ends : (j : ℕ) → j < 3 → (lower j < upper j) × (upper j < 3)
+unfolding every lower upper
+face-ends j l = (
+  ltb-true (lower j) (upper j) (every-is (λ j. ltb (lower j) (upper j)) 3 refl j l),
+  ltb-true (upper j) 3 (every-is (λ j. ltb (upper j) 3) 3 refl j l),
+)
 
-ends-pass : every endTest 3 ≡ true
-unfolding every endTest from to
-ends-pass = refl
-
-pub face-ends : (j : ℕ) → j < 3 → (from j < to j) × (to j < 3)
-unfolding endTest
-face-ends j l =
-    let e = every-is endTest 3 ends-pass j l in
-    (ltb-true (from j) (to j) (and-left (ltb (from j) (to j)) (ltb (to j) 3) e), ltb-true (to j) 3 (and-right (ltb (from j) (to j)) (ltb (to j) 3) e))
+-- the sum of an edge's ends, from which its other slot is found
+pub ends-sum : (k : ℕ) → k < 6 → lo k + hi k ≡ pick (ltb k 3) (k + 1) k
+unfolding every lo hi
+ends-sum k l = eqb-true _ _ (every-is (λ k. eqb (lo k + hi k) (pick (ltb k 3) (k + 1) k)) 6 refl k l)

@@ -3,15 +3,15 @@ use Prim.Native.Nat.{ℕ, _<_}
 use mathlib.Core.Path.{_≡_}
 use mathlib.Core.Logic.{_⊎_, _≢_}
 use mathlib.Core.Bool.{true}
-use Rattle.slots.specs.Slots.{lo, hi, corner, from, to, edgeOf, slotEdge, place, contains, third, firstSlot, secondSlot}
+use Rattle.slots.specs.Slots.{lo, hi, corner, rankIn, lower, upper, edgeOf, slotEdge, place, contains, third, otherSlot, firstSlot, secondSlot}
 
 -- edge j, ab ac bc, of slot s: it joins the slot's positions a b, a c or b c
 pub record SlotEdge (s j : ℕ) : Type 0 where
   pub lt : slotEdge s j < 6
   pub place-is : place s (slotEdge s j) ≡ j
   pub on : (firstSlot (slotEdge s j) ≡ s) ⊎ (secondSlot (slotEdge s j) ≡ s)
-  pub lo-is : lo (slotEdge s j) ≡ corner s (from j)
-  pub hi-is : hi (slotEdge s j) ≡ corner s (to j)
+  pub lo-is : lo (slotEdge s j) ≡ corner s (lower j)
+  pub hi-is : hi (slotEdge s j) ≡ corner s (upper j)
   pub within : contains (slotEdge s j) s ≡ true
 
 -- edge k is an edge of slot s
@@ -31,12 +31,15 @@ pub record TwoSlots (k : ℕ) : Type 0 where
   pub rising : lo k < hi k
   pub within : hi k < 4
 
--- the third position of slot s, which contains edge k
+-- the third position of slot s, which contains edge k; and the other slot that contains k, which omits it
 pub record Third (k s : ℕ) : Type 0 where
   pub lt : third k s < 4
   pub not-omitted : third k s ≢ s
   pub not-lo : third k s ≢ lo k
   pub not-hi : third k s ≢ hi k
+  pub other : contains k (otherSlot k s) ≡ true
+  pub back : otherSlot k (otherSlot k s) ≡ s
+  pub only : (t : ℕ) → t < 4 → contains k t ≡ true → (t ≡ s) ⊎ (t ≡ otherSlot k s)
 
 pub record SlotLaws : Type 0 where
   -- any two positions are the ends of one edge, and the edges are in the order of their ends, by the lower and then the higher
@@ -45,7 +48,7 @@ pub record SlotLaws : Type 0 where
   -- slot s has three positions, which rise: every one but s
   pub rise : (s i j : ℕ) → s < 4 → i < j → j < 3 → corner s i < corner s j
   pub omits : (s i : ℕ) → s < 4 → i < 3 → (corner s i < 4) × (corner s i ≢ s)
-  pub others : (s a : ℕ) → s < 4 → a < 4 → a ≢ s → (i : ℕ) × (i < 3) × (corner s i ≡ a)
+  pub ranks : (s i : ℕ) → s < 4 → i < 4 → i ≢ s → (rankIn s i < 3) × (corner s (rankIn s i) ≡ i)
   -- the edges of a slot; the slots of an edge
   pub edges : (s j : ℕ) → s < 4 → j < 3 → SlotEdge s j
   pub slots : (k : ℕ) → k < 6 → TwoSlots k

@@ -1,8 +1,8 @@
 -- A cell's nodes stand at the positions 0 to 3. Its six edges are 01, 02, 03, 12, 13, 23; its slot s (01) is the face that omits position s.
 -- The one table here is that of the edges' ends. All else is found from it.
-use Prim.Native.Nat.{ℕ, suc, _+_, _-_}
+use Prim.Native.Nat.{ℕ, suc, _-_}
 use mathlib.Core.Bool.{Bool, not, _&&_}
-use mathlib.Core.List.{List, [], _∷_}
+use mathlib.Core.List.{[], _∷_}
 use lib.Dec.{eqb, ltb}
 use lib.ListN.{getD}
 use Rattle.counting.specs.Pick.{pick}
@@ -19,12 +19,16 @@ hi k = getD (1 ∷ 2 ∷ 3 ∷ 2 ∷ 3 ∷ 3 ∷ []) k 0
 unfoldable pub corner : ℕ → ℕ → ℕ
 corner s i = pick (ltb i s) i (suc i)
 
--- the ends of the edges ab, ac, bc of a face: positions among its three
-unfoldable pub from : ℕ → ℕ
-from j = getD (0 ∷ 0 ∷ 1 ∷ []) j 0
+-- the rank of position i among the three of slot s
+abbrev pub rankIn : ℕ → ℕ → ℕ
+rankIn s i = pick (ltb i s) i (i - 1)
 
-unfoldable pub to : ℕ → ℕ
-to j = getD (1 ∷ 2 ∷ 2 ∷ []) j 0
+-- a face's nodes a < b < c are 0, 1, 2, and its edges ab, ac, bc are 0, 1, 2: the ends of edge j
+unfoldable pub lower : ℕ → ℕ
+lower j = pick (eqb j 2) 1 0
+
+unfoldable pub upper : ℕ → ℕ
+upper j = pick (eqb j 0) 1 2
 
 -- the edge that joins the positions a and b
 unfoldable pub edgeOf : ℕ → ℕ → ℕ
@@ -33,8 +37,8 @@ edgeOf a b = first (λ k. eqb (lo k) a && eqb (hi k) b) 6
 
 -- the edge of the cell that is edge j, ab ac bc, of slot s
 unfoldable pub slotEdge : ℕ → ℕ → ℕ
-unfolding edgeOf corner from to
-slotEdge s j = edgeOf (corner s (from j)) (corner s (to j))
+unfolding edgeOf corner lower upper
+slotEdge s j = edgeOf (corner s (lower j)) (corner s (upper j))
 
 -- which edge, ab ac bc, of slot s the edge k is
 unfoldable pub place : ℕ → ℕ → ℕ
@@ -46,10 +50,13 @@ unfoldable pub contains : ℕ → ℕ → Bool
 unfolding lo hi
 contains k s = not (eqb s (lo k)) && not (eqb s (hi k))
 
--- the third position of slot s, which contains edge k: no end of k, and not omitted
-unfoldable pub third : ℕ → ℕ → ℕ
-unfolding first lo hi
-third k s = first (λ i. not (eqb i (lo k)) && (not (eqb i (hi k)) && not (eqb i s))) 4
+-- the third position of slot s, which contains edge k: no end of k, and not omitted. The four positions add up to 6
+abbrev pub third : ℕ → ℕ → ℕ
+third k s = 6 - lo k - hi k - s
+
+-- the slot other than s that contains edge k: the one that omits that position
+abbrev pub otherSlot : ℕ → ℕ → ℕ
+otherSlot k s = third k s
 
 -- the two slots that contain edge k. The first is the face whose third node is lower: the one that omits the higher of the two other positions
 unfoldable pub firstSlot : ℕ → ℕ

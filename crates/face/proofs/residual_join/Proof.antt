@@ -12,7 +12,7 @@ sub-above-2 : tie.Need-sub-above-2
 sub-above-2 c = search needs
 
 returns : tie.Need-returns
-returns c = sym (residual-skip _ _ _ _ (c .if1 .taken))
+returns c = sym (residual-skip _ _ _ _ (omega arith))
 
 add-t10 : tie.Need-add-t10
 add-t10 c = search needs

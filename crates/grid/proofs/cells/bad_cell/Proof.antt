@@ -4,7 +4,8 @@ use mathlib.Core.Path.{sym}
 use native.Mathlib.Omega.{arith}
 use borrow.Author.Needs.{needs}
 use Rattle.grid.specs.Grid.{node}
-use Rattle.grid.proofs.Packed.{below-three, cell-drops, cell-rises}
+use Rattle.counting.proofs.Below.{below-three}
+use Rattle.grid.proofs.Packed.{cell-drops, cell-rises}
 use Rattle.grid.proofs.cells.bad_cell.Statement.{statement}
 use Rattle.grid.proofs.cells.bad_cell.Tie as tie
 

@@ -1,7 +1,8 @@
 -- `grid::links::other_side` meets its contract.
 use native.Mathlib.Omega.{arith}
 use borrow.Author.Needs.{needs}
-use Rattle.grid.proofs.Marks.{other-fits, other-high, other-low, other-lt}
+use Rattle.slots.proofs.Slots.{third-of}
+use Rattle.grid.proofs.Marks.{other-fits, other-high, other-low}
 use Rattle.grid.proofs.links.other_side.Statement.{statement}
 use Rattle.grid.proofs.links.other_side.Tie as tie
 
@@ -15,7 +16,7 @@ returns : tie.Need-returns
 returns c =
     let p = c .before .pre in
     let a = c .before .args in
-    (other-low (a .k) (a .s) (omega arith), rw (other-low (a .k) (a .s) (omega arith)) (other-lt _ _ (p .edge-lt) (p .slot-lt) (p .holds)))
+    (other-low (a .k) (a .s) (omega arith), rw (other-low (a .k) (a .s) (omega arith)) (third-of _ _ (p .edge-lt) (p .slot-lt) (p .holds) .lt))
 
 sub-result-3 : tie.Need-sub-result-3
 sub-result-3 c = search needs
@@ -27,7 +28,7 @@ returns-2 : tie.Need-returns-2
 returns-2 c =
     let p = c .before .pre in
     let a = c .before .args in
-    (other-high (a .k) (a .s) (omega arith) (p .edge-lt), rw (other-high (a .k) (a .s) (omega arith) (p .edge-lt)) (other-lt _ _ (p .edge-lt) (p .slot-lt) (p .holds)))
+    (other-high (a .k) (a .s) (omega arith) (p .edge-lt), rw (other-high (a .k) (a .s) (omega arith) (p .edge-lt)) (third-of _ _ (p .edge-lt) (p .slot-lt) (p .holds) .lt))
 
 pub other-side-spec : {M : Type 1} → statement M
 other-side-spec =

@@ -1,7 +1,7 @@
 -- `grid::links::position` meets its contract.
 use native.Mathlib.Omega.{arith}
 use borrow.Author.Needs.{needs}
-use Rattle.grid.proofs.Marks.{corner-high, corner-low}
+use Rattle.slots.proofs.Slots.{corner-high, corner-low}
 use Rattle.grid.proofs.links.position.Statement.{statement}
 use Rattle.grid.proofs.links.position.Tie as tie
 

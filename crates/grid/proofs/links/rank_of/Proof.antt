@@ -1,18 +1,18 @@
 -- `grid::links::rank_of` meets its contract.
 use native.Mathlib.Omega.{arith}
 use borrow.Author.Needs.{needs}
-use Rattle.grid.proofs.Marks.{under-high, under-low}
+use Rattle.slots.proofs.Slots.{rank-high, rank-low}
 use Rattle.grid.proofs.links.rank_of.Statement.{statement}
 use Rattle.grid.proofs.links.rank_of.Tie as tie
 
 returns : tie.Need-returns
-returns c = (under-low _ _ (omega arith), omega arith)
+returns c = (rank-low _ _ (omega arith), omega arith)
 
 sub-result : tie.Need-sub-result
 sub-result c = search needs
 
 returns-2 : tie.Need-returns-2
-returns-2 c = (under-high _ _ (omega arith), omega arith)
+returns-2 c = (rank-high _ _ (omega arith), omega arith)
 
 pub rank-of-spec : {M : Type 1} → statement M
 rank-of-spec = tie.close (tie.spec returns sub-result returns-2)
