@@ -1,4 +1,4 @@
-// The loops of a cell, from the counts of its six edges.
+// The loops of a cell, from the counts and first crossing numbers of its six edges.
 ghost use mathlib.Core.Path.{_≡_};
 ghost use Rattle.cell.specs.Of.{edgesOf};
 ghost use Rattle.cell.specs.Loop.{loopAnswer};
