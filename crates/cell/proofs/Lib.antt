@@ -4,12 +4,15 @@ pub mod Reach
 pub mod Route
 pub mod Ready
 pub mod Mates
+pub mod Putting
 pub mod Walking
 pub mod Recording
 pub mod Loops
+pub mod Leasts
+pub mod Tracing
+pub mod Reading
 pub mod Segments
 pub mod Follow
-pub mod Leasts
 pub mod Three
 pub mod Claims
 pub mod Examples

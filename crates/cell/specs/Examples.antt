@@ -94,7 +94,7 @@ listed (x ∷ l) = (x .crossings ∷ []) ∷ (x .loops ++ (x .points ++ listed l
 unfoldable pub parts : List (List ℕ)
 parts =
     front w start 9 ∷ front w start 10 ∷ front w start 11 ∷ front w start 6 ∷ links 9 ∷ links 10 ∷ links 6
-    ∷ (foldsIn round 4 ∷ crossesIn round 4 0 ∷ foldsIn pair 2 ∷ crossesIn pair 2 0 ∷ foldsIn round 0 ∷ [])
+    ∷ (foldsIn round ∷ crossesIn round 0 ∷ foldsIn pair ∷ crossesIn pair 0 ∷ foldsIn [] ∷ [])
     ∷ []
   where
     w : ℕ → ℕ

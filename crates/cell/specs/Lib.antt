@@ -4,6 +4,7 @@ pub mod Of
 pub mod Half
 pub mod Route
 pub mod Dart
+pub mod Trace
 pub mod Walked
 pub mod Round
 pub mod Answer

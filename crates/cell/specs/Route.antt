@@ -13,9 +13,15 @@ use Rattle.cell.specs.Cell.{crossings}
 use Rattle.cell.specs.Of.{countOf, startOf}
 use Rattle.cell.specs.Half.{halfEdges, slotOf, placeOf, edgeOf, twin, around}
 
--- the most crossings that a cell can have: six counts of one byte
+-- the most crossings that an edge can have, a count of one byte, and that a cell can have; the most loops of a cell, of two crossings or more each
+abbrev pub mostCount : ℕ
+mostCount = 255
+
 abbrev pub mostCrossings : ℕ
-mostCrossings = 1530
+mostCrossings = 6 * mostCount
+
+abbrev pub mostLoops : ℕ
+mostLoops = 3 * mostCount
 
 -- one more than the greatest number that a start can have
 abbrev pub startLimit : ℕ
