@@ -1,9 +1,7 @@
 -- The record of a cell's loops, read loop by loop.
 use Prim.Native.Nat.{ℕ, zero, suc, _+_, _*_, _-_, _≤_, _<_}
-use mathlib.Core.Path.{_≡_, refl, sym, ap, ap₂, _∙_}
-use mathlib.Core.Bool.{true}
+use mathlib.Core.Path.{_≡_, refl, sym, ap, _∙_}
 use mathlib.Core.List.{List, [], _∷_, _++_, map, append-assoc}
-use native.Mathlib.Nat.{sub-zero}
 use native.Mathlib.Omega.{arith}
 use native.Mathlib.Numerals.{add-one}
 use native.Mathlib.Decide.{decLt}
@@ -12,7 +10,6 @@ use lib.ListN.{length, getD, drop, take, replicate, length-append, length-drop, 
 use lib.Seq.{sets, length-sets, drop-cons, drop-drop, drop-at, take-at, getD-drop}
 use borrow.Author.Tests.{eqb-true, eqb-false}
 use Rattle.answer.specs.Answer.{result}
-use Rattle.counting.specs.Pick.{pick}
 use Rattle.counting.specs.Range.{total, over}
 use Rattle.counting.proofs.Range.{length-over, total-ext, total-next}
 use Rattle.counting.proofs.Fronts.{sets-front}

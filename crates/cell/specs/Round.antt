@@ -1,6 +1,6 @@
 -- Only contracts of parts cite this file. What is counted of a recorded loop: a list of half-edges, taken as a round.
 use Prim.Native.Nat.{ℕ, _%_}
-use mathlib.Core.List.{List, [], _∷_}
+use mathlib.Core.List.{List, _∷_}
 use lib.Dec.{eqb}
 use lib.ListN.{getD, length}
 use Rattle.counting.specs.Pick.{one}

@@ -1,5 +1,5 @@
 use native.Mathlib.Omega.{arith}
-use mathlib.Core.Path.{sym, refl, _∙_}
+use mathlib.Core.Path.{sym, refl}
 use Rattle.cell.proofs.Reading.{from-trace, answer-none, traced-halves, traced-points, traced-lengths, traced-loops}
 use borrow.Author.Needs.{needs}
 use Rattle.cell.proofs.loop_at.Statement.{statement}

@@ -1,5 +1,4 @@
-use mathlib.Core.Path.{refl, ap}
-use lib.Dec.{eqb}
+use mathlib.Core.Path.{refl}
 use Rattle.cell.specs.Round.{roundAnswer}
 use borrow.Author.Needs.{needs}
 use Rattle.cell.proofs.answers.answer_of.Statement.{statement}

@@ -1,7 +1,7 @@
 use native.Mathlib.Omega.{arith}
 use Prim.Native.Nat.{_≤_, _-_}
 use native.Mathlib.Nat.{sub-zero}
-use lib.ListN.{length, replicate}
+use lib.ListN.{replicate}
 use Rattle.cell.specs.Trace.{unmarked}
 use Rattle.cell.specs.Walked.{Put}
 use Rattle.cell.proofs.Putting.{put-none, put-same, put-whole}

@@ -1,6 +1,5 @@
 use Prim.Native.Nat.{_-_}
-use mathlib.Core.Path.{refl, ap, _∙_}
-use lib.Seq.{length-sets}
+use mathlib.Core.Path.{refl}
 use Rattle.cell.proofs.Tracing.{Tracing, tracing-start, tracing-lent, tracing-all, tracing-skip, tracing-room, tracing-length, tracing-few, tracing-more, tracing-same}
 use native.Mathlib.Omega.{arith}
 use Rattle.cell.proofs.walks.walk_all.Statement.{statement}

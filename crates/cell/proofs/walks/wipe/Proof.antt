@@ -1,6 +1,6 @@
 use native.Mathlib.Omega.{arith}
 use Prim.Native.Nat.{_≤_, _-_}
-use lib.ListN.{length, replicate}
+use lib.ListN.{replicate}
 use Rattle.cell.specs.Walked.{Put}
 use Rattle.cell.proofs.Putting.{put-start, put-same, put-whole}
 use Rattle.cell.proofs.walks.wipe.Statement.{statement}
