@@ -1,5 +1,6 @@
 // The walk along a loop, with marks. A walk passes its start, unless that is marked, and then crossings that no earlier walk has passed, which it
 // marks: so for all loops of a cell together there are no more steps than crossings.
+ghost use mathlib.Core.Path.{_≡_};
 ghost use Prim.Native.Nat.{_-_, _<_, _≤_};
 ghost use lib.ListN.{length, replicate};
 ghost use Rattle.cell.specs.Cell.{crossings, holds};
