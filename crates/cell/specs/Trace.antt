@@ -36,8 +36,8 @@ module _ (c : Cell) where
   unfoldable pub pointsFrom : ℕ → List ℕ
   pointsFrom p = map (λ d. inGrid (edgesOf c) (d / 2)) (loopDarts (edgesOf c) p)
 
-  -- The lent arrays before a trace, and after it; there is room for the most crossings that a cell can have. As far as the cell's crossings reach, the marks are cleared and the record is followed by zeros; the
-  -- lengths of the loops stand at the front of the last. All beyond is kept.
+  -- The lent arrays before a trace, and after it. As far as the cell's crossings reach, of which there are no more than the arrays have places, the
+  -- marks are cleared and the record is followed by zeros; the lengths of the loops stand at the front of the last. All beyond is kept.
   module _ (marks halves points lengths : List ℕ) where
     pub record Traced (marks′ halves′ points′ lengths′ : List ℕ) : Type 0 where
       pub few : crossings (edgesOf c) ≤ mostInCell

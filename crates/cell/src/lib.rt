@@ -18,7 +18,7 @@ pub use routes::crossings_of;
 // The most crossings of an edge and of a cell, and the most loops of a cell: each has two crossings or more.
 pub const MOST_COUNT: usize = 255;
 
-pub const MOST_CROSSINGS: usize = 6 * MOST_COUNT;
+pub const MOST_IN_CELL: usize = 6 * MOST_COUNT;
 
 pub const MOST_LOOPS: usize = 3 * MOST_COUNT;
 
@@ -77,9 +77,9 @@ struct Extent {
 // its darts in `halves` and the numbers of its crossings in `points`. What the arrays hold before does not matter.
 pub fn trace(
     c: Cell,
-    marks: &mut [u16; MOST_CROSSINGS],
-    halves: &mut [u8; MOST_CROSSINGS],
-    points: &mut [u32; MOST_CROSSINGS],
+    marks: &mut [u16; MOST_IN_CELL],
+    halves: &mut [u8; MOST_IN_CELL],
+    points: &mut [u32; MOST_IN_CELL],
     lengths: &mut [u16; MOST_LOOPS],
 ) -> usize
     ensures { λ r. ⌜ r ≡ length (leastsOf c) ⌝ }
@@ -97,9 +97,9 @@ pub fn trace(
 pub fn loop_at(c: Cell, k: usize) -> Loop
     ensures { λ r. ⌜ loopNumbers r ≡ loopAnswer (edgesOf c) (c .nodes) k ⌝ }
 {
-    let mut marks = [0u16; MOST_CROSSINGS];
-    let mut halves = [0u8; MOST_CROSSINGS];
-    let mut points = [0u32; MOST_CROSSINGS];
+    let mut marks = [0u16; MOST_IN_CELL];
+    let mut halves = [0u8; MOST_IN_CELL];
+    let mut points = [0u32; MOST_IN_CELL];
     let mut lengths = [0u16; MOST_LOOPS];
     let n = trace(c, &mut marks, &mut halves, &mut points, &mut lengths);
     if n <= k {

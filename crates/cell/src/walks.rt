@@ -13,11 +13,15 @@ use super::Dart;
 use super::Extent;
 use super::Next;
 use super::routes;
+use super::routes::ROUTES;
 use super::steps;
 use super::tables;
 
+// The mark of a crossing that no walk has come to.
+const UNMARKED: u16 = 65535;
+
 // Whether crossing p is one of edge e.
-fn is_on(c: Cell, routes: &[usize; 108], e: usize, p: usize) -> bool
+fn is_on(c: Cell, routes: &[usize; ROUTES], e: usize, p: usize) -> bool
     requires { ⌜ Routed c (now routes) ⌝ }
     requires { ⌜ e < 6 ⌝ }
     ensures { λ r. ⌜ r ≡ holds (edgesOf c) p e ⌝ }
@@ -32,7 +36,7 @@ fn is_on(c: Cell, routes: &[usize; 108], e: usize, p: usize) -> bool
 }
 
 // The first dart of crossing p, which is one of edge e.
-fn first_dart(c: Cell, routes: &[usize; 108], e: usize, p: usize) -> Dart
+fn first_dart(c: Cell, routes: &[usize; ROUTES], e: usize, p: usize) -> Dart
     requires { ⌜ Located c (now routes) p e ⌝ }
     ensures { λ r. ⌜ Starts (edgesOf c) p r ⌝ }
 {
@@ -46,7 +50,7 @@ fn first_dart(c: Cell, routes: &[usize; 108], e: usize, p: usize) -> Dart
 }
 
 // The first dart of crossing p.
-fn start_at(c: Cell, routes: &[usize; 108], p: usize) -> Dart
+fn start_at(c: Cell, routes: &[usize; ROUTES], p: usize) -> Dart
     requires { ⌜ Routed c (now routes) ⌝ }
     requires { ⌜ p < crossings (edgesOf c) ⌝ }
     ensures { λ r. ⌜ Starts (edgesOf c) p r ⌝ }
@@ -68,7 +72,7 @@ pub(crate) fn clear(marks: &mut [u16], n: usize)
 {
     let mut i: usize = 0;
     while i < n {
-        marks[i] = 65535;
+        marks[i] = UNMARKED;
         i += 1;
     }
 }
@@ -91,7 +95,7 @@ pub(crate) fn wipe(halves: &mut [u8], points: &mut [u32], at: usize, n: usize)
 // to is marked with p; it stops where an earlier walk has been, or where there is no room below n for a loop so long.
 fn walk(
     c: Cell,
-    routes: &[usize; 108],
+    routes: &[usize; ROUTES],
     n: usize,
     p: usize,
     at: usize,
@@ -110,7 +114,7 @@ fn walk(
     while i < n {
         let h = d.half;
         halves[i] = h as u8;
-        points[i] = (routes[9 * h + 4] + d.index) as u32;
+        points[i] = (routes[9 * h + routes::START] + d.index) as u32;
         i += 1;
         let Next::On(e) = steps::next(c, routes, d) else {
             return at;

@@ -11,6 +11,7 @@ use cell::Loop;
 use grid::Checked;
 use grid::MOST_EDGES;
 use grid::MOST_SLOTS;
+use triangle::TRIANGLE_WORDS;
 
 pub mod cells;
 mod meshing;
@@ -40,12 +41,12 @@ fn draw(
     ensures { λ r. ⌜ Drawn (now (cells .entry)) (now (counts .entry)) (now (names .entry)) (now (sides .entry)) (now (starts .entry)) (now (area .entry)) (now (area .exit)) (meshNumbers r) ⌝ }
 {
     let most = meshing::most_all(cells, counts, names, sides, starts);
-    if 11 * most <= area.len() {
+    if TRIANGLE_WORDS * most <= area.len() {
         let words = meshing::write_all(cells, counts, names, sides, starts, area);
-        return Meshed::Triangles((words / 11) as u32);
+        return Meshed::Triangles((words / TRIANGLE_WORDS) as u32);
     }
     let n = meshing::count_all(cells, counts, names, sides, starts);
-    if area.len() < 11 * n {
+    if area.len() < TRIANGLE_WORDS * n {
         return Meshed::Refused(12, n);
     }
     meshing::write_all(cells, counts, names, sides, starts, area);

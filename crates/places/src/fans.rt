@@ -13,8 +13,10 @@ ghost use Rattle.places.specs.Work.{tracedFan, tracedMiddle, Room, FansI
 use super::points::middle_of;
 use super::store;
 use cell::Cell;
-use cell::MOST_CROSSINGS;
+use cell::MOST_IN_CELL;
 use cell::MOST_LOOPS;
+use grid::MOST_EDGES;
+use grid::MOST_SLOTS;
 use mesh::cells::cell_at;
 
 // The length of a loop.
@@ -102,9 +104,9 @@ fn write(
 // How many fans the cell has. The lent arrays are those of `cell::trace`, and it leaves them as that does.
 fn fans_in(
     c: Cell,
-    marks: &mut [u16; MOST_CROSSINGS],
-    halves: &mut [u8; MOST_CROSSINGS],
-    points: &mut [u32; MOST_CROSSINGS],
+    marks: &mut [u16; MOST_IN_CELL],
+    halves: &mut [u8; MOST_IN_CELL],
+    points: &mut [u32; MOST_IN_CELL],
     lengths: &mut [u16; MOST_LOOPS],
 ) -> usize
     ensures { λ r. ⌜ FansIn c r ⌝ }
@@ -117,9 +119,9 @@ fn fans_in(
 // Writes the middles of the cell's fans from point `at` on, and answers the next point. The lent arrays are as above.
 fn middles_in(
     c: Cell,
-    marks: &mut [u16; MOST_CROSSINGS],
-    halves: &mut [u8; MOST_CROSSINGS],
-    points: &mut [u32; MOST_CROSSINGS],
+    marks: &mut [u16; MOST_IN_CELL],
+    halves: &mut [u8; MOST_IN_CELL],
+    points: &mut [u32; MOST_IN_CELL],
     lengths: &mut [u16; MOST_LOOPS],
     area: &mut [f64],
     at: usize,
@@ -136,16 +138,16 @@ fn middles_in(
 pub(crate) fn count_fans(
     cells: &[u16],
     counts: &[u8],
-    names: &[u16; 8192],
-    sides: &[u16; 12288],
-    starts: &[u32; 12288],
+    names: &[u16; MOST_SLOTS],
+    sides: &[u16; MOST_EDGES],
+    starts: &[u32; MOST_EDGES],
 ) -> usize
     requires { ⌜ cellCount (now cells) ≤ mostCells ⌝ }
     ensures { λ r. ⌜ (r ≡ tableFans (now (cells .entry)) (now (counts .entry)) (now (names .entry)) (now (sides .entry)) (now (starts .entry))) × (r ≤ mostTriangles) ⌝ }
 {
-    let mut marks = [0u16; MOST_CROSSINGS];
-    let mut halves = [0u8; MOST_CROSSINGS];
-    let mut points = [0u32; MOST_CROSSINGS];
+    let mut marks = [0u16; MOST_IN_CELL];
+    let mut halves = [0u8; MOST_IN_CELL];
+    let mut points = [0u32; MOST_IN_CELL];
     let mut lengths = [0u16; MOST_LOOPS];
     let n = cells.len() / 4;
     let mut t: usize = 0;
@@ -162,18 +164,18 @@ pub(crate) fn count_fans(
 pub(crate) fn write_middles(
     cells: &[u16],
     counts: &[u8],
-    names: &[u16; 8192],
-    sides: &[u16; 12288],
-    starts: &[u32; 12288],
+    names: &[u16; MOST_SLOTS],
+    sides: &[u16; MOST_EDGES],
+    starts: &[u32; MOST_EDGES],
     area: &mut [f64],
     base: usize,
 )
     requires { ⌜ TableRoom (now cells) (now counts) (now names) (now sides) (now starts) (now area) base ⌝ }
     ensures { λ _. ⌜ now (area .exit) ≡ sets (now (area .entry)) (coordinates * base) (allNumbers (tableMiddles (now (cells .entry)) (now (counts .entry)) (now (names .entry)) (now (sides .entry)) (now (starts .entry)) (placeAt (now (area .entry))))) ⌝ }
 {
-    let mut marks = [0u16; MOST_CROSSINGS];
-    let mut halves = [0u8; MOST_CROSSINGS];
-    let mut points = [0u32; MOST_CROSSINGS];
+    let mut marks = [0u16; MOST_IN_CELL];
+    let mut halves = [0u8; MOST_IN_CELL];
+    let mut points = [0u32; MOST_IN_CELL];
     let mut lengths = [0u16; MOST_LOOPS];
     let n = cells.len() / 4;
     let mut i = base;

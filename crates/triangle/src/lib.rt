@@ -8,8 +8,11 @@ ghost use Rattle.triangle.specs.Triangles.{cellTriangles};
 ghost use Rattle.triangle.specs.Answer.{nthOf, nthNumbers, nthAnswer};
 ghost use Rattle.triangle.specs.Fits.{nextAt, areaThen};
 use cell::Cell;
-use cell::MOST_CROSSINGS;
+use cell::MOST_IN_CELL;
 use cell::MOST_LOOPS;
+
+// The words of a triangle in an area.
+pub const TRIANGLE_WORDS: usize = 11;
 
 mod make;
 mod recorded;
@@ -49,9 +52,9 @@ pub enum Nth {
 // How many triangles the cell has. The lent arrays are those of `cell::trace`, and it leaves them as that does.
 pub fn count_in(
     c: Cell,
-    marks: &mut [u16; MOST_CROSSINGS],
-    halves: &mut [u8; MOST_CROSSINGS],
-    points: &mut [u32; MOST_CROSSINGS],
+    marks: &mut [u16; MOST_IN_CELL],
+    halves: &mut [u8; MOST_IN_CELL],
+    points: &mut [u32; MOST_IN_CELL],
     lengths: &mut [u16; MOST_LOOPS],
 ) -> usize
     ensures { λ r. ⌜ (r ≡ length (cellTriangles c)) × (r ≤ mostInCell) ⌝ }
@@ -65,9 +68,9 @@ pub fn count_in(
 // answers `at`. The lent arrays are as above.
 pub fn write_in(
     c: Cell,
-    marks: &mut [u16; MOST_CROSSINGS],
-    halves: &mut [u8; MOST_CROSSINGS],
-    points: &mut [u32; MOST_CROSSINGS],
+    marks: &mut [u16; MOST_IN_CELL],
+    halves: &mut [u8; MOST_IN_CELL],
+    points: &mut [u32; MOST_IN_CELL],
     lengths: &mut [u16; MOST_LOOPS],
     area: &mut [u32],
     at: usize,
@@ -86,9 +89,9 @@ pub fn write_in(
 pub fn triangle_count(c: Cell) -> usize
     ensures { λ r. ⌜ (r ≡ length (cellTriangles c)) × (r ≤ mostInCell) ⌝ }
 {
-    let mut marks = [0u16; MOST_CROSSINGS];
-    let mut halves = [0u8; MOST_CROSSINGS];
-    let mut points = [0u32; MOST_CROSSINGS];
+    let mut marks = [0u16; MOST_IN_CELL];
+    let mut halves = [0u8; MOST_IN_CELL];
+    let mut points = [0u32; MOST_IN_CELL];
     let mut lengths = [0u16; MOST_LOOPS];
     count_in(c, &mut marks, &mut halves, &mut points, &mut lengths)
 }
@@ -97,9 +100,9 @@ pub fn triangle_count(c: Cell) -> usize
 pub fn triangle_at(c: Cell, t: usize) -> Nth
     ensures { λ r. ⌜ (r ≡ nthOf (cellTriangles c) t) × (nthNumbers r ≡ nthAnswer (cellTriangles c) t) ⌝ }
 {
-    let mut marks = [0u16; MOST_CROSSINGS];
-    let mut halves = [0u8; MOST_CROSSINGS];
-    let mut points = [0u32; MOST_CROSSINGS];
+    let mut marks = [0u16; MOST_IN_CELL];
+    let mut halves = [0u8; MOST_IN_CELL];
+    let mut points = [0u32; MOST_IN_CELL];
     let mut lengths = [0u16; MOST_LOOPS];
     let n = cell::trace(c, &mut marks, &mut halves, &mut points, &mut lengths);
     recorded::seek(c, n, &lengths, &halves, &points, t)
@@ -109,9 +112,9 @@ pub fn triangle_at(c: Cell, t: usize) -> Nth
 pub fn write_cell(c: Cell, area: &mut [u32], at: usize) -> usize
     ensures { λ r. ⌜ (r ≡ nextAt c (now (area .entry)) at) × (now (area .exit) ≡ areaThen c (now (area .entry)) at) ⌝ }
 {
-    let mut marks = [0u16; MOST_CROSSINGS];
-    let mut halves = [0u8; MOST_CROSSINGS];
-    let mut points = [0u32; MOST_CROSSINGS];
+    let mut marks = [0u16; MOST_IN_CELL];
+    let mut halves = [0u8; MOST_IN_CELL];
+    let mut points = [0u32; MOST_IN_CELL];
     let mut lengths = [0u16; MOST_LOOPS];
     write_in(
         c,

@@ -7,6 +7,7 @@ ghost use lib.Seq.{sets};
 ghost use Rattle.triangle.specs.Words.{wordCount, allWords};
 ghost use Rattle.triangle.specs.Triangles.{manyBy};
 ghost use Rattle.triangle.specs.Traced.{RecordedLoop, tracedTriangles};
+use super::TRIANGLE_WORDS;
 use super::make::many;
 use super::make::triangle_of;
 use super::words::put;
@@ -33,7 +34,7 @@ pub(crate) fn write_loop(
     while k < m {
         let t = triangle_of(c, halves, points, n, two, k);
         put(area, i, t);
-        i += 11;
+        i += TRIANGLE_WORDS;
         k += 1;
     }
     i
