@@ -308,7 +308,7 @@ fn put_slot(c: Cell, t: &mut [usize; ROUTES], s: usize, ab: Run, ac: Run, bc: Ru
 }
 
 // The routes of the cell. Slot by slot at constant places, so that the compiler works the tables out: a loop over the slots is slower (SPEED.md).
-pub fn routes_of(c: Cell) -> [usize; ROUTES]
+pub(crate) fn routes_of(c: Cell) -> [usize; ROUTES]
     ensures { λ r. ⌜ Routed c r ⌝ }
 {
     let firsts = firsts_of(c);
