@@ -2,8 +2,6 @@ use mathlib.Core.Path.{sym, ap, _∙_}
 use native.Mathlib.Omega.{arith}
 use lib.Seq.{length-take-le}
 use Rattle.bundle.specs.Bundle.{contentsNumbers}
-use Rattle.listing.specs.Listing.{roomBytes}
-use Rattle.listing.proofs.Stores.{wider}
 use Rattle.listing.proofs.Bundles.{read-refused, few-cells, few-edges, nodes-front, ends-front, counts-front, read-listed, too-long, all-listed}
 use borrow.Author.Needs.{needs}
 use Rattle.listing.proofs.list.Statement.{statement}
@@ -13,7 +11,7 @@ put-refused-requires : tie.Need-put-refused-requires
 put-refused-requires c κs = search needs
 
 returns : tie.Need-returns
-returns c = all-listed (c .before .before .before .before .args .bytes .now) (wider (c .put-refused .ensures) roomBytes (omega arith)) (too-long (c .before .before .before .before .args .bytes .now) (omega arith)) (search needs)
+returns c = all-listed (c .before .before .before .before .args .bytes .now) (c .put-refused .ensures .0) (omega arith) (too-long (c .before .before .before .before .args .bytes .now) (omega arith)) (search needs)
 
 slice-aggregate-read : tie.Need-slice-aggregate-read
 slice-aggregate-read c = search needs
@@ -64,10 +62,10 @@ list-grid-requires : tie.Need-list-grid-requires
 list-grid-requires c κs = search needs
 
 returns-2 : tie.Need-returns-2
-returns-2 c = all-listed (c .before .before .before .before .before .before .before .before .before .before .before .before .before .before .args .bytes .now) (wider (c .put-refused2 .ensures) roomBytes (omega arith)) (read-refused (c .before .before .before .before .before .before .before .before .before .before .before .before .before .before .args .bytes .now) (c .before .before .before .before .before .before .before .before .before .before .before .before .if1 .left) _ _ (sym (ap contentsNumbers (c .before .before .before .row .given .1)) ∙ c .before .before .before .before .before .before .before .before .read .ensures .0)) (search needs)
+returns-2 c = all-listed (c .before .before .before .before .before .before .before .before .before .before .before .before .before .before .args .bytes .now) (c .put-refused2 .ensures .0) (omega arith) (read-refused (c .before .before .before .before .before .before .before .before .before .before .before .before .before .before .args .bytes .now) (c .before .before .before .before .before .before .before .before .before .before .before .before .if1 .left) _ _ (sym (ap contentsNumbers (c .before .before .before .row .given .1)) ∙ c .before .before .before .before .before .before .before .before .read .ensures .0)) (search needs)
 
 returns-3 : tie.Need-returns-3
-returns-3 c = all-listed (c .before .before .before .before .before .before .before .before .before .before .before .before .before .before .before .before .before .args .bytes .now) (c .list-grid .ensures) (read-listed (c .before .before .before .before .before .before .before .before .before .before .before .before .before .before .before .before .before .args .bytes .now) (c .before .before .before .before .before .before .before .before .before .before .before .before .before .before .before .if1 .left) _ _ (sym (ap contentsNumbers (c .before .before .before .before .before .before .cells .given .1)) ∙ c .before .before .before .before .before .before .before .before .before .before .before .read .ensures .0) _ _ _ (nodes-front (c .before .before .before .before .before .before .before .before .before .before .before .before .before .before .before .before .before .args .bytes .now) (c .before .before .before .before .before .before .before .before .before .before .before .before .before .before .before .if1 .left) _ _ (sym (ap contentsNumbers (c .before .before .before .before .before .before .cells .given .1)) ∙ c .before .before .before .before .before .before .before .before .before .before .before .read .ensures .0) _ _ (c .before .before .before .before .before .before .before .before .before .before .before .read .ensures .1 .0)) (ends-front (c .before .before .before .before .before .before .before .before .before .before .before .before .before .before .before .before .before .args .bytes .now) (c .before .before .before .before .before .before .before .before .before .before .before .before .before .before .before .if1 .left) _ _ (sym (ap contentsNumbers (c .before .before .before .before .before .before .cells .given .1)) ∙ c .before .before .before .before .before .before .before .before .before .before .before .read .ensures .0) _ _ (c .before .before .before .before .before .before .before .before .before .before .before .read .ensures .1 .1 .0)) (counts-front (c .before .before .before .before .before .before .before .before .before .before .before .before .before .before .before .before .before .args .bytes .now) (c .before .before .before .before .before .before .before .before .before .before .before .before .before .before .before .if1 .left) _ _ (sym (ap contentsNumbers (c .before .before .before .before .before .before .cells .given .1)) ∙ c .before .before .before .before .before .before .before .before .before .before .before .read .ensures .0) _ _ (c .before .before .before .before .before .before .before .before .before .before .before .read .ensures .1 .1 .1))) (search needs)
+returns-3 c = all-listed (c .before .before .before .before .before .before .before .before .before .before .before .before .before .before .before .before .before .args .bytes .now) (c .list-grid .ensures .0) (omega arith) (read-listed (c .before .before .before .before .before .before .before .before .before .before .before .before .before .before .before .before .before .args .bytes .now) (c .before .before .before .before .before .before .before .before .before .before .before .before .before .before .before .if1 .left) _ _ (sym (ap contentsNumbers (c .before .before .before .before .before .before .cells .given .1)) ∙ c .before .before .before .before .before .before .before .before .before .before .before .read .ensures .0) _ _ _ (nodes-front (c .before .before .before .before .before .before .before .before .before .before .before .before .before .before .before .before .before .args .bytes .now) (c .before .before .before .before .before .before .before .before .before .before .before .before .before .before .before .if1 .left) _ _ (sym (ap contentsNumbers (c .before .before .before .before .before .before .cells .given .1)) ∙ c .before .before .before .before .before .before .before .before .before .before .before .read .ensures .0) _ _ (c .before .before .before .before .before .before .before .before .before .before .before .read .ensures .1 .0)) (ends-front (c .before .before .before .before .before .before .before .before .before .before .before .before .before .before .before .before .before .args .bytes .now) (c .before .before .before .before .before .before .before .before .before .before .before .before .before .before .before .if1 .left) _ _ (sym (ap contentsNumbers (c .before .before .before .before .before .before .cells .given .1)) ∙ c .before .before .before .before .before .before .before .before .before .before .before .read .ensures .0) _ _ (c .before .before .before .before .before .before .before .before .before .before .before .read .ensures .1 .1 .0)) (counts-front (c .before .before .before .before .before .before .before .before .before .before .before .before .before .before .before .before .before .args .bytes .now) (c .before .before .before .before .before .before .before .before .before .before .before .before .before .before .before .if1 .left) _ _ (sym (ap contentsNumbers (c .before .before .before .before .before .before .cells .given .1)) ∙ c .before .before .before .before .before .before .before .before .before .before .before .read .ensures .0) _ _ (c .before .before .before .before .before .before .before .before .before .before .before .read .ensures .1 .1 .1))) (search needs)
 
 pub list-spec : {M : Type 1} → statement M
 list-spec =
