@@ -1,5 +1,5 @@
 -- The listing of a grid, from the answers of the check and of the mesh call. Assumes nothing.
-use Prim.Native.Nat.{ℕ, _+_, _*_, _/_, _≤_, _<_}
+use Prim.Native.Nat.{ℕ, _+_, _*_, _≤_, _<_}
 use mathlib.Core.Path.{_≡_, refl, sym, ap, ap₂, _∙_}
 use mathlib.Core.Bool.{Bool, true, false}
 use mathlib.Core.List.{List, [], _∷_, _++_}
@@ -14,7 +14,7 @@ use Rattle.counting.specs.Pick.{pick}
 use Rattle.counting.specs.Range.{over}
 use Rattle.counting.proofs.Range.{over-ext}
 use Rattle.counting.proofs.Fronts.{sets-front}
-use Rattle.grid.specs.Grid.{Grid, crossings}
+use Rattle.grid.specs.Grid.{Grid, cellCount, crossings}
 use Rattle.grid.specs.Rows.{gridAnswer}
 use Rattle.grid.specs.Tables.{accepts}
 use Rattle.grid.proofs.Claims.{accepted-is, never-empty}
@@ -125,12 +125,12 @@ module _ (G : Grid) where
       few = omega (arith, room-total mesh t before answered, room-fits mesh t before answered, room)
 
       -- the text that is put is the listing
-      pub listed : head (length (G .cells) / 4) (length (G .counts)) x t ++ over (line after) t 0 ≡ gridListing G
+      pub listed : head (cellCount (G .cells)) (length (G .counts)) x t ++ over (line after) t 0 ≡ gridListing G
       unfolding gridListing meshListing mesh
       listed =
           let total = room-total mesh t before answered in
-          ap (λ (l : List ℕ). head (length (G .cells) / 4) (length (G .counts)) x t ++ over (line l) t 0) stored
-          ∙ ap (λ (l : List ℕ). head (length (G .cells) / 4) (length (G .counts)) x t ++ l)
+          ap (λ (l : List ℕ). head (cellCount (G .cells)) (length (G .counts)) x t ++ over (line l) t 0) stored
+          ∙ ap (λ (l : List ℕ). head (cellCount (G .cells)) (length (G .counts)) x t ++ l)
           (same-lines (meshWords G) before t (omega (arith, total, long)) (omega (arith, long, room-fits mesh t before answered)))
-          ∙ ap₂ (λ y k. head (length (G .cells) / 4) (length (G .counts)) y k ++ over (line (meshWords G)) k 0) all-crossings total
+          ∙ ap₂ (λ y k. head (cellCount (G .cells)) (length (G .counts)) y k ++ over (line (meshWords G)) k 0) all-crossings total
           ∙ or-result (t ∷ []) _ (meshListing G) (answer ∙ ap (meshAnswer G) room)
