@@ -12,7 +12,7 @@ use Rattle.counting.proofs.Stored.{stored-long, stored-front}
 use Rattle.bundle.specs.Record.{cellSize, edgeSize, brokenRow}
 use Rattle.bundle.specs.Bundle.{cellNodes, edgeEnds, bundleAnswer, isBundle, isTaken, readAnswer, nodesOf, endsOf, countsOf, writtenOver, leaves}
 use Rattle.bundle.proofs.Fills.{length-nodes, length-ends, length-counts, bundle-size}
-use Rattle.bundle.proofs.Answers.{bundle-answer, accepted, accepted-cells, accepted-edges, refused, rejected, read-bundle, read-taken, read-lists, left-front}
+use Rattle.bundle.proofs.Answers.{bundle-answer, accepted, accepted-cells, accepted-edges, refused, rejected, read-taken, read-lists, left-front}
 use Rattle.grid.specs.Grid.{gridOf}
 use Rattle.listing.specs.Text.{refusedLine}
 use Rattle.listing.specs.Listing.{mostBytes, cellsInBundle, edgesInBundle, roomBytes, gridListing, bundleListing, listing, Listed}
