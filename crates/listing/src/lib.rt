@@ -10,7 +10,6 @@ ghost use Rattle.grid.specs.Rows.{gridAnswer};
 ghost use Rattle.listing.specs.Listing.{roomBytes, gridListing, Listed};
 use crate::lines::HEAD_ROOM;
 use crate::lines::LINE_ROOM;
-use crate::lines::WORDS;
 use bundle::BROKEN_ROW;
 use bundle::CELL_BYTES;
 use bundle::CELL_NODES;
@@ -20,6 +19,7 @@ use bundle::EDGE_ENDS;
 use bundle::END_BYTES;
 use grid::Checked;
 use mesh::Meshed;
+use triangle::WORD_COUNT;
 
 mod lines;
 mod text;
@@ -34,7 +34,7 @@ const EDGES_IN_BUNDLE: usize = (MOST_BYTES - END_BYTES) / EDGE_BYTES;
 // The triangles that the area holds, and its words.
 const AREA_TRIANGLES: usize = 1489;
 
-const AREA_WORDS: usize = WORDS * AREA_TRIANGLES;
+const AREA_WORDS: usize = WORD_COUNT * AREA_TRIANGLES;
 
 // Bytes for the longest listing: a first line of 116, and 1,489 lines of 123.
 pub const ROOM: usize = HEAD_ROOM + LINE_ROOM * AREA_TRIANGLES;

@@ -10,14 +10,12 @@ use crate::text::WORD_ROOM;
 use crate::text::put;
 use crate::text::put_named;
 use crate::text::put_word;
-
-// The words of a triangle.
-pub(crate) const WORDS: usize = 11;
+use triangle::WORD_COUNT;
 
 // The most bytes of the first line: 35 of labels, four numbers and a newline; and of a triangle's line.
 pub(crate) const HEAD_ROOM: usize = 35 + 4 * LONGEST + 1;
 
-pub(crate) const LINE_ROOM: usize = 1 + WORDS * WORD_ROOM + 1;
+pub(crate) const LINE_ROOM: usize = 1 + WORD_COUNT * WORD_ROOM + 1;
 
 // The line of a refusal, at the front.
 pub(crate) fn put_refused(out: &mut [u8], row: u8, place: usize) -> usize
@@ -57,8 +55,8 @@ fn put_words(out: &mut [u8], at: usize, area: &[u32], t: usize) -> usize
 {
     let mut end = at;
     let mut j: usize = 0;
-    while j < WORDS {
-        end = put_word(out, end, area[WORDS * t + j]);
+    while j < WORD_COUNT {
+        end = put_word(out, end, area[WORD_COUNT * t + j]);
         j += 1;
     }
     end

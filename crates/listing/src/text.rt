@@ -4,9 +4,7 @@ ghost use Prim.Native.Nat.{_+_, _≤_};
 ghost use lib.ListN.{length};
 ghost use Rattle.counting.specs.Stored.{Stored};
 ghost use Rattle.listing.specs.Text.{longest, wordRoom, decimal, named, wordText};
-
-// The word that stands for no crossing and no face.
-const NONE: u32 = 4294967295;
+use triangle::NO_NAME;
 
 // The most digits of a number of 64 bits; and the most bytes of a word of 32 bits and the blank before it.
 pub(crate) const LONGEST: usize = 20;
@@ -63,7 +61,7 @@ pub(crate) fn put_word(out: &mut [u8], at: usize, word: u32) -> usize
     ensures stored { λ r. ⌜ Stored (now (out .entry)) at (wordText word) (now (out .exit)) r ⌝ }
     ensures few { λ r. ⌜ r ≤ at + wordRoom ⌝ }
 {
-    if word == NONE {
+    if word == NO_NAME {
         return put(out, at, b" -");
     }
     let end = put(out, at, b" ");

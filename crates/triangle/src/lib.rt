@@ -15,6 +15,9 @@ mod make;
 mod words;
 mod write;
 
+pub use words::NO_NAME;
+pub use words::WORD_COUNT;
+
 // A corner of a triangle: a crossing by its number, or the middle point of the triangle's loop.
 pub enum Corner {
     Crossing(u32),
@@ -142,7 +145,7 @@ pub fn write_cell(c: Cell, area: &mut [u32], at: usize) -> usize
     if area.len() < at {
         return at;
     }
-    if area.len() - at < 11 * t {
+    if area.len() - at < WORD_COUNT * t {
         return at;
     }
     write_in(c, &mut marks, &mut halves, &mut points, area, at)

@@ -9,6 +9,7 @@ ghost use Rattle.triangle.specs.Triangles.{manyBy};
 ghost use Rattle.triangle.specs.Traced.{Traced, tracedTriangles};
 use super::make::many;
 use super::make::triangle_of;
+use super::words::WORD_COUNT;
 use super::words::put;
 use cell::Cell;
 
@@ -33,7 +34,7 @@ pub(crate) fn write_loop(
     while k < m {
         let t = triangle_of(c, halves, points, n, two, k);
         put(area, i, t);
-        i += 11;
+        i += WORD_COUNT;
         k += 1;
     }
     i
