@@ -15,7 +15,8 @@ use Rattle.answer.specs.Answer.{result}
 use Rattle.counting.specs.Pick.{pick, one}
 use Rattle.counting.specs.Range.{total, over, after, before}
 use Rattle.counting.specs.Lists.{tally}
-use Rattle.counting.proofs.Range.{total-ext, total-next, total-round, before-after, after-last, after-on, after-lt, over-next, over-none}
+use Rattle.counting.specs.Stored.{Summed}
+use Rattle.counting.proofs.Range.{total-ext, total-round, before-after, after-last, after-on, after-lt, over-next, over-none}
 use Rattle.slots.specs.Slots.{place, firstSlot}
 use Rattle.slots.proofs.Slots.{two-slots}
 use Rattle.walk.specs.Iterate.{it}
@@ -40,18 +41,6 @@ use Rattle.cell.proofs.Lay.{lay}
 use Rattle.cell.proofs.Step.{number-first, number-second, slot-first, slot-second, step-is}
 use Rattle.cell.proofs.Mates.{slot-has, ports, darts, laws}
 
--- a sum of k ones and zeros on the way
-pub record Summed (g : ℕ → ℕ) (k x : ℕ) : Type 0 where
-  pub is : x ≡ total g k 0
-  pub few : x ≤ k
-
-pub summed-none : (g : ℕ → ℕ) → Summed g 0 0
-unfolding total
-summed-none g = record { is = refl; few = omega arith }
-
-pub summed-more : {g : ℕ → ℕ} {k x : ℕ} → Summed g k x → (y : ℕ) → y ≡ g k → y ≤ 1 → Summed g (k + 1) (x + y)
-summed-more {g} {k} {x} S y e h = record { is = omega (arith, S .is, total-next g k); few = omega (arith, S .few) }
-
 -- the folded segments of a record, each counted at the place that it comes to
 module _ (l : List ℕ) (n : ℕ) where
   unfoldable pub foldAt : ℕ → ℕ
@@ -61,7 +50,7 @@ module _ (l : List ℕ) (n : ℕ) where
   unfolding foldsIn total
   folds-none e = rw e
 
-  pub folds-all : {k x : ℕ} → Summed foldAt k x → k ≡ n → x ≡ foldsIn l n
+  pub folds-all : {k x : ℕ} → Summed foldAt 1 k x → k ≡ n → x ≡ foldsIn l n
   unfolding foldsIn foldAt
   folds-all {k} {x} S e =
       S .is ∙ ap (λ m. total foldAt m 0) e ∙ sym (total-round foldAt n)
