@@ -11,13 +11,13 @@ use cell::Cell;
 use cell::MOST_IN_CELL;
 use cell::MOST_LOOPS;
 
-// The words of a triangle in an area.
-pub const TRIANGLE_WORDS: usize = 11;
-
 mod make;
 mod recorded;
 mod words;
 mod write;
+
+pub use words::NO_NAME;
+pub use words::WORD_COUNT;
 
 // A corner of a triangle: a crossing by its number, or the middle point of the triangle's loop.
 pub enum Corner {

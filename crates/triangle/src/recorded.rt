@@ -10,11 +10,11 @@ ghost use Rattle.triangle.specs.Triangles.{cellTriangles};
 ghost use Rattle.triangle.specs.Answer.{nthOf, nthNumbers, nthAnswer};
 ghost use Rattle.triangle.specs.Traced.{Held};
 use super::Nth;
-use super::TRIANGLE_WORDS;
 use super::make::in_two;
 use super::make::many;
 use super::make::size;
 use super::make::triangle_of;
+use super::words::WORD_COUNT;
 use super::write::write_loop;
 use cell::Cell;
 
@@ -84,10 +84,10 @@ pub(crate) fn has_room(
     if room < at {
         return false;
     }
-    if TRIANGLE_WORDS * cell::crossings_of(c) <= room - at {
+    if WORD_COUNT * cell::crossings_of(c) <= room - at {
         return true;
     }
-    if room - at < TRIANGLE_WORDS * count(c, n, lengths, halves, points) {
+    if room - at < WORD_COUNT * count(c, n, lengths, halves, points) {
         return false;
     }
     true

@@ -9,8 +9,11 @@ use super::Corner;
 use super::Side;
 use super::Triangle;
 
+// The words of a triangle.
+pub const WORD_COUNT: usize = 11;
+
 // The word that stands for no crossing and no face.
-const NO_NAME: u32 = 4294967295;
+pub const NO_NAME: u32 = 4294967295;
 
 fn corner_word(x: Corner) -> u32
     ensures { λ r. ⌜ r ≡ cornerWord x ⌝ }

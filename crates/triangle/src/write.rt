@@ -7,9 +7,9 @@ ghost use lib.Seq.{sets};
 ghost use Rattle.triangle.specs.Words.{wordCount, allWords};
 ghost use Rattle.triangle.specs.Triangles.{manyBy};
 ghost use Rattle.triangle.specs.Traced.{RecordedLoop, tracedTriangles};
-use super::TRIANGLE_WORDS;
 use super::make::many;
 use super::make::triangle_of;
+use super::words::WORD_COUNT;
 use super::words::put;
 use cell::Cell;
 
@@ -34,7 +34,7 @@ pub(crate) fn write_loop(
     while k < m {
         let t = triangle_of(c, halves, points, n, two, k);
         put(area, i, t);
-        i += TRIANGLE_WORDS;
+        i += WORD_COUNT;
         k += 1;
     }
     i
