@@ -1,12 +1,11 @@
 -- Laws of tests.
 use Prim.Native.Nat.{ℕ}
-use mathlib.Core.Path.{_≡_, refl, sym, _∙_}
+use mathlib.Core.Path.{_≡_, refl, sym}
 use mathlib.Core.Logic.{_⊎_, inl, inr}
 use mathlib.Core.Bool.{Bool, true, false, not, _&&_, _||_}
 use native.Mathlib.Omega.{arith}
 use lib.Dec.{eqb}
 use borrow.Author.Tests.{eqb-true, eqb-false, eq-eqb, ne-eqb}
-use Rattle.counting.specs.Pick.{pick}
 
 -- a test does not both hold and fail
 pub clash : {A : Type 0} {b : Bool} → b ≡ true → b ≡ false → A
@@ -16,10 +15,6 @@ clash e f = let z : _≡_ {A = ℕ} 0 1 = cc in absurd (omega arith)
 pub holds-or : (b : Bool) → (b ≡ true) ⊎ (b ≡ false)
 holds-or true = inl refl
 holds-or false = inr refl
-
-pub pick-self : (b : Bool) → b ≡ pick b true false
-pick-self true = refl
-pick-self false = refl
 
 pub and-true : (a b : Bool) → a ≡ true → b ≡ true → (a && b) ≡ true
 and-true true true e f = refl

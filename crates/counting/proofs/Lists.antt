@@ -1,8 +1,8 @@
 -- Laws of sums, tests and properties over a list.
 use Prim.Native.Nat.{ℕ, zero, suc, _+_, _*_, _≤_, _<_}
 use mathlib.Core.Path.{_≡_, refl, sym, ap, ap₂, _∙_, subst}
-use mathlib.Core.Logic.{_≢_, ⊎-elim}
-use mathlib.Core.Bool.{Bool, true, false}
+use mathlib.Core.Logic.{⊎-elim}
+use mathlib.Core.Bool.{Bool}
 use mathlib.Core.List.{List, [], _∷_, _++_, map, map-append}
 use native.Mathlib.Nat.{zero-add, add-assoc, mul-zero, mul-one, mul-add, not-suc-le-zero, eq-or-lt-of-le}
 use native.Mathlib.Omega.{arith}
@@ -11,9 +11,9 @@ use lib.ListN.{length, getD, length-append, List·getD-append}
 use lib.Seq.{getD-append-add}
 use borrow.Author.Tests.{eq-eqb, ne-eqb}
 use Rattle.counting.specs.Pick.{one}
-use Rattle.counting.specs.Range.{total, over}
+use Rattle.counting.specs.Range.{total, over, values}
 use Rattle.counting.specs.Lists.{weigh, tally, All}
-use Rattle.counting.proofs.Range.{total-zero, total-single, total-add, total-le, total-shift, total-ext}
+use Rattle.counting.proofs.Range.{total-zero, total-single, total-add, total-le, total-shift, total-ext, over-ext}
 
 module _ {A : Type 0} (h : A → ℕ) where
   pub weigh-append : (l m : List A) → weigh h (l ++ m) ≡ weigh h l + weigh h m
@@ -47,15 +47,6 @@ module _ {A : Type 0} (t : A → Bool) where
   unfolding tally over total
   tally-over f zero p = refl
   tally-over f (suc n) p = tally-append (f p) (over f n (suc p)) ∙ ap (λ m. tally t (f p) + m) (tally-over f n (suc p))
-
-  pub tally-le : (l : List A) → tally t l ≤ length l
-  unfolding tally
-  tally-le [] = omega arith
-  tally-le (x ∷ l) = go (t x) (tally-le l)
-    where
-      go : (b : Bool) → tally t l ≤ length l → one b + tally t l ≤ suc (length l)
-      go true h = omega arith
-      go false h = omega arith
 
 module _ {A : Type 0} (P : A → Type 0) where
   pub all-append : (l m : List A) → All P l → All P m → All P (l ++ m)
@@ -117,6 +108,12 @@ module _ {A : Type 0} (f : ℕ → A) where
   getD-singles d zero p k l = absurd (not-suc-le-zero l)
   getD-singles d (suc n) p zero l = let e : p ≡ p + 0 = omega arith in ap f e
   getD-singles d (suc n) p (suc k) l = let e : suc p + k ≡ p + suc k = omega arith in getD-singles d n (suc p) k (omega arith) ∙ ap f e
+
+  pub values-at : (n k : ℕ) (d : A) → k < n → getD (values f n) k d ≡ f k
+  values-at n k d l = getD-singles d n 0 k l ∙ ap f (zero-add k)
+
+pub values-ext : {A : Type 0} (f g : ℕ → A) (n : ℕ) → ((i : ℕ) → i < n → f i ≡ g i) → values f n ≡ values g n
+values-ext {A} f g n h = over-ext (λ i. f i ∷ []) (λ i. g i ∷ []) n 0 (λ i a b. ap (λ (x : A). x ∷ []) (h i (omega arith)))
 
 module _ {A : Type 0} (d : A) where
   -- v stands in the list

@@ -3,7 +3,6 @@ use Prim.Native.Nat.{ℕ, _≤_, _<_}
 use mathlib.Core.Path.{_≡_, refl}
 use mathlib.Core.Logic.{inl, inr, _≢_}
 use mathlib.Core.Bool.{Bool, true, false}
-use native.Mathlib.Decide.{decLt}
 use native.Mathlib.Omega.{arith}
 use lib.Dec.{eqb, ltb}
 use borrow.Author.Tests.{eqb-true, eqb-false, ltb-true, ltb-false}
@@ -30,14 +29,3 @@ onto n f bound apart x l = go (least (λ i. eqb (f i) x) n)
         g-apart i j a h true true p q = apart i j a (ltb-true j n q)
         g-apart i j a h true false p q = eqb-false (f i) x (none i (ltb-true i n p))
         g-apart i j a h false c p q = absurd (omega (arith, ltb-false i n p))
-
--- a rising map is one to one
-pub rise-once : (f : ℕ → ℕ) (n : ℕ) → ((i j : ℕ) → i < j → j < n → f i < f j) → (i j : ℕ) → i < n → j < n → f i ≡ f j → i ≡ j
-rise-once f n rise i j li lj e =
-    elim (decLt i j) [
-      | yes h ↦ absurd (omega (arith, rise i j h lj))
-      | no h ↦ elim (decLt j i) [
-        | yes k ↦ absurd (omega (arith, rise j i k li))
-        | no k ↦ omega arith
-      ]
-    ]

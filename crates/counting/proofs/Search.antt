@@ -1,6 +1,6 @@
 -- Laws of searches and of counts.
 use Prim.Native.Nat.{ℕ, zero, suc, _+_, _*_, _-_, _/_, _%_, _≤_, _<_}
-use mathlib.Core.Path.{_≡_, refl, sym, ap, ap₂, _∙_}
+use mathlib.Core.Path.{_≡_, refl, sym, ap, _∙_}
 use mathlib.Core.Logic.{_⊎_, inl, inr, ⊎-elim}
 use mathlib.Core.Bool.{Bool, true, false, _&&_, _||_}
 use native.Mathlib.Omega.{arith}
@@ -201,11 +201,6 @@ module _ (t : ℕ → Bool) where
       go ih true e l h = absurd (omega arith)
       go ih false e l h = ⊎-elim (λ (q : i ≡ n). rw q e) (λ (g : i < n). ih l g) (below-or i n h)
 
-  pub last-not : (n : ℕ) → ((i : ℕ) → i < n → t i ≡ false) → last t n ≡ 0
-  unfolding last
-  last-not zero h = refl
-  last-not (suc n) h = rw (h n (omega arith)) (last-not n (λ i l. h i (omega arith)))
-
   pub last-at : (n m : ℕ) → m < n → t m ≡ true → ((i : ℕ) → m < i → i < n → t i ≡ false) → last t n ≡ m + 1
   unfolding last
   last-at zero m l e h = absurd (not-suc-le-zero l)
@@ -245,11 +240,6 @@ module _ (t u : ℕ → Bool) where
   unfolding some
   some-ext zero h = refl
   some-ext (suc n) h = rw (h n (omega arith), some-ext n (λ i l. h i (omega arith)))
-
-  pub every-ext : (n : ℕ) → ((i : ℕ) → i < n → t i ≡ u i) → every t n ≡ every u n
-  unfolding every
-  every-ext zero h = refl
-  every-ext (suc n) h = rw (h n (omega arith), every-ext n (λ i l. h i (omega arith)))
 
   pub count-ext : (n : ℕ) → ((i : ℕ) → i < n → t i ≡ u i) → count t n ≡ count u n
   unfolding count

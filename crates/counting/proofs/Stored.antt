@@ -1,16 +1,18 @@
 -- Laws of what is stored or summed so far, over the type of the entries, their number and their width.
 use Prim.Native.Nat.{ℕ, _+_, _*_, _≤_, _<_}
-use mathlib.Core.Path.{_≡_, refl, sym, ap, _∙_}
-use mathlib.Core.List.{List, [], _∷_, _++_}
-use native.Mathlib.Nat.{add-zero, mul-suc}
+use mathlib.Core.Path.{_≡_, refl, sym, ap, ap₂, _∙_}
+use mathlib.Core.List.{List, [], _∷_, _++_, append-nil}
+use native.Mathlib.Nat.{zero-add, add-zero, mul-suc}
 use native.Mathlib.Numerals.{add-one}
 use native.Mathlib.Omega.{arith}
-use lib.ListN.{length, getD, take, drop, set, length-append}
-use lib.Seq.{sets, length-sets, take-suc, take-all}
-use Rattle.counting.specs.Range.{over, total}
-use Rattle.counting.specs.Stored.{Stored, Summed}
+use lib.ListN.{length, getD, drop, set, length-append}
+use lib.Seq.{sets, length-sets, drop-length}
+use Rattle.counting.specs.Range.{over, total, values}
+use Rattle.counting.specs.Stored.{Stored, Summed, filled}
 use Rattle.counting.proofs.Range.{total-next}
-use Rattle.counting.proofs.Fronts.{sets-append, sets-front, over-more}
+use Rattle.counting.proofs.Lists.{length-singles, values-ext, values-at}
+use Rattle.counting.proofs.Fronts.{sets-append, sets-front, over-more, over-split, over-shift}
+use Rattle.counting.proofs.Stores.{getD-sets-in}
 
 module _ {A : Type 0} where
   pub stored-none : (was : List A) (at : ℕ) → Stored was at [] was at
@@ -42,14 +44,60 @@ module _ {A : Type 0} where
   pub stored-more : (f : ℕ → List A) (k : ℕ) {was mid is : List A} {at m n : ℕ} → Stored was at (over f k 0) mid m → Stored mid m (f k) is n → Stored was at (over f (k + 1) 0) is n
   stored-more f k S T = stored-as (stored-then S T) (sym (over-more f k)) refl
 
-  -- one entry more of a list
-  pub stored-entry : (l : List A) (i : ℕ) (d : A) {was mid : List A} {at m : ℕ} → Stored was at (take i l) mid m → i < length l
-      → Stored was at (take (i + 1) l) (set mid m (getD l i d)) (m + 1)
-  stored-entry l i d {was} {mid} {at} {m} S h =
-      stored-as (stored-then S (stored-one mid m (getD l i d))) (sym (ap (λ k. take k l) (add-one i) ∙ take-suc l i d h)) refl
+  -- one value more, after k of them from the place a on
+  pub sets-more : (f : ℕ → A) (a k : ℕ) (l m : List A) (i : ℕ) (x : A) → m ≡ sets l a (values f k) → i ≡ a + k → x ≡ f k → set m i x ≡ sets l a (values f (k + 1))
+  sets-more f a k l m i x e p q =
+      ap₂ (λ (m : List A) x. set m i x) e q
+      ∙ ap (λ i. set (sets l a (values f k)) i (f k)) (p ∙ ap (λ n. a + n) (sym (length-singles f k 0)))
+      ∙ sym (sets-append l a (values f k) (f k ∷ []))
+      ∙ ap (sets l a) (sym (over-more (λ i. f i ∷ []) k))
 
-  pub stored-all : (l : List A) (i : ℕ) {was is : List A} {at n : ℕ} → Stored was at (take i l) is n → length l ≤ i → Stored was at l is n
-  stored-all l i S h = stored-as S (take-all i l h) refl
+  -- a list filled from the front
+  module _ (f : ℕ → A) where
+    pub filled-none : (l : List A) → l ≡ filled f 0 l
+    unfolding filled over
+    filled-none l = refl
+
+    pub filled-more : (n : ℕ) (l m : List A) (x : A) → m ≡ filled f n l → x ≡ f n → set m n x ≡ filled f (n + 1) l
+    unfolding filled
+    filled-more n l m x e q = sets-more f 0 n l m n x e (sym (zero-add n)) q
+
+    -- w values more
+    pub filled-block : (n w : ℕ) (l m : List A) → m ≡ filled f n l → sets m n (values (λ k. f (n + k)) w) ≡ filled f (n + w) l
+    unfolding filled
+    filled-block n w l m e =
+        let g : ℕ → List A = λ i. f i ∷ [] in
+        let z : n + 0 ≡ 0 + n = omega arith in
+        let k : n ≡ 0 + length (values f n) = omega (arith, length-singles f n 0) in
+        ap₂ (λ (m v : List A). sets m n v) e (over-shift g n w 0 ∙ ap (over g w) z)
+        ∙ ap (λ i. sets (sets l 0 (values f n)) i (over g w (0 + n))) k
+        ∙ sym (sets-append l 0 (values f n) (over g w (0 + n)))
+        ∙ ap (sets l 0) (sym (over-split g n w 0))
+
+    pub length-filled : (n : ℕ) (l : List A) → length (filled f n l) ≡ length l
+    unfolding filled
+    length-filled n l = length-sets l 0 (values f n)
+
+    -- the entries
+    pub filled-at : (n : ℕ) (l : List A) (d : A) → n ≤ length l → (i : ℕ) → i < n → getD (filled f n l) i d ≡ f i
+    unfolding filled
+    filled-at n l d r i h =
+        let e = length-singles f n 0 in
+        ap (λ k. getD (sets l 0 (values f n)) k d) (sym (zero-add i))
+        ∙ getD-sets-in (values f n) l 0 i d (omega arith) (omega arith) ∙ values-at f n i d h
+
+    -- the whole of a list
+    pub filled-all : (n : ℕ) (l : List A) → length l ≡ n → filled f n l ≡ values f n
+    unfolding filled
+    filled-all n l e =
+        let s = length-singles f n 0 in
+        sets-front (values f n) l (omega arith)
+        ∙ ap (λ (r : List A). values f n ++ r) (ap (λ i. drop i l) (s ∙ sym e) ∙ drop-length l)
+        ∙ append-nil (values f n)
+
+  pub filled-ext : (f g : ℕ → A) (n : ℕ) (l : List A) → ((i : ℕ) → i < n → f i ≡ g i) → filled f n l ≡ filled g n l
+  unfolding filled
+  filled-ext f g n l h = ap (sets l 0) (values-ext f g n h)
 
 module _ (g : ℕ → ℕ) (most : ℕ) where
   pub summed-none : Summed g most 0 0

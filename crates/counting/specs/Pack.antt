@@ -1,6 +1,6 @@
 -- Numbers of rows laid end to end: row r has w r places, and place i of row r has the number `pre w r + i`.
 use Prim.Native.Nat.{ℕ, zero, suc, _-_}
-use mathlib.Core.Bool.{Bool, true, false}
+use mathlib.Core.Bool.{true, false}
 use lib.Dec.{ltb}
 use Rattle.counting.specs.Range.{total}
 

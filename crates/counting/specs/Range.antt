@@ -15,6 +15,10 @@ unfoldable pub over : {A : Type 0} → (ℕ → List A) → ℕ → ℕ → List
 over f zero p = []
 over f (suc n) p = f p ++ over f n (suc p)
 
+-- the values of f at the numbers below n
+abbrev pub values : {A : Type 0} → (ℕ → A) → ℕ → List A
+values f n = over (λ i. f i ∷ []) n 0
+
 -- the numbers that pass a test, of n from the number p on, in order
 unfoldable pub kept : (ℕ → Bool) → ℕ → ℕ → List ℕ
 kept t n p = over (λ q. pick (t q) (q ∷ []) []) n p

@@ -1,10 +1,14 @@
--- How far a loop has come that stores lists one after the other, or sums.
+-- How far a loop has come that stores values or lists one after the other, or sums.
 use Prim.Native.Nat.{ℕ, _+_, _*_, _≤_}
 use mathlib.Core.Path.{_≡_}
 use mathlib.Core.List.{List}
 use lib.ListN.{length}
 use lib.Seq.{sets}
-use Rattle.counting.specs.Range.{total}
+use Rattle.counting.specs.Range.{total, values}
+
+-- the list l with its first n entries set to f 0, f 1, ..
+unfoldable pub filled : {A : Type 0} → (ℕ → A) → ℕ → List A → List A
+filled f n l = sets l 0 (values f n)
 
 -- the values `vs`, stored over `was` from the place `at` on, make it `is`; `next` is the place after them
 pub record Stored {A : Type 0} (was : List A) (at : ℕ) (vs is : List A) (next : ℕ) : Type 0 where

@@ -17,13 +17,6 @@ use Rattle.face.proofs.Level.{level-turn, level-swap, level-corner, lev
 
 -- three counts; p′, q′, o′ are what remains of them where u, v, z are taken off at their corners
 module _ {p q o : ℕ} (L : Level p q o) (u v z : ℕ) (hu : u ≤ corner p q o) (hv : v ≤ corner p o q) (hz : z ≤ corner q o p) where
-  fits : (u + v ≤ p) × (u + z ≤ q) × (v + z ≤ o)
-  fits =
-      let cu = level-corner L in
-      let cv = level-corner (level-turn L) in
-      let cz = level-corner (level-turn (level-swap L)) in
-      (omega arith, omega arith, omega arith)
-
   module _ (p′ q′ o′ : ℕ) (a : p′ + u + v ≡ p) (b : q′ + u + z ≡ q) (c : o′ + v + z ≡ o) where
     even-left : (p′ + q′ + o′) % 2 ≡ 0
     even-left = omega (arith, L .even)

@@ -1,26 +1,27 @@
--- Laws of lists filled from the front, and of the tables of an accepted grid.
-use Prim.Native.Nat.{ℕ, zero, suc, _%_, _*_, _+_, _-_, _/_, _<_, _≤_}
+-- Laws of the tables of an accepted grid.
+use Prim.Native.Nat.{ℕ, suc, _%_, _*_, _+_, _-_, _/_, _<_, _≤_}
 use mathlib.Core.Path.{_∙_, _≡_, ap, refl, subst, sym}
 use mathlib.Core.Logic.{_≢_, _⊎_, inl, inr, ⊎-elim}
 use mathlib.Core.Bool.{Bool, false, true}
 use mathlib.Core.List.{List, [], _∷_}
-use native.Mathlib.Nat.{eq-zero-or-pos, not-suc-le-zero}
-use native.Mathlib.Numerals.{add-one}
+use native.Mathlib.Nat.{eq-zero-or-pos}
+use native.Mathlib.Decide.{decLt}
 use native.Mathlib.Omega.{arith}
-use lib.Dec.{eqb, ltb}
-use lib.ListN.{getD, length, length-set, set}
-use lib.Seq.{getD-set-other, getD-set-same}
-use borrow.Author.Tests.{eq-eqb, eqb-false, eqb-true, le-ltb, lt-ltb, ltb-false, ltb-true, ne-eqb}
+use lib.Dec.{eqb}
+use lib.ListN.{getD, length}
+use borrow.Author.Tests.{eq-eqb, eqb-false, eqb-true, le-ltb, lt-ltb, ne-eqb}
 use Rattle.counting.specs.Search.{first}
+use Rattle.counting.specs.Stored.{filled}
 use Rattle.counting.proofs.Bools.{not-clash}
-use Rattle.counting.proofs.Search.{below-or, first-at}
+use Rattle.counting.proofs.Search.{first-at}
+use Rattle.counting.proofs.Stored.{filled-ext}
 use Rattle.answer.specs.Answer.{result}
 use Rattle.answer.proofs.Answer.{refused-not}
 use Rattle.grid.specs.Accepted.{EdgeNumbers, Sound}
 use Rattle.grid.specs.Check.{checkNumbers}
 use Rattle.grid.specs.Grid.{Grid, cellCount, edgeNumber, faceName, isEdge, sameFace, start}
 use Rattle.grid.specs.Rows.{gridAnswer}
-use Rattle.grid.specs.Tables.{Opened, accepts, filled, nameAt, sideAt}
+use Rattle.grid.specs.Tables.{Opened, accepts, nameAt, sideAt}
 use Rattle.grid.specs.Work.{Copying, Lowering, Near, Ordered, WhereAccepted, Worked, listedAt, lowerOf}
 use Rattle.grid.specs.declared.Checked.{Checked}
 use Rattle.grid.specs.declared.Checked.the-variants.{Crossings, Refused}
@@ -28,37 +29,6 @@ use Rattle.grid.proofs.Accepts.{acceptance-yields, ordered}
 use Rattle.grid.proofs.Sound.{edge-numbers}
 use Rattle.grid.proofs.Claims.{never-empty}
 use Rattle.grid.proofs.Packed.{one-slot, true-same}
-
-pub filled-none : (f : ℕ → ℕ) (l : List ℕ) → l ≡ filled f 0 l
-unfolding filled
-filled-none f l = refl
-
-pub filled-more : (f : ℕ → ℕ) (n : ℕ) (l m : List ℕ) (x : ℕ) → m ≡ filled f n l → x ≡ f n → set m n x ≡ filled f (n + 1) l
-unfolding filled
-filled-more f n l m x e q = rw (add-one, e, q)
-
-pub length-filled : (f : ℕ → ℕ) (n : ℕ) (l : List ℕ) → length (filled f n l) ≡ length l
-unfolding filled
-length-filled f zero l = refl
-length-filled f (suc n) l = length-set (filled f n l) n (f n) ∙ length-filled f n l
-
-pub filled-ext : (f g : ℕ → ℕ) (n : ℕ) (l : List ℕ) → ((i : ℕ) → i < n → f i ≡ g i) → filled f n l ≡ filled g n l
-unfolding filled
-filled-ext f g zero l h = refl
-filled-ext f g (suc n) l h = rw (h n (omega arith), filled-ext f g n l (λ i k. h i (omega arith)))
-
--- the entries
-pub filled-at : (f : ℕ → ℕ) (n : ℕ) (l : List ℕ) → n ≤ length l → (i : ℕ) → i < n → getD (filled f n l) i 0 ≡ f i
-unfolding filled
-filled-at f zero l r i h = absurd (not-suc-le-zero h)
-filled-at f (suc n) l r i h =
-    ⊎-elim (λ (q : i ≡ n). rw q (getD-set-same (filled f n l) n (f n) 0 (omega (arith, length-filled f n l))))
-    (λ (k : i < n). getD-set-other (filled f n l) n i (f n) 0 (λ q. omega arith) ∙ filled-at f n l (omega arith) i k) (below-or i n h)
-
-pub filled-beyond : (f : ℕ → ℕ) (n : ℕ) (l : List ℕ) (i : ℕ) → n ≤ i → getD (filled f n l) i 0 ≡ getD l i 0
-unfolding filled
-filled-beyond f zero l i h = refl
-filled-beyond f (suc n) l i h = getD-set-other (filled f n l) n i (f n) 0 (λ q. omega arith) ∙ filled-beyond f n l i (omega arith)
 
 -- the lower of two places
 pub lower-none : (j x : ℕ) → x ≡ 0 → j ≡ lowerOf j x
@@ -71,12 +41,6 @@ pub lower-own : (j x : ℕ) → (x ≡ 0 → ⊥) → j ≤ x - 1 → j ≡ lowe
 lower-own j x n l = rw (ne-eqb x 0 n, le-ltb (x - 1) j l)
 
 module _ (cells near : List ℕ) (good : Ordered cells) (N : Near cells near) (j : ℕ) (h : j < 4 * cellCount cells) where
-  c : ℕ
-  c = j / 4
-
-  s : ℕ
-  s = j % 4
-
   whole : 4 * (j / 4) + j % 4 ≡ j
   whole = omega arith
 
@@ -106,30 +70,24 @@ module _ (cells near : List ℕ) (good : Ordered cells) (N : Near cells near) (j
   name-is-lower =
       ⊎-elim
       (λ (z : getD near j 0 ≡ 0). sym (lower-none j (getD near j 0) z) ∙ sym (first-at passes (4 * cellCount cells) j h itself
-      (λ m l. not-clash (passes m) (λ e. alone m l z e))))
+      (λ m l. not-clash (passes m) (λ e. below m l (inl z) e))))
       (λ (p : 0 < getD near j 0).
       let g = N .pair j h p in
       let x = getD near j 0 - 1 in
-      ⊎-elim
-      (λ (l : x < j). sym (lower-other j (getD near j 0) (λ q. omega arith) l) ∙ sym (first-at passes (4 * cellCount cells) x (omega (arith, g .lt)) (g .same)
-      (λ m k. not-clash (passes m) (λ e. below m (omega arith) (omega arith) e))))
-      (λ (l : j ≤ x). sym (lower-own j (getD near j 0) (λ q. omega arith) l) ∙ sym (first-at passes (4 * cellCount cells) j h itself
-      (λ m k. not-clash (passes m) (λ e. below m (omega arith) (omega arith) e))))
-      (lt-or-ge x j))
+      elim (decLt x j) [
+        | yes l ↦ sym (lower-other j (getD near j 0) (λ q. omega arith) l) ∙ sym (first-at passes (4 * cellCount cells) x (omega (arith, g .lt)) (g .same)
+            (λ m k. not-clash (passes m) (λ e. below m (omega arith) (inr (omega arith)) e)))
+        | no l ↦ sym (lower-own j (getD near j 0) (λ q. omega arith) (omega arith)) ∙ sym (first-at passes (4 * cellCount cells) j h itself
+            (λ m k. not-clash (passes m) (λ e. below m k (inr (omega arith)) e)))
+      ])
       (eq-zero-or-pos (getD near j 0))
     where
-      alone : (m : ℕ) → m < j → getD near j 0 ≡ 0 → passes m ≡ true → ⊥
-      alone m l z e = ⊎-elim (λ (q : m ≡ j). omega arith) (λ (q : (m / 4 ≢ j / 4) × (getD near j 0 ≡ m + 1)). omega (arith, q .1)) (only m (omega arith) e)
-
-      below : (m : ℕ) → m < j → m + 1 < getD near j 0 → passes m ≡ true → ⊥
-      below m l k e = ⊎-elim (λ (q : m ≡ j). omega arith) (λ (q : (m / 4 ≢ j / 4) × (getD near j 0 ≡ m + 1)). omega (arith, q .1)) (only m (omega arith) e)
-
-      lt-or-ge : (a b : ℕ) → (a < b) ⊎ (b ≤ a)
-      lt-or-ge a b = go (ltb a b) refl
-        where
-          go : (x : Bool) → ltb a b ≡ x → (a < b) ⊎ (b ≤ a)
-          go true e = inl (ltb-true a b e)
-          go false e = inr (ltb-false a b e)
+      -- no lower place has the face
+      below : (m : ℕ) → m < j → (getD near j 0 ≡ 0) ⊎ (m + 1 < getD near j 0) → passes m ≡ true → ⊥
+      below m l k e =
+          ⊎-elim (λ (q : m ≡ j). omega arith)
+          (λ (q : (m / 4 ≢ j / 4) × (getD near j 0 ≡ m + 1)). ⊎-elim (λ (z : getD near j 0 ≡ 0). omega (arith, q .1)) (λ (z : m + 1 < getD near j 0). omega (arith, q .1)) k)
+          (only m (omega arith) e)
 
 -- the place of a listed edge
 pub listed-side : (G : Grid) → EdgeNumbers G → (j : ℕ) → j < 6 * cellCount (G .cells)

@@ -10,10 +10,10 @@ use Rattle.counting.specs.Search.{first, some}
 use Rattle.counting.proofs.Bools.{and-false-left, and-false-right, and-left, and-right, and-true}
 use Rattle.counting.proofs.Reach.{reach-closed, reach-holds, reach-start}
 use Rattle.counting.proofs.Search.{first-is, none-some, some-first, some-found, some-is, some-none}
-use Rattle.slots.specs.Slots.{contains, hi, lo, lower, place, slotEdge, upper}
+use Rattle.slots.specs.Slots.{contains, lower, place, slotEdge, upper}
 use Rattle.slots.proofs.Slots.{edge-slot, face-ends, slot-edge}
 use Rattle.grid.specs.Accepted.{EdgeIs, Linked}
-use Rattle.grid.specs.Grid.{Grid, SameFace, cellCount, hasEdge, hasFace, high, isEdge, low, node, sameFace}
+use Rattle.grid.specs.Grid.{Grid, SameFace, cellCount, hasEdge, hasFace, isEdge, node, sameFace}
 use Rattle.grid.specs.Rows.{joined, linked, split}
 use Rattle.grid.proofs.Packed.{same-true, true-same}
 use Rattle.grid.proofs.Sound.{edge-true, flip, true-edge}

@@ -2,23 +2,23 @@
 use Prim.Native.Nat.{ℕ, zero-le, _%_, _*_, _+_, _-_, _/_, _<_, _≤_}
 use mathlib.Core.Path.{_∙_, _≡_, ap, refl, sym}
 use mathlib.Core.Logic.{_≢_, _⊎_, inl, inr, ⊎-elim}
-use mathlib.Core.Bool.{Bool, _&&_, false, not, true}
-use mathlib.Core.List.{List, [], _∷_}
+use mathlib.Core.Bool.{Bool, false, not, true}
+use mathlib.Core.List.{List}
 use native.Mathlib.Nat.{eq-or-lt-of-le, le-refl}
 use native.Mathlib.Decide.{decLt}
 use native.Mathlib.Omega.{arith}
-use lib.Dec.{eqb, ltb}
+use lib.Dec.{eqb}
 use lib.ListN.{getD, length, length-set, set}
 use lib.Seq.{getD-set-other, getD-set-same}
-use borrow.Author.Tests.{eq-eqb, eqb-false, eqb-true, le-ltb, lt-ltb, ltb-true, ne-eqb}
+use borrow.Author.Tests.{eq-eqb, eqb-false, eqb-true, le-ltb, lt-ltb, ne-eqb}
 use Rattle.counting.specs.Pick.{pick}
-use Rattle.counting.specs.Search.{count, every, last, some}
-use Rattle.counting.proofs.Bools.{and-false-left, and-left, and-right}
+use Rattle.counting.specs.Search.{count, last, some}
+use Rattle.counting.proofs.Bools.{and-false-left}
 use Rattle.counting.proofs.Involution.{count-less, less}
-use Rattle.counting.proofs.Search.{count-ext, down-hit, down-miss, every-is, last-is, last-le, some-through, some-zero}
-use Rattle.slots.specs.Slots.{contains, corner, hi, lo, otherSlot, rankIn}
-use Rattle.slots.proofs.Slots.{ends-sum, rank-of, third-of}
-use Rattle.grid.specs.Work.{Closed, Filled, Grown, Open, Paired, Side, Splitting, Spread, Spreadable, Spreading, Spreads, missing, rank, sameKey}
+use Rattle.counting.proofs.Search.{count-ext, down-hit, down-miss, last-is, last-le, some-through, some-zero}
+use Rattle.slots.specs.Slots.{contains, corner, hi, lo, otherSlot, rankIn, secondSlot}
+use Rattle.slots.proofs.Slots.{Third, ends-sum, rank-of, third-of, two-slots}
+use Rattle.grid.specs.Work.{Closed, Reached, Grown, OnSlot, Open, Paired, Side, Splitting, Spread, Spreadable, Spreading, Spreads, missing, rank, sameKey}
 
 -- how the other slot is found, from the sum of an edge's ends
 pub other-low : (k s : ℕ) → k < 3 → 5 - k - s ≡ otherSlot k s
@@ -288,19 +288,9 @@ module _ {keys : List ℕ} {key : ℕ} {marks : List ℕ} {mark m j : ℕ} (w : 
           is = w .is ∙ down-miss (missing keys key marks mark) j pos (rw (eq-eqb _ _ k, eq-eqb _ _ q)) ∙ v .is;
         }
 
--- a slot that contains edge k
-abbrev pub free : ℕ → ℕ
-free k = getD (2 ∷ 1 ∷ 1 ∷ 0 ∷ 0 ∷ 0 ∷ []) k 0
-
-free-right : every (λ k. contains k (free k) && ltb (free k) 4) 6 ≡ true
-unfolding every contains lo hi
-free-right = refl
-
-pub free-holds : (k : ℕ) → k < 6 → contains k (free k) ≡ true
-free-holds k h = and-left (contains k (free k)) (ltb (free k) 4) (every-is (λ k. contains k (free k) && ltb (free k) 4) 6 free-right k h)
-
-pub free-lt : (k : ℕ) → k < 6 → free k < 4
-free-lt k h = ltb-true (free k) 4 (and-right (contains k (free k)) (ltb (free k) 4) (every-is (λ k. contains k (free k) && ltb (free k) 4) 6 free-right k h))
+-- the lower slot contains its edge
+pub lower-on : (k s : ℕ) → k < 6 → s ≡ secondSlot k → OnSlot k s
+lower-on k s l e = let t = two-slots k l in record { edge-lt = l; slot-lt = rw e (t .second-lt); holds = rw e (t .second-has) }
 
 -- the first cell, marked alone
 module _ (keys near : List ℕ) (n key mark : ℕ) (marks : List ℕ) (J : Paired keys near n) (fresh : (d : ℕ) → getD marks d 0 ≢ mark)
@@ -321,19 +311,19 @@ module _ (keys near : List ℕ) (n key mark : ℕ) (marks : List ℕ) (J : Paire
       let b : (4 * c + s) % 4 ≡ s = omega arith in
       record { k = k; lt = hk; is = rw a at; holds = rw b h }
 
-  pub start-open : Open keys near n key mark (set marks c mark) (4 * c + free k) (4 * c + otherSlot k (free k))
-  start-open = record { at = λ j l s m p q. absurd (go j s (alone (j / 4) m) p q) }
+  pub start-open : (s : ℕ) → OnSlot k s → Open keys near n key mark (set marks c mark) (4 * c + s) (4 * c + otherSlot k s)
+  start-open s on = record { at = λ j l t m p q. absurd (go j t (alone (j / 4) m) p q) }
     where
-      go : (j : ℕ) → Side keys key j → j / 4 ≡ c → j ≢ 4 * c + free k → j ≢ 4 * c + otherSlot k (free k) → ⊥
-      go j s e p q =
-          let f : getD keys (6 * c + s .k) 0 ≡ key = rw (← e) (s .is) in
-          let h : contains k (j % 4) ≡ true = rw (J .one c k (s .k) hc hk (s .lt) (at ∙ sym f)) (s .holds) in
-          ⊎-elim (λ (u : j % 4 ≡ free k). p (omega arith)) (λ (u : j % 4 ≡ otherSlot k (free k)). q (omega arith))
-          (third-of k (free k) hk (free-lt k hk) (free-holds k hk) .only (j % 4) (omega arith) h)
+      go : (j : ℕ) → Side keys key j → j / 4 ≡ c → j ≢ 4 * c + s → j ≢ 4 * c + otherSlot k s → ⊥
+      go j t e p q =
+          let f : getD keys (6 * c + t .k) 0 ≡ key = rw (← e) (t .is) in
+          let h : contains k (j % 4) ≡ true = rw (J .one c k (t .k) hc hk (t .lt) (at ∙ sym f)) (t .holds) in
+          ⊎-elim (λ (u : j % 4 ≡ s). p (omega arith)) (λ (u : j % 4 ≡ otherSlot k s). q (omega arith))
+          (third-of k s hk (on .slot-lt) (on .holds) .only (j % 4) (omega arith) h)
 
   -- after the two spreads
   pub both-spread : (b : ℕ) → 4 * n ≤ b → (marks₁ marks₂ : List ℕ) → Grown keys near n key mark (set marks c mark) marks₁ → Grown keys near n key mark marks₁ marks₂
-      → Open keys near n key mark marks₂ b b → Filled keys near n key mark c marks marks₂
+      → Open keys near n key mark marks₂ b b → Reached keys near n key mark c marks marks₂
   both-spread b hb marks₁ marks₂ g₁ g₂ o =
       record {
         same = g₂ .same ∙ g₁ .same ∙ length-set marks c mark;
@@ -378,15 +368,6 @@ module _ {keys next near : List ℕ} {n key mark top : ℕ} {marks : List ℕ} (
   edge-lt : (top - 1) % 6 < 6
   edge-lt = omega arith
 
-  slot-lt : free ((top - 1) % 6) < 4
-  slot-lt = free-lt ((top - 1) % 6) edge-lt
-
-  slot-has : contains ((top - 1) % 6) (free ((top - 1) % 6)) ≡ true
-  slot-has = free-holds ((top - 1) % 6) edge-lt
-
-  pub other-apart : (o : ℕ) → o ≡ otherSlot ((top - 1) % 6) (free ((top - 1) % 6)) → o ≢ free ((top - 1) % 6)
-  other-apart o e = rw e (third-of ((top - 1) % 6) (free ((top - 1) % 6)) edge-lt slot-lt slot-has .not-omitted)
-
   -- near leads to slots of the cells
   near-within : (j : ℕ) → j < 4 * n → getD near j 0 ≤ 4 * n
   near-within j l =
@@ -396,39 +377,6 @@ module _ {keys next near : List ℕ} {n key mark top : ℕ} {marks : List ℕ} (
   may-spread t r l lr marks₁ e =
       record { near-room = S .paired .room; few = S .paired .few; within = near-within; room = omega (arith, e, S .room); slot = omega (arith, cell-lt); rank-lt = lr }
 
-  pub may-spread-first : (r : ℕ) → r < 3 → Spreadable near n (4 * ((top - 1) / 6) + free ((top - 1) % 6)) r (set marks ((top - 1) / 6) mark)
-  may-spread-first r l = may-spread (free ((top - 1) % 6)) r slot-lt l (set marks ((top - 1) / 6) mark) (length-set marks ((top - 1) / 6) mark)
-
-  pub spread-first : (o r : ℕ) → o ≡ otherSlot ((top - 1) % 6) (free ((top - 1) % 6)) → r ≡ rankIn (free ((top - 1) % 6)) o
-      → Spreading keys near n key mark (4 * ((top - 1) / 6) + free ((top - 1) % 6)) r (4 * ((top - 1) / 6) + o) (set marks ((top - 1) / 6) mark)
-  unfolding lo slot-side
-  spread-first o r e f =
-      let d : (4 * ((top - 1) / 6) + free ((top - 1) % 6)) / 4 ≡ (top - 1) / 6 = omega (arith, slot-lt) in
-      let m : (4 * ((top - 1) / 6) + free ((top - 1) % 6)) % 4 ≡ free ((top - 1) % 6) = omega (arith, slot-lt) in
-      record {
-        paired = S .paired;
-        side = slot-side keys near n key mark marks (S .paired) (S .fresh) ((top - 1) / 6) ((top - 1) % 6) cell-lt edge-lt at-top (S .room) (free ((top - 1) % 6)) slot-lt slot-has;
-        rank-is = rw (m, ← e) f;
-        here = rw d (marked keys near n key mark marks (S .paired) (S .fresh) ((top - 1) / 6) ((top - 1) % 6) cell-lt edge-lt at-top (S .room));
-        opens = rw e (start-open keys near n key mark marks (S .paired) (S .fresh) ((top - 1) / 6) ((top - 1) % 6) cell-lt edge-lt at-top (S .room));
-      }
-
-  pub spread-second : (o r b : ℕ) → o ≡ otherSlot ((top - 1) % 6) (free ((top - 1) % 6)) → o < 4 → r ≡ rankIn o (free ((top - 1) % 6)) → (marks₁ : List ℕ)
-      → Spread keys near n key mark (4 * ((top - 1) / 6) + o) (set marks ((top - 1) / 6) mark) marks₁ → Spreading keys near n key mark (4 * ((top - 1) / 6) + o) r b marks₁
-  unfolding lo slot-side
-  spread-second o r b e l f marks₁ g =
-      let m : (4 * ((top - 1) / 6) + o) % 4 ≡ o = omega arith in
-      let t : otherSlot ((top - 1) % 6) o ≡ free ((top - 1) % 6) = rw e (third-of ((top - 1) % 6) (free ((top - 1) % 6)) edge-lt slot-lt slot-has .back) in
-      record {
-        paired = S .paired;
-        side = slot-side keys near n key mark marks (S .paired) (S .fresh) ((top - 1) / 6) ((top - 1) % 6) cell-lt edge-lt at-top (S .room) o l
-            (rw e (third-of ((top - 1) % 6) (free ((top - 1) % 6)) edge-lt slot-lt slot-has .other));
-        rank-is = rw (m, t) f;
-        here = grown-at (g .grown) ((top - 1) / 6) (4 * ((top - 1) / 6) + o) (omega arith)
-            (marked keys near n key mark marks (S .paired) (S .fresh) ((top - 1) / 6) ((top - 1) % 6) cell-lt edge-lt at-top (S .room));
-        opens = open-free b (g .opens);
-      }
-
   pub first-same : {x y : ℕ} {marks₁ : List ℕ} → Spreads near n mark x y (set marks ((top - 1) / 6) mark) marks₁ → length marks₁ ≡ length marks
   first-same g = g .same ∙ length-set marks ((top - 1) / 6) mark
 
@@ -436,12 +384,53 @@ module _ {keys next near : List ℕ} {n key mark top : ℕ} {marks : List ℕ} (
       → length marks₂ ≡ length marks
   both-same g h = h .same ∙ first-same g
 
-  -- after both: no slot has the number 4 n
-  pub spread-both : (o r q : ℕ) → o ≡ otherSlot ((top - 1) % 6) (free ((top - 1) % 6)) → o < 4 → r ≡ rankIn (free ((top - 1) % 6)) o → q ≡ rankIn o (free ((top - 1) % 6))
-      → (marks₁ marks₂ : List ℕ) → Spreads near n mark (4 * ((top - 1) / 6) + free ((top - 1) % 6)) r (set marks ((top - 1) / 6) mark) marks₁
-      → Spreads near n mark (4 * ((top - 1) / 6) + o) q marks₁ marks₂ → Filled keys near n key mark ((top - 1) / 6) marks marks₂
-  spread-both o r q e l f h marks₁ marks₂ g₁ g₂ =
-      let a = g₁ .over keys key (4 * ((top - 1) / 6) + o) (spread-first o r e f) in
-      let b = g₂ .over keys key (4 * n) (spread-second o q (4 * n) e l h marks₁ a) in
-      both-spread keys near n key mark marks (S .paired) (S .fresh) ((top - 1) / 6) ((top - 1) % 6) cell-lt edge-lt at-top (S .room) (4 * n) (le-refl (4 * n)) marks₁ marks₂
-      (a .grown) (b .grown) (b .opens)
+  -- from a slot that contains the edge
+  module _ {s : ℕ} (on : OnSlot ((top - 1) % 6) s) where
+    third : Third ((top - 1) % 6) s
+    third = third-of ((top - 1) % 6) s edge-lt (on .slot-lt) (on .holds)
+
+    pub other-apart : (o : ℕ) → o ≡ otherSlot ((top - 1) % 6) s → o ≢ s
+    other-apart o e = rw e (third .not-omitted)
+
+    pub may-spread-first : (r : ℕ) → r < 3 → Spreadable near n (4 * ((top - 1) / 6) + s) r (set marks ((top - 1) / 6) mark)
+    may-spread-first r l = may-spread s r (on .slot-lt) l (set marks ((top - 1) / 6) mark) (length-set marks ((top - 1) / 6) mark)
+
+    pub spread-first : (o r : ℕ) → o ≡ otherSlot ((top - 1) % 6) s → r ≡ rankIn s o
+        → Spreading keys near n key mark (4 * ((top - 1) / 6) + s) r (4 * ((top - 1) / 6) + o) (set marks ((top - 1) / 6) mark)
+    unfolding lo slot-side
+    spread-first o r e f =
+        let d : (4 * ((top - 1) / 6) + s) / 4 ≡ (top - 1) / 6 = omega (arith, (on .slot-lt)) in
+        let m : (4 * ((top - 1) / 6) + s) % 4 ≡ s = omega (arith, (on .slot-lt)) in
+        record {
+          paired = S .paired;
+          side = slot-side keys near n key mark marks (S .paired) (S .fresh) ((top - 1) / 6) ((top - 1) % 6) cell-lt edge-lt at-top (S .room) s (on .slot-lt) (on .holds);
+          rank-is = rw (m, ← e) f;
+          here = rw d (marked keys near n key mark marks (S .paired) (S .fresh) ((top - 1) / 6) ((top - 1) % 6) cell-lt edge-lt at-top (S .room));
+          opens = rw e (start-open keys near n key mark marks (S .paired) (S .fresh) ((top - 1) / 6) ((top - 1) % 6) cell-lt edge-lt at-top (S .room) s on);
+        }
+
+    pub spread-second : (o r b : ℕ) → o ≡ otherSlot ((top - 1) % 6) s → o < 4 → r ≡ rankIn o s → (marks₁ : List ℕ)
+        → Spread keys near n key mark (4 * ((top - 1) / 6) + o) (set marks ((top - 1) / 6) mark) marks₁ → Spreading keys near n key mark (4 * ((top - 1) / 6) + o) r b marks₁
+    unfolding lo slot-side
+    spread-second o r b e l f marks₁ g =
+        let m : (4 * ((top - 1) / 6) + o) % 4 ≡ o = omega arith in
+        let t : otherSlot ((top - 1) % 6) o ≡ s = rw e (third .back) in
+        record {
+          paired = S .paired;
+          side = slot-side keys near n key mark marks (S .paired) (S .fresh) ((top - 1) / 6) ((top - 1) % 6) cell-lt edge-lt at-top (S .room) o l
+              (rw e (third .other));
+          rank-is = rw (m, t) f;
+          here = grown-at (g .grown) ((top - 1) / 6) (4 * ((top - 1) / 6) + o) (omega arith)
+              (marked keys near n key mark marks (S .paired) (S .fresh) ((top - 1) / 6) ((top - 1) % 6) cell-lt edge-lt at-top (S .room));
+          opens = open-free b (g .opens);
+        }
+
+    -- after both: no slot has the number 4 n
+    pub spread-both : (o r q : ℕ) → o ≡ otherSlot ((top - 1) % 6) s → o < 4 → r ≡ rankIn s o → q ≡ rankIn o s
+        → (marks₁ marks₂ : List ℕ) → Spreads near n mark (4 * ((top - 1) / 6) + s) r (set marks ((top - 1) / 6) mark) marks₁
+        → Spreads near n mark (4 * ((top - 1) / 6) + o) q marks₁ marks₂ → Reached keys near n key mark ((top - 1) / 6) marks marks₂
+    spread-both o r q e l f h marks₁ marks₂ g₁ g₂ =
+        let a = g₁ .over keys key (4 * ((top - 1) / 6) + o) (spread-first o r e f) in
+        let b = g₂ .over keys key (4 * n) (spread-second o q (4 * n) e l h marks₁ a) in
+        both-spread keys near n key mark marks (S .paired) (S .fresh) ((top - 1) / 6) ((top - 1) % 6) cell-lt edge-lt at-top (S .room) (4 * n) (le-refl (4 * n)) marks₁ marks₂
+        (a .grown) (b .grown) (b .opens)

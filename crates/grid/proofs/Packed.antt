@@ -1,6 +1,6 @@
--- Tables filled from the front, and keys: equal exactly where the nodes are.
+-- Keys: equal exactly where the nodes are.
 use Prim.Native.Nat.{ℕ, zero, suc, _%_, _*_, _+_, _/_, _<_, _≤_}
-use mathlib.Core.Path.{_∙_, _≡_, refl}
+use mathlib.Core.Path.{_∙_, _≡_, ap, refl}
 use mathlib.Core.Logic.{⊎-elim}
 use mathlib.Core.Bool.{Bool, _&&_, _||_, false, not, true}
 use mathlib.Core.List.{List}
@@ -8,13 +8,14 @@ use native.Mathlib.Nat.{eq-or-lt-of-le, not-suc-le-zero}
 use native.Mathlib.Numerals.{add-one}
 use native.Mathlib.Omega.{arith}
 use lib.Dec.{eqb, leb, ltb}
-use lib.ListN.{getD, length, length-set, set}
-use lib.Seq.{getD-set-other, getD-set-same}
+use lib.ListN.{getD, length}
 use borrow.Author.Tests.{eq-eqb, eqb-false, eqb-true, le-leb, le-ltb, leb-false, lt-leb, ltb-false, ne-eqb}
 use Rattle.counting.specs.Pick.{pick}
 use Rattle.counting.specs.Search.{every, first, last, some}
+use Rattle.counting.specs.Stored.{filled}
 use Rattle.counting.proofs.Below.{rising-once}
 use Rattle.counting.proofs.Bools.{or-none, or-right}
+use Rattle.counting.proofs.Stored.{length-filled, filled-at}
 use Rattle.counting.proofs.Search.{every-is, first-none, is-every, none-some, some-ext, some-found, some-last, some-none}
 use Rattle.slots.specs.Slots.{corner}
 use Rattle.slots.proofs.Slots.{corner-lt, same-slot}
@@ -22,25 +23,11 @@ use Rattle.grid.specs.Grid.{SameFace, cellCount, faceNode, highestNode, 
 use Rattle.grid.specs.Rows.{badCell, badLength, repeats, sameCell}
 use Rattle.grid.specs.Work.{Ordered, Table, cellKey, faceKey, join, sameKey}
 
-pub table-none : (f : ℕ → ℕ) (l : List ℕ) → Table f 0 l
-table-none f l = record { room = omega arith; at = λ i h. absurd (not-suc-le-zero h) }
-
-pub table-more : {f : ℕ → ℕ} {n : ℕ} {l : List ℕ} → Table f n l → (x : ℕ) → n < length l → x ≡ f n → Table f (n + 1) (set l n x)
-table-more {f} {n} {l} w x room e =
-    record {
-      room = simp length-set (omega arith);
-      at = λ i h. ⊎-elim
-          (λ (q : i ≡ n). rw q (getD-set-same l n x 0 room ∙ e))
-          (λ (g : i < n). getD-set-other l n i x 0 (λ q. omega arith) ∙ w .at i g)
-          (eq-or-lt-of-le (omega arith));
-    }
-
--- the same at a place that is told, and the number of entries under another name
-pub table-put : {f : ℕ → ℕ} {n : ℕ} {l : List ℕ} → Table f n l → (i x : ℕ) → i ≡ n → i < length l → x ≡ f i → Table f (i + 1) (set l i x)
-table-put {f} {n} {l} w i x q room e = table-more {l = l} (rw q w) x room e
-
-pub table-to : {f : ℕ → ℕ} {n m : ℕ} {l : List ℕ} → n ≡ m → Table f n l → Table f m l
-table-to e w = rw (← e) w
+pub filled-table : (f : ℕ → ℕ) (n : ℕ) (l m : List ℕ) → m ≡ filled f n l → n ≤ length l → Table f n m
+filled-table f n l m e r = record {
+  room = omega (arith, ap length e, length-filled f n l);
+  at = λ i h. ap (λ (m : List ℕ). getD m i 0) e ∙ filled-at f n l 0 r i h;
+}
 
 -- row 1
 pub length-odd : (cells : List ℕ) → (length cells % 4 ≡ 0 → ⊥) → badLength cells ≡ true

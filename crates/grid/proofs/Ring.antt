@@ -19,7 +19,7 @@ use Rattle.slots.specs.Slots.{contains, hi, lo, lower, place, slotEdge, upper}
 use Rattle.slots.proofs.Slots.{edge-order, edge-slot, face-ends, slot-edge, slot-rank, two-slots}
 use Rattle.grid.specs.Grid.{Grid, cellCount, hasEdge, hasFace, isEdge, node, sameFace}
 use Rattle.grid.specs.Rows.{joined, linked, split}
-use Rattle.grid.specs.Work.{Closed, Filled, Near, Ordered, Paired, Side, Table, edgeKey, join, missing, rank, sameKey, sideKey}
+use Rattle.grid.specs.Work.{Closed, Reached, Near, Ordered, Paired, Side, Table, edgeKey, join, missing, rank, sameKey, sideKey}
 use Rattle.grid.proofs.Marks.{top-key, top-le}
 use Rattle.grid.proofs.Packed.{join-eqb, rises, same-true}
 use Rattle.grid.proofs.Sides.{is-side}
@@ -162,7 +162,7 @@ module _ (G : Grid) (good : Ordered (G .cells)) (keys near : List ℕ) (tk : Tab
           inr (record { j = 4 * d + s; lt = omega arith; cell = omega arith; sided = sd; there = omega arith; ends = omega arith })
 
   module _ (top : ℕ) (et : top ≡ last (sameKey keys (edgeKey (G .edges) e)) (6 * cellCount (G .cells))) (pos-top : 0 < top)
-      (mark : ℕ) (marks₀ marks : List ℕ) (F : Filled keys near (cellCount (G .cells)) (edgeKey (G .edges) e) mark ((top - 1) / 6) marks₀ marks) where
+      (mark : ℕ) (marks₀ marks : List ℕ) (F : Reached keys near (cellCount (G .cells)) (edgeKey (G .edges) e) mark ((top - 1) / 6) marks₀ marks) where
     n : ℕ
     n = cellCount (G .cells)
 
@@ -312,6 +312,6 @@ pub record Under (marks : List ℕ) (e : ℕ) : Type 0 where
 pub under-fresh : {marks : List ℕ} {e : ℕ} → Under marks e → (d : ℕ) → getD marks d 0 ≢ e + 1
 under-fresh {marks} {e} u d q = omega (arith, u .at d, q)
 
-pub under-more : {keys near : List ℕ} {n key e c : ℕ} {marks₀ marks : List ℕ} → Under marks₀ e → Filled keys near n key (e + 1) c marks₀ marks → Under marks (e + 1)
+pub under-more : {keys near : List ℕ} {n key e c : ℕ} {marks₀ marks : List ℕ} → Under marks₀ e → Reached keys near n key (e + 1) c marks₀ marks → Under marks (e + 1)
 under-more {keys} {near} {n} {key} {e} {c} {marks₀} {marks} u f =
     record { at = λ d. ⊎-elim (λ (q : getD marks d 0 ≡ getD marks₀ d 0). omega (arith, u .at d, q)) (λ (q : getD marks d 0 ≡ e + 1). omega (arith, q)) (f .only d) }

@@ -12,7 +12,7 @@ use borrow.Author.Tests.{eq-eqb, eqb-true, le-ltb, leb-false, lt-leb, lt-ltb, lt
 use Rattle.counting.specs.Pick.{pick}
 use Rattle.counting.specs.Search.{count, first, some}
 use Rattle.counting.proofs.Below.{trichotomy}
-use Rattle.counting.proofs.Bools.{and-left, and-right, and-true, clash, holds-or, not-clash, or-false, or-none}
+use Rattle.counting.proofs.Bools.{and-left, and-right, and-true, clash, not-clash, or-false, or-none}
 use Rattle.counting.proofs.Pigeon.{pigeonhole}
 use Rattle.counting.proofs.Search.{below-or, count-two-of, every-is, first-is, is-every, none-some, some-first, some-found, some-is, some-none, two-counted}
 use Rattle.slots.specs.Slots.{hi, lo}

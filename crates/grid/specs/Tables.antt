@@ -1,18 +1,14 @@
--- The tables that the grid check hands to the calls above it, and how a lent table is filled.
-use Prim.Native.Nat.{ℕ, zero, suc, _*_, _/_, _%_}
+-- The tables that the grid check hands to the calls above it.
+use Prim.Native.Nat.{ℕ, _*_, _/_, _%_}
 use mathlib.Core.Path.{_≡_}
 use mathlib.Core.Bool.{Bool}
 use mathlib.Core.List.{List}
-use lib.ListN.{length, set}
+use lib.ListN.{length}
 use Rattle.answer.specs.Answer.{isResult}
 use Rattle.counting.specs.Pick.{pick}
+use Rattle.counting.specs.Stored.{filled}
 use Rattle.grid.specs.Grid.{Grid, cellCount, faceName, edgeNumber, start}
 use Rattle.grid.specs.Rows.{gridAnswer}
-
--- the list l with its first n entries set to f 0, f 1, ..
-unfoldable pub filled : (ℕ → ℕ) → ℕ → List ℕ → List ℕ
-filled f zero l = l
-filled f (suc n) l = set (filled f n l) n (f n)
 
 -- the name of face 4 c + s of the cells
 abbrev pub nameAt : List ℕ → ℕ → ℕ

@@ -241,7 +241,7 @@ pub record Leaving (keys next : List ℕ) (n key top : ℕ) (marks : List ℕ) :
   pub top-is : top ≡ last (sameKey keys key) (6 * n)
 
 -- what the marks of an edge are, from cell c on: closed, and within all that is closed
-pub record Filled (keys near : List ℕ) (n key mark c : ℕ) (marks₀ marks : List ℕ) : Type 0 where
+pub record Reached (keys near : List ℕ) (n key mark c : ℕ) (marks₀ marks : List ℕ) : Type 0 where
   pub same : length marks ≡ length marks₀
   pub has : getD marks c 0 ≡ mark
   pub only : (d : ℕ) → (getD marks d 0 ≡ getD marks₀ d 0) ⊎ (getD marks d 0 ≡ mark)

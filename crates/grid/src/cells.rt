@@ -1,11 +1,14 @@
 // Rows 1, 3, 4 and 5: the cells.
 ghost use mathlib.Core.Path.{_≡_};
 ghost use Prim.Native.Nat.{_+_, _*_, _/_, _%_, _<_, _≤_};
-ghost use lib.ListN.{length, replicate};
+ghost use lib.ListN.{length, set, replicate};
+ghost use lib.Seq.{sets};
+ghost use Rattle.counting.specs.Range.{values};
 ghost use Rattle.counting.specs.Search.{first};
+ghost use Rattle.counting.specs.Stored.{filled};
 ghost use Rattle.grid.specs.Grid.{mostCells, mostSlots, cellCount, node, faceNode};
 ghost use Rattle.grid.specs.Rows.{badLength, badCell, repeats, third};
-ghost use Rattle.grid.specs.Work.{Table, cellKey, faceKey, Ordered, Pairable, Pairing, Near};
+ghost use Rattle.grid.specs.Work.{cellKey, faceKey, Ordered, Pairable, Pairing, Near};
 use crate::HIGHEST_NODE;
 use crate::MOST_CELLS;
 use crate::MOST_SLOTS;
@@ -85,7 +88,7 @@ fn cell_key(cells: &[u16], c: usize) -> usize
 
 fn cell_keys(cells: &[u16], keys: &mut [usize])
     requires { ⌜ cellCount (now cells) ≤ length (now keys) ⌝ }
-    ensures { λ _. ⌜ Table (cellKey (now (cells .entry))) (cellCount (now (cells .entry))) (now (keys .exit)) ⌝ }
+    ensures { λ _. ⌜ now (keys .exit) ≡ filled (cellKey (now (cells .entry))) (cellCount (now (cells .entry))) (now (keys .entry)) ⌝ }
 {
     let n = cells.len() / 4;
     let mut c = 0;
@@ -141,23 +144,30 @@ fn face_key(cells: &[u16], c: usize, s: usize) -> usize
     (n0 * 65536 + n1) * 65536 + n2
 }
 
-// The keys of cell c's faces.
+fn put_face(cells: &[u16], c: usize, s: usize, keys: &mut [usize])
+    requires { ⌜ c < cellCount (now cells) ⌝ }
+    requires { ⌜ s < 4 ⌝ }
+    requires { ⌜ 4 * cellCount (now cells) ≤ length (now keys) ⌝ }
+    ensures { λ _. ⌜ now (keys .exit) ≡ set (now (keys .entry)) (4 * c + s) (faceKey (now (cells .entry)) (4 * c + s)) ⌝ }
+{
+    keys[4 * c + s] = face_key(cells, c, s);
+}
+
+// The keys of cell c's faces. Each is named here, so that the compiler works its nodes out.
 fn put_faces(cells: &[u16], c: usize, keys: &mut [usize])
     requires { ⌜ c < cellCount (now cells) ⌝ }
     requires { ⌜ 4 * cellCount (now cells) ≤ length (now keys) ⌝ }
-    requires { ⌜ Table (faceKey (now cells)) (4 * c) (now keys) ⌝ }
-    ensures { λ _. ⌜ length (now (keys .exit)) ≡ length (now (keys .entry)) ⌝ }
-    ensures { λ _. ⌜ Table (faceKey (now (cells .entry))) (4 * c + 4) (now (keys .exit)) ⌝ }
+    ensures { λ _. ⌜ now (keys .exit) ≡ sets (now (keys .entry)) (4 * c) (values (λ s. faceKey (now (cells .entry)) (4 * c + s)) 4) ⌝ }
 {
-    keys[4 * c] = face_key(cells, c, 0);
-    keys[4 * c + 1] = face_key(cells, c, 1);
-    keys[4 * c + 2] = face_key(cells, c, 2);
-    keys[4 * c + 3] = face_key(cells, c, 3);
+    put_face(cells, c, 0, keys);
+    put_face(cells, c, 1, keys);
+    put_face(cells, c, 2, keys);
+    put_face(cells, c, 3, keys);
 }
 
 fn face_keys(cells: &[u16], keys: &mut [usize])
     requires { ⌜ 4 * cellCount (now cells) ≤ length (now keys) ⌝ }
-    ensures { λ _. ⌜ Table (faceKey (now (cells .entry))) (4 * cellCount (now (cells .entry))) (now (keys .exit)) ⌝ }
+    ensures { λ _. ⌜ now (keys .exit) ≡ filled (faceKey (now (cells .entry))) (4 * cellCount (now (cells .entry))) (now (keys .entry)) ⌝ }
 {
     let n = cells.len() / 4;
     let mut c = 0;

@@ -1,8 +1,11 @@
 // Rows 2, 6, 7 and 8: the edges.
 ghost use mathlib.Core.Path.{_≡_};
 ghost use Prim.Native.Nat.{_+_, _*_, _<_, _≤_};
-ghost use lib.ListN.{length, getD, replicate};
+ghost use lib.ListN.{length, getD, set, replicate};
+ghost use lib.Seq.{sets};
+ghost use Rattle.counting.specs.Range.{values};
 ghost use Rattle.counting.specs.Search.{first};
+ghost use Rattle.counting.specs.Stored.{filled};
 ghost use Rattle.grid.specs.Grid.{gridOf, mostEdges, cellCount};
 ghost use Rattle.grid.specs.Rows.{badPairs, badEdge, unused};
 ghost use Rattle.grid.specs.Work.{Table, edgeKey, sideKey, Findable, Putting, Put, listedAt, blankIn};
@@ -82,25 +85,32 @@ fn side_key(cells: &[u16], c: usize, k: usize) -> usize
     u * 65536 + v
 }
 
-// The keys of cell c's edges. Each edge is named here, so that the compiler looks its ends up.
+fn put_side(cells: &[u16], c: usize, k: usize, keys: &mut [usize])
+    requires { ⌜ c < cellCount (now cells) ⌝ }
+    requires { ⌜ k < 6 ⌝ }
+    requires { ⌜ 6 * cellCount (now cells) ≤ length (now keys) ⌝ }
+    ensures { λ _. ⌜ now (keys .exit) ≡ set (now (keys .entry)) (6 * c + k) (sideKey (now (cells .entry)) (6 * c + k)) ⌝ }
+{
+    keys[6 * c + k] = side_key(cells, c, k);
+}
+
+// The keys of cell c's edges. Each is named here, so that the compiler works its nodes out.
 fn put_sides(cells: &[u16], c: usize, keys: &mut [usize])
     requires { ⌜ c < cellCount (now cells) ⌝ }
     requires { ⌜ 6 * cellCount (now cells) ≤ length (now keys) ⌝ }
-    requires { ⌜ Table (sideKey (now cells)) (6 * c) (now keys) ⌝ }
-    ensures { λ _. ⌜ length (now (keys .exit)) ≡ length (now (keys .entry)) ⌝ }
-    ensures { λ _. ⌜ Table (sideKey (now (cells .entry))) (6 * c + 6) (now (keys .exit)) ⌝ }
+    ensures { λ _. ⌜ now (keys .exit) ≡ sets (now (keys .entry)) (6 * c) (values (λ k. sideKey (now (cells .entry)) (6 * c + k)) 6) ⌝ }
 {
-    keys[6 * c] = side_key(cells, c, 0);
-    keys[6 * c + 1] = side_key(cells, c, 1);
-    keys[6 * c + 2] = side_key(cells, c, 2);
-    keys[6 * c + 3] = side_key(cells, c, 3);
-    keys[6 * c + 4] = side_key(cells, c, 4);
-    keys[6 * c + 5] = side_key(cells, c, 5);
+    put_side(cells, c, 0, keys);
+    put_side(cells, c, 1, keys);
+    put_side(cells, c, 2, keys);
+    put_side(cells, c, 3, keys);
+    put_side(cells, c, 4, keys);
+    put_side(cells, c, 5, keys);
 }
 
 pub(crate) fn side_keys(cells: &[u16], keys: &mut [usize])
     requires { ⌜ 6 * cellCount (now cells) ≤ length (now keys) ⌝ }
-    ensures { λ _. ⌜ Table (sideKey (now (cells .entry))) (6 * cellCount (now (cells .entry))) (now (keys .exit)) ⌝ }
+    ensures { λ _. ⌜ now (keys .exit) ≡ filled (sideKey (now (cells .entry))) (6 * cellCount (now (cells .entry))) (now (keys .entry)) ⌝ }
 {
     let n = cells.len() / 4;
     let mut c = 0;

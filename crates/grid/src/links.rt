@@ -4,15 +4,29 @@ ghost use mathlib.Core.Logic.{_≢_};
 ghost use Prim.Native.Nat.{_-_, _*_, _/_, _<_};
 ghost use lib.ListN.{length};
 ghost use Rattle.counting.specs.Search.{first, some};
-ghost use Rattle.slots.specs.Slots.{corner, rankIn, otherSlot};
+ghost use Rattle.slots.specs.Slots.{corner, rankIn, otherSlot, secondSlot};
 ghost use Rattle.grid.specs.Grid.{gridOf};
 ghost use Rattle.grid.specs.Rows.{split};
-ghost use Rattle.grid.specs.Work.{OnSlot, Spreadable, Spreads, missing, Leaving, Filled, Splitting, Linkable};
+ghost use Rattle.grid.specs.Work.{OnSlot, Spreadable, Spreads, missing, Leaving, Reached, Splitting, Linkable};
 use crate::MOST_CELLS;
 use crate::edges::edge_key;
 use crate::keys::earlier;
 use crate::keys::latest;
 use crate::keys::wide;
+
+// The lower of the two slots that contain edge k.
+fn lower_slot(k: usize) -> usize
+    requires { ⌜ k < 6 ⌝ }
+    ensures { λ r. ⌜ r ≡ secondSlot k ⌝ }
+{
+    if k == 0 {
+        return 2;
+    }
+    if k < 3 {
+        return 1;
+    }
+    0
+}
 
 // The other slot that contains edge k. The positions of an edge's ends add up to k + 1 from the lowest node, else to k.
 fn other_side(k: usize, s: usize) -> usize
@@ -99,9 +113,6 @@ fn left_out(
     false
 }
 
-// A slot that contains each edge.
-const SLOT: [usize; 6] = [2, 1, 1, 0, 0, 0];
-
 // Whether a cell of the edge with this key is not linked to its last, whose place is top - 1. No cell has the mark before.
 fn split_at(
     keys: &[usize],
@@ -114,14 +125,14 @@ fn split_at(
     marks: &mut [usize],
 ) -> bool
     requires { ⌜ Splitting (now keys) (now next) (now near) n key mark top (now marks) ⌝ }
-    ensures { λ _. ⌜ Filled (now (keys .entry)) (now (near .entry)) n key mark ((top - 1) / 6) (now (marks .entry)) (now (marks .exit)) ⌝ }
+    ensures { λ _. ⌜ Reached (now (keys .entry)) (now (near .entry)) n key mark ((top - 1) / 6) (now (marks .entry)) (now (marks .exit)) ⌝ }
     ensures { λ r. ⌜ r ≡ some (missing (now (keys .entry)) key (now (marks .exit)) mark) (6 * n) ⌝ }
 {
     let x = top - 1;
     let c = x / 6;
     let k = x % 6;
     marks[c] = mark;
-    let s = SLOT[k];
+    let s = lower_slot(k);
     let t = other_side(k, s);
     spread(near, n, mark, 4 * c + s, rank_of(s, t), marks);
     spread(near, n, mark, 4 * c + t, rank_of(t, s), marks);

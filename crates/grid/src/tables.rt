@@ -2,8 +2,8 @@
 ghost use mathlib.Core.Path.{_≡_};
 ghost use Prim.Native.Nat.{_-_, _≤_};
 ghost use lib.ListN.{length, getD};
+ghost use Rattle.counting.specs.Stored.{filled};
 ghost use Rattle.grid.specs.Grid.{mostCrossings, start, crossings};
-ghost use Rattle.grid.specs.Tables.{filled};
 ghost use Rattle.grid.specs.Work.{Copying, Lowering, lowerOf};
 use crate::keys::wide;
 use crate::size;

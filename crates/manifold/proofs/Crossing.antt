@@ -1,6 +1,6 @@
 -- Step 6: where nothing is left open and the pieces at a crossing are linked, the triangles there form one ring. In a piece they are the chain of
 -- step 2, from one face to the other; over a shared segment they meet those of the next piece.
-use Prim.Native.Nat.{ℕ, suc, _*_, _-_, _<_}
+use Prim.Native.Nat.{ℕ, suc, _-_, _<_}
 use mathlib.Core.Path.{_≡_, sym, ap, _∙_, subst}
 use mathlib.Core.Logic.{⊎-elim}
 use mathlib.Core.Bool.{Bool}

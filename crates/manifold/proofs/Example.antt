@@ -1,7 +1,7 @@
 -- Two pieces with the same three crossings and the same three faces. Each has one loop, of three segments: two triangles that share all sides.
 -- The premises of the claims hold, so its rings are there.
 use Prim.Native.Nat.{ℕ, _*_, _-_, _/_, _<_}
-use mathlib.Core.Path.{_≡_, refl, _∙_}
+use mathlib.Core.Path.{_≡_, refl}
 use mathlib.Core.Logic.{_⊎_, inl, inr}
 use mathlib.Core.Bool.{Bool, true, not, _&&_, _||_}
 use mathlib.Core.List.{[], _∷_}

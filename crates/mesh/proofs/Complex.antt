@@ -5,6 +5,7 @@ use mathlib.Core.Logic.{_⊎_, inl, inr, ⊎-elim}
 use native.Mathlib.Omega.{arith}
 use lib.ListN.{getD, length}
 use Rattle.counting.proofs.Below.{rising-once}
+use Rattle.counting.proofs.Lists.{values-at}
 use Rattle.counting.proofs.Pack.{pre-le}
 use Rattle.counting.proofs.Search.{first-ext}
 use Rattle.slots.specs.Slots.{lo, hi, corner, lower, upper, slotEdge, place, firstSlot, secondSlot}
@@ -31,7 +32,6 @@ use Rattle.grid.specs.Accepted.{Sound}
 use Rattle.grid.proofs.Sound.{edge-numbers}
 use Rattle.grid.proofs.Names.{same-named}
 use Rattle.mesh.specs.Mesh.{gridCell}
-use Rattle.mesh.proofs.Values.{values-at}
 
 module _ (G : Grid) where
   -- the number of edge k of cell c, and the edges of the cell
@@ -50,15 +50,15 @@ module _ (G : Grid) where
   -- the count, the start and the face name of an edge and of a slot of cell c
   pub count-of : (c k : ℕ) → k < 6 → w c .count k ≡ countOf (G .counts) (en c k)
   unfolding gridCell
-  count-of c k l = values-at (λ k. countOf (G .counts) (en c k)) 6 k l
+  count-of c k l = values-at (λ k. countOf (G .counts) (en c k)) 6 k 0 l
 
   pub start-of : (c k : ℕ) → k < 6 → w c .start k ≡ start (G .counts) (en c k)
   unfolding gridCell
-  start-of c k l = values-at (λ k. start (G .counts) (en c k)) 6 k l
+  start-of c k l = values-at (λ k. start (G .counts) (en c k)) 6 k 0 l
 
   pub name-of : (c s : ℕ) → s < 4 → at c .name s ≡ faceName (G .cells) c s
   unfolding gridCell
-  name-of c s l = values-at (faceName (G .cells) c) 4 s l
+  name-of c s l = values-at (faceName (G .cells) c) 4 s 0 l
 
   -- the crossing number of crossing x of cell c
   pub number-of : (c x : ℕ) → x < crossings (w c) → at c .number x ≡ start (G .counts) (en c (edge (w c) x)) + index (w c) x

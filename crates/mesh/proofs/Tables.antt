@@ -6,19 +6,21 @@ use mathlib.Core.List.{List}
 use native.Mathlib.Omega.{arith}
 use lib.ListN.{length, getD}
 use Rattle.counting.specs.Pick.{pick}
+use Rattle.counting.specs.Range.{values}
+use Rattle.counting.specs.Stored.{filled}
+use Rattle.counting.proofs.Lists.{values-ext}
+use Rattle.counting.proofs.Stored.{filled-at}
 use Rattle.counting.proofs.Range.{over-ext}
 use Rattle.counting.proofs.Pack.{pre-le}
 use Rattle.cell.specs.Route.{startLimit}
 use Rattle.grid.specs.Grid.{Grid, mostCells, cellCount, node, faceName, edgeNumber, countOf, start, mostSlots, mostEdges}
 use Rattle.grid.specs.Accepted.{Sound}
 use Rattle.grid.proofs.Sound.{edge-numbers}
-use Rattle.grid.specs.Tables.{filled, accepts, Opened, nameAt, sideAt}
-use Rattle.grid.proofs.Filled.{filled-at}
+use Rattle.grid.specs.Tables.{accepts, Opened, nameAt, sideAt}
 use Rattle.triangle.specs.Triangles.{cellTriangles}
-use Rattle.mesh.specs.Mesh.{values, gridCell, meshTriangles}
+use Rattle.mesh.specs.Mesh.{gridCell, meshTriangles}
 use Rattle.mesh.specs.Table.{tableCounts, tableStarts, ofFour, side, tableCell, tableTriangles, tableLoop}
 use Rattle.mesh.specs.Asked.{askedLoop}
-use Rattle.mesh.proofs.Values.{values-ext}
 use Rattle.mesh.proofs.Askings.{asked-ext}
 
 -- the tables of an accepted grid, in arrays that are long enough
@@ -86,9 +88,9 @@ pub tabled : (G : Grid) (names₀ sides₀ starts₀ names sides starts : List �
     → Opened G names₀ sides₀ starts₀ names sides starts → Tabled G names sides starts
 tabled G names₀ sides₀ starts₀ names sides starts S e ln ls lt o = record {
   sound = S;
-  name = λ j h. ap (λ l. getD l j 0) (taken (filled (nameAt (G .cells)) (4 * cellCount (G .cells)) names₀) names₀ names (o .names-are)) ∙ filled-at (nameAt (G .cells)) (4 * cellCount (G .cells)) names₀ (omega (arith, S .few-cells)) j h;
-  edge = λ j h. ap (λ l. getD l j 0) (taken (filled (sideAt G) (6 * cellCount (G .cells)) sides₀) sides₀ sides (o .sides-are)) ∙ filled-at (sideAt G) (6 * cellCount (G .cells)) sides₀ (omega (arith, S .few-cells)) j h;
-  first = λ f h. ap (λ l. getD l f 0) (taken (filled (start (G .counts)) (length (G .counts)) starts₀) starts₀ starts (o .starts-are)) ∙ filled-at (start (G .counts)) (length (G .counts)) starts₀ (omega (arith, S .few-cells, edge-numbers G S .few)) f h;
+  name = λ j h. ap (λ l. getD l j 0) (taken (filled (nameAt (G .cells)) (4 * cellCount (G .cells)) names₀) names₀ names (o .names-are)) ∙ filled-at (nameAt (G .cells)) (4 * cellCount (G .cells)) names₀ 0 (omega (arith, S .few-cells)) j h;
+  edge = λ j h. ap (λ l. getD l j 0) (taken (filled (sideAt G) (6 * cellCount (G .cells)) sides₀) sides₀ sides (o .sides-are)) ∙ filled-at (sideAt G) (6 * cellCount (G .cells)) sides₀ 0 (omega (arith, S .few-cells)) j h;
+  first = λ f h. ap (λ l. getD l f 0) (taken (filled (start (G .counts)) (length (G .counts)) starts₀) starts₀ starts (o .starts-are)) ∙ filled-at (start (G .counts)) (length (G .counts)) starts₀ 0 (omega (arith, S .few-cells, edge-numbers G S .few)) f h;
 }
   where
     taken : (x y l : List ℕ) → l ≡ pick (accepts G) x y → l ≡ x

@@ -8,7 +8,7 @@ use lib.Dec.{eqb}
 use lib.ListN.{length, getD, replicate}
 use Rattle.answer.specs.Answer.{result, refusal}
 use Rattle.counting.specs.Pick.{pick, one}
-use Rattle.counting.specs.Range.{over}
+use Rattle.counting.specs.Range.{over, values}
 use Rattle.counting.specs.Lists.{tally}
 use Rattle.face.specs.Face.{joined, unjoined, noCrossing, count, faceJoin}
 use Rattle.face.specs.Tally.{segments, unjoinedCount}
@@ -21,7 +21,7 @@ use Rattle.triangle.specs.declared.Triangle.{Triangle}
 use Rattle.triangle.specs.Names.{sideAt}
 use Rattle.triangle.specs.Words.{noName}
 use Rattle.manifold.specs.Triangle.{Side, seg, inner, same}
-use Rattle.mesh.specs.Mesh.{values, gridCell, meshTriangles, meshWords}
+use Rattle.mesh.specs.Mesh.{gridCell, meshTriangles, meshWords}
 use Rattle.mesh.specs.Asked.{cellLoop}
 use Rattle.mesh.specs.Answer.{meshAnswer, meshArea, loopsAnswer}
 

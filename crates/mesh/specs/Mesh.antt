@@ -1,16 +1,12 @@
 -- The mesh of a grid (01): the triangles of all its cells, with the face names and crossing numbers of the whole grid.
 use Prim.Native.Nat.{ℕ}
-use mathlib.Core.List.{List, [], _∷_}
-use Rattle.counting.specs.Range.{over}
+use mathlib.Core.List.{List}
+use Rattle.counting.specs.Range.{over, values}
 use Rattle.grid.specs.Grid.{Grid, cellCount, node, faceName, edgeNumber, countOf, start}
 use Rattle.cell.specs.declared.Cell.{Cell}
 use Rattle.triangle.specs.declared.Triangle.{Triangle}
 use Rattle.triangle.specs.Triangles.{cellTriangles}
 use Rattle.triangle.specs.Words.{allWords}
-
--- the values of f at the numbers below n
-abbrev pub values : (ℕ → ℕ) → ℕ → List ℕ
-values f n = over (λ i. f i ∷ []) n 0
 
 module _ (G : Grid) where
   -- cell c with all that belongs to it: the counts and starts of its six edges, the names of its four faces, its nodes

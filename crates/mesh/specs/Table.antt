@@ -2,14 +2,13 @@
 use Prim.Native.Nat.{ℕ, _+_, _*_, _%_}
 use mathlib.Core.List.{List}
 use lib.ListN.{getD}
-use Rattle.counting.specs.Range.{over}
+use Rattle.counting.specs.Range.{over, values}
 use Rattle.cell.specs.declared.Cell.{Cell}
 use Rattle.cell.specs.Route as cell
 use Rattle.cell.specs.Route.{startLimit}
 use Rattle.triangle.specs.declared.Triangle.{Triangle}
 use Rattle.triangle.specs.Triangles.{cellTriangles}
 use Rattle.grid.specs.Grid.{mostCells, cellCount}
-use Rattle.mesh.specs.Mesh.{values}
 use Rattle.mesh.specs.Asked.{askedLoop}
 
 -- the edge k of cell c

@@ -178,3 +178,8 @@ face-ends j l = (
 pub ends-sum : (k : ℕ) → k < 6 → lo k + hi k ≡ pick (ltb k 3) (k + 1) k
 unfolding every lo hi
 ends-sum k l = eqb-true _ _ (every-is (λ k. eqb (lo k + hi k) (pick (ltb k 3) (k + 1) k)) 6 refl k l)
+
+-- the lower of an edge's two slots
+pub second-is : (k : ℕ) → k < 6 → pick (eqb k 0) 2 (pick (ltb k 3) 1 0) ≡ secondSlot k
+unfolding every secondSlot
+second-is k l = eqb-true _ _ (every-is (λ k. eqb (pick (eqb k 0) 2 (pick (ltb k 3) 1 0)) (secondSlot k)) 6 refl k l)

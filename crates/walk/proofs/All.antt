@@ -1,6 +1,5 @@
 -- A loop of as many crossings as there are has all of them.
 use Prim.Native.Nat.{ℕ, _<_}
-use mathlib.Core.Path.{_≡_}
 use native.Mathlib.Omega.{arith}
 use Rattle.counting.proofs.Onto.{onto}
 use Rattle.walk.specs.Iterate.{it}

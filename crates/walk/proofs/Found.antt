@@ -1,6 +1,6 @@
 -- The walk finds a loop from its least crossing, and every one.
 use Prim.Native.Nat.{ℕ, zero, suc, _+_, _*_, _/_, _≤_, _<_}
-use mathlib.Core.Path.{_≡_, refl, sym, ap, _∙_, subst}
+use mathlib.Core.Path.{_≡_, refl, sym, _∙_, subst}
 use mathlib.Core.Logic.{_≢_, ⊎-elim}
 use mathlib.Core.Bool.{Bool, true, false}
 use native.Mathlib.Nat.{not-suc-le-zero, eq-or-lt-of-le, zero-add}
@@ -8,7 +8,7 @@ use native.Mathlib.Omega.{arith}
 use lib.Dec.{eqb, ltb}
 use borrow.Author.Tests.{eqb-true, eqb-false, ltb-true, ltb-false, lt-ltb, le-ltb, eq-eqb, ne-eqb}
 use Rattle.walk.specs.Iterate.{it}
-use Rattle.walk.specs.Darts.{half, Darts, Loop, On, Lowest}
+use Rattle.walk.specs.Darts.{half, Darts, Loop, Lowest}
 use Rattle.walk.specs.Walk.{Place, home, off, on, place, judge, turn, size}
 use Rattle.walk.proofs.Curve.{no-return, distinct}
 

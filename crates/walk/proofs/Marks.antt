@@ -1,12 +1,12 @@
 -- Each crossing that a walk passes is marked with the walk's start: a later walk that meets the mark is on no loop of its own.
 use Prim.Native.Nat.{ℕ, zero, suc, _*_, _≤_, _<_}
-use mathlib.Core.Path.{_≡_, refl, sym, ap, _∙_, subst}
+use mathlib.Core.Path.{_≡_, refl, ap, _∙_, subst}
 use mathlib.Core.Bool.{Bool, true, false}
 use mathlib.Core.List.{List}
 use native.Mathlib.Omega.{arith}
 use lib.Dec.{eqb}
 use borrow.Author.Tests.{eqb-true, eqb-false}
-use lib.ListN.{getD, set, length, replicate, getD-replicate, length-replicate, length-set}
+use lib.ListN.{getD, set, replicate, getD-replicate, length-replicate, length-set}
 use lib.Seq.{getD-set-same, getD-set-other}
 use Rattle.walk.specs.Iterate.{it}
 use Rattle.walk.specs.Darts.{half, Darts, Loop, On, Lowest, Live}

@@ -1,5 +1,5 @@
 -- Each crossing is in at most one of the loops that are listed, once; where no curve ends, in exactly one.
-use Prim.Native.Nat.{ℕ, zero, suc, _*_, _/_, _≤_, _<_}
+use Prim.Native.Nat.{ℕ, zero, suc, _*_, _≤_, _<_}
 use mathlib.Core.Path.{_≡_, refl, sym, ap, _∙_, subst}
 use mathlib.Core.Logic.{_⊎_, inl, inr}
 use mathlib.Core.Bool.{Bool, true, false}
@@ -12,7 +12,7 @@ use Rattle.counting.specs.Range.{total}
 use Rattle.counting.specs.Lists.{weigh, tally, All}
 use Rattle.counting.proofs.Range.{total-ext, total-zero, total-one, total-pos}
 use Rattle.counting.proofs.Lists.{weigh-over, weigh-numbers, tally-over, all-over, room}
-use Rattle.walk.specs.Iterate.{it, orbit}
+use Rattle.walk.specs.Iterate.{it}
 use Rattle.walk.specs.Darts.{half, Darts, Loop, On, Lowest}
 use Rattle.walk.specs.Walk.{size, loopAt, flat}
 use Rattle.walk.specs.Claims.{ofCrossing}

@@ -23,10 +23,6 @@ module _ (N : ℕ) (s : ℕ → ℕ) (p : ℕ) where
   unfolding rest size
   rest-start d e = let f : N + 1 - 1 ≡ N = omega arith in rw (e, f)
 
-  pub rest-out : (k d : ℕ) → N < k → rest k d ≡ 0
-  unfolding rest turn
-  rest-out k d h = let f : N + 1 - k ≡ 0 = omega arith in rw f
-
   module _ (k d : ℕ) (within : k ≤ N) where
     one-more : N + 1 - k ≡ suc (N + 1 - (k + 1))
     one-more = omega arith

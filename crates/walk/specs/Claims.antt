@@ -5,7 +5,7 @@ use mathlib.Core.Bool.{Bool}
 use lib.Dec.{eqb}
 use Rattle.counting.specs.Lists.{tally}
 use Rattle.walk.specs.Iterate.{it}
-use Rattle.walk.specs.Darts.{Darts, half, Live, Loop, On, Lowest}
+use Rattle.walk.specs.Darts.{half, Live, Loop, On, Lowest}
 use Rattle.walk.specs.Walk.{size, flat}
 
 -- the test for a dart of the crossing x

@@ -1,15 +1,17 @@
 -- `grid::side_rows` meets its contract.
 use Prim.Native.Nat.{_*_}
-use mathlib.Core.Path.{_∙_, refl, sym}
+use mathlib.Core.Path.{_∙_, ap, refl, sym}
 use native.Mathlib.Omega.{arith}
 use lib.ListN.{length}
 use borrow.Author.Needs.{needs}
 use Rattle.counting.proofs.Search.{first-none}
+use Rattle.counting.proofs.Stored.{length-filled}
 use Rattle.grid.specs.Grid.{cellCount, gridOf}
 use Rattle.answer.specs.Rows.{since}
 use Rattle.grid.specs.Rows.{rows, unused}
 use Rattle.grid.specs.Work.{Table, listedAt}
 use Rattle.grid.proofs.Answers.{answer-passes, answer-refuses, where-accepted}
+use Rattle.grid.proofs.Packed.{filled-table}
 use Rattle.grid.proofs.Sides.{unlisted-blank}
 use Rattle.grid.proofs.side_rows.Statement.{statement}
 use Rattle.grid.proofs.side_rows.Tie as tie
@@ -38,7 +40,7 @@ chain-requires : tie.Need-chain-requires
 chain-requires c κs =
     let c-pre = c .before .before .before .before .before .before .before .before .before .before .before .pre in
     let c-side-keys = c .before .before .before .before .side-keys in
-    record { keyed = c-side-keys .ensures .room; room = omega (arith, c-pre .ordered .few); small = omega (arith, c-pre .ordered .few); blank = refl }
+    record { keyed = omega (arith, c-pre .ordered .few, simp length-filled at (ap length (c-side-keys .ensures))); room = omega (arith, c-pre .ordered .few); small = omega (arith, c-pre .ordered .few); blank = refl }
 
 slice-aggregate-row-8 : tie.Need-slice-aggregate-row-8
 slice-aggregate-row-8 c = search needs
@@ -60,7 +62,7 @@ row-8-requires c κs =
         small = c-pre .ordered .small;
         small-ends = λ i. omega (arith, c-shared-slice-known2 .given i);
         pairs = c-pre .pairs;
-        table = c-side-keys .ensures;
+        table = filled-table _ _ _ _ (c-side-keys .ensures) (omega (arith, c-pre .ordered .few));
         chained = c-chain .ensures .0;
         headed = c-chain .ensures .1;
       },
@@ -129,7 +131,7 @@ last-rows-requires c κs =
         small = c-pre .ordered .small;
         small-ends = λ i. omega (arith, c-shared-slice-known2 .given i);
         pairs = c-pre .pairs;
-        table = c-side-keys .ensures;
+        table = filled-table _ _ _ _ (c-side-keys .ensures) (omega (arith, c-pre .ordered .few));
         chained = c-chain .ensures .0;
         headed = c-chain .ensures .1;
       };

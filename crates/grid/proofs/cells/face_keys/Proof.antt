@@ -1,27 +1,28 @@
 -- `grid::cells::face_keys` meets its contract.
 use Prim.Native.Nat.{_*_, _+_, _-_, _/_, _≤_}
-use mathlib.Core.Path.{_∙_, _≡_, refl}
+use mathlib.Core.Path.{_∙_, _≡_, ap}
 use native.Mathlib.Omega.{arith}
 use lib.ListN.{length}
 use borrow.Author.Needs.{needs}
-use Rattle.grid.specs.Work.{Table, faceKey}
-use Rattle.grid.proofs.Packed.{table-none}
+use Rattle.counting.specs.Stored.{filled}
+use Rattle.counting.proofs.Stored.{filled-block, filled-none, length-filled}
+use Rattle.grid.specs.Work.{faceKey}
 use Rattle.grid.proofs.cells.face_keys.Statement.{statement}
 use Rattle.grid.proofs.cells.face_keys.Tie as tie
 
 abbrev Inv-loop : tie.InvT-loop
-Inv-loop cells keys₀ n c₀ keys c = (c ≤ n) × (length keys ≡ length keys₀) × Table (faceKey cells) (4 * c) keys
+Inv-loop cells keys₀ n c₀ keys c = (c ≤ n) × (keys ≡ filled (faceKey cells) (4 * c) keys₀)
 
 abbrev μ-loop : tie.MeasureT-loop
 μ-loop cells keys₀ n c₀ keys c = n - c
 
 loop-holds : tie.Need-loop-holds Inv-loop μ-loop
-loop-holds c = (omega arith, refl, table-none _ _)
+loop-holds c = (omega arith, filled-none _ _)
 
 put-faces-requires : tie.Need-put-faces-requires Inv-loop μ-loop
 put-faces-requires c κs =
     let w = c .before .before .loop .inv in
-    (omega arith, (omega (arith, w .1), w .2))
+    (omega arith, omega (arith, simp length-filled at (ap length (w .1))))
 
 add-c : tie.Need-add-c Inv-loop μ-loop
 add-c c = search needs
@@ -34,15 +35,15 @@ loop-again c =
     let w = c .before .before .before .before .before .loop .inv in
     let e = c .before .before .put-faces .ensures in
     let i : 4 * (c .before .before .before .before .before .loop .c + 1) ≡ 4 * c .before .before .before .before .before .loop .c + 4 = omega arith in
-    (omega arith, e .0 ∙ w .1, rw i (e .1))
+    (omega arith, e ∙ rw i (filled-block _ _ 4 _ _ (w .1)))
 
 same-length : tie.Need-same-length Inv-loop μ-loop
-same-length c = c .before .loop .inv .1
+same-length c = simp length-filled at (ap length (c .before .loop .inv .1))
 
 returns : tie.Need-returns Inv-loop μ-loop
 returns c =
     let e : c .before .loop .c ≡ length (c .before .before .before .before .args .cells .now) / 4 = omega arith in
-    rw (← e) (c .before .loop .inv .2)
+    rw (← e) (c .before .loop .inv .1)
 
 pub face-keys-spec : {M : Type 1} → statement M
 face-keys-spec =

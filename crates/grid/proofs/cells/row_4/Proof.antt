@@ -1,15 +1,17 @@
 -- `grid::cells::row_4` meets its contract.
 use Prim.Native.Nat.{_-_, _≤_}
-use mathlib.Core.Path.{_∙_, _≡_, refl, sym}
+use mathlib.Core.Path.{_∙_, _≡_, ap, refl, sym}
 use native.Mathlib.Omega.{arith}
+use lib.ListN.{length}
 use borrow.Author.Needs.{needs}
 use borrow.Author.Tests.{le-ltb, lt-ltb}
 use Rattle.counting.specs.Search.{first, seek}
 use Rattle.counting.proofs.Search.{seek-end, seek-hit, seek-miss, seek-start}
+use Rattle.counting.proofs.Stored.{length-filled}
 use Rattle.grid.specs.Grid.{cellCount}
 use Rattle.grid.specs.Rows.{repeats}
 use Rattle.grid.specs.Work.{Chained, Table, cellKey}
-use Rattle.grid.proofs.Packed.{repeats-last}
+use Rattle.grid.proofs.Packed.{filled-table, repeats-last}
 use Rattle.grid.proofs.cells.row_4.Statement.{statement}
 use Rattle.grid.proofs.cells.row_4.Tie as tie
 
@@ -37,12 +39,12 @@ slice-aggregate-chain-3 c = search needs
 chain-requires : tie.Need-chain-requires Inv-loop μ-loop
 chain-requires c κs =
     let c-cell-keys = c .before .before .before .before .cell-keys in
-    record { keyed = c-cell-keys .ensures .room; room = omega arith; small = omega arith; blank = refl }
+    record { keyed = omega (arith, simp length-filled at (ap length (c-cell-keys .ensures))); room = omega arith; small = omega arith; blank = refl }
 
 loop-holds : tie.Need-loop-holds Inv-loop μ-loop
 loop-holds c =
     let c-cell-keys = c .before .before .before .before .before .before .before .cell-keys in
-    (omega arith, c .before .before .chain .ensures .0, c-cell-keys .ensures, seek-start _ _)
+    (omega arith, c .before .before .chain .ensures .0, filled-table _ _ _ _ (c-cell-keys .ensures) (omega arith), seek-start _ _)
 
 slice-aggregate-earlier : tie.Need-slice-aggregate-earlier Inv-loop μ-loop
 slice-aggregate-earlier c = search needs

@@ -4,9 +4,11 @@ use mathlib.Core.Path.{_∙_, _≡_, ap, refl}
 use native.Mathlib.Omega.{arith}
 use lib.ListN.{length, length-replicate}
 use borrow.Author.Needs.{needs}
+use Rattle.counting.proofs.Stored.{length-filled}
 use Rattle.grid.specs.Grid.{mostCells}
 use Rattle.grid.proofs.Faces.{paired-near, third-first}
 use Rattle.grid.proofs.Mates.{mates-none, zeros}
+use Rattle.grid.proofs.Packed.{filled-table}
 use Rattle.grid.proofs.cells.row_5.Statement.{statement}
 use Rattle.grid.proofs.cells.row_5.Tie as tie
 
@@ -31,7 +33,7 @@ slice-aggregate-chain-3 c = search needs
 chain-requires : tie.Need-chain-requires
 chain-requires c κs =
     let c-face-keys = c .before .before .before .before .face-keys in
-    record { keyed = c-face-keys .ensures .room; room = omega arith; small = omega arith; blank = refl }
+    record { keyed = omega (arith, simp length-filled at (ap length (c-face-keys .ensures))); room = omega arith; small = omega arith; blank = refl }
 
 slice-aggregate-pair : tie.Need-slice-aggregate-pair
 slice-aggregate-pair c = search needs
@@ -59,7 +61,7 @@ returns c =
     let c-pair = c .before .before .pair in
     let g = c-pre .0 in
     let p = c-pair .ensures in
-    let f = c-face-keys .ensures in
+    let f = filled-table _ _ _ _ (c-face-keys .ensures) (omega (arith, g .few)) in
     let ln : length (c-args .near .now) ≡ 4 * mostCells = ap length (c-pre .1) ∙ length-replicate {A = ℕ} (4 * mostCells) 0 in
     (rw (p .is) (third-first _ g _ f), λ h. paired-near _ g _ f _ _ (omega (arith, c-pair .kept .1 .1 .1 .0, ln, g .few)) p h)
 

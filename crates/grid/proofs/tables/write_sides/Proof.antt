@@ -4,8 +4,8 @@ use mathlib.Core.Path.{_∙_, _≡_, ap, refl}
 use native.Mathlib.Omega.{arith}
 use lib.ListN.{getD, length}
 use borrow.Author.Needs.{needs}
-use Rattle.grid.specs.Tables.{filled}
-use Rattle.grid.proofs.Filled.{filled-more, filled-none, length-filled}
+use Rattle.counting.specs.Stored.{filled}
+use Rattle.counting.proofs.Stored.{filled-more, filled-none, length-filled}
 use Rattle.grid.proofs.tables.write_sides.Statement.{statement}
 use Rattle.grid.proofs.tables.write_sides.Tie as tie
 

@@ -4,10 +4,10 @@ use mathlib.Core.Path.{_∙_, _≡_, ap, sym}
 use native.Mathlib.Omega.{arith}
 use lib.ListN.{length}
 use borrow.Author.Needs.{needs}
+use Rattle.counting.specs.Stored.{filled}
+use Rattle.counting.proofs.Stored.{filled-more, filled-none, length-filled}
 use Rattle.grid.specs.Grid.{start}
-use Rattle.grid.specs.Tables.{filled}
 use Rattle.grid.proofs.Crossings.{start-mono, start-next, start-zero}
-use Rattle.grid.proofs.Filled.{filled-more, filled-none, length-filled}
 use Rattle.grid.proofs.tables.write_starts.Statement.{statement}
 use Rattle.grid.proofs.tables.write_starts.Tie as tie
 
