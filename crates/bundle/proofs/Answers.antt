@@ -55,7 +55,7 @@ module _ (s : List ℕ) where
   unfolding bundleAnswer isBundle
   bundle-answer h = both (isOf s endKind (stop s)) (eqb (nextAt s (stop s)) (length s)) _ _ _ h
 
-  refused : isBundle s ≡ false → (place : ℕ) × (bundleAnswer s ≡ refusal brokenRow place)
+  pub refused : isBundle s ≡ false → (place : ℕ) × (bundleAnswer s ≡ refusal brokenRow place)
   unfolding bundleAnswer isBundle
   refused h = go (isOf s endKind (stop s)) (eqb (nextAt s (stop s)) (length s)) h
     where

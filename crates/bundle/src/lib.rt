@@ -3,13 +3,16 @@ mod reader;
 mod records;
 mod writer;
 
+pub use reader::SHORT_ROW;
 pub use reader::read;
 pub use reader::scan;
+pub use records::BROKEN_ROW;
 pub use records::CELL_BYTES;
 pub use records::CELL_NODES;
 pub use records::EDGE_BYTES;
 pub use records::EDGE_ENDS;
 pub use records::END_BYTES;
+pub use records::HEAD_BYTES;
 pub use records::body_at;
 pub use records::record_at;
 pub use writer::write;

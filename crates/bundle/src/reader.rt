@@ -1,7 +1,7 @@
 // The bundle reader: what the bytes hold, then the lists.
 use crate::Contents;
 use crate::Record;
-use crate::records::BROKEN;
+use crate::records::BROKEN_ROW;
 use crate::records::CELL;
 use crate::records::CELL_NODES;
 use crate::records::EDGE;
@@ -20,7 +20,7 @@ ghost use Rattle.bundle.specs.Bundle.{start, run, words, edgesFrom, bund
 ghost use Rattle.bundle.specs.Needed.{WordsLent, CellsLent, EdgesLent};
 
 // The row of refusals that speaks of short lists.
-pub(crate) const SHORT: u8 = 14;
+pub const SHORT_ROW: u8 = 14;
 
 // Records of one kind in a row: how many, and where they stop.
 struct Run {
@@ -58,13 +58,13 @@ pub fn scan(bytes: &[u8]) -> Contents
     let edges = run_from(bytes, cells.stop, EDGE);
     let stop = edges.stop;
     match record_at(bytes, stop) {
-        Record::Refused(number, place) => Contents::Refused(BROKEN, stop),
+        Record::Refused(number, place) => Contents::Refused(BROKEN_ROW, stop),
         Record::Whole(kind, next) => {
             if kind != END {
-                return Contents::Refused(BROKEN, stop);
+                return Contents::Refused(BROKEN_ROW, stop);
             }
             if next != bytes.len() {
-                return Contents::Refused(BROKEN, next);
+                return Contents::Refused(BROKEN_ROW, next);
             }
             Contents::Lists(cells.count, edges.count)
         }
@@ -128,13 +128,13 @@ pub fn read(bytes: &[u8], nodes: &mut [u16], ends: &mut [u16], counts: &mut [u8]
         Contents::Refused(number, place) => Contents::Refused(number, place),
         Contents::Lists(cells, edges) => {
             if nodes.len() / CELL_NODES < cells {
-                return Contents::Refused(SHORT, 0);
+                return Contents::Refused(SHORT_ROW, 0);
             }
             if ends.len() / EDGE_ENDS < edges {
-                return Contents::Refused(SHORT, 0);
+                return Contents::Refused(SHORT_ROW, 0);
             }
             if counts.len() < edges {
-                return Contents::Refused(SHORT, 0);
+                return Contents::Refused(SHORT_ROW, 0);
             }
             let from = fill_cells(bytes, cells, nodes);
             fill_edges(bytes, from, edges, ends, counts);

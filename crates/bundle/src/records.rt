@@ -24,7 +24,7 @@ pub(crate) const BYTE_VALUES: u16 = 256;
 // The bytes of a number of 16 bits; and of length and kind, which stand before the body.
 pub(crate) const WORD_BYTES: usize = 2;
 
-pub(crate) const HEAD_BYTES: usize = WORD_BYTES + WORD_BYTES;
+pub const HEAD_BYTES: usize = WORD_BYTES + WORD_BYTES;
 
 // The bytes of a whole record of each kind.
 pub const CELL_BYTES: usize = WORD_BYTES + CELL_LENGTH as usize;
@@ -39,7 +39,7 @@ pub const CELL_NODES: usize = 4;
 pub const EDGE_ENDS: usize = 2;
 
 // The row of refusals that speaks of records.
-pub(crate) const BROKEN: u8 = 13;
+pub const BROKEN_ROW: u8 = 13;
 
 // The number of 16 bits at a place, low byte first.
 pub(crate) fn word_at(bytes: &[u8], at: usize) -> u16
@@ -70,23 +70,23 @@ pub fn record_at(bytes: &[u8], start: usize) -> Record
     ensures { λ r. ⌜ recordNumbers r ≡ recordAnswer (now (bytes .entry)) start ⌝ }
 {
     if bytes.len() <= start {
-        return Record::Refused(BROKEN, bytes.len());
+        return Record::Refused(BROKEN_ROW, bytes.len());
     }
     if bytes.len() - start < HEAD_BYTES {
-        return Record::Refused(BROKEN, start);
+        return Record::Refused(BROKEN_ROW, start);
     }
     let length = word_at(bytes, start);
     let kind = word_at(bytes, start + WORD_BYTES);
     let right = length_of(kind);
     if right == 0 {
-        return Record::Refused(BROKEN, start);
+        return Record::Refused(BROKEN_ROW, start);
     }
     if length != right {
-        return Record::Refused(BROKEN, start);
+        return Record::Refused(BROKEN_ROW, start);
     }
     let size = WORD_BYTES + (length as usize);
     if bytes.len() - start < size {
-        return Record::Refused(BROKEN, start);
+        return Record::Refused(BROKEN_ROW, start);
     }
     Record::Whole(kind, start + size)
 }

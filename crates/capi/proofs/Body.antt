@@ -3,12 +3,12 @@ use Prim.Native.Nat.{ℕ, _+_, _-_}
 use mathlib.Core.Path.{_≡_}
 use mathlib.Core.List.{List, [], _∷_}
 use Rattle.answer.specs.Answer.{result, refusal}
-use Rattle.bundle.specs.Record.{recordAnswer, bodyStart, bodySize}
-use Rattle.bundle.proofs.OneRecord.{Found, found, not-found}
+use Rattle.bundle.specs.Record.{headBytes, recordAnswer, bodyStart, bodySize}
+use Rattle.bundle.proofs.OneRecord.{found, not-found}
 use Rattle.capi.specs.Written.{bodyNumbers}
 
 module _ (s : List ℕ) (at : ℕ) where
-  pub body-found : (kind next : ℕ) → result (kind ∷ next ∷ []) ≡ recordAnswer s at → (at + 4) ∷ (next - (at + 4)) ∷ [] ≡ bodyNumbers s at
+  pub body-found : (kind next : ℕ) → result (kind ∷ next ∷ []) ≡ recordAnswer s at → (at + headBytes) ∷ (next - (at + headBytes)) ∷ [] ≡ bodyNumbers s at
   unfolding bodyStart bodySize
   body-found kind next h = let f = found s at kind next h in simp (f .whole, f .nextIs)
 

@@ -16,8 +16,11 @@ ghost use Rattle.answer.specs.Answer.{result};
 ghost use Rattle.cell.specs.Answer.{typeNumbers, loopNumbers};
 ghost use Rattle.mesh.specs.Answer.{meshAnswer, meshArea, loopsAnswer};
 ghost use Rattle.places.specs.Answer.{placesAnswer, placesArea};
+use bundle::BROKEN_ROW;
 use bundle::Contents;
+use bundle::HEAD_BYTES;
 use bundle::Record;
+use bundle::SHORT_ROW;
 use bundle::Written;
 use cell::Loop;
 use cell::LoopType;
@@ -39,13 +42,12 @@ fn put(answer: &mut [u64], numbers: &[u64]) -> usize
     if answer.len() < ANSWER_WORDS {
         return ANSWER_WORDS;
     }
-    let n = numbers.len();
     let mut i = 0;
-    while i < n {
+    while i < numbers.len() {
         answer[i] = numbers[i];
         i += 1;
     }
-    n
+    i
 }
 
 // The face call: 0 and the partner's edge and index; 1 unjoined; 2 no such crossing.
@@ -194,7 +196,7 @@ pub extern "C" fn citternblaze_record_body(bytes: &[u8], start: usize, answer: &
 {
     match bundle::record_at(bytes, start) {
         Record::Whole(kind, next) => {
-            let from = start + 4;
+            let from = start + HEAD_BYTES;
             put(answer, &[from as u64, (next - from) as u64])
         }
         Record::Refused(row, place) => put(answer, &[0, 0]),
@@ -241,7 +243,7 @@ pub extern "C" fn citternblaze_bundle_write(
     }
     match bundle::write(nodes, ends, counts, area) {
         Written::Bytes(n) => put(answer, &[0, n as u64]),
-        Written::Unformed => put(answer, &[13, 0]),
-        Written::Short(needed) => put(answer, &[14, needed as u64]),
+        Written::Unformed => put(answer, &[BROKEN_ROW as u64, 0]),
+        Written::Short(needed) => put(answer, &[SHORT_ROW as u64, needed as u64]),
     }
 }

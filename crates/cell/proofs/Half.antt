@@ -1,13 +1,13 @@
 -- What holds of every half-edge: one computed test, lifted to any of them.
-use Prim.Native.Nat.{ℕ, _+_, _*_, _<_}
+use Prim.Native.Nat.{ℕ, _+_, _*_, _%_, _<_, _≤_}
 use mathlib.Core.Path.{_≡_, refl, _∙_}
 use mathlib.Core.Logic.{_≢_}
-use mathlib.Core.Bool.{Bool, true, false, not, _&&_}
+use mathlib.Core.Bool.{Bool, true, false, not, _&&_, _||_}
 use native.Mathlib.Omega.{arith}
 use mathlib.Core.List.{List}
 use lib.Dec.{eqb, ltb}
 use lib.ListN.{getD}
-use borrow.Author.Tests.{eqb-true, ltb-true, eq-eqb, ne-eqb}
+use borrow.Author.Tests.{eqb-true, ltb-true, eq-eqb, ne-eqb, le-ltb}
 use Rattle.counting.specs.Pick.{pick}
 use Rattle.counting.specs.Search.{every}
 use Rattle.counting.proofs.Bools.{and-left, and-right}
@@ -95,3 +95,15 @@ entry m f n l e i lt =
       eqb-true (getD l i 0) (f i) (and-left (eqb (getD l i 0) (f i)) (ltb (getD l i 0) n) t),
       ltb-true (getD l i 0) n (and-right (eqb (getD l i 0) (f i)) (ltb (getD l i 0) n) t),
     )
+
+-- the edge of a byte that is no half-edge is that of one of the last slot
+pastTest : ℕ → Bool
+pastTest h = ltb h halfEdges || eqb (edgeOf (9 + h % 3)) (edgeOf h)
+
+past-passes : every pastTest 256 ≡ true
+unfolding every pastTest edgeOf
+past-passes = refl
+
+pub edge-past : (h : ℕ) → h < 256 → halfEdges ≤ h → edgeOf (9 + h % 3) ≡ edgeOf h
+unfolding pastTest
+edge-past h l g = eqb-true (edgeOf (9 + h % 3)) (edgeOf h) (rw (le-ltb h halfEdges g) at (every-is pastTest 256 past-passes h l))

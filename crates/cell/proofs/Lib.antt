@@ -6,12 +6,15 @@ pub mod Route
 pub mod Ready
 pub mod Mates
 pub mod Start
+pub mod Putting
 pub mod Walking
 pub mod Recording
 pub mod Loops
+pub mod Leasts
+pub mod Tracing
+pub mod Reading
 pub mod Segments
 pub mod Follow
-pub mod Leasts
 pub mod Three
 pub mod Nodes
 pub mod Turn

@@ -1,21 +1,18 @@
 -- The loops of a cell, and what is read of one from its record.
-use Prim.Native.Nat.{ℕ, zero, suc, _+_, _*_, _-_, _/_, _%_, _≤_, _<_}
+use Prim.Native.Nat.{ℕ, suc, _+_, _*_, _-_, _/_, _%_, _≤_, _<_}
 use mathlib.Core.Path.{_≡_, refl, sym, ap, ap₂, _∙_}
 use mathlib.Core.Logic.{_≢_, ⊎-elim}
 use mathlib.Core.Bool.{Bool}
 use mathlib.Core.List.{List, [], _∷_}
-use native.Mathlib.Nat.{eq-or-lt-of-le, eq-zero-or-pos, not-suc-le-zero, sub-zero}
+use native.Mathlib.Nat.{eq-or-lt-of-le, eq-zero-or-pos}
 use native.Mathlib.Omega.{arith}
 use native.Mathlib.Numerals.{add-one}
 use lib.Dec.{eqb}
-use lib.ListN.{getD, drop}
-use lib.Seq.{drop-nil}
-use borrow.Author.Tests.{eq-eqb, ne-eqb}
-use Rattle.answer.specs.Answer.{result}
-use Rattle.counting.specs.Pick.{pick, one}
-use Rattle.counting.specs.Range.{total, over, after, before}
+use lib.ListN.{getD, length}
+use Rattle.counting.specs.Pick.{one}
+use Rattle.counting.specs.Range.{total, after, before}
 use Rattle.counting.specs.Lists.{tally}
-use Rattle.counting.proofs.Range.{total-ext, total-next, total-round, before-after, after-last, after-on, after-lt, over-next, over-none}
+use Rattle.counting.proofs.Range.{total-ext, total-next, total-split, total-round, before-after, after-last, after-on, after-lt, length-over}
 use Rattle.slots.specs.Slots.{place, firstSlot}
 use Rattle.slots.proofs.Slots.{two-slots}
 use Rattle.walk.specs.Iterate.{it}
@@ -23,22 +20,21 @@ use Rattle.walk.specs.Darts.{Loop, half, rev}
 use Rattle.walk.specs.Walk as walk
 use Rattle.walk.proofs.Step as walks
 use Rattle.walk.proofs.Curve.{loop-short}
-use Rattle.walk.proofs.Iterate.{tally-orbit, it-suc}
+use Rattle.walk.proofs.Once.{flat-room}
+use Rattle.walk.proofs.Iterate.{tally-orbit, length-orbit, it-suc}
 use Rattle.cell.specs.declared.Cell.{Cell}
-use Rattle.cell.specs.declared.LoopType.{LoopType}
-use Rattle.cell.specs.declared.Loop.the-variants.{Found}
 use Rattle.cell.specs.Cell.{Edges, crossings, edge, slot, first, second, mate, step}
-use Rattle.cell.specs.Loop.{loopSize, dart, loopDarts, folded, normal, parity, inGrid, typeBy, typeOf, leasts, answerOf, loopAnswer}
+use Rattle.cell.specs.Loop.{loopSize, dart, loopDarts, folded, normal, parity, inGrid, typeOf, answerOf}
 use Rattle.cell.specs.Of.{edgesOf}
 use Rattle.cell.specs.Half.{halfEdges, edgeOf, halfOf, halfEdge}
 use Rattle.cell.specs.Dart.{dartNumber}
-use Rattle.cell.specs.Walked.{Recorded, Looped}
-use Rattle.cell.specs.Answer.{typeNumbers, loopNumbers}
-use Rattle.cell.specs.Round.{HalfEdges, foldsIn, crossesIn}
+use Rattle.cell.specs.Trace.{halvesFrom, pointsFrom}
+use Rattle.cell.specs.Round.{foldsIn, crossesIn, roundAnswer}
 use Rattle.cell.proofs.Half as halves
 use Rattle.cell.proofs.Lay.{lay}
 use Rattle.cell.proofs.Step.{number-first, number-second, slot-first, slot-second, step-is}
 use Rattle.cell.proofs.Mates.{slot-has, ports, darts, laws}
+use Rattle.cell.proofs.Recording.{run-loop, run-at, run-long, pointOf}
 
 -- a sum of k ones and zeros on the way
 pub record Summed (g : ℕ → ℕ) (k x : ℕ) : Type 0 where
@@ -53,20 +49,26 @@ pub summed-more : {g : ℕ → ℕ} {k x : ℕ} → Summed g k x → (y : ℕ) �
 summed-more {g} {k} {x} S y e h = record { is = omega (arith, S .is, total-next g k); few = omega (arith, S .few) }
 
 -- the folded segments of a record, each counted at the place that it comes to
-module _ (l : List ℕ) (n : ℕ) where
+module _ (l : List ℕ) where
+  abbrev n : ℕ
+  n = length l
+
   unfoldable pub foldAt : ℕ → ℕ
   foldAt k = one (eqb (edgeOf (getD l (before n k) 0)) (edgeOf (getD l k 0)))
 
-  pub folds-none : n ≡ 0 → foldsIn l n ≡ 0
+  pub folds-none : n ≡ 0 → foldsIn l ≡ 0
   unfolding foldsIn total
   folds-none e = rw e
 
-  pub folds-all : {k x : ℕ} → Summed foldAt k x → k ≡ n → x ≡ foldsIn l n
+  pub folds-all : {k x : ℕ} → Summed foldAt k x → k ≡ n → x ≡ foldsIn l
   unfolding foldsIn foldAt
   folds-all {k} {x} S e =
       S .is ∙ ap (λ m. total foldAt m 0) e ∙ sym (total-round foldAt n)
       ∙ total-ext (λ k. foldAt (after n k)) (λ k. one (eqb (edgeOf (getD l k 0)) (edgeOf (getD l (after n k) 0)))) n 0
       (λ k a b. ap (λ j. one (eqb (edgeOf (getD l j 0)) (edgeOf (getD l (after n k) 0)))) (before-after n k (omega arith)))
+
+  unfoldable pub crossAt : ℕ → ℕ → ℕ
+  crossAt e k = one (eqb (edgeOf (getD l k 0)) e)
 
   pub before-next : (k : ℕ) → before n (k + 1) ≡ k
   before-next k = ap (before n) (add-one k)
@@ -158,92 +160,80 @@ module _ (w : Edges) where
     unfolding loopDarts walk.loopAt loopSize dart
     tally-darts t = tally-orbit t (step w) (loopSize w p) (2 * p)
 
-module _ {c : Cell} {p n : ℕ} {hs ps : List ℕ} (R : Recorded c p n hs ps) (size : n ≡ loopSize (edgesOf c) p) (l : p < crossings (edgesOf c)) where
+-- no crossing is on two loops, so that all loops together have no more than there are
+pub sizes : (w : Edges) → total (loopSize w) (crossings w) 0 ≤ crossings w
+unfolding loopSize step walk.flat walk.loopAt
+sizes w =
+    let s = step w in
+    omega (
+      arith,
+      length-over (walk.loopAt (crossings w) s) (crossings w) 0,
+      total-ext (λ p. length (walk.loopAt (crossings w) s p)) (loopSize w) (crossings w) 0 (λ p a b. length-orbit s (loopSize w p) (2 * p)),
+      flat-room (crossings w) s rev (darts w),
+    )
+
+-- there is room for the loop from p after those before it
+pub size-room : (w : Edges) (p : ℕ) → p < crossings w → total (loopSize w) p 0 + loopSize w p ≤ crossings w
+size-room w p l =
+    let e : crossings w ≡ (p + 1) + (crossings w - (p + 1)) = omega arith in
+    omega (arith, sizes w, ap (λ n. total (loopSize w) n 0) e, total-split (loopSize w) (p + 1) (crossings w - (p + 1)) 0, total-next (loopSize w) p)
+
+-- what is read of the record of the loop from p
+module _ (c : Cell) (p : ℕ) where
   abbrev cw : Edges
   cw = edgesOf c
 
-  live : (k : ℕ) → k < n → dart cw p k < 2 * crossings cw
-  live k h = dart-live cw p l k (omega arith)
+  abbrev size : ℕ
+  size = loopSize cw p
 
-  pub recorded-halves : HalfEdges hs n
-  recorded-halves k h = rw (R .half k h) (half-lt cw (dart cw p k) (live k h))
+  pub length-halves : length (halvesFrom c p) ≡ size
+  unfolding halvesFrom
+  length-halves = ap length (run-loop cw (halfEdge cw) p size refl) ∙ run-long cw (halfEdge cw) p size
 
-  pub recorded-slot : (k : ℕ) → k < n → getD hs k 0 / 3 ≡ slot cw (dart cw p k)
-  recorded-slot k h = rw (R .half k h) (half-slot cw (dart cw p k) (live k h))
+  pub length-points : length (pointsFrom c p) ≡ size
+  unfolding pointsFrom
+  length-points = ap length (run-loop cw (pointOf c) p size refl) ∙ run-long cw (pointOf c) p size
 
-  pub recorded-edge : (k : ℕ) → k < n → edgeOf (getD hs k 0) ≡ edge cw (dart cw p k / 2)
-  recorded-edge k h = rw (R .half k h) (half-edge cw (dart cw p k) (live k h))
+  pub from-point : (k : ℕ) → k < size → getD (pointsFrom c p) k 0 ≡ inGrid cw (dart cw p k / 2)
+  unfolding pointsFrom
+  from-point k h = ap (λ l. getD l k 0) (run-loop cw (pointOf c) p size refl) ∙ run-at cw (pointOf c) p size k h
 
-  pub recorded-next : (k : ℕ) → k < n → edgeOf (getD hs (after n k) 0) ≡ edge cw (step cw (dart cw p k) / 2)
-  recorded-next k h =
-      recorded-edge (after n k) (after-lt n k h) ∙ ap (λ m. edge cw (dart cw p (after m k) / 2)) size ∙ ap (λ d. edge cw (d / 2)) (dart-after cw p l k (omega arith))
+  from-half : (k : ℕ) → k < size → getD (halvesFrom c p) k 0 ≡ halfEdge cw (dart cw p k)
+  unfolding halvesFrom
+  from-half k h = ap (λ l. getD l k 0) (run-loop cw (halfEdge cw) p size refl) ∙ run-at cw (halfEdge cw) p size k h
 
-  pub normal-is : normal cw p ≡ eqb (foldsIn hs n) 0
-  unfolding normal folded foldsIn
-  normal-is =
-      ap (λ x. eqb x 0) (tally-darts cw p l (folded cw) ∙ ap (λ m. total (λ k. one (folded cw (dart cw p k))) m 0) (sym size)
-      ∙ total-ext (λ k. one (folded cw (dart cw p k))) (λ k. one (eqb (edgeOf (getD hs k 0)) (edgeOf (getD hs (after n k) 0)))) n 0
-      (λ k a b. ap one (ap₂ eqb (sym (recorded-edge k (omega arith))) (sym (recorded-next k (omega arith))))))
+  module _ (l : p < crossings cw) where
+    pub from-lt : (k : ℕ) → k < size → getD (halvesFrom c p) k 0 < halfEdges
+    from-lt k h = rw (from-half k h) (half-lt cw (dart cw p k) (dart-live cw p l k h))
 
-  pub parity-is : (e : ℕ) → parity cw p e ≡ crossesIn hs n e % 2
-  unfolding parity crossesIn
-  parity-is e =
-      ap (λ x. x % 2) (tally-darts cw p l (λ d. eqb (edge cw (d / 2)) e) ∙ ap (λ m. total (λ k. one (eqb (edge cw (dart cw p k / 2)) e)) m 0) (sym size)
-      ∙ total-ext (λ k. one (eqb (edge cw (dart cw p k / 2)) e)) (λ k. one (eqb (edgeOf (getD hs k 0)) e)) n 0
-      (λ k a b. ap (λ x. one (eqb x e)) (sym (recorded-edge k (omega arith)))))
+    pub from-slot : (k : ℕ) → k < size → getD (halvesFrom c p) k 0 / 3 ≡ slot cw (dart cw p k)
+    from-slot k h = rw (from-half k h) (half-slot cw (dart cw p k) (dart-live cw p l k h))
 
--- what is answered of a recorded loop
-pub answer-is : {c : Cell} {p n : ℕ} {hs ps : List ℕ} → Looped c p n hs ps → (q m : ℕ) (b : Bool) (t : LoopType)
-    → q ≡ getD ps 0 0 → m ≡ n → b ≡ eqb (foldsIn hs n) 0
-    → typeNumbers t ≡ typeBy (c .nodes) (crossesIn hs n 0 % 2) (crossesIn hs n 1 % 2) (crossesIn hs n 2 % 2)
-    → loopNumbers (Found q m b t) ≡ answerOf (edgesOf c) (c .nodes) (p ∷ [])
-unfolding answerOf typeOf
-answer-is {c} {p} {n} {hs} {ps} L q m b t eq em eb et =
-    let x : dart (edgesOf c) p 0 / 2 ≡ p = omega (arith, dart-zero (edgesOf c) p (L .inside)) in
-    let point : q ≡ inGrid (edgesOf c) p = eq ∙ L .recorded .point 0 (L .some) ∙ ap (inGrid (edgesOf c)) x in
-    rw (point, em, L .size, eb, ← normal-is (L .recorded) (L .size) (L .inside), et, ← parity-is (L .recorded) (L .size) (L .inside) 0, ← parity-is (L .recorded) (L .size) (L .inside) 1, ← parity-is (L .recorded) (L .size) (L .inside) 2)
-    refl
+    from-edge : (k : ℕ) → k < size → edgeOf (getD (halvesFrom c p) k 0) ≡ edge cw (dart cw p k / 2)
+    from-edge k h = rw (from-half k h) (half-edge cw (dart cw p k) (dart-live cw p l k h))
 
-drop-one : (j x : ℕ) (l : List ℕ) → 0 < j → drop j (x ∷ l) ≡ drop (j - 1) l
-drop-one zero x l h = absurd (not-suc-le-zero h)
-drop-one (suc j) x l h = let e : suc j - 1 ≡ j = omega arith in rw e
+    from-next : (k : ℕ) → k < size → edgeOf (getD (halvesFrom c p) (after size k) 0) ≡ edge cw (step cw (dart cw p k) / 2)
+    from-next k h = from-edge (after size k) (after-lt size k h) ∙ ap (λ d. edge cw (d / 2)) (dart-after cw p l k h)
 
--- a search for loop k that has passed the crossings below p, and has j loops more to pass
-module _ (c : Cell) (k : ℕ) where
-  abbrev w : Edges
-  w = edgesOf c
+    pub normal-is : normal cw p ≡ eqb (foldsIn (halvesFrom c p)) 0
+    unfolding normal folded foldsIn
+    normal-is =
+        rw length-halves
+        (ap (λ x. eqb x 0) (tally-darts cw p l (folded cw)
+        ∙ total-ext (λ k. one (folded cw (dart cw p k))) (λ k. one (eqb (edgeOf (getD (halvesFrom c p) k 0)) (edgeOf (getD (halvesFrom c p) (after size k) 0)))) size 0
+        (λ k a b. ap one (ap₂ eqb (sym (from-edge k (omega arith))) (sym (from-next k (omega arith)))))))
 
-  abbrev answer : List ℕ → List ℕ
-  answer = answerOf w (c .nodes)
+    pub parity-is : (e : ℕ) → parity cw p e ≡ crossesIn (halvesFrom c p) e % 2
+    unfolding parity crossesIn
+    parity-is e =
+        rw length-halves
+        (ap (λ x. x % 2) (tally-darts cw p l (λ d. eqb (edge cw (d / 2)) e)
+        ∙ total-ext (λ k. one (eqb (edge cw (dart cw p k / 2)) e)) (λ k. one (eqb (edgeOf (getD (halvesFrom c p) k 0)) e)) size 0
+        (λ k a b. ap (λ x. one (eqb x e)) (sym (from-edge k (omega arith))))))
 
-  abbrev least : ℕ → List ℕ
-  least p = pick (eqb (loopSize w p) 0) [] (p ∷ [])
-
-  pub record Seeking (p j : ℕ) : Type 0 where
-    pub is : loopAnswer w (c .nodes) k ≡ answer (drop j (over least (crossings w - p) p))
-
-  pub seeking-start : Seeking 0 k
-  unfolding loopAnswer leasts
-  seeking-start = record { is = rw (sub-zero (crossings w)) }
-
-  -- the answer of a list does not depend on what follows its first entry
-  answer-first : (p : ℕ) (l : List ℕ) → answer (p ∷ l) ≡ answer (p ∷ [])
-  unfolding answerOf
-  answer-first p l = refl
-
-  module _ {p j : ℕ} (S : Seeking p j) where
-    pub seeking-none : crossings w ≤ p → loopAnswer w (c .nodes) k ≡ result []
-    unfolding answerOf
-    seeking-none h = S .is ∙ rw (over-none least (crossings w) p h, drop-nil {A = ℕ} j) refl
-
-    module _ (l : p < crossings w) where
-      pub seeking-skip : loopSize w p ≡ 0 → Seeking (p + 1) j
-      seeking-skip e = record { is = S .is ∙ rw (over-next least (crossings w) p l, eq-eqb (loopSize w p) 0 e) refl }
-
-      pub seeking-pass : (loopSize w p ≡ 0 → ⊥) → 0 < j → Seeking (p + 1) (j - 1)
-      seeking-pass e h = record {
-        is = S .is ∙ rw (over-next least (crossings w) p l, ne-eqb (loopSize w p) 0 e) (ap answer (drop-one j p (over least (crossings w - (p + 1)) (p + 1)) h));
-      }
-
-      pub seeking-here : (loopSize w p ≡ 0 → ⊥) → j ≡ 0 → loopAnswer w (c .nodes) k ≡ answer (p ∷ [])
-      seeking-here e h = S .is ∙ rw (over-next least (crossings w) p l, ne-eqb (loopSize w p) 0 e, h) (answer-first p (over least (crossings w - (p + 1)) (p + 1)))
+    -- what is answered of it
+    pub answer-is : 0 < size → roundAnswer (c .nodes) (halvesFrom c p) (pointsFrom c p) ≡ answerOf cw (c .nodes) (p ∷ [])
+    unfolding answerOf typeOf roundAnswer
+    answer-is h =
+        let x : dart cw p 0 / 2 ≡ p = omega (arith, dart-zero cw p l) in
+        rw (from-point 0 h, x, length-halves, ← normal-is, ← parity-is 0, ← parity-is 1, ← parity-is 2) refl

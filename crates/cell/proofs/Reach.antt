@@ -6,10 +6,10 @@ use native.Mathlib.Omega.{arith}
 use lib.Dec.{eqb, ltb}
 use Rattle.counting.specs.Pick.{pick}
 use Rattle.slots.specs.Slots.{slotEdge}
-use Rattle.face.specs.Face.{joined, lower, upper, other, corner, count, kth, faceJoin}
+use Rattle.face.specs.Face.{joined, lower, upper, other, count, kth, faceJoin}
 use Rattle.face.specs.Ends.{Edge, on-ab, on-ac, on-bc, End, low, high, Corners}
 use Rattle.face.proofs.Ends.{edge-of, edge-lt as face-edge-lt, on, end-other}
-use Rattle.face.proofs.Gaps.{corner-lower, corner-upper, corner-fits}
+use Rattle.face.proofs.Gaps.{corner-fits}
 use Rattle.face.proofs.Branches.{face-low, face-high, face-skip, face-up, face-down}
 use Rattle.cell.specs.Cell.{Edges, number, crossings, step}
 use Rattle.cell.specs.Half.{halfEdges, slotOf, placeOf, edgeOf, twin, around}
@@ -111,15 +111,6 @@ module _ (w : Edges) where
 
       pub high-fits : (k : ℕ) → k < cornerOf w (upper (placeOf h)) h → k < w .count (edgeOf (around (upper (placeOf h)) h))
       high-fits k = around-fits (upper (placeOf h)) k (high own)
-
-      -- the corner counts at the two ends, from the counts of the edge and of the next edges there
-      pub low-corner : cornerOf w (lower (placeOf h)) h ≡ corner (w .count (edgeOf h)) (w .count (edgeOf (around (lower (placeOf h)) h))) (w .count (edgeOf (around (upper (placeOf h)) h)))
-      unfolding cornerOf
-      low-corner = corner-lower ab ac bc own ∙ rw (own-count, next-count (lower (placeOf h)) (low own), next-count (upper (placeOf h)) (high own)) refl
-
-      pub high-corner : cornerOf w (upper (placeOf h)) h ≡ corner (w .count (edgeOf h)) (w .count (edgeOf (around (upper (placeOf h)) h))) (w .count (edgeOf (around (lower (placeOf h)) h)))
-      unfolding cornerOf
-      high-corner = corner-upper ab ac bc own ∙ rw (own-count, next-count (lower (placeOf h)) (low own), next-count (upper (placeOf h)) (high own)) refl
 
   module _ {h t x : ℕ} (P : Parts w h t x) where
     abbrev j : ℕ

@@ -62,9 +62,6 @@ module _ {c : Cell} {t : List ℕ} {d : Dart} (R : Ready c t d) where
   pub count-is : own countAt ≡ w .count (edgeOf h)
   count-is = count-at (R .routed) h l
 
-  pub twin-next-lt : own twinAt < halfEdges
-  twin-next-lt = rw (twin-at (R .routed) h l) (twin-lt h l)
-
   pub index-small : d .index < mostInCell
   index-small = omega (arith, fits (R .routed) h l (d .index) (R .dart .index-lt))
 

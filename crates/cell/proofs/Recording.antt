@@ -1,26 +1,30 @@
 -- A walk in the terms of the code: the dart it stands at, its marks, and what it has recorded.
-use Prim.Native.Nat.{ℕ, _+_, _*_, _-_, _/_, _<_}
+use Prim.Native.Nat.{ℕ, zero, suc, _+_, _*_, _/_, _≤_, _<_}
 use mathlib.Core.Path.{_≡_, refl, sym, ap, _∙_}
-use mathlib.Core.Logic.{⊎-elim}
-use mathlib.Core.List.{List}
-use native.Mathlib.Nat.{eq-or-lt-of-le, not-suc-le-zero}
+use mathlib.Core.List.{List, [], _∷_, _++_, map, map-append}
+use native.Mathlib.Nat.{not-suc-le-zero}
 use native.Mathlib.Omega.{arith}
-use lib.ListN.{getD, set, length, length-set}
-use lib.Seq.{getD-set-same, getD-set-other}
-use Rattle.walk.specs.Iterate.{it}
+use native.Mathlib.Decide.{decLt}
+use lib.ListN.{getD, set, length, length-map}
+use Rattle.counting.proofs.Lists.{getD-map}
+use Rattle.walk.specs.Iterate.{it, orbit}
+use Rattle.walk.specs.Walk as walk
+use Rattle.walk.proofs.Iterate.{orbit-snoc, length-orbit}
 use Rattle.cell.specs.declared.Cell.{Cell}
 use Rattle.cell.specs.declared.Dart.{Dart}
 use Rattle.cell.specs.Cell.{Edges, crossings, index, step}
-use Rattle.cell.specs.Loop.{loopSize, dart, inGrid}
+use Rattle.cell.specs.Loop.{loopSize, dart, loopDarts, inGrid}
 use Rattle.cell.specs.Of.{edgesOf}
 use Rattle.cell.specs.Half.{edgeOf, halfOf, halfEdge}
 use Rattle.cell.specs.Route.{mostInCell, startLimit, Routed}
 use Rattle.cell.specs.Dart.{Parts, IsDart, Ready, Leads, dartNumber, dartOf}
-use Rattle.cell.specs.Walked.{Starts, Marked, Scratch, Recorded, Walked}
+use Rattle.cell.specs.Trace.{halvesFrom, pointsFrom}
+use Rattle.cell.specs.Walked.{Starts, Marked, Kept, Put, Lent, Walked}
 use Rattle.cell.proofs.Half.{place-is}
 use Rattle.cell.proofs.Step.{number-half, parts-number, parts-edge, parts-index, parts-slot}
-use Rattle.cell.proofs.Route.{stored, start-at, start-near, fits}
-use Rattle.cell.proofs.Walking.{Walking, dart-next, walking-start, walking-room, walking-end, walking-low, walking-home, walking-on, walking-mark, walking-met}
+use Rattle.cell.proofs.Route.{start-at, start-near, fits}
+use Rattle.cell.proofs.Putting.{kept-none, kept-set, put-none, put-more, put-off}
+use Rattle.cell.proofs.Walking.{Walking, dart-next, walking-start, walking-longer, walking-end, walking-low, walking-home, walking-on, walking-mark, walking-met, start-met}
 
 -- a dart in parts leaves by its half-edge, from its point
 module _ {w : Edges} {h t x : ℕ} (P : Parts w h t x) where
@@ -35,123 +39,182 @@ module _ {w : Edges} {h t x : ℕ} (P : Parts w h t x) where
   pub parts-lt : dartNumber h x < 2 * crossings w
   parts-lt = let l = parts-number w P in omega (arith, number-half h x)
 
--- one more dart is recorded
-pub recorded-none : (c : Cell) (p : ℕ) (hs ps : List ℕ) → Recorded c p 0 hs ps
-recorded-none c p hs ps = record { half = λ k l. absurd (not-suc-le-zero l); point = λ k l. absurd (not-suc-le-zero l) }
+getD-orbit : (s : ℕ → ℕ) (n k d : ℕ) → k < n → getD (orbit s n d) k 0 ≡ it s k d
+unfolding orbit it
+getD-orbit s zero k d h = absurd (not-suc-le-zero h)
+getD-orbit s (suc n) zero d h = refl
+getD-orbit s (suc n) (suc k) d h = getD-orbit s n k (s d) (omega arith)
 
-pub recorded-more : {c : Cell} {p k : ℕ} {hs ps : List ℕ} → Recorded c p k hs ps → k < length hs → k < length ps → (v u : ℕ)
-    → v ≡ halfEdge (edgesOf c) (dart (edgesOf c) p k) → u ≡ inGrid (edgesOf c) (dart (edgesOf c) p k / 2)
-    → Recorded c p (k + 1) (set hs k v) (set ps k u)
-recorded-more {c} {p} {k} {hs} {ps} R a b v u e f = record {
-  half = stored (λ i. halfEdge (edgesOf c) (dart (edgesOf c) p i)) hs k v a (R .half) e;
-  point = stored (λ i. inGrid (edgesOf c) (dart (edgesOf c) p i / 2)) ps k u b (R .point) f;
-}
+-- What is recorded of the darts from crossing p, k of them: the f of each. Where they are a loop, it is what is recorded of the loop.
+module _ (w : Edges) (f : ℕ → ℕ) (p : ℕ) where
+  unfoldable pub run : ℕ → List ℕ
+  run k = map f (orbit (step w) k (2 * p))
 
-pub scratch-record : {ms hs ps : List ℕ} → Scratch ms hs ps → (k v u : ℕ) → Scratch ms (set hs k v) (set ps k u)
-scratch-record {ms} {hs} {ps} S k v u = record {
-  marks-long = S .marks-long;
-  halves-long = length-set hs k v ∙ S .halves-long;
-  points-long = length-set ps k u ∙ S .points-long;
-}
+  pub run-none : run 0 ≡ []
+  unfolding run orbit
+  run-none = refl
 
-pub scratch-mark : {ms hs ps : List ℕ} → Scratch ms hs ps → (x v : ℕ) → Scratch (set ms x v) hs ps
-scratch-mark {ms} S x v = record { marks-long = length-set ms x v ∙ S .marks-long; halves-long = S .halves-long; points-long = S .points-long }
+  pub run-more : (k : ℕ) → run (k + 1) ≡ run k ++ (f (dart w p k) ∷ [])
+  unfolding run dart
+  run-more k = ap (map f) (orbit-snoc (step w) k (2 * p)) ∙ map-append f (orbit (step w) k (2 * p)) (it (step w) k (2 * p) ∷ [])
 
--- no loop starts at p
-pub walked-none : {c : Cell} {p : ℕ} {ms hs ps : List ℕ} → loopSize (edgesOf c) p ≡ 0 → Marked c ms → Scratch ms hs ps → Walked c p 0 ms hs ps
-walked-none {c} {p} {ms} {hs} {ps} e M S = record { size = sym e; few = omega arith; marked = M; scratch = S; recorded = recorded-none c p hs ps }
+  pub run-loop : (k : ℕ) → loopSize w p ≡ k → map f (loopDarts w p) ≡ run k
+  unfolding run loopDarts loopSize walk.loopAt
+  run-loop k e = ap (λ n. map f (orbit (step w) n (2 * p))) e
+
+  pub run-at : (n k : ℕ) → k < n → getD (run n) k 0 ≡ f (dart w p k)
+  unfolding run dart
+  run-at n k h = getD-map f 0 0 (orbit (step w) n (2 * p)) k (rw (length-orbit (step w) n (2 * p)) h) ∙ ap f (getD-orbit (step w) n k (2 * p) h)
+
+  pub run-long : (n : ℕ) → length (run n) ≡ n
+  unfolding run
+  run-long n = length-map (orbit (step w) n (2 * p)) f ∙ length-orbit (step w) n (2 * p)
+
+abbrev pub pointOf : Cell → ℕ → ℕ
+pointOf c d = inGrid (edgesOf c) (d / 2)
+
+-- no loop starts at p, where a walk has put v and u
+module _ {c : Cell} {n p at : ℕ} {ms₀ hs₀ ps₀ ms hs ps v u : List ℕ} {end : ℕ} (z : loopSize (edgesOf c) p ≡ 0) (M : Marked c ms) (K : Kept n ms₀ ms)
+    (H : Put n hs₀ at v end hs) (P : Put n ps₀ at u end ps) (room : at ≤ n) (hn : n ≤ length hs₀) (pn : n ≤ length ps₀) where
+  pub walked-none : Walked c n p at ms₀ hs₀ ps₀ at ms hs ps
+  unfolding halvesFrom pointsFrom
+  walked-none = record {
+    marked = M;
+    marks-kept = K;
+    halves-put = rw (run-loop (edgesOf c) (halfEdge (edgesOf c)) p 0 z, run-none (edgesOf c) (halfEdge (edgesOf c)) p) (put-off H (omega arith));
+    points-put = rw (run-loop (edgesOf c) (pointOf c) p 0 z, run-none (edgesOf c) (pointOf c) p) (put-off P (omega arith));
+  }
 
 -- at dart k, with those before it recorded
-pub record Going (c : Cell) (p k : ℕ) (ms hs ps : List ℕ) (d : Dart) : Type 0 where
+pub record Going (c : Cell) (n p at : ℕ) (ms₀ hs₀ ps₀ ms hs ps : List ℕ) (d : Dart) (i : ℕ) : Type 0 where
+  pub k : ℕ
   pub walking : Walking (edgesOf c) p k
   pub isDart : IsDart (edgesOf c) d
-  pub at : dartOf d ≡ dart (edgesOf c) p k
+  pub is : dartOf d ≡ dart (edgesOf c) p k
   pub marked : Marked c ms
-  pub scratch : Scratch ms hs ps
-  pub recorded : Recorded c p k hs ps
+  pub marks-kept : Kept n ms₀ ms
+  pub halves-put : Put n hs₀ at (run (edgesOf c) (halfEdge (edgesOf c)) p k) i hs
+  pub points-put : Put n ps₀ at (run (edgesOf c) (pointOf c) p k) i ps
 
-pub going-start : {c : Cell} {p : ℕ} {ms hs ps : List ℕ} {d : Dart} → p < crossings (edgesOf c) → Marked c ms → Scratch ms hs ps → Starts (edgesOf c) p d → Going c p 0 ms hs ps d
-unfolding dart it
-going-start {c} {p} {ms} {hs} {ps} l M S D = record {
-  walking = walking-start (edgesOf c) p l;
-  isDart = D .dart;
-  at = D .is;
-  marked = M;
-  scratch = S;
-  recorded = recorded-none c p hs ps;
-}
-
-module _ {c : Cell} {t : List ℕ} {p k : ℕ} {ms hs ps : List ℕ} {d : Dart} (R : Routed c t) (G : Going c p k ms hs ps d) where
+module _ {c : Cell} {t : List ℕ} {n p at : ℕ} {ms₀ hs₀ ps₀ : List ℕ} (L : Lent c t n p at ms₀ hs₀ ps₀) where
   abbrev w : Edges
   w = edgesOf c
 
-  abbrev h : ℕ
-  h = d .half
+  inside : p < crossings w
+  inside = omega (arith, L .all, L .inside)
 
-  -- what is written of the dart
-  abbrev point : ℕ
-  point = getD t (9 * h + 4) 0 + d .index
+  pub lent-met : getD ms₀ p 0 < p → Walked c n p at ms₀ hs₀ ps₀ at ms₀ hs₀ ps₀
+  lent-met h =
+      walked-none (start-met w ms₀ p inside (L .marked) h) (L .marked) (kept-none n ms₀) (put-none n at hs₀) (put-none n at ps₀)
+      (omega (arith, L .room)) (L .halves-long) (L .points-long)
 
-  pub going-room : k < mostInCell
-  going-room = omega (arith, walking-room (G .walking), R .few)
+  pub going-start : {d : Dart} → Starts w p d → Going c n p at ms₀ hs₀ ps₀ ms₀ hs₀ ps₀ d at
+  unfolding dart it
+  going-start D = record {
+    k = 0;
+    walking = walking-start w p inside;
+    isDart = D .dart;
+    is = D .is;
+    marked = L .marked;
+    marks-kept = kept-none n ms₀;
+    halves-put = rw (run-none w (halfEdge w) p) (put-none n at hs₀);
+    points-put = rw (run-none w (pointOf c) p) (put-none n at ps₀);
+  }
 
-  pub going-point : point < 2 * startLimit
-  going-point = omega (arith, start-at R h (G .isDart .half-lt), start-near R h (G .isDart .half-lt), fits R h (G .isDart .half-lt) (d .index) (G .isDart .index-lt))
+  module _ {ms hs ps : List ℕ} {d : Dart} {i : ℕ} (G : Going c n p at ms₀ hs₀ ps₀ ms hs ps d i) where
+    R : Routed c t
+    R = L .routed
 
-  pub going-ready : Ready c t d
-  going-ready = record { routed = R; dart = G .isDart }
+    abbrev k : ℕ
+    k = G .k
 
-  pub going-recorded : Recorded c p (k + 1) (set hs k h) (set ps k point)
-  going-recorded =
-      recorded-more (G .recorded) (omega (arith, going-room, G .scratch .halves-long)) (omega (arith, going-room, G .scratch .points-long)) h point
-      (sym (parts-half (G .isDart)) ∙ ap (halfEdge w) (G .at))
-      (ap (λ n. n + d .index) (start-at R h (G .isDart .half-lt)) ∙ sym (parts-point (G .isDart)) ∙ ap (λ n. inGrid w (n / 2)) (G .at))
+    abbrev h : ℕ
+    h = d .half
 
-  pub going-scratch : Scratch ms (set hs k h) (set ps k point)
-  going-scratch = scratch-record (G .scratch) k h point
+    -- what is written of the dart
+    abbrev point : ℕ
+    point = getD t (9 * h + 4) 0 + d .index
 
-  -- the curve ends
-  pub going-end : step w (dartOf d) ≡ 2 * crossings w → Walked c p 0 ms (set hs k h) (set ps k point)
-  going-end e = walked-none (walking-end (G .walking) (rw (G .at) at e)) (G .marked) going-scratch
+    none : {ms′ hs′ ps′ v u : List ℕ} {end : ℕ} → loopSize w p ≡ 0 → Marked c ms′ → Kept n ms₀ ms′ → Put n hs₀ at v end hs′ → Put n ps₀ at u end ps′
+        → Walked c n p at ms₀ hs₀ ps₀ at ms′ hs′ ps′
+    none z M K H P = walked-none z M K H P (omega (arith, L .room)) (L .halves-long) (L .points-long)
 
-  -- or goes on at dart e
-  module _ {e : Dart} (L : Leads w d e) where
-    abbrev y : ℕ
-    y = step w (dart w p k)
+    -- there is no room for a loop as long as the walk
+    pub going-far : n ≤ i → Walked c n p at ms₀ hs₀ ps₀ at ms hs ps
+    going-far f = none z (G .marked) (G .marks-kept) (G .halves-put) (G .points-put)
+      where
+        i-is : i ≡ at + k
+        i-is = G .halves-put .next ∙ ap (λ m. at + m) (run-long w (halfEdge w) p k)
 
-    here : y ≡ dartOf e
-    here = ap (step w) (sym (G .at)) ∙ L .is
+        z : loopSize w p ≡ 0
+        z = elim (decLt 0 (loopSize w p)) [ yes l ↦ absurd (omega (arith, walking-longer (G .walking) l, L .room, i-is)) | no l ↦ omega arith ]
 
-    on : y < 2 * crossings w
-    on = rw here (parts-lt (L .to))
+    pub going-point : point < 2 * startLimit
+    going-point = omega (arith, start-at R h (G .isDart .half-lt), start-near R h (G .isDart .half-lt), fits R h (G .isDart .half-lt) (d .index) (G .isDart .index-lt))
 
-    half-is : y / 2 ≡ e .number
-    half-is = ap (λ n. n / 2) here ∙ number-half (e .half) (e .number)
+    pub going-ready : Ready c t d
+    going-ready = record { routed = R; dart = G .isDart }
 
-    pub going-lt : e .number < crossings w
-    going-lt = parts-number w (L .to)
+    pub going-long : i < n → (i < length hs) × (i < length ps)
+    going-long b = (omega (arith, G .halves-put .kept .long, L .halves-long), omega (arith, G .points-put .kept .long, L .points-long))
 
-    pub going-low : e .number < p → Walked c p 0 ms (set hs k h) (set ps k point)
-    going-low b = walked-none (walking-low (G .walking) on (rw half-is b)) (G .marked) going-scratch
+    module _ (b : i < n) where
+      halves-more : Put n hs₀ at (run w (halfEdge w) p (k + 1)) (i + 1) (set hs i h)
+      halves-more =
+          rw (run-more w (halfEdge w) p k, ← G .is, parts-half (G .isDart))
+          (put-more (G .halves-put) h b (omega (arith, L .halves-long)))
 
-    pub going-home : e .number ≡ p → Walked c p (k + 1) ms (set hs k h) (set ps k point)
-    going-home b = record {
-      size = sym (walking-home (G .walking) on (half-is ∙ b));
-      few = omega (arith, going-room);
-      marked = G .marked;
-      scratch = going-scratch;
-      recorded = going-recorded;
-    }
+      points-more : Put n ps₀ at (run w (pointOf c) p (k + 1)) (i + 1) (set ps i point)
+      points-more =
+          rw (run-more w (pointOf c) p k, ← G .is, parts-point (G .isDart), ← start-at R h (G .isDart .half-lt))
+          (put-more (G .points-put) point b (omega (arith, L .points-long)))
 
-    pub going-met : getD ms (e .number) 0 < p → Walked c p 0 ms (set hs k h) (set ps k point)
-    going-met b = walked-none (walking-met (G .walking) on (G .marked) (rw half-is b)) (G .marked) going-scratch
+      -- the curve ends
+      pub going-end : step w (dartOf d) ≡ 2 * crossings w → Walked c n p at ms₀ hs₀ ps₀ at ms (set hs i h) (set ps i point)
+      going-end e = none (walking-end (G .walking) (rw (G .is) at e)) (G .marked) (G .marks-kept) halves-more points-more
 
-    pub going-on : p < e .number → Going c p (k + 1) (set ms (e .number) p) (set hs k h) (set ps k point) e
-    going-on b = record {
-      walking = walking-on (G .walking) on (rw half-is b);
-      isDart = L .to;
-      at = sym here ∙ sym (dart-next w p k);
-      marked = rw half-is at (walking-mark (G .walking) on (G .marked));
-      scratch = scratch-mark going-scratch (e .number) p;
-      recorded = going-recorded;
-    }
+      -- or goes on at dart e
+      module _ {e : Dart} (S : Leads w d e) where
+        abbrev y : ℕ
+        y = step w (dart w p k)
+
+        here : y ≡ dartOf e
+        here = ap (step w) (sym (G .is)) ∙ S .is
+
+        on : y < 2 * crossings w
+        on = rw here (parts-lt (S .to))
+
+        half-is : y / 2 ≡ e .number
+        half-is = ap (λ n. n / 2) here ∙ number-half (e .half) (e .number)
+
+        pub going-lt : (e .number < length ms) × (e .number < mostInCell)
+        going-lt = (omega (arith, parts-number w (S .to), G .marked .long), omega (arith, parts-number w (S .to), R .few))
+
+        pub going-low : e .number < p → Walked c n p at ms₀ hs₀ ps₀ at ms (set hs i h) (set ps i point)
+        going-low f = none (walking-low (G .walking) on (rw half-is f)) (G .marked) (G .marks-kept) halves-more points-more
+
+        pub going-home : e .number ≡ p → Walked c n p at ms₀ hs₀ ps₀ (i + 1) ms (set hs i h) (set ps i point)
+        unfolding halvesFrom pointsFrom
+        going-home f =
+            let z = walking-home (G .walking) on (half-is ∙ f) in
+            record {
+              marked = G .marked;
+              marks-kept = G .marks-kept;
+              halves-put = rw (run-loop w (halfEdge w) p (k + 1) z) halves-more;
+              points-put = rw (run-loop w (pointOf c) p (k + 1) z) points-more;
+            }
+
+        pub going-met : getD ms (e .number) 0 < p → Walked c n p at ms₀ hs₀ ps₀ at ms (set hs i h) (set ps i point)
+        going-met f = none (walking-met (G .walking) on (G .marked) (rw half-is f)) (G .marked) (G .marks-kept) halves-more points-more
+
+        pub going-on : p < e .number → Going c n p at ms₀ hs₀ ps₀ (set ms (e .number) p) (set hs i h) (set ps i point) e (i + 1)
+        going-on f = record {
+          k = k + 1;
+          walking = walking-on (G .walking) on (rw half-is f);
+          isDart = S .to;
+          is = sym (dart-next w p k ∙ here);
+          marked = rw half-is at (walking-mark (G .walking) on (G .marked));
+          marks-kept = kept-set (G .marks-kept) (e .number) p (omega (arith, parts-number w (S .to), L .all));
+          halves-put = halves-more;
+          points-put = points-more;
+        }

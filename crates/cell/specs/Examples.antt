@@ -100,7 +100,7 @@ listed (x ∷ l) = (x .crossings ∷ []) ∷ (x .loops ++ (x .points ++ listed l
 unfoldable pub parts : List (List ℕ)
 parts =
     front w 9 ∷ front w 10 ∷ front w 11 ∷ front w 6 ∷ links 9 ∷ links 10 ∷ links 6
-    ∷ (foldsIn round 4 ∷ crossesIn round 4 0 ∷ foldsIn pair 2 ∷ crossesIn pair 2 0 ∷ foldsIn round 0 ∷ [])
+    ∷ (foldsIn round ∷ crossesIn round 0 ∷ foldsIn pair ∷ crossesIn pair 0 ∷ foldsIn [] ∷ [])
     ∷ []
   where
     w : Edges

@@ -5,6 +5,7 @@ pub mod Half
 pub mod Route
 pub mod Dart
 pub mod Nodes
+pub mod Trace
 pub mod Walked
 pub mod Round
 pub mod Answer

@@ -12,12 +12,15 @@ use Rattle.cell.specs.Cell.{Edges, base, crossings}
 use Rattle.cell.specs.Of.{countOf, startOf, edgesOf}
 use Rattle.cell.specs.Half.{halfEdges, slotOf, placeOf, edgeOf, twin, around}
 
--- the greatest count of an edge, a byte; and the most crossings that a cell can have
+-- the greatest count of an edge, a byte; the most crossings that a cell can have; and its most loops, of two crossings or more each
 abbrev pub mostCount : ℕ
 mostCount = 255
 
 abbrev pub mostInCell : ℕ
 mostInCell = 6 * mostCount
+
+abbrev pub mostLoops : ℕ
+mostLoops = 3 * mostCount
 
 -- one more than the greatest number that a start can have
 abbrev pub startLimit : ℕ
@@ -66,7 +69,7 @@ module _ (w : Edges) where
 
   -- t with these numbers for the three half-edges of slot s
   unfoldable pub fronts : ℕ → List ℕ → List ℕ
-  fronts s t = sets (sets (sets t (9 * (3 * s)) (front (3 * s))) (9 * (3 * s + 1)) (front (3 * s + 1))) (9 * (3 * s + 2)) (front (3 * s + 2))
+  fronts s t = sets (sets (sets t (columns * (3 * s)) (front (3 * s))) (columns * (3 * s + 1)) (front (3 * s + 1))) (columns * (3 * s + 2)) (front (3 * s + 2))
 
 -- the half-edges that follow round the lower end, round the upper end, and after a folded segment; the place in the slot
 unfoldable pub links : ℕ → List ℕ
@@ -92,7 +95,7 @@ pub record SlotRuns (c : Cell) (s : ℕ) (ab ac bc : Run) : Type 0 where
 
 -- t has the routes of the cell: five numbers and four to each half-edge
 pub record Routed (c : Cell) (t : List ℕ) : Type 0 where
-  pub counted : (h i : ℕ) → h < halfEdges → i < 5 → getD t (9 * h + i) 0 ≡ getD (front (edgesOf c) h) i 0
-  pub linked : (h i : ℕ) → h < halfEdges → i < 4 → getD t (9 * h + (5 + i)) 0 ≡ getD (links h) i 0
+  pub counted : (h i : ℕ) → h < halfEdges → i < 5 → getD t (columns * h + i) 0 ≡ getD (front (edgesOf c) h) i 0
+  pub linked : (h i : ℕ) → h < halfEdges → i < 4 → getD t (columns * h + (roundLowAt + i)) 0 ≡ getD (links h) i 0
   pub few : crossings (edgesOf c) ≤ mostInCell
   pub near : (e : ℕ) → e < 6 → startOf c e < startLimit

@@ -1,17 +1,19 @@
--- Only contracts of parts cite this file. What a walk along a loop is given, and what it leaves.
-use Prim.Native.Nat.{ℕ, _+_, _*_, _/_, _≤_, _<_}
+-- Only contracts of parts cite this file. What the walks along a cell's loops are given, and what they leave.
+use Prim.Native.Nat.{ℕ, _+_, _*_, _≤_, _<_}
 use mathlib.Core.Path.{_≡_}
-use mathlib.Core.List.{List}
-use lib.ListN.{getD, length}
+use mathlib.Core.List.{List, _++_, map}
+use lib.ListN.{drop, length, take}
+use lib.Seq.{sets}
 use Rattle.walk.specs.Marks.{Marks}
 use Rattle.cell.specs.declared.Cell.{Cell}
 use Rattle.cell.specs.declared.Dart.{Dart}
+use Rattle.cell.specs.declared.Extent.{Extent}
 use Rattle.cell.specs.Cell.{Edges, crossings, edge, step}
-use Rattle.cell.specs.Loop.{loopSize, dart, inGrid}
+use Rattle.cell.specs.Loop.{loopSize}
 use Rattle.cell.specs.Of.{edgesOf}
-use Rattle.cell.specs.Half.{halfEdge}
 use Rattle.cell.specs.Route.{mostInCell, Routed}
 use Rattle.cell.specs.Dart.{IsDart, dartOf}
+use Rattle.cell.specs.Trace.{each, leastsOf, halvesFrom, pointsFrom}
 
 -- crossing p of the cell whose routes are t is one of edge e
 pub record Located (c : Cell) (t : List ℕ) (p e : ℕ) : Type 0 where
@@ -28,36 +30,48 @@ pub record Starts (w : Edges) (p : ℕ) (d : Dart) : Type 0 where
 abbrev pub Marked : Cell → List ℕ → Type 0
 Marked c m = Marks (crossings (edgesOf c)) (step (edgesOf c)) m
 
--- what is lent to the walks of a cell has room for all of its crossings
-pub record Scratch (marks halves points : List ℕ) : Type 0 where
-  pub marks-long : length marks ≡ mostInCell
-  pub halves-long : length halves ≡ mostInCell
-  pub points-long : length points ≡ mostInCell
+-- a list that has changed below place n at most
+pub record Kept (n : ℕ) (before after : List ℕ) : Type 0 where
+  pub long : length after ≡ length before
+  pub back : drop n after ≡ drop n before
 
--- what the walk from p is given: the cell's routes, sound marks, and room
-pub record Lent (c : Cell) (routes : List ℕ) (p : ℕ) (marks halves points : List ℕ) : Type 0 where
+-- it has v after the first `at` places of what it was, as far as `end`; the places from there to n are open
+pub record Put (n : ℕ) (before : List ℕ) (at : ℕ) (v : List ℕ) (end : ℕ) (after : List ℕ) : Type 0 where
+  pub kept : Kept n before after
+  pub next : end ≡ at + length v
+  pub front : take end after ≡ take at before ++ v
+
+-- what the walk from p is given: the cell's routes, sound marks, and room from `at` on, below n, for the loop from p
+pub record Lent (c : Cell) (routes : List ℕ) (n p at : ℕ) (marks halves points : List ℕ) : Type 0 where
   pub routed : Routed c routes
-  pub inside : p < crossings (edgesOf c)
+  pub all : n ≡ crossings (edgesOf c)
+  pub inside : p < n
   pub marked : Marked c marks
-  pub scratch : Scratch marks halves points
+  pub halves-long : n ≤ length halves
+  pub points-long : n ≤ length points
+  pub room : at + loopSize (edgesOf c) p ≤ n
 
--- the first n darts from crossing p are recorded: the half-edge that each leaves by, and the number in the grid of its crossing
-pub record Recorded (c : Cell) (p n : ℕ) (halves points : List ℕ) : Type 0 where
-  pub half : (k : ℕ) → k < n → getD halves k 0 ≡ halfEdge (edgesOf c) (dart (edgesOf c) p k)
-  pub point : (k : ℕ) → k < n → getD points k 0 ≡ inGrid (edgesOf c) (dart (edgesOf c) p k / 2)
+-- what it leaves: the loop from p recorded from `at` to `end`; where there is none, these are the same
+pub record Walked (c : Cell) (n p at : ℕ) (marks halves points : List ℕ) (end : ℕ) (marks′ halves′ points′ : List ℕ) : Type 0 where
+  pub marked : Marked c marks′
+  pub marks-kept : Kept n marks marks′
+  pub halves-put : Put n halves at (halvesFrom c p) end halves′
+  pub points-put : Put n points at (pointsFrom c p) end points′
 
--- the walk from p found a loop of n segments, and recorded it; or it found none, and n is 0
-pub record Walked (c : Cell) (p n : ℕ) (marks halves points : List ℕ) : Type 0 where
-  pub size : n ≡ loopSize (edgesOf c) p
+-- what the walks from all crossings are given: the number of crossings, sound marks, and room
+pub record Walkable (c : Cell) (n : ℕ) (marks halves points lengths : List ℕ) : Type 0 where
+  pub all : n ≡ crossings (edgesOf c)
   pub few : n ≤ mostInCell
   pub marked : Marked c marks
-  pub scratch : Scratch marks halves points
-  pub recorded : Recorded c p n halves points
+  pub halves-long : n ≤ length halves
+  pub points-long : n ≤ length points
+  pub lengths-long : mostInCell ≤ 2 * length lengths
 
--- a loop of n segments from p is recorded
-pub record Looped (c : Cell) (p n : ℕ) (halves points : List ℕ) : Type 0 where
-  pub inside : p < crossings (edgesOf c)
-  pub size : n ≡ loopSize (edgesOf c) p
-  pub some : 0 < n
-  pub few : n ≤ mostInCell
-  pub recorded : Recorded c p n halves points
+-- what they leave: so many loops, recorded as far as r says
+pub record Recorded (c : Cell) (n : ℕ) (marks halves points lengths : List ℕ) (r : Extent) (marks′ halves′ points′ lengths′ : List ℕ) : Type 0 where
+  pub loops-are : r .loops ≡ length (leastsOf c)
+  pub fits : r .end ≤ n
+  pub marks-kept : Kept n marks marks′
+  pub halves-put : Put n halves 0 (each (halvesFrom c) (leastsOf c)) (r .end) halves′
+  pub points-put : Put n points 0 (each (pointsFrom c) (leastsOf c)) (r .end) points′
+  pub lengths-put : lengths′ ≡ sets lengths 0 (map (loopSize (edgesOf c)) (leastsOf c))

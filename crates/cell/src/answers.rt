@@ -1,16 +1,16 @@
 // What is answered of a loop, from what its walk recorded.
 ghost use mathlib.Core.Path.{_≡_};
-ghost use mathlib.Core.List.{[], _∷_};
 ghost use Prim.Native.Nat.{_%_, _<_, _≤_};
 ghost use lib.Dec.{eqb};
-ghost use lib.ListN.{getD};
+ghost use lib.ListN.{getD, length};
 ghost use Rattle.counting.specs.Pick.{one};
+ghost use Rattle.counting.specs.Range.{total};
 ghost use Rattle.cell.specs.Of.{edgesOf};
-ghost use Rattle.cell.specs.Loop.{nodeWith, typeBy, answerOf};
-ghost use Rattle.cell.specs.Route.{mostInCell};
-ghost use Rattle.cell.specs.Walked.{Looped};
-ghost use Rattle.cell.specs.Half.{halfEdges, edgeOf};
-ghost use Rattle.cell.specs.Round.{HalfEdges, foldsIn, crossesIn};
+ghost use Rattle.cell.specs.Loop.{nodeWith, typeBy, loopAnswer};
+ghost use Rattle.cell.specs.Route.{mostLoops, startLimit};
+ghost use Rattle.cell.specs.Half.{edgeOf};
+ghost use Rattle.cell.specs.Trace.{leastsOf, From};
+ghost use Rattle.cell.specs.Round.{foldsIn, crossesIn, roundAnswer};
 ghost use Rattle.cell.specs.Answer.{typeNumbers, loopNumbers};
 use super::Cell;
 use super::Loop;
@@ -24,21 +24,23 @@ fn same(a: usize, b: usize) -> usize
     if a == b { 1 } else { 0 }
 }
 
-// The edge of the half-edge recorded at place k.
-fn edge_at(halves: &[u8; 1530], k: usize) -> usize
-    requires { ⌜ k < mostInCell ⌝ }
-    requires { ⌜ getD (now halves) k 0 < halfEdges ⌝ }
+// The edge of the half-edge recorded at place k; of any other byte as the definition has it.
+fn edge_at(halves: &[u8], k: usize) -> usize
+    requires { ⌜ k < length (now halves) ⌝ }
     ensures { λ r. ⌜ r ≡ edgeOf (getD (now (halves .entry)) k 0) ⌝ }
 {
-    tables::edge_of(routes::wide8(halves[k]))
+    let h = routes::wide8(halves[k]);
+    if h < 12 {
+        return tables::edge_of(h);
+    }
+    tables::edge_of(9 + h % 3)
 }
 
-// The folded segments of a recorded loop of n, from the one that comes to place 0 on.
-pub fn folds_of(halves: &[u8; 1530], n: usize) -> usize
-    requires { ⌜ n ≤ mostInCell ⌝ }
-    requires { ⌜ HalfEdges (now halves) n ⌝ }
-    ensures { λ r. ⌜ r ≡ foldsIn (now (halves .entry)) n ⌝ }
+// The folded segments of a recorded loop, from the one that comes to place 0 on.
+pub fn folds_of(halves: &[u8]) -> usize
+    ensures { λ r. ⌜ r ≡ foldsIn (now (halves .entry)) ⌝ }
 {
+    let n = halves.len();
     if n == 0 {
         return 0;
     }
@@ -54,15 +56,13 @@ pub fn folds_of(halves: &[u8; 1530], n: usize) -> usize
     f
 }
 
-// The crossings of a recorded loop of n on edge e.
-fn crosses_of(halves: &[u8; 1530], n: usize, e: usize) -> usize
-    requires { ⌜ n ≤ mostInCell ⌝ }
-    requires { ⌜ HalfEdges (now halves) n ⌝ }
-    ensures { λ r. ⌜ r ≡ crossesIn (now (halves .entry)) n e ⌝ }
+// The crossings of a recorded loop on edge e.
+fn crosses_of(halves: &[u8], e: usize) -> usize
+    ensures { λ r. ⌜ r ≡ crossesIn (now (halves .entry)) e ⌝ }
 {
     let mut x: usize = 0;
     let mut k: usize = 0;
-    while k < n {
+    while k < halves.len() {
         x += same(edge_at(halves, k), e);
         k += 1;
     }
@@ -101,21 +101,40 @@ fn type_of(c: Cell, x: usize, y: usize, z: usize) -> LoopType
     LoopType::Corner(node_with(c, a, b, d, 1))
 }
 
-// What is answered of the recorded loop of n from crossing p.
-pub(crate) fn answer_of(
-    c: Cell,
-    p: usize,
-    n: usize,
-    halves: &[u8; 1530],
-    points: &[u32; 1530],
-) -> Loop
-    requires { ⌜ Looped c p n (now halves) (now points) ⌝ }
-    ensures { λ r. ⌜ loopNumbers r ≡ answerOf (edgesOf c) (c .nodes) (p ∷ []) ⌝ }
+// What is answered of a recorded loop.
+pub(crate) fn answer_of(c: Cell, halves: &[u8], points: &[u32]) -> Loop
+    requires { ⌜ (0 < length (now points)) × (length (now halves) < startLimit) ⌝ }
+    ensures { λ r. ⌜ loopNumbers r ≡ roundAnswer (c .nodes) (now (halves .entry)) (now (points .entry)) ⌝ }
 {
-    let x = crosses_of(halves, n, 0);
-    let y = crosses_of(halves, n, 1);
-    let z = crosses_of(halves, n, 2);
+    let x = crosses_of(halves, 0);
+    let y = crosses_of(halves, 1);
+    let z = crosses_of(halves, 2);
     let t = type_of(c, x, y, z);
-    let normal = folds_of(halves, n) == 0;
-    Loop::Found(points[0], n as u32, normal, t)
+    let normal = folds_of(halves) == 0;
+    Loop::Found(points[0], halves.len() as u32, normal, t)
+}
+
+// The sum of the first k lengths: the place of loop k in the record.
+fn places_before(lengths: &[u16], k: usize) -> usize
+    requires { ⌜ (k ≤ length (now lengths)) × (k ≤ mostLoops) ⌝ }
+    ensures { λ r. ⌜ r ≡ total (λ j. getD (now (lengths .entry)) j 0) k 0 ⌝ }
+{
+    let mut at: usize = 0;
+    let mut j: usize = 0;
+    while j < k {
+        at += routes::wide16(lengths[j]);
+        j += 1;
+    }
+    at
+}
+
+// Loop k of the cell, of those recorded.
+pub(crate) fn nth(c: Cell, lengths: &[u16], halves: &[u8], points: &[u32], k: usize) -> Loop
+    requires { ⌜ From c 0 0 (now lengths) (now halves) (now points) ⌝ }
+    requires { ⌜ (k < length (leastsOf c)) × (k ≤ mostLoops) ⌝ }
+    ensures { λ r. ⌜ loopNumbers r ≡ loopAnswer (edgesOf c) (c .nodes) k ⌝ }
+{
+    let at = places_before(lengths, k);
+    let end = at + routes::wide16(lengths[k]);
+    answer_of(c, &halves[at..end], &points[at..end])
 }

@@ -1,7 +1,9 @@
-// The loops of a cell, from the counts of its six edges.
+// The loops of a cell, from the counts and first crossing numbers of its six edges.
 ghost use mathlib.Core.Path.{_≡_};
+ghost use lib.ListN.{length};
 ghost use Rattle.cell.specs.Of.{edgesOf};
 ghost use Rattle.cell.specs.Loop.{loopAnswer};
+ghost use Rattle.cell.specs.Trace.{leastsOf, Traced};
 ghost use Rattle.cell.specs.Answer.{loopNumbers};
 
 mod answers;
@@ -12,9 +14,13 @@ mod walks;
 
 pub use answers::folds_of;
 pub use routes::crossings_of;
-pub use routes::routes_of;
-pub use walks::clear;
-pub use walks::walk;
+
+// The most crossings of an edge and of a cell, and the most loops of a cell: each has two crossings or more.
+pub const MOST_COUNT: usize = 255;
+
+pub const MOST_IN_CELL: usize = 6 * MOST_COUNT;
+
+pub const MOST_LOOPS: usize = 3 * MOST_COUNT;
 
 // A cell: the counts of its edges 01, 02, 03, 12, 13, 23 and the crossing number at index 0 of each, the names of the faces in its
 // slots, its nodes' numbers, and its own number.
@@ -61,28 +67,43 @@ enum Next {
     End,
 }
 
-// Loop k of the cell, or that there are k or fewer. The walks' marks and records stand on the stack: 11 KB.
+// How many loops are recorded, and the place after the last.
+struct Extent {
+    loops: usize,
+    end: usize,
+}
+
+// Records the cell's loops by least crossing, and answers how many they are: their lengths in `lengths`, and of each in turn the half-edges of
+// its darts in `halves` and the numbers of its crossings in `points`. What the arrays hold before does not matter.
+pub fn trace(
+    c: Cell,
+    marks: &mut [u16; MOST_IN_CELL],
+    halves: &mut [u8; MOST_IN_CELL],
+    points: &mut [u32; MOST_IN_CELL],
+    lengths: &mut [u16; MOST_LOOPS],
+) -> usize
+    ensures { λ r. ⌜ r ≡ length (leastsOf c) ⌝ }
+    ensures { λ _. ⌜ Traced c (now (marks .entry)) (now (halves .entry)) (now (points .entry)) (now (lengths .entry)) (now (marks .exit)) (now (halves .exit)) (now (points .exit)) (now (lengths .exit)) ⌝ }
+{
+    let n = crossings_of(c);
+    walks::clear(marks, n);
+    let r = walks::walk_all(c, n, marks, halves, points, lengths);
+    walks::clear(marks, n);
+    walks::wipe(halves, points, r.end, n);
+    r.loops
+}
+
+// Loop k of the cell, or that there are k or fewer. The trace's arrays stand on the stack: 12 KB.
 pub fn loop_at(c: Cell, k: usize) -> Loop
     ensures { λ r. ⌜ loopNumbers r ≡ loopAnswer (edgesOf c) (c .nodes) k ⌝ }
 {
-    let n = crossings_of(c);
-    let routes = routes_of(c);
-    let mut marks = [65535u16; 1530];
-    let mut halves = [0u8; 1530];
-    let mut points = [0u32; 1530];
-    let mut left = k;
-    let mut p: usize = 0;
-    while p < n {
-        let m = walk(c, &routes, p, &mut marks, &mut halves, &mut points);
-        if m == 0 {
-            p += 1;
-            continue;
-        }
-        if left == 0 {
-            return answers::answer_of(c, p, m, &halves, &points);
-        }
-        left -= 1;
-        p += 1;
+    let mut marks = [0u16; MOST_IN_CELL];
+    let mut halves = [0u8; MOST_IN_CELL];
+    let mut points = [0u32; MOST_IN_CELL];
+    let mut lengths = [0u16; MOST_LOOPS];
+    let n = trace(c, &mut marks, &mut halves, &mut points, &mut lengths);
+    if n <= k {
+        return Loop::Nothing;
     }
-    Loop::Nothing
+    answers::nth(c, &lengths, &halves, &points, k)
 }

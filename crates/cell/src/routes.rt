@@ -32,9 +32,12 @@ pub(crate) const PLACE: usize = 8;
 
 const COLUMNS: usize = 9;
 
+// Twelve half-edges.
+pub(crate) const ROUTES: usize = 12 * COLUMNS;
+
 // Nine numbers to a half-edge, of which the last four are the same in each cell: those that follow round the lower end, round the upper
 // end and after a folded segment, and the place in the slot.
-const LINKS: [usize; 108] = [
+const LINKS: [usize; ROUTES] = [
     0,
     0,
     0,
@@ -171,7 +174,7 @@ fn start_of(c: Cell, e: usize) -> u16
     c.starts[e]
 }
 
-pub(crate) fn count_at(c: Cell, e: usize) -> usize
+fn count_at(c: Cell, e: usize) -> usize
     requires { ⌜ e < 6 ⌝ }
     ensures { λ r. ⌜ (r ≡ countOf c e) × (r ≤ mostCount) ⌝ }
 {
@@ -255,7 +258,7 @@ fn firsts_of(c: Cell) -> [usize; 6]
 }
 
 // Column i of half-edge h.
-pub(crate) fn route(routes: &[usize; 108], h: usize, i: usize) -> usize
+pub(crate) fn route(routes: &[usize; ROUTES], h: usize, i: usize) -> usize
     requires { ⌜ h < halfEdges ⌝ }
     requires { ⌜ i < columns ⌝ }
     ensures { λ r. ⌜ r ≡ getD (now (routes .entry)) (columns * h + i) 0 ⌝ }
@@ -278,19 +281,19 @@ fn run_of(c: Cell, firsts: &[usize; 6], e: usize) -> Run
 }
 
 // The five numbers of half-edge h that differ from cell to cell.
-fn put_front(t: &mut [usize; 108], h: usize, low: usize, high: usize, x: Run)
+fn put_front(t: &mut [usize; ROUTES], h: usize, low: usize, high: usize, x: Run)
     requires { ⌜ h < halfEdges ⌝ }
-    ensures { λ _. ⌜ now (t .exit) ≡ sets (now (t .entry)) (9 * h) (low ∷ high ∷ x .count ∷ x .first ∷ x .start ∷ []) ⌝ }
+    ensures { λ _. ⌜ now (t .exit) ≡ sets (now (t .entry)) (columns * h) (low ∷ high ∷ x .count ∷ x .first ∷ x .start ∷ []) ⌝ }
 {
-    t[9 * h] = low;
-    t[9 * h + 1] = high;
-    t[9 * h + 2] = wide8(x.count);
-    t[9 * h + 3] = x.first;
-    t[9 * h + 4] = x.start;
+    t[COLUMNS * h + LOW] = low;
+    t[COLUMNS * h + HIGH] = high;
+    t[COLUMNS * h + COUNT] = wide8(x.count);
+    t[COLUMNS * h + FIRST] = x.first;
+    t[COLUMNS * h + START] = x.start;
 }
 
 // Those of the three half-edges of slot s, whose edges have the runs ab, ac, bc.
-fn put_slot(c: Cell, t: &mut [usize; 108], s: usize, ab: Run, ac: Run, bc: Run)
+fn put_slot(c: Cell, t: &mut [usize; ROUTES], s: usize, ab: Run, ac: Run, bc: Run)
     requires { ⌜ s < 4 ⌝ }
     requires { ⌜ SlotRuns c s ab ac bc ⌝ }
     ensures { λ _. ⌜ now (t .exit) ≡ fronts (edgesOf c) s (now (t .entry)) ⌝ }
@@ -304,8 +307,8 @@ fn put_slot(c: Cell, t: &mut [usize; 108], s: usize, ab: Run, ac: Run, bc: Run)
     put_front(t, 3 * s + 2, b, d, bc);
 }
 
-// The routes of the cell. Slot by slot at constant places, so that the compiler works the tables out: a loop takes half as long again (SPEED.md).
-pub fn routes_of(c: Cell) -> [usize; 108]
+// The routes of the cell. Slot by slot at constant places, so that the compiler works the tables out: a loop over the slots is slower (SPEED.md).
+pub(crate) fn routes_of(c: Cell) -> [usize; ROUTES]
     ensures { λ r. ⌜ Routed c r ⌝ }
 {
     let firsts = firsts_of(c);

@@ -6,9 +6,10 @@ use super::Cell;
 use super::Dart;
 use super::Next;
 use super::routes;
+use super::routes::ROUTES;
 
 // The dart at index u that leaves by half-edge g.
-fn onto(c: Cell, routes: &[usize; 108], g: usize, u: usize) -> Dart
+fn onto(c: Cell, routes: &[usize; ROUTES], g: usize, u: usize) -> Dart
     requires { ⌜ Routed c (now routes) ⌝ }
     requires { ⌜ Spot (edgesOf c) g u ⌝ }
     ensures { λ r. ⌜ IsDartAt (edgesOf c) g u r ⌝ }
@@ -23,7 +24,7 @@ fn onto(c: Cell, routes: &[usize; 108], g: usize, u: usize) -> Dart
 
 // Round an end of the dart's edge, of which the dart is the k-th crossing: to the k-th from there on the edge of half-edge g, which has the
 // end as its upper one if `over`.
-fn round(c: Cell, routes: &[usize; 108], d: Dart, g: usize, k: usize, over: bool) -> Dart
+fn round(c: Cell, routes: &[usize; ROUTES], d: Dart, g: usize, k: usize, over: bool) -> Dart
     requires { ⌜ Routed c (now routes) ⌝ }
     requires { ⌜ Turns (edgesOf c) d g k over ⌝ }
     ensures { λ r. ⌜ Leads (edgesOf c) d r ⌝ }
@@ -36,7 +37,7 @@ fn round(c: Cell, routes: &[usize; 108], d: Dart, g: usize, k: usize, over: bool
 }
 
 // Past both corners: neighbours are joined in pairs, down from the upper corner, and the lowest is left over if they are odd.
-fn between(c: Cell, routes: &[usize; 108], d: Dart) -> Next
+fn between(c: Cell, routes: &[usize; ROUTES], d: Dart) -> Next
     requires { ⌜ Ready c (now routes) d ⌝ }
     requires { ⌜ Between (edgesOf c) d ⌝ }
     ensures { λ r. ⌜ Onward (edgesOf c) d r ⌝ }
@@ -58,7 +59,7 @@ fn between(c: Cell, routes: &[usize; 108], d: Dart) -> Next
 }
 
 // What follows a dart.
-pub(crate) fn next(c: Cell, routes: &[usize; 108], d: Dart) -> Next
+pub(crate) fn next(c: Cell, routes: &[usize; ROUTES], d: Dart) -> Next
     requires { ⌜ Ready c (now routes) d ⌝ }
     ensures { λ r. ⌜ Onward (edgesOf c) d r ⌝ }
 {

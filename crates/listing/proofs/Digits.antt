@@ -7,7 +7,7 @@ use native.Mathlib.Omega.{arith}
 use native.Mathlib.Decide.{decLt}
 use lib.ListN.{length, length-append}
 use borrow.Author.Tests.{lt-ltb, le-ltb}
-use Rattle.listing.specs.Text.{digit, digits, decimal}
+use Rattle.listing.specs.Text.{digit, digits, decimal, longest}
 
 digits-one : (k n : ℕ) → n < 10 → digits (suc k) n ≡ digit n ∷ []
 unfolding digits
@@ -61,7 +61,7 @@ pub decimal-few : (j n : ℕ) → n < 10 ^ suc j → length (decimal n) ≤ suc 
 unfolding decimal
 decimal-few j n h = digits-few (suc n) j n h
 
-pub decimal-64 : (n : ℕ) → n < 2 ^ 64 → length (decimal n) ≤ 20
+pub decimal-64 : (n : ℕ) → n < 2 ^ 64 → length (decimal n) ≤ longest
 decimal-64 n h = decimal-few 19 n (omega arith)
 
 pub decimal-32 : (n : ℕ) → n < 2 ^ 32 → length (decimal n) ≤ 10

@@ -1,4 +1,3 @@
-pub mod Stores
 pub mod Digits
 pub mod Numbers
 pub mod Meshes

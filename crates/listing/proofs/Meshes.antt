@@ -1,5 +1,5 @@
 -- The listing of a grid, from the answers of the check and of the mesh call. Assumes nothing.
-use Prim.Native.Nat.{ℕ, _+_, _*_, _/_, _≤_, _<_}
+use Prim.Native.Nat.{ℕ, _+_, _*_, _≤_, _<_}
 use mathlib.Core.Path.{_≡_, refl, sym, ap, ap₂, _∙_}
 use mathlib.Core.Bool.{Bool, true, false}
 use mathlib.Core.List.{List, [], _∷_, _++_}
@@ -7,14 +7,14 @@ use native.Mathlib.Omega.{arith}
 use lib.Dec.{leb}
 use lib.ListN.{length, getD, drop, List·getD-append}
 use lib.Seq.{sets}
-use borrow.Author.Tests.{leb-true, leb-false, ne-eqb}
+use borrow.Author.Tests.{leb-true, ne-eqb}
 use Rattle.answer.specs.Answer.{result, refusal, refused}
 use Rattle.answer.proofs.Answer.{refused-not, refused-numbers}
 use Rattle.counting.specs.Pick.{pick}
 use Rattle.counting.specs.Range.{over}
 use Rattle.counting.proofs.Range.{over-ext}
 use Rattle.counting.proofs.Fronts.{sets-front}
-use Rattle.grid.specs.Grid.{Grid, crossings}
+use Rattle.grid.specs.Grid.{Grid, cellCount, crossings}
 use Rattle.grid.specs.Rows.{gridAnswer}
 use Rattle.grid.specs.Tables.{accepts}
 use Rattle.grid.proofs.Claims.{accepted-is, never-empty}
@@ -58,30 +58,14 @@ module _ (words area : List ℕ) (n : ℕ) (fits : wordCount * n ≤ length word
 
 -- a mesh that has room
 module _ (mesh : List Triangle) (t : ℕ) (area : List ℕ) (h : result (t ∷ []) ≡ roomAnswer mesh (length area)) where
-  room-fits : wordCount * length mesh ≤ length area
-  unfolding roomAnswer
-  room-fits = go (leb (wordCount * length mesh) (length area)) refl h
+  has-room : (t ≡ length mesh) × (wordCount * length mesh ≤ length area) × (sets area 0 (allWords mesh) ≡ roomArea mesh area)
+  unfolding roomAnswer roomArea
+  has-room = go (leb (wordCount * length mesh) (length area)) refl h
     where
       go : (b : Bool) → leb (wordCount * length mesh) (length area) ≡ b → result (t ∷ []) ≡ pick b (result (length mesh ∷ [])) (refusal 12 (length mesh))
-          → wordCount * length mesh ≤ length area
-      go true e q = leb-true _ _ e
+          → (t ≡ length mesh) × (wordCount * length mesh ≤ length area) × (sets area 0 (allWords mesh) ≡ pick b (sets area 0 (allWords mesh)) area)
+      go true e q = (cc, leb-true _ _ e, refl)
       go false e q = let z : _≡_ {A = ℕ} 0 12 = cc in absurd (omega arith)
-
-  room-total : t ≡ length mesh
-  unfolding roomAnswer
-  room-total = go (leb (wordCount * length mesh) (length area)) h
-    where
-      go : (b : Bool) → result (t ∷ []) ≡ pick b (result (length mesh ∷ [])) (refusal 12 (length mesh)) → t ≡ length mesh
-      go true q = cc
-      go false q = let z : _≡_ {A = ℕ} 0 12 = cc in absurd (omega arith)
-
-  room-area : sets area 0 (allWords mesh) ≡ roomArea mesh area
-  unfolding roomArea
-  room-area = go (leb (wordCount * length mesh) (length area)) refl
-    where
-      go : (b : Bool) → leb (wordCount * length mesh) (length area) ≡ b → sets area 0 (allWords mesh) ≡ pick b (sets area 0 (allWords mesh)) area
-      go true e = refl
-      go false e = absurd (omega (arith, leb-false (wordCount * length mesh) (length area) e, room-fits))
 
 module _ (G : Grid) where
   -- what the mesh call refuses
@@ -105,32 +89,31 @@ module _ (G : Grid) where
 
     module _ (t : ℕ) (before after : List ℕ) (room : length before ≡ wordCount * areaTriangles)
         (answer : result (t ∷ []) ≡ meshAnswer G (length before)) (area : after ≡ meshArea G before) where
-      mesh : List Triangle
-      mesh = meshTriangles G
-
-      answered : result (t ∷ []) ≡ roomAnswer mesh (length before)
-      unfolding meshAnswer mesh
+      answered : result (t ∷ []) ≡ roomAnswer (meshTriangles G) (length before)
+      unfolding meshAnswer
       answered = answer ∙ simp accepted
 
+      -- the triangles are all those of the mesh, and no more than the area holds
+      all-triangles : t ≡ length (meshTriangles G)
+      all-triangles = has-room (meshTriangles G) t before answered .0
+
+      pub few-triangles : t ≤ areaTriangles
+      few-triangles = omega (arith, has-room (meshTriangles G) t before answered .1, all-triangles, room)
+
       stored : after ≡ sets before 0 (meshWords G)
-      unfolding meshArea meshWords mesh
-      stored = area ∙ simp accepted (sym (room-area mesh t before answered))
+      unfolding meshArea meshWords
+      stored = area ∙ simp accepted (sym (has-room (meshTriangles G) t before answered .2))
 
-      long : length (meshWords G) ≡ wordCount * length mesh
-      unfolding meshWords mesh
-      long = length-all (meshTriangles G)
-
-      -- the triangles are no more than the area holds
-      pub few : t ≤ areaTriangles
-      few = omega (arith, room-total mesh t before answered, room-fits mesh t before answered, room)
+      long : length (meshWords G) ≡ wordCount * t
+      unfolding meshWords
+      long = length-all (meshTriangles G) ∙ ap (λ k. wordCount * k) (sym all-triangles)
 
       -- the text that is put is the listing
-      pub listed : head (length (G .cells) / 4) (length (G .counts)) x t ++ over (line after) t 0 ≡ gridListing G
-      unfolding gridListing meshListing mesh
+      pub listed : head (cellCount (G .cells)) (length (G .counts)) x t ++ over (line after) t 0 ≡ gridListing G
+      unfolding gridListing meshListing
       listed =
-          let total = room-total mesh t before answered in
-          ap (λ (l : List ℕ). head (length (G .cells) / 4) (length (G .counts)) x t ++ over (line l) t 0) stored
-          ∙ ap (λ (l : List ℕ). head (length (G .cells) / 4) (length (G .counts)) x t ++ l)
-          (same-lines (meshWords G) before t (omega (arith, total, long)) (omega (arith, long, room-fits mesh t before answered)))
-          ∙ ap₂ (λ y k. head (length (G .cells) / 4) (length (G .counts)) y k ++ over (line (meshWords G)) k 0) all-crossings total
+          ap (λ (l : List ℕ). head (cellCount (G .cells)) (length (G .counts)) x t ++ over (line l) t 0) stored
+          ∙ ap (λ (l : List ℕ). head (cellCount (G .cells)) (length (G .counts)) x t ++ l)
+          (same-lines (meshWords G) before t (omega (arith, long)) (omega (arith, long, few-triangles, room)))
+          ∙ ap₂ (λ y k. head (cellCount (G .cells)) (length (G .counts)) y k ++ over (line (meshWords G)) k 0) all-crossings all-triangles
           ∙ or-result (t ∷ []) _ (meshListing G) (answer ∙ ap (meshAnswer G) room)

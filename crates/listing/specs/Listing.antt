@@ -13,24 +13,24 @@ use Rattle.grid.specs.Grid.{Grid, gridOf, cellCount, crossings}
 use Rattle.triangle.specs.Words.{wordCount}
 use Rattle.mesh.specs.Mesh.{meshTriangles, meshWords}
 use Rattle.mesh.specs.Answer.{meshAnswer}
-use Rattle.listing.specs.Text.{refusedLine, head, line, headBytes, lineBytes}
+use Rattle.listing.specs.Text.{refusedLine, head, line, headRoom, lineRoom}
 
 -- the most bytes that are read, the most cells and edges that so many bytes hold besides the end, and the triangles that the area holds
 abbrev pub mostBytes : ℕ
 mostBytes = 32768
 
-abbrev pub mostCells : ℕ
-mostCells = (mostBytes - endSize) / cellSize
+abbrev pub cellsInBundle : ℕ
+cellsInBundle = (mostBytes - endSize) / cellSize
 
-abbrev pub mostEdges : ℕ
-mostEdges = (mostBytes - endSize) / edgeSize
+abbrev pub edgesInBundle : ℕ
+edgesInBundle = (mostBytes - endSize) / edgeSize
 
 abbrev pub areaTriangles : ℕ
 areaTriangles = 1489
 
 -- the most bytes of a listing
 abbrev pub roomBytes : ℕ
-roomBytes = headBytes + lineBytes * areaTriangles
+roomBytes = headRoom + lineRoom * areaTriangles
 
 -- the line of the refusal where an answer is one; else what follows
 unfoldable pub orRefused : List ℕ → List ℕ → List ℕ

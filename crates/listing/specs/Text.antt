@@ -73,9 +73,12 @@ wordAt words t j = wordText (getD words (wordCount * t + j) 0)
 unfoldable pub line : List ℕ → ℕ → List ℕ
 line words t = (84 ∷ []) ++ over (wordAt words t) wordCount 0 ++ newline
 
--- the most bytes of the first line: 35 of labels, four numbers and a newline; and of a triangle's line
-abbrev pub headBytes : ℕ
-headBytes = 116
+-- the most bytes of a word of 32 bits and the blank before it; of the first line, with 35 of labels; and of a triangle's line
+abbrev pub wordRoom : ℕ
+wordRoom = 11
 
-abbrev pub lineBytes : ℕ
-lineBytes = 123
+abbrev pub headRoom : ℕ
+headRoom = 35 + 4 * longest + 1
+
+abbrev pub lineRoom : ℕ
+lineRoom = 1 + wordCount * wordRoom + 1

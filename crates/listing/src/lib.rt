@@ -1,9 +1,16 @@
 // The listing of a bundle: the text that the program meshlist prints.
 ghost use Prim.Native.Nat.{_≤_};
+ghost use mathlib.Core.Path.{_≡_};
+ghost use mathlib.Core.List.{[], _∷_};
 ghost use lib.ListN.{length};
+ghost use Rattle.answer.specs.Answer.{result};
+ghost use Rattle.counting.specs.Stored.{Stored};
 ghost use Rattle.grid.specs.Grid.{gridOf};
-ghost use Rattle.listing.specs.Stored.{Stored, Heard};
+ghost use Rattle.grid.specs.Rows.{gridAnswer};
 ghost use Rattle.listing.specs.Listing.{roomBytes, gridListing, Listed};
+use crate::lines::HEAD_ROOM;
+use crate::lines::LINE_ROOM;
+use bundle::BROKEN_ROW;
 use bundle::CELL_BYTES;
 use bundle::CELL_NODES;
 use bundle::Contents;
@@ -12,6 +19,7 @@ use bundle::EDGE_ENDS;
 use bundle::END_BYTES;
 use grid::Checked;
 use mesh::Meshed;
+use triangle::WORD_COUNT;
 
 mod lines;
 mod text;
@@ -19,22 +27,25 @@ mod text;
 // The most bytes of a bundle, and the most cells and edges that so many bytes hold besides the end: 2,730 and 3,640.
 pub const MOST_BYTES: usize = 32768;
 
-const MOST_CELLS: usize = (MOST_BYTES - END_BYTES) / CELL_BYTES;
+const CELLS_IN_BUNDLE: usize = (MOST_BYTES - END_BYTES) / CELL_BYTES;
 
-const MOST_EDGES: usize = (MOST_BYTES - END_BYTES) / EDGE_BYTES;
+const EDGES_IN_BUNDLE: usize = (MOST_BYTES - END_BYTES) / EDGE_BYTES;
 
-// The words of an area for 1,489 triangles.
-const AREA: usize = 11 * 1489;
+// The triangles that the area holds, and its words.
+const AREA_TRIANGLES: usize = 1489;
+
+const AREA_WORDS: usize = WORD_COUNT * AREA_TRIANGLES;
 
 // Bytes for the longest listing: a first line of 116, and 1,489 lines of 123.
-pub const ROOM: usize = 116 + 123 * 1489;
+pub const ROOM: usize = HEAD_ROOM + LINE_ROOM * AREA_TRIANGLES;
 
 // The listing of a grid that the check accepts with so many crossings. About 64 KB of stack, besides what `mesh::mesh` keeps.
 fn list_mesh(nodes: &[u16], ends: &[u16], counts: &[u8], crossings: u32, out: &mut [u8]) -> usize
-    requires { ⌜ Heard (gridOf (now nodes) (now ends) (now counts)) crossings (now out) ⌝ }
-    ensures { λ r. ⌜ Stored roomBytes (gridListing (gridOf (now (nodes .entry)) (now (ends .entry)) (now (counts .entry)))) (now (out .entry)) 0 (now (out .exit)) r ⌝ }
+    requires { ⌜ (result (crossings ∷ []) ≡ gridAnswer (gridOf (now nodes) (now ends) (now counts))) × (roomBytes ≤ length (now out)) ⌝ }
+    ensures stored { λ r. ⌜ Stored (now (out .entry)) 0 (gridListing (gridOf (now (nodes .entry)) (now (ends .entry)) (now (counts .entry)))) (now (out .exit)) r ⌝ }
+    ensures few { λ r. ⌜ r ≤ roomBytes ⌝ }
 {
-    let mut area = [0u32; AREA];
+    let mut area = [0u32; AREA_WORDS];
     match mesh::mesh(nodes, ends, counts, &mut area) {
         Meshed::Refused(row, place) => lines::put_refused(out, row, place),
         Meshed::Triangles(n) => {
@@ -47,7 +58,8 @@ fn list_mesh(nodes: &[u16], ends: &[u16], counts: &[u8], crossings: u32, out: &m
 // The listing of a grid.
 fn list_grid(nodes: &[u16], ends: &[u16], counts: &[u8], out: &mut [u8]) -> usize
     requires { ⌜ roomBytes ≤ length (now out) ⌝ }
-    ensures { λ r. ⌜ Stored roomBytes (gridListing (gridOf (now (nodes .entry)) (now (ends .entry)) (now (counts .entry)))) (now (out .entry)) 0 (now (out .exit)) r ⌝ }
+    ensures stored { λ r. ⌜ Stored (now (out .entry)) 0 (gridListing (gridOf (now (nodes .entry)) (now (ends .entry)) (now (counts .entry)))) (now (out .exit)) r ⌝ }
+    ensures few { λ r. ⌜ r ≤ roomBytes ⌝ }
 {
     match grid::check(nodes, ends, counts) {
         Checked::Refused(row, place) => lines::put_refused(out, row, place),
@@ -60,11 +72,11 @@ pub fn list(bytes: &[u8], out: &mut [u8; ROOM]) -> usize
     ensures { λ r. ⌜ Listed (now (bytes .entry)) (now (out .entry)) (now (out .exit)) r ⌝ }
 {
     if MOST_BYTES < bytes.len() {
-        return lines::put_refused(out, 13, MOST_BYTES);
+        return lines::put_refused(out, BROKEN_ROW, MOST_BYTES);
     }
-    let mut nodes = [0u16; CELL_NODES * MOST_CELLS];
-    let mut ends = [0u16; EDGE_ENDS * MOST_EDGES];
-    let mut counts = [0u8; MOST_EDGES];
+    let mut nodes = [0u16; CELL_NODES * CELLS_IN_BUNDLE];
+    let mut ends = [0u16; EDGE_ENDS * EDGES_IN_BUNDLE];
+    let mut counts = [0u8; EDGES_IN_BUNDLE];
     match bundle::read(bytes, &mut nodes, &mut ends, &mut counts) {
         Contents::Refused(row, place) => lines::put_refused(out, row, place),
         Contents::Lists(cells, edges) => {

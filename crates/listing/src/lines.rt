@@ -2,16 +2,26 @@
 ghost use Prim.Native.Nat.{_+_, _*_, _≤_};
 ghost use lib.ListN.{length};
 ghost use Rattle.counting.specs.Range.{over};
-ghost use Rattle.listing.specs.Text.{headBytes, lineBytes, refusedLine, head, wordAt, line};
-ghost use Rattle.listing.specs.Stored.{Stored};
+ghost use Rattle.counting.specs.Stored.{Stored};
+ghost use Rattle.triangle.specs.Words.{wordCount};
+ghost use Rattle.listing.specs.Text.{wordRoom, headRoom, lineRoom, refusedLine, head, wordAt, line};
+use crate::text::LONGEST;
+use crate::text::WORD_ROOM;
 use crate::text::put;
 use crate::text::put_named;
 use crate::text::put_word;
+use triangle::WORD_COUNT;
+
+// The most bytes of the first line: 35 of labels, four numbers and a newline; and of a triangle's line.
+pub(crate) const HEAD_ROOM: usize = 35 + 4 * LONGEST + 1;
+
+pub(crate) const LINE_ROOM: usize = 1 + WORD_COUNT * WORD_ROOM + 1;
 
 // The line of a refusal, at the front.
 pub(crate) fn put_refused(out: &mut [u8], row: u8, place: usize) -> usize
-    requires { ⌜ headBytes ≤ length (now out) ⌝ }
-    ensures { λ r. ⌜ Stored headBytes (refusedLine row place) (now (out .entry)) 0 (now (out .exit)) r ⌝ }
+    requires { ⌜ headRoom ≤ length (now out) ⌝ }
+    ensures stored { λ r. ⌜ Stored (now (out .entry)) 0 (refusedLine row place) (now (out .exit)) r ⌝ }
+    ensures few { λ r. ⌜ r ≤ headRoom ⌝ }
 {
     let a = put_named(out, 0, b"refused ", row as usize);
     let b = put_named(out, a, b" at ", place);
@@ -26,8 +36,9 @@ pub(crate) fn put_head(
     crossings: u32,
     triangles: u32,
 ) -> usize
-    requires { ⌜ headBytes ≤ length (now out) ⌝ }
-    ensures { λ r. ⌜ Stored headBytes (head cells edges crossings triangles) (now (out .entry)) 0 (now (out .exit)) r ⌝ }
+    requires { ⌜ headRoom ≤ length (now out) ⌝ }
+    ensures stored { λ r. ⌜ Stored (now (out .entry)) 0 (head cells edges crossings triangles) (now (out .exit)) r ⌝ }
+    ensures few { λ r. ⌜ r ≤ headRoom ⌝ }
 {
     let a = put_named(out, 0, b"cells ", cells);
     let b = put_named(out, a, b" edges ", edges);
@@ -38,13 +49,14 @@ pub(crate) fn put_head(
 
 // The eleven words of triangle t.
 fn put_words(out: &mut [u8], at: usize, area: &[u32], t: usize) -> usize
-    requires { ⌜ (at + 121 ≤ length (now out)) × (11 * t + 11 ≤ length (now area)) ⌝ }
-    ensures { λ r. ⌜ Stored 121 (over (wordAt (now (area .entry)) t) 11 0) (now (out .entry)) at (now (out .exit)) r ⌝ }
+    requires { ⌜ (at + wordCount * wordRoom ≤ length (now out)) × (wordCount * t + wordCount ≤ length (now area)) ⌝ }
+    ensures stored { λ r. ⌜ Stored (now (out .entry)) at (over (wordAt (now (area .entry)) t) wordCount 0) (now (out .exit)) r ⌝ }
+    ensures few { λ r. ⌜ r ≤ at + wordCount * wordRoom ⌝ }
 {
     let mut end = at;
     let mut j: usize = 0;
-    while j < 11 {
-        end = put_word(out, end, area[11 * t + j]);
+    while j < WORD_COUNT {
+        end = put_word(out, end, area[WORD_COUNT * t + j]);
         j += 1;
     }
     end
@@ -52,8 +64,9 @@ fn put_words(out: &mut [u8], at: usize, area: &[u32], t: usize) -> usize
 
 // The line of triangle t.
 fn put_line(out: &mut [u8], at: usize, area: &[u32], t: usize) -> usize
-    requires { ⌜ (at + lineBytes ≤ length (now out)) × (11 * t + 11 ≤ length (now area)) ⌝ }
-    ensures { λ r. ⌜ Stored lineBytes (line (now (area .entry)) t) (now (out .entry)) at (now (out .exit)) r ⌝ }
+    requires { ⌜ (at + lineRoom ≤ length (now out)) × (wordCount * t + wordCount ≤ length (now area)) ⌝ }
+    ensures stored { λ r. ⌜ Stored (now (out .entry)) at (line (now (area .entry)) t) (now (out .exit)) r ⌝ }
+    ensures few { λ r. ⌜ r ≤ at + lineRoom ⌝ }
 {
     let a = put(out, at, b"T");
     let b = put_words(out, a, area, t);
@@ -62,8 +75,9 @@ fn put_line(out: &mut [u8], at: usize, area: &[u32], t: usize) -> usize
 
 // The lines of the first n triangles.
 pub(crate) fn put_lines(out: &mut [u8], at: usize, area: &[u32], n: u32) -> usize
-    requires { ⌜ (at + lineBytes * n ≤ length (now out)) × (11 * n ≤ length (now area)) ⌝ }
-    ensures { λ r. ⌜ Stored (lineBytes * n) (over (line (now (area .entry))) n 0) (now (out .entry)) at (now (out .exit)) r ⌝ }
+    requires { ⌜ (at + lineRoom * n ≤ length (now out)) × (wordCount * n ≤ length (now area)) ⌝ }
+    ensures stored { λ r. ⌜ Stored (now (out .entry)) at (over (line (now (area .entry))) n 0) (now (out .exit)) r ⌝ }
+    ensures few { λ r. ⌜ r ≤ at + lineRoom * n ⌝ }
 {
     let last = n as usize;
     let mut end = at;

@@ -2,15 +2,18 @@
 ghost use mathlib.Core.Path.{_≡_};
 ghost use Prim.Native.Nat.{_+_, _≤_};
 ghost use lib.ListN.{length};
-ghost use Rattle.listing.specs.Text.{longest, decimal, named, wordText};
-ghost use Rattle.listing.specs.Stored.{Stored};
+ghost use Rattle.counting.specs.Stored.{Stored};
+ghost use Rattle.listing.specs.Text.{longest, wordRoom, decimal, named, wordText};
+use triangle::NO_NAME;
 
-// The word that stands for no crossing and no face.
-const NONE: u32 = 4294967295;
+// The most digits of a number of 64 bits; and the most bytes of a word of 32 bits and the blank before it.
+pub(crate) const LONGEST: usize = 20;
+
+pub(crate) const WORD_ROOM: usize = 11;
 
 pub(crate) fn put(out: &mut [u8], at: usize, text: &[u8]) -> usize
     requires { ⌜ at + length (now text) ≤ length (now out) ⌝ }
-    ensures { λ r. ⌜ Stored (length (now (text .entry))) (now (text .entry)) (now (out .entry)) at (now (out .exit)) r ⌝ }
+    ensures { λ r. ⌜ Stored (now (out .entry)) at (now (text .entry)) (now (out .exit)) r ⌝ }
 {
     let mut i: usize = 0;
     while i < text.len() {
@@ -31,7 +34,7 @@ fn digit(d: usize) -> u8
 // The decimal digits of a number.
 pub(crate) fn put_number(out: &mut [u8], at: usize, n: usize) -> usize
     requires { ⌜ at + length (decimal n) ≤ length (now out) ⌝ }
-    ensures { λ r. ⌜ Stored (length (decimal n)) (decimal n) (now (out .entry)) at (now (out .exit)) r ⌝ }
+    ensures { λ r. ⌜ Stored (now (out .entry)) at (decimal n) (now (out .exit)) r ⌝ }
 {
     if n < 10 {
         out[at] = digit(n);
@@ -45,7 +48,8 @@ pub(crate) fn put_number(out: &mut [u8], at: usize, n: usize) -> usize
 // A label and a number.
 pub(crate) fn put_named(out: &mut [u8], at: usize, label: &[u8], n: usize) -> usize
     requires { ⌜ at + (length (now label) + longest) ≤ length (now out) ⌝ }
-    ensures { λ r. ⌜ Stored (length (now (label .entry)) + longest) (named (now (label .entry)) n) (now (out .entry)) at (now (out .exit)) r ⌝ }
+    ensures stored { λ r. ⌜ Stored (now (out .entry)) at (named (now (label .entry)) n) (now (out .exit)) r ⌝ }
+    ensures few { λ r. ⌜ r ≤ at + (length (now (label .entry)) + longest) ⌝ }
 {
     let end = put(out, at, label);
     put_number(out, end, n)
@@ -53,10 +57,11 @@ pub(crate) fn put_named(out: &mut [u8], at: usize, label: &[u8], n: usize) -> us
 
 // A blank and a word; a dash for the word that stands for none.
 pub(crate) fn put_word(out: &mut [u8], at: usize, word: u32) -> usize
-    requires { ⌜ at + 11 ≤ length (now out) ⌝ }
-    ensures { λ r. ⌜ Stored 11 (wordText word) (now (out .entry)) at (now (out .exit)) r ⌝ }
+    requires { ⌜ at + wordRoom ≤ length (now out) ⌝ }
+    ensures stored { λ r. ⌜ Stored (now (out .entry)) at (wordText word) (now (out .exit)) r ⌝ }
+    ensures few { λ r. ⌜ r ≤ at + wordRoom ⌝ }
 {
-    if word == NONE {
+    if word == NO_NAME {
         return put(out, at, b" -");
     }
     let end = put(out, at, b" ");

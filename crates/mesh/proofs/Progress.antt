@@ -8,7 +8,6 @@ use lib.ListN.{length, length-append}
 use lib.Seq.{sets, length-sets}
 use Rattle.counting.specs.Range.{over}
 use Rattle.counting.proofs.Fronts.{over-more, over-at, sets-append}
-use Rattle.cell.specs.Walked.{Scratch}
 use Rattle.triangle.specs.declared.Triangle.{Triangle}
 use Rattle.triangle.specs.Words.{wordCount, allWords}
 use Rattle.triangle.proofs.Storing.{length-all, all-append}
@@ -26,27 +25,20 @@ length-up-to f n c h =
       length-append (f c) (over f (n - suc c) (suc c)),
     )
 
--- t triangles of the first c cells, of n; the lent arrays are scratch
-pub record Counting (f : ℕ → List Triangle) (n c t : ℕ) (marks halves points : List ℕ) : Type 0 where
+-- t triangles of the first c cells, of n
+pub record Counting (f : ℕ → List Triangle) (n c t : ℕ) : Type 0 where
   pub up : c ≤ n
   pub is : t ≡ length (over f c 0)
   pub few : t ≤ 1530 * c
-  pub scratch : Scratch marks halves points
 
-pub counting-none : (f : ℕ → List Triangle) (n : ℕ) {marks halves points : List ℕ} → Scratch marks halves points → Counting f n 0 0 marks halves points
+pub counting-none : (f : ℕ → List Triangle) (n : ℕ) → Counting f n 0 0
 unfolding over
-counting-none f n s = record { up = omega arith; is = refl; few = omega arith; scratch = s }
+counting-none f n = record { up = omega arith; is = refl; few = omega arith }
 
-pub counting-more : {f : ℕ → List Triangle} {n c t : ℕ} {marks halves points : List ℕ} → Counting f n c t marks halves points → c < n → (m : ℕ) {marks′ halves′ points′ : List ℕ}
-    → m ≡ length (f c) → m ≤ 1530 → Scratch marks′ halves′ points′ → Counting f n (c + 1) (t + m) marks′ halves′ points′
-counting-more {f} {n} {c} {t} w h m e l s = record {
-  up = omega arith;
-  is = omega (arith, w .is, e, length-more f c);
-  few = omega (arith, w .few);
-  scratch = s;
-}
+pub counting-more : {f : ℕ → List Triangle} {n c t : ℕ} → Counting f n c t → c < n → (m : ℕ) → m ≡ length (f c) → m ≤ 1530 → Counting f n (c + 1) (t + m)
+counting-more {f} {n} {c} {t} w h m e l = record { up = omega arith; is = omega (arith, w .is, e, length-more f c); few = omega (arith, w .few) }
 
-pub counting-all : {f : ℕ → List Triangle} {n c t : ℕ} {marks halves points : List ℕ} → Counting f n c t marks halves points → n ≤ c → t ≡ length (over f n 0)
+pub counting-all : {f : ℕ → List Triangle} {n c t : ℕ} → Counting f n c t → n ≤ c → t ≡ length (over f n 0)
 counting-all {f} {n} {c} {t} w h = let e : c ≡ n = omega (arith, w .up) in w .is ∙ ap (λ k. length (over f k 0)) e
 
 -- the first c cells, of n, have no more than t triangles
@@ -66,24 +58,22 @@ pub bounding-all : {f : ℕ → List Triangle} {n c t : ℕ} → Bounding f n c 
 bounding-all {f} {n} {c} {t} w h = let e : c ≡ n = omega (arith, w .up) in rw (← e) (w .is)
 
 -- the words of the first c cells are written over out₀, which makes it out; i is the next index
-pub record Writing (f : ℕ → List Triangle) (n c : ℕ) (out₀ out : List ℕ) (i : ℕ) (marks halves points : List ℕ) : Type 0 where
+pub record Writing (f : ℕ → List Triangle) (n c : ℕ) (out₀ out : List ℕ) (i : ℕ) : Type 0 where
   pub up : c ≤ n
   pub is : out ≡ sets out₀ 0 (allWords (over f c 0))
   pub next : i ≡ wordCount * length (over f c 0)
   pub same : length out ≡ length out₀
-  pub scratch : Scratch marks halves points
 
-pub writing-none : (f : ℕ → List Triangle) (n : ℕ) (out : List ℕ) {marks halves points : List ℕ} → Scratch marks halves points → Writing f n 0 out out 0 marks halves points
+pub writing-none : (f : ℕ → List Triangle) (n : ℕ) (out : List ℕ) → Writing f n 0 out out 0
 unfolding over allWords
-writing-none f n out s = record { up = omega arith; is = refl; next = refl; same = refl; scratch = s }
+writing-none f n out = record { up = omega arith; is = refl; next = refl; same = refl }
 
-module _ {f : ℕ → List Triangle} {n c : ℕ} {out₀ out : List ℕ} {i : ℕ} {marks halves points : List ℕ} (w : Writing f n c out₀ out i marks halves points) where
+module _ {f : ℕ → List Triangle} {n c : ℕ} {out₀ out : List ℕ} {i : ℕ} (w : Writing f n c out₀ out i) where
   pub writing-room : c < n → wordCount * length (over f n 0) ≤ length out₀ → i + wordCount * length (f c) ≤ length out
   writing-room h r = omega (arith, w .next, w .same, length-up-to f n c h)
 
-  pub writing-more : c < n → (out′ : List ℕ) (j : ℕ) {marks′ halves′ points′ : List ℕ} → j ≡ i + wordCount * length (f c) → out′ ≡ sets out i (allWords (f c)) → Scratch marks′ halves′ points′
-      → Writing f n (c + 1) out₀ out′ j marks′ halves′ points′
-  writing-more h out′ j e q s =
+  pub writing-more : c < n → (out′ : List ℕ) (j : ℕ) → j ≡ i + wordCount * length (f c) → out′ ≡ sets out i (allWords (f c)) → Writing f n (c + 1) out₀ out′ j
+  writing-more h out′ j e q =
       let l : 0 + length (allWords (over f c 0)) ≡ i = zero-add (length (allWords (over f c 0))) ∙ length-all (over f c 0) ∙ sym (w .next) in
       record {
         up = omega arith;
@@ -91,7 +81,6 @@ module _ {f : ℕ → List Triangle} {n c : ℕ} {out₀ out : List ℕ} {i : �
             ∙ sym (sets-append out₀ 0 (allWords (over f c 0)) (allWords (f c))) ∙ ap (sets out₀ 0) (sym (ap allWords (over-more f c) ∙ all-append (over f c 0) (f c)));
         next = omega (arith, e, w .next, length-more f c);
         same = ap length q ∙ length-sets out i (allWords (f c)) ∙ w .same;
-        scratch = s;
       }
 
   pub writing-all : n ≤ c → out ≡ sets out₀ 0 (allWords (over f n 0))

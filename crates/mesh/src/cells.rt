@@ -6,6 +6,8 @@ ghost use Rattle.cell.specs.Route.{startLimit};
 ghost use Rattle.grid.specs.Grid.{mostCells};
 ghost use Rattle.mesh.specs.Table.{tableCounts, tableStarts, ofFour, tableCell};
 use cell::Cell;
+use grid::MOST_EDGES;
+use grid::MOST_SLOTS;
 
 fn wide(x: u16) -> usize
     ensures { λ r. ⌜ r ≡ x ⌝ }
@@ -86,9 +88,9 @@ fn four_of(list: &[u16], c: usize) -> [u16; 4]
 pub fn cell_at(
     cells: &[u16],
     counts: &[u8],
-    names: &[u16; 8192],
-    sides: &[u16; 12288],
-    starts: &[u32; 12288],
+    names: &[u16; MOST_SLOTS],
+    sides: &[u16; MOST_EDGES],
+    starts: &[u32; MOST_EDGES],
     c: usize,
 ) -> Cell
     ensures { λ r. ⌜ r ≡ tableCell (now (cells .entry)) (now (counts .entry)) (now (names .entry)) (now (sides .entry)) (now (starts .entry)) c ⌝ }

@@ -11,6 +11,7 @@ use cell::Loop;
 use grid::Checked;
 use grid::MOST_EDGES;
 use grid::MOST_SLOTS;
+use triangle::WORD_COUNT;
 
 pub mod cells;
 mod meshing;
@@ -40,12 +41,12 @@ fn draw(
     ensures { λ r. ⌜ Drawn (now (cells .entry)) (now (counts .entry)) (now (names .entry)) (now (sides .entry)) (now (starts .entry)) (now (area .entry)) (now (area .exit)) (meshNumbers r) ⌝ }
 {
     let most = meshing::most_all(cells, counts, names, sides, starts);
-    if 11 * most <= area.len() {
+    if WORD_COUNT * most <= area.len() {
         let words = meshing::write_all(cells, counts, names, sides, starts, area);
-        return Meshed::Triangles((words / 11) as u32);
+        return Meshed::Triangles((words / WORD_COUNT) as u32);
     }
     let n = meshing::count_all(cells, counts, names, sides, starts);
-    if area.len() < 11 * n {
+    if area.len() < WORD_COUNT * n {
         return Meshed::Refused(12, n);
     }
     meshing::write_all(cells, counts, names, sides, starts, area);

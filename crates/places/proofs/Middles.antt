@@ -1,8 +1,8 @@
--- The fans of a cell and their middles, from what walks record.
+-- The fans of a cell and their middles, from the record of its loops.
 use Prim.Native.Nat.{ℕ, zero, suc, _+_, _-_, _*_, _/_, _≤_, _<_}
 use mathlib.Core.Path.{_≡_, refl, sym, ap, ap₂, _∙_}
 use mathlib.Core.Bool.{Bool, true, false, not, _&&_, _||_}
-use mathlib.Core.List.{List, [], _∷_}
+use mathlib.Core.List.{List, [], _∷_, _++_}
 use native.Mathlib.Omega.{arith}
 use lib.Dec.{eqb, ltb}
 use lib.ListN.{length, getD}
@@ -10,32 +10,37 @@ use lib.Seq.{sets}
 use lib.Ieee.{Float}
 use borrow.Author.Tests.{lt-ltb, ltb-true, ne-eqb}
 use Rattle.counting.specs.Pick.{pick, one}
-use Rattle.counting.specs.Range.{total}
-use Rattle.counting.specs.Search.{count}
+use Rattle.counting.specs.Range.{total, over}
 use Rattle.counting.proofs.Bools.{and-left}
 use Rattle.counting.proofs.Range.{length-over, total-ext, total-next, over-ext}
-use Rattle.counting.proofs.Search.{count-total, count-le}
+use Rattle.counting.proofs.Search.{count-total}
 use Rattle.cell.specs.declared.Cell.{Cell}
 use Rattle.cell.specs.Cell.{crossings, edge}
 use Rattle.cell.specs.Loop.{loopSize, dart, inGrid}
 use Rattle.cell.specs.Of.{edgesOf}
-use Rattle.cell.specs.Walked.{Walked, Scratch}
+use Rattle.cell.specs.Trace.{each, leastsOf}
 use Rattle.cell.specs.Route.{mostInCell}
 use Rattle.cell.specs.Round.{foldsIn}
 use Rattle.cell.proofs.Lay.{lay}
-use Rattle.cell.proofs.Loops.{normal-is, dart-live}
+use Rattle.cell.proofs.Loops.{from-point, normal-is, dart-live}
+use Rattle.cell.proofs.Reading.{Looped, over-leasts, leasts-few}
+use Rattle.triangle.proofs.Cells.{least}
 use Rattle.triangle.specs.Triangles.{numberOf, inTwo}
 use Rattle.grid.specs.Grid.{cellCount}
 use Rattle.mesh.specs.Table.{tableCell}
 use Rattle.places.specs.declared.Place.{Place}
 use Rattle.places.specs.Place.{floatOf, added, divided, coordinates, placeAt, numbers, allNumbers, sumTo, middle}
 use Rattle.places.specs.Points.{fanBy, isFan, pointOf, fanCount, loopMiddle, cellMiddles}
-use Rattle.places.specs.Work.{tracedFan, tracedMiddle, Meanable, Room, Below, tableFans, tableMiddles}
+use Rattle.places.specs.Work.{tracedFan, tracedMiddle, Meanable, Room, Below, FansIn, tableFans, tableMiddles}
 
 -- the cases of the code
 pub fan-none : (n : ℕ) (two : Bool) → n ≡ 0 → 0 ≡ one (fanBy n two)
 unfolding fanBy
 fan-none n two e = rw e
+
+no-fan : (c : Cell) (p : ℕ) → loopSize (edgesOf c) p ≡ 0 → 0 ≡ one (isFan c p)
+unfolding isFan
+no-fan c p z = fan-none (loopSize (edgesOf c) p) (inTwo c p) z
 
 pub fan-three : (n : ℕ) (two : Bool) → n ≡ 3 → 0 ≡ one (fanBy n two)
 unfolding fanBy
@@ -74,10 +79,6 @@ module _ (place : ℕ → Place) (c : Cell) where
       length-over (loopMiddle place c) (crossings (edgesOf c)) 0
       ∙ total-ext (λ p. length (loopMiddle place c p)) (λ p. one (isFan c p)) (crossings (edgesOf c)) 0 (λ p a b. length-loop p)
       ∙ sym (count-total (isFan c) (crossings (edgesOf c)))
-
-pub fans-few : (c : Cell) → fanCount c ≤ crossings (edgesOf c)
-unfolding fanCount
-fans-few c = count-le (isFan c) (crossings (edgesOf c))
 
 pub length-table : (place : ℕ → Place) (cells counts names sides starts : List ℕ) → length (tableMiddles cells counts names sides starts place) ≡ tableFans cells counts names sides starts
 unfolding tableMiddles tableFans
@@ -118,26 +119,26 @@ module _ (c : Cell) (p : ℕ) (l : p < crossings (edgesOf c)) where
         (λ e. middle-ext (λ k. place (pointOf c p k)) (λ k. other (pointOf c p k)) (loopSize (edgesOf c) p) (fan-some (loopSize (edgesOf c) p) (inTwo c p) e)
         (λ k h. same (pointOf c p k) (point-below n k b h)))
 
-  -- what a walk recorded
-  module _ {n : ℕ} {marks halves points : List ℕ} (W : Walked c p n marks halves points) where
-    pub walked-fan : tracedFan halves n ≡ isFan c p
-    unfolding isFan inTwo
-    walked-fan = ap₂ (λ m b. fanBy m (eqb m 4 && b)) (W .size) (sym (normal-is (W .recorded) (W .size) l))
+-- what is recorded of a loop
+module _ {c : Cell} {p n : ℕ} {halves points : List ℕ} (L : Looped c p n halves points) where
+  pub looped-fan : tracedFan halves n ≡ isFan c p
+  unfolding isFan inTwo
+  looped-fan = ap₂ (λ m b. fanBy m (eqb m 4 && b)) (L .size) (ap (λ l. eqb (foldsIn l) 0) (L .halves-are) ∙ sym (normal-is c p (L .inside)))
 
-    pub walked-point : (k : ℕ) → k < n → getD points k 0 ≡ pointOf c p k
-    unfolding pointOf numberOf
-    walked-point k h = W .recorded .point k h
+  looped-point : (k : ℕ) → k < n → getD points k 0 ≡ pointOf c p k
+  unfolding pointOf numberOf
+  looped-point k h = rw (L .points-are) (from-point c p k (omega (arith, L .size)))
 
-    pub walked-below : (m : ℕ) → Below c m → (k : ℕ) → k < n → getD points k 0 < m
-    walked-below m b k h = omega (arith, walked-point k h, point-below m k b (omega (arith, W .size)))
+  pub looped-below : (m : ℕ) → Below c m → (k : ℕ) → k < n → getD points k 0 < m
+  looped-below m b k h = omega (arith, looped-point k h, point-below c p (L .inside) m k b (omega (arith, L .size)))
 
-    pub walked-middle : (area : List Float) → tracedMiddle halves points n area ≡ loopMiddle (placeAt area) c p
-    unfolding tracedMiddle loopMiddle
-    walked-middle area =
-        pick-ext (tracedFan halves n) (middle (λ k. placeAt area (getD points k 0)) n) (middle (λ k. placeAt area (pointOf c p k)) n)
-        (λ e. middle-ext (λ k. placeAt area (getD points k 0)) (λ k. placeAt area (pointOf c p k)) n (fan-some n (eqb n 4 && eqb (foldsIn halves n) 0) e)
-        (λ k h. ap (placeAt area) (walked-point k h)))
-        ∙ ap₂ (λ (b : Bool) (m : ℕ). pick b (middle (λ k. placeAt area (pointOf c p k)) m ∷ []) []) walked-fan (W .size)
+  pub looped-middle : (area : List Float) → tracedMiddle halves points n area ≡ loopMiddle (placeAt area) c p
+  unfolding tracedMiddle loopMiddle
+  looped-middle area =
+      pick-ext (tracedFan halves n) (middle (λ k. placeAt area (getD points k 0)) n) (middle (λ k. placeAt area (pointOf c p k)) n)
+      (λ e. middle-ext (λ k. placeAt area (getD points k 0)) (λ k. placeAt area (pointOf c p k)) n (fan-some n (eqb n 4 && eqb (foldsIn halves) 0) e)
+      (λ k h. ap (placeAt area) (looped-point k h)))
+      ∙ ap₂ (λ (b : Bool) (m : ℕ). pick b (middle (λ k. placeAt area (pointOf c p k)) m ∷ []) []) looped-fan (L .size)
 
 pub cell-ext : (c : Cell) (n : ℕ) → Below c n → (place other : ℕ → Place) → ((g : ℕ) → g < n → place g ≡ other g) → cellMiddles place c ≡ cellMiddles other c
 unfolding cellMiddles
@@ -151,28 +152,59 @@ table-ext cells counts names sides starts n b place other same =
     over-ext (λ c. cellMiddles place (tableCell cells counts names sides starts c)) (λ c. cellMiddles other (tableCell cells counts names sides starts c)) (cellCount cells) 0
     (λ c a l. cell-ext (tableCell cells counts names sides starts c) n (b c (omega arith)) place other same)
 
--- the fans of the first p crossings' loops
-pub record Counting (c : Cell) (p t : ℕ) : Type 0 where
-  pub is : t ≡ count (isFan c) p
-  pub few : t ≤ p
+-- the entries of a list in turn
+over-shift : (f : ℕ → List Place) (n p : ℕ) → over f n (suc p) ≡ over (λ q. f (suc q)) n p
+unfolding over
+over-shift f zero p = refl
+over-shift f (suc n) p = ap (λ l. f (suc p) ++ l) (over-shift f n (suc p))
+
+each-over : (f : ℕ → List Place) (l : List ℕ) → each f l ≡ over (λ j. f (getD l j 0)) (length l) 0
+unfolding each over
+each-over f [] = refl
+each-over f (p ∷ l) = ap (λ m. f p ++ m) (each-over f l ∙ sym (over-shift (λ j. f (getD (p ∷ l) j 0)) (length l) 0))
+
+-- the middles of a cell, loop by loop
+pub cell-loops : (place : ℕ → Place) (c : Cell) → cellMiddles place c ≡ over (λ j. loopMiddle place c (least c j)) (length (leastsOf c)) 0
+unfolding cellMiddles
+cell-loops place c = over-leasts c (loopMiddle place c) none ∙ each-over (loopMiddle place c) (leastsOf c)
+  where
+    empty : (l : List Place) → length l ≡ 0 → l ≡ []
+    empty [] e = refl
+    empty (x ∷ l) e = absurd (omega arith)
+
+    none : (p : ℕ) → loopSize (edgesOf c) p ≡ 0 → loopMiddle place c p ≡ []
+    none p z = empty (loopMiddle place c p) (length-loop place c p ∙ sym (no-fan c p z))
+
+pub fans-loops : (c : Cell) → fanCount c ≡ total (λ j. one (isFan c (least c j))) (length (leastsOf c)) 0
+fans-loops c =
+    sym (length-cell (placeAt []) c) ∙ ap length (cell-loops (placeAt []) c)
+    ∙ length-over (λ j. loopMiddle (placeAt []) c (least c j)) (length (leastsOf c)) 0
+    ∙ total-ext (λ j. length (loopMiddle (placeAt []) c (least c j))) (λ j. one (isFan c (least c j))) (length (leastsOf c)) 0 (λ j a b. length-loop (placeAt []) c (least c j))
+
+-- the fans of the first j loops
+pub record Counting (c : Cell) (j t : ℕ) : Type 0 where
+  pub is : t ≡ total (λ k. one (isFan c (least c k))) j 0
+  pub few : t ≤ j
 
 pub counting-none : (c : Cell) → Counting c 0 0
-unfolding count
+unfolding total
 counting-none c = record { is = refl; few = omega arith }
 
-pub counting-more : {c : Cell} {p t : ℕ} → Counting c p t → (m : ℕ) → m ≡ one (isFan c p) → Counting c (p + 1) (t + m)
-unfolding count
-counting-more {c} {p} {t} C m e =
-    let z : p + 1 ≡ suc p = omega arith in
-    record { is = ap (λ k. k + m) (C .is) ∙ ap (λ k. count (isFan c) p + k) e ∙ ap (count (isFan c)) (sym z); few = omega (arith, C .few, e, one-le (isFan c p)) }
+pub counting-more : {c : Cell} {j t : ℕ} → Counting c j t → (m : ℕ) → m ≡ one (isFan c (least c j)) → Counting c (j + 1) (t + m)
+counting-more {c} {j} {t} C m e = record {
+  is = omega (arith, C .is, e, total-next (λ k. one (isFan c (least c k))) j);
+  few = omega (arith, C .few, e, one-le (isFan c (least c j)));
+}
   where
     one-le : (b : Bool) → one b ≤ 1
     one-le true = omega arith
     one-le false = omega arith
 
-pub counting-all : {c : Cell} {p t : ℕ} → Counting c p t → p ≡ crossings (edgesOf c) → t ≡ fanCount c
-unfolding fanCount
-counting-all {c} C e = C .is ∙ ap (count (isFan c)) e
+pub counting-end : {c : Cell} {j t : ℕ} → Counting c j t → j ≡ length (leastsOf c) → crossings (edgesOf c) ≤ mostInCell → FansIn c t
+counting-end {c} {j} C e few = record {
+  is = C .is ∙ ap (λ k. total (λ k. one (isFan c (least c k))) k 0) e ∙ sym (fans-loops c);
+  few = omega (arith, C .few, leasts-few c);
+}
 
 pub length-traced : (halves points : List ℕ) (n : ℕ) (area : List Float) → length (tracedMiddle halves points n area) ≡ one (tracedFan halves n)
 unfolding tracedMiddle
@@ -204,28 +236,27 @@ module _ (halves points : List ℕ) (n : ℕ) (area : List Float) (at r : ℕ) (
     module _ (R : Room halves points n area at) where
       pub put-points : Meanable area points n
       put-points = record {
-        some = fan-some n (eqb n 4 && eqb (foldsIn halves n) 0) fan;
-        few = R .traced .few;
+        some = fan-some n (eqb n 4 && eqb (foldsIn halves) 0) fan;
+        few = R .few;
+        long = R .long;
         placed = λ k l. omega (arith, R .below k l, R .front);
       }
 
       pub put-room : coordinates * at + coordinates ≤ length area
       put-room = omega (arith, R .room, ap one fan)
 
--- the fans of the first c cells, of n; the lent arrays are scratch
-pub record Adding (f : ℕ → ℕ) (n c t : ℕ) (marks halves points : List ℕ) : Type 0 where
+-- the fans of the first c cells, of n
+pub record Adding (f : ℕ → ℕ) (n c t : ℕ) : Type 0 where
   pub up : c ≤ n
   pub is : t ≡ total f c 0
   pub few : t ≤ mostInCell * c
-  pub scratch : Scratch marks halves points
 
-pub adding-none : (f : ℕ → ℕ) (n : ℕ) {marks halves points : List ℕ} → Scratch marks halves points → Adding f n 0 0 marks halves points
+pub adding-none : (f : ℕ → ℕ) (n : ℕ) → Adding f n 0 0
 unfolding total
-adding-none f n s = record { up = omega arith; is = refl; few = omega arith; scratch = s }
+adding-none f n = record { up = omega arith; is = refl; few = omega arith }
 
-pub adding-more : {f : ℕ → ℕ} {n c t : ℕ} {marks halves points : List ℕ} → Adding f n c t marks halves points → c < n → (m : ℕ) {marks′ halves′ points′ : List ℕ}
-    → m ≡ f c → m ≤ mostInCell → Scratch marks′ halves′ points′ → Adding f n (c + 1) (t + m) marks′ halves′ points′
-adding-more {f} {n} {c} {t} w h m e l s = record { up = omega arith; is = omega (arith, w .is, e, total-next f c); few = omega (arith, w .few); scratch = s }
+pub adding-more : {f : ℕ → ℕ} {n c t : ℕ} → Adding f n c t → c < n → (m : ℕ) → m ≡ f c → m ≤ mostInCell → Adding f n (c + 1) (t + m)
+adding-more {f} {n} {c} {t} w h m e l = record { up = omega arith; is = omega (arith, w .is, e, total-next f c); few = omega (arith, w .few) }
 
-pub adding-all : {f : ℕ → ℕ} {n c t : ℕ} {marks halves points : List ℕ} → Adding f n c t marks halves points → n ≤ c → t ≡ total f n 0
+pub adding-all : {f : ℕ → ℕ} {n c t : ℕ} → Adding f n c t → n ≤ c → t ≡ total f n 0
 adding-all {f} {n} {c} {t} w h = let e : c ≡ n = omega (arith, w .up) in w .is ∙ ap (λ k. total f k 0) e

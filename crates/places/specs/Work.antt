@@ -13,9 +13,7 @@ use Rattle.counting.specs.Range.{total, over}
 use Rattle.cell.specs.declared.Cell.{Cell}
 use Rattle.cell.specs.Of.{countOf, startOf}
 use Rattle.cell.specs.Route as route
-use Rattle.cell.specs.Walked.{Scratch}
 use Rattle.cell.specs.Round.{foldsIn}
-use Rattle.triangle.specs.Traced.{Traced}
 use Rattle.mesh.specs.Table.{tableCell}
 use Rattle.grid.specs.Grid.{highestNode, mostCells, mostCrossings, cellCount, low, high, crossings}
 use Rattle.places.specs.declared.Place.{Place}
@@ -74,14 +72,15 @@ pub record Placeable (edges counts : List ℕ) (nodes fractions area : List Floa
 -- n points, at least one, with their places in the list
 pub record Meanable (list : List Float) (points : List ℕ) (n : ℕ) : Type 0 where
   pub some : 0 < n
-  pub few : n ≤ route.mostInCell
+  pub few : n < route.startLimit
+  pub long : length points ≡ n
   pub placed : (k : ℕ) → k < n → coordinates * getD points k 0 + coordinates ≤ length list
 
 -- FANS: the fans among recorded loops and cells, and the room for their middles
 
 -- a recorded loop of n is drawn as a fan
 abbrev pub tracedFan : List ℕ → ℕ → Bool
-tracedFan halves n = fanBy n (eqb n 4 && eqb (foldsIn halves n) 0)
+tracedFan halves n = fanBy n (eqb n 4 && eqb (foldsIn halves) 0)
 
 -- its middle, by the places of an area's points
 unfoldable pub tracedMiddle : List ℕ → List ℕ → ℕ → List Float → List Place
@@ -89,7 +88,8 @@ tracedMiddle halves points n area = pick (tracedFan halves n) (middle (λ k. pla
 
 -- its points are below `at`, and there is room for its middle there
 pub record Room (halves points : List ℕ) (n : ℕ) (area : List Float) (at : ℕ) : Type 0 where
-  pub traced : Traced halves n
+  pub few : n < route.startLimit
+  pub long : length points ≡ n
   pub below : (k : ℕ) → k < n → getD points k 0 < at
   pub front : coordinates * at ≤ length area
   pub room : coordinates * (at + one (tracedFan halves n)) ≤ length area
@@ -98,11 +98,10 @@ pub record Room (halves points : List ℕ) (n : ℕ) (area : List Float) (at : �
 abbrev pub Below : Cell → ℕ → Type 0
 Below c n = (k : ℕ) → k < 6 → startOf c k + countOf c k ≤ n
 
--- n is the number of the cell's fans; the lent arrays are scratch
-pub record FansIn (c : Cell) (n : ℕ) (marks halves points : List ℕ) : Type 0 where
+-- n is the number of the cell's fans
+pub record FansIn (c : Cell) (n : ℕ) : Type 0 where
   pub is : n ≡ fanCount c
   pub few : n ≤ route.mostInCell
-  pub scratch : Scratch marks halves points
 
 -- the places of the cell's crossings stand before point `at`, and there is room for its middles from there on
 pub record CellRoom (c : Cell) (area : List Float) (at : ℕ) : Type 0 where
@@ -110,10 +109,9 @@ pub record CellRoom (c : Cell) (area : List Float) (at : ℕ) : Type 0 where
   pub room : coordinates * (at + fanCount c) ≤ length area
 
 -- they are written there, which makes the area out, and the next point is r
-pub record MiddlesIn (c : Cell) (area : List Float) (at : ℕ) (out : List Float) (r : ℕ) (marks halves points : List ℕ) : Type 0 where
+pub record MiddlesIn (c : Cell) (area : List Float) (at : ℕ) (out : List Float) (r : ℕ) : Type 0 where
   pub is : out ≡ sets area (coordinates * at) (allNumbers (cellMiddles (placeAt area) c))
   pub next : r ≡ at + fanCount c
-  pub scratch : Scratch marks halves points
 
 -- the fans of all cells, from the grid's tables
 module _ (cells counts names sides starts : List ℕ) where

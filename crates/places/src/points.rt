@@ -62,7 +62,7 @@ fn crossing(x: u32) -> usize
 }
 
 // The middle of the n crossings whose numbers are listed, by their places in the other list.
-pub(crate) fn middle_of(list: &[f64], points: &[u32; 1530], n: usize) -> Place
+pub(crate) fn middle_of(list: &[f64], points: &[u32], n: usize) -> Place
     requires { ⌜ Meanable (now list) (now points) n ⌝ }
     ensures { λ r. ⌜ r ≡ middle (λ k. placeAt (now (list .entry)) (getD (now (points .entry)) k 0)) n ⌝ }
 {

@@ -1,13 +1,13 @@
 -- The laws of a cell's triangles, together.
 use Rattle.cell.specs.declared.Cell.{Cell}
 use Rattle.triangle.specs.Triangles.{cellTriangles}
-use Rattle.triangle.specs.Claims.{CellLaws}
+use Rattle.triangle.specs.Claims.{TriangleLaws}
 use Rattle.triangle.proofs.Storing.{length-all}
 use Rattle.triangle.proofs.Trace.{length-loop, loop-few, length-cell, cell-few}
 use Rattle.triangle.proofs.Polygons.{loop-named, polygon-laws}
 
-pub cellLaws : (c : Cell) → CellLaws c
-cellLaws c = record {
+pub triangleLaws : (c : Cell) → TriangleLaws c
+triangleLaws c = record {
   many = length-loop c;
   loop-few = loop-few c;
   sum = length-cell c;

@@ -18,7 +18,7 @@ use Rattle.cell.specs.declared.Cell.{Cell}
 use Rattle.triangle.specs.declared.Corner.{Corner}
 use Rattle.triangle.specs.declared.Side.{Side}
 use Rattle.triangle.specs.declared.Triangle.{Triangle}
-use Rattle.triangle.specs.Traced.{Traced, pointAt, segmentAt, tracedTriangles}
+use Rattle.triangle.specs.Traced.{RecordedLoop, pointAt, segmentAt, tracedTriangles}
 use Rattle.triangle.specs.Triangles.{triangle, whole, half0, half1, spoke, fan, trianglesBy, manyBy}
 
 pub many-whole : (n : ℕ) (two : Bool) → n ≡ 3 → manyBy n two ≡ 1
@@ -127,8 +127,8 @@ module _ (cell : ℕ) {p0 q0 : ℕ} {point point′ : ℕ → Corner} {segment s
       go false true e t = ap₂ (λ u v. u ∷ v ∷ []) (half0-ext (four t)) (half1-ext (four t))
       go false false e t = fan-ext
 
-pub traced-as : {halves : List ℕ} {n m : ℕ} → n ≡ m → Traced halves n → Traced halves m
-traced-as {halves} {n} {m} e R = subst (λ k. Traced halves k) e R
+pub traced-as : {halves points : List ℕ} {n m : ℕ} → n ≡ m → RecordedLoop halves points n → RecordedLoop halves points m
+traced-as {halves} {points} e R = subst (λ k. RecordedLoop halves points k) e R
 
 -- entry k of the triangles of a recorded loop, from the triangle r of its case
 module _ (c : Cell) (halves points : List ℕ) (n : ℕ) (two : Bool) (k : ℕ) (r : Triangle) (l : k < manyBy n two) where

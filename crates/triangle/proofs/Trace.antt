@@ -9,18 +9,14 @@ use lib.ListN.{length, getD}
 use borrow.Author.Tests.{eqb-true}
 use Rattle.counting.specs.Range.{total, after}
 use Rattle.counting.proofs.Bools.{and-left}
-use Rattle.counting.proofs.Range.{after-lt, length-over, total-ext, total-mono}
+use Rattle.counting.proofs.Range.{after-lt, length-over, total-mono}
 use Rattle.walk.specs.Iterate.{it}
-use Rattle.walk.specs.Darts.{rev}
 use Rattle.walk.specs.Step as steps
-use Rattle.walk.specs.Walk as walk
-use Rattle.walk.proofs.Iterate.{length-orbit}
-use Rattle.walk.proofs.Once.{flat-room}
 use Rattle.walk.proofs.Step.{live, land-half}
 use Rattle.cell.specs.declared.Cell.{Cell}
 use Rattle.cell.specs.Cell.{Edges, crossings, first, second, mate, slot, step}
-use Rattle.cell.proofs.Mates.{ports, darts}
-use Rattle.cell.proofs.Loops.{dart-live, dart-after}
+use Rattle.cell.proofs.Mates.{ports}
+use Rattle.cell.proofs.Loops.{sizes, dart-live, dart-after}
 use Rattle.cell.specs.Loop.{loopSize, dart, normal}
 use Rattle.triangle.specs.declared.Corner.the-variants.{Crossing}
 use Rattle.triangle.specs.Triangles.{trianglesBy, manyBy, edgesOf, numberOf, segmentOf, point, segment, inTwo, loopTriangles, cellTriangles}
@@ -79,18 +75,6 @@ module _ (c : Cell) (p : ℕ) (l : p < crossings (edgesOf c)) where
 pub length-cell : (c : Cell) → length (cellTriangles c) ≡ total (λ p. length (loopTriangles c p)) (crossings (edgesOf c)) 0
 unfolding cellTriangles
 length-cell c = length-over (loopTriangles c) (crossings (edgesOf c)) 0
-
--- no crossing is on two loops
-sizes : (w : Edges) → total (loopSize w) (crossings w) 0 ≤ crossings w
-unfolding loopSize step walk.flat walk.loopAt
-sizes w =
-    let s = step w in
-    omega (
-      arith,
-      length-over (walk.loopAt (crossings w) s) (crossings w) 0,
-      total-ext (λ p. length (walk.loopAt (crossings w) s p)) (loopSize w) (crossings w) 0 (λ p a b. length-orbit s (loopSize w p) (2 * p)),
-      flat-room (crossings w) s rev (darts w),
-    )
 
 pub cell-few : (c : Cell) → length (cellTriangles c) ≤ crossings (edgesOf c)
 cell-few c =

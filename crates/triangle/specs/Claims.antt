@@ -13,7 +13,7 @@ use Rattle.triangle.specs.Words.{wordCount, allWords}
 use Rattle.triangle.specs.Triangles.{edgesOf, manyBy, inTwo, loopTriangles, cellTriangles}
 use Rattle.triangle.specs.Polygons.{polygonOf, named, Apart}
 
-pub record CellLaws (c : Cell) : Type 0 where
+pub record TriangleLaws (c : Cell) : Type 0 where
   -- a loop gives 1, 2 or n triangles, and at most n
   pub many : (p : ℕ) → length (loopTriangles c p) ≡ manyBy (loopSize (edgesOf c) p) (inTwo c p)
   pub loop-few : (p : ℕ) → length (loopTriangles c p) ≤ loopSize (edgesOf c) p

@@ -2,7 +2,6 @@ pub mod Words
 pub mod Triangles
 pub mod Traced
 pub mod Answer
-pub mod Lent
 pub mod Fits
 pub mod Names
 pub mod Polygons

@@ -1,24 +1,35 @@
--- A loop as the code records it: place k of one list has the half-edge by which its dart k leaves, place k of another the crossing number of its
--- point k. A half-edge is 3 * slot + edge of the slot.
-use Prim.Native.Nat.{ℕ, _/_, _≤_, min}
+-- A loop as it is recorded: place k of one list has the half-edge by which its dart k leaves, place k of another the crossing number of its
+-- point k. A half-edge is 3 * slot + edge of the slot. No call outside the crate depends on it.
+use Prim.Native.Nat.{ℕ, _/_, _<_, _≤_, min}
+use mathlib.Core.Path.{_≡_}
 use mathlib.Core.Bool.{Bool}
 use mathlib.Core.List.{List}
-use lib.ListN.{getD}
+use lib.ListN.{length, getD}
 use Rattle.counting.specs.Range.{after}
 use Rattle.cell.specs.declared.Cell.{Cell}
-use Rattle.cell.specs.Route.{mostInCell}
-use Rattle.cell.specs.Round.{HalfEdges}
+use Rattle.cell.specs.Cell.{crossings}
+use Rattle.cell.specs.Half.{halfEdges}
+use Rattle.cell.specs.Route.{mostInCell, startLimit}
+use Rattle.cell.specs.Trace.{leastsOf, From}
 use Rattle.triangle.specs.declared.Corner.{Corner}
 use Rattle.triangle.specs.declared.Corner.the-variants.{Crossing}
 use Rattle.triangle.specs.declared.Side.{Side}
 use Rattle.triangle.specs.declared.Side.the-variants.{Segment}
 use Rattle.triangle.specs.declared.Triangle.{Triangle}
-use Rattle.triangle.specs.Triangles.{trianglesBy}
+use Rattle.triangle.specs.Triangles.{edgesOf, trianglesBy}
 
--- n places are recorded
-pub record Traced (halves : List ℕ) (n : ℕ) : Type 0 where
-  pub few : n ≤ mostInCell
-  pub halves-are : HalfEdges halves n
+-- a loop of n is recorded
+pub record RecordedLoop (halves points : List ℕ) (n : ℕ) : Type 0 where
+  pub few : n < startLimit
+  pub halves-long : length halves ≡ n
+  pub points-long : length points ≡ n
+  pub halves-are : (k : ℕ) → k < n → getD halves k 0 < halfEdges
+
+-- the n loops of the cell are recorded, with their lengths
+pub record Held (c : Cell) (n : ℕ) (lengths halves points : List ℕ) : Type 0 where
+  pub few : crossings (edgesOf c) ≤ mostInCell
+  pub all : n ≡ length (leastsOf c)
+  pub from : From c 0 0 lengths halves points
 
 abbrev pub pointAt : List ℕ → ℕ → Corner
 pointAt points k = Crossing (getD points k 0)

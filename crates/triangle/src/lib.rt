@@ -1,19 +1,23 @@
 // The triangles of a cell's loops: by value, one by one, and as words in a lent area.
 ghost use mathlib.Core.Path.{_≡_};
-ghost use Prim.Native.Nat.{_+_, _*_, _≤_};
+ghost use Prim.Native.Nat.{_≤_};
 ghost use lib.ListN.{length};
 ghost use Rattle.cell.specs.Route.{mostInCell};
-ghost use Rattle.cell.specs.Walked.{Scratch};
-ghost use Rattle.triangle.specs.Words.{wordCount};
+ghost use Rattle.cell.specs.Trace.{Traced};
 ghost use Rattle.triangle.specs.Triangles.{cellTriangles};
 ghost use Rattle.triangle.specs.Answer.{nthOf, nthNumbers, nthAnswer};
-ghost use Rattle.triangle.specs.Lent.{Counted, Written};
 ghost use Rattle.triangle.specs.Fits.{nextAt, areaThen};
 use cell::Cell;
+use cell::MOST_IN_CELL;
+use cell::MOST_LOOPS;
 
 mod make;
+mod recorded;
 mod words;
 mod write;
+
+pub use words::NO_NAME;
+pub use words::WORD_COUNT;
 
 // A corner of a triangle: a crossing by its number, or the middle point of the triangle's loop.
 pub enum Corner {
@@ -45,105 +49,80 @@ pub enum Nth {
     Nothing,
 }
 
-// How many triangles the cell has. The lent arrays are scratch: what they hold before does not matter, and after says nothing.
+// How many triangles the cell has. The lent arrays are those of `cell::trace`, and it leaves them as that does.
 pub fn count_in(
     c: Cell,
-    marks: &mut [u16; 1530],
-    halves: &mut [u8; 1530],
-    points: &mut [u32; 1530],
+    marks: &mut [u16; MOST_IN_CELL],
+    halves: &mut [u8; MOST_IN_CELL],
+    points: &mut [u32; MOST_IN_CELL],
+    lengths: &mut [u16; MOST_LOOPS],
 ) -> usize
-    requires { ⌜ Scratch (now marks) (now halves) (now points) ⌝ }
-    ensures { λ r. ⌜ Counted c r (now (marks .exit)) (now (halves .exit)) (now (points .exit)) ⌝ }
-{
-    let n = cell::crossings_of(c);
-    let routes = cell::routes_of(c);
-    cell::clear(marks, n);
-    let mut t: usize = 0;
-    let mut p: usize = 0;
-    while p < n {
-        let m = cell::walk(c, &routes, p, marks, halves, points);
-        let two = make::in_two(halves, m);
-        t += make::many(m, two);
-        p += 1;
-    }
-    t
-}
-
-// Writes the words of the cell's triangles from index `at` on, and answers the next index. The lent arrays are scratch, as above.
-pub fn write_in(
-    c: Cell,
-    marks: &mut [u16; 1530],
-    halves: &mut [u8; 1530],
-    points: &mut [u32; 1530],
-    area: &mut [u32],
-    at: usize,
-) -> usize
-    requires { ⌜ Scratch (now marks) (now halves) (now points) ⌝ }
-    requires { ⌜ at + wordCount * length (cellTriangles c) ≤ length (now area) ⌝ }
-    ensures { λ r. ⌜ Written c (now (area .entry)) at (now (area .exit)) r (now (marks .exit)) (now (halves .exit)) (now (points .exit)) ⌝ }
-{
-    let n = cell::crossings_of(c);
-    let routes = cell::routes_of(c);
-    cell::clear(marks, n);
-    let mut i = at;
-    let mut p: usize = 0;
-    while p < n {
-        let m = cell::walk(c, &routes, p, marks, halves, points);
-        let two = make::in_two(halves, m);
-        i = write::write_loop(c, halves, points, m, two, area, i);
-        p += 1;
-    }
-    i
-}
-
-// How many triangles the cell has. About 11 KB of stack.
-pub fn triangle_count(c: Cell) -> usize
     ensures { λ r. ⌜ (r ≡ length (cellTriangles c)) × (r ≤ mostInCell) ⌝ }
+    ensures { λ _. ⌜ Traced c (now (marks .entry)) (now (halves .entry)) (now (points .entry)) (now (lengths .entry)) (now (marks .exit)) (now (halves .exit)) (now (points .exit)) (now (lengths .exit)) ⌝ }
 {
-    let mut marks = [0u16; 1530];
-    let mut halves = [0u8; 1530];
-    let mut points = [0u32; 1530];
-    count_in(c, &mut marks, &mut halves, &mut points)
-}
-
-// Triangle t of the cell. About 11 KB of stack.
-pub fn triangle_at(c: Cell, t: usize) -> Nth
-    ensures { λ r. ⌜ (r ≡ nthOf (cellTriangles c) t) × (nthNumbers r ≡ nthAnswer (cellTriangles c) t) ⌝ }
-{
-    let n = cell::crossings_of(c);
-    let routes = cell::routes_of(c);
-    let mut marks = [65535u16; 1530];
-    let mut halves = [0u8; 1530];
-    let mut points = [0u32; 1530];
-    let mut left = t;
-    let mut p: usize = 0;
-    while p < n {
-        let m = cell::walk(c, &routes, p, &mut marks, &mut halves, &mut points);
-        let two = make::in_two(&halves, m);
-        let k = make::many(m, two);
-        if left < k {
-            return Nth::Found(make::triangle_of(c, &halves, &points, m, two, left));
-        }
-        left -= k;
-        p += 1;
-    }
-    Nth::Nothing
+    let n = cell::trace(c, marks, halves, points, lengths);
+    recorded::count(c, n, lengths, halves, points)
 }
 
 // Writes the words of the cell's triangles from index `at` on and answers the next index. Where they have no room there, it writes nothing and
-// answers `at`. About 11 KB of stack.
+// answers `at`. The lent arrays are as above.
+pub fn write_in(
+    c: Cell,
+    marks: &mut [u16; MOST_IN_CELL],
+    halves: &mut [u8; MOST_IN_CELL],
+    points: &mut [u32; MOST_IN_CELL],
+    lengths: &mut [u16; MOST_LOOPS],
+    area: &mut [u32],
+    at: usize,
+) -> usize
+    ensures { λ r. ⌜ (r ≡ nextAt c (now (area .entry)) at) × (now (area .exit) ≡ areaThen c (now (area .entry)) at) ⌝ }
+    ensures { λ _. ⌜ Traced c (now (marks .entry)) (now (halves .entry)) (now (points .entry)) (now (lengths .entry)) (now (marks .exit)) (now (halves .exit)) (now (points .exit)) (now (lengths .exit)) ⌝ }
+{
+    let n = cell::trace(c, marks, halves, points, lengths);
+    if recorded::has_room(c, n, lengths, halves, points, area.len(), at) {
+        return recorded::write(c, n, lengths, halves, points, area, at);
+    }
+    at
+}
+
+// How many triangles the cell has. About 12 KB of stack.
+pub fn triangle_count(c: Cell) -> usize
+    ensures { λ r. ⌜ (r ≡ length (cellTriangles c)) × (r ≤ mostInCell) ⌝ }
+{
+    let mut marks = [0u16; MOST_IN_CELL];
+    let mut halves = [0u8; MOST_IN_CELL];
+    let mut points = [0u32; MOST_IN_CELL];
+    let mut lengths = [0u16; MOST_LOOPS];
+    count_in(c, &mut marks, &mut halves, &mut points, &mut lengths)
+}
+
+// Triangle t of the cell. About 12 KB of stack.
+pub fn triangle_at(c: Cell, t: usize) -> Nth
+    ensures { λ r. ⌜ (r ≡ nthOf (cellTriangles c) t) × (nthNumbers r ≡ nthAnswer (cellTriangles c) t) ⌝ }
+{
+    let mut marks = [0u16; MOST_IN_CELL];
+    let mut halves = [0u8; MOST_IN_CELL];
+    let mut points = [0u32; MOST_IN_CELL];
+    let mut lengths = [0u16; MOST_LOOPS];
+    let n = cell::trace(c, &mut marks, &mut halves, &mut points, &mut lengths);
+    recorded::seek(c, n, &lengths, &halves, &points, t)
+}
+
+// As `write_in`, with arrays of its own. About 12 KB of stack.
 pub fn write_cell(c: Cell, area: &mut [u32], at: usize) -> usize
     ensures { λ r. ⌜ (r ≡ nextAt c (now (area .entry)) at) × (now (area .exit) ≡ areaThen c (now (area .entry)) at) ⌝ }
 {
-    let mut marks = [0u16; 1530];
-    let mut halves = [0u8; 1530];
-    let mut points = [0u32; 1530];
-    let t = count_in(c, &mut marks, &mut halves, &mut points);
-    if area.len() < at {
-        return at;
-    }
-    if area.len() - at < 11 * t {
-        return at;
-    }
-    write_in(c, &mut marks, &mut halves, &mut points, area, at)
+    let mut marks = [0u16; MOST_IN_CELL];
+    let mut halves = [0u8; MOST_IN_CELL];
+    let mut points = [0u32; MOST_IN_CELL];
+    let mut lengths = [0u16; MOST_LOOPS];
+    write_in(
+        c,
+        &mut marks,
+        &mut halves,
+        &mut points,
+        &mut lengths,
+        area,
+        at,
+    )
 }

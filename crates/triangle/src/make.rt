@@ -2,13 +2,14 @@
 ghost use mathlib.Core.Path.{_≡_};
 ghost use mathlib.Core.Bool.{true, _&&_};
 ghost use lib.Dec.{eqb};
+ghost use Rattle.cell.specs.Route.{startLimit};
 ghost use Rattle.cell.specs.Round.{foldsIn};
 ghost use mathlib.Core.List.{_∷_};
 ghost use Prim.Native.Nat.{suc, _<_, min};
 ghost use lib.ListN.{getD, drop};
 ghost use Rattle.counting.specs.Range.{after};
 ghost use Rattle.triangle.specs.Triangles.{whole, half0, half1, spoke, manyBy};
-ghost use Rattle.triangle.specs.Traced.{Traced, pointAt, segmentAt, tracedTriangles};
+ghost use Rattle.triangle.specs.Traced.{RecordedLoop, pointAt, segmentAt, tracedTriangles};
 use super::Corner;
 use super::Side;
 use super::Triangle;
@@ -16,6 +17,13 @@ use cell::Cell;
 
 fn wide(x: u8) -> usize
     ensures { λ r. ⌜ r ≡ x ⌝ }
+{
+    x as usize
+}
+
+// The length of a loop.
+pub(crate) fn size(x: u16) -> usize
+    ensures { λ r. ⌜ (r ≡ x) × (r < startLimit) ⌝ }
 {
     x as usize
 }
@@ -41,8 +49,8 @@ fn after_of(n: usize, k: usize) -> usize
 }
 
 // Segment k of a recorded loop of n points.
-fn segment_at(c: Cell, halves: &[u8; 1530], points: &[u32; 1530], n: usize, k: usize) -> Side
-    requires { ⌜ Traced (now halves) n ⌝ }
+fn segment_at(c: Cell, halves: &[u8], points: &[u32], n: usize, k: usize) -> Side
+    requires { ⌜ RecordedLoop (now halves) (now points) n ⌝ }
     requires { ⌜ k < n ⌝ }
     ensures { λ r. ⌜ r ≡ segmentAt c (now (halves .entry)) (now (points .entry)) n k ⌝ }
 {
@@ -52,8 +60,8 @@ fn segment_at(c: Cell, halves: &[u8; 1530], points: &[u32; 1530], n: usize, k: u
 }
 
 // The triangle of a loop of three.
-fn whole_of(c: Cell, halves: &[u8; 1530], points: &[u32; 1530]) -> Triangle
-    requires { ⌜ Traced (now halves) 3 ⌝ }
+fn whole_of(c: Cell, halves: &[u8], points: &[u32]) -> Triangle
+    requires { ⌜ RecordedLoop (now halves) (now points) 3 ⌝ }
     ensures { λ r. ⌜ r ≡ whole (c .index) (getD (now (points .entry)) 0 0) (pointAt (now (points .entry))) (segmentAt c (now (halves .entry)) (now (points .entry)) 3) ⌝ }
 {
     let r = segment_at(c, halves, points, 3, 0);
@@ -72,8 +80,8 @@ fn whole_of(c: Cell, halves: &[u8; 1530], points: &[u32; 1530]) -> Triangle
 }
 
 // The two triangles of a normal loop of four.
-fn half0_of(c: Cell, halves: &[u8; 1530], points: &[u32; 1530]) -> Triangle
-    requires { ⌜ Traced (now halves) 4 ⌝ }
+fn half0_of(c: Cell, halves: &[u8], points: &[u32]) -> Triangle
+    requires { ⌜ RecordedLoop (now halves) (now points) 4 ⌝ }
     ensures { λ r. ⌜ r ≡ half0 (c .index) (getD (now (points .entry)) 0 0) (pointAt (now (points .entry))) (segmentAt c (now (halves .entry)) (now (points .entry)) 4) ⌝ }
 {
     let r = segment_at(c, halves, points, 4, 0);
@@ -90,8 +98,8 @@ fn half0_of(c: Cell, halves: &[u8; 1530], points: &[u32; 1530]) -> Triangle
     }
 }
 
-fn half1_of(c: Cell, halves: &[u8; 1530], points: &[u32; 1530]) -> Triangle
-    requires { ⌜ Traced (now halves) 4 ⌝ }
+fn half1_of(c: Cell, halves: &[u8], points: &[u32]) -> Triangle
+    requires { ⌜ RecordedLoop (now halves) (now points) 4 ⌝ }
     ensures { λ r. ⌜ r ≡ half1 (c .index) (getD (now (points .entry)) 0 0) (pointAt (now (points .entry))) (segmentAt c (now (halves .entry)) (now (points .entry)) 4) ⌝ }
 {
     let s = segment_at(c, halves, points, 4, 2);
@@ -109,8 +117,8 @@ fn half1_of(c: Cell, halves: &[u8; 1530], points: &[u32; 1530]) -> Triangle
 }
 
 // Triangle k of a fan of n.
-fn spoke_of(c: Cell, halves: &[u8; 1530], points: &[u32; 1530], n: usize, k: usize) -> Triangle
-    requires { ⌜ Traced (now halves) n ⌝ }
+fn spoke_of(c: Cell, halves: &[u8], points: &[u32], n: usize, k: usize) -> Triangle
+    requires { ⌜ RecordedLoop (now halves) (now points) n ⌝ }
     requires { ⌜ k < n ⌝ }
     ensures { λ r. ⌜ r ≡ spoke (c .index) (getD (now (points .entry)) 0 0) (pointAt (now (points .entry))) (segmentAt c (now (halves .entry)) (now (points .entry)) n) n k ⌝ }
 {
@@ -129,12 +137,11 @@ fn spoke_of(c: Cell, halves: &[u8; 1530], points: &[u32; 1530], n: usize, k: usi
 }
 
 // Whether a recorded loop of n is in two triangles: n is 4, and no segment has both ends on one edge.
-pub(crate) fn in_two(halves: &[u8; 1530], n: usize) -> bool
-    requires { ⌜ Traced (now halves) n ⌝ }
-    ensures { λ r. ⌜ r ≡ (eqb n 4 && eqb (foldsIn (now (halves .entry)) n) 0) ⌝ }
+pub(crate) fn in_two(halves: &[u8], n: usize) -> bool
+    ensures { λ r. ⌜ r ≡ (eqb n 4 && eqb (foldsIn (now (halves .entry))) 0) ⌝ }
 {
     if n == 4 {
-        return cell::folds_of(halves, n) == 0;
+        return cell::folds_of(halves) == 0;
     }
     false
 }
@@ -152,13 +159,13 @@ pub(crate) fn many(n: usize, two: bool) -> usize
 // Triangle k of a recorded loop of n.
 pub(crate) fn triangle_of(
     c: Cell,
-    halves: &[u8; 1530],
-    points: &[u32; 1530],
+    halves: &[u8],
+    points: &[u32],
     n: usize,
     two: bool,
     k: usize,
 ) -> Triangle
-    requires { ⌜ Traced (now halves) n ⌝ }
+    requires { ⌜ RecordedLoop (now halves) (now points) n ⌝ }
     requires { ⌜ (two ≡ true → n ≡ 4) ⌝ }
     requires { ⌜ k < manyBy n two ⌝ }
     ensures { λ r. ⌜ drop k (tracedTriangles c (now (halves .entry)) (now (points .entry)) n two) ≡ r ∷ drop (suc k) (tracedTriangles c (now (halves .entry)) (now (points .entry)) n two) ⌝ }

@@ -4,13 +4,16 @@ ghost use Prim.Native.Nat.{_+_, _≤_};
 ghost use mathlib.Core.List.{[], _∷_};
 ghost use lib.ListN.{length, getD};
 ghost use lib.Seq.{sets};
-ghost use Rattle.triangle.specs.Words.{cornerWord, sideWords, cornerWords, words};
+ghost use Rattle.triangle.specs.Words.{wordCount, cornerWord, sideWords, cornerWords, words};
 use super::Corner;
 use super::Side;
 use super::Triangle;
 
+// The words of a triangle.
+pub const WORD_COUNT: usize = 11;
+
 // The word that stands for no crossing and no face.
-const NO_NAME: u32 = 4294967295;
+pub const NO_NAME: u32 = 4294967295;
 
 fn corner_word(x: Corner) -> u32
     ensures { λ r. ⌜ r ≡ cornerWord x ⌝ }
@@ -67,7 +70,7 @@ fn put_corners(area: &mut [u32], at: usize, t: Triangle)
 
 // Writes a triangle's words from index `at` on.
 pub(crate) fn put(area: &mut [u32], at: usize, t: Triangle)
-    requires { ⌜ at + 11 ≤ length (now area) ⌝ }
+    requires { ⌜ at + wordCount ≤ length (now area) ⌝ }
     ensures { λ _. ⌜ now (area .exit) ≡ sets (now (area .entry)) at (words t) ⌝ }
 {
     put_two(area, at, t.cell, t.p0);

@@ -6,23 +6,24 @@ ghost use lib.ListN.{length};
 ghost use lib.Seq.{sets};
 ghost use Rattle.triangle.specs.Words.{wordCount, allWords};
 ghost use Rattle.triangle.specs.Triangles.{manyBy};
-ghost use Rattle.triangle.specs.Traced.{Traced, tracedTriangles};
+ghost use Rattle.triangle.specs.Traced.{RecordedLoop, tracedTriangles};
 use super::make::many;
 use super::make::triangle_of;
+use super::words::WORD_COUNT;
 use super::words::put;
 use cell::Cell;
 
 // Writes the triangles of a recorded loop of n from index `at` on, and answers the next index.
 pub(crate) fn write_loop(
     c: Cell,
-    halves: &[u8; 1530],
-    points: &[u32; 1530],
+    halves: &[u8],
+    points: &[u32],
     n: usize,
     two: bool,
     area: &mut [u32],
     at: usize,
 ) -> usize
-    requires { ⌜ Traced (now halves) n ⌝ }
+    requires { ⌜ RecordedLoop (now halves) (now points) n ⌝ }
     requires { ⌜ (two ≡ true → n ≡ 4) ⌝ }
     requires { ⌜ at + wordCount * manyBy n two ≤ length (now area) ⌝ }
     ensures { λ r. ⌜ (r ≡ at + wordCount * manyBy n two) × (now (area .exit) ≡ sets (now (area .entry)) at (allWords (tracedTriangles c (now (halves .entry)) (now (points .entry)) n two))) ⌝ }
@@ -33,7 +34,7 @@ pub(crate) fn write_loop(
     while k < m {
         let t = triangle_of(c, halves, points, n, two, k);
         put(area, i, t);
-        i += 11;
+        i += WORD_COUNT;
         k += 1;
     }
     i

@@ -5,6 +5,9 @@ use Rattle.capi.proofs.Putting.{room-short, room-enough, answers-short}
 use Rattle.capi.proofs.citternblaze_bundle_write.Statement.{statement}
 use Rattle.capi.proofs.citternblaze_bundle_write.Tie as tie
 
+cast-t9 : tie.Need-cast-t9
+cast-t9 c = search needs
+
 returns : tie.Need-returns
 returns c = (answers-short (search needs), room-short _ _ _ (search needs))
 
@@ -31,6 +34,9 @@ put-requires-2 c κs = search needs
 
 enum-known-needed : tie.Need-enum-known-needed
 enum-known-needed c = search needs
+
+cast-t29 : tie.Need-cast-t29
+cast-t29 c = search needs
 
 slice-aggregate-put-3 : tie.Need-slice-aggregate-put-3
 slice-aggregate-put-3 c = search needs
@@ -69,6 +75,7 @@ pub citternblaze-bundle-write-spec : {M : Type 1} → statement M
 citternblaze-bundle-write-spec =
     tie.close
     (tie.spec
+    cast-t9
     returns
     write-requires
     enum-known-n
@@ -78,6 +85,7 @@ citternblaze-bundle-write-spec =
     slice-aggregate-put-2
     put-requires-2
     enum-known-needed
+    cast-t29
     slice-aggregate-put-3
     put-requires-3
     same-length

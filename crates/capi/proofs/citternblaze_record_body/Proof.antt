@@ -1,10 +1,10 @@
 use borrow.Author.Needs.{needs}
-use Prim.Native.Nat.{ℕ, _+_, _≤_}
+use Prim.Native.Nat.{_+_, _≤_}
 use native.Mathlib.Omega.{arith}
 use mathlib.Core.Path.{sym}
 use lib.ListN.{length}
 use denote.Ref.{now}
-use Rattle.bundle.specs.Record.{recordNumbers}
+use Rattle.bundle.specs.Record.{headBytes, recordNumbers}
 use Rattle.bundle.proofs.Within.{record-within}
 use Rattle.capi.proofs.Answers.{told-reads, answers-are}
 use Rattle.capi.proofs.Body.{body-found, body-refused}
@@ -21,7 +21,7 @@ abbrev At : Type 0
 At = tie.After-known-told
 
 -- the body stands within the bytes
-within : (c : At) → (c .before .before .before .before .before .before .args .start + 4 ≤ c .before .kind .given .0 .1 .0) × (c .before .kind .given .0 .1 .0 ≤ length (now (c .before .before .before .before .before .before .args .bytes)))
+within : (c : At) → (c .before .before .before .before .before .before .args .start + headBytes ≤ c .before .kind .given .0 .1 .0) × (c .before .kind .given .0 .1 .0 ≤ length (now (c .before .before .before .before .before .before .args .bytes)))
 within c = record-within _ _ _ _ (sym (told-reads recordNumbers (c .before .kind .given .1) (c .before .before .before .record-at .ensures)))
 
 add-from : tie.Need-add-from

@@ -1,10 +1,13 @@
-use mathlib.Core.Path.{sym, ap, _∙_}
+use Prim.Native.Nat.{_*_, _≤_}
+use mathlib.Core.Path.{_≡_, sym, ap, _∙_}
+use mathlib.Core.List.{[], _∷_}
 use native.Mathlib.Omega.{arith}
 use lib.Seq.{length-take-le}
-use Rattle.bundle.specs.Bundle.{contentsNumbers}
-use Rattle.listing.specs.Listing.{roomBytes}
-use Rattle.listing.proofs.Stores.{wider}
-use Rattle.listing.proofs.Bundles.{read-refused, few-cells, few-edges, nodes-front, ends-front, counts-front, read-listed, too-long, all-listed}
+use Rattle.answer.specs.Answer.{result}
+use Rattle.bundle.specs.Record.{cellSize, edgeSize}
+use Rattle.bundle.specs.Bundle.{cellNodes, edgeEnds, readAnswer, contentsNumbers}
+use Rattle.listing.specs.Listing.{mostBytes, cellsInBundle, edgesInBundle}
+use Rattle.listing.proofs.Bundles.{read-refused, few-read, read-listed, too-long, all-listed}
 use borrow.Author.Needs.{needs}
 use Rattle.listing.proofs.list.Statement.{statement}
 use Rattle.listing.proofs.list.Tie as tie
@@ -13,7 +16,7 @@ put-refused-requires : tie.Need-put-refused-requires
 put-refused-requires c κs = search needs
 
 returns : tie.Need-returns
-returns c = all-listed (c .before .before .before .before .args .bytes .now) (wider (c .put-refused .ensures) roomBytes (omega arith)) (too-long (c .before .before .before .before .args .bytes .now) (omega arith)) (search needs)
+returns c = all-listed (c .before .before .before .before .args .bytes .now) (c .put-refused .ensures .0) (omega arith) (too-long (c .before .before .before .before .args .bytes .now) (omega arith)) (search needs)
 
 slice-aggregate-read : tie.Need-slice-aggregate-read
 slice-aggregate-read c = search needs
@@ -36,38 +39,48 @@ put-refused-requires-2 c κs = search needs
 enum-known-cells : tie.Need-enum-known-cells
 enum-known-cells c = search needs
 
+abbrev At : Type 0
+At = tie.After-known-told2
+
+-- what the reader answers
+told : (c : At) → result (c .before .cells .given .0 .0 ∷ c .before .cells .given .0 .1 .0 ∷ []) ≡ readAnswer (c .before .before .before .before .before .before .before .before .before .before .before .before .args .bytes .now) (cellNodes * cellsInBundle) (edgeEnds * edgesInBundle) edgesInBundle
+told c = sym (ap contentsNumbers (c .before .cells .given .1)) ∙ c .before .before .before .before .before .before .read .ensures .0
+
+few : (c : At) → (cellSize * c .before .cells .given .0 .0 ≤ mostBytes) × (edgeSize * c .before .cells .given .0 .1 .0 ≤ mostBytes)
+few c = few-read _ (c .before .before .before .before .before .before .before .before .before .before .if1 .left) _ _ (told c)
+
 mul-n : tie.Need-mul-n
-mul-n c = omega (arith, few-cells (c .before .before .before .before .before .before .before .before .before .before .before .before .args .bytes .now) (c .before .before .before .before .before .before .before .before .before .before .if1 .left) _ _ (sym (ap contentsNumbers (c .before .cells .given .1)) ∙ c .before .before .before .before .before .before .read .ensures .0))
+mul-n c = omega (arith, few c)
 
 mul-m : tie.Need-mul-m
-mul-m c = omega (arith, few-edges (c .before .before .before .before .before .before .before .before .before .before .before .before .args .bytes .now) (c .before .before .before .before .before .before .before .before .before .before .if1 .left) _ _ (sym (ap contentsNumbers (c .before .cells .given .1)) ∙ c .before .before .before .before .before .before .read .ensures .0))
+mul-m c = omega (arith, few c)
 
 array-share-prefix-nodes : tie.Need-array-share-prefix-nodes
-array-share-prefix-nodes c = omega (arith, few-cells (c .before .before .before .before .before .before .before .before .before .before .before .before .args .bytes .now) (c .before .before .before .before .before .before .before .before .before .before .if1 .left) _ _ (sym (ap contentsNumbers (c .before .cells .given .1)) ∙ c .before .before .before .before .before .before .read .ensures .0))
+array-share-prefix-nodes c = omega (arith, few c)
 
 slice-aggregate-list-grid : tie.Need-slice-aggregate-list-grid
-slice-aggregate-list-grid c = sym (length-take-le _ _ (omega (arith, few-cells (c .before .before .before .before .before .before .before .before .before .before .before .before .before .args .bytes .now) (c .before .before .before .before .before .before .before .before .before .before .before .if1 .left) _ _ (sym (ap contentsNumbers (c .before .before .cells .given .1)) ∙ c .before .before .before .before .before .before .before .read .ensures .0))))
+slice-aggregate-list-grid c = sym (length-take-le _ _ (omega (arith, few (c .before))))
 
 array-share-prefix-ends : tie.Need-array-share-prefix-ends
-array-share-prefix-ends c = omega (arith, few-edges (c .before .before .before .before .before .before .before .before .before .before .before .before .before .args .bytes .now) (c .before .before .before .before .before .before .before .before .before .before .before .if1 .left) _ _ (sym (ap contentsNumbers (c .before .before .cells .given .1)) ∙ c .before .before .before .before .before .before .before .read .ensures .0))
+array-share-prefix-ends c = omega (arith, few (c .before))
 
 slice-aggregate-list-grid-2 : tie.Need-slice-aggregate-list-grid-2
-slice-aggregate-list-grid-2 c = sym (length-take-le _ _ (omega (arith, few-edges (c .before .before .before .before .before .before .before .before .before .before .before .before .before .before .args .bytes .now) (c .before .before .before .before .before .before .before .before .before .before .before .before .if1 .left) _ _ (sym (ap contentsNumbers (c .before .before .before .cells .given .1)) ∙ c .before .before .before .before .before .before .before .before .read .ensures .0))))
+slice-aggregate-list-grid-2 c = sym (length-take-le _ _ (omega (arith, few (c .before .before))))
 
 array-share-prefix-counts : tie.Need-array-share-prefix-counts
-array-share-prefix-counts c = omega (arith, few-edges (c .before .before .before .before .before .before .before .before .before .before .before .before .before .before .args .bytes .now) (c .before .before .before .before .before .before .before .before .before .before .before .before .if1 .left) _ _ (sym (ap contentsNumbers (c .before .before .before .cells .given .1)) ∙ c .before .before .before .before .before .before .before .before .read .ensures .0))
+array-share-prefix-counts c = omega (arith, few (c .before .before))
 
 slice-aggregate-list-grid-3 : tie.Need-slice-aggregate-list-grid-3
-slice-aggregate-list-grid-3 c = sym (length-take-le _ _ (omega (arith, few-edges (c .before .before .before .before .before .before .before .before .before .before .before .before .before .before .before .args .bytes .now) (c .before .before .before .before .before .before .before .before .before .before .before .before .before .if1 .left) _ _ (sym (ap contentsNumbers (c .before .before .before .before .cells .given .1)) ∙ c .before .before .before .before .before .before .before .before .before .read .ensures .0))))
+slice-aggregate-list-grid-3 c = sym (length-take-le _ _ (omega (arith, few (c .before .before .before))))
 
 list-grid-requires : tie.Need-list-grid-requires
 list-grid-requires c κs = search needs
 
 returns-2 : tie.Need-returns-2
-returns-2 c = all-listed (c .before .before .before .before .before .before .before .before .before .before .before .before .before .before .args .bytes .now) (wider (c .put-refused2 .ensures) roomBytes (omega arith)) (read-refused (c .before .before .before .before .before .before .before .before .before .before .before .before .before .before .args .bytes .now) (c .before .before .before .before .before .before .before .before .before .before .before .before .if1 .left) _ _ (sym (ap contentsNumbers (c .before .before .before .row .given .1)) ∙ c .before .before .before .before .before .before .before .before .read .ensures .0)) (search needs)
+returns-2 c = all-listed (c .before .before .before .before .before .before .before .before .before .before .before .before .before .before .args .bytes .now) (c .put-refused2 .ensures .0) (omega arith) (read-refused (c .before .before .before .before .before .before .before .before .before .before .before .before .before .before .args .bytes .now) (c .before .before .before .before .before .before .before .before .before .before .before .before .if1 .left) _ _ (sym (ap contentsNumbers (c .before .before .before .row .given .1)) ∙ c .before .before .before .before .before .before .before .before .read .ensures .0)) (search needs)
 
 returns-3 : tie.Need-returns-3
-returns-3 c = all-listed (c .before .before .before .before .before .before .before .before .before .before .before .before .before .before .before .before .before .args .bytes .now) (c .list-grid .ensures) (read-listed (c .before .before .before .before .before .before .before .before .before .before .before .before .before .before .before .before .before .args .bytes .now) (c .before .before .before .before .before .before .before .before .before .before .before .before .before .before .before .if1 .left) _ _ (sym (ap contentsNumbers (c .before .before .before .before .before .before .cells .given .1)) ∙ c .before .before .before .before .before .before .before .before .before .before .before .read .ensures .0) _ _ _ (nodes-front (c .before .before .before .before .before .before .before .before .before .before .before .before .before .before .before .before .before .args .bytes .now) (c .before .before .before .before .before .before .before .before .before .before .before .before .before .before .before .if1 .left) _ _ (sym (ap contentsNumbers (c .before .before .before .before .before .before .cells .given .1)) ∙ c .before .before .before .before .before .before .before .before .before .before .before .read .ensures .0) _ _ (c .before .before .before .before .before .before .before .before .before .before .before .read .ensures .1 .0)) (ends-front (c .before .before .before .before .before .before .before .before .before .before .before .before .before .before .before .before .before .args .bytes .now) (c .before .before .before .before .before .before .before .before .before .before .before .before .before .before .before .if1 .left) _ _ (sym (ap contentsNumbers (c .before .before .before .before .before .before .cells .given .1)) ∙ c .before .before .before .before .before .before .before .before .before .before .before .read .ensures .0) _ _ (c .before .before .before .before .before .before .before .before .before .before .before .read .ensures .1 .1 .0)) (counts-front (c .before .before .before .before .before .before .before .before .before .before .before .before .before .before .before .before .before .args .bytes .now) (c .before .before .before .before .before .before .before .before .before .before .before .before .before .before .before .if1 .left) _ _ (sym (ap contentsNumbers (c .before .before .before .before .before .before .cells .given .1)) ∙ c .before .before .before .before .before .before .before .before .before .before .before .read .ensures .0) _ _ (c .before .before .before .before .before .before .before .before .before .before .before .read .ensures .1 .1 .1))) (search needs)
+returns-3 c = all-listed _ (c .list-grid .ensures .0) (omega arith) (read-listed (c .before .before .before .before .before .before .before .before .before .before .before .before .before .before .before .before .before .args .bytes .now) (c .before .before .before .before .before .before .before .before .before .before .before .before .before .before .before .if1 .left) _ _ (told (c .before .before .before .before .before)) _ _ _ (c .before .before .before .before .before .before .before .before .before .before .before .read .ensures .1 .0) (c .before .before .before .before .before .before .before .before .before .before .before .read .ensures .1 .1 .0) (c .before .before .before .before .before .before .before .before .before .before .before .read .ensures .1 .1 .1)) (search needs)
 
 pub list-spec : {M : Type 1} → statement M
 list-spec =

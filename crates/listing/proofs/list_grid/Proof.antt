@@ -1,9 +1,7 @@
-use mathlib.Core.Path.{sym, ap, _∙_}
-use native.Mathlib.Omega.{arith}
+use mathlib.Core.Path.{refl, sym, ap, _∙_}
 use Rattle.grid.specs.Check.{checkNumbers}
 use Rattle.grid.specs.Grid.{gridOf}
-use Rattle.listing.specs.Listing.{roomBytes}
-use Rattle.listing.proofs.Stores.{wider, renamed}
+use Rattle.counting.proofs.Stored.{stored-as}
 use Rattle.listing.proofs.Meshes.{check-refused}
 use borrow.Author.Needs.{needs}
 use Rattle.listing.proofs.list_grid.Statement.{statement}
@@ -22,13 +20,13 @@ enum-known-x : tie.Need-enum-known-x
 enum-known-x c = search needs
 
 list-mesh-requires : tie.Need-list-mesh-requires
-list-mesh-requires c κs = record { accepted = (sym (ap checkNumbers (c .before .before .x .given .1)) ∙ c .before .before .before .before .check .ensures); room = search needs }
+list-mesh-requires c κs = (sym (ap checkNumbers (c .before .before .x .given .1)) ∙ c .before .before .before .before .check .ensures, search needs)
 
 same-length : tie.Need-same-length
 same-length c = search needs
 
 returns : tie.Need-returns
-returns c = wider (renamed (c .before .before .put-refused .ensures) (check-refused (gridOf (c .before .before .before .before .before .before .before .before .before .before .before .before .args .nodes .now) (c .before .before .before .before .before .before .before .before .before .before .before .before .args .ends .now) (c .before .before .before .before .before .before .before .before .before .before .before .before .args .counts .now)) _ _ (sym (ap checkNumbers (c .before .before .before .before .before .row .given .1)) ∙ c .before .before .before .before .before .before .before .check .ensures))) roomBytes (omega arith)
+returns c = (stored-as (c .before .before .put-refused .ensures .0) (check-refused (gridOf (c .before .before .before .before .before .before .before .before .before .before .before .before .args .nodes .now) (c .before .before .before .before .before .before .before .before .before .before .before .before .args .ends .now) (c .before .before .before .before .before .before .before .before .before .before .before .before .args .counts .now)) _ _ (sym (ap checkNumbers (c .before .before .before .before .before .row .given .1)) ∙ c .before .before .before .before .before .before .before .check .ensures)) refl, search needs)
 
 same-length-2 : tie.Need-same-length-2
 same-length-2 c = search needs

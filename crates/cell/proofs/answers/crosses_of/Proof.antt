@@ -1,34 +1,33 @@
 use native.Mathlib.Omega.{arith}
 use Prim.Native.Nat.{_≤_, _-_}
-use mathlib.Core.Path.{_≡_, ap, _∙_}
 use lib.Dec.{eqb}
-use lib.ListN.{getD}
-use denote.Ref.{now}
+use lib.ListN.{length}
 use Rattle.counting.specs.Pick.{one}
-use Rattle.cell.specs.Half.{edgeOf}
 use Rattle.counting.specs.Range.{total}
+use denote.Ref.{now}
+use mathlib.Core.Path.{_≡_, ap, _∙_}
 use Rattle.cell.specs.Round.{crossesIn}
-use Rattle.cell.proofs.Loops.{Summed, summed-none, summed-more}
+use Rattle.cell.proofs.Loops.{Summed, summed-none, summed-more, crossAt}
 use Rattle.cell.proofs.answers.crosses_of.Statement.{statement}
 use Rattle.cell.proofs.answers.crosses_of.Tie as tie
 
 abbrev Inv-loop : tie.InvT-loop
-Inv-loop halves n e x₀ k₀ x k = (k ≤ n) × Summed (λ i. one (eqb (edgeOf (getD halves i 0)) e)) k x
+Inv-loop halves e x₀ k₀ x k = (k ≤ length halves) × Summed (crossAt halves e) k x
 
 abbrev μ-loop : tie.MeasureT-loop
-μ-loop halves n e x₀ k₀ x k = n - k
+μ-loop halves e x₀ k₀ x k = length halves - k
 
 loop-holds : tie.Need-loop-holds Inv-loop μ-loop
 loop-holds c = (omega arith, summed-none _)
 
 edge-at-requires : tie.Need-edge-at-requires Inv-loop μ-loop
-edge-at-requires c κs = (omega arith, c .before .before .pre .1 (c .before .loop .k) (omega arith))
+edge-at-requires c κs = omega arith
 
 same-requires : tie.Need-same-requires Inv-loop μ-loop
 same-requires c κs = tt
 
 add-x : tie.Need-add-x Inv-loop μ-loop
-add-x c = omega (arith, c .before .before .before .loop .inv .1 .few)
+add-x c = omega (arith, c .before .before .before .loop .inv .1 .few, c .before .before .before .before .before .fits)
 
 add-k : tie.Need-add-k Inv-loop μ-loop
 add-k c = omega arith
@@ -37,11 +36,12 @@ loop-less : tie.Need-loop-less Inv-loop μ-loop
 loop-less c = omega arith
 
 loop-again : tie.Need-loop-again Inv-loop μ-loop
-loop-again c = (omega arith, summed-more (c .before .before .before .loop .inv .1) _ (c .same .ensures .0 ∙ ap (λ x. one (eqb x (c .before .before .before .before .args .e))) (c .before .edge-at .ensures)) (c .same .ensures .1))
+unfolding crossAt
+loop-again c = (omega arith, summed-more (c .before .before .before .loop .inv .1) _ (c .same .ensures .0 ∙ ap (λ a. one (eqb a (c .before .before .before .before .before .args .e))) (c .before .edge-at .ensures)) (c .same .ensures .1))
 
 returns : tie.Need-returns Inv-loop μ-loop
-unfolding crossesIn
-returns c = let q : c .before .loop .k ≡ c .before .before .args .n = omega arith in c .before .loop .inv .1 .is ∙ ap (λ m. total (λ i. one (eqb (edgeOf (getD (now (c .before .before .args .halves)) i 0)) (c .before .before .args .e))) m 0) q
+unfolding crossesIn crossAt
+returns c = let h : c .before .loop .k ≡ length (now (c .before .before .before .args .halves)) = omega arith in c .before .loop .inv .1 .is ∙ ap (λ m. total (crossAt (now (c .before .before .before .args .halves)) (c .before .before .before .args .e)) m 0) h
 
 pub crosses-of-spec : {M : Type 1} → statement M
 crosses-of-spec =

@@ -1,37 +1,37 @@
 use native.Mathlib.Omega.{arith}
+use borrow.Author.Needs.{needs}
 use Prim.Native.Nat.{_≤_, _-_}
 use mathlib.Core.Path.{_≡_, sym, ap, ap₂, _∙_}
 use lib.Dec.{eqb}
-use lib.ListN.{getD}
+use lib.ListN.{getD, length}
 use denote.Ref.{now}
 use Rattle.counting.specs.Pick.{one}
 use Rattle.counting.specs.Range.{before}
 use Rattle.cell.specs.Half.{edgeOf}
-use Rattle.cell.specs.Round.{foldsIn}
 use Rattle.cell.proofs.Loops.{Summed, summed-none, summed-more, foldAt, folds-none, folds-all, before-next}
 use Rattle.cell.proofs.answers.folds_of.Statement.{statement}
 use Rattle.cell.proofs.answers.folds_of.Tie as tie
 
 abbrev Inv-loop : tie.InvT-loop
-Inv-loop halves n a₀ f₀ k₀ a f k = (k ≤ n) × Summed (foldAt halves n) k f × (a ≡ edgeOf (getD halves (before n k) 0))
+Inv-loop halves n a₀ f₀ k₀ a f k = (k ≤ n) × Summed (foldAt halves) k f × (a ≡ edgeOf (getD halves (before n k) 0)) × (n ≡ length halves)
 
 abbrev μ-loop : tie.MeasureT-loop
 μ-loop halves n a₀ f₀ k₀ a f k = n - k
 
 returns : tie.Need-returns Inv-loop μ-loop
-returns c = sym (folds-none (now (c .before .args .halves)) (c .before .args .n) (omega arith))
+returns c = sym (folds-none (now (c .before .before .args .halves)) (omega arith))
 
 sub-edge-at : tie.Need-sub-edge-at Inv-loop μ-loop
 sub-edge-at c = omega arith
 
 edge-at-requires : tie.Need-edge-at-requires Inv-loop μ-loop
-edge-at-requires c κs = (omega arith, c .before .pre .1 _ (omega arith))
+edge-at-requires c κs = omega arith
 
 loop-holds : tie.Need-loop-holds Inv-loop μ-loop
-loop-holds c = (omega arith, summed-none _, c .edge-at .ensures)
+loop-holds c = (omega arith, summed-none _, c .edge-at .ensures, search needs)
 
 edge-at-requires-2 : tie.Need-edge-at-requires-2 Inv-loop μ-loop
-edge-at-requires-2 c κs = (omega arith, c .before .before .before .before .pre .1 (c .before .loop .k) (omega arith))
+edge-at-requires-2 c κs = omega arith
 
 same-requires : tie.Need-same-requires Inv-loop μ-loop
 same-requires c κs = tt
@@ -47,18 +47,17 @@ loop-less c = omega arith
 
 loop-again : tie.Need-loop-again Inv-loop μ-loop
 unfolding foldAt
-loop-again c =
-    let hs = now (c .before .before .before .before .before .before .args .halves) in
-    let n = c .before .before .before .before .before .before .args .n in
+loop-again c = let hs = now (c .before .before .before .before .before .before .before .args .halves) in
     let k = c .before .before .before .loop .k in
     let L = c .before .before .before .loop .inv in (
       omega arith,
-      summed-more (L .1) _ (c .same .ensures .0 ∙ ap one (ap₂ eqb (L .2) (c .before .edge-at2 .ensures))) (c .same .ensures .1),
-      c .before .edge-at2 .ensures ∙ ap (λ j. edgeOf (getD hs j 0)) (sym (before-next hs n k)),
+      summed-more (L .1) _ (c .same .ensures .0 ∙ ap one (ap₂ eqb (L .2 ∙ ap (λ m. edgeOf (getD hs (before m k) 0)) (L .3)) (c .before .edge-at2 .ensures))) (c .same .ensures .1),
+      c .before .edge-at2 .ensures ∙ ap (λ j. edgeOf (getD hs j 0)) (sym (before-next hs k)),
+      L .3,
     )
 
 returns-2 : tie.Need-returns-2 Inv-loop μ-loop
-returns-2 c = folds-all (now (c .before .before .before .before .args .halves)) (c .before .before .before .before .args .n) (c .before .loop .inv .1) (omega arith)
+returns-2 c = folds-all (now (c .before .before .before .before .before .args .halves)) (c .before .loop .inv .1) (omega (arith, c .before .loop .inv .3))
 
 pub folds-of-spec : {M : Type 1} → statement M
 folds-of-spec =

@@ -1,6 +1,5 @@
 use borrow.Author.Needs.{needs}
-use native.Mathlib.Omega.{arith}
-use Rattle.listing.proofs.Stores.{wider, then}
+use Rattle.counting.proofs.Stored.{stored-then}
 use Rattle.listing.specs.Text.{head}
 use Rattle.listing.proofs.lines.put_head.Statement.{statement}
 use Rattle.listing.proofs.lines.put_head.Tie as tie
@@ -40,7 +39,7 @@ same-length c = search needs
 
 returns : tie.Need-returns
 unfolding head
-returns c = wider (then (then (then (then (c .before .before .before .before .before .before .before .before .before .before .before .before .before .before .before .before .before .before .before .before .before .before .put-named .ensures) (c .before .before .before .before .before .before .before .before .before .before .before .before .before .before .before .before .before .put-named2 .ensures)) (c .before .before .before .before .before .before .before .before .before .before .before .before .put-named3 .ensures)) (c .before .before .before .before .before .before .before .put-named4 .ensures)) (c .before .before .put .ensures)) _ (omega arith)
+returns c = (stored-then (stored-then (stored-then (stored-then (c .before .before .before .before .before .before .before .before .before .before .before .before .before .before .before .before .before .before .before .before .before .before .put-named .ensures .0) (c .before .before .before .before .before .before .before .before .before .before .before .before .before .before .before .before .before .put-named2 .ensures .0)) (c .before .before .before .before .before .before .before .before .before .before .before .before .put-named3 .ensures .0)) (c .before .before .before .before .before .before .before .put-named4 .ensures .0)) (c .before .before .put .ensures), search needs)
 
 pub put-head-spec : {M : Type 1} → statement M
 put-head-spec =

@@ -1,6 +1,4 @@
-use borrow.Author.Needs.{needs}
-use native.Mathlib.Omega.{arith}
-use Rattle.listing.proofs.Stores.{wider, then}
+use Rattle.counting.proofs.Stored.{stored-then}
 use Rattle.listing.specs.Text.{line}
 use borrow.Author.Needs.{needs}
 use Rattle.listing.proofs.lines.put_line.Statement.{statement}
@@ -26,7 +24,7 @@ same-length c = search needs
 
 returns : tie.Need-returns
 unfolding line
-returns c = wider (then (then (c .before .before .before .before .before .before .before .before .before .before .before .put .ensures) (c .before .before .before .before .before .before .before .put-words .ensures)) (c .before .before .put2 .ensures)) _ (omega arith)
+returns c = (stored-then (stored-then (c .before .before .before .before .before .before .before .before .before .before .before .put .ensures) (c .before .before .before .before .before .before .before .put-words .ensures .0)) (c .before .before .put2 .ensures), search needs)
 
 pub put-line-spec : {M : Type 1} → statement M
 put-line-spec =

@@ -1,6 +1,5 @@
 use borrow.Author.Needs.{needs}
-use native.Mathlib.Omega.{arith}
-use Rattle.listing.proofs.Stores.{wider, then}
+use Rattle.counting.proofs.Stored.{stored-then}
 use Rattle.listing.specs.Text.{refusedLine}
 use Rattle.listing.proofs.lines.put_refused.Statement.{statement}
 use Rattle.listing.proofs.lines.put_refused.Tie as tie
@@ -28,7 +27,7 @@ same-length c = search needs
 
 returns : tie.Need-returns
 unfolding refusedLine
-returns c = wider (then (then (c .before .before .before .before .before .before .before .before .before .before .before .before .put-named .ensures) (c .before .before .before .before .before .before .before .put-named2 .ensures)) (c .before .before .put .ensures)) _ (omega arith)
+returns c = (stored-then (stored-then (c .before .before .before .before .before .before .before .before .before .before .before .before .put-named .ensures .0) (c .before .before .before .before .before .before .before .put-named2 .ensures .0)) (c .before .before .put .ensures), search needs)
 
 pub put-refused-spec : {M : Type 1} → statement M
 put-refused-spec =

@@ -1,24 +1,25 @@
 use borrow.Author.Needs.{needs}
 use native.Mathlib.Omega.{arith}
-use Prim.Native.Nat.{_-_, _*_, _≤_}
-use mathlib.Core.Path.{_≡_}
+use Prim.Native.Nat.{_+_, _-_, _*_, _≤_}
+use mathlib.Core.Path.{_≡_, refl, ap}
 use lib.ListN.{length}
 use Rattle.counting.specs.Range.{over}
-use Rattle.listing.specs.Text.{wordAt}
-use Rattle.listing.specs.Stored.{Stored}
-use Rattle.listing.proofs.Stores.{none, more, all-of}
+use Rattle.counting.specs.Stored.{Stored}
+use Rattle.counting.proofs.Stored.{stored-none, stored-as, stored-more}
+use Rattle.triangle.specs.Words.{wordCount}
+use Rattle.listing.specs.Text.{wordRoom, wordAt}
 use Rattle.listing.proofs.lines.put_words.Statement.{statement}
 use Rattle.listing.proofs.lines.put_words.Tie as tie
 
 abbrev Inv-loop : tie.InvT-loop
-Inv-loop out₀ at area t end₀ j₀ out end j = (j ≤ 11) × (length out ≡ length out₀) × Stored (11 * j) (over (wordAt area t) j 0) out₀ at out end
+Inv-loop out₀ at area t end₀ j₀ out end j = (j ≤ wordCount) × (length out ≡ length out₀) × (end ≤ at + wordRoom * j) × Stored out₀ at (over (wordAt area t) j 0) out end
 
 abbrev μ-loop : tie.MeasureT-loop
-μ-loop out₀ at area t end₀ j₀ out end j = 11 - j
+μ-loop out₀ at area t end₀ j₀ out end j = wordCount - j
 
 loop-holds : tie.Need-loop-holds Inv-loop μ-loop
 unfolding over
-loop-holds c = (search needs, search needs, none _ _)
+loop-holds c = (search needs, search needs, search needs, stored-none _ _)
 
 mul-put-word : tie.Need-mul-put-word Inv-loop μ-loop
 mul-put-word c = search needs
@@ -43,13 +44,13 @@ loop-less c = search needs
 
 loop-again : tie.Need-loop-again Inv-loop μ-loop
 unfolding wordAt
-loop-again c = (search needs, search needs, more (wordAt (c .before .before .before .before .before .before .before .before .before .args .area .now) (c .before .before .before .before .before .before .before .before .before .args .t)) 11 _ (c .before .before .before .before .before .before .loop .inv .2) (c .before .before .put-word .ensures))
+loop-again c = (search needs, search needs, search needs, stored-more (wordAt (c .before .before .before .before .before .before .before .before .before .args .area .now) (c .before .before .before .before .before .before .before .before .before .args .t)) _ (c .before .before .before .before .before .before .loop .inv .3) (c .before .before .put-word .ensures .0))
 
 same-length : tie.Need-same-length Inv-loop μ-loop
 same-length c = search needs
 
 returns : tie.Need-returns Inv-loop μ-loop
-returns c = all-of (wordAt (c .before .before .before .before .args .area .now) (c .before .before .before .before .args .t)) 11 (omega arith) (c .before .loop .inv .2)
+returns c = (stored-as (c .before .loop .inv .3) (ap (λ k. over (wordAt (c .before .before .before .before .args .area .now) (c .before .before .before .before .args .t)) k 0) (omega arith)) refl, search needs)
 
 pub put-words-spec : {M : Type 1} → statement M
 put-words-spec =

@@ -1,18 +1,22 @@
-use Prim.Native.Nat.{_-_}
-use lib.ListN.{length}
+use Prim.Native.Nat.{_+_, _-_, _≤_}
+use mathlib.Core.Path.{_≡_, refl, sym}
+use native.Mathlib.Nat.{add-zero}
+use native.Mathlib.Omega.{arith}
+use lib.ListN.{length, take}
 use borrow.Author.Needs.{needs}
-use Rattle.listing.proofs.Stores.{Storing, storing, storing-more, storing-all}
+use Rattle.counting.specs.Stored.{Stored}
+use Rattle.counting.proofs.Stored.{stored-none, stored-as, stored-entry, stored-all}
 use Rattle.listing.proofs.text.put.Statement.{statement}
 use Rattle.listing.proofs.text.put.Tie as tie
 
 abbrev Inv-loop : tie.InvT-loop
-Inv-loop out₀ at text i₀ out i = Storing out₀ at text out i
+Inv-loop out₀ at text i₀ out i = (i ≤ length text) × (length out ≡ length out₀) × Stored out₀ at (take i text) out (at + i)
 
 abbrev μ-loop : tie.MeasureT-loop
 μ-loop out₀ at text i₀ out i = length text - i
 
 loop-holds : tie.Need-loop-holds Inv-loop μ-loop
-loop-holds c = storing _ _ _
+loop-holds c = (search needs, search needs, stored-as (stored-none _ _) refl (sym (add-zero _)))
 
 shared-slice-read-out : tie.Need-shared-slice-read-out Inv-loop μ-loop
 shared-slice-read-out c = search needs
@@ -30,7 +34,7 @@ loop-less : tie.Need-loop-less Inv-loop μ-loop
 loop-less c = search needs
 
 loop-again : tie.Need-loop-again Inv-loop μ-loop
-loop-again c = storing-more (c .before .before .loop .inv) (c .before .loop-test .taken)
+loop-again c = (search needs, search needs, stored-as (stored-entry _ _ 0 (c .before .before .loop .inv .2) (c .before .loop-test .taken)) refl (omega arith))
 
 add-result : tie.Need-add-result Inv-loop μ-loop
 add-result c = search needs
@@ -39,7 +43,7 @@ same-length : tie.Need-same-length Inv-loop μ-loop
 same-length c = search needs
 
 returns : tie.Need-returns Inv-loop μ-loop
-returns c = storing-all (c .before .loop .inv) (search needs)
+returns c = stored-all _ _ (c .before .loop .inv .2) (c .loop-test .left)
 
 pub put-spec : {M : Type 1} → statement M
 put-spec =

@@ -1,7 +1,8 @@
 use borrow.Author.Needs.{needs}
 use native.Mathlib.Omega.{arith}
 use Rattle.listing.proofs.Digits.{decimal-64}
-use Rattle.listing.proofs.Numbers.{named-stored}
+use Rattle.counting.proofs.Stored.{stored-then}
+use Rattle.listing.specs.Text.{named}
 use Rattle.listing.proofs.text.put_named.Statement.{statement}
 use Rattle.listing.proofs.text.put_named.Tie as tie
 
@@ -15,7 +16,8 @@ same-length : tie.Need-same-length
 same-length c = search needs
 
 returns : tie.Need-returns
-returns c = named-stored (c .before .before .before .before .before .before .before .before .before .before .args .label .now) (c .before .before .before .before .before .before .before .before .before .before .args .n) (omega arith) (c .before .before .before .before .before .before .put .ensures) (c .before .before .put-number .ensures)
+unfolding named
+returns c = (stored-then (c .before .before .before .before .before .before .put .ensures) (c .before .before .put-number .ensures), omega (arith, decimal-64 (c .before .before .before .before .before .before .before .before .before .before .args .n) (omega arith)))
 
 pub put-named-spec : {M : Type 1} → statement M
 put-named-spec = tie.close (tie.spec put-requires put-number-requires same-length returns)

@@ -1,7 +1,9 @@
 use borrow.Author.Needs.{needs}
 use native.Mathlib.Omega.{arith}
 use Rattle.listing.proofs.Digits.{decimal-32}
-use Rattle.listing.proofs.Numbers.{no-word, word-stored}
+use mathlib.Core.Path.{refl}
+use Rattle.counting.proofs.Stored.{stored-as, stored-then}
+use Rattle.listing.proofs.Numbers.{no-word, some-word}
 use Rattle.listing.proofs.text.put_word.Statement.{statement}
 use Rattle.listing.proofs.text.put_word.Tie as tie
 
@@ -15,7 +17,7 @@ same-length : tie.Need-same-length
 same-length c = search needs
 
 returns : tie.Need-returns
-returns c = no-word _ (c .before .before .before .before .before .if1 .taken) (c .before .before .put .ensures)
+returns c = (stored-as (c .before .before .put .ensures) (no-word _ (c .before .before .before .before .before .if1 .taken)) refl, search needs)
 
 slice-aggregate-put-2 : tie.Need-slice-aggregate-put-2
 slice-aggregate-put-2 c = search needs
@@ -30,7 +32,7 @@ same-length-2 : tie.Need-same-length-2
 same-length-2 c = search needs
 
 returns-2 : tie.Need-returns-2
-returns-2 c = word-stored (c .before .before .before .before .before .before .before .before .before .before .before .args .word) (c .before .before .before .before .before .before .before .before .before .if1 .left) (omega arith) (c .before .before .before .before .before .before .put2 .ensures) (c .before .before .put-number .ensures)
+returns-2 c = let w = c .before .before .before .before .before .before .before .before .before .before .before .args .word in (stored-as (stored-then (c .before .before .before .before .before .before .put2 .ensures) (c .before .before .put-number .ensures)) (some-word w (c .before .before .before .before .before .before .before .before .before .if1 .left)) refl, omega (arith, decimal-32 w (omega arith)))
 
 pub put-word-spec : {M : Type 1} → statement M
 put-word-spec =

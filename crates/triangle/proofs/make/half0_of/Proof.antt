@@ -12,17 +12,17 @@ segment-at-requires-2 c κs = search needs
 word-requires : tie.Need-word-requires
 word-requires c κs = search needs
 
-element-copy-out-t9 : tie.Need-element-copy-out-t9
-element-copy-out-t9 c = search needs
+shared-slice-read-t8 : tie.Need-shared-slice-read-t8
+shared-slice-read-t8 c = search needs
 
-element-copy-out-t12 : tie.Need-element-copy-out-t12
-element-copy-out-t12 c = search needs
+shared-slice-read-t10 : tie.Need-shared-slice-read-t10
+shared-slice-read-t10 c = search needs
 
-element-copy-out-t16 : tie.Need-element-copy-out-t16
-element-copy-out-t16 c = search needs
+shared-slice-read-t13 : tie.Need-shared-slice-read-t13
+shared-slice-read-t13 c = search needs
 
-element-copy-out-t20 : tie.Need-element-copy-out-t20
-element-copy-out-t20 c = search needs
+shared-slice-read-t16 : tie.Need-shared-slice-read-t16
+shared-slice-read-t16 c = search needs
 
 returns : tie.Need-returns
 unfolding half0 triangle
@@ -35,8 +35,8 @@ half0-of-spec =
     segment-at-requires
     segment-at-requires-2
     word-requires
-    element-copy-out-t9
-    element-copy-out-t12
-    element-copy-out-t16
-    element-copy-out-t20
+    shared-slice-read-t8
+    shared-slice-read-t10
+    shared-slice-read-t13
+    shared-slice-read-t16
     returns)

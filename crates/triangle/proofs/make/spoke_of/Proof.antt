@@ -12,26 +12,26 @@ after-of-requires c κs = search needs
 word-requires : tie.Need-word-requires
 word-requires c κs = search needs
 
-element-copy-out-t11 : tie.Need-element-copy-out-t11
-element-copy-out-t11 c = search needs
+shared-slice-read-t10 : tie.Need-shared-slice-read-t10
+shared-slice-read-t10 c = search needs
 
-mul-t12 : tie.Need-mul-t12
-mul-t12 c = search needs
+mul-t11 : tie.Need-mul-t11
+mul-t11 c = search needs
 
-element-copy-out-t15 : tie.Need-element-copy-out-t15
-element-copy-out-t15 c = search needs
+shared-slice-read-t13 : tie.Need-shared-slice-read-t13
+shared-slice-read-t13 c = search needs
 
-mul-t17 : tie.Need-mul-t17
-mul-t17 c = search needs
+mul-t15 : tie.Need-mul-t15
+mul-t15 c = search needs
 
-element-copy-out-t20 : tie.Need-element-copy-out-t20
-element-copy-out-t20 c = search needs
+shared-slice-read-t17 : tie.Need-shared-slice-read-t17
+shared-slice-read-t17 c = search needs
 
-cast-t23 : tie.Need-cast-t23
-cast-t23 c = search needs
+cast-t20 : tie.Need-cast-t20
+cast-t20 c = search needs
 
-cast-t25 : tie.Need-cast-t25
-cast-t25 c = search needs
+cast-t22 : tie.Need-cast-t22
+cast-t22 c = search needs
 
 returns : tie.Need-returns
 unfolding spoke triangle
@@ -44,11 +44,11 @@ spoke-of-spec =
     segment-at-requires
     after-of-requires
     word-requires
-    element-copy-out-t11
-    mul-t12
-    element-copy-out-t15
-    mul-t17
-    element-copy-out-t20
-    cast-t23
-    cast-t25
+    shared-slice-read-t10
+    mul-t11
+    shared-slice-read-t13
+    mul-t15
+    shared-slice-read-t17
+    cast-t20
+    cast-t22
     returns)

@@ -15,17 +15,17 @@ segment-at-requires-3 c κs = search needs
 word-requires : tie.Need-word-requires
 word-requires c κs = search needs
 
-element-copy-out-t10 : tie.Need-element-copy-out-t10
-element-copy-out-t10 c = search needs
+shared-slice-read-t9 : tie.Need-shared-slice-read-t9
+shared-slice-read-t9 c = search needs
 
-element-copy-out-t13 : tie.Need-element-copy-out-t13
-element-copy-out-t13 c = search needs
+shared-slice-read-t11 : tie.Need-shared-slice-read-t11
+shared-slice-read-t11 c = search needs
 
-element-copy-out-t17 : tie.Need-element-copy-out-t17
-element-copy-out-t17 c = search needs
+shared-slice-read-t14 : tie.Need-shared-slice-read-t14
+shared-slice-read-t14 c = search needs
 
-element-copy-out-t21 : tie.Need-element-copy-out-t21
-element-copy-out-t21 c = search needs
+shared-slice-read-t17 : tie.Need-shared-slice-read-t17
+shared-slice-read-t17 c = search needs
 
 returns : tie.Need-returns
 unfolding whole triangle
@@ -39,8 +39,8 @@ whole-of-spec =
     segment-at-requires-2
     segment-at-requires-3
     word-requires
-    element-copy-out-t10
-    element-copy-out-t13
-    element-copy-out-t17
-    element-copy-out-t21
+    shared-slice-read-t9
+    shared-slice-read-t11
+    shared-slice-read-t14
+    shared-slice-read-t17
     returns)

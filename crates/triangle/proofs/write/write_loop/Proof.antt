@@ -1,6 +1,6 @@
+use native.Mathlib.Omega.{arith}
 use Rattle.triangle.proofs.Filling.{Filling, filling-none, filling-room, filling-more, filling-all}
 use Rattle.triangle.specs.Triangles.{manyBy}
-use native.Mathlib.Omega.{arith}
 use mathlib.Core.Path.{_≡_}
 use Prim.Native.Nat.{_-_}
 use Rattle.triangle.proofs.write.write_loop.Statement.{statement}
@@ -19,13 +19,13 @@ loop-holds : tie.Need-loop-holds Inv-loop μ-loop
 loop-holds c = (c .many .ensures, filling-none _ _ _ _ _ _ _)
 
 triangle-of-requires : tie.Need-triangle-of-requires Inv-loop μ-loop
-triangle-of-requires c κs = (c .before .before .before .before .pre .0, (c .before .before .before .before .pre .1 .0, omega arith))
+triangle-of-requires c κs = (c .before .before .before .before .before .before .pre .0, (c .before .before .before .before .before .before .pre .1 .0, omega arith))
 
 put-requires : tie.Need-put-requires Inv-loop μ-loop
-put-requires c κs = omega (arith, filling-room (c .before .before .before .loop .inv .1) (omega arith), c .before .before .before .loop .inv .1 .store .same, c .before .before .before .before .before .before .pre .1 .1)
+put-requires c κs = omega (arith, filling-room (c .before .before .before .loop .inv .1) (omega arith), c .before .before .before .loop .inv .1 .store .same, c .before .before .before .before .before .before .before .before .pre .1 .1)
 
 add-i : tie.Need-add-i Inv-loop μ-loop
-add-i c = omega (arith, filling-room (c .before .before .before .before .before .before .loop .inv .1) (omega arith), c .before .before .before .before .before .before .before .before .before .pre .1 .1)
+add-i c = omega (arith, filling-room (c .before .before .before .before .before .before .loop .inv .1) (omega arith), c .before .before .before .before .before .before .before .before .before .before .before .pre .1 .1)
 
 add-k : tie.Need-add-k Inv-loop μ-loop
 add-k c = omega (arith, c .before .before .before .before .before .before .before .many .ok)
