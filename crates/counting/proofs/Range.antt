@@ -3,7 +3,7 @@ use Prim.Native.Nat.{ℕ, zero, suc, _+_, _*_, _-_, _≤_, _<_}
 use mathlib.Core.Path.{_≡_, refl, sym, ap, ap₂, _∙_}
 use mathlib.Core.Logic.{_⊎_, inl, inr, _≢_, ⊎-elim}
 use mathlib.Core.Bool.{Bool, true, false}
-use mathlib.Core.List.{List, [], _++_, append-assoc, append-nil}
+use mathlib.Core.List.{List, _++_, append-assoc, append-nil}
 use native.Mathlib.Nat.{not-suc-le-zero, zero-add, add-zero, zero-mul, suc-mul, mul-zero, mul-add, eq-or-lt-of-le, eq-zero-or-pos}
 use native.Mathlib.Numerals.{add-one}
 use native.Mathlib.Omega.{arith}
@@ -236,15 +236,6 @@ total-three f (suc n) p =
     ∙ omega (arith, ap f a, ap f b, ap (λ m. total f (3 * n) m) s, total-three f n (suc p))
 
 module _ {A : Type 0} (f : ℕ → List A) where
-  -- the first of what is left, up to N, and the end of it
-  pub over-next : (N p : ℕ) → p < N → over f (N - p) p ≡ f p ++ over f (N - (p + 1)) (p + 1)
-  unfolding over
-  over-next N p h = let n : N - p ≡ suc (N - (p + 1)) = omega arith in rw (n, add-one p)
-
-  pub over-none : (N p : ℕ) → N ≤ p → over f (N - p) p ≡ []
-  unfolding over
-  over-none N p h = let n : N - p ≡ 0 = omega arith in rw n
-
   -- one list more at the end
   pub over-snoc : (n p : ℕ) → over f (suc n) p ≡ over f n p ++ f (p + n)
   unfolding over

@@ -6,7 +6,7 @@ use mathlib.Core.List.{List}
 use native.Mathlib.Omega.{arith}
 use lib.Dec.{eqb}
 use borrow.Author.Tests.{eqb-true, eqb-false}
-use lib.ListN.{getD, set, replicate, getD-replicate, length-replicate, length-set}
+use lib.ListN.{getD, set, length-set}
 use lib.Seq.{getD-set-same, getD-set-other}
 use Rattle.walk.specs.Iterate.{it}
 use Rattle.walk.specs.Darts.{half, Darts, Loop, On, Lowest, Live}
@@ -15,12 +15,6 @@ pub use Rattle.walk.specs.Marks.{Passed, Marks}
 use Rattle.walk.proofs.Iterate.{it-suc}
 use Rattle.walk.proofs.Curve.{Next, on-walk, on-it}
 use Rattle.walk.proofs.Found.{found}
-
-pub marks-none : (N : ℕ) (s : ℕ → ℕ) (n v : ℕ) → N ≤ n → N ≤ v → Marks N s (replicate n v)
-marks-none N s n v h l = record {
-  long = omega (arith, length-replicate n v);
-  by = λ x a b. absurd (omega (arith, getD-replicate n x v 0 (omega arith)));
-}
 
 pub marks-more : {N : ℕ} {s : ℕ → ℕ} {m : List ℕ} → Marks N s m → (q i x : ℕ) → Passed N s q i x → Marks N s (set m x q)
 marks-more {N} {s} {m} M q i x P = record {
