@@ -5,8 +5,8 @@ use mathlib.Core.List.{List, [], _∷_, _++_, append-nil}
 use native.Mathlib.Nat.{zero-add, add-zero, mul-suc}
 use native.Mathlib.Numerals.{add-one}
 use native.Mathlib.Omega.{arith}
-use lib.ListN.{length, getD, drop, set, length-append}
-use lib.Seq.{sets, length-sets, drop-length}
+use lib.ListN.{length, getD, take, drop, set, length-append}
+use lib.Seq.{sets, length-sets, drop-length, take-suc, take-all}
 use Rattle.counting.specs.Range.{over, total, values}
 use Rattle.counting.specs.Stored.{Stored, Summed, filled}
 use Rattle.counting.proofs.Range.{total-next}
@@ -43,6 +43,15 @@ module _ {A : Type 0} where
   -- one list more of a range
   pub stored-more : (f : ℕ → List A) (k : ℕ) {was mid is : List A} {at m n : ℕ} → Stored was at (over f k 0) mid m → Stored mid m (f k) is n → Stored was at (over f (k + 1) 0) is n
   stored-more f k S T = stored-as (stored-then S T) (sym (over-more f k)) refl
+
+  -- one entry more of a list
+  pub stored-entry : (l : List A) (i : ℕ) (d : A) {was mid : List A} {at m : ℕ} → Stored was at (take i l) mid m → i < length l
+      → Stored was at (take (i + 1) l) (set mid m (getD l i d)) (m + 1)
+  stored-entry l i d {was} {mid} {at} {m} S h =
+      stored-as (stored-then S (stored-one mid m (getD l i d))) (sym (ap (λ k. take k l) (add-one i) ∙ take-suc l i d h)) refl
+
+  pub stored-all : (l : List A) (i : ℕ) {was is : List A} {at n : ℕ} → Stored was at (take i l) is n → length l ≤ i → Stored was at l is n
+  stored-all l i S h = stored-as S (take-all i l h) refl
 
   -- one value more, after k of them from the place a on
   pub sets-more : (f : ℕ → A) (a k : ℕ) (l m : List A) (i : ℕ) (x : A) → m ≡ sets l a (values f k) → i ≡ a + k → x ≡ f k → set m i x ≡ sets l a (values f (k + 1))
@@ -87,9 +96,9 @@ module _ {A : Type 0} where
         ∙ getD-sets-in (values f n) l 0 i d (omega arith) (omega arith) ∙ values-at f n i d h
 
     -- the whole of a list
-    pub filled-all : (n : ℕ) (l : List A) → length l ≡ n → filled f n l ≡ values f n
+    pub filled-whole : (n : ℕ) (l : List A) → length l ≡ n → filled f n l ≡ values f n
     unfolding filled
-    filled-all n l e =
+    filled-whole n l e =
         let s = length-singles f n 0 in
         sets-front (values f n) l (omega arith)
         ∙ ap (λ (r : List A). values f n ++ r) (ap (λ i. drop i l) (s ∙ sym e) ∙ drop-length l)

@@ -1,4 +1,4 @@
--- The greatest common divisor.
+-- Only proofs cite this file. The greatest common divisor.
 use Prim.Native.Nat.{ℕ, suc, _+_, _-_, _%_}
 use mathlib.Core.Bool.{Bool, _&&_}
 use lib.Dec.{eqb}

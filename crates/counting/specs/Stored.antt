@@ -1,4 +1,4 @@
--- How far a loop has come that stores values or lists one after the other, or sums.
+-- Only contracts of parts cite this file. How far a loop has come that stores values or lists one after the other, or sums.
 use Prim.Native.Nat.{ℕ, _+_, _*_, _≤_}
 use mathlib.Core.Path.{_≡_}
 use mathlib.Core.List.{List}

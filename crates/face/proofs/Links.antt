@@ -50,13 +50,13 @@ module _ (ab ac bc : ℕ) where
       face-down (corners-of ab ac bc (p .edge)) (t + 1) (omega arith) r (omega arith) (omega arith) ∙ ap (joined e) b
 
   -- where a crossing stands
-  pub data Place (e t : ℕ) : Type 0 where
-    around : {w : ℕ} (k : ℕ) → End w e → k < cornerAt ab ac bc w e → t ≡ kth ab ac bc w e k → Place e t
-    lower-of : Pair e t → Place e t
-    upper-of : (s : ℕ) → Pair e s → t ≡ s + 1 → Place e t
-    alone : t ≡ lo e → gap ab ac bc e % 2 ≡ 1 → Place e t
+  pub data Case (e t : ℕ) : Type 0 where
+    around : {w : ℕ} (k : ℕ) → End w e → k < cornerAt ab ac bc w e → t ≡ kth ab ac bc w e k → Case e t
+    lower-of : Pair e t → Case e t
+    upper-of : (s : ℕ) → Pair e s → t ≡ s + 1 → Case e t
+    alone : t ≡ lo e → gap ab ac bc e % 2 ≡ 1 → Case e t
 
-  between : {e : ℕ} (t : ℕ) → Edge e → lo e ≤ t → t + hi e < n e → Place e t
+  between : {e : ℕ} (t : ℕ) → Edge e → lo e ≤ t → t + hi e < n e → Case e t
   between {e} t d h k =
       elim (ℕ-discrete ((n e - hi e - t) % 2) 0) [
         | yes z ↦ lower-of (record { edge = d; start = h; stop = omega arith; even = z })
@@ -66,8 +66,8 @@ module _ (ab ac bc : ℕ) where
         ]
       ]
 
-  pub place : (e t : ℕ) → t < n e → Place e t
-  place e t h =
+  pub case-of : (e t : ℕ) → t < n e → Case e t
+  case-of e t h =
       let d = edge-with ab ac bc e t h in
       elim (decLt t (lo e)) [
         | yes k ↦ around t (low d) k (sym (kth-lower ab ac bc e t))
@@ -88,9 +88,9 @@ module _ (ab ac bc : ℕ) where
     pub odd : gap ab ac bc e % 2 ≡ 1
 
   pub answer : (e t : ℕ) → t < n e → ((e′ : ℕ) × (t′ : ℕ) × Segment ab ac bc e t e′ t′) ⊎ Alone e t
-  answer e t h = go (place e t h)
+  answer e t h = go (case-of e t h)
     where
-      go : Place e t → ((e′ : ℕ) × (t′ : ℕ) × Segment ab ac bc e t e′ t′) ⊎ Alone e t
+      go : Case e t → ((e′ : ℕ) × (t′ : ℕ) × Segment ab ac bc e t e′ t′) ⊎ Alone e t
       go (around {w = w} k d l p) = inl (other w e, kth ab ac bc w (other w e) k, rw p (at-corner k d l))
       go (lower-of p) = inl (e, t + 1, pair-lower p)
       go (upper-of s p q) = inl (e, s, rw q (pair-upper p))
@@ -116,11 +116,11 @@ module _ (ab ac bc : ℕ) where
   pub link : {e t e′ t′ : ℕ} → Segment ab ac bc e t e′ t′ → Link e t e′ t′
   link {e} {t} {e′} {t′} j =
       elim (decLt t (n e)) [
-        | yes h ↦ go (place e t h)
+        | yes h ↦ go (case-of e t h)
         | no h ↦ absurd (joined-none j (face-off ab ac bc e t (omega arith)))
       ]
     where
-      go : Place e t → Link e t e′ t′
+      go : Case e t → Link e t e′ t′
       go (around k d h p) = let a = at-corner k d h in about k d h p (cc) (cc)
       go (lower-of p) = let a = pair-lower p in up p (cc) (cc)
       go (upper-of s p q) =

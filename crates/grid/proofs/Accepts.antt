@@ -13,13 +13,13 @@ use Rattle.grid.specs.Accepted.{Accepted, Sound}
 use Rattle.grid.specs.Claims.{AcceptanceYields, AcceptedAnswer, NumbersOfSound}
 use Rattle.grid.specs.Grid.{Grid}
 use Rattle.grid.specs.Rows.{rows}
-use Rattle.grid.specs.Work.{Ordered}
+use Rattle.grid.specs.Work.{RisingCells}
 use Rattle.grid.proofs.Claims.{accepts-clear, clear-accepted}
 use Rattle.grid.proofs.Linking.{clear-links, links-clear}
 use Rattle.grid.proofs.Sound.{Faultless, edge-numbers, faultless, sound}
 
 -- what the check's own functions keep of the cells
-pub ordered : (G : Grid) → Sound G → Ordered (G .cells)
+pub ordered : (G : Grid) → Sound G → RisingCells (G .cells)
 ordered G S = record {
   small = small;
   few = S .few-cells;

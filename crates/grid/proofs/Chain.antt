@@ -1,18 +1,18 @@
 -- Laws of keys chained by their remainder.
 use Prim.Native.Nat.{ℕ, _%_, _+_, _-_, _<_, _≤_}
 use mathlib.Core.Path.{_∙_, _≡_, ap, refl, sym}
-use mathlib.Core.Logic.{⊎-elim}
 use mathlib.Core.Bool.{Bool, false, true}
 use mathlib.Core.List.{List}
-use native.Mathlib.Nat.{eq-or-lt-of-le, not-suc-le-zero}
 use native.Mathlib.Omega.{arith}
 use lib.Dec.{eqb}
 use lib.ListN.{getD, getD-replicate, length, length-replicate, length-set, replicate, set}
 use lib.Seq.{getD-set-other, getD-set-same}
 use borrow.Author.Tests.{eq-eqb, eqb-false, eqb-true, ne-eqb}
 use Rattle.counting.specs.Search.{last}
+use Rattle.counting.specs.Stored.{filled}
 use Rattle.counting.proofs.Search.{last-hit, last-is, last-le, last-miss, last-none, last-through}
-use Rattle.grid.specs.Work.{Chained, buckets, inBucket, sameKey}
+use Rattle.counting.proofs.Stored.{filled-more, filled-none}
+use Rattle.grid.specs.Work.{Chained, buckets, chainAt, inBucket, sameKey}
 
 pub key-bucket : (keys : List ℕ) (k x : ℕ) → inBucket keys (k % buckets) x ≡ false → sameKey keys k x ≡ false
 unfolding sameKey inBucket
@@ -48,7 +48,7 @@ module _ {keys : List ℕ} {m k j : ℕ} (w : Walked keys m k j) where
     unfolding sameKey inBucket
     walked-more n next c l ne =
         let b : getD keys (j - 1) 0 % buckets ≡ k % buckets = eqb-true _ _ (w .bucket pos) in
-        let e : getD next (j - 1) 0 ≡ last (inBucket keys (k % buckets)) (j - 1) = rw b at (c .at (j - 1) (omega arith)) in
+        let e : getD next (j - 1) 0 ≡ last (inBucket keys (k % buckets)) (j - 1) = rw b at (c .table .at (j - 1) (omega arith)) in
         let v = walked-start keys (j - 1) k (getD next (j - 1) 0) e in
         record {
           within = omega (arith, v .within, w .within);
@@ -58,43 +58,32 @@ module _ {keys : List ℕ} {m k j : ℕ} (w : Walked keys m k j) where
 
 -- a chain goes down
 pub chained-less : {keys : List ℕ} {n : ℕ} {next : List ℕ} → Chained keys n next → (j : ℕ) → j < n → getD next j 0 ≤ j
-chained-less c j h = rw (c .at j h) (last-le _ j)
+chained-less c j h = rw (c .table .at j h) (last-le _ j)
 
 -- the loop of `chain` has put the first j keys
 pub record Chaining (keys head next₀ next : List ℕ) (j : ℕ) : Type 0 where
-  pub same : length next ≡ length next₀
   pub heads : length head ≡ buckets
-  pub chained : (i : ℕ) → i < j → getD next i 0 ≡ last (inBucket keys (getD keys i 0 % buckets)) i
+  pub chained : next ≡ filled (chainAt keys) j next₀
   pub headed : (h : ℕ) → h < buckets → getD head h 0 ≡ last (inBucket keys h) j
 
 pub chaining-none : (keys head next : List ℕ) → head ≡ replicate buckets 0 → Chaining keys head next next 0
 chaining-none keys head next e =
     rw e (record {
-      same = refl;
       heads = length-replicate {A = ℕ} buckets 0;
-      chained = λ j h. absurd (not-suc-le-zero h);
+      chained = filled-none (chainAt keys) next;
       headed = λ h l. getD-replicate buckets h 0 0 (omega arith) ∙ sym (last-none (inBucket keys h));
     })
 
-module _ {keys head next₀ next : List ℕ} {j : ℕ} (w : Chaining keys head next₀ next j) (h : ℕ) (eh : h ≡ getD keys j 0 % buckets) (room : j < length next)
-    (b : h < buckets) where
+module _ {keys head next₀ next : List ℕ} {j : ℕ} (w : Chaining keys head next₀ next j) (h : ℕ) (eh : h ≡ getD keys j 0 % buckets) (b : h < buckets) where
   pub chaining-more : Chaining keys (set head h (j + 1)) next₀ (set next j (getD head h 0)) (j + 1)
   unfolding inBucket
   chaining-more =
       record {
-        same = length-set next j (getD head h 0) ∙ w .same;
         heads = length-set head h (j + 1) ∙ w .heads;
-        chained = at;
+        chained = filled-more (chainAt keys) j next₀ next (getD head h 0) (w .chained) (rw (← eh) (w .headed h b));
         headed = ends;
       }
     where
-      at : (i : ℕ) → i < j + 1 → getD (set next j (getD head h 0)) i 0 ≡ last (inBucket keys (getD keys i 0 % buckets)) i
-      at i l =
-          ⊎-elim
-          (λ (q : i ≡ j). rw (q, getD-set-same next j (getD head h 0) 0 room, ← eh) (w .headed h b))
-          (λ (g : i < j). getD-set-other next j i (getD head h 0) 0 (λ q. omega arith) ∙ w .chained i g)
-          (eq-or-lt-of-le (omega arith))
-
       ends : (i : ℕ) → i < buckets → getD (set head h (j + 1)) i 0 ≡ last (inBucket keys i) (j + 1)
       ends i l = go (eqb h i) refl
         where

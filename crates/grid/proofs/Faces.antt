@@ -12,10 +12,10 @@ use Rattle.counting.specs.Search.{count, first, some}
 use Rattle.counting.proofs.Search.{AtMostOne, count-blocks, count-ext, count-none, count-plus, first-blocks, first-ext, first-le, some-ext}
 use Rattle.grid.specs.Grid.{cellCount, hasFace, sameFace}
 use Rattle.grid.specs.Rows.{third}
-use Rattle.grid.specs.Work.{Across, Mates, Near, Ordered, Pairing, Table, faceKey, sameKey, thirdAt}
+use Rattle.grid.specs.Work.{Across, Mates, Near, RisingCells, Pairing, Table, faceKey, sameKey, thirdAt}
 use Rattle.grid.proofs.Packed.{face-eqb, one-slot}
 
-module _ (cells : List ℕ) (good : Ordered cells) (keys : List ℕ) (w : Table (faceKey cells) (4 * cellCount cells) keys) where
+module _ (cells : List ℕ) (good : RisingCells cells) (keys : List ℕ) (w : Table (faceKey cells) (4 * cellCount cells) keys) where
   -- equal keys are one face
   pub keys-face : (d t c s : ℕ) → d < cellCount cells → t < 4 → c < cellCount cells → s < 4
       → sameFace cells d t c s ≡ eqb (getD keys (4 * d + t) 0) (getD keys (4 * c + s) 0)

@@ -22,7 +22,7 @@ use Rattle.grid.specs.Check.{checkNumbers}
 use Rattle.grid.specs.Grid.{Grid, cellCount, edgeNumber, faceName, isEdge, sameFace, start}
 use Rattle.grid.specs.Rows.{gridAnswer}
 use Rattle.grid.specs.Tables.{Opened, accepts, nameAt, sideAt}
-use Rattle.grid.specs.Work.{Copying, Lowering, Near, Ordered, WhereAccepted, Worked, listedAt, lowerOf}
+use Rattle.grid.specs.Work.{Copying, Lowering, Near, RisingCells, WhereAccepted, Worked, listedAt, lowerPlace}
 use Rattle.grid.specs.declared.Checked.{Checked}
 use Rattle.grid.specs.declared.Checked.the-variants.{Crossings, Refused}
 use Rattle.grid.proofs.Accepts.{acceptance-yields, ordered}
@@ -31,16 +31,16 @@ use Rattle.grid.proofs.Claims.{never-empty}
 use Rattle.grid.proofs.Packed.{one-slot, true-same}
 
 -- the lower of two places
-pub lower-none : (j x : ℕ) → x ≡ 0 → j ≡ lowerOf j x
+pub lower-none : (j x : ℕ) → x ≡ 0 → j ≡ lowerPlace j x
 lower-none j x e = rw (eq-eqb x 0 e)
 
-pub lower-other : (j x : ℕ) → (x ≡ 0 → ⊥) → x - 1 < j → x - 1 ≡ lowerOf j x
+pub lower-other : (j x : ℕ) → (x ≡ 0 → ⊥) → x - 1 < j → x - 1 ≡ lowerPlace j x
 lower-other j x n l = rw (ne-eqb x 0 n, lt-ltb (x - 1) j l)
 
-pub lower-own : (j x : ℕ) → (x ≡ 0 → ⊥) → j ≤ x - 1 → j ≡ lowerOf j x
+pub lower-own : (j x : ℕ) → (x ≡ 0 → ⊥) → j ≤ x - 1 → j ≡ lowerPlace j x
 lower-own j x n l = rw (ne-eqb x 0 n, le-ltb (x - 1) j l)
 
-module _ (cells near : List ℕ) (good : Ordered cells) (N : Near cells near) (j : ℕ) (h : j < 4 * cellCount cells) where
+module _ (cells near : List ℕ) (good : RisingCells cells) (N : Near cells near) (j : ℕ) (h : j < 4 * cellCount cells) where
   whole : 4 * (j / 4) + j % 4 ≡ j
   whole = omega arith
 
@@ -65,7 +65,7 @@ module _ (cells near : List ℕ) (good : Ordered cells) (N : Near cells near) (j
   unfolding passes
   itself = true-same cells (j / 4) (j % 4) (j / 4) (j % 4) (λ i l. refl)
 
-  pub name-is-lower : lowerOf j (getD near j 0) ≡ faceName cells (j / 4) (j % 4)
+  pub name-is-lower : lowerPlace j (getD near j 0) ≡ faceName cells (j / 4) (j % 4)
   unfolding faceName passes
   name-is-lower =
       ⊎-elim
@@ -127,14 +127,14 @@ module _ (G : Grid) where
     pub copying : (table : List ℕ) → 4 * cellCount (G .cells) ≤ length table → Copying (4 * cellCount (G .cells)) across table
     copying table room = record { few = omega (arith, S .few-cells); across-room = W .near-is .room; room = room }
 
-    pub opened-filled : accepts G ≡ true → Ordered (G .cells) → (names₀ sides₀ starts₀ names sides starts : List ℕ)
-        → names ≡ filled (λ j. lowerOf j (getD across j 0)) (4 * cellCount (G .cells)) names₀
+    pub opened-filled : accepts G ≡ true → RisingCells (G .cells) → (names₀ sides₀ starts₀ names sides starts : List ℕ)
+        → names ≡ filled (λ j. lowerPlace j (getD across j 0)) (4 * cellCount (G .cells)) names₀
         → sides ≡ filled (λ j. getD listed j 0 - 1) (6 * cellCount (G .cells)) sides₀
         → starts ≡ filled (start (G .counts)) (length (G .counts)) starts₀
         → Opened G names₀ sides₀ starts₀ names sides starts
     opened-filled e good names₀ sides₀ starts₀ names sides starts p r t =
         record {
-          names-are = rw e (p ∙ filled-ext (λ j. lowerOf j (getD across j 0)) (nameAt (G .cells)) (4 * cellCount (G .cells)) names₀
+          names-are = rw e (p ∙ filled-ext (λ j. lowerPlace j (getD across j 0)) (nameAt (G .cells)) (4 * cellCount (G .cells)) names₀
               (λ j h. name-is-lower (G .cells) across good (W .near-is) j h));
           sides-are = rw e (r ∙ filled-ext (λ j. getD listed j 0 - 1) (sideAt G) (6 * cellCount (G .cells)) sides₀
               (λ j h. omega (arith, W .sided .at j h ∙ listed-side G E j h)));
@@ -149,7 +149,7 @@ module _ (G : Grid) where
     pub told-sound : Sound G
     told-sound = acceptance-yields G (n ∷ []) is-result .sound
 
-    pub told-ordered : Ordered (G .cells)
+    pub told-ordered : RisingCells (G .cells)
     told-ordered = ordered G told-sound
 
     pub told-accepts : accepts G ≡ true

@@ -18,7 +18,7 @@ use Rattle.counting.proofs.Involution.{count-less, less}
 use Rattle.counting.proofs.Search.{count-ext, down-hit, down-miss, last-is, last-le, some-through, some-zero}
 use Rattle.slots.specs.Slots.{contains, corner, hi, lo, otherSlot, rankIn, secondSlot}
 use Rattle.slots.proofs.Slots.{Third, ends-sum, rank-of, third-of, two-slots}
-use Rattle.grid.specs.Work.{Closed, Reached, Grown, OnSlot, Open, Paired, Side, Splitting, Spread, Spreadable, Spreading, Spreads, missing, rank, sameKey}
+use Rattle.grid.specs.Work.{Closed, Reached, Grown, OnSlot, Open, Paired, KeySlot, Splitting, Spread, Spreadable, Spreading, Spreads, missing, rank, sameKey}
 
 -- how the other slot is found, from the sum of an edge's ends
 pub other-low : (k s : ℕ) → k < 3 → 5 - k - s ≡ otherSlot k s
@@ -40,7 +40,7 @@ grown-none keys near n key mark marks = record { same = refl; keep = λ c e. e; 
 -- the loop of `spread` is to cross slot j
 pub record Going (keys near : List ℕ) (n key mark b : ℕ) (marks₀ marks : List ℕ) (j r : ℕ) : Type 0 where
   pub slot : j < 4 * n
-  pub side : Side keys key j
+  pub side : KeySlot keys key j
   pub rank-is : r ≡ rank (side .k) (j % 4)
   pub here : getD marks (j / 4) 0 ≡ mark
   pub opens : Open keys near n key mark marks j b
@@ -50,7 +50,7 @@ module _ {keys near : List ℕ} {n key mark b : ℕ} {marks₀ marks : List ℕ}
   closing : (getD near j 0 ≡ 0) ⊎ (getD marks ((getD near j 0 - 1) / 4) 0 ≡ mark) → Open keys near n key mark marks b b
   closing done = record { at = λ i l s m p q. go i l s m p (eqb i j) refl }
     where
-      go : (i : ℕ) → i < 4 * n → Side keys key i → getD marks (i / 4) 0 ≡ mark → i ≢ b → (x : Bool) → eqb i j ≡ x
+      go : (i : ℕ) → i < 4 * n → KeySlot keys key i → getD marks (i / 4) 0 ≡ mark → i ≢ b → (x : Bool) → eqb i j ≡ x
           → (getD near i 0 ≡ 0) ⊎ (getD marks ((getD near i 0 - 1) / 4) 0 ≡ mark)
       go i l s m p true e = let q : i ≡ j = eqb-true i j e in rw q done
       go i l s m p false e = g .opens .at i l s m (eqb-false i j e) p
@@ -70,7 +70,7 @@ module _ {keys near : List ℕ} {n key mark b : ℕ} {marks₀ marks : List ℕ}
       going-lt = omega (arith, J .back j (g .slot) there .0)
 
       -- the slot across, with the edge's rank there
-      across : (t : Side keys key (p - 1)) × (r ≡ rank (t .k) ((p - 1) % 4))
+      across : (t : KeySlot keys key (p - 1)) × (r ≡ rank (t .k) ((p - 1) % 4))
       across = let w = J .side key j (g .slot) there (g .side) in rw e (w .0, g .rank-is ∙ sym (w .1))
 
       module _ (new : getD marks ((p - 1) / 4) 0 ≢ mark) (room : n ≤ length marks) where
@@ -89,7 +89,7 @@ module _ {keys near : List ℕ} {n key mark b : ℕ} {marks₀ marks : List ℕ}
         cell = omega (arith, going-lt)
 
         -- any slot of the cell across has its edge at k
-        holds : (i : ℕ) → i / 4 ≡ (p - 1) / 4 → Side keys key i → contains k (i % 4) ≡ true
+        holds : (i : ℕ) → i / 4 ≡ (p - 1) / 4 → KeySlot keys key i → contains k (i % 4) ≡ true
         holds i q s =
             let f : getD keys (6 * ((p - 1) / 4) + s .k) 0 ≡ key = rw (← q) (s .is) in
             rw (J .one ((p - 1) / 4) k (s .k) cell hk (s .lt) (at ∙ sym f)) (s .holds)
@@ -124,7 +124,7 @@ module _ {keys near : List ℕ} {n key mark b : ℕ} {marks₀ marks : List ℕ}
         was : (c : ℕ) → c ≢ (p - 1) / 4 → getD (set marks ((p - 1) / 4) mark) c 0 ≡ mark → getD marks c 0 ≡ mark
         was c q m = sym (getD-set-other marks ((p - 1) / 4) c mark 0 q) ∙ m
 
-        opened : (i : ℕ) → i < 4 * n → Side keys key i → getD (set marks ((p - 1) / 4) mark) (i / 4) 0 ≡ mark → i ≢ 4 * ((p - 1) / 4) + o → i ≢ b
+        opened : (i : ℕ) → i < 4 * n → KeySlot keys key i → getD (set marks ((p - 1) / 4) mark) (i / 4) 0 ≡ mark → i ≢ 4 * ((p - 1) / 4) + o → i ≢ b
             → (x y : Bool) → eqb (i / 4) ((p - 1) / 4) ≡ x → eqb i j ≡ y
             → (getD near i 0 ≡ 0) ⊎ (getD (set marks ((p - 1) / 4) mark) ((getD near i 0 - 1) / 4) 0 ≡ mark)
         unfolding o
@@ -305,7 +305,7 @@ module _ (keys near : List ℕ) (n key mark : ℕ) (marks : List ℕ) (J : Paire
       go true e = eqb-true d c e
       go false e = absurd (fresh d (sym (getD-set-other marks c d mark 0 (eqb-false d c e)) ∙ m))
 
-  pub slot-side : (s : ℕ) → s < 4 → contains k s ≡ true → Side keys key (4 * c + s)
+  pub slot-side : (s : ℕ) → s < 4 → contains k s ≡ true → KeySlot keys key (4 * c + s)
   slot-side s l h =
       let a : (4 * c + s) / 4 ≡ c = omega arith in
       let b : (4 * c + s) % 4 ≡ s = omega arith in
@@ -314,7 +314,7 @@ module _ (keys near : List ℕ) (n key mark : ℕ) (marks : List ℕ) (J : Paire
   pub start-open : (s : ℕ) → OnSlot k s → Open keys near n key mark (set marks c mark) (4 * c + s) (4 * c + otherSlot k s)
   start-open s on = record { at = λ j l t m p q. absurd (go j t (alone (j / 4) m) p q) }
     where
-      go : (j : ℕ) → Side keys key j → j / 4 ≡ c → j ≢ 4 * c + s → j ≢ 4 * c + otherSlot k s → ⊥
+      go : (j : ℕ) → KeySlot keys key j → j / 4 ≡ c → j ≢ 4 * c + s → j ≢ 4 * c + otherSlot k s → ⊥
       go j t e p q =
           let f : getD keys (6 * c + t .k) 0 ≡ key = rw (← e) (t .is) in
           let h : contains k (j % 4) ≡ true = rw (J .one c k (t .k) hc hk (t .lt) (at ∙ sym f)) (t .holds) in

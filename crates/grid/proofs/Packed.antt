@@ -21,7 +21,7 @@ use Rattle.slots.specs.Slots.{corner}
 use Rattle.slots.proofs.Slots.{corner-lt, same-slot}
 use Rattle.grid.specs.Grid.{SameFace, cellCount, faceNode, highestNode, mostCells, node, sameFace}
 use Rattle.grid.specs.Rows.{badCell, badLength, repeats, sameCell}
-use Rattle.grid.specs.Work.{Ordered, Table, cellKey, faceKey, join, sameKey}
+use Rattle.grid.specs.Work.{RisingCells, Table, cellKey, faceKey, join, sameKey}
 
 pub filled-table : (f : ℕ → ℕ) (n : ℕ) (l m : List ℕ) → m ≡ filled f n l → n ≤ length l → Table f n m
 filled-table f n l m e r = record {
@@ -68,7 +68,7 @@ module _ (cells : List ℕ) (c : ℕ) where
 
 -- what rows 1 and 3 leave
 pub ordered-cells : (cells : List ℕ) → ((i : ℕ) → getD cells i 0 < 65536) → cellCount cells ≤ mostCells → cellCount cells ≤ first (badCell cells) (cellCount cells)
-    → Ordered cells
+    → RisingCells cells
 unfolding badCell
 ordered-cells cells small few none =
     record {
@@ -144,7 +144,7 @@ module _ (cells : List ℕ) where
   true-same d t c s h =
       is-every (λ i. eqb (faceNode cells d t i) (faceNode cells c s i)) 3 (λ i l. eq-eqb (faceNode cells d t i) (faceNode cells c s i) (h i l))
 
-module _ (cells : List ℕ) (good : Ordered cells) where
+module _ (cells : List ℕ) (good : RisingCells cells) where
   -- a cell's nodes rise
   pub rises : (c : ℕ) → c < cellCount cells → (a b : ℕ) → a < b → b < 4 → node cells c a < node cells c b
   rises c h a zero l m = absurd (not-suc-le-zero l)

@@ -19,12 +19,12 @@ use Rattle.slots.specs.Slots.{contains, hi, lo, lower, place, slotEdge, upper}
 use Rattle.slots.proofs.Slots.{edge-order, edge-slot, face-ends, slot-edge, slot-rank, two-slots}
 use Rattle.grid.specs.Grid.{Grid, cellCount, hasEdge, hasFace, isEdge, node, sameFace}
 use Rattle.grid.specs.Rows.{joined, linked, split}
-use Rattle.grid.specs.Work.{Closed, Reached, Near, Ordered, Paired, Side, Table, edgeKey, join, missing, rank, sameKey, sideKey}
+use Rattle.grid.specs.Work.{Closed, Reached, Near, RisingCells, Paired, KeySlot, Table, edgeKey, join, missing, rank, sameKey, sideKey}
 use Rattle.grid.proofs.Marks.{top-key, top-le}
 use Rattle.grid.proofs.Packed.{join-eqb, rises, same-true}
 use Rattle.grid.proofs.Sides.{is-side}
 
-module _ (cells : List ℕ) (good : Ordered cells) (keys near : List ℕ) (tk : Table (sideKey cells) (6 * cellCount cells) keys) (N : Near cells near) where
+module _ (cells : List ℕ) (good : RisingCells cells) (keys near : List ℕ) (tk : Table (sideKey cells) (6 * cellCount cells) keys) (N : Near cells near) where
   side-at : (c k : ℕ) → c < cellCount cells → k < 6 → getD keys (6 * c + k) 0 ≡ join (node cells c (lo k)) (node cells c (hi k))
   unfolding sideKey
   side-at c k h l =
@@ -97,7 +97,7 @@ module _ (cells : List ℕ) (good : Ordered cells) (keys near : List ℕ) (tk : 
       }
 
 -- the cells of edge e of a grid
-module _ (G : Grid) (good : Ordered (G .cells)) (keys near : List ℕ) (tk : Table (sideKey (G .cells)) (6 * cellCount (G .cells)) keys) (N : Near (G .cells) near)
+module _ (G : Grid) (good : RisingCells (G .cells)) (keys near : List ℕ) (tk : Table (sideKey (G .cells)) (6 * cellCount (G .cells)) keys) (N : Near (G .cells) near)
     (small : (i : ℕ) → getD (G .edges) i 0 < 65536) (e : ℕ) where
   side : (c k : ℕ) → c < cellCount (G .cells) → k < 6 → isEdge G c k e ≡ eqb (getD keys (6 * c + k) 0) (edgeKey (G .edges) e)
   side c k h l = is-side G (good .small) small keys tk c k e h l
@@ -107,7 +107,7 @@ module _ (G : Grid) (good : Ordered (G .cells)) (keys near : List ℕ) (tk : Tab
   has-side c h = some-ext (λ k. isEdge G c k e) (λ k. eqb (getD keys (6 * c + k) 0) (edgeKey (G .edges) e)) 6 (λ k l. side c k h l)
 
   -- a cell across a slot of the edge is linked
-  link-of : (j : ℕ) → j < 4 * cellCount (G .cells) → Side keys (edgeKey (G .edges) e) j → 0 < getD near j 0 → linked G e (j / 4) ((getD near j 0 - 1) / 4) ≡ true
+  link-of : (j : ℕ) → j < 4 * cellCount (G .cells) → KeySlot keys (edgeKey (G .edges) e) j → 0 < getD near j 0 → linked G e (j / 4) ((getD near j 0 - 1) / 4) ≡ true
   unfolding linked hasFace
   link-of j l s p =
       let x = getD near j 0 - 1 in
@@ -117,7 +117,7 @@ module _ (G : Grid) (good : Ordered (G .cells)) (keys near : List ℕ) (tk : Tab
       (and-true _ _ (s .holds) (some-found (λ t. sameFace (G .cells) (x / 4) t (j / 4) (j % 4)) 4 (x % 4) (omega arith) (N .pair j l p .same)))))
 
   -- and so is the cell that it is across from
-  link-back : (j : ℕ) → j < 4 * cellCount (G .cells) → Side keys (edgeKey (G .edges) e) j → 0 < getD near j 0 → linked G e ((getD near j 0 - 1) / 4) (j / 4) ≡ true
+  link-back : (j : ℕ) → j < 4 * cellCount (G .cells) → KeySlot keys (edgeKey (G .edges) e) j → 0 < getD near j 0 → linked G e ((getD near j 0 - 1) / 4) (j / 4) ≡ true
   link-back j l s p =
       let g = N .pair j l p in
       let x = getD near j 0 - 1 in
@@ -129,7 +129,7 @@ module _ (G : Grid) (good : Ordered (G .cells)) (keys near : List ℕ) (tk : Tab
     pub j : ℕ
     pub lt : j < 4 * cellCount (G .cells)
     pub cell : j / 4 ≡ d
-    pub sided : Side keys (edgeKey (G .edges) e) j
+    pub sided : KeySlot keys (edgeKey (G .edges) e) j
     pub there : 0 < getD near j 0
     pub ends : (getD near j 0 - 1) / 4 ≡ c
 
@@ -151,11 +151,11 @@ module _ (G : Grid) (good : Ordered (G .cells)) (keys near : List ℕ) (tk : Tab
       let hs = u .1 in
       let a : (4 * d + s) / 4 ≡ d = omega arith in
       let b : (4 * d + s) % 4 ≡ s = omega arith in
-      let sd : Side keys (edgeKey (G .edges) e) (4 * d + s) =
+      let sd : KeySlot keys (edgeKey (G .edges) e) (4 * d + s) =
       record { k = k; lt = w .1; is = rw a (eqb-true _ _ (sym (side d k hd (w .1)) ∙ v1)); holds = rw b y1 } in
       go t s ht hs (z .2) sd (eqb c d) refl
     where
-      go : (t s : ℕ) → t < 4 → s < 4 → sameFace (G .cells) c t d s ≡ true → Side keys (edgeKey (G .edges) e) (4 * d + s) → (x : Bool) → eqb c d ≡ x → (c ≡ d) ⊎ Crossed d c
+      go : (t s : ℕ) → t < 4 → s < 4 → sameFace (G .cells) c t d s ≡ true → KeySlot keys (edgeKey (G .edges) e) (4 * d + s) → (x : Bool) → eqb c d ≡ x → (c ≡ d) ⊎ Crossed d c
       go t s ht hs same sd true q = inl (eqb-true c d q)
       go t s ht hs same sd false q =
           let m : getD near (4 * d + s) 0 ≡ 4 * c + t + 1 = N .all c t d s hc ht hd hs (eqb-false c d q) same in

@@ -18,7 +18,7 @@ use Rattle.counting.proofs.Search.{first-blocks, first-ext, first-le, first-non
 use Rattle.slots.specs.Slots.{hi, lo}
 use Rattle.grid.specs.Grid.{Grid, cellCount, hasEdge, high, isEdge, joins, low, mostCells, mostEdges, node}
 use Rattle.grid.specs.Rows.{after, unlisted, unused}
-use Rattle.grid.specs.Work.{Put, Table, blankIn, edgeKey, found, join, listedAt, sameKey, sideKey}
+use Rattle.grid.specs.Work.{Put, Table, blankIn, edgeKey, foundAt, join, listedAt, sameKey, sideKey}
 use Rattle.grid.proofs.Mates.{zeros}
 use Rattle.grid.proofs.Packed.{join-eqb}
 
@@ -124,7 +124,7 @@ placing-end w h = record { same = w .same; hit = λ y l k. w .hit y (omega arith
 -- the loop of `row_8` has put the edges from e on
 pub record Listed (G : Grid) (m e : ℕ) (sides : List ℕ) : Type 0 where
   pub size : length sides ≡ mostEdges
-  pub at : (j : ℕ) → j < 6 * cellCount (G .cells) → getD sides j 0 ≡ found m (seek (isEdge G (j / 6) (j % 6)) (m - e) e)
+  pub at : (j : ℕ) → j < 6 * cellCount (G .cells) → getD sides j 0 ≡ foundAt m (seek (isEdge G (j / 6) (j % 6)) (m - e) e)
 
 pub listed-none : (G : Grid) (m : ℕ) (sides : List ℕ) → sides ≡ replicate (mostEdges) 0 → Listed G m m sides
 listed-none G m sides q =
@@ -143,11 +143,11 @@ module _ {G : Grid} {keys : List ℕ} {m e : ℕ} {sides : List ℕ} (small : (i
       let q : 6 * (j / 6) + j % 6 ≡ j = omega arith in
       is-side G small small-ends keys t (j / 6) (j % 6) e (omega arith) (omega arith) ∙ rw q
 
-  next-miss : (j : ℕ) → j < 6 * cellCount (G .cells) → getD keys j 0 ≢ edgeKey (G .edges) e → getD sides j 0 ≡ found m (seek (isEdge G (j / 6) (j % 6)) (m - e) e)
+  next-miss : (j : ℕ) → j < 6 * cellCount (G .cells) → getD keys j 0 ≢ edgeKey (G .edges) e → getD sides j 0 ≡ foundAt m (seek (isEdge G (j / 6) (j % 6)) (m - e) e)
   next-miss j l k =
       w .at j l ∙ rw (seek-miss (isEdge G (j / 6) (j % 6)) m e h (side-of j l ∙ ne-eqb (getD keys j 0) (edgeKey (G .edges) e) k))
 
-  next-hit : (j : ℕ) → j < 6 * cellCount (G .cells) → getD keys j 0 ≡ edgeKey (G .edges) e → e + 1 ≡ found m (seek (isEdge G (j / 6) (j % 6)) (m - e) e)
+  next-hit : (j : ℕ) → j < 6 * cellCount (G .cells) → getD keys j 0 ≡ edgeKey (G .edges) e → e + 1 ≡ foundAt m (seek (isEdge G (j / 6) (j % 6)) (m - e) e)
   next-hit j l k =
       rw (seek-hit (isEdge G (j / 6) (j % 6)) m e h (side-of j l ∙ eq-eqb (getD keys j 0) (edgeKey (G .edges) e) k), lt-ltb e m h) (add-one e)
 
@@ -159,7 +159,7 @@ module _ {G : Grid} {keys : List ℕ} {m e : ℕ} {sides : List ℕ} (small : (i
       }
     where
       go : (j : ℕ) → j < 6 * cellCount (G .cells) → (b : Bool) → eqb (getD keys j 0) (edgeKey (G .edges) e) ≡ b
-          → getD sides′ j 0 ≡ found m (seek (isEdge G (j / 6) (j % 6)) (m - e) e)
+          → getD sides′ j 0 ≡ foundAt m (seek (isEdge G (j / 6) (j % 6)) (m - e) e)
       go j l true q = let k = eqb-true (getD keys j 0) (edgeKey (G .edges) e) q in p .hit j l k ∙ next-hit j l k
       go j l false q = let k = eqb-false (getD keys j 0) (edgeKey (G .edges) e) q in p .miss j k ∙ next-miss j l k
 
@@ -178,7 +178,7 @@ unfolding listedAt
 listed-all {G} {sides} few w =
     record {
       room = omega (arith, w .size);
-      at = λ j l. w .at j l ∙ ap (found (length (G .counts))) (sym (seek-start (isEdge G (j / 6) (j % 6)) (length (G .counts))));
+      at = λ j l. w .at j l ∙ ap (foundAt (length (G .counts))) (sym (seek-start (isEdge G (j / 6) (j % 6)) (length (G .counts))));
     }
 
 -- the lowest of the edges from e on
@@ -200,7 +200,7 @@ module _ (G : Grid) (sides : List ℕ) (t : Table (listedAt G) (6 * cellCount (G
       let b : (6 * c + k) % 6 ≡ k = omega arith in
       rw (t .at (6 * c + k) (omega arith), a, b) (go (some (isEdge G c k) m) refl)
     where
-      go : (x : Bool) → some (isEdge G c k) m ≡ x → not x ≡ eqb (found m (first (isEdge G c k) m)) 0
+      go : (x : Bool) → some (isEdge G c k) m ≡ x → not x ≡ eqb (foundAt m (first (isEdge G c k) m)) 0
       go true e =
           let w = some-is (isEdge G c k) m e in
           let f : first (isEdge G c k) m < m =

@@ -1,4 +1,4 @@
--- What the check's own functions ask of each other: the meaning of their local tables. No call outside the crate depends on it.
+-- Only contracts of parts cite this file. What the check's own functions ask of each other: the meaning of their local tables.
 use Prim.Native.Nat.{ℕ, suc, _+_, _*_, _-_, _/_, _%_, _≤_, _<_}
 use mathlib.Core.Path.{_≡_}
 use mathlib.Core.Logic.{_⊎_, _≢_}
@@ -47,16 +47,18 @@ sameKey keys key x = eqb (getD keys x 0) key
 unfoldable pub inBucket : List ℕ → ℕ → ℕ → Bool
 inBucket keys h x = eqb (getD keys x 0 % buckets) h
 
--- next chains the first n keys: one more than the last earlier place with the remainder, or 0
+-- one more than the last place before j with the remainder of j's key, or 0
+abbrev pub chainAt : List ℕ → ℕ → ℕ
+chainAt keys j = last (inBucket keys (getD keys j 0 % buckets)) j
+
+-- next chains the first n keys
 pub record Chained (keys : List ℕ) (n : ℕ) (next : List ℕ) : Type 0 where
   pub keyed : n ≤ length keys
-  pub room : n ≤ length next
-  pub at : (j : ℕ) → j < n → getD next j 0 ≡ last (inBucket keys (getD keys j 0 % buckets)) j
+  pub table : Table (chainAt keys) n next
 
 -- head has the end of each chain
-pub record Headed (keys : List ℕ) (n : ℕ) (head : List ℕ) : Type 0 where
-  pub room : buckets ≤ length head
-  pub at : (h : ℕ) → h < buckets → getD head h 0 ≡ last (inBucket keys h) n
+abbrev pub Headed : List ℕ → ℕ → List ℕ → Type 0
+Headed keys n head = Table (λ h. last (inBucket keys h) n) buckets head
 
 -- what `chain` starts from
 pub record Chainable (keys : List ℕ) (n : ℕ) (head next : List ℕ) : Type 0 where
@@ -73,7 +75,7 @@ pub record Walkable (keys next : List ℕ) (n m start key : ℕ) : Type 0 where
 
 -- CELLS: what rows 1 and 3 leave of the cells
 
-pub record Ordered (cells : List ℕ) : Type 0 where
+pub record RisingCells (cells : List ℕ) : Type 0 where
   pub small : (i : ℕ) → getD cells i 0 < 65536
   pub few : cellCount cells ≤ mostCells
   pub nodes : (c i : ℕ) → c < cellCount cells → i < 4 → node cells c i ≤ highestNode
@@ -149,12 +151,12 @@ pub record Put (keys : List ℕ) (n key x : ℕ) (sides₀ sides : List ℕ) : T
   pub miss : (j : ℕ) → getD keys j 0 ≢ key → getD sides j 0 ≡ getD sides₀ j 0
 
 -- one more than x where x is below m, else 0
-abbrev pub found : ℕ → ℕ → ℕ
-found m x = pick (ltb x m) (suc x) 0
+abbrev pub foundAt : ℕ → ℕ → ℕ
+foundAt m x = pick (ltb x m) (suc x) 0
 
 -- one more than the place in the list of edge j % 6 of cell j / 6; 0 where it is not listed
 unfoldable pub listedAt : Grid → ℕ → ℕ
-listedAt G j = found (length (G .counts)) (first (isEdge G (j / 6) (j % 6)) (length (G .counts)))
+listedAt G j = foundAt (length (G .counts)) (first (isEdge G (j / 6) (j % 6)) (length (G .counts)))
 
 -- one of the six entries of cell c is 0
 unfoldable pub blankIn : List ℕ → ℕ → Bool
@@ -167,7 +169,7 @@ abbrev pub rank : ℕ → ℕ → ℕ
 rank k s = rankIn s (third k s)
 
 -- slot j is one of a cell's that contain the edge with this key
-pub record Side (keys : List ℕ) (key j : ℕ) : Type 0 where
+pub record KeySlot (keys : List ℕ) (key j : ℕ) : Type 0 where
   pub k : ℕ
   pub lt : k < 6
   pub is : getD keys (6 * (j / 4) + k) 0 ≡ key
@@ -185,17 +187,17 @@ pub record Paired (keys near : List ℕ) (n : ℕ) : Type 0 where
   pub room : 4 * n ≤ length near
   pub few : n ≤ mostCells
   pub back : (j : ℕ) → j < 4 * n → 0 < getD near j 0 → (getD near j 0 ≤ 4 * n) × (getD near (getD near j 0 - 1) 0 ≡ j + 1)
-  pub side : (key j : ℕ) → j < 4 * n → 0 < getD near j 0 → (s : Side keys key j)
-      → (t : Side keys key (getD near j 0 - 1)) × (rank (t .k) ((getD near j 0 - 1) % 4) ≡ rank (s .k) (j % 4))
+  pub side : (key j : ℕ) → j < 4 * n → 0 < getD near j 0 → (s : KeySlot keys key j)
+      → (t : KeySlot keys key (getD near j 0 - 1)) × (rank (t .k) ((getD near j 0 - 1) % 4) ≡ rank (s .k) (j % 4))
   pub one : (c k m : ℕ) → c < n → k < 6 → m < 6 → getD keys (6 * c + k) 0 ≡ getD keys (6 * c + m) 0 → k ≡ m
 
 -- a test that goes on across each face that contains the edge
 abbrev pub Closed : List ℕ → List ℕ → ℕ → ℕ → (ℕ → Bool) → Type 0
-Closed keys near n key P = (j : ℕ) → j < 4 * n → Side keys key j → 0 < getD near j 0 → P (j / 4) ≡ true → P ((getD near j 0 - 1) / 4) ≡ true
+Closed keys near n key P = (j : ℕ) → j < 4 * n → KeySlot keys key j → 0 < getD near j 0 → P (j / 4) ≡ true → P ((getD near j 0 - 1) / 4) ≡ true
 
 -- across each slot of a marked cell, but for slots a and b, there is no cell or a marked one
 pub record Open (keys near : List ℕ) (n key mark : ℕ) (marks : List ℕ) (a b : ℕ) : Type 0 where
-  pub at : (j : ℕ) → j < 4 * n → Side keys key j → getD marks (j / 4) 0 ≡ mark → j ≢ a → j ≢ b
+  pub at : (j : ℕ) → j < 4 * n → KeySlot keys key j → getD marks (j / 4) 0 ≡ mark → j ≢ a → j ≢ b
       → (getD near j 0 ≡ 0) ⊎ (getD marks ((getD near j 0 - 1) / 4) 0 ≡ mark)
 
 -- marks₀ has become marks
@@ -217,7 +219,7 @@ pub record Spreadable (near : List ℕ) (n start rank : ℕ) (marks : List ℕ) 
 
 pub record Spreading (keys near : List ℕ) (n key mark start r b : ℕ) (marks : List ℕ) : Type 0 where
   pub paired : Paired keys near n
-  pub side : Side keys key start
+  pub side : KeySlot keys key start
   pub rank-is : r ≡ rank (side .k) (start % 4)
   pub here : getD marks (start / 4) 0 ≡ mark
   pub opens : Open keys near n key mark marks start b
@@ -245,7 +247,7 @@ pub record Reached (keys near : List ℕ) (n key mark c : ℕ) (marks₀ marks :
   pub same : length marks ≡ length marks₀
   pub has : getD marks c 0 ≡ mark
   pub only : (d : ℕ) → (getD marks d 0 ≡ getD marks₀ d 0) ⊎ (getD marks d 0 ≡ mark)
-  pub closed : (j : ℕ) → j < 4 * n → Side keys key j → 0 < getD near j 0 → getD marks (j / 4) 0 ≡ mark
+  pub closed : (j : ℕ) → j < 4 * n → KeySlot keys key j → 0 < getD near j 0 → getD marks (j / 4) 0 ≡ mark
       → getD marks ((getD near j 0 - 1) / 4) 0 ≡ mark
   pub within : (P : ℕ → Bool) → Closed keys near n key P → P c ≡ true → (d : ℕ) → getD marks d 0 ≡ mark → P d ≡ true
 
@@ -260,7 +262,7 @@ pub record Splitting (keys next near : List ℕ) (n key mark top : ℕ) (marks :
 
 -- what row 9 starts from: besides, each edge has a cell
 pub record Linkable (G : Grid) (near keys head next : List ℕ) : Type 0 where
-  pub ordered : Ordered (G .cells)
+  pub ordered : RisingCells (G .cells)
   pub near-is : Near (G .cells) near
   pub findable : Findable G keys head next
   pub used : (e : ℕ) → e < length (G .counts) → unused G e ≡ false
@@ -296,7 +298,7 @@ pub record Celling (G : Grid) (near sides : List ℕ) : Type 0 where
 
 -- what row 6 and those after it start from
 pub record Edging (G : Grid) (near sides : List ℕ) : Type 0 where
-  pub ordered : Ordered (G .cells)
+  pub ordered : RisingCells (G .cells)
   pub pairs : length (G .edges) ≡ 2 * length (G .counts)
   pub near-is : Near (G .cells) near
   pub sides-is : sides ≡ replicate mostEdges 0
@@ -304,8 +306,8 @@ pub record Edging (G : Grid) (near sides : List ℕ) : Type 0 where
 -- TABLES: what the writers of the lent tables start from
 
 -- the lower of j and of the number that x is one more than; j where x is 0
-abbrev pub lowerOf : ℕ → ℕ → ℕ
-lowerOf j x = pick (eqb x 0) j (pick (ltb (x - 1) j) (x - 1) j)
+abbrev pub lowerPlace : ℕ → ℕ → ℕ
+lowerPlace j x = pick (eqb x 0) j (pick (ltb (x - 1) j) (x - 1) j)
 
 pub record Copying (n : ℕ) (across table : List ℕ) : Type 0 where
   pub few : n ≤ mostSlots

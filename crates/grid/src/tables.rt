@@ -4,13 +4,13 @@ ghost use Prim.Native.Nat.{_-_, _≤_};
 ghost use lib.ListN.{length, getD};
 ghost use Rattle.counting.specs.Stored.{filled};
 ghost use Rattle.grid.specs.Grid.{mostCrossings, start, crossings};
-ghost use Rattle.grid.specs.Work.{Copying, Lowering, lowerOf};
+ghost use Rattle.grid.specs.Work.{Copying, Lowering, lowerPlace};
 use crate::keys::wide;
 use crate::size;
 
 // The lower of place j and the place that x is one more than; j where x is 0.
 fn lower(j: usize, x: usize) -> usize
-    ensures { λ r. ⌜ r ≡ lowerOf j x ⌝ }
+    ensures { λ r. ⌜ r ≡ lowerPlace j x ⌝ }
     ensures { λ r. ⌜ r ≤ j ⌝ }
 {
     if x == 0 {
@@ -25,7 +25,7 @@ fn lower(j: usize, x: usize) -> usize
 // Names: a face has the lower of its two places, or its only one.
 pub(crate) fn write_names(n: usize, across: &[u16], names: &mut [u16])
     requires { ⌜ Copying n (now across) (now names) ⌝ }
-    ensures { λ _. ⌜ now (names .exit) ≡ filled (λ j. lowerOf j (getD (now (across .entry)) j 0)) n (now (names .entry)) ⌝ }
+    ensures { λ _. ⌜ now (names .exit) ≡ filled (λ j. lowerPlace j (getD (now (across .entry)) j 0)) n (now (names .entry)) ⌝ }
 {
     let mut j = 0;
     while j < n {

@@ -1,4 +1,4 @@
--- A complex whose pieces share whole faces: a second way to meet the premises of `Complex`.
+-- Only proofs cite this file. A complex whose pieces share whole faces: a second way to meet the premises of `Complex`.
 use Prim.Native.Nat.{ℕ, _*_, _<_}
 use mathlib.Core.Path.{_≡_}
 use mathlib.Core.Logic.{_≢_}

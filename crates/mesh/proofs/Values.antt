@@ -6,7 +6,7 @@ use native.Mathlib.Omega.{arith}
 use lib.ListN.{length, getD, set, List·getD-eq-default}
 use Rattle.counting.specs.Range.{values}
 use Rattle.counting.specs.Stored.{filled}
-use Rattle.counting.proofs.Stored.{filled-none, filled-more, filled-all}
+use Rattle.counting.proofs.Stored.{filled-none, filled-more, filled-whole}
 
 -- a place past the end of a list reads as 0
 pub past-end : (l : List ℕ) (n : ℕ) → length l ≤ n → 0 ≡ getD l n 0
@@ -28,4 +28,4 @@ module _ (f : ℕ → ℕ) (n : ℕ) {was : List ℕ} where
   pub valued-all : {k : ℕ} {is : List ℕ} → Valued f n was k is → n ≤ k → is ≡ values f n
   valued-all {k} {is} w h =
       let e : k ≡ n = omega (arith, w .up) in
-      w .stored ∙ ap (λ m. filled f m was) e ∙ filled-all f n was (w .long)
+      w .stored ∙ ap (λ m. filled f m was) e ∙ filled-whole f n was (w .long)

@@ -2,6 +2,7 @@
 use Prim.Native.Nat.{ℕ, zero, suc, _+_, _-_, _≤_, _<_}
 use mathlib.Core.Path.{_≡_, refl, sym, ap, _∙_}
 use mathlib.Core.Bool.{Bool}
+use mathlib.Core.List.{List, [], _∷_, _++_}
 use native.Mathlib.Nat.{zero-add, suc-add}
 use native.Mathlib.Omega.{arith}
 use lib.ListN.{length}
@@ -28,6 +29,12 @@ module _ (s : ℕ → ℕ) where
   it-sub i j d h = sym (it-add i (j - i) d) ∙ ap (λ (n : ℕ). it s n d) (omega arith)
 
 module _ (s : ℕ → ℕ) where
+  -- one more of a curve, at its end
+  pub orbit-snoc : (k d : ℕ) → orbit s (k + 1) d ≡ orbit s k d ++ (it s k d ∷ [])
+  unfolding orbit it
+  orbit-snoc zero d = refl
+  orbit-snoc (suc k) d = let e : suc k + 1 ≡ suc (k + 1) = omega arith in rw e (ap (λ (l : List ℕ). d ∷ l) (orbit-snoc k (s d)))
+
   pub length-orbit : (k d : ℕ) → length (orbit s k d) ≡ k
   unfolding orbit
   length-orbit zero d = refl

@@ -1,4 +1,4 @@
--- Marks at crossings: each is the start of a walk that came there.
+-- Only contracts of parts cite this file. Marks at crossings: each is the start of a walk that came there.
 use Prim.Native.Nat.{ℕ, _*_, _≤_, _<_}
 use mathlib.Core.Path.{_≡_}
 use mathlib.Core.List.{List}

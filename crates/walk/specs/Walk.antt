@@ -43,11 +43,11 @@ module _ (N : ℕ) (s : ℕ → ℕ) where
   flat = over loopAt N 0
 
 -- a list alone, if it is not empty
-unfoldable pub some : List ℕ → List (List ℕ)
-some [] = []
-some (x ∷ l) = (x ∷ l) ∷ []
+unfoldable pub nonEmpty : List ℕ → List (List ℕ)
+nonEmpty [] = []
+nonEmpty (x ∷ l) = (x ∷ l) ∷ []
 
 -- the loops, by least crossing
 unfoldable pub loops : ℕ → (ℕ → ℕ) → List (List ℕ)
-unfolding some loopAt over
-loops N s = over (λ p. some (loopAt N s p)) N 0
+unfolding nonEmpty loopAt over
+loops N s = over (λ p. nonEmpty (loopAt N s p)) N 0

@@ -37,7 +37,7 @@ mul-wide c = search needs
 shared-slice-read-wide : tie.Need-shared-slice-read-wide Inv-loop μ-loop
 shared-slice-read-wide c =
     let c-pre = c .before .before .before .before .before .before .pre in
-    omega (arith, c .before .before .loop .inv .within, c-pre .chained .room)
+    omega (arith, c .before .before .loop .inv .within, c-pre .chained .table .room)
 
 wide-requires : tie.Need-wide-requires Inv-loop μ-loop
 wide-requires c κs = search needs
@@ -46,7 +46,7 @@ walk-requires : tie.Need-walk-requires Inv-loop μ-loop
 walk-requires c κs =
     let c-pre = c .before .before .before .before .before .before .before .pre in
     let c-loop = c .before .before .before .loop in
-    record { chained = c-pre .chained; within = omega (arith, c-loop .inv .within); starts = c .wide .ensures ∙ (rw (c-loop .inv .at (omega arith)) at (c-pre .chained .at (c-loop .j - 1) (omega (arith, c-loop .inv .within)))) }
+    record { chained = c-pre .chained; within = omega (arith, c-loop .inv .within); starts = c .wide .ensures ∙ (rw (c-loop .inv .at (omega arith)) at (c-pre .chained .table .at (c-loop .j - 1) (omega (arith, c-loop .inv .within)))) }
 
 loop-less : tie.Need-loop-less Inv-loop μ-loop
 loop-less c =

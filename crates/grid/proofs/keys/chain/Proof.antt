@@ -1,11 +1,13 @@
 -- `grid::keys::chain` meets its contract.
 use Prim.Native.Nat.{_-_, _≤_}
-use mathlib.Core.Path.{_≡_, refl}
+use mathlib.Core.Path.{_≡_, ap, refl}
 use native.Mathlib.Nat.{mod-lt}
 use native.Mathlib.Omega.{arith}
 use lib.ListN.{length, length-set}
 use borrow.Author.Needs.{needs}
+use Rattle.counting.proofs.Stored.{length-filled}
 use Rattle.grid.proofs.Chain.{Chaining, chaining-more, chaining-none}
+use Rattle.grid.proofs.Packed.{filled-table}
 use Rattle.grid.proofs.keys.chain.Statement.{statement}
 use Rattle.grid.proofs.keys.chain.Tie as tie
 
@@ -34,7 +36,7 @@ mul-next-2 : tie.Need-mul-next-2 Inv-loop μ-loop
 mul-next-2 c = search needs
 
 slice-write-next : tie.Need-slice-write-next Inv-loop μ-loop
-slice-write-next c = search needs
+slice-write-next c = omega (arith, simp length-filled at (ap length (c .before .before .before .loop .inv .2 .chained)))
 
 add-j : tie.Need-add-j Inv-loop μ-loop
 add-j c = search needs
@@ -55,20 +57,20 @@ loop-again : tie.Need-loop-again Inv-loop μ-loop
 loop-again c =
     let c-loop = c .before .before .before .loop in
     let w = c-loop .inv .2 in
-    (omega arith, simp length-set (c-loop .inv .1), chaining-more w _ refl (omega (arith, w .same)) (mod-lt _ (omega arith)))
+    (omega arith, simp length-set (c-loop .inv .1), chaining-more w _ refl (mod-lt _ (omega arith)))
 
 same-length : tie.Need-same-length Inv-loop μ-loop
 same-length c = c .before .loop .inv .1
 
 same-length-2 : tie.Need-same-length-2 Inv-loop μ-loop
-same-length-2 c = c .before .loop .inv .2 .same
+same-length-2 c = simp length-filled at (ap length (c .before .loop .inv .2 .chained))
 
 returns : tie.Need-returns Inv-loop μ-loop
 returns c =
     let w = c .before .loop .inv .2 in
     let p = c .before .before .pre in
     let e : c .before .loop .j ≡ c .before .before .args .n = omega arith in
-    (record { keyed = p .keyed; room = omega (arith, w .same); at = rw e at (w .chained) }, record { room = omega (arith, w .heads); at = rw e at (w .headed) })
+    (record { keyed = p .keyed; table = filled-table _ _ _ _ (rw e at (w .chained)) (p .room) }, record { room = omega (arith, w .heads); at = rw e at (w .headed) })
 
 pub chain-spec : {M : Type 1} → statement M
 chain-spec =

@@ -24,7 +24,7 @@ walk-requires : tie.Need-walk-requires
 walk-requires c κs =
     let c-pre = c .before .before .before .before .before .pre in
     let p = c-pre in
-    record { chained = p .0; within = omega arith; starts = c .wide .ensures ∙ p .0 .at _ (p .1) }
+    record { chained = p .0; within = omega arith; starts = c .wide .ensures ∙ p .0 .table .at _ (p .1) }
 
 returns : tie.Need-returns
 returns c = search needs

@@ -1,5 +1,4 @@
 -- `grid::links::split_at` meets its contract.
-use Prim.Native.Nat.{_%_, _-_}
 use mathlib.Core.Path.{sym}
 use native.Mathlib.Omega.{arith}
 use borrow.Author.Needs.{needs}
