@@ -10,7 +10,7 @@ use lib.Seq.{sets, take-take, take-suc-set, drop-set-lt, length-take-le, take-ap
 use Rattle.counting.specs.Pick.{pick}
 use Rattle.counting.specs.Range.{over}
 use Rattle.counting.proofs.Fronts.{sets-front}
-use Rattle.cell.specs.Trace.{each, filled}
+use Rattle.cell.specs.Trace.{each, fronted}
 use Rattle.cell.specs.Walked.{Kept, Put}
 
 pub kept-none : (n : ℕ) (l : List ℕ) → Kept n l l
@@ -68,16 +68,16 @@ pub put-end : {n : ℕ} {l v m : List ℕ} → Put n l 0 v n m → m ≡ v ++ dr
 put-end {n} {l} {v} {m} P = sym (take-append-drop n m) ∙ ap₂ (λ a b. a ++ b) (P .front) (P .kept .back)
 
 -- v, and x as far as n
-pub put-filled : (n x : ℕ) (l v : List ℕ) → length v ≤ n → n ≤ length l → (v ++ replicate (n - length v) x) ++ drop n l ≡ sets (filled n x l) 0 v
+pub put-filled : (n x : ℕ) (l v : List ℕ) → length v ≤ n → n ≤ length l → (v ++ replicate (n - length v) x) ++ drop n l ≡ sets (fronted n x l) 0 v
 put-filled n x l v h g =
     let s : n ≡ length v + (n - length v) = omega arith in
-    let e : filled n x l ≡ replicate (length v) x ++ (replicate (n - length v) x ++ drop n l) =
+    let e : fronted n x l ≡ replicate (length v) x ++ (replicate (n - length v) x ++ drop n l) =
     ap (λ k. replicate k x ++ drop n l) s ∙ ap (λ a. a ++ drop n l) (sym (replicate-append-replicate (length v) (n - length v) x))
     ∙ append-assoc (replicate (length v) x) (replicate (n - length v) x) (drop n l) in
-    let long : length (filled n x l) ≡ n + length (drop n l) = length-append (replicate n x) (drop n l) ∙ ap (λ k. k + length (drop n l)) (length-replicate n x) in
+    let long : length (fronted n x l) ≡ n + length (drop n l) = length-append (replicate n x) (drop n l) ∙ ap (λ k. k + length (drop n l)) (length-replicate n x) in
     append-assoc v (replicate (n - length v) x) (drop n l)
     ∙ ap (λ a. v ++ a) (sym (ap (drop (length v)) e ∙ drop-at (replicate (length v) x) (replicate (n - length v) x ++ drop n l) (length v) (length-replicate (length v) x)))
-    ∙ sym (sets-front v (filled n x l) (omega (arith, long)))
+    ∙ sym (sets-front v (fronted n x l) (omega (arith, long)))
 
 -- a list joined from the parts of a list
 pub each-append : {A : Type 0} (f : ℕ → List A) (l m : List ℕ) → each f (l ++ m) ≡ each f l ++ each f m

@@ -18,7 +18,7 @@ use Rattle.cell.specs.Cell.{Edges, crossings}
 use Rattle.cell.specs.Loop.{loopSize, leasts, answerOf, loopAnswer}
 use Rattle.cell.specs.Of.{edgesOf}
 use Rattle.cell.specs.Route.{mostInCell, mostLoops}
-use Rattle.cell.specs.Trace.{each, filled, leastsOf, halvesFrom, pointsFrom, Traced, From}
+use Rattle.cell.specs.Trace.{each, fronted, leastsOf, halvesFrom, pointsFrom, Traced, From}
 use Rattle.cell.specs.Round.{roundAnswer}
 use Rattle.cell.proofs.Putting.{over-each}
 use Rattle.cell.proofs.Leasts.{kept-is}
@@ -73,8 +73,8 @@ module _ {c : Cell} {ms hs ps ls ms′ hs′ ps′ ls′ : List ℕ} (T : Traced
   abbrev n : ℕ
   n = crossings (edgesOf c)
 
-  filled-long : (l v : List ℕ) → length l ≡ mostInCell → length (sets (filled n 0 l) 0 v) ≡ mostInCell
-  filled-long l v h = length-sets (filled n 0 l) 0 v ∙ omega (arith, length-append (replicate n 0) (drop n l), length-replicate {A = ℕ} n 0, length-drop n l, T .few)
+  filled-long : (l v : List ℕ) → length l ≡ mostInCell → length (sets (fronted n 0 l) 0 v) ≡ mostInCell
+  filled-long l v h = length-sets (fronted n 0 l) 0 v ∙ omega (arith, length-append (replicate n 0) (drop n l), length-replicate {A = ℕ} n 0, length-drop n l, T .few)
 
   pub traced-halves : length hs ≡ mostInCell → length hs′ ≡ mostInCell
   traced-halves h = ap length (T .halves-are) ∙ filled-long hs (each (halvesFrom c) (leastsOf c)) h
@@ -92,8 +92,8 @@ module _ {c : Cell} {ms hs ps ls ms′ hs′ ps′ ls′ : List ℕ} (T : Traced
 pub from-trace : {c : Cell} {ms hs ps ls ms′ hs′ ps′ ls′ : List ℕ} → Traced c ms hs ps ls ms′ hs′ ps′ ls′ → length ls′ ≡ mostLoops → From c 0 0 ls′ hs′ ps′
 from-trace {c} {ms} {hs} {ps} {ls} T h = record {
   lengths-rest = drop (length (map (loopSize (edgesOf c)) (leastsOf c))) ls;
-  halves-rest = drop (length (each (halvesFrom c) (leastsOf c))) (filled n 0 hs);
-  points-rest = drop (length (each (pointsFrom c) (leastsOf c))) (filled n 0 ps);
+  halves-rest = drop (length (each (halvesFrom c) (leastsOf c))) (fronted n 0 hs);
+  points-rest = drop (length (each (pointsFrom c) (leastsOf c))) (fronted n 0 ps);
   lengths-are = T .lengths-are ∙ sets-front (map (loopSize (edgesOf c)) (leastsOf c)) ls (omega (arith, length-map (leastsOf c) (loopSize (edgesOf c)), traced-loops T, ap length (T .lengths-are), length-sets ls 0 (map (loopSize (edgesOf c)) (leastsOf c))));
   halves-are = T .halves-are ∙ front (each (halvesFrom c) (leastsOf c)) hs (each-room c (halvesFrom c) (length-halves c));
   points-are = T .points-are ∙ front (each (pointsFrom c) (leastsOf c)) ps (each-room c (pointsFrom c) (length-points c));
@@ -102,8 +102,8 @@ from-trace {c} {ms} {hs} {ps} {ls} T h = record {
     n : ℕ
     n = crossings (edgesOf c)
 
-    front : (v l : List ℕ) → length v ≤ n → sets (filled n 0 l) 0 v ≡ v ++ drop (length v) (filled n 0 l)
-    front v l b = sets-front v (filled n 0 l) (omega (arith, length-append (replicate n 0) (drop n l), length-replicate {A = ℕ} n 0))
+    front : (v l : List ℕ) → length v ≤ n → sets (fronted n 0 l) 0 v ≡ v ++ drop (length v) (fronted n 0 l)
+    front v l b = sets-front v (fronted n 0 l) (omega (arith, length-append (replicate n 0) (drop n l), length-replicate {A = ℕ} n 0))
 
 -- hs and ps are the record of the loop from p, of n
 pub record Looped (c : Cell) (p n : ℕ) (hs ps : List ℕ) : Type 0 where

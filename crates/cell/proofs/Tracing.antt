@@ -19,7 +19,7 @@ use Rattle.cell.specs.Cell.{Edges, crossings}
 use Rattle.cell.specs.Loop.{loopSize, leasts}
 use Rattle.cell.specs.Of.{edgesOf}
 use Rattle.cell.specs.Route.{mostInCell, Routed}
-use Rattle.cell.specs.Trace.{each, filled, unmarked, leastsOf, halvesFrom, pointsFrom, Traced}
+use Rattle.cell.specs.Trace.{each, fronted, unmarked, leastsOf, halvesFrom, pointsFrom, Traced}
 use Rattle.cell.specs.Walked.{Marked, Kept, Put, Lent, Walked, Walkable, Recorded}
 use Rattle.cell.proofs.Putting.{kept-none, kept-then, put-none, put-then, put-end, put-filled, each-append}
 use Rattle.cell.proofs.Loops.{size-two, size-room, sizes, length-halves, length-points}
@@ -193,7 +193,7 @@ all-traced {c} {n} {ms₀} {ms₁} {ms₂} {ms₃} {hs₀} {hs₁} {hs₂} {ps�
   lengths-are = R .lengths-put;
 }
   where
-    filled-is : {v l m o : List ℕ} → Put n l 0 v (r .end) m → Put n m (r .end) (replicate (n - r .end) 0) n o → n ≤ length l → o ≡ sets (filled n 0 l) 0 v
+    filled-is : {v l m o : List ℕ} → Put n l 0 v (r .end) m → Put n m (r .end) (replicate (n - r .end) 0) n o → n ≤ length l → o ≡ sets (fronted n 0 l) 0 v
     filled-is {v} {l} Q S h =
         let e : r .end ≡ length v = omega (arith, Q .next) in
         put-end (put-then Q S) ∙ rw e (put-filled n 0 l v (omega (arith, Q .next, R .fits)) h)

@@ -17,8 +17,8 @@ each f [] = []
 each f (p ∷ l) = f p ++ each f l
 
 -- a list with v in its first n places
-abbrev pub filled : (n v : ℕ) → List ℕ → List ℕ
-filled n v l = replicate n v ++ drop n l
+abbrev pub fronted : (n v : ℕ) → List ℕ → List ℕ
+fronted n v l = replicate n v ++ drop n l
 
 -- the mark of a crossing that no walk has come to
 abbrev pub unmarked : ℕ
@@ -41,9 +41,9 @@ module _ (c : Cell) where
   module _ (marks halves points lengths : List ℕ) where
     pub record Traced (marks′ halves′ points′ lengths′ : List ℕ) : Type 0 where
       pub few : crossings (edgesOf c) ≤ mostInCell
-      pub marks-are : marks′ ≡ filled (crossings (edgesOf c)) unmarked marks
-      pub halves-are : halves′ ≡ sets (filled (crossings (edgesOf c)) 0 halves) 0 (each halvesFrom leastsOf)
-      pub points-are : points′ ≡ sets (filled (crossings (edgesOf c)) 0 points) 0 (each pointsFrom leastsOf)
+      pub marks-are : marks′ ≡ fronted (crossings (edgesOf c)) unmarked marks
+      pub halves-are : halves′ ≡ sets (fronted (crossings (edgesOf c)) 0 halves) 0 (each halvesFrom leastsOf)
+      pub points-are : points′ ≡ sets (fronted (crossings (edgesOf c)) 0 points) 0 (each pointsFrom leastsOf)
       pub lengths-are : lengths′ ≡ sets lengths 0 (map (loopSize (edgesOf c)) leastsOf)
 
   -- from place j of the lengths and place `at` of the record on, there are the loops from the j-th on
