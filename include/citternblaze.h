@@ -24,7 +24,7 @@
  *   System V calling convention, as Linux has it.
  * - Two functions of C: memcpy and memset.
  * - Stack: CITTERNBLAZE_STACK_BYTES suffice for any call. The four calls on a
- *   grid take 264 to 380 KB, as measured, each other call under 1 KB.
+ *   grid take 264 to 364 KB, as measured, each other call under 1 KB.
  * - For citternblaze_places, 64-bit floating point as a C program finds it at its
  *   start: rounding to nearest, subnormal numbers on (no flush to zero), no
  *   exception trapped. The other calls do not compute with it.
