@@ -22,7 +22,7 @@
  * What the calls need:
  * - A processor of the kind x86-64, with no extension beyond SSE2, and the
  *   System V calling convention, as Linux has it.
- * - Two functions of C: memcpy and memset.
+ * - Of C's functions memcpy and memset, at most.
  * - Stack: CITTERNBLAZE_STACK_BYTES suffice for any call. The four calls on a
  *   grid take 264 to 364 KB, as measured, each other call under 1 KB.
  * - For citternblaze_places, 64-bit floating point as a C program finds it at its
