@@ -20,3 +20,12 @@ pub mod Nodes
 pub mod Turn
 pub mod Claims
 pub mod Examples
+pub mod Polygons
+pub mod Storing
+pub mod LoopTriangles
+pub mod Filling
+pub mod Taken
+pub mod Holding
+pub mod Cells
+pub mod Fits
+pub mod TriangleClaims

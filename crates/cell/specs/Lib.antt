@@ -11,3 +11,11 @@ pub mod Round
 pub mod Answer
 pub mod Claims
 pub mod Examples
+pub mod Words
+pub mod Triangles
+pub mod Traced
+pub mod Nth
+pub mod Fits
+pub mod Names
+pub mod Polygons
+pub mod TriangleClaims

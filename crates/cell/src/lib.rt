@@ -1,4 +1,4 @@
-// The loops of a cell, from the counts and first crossing numbers of its six edges.
+// The loops of a cell and their triangles, from the counts and first crossing numbers of its six edges.
 ghost use mathlib.Core.Path.{_≡_};
 ghost use lib.ListN.{length};
 ghost use Rattle.cell.specs.Of.{edgesOf};
@@ -7,13 +7,25 @@ ghost use Rattle.cell.specs.Trace.{leastsOf, Traced};
 ghost use Rattle.cell.specs.Answer.{loopNumbers};
 
 mod answers;
+mod make;
+mod recorded;
 mod routes;
 mod steps;
 mod tables;
+mod triangles;
 mod walks;
+mod words;
+mod write;
 
 pub use answers::folds_of;
 pub use routes::crossings_of;
+pub use triangles::count_in;
+pub use triangles::triangle_at;
+pub use triangles::triangle_count;
+pub use triangles::write_cell;
+pub use triangles::write_in;
+pub use words::NO_NAME;
+pub use words::WORD_COUNT;
 
 // The most crossings of an edge and of a cell, and the most loops of a cell: each has two crossings or more.
 pub const MOST_COUNT: usize = 255;
@@ -44,6 +56,36 @@ pub enum LoopType {
 // A loop of a cell: its least crossing in the grid, its length, normal or not, and its type; or that there is none.
 pub enum Loop {
     Found(u32, u32, bool, LoopType),
+    Nothing,
+}
+
+// A corner of a triangle: a crossing by its number, or the middle point of the triangle's loop.
+pub enum Corner {
+    Crossing(u32),
+    Middle,
+}
+
+// A side of a triangle: a segment by its face's name and its lower crossing, or an inner side of the triangle's loop by its number.
+pub enum Side {
+    Segment(u32, u32),
+    Inner(u32),
+}
+
+// A triangle of the loop of cell `cell` whose least crossing is p0. Side t runs from corner t to the next.
+pub struct Triangle {
+    pub cell: u32,
+    pub p0: u32,
+    pub corner0: Corner,
+    pub corner1: Corner,
+    pub corner2: Corner,
+    pub side0: Side,
+    pub side1: Side,
+    pub side2: Side,
+}
+
+// Triangle t of a cell, or none where there are t or fewer.
+pub enum Nth {
+    Found(Triangle),
     Nothing,
 }
 

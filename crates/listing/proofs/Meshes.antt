@@ -18,9 +18,9 @@ use Rattle.grid.specs.Grid.{Grid, cellCount, crossings}
 use Rattle.grid.specs.Rows.{gridAnswer}
 use Rattle.grid.specs.Tables.{accepts}
 use Rattle.grid.proofs.Claims.{accepted-is, never-empty}
-use Rattle.triangle.specs.declared.Triangle.{Triangle}
-use Rattle.triangle.specs.Words.{wordCount, allWords}
-use Rattle.triangle.proofs.Storing.{length-all}
+use Rattle.cell.specs.declared.Triangle.{Triangle}
+use Rattle.cell.specs.Words.{wordCount, allWords}
+use Rattle.cell.proofs.Storing.{length-all}
 use Rattle.mesh.specs.Room.{roomAnswer, roomArea}
 use Rattle.mesh.specs.Mesh.{meshTriangles, meshWords}
 use Rattle.mesh.specs.Answer.{meshAnswer, meshArea}

@@ -6,7 +6,7 @@ use lib.ListN.{length, set, length-append}
 use borrow.Author.Tests.{eq-eqb, ne-eqb}
 use Rattle.counting.specs.Stored.{Stored}
 use Rattle.counting.proofs.Stored.{stored-one, stored-as, stored-then}
-use Rattle.triangle.specs.Words.{noName}
+use Rattle.cell.specs.Words.{noName}
 use Rattle.listing.specs.Text.{digit, decimal, wordText}
 use Rattle.listing.proofs.Digits.{decimal-one, decimal-last}
 

@@ -10,7 +10,7 @@ use Rattle.counting.specs.Range.{over}
 use Rattle.bundle.specs.Record.{brokenRow, cellSize, edgeSize, endSize}
 use Rattle.bundle.specs.Bundle.{bundleAnswer, nodesOf, endsOf, countsOf, writtenOver}
 use Rattle.grid.specs.Grid.{Grid, gridOf, cellCount, crossings}
-use Rattle.triangle.specs.Words.{wordCount}
+use Rattle.cell.specs.Words.{wordCount}
 use Rattle.mesh.specs.Mesh.{meshTriangles, meshWords}
 use Rattle.mesh.specs.Answer.{meshAnswer}
 use Rattle.listing.specs.Text.{refusedLine, head, line, headRoom, lineRoom}

@@ -6,7 +6,7 @@ use lib.Dec.{ltb, eqb}
 use lib.ListN.{getD}
 use Rattle.counting.specs.Pick.{pick}
 use Rattle.counting.specs.Range.{over}
-use Rattle.triangle.specs.Words.{noName, wordCount}
+use Rattle.cell.specs.Words.{noName, wordCount}
 
 -- the digit d: 0 is 48
 abbrev pub digit : ℕ → ℕ

@@ -19,7 +19,7 @@ use bundle::EDGE_ENDS;
 use bundle::END_BYTES;
 use grid::Checked;
 use mesh::Meshed;
-use triangle::WORD_COUNT;
+use cell::WORD_COUNT;
 
 mod lines;
 mod text;

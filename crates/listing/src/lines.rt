@@ -3,14 +3,14 @@ ghost use Prim.Native.Nat.{_+_, _*_, _≤_};
 ghost use lib.ListN.{length};
 ghost use Rattle.counting.specs.Range.{over};
 ghost use Rattle.counting.specs.Stored.{Stored};
-ghost use Rattle.triangle.specs.Words.{wordCount};
+ghost use Rattle.cell.specs.Words.{wordCount};
 ghost use Rattle.listing.specs.Text.{wordRoom, headRoom, lineRoom, refusedLine, head, wordAt, line};
 use crate::text::LONGEST;
 use crate::text::WORD_ROOM;
 use crate::text::put;
 use crate::text::put_named;
 use crate::text::put_word;
-use triangle::WORD_COUNT;
+use cell::WORD_COUNT;
 
 // The most bytes of the first line: 35 of labels, four numbers and a newline; and of a triangle's line.
 pub(crate) const HEAD_ROOM: usize = 35 + 4 * LONGEST + 1;

@@ -4,7 +4,7 @@ ghost use Prim.Native.Nat.{_+_, _≤_};
 ghost use lib.ListN.{length};
 ghost use Rattle.counting.specs.Stored.{Stored};
 ghost use Rattle.listing.specs.Text.{longest, wordRoom, decimal, named, wordText};
-use triangle::NO_NAME;
+use cell::NO_NAME;
 
 // The most digits of a number of 64 bits; and the most bytes of a word of 32 bits and the blank before it.
 pub(crate) const LONGEST: usize = 20;

@@ -15,8 +15,8 @@ use Rattle.cell.specs.Of.{edgesOf}
 use Rattle.cell.specs.Loop.{leasts, answerOf, loopAnswer}
 use Rattle.cell.specs.Answer.{typeNumbers, loopNumbers}
 use Rattle.cell.proofs.Claims.{oneToOne, ordered}
-use Rattle.triangle.specs.declared.Triangle.{Triangle}
-use Rattle.triangle.specs.Words.{wordCount}
+use Rattle.cell.specs.declared.Triangle.{Triangle}
+use Rattle.cell.specs.Words.{wordCount}
 use Rattle.grid.specs.Grid.{Grid, cellCount}
 use Rattle.grid.specs.Tables.{accepts}
 use Rattle.grid.specs.Rows.{gridAnswer}

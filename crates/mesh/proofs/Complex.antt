@@ -21,9 +21,9 @@ use Rattle.cell.proofs.Lay.{lay}
 use Rattle.cell.proofs.Mates.{mate-joined}
 use Rattle.cell.proofs.Claims.{ordered, rising-separate}
 use Rattle.mesh.proofs.Joins.{three, On, index-in, num-lt, num-edge, num-index, num-place, is-num, Joined, joined-or, on-dart}
-use Rattle.triangle.specs.Triangles as triangles
-use Rattle.triangle.specs.Triangles.{numberOf}
-use Rattle.triangle.proofs.Polygons.{localOf, piece}
+use Rattle.cell.specs.Triangles as triangles
+use Rattle.cell.specs.Triangles.{numberOf}
+use Rattle.cell.proofs.Polygons.{localOf, piece}
 use Rattle.manifold.specs.Piece.{Local, Piece, slotOf, mateOf}
 use Rattle.manifold.specs.Complex.{Complex}
 use Rattle.manifold.specs.Faces.{Match, Faced}

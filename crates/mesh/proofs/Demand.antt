@@ -27,10 +27,10 @@ use Rattle.manifold.specs.Claims.{Manifold}
 use Rattle.manifold.proofs.Claims.{manifold}
 use Rattle.manifold.proofs.Faces.{faces-lawful, faces-shut, faces-linked}
 use Rattle.manifold.proofs.Named.{ring-named}
-use Rattle.triangle.specs.declared.Triangle.{Triangle}
-use Rattle.triangle.specs.Names.{sideAt, hasSide}
-use Rattle.triangle.specs.Triangles.{cellTriangles, numberOf}
-use Rattle.triangle.proofs.Polygons.{named, corner-named, side-named, polygonOf, cell-named}
+use Rattle.cell.specs.declared.Triangle.{Triangle}
+use Rattle.cell.specs.Names.{sideAt, hasSide}
+use Rattle.cell.specs.Triangles.{cellTriangles, numberOf}
+use Rattle.cell.proofs.Polygons.{named, corner-named, side-named, polygonOf, cell-named}
 use Rattle.grid.specs.Grid.{Grid, cellCount, countOf, start, crossings}
 use Rattle.grid.specs.Accepted.{Accepted}
 use Rattle.answer.specs.Answer.{isResult, result}

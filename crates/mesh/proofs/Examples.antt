@@ -16,9 +16,9 @@ use Rattle.cell.specs.Loop as loop
 use Rattle.grid.specs.Grid.{faceNode, sameFace, hasFace, faceName, joins, isEdge, hasEdge, edgeNumber, start}
 use Rattle.answer.specs.Rows as rows
 use Rattle.grid.specs.Rows.{badLength, badPairs, badCell, sameCell, repeats, third, after, badEdge, unlisted, unused, linked, joined, split, tooMany, rows, gridAnswer}
-use Rattle.triangle.specs.Triangles as triangle
-use Rattle.triangle.specs.Words.{cornerWords, words, allWords}
-use Rattle.triangle.specs.Answer.{nthAnswer}
+use Rattle.cell.specs.Triangles as triangle
+use Rattle.cell.specs.Words.{cornerWords, words, allWords}
+use Rattle.cell.specs.Nth.{nthAnswer}
 use Rattle.mesh.specs.Mesh.{gridCell, meshTriangles, meshWords}
 use Rattle.mesh.specs.Room.{roomAnswer, roomArea}
 use Rattle.mesh.specs.Asked.{askedLoop}

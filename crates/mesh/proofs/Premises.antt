@@ -24,7 +24,7 @@ use Rattle.cell.specs.Loop as loop
 use Rattle.grid.specs.Grid.{Grid, gridOf, cellCount, countOf, outer, faceNode, sameFace, hasFace, faceName, joins, isEdge, hasEdge, edgeNumber, start}
 use Rattle.grid.specs.Rows.{badLength, badPairs, badCell, sameCell, repeats, third, after, badEdge, unlisted, unused, linked, joined, split, tooMany, rows, gridAnswer}
 use Rattle.answer.specs.Rows.{orRefuse, answerOf}
-use Rattle.triangle.specs.Triangles as triangle
+use Rattle.cell.specs.Triangles as triangle
 use Rattle.mesh.specs.Mesh.{gridCell, meshTriangles}
 use Rattle.mesh.specs.Demand.{faceCount, RingPremises}
 use Rattle.mesh.specs.Claims.{RingsHappen}

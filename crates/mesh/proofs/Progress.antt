@@ -8,9 +8,9 @@ use lib.ListN.{length, length-append}
 use lib.Seq.{sets, length-sets}
 use Rattle.counting.specs.Range.{over}
 use Rattle.counting.proofs.Fronts.{over-more, over-at, sets-append}
-use Rattle.triangle.specs.declared.Triangle.{Triangle}
-use Rattle.triangle.specs.Words.{wordCount, allWords}
-use Rattle.triangle.proofs.Storing.{length-all, all-append}
+use Rattle.cell.specs.declared.Triangle.{Triangle}
+use Rattle.cell.specs.Words.{wordCount, allWords}
+use Rattle.cell.proofs.Storing.{length-all, all-append}
 
 -- one list more
 length-more : (f : ℕ → List Triangle) (c : ℕ) → length (over f (c + 1) 0) ≡ length (over f c 0) + length (f c)

@@ -7,8 +7,8 @@ use lib.ListN.{length}
 use lib.Seq.{sets}
 use borrow.Author.Tests.{le-leb, lt-leb}
 use Rattle.answer.specs.Answer.{result, refusal}
-use Rattle.triangle.specs.declared.Triangle.{Triangle}
-use Rattle.triangle.specs.Words.{wordCount, allWords}
+use Rattle.cell.specs.declared.Triangle.{Triangle}
+use Rattle.cell.specs.Words.{wordCount, allWords}
 use Rattle.mesh.specs.Room.{roomAnswer, roomArea}
 use Rattle.mesh.specs.Table.{tableTriangles}
 use Rattle.mesh.specs.Drawn.{Drawn}

@@ -17,7 +17,7 @@ use Rattle.grid.specs.Grid.{Grid, mostCells, cellCount, node, faceName, edgeNum
 use Rattle.grid.specs.Accepted.{Sound}
 use Rattle.grid.proofs.Sound.{edge-numbers}
 use Rattle.grid.specs.Tables.{accepts, Opened, nameAt, sideAt}
-use Rattle.triangle.specs.Triangles.{cellTriangles}
+use Rattle.cell.specs.Triangles.{cellTriangles}
 use Rattle.mesh.specs.Mesh.{gridCell, meshTriangles}
 use Rattle.mesh.specs.Table.{tableCounts, tableStarts, ofFour, side, tableCell, tableTriangles, tableLoop}
 use Rattle.mesh.specs.Asked.{askedLoop}

@@ -12,12 +12,12 @@ use Rattle.cell.specs.Loop.{loopSize, normal}
 use Rattle.manifold.specs.Triangle.{Corner, Side, cross, middle}
 use Rattle.manifold.specs.Ring.{RingIn}
 use Rattle.manifold.specs.Shape.{fan, shapeOf}
-use Rattle.triangle.specs.declared.Corner.the-variants.{Middle}
-use Rattle.triangle.specs.declared.Side.the-variants.{Inner}
-use Rattle.triangle.specs.declared.Triangle.{Triangle}
-use Rattle.triangle.specs.Names.{cornerAt, sideAt, hasSide}
-use Rattle.triangle.specs.Triangles as triangle
-use Rattle.triangle.specs.Triangles.{numberOf}
+use Rattle.cell.specs.declared.Corner.the-variants.{Middle}
+use Rattle.cell.specs.declared.Side.the-variants.{Inner}
+use Rattle.cell.specs.declared.Triangle.{Triangle}
+use Rattle.cell.specs.Names.{cornerAt, sideAt, hasSide}
+use Rattle.cell.specs.Triangles as triangle
+use Rattle.cell.specs.Triangles.{numberOf}
 use Rattle.grid.specs.Grid.{Grid, cellCount, edgeNumber, countOf, outer}
 use Rattle.grid.specs.Rows.{gridAnswer}
 use Rattle.cell.specs.Cell as cell

@@ -15,11 +15,11 @@ use Rattle.face.specs.Tally.{segments, unjoinedCount}
 use Rattle.cell.specs.Loop.{loopSize, dart, leasts}
 use Rattle.grid.specs.Grid.{Grid, gridOf, cellCount}
 use Rattle.grid.specs.Rows.{gridAnswer}
-use Rattle.triangle.specs.Triangles.{edgesOf, numberOf, cellTriangles}
-use Rattle.triangle.specs.Answer.{nthAnswer}
-use Rattle.triangle.specs.declared.Triangle.{Triangle}
-use Rattle.triangle.specs.Names.{sideAt}
-use Rattle.triangle.specs.Words.{noName}
+use Rattle.cell.specs.Triangles.{edgesOf, numberOf, cellTriangles}
+use Rattle.cell.specs.Nth.{nthAnswer}
+use Rattle.cell.specs.declared.Triangle.{Triangle}
+use Rattle.cell.specs.Names.{sideAt}
+use Rattle.cell.specs.Words.{noName}
 use Rattle.manifold.specs.Triangle.{Side, seg, inner, same}
 use Rattle.mesh.specs.Mesh.{gridCell, meshTriangles, meshWords}
 use Rattle.mesh.specs.Asked.{cellLoop}

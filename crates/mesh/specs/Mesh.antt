@@ -4,9 +4,9 @@ use mathlib.Core.List.{List}
 use Rattle.counting.specs.Range.{over, values}
 use Rattle.grid.specs.Grid.{Grid, cellCount, node, faceName, edgeNumber, countOf, start}
 use Rattle.cell.specs.declared.Cell.{Cell}
-use Rattle.triangle.specs.declared.Triangle.{Triangle}
-use Rattle.triangle.specs.Triangles.{cellTriangles}
-use Rattle.triangle.specs.Words.{allWords}
+use Rattle.cell.specs.declared.Triangle.{Triangle}
+use Rattle.cell.specs.Triangles.{cellTriangles}
+use Rattle.cell.specs.Words.{allWords}
 
 module _ (G : Grid) where
   -- cell c with all that belongs to it: the counts and starts of its six edges, the names of its four faces, its nodes

@@ -6,8 +6,8 @@ use lib.ListN.{length}
 use lib.Seq.{sets}
 use Rattle.answer.specs.Answer.{result, refusal}
 use Rattle.counting.specs.Pick.{pick}
-use Rattle.triangle.specs.declared.Triangle.{Triangle}
-use Rattle.triangle.specs.Words.{wordCount, allWords}
+use Rattle.cell.specs.declared.Triangle.{Triangle}
+use Rattle.cell.specs.Words.{wordCount, allWords}
 
 -- the numbers answered for a mesh and an area of so many words: row 12 with the triangles needed, or their number
 unfoldable pub roomAnswer : List Triangle → ℕ → List ℕ

@@ -6,8 +6,8 @@ use Rattle.counting.specs.Range.{over, values}
 use Rattle.cell.specs.declared.Cell.{Cell}
 use Rattle.cell.specs.Route as cell
 use Rattle.cell.specs.Route.{startLimit}
-use Rattle.triangle.specs.declared.Triangle.{Triangle}
-use Rattle.triangle.specs.Triangles.{cellTriangles}
+use Rattle.cell.specs.declared.Triangle.{Triangle}
+use Rattle.cell.specs.Triangles.{cellTriangles}
 use Rattle.grid.specs.Grid.{mostCells, cellCount}
 use Rattle.mesh.specs.Asked.{askedLoop}
 

@@ -11,7 +11,7 @@ use cell::Loop;
 use grid::Checked;
 use grid::MOST_EDGES;
 use grid::MOST_SLOTS;
-use triangle::WORD_COUNT;
+use cell::WORD_COUNT;
 
 pub mod cells;
 mod meshing;

@@ -3,7 +3,7 @@ ghost use mathlib.Core.Path.{_≡_};
 ghost use Prim.Native.Nat.{_*_, _≤_};
 ghost use lib.ListN.{length};
 ghost use lib.Seq.{sets};
-ghost use Rattle.triangle.specs.Words.{wordCount, allWords};
+ghost use Rattle.cell.specs.Words.{wordCount, allWords};
 ghost use Rattle.grid.specs.Grid.{mostCells, cellCount};
 ghost use Rattle.mesh.specs.Table.{mostTriangles, tableTriangles};
 use crate::cells::cell_at;
@@ -32,7 +32,7 @@ pub(crate) fn count_all(
     let mut c: usize = 0;
     while c < n {
         let cell = cell_at(cells, counts, names, sides, starts, c);
-        t += triangle::count_in(cell, &mut marks, &mut halves, &mut points, &mut lengths);
+        t += cell::count_in(cell, &mut marks, &mut halves, &mut points, &mut lengths);
         c += 1;
     }
     t
@@ -80,7 +80,7 @@ pub(crate) fn write_all(
     let mut c: usize = 0;
     while c < n {
         let cell = cell_at(cells, counts, names, sides, starts, c);
-        i = triangle::write_in(
+        i = cell::write_in(
             cell,
             &mut marks,
             &mut halves,

@@ -16,7 +16,7 @@ use Rattle.cell.specs.Loop as loop
 use Rattle.grid.specs.Grid.{faceNode, sameFace, hasFace, faceName, joins, isEdge, hasEdge, edgeNumber, start}
 use Rattle.answer.specs.Rows.{orRefuse, answerOf}
 use Rattle.grid.specs.Rows.{badLength, badPairs, badCell, sameCell, repeats, third, after, badEdge, unlisted, unused, linked, joined, split, tooMany, rows, gridAnswer}
-use Rattle.triangle.specs.Triangles.{numberOf, inTwo}
+use Rattle.cell.specs.Triangles.{numberOf, inTwo}
 use Rattle.mesh.specs.Mesh.{gridCell}
 use Rattle.places.specs.Place.{sumTo, middle, allNumbers, within, properFraction}
 use Rattle.places.specs.Points as points

@@ -24,8 +24,8 @@ use Rattle.cell.specs.Round.{foldsIn}
 use Rattle.cell.proofs.Lay.{lay}
 use Rattle.cell.proofs.Loops.{from-point, normal-is, dart-live}
 use Rattle.cell.proofs.Reading.{Looped, over-leasts, leasts-few}
-use Rattle.triangle.proofs.Cells.{least}
-use Rattle.triangle.specs.Triangles.{numberOf, inTwo}
+use Rattle.cell.proofs.Cells.{least}
+use Rattle.cell.specs.Triangles.{numberOf, inTwo}
 use Rattle.grid.specs.Grid.{cellCount}
 use Rattle.mesh.specs.Table.{tableCell}
 use Rattle.places.specs.declared.Place.{Place}

@@ -12,7 +12,7 @@ use Rattle.cell.specs.declared.Cell.{Cell}
 use Rattle.cell.specs.Route.{startLimit}
 use Rattle.cell.specs.Trace.{leastsOf}
 use Rattle.cell.proofs.Reading.{Looped, looped-points}
-use Rattle.triangle.proofs.Cells.{least}
+use Rattle.cell.proofs.Cells.{least}
 use Rattle.grid.specs.Grid.{cellCount}
 use Rattle.mesh.specs.Table.{tableCell}
 use Rattle.places.specs.declared.Place.{Place}

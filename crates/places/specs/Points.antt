@@ -12,8 +12,8 @@ use Rattle.counting.specs.Pack.{row, col}
 use Rattle.cell.specs.declared.Cell.{Cell}
 use Rattle.cell.specs.Cell as cell
 use Rattle.cell.specs.Loop.{loopSize, dart}
-use Rattle.triangle.specs.Triangles as triangle
-use Rattle.triangle.specs.Triangles.{numberOf, inTwo}
+use Rattle.cell.specs.Triangles as triangle
+use Rattle.cell.specs.Triangles.{numberOf, inTwo}
 use Rattle.grid.specs.Grid.{Grid, cellCount, low, high, countOf, crossings}
 use Rattle.mesh.specs.Mesh.{gridCell}
 use Rattle.places.specs.declared.Place.{Place}

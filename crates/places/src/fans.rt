@@ -5,7 +5,7 @@ ghost use lib.Seq.{sets};
 ghost use Rattle.counting.specs.Pick.{one};
 ghost use Rattle.cell.specs.Route.{startLimit};
 ghost use Rattle.cell.specs.Trace.{Traced};
-ghost use Rattle.triangle.specs.Traced.{Held};
+ghost use Rattle.cell.specs.Traced.{Held};
 ghost use Rattle.grid.specs.Grid.{mostCells, cellCount};
 ghost use Rattle.mesh.specs.Table.{mostTriangles};
 ghost use Rattle.places.specs.Place.{coordinates, placeAt, allNumbers};

@@ -6,7 +6,7 @@ use lib.ListN.{length}
 use Rattle.counting.specs.Range.{over}
 use Rattle.counting.specs.Stored.{Stored}
 use Rattle.counting.proofs.Stored.{stored-none, stored-as, stored-more}
-use Rattle.triangle.specs.Words.{wordCount}
+use Rattle.cell.specs.Words.{wordCount}
 use Rattle.listing.specs.Text.{wordRoom, wordAt}
 use Rattle.listing.proofs.lines.put_words.Statement.{statement}
 use Rattle.listing.proofs.lines.put_words.Tie as tie

@@ -2,7 +2,7 @@ use native.Mathlib.Omega.{arith}
 use Prim.Native.Nat.{_-_, _/_}
 use mathlib.Core.Path.{_≡_, refl, ap, _∙_}
 use lib.ListN.{length}
-use Rattle.triangle.specs.Triangles.{cellTriangles}
+use Rattle.cell.specs.Triangles.{cellTriangles}
 use Rattle.mesh.specs.Table.{tableCell, tableTriangles}
 use Rattle.mesh.proofs.Progress.{Counting, counting-none, counting-more, counting-all}
 use Rattle.mesh.proofs.meshing.count_all.Statement.{statement}

@@ -3,8 +3,8 @@ use Prim.Native.Nat.{_-_, _/_, _≤_}
 use mathlib.Core.Path.{_≡_, refl}
 use native.Mathlib.Omega.{arith}
 use lib.ListN.{length}
-use Rattle.triangle.specs.Triangles.{cellTriangles}
-use Rattle.triangle.proofs.Trace.{cell-few}
+use Rattle.cell.specs.Triangles.{cellTriangles}
+use Rattle.cell.proofs.Taken.{cell-few}
 use Rattle.mesh.specs.Table.{tableCell, tableTriangles}
 use Rattle.mesh.proofs.Progress.{Bounding, bounding-all, bounding-more, bounding-none}
 use Rattle.mesh.proofs.meshing.most_all.Statement.{statement}

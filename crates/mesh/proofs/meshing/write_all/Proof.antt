@@ -2,9 +2,9 @@ use native.Mathlib.Omega.{arith}
 use Prim.Native.Nat.{_-_, _/_}
 use mathlib.Core.Path.{_≡_, refl, ap, _∙_}
 use lib.ListN.{length}
-use Rattle.triangle.specs.Triangles.{cellTriangles}
-use Rattle.triangle.specs.Fits.{nextAt, areaThen}
-use Rattle.triangle.proofs.Fits.{next-is, area-is}
+use Rattle.cell.specs.Triangles.{cellTriangles}
+use Rattle.cell.specs.Fits.{nextAt, areaThen}
+use Rattle.cell.proofs.Fits.{next-is, area-is}
 use Rattle.mesh.specs.Table.{tableCell, tableTriangles}
 use Rattle.mesh.proofs.Progress.{Writing, writing-none, writing-room, writing-more, writing-all, writing-next}
 use Rattle.mesh.proofs.meshing.write_all.Statement.{statement}

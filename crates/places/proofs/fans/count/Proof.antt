@@ -5,7 +5,7 @@ use Rattle.counting.specs.Pick.{one}
 use Rattle.cell.specs.declared.Cell.{Cell}
 use Rattle.cell.specs.Trace.{From}
 use Rattle.cell.proofs.Reading.{from-lengths, from-ends, from-looped, from-on}
-use Rattle.triangle.specs.Traced.{Held}
+use Rattle.cell.specs.Traced.{Held}
 use Rattle.places.proofs.Middles.{Counting, counting-none, counting-more, counting-end, looped-fan}
 use Rattle.places.proofs.fans.count.Statement.{statement}
 use Rattle.places.proofs.fans.count.Tie as tie

@@ -5,8 +5,8 @@ use denote.Ref.{now}
 use Rattle.cell.specs.declared.Cell.{Cell}
 use Rattle.cell.specs.Trace.{From}
 use Rattle.cell.proofs.Reading.{from-lengths, from-ends, from-looped, from-on}
-use Rattle.triangle.specs.Traced.{Held}
-use Rattle.triangle.proofs.Cells.{least}
+use Rattle.cell.specs.Traced.{Held}
+use Rattle.cell.proofs.Cells.{least}
 use Rattle.places.specs.Place.{placeAt}
 use Rattle.places.specs.Points.{loopMiddle}
 use Rattle.places.specs.Work.{CellRoom}

@@ -1,0 +1,53 @@
+-- The record of a loop of a cell gives the loop's triangles.
+use Prim.Native.Nat.{ℕ, _/_, _<_}
+use mathlib.Core.Path.{_≡_, sym, ap, ap₂, _∙_}
+use mathlib.Core.Bool.{Bool, true, _&&_}
+use mathlib.Core.List.{List}
+use native.Mathlib.Omega.{arith}
+use lib.Dec.{eqb}
+use lib.ListN.{length, getD}
+use Rattle.counting.specs.Range.{after}
+use Rattle.cell.specs.declared.Cell.{Cell}
+use Rattle.cell.specs.Cell.{mate, slot}
+use Rattle.cell.specs.Loop.{dart}
+use Rattle.cell.specs.Route.{startLimit}
+use Rattle.cell.specs.Round.{foldsIn}
+use Rattle.cell.proofs.Loops.{from-lt, from-slot, from-point, normal-is}
+use Rattle.cell.proofs.Reading.{Looped, looped-halves, looped-points}
+use Rattle.cell.specs.Triangles.{edgesOf, numberOf, manyBy, inTwo, loopTriangles}
+use Rattle.cell.specs.Traced.{RecordedLoop, tracedTriangles}
+use Rattle.cell.proofs.LoopTriangles.{length-traced}
+use Rattle.cell.proofs.Taken.{two-four, dart-leads, traced-loop}
+
+module _ {c : Cell} {p n : ℕ} {halves points : List ℕ} (L : Looped c p n halves points) where
+  pub looped-traced : n < startLimit → RecordedLoop halves points n
+  looped-traced h = record {
+    few = h;
+    halves-long = looped-halves L;
+    points-long = looped-points L;
+    halves-are = λ k l. rw (L .halves-are) (from-lt c p (L .inside) k (omega (arith, L .size)));
+  }
+
+  slots : (k : ℕ) → k < n → getD halves k 0 / 3 ≡ slot (edgesOf c) (dart (edgesOf c) p k)
+  slots k h = rw (L .halves-are) (from-slot c p (L .inside) k (omega (arith, L .size)))
+
+  numbers : (k : ℕ) → k < n → getD points k 0 ≡ numberOf c (dart (edgesOf c) p k / 2)
+  unfolding numberOf
+  numbers k h = rw (L .points-are) (from-point c p k (omega (arith, L .size)))
+
+  leads : (k : ℕ) → k < n → mate (edgesOf c) (slot (edgesOf c) (dart (edgesOf c) p k)) (dart (edgesOf c) p k / 2) ≡ dart (edgesOf c) p (after n k) / 2
+  leads k h = dart-leads c p (L .inside) k (omega (arith, L .size)) ∙ ap (λ m. dart (edgesOf c) p (after m k) / 2) (sym (L .size))
+
+  module _ {two : Bool} (is : two ≡ (eqb n 4 && eqb (foldsIn halves) 0)) where
+    pub looped-two : two ≡ inTwo c p
+    unfolding inTwo
+    looped-two = is ∙ ap₂ (λ m b. eqb m 4 && b) (L .size) (ap (λ l. eqb (foldsIn l) 0) (L .halves-are) ∙ sym (normal-is c p (L .inside)))
+
+    pub looped-four : two ≡ true → n ≡ 4
+    looped-four e = L .size ∙ two-four c p (sym looped-two ∙ e)
+
+    pub looped-loop : tracedTriangles c halves points n two ≡ loopTriangles c p
+    looped-loop = traced-loop c p halves points n (L .size) slots numbers leads two looped-two
+
+    pub looped-many : manyBy n two ≡ length (loopTriangles c p)
+    looped-many = sym (length-traced c halves points n two) ∙ ap length looped-loop

@@ -1,0 +1,42 @@
+use Rattle.cell.specs.Triangles.{triangle, half0}
+use borrow.Author.Needs.{needs}
+use Rattle.cell.proofs.make.half0_of.Statement.{statement}
+use Rattle.cell.proofs.make.half0_of.Tie as tie
+
+segment-at-requires : tie.Need-segment-at-requires
+segment-at-requires c κs = search needs
+
+segment-at-requires-2 : tie.Need-segment-at-requires-2
+segment-at-requires-2 c κs = search needs
+
+word-requires : tie.Need-word-requires
+word-requires c κs = search needs
+
+shared-slice-read-t8 : tie.Need-shared-slice-read-t8
+shared-slice-read-t8 c = search needs
+
+shared-slice-read-t10 : tie.Need-shared-slice-read-t10
+shared-slice-read-t10 c = search needs
+
+shared-slice-read-t13 : tie.Need-shared-slice-read-t13
+shared-slice-read-t13 c = search needs
+
+shared-slice-read-t16 : tie.Need-shared-slice-read-t16
+shared-slice-read-t16 c = search needs
+
+returns : tie.Need-returns
+unfolding half0 triangle
+returns c = cc
+
+pub half0-of-spec : {M : Type 1} → statement M
+half0-of-spec =
+    tie.close
+    (tie.spec
+    segment-at-requires
+    segment-at-requires-2
+    word-requires
+    shared-slice-read-t8
+    shared-slice-read-t10
+    shared-slice-read-t13
+    shared-slice-read-t16
+    returns)

@@ -1,0 +1,46 @@
+use Rattle.cell.specs.Triangles.{triangle, whole}
+use borrow.Author.Needs.{needs}
+use Rattle.cell.proofs.make.whole_of.Statement.{statement}
+use Rattle.cell.proofs.make.whole_of.Tie as tie
+
+segment-at-requires : tie.Need-segment-at-requires
+segment-at-requires c κs = search needs
+
+segment-at-requires-2 : tie.Need-segment-at-requires-2
+segment-at-requires-2 c κs = search needs
+
+segment-at-requires-3 : tie.Need-segment-at-requires-3
+segment-at-requires-3 c κs = search needs
+
+word-requires : tie.Need-word-requires
+word-requires c κs = search needs
+
+shared-slice-read-t9 : tie.Need-shared-slice-read-t9
+shared-slice-read-t9 c = search needs
+
+shared-slice-read-t11 : tie.Need-shared-slice-read-t11
+shared-slice-read-t11 c = search needs
+
+shared-slice-read-t14 : tie.Need-shared-slice-read-t14
+shared-slice-read-t14 c = search needs
+
+shared-slice-read-t17 : tie.Need-shared-slice-read-t17
+shared-slice-read-t17 c = search needs
+
+returns : tie.Need-returns
+unfolding whole triangle
+returns c = cc
+
+pub whole-of-spec : {M : Type 1} → statement M
+whole-of-spec =
+    tie.close
+    (tie.spec
+    segment-at-requires
+    segment-at-requires-2
+    segment-at-requires-3
+    word-requires
+    shared-slice-read-t9
+    shared-slice-read-t11
+    shared-slice-read-t14
+    shared-slice-read-t17
+    returns)

@@ -1,0 +1,35 @@
+-- When two corners, or two sides, of triangles are one (01): a crossing goes by its number and a middle by cell and p0; a segment goes by its
+-- face's name and its lower crossing, and an inner side by cell, p0 and its number.
+use Prim.Native.Nat.{ℕ, zero, suc}
+use mathlib.Core.Bool.{Bool, _||_}
+use Rattle.manifold.specs.Triangle as manifold
+use Rattle.manifold.specs.Triangle.{cross, middle, seg, inner}
+use Rattle.cell.specs.declared.Corner.{Corner}
+use Rattle.cell.specs.declared.Corner.the-variants.{Crossing, Middle}
+use Rattle.cell.specs.declared.Side.{Side}
+use Rattle.cell.specs.declared.Side.the-variants.{Segment, Inner}
+use Rattle.cell.specs.declared.Triangle.{Triangle}
+
+-- the name of a corner and of a side of a triangle of the loop of the cell from p0
+abbrev pub cornerName : (cell p0 : ℕ) → Corner → manifold.Corner
+cornerName cell p0 (Crossing g) = cross g
+cornerName cell p0 Middle = middle cell p0
+
+abbrev pub sideName : (cell p0 : ℕ) → Side → manifold.Side
+sideName cell p0 (Segment f g) = seg f g
+sideName cell p0 (Inner k) = inner cell p0 k
+
+-- corner i of a triangle by its name, and side i, which runs from corner i to the next
+abbrev pub cornerAt : Triangle → ℕ → manifold.Corner
+cornerAt t zero = cornerName (t .cell) (t .p0) (t .corner0)
+cornerAt t (suc zero) = cornerName (t .cell) (t .p0) (t .corner1)
+cornerAt t (suc (suc i)) = cornerName (t .cell) (t .p0) (t .corner2)
+
+abbrev pub sideAt : Triangle → ℕ → manifold.Side
+sideAt t zero = sideName (t .cell) (t .p0) (t .side0)
+sideAt t (suc zero) = sideName (t .cell) (t .p0) (t .side1)
+sideAt t (suc (suc i)) = sideName (t .cell) (t .p0) (t .side2)
+
+-- the triangle has the side with this name
+unfoldable pub hasSide : manifold.Side → Triangle → Bool
+hasSide σ t = manifold.same σ (sideAt t 0) || (manifold.same σ (sideAt t 1) || manifold.same σ (sideAt t 2))

@@ -1,0 +1,48 @@
+-- A cell as a piece of a complex, its loops as polygons, and its triangles by the names of their corners and sides.
+use Prim.Native.Nat.{ℕ, _/_, _<_}
+use mathlib.Core.Path.{_≡_}
+use lib.ListN.{getD}
+use Rattle.cell.specs.declared.Cell.{Cell}
+use Rattle.cell.specs.Cell.{crossings, first, second, mate}
+use Rattle.cell.specs.Loop.{normal}
+use Rattle.manifold.specs.Triangle.{Tri, tri}
+use Rattle.manifold.specs.Polygon.{Polygon}
+use Rattle.manifold.specs.Piece.{Local, slotOf, lowerOf, dart, sizeOf}
+use Rattle.cell.specs.declared.Triangle.{Triangle}
+use Rattle.cell.specs.Names.{cornerAt, sideAt}
+use Rattle.cell.specs.Triangles.{edgesOf, numberOf}
+
+abbrev pub slotCount : ℕ
+slotCount = 4
+
+abbrev pub localOf : Cell → Local
+localOf c = record {
+  N = crossings (edgesOf c);
+  fa = first (edgesOf c);
+  fb = second (edgesOf c);
+  mate = mate (edgesOf c);
+  number = numberOf c;
+  slots = slotCount;
+  name = λ s. getD (c .names) s 0;
+}
+
+-- its loop from the crossing p
+abbrev pub polygonOf : Cell → ℕ → Polygon
+polygonOf c p = record {
+  cell = c .index;
+  p0 = numberOf c p;
+  n = sizeOf (localOf c) p;
+  point = λ k. numberOf c (dart (localOf c) p k / 2);
+  face = λ k. getD (c .names) (slotOf (localOf c) (dart (localOf c) p k)) 0;
+  lower = λ k. lowerOf (localOf c) (dart (localOf c) p k);
+  normal = normal (edgesOf c) p;
+}
+
+-- a triangle by the names of its corners and sides alone
+abbrev pub named : Triangle → Tri
+named t = tri (cornerAt t 0) (cornerAt t 1) (cornerAt t 2) (sideAt t 0) (sideAt t 1) (sideAt t 2)
+
+-- crossing numbers tell the cell's crossings apart, and names its faces
+pub record Apart (c : Cell) : Type 0 where
+  pub numbers : (x y : ℕ) → x < crossings (edgesOf c) → y < crossings (edgesOf c) → numberOf c x ≡ numberOf c y → x ≡ y
+  pub names : (s t : ℕ) → s < slotCount → t < slotCount → getD (c .names) s 0 ≡ getD (c .names) t 0 → s ≡ t

@@ -1,0 +1,183 @@
+// Triangles by value, from a loop's record: the half-edges of its darts and the crossing numbers of its points.
+ghost use mathlib.Core.Path.{_≡_};
+ghost use mathlib.Core.Bool.{true, _&&_};
+ghost use lib.Dec.{eqb};
+ghost use Rattle.cell.specs.Route.{startLimit};
+ghost use Rattle.cell.specs.Round.{foldsIn};
+ghost use mathlib.Core.List.{_∷_};
+ghost use Prim.Native.Nat.{suc, _<_, min};
+ghost use lib.ListN.{getD, drop};
+ghost use Rattle.counting.specs.Range.{after};
+ghost use Rattle.cell.specs.Triangles.{whole, half0, half1, spoke, manyBy};
+ghost use Rattle.cell.specs.Traced.{RecordedLoop, pointAt, segmentAt, tracedTriangles};
+use super::Corner;
+use super::Side;
+use super::Triangle;
+use super::Cell;
+
+fn wide(x: u8) -> usize
+    ensures { λ r. ⌜ r ≡ x ⌝ }
+{
+    x as usize
+}
+
+// The length of a loop.
+pub(crate) fn size(x: u16) -> usize
+    ensures { λ r. ⌜ (r ≡ x) × (r < startLimit) ⌝ }
+{
+    x as usize
+}
+
+fn word(x: u16) -> u32
+    ensures { λ r. ⌜ r ≡ x ⌝ }
+{
+    x as u32
+}
+
+fn lower(a: u32, b: u32) -> u32
+    ensures { λ r. ⌜ r ≡ min a b ⌝ }
+{
+    if a < b { a } else { b }
+}
+
+// The place after k in a round of n.
+fn after_of(n: usize, k: usize) -> usize
+    requires { ⌜ k < n ⌝ }
+    ensures { λ r. ⌜ (r ≡ after n k) × (r < n) ⌝ }
+{
+    if k + 1 == n { 0 } else { k + 1 }
+}
+
+// Segment k of a recorded loop of n points.
+fn segment_at(c: Cell, halves: &[u8], points: &[u32], n: usize, k: usize) -> Side
+    requires { ⌜ RecordedLoop (now halves) (now points) n ⌝ }
+    requires { ⌜ k < n ⌝ }
+    ensures { λ r. ⌜ r ≡ segmentAt c (now (halves .entry)) (now (points .entry)) n k ⌝ }
+{
+    let s = wide(halves[k]) / 3;
+    let j = after_of(n, k);
+    Side::Segment(word(c.names[s]), lower(points[k], points[j]))
+}
+
+// The triangle of a loop of three.
+fn whole_of(c: Cell, halves: &[u8], points: &[u32]) -> Triangle
+    requires { ⌜ RecordedLoop (now halves) (now points) 3 ⌝ }
+    ensures { λ r. ⌜ r ≡ whole (c .index) (getD (now (points .entry)) 0 0) (pointAt (now (points .entry))) (segmentAt c (now (halves .entry)) (now (points .entry)) 3) ⌝ }
+{
+    let r = segment_at(c, halves, points, 3, 0);
+    let s = segment_at(c, halves, points, 3, 1);
+    let t = segment_at(c, halves, points, 3, 2);
+    Triangle {
+        cell: word(c.index),
+        p0: points[0],
+        corner0: Corner::Crossing(points[0]),
+        corner1: Corner::Crossing(points[1]),
+        corner2: Corner::Crossing(points[2]),
+        side0: r,
+        side1: s,
+        side2: t,
+    }
+}
+
+// The two triangles of a normal loop of four.
+fn half0_of(c: Cell, halves: &[u8], points: &[u32]) -> Triangle
+    requires { ⌜ RecordedLoop (now halves) (now points) 4 ⌝ }
+    ensures { λ r. ⌜ r ≡ half0 (c .index) (getD (now (points .entry)) 0 0) (pointAt (now (points .entry))) (segmentAt c (now (halves .entry)) (now (points .entry)) 4) ⌝ }
+{
+    let r = segment_at(c, halves, points, 4, 0);
+    let s = segment_at(c, halves, points, 4, 1);
+    Triangle {
+        cell: word(c.index),
+        p0: points[0],
+        corner0: Corner::Crossing(points[0]),
+        corner1: Corner::Crossing(points[1]),
+        corner2: Corner::Crossing(points[2]),
+        side0: r,
+        side1: s,
+        side2: Side::Inner(0),
+    }
+}
+
+fn half1_of(c: Cell, halves: &[u8], points: &[u32]) -> Triangle
+    requires { ⌜ RecordedLoop (now halves) (now points) 4 ⌝ }
+    ensures { λ r. ⌜ r ≡ half1 (c .index) (getD (now (points .entry)) 0 0) (pointAt (now (points .entry))) (segmentAt c (now (halves .entry)) (now (points .entry)) 4) ⌝ }
+{
+    let s = segment_at(c, halves, points, 4, 2);
+    let t = segment_at(c, halves, points, 4, 3);
+    Triangle {
+        cell: word(c.index),
+        p0: points[0],
+        corner0: Corner::Crossing(points[0]),
+        corner1: Corner::Crossing(points[2]),
+        corner2: Corner::Crossing(points[3]),
+        side0: Side::Inner(0),
+        side1: s,
+        side2: t,
+    }
+}
+
+// Triangle k of a fan of n.
+fn spoke_of(c: Cell, halves: &[u8], points: &[u32], n: usize, k: usize) -> Triangle
+    requires { ⌜ RecordedLoop (now halves) (now points) n ⌝ }
+    requires { ⌜ k < n ⌝ }
+    ensures { λ r. ⌜ r ≡ spoke (c .index) (getD (now (points .entry)) 0 0) (pointAt (now (points .entry))) (segmentAt c (now (halves .entry)) (now (points .entry)) n) n k ⌝ }
+{
+    let s = segment_at(c, halves, points, n, k);
+    let j = after_of(n, k);
+    Triangle {
+        cell: word(c.index),
+        p0: points[0],
+        corner0: Corner::Crossing(points[k]),
+        corner1: Corner::Crossing(points[j]),
+        corner2: Corner::Middle,
+        side0: s,
+        side1: Side::Inner(j as u32),
+        side2: Side::Inner(k as u32),
+    }
+}
+
+// Whether a recorded loop of n is in two triangles: n is 4, and no segment has both ends on one edge.
+pub(crate) fn in_two(halves: &[u8], n: usize) -> bool
+    ensures { λ r. ⌜ r ≡ (eqb n 4 && eqb (foldsIn (now (halves .entry))) 0) ⌝ }
+{
+    if n == 4 {
+        return super::answers::folds_of(halves) == 0;
+    }
+    false
+}
+
+// How many triangles a loop of n gives; `two` says that it is in two.
+pub(crate) fn many(n: usize, two: bool) -> usize
+    ensures { λ r. ⌜ r ≡ manyBy n two ⌝ }
+{
+    if n == 3 {
+        return 1;
+    }
+    if two { 2 } else { n }
+}
+
+// Triangle k of a recorded loop of n.
+pub(crate) fn triangle_of(
+    c: Cell,
+    halves: &[u8],
+    points: &[u32],
+    n: usize,
+    two: bool,
+    k: usize,
+) -> Triangle
+    requires { ⌜ RecordedLoop (now halves) (now points) n ⌝ }
+    requires { ⌜ (two ≡ true → n ≡ 4) ⌝ }
+    requires { ⌜ k < manyBy n two ⌝ }
+    ensures { λ r. ⌜ drop k (tracedTriangles c (now (halves .entry)) (now (points .entry)) n two) ≡ r ∷ drop (suc k) (tracedTriangles c (now (halves .entry)) (now (points .entry)) n two) ⌝ }
+{
+    if n == 3 {
+        return whole_of(c, halves, points);
+    }
+    if two {
+        if k == 0 {
+            return half0_of(c, halves, points);
+        }
+        return half1_of(c, halves, points);
+    }
+    spoke_of(c, halves, points, n, k)
+}

@@ -1,9 +1,0 @@
-pub mod Polygons
-pub mod Storing
-pub mod Loops
-pub mod Filling
-pub mod Trace
-pub mod Walks
-pub mod Cells
-pub mod Fits
-pub mod Claims
