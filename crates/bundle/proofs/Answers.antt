@@ -10,7 +10,7 @@ use borrow.Author.Tests.{leb-true, eq-eqb, ne-eqb, le-leb}
 use Rattle.answer.specs.Answer.{result, refusal}
 use Rattle.counting.specs.Pick.{pick}
 use Rattle.counting.proofs.Bools.{clash, not-clash, and-left, and-right}
-use Rattle.bundle.specs.Record.{cellKind, edgeKind, endKind, brokenRow, nextAt}
+use Rattle.bundle.specs.Record.{cellKind, edgeKind, endKind, brokenRow, nextRecord}
 use Rattle.bundle.specs.Bundle.{isOf, start, run, cells, edgesFrom, edges, stop, bundleAnswer, isBundle, hasRoom, isTaken, readAnswer, nodesOf, endsOf, countsOf, cellNodes, edgeEnds, writtenOver, leaves, nodesLeft, endsLeft, countsLeft, shortRow}
 use Rattle.bundle.proofs.OneRecord.{apart}
 
@@ -38,11 +38,11 @@ module _ (s : List ℕ) where
   unfolding bundleAnswer
   answer-open h = simp h
 
-  pub answer-after : isOf s endKind (stop s) ≡ true → (nextAt s (stop s) ≡ length s → ⊥) → bundleAnswer s ≡ refusal brokenRow (nextAt s (stop s))
+  pub answer-after : isOf s endKind (stop s) ≡ true → (nextRecord s (stop s) ≡ length s → ⊥) → bundleAnswer s ≡ refusal brokenRow (nextRecord s (stop s))
   unfolding bundleAnswer
   answer-after h l = simp (h, ne-eqb _ _ l)
 
-  pub answer-lists : isOf s endKind (stop s) ≡ true → nextAt s (stop s) ≡ length s → bundleAnswer s ≡ result (cells s ∷ edges s ∷ [])
+  pub answer-lists : isOf s endKind (stop s) ≡ true → nextRecord s (stop s) ≡ length s → bundleAnswer s ≡ result (cells s ∷ edges s ∷ [])
   unfolding bundleAnswer
   answer-lists h l = simp (h, eq-eqb _ _ l)
 
@@ -53,16 +53,16 @@ module _ (s : List ℕ) where
 
   pub bundle-answer : isBundle s ≡ true → bundleAnswer s ≡ result (cells s ∷ edges s ∷ [])
   unfolding bundleAnswer isBundle
-  bundle-answer h = both (isOf s endKind (stop s)) (eqb (nextAt s (stop s)) (length s)) _ _ _ h
+  bundle-answer h = both (isOf s endKind (stop s)) (eqb (nextRecord s (stop s)) (length s)) _ _ _ h
 
   pub refused : isBundle s ≡ false → (place : ℕ) × (bundleAnswer s ≡ refusal brokenRow place)
   unfolding bundleAnswer isBundle
-  refused h = go (isOf s endKind (stop s)) (eqb (nextAt s (stop s)) (length s)) h
+  refused h = go (isOf s endKind (stop s)) (eqb (nextRecord s (stop s)) (length s)) h
     where
       go : (a b : Bool) → (a && b) ≡ false
-          → (place : ℕ) × (pick a (pick b (result (cells s ∷ edges s ∷ [])) (refusal brokenRow (nextAt s (stop s)))) (refusal brokenRow (stop s)) ≡ refusal brokenRow place)
+          → (place : ℕ) × (pick a (pick b (result (cells s ∷ edges s ∷ [])) (refusal brokenRow (nextRecord s (stop s)))) (refusal brokenRow (stop s)) ≡ refusal brokenRow place)
       go true true h = clash refl h
-      go true false h = (nextAt s (stop s), refl)
+      go true false h = (nextRecord s (stop s), refl)
       go false b h = (stop s, refl)
 
   -- what an answer says of the bytes

@@ -16,8 +16,8 @@ use Rattle.counting.proofs.Bools.{and-left, and-right}
 use Rattle.counting.proofs.Lists.{all-at}
 use Rattle.counting.proofs.Range.{over-ext}
 use Rattle.counting.proofs.Fronts.{over-more, getD-blocks, first-parts}
-use Rattle.bundle.specs.Record.{byteValues, cellKind, edgeKind, endKind, wordSize, lengthBytes, headBytes, word, lengthOf, kindAt, nextAt, bodyStart, bodySize, body}
-use Rattle.bundle.specs.Bundle.{cellNodes, edgeEnds, isOf, start, cells, edgesFrom, edges, stop, isBundle, words, nodesOf, endsOf, countsOf, writtenOver}
+use Rattle.bundle.specs.Record.{byteValues, cellKind, edgeKind, endKind, wordSize, lengthBytes, headBytes, word, lengthOf, kindAt, nextRecord, bodyStart, bodySize, body}
+use Rattle.bundle.specs.Bundle.{cellNodes, edgeEnds, isOf, start, cells, edgesFrom, edges, stop, isBundle, leadingWords, nodesOf, endsOf, countsOf, writtenOver}
 use Rattle.bundle.specs.Written.{wordBytes, headOf, recordBytes, listBytes, endRecord, cellBytes, edgeBytes, bundleBytes}
 use Rattle.bundle.specs.Claims.{BytesBack, ReadWritten}
 use Rattle.bundle.proofs.OneRecord.{stands, next-ge, body-whole}
@@ -44,41 +44,41 @@ module _ (s : List ℕ) (bytes : (k : ℕ) → getD s k 0 < byteValues) where
   words-back n h = over-ext _ _ n 0 (λ k _ l. sym (word-back (wordSize * k) (omega (arith, l, h)))) ∙ first-parts wordSize n s
 
   -- a record is its length, its kind and its body
-  record-back : (kind a : ℕ) → isOf s kind a ≡ true → drop a s ≡ recordBytes kind (body s a) ++ drop (nextAt s a) s
+  record-back : (kind a : ℕ) → isOf s kind a ≡ true → drop a s ≡ recordBytes kind (body s a) ++ drop (nextRecord s a) s
   unfolding kindAt
   record-back kind a h =
       let r = of-record s kind a h in
       let w = stands s a r in
-      let m = nextAt s a - (a + headBytes) in
-      let n : a + headBytes + m ≡ nextAt s a = omega (arith, next-ge s a r) in
+      let m = nextRecord s a - (a + headBytes) in
+      let n : a + headBytes + m ≡ nextRecord s a = omega (arith, next-ge s a r) in
       let len : word s a ≡ lengthOf kind = w .right ∙ ap lengthOf (of-kind s kind a h) in
       let head : take headBytes (drop a s) ≡ headOf kind =
       take-add wordSize wordSize (drop a s)
       ∙ ap (λ (x : List ℕ). take wordSize (drop a s) ++ take wordSize x) (drop-drop wordSize a s)
       ∙ cc (word-back a (omega (arith, w .inside)), word-back (a + lengthBytes) (omega (arith, w .inside)), len, of-kind s kind a h) in
-      let rest : drop (a + headBytes) s ≡ body s a ++ drop (nextAt s a) s =
+      let rest : drop (a + headBytes) s ≡ body s a ++ drop (nextRecord s a) s =
       sym (take-append-drop m (drop (a + headBytes) s))
       ∙ ap (λ (x : List ℕ). take m (drop (a + headBytes) s) ++ x) (drop-drop m (a + headBytes) s ∙ ap (λ k. drop k s) n)
-      ∙ ap (λ (x : List ℕ). x ++ drop (nextAt s a) s) (body-whole s a r .0) in
+      ∙ ap (λ (x : List ℕ). x ++ drop (nextRecord s a) s) (body-whole s a r .0) in
       sym (take-append-drop headBytes (drop a s))
       ∙ ap (λ (x : List ℕ). take headBytes (drop a s) ++ x) (drop-drop headBytes a s ∙ rest)
-      ∙ ap (λ (x : List ℕ). x ++ (body s a ++ drop (nextAt s a) s)) head
-      ∙ sym (append-assoc (headOf kind) (body s a) (drop (nextAt s a) s))
+      ∙ ap (λ (x : List ℕ). x ++ (body s a ++ drop (nextRecord s a) s)) head
+      ∙ sym (append-assoc (headOf kind) (body s a) (drop (nextRecord s a) s))
 
 -- the numbers of bodies in a list, w of each, as bytes again
 module _ (b : ℕ → List ℕ) (w n k : ℕ) (l : k < n) where
-  entry : (i : ℕ) → i < w → getD (over (λ j. words w (b j)) n 0) (w * k + i) 0 ≡ word (b k) (wordSize * i)
+  entry : (i : ℕ) → i < w → getD (over (λ j. leadingWords w (b j)) n 0) (w * k + i) 0 ≡ word (b k) (wordSize * i)
   entry i h =
       let e : i ≡ 1 * i + 0 = omega arith in
-      getD-blocks (λ j. words w (b j)) w n (λ j _. length-words w (b j)) k i 0 l h
-      ∙ ap (λ m. getD (words w (b k)) m 0) e
+      getD-blocks (λ j. leadingWords w (b j)) w n (λ j _. length-words w (b j)) k i 0 l h
+      ∙ ap (λ m. getD (leadingWords w (b k)) m 0) e
       ∙ getD-blocks (λ j. word (b k) (wordSize * j) ∷ []) 1 w (λ _ _. refl) i 0 0 h (omega arith)
 
-  list-back : ((j : ℕ) → getD (b k) j 0 < byteValues) → wordSize * w ≤ length (b k) → listBytes (over (λ j. words w (b j)) n 0) (w * k) w ≡ take (wordSize * w) (b k)
+  list-back : ((j : ℕ) → getD (b k) j 0 < byteValues) → wordSize * w ≤ length (b k) → listBytes (over (λ j. leadingWords w (b j)) n 0) (w * k) w ≡ take (wordSize * w) (b k)
   list-back bytes h = over-ext _ _ w 0 (λ i _ q. ap wordBytes (entry i (omega (arith, q)))) ∙ words-back (b k) bytes w h
 
 -- records one after the other, from the bytes of each
-chain : (s : List ℕ) (from n : ℕ) (g : ℕ → List ℕ) → ((k : ℕ) → k < n → drop (start s from k) s ≡ g k ++ drop (nextAt s (start s from k)) s)
+chain : (s : List ℕ) (from n : ℕ) (g : ℕ → List ℕ) → ((k : ℕ) → k < n → drop (start s from k) s ≡ g k ++ drop (nextRecord s (start s from k)) s)
     → drop from s ≡ over g n 0 ++ drop (start s from n) s
 unfolding start over
 chain s from zero g h = refl
@@ -86,8 +86,8 @@ chain s from (suc n) g h =
     let e : n + 1 ≡ suc n = omega arith in
     chain s from n g (λ k l. h k (omega arith))
     ∙ ap (λ (x : List ℕ). over g n 0 ++ x) (h n (omega arith))
-    ∙ sym (append-assoc (over g n 0) (g n) (drop (nextAt s (start s from n)) s))
-    ∙ ap (λ (x : List ℕ). x ++ drop (nextAt s (start s from n)) s) (sym (over-more g n) ∙ ap (λ k. over g k 0) e)
+    ∙ sym (append-assoc (over g n 0) (g n) (drop (nextRecord s (start s from n)) s))
+    ∙ ap (λ (x : List ℕ). x ++ drop (nextRecord s (start s from n)) s) (sym (over-more g n) ∙ ap (λ k. over g k 0) e)
 
 module _ (s : List ℕ) (bytes : (k : ℕ) → getD s k 0 < byteValues) where
   -- a body's bytes are the bundle's
@@ -101,7 +101,7 @@ module _ (s : List ℕ) (bytes : (k : ℕ) → getD s k 0 < byteValues) where
         | no l ↦ omega (arith, List·getD-eq-default (take n (drop m s)) 0 {n = j} (simp length-take (omega arith)))
       ]
 
-  cell-bytes : (k : ℕ) → k < cells s → drop (start s 0 k) s ≡ cellBytes (nodesOf s) k ++ drop (nextAt s (start s 0 k)) s
+  cell-bytes : (k : ℕ) → k < cells s → drop (start s 0 k) s ≡ cellBytes (nodesOf s) k ++ drop (nextRecord s (start s 0 k)) s
   unfolding cellBytes cells nodesOf
   cell-bytes k h =
       let a = start s 0 k in
@@ -109,9 +109,9 @@ module _ (s : List ℕ) (bytes : (k : ℕ) → getD s k 0 < byteValues) where
       let n = cell-body s a o in
       let e : listBytes (nodesOf s) (cellNodes * k) cellNodes ≡ body s a =
       list-back (λ j. body s (start s 0 j)) cellNodes (cells s) k h (body-bytes a) (omega (arith, n)) ∙ take-all (wordSize * cellNodes) (body s a) (omega (arith, n)) in
-      record-back s bytes cellKind a o ∙ ap (λ (x : List ℕ). recordBytes cellKind x ++ drop (nextAt s a) s) (sym e)
+      record-back s bytes cellKind a o ∙ ap (λ (x : List ℕ). recordBytes cellKind x ++ drop (nextRecord s a) s) (sym e)
 
-  edge-bytes : (k : ℕ) → k < edges s → drop (start s (edgesFrom s) k) s ≡ edgeBytes (endsOf s) (countsOf s) k ++ drop (nextAt s (start s (edgesFrom s) k)) s
+  edge-bytes : (k : ℕ) → k < edges s → drop (start s (edgesFrom s) k) s ≡ edgeBytes (endsOf s) (countsOf s) k ++ drop (nextRecord s (start s (edgesFrom s) k)) s
   unfolding edgeBytes edges endsOf countsOf
   edge-bytes k h =
       let from = edgesFrom s in
@@ -125,15 +125,15 @@ module _ (s : List ℕ) (bytes : (k : ℕ) → getD s k 0 < byteValues) where
       ap (λ i. getD (countsOf s) i 0) one ∙ getD-blocks (countBy s from) 1 (edges s) (λ _ _. refl) k 0 0 h (omega arith) in
       let e : listBytes (endsOf s) (edgeEnds * k) edgeEnds ++ (getD (countsOf s) k 0 ∷ []) ≡ body s a =
       cc (u, v) ∙ sym (take-suc (body s a) (wordSize * edgeEnds) 0 (omega (arith, n))) ∙ take-all (suc (wordSize * edgeEnds)) (body s a) (omega (arith, n)) in
-      record-back s bytes edgeKind a o ∙ ap (λ (x : List ℕ). recordBytes edgeKind x ++ drop (nextAt s a) s) (sym e)
+      record-back s bytes edgeKind a o ∙ ap (λ (x : List ℕ). recordBytes edgeKind x ++ drop (nextRecord s a) s) (sym e)
 
   end-bytes : isBundle s ≡ true → drop (stop s) s ≡ endRecord
   unfolding isBundle
   end-bytes h =
-      let t = eqb (nextAt s (stop s)) (length s) in
+      let t = eqb (nextRecord s (stop s)) (length s) in
       let o = and-left (isOf s endKind (stop s)) t h in
       let none : body s (stop s) ≡ [] = sym (take-all 0 (body s (stop s)) (omega (arith, body-of s endKind (stop s) o, end-size))) in
-      let last : drop (nextAt s (stop s)) s ≡ [] = ap (λ n. drop n s) (eqb-true (nextAt s (stop s)) (length s) (and-right (isOf s endKind (stop s)) t h)) ∙ drop-length s in
+      let last : drop (nextRecord s (stop s)) s ≡ [] = ap (λ n. drop n s) (eqb-true (nextRecord s (stop s)) (length s) (and-right (isOf s endKind (stop s)) t h)) ∙ drop-length s in
       record-back s bytes endKind (stop s) o ∙ cc (none, last)
 
   all-back : isBundle s ≡ true → bundleBytes (nodesOf s) (endsOf s) (countsOf s) ≡ s

@@ -12,7 +12,7 @@ use lib.ListN.{length}
 use borrow.Author.Tests.{eqb-true, eqb-false}
 use Rattle.answer.specs.Answer.{refusal}
 use Rattle.counting.proofs.Bools.{clash, and-left, and-right}
-use Rattle.bundle.specs.Record.{headBytes, cellKind, edgeKind, endKind, brokenRow, kindAt, nextAt, isRecord}
+use Rattle.bundle.specs.Record.{headBytes, cellKind, edgeKind, endKind, brokenRow, kindAt, nextRecord, isRecord}
 use Rattle.bundle.specs.Bundle.{isOf, start, cells, edgesFrom, edges, stop, bundleAnswer, isBundle}
 use Rattle.bundle.specs.Fault.{AllWhole, kindOf, Fault, broken, disordered, trailing, endless}
 use Rattle.bundle.specs.Claims.{LowestFault, NoFault}
@@ -23,7 +23,7 @@ use Rattle.bundle.proofs.Answers.{answer-open, answer-after, answer-lis
 start-add : (s : List ℕ) (p k j : ℕ) → start s (start s p k) j ≡ start s p (k + j)
 unfolding start
 start-add s p k zero = ap (start s p) (sym (add-zero k))
-start-add s p k (suc j) = let e : suc (k + j) ≡ k + suc j = omega arith in ap (nextAt s) (start-add s p k j) ∙ ap (start s p) e
+start-add s p k (suc j) = let e : suc (k + j) ≡ k + suc j = omega arith in ap (nextRecord s) (start-add s p k j) ∙ ap (start s p) e
 
 module _ (s : List ℕ) where
   -- whole records start ever later
@@ -129,20 +129,20 @@ module _ (s : List ℕ) where
         }
 
     -- bytes after the end
-    tail-fault : (nextAt s (stop s) ≡ length s → ⊥) → Fault s (nextAt s (stop s)) × ((q : ℕ) → q < nextAt s (stop s) → Fault s q → ⊥)
+    tail-fault : (nextRecord s (stop s) ≡ length s → ⊥) → Fault s (nextRecord s (stop s)) × ((q : ℕ) → q < nextRecord s (stop s) → Fault s q → ⊥)
     unfolding start
     tail-fault n =
-        let e : nextAt s (stop s) ≡ start s 0 (suc (cells s + edges s)) = ap (nextAt s) stop-start in
+        let e : nextRecord s (stop s) ≡ start s 0 (suc (cells s + edges s)) = ap (nextRecord s) stop-start in
         let f = stands s (stop s) (of-record s endKind (stop s) h) .fits in
-        let l : nextAt s (stop s) < length s = omega (arith, f, n) in
+        let l : nextRecord s (stop s) < length s = omega (arith, f, n) in
         (trailing (cells s + edges s) e (clean-end .whole) (of-kind s endKind _ end-record) l, λ q b. none-below (suc (cells s + edges s)) clean-end q (omega arith))
 
-    no-fault : nextAt s (stop s) ≡ length s → (q : ℕ) → Fault s q → ⊥
+    no-fault : nextRecord s (stop s) ≡ length s → (q : ℕ) → Fault s q → ⊥
     unfolding start
     no-fault n q x = go x
       where
         e : start s 0 (suc (cells s + edges s)) ≡ length s
-        e = ap (nextAt s) (sym stop-start) ∙ n
+        e = ap (nextRecord s) (sym stop-start) ∙ n
 
         below : q < length s → Fault s q → ⊥
         below l y = none-below (suc (cells s + edges s)) clean-end q (omega (arith, e, l)) y
@@ -209,12 +209,12 @@ module _ (s : List ℕ) where
   lowest : (place : ℕ) → bundleAnswer s ≡ refusal brokenRow place → Low place
   lowest place a = go (isOf s endKind (stop s)) refl
     where
-      at-end : (h : isOf s endKind (stop s) ≡ true) → (b : Bool) → eqb (nextAt s (stop s)) (length s) ≡ b → Low place
+      at-end : (h : isOf s endKind (stop s) ≡ true) → (b : Bool) → eqb (nextRecord s (stop s)) (length s) ≡ b → Low place
       at-end h true e = apart _ _ _ _ (sym (answer-lists s h (eqb-true _ _ e)) ∙ a)
-      at-end h false e = let n = eqb-false _ _ e in subst Low (same-place place (nextAt s (stop s)) a (answer-after s h n)) (tail-fault h n)
+      at-end h false e = let n = eqb-false _ _ e in subst Low (same-place place (nextRecord s (stop s)) a (answer-after s h n)) (tail-fault h n)
 
       go : (b : Bool) → isOf s endKind (stop s) ≡ b → Low place
-      go true h = at-end h (eqb (nextAt s (stop s)) (length s)) refl
+      go true h = at-end h (eqb (nextRecord s (stop s)) (length s)) refl
       go false h =
           let e = stop-start in
           subst Low (same-place place (stop s) a (answer-open s h)) (stop-fault h, λ q l. none-below (cells s + edges s) clean q (omega (arith, e, l)))
@@ -222,8 +222,8 @@ module _ (s : List ℕ) where
   none-where : isBundle s ≡ true → (q : ℕ) → Fault s q → ⊥
   unfolding isBundle
   none-where h =
-      no-fault (and-left (isOf s endKind (stop s)) (eqb (nextAt s (stop s)) (length s)) h)
-      (eqb-true _ _ (and-right (isOf s endKind (stop s)) (eqb (nextAt s (stop s)) (length s)) h))
+      no-fault (and-left (isOf s endKind (stop s)) (eqb (nextRecord s (stop s)) (length s)) h)
+      (eqb-true _ _ (and-right (isOf s endKind (stop s)) (eqb (nextRecord s (stop s)) (length s)) h))
 
 pub lowest-fault : LowestFault
 lowest-fault s place h = lowest s place h

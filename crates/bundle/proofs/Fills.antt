@@ -13,8 +13,8 @@ use Rattle.counting.specs.Stored.{Stored}
 use Rattle.counting.proofs.Bools.{and-left, and-right}
 use Rattle.counting.proofs.Fronts.{length-blocks}
 use Rattle.counting.proofs.Stored.{stored-one, stored-more, stored-front}
-use Rattle.bundle.specs.Record.{cellKind, edgeKind, endKind, wordSize, lengthBytes, cellSize, edgeSize, endSize, word, lengthOf, nextAt, body}
-use Rattle.bundle.specs.Bundle.{isOf, start, cells, edgesFrom, edges, stop, isBundle, cellNodes, edgeEnds, words, nodesIn, endsIn, countIn, nodesOf, endsOf, countsOf, writtenOver}
+use Rattle.bundle.specs.Record.{cellKind, edgeKind, endKind, wordSize, lengthBytes, cellSize, edgeSize, endSize, word, lengthOf, nextRecord, body}
+use Rattle.bundle.specs.Bundle.{isOf, start, cells, edgesFrom, edges, stop, isBundle, cellNodes, edgeEnds, leadingWords, nodesIn, endsIn, countIn, nodesOf, endsOf, countsOf, writtenOver}
 use Rattle.bundle.proofs.Runs.{next-of, body-of, run-apart}
 
 -- the three sizes are those of the kinds' lengths
@@ -37,7 +37,7 @@ cell-body s at h = omega (arith, body-of s cellKind at h, cell-size)
 pub edge-body : (s : List ℕ) (at : ℕ) → isOf s edgeKind at ≡ true → length (body s at) ≡ wordSize * edgeEnds + 1
 edge-body s at h = omega (arith, body-of s edgeKind at h, edge-size)
 
-pub length-words : (n : ℕ) (b : List ℕ) → length (words n b) ≡ n
+pub length-words : (n : ℕ) (b : List ℕ) → length (leadingWords n b) ≡ n
 length-words n b = let e : 1 * n ≡ n = omega arith in length-blocks (λ i. word b (wordSize * i) ∷ []) 1 n (λ _ _. refl) ∙ e
 
 -- what a list has of record k from a place on
@@ -76,9 +76,9 @@ module _ (s : List ℕ) where
   pub bundle-size : isBundle s ≡ true → length s ≡ cellSize * cells s + edgeSize * edges s + endSize
   unfolding isBundle
   bundle-size h =
-      let t = eqb (nextAt s (stop s)) (length s) in
+      let t = eqb (nextRecord s (stop s)) (length s) in
       let o = and-left (isOf s endKind (stop s)) t h in
-      let n : nextAt s (stop s) ≡ length s = eqb-true _ _ (and-right (isOf s endKind (stop s)) t h) in
+      let n : nextRecord s (stop s) ≡ length s = eqb-true _ _ (and-right (isOf s endKind (stop s)) t h) in
       omega (arith, n, next-of s endKind (stop s) o, end-size, cells-apart, edges-apart)
 
 -- what the body of record k means to a list is stored next

@@ -17,8 +17,8 @@ use Rattle.counting.specs.Range.{over}
 use Rattle.counting.proofs.Bools.{and-left, and-right, and-true}
 use Rattle.counting.proofs.Range.{over-ext}
 use Rattle.counting.proofs.Fronts.{getD-blocks, over-more, over-at, in-parts, singles}
-use Rattle.bundle.specs.Record.{byteValues, brokenRow, cellKind, edgeKind, endKind, wordSize, lengthBytes, headBytes, word, lengthOf, kindAt, nextAt, body}
-use Rattle.bundle.specs.Bundle.{cellNodes, edgeEnds, isOf, start, run, cells, edgesFrom, edges, stop, isBundle, words, nodesIn, endsIn, countIn, nodesOf, endsOf, countsOf, shortRow, writtenOver}
+use Rattle.bundle.specs.Record.{byteValues, brokenRow, cellKind, edgeKind, endKind, wordSize, lengthBytes, headBytes, word, lengthOf, kindAt, nextRecord, body}
+use Rattle.bundle.specs.Bundle.{cellNodes, edgeEnds, isOf, start, run, cells, edgesFrom, edges, stop, isBundle, leadingWords, nodesIn, endsIn, countIn, nodesOf, endsOf, countsOf, shortRow, writtenOver}
 use Rattle.bundle.specs.Written.{wordBytes, recordBytes, listBytes, endRecord, cellBytes, edgeBytes, bundleBytes, isFormed, fitsArea, isWritten, mostNamed, writeAnswer}
 use Rattle.bundle.specs.Claims.{ListsBack, WrittenRead}
 use Rattle.bundle.proofs.OneRecord.{standing, body-whole}
@@ -43,7 +43,7 @@ module _ (p r b : List ℕ) (kind : ℕ) (size : wordSize + length b ≡ lengthO
   bytes = p ++ (recordBytes kind b ++ r)
 
   record-put : isOf bytes kind (length p) ≡ true
-  unfolding kindAt nextAt
+  unfolding kindAt nextRecord
   record-put =
       let t = recordBytes kind b ++ r in
       let e : word bytes (length p) ≡ lengthOf kind = ap (word bytes) (sym (add-zero (length p))) ∙ word-in p t 0 ∙ halves (lengthOf kind) in
@@ -57,7 +57,7 @@ module _ (p r b : List ℕ) (kind : ℕ) (size : wordSize + length b ≡ lengthO
   body-put : body bytes (length p) ≡ b
   body-put =
       let o = record-put in
-      let n : nextAt bytes (length p) - (length p + headBytes) ≡ length b = omega (arith, next-of bytes kind (length p) o, size) in
+      let n : nextRecord bytes (length p) - (length p + headBytes) ≡ length b = omega (arith, next-of bytes kind (length p) o, size) in
       sym (body-whole bytes (length p) (of-record bytes kind (length p) o) .0)
       ∙ ap (λ k. take k (drop (length p + headBytes) bytes)) n
       ∙ ap (take (length b)) (drop-append-add p (recordBytes kind b ++ r) headBytes)
@@ -99,7 +99,7 @@ module _ {s p r : List ℕ} {kind n : ℕ} {g b : ℕ → List ℕ} (l : Laid s 
   goes zero h = rw place-zero (going s (length p) kind)
   goes (suc k) h =
       let o = is-at k h in
-      let q : place (k + 1) ≡ nextAt s (place k) = place-more k ∙ sym (next-of s kind (place k) o) in
+      let q : place (k + 1) ≡ nextRecord s (place k) = place-more k ∙ sym (next-of s kind (place k) o) in
       rw (← add-one k, q) (on s (length p) kind (place k) k (goes k (omega arith)) o)
 
   -- none after them: they are a run
@@ -113,7 +113,7 @@ module _ {s p r : List ℕ} {kind n : ℕ} {g b : ℕ → List ℕ} (l : Laid s 
   bodies k h = ap (body s) (starts k (omega arith)) ∙ there body (b k) k h (λ q t. body-put q t (b k) kind (l .size k))
 
 -- the words of bytes that begin with those of a list
-words-of : (l t : List ℕ) (from n : ℕ) → from + n ≤ length l → words n (listBytes l from n ++ t) ≡ take n (drop from l)
+words-of : (l t : List ℕ) (from n : ℕ) → from + n ≤ length l → leadingWords n (listBytes l from n ++ t) ≡ take n (drop from l)
 words-of l t from n h = over-ext _ _ n 0 (λ i _ q. ap (λ x. x ∷ []) (entry i (omega (arith, q)))) ∙ singles l 0 from n h
   where
     f : ℕ → List ℕ
@@ -191,10 +191,10 @@ module _ (nodes ends counts : List ℕ) where
   unfolding stop
   stop-is = ap (start s (edgesFrom s)) edges-are ∙ ap (λ n. start s n e) from-is ∙ starts edges-laid e (le-refl e) ∙ sym (length-append cs es)
 
-  next-is : nextAt s (stop s) ≡ length s
+  next-is : nextRecord s (stop s) ≡ length s
   unfolding bundleBytes
   next-is =
-      ap (nextAt s) stop-is
+      ap (nextRecord s) stop-is
       ∙ next-of s endKind (length (cs ++ es)) end-at
       ∙ ap (λ n. length (cs ++ es) + n) end-size
       ∙ sym (length-append (cs ++ es) endRecord)

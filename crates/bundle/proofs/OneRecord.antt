@@ -11,7 +11,7 @@ use borrow.Author.Tests.{ltb-true, leb-true, eqb-true, lt-ltb, le-ltb, le-leb, e
 use Rattle.answer.specs.Answer.{result, refusal}
 use Rattle.counting.specs.Pick.{pick}
 use Rattle.counting.proofs.Bools.{and-left, and-right, not-clash}
-use Rattle.bundle.specs.Record.{cellKind, edgeKind, endKind, wordSize, lengthBytes, headBytes, cellLength, edgeLength, endLength, word, lengthOf, kindAt, nextAt, isRecord, recordAnswer, brokenRow, body, bodySize, bodyStart}
+use Rattle.bundle.specs.Record.{cellKind, edgeKind, endKind, wordSize, lengthBytes, headBytes, cellLength, edgeLength, endLength, word, lengthOf, kindAt, nextRecord, isRecord, recordAnswer, brokenRow, body, bodySize, bodyStart}
 
 -- a kind with a length is one of three
 pub data Kind (k : ℕ) : Type 0 where
@@ -45,7 +45,7 @@ pub record Stands (s : List ℕ) (at : ℕ) : Type 0 where
   pub inside : at + headBytes ≤ length s
   pub known : 0 < lengthOf (kindAt s at)
   pub right : word s at ≡ lengthOf (kindAt s at)
-  pub fits : nextAt s at ≤ length s
+  pub fits : nextRecord s at ≤ length s
 
 -- a result of two values is no refusal
 pub apart : {A : Type 0} (a b c d : ℕ) → result (a ∷ b ∷ []) ≡ refusal c d → A
@@ -58,7 +58,7 @@ module _ (s : List ℕ) (at : ℕ) where
       let a = leb (at + headBytes) (length s) in
       let b = ltb 0 (lengthOf (kindAt s at)) in
       let c = eqb (word s at) (lengthOf (kindAt s at)) in
-      let d = leb (nextAt s at) (length s) in
+      let d = leb (nextRecord s at) (length s) in
       record {
         inside = leb-true _ _ (and-left a b (and-left (a && b) c (and-left (a && b && c) d h)));
         known = ltb-true _ _ (and-right a b (and-left (a && b) c (and-left (a && b && c) d h)));
@@ -74,12 +74,12 @@ module _ (s : List ℕ) (at : ℕ) where
   absent h = not-clash (isRecord s at) (λ e. h (stands e))
 
   -- a record has at least the bytes of length and kind
-  pub next-ge : isRecord s at ≡ true → at + headBytes ≤ nextAt s at
-  unfolding nextAt
+  pub next-ge : isRecord s at ≡ true → at + headBytes ≤ nextRecord s at
+  unfolding nextRecord
   next-ge h = let w = stands h in let l = length-ge _ (w .known) in let r = w .right in omega arith
 
   -- the three answers
-  pub answer-whole : isRecord s at ≡ true → recordAnswer s at ≡ result (kindAt s at ∷ nextAt s at ∷ [])
+  pub answer-whole : isRecord s at ≡ true → recordAnswer s at ≡ result (kindAt s at ∷ nextRecord s at ∷ [])
   unfolding recordAnswer
   answer-whole h = let w = stands h in let l : at < length s = omega (arith, w .inside) in simp (lt-ltb _ _ l, h)
 
@@ -95,7 +95,7 @@ module _ (s : List ℕ) (at : ℕ) where
   pub record Found (kind next : ℕ) : Type 0 where
     pub whole : isRecord s at ≡ true
     pub kindIs : kind ≡ kindAt s at
-    pub nextIs : next ≡ nextAt s at
+    pub nextIs : next ≡ nextRecord s at
 
   pub found : (kind next : ℕ) → result (kind ∷ next ∷ []) ≡ recordAnswer s at → Found kind next
   found kind next h = go (isRecord s at) refl
@@ -108,14 +108,14 @@ module _ (s : List ℕ) (at : ℕ) where
   not-found number place h = not-clash (isRecord s at) (λ e. apart _ _ _ _ (sym (h ∙ answer-whole e)))
 
   -- the body, and where it starts
-  pub body-whole : isRecord s at ≡ true → (take (nextAt s at - (at + headBytes)) (drop (at + headBytes) s) ≡ body s at) × (at + headBytes ≡ bodyStart s at)
+  pub body-whole : isRecord s at ≡ true → (take (nextRecord s at - (at + headBytes)) (drop (at + headBytes) s) ≡ body s at) × (at + headBytes ≡ bodyStart s at)
   unfolding body bodySize bodyStart
   body-whole h = (simp h, simp h)
 
   -- its bytes reach to the next record
-  pub body-length : isRecord s at ≡ true → at + (headBytes + length (body s at)) ≡ nextAt s at
+  pub body-length : isRecord s at ≡ true → at + (headBytes + length (body s at)) ≡ nextRecord s at
   body-length h =
-      let e : length (body s at) ≡ nextAt s at - (at + headBytes) = sym (ap length (body-whole h .0)) ∙ simp (length-take, length-drop) (omega (arith, next-ge h, stands h .fits)) in
+      let e : length (body s at) ≡ nextRecord s at - (at + headBytes) = sym (ap length (body-whole h .0)) ∙ simp (length-take, length-drop) (omega (arith, next-ge h, stands h .fits)) in
       omega (arith, e, next-ge h)
 
   pub body-none : isRecord s at ≡ false → ([] ≡ body s at) × (0 ≡ bodyStart s at)
@@ -139,11 +139,11 @@ module _ (s : List ℕ) (at : ℕ) (l : at < length s) where
     case-wrong h = sym (answer-refused s at l (absent s at (λ w. h (el ∙ w .right ∙ sym len-of))))
 
     pub case-cut : length s - at < lengthBytes + len → refusal brokenRow at ≡ recordAnswer s at
-    unfolding nextAt
+    unfolding nextRecord
     case-cut h = sym (answer-refused s at l (absent s at (λ w. omega (arith, w .fits, h, el, l))))
 
     pub case-whole : headBytes ≤ length s - at → (right ≡ 0 → ⊥) → len ≡ right → lengthBytes + len ≤ length s - at → result (kind ∷ (at + (lengthBytes + len)) ∷ []) ≡ recordAnswer s at
-    unfolding nextAt kindAt
+    unfolding nextRecord kindAt
     case-whole h4 h0 h1 h2 =
         let w : Stands s at = record {
           inside = omega arith;

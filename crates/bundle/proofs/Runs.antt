@@ -12,7 +12,7 @@ use lib.ListN.{length}
 use borrow.Author.Tests.{eqb-true, eq-eqb, ne-eqb, not-true, not-false}
 use Rattle.counting.proofs.Bools.{and-left, and-right, and-true, and-false-left, and-false-right}
 use Rattle.counting.proofs.Search.{first-at, first-is, first-below, below-or}
-use Rattle.bundle.specs.Record.{wordSize, lengthBytes, headBytes, word, lengthOf, kindAt, nextAt, isRecord, body}
+use Rattle.bundle.specs.Record.{wordSize, lengthBytes, headBytes, word, lengthOf, kindAt, nextRecord, isRecord, body}
 use Rattle.bundle.specs.Bundle.{isOf, start, run}
 use Rattle.bundle.proofs.OneRecord.{stands, next-ge, body-length}
 
@@ -39,8 +39,8 @@ module _ (s : List ℕ) (kind at : ℕ) where
   other-of h = and-false-right (isRecord s at) (eqb (kindAt s at) kind) (ne-eqb _ _ h)
 
   -- the next record comes straight after its bytes
-  pub next-of : isOf s kind at ≡ true → nextAt s at ≡ at + (lengthBytes + lengthOf kind)
-  unfolding nextAt
+  pub next-of : isOf s kind at ≡ true → nextRecord s at ≡ at + (lengthBytes + lengthOf kind)
+  unfolding nextRecord
   next-of h =
       let w = stands s at (of-record h) in
       let e : word s at ≡ lengthOf kind = w .right ∙ ap lengthOf (of-kind h) in
@@ -62,17 +62,17 @@ module _ (s : List ℕ) (from kind : ℕ) where
   unfolding start
   going = record { reached = refl; all = λ j h. absurd (omega (arith, h)); few = omega arith; inside = omega arith }
 
-  pub start-more : (k : ℕ) → start s from (k + 1) ≡ nextAt s (start s from k)
+  pub start-more : (k : ℕ) → start s from (k + 1) ≡ nextRecord s (start s from k)
   unfolding start
   start-more k = ap (start s from) (add-one k)
 
   module _ (at count : ℕ) (g : Going s from kind at count) where
-    pub on : isOf s kind at ≡ true → Going s from kind (nextAt s at) (count + 1)
+    pub on : isOf s kind at ≡ true → Going s from kind (nextRecord s at) (count + 1)
     on h =
         let n = next-ge s at (of-record s kind at h) in
         let w = stands s at (of-record s kind at h) in
         record {
-          reached = ap (nextAt s) (g .reached) ∙ sym (start-more count);
+          reached = ap (nextRecord s) (g .reached) ∙ sym (start-more count);
           all = λ j l. ⊎-elim (λ (e : j ≡ count). ap (λ i. isOf s kind (start s from i)) e ∙ ap (isOf s kind) (sym (g .reached)) ∙ h) (λ (b : j < count). g .all j b) (below-or j count (omega arith));
           few = omega (arith, g .few, n);
           inside = omega (arith, g .few, n, w .fits);
@@ -135,5 +135,5 @@ module _ (s : List ℕ) (from kind : ℕ) where
     walked-on =
         record {
           upto = omega arith;
-          reached = body-length s at (of-record s kind at here) ∙ ap (nextAt s) (g .reached) ∙ sym (start-more s from kind k);
+          reached = body-length s at (of-record s kind at here) ∙ ap (nextRecord s) (g .reached) ∙ sym (start-more s from kind k);
         }

@@ -5,7 +5,7 @@ use mathlib.Core.Bool.{Bool, true, false}
 use native.Mathlib.Omega.{arith}
 use lib.ListN.{length}
 use Rattle.counting.specs.Pick.{pick}
-use Rattle.bundle.specs.Record.{headBytes, nextAt, isRecord, bodyStart, bodySize}
+use Rattle.bundle.specs.Record.{headBytes, nextRecord, isRecord, bodyStart, bodySize}
 use Rattle.bundle.specs.Claims.{RecordWithin, BodyWithin}
 use Rattle.bundle.proofs.OneRecord.{found, stands, next-ge}
 
@@ -19,6 +19,6 @@ pub body-within : BodyWithin
 unfolding bodyStart bodySize
 body-within s at = go (isRecord s at) refl
   where
-    go : (b : Bool) → isRecord s at ≡ b → pick b (at + headBytes) 0 + pick b (nextAt s at - (at + headBytes)) 0 ≤ length s
+    go : (b : Bool) → isRecord s at ≡ b → pick b (at + headBytes) 0 + pick b (nextRecord s at - (at + headBytes)) 0 ≤ length s
     go true h = omega (arith, next-ge s at h, stands s at h .fits)
     go false h = omega arith

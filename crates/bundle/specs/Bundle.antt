@@ -8,7 +8,7 @@ use Rattle.answer.specs.Answer.{result, refusal}
 use Rattle.counting.specs.Pick.{pick}
 use Rattle.counting.specs.Range.{over}
 use Rattle.counting.specs.Search.{first}
-use Rattle.bundle.specs.Record.{cellKind, edgeKind, endKind, brokenRow, wordSize, word, kindAt, nextAt, isRecord, body}
+use Rattle.bundle.specs.Record.{cellKind, edgeKind, endKind, brokenRow, wordSize, word, kindAt, nextRecord, isRecord, body}
 use Rattle.bundle.specs.declared.Contents.{Contents}
 use Rattle.bundle.specs.declared.Contents.the-variants.{Lists, Refused}
 
@@ -23,7 +23,7 @@ isOf s kind at = isRecord s at && eqb (kindAt s at) kind
 -- where record k from a place on starts, each after the one before it
 unfoldable pub start : List ℕ → ℕ → ℕ → ℕ
 start s from zero = from
-start s from (suc k) = nextAt s (start s from k)
+start s from (suc k) = nextRecord s (start s from k)
 
 -- how many records of a kind stand from a place on, one after the other
 unfoldable pub run : List ℕ → ℕ → ℕ → ℕ
@@ -47,11 +47,11 @@ stop s = start s (edgesFrom s) (edges s)
 unfoldable pub bundleAnswer : List ℕ → List ℕ
 bundleAnswer s =
     pick (isOf s endKind (stop s))
-    (pick (eqb (nextAt s (stop s)) (length s)) (result (cells s ∷ edges s ∷ [])) (refusal brokenRow (nextAt s (stop s))))
+    (pick (eqb (nextRecord s (stop s)) (length s)) (result (cells s ∷ edges s ∷ [])) (refusal brokenRow (nextRecord s (stop s))))
     (refusal brokenRow (stop s))
 
 unfoldable pub isBundle : List ℕ → Bool
-isBundle s = isOf s endKind (stop s) && eqb (nextAt s (stop s)) (length s)
+isBundle s = isOf s endKind (stop s) && eqb (nextRecord s (stop s)) (length s)
 
 -- the numbers that a cell has in the list of nodes, and an edge in the list of ends
 abbrev pub cellNodes : ℕ
@@ -61,15 +61,15 @@ abbrev pub edgeEnds : ℕ
 edgeEnds = 2
 
 -- the first n numbers of 16 bits in a body
-abbrev pub words : ℕ → List ℕ → List ℕ
-words n b = over (λ i. word b (wordSize * i) ∷ []) n 0
+abbrev pub leadingWords : ℕ → List ℕ → List ℕ
+leadingWords n b = over (λ i. word b (wordSize * i) ∷ []) n 0
 
 -- what a body means: the nodes of a cell; the ends of an edge, and its count after them
 abbrev pub nodesIn : List ℕ → List ℕ
-nodesIn b = words cellNodes b
+nodesIn b = leadingWords cellNodes b
 
 abbrev pub endsIn : List ℕ → List ℕ
-endsIn b = words edgeEnds b
+endsIn b = leadingWords edgeEnds b
 
 abbrev pub countIn : List ℕ → List ℕ
 countIn b = getD b (wordSize * edgeEnds) 0 ∷ []

@@ -69,8 +69,8 @@ word s at = getD s at 0 + byteValues * getD s (at + 1) 0
 unfoldable pub kindAt : List ℕ → ℕ → ℕ
 kindAt s at = word s (at + lengthBytes)
 
-unfoldable pub nextAt : List ℕ → ℕ → ℕ
-nextAt s at = at + lengthBytes + word s at
+unfoldable pub nextRecord : List ℕ → ℕ → ℕ
+nextRecord s at = at + lengthBytes + word s at
 
 -- a record stands at a place: its length and kind are there, the kind is one of the three and has this length, and all its bytes are there
 unfoldable pub isRecord : List ℕ → ℕ → Bool
@@ -78,13 +78,13 @@ isRecord s at =
     leb (at + headBytes) (length s)
     && ltb 0 (lengthOf (kindAt s at))
     && eqb (word s at) (lengthOf (kindAt s at))
-    && leb (nextAt s at) (length s)
+    && leb (nextRecord s at) (length s)
 
 -- the answer for a start: kind and next start, or refusal 13 with the start, or with the input's length where the start is not below it
 unfoldable pub recordAnswer : List ℕ → ℕ → List ℕ
 recordAnswer s at =
     pick (ltb at (length s))
-    (pick (isRecord s at) (result (kindAt s at ∷ nextAt s at ∷ [])) (refusal brokenRow at))
+    (pick (isRecord s at) (result (kindAt s at ∷ nextRecord s at ∷ [])) (refusal brokenRow at))
     (refusal brokenRow (length s))
 
 -- where the body starts, and its bytes; no bytes, at the front, where no record stands
@@ -92,7 +92,7 @@ unfoldable pub bodyStart : List ℕ → ℕ → ℕ
 bodyStart s at = pick (isRecord s at) (at + headBytes) 0
 
 unfoldable pub bodySize : List ℕ → ℕ → ℕ
-bodySize s at = pick (isRecord s at) (nextAt s at - (at + headBytes)) 0
+bodySize s at = pick (isRecord s at) (nextRecord s at - (at + headBytes)) 0
 
 unfoldable pub body : List ℕ → ℕ → List ℕ
 body s at = take (bodySize s at) (drop (bodyStart s at) s)

@@ -16,7 +16,7 @@ ghost use mathlib.Core.Path.{_≡_};
 ghost use Prim.Native.Nat.{_+_};
 ghost use lib.ListN.{length};
 ghost use Rattle.counting.specs.Stored.{Stored};
-ghost use Rattle.bundle.specs.Bundle.{start, run, words, edgesFrom, bundleAnswer, readAnswer, nodesOf, endsOf, countsOf, writtenOver, nodesLeft, endsLeft, countsLeft, contentsNumbers};
+ghost use Rattle.bundle.specs.Bundle.{start, run, leadingWords, edgesFrom, bundleAnswer, readAnswer, nodesOf, endsOf, countsOf, writtenOver, nodesLeft, endsLeft, countsLeft, contentsNumbers};
 ghost use Rattle.bundle.specs.Needed.{WordsLent, CellsLent, EdgesLent};
 
 // The row of refusals that speaks of short lists.
@@ -74,7 +74,7 @@ pub fn scan(bytes: &[u8]) -> Contents
 // Fills n entries of a list, from a place on, with the first numbers of a body.
 fn fill_words(body: &[u8], n: usize, list: &mut [u16], at: usize)
     requires { ⌜ WordsLent (now body) n (now list) at ⌝ }
-    ensures { λ _. ⌜ Stored (now (list .entry)) at (words n (now (body .entry))) (now (list .exit)) (at + n) ⌝ }
+    ensures { λ _. ⌜ Stored (now (list .entry)) at (leadingWords n (now (body .entry))) (now (list .exit)) (at + n) ⌝ }
 {
     let mut i: usize = 0;
     while i < n {

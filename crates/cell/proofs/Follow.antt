@@ -7,20 +7,20 @@ use native.Mathlib.Omega.{arith}
 use lib.Dec.{eqb}
 use borrow.Author.Tests.{eqb-true, eqb-false, eq-eqb}
 use Rattle.counting.specs.Lists.{tally}
-use Rattle.slots.specs.Slots.{place, contains, firstSlot, secondSlot}
+use Rattle.slots.specs.Slots.{edgeRank, contains, firstSlot, secondSlot}
 use Rattle.slots.proofs.Slots.{EdgeSlot, edge-slot, one-of-two, two-slots, slot-edge}
 use Rattle.walk.specs.Darts.{half, rev}
 use Rattle.walk.specs.Walk.{flat}
 use Rattle.walk.proofs.Step as walks
 use Rattle.cell.specs.Cell.{Edges, crossings, edge, mate, first, second, slot, step}
-use Rattle.cell.specs.Claims.{Lies, Joined, AllJoined, along, StepOf}
+use Rattle.cell.specs.Claims.{Lies, Joined, AllJoined, runsAlong, StepOf}
 use Rattle.cell.proofs.Lay.{lay}
 use Rattle.cell.proofs.Step.{step-is, slot-first, slot-second}
 use Rattle.cell.proofs.Mates.{slot-has, ports, darts, mate-cases, mate-unjoined, joined-lt}
 use Rattle.cell.proofs.Segments.{tally-ext, segment-most, segment-once}
 
 pub contained : {k s : ℕ} → EdgeSlot k s → contains k s ≡ true
-contained {k} {s} S = rw (S .edge-is) at (slot-edge s (place s k) (S .lt) (S .place-lt) .within)
+contained {k} {s} S = rw (S .edge-is) at (slot-edge s (edgeRank s k) (S .lt) (S .place-lt) .within)
 
 module _ (w : Edges) where
   abbrev N : ℕ
@@ -129,8 +129,8 @@ module _ (w : Edges) where
     b-half : b / 2 ≡ mate w s x
     b-half = walks.half-rev (step w d) ∙ step-half d (F .lt) on ∙ rw (F .by, F .of) refl
 
-    same : (e : ℕ) → along w s x e ≡ (eqb e d || eqb e b)
-    unfolding along
+    same : (e : ℕ) → runsAlong w s x e ≡ (eqb e d || eqb e b)
+    unfolding runsAlong
     same e = go (eqb e d) (eqb e b) refl refl
       where
         at : (a : ℕ) → a < 2 * N → slot w a ≡ s → eqb e a ≡ false → slot w e ≡ s → e / 2 ≡ a / 2 → ⊥
@@ -151,10 +151,10 @@ module _ (w : Edges) where
             none true false true ea ec ef = absurd (at b (back-lt d (F .lt) on) b-slot eq (eqb-true (slot w e) s ea) (eqb-true (e / 2) (mate w s x) ef ∙ sym b-half))
             none true false false ea ec ef = refl
 
-    pub along-most : tally (along w s x) (flat N (step w)) ≤ 1
-    along-most = rw (tally-ext (along w s x) (λ e. eqb e d || eqb e b) same (flat N (step w))) (segment-most N (step w) (darts w) d (F .lt) on)
+    pub along-most : tally (runsAlong w s x) (flat N (step w)) ≤ 1
+    along-most = rw (tally-ext (runsAlong w s x) (λ e. eqb e d || eqb e b) same (flat N (step w))) (segment-most N (step w) (darts w) d (F .lt) on)
 
-    pub along-once : AllJoined w → tally (along w s x) (flat N (step w)) ≡ 1
+    pub along-once : AllJoined w → tally (runsAlong w s x) (flat N (step w)) ≡ 1
     along-once all =
-        tally-ext (along w s x) (λ e. eqb e d || eqb e b) same (flat N (step w))
+        tally-ext (runsAlong w s x) (λ e. eqb e d || eqb e b) same (flat N (step w))
         ∙ segment-once N (step w) (darts w) d (F .lt) on (λ e l. goes-on e l (all (slot w e) (e / 2) (lies-at e l)))

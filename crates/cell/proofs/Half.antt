@@ -12,9 +12,9 @@ use Rattle.counting.specs.Pick.{pick}
 use Rattle.counting.specs.Search.{every}
 use Rattle.counting.proofs.Bools.{and-left, and-right}
 use Rattle.counting.proofs.Search.{every-is}
-use Rattle.slots.specs.Slots.{slotEdge, place, contains, firstSlot}
+use Rattle.slots.specs.Slots.{slotEdge, edgeRank, contains, firstSlot}
 use Rattle.slots.proofs.Slots.{slot-edge, first-slot}
-use Rattle.cell.specs.Half.{halfEdges, slotOf, placeOf, edgeOf, halfOf, twin}
+use Rattle.cell.specs.Half.{halfEdges, slotOf, rankOf, edgeOf, halfOf, twin}
 
 -- the half-edge that follows lies in the other slot of the same edge: the first if this one lies in the second
 twinTest : ℕ → Bool
@@ -31,20 +31,20 @@ module _ (h : ℕ) (l : h < halfEdges) where
   pub slot-lt : slotOf h < 4
   slot-lt = omega arith
 
-  pub place-lt : placeOf h < 3
+  pub place-lt : rankOf h < 3
   place-lt = omega arith
 
   pub edge-lt : edgeOf h < 6
   unfolding edgeOf
-  edge-lt = slot-edge (slotOf h) (placeOf h) slot-lt place-lt .lt
+  edge-lt = slot-edge (slotOf h) (rankOf h) slot-lt place-lt .lt
 
-  pub place-is : place (slotOf h) (edgeOf h) ≡ placeOf h
+  pub place-is : edgeRank (slotOf h) (edgeOf h) ≡ rankOf h
   unfolding edgeOf
-  place-is = slot-edge (slotOf h) (placeOf h) slot-lt place-lt .place-is
+  place-is = slot-edge (slotOf h) (rankOf h) slot-lt place-lt .place-is
 
   pub within : contains (edgeOf h) (slotOf h) ≡ true
   unfolding edgeOf
-  within = slot-edge (slotOf h) (placeOf h) slot-lt place-lt .within
+  within = slot-edge (slotOf h) (rankOf h) slot-lt place-lt .within
 
   twin-passes : twinTest h ≡ true
   twin-passes = every-is twinTest halfEdges twins-pass h l
@@ -73,7 +73,7 @@ module _ (h : ℕ) (l : h < halfEdges) where
 pub half-slot : (s j : ℕ) → j < 3 → slotOf (3 * s + j) ≡ s
 half-slot s j l = omega arith
 
-pub half-place : (s j : ℕ) → j < 3 → placeOf (3 * s + j) ≡ j
+pub half-place : (s j : ℕ) → j < 3 → rankOf (3 * s + j) ≡ j
 half-place s j l = omega arith
 
 pub half-edge : (s j : ℕ) → j < 3 → edgeOf (3 * s + j) ≡ slotEdge s j
@@ -85,7 +85,7 @@ pub first-half : {e h : ℕ} → e < 6 → h ≡ halfOf (firstSlot e) e → (edg
 unfolding halfOf
 first-half {e} {h} le q =
     let S = first-slot e le in
-    (rw q (half-edge (firstSlot e) (place (firstSlot e) e) (S .place-lt) ∙ S .edge-is), rw q (half-slot (firstSlot e) (place (firstSlot e) e) (S .place-lt)), omega (arith, q, S .place-lt, S .lt))
+    (rw q (half-edge (firstSlot e) (edgeRank (firstSlot e) e) (S .place-lt) ∙ S .edge-is), rw q (half-slot (firstSlot e) (edgeRank (firstSlot e) e) (S .place-lt)), omega (arith, q, S .place-lt, S .lt))
 
 -- a table of m entries that pass the test is right at each, and its entries are below the bound
 pub entry : (m : ℕ) (f : ℕ → ℕ) (n : ℕ) (l : List ℕ) → every (λ i. eqb (getD l i 0) (f i) && ltb (getD l i 0) n) m ≡ true

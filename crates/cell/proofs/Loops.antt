@@ -13,7 +13,7 @@ use Rattle.counting.specs.Pick.{one}
 use Rattle.counting.specs.Range.{total, after, before}
 use Rattle.counting.specs.Lists.{tally}
 use Rattle.counting.proofs.Range.{total-ext, total-next, total-split, total-round, before-after, after-last, after-on, after-lt, length-over}
-use Rattle.slots.specs.Slots.{place, firstSlot}
+use Rattle.slots.specs.Slots.{edgeRank, firstSlot}
 use Rattle.slots.proofs.Slots.{two-slots}
 use Rattle.walk.specs.Iterate.{it}
 use Rattle.walk.specs.Darts.{Loop, half, rev}
@@ -24,7 +24,7 @@ use Rattle.walk.proofs.Once.{flat-room}
 use Rattle.walk.proofs.Iterate.{tally-orbit, length-orbit, it-suc}
 use Rattle.cell.specs.declared.Cell.{Cell}
 use Rattle.cell.specs.Cell.{Edges, crossings, edge, slot, first, second, mate, step}
-use Rattle.cell.specs.Loop.{loopSize, dart, loopDarts, folded, normal, parity, inGrid, typeOf, answerOf}
+use Rattle.cell.specs.Loop.{loopSize, dart, loopDarts, folded, normal, parity, inGrid, typeOf, answerFrom}
 use Rattle.cell.specs.Of.{edgesOf}
 use Rattle.cell.specs.Half.{halfEdges, edgeOf, halfOf, halfEdge}
 use Rattle.cell.specs.Dart.{dartNumber}
@@ -89,7 +89,7 @@ module _ (w : Edges) where
 
     pub half-edge : edgeOf (halfEdge w d) ≡ edge w (d / 2)
     unfolding halfEdge halfOf
-    half-edge = halves.half-edge (slot w d) (place (slot w d) (edge w (d / 2))) (slot-has w d l .place-lt) ∙ slot-has w d l .edge-is
+    half-edge = halves.half-edge (slot w d) (edgeRank (slot w d) (edge w (d / 2))) (slot-has w d l .place-lt) ∙ slot-has w d l .edge-is
 
     -- a step comes to another crossing
     pub step-moves : step w d < 2 * N → step w d / 2 ≢ d / 2
@@ -232,8 +232,8 @@ module _ (c : Cell) (p : ℕ) where
         (λ k a b. ap (λ x. one (eqb x e)) (sym (from-edge k (omega arith))))))
 
     -- what is answered of it
-    pub answer-is : 0 < size → roundAnswer (c .nodes) (halvesFrom c p) (pointsFrom c p) ≡ answerOf cw (c .nodes) (p ∷ [])
-    unfolding answerOf typeOf roundAnswer
+    pub answer-is : 0 < size → roundAnswer (c .nodes) (halvesFrom c p) (pointsFrom c p) ≡ answerFrom cw (c .nodes) (p ∷ [])
+    unfolding answerFrom typeOf roundAnswer
     answer-is h =
         let x : dart cw p 0 / 2 ≡ p = omega (arith, dart-zero cw p l) in
         rw (from-point 0 h, x, length-halves, ← normal-is, ← parity-is 0, ← parity-is 1, ← parity-is 2) refl

@@ -3,9 +3,9 @@ use Prim.Native.Nat.{ℕ, _+_, _*_, _-_, _/_, _<_}
 use mathlib.Core.Path.{_≡_, sym, ap, _∙_}
 use mathlib.Core.Logic.{_⊎_, _≢_, ⊎-elim}
 use native.Mathlib.Omega.{arith}
-use Rattle.slots.specs.Slots.{slotEdge, place, firstSlot, secondSlot}
+use Rattle.slots.specs.Slots.{slotEdge, edgeRank, firstSlot, secondSlot}
 use Rattle.slots.proofs.Slots.{EdgeSlot, first-slot, second-slot, slot-edge, two-slots}
-use Rattle.face.specs.Face.{joined, unjoined, count}
+use Rattle.face.specs.Face.{joined, unjoined, countOn}
 use Rattle.face.proofs.Ends.{edge-lt as face-edge-lt, edge-with}
 use Rattle.face.proofs.Claims.{faceLaws}
 use Rattle.walk.specs.Darts.{Darts, half, rev}
@@ -34,7 +34,7 @@ module _ (w : Edges) where
     bc = w .count (slotEdge s 2)
 
     abbrev j : ℕ
-    j = place s (edge w x)
+    j = edgeRank s (edge w x)
 
     abbrev t : ℕ
     t = index w x
@@ -49,7 +49,7 @@ module _ (w : Edges) where
 
     -- what a segment on the slot leads to
     module _ {i u : ℕ} (e : joinAt w s x ≡ joined i u) where
-      there : u < count ab ac bc i
+      there : u < countOn ab ac bc i
       unfolding joinAt
       there = faceLaws ab ac bc .there j t i u e .1
 
@@ -60,7 +60,7 @@ module _ (w : Edges) where
       joined-index = rw (slot-count w s i joined-edge) at there
 
     module _ (l : x < N) (S : EdgeSlot (edge w x) s) where
-      within : t < count ab ac bc j
+      within : t < countOn ab ac bc j
       within = rw (slot-count w s j (S .place-lt), S .edge-is) (lay w .index-lt x l)
 
       -- joined or not
@@ -83,11 +83,11 @@ module _ (w : Edges) where
       kl : slotEdge s i < 6
       kl = slot-edge s i sl il .lt
 
-      back : joinAt w s (number w (slotEdge s i) u) ≡ joined (place s (edge w x)) (index w x)
+      back : joinAt w s (number w (slotEdge s i) u) ≡ joined (edgeRank s (edge w x)) (index w x)
       unfolding joinAt
       back =
           rw (edge-number w (slotEdge s i) u kl (joined-index s x e), index-number w (slotEdge s i) u kl (joined-index s x e), slot-edge s i sl il .place-is)
-          (faceLaws (w .count (slotEdge s 0)) (w .count (slotEdge s 1)) (w .count (slotEdge s 2)) .back (place s (edge w x)) (index w x) i u e)
+          (faceLaws (w .count (slotEdge s 0)) (w .count (slotEdge s 1)) (w .count (slotEdge s 2)) .back (edgeRank s (edge w x)) (index w x) i u e)
 
       pub joined-lt : mate w s x < N
       joined-lt = rw (mate-joined s x e) (number-lt w (slotEdge s i) u kl (joined-index s x e))
@@ -101,8 +101,8 @@ module _ (w : Edges) where
           let m : number w (slotEdge s i) u ≡ x = sym (mate-joined s x e) ∙ q in
           let a : slotEdge s i ≡ edge w x = sym (edge-number w (slotEdge s i) u kl (joined-index s x e)) ∙ ap (edge w) m in
           let b : u ≡ index w x = sym (index-number w (slotEdge s i) u kl (joined-index s x e)) ∙ ap (index w) m in
-          let k : place s (edge w x) ≡ i = sym (ap (place s) a) ∙ slot-edge s i sl il .place-is in
-          faceLaws (w .count (slotEdge s 0)) (w .count (slotEdge s 1)) (w .count (slotEdge s 2)) .another (place s (edge w x)) (index w x) i u e (k, sym b)
+          let k : edgeRank s (edge w x) ≡ i = sym (ap (edgeRank s) a) ∙ slot-edge s i sl il .place-is in
+          faceLaws (w .count (slotEdge s 0)) (w .count (slotEdge s 1)) (w .count (slotEdge s 2)) .another (edgeRank s (edge w x)) (index w x) i u e (k, sym b)
 
       joined-lies : (firstSlot (edge w (mate w s x)) ≡ s) ⊎ (secondSlot (edge w (mate w s x)) ≡ s)
       joined-lies = rw (mate-joined s x e, edge-number w (slotEdge s i) u kl (joined-index s x e)) (slot-edge s i sl il .on)

@@ -9,14 +9,14 @@ use Rattle.counting.specs.Pick.{pick}
 use Rattle.counting.specs.Search.{every, first}
 use Rattle.counting.proofs.Bools.{imply}
 use Rattle.counting.proofs.Search.{every-is}
-use Rattle.slots.specs.Slots.{corner, edgeOf, slotEdge, place}
+use Rattle.slots.specs.Slots.{position, edgeBetween, slotEdge, edgeRank}
 use Rattle.face.specs.Face.{lower, upper, other, opposite}
 use Rattle.cell.specs.Half.{twin}
 use Rattle.cell.specs.Nodes.{Arranged, joining}
 
 -- the place of position a in slot d
 unfoldable pub pos : ℕ → ℕ → ℕ
-pos d a = first (λ i. eqb (corner d i) a) 3
+pos d a = first (λ i. eqb (position d i) a) 3
 
 -- other orders, each named by where it has the four
 module _ {a b c d : ℕ} (A : Arranged a b c d) where
@@ -55,31 +55,31 @@ module _ {a b c d : ℕ} (A : Arranged a b c d) where
 
   -- the edge ab: the same both ways
   pub both-ways : joining a b ≡ joining b a
-  unfolding Passes every differ joining edgeOf
+  unfolding Passes every differ joining edgeBetween
   both-ways = same (λ a b c d. joining a b) (λ a b c d. joining b a) refl
 
   -- its place in slot d, of which a is the lower or the upper end, ac the other edge at a, and bc the opposite edge
-  pub place-lt : place d (joining a b) < 3
-  unfolding Passes every differ joining place
-  place-lt = below (λ a b c d. place d (joining a b)) 3 refl
+  pub place-lt : edgeRank d (joining a b) < 3
+  unfolding Passes every differ joining edgeRank
+  place-lt = below (λ a b c d. edgeRank d (joining a b)) 3 refl
 
-  pub edge-is : slotEdge d (place d (joining a b)) ≡ joining a b
-  unfolding Passes every differ joining place slotEdge
-  edge-is = same (λ a b c d. slotEdge d (place d (joining a b))) (λ a b c d. joining a b) refl
+  pub edge-is : slotEdge d (edgeRank d (joining a b)) ≡ joining a b
+  unfolding Passes every differ joining edgeRank slotEdge
+  edge-is = same (λ a b c d. slotEdge d (edgeRank d (joining a b))) (λ a b c d. joining a b) refl
 
-  pub end-is : pos d a ≡ pick (ltb a b) (lower (place d (joining a b))) (upper (place d (joining a b)))
-  unfolding Passes every differ joining place pos first corner lower upper
-  end-is = same (λ a b c d. pos d a) (λ a b c d. pick (ltb a b) (lower (place d (joining a b))) (upper (place d (joining a b)))) refl
+  pub end-is : pos d a ≡ pick (ltb a b) (lower (edgeRank d (joining a b))) (upper (edgeRank d (joining a b)))
+  unfolding Passes every differ joining edgeRank pos first position lower upper
+  end-is = same (λ a b c d. pos d a) (λ a b c d. pick (ltb a b) (lower (edgeRank d (joining a b))) (upper (edgeRank d (joining a b)))) refl
 
-  pub other-is : other (pos d a) (place d (joining a b)) ≡ place d (joining a c)
-  unfolding Passes every differ joining place pos first corner other
-  other-is = same (λ a b c d. other (pos d a) (place d (joining a b))) (λ a b c d. place d (joining a c)) refl
+  pub other-is : other (pos d a) (edgeRank d (joining a b)) ≡ edgeRank d (joining a c)
+  unfolding Passes every differ joining edgeRank pos first position other
+  other-is = same (λ a b c d. other (pos d a) (edgeRank d (joining a b))) (λ a b c d. edgeRank d (joining a c)) refl
 
-  pub opposite-is : opposite (pos d a) ≡ place d (joining b c)
-  unfolding Passes every differ joining place pos first corner opposite
-  opposite-is = same (λ a b c d. opposite (pos d a)) (λ a b c d. place d (joining b c)) refl
+  pub opposite-is : opposite (pos d a) ≡ edgeRank d (joining b c)
+  unfolding Passes every differ joining edgeRank pos first position opposite
+  opposite-is = same (λ a b c d. opposite (pos d a)) (λ a b c d. edgeRank d (joining b c)) refl
 
   -- the half-edge of ac in slot d has its twin in slot b
-  pub twin-is : twin (3 * d + place d (joining a c)) ≡ 3 * b + place b (joining a c)
-  unfolding Passes every differ joining place twin
-  twin-is = same (λ a b c d. twin (3 * d + place d (joining a c))) (λ a b c d. 3 * b + place b (joining a c)) refl
+  pub twin-is : twin (3 * d + edgeRank d (joining a c)) ≡ 3 * b + edgeRank b (joining a c)
+  unfolding Passes every differ joining edgeRank twin
+  twin-is = same (λ a b c d. twin (3 * d + edgeRank d (joining a c))) (λ a b c d. 3 * b + edgeRank b (joining a c)) refl

@@ -6,13 +6,13 @@ use native.Mathlib.Omega.{arith}
 use lib.Dec.{eqb, ltb}
 use Rattle.counting.specs.Pick.{pick}
 use Rattle.slots.specs.Slots.{slotEdge}
-use Rattle.face.specs.Face.{joined, lower, upper, other, count, kth, faceJoin}
+use Rattle.face.specs.Face.{joined, lower, upper, other, countOn, kth, faceJoin}
 use Rattle.face.specs.Ends.{Edge, on-ab, on-ac, on-bc, End, low, high, Corners}
 use Rattle.face.proofs.Ends.{edge-of, edge-lt as face-edge-lt, on, end-other}
 use Rattle.face.proofs.Gaps.{corner-fits}
 use Rattle.face.proofs.Branches.{face-low, face-high, face-skip, face-up, face-down}
 use Rattle.cell.specs.Cell.{Edges, number, crossings, step}
-use Rattle.cell.specs.Half.{halfEdges, slotOf, placeOf, edgeOf, twin, around}
+use Rattle.cell.specs.Half.{halfEdges, slotOf, rankOf, edgeOf, twin, around}
 use Rattle.cell.specs.Route.{cornerOf}
 use Rattle.cell.specs.Dart.{Parts, dartNumber}
 use Rattle.cell.proofs.Half.{place-lt, twin-lt, twin-edge, half-edge}
@@ -28,30 +28,30 @@ before-lt l = omega arith
 
 -- the k-th crossing from the shared node, on the other edge there: counted from its own lower end, or turned
 module _ (ab ac bc : ℕ) where
-  kth-low : {e : ℕ} → Edge e → (k : ℕ) → kth ab ac bc (lower e) (other (lower e) e) k ≡ pick (eqb e 2) (count ab ac bc (other (lower e) e) - 1 - k) k
+  kth-low : {e : ℕ} → Edge e → (k : ℕ) → kth ab ac bc (lower e) (other (lower e) e) k ≡ pick (eqb e 2) (countOn ab ac bc (other (lower e) e) - 1 - k) k
   unfolding kth lower other
   kth-low on-ab k = refl
   kth-low on-ac k = refl
   kth-low on-bc k = refl
 
-  kth-high : {e : ℕ} → Edge e → (k : ℕ) → kth ab ac bc (upper e) (other (upper e) e) k ≡ pick (ltb 0 e) (count ab ac bc (other (upper e) e) - 1 - k) k
+  kth-high : {e : ℕ} → Edge e → (k : ℕ) → kth ab ac bc (upper e) (other (upper e) e) k ≡ pick (ltb 0 e) (countOn ab ac bc (other (upper e) e) - 1 - k) k
   unfolding kth lower upper other
   kth-high on-ab k = refl
   kth-high on-ac k = refl
   kth-high on-bc k = refl
 
-  kth-lt : (v e k : ℕ) → k < count ab ac bc e → kth ab ac bc v e k < count ab ac bc e
+  kth-lt : (v e k : ℕ) → k < countOn ab ac bc e → kth ab ac bc v e k < countOn ab ac bc e
   unfolding kth
   kth-lt v e k l = go (eqb v (lower e))
     where
-      go : (b : Bool) → pick b k (count ab ac bc e - 1 - k) < count ab ac bc e
+      go : (b : Bool) → pick b k (countOn ab ac bc e - 1 - k) < countOn ab ac bc e
       go true = l
       go false = omega arith
 
 module _ (w : Edges) where
   -- the count of edge j of slot s, as its face has it
-  pub slot-count : (s j : ℕ) → j < 3 → count (w .count (slotEdge s 0)) (w .count (slotEdge s 1)) (w .count (slotEdge s 2)) j ≡ w .count (slotEdge s j)
-  unfolding count
+  pub slot-count : (s j : ℕ) → j < 3 → countOn (w .count (slotEdge s 0)) (w .count (slotEdge s 1)) (w .count (slotEdge s 2)) j ≡ w .count (slotEdge s j)
+  unfolding countOn
   slot-count s zero l = refl
   slot-count s (suc zero) l = refl
   slot-count s (suc (suc zero)) l = refl
@@ -68,53 +68,53 @@ module _ (w : Edges) where
     bc = w .count (slotEdge (slotOf h) 2)
 
     module _ (l : h < halfEdges) where
-      own : Edge (placeOf h)
-      own = edge-of (placeOf h) (place-lt h l)
+      own : Edge (rankOf h)
+      own = edge-of (rankOf h) (place-lt h l)
 
-      own-count : count ab ac bc (placeOf h) ≡ w .count (edgeOf h)
+      own-count : countOn ab ac bc (rankOf h) ≡ w .count (edgeOf h)
       unfolding edgeOf
-      own-count = slot-count (slotOf h) (placeOf h) (place-lt h l)
+      own-count = slot-count (slotOf h) (rankOf h) (place-lt h l)
 
       -- the counts of the edge and of its two corners, as its face has them
-      corners : Corners ab ac bc (placeOf h) (w .count (edgeOf h)) (cornerOf w (lower (placeOf h)) h) (cornerOf w (upper (placeOf h)) h)
+      corners : Corners ab ac bc (rankOf h) (w .count (edgeOf h)) (cornerOf w (lower (rankOf h)) h) (cornerOf w (upper (rankOf h)) h)
       unfolding cornerOf
       corners = record { edge = own; own = sym own-count; at-lower = refl; at-upper = refl }
 
       -- the crossings of the next edge round the node v
-      next-count : (v : ℕ) → End v (placeOf h) → count ab ac bc (other v (placeOf h)) ≡ w .count (edgeOf (around v h))
+      next-count : (v : ℕ) → End v (rankOf h) → countOn ab ac bc (other v (rankOf h)) ≡ w .count (edgeOf (around v h))
       unfolding around
       next-count v E =
-          let i = other v (placeOf h) in
+          let i = other v (rankOf h) in
           let il : i < 3 = face-edge-lt (on (end-other E)) in
           let gl : 3 * slotOf h + i < halfEdges = omega arith in
           slot-count (slotOf h) i il ∙ ap (w .count) (sym (twin-edge (3 * slotOf h + i) gl ∙ half-edge (slotOf h) i il))
 
-      around-lt : (v : ℕ) → End v (placeOf h) → around v h < halfEdges
+      around-lt : (v : ℕ) → End v (rankOf h) → around v h < halfEdges
       unfolding around
       around-lt v E =
-          let il : other v (placeOf h) < 3 = face-edge-lt (on (end-other E)) in
-          twin-lt (3 * slotOf h + other v (placeOf h)) (omega arith)
+          let il : other v (rankOf h) < 3 = face-edge-lt (on (end-other E)) in
+          twin-lt (3 * slotOf h + other v (rankOf h)) (omega arith)
 
-      pub low-lt : around (lower (placeOf h)) h < halfEdges
-      low-lt = around-lt (lower (placeOf h)) (low own)
+      pub low-lt : around (lower (rankOf h)) h < halfEdges
+      low-lt = around-lt (lower (rankOf h)) (low own)
 
-      pub high-lt : around (upper (placeOf h)) h < halfEdges
-      high-lt = around-lt (upper (placeOf h)) (high own)
+      pub high-lt : around (upper (rankOf h)) h < halfEdges
+      high-lt = around-lt (upper (rankOf h)) (high own)
 
       -- a corner's crossings are on both of its edges
-      around-fits : (v k : ℕ) → End v (placeOf h) → k < cornerOf w v h → k < w .count (edgeOf (around v h))
+      around-fits : (v k : ℕ) → End v (rankOf h) → k < cornerOf w v h → k < w .count (edgeOf (around v h))
       unfolding cornerOf
-      around-fits v k E l = omega (arith, next-count v E, corner-fits ab ac bc v (placeOf h))
+      around-fits v k E l = omega (arith, next-count v E, corner-fits ab ac bc v (rankOf h))
 
-      pub low-fits : (k : ℕ) → k < cornerOf w (lower (placeOf h)) h → k < w .count (edgeOf (around (lower (placeOf h)) h))
-      low-fits k = around-fits (lower (placeOf h)) k (low own)
+      pub low-fits : (k : ℕ) → k < cornerOf w (lower (rankOf h)) h → k < w .count (edgeOf (around (lower (rankOf h)) h))
+      low-fits k = around-fits (lower (rankOf h)) k (low own)
 
-      pub high-fits : (k : ℕ) → k < cornerOf w (upper (placeOf h)) h → k < w .count (edgeOf (around (upper (placeOf h)) h))
-      high-fits k = around-fits (upper (placeOf h)) k (high own)
+      pub high-fits : (k : ℕ) → k < cornerOf w (upper (rankOf h)) h → k < w .count (edgeOf (around (upper (rankOf h)) h))
+      high-fits k = around-fits (upper (rankOf h)) k (high own)
 
   module _ {h t x : ℕ} (P : Parts w h t x) where
     abbrev j : ℕ
-    j = placeOf h
+    j = rankOf h
 
     abbrev l : h < halfEdges
     l = P .half-lt

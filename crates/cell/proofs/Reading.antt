@@ -15,7 +15,7 @@ use Rattle.counting.proofs.Range.{length-over, total-ext, total-next}
 use Rattle.counting.proofs.Fronts.{sets-front}
 use Rattle.cell.specs.declared.Cell.{Cell}
 use Rattle.cell.specs.Cell.{Edges, crossings}
-use Rattle.cell.specs.Loop.{loopSize, leasts, answerOf, loopAnswer}
+use Rattle.cell.specs.Loop.{loopSize, leasts, answerFrom, loopAnswer}
 use Rattle.cell.specs.Of.{edgesOf}
 use Rattle.cell.specs.Route.{mostInCell, mostLoops}
 use Rattle.cell.specs.Trace.{each, fronted, leastsOf, halvesFrom, pointsFrom, Traced, From}
@@ -65,8 +65,8 @@ module _ (c : Cell) where
   leasts-few = omega (arith, done-few (crossings w) (omega arith), ap length (done-all c), sizes w)
 
   pub answer-none : (k : ℕ) → length (leastsOf c) ≤ k → loopAnswer w (c .nodes) k ≡ result []
-  unfolding loopAnswer answerOf
-  answer-none k h = ap (answerOf w (c .nodes)) (drop-of-length-le (leastsOf c) {i = k} h)
+  unfolding loopAnswer answerFrom
+  answer-none k h = ap (answerFrom w (c .nodes)) (drop-of-length-le (leastsOf c) {i = k} h)
 
 -- a trace changes no length
 module _ {c : Cell} {ms hs ps ls ms′ hs′ ps′ ls′ : List ℕ} (T : Traced c ms hs ps ls ms′ hs′ ps′ ls′) where
@@ -205,8 +205,8 @@ module _ {c : Cell} {j at : ℕ} {ls hs ps : List ℕ} (F : From c j at ls hs ps
     from-on = rw e-is from-next
 
   pub from-answer : roundAnswer (c .nodes) (halvesFrom c p) (pointsFrom c p) ≡ loopAnswer (edgesOf c) (c .nodes) j
-  unfolding loopAnswer answerOf
-  from-answer = answer-is c p from-in from-some ∙ sym (ap (answerOf (edgesOf c) (c .nodes)) from-drop)
+  unfolding loopAnswer answerFrom
+  from-answer = answer-is c p from-in from-some ∙ sym (ap (answerFrom (edgesOf c) (c .nodes)) from-drop)
 
 -- the record from its loop k on
 skipped : {c : Cell} {ls hs ps : List ℕ} → From c 0 0 ls hs ps → (k : ℕ) → k ≤ length (leastsOf c) → From c k (total (λ j. getD ls j 0) k 0) ls hs ps

@@ -15,8 +15,8 @@ use Rattle.cell.specs.declared.Next.{Next}
 use Rattle.cell.specs.declared.Next.the-variants.{On, End}
 use Rattle.cell.specs.Cell.{Edges, crossings, number, step}
 use Rattle.cell.specs.Of.{edgesOf}
-use Rattle.cell.specs.Half.{halfEdges, placeOf, edgeOf}
-use Rattle.cell.specs.Route.{cornerOf, columns, lowAt, highAt, countAt, roundLowAt, roundHighAt, twinAt, placeAt, mostInCell, Routed}
+use Rattle.cell.specs.Half.{halfEdges, rankOf, edgeOf}
+use Rattle.cell.specs.Route.{cornerOf, columns, lowAt, highAt, countAt, roundLowAt, roundHighAt, twinAt, rankAt, mostInCell, Routed}
 use Rattle.cell.specs.Dart.{Spot, IsDartAt, Ready, Turns, Between, Leads, Onward, dartNumber, dartOf}
 use Rattle.cell.proofs.Half.{twin-lt}
 use Rattle.cell.proofs.Reach.{Reach, low-lt, high-lt, low-fits, high-fits, turn-low, turn-high, between-end, between-up, between-down}
@@ -53,10 +53,10 @@ module _ {c : Cell} {t : List ℕ} {d : Dart} (R : Ready c t d) where
   abbrev own : ℕ → ℕ
   own i = getD t (columns * h + i) 0
 
-  pub low-is : own lowAt ≡ cornerOf w (lower (placeOf h)) h
+  pub low-is : own lowAt ≡ cornerOf w (lower (rankOf h)) h
   low-is = low-at (R .routed) h l
 
-  pub high-is : own highAt ≡ cornerOf w (upper (placeOf h)) h
+  pub high-is : own highAt ≡ cornerOf w (upper (rankOf h)) h
   high-is = high-at (R .routed) h l
 
   pub count-is : own countAt ≡ w .count (edgeOf h)
@@ -66,14 +66,14 @@ module _ {c : Cell} {t : List ℕ} {d : Dart} (R : Ready c t d) where
   index-small = omega (arith, fits (R .routed) h l (d .index) (R .dart .index-lt))
 
   -- round the lower end, and round the upper one
-  pub to-low : d .index < own lowAt → Turns w d (own roundLowAt) (d .index) (eqb (own placeAt) 2)
+  pub to-low : d .index < own lowAt → Turns w d (own roundLowAt) (d .index) (eqb (own rankAt) 2)
   to-low b =
-      let a : d .index < cornerOf w (lower (placeOf h)) h = rw low-is at b in
+      let a : d .index < cornerOf w (lower (rankOf h)) h = rw low-is at b in
       rw (low-next-at (R .routed) h l, place-at (R .routed) h l) (record { half-lt = low-lt w h l; room = low-fits w h l (d .index) a; is = turn-low w (R .dart) a .is })
 
-  pub to-high : (k : ℕ) → k ≡ own countAt - 1 - d .index → k < own highAt → Turns w d (own roundHighAt) k (ltb 0 (own placeAt))
+  pub to-high : (k : ℕ) → k ≡ own countAt - 1 - d .index → k < own highAt → Turns w d (own roundHighAt) k (ltb 0 (own rankAt))
   to-high k e b =
-      let a : k < cornerOf w (upper (placeOf h)) h = rw high-is at b in
+      let a : k < cornerOf w (upper (rankOf h)) h = rw high-is at b in
       rw (high-next-at (R .routed) h l, place-at (R .routed) h l)
       (record { half-lt = high-lt w h l; room = high-fits w h l k a; is = turn-high w (R .dart) k (rw count-is at e) a .is })
 
@@ -82,7 +82,7 @@ module _ {c : Cell} {t : List ℕ} {d : Dart} (R : Ready c t d) where
     abbrev up : ℕ
     up = own countAt - own highAt - d .index
 
-    up-is : up ≡ w .count (edgeOf h) - cornerOf w (upper (placeOf h)) h - d .index
+    up-is : up ≡ w .count (edgeOf h) - cornerOf w (upper (rankOf h)) h - d .index
     up-is = rw (high-is, count-is) refl
 
     -- it stands below them
@@ -93,14 +93,14 @@ module _ {c : Cell} {t : List ℕ} {d : Dart} (R : Ready c t d) where
     to-up z = rw (twin-at (R .routed) h l) (between-up w (R .dart) (B .low) (B .high) (rw up-is at z))
 
     module _ (z : up % 2 ≢ 0) where
-      odd : (w .count (edgeOf h) - cornerOf w (upper (placeOf h)) h - d .index) % 2 ≡ 1
-      odd = let n = rw up-is at z in odd-one (w .count (edgeOf h) - cornerOf w (upper (placeOf h)) h - d .index) n
+      odd : (w .count (edgeOf h) - cornerOf w (upper (rankOf h)) h - d .index) % 2 ≡ 1
+      odd = let n = rw up-is at z in odd-one (w .count (edgeOf h) - cornerOf w (upper (rankOf h)) h - d .index) n
 
       pub to-end : d .index ≡ own lowAt → step w (dartOf d) ≡ 2 * crossings w
       to-end e = between-end w (R .dart) (B .low) (B .high) odd (e ∙ low-is)
 
       module _ (e : d .index ≢ own lowAt) where
-        past-low : cornerOf w (lower (placeOf h)) h < d .index
+        past-low : cornerOf w (lower (rankOf h)) h < d .index
         past-low = let n = rw low-is at e in omega (arith, B .low)
 
         pub down-pos : 1 ≤ d .index

@@ -29,8 +29,8 @@ use Rattle.cell.specs.declared.Cell.{Cell}
 use Rattle.cell.specs.declared.Run.{Run}
 use Rattle.cell.specs.Cell.{Edges, ahead, base, number, holds, crossings}
 use Rattle.cell.specs.Of.{countOf, startOf, edgesOf}
-use Rattle.cell.specs.Half.{halfEdges, slotOf, placeOf, edgeOf, halfOf, twin, around}
-use Rattle.cell.specs.Route.{columns, lowAt, highAt, countAt, firstAt, startAt, roundLowAt, roundHighAt, twinAt, placeAt, cornerOf, front, fronts, links, Firsts, IsRun, SlotRuns, Routed, mostCount, mostInCell, startLimit}
+use Rattle.cell.specs.Half.{halfEdges, slotOf, rankOf, edgeOf, halfOf, twin, around}
+use Rattle.cell.specs.Route.{columns, lowAt, highAt, countAt, firstAt, startAt, roundLowAt, roundHighAt, twinAt, rankAt, cornerOf, front, fronts, links, Firsts, IsRun, SlotRuns, Routed, mostCount, mostInCell, startLimit}
 use Rattle.cell.proofs.Lay.{base-all, laid-same}
 use Rattle.cell.proofs.Half.{edge-lt, half-slot, half-place, half-edge, first-half}
 
@@ -210,11 +210,11 @@ module _ {c : Cell} {t : List ℕ} (R : Routed c t) where
   w = edgesOf c
 
   module _ (h : ℕ) (l : h < halfEdges) where
-    pub low-at : getD t (columns * h + lowAt) 0 ≡ cornerOf w (lower (placeOf h)) h
+    pub low-at : getD t (columns * h + lowAt) 0 ≡ cornerOf w (lower (rankOf h)) h
     unfolding front
     low-at = R .counted h lowAt l (omega arith)
 
-    pub high-at : getD t (columns * h + highAt) 0 ≡ cornerOf w (upper (placeOf h)) h
+    pub high-at : getD t (columns * h + highAt) 0 ≡ cornerOf w (upper (rankOf h)) h
     unfolding front
     high-at = R .counted h 1 l (omega arith)
 
@@ -233,11 +233,11 @@ module _ {c : Cell} {t : List ℕ} (R : Routed c t) where
     pub start-near : startOf c (edgeOf h) < startLimit
     start-near = R .near (edgeOf h) (edge-lt h l)
 
-    pub low-next-at : getD t (columns * h + roundLowAt) 0 ≡ around (lower (placeOf h)) h
+    pub low-next-at : getD t (columns * h + roundLowAt) 0 ≡ around (lower (rankOf h)) h
     unfolding links
     low-next-at = R .linked h 0 l (omega arith)
 
-    pub high-next-at : getD t (columns * h + roundHighAt) 0 ≡ around (upper (placeOf h)) h
+    pub high-next-at : getD t (columns * h + roundHighAt) 0 ≡ around (upper (rankOf h)) h
     unfolding links
     high-next-at = R .linked h 1 l (omega arith)
 
@@ -245,7 +245,7 @@ module _ {c : Cell} {t : List ℕ} (R : Routed c t) where
     unfolding links
     twin-at = R .linked h 2 l (omega arith)
 
-    pub place-at : getD t (columns * h + placeAt) 0 ≡ placeOf h
+    pub place-at : getD t (columns * h + rankAt) 0 ≡ rankOf h
     unfolding links
     place-at = R .linked h 3 l (omega arith)
 

@@ -14,14 +14,14 @@ use Rattle.face.specs.Face.{joined, unjoined, faceJoin}
 use Rattle.walk.specs.Step as walk
 use Rattle.walk.proofs.Step.{face-first, face-second, land-first, land-second}
 use Rattle.cell.specs.Cell.{Edges, crossings, edge, index, number, joinAt, joinedTo, mate, first, second, slot, step}
-use Rattle.cell.specs.Half.{halfEdges, slotOf, placeOf, edgeOf, twin}
+use Rattle.cell.specs.Half.{halfEdges, slotOf, rankOf, edgeOf, twin}
 use Rattle.cell.specs.Dart.{Parts, dartNumber}
 use Rattle.cell.proofs.Lay.{lay}
 use Rattle.cell.proofs.Half.{slot-lt, edge-lt, place-is, within, twin-edge, twin-second, twin-first, half-slot, half-edge}
 
 -- the answer of the face call on the slot of half-edge h
 unfoldable pub joinOn : Edges → ℕ → ℕ → List ℕ
-joinOn w h t = faceJoin (w .count (slotEdge (slotOf h) 0)) (w .count (slotEdge (slotOf h) 1)) (w .count (slotEdge (slotOf h) 2)) (placeOf h) t
+joinOn w h t = faceJoin (w .count (slotEdge (slotOf h) 0)) (w .count (slotEdge (slotOf h) 1)) (w .count (slotEdge (slotOf h) 2)) (rankOf h) t
 
 -- the dart of crossing x that leaves by half-edge h is the first or the second
 module _ (h x : ℕ) where

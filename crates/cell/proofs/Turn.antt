@@ -7,8 +7,8 @@ use native.Mathlib.Omega.{arith}
 use lib.Dec.{ltb}
 use borrow.Author.Tests.{ltb-true, ltb-false}
 use Rattle.counting.specs.Pick.{pick}
-use Rattle.slots.specs.Slots.{slotEdge, place}
-use Rattle.face.specs.Face.{joined, lower, upper, count, kth, cornerAt}
+use Rattle.slots.specs.Slots.{slotEdge, edgeRank}
+use Rattle.face.specs.Face.{joined, lower, upper, countOn, kth, cornerCountAt}
 use Rattle.face.specs.Ends.{End, low, high}
 use Rattle.face.proofs.Ends.{edge-of}
 use Rattle.face.proofs.Gaps.{kth-lower, kth-upper}
@@ -20,15 +20,15 @@ use Rattle.cell.specs.Dart.{Parts}
 use Rattle.cell.proofs.Half.{half-slot, half-place, half-edge}
 use Rattle.cell.proofs.Reach.{slot-count}
 use Rattle.cell.proofs.Step.{joinOn, number-half, step-joined, parts-number, parts-edge, parts-index, parts-slot}
-use Rattle.cell.specs.Nodes.{Arranged, joining, between, kthFrom, crossingAt, dartAt, cornerCount}
+use Rattle.cell.specs.Nodes.{Arranged, joining, countBetween, kthFrom, crossingAt, dartAt, cornerFrom}
 use Rattle.cell.proofs.Nodes.{pos, acbd, bcad, both-ways, place-lt, edge-is, end-is, other-is, opposite-is, twin-is}
 
 module _ (w : Edges) where
-  kth-lt : (a b k : ℕ) → k < between w a b → kthFrom w a b k < between w a b
+  kth-lt : (a b k : ℕ) → k < countBetween w a b → kthFrom w a b k < countBetween w a b
   unfolding kthFrom
   kth-lt a b k l = go (ltb a b)
     where
-      go : (t : Bool) → pick t k (between w a b - 1 - k) < between w a b
+      go : (t : Bool) → pick t k (countBetween w a b - 1 - k) < countBetween w a b
       go true = l
       go false = omega arith
 
@@ -44,87 +44,87 @@ module _ (w : Edges) where
     e2 = w .count (slotEdge d 2)
 
     -- counted from the other end
-    kth-flip : (k : ℕ) → k < between w a b → kthFrom w a b k ≡ kthFrom w b a (between w a b - 1 - k)
+    kth-flip : (k : ℕ) → k < countBetween w a b → kthFrom w a b k ≡ kthFrom w b a (countBetween w a b - 1 - k)
     unfolding kthFrom
-    kth-flip k l = rw (between, ← both-ways A) (go (ltb a b) (ltb b a) refl refl)
+    kth-flip k l = rw (countBetween, ← both-ways A) (go (ltb a b) (ltb b a) refl refl)
       where
-        go : (s t : Bool) → ltb a b ≡ s → ltb b a ≡ t → pick s k (between w a b - 1 - k) ≡ pick t (between w a b - 1 - k) (between w a b - 1 - (between w a b - 1 - k))
+        go : (s t : Bool) → ltb a b ≡ s → ltb b a ≡ t → pick s k (countBetween w a b - 1 - k) ≡ pick t (countBetween w a b - 1 - k) (countBetween w a b - 1 - (countBetween w a b - 1 - k))
         go true true p q = absurd (omega (arith, ltb-true a b p, ltb-true b a q))
         go true false p q = omega arith
         go false true p q = refl
         go false false p q = absurd (omega (arith, ltb-false a b p, ltb-false b a q, A .ab))
 
-    crossing-flip : (k : ℕ) → k < between w a b → crossingAt w a b k ≡ crossingAt w b a (between w a b - 1 - k)
+    crossing-flip : (k : ℕ) → k < countBetween w a b → crossingAt w a b k ≡ crossingAt w b a (countBetween w a b - 1 - k)
     unfolding crossingAt
     crossing-flip k l = rw (kth-flip k l, both-ways A) refl
 
-    pub dart-flip : (k : ℕ) → k < between w a b → dartAt w a b d k ≡ dartAt w b a d (between w a b - 1 - k)
+    pub dart-flip : (k : ℕ) → k < countBetween w a b → dartAt w a b d k ≡ dartAt w b a d (countBetween w a b - 1 - k)
     unfolding dartAt
     dart-flip k l = rw (crossing-flip k l, both-ways A) refl
 
-    pub count-is : count e0 e1 e2 (place d (joining a b)) ≡ between w a b
-    count-is = slot-count w d (place d (joining a b)) (place-lt A) ∙ ap (w .count) (edge-is A)
+    pub count-is : countOn e0 e1 e2 (edgeRank d (joining a b)) ≡ countBetween w a b
+    count-is = slot-count w d (edgeRank d (joining a b)) (place-lt A) ∙ ap (w .count) (edge-is A)
 
-    kth-is : (k : ℕ) → kth e0 e1 e2 (pos d a) (place d (joining a b)) k ≡ kthFrom w a b k
+    kth-is : (k : ℕ) → kth e0 e1 e2 (pos d a) (edgeRank d (joining a b)) k ≡ kthFrom w a b k
     unfolding kthFrom
     kth-is k = rw (end-is A) (go (ltb a b))
       where
-        go : (t : Bool) → kth e0 e1 e2 (pick t (lower (place d (joining a b))) (upper (place d (joining a b)))) (place d (joining a b)) k ≡ pick t k (between w a b - 1 - k)
-        go true = kth-lower e0 e1 e2 (place d (joining a b)) k
-        go false = kth-upper e0 e1 e2 k (edge-of (place d (joining a b)) (place-lt A)) ∙ ap (λ n. n - 1 - k) count-is
+        go : (t : Bool) → kth e0 e1 e2 (pick t (lower (edgeRank d (joining a b))) (upper (edgeRank d (joining a b)))) (edgeRank d (joining a b)) k ≡ pick t k (countBetween w a b - 1 - k)
+        go true = kth-lower e0 e1 e2 (edgeRank d (joining a b)) k
+        go false = kth-upper e0 e1 e2 k (edge-of (edgeRank d (joining a b)) (place-lt A)) ∙ ap (λ n. n - 1 - k) count-is
 
-    pub ends : End (pos d a) (place d (joining a b))
+    pub ends : End (pos d a) (edgeRank d (joining a b))
     ends = rw (end-is A) (go (ltb a b))
       where
-        go : (t : Bool) → End (pick t (lower (place d (joining a b))) (upper (place d (joining a b)))) (place d (joining a b))
-        go true = low (edge-of (place d (joining a b)) (place-lt A))
-        go false = high (edge-of (place d (joining a b)) (place-lt A))
+        go : (t : Bool) → End (pick t (lower (edgeRank d (joining a b))) (upper (edgeRank d (joining a b)))) (edgeRank d (joining a b))
+        go true = low (edge-of (edgeRank d (joining a b)) (place-lt A))
+        go false = high (edge-of (edgeRank d (joining a b)) (place-lt A))
 
   module _ {a b c d : ℕ} (A : Arranged a b c d) where
-    parts : (k : ℕ) → k < between w a b → Parts w (3 * d + place d (joining a b)) (kthFrom w a b k) (crossingAt w a b k)
+    parts : (k : ℕ) → k < countBetween w a b → Parts w (3 * d + edgeRank d (joining a b)) (kthFrom w a b k) (crossingAt w a b k)
     unfolding crossingAt
     parts k l =
-        let e : edgeOf (3 * d + place d (joining a b)) ≡ joining a b = half-edge d (place d (joining a b)) (place-lt A) ∙ edge-is A in
+        let e : edgeOf (3 * d + edgeRank d (joining a b)) ≡ joining a b = half-edge d (edgeRank d (joining a b)) (place-lt A) ∙ edge-is A in
         record { half-lt = omega (arith, place-lt A, A .d-lt); index-lt = rw e (kth-lt a b k l); number-is = rw e refl }
 
-    corner-is : cornerAt (e0 A) (e1 A) (e2 A) (pos d a) (place d (joining a b)) ≡ cornerCount w a b c
-    unfolding cornerAt cornerCount
+    corner-is : cornerCountAt (e0 A) (e1 A) (e2 A) (pos d a) (edgeRank d (joining a b)) ≡ cornerFrom w a b c
+    unfolding cornerCountAt cornerFrom
     corner-is = rw (other-is A, opposite-is A, count-is A, count-is (acbd A), count-is (bcad A))
 
     -- the k-th crossings from a are joined
-    joins : (k : ℕ) → k < cornerCount w a b c
-        → joinOn w (3 * d + place d (joining a b)) (kthFrom w a b k) ≡ joined (place d (joining a c)) (kthFrom w a c k)
+    joins : (k : ℕ) → k < cornerFrom w a b c
+        → joinOn w (3 * d + edgeRank d (joining a b)) (kthFrom w a b k) ≡ joined (edgeRank d (joining a c)) (kthFrom w a c k)
     unfolding joinOn
     joins k l =
-        rw (half-slot d (place d (joining a b)) (place-lt A), half-place d (place d (joining a b)) (place-lt A))
-        (rw (kth-is A k, other-is A, kth-is (acbd A) k) at (faceLaws (e0 A) (e1 A) (e2 A) .corner (pos d a) (place d (joining a b)) k (ends A) (rw corner-is l)))
+        rw (half-slot d (edgeRank d (joining a b)) (place-lt A), half-place d (edgeRank d (joining a b)) (place-lt A))
+        (rw (kth-is A k, other-is A, kth-is (acbd A) k) at (faceLaws (e0 A) (e1 A) (e2 A) .corner (pos d a) (edgeRank d (joining a b)) k (ends A) (rw corner-is l)))
 
     -- the step round a corner
-    pub turn : (k : ℕ) → k < cornerCount w a b c → step w (dartAt w a b d k) ≡ dartAt w a c b k
-    unfolding dartAt crossingAt cornerCount
+    pub turn : (k : ℕ) → k < cornerFrom w a b c → step w (dartAt w a b d k) ≡ dartAt w a c b k
+    unfolding dartAt crossingAt cornerFrom
     turn k l =
         let C = acbd A in
-        let kb : k < between w a b = omega (arith, corner-le (between w a b) (between w a c) (between w b c)) in
-        let kc : k < between w a c = omega (arith, corner-le (between w a b) (between w a c) (between w b c)) in
-        let s = half-slot d (place d (joining a b)) (place-lt A) in
-        let e = step-joined w (parts k kb) (place d (joining a c)) (kthFrom w a c k) (place-lt C) (rw (s, edge-is C) (kth-lt a c k kc)) (joins k l) in
+        let kb : k < countBetween w a b = omega (arith, corner-le (countBetween w a b) (countBetween w a c) (countBetween w b c)) in
+        let kc : k < countBetween w a c = omega (arith, corner-le (countBetween w a b) (countBetween w a c) (countBetween w b c)) in
+        let s = half-slot d (edgeRank d (joining a b)) (place-lt A) in
+        let e = step-joined w (parts k kb) (edgeRank d (joining a c)) (kthFrom w a c k) (place-lt C) (rw (s, edge-is C) (kth-lt a c k kc)) (joins k l) in
         rw (s, twin-is A, edge-is C) at e
 
   -- what a dart is read from
-  module _ {a b c d : ℕ} (A : Arranged a b c d) (k : ℕ) (l : k < between w a b) where
+  module _ {a b c d : ℕ} (A : Arranged a b c d) (k : ℕ) (l : k < countBetween w a b) where
     crossing-lt : crossingAt w a b k < crossings w
     crossing-lt = parts-number w (parts A k l)
 
     dart-half : dartAt w a b d k / 2 ≡ crossingAt w a b k
     unfolding dartAt
-    dart-half = number-half (3 * d + place d (joining a b)) (crossingAt w a b k)
+    dart-half = number-half (3 * d + edgeRank d (joining a b)) (crossingAt w a b k)
 
     pub dart-lt : dartAt w a b d k < 2 * crossings w
     dart-lt = omega (arith, crossing-lt, dart-half)
 
     pub dart-edge : edge w (dartAt w a b d k / 2) ≡ joining a b
     unfolding dartAt
-    dart-edge = parts-edge w (parts A k l) ∙ half-edge d (place d (joining a b)) (place-lt A) ∙ edge-is A
+    dart-edge = parts-edge w (parts A k l) ∙ half-edge d (edgeRank d (joining a b)) (place-lt A) ∙ edge-is A
 
     pub dart-index : index w (dartAt w a b d k / 2) ≡ kthFrom w a b k
     unfolding dartAt
@@ -132,4 +132,4 @@ module _ (w : Edges) where
 
     pub dart-slot : slot w (dartAt w a b d k) ≡ d
     unfolding dartAt
-    dart-slot = parts-slot w (parts A k l) ∙ half-slot d (place d (joining a b)) (place-lt A)
+    dart-slot = parts-slot w (parts A k l) ∙ half-slot d (edgeRank d (joining a b)) (place-lt A)

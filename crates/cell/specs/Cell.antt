@@ -10,7 +10,7 @@ use Rattle.counting.specs.Pick.{pick}
 use Rattle.counting.specs.Range.{total}
 use Rattle.counting.specs.Search as search
 use Rattle.counting.specs.Pack.{pre}
-use Rattle.slots.specs.Slots.{slotEdge, place, firstSlot, secondSlot}
+use Rattle.slots.specs.Slots.{slotEdge, edgeRank, firstSlot, secondSlot}
 use Rattle.face.specs.Face.{faceJoin}
 use Rattle.walk.specs.Step as walk
 
@@ -49,7 +49,7 @@ module _ (w : Edges) where
   -- the face call's answer for crossing x on slot s
   unfoldable pub joinAt : ℕ → ℕ → List ℕ
   unfolding faceJoin
-  joinAt s x = faceJoin (w .count (slotEdge s 0)) (w .count (slotEdge s 1)) (w .count (slotEdge s 2)) (place s (edge x)) (index x)
+  joinAt s x = faceJoin (w .count (slotEdge s 0)) (w .count (slotEdge s 1)) (w .count (slotEdge s 2)) (edgeRank s (edge x)) (index x)
 
   -- the crossing that an answer on slot s leads to, by its case, edge and index; the number of crossings where it is not joined
   unfoldable pub joinedTo : ℕ → List ℕ → ℕ

@@ -40,8 +40,8 @@ module _ (w : Edges) where
   AllJoined = (s x : ℕ) → Lies s x → Joined s x
 
   -- the dart d runs along the segment from x on slot s, one way or the other: it leaves by that slot, from either end
-  unfoldable pub along : (s x d : ℕ) → Bool
-  along s x d = eqb (slot w d) s && (eqb (d / 2) x || eqb (d / 2) (mate w s x))
+  unfoldable pub runsAlong : (s x d : ℕ) → Bool
+  runsAlong s x d = eqb (slot w d) s && (eqb (d / 2) x || eqb (d / 2) (mate w s x))
 
   -- a step from dart d: along a segment of the face that d leaves by, to its other end, and on by that crossing's other face
   pub record StepOf (d : ℕ) : Type 0 where
@@ -76,8 +76,8 @@ pub record CellLaws (w : Edges) (v : List ℕ) : Type 0 where
   pub follows : (d : ℕ) → d < 2 * crossings w → step w d < 2 * crossings w → StepOf w d
   pub goes : (d : ℕ) → d < 2 * crossings w → Joined w (slot w d) (d / 2) → step w d < 2 * crossings w
   -- each segment of the cell's faces is on at most one loop, once; on exactly one where no crossing of the cell is unjoined
-  pub most : (s x : ℕ) → Lies w s x → Joined w s x → tally (along w s x) (flat (crossings w) (step w)) ≤ 1
-  pub exactly : AllJoined w → (s x : ℕ) → Lies w s x → tally (along w s x) (flat (crossings w) (step w)) ≡ 1
+  pub most : (s x : ℕ) → Lies w s x → Joined w s x → tally (runsAlong w s x) (flat (crossings w) (step w)) ≤ 1
+  pub exactly : AllJoined w → (s x : ℕ) → Lies w s x → tally (runsAlong w s x) (flat (crossings w) (step w)) ≡ 1
   -- a loop of three segments is normal, and a corner
   pub three-normal : (p : ℕ) → p < crossings w → loopSize w p ≡ 3 → normal w p ≡ true
   pub three-corner : (p : ℕ) → p < crossings w → loopSize w p ≡ 3 → (getD (typeOf w v p) 0 0 ≡ 1) ⊎ (getD (typeOf w v p) 0 0 ≡ 3)

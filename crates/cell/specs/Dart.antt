@@ -12,7 +12,7 @@ use Rattle.cell.specs.declared.Dart.{Dart}
 use Rattle.cell.specs.declared.Next.{Next}
 use Rattle.cell.specs.declared.Next.the-variants.{On, End}
 use Rattle.cell.specs.Cell.{Edges, number, crossings, step}
-use Rattle.cell.specs.Half.{halfEdges, slotOf, placeOf, edgeOf}
+use Rattle.cell.specs.Half.{halfEdges, slotOf, rankOf, edgeOf}
 use Rattle.cell.specs.Of.{edgesOf}
 use Rattle.cell.specs.Route.{cornerOf, Routed}
 
@@ -41,8 +41,8 @@ pub record Ready (c : Cell) (t : List ℕ) (d : Dart) : Type 0 where
 
 -- the dart is below neither corner count
 pub record Between (w : Edges) (d : Dart) : Type 0 where
-  pub low : cornerOf w (lower (placeOf (d .half))) (d .half) ≤ d .index
-  pub high : d .index + cornerOf w (upper (placeOf (d .half))) (d .half) < w .count (edgeOf (d .half))
+  pub low : cornerOf w (lower (rankOf (d .half))) (d .half) ≤ d .index
+  pub high : d .index + cornerOf w (upper (rankOf (d .half))) (d .half) < w .count (edgeOf (d .half))
 
 -- its number: the first dart of its crossing if it leaves by the first slot, else the second
 unfoldable pub dartNumber : ℕ → ℕ → ℕ

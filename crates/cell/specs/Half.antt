@@ -1,6 +1,6 @@
 -- Only contracts of parts cite this file. The half-edges of a cell: edge j, ab ac bc, of slot s is half-edge 3 * s + j. An edge has two, one in each of its slots.
 use Prim.Native.Nat.{ℕ, _+_, _*_, _/_, _%_}
-use Rattle.slots.specs.Slots.{slotEdge, place, otherSlot}
+use Rattle.slots.specs.Slots.{slotEdge, edgeRank, otherSlot}
 use Rattle.face.specs.Face.{other}
 use Rattle.cell.specs.Cell.{Edges, edge, slot}
 
@@ -11,17 +11,17 @@ halfEdges = 12
 abbrev pub slotOf : ℕ → ℕ
 slotOf h = h / 3
 
-abbrev pub placeOf : ℕ → ℕ
-placeOf h = h % 3
+abbrev pub rankOf : ℕ → ℕ
+rankOf h = h % 3
 
 unfoldable pub edgeOf : ℕ → ℕ
 unfolding slotEdge
-edgeOf h = slotEdge (slotOf h) (placeOf h)
+edgeOf h = slotEdge (slotOf h) (rankOf h)
 
 -- the half-edge of edge k in slot s
 unfoldable pub halfOf : ℕ → ℕ → ℕ
-unfolding place
-halfOf s k = 3 * s + place s k
+unfolding edgeRank
+halfOf s k = 3 * s + edgeRank s k
 
 -- the half-edge of the same edge in its other slot
 unfoldable pub twin : ℕ → ℕ
@@ -31,7 +31,7 @@ twin h = halfOf (otherSlot (edgeOf h) (slotOf h)) (edgeOf h)
 -- where a curve goes on that leaves half-edge h round the node v of its slot: over to the other edge there, and on by its other slot
 unfoldable pub around : ℕ → ℕ → ℕ
 unfolding twin
-around v h = twin (3 * slotOf h + other v (placeOf h))
+around v h = twin (3 * slotOf h + other v (rankOf h))
 
 -- the half-edge by which dart d of a cell leaves
 unfoldable pub halfEdge : Edges → ℕ → ℕ

@@ -3,8 +3,8 @@ use Prim.Native.Nat.{ℕ, _+_, _*_, _-_, _<_}
 use mathlib.Core.Logic.{_≢_}
 use lib.Dec.{ltb}
 use Rattle.counting.specs.Pick.{pick}
-use Rattle.slots.specs.Slots.{edgeOf, place}
-use Rattle.face.specs.Face.{corner}
+use Rattle.slots.specs.Slots.{edgeBetween, edgeRank}
+use Rattle.face.specs.Face.{cornerCount}
 use Rattle.cell.specs.Cell.{Edges, number}
 use Rattle.cell.specs.Dart.{dartNumber}
 
@@ -23,24 +23,24 @@ pub record Arranged (a b c d : ℕ) : Type 0 where
 
 -- the edge that joins the positions a and b
 unfoldable pub joining : ℕ → ℕ → ℕ
-joining a b = pick (ltb a b) (edgeOf a b) (edgeOf b a)
+joining a b = pick (ltb a b) (edgeBetween a b) (edgeBetween b a)
 
 module _ (w : Edges) where
   -- its count
-  abbrev pub between : ℕ → ℕ → ℕ
-  between a b = w .count (joining a b)
+  abbrev pub countBetween : ℕ → ℕ → ℕ
+  countBetween a b = w .count (joining a b)
 
   -- the index of the k-th crossing from a on it (01)
   unfoldable pub kthFrom : ℕ → ℕ → ℕ → ℕ
-  kthFrom a b k = pick (ltb a b) k (between a b - 1 - k)
+  kthFrom a b k = pick (ltb a b) k (countBetween a b - 1 - k)
 
   -- that crossing, and its dart by slot d
   unfoldable pub crossingAt : ℕ → ℕ → ℕ → ℕ
   crossingAt a b k = number w (joining a b) (kthFrom a b k)
 
   unfoldable pub dartAt : ℕ → ℕ → ℕ → ℕ → ℕ
-  dartAt a b d k = dartNumber (3 * d + place d (joining a b)) (crossingAt a b k)
+  dartAt a b d k = dartNumber (3 * d + edgeRank d (joining a b)) (crossingAt a b k)
 
   -- the corner count (01) at position a of the face abc
-  unfoldable pub cornerCount : ℕ → ℕ → ℕ → ℕ
-  cornerCount a b c = corner (between a b) (between a c) (between b c)
+  unfoldable pub cornerFrom : ℕ → ℕ → ℕ → ℕ
+  cornerFrom a b c = cornerCount (countBetween a b) (countBetween a c) (countBetween b c)

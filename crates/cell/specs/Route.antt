@@ -5,12 +5,12 @@ use mathlib.Core.List.{List, [], _∷_}
 use lib.ListN.{getD}
 use lib.Seq.{sets}
 use Rattle.slots.specs.Slots.{slotEdge}
-use Rattle.face.specs.Face.{lower, upper, cornerAt}
+use Rattle.face.specs.Face.{lower, upper, cornerCountAt}
 use Rattle.cell.specs.declared.Cell.{Cell}
 use Rattle.cell.specs.declared.Run.{Run}
 use Rattle.cell.specs.Cell.{Edges, base, crossings}
 use Rattle.cell.specs.Of.{countOf, startOf, edgesOf}
-use Rattle.cell.specs.Half.{halfEdges, slotOf, placeOf, edgeOf, twin, around}
+use Rattle.cell.specs.Half.{halfEdges, slotOf, rankOf, edgeOf, twin, around}
 
 -- the greatest count of an edge, a byte; the most crossings that a cell can have; and its most loops, of two crossings or more each
 abbrev pub mostCount : ℕ
@@ -27,7 +27,7 @@ abbrev pub startLimit : ℕ
 startLimit = 65536
 
 -- the columns of the routes: the corner counts at the lower and the upper end of the half-edge's edge; the edge's count, its first number in the cell
--- and in the grid; the half-edges that follow round the lower end, round the upper end, and after a folded segment; the place in the slot
+-- and in the grid; the half-edges that follow round the lower end, round the upper end, and after a folded segment; its rank in the slot
 abbrev pub columns : ℕ
 columns = 9
 
@@ -55,25 +55,25 @@ roundHighAt = 6
 abbrev pub twinAt : ℕ
 twinAt = 7
 
-abbrev pub placeAt : ℕ
-placeAt = 8
+abbrev pub rankAt : ℕ
+rankAt = 8
 
 -- the corner count at the node v of the slot, on half-edge h
 unfoldable pub cornerOf : Edges → ℕ → ℕ → ℕ
-cornerOf w v h = cornerAt (w .count (slotEdge (slotOf h) 0)) (w .count (slotEdge (slotOf h) 1)) (w .count (slotEdge (slotOf h) 2)) v (placeOf h)
+cornerOf w v h = cornerCountAt (w .count (slotEdge (slotOf h) 0)) (w .count (slotEdge (slotOf h) 1)) (w .count (slotEdge (slotOf h) 2)) v (rankOf h)
 
 module _ (w : Edges) where
   -- the corner counts at the lower and the upper end; the edge's count, its first number in the cell and in the grid
   unfoldable pub front : ℕ → List ℕ
-  front h = cornerOf w (lower (placeOf h)) h ∷ cornerOf w (upper (placeOf h)) h ∷ w .count (edgeOf h) ∷ base w (edgeOf h) ∷ w .start (edgeOf h) ∷ []
+  front h = cornerOf w (lower (rankOf h)) h ∷ cornerOf w (upper (rankOf h)) h ∷ w .count (edgeOf h) ∷ base w (edgeOf h) ∷ w .start (edgeOf h) ∷ []
 
   -- t with these numbers for the three half-edges of slot s
   unfoldable pub fronts : ℕ → List ℕ → List ℕ
   fronts s t = sets (sets (sets t (columns * (3 * s)) (front (3 * s))) (columns * (3 * s + 1)) (front (3 * s + 1))) (columns * (3 * s + 2)) (front (3 * s + 2))
 
--- the half-edges that follow round the lower end, round the upper end, and after a folded segment; the place in the slot
+-- the half-edges that follow round the lower end, round the upper end, and after a folded segment; its rank in the slot
 unfoldable pub links : ℕ → List ℕ
-links h = around (lower (placeOf h)) h ∷ around (upper (placeOf h)) h ∷ twin h ∷ placeOf h ∷ []
+links h = around (lower (rankOf h)) h ∷ around (upper (rankOf h)) h ∷ twin h ∷ rankOf h ∷ []
 
 -- the numbers of crossings laid before each edge
 abbrev pub Firsts : Cell → List ℕ → Type 0

@@ -10,10 +10,10 @@ ghost use lib.ListN.{getD, drop};
 ghost use Rattle.counting.specs.Range.{after};
 ghost use Rattle.cell.specs.Triangles.{whole, half0, half1, spoke, manyBy};
 ghost use Rattle.cell.specs.Traced.{RecordedLoop, pointAt, segmentAt, tracedTriangles};
+use super::Cell;
 use super::Corner;
 use super::Side;
 use super::Triangle;
-use super::Cell;
 
 fn wide(x: u8) -> usize
     ensures { λ r. ⌜ r ≡ x ⌝ }

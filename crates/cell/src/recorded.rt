@@ -9,6 +9,7 @@ ghost use Rattle.cell.specs.Words.{wordCount, allWords};
 ghost use Rattle.cell.specs.Triangles.{cellTriangles};
 ghost use Rattle.cell.specs.Nth.{nthOf, nthNumbers, nthAnswer};
 ghost use Rattle.cell.specs.Traced.{Held};
+use super::Cell;
 use super::Nth;
 use super::make::in_two;
 use super::make::many;
@@ -16,7 +17,6 @@ use super::make::size;
 use super::make::triangle_of;
 use super::words::WORD_COUNT;
 use super::write::write_loop;
-use super::Cell;
 
 // How many triangles the n loops have.
 pub(crate) fn count(c: Cell, n: usize, lengths: &[u16], halves: &[u8], points: &[u32]) -> usize

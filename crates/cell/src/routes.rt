@@ -28,7 +28,7 @@ pub(crate) const ROUND_HIGH: usize = 6;
 
 pub(crate) const TWIN: usize = 7;
 
-pub(crate) const PLACE: usize = 8;
+pub(crate) const RANK: usize = 8;
 
 const COLUMNS: usize = 9;
 

@@ -68,16 +68,16 @@ pub(crate) fn next(c: Cell, routes: &[usize; ROUTES], d: Dart) -> Next
     let low = routes::route(routes, h, routes::LOW);
     if t < low {
         let g = routes::route(routes, h, routes::ROUND_LOW);
-        let place = routes::route(routes, h, routes::PLACE);
-        return Next::On(round(c, routes, d, g, t, place == 2));
+        let rank = routes::route(routes, h, routes::RANK);
+        return Next::On(round(c, routes, d, g, t, rank == 2));
     }
     let n = routes::route(routes, h, routes::COUNT);
     let k = n - 1 - t;
     let high = routes::route(routes, h, routes::HIGH);
     if k < high {
         let g = routes::route(routes, h, routes::ROUND_HIGH);
-        let place = routes::route(routes, h, routes::PLACE);
-        return Next::On(round(c, routes, d, g, k, 0 < place));
+        let rank = routes::route(routes, h, routes::RANK);
+        return Next::On(round(c, routes, d, g, k, 0 < rank));
     }
     between(c, routes, d)
 }

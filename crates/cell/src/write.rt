@@ -7,11 +7,11 @@ ghost use lib.Seq.{sets};
 ghost use Rattle.cell.specs.Words.{wordCount, allWords};
 ghost use Rattle.cell.specs.Triangles.{manyBy};
 ghost use Rattle.cell.specs.Traced.{RecordedLoop, tracedTriangles};
+use super::Cell;
 use super::make::many;
 use super::make::triangle_of;
 use super::words::WORD_COUNT;
 use super::words::put;
-use super::Cell;
 
 // Writes the triangles of a recorded loop of n from index `at` on, and answers the next index.
 pub(crate) fn write_loop(

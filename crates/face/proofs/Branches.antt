@@ -7,7 +7,7 @@ use native.Mathlib.Decide.{decLt}
 use lib.Dec.{ltb}
 use borrow.Author.Tests.{lt-ltb, le-ltb, le-leb, lt-leb, eq-eqb, ne-eqb}
 use Rattle.counting.specs.Pick.{pick}
-use Rattle.face.specs.Face.{joined, unjoined, noCrossing, lower, upper, other, residual, count, others, kth, cornerAt, partner, faceJoin}
+use Rattle.face.specs.Face.{joined, unjoined, noCrossing, lower, upper, other, residual, countOn, others, kth, cornerCountAt, partner, faceJoin}
 use Rattle.face.specs.Ends.{Edge, Corners}
 use Rattle.face.proofs.Gaps.{corner-fits, corner-room, gap-excess, gap-level}
 
@@ -26,12 +26,12 @@ module _ (e r s t : ℕ) where
   residual-down h k = simp (le-ltb s (r % 2) h, ne-eqb ((s - r % 2) % 2) 0 k)
 
 -- no such crossing
-pub face-off : (ab ac bc e t : ℕ) → count ab ac bc e ≤ t → faceJoin ab ac bc e t ≡ noCrossing
+pub face-off : (ab ac bc e t : ℕ) → countOn ab ac bc e ≤ t → faceJoin ab ac bc e t ≡ noCrossing
 unfolding faceJoin
-face-off ab ac bc e t h = simp (le-leb (count ab ac bc e) t h)
+face-off ab ac bc e t h = simp (le-leb (countOn ab ac bc e) t h)
 
 -- the counts of an edge by their definitions
-pub corners-of : (ab ac bc : ℕ) {e : ℕ} → Edge e → Corners ab ac bc e (count ab ac bc e) (cornerAt ab ac bc (lower e) e) (cornerAt ab ac bc (upper e) e)
+pub corners-of : (ab ac bc : ℕ) {e : ℕ} → Edge e → Corners ab ac bc e (countOn ab ac bc e) (cornerCountAt ab ac bc (lower e) e) (cornerCountAt ab ac bc (upper e) e)
 corners-of ab ac bc d = record { edge = d; own = refl; at-lower = refl; at-upper = refl }
 
 -- the crossing t of an edge of x crossings, with the corner counts p and q at its lower and its upper end
@@ -41,7 +41,7 @@ module _ {ab ac bc e x p q : ℕ} (c : Corners ab ac bc e x p q) (t : ℕ) where
   unfolding faceJoin partner
   face-low h =
       let f = corner-fits ab ac bc (lower e) e in
-      simp (lt-leb (count ab ac bc e) t (omega (arith, c .at-lower)), lt-ltb t (cornerAt ab ac bc (lower e) e) (omega (arith, c .at-lower)))
+      simp (lt-leb (countOn ab ac bc e) t (omega (arith, c .at-lower)), lt-ltb t (cornerCountAt ab ac bc (lower e) e) (omega (arith, c .at-lower)))
 
   -- within the upper corner count
   pub face-high : t < x → x ≤ t + q → faceJoin ab ac bc e t ≡ joined (other (upper e) e) (kth ab ac bc (upper e) (other (upper e) e) (x - 1 - t))
@@ -50,19 +50,19 @@ module _ {ab ac bc e x p q : ℕ} (c : Corners ab ac bc e x p q) (t : ℕ) where
       let r = corner-room ab ac bc (c .edge) in
       simp (
         c .own,
-        lt-leb (count ab ac bc e) t (omega (arith, c .own)),
-        le-ltb t (cornerAt ab ac bc (lower e) e) (omega (arith, c .own, c .at-upper)),
-        lt-ltb (count ab ac bc e - 1 - t) (cornerAt ab ac bc (upper e) e) (omega (arith, c .own, c .at-upper)),
+        lt-leb (countOn ab ac bc e) t (omega (arith, c .own)),
+        le-ltb t (cornerCountAt ab ac bc (lower e) e) (omega (arith, c .own, c .at-upper)),
+        lt-ltb (countOn ab ac bc e - 1 - t) (cornerCountAt ab ac bc (upper e) e) (omega (arith, c .own, c .at-upper)),
       )
 
   module _ (low : p ≤ t) (high : t + q < x) where
-    past : faceJoin ab ac bc e t ≡ pick (ltb (others ab ac bc e) (count ab ac bc e)) (residual e (count ab ac bc e - others ab ac bc e) (t - cornerAt ab ac bc (lower e) e) t) unjoined
+    past : faceJoin ab ac bc e t ≡ pick (ltb (others ab ac bc e) (countOn ab ac bc e)) (residual e (countOn ab ac bc e - others ab ac bc e) (t - cornerCountAt ab ac bc (lower e) e) t) unjoined
     unfolding faceJoin
     past =
         simp (
-          lt-leb (count ab ac bc e) t (omega (arith, c .own)),
-          le-ltb t (cornerAt ab ac bc (lower e) e) (omega (arith, c .at-lower)),
-          le-ltb (count ab ac bc e - 1 - t) (cornerAt ab ac bc (upper e) e) (omega (arith, c .own, c .at-upper)),
+          lt-leb (countOn ab ac bc e) t (omega (arith, c .own)),
+          le-ltb t (cornerCountAt ab ac bc (lower e) e) (omega (arith, c .at-lower)),
+          le-ltb (countOn ab ac bc e - 1 - t) (cornerCountAt ab ac bc (upper e) e) (omega (arith, c .own, c .at-upper)),
         )
 
     single : x - p - q ≡ 1 → residual e (x - p - q) (t - p) t ≡ unjoined
@@ -71,13 +71,13 @@ module _ {ab ac bc e x p q : ℕ} (c : Corners ab ac bc e x p q) (t : ℕ) where
     -- between the two: the residual rule, also for the one crossing that rule 2 leaves
     pub face-middle : faceJoin ab ac bc e t ≡ residual e (x - p - q) (t - p) t
     face-middle =
-        elim (decLt (others ab ac bc e) (count ab ac bc e)) [
+        elim (decLt (others ab ac bc e) (countOn ab ac bc e)) [
           | yes h ↦
-              past ∙ rw (lt-ltb (others ab ac bc e) (count ab ac bc e) h, c .own, c .at-lower, c .at-upper)
-              (ap (λ r. residual e r (t - cornerAt ab ac bc (lower e) e) t) (sym (gap-excess ab ac bc (c .edge) h)))
+              past ∙ rw (lt-ltb (others ab ac bc e) (countOn ab ac bc e) h, c .own, c .at-lower, c .at-upper)
+              (ap (λ r. residual e r (t - cornerCountAt ab ac bc (lower e) e) t) (sym (gap-excess ab ac bc (c .edge) h)))
           | no h ↦ elim (gap-level ab ac bc (c .edge) (omega arith)) [
             | inl z ↦ absurd (omega (arith, c .own, c .at-lower, c .at-upper))
-            | inr z ↦ past ∙ rw (le-ltb (others ab ac bc e) (count ab ac bc e) (omega arith)) (sym (single (omega (arith, c .own, c .at-lower, c .at-upper))))
+            | inr z ↦ past ∙ rw (le-ltb (others ab ac bc e) (countOn ab ac bc e) (omega arith)) (sym (single (omega (arith, c .own, c .at-lower, c .at-upper))))
           ]
         ]
 

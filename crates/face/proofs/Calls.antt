@@ -2,13 +2,13 @@
 use Prim.Native.Nat.{ℕ, _+_, _-_, _<_, _≤_}
 use mathlib.Core.Path.{_≡_}
 use native.Mathlib.Omega.{arith}
-use Rattle.face.specs.Face.{lower, upper, other, count, residual, partner, faceJoin}
+use Rattle.face.specs.Face.{lower, upper, other, countOn, residual, partner, faceJoin}
 use Rattle.face.specs.Ends.{AtCorner, OnEdge}
 use Rattle.face.proofs.Gaps.{corner-fits}
 use Rattle.face.proofs.Branches.{face-low, face-high, face-middle}
 
 -- the rank of a partner is below the count of its edge
-pub partner-fits : {ab ac bc w e k : ℕ} → AtCorner ab ac bc w e k → k < count ab ac bc (other w e)
+pub partner-fits : {ab ac bc w e k : ℕ} → AtCorner ab ac bc w e k → k < countOn ab ac bc (other w e)
 partner-fits {ab} {ac} {bc} {w} {e} a = omega (arith, a .below, corner-fits ab ac bc w e)
 
 module _ {ab ac bc e x p q t : ℕ} (o : OnEdge ab ac bc e x p q t) {w : ℕ} where

@@ -9,19 +9,19 @@ use native.Mathlib.Decide.{decLt}
 use lib.Dec.{eqb}
 use borrow.Author.Tests.{lt-ltb, le-ltb, eqb-false}
 use Rattle.counting.specs.Pick.{pick}
-use Rattle.face.specs.Face.{halfAbove, corner, corners}
+use Rattle.face.specs.Face.{halfAbove, cornerCount, corners}
 
 module _ (p q o : ℕ) where
-  pub corner-first : q + o < p → corner p q o ≡ q
-  unfolding corner
+  pub corner-first : q + o < p → cornerCount p q o ≡ q
+  unfolding cornerCount
   corner-first h = simp (lt-ltb (q + o) p h)
 
-  pub corner-second : p + o < q → corner p q o ≡ p
-  unfolding corner
+  pub corner-second : p + o < q → cornerCount p q o ≡ p
+  unfolding cornerCount
   corner-second h = simp (le-ltb (q + o) p (omega arith), lt-ltb (p + o) q h)
 
-  pub corner-none : p + q < o → corner p q o ≡ 0
-  unfolding corner
+  pub corner-none : p + q < o → cornerCount p q o ≡ 0
+  unfolding cornerCount
   corner-none h = simp (le-ltb (q + o) p (omega arith), le-ltb (p + o) q (omega arith), lt-ltb (p + q) o h)
 
   halves : (b : Bool) → eqb ((p + q + o) % 2) 0 ≡ b → p ≤ q + o → q ≤ p + o → o ≤ p + q →
@@ -31,8 +31,8 @@ module _ (p q o : ℕ) where
   halves false e h k l = let odd = eqb-false ((p + q + o) % 2) 0 e in omega arith
 
   -- rules 1 and 2 at once: with an odd sum, half of the counts less 1 is the half rounded down
-  pub corner-half : p ≤ q + o → q ≤ p + o → o ≤ p + q → corner p q o ≡ (p + q - o) / 2
-  unfolding corner
+  pub corner-half : p ≤ q + o → q ≤ p + o → o ≤ p + q → cornerCount p q o ≡ (p + q - o) / 2
+  unfolding cornerCount
   corner-half h k l =
       simp (le-ltb (q + o) p h, le-ltb (p + o) q k, le-ltb (p + q) o l) (halves (eqb ((p + q + o) % 2) 0) refl h k l)
 
@@ -71,7 +71,7 @@ rule p q o =
       ]
     ]
 
-pub corner-swap : (p q o : ℕ) → corner p q o ≡ corner q p o
+pub corner-swap : (p q o : ℕ) → cornerCount p q o ≡ cornerCount q p o
 corner-swap p q o =
     elim (rule p q o) [
       | first h ↦ omega (arith, corner-first p q o h, corner-second q p o h)
@@ -80,7 +80,7 @@ corner-swap p q o =
       | level h k l ↦ omega (arith, corner-half p q o h k l, corner-half q p o k h (omega arith))
     ]
 
-pub corner-le : (p q o : ℕ) → (corner p q o ≤ p) × (corner p q o ≤ q)
+pub corner-le : (p q o : ℕ) → (cornerCount p q o ≤ p) × (cornerCount p q o ≤ q)
 corner-le p q o =
     elim (rule p q o) [
       | first h ↦ omega (arith, corner-first p q o h)
@@ -91,16 +91,16 @@ corner-le p q o =
 
 -- what the two corners of an edge of x crossings leave of it: the residuals of rule 3, one crossing in rule 2, else none
 module _ (x y z : ℕ) where
-  pub left-long : y + z < x → (corner x y z ≡ y) × (corner x z y ≡ z)
+  pub left-long : y + z < x → (cornerCount x y z ≡ y) × (cornerCount x z y ≡ z)
   left-long h = (corner-first x y z h, corner-first x z y (omega arith))
 
-  pub left-short : (x + z < y) ⊎ (x + y < z) → corner x y z + corner x z y ≡ x
+  pub left-short : (x + z < y) ⊎ (x + y < z) → cornerCount x y z + cornerCount x z y ≡ x
   left-short (inl h) = omega (arith, corner-second x y z h, corner-none x z y (omega arith))
   left-short (inr h) = omega (arith, corner-none x y z (omega arith), corner-second x z y h)
 
   module _ (a : x ≤ y + z) (b : y ≤ x + z) (c : z ≤ x + y) where
-    pub left-even : (x + y + z) % 2 ≡ 0 → corner x y z + corner x z y ≡ x
+    pub left-even : (x + y + z) % 2 ≡ 0 → cornerCount x y z + cornerCount x z y ≡ x
     left-even e = omega (arith, corner-half x y z a b c, corner-half x z y (omega arith) c b)
 
-    pub left-odd : (x + y + z) % 2 ≡ 1 → corner x y z + corner x z y + 1 ≡ x
+    pub left-odd : (x + y + z) % 2 ≡ 1 → cornerCount x y z + cornerCount x z y + 1 ≡ x
     left-odd e = omega (arith, corner-half x y z a b c, corner-half x z y (omega arith) c b)

@@ -4,7 +4,7 @@ use mathlib.Core.Path.{_≡_, refl}
 use native.Mathlib.Omega.{arith}
 use native.Mathlib.Decide.{decLt}
 use borrow.Author.Tests.{ne-eqb}
-use Rattle.face.specs.Face.{lower, upper, other, opposite, count, others}
+use Rattle.face.specs.Face.{lower, upper, other, opposite, countOn, others}
 use Rattle.face.specs.Ends.{Edge, on-ab, on-ac, on-bc, End, low, high}
 
 pub edge-of : (e : ℕ) → e < 3 → Edge e
@@ -19,18 +19,18 @@ edge-lt on-ac = omega arith
 edge-lt on-bc = omega arith
 
 -- an edge with a crossing is one of the three
-pub no-edge : (ab ac bc e : ℕ) → 2 < e → count ab ac bc e ≡ 0
-unfolding count
+pub no-edge : (ab ac bc e : ℕ) → 2 < e → countOn ab ac bc e ≡ 0
+unfolding countOn
 no-edge ab ac bc e h = simp (ne-eqb e 0 (omega arith), ne-eqb e 1 (omega arith), ne-eqb e 2 (omega arith))
 
-pub edge-with : (ab ac bc e t : ℕ) → t < count ab ac bc e → Edge e
+pub edge-with : (ab ac bc e t : ℕ) → t < countOn ab ac bc e → Edge e
 edge-with ab ac bc e t h =
     elim (decLt e 3) [
       | yes k ↦ edge-of e k
       | no k ↦ absurd (omega (arith, no-edge ab ac bc e (omega arith)))
     ]
 
-pub edge-counted : (ab ac bc e t : ℕ) {x : ℕ} → x ≡ count ab ac bc e → t < x → Edge e
+pub edge-counted : (ab ac bc e t : ℕ) {x : ℕ} → x ≡ countOn ab ac bc e → t < x → Edge e
 edge-counted ab ac bc e t q h = edge-with ab ac bc e t (omega arith)
 
 pub on : {w e : ℕ} → End w e → Edge e
@@ -93,8 +93,8 @@ other-other (high on-ab) = refl
 other-other (high on-ac) = refl
 other-other (high on-bc) = refl
 
-pub all-three : (ab ac bc : ℕ) {e : ℕ} → Edge e → count ab ac bc e + others ab ac bc e ≡ ab + ac + bc
-unfolding lower upper other count others
+pub all-three : (ab ac bc : ℕ) {e : ℕ} → Edge e → countOn ab ac bc e + others ab ac bc e ≡ ab + ac + bc
+unfolding lower upper other countOn others
 all-three ab ac bc on-ab = omega arith
 all-three ab ac bc on-ac = omega arith
 all-three ab ac bc on-bc = omega arith

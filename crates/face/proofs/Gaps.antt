@@ -7,14 +7,14 @@ use native.Mathlib.Omega.{arith}
 use native.Mathlib.Decide.{decLt, ℕ-discrete}
 use lib.ListN.{getD}
 use borrow.Author.Tests.{eq-eqb, ne-eqb}
-use Rattle.face.specs.Face.{lower, upper, other, opposite, corner, corners, count, others, kth, cornerAt}
+use Rattle.face.specs.Face.{lower, upper, other, opposite, cornerCount, corners, countOn, others, kth, cornerCountAt}
 use Rattle.face.specs.Ends.{Edge, on-ab, on-ac, on-bc, End, low, high}
 use Rattle.face.proofs.Corner.{first, second, third, level, rule, corner-swap, corner-le, left-long, left-short, left-even, left-odd}
 use Rattle.face.proofs.Ends.{ends-differ, opposite-lower, opposite-upper, other-other, all-three}
 
 module _ (ab ac bc : ℕ) where
   abbrev n : ℕ → ℕ
-  n e = count ab ac bc e
+  n e = countOn ab ac bc e
 
   abbrev below : ℕ → ℕ
   below e = n (other (lower e) e)
@@ -24,7 +24,7 @@ module _ (ab ac bc : ℕ) where
 
   -- how many crossings the corners of an edge leave between them
   abbrev pub gap : ℕ → ℕ
-  gap e = count ab ac bc e - cornerAt ab ac bc (lower e) e - cornerAt ab ac bc (upper e) e
+  gap e = countOn ab ac bc e - cornerCountAt ab ac bc (lower e) e - cornerCountAt ab ac bc (upper e) e
 
   -- the k-th crossing from either end
   pub kth-lower : (e k : ℕ) → kth ab ac bc (lower e) e k ≡ k
@@ -36,17 +36,17 @@ module _ (ab ac bc : ℕ) where
   kth-upper {e} k d = simp (ne-eqb (upper e) (lower e) (ends-differ d))
 
   -- the corner counts at the ends of an edge, from its own count and those of the other edges at its lower and its upper end
-  pub corner-lower : {e : ℕ} → Edge e → cornerAt ab ac bc (lower e) e ≡ corner (n e) (below e) (above e)
-  unfolding cornerAt
+  pub corner-lower : {e : ℕ} → Edge e → cornerCountAt ab ac bc (lower e) e ≡ cornerCount (n e) (below e) (above e)
+  unfolding cornerCountAt
   corner-lower d = rw (opposite-lower d)
 
-  pub corner-upper : {e : ℕ} → Edge e → cornerAt ab ac bc (upper e) e ≡ corner (n e) (above e) (below e)
-  unfolding cornerAt
+  pub corner-upper : {e : ℕ} → Edge e → cornerCountAt ab ac bc (upper e) e ≡ cornerCount (n e) (above e) (below e)
+  unfolding cornerCountAt
   corner-upper d = rw (opposite-upper d)
 
   -- the corner count at a node, on either edge there
-  pub corner-node : {w e : ℕ} → End w e → cornerAt ab ac bc w e ≡ getD (corners ab ac bc) w 0
-  unfolding cornerAt lower upper other opposite count
+  pub corner-node : {w e : ℕ} → End w e → cornerCountAt ab ac bc w e ≡ getD (corners ab ac bc) w 0
+  unfolding cornerCountAt lower upper other opposite countOn
   corner-node (low on-ab) = refl
   corner-node (low on-ac) = corner-swap ac ab bc
   corner-node (low on-bc) = corner-swap bc ab ac
@@ -54,20 +54,20 @@ module _ (ab ac bc : ℕ) where
   corner-node (high on-ac) = refl
   corner-node (high on-bc) = corner-swap bc ac ab
 
-  pub corner-read : {w e v p : ℕ} {l : List ℕ} → End w e → l ≡ corners ab ac bc → v ≡ w → p ≡ getD l v 0 → p ≡ cornerAt ab ac bc w e
+  pub corner-read : {w e v p : ℕ} {l : List ℕ} → End w e → l ≡ corners ab ac bc → v ≡ w → p ≡ getD l v 0 → p ≡ cornerCountAt ab ac bc w e
   corner-read d f g h = rw (corner-node d) (h ∙ rw (f, g))
 
-  pub corner-other : {w e : ℕ} → End w e → cornerAt ab ac bc w (other w e) ≡ cornerAt ab ac bc w e
-  unfolding cornerAt
+  pub corner-other : {w e : ℕ} → End w e → cornerCountAt ab ac bc w (other w e) ≡ cornerCountAt ab ac bc w e
+  unfolding cornerCountAt
   corner-other {w} {e} d = rw (other-other d) (corner-swap (n (other w e)) (n e) (n (opposite w)))
 
-  pub corner-fits : (w e : ℕ) → (cornerAt ab ac bc w e ≤ n e) × (cornerAt ab ac bc w e ≤ n (other w e))
-  unfolding cornerAt
+  pub corner-fits : (w e : ℕ) → (cornerCountAt ab ac bc w e ≤ n e) × (cornerCountAt ab ac bc w e ≤ n (other w e))
+  unfolding cornerCountAt
   corner-fits w e = corner-le (n e) (n (other w e)) (n (opposite w))
 
   -- what the corners of an edge leave: what it has above the other two; else one crossing for an odd sum with no count above, else none
   pub gap-long : {e : ℕ} → Edge e → others ab ac bc e < n e →
-      (cornerAt ab ac bc (lower e) e ≡ below e) × (cornerAt ab ac bc (upper e) e ≡ above e)
+      (cornerCountAt ab ac bc (lower e) e ≡ below e) × (cornerCountAt ab ac bc (upper e) e ≡ above e)
   unfolding others
   gap-long {e} d h = rw (corner-lower d, corner-upper d) (left-long (n e) (below e) (above e) h)
 
@@ -76,22 +76,22 @@ module _ (ab ac bc : ℕ) where
   gap-excess d h = omega (arith, gap-long d h)
 
   pub gap-short : {e : ℕ} → Edge e → (n e + above e < below e) ⊎ (n e + below e < above e) →
-      cornerAt ab ac bc (lower e) e + cornerAt ab ac bc (upper e) e ≡ n e
+      cornerCountAt ab ac bc (lower e) e + cornerCountAt ab ac bc (upper e) e ≡ n e
   gap-short {e} d h = rw (corner-lower d, corner-upper d) (left-short (n e) (below e) (above e) h)
 
   module _ {e : ℕ} (d : Edge e) (h : n e ≤ below e + above e) (k : below e ≤ n e + above e) (l : above e ≤ n e + below e) where
-    pub gap-even : (ab + ac + bc) % 2 ≡ 0 → cornerAt ab ac bc (lower e) e + cornerAt ab ac bc (upper e) e ≡ n e
+    pub gap-even : (ab + ac + bc) % 2 ≡ 0 → cornerCountAt ab ac bc (lower e) e + cornerCountAt ab ac bc (upper e) e ≡ n e
     unfolding others
     gap-even q = rw (corner-lower d, corner-upper d) (left-even (n e) (below e) (above e) h k l (omega (arith, all-three ab ac bc d)))
 
-    pub gap-odd : (ab + ac + bc) % 2 ≡ 1 → cornerAt ab ac bc (lower e) e + cornerAt ab ac bc (upper e) e + 1 ≡ n e
+    pub gap-odd : (ab + ac + bc) % 2 ≡ 1 → cornerCountAt ab ac bc (lower e) e + cornerCountAt ab ac bc (upper e) e + 1 ≡ n e
     unfolding others
     gap-odd q = rw (corner-lower d, corner-upper d) (left-odd (n e) (below e) (above e) h k l (omega (arith, all-three ab ac bc d)))
 
   -- an edge not above the other two: what its corners leave
   pub gap-level : {e : ℕ} → Edge e → n e ≤ others ab ac bc e →
-      (cornerAt ab ac bc (lower e) e + cornerAt ab ac bc (upper e) e ≡ n e)
-      ⊎ (((ab + ac + bc) % 2 ≡ 1) × (cornerAt ab ac bc (lower e) e + cornerAt ab ac bc (upper e) e + 1 ≡ n e))
+      (cornerCountAt ab ac bc (lower e) e + cornerCountAt ab ac bc (upper e) e ≡ n e)
+      ⊎ (((ab + ac + bc) % 2 ≡ 1) × (cornerCountAt ab ac bc (lower e) e + cornerCountAt ab ac bc (upper e) e + 1 ≡ n e))
   unfolding others
   gap-level {e} d m =
       elim (rule (n e) (below e) (above e)) [
@@ -105,7 +105,7 @@ module _ (ab ac bc : ℕ) where
       ]
 
   -- the two corners of an edge have room on it
-  pub corner-room : {e : ℕ} → Edge e → cornerAt ab ac bc (lower e) e + cornerAt ab ac bc (upper e) e ≤ n e
+  pub corner-room : {e : ℕ} → Edge e → cornerCountAt ab ac bc (lower e) e + cornerCountAt ab ac bc (upper e) e ≤ n e
   unfolding others
   corner-room {e} d =
       elim (decLt (others ab ac bc e) (n e)) [

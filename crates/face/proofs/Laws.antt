@@ -4,7 +4,7 @@ use mathlib.Core.Path.{_≡_, sym, _∙_}
 use mathlib.Core.Logic.{_⊎_, inl, inr}
 use native.Mathlib.Omega.{arith}
 use native.Mathlib.Decide.{decLt}
-use Rattle.face.specs.Face.{unjoined, noCrossing, count, others, faceJoin}
+use Rattle.face.specs.Face.{unjoined, noCrossing, countOn, others, faceJoin}
 use Rattle.face.specs.Ends.{Edge}
 use Rattle.face.specs.Rim.{Segment}
 use Rattle.face.proofs.Ends.{edge-with, no-edge, other-differs, all-three}
@@ -15,16 +15,16 @@ use Rattle.face.proofs.Links.{Alone, answer, Link, about, up, down, joi
 
 module _ (ab ac bc : ℕ) where
   -- only a crossing of the face is joined or unjoined
-  pub there-joined : (e t e′ t′ : ℕ) → Segment ab ac bc e t e′ t′ → t < count ab ac bc e
+  pub there-joined : (e t e′ t′ : ℕ) → Segment ab ac bc e t e′ t′ → t < countOn ab ac bc e
   there-joined e t e′ t′ j =
-      elim (decLt t (count ab ac bc e)) [
+      elim (decLt t (countOn ab ac bc e)) [
         | yes h ↦ h
         | no h ↦ absurd (joined-none j (face-off ab ac bc e t (omega arith)))
       ]
 
-  pub there-unjoined : (e t : ℕ) → faceJoin ab ac bc e t ≡ unjoined → t < count ab ac bc e
+  pub there-unjoined : (e t : ℕ) → faceJoin ab ac bc e t ≡ unjoined → t < countOn ab ac bc e
   there-unjoined e t u =
-      elim (decLt t (count ab ac bc e)) [
+      elim (decLt t (countOn ab ac bc e)) [
         | yes h ↦ h
         | no h ↦ absurd (unjoined-none u (face-off ab ac bc e t (omega arith)))
       ]
@@ -32,7 +32,7 @@ module _ (ab ac bc : ℕ) where
   pub symmetric : (e t e′ t′ : ℕ) → Segment ab ac bc e t e′ t′ → Segment ab ac bc e′ t′ e t
   symmetric e t e′ t′ j = joins ab ac bc (flip ab ac bc (link ab ac bc j))
 
-  pub partner-there : (e t e′ t′ : ℕ) → Segment ab ac bc e t e′ t′ → t′ < count ab ac bc e′
+  pub partner-there : (e t e′ t′ : ℕ) → Segment ab ac bc e t e′ t′ → t′ < countOn ab ac bc e′
   partner-there e t e′ t′ j = there-joined e′ t′ e t (symmetric e t e′ t′ j)
 
   apart : {e t e′ t′ : ℕ} → Link ab ac bc e t e′ t′ → e ≡ e′ → t ≡ t′ → ⊥
@@ -44,14 +44,14 @@ module _ (ab ac bc : ℕ) where
   partner-differs e t e′ t′ j q = apart (link ab ac bc j) (q .0) (q .1)
 
   -- a crossing of the face is joined or unjoined
-  pub joined-or : (e t : ℕ) → t < count ab ac bc e → ((e′ : ℕ) × (t′ : ℕ) × Segment ab ac bc e t e′ t′) ⊎ (faceJoin ab ac bc e t ≡ unjoined)
+  pub joined-or : (e t : ℕ) → t < countOn ab ac bc e → ((e′ : ℕ) × (t′ : ℕ) × Segment ab ac bc e t e′ t′) ⊎ (faceJoin ab ac bc e t ≡ unjoined)
   joined-or e t h =
       elim (answer ab ac bc e t h) [
         | inl j ↦ inl j
         | inr a ↦ inr (a .is)
       ]
 
-  pub a-crossing : (e t : ℕ) → t < count ab ac bc e → faceJoin ab ac bc e t ≡ noCrossing → ⊥
+  pub a-crossing : (e t : ℕ) → t < countOn ab ac bc e → faceJoin ab ac bc e t ≡ noCrossing → ⊥
   a-crossing e t h u =
       elim (joined-or e t h) [
         | inl j ↦ joined-none (j .2) u
@@ -66,13 +66,13 @@ module _ (ab ac bc : ℕ) where
         | inr a ↦ a
       ]
 
-  pub is-off : (e t : ℕ) → (2 < e) ⊎ (count ab ac bc e ≤ t) → faceJoin ab ac bc e t ≡ noCrossing
+  pub is-off : (e t : ℕ) → (2 < e) ⊎ (countOn ab ac bc e ≤ t) → faceJoin ab ac bc e t ≡ noCrossing
   is-off e t (inl h) = face-off ab ac bc e t (omega (arith, no-edge ab ac bc e h))
   is-off e t (inr h) = face-off ab ac bc e t h
 
-  pub off-only : (e t : ℕ) → faceJoin ab ac bc e t ≡ noCrossing → (2 < e) ⊎ (count ab ac bc e ≤ t)
+  pub off-only : (e t : ℕ) → faceJoin ab ac bc e t ≡ noCrossing → (2 < e) ⊎ (countOn ab ac bc e ≤ t)
   off-only e t u =
-      elim (decLt t (count ab ac bc e)) [
+      elim (decLt t (countOn ab ac bc e)) [
         | yes h ↦ absurd (a-crossing e t h u)
         | no h ↦ inr (omega arith)
       ]
@@ -81,7 +81,7 @@ module _ (ab ac bc : ℕ) where
   pub even-gap : (ab + ac + bc) % 2 ≡ 0 → {e : ℕ} → Edge e → gap ab ac bc e % 2 ≡ 0
   unfolding others
   even-gap z {e} d =
-      elim (decLt (others ab ac bc e) (count ab ac bc e)) [
+      elim (decLt (others ab ac bc e) (countOn ab ac bc e)) [
         | yes h ↦ omega (arith, gap-long ab ac bc d h, all-three ab ac bc d)
         | no h ↦ elim (gap-level ab ac bc d (omega arith)) [
           | inl q ↦ omega arith

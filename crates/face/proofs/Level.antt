@@ -3,7 +3,7 @@ use Prim.Native.Nat.{ℕ, _+_}
 use mathlib.Core.Path.{_≡_, sym, _∙_}
 use mathlib.Core.Logic.{inl, inr, _≢_}
 use native.Mathlib.Omega.{arith}
-use Rattle.face.specs.Face.{lower, upper, other, corner, count, cornerAt}
+use Rattle.face.specs.Face.{lower, upper, other, cornerCount, countOn, cornerCountAt}
 use Rattle.face.specs.Ends.{Edge, on-ab, on-ac, on-bc}
 use Rattle.face.specs.Level.{Level, LevelLaws}
 use Rattle.face.proofs.Corner.{corner-half}
@@ -19,12 +19,12 @@ module _ {p q o : ℕ} (L : Level p q o) where
   pub level-swap : Level q p o
   level-swap = record { even = omega (arith, L .even); first = L .second; second = L .first; third = omega (arith, L .third) }
 
-  pub level-corner : corner p q o + corner p q o + o ≡ p + q
+  pub level-corner : cornerCount p q o + cornerCount p q o + o ≡ p + q
   level-corner = omega (arith, corner-half p q o (L .first) (L .second) (L .third), L .even, L .third)
 
 module _ {ab ac bc : ℕ} (L : Level ab ac bc) where
-  pub level-full : {e : ℕ} → Edge e → cornerAt ab ac bc (lower e) e + cornerAt ab ac bc (upper e) e ≡ count ab ac bc e
-  unfolding count lower upper other
+  pub level-full : {e : ℕ} → Edge e → cornerCountAt ab ac bc (lower e) e + cornerCountAt ab ac bc (upper e) e ≡ countOn ab ac bc e
+  unfolding countOn lower upper other
   level-full on-ab = gap-even ab ac bc on-ab (L .first) (L .second) (L .third) (L .even)
   level-full on-ac = gap-even ab ac bc on-ac (L .second) (L .first) (omega (arith, L .third)) (L .even)
   level-full on-bc = gap-even ab ac bc on-bc (L .third) (omega (arith, L .first)) (omega (arith, L .second)) (L .even)

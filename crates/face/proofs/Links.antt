@@ -4,7 +4,7 @@ use mathlib.Core.Path.{_≡_, refl, sym, _∙_, ap}
 use mathlib.Core.Logic.{_⊎_, inl, inr}
 use native.Mathlib.Omega.{arith}
 use native.Mathlib.Decide.{decLt, ℕ-discrete}
-use Rattle.face.specs.Face.{joined, unjoined, lower, upper, other, count, kth, cornerAt, faceJoin}
+use Rattle.face.specs.Face.{joined, unjoined, lower, upper, other, countOn, kth, cornerCountAt, faceJoin}
 use Rattle.face.specs.Ends.{Edge, End, low, high}
 use Rattle.face.specs.Rim.{Segment}
 use Rattle.face.proofs.Ends.{edge-with, end-other, other-other}
@@ -14,16 +14,16 @@ use Rattle.face.proofs.Answers.{joined-unjoined, joined-none}
 
 module _ (ab ac bc : ℕ) where
   abbrev n : ℕ → ℕ
-  n e = count ab ac bc e
+  n e = countOn ab ac bc e
 
   abbrev lo : ℕ → ℕ
-  lo e = cornerAt ab ac bc (lower e) e
+  lo e = cornerCountAt ab ac bc (lower e) e
 
   abbrev hi : ℕ → ℕ
-  hi e = cornerAt ab ac bc (upper e) e
+  hi e = cornerCountAt ab ac bc (upper e) e
 
   -- the k-th crossings from a corner are joined
-  pub at-corner : {w e : ℕ} (k : ℕ) → End w e → k < cornerAt ab ac bc w e →
+  pub at-corner : {w e : ℕ} (k : ℕ) → End w e → k < cornerCountAt ab ac bc w e →
       Segment ab ac bc e (kth ab ac bc w e k) (other w e) (kth ab ac bc w (other w e) k)
   at-corner {e = e} k (low d) h = rw (kth-lower ab ac bc e k) (face-low (corners-of ab ac bc d) k h)
   at-corner {e = e} k (high d) h =
@@ -51,7 +51,7 @@ module _ (ab ac bc : ℕ) where
 
   -- where a crossing stands
   pub data Case (e t : ℕ) : Type 0 where
-    around : {w : ℕ} (k : ℕ) → End w e → k < cornerAt ab ac bc w e → t ≡ kth ab ac bc w e k → Case e t
+    around : {w : ℕ} (k : ℕ) → End w e → k < cornerCountAt ab ac bc w e → t ≡ kth ab ac bc w e k → Case e t
     lower-of : Pair e t → Case e t
     upper-of : (s : ℕ) → Pair e s → t ≡ s + 1 → Case e t
     alone : t ≡ lo e → gap ab ac bc e % 2 ≡ 1 → Case e t
@@ -98,7 +98,7 @@ module _ (ab ac bc : ℕ) where
 
   -- a segment, by where its ends stand
   pub data Link (e t e′ t′ : ℕ) : Type 0 where
-    about : {w : ℕ} (k : ℕ) → End w e → k < cornerAt ab ac bc w e → t ≡ kth ab ac bc w e k → e′ ≡ other w e → t′ ≡ kth ab ac bc w e′ k → Link e t e′ t′
+    about : {w : ℕ} (k : ℕ) → End w e → k < cornerCountAt ab ac bc w e → t ≡ kth ab ac bc w e k → e′ ≡ other w e → t′ ≡ kth ab ac bc w e′ k → Link e t e′ t′
     up : Pair e t → e′ ≡ e → t′ ≡ t + 1 → Link e t e′ t′
     down : Pair e t′ → e′ ≡ e → t ≡ t′ + 1 → Link e t e′ t′
 

@@ -3,7 +3,7 @@ use Prim.Native.Nat.{ℕ, _+_, _*_, _<_, _≤_, min}
 use mathlib.Core.Path.{_≡_, refl}
 use mathlib.Core.Logic.{inl, inr}
 use native.Mathlib.Omega.{arith}
-use Rattle.face.specs.Face.{lower, upper, other, corner, count, kth, cornerAt}
+use Rattle.face.specs.Face.{lower, upper, other, cornerCount, countOn, kth, cornerCountAt}
 use Rattle.face.specs.Ends.{Edge, on-ab, on-ac, on-bc, End, low, high}
 use Rattle.face.specs.Rim.{rim, Segment, EndAt, Meets, Alternate}
 use Rattle.face.proofs.Ends.{edge-with}
@@ -11,17 +11,17 @@ use Rattle.face.proofs.Gaps.{corner-node, corner-fits, corner-room}
 use Rattle.face.proofs.Links.{Link, about, up, down, link}
 
 module _ (ab ac bc : ℕ) where
-  within : {e : ℕ} (t : ℕ) → Edge e → t < count ab ac bc e → rim ab ac bc e t < ab + ac + bc
-  unfolding rim count
+  within : {e : ℕ} (t : ℕ) → Edge e → t < countOn ab ac bc e → rim ab ac bc e t < ab + ac + bc
+  unfolding rim countOn
   within t on-ab h = omega arith
   within t on-ac h = omega arith
   within t on-bc h = omega arith
 
-  pub rim-within : (e t : ℕ) → t < count ab ac bc e → rim ab ac bc e t < ab + ac + bc
+  pub rim-within : (e t : ℕ) → t < countOn ab ac bc e → rim ab ac bc e t < ab + ac + bc
   rim-within e t h = within t (edge-with ab ac bc e t h) h
 
-  once : {e e′ : ℕ} (t t′ : ℕ) → Edge e → Edge e′ → t < count ab ac bc e → t′ < count ab ac bc e′ → rim ab ac bc e t ≡ rim ab ac bc e′ t′ → (e ≡ e′) × (t ≡ t′)
-  unfolding rim count
+  once : {e e′ : ℕ} (t t′ : ℕ) → Edge e → Edge e′ → t < countOn ab ac bc e → t′ < countOn ab ac bc e′ → rim ab ac bc e t ≡ rim ab ac bc e′ t′ → (e ≡ e′) × (t ≡ t′)
+  unfolding rim countOn
   once t t′ on-ab on-ab h k q = omega arith
   once t t′ on-ab on-ac h k q = omega arith
   once t t′ on-ab on-bc h k q = omega arith
@@ -32,20 +32,20 @@ module _ (ab ac bc : ℕ) where
   once t t′ on-bc on-ac h k q = omega arith
   once t t′ on-bc on-bc h k q = omega arith
 
-  pub rim-once : (e t e′ t′ : ℕ) → t < count ab ac bc e → t′ < count ab ac bc e′ → rim ab ac bc e t ≡ rim ab ac bc e′ t′ → (e ≡ e′) × (t ≡ t′)
+  pub rim-once : (e t e′ t′ : ℕ) → t < countOn ab ac bc e → t′ < countOn ab ac bc e′ → rim ab ac bc e t ≡ rim ab ac bc e′ t′ → (e ≡ e′) × (t ≡ t′)
   rim-once e t e′ t′ h k = once t t′ (edge-with ab ac bc e t h) (edge-with ab ac bc e′ t′ k) h k
 
   -- the places of the ends of a segment: about a, b or c, or next to each other
   data Span (p q : ℕ) : Type 0 where
-    about-a : p + q + 1 ≡ ab + ac + bc → min p q < corner ab ac bc → Span p q
-    about-b : p + q + 1 ≡ 2 * ab → ab ≤ p + corner ab bc ac → p < ab + corner ab bc ac → Span p q
-    about-c : p + q + 1 ≡ 2 * (ab + bc) → ab + bc ≤ p + corner ac bc ab → p < ab + bc + corner ac bc ab → Span p q
+    about-a : p + q + 1 ≡ ab + ac + bc → min p q < cornerCount ab ac bc → Span p q
+    about-b : p + q + 1 ≡ 2 * ab → ab ≤ p + cornerCount ab bc ac → p < ab + cornerCount ab bc ac → Span p q
+    about-c : p + q + 1 ≡ 2 * (ab + bc) → ab + bc ≤ p + cornerCount ac bc ab → p < ab + bc + cornerCount ac bc ab → Span p q
     next-up : q ≡ p + 1 → Span p q
     next-down : p ≡ q + 1 → Span p q
 
-  span-corner : {w e : ℕ} (k : ℕ) → End w e → k < cornerAt ab ac bc w e → cornerAt ab ac bc w e ≤ count ab ac bc e → cornerAt ab ac bc w e ≤ count ab ac bc (other w e)
+  span-corner : {w e : ℕ} (k : ℕ) → End w e → k < cornerCountAt ab ac bc w e → cornerCountAt ab ac bc w e ≤ countOn ab ac bc e → cornerCountAt ab ac bc w e ≤ countOn ab ac bc (other w e)
       → Span (rim ab ac bc e (kth ab ac bc w e k)) (rim ab ac bc (other w e) (kth ab ac bc w (other w e) k))
-  unfolding rim kth count lower upper other
+  unfolding rim kth countOn lower upper other
   span-corner k (low on-ab) h i j = let c = corner-node ab ac bc (low on-ab) in about-a (omega arith) (omega arith)
   span-corner k (low on-ac) h i j = let c = corner-node ab ac bc (low on-ac) in about-a (omega arith) (omega arith)
   span-corner k (low on-bc) h i j = let c = corner-node ab ac bc (low on-bc) in about-b (omega arith) (omega arith) (omega arith)
@@ -53,8 +53,8 @@ module _ (ab ac bc : ℕ) where
   span-corner k (high on-ac) h i j = let c = corner-node ab ac bc (high on-ac) in about-c (omega arith) (omega arith) (omega arith)
   span-corner k (high on-bc) h i j = let c = corner-node ab ac bc (high on-bc) in about-c (omega arith) (omega arith) (omega arith)
 
-  span-pair : {e : ℕ} (t : ℕ) → Edge e → t + 1 < count ab ac bc e → Span (rim ab ac bc e t) (rim ab ac bc e (t + 1))
-  unfolding rim count
+  span-pair : {e : ℕ} (t : ℕ) → Edge e → t + 1 < countOn ab ac bc e → Span (rim ab ac bc e t) (rim ab ac bc e (t + 1))
+  unfolding rim countOn
   span-pair t on-ab h = next-up (omega arith)
   span-pair t on-ac h = next-down (omega arith)
   span-pair t on-bc h = next-up (omega arith)
@@ -72,8 +72,8 @@ module _ (ab ac bc : ℕ) where
   span {t′ = t′} (down d p q) = rw (p, q) (turned (span-pair t′ (d .edge) (omega (arith, d .stop))))
 
   -- the corner counts have room on the three edges
-  rooms : (corner ab ac bc + corner ab bc ac ≤ ab) × (corner ab bc ac + corner ac bc ab ≤ bc) × (corner ab ac bc + corner ac bc ab ≤ ac)
-  unfolding count lower upper
+  rooms : (cornerCount ab ac bc + cornerCount ab bc ac ≤ ab) × (cornerCount ab bc ac + cornerCount ac bc ab ≤ bc) × (cornerCount ab ac bc + cornerCount ac bc ab ≤ ac)
+  unfolding countOn lower upper
   rooms = (
     omega (arith, corner-room ab ac bc on-ab, corner-node ab ac bc (low on-ab), corner-node ab ac bc (high on-ab)),
     omega (arith, corner-room ab ac bc on-bc, corner-node ab ac bc (low on-bc), corner-node ab ac bc (high on-bc)),
@@ -82,7 +82,7 @@ module _ (ab ac bc : ℕ) where
 
   -- two segments are not met first, second, first, second
   nested : {p q r s : ℕ} → Span p r → Span q s →
-      (corner ab ac bc + corner ab bc ac ≤ ab) × (corner ab bc ac + corner ac bc ab ≤ bc) × (corner ab ac bc + corner ac bc ab ≤ ac) →
+      (cornerCount ab ac bc + cornerCount ab bc ac ≤ ab) × (cornerCount ab bc ac + cornerCount ac bc ab ≤ bc) × (cornerCount ab ac bc + cornerCount ac bc ab ≤ ac) →
       p < q → q < r → r < s → ⊥
   nested (about-a a m) (about-a b l) c f g h = omega arith
   nested (about-a a m) (about-b b l k) c f g h = omega arith

@@ -3,7 +3,7 @@ use Prim.Native.Nat.{ℕ, _+_, _-_, _%_, _<_, _≤_}
 use mathlib.Core.Path.{_≡_, refl, sym, ap, ap₂, _∙_, subst}
 use native.Mathlib.Omega.{arith}
 use lib.ListN.{getD}
-use Rattle.face.specs.Face.{joined, lower, upper, other, opposite, corner, corners, count, kth, cornerAt, faceJoin}
+use Rattle.face.specs.Face.{joined, lower, upper, other, opposite, cornerCount, corners, countOn, kth, cornerCountAt, faceJoin}
 use Rattle.face.specs.Ends.{Edge, on-ab, on-ac, on-bc, End, low, high}
 use Rattle.face.specs.Rim.{Segment}
 use Rattle.face.specs.Level.{Level, less, Off, Remains, ShiftLaws}
@@ -16,7 +16,7 @@ use Rattle.face.proofs.Laws.{partner-there}
 use Rattle.face.proofs.Level.{level-turn, level-swap, level-corner, level-full, levelLaws}
 
 -- three counts; p′, q′, o′ are what remains of them where u, v, z are taken off at their corners
-module _ {p q o : ℕ} (L : Level p q o) (u v z : ℕ) (hu : u ≤ corner p q o) (hv : v ≤ corner p o q) (hz : z ≤ corner q o p) where
+module _ {p q o : ℕ} (L : Level p q o) (u v z : ℕ) (hu : u ≤ cornerCount p q o) (hv : v ≤ cornerCount p o q) (hz : z ≤ cornerCount q o p) where
   module _ (p′ q′ o′ : ℕ) (a : p′ + u + v ≡ p) (b : q′ + u + z ≡ q) (c : o′ + v + z ≡ o) where
     even-left : (p′ + q′ + o′) % 2 ≡ 0
     even-left = omega (arith, L .even)
@@ -28,12 +28,12 @@ module _ {p q o : ℕ} (L : Level p q o) (u v z : ℕ) (hu : u ≤ corner p q o)
         let cz = level-corner (level-turn (level-swap L)) in
         record { even = even-left; first = omega arith; second = omega arith; third = omega arith }
 
-    left-corner : corner p′ q′ o′ + u ≡ corner p q o
+    left-corner : cornerCount p′ q′ o′ + u ≡ cornerCount p q o
     left-corner = omega (arith, level-corner left, level-corner L)
 
 -- the remaining counts by edge
-pub count-less : (ab ac bc : ℕ) (off : ℕ → ℕ) {e : ℕ} → Edge e → count (less ab ac bc off 0) (less ab ac bc off 1) (less ab ac bc off 2) e ≡ less ab ac bc off e
-unfolding count
+pub count-less : (ab ac bc : ℕ) (off : ℕ → ℕ) {e : ℕ} → Edge e → countOn (less ab ac bc off 0) (less ab ac bc off 1) (less ab ac bc off 2) e ≡ less ab ac bc off e
+unfolding countOn
 count-less ab ac bc off on-ab = refl
 count-less ab ac bc off on-ac = refl
 count-less ab ac bc off on-bc = refl
@@ -43,47 +43,47 @@ module _ (ab ac bc : ℕ) (off : ℕ → ℕ) (O : Off ab ac bc off) where
   l = less ab ac bc off
 
   -- what is taken off has room on its edge
-  pub less-sum : {e : ℕ} → Edge e → l e + off (lower e) + off (upper e) ≡ count ab ac bc e
+  pub less-sum : {e : ℕ} → Edge e → l e + off (lower e) + off (upper e) ≡ countOn ab ac bc e
   unfolding less
   less-sum {e} d = omega (arith, O .few (lower e) e (low d), O .few (upper e) e (high d), level-full (O .level) d)
 
-  few-a : off 0 ≤ corner ab ac bc
-  unfolding cornerAt lower upper other opposite count
+  few-a : off 0 ≤ cornerCount ab ac bc
+  unfolding cornerCountAt lower upper other opposite countOn
   few-a = O .few 0 0 (low on-ab)
 
-  few-b : off 1 ≤ corner ab bc ac
-  unfolding cornerAt lower upper other opposite count
+  few-b : off 1 ≤ cornerCount ab bc ac
+  unfolding cornerCountAt lower upper other opposite countOn
   few-b = O .few 1 0 (high on-ab)
 
-  few-c : off 2 ≤ corner ac bc ab
-  unfolding cornerAt lower upper other opposite count
+  few-c : off 2 ≤ cornerCount ac bc ab
+  unfolding cornerCountAt lower upper other opposite countOn
   few-c = O .few 2 1 (high on-ac)
 
   sum-ab : l 0 + off 0 + off 1 ≡ ab
-  unfolding lower upper count
+  unfolding lower upper countOn
   sum-ab = less-sum on-ab
 
   sum-ac : l 1 + off 0 + off 2 ≡ ac
-  unfolding lower upper count
+  unfolding lower upper countOn
   sum-ac = less-sum on-ac
 
   sum-bc : l 2 + off 1 + off 2 ≡ bc
-  unfolding lower upper count
+  unfolding lower upper countOn
   sum-bc = less-sum on-bc
 
   pub level-less : Level (l 0) (l 1) (l 2)
   level-less = left (O .level) (off 0) (off 1) (off 2) few-a few-b few-c (l 0) (l 1) (l 2) sum-ab sum-ac sum-bc
 
-  at-a : corner (l 0) (l 1) (l 2) + off 0 ≡ corner ab ac bc
+  at-a : cornerCount (l 0) (l 1) (l 2) + off 0 ≡ cornerCount ab ac bc
   at-a = left-corner (O .level) (off 0) (off 1) (off 2) few-a few-b few-c (l 0) (l 1) (l 2) sum-ab sum-ac sum-bc
 
-  at-b : corner (l 0) (l 2) (l 1) + off 1 ≡ corner ab bc ac
+  at-b : cornerCount (l 0) (l 2) (l 1) + off 1 ≡ cornerCount ab bc ac
   at-b = left-corner (level-turn (O .level)) (off 1) (off 0) (off 2) few-b few-a (rw corner-swap few-c) (l 0) (l 2) (l 1) (omega (arith, sum-ab)) (omega (arith, sum-bc)) (omega (arith, sum-ac))
 
-  at-c : corner (l 1) (l 2) (l 0) + off 2 ≡ corner ac bc ab
+  at-c : cornerCount (l 1) (l 2) (l 0) + off 2 ≡ cornerCount ac bc ab
   at-c = left-corner (level-turn (level-swap (O .level))) (off 2) (off 0) (off 1) few-c (rw corner-swap few-a) (rw corner-swap few-b) (l 1) (l 2) (l 0) (omega (arith, sum-ac)) (omega (arith, sum-bc)) (omega (arith, sum-ab))
 
-  pub corner-less : {w e : ℕ} → End w e → cornerAt (l 0) (l 1) (l 2) w e + off w ≡ cornerAt ab ac bc w e
+  pub corner-less : {w e : ℕ} → End w e → cornerCountAt (l 0) (l 1) (l 2) w e + off w ≡ cornerCountAt ab ac bc w e
   unfolding lower upper
   corner-less {w} {e} d = rw (corner-node (l 0) (l 1) (l 2) d, corner-node ab ac bc d) (node d)
     where
@@ -119,7 +119,7 @@ module _ (ab ac bc : ℕ) (off : ℕ → ℕ) (O : Off ab ac bc off) where
           ap (faceJoin ab ac bc e) s ∙ a ∙ ap₂ joined (sym q) (sym u)
 
   -- what is joined over the remaining counts is a remaining crossing
-  remaining : (e t : ℕ) → t < count (l 0) (l 1) (l 2) e → Remains ab ac bc off e (off (lower e) + t)
+  remaining : (e t : ℕ) → t < countOn (l 0) (l 1) (l 2) e → Remains ab ac bc off e (off (lower e) + t)
   remaining e t h =
       let d = edge-with (l 0) (l 1) (l 2) e t h in
       record { low = omega arith; high = omega (arith, less-sum d, count-less ab ac bc off d, h) }
@@ -131,7 +131,7 @@ module _ (ab ac bc : ℕ) (off : ℕ → ℕ) (O : Off ab ac bc off) where
       d : Edge e
       d = edge-with ab ac bc e t (omega (arith, r .high))
 
-      inside : t - off (lower e) < count (l 0) (l 1) (l 2) e
+      inside : t - off (lower e) < countOn (l 0) (l 1) (l 2) e
       inside = omega (arith, r .low, r .high, less-sum d, count-less ab ac bc off d)
 
       is-t : off (lower e) + (t - off (lower e)) ≡ t

@@ -17,10 +17,10 @@ use Rattle.counting.proofs.Search.{count-ext, count-none, count-all, count-sum}
 use Rattle.counting.proofs.Pack.{col-lt, unpack, row-pack, col-pack, pack-lt}
 use Rattle.counting.proofs.Involution.{paired}
 use Rattle.counting.proofs.Rows.{count-rows, count-only}
-use Rattle.face.specs.Face.{joined, unjoined, lower, upper, other, count, others, cornerAt, faceJoin}
+use Rattle.face.specs.Face.{joined, unjoined, lower, upper, other, countOn, others, cornerCountAt, faceJoin}
 use Rattle.face.specs.Ends.{Edge, on-ab, on-ac, on-bc}
 use Rattle.face.specs.Rim.{Segment}
-use Rattle.face.specs.Tally.{edges, answerOf, isJoined, isUnjoined, partnerOf, segments, unjoinedCount}
+use Rattle.face.specs.Tally.{faceEdges, joinOf, isJoined, isUnjoined, partnerOf, segments, unjoinedCount}
 use Rattle.face.proofs.Ends.{edge-of, edge-lt, edge-with}
 use Rattle.face.proofs.Gaps.{gap, gap-excess, gap-short, gap-odd}
 use Rattle.face.proofs.Links.{alone-unjoined}
@@ -28,7 +28,7 @@ use Rattle.face.proofs.Laws.{symmetric, partner-there, partner-differs,
 
 module _ (ab ac bc : ℕ) where
   abbrev n : ℕ → ℕ
-  n = count ab ac bc
+  n = countOn ab ac bc
 
   abbrev size : ℕ
   size = ab + ac + bc
@@ -37,33 +37,33 @@ module _ (ab ac bc : ℕ) where
   abbrev number : ℕ → ℕ → ℕ
   number e t = pre n e + t
 
-  all : pre n edges ≡ size
-  unfolding pre total count
+  all : pre n faceEdges ≡ size
+  unfolding pre total countOn
   all = omega arith
 
   inside : {e : ℕ} (t : ℕ) → Edge e → t < n e → number e t < size
-  inside {e} t d h = rw (← all) (pack-lt n edges e t (edge-lt d) h)
+  inside {e} t d h = rw (← all) (pack-lt n faceEdges e t (edge-lt d) h)
 
-  answer-at : {e : ℕ} (t : ℕ) → Edge e → t < n e → answerOf ab ac bc (number e t) ≡ faceJoin ab ac bc e t
-  unfolding answerOf
-  answer-at {e} t d h = rw (row-pack n edges e t (edge-lt d) h, col-pack n edges e t (edge-lt d) h)
+  answer-at : {e : ℕ} (t : ℕ) → Edge e → t < n e → joinOf ab ac bc (number e t) ≡ faceJoin ab ac bc e t
+  unfolding joinOf
+  answer-at {e} t d h = rw (row-pack n faceEdges e t (edge-lt d) h, col-pack n faceEdges e t (edge-lt d) h)
 
   record Spot (x : ℕ) : Type 0 where
     e : ℕ
     t : ℕ
     there : t < n e
     index : x ≡ number e t
-    ours : answerOf ab ac bc x ≡ faceJoin ab ac bc e t
+    ours : joinOf ab ac bc x ≡ faceJoin ab ac bc e t
 
   spot : (x : ℕ) → x < size → Spot x
-  unfolding answerOf
+  unfolding joinOf
   spot x h =
-      let l : x < pre n edges = rw all h in
+      let l : x < pre n faceEdges = rw all h in
       record {
-        e = row n edges x;
-        t = col n edges x;
-        there = col-lt n edges x l;
-        index = sym (unpack n edges x l);
+        e = row n faceEdges x;
+        t = col n faceEdges x;
+        there = col-lt n faceEdges x l;
+        index = sym (unpack n faceEdges x l);
         ours = refl;
       }
 
@@ -75,9 +75,9 @@ module _ (ab ac bc : ℕ) where
     t′ : ℕ
     index : x ≡ number e t
     join : Segment ab ac bc e t e′ t′
-    ours : answerOf ab ac bc x ≡ joined e′ t′
+    ours : joinOf ab ac bc x ≡ joined e′ t′
     within : number e′ t′ < size
-    theirs : answerOf ab ac bc (number e′ t′) ≡ joined e t
+    theirs : joinOf ab ac bc (number e′ t′) ≡ joined e t
 
   ends-of : {x : ℕ} (s : Spot x) (e′ t′ : ℕ) → Segment ab ac bc (s .e) (s .t) e′ t′ → Ends x
   ends-of s e′ t′ j =
@@ -96,7 +96,7 @@ module _ (ab ac bc : ℕ) where
       }
 
   -- each crossing is joined or unjoined, by the two tests
-  both : (x : ℕ) → x < size → Ends x ⊎ (answerOf ab ac bc x ≡ unjoined)
+  both : (x : ℕ) → x < size → Ends x ⊎ (joinOf ab ac bc x ≡ unjoined)
   both x h =
       let s = spot x h in
       elim (joined-or ab ac bc (s .e) (s .t) (s .there)) [
@@ -117,7 +117,7 @@ module _ (ab ac bc : ℕ) where
   moved : (x : ℕ) → x < size → isJoined ab ac bc x ≡ true → partnerOf ab ac bc x ≡ x → ⊥
   moved x h q m =
       let r = ends x h q in
-      let a : answerOf ab ac bc x ≡ joined (r .e) (r .t) = ap (answerOf ab ac bc) (sym m ∙ to r) ∙ r .theirs in
+      let a : joinOf ab ac bc x ≡ joined (r .e) (r .t) = ap (joinOf ab ac bc) (sym m ∙ to r) ∙ r .theirs in
       partner-differs ab ac bc (r .e) (r .t) (r .e′) (r .t′) (r .join) (cc (r .ours), cc (r .ours))
 
   pairs : passing (isJoined ab ac bc) size ≡ 2 * segments ab ac bc
@@ -160,14 +160,14 @@ module _ (ab ac bc : ℕ) where
   left-count {e} d =
       elim (ℕ-discrete (gap ab ac bc e % 2) 1) [
         | yes g ↦
-            rw g (count-only (left e) (n e) (cornerAt ab ac bc (lower e) e) (omega arith)
+            rw g (count-only (left e) (n e) (cornerCountAt ab ac bc (lower e) e) (omega arith)
             (ap (λ (l : List ℕ). eqb (getD l 0 0) 1) (alone-unjoined ab ac bc d g))
             (λ i h q. unjoined-alone ab ac bc e i (left-is e i h q) .first))
         | no g ↦
             count-none (left e) (n e) (λ i h. not-clash (left e i) (λ q. g (unjoined-alone ab ac bc e i (left-is e i h q) .odd))) ∙ omega arith
       ]
 
-  on-edge : (e : ℕ) → e < edges → passing (λ i. isUnjoined ab ac bc (number e i)) (n e) ≡ gap ab ac bc e % 2
+  on-edge : (e : ℕ) → e < faceEdges → passing (λ i. isUnjoined ab ac bc (number e i)) (n e) ≡ gap ab ac bc e % 2
   unfolding left
   on-edge e h =
       count-ext (λ i. isUnjoined ab ac bc (number e i)) (left e) (n e) (λ i l. ap (λ (l : List ℕ). eqb (getD l 0 0) 1) (answer-at i (edge-of e h) l))
@@ -176,14 +176,14 @@ module _ (ab ac bc : ℕ) where
   pub by-edge : unjoinedCount ab ac bc ≡ gap ab ac bc 0 % 2 + gap ab ac bc 1 % 2 + gap ab ac bc 2 % 2
   unfolding unjoinedCount total
   by-edge =
-      ap (passing (isUnjoined ab ac bc)) (sym all) ∙ count-rows n (isUnjoined ab ac bc) edges
+      ap (passing (isUnjoined ab ac bc)) (sym all) ∙ count-rows n (isUnjoined ab ac bc) faceEdges
       ∙ omega (arith, on-edge 0 (omega arith), on-edge 1 (omega arith), on-edge 2 (omega arith))
 
   pub unjoined-even : (ab + ac + bc) % 2 ≡ 0 → unjoinedCount ab ac bc ≡ 0
   unjoined-even z = omega (arith, by-edge, even-gap ab ac bc z on-ab, even-gap ab ac bc z on-ac, even-gap ab ac bc z on-bc)
 
   pub unjoined-odd : (ab + ac + bc) % 2 ≡ 1 → ((e : ℕ) → n e ≤ others ab ac bc e) → unjoinedCount ab ac bc ≡ 3
-  unfolding others count lower upper other
+  unfolding others countOn lower upper other
   unjoined-odd z h =
       let a = h 0 in
       let b = h 1 in
@@ -205,7 +205,7 @@ module _ (ab ac bc : ℕ) where
   add p q r h = omega arith
 
   long-only : {e : ℕ} → Edge e → others ab ac bc e < n e → unjoinedCount ab ac bc ≡ (n e - others ab ac bc e) % 2
-  unfolding others count lower upper other
+  unfolding others countOn lower upper other
   long-only on-ab h = by-edge ∙ add (ap (λ g. g % 2) (gap-excess ab ac bc on-ab h)) (no-gap on-ac (inl (omega arith))) (no-gap on-bc (inl (omega arith))) (omega arith)
   long-only on-ac h = by-edge ∙ add (no-gap on-ab (inl (omega arith))) (ap (λ g. g % 2) (gap-excess ab ac bc on-ac h)) (no-gap on-bc (inr (omega arith))) (omega arith)
   long-only on-bc h = by-edge ∙ add (no-gap on-ab (inr (omega arith))) (no-gap on-ac (inr (omega arith))) (ap (λ g. g % 2) (gap-excess ab ac bc on-bc h)) (omega arith)

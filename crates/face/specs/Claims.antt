@@ -3,7 +3,7 @@ use Prim.Native.Nat.{ℕ, _+_, _-_, _*_, _%_, _<_, _≤_}
 use mathlib.Core.Path.{_≡_}
 use mathlib.Core.Logic.{_⊎_}
 use Rattle.face.specs.declared.Join.{Join}
-use Rattle.face.specs.Face.{unjoined, noCrossing, other, count, others, kth, cornerAt, faceJoin}
+use Rattle.face.specs.Face.{unjoined, noCrossing, other, countOn, others, kth, cornerCountAt, faceJoin}
 use Rattle.face.specs.Join.{joinNumbers}
 use Rattle.face.specs.Ends.{End}
 use Rattle.face.specs.Rim.{rim, Segment, Alternate}
@@ -15,19 +15,19 @@ OneToOne = (j k : Join) → joinNumbers j ≡ joinNumbers k → j ≡ k
 
 pub record FaceLaws (ab ac bc : ℕ) : Type 0 where
   -- at a corner, the k-th crossings from it on its two edges are joined, for each k below the corner count
-  pub corner : (w e k : ℕ) → End w e → k < cornerAt ab ac bc w e →
+  pub corner : (w e k : ℕ) → End w e → k < cornerCountAt ab ac bc w e →
       Segment ab ac bc e (kth ab ac bc w e k) (other w e) (kth ab ac bc w (other w e) k)
   -- the ends of a segment are crossings of the face
-  pub there : (e t e′ t′ : ℕ) → Segment ab ac bc e t e′ t′ → (t < count ab ac bc e) × (t′ < count ab ac bc e′)
+  pub there : (e t e′ t′ : ℕ) → Segment ab ac bc e t e′ t′ → (t < countOn ab ac bc e) × (t′ < countOn ab ac bc e′)
   -- the partner of a crossing is another crossing
   pub another : (e t e′ t′ : ℕ) → Segment ab ac bc e t e′ t′ → (e ≡ e′) × (t ≡ t′) → ⊥
   -- the partner has the first as its partner
   pub back : (e t e′ t′ : ℕ) → Segment ab ac bc e t e′ t′ → Segment ab ac bc e′ t′ e t
   -- no crossing: an edge over 2, or an index not below the count of its edge, and these only
-  pub off : (e t : ℕ) → (2 < e) ⊎ (count ab ac bc e ≤ t) → faceJoin ab ac bc e t ≡ noCrossing
-  pub only-off : (e t : ℕ) → faceJoin ab ac bc e t ≡ noCrossing → (2 < e) ⊎ (count ab ac bc e ≤ t)
+  pub off : (e t : ℕ) → (2 < e) ⊎ (countOn ab ac bc e ≤ t) → faceJoin ab ac bc e t ≡ noCrossing
+  pub only-off : (e t : ℕ) → faceJoin ab ac bc e t ≡ noCrossing → (2 < e) ⊎ (countOn ab ac bc e ≤ t)
   -- a crossing of the face is joined or unjoined, and not both
-  pub cases : (e t : ℕ) → t < count ab ac bc e →
+  pub cases : (e t : ℕ) → t < countOn ab ac bc e →
       ((e′ : ℕ) × (t′ : ℕ) × Segment ab ac bc e t e′ t′) ⊎ (faceJoin ab ac bc e t ≡ unjoined)
   pub not-both : (e t e′ t′ : ℕ) → Segment ab ac bc e t e′ t′ → faceJoin ab ac bc e t ≡ unjoined → ⊥
   -- an even sum leaves no crossing unjoined
@@ -36,10 +36,10 @@ pub record FaceLaws (ab ac bc : ℕ) : Type 0 where
   pub sum : ab + ac + bc ≡ 2 * segments ab ac bc + unjoinedCount ab ac bc
   -- the unjoined crossings: none for an even sum, three in rule 2, and in rule 3 one if r is odd, else none
   pub unjoined-even : (ab + ac + bc) % 2 ≡ 0 → unjoinedCount ab ac bc ≡ 0
-  pub unjoined-odd : (ab + ac + bc) % 2 ≡ 1 → ((e : ℕ) → count ab ac bc e ≤ others ab ac bc e) → unjoinedCount ab ac bc ≡ 3
-  pub unjoined-long : (e : ℕ) → others ab ac bc e < count ab ac bc e → unjoinedCount ab ac bc ≡ (count ab ac bc e - others ab ac bc e) % 2
+  pub unjoined-odd : (ab + ac + bc) % 2 ≡ 1 → ((e : ℕ) → countOn ab ac bc e ≤ others ab ac bc e) → unjoinedCount ab ac bc ≡ 3
+  pub unjoined-long : (e : ℕ) → others ab ac bc e < countOn ab ac bc e → unjoinedCount ab ac bc ≡ (countOn ab ac bc e - others ab ac bc e) % 2
   -- a walk round the rim meets each crossing of the face at a place of its own
-  pub rim-within : (e t : ℕ) → t < count ab ac bc e → rim ab ac bc e t < ab + ac + bc
-  pub rim-once : (e t e′ t′ : ℕ) → t < count ab ac bc e → t′ < count ab ac bc e′ → rim ab ac bc e t ≡ rim ab ac bc e′ t′ → (e ≡ e′) × (t ≡ t′)
+  pub rim-within : (e t : ℕ) → t < countOn ab ac bc e → rim ab ac bc e t < ab + ac + bc
+  pub rim-once : (e t e′ t′ : ℕ) → t < countOn ab ac bc e → t′ < countOn ab ac bc e′ → rim ab ac bc e t ≡ rim ab ac bc e′ t′ → (e ≡ e′) × (t ≡ t′)
   -- no two segments alternate
   pub no-alternation : (e t e′ t′ u i u′ i′ : ℕ) → Segment ab ac bc e t e′ t′ → Segment ab ac bc u i u′ i′ → Alternate ab ac bc e t e′ t′ u i u′ i′ → ⊥

@@ -1,7 +1,7 @@
 -- The three edges of a face and their ends, and what the parts of the face call are told of a crossing.
 use Prim.Native.Nat.{ℕ, _<_}
 use mathlib.Core.Path.{_≡_}
-use Rattle.face.specs.Face.{lower, upper, count, cornerAt}
+use Rattle.face.specs.Face.{lower, upper, countOn, cornerCountAt}
 
 -- e is an edge
 pub data Edge : ℕ → Type 0 where
@@ -17,14 +17,14 @@ pub data End : ℕ → ℕ → Type 0 where
 -- a k below the corner count at the end w of the edge e
 pub record AtCorner (ab ac bc w e k : ℕ) : Type 0 where
   pub ends : End w e
-  pub below : k < cornerAt ab ac bc w e
+  pub below : k < cornerCountAt ab ac bc w e
 
 -- the edge e has x crossings, and the corner counts p and q at its lower and its upper end
 pub record Corners (ab ac bc e x p q : ℕ) : Type 0 where
   pub edge : Edge e
-  pub own : x ≡ count ab ac bc e
-  pub at-lower : p ≡ cornerAt ab ac bc (lower e) e
-  pub at-upper : q ≡ cornerAt ab ac bc (upper e) e
+  pub own : x ≡ countOn ab ac bc e
+  pub at-lower : p ≡ cornerCountAt ab ac bc (lower e) e
+  pub at-upper : q ≡ cornerCountAt ab ac bc (upper e) e
 
 -- a crossing t of such an edge
 pub record OnEdge (ab ac bc e x p q t : ℕ) : Type 0 where

@@ -30,8 +30,8 @@ halfAbove p q o = (p + q - o) / 2
 
 -- the corner count (01) of a corner whose edges have p and q crossings, and whose opposite edge has o.
 -- Rule 3 with the one edge, the other, or the opposite one above the other two; rule 1; rule 2 with all counts less 1
-unfoldable pub corner : ℕ → ℕ → ℕ → ℕ
-corner p q o =
+unfoldable pub cornerCount : ℕ → ℕ → ℕ → ℕ
+cornerCount p q o =
     pick (ltb (q + o) p) q
     (pick (ltb (p + o) q) p
     (pick (ltb (p + q) o) 0
@@ -40,7 +40,7 @@ corner p q o =
 
 -- the corner counts at the nodes a, b, c of a face
 abbrev pub corners : ℕ → ℕ → ℕ → List ℕ
-corners ab ac bc = corner ab ac bc ∷ corner ab bc ac ∷ corner ac bc ab ∷ []
+corners ab ac bc = cornerCount ab ac bc ∷ cornerCount ab bc ac ∷ cornerCount ac bc ab ∷ []
 
 -- residual (01) s of r, at the index t of the edge e: neighbours in pairs from the lower node, the first skipped if r is odd
 unfoldable pub residual : ℕ → ℕ → ℕ → ℕ → List ℕ
@@ -48,20 +48,20 @@ residual e r s t = pick (ltb s (r % 2)) unjoined (joined e (pick (eqb ((s - r % 
 
 module _ (ab ac bc : ℕ) where
   -- the count of an edge; a number over 2 is no edge, and has none
-  unfoldable pub count : ℕ → ℕ
-  count e = pick (eqb e 0) ab (pick (eqb e 1) ac (pick (eqb e 2) bc 0))
+  unfoldable pub countOn : ℕ → ℕ
+  countOn e = pick (eqb e 0) ab (pick (eqb e 1) ac (pick (eqb e 2) bc 0))
 
   -- the sum of the counts of the other two edges
   unfoldable pub others : ℕ → ℕ
-  others e = count (other (lower e) e) + count (other (upper e) e)
+  others e = countOn (other (lower e) e) + countOn (other (upper e) e)
 
   -- the index of the k-th crossing from the end w of the edge e (01)
   unfoldable pub kth : ℕ → ℕ → ℕ → ℕ
-  kth w e k = pick (eqb w (lower e)) k (count e - 1 - k)
+  kth w e k = pick (eqb w (lower e)) k (countOn e - 1 - k)
 
   -- the corner count at the end w of the edge e
-  unfoldable pub cornerAt : ℕ → ℕ → ℕ
-  cornerAt w e = corner (count e) (count (other w e)) (count (opposite w))
+  unfoldable pub cornerCountAt : ℕ → ℕ → ℕ
+  cornerCountAt w e = cornerCount (countOn e) (countOn (other w e)) (countOn (opposite w))
 
   -- the partner of the k-th crossing from w on the edge e, where k is below the corner count: the k-th from w on the other edge
   unfoldable pub partner : ℕ → ℕ → ℕ → List ℕ
@@ -70,8 +70,8 @@ module _ (ab ac bc : ℕ) where
   -- the face call (01) for the crossing t of the edge e, which is the t-th from the lower end and the (count e - 1 - t)-th from the upper
   unfoldable pub faceJoin : ℕ → ℕ → List ℕ
   faceJoin e t =
-      pick (leb (count e) t) noCrossing
-      (pick (ltb t (cornerAt (lower e) e)) (partner (lower e) e t)
-      (pick (ltb (count e - 1 - t) (cornerAt (upper e) e)) (partner (upper e) e (count e - 1 - t))
-      (pick (ltb (others e) (count e)) (residual e (count e - others e) (t - cornerAt (lower e) e) t)
+      pick (leb (countOn e) t) noCrossing
+      (pick (ltb t (cornerCountAt (lower e) e)) (partner (lower e) e t)
+      (pick (ltb (countOn e - 1 - t) (cornerCountAt (upper e) e)) (partner (upper e) e (countOn e - 1 - t))
+      (pick (ltb (others e) (countOn e)) (residual e (countOn e - others e) (t - cornerCountAt (lower e) e) t)
       unjoined)))

@@ -3,7 +3,7 @@
 use Prim.Native.Nat.{ℕ, _+_, _-_, _%_, _<_, _≤_}
 use mathlib.Core.Path.{_≡_}
 use mathlib.Core.Logic.{_≢_}
-use Rattle.face.specs.Face.{lower, upper, other, count, kth, cornerAt}
+use Rattle.face.specs.Face.{lower, upper, other, countOn, kth, cornerCountAt}
 use Rattle.face.specs.Ends.{Edge, End}
 use Rattle.face.specs.Rim.{Segment}
 
@@ -16,31 +16,31 @@ pub record Level (p q o : ℕ) : Type 0 where
 
 pub record LevelLaws (ab ac bc : ℕ) : Type 0 where
   -- the corners of an edge leave nothing between them
-  pub full : (e : ℕ) → Edge e → cornerAt ab ac bc (lower e) e + cornerAt ab ac bc (upper e) e ≡ count ab ac bc e
+  pub full : (e : ℕ) → Edge e → cornerCountAt ab ac bc (lower e) e + cornerCountAt ab ac bc (upper e) e ≡ countOn ab ac bc e
   -- every crossing is joined, and round a corner
-  pub joined : (e t : ℕ) → t < count ab ac bc e → (e′ : ℕ) × (t′ : ℕ) × Segment ab ac bc e t e′ t′
+  pub joined : (e t : ℕ) → t < countOn ab ac bc e → (e′ : ℕ) × (t′ : ℕ) × Segment ab ac bc e t e′ t′
   pub turns : (e t e′ t′ : ℕ) → Segment ab ac bc e t e′ t′ → e ≢ e′
 
 -- Corner segments taken off such a face, `off w` of them at the node w. Of each edge a range of its crossings remains.
 module _ (ab ac bc : ℕ) (off : ℕ → ℕ) where
   -- the remaining count of edge e
   unfoldable pub less : ℕ → ℕ
-  less e = count ab ac bc e - off (lower e) - off (upper e)
+  less e = countOn ab ac bc e - off (lower e) - off (upper e)
 
   -- no more is taken off than the corners have
   pub record Off : Type 0 where
     pub level : Level ab ac bc
-    pub few : (w e : ℕ) → End w e → off w ≤ cornerAt ab ac bc w e
+    pub few : (w e : ℕ) → End w e → off w ≤ cornerCountAt ab ac bc w e
 
   -- crossing t of edge e remains
   pub record Remains (e t : ℕ) : Type 0 where
     pub low : off (lower e) ≤ t
-    pub high : t + off (upper e) < count ab ac bc e
+    pub high : t + off (upper e) < countOn ab ac bc e
 
   pub record ShiftLaws : Type 0 where
     -- rule 1 again; each corner count is less by what was taken off there
     pub level : Level (less 0) (less 1) (less 2)
-    pub corner : (w e : ℕ) → End w e → cornerAt (less 0) (less 1) (less 2) w e + off w ≡ cornerAt ab ac bc w e
+    pub corner : (w e : ℕ) → End w e → cornerCountAt (less 0) (less 1) (less 2) w e + off w ≡ cornerCountAt ab ac bc w e
     -- what is joined over the remaining counts is joined over all
     pub kept : (e t e′ t′ : ℕ) → Segment (less 0) (less 1) (less 2) e t e′ t′ → Segment ab ac bc e (off (lower e) + t) e′ (off (lower e′) + t′)
     -- a crossing that remains is joined to one that remains, and over the remaining counts too

@@ -7,26 +7,26 @@ use lib.Dec.{eqb}
 use lib.ListN.{getD}
 use Rattle.counting.specs.Search.{count as passing, rise}
 use Rattle.counting.specs.Pack.{pre, row, col}
-use Rattle.face.specs.Face.{count, faceJoin}
+use Rattle.face.specs.Face.{countOn, faceJoin}
 
-abbrev pub edges : ℕ
-edges = 3
+abbrev pub faceEdges : ℕ
+faceEdges = 3
 
 module _ (ab ac bc : ℕ) where
   -- the answer of the face call for the crossing x
-  unfoldable pub answerOf : ℕ → List ℕ
-  answerOf x = faceJoin ab ac bc (row (count ab ac bc) edges x) (col (count ab ac bc) edges x)
+  unfoldable pub joinOf : ℕ → List ℕ
+  joinOf x = faceJoin ab ac bc (row (countOn ab ac bc) faceEdges x) (col (countOn ab ac bc) faceEdges x)
 
   -- by the first number of the answer
   abbrev pub isJoined : ℕ → Bool
-  isJoined x = eqb (getD (answerOf x) 0 0) 0
+  isJoined x = eqb (getD (joinOf x) 0 0) 0
 
   abbrev pub isUnjoined : ℕ → Bool
-  isUnjoined x = eqb (getD (answerOf x) 0 0) 1
+  isUnjoined x = eqb (getD (joinOf x) 0 0) 1
 
   -- the number of the partner of a joined crossing
   abbrev pub partnerOf : ℕ → ℕ
-  partnerOf x = pre (count ab ac bc) (getD (answerOf x) 1 0) + getD (answerOf x) 2 0
+  partnerOf x = pre (countOn ab ac bc) (getD (joinOf x) 1 0) + getD (joinOf x) 2 0
 
   -- the segments, each counted at its lower end
   unfoldable pub segments : ℕ

@@ -2,7 +2,7 @@
 ghost use mathlib.Core.Path.{_≡_};
 ghost use Prim.Native.Nat.{_+_, _<_};
 ghost use lib.ListN.{getD};
-ghost use Rattle.face.specs.Face.{lower, upper, other, corners, residual, count, kth, partner, faceJoin};
+ghost use Rattle.face.specs.Face.{lower, upper, other, corners, residual, countOn, kth, partner, faceJoin};
 ghost use Rattle.face.specs.Join.{joinNumbers};
 ghost use Rattle.face.specs.Corners.{cornerList};
 ghost use Rattle.face.specs.Ends.{End, AtCorner, OnEdge};
@@ -48,7 +48,7 @@ fn other_edge(node: u32, edge: u32) -> u32
 }
 
 fn count_of(f: Face, edge: u32) -> u8
-    ensures { λ r. ⌜ r ≡ count (f .ab) (f .ac) (f .bc) edge ⌝ }
+    ensures { λ r. ⌜ r ≡ countOn (f .ab) (f .ac) (f .bc) edge ⌝ }
 {
     if edge == 0 {
         return f.ab;
@@ -95,7 +95,7 @@ fn corner_at(c: CornerCounts, node: u32) -> u8
 }
 
 fn kth_of(f: Face, node: u32, edge: u32, k: u32) -> u32
-    requires { ⌜ k < count (f .ab) (f .ac) (f .bc) edge ⌝ }
+    requires { ⌜ k < countOn (f .ab) (f .ac) (f .bc) edge ⌝ }
     ensures { λ r. ⌜ r ≡ kth (f .ab) (f .ac) (f .bc) node edge k ⌝ }
 {
     if node == lower_end(edge) {

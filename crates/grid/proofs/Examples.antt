@@ -5,16 +5,16 @@ use Rattle.counting.specs.Search.{seek, first, last, some, every, count}
 use Rattle.counting.specs.Range.{total, over}
 use Rattle.counting.specs.Pack.{pre}
 use Rattle.counting.specs.Reach.{reach}
-use Rattle.slots.specs.Slots.{lo, hi, corner, contains}
+use Rattle.slots.specs.Slots.{lo, hi, position, contains}
 use Rattle.grid.specs.Grid.{faceNode, sameFace, hasFace, faceName, joins, isEdge, hasEdge, outer, edgeNumber, start}
-use Rattle.grid.specs.Rows.{badLength, badPairs, badCell, sameCell, repeats, third, after, badEdge, unlisted, unused, linked, joined, split, tooMany, rows, gridAnswer}
+use Rattle.grid.specs.Rows.{badLength, badPairs, badCell, sameCell, repeats, crowded, isAfter, badEdge, unlisted, unused, linked, reached, split, tooMany, rows, gridAnswer}
 use Rattle.grid.specs.Examples.{of, examples, found, expected}
 
 pub examples-hold : of (λ x. gridAnswer (x .grid)) examples ≡ of (λ x. x .answer) examples
-unfolding of examples seek first last some every count total pre reach lo hi corner contains faceNode sameFace hasFace joins isEdge hasEdge start
-    badLength badPairs badCell sameCell repeats third after badEdge unlisted unused linked joined split tooMany rows orRefuse answerOf gridAnswer
+unfolding of examples seek first last some every count total pre reach lo hi position contains faceNode sameFace hasFace joins isEdge hasEdge start
+    badLength badPairs badCell sameCell repeats crowded isAfter badEdge unlisted unused linked reached split tooMany rows orRefuse answerOf gridAnswer
 examples-hold = refl
 
 pub tables-hold : found ≡ expected
-unfolding found expected seek first last some every count total over pre lo hi corner contains faceNode sameFace hasFace faceName joins isEdge outer edgeNumber start
+unfolding found expected seek first last some every count total over pre lo hi position contains faceNode sameFace hasFace faceName joins isEdge outer edgeNumber start
 tables-hold = refl

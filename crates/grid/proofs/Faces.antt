@@ -11,7 +11,7 @@ use borrow.Author.Tests.{eq-eqb, eqb-true, ne-eqb}
 use Rattle.counting.specs.Search.{count, first, some}
 use Rattle.counting.proofs.Search.{AtMostOne, count-blocks, count-ext, count-none, count-plus, first-blocks, first-ext, first-le, some-ext}
 use Rattle.grid.specs.Grid.{cellCount, hasFace, sameFace}
-use Rattle.grid.specs.Rows.{third}
+use Rattle.grid.specs.Rows.{crowded}
 use Rattle.grid.specs.Work.{Across, Mates, Near, RisingCells, Pairing, Table, faceKey, sameKey, thirdAt}
 use Rattle.grid.proofs.Packed.{face-eqb, one-slot}
 
@@ -44,15 +44,15 @@ module _ (cells : List ℕ) (good : RisingCells cells) (keys : List ℕ) (w : Ta
             count-plus (T s) (4 * c) s
             ∙ rw (count-none (λ i. T s (4 * c + i)) s (λ i l. ne-eqb (getD keys (4 * c + i) 0) (getD keys (4 * c + s) 0) (λ q. omega (arith, apart c i s h (omega arith) hs q)))) (omega arith)
 
-    third-keys : third cells c ≡ some (λ s. thirdAt keys (4 * c + s)) 4
-    unfolding third
+    third-keys : crowded cells c ≡ some (λ s. thirdAt keys (4 * c + s)) 4
+    unfolding crowded
     third-keys = some-ext (λ s. ltb 1 (count (hasFace cells c s) c)) (λ s. thirdAt keys (4 * c + s)) 4 slot
 
   -- what `row_5` answers
-  pub third-first : first (thirdAt keys) (4 * cellCount cells) / 4 ≡ first (third cells) (cellCount cells)
+  pub third-first : first (thirdAt keys) (4 * cellCount cells) / 4 ≡ first (crowded cells) (cellCount cells)
   third-first =
       first-blocks (thirdAt keys) 4 (cellCount cells) (omega arith)
-      ∙ sym (first-ext (third cells) (λ c. some (λ s. thirdAt keys (4 * c + s)) 4) (cellCount cells) third-keys)
+      ∙ sym (first-ext (crowded cells) (λ c. some (λ s. thirdAt keys (4 * c + s)) 4) (cellCount cells) third-keys)
 
   pub mates-near : (near : List ℕ) → 4 * cellCount cells ≤ length near → Mates keys (4 * cellCount cells) near → Near cells near
   mates-near near room M = record { room = room; pair = across; all = both }

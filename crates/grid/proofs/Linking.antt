@@ -10,11 +10,11 @@ use Rattle.counting.specs.Search.{first, some}
 use Rattle.counting.proofs.Bools.{and-false-left, and-false-right, and-left, and-right, and-true}
 use Rattle.counting.proofs.Reach.{reach-closed, reach-holds, reach-start}
 use Rattle.counting.proofs.Search.{first-is, none-some, some-first, some-found, some-is, some-none}
-use Rattle.slots.specs.Slots.{contains, lower, place, slotEdge, upper}
+use Rattle.slots.specs.Slots.{contains, lower, edgeRank, slotEdge, upper}
 use Rattle.slots.proofs.Slots.{edge-slot, face-ends, slot-edge}
 use Rattle.grid.specs.Accepted.{EdgeIs, Linked}
 use Rattle.grid.specs.Grid.{Grid, SameFace, cellCount, hasEdge, hasFace, isEdge, node, sameFace}
-use Rattle.grid.specs.Rows.{joined, linked, split}
+use Rattle.grid.specs.Rows.{reached, linked, split}
 use Rattle.grid.proofs.Packed.{same-true, true-same}
 use Rattle.grid.proofs.Sound.{edge-true, flip, true-edge}
 
@@ -55,7 +55,7 @@ module _ (G : Grid) (e a b : ℕ) where
       record {
         r = s;
         s = z .0;
-        j = place s k;
+        j = edgeRank s k;
         r-lt = u .1;
         s-lt = z .1;
         j-lt = g .place-lt;
@@ -102,37 +102,37 @@ module _ (G : Grid) where
           λ q. h .1 (over c d (w .s) (w .r) (w .j) hc hd (w .s-lt) (w .r-lt) (w .j-lt) back is q),
         )
 
-    reached : (c k : ℕ) → c < cellCount (G .cells) → k < 6 → EdgeIs G c k e → Both c
-    unfolding split joined origin Both
-    reached c k h l is =
-        let j = not-false (joined G e c) (sym (ap (λ (x : Bool). x && not (joined G e c)) (has e c k l is))
-        ∙ some-none (λ c. hasEdge G e c && not (joined G e c)) (cellCount (G .cells)) (clear e le) c h) in
+    both : (c k : ℕ) → c < cellCount (G .cells) → k < 6 → EdgeIs G c k e → Both c
+    unfolding split reached origin Both
+    both c k h l is =
+        let j = not-false (reached G e c) (sym (ap (λ (x : Bool). x && not (reached G e c)) (has e c k l is))
+        ∙ some-none (λ c. hasEdge G e c && not (reached G e c)) (cellCount (G .cells)) (clear e le) c h) in
         reach-holds (eqb (origin e)) (linked G e) (cellCount (G .cells)) Both
         (λ x t. subst (λ y. (Q (origin e) → Q y) × (Q y → Q (origin e))) (eqb-true (origin e) x t) (λ y. y, λ y. y))
         link-pass (cellCount (G .cells)) c h j
 
     all-linked : (a b k l : ℕ) → a < cellCount (G .cells) → b < cellCount (G .cells) → k < 6 → l < 6 → EdgeIs G a k e → EdgeIs G b l e → Q a → Q b
     unfolding Both
-    all-linked a b k l ha hb lk ll p q x = reached b l hb ll q .0 (reached a k ha lk p .1 x)
+    all-linked a b k l ha hb lk ll p q x = both b l hb ll q .0 (both a k ha lk p .1 x)
 
   pub clear-links : ((e : ℕ) → e < length (G .counts) → split G e ≡ false) → Linked G
   clear-links clear e le Q over = all-linked clear e le Q over
 
   pub links-clear : Linked G → (e : ℕ) → e < length (G .counts) → split G e ≡ false
-  unfolding split joined origin
-  links-clear link e le = none-some (λ c. hasEdge G e c && not (joined G e c)) (cellCount (G .cells)) (λ c h. clear c h (hasEdge G e c) refl)
+  unfolding split reached origin
+  links-clear link e le = none-some (λ c. hasEdge G e c && not (reached G e c)) (cellCount (G .cells)) (λ c h. clear c h (hasEdge G e c) refl)
     where
-      reaches : (c : ℕ) → c < cellCount (G .cells) → hasEdge G e c ≡ true → joined G e c ≡ true
+      reaches : (c : ℕ) → c < cellCount (G .cells) → hasEdge G e c ≡ true → reached G e c ≡ true
       reaches c h p =
           let lf = some-first (hasEdge G e) (cellCount (G .cells)) (some-found (hasEdge G e) (cellCount (G .cells)) c h p) in
           let (k, lk, is) = edge-of e c p in
           let (l, ll, fis) = edge-of e (origin e) (first-is (hasEdge G e) (cellCount (G .cells)) lf) in
-          link e le (λ d. joined G e d ≡ true)
+          link e le (λ d. reached G e d ≡ true)
           (λ a b r s j la lb lr ls lj face ai q. reach-closed (eqb (origin e)) (linked G e) (cellCount (G .cells)) a b la lb q
           (shared-linked G e a b (record { r = r; s = s; j = j; r-lt = lr; s-lt = ls; j-lt = lj; face = face; is = ai })))
           (origin e) c l k lf h ll lk fis is
           (reach-start (eqb (origin e)) (linked G e) (cellCount (G .cells)) (cellCount (G .cells)) (origin e) (eq-eqb (origin e) (origin e) refl))
 
-      clear : (c : ℕ) → c < cellCount (G .cells) → (b : Bool) → hasEdge G e c ≡ b → hasEdge G e c && not (joined G e c) ≡ false
-      clear c h true p = and-false-right (hasEdge G e c) (not (joined G e c)) (ap not (reaches c h p))
-      clear c h false p = and-false-left (hasEdge G e c) (not (joined G e c)) p
+      clear : (c : ℕ) → c < cellCount (G .cells) → (b : Bool) → hasEdge G e c ≡ b → hasEdge G e c && not (reached G e c) ≡ false
+      clear c h true p = and-false-right (hasEdge G e c) (not (reached G e c)) (ap not (reaches c h p))
+      clear c h false p = and-false-left (hasEdge G e c) (not (reached G e c)) p

@@ -16,7 +16,7 @@ use Rattle.counting.specs.Search.{count, last, some}
 use Rattle.counting.proofs.Bools.{and-false-left}
 use Rattle.counting.proofs.Involution.{count-less, less}
 use Rattle.counting.proofs.Search.{count-ext, down-hit, down-miss, last-is, last-le, some-through, some-zero}
-use Rattle.slots.specs.Slots.{contains, corner, hi, lo, otherSlot, rankIn, secondSlot}
+use Rattle.slots.specs.Slots.{contains, position, hi, lo, otherSlot, rankIn, secondSlot}
 use Rattle.slots.proofs.Slots.{Third, ends-sum, rank-of, third-of, two-slots}
 use Rattle.grid.specs.Work.{Closed, Reached, Grown, OnSlot, Open, Paired, KeySlot, Splitting, Spread, Spreadable, Spreading, Spreads, missing, rank, sameKey}
 
@@ -105,9 +105,9 @@ module _ {keys near : List ℕ} {n key mark b : ℕ} {marks₀ marks : List ℕ}
         unfolding o
         o-lt = third-of k ((p - 1) % 4) hk (omega arith) h₁ .lt
 
-        o-is : corner ((p - 1) % 4) r ≡ o
+        o-is : position ((p - 1) % 4) r ≡ o
         unfolding o k
-        o-is = ap (corner ((p - 1) % 4)) (across .1) ∙ (let T = third-of k ((p - 1) % 4) hk (omega arith) h₁ in rank-of ((p - 1) % 4) o (omega arith) (T .lt) (T .not-omitted) .1)
+        o-is = ap (position ((p - 1) % 4)) (across .1) ∙ (let T = third-of k ((p - 1) % 4) hk (omega arith) h₁ in rank-of ((p - 1) % 4) o (omega arith) (T .lt) (T .not-omitted) .1)
 
         next-div : (4 * ((p - 1) / 4) + o) / 4 ≡ (p - 1) / 4
         next-div = omega (arith, o-lt)
@@ -180,7 +180,7 @@ module _ {keys near : List ℕ} {n key mark b : ℕ} {marks₀ marks : List ℕ}
                 ⊎-elim (λ (z : getD marks c 0 ≡ getD marks₀ c 0). inl (s ∙ z)) (λ (z : getD marks c 0 ≡ mark). inr (s ∙ z)) (g .grown .only c)
 
         -- the loop goes on across the other slot
-        pub going-more : (s q : ℕ) → s ≡ corner ((p - 1) % 4) r → q ≡ rankIn s ((p - 1) % 4)
+        pub going-more : (s q : ℕ) → s ≡ position ((p - 1) % 4) r → q ≡ rankIn s ((p - 1) % 4)
             → Going keys near n key mark b marks₀ (set marks ((p - 1) / 4) mark) (4 * ((p - 1) / 4) + s) q
         going-more s q es eq = rw (eq, es, o-is) on-edge
 
@@ -225,7 +225,7 @@ module _ {near : List ℕ} {n mark start q : ℕ} {marks₀ : List ℕ} (P : Spr
             over = λ keys key b s. (let g = w .over keys key b s in record { grown = g .grown; opens = going-met (s .paired) g p (w .p-is) pos h });
           }
 
-      pub walking-more : getD marks ((p - 1) / 4) 0 ≢ mark → (s t x : ℕ) → s < 4 → s ≡ corner ((p - 1) % 4) r → t < 3 → t ≡ rankIn s ((p - 1) % 4)
+      pub walking-more : getD marks ((p - 1) / 4) 0 ≢ mark → (s t x : ℕ) → s < 4 → s ≡ position ((p - 1) % 4) r → t < 3 → t ≡ rankIn s ((p - 1) % 4)
           → x ≡ getD near (4 * ((p - 1) / 4) + s) 0 → Walking near n mark start q marks₀ (set marks ((p - 1) / 4) mark) t x
       walking-more new s t x hs es ht et ex =
           record {

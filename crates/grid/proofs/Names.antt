@@ -10,7 +10,7 @@ use borrow.Author.Tests.{eq-eqb}
 use Rattle.counting.specs.Search.{count, first, some}
 use Rattle.counting.proofs.Bools.{and-true, bool-same}
 use Rattle.counting.proofs.Search.{count-one, first-ext, first-is, some-first, some-found, some-is}
-use Rattle.slots.specs.Slots.{contains, corner, slotEdge}
+use Rattle.slots.specs.Slots.{contains, position, slotEdge}
 use Rattle.slots.proofs.Slots.{SlotEdge, slot-edge}
 use Rattle.grid.specs.Accepted.{EdgeNumbers}
 use Rattle.grid.specs.Grid.{Grid, SameFace, cellCount, edgeNumber, faceName, hasFace, isEdge, node, outer, sameFace}
@@ -40,7 +40,7 @@ module _ (cells : List ℕ) where
   -- one name, one face
   pub same-named : (a r b s : ℕ) → a < cellCount cells → b < cellCount cells → r < 4 → s < 4 → faceName cells a r ≡ faceName cells b s → SameFace cells a r b s
   same-named a r b s la lb lr ls e i l =
-      sym (named a r la lr i l) ∙ ap (λ m. node cells (m / 4) (corner (m % 4) i)) e ∙ named b s lb ls i l
+      sym (named a r la lr i l) ∙ ap (λ m. node cells (m / 4) (position (m % 4) i)) e ∙ named b s lb ls i l
 
   pub named-same : (a r b s : ℕ) → SameFace cells a r b s → faceName cells a r ≡ faceName cells b s
   unfolding faceName passes

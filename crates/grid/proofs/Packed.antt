@@ -17,7 +17,7 @@ use Rattle.counting.proofs.Below.{rising-once}
 use Rattle.counting.proofs.Bools.{or-none, or-right}
 use Rattle.counting.proofs.Stored.{length-filled, filled-at}
 use Rattle.counting.proofs.Search.{every-is, first-none, is-every, none-some, some-ext, some-found, some-last, some-none}
-use Rattle.slots.specs.Slots.{corner}
+use Rattle.slots.specs.Slots.{position}
 use Rattle.slots.proofs.Slots.{corner-lt, same-slot}
 use Rattle.grid.specs.Grid.{SameFace, cellCount, faceNode, highestNode, mostCells, node, sameFace}
 use Rattle.grid.specs.Rows.{badCell, badLength, repeats, sameCell}
@@ -113,7 +113,7 @@ module _ (cells : List ℕ) (small : (i : ℕ) → getD cells i 0 < 65536) where
 
   face-small : (c s i : ℕ) → faceNode cells c s i < 65536
   unfolding faceNode
-  face-small c s i = small (4 * c + corner s i)
+  face-small c s i = small (4 * c + position s i)
 
   pub face-eqb : (d t c s : ℕ) → t < 4 → s < 4 → sameFace cells d t c s ≡ eqb (faceKey cells (4 * d + t)) (faceKey cells (4 * c + s))
   unfolding sameFace every faceKey
@@ -155,4 +155,4 @@ module _ (cells : List ℕ) (good : RisingCells cells) where
   -- two slots of a cell are two faces
   pub one-slot : (c t s : ℕ) → c < cellCount cells → t < 4 → s < 4 → sameFace cells c t c s ≡ true → t ≡ s
   one-slot c t s h lt ls e =
-      same-slot t s lt ls (λ i l. rising-once (node cells c) 4 (rises c h) (corner t i) (corner s i) (corner-lt t i l) (corner-lt s i l) (same-true cells c t c s e i l))
+      same-slot t s lt ls (λ i l. rising-once (node cells c) 4 (rises c h) (position t i) (position s i) (corner-lt t i l) (corner-lt s i l) (same-true cells c t c s e i l))

@@ -15,10 +15,10 @@ use Rattle.counting.proofs.Bools.{and-left, and-right, and-true, bool-same, cla
 use Rattle.counting.proofs.Range.{mark}
 use Rattle.counting.proofs.Reach.{reach-closed, reach-start, reach-within}
 use Rattle.counting.proofs.Search.{first-is, first-le, first-none, some-and, some-blocks, some-ext, some-found, some-is, some-none}
-use Rattle.slots.specs.Slots.{contains, hi, lo, lower, place, slotEdge, upper}
+use Rattle.slots.specs.Slots.{contains, hi, lo, lower, edgeRank, slotEdge, upper}
 use Rattle.slots.proofs.Slots.{edge-order, edge-slot, face-ends, slot-edge, slot-rank, two-slots}
 use Rattle.grid.specs.Grid.{Grid, cellCount, hasEdge, hasFace, isEdge, node, sameFace}
-use Rattle.grid.specs.Rows.{joined, linked, split}
+use Rattle.grid.specs.Rows.{reached, linked, split}
 use Rattle.grid.specs.Work.{Closed, Reached, Near, RisingCells, Paired, KeySlot, Table, edgeKey, join, missing, rank, sameKey, sideKey}
 use Rattle.grid.proofs.Marks.{top-key, top-le}
 use Rattle.grid.proofs.Packed.{join-eqb, rises, same-true}
@@ -64,7 +64,7 @@ module _ (cells : List ℕ) (good : RisingCells cells) (keys near : List ℕ) (t
       → getD keys (6 * c + k) 0 ≡ key → contains k s ≡ true → (m : ℕ) × (m < 6) × (getD keys (6 * d + m) 0 ≡ key) × (contains m t ≡ true) × (rank m t ≡ rank k s)
   carried key d t c s k hd ht hc hs hk e is h =
       let g = edge-slot k s hk hs h in
-      let j = place s k in
+      let j = edgeRank s k in
       let u = slot-edge s j hs (g .place-lt) in
       let v = slot-edge t j ht (g .place-lt) in
       let (a, b) = face-ends j (g .place-lt) in
@@ -180,7 +180,7 @@ module _ (G : Grid) (good : RisingCells (G .cells)) (keys near : List ℕ) (tk :
     marked c = eqb (getD marks c 0) mark
 
     A : ℕ → Bool
-    A = joined G e
+    A = reached G e
 
     -- the first cell of the edge
     f : ℕ
@@ -197,11 +197,11 @@ module _ (G : Grid) (good : RisingCells (G .cells)) (keys near : List ℕ) (tk :
     f-has = first-is (hasEdge G e) (cellCount (G .cells)) f-lt
 
     f-in : A f ≡ true
-    unfolding A joined f
+    unfolding A reached f
     f-in = reach-start (eqb f) (linked G e) (cellCount (G .cells)) (cellCount (G .cells)) f (eq-eqb f f refl)
 
     on-link : (d c : ℕ) → d < cellCount (G .cells) → c < cellCount (G .cells) → A d ≡ true → linked G e d c ≡ true → A c ≡ true
-    unfolding A joined
+    unfolding A reached
     on-link d c hd hc r l =
         reach-closed (eqb (first (hasEdge G e) (cellCount (G .cells)))) (linked G e) (cellCount (G .cells)) d c hd hc r l
 
@@ -237,7 +237,7 @@ module _ (G : Grid) (good : RisingCells (G .cells)) (keys near : List ℕ) (tk :
 
     reach-in : (P : ℕ → Bool) → ((d c : ℕ) → d < cellCount (G .cells) → c < cellCount (G .cells) → P d ≡ true → linked G e d c ≡ true → P c ≡ true) → P f ≡ true
         → (c : ℕ) → c < cellCount (G .cells) → A c ≡ true → P c ≡ true
-    unfolding A joined f
+    unfolding A reached f
     reach-in P on start c h r =
         reach-within (eqb f) (linked G e) (cellCount (G .cells)) P (λ d q. rw (← eqb-true f d q) start) on (cellCount (G .cells)) c h r
 

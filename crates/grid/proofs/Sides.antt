@@ -17,7 +17,7 @@ use Rattle.counting.proofs.Bools.{clash, eqb-comm}
 use Rattle.counting.proofs.Search.{first-blocks, first-ext, first-le, first-none, last-above, last-is, last-le, none-first, seek-end, seek-hit, seek-miss, seek-start, some-blocks, some-ext, some-is, some-last, some-none}
 use Rattle.slots.specs.Slots.{hi, lo}
 use Rattle.grid.specs.Grid.{Grid, cellCount, hasEdge, high, isEdge, joins, low, mostCells, mostEdges, node}
-use Rattle.grid.specs.Rows.{after, unlisted, unused}
+use Rattle.grid.specs.Rows.{isAfter, unlisted, unused}
 use Rattle.grid.specs.Work.{Put, Table, blankIn, edgeKey, foundAt, join, listedAt, sameKey, sideKey}
 use Rattle.grid.proofs.Mates.{zeros}
 use Rattle.grid.proofs.Packed.{join-eqb}
@@ -38,8 +38,8 @@ join-ltb a b c d h l = go (eqb a c) refl (ltb b d) refl (ltb a c) refl
     go false e y f true g = lt-ltb (join a b) (join c d) (omega (arith, ltb-true a c g))
     go false e y f false g = le-ltb (join a b) (join c d) (omega (arith, ltb-false a c g, eqb-false a c e))
 
-pub after-key : (edges : List ℕ) → ((i : ℕ) → getD edges i 0 < 65536) → (d e : ℕ) → after edges d e ≡ ltb (edgeKey edges d) (edgeKey edges e)
-unfolding after edgeKey
+pub after-key : (edges : List ℕ) → ((i : ℕ) → getD edges i 0 < 65536) → (d e : ℕ) → isAfter edges d e ≡ ltb (edgeKey edges d) (edgeKey edges e)
+unfolding isAfter edgeKey
 after-key edges small d e = sym (join-ltb (low edges d) (high edges d) (low edges e) (high edges e) (small (2 * d + 1)) (small (2 * e + 1)))
 
 module _ (G : Grid) (smallC : (i : ℕ) → getD (G .cells) i 0 < 65536) (smallE : (i : ℕ) → getD (G .edges) i 0 < 65536) where

@@ -19,7 +19,7 @@ use Rattle.slots.specs.Slots.{hi, lo}
 use Rattle.slots.proofs.Slots.{edge-order, two-slots}
 use Rattle.grid.specs.Accepted.{Before, EdgeIs, EdgeNumbers, Sound}
 use Rattle.grid.specs.Grid.{Grid, SameFace, cellCount, crossings, edgeNumber, hasEdge, hasFace, high, highestNode, isEdge, joins, low, mostCells, mostCrossings, node, sameFace}
-use Rattle.grid.specs.Rows.{after, badCell, badEdge, badLength, badPairs, repeats, sameCell, third, tooMany, unlisted, unused}
+use Rattle.grid.specs.Rows.{isAfter, badCell, badEdge, badLength, badPairs, repeats, sameCell, crowded, tooMany, unlisted, unused}
 use Rattle.grid.proofs.Answers.{length-fine, pairs-fine}
 use Rattle.grid.proofs.Packed.{same-true, true-same}
 
@@ -48,8 +48,8 @@ before-same a b c d e f (inl h) = omega arith
 before-same a b c d e f (inr h) = omega (arith, h .1)
 
 module _ (edges : List ℕ) (d e : ℕ) where
-  after-before : after edges d e ≡ true → Before (low edges d) (high edges d) (low edges e) (high edges e)
-  unfolding after
+  after-before : isAfter edges d e ≡ true → Before (low edges d) (high edges d) (low edges e) (high edges e)
+  unfolding isAfter
   after-before h = go (eqb (low edges d) (low edges e)) refl h
     where
       go : (b : Bool) → eqb (low edges d) (low edges e) ≡ b → pick b (ltb (high edges d) (high edges e)) (ltb (low edges d) (low edges e)) ≡ true
@@ -57,8 +57,8 @@ module _ (edges : List ℕ) (d e : ℕ) where
       go true q k = inr (eqb-true (low edges d) (low edges e) q, ltb-true (high edges d) (high edges e) k)
       go false q k = inl (ltb-true (low edges d) (low edges e) k)
 
-  before-after : Before (low edges d) (high edges d) (low edges e) (high edges e) → after edges d e ≡ true
-  unfolding after
+  before-after : Before (low edges d) (high edges d) (low edges e) (high edges e) → isAfter edges d e ≡ true
+  unfolding isAfter
   before-after (inl h) = rw (ne-eqb (low edges d) (low edges e) (λ q. omega arith)) (lt-ltb (low edges d) (low edges e) h)
   before-after (inr h) = rw (eq-eqb (low edges d) (low edges e) (h .0)) (lt-ltb (high edges d) (high edges e) (h .1))
 
@@ -78,9 +78,9 @@ module _ (G : Grid) (c k e : ℕ) where
       (eq-eqb (low (G .edges) e) (node (G .cells) c (lo k)) (h .low-is)) (eq-eqb (high (G .edges) e) (node (G .cells) c (hi k)) (h .high-is))
 
 -- no face is in three cells
-module _ (cells : List ℕ) (clear : (c : ℕ) → c < cellCount cells → third cells c ≡ false) where
+module _ (cells : List ℕ) (clear : (c : ℕ) → c < cellCount cells → crowded cells c ≡ false) where
   no-three : (x y z u v w : ℕ) → x < y → y < z → z < cellCount cells → u < 4 → v < 4 → w < 4 → SameFace cells x u z w → SameFace cells y v z w → ⊥
-  unfolding third hasFace
+  unfolding crowded hasFace
   no-three x y z u v w a b h lu lv lw f g =
       let k = ltb-false 1 (count (hasFace cells z w) z) (some-none (λ s. ltb 1 (count (hasFace cells z s) z)) 4 (clear z h) w lw) in
       omega (
@@ -107,7 +107,7 @@ pub record Faultless (G : Grid) : Type 0 where
   pub row-2 : badPairs (G .edges) (G .counts) ≡ false
   pub row-3 : (c : ℕ) → c < cellCount (G .cells) → badCell (G .cells) c ≡ false
   pub row-4 : (c : ℕ) → c < cellCount (G .cells) → repeats (G .cells) c ≡ false
-  pub row-5 : (c : ℕ) → c < cellCount (G .cells) → third (G .cells) c ≡ false
+  pub row-5 : (c : ℕ) → c < cellCount (G .cells) → crowded (G .cells) c ≡ false
   pub row-6 : (e : ℕ) → e < length (G .counts) → badEdge (G .edges) e ≡ false
   pub row-7 : (c : ℕ) → c < cellCount (G .cells) → unlisted G c ≡ false
   pub row-8 : (e : ℕ) → e < length (G .counts) → unused G e ≡ false
@@ -146,14 +146,14 @@ module _ (G : Grid) (F : Faultless G) where
   unfolding badEdge
   edge-ends e h =
       ltb-true (low (G .edges) e) (high (G .edges) e) (not-false (ltb (low (G .edges) e) (high (G .edges) e))
-      (or-none (not (ltb (low (G .edges) e) (high (G .edges) e))) (ltb 0 e && not (after (G .edges) (e - 1) e)) (F .row-6 e h) .0))
+      (or-none (not (ltb (low (G .edges) e) (high (G .edges) e))) (ltb 0 e && not (isAfter (G .edges) (e - 1) e)) (F .row-6 e h) .0))
 
   next-edge : (e : ℕ) → suc e < length (G .counts) → Before (low (G .edges) e) (high (G .edges) e) (low (G .edges) (suc e)) (high (G .edges) (suc e))
   unfolding badEdge
   next-edge e h =
-      let b = or-none (not (ltb (low (G .edges) (suc e)) (high (G .edges) (suc e)))) (ltb 0 (suc e) && not (after (G .edges) (suc e - 1) (suc e))) (F .row-6 (suc e) h) .1 in
+      let b = or-none (not (ltb (low (G .edges) (suc e)) (high (G .edges) (suc e)))) (ltb 0 (suc e) && not (isAfter (G .edges) (suc e - 1) (suc e))) (F .row-6 (suc e) h) .1 in
       let z : suc e - 1 ≡ e = omega arith in
-      after-before (G .edges) e (suc e) (not-false (after (G .edges) e (suc e)) (rw (lt-ltb 0 (suc e) (omega arith), z) at b))
+      after-before (G .edges) e (suc e) (not-false (isAfter (G .edges) e (suc e)) (rw (lt-ltb 0 (suc e) (omega arith), z) at b))
 
   sorted-edges : (d e : ℕ) → d < e → e < length (G .counts) → Before (low (G .edges) d) (high (G .edges) d) (low (G .edges) e) (high (G .edges) e)
   sorted-edges d zero l h = absurd (not-suc-le-zero l)
@@ -280,8 +280,8 @@ module _ (G : Grid) (S : Sound G) where
 
   -- THE OTHER WAY: a sound grid has no fault of these rows
 
-  clear-third : (c : ℕ) → c < cellCount (G .cells) → third (G .cells) c ≡ false
-  unfolding third hasFace
+  clear-third : (c : ℕ) → c < cellCount (G .cells) → crowded (G .cells) c ≡ false
+  unfolding crowded hasFace
   clear-third c h = none-some (λ s. ltb 1 (count (hasFace (G .cells) c s) c)) 4 (λ s l. not-clash (ltb 1 (count (hasFace (G .cells) c s) c)) (two s l))
     where
       two : (s : ℕ) → s < 4 → ltb 1 (count (hasFace (G .cells) c s) c) ≡ true → ⊥
@@ -294,9 +294,9 @@ module _ (G : Grid) (S : Sound G) where
 
   clear-edge : (e : ℕ) → e < length (G .counts) → badEdge (G .edges) e ≡ false
   unfolding badEdge
-  clear-edge e h = or-false (not (ltb (low (G .edges) e) (high (G .edges) e))) (ltb 0 e && not (after (G .edges) (e - 1) e)) (rw (lt-ltb (low (G .edges) e) (high (G .edges) e) (S .ends e h))) (later e h)
+  clear-edge e h = or-false (not (ltb (low (G .edges) e) (high (G .edges) e))) (ltb 0 e && not (isAfter (G .edges) (e - 1) e)) (rw (lt-ltb (low (G .edges) e) (high (G .edges) e) (S .ends e h))) (later e h)
     where
-      later : (e : ℕ) → e < length (G .counts) → ltb 0 e && not (after (G .edges) (e - 1) e) ≡ false
+      later : (e : ℕ) → e < length (G .counts) → ltb 0 e && not (isAfter (G .edges) (e - 1) e) ≡ false
       later zero h = refl
       later (suc d) h =
           let z : suc d - 1 ≡ d = omega arith in

@@ -7,7 +7,7 @@ use lib.ListN.{length, getD}
 use lib.Dec.{eqb}
 use Rattle.counting.specs.Search.{first, some, every, count}
 use Rattle.counting.specs.Pack.{pre}
-use Rattle.slots.specs.Slots.{lo, hi, corner, contains}
+use Rattle.slots.specs.Slots.{lo, hi, position, contains}
 
 -- the three lists, four numbers to a cell, two to an edge, one to a count
 pub record Grid : Type 0 where
@@ -45,7 +45,7 @@ module _ (cells : List ℕ) where
 
   -- node i, of three, of slot s (01) of cell c
   unfoldable pub faceNode : ℕ → ℕ → ℕ → ℕ
-  faceNode c s i = node c (corner s i)
+  faceNode c s i = node c (position s i)
 
   -- slot t of cell d and slot s of cell c are one face: the same three nodes. A cell's nodes increase, so they are compared in order.
   unfoldable pub sameFace : ℕ → ℕ → ℕ → ℕ → Bool
@@ -53,7 +53,7 @@ module _ (cells : List ℕ) where
 
   -- the same as equations of nodes
   abbrev pub SameFace : ℕ → ℕ → ℕ → ℕ → Type 0
-  SameFace d t c s = (i : ℕ) → i < 3 → node d (corner t i) ≡ node c (corner s i)
+  SameFace d t c s = (i : ℕ) → i < 3 → node d (position t i) ≡ node c (position s i)
 
   -- cell d has the face at slot s of cell c
   unfoldable pub hasFace : ℕ → ℕ → ℕ → Bool

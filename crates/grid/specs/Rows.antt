@@ -33,17 +33,17 @@ module _ (cells : List ℕ) where
   repeats c = some (λ d. sameCell d c) c
 
   -- 5: two earlier cells have a face of the cell
-  unfoldable pub third : ℕ → Bool
-  third c = some (λ s. ltb 1 (count (hasFace cells c s) c)) 4
+  unfoldable pub crowded : ℕ → Bool
+  crowded c = some (λ s. ltb 1 (count (hasFace cells c s) c)) 4
 
 module _ (edges : List ℕ) where
   -- edge e is after edge d, by the lower end and then the higher
-  unfoldable pub after : ℕ → ℕ → Bool
-  after d e = pick (eqb (low edges d) (low edges e)) (ltb (high edges d) (high edges e)) (ltb (low edges d) (low edges e))
+  unfoldable pub isAfter : ℕ → ℕ → Bool
+  isAfter d e = pick (eqb (low edges d) (low edges e)) (ltb (high edges d) (high edges e)) (ltb (low edges d) (low edges e))
 
   -- 6: the ends of the edge do not rise, or it is not after its predecessor
   unfoldable pub badEdge : ℕ → Bool
-  badEdge e = not (ltb (low edges e) (high edges e)) || (ltb 0 e && not (after (e - 1) e))
+  badEdge e = not (ltb (low edges e) (high edges e)) || (ltb 0 e && not (isAfter (e - 1) e))
 
 module _ (G : Grid) where
   -- 7: an edge of the cell is not listed
@@ -60,11 +60,11 @@ module _ (G : Grid) where
   linked e c d = some (λ k. isEdge G c k e && some (λ s. contains k s && hasFace (G .cells) c s d) 4) 6
 
   -- links lead to cell c from the first cell of edge e
-  unfoldable pub joined : ℕ → ℕ → Bool
-  joined e = reach (eqb (first (hasEdge G e) (cellCount (G .cells)))) (linked e) (cellCount (G .cells)) (cellCount (G .cells))
+  unfoldable pub reached : ℕ → ℕ → Bool
+  reached e = reach (eqb (first (hasEdge G e) (cellCount (G .cells)))) (linked e) (cellCount (G .cells)) (cellCount (G .cells))
 
   unfoldable pub split : ℕ → Bool
-  split e = some (λ c. hasEdge G e c && not (joined e c)) (cellCount (G .cells))
+  split e = some (λ c. hasEdge G e c && not (reached e c)) (cellCount (G .cells))
 
 -- 10: there are more than 65,535 crossings
 unfoldable pub tooMany : List ℕ → Bool
@@ -78,7 +78,7 @@ module _ (G : Grid) where
       ∷ whole 2 (badPairs (G .edges) (G .counts))
       ∷ each 3 (cellCount (G .cells)) (badCell (G .cells))
       ∷ each 4 (cellCount (G .cells)) (repeats (G .cells))
-      ∷ each 5 (cellCount (G .cells)) (third (G .cells))
+      ∷ each 5 (cellCount (G .cells)) (crowded (G .cells))
       ∷ each 6 (length (G .counts)) (badEdge (G .edges))
       ∷ each 7 (cellCount (G .cells)) (unlisted G)
       ∷ each 8 (length (G .counts)) (unused G)

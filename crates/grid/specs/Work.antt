@@ -10,7 +10,7 @@ use Rattle.answer.specs.Answer.{result}
 use Rattle.answer.specs.Rows.{answerOf, since}
 use Rattle.counting.specs.Pick.{pick}
 use Rattle.counting.specs.Search.{first, last, some, count}
-use Rattle.slots.specs.Slots.{lo, hi, rankIn, contains, third}
+use Rattle.slots.specs.Slots.{lo, hi, rankIn, contains, thirdPosition}
 use Rattle.grid.specs.declared.Checked.{Checked}
 use Rattle.grid.specs.declared.Checked.the-variants.{Crossings, Refused}
 use Rattle.grid.specs.Grid.{Grid, highestNode, mostCells, mostCrossings, mostSlots, mostEdges, cellCount, node, faceNode, sameFace, low, high, isEdge, crossings}
@@ -166,7 +166,7 @@ blankIn sides c = some (λ k. eqb (getD sides (6 * c + k) 0) 0) 6
 
 -- the rank in slot s of the node that is no end of edge k
 abbrev pub rank : ℕ → ℕ → ℕ
-rank k s = rankIn s (third k s)
+rank k s = rankIn s (thirdPosition k s)
 
 -- slot j is one of a cell's that contain the edge with this key
 pub record KeySlot (keys : List ℕ) (key j : ℕ) : Type 0 where

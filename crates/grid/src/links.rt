@@ -4,7 +4,7 @@ ghost use mathlib.Core.Logic.{_≢_};
 ghost use Prim.Native.Nat.{_-_, _*_, _/_, _<_};
 ghost use lib.ListN.{length};
 ghost use Rattle.counting.specs.Search.{first, some};
-ghost use Rattle.slots.specs.Slots.{corner, rankIn, otherSlot, secondSlot};
+ghost use Rattle.slots.specs.Slots.{position, rankIn, otherSlot, secondSlot};
 ghost use Rattle.grid.specs.Grid.{gridOf};
 ghost use Rattle.grid.specs.Rows.{split};
 ghost use Rattle.grid.specs.Work.{OnSlot, Spreadable, Spreads, missing, Leaving, Reached, Splitting, Linkable};
@@ -43,7 +43,7 @@ fn other_side(k: usize, s: usize) -> usize
 // The position of slot s's node of this rank, of three.
 fn position(s: usize, rank: usize) -> usize
     requires { ⌜ rank < 3 ⌝ }
-    ensures { λ r. ⌜ r ≡ corner s rank ⌝ }
+    ensures { λ r. ⌜ r ≡ position s rank ⌝ }
     ensures { λ r. ⌜ r < 4 ⌝ }
     ensures { λ r. ⌜ r ≢ s ⌝ }
 {

@@ -5,7 +5,7 @@ use Rattle.counting.specs.Range.{total, over}
 use Rattle.counting.specs.Lists.{tally}
 use Rattle.counting.specs.Pack.{pre, rowFrom, colFrom, row, col}
 use Rattle.counting.specs.Reach.{reach}
-use Rattle.slots.specs.Slots.{lo, hi, corner, lower, upper, edgeOf, slotEdge, place, contains, firstSlot, secondSlot}
+use Rattle.slots.specs.Slots.{lo, hi, position, lower, upper, edgeBetween, slotEdge, edgeRank, contains, firstSlot, secondSlot}
 use Rattle.face.specs.Face as face
 use Rattle.walk.specs.Iterate.{it, orbit}
 use Rattle.walk.specs.Step as step
@@ -14,7 +14,7 @@ use Rattle.cell.specs.Cell as cell
 use Rattle.cell.specs.Loop as loop
 use Rattle.grid.specs.Grid.{faceNode, sameFace, hasFace, faceName, joins, isEdge, hasEdge, edgeNumber, start}
 use Rattle.answer.specs.Rows.{orRefuse, answerOf}
-use Rattle.grid.specs.Rows.{badLength, badPairs, badCell, sameCell, repeats, third, after, badEdge, unlisted, unused, linked, joined, split, tooMany, rows, gridAnswer}
+use Rattle.grid.specs.Rows.{badLength, badPairs, badCell, sameCell, repeats, crowded, isAfter, badEdge, unlisted, unused, linked, reached, split, tooMany, rows, gridAnswer}
 use Rattle.cell.specs.Triangles as triangle
 use Rattle.cell.specs.Words.{cornerWords, words, allWords}
 use Rattle.mesh.specs.Mesh.{gridCell, meshTriangles, meshWords}
@@ -23,23 +23,23 @@ use Rattle.mesh.specs.Answer.{meshAnswer}
 use Rattle.bundle.specs.Record as bytes
 use Rattle.bundle.specs.Bundle as bundle
 use Rattle.bundle.specs.Written.{cellBytes, edgeBytes, bundleBytes}
-use Rattle.listing.specs.Text.{digits, decimal, named, refusedLine, head, wordText, wordAt, line}
+use Rattle.listing.specs.Text.{digits, decimal, labelled, refusedLine, head, wordText, wordAt, line}
 use Rattle.listing.specs.Listing.{orRefused, meshListing, gridListing, bundleListing, listing}
 use Rattle.listing.specs.Examples.{Examples}
 
 pub computed : Examples
 unfolding seek first last some every count total over tally pre rowFrom colFrom row col reach
-    lo hi corner lower upper edgeOf slotEdge place contains firstSlot secondSlot
-    face.other face.opposite face.halfAbove face.corner face.residual face.count face.others face.kth face.cornerAt face.partner face.faceJoin
-    it orbit step.face step.land step.step walk.place walk.turn walk.size walk.loopAt
+    lo hi position lower upper edgeBetween slotEdge edgeRank contains firstSlot secondSlot
+    face.other face.opposite face.halfAbove face.cornerCount face.residual face.countOn face.others face.kth face.cornerCountAt face.partner face.faceJoin
+    it orbit step.face step.land step.step walk.status walk.turn walk.size walk.loopAt
     cell.ahead cell.base cell.holds cell.edge cell.index cell.joinAt cell.joinedTo cell.mate cell.slot cell.step
-    loop.loopSize loop.dart loop.loopDarts loop.folded loop.normal loop.parity loop.nodeWith loop.typeBy loop.inGrid loop.typeOf loop.leasts loop.answerOf loop.loopAnswer
+    loop.loopSize loop.dart loop.loopDarts loop.folded loop.normal loop.parity loop.nodeWith loop.typeBy loop.inGrid loop.typeOf loop.leasts loop.answerFrom loop.loopAnswer
     faceNode sameFace hasFace faceName joins isEdge hasEdge edgeNumber start
-    badLength badPairs badCell sameCell repeats third after badEdge unlisted unused linked joined split tooMany rows orRefuse answerOf gridAnswer
+    badLength badPairs badCell sameCell repeats crowded isAfter badEdge unlisted unused linked reached split tooMany rows orRefuse answerOf gridAnswer
     triangle.numberOf triangle.segmentOf triangle.point triangle.segment triangle.triangle triangle.whole triangle.half0 triangle.half1 triangle.spoke triangle.fan triangle.trianglesBy triangle.inTwo triangle.loopTriangles triangle.cellTriangles
     cornerWords words allWords gridCell meshTriangles meshWords roomAnswer meshAnswer
-    bytes.lengthOf bytes.kindAt bytes.nextAt bytes.isRecord bytes.bodyStart bytes.bodySize bytes.body
+    bytes.lengthOf bytes.kindAt bytes.nextRecord bytes.isRecord bytes.bodyStart bytes.bodySize bytes.body
     bundle.isOf bundle.start bundle.run bundle.cells bundle.edgesFrom bundle.edges bundle.stop bundle.bundleAnswer bundle.nodesOf bundle.endsOf bundle.countsOf
     cellBytes edgeBytes bundleBytes
-    digits decimal named refusedLine head wordText wordAt line orRefused meshListing gridListing bundleListing listing
+    digits decimal labelled refusedLine head wordText wordAt line orRefused meshListing gridListing bundleListing listing
 computed = refl

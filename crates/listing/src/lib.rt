@@ -17,9 +17,9 @@ use bundle::Contents;
 use bundle::EDGE_BYTES;
 use bundle::EDGE_ENDS;
 use bundle::END_BYTES;
+use cell::WORD_COUNT;
 use grid::Checked;
 use mesh::Meshed;
-use cell::WORD_COUNT;
 
 mod lines;
 mod text;

@@ -12,7 +12,7 @@ use Rattle.manifold.specs.Triangle.{cross, Side, Tri, cornerOf, nth}
 use Rattle.manifold.specs.Ring.{Chain, OneRing}
 use Rattle.manifold.specs.Polygon.{Polygon, corner, segment, triangles}
 use Rattle.manifold.specs.Piece.{mateOf, segmentOf, dart}
-use Rattle.manifold.specs.Complex.{Complex, Joins, Lawful, Shut, Has, Shares, Linked, loopOf, mesh}
+use Rattle.manifold.specs.Complex.{Complex, Joins, Lawful, Shut, Has, Shares, LinkedAt, loopOf, mesh}
 use Rattle.manifold.specs.Claims.{AtPoint}
 use Rattle.manifold.proofs.Sound.{member}
 use Rattle.manifold.proofs.Together.{port, Here, Spreads, Together, entered, left}
@@ -126,7 +126,7 @@ module _ (K : Complex) (W : Lawful K) where
           (pass (u .v) (u .i) (w .v) (w .i) (in-mesh-here K a (u .p) (h .a-lt) (u .p-lt) (u .v) (u .i) (u .here)) (in-mesh-here K b (w .p) (h .b-lt) (w .p-lt) (w .v) (w .i) (w .here))
           (u .b, w .b, u .by ∙ sym (h .same) ∙ sym (w .by)) (f (u .p) (u .p-lt) (u .v) (u .i) (u .here)))
 
-      together : Linked K g → Together (mesh K) (cross g)
+      together : LinkedAt K g → Together (mesh K) (cross g)
       unfolding Held
       together link Q pass v i w j hv hw q = go (of K v (hv .member)) (of K w (hw .member))
         where
@@ -136,7 +136,7 @@ module _ (K : Complex) (W : Lawful K) where
               link (Held Q pass) (cross-over Q pass) (a .c) (b .c) (has v a i (hv .lt) (hv .is)) (has w b j (hw .lt) (hw .is)) start
               (b .p) (b .p-lt) w j (record { member = b .in-loop; lt = hw .lt; is = hw .is })
 
-      pub crossing-ring : Linked K g → (c : ℕ) → Has K g c → OneRing (mesh K) (cross g)
+      pub crossing-ring : LinkedAt K g → (c : ℕ) → Has K g c → OneRing (mesh K) (cross g)
       crossing-ring link c h =
           let f = flag c (h .d) (h .lt) (h .on) (h .is) in
           one-ring (mesh K) (closed K W S) (cross g) (together link) (f .v) (f .i) (in-mesh-here K c (f .p) (h .lt) (f .p-lt) (f .v) (f .i) (f .here))

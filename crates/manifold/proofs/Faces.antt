@@ -5,7 +5,7 @@ use mathlib.Core.Logic.{inl, inr, ⊎-elim}
 use Rattle.walk.specs.Darts.{half}
 use Rattle.manifold.specs.Triangle.{seg}
 use Rattle.manifold.specs.Piece.{Local, slotOf, mateOf, segmentOf}
-use Rattle.manifold.specs.Complex.{Complex, Lawful, Joins, SameEnds, Shut, Linked}
+use Rattle.manifold.specs.Complex.{Complex, Lawful, Joins, SameEnds, Shut, LinkedAt}
 use Rattle.manifold.specs.Faces.{Match, Faced, FacesShut, FacesLinked}
 use Rattle.manifold.proofs.Piece.{segment-cases}
 
@@ -50,7 +50,7 @@ module _ (K : Complex) (W : Faced K) where
           (b, lb, ne, m .e, record { lt = m .lt; joined = m .mate (j .joined) .0 }, match-segment (K .at c) (K .at b) s d (j .joined) q m);
     }
 
-    pub faces-linked : (g : ℕ) → FacesLinked K g → Linked K g
+    pub faces-linked : (g : ℕ) → FacesLinked K g → LinkedAt K g
     faces-linked g link Q pass = link Q (λ a b h q.
         let m = W .agree a b (h .s) (h .d) (h .a-lt) (h .b-lt) (h .s-lt) (h .d-lt) (h .face) in
         pass a b (record {

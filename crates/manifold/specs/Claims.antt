@@ -9,7 +9,7 @@ use Rattle.manifold.specs.Triangle.{Side, cross, sideOf, hasSide, nth}
 use Rattle.manifold.specs.Ring.{Chain, OneRing}
 use Rattle.manifold.specs.Polygon.{Polygon, shape, fan, corner, centre, segment, spoke, inners, triangles}
 use Rattle.manifold.specs.Piece.{sizeOf}
-use Rattle.manifold.specs.Complex.{Complex, Shut, Has, Linked, loopOf, mesh}
+use Rattle.manifold.specs.Complex.{Complex, Shut, Has, LinkedAt, loopOf, mesh}
 
 -- the triangles at point k: a chain of one or two from segment k − 1 to segment k through inner sides
 pub record AtPoint (G : Polygon) (k : ℕ) : Type 0 where
@@ -43,7 +43,7 @@ pub record Manifold (K : Complex) : Type 1 where
   -- where nothing is left open, each side is in exactly two
   pub two : Shut K → (t i : ℕ) → t < length (mesh K) → i < 3 → tally (hasSide (sideOf (nth (mesh K) t) i)) (mesh K) ≡ 2
   -- and the triangles at a crossing whose pieces are linked form one ring
-  pub ring : Shut K → (g c : ℕ) → Has K g c → Linked K g → OneRing (mesh K) (cross g)
+  pub ring : Shut K → (g c : ℕ) → Has K g c → LinkedAt K g → OneRing (mesh K) (cross g)
   -- and so do those at the middle of every fan
   pub round : Shut K → (c p : ℕ) → c < K .pieces → p < K .at c .N → 0 < sizeOf (K .at c) p → shape (loopOf K c p) ≡ fan
       → OneRing (mesh K) (centre (loopOf K c p))

@@ -88,5 +88,5 @@ pub record Shares (K : Complex) (g a b : ℕ) : Type 0 where
   pub same : segmentOf (K .at b) e ≡ segmentOf (K .at a) d
 
 -- the pieces with g are all linked through segments that end there: what holds of one of them and passes over these segments holds of all
-abbrev pub Linked : Complex → ℕ → Type 1
-Linked K g = (Q : ℕ → Type 0) → ((a b : ℕ) → Shares K g a b → Q a → Q b) → (a b : ℕ) → Has K g a → Has K g b → Q a → Q b
+abbrev pub LinkedAt : Complex → ℕ → Type 1
+LinkedAt K g = (Q : ℕ → Type 0) → ((a b : ℕ) → Shares K g a b → Q a → Q b) → (a b : ℕ) → Has K g a → Has K g b → Q a → Q b

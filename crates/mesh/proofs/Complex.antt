@@ -8,7 +8,7 @@ use Rattle.counting.proofs.Below.{rising-once}
 use Rattle.counting.proofs.Lists.{values-at}
 use Rattle.counting.proofs.Pack.{pre-le}
 use Rattle.counting.proofs.Search.{first-ext}
-use Rattle.slots.specs.Slots.{lo, hi, corner, lower, upper, slotEdge, place, firstSlot, secondSlot}
+use Rattle.slots.specs.Slots.{lo, hi, position, lower, upper, slotEdge, edgeRank, firstSlot, secondSlot}
 use Rattle.slots.proofs.Slots.{slot-edge, face-ends, same-slot, corner-lt}
 use Rattle.face.specs.Face.{unjoined, faceJoin}
 use Rattle.walk.specs.Darts.{half}
@@ -85,7 +85,7 @@ module _ (G : Grid) where
     names-once : (c : ℕ) → c < cellCount (G .cells) → (s t : ℕ) → s < 4 → t < 4 → at c .name s ≡ at c .name t → s ≡ t
     names-once c lc s t ls lt e =
         let h = same-named (G .cells) c s c t lc lc ls lt (sym (name-of c s ls) ∙ e ∙ name-of c t lt) in
-        same-slot s t ls lt (λ i l. rising-once (node (G .cells) c) 4 (λ a b. S .increasing c a b lc) (corner s i) (corner t i) (corner-lt s i l) (corner-lt t i l) (h i l))
+        same-slot s t ls lt (λ i l. rising-once (node (G .cells) c) 4 (λ a b. S .increasing c a b lc) (position s i) (position t i) (corner-lt s i l) (corner-lt t i l) (h i l))
 
     piece-is : (c : ℕ) → c < cellCount (G .cells) → Piece (at c)
     piece-is c lc = piece (gridCell G c) (record { numbers = number-once c lc; names = names-once c lc })
@@ -125,7 +125,7 @@ module _ (G : Grid) where
       -- crossing x of cell a stands in cell b as y
       module _ (x : ℕ) (o : On (w a) r x) where
         j : ℕ
-        j = place r (edge (w a) x)
+        j = edgeRank r (edge (w a) x)
 
         i : ℕ
         i = index (w a) x

@@ -5,9 +5,9 @@ use Rattle.counting.specs.Range.{total, over}
 use Rattle.counting.specs.Lists.{tally}
 use Rattle.counting.specs.Pack.{pre, rowFrom, colFrom, row, col}
 use Rattle.counting.specs.Reach.{reach}
-use Rattle.slots.specs.Slots.{lo, hi, corner, lower, upper, edgeOf, slotEdge, place, contains, firstSlot, secondSlot}
+use Rattle.slots.specs.Slots.{lo, hi, position, lower, upper, edgeBetween, slotEdge, edgeRank, contains, firstSlot, secondSlot}
 use Rattle.face.specs.Face as face
-use Rattle.face.specs.Tally.{answerOf as faceAnswer, segments, unjoinedCount}
+use Rattle.face.specs.Tally.{joinOf as faceAnswer, segments, unjoinedCount}
 use Rattle.walk.specs.Iterate.{it, orbit}
 use Rattle.walk.specs.Step as step
 use Rattle.walk.specs.Walk as walk
@@ -15,7 +15,7 @@ use Rattle.cell.specs.Cell as cell
 use Rattle.cell.specs.Loop as loop
 use Rattle.grid.specs.Grid.{faceNode, sameFace, hasFace, faceName, joins, isEdge, hasEdge, edgeNumber, start}
 use Rattle.answer.specs.Rows as rows
-use Rattle.grid.specs.Rows.{badLength, badPairs, badCell, sameCell, repeats, third, after, badEdge, unlisted, unused, linked, joined, split, tooMany, rows, gridAnswer}
+use Rattle.grid.specs.Rows.{badLength, badPairs, badCell, sameCell, repeats, crowded, isAfter, badEdge, unlisted, unused, linked, reached, split, tooMany, rows, gridAnswer}
 use Rattle.cell.specs.Triangles as triangle
 use Rattle.cell.specs.Words.{cornerWords, words, allWords}
 use Rattle.cell.specs.Nth.{nthAnswer}
@@ -27,13 +27,13 @@ use Rattle.mesh.specs.Examples.{faceAnswers, startsOf, gridLoops, loopPo
 
 pub examples-hold : ExamplesHold
 unfolding seek first last some every count rise faceAnswer segments unjoinedCount total over tally pre rowFrom colFrom row col reach
-    lo hi corner lower upper edgeOf slotEdge place contains firstSlot secondSlot
-    face.other face.opposite face.halfAbove face.corner face.residual face.count face.others face.kth face.cornerAt face.partner face.faceJoin
-    it orbit step.face step.land step.step walk.place walk.turn walk.size walk.loopAt
+    lo hi position lower upper edgeBetween slotEdge edgeRank contains firstSlot secondSlot
+    face.other face.opposite face.halfAbove face.cornerCount face.residual face.countOn face.others face.kth face.cornerCountAt face.partner face.faceJoin
+    it orbit step.face step.land step.step walk.status walk.turn walk.size walk.loopAt
     cell.ahead cell.base cell.holds cell.edge cell.index cell.joinAt cell.joinedTo cell.mate cell.slot cell.step
-    loop.loopSize loop.dart loop.loopDarts loop.folded loop.normal loop.parity loop.nodeWith loop.typeBy loop.inGrid loop.typeOf loop.leasts loop.answerOf loop.loopAnswer
+    loop.loopSize loop.dart loop.loopDarts loop.folded loop.normal loop.parity loop.nodeWith loop.typeBy loop.inGrid loop.typeOf loop.leasts loop.answerFrom loop.loopAnswer
     faceNode sameFace hasFace faceName joins isEdge hasEdge edgeNumber start
-    badLength badPairs badCell sameCell repeats third after badEdge unlisted unused linked joined split tooMany rows rows.orRefuse rows.answerOf gridAnswer
+    badLength badPairs badCell sameCell repeats crowded isAfter badEdge unlisted unused linked reached split tooMany rows rows.orRefuse rows.answerOf gridAnswer
     triangle.numberOf triangle.segmentOf triangle.point triangle.segment triangle.triangle triangle.whole triangle.half0 triangle.half1 triangle.spoke triangle.fan triangle.trianglesBy triangle.inTwo triangle.loopTriangles triangle.cellTriangles
     cornerWords words allWords nthAnswer gridCell meshTriangles meshWords roomAnswer roomArea askedLoop meshAnswer meshArea loopsAnswer
     faceAnswers startsOf gridLoops loopPoints gridPoints sidesOf different tallies computed examples

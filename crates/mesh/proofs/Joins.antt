@@ -3,7 +3,7 @@ use Prim.Native.Nat.{ℕ, _+_, _*_, _/_, _%_, _<_}
 use mathlib.Core.Path.{_≡_, ap, _∙_}
 use mathlib.Core.Logic.{_⊎_, inl, inr}
 use native.Mathlib.Omega.{arith}
-use Rattle.slots.specs.Slots.{slotEdge, place}
+use Rattle.slots.specs.Slots.{slotEdge, edgeRank}
 use Rattle.slots.proofs.Slots.{slot-edge, EdgeSlot}
 use Rattle.face.specs.Face.{joined, unjoined}
 use Rattle.face.proofs.Claims.{faceLaws}
@@ -28,10 +28,10 @@ module _ (w : Edges) where
   on-dart d l = record { lt = omega arith; slot = slot-has w d l }
 
   -- its index is below the count of its edge there, and edge and index tell it
-  pub index-in : {s x : ℕ} → On s x → index w x < three s (place s (edge w x))
+  pub index-in : {s x : ℕ} → On s x → index w x < three s (edgeRank s (edge w x))
   index-in {s} {x} o = rw (three, o .slot .edge-is) (lay w .index-lt x (o .lt))
 
-  pub is-num : {s x : ℕ} → On s x → number w (slotEdge s (place s (edge w x))) (index w x) ≡ x
+  pub is-num : {s x : ℕ} → On s x → number w (slotEdge s (edgeRank s (edge w x))) (index w x) ≡ x
   is-num {s} {x} o = rw (o .slot .edge-is) (lay w .back x (o .lt))
 
   -- a crossing by its slot, edge and index
@@ -45,8 +45,8 @@ module _ (w : Edges) where
     pub num-index : index w (number w (slotEdge s j) i) ≡ i
     num-index = lay w .number-index (slotEdge s j) i (slot-edge s j ls lj .lt) li
 
-    pub num-place : place s (edge w (number w (slotEdge s j) i)) ≡ j
-    num-place = ap (place s) num-edge ∙ slot-edge s j ls lj .place-is
+    pub num-place : edgeRank s (edge w (number w (slotEdge s j) i)) ≡ j
+    num-place = ap (edgeRank s) num-edge ∙ slot-edge s j ls lj .place-is
 
   -- a crossing on a slot is joined there, to a crossing that is on the slot too; or has no mate
   pub record Joined (s x : ℕ) : Type 0 where
@@ -67,4 +67,4 @@ module _ (w : Edges) where
   -- where the counts of a slot have an even sum, each crossing on it is joined
   pub even-joined : (s x : ℕ) → (three s 0 + three s 1 + three s 2) % 2 ≡ 0 → joinAt w s x ≡ unjoined → ⊥
   unfolding joinAt
-  even-joined s x e u = faceLaws (three s 0) (three s 1) (three s 2) .even e (place s (edge w x)) (index w x) u
+  even-joined s x e u = faceLaws (three s 0) (three s 1) (three s 2) .even e (edgeRank s (edge w x)) (index w x) u

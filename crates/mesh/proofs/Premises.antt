@@ -14,7 +14,7 @@ use Rattle.counting.specs.Reach.{reach}
 use Rattle.counting.proofs.Bools.{clash, and-left, and-right, or-cases}
 use Rattle.counting.proofs.Search.{every-is}
 use Rattle.answer.specs.Answer.{result}
-use Rattle.slots.specs.Slots.{lo, hi, corner, lower, upper, edgeOf, slotEdge, place, contains, firstSlot, secondSlot}
+use Rattle.slots.specs.Slots.{lo, hi, position, lower, upper, edgeBetween, slotEdge, edgeRank, contains, firstSlot, secondSlot}
 use Rattle.face.specs.Face as face
 use Rattle.walk.specs.Iterate.{it, orbit}
 use Rattle.walk.specs.Step as step
@@ -22,7 +22,7 @@ use Rattle.walk.specs.Walk as walk
 use Rattle.cell.specs.Cell as cell
 use Rattle.cell.specs.Loop as loop
 use Rattle.grid.specs.Grid.{Grid, gridOf, cellCount, countOf, outer, faceNode, sameFace, hasFace, faceName, joins, isEdge, hasEdge, edgeNumber, start}
-use Rattle.grid.specs.Rows.{badLength, badPairs, badCell, sameCell, repeats, third, after, badEdge, unlisted, unused, linked, joined, split, tooMany, rows, gridAnswer}
+use Rattle.grid.specs.Rows.{badLength, badPairs, badCell, sameCell, repeats, crowded, isAfter, badEdge, unlisted, unused, linked, reached, split, tooMany, rows, gridAnswer}
 use Rattle.answer.specs.Rows.{orRefuse, answerOf}
 use Rattle.cell.specs.Triangles as triangle
 use Rattle.mesh.specs.Mesh.{gridCell, meshTriangles}
@@ -54,20 +54,20 @@ module _ (G : Grid) where
 
 -- three cells round an edge: every outer edge has count zero, and each face an even sum
 three-pass : premiseTest (gridOf threeCells threeEdges threeCounts) ≡ true
-unfolding premiseTest zeroTest evenTest every some count seek first last total over pre lo hi corner lower upper edgeOf slotEdge contains
+unfolding premiseTest zeroTest evenTest every some count seek first last total over pre lo hi position lower upper edgeBetween slotEdge contains
     outer faceNode sameFace hasFace joins isEdge edgeNumber
 three-pass = refl
 
 three-accepted : gridAnswer (gridOf threeCells threeEdges threeCounts) ≡ result (2 ∷ [])
-unfolding every some count seek first last total over pre reach lo hi corner lower upper edgeOf slotEdge contains
+unfolding every some count seek first last total over pre reach lo hi position lower upper edgeBetween slotEdge contains
     faceNode sameFace hasFace joins isEdge hasEdge edgeNumber start
-    badLength badPairs badCell sameCell repeats third after badEdge unlisted unused linked joined split tooMany rows orRefuse answerOf gridAnswer
+    badLength badPairs badCell sameCell repeats crowded isAfter badEdge unlisted unused linked reached split tooMany rows orRefuse answerOf gridAnswer
 three-accepted = refl
 
 three-triangles : length (meshTriangles (gridOf threeCells threeEdges threeCounts)) ≡ 6
-unfolding every some count seek first last total over pre rowFrom colFrom row col lo hi corner lower upper edgeOf slotEdge place contains firstSlot secondSlot
-    face.other face.opposite face.halfAbove face.corner face.residual face.count face.others face.kth face.cornerAt face.partner face.faceJoin
-    it orbit step.face step.land step.step walk.place walk.turn walk.size walk.loopAt
+unfolding every some count seek first last total over pre rowFrom colFrom row col lo hi position lower upper edgeBetween slotEdge edgeRank contains firstSlot secondSlot
+    face.other face.opposite face.halfAbove face.cornerCount face.residual face.countOn face.others face.kth face.cornerCountAt face.partner face.faceJoin
+    it orbit step.face step.land step.step walk.status walk.turn walk.size walk.loopAt
     cell.ahead cell.base cell.holds cell.edge cell.index cell.joinAt cell.joinedTo cell.mate cell.slot cell.step loop.loopSize loop.dart loop.loopDarts loop.folded loop.normal
     faceNode sameFace faceName joins isEdge edgeNumber start
     triangle.numberOf triangle.segmentOf triangle.point triangle.segment triangle.triangle triangle.whole triangle.half0 triangle.half1 triangle.spoke triangle.fan triangle.trianglesBy triangle.inTwo triangle.loopTriangles triangle.cellTriangles

@@ -12,7 +12,7 @@ use Rattle.counting.proofs.Bools.{clash, and-true, and-left, and-right, holds-o
 use Rattle.counting.specs.Pack.{row}
 use Rattle.counting.proofs.Pack.{row-pack}
 use Rattle.counting.proofs.Search.{Least, least, some-is, some-found}
-use Rattle.slots.specs.Slots.{slotEdge, place, firstSlot, secondSlot}
+use Rattle.slots.specs.Slots.{slotEdge, edgeRank, firstSlot, secondSlot}
 use Rattle.slots.proofs.Slots.{slot-edge}
 use Rattle.face.specs.Face.{unjoined}
 use Rattle.walk.specs.Darts.{half}
@@ -92,7 +92,7 @@ module _ (G : Grid) where
             let v = w G c in
             let s = slotOf (at G c) d in
             let o = on-dart (w G c) d ld in
-            let j = place s (edge v (d / 2)) in
+            let j = edgeRank s (edge v (d / 2)) in
             let (b, lb, ne, t, lt, h) = beyond c s j lc (o .slot .lt) (o .slot .place-lt) (index v (d / 2)) (subst (λ n. index v (d / 2) < n) (three-is c s j (o .slot .lt) (o .slot .place-lt)) (index-in v o)) in
             (b, lb, ne, t, lt, name-of G c s (o .slot .lt) ∙ named-same (G .cells) c s b t h ∙ sym (name-of G b t lt))
 

@@ -10,7 +10,7 @@ use Rattle.answer.specs.Answer.{result, refusal}
 use Rattle.counting.specs.Pick.{pick, one}
 use Rattle.counting.specs.Range.{over, values}
 use Rattle.counting.specs.Lists.{tally}
-use Rattle.face.specs.Face.{joined, unjoined, noCrossing, count, faceJoin}
+use Rattle.face.specs.Face.{joined, unjoined, noCrossing, countOn, faceJoin}
 use Rattle.face.specs.Tally.{segments, unjoinedCount}
 use Rattle.cell.specs.Loop.{loopSize, dart, leasts}
 use Rattle.grid.specs.Grid.{Grid, gridOf, cellCount}
@@ -42,7 +42,7 @@ pub data Example : Type 0 where
 
 -- the answers for all crossings of a face
 unfoldable pub faceAnswers : ℕ → ℕ → ℕ → List (List ℕ)
-faceAnswers ab ac bc = over (λ e. over (λ t. faceJoin ab ac bc e t ∷ []) (count ab ac bc e) 0) 3 0
+faceAnswers ab ac bc = over (λ e. over (λ t. faceJoin ab ac bc e t ∷ []) (countOn ab ac bc e) 0) 3 0
 
 module _ (G : Grid) where
   -- the least crossings of the loops of cell c

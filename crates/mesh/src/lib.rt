@@ -8,10 +8,10 @@ ghost use Rattle.mesh.specs.Answer.{loopsAnswer};
 ghost use Rattle.mesh.specs.Drawn.{Drawn};
 ghost use Rattle.mesh.specs.Done.{Done};
 use cell::Loop;
+use cell::WORD_COUNT;
 use grid::Checked;
 use grid::MOST_EDGES;
 use grid::MOST_SLOTS;
-use cell::WORD_COUNT;
 
 pub mod cells;
 mod meshing;

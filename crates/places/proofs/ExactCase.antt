@@ -17,7 +17,7 @@ use native.Mathlib.Nat.{zero-add}
 use Rattle.grid.specs.Grid.{Grid, low, high, start, countOf, crossings}
 use Rattle.places.specs.declared.Place.{Place}
 use Rattle.places.specs.Place.{along, coordinates, placeAt, numbers, within, properFraction}
-use Rattle.places.specs.Points.{edgeOf, crossingPlace, middles, points}
+use Rattle.places.specs.Points.{edgeOfCrossing, crossingPlace, middles, points}
 use Rattle.places.specs.Rows.{hasNode, badNumber, badFractionAt, badFraction}
 use Rattle.places.specs.Answer.{needed, placesAnswer, placesArea}
 use Rattle.places.specs.Exact.{Exactly, parts, ExactCase}
@@ -46,8 +46,8 @@ module _ (G : Grid) (nodes fractions : List Float) where
     unfolding points
     point-lt = omega (arith, front-long, length-append (over (λ x. at x ∷ []) (crossings (G .counts)) 0) (middles G nodes fractions))
 
-    edge-lt : edgeOf (G .counts) g < length (G .counts)
-    unfolding edgeOf start
+    edge-lt : edgeOfCrossing (G .counts) g < length (G .counts)
+    unfolding edgeOfCrossing start
     edge-lt = row-lt (countOf (G .counts)) (length (G .counts)) g h
 
   module _ (area : List Float) (values : List ℕ) (e : placesAnswer G nodes fractions (length area) ≡ result values) where
@@ -57,20 +57,20 @@ module _ (G : Grid) (nodes fractions : List Float) where
     -- number t of the place that is written for crossing g
     pub written : (g t : ℕ) → g < crossings (G .counts) → t < coordinates
         → getD (placesArea G nodes fractions area) (coordinates * g + t) nan
-        ≡ along (getD nodes (coordinates * low (G .edges) (edgeOf (G .counts) g) + t) nan) (getD nodes (coordinates * high (G .edges) (edgeOf (G .counts) g) + t) nan) (getD fractions g nan)
+        ≡ along (getD nodes (coordinates * low (G .edges) (edgeOfCrossing (G .counts) g) + t) nan) (getD nodes (coordinates * high (G .edges) (edgeOfCrossing (G .counts) g) + t) nan) (getD fractions g nan)
     unfolding placesArea crossingPlace
     written g t h k =
         let ps = points G nodes fractions in
-        let u = placeAt nodes (low (G .edges) (edgeOf (G .counts) g)) in
-        let v = placeAt nodes (high (G .edges) (edgeOf (G .counts) g)) in
+        let u = placeAt nodes (low (G .edges) (edgeOfCrossing (G .counts) g)) in
+        let v = placeAt nodes (high (G .edges) (edgeOfCrossing (G .counts) g)) in
         let s = getD fractions g nan in
         let l = point-lt g h in
         rw (placed-is G nodes fractions (length area) values e)
         (front-at ps area g t u (ok .rows .area-long) l k
         ∙ ap (λ (p : Place). getD (numbers p) t nan) (point-at g h u)
         ∙ number-between u v s t k
-        ∙ ap (λ x. along x (getD (numbers v) t nan) s) (number-loaded nodes (low (G .edges) (edgeOf (G .counts) g)) t k)
-        ∙ ap (λ x. along (getD nodes (coordinates * low (G .edges) (edgeOf (G .counts) g) + t) nan) x s) (number-loaded nodes (high (G .edges) (edgeOf (G .counts) g)) t k))
+        ∙ ap (λ x. along x (getD (numbers v) t nan) s) (number-loaded nodes (low (G .edges) (edgeOfCrossing (G .counts) g)) t k)
+        ∙ ap (λ x. along (getD nodes (coordinates * low (G .edges) (edgeOfCrossing (G .counts) g) + t) nan) x s) (number-loaded nodes (high (G .edges) (edgeOfCrossing (G .counts) g)) t k))
 
     -- rows 16 and 17 at the numbers it is made of
     within-at : (v t : ℕ) → End G (ok .grid) v → t < coordinates → within (getD nodes (coordinates * v + t) nan) ≡ true
@@ -88,8 +88,8 @@ module _ (G : Grid) (nodes fractions : List Float) where
   exact-case area values e g t h k u v n w =
       let a = ok area values e in
       let c = edge-lt g h in
-      let lw = within-at area values e (low (G .edges) (edgeOf (G .counts) g)) t (low-end G (a .grid) (edgeOf (G .counts) g) c) k in
-      let hw = within-at area values e (high (G .edges) (edgeOf (G .counts) g)) t (high-end G (a .grid) (edgeOf (G .counts) g) c) k in
+      let lw = within-at area values e (low (G .edges) (edgeOfCrossing (G .counts) g)) t (low-end G (a .grid) (edgeOfCrossing (G .counts) g) c) k in
+      let hw = within-at area values e (high (G .edges) (edgeOfCrossing (G .counts) g)) t (high-end G (a .grid) (edgeOfCrossing (G .counts) g) c) k in
       subst (λ x. Exactly parts x (pos parts *ℤ u +ℤ n *ℤ (v -ℤ u))) (sym (written area values e g t h k))
       (along-exact _ _ _ u v n (w .lower) (w .upper) (w .part) (within-whole _ u (w .lower) lw) (within-whole _ v (w .upper) hw)
       (proper-part _ n (w .part) (proper-at area values e g h)))

@@ -6,7 +6,7 @@ use Rattle.counting.specs.Range.{total, over}
 use Rattle.counting.specs.Lists.{tally}
 use Rattle.counting.specs.Pack.{pre, rowFrom, colFrom, row, col}
 use Rattle.counting.specs.Reach.{reach}
-use Rattle.slots.specs.Slots.{lo, hi, corner, lower, upper, edgeOf, slotEdge, place, contains, firstSlot, secondSlot}
+use Rattle.slots.specs.Slots.{lo, hi, position, lower, upper, edgeBetween, slotEdge, edgeRank, contains, firstSlot, secondSlot}
 use Rattle.face.specs.Face as face
 use Rattle.walk.specs.Iterate.{it, orbit}
 use Rattle.walk.specs.Step as step
@@ -15,7 +15,7 @@ use Rattle.cell.specs.Cell as cell
 use Rattle.cell.specs.Loop as loop
 use Rattle.grid.specs.Grid.{faceNode, sameFace, hasFace, faceName, joins, isEdge, hasEdge, edgeNumber, start}
 use Rattle.answer.specs.Rows.{orRefuse, answerOf}
-use Rattle.grid.specs.Rows.{badLength, badPairs, badCell, sameCell, repeats, third, after, badEdge, unlisted, unused, linked, joined, split, tooMany, rows, gridAnswer}
+use Rattle.grid.specs.Rows.{badLength, badPairs, badCell, sameCell, repeats, crowded, isAfter, badEdge, unlisted, unused, linked, reached, split, tooMany, rows, gridAnswer}
 use Rattle.cell.specs.Triangles.{numberOf, inTwo}
 use Rattle.mesh.specs.Mesh.{gridCell}
 use Rattle.places.specs.Place.{sumTo, middle, allNumbers, within, properFraction}
@@ -27,14 +27,14 @@ use Rattle.places.specs.Examples.{examples, asked, listed, ExamplesHold}
 pub examples-hold : ExamplesHold
 unfolding add sub mul div neg lt le eq ofInt ofBits
     seek first last some every count total over tally pre rowFrom colFrom row col reach
-    lo hi corner lower upper edgeOf slotEdge place contains firstSlot secondSlot
-    face.other face.opposite face.halfAbove face.corner face.residual face.count face.others face.kth face.cornerAt face.partner face.faceJoin
-    it orbit step.face step.land step.step walk.place walk.turn walk.size walk.loopAt
+    lo hi position lower upper edgeBetween slotEdge edgeRank contains firstSlot secondSlot
+    face.other face.opposite face.halfAbove face.cornerCount face.residual face.countOn face.others face.kth face.cornerCountAt face.partner face.faceJoin
+    it orbit step.face step.land step.step walk.status walk.turn walk.size walk.loopAt
     cell.ahead cell.base cell.holds cell.edge cell.index cell.joinAt cell.joinedTo cell.mate cell.slot cell.step
     loop.loopSize loop.dart loop.loopDarts loop.folded loop.normal loop.inGrid
     faceNode sameFace hasFace faceName joins isEdge hasEdge edgeNumber start
-    badLength badPairs badCell sameCell repeats third after badEdge unlisted unused linked joined split tooMany rows orRefuse answerOf gridAnswer
+    badLength badPairs badCell sameCell repeats crowded isAfter badEdge unlisted unused linked reached split tooMany rows orRefuse answerOf gridAnswer
     numberOf inTwo gridCell
-    sumTo middle allNumbers within properFraction points.edgeOf points.indexOf points.fanBy points.isFan points.pointOf points.crossingPlace points.loopMiddle points.cellMiddles points.middles points.points
+    sumTo middle allNumbers within properFraction points.edgeOfCrossing points.indexOfCrossing points.fanBy points.isFan points.pointOf points.crossingPlace points.loopMiddle points.cellMiddles points.middles points.points
     hasNode highest badLists badNumber badFractionAt badFraction placeRows rowsAnswer placesAnswer placed placesArea examples asked listed
 examples-hold = refl

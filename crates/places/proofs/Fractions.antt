@@ -14,7 +14,7 @@ use Rattle.counting.proofs.Search.{first-le, first-is, first-below, first-at, n
 use Rattle.counting.proofs.Pack.{col-pack, pre-le, pack-lt}
 use Rattle.grid.specs.Grid.{countOf, start, crossings}
 use Rattle.places.specs.Place.{properFraction}
-use Rattle.places.specs.Points.{indexOf}
+use Rattle.places.specs.Points.{indexOfCrossing}
 use Rattle.places.specs.Rows.{badFractionAt, badFraction}
 
 -- the three ways that a fraction is judged
@@ -47,7 +47,7 @@ module _ (counts : List ℕ) where
 
     module _ (e : ℕ) (h : e < length counts) where
       fault-at : (i : ℕ) → i < countOf counts e → badFraction counts fractions (start counts e + i) ≡ badFractionAt fractions (start counts e + i) i
-      unfolding badFraction indexOf start
+      unfolding badFraction indexOfCrossing start
       fault-at i l = ap (badFractionAt fractions (start counts e + i)) (col-pack (countOf counts) (length counts) e i h l)
 
       module _ (g n r : ℕ) (q : g ≡ start counts e) (m : n ≡ countOf counts e) (s : r ≡ first (λ i. badFractionAt fractions (g + i) i) n) (fine : Fine g) where

@@ -15,7 +15,7 @@ use Rattle.counting.proofs.Pack.{row-pack}
 use Rattle.grid.specs.Grid.{low, high, countOf, start}
 use Rattle.places.specs.declared.Place.{Place}
 use Rattle.places.specs.Place.{between, added, coordinates, placeAt, numbers, allNumbers, sumTo}
-use Rattle.places.specs.Points.{edgeOf, crossingPlace}
+use Rattle.places.specs.Points.{edgeOfCrossing, crossingPlace}
 use Rattle.places.specs.Work.{onEdge}
 use Rattle.places.proofs.Numbers.{numbers-append, length-numbers}
 
@@ -61,13 +61,13 @@ module _ (edges counts : List ℕ) (nodes fractions : List Float) where
   on-edge : (e : ℕ) → e < length counts
       → onEdge (placeAt nodes (low edges e)) (placeAt nodes (high edges e)) fractions (countOf counts e) (start counts e)
       ≡ over (λ g. crossingPlace edges counts nodes fractions g ∷ []) (countOf counts e) (start counts e)
-  unfolding onEdge crossingPlace edgeOf start
+  unfolding onEdge crossingPlace edgeOfCrossing start
   on-edge e h =
       over-ext _ _ (countOf counts e) (start counts e)
       (λ q a b.
       let i = q - start counts e in
       let z : q ≡ start counts e + i = omega arith in
-      let r : edgeOf counts q ≡ e = ap (edgeOf counts) z ∙ row-pack (countOf counts) (length counts) e i h (omega arith) in
+      let r : edgeOfCrossing counts q ≡ e = ap (edgeOfCrossing counts) z ∙ row-pack (countOf counts) (length counts) e i h (omega arith) in
       rw r)
 
   pub front-more : (l0 l : List Float) (e g n : ℕ) (u v : Place) → e < length counts → g ≡ start counts e → n ≡ countOf counts e

@@ -10,7 +10,7 @@ use lib.Ieee.Exact.{HasValue}
 use Rattle.answer.specs.Answer.{result}
 use Rattle.grid.specs.Grid.{Grid, low, high, crossings}
 use Rattle.places.specs.Place.{coordinates}
-use Rattle.places.specs.Points.{edgeOf}
+use Rattle.places.specs.Points.{edgeOfCrossing}
 use Rattle.places.specs.Answer.{placesAnswer}
 
 -- the whole number of this size, negative where the sign is true
@@ -32,8 +32,8 @@ parts = 1024
 module _ (edges counts : List ℕ) (nodes fractions : List Float) where
   -- number t of the places of both ends of crossing g's edge is whole, u and v, and its fraction is k parts
   pub record WholeAt (g t : ℕ) (u v k : ℤ) : Type 0 where
-    pub lower : Exactly 1 (getD nodes (coordinates * low edges (edgeOf counts g) + t) nan) u
-    pub upper : Exactly 1 (getD nodes (coordinates * high edges (edgeOf counts g) + t) nan) v
+    pub lower : Exactly 1 (getD nodes (coordinates * low edges (edgeOfCrossing counts g) + t) nan) u
+    pub upper : Exactly 1 (getD nodes (coordinates * high edges (edgeOfCrossing counts g) + t) nan) v
     pub part : Exactly parts (getD fractions g nan) k
 
 module _ (edges counts : List ℕ) (nodes fractions : List Float) where

@@ -21,11 +21,11 @@ use Rattle.places.specs.Place.{between, middle, placeAt}
 
 module _ (counts : List ℕ) where
   -- the edge and the index of the crossing number g
-  unfoldable pub edgeOf : ℕ → ℕ
-  edgeOf g = row (countOf counts) (length counts) g
+  unfoldable pub edgeOfCrossing : ℕ → ℕ
+  edgeOfCrossing g = row (countOf counts) (length counts) g
 
-  unfoldable pub indexOf : ℕ → ℕ
-  indexOf g = col (countOf counts) (length counts) g
+  unfoldable pub indexOfCrossing : ℕ → ℕ
+  indexOfCrossing g = col (countOf counts) (length counts) g
 
 -- a loop of n points is drawn as a fan: it is one, and neither one triangle nor two
 unfoldable pub fanBy : (n : ℕ) (two : Bool) → Bool
@@ -56,7 +56,7 @@ module _ (place : ℕ → Place) where
 module _ (edges counts : List ℕ) (nodes fractions : List Float) where
   -- where crossing g is placed: on its edge, from the lower end to the higher by its fraction
   unfoldable pub crossingPlace : ℕ → Place
-  crossingPlace g = between (placeAt nodes (low edges (edgeOf counts g))) (placeAt nodes (high edges (edgeOf counts g))) (getD fractions g nan)
+  crossingPlace g = between (placeAt nodes (low edges (edgeOfCrossing counts g))) (placeAt nodes (high edges (edgeOfCrossing counts g))) (getD fractions g nan)
 
 module _ (G : Grid) (nodes fractions : List Float) where
   unfoldable pub middles : List Place

@@ -8,7 +8,7 @@ use lib.Ieee.{Float, nan, lt}
 use Rattle.counting.specs.Search.{some}
 use Rattle.grid.specs.Grid.{cellCount, node, crossings}
 use Rattle.places.specs.Place.{coordinates, within, properFraction}
-use Rattle.places.specs.Points.{indexOf}
+use Rattle.places.specs.Points.{indexOfCrossing}
 
 -- v is a node of some cell
 unfoldable pub hasNode : (cells : List ℕ) → ℕ → Bool
@@ -38,4 +38,4 @@ badFractionAt fractions g index =
     not (properFraction (getD fractions g nan)) || (ltb 0 index && not (lt (getD fractions (g - 1) nan) (getD fractions g nan)))
 
 unfoldable pub badFraction : (counts : List ℕ) (fractions : List Float) → ℕ → Bool
-badFraction counts fractions g = badFractionAt fractions g (indexOf counts g)
+badFraction counts fractions g = badFractionAt fractions g (indexOfCrossing counts g)

@@ -12,7 +12,7 @@ use Rattle.counting.specs.Search.{every}
 use Rattle.counting.proofs.Bools.{clash, and-left, and-right, or-cases, imply}
 use Rattle.counting.proofs.Search.{every-is, is-every}
 pub use Rattle.slots.specs.Claims.{SlotEdge, EdgeSlot, TwoSlots, Third}
-use Rattle.slots.specs.Slots.{lo, hi, corner, rankIn, lower, upper, edgeOf, slotEdge, place, contains, third, otherSlot, firstSlot, secondSlot}
+use Rattle.slots.specs.Slots.{lo, hi, position, rankIn, lower, upper, edgeBetween, slotEdge, edgeRank, contains, thirdPosition, otherSlot, firstSlot, secondSlot}
 
 -- a test of two numbers, for any of them
 module _ (m n : ℕ) (t : ℕ → ℕ → Bool) (passes : every (λ a. every (t a) n) m ≡ true) where
@@ -29,25 +29,25 @@ either : (a b n : ℕ) → (eqb a n || eqb b n) ≡ true → (a ≡ n) ⊎ (b �
 either a b n e = ⊎-elim (λ q. inl (eqb-true a n q)) (λ q. inr (eqb-true b n q)) (or-cases (eqb a n) (eqb b n) e)
 
 pub slot-edge : (s j : ℕ) → s < 4 → j < 3 → SlotEdge s j
-unfolding every slotEdge place firstSlot secondSlot contains corner
+unfolding every slotEdge edgeRank firstSlot secondSlot contains position
 slot-edge s j ls lj = record {
   lt = ltb-true (slotEdge s j) 6 (each 4 3 (λ s j. ltb (slotEdge s j) 6) refl s j ls lj);
-  place-is = eqb-true (place s (slotEdge s j)) j (each 4 3 (λ s j. eqb (place s (slotEdge s j)) j) refl s j ls lj);
+  place-is = eqb-true (edgeRank s (slotEdge s j)) j (each 4 3 (λ s j. eqb (edgeRank s (slotEdge s j)) j) refl s j ls lj);
   on = either (firstSlot (slotEdge s j)) (secondSlot (slotEdge s j)) s
       (each 4 3 (λ s j. eqb (firstSlot (slotEdge s j)) s || eqb (secondSlot (slotEdge s j)) s) refl s j ls lj);
-  lo-is = eqb-true (lo (slotEdge s j)) (corner s (lower j)) (each 4 3 (λ s j. eqb (lo (slotEdge s j)) (corner s (lower j))) refl s j ls lj);
-  hi-is = eqb-true (hi (slotEdge s j)) (corner s (upper j)) (each 4 3 (λ s j. eqb (hi (slotEdge s j)) (corner s (upper j))) refl s j ls lj);
+  lo-is = eqb-true (lo (slotEdge s j)) (position s (lower j)) (each 4 3 (λ s j. eqb (lo (slotEdge s j)) (position s (lower j))) refl s j ls lj);
+  hi-is = eqb-true (hi (slotEdge s j)) (position s (upper j)) (each 4 3 (λ s j. eqb (hi (slotEdge s j)) (position s (upper j))) refl s j ls lj);
   within = each 4 3 (λ s j. contains (slotEdge s j) s) refl s j ls lj;
 }
 
 -- the slots that contain an edge
 module _ (k s : ℕ) (lk : k < 6) (ls : s < 4) (h : contains k s ≡ true) where
   pub edge-slot : EdgeSlot k s
-  unfolding every contains slotEdge place
+  unfolding every contains slotEdge edgeRank
   edge-slot = record {
     lt = ls;
-    place-lt = ltb-true (place s k) 3 (each-in (λ k s. ltb (place s k) 3) refl k s lk ls h);
-    edge-is = eqb-true (slotEdge s (place s k)) k (each-in (λ k s. eqb (slotEdge s (place s k)) k) refl k s lk ls h);
+    place-lt = ltb-true (edgeRank s k) 3 (each-in (λ k s. ltb (edgeRank s k) 3) refl k s lk ls h);
+    edge-is = eqb-true (slotEdge s (edgeRank s k)) k (each-in (λ k s. eqb (slotEdge s (edgeRank s k)) k) refl k s lk ls h);
   }
 
   pub one-of-two : (firstSlot k ≡ s) ⊎ (secondSlot k ≡ s)
@@ -57,10 +57,10 @@ module _ (k s : ℕ) (lk : k < 6) (ls : s < 4) (h : contains k s ≡ true) where
   pub third-of : Third k s
   unfolding every contains lo hi
   third-of = record {
-    lt = ltb-true (third k s) 4 (each-in (λ k s. ltb (third k s) 4) refl k s lk ls h);
-    not-omitted = eqb-false (third k s) s (not-true _ (each-in (λ k s. not (eqb (third k s) s)) refl k s lk ls h));
-    not-lo = eqb-false (third k s) (lo k) (not-true _ (each-in (λ k s. not (eqb (third k s) (lo k))) refl k s lk ls h));
-    not-hi = eqb-false (third k s) (hi k) (not-true _ (each-in (λ k s. not (eqb (third k s) (hi k))) refl k s lk ls h));
+    lt = ltb-true (thirdPosition k s) 4 (each-in (λ k s. ltb (thirdPosition k s) 4) refl k s lk ls h);
+    not-omitted = eqb-false (thirdPosition k s) s (not-true _ (each-in (λ k s. not (eqb (thirdPosition k s) s)) refl k s lk ls h));
+    not-lo = eqb-false (thirdPosition k s) (lo k) (not-true _ (each-in (λ k s. not (eqb (thirdPosition k s) (lo k))) refl k s lk ls h));
+    not-hi = eqb-false (thirdPosition k s) (hi k) (not-true _ (each-in (λ k s. not (eqb (thirdPosition k s) (hi k))) refl k s lk ls h));
     other = each-in (λ k s. contains k (otherSlot k s)) refl k s lk ls h;
     back = eqb-true (otherSlot k (otherSlot k s)) s (each-in (λ k s. eqb (otherSlot k (otherSlot k s)) s) refl k s lk ls h);
     only = λ t lt i. ⊎-elim (λ q. inl (sym q)) (λ q. inr (sym q)) (either s (otherSlot k s) t
@@ -77,7 +77,7 @@ two-slots k l = record {
   first-has = every-is (λ k. contains k (firstSlot k)) 6 refl k l;
   second-has = every-is (λ k. contains k (secondSlot k)) 6 refl k l;
   apart = ltb-true (secondSlot k) (firstSlot k) (every-is (λ k. ltb (secondSlot k) (firstSlot k)) 6 refl k l);
-  lower-third = ltb-true (third k (firstSlot k)) (third k (secondSlot k)) (every-is (λ k. ltb (third k (firstSlot k)) (third k (secondSlot k))) 6 refl k l);
+  lower-third = ltb-true (thirdPosition k (firstSlot k)) (thirdPosition k (secondSlot k)) (every-is (λ k. ltb (thirdPosition k (firstSlot k)) (thirdPosition k (secondSlot k))) 6 refl k l);
   rising = ltb-true (lo k) (hi k) (every-is (λ k. ltb (lo k) (hi k)) 6 refl k l);
   within = ltb-true (hi k) 4 (every-is (λ k. ltb (hi k) 4) 6 refl k l);
 }
@@ -90,12 +90,12 @@ second-slot k l = edge-slot k (secondSlot k) l (two-slots k l .second-lt) (two-s
 
 -- positions and ranks in a slot, case by case
 module _ (s i : ℕ) where
-  pub corner-low : i < s → i ≡ corner s i
-  unfolding corner
+  pub corner-low : i < s → i ≡ position s i
+  unfolding position
   corner-low h = rw (lt-ltb i s h)
 
-  pub corner-high : s ≤ i → i + 1 ≡ corner s i
-  unfolding corner
+  pub corner-high : s ≤ i → i + 1 ≡ position s i
+  unfolding position
   corner-high h = rw (le-ltb i s h) (omega arith)
 
   pub rank-low : i < s → i ≡ rankIn s i
@@ -105,13 +105,13 @@ module _ (s i : ℕ) where
   rank-high h = rw (le-ltb i s h)
 
 -- they tell each other
-pub corner-lt : (s i : ℕ) → i < 3 → corner s i < 4
+pub corner-lt : (s i : ℕ) → i < 3 → position s i < 4
 corner-lt s i l = elim (decLt i s) [ yes h ↦ omega (arith, corner-low s i h) | no h ↦ omega (arith, corner-high s i (omega arith)) ]
 
-pub omitted : (s i : ℕ) → corner s i ≢ s
+pub omitted : (s i : ℕ) → position s i ≢ s
 omitted s i e = elim (decLt i s) [ yes h ↦ omega (arith, corner-low s i h) | no h ↦ omega (arith, corner-high s i (omega arith)) ]
 
-pub corners-rise : (s i j : ℕ) → i < j → corner s i < corner s j
+pub corners-rise : (s i j : ℕ) → i < j → position s i < position s j
 corners-rise s i j l =
     elim (decLt j s) [
       | yes h ↦ omega (arith, corner-low s i (omega arith), corner-low s j h)
@@ -121,7 +121,7 @@ corners-rise s i j l =
       ]
     ]
 
-pub rank-of : (s i : ℕ) → s < 4 → i < 4 → i ≢ s → (rankIn s i < 3) × (corner s (rankIn s i) ≡ i)
+pub rank-of : (s i : ℕ) → s < 4 → i < 4 → i ≢ s → (rankIn s i < 3) × (position s (rankIn s i) ≡ i)
 rank-of s i ls li n =
     elim (decLt i s) [
       | yes h ↦ let e = rank-low s i h in (omega arith, rw (← e) (sym (corner-low s i h)))
@@ -129,27 +129,27 @@ rank-of s i ls li n =
     ]
 
 -- edge j of a slot has its third position at the rank 2 - j
-pub slot-rank : (s j : ℕ) → s < 4 → j < 3 → rankIn s (third (slotEdge s j) s) ≡ 2 - j
+pub slot-rank : (s j : ℕ) → s < 4 → j < 3 → rankIn s (thirdPosition (slotEdge s j) s) ≡ 2 - j
 unfolding every slotEdge lo hi
-slot-rank s j ls lj = eqb-true _ _ (each 4 3 (λ s j. eqb (rankIn s (third (slotEdge s j) s)) (2 - j)) refl s j ls lj)
+slot-rank s j ls lj = eqb-true _ _ (each 4 3 (λ s j. eqb (rankIn s (thirdPosition (slotEdge s j) s)) (2 - j)) refl s j ls lj)
 
 -- the positions of a slot tell it
-pub same-slot : (s t : ℕ) → s < 4 → t < 4 → ((i : ℕ) → i < 3 → corner s i ≡ corner t i) → s ≡ t
-unfolding every corner
+pub same-slot : (s t : ℕ) → s < 4 → t < 4 → ((i : ℕ) → i < 3 → position s i ≡ position t i) → s ≡ t
+unfolding every position
 same-slot s t ls lt h =
     ⊎-elim (λ (e : eqb s t ≡ true). eqb-true s t e)
-    (λ (e : not (every (λ i. eqb (corner s i) (corner t i)) 3) ≡ true).
-    clash (is-every (λ i. eqb (corner s i) (corner t i)) 3 (λ i l. eq-eqb (corner s i) (corner t i) (h i l))) (not-true _ e))
-    (or-cases (eqb s t) (not (every (λ i. eqb (corner s i) (corner t i)) 3))
-    (each 4 4 (λ s t. eqb s t || not (every (λ i. eqb (corner s i) (corner t i)) 3)) refl s t ls lt))
+    (λ (e : not (every (λ i. eqb (position s i) (position t i)) 3) ≡ true).
+    clash (is-every (λ i. eqb (position s i) (position t i)) 3 (λ i l. eq-eqb (position s i) (position t i) (h i l))) (not-true _ e))
+    (or-cases (eqb s t) (not (every (λ i. eqb (position s i) (position t i)) 3))
+    (each 4 4 (λ s t. eqb s t || not (every (λ i. eqb (position s i) (position t i)) 3)) refl s t ls lt))
 
 -- two positions and their edge
-pub edge-pair : (a b : ℕ) → a < b → b < 4 → (edgeOf a b < 6) × (lo (edgeOf a b) ≡ a) × (hi (edgeOf a b) ≡ b)
-unfolding every edgeOf lo hi
+pub edge-pair : (a b : ℕ) → a < b → b < 4 → (edgeBetween a b < 6) × (lo (edgeBetween a b) ≡ a) × (hi (edgeBetween a b) ≡ b)
+unfolding every edgeBetween lo hi
 edge-pair a b l h = (
-  ltb-true _ _ (rising (λ a b. ltb (edgeOf a b) 6) refl),
-  eqb-true _ _ (rising (λ a b. eqb (lo (edgeOf a b)) a) refl),
-  eqb-true _ _ (rising (λ a b. eqb (hi (edgeOf a b)) b) refl),
+  ltb-true _ _ (rising (λ a b. ltb (edgeBetween a b) 6) refl),
+  eqb-true _ _ (rising (λ a b. eqb (lo (edgeBetween a b)) a) refl),
+  eqb-true _ _ (rising (λ a b. eqb (hi (edgeBetween a b)) b) refl),
 )
   where
     rising : (t : ℕ → ℕ → Bool) → every (λ a. every (λ b. not (ltb a b) || t a b) 4) 4 ≡ true → t a b ≡ true

@@ -16,8 +16,8 @@ unfoldable pub hi : ℕ → ℕ
 hi k = getD (1 ∷ 2 ∷ 3 ∷ 2 ∷ 3 ∷ 3 ∷ []) k 0
 
 -- the i-th position, of three, of slot s
-unfoldable pub corner : ℕ → ℕ → ℕ
-corner s i = pick (ltb i s) i (suc i)
+unfoldable pub position : ℕ → ℕ → ℕ
+position s i = pick (ltb i s) i (suc i)
 
 -- the rank of position i among the three of slot s
 abbrev pub rankIn : ℕ → ℕ → ℕ
@@ -31,19 +31,19 @@ unfoldable pub upper : ℕ → ℕ
 upper j = pick (eqb j 0) 1 2
 
 -- the edge that joins the positions a and b
-unfoldable pub edgeOf : ℕ → ℕ → ℕ
+unfoldable pub edgeBetween : ℕ → ℕ → ℕ
 unfolding first lo hi
-edgeOf a b = first (λ k. eqb (lo k) a && eqb (hi k) b) 6
+edgeBetween a b = first (λ k. eqb (lo k) a && eqb (hi k) b) 6
 
 -- the edge of the cell that is edge j, ab ac bc, of slot s
 unfoldable pub slotEdge : ℕ → ℕ → ℕ
-unfolding edgeOf corner lower upper
-slotEdge s j = edgeOf (corner s (lower j)) (corner s (upper j))
+unfolding edgeBetween position lower upper
+slotEdge s j = edgeBetween (position s (lower j)) (position s (upper j))
 
 -- which edge, ab ac bc, of slot s the edge k is
-unfoldable pub place : ℕ → ℕ → ℕ
+unfoldable pub edgeRank : ℕ → ℕ → ℕ
 unfolding first slotEdge
-place s k = first (λ j. eqb (slotEdge s j) k) 3
+edgeRank s k = first (λ j. eqb (slotEdge s j) k) 3
 
 -- slot s contains edge k: it omits neither end
 unfoldable pub contains : ℕ → ℕ → Bool
@@ -51,12 +51,12 @@ unfolding lo hi
 contains k s = not (eqb s (lo k)) && not (eqb s (hi k))
 
 -- the third position of slot s, which contains edge k: no end of k, and not omitted. The four positions add up to 6
-abbrev pub third : ℕ → ℕ → ℕ
-third k s = 6 - lo k - hi k - s
+abbrev pub thirdPosition : ℕ → ℕ → ℕ
+thirdPosition k s = 6 - lo k - hi k - s
 
 -- the slot other than s that contains edge k: the one that omits that position
 abbrev pub otherSlot : ℕ → ℕ → ℕ
-otherSlot k s = third k s
+otherSlot k s = thirdPosition k s
 
 -- the two slots that contain edge k. The first is the face whose third node is lower: the one that omits the higher of the two other positions
 unfoldable pub firstSlot : ℕ → ℕ

@@ -9,10 +9,10 @@ use lib.Dec.{eqb, ltb}
 use borrow.Author.Tests.{eqb-true, eqb-false, ltb-true, ltb-false, lt-ltb, le-ltb, eq-eqb, ne-eqb}
 use Rattle.walk.specs.Iterate.{it}
 use Rattle.walk.specs.Darts.{half, Darts, Loop, Lowest}
-use Rattle.walk.specs.Walk.{Place, home, off, on, place, judge, turn, size}
+use Rattle.walk.specs.Walk.{Status, home, off, on, status, judge, turn, size}
 use Rattle.walk.proofs.Curve.{no-return, distinct}
 
-module _ (s : ℕ → ℕ) (at : ℕ → Place) where
+module _ (s : ℕ → ℕ) (at : ℕ → Status) where
   pub turn-home : (n k d : ℕ) → at d ≡ home → turn s at (suc n) k d ≡ k
   unfolding turn
   turn-home n k d e = rw (e, turn)
@@ -25,7 +25,7 @@ module _ (s : ℕ → ℕ) (at : ℕ → Place) where
   unfolding turn
   turn-on n k d e = rw (e, turn)
 
-module _ (s : ℕ → ℕ) (at : ℕ → Place) where
+module _ (s : ℕ → ℕ) (at : ℕ → Status) where
   -- a walk from d that comes home after j steps, within n
   pub record Came (n d j : ℕ) : Type 0 where
     pub within : j < n
@@ -38,7 +38,7 @@ module _ (s : ℕ → ℕ) (at : ℕ → Place) where
   came (suc n) k d r e = go (came n (suc k) (s d) r) (at d) refl
     where
       go : (turn s at n (suc k) (s d) ≡ suc r → (j : ℕ) × (suc r ≡ suc k + j) × Came n (s d) j)
-          → (x : Place) → at d ≡ x → (j : ℕ) × (suc r ≡ k + j) × Came (suc n) d j
+          → (x : Status) → at d ≡ x → (j : ℕ) × (suc r ≡ k + j) × Came (suc n) d j
       go ih home q = (0, omega (arith, e, turn-home s at n k d q), record { within = omega arith; last = q; way = λ i h. absurd (not-suc-le-zero h) })
       go ih off q = absurd (omega (arith, e, turn-off s at n k d q))
       go ih on q =
@@ -59,8 +59,8 @@ module _ (s : ℕ → ℕ) (at : ℕ → Place) where
       ∙ omega arith
 
 -- what a place says, both ways
-place-home : (M p d : ℕ) → place M p d ≡ home → (d < M) × (d / 2 ≡ p)
-unfolding place
+place-home : (M p d : ℕ) → status M p d ≡ home → (d < M) × (d / 2 ≡ p)
+unfolding status
 place-home M p d e = go (ltb d M) (ltb (d / 2) p) (eqb (d / 2) p) refl refl refl e
   where
     go : (a b c : Bool) → ltb d M ≡ a → ltb (d / 2) p ≡ b → eqb (d / 2) p ≡ c → judge a b c ≡ home → (d < M) × (d / 2 ≡ p)
@@ -69,8 +69,8 @@ place-home M p d e = go (ltb d M) (ltb (d / 2) p) (eqb (d / 2) p) refl refl refl
     go true false true u v w q = (ltb-true d M u, eqb-true (d / 2) p w)
     go true false false u v w q = let z : _≡_ {A = ℕ} 0 1 = cc in absurd (omega arith)
 
-place-on : (M p d : ℕ) → place M p d ≡ on → (d < M) × (p < d / 2)
-unfolding place
+place-on : (M p d : ℕ) → status M p d ≡ on → (d < M) × (p < d / 2)
+unfolding status
 place-on M p d e = go (ltb d M) (ltb (d / 2) p) (eqb (d / 2) p) refl refl refl e
   where
     go : (a b c : Bool) → ltb d M ≡ a → ltb (d / 2) p ≡ b → eqb (d / 2) p ≡ c → judge a b c ≡ on → (d < M) × (p < d / 2)
@@ -79,12 +79,12 @@ place-on M p d e = go (ltb d M) (ltb (d / 2) p) (eqb (d / 2) p) refl refl refl e
     go true false true u v w q = let z : _≡_ {A = ℕ} 0 1 = cc in absurd (omega arith)
     go true false false u v w q = (ltb-true d M u, omega (arith, ltb-false (d / 2) p v, eqb-false (d / 2) p w))
 
-pub home-place : (M p d : ℕ) → d < M → d / 2 ≡ p → place M p d ≡ home
-unfolding place
+pub home-place : (M p d : ℕ) → d < M → d / 2 ≡ p → status M p d ≡ home
+unfolding status
 home-place M p d l q = rw (lt-ltb d M l, le-ltb (d / 2) p (omega arith), eq-eqb (d / 2) p q)
 
-pub on-place : (M p d : ℕ) → d < M → p < d / 2 → place M p d ≡ on
-unfolding place
+pub on-place : (M p d : ℕ) → d < M → p < d / 2 → status M p d ≡ on
+unfolding status
 on-place M p d l q = rw (lt-ltb d M l, le-ltb (d / 2) p (omega arith), ne-eqb (d / 2) p (λ e. omega arith))
 
 module _ (N : ℕ) (s rv : ℕ → ℕ) (D : Darts (2 * N) N s rv half) where
@@ -116,12 +116,12 @@ module _ (N : ℕ) (s rv : ℕ → ℕ) (D : Darts (2 * N) N s rv half) where
   -- where the walk from p answers k and not 0, p's curve is a loop of k crossings with p the least
   pub found : (p r : ℕ) → p < N → size N s p ≡ suc r → Loop (2 * N) s (2 * p) (suc r) × Lowest s half (2 * p) (suc r)
   unfolding size it
-  found p r l e = go (came s (place (2 * N) p) N 1 (s (2 * p)) r e)
+  found p r l e = go (came s (status (2 * N) p) N 1 (s (2 * p)) r e)
     where
-      at-end : (j : ℕ) → suc r ≡ 1 + j → place (2 * N) p (it s j (s (2 * p))) ≡ home → place (2 * N) p (it s r (s (2 * p))) ≡ home
-      at-end j f h = let same : j ≡ r = omega arith in subst (λ x. place (2 * N) p (it s x (s (2 * p))) ≡ home) same h
+      at-end : (j : ℕ) → suc r ≡ 1 + j → status (2 * N) p (it s j (s (2 * p))) ≡ home → status (2 * N) p (it s r (s (2 * p))) ≡ home
+      at-end j f h = let same : j ≡ r = omega arith in subst (λ x. status (2 * N) p (it s x (s (2 * p))) ≡ home) same h
 
-      go : (j : ℕ) × (suc r ≡ 1 + j) × Came s (place (2 * N) p) N (s (2 * p)) j
+      go : (j : ℕ) × (suc r ≡ 1 + j) × Came s (status (2 * N) p) N (s (2 * p)) j
           → Loop (2 * N) s (2 * p) (suc r) × Lowest s half (2 * p) (suc r)
       go w =
           let end = place-home (2 * N) p (it s r (s (2 * p))) (at-end (w .0) (w .1) (w .2 .last)) in
@@ -132,7 +132,7 @@ module _ (N : ℕ) (s rv : ℕ → ℕ) (D : Darts (2 * N) N s rv half) where
   unfolding size it
   finds p zero h l L low = absurd (not-suc-le-zero (L .pos))
   finds p (suc r) h l L low =
-      comes s (place (2 * N) p) N 1 (s (2 * p)) r (record {
+      comes s (status (2 * N) p) N 1 (s (2 * p)) r (record {
         within = h;
         last = rw (L .home) (home-place (2 * N) p (2 * p) (omega arith) (omega arith));
         way = λ i g. on-place (2 * N) p (it s i (s (2 * p))) (L .live (suc i) (omega arith)) (above i g);
@@ -156,5 +156,5 @@ size-live N s p (suc i) l h = go (size N s p) refl h
     go : (k : ℕ) → size N s p ≡ k → suc i < k → it s i (s (2 * p)) < 2 * N
     go zero e g = absurd (not-suc-le-zero g)
     go (suc r) e g =
-        let (j, f, c) = came s (place (2 * N) p) N 1 (s (2 * p)) r e in
+        let (j, f, c) = came s (status (2 * N) p) N 1 (s (2 * p)) r e in
         place-on (2 * N) p (it s i (s (2 * p))) (c .way i (omega arith)) .0

@@ -7,30 +7,30 @@ use Rattle.counting.specs.Range.{over}
 use Rattle.walk.specs.Iterate.{orbit}
 
 -- where a walk from the crossing p stands: back at p; at an end, or below p; neither
-pub data Place : Type 0 where
-  home off on : Place
+pub data Status : Type 0 where
+  home off on : Status
 
 -- by three tests: the walk has not ended, it is below p, it is at p
-abbrev pub judge : Bool → Bool → Bool → Place
+abbrev pub judge : Bool → Bool → Bool → Status
 judge false low same = off
 judge true true same = off
 judge true false true = home
 judge true false false = on
 
--- the place of the dart d, of those below M
-unfoldable pub place : ℕ → ℕ → ℕ → Place
-place M p d = judge (ltb d M) (ltb (d / 2) p) (eqb (d / 2) p)
+-- how the walk stands at the dart d, of those below M
+unfoldable pub status : ℕ → ℕ → ℕ → Status
+status M p d = judge (ltb d M) (ltb (d / 2) p) (eqb (d / 2) p)
 
 -- k and the steps from d to home; 0 where the walk goes off first, or n steps are not enough
-unfoldable pub turn : (ℕ → ℕ) → (ℕ → Place) → ℕ → ℕ → ℕ → ℕ
+unfoldable pub turn : (ℕ → ℕ) → (ℕ → Status) → ℕ → ℕ → ℕ → ℕ
 turn s at zero k d = 0
 turn s at (suc n) k d = elim (at d) [ home ↦ k | off ↦ 0 | on ↦ turn s at n (suc k) (s d) ]
 
 module _ (N : ℕ) (s : ℕ → ℕ) where
   -- how many crossings the loop has whose least is p; 0 where there is none
   unfoldable pub size : ℕ → ℕ
-  unfolding place turn
-  size p = turn s (place (2 * N) p) N 1 (s (2 * p))
+  unfolding status turn
+  size p = turn s (status (2 * N) p) N 1 (s (2 * p))
 
   -- that loop, as its darts in order
   unfoldable pub loopAt : ℕ → List ℕ

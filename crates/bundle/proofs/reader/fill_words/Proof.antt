@@ -7,12 +7,12 @@ use Rattle.counting.specs.Range.{over}
 use Rattle.counting.specs.Stored.{Stored}
 use Rattle.counting.proofs.Stored.{stored-one, stored-more, stored-long}
 use Rattle.bundle.specs.Record.{wordSize, word}
-use Rattle.bundle.specs.Bundle.{words}
+use Rattle.bundle.specs.Bundle.{leadingWords}
 use Rattle.bundle.proofs.reader.fill_words.Statement.{statement}
 use Rattle.bundle.proofs.reader.fill_words.Tie as tie
 
 abbrev Inv-loop : tie.InvT-loop
-Inv-loop body n list₀ at i₀ list i = (i ≤ n) × Stored list₀ at (words i body) list (at + i)
+Inv-loop body n list₀ at i₀ list i = (i ≤ n) × Stored list₀ at (leadingWords i body) list (at + i)
 
 abbrev μ-loop : tie.MeasureT-loop
 μ-loop body n list₀ at i₀ list i = n - i

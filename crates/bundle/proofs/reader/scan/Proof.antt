@@ -4,7 +4,7 @@ use mathlib.Core.List.{List, [], _∷_}
 use native.Mathlib.Omega.{arith}
 use denote.Ref.{now}
 use Rattle.answer.specs.Answer.{result, refusal}
-use Rattle.bundle.specs.Record.{endKind, brokenRow, nextAt, recordNumbers}
+use Rattle.bundle.specs.Record.{endKind, brokenRow, nextRecord, recordNumbers}
 use Rattle.bundle.specs.Bundle.{cells, edges, stop}
 use Rattle.bundle.specs.declared.Record.the-variants.{Whole, Refused}
 use Rattle.bundle.proofs.OneRecord.{Found, found, not-found}
@@ -60,7 +60,7 @@ returns-2 c =
     let r = c .before .before .before .before .before .before in
     let e = stopped r in
     let t = told (c .before .before) in
-    let n = t .nextIs ∙ ap (nextAt (bytes r)) e in
+    let n = t .nextIs ∙ ap (nextRecord (bytes r)) e in
     let k = rw e at (is-of (bytes r) endKind _ (t .whole) (sym (t .kindIs) ∙ c .before .if1 .left)) in
     ap (refusal brokenRow) n ∙ sym (answer-after (bytes r) k (λ h. omega (arith, c .if2 .taken, n, h)))
 
@@ -77,7 +77,7 @@ returns-4 c =
     let r = c .before .before .before .before .before .before in
     let e = stopped r in
     let t = told (c .before .before) in
-    let n = t .nextIs ∙ ap (nextAt (bytes r)) e in
+    let n = t .nextIs ∙ ap (nextRecord (bytes r)) e in
     let k = rw e at (is-of (bytes r) endKind _ (t .whole) (sym (t .kindIs) ∙ c .before .if1 .left)) in
     let h : r .before .run-from .result .count ≡ cells (bytes r) = cells-are (bytes r) _ _ _ _ (r .before .run-from .ensures .0) (r .before .run-from .ensures .1) (r .run-from2 .ensures .0) (r .run-from2 .ensures .1) in
     let g : r .run-from2 .result .count ≡ edges (bytes r) = edges-are (bytes r) _ _ _ _ (r .before .run-from .ensures .0) (r .before .run-from .ensures .1) (r .run-from2 .ensures .0) (r .run-from2 .ensures .1) in

@@ -2,7 +2,7 @@ use borrow.Author.Needs.{needs}
 use native.Mathlib.Omega.{arith}
 use Rattle.listing.proofs.Digits.{decimal-64}
 use Rattle.counting.proofs.Stored.{stored-then}
-use Rattle.listing.specs.Text.{named}
+use Rattle.listing.specs.Text.{labelled}
 use Rattle.listing.proofs.text.put_named.Statement.{statement}
 use Rattle.listing.proofs.text.put_named.Tie as tie
 
@@ -16,7 +16,7 @@ same-length : tie.Need-same-length
 same-length c = search needs
 
 returns : tie.Need-returns
-unfolding named
+unfolding labelled
 returns c = (stored-then (c .before .before .before .before .before .before .put .ensures) (c .before .before .put-number .ensures), omega (arith, decimal-64 (c .before .before .before .before .before .before .before .before .before .before .args .n) (omega arith)))
 
 pub put-named-spec : {M : Type 1} → statement M
