@@ -10,47 +10,8 @@ use Rattle.capi.proofs.citternblaze_mesh.Tie as tie
 returns : tie.Need-returns
 returns c = (answers-short (search needs), room-short _ _ _ (search needs))
 
-mesh-requires : tie.Need-mesh-requires
-mesh-requires c κs = search needs
-
-enum-known-n : tie.Need-enum-known-n
-enum-known-n c = search needs
-
-cast-t18 : tie.Need-cast-t18
-cast-t18 c = search needs
-
-slice-aggregate-put : tie.Need-slice-aggregate-put
-slice-aggregate-put c = search needs
-
-put-requires : tie.Need-put-requires
-put-requires c κs = search needs
-
-enum-known-row : tie.Need-enum-known-row
-enum-known-row c = search needs
-
-cast-t24 : tie.Need-cast-t24
-cast-t24 c = search needs
-
-slice-aggregate-put-2 : tie.Need-slice-aggregate-put-2
-slice-aggregate-put-2 c = search needs
-
-put-requires-2 : tie.Need-put-requires-2
-put-requires-2 c κs = search needs
-
-same-length : tie.Need-same-length
-same-length c = search needs
-
-same-length-2 : tie.Need-same-length-2
-same-length-2 c = search needs
-
 returns-2 : tie.Need-returns-2
 returns-2 c = (answers-told meshNumbers (c .before .before .before .before .before .before .n .given .1) (c .before .before .before .before .before .before .before .before .before .before .mesh .ensures .answered) (c .before .before .put .ensures), room-enough _ _ _ (search needs) (c .before .before .before .before .before .before .before .before .before .before .mesh .ensures .area))
-
-same-length-3 : tie.Need-same-length-3
-same-length-3 c = search needs
-
-same-length-4 : tie.Need-same-length-4
-same-length-4 c = search needs
 
 returns-3 : tie.Need-returns-3
 returns-3 c = (answers-are (refused-numbers _ (mesh-some _ _) _ _ (told-reads meshNumbers (c .before .before .before .before .before .before .row .given .1) (c .before .before .before .before .before .before .before .before .before .before .mesh .ensures .answered))) (c .before .before .put2 .ensures), room-enough _ _ _ (search needs) (c .before .before .before .before .before .before .before .before .before .before .mesh .ensures .area))
@@ -60,18 +21,18 @@ citternblaze-mesh-spec =
     tie.close
     (tie.spec
     returns
-    mesh-requires
-    enum-known-n
-    cast-t18
-    slice-aggregate-put
-    put-requires
-    enum-known-row
-    cast-t24
-    slice-aggregate-put-2
-    put-requires-2
-    same-length
-    same-length-2
+    (λ c κs. search needs)
+    (λ c. search needs)
+    (λ c. search needs)
+    (λ c. search needs)
+    (λ c κs. search needs)
+    (λ c. search needs)
+    (λ c. search needs)
+    (λ c. search needs)
+    (λ c κs. search needs)
+    (λ c. search needs)
+    (λ c. search needs)
     returns-2
-    same-length-3
-    same-length-4
+    (λ c. search needs)
+    (λ c. search needs)
     returns-3)

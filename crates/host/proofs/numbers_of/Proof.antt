@@ -6,18 +6,6 @@ use borrow.Author.Needs.{needs}
 use Rattle.host.proofs.numbers_of.Statement.{statement}
 use Rattle.host.proofs.numbers_of.Tie as tie
 
-scan-requires : tie.Need-scan-requires
-scan-requires c κs = search needs
-
-enum-known-cells : tie.Need-enum-known-cells
-enum-known-cells c = search needs
-
-enum-known-number : tie.Need-enum-known-number
-enum-known-number c = search needs
-
-cast-t10 : tie.Need-cast-t10
-cast-t10 c = search needs
-
 returns : tie.Need-returns
 returns c =
     let r = c .before .before .before .scan in
@@ -33,4 +21,4 @@ returns-2 c =
 pub numbers-of-spec : {M : Type 1} → statement M
 numbers-of-spec =
     tie.close
-    (tie.spec scan-requires enum-known-cells enum-known-number cast-t10 returns returns-2)
+    (tie.spec (λ c κs. search needs) (λ c. search needs) (λ c. search needs) (λ c. search needs) returns returns-2)

@@ -12,32 +12,8 @@ use borrow.Author.Needs.{needs}
 use Rattle.listing.proofs.list.Statement.{statement}
 use Rattle.listing.proofs.list.Tie as tie
 
-put-refused-requires : tie.Need-put-refused-requires
-put-refused-requires c κs = search needs
-
 returns : tie.Need-returns
 returns c = all-listed (c .before .before .before .before .args .bytes .now) (c .put-refused .ensures .0) (omega arith) (too-long (c .before .before .before .before .args .bytes .now) (omega arith)) (search needs)
-
-slice-aggregate-read : tie.Need-slice-aggregate-read
-slice-aggregate-read c = search needs
-
-slice-aggregate-read-2 : tie.Need-slice-aggregate-read-2
-slice-aggregate-read-2 c = search needs
-
-slice-aggregate-read-3 : tie.Need-slice-aggregate-read-3
-slice-aggregate-read-3 c = search needs
-
-read-requires : tie.Need-read-requires
-read-requires c κs = search needs
-
-enum-known-row : tie.Need-enum-known-row
-enum-known-row c = search needs
-
-put-refused-requires-2 : tie.Need-put-refused-requires-2
-put-refused-requires-2 c κs = search needs
-
-enum-known-cells : tie.Need-enum-known-cells
-enum-known-cells c = search needs
 
 abbrev At : Type 0
 At = tie.After-known-told2
@@ -73,9 +49,6 @@ array-share-prefix-counts c = omega (arith, few (c .before .before))
 slice-aggregate-list-grid-3 : tie.Need-slice-aggregate-list-grid-3
 slice-aggregate-list-grid-3 c = sym (length-take-le _ _ (omega (arith, few (c .before .before .before))))
 
-list-grid-requires : tie.Need-list-grid-requires
-list-grid-requires c κs = search needs
-
 returns-2 : tie.Need-returns-2
 returns-2 c = all-listed (c .before .before .before .before .before .before .before .before .before .before .before .before .before .before .args .bytes .now) (c .put-refused2 .ensures .0) (omega arith) (read-refused (c .before .before .before .before .before .before .before .before .before .before .before .before .before .before .args .bytes .now) (c .before .before .before .before .before .before .before .before .before .before .before .before .if1 .left) _ _ (sym (ap contentsNumbers (c .before .before .before .row .given .1)) ∙ c .before .before .before .before .before .before .before .before .read .ensures .0)) (search needs)
 
@@ -86,15 +59,15 @@ pub list-spec : {M : Type 1} → statement M
 list-spec =
     tie.close
     (tie.spec
-    put-refused-requires
+    (λ c κs. search needs)
     returns
-    slice-aggregate-read
-    slice-aggregate-read-2
-    slice-aggregate-read-3
-    read-requires
-    enum-known-row
-    put-refused-requires-2
-    enum-known-cells
+    (λ c. search needs)
+    (λ c. search needs)
+    (λ c. search needs)
+    (λ c κs. search needs)
+    (λ c. search needs)
+    (λ c κs. search needs)
+    (λ c. search needs)
     mul-n
     mul-m
     array-share-prefix-nodes
@@ -103,6 +76,6 @@ list-spec =
     slice-aggregate-list-grid-2
     array-share-prefix-counts
     slice-aggregate-list-grid-3
-    list-grid-requires
+    (λ c κs. search needs)
     returns-2
     returns-3)

@@ -10,27 +10,6 @@ use borrow.Author.Needs.{needs}
 use Rattle.listing.proofs.list_mesh.Statement.{statement}
 use Rattle.listing.proofs.list_mesh.Tie as tie
 
-slice-aggregate-mesh : tie.Need-slice-aggregate-mesh
-slice-aggregate-mesh c = search needs
-
-mesh-requires : tie.Need-mesh-requires
-mesh-requires c κs = search needs
-
-enum-known-row : tie.Need-enum-known-row
-enum-known-row c = search needs
-
-put-refused-requires : tie.Need-put-refused-requires
-put-refused-requires c κs = search needs
-
-enum-known-n : tie.Need-enum-known-n
-enum-known-n c = search needs
-
-put-head-requires : tie.Need-put-head-requires
-put-head-requires c κs = search needs
-
-slice-aggregate-put-lines : tie.Need-slice-aggregate-put-lines
-slice-aggregate-put-lines c = search needs
-
 -- the triangles are no more than the area holds
 few : (c : tie.After-known-told2) → c .before .n .given .0 .0 ≤ areaTriangles
 few c = few-triangles (gridOf (c .before .before .before .before .before .before .before .before .before .before .args .nodes .now) (c .before .before .before .before .before .before .before .before .before .before .args .ends .now) (c .before .before .before .before .before .before .before .before .before .before .args .counts .now)) _ (c .before .before .before .before .before .before .before .before .before .before .pre .0) _ _ _ refl (sym (ap meshNumbers (c .before .n .given .1)) ∙ c .before .before .before .before .mesh .ensures .answered) (c .before .before .before .before .mesh .ensures .area)
@@ -38,14 +17,8 @@ few c = few-triangles (gridOf (c .before .before .before .before .before .before
 put-lines-requires : tie.Need-put-lines-requires
 put-lines-requires c κs = (omega (arith, few (c .before .before .before .before .before .before)), omega (arith, few (c .before .before .before .before .before .before)))
 
-same-length : tie.Need-same-length
-same-length c = search needs
-
 returns : tie.Need-returns
 returns c = (stored-as (c .before .before .put-refused .ensures .0) (mesh-refused (gridOf (c .before .before .before .before .before .before .before .before .before .before .before .before .before .before .args .nodes .now) (c .before .before .before .before .before .before .before .before .before .before .before .before .before .before .args .ends .now) (c .before .before .before .before .before .before .before .before .before .before .before .before .before .before .args .counts .now)) _ _ (sym (ap meshNumbers (c .before .before .before .before .before .row .given .1)) ∙ c .before .before .before .before .before .before .before .before .mesh .ensures .answered)) refl, search needs)
-
-same-length-2 : tie.Need-same-length-2
-same-length-2 c = search needs
 
 returns-2 : tie.Need-returns-2
 returns-2 c = (stored-as (stored-then (c .before .before .before .before .before .before .before .put-head .ensures .0) (c .before .before .put-lines .ensures .0)) (listed (gridOf (c .before .before .before .before .before .before .before .before .before .before .before .before .before .before .before .before .before .before .before .args .nodes .now) (c .before .before .before .before .before .before .before .before .before .before .before .before .before .before .before .before .before .before .before .args .ends .now) (c .before .before .before .before .before .before .before .before .before .before .before .before .before .before .before .before .before .before .before .args .counts .now)) _ (c .before .before .before .before .before .before .before .before .before .before .before .before .before .before .before .before .before .before .before .pre .0) _ _ _ refl (sym (ap meshNumbers (c .before .before .before .before .before .before .before .before .before .before .n .given .1)) ∙ c .before .before .before .before .before .before .before .before .before .before .before .before .before .mesh .ensures .answered) (c .before .before .before .before .before .before .before .before .before .before .before .before .before .mesh .ensures .area)) refl, omega (arith, few (c .before .before .before .before .before .before .before .before .before)))
@@ -54,15 +27,15 @@ pub list-mesh-spec : {M : Type 1} → statement M
 list-mesh-spec =
     tie.close
     (tie.spec
-    slice-aggregate-mesh
-    mesh-requires
-    enum-known-row
-    put-refused-requires
-    enum-known-n
-    put-head-requires
-    slice-aggregate-put-lines
+    (λ c. search needs)
+    (λ c κs. search needs)
+    (λ c. search needs)
+    (λ c κs. search needs)
+    (λ c. search needs)
+    (λ c κs. search needs)
+    (λ c. search needs)
     put-lines-requires
-    same-length
+    (λ c. search needs)
     returns
-    same-length-2
+    (λ c. search needs)
     returns-2)

@@ -6,18 +6,12 @@ use Rattle.listing.specs.Text.{labelled}
 use Rattle.listing.proofs.text.put_named.Statement.{statement}
 use Rattle.listing.proofs.text.put_named.Tie as tie
 
-put-requires : tie.Need-put-requires
-put-requires c κs = search needs
-
 put-number-requires : tie.Need-put-number-requires
 put-number-requires c κs = omega (arith, decimal-64 (c .before .before .before .before .before .before .before .args .n) (omega arith))
-
-same-length : tie.Need-same-length
-same-length c = search needs
 
 returns : tie.Need-returns
 unfolding labelled
 returns c = (stored-then (c .before .before .before .before .before .before .put .ensures) (c .before .before .put-number .ensures), omega (arith, decimal-64 (c .before .before .before .before .before .before .before .before .before .before .args .n) (omega arith)))
 
 pub put-named-spec : {M : Type 1} → statement M
-put-named-spec = tie.close (tie.spec put-requires put-number-requires same-length returns)
+put-named-spec = tie.close (tie.spec (λ c κs. search needs) put-number-requires (λ c. search needs) returns)
