@@ -1,5 +1,4 @@
 -- `mesh::draw` meets its contract.
-use mathlib.Core.Path.{_≡_}
 use native.Mathlib.Omega.{arith}
 use borrow.Author.Needs.{needs}
 use Rattle.mesh.proofs.Rooms.{drawn-fits, drawn-short}
