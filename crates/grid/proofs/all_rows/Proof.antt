@@ -9,15 +9,9 @@ use Rattle.grid.proofs.Answers.{answer-passes, answer-refuses, answer-s
 use Rattle.grid.proofs.all_rows.Statement.{statement}
 use Rattle.grid.proofs.all_rows.Tie as tie
 
-row-1-requires : tie.Need-row-1-requires
-row-1-requires c κs = search needs
-
 returns : tie.Need-returns
 unfolding since rows
 returns c = (answer-refuses _ 1 2 refl 0 (whole-fault _ (sym (c .before .row-1 .ensures) ∙ c .if1 .taken)) (omega arith) ∙ answer-start _, tt)
-
-row-2-requires : tie.Need-row-2-requires
-row-2-requires c κs = search needs
 
 returns-2 : tie.Need-returns-2
 unfolding since rows
@@ -64,9 +58,9 @@ pub all-rows-spec : {M : Type 1} → statement M
 all-rows-spec =
     tie.close
     (tie.spec
-    row-1-requires
+    (λ c κs. search needs)
     returns
-    row-2-requires
+    (λ c κs. search needs)
     returns-2
     cell-rows-requires
     same-length

@@ -9,9 +9,6 @@ use Rattle.grid.proofs.Packed.{ordered-cells}
 use Rattle.grid.proofs.cell_rows.Statement.{statement}
 use Rattle.grid.proofs.cell_rows.Tie as tie
 
-row-3-requires : tie.Need-row-3-requires
-row-3-requires c κs = search needs
-
 returns : tie.Need-returns
 unfolding since rows
 returns c = (answer-refuses _ 3 4 refl _ (c .before .row-3 .ensures) (c .if1 .taken), tt)
@@ -100,7 +97,7 @@ pub cell-rows-spec : {M : Type 1} → statement M
 cell-rows-spec =
     tie.close
     (tie.spec
-    row-3-requires
+    (λ c κs. search needs)
     returns
     row-4-requires
     returns-2

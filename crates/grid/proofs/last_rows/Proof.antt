@@ -19,9 +19,6 @@ returns : tie.Need-returns
 unfolding since rows
 returns c = answer-refuses _ 9 10 refl _ (c .before .row-9 .ensures) (c .if1 .taken)
 
-total-requires : tie.Need-total-requires
-total-requires c κs = search needs
-
 returns-2 : tie.Need-returns-2
 unfolding since rows
 returns-2 c =
@@ -43,4 +40,4 @@ returns-3 c =
     ∙ answer-passes _ 9 10 refl _ (c-row-9 .ensures) (c .before .before .if1 .left))
 
 pub last-rows-spec : {M : Type 1} → statement M
-last-rows-spec = tie.close (tie.spec row-9-requires returns total-requires returns-2 returns-3)
+last-rows-spec = tie.close (tie.spec row-9-requires returns (λ c κs. search needs) returns-2 returns-3)

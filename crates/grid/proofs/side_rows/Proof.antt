@@ -16,40 +16,16 @@ use Rattle.grid.proofs.Sides.{unlisted-blank}
 use Rattle.grid.proofs.side_rows.Statement.{statement}
 use Rattle.grid.proofs.side_rows.Tie as tie
 
-slice-aggregate-side-keys : tie.Need-slice-aggregate-side-keys
-slice-aggregate-side-keys c = search needs
-
 side-keys-requires : tie.Need-side-keys-requires
 side-keys-requires c κs =
     let c-pre = c .before .before .before .before .before .before .pre in
     omega (arith, c-pre .ordered .few)
-
-slice-aggregate-chain : tie.Need-slice-aggregate-chain
-slice-aggregate-chain c = search needs
-
-mul-chain : tie.Need-mul-chain
-mul-chain c = search needs
-
-slice-aggregate-chain-2 : tie.Need-slice-aggregate-chain-2
-slice-aggregate-chain-2 c = search needs
-
-slice-aggregate-chain-3 : tie.Need-slice-aggregate-chain-3
-slice-aggregate-chain-3 c = search needs
 
 chain-requires : tie.Need-chain-requires
 chain-requires c κs =
     let c-pre = c .before .before .before .before .before .before .before .before .before .before .before .pre in
     let c-side-keys = c .before .before .before .before .side-keys in
     record { keyed = omega (arith, c-pre .ordered .few, simp length-filled at (ap length (c-side-keys .ensures))); room = omega (arith, c-pre .ordered .few); small = omega (arith, c-pre .ordered .few); blank = refl }
-
-slice-aggregate-row-8 : tie.Need-slice-aggregate-row-8
-slice-aggregate-row-8 c = search needs
-
-slice-aggregate-row-8-2 : tie.Need-slice-aggregate-row-8-2
-slice-aggregate-row-8-2 c = search needs
-
-slice-aggregate-row-8-3 : tie.Need-slice-aggregate-row-8-3
-slice-aggregate-row-8-3 c = search needs
 
 row-8-requires : tie.Need-row-8-requires
 row-8-requires c κs =
@@ -105,15 +81,6 @@ returns-2 c =
       tt,
     )
 
-slice-aggregate-last-rows : tie.Need-slice-aggregate-last-rows
-slice-aggregate-last-rows c = search needs
-
-slice-aggregate-last-rows-2 : tie.Need-slice-aggregate-last-rows-2
-slice-aggregate-last-rows-2 c = search needs
-
-slice-aggregate-last-rows-3 : tie.Need-slice-aggregate-last-rows-3
-slice-aggregate-last-rows-3 c = search needs
-
 last-rows-requires : tie.Need-last-rows-requires
 last-rows-requires c κs =
     let c-args = c .before .before .before .before .before .before .before .before .before .before .before .before .before .before .before .before .before .before .before .before .before .before .before .before .before .before .before .before .args in
@@ -164,25 +131,25 @@ pub side-rows-spec : {M : Type 1} → statement M
 side-rows-spec =
     tie.close
     (tie.spec
-    slice-aggregate-side-keys
+    (λ c. search needs)
     side-keys-requires
-    slice-aggregate-chain
-    mul-chain
-    slice-aggregate-chain-2
-    slice-aggregate-chain-3
+    (λ c. search needs)
+    (λ c. search needs)
+    (λ c. search needs)
+    (λ c. search needs)
     chain-requires
-    slice-aggregate-row-8
-    slice-aggregate-row-8-2
-    slice-aggregate-row-8-3
+    (λ c. search needs)
+    (λ c. search needs)
+    (λ c. search needs)
     row-8-requires
     row-7-requires
     same-length
     returns
     same-length-2
     returns-2
-    slice-aggregate-last-rows
-    slice-aggregate-last-rows-2
-    slice-aggregate-last-rows-3
+    (λ c. search needs)
+    (λ c. search needs)
+    (λ c. search needs)
     last-rows-requires
     same-length-3
     returns-3)

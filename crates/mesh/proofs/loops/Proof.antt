@@ -5,15 +5,6 @@ use borrow.Author.Needs.{needs}
 use Rattle.mesh.proofs.loops.Statement.{statement}
 use Rattle.mesh.proofs.loops.Tie as tie
 
-open-requires : tie.Need-open-requires
-open-requires c κs = search needs
-
-enum-known-row : tie.Need-enum-known-row
-enum-known-row c = search needs
-
-enum-told : tie.Need-enum-told
-enum-told c = search needs
-
 loop-of-requires : tie.Need-loop-of-requires
 loop-of-requires c κs = tt
 
@@ -25,4 +16,4 @@ returns-2 c = c .loop-of .ensures ∙ told-loops (gridOf (c .before .before .bef
 
 pub loops-spec : {M : Type 1} → statement M
 loops-spec =
-    tie.close (tie.spec open-requires enum-known-row enum-told loop-of-requires returns returns-2)
+    tie.close (tie.spec (λ c κs. search needs) (λ c. search needs) (λ c. search needs) loop-of-requires returns returns-2)

@@ -9,18 +9,6 @@ use Rattle.grid.proofs.Packed.{cell-drops, cell-rises}
 use Rattle.grid.proofs.cells.bad_cell.Statement.{statement}
 use Rattle.grid.proofs.cells.bad_cell.Tie as tie
 
-node-at-requires : tie.Need-node-at-requires
-node-at-requires c κs = search needs
-
-node-at-requires-2 : tie.Need-node-at-requires-2
-node-at-requires-2 c κs = search needs
-
-node-at-requires-3 : tie.Need-node-at-requires-3
-node-at-requires-3 c κs = search needs
-
-node-at-requires-4 : tie.Need-node-at-requires-4
-node-at-requires-4 c κs = search needs
-
 returns : tie.Need-returns
 returns c =
     let c-node-at = c .before .before .before .before .node-at in
@@ -58,10 +46,10 @@ pub bad-cell-spec : {M : Type 1} → statement M
 bad-cell-spec =
     tie.close
     (tie.spec
-    node-at-requires
-    node-at-requires-2
-    node-at-requires-3
-    node-at-requires-4
+    (λ c κs. search needs)
+    (λ c κs. search needs)
+    (λ c κs. search needs)
+    (λ c κs. search needs)
     returns
     returns-2
     returns-3

@@ -27,20 +27,11 @@ earlier-requires c κs =
     let c-pre = c .before .before .before .before .before .pre in
     (c-pre .chained, omega arith)
 
-add-j : tie.Need-add-j Inv-loop μ-loop
-add-j c = search needs
-
-loop-less : tie.Need-loop-less Inv-loop μ-loop
-loop-less c = search needs
-
 loop-again : tie.Need-loop-again Inv-loop μ-loop
 loop-again c =
     let c-loop = c .before .before .before .loop in
     let w = c-loop .inv in
     (omega arith, w .1, mates-alone (w .2) _ (c .before .earlier .ensures) (c .if1 .taken), w .3 ∙ seek-miss _ _ _ (omega arith) (third-none (w .2) _ (c .before .earlier .ensures) (c .if1 .taken)))
-
-sub-if2 : tie.Need-sub-if2 Inv-loop μ-loop
-sub-if2 c = search needs
 
 mul-if2 : tie.Need-mul-if2 Inv-loop μ-loop
 mul-if2 c =
@@ -78,25 +69,16 @@ cast-near c =
     let l = c-args .keys .now in
     omega (arith, c-earlier .ensures, last-le (sameKey l (getD l (c-loop .j) 0)) (c-loop .j), c-pre .small)
 
-mul-near : tie.Need-mul-near Inv-loop μ-loop
-mul-near c = search needs
-
 slice-write-near : tie.Need-slice-write-near Inv-loop μ-loop
 slice-write-near c =
     let c-pre = c .before .before .before .before .before .before .before .before .before .pre in
     let c-loop = c .before .before .before .before .before .loop in
     omega (arith, c-loop .inv .1, c-pre .room)
 
-add-j-2 : tie.Need-add-j-2 Inv-loop μ-loop
-add-j-2 c = search needs
-
 cast-near-2 : tie.Need-cast-near-2 Inv-loop μ-loop
 cast-near-2 c =
     let c-pre = c .before .before .before .before .before .before .before .before .before .pre in
     omega (arith, c-pre .small)
-
-sub-near : tie.Need-sub-near Inv-loop μ-loop
-sub-near c = search needs
 
 mul-near-2 : tie.Need-mul-near-2 Inv-loop μ-loop
 mul-near-2 c =
@@ -115,9 +97,6 @@ slice-write-near-2 c =
     let l = c-args .keys .now in
     let b : c-earlier .result ≤ c-loop .j = omega (arith, c-earlier .ensures, last-le (sameKey l (getD l (c-loop .j) 0)) (c-loop .j)) in
     simp length-set (omega (arith, c-loop .inv .1, c-pre .room))
-
-loop-less-2 : tie.Need-loop-less-2 Inv-loop μ-loop
-loop-less-2 c = search needs
 
 loop-again-2 : tie.Need-loop-again-2 Inv-loop μ-loop
 loop-again-2 c =
@@ -148,23 +127,23 @@ pair-spec =
     μ-loop
     loop-holds
     earlier-requires
-    add-j
-    loop-less
+    (λ c. search needs)
+    (λ c. search needs)
     loop-again
-    sub-if2
+    (λ c. search needs)
     mul-if2
     slice-read-if2
     same-length
     returns
     cast-near
-    mul-near
+    (λ c. search needs)
     slice-write-near
-    add-j-2
+    (λ c. search needs)
     cast-near-2
-    sub-near
+    (λ c. search needs)
     mul-near-2
     slice-write-near-2
-    loop-less-2
+    (λ c. search needs)
     loop-again-2
     same-length-2
     returns-2)

@@ -21,21 +21,6 @@ Inv-loop cells n keys next c₀ c = (c ≤ n) × Chained keys n next × Table (c
 abbrev μ-loop : tie.MeasureT-loop
 μ-loop cells n keys next c₀ c = n - c
 
-slice-aggregate-cell-keys : tie.Need-slice-aggregate-cell-keys Inv-loop μ-loop
-slice-aggregate-cell-keys c = search needs
-
-cell-keys-requires : tie.Need-cell-keys-requires Inv-loop μ-loop
-cell-keys-requires c κs = omega arith
-
-slice-aggregate-chain : tie.Need-slice-aggregate-chain Inv-loop μ-loop
-slice-aggregate-chain c = search needs
-
-slice-aggregate-chain-2 : tie.Need-slice-aggregate-chain-2 Inv-loop μ-loop
-slice-aggregate-chain-2 c = search needs
-
-slice-aggregate-chain-3 : tie.Need-slice-aggregate-chain-3 Inv-loop μ-loop
-slice-aggregate-chain-3 c = search needs
-
 chain-requires : tie.Need-chain-requires Inv-loop μ-loop
 chain-requires c κs =
     let c-cell-keys = c .before .before .before .before .cell-keys in
@@ -45,12 +30,6 @@ loop-holds : tie.Need-loop-holds Inv-loop μ-loop
 loop-holds c =
     let c-cell-keys = c .before .before .before .before .before .before .before .cell-keys in
     (omega arith, c .before .before .chain .ensures .0, filled-table _ _ _ _ (c-cell-keys .ensures) (omega arith), seek-start _ _)
-
-slice-aggregate-earlier : tie.Need-slice-aggregate-earlier Inv-loop μ-loop
-slice-aggregate-earlier c = search needs
-
-slice-aggregate-earlier-2 : tie.Need-slice-aggregate-earlier-2 Inv-loop μ-loop
-slice-aggregate-earlier-2 c = search needs
 
 earlier-requires : tie.Need-earlier-requires Inv-loop μ-loop
 earlier-requires c κs =
@@ -64,12 +43,6 @@ returns c =
     let w = c-loop .inv in
     let t = repeats-last _ (λ i. omega (arith, c-shared-slice-known .given i)) _ _ (w .2) (c-loop .c) (omega arith) in
     sym (w .3 ∙ seek-hit _ _ _ (omega arith) (t ∙ rw (← c .before .earlier .ensures) (lt-ltb _ _ (c .if1 .taken))))
-
-add-c : tie.Need-add-c Inv-loop μ-loop
-add-c c = search needs
-
-loop-less : tie.Need-loop-less Inv-loop μ-loop
-loop-less c = search needs
 
 loop-again : tie.Need-loop-again Inv-loop μ-loop
 loop-again c =
@@ -91,18 +64,18 @@ row-4-spec =
     (tie.spec
     Inv-loop
     μ-loop
-    slice-aggregate-cell-keys
-    cell-keys-requires
-    slice-aggregate-chain
-    slice-aggregate-chain-2
-    slice-aggregate-chain-3
+    (λ c. search needs)
+    (λ c κs. omega arith)
+    (λ c. search needs)
+    (λ c. search needs)
+    (λ c. search needs)
     chain-requires
     loop-holds
-    slice-aggregate-earlier
-    slice-aggregate-earlier-2
+    (λ c. search needs)
+    (λ c. search needs)
     earlier-requires
     returns
-    add-c
-    loop-less
+    (λ c. search needs)
+    (λ c. search needs)
     loop-again
     returns-2)

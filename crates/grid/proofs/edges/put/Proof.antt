@@ -20,27 +20,15 @@ loop-holds c =
     let c-pre = c .before .before .before .pre in
     placing-start _ _ _ _ _ _ (c-pre .top-is)
 
-sub-i : tie.Need-sub-i Inv-loop μ-loop
-sub-i c = search needs
-
-mul-sides : tie.Need-mul-sides Inv-loop μ-loop
-mul-sides c = search needs
-
 slice-write-sides : tie.Need-slice-write-sides Inv-loop μ-loop
 slice-write-sides c =
     let c-pre = c .before .before .before .before .before .pre in
     omega (arith, c .before .loop .inv .same, c .before .loop .inv .within, c-pre .room)
 
-mul-wide : tie.Need-mul-wide Inv-loop μ-loop
-mul-wide c = search needs
-
 shared-slice-read-wide : tie.Need-shared-slice-read-wide Inv-loop μ-loop
 shared-slice-read-wide c =
     let c-pre = c .before .before .before .before .before .before .pre in
     omega (arith, c .before .before .loop .inv .within, c-pre .chained .table .room)
-
-wide-requires : tie.Need-wide-requires Inv-loop μ-loop
-wide-requires c κs = search needs
 
 walk-requires : tie.Need-walk-requires Inv-loop μ-loop
 walk-requires c κs =
@@ -73,12 +61,12 @@ put-spec =
     Inv-loop
     μ-loop
     loop-holds
-    sub-i
-    mul-sides
+    (λ c. search needs)
+    (λ c. search needs)
     slice-write-sides
-    mul-wide
+    (λ c. search needs)
     shared-slice-read-wide
-    wide-requires
+    (λ c κs. search needs)
     walk-requires
     loop-less
     loop-again

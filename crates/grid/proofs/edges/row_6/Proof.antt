@@ -19,19 +19,10 @@ abbrev μ-loop : tie.MeasureT-loop
 loop-holds : tie.Need-loop-holds Inv-loop μ-loop
 loop-holds c = (omega arith, seek-start _ _)
 
-bad-edge-requires : tie.Need-bad-edge-requires Inv-loop μ-loop
-bad-edge-requires c κs = search needs
-
 returns : tie.Need-returns Inv-loop μ-loop
 returns c =
     let c-loop = c .before .before .before .loop in
     sym (c-loop .inv .1 ∙ seek-hit _ _ _ (omega arith) (sym (c .before .bad-edge .ensures) ∙ c .if1 .taken))
-
-add-e : tie.Need-add-e Inv-loop μ-loop
-add-e c = search needs
-
-loop-less : tie.Need-loop-less Inv-loop μ-loop
-loop-less c = search needs
 
 loop-again : tie.Need-loop-again Inv-loop μ-loop
 loop-again c =
@@ -51,9 +42,9 @@ row-6-spec =
     Inv-loop
     μ-loop
     loop-holds
-    bad-edge-requires
+    (λ c κs. search needs)
     returns
-    add-e
-    loop-less
+    (λ c. search needs)
+    (λ c. search needs)
     loop-again
     returns-2)

@@ -19,17 +19,8 @@ Inv-loop cells sides n j₀ j = (j ≤ n) × (first (λ j. eqb (getD sides j 0) 
 abbrev μ-loop : tie.MeasureT-loop
 μ-loop cells sides n j₀ j = n - j
 
-mul-n : tie.Need-mul-n Inv-loop μ-loop
-mul-n c = search needs
-
 loop-holds : tie.Need-loop-holds Inv-loop μ-loop
 loop-holds c = (omega arith, seek-start _ _)
-
-mul-if1 : tie.Need-mul-if1 Inv-loop μ-loop
-mul-if1 c = search needs
-
-shared-slice-read-if1 : tie.Need-shared-slice-read-if1 Inv-loop μ-loop
-shared-slice-read-if1 c = search needs
 
 returns : tie.Need-returns Inv-loop μ-loop
 returns c =
@@ -37,12 +28,6 @@ returns c =
     let c-loop = c .before .before .before .loop in
     let e = c-loop .inv .1 ∙ seek-hit _ _ _ (omega arith) (eq-eqb _ _ (c .if1 .taken)) in
     sym (sym (blank-first (c-args .sides .now) (cellCount (c-args .cells .now))) ∙ ap (λ (x : ℕ). x / 6) e)
-
-add-j : tie.Need-add-j Inv-loop μ-loop
-add-j c = search needs
-
-loop-less : tie.Need-loop-less Inv-loop μ-loop
-loop-less c = search needs
 
 loop-again : tie.Need-loop-again Inv-loop μ-loop
 loop-again c =
@@ -62,12 +47,12 @@ row-7-spec =
     (tie.spec
     Inv-loop
     μ-loop
-    mul-n
+    (λ c. search needs)
     loop-holds
-    mul-if1
-    shared-slice-read-if1
+    (λ c. search needs)
+    (λ c. search needs)
     returns
-    add-j
-    loop-less
+    (λ c. search needs)
+    (λ c. search needs)
     loop-again
     returns-2)

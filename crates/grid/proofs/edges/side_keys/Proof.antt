@@ -24,12 +24,6 @@ put-sides-requires c κs =
     let w = c .before .before .loop .inv in
     (omega arith, omega (arith, simp length-filled at (ap length (w .1))))
 
-add-c : tie.Need-add-c Inv-loop μ-loop
-add-c c = search needs
-
-loop-less : tie.Need-loop-less Inv-loop μ-loop
-loop-less c = search needs
-
 loop-again : tie.Need-loop-again Inv-loop μ-loop
 loop-again c =
     let w = c .before .before .before .before .before .loop .inv in
@@ -53,8 +47,8 @@ side-keys-spec =
     μ-loop
     loop-holds
     put-sides-requires
-    add-c
-    loop-less
+    (λ c. search needs)
+    (λ c. search needs)
     loop-again
     same-length
     returns)

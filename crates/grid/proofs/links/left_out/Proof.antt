@@ -22,12 +22,6 @@ loop-holds c =
     let c-pre = c .before .before .before .pre in
     looking-start _ _ _ _ _ _ (c-pre .top-is)
 
-sub-x : tie.Need-sub-x Inv-loop μ-loop
-sub-x c = search needs
-
-mul-if1 : tie.Need-mul-if1 Inv-loop μ-loop
-mul-if1 c = search needs
-
 shared-slice-read-if1 : tie.Need-shared-slice-read-if1 Inv-loop μ-loop
 shared-slice-read-if1 c =
     let c-pre = c .before .before .before .before .before .before .pre in
@@ -72,8 +66,8 @@ left-out-spec =
     Inv-loop
     μ-loop
     loop-holds
-    sub-x
-    mul-if1
+    (λ c. search needs)
+    (λ c. search needs)
     shared-slice-read-if1
     returns
     mul-earlier

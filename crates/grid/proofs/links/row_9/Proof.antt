@@ -24,9 +24,6 @@ abbrev μ-loop : tie.MeasureT-loop
 loop-holds : tie.Need-loop-holds Inv-loop μ-loop
 loop-holds c = (omega arith, refl, record { at = λ d. omega (arith, zeros mostCells d) }, seek-start _ _)
 
-edge-key-requires : tie.Need-edge-key-requires Inv-loop μ-loop
-edge-key-requires c κs = search needs
-
 mul-latest : tie.Need-mul-latest Inv-loop μ-loop
 mul-latest c =
     let c-pre = c .before .before .before .before .before .before .before .before .before .before .pre in
@@ -36,12 +33,6 @@ latest-requires : tie.Need-latest-requires Inv-loop μ-loop
 latest-requires c κs =
     let c-pre = c .before .before .before .before .before .before .before .before .before .before .pre in
     (c-pre .findable .chained, c-pre .findable .headed)
-
-add-split-at : tie.Need-add-split-at Inv-loop μ-loop
-add-split-at c = search needs
-
-slice-aggregate-split-at : tie.Need-slice-aggregate-split-at Inv-loop μ-loop
-slice-aggregate-split-at c = search needs
 
 split-at-requires : tie.Need-split-at-requires Inv-loop μ-loop
 split-at-requires c κs =
@@ -76,12 +67,6 @@ returns c =
     let t = split-missing _ (p .ordered) _ _ (f .table) (p .near-is) (f .small-ends) _ _ z pos _ _ _ F in
     sym (w .3 ∙ seek-hit _ _ _ (omega arith) (t ∙ sym (rw (c-edge-key .ensures) at (c-split-at .ensures .1)) ∙ c .if1 .taken))
 
-add-e : tie.Need-add-e Inv-loop μ-loop
-add-e c = search needs
-
-loop-less : tie.Need-loop-less Inv-loop μ-loop
-loop-less c = search needs
-
 loop-again : tie.Need-loop-again Inv-loop μ-loop
 loop-again c =
     let c-pre = c .before .before .before .before .before .before .before .before .before .before .before .before .before .before .before .pre in
@@ -112,14 +97,14 @@ row-9-spec =
     Inv-loop
     μ-loop
     loop-holds
-    edge-key-requires
+    (λ c κs. search needs)
     mul-latest
     latest-requires
-    add-split-at
-    slice-aggregate-split-at
+    (λ c. search needs)
+    (λ c. search needs)
     split-at-requires
     returns
-    add-e
-    loop-less
+    (λ c. search needs)
+    (λ c. search needs)
     loop-again
     returns-2)

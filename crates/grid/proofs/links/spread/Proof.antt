@@ -12,24 +12,15 @@ Inv-loop near n mark start rank marks₀ r₀ p₀ marks r p = Walking near n ma
 abbrev μ-loop : tie.MeasureT-loop
 μ-loop near n mark start rank marks₀ r₀ p₀ marks r p = unmarked marks mark n
 
-mul-wide : tie.Need-mul-wide Inv-loop μ-loop
-mul-wide c = search needs
-
 shared-slice-read-wide : tie.Need-shared-slice-read-wide Inv-loop μ-loop
 shared-slice-read-wide c =
     let P = c .before .before .before .pre in
     omega (arith, P .slot, P .near-room)
 
-wide-requires : tie.Need-wide-requires Inv-loop μ-loop
-wide-requires c κs = search needs
-
 loop-holds : tie.Need-loop-holds Inv-loop μ-loop
 loop-holds c =
     let P = c .before .before .before .before .pre in
     walking-start P _ (c .wide .ensures)
-
-sub-x : tie.Need-sub-x Inv-loop μ-loop
-sub-x c = search needs
 
 mul-if1 : tie.Need-mul-if1 Inv-loop μ-loop
 mul-if1 c =
@@ -99,9 +90,6 @@ shared-slice-read-wide-2 c =
     let w = c .before .before .before .before .before .before .loop .inv in
     omega (arith, walking-lt P w, P .near-room, c .before .before .position .ensures .1 .0)
 
-wide-requires-2 : tie.Need-wide-requires-2 Inv-loop μ-loop
-wide-requires-2 c κs = search needs
-
 loop-less : tie.Need-loop-less Inv-loop μ-loop
 loop-less c =
     let P = c .before .before .before .before .before .before .before .before .before .before .before .before .pre in
@@ -134,11 +122,11 @@ spread-spec =
     (tie.spec
     Inv-loop
     μ-loop
-    mul-wide
+    (λ c. search needs)
     shared-slice-read-wide
-    wide-requires
+    (λ c κs. search needs)
     loop-holds
-    sub-x
+    (λ c. search needs)
     mul-if1
     slice-read-if1
     same-length
@@ -151,7 +139,7 @@ spread-spec =
     add-wide
     mul-wide-3
     shared-slice-read-wide-2
-    wide-requires-2
+    (λ c κs. search needs)
     loop-less
     loop-again
     same-length-2

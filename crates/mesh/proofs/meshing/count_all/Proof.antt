@@ -29,9 +29,6 @@ add-t c = omega (arith, c .count-in .ensures .0 .1, c .before .before .before .b
 add-c : tie.Need-add-c Inv-loop μ-loop
 add-c c = omega (arith, c .before .before .before .before .before .before .before .loop .inv .0 .up)
 
-loop-less : tie.Need-loop-less Inv-loop μ-loop
-loop-less c = omega arith
-
 loop-again : tie.Need-loop-again Inv-loop μ-loop
 loop-again c = (
   counting-more (c .before .before .before .before .before .before .before .loop .inv .0) (omega (arith, c .before .before .before .before .before .before .before .loop .inv .1)) _ (c .count-in .ensures .0 .0 ∙ ap (λ v. length (cellTriangles v)) (c .before .before .before .before .before .cell-at .ensures)) (c .count-in .ensures .0 .1),
@@ -53,6 +50,6 @@ count-all-spec =
     count-in-requires
     add-t
     add-c
-    loop-less
+    (λ c. omega arith)
     loop-again
     returns)

@@ -32,9 +32,6 @@ add-t c = omega (arith, c .crossings-of .ensures .1, c .before .before .before .
 add-c : tie.Need-add-c Inv-loop μ-loop
 add-c c = omega (arith, c .before .before .before .loop .inv .0 .up)
 
-loop-less : tie.Need-loop-less Inv-loop μ-loop
-loop-less c = omega arith
-
 loop-again : tie.Need-loop-again Inv-loop μ-loop
 loop-again c =
     let w = c .before .before .before .loop .inv in
@@ -58,6 +55,6 @@ most-all-spec =
     crossings-of-requires
     add-t
     add-c
-    loop-less
+    (λ c. omega arith)
     loop-again
     returns)

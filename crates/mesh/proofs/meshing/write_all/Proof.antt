@@ -28,9 +28,6 @@ write-in-requires c κs = tt
 add-c : tie.Need-add-c Inv-loop μ-loop
 add-c c = omega (arith, c .before .before .before .before .before .before .before .before .before .before .loop .inv .0 .up)
 
-loop-less : tie.Need-loop-less Inv-loop μ-loop
-loop-less c = omega arith
-
 loop-again : tie.Need-loop-again Inv-loop μ-loop
 unfolding tableTriangles
 loop-again c = let w = c .before .before .before .before .before .before .before .before .before .before .loop .inv in
@@ -58,7 +55,7 @@ write-all-spec =
     cell-at-requires
     write-in-requires
     add-c
-    loop-less
+    (λ c. omega arith)
     loop-again
     same-length
     returns)
