@@ -31,14 +31,10 @@ cell-rows-requires c κs =
     record { few = length-fine _ (sym (c-row-1 .ensures) ∙ c-if1 .left) .2; pairs = pairs-fine _ _ (sym (c-row-2 .ensures) ∙ c .before .before .if2 .left); blank = c-pre }
 
 same-length : tie.Need-same-length
-same-length c =
-    let c-cell-rows = c .before .before .before .before .cell-rows in
-    c-cell-rows .kept .1 .1 .1 .0
+same-length c = c .before .before .before .before .cell-rows .kept .1 .1 .1 .0
 
 same-length-2 : tie.Need-same-length-2
-same-length-2 c =
-    let c-cell-rows = c .before .before .before .before .cell-rows in
-    c-cell-rows .kept .1 .1 .1 .1 .0
+same-length-2 c = c .before .before .before .before .cell-rows .kept .1 .1 .1 .1 .0
 
 returns-3 : tie.Need-returns-3
 unfolding since rows

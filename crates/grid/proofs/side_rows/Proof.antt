@@ -17,9 +17,7 @@ use Rattle.grid.proofs.side_rows.Statement.{statement}
 use Rattle.grid.proofs.side_rows.Tie as tie
 
 side-keys-requires : tie.Need-side-keys-requires
-side-keys-requires c κs =
-    let c-pre = c .before .before .before .before .before .before .pre in
-    omega (arith, c-pre .ordered .few)
+side-keys-requires c κs = omega (arith, c .before .before .before .before .before .before .pre .ordered .few)
 
 chain-requires : tie.Need-chain-requires
 chain-requires c κs =
@@ -46,34 +44,23 @@ row-8-requires c κs =
     )
 
 row-7-requires : tie.Need-row-7-requires
-row-7-requires c κs =
-    let c-row-8 = c .before .before .before .row-8 in
-    c-row-8 .ensures .1 .room
+row-7-requires c κs = c .before .before .before .row-8 .ensures .1 .room
 
 same-length : tie.Need-same-length
-same-length c =
-    let c-row-8 = c .before .before .before .before .before .row-8 in
-    c-row-8 .kept .1 .1 .1 .1 .1 .1 .0
+same-length c = c .before .before .before .before .before .row-8 .kept .1 .1 .1 .1 .1 .1 .0
 
 returns : tie.Need-returns
 unfolding since rows
 returns c =
-    let c-args = c .before .before .before .before .before .before .before .before .before .before .before .before .before .before .before .before .before .before .before .before .before .before .before .before .args in
-    let c-pre = c .before .before .before .before .before .before .before .before .before .before .before .before .before .before .before .before .before .before .before .before .before .before .before .before .pre in
-    let c-row-8 = c .before .before .before .before .before .row-8 in
-    let t = c-row-8 .ensures .1 in
+    let t = c .before .before .before .before .before .row-8 .ensures .1 in
     (answer-refuses _ 7 8 refl _ (c .before .row-7 .ensures ∙ sym (unlisted-blank _ _ t)) (c .if1 .taken), tt)
 
 same-length-2 : tie.Need-same-length-2
-same-length-2 c =
-    let c-row-8 = c .before .before .before .before .before .before .row-8 in
-    c-row-8 .kept .1 .1 .1 .1 .1 .1 .0
+same-length-2 c = c .before .before .before .before .before .before .row-8 .kept .1 .1 .1 .1 .1 .1 .0
 
 returns-2 : tie.Need-returns-2
 unfolding since rows
 returns-2 c =
-    let c-args = c .before .before .before .before .before .before .before .before .before .before .before .before .before .before .before .before .before .before .before .before .before .before .before .before .before .args in
-    let c-pre = c .before .before .before .before .before .before .before .before .before .before .before .before .before .before .before .before .before .before .before .before .before .before .before .before .before .pre in
     let c-row-8 = c .before .before .before .before .before .before .row-8 in
     let t = c-row-8 .ensures .1 in (
       answer-refuses _ 8 9 refl _ (c-row-8 .ensures .0) (c .if2 .taken)
@@ -88,7 +75,6 @@ last-rows-requires c κs =
     let c-shared-slice-known2 = c .before .before .before .before .before .before .before .before .before .before .before .before .before .before .before .before .before .before .before .before .before .before .before .before .before .before .shared-slice-known2 in
     let c-side-keys = c .before .before .before .before .before .before .before .before .before .before .before .before .before .before .before .before .before .before .before .before .before .side-keys in
     let c-chain = c .before .before .before .before .before .before .before .before .before .before .before .before .before .before .before .before .chain in
-    let c-row-8 = c .before .before .before .before .before .before .before .before .before .row-8 in
     let c-if2 = c .before .before .before .if2 in
     record {
       ordered = c-pre .ordered;
@@ -103,27 +89,22 @@ last-rows-requires c κs =
         headed = c-chain .ensures .1;
       };
       used = first-none (unused (gridOf (c-args .cells .now) (c-args .edges .now) (c-args .counts .now))) (length (c-args .counts .now))
-          (omega (arith, c-row-8 .ensures .0, c-if2 .left));
+          (omega (arith, c .before .before .before .before .before .before .before .before .before .row-8 .ensures .0, c-if2 .left));
     }
 
 same-length-3 : tie.Need-same-length-3
-same-length-3 c =
-    let c-row-8 = c .before .before .before .before .before .before .before .before .before .before .row-8 in
-    c-row-8 .kept .1 .1 .1 .1 .1 .1 .0
+same-length-3 c = c .before .before .before .before .before .before .before .before .before .before .row-8 .kept .1 .1 .1 .1 .1 .1 .0
 
 returns-3 : tie.Need-returns-3
 unfolding since rows
 returns-3 c =
     let c-args = c .before .before .before .before .before .before .before .before .before .before .before .before .before .before .before .before .before .before .before .before .before .before .before .before .before .before .before .before .before .args in
-    let c-pre = c .before .before .before .before .before .before .before .before .before .before .before .before .before .before .before .before .before .before .before .before .before .before .before .before .before .before .before .before .before .pre in
     let c-row-8 = c .before .before .before .before .before .before .before .before .before .before .row-8 in
-    let c-row-7 = c .before .before .before .before .before .before .row-7 in
     let c-if1 = c .before .before .before .before .before .if1 in
-    let c-if2 = c .before .before .before .before .if2 in
     let t = c-row-8 .ensures .1 in (
       c .last-rows .ensures
-          ∙ answer-passes _ 8 9 refl _ (c-row-8 .ensures .0) (c-if2 .left)
-          ∙ answer-passes _ 7 8 refl _ (c-row-7 .ensures ∙ sym (unlisted-blank _ _ t)) (c-if1 .left),
+          ∙ answer-passes _ 8 9 refl _ (c-row-8 .ensures .0) (c .before .before .before .before .if2 .left)
+          ∙ answer-passes _ 7 8 refl _ (c .before .before .before .before .before .before .row-7 .ensures ∙ sym (unlisted-blank _ _ t)) (c-if1 .left),
       where-accepted {T = Table (listedAt (gridOf (c-args .cells .now) (c-args .edges .now) (c-args .counts .now))) (6 * cellCount (c-args .cells .now)) (c-row-8 .last .1 .1 .1 .1 .1 .1 .0)} (c .last-rows .result) t,
     )
 

@@ -20,24 +20,21 @@ loop-holds c = (omega arith, omega arith, sym (start-zero _))
 
 returns : tie.Need-returns Inv-loop μ-loop
 returns c =
-    let c-args = c .before .before .before .before .before .before .args in
     let c-loop = c .before .before .before .before .loop in
-    let l = c-args .counts .now in
+    let l = c .before .before .before .before .before .before .args .counts .now in
     let i = c-loop .e in
     capped-over l (omega (arith, start-next l i, start-mono l (i + 1) (length l) (omega arith), c .before .size .ensures .0, c .if1 .taken, c-loop .inv .2))
 
 loop-again : tie.Need-loop-again Inv-loop μ-loop
 loop-again c =
-    let c-args = c .before .before .before .before .before .before .args in
     let c-loop = c .before .before .before .before .loop in
-    let l = c-args .counts .now in
+    let l = c .before .before .before .before .before .before .args .counts .now in
     let i = c-loop .e in
     (omega arith, omega (arith, c .if1 .left), omega (arith, start-next l i, c .before .size .ensures .0, c-loop .inv .2))
 
 returns-2 : tie.Need-returns-2 Inv-loop μ-loop
 returns-2 c =
-    let c-args = c .before .before .before .args in
-    let l = c-args .counts .now in
+    let l = c .before .before .before .args .counts .now in
     let e : c .before .loop .e ≡ length l = omega arith in
     let f : c .before .loop .s ≡ crossings l = c .before .loop .inv .2 ∙ ap (start l) e in
     f ∙ capped-is l (omega (arith, c .before .loop .inv .1))

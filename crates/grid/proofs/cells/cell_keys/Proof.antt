@@ -25,17 +25,14 @@ slice-write-keys c =
     omega (arith, ap length (w .1), simp length-filled at (ap length (w .1)))
 
 loop-again : tie.Need-loop-again Inv-loop μ-loop
-loop-again c =
-    let w = c .before .before .loop .inv in
-    (omega arith, filled-more _ _ _ _ _ (w .1) (c .cell-key .ensures))
+loop-again c = (omega arith, filled-more _ _ _ _ _ (c .before .before .loop .inv .1) (c .cell-key .ensures))
 
 same-length : tie.Need-same-length Inv-loop μ-loop
 same-length c = simp length-filled at (ap length (c .before .loop .inv .1))
 
 returns : tie.Need-returns Inv-loop μ-loop
 returns c =
-    let c-args = c .before .before .before .before .args in
-    let e : c .before .loop .c ≡ length (c-args .cells .now) / 4 = omega arith in
+    let e : c .before .loop .c ≡ length (c .before .before .before .before .args .cells .now) / 4 = omega arith in
     rw (← e) (c .before .loop .inv .1)
 
 pub cell-keys-spec : {M : Type 1} → statement M

@@ -16,5 +16,4 @@ unfolding faceNode position
 returns-2 c = (rw (le-ltb _ _ (c .before .if1 .left)) (rw add-one at (c .node-at2 .ensures .0)), c .node-at2 .ensures .1)
 
 pub corner-at-spec : {M : Type 1} → statement M
-corner-at-spec =
-    tie.close (tie.spec (λ c κs. search needs) returns (λ c. search needs) (λ c κs. search needs) returns-2)
+corner-at-spec = tie.close (tie.spec (λ c κs. search needs) returns (λ c. search needs) (λ c κs. search needs) returns-2)

@@ -11,5 +11,4 @@ returns c =
     (c .wide .ensures, omega (arith, c .wide .ensures, c .before .shared-slice-known2 .given (4 * c-args .c + c-args .i)))
 
 pub node-at-spec : {M : Type 1} → statement M
-node-at-spec =
-    tie.close (tie.spec (λ c. search needs) (λ c. search needs) (λ c. search needs) (λ c. search needs) (λ c κs. search needs) returns)
+node-at-spec = tie.close (tie.spec (λ c. search needs) (λ c. search needs) (λ c. search needs) (λ c. search needs) (λ c κs. search needs) returns)

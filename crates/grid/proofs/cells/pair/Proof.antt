@@ -18,85 +18,66 @@ abbrev μ-loop : tie.MeasureT-loop
 μ-loop keys next n near₀ j₀ near j = n - j
 
 loop-holds : tie.Need-loop-holds Inv-loop μ-loop
-loop-holds c =
-    let c-pre = c .before .before .before .pre in
-    (omega arith, refl, c-pre .blank, seek-start _ _)
+loop-holds c = (omega arith, refl, c .before .before .before .pre .blank, seek-start _ _)
 
 earlier-requires : tie.Need-earlier-requires Inv-loop μ-loop
-earlier-requires c κs =
-    let c-pre = c .before .before .before .before .before .pre in
-    (c-pre .chained, omega arith)
+earlier-requires c κs = (c .before .before .before .before .before .pre .chained, omega arith)
 
 loop-again : tie.Need-loop-again Inv-loop μ-loop
 loop-again c =
-    let c-loop = c .before .before .before .loop in
-    let w = c-loop .inv in
+    let w = c .before .before .before .loop .inv in
     (omega arith, w .1, mates-alone (w .2) _ (c .before .earlier .ensures) (c .if1 .taken), w .3 ∙ seek-miss _ _ _ (omega arith) (third-none (w .2) _ (c .before .earlier .ensures) (c .if1 .taken)))
 
 mul-if2 : tie.Need-mul-if2 Inv-loop μ-loop
 mul-if2 c =
-    let c-args = c .before .before .before .before .before .before .before .args in
     let c-loop = c .before .before .before .loop in
-    let l = c-args .keys .now in
+    let l = c .before .before .before .before .before .before .before .args .keys .now in
     omega (arith, c .before .earlier .ensures, last-le (sameKey l (getD l (c-loop .j) 0)) (c-loop .j))
 
 slice-read-if2 : tie.Need-slice-read-if2 Inv-loop μ-loop
 slice-read-if2 c =
-    let c-args = c .before .before .before .before .before .before .before .before .args in
     let c-pre = c .before .before .before .before .before .before .before .before .pre in
     let c-loop = c .before .before .before .before .loop in
-    let l = c-args .keys .now in
+    let l = c .before .before .before .before .before .before .before .before .args .keys .now in
     omega (arith, c .before .before .earlier .ensures, last-le (sameKey l (getD l (c-loop .j) 0)) (c-loop .j), c-loop .inv .1, c-pre .room)
 
 same-length : tie.Need-same-length Inv-loop μ-loop
-same-length c =
-    let c-loop = c .before .before .before .before .before .loop in
-    c-loop .inv .1
+same-length c = c .before .before .before .before .before .loop .inv .1
 
 returns : tie.Need-returns Inv-loop μ-loop
 returns c =
-    let c-loop = c .before .before .before .before .before .loop in
     let c-earlier = c .before .before .before .earlier in
-    let w = c-loop .inv in
+    let w = c .before .before .before .before .before .loop .inv in
     record { is = sym (w .3 ∙ seek-hit _ _ _ (omega arith) (third-there (w .2) _ (c-earlier .ensures) (omega (arith, c .before .before .if1 .left)) (omega (arith, c .if2 .taken)))); mates = w .2 }
 
 cast-near : tie.Need-cast-near Inv-loop μ-loop
 cast-near c =
-    let c-args = c .before .before .before .before .before .before .before .before .before .args in
     let c-pre = c .before .before .before .before .before .before .before .before .before .pre in
     let c-loop = c .before .before .before .before .before .loop in
-    let c-earlier = c .before .before .before .earlier in
-    let l = c-args .keys .now in
-    omega (arith, c-earlier .ensures, last-le (sameKey l (getD l (c-loop .j) 0)) (c-loop .j), c-pre .small)
+    let l = c .before .before .before .before .before .before .before .before .before .args .keys .now in
+    omega (arith, c .before .before .before .earlier .ensures, last-le (sameKey l (getD l (c-loop .j) 0)) (c-loop .j), c-pre .small)
 
 slice-write-near : tie.Need-slice-write-near Inv-loop μ-loop
 slice-write-near c =
-    let c-pre = c .before .before .before .before .before .before .before .before .before .pre in
     let c-loop = c .before .before .before .before .before .loop in
-    omega (arith, c-loop .inv .1, c-pre .room)
+    omega (arith, c-loop .inv .1, c .before .before .before .before .before .before .before .before .before .pre .room)
 
 cast-near-2 : tie.Need-cast-near-2 Inv-loop μ-loop
-cast-near-2 c =
-    let c-pre = c .before .before .before .before .before .before .before .before .before .pre in
-    omega (arith, c-pre .small)
+cast-near-2 c = omega (arith, c .before .before .before .before .before .before .before .before .before .pre .small)
 
 mul-near-2 : tie.Need-mul-near-2 Inv-loop μ-loop
 mul-near-2 c =
-    let c-args = c .before .before .before .before .before .before .before .before .before .args in
     let c-loop = c .before .before .before .before .before .loop in
-    let c-earlier = c .before .before .before .earlier in
-    let l = c-args .keys .now in
-    omega (arith, c-earlier .ensures, last-le (sameKey l (getD l (c-loop .j) 0)) (c-loop .j))
+    let l = c .before .before .before .before .before .before .before .before .before .args .keys .now in
+    omega (arith, c .before .before .before .earlier .ensures, last-le (sameKey l (getD l (c-loop .j) 0)) (c-loop .j))
 
 slice-write-near-2 : tie.Need-slice-write-near-2 Inv-loop μ-loop
 slice-write-near-2 c =
-    let c-args = c .before .before .before .before .before .before .before .before .before .args in
-    let c-pre = c .before .before .before .before .before .before .before .before .before .pre in
     let c-loop = c .before .before .before .before .before .loop in
     let c-earlier = c .before .before .before .earlier in
-    let l = c-args .keys .now in
+    let l = c .before .before .before .before .before .before .before .before .before .args .keys .now in
     let b : c-earlier .result ≤ c-loop .j = omega (arith, c-earlier .ensures, last-le (sameKey l (getD l (c-loop .j) 0)) (c-loop .j)) in
-    simp length-set (omega (arith, c-loop .inv .1, c-pre .room))
+    simp length-set (omega (arith, c-loop .inv .1, c .before .before .before .before .before .before .before .before .before .pre .room))
 
 loop-again-2 : tie.Need-loop-again-2 Inv-loop μ-loop
 loop-again-2 c =

@@ -20,19 +20,15 @@ loop-holds : tie.Need-loop-holds Inv-loop μ-loop
 loop-holds c = (omega arith, seek-start _ _)
 
 returns : tie.Need-returns Inv-loop μ-loop
-returns c =
-    let c-loop = c .before .before .before .loop in
-    sym (c-loop .inv .1 ∙ seek-hit _ _ _ (omega arith) (sym (c .before .bad-cell .ensures) ∙ c .if1 .taken))
+returns c = sym (c .before .before .before .loop .inv .1 ∙ seek-hit _ _ _ (omega arith) (sym (c .before .bad-cell .ensures) ∙ c .if1 .taken))
 
 loop-again : tie.Need-loop-again Inv-loop μ-loop
 loop-again c =
-    let c-loop = c .before .before .before .loop in
-    (omega arith, c-loop .inv .1 ∙ seek-miss _ _ _ (omega arith) (sym (c .before .bad-cell .ensures) ∙ c .if1 .left))
+    (omega arith, c .before .before .before .loop .inv .1 ∙ seek-miss _ _ _ (omega arith) (sym (c .before .bad-cell .ensures) ∙ c .if1 .left))
 
 returns-2 : tie.Need-returns-2 Inv-loop μ-loop
 returns-2 c =
-    let c-args = c .before .before .before .args in
-    let e : c .before .loop .c ≡ length (c-args .cells .now) / 4 = omega arith in
+    let e : c .before .loop .c ≡ length (c .before .before .before .args .cells .now) / 4 = omega arith in
     sym (c .before .loop .inv .1 ∙ seek-end _ _ _ (omega arith) ∙ e)
 
 pub row-3-spec : {M : Type 1} → statement M

@@ -32,9 +32,7 @@ loop-holds c =
     (omega arith, c .before .before .chain .ensures .0, filled-table _ _ _ _ (c-cell-keys .ensures) (omega arith), seek-start _ _)
 
 earlier-requires : tie.Need-earlier-requires Inv-loop μ-loop
-earlier-requires c κs =
-    let c-loop = c .before .before .before .loop in
-    (c-loop .inv .1, omega arith)
+earlier-requires c κs = (c .before .before .before .loop .inv .1, omega arith)
 
 returns : tie.Need-returns Inv-loop μ-loop
 returns c =

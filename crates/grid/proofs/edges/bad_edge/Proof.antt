@@ -28,11 +28,10 @@ returns-3 c =
     let c-shared-slice-known = c .before .before .before .before .before .before .shared-slice-known in
     let c-end-at = c .before .before .before .before .before .end-at in
     let c-end-at2 = c .before .before .before .before .end-at2 in
-    let c-if1 = c .before .before .before .if1 in
     rw (
       ← c-end-at .ensures .0,
       ← c-end-at2 .ensures .0,
-      lt-ltb _ _ (c-if1 .left),
+      lt-ltb _ _ (c .before .before .before .if1 .left),
       lt-ltb 0 (c-args .e) (omega (arith, c .before .before .if2 .left)),
       after-key (c-args .edges .now) (λ i. omega (arith, c-shared-slice-known .given i)) (c-args .e - 1) (c-args .e),
       ← c .before .edge-key .ensures,

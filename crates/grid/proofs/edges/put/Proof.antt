@@ -16,19 +16,14 @@ abbrev μ-loop : tie.MeasureT-loop
 μ-loop keys next n key top x sides₀ j₀ sides j = j
 
 loop-holds : tie.Need-loop-holds Inv-loop μ-loop
-loop-holds c =
-    let c-pre = c .before .before .before .pre in
-    placing-start _ _ _ _ _ _ (c-pre .top-is)
+loop-holds c = placing-start _ _ _ _ _ _ (c .before .before .before .pre .top-is)
 
 slice-write-sides : tie.Need-slice-write-sides Inv-loop μ-loop
-slice-write-sides c =
-    let c-pre = c .before .before .before .before .before .pre in
-    omega (arith, c .before .loop .inv .same, c .before .loop .inv .within, c-pre .room)
+slice-write-sides c = omega (arith, c .before .loop .inv .same, c .before .loop .inv .within, c .before .before .before .before .before .pre .room)
 
 shared-slice-read-wide : tie.Need-shared-slice-read-wide Inv-loop μ-loop
 shared-slice-read-wide c =
-    let c-pre = c .before .before .before .before .before .before .pre in
-    omega (arith, c .before .before .loop .inv .within, c-pre .chained .table .room)
+    omega (arith, c .before .before .loop .inv .within, c .before .before .before .before .before .before .pre .chained .table .room)
 
 walk-requires : tie.Need-walk-requires Inv-loop μ-loop
 walk-requires c κs =
@@ -39,8 +34,7 @@ walk-requires c κs =
 loop-less : tie.Need-loop-less Inv-loop μ-loop
 loop-less c =
     let c-args = c .before .before .before .before .before .before .before .before .args in
-    let c-loop = c .before .before .before .before .loop in
-    omega (arith, c .walk .ensures, last-le (sameKey (c-args .keys .now) (c-args .key)) (c-loop .j - 1))
+    omega (arith, c .walk .ensures, last-le (sameKey (c-args .keys .now) (c-args .key)) (c .before .before .before .before .loop .j - 1))
 
 loop-again : tie.Need-loop-again Inv-loop μ-loop
 loop-again c =

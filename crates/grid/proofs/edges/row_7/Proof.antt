@@ -25,14 +25,11 @@ loop-holds c = (omega arith, seek-start _ _)
 returns : tie.Need-returns Inv-loop μ-loop
 returns c =
     let c-args = c .before .before .before .before .args in
-    let c-loop = c .before .before .before .loop in
-    let e = c-loop .inv .1 ∙ seek-hit _ _ _ (omega arith) (eq-eqb _ _ (c .if1 .taken)) in
+    let e = c .before .before .before .loop .inv .1 ∙ seek-hit _ _ _ (omega arith) (eq-eqb _ _ (c .if1 .taken)) in
     sym (sym (blank-first (c-args .sides .now) (cellCount (c-args .cells .now))) ∙ ap (λ (x : ℕ). x / 6) e)
 
 loop-again : tie.Need-loop-again Inv-loop μ-loop
-loop-again c =
-    let c-loop = c .before .before .before .loop in
-    (omega arith, c-loop .inv .1 ∙ seek-miss _ _ _ (omega arith) (ne-eqb _ _ (c .if1 .left)))
+loop-again c = (omega arith, c .before .before .before .loop .inv .1 ∙ seek-miss _ _ _ (omega arith) (ne-eqb _ _ (c .if1 .left)))
 
 returns-2 : tie.Need-returns-2 Inv-loop μ-loop
 returns-2 c =

@@ -21,8 +21,7 @@ abbrev μ-loop : tie.MeasureT-loop
 
 loop-holds : tie.Need-loop-holds Inv-loop μ-loop
 loop-holds c =
-    let c-pre = c .before .before .before .before .before .before .before .pre in
-    (omega arith, listed-none _ _ _ (c-pre .1), sym (seek-end _ _ _ (omega arith)))
+    (omega arith, listed-none _ _ _ (c .before .before .before .before .before .before .before .pre .1), sym (seek-end _ _ _ (omega arith)))
 
 latest-requires : tie.Need-latest-requires Inv-loop μ-loop
 latest-requires c κs =
@@ -31,19 +30,15 @@ latest-requires c κs =
 
 loop-again : tie.Need-loop-again Inv-loop μ-loop
 loop-again c =
-    let c-pre = c .before .before .before .before .before .before .before .before .before .before .before .before .pre in
-    let c-loop = c .before .before .before .before .loop in
-    let w = c-loop .inv in
-    let p = c-pre .0 in
+    let w = c .before .before .before .before .loop .inv in
+    let p = c .before .before .before .before .before .before .before .before .before .before .before .before .pre .0 in
     let z = sym (rw (c .before .before .edge-key .ensures) at (c .before .latest .ensures)) ∙ c .if1 .taken in
     (omega arith, listed-skip (p .small) (p .small-ends) (p .table) _ (omega arith) (w .1) (omega arith) z, lowest-hit _ _ _ (omega arith) (unused-none _ (p .small) (p .small-ends) _ (p .table) _ z))
 
 put-requires : tie.Need-put-requires Inv-loop μ-loop
 put-requires c κs =
-    let c-pre = c .before .before .before .before .before .before .before .before .before .before .before .before .before .pre in
-    let c-loop = c .before .before .before .before .before .loop in
-    let w = c-loop .inv in
-    let p = c-pre .0 in
+    let w = c .before .before .before .before .before .loop .inv in
+    let p = c .before .before .before .before .before .before .before .before .before .before .before .before .before .pre .0 in
     record { chained = p .chained; room = omega (arith, w .1 .size, p .few); top-is = c .before .before .latest .ensures }
 
 loop-again-2 : tie.Need-loop-again-2 Inv-loop μ-loop
@@ -52,11 +47,10 @@ loop-again-2 c =
     let c-args = c .before .before .before .before .before .before .before .before .before .before .before .before .before .before .before .before .args in
     let c-loop = c .before .before .before .before .before .before .before .before .loop in
     let c-edge-key = c .before .before .before .before .before .before .edge-key in
-    let c-latest = c .before .before .before .before .before .latest in
     let c-if1 = c .before .before .before .before .if1 in
     let w = c-loop .inv in
     let p = c-pre .0 in
-    let z = rw (c-edge-key .ensures) at (c-latest .ensures) in
+    let z = rw (c-edge-key .ensures) at (c .before .before .before .before .before .latest .ensures) in
     let f = unused-not (gridOf (c-args .cells .now) (c-args .edges .now) (c-args .counts .now)) (p .small) (p .small-ends) (c-args .keys .now) (p .table) (c-loop .e - 1) (omega (arith, z, c-if1 .left)) in
     (omega arith, listed-put (p .small) (p .small-ends) (p .table) _ (omega arith) (w .1) (omega arith) _ (rw (c-edge-key .ensures) at (c .before .before .put .ensures)), lowest-miss _ _ _ _ _ (omega arith) (omega arith) f (w .2))
 

@@ -7,8 +7,7 @@ use Rattle.grid.proofs.keys.earlier.Tie as tie
 
 walk-requires : tie.Need-walk-requires
 walk-requires c κs =
-    let c-pre = c .before .before .before .before .before .pre in
-    let p = c-pre in
+    let p = c .before .before .before .before .before .pre in
     record { chained = p .0; within = omega arith; starts = c .wide .ensures ∙ p .0 .table .at _ (p .1) }
 
 pub earlier-spec : {M : Type 1} → statement M

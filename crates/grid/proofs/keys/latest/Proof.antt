@@ -8,10 +8,8 @@ use Rattle.grid.proofs.keys.latest.Tie as tie
 
 walk-requires : tie.Need-walk-requires
 walk-requires c κs =
-    let c-pre = c .before .before .before .before .before .pre in
-    let p = c-pre in
+    let p = c .before .before .before .before .before .pre in
     record { chained = p .0; within = omega arith; starts = c .wide .ensures ∙ p .1 .at _ (mod-lt _ (omega arith)) }
 
 pub latest-spec : {M : Type 1} → statement M
-latest-spec =
-    tie.close (tie.spec (λ c. search needs) (λ c. search needs) (λ c κs. search needs) walk-requires (λ c. search needs))
+latest-spec = tie.close (tie.spec (λ c. search needs) (λ c. search needs) (λ c κs. search needs) walk-requires (λ c. search needs))

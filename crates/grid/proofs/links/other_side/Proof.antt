@@ -22,5 +22,4 @@ returns-2 c =
     (other-high (a .k) (a .s) (omega arith) (p .edge-lt), rw (other-high (a .k) (a .s) (omega arith) (p .edge-lt)) (third-of _ _ (p .edge-lt) (p .slot-lt) (p .holds) .lt))
 
 pub other-side-spec : {M : Type 1} → statement M
-other-side-spec =
-    tie.close (tie.spec (λ c. search needs) (λ c. search needs) returns (λ c. search needs) sub-result-4 returns-2)
+other-side-spec = tie.close (tie.spec (λ c. search needs) (λ c. search needs) returns (λ c. search needs) sub-result-4 returns-2)

@@ -25,9 +25,7 @@ loop-holds : tie.Need-loop-holds Inv-loop μ-loop
 loop-holds c = (omega arith, refl, record { at = λ d. omega (arith, zeros mostCells d) }, seek-start _ _)
 
 mul-latest : tie.Need-mul-latest Inv-loop μ-loop
-mul-latest c =
-    let c-pre = c .before .before .before .before .before .before .before .before .before .before .pre in
-    omega (arith, c-pre .ordered .few)
+mul-latest c = omega (arith, c .before .before .before .before .before .before .before .before .before .before .pre .ordered .few)
 
 latest-requires : tie.Need-latest-requires Inv-loop μ-loop
 latest-requires c κs =
@@ -36,11 +34,9 @@ latest-requires c κs =
 
 split-at-requires : tie.Need-split-at-requires Inv-loop μ-loop
 split-at-requires c κs =
-    let c-pre = c .before .before .before .before .before .before .before .before .before .before .before .before .pre in
-    let c-loop = c .before .before .before .before .loop in
-    let p = c-pre in
+    let p = c .before .before .before .before .before .before .before .before .before .before .before .before .pre in
     let f = p .findable in
-    let w = c-loop .inv in
+    let w = c .before .before .before .before .loop .inv in
     let z = rw (c .before .before .edge-key .ensures) at (c .before .latest .ensures) in
     record {
       chained = f .chained;
@@ -53,14 +49,12 @@ split-at-requires c κs =
 
 returns : tie.Need-returns Inv-loop μ-loop
 returns c =
-    let c-pre = c .before .before .before .before .before .before .before .before .before .before .before .before .before .before .before .pre in
-    let c-loop = c .before .before .before .before .before .before .before .loop in
     let c-edge-key = c .before .before .before .before .before .edge-key in
     let c-latest = c .before .before .before .before .latest in
     let c-split-at = c .before .before .split-at in
-    let p = c-pre in
+    let p = c .before .before .before .before .before .before .before .before .before .before .before .before .before .before .before .pre in
     let f = p .findable in
-    let w = c-loop .inv in
+    let w = c .before .before .before .before .before .before .before .loop .inv in
     let z = rw (c-edge-key .ensures) at (c-latest .ensures) in
     let pos : 0 < c-latest .result = rw z (used-found _ (f .small) (f .small-ends) _ (f .table) _ (p .used _ (omega arith))) in
     let F = rw (c-edge-key .ensures) at (c-split-at .ensures .0) in
@@ -69,15 +63,13 @@ returns c =
 
 loop-again : tie.Need-loop-again Inv-loop μ-loop
 loop-again c =
-    let c-pre = c .before .before .before .before .before .before .before .before .before .before .before .before .before .before .before .pre in
     let c-args = c .before .before .before .before .before .before .before .before .before .before .before .before .before .before .before .args in
-    let c-loop = c .before .before .before .before .before .before .before .loop in
     let c-edge-key = c .before .before .before .before .before .edge-key in
     let c-latest = c .before .before .before .before .latest in
     let c-split-at = c .before .before .split-at in
-    let p = c-pre in
+    let p = c .before .before .before .before .before .before .before .before .before .before .before .before .before .before .before .pre in
     let f = p .findable in
-    let w = c-loop .inv in
+    let w = c .before .before .before .before .before .before .before .loop .inv in
     let z = rw (c-edge-key .ensures) at (c-latest .ensures) in
     let pos : 0 < c-latest .result = rw z (used-found _ (f .small) (f .small-ends) _ (f .table) _ (p .used _ (omega arith))) in
     let F = rw (c-edge-key .ensures) at (c-split-at .ensures .0) in

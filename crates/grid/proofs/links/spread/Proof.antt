@@ -18,15 +18,12 @@ shared-slice-read-wide c =
     omega (arith, P .slot, P .near-room)
 
 loop-holds : tie.Need-loop-holds Inv-loop μ-loop
-loop-holds c =
-    let P = c .before .before .before .before .pre in
-    walking-start P _ (c .wide .ensures)
+loop-holds c = walking-start (c .before .before .before .before .pre) _ (c .wide .ensures)
 
 mul-if1 : tie.Need-mul-if1 Inv-loop μ-loop
 mul-if1 c =
     let P = c .before .before .before .before .before .before .pre in
-    let w = c .before .loop .inv in
-    omega (arith, walking-lt P w, P .few)
+    omega (arith, walking-lt P (c .before .loop .inv), P .few)
 
 slice-read-if1 : tie.Need-slice-read-if1 Inv-loop μ-loop
 slice-read-if1 c =
@@ -35,21 +32,17 @@ slice-read-if1 c =
     omega (arith, walking-lt P w, w .same, P .room)
 
 same-length : tie.Need-same-length Inv-loop μ-loop
-same-length c =
-    let w = c .before .before .before .loop .inv in
-    w .same
+same-length c = c .before .before .before .loop .inv .same
 
 returns : tie.Need-returns Inv-loop μ-loop
 returns c =
-    let P = c .before .before .before .before .before .before .before .before .pre in
     let w = c .before .before .before .loop .inv in
-    walking-met P w (omega arith) (c .if1 .taken)
+    walking-met (c .before .before .before .before .before .before .before .before .pre) w (omega arith) (c .if1 .taken)
 
 mul-marks : tie.Need-mul-marks Inv-loop μ-loop
 mul-marks c =
     let P = c .before .before .before .before .before .before .before .before .pre in
-    let w = c .before .before .before .loop .inv in
-    omega (arith, walking-lt P w, P .few)
+    omega (arith, walking-lt P (c .before .before .before .loop .inv), P .few)
 
 slice-write-marks : tie.Need-slice-write-marks Inv-loop μ-loop
 slice-write-marks c =
@@ -58,31 +51,25 @@ slice-write-marks c =
     omega (arith, walking-lt P w, w .same, P .room)
 
 position-requires : tie.Need-position-requires Inv-loop μ-loop
-position-requires c κs =
-    let w = c .before .before .before .loop .inv in
-    w .rank-lt
+position-requires c κs = c .before .before .before .loop .inv .rank-lt
 
 rank-of-requires : tie.Need-rank-of-requires Inv-loop μ-loop
-rank-of-requires c κs =
-    (omega arith, (c .position .ensures .1 .0, λ e. c .position .ensures .1 .1 (sym e)))
+rank-of-requires c κs = (omega arith, (c .position .ensures .1 .0, λ e. c .position .ensures .1 .1 (sym e)))
 
 mul-wide-2 : tie.Need-mul-wide-2 Inv-loop μ-loop
 mul-wide-2 c =
     let P = c .before .before .before .before .before .before .before .before .before .before .pre in
-    let w = c .before .before .before .before .before .loop .inv in
-    omega (arith, walking-lt P w, P .few, c .before .position .ensures .1 .0)
+    omega (arith, walking-lt P (c .before .before .before .before .before .loop .inv), P .few, c .before .position .ensures .1 .0)
 
 add-wide : tie.Need-add-wide Inv-loop μ-loop
 add-wide c =
     let P = c .before .before .before .before .before .before .before .before .before .before .pre in
-    let w = c .before .before .before .before .before .loop .inv in
-    omega (arith, walking-lt P w, P .few, c .before .position .ensures .1 .0)
+    omega (arith, walking-lt P (c .before .before .before .before .before .loop .inv), P .few, c .before .position .ensures .1 .0)
 
 mul-wide-3 : tie.Need-mul-wide-3 Inv-loop μ-loop
 mul-wide-3 c =
     let P = c .before .before .before .before .before .before .before .before .before .before .pre in
-    let w = c .before .before .before .before .before .loop .inv in
-    omega (arith, walking-lt P w, P .few, c .before .position .ensures .1 .0)
+    omega (arith, walking-lt P (c .before .before .before .before .before .loop .inv), P .few, c .before .position .ensures .1 .0)
 
 shared-slice-read-wide-2 : tie.Need-shared-slice-read-wide-2 Inv-loop μ-loop
 shared-slice-read-wide-2 c =
@@ -106,15 +93,10 @@ loop-again c =
     walking-more P w (omega arith) (c .before .before .before .before .if1 .left) _ _ _ (s .1 .0) (s .0) (t .1) (t .0) (c .wide2 .ensures)
 
 same-length-2 : tie.Need-same-length-2 Inv-loop μ-loop
-same-length-2 c =
-    let w = c .before .loop .inv in
-    w .same
+same-length-2 c = c .before .loop .inv .same
 
 returns-2 : tie.Need-returns-2 Inv-loop μ-loop
-returns-2 c =
-    let P = c .before .before .before .before .before .before .pre in
-    let w = c .before .loop .inv in
-    walking-end P w (omega arith)
+returns-2 c = walking-end (c .before .before .before .before .before .before .pre) (c .before .loop .inv) (omega arith)
 
 pub spread-spec : {M : Type 1} → statement M
 spread-spec =

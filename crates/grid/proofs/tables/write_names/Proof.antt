@@ -20,14 +20,10 @@ loop-holds : tie.Need-loop-holds Inv-loop μ-loop
 loop-holds c = (omega arith, filled-none _ _)
 
 shared-slice-read-wide : tie.Need-shared-slice-read-wide Inv-loop μ-loop
-shared-slice-read-wide c =
-    let c-pre = c .before .before .before .before .before .pre in
-    omega (arith, c-pre .across-room)
+shared-slice-read-wide c = omega (arith, c .before .before .before .before .before .pre .across-room)
 
 cast-names : tie.Need-cast-names Inv-loop μ-loop
-cast-names c =
-    let c-pre = c .before .before .before .before .before .before .before .pre in
-    omega (arith, c .lower .ensures .1, c-pre .few)
+cast-names c = omega (arith, c .lower .ensures .1, c .before .before .before .before .before .before .before .pre .few)
 
 slice-write-names : tie.Need-slice-write-names Inv-loop μ-loop
 slice-write-names c =

@@ -19,19 +19,13 @@ loop-holds : tie.Need-loop-holds Inv-loop μ-loop
 loop-holds c = (omega arith, filled-none _ _)
 
 shared-slice-read-x : tie.Need-shared-slice-read-x Inv-loop μ-loop
-shared-slice-read-x c =
-    let c-pre = c .before .before .before .pre in
-    omega (arith, c-pre .listed-room)
+shared-slice-read-x c = omega (arith, c .before .before .before .pre .listed-room)
 
 sub-sides : tie.Need-sub-sides Inv-loop μ-loop
-sub-sides c =
-    let c-pre = c .before .before .before .pre in
-    omega (arith, c-pre .entries (c .before .before .loop .j) (omega arith) .0)
+sub-sides c = omega (arith, c .before .before .before .pre .entries (c .before .before .loop .j) (omega arith) .0)
 
 cast-sides : tie.Need-cast-sides Inv-loop μ-loop
-cast-sides c =
-    let c-pre = c .before .before .before .pre in
-    omega (arith, c-pre .entries (c .before .before .loop .j) (omega arith) .1)
+cast-sides c = omega (arith, c .before .before .before .pre .entries (c .before .before .loop .j) (omega arith) .1)
 
 slice-write-sides : tie.Need-slice-write-sides Inv-loop μ-loop
 slice-write-sides c =
@@ -42,8 +36,7 @@ slice-write-sides c =
 
 loop-again : tie.Need-loop-again Inv-loop μ-loop
 loop-again c =
-    let c-args = c .before .before .before .args in
-    (omega arith, filled-more (λ j. getD (c-args .listed .now) j 0 - 1) _ _ _ _ (c .before .before .loop .inv .1) refl)
+    (omega arith, filled-more (λ j. getD (c .before .before .before .args .listed .now) j 0 - 1) _ _ _ _ (c .before .before .loop .inv .1) refl)
 
 same-length : tie.Need-same-length Inv-loop μ-loop
 same-length c =

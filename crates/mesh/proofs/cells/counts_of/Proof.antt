@@ -8,8 +8,7 @@ use Rattle.mesh.proofs.cells.counts_of.Statement.{statement}
 use Rattle.mesh.proofs.cells.counts_of.Tie as tie
 
 abbrev Inv-loop : tie.InvT-loop
-Inv-loop counts sides c six₀ k₀ six k =
-    Valued (λ j. getD counts (side sides c j) 0) 6 six₀ k six
+Inv-loop counts sides c six₀ k₀ six k = Valued (λ j. getD counts (side sides c j) 0) 6 six₀ k six
 
 abbrev μ-loop : tie.MeasureT-loop
 μ-loop counts sides c six₀ k₀ six k = 6 - k

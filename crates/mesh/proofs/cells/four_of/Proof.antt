@@ -7,8 +7,7 @@ use Rattle.mesh.proofs.cells.four_of.Statement.{statement}
 use Rattle.mesh.proofs.cells.four_of.Tie as tie
 
 abbrev Inv-loop : tie.InvT-loop
-Inv-loop list c four₀ i₀ four i =
-    Valued (λ j. getD list (4 * c + j) 0) 4 four₀ i four
+Inv-loop list c four₀ i₀ four i = Valued (λ j. getD list (4 * c + j) 0) 4 four₀ i four
 
 abbrev μ-loop : tie.MeasureT-loop
 μ-loop list c four₀ i₀ four i = 4 - i

@@ -9,8 +9,7 @@ use Rattle.mesh.proofs.cells.starts_of.Statement.{statement}
 use Rattle.mesh.proofs.cells.starts_of.Tie as tie
 
 abbrev Inv-loop : tie.InvT-loop
-Inv-loop starts sides c six₀ k₀ six k =
-    Valued (λ j. getD starts (side sides c j) 0 % startLimit) 6 six₀ k six
+Inv-loop starts sides c six₀ k₀ six k = Valued (λ j. getD starts (side sides c j) 0 % startLimit) 6 six₀ k six
 
 abbrev μ-loop : tie.MeasureT-loop
 μ-loop starts sides c six₀ k₀ six k = 6 - k
