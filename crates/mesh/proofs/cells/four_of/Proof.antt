@@ -15,9 +15,6 @@ abbrev μ-loop : tie.MeasureT-loop
 loop-holds : tie.Need-loop-holds Inv-loop μ-loop
 loop-holds c = valued-none _ _ refl
 
-entry-requires : tie.Need-entry-requires Inv-loop μ-loop
-entry-requires c κs = tt
-
 loop-again : tie.Need-loop-again Inv-loop μ-loop
 loop-again c = valued-more _ _ (c .before .before .loop .inv) (omega arith) _ (c .entry .ensures)
 
@@ -33,7 +30,7 @@ four-of-spec =
     loop-holds
     (λ c. omega arith)
     (λ c. omega arith)
-    entry-requires
+    (λ c κs. tt)
     (λ c. omega arith)
     (λ c. omega arith)
     (λ c. omega arith)
