@@ -44,6 +44,24 @@ module _ (t : ℕ → Bool) where
   unfolding first
   seek-start n = let e : n - 0 ≡ n = omega arith in rw e
 
+  -- none below k passes, of n numbers: the search goes on at k
+  pub record Seeking (n k : ℕ) : Type 0 where
+    pub within : k ≤ n
+    pub is : first t n ≡ seek t (n - k) k
+
+  pub seeking-none : (n : ℕ) → Seeking n 0
+  seeking-none n = record { within = omega arith; is = seek-start n }
+
+  module _ {n k : ℕ} (S : Seeking n k) where
+    pub seeking-hit : k < n → t k ≡ true → k ≡ first t n
+    seeking-hit h e = sym (S .is ∙ seek-hit n k h e)
+
+    pub seeking-more : k < n → t k ≡ false → Seeking n (k + 1)
+    seeking-more h e = record { within = omega arith; is = S .is ∙ seek-miss n k h e }
+
+    pub seeking-all : n ≤ k → n ≡ first t n
+    seeking-all h = let e : k ≡ n = omega (arith, S .within) in sym (S .is ∙ seek-end n k h ∙ e)
+
   -- what a search from k over n numbers finds
   pub record Sought (n k r : ℕ) : Type 0 where
     pub low : k ≤ r

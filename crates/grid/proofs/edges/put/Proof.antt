@@ -3,8 +3,7 @@ use Prim.Native.Nat.{_-_}
 use mathlib.Core.Path.{_∙_}
 use native.Mathlib.Omega.{arith}
 use borrow.Author.Needs.{needs}
-use Rattle.counting.proofs.Search.{last-le}
-use Rattle.grid.specs.Work.{sameKey}
+use Rattle.grid.proofs.Chain.{top-le}
 use Rattle.grid.proofs.Sides.{Placing, placing-end, placing-more, placing-start}
 use Rattle.grid.proofs.edges.put.Statement.{statement}
 use Rattle.grid.proofs.edges.put.Tie as tie
@@ -32,9 +31,7 @@ walk-requires c κs =
     record { chained = c-pre .chained; within = omega (arith, c-loop .inv .within); starts = c .wide .ensures ∙ (rw (c-loop .inv .at (omega arith)) at (c-pre .chained .table .at (c-loop .j - 1) (omega (arith, c-loop .inv .within)))) }
 
 loop-less : tie.Need-loop-less Inv-loop μ-loop
-loop-less c =
-    let c-args = c .before .before .before .before .before .before .before .before .args in
-    omega (arith, c .walk .ensures, last-le (sameKey (c-args .keys .now) (c-args .key)) (c .before .before .before .before .loop .j - 1))
+loop-less c = omega (arith, top-le _ _ _ _ (c .walk .ensures))
 
 loop-again : tie.Need-loop-again Inv-loop μ-loop
 loop-again c =

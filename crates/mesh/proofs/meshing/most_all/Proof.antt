@@ -1,15 +1,13 @@
 -- `mesh::meshing::most_all` meets its contract.
 use Prim.Native.Nat.{_-_, _≤_}
-use mathlib.Core.Path.{_≡_, ap, _∙_}
+use mathlib.Core.Path.{ap, _∙_}
 use native.Mathlib.Omega.{arith}
-use lib.ListN.{length}
 use Rattle.counting.specs.Stored.{Summed}
 use Rattle.counting.proofs.Fronts.{length-over}
 use Rattle.counting.proofs.Range.{total-mono}
 use Rattle.counting.proofs.Stored.{summed-none, summed-more, summed-all}
 use Rattle.cell.specs.Cell.{crossings}
 use Rattle.cell.specs.Of.{edgesOf}
-use Rattle.cell.specs.Triangles.{cellTriangles}
 use Rattle.cell.proofs.Taken.{cell-few}
 use Rattle.grid.specs.Grid.{cellCount}
 use Rattle.mesh.specs.Table.{tableCell, tableTriangles}
