@@ -1,4 +1,4 @@
--- Three numbers one by one; two numbers in order or equal; a function that rises tells its arguments.
+-- Three numbers one by one; two numbers in order or equal; step by step; a function that rises tells its arguments.
 use Prim.Native.Nat.{ℕ, zero, suc, _<_}
 use mathlib.Core.Path.{_≡_}
 use native.Mathlib.Decide.{decLt}
@@ -12,6 +12,17 @@ below-three P a b c (suc (suc (suc i))) h = absurd (omega arith)
 
 pub trichotomy : {T : Type 0} (a b : ℕ) → (a < b → T) → (b < a → T) → (a ≡ b → T) → T
 trichotomy a b l g e = elim (decLt a b) [ yes h ↦ l h | no h ↦ elim (decLt b a) [ yes k ↦ g k | no k ↦ e (omega arith) ] ]
+
+-- a relation that holds from each number below n to the next, and goes on
+pub climb : (R : ℕ → ℕ → Type 0) (n : ℕ) → ((i j k : ℕ) → R i j → R j k → R i k) → ((i : ℕ) → suc i < n → R i (suc i)) → (i j : ℕ) → i < j → j < n → R i j
+climb R n on step i zero l h = absurd (omega arith)
+climb R n on step i (suc j) l h = elim (decLt i j) [
+  | yes g ↦ on i j (suc j) (climb R n on step i j g (omega arith)) (step j h)
+  | no g ↦ let e : i ≡ j = omega arith in rw e (step j h)
+]
+
+pub rising : (f : ℕ → ℕ) (n : ℕ) → ((i : ℕ) → suc i < n → f i < f (suc i)) → (i j : ℕ) → i < j → j < n → f i < f j
+rising f n = climb (λ i j. f i < f j) n (λ i j k a b. omega arith)
 
 pub rising-once : (f : ℕ → ℕ) (n : ℕ) → ((i j : ℕ) → i < j → j < n → f i < f j) → (i j : ℕ) → i < n → j < n → f i ≡ f j → i ≡ j
 rising-once f n rises i j li lj e =

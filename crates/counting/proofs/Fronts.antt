@@ -1,13 +1,13 @@
 -- Lists of equal length joined over a range, and their entries stored in another list one after the other.
 use Prim.Native.Nat.{ℕ, zero, suc, _+_, _-_, _*_, _≤_, _<_}
-use mathlib.Core.Path.{_≡_, refl, sym, ap, ap₂, _∙_}
+use mathlib.Core.Path.{_≡_, refl, sym, ap, _∙_}
 use mathlib.Core.Logic.{_⊎_, inl, inr}
 use mathlib.Core.List.{List, [], _∷_, _++_, append-assoc}
 use native.Mathlib.Nat.{zero-add, add-zero, mul-suc, mul-zero, mul-le-mul-left}
 use native.Mathlib.Omega.{arith}
 use lib.ListN.{length, getD, take, drop, set, length-append, length-drop, List·getD-append}
 use lib.Seq.{take-suc, take-add, take-all, getD-drop, sets, sets-eq, getD-append-add}
-use Rattle.counting.specs.Range.{over}
+use Rattle.counting.specs.Range.{over, total}
 use Rattle.counting.proofs.Search.{below-or}
 use Rattle.counting.proofs.Range.{over-snoc}
 
@@ -96,7 +96,7 @@ over-split f (suc m) n p =
     ∙ ap (λ l. f p ++ l) (over-split f m n (suc p) ∙ ap (λ k. over f m (suc p) ++ over f n k) q)
     ∙ sym (append-assoc (f p) (over f m (suc p)) (over f n (p + suc m)))
 
--- lists from another start on, and in parts: part r is the lists from s r up to s (r + 1)
+-- lists from another start on
 module _ {A : Type 0} (f : ℕ → List A) where
   pub over-shift : (m n p : ℕ) → over (λ q. f (m + q)) n p ≡ over f n (m + p)
   unfolding over
@@ -105,17 +105,11 @@ module _ {A : Type 0} (f : ℕ → List A) where
       let e : m + suc p ≡ suc (m + p) = omega arith in
       ap (λ l. f (m + p) ++ l) (over-shift m n (suc p) ∙ ap (over f n) e)
 
-  pub over-parts : (s : ℕ → ℕ) (n : ℕ) → s 0 ≡ 0 → ((r : ℕ) → r < n → s r ≤ s (suc r)) → over (λ r. over f (s (suc r) - s r) (s r)) n 0 ≡ over f (s n) 0
-  unfolding over
-  over-parts s zero z h = ap (λ k. over f k 0) (sym z)
-  over-parts s (suc n) z h =
-      let part : ℕ → List A = λ r. over f (s (suc r) - s r) (s r) in
-      let e : s n + (s (suc n) - s n) ≡ s (suc n) = omega (arith, h n (omega arith)) in
-      over-snoc part n 0
-      ∙ ap₂ (λ l k. l ++ part k) (over-parts s n z (λ r l. h r (omega arith))) (zero-add n)
-      ∙ ap (λ k. over f (s n) 0 ++ over f (s (suc n) - s n) k) (sym (zero-add (s n)))
-      ∙ sym (over-split f (s n) (s (suc n) - s n) 0)
-      ∙ ap (λ k. over f k 0) e
+-- how long they are together
+pub length-over : {A : Type 0} (f : ℕ → List A) (n p : ℕ) → length (over f n p) ≡ total (λ q. length (f q)) n p
+unfolding over total
+length-over f zero p = refl
+length-over f (suc n) p = length-append (f p) (over f n (suc p)) ∙ ap (λ m. length (f p) + m) (length-over f n (suc p))
 
 -- list k and what stands before and after it
 pub over-at : {A : Type 0} (f : ℕ → List A) (n k : ℕ) → k < n → over f n 0 ≡ over f k 0 ++ (f k ++ over f (n - suc k) (suc k))

@@ -1,7 +1,7 @@
 -- Laws of rows laid end to end.
 use Prim.Native.Nat.{ℕ, zero, suc, _+_, _-_, _≤_, _<_}
 use mathlib.Core.Path.{_≡_, refl, sym, ap, _∙_, subst}
-use mathlib.Core.Logic.{_⊎_, inl, inr, ⊎-elim}
+use mathlib.Core.Logic.{⊎-elim}
 use mathlib.Core.Bool.{Bool, true, false}
 use native.Mathlib.Nat.{not-suc-le-zero, zero-add, eq-or-lt-of-le}
 use native.Mathlib.Omega.{arith}
@@ -89,20 +89,3 @@ module _ (w : ℕ → ℕ) where
 
     pub pack-lt : (r i : ℕ) → r < m → i < w r → pre w r + i < pre w m
     pack-lt r i h l = omega (arith, pre-le r m h)
-
-    -- a later number is in a later row, or later in the row
-    pub later : (x y : ℕ) → x < y → y < pre w m → (row w m x < row w m y) ⊎ ((row w m x ≡ row w m y) × (col w m x < col w m y))
-    later x y h l = go (ltb (row w m x) (row w m y)) (ltb (row w m y) (row w m x)) refl refl
-      where
-        ux : pre w (row w m x) + col w m x ≡ x
-        ux = unpack x (omega arith)
-
-        uy : pre w (row w m y) + col w m y ≡ y
-        uy = unpack y l
-
-        go : (a b : Bool) → ltb (row w m x) (row w m y) ≡ a → ltb (row w m y) (row w m x) ≡ b → (row w m x < row w m y) ⊎ ((row w m x ≡ row w m y) × (col w m x < col w m y))
-        go true b p q = inl (ltb-true (row w m x) (row w m y) p)
-        go false true p q = absurd (omega (arith, ux, uy, pre-le (row w m y) (row w m x) (ltb-true (row w m y) (row w m x) q), col-lt y l))
-        go false false p q =
-            let e : row w m x ≡ row w m y = omega (arith, ltb-false (row w m x) (row w m y) p, ltb-false (row w m y) (row w m x) q) in
-            inr (e, omega (arith, ux, uy, ap (pre w) e))

@@ -2,16 +2,16 @@
 use Prim.Native.Nat.{ℕ, zero, suc, _+_, _*_, _-_, _/_, _%_, _≤_, _<_}
 use mathlib.Core.Path.{_≡_, refl, sym, ap, _∙_}
 use mathlib.Core.Logic.{_⊎_, inl, inr, ⊎-elim}
-use mathlib.Core.Bool.{Bool, true, false, _&&_, _||_}
+use mathlib.Core.Bool.{Bool, true, false, _&&_}
 use native.Mathlib.Omega.{arith}
 use native.Mathlib.Numerals.{add-one}
 use native.Mathlib.Nat.{mul-zero, mul-suc, mul-comm, mul-le-mul-left, mod-lt, div-add-mod, mul-div-cancel-left, div-lt-iff-lt-mul, not-suc-le-zero, eq-or-lt-of-le, le-of-suc-le-suc}
-use lib.Dec.{ltb, leb}
-use borrow.Author.Tests.{lt-ltb, le-ltb, ltb-true, le-leb, lt-leb}
+use lib.Dec.{ltb}
+use borrow.Author.Tests.{lt-ltb, ltb-true}
 use Rattle.counting.specs.Pick.{pick, one}
 use Rattle.counting.specs.Range.{total}
 use Rattle.counting.specs.Search.{seek, first, last, some, every, count}
-use Rattle.counting.proofs.Bools.{clash, and-true, and-left, and-right, or-left, or-right, or-false, holds-or}
+use Rattle.counting.proofs.Bools.{clash, and-true, and-left, and-right, holds-or}
 use Rattle.counting.proofs.Range.{total-snoc}
 
 -- below n, or at the last of suc n numbers
@@ -43,6 +43,24 @@ module _ (t : ℕ → Bool) where
   pub seek-start : (n : ℕ) → first t n ≡ seek t (n - 0) 0
   unfolding first
   seek-start n = let e : n - 0 ≡ n = omega arith in rw e
+
+  -- none below k passes, of n numbers: the search goes on at k
+  pub record Seeking (n k : ℕ) : Type 0 where
+    pub within : k ≤ n
+    pub is : first t n ≡ seek t (n - k) k
+
+  pub seeking-none : (n : ℕ) → Seeking n 0
+  seeking-none n = record { within = omega arith; is = seek-start n }
+
+  module _ {n k : ℕ} (S : Seeking n k) where
+    pub seeking-hit : k < n → t k ≡ true → k ≡ first t n
+    seeking-hit h e = sym (S .is ∙ seek-hit n k h e)
+
+    pub seeking-more : k < n → t k ≡ false → Seeking n (k + 1)
+    seeking-more h e = record { within = omega arith; is = S .is ∙ seek-miss n k h e }
+
+    pub seeking-all : n ≤ k → n ≡ first t n
+    seeking-all h = let e : k ≡ n = omega (arith, S .within) in sym (S .is ∙ seek-end n k h ∙ e)
 
   -- what a search from k over n numbers finds
   pub record Sought (n k r : ℕ) : Type 0 where
@@ -467,19 +485,3 @@ first-blocks t b n pos =
 pub some-first : (t : ℕ → Bool) (n : ℕ) → some t n ≡ true → first t n < n
 some-first t n e =
     ⊎-elim (λ (q : first t n ≡ n). (let w = some-is t n e in clash (w .2) (first-none t n (omega arith) (w .0) (w .1)))) (λ q. q) (eq-or-lt-of-le (first-le t n))
-
--- of n numbers, the first a and the last b
-pub count-ends : (n a b : ℕ) → a + b ≤ n → count (λ i. ltb i a || leb n (i + b)) n ≡ a + b
-count-ends n a b h =
-    let e : n ≡ a + (n - a - b + b) = omega arith in
-    ap (count t) e ∙ count-plus t a (n - a - b + b)
-    ∙ omega (
-      arith,
-      count-plus (λ i. t (a + i)) (n - a - b) b,
-      count-all t a (λ i l. or-left (ltb i a) (leb n (i + b)) (lt-ltb i a l)),
-      count-none (λ i. t (a + i)) (n - a - b) (λ i l. or-false (ltb (a + i) a) (leb n (a + i + b)) (le-ltb (a + i) a (omega arith)) (lt-leb n (a + i + b) (omega arith))),
-      count-all (λ i. t (a + (n - a - b + i))) b (λ i l. or-right (ltb (a + (n - a - b + i)) a) (leb n (a + (n - a - b + i) + b)) (le-leb n (a + (n - a - b + i) + b) (omega arith))),
-    )
-  where
-    t : ℕ → Bool
-    t i = ltb i a || leb n (i + b)

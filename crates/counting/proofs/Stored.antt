@@ -120,3 +120,6 @@ module _ (g : ℕ → ℕ) (most : ℕ) where
         is = omega (arith, S .is, e, total-next g n);
         few = omega (arith, S .few, q);
       }
+
+  pub summed-all : {k n t : ℕ} → Summed g most k t → k ≡ n → t ≡ total g n 0
+  summed-all S e = rw (← e) (S .is)

@@ -18,6 +18,10 @@ pub key-bucket : (keys : List ℕ) (k x : ℕ) → inBucket keys (k % buckets) x
 unfolding sameKey inBucket
 key-bucket keys k x e = ne-eqb (getD keys x 0) k (λ q. eqb-false (getD keys x 0 % buckets) (k % buckets) e (ap (λ (y : ℕ). y % buckets) q))
 
+-- the last place with a key
+pub top-le : (keys : List ℕ) (key m top : ℕ) → top ≡ last (sameKey keys key) m → top ≤ m
+top-le keys key m top e = rw e (last-le (sameKey keys key) m)
+
 -- the loop of `walk` stands at j
 pub record Walked (keys : List ℕ) (m k j : ℕ) : Type 0 where
   pub within : j ≤ m

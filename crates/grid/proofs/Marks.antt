@@ -18,6 +18,7 @@ use Rattle.counting.proofs.Involution.{count-less, less}
 use Rattle.counting.proofs.Search.{count-ext, down-hit, down-miss, last-is, last-le, some-through, some-zero}
 use Rattle.slots.specs.Slots.{contains, position, hi, lo, otherSlot, rankIn, secondSlot}
 use Rattle.slots.proofs.Slots.{Third, ends-sum, rank-of, third-of, two-slots}
+use Rattle.grid.proofs.Chain.{top-le}
 use Rattle.grid.specs.Work.{Closed, Reached, Grown, OnSlot, Open, Paired, KeySlot, Splitting, Spread, Spreadable, Spreading, Spreads, missing, rank, sameKey}
 
 -- how the other slot is found, from the sum of an edge's ends
@@ -337,9 +338,6 @@ module _ (keys near : List ℕ) (n key mark : ℕ) (marks : List ℕ) (J : Paire
       first : (d : ℕ) → getD marks₂ d 0 ≡ getD (set marks c mark) d 0 → (x : Bool) → eqb d c ≡ x → (getD marks₂ d 0 ≡ getD marks d 0) ⊎ (getD marks₂ d 0 ≡ mark)
       first d e true q = let f : d ≡ c = eqb-true d c q in inr (e ∙ rw f marked)
       first d e false q = inl (e ∙ getD-set-other marks c d mark 0 (eqb-false d c q))
-
-pub top-le : (keys : List ℕ) (key m top : ℕ) → top ≡ last (sameKey keys key) m → top ≤ m
-top-le keys key m top e = rw e (last-le (sameKey keys key) m)
 
 pub top-key : (keys : List ℕ) (key m top : ℕ) → top ≡ last (sameKey keys key) m → 0 < top → getD keys (6 * ((top - 1) / 6) + (top - 1) % 6) 0 ≡ key
 unfolding sameKey

@@ -1,10 +1,8 @@
 -- Keys: equal exactly where the nodes are.
-use Prim.Native.Nat.{ℕ, zero, suc, _%_, _*_, _+_, _/_, _<_, _≤_}
+use Prim.Native.Nat.{ℕ, _%_, _*_, _+_, _/_, _<_, _≤_}
 use mathlib.Core.Path.{_∙_, _≡_, ap, refl}
-use mathlib.Core.Logic.{⊎-elim}
 use mathlib.Core.Bool.{Bool, _&&_, _||_, false, not, true}
 use mathlib.Core.List.{List}
-use native.Mathlib.Nat.{eq-or-lt-of-le, not-suc-le-zero}
 use native.Mathlib.Numerals.{add-one}
 use native.Mathlib.Omega.{arith}
 use lib.Dec.{eqb, leb, ltb}
@@ -13,7 +11,7 @@ use borrow.Author.Tests.{eq-eqb, eqb-false, eqb-true, le-leb, le-ltb, leb-false,
 use Rattle.counting.specs.Pick.{pick}
 use Rattle.counting.specs.Search.{every, first, last, some}
 use Rattle.counting.specs.Stored.{filled}
-use Rattle.counting.proofs.Below.{rising-once}
+use Rattle.counting.proofs.Below.{rising, rising-once}
 use Rattle.counting.proofs.Bools.{or-none, or-right}
 use Rattle.counting.proofs.Stored.{length-filled, filled-at}
 use Rattle.counting.proofs.Search.{every-is, first-none, is-every, none-some, some-ext, some-found, some-last, some-none}
@@ -66,23 +64,26 @@ module _ (cells : List ℕ) (c : ℕ) where
           let l0 = h 0 (omega arith) in
           rw (le-ltb highestNode (node cells c 2) (omega arith), le-ltb highestNode (node cells c 1) (omega arith), le-ltb highestNode (node cells c 0) (omega arith))
 
+  pub cell-fine : badCell cells c ≡ false
+      → ((i : ℕ) → i < 4 → node cells c i ≤ highestNode) × ((i : ℕ) → i < 3 → node cells c i < node cells c (i + 1))
+  unfolding badCell
+  cell-fine e =
+      let (a, b) = or-none (some (λ i. ltb highestNode (node cells c i)) 4) (some (λ i. leb (node cells c (i + 1)) (node cells c i)) 3) e in (
+        λ i l. ltb-false highestNode (node cells c i) (some-none (λ i. ltb highestNode (node cells c i)) 4 a i l),
+        λ i l. leb-false (node cells c (i + 1)) (node cells c i) (some-none (λ i. leb (node cells c (i + 1)) (node cells c i)) 3 b i l),
+      )
+
 -- what rows 1 and 3 leave
 pub ordered-cells : (cells : List ℕ) → ((i : ℕ) → getD cells i 0 < 65536) → cellCount cells ≤ mostCells → cellCount cells ≤ first (badCell cells) (cellCount cells)
     → RisingCells cells
-unfolding badCell
-ordered-cells cells small few none =
-    record {
-      small = small;
-      few = few;
-      nodes = λ c i h l. ltb-false highestNode (node cells c i) (some-none (λ i. ltb highestNode (node cells c i)) 4 (fine c h .0) i l);
-      rising = λ c i h l. leb-false (node cells c (i + 1)) (node cells c i) (some-none (λ i. leb (node cells c (i + 1)) (node cells c i)) 3 (fine c h .1) i l);
-    }
+ordered-cells cells small few none = record { small = small; few = few; nodes = λ c i h l. fine c h .0 i l; rising = λ c i h l. fine c h .1 i l }
   where
-    fine : (c : ℕ) → c < cellCount cells
-        → (some (λ i. ltb highestNode (node cells c i)) 4 ≡ false) × (some (λ i. leb (node cells c (i + 1)) (node cells c i)) 3 ≡ false)
-    fine c h =
-        or-none (some (λ i. ltb highestNode (node cells c i)) 4) (some (λ i. leb (node cells c (i + 1)) (node cells c i)) 3)
-        (first-none (badCell cells) (cellCount cells) none c h)
+    fine : (c : ℕ) → c < cellCount cells → ((i : ℕ) → i < 4 → node cells c i ≤ highestNode) × ((i : ℕ) → i < 3 → node cells c i < node cells c (i + 1))
+    fine c h = cell-fine cells c (first-none (badCell cells) (cellCount cells) none c h)
+
+-- the nodes of a cell that rise step by step
+pub nodes-rise : (cells : List ℕ) (c : ℕ) → ((i : ℕ) → i < 3 → node cells c i < node cells c (i + 1)) → (a b : ℕ) → a < b → b < 4 → node cells c a < node cells c b
+nodes-rise cells c h = rising (node cells c) 4 (λ i l. rw add-one at (h i (omega arith)))
 
 pub join-eqb : (a b c d : ℕ) → b < 65536 → d < 65536 → eqb (join a b) (join c d) ≡ eqb a c && eqb b d
 join-eqb a b c d h l = go (eqb a c) (eqb b d) refl refl
@@ -147,10 +148,7 @@ module _ (cells : List ℕ) where
 module _ (cells : List ℕ) (good : RisingCells cells) where
   -- a cell's nodes rise
   pub rises : (c : ℕ) → c < cellCount cells → (a b : ℕ) → a < b → b < 4 → node cells c a < node cells c b
-  rises c h a zero l m = absurd (not-suc-le-zero l)
-  rises c h a (suc b) l m =
-      let s : node cells c b < node cells c (suc b) = rw add-one at (good .rising c b h (omega arith)) in
-      ⊎-elim (λ (q : a ≡ b). rw q s) (λ (g : a < b). omega (arith, rises c h a b g (omega arith))) (eq-or-lt-of-le (omega arith))
+  rises c h = nodes-rise cells c (λ i l. good .rising c i h l)
 
   -- two slots of a cell are two faces
   pub one-slot : (c t s : ℕ) → c < cellCount cells → t < 4 → s < 4 → sameFace cells c t c s ≡ true → t ≡ s

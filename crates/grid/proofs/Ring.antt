@@ -4,25 +4,27 @@ use mathlib.Core.Path.{_∙_, _≡_, ap, refl, sym}
 use mathlib.Core.Logic.{_≢_, _⊎_, inl, inr, ⊎-elim}
 use mathlib.Core.Bool.{Bool, _&&_, false, not, true}
 use mathlib.Core.List.{List}
-use native.Mathlib.Nat.{eq-or-lt-of-le}
 use native.Mathlib.Omega.{arith}
-use lib.Dec.{eqb, ltb}
-use lib.ListN.{getD}
-use borrow.Author.Tests.{eq-eqb, eqb-false, eqb-true, ltb-false, ltb-true, not-false, not-true}
+use lib.Dec.{eqb}
+use lib.ListN.{getD, length}
+use borrow.Author.Tests.{eq-eqb, eqb-false, eqb-true, not-false, not-true}
 use Rattle.counting.specs.Pick.{one}
 use Rattle.counting.specs.Search.{first, last, some}
+use Rattle.counting.proofs.Below.{trichotomy}
 use Rattle.counting.proofs.Bools.{and-left, and-right, and-true, bool-same, clash, holds-or}
 use Rattle.counting.proofs.Range.{mark}
 use Rattle.counting.proofs.Reach.{reach-closed, reach-start, reach-within}
-use Rattle.counting.proofs.Search.{first-is, first-le, first-none, some-and, some-blocks, some-ext, some-found, some-is, some-none}
+use Rattle.counting.proofs.Search.{first-is, some-and, some-blocks, some-ext, some-first, some-found, some-is, some-none}
 use Rattle.slots.specs.Slots.{contains, hi, lo, lower, edgeRank, slotEdge, upper}
-use Rattle.slots.proofs.Slots.{edge-order, edge-slot, face-ends, slot-edge, slot-rank, two-slots}
+use Rattle.slots.proofs.Slots.{edge-slot, face-ends, slot-edge, slot-rank}
 use Rattle.grid.specs.Grid.{Grid, cellCount, hasEdge, hasFace, isEdge, node, sameFace}
 use Rattle.grid.specs.Rows.{reached, linked, split}
-use Rattle.grid.specs.Work.{Closed, Reached, Near, RisingCells, Paired, KeySlot, Table, edgeKey, join, missing, rank, sameKey, sideKey}
-use Rattle.grid.proofs.Marks.{top-key, top-le}
+use Rattle.grid.specs.Work.{Closed, Linkable, Reached, Near, RisingCells, Paired, KeySlot, Table, edgeKey, join, missing, rank, sameKey, sideKey}
+use Rattle.grid.proofs.Chain.{top-le}
+use Rattle.grid.proofs.Marks.{top-key}
 use Rattle.grid.proofs.Packed.{join-eqb, rises, same-true}
-use Rattle.grid.proofs.Sides.{is-side}
+use Rattle.grid.proofs.Sides.{is-side, used-found}
+use Rattle.grid.proofs.Sound.{before-same, ends-before}
 
 module _ (cells : List ℕ) (good : RisingCells cells) (keys near : List ℕ) (tk : Table (sideKey cells) (6 * cellCount cells) keys) (N : Near cells near) where
   side-at : (c k : ℕ) → c < cellCount cells → k < 6 → getD keys (6 * c + k) 0 ≡ join (node cells c (lo k)) (node cells c (hi k))
@@ -33,15 +35,10 @@ module _ (cells : List ℕ) (good : RisingCells cells) (keys near : List ℕ) (t
       tk .at (6 * c + k) (omega arith) ∙ rw (a, b)
 
   -- two edges of a cell are two edges
-  earlier-edge : (c k m : ℕ) → c < cellCount cells → k < m → m < 6 → node cells c (lo k) ≡ node cells c (lo m) → node cells c (hi k) ≡ node cells c (hi m) → ⊥
-  earlier-edge c k m h l lm e f =
-      let a = two-slots k (omega arith) in
-      let b = two-slots m lm in
-      ⊎-elim (λ (o : lo k < lo m). omega (arith, rises cells good c h (lo k) (lo m) o (omega (arith, b .rising, b .within))))
-      (λ (o : (lo k ≡ lo m) × (hi k < hi m)). omega (arith, rises cells good c h (hi k) (hi m) (o .1) (b .within))) (edge-order k m l lm)
-
   one-edge : (c k m : ℕ) → c < cellCount cells → k < 6 → m < 6 → getD keys (6 * c + k) 0 ≡ getD keys (6 * c + m) 0 → k ≡ m
-  one-edge c k m h lk lm e = go (ltb k m) refl (ltb m k) refl
+  one-edge c k m h lk lm e =
+      trichotomy k m (λ l. absurd (before-same _ _ _ _ lows highs (ends-before (node cells c) (rises cells good c h) k m l lm)))
+      (λ l. absurd (before-same _ _ _ _ (sym lows) (sym highs) (ends-before (node cells c) (rises cells good c h) m k l lk))) (λ q. q)
     where
       both : (eqb (node cells c (lo k)) (node cells c (lo m)) && eqb (node cells c (hi k)) (node cells c (hi m))) ≡ true
       both =
@@ -53,11 +50,6 @@ module _ (cells : List ℕ) (good : RisingCells cells) (keys near : List ℕ) (t
 
       highs : node cells c (hi k) ≡ node cells c (hi m)
       highs = eqb-true _ _ (and-right (eqb (node cells c (lo k)) (node cells c (lo m))) (eqb (node cells c (hi k)) (node cells c (hi m))) both)
-
-      go : (x : Bool) → ltb k m ≡ x → (y : Bool) → ltb m k ≡ y → k ≡ m
-      go true p y q = absurd (earlier-edge c k m h (ltb-true k m p) lm lows highs)
-      go false p true q = absurd (earlier-edge c m k h (ltb-true m k q) lk (sym lows) (sym highs))
-      go false p false q = omega (arith, ltb-false k m p, ltb-false m k q)
 
   -- an edge of a face is an edge of both its cells
   carried : (key d t c s k : ℕ) → d < cellCount cells → t < 4 → c < cellCount cells → s < 4 → k < 6 → sameFace cells d t c s ≡ true
@@ -188,9 +180,7 @@ module _ (G : Grid) (good : RisingCells (G .cells)) (keys near : List ℕ) (tk :
 
     f-lt : f < cellCount (G .cells)
     unfolding f
-    f-lt =
-        ⊎-elim (λ (q : f ≡ cellCount (G .cells)). clash top-has (first-none (hasEdge G e) (cellCount (G .cells)) (omega arith) ((top - 1) / 6) (omega (arith, tl)))) (λ q. q)
-        (eq-or-lt-of-le (first-le (hasEdge G e) (cellCount (G .cells))))
+    f-lt = some-first (hasEdge G e) (cellCount (G .cells)) (some-found (hasEdge G e) (cellCount (G .cells)) ((top - 1) / 6) (omega (arith, tl)) top-has)
 
     f-has : hasEdge G e f ≡ true
     unfolding f
@@ -304,6 +294,18 @@ module _ (G : Grid) (good : RisingCells (G .cells)) (keys near : List ℕ) (tk :
             ∙ some-ext (λ k. eqb (getD keys (6 * c + k) 0) (edgeKey (G .edges) e) && not (eqb (getD marks c 0) mark))
             (λ k. eqb (getD keys (6 * c + k) 0) (edgeKey (G .edges) e) && not (eqb (getD marks ((6 * c + k) / 6) 0) mark)) 6
             (λ k l. (let q : (6 * c + k) / 6 ≡ c = omega arith in rw q)))
+
+-- an edge by its key, in what row 9 starts from
+module _ {G : Grid} {near keys head next : List ℕ} (L : Linkable G near keys head next) {e key top : ℕ} (h : e < length (G .counts)) (ek : key ≡ edgeKey (G .edges) e)
+    (et : top ≡ last (sameKey keys key) (6 * cellCount (G .cells))) where
+  pub edge-found : 0 < top
+  edge-found = rw (et, ek) (used-found G (L .findable .small) (L .findable .small-ends) keys (L .findable .table) e (L .used e h))
+
+  pub split-told : {mark : ℕ} {marks₀ marks : List ℕ} {r : Bool} → Reached keys near (cellCount (G .cells)) key mark ((top - 1) / 6) marks₀ marks
+      → r ≡ some (missing keys key marks mark) (6 * cellCount (G .cells)) → split G e ≡ r
+  split-told {mark} {marks₀} {marks} R a =
+      split-missing G (L .ordered) keys near (L .findable .table) (L .near-is) (L .findable .small-ends) e top (rw ek at et) edge-found mark marks₀ marks (rw ek at R)
+      ∙ sym (rw ek at a)
 
 -- all marks are at most e
 pub record Under (marks : List ℕ) (e : ℕ) : Type 0 where

@@ -1,10 +1,9 @@
 -- The edges of the list and of the cells by their keys: rows 6, 7 and 8.
 use Prim.Native.Nat.{ℕ, suc, _%_, _*_, _+_, _-_, _/_, _<_, _≤_}
 use mathlib.Core.Path.{_∙_, _≡_, ap, refl, sym}
-use mathlib.Core.Logic.{_≢_, ⊎-elim}
+use mathlib.Core.Logic.{_≢_}
 use mathlib.Core.Bool.{Bool, false, not, true}
 use mathlib.Core.List.{List}
-use native.Mathlib.Nat.{eq-or-lt-of-le}
 use native.Mathlib.Numerals.{add-one}
 use native.Mathlib.Omega.{arith}
 use lib.Dec.{eqb, leb, ltb}
@@ -13,8 +12,8 @@ use lib.Seq.{getD-set-other, getD-set-same}
 use borrow.Author.Tests.{eq-eqb, eqb-false, eqb-true, le-leb, le-ltb, leb-false, leb-true, lt-leb, lt-ltb, ltb-false, ltb-true, ne-eqb, not-false}
 use Rattle.counting.specs.Pick.{pick}
 use Rattle.counting.specs.Search.{first, last, seek, some}
-use Rattle.counting.proofs.Bools.{clash, eqb-comm}
-use Rattle.counting.proofs.Search.{first-blocks, first-ext, first-le, first-none, last-above, last-is, last-le, none-first, seek-end, seek-hit, seek-miss, seek-start, some-blocks, some-ext, some-is, some-last, some-none}
+use Rattle.counting.proofs.Bools.{eqb-comm}
+use Rattle.counting.proofs.Search.{first-blocks, first-ext, last-above, last-is, last-le, none-first, seek-end, seek-hit, seek-miss, seek-start, some-blocks, some-ext, some-first, some-last, some-none}
 use Rattle.slots.specs.Slots.{hi, lo}
 use Rattle.grid.specs.Grid.{Grid, cellCount, hasEdge, high, isEdge, joins, low, mostCells, mostEdges, node}
 use Rattle.grid.specs.Rows.{isAfter, unlisted, unused}
@@ -202,10 +201,7 @@ module _ (G : Grid) (sides : List ℕ) (t : Table (listedAt G) (6 * cellCount (G
     where
       go : (x : Bool) → some (isEdge G c k) m ≡ x → not x ≡ eqb (foundAt m (first (isEdge G c k) m)) 0
       go true e =
-          let w = some-is (isEdge G c k) m e in
-          let f : first (isEdge G c k) m < m =
-          ⊎-elim (λ (q : first (isEdge G c k) m ≡ m). clash (w .2) (first-none (isEdge G c k) m (omega arith) (w .0) (w .1))) (λ q. q)
-          (eq-or-lt-of-le (first-le (isEdge G c k) m)) in
+          let f = some-first (isEdge G c k) m e in
           rw (lt-ltb (first (isEdge G c k) m) m f) (sym (ne-eqb (suc (first (isEdge G c k) m)) 0 (λ q. omega arith)))
       go false e =
           let f = none-first (isEdge G c k) m (some-none (isEdge G c k) m e) in

@@ -4,24 +4,23 @@ use mathlib.Core.Path.{_∙_, _≡_, ap, refl, sym}
 use mathlib.Core.Logic.{_≢_, inl, inr, ⊎-elim}
 use mathlib.Core.Bool.{Bool, _&&_, false, not, true}
 use mathlib.Core.List.{List}
-use native.Mathlib.Nat.{not-suc-le-zero}
 use native.Mathlib.Omega.{arith}
 use lib.Dec.{eqb, leb, ltb}
 use lib.ListN.{length}
-use borrow.Author.Tests.{eq-eqb, eqb-true, le-ltb, leb-false, lt-leb, lt-ltb, ltb-false, ltb-true, ne-eqb, not-false}
+use borrow.Author.Tests.{eq-eqb, eqb-true, le-ltb, lt-leb, lt-ltb, ltb-false, ltb-true, ne-eqb, not-false}
 use Rattle.counting.specs.Pick.{pick}
 use Rattle.counting.specs.Search.{count, first, some}
-use Rattle.counting.proofs.Below.{trichotomy}
+use Rattle.counting.proofs.Below.{climb, trichotomy}
 use Rattle.counting.proofs.Bools.{and-left, and-right, and-true, clash, not-clash, or-false, or-none}
 use Rattle.counting.proofs.Pigeon.{pigeonhole}
-use Rattle.counting.proofs.Search.{below-or, count-two-of, every-is, first-is, is-every, none-some, some-first, some-found, some-is, some-none, two-counted}
+use Rattle.counting.proofs.Search.{count-two-of, every-is, first-is, is-every, none-some, some-first, some-found, some-is, some-none, two-counted}
 use Rattle.slots.specs.Slots.{hi, lo}
 use Rattle.slots.proofs.Slots.{edge-order, two-slots}
 use Rattle.grid.specs.Accepted.{Before, EdgeIs, EdgeNumbers, Sound}
 use Rattle.grid.specs.Grid.{Grid, SameFace, cellCount, crossings, edgeNumber, hasEdge, hasFace, high, highestNode, isEdge, joins, low, mostCells, mostCrossings, node, sameFace}
 use Rattle.grid.specs.Rows.{isAfter, badCell, badEdge, badLength, badPairs, repeats, sameCell, crowded, tooMany, unlisted, unused}
 use Rattle.grid.proofs.Answers.{length-fine, pairs-fine}
-use Rattle.grid.proofs.Packed.{same-true, true-same}
+use Rattle.grid.proofs.Packed.{cell-fine, nodes-rise, same-true, true-same}
 
 -- the same face: either way round, and from one to the next
 pub flip : (cells : List ℕ) (a r b s : ℕ) → SameFace cells a r b s → SameFace cells b s a r
@@ -43,9 +42,16 @@ before-not a b c d (inl h) (inr k) = omega (arith, k .0)
 before-not a b c d (inr h) (inl k) = omega (arith, h .0)
 before-not a b c d (inr h) (inr k) = omega (arith, h .1, k .1)
 
-before-same : (a b c d : ℕ) → a ≡ c → b ≡ d → Before a b c d → ⊥
+pub before-same : (a b c d : ℕ) → a ≡ c → b ≡ d → Before a b c d → ⊥
 before-same a b c d e f (inl h) = omega arith
 before-same a b c d e f (inr h) = omega (arith, h .1)
+
+-- the ends of two edges of a cell whose nodes rise
+pub ends-before : (f : ℕ → ℕ) → ((a b : ℕ) → a < b → b < 4 → f a < f b) → (k l : ℕ) → k < l → l < 6 → Before (f (lo k)) (f (hi k)) (f (lo l)) (f (hi l))
+ends-before f rises k l h ll =
+    let t = two-slots l ll in
+    ⊎-elim (λ (o : lo k < lo l). inl (rises (lo k) (lo l) o (omega (arith, t .rising, t .within))))
+    (λ (o : (lo k ≡ lo l) × (hi k < hi l)). inr (ap f (o .0), rises (hi k) (hi l) (o .1) (t .within))) (edge-order k l h ll)
 
 module _ (edges : List ℕ) (d e : ℕ) where
   after-before : isAfter edges d e ≡ true → Before (low edges d) (high edges d) (low edges e) (high edges e)
@@ -117,21 +123,6 @@ module _ (G : Grid) (F : Faultless G) where
   lists : (length (G .cells) ≡ 4 * cellCount (G .cells)) × (0 < cellCount (G .cells)) × (cellCount (G .cells) ≤ mostCells)
   lists = length-fine (G .cells) (F .row-1)
 
-  cell-fine : (c : ℕ) → c < cellCount (G .cells)
-      → (some (λ i. ltb highestNode (node (G .cells) c i)) 4 ≡ false) × (some (λ i. leb (node (G .cells) c (i + 1)) (node (G .cells) c i)) 3 ≡ false)
-  unfolding badCell
-  cell-fine c h = or-none (some (λ i. ltb highestNode (node (G .cells) c i)) 4) (some (λ i. leb (node (G .cells) c (i + 1)) (node (G .cells) c i)) 3) (F .row-3 c h)
-
-  next-node : (c i : ℕ) → c < cellCount (G .cells) → i < 3 → node (G .cells) c i < node (G .cells) c (i + 1)
-  next-node c i h l = leb-false (node (G .cells) c (i + 1)) (node (G .cells) c i) (some-none (λ i. leb (node (G .cells) c (i + 1)) (node (G .cells) c i)) 3 (cell-fine c h .1) i l)
-
-  nodes-rise : (c i j : ℕ) → c < cellCount (G .cells) → i < j → j < 4 → node (G .cells) c i < node (G .cells) c j
-  nodes-rise c i zero h l m = absurd (not-suc-le-zero l)
-  nodes-rise c i (suc j) h l m =
-      let q : j + 1 ≡ suc j = omega arith in
-      let s : node (G .cells) c j < node (G .cells) c (suc j) = rw q at (next-node c j h (omega arith)) in
-      ⊎-elim (λ (e : i ≡ j). rw e s) (λ (g : i < j). omega (arith, nodes-rise c i j h g (omega arith))) (below-or i j l)
-
   earlier-cell : (d c : ℕ) → d < c → c < cellCount (G .cells) → ((i : ℕ) → i < 4 → node (G .cells) d i ≡ node (G .cells) c i) → ⊥
   unfolding repeats sameCell
   earlier-cell d c l h same =
@@ -156,11 +147,9 @@ module _ (G : Grid) (F : Faultless G) where
       after-before (G .edges) e (suc e) (not-false (isAfter (G .edges) e (suc e)) (rw (lt-ltb 0 (suc e) (omega arith), z) at b))
 
   sorted-edges : (d e : ℕ) → d < e → e < length (G .counts) → Before (low (G .edges) d) (high (G .edges) d) (low (G .edges) e) (high (G .edges) e)
-  sorted-edges d zero l h = absurd (not-suc-le-zero l)
-  sorted-edges d (suc e) l h =
-      ⊎-elim (λ (q : d ≡ e). rw q (next-edge e h))
-      (λ (g : d < e). before-trans (low (G .edges) d) (high (G .edges) d) (low (G .edges) e) (high (G .edges) e) (low (G .edges) (suc e)) (high (G .edges) (suc e)) (sorted-edges d e g (omega arith)) (next-edge e h))
-      (below-or d e l)
+  sorted-edges =
+      climb (λ d e. Before (low (G .edges) d) (high (G .edges) d) (low (G .edges) e) (high (G .edges) e)) (length (G .counts))
+      (λ i j k a b. before-trans (low (G .edges) i) (high (G .edges) i) (low (G .edges) j) (high (G .edges) j) (low (G .edges) k) (high (G .edges) k) a b) next-edge
 
   pub sound : Sound G
   unfolding unlisted unused hasEdge tooMany
@@ -169,8 +158,8 @@ module _ (G : Grid) (F : Faultless G) where
     some-cell = lists .1;
     few-cells = lists .2;
     pairs = pairs-fine (G .edges) (G .counts) (F .row-2);
-    within = λ c i h l. ltb-false highestNode (node (G .cells) c i) (some-none (λ i. ltb highestNode (node (G .cells) c i)) 4 (cell-fine c h .0) i l);
-    increasing = nodes-rise;
+    within = λ c i h l. cell-fine (G .cells) c (F .row-3 c h) .0 i l;
+    increasing = λ c i j h. nodes-rise (G .cells) c (cell-fine (G .cells) c (F .row-3 c h) .1) i j;
     distinct = distinct-cells;
     third = no-third (G .cells) (F .row-5);
     ends = edge-ends;
@@ -261,10 +250,7 @@ module _ (G : Grid) (S : Sound G) where
       b = number-is c l h ll
 
       order : Before (node (G .cells) c (lo k)) (node (G .cells) c (hi k)) (node (G .cells) c (lo l)) (node (G .cells) c (hi l))
-      order =
-          let t = two-slots l ll in
-          ⊎-elim (λ (o : lo k < lo l). inl (S .increasing c (lo k) (lo l) h o (omega (arith, t .rising, t .within))))
-          (λ (o : (lo k ≡ lo l) × (hi k < hi l)). inr (ap (node (G .cells) c) (o .0), S .increasing c (hi k) (hi l) h (o .1) (t .within))) (edge-order k l kl ll)
+      order = ends-before (node (G .cells) c) (λ a b. S .increasing c a b h) k l kl ll
 
   pub edge-numbers : EdgeNumbers G
   unfolding number

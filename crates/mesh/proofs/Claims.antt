@@ -2,7 +2,6 @@
 use Prim.Native.Nat.{ℕ, _*_}
 use mathlib.Core.Path.{_≡_, sym, ap, _∙_}
 use mathlib.Core.List.{List, [], _∷_}
-use native.Mathlib.Omega.{arith}
 use lib.Dec.{ltb, leb}
 use lib.ListN.{length, drop}
 use Rattle.answer.specs.Answer.{result, refusal, refused}
@@ -20,7 +19,6 @@ use Rattle.cell.specs.Words.{wordCount}
 use Rattle.grid.specs.Grid.{Grid, cellCount}
 use Rattle.grid.specs.Tables.{accepts}
 use Rattle.grid.specs.Rows.{gridAnswer}
-use Rattle.grid.proofs.Sound.{edge-numbers}
 use Rattle.grid.proofs.Accepts.{acceptance-yields}
 use Rattle.grid.proofs.Claims.{never-empty}
 use Rattle.mesh.specs.declared.Meshed.{Meshed}

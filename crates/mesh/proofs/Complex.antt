@@ -1,9 +1,9 @@
 -- An accepted grid is a complex whose cells share whole faces.
-use Prim.Native.Nat.{ℕ, _+_, _*_, _-_, _/_, _≤_, _<_}
+use Prim.Native.Nat.{ℕ, _+_, _*_, _/_, _≤_, _<_}
 use mathlib.Core.Path.{_≡_, refl, sym, ap, ap₂, _∙_, subst}
 use mathlib.Core.Logic.{_⊎_, inl, inr, ⊎-elim}
 use native.Mathlib.Omega.{arith}
-use lib.ListN.{getD, length}
+use lib.ListN.{length}
 use Rattle.counting.proofs.Below.{rising-once}
 use Rattle.counting.proofs.Lists.{values-at}
 use Rattle.counting.proofs.Pack.{pre-le}

@@ -1,15 +1,13 @@
 -- Demand 3 from what acceptance yields.
 use Prim.Native.Nat.{ℕ, _+_, _*_, _/_, _<_}
 use mathlib.Core.Path.{_≡_, refl, sym, ap, ap₂, _∙_, subst}
-use mathlib.Core.Bool.{Bool, true, false, _&&_, _||_}
+use mathlib.Core.Bool.{Bool, true, false, _||_}
 use native.Mathlib.Omega.{arith}
 use mathlib.Core.List.{[], _∷_, map}
-use lib.Dec.{eqb}
 use lib.ListN.{length, getD, length-map}
 use Rattle.counting.specs.Range.{over}
 use Rattle.counting.specs.Lists.{tally}
 use Rattle.counting.specs.Pack.{row, col}
-use Rattle.counting.proofs.Bools.{clash}
 use Rattle.counting.proofs.Lists.{getD-map, tally-map, map-over}
 use Rattle.counting.proofs.Range.{over-ext}
 use Rattle.counting.proofs.Pack.{row-lt, col-lt, unpack}

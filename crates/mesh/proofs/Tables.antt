@@ -1,5 +1,5 @@
 -- The tables of an accepted grid give its cells.
-use Prim.Native.Nat.{ℕ, _+_, _*_, _-_, _/_, _%_, _<_}
+use Prim.Native.Nat.{ℕ, _+_, _*_, _/_, _%_, _<_}
 use mathlib.Core.Path.{_≡_, ap, ap₂, _∙_}
 use mathlib.Core.Bool.{true}
 use mathlib.Core.List.{List}
@@ -13,7 +13,7 @@ use Rattle.counting.proofs.Stored.{filled-at}
 use Rattle.counting.proofs.Range.{over-ext}
 use Rattle.counting.proofs.Pack.{pre-le}
 use Rattle.cell.specs.Route.{startLimit}
-use Rattle.grid.specs.Grid.{Grid, mostCells, cellCount, node, faceName, edgeNumber, countOf, start, mostSlots, mostEdges}
+use Rattle.grid.specs.Grid.{Grid, mostCells, cellCount, faceName, edgeNumber, countOf, start, mostSlots, mostEdges}
 use Rattle.grid.specs.Accepted.{Sound}
 use Rattle.grid.proofs.Sound.{edge-numbers}
 use Rattle.grid.specs.Tables.{accepts, Opened, nameAt, sideAt}

@@ -6,17 +6,8 @@ use Rattle.face.specs.Corners.{cornerList}
 use Rattle.face.proofs.corner_at.Statement.{statement}
 use Rattle.face.proofs.corner_at.Tie as tie
 
-returns : tie.Need-returns
-returns c = search needs
-
-returns-2 : tie.Need-returns-2
-returns-2 c = search needs
-
-returns-3 : tie.Need-returns-3
-returns-3 c = search needs
-
 returns-4 : tie.Need-returns-4
 returns-4 c = sym (List·getD-eq-default (cornerList (c .before .before .before .args .c)) 0 {n = c .before .before .before .args .node} (omega arith))
 
 pub corner-at-spec : {M : Type 1} → statement M
-corner-at-spec = tie.close (tie.spec returns returns-2 returns-3 returns-4)
+corner-at-spec = tie.close (tie.spec (λ c. search needs) (λ c. search needs) (λ c. search needs) returns-4)

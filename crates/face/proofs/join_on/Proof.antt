@@ -6,24 +6,12 @@ use Rattle.face.proofs.Calls.{low-join, high-join, middle-join}
 use Rattle.face.proofs.join_on.Statement.{statement}
 use Rattle.face.proofs.join_on.Tie as tie
 
-lower-end-requires : tie.Need-lower-end-requires
-lower-end-requires c κs = search needs
-
 partner-of-requires : tie.Need-partner-of-requires
 partner-of-requires c κs =
     record { ends = low-end (c .lower-end .ensures) (c .before .before .pre .corners .edge); below = rw (c .lower-end .ensures) (omega arith) }
 
 returns : tie.Need-returns
 returns c = c .partner-of .ensures ∙ sym (low-join (c .before .before .before .pre) (c .before .lower-end .ensures) (c .before .before .if1 .taken))
-
-sub-k : tie.Need-sub-k
-sub-k c = search needs
-
-sub-k-2 : tie.Need-sub-k-2
-sub-k-2 c = search needs
-
-upper-end-requires : tie.Need-upper-end-requires
-upper-end-requires c κs = search needs
 
 partner-of-requires-2 : tie.Need-partner-of-requires-2
 partner-of-requires-2 c κs =
@@ -32,15 +20,6 @@ partner-of-requires-2 c κs =
 returns-2 : tie.Need-returns-2
 returns-2 c = c .partner-of2 .ensures ∙ sym (high-join (c .before .before .before .before .pre) (c .before .upper-end .ensures) (c .before .before .if2 .taken))
 
-sub-residual-join : tie.Need-sub-residual-join
-sub-residual-join c = search needs
-
-sub-residual-join-2 : tie.Need-sub-residual-join-2
-sub-residual-join-2 c = search needs
-
-residual-join-requires : tie.Need-residual-join-requires
-residual-join-requires c κs = search needs
-
 returns-3 : tie.Need-returns-3
 returns-3 c = c .residual-join .ensures ∙ sym (middle-join (c .before .before .before .pre) _ (omega arith) (c .before .if2 .left))
 
@@ -48,15 +27,15 @@ pub join-on-spec : {M : Type 1} → statement M
 join-on-spec =
     tie.close
     (tie.spec
-    lower-end-requires
+    (λ c κs. search needs)
     partner-of-requires
     returns
-    sub-k
-    sub-k-2
-    upper-end-requires
+    (λ c. search needs)
+    (λ c. search needs)
+    (λ c κs. search needs)
     partner-of-requires-2
     returns-2
-    sub-residual-join
-    sub-residual-join-2
-    residual-join-requires
+    (λ c. search needs)
+    (λ c. search needs)
+    (λ c κs. search needs)
     returns-3)

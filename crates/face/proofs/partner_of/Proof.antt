@@ -4,9 +4,6 @@ use Rattle.face.proofs.Calls.{partner-fits}
 use Rattle.face.proofs.partner_of.Statement.{statement}
 use Rattle.face.proofs.partner_of.Tie as tie
 
-other-edge-requires : tie.Need-other-edge-requires
-other-edge-requires c κs = search needs
-
 kth-of-requires : tie.Need-kth-of-requires
 kth-of-requires c κs = rw (c .other-edge .ensures) (partner-fits (c .before .pre))
 
@@ -15,4 +12,4 @@ unfolding partner
 returns c = cc
 
 pub partner-of-spec : {M : Type 1} → statement M
-partner-of-spec = tie.close (tie.spec other-edge-requires kth-of-requires returns)
+partner-of-spec = tie.close (tie.spec (λ c κs. search needs) kth-of-requires returns)

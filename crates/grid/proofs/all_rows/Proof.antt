@@ -9,15 +9,9 @@ use Rattle.grid.proofs.Answers.{answer-passes, answer-refuses, answer-s
 use Rattle.grid.proofs.all_rows.Statement.{statement}
 use Rattle.grid.proofs.all_rows.Tie as tie
 
-row-1-requires : tie.Need-row-1-requires
-row-1-requires c κs = search needs
-
 returns : tie.Need-returns
 unfolding since rows
 returns c = (answer-refuses _ 1 2 refl 0 (whole-fault _ (sym (c .before .row-1 .ensures) ∙ c .if1 .taken)) (omega arith) ∙ answer-start _, tt)
-
-row-2-requires : tie.Need-row-2-requires
-row-2-requires c κs = search needs
 
 returns-2 : tie.Need-returns-2
 unfolding since rows
@@ -37,14 +31,10 @@ cell-rows-requires c κs =
     record { few = length-fine _ (sym (c-row-1 .ensures) ∙ c-if1 .left) .2; pairs = pairs-fine _ _ (sym (c-row-2 .ensures) ∙ c .before .before .if2 .left); blank = c-pre }
 
 same-length : tie.Need-same-length
-same-length c =
-    let c-cell-rows = c .before .before .before .before .cell-rows in
-    c-cell-rows .kept .1 .1 .1 .0
+same-length c = c .before .before .before .before .cell-rows .kept .1 .1 .1 .0
 
 same-length-2 : tie.Need-same-length-2
-same-length-2 c =
-    let c-cell-rows = c .before .before .before .before .cell-rows in
-    c-cell-rows .kept .1 .1 .1 .1 .0
+same-length-2 c = c .before .before .before .before .cell-rows .kept .1 .1 .1 .1 .0
 
 returns-3 : tie.Need-returns-3
 unfolding since rows
@@ -64,9 +54,9 @@ pub all-rows-spec : {M : Type 1} → statement M
 all-rows-spec =
     tie.close
     (tie.spec
-    row-1-requires
+    (λ c κs. search needs)
     returns
-    row-2-requires
+    (λ c κs. search needs)
     returns-2
     cell-rows-requires
     same-length

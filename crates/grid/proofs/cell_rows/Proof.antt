@@ -9,17 +9,12 @@ use Rattle.grid.proofs.Packed.{ordered-cells}
 use Rattle.grid.proofs.cell_rows.Statement.{statement}
 use Rattle.grid.proofs.cell_rows.Tie as tie
 
-row-3-requires : tie.Need-row-3-requires
-row-3-requires c κs = search needs
-
 returns : tie.Need-returns
 unfolding since rows
 returns c = (answer-refuses _ 3 4 refl _ (c .before .row-3 .ensures) (c .if1 .taken), tt)
 
 row-4-requires : tie.Need-row-4-requires
-row-4-requires c κs =
-    let c-pre = c .before .before .before .before .before .before .before .pre in
-    c-pre .few
+row-4-requires c κs = c .before .before .before .before .before .before .before .pre .few
 
 returns-2 : tie.Need-returns-2
 unfolding since rows
@@ -39,21 +34,17 @@ row-5-requires c κs =
     (ordered-cells _ (λ i. omega (arith, c-shared-slice-known .given i)) (c-pre .few) (rw (c-row-3 .ensures) at (c-if1 .left)), c-pre .blank .near-is)
 
 same-length : tie.Need-same-length
-same-length c =
-    let c-row-5 = c .before .before .before .row-5 in
-    c-row-5 .kept .1 .0
+same-length c = c .before .before .before .row-5 .kept .1 .0
 
 returns-3 : tie.Need-returns-3
 unfolding since rows
 returns-3 c =
-    let c-row-3 = c .before .before .before .before .before .before .before .before .row-3 in
     let c-if1 = c .before .before .before .before .before .before .before .if1 in
-    let c-row-4 = c .before .before .before .before .before .before .row-4 in
     let c-if2 = c .before .before .before .before .before .if2 in
     let c-row-5 = c .before .before .before .row-5 in (
       answer-refuses _ 5 6 refl _ (c-row-5 .ensures .0) (c .if3 .taken)
-          ∙ answer-passes _ 4 5 refl _ (c-row-4 .ensures) (c-if2 .left)
-          ∙ answer-passes _ 3 4 refl _ (c-row-3 .ensures) (c-if1 .left),
+          ∙ answer-passes _ 4 5 refl _ (c .before .before .before .before .before .before .row-4 .ensures) (c-if2 .left)
+          ∙ answer-passes _ 3 4 refl _ (c .before .before .before .before .before .before .before .before .row-3 .ensures) (c-if1 .left),
       tt,
     )
 
@@ -63,18 +54,15 @@ edge-rows-requires c κs =
     let c-shared-slice-known = c .before .before .before .before .before .before .before .before .before .before .before .before .before .before .before .shared-slice-known in
     let c-row-3 = c .before .before .before .before .before .before .before .before .before .before .row-3 in
     let c-if1 = c .before .before .before .before .before .before .before .before .before .if1 in
-    let c-row-5 = c .before .before .before .before .before .row-5 in
     record {
       ordered = ordered-cells _ (λ i. omega (arith, c-shared-slice-known .given i)) (c-pre .few) (rw (c-row-3 .ensures) at (c-if1 .left));
       pairs = c-pre .pairs;
-      near-is = c-row-5 .ensures .1 (c .before .before .if3 .left);
+      near-is = c .before .before .before .before .before .row-5 .ensures .1 (c .before .before .if3 .left);
       sides-is = c-pre .blank .sides-is;
     }
 
 same-length-2 : tie.Need-same-length-2
-same-length-2 c =
-    let c-row-5 = c .before .before .before .before .before .before .before .before .row-5 in
-    c-row-5 .kept .1 .0
+same-length-2 c = c .before .before .before .before .before .before .before .before .row-5 .kept .1 .0
 
 same-length-3 : tie.Need-same-length-3
 same-length-3 c = c .before .before .edge-rows .kept .1 .1 .1 .1 .0
@@ -100,7 +88,7 @@ pub cell-rows-spec : {M : Type 1} → statement M
 cell-rows-spec =
     tie.close
     (tie.spec
-    row-3-requires
+    (λ c κs. search needs)
     returns
     row-4-requires
     returns-2

@@ -11,36 +11,29 @@ use Rattle.grid.proofs.last_rows.Statement.{statement}
 use Rattle.grid.proofs.last_rows.Tie as tie
 
 row-9-requires : tie.Need-row-9-requires
-row-9-requires c κs =
-    let c-pre = c .before .before .before .before .before .before .before .pre in
-    c-pre
+row-9-requires c κs = c .before .before .before .before .before .before .before .pre
 
 returns : tie.Need-returns
 unfolding since rows
 returns c = answer-refuses _ 9 10 refl _ (c .before .row-9 .ensures) (c .if1 .taken)
 
-total-requires : tie.Need-total-requires
-total-requires c κs = search needs
-
 returns-2 : tie.Need-returns-2
 unfolding since rows
 returns-2 c =
     let c-args = c .before .before .before .before .before .before .before .before .before .before .before .args in
-    let c-row-9 = c .before .before .before .row-9 in
     let t = over-capped (c-args .counts .now) (rw (← c .before .total .ensures) (c .if2 .taken)) in
     answer-refuses _ 10 11 refl 0 (whole-fault _ t) (omega arith)
-    ∙ answer-passes _ 9 10 refl _ (c-row-9 .ensures) (c .before .before .if1 .left)
+    ∙ answer-passes _ 9 10 refl _ (c .before .before .before .row-9 .ensures) (c .before .before .if1 .left)
 
 returns-3 : tie.Need-returns-3
 unfolding since rows
 returns-3 c =
     let c-args = c .before .before .before .before .before .before .before .before .before .before .before .args in
-    let c-row-9 = c .before .before .before .row-9 in
     let t = fine-capped (c-args .counts .now) (rw (← c .before .total .ensures) (c .if2 .left)) in
     rw (c .before .total .ensures ∙ t .1)
     (answer-end _
     ∙ answer-passes _ 10 11 refl 1 (whole-fine _ (t .0)) (omega arith)
-    ∙ answer-passes _ 9 10 refl _ (c-row-9 .ensures) (c .before .before .if1 .left))
+    ∙ answer-passes _ 9 10 refl _ (c .before .before .before .row-9 .ensures) (c .before .before .if1 .left))
 
 pub last-rows-spec : {M : Type 1} → statement M
-last-rows-spec = tie.close (tie.spec row-9-requires returns total-requires returns-2 returns-3)
+last-rows-spec = tie.close (tie.spec row-9-requires returns (λ c κs. search needs) returns-2 returns-3)

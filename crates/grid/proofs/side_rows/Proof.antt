@@ -16,40 +16,14 @@ use Rattle.grid.proofs.Sides.{unlisted-blank}
 use Rattle.grid.proofs.side_rows.Statement.{statement}
 use Rattle.grid.proofs.side_rows.Tie as tie
 
-slice-aggregate-side-keys : tie.Need-slice-aggregate-side-keys
-slice-aggregate-side-keys c = search needs
-
 side-keys-requires : tie.Need-side-keys-requires
-side-keys-requires c κs =
-    let c-pre = c .before .before .before .before .before .before .pre in
-    omega (arith, c-pre .ordered .few)
-
-slice-aggregate-chain : tie.Need-slice-aggregate-chain
-slice-aggregate-chain c = search needs
-
-mul-chain : tie.Need-mul-chain
-mul-chain c = search needs
-
-slice-aggregate-chain-2 : tie.Need-slice-aggregate-chain-2
-slice-aggregate-chain-2 c = search needs
-
-slice-aggregate-chain-3 : tie.Need-slice-aggregate-chain-3
-slice-aggregate-chain-3 c = search needs
+side-keys-requires c κs = omega (arith, c .before .before .before .before .before .before .pre .ordered .few)
 
 chain-requires : tie.Need-chain-requires
 chain-requires c κs =
     let c-pre = c .before .before .before .before .before .before .before .before .before .before .before .pre in
     let c-side-keys = c .before .before .before .before .side-keys in
     record { keyed = omega (arith, c-pre .ordered .few, simp length-filled at (ap length (c-side-keys .ensures))); room = omega (arith, c-pre .ordered .few); small = omega (arith, c-pre .ordered .few); blank = refl }
-
-slice-aggregate-row-8 : tie.Need-slice-aggregate-row-8
-slice-aggregate-row-8 c = search needs
-
-slice-aggregate-row-8-2 : tie.Need-slice-aggregate-row-8-2
-slice-aggregate-row-8-2 c = search needs
-
-slice-aggregate-row-8-3 : tie.Need-slice-aggregate-row-8-3
-slice-aggregate-row-8-3 c = search needs
 
 row-8-requires : tie.Need-row-8-requires
 row-8-requires c κs =
@@ -70,49 +44,29 @@ row-8-requires c κs =
     )
 
 row-7-requires : tie.Need-row-7-requires
-row-7-requires c κs =
-    let c-row-8 = c .before .before .before .row-8 in
-    c-row-8 .ensures .1 .room
+row-7-requires c κs = c .before .before .before .row-8 .ensures .1 .room
 
 same-length : tie.Need-same-length
-same-length c =
-    let c-row-8 = c .before .before .before .before .before .row-8 in
-    c-row-8 .kept .1 .1 .1 .1 .1 .1 .0
+same-length c = c .before .before .before .before .before .row-8 .kept .1 .1 .1 .1 .1 .1 .0
 
 returns : tie.Need-returns
 unfolding since rows
 returns c =
-    let c-args = c .before .before .before .before .before .before .before .before .before .before .before .before .before .before .before .before .before .before .before .before .before .before .before .before .args in
-    let c-pre = c .before .before .before .before .before .before .before .before .before .before .before .before .before .before .before .before .before .before .before .before .before .before .before .before .pre in
-    let c-row-8 = c .before .before .before .before .before .row-8 in
-    let t = c-row-8 .ensures .1 in
+    let t = c .before .before .before .before .before .row-8 .ensures .1 in
     (answer-refuses _ 7 8 refl _ (c .before .row-7 .ensures ∙ sym (unlisted-blank _ _ t)) (c .if1 .taken), tt)
 
 same-length-2 : tie.Need-same-length-2
-same-length-2 c =
-    let c-row-8 = c .before .before .before .before .before .before .row-8 in
-    c-row-8 .kept .1 .1 .1 .1 .1 .1 .0
+same-length-2 c = c .before .before .before .before .before .before .row-8 .kept .1 .1 .1 .1 .1 .1 .0
 
 returns-2 : tie.Need-returns-2
 unfolding since rows
 returns-2 c =
-    let c-args = c .before .before .before .before .before .before .before .before .before .before .before .before .before .before .before .before .before .before .before .before .before .before .before .before .before .args in
-    let c-pre = c .before .before .before .before .before .before .before .before .before .before .before .before .before .before .before .before .before .before .before .before .before .before .before .before .before .pre in
     let c-row-8 = c .before .before .before .before .before .before .row-8 in
     let t = c-row-8 .ensures .1 in (
       answer-refuses _ 8 9 refl _ (c-row-8 .ensures .0) (c .if2 .taken)
           ∙ answer-passes _ 7 8 refl _ (c .before .before .row-7 .ensures ∙ sym (unlisted-blank _ _ t)) (c .before .if1 .left),
       tt,
     )
-
-slice-aggregate-last-rows : tie.Need-slice-aggregate-last-rows
-slice-aggregate-last-rows c = search needs
-
-slice-aggregate-last-rows-2 : tie.Need-slice-aggregate-last-rows-2
-slice-aggregate-last-rows-2 c = search needs
-
-slice-aggregate-last-rows-3 : tie.Need-slice-aggregate-last-rows-3
-slice-aggregate-last-rows-3 c = search needs
 
 last-rows-requires : tie.Need-last-rows-requires
 last-rows-requires c κs =
@@ -121,7 +75,6 @@ last-rows-requires c κs =
     let c-shared-slice-known2 = c .before .before .before .before .before .before .before .before .before .before .before .before .before .before .before .before .before .before .before .before .before .before .before .before .before .before .shared-slice-known2 in
     let c-side-keys = c .before .before .before .before .before .before .before .before .before .before .before .before .before .before .before .before .before .before .before .before .before .side-keys in
     let c-chain = c .before .before .before .before .before .before .before .before .before .before .before .before .before .before .before .before .chain in
-    let c-row-8 = c .before .before .before .before .before .before .before .before .before .row-8 in
     let c-if2 = c .before .before .before .if2 in
     record {
       ordered = c-pre .ordered;
@@ -136,27 +89,22 @@ last-rows-requires c κs =
         headed = c-chain .ensures .1;
       };
       used = first-none (unused (gridOf (c-args .cells .now) (c-args .edges .now) (c-args .counts .now))) (length (c-args .counts .now))
-          (omega (arith, c-row-8 .ensures .0, c-if2 .left));
+          (omega (arith, c .before .before .before .before .before .before .before .before .before .row-8 .ensures .0, c-if2 .left));
     }
 
 same-length-3 : tie.Need-same-length-3
-same-length-3 c =
-    let c-row-8 = c .before .before .before .before .before .before .before .before .before .before .row-8 in
-    c-row-8 .kept .1 .1 .1 .1 .1 .1 .0
+same-length-3 c = c .before .before .before .before .before .before .before .before .before .before .row-8 .kept .1 .1 .1 .1 .1 .1 .0
 
 returns-3 : tie.Need-returns-3
 unfolding since rows
 returns-3 c =
     let c-args = c .before .before .before .before .before .before .before .before .before .before .before .before .before .before .before .before .before .before .before .before .before .before .before .before .before .before .before .before .before .args in
-    let c-pre = c .before .before .before .before .before .before .before .before .before .before .before .before .before .before .before .before .before .before .before .before .before .before .before .before .before .before .before .before .before .pre in
     let c-row-8 = c .before .before .before .before .before .before .before .before .before .before .row-8 in
-    let c-row-7 = c .before .before .before .before .before .before .row-7 in
     let c-if1 = c .before .before .before .before .before .if1 in
-    let c-if2 = c .before .before .before .before .if2 in
     let t = c-row-8 .ensures .1 in (
       c .last-rows .ensures
-          ∙ answer-passes _ 8 9 refl _ (c-row-8 .ensures .0) (c-if2 .left)
-          ∙ answer-passes _ 7 8 refl _ (c-row-7 .ensures ∙ sym (unlisted-blank _ _ t)) (c-if1 .left),
+          ∙ answer-passes _ 8 9 refl _ (c-row-8 .ensures .0) (c .before .before .before .before .if2 .left)
+          ∙ answer-passes _ 7 8 refl _ (c .before .before .before .before .before .before .row-7 .ensures ∙ sym (unlisted-blank _ _ t)) (c-if1 .left),
       where-accepted {T = Table (listedAt (gridOf (c-args .cells .now) (c-args .edges .now) (c-args .counts .now))) (6 * cellCount (c-args .cells .now)) (c-row-8 .last .1 .1 .1 .1 .1 .1 .0)} (c .last-rows .result) t,
     )
 
@@ -164,25 +112,25 @@ pub side-rows-spec : {M : Type 1} → statement M
 side-rows-spec =
     tie.close
     (tie.spec
-    slice-aggregate-side-keys
+    (λ c. search needs)
     side-keys-requires
-    slice-aggregate-chain
-    mul-chain
-    slice-aggregate-chain-2
-    slice-aggregate-chain-3
+    (λ c. search needs)
+    (λ c. search needs)
+    (λ c. search needs)
+    (λ c. search needs)
     chain-requires
-    slice-aggregate-row-8
-    slice-aggregate-row-8-2
-    slice-aggregate-row-8-3
+    (λ c. search needs)
+    (λ c. search needs)
+    (λ c. search needs)
     row-8-requires
     row-7-requires
     same-length
     returns
     same-length-2
     returns-2
-    slice-aggregate-last-rows
-    slice-aggregate-last-rows-2
-    slice-aggregate-last-rows-3
+    (λ c. search needs)
+    (λ c. search needs)
+    (λ c. search needs)
     last-rows-requires
     same-length-3
     returns-3)

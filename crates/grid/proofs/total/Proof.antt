@@ -18,41 +18,23 @@ abbrev μ-loop : tie.MeasureT-loop
 loop-holds : tie.Need-loop-holds Inv-loop μ-loop
 loop-holds c = (omega arith, omega arith, sym (start-zero _))
 
-shared-slice-read-size : tie.Need-shared-slice-read-size Inv-loop μ-loop
-shared-slice-read-size c = search needs
-
-size-requires : tie.Need-size-requires Inv-loop μ-loop
-size-requires c κs = search needs
-
-add-s : tie.Need-add-s Inv-loop μ-loop
-add-s c = search needs
-
 returns : tie.Need-returns Inv-loop μ-loop
 returns c =
-    let c-args = c .before .before .before .before .before .before .args in
     let c-loop = c .before .before .before .before .loop in
-    let l = c-args .counts .now in
+    let l = c .before .before .before .before .before .before .args .counts .now in
     let i = c-loop .e in
     capped-over l (omega (arith, start-next l i, start-mono l (i + 1) (length l) (omega arith), c .before .size .ensures .0, c .if1 .taken, c-loop .inv .2))
 
-add-e : tie.Need-add-e Inv-loop μ-loop
-add-e c = search needs
-
-loop-less : tie.Need-loop-less Inv-loop μ-loop
-loop-less c = search needs
-
 loop-again : tie.Need-loop-again Inv-loop μ-loop
 loop-again c =
-    let c-args = c .before .before .before .before .before .before .args in
     let c-loop = c .before .before .before .before .loop in
-    let l = c-args .counts .now in
+    let l = c .before .before .before .before .before .before .args .counts .now in
     let i = c-loop .e in
     (omega arith, omega (arith, c .if1 .left), omega (arith, start-next l i, c .before .size .ensures .0, c-loop .inv .2))
 
 returns-2 : tie.Need-returns-2 Inv-loop μ-loop
 returns-2 c =
-    let c-args = c .before .before .before .args in
-    let l = c-args .counts .now in
+    let l = c .before .before .before .args .counts .now in
     let e : c .before .loop .e ≡ length l = omega arith in
     let f : c .before .loop .s ≡ crossings l = c .before .loop .inv .2 ∙ ap (start l) e in
     f ∙ capped-is l (omega (arith, c .before .loop .inv .1))
@@ -64,11 +46,11 @@ total-spec =
     Inv-loop
     μ-loop
     loop-holds
-    shared-slice-read-size
-    size-requires
-    add-s
+    (λ c. search needs)
+    (λ c κs. search needs)
+    (λ c. search needs)
     returns
-    add-e
-    loop-less
+    (λ c. search needs)
+    (λ c. search needs)
     loop-again
     returns-2)

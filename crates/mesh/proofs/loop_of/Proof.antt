@@ -7,12 +7,6 @@ use borrow.Author.Needs.{needs}
 use Rattle.mesh.proofs.loop_of.Statement.{statement}
 use Rattle.mesh.proofs.loop_of.Tie as tie
 
-cell-at-requires : tie.Need-cell-at-requires
-cell-at-requires c κs = tt
-
-loop-at-requires : tie.Need-loop-at-requires
-loop-at-requires c κs = search needs
-
 returns : tie.Need-returns
 unfolding tableLoop
 returns c = c .loop-at .ensures ∙ ap (λ v. cellLoop v (c .before .before .before .before .before .args .k)) (c .before .cell-at .ensures) ∙ asked-there _ _ _ _ (omega arith)
@@ -22,4 +16,4 @@ unfolding tableLoop
 returns-2 c = asked-beyond _ _ _ _ (omega arith)
 
 pub loop-of-spec : {M : Type 1} → statement M
-loop-of-spec = tie.close (tie.spec cell-at-requires loop-at-requires returns returns-2)
+loop-of-spec = tie.close (tie.spec (λ c κs. tt) (λ c κs. search needs) returns returns-2)

@@ -5,18 +5,6 @@ use borrow.Author.Needs.{needs}
 use Rattle.mesh.proofs.loops.Statement.{statement}
 use Rattle.mesh.proofs.loops.Tie as tie
 
-open-requires : tie.Need-open-requires
-open-requires c κs = search needs
-
-enum-known-row : tie.Need-enum-known-row
-enum-known-row c = search needs
-
-enum-told : tie.Need-enum-told
-enum-told c = search needs
-
-loop-of-requires : tie.Need-loop-of-requires
-loop-of-requires c κs = tt
-
 returns : tie.Need-returns
 returns c = refused-loops (gridOf (c .before .before .before .before .before .before .before .before .before .before .args .cells .now) (c .before .before .before .before .before .before .before .before .before .before .args .edges .now) (c .before .before .before .before .before .before .before .before .before .before .args .counts .now)) (c .before .before .before .«open» .result) _ _ (c .before .row .given .1) (c .before .before .before .«open» .ensures .0) _ _
 
@@ -24,5 +12,4 @@ returns-2 : tie.Need-returns-2
 returns-2 c = c .loop-of .ensures ∙ told-loops (gridOf (c .before .before .before .before .before .before .before .before .before .before .before .before .before .args .cells .now) (c .before .before .before .before .before .before .before .before .before .before .before .before .before .args .edges .now) (c .before .before .before .before .before .before .before .before .before .before .before .before .before .args .counts .now)) (c .before .before .before .before .before .before .«open» .result) _ (c .before .before .before .before .enum-told .given .1) (c .before .before .before .before .before .before .«open» .ensures .0) _ _ _ _ _ _ refl refl refl (c .before .before .before .before .before .before .«open» .ensures .1) _ _
 
 pub loops-spec : {M : Type 1} → statement M
-loops-spec =
-    tie.close (tie.spec open-requires enum-known-row enum-told loop-of-requires returns returns-2)
+loops-spec = tie.close (tie.spec (λ c κs. search needs) (λ c. search needs) (λ c. search needs) (λ c κs. tt) returns returns-2)

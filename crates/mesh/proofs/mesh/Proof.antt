@@ -5,23 +5,11 @@ use borrow.Author.Needs.{needs}
 use Rattle.mesh.proofs.mesh.Statement.{statement}
 use Rattle.mesh.proofs.mesh.Tie as tie
 
-open-requires : tie.Need-open-requires
-open-requires c κs = search needs
-
-enum-known-row : tie.Need-enum-known-row
-enum-known-row c = search needs
-
-enum-told : tie.Need-enum-told
-enum-told c = search needs
-
 draw-requires : tie.Need-draw-requires
 draw-requires c κs = accepted-few (gridOf (c .before .before .before .before .before .before .before .before .before .before .before .before .before .before .args .cells .now) (c .before .before .before .before .before .before .before .before .before .before .before .before .before .before .args .edges .now) (c .before .before .before .before .before .before .before .before .before .before .before .before .before .before .args .counts .now)) (c .before .before .before .before .before .before .«open» .result) _ (c .before .before .before .before .enum-told .given .1) (c .before .before .before .before .before .before .«open» .ensures .0)
 
 returns : tie.Need-returns
 returns c = refused-done (gridOf (c .before .before .before .before .before .before .before .before .before .before .before .args .cells .now) (c .before .before .before .before .before .before .before .before .before .before .before .args .edges .now) (c .before .before .before .before .before .before .before .before .before .before .before .args .counts .now)) (c .before .before .before .«open» .result) _ _ (c .before .row .given .1) (c .before .before .before .«open» .ensures .0) (c .before .before .before .before .before .before .before .before .before .before .before .args .area .now)
-
-same-length : tie.Need-same-length
-same-length c = search needs
 
 returns-2 : tie.Need-returns-2
 returns-2 c = drawn-done (gridOf (c .before .before .before .before .before .before .before .before .before .before .before .before .before .before .before .before .before .args .cells .now) (c .before .before .before .before .before .before .before .before .before .before .before .before .before .before .before .before .before .args .edges .now) (c .before .before .before .before .before .before .before .before .before .before .before .before .before .before .before .before .before .args .counts .now)) (c .before .before .before .before .before .before .before .before .before .«open» .result) _ (c .before .before .before .before .before .before .before .enum-told .given .1) (c .before .before .before .before .before .before .before .before .before .«open» .ensures .0) _ _ _ _ _ _ refl refl refl (c .before .before .before .before .before .before .before .before .before .«open» .ensures .1) _ _ _ (c .before .before .draw .ensures)
@@ -29,4 +17,4 @@ returns-2 c = drawn-done (gridOf (c .before .before .before .before .before .bef
 pub mesh-spec : {M : Type 1} → statement M
 mesh-spec =
     tie.close
-    (tie.spec open-requires enum-known-row enum-told draw-requires returns same-length returns-2)
+    (tie.spec (λ c κs. search needs) (λ c. search needs) (λ c. search needs) draw-requires returns (λ c. search needs) returns-2)

@@ -19,35 +19,20 @@ abbrev μ-loop : tie.MeasureT-loop
 loop-holds : tie.Need-loop-holds Inv-loop μ-loop
 loop-holds c = (omega arith, filled-none _ _)
 
-cell-key-requires : tie.Need-cell-key-requires Inv-loop μ-loop
-cell-key-requires c κs = search needs
-
-mul-keys : tie.Need-mul-keys Inv-loop μ-loop
-mul-keys c = search needs
-
 slice-write-keys : tie.Need-slice-write-keys Inv-loop μ-loop
 slice-write-keys c =
     let w = c .before .before .loop .inv in
     omega (arith, ap length (w .1), simp length-filled at (ap length (w .1)))
 
-add-c : tie.Need-add-c Inv-loop μ-loop
-add-c c = search needs
-
-loop-less : tie.Need-loop-less Inv-loop μ-loop
-loop-less c = search needs
-
 loop-again : tie.Need-loop-again Inv-loop μ-loop
-loop-again c =
-    let w = c .before .before .loop .inv in
-    (omega arith, filled-more _ _ _ _ _ (w .1) (c .cell-key .ensures))
+loop-again c = (omega arith, filled-more _ _ _ _ _ (c .before .before .loop .inv .1) (c .cell-key .ensures))
 
 same-length : tie.Need-same-length Inv-loop μ-loop
 same-length c = simp length-filled at (ap length (c .before .loop .inv .1))
 
 returns : tie.Need-returns Inv-loop μ-loop
 returns c =
-    let c-args = c .before .before .before .before .args in
-    let e : c .before .loop .c ≡ length (c-args .cells .now) / 4 = omega arith in
+    let e : c .before .loop .c ≡ length (c .before .before .before .before .args .cells .now) / 4 = omega arith in
     rw (← e) (c .before .loop .inv .1)
 
 pub cell-keys-spec : {M : Type 1} → statement M
@@ -57,11 +42,11 @@ cell-keys-spec =
     Inv-loop
     μ-loop
     loop-holds
-    cell-key-requires
-    mul-keys
+    (λ c κs. search needs)
+    (λ c. search needs)
     slice-write-keys
-    add-c
-    loop-less
+    (λ c. search needs)
+    (λ c. search needs)
     loop-again
     same-length
     returns)

@@ -7,23 +7,13 @@ use Rattle.grid.specs.Grid.{faceNode}
 use Rattle.grid.proofs.cells.corner_at.Statement.{statement}
 use Rattle.grid.proofs.cells.corner_at.Tie as tie
 
-node-at-requires : tie.Need-node-at-requires
-node-at-requires c κs = search needs
-
 returns : tie.Need-returns
 unfolding faceNode position
 returns c = (rw (lt-ltb _ _ (c .before .if1 .taken)) (c .node-at .ensures .0), c .node-at .ensures .1)
-
-add-node-at : tie.Need-add-node-at
-add-node-at c = search needs
-
-node-at-requires-2 : tie.Need-node-at-requires-2
-node-at-requires-2 c κs = search needs
 
 returns-2 : tie.Need-returns-2
 unfolding faceNode position
 returns-2 c = (rw (le-ltb _ _ (c .before .if1 .left)) (rw add-one at (c .node-at2 .ensures .0)), c .node-at2 .ensures .1)
 
 pub corner-at-spec : {M : Type 1} → statement M
-corner-at-spec =
-    tie.close (tie.spec node-at-requires returns add-node-at node-at-requires-2 returns-2)
+corner-at-spec = tie.close (tie.spec (λ c κs. search needs) returns (λ c. search needs) (λ c κs. search needs) returns-2)

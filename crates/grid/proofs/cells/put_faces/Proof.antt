@@ -8,21 +8,6 @@ use Rattle.grid.specs.Work.{faceKey}
 use Rattle.grid.proofs.cells.put_faces.Statement.{statement}
 use Rattle.grid.proofs.cells.put_faces.Tie as tie
 
-put-face-requires : tie.Need-put-face-requires
-put-face-requires c κs = search needs
-
-put-face-requires-2 : tie.Need-put-face-requires-2
-put-face-requires-2 c κs = search needs
-
-put-face-requires-3 : tie.Need-put-face-requires-3
-put-face-requires-3 c κs = search needs
-
-put-face-requires-4 : tie.Need-put-face-requires-4
-put-face-requires-4 c κs = search needs
-
-same-length : tie.Need-same-length
-same-length c = search needs
-
 returns : tie.Need-returns
 unfolding over
 returns c =
@@ -37,9 +22,9 @@ pub put-faces-spec : {M : Type 1} → statement M
 put-faces-spec =
     tie.close
     (tie.spec
-    put-face-requires
-    put-face-requires-2
-    put-face-requires-3
-    put-face-requires-4
-    same-length
+    (λ c κs. search needs)
+    (λ c κs. search needs)
+    (λ c κs. search needs)
+    (λ c κs. search needs)
+    (λ c. search needs)
     returns)

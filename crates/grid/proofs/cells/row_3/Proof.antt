@@ -1,48 +1,30 @@
 -- `grid::cells::row_3` meets its contract.
-use Prim.Native.Nat.{_-_, _/_, _≤_}
-use mathlib.Core.Path.{_∙_, _≡_, sym}
+use Prim.Native.Nat.{_-_}
+use mathlib.Core.Path.{_∙_, sym}
 use native.Mathlib.Omega.{arith}
-use lib.ListN.{length}
 use borrow.Author.Needs.{needs}
-use Rattle.counting.specs.Search.{first, seek}
-use Rattle.counting.proofs.Search.{seek-end, seek-hit, seek-miss, seek-start}
+use Rattle.counting.proofs.Search.{Seeking, seeking-all, seeking-hit, seeking-more, seeking-none}
 use Rattle.grid.specs.Rows.{badCell}
 use Rattle.grid.proofs.cells.row_3.Statement.{statement}
 use Rattle.grid.proofs.cells.row_3.Tie as tie
 
 abbrev Inv-loop : tie.InvT-loop
-Inv-loop cells n c₀ c = (c ≤ n) × (first (badCell cells) n ≡ seek (badCell cells) (n - c) c)
+Inv-loop cells n c₀ c = Seeking (badCell cells) n c
 
 abbrev μ-loop : tie.MeasureT-loop
 μ-loop cells n c₀ c = n - c
 
 loop-holds : tie.Need-loop-holds Inv-loop μ-loop
-loop-holds c = (omega arith, seek-start _ _)
-
-bad-cell-requires : tie.Need-bad-cell-requires Inv-loop μ-loop
-bad-cell-requires c κs = search needs
+loop-holds c = seeking-none _ _
 
 returns : tie.Need-returns Inv-loop μ-loop
-returns c =
-    let c-loop = c .before .before .before .loop in
-    sym (c-loop .inv .1 ∙ seek-hit _ _ _ (omega arith) (sym (c .before .bad-cell .ensures) ∙ c .if1 .taken))
-
-add-c : tie.Need-add-c Inv-loop μ-loop
-add-c c = search needs
-
-loop-less : tie.Need-loop-less Inv-loop μ-loop
-loop-less c = search needs
+returns c = seeking-hit _ (c .before .before .before .loop .inv) (omega arith) (sym (c .before .bad-cell .ensures) ∙ c .if1 .taken)
 
 loop-again : tie.Need-loop-again Inv-loop μ-loop
-loop-again c =
-    let c-loop = c .before .before .before .loop in
-    (omega arith, c-loop .inv .1 ∙ seek-miss _ _ _ (omega arith) (sym (c .before .bad-cell .ensures) ∙ c .if1 .left))
+loop-again c = seeking-more _ (c .before .before .before .loop .inv) (omega arith) (sym (c .before .bad-cell .ensures) ∙ c .if1 .left)
 
 returns-2 : tie.Need-returns-2 Inv-loop μ-loop
-returns-2 c =
-    let c-args = c .before .before .before .args in
-    let e : c .before .loop .c ≡ length (c-args .cells .now) / 4 = omega arith in
-    sym (c .before .loop .inv .1 ∙ seek-end _ _ _ (omega arith) ∙ e)
+returns-2 c = seeking-all _ (c .before .loop .inv) (omega arith)
 
 pub row-3-spec : {M : Type 1} → statement M
 row-3-spec =
@@ -51,9 +33,9 @@ row-3-spec =
     Inv-loop
     μ-loop
     loop-holds
-    bad-cell-requires
+    (λ c κs. search needs)
     returns
-    add-c
-    loop-less
+    (λ c. search needs)
+    (λ c. search needs)
     loop-again
     returns-2)

@@ -1,14 +1,12 @@
 -- `grid::cells::row_4` meets its contract.
-use Prim.Native.Nat.{_-_, _≤_}
-use mathlib.Core.Path.{_∙_, _≡_, ap, refl, sym}
+use Prim.Native.Nat.{_-_}
+use mathlib.Core.Path.{_∙_, ap, refl}
 use native.Mathlib.Omega.{arith}
 use lib.ListN.{length}
 use borrow.Author.Needs.{needs}
 use borrow.Author.Tests.{le-ltb, lt-ltb}
-use Rattle.counting.specs.Search.{first, seek}
-use Rattle.counting.proofs.Search.{seek-end, seek-hit, seek-miss, seek-start}
+use Rattle.counting.proofs.Search.{Seeking, seeking-all, seeking-hit, seeking-more, seeking-none}
 use Rattle.counting.proofs.Stored.{length-filled}
-use Rattle.grid.specs.Grid.{cellCount}
 use Rattle.grid.specs.Rows.{repeats}
 use Rattle.grid.specs.Work.{Chained, Table, cellKey}
 use Rattle.grid.proofs.Packed.{filled-table, repeats-last}
@@ -16,25 +14,10 @@ use Rattle.grid.proofs.cells.row_4.Statement.{statement}
 use Rattle.grid.proofs.cells.row_4.Tie as tie
 
 abbrev Inv-loop : tie.InvT-loop
-Inv-loop cells n keys next c₀ c = (c ≤ n) × Chained keys n next × Table (cellKey cells) n keys × (first (repeats cells) n ≡ seek (repeats cells) (n - c) c)
+Inv-loop cells n keys next c₀ c = Seeking (repeats cells) n c × Chained keys n next × Table (cellKey cells) n keys
 
 abbrev μ-loop : tie.MeasureT-loop
 μ-loop cells n keys next c₀ c = n - c
-
-slice-aggregate-cell-keys : tie.Need-slice-aggregate-cell-keys Inv-loop μ-loop
-slice-aggregate-cell-keys c = search needs
-
-cell-keys-requires : tie.Need-cell-keys-requires Inv-loop μ-loop
-cell-keys-requires c κs = omega arith
-
-slice-aggregate-chain : tie.Need-slice-aggregate-chain Inv-loop μ-loop
-slice-aggregate-chain c = search needs
-
-slice-aggregate-chain-2 : tie.Need-slice-aggregate-chain-2 Inv-loop μ-loop
-slice-aggregate-chain-2 c = search needs
-
-slice-aggregate-chain-3 : tie.Need-slice-aggregate-chain-3 Inv-loop μ-loop
-slice-aggregate-chain-3 c = search needs
 
 chain-requires : tie.Need-chain-requires Inv-loop μ-loop
 chain-requires c κs =
@@ -43,47 +26,27 @@ chain-requires c κs =
 
 loop-holds : tie.Need-loop-holds Inv-loop μ-loop
 loop-holds c =
-    let c-cell-keys = c .before .before .before .before .before .before .before .cell-keys in
-    (omega arith, c .before .before .chain .ensures .0, filled-table _ _ _ _ (c-cell-keys .ensures) (omega arith), seek-start _ _)
-
-slice-aggregate-earlier : tie.Need-slice-aggregate-earlier Inv-loop μ-loop
-slice-aggregate-earlier c = search needs
-
-slice-aggregate-earlier-2 : tie.Need-slice-aggregate-earlier-2 Inv-loop μ-loop
-slice-aggregate-earlier-2 c = search needs
+    (seeking-none _ _, c .before .before .chain .ensures .0, filled-table _ _ _ _ (c .before .before .before .before .before .before .before .cell-keys .ensures) (omega arith))
 
 earlier-requires : tie.Need-earlier-requires Inv-loop μ-loop
-earlier-requires c κs =
-    let c-loop = c .before .before .before .loop in
-    (c-loop .inv .1, omega arith)
+earlier-requires c κs = (c .before .before .before .loop .inv .1, omega arith)
 
 returns : tie.Need-returns Inv-loop μ-loop
 returns c =
-    let c-shared-slice-known = c .before .before .before .before .before .before .before .before .before .before .before .before .before .before .before .shared-slice-known in
-    let c-loop = c .before .before .before .before .before .loop in
-    let w = c-loop .inv in
-    let t = repeats-last _ (λ i. omega (arith, c-shared-slice-known .given i)) _ _ (w .2) (c-loop .c) (omega arith) in
-    sym (w .3 ∙ seek-hit _ _ _ (omega arith) (t ∙ rw (← c .before .earlier .ensures) (lt-ltb _ _ (c .if1 .taken))))
-
-add-c : tie.Need-add-c Inv-loop μ-loop
-add-c c = search needs
-
-loop-less : tie.Need-loop-less Inv-loop μ-loop
-loop-less c = search needs
+    let L = c .before .before .before .before .before .loop in
+    let w = L .inv in
+    let t = repeats-last _ (λ i. omega (arith, c .before .before .before .before .before .before .before .before .before .before .before .before .before .before .before .shared-slice-known .given i)) _ _ (w .2) (L .c) (omega arith) in
+    seeking-hit _ (w .0) (omega arith) (t ∙ rw (← c .before .earlier .ensures) (lt-ltb _ _ (c .if1 .taken)))
 
 loop-again : tie.Need-loop-again Inv-loop μ-loop
 loop-again c =
-    let c-shared-slice-known = c .before .before .before .before .before .before .before .before .before .before .before .before .before .before .before .shared-slice-known in
-    let c-loop = c .before .before .before .before .before .loop in
-    let w = c-loop .inv in
-    let t = repeats-last _ (λ i. omega (arith, c-shared-slice-known .given i)) _ _ (w .2) (c-loop .c) (omega arith) in
-    (omega arith, w .1, w .2, w .3 ∙ seek-miss _ _ _ (omega arith) (t ∙ rw (← c .before .earlier .ensures) (le-ltb _ _ (c .if1 .left))))
+    let L = c .before .before .before .before .before .loop in
+    let w = L .inv in
+    let t = repeats-last _ (λ i. omega (arith, c .before .before .before .before .before .before .before .before .before .before .before .before .before .before .before .shared-slice-known .given i)) _ _ (w .2) (L .c) (omega arith) in
+    (seeking-more _ (w .0) (omega arith) (t ∙ rw (← c .before .earlier .ensures) (le-ltb _ _ (c .if1 .left))), w .1, w .2)
 
 returns-2 : tie.Need-returns-2 Inv-loop μ-loop
-returns-2 c =
-    let c-args = c .before .before .before .before .before .before .before .before .before .before .before .before .args in
-    let e : c .before .loop .c ≡ cellCount (c-args .cells .now) = omega arith in
-    sym (c .before .loop .inv .3 ∙ seek-end _ _ _ (omega arith) ∙ e)
+returns-2 c = seeking-all _ (c .before .loop .inv .0) (omega arith)
 
 pub row-4-spec : {M : Type 1} → statement M
 row-4-spec =
@@ -91,18 +54,18 @@ row-4-spec =
     (tie.spec
     Inv-loop
     μ-loop
-    slice-aggregate-cell-keys
-    cell-keys-requires
-    slice-aggregate-chain
-    slice-aggregate-chain-2
-    slice-aggregate-chain-3
+    (λ c. search needs)
+    (λ c κs. omega arith)
+    (λ c. search needs)
+    (λ c. search needs)
+    (λ c. search needs)
     chain-requires
     loop-holds
-    slice-aggregate-earlier
-    slice-aggregate-earlier-2
+    (λ c. search needs)
+    (λ c. search needs)
     earlier-requires
     returns
-    add-c
-    loop-less
+    (λ c. search needs)
+    (λ c. search needs)
     loop-again
     returns-2)

@@ -12,34 +12,10 @@ use Rattle.grid.proofs.Packed.{filled-table}
 use Rattle.grid.proofs.cells.row_5.Statement.{statement}
 use Rattle.grid.proofs.cells.row_5.Tie as tie
 
-mul-n : tie.Need-mul-n
-mul-n c = search needs
-
-slice-aggregate-face-keys : tie.Need-slice-aggregate-face-keys
-slice-aggregate-face-keys c = search needs
-
-face-keys-requires : tie.Need-face-keys-requires
-face-keys-requires c κs = omega arith
-
-slice-aggregate-chain : tie.Need-slice-aggregate-chain
-slice-aggregate-chain c = search needs
-
-slice-aggregate-chain-2 : tie.Need-slice-aggregate-chain-2
-slice-aggregate-chain-2 c = search needs
-
-slice-aggregate-chain-3 : tie.Need-slice-aggregate-chain-3
-slice-aggregate-chain-3 c = search needs
-
 chain-requires : tie.Need-chain-requires
 chain-requires c κs =
     let c-face-keys = c .before .before .before .before .face-keys in
     record { keyed = omega (arith, simp length-filled at (ap length (c-face-keys .ensures))); room = omega arith; small = omega arith; blank = refl }
-
-slice-aggregate-pair : tie.Need-slice-aggregate-pair
-slice-aggregate-pair c = search needs
-
-slice-aggregate-pair-2 : tie.Need-slice-aggregate-pair-2
-slice-aggregate-pair-2 c = search needs
 
 pair-requires : tie.Need-pair-requires
 pair-requires c κs =
@@ -49,9 +25,6 @@ pair-requires c κs =
     let e = c-pre .1 in
     let ln : length (c-args .near .now) ≡ 4 * mostCells = ap length e ∙ length-replicate {A = ℕ} (4 * mostCells) 0 in
     record { chained = c-chain .ensures .0; room = omega (arith, ln, c-pre .0 .few); small = omega (arith, c-pre .0 .few); blank = mates-none _ _ (λ i. rw e (zeros (4 * mostCells) i)) }
-
-same-length : tie.Need-same-length
-same-length c = search needs
 
 returns : tie.Need-returns
 returns c =
@@ -69,15 +42,15 @@ pub row-5-spec : {M : Type 1} → statement M
 row-5-spec =
     tie.close
     (tie.spec
-    mul-n
-    slice-aggregate-face-keys
-    face-keys-requires
-    slice-aggregate-chain
-    slice-aggregate-chain-2
-    slice-aggregate-chain-3
+    (λ c. search needs)
+    (λ c. search needs)
+    (λ c κs. omega arith)
+    (λ c. search needs)
+    (λ c. search needs)
+    (λ c. search needs)
     chain-requires
-    slice-aggregate-pair
-    slice-aggregate-pair-2
+    (λ c. search needs)
+    (λ c. search needs)
     pair-requires
-    same-length
+    (λ c. search needs)
     returns)

@@ -8,21 +8,6 @@ use Rattle.grid.proofs.Sides.{after-key, leb-not}
 use Rattle.grid.proofs.edges.bad_edge.Statement.{statement}
 use Rattle.grid.proofs.edges.bad_edge.Tie as tie
 
-mul-end-at : tie.Need-mul-end-at
-mul-end-at c = search needs
-
-end-at-requires : tie.Need-end-at-requires
-end-at-requires c κs = search needs
-
-mul-end-at-2 : tie.Need-mul-end-at-2
-mul-end-at-2 c = search needs
-
-add-end-at : tie.Need-add-end-at
-add-end-at c = search needs
-
-end-at-requires-2 : tie.Need-end-at-requires-2
-end-at-requires-2 c κs = search needs
-
 returns : tie.Need-returns
 unfolding badEdge
 returns c =
@@ -36,15 +21,6 @@ returns-2 c =
     let c-end-at = c .before .before .before .end-at in
     rw (← c-end-at .ensures .0, ← c .before .before .end-at2 .ensures .0, lt-ltb _ _ (c .before .if1 .left), le-ltb 0 (c-args .e) (omega arith))
 
-edge-key-requires : tie.Need-edge-key-requires
-edge-key-requires c κs = search needs
-
-sub-edge-key : tie.Need-sub-edge-key
-sub-edge-key c = search needs
-
-edge-key-requires-2 : tie.Need-edge-key-requires-2
-edge-key-requires-2 c κs = search needs
-
 returns-3 : tie.Need-returns-3
 unfolding badEdge
 returns-3 c =
@@ -52,11 +28,10 @@ returns-3 c =
     let c-shared-slice-known = c .before .before .before .before .before .before .shared-slice-known in
     let c-end-at = c .before .before .before .before .before .end-at in
     let c-end-at2 = c .before .before .before .before .end-at2 in
-    let c-if1 = c .before .before .before .if1 in
     rw (
       ← c-end-at .ensures .0,
       ← c-end-at2 .ensures .0,
-      lt-ltb _ _ (c-if1 .left),
+      lt-ltb _ _ (c .before .before .before .if1 .left),
       lt-ltb 0 (c-args .e) (omega (arith, c .before .before .if2 .left)),
       after-key (c-args .edges .now) (λ i. omega (arith, c-shared-slice-known .given i)) (c-args .e - 1) (c-args .e),
       ← c .before .edge-key .ensures,
@@ -68,14 +43,14 @@ pub bad-edge-spec : {M : Type 1} → statement M
 bad-edge-spec =
     tie.close
     (tie.spec
-    mul-end-at
-    end-at-requires
-    mul-end-at-2
-    add-end-at
-    end-at-requires-2
+    (λ c. search needs)
+    (λ c κs. search needs)
+    (λ c. search needs)
+    (λ c. search needs)
+    (λ c κs. search needs)
     returns
     returns-2
-    edge-key-requires
-    sub-edge-key
-    edge-key-requires-2
+    (λ c κs. search needs)
+    (λ c. search needs)
+    (λ c κs. search needs)
     returns-3)

@@ -3,8 +3,7 @@ use Prim.Native.Nat.{_-_}
 use mathlib.Core.Path.{_∙_}
 use native.Mathlib.Omega.{arith}
 use borrow.Author.Needs.{needs}
-use Rattle.counting.proofs.Search.{last-le}
-use Rattle.grid.specs.Work.{sameKey}
+use Rattle.grid.proofs.Chain.{top-le}
 use Rattle.grid.proofs.Sides.{Placing, placing-end, placing-more, placing-start}
 use Rattle.grid.proofs.edges.put.Statement.{statement}
 use Rattle.grid.proofs.edges.put.Tie as tie
@@ -16,31 +15,14 @@ abbrev μ-loop : tie.MeasureT-loop
 μ-loop keys next n key top x sides₀ j₀ sides j = j
 
 loop-holds : tie.Need-loop-holds Inv-loop μ-loop
-loop-holds c =
-    let c-pre = c .before .before .before .pre in
-    placing-start _ _ _ _ _ _ (c-pre .top-is)
-
-sub-i : tie.Need-sub-i Inv-loop μ-loop
-sub-i c = search needs
-
-mul-sides : tie.Need-mul-sides Inv-loop μ-loop
-mul-sides c = search needs
+loop-holds c = placing-start _ _ _ _ _ _ (c .before .before .before .pre .top-is)
 
 slice-write-sides : tie.Need-slice-write-sides Inv-loop μ-loop
-slice-write-sides c =
-    let c-pre = c .before .before .before .before .before .pre in
-    omega (arith, c .before .loop .inv .same, c .before .loop .inv .within, c-pre .room)
-
-mul-wide : tie.Need-mul-wide Inv-loop μ-loop
-mul-wide c = search needs
+slice-write-sides c = omega (arith, c .before .loop .inv .same, c .before .loop .inv .within, c .before .before .before .before .before .pre .room)
 
 shared-slice-read-wide : tie.Need-shared-slice-read-wide Inv-loop μ-loop
 shared-slice-read-wide c =
-    let c-pre = c .before .before .before .before .before .before .pre in
-    omega (arith, c .before .before .loop .inv .within, c-pre .chained .table .room)
-
-wide-requires : tie.Need-wide-requires Inv-loop μ-loop
-wide-requires c κs = search needs
+    omega (arith, c .before .before .loop .inv .within, c .before .before .before .before .before .before .pre .chained .table .room)
 
 walk-requires : tie.Need-walk-requires Inv-loop μ-loop
 walk-requires c κs =
@@ -49,10 +31,7 @@ walk-requires c κs =
     record { chained = c-pre .chained; within = omega (arith, c-loop .inv .within); starts = c .wide .ensures ∙ (rw (c-loop .inv .at (omega arith)) at (c-pre .chained .table .at (c-loop .j - 1) (omega (arith, c-loop .inv .within)))) }
 
 loop-less : tie.Need-loop-less Inv-loop μ-loop
-loop-less c =
-    let c-args = c .before .before .before .before .before .before .before .before .args in
-    let c-loop = c .before .before .before .before .loop in
-    omega (arith, c .walk .ensures, last-le (sameKey (c-args .keys .now) (c-args .key)) (c-loop .j - 1))
+loop-less c = omega (arith, top-le _ _ _ _ (c .walk .ensures))
 
 loop-again : tie.Need-loop-again Inv-loop μ-loop
 loop-again c =
@@ -73,12 +52,12 @@ put-spec =
     Inv-loop
     μ-loop
     loop-holds
-    sub-i
-    mul-sides
+    (λ c. search needs)
+    (λ c. search needs)
     slice-write-sides
-    mul-wide
+    (λ c. search needs)
     shared-slice-read-wide
-    wide-requires
+    (λ c κs. search needs)
     walk-requires
     loop-less
     loop-again

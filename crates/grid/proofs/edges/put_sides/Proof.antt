@@ -8,27 +8,6 @@ use Rattle.grid.specs.Work.{sideKey}
 use Rattle.grid.proofs.edges.put_sides.Statement.{statement}
 use Rattle.grid.proofs.edges.put_sides.Tie as tie
 
-put-side-requires : tie.Need-put-side-requires
-put-side-requires c κs = search needs
-
-put-side-requires-2 : tie.Need-put-side-requires-2
-put-side-requires-2 c κs = search needs
-
-put-side-requires-3 : tie.Need-put-side-requires-3
-put-side-requires-3 c κs = search needs
-
-put-side-requires-4 : tie.Need-put-side-requires-4
-put-side-requires-4 c κs = search needs
-
-put-side-requires-5 : tie.Need-put-side-requires-5
-put-side-requires-5 c κs = search needs
-
-put-side-requires-6 : tie.Need-put-side-requires-6
-put-side-requires-6 c κs = search needs
-
-same-length : tie.Need-same-length
-same-length c = search needs
-
 returns : tie.Need-returns
 unfolding over
 returns c =
@@ -45,11 +24,11 @@ pub put-sides-spec : {M : Type 1} → statement M
 put-sides-spec =
     tie.close
     (tie.spec
-    put-side-requires
-    put-side-requires-2
-    put-side-requires-3
-    put-side-requires-4
-    put-side-requires-5
-    put-side-requires-6
-    same-length
+    (λ c κs. search needs)
+    (λ c κs. search needs)
+    (λ c κs. search needs)
+    (λ c κs. search needs)
+    (λ c κs. search needs)
+    (λ c κs. search needs)
+    (λ c. search needs)
     returns)

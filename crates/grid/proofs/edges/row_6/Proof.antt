@@ -1,48 +1,30 @@
 -- `grid::edges::row_6` meets its contract.
-use Prim.Native.Nat.{_-_, _≤_}
-use mathlib.Core.Path.{_∙_, _≡_, sym}
+use Prim.Native.Nat.{_-_}
+use mathlib.Core.Path.{_∙_, sym}
 use native.Mathlib.Omega.{arith}
-use lib.ListN.{length}
 use borrow.Author.Needs.{needs}
-use Rattle.counting.specs.Search.{first, seek}
-use Rattle.counting.proofs.Search.{seek-end, seek-hit, seek-miss, seek-start}
+use Rattle.counting.proofs.Search.{Seeking, seeking-all, seeking-hit, seeking-more, seeking-none}
 use Rattle.grid.specs.Rows.{badEdge}
 use Rattle.grid.proofs.edges.row_6.Statement.{statement}
 use Rattle.grid.proofs.edges.row_6.Tie as tie
 
 abbrev Inv-loop : tie.InvT-loop
-Inv-loop edges counts n e₀ e = (e ≤ n) × (first (badEdge edges) n ≡ seek (badEdge edges) (n - e) e)
+Inv-loop edges counts n e₀ e = Seeking (badEdge edges) n e
 
 abbrev μ-loop : tie.MeasureT-loop
 μ-loop edges counts n e₀ e = n - e
 
 loop-holds : tie.Need-loop-holds Inv-loop μ-loop
-loop-holds c = (omega arith, seek-start _ _)
-
-bad-edge-requires : tie.Need-bad-edge-requires Inv-loop μ-loop
-bad-edge-requires c κs = search needs
+loop-holds c = seeking-none _ _
 
 returns : tie.Need-returns Inv-loop μ-loop
-returns c =
-    let c-loop = c .before .before .before .loop in
-    sym (c-loop .inv .1 ∙ seek-hit _ _ _ (omega arith) (sym (c .before .bad-edge .ensures) ∙ c .if1 .taken))
-
-add-e : tie.Need-add-e Inv-loop μ-loop
-add-e c = search needs
-
-loop-less : tie.Need-loop-less Inv-loop μ-loop
-loop-less c = search needs
+returns c = seeking-hit _ (c .before .before .before .loop .inv) (omega arith) (sym (c .before .bad-edge .ensures) ∙ c .if1 .taken)
 
 loop-again : tie.Need-loop-again Inv-loop μ-loop
-loop-again c =
-    let c-loop = c .before .before .before .loop in
-    (omega arith, c-loop .inv .1 ∙ seek-miss _ _ _ (omega arith) (sym (c .before .bad-edge .ensures) ∙ c .if1 .left))
+loop-again c = seeking-more _ (c .before .before .before .loop .inv) (omega arith) (sym (c .before .bad-edge .ensures) ∙ c .if1 .left)
 
 returns-2 : tie.Need-returns-2 Inv-loop μ-loop
-returns-2 c =
-    let c-args = c .before .before .before .before .args in
-    let e : c .before .loop .e ≡ length (c-args .counts .now) = omega arith in
-    sym (c .before .loop .inv .1 ∙ seek-end _ _ _ (omega arith) ∙ e)
+returns-2 c = seeking-all _ (c .before .loop .inv) (omega arith)
 
 pub row-6-spec : {M : Type 1} → statement M
 row-6-spec =
@@ -51,9 +33,9 @@ row-6-spec =
     Inv-loop
     μ-loop
     loop-holds
-    bad-edge-requires
+    (λ c κs. search needs)
     returns
-    add-e
-    loop-less
+    (λ c. search needs)
+    (λ c. search needs)
     loop-again
     returns-2)

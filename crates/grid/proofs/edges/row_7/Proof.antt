@@ -1,60 +1,38 @@
 -- `grid::edges::row_7` meets its contract.
-use Prim.Native.Nat.{ℕ, _*_, _-_, _/_, _≤_}
-use mathlib.Core.Path.{_∙_, _≡_, ap, sym}
+use Prim.Native.Nat.{ℕ, _-_, _/_}
+use mathlib.Core.Path.{_∙_, ap}
 use native.Mathlib.Omega.{arith}
 use lib.Dec.{eqb}
 use lib.ListN.{getD}
 use borrow.Author.Needs.{needs}
 use borrow.Author.Tests.{eq-eqb, ne-eqb}
-use Rattle.counting.specs.Search.{first, seek}
-use Rattle.counting.proofs.Search.{seek-end, seek-hit, seek-miss, seek-start}
+use Rattle.counting.proofs.Search.{Seeking, seeking-all, seeking-hit, seeking-more, seeking-none}
 use Rattle.grid.specs.Grid.{cellCount}
 use Rattle.grid.proofs.Sides.{blank-first}
 use Rattle.grid.proofs.edges.row_7.Statement.{statement}
 use Rattle.grid.proofs.edges.row_7.Tie as tie
 
 abbrev Inv-loop : tie.InvT-loop
-Inv-loop cells sides n j₀ j = (j ≤ n) × (first (λ j. eqb (getD sides j 0) 0) n ≡ seek (λ j. eqb (getD sides j 0) 0) (n - j) j)
+Inv-loop cells sides n j₀ j = Seeking (λ j. eqb (getD sides j 0) 0) n j
 
 abbrev μ-loop : tie.MeasureT-loop
 μ-loop cells sides n j₀ j = n - j
 
-mul-n : tie.Need-mul-n Inv-loop μ-loop
-mul-n c = search needs
-
 loop-holds : tie.Need-loop-holds Inv-loop μ-loop
-loop-holds c = (omega arith, seek-start _ _)
-
-mul-if1 : tie.Need-mul-if1 Inv-loop μ-loop
-mul-if1 c = search needs
-
-shared-slice-read-if1 : tie.Need-shared-slice-read-if1 Inv-loop μ-loop
-shared-slice-read-if1 c = search needs
+loop-holds c = seeking-none _ _
 
 returns : tie.Need-returns Inv-loop μ-loop
 returns c =
-    let c-args = c .before .before .before .before .args in
-    let c-loop = c .before .before .before .loop in
-    let e = c-loop .inv .1 ∙ seek-hit _ _ _ (omega arith) (eq-eqb _ _ (c .if1 .taken)) in
-    sym (sym (blank-first (c-args .sides .now) (cellCount (c-args .cells .now))) ∙ ap (λ (x : ℕ). x / 6) e)
-
-add-j : tie.Need-add-j Inv-loop μ-loop
-add-j c = search needs
-
-loop-less : tie.Need-loop-less Inv-loop μ-loop
-loop-less c = search needs
+    let a = c .before .before .before .before .args in
+    ap (λ (x : ℕ). x / 6) (seeking-hit _ (c .before .before .before .loop .inv) (omega arith) (eq-eqb _ _ (c .if1 .taken))) ∙ blank-first (a .sides .now) (cellCount (a .cells .now))
 
 loop-again : tie.Need-loop-again Inv-loop μ-loop
-loop-again c =
-    let c-loop = c .before .before .before .loop in
-    (omega arith, c-loop .inv .1 ∙ seek-miss _ _ _ (omega arith) (ne-eqb _ _ (c .if1 .left)))
+loop-again c = seeking-more _ (c .before .before .before .loop .inv) (omega arith) (ne-eqb _ _ (c .if1 .left))
 
 returns-2 : tie.Need-returns-2 Inv-loop μ-loop
 returns-2 c =
-    let c-args = c .before .before .args in
-    let e = c .before .loop .inv .1 ∙ seek-end _ _ _ (omega arith) in
-    let f : c .before .loop .j ≡ 6 * cellCount (c-args .cells .now) = omega arith in
-    sym (sym (blank-first (c-args .sides .now) (cellCount (c-args .cells .now))) ∙ ap (λ (x : ℕ). x / 6) (e ∙ f))
+    let a = c .before .before .args in
+    ap (λ (x : ℕ). x / 6) (seeking-all _ (c .before .loop .inv) (omega arith)) ∙ blank-first (a .sides .now) (cellCount (a .cells .now))
 
 pub row-7-spec : {M : Type 1} → statement M
 row-7-spec =
@@ -62,12 +40,12 @@ row-7-spec =
     (tie.spec
     Inv-loop
     μ-loop
-    mul-n
+    (λ c. search needs)
     loop-holds
-    mul-if1
-    shared-slice-read-if1
+    (λ c. search needs)
+    (λ c. search needs)
     returns
-    add-j
-    loop-less
+    (λ c. search needs)
+    (λ c. search needs)
     loop-again
     returns-2)

@@ -19,50 +19,27 @@ Inv-loop cells edges counts keys head next sides₀ n m lowest₀ e₀ sides low
 abbrev μ-loop : tie.MeasureT-loop
 μ-loop cells edges counts keys head next sides₀ n m lowest₀ e₀ sides lowest e = e
 
-mul-n : tie.Need-mul-n Inv-loop μ-loop
-mul-n c = search needs
-
 loop-holds : tie.Need-loop-holds Inv-loop μ-loop
 loop-holds c =
-    let c-pre = c .before .before .before .before .before .before .before .pre in
-    (omega arith, listed-none _ _ _ (c-pre .1), sym (seek-end _ _ _ (omega arith)))
-
-sub-e : tie.Need-sub-e Inv-loop μ-loop
-sub-e c = search needs
-
-edge-key-requires : tie.Need-edge-key-requires Inv-loop μ-loop
-edge-key-requires c κs = search needs
+    (omega arith, listed-none _ _ _ (c .before .before .before .before .before .before .before .pre .1), sym (seek-end _ _ _ (omega arith)))
 
 latest-requires : tie.Need-latest-requires Inv-loop μ-loop
 latest-requires c κs =
     let c-pre = c .before .before .before .before .before .before .before .before .before .before .pre in
     (c-pre .0 .chained, c-pre .0 .headed)
 
-loop-less : tie.Need-loop-less Inv-loop μ-loop
-loop-less c = search needs
-
 loop-again : tie.Need-loop-again Inv-loop μ-loop
 loop-again c =
-    let c-pre = c .before .before .before .before .before .before .before .before .before .before .before .before .pre in
-    let c-loop = c .before .before .before .before .loop in
-    let w = c-loop .inv in
-    let p = c-pre .0 in
+    let w = c .before .before .before .before .loop .inv in
+    let p = c .before .before .before .before .before .before .before .before .before .before .before .before .pre .0 in
     let z = sym (rw (c .before .before .edge-key .ensures) at (c .before .latest .ensures)) ∙ c .if1 .taken in
     (omega arith, listed-skip (p .small) (p .small-ends) (p .table) _ (omega arith) (w .1) (omega arith) z, lowest-hit _ _ _ (omega arith) (unused-none _ (p .small) (p .small-ends) _ (p .table) _ z))
 
-add-put : tie.Need-add-put Inv-loop μ-loop
-add-put c = search needs
-
 put-requires : tie.Need-put-requires Inv-loop μ-loop
 put-requires c κs =
-    let c-pre = c .before .before .before .before .before .before .before .before .before .before .before .before .before .pre in
-    let c-loop = c .before .before .before .before .before .loop in
-    let w = c-loop .inv in
-    let p = c-pre .0 in
+    let w = c .before .before .before .before .before .loop .inv in
+    let p = c .before .before .before .before .before .before .before .before .before .before .before .before .before .pre .0 in
     record { chained = p .chained; room = omega (arith, w .1 .size, p .few); top-is = c .before .before .latest .ensures }
-
-loop-less-2 : tie.Need-loop-less-2 Inv-loop μ-loop
-loop-less-2 c = search needs
 
 loop-again-2 : tie.Need-loop-again-2 Inv-loop μ-loop
 loop-again-2 c =
@@ -70,11 +47,10 @@ loop-again-2 c =
     let c-args = c .before .before .before .before .before .before .before .before .before .before .before .before .before .before .before .before .args in
     let c-loop = c .before .before .before .before .before .before .before .before .loop in
     let c-edge-key = c .before .before .before .before .before .before .edge-key in
-    let c-latest = c .before .before .before .before .before .latest in
     let c-if1 = c .before .before .before .before .if1 in
     let w = c-loop .inv in
     let p = c-pre .0 in
-    let z = rw (c-edge-key .ensures) at (c-latest .ensures) in
+    let z = rw (c-edge-key .ensures) at (c .before .before .before .before .before .latest .ensures) in
     let f = unused-not (gridOf (c-args .cells .now) (c-args .edges .now) (c-args .counts .now)) (p .small) (p .small-ends) (c-args .keys .now) (p .table) (c-loop .e - 1) (omega (arith, z, c-if1 .left)) in
     (omega arith, listed-put (p .small) (p .small-ends) (p .table) _ (omega arith) (w .1) (omega arith) _ (rw (c-edge-key .ensures) at (c .before .before .put .ensures)), lowest-miss _ _ _ _ _ (omega arith) (omega arith) f (w .2))
 
@@ -98,16 +74,16 @@ row-8-spec =
     (tie.spec
     Inv-loop
     μ-loop
-    mul-n
+    (λ c. search needs)
     loop-holds
-    sub-e
-    edge-key-requires
+    (λ c. search needs)
+    (λ c κs. search needs)
     latest-requires
-    loop-less
+    (λ c. search needs)
     loop-again
-    add-put
+    (λ c. search needs)
     put-requires
-    loop-less-2
+    (λ c. search needs)
     loop-again-2
     same-length
     returns)

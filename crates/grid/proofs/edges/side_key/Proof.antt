@@ -9,31 +9,13 @@ use Rattle.grid.specs.Work.{sideKey}
 use Rattle.grid.proofs.edges.side_key.Statement.{statement}
 use Rattle.grid.proofs.edges.side_key.Tie as tie
 
-mul-node-at : tie.Need-mul-node-at
-mul-node-at c = search needs
-
-array-read-node-at : tie.Need-array-read-node-at
-array-read-node-at c = search needs
-
 node-at-requires : tie.Need-node-at-requires
 unfolding lo
 node-at-requires c κs = (omega arith, omega (arith, two-slots (c .before .args .k) (omega arith) .rising, two-slots (c .before .args .k) (omega arith) .within))
 
-mul-node-at-2 : tie.Need-mul-node-at-2
-mul-node-at-2 c = search needs
-
-array-read-node-at-2 : tie.Need-array-read-node-at-2
-array-read-node-at-2 c = search needs
-
 node-at-requires-2 : tie.Need-node-at-requires-2
 unfolding hi
 node-at-requires-2 c κs = (omega arith, two-slots (c .before .before .args .k) (omega arith) .within)
-
-mul-result : tie.Need-mul-result
-mul-result c = search needs
-
-add-result : tie.Need-add-result
-add-result c = search needs
 
 returns : tie.Need-returns
 unfolding sideKey lo hi
@@ -47,12 +29,12 @@ pub side-key-spec : {M : Type 1} → statement M
 side-key-spec =
     tie.close
     (tie.spec
-    mul-node-at
-    array-read-node-at
+    (λ c. search needs)
+    (λ c. search needs)
     node-at-requires
-    mul-node-at-2
-    array-read-node-at-2
+    (λ c. search needs)
+    (λ c. search needs)
     node-at-requires-2
-    mul-result
-    add-result
+    (λ c. search needs)
+    (λ c. search needs)
     returns)

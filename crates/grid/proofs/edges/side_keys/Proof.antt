@@ -20,22 +20,12 @@ loop-holds : tie.Need-loop-holds Inv-loop μ-loop
 loop-holds c = (omega arith, filled-none _ _)
 
 put-sides-requires : tie.Need-put-sides-requires Inv-loop μ-loop
-put-sides-requires c κs =
-    let w = c .before .before .loop .inv in
-    (omega arith, omega (arith, simp length-filled at (ap length (w .1))))
-
-add-c : tie.Need-add-c Inv-loop μ-loop
-add-c c = search needs
-
-loop-less : tie.Need-loop-less Inv-loop μ-loop
-loop-less c = search needs
+put-sides-requires c κs = (omega arith, omega (arith, simp length-filled at (ap length (c .before .before .loop .inv .1))))
 
 loop-again : tie.Need-loop-again Inv-loop μ-loop
 loop-again c =
-    let w = c .before .before .before .before .before .loop .inv in
-    let e = c .before .before .put-sides .ensures in
     let i : 6 * (c .before .before .before .before .before .loop .c + 1) ≡ 6 * c .before .before .before .before .before .loop .c + 6 = omega arith in
-    (omega arith, e ∙ rw i (filled-block _ _ 6 _ _ (w .1)))
+    (omega arith, c .before .before .put-sides .ensures ∙ rw i (filled-block _ _ 6 _ _ (c .before .before .before .before .before .loop .inv .1)))
 
 same-length : tie.Need-same-length Inv-loop μ-loop
 same-length c = simp length-filled at (ap length (c .before .loop .inv .1))
@@ -53,8 +43,8 @@ side-keys-spec =
     μ-loop
     loop-holds
     put-sides-requires
-    add-c
-    loop-less
+    (λ c. search needs)
+    (λ c. search needs)
     loop-again
     same-length
     returns)

@@ -16,44 +16,18 @@ abbrev μ-loop : tie.MeasureT-loop
 loop-holds : tie.Need-loop-holds Inv-loop μ-loop
 loop-holds c = walked-start _ _ _ _ (c .before .before .pre .starts)
 
-sub-i : tie.Need-sub-i Inv-loop μ-loop
-sub-i c = search needs
-
-mul-if1 : tie.Need-mul-if1 Inv-loop μ-loop
-mul-if1 c = search needs
-
-shared-slice-read-if1 : tie.Need-shared-slice-read-if1 Inv-loop μ-loop
-shared-slice-read-if1 c = search needs
-
 returns : tie.Need-returns Inv-loop μ-loop
-returns c =
-    let c-loop = c .before .before .before .loop in
-    sym (walked-hit (c-loop .inv) (omega arith) (c .if1 .taken))
-
-mul-wide : tie.Need-mul-wide Inv-loop μ-loop
-mul-wide c = search needs
-
-shared-slice-read-wide : tie.Need-shared-slice-read-wide Inv-loop μ-loop
-shared-slice-read-wide c = search needs
-
-wide-requires : tie.Need-wide-requires Inv-loop μ-loop
-wide-requires c κs = search needs
+returns c = sym (walked-hit (c .before .before .before .loop .inv) (omega arith) (c .if1 .taken))
 
 loop-less : tie.Need-loop-less Inv-loop μ-loop
 loop-less c =
-    let c-pre = c .before .before .before .before .before .before .before .before .pre in
     let c-loop = c .before .before .before .before .before .loop in
-    let p = c-pre .chained in
-    let i = c-loop .inv .within in
-    omega (arith, chained-less p (c-loop .j - 1) (omega arith))
+    omega (arith, chained-less (c .before .before .before .before .before .before .before .before .pre .chained) (c-loop .j - 1) (omega arith))
 
 loop-again : tie.Need-loop-again Inv-loop μ-loop
 loop-again c =
-    let c-pre = c .before .before .before .before .before .before .before .before .pre in
-    let c-loop = c .before .before .before .before .before .loop in
-    let p = c-pre .chained in
-    let w = c-loop .inv in
-    let i = w .within in
+    let p = c .before .before .before .before .before .before .before .before .pre .chained in
+    let w = c .before .before .before .before .before .loop .inv in
     rw (c .wide .ensures) (walked-more w (omega arith) _ _ p (omega arith) (c .before .before .if1 .left))
 
 returns-2 : tie.Need-returns-2 Inv-loop μ-loop
@@ -66,13 +40,13 @@ walk-spec =
     Inv-loop
     μ-loop
     loop-holds
-    sub-i
-    mul-if1
-    shared-slice-read-if1
+    (λ c. search needs)
+    (λ c. search needs)
+    (λ c. search needs)
     returns
-    mul-wide
-    shared-slice-read-wide
-    wide-requires
+    (λ c. search needs)
+    (λ c. search needs)
+    (λ c κs. search needs)
     loop-less
     loop-again
     returns-2)

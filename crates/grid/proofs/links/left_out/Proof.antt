@@ -18,49 +18,29 @@ abbrev μ-loop : tie.MeasureT-loop
 μ-loop keys next n key mark top marks j₀ j = j
 
 loop-holds : tie.Need-loop-holds Inv-loop μ-loop
-loop-holds c =
-    let c-pre = c .before .before .before .pre in
-    looking-start _ _ _ _ _ _ (c-pre .top-is)
-
-sub-x : tie.Need-sub-x Inv-loop μ-loop
-sub-x c = search needs
-
-mul-if1 : tie.Need-mul-if1 Inv-loop μ-loop
-mul-if1 c = search needs
+loop-holds c = looking-start _ _ _ _ _ _ (c .before .before .before .pre .top-is)
 
 shared-slice-read-if1 : tie.Need-shared-slice-read-if1 Inv-loop μ-loop
-shared-slice-read-if1 c =
-    let c-pre = c .before .before .before .before .before .before .pre in
-    omega (arith, c .before .before .loop .inv .within, c-pre .room)
+shared-slice-read-if1 c = omega (arith, c .before .before .loop .inv .within, c .before .before .before .before .before .before .pre .room)
 
 returns : tie.Need-returns Inv-loop μ-loop
-returns c =
-    let c-loop = c .before .before .before .loop in
-    sym (looking-hit (c-loop .inv) (omega arith) (c .if1 .taken))
+returns c = sym (looking-hit (c .before .before .before .loop .inv) (omega arith) (c .if1 .taken))
 
 mul-earlier : tie.Need-mul-earlier Inv-loop μ-loop
-mul-earlier c =
-    let c-pre = c .before .before .before .before .before .before .before .pre in
-    omega (arith, c-pre .chained .keyed)
+mul-earlier c = omega (arith, c .before .before .before .before .before .before .before .pre .chained .keyed)
 
 earlier-requires : tie.Need-earlier-requires Inv-loop μ-loop
 earlier-requires c κs =
-    let c-pre = c .before .before .before .before .before .before .before .pre in
-    let c-loop = c .before .before .before .loop in
-    (c-pre .chained, omega (arith, c-loop .inv .within))
+    (c .before .before .before .before .before .before .before .pre .chained, omega (arith, c .before .before .before .loop .inv .within))
 
 loop-less : tie.Need-loop-less Inv-loop μ-loop
 loop-less c =
-    let c-args = c .before .before .before .before .before .before .before .before .args in
-    let c-loop = c .before .before .before .before .loop in
-    let l = c-args .keys .now in
-    let i = c-loop .j - 1 in
+    let l = c .before .before .before .before .before .before .before .before .args .keys .now in
+    let i = c .before .before .before .before .loop .j - 1 in
     omega (arith, c .earlier .ensures, last-le (sameKey l (getD l i 0)) i)
 
 loop-again : tie.Need-loop-again Inv-loop μ-loop
-loop-again c =
-    let c-loop = c .before .before .before .before .loop in
-    looking-more (c-loop .inv) (omega arith) (c .before .if1 .left) _ (c .earlier .ensures)
+loop-again c = looking-more (c .before .before .before .before .loop .inv) (omega arith) (c .before .if1 .left) _ (c .earlier .ensures)
 
 returns-2 : tie.Need-returns-2 Inv-loop μ-loop
 returns-2 c = sym (looking-end (c .before .loop .inv) (omega arith))
@@ -72,8 +52,8 @@ left-out-spec =
     Inv-loop
     μ-loop
     loop-holds
-    sub-x
-    mul-if1
+    (λ c. search needs)
+    (λ c. search needs)
     shared-slice-read-if1
     returns
     mul-earlier

@@ -6,20 +6,11 @@ use Rattle.grid.proofs.Marks.{other-fits, other-high, other-low}
 use Rattle.grid.proofs.links.other_side.Statement.{statement}
 use Rattle.grid.proofs.links.other_side.Tie as tie
 
-sub-result : tie.Need-sub-result
-sub-result c = search needs
-
-sub-result-2 : tie.Need-sub-result-2
-sub-result-2 c = search needs
-
 returns : tie.Need-returns
 returns c =
     let p = c .before .pre in
     let a = c .before .args in
     (other-low (a .k) (a .s) (omega arith), rw (other-low (a .k) (a .s) (omega arith)) (third-of _ _ (p .edge-lt) (p .slot-lt) (p .holds) .lt))
-
-sub-result-3 : tie.Need-sub-result-3
-sub-result-3 c = search needs
 
 sub-result-4 : tie.Need-sub-result-4
 sub-result-4 c = let p = c .before .pre in omega (arith, other-fits _ _ (p .edge-lt) (p .slot-lt) (p .holds))
@@ -31,5 +22,4 @@ returns-2 c =
     (other-high (a .k) (a .s) (omega arith) (p .edge-lt), rw (other-high (a .k) (a .s) (omega arith) (p .edge-lt)) (third-of _ _ (p .edge-lt) (p .slot-lt) (p .holds) .lt))
 
 pub other-side-spec : {M : Type 1} → statement M
-other-side-spec =
-    tie.close (tie.spec sub-result sub-result-2 returns sub-result-3 sub-result-4 returns-2)
+other-side-spec = tie.close (tie.spec (λ c. search needs) (λ c. search needs) returns (λ c. search needs) sub-result-4 returns-2)

@@ -8,11 +8,8 @@ use Rattle.grid.proofs.links.position.Tie as tie
 returns : tie.Need-returns
 returns c = (corner-low _ _ (omega arith), (omega arith, λ e. omega arith))
 
-add-result : tie.Need-add-result
-add-result c = search needs
-
 returns-2 : tie.Need-returns-2
 returns-2 c = (corner-high _ _ (omega arith), (omega arith, λ e. omega arith))
 
 pub position-spec : {M : Type 1} → statement M
-position-spec = tie.close (tie.spec returns add-result returns-2)
+position-spec = tie.close (tie.spec returns (λ c. search needs) returns-2)

@@ -8,11 +8,8 @@ use Rattle.grid.proofs.links.rank_of.Tie as tie
 returns : tie.Need-returns
 returns c = (rank-low _ _ (omega arith), omega arith)
 
-sub-result : tie.Need-sub-result
-sub-result c = search needs
-
 returns-2 : tie.Need-returns-2
 returns-2 c = (rank-high _ _ (omega arith), omega arith)
 
 pub rank-of-spec : {M : Type 1} → statement M
-rank-of-spec = tie.close (tie.spec returns sub-result returns-2)
+rank-of-spec = tie.close (tie.spec returns (λ c. search needs) returns-2)

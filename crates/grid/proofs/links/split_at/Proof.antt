@@ -6,9 +6,6 @@ use Rattle.grid.proofs.Marks.{both-same, first-same, lower-on, may-spre
 use Rattle.grid.proofs.links.split_at.Statement.{statement}
 use Rattle.grid.proofs.links.split_at.Tie as tie
 
-sub-x : tie.Need-sub-x
-sub-x c = search needs
-
 mul-marks : tie.Need-mul-marks
 mul-marks c =
     let P = c .before .before .before .before .pre in
@@ -19,14 +16,8 @@ slice-write-marks c =
     let P = c .before .before .before .before .pre in
     omega (arith, top-within P, P .found, P .room)
 
-lower-slot-requires : tie.Need-lower-slot-requires
-lower-slot-requires c κs = search needs
-
 other-side-requires : tie.Need-other-side-requires
 other-side-requires c κs = lower-on _ _ (omega arith) (c .lower-slot .ensures)
-
-mul-spread : tie.Need-mul-spread
-mul-spread c = search needs
 
 add-spread : tie.Need-add-spread
 add-spread c =
@@ -43,12 +34,6 @@ rank-of-requires c κs =
 spread-requires : tie.Need-spread-requires
 spread-requires c κs =
     may-spread-first (c .before .before .before .before .before .before .before .before .pre) (lower-on _ _ (omega arith) (c .before .before .before .lower-slot .ensures)) _ (c .before .rank-of .ensures .1)
-
-mul-spread-2 : tie.Need-mul-spread-2
-mul-spread-2 c = search needs
-
-add-spread-2 : tie.Need-add-spread-2
-add-spread-2 c = search needs
 
 rank-of-requires-2 : tie.Need-rank-of-requires-2
 rank-of-requires-2 c κs =
@@ -79,17 +64,17 @@ pub split-at-spec : {M : Type 1} → statement M
 split-at-spec =
     tie.close
     (tie.spec
-    sub-x
+    (λ c. search needs)
     mul-marks
     slice-write-marks
-    lower-slot-requires
+    (λ c κs. search needs)
     other-side-requires
-    mul-spread
+    (λ c. search needs)
     add-spread
     rank-of-requires
     spread-requires
-    mul-spread-2
-    add-spread-2
+    (λ c. search needs)
+    (λ c. search needs)
     rank-of-requires-2
     spread-requires-2
     left-out-requires

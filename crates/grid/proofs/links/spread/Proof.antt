@@ -12,30 +12,18 @@ Inv-loop near n mark start rank marks₀ r₀ p₀ marks r p = Walking near n ma
 abbrev μ-loop : tie.MeasureT-loop
 μ-loop near n mark start rank marks₀ r₀ p₀ marks r p = unmarked marks mark n
 
-mul-wide : tie.Need-mul-wide Inv-loop μ-loop
-mul-wide c = search needs
-
 shared-slice-read-wide : tie.Need-shared-slice-read-wide Inv-loop μ-loop
 shared-slice-read-wide c =
     let P = c .before .before .before .pre in
     omega (arith, P .slot, P .near-room)
 
-wide-requires : tie.Need-wide-requires Inv-loop μ-loop
-wide-requires c κs = search needs
-
 loop-holds : tie.Need-loop-holds Inv-loop μ-loop
-loop-holds c =
-    let P = c .before .before .before .before .pre in
-    walking-start P _ (c .wide .ensures)
-
-sub-x : tie.Need-sub-x Inv-loop μ-loop
-sub-x c = search needs
+loop-holds c = walking-start (c .before .before .before .before .pre) _ (c .wide .ensures)
 
 mul-if1 : tie.Need-mul-if1 Inv-loop μ-loop
 mul-if1 c =
     let P = c .before .before .before .before .before .before .pre in
-    let w = c .before .loop .inv in
-    omega (arith, walking-lt P w, P .few)
+    omega (arith, walking-lt P (c .before .loop .inv), P .few)
 
 slice-read-if1 : tie.Need-slice-read-if1 Inv-loop μ-loop
 slice-read-if1 c =
@@ -44,21 +32,17 @@ slice-read-if1 c =
     omega (arith, walking-lt P w, w .same, P .room)
 
 same-length : tie.Need-same-length Inv-loop μ-loop
-same-length c =
-    let w = c .before .before .before .loop .inv in
-    w .same
+same-length c = c .before .before .before .loop .inv .same
 
 returns : tie.Need-returns Inv-loop μ-loop
 returns c =
-    let P = c .before .before .before .before .before .before .before .before .pre in
     let w = c .before .before .before .loop .inv in
-    walking-met P w (omega arith) (c .if1 .taken)
+    walking-met (c .before .before .before .before .before .before .before .before .pre) w (omega arith) (c .if1 .taken)
 
 mul-marks : tie.Need-mul-marks Inv-loop μ-loop
 mul-marks c =
     let P = c .before .before .before .before .before .before .before .before .pre in
-    let w = c .before .before .before .loop .inv in
-    omega (arith, walking-lt P w, P .few)
+    omega (arith, walking-lt P (c .before .before .before .loop .inv), P .few)
 
 slice-write-marks : tie.Need-slice-write-marks Inv-loop μ-loop
 slice-write-marks c =
@@ -67,40 +51,31 @@ slice-write-marks c =
     omega (arith, walking-lt P w, w .same, P .room)
 
 position-requires : tie.Need-position-requires Inv-loop μ-loop
-position-requires c κs =
-    let w = c .before .before .before .loop .inv in
-    w .rank-lt
+position-requires c κs = c .before .before .before .loop .inv .rank-lt
 
 rank-of-requires : tie.Need-rank-of-requires Inv-loop μ-loop
-rank-of-requires c κs =
-    (omega arith, (c .position .ensures .1 .0, λ e. c .position .ensures .1 .1 (sym e)))
+rank-of-requires c κs = (omega arith, (c .position .ensures .1 .0, λ e. c .position .ensures .1 .1 (sym e)))
 
 mul-wide-2 : tie.Need-mul-wide-2 Inv-loop μ-loop
 mul-wide-2 c =
     let P = c .before .before .before .before .before .before .before .before .before .before .pre in
-    let w = c .before .before .before .before .before .loop .inv in
-    omega (arith, walking-lt P w, P .few, c .before .position .ensures .1 .0)
+    omega (arith, walking-lt P (c .before .before .before .before .before .loop .inv), P .few, c .before .position .ensures .1 .0)
 
 add-wide : tie.Need-add-wide Inv-loop μ-loop
 add-wide c =
     let P = c .before .before .before .before .before .before .before .before .before .before .pre in
-    let w = c .before .before .before .before .before .loop .inv in
-    omega (arith, walking-lt P w, P .few, c .before .position .ensures .1 .0)
+    omega (arith, walking-lt P (c .before .before .before .before .before .loop .inv), P .few, c .before .position .ensures .1 .0)
 
 mul-wide-3 : tie.Need-mul-wide-3 Inv-loop μ-loop
 mul-wide-3 c =
     let P = c .before .before .before .before .before .before .before .before .before .before .pre in
-    let w = c .before .before .before .before .before .loop .inv in
-    omega (arith, walking-lt P w, P .few, c .before .position .ensures .1 .0)
+    omega (arith, walking-lt P (c .before .before .before .before .before .loop .inv), P .few, c .before .position .ensures .1 .0)
 
 shared-slice-read-wide-2 : tie.Need-shared-slice-read-wide-2 Inv-loop μ-loop
 shared-slice-read-wide-2 c =
     let P = c .before .before .before .before .before .before .before .before .before .before .before .pre in
     let w = c .before .before .before .before .before .before .loop .inv in
     omega (arith, walking-lt P w, P .near-room, c .before .before .position .ensures .1 .0)
-
-wide-requires-2 : tie.Need-wide-requires-2 Inv-loop μ-loop
-wide-requires-2 c κs = search needs
 
 loop-less : tie.Need-loop-less Inv-loop μ-loop
 loop-less c =
@@ -118,15 +93,10 @@ loop-again c =
     walking-more P w (omega arith) (c .before .before .before .before .if1 .left) _ _ _ (s .1 .0) (s .0) (t .1) (t .0) (c .wide2 .ensures)
 
 same-length-2 : tie.Need-same-length-2 Inv-loop μ-loop
-same-length-2 c =
-    let w = c .before .loop .inv in
-    w .same
+same-length-2 c = c .before .loop .inv .same
 
 returns-2 : tie.Need-returns-2 Inv-loop μ-loop
-returns-2 c =
-    let P = c .before .before .before .before .before .before .pre in
-    let w = c .before .loop .inv in
-    walking-end P w (omega arith)
+returns-2 c = walking-end (c .before .before .before .before .before .before .pre) (c .before .loop .inv) (omega arith)
 
 pub spread-spec : {M : Type 1} → statement M
 spread-spec =
@@ -134,11 +104,11 @@ spread-spec =
     (tie.spec
     Inv-loop
     μ-loop
-    mul-wide
+    (λ c. search needs)
     shared-slice-read-wide
-    wide-requires
+    (λ c κs. search needs)
     loop-holds
-    sub-x
+    (λ c. search needs)
     mul-if1
     slice-read-if1
     same-length
@@ -151,7 +121,7 @@ spread-spec =
     add-wide
     mul-wide-3
     shared-slice-read-wide-2
-    wide-requires-2
+    (λ c κs. search needs)
     loop-less
     loop-again
     same-length-2

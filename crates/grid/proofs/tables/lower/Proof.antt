@@ -8,12 +8,6 @@ use Rattle.grid.proofs.tables.lower.Tie as tie
 returns : tie.Need-returns
 returns c = (lower-none _ _ (c .if1 .taken), omega arith)
 
-sub-if2 : tie.Need-sub-if2
-sub-if2 c = search needs
-
-sub-result : tie.Need-sub-result
-sub-result c = search needs
-
 returns-2 : tie.Need-returns-2
 returns-2 c = (lower-other _ _ (c .before .if1 .left) (c .if2 .taken), omega arith)
 
@@ -21,4 +15,4 @@ returns-3 : tie.Need-returns-3
 returns-3 c = (lower-own _ _ (c .before .if1 .left) (c .if2 .left), omega arith)
 
 pub lower-spec : {M : Type 1} → statement M
-lower-spec = tie.close (tie.spec returns sub-if2 sub-result returns-2 returns-3)
+lower-spec = tie.close (tie.spec returns (λ c. search needs) (λ c. search needs) returns-2 returns-3)

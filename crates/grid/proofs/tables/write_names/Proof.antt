@@ -19,27 +19,11 @@ abbrev μ-loop : tie.MeasureT-loop
 loop-holds : tie.Need-loop-holds Inv-loop μ-loop
 loop-holds c = (omega arith, filled-none _ _)
 
-mul-wide : tie.Need-mul-wide Inv-loop μ-loop
-mul-wide c = search needs
-
 shared-slice-read-wide : tie.Need-shared-slice-read-wide Inv-loop μ-loop
-shared-slice-read-wide c =
-    let c-pre = c .before .before .before .before .before .pre in
-    omega (arith, c-pre .across-room)
-
-wide-requires : tie.Need-wide-requires Inv-loop μ-loop
-wide-requires c κs = search needs
-
-lower-requires : tie.Need-lower-requires Inv-loop μ-loop
-lower-requires c κs = search needs
+shared-slice-read-wide c = omega (arith, c .before .before .before .before .before .pre .across-room)
 
 cast-names : tie.Need-cast-names Inv-loop μ-loop
-cast-names c =
-    let c-pre = c .before .before .before .before .before .before .before .pre in
-    omega (arith, c .lower .ensures .1, c-pre .few)
-
-mul-names : tie.Need-mul-names Inv-loop μ-loop
-mul-names c = search needs
+cast-names c = omega (arith, c .lower .ensures .1, c .before .before .before .before .before .before .before .pre .few)
 
 slice-write-names : tie.Need-slice-write-names Inv-loop μ-loop
 slice-write-names c =
@@ -47,12 +31,6 @@ slice-write-names c =
     let c-args = c .before .before .before .before .before .before .before .args in
     let c-loop = c .before .before .before .before .loop in
     omega (arith, c-pre .room, ap length (c-loop .inv .1), length-filled (λ j. lowerPlace j (getD (c-args .across .now) j 0)) (c-loop .j) (c-args .names .now))
-
-add-j : tie.Need-add-j Inv-loop μ-loop
-add-j c = search needs
-
-loop-less : tie.Need-loop-less Inv-loop μ-loop
-loop-less c = search needs
 
 loop-again : tie.Need-loop-again Inv-loop μ-loop
 loop-again c =
@@ -78,15 +56,15 @@ write-names-spec =
     Inv-loop
     μ-loop
     loop-holds
-    mul-wide
+    (λ c. search needs)
     shared-slice-read-wide
-    wide-requires
-    lower-requires
+    (λ c κs. search needs)
+    (λ c κs. search needs)
     cast-names
-    mul-names
+    (λ c. search needs)
     slice-write-names
-    add-j
-    loop-less
+    (λ c. search needs)
+    (λ c. search needs)
     loop-again
     same-length
     returns)

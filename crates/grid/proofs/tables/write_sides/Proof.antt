@@ -18,26 +18,14 @@ abbrev μ-loop : tie.MeasureT-loop
 loop-holds : tie.Need-loop-holds Inv-loop μ-loop
 loop-holds c = (omega arith, filled-none _ _)
 
-mul-x : tie.Need-mul-x Inv-loop μ-loop
-mul-x c = search needs
-
 shared-slice-read-x : tie.Need-shared-slice-read-x Inv-loop μ-loop
-shared-slice-read-x c =
-    let c-pre = c .before .before .before .pre in
-    omega (arith, c-pre .listed-room)
+shared-slice-read-x c = omega (arith, c .before .before .before .pre .listed-room)
 
 sub-sides : tie.Need-sub-sides Inv-loop μ-loop
-sub-sides c =
-    let c-pre = c .before .before .before .pre in
-    omega (arith, c-pre .entries (c .before .before .loop .j) (omega arith) .0)
+sub-sides c = omega (arith, c .before .before .before .pre .entries (c .before .before .loop .j) (omega arith) .0)
 
 cast-sides : tie.Need-cast-sides Inv-loop μ-loop
-cast-sides c =
-    let c-pre = c .before .before .before .pre in
-    omega (arith, c-pre .entries (c .before .before .loop .j) (omega arith) .1)
-
-mul-sides : tie.Need-mul-sides Inv-loop μ-loop
-mul-sides c = search needs
+cast-sides c = omega (arith, c .before .before .before .pre .entries (c .before .before .loop .j) (omega arith) .1)
 
 slice-write-sides : tie.Need-slice-write-sides Inv-loop μ-loop
 slice-write-sides c =
@@ -46,16 +34,9 @@ slice-write-sides c =
     let c-loop = c .before .before .loop in
     omega (arith, c-pre .room, ap length (c-loop .inv .1), length-filled (λ j. getD (c-args .listed .now) j 0 - 1) (c-loop .j) (c-args .sides .now))
 
-add-j : tie.Need-add-j Inv-loop μ-loop
-add-j c = search needs
-
-loop-less : tie.Need-loop-less Inv-loop μ-loop
-loop-less c = search needs
-
 loop-again : tie.Need-loop-again Inv-loop μ-loop
 loop-again c =
-    let c-args = c .before .before .before .args in
-    (omega arith, filled-more (λ j. getD (c-args .listed .now) j 0 - 1) _ _ _ _ (c .before .before .loop .inv .1) refl)
+    (omega arith, filled-more (λ j. getD (c .before .before .before .args .listed .now) j 0 - 1) _ _ _ _ (c .before .before .loop .inv .1) refl)
 
 same-length : tie.Need-same-length Inv-loop μ-loop
 same-length c =
@@ -75,14 +56,14 @@ write-sides-spec =
     Inv-loop
     μ-loop
     loop-holds
-    mul-x
+    (λ c. search needs)
     shared-slice-read-x
     sub-sides
     cast-sides
-    mul-sides
+    (λ c. search needs)
     slice-write-sides
-    add-j
-    loop-less
+    (λ c. search needs)
+    (λ c. search needs)
     loop-again
     same-length
     returns)

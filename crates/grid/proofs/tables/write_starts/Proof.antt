@@ -20,20 +20,11 @@ abbrev μ-loop : tie.MeasureT-loop
 loop-holds : tie.Need-loop-holds Inv-loop μ-loop
 loop-holds c = (omega arith, sym (start-zero _), filled-none _ _)
 
-mul-starts : tie.Need-mul-starts Inv-loop μ-loop
-mul-starts c = search needs
-
 slice-write-starts : tie.Need-slice-write-starts Inv-loop μ-loop
 slice-write-starts c =
     let c-pre = c .before .before .before .before .pre in
     let c-args = c .before .before .before .before .args in
     omega (arith, c-pre .0, ap length (c .before .loop .inv .2), length-filled (start (c-args .counts .now)) (c .before .loop .e) (c-args .starts .now))
-
-shared-slice-read-size : tie.Need-shared-slice-read-size Inv-loop μ-loop
-shared-slice-read-size c = search needs
-
-size-requires : tie.Need-size-requires Inv-loop μ-loop
-size-requires c κs = search needs
 
 add-s : tie.Need-add-s Inv-loop μ-loop
 add-s c =
@@ -41,12 +32,6 @@ add-s c =
     let c-args = c .before .before .before .before .before .before .args in
     let c-loop = c .before .before .before .loop in
     omega (arith, c-pre .1, c-loop .inv .1, c .size .ensures .1, start-mono (c-args .counts .now) (c-loop .e) (length (c-args .counts .now)) (omega arith))
-
-add-e : tie.Need-add-e Inv-loop μ-loop
-add-e c = search needs
-
-loop-less : tie.Need-loop-less Inv-loop μ-loop
-loop-less c = search needs
 
 loop-again : tie.Need-loop-again Inv-loop μ-loop
 loop-again c =
@@ -72,13 +57,13 @@ write-starts-spec =
     Inv-loop
     μ-loop
     loop-holds
-    mul-starts
+    (λ c. search needs)
     slice-write-starts
-    shared-slice-read-size
-    size-requires
+    (λ c. search needs)
+    (λ c κs. search needs)
     add-s
-    add-e
-    loop-less
+    (λ c. search needs)
+    (λ c. search needs)
     loop-again
     same-length
     returns)

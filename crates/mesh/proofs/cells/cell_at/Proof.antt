@@ -3,21 +3,6 @@ use borrow.Author.Needs.{needs}
 use Rattle.mesh.proofs.cells.cell_at.Statement.{statement}
 use Rattle.mesh.proofs.cells.cell_at.Tie as tie
 
-counts-of-requires : tie.Need-counts-of-requires
-counts-of-requires c κs = search needs
-
-starts-of-requires : tie.Need-starts-of-requires
-starts-of-requires c κs = search needs
-
-four-of-requires : tie.Need-four-of-requires
-four-of-requires c κs = search needs
-
-four-of-requires-2 : tie.Need-four-of-requires-2
-four-of-requires-2 c κs = search needs
-
-cast-t20 : tie.Need-cast-t20
-cast-t20 c = search needs
-
 returns : tie.Need-returns
 unfolding tableCell
 returns c =
@@ -32,9 +17,9 @@ pub cell-at-spec : {M : Type 1} → statement M
 cell-at-spec =
     tie.close
     (tie.spec
-    counts-of-requires
-    starts-of-requires
-    four-of-requires
-    four-of-requires-2
-    cast-t20
+    (λ c κs. search needs)
+    (λ c κs. search needs)
+    (λ c κs. search needs)
+    (λ c κs. search needs)
+    (λ c. search needs)
     returns)

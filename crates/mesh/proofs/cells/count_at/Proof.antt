@@ -4,14 +4,8 @@ use borrow.Author.Needs.{needs}
 use Rattle.mesh.proofs.cells.count_at.Statement.{statement}
 use Rattle.mesh.proofs.cells.count_at.Tie as tie
 
-shared-slice-read-result : tie.Need-shared-slice-read-result
-shared-slice-read-result c = search needs
-
-returns : tie.Need-returns
-returns c = search needs
-
 returns-2 : tie.Need-returns-2
 returns-2 c = past-end (c .before .args .counts .now) (c .before .args .i) (omega arith)
 
 pub count-at-spec : {M : Type 1} → statement M
-count-at-spec = tie.close (tie.spec shared-slice-read-result returns returns-2)
+count-at-spec = tie.close (tie.spec (λ c. search needs) (λ c. search needs) returns-2)

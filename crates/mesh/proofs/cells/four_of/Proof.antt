@@ -7,35 +7,13 @@ use Rattle.mesh.proofs.cells.four_of.Statement.{statement}
 use Rattle.mesh.proofs.cells.four_of.Tie as tie
 
 abbrev Inv-loop : tie.InvT-loop
-Inv-loop list c four₀ i₀ four i =
-    Valued (λ j. getD list (4 * c + j) 0) 4 four₀ i four
+Inv-loop list c four₀ i₀ four i = Valued (λ j. getD list (4 * c + j) 0) 4 four₀ i four
 
 abbrev μ-loop : tie.MeasureT-loop
 μ-loop list c four₀ i₀ four i = 4 - i
 
 loop-holds : tie.Need-loop-holds Inv-loop μ-loop
 loop-holds c = valued-none _ _ refl
-
-mul-entry : tie.Need-mul-entry Inv-loop μ-loop
-mul-entry c = omega arith
-
-add-entry : tie.Need-add-entry Inv-loop μ-loop
-add-entry c = omega arith
-
-entry-requires : tie.Need-entry-requires Inv-loop μ-loop
-entry-requires c κs = tt
-
-mul-four : tie.Need-mul-four Inv-loop μ-loop
-mul-four c = omega arith
-
-array-write-four : tie.Need-array-write-four Inv-loop μ-loop
-array-write-four c = omega arith
-
-add-i : tie.Need-add-i Inv-loop μ-loop
-add-i c = omega arith
-
-loop-less : tie.Need-loop-less Inv-loop μ-loop
-loop-less c = omega arith
 
 loop-again : tie.Need-loop-again Inv-loop μ-loop
 loop-again c = valued-more _ _ (c .before .before .loop .inv) (omega arith) _ (c .entry .ensures)
@@ -50,12 +28,12 @@ four-of-spec =
     Inv-loop
     μ-loop
     loop-holds
-    mul-entry
-    add-entry
-    entry-requires
-    mul-four
-    array-write-four
-    add-i
-    loop-less
+    (λ c. omega arith)
+    (λ c. omega arith)
+    (λ c κs. tt)
+    (λ c. omega arith)
+    (λ c. omega arith)
+    (λ c. omega arith)
+    (λ c. omega arith)
     loop-again
     returns)

@@ -6,21 +6,8 @@ use borrow.Author.Needs.{needs}
 use Rattle.mesh.proofs.cells.start_at.Statement.{statement}
 use Rattle.mesh.proofs.cells.start_at.Tie as tie
 
-mul-result : tie.Need-mul-result
-mul-result c = search needs
-
-shared-slice-read-result : tie.Need-shared-slice-read-result
-shared-slice-read-result c = search needs
-
-cast-result : tie.Need-cast-result
-cast-result c = search needs
-
-returns : tie.Need-returns
-returns c = search needs
-
 returns-2 : tie.Need-returns-2
 returns-2 c = ap (λ x. x % 65536) (past-end (c .before .args .starts .now) (c .before .args .i) (omega arith))
 
 pub start-at-spec : {M : Type 1} → statement M
-start-at-spec =
-    tie.close (tie.spec mul-result shared-slice-read-result cast-result returns returns-2)
+start-at-spec = tie.close (tie.spec (λ c. search needs) (λ c. search needs) (λ c. search needs) (λ c. search needs) returns-2)

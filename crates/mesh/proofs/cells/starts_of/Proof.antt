@@ -9,41 +9,13 @@ use Rattle.mesh.proofs.cells.starts_of.Statement.{statement}
 use Rattle.mesh.proofs.cells.starts_of.Tie as tie
 
 abbrev Inv-loop : tie.InvT-loop
-Inv-loop starts sides c six₀ k₀ six k =
-    Valued (λ j. getD starts (side sides c j) 0 % startLimit) 6 six₀ k six
+Inv-loop starts sides c six₀ k₀ six k = Valued (λ j. getD starts (side sides c j) 0 % startLimit) 6 six₀ k six
 
 abbrev μ-loop : tie.MeasureT-loop
 μ-loop starts sides c six₀ k₀ six k = 6 - k
 
 loop-holds : tie.Need-loop-holds Inv-loop μ-loop
 loop-holds c = valued-none _ _ refl
-
-mul-entry : tie.Need-mul-entry Inv-loop μ-loop
-mul-entry c = omega arith
-
-add-entry : tie.Need-add-entry Inv-loop μ-loop
-add-entry c = omega arith
-
-entry-requires : tie.Need-entry-requires Inv-loop μ-loop
-entry-requires c κs = tt
-
-wide-requires : tie.Need-wide-requires Inv-loop μ-loop
-wide-requires c κs = tt
-
-start-at-requires : tie.Need-start-at-requires Inv-loop μ-loop
-start-at-requires c κs = tt
-
-mul-six : tie.Need-mul-six Inv-loop μ-loop
-mul-six c = omega arith
-
-array-write-six : tie.Need-array-write-six Inv-loop μ-loop
-array-write-six c = omega arith
-
-add-k : tie.Need-add-k Inv-loop μ-loop
-add-k c = omega arith
-
-loop-less : tie.Need-loop-less Inv-loop μ-loop
-loop-less c = omega arith
 
 loop-again : tie.Need-loop-again Inv-loop μ-loop
 loop-again c =
@@ -60,14 +32,14 @@ starts-of-spec =
     Inv-loop
     μ-loop
     loop-holds
-    mul-entry
-    add-entry
-    entry-requires
-    wide-requires
-    start-at-requires
-    mul-six
-    array-write-six
-    add-k
-    loop-less
+    (λ c. omega arith)
+    (λ c. omega arith)
+    (λ c κs. tt)
+    (λ c κs. tt)
+    (λ c κs. tt)
+    (λ c. omega arith)
+    (λ c. omega arith)
+    (λ c. omega arith)
+    (λ c. omega arith)
     loop-again
     returns)

@@ -1,51 +1,42 @@
 -- `mesh::meshing::most_all` meets its contract.
-use Prim.Native.Nat.{_-_, _/_, _≤_}
-use mathlib.Core.Path.{_≡_, refl}
+use Prim.Native.Nat.{_-_, _≤_}
+use mathlib.Core.Path.{ap, _∙_}
 use native.Mathlib.Omega.{arith}
-use lib.ListN.{length}
-use Rattle.cell.specs.Triangles.{cellTriangles}
+use Rattle.counting.specs.Stored.{Summed}
+use Rattle.counting.proofs.Fronts.{length-over}
+use Rattle.counting.proofs.Range.{total-mono}
+use Rattle.counting.proofs.Stored.{summed-none, summed-more, summed-all}
+use Rattle.cell.specs.Cell.{crossings}
+use Rattle.cell.specs.Of.{edgesOf}
 use Rattle.cell.proofs.Taken.{cell-few}
+use Rattle.grid.specs.Grid.{cellCount}
 use Rattle.mesh.specs.Table.{tableCell, tableTriangles}
-use Rattle.mesh.proofs.Progress.{Bounding, bounding-all, bounding-more, bounding-none}
 use Rattle.mesh.proofs.meshing.most_all.Statement.{statement}
 use Rattle.mesh.proofs.meshing.most_all.Tie as tie
 
 abbrev Inv-loop : tie.InvT-loop
-Inv-loop cells counts names sides starts n t₀ c₀ t c =
-    Bounding (λ k. cellTriangles (tableCell cells counts names sides starts k)) (length cells / 4) c t × (n ≡ length cells / 4)
+Inv-loop cells counts names sides starts n t₀ c₀ t c = (c ≤ n) × Summed (λ k. crossings (edgesOf (tableCell cells counts names sides starts k))) 1530 c t
 
 abbrev μ-loop : tie.MeasureT-loop
 μ-loop cells counts names sides starts n t₀ c₀ t c = n - c
 
 loop-holds : tie.Need-loop-holds Inv-loop μ-loop
-loop-holds c = (bounding-none _ _, refl)
-
-cell-at-requires : tie.Need-cell-at-requires Inv-loop μ-loop
-cell-at-requires c κs = tt
-
-crossings-of-requires : tie.Need-crossings-of-requires Inv-loop μ-loop
-crossings-of-requires c κs = tt
+loop-holds c = (omega arith, summed-none _ _)
 
 add-t : tie.Need-add-t Inv-loop μ-loop
-add-t c = omega (arith, c .crossings-of .ensures .1, c .before .before .before .loop .inv .0 .few, c .before .before .before .loop .inv .0 .up, c .before .before .before .before .before .before .pre)
-
-add-c : tie.Need-add-c Inv-loop μ-loop
-add-c c = omega (arith, c .before .before .before .loop .inv .0 .up)
-
-loop-less : tie.Need-loop-less Inv-loop μ-loop
-loop-less c = omega arith
+add-t c = omega (arith, c .crossings-of .ensures .1, c .before .before .before .loop .inv .1 .few, c .before .before .before .before .before .before .pre)
 
 loop-again : tie.Need-loop-again Inv-loop μ-loop
 loop-again c =
-    let w = c .before .before .before .loop .inv in
-    let e : length (cellTriangles (c .before .cell-at .result)) ≤ c .crossings-of .result = rw (c .crossings-of .ensures .0) (cell-few (c .before .cell-at .result)) in
-    (bounding-more (w .0) (omega (arith, w .1)) _ (rw (c .before .cell-at .ensures) at e) (c .crossings-of .ensures .1), w .1)
+    let e = c .crossings-of .ensures .0 ∙ ap (λ v. crossings (edgesOf v)) (c .before .cell-at .ensures) in
+    (omega arith, summed-more _ _ (c .before .before .before .loop .inv .1) _ e (c .crossings-of .ensures .1))
 
 returns : tie.Need-returns Inv-loop μ-loop
 unfolding tableTriangles
 returns c =
-    let w = c .before .loop .inv in
-    (bounding-all (w .0) (omega (arith, w .1)), omega (arith, w .0 .few, w .0 .up, c .before .before .before .before .pre))
+    let S = c .before .loop .inv .1 in
+    let T = summed-all _ _ {n = cellCount (c .before .before .before .before .args .cells .now)} S (omega arith) in
+    (rw (length-over, T) (total-mono _ _ _ 0 (λ k a b. cell-few _)), omega (arith, S .few, c .before .before .before .before .pre))
 
 pub most-all-spec : {M : Type 1} → statement M
 most-all-spec =
@@ -54,10 +45,10 @@ most-all-spec =
     Inv-loop
     μ-loop
     loop-holds
-    cell-at-requires
-    crossings-of-requires
+    (λ c κs. tt)
+    (λ c κs. tt)
     add-t
-    add-c
-    loop-less
+    (λ c. omega arith)
+    (λ c. omega arith)
     loop-again
     returns)
