@@ -36,7 +36,7 @@ module _ (p q o : ℕ) where
   corner-half h k l =
       simp (le-ltb (q + o) p h, le-ltb (p + o) q k, le-ltb (p + q) o l) (halves (eqb ((p + q + o) % 2) 0) refl h k l)
 
--- the three corner counts of a face: with one count above the other two, and with none
+-- the three corner counts of a face with one count above the other two
 module _ (ab ac bc : ℕ) where
   pub corners-ab : ac + bc < ab → corners ab ac bc ≡ ac ∷ bc ∷ 0 ∷ []
   corners-ab h = simp (corner-first ab ac bc h, corner-first ab bc ac (omega arith), corner-none ac bc ab h)
@@ -46,10 +46,6 @@ module _ (ab ac bc : ℕ) where
 
   pub corners-bc : ab + ac < bc → corners ab ac bc ≡ 0 ∷ ab ∷ ac ∷ []
   corners-bc h = simp (corner-none ab ac bc h, corner-second ab bc ac h, corner-second ac bc ab (omega arith))
-
-  pub corners-level : ab ≤ ac + bc → ac ≤ ab + bc → bc ≤ ab + ac → corners ab ac bc ≡ (ab + ac - bc) / 2 ∷ (ab + bc - ac) / 2 ∷ (ac + bc - ab) / 2 ∷ []
-  corners-level h k l =
-      simp (corner-half ab ac bc h k l, corner-half ab bc ac (omega arith) l k, corner-half ac bc ab (omega arith) (omega arith) h)
 
 -- which rule holds at a corner
 pub data Rule (p q o : ℕ) : Type 0 where
