@@ -1,19 +1,19 @@
 use native.Mathlib.Omega.{arith}
 use Rattle.cell.proofs.Filling.{Filling, filling-none, filling-room, filling-more, filling-all}
-use Rattle.cell.specs.Triangles.{manyBy}
+use Rattle.manifold.specs.Shape.{shapeOf, manyOf}
 use mathlib.Core.Path.{_≡_}
 use Prim.Native.Nat.{_-_}
 use Rattle.cell.proofs.write.write_loop.Statement.{statement}
 use Rattle.cell.proofs.write.write_loop.Tie as tie
 
 abbrev Inv-loop : tie.InvT-loop
-Inv-loop c halves points n two area₀ at m i₀ k₀ area i k = (m ≡ manyBy n two) × Filling c halves points n two area₀ at area i k
+Inv-loop c halves points n two area₀ at m i₀ k₀ area i k = (m ≡ manyOf (shapeOf n two) n) × Filling c halves points n two area₀ at area i k
 
 abbrev μ-loop : tie.MeasureT-loop
 μ-loop c halves points n two area₀ at m i₀ k₀ area i k = m - k
 
 many-requires : tie.Need-many-requires Inv-loop μ-loop
-many-requires c κs = tt
+many-requires c κs = c .before .before .before .pre .1 .0
 
 loop-holds : tie.Need-loop-holds Inv-loop μ-loop
 loop-holds c = (c .many .ensures, filling-none _ _ _ _ _ _ _)
