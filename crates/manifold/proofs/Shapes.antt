@@ -113,7 +113,7 @@ module _ {C S T : Type 0} (make : C → C → C → S → S → S → T) (point 
       image sh k = triangleOf make′ (λ k. corner (point k)) (corner centre) (λ k. side (segment k)) (λ k. side (inner k)) n sh k
 
       go : (sh : Shape) (k : ℕ) → f (triangleOf make point centre segment inner n sh k) ≡ image sh k
-      go single k = e (point 0) (point 1) (point 2) (segment 0) (segment 1) (segment 2)
-      go double zero = e (point 0) (point 1) (point 2) (segment 0) (segment 1) (inner 0)
-      go double (suc k) = e (point 0) (point 2) (point 3) (inner 0) (segment 2) (segment 3)
-      go fan k = e (point k) (point (after n k)) centre (segment k) (inner (after n k)) (inner k)
+      go single k = e _ _ _ _ _ _
+      go double zero = e _ _ _ _ _ _
+      go double (suc k) = e _ _ _ _ _ _
+      go fan k = e _ _ _ _ _ _
