@@ -5,7 +5,8 @@ use mathlib.Core.List.{List, [], _∷_, _++_}
 use native.Mathlib.Omega.{arith}
 use native.Mathlib.Numerals.{add-one}
 use lib.ListN.{length, getD, drop, length-append, drop-of-length-le}
-use lib.Seq.{sets, drop-nil, drop-cons, drop-append-le, drop-append-add}
+use lib.Seq.{sets, length-sets, drop-nil, drop-cons, drop-append-le, drop-append-add}
+use Rattle.counting.proofs.Fronts.{sets-append}
 use Rattle.cell.specs.declared.Cell.{Cell}
 use Rattle.cell.specs.Cell.{crossings}
 use Rattle.cell.specs.Loop.{loopSize}
@@ -18,7 +19,7 @@ use Rattle.cell.specs.Words.{wordCount, allWords}
 use Rattle.cell.specs.Triangles.{edgesOf, loopTriangles, cellTriangles}
 use Rattle.cell.specs.Nth.{nthOf, nthNumbers, nthAnswer}
 use Rattle.cell.proofs.LoopTriangles.{Entry}
-use Rattle.cell.proofs.Storing.{Storing, storing-none, storing-more, storing-all}
+use Rattle.cell.proofs.Storing.{length-all, all-append}
 use Rattle.cell.proofs.Taken.{loop-few, cell-few}
 
 -- the least crossing of loop j
@@ -71,6 +72,34 @@ module _ {c : Cell} {j t : ℕ} (C : Counting c j t) where
 
     pub counting-more : (m : ℕ) → m ≡ length (loopTriangles c (least c j)) → Counting c (j + 1) (t + m)
     counting-more m e = record { is = omega (arith, next) }
+
+-- a run xs of n words, and what follows
+sets-then : (n j : ℕ) (xs ys l l₁ : List ℕ) (i : ℕ) → l₁ ≡ sets l i xs → length xs ≡ n → j ≡ i + n → sets l i (xs ++ ys) ≡ sets l₁ j ys
+sets-then n j xs ys l l₁ i e f g = sets-append l i xs ys ∙ rw (f, ← e, ← g)
+
+-- Of the triangles l, stored in out₀ from `at` on, those of `left` are not stored yet: they go from i on, into out.
+pub record Storing (l : List Triangle) (out₀ : List ℕ) (at : ℕ) (left : List Triangle) (out : List ℕ) (i : ℕ) : Type 0 where
+  pub same : length out ≡ length out₀
+  pub next : i + wordCount * length left ≡ at + wordCount * length l
+  pub is : sets out₀ at (allWords l) ≡ sets out i (allWords left)
+
+storing-none : (l : List Triangle) (out : List ℕ) (at : ℕ) → Storing l out at l out at
+storing-none l out at = record { same = refl; next = refl; is = refl }
+
+module _ {l : List Triangle} {out₀ : List ℕ} {at : ℕ} {left : List Triangle} {out : List ℕ} {i : ℕ} (S : Storing l out₀ at left out i) where
+  -- the first of what is left are stored
+  storing-more : (m rest : List Triangle) (out′ : List ℕ) (j : ℕ) → left ≡ m ++ rest → out′ ≡ sets out i (allWords m) → j ≡ i + wordCount * length m
+      → Storing l out₀ at rest out′ j
+  storing-more m rest out′ j e q h = record {
+    same = ap length q ∙ length-sets out i (allWords m) ∙ S .same;
+    next = omega (arith, S .next, ap length e, length-append m rest);
+    is = S .is ∙ ap (λ k. sets out i (allWords k)) e ∙ ap (sets out i) (all-append m rest)
+        ∙ sets-then (wordCount * length m) j (allWords m) (allWords rest) out out′ i q (length-all m) h;
+  }
+
+  storing-all : left ≡ [] → (out ≡ sets out₀ at (allWords l)) × (i ≡ at + wordCount * length l)
+  unfolding allWords
+  storing-all e = (sym (S .is ∙ ap (λ k. sets out i (allWords k)) e), omega (arith, S .next, ap length e))
 
 -- they are stored in out₀ from `at` on, which makes it out, and the next goes to i
 pub record Writing (c : Cell) (out₀ : List ℕ) (at : ℕ) (out : List ℕ) (j i : ℕ) : Type 0 where

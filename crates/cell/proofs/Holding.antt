@@ -1,12 +1,13 @@
 -- The record of a loop of a cell gives the loop's triangles.
 use Prim.Native.Nat.{ℕ, _/_, _<_}
-use mathlib.Core.Path.{_≡_, sym, ap, ap₂, _∙_}
+use mathlib.Core.Path.{_≡_, sym, ap, _∙_}
 use mathlib.Core.Bool.{Bool, true, _&&_}
 use mathlib.Core.List.{List}
 use native.Mathlib.Omega.{arith}
 use lib.Dec.{eqb}
 use lib.ListN.{length, getD}
 use Rattle.counting.specs.Range.{after}
+use Rattle.manifold.specs.Shape.{shapeOf, manyOf}
 use Rattle.cell.specs.declared.Cell.{Cell}
 use Rattle.cell.specs.Cell.{mate, slot}
 use Rattle.cell.specs.Loop.{dart}
@@ -14,7 +15,7 @@ use Rattle.cell.specs.Route.{startLimit}
 use Rattle.cell.specs.Round.{foldsIn}
 use Rattle.cell.proofs.Loops.{from-lt, from-slot, from-point, normal-is}
 use Rattle.cell.proofs.Reading.{Looped, looped-halves, looped-points}
-use Rattle.cell.specs.Triangles.{edgesOf, numberOf, manyBy, inTwo, loopTriangles}
+use Rattle.cell.specs.Triangles.{edgesOf, numberOf, loopTriangles}
 use Rattle.cell.specs.Traced.{RecordedLoop, tracedTriangles}
 use Rattle.cell.proofs.LoopTriangles.{length-traced}
 use Rattle.cell.proofs.Taken.{two-four, dart-leads, traced-loop}
@@ -39,15 +40,13 @@ module _ {c : Cell} {p n : ℕ} {halves points : List ℕ} (L : Looped c p n hal
   leads k h = dart-leads c p (L .inside) k (omega (arith, L .size)) ∙ ap (λ m. dart (edgesOf c) p (after m k) / 2) (sym (L .size))
 
   module _ {two : Bool} (is : two ≡ (eqb n 4 && eqb (foldsIn halves) 0)) where
-    pub looped-two : two ≡ inTwo c p
-    unfolding inTwo
-    looped-two = is ∙ ap₂ (λ m b. eqb m 4 && b) (L .size) (ap (λ l. eqb (foldsIn l) 0) (L .halves-are) ∙ sym (normal-is c p (L .inside)))
-
     pub looped-four : two ≡ true → n ≡ 4
-    looped-four e = L .size ∙ two-four c p (sym looped-two ∙ e)
+    looped-four = two-four n two (eqb (foldsIn halves) 0) is
 
     pub looped-loop : tracedTriangles c halves points n two ≡ loopTriangles c p
-    looped-loop = traced-loop c p halves points n (L .size) slots numbers leads two looped-two
+    looped-loop =
+        traced-loop c p halves points n (L .size) slots numbers leads two
+        (is ∙ ap (λ b. eqb n 4 && b) (ap (λ l. eqb (foldsIn l) 0) (L .halves-are) ∙ sym (normal-is c p (L .inside))))
 
-    pub looped-many : manyBy n two ≡ length (loopTriangles c p)
+    pub looped-many : manyOf (shapeOf n two) n ≡ length (loopTriangles c p)
     looped-many = sym (length-traced c halves points n two) ∙ ap length looped-loop

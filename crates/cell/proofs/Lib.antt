@@ -23,7 +23,6 @@ pub mod Examples
 pub mod Polygons
 pub mod Storing
 pub mod LoopTriangles
-pub mod Filling
 pub mod Taken
 pub mod Holding
 pub mod Cells

@@ -2,12 +2,9 @@
 use Prim.Native.Nat.{ℕ, zero, suc, _≤_, _<_}
 use mathlib.Core.Path.{_≡_, refl, _∙_}
 use mathlib.Core.Logic.{_≢_}
-use mathlib.Core.Bool.{Bool, true, false, _&&_}
-use mathlib.Core.List.{[], _∷_, map}
+use mathlib.Core.List.{map}
 use native.Mathlib.Omega.{arith}
 use native.Mathlib.Decide.{decLt}
-use lib.Dec.{eqb}
-use Rattle.counting.specs.Pick.{pick}
 use Rattle.counting.specs.Range.{over}
 use Rattle.counting.proofs.Range.{over-ext}
 use Rattle.counting.proofs.Lists.{map-over}
@@ -16,17 +13,20 @@ use Rattle.cell.specs.declared.Cell.{Cell}
 use Rattle.cell.specs.Cell.{crossings, slot, step}
 use Rattle.cell.specs.Loop.{loopSize, dart, normal}
 use Rattle.cell.proofs.Mates.{slot-has, ports}
-use Rattle.manifold.specs.Triangle.{cornerOf, sideOf}
+use Rattle.manifold.specs.Shape.{shapeOf}
+use Rattle.manifold.specs.Triangle.{tri, cornerOf, sideOf}
 use Rattle.manifold.specs.Polygon as manifold
-use Rattle.manifold.specs.Polygon.{fan, shapeBy, shape, Simple}
+use Rattle.manifold.specs.Polygon.{Simple}
 use Rattle.manifold.specs.Piece.{Piece, dart as dartOf, sizeOf}
 use Rattle.manifold.specs.Claims.{PolygonLaws}
+use Rattle.manifold.proofs.Shapes.{map-triangles}
 use Rattle.manifold.proofs.Piece.{Listed, dart-once, dart-lt, segment-once, size-ne}
 use Rattle.manifold.proofs.Claims.{polygonLaws}
+use Rattle.cell.specs.declared.Corner.the-variants.{Middle}
+use Rattle.cell.specs.declared.Side.the-variants.{Inner}
 use Rattle.cell.specs.declared.Triangle.{Triangle}
-use Rattle.cell.specs.Names.{cornerAt, sideAt}
-use Rattle.cell.specs.Triangles as triangles
-use Rattle.cell.specs.Triangles.{edgesOf, numberOf, segmentOf, point, segment, triangle, spoke, trianglesBy, inTwo, loopTriangles, cellTriangles}
+use Rattle.cell.specs.Names.{cornerName, sideName, cornerAt, sideAt}
+use Rattle.cell.specs.Triangles.{edgesOf, numberOf, segmentOf, point, segment, triangle, loopTriangles, cellTriangles}
 pub use Rattle.cell.specs.Polygons.{localOf, polygonOf, named}
 use Rattle.cell.specs.Polygons.{Apart}
 
@@ -40,36 +40,11 @@ side-named t zero = refl
 side-named t (suc zero) = refl
 side-named t (suc (suc i)) = refl
 
-module _ (c : Cell) (p : ℕ) where
-  whole-named : map named (triangles.whole (c .index) (numberOf c p) (point c p) (segment c p) ∷ [])
-      ≡ over (λ k. manifold.triangle (polygonOf c p) manifold.single k ∷ []) 1 0
-  unfolding triangles.whole point segment segmentOf slot step dart triangle over
-  whole-named = refl
-
-  halves-named : map named (triangles.half0 (c .index) (numberOf c p) (point c p) (segment c p) ∷ triangles.half1 (c .index) (numberOf c p) (point c p) (segment c p) ∷ [])
-      ≡ over (λ k. manifold.triangle (polygonOf c p) manifold.double k ∷ []) 2 0
-  unfolding triangles.half0 triangles.half1 point segment segmentOf slot step dart triangle over
-  halves-named = refl
-
-  fan-named : map named (triangles.fan (c .index) (numberOf c p) (point c p) (segment c p) (loopSize (edgesOf c) p))
-      ≡ over (λ k. manifold.triangle (polygonOf c p) fan k ∷ []) (loopSize (edgesOf c) p) 0
-  unfolding triangles.fan spoke point segment segmentOf slot step dart triangle loopSize
-  fan-named = map-over named (λ k. spoke (c .index) (numberOf c p) (point c p) (segment c p) (loopSize (edgesOf c) p) k ∷ []) (loopSize (edgesOf c) p) 0
-
-  pub loop-named : map named (loopTriangles c p) ≡ manifold.triangles (polygonOf c p)
-  unfolding loopTriangles trianglesBy inTwo manifold.triangles shape loopSize step
-  loop-named = go (eqb (loopSize (edgesOf c) p) 3) (eqb (loopSize (edgesOf c) p) 4) (normal (edgesOf c) p)
-    where
-      go : (x y z : Bool)
-          → map named (pick x (triangles.whole (c .index) (numberOf c p) (point c p) (segment c p) ∷ [])
-          (pick (y && z)
-          (triangles.half0 (c .index) (numberOf c p) (point c p) (segment c p) ∷ triangles.half1 (c .index) (numberOf c p) (point c p) (segment c p) ∷ [])
-          (triangles.fan (c .index) (numberOf c p) (point c p) (segment c p) (loopSize (edgesOf c) p))))
-          ≡ over (λ k. manifold.triangle (polygonOf c p) (shapeBy x y z) k ∷ []) (manifold.many (polygonOf c p) (shapeBy x y z)) 0
-      go true y z = whole-named
-      go false true true = halves-named
-      go false true false = fan-named
-      go false false z = fan-named
+pub loop-named : (c : Cell) (p : ℕ) → map named (loopTriangles c p) ≡ manifold.triangles (polygonOf c p)
+unfolding loopTriangles triangle point segment segmentOf slot step dart loopSize manifold.triangles manifold.shape
+loop-named c p =
+    map-triangles (triangle (c .index) (numberOf c p)) (point c p) Middle (segment c p) Inner (loopSize (edgesOf c) p)
+    named (cornerName (c .index) (numberOf c p)) (sideName (c .index) (numberOf c p)) tri (λ x y z r s t. refl) (shapeOf (loopSize (edgesOf c) p) (normal (edgesOf c) p))
 
 -- the triangles of a cell are those of the polygons of its loops
 pub cell-named : (c : Cell) → map named (cellTriangles c) ≡ over (λ p. manifold.triangles (polygonOf c p)) (crossings (edgesOf c)) 0

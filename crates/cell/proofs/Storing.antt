@@ -1,19 +1,18 @@
--- Words that are stored one run after the other.
-use Prim.Native.Nat.{ℕ, _+_, _*_}
+-- The words of triangles, and how they are stored one after the other.
+use Prim.Native.Nat.{ℕ, zero, suc, _+_, _*_}
 use mathlib.Core.Path.{_≡_, refl, sym, ap, _∙_}
-use mathlib.Core.List.{List, [], _∷_, _++_, append-assoc, append-nil}
+use mathlib.Core.List.{List, [], _∷_, _++_, append-assoc}
 use native.Mathlib.Omega.{arith}
 use lib.ListN.{length, getD, length-append}
-use lib.Seq.{sets, length-sets}
-use Rattle.counting.proofs.Fronts.{sets-append}
+use lib.Seq.{sets}
+use Rattle.counting.specs.Range.{over, values}
+use Rattle.counting.specs.Stored.{Stored}
+use Rattle.counting.proofs.Lists.{length-singles}
+use Rattle.counting.proofs.Stored.{stored-none, stored-then, stored-more}
 use Rattle.cell.specs.declared.Side.{Side}
 use Rattle.cell.specs.declared.Side.the-variants.{Segment, Inner}
 use Rattle.cell.specs.declared.Triangle.{Triangle}
 use Rattle.cell.specs.Words.{wordCount, sideWords, cornerWords, words, allWords}
-
--- a run xs of n words, and what follows
-sets-then : (n j : ℕ) (xs ys l l₁ : List ℕ) (i : ℕ) → l₁ ≡ sets l i xs → length xs ≡ n → j ≡ i + n → sets l i (xs ++ ys) ≡ sets l₁ j ys
-sets-then n j xs ys l l₁ i e f g = sets-append l i xs ys ∙ rw (f, ← e, ← g)
 
 pub side-two : (s : Side) → length (sideWords s) ≡ 2
 side-two (Segment f g) = refl
@@ -35,12 +34,11 @@ module _ (t : Triangle) (at : ℕ) (l : List ℕ) where
       → l₅ ≡ sets l at (words t)
   unfolding words cornerWords
   put-all l₁ l₂ l₃ l₄ l₅ a b c d e =
-      e ∙ sym (
-      sets-then 2 (at + 2) (t .cell ∷ t .p0 ∷ []) (cornerWords t ++ (sideWords (t .side0) ++ (sideWords (t .side1) ++ sideWords (t .side2)))) l l₁ at a refl refl
-      ∙ sets-then 3 (at + 5) (cornerWords t) (sideWords (t .side0) ++ (sideWords (t .side1) ++ sideWords (t .side2))) l₁ l₂ (at + 2) b refl (omega arith)
-      ∙ sets-then 2 (at + 7) (sideWords (t .side0)) (sideWords (t .side1) ++ sideWords (t .side2)) l₂ l₃ (at + 5) c (side-two (t .side0)) (omega arith)
-      ∙ sets-then 2 (at + 9) (sideWords (t .side1)) (sideWords (t .side2)) l₃ l₄ (at + 7) d (side-two (t .side1)) (omega arith)
-      )
+      let p : Stored l at (t .cell ∷ t .p0 ∷ []) l₁ (at + 2) = record { area = a; after = refl } in
+      let q : Stored l₁ (at + 2) (cornerWords t) l₂ (at + 5) = record { area = b; after = omega arith } in
+      let r : Stored l₂ (at + 5) (sideWords (t .side0)) l₃ (at + 7) = record { area = c; after = omega (arith, side-two (t .side0)) } in
+      let s : Stored l₃ (at + 7) (sideWords (t .side1)) l₄ (at + 9) = record { area = d; after = omega (arith, side-two (t .side1)) } in
+      stored-then p (stored-then q (stored-then r (stored-then s (record { area = e; after = refl })))) .area
 
 pub length-words : (t : Triangle) → length (words t) ≡ wordCount
 unfolding words cornerWords
@@ -57,31 +55,28 @@ unfolding allWords
 all-append [] m = refl
 all-append (t ∷ l) m = ap (λ w. words t ++ w) (all-append l m) ∙ sym (append-assoc (words t) (allWords l) (allWords m))
 
--- Of the triangles l, stored in out₀ from `at` on, those of `left` are not stored yet: they go from i on, into out.
-pub record Storing (l : List Triangle) (out₀ : List ℕ) (at : ℕ) (left : List Triangle) (out : List ℕ) (i : ℕ) : Type 0 where
-  pub same : length out ≡ length out₀
-  pub next : i + wordCount * length left ≡ at + wordCount * length l
-  pub is : sets out₀ at (allWords l) ≡ sets out i (allWords left)
+-- triangles one by one
+words-over : (t : ℕ → Triangle) (n p : ℕ) → over (λ k. words (t k)) n p ≡ allWords (over (λ k. t k ∷ []) n p)
+unfolding over allWords
+words-over t zero p = refl
+words-over t (suc n) p = ap (λ l. words (t p) ++ l) (words-over t n (suc p))
 
-pub storing-none : (l : List Triangle) (out : List ℕ) (at : ℕ) → Storing l out at l out at
-storing-none l out at = record { same = refl; next = refl; is = refl }
+-- the first k triangles of t are stored in `was` from `at` on, which makes it `is`, and the next goes to i
+pub record Run (t : ℕ → Triangle) (k : ℕ) (was : List ℕ) (at : ℕ) (is : List ℕ) (i : ℕ) : Type 0 where
+  pub stored : Stored was at (over (λ k. words (t k)) k 0) is i
 
-module _ {l : List Triangle} {out₀ : List ℕ} {at : ℕ} {left : List Triangle} {out : List ℕ} {i : ℕ} (S : Storing l out₀ at left out i) where
-  -- the first of what is left are stored
-  pub storing-more : (m rest : List Triangle) (out′ : List ℕ) (j : ℕ) → left ≡ m ++ rest → out′ ≡ sets out i (allWords m) → j ≡ i + wordCount * length m
-      → Storing l out₀ at rest out′ j
-  storing-more m rest out′ j e q h = record {
-    same = ap length q ∙ length-sets out i (allWords m) ∙ S .same;
-    next = omega (arith, S .next, ap length e, length-append m rest);
-    is = S .is ∙ ap (λ k. sets out i (allWords k)) e ∙ ap (sets out i) (all-append m rest)
-        ∙ sets-then (wordCount * length m) j (allWords m) (allWords rest) out out′ i q (length-all m) h;
+pub run-none : (t : ℕ → Triangle) (was : List ℕ) (at : ℕ) → Run t 0 was at was at
+unfolding over
+run-none t was at = record { stored = stored-none was at }
+
+module _ {t : ℕ → Triangle} {k : ℕ} {was : List ℕ} {at : ℕ} {is : List ℕ} {i : ℕ} (R : Run t k was at is i) where
+  pub run-place : i ≡ at + wordCount * k
+  run-place = omega (arith, R .stored .after, ap length (words-over t k 0), length-all (values t k), length-singles t k 0)
+
+  pub run-more : {is′ : List ℕ} {v : Triangle} → v ≡ t k → is′ ≡ sets is i (words v) → Run t (k + 1) was at is′ (i + wordCount)
+  run-more e q = record {
+    stored = stored-more (λ k. words (t k)) k (R .stored) (record { area = q ∙ ap (λ v. sets is i (words v)) e; after = omega (arith, length-words (t k)) });
   }
 
-  pub storing-one : (t : Triangle) (rest : List Triangle) (out′ : List ℕ) (j : ℕ) → left ≡ t ∷ rest → out′ ≡ sets out i (words t) → j ≡ i + wordCount
-      → Storing l out₀ at rest out′ j
-  unfolding allWords
-  storing-one t rest out′ j e q h = storing-more (t ∷ []) rest out′ j e (q ∙ ap (sets out i) (sym (append-nil (words t)))) h
-
-  pub storing-all : left ≡ [] → (out ≡ sets out₀ at (allWords l)) × (i ≡ at + wordCount * length l)
-  unfolding allWords
-  storing-all e = (sym (S .is ∙ ap (λ k. sets out i (allWords k)) e), omega (arith, S .next, ap length e))
+  pub run-all : (n : ℕ) → k ≡ n → is ≡ sets was at (allWords (values t n))
+  run-all n e = rw (← e) (R .stored .area ∙ ap (sets was at) (words-over t k 0))

@@ -1,7 +1,7 @@
 -- What is recorded of a loop of a cell gives the loop's triangles.
 use Prim.Native.Nat.{ℕ, _*_, _/_, _≤_, _<_}
-use mathlib.Core.Path.{_≡_, sym, ap, ap₂, _∙_, subst}
-use mathlib.Core.Bool.{Bool, true}
+use mathlib.Core.Path.{_≡_, sym, ap, _∙_, subst}
+use mathlib.Core.Bool.{Bool, true, _&&_}
 use mathlib.Core.List.{List}
 use native.Mathlib.Omega.{arith}
 use lib.Dec.{eqb}
@@ -10,6 +10,8 @@ use borrow.Author.Tests.{eqb-true}
 use Rattle.counting.specs.Range.{total, after}
 use Rattle.counting.proofs.Bools.{and-left}
 use Rattle.counting.proofs.Range.{after-lt, length-over, total-mono}
+use Rattle.manifold.specs.Shape.{Shape, shapeOf, manyOf, trianglesOf}
+use Rattle.manifold.proofs.Shapes.{shape-two, fits, many-le, length-triangles, triangles-ext}
 use Rattle.walk.specs.Iterate.{it}
 use Rattle.walk.specs.Step as steps
 use Rattle.walk.proofs.Step.{live, land-half}
@@ -18,45 +20,54 @@ use Rattle.cell.specs.Cell.{Edges, crossings, first, second, mate, slot,
 use Rattle.cell.proofs.Mates.{ports}
 use Rattle.cell.proofs.Loops.{sizes, dart-live, dart-after}
 use Rattle.cell.specs.Loop.{loopSize, dart, normal}
-use Rattle.cell.specs.declared.Corner.the-variants.{Crossing}
-use Rattle.cell.specs.Triangles.{trianglesBy, manyBy, edgesOf, numberOf, segmentOf, point, segment, inTwo, loopTriangles, cellTriangles}
+use Rattle.cell.specs.declared.Corner.the-variants.{Crossing, Middle}
+use Rattle.cell.specs.declared.Side.the-variants.{Inner}
+use Rattle.cell.specs.Triangles.{triangle, edgesOf, numberOf, segmentOf, point, segment, loopTriangles, cellTriangles}
 use Rattle.cell.specs.Traced.{pointAt, segmentAt, tracedTriangles}
-use Rattle.cell.proofs.LoopTriangles.{by-ext, length-by, many-le}
+
+-- n is 4 where the code says that a loop is in two triangles
+pub two-four : (n : ℕ) (two b : Bool) → two ≡ (eqb n 4 && b) → two ≡ true → n ≡ 4
+two-four n two b e t = eqb-true n 4 (and-left (eqb n 4) b (sym e ∙ t))
 
 module _ (c : Cell) (p : ℕ) where
-  pub two-four : inTwo c p ≡ true → loopSize (edgesOf c) p ≡ 4
-  unfolding inTwo
-  two-four e = eqb-true (loopSize (edgesOf c) p) 4 (and-left (eqb (loopSize (edgesOf c) p) 4) (normal (edgesOf c) p) e)
+  abbrev n : ℕ
+  n = loopSize (edgesOf c) p
 
-  pub length-loop : length (loopTriangles c p) ≡ manyBy (loopSize (edgesOf c) p) (inTwo c p)
+  abbrev sh : Shape
+  sh = shapeOf n (normal (edgesOf c) p)
+
+  pub length-loop : length (loopTriangles c p) ≡ manyOf sh n
   unfolding loopTriangles
-  length-loop = length-by (c .index) (numberOf c p) (point c p) (segment c p) (loopSize (edgesOf c) p) (inTwo c p)
+  length-loop = length-triangles (triangle (c .index) (numberOf c p)) (point c p) Middle (segment c p) Inner n sh
 
-  pub loop-few : length (loopTriangles c p) ≤ loopSize (edgesOf c) p
-  loop-few = omega (arith, length-loop, many-le (loopSize (edgesOf c) p) (inTwo c p) two-four)
+  pub loop-few : length (loopTriangles c p) ≤ n
+  loop-few = omega (arith, length-loop, many-le sh n (fits n (normal (edgesOf c) p)))
 
   first-point : numberOf c (dart (edgesOf c) p 0 / 2) ≡ numberOf c p
   unfolding dart it
   first-point = let e : 2 * p / 2 ≡ p = omega arith in ap (numberOf c) e
 
   -- the slots and crossing numbers of the loop's darts are recorded, and each dart leads to the next point
-  module _ (halves points : List ℕ) (n : ℕ) (size : n ≡ loopSize (edgesOf c) p)
-      (slots : (k : ℕ) → k < n → getD halves k 0 / 3 ≡ slot (edgesOf c) (dart (edgesOf c) p k))
-      (numbers : (k : ℕ) → k < n → getD points k 0 ≡ numberOf c (dart (edgesOf c) p k / 2))
-      (leads : (k : ℕ) → k < n → mate (edgesOf c) (slot (edgesOf c) (dart (edgesOf c) p k)) (dart (edgesOf c) p k / 2) ≡ dart (edgesOf c) p (after n k) / 2) where
-    traced-point : (k : ℕ) → k < n → pointAt points k ≡ point c p k
+  module _ (halves points : List ℕ) (m : ℕ) (size : m ≡ loopSize (edgesOf c) p)
+      (slots : (k : ℕ) → k < m → getD halves k 0 / 3 ≡ slot (edgesOf c) (dart (edgesOf c) p k))
+      (numbers : (k : ℕ) → k < m → getD points k 0 ≡ numberOf c (dart (edgesOf c) p k / 2))
+      (leads : (k : ℕ) → k < m → mate (edgesOf c) (slot (edgesOf c) (dart (edgesOf c) p k)) (dart (edgesOf c) p k / 2) ≡ dart (edgesOf c) p (after m k) / 2) where
+    traced-point : (k : ℕ) → k < m → pointAt points k ≡ point c p k
     unfolding point
     traced-point k l = ap Crossing (numbers k l)
 
-    traced-segment : (k : ℕ) → k < n → segmentAt c halves points n k ≡ segment c p k
+    traced-segment : (k : ℕ) → k < m → segmentAt c halves points m k ≡ segment c p k
     unfolding segmentAt segment segmentOf
-    traced-segment k l = rw (slots k l, numbers k l, numbers (after n k) (after-lt n k l), leads k l)
+    traced-segment k l = rw (slots k l, numbers k l, numbers (after m k) (after-lt m k l), leads k l)
 
-    pub traced-loop : (two : Bool) → two ≡ inTwo c p → tracedTriangles c halves points n two ≡ loopTriangles c p
+    pub traced-loop : (two : Bool) → two ≡ (eqb m 4 && normal (edgesOf c) p) → tracedTriangles c halves points m two ≡ loopTriangles c p
     unfolding tracedTriangles loopTriangles
     traced-loop two e =
-        by-ext (c .index) n two (λ t. size ∙ two-four (sym e ∙ t)) (λ l. numbers 0 l ∙ first-point) traced-point traced-segment
-        ∙ ap₂ (λ m t. trianglesBy (c .index) (numberOf c p) (point c p) (segment c p) m t) size e
+        triangles-ext (triangle (c .index) (getD points 0 0)) (pointAt points) Middle (segmentAt c halves points m) Inner m
+        (triangle (c .index) (numberOf c p)) (point c p) (segment c p) (λ l. ap (triangle (c .index)) (numbers 0 l ∙ first-point)) traced-point traced-segment
+        (shapeOf m two) (fits m two)
+        ∙ ap (λ q. trianglesOf (triangle (c .index) (numberOf c p)) (point c p) Middle (segment c p) Inner m q) (ap (shapeOf m) e ∙ shape-two m (normal (edgesOf c) p))
+        ∙ ap (λ k. trianglesOf (triangle (c .index) (numberOf c p)) (point c p) Middle (segment c p) Inner k (shapeOf k (normal (edgesOf c) p))) size
 
 -- each dart of a loop leads to its next point, the last back to the first
 module _ (c : Cell) (p : ℕ) (l : p < crossings (edgesOf c)) where

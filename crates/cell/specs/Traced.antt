@@ -6,17 +6,18 @@ use mathlib.Core.Bool.{Bool}
 use mathlib.Core.List.{List}
 use lib.ListN.{length, getD}
 use Rattle.counting.specs.Range.{after}
+use Rattle.manifold.specs.Shape.{Shape, shapeOf, triangleOf, trianglesOf}
 use Rattle.cell.specs.declared.Cell.{Cell}
 use Rattle.cell.specs.Cell.{crossings}
 use Rattle.cell.specs.Half.{halfEdges}
 use Rattle.cell.specs.Route.{mostInCell, startLimit}
 use Rattle.cell.specs.Trace.{leastsOf, From}
 use Rattle.cell.specs.declared.Corner.{Corner}
-use Rattle.cell.specs.declared.Corner.the-variants.{Crossing}
+use Rattle.cell.specs.declared.Corner.the-variants.{Crossing, Middle}
 use Rattle.cell.specs.declared.Side.{Side}
-use Rattle.cell.specs.declared.Side.the-variants.{Segment}
+use Rattle.cell.specs.declared.Side.the-variants.{Segment, Inner}
 use Rattle.cell.specs.declared.Triangle.{Triangle}
-use Rattle.cell.specs.Triangles.{edgesOf, trianglesBy}
+use Rattle.cell.specs.Triangles.{edgesOf, triangle}
 
 -- a loop of n is recorded
 pub record RecordedLoop (halves points : List ℕ) (n : ℕ) : Type 0 where
@@ -39,6 +40,9 @@ module _ (c : Cell) (halves points : List ℕ) (n : ℕ) where
   unfoldable pub segmentAt : ℕ → Side
   segmentAt k = Segment (getD (c .names) (getD halves k 0 / 3) 0) (min (getD points k 0) (getD points (after n k) 0))
 
+  -- its triangle k in a shape, and all its triangles; `two` says that n is 4 and the loop normal
+  unfoldable pub tracedTriangle : Shape → ℕ → Triangle
+  tracedTriangle sh k = triangleOf (triangle (c .index) (getD points 0 0)) (pointAt points) Middle segmentAt Inner n sh k
+
   unfoldable pub tracedTriangles : Bool → List Triangle
-  unfolding trianglesBy segmentAt
-  tracedTriangles two = trianglesBy (c .index) (getD points 0 0) (pointAt points) segmentAt n two
+  tracedTriangles two = trianglesOf (triangle (c .index) (getD points 0 0)) (pointAt points) Middle segmentAt Inner n (shapeOf n two)

@@ -6,16 +6,17 @@ use lib.ListN.{length}
 use Rattle.counting.specs.Range.{total}
 use Rattle.cell.specs.declared.Cell.{Cell}
 use Rattle.cell.specs.Cell.{crossings}
-use Rattle.cell.specs.Loop.{loopSize}
+use Rattle.cell.specs.Loop.{loopSize, normal}
+use Rattle.manifold.specs.Shape.{shapeOf, manyOf}
 use Rattle.manifold.specs.Polygon.{triangles}
 use Rattle.manifold.specs.Claims.{PolygonLaws}
 use Rattle.cell.specs.Words.{wordCount, allWords}
-use Rattle.cell.specs.Triangles.{edgesOf, manyBy, inTwo, loopTriangles, cellTriangles}
+use Rattle.cell.specs.Triangles.{edgesOf, loopTriangles, cellTriangles}
 use Rattle.cell.specs.Polygons.{polygonOf, named, Apart}
 
 pub record TriangleLaws (c : Cell) : Type 0 where
   -- a loop gives 1, 2 or n triangles, and at most n
-  pub many : (p : ℕ) → length (loopTriangles c p) ≡ manyBy (loopSize (edgesOf c) p) (inTwo c p)
+  pub many : (p : ℕ) → length (loopTriangles c p) ≡ manyOf (shapeOf (loopSize (edgesOf c) p) (normal (edgesOf c) p)) (loopSize (edgesOf c) p)
   pub loop-few : (p : ℕ) → length (loopTriangles c p) ≤ loopSize (edgesOf c) p
   -- a cell gives those of its loops together, and at most as many as it has crossings
   pub sum : length (cellTriangles c) ≡ total (λ p. length (loopTriangles c p)) (crossings (edgesOf c)) 0

@@ -4,12 +4,10 @@ ghost use mathlib.Core.Bool.{true, _&&_};
 ghost use lib.Dec.{eqb};
 ghost use Rattle.cell.specs.Route.{startLimit};
 ghost use Rattle.cell.specs.Round.{foldsIn};
-ghost use mathlib.Core.List.{_∷_};
-ghost use Prim.Native.Nat.{suc, _<_, min};
-ghost use lib.ListN.{getD, drop};
+ghost use Prim.Native.Nat.{_<_, min};
 ghost use Rattle.counting.specs.Range.{after};
-ghost use Rattle.cell.specs.Triangles.{whole, half0, half1, spoke, manyBy};
-ghost use Rattle.cell.specs.Traced.{RecordedLoop, pointAt, segmentAt, tracedTriangles};
+ghost use Rattle.manifold.specs.Shape.{single, double, fan, shapeOf, manyOf};
+ghost use Rattle.cell.specs.Traced.{RecordedLoop, segmentAt, tracedTriangle};
 use super::Cell;
 use super::Corner;
 use super::Side;
@@ -62,7 +60,7 @@ fn segment_at(c: Cell, halves: &[u8], points: &[u32], n: usize, k: usize) -> Sid
 // The triangle of a loop of three.
 fn whole_of(c: Cell, halves: &[u8], points: &[u32]) -> Triangle
     requires { ⌜ RecordedLoop (now halves) (now points) 3 ⌝ }
-    ensures { λ r. ⌜ r ≡ whole (c .index) (getD (now (points .entry)) 0 0) (pointAt (now (points .entry))) (segmentAt c (now (halves .entry)) (now (points .entry)) 3) ⌝ }
+    ensures { λ r. ⌜ r ≡ tracedTriangle c (now (halves .entry)) (now (points .entry)) 3 single 0 ⌝ }
 {
     let r = segment_at(c, halves, points, 3, 0);
     let s = segment_at(c, halves, points, 3, 1);
@@ -82,7 +80,7 @@ fn whole_of(c: Cell, halves: &[u8], points: &[u32]) -> Triangle
 // The two triangles of a normal loop of four.
 fn half0_of(c: Cell, halves: &[u8], points: &[u32]) -> Triangle
     requires { ⌜ RecordedLoop (now halves) (now points) 4 ⌝ }
-    ensures { λ r. ⌜ r ≡ half0 (c .index) (getD (now (points .entry)) 0 0) (pointAt (now (points .entry))) (segmentAt c (now (halves .entry)) (now (points .entry)) 4) ⌝ }
+    ensures { λ r. ⌜ r ≡ tracedTriangle c (now (halves .entry)) (now (points .entry)) 4 double 0 ⌝ }
 {
     let r = segment_at(c, halves, points, 4, 0);
     let s = segment_at(c, halves, points, 4, 1);
@@ -100,7 +98,7 @@ fn half0_of(c: Cell, halves: &[u8], points: &[u32]) -> Triangle
 
 fn half1_of(c: Cell, halves: &[u8], points: &[u32]) -> Triangle
     requires { ⌜ RecordedLoop (now halves) (now points) 4 ⌝ }
-    ensures { λ r. ⌜ r ≡ half1 (c .index) (getD (now (points .entry)) 0 0) (pointAt (now (points .entry))) (segmentAt c (now (halves .entry)) (now (points .entry)) 4) ⌝ }
+    ensures { λ r. ⌜ r ≡ tracedTriangle c (now (halves .entry)) (now (points .entry)) 4 double 1 ⌝ }
 {
     let s = segment_at(c, halves, points, 4, 2);
     let t = segment_at(c, halves, points, 4, 3);
@@ -120,7 +118,7 @@ fn half1_of(c: Cell, halves: &[u8], points: &[u32]) -> Triangle
 fn spoke_of(c: Cell, halves: &[u8], points: &[u32], n: usize, k: usize) -> Triangle
     requires { ⌜ RecordedLoop (now halves) (now points) n ⌝ }
     requires { ⌜ k < n ⌝ }
-    ensures { λ r. ⌜ r ≡ spoke (c .index) (getD (now (points .entry)) 0 0) (pointAt (now (points .entry))) (segmentAt c (now (halves .entry)) (now (points .entry)) n) n k ⌝ }
+    ensures { λ r. ⌜ r ≡ tracedTriangle c (now (halves .entry)) (now (points .entry)) n fan k ⌝ }
 {
     let s = segment_at(c, halves, points, n, k);
     let j = after_of(n, k);
@@ -146,9 +144,10 @@ pub(crate) fn in_two(halves: &[u8], n: usize) -> bool
     false
 }
 
-// How many triangles a loop of n gives; `two` says that it is in two.
+// How many triangles a loop of n gives; `two` says that n is 4 and the loop normal.
 pub(crate) fn many(n: usize, two: bool) -> usize
-    ensures { λ r. ⌜ r ≡ manyBy n two ⌝ }
+    requires { ⌜ (two ≡ true → n ≡ 4) ⌝ }
+    ensures { λ r. ⌜ r ≡ manyOf (shapeOf n two) n ⌝ }
 {
     if n == 3 {
         return 1;
@@ -167,8 +166,8 @@ pub(crate) fn triangle_of(
 ) -> Triangle
     requires { ⌜ RecordedLoop (now halves) (now points) n ⌝ }
     requires { ⌜ (two ≡ true → n ≡ 4) ⌝ }
-    requires { ⌜ k < manyBy n two ⌝ }
-    ensures { λ r. ⌜ drop k (tracedTriangles c (now (halves .entry)) (now (points .entry)) n two) ≡ r ∷ drop (suc k) (tracedTriangles c (now (halves .entry)) (now (points .entry)) n two) ⌝ }
+    requires { ⌜ k < manyOf (shapeOf n two) n ⌝ }
+    ensures { λ r. ⌜ r ≡ tracedTriangle c (now (halves .entry)) (now (points .entry)) n (shapeOf n two) k ⌝ }
 {
     if n == 3 {
         return whole_of(c, halves, points);

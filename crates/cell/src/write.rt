@@ -5,7 +5,7 @@ ghost use Prim.Native.Nat.{_+_, _*_, _≤_};
 ghost use lib.ListN.{length};
 ghost use lib.Seq.{sets};
 ghost use Rattle.cell.specs.Words.{wordCount, allWords};
-ghost use Rattle.cell.specs.Triangles.{manyBy};
+ghost use Rattle.manifold.specs.Shape.{shapeOf, manyOf};
 ghost use Rattle.cell.specs.Traced.{RecordedLoop, tracedTriangles};
 use super::Cell;
 use super::make::many;
@@ -25,8 +25,8 @@ pub(crate) fn write_loop(
 ) -> usize
     requires { ⌜ RecordedLoop (now halves) (now points) n ⌝ }
     requires { ⌜ (two ≡ true → n ≡ 4) ⌝ }
-    requires { ⌜ at + wordCount * manyBy n two ≤ length (now area) ⌝ }
-    ensures { λ r. ⌜ (r ≡ at + wordCount * manyBy n two) × (now (area .exit) ≡ sets (now (area .entry)) at (allWords (tracedTriangles c (now (halves .entry)) (now (points .entry)) n two))) ⌝ }
+    requires { ⌜ at + wordCount * manyOf (shapeOf n two) n ≤ length (now area) ⌝ }
+    ensures { λ r. ⌜ (r ≡ at + wordCount * manyOf (shapeOf n two) n) × (now (area .exit) ≡ sets (now (area .entry)) at (allWords (tracedTriangles c (now (halves .entry)) (now (points .entry)) n two))) ⌝ }
 {
     let m = many(n, two);
     let mut i = at;

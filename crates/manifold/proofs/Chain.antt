@@ -219,7 +219,7 @@ module _ (G : Polygon) where
         through (suc (suc i)) a b = absurd (omega arith)
 
     pub at-point : (k : ℕ) → k < G .n → AtPoint G k
-    at-point k l = ⊎-elim (from-one k) (from-two k) (table (shape G) (fits G h) k l)
+    at-point k l = ⊎-elim (from-one k) (from-two k) (table (shape G) (fits G) k l)
 
     -- the ring round the middle
     pub fan-ring : shape G ≡ fan → 2 ≤ G .n → OneRing (triangles G) (centre G)

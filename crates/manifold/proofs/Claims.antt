@@ -43,7 +43,7 @@ polygonLaws G two D = record {
       );
   point = at-point G ne D;
   ring = λ is. fan-ring G ne D is two;
-  few = omega (arith, triangles-length G, many-le (shape G) (G .n) (fits G ne));
+  few = omega (arith, triangles-length G, many-le (shape G) (G .n) (fits G));
 }
   where
     ne : G .n ≢ 1
@@ -56,7 +56,7 @@ polygonLaws G two D = record {
 
     count : (σ : Side) → tally (hasSide σ) (triangles G)
         ≡ total (λ k. one (same σ (segment G k))) (G .n) 0 + 2 * total (λ k. one (same σ (spoke G k))) (inners G (shape G)) 0
-    count σ = tally-exact (polygon-sound G ne D) σ ∙ polygon-sides G σ ne
+    count σ = tally-exact (polygon-sound G ne D) σ ∙ polygon-sides G σ
 
 pub manifold : (K : Complex) → Lawful K → Manifold K
 manifold K W = record {

@@ -15,11 +15,10 @@ use Rattle.manifold.specs.Complex.{Complex, Lawful, loopOf}
 use Rattle.manifold.proofs.Shapes.{many-le}
 use Rattle.manifold.proofs.Polygon.{fits, triangles-length}
 use Rattle.manifold.proofs.Piece.{cell-darts}
-use Rattle.manifold.proofs.Mesh.{size-two}
 
 module _ (K : Complex) (W : Lawful K) (c : ℕ) (lc : c < K .pieces) where
   loop-few : (p : ℕ) → p < K .at c .N → length (triangles (loopOf K c p)) ≤ sizeOf (K .at c) p
-  loop-few p lp = omega (arith, triangles-length (loopOf K c p), many-le (shape (loopOf K c p)) (sizeOf (K .at c) p) (fits (loopOf K c p) (size-two K W c p lc lp)))
+  loop-few p lp = omega (arith, triangles-length (loopOf K c p), many-le (shape (loopOf K c p)) (sizeOf (K .at c) p) (fits (loopOf K c p)))
 
   sizes : total (sizeOf (K .at c)) (K .at c .N) 0 ≡ length (flat (K .at c .N) (onward (K .at c)))
   unfolding flat loopAt

@@ -18,9 +18,9 @@ use Rattle.manifold.proofs.Shapes.{fits as shape-fits, length-triangles
 use Rattle.manifold.proofs.Triangle.{hits, cross-middle, seg-inner}
 use Rattle.manifold.proofs.Sound.{Member, Ends, via, Sound}
 
-pub fits : (G : Polygon) → G .n ≢ 1 → Fits (shape G) (G .n)
+pub fits : (G : Polygon) → Fits (shape G) (G .n)
 unfolding shape
-fits G h = shape-fits (G .n) (G .normal) h
+fits G = shape-fits (G .n) (G .normal)
 
 module _ (G : Polygon) where
   -- its triangles, as a list, by number
@@ -58,10 +58,10 @@ module _ (G : Polygon) where
       ∙ total-ext (λ k. weigh (hits σ) (triangle G fan k ∷ [])) (λ k. f k + g (after n k) + g k) n 0 (λ q u v. omega arith)
       ∙ omega arith
 
-  pub polygon-sides : (σ : Side) → G .n ≢ 1
+  pub polygon-sides : (σ : Side)
       → weigh (hits σ) (triangles G) ≡ total (λ k. one (same σ (segment G k))) (G .n) 0 + 2 * total (λ k. one (same σ (spoke G k))) (inners G (shape G)) 0
   unfolding triangles
-  polygon-sides σ h = counted σ (shape G) (fits G h)
+  polygon-sides σ = counted σ (shape G) (fits G)
 
   -- side i of v is segment k, from point k to the next
   pub record AtSegment (v : Tri) (i k : ℕ) : Type 0 where
@@ -113,7 +113,7 @@ module _ (G : Polygon) where
     pub seen : (v : Tri) → Member (triangles G) v → (i : ℕ) → i < 3 → Seen (shape G) v i
     seen v m i l =
         let (k, lk, e) = triangles-of v m in
-        subst (λ w. Seen (shape G) w i) (sym e) (table (shape G) (fits G h) k i lk l)
+        subst (λ w. Seen (shape G) w i) (sym e) (table (shape G) (fits G) k i lk l)
 
     -- a crossing that is a corner is a point of the loop
     pub of-cross : (v : Tri) (i x : ℕ) → Member (triangles G) v → i < 3 → cornerOf v i ≡ cross x → (m : ℕ) × (m < G .n) × (G .point m ≡ x)
@@ -128,7 +128,7 @@ module _ (G : Polygon) where
 
         go : Seen (shape G) v i → (m : ℕ) × (m < G .n) × (G .point m ≡ x)
         go (inl (k, s)) = let q : cross x ≡ corner G k = sym e ∙ s .from in (k, s .lt, cc)
-        go (inr (k, s)) = at (shape G) (fits G h) k (s .lt)
+        go (inr (k, s)) = at (shape G) (fits G) k (s .lt)
             (⊎-elim (λ (q : (cornerOf v i ≡ outer (shape G) k) × (cornerOf v (next i) ≡ far (shape G) k)). inl (sym e ∙ q .0))
             (λ (q : (cornerOf v i ≡ far (shape G) k) × (cornerOf v (next i) ≡ outer (shape G) k)). inr (sym e ∙ q .0)) (s .ends))
 
@@ -183,6 +183,6 @@ module _ (G : Polygon) where
         corners v i (inl (k, s)) e =
             point-apart k (after (G .n) k) (s .lt) (after-lt (G .n) k (s .lt)) (λ q. after-ne (G .n) k (s .lt) h (sym q)) (sym (s .from) ∙ e ∙ s .to)
         corners v i (inr (k, s)) e =
-            apart (shape G) (fits G h) k (s .lt)
+            apart (shape G) (fits G) k (s .lt)
             (⊎-elim (λ (q : (cornerOf v i ≡ outer (shape G) k) × (cornerOf v (next i) ≡ far (shape G) k)). sym (q .0) ∙ e ∙ q .1)
             (λ (q : (cornerOf v i ≡ far (shape G) k) × (cornerOf v (next i) ≡ outer (shape G) k)). sym (q .1) ∙ sym e ∙ q .0) (s .ends))

@@ -40,7 +40,7 @@ module _ (K : Complex) where
     loop-sides : (σ : Side) (c p : ℕ) → c < K .pieces → p < K .at c .N
         → inLoop σ c p ≡ counts (K .at c) σ p + 2 * total (λ k. one (same σ (spoke (loopOf K c p) k))) (spokes c p) 0
     unfolding spokes
-    loop-sides σ c p lc lp = polygon-sides (loopOf K c p) σ (size-ne (K .at c) (W .piece c lc) p lp)
+    loop-sides σ c p lc lp = polygon-sides (loopOf K c p) σ
 
     -- a segment
     segment-count : (f l c : ℕ) → c < K .pieces → inPiece (seg f l) c ≡ total (counts (K .at c) (seg f l)) (K .at c .N) 0

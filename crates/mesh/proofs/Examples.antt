@@ -34,7 +34,7 @@ unfolding seek first last some every count rise faceAnswer segments unjoinedCoun
     loop.loopSize loop.dart loop.loopDarts loop.folded loop.normal loop.parity loop.nodeWith loop.typeBy loop.inGrid loop.typeOf loop.leasts loop.answerFrom loop.loopAnswer
     faceNode sameFace hasFace faceName joins isEdge hasEdge edgeNumber start
     badLength badPairs badCell sameCell repeats crowded isAfter badEdge unlisted unused linked reached split tooMany rows rows.orRefuse rows.answerOf gridAnswer
-    triangle.numberOf triangle.segmentOf triangle.point triangle.segment triangle.triangle triangle.whole triangle.half0 triangle.half1 triangle.spoke triangle.fan triangle.trianglesBy triangle.inTwo triangle.loopTriangles triangle.cellTriangles
+    triangle.numberOf triangle.segmentOf triangle.point triangle.segment triangle.triangle triangle.loopTriangles triangle.cellTriangles
     cornerWords words allWords nthAnswer gridCell meshTriangles meshWords roomAnswer roomArea askedLoop meshAnswer meshArea loopsAnswer
     faceAnswers startsOf gridLoops loopPoints gridPoints sidesOf different tallies computed examples
 examples-hold = refl

@@ -70,7 +70,7 @@ unfolding every some count seek first last total over pre rowFrom colFrom row co
     it orbit step.face step.land step.step walk.status walk.turn walk.size walk.loopAt
     cell.ahead cell.base cell.holds cell.edge cell.index cell.joinAt cell.joinedTo cell.mate cell.slot cell.step loop.loopSize loop.dart loop.loopDarts loop.folded loop.normal
     faceNode sameFace faceName joins isEdge edgeNumber start
-    triangle.numberOf triangle.segmentOf triangle.point triangle.segment triangle.triangle triangle.whole triangle.half0 triangle.half1 triangle.spoke triangle.fan triangle.trianglesBy triangle.inTwo triangle.loopTriangles triangle.cellTriangles
+    triangle.numberOf triangle.segmentOf triangle.point triangle.segment triangle.triangle triangle.loopTriangles triangle.cellTriangles
     gridCell meshTriangles
 three-triangles = refl
 

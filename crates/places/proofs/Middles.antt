@@ -1,22 +1,23 @@
 -- The fans of a cell and their middles, from the record of its loops.
 use Prim.Native.Nat.{ℕ, zero, suc, _+_, _-_, _*_, _/_, _≤_, _<_}
 use mathlib.Core.Path.{_≡_, refl, sym, ap, ap₂, _∙_}
-use mathlib.Core.Bool.{Bool, true, false, not, _&&_, _||_}
+use mathlib.Core.Bool.{Bool, true, false}
 use mathlib.Core.List.{List, [], _∷_, _++_}
 use native.Mathlib.Omega.{arith}
-use lib.Dec.{eqb, ltb}
+use lib.Dec.{eqb}
 use lib.ListN.{length, getD}
 use lib.Seq.{sets}
 use lib.Ieee.{Float}
-use borrow.Author.Tests.{lt-ltb, ltb-true, ne-eqb}
+use borrow.Author.Tests.{ne-eqb}
 use Rattle.counting.specs.Pick.{pick, one}
 use Rattle.counting.specs.Range.{total, over}
-use Rattle.counting.proofs.Bools.{and-left}
 use Rattle.counting.proofs.Range.{length-over, total-ext, total-next, over-ext}
 use Rattle.counting.proofs.Search.{count-total}
+use Rattle.manifold.specs.Shape.{hasMiddle}
+use Rattle.manifold.proofs.Shapes.{shape-else, middle-fan, fan-middle}
 use Rattle.cell.specs.declared.Cell.{Cell}
 use Rattle.cell.specs.Cell.{crossings, edge}
-use Rattle.cell.specs.Loop.{loopSize, dart, inGrid}
+use Rattle.cell.specs.Loop.{loopSize, dart, normal, inGrid}
 use Rattle.cell.specs.Of.{edgesOf}
 use Rattle.cell.specs.Trace.{each, leastsOf}
 use Rattle.cell.specs.Route.{mostInCell}
@@ -25,43 +26,38 @@ use Rattle.cell.proofs.Lay.{lay}
 use Rattle.cell.proofs.Loops.{from-point, normal-is, dart-live}
 use Rattle.cell.proofs.Reading.{Looped, over-leasts, leasts-few}
 use Rattle.cell.proofs.Cells.{least}
-use Rattle.cell.specs.Triangles.{numberOf, inTwo}
+use Rattle.cell.specs.Triangles.{numberOf}
 use Rattle.grid.specs.Grid.{cellCount}
 use Rattle.mesh.specs.Table.{tableCell}
 use Rattle.places.specs.declared.Place.{Place}
 use Rattle.places.specs.Place.{floatOf, added, divided, coordinates, placeAt, numbers, allNumbers, sumTo, middle}
-use Rattle.places.specs.Points.{fanBy, isFan, pointOf, fanCount, loopMiddle, cellMiddles}
+use Rattle.places.specs.Points.{isFan, pointOf, fanCount, loopMiddle, cellMiddles}
 use Rattle.places.specs.Work.{tracedFan, tracedMiddle, Meanable, Room, Below, FansIn, tableFans, tableMiddles}
 
 -- the cases of the code
-pub fan-none : (n : ℕ) (two : Bool) → n ≡ 0 → 0 ≡ one (fanBy n two)
-unfolding fanBy
-fan-none n two e = rw e
+pub fan-none : (n : ℕ) (normal : Bool) → n ≡ 0 → 0 ≡ one (hasMiddle n normal)
+unfolding hasMiddle
+fan-none n normal e = rw e
 
 no-fan : (c : Cell) (p : ℕ) → loopSize (edgesOf c) p ≡ 0 → 0 ≡ one (isFan c p)
 unfolding isFan
-no-fan c p z = fan-none (loopSize (edgesOf c) p) (inTwo c p) z
+no-fan c p z = fan-none (loopSize (edgesOf c) p) (normal (edgesOf c) p) z
 
-pub fan-three : (n : ℕ) (two : Bool) → n ≡ 3 → 0 ≡ one (fanBy n two)
-unfolding fanBy
-fan-three n two e = rw e
+pub fan-three : (n : ℕ) (normal : Bool) → n ≡ 3 → 0 ≡ one (hasMiddle n normal)
+unfolding hasMiddle
+fan-three n normal e = rw e
 
 module _ (n f : ℕ) (some : n ≡ 0 → ⊥) (three : n ≡ 3 → ⊥) where
-  pub fan-other : (n ≡ 4 → ⊥) → 1 ≡ one (fanBy n (eqb n 4 && eqb f 0))
-  unfolding fanBy
-  fan-other h = rw (lt-ltb 0 n (omega arith), ne-eqb n 3 three, ne-eqb n 4 h)
+  pub fan-other : (n ≡ 4 → ⊥) → 1 ≡ one (hasMiddle n (eqb f 0))
+  fan-other h = ap one (sym (fan-middle n (eqb f 0) (omega arith) (shape-else n (eqb f 0) three (λ e. absurd (h e)))))
 
-  pub fan-normal : n ≡ 4 → f ≡ 0 → 0 ≡ one (fanBy n (eqb n 4 && eqb f 0))
-  unfolding fanBy
+  pub fan-normal : n ≡ 4 → f ≡ 0 → 0 ≡ one (hasMiddle n (eqb f 0))
+  unfolding hasMiddle
   fan-normal h e = rw (h, e)
 
-  pub fan-folded : n ≡ 4 → (f ≡ 0 → ⊥) → 1 ≡ one (fanBy n (eqb n 4 && eqb f 0))
-  unfolding fanBy
+  pub fan-folded : n ≡ 4 → (f ≡ 0 → ⊥) → 1 ≡ one (hasMiddle n (eqb f 0))
+  unfolding hasMiddle
   fan-folded h e = rw (h, ne-eqb f 0 e)
-
-pub fan-some : (n : ℕ) (two : Bool) → fanBy n two ≡ true → 0 < n
-unfolding fanBy
-fan-some n two e = ltb-true 0 n (and-left (ltb 0 n) (not (eqb n 3 || two)) e)
 
 -- how many middles there are
 pub one-long : (b : Bool) (p : Place) → length (pick b (p ∷ []) []) ≡ one b
@@ -116,14 +112,14 @@ module _ (c : Cell) (p : ℕ) (l : p < crossings (edgesOf c)) where
     unfolding loopMiddle isFan
     loop-ext =
         pick-ext (isFan c p) (middle (λ k. place (pointOf c p k)) (loopSize (edgesOf c) p)) (middle (λ k. other (pointOf c p k)) (loopSize (edgesOf c) p))
-        (λ e. middle-ext (λ k. place (pointOf c p k)) (λ k. other (pointOf c p k)) (loopSize (edgesOf c) p) (fan-some (loopSize (edgesOf c) p) (inTwo c p) e)
+        (λ e. middle-ext (λ k. place (pointOf c p k)) (λ k. other (pointOf c p k)) (loopSize (edgesOf c) p) (middle-fan (loopSize (edgesOf c) p) (normal (edgesOf c) p) e .0)
         (λ k h. same (pointOf c p k) (point-below n k b h)))
 
 -- what is recorded of a loop
 module _ {c : Cell} {p n : ℕ} {halves points : List ℕ} (L : Looped c p n halves points) where
   pub looped-fan : tracedFan halves n ≡ isFan c p
-  unfolding isFan inTwo
-  looped-fan = ap₂ (λ m b. fanBy m (eqb m 4 && b)) (L .size) (ap (λ l. eqb (foldsIn l) 0) (L .halves-are) ∙ sym (normal-is c p (L .inside)))
+  unfolding isFan
+  looped-fan = ap₂ hasMiddle (L .size) (ap (λ l. eqb (foldsIn l) 0) (L .halves-are) ∙ sym (normal-is c p (L .inside)))
 
   looped-point : (k : ℕ) → k < n → getD points k 0 ≡ pointOf c p k
   unfolding pointOf numberOf
@@ -136,7 +132,7 @@ module _ {c : Cell} {p n : ℕ} {halves points : List ℕ} (L : Looped c p n hal
   unfolding tracedMiddle loopMiddle
   looped-middle area =
       pick-ext (tracedFan halves n) (middle (λ k. placeAt area (getD points k 0)) n) (middle (λ k. placeAt area (pointOf c p k)) n)
-      (λ e. middle-ext (λ k. placeAt area (getD points k 0)) (λ k. placeAt area (pointOf c p k)) n (fan-some n (eqb n 4 && eqb (foldsIn halves) 0) e)
+      (λ e. middle-ext (λ k. placeAt area (getD points k 0)) (λ k. placeAt area (pointOf c p k)) n (middle-fan n (eqb (foldsIn halves) 0) e .0)
       (λ k h. ap (placeAt area) (looped-point k h)))
       ∙ ap₂ (λ (b : Bool) (m : ℕ). pick b (middle (λ k. placeAt area (pointOf c p k)) m ∷ []) []) looped-fan (L .size)
 
@@ -236,7 +232,7 @@ module _ (halves points : List ℕ) (n : ℕ) (area : List Float) (at r : ℕ) (
     module _ (R : Room halves points n area at) where
       pub put-points : Meanable area points n
       put-points = record {
-        some = fan-some n (eqb n 4 && eqb (foldsIn halves) 0) fan;
+        some = middle-fan n (eqb (foldsIn halves) 0) fan .0;
         few = R .few;
         long = R .long;
         placed = λ k l. omega (arith, R .below k l, R .front);

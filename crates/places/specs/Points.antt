@@ -1,19 +1,19 @@
 -- The points of a placed mesh (01): its crossings by number, and then the middles of its fans in mesh order.
 use Prim.Native.Nat.{ℕ, _/_}
-use mathlib.Core.Bool.{Bool, not, _&&_, _||_}
+use mathlib.Core.Bool.{Bool}
 use mathlib.Core.List.{List, [], _∷_, _++_}
-use lib.Dec.{eqb, ltb}
 use lib.ListN.{length, getD}
 use lib.Ieee.{Float, nan}
 use Rattle.counting.specs.Pick.{pick}
 use Rattle.counting.specs.Range.{over}
 use Rattle.counting.specs.Search.{count}
 use Rattle.counting.specs.Pack.{row, col}
+use Rattle.manifold.specs.Shape.{hasMiddle}
 use Rattle.cell.specs.declared.Cell.{Cell}
 use Rattle.cell.specs.Cell as cell
-use Rattle.cell.specs.Loop.{loopSize, dart}
+use Rattle.cell.specs.Loop.{loopSize, dart, normal}
 use Rattle.cell.specs.Triangles as triangle
-use Rattle.cell.specs.Triangles.{numberOf, inTwo}
+use Rattle.cell.specs.Triangles.{numberOf}
 use Rattle.grid.specs.Grid.{Grid, cellCount, low, high, countOf, crossings}
 use Rattle.mesh.specs.Mesh.{gridCell}
 use Rattle.places.specs.declared.Place.{Place}
@@ -27,14 +27,10 @@ module _ (counts : List ℕ) where
   unfoldable pub indexOfCrossing : ℕ → ℕ
   indexOfCrossing g = col (countOf counts) (length counts) g
 
--- a loop of n points is drawn as a fan: it is one, and neither one triangle nor two
-unfoldable pub fanBy : (n : ℕ) (two : Bool) → Bool
-fanBy n two = ltb 0 n && not (eqb n 3 || two)
-
 module _ (c : Cell) (p : ℕ) where
   -- the loop of the cell from its crossing p is drawn as a fan
   unfoldable pub isFan : Bool
-  isFan = fanBy (loopSize (triangle.edgesOf c) p) (inTwo c p)
+  isFan = hasMiddle (loopSize (triangle.edgesOf c) p) (normal (triangle.edgesOf c) p)
 
   -- the crossing number of its point k
   unfoldable pub pointOf : ℕ → ℕ

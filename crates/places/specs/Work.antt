@@ -10,6 +10,7 @@ use lib.Ieee.{Float, nan}
 use Rattle.answer.specs.Answer.{isResult}
 use Rattle.counting.specs.Pick.{pick, one}
 use Rattle.counting.specs.Range.{total, over}
+use Rattle.manifold.specs.Shape.{hasMiddle}
 use Rattle.cell.specs.declared.Cell.{Cell}
 use Rattle.cell.specs.Of.{countOf, startOf}
 use Rattle.cell.specs.Route as route
@@ -18,7 +19,7 @@ use Rattle.mesh.specs.Table.{tableCell}
 use Rattle.grid.specs.Grid.{highestNode, mostCells, mostCrossings, cellCount, low, high, crossings}
 use Rattle.places.specs.declared.Place.{Place}
 use Rattle.places.specs.Place.{between, middle, coordinates, placeAt, allNumbers, within}
-use Rattle.places.specs.Points.{fanBy, fanCount, cellMiddles, crossingPlace}
+use Rattle.places.specs.Points.{fanCount, cellMiddles, crossingPlace}
 use Rattle.places.specs.Rows.{hasNode, nodeEnd}
 use Rattle.places.specs.Answer.{rowsAnswer}
 
@@ -80,7 +81,7 @@ pub record Meanable (list : List Float) (points : List ℕ) (n : ℕ) : Type 0 w
 
 -- a recorded loop of n is drawn as a fan
 abbrev pub tracedFan : List ℕ → ℕ → Bool
-tracedFan halves n = fanBy n (eqb n 4 && eqb (foldsIn halves) 0)
+tracedFan halves n = hasMiddle n (eqb (foldsIn halves) 0)
 
 -- its middle, by the places of an area's points
 unfoldable pub tracedMiddle : List ℕ → List ℕ → ℕ → List Float → List Place

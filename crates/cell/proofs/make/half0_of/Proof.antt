@@ -1,4 +1,5 @@
-use Rattle.cell.specs.Triangles.{triangle, half0}
+use Rattle.cell.specs.Triangles.{triangle}
+use Rattle.cell.specs.Traced.{tracedTriangle}
 use borrow.Author.Needs.{needs}
 use Rattle.cell.proofs.make.half0_of.Statement.{statement}
 use Rattle.cell.proofs.make.half0_of.Tie as tie
@@ -25,7 +26,7 @@ shared-slice-read-t16 : tie.Need-shared-slice-read-t16
 shared-slice-read-t16 c = search needs
 
 returns : tie.Need-returns
-unfolding half0 triangle
+unfolding tracedTriangle triangle
 returns c = cc
 
 pub half0-of-spec : {M : Type 1} → statement M

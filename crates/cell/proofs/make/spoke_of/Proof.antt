@@ -1,4 +1,5 @@
-use Rattle.cell.specs.Triangles.{triangle, spoke}
+use Rattle.cell.specs.Triangles.{triangle}
+use Rattle.cell.specs.Traced.{tracedTriangle}
 use borrow.Author.Needs.{needs}
 use Rattle.cell.proofs.make.spoke_of.Statement.{statement}
 use Rattle.cell.proofs.make.spoke_of.Tie as tie
@@ -34,7 +35,7 @@ cast-t22 : tie.Need-cast-t22
 cast-t22 c = search needs
 
 returns : tie.Need-returns
-unfolding spoke triangle
+unfolding tracedTriangle triangle
 returns c = cc
 
 pub spoke-of-spec : {M : Type 1} → statement M

@@ -1,4 +1,5 @@
-use Rattle.cell.specs.Triangles.{triangle, whole}
+use Rattle.cell.specs.Triangles.{triangle}
+use Rattle.cell.specs.Traced.{tracedTriangle}
 use borrow.Author.Needs.{needs}
 use Rattle.cell.proofs.make.whole_of.Statement.{statement}
 use Rattle.cell.proofs.make.whole_of.Tie as tie
@@ -28,7 +29,7 @@ shared-slice-read-t17 : tie.Need-shared-slice-read-t17
 shared-slice-read-t17 c = search needs
 
 returns : tie.Need-returns
-unfolding whole triangle
+unfolding tracedTriangle triangle
 returns c = cc
 
 pub whole-of-spec : {M : Type 1} → statement M

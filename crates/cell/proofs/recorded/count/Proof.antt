@@ -5,6 +5,7 @@ use Rattle.cell.specs.declared.Cell.{Cell}
 use Rattle.cell.specs.Trace.{From}
 use Rattle.cell.proofs.Reading.{from-lengths, from-ends, from-looped, from-on}
 use Rattle.cell.specs.Traced.{Held}
+use Rattle.cell.proofs.Taken.{two-four}
 use Rattle.cell.proofs.Holding.{looped-many}
 use Rattle.cell.proofs.Cells.{Counting, counting-none, counting-fits, counting-more, counting-end}
 use Rattle.cell.proofs.recorded.count.Statement.{statement}
@@ -44,7 +45,7 @@ in-two-requires : tie.Need-in-two-requires Inv-loop μ-loop
 in-two-requires c κs = tt
 
 many-requires : tie.Need-many-requires Inv-loop μ-loop
-many-requires c κs = tt
+many-requires c κs = two-four _ _ _ (c .in-two .ensures)
 
 add-t : tie.Need-add-t Inv-loop μ-loop
 add-t c = omega (arith, counting-fits (c .before .before .before .before .before .before .loop .inv .1 (c .before .before .before .before .before .before .before .before .before .before .args .c) (c .before .before .before .before .before .before .before .before .before .before .pre) .1) (omega (arith, c .before .before .before .before .before .before .before .before .before .before .pre .all)) (c .before .before .before .before .before .before .before .before .before .before .pre .few), looped-many (from-looped (c .before .before .before .before .before .before .loop .inv .1 (c .before .before .before .before .before .before .before .before .before .before .args .c) (c .before .before .before .before .before .before .before .before .before .before .pre) .0) (omega (arith, c .before .before .before .before .before .before .before .before .before .before .pre .all)) (c .before .before .before .size .ensures .0) refl) (c .before .in-two .ensures), c .many .ensures)

@@ -3,6 +3,8 @@ use Prim.Native.Nat.{_-_, _≤_}
 use mathlib.Core.Path.{refl, _∙_}
 use Rattle.cell.specs.Trace.{From}
 use Rattle.cell.proofs.Reading.{from-lengths, from-ends, from-looped, from-on}
+use Rattle.cell.proofs.LoopTriangles.{traced-entry}
+use Rattle.cell.proofs.Taken.{two-four}
 use Rattle.cell.proofs.Holding.{looped-traced, looped-four, looped-loop, looped-many}
 use Rattle.cell.proofs.Cells.{Seeking, seeking-none, seeking-off, seeking-more, seeking-here}
 use Rattle.cell.proofs.recorded.seek.Statement.{statement}
@@ -42,7 +44,7 @@ in-two-requires : tie.Need-in-two-requires Inv-loop μ-loop
 in-two-requires c κs = tt
 
 many-requires : tie.Need-many-requires Inv-loop μ-loop
-many-requires c κs = tt
+many-requires c κs = two-four _ _ _ (c .in-two .ensures)
 
 sub-triangle-of : tie.Need-sub-triangle-of Inv-loop μ-loop
 sub-triangle-of c = omega arith
@@ -69,7 +71,7 @@ triangle-of-requires : tie.Need-triangle-of-requires Inv-loop μ-loop
 triangle-of-requires c κs = (looped-traced (from-looped (c .before .before .before .before .before .before .before .before .before .loop .inv .1) (omega (arith, c .before .before .before .before .before .before .before .before .before .before .before .before .before .pre .all)) (c .before .before .before .before .before .before .size .ensures .0) refl) (c .before .before .before .before .before .before .size .ensures .1), (looped-four (from-looped (c .before .before .before .before .before .before .before .before .before .loop .inv .1) (omega (arith, c .before .before .before .before .before .before .before .before .before .before .before .before .before .pre .all)) (c .before .before .before .before .before .before .size .ensures .0) refl) (c .before .before .before .before .in-two .ensures), omega (arith, c .before .before .before .many .ensures)))
 
 returns : tie.Need-returns Inv-loop μ-loop
-returns c = seeking-here (c .before .before .before .before .before .before .before .before .before .before .loop .inv .2) (omega (arith, c .before .before .before .before .before .before .before .before .before .before .before .before .before .before .pre .all)) _ (looped-loop (from-looped (c .before .before .before .before .before .before .before .before .before .before .loop .inv .1) (omega (arith, c .before .before .before .before .before .before .before .before .before .before .before .before .before .before .pre .all)) (c .before .before .before .before .before .before .before .size .ensures .0) refl) (c .before .before .before .before .before .in-two .ensures)) (omega (arith, looped-many (from-looped (c .before .before .before .before .before .before .before .before .before .before .loop .inv .1) (omega (arith, c .before .before .before .before .before .before .before .before .before .before .before .before .before .before .pre .all)) (c .before .before .before .before .before .before .before .size .ensures .0) refl) (c .before .before .before .before .before .in-two .ensures), c .before .before .before .before .many .ensures)) (c .triangle-of .ensures)
+returns c = seeking-here (c .before .before .before .before .before .before .before .before .before .before .loop .inv .2) (omega (arith, c .before .before .before .before .before .before .before .before .before .before .before .before .before .before .pre .all)) _ (looped-loop (from-looped (c .before .before .before .before .before .before .before .before .before .before .loop .inv .1) (omega (arith, c .before .before .before .before .before .before .before .before .before .before .before .before .before .before .pre .all)) (c .before .before .before .before .before .before .before .size .ensures .0) refl) (c .before .before .before .before .before .in-two .ensures)) (omega (arith, looped-many (from-looped (c .before .before .before .before .before .before .before .before .before .before .loop .inv .1) (omega (arith, c .before .before .before .before .before .before .before .before .before .before .before .before .before .before .pre .all)) (c .before .before .before .before .before .before .before .size .ensures .0) refl) (c .before .before .before .before .before .in-two .ensures), c .before .before .before .before .many .ensures)) (traced-entry _ _ _ _ _ _ (omega (arith, c .before .before .before .before .many .ensures)) (c .triangle-of .ensures))
 
 add-j : tie.Need-add-j Inv-loop μ-loop
 add-j c = omega arith
