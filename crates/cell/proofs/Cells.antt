@@ -1,18 +1,24 @@
--- The loops of a cell in turn: those before loop j are done.
-use Prim.Native.Nat.{ℕ, suc, _+_, _*_, _-_, _≤_, _<_}
+-- The loops of a cell and their triangles in turn: those from crossings below p are done.
+use Prim.Native.Nat.{ℕ, zero, suc, _+_, _*_, _-_, _≤_, _<_}
 use mathlib.Core.Path.{_≡_, refl, sym, ap, _∙_}
-use mathlib.Core.List.{List, [], _∷_, _++_}
+use mathlib.Core.List.{List, [], _∷_, _++_, append-nil}
+use native.Mathlib.Nat.{zero-add, sub-zero}
 use native.Mathlib.Omega.{arith}
-use native.Mathlib.Numerals.{add-one}
-use lib.ListN.{length, getD, drop, length-append, drop-of-length-le}
-use lib.Seq.{sets, length-sets, drop-nil, drop-cons, drop-append-le, drop-append-add}
-use Rattle.counting.proofs.Fronts.{sets-append}
+use lib.Dec.{ltb}
+use lib.ListN.{length, drop, length-append, drop-of-length-le}
+use lib.Seq.{sets, drop-append-le, drop-append-add}
+use borrow.Author.Tests.{lt-ltb, le-ltb}
+use Rattle.answer.specs.Answer.{result}
+use Rattle.counting.specs.Pick.{pick}
+use Rattle.counting.specs.Range.{over, kept}
+use Rattle.counting.specs.Stored.{Stored, Summed}
+use Rattle.counting.proofs.Fronts.{over-more, over-at, over-within}
+use Rattle.counting.proofs.Stored.{stored-more, summed-more}
 use Rattle.cell.specs.declared.Cell.{Cell}
-use Rattle.cell.specs.Cell.{crossings}
-use Rattle.cell.specs.Loop.{loopSize}
+use Rattle.cell.specs.Cell.{Edges, crossings}
+use Rattle.cell.specs.Loop.{loopSize, leasts, answerFrom, loopAnswer}
 use Rattle.cell.specs.Route.{mostInCell}
-use Rattle.cell.specs.Trace.{each, leastsOf}
-use Rattle.cell.proofs.Reading.{over-leasts}
+use Rattle.cell.specs.Round.{roundAnswer}
 use Rattle.cell.specs.declared.Triangle.{Triangle}
 use Rattle.cell.specs.declared.Nth.the-variants.{Found, Nothing}
 use Rattle.cell.specs.Words.{wordCount, allWords}
@@ -20,137 +26,117 @@ use Rattle.cell.specs.Triangles.{edgesOf, loopTriangles, cellTriangles}
 use Rattle.cell.specs.Nth.{nthOf, nthNumbers, nthAnswer}
 use Rattle.cell.proofs.LoopTriangles.{Entry}
 use Rattle.cell.proofs.Storing.{length-all, all-append}
-use Rattle.cell.proofs.Taken.{loop-few, cell-few}
+use Rattle.cell.proofs.Loops.{answer-is}
+use Rattle.cell.proofs.Going.{Looped}
+use Rattle.cell.proofs.Taken.{loop-few, length-cell, cell-few}
 
--- the least crossing of loop j
-abbrev pub least : Cell → ℕ → ℕ
-least c j = getD (leastsOf c) j 0
+-- the number of triangles of each
+abbrev pub manyAt : Cell → ℕ → ℕ
+manyAt c p = length (loopTriangles c p)
 
--- the triangles of the loops from loop j on
-unfoldable pub rest : Cell → ℕ → List Triangle
-rest c j = each (loopTriangles c) (drop j (leastsOf c))
+pub counted-more : {c : Cell} {p m : ℕ} {hs ps : List ℕ} → Looped c p m hs ps → {t : ℕ} → Summed (manyAt c) mostInCell p t → (k : ℕ) → k ≡ manyAt c p
+    → Summed (manyAt c) mostInCell (p + 1) (t + k)
+counted-more {c} {p} L S k e = summed-more (manyAt c) mostInCell S k e (omega (arith, loop-few c p, L .size, L .few))
 
-no-loop : (c : Cell) (p : ℕ) → loopSize (edgesOf c) p ≡ 0 → loopTriangles c p ≡ []
-no-loop c p e = empty (loopTriangles c p) (omega (arith, loop-few c p))
-  where
-    empty : (l : List Triangle) → length l ≤ 0 → l ≡ []
-    empty [] h = refl
-    empty (x ∷ l) h = absurd (omega arith)
+pub counted-all : (c : Cell) {p t : ℕ} → Summed (manyAt c) mostInCell p t → p ≡ crossings (edgesOf c) → p ≤ mostInCell → (t ≡ length (cellTriangles c)) × (t ≤ mostInCell)
+counted-all c {p} {t} S e h =
+    let f : t ≡ length (cellTriangles c) = S .is ∙ rw e (sym (length-cell c)) in
+    (f, omega (arith, cell-few c))
 
-pub rest-all : (c : Cell) → rest c 0 ≡ cellTriangles c
-unfolding rest cellTriangles
-rest-all c = sym (over-leasts c (loopTriangles c) (no-loop c))
+-- the words of the triangles of each
+abbrev pub wordsAt : Cell → ℕ → List ℕ
+wordsAt c p = allWords (loopTriangles c p)
 
-pub rest-next : (c : Cell) (j : ℕ) → j < length (leastsOf c) → rest c j ≡ loopTriangles c (least c j) ++ rest c (j + 1)
-unfolding rest each
-rest-next c j l = rw (add-one j) (ap (each (loopTriangles c)) (drop-cons (leastsOf c) j 0 l))
+words-over : (f : ℕ → List Triangle) (n p : ℕ) → over (λ p. allWords (f p)) n p ≡ allWords (over f n p)
+unfolding over allWords
+words-over f zero p = refl
+words-over f (suc n) p = ap (λ l. allWords (f p) ++ l) (words-over f n (suc p)) ∙ sym (all-append (f p) (over f n (suc p)))
 
-pub rest-none : (c : Cell) (j : ℕ) → length (leastsOf c) ≤ j → rest c j ≡ []
-unfolding rest each
-rest-none c j l = ap (each (loopTriangles c)) (drop-of-length-le (leastsOf c) {i = j} l)
+words-all : (c : Cell) → over (wordsAt c) (crossings (edgesOf c)) 0 ≡ allWords (cellTriangles c)
+unfolding cellTriangles
+words-all c = words-over (loopTriangles c) (crossings (edgesOf c)) 0
 
--- t triangles are counted
-pub record Counting (c : Cell) (j t : ℕ) : Type 0 where
-  pub is : length (cellTriangles c) ≡ t + length (rest c j)
+module _ (c : Cell) {out₀ : List ℕ} {at : ℕ} (p : ℕ) {out : List ℕ} {i : ℕ} (S : Stored out₀ at (over (wordsAt c) p 0) out i) where
+  pub written-all : p ≡ crossings (edgesOf c) → (i ≡ at + wordCount * length (cellTriangles c)) × (out ≡ sets out₀ at (allWords (cellTriangles c)))
+  written-all e =
+      let f : over (wordsAt c) p 0 ≡ allWords (cellTriangles c) = rw e (words-all c) in
+      (omega (arith, S .after, ap length f, length-all (cellTriangles c)), S .area ∙ ap (sets out₀ at) f)
 
-pub counting-none : (c : Cell) → Counting c 0 0
-counting-none c = record { is = omega (arith, ap length (rest-all c)) }
+  pub written-room : p < crossings (edgesOf c) → i + wordCount * manyAt c p ≤ at + wordCount * length (cellTriangles c)
+  written-room l =
+      omega (
+        arith,
+        S .after,
+        over-within (wordsAt c) (crossings (edgesOf c)) p l,
+        ap length (words-all c),
+        length-all (cellTriangles c),
+        length-all (loopTriangles c p),
+      )
 
-module _ {c : Cell} {j t : ℕ} (C : Counting c j t) where
-  pub counting-end : length (leastsOf c) ≤ j → crossings (edgesOf c) ≤ mostInCell → (t ≡ length (cellTriangles c)) × (t ≤ mostInCell)
-  counting-end l few = (omega (arith, C .is, ap length (rest-none c j l)), omega (arith, C .is, cell-few c))
+  pub written-more : {out′ : List ℕ} {j m : ℕ} → m ≡ manyAt c p → j ≡ i + wordCount * m → {l : List Triangle} → l ≡ loopTriangles c p → out′ ≡ sets out i (allWords l)
+      → Stored out₀ at (over (wordsAt c) (p + 1) 0) out′ j
+  written-more e f g q =
+      stored-more (wordsAt c) p S (record { area = q ∙ ap (λ l. sets out i (allWords l)) g; after = omega (arith, f, e, length-all (loopTriangles c p)) })
 
-  module _ (l : j < length (leastsOf c)) where
-    next : length (cellTriangles c) ≡ t + (length (loopTriangles c (least c j)) + length (rest c (j + 1)))
-    next = omega (arith, C .is, ap length (rest-next c j l), length-append (loopTriangles c (least c j)) (rest c (j + 1)))
+-- Entry t of the lists of f, joined, is entry `left` of those from p on.
+module _ {A : Type 0} (f : ℕ → List A) where
+  pub record Seeking (t p left : ℕ) : Type 0 where
+    pub is : t ≡ length (over f p 0) + left
 
-    counting-room : t + length (loopTriangles c (least c j)) ≤ length (cellTriangles c)
-    counting-room = omega (arith, next)
+  pub seeking-none : (t : ℕ) → Seeking t 0 t
+  unfolding over
+  seeking-none t = record { is = sym (zero-add t) }
 
-    pub counting-fits : crossings (edgesOf c) ≤ mostInCell → t + length (loopTriangles c (least c j)) ≤ mostInCell
-    counting-fits few = omega (arith, counting-room, cell-few c)
+  module _ {t p left : ℕ} (S : Seeking t p left) where
+    pub seeking-more : (k : ℕ) → k ≡ length (f p) → k ≤ left → Seeking t (p + 1) (left - k)
+    seeking-more k e h = record { is = omega (arith, S .is, ap length (over-more f p), length-append (over f p 0) (f p)) }
 
-    pub counting-more : (m : ℕ) → m ≡ length (loopTriangles c (least c j)) → Counting c (j + 1) (t + m)
-    counting-more m e = record { is = omega (arith, next) }
+    pub seeking-off : drop t (over f p 0) ≡ []
+    seeking-off = drop-of-length-le (over f p 0) {i = t} (omega (arith, S .is))
 
--- a run xs of n words, and what follows
-sets-then : (n j : ℕ) (xs ys l l₁ : List ℕ) (i : ℕ) → l₁ ≡ sets l i xs → length xs ≡ n → j ≡ i + n → sets l i (xs ++ ys) ≡ sets l₁ j ys
-sets-then n j xs ys l l₁ i e f g = sets-append l i xs ys ∙ rw (f, ← e, ← g)
+    pub seeking-here : (n : ℕ) → p < n → left ≤ length (f p) → drop t (over f n 0) ≡ drop left (f p) ++ over f (n - suc p) (suc p)
+    seeking-here n l h =
+        rw (S .is, over-at f n p l)
+        (drop-append-add (over f p 0) (f p ++ over f (n - suc p) (suc p)) left ∙ drop-append-le left (f p) (over f (n - suc p) (suc p)) h)
 
--- Of the triangles l, stored in out₀ from `at` on, those of `left` are not stored yet: they go from i on, into out.
-pub record Storing (l : List Triangle) (out₀ : List ℕ) (at : ℕ) (left : List Triangle) (out : List ℕ) (i : ℕ) : Type 0 where
-  pub same : length out ≡ length out₀
-  pub next : i + wordCount * length left ≡ at + wordCount * length l
-  pub is : sets out₀ at (allWords l) ≡ sets out i (allWords left)
+-- triangle t of the cell
+module _ (c : Cell) {t p left : ℕ} (S : Seeking (loopTriangles c) t p left) where
+  pub triangle-off : p ≡ crossings (edgesOf c) → (Nothing ≡ nthOf (cellTriangles c) t) × (nthNumbers Nothing ≡ nthAnswer (cellTriangles c) t)
+  unfolding cellTriangles nthOf nthAnswer
+  triangle-off l = let e = rw l at (seeking-off (loopTriangles c) S) in (rw e, rw e)
 
-storing-none : (l : List Triangle) (out : List ℕ) (at : ℕ) → Storing l out at l out at
-storing-none l out at = record { same = refl; next = refl; is = refl }
+  pub triangle-here : p < crossings (edgesOf c) → (r : Triangle) {w : List Triangle} → w ≡ loopTriangles c p → left < manyAt c p → Entry w left r
+      → (Found r ≡ nthOf (cellTriangles c) t) × (nthNumbers (Found r) ≡ nthAnswer (cellTriangles c) t)
+  unfolding cellTriangles nthOf nthAnswer
+  triangle-here l r {w} e h q =
+      let f = rw (← e, q) at (seeking-here (loopTriangles c) S (crossings (edgesOf c)) l (omega arith)) in
+      (rw f, rw f)
 
-module _ {l : List Triangle} {out₀ : List ℕ} {at : ℕ} {left : List Triangle} {out : List ℕ} {i : ℕ} (S : Storing l out₀ at left out i) where
-  -- the first of what is left are stored
-  storing-more : (m rest : List Triangle) (out′ : List ℕ) (j : ℕ) → left ≡ m ++ rest → out′ ≡ sets out i (allWords m) → j ≡ i + wordCount * length m
-      → Storing l out₀ at rest out′ j
-  storing-more m rest out′ j e q h = record {
-    same = ap length q ∙ length-sets out i (allWords m) ∙ S .same;
-    next = omega (arith, S .next, ap length e, length-append m rest);
-    is = S .is ∙ ap (λ k. sets out i (allWords k)) e ∙ ap (sets out i) (all-append m rest)
-        ∙ sets-then (wordCount * length m) j (allWords m) (allWords rest) out out′ i q (length-all m) h;
-  }
+-- the loop from each, if there is one
+abbrev pub leastAt : Edges → ℕ → List ℕ
+leastAt w p = pick (ltb 0 (loopSize w p)) (p ∷ []) []
 
-  storing-all : left ≡ [] → (out ≡ sets out₀ at (allWords l)) × (i ≡ at + wordCount * length l)
-  unfolding allWords
-  storing-all e = (sym (S .is ∙ ap (λ k. sets out i (allWords k)) e), omega (arith, S .next, ap length e))
+-- loop k of the cell
+module _ (c : Cell) {k p left : ℕ} (S : Seeking (leastAt (edgesOf c)) k p left) where
+  abbrev w : Edges
+  w = edgesOf c
 
--- they are stored in out₀ from `at` on, which makes it out, and the next goes to i
-pub record Writing (c : Cell) (out₀ : List ℕ) (at : ℕ) (out : List ℕ) (j i : ℕ) : Type 0 where
-  pub store : Storing (cellTriangles c) out₀ at (rest c j) out i
+  pub loop-off : p ≡ crossings w → result [] ≡ loopAnswer w (c .nodes) k
+  unfolding loopAnswer leasts kept answerFrom
+  loop-off l = sym (ap (answerFrom w (c .nodes)) (rw l at (seeking-off (leastAt w) S)))
 
-pub writing-none : (c : Cell) (out : List ℕ) (at : ℕ) → Writing c out at out 0 at
-writing-none c out at = record { store = rw (rest-all c) (storing-none (cellTriangles c) out at) }
+  pub loop-skip : loopSize w p ≡ 0 → Seeking (leastAt w) k (p + 1) left
+  loop-skip z = rw (sub-zero left) at (seeking-more (leastAt w) S 0 (rw (le-ltb 0 (loopSize w p) (omega arith)) refl) (omega arith))
 
-module _ {c : Cell} {out₀ : List ℕ} {at : ℕ} {out : List ℕ} {j i : ℕ} (W : Writing c out₀ at out j i) where
-  pub writing-all : length (leastsOf c) ≤ j → (i ≡ at + wordCount * length (cellTriangles c)) × (out ≡ sets out₀ at (allWords (cellTriangles c)))
-  writing-all l = let e = storing-all (W .store) (rest-none c j l) in (e .1, e .0)
+  module _ (h : 0 < loopSize w p) where
+    one : leastAt w p ≡ p ∷ []
+    one = rw (lt-ltb 0 (loopSize w p) h) refl
 
-  module _ (l : j < length (leastsOf c)) where
-    pub writing-room : i + wordCount * length (loopTriangles c (least c j)) ≤ at + wordCount * length (cellTriangles c)
-    writing-room = omega (arith, W .store .next, ap length (rest-next c j l), length-append (loopTriangles c (least c j)) (rest c (j + 1)))
+    pub loop-pass : 0 < left → Seeking (leastAt w) k (p + 1) (left - 1)
+    loop-pass l = seeking-more (leastAt w) S 1 (sym (ap length one)) l
 
-    pub writing-more : (out′ : List ℕ) (i′ m : ℕ) → m ≡ length (loopTriangles c (least c j)) → i′ ≡ i + wordCount * m → {w : List Triangle} → w ≡ loopTriangles c (least c j)
-        → out′ ≡ sets out i (allWords w) → Writing c out₀ at out′ (j + 1) i′
-    writing-more out′ i′ m e f g q = record {
-      store = storing-more (W .store) (loopTriangles c (least c j)) (rest c (j + 1)) out′ i′ (rest-next c j l) (q ∙ ap (λ w. sets out i (allWords w)) g) (omega (arith, f, e));
-    }
-
--- triangle t is triangle `left` of what is left
-pub record Seeking (c : Cell) (t j left : ℕ) : Type 0 where
-  pub is : drop t (cellTriangles c) ≡ drop left (rest c j)
-
-pub seeking-none : (c : Cell) (t : ℕ) → Seeking c t 0 t
-seeking-none c t = record { is = rw (rest-all c) }
-
-module _ {c : Cell} {t j left : ℕ} (S : Seeking c t j left) where
-  pub seeking-off : length (leastsOf c) ≤ j → (Nothing ≡ nthOf (cellTriangles c) t) × (nthNumbers Nothing ≡ nthAnswer (cellTriangles c) t)
-  unfolding nthOf nthAnswer
-  seeking-off l =
-      let e : drop t (cellTriangles c) ≡ [] = S .is ∙ ap (drop left) (rest-none c j l) ∙ drop-nil left in
-      (rw e, rw e)
-
-  module _ (l : j < length (leastsOf c)) where
-    pub seeking-more : (m : ℕ) → m ≡ length (loopTriangles c (least c j)) → m ≤ left → Seeking c t (j + 1) (left - m)
-    seeking-more m e h =
-        let k : left ≡ length (loopTriangles c (least c j)) + (left - m) = omega arith in
-        record {
-          is = S .is ∙ ap (drop left) (rest-next c j l) ∙ ap (λ n. drop n (loopTriangles c (least c j) ++ rest c (j + 1))) k
-              ∙ drop-append-add (loopTriangles c (least c j)) (rest c (j + 1)) (left - m);
-        }
-
-    pub seeking-here : (r : Triangle) {w : List Triangle} → w ≡ loopTriangles c (least c j) → left < length (loopTriangles c (least c j)) → Entry w left r
-        → (Found r ≡ nthOf (cellTriangles c) t) × (nthNumbers (Found r) ≡ nthAnswer (cellTriangles c) t)
-    unfolding nthOf nthAnswer
-    seeking-here r {w} e h q =
-        let n : length w ≡ length (loopTriangles c (least c j)) = ap length e in
-        let f : drop t (cellTriangles c) ≡ r ∷ (drop (suc left) w ++ rest c (j + 1)) =
-        S .is ∙ ap (drop left) (rest-next c j l) ∙ drop-append-le left (loopTriangles c (least c j)) (rest c (j + 1)) (omega arith)
-        ∙ ap (λ a. drop left a ++ rest c (j + 1)) (sym e) ∙ ap (λ a. a ++ rest c (j + 1)) q in
-        (rw f, rw f)
+    pub loop-here : p < crossings w → left ≡ 0 → {m : ℕ} {hs ps : List ℕ} → Looped c p m hs ps → roundAnswer (c .nodes) hs ps ≡ loopAnswer w (c .nodes) k
+    unfolding loopAnswer leasts kept answerFrom
+    loop-here l z L =
+        let e = seeking-here (leastAt w) S (crossings w) l (omega arith) in
+        rw (L .halves-are, L .points-are) (answer-is c p l h ∙ sym (ap (answerFrom w (c .nodes)) (rw (z, one) at e)))

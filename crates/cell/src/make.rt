@@ -2,7 +2,6 @@
 ghost use mathlib.Core.Path.{_≡_};
 ghost use mathlib.Core.Bool.{true, _&&_};
 ghost use lib.Dec.{eqb};
-ghost use Rattle.cell.specs.Route.{startLimit};
 ghost use Rattle.cell.specs.Round.{foldsIn};
 ghost use Prim.Native.Nat.{_<_, min};
 ghost use Rattle.counting.specs.Range.{after};
@@ -15,13 +14,6 @@ use super::Triangle;
 
 fn wide(x: u8) -> usize
     ensures { λ r. ⌜ r ≡ x ⌝ }
-{
-    x as usize
-}
-
-// The length of a loop.
-pub(crate) fn size(x: u16) -> usize
-    ensures { λ r. ⌜ (r ≡ x) × (r < startLimit) ⌝ }
 {
     x as usize
 }
