@@ -6,6 +6,7 @@ use Rattle.counting.proofs.Stored.{summed-none}
 use Rattle.cell.specs.Route.{mostInCell}
 use Rattle.cell.proofs.Using.{cleared-same}
 use Rattle.cell.proofs.Going.{Going, going-start, going-long, going-lent, going-more, going-looped, going-part, going-cleared}
+use Rattle.cell.proofs.Taken.{two-four}
 use Rattle.cell.proofs.Holding.{looped-many}
 use Rattle.cell.proofs.Cells.{manyAt, counted-more, counted-all}
 use Rattle.cell.proofs.triangles.count.Statement.{statement}
@@ -52,7 +53,7 @@ in-two-requires : tie.Need-in-two-requires Inv-loop μ-loop
 in-two-requires c κs = tt
 
 many-requires : tie.Need-many-requires Inv-loop μ-loop
-many-requires c κs = tt
+many-requires c κs = two-four _ _ _ (c .in-two .ensures)
 
 add-t : tie.Need-add-t Inv-loop μ-loop
 add-t c = omega (arith, counted-more (going-looped (c .before .before .before .before .before .before .before .before .before .before .before .before .before .before .before .before .loop .inv .0) (omega arith) (c .before .before .before .before .before .before .before .before .before .before .walk .ensures)) (c .before .before .before .before .before .before .before .before .before .before .before .before .before .before .before .before .loop .inv .1) _ (c .many .ensures ∙ looped-many (going-looped (c .before .before .before .before .before .before .before .before .before .before .before .before .before .before .before .before .loop .inv .0) (omega arith) (c .before .before .before .before .before .before .before .before .before .before .walk .ensures)) (c .before .in-two .ensures)) .few, c .before .before .before .before .before .before .before .before .before .before .before .before .before .before .before .before .loop .inv .0 .few)

@@ -4,6 +4,8 @@ use mathlib.Core.Path.{refl, sym, _∙_}
 use Rattle.cell.specs.Triangles.{loopTriangles}
 use Rattle.cell.proofs.Using.{filled-same}
 use Rattle.cell.proofs.Going.{Going, going-start, going-in, going-lent, going-more, going-looped, going-part}
+use Rattle.cell.proofs.LoopTriangles.{traced-entry}
+use Rattle.cell.proofs.Taken.{two-four}
 use Rattle.cell.proofs.Holding.{looped-traced, looped-four, looped-loop, looped-many}
 use Rattle.cell.proofs.Cells.{Seeking, seeking-none, seeking-more, triangle-off, triangle-here}
 use Rattle.cell.proofs.triangles.triangle_at.Statement.{statement}
@@ -62,7 +64,7 @@ in-two-requires : tie.Need-in-two-requires Inv-loop μ-loop
 in-two-requires c κs = tt
 
 many-requires : tie.Need-many-requires Inv-loop μ-loop
-many-requires c κs = tt
+many-requires c κs = two-four _ _ _ (c .in-two .ensures)
 
 sub-triangle-of : tie.Need-sub-triangle-of Inv-loop μ-loop
 sub-triangle-of c = omega arith
@@ -86,7 +88,7 @@ triangle-of-requires : tie.Need-triangle-of-requires Inv-loop μ-loop
 triangle-of-requires c κs = let L = going-looped (c .before .before .before .before .before .before .before .before .before .before .before .before .before .before .before .before .before .before .loop .inv .0) (omega arith) (c .before .before .before .before .before .before .before .before .before .before .before .before .walk .ensures) in (looped-traced L, (looped-four L (c .before .before .before .before .before .before .in-two .ensures), omega (arith, c .before .before .before .before .before .many .ensures)))
 
 returns : tie.Need-returns Inv-loop μ-loop
-returns c = let L = going-looped (c .before .before .before .before .before .before .before .before .before .before .before .before .before .before .before .before .before .before .before .loop .inv .0) (omega arith) (c .before .before .before .before .before .before .before .before .before .before .before .before .before .walk .ensures) in triangle-here _ (c .before .before .before .before .before .before .before .before .before .before .before .before .before .before .before .before .before .before .before .loop .inv .1) (going-in (c .before .before .before .before .before .before .before .before .before .before .before .before .before .before .before .before .before .before .before .loop .inv .0) (omega arith)) _ (looped-loop L (c .before .before .before .before .before .before .before .in-two .ensures)) (omega (arith, looped-many L (c .before .before .before .before .before .before .before .in-two .ensures), c .before .before .before .before .before .before .many .ensures)) (c .triangle-of .ensures)
+returns c = let L = going-looped (c .before .before .before .before .before .before .before .before .before .before .before .before .before .before .before .before .before .before .before .loop .inv .0) (omega arith) (c .before .before .before .before .before .before .before .before .before .before .before .before .before .walk .ensures) in triangle-here _ (c .before .before .before .before .before .before .before .before .before .before .before .before .before .before .before .before .before .before .before .loop .inv .1) (going-in (c .before .before .before .before .before .before .before .before .before .before .before .before .before .before .before .before .before .before .before .loop .inv .0) (omega arith)) _ (looped-loop L (c .before .before .before .before .before .before .before .in-two .ensures)) (omega (arith, looped-many L (c .before .before .before .before .before .before .before .in-two .ensures), c .before .before .before .before .before .before .many .ensures)) (traced-entry _ _ _ _ _ _ (omega (arith, c .before .before .before .before .before .before .many .ensures)) (c .triangle-of .ensures))
 
 add-p : tie.Need-add-p Inv-loop μ-loop
 add-p c = omega (arith, c .before .before .before .before .before .before .before .before .before .before .before .before .before .before .loop .inv .0 .few)
