@@ -7,7 +7,7 @@ use native.Mathlib.Nat.{zero-add, add-zero, mul-suc, mul-zero, mul-le-mul-left}
 use native.Mathlib.Omega.{arith}
 use lib.ListN.{length, getD, take, drop, set, length-append, length-drop, List·getD-append}
 use lib.Seq.{take-suc, take-add, take-all, getD-drop, sets, sets-eq, getD-append-add}
-use Rattle.counting.specs.Range.{over, total}
+use Rattle.counting.specs.Range.{over}
 use Rattle.counting.proofs.Search.{below-or}
 use Rattle.counting.proofs.Range.{over-snoc}
 
@@ -104,12 +104,6 @@ module _ {A : Type 0} (f : ℕ → List A) where
   over-shift m (suc n) p =
       let e : m + suc p ≡ suc (m + p) = omega arith in
       ap (λ l. f (m + p) ++ l) (over-shift m n (suc p) ∙ ap (over f n) e)
-
--- how long they are together
-pub length-over : {A : Type 0} (f : ℕ → List A) (n p : ℕ) → length (over f n p) ≡ total (λ q. length (f q)) n p
-unfolding over total
-length-over f zero p = refl
-length-over f (suc n) p = length-append (f p) (over f n (suc p)) ∙ ap (λ m. length (f p) + m) (length-over f n (suc p))
 
 -- list k and what stands before and after it
 pub over-at : {A : Type 0} (f : ℕ → List A) (n k : ℕ) → k < n → over f n 0 ≡ over f k 0 ++ (f k ++ over f (n - suc k) (suc k))

@@ -5,7 +5,7 @@ use mathlib.Core.Bool.{Bool, true, false}
 use native.Mathlib.Omega.{arith}
 use native.Mathlib.Decide.{decLt, ℕ-discrete}
 use lib.Dec.{eqb, ltb}
-use borrow.Author.Tests.{eq-eqb, ne-eqb, lt-ltb, le-ltb, ltb-true}
+use borrow.Author.Tests.{eq-eqb, ne-eqb, lt-ltb, le-ltb}
 use Rattle.counting.specs.Pick.{pick, one}
 use Rattle.counting.specs.Search.{count, rise}
 use Rattle.counting.proofs.Bools.{clash}
@@ -66,8 +66,21 @@ injection f g (suc n) m h r = go (f n) refl (injection f g n m h (shorter r)) (�
     go true q a b = rw q (omega (arith, b q, count-less g (h n) m (r .lands n (omega arith) q) (r .passes n (omega arith) q)))
     go false q a b = rw q (omega arith)
 
+-- i passes j, and is so to its partner p i as r says
+way : (ℕ → ℕ → Bool) → (ℕ → Bool) → (ℕ → ℕ) → ℕ → Bool
+way r j p i = pick (j i) (r i (p i)) false
+
 fall : (ℕ → Bool) → (ℕ → ℕ) → ℕ → Bool
-fall j p i = pick (j i) (ltb (p i) i) false
+unfolding way
+fall = way (λ a b. ltb b a)
+
+ways : (r : ℕ → ℕ → Bool) (j : ℕ → Bool) (p : ℕ → ℕ) (i : ℕ) → way r j p i ≡ true → (j i ≡ true) × (r i (p i) ≡ true)
+unfolding way
+ways r j p i = go (j i)
+  where
+    go : (b : Bool) → pick b (r i (p i)) false ≡ true → (b ≡ true) × (r i (p i) ≡ true)
+    go true e = (refl, e)
+    go false e = clash e refl
 
 -- a partner p for each number that passes j: as many are below their partner as above it
 module _ (j : ℕ → Bool) (p : ℕ → ℕ) (n : ℕ)
@@ -75,51 +88,28 @@ module _ (j : ℕ → Bool) (p : ℕ → ℕ) (n : ℕ)
     (joined : (i : ℕ) → i < n → j i ≡ true → j (p i) ≡ true)
     (back : (i : ℕ) → i < n → j i ≡ true → p (p i) ≡ i)
     (moved : (i : ℕ) → i < n → j i ≡ true → p i ≡ i → ⊥) where
-  rises : (i : ℕ) → rise j p i ≡ true → (j i ≡ true) × (i < p i)
-  unfolding rise
-  rises i e = go (j i) refl (ltb i (p i)) refl e
-    where
-      go : (b : Bool) → j i ≡ b → (c : Bool) → ltb i (p i) ≡ c → pick b c false ≡ true → (j i ≡ true) × (i < p i)
-      go true q true l u = (q, ltb-true i (p i) l)
-      go true q false l u = clash u refl
-      go false q c l u = clash u refl
-
-  falls : (i : ℕ) → fall j p i ≡ true → (j i ≡ true) × (p i < i)
-  unfolding fall
-  falls i e = go (j i) refl (ltb (p i) i) refl e
-    where
-      go : (b : Bool) → j i ≡ b → (c : Bool) → ltb (p i) i ≡ c → pick b c false ≡ true → (j i ≡ true) × (p i < i)
-      go true q true l u = (q, ltb-true (p i) i l)
-      go true q false l u = clash u refl
-      go false q c l u = clash u refl
-
-  rise-is : (i : ℕ) → j i ≡ true → i < p i → rise j p i ≡ true
-  unfolding rise
-  rise-is i q h = simp (q, lt-ltb i (p i) h)
-
-  fall-is : (i : ℕ) → j i ≡ true → p i < i → fall j p i ≡ true
-  unfolding fall
-  fall-is i q h = simp (q, lt-ltb (p i) i h)
-
   same : (i k : ℕ) → i < n → k < n → j i ≡ true → j k ≡ true → p i ≡ p k → i ≡ k
   same i k a b q r e = sym (back i a q) ∙ ap p e ∙ back k b r
 
-  up-down : count (rise j p) n ≤ count (fall j p) n
-  up-down = injection (rise j p) (fall j p) n n p record {
-    lands = λ i a e. inside i a (rises i e .0);
-    passes = λ i a e. fall-is (p i) (joined i a (rises i e .0)) (rw (back i a (rises i e .0)) (rises i e .1));
-    apart = λ i k a b e f. same i k a b (rises i e .0) (rises k f .0);
+  -- the partners of those on one way are on the other
+  turned : (r : ℕ → ℕ → Bool) → count (way r j p) n ≤ count (way (λ a b. r b a) j p) n
+  unfolding way
+  turned r = injection (way r j p) (way (λ a b. r b a) j p) n n p record {
+    lands = λ i a e. inside i a (ways r j p i e .0);
+    passes = λ i a e. let w = ways r j p i e in rw (joined i a (w .0), back i a (w .0)) (w .1);
+    apart = λ i k a b e f. same i k a b (ways r j p i e .0) (ways r j p k f .0);
   }
+
+  up-down : count (rise j p) n ≤ count (fall j p) n
+  unfolding rise fall way
+  up-down = turned ltb
 
   down-up : count (fall j p) n ≤ count (rise j p) n
-  down-up = injection (fall j p) (rise j p) n n p record {
-    lands = λ i a e. inside i a (falls i e .0);
-    passes = λ i a e. rise-is (p i) (joined i a (falls i e .0)) (rw (back i a (falls i e .0)) (falls i e .1));
-    apart = λ i k a b e f. same i k a b (falls i e .0) (falls k f .0);
-  }
+  unfolding rise fall way
+  down-up = turned (λ a b. ltb b a)
 
   split : (i : ℕ) → i < n → one (j i) ≡ one (rise j p i) + one (fall j p i)
-  unfolding rise fall
+  unfolding rise fall way
   split i a = go (j i) refl
     where
       go : (b : Bool) → j i ≡ b → one (j i) ≡ one (rise j p i) + one (fall j p i)

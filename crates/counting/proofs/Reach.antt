@@ -1,8 +1,8 @@
 -- What n things link to is reached in n links, and no more is.
 use Prim.Native.Nat.{ℕ, zero, suc, _≤_, _<_}
-use mathlib.Core.Path.{_≡_, refl, ap, _∙_}
+use mathlib.Core.Path.{_≡_, ap, _∙_}
 use mathlib.Core.Logic.{_⊎_, inl, inr, ⊎-elim}
-use mathlib.Core.Bool.{Bool, true, false, _&&_, _||_}
+use mathlib.Core.Bool.{Bool, true, _&&_, _||_}
 use native.Mathlib.Omega.{arith}
 use native.Mathlib.Nat.{eq-or-lt-of-le}
 use Rattle.counting.specs.Search.{some, count}
@@ -54,24 +54,7 @@ module _ (start : ℕ → Bool) (link : ℕ → ℕ → Bool) (C : ℕ) where
   reach-start zero c e = e
   reach-start (suc n) c e = or-left (reach start link C n c) (some (λ d. reach start link C n d && link d c) C) (reach-start n c e)
 
-module _ (start : ℕ → Bool) (link : ℕ → ℕ → Bool) (C : ℕ) (P : ℕ → Bool) (s : (c : ℕ) → start c ≡ true → P c ≡ true)
-    (l : (d c : ℕ) → d < C → c < C → P d ≡ true → link d c ≡ true → P c ≡ true) where
-  -- what is closed and has the start has all that is reached
-  pub reach-within : (n c : ℕ) → c < C → reach start link C n c ≡ true → P c ≡ true
-  unfolding reach
-  reach-within zero c h e = s c e
-  reach-within (suc n) c h e = go (reach start link C n c) refl e (reach-within n c h) (λ d q. reach-within n d q)
-    where
-      go : (b : Bool) → reach start link C n c ≡ b → (b || some (λ d. reach start link C n d && link d c) C) ≡ true → (reach start link C n c ≡ true → P c ≡ true)
-          → ((d : ℕ) → d < C → reach start link C n d ≡ true → P d ≡ true) → P c ≡ true
-      go true q f ih all = ih q
-      go false q f ih all =
-          let w = some-is (λ d. reach start link C n d && link d c) C f in
-          let u = and-left (reach start link C n (w .0)) (link (w .0) c) (w .2) in
-          let v = and-right (reach start link C n (w .0)) (link (w .0) c) (w .2) in
-          l (w .0) c (w .1) h (all (w .0) (w .1) u) v
-
--- the same of a property that is no test
+-- what is closed and has the start has all that is reached
 module _ (start : ℕ → Bool) (link : ℕ → ℕ → Bool) (C : ℕ) (P : ℕ → Type 0) (s : (c : ℕ) → start c ≡ true → P c)
     (l : (d c : ℕ) → d < C → c < C → P d → link d c ≡ true → P c) where
   pub reach-holds : (n c : ℕ) → c < C → reach start link C n c ≡ true → P c

@@ -11,8 +11,9 @@ use borrow.Author.Tests.{lt-ltb, ltb-true}
 use Rattle.counting.specs.Pick.{pick, one}
 use Rattle.counting.specs.Range.{total}
 use Rattle.counting.specs.Search.{seek, first, last, some, every, count}
-use Rattle.counting.proofs.Bools.{clash, and-true, and-left, and-right, holds-or}
-use Rattle.counting.proofs.Range.{total-snoc}
+use Rattle.counting.proofs.Below.{trichotomy}
+use Rattle.counting.proofs.Bools.{clash, and-true, and-left, and-right, holds-or, one-le}
+use Rattle.counting.proofs.Range.{total-le, total-mono, total-snoc}
 
 -- below n, or at the last of suc n numbers
 pub below-or : (i n : ℕ) → i < suc n → (i ≡ n) ⊎ (i < n)
@@ -105,12 +106,8 @@ module _ (t : ℕ → Bool) where
       ⊎-elim (λ (e : first t n ≡ n). e) (λ (l : first t n < n). clash (first-is n l) (h (first t n) l)) (eq-or-lt-of-le (first-le n))
 
   pub first-at : (n i : ℕ) → i < n → t i ≡ true → ((j : ℕ) → j < i → t j ≡ false) → first t n ≡ i
-  first-at n i l e h = go (ltb (first t n) i) refl (ltb i (first t n)) refl
-    where
-      go : (x : Bool) → ltb (first t n) i ≡ x → (y : Bool) → ltb i (first t n) ≡ y → first t n ≡ i
-      go true p y q = let a = borrow.Author.Tests.ltb-true (first t n) i p in clash (first-is n (omega arith)) (h (first t n) a)
-      go false p true q = clash e (first-below n i (borrow.Author.Tests.ltb-true i (first t n) q))
-      go false p false q = omega (arith, borrow.Author.Tests.ltb-false (first t n) i p, borrow.Author.Tests.ltb-false i (first t n) q)
+  first-at n i l e h =
+      trichotomy (first t n) i (λ a. clash (first-is n (omega arith)) (h (first t n) a)) (λ a. clash e (first-below n i a)) (λ q. q)
 
   pub least : (n : ℕ) → Least t n
   least n =
@@ -319,13 +316,7 @@ module _ (t : ℕ → Bool) where
       ap (λ k. k + one (t n)) (count-total n) ∙ sym (total-snoc (λ i. one (t i)) n 0 ∙ ap (λ k. total (λ i. one (t i)) n 0 + one (t k)) e)
 
   pub count-le : (n : ℕ) → count t n ≤ n
-  unfolding count
-  count-le zero = omega arith
-  count-le (suc n) = go (count-le n) (t n)
-    where
-      go : count t n ≤ n → (b : Bool) → count t n + one b ≤ suc n
-      go h true = omega arith
-      go h false = omega arith
+  count-le n = rw (count-total n) (total-le (λ i. one (t i)) n 0 (λ i. one-le (t i)))
 
   pub count-none : (n : ℕ) → ((i : ℕ) → i < n → t i ≡ false) → count t n ≡ 0
   unfolding count
@@ -436,15 +427,11 @@ count-sum f g h (suc n) e = omega (arith, count-sum f g h n (λ i a. e i (omega 
 -- a test that implies another
 module _ (t u : ℕ → Bool) (into : (i : ℕ) → t i ≡ true → u i ≡ true) where
   pub count-into : (n : ℕ) → count t n ≤ count u n
-  unfolding count
-  count-into zero = omega arith
-  count-into (suc n) = go (count-into n) (t n) (u n) refl refl
+  count-into n = rw (count-total t n, count-total u n) (total-mono (λ i. one (t i)) (λ i. one (u i)) n 0 (λ i a b. go (t i) (u i) (into i)))
     where
-      go : count t n ≤ count u n → (x y : Bool) → t n ≡ x → u n ≡ y → count t n + one x ≤ count u n + one y
-      go h true true e f = omega arith
-      go h true false e f = clash (into n e) f
-      go h false true e f = omega arith
-      go h false false e f = omega arith
+      go : (x y : Bool) → (x ≡ true → y ≡ true) → one x ≤ one y
+      go true y h = rw (h refl) (omega arith)
+      go false y h = omega arith
 
   pub count-same : (n : ℕ) → count t n ≡ count u n → (i : ℕ) → i < n → t i ≡ u i
   unfolding count

@@ -10,8 +10,8 @@ use lib.Dec.{eqb, ltb}
 use lib.ListN.{getD, length, length-set, replicate, set}
 use lib.Seq.{getD-set-other, getD-set-same}
 use borrow.Author.Tests.{eq-eqb, eqb-false, eqb-true, le-ltb, lt-ltb, ltb-false, ltb-true}
-use Rattle.counting.specs.Pick.{one}
 use Rattle.counting.specs.Search.{count, last, some}
+use Rattle.counting.proofs.Bools.{one-le}
 use Rattle.counting.proofs.Search.{AtMostOne, count-one, count-two-of, count-zero, last-above, last-is, last-le}
 use Rattle.grid.specs.Work.{Mate, Mates, sameKey, thirdAt}
 
@@ -98,12 +98,8 @@ module _ {keys : List ℕ} {m : ℕ} {near : List ℕ} (w : Mates keys m near) (
       unfolding thirdAt sameKey
       third-not =
           le-ltb 1 (count (sameKey keys (getD keys m 0)) m)
-          (rw (count-one (sameKey keys (getD keys m 0)) m once) (most (some (sameKey keys (getD keys m 0)) m)))
+          (rw (count-one (sameKey keys (getD keys m 0)) m once) (one-le (some (sameKey keys (getD keys m 0)) m)))
         where
-          most : (b : Bool) → one b ≤ 1
-          most true = omega arith
-          most false = omega arith
-
           once : AtMostOne (sameKey keys (getD keys m 0)) m
           once i j a b k l = omega (arith, only i (omega arith) (eqb-true _ _ k), only j b (eqb-true _ _ l))
 

@@ -13,7 +13,7 @@ use Rattle.counting.specs.Search.{first, last, some}
 use Rattle.counting.proofs.Below.{trichotomy}
 use Rattle.counting.proofs.Bools.{and-left, and-right, and-true, bool-same, clash, holds-or}
 use Rattle.counting.proofs.Range.{mark}
-use Rattle.counting.proofs.Reach.{reach-closed, reach-start, reach-within}
+use Rattle.counting.proofs.Reach.{reach-closed, reach-holds, reach-start}
 use Rattle.counting.proofs.Search.{first-is, some-and, some-blocks, some-ext, some-first, some-found, some-is, some-none}
 use Rattle.slots.specs.Slots.{contains, hi, lo, lower, edgeRank, slotEdge, upper}
 use Rattle.slots.proofs.Slots.{edge-slot, face-ends, slot-edge, slot-rank}
@@ -229,7 +229,7 @@ module _ (G : Grid) (good : RisingCells (G .cells)) (keys near : List ℕ) (tk :
         → (c : ℕ) → c < cellCount (G .cells) → A c ≡ true → P c ≡ true
     unfolding A reached f
     reach-in P on start c h r =
-        reach-within (eqb f) (linked G e) (cellCount (G .cells)) P (λ d q. rw (← eqb-true f d q) start) on (cellCount (G .cells)) c h r
+        reach-holds (eqb f) (linked G e) (cellCount (G .cells)) (λ c. P c ≡ true) (λ d q. rw (← eqb-true f d q) start) on (cellCount (G .cells)) c h r
 
     -- a cell of the edge that is not linked, and one that is not marked
     unlinked : ℕ → Bool

@@ -4,7 +4,7 @@ use mathlib.Core.Path.{sym, ap, _∙_}
 use native.Mathlib.Omega.{arith}
 use lib.ListN.{length}
 use Rattle.counting.specs.Stored.{Summed}
-use Rattle.counting.proofs.Fronts.{length-over}
+use Rattle.counting.proofs.Range.{length-over}
 use Rattle.counting.proofs.Stored.{summed-none, summed-more, summed-all}
 use Rattle.cell.specs.Triangles.{cellTriangles}
 use Rattle.mesh.specs.Table.{tableCell, tableTriangles}

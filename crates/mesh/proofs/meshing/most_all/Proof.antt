@@ -3,8 +3,7 @@ use Prim.Native.Nat.{_-_, _≤_}
 use mathlib.Core.Path.{ap, _∙_}
 use native.Mathlib.Omega.{arith}
 use Rattle.counting.specs.Stored.{Summed}
-use Rattle.counting.proofs.Fronts.{length-over}
-use Rattle.counting.proofs.Range.{total-mono}
+use Rattle.counting.proofs.Range.{length-over, total-mono}
 use Rattle.counting.proofs.Stored.{summed-none, summed-more, summed-all}
 use Rattle.cell.specs.Cell.{crossings}
 use Rattle.cell.specs.Of.{edgesOf}
