@@ -1,45 +1,42 @@
-use borrow.Author.Needs.{needs}
+use Prim.Native.Nat.{_+_, _*_}
+use lib.ListN.{length}
+use Rattle.cell.specs.Words.{wordCount}
+use Rattle.cell.specs.Triangles.{cellTriangles}
+use native.Mathlib.Omega.{arith}
+use mathlib.Core.Path.{sym}
+use borrow.Author.Tests.{le-leb, lt-leb}
+use Rattle.cell.proofs.Using.{used-none, cleared-used, cleared-same}
+use Rattle.cell.proofs.Taken.{cell-few}
+use Rattle.cell.proofs.Fits.{room-left}
 use Rattle.cell.proofs.triangles.has_room.Statement.{statement}
 use Rattle.cell.proofs.triangles.has_room.Tie as tie
-use Rattle.cell.proofs.triangles.has_room.Reads as reads
-use Rattle.cell.proofs.triangles.has_room.Lts as lts
-use Rattle.cell.proofs.triangles.count.Reads as count-reads
 
--- src/triangles.rt:111:9
 returns : tie.Need-returns
-returns c = ?
+returns c = (sym (lt-leb (c .before .before .before .before .args .at + wordCount * length (cellTriangles (c .before .before .before .before .args .c))) (c .before .before .before .before .args .room) (omega arith)), used-none _ _ _ _)
 
--- src/triangles.rt:113:8
 mul-if2 : tie.Need-mul-if2
-mul-if2 c = search needs
+mul-if2 c = omega (arith, c .before .before .before .before .pre .few)
 
--- src/triangles.rt:114:9
 returns-2 : tie.Need-returns-2
-returns-2 c = ?
+returns-2 c = (sym (le-leb (c .before .before .before .before .before .args .at + wordCount * length (cellTriangles (c .before .before .before .before .before .args .c))) (c .before .before .before .before .before .args .room) (omega (arith, cell-few (c .before .before .before .before .before .args .c), c .before .before .before .before .before .pre .all))), used-none _ _ _ _)
 
--- src/triangles.rt:116:9
 count-requires : tie.Need-count-requires
-count-requires c κs = search needs
+count-requires c κs = c .before .before .before .before .before .before .before .before .pre
 
--- src/triangles.rt:117:5
 mul-result : tie.Need-mul-result
-mul-result c = search needs
+mul-result c = omega (arith, c .before .before .before .before .before .before .count .ensures .0 .1)
 
--- src/triangles.rt:97:1
 same-length : tie.Need-same-length
-same-length c = search needs
+same-length c = cleared-same (c .before .before .before .before .before .before .count .ensures .1) .0
 
--- src/triangles.rt:97:1
 same-length-2 : tie.Need-same-length-2
-same-length-2 c = search needs
+same-length-2 c = cleared-same (c .before .before .before .before .before .before .count .ensures .1) .1
 
--- src/triangles.rt:97:1
 same-length-3 : tie.Need-same-length-3
-same-length-3 c = search needs
+same-length-3 c = cleared-same (c .before .before .before .before .before .before .count .ensures .1) .2
 
--- src/triangles.rt:97:1
 returns-3 : tie.Need-returns-3
-returns-3 c = ?
+returns-3 c = (rw (c .before .before .before .before .before .before .count .ensures .0 .0) (room-left _ (c .before .before .before .before .before .before .before .before .before .before .before .before .before .before .before .args .at) (c .before .before .before .before .before .before .before .before .before .before .before .before .before .before .before .args .room) (omega arith)), cleared-used (c .before .before .before .before .before .before .before .before .before .before .before .before .before .before .before .pre) (c .before .before .before .before .before .before .count .ensures .1))
 
 pub has-room-spec : {M : Type 1} → statement M
 has-room-spec =

@@ -1,45 +1,34 @@
+use mathlib.Core.Path.{sym, _∙_}
+use borrow.Author.Tests.{leb-true}
+use Rattle.cell.proofs.Using.{used-cleared}
+use Rattle.cell.proofs.Fits.{no-room, has-room}
 use borrow.Author.Needs.{needs}
 use Rattle.cell.proofs.triangles.write_in.Statement.{statement}
 use Rattle.cell.proofs.triangles.write_in.Tie as tie
-use Rattle.cell.proofs.triangles.write_in.Reads as reads
-use Rattle.cell.proofs.triangles.write_in.Lts as lts
-use Rattle.cell.proofs.routes.crossings_of.Reads as crossings-of-reads
-use Rattle.cell.proofs.triangles.has_room.Reads as has-room-reads
-use Rattle.cell.proofs.triangles.write_all.Reads as write-all-reads
-use Rattle.cell.proofs.walks.clear.Reads as clear-reads
-use Rattle.cell.proofs.walks.wipe.Reads as wipe-reads
 
--- src/triangles.rt:133:9
 crossings-of-requires : tie.Need-crossings-of-requires
 crossings-of-requires c κs = search needs
 
--- src/triangles.rt:134:8
 has-room-requires : tie.Need-has-room-requires
 has-room-requires c κs = search needs
 
--- src/triangles.rt:135:9
 write-all-requires : tie.Need-write-all-requires
-write-all-requires c κs = ?
+write-all-requires c κs = (search needs, leb-true _ _ (sym (c .before .before .before .before .before .has-room .ensures .0) ∙ c .before .before .before .before .if1 .taken))
 
--- src/triangles.rt:135:9
 same-length : tie.Need-same-length
 same-length c = search needs
 
--- src/triangles.rt:135:9
 returns : tie.Need-returns
-returns c = ?
+returns c = (has-room _ _ _ (leb-true _ _ (sym (c .before .before .before .before .before .before .before .before .has-room .ensures .0) ∙ c .before .before .before .before .before .before .before .if1 .taken)) (c .before .before .write-all .ensures .0), used-cleared (record { all = c .before .before .before .before .before .before .before .before .before .before .before .before .crossings-of .ensures .0; few = c .before .before .before .before .before .before .before .before .before .before .before .before .crossings-of .ensures .1; long = search needs }) (c .before .before .before .before .before .before .before .before .has-room .ensures .1) (rw (c .before .before .before .before .before .before .before .before .before .before .before .before .crossings-of .ensures .0) (c .before .before .write-all .ensures .1 .marks-are)) (rw (c .before .before .before .before .before .before .before .before .before .before .before .before .crossings-of .ensures .0) (c .before .before .write-all .ensures .1 .halves-are)) (rw (c .before .before .before .before .before .before .before .before .before .before .before .before .crossings-of .ensures .0) (c .before .before .write-all .ensures .1 .points-are)))
 
--- src/triangles.rt:137:5
 clear-requires : tie.Need-clear-requires
 clear-requires c κs = search needs
 
--- src/triangles.rt:138:5
 wipe-requires : tie.Need-wipe-requires
 wipe-requires c κs = search needs
 
--- src/triangles.rt:122:1
 returns-2 : tie.Need-returns-2
-returns-2 c = ?
+returns-2 c = (no-room _ _ _ (sym (c .before .before .before .before .before .before .has-room .ensures .0) ∙ c .before .before .before .before .before .if1 .left), used-cleared (record { all = c .before .before .before .before .before .before .before .before .before .before .crossings-of .ensures .0; few = c .before .before .before .before .before .before .before .before .before .before .crossings-of .ensures .1; long = search needs }) (c .before .before .before .before .before .before .has-room .ensures .1) (c .before .before .before .clear .ensures) (c .wipe .ensures .0) (c .wipe .ensures .1))
 
 pub write-in-spec : {M : Type 1} → statement M
 write-in-spec =

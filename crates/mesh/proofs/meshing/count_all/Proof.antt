@@ -6,28 +6,29 @@ use lib.ListN.{length}
 use Rattle.counting.specs.Stored.{Summed}
 use Rattle.counting.proofs.Range.{length-over}
 use Rattle.counting.proofs.Stored.{summed-none, summed-more, summed-all}
+use Rattle.cell.specs.Route.{mostInCell}
 use Rattle.cell.specs.Triangles.{cellTriangles}
 use Rattle.mesh.specs.Table.{tableCell, tableTriangles}
 use Rattle.mesh.proofs.meshing.count_all.Statement.{statement}
 use Rattle.mesh.proofs.meshing.count_all.Tie as tie
 
 abbrev Inv-loop : tie.InvT-loop
-Inv-loop cells counts names sides starts marks₀ halves₀ points₀ lengths₀ n t₀ c₀ marks halves points lengths t c =
-    (c ≤ n) × Summed (λ k. length (cellTriangles (tableCell cells counts names sides starts k))) 1530 c t
+Inv-loop cells counts names sides starts marks₀ halves₀ points₀ n t₀ c₀ marks halves points t c =
+    (c ≤ n) × Summed (λ k. length (cellTriangles (tableCell cells counts names sides starts k))) mostInCell c t
 
 abbrev μ-loop : tie.MeasureT-loop
-μ-loop cells counts names sides starts marks₀ halves₀ points₀ lengths₀ n t₀ c₀ marks halves points lengths t c = n - c
+μ-loop cells counts names sides starts marks₀ halves₀ points₀ n t₀ c₀ marks halves points t c = n - c
 
 loop-holds : tie.Need-loop-holds Inv-loop μ-loop
 loop-holds c = (omega arith, summed-none _ _)
 
 add-t : tie.Need-add-t Inv-loop μ-loop
-add-t c = omega (arith, c .count-in .ensures .0 .1, c .before .before .before .before .before .before .before .loop .inv .1 .few, c .before .before .before .before .before .before .before .before .before .before .pre)
+add-t c = omega (arith, c .count-in .ensures .0 .1, c .before .before .before .before .before .before .loop .inv .1 .few, c .before .before .before .before .before .before .before .before .before .pre)
 
 loop-again : tie.Need-loop-again Inv-loop μ-loop
 loop-again c =
-    let e = c .before .before .before .before .before .cell-at .ensures in
-    (omega arith, summed-more _ _ (c .before .before .before .before .before .before .before .loop .inv .1) _ (c .count-in .ensures .0 .0 ∙ ap (λ v. length (cellTriangles v)) e) (c .count-in .ensures .0 .1))
+    let e = c .before .before .before .before .cell-at .ensures in
+    (omega arith, summed-more _ _ (c .before .before .before .before .before .before .loop .inv .1) _ (c .count-in .ensures .0 .0 ∙ ap (λ v. length (cellTriangles v)) e) (c .count-in .ensures .0 .1))
 
 returns : tie.Need-returns Inv-loop μ-loop
 unfolding tableTriangles

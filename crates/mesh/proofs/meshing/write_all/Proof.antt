@@ -15,11 +15,11 @@ use Rattle.mesh.proofs.meshing.write_all.Statement.{statement}
 use Rattle.mesh.proofs.meshing.write_all.Tie as tie
 
 abbrev Inv-loop : tie.InvT-loop
-Inv-loop cells counts names sides starts area₀ marks₀ halves₀ points₀ lengths₀ n i₀ c₀ area marks halves points lengths i c =
+Inv-loop cells counts names sides starts area₀ marks₀ halves₀ points₀ n i₀ c₀ area marks halves points i c =
     (c ≤ n) × Stored area₀ 0 (over (λ k. allWords (cellTriangles (tableCell cells counts names sides starts k))) c 0) area i
 
 abbrev μ-loop : tie.MeasureT-loop
-μ-loop cells counts names sides starts area₀ marks₀ halves₀ points₀ lengths₀ n i₀ c₀ area marks halves points lengths i c = n - c
+μ-loop cells counts names sides starts area₀ marks₀ halves₀ points₀ n i₀ c₀ area marks halves points i c = n - c
 
 loop-holds : tie.Need-loop-holds Inv-loop μ-loop
 unfolding over
@@ -28,10 +28,10 @@ loop-holds c = (omega arith, stored-none _ _)
 loop-again : tie.Need-loop-again Inv-loop μ-loop
 unfolding tableTriangles
 loop-again c =
-    let L = c .before .before .before .before .before .before .before .before .before .before .loop in
-    let e = c .before .before .before .before .before .before .before .before .cell-at .ensures in
+    let L = c .before .before .before .before .before .before .before .before .before .loop in
+    let e = c .before .before .before .before .before .before .before .cell-at .ensures in
     let w = c .before .before .write-in .ensures .0 in
-    let r = writing-room _ _ (L .inv .1) _ (omega arith) (c .before .before .before .before .before .before .before .before .before .before .before .before .before .before .pre) in (
+    let r = writing-room _ _ (L .inv .1) _ (omega arith) (c .before .before .before .before .before .before .before .before .before .before .before .before .before .pre) in (
       omega arith,
       writing-more _ _ (L .inv .1) (w .0 ∙ ap (λ v. nextAt v (L .area) (L .i)) e ∙ next-is _ (L .area) (L .i) r) (w .1 ∙ ap (λ v. areaThen v (L .area) (L .i)) e ∙ area-is _ (L .area) (L .i) r),
     )
