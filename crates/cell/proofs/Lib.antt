@@ -26,3 +26,4 @@ pub mod Holding
 pub mod Cells
 pub mod Fits
 pub mod TriangleClaims
+pub mod Renaming

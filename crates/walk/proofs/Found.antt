@@ -1,6 +1,6 @@
 -- The walk finds a loop from its least crossing, and every one.
 use Prim.Native.Nat.{ℕ, zero, suc, _+_, _*_, _/_, _≤_, _<_}
-use mathlib.Core.Path.{_≡_, refl, sym, _∙_, subst}
+use mathlib.Core.Path.{_≡_, refl, sym, ap, _∙_, subst}
 use mathlib.Core.Logic.{_≢_, ⊎-elim}
 use mathlib.Core.Bool.{Bool, true, false}
 use native.Mathlib.Nat.{not-suc-le-zero, eq-or-lt-of-le, zero-add}
@@ -10,6 +10,7 @@ use borrow.Author.Tests.{eqb-true, eqb-false, ltb-true, ltb-false, lt-ltb, le-lt
 use Rattle.walk.specs.Iterate.{it}
 use Rattle.walk.specs.Darts.{half, Darts, Loop, Lowest}
 use Rattle.walk.specs.Walk.{Status, home, off, on, status, judge, turn, size}
+use Rattle.walk.proofs.Iterate.{it-suc}
 use Rattle.walk.proofs.Curve.{no-return, distinct}
 
 module _ (s : ℕ → ℕ) (at : ℕ → Status) where
@@ -158,3 +159,28 @@ size-live N s p (suc i) l h = go (size N s p) refl h
     go (suc r) e g =
         let (j, f, c) = came s (status (2 * N) p) N 1 (s (2 * p)) r e in
         place-on (2 * N) p (it s i (s (2 * p))) (c .way i (omega arith)) .0
+
+-- steps that agree on the darts below 2 * N take the same walks, and find the same loops
+module _ (N : ℕ) (s t : ℕ → ℕ) (same : (d : ℕ) → d < 2 * N → s d ≡ t d) where
+  pub it-ext : (k d : ℕ) → ((i : ℕ) → i < k → it s i d < 2 * N) → it s k d ≡ it t k d
+  unfolding it
+  it-ext zero d h = refl
+  it-ext (suc k) d h =
+      it-suc s k d ∙ same (it s k d) (h k (omega arith)) ∙ ap t (it-ext k d (λ i l. h i (omega arith))) ∙ sym (it-suc t k d)
+
+  turn-ext : (p n k d : ℕ) → turn s (status (2 * N) p) n k d ≡ turn t (status (2 * N) p) n k d
+  unfolding turn
+  turn-ext p zero k d = refl
+  turn-ext p (suc n) k d = go (turn-ext p n (suc k) (s d)) (status (2 * N) p d) refl
+    where
+      go : turn s (status (2 * N) p) n (suc k) (s d) ≡ turn t (status (2 * N) p) n (suc k) (s d)
+          → (x : Status) → status (2 * N) p d ≡ x → turn s (status (2 * N) p) (suc n) k d ≡ turn t (status (2 * N) p) (suc n) k d
+      go ih home e = turn-home s (status (2 * N) p) n k d e ∙ sym (turn-home t (status (2 * N) p) n k d e)
+      go ih off e = turn-off s (status (2 * N) p) n k d e ∙ sym (turn-off t (status (2 * N) p) n k d e)
+      go ih on e =
+          turn-on s (status (2 * N) p) n k d e ∙ ih ∙ ap (turn t (status (2 * N) p) n (suc k)) (same d (place-on (2 * N) p d e .0))
+          ∙ sym (turn-on t (status (2 * N) p) n k d e)
+
+  pub size-ext : (p : ℕ) → p < N → size N s p ≡ size N t p
+  unfolding size
+  size-ext p l = turn-ext p N 1 (s (2 * p)) ∙ ap (turn t (status (2 * N) p) N 1) (same (2 * p) (omega arith))
