@@ -10,7 +10,6 @@ use lib.Dec.{eqb}
 use lib.ListN.{length}
 use borrow.Author.Tests.{eqb-true, eqb-false, le-ltb, lt-ltb, not-true}
 use Rattle.counting.specs.Pick.{pick}
-use Rattle.counting.specs.Lists.{All}
 use Rattle.counting.specs.Search.{first, seek, some}
 use Rattle.counting.proofs.Bools.{and-left, and-right}
 use Rattle.counting.proofs.Search.{first-at, first-below, first-is, none-first, some-first, some-none}
@@ -42,18 +41,9 @@ unfolding first seek
 whole-fine b e = rw e
 
 -- lists of rows, from the first on
-clear-cons : (row : Row) (more : List Row) → Clear row → AllClear more → AllClear (row ∷ more)
-clear-cons row more h k zero l = h
-clear-cons row more h k (suc i) l = k i (omega arith)
-
 earlier-cons : (row : Row) (more : List Row) (n : ℕ) → Clear row → ((i : ℕ) → i < n → Clear (rowAt more i)) → (i : ℕ) → i < suc n → Clear (rowAt (row ∷ more) i)
 earlier-cons row more n h k zero l = h
 earlier-cons row more n h k (suc i) l = k i (omega arith)
-
-pub clear-each : (rows : List Row) → All Clear rows → AllClear rows
-unfolding All
-clear-each [] a = λ i l. absurd (not-suc-le-zero l)
-clear-each (row ∷ more) a = clear-cons row more (a .0) (clear-each more (a .1))
 
 pub clear-or-refusal : (rows : List Row) → AllClear rows ⊎ ((n : ℕ) × (p : ℕ) × Refusal rows n p)
 clear-or-refusal [] = inl (λ i l. absurd (not-suc-le-zero l))
@@ -76,7 +66,7 @@ clear-or-refusal (row ∷ more) = go (some (row .fault) (row .places)) refl (cle
             earlier = λ i h. absurd (not-suc-le-zero h);
           },
         )
-    go false e (inl h) = inl (clear-cons row more (some-none (row .fault) (row .places) e) h)
+    go false e (inl h) = inl (earlier-cons row more (length more) (some-none (row .fault) (row .places) e) h)
     go false e (inr (n, p, r)) =
         inr (
           n,

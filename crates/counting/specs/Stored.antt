@@ -1,4 +1,5 @@
--- Only contracts of parts cite this file. How far a loop has come that stores values or lists one after the other, or sums.
+-- A list filled from the front; and how far a loop has come that stores values or lists one after the other, or sums: only contracts and proofs of
+-- parts cite the two records.
 use Prim.Native.Nat.{ℕ, _+_, _*_, _≤_}
 use mathlib.Core.Path.{_≡_}
 use mathlib.Core.List.{List}

@@ -1,4 +1,4 @@
--- Only contracts of parts cite this file. The three corner counts of a face in the order of its nodes.
+-- The three corner counts of a face in the order of its nodes.
 use Prim.Native.Nat.{ℕ}
 use mathlib.Core.List.{List, [], _∷_}
 use Rattle.face.specs.declared.CornerCounts.{CornerCounts}

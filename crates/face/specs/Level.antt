@@ -1,5 +1,5 @@
--- Rule 1 (01) alone: a face with an even sum of counts and none above the other two, and such a face with corner segments taken off. Stated for
--- cells whose four faces are such (02, W9 and W12); no contract cites it.
+-- Only proofs cite this file. Rule 1 (01) alone: a face with an even sum of counts and none above the other two, and such a face with corner
+-- segments taken off. Stated for cells whose four faces are such (02, W9 and W12).
 use Prim.Native.Nat.{ℕ, _+_, _-_, _%_, _<_, _≤_}
 use mathlib.Core.Path.{_≡_}
 use mathlib.Core.Logic.{_≢_}

@@ -1,14 +1,14 @@
 -- A grid is accepted exactly where it is as the record of acceptance says.
-use Prim.Native.Nat.{ℕ, _%_, _*_, _+_, _/_, _<_}
-use mathlib.Core.Path.{_≡_, refl}
-use mathlib.Core.Bool.{Bool, false, true}
+use Prim.Native.Nat.{ℕ, _%_, _*_, _+_, _/_, _<_, _≤_}
+use mathlib.Core.Path.{_≡_}
+use mathlib.Core.Bool.{false}
+use native.Mathlib.Decide.{decLt}
 use native.Mathlib.Omega.{arith}
-use lib.Dec.{ltb}
 use lib.ListN.{List·getD-eq-default, getD, length}
-use borrow.Author.Tests.{ltb-false, ltb-true}
 use Rattle.counting.specs.Lists.{All}
-use Rattle.answer.specs.Rows.{AllClear, Clear, rowAt, since}
-use Rattle.answer.proofs.Rows.{clear-each, clear-since}
+use Rattle.answer.specs.Rows.{AllClear, Clear, rowAt, since, whole}
+use Rattle.answer.proofs.Rows.{clear-since}
+use Rattle.counting.proofs.Lists.{all-at}
 use Rattle.grid.specs.Accepted.{Accepted, Sound}
 use Rattle.grid.specs.Claims.{AcceptanceYields, AcceptedAnswer, NumbersOfSound}
 use Rattle.grid.specs.Grid.{Grid}
@@ -28,15 +28,13 @@ ordered G S = record {
 }
   where
     small : (i : ℕ) → getD (G .cells) i 0 < 65536
-    small i = go (ltb i (length (G .cells))) refl
-      where
-        go : (b : Bool) → ltb i (length (G .cells)) ≡ b → getD (G .cells) i 0 < 65536
-        go true e =
-            let l = ltb-true i (length (G .cells)) e in
-            let q : 4 * (i / 4) + i % 4 ≡ i = omega arith in
-            let k = S .within (i / 4) (i % 4) (omega (arith, S .fours)) (omega arith) in
-            omega (arith, rw q at k)
-        go false e = omega (arith, List·getD-eq-default (G .cells) 0 (ltb-false i (length (G .cells)) e))
+    small i = elim (decLt i (length (G .cells))) [
+      | yes l ↦
+          let q : 4 * (i / 4) + i % 4 ≡ i = omega arith in
+          let k = S .within (i / 4) (i % 4) (omega (arith, S .fours)) (omega arith) in
+          omega (arith, rw q at k)
+      | no l ↦ let m : length (G .cells) ≤ i = omega arith in omega (arith, List·getD-eq-default (G .cells) 0 m)
+    ]
 
 module _ (G : Grid) (clear : AllClear (rows G)) where
   none : (n : ℕ) → Clear (rowAt (since n (rows G)) 0)
@@ -64,7 +62,7 @@ all-clear : (G : Grid) → Accepted G → AllClear (rows G)
 unfolding rows All
 all-clear G A =
     let F = faultless G (A .sound) in
-    clear-each (rows G) (λ p h. F .row-1, (λ p h. F .row-2, (F .row-3, (F .row-4, (F .row-5, (F .row-6, (F .row-7, (F .row-8, (links-clear G (A .linked), (λ p h. F .row-10, tt))))))))))
+    all-at Clear (whole 0 false) (rows G) (λ p h. F .row-1, (λ p h. F .row-2, (F .row-3, (F .row-4, (F .row-5, (F .row-6, (F .row-7, (F .row-8, (links-clear G (A .linked), (λ p h. F .row-10, tt))))))))))
 
 pub acceptance-yields : AcceptanceYields
 acceptance-yields G values e = accepted G (clear-accepted G values e)

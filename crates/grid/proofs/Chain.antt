@@ -1,10 +1,10 @@
 -- Laws of keys chained by their remainder.
 use Prim.Native.Nat.{ℕ, _%_, _+_, _-_, _<_, _≤_}
-use mathlib.Core.Path.{_∙_, _≡_, ap, refl, sym}
-use mathlib.Core.Bool.{Bool, false, true}
+use mathlib.Core.Path.{_∙_, _≡_, ap, sym}
+use mathlib.Core.Bool.{false, true}
 use mathlib.Core.List.{List}
+use native.Mathlib.Decide.{ℕ-discrete}
 use native.Mathlib.Omega.{arith}
-use lib.Dec.{eqb}
 use lib.ListN.{getD, getD-replicate, length, length-replicate, length-set, replicate, set}
 use lib.Seq.{getD-set-other, getD-set-same}
 use borrow.Author.Tests.{eq-eqb, eqb-false, eqb-true, ne-eqb}
@@ -89,13 +89,8 @@ module _ {keys head next₀ next : List ℕ} {j : ℕ} (w : Chaining keys head n
       }
     where
       ends : (i : ℕ) → i < buckets → getD (set head h (j + 1)) i 0 ≡ last (inBucket keys i) (j + 1)
-      ends i l = go (eqb h i) refl
-        where
-          go : (x : Bool) → eqb h i ≡ x → getD (set head h (j + 1)) i 0 ≡ last (inBucket keys i) (j + 1)
-          go true e =
-              let q : h ≡ i = eqb-true h i e in
-              rw (← q, getD-set-same head h (j + 1) 0 (omega (arith, w .heads))) (sym (last-hit (inBucket keys h) j (eq-eqb (getD keys j 0 % buckets) h (sym eh))))
-          go false e =
-              getD-set-other head h i (j + 1) 0 (λ q. eqb-false h i e (sym q))
-              ∙ w .headed i l
-              ∙ sym (last-miss (inBucket keys i) j (ne-eqb (getD keys j 0 % buckets) i (λ q. eqb-false h i e (eh ∙ q))))
+      ends i l = elim (ℕ-discrete h i) [
+        | yes q ↦ rw (← q, getD-set-same head h (j + 1) 0 (omega (arith, w .heads))) (sym (last-hit (inBucket keys h) j (eq-eqb (getD keys j 0 % buckets) h (sym eh))))
+        | no n ↦ getD-set-other head h i (j + 1) 0 (λ q. n (sym q)) ∙ w .headed i l
+            ∙ sym (last-miss (inBucket keys i) j (ne-eqb (getD keys j 0 % buckets) i (λ q. n (eh ∙ q))))
+      ]

@@ -5,11 +5,10 @@ use mathlib.Core.Logic.{_≢_, _⊎_, inl, inr, ⊎-elim}
 use mathlib.Core.Bool.{Bool, false, true}
 use mathlib.Core.List.{List, [], _∷_}
 use native.Mathlib.Nat.{eq-zero-or-pos}
-use native.Mathlib.Decide.{decLt}
+use native.Mathlib.Decide.{decLt, ℕ-discrete}
 use native.Mathlib.Omega.{arith}
-use lib.Dec.{eqb}
 use lib.ListN.{getD, length}
-use borrow.Author.Tests.{eq-eqb, eqb-false, eqb-true, le-ltb, lt-ltb, ne-eqb}
+use borrow.Author.Tests.{eq-eqb, le-ltb, lt-ltb, ne-eqb}
 use Rattle.counting.specs.Search.{first}
 use Rattle.counting.specs.Stored.{filled}
 use Rattle.counting.proofs.Bools.{not-clash}
@@ -46,17 +45,12 @@ module _ (cells near : List ℕ) (good : RisingCells cells) (N : Near cells near
 
   -- whatever is the same face is the slot itself or the one across
   only : (m : ℕ) → m < 4 * cellCount cells → sameFace cells (m / 4) (m % 4) (j / 4) (j % 4) ≡ true → (m ≡ j) ⊎ ((m / 4 ≢ j / 4) × (getD near j 0 ≡ m + 1))
-  only m l e = go (eqb (m / 4) (j / 4)) refl
-    where
-      go : (b : Bool) → eqb (m / 4) (j / 4) ≡ b → (m ≡ j) ⊎ ((m / 4 ≢ j / 4) × (getD near j 0 ≡ m + 1))
-      go true q =
-          let f = eqb-true (m / 4) (j / 4) q in
-          let g = one-slot cells good (j / 4) (m % 4) (j % 4) (omega arith) (omega arith) (omega arith) (rw f at e) in
-          inl (omega arith)
-      go false q =
-          let f = eqb-false (m / 4) (j / 4) q in
-          let k : 4 * (m / 4) + m % 4 ≡ m = omega arith in
-          inr (f, rw (whole, k) at (N .all (m / 4) (m % 4) (j / 4) (j % 4) (omega arith) (omega arith) (omega arith) (omega arith) f e))
+  only m l e = elim (ℕ-discrete (m / 4) (j / 4)) [
+    | yes f ↦ let g = one-slot cells good (j / 4) (m % 4) (j % 4) (omega arith) (omega arith) (omega arith) (rw f at e) in inl (omega arith)
+    | no f ↦
+        let k : 4 * (m / 4) + m % 4 ≡ m = omega arith in
+        inr (f, rw (whole, k) at (N .all (m / 4) (m % 4) (j / 4) (j % 4) (omega arith) (omega arith) (omega arith) (omega arith) f e))
+  ]
 
   passes : ℕ → Bool
   passes m = sameFace cells (m / 4) (m % 4) (j / 4) (j % 4)

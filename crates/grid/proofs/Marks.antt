@@ -5,7 +5,7 @@ use mathlib.Core.Logic.{_≢_, _⊎_, inl, inr, ⊎-elim}
 use mathlib.Core.Bool.{Bool, false, not, true}
 use mathlib.Core.List.{List}
 use native.Mathlib.Nat.{eq-or-lt-of-le, le-refl}
-use native.Mathlib.Decide.{decLt}
+use native.Mathlib.Decide.{decLt, ℕ-discrete}
 use native.Mathlib.Omega.{arith}
 use lib.Dec.{eqb}
 use lib.ListN.{getD, length, length-set, set}
@@ -49,12 +49,7 @@ pub record Going (keys near : List ℕ) (n key mark b : ℕ) (marks₀ marks : L
 
 module _ {keys near : List ℕ} {n key mark b : ℕ} {marks₀ marks : List ℕ} {j r : ℕ} (J : Paired keys near n) (g : Going keys near n key mark b marks₀ marks j r) where
   closing : (getD near j 0 ≡ 0) ⊎ (getD marks ((getD near j 0 - 1) / 4) 0 ≡ mark) → Open keys near n key mark marks b b
-  closing done = record { at = λ i l s m p q. go i l s m p (eqb i j) refl }
-    where
-      go : (i : ℕ) → i < 4 * n → KeySlot keys key i → getD marks (i / 4) 0 ≡ mark → i ≢ b → (x : Bool) → eqb i j ≡ x
-          → (getD near i 0 ≡ 0) ⊎ (getD marks ((getD near i 0 - 1) / 4) 0 ≡ mark)
-      go i l s m p true e = let q : i ≡ j = eqb-true i j e in rw q done
-      go i l s m p false e = g .opens .at i l s m (eqb-false i j e) p
+  closing done = record { at = λ i l s m p q. elim (ℕ-discrete i j) [ yes e ↦ rw e done | no e ↦ g .opens .at i l s m e p ] }
 
   module _ (p : ℕ) (e : p ≡ getD near j 0) where
     pub going-end : p ≤ 0 → Open keys near n key mark marks b b
@@ -126,33 +121,29 @@ module _ {keys near : List ℕ} {n key mark b : ℕ} {marks₀ marks : List ℕ}
         was c q m = sym (getD-set-other marks ((p - 1) / 4) c mark 0 q) ∙ m
 
         opened : (i : ℕ) → i < 4 * n → KeySlot keys key i → getD (set marks ((p - 1) / 4) mark) (i / 4) 0 ≡ mark → i ≢ 4 * ((p - 1) / 4) + o → i ≢ b
-            → (x y : Bool) → eqb (i / 4) ((p - 1) / 4) ≡ x → eqb i j ≡ y
             → (getD near i 0 ≡ 0) ⊎ (getD (set marks ((p - 1) / 4) mark) ((getD near i 0 - 1) / 4) 0 ≡ mark)
         unfolding o
-        opened i l s m q r true y ex ey =
-            let d : i / 4 ≡ (p - 1) / 4 = eqb-true _ _ ex in
-            let third = third-of k ((p - 1) % 4) hk (omega arith) h₁ .only (i % 4) (omega arith) (holds i d s) in
-            ⊎-elim
-            (λ (f : i % 4 ≡ (p - 1) % 4).
-            let same : i ≡ p - 1 = omega arith in
-            let bk : getD near i 0 ≡ j + 1 = rw (same, e) (J .back j (g .slot) there .1) in
-            let z : (j + 1 - 1) ≡ j = omega arith in
-            inr (rw (bk, z) (kept (j / 4) (g .here))))
-            (λ (f : i % 4 ≡ otherSlot k ((p - 1) % 4)). absurd (q (omega arith)))
-            third
-        opened i l s m q r false true ex ey = let f : i ≡ j = eqb-true i j ey in inr (rw (f, ← e) now)
-        opened i l s m q r false false ex ey =
-            ⊎-elim
-            (λ (z : getD near i 0 ≡ 0). inl z)
-            (λ (z : getD marks ((getD near i 0 - 1) / 4) 0 ≡ mark). inr (kept _ z))
-            (g .opens .at i l s (was (i / 4) (eqb-false _ _ ex) m) (eqb-false i j ey) r)
+        opened i l s m q r = elim (ℕ-discrete (i / 4) ((p - 1) / 4)) [
+          | yes d ↦ ⊎-elim
+              (λ (f : i % 4 ≡ (p - 1) % 4).
+              let same : i ≡ p - 1 = omega arith in
+              let bk : getD near i 0 ≡ j + 1 = rw (same, e) (J .back j (g .slot) there .1) in
+              let z : (j + 1 - 1) ≡ j = omega arith in
+              inr (rw (bk, z) (kept (j / 4) (g .here))))
+              (λ (f : i % 4 ≡ otherSlot k ((p - 1) % 4)). absurd (q (omega arith)))
+              (third-of k ((p - 1) % 4) hk (omega arith) h₁ .only (i % 4) (omega arith) (holds i d s))
+          | no d ↦ elim (ℕ-discrete i j) [
+            | yes f ↦ inr (rw (f, ← e) now)
+            | no f ↦ ⊎-elim (λ (z : getD near i 0 ≡ 0). inl z) (λ (z : getD marks ((getD near i 0 - 1) / 4) 0 ≡ mark). inr (kept _ z))
+                (g .opens .at i l s (was (i / 4) d m) f r)
+          ]
+        ]
 
-        inside : (P : ℕ → Bool) → Closed keys near n key P → ((c : ℕ) → getD marks₀ c 0 ≡ mark → P c ≡ true) → (c : ℕ) → getD (set marks ((p - 1) / 4) mark) c 0 ≡ mark
-            → (x : Bool) → eqb c ((p - 1) / 4) ≡ x → P c ≡ true
-        inside P cl h c m true q =
-            let f : c ≡ (p - 1) / 4 = eqb-true _ _ q in
-            rw (f, e) (cl j (g .slot) (g .side) there (g .grown .within P cl h (j / 4) (g .here)))
-        inside P cl h c m false q = g .grown .within P cl h c (was c (eqb-false _ _ q) m)
+        inside : (P : ℕ → Bool) → Closed keys near n key P → ((c : ℕ) → getD marks₀ c 0 ≡ mark → P c ≡ true) → (c : ℕ) → getD (set marks ((p - 1) / 4) mark) c 0 ≡ mark → P c ≡ true
+        inside P cl h c m = elim (ℕ-discrete c ((p - 1) / 4)) [
+          | yes f ↦ rw (f, e) (cl j (g .slot) (g .side) there (g .grown .within P cl h (j / 4) (g .here)))
+          | no f ↦ g .grown .within P cl h c (was c f m)
+        ]
 
         on-edge : Going keys near n key mark b marks₀ (set marks ((p - 1) / 4) mark) (4 * ((p - 1) / 4) + o) (rankIn o ((p - 1) % 4))
         unfolding o
@@ -160,25 +151,24 @@ module _ {keys near : List ℕ} {n key mark b : ℕ} {marks₀ marks : List ℕ}
             record {
               rank-is = rw (next-mod, third-of k ((p - 1) % 4) hk (omega arith) h₁ .back);
               slot = omega (arith, o-lt, cell);
-              side = record { k = k; lt = hk; is = rw next-div at-next; holds = rw next-mod (third-of k ((p - 1) % 4) hk (omega arith) h₁ .other) };
+              side = record { k = k; lt = hk; is = rw next-div at; holds = rw next-mod (third-of k ((p - 1) % 4) hk (omega arith) h₁ .other) };
               here = rw next-div now;
-              opens = record { at = λ i l s m q r. opened i l s m q r (eqb (i / 4) ((p - 1) / 4)) (eqb i j) refl refl };
+              opens = record { at = opened };
               grown = record {
                 same = length-set marks ((p - 1) / 4) mark ∙ g .grown .same;
                 keep = λ c m. kept c (g .grown .keep c m);
-                only = λ c. only c (eqb c ((p - 1) / 4)) refl;
-                within = λ P cl h c m. inside P cl h c m (eqb c ((p - 1) / 4)) refl;
+                only = only;
+                within = inside;
               };
             }
           where
-            at-next : getD keys (6 * ((p - 1) / 4) + k) 0 ≡ key
-            at-next = at
-
-            only : (c : ℕ) (x : Bool) → eqb c ((p - 1) / 4) ≡ x → (getD (set marks ((p - 1) / 4) mark) c 0 ≡ getD marks₀ c 0) ⊎ (getD (set marks ((p - 1) / 4) mark) c 0 ≡ mark)
-            only c true q = let f : c ≡ (p - 1) / 4 = eqb-true _ _ q in inr (rw f now)
-            only c false q =
-                let s = getD-set-other marks ((p - 1) / 4) c mark 0 (eqb-false _ _ q) in
-                ⊎-elim (λ (z : getD marks c 0 ≡ getD marks₀ c 0). inl (s ∙ z)) (λ (z : getD marks c 0 ≡ mark). inr (s ∙ z)) (g .grown .only c)
+            only : (c : ℕ) → (getD (set marks ((p - 1) / 4) mark) c 0 ≡ getD marks₀ c 0) ⊎ (getD (set marks ((p - 1) / 4) mark) c 0 ≡ mark)
+            only c = elim (ℕ-discrete c ((p - 1) / 4)) [
+              | yes f ↦ inr (rw f now)
+              | no f ↦
+                  let s = getD-set-other marks ((p - 1) / 4) c mark 0 f in
+                  ⊎-elim (λ (z : getD marks c 0 ≡ getD marks₀ c 0). inl (s ∙ z)) (λ (z : getD marks c 0 ≡ mark). inr (s ∙ z)) (g .grown .only c)
+            ]
 
         -- the loop goes on across the other slot
         pub going-more : (s q : ℕ) → s ≡ position ((p - 1) % 4) r → q ≡ rankIn s ((p - 1) % 4)
@@ -300,11 +290,7 @@ module _ (keys near : List ℕ) (n key mark : ℕ) (marks : List ℕ) (J : Paire
   marked = getD-set-same marks c mark 0 (omega arith)
 
   alone : (d : ℕ) → getD (set marks c mark) d 0 ≡ mark → d ≡ c
-  alone d m = go (eqb d c) refl
-    where
-      go : (x : Bool) → eqb d c ≡ x → d ≡ c
-      go true e = eqb-true d c e
-      go false e = absurd (fresh d (sym (getD-set-other marks c d mark 0 (eqb-false d c e)) ∙ m))
+  alone d m = elim (ℕ-discrete d c) [ yes e ↦ e | no e ↦ absurd (fresh d (sym (getD-set-other marks c d mark 0 e) ∙ m)) ]
 
   pub slot-side : (s : ℕ) → s < 4 → contains k s ≡ true → KeySlot keys key (4 * c + s)
   slot-side s l h =
@@ -329,15 +315,14 @@ module _ (keys near : List ℕ) (n key mark : ℕ) (marks : List ℕ) (J : Paire
       record {
         same = g₂ .same ∙ g₁ .same ∙ length-set marks c mark;
         has = g₂ .keep c (g₁ .keep c marked);
-        only = λ d. ⊎-elim (λ (e : getD marks₂ d 0 ≡ getD marks₁ d 0). ⊎-elim (λ (f : getD marks₁ d 0 ≡ getD (set marks c mark) d 0). first d (e ∙ f) (eqb d c) refl)
+        only = λ d. ⊎-elim (λ (e : getD marks₂ d 0 ≡ getD marks₁ d 0). ⊎-elim (λ (f : getD marks₁ d 0 ≡ getD (set marks c mark) d 0). first d (e ∙ f))
             (λ (f : getD marks₁ d 0 ≡ mark). inr (e ∙ f)) (g₁ .only d)) (λ (e : getD marks₂ d 0 ≡ mark). inr e) (g₂ .only d);
         closed = λ j l s p m. ⊎-elim (λ (z : getD near j 0 ≡ 0). absurd (omega arith)) (λ z. z) (o .at j l s m (λ q. omega arith) (λ q. omega arith));
         within = λ P cl h d m. g₂ .within P cl (g₁ .within P cl (λ x y. rw (alone x y) h)) d m;
       }
     where
-      first : (d : ℕ) → getD marks₂ d 0 ≡ getD (set marks c mark) d 0 → (x : Bool) → eqb d c ≡ x → (getD marks₂ d 0 ≡ getD marks d 0) ⊎ (getD marks₂ d 0 ≡ mark)
-      first d e true q = let f : d ≡ c = eqb-true d c q in inr (e ∙ rw f marked)
-      first d e false q = inl (e ∙ getD-set-other marks c d mark 0 (eqb-false d c q))
+      first : (d : ℕ) → getD marks₂ d 0 ≡ getD (set marks c mark) d 0 → (getD marks₂ d 0 ≡ getD marks d 0) ⊎ (getD marks₂ d 0 ≡ mark)
+      first d e = elim (ℕ-discrete d c) [ yes f ↦ inr (e ∙ rw f marked) | no f ↦ inl (e ∙ getD-set-other marks c d mark 0 f) ]
 
 pub top-key : (keys : List ℕ) (key m top : ℕ) → top ≡ last (sameKey keys key) m → 0 < top → getD keys (6 * ((top - 1) / 6) + (top - 1) % 6) 0 ≡ key
 unfolding sameKey

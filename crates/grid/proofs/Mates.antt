@@ -2,14 +2,14 @@
 use Prim.Native.Nat.{ℕ, zero, suc, _+_, _-_, _<_, _≤_}
 use mathlib.Core.Path.{_∙_, _≡_, ap, refl, sym}
 use mathlib.Core.Logic.{_≢_, _⊎_, inl, inr, ⊎-elim}
-use mathlib.Core.Bool.{Bool, false, true}
+use mathlib.Core.Bool.{false, true}
 use mathlib.Core.List.{List}
 use native.Mathlib.Nat.{eq-or-lt-of-le, not-suc-le-zero}
+use native.Mathlib.Decide.{decLt, ℕ-discrete}
 use native.Mathlib.Omega.{arith}
-use lib.Dec.{eqb, ltb}
 use lib.ListN.{getD, length, length-set, replicate, set}
 use lib.Seq.{getD-set-other, getD-set-same}
-use borrow.Author.Tests.{eq-eqb, eqb-false, eqb-true, le-ltb, lt-ltb, ltb-false, ltb-true}
+use borrow.Author.Tests.{eq-eqb, eqb-false, eqb-true, le-ltb, lt-ltb}
 use Rattle.counting.specs.Search.{count, last, some}
 use Rattle.counting.proofs.Bools.{one-le}
 use Rattle.counting.proofs.Search.{AtMostOne, count-one, count-two-of, count-zero, last-above, last-is, last-le}
@@ -71,24 +71,17 @@ module _ {keys : List ℕ} {m : ℕ} {near : List ℕ} (w : Mates keys m near) (
         x-key = g .same ∙ q-key
 
         below : x ≤ p - 1
-        below = go (ltb (p - 1) x) refl
-          where
-            go : (b : Bool) → ltb (p - 1) x ≡ b → x ≤ p - 1
-            go true q =
-                absurd (eqb-false (getD keys x 0) (getD keys m 0)
-                (last-above (sameKey keys (getD keys m 0)) m x (omega (arith, e, ltb-true (p - 1) x q)) x-lt) x-key)
-            go false q = ltb-false (p - 1) x q
+        below = elim (decLt (p - 1) x) [
+          | yes q ↦ absurd (eqb-false (getD keys x 0) (getD keys m 0) (last-above (sameKey keys (getD keys m 0)) m x (omega (arith, e)) x-lt) x-key)
+          | no q ↦ omega arith
+        ]
 
         two : (i j : ℕ) → i < j → j < m → getD keys i 0 ≡ getD keys m 0 → getD keys j 0 ≡ getD keys m 0 → 1 < count (sameKey keys (getD keys m 0)) m
         two i j a b k l = count-two-of (sameKey keys (getD keys m 0)) m i j a b (eq-eqb _ _ k) (eq-eqb _ _ l)
 
     module _ (fresh : getD near (p - 1) 0 ≡ 0) (room : m < length near) where
       is-q : (i : ℕ) → (i ≡ p - 1) ⊎ (i ≢ p - 1)
-      is-q i = go (eqb i (p - 1)) refl
-        where
-          go : (x : Bool) → eqb i (p - 1) ≡ x → (i ≡ p - 1) ⊎ (i ≢ p - 1)
-          go true f = inl (eqb-true i (p - 1) f)
-          go false f = inr (eqb-false i (p - 1) f)
+      is-q i = elim (ℕ-discrete i (p - 1)) [ yes f ↦ inl f | no f ↦ inr f ]
 
       -- no other place below m has the key
       only : (x : ℕ) → x < m → getD keys x 0 ≡ getD keys m 0 → x ≡ p - 1

@@ -4,10 +4,11 @@ use mathlib.Core.Path.{_∙_, _≡_, ap, refl, sym}
 use mathlib.Core.Logic.{_≢_, _⊎_, inl, inr, ⊎-elim}
 use mathlib.Core.Bool.{Bool, _&&_, false, not, true}
 use mathlib.Core.List.{List}
+use native.Mathlib.Decide.{ℕ-discrete}
 use native.Mathlib.Omega.{arith}
 use lib.Dec.{eqb}
 use lib.ListN.{getD, length}
-use borrow.Author.Tests.{eq-eqb, eqb-false, eqb-true, not-false, not-true}
+use borrow.Author.Tests.{eq-eqb, eqb-true, not-false, not-true}
 use Rattle.counting.specs.Pick.{one}
 use Rattle.counting.specs.Search.{first, last, some}
 use Rattle.counting.proofs.Below.{trichotomy}
@@ -145,13 +146,12 @@ module _ (G : Grid) (good : RisingCells (G .cells)) (keys near : List ℕ) (tk :
       let b : (4 * d + s) % 4 ≡ s = omega arith in
       let sd : KeySlot keys (edgeKey (G .edges) e) (4 * d + s) =
       record { k = k; lt = w .1; is = rw a (eqb-true _ _ (sym (side d k hd (w .1)) ∙ v1)); holds = rw b y1 } in
-      go t s ht hs (z .2) sd (eqb c d) refl
-    where
-      go : (t s : ℕ) → t < 4 → s < 4 → sameFace (G .cells) c t d s ≡ true → KeySlot keys (edgeKey (G .edges) e) (4 * d + s) → (x : Bool) → eqb c d ≡ x → (c ≡ d) ⊎ Crossed d c
-      go t s ht hs same sd true q = inl (eqb-true c d q)
-      go t s ht hs same sd false q =
-          let m : getD near (4 * d + s) 0 ≡ 4 * c + t + 1 = N .all c t d s hc ht hd hs (eqb-false c d q) same in
-          inr (record { j = 4 * d + s; lt = omega arith; cell = omega arith; sided = sd; there = omega arith; ends = omega arith })
+      elim (ℕ-discrete c d) [
+        | yes q ↦ inl q
+        | no q ↦
+            let m : getD near (4 * d + s) 0 ≡ 4 * c + t + 1 = N .all c t d s hc ht hd hs q (z .2) in
+            inr (record { j = 4 * d + s; lt = omega arith; cell = omega arith; sided = sd; there = omega arith; ends = omega arith })
+      ]
 
   module _ (top : ℕ) (et : top ≡ last (sameKey keys (edgeKey (G .edges) e)) (6 * cellCount (G .cells))) (pos-top : 0 < top)
       (mark : ℕ) (marks₀ marks : List ℕ) (F : Reached keys near (cellCount (G .cells)) (edgeKey (G .edges) e) mark ((top - 1) / 6) marks₀ marks) where

@@ -5,13 +5,15 @@ use mathlib.Core.Logic.{_≢_}
 use mathlib.Core.Bool.{Bool, false, not, true}
 use mathlib.Core.List.{List}
 use native.Mathlib.Numerals.{add-one}
+use native.Mathlib.Decide.{ℕ-discrete}
 use native.Mathlib.Omega.{arith}
 use lib.Dec.{eqb, leb, ltb}
 use lib.ListN.{getD, length, length-replicate, length-set, replicate, set}
 use lib.Seq.{getD-set-other, getD-set-same}
-use borrow.Author.Tests.{eq-eqb, eqb-false, eqb-true, le-leb, le-ltb, leb-false, leb-true, lt-leb, lt-ltb, ltb-false, ltb-true, ne-eqb, not-false}
+use borrow.Author.Tests.{eq-eqb, eqb-false, eqb-true, le-leb, le-ltb, lt-leb, lt-ltb, ltb-false, ltb-true, ne-eqb, not-false}
 use Rattle.counting.specs.Pick.{pick}
 use Rattle.counting.specs.Search.{first, last, seek, some}
+use Rattle.counting.proofs.Below.{trichotomy}
 use Rattle.counting.proofs.Bools.{eqb-comm}
 use Rattle.counting.proofs.Search.{first-blocks, first-ext, last-above, last-is, last-le, none-first, seek-end, seek-hit, seek-miss, seek-start, some-blocks, some-ext, some-first, some-last, some-none}
 use Rattle.slots.specs.Slots.{hi, lo}
@@ -102,20 +104,15 @@ module _ {keys : List ℕ} {n key x : ℕ} {sides₀ sides : List ℕ} {j : ℕ}
         same = length-set sides (j - 1) x ∙ w .same;
         within = omega (arith, e, last-le (sameKey keys key) (j - 1), w .within);
         at = λ h. eqb-true _ key (rw e (last-is (sameKey keys key) (j - 1) (omega (arith, e))));
-        hit = λ y l h k. go y l h k (eqb y (j - 1)) refl;
+        hit = hit;
         miss = λ y k. getD-set-other sides (j - 1) y x 0 (λ q. k (rw q (w .at pos))) ∙ w .miss y k;
       }
     where
-      go : (y : ℕ) → i ≤ y → y < n → getD keys y 0 ≡ key → (b : Bool) → eqb y (j - 1) ≡ b → getD (set sides (j - 1) x) y 0 ≡ x
-      go y l h k true q = let f : y ≡ j - 1 = eqb-true y (j - 1) q in rw f (getD-set-same sides (j - 1) x 0 (omega (arith, w .within)))
-      go y l h k false q =
-          let f = eqb-false y (j - 1) q in
-          getD-set-other sides (j - 1) y x 0 f ∙ below y l h k f (leb j y) refl
-        where
-          below : (y : ℕ) → i ≤ y → y < n → getD keys y 0 ≡ key → y ≢ j - 1 → (b : Bool) → leb j y ≡ b → getD sides y 0 ≡ x
-          below y l h k f true q = w .hit y (leb-true j y q) h k
-          below y l h k f false q =
-              absurd (eqb-false (getD keys y 0) key (last-above (sameKey keys key) (j - 1) y (omega (arith, e)) (omega (arith, leb-false j y q, f))) k)
+      hit : (y : ℕ) → i ≤ y → y < n → getD keys y 0 ≡ key → getD (set sides (j - 1) x) y 0 ≡ x
+      hit y l h k = trichotomy y (j - 1)
+          (λ f. absurd (eqb-false (getD keys y 0) key (last-above (sameKey keys key) (j - 1) y (omega (arith, e)) f) k))
+          (λ f. getD-set-other sides (j - 1) y x 0 (λ q. omega arith) ∙ w .hit y (omega arith) h k)
+          (λ f. rw f (getD-set-same sides (j - 1) x 0 (omega (arith, w .within))))
 
 pub placing-end : {keys : List ℕ} {n key x : ℕ} {sides₀ sides : List ℕ} {j : ℕ} → Placing keys n key x sides₀ sides j → j ≤ 0 → Put keys n key x sides₀ sides
 placing-end w h = record { same = w .same; hit = λ y l k. w .hit y (omega arith) l k; miss = w .miss }
@@ -154,13 +151,8 @@ module _ {G : Grid} {keys : List ℕ} {m e : ℕ} {sides : List ℕ} (small : (i
   listed-put sides′ p =
       record {
         size = p .same ∙ w .size;
-        at = λ j l. go j l (eqb (getD keys j 0) (edgeKey (G .edges) e)) refl;
+        at = λ j l. elim (ℕ-discrete (getD keys j 0) (edgeKey (G .edges) e)) [ yes k ↦ p .hit j l k ∙ next-hit j l k | no k ↦ p .miss j k ∙ next-miss j l k ];
       }
-    where
-      go : (j : ℕ) → j < 6 * cellCount (G .cells) → (b : Bool) → eqb (getD keys j 0) (edgeKey (G .edges) e) ≡ b
-          → getD sides′ j 0 ≡ foundAt m (seek (isEdge G (j / 6) (j % 6)) (m - e) e)
-      go j l true q = let k = eqb-true (getD keys j 0) (edgeKey (G .edges) e) q in p .hit j l k ∙ next-hit j l k
-      go j l false q = let k = eqb-false (getD keys j 0) (edgeKey (G .edges) e) q in p .miss j k ∙ next-miss j l k
 
   -- where no place has the key
   pub listed-skip : last (sameKey keys (edgeKey (G .edges) e)) (6 * cellCount (G .cells)) ≡ 0 → Listed G m e sides

@@ -4,6 +4,7 @@ use mathlib.Core.Path.{_∙_, _≡_, ap, refl, sym}
 use mathlib.Core.Logic.{_≢_, inl, inr, ⊎-elim}
 use mathlib.Core.Bool.{Bool, _&&_, false, not, true}
 use mathlib.Core.List.{List}
+use native.Mathlib.Decide.{decLt}
 use native.Mathlib.Omega.{arith}
 use lib.Dec.{eqb, leb, ltb}
 use lib.ListN.{length}
@@ -223,14 +224,11 @@ module _ (G : Grid) (S : Sound G) where
   place-edge e h = eqb-true _ e (first-is (holds-edge e) (6 * cellCount (G .cells)) (place-lt e h))
 
   edges-few : length (G .counts) ≤ 6 * cellCount (G .cells)
-  edges-few = go (ltb (6 * cellCount (G .cells)) (length (G .counts))) refl
-    where
-      go : (b : Bool) → ltb (6 * cellCount (G .cells)) (length (G .counts)) ≡ b → length (G .counts) ≤ 6 * cellCount (G .cells)
-      go true q =
-          let l = ltb-true (6 * cellCount (G .cells)) (length (G .counts)) q in
-          absurd (pigeonhole (6 * cellCount (G .cells)) place-of (λ i h. place-lt i (omega arith))
-          (λ i j a h e. omega (arith, place-edge i (omega arith), place-edge j (omega arith), ap (λ x. number (x / 6) (x % 6)) e)))
-      go false q = ltb-false (6 * cellCount (G .cells)) (length (G .counts)) q
+  edges-few = elim (decLt (6 * cellCount (G .cells)) (length (G .counts))) [
+    | yes l ↦ absurd (pigeonhole (6 * cellCount (G .cells)) place-of (λ i h. place-lt i (omega arith))
+        (λ i j a h e. omega (arith, place-edge i (omega arith), place-edge j (omega arith), ap (λ x. number (x / 6) (x % 6)) e)))
+    | no l ↦ omega arith
+  ]
 
   number-rises : (c k l : ℕ) → c < cellCount (G .cells) → k < l → l < 6 → number c k < number c l
   number-rises c k l h kl ll =
