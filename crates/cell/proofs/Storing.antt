@@ -1,7 +1,7 @@
 -- The words of triangles, and how they are stored one after the other.
 use Prim.Native.Nat.{ℕ, zero, suc, _+_, _*_}
 use mathlib.Core.Path.{_≡_, refl, sym, ap, _∙_}
-use mathlib.Core.List.{List, [], _∷_, _++_, append-assoc}
+use mathlib.Core.List.{List, [], _∷_, _++_, append-assoc, append-nil}
 use native.Mathlib.Omega.{arith}
 use lib.ListN.{length, getD, length-append}
 use lib.Seq.{sets}
@@ -55,15 +55,15 @@ unfolding allWords
 all-append [] m = refl
 all-append (t ∷ l) m = ap (λ w. words t ++ w) (all-append l m) ∙ sym (append-assoc (words t) (allWords l) (allWords m))
 
--- triangles one by one
-words-over : (t : ℕ → Triangle) (n p : ℕ) → over (λ k. words (t k)) n p ≡ allWords (over (λ k. t k ∷ []) n p)
+-- list by list
+pub words-over : (f : ℕ → List Triangle) (n p : ℕ) → over (λ p. allWords (f p)) n p ≡ allWords (over f n p)
 unfolding over allWords
-words-over t zero p = refl
-words-over t (suc n) p = ap (λ l. words (t p) ++ l) (words-over t n (suc p))
+words-over f zero p = refl
+words-over f (suc n) p = ap (λ l. allWords (f p) ++ l) (words-over f n (suc p)) ∙ sym (all-append (f p) (over f n (suc p)))
 
 -- the first k triangles of t are stored in `was` from `at` on, which makes it `is`, and the next goes to i
 pub record Run (t : ℕ → Triangle) (k : ℕ) (was : List ℕ) (at : ℕ) (is : List ℕ) (i : ℕ) : Type 0 where
-  pub stored : Stored was at (over (λ k. words (t k)) k 0) is i
+  pub stored : Stored was at (over (λ k. allWords (t k ∷ [])) k 0) is i
 
 pub run-none : (t : ℕ → Triangle) (was : List ℕ) (at : ℕ) → Run t 0 was at was at
 unfolding over
@@ -71,12 +71,13 @@ run-none t was at = record { stored = stored-none was at }
 
 module _ {t : ℕ → Triangle} {k : ℕ} {was : List ℕ} {at : ℕ} {is : List ℕ} {i : ℕ} (R : Run t k was at is i) where
   pub run-place : i ≡ at + wordCount * k
-  run-place = omega (arith, R .stored .after, ap length (words-over t k 0), length-all (values t k), length-singles t k 0)
+  run-place = omega (arith, R .stored .after, ap length (words-over (λ k. t k ∷ []) k 0), length-all (values t k), length-singles t k 0)
 
   pub run-more : {is′ : List ℕ} {v : Triangle} → v ≡ t k → is′ ≡ sets is i (words v) → Run t (k + 1) was at is′ (i + wordCount)
-  run-more e q = record {
-    stored = stored-more (λ k. words (t k)) k (R .stored) (record { area = q ∙ ap (λ v. sets is i (words v)) e; after = omega (arith, length-words (t k)) });
-  }
+  unfolding allWords
+  run-more e q =
+      let S : Stored is i (allWords (t k ∷ [])) _ (i + wordCount) = record { area = q ∙ rw e (ap (sets is i) (sym (append-nil (words (t k))))); after = omega (arith, length-all (t k ∷ [])) } in
+      record { stored = stored-more (λ k. allWords (t k ∷ [])) k (R .stored) S }
 
   pub run-all : (n : ℕ) → k ≡ n → is ≡ sets was at (allWords (values t n))
-  run-all n e = rw (← e) (R .stored .area ∙ ap (sets was at) (words-over t k 0))
+  run-all n e = rw (← e) (R .stored .area ∙ ap (sets was at) (words-over (λ k. t k ∷ []) k 0))
