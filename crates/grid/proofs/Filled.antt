@@ -18,7 +18,7 @@ use Rattle.answer.specs.Answer.{result}
 use Rattle.answer.proofs.Answer.{refused-not}
 use Rattle.grid.specs.Accepted.{EdgeNumbers, Sound}
 use Rattle.grid.specs.Check.{checkNumbers}
-use Rattle.grid.specs.Grid.{Grid, cellCount, edgeNumber, faceName, isEdge, sameFace, start}
+use Rattle.grid.specs.Grid.{Grid, cellCount, crossings, edgeNumber, faceName, isEdge, mostCrossings, mostEdges, mostSlots, sameFace, start}
 use Rattle.grid.specs.Rows.{gridAnswer}
 use Rattle.grid.specs.Tables.{Opened, accepts, nameAt, sideAt}
 use Rattle.grid.specs.Work.{Copying, Lowering, Near, RisingCells, WhereAccepted, Worked, listedAt, lowerPlace}
@@ -101,40 +101,6 @@ module _ (G : Grid) where
   pub opened-kept : accepts G ≡ false → (names sides starts : List ℕ) → Opened G names sides starts names sides starts
   opened-kept e names sides starts = record { names-are = rw e; sides-are = rw e; starts-are = rw e }
 
-  -- what the check leaves is what the writers take
-  module _ (across listed : List ℕ) (S : Sound G) (W : Worked G across listed) where
-    E : EdgeNumbers G
-    E = edge-numbers G S
-
-    pub lowering : (table : List ℕ) → 6 * cellCount (G .cells) ≤ length table → Lowering (6 * cellCount (G .cells)) listed table
-    lowering table room =
-        record {
-          few = omega (arith, S .few-cells);
-          listed-room = W .sided .room;
-          room = room;
-          entries = λ j h. (
-              let e = W .sided .at j h ∙ listed-side G E j h in
-              let l = E .listed (j / 6) (j % 6) (omega arith) (omega arith) in
-              (omega (arith, e), omega (arith, e, l, E .few, S .few-cells)));
-        }
-
-    pub copying : (table : List ℕ) → 4 * cellCount (G .cells) ≤ length table → Copying (4 * cellCount (G .cells)) across table
-    copying table room = record { few = omega (arith, S .few-cells); across-room = W .near-is .room; room = room }
-
-    pub opened-filled : accepts G ≡ true → RisingCells (G .cells) → (names₀ sides₀ starts₀ names sides starts : List ℕ)
-        → names ≡ filled (λ j. lowerPlace j (getD across j 0)) (4 * cellCount (G .cells)) names₀
-        → sides ≡ filled (λ j. getD listed j 0 - 1) (6 * cellCount (G .cells)) sides₀
-        → starts ≡ filled (start (G .counts)) (length (G .counts)) starts₀
-        → Opened G names₀ sides₀ starts₀ names sides starts
-    opened-filled e good names₀ sides₀ starts₀ names sides starts p r t =
-        record {
-          names-are = rw e (p ∙ filled-ext (λ j. lowerPlace j (getD across j 0)) (nameAt (G .cells)) (4 * cellCount (G .cells)) names₀
-              (λ j h. name-is-lower (G .cells) across good (W .near-is) j h));
-          sides-are = rw e (r ∙ filled-ext (λ j. getD listed j 0 - 1) (sideAt G) (6 * cellCount (G .cells)) sides₀
-              (λ j h. omega (arith, W .sided .at j h ∙ listed-side G E j h)));
-          starts-are = rw e t;
-        }
-
   -- an answer that is known to be a result
   module _ (r : Checked) (n : ℕ) (e : r ≡ Crossings n) (h : checkNumbers r ≡ gridAnswer G) where
     is-result : gridAnswer G ≡ result (n ∷ [])
@@ -143,11 +109,45 @@ module _ (G : Grid) where
     pub told-sound : Sound G
     told-sound = acceptance-yields G (n ∷ []) is-result .sound
 
-    pub told-ordered : RisingCells (G .cells)
-    told-ordered = ordered G told-sound
-
     pub told-accepts : accepts G ≡ true
     told-accepts = crossings-accept n (sym is-result)
 
-pub told-where : {T : Type 0} (r : Checked) (n : ℕ) → r ≡ Crossings n → WhereAccepted r T → T
-told-where {T} r n e w = subst (λ r. WhereAccepted r T) e w
+    -- what the check then leaves is what the writers take
+    module _ (across listed : List ℕ) (w : WhereAccepted r (Worked G across listed)) where
+      E : EdgeNumbers G
+      E = edge-numbers G told-sound
+
+      W : Worked G across listed
+      W = subst (λ r. WhereAccepted r (Worked G across listed)) e w
+
+      pub copying : (table : List ℕ) → mostSlots ≤ length table → Copying (4 * cellCount (G .cells)) across table
+      copying table room = record { few = omega (arith, told-sound .few-cells); across-room = W .near-is .room; room = omega (arith, told-sound .few-cells) }
+
+      pub lowering : (table : List ℕ) → mostEdges ≤ length table → Lowering (6 * cellCount (G .cells)) listed table
+      lowering table room =
+          record {
+            few = omega (arith, told-sound .few-cells);
+            listed-room = W .sided .room;
+            room = omega (arith, told-sound .few-cells);
+            entries = λ j h. (
+                let e = W .sided .at j h ∙ listed-side G E j h in
+                let l = E .listed (j / 6) (j % 6) (omega arith) (omega arith) in
+                (omega (arith, e), omega (arith, e, l, E .few, told-sound .few-cells)));
+          }
+
+      pub starting : (table : List ℕ) → mostEdges ≤ length table → (length (G .counts) ≤ length table) × (crossings (G .counts) ≤ mostCrossings)
+      starting table room = (omega (arith, told-sound .few-cells, E .few), told-sound .few-crossings)
+
+      pub opened-filled : (names₀ sides₀ starts₀ names sides starts : List ℕ)
+          → names ≡ filled (λ j. lowerPlace j (getD across j 0)) (4 * cellCount (G .cells)) names₀
+          → sides ≡ filled (λ j. getD listed j 0 - 1) (6 * cellCount (G .cells)) sides₀
+          → starts ≡ filled (start (G .counts)) (length (G .counts)) starts₀
+          → Opened G names₀ sides₀ starts₀ names sides starts
+      opened-filled names₀ sides₀ starts₀ names sides starts p r t =
+          record {
+            names-are = rw told-accepts (p ∙ filled-ext (λ j. lowerPlace j (getD across j 0)) (nameAt (G .cells)) (4 * cellCount (G .cells)) names₀
+                (λ j h. name-is-lower (G .cells) across (ordered G told-sound) (W .near-is) j h));
+            sides-are = rw told-accepts (r ∙ filled-ext (λ j. getD listed j 0 - 1) (sideAt G) (6 * cellCount (G .cells)) sides₀
+                (λ j h. omega (arith, W .sided .at j h ∙ listed-side G E j h)));
+            starts-are = rw told-accepts t;
+          }
