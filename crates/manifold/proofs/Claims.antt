@@ -24,7 +24,7 @@ use Rattle.manifold.proofs.Middle.{middle-ring}
 
 pub polygonLaws : (G : Polygon) → 2 ≤ G .n → Simple G → PolygonLaws G
 polygonLaws G two D = record {
-  sides = λ t i lt li. sides t i (seen G ne (nth (triangles G) t) (member (triangles G) t lt) i li);
+  sides = λ t i lt li. sides t i (seen G (nth (triangles G) t) (member (triangles G) t lt) i li);
   one = λ k l.
       count (segment G k)
       ∙ omega (

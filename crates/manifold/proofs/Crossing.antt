@@ -39,13 +39,13 @@ module _ (K : Complex) (W : Lawful K) where
 
   module _ (g : ℕ) where
     -- a point of the loop is at g where one of its triangles has a corner there
-    at-g : (c p : ℕ) → c < K .pieces → p < K .at c .N → (v : Tri) (i : ℕ) → Here (triangles (loopOf K c p)) (cross g) v i
+    at-g : (c p : ℕ) (v : Tri) (i : ℕ) → Here (triangles (loopOf K c p)) (cross g) v i
         → (m : ℕ) × (m < loopOf K c p .n) × (loopOf K c p .point m ≡ g)
-    at-g c p lc lp v i h = of-cross (loopOf K c p) (size-two K W c p lc lp) v i g (h .member) (h .lt) (h .is)
+    at-g c p v i h = of-cross (loopOf K c p) v i g (h .member) (h .lt) (h .is)
 
     has : (v : Tri) (a : Of K v) (i : ℕ) → i < 3 → cornerOf v i ≡ cross g → Has K g (a .c)
     has v a i l e =
-        let (m, lm, q) = at-g (a .c) (a .p) (a .c-lt) (a .p-lt) v i (record { member = a .in-loop; lt = l; is = e }) in
+        let (m, lm, q) = at-g (a .c) (a .p) v i (record { member = a .in-loop; lt = l; is = e }) in
         record {
           lt = a .c-lt;
           d = dart (K .at (a .c)) (a .p) m;
@@ -62,8 +62,8 @@ module _ (K : Complex) (W : Lawful K) where
       spread : (c p : ℕ) → c < K .pieces → p < K .at c .N → (v : Tri) (i : ℕ) → Here (triangles (loopOf K c p)) (cross g) v i → Q v i → Held c
       unfolding Held
       spread c p lc lp v i h q p′ lp′ v′ i′ h′ =
-          let (m, lm, em) = at-g c p lc lp v i h in
-          let (m′, lm′, em′) = at-g c p′ lc lp′ v′ i′ h′ in
+          let (m, lm, em) = at-g c p v i h in
+          let (m′, lm′, em′) = at-g c p′ v′ i′ h′ in
           let one : p ≡ p′ = point-once K W c p m p′ m′ lc (on K W c p m lp lm) (on K W c p′ m′ lp′ lm′) (em ∙ sym em′) .0 in
           along K c p lc lp (subst (Chain (triangles (loopOf K c p))) (ap cross em) (chain-at c p m lc lp lm .chain)) Q pass v i v′ i′ h
           (subst (λ r. Here (triangles (loopOf K c r)) (cross g) v′ i′) (sym one) h′) q

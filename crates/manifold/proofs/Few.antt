@@ -17,8 +17,8 @@ use Rattle.manifold.proofs.Polygon.{fits, triangles-length}
 use Rattle.manifold.proofs.Piece.{cell-darts}
 
 module _ (K : Complex) (W : Lawful K) (c : ℕ) (lc : c < K .pieces) where
-  loop-few : (p : ℕ) → p < K .at c .N → length (triangles (loopOf K c p)) ≤ sizeOf (K .at c) p
-  loop-few p lp = omega (arith, triangles-length (loopOf K c p), many-le (shape (loopOf K c p)) (sizeOf (K .at c) p) (fits (loopOf K c p)))
+  loop-few : (p : ℕ) → length (triangles (loopOf K c p)) ≤ sizeOf (K .at c) p
+  loop-few p = omega (arith, triangles-length (loopOf K c p), many-le (shape (loopOf K c p)) (sizeOf (K .at c) p) (fits (loopOf K c p)))
 
   sizes : total (sizeOf (K .at c)) (K .at c .N) 0 ≡ length (flat (K .at c .N) (onward (K .at c)))
   unfolding flat loopAt
@@ -33,7 +33,7 @@ module _ (K : Complex) (W : Lawful K) (c : ℕ) (lc : c < K .pieces) where
       omega (
         arith,
         length-over (λ p. triangles (loopOf K c p)) (A .N) 0,
-        total-mono (λ p. length (triangles (loopOf K c p))) (sizeOf A) (A .N) 0 (λ p a b. loop-few p (omega arith)),
+        total-mono (λ p. length (triangles (loopOf K c p))) (sizeOf A) (A .N) 0 (λ p a b. loop-few p),
         sizes,
         flat-room (A .N) (onward A) rev (cell-darts A (W .piece c lc)),
       )

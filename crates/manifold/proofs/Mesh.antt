@@ -84,7 +84,7 @@ module _ (K : Complex) where
     goes-to c p i lc h = ap (λ x. cross (K .at c .number x)) (point-after (K .at c) (W .piece c lc) h)
 
     sight : (v : Tri) (a : Of v) (i : ℕ) → i < 3 → Seen (loopOf K (a .c) (a .p)) (shape (loopOf K (a .c) (a .p))) v i
-    sight v a i l = seen (loopOf K (a .c) (a .p)) (size-two (a .c) (a .p) (a .c-lt) (a .p-lt)) v (a .in-loop) i l
+    sight v a i l = seen (loopOf K (a .c) (a .p)) v (a .in-loop) i l
 
     -- the numbers of a loop's piece and p0 tell the loop
     pub same-loop : (v w : Tri) (a : Of v) (b : Of w) → a .c ≡ b .c → K .at (a .c) .number (a .p) ≡ K .at (b .c) .number (b .p) → Member (triangles (loopOf K (a .c) (a .p))) w

@@ -109,28 +109,27 @@ module _ (G : Polygon) where
   table fan f k (suc (suc zero)) l h = inr (k, record { lt = l; is = refl; ends = inr (refl, refl) })
   table sh f k (suc (suc (suc i))) l h = absurd (omega arith)
 
-  module _ (h : G .n ≢ 1) where
-    pub seen : (v : Tri) → Member (triangles G) v → (i : ℕ) → i < 3 → Seen (shape G) v i
-    seen v m i l =
-        let (k, lk, e) = triangles-of v m in
-        subst (λ w. Seen (shape G) w i) (sym e) (table (shape G) (fits G) k i lk l)
+  pub seen : (v : Tri) → Member (triangles G) v → (i : ℕ) → i < 3 → Seen (shape G) v i
+  seen v m i l =
+      let (k, lk, e) = triangles-of v m in
+      subst (λ w. Seen (shape G) w i) (sym e) (table (shape G) (fits G) k i lk l)
 
-    -- a crossing that is a corner is a point of the loop
-    pub of-cross : (v : Tri) (i x : ℕ) → Member (triangles G) v → i < 3 → cornerOf v i ≡ cross x → (m : ℕ) × (m < G .n) × (G .point m ≡ x)
-    of-cross v i x m l e = go (seen v m i l)
-      where
-        at : (sh : Shape) → Fits sh (G .n) → (k : ℕ) → k < inners G sh → (cross x ≡ outer sh k) ⊎ (cross x ≡ far sh k) → (m : ℕ) × (m < G .n) × (G .point m ≡ x)
-        at single f k lk o = absurd (not-suc-le-zero lk)
-        at double f k lk (inl q) = (0, omega arith, cc)
-        at double f k lk (inr q) = (2, omega arith, cc)
-        at fan f k lk (inl q) = (k, lk, cc)
-        at fan f k lk (inr q) = absurd (cross-middle q)
+  -- a crossing that is a corner is a point of the loop
+  pub of-cross : (v : Tri) (i x : ℕ) → Member (triangles G) v → i < 3 → cornerOf v i ≡ cross x → (m : ℕ) × (m < G .n) × (G .point m ≡ x)
+  of-cross v i x m l e = go (seen v m i l)
+    where
+      at : (sh : Shape) → Fits sh (G .n) → (k : ℕ) → k < inners G sh → (cross x ≡ outer sh k) ⊎ (cross x ≡ far sh k) → (m : ℕ) × (m < G .n) × (G .point m ≡ x)
+      at single f k lk o = absurd (not-suc-le-zero lk)
+      at double f k lk (inl q) = (0, omega arith, cc)
+      at double f k lk (inr q) = (2, omega arith, cc)
+      at fan f k lk (inl q) = (k, lk, cc)
+      at fan f k lk (inr q) = absurd (cross-middle q)
 
-        go : Seen (shape G) v i → (m : ℕ) × (m < G .n) × (G .point m ≡ x)
-        go (inl (k, s)) = let q : cross x ≡ corner G k = sym e ∙ s .from in (k, s .lt, cc)
-        go (inr (k, s)) = at (shape G) (fits G) k (s .lt)
-            (⊎-elim (λ (q : (cornerOf v i ≡ outer (shape G) k) × (cornerOf v (next i) ≡ far (shape G) k)). inl (sym e ∙ q .0))
-            (λ (q : (cornerOf v i ≡ far (shape G) k) × (cornerOf v (next i) ≡ outer (shape G) k)). inr (sym e ∙ q .0)) (s .ends))
+      go : Seen (shape G) v i → (m : ℕ) × (m < G .n) × (G .point m ≡ x)
+      go (inl (k, s)) = let q : cross x ≡ corner G k = sym e ∙ s .from in (k, s .lt, cc)
+      go (inr (k, s)) = at (shape G) (fits G) k (s .lt)
+          (⊎-elim (λ (q : (cornerOf v i ≡ outer (shape G) k) × (cornerOf v (next i) ≡ far (shape G) k)). inl (sym e ∙ q .0))
+          (λ (q : (cornerOf v i ≡ far (shape G) k) × (cornerOf v (next i) ≡ outer (shape G) k)). inr (sym e ∙ q .0)) (s .ends))
 
   -- only a fan has a middle, its own
   pub of-middle : (v : Tri) (i c p : ℕ) → Member (triangles G) v → i < 3 → cornerOf v i ≡ middle c p → (shape G ≡ fan) × (centre G ≡ middle c p)
@@ -157,8 +156,8 @@ module _ (G : Polygon) where
     -- a side's name tells its ends, and these differ
     pub polygon-sound : Sound (triangles G)
     polygon-sound = record {
-      ends = λ v i w j mv mw li lj q. ends v i w j q (seen h v mv i li) (seen h w mw j lj);
-      corners = λ v i m l. corners v i (seen h v m i l);
+      ends = λ v i w j mv mw li lj q. ends v i w j q (seen v mv i li) (seen w mw j lj);
+      corners = λ v i m l. corners v i (seen v m i l);
     }
       where
         ends : (v : Tri) (i : ℕ) (w : Tri) (j : ℕ) → sideOf v i ≡ sideOf w j → Seen (shape G) v i → Seen (shape G) w j

@@ -16,7 +16,7 @@ use Rattle.manifold.specs.Piece.{slotOf, lowerOf, segmentOf, dart, sizeO
 use Rattle.manifold.specs.Complex.{Complex, Joins, Lawful, Shut, loopOf, mesh}
 use Rattle.manifold.proofs.Triangle.{hits, eq-same, ne-same, one-same, tally-hits}
 use Rattle.manifold.proofs.Polygon.{polygon-sides}
-use Rattle.manifold.proofs.Piece.{Passed, counts, counted, count-one, count-le, size-ne, joins, covers, covers-segment}
+use Rattle.manifold.proofs.Piece.{Passed, counts, counted, count-one, count-le, joins, covers, covers-segment}
 
 module _ (K : Complex) where
   -- how often σ is a side of a triangle of the loop from p; of piece c
@@ -37,20 +37,20 @@ module _ (K : Complex) where
       (λ c a b. weigh-over (hits σ) (λ p. triangles (loopOf K c p)) (K .at c .N) 0)
 
   module _ (W : Lawful K) where
-    loop-sides : (σ : Side) (c p : ℕ) → c < K .pieces → p < K .at c .N
+    loop-sides : (σ : Side) (c p : ℕ)
         → inLoop σ c p ≡ counts (K .at c) σ p + 2 * total (λ k. one (same σ (spoke (loopOf K c p) k))) (spokes c p) 0
     unfolding spokes
-    loop-sides σ c p lc lp = polygon-sides (loopOf K c p) σ
+    loop-sides σ c p = polygon-sides (loopOf K c p) σ
 
     -- a segment
-    segment-count : (f l c : ℕ) → c < K .pieces → inPiece (seg f l) c ≡ total (counts (K .at c) (seg f l)) (K .at c .N) 0
+    segment-count : (f l c : ℕ) → inPiece (seg f l) c ≡ total (counts (K .at c) (seg f l)) (K .at c .N) 0
     unfolding inPiece
-    segment-count f l c lc =
+    segment-count f l c =
         total-ext (inLoop (seg f l) c) (counts (K .at c) (seg f l)) (K .at c .N) 0
-        (λ p a b. loop-sides (seg f l) c p lc (omega arith) ∙ omega (arith, total-zero (λ k. 0) (spokes c p) 0 (λ q u v. refl)))
+        (λ p a b. loop-sides (seg f l) c p ∙ omega (arith, total-zero (λ k. 0) (spokes c p) 0 (λ q u v. refl)))
 
     segment-in : (f l c : ℕ) → c < K .pieces → 0 < inPiece (seg f l) c → Passed (K .at c) (seg f l)
-    segment-in f l c lc h = counted (K .at c) (W .piece c lc) (seg f l) (subst (λ x. 0 < x) (segment-count f l c lc) h)
+    segment-in f l c lc h = counted (K .at c) (W .piece c lc) (seg f l) (subst (λ x. 0 < x) (segment-count f l c) h)
 
     no-three : (f l a b c : ℕ) → a < K .pieces → b < K .pieces → c < K .pieces → a ≢ b → a ≢ c → b ≢ c
         → 0 < inPiece (seg f l) a → 0 < inPiece (seg f l) b → 0 < inPiece (seg f l) c → ⊥
@@ -65,7 +65,7 @@ module _ (K : Complex) where
     segment-le : (f l : ℕ) → weigh (hits (seg f l)) (mesh K) ≤ 2
     segment-le f l = subst (λ x. x ≤ 2) (sym (whole (seg f l)))
         (total-le-two (inPiece (seg f l)) (K .pieces)
-        (λ c lc. subst (λ x. x ≤ 1) (sym (segment-count f l c lc)) (count-le (K .at c) (W .piece c lc) (seg f l)))
+        (λ c lc. subst (λ x. x ≤ 1) (sym (segment-count f l c)) (count-le (K .at c) (W .piece c lc) (seg f l)))
         (no-three f l))
 
     -- an inner side
@@ -75,9 +75,9 @@ module _ (K : Complex) where
       pub k-lt : k < inners (loopOf K c p) (shape (loopOf K c p))
       pub is : σ ≡ spoke (loopOf K c p) k
 
-    none : (c g k c′ p′ : ℕ) → c′ < K .pieces → p′ < K .at c′ .N → ((q : ℕ) → inner c g k ≢ spoke (loopOf K c′ p′) q) → inLoop (inner c g k) c′ p′ ≡ 0
-    none c g k c′ p′ lc lp ne =
-        loop-sides (inner c g k) c′ p′ lc lp
+    none : (c g k c′ p′ : ℕ) → ((q : ℕ) → inner c g k ≢ spoke (loopOf K c′ p′) q) → inLoop (inner c g k) c′ p′ ≡ 0
+    none c g k c′ p′ ne =
+        loop-sides (inner c g k) c′ p′
         ∙ omega (
           arith,
           total-zero (λ i. 0) (sizeOf (K .at c′) p′) 0 (λ q u v. refl),
@@ -92,12 +92,12 @@ module _ (K : Complex) where
         let τ = inner t g k in
         ap (λ s. weigh (hits s) (mesh K)) (w .is) ∙ whole τ
         ∙ total-single (inPiece τ) (K .pieces) 0 c (omega arith) (omega (arith, w .c-lt))
-        (λ c′ u v ne. total-zero (inLoop τ c′) (K .at c′ .N) 0 (λ p′ x y. none t g k c′ p′ (omega arith) (omega arith) (λ q e. ne (W .tags c′ c (omega arith) (w .c-lt) (cc)))))
+        (λ c′ u v ne. total-zero (inLoop τ c′) (K .at c′ .N) 0 (λ p′ x y. none t g k c′ p′ (λ q e. ne (W .tags c′ c (omega arith) (w .c-lt) (cc)))))
         ∙ total-single (inLoop τ c) (K .at c .N) 0 p (omega arith) (omega (arith, w .p-lt))
-        (λ p′ u v ne. none t g k c p′ (w .c-lt) (omega arith) (λ q e.
+        (λ p′ u v ne. none t g k c p′ (λ q e.
         let f : K .at c .number p′ ≡ K .at c .number p = cc in
         ne (W .piece c (w .c-lt) .numbers p′ p (omega arith) (w .p-lt) f)))
-        ∙ loop-sides τ c p (w .c-lt) (w .p-lt)
+        ∙ loop-sides τ c p
         ∙ omega (
           arith,
           total-zero (λ i. 0) (sizeOf (K .at c) p) 0 (λ q u v. refl),
@@ -117,7 +117,7 @@ module _ (K : Complex) where
             let (c, u, lc, hc) = total-pos (inPiece σ) (K .pieces) 0 (subst (λ x. 0 < x) (whole σ) h) in
             let (p, v, lp, hp) = total-pos (inLoop σ c) (K .at c .N) 0 hc in
             let (i, w, li, hi) = total-pos (λ i. one (same σ (spoke (loopOf K c p) i))) (spokes c p) 0
-            (omega (arith, hp, loop-sides σ c p (omega arith) (omega arith), total-zero (λ i. 0) (sizeOf (K .at c) p) 0 (λ q x y. refl))) in
+            (omega (arith, hp, loop-sides σ c p, total-zero (λ i. 0) (sizeOf (K .at c) p) 0 (λ q x y. refl))) in
             le-of-eq (inner-two σ c p i (record {
               c-lt = omega arith;
               p-lt = omega arith;
@@ -138,7 +138,7 @@ module _ (K : Complex) where
       once : (c d : ℕ) → c < K .pieces → Joins (K .at c) d → inPiece (segmentOf (K .at c) d) c ≡ 1
       once c d lc ld =
           let w = covers (K .at c) (W .piece c lc) (S .full c lc) d ld in
-          segment-count (K .at c .name (slotOf (K .at c) d)) (lowerOf (K .at c) d) c lc
+          segment-count (K .at c .name (slotOf (K .at c) d)) (lowerOf (K .at c) d) c
           ∙ count-one (K .at c) (W .piece c lc) (segmentOf (K .at c) d) (record { p = w .p; i = w .i; on = w .on; is = sym (covers-segment (K .at c) d w) })
 
       pub segment-two : (c d : ℕ) → c < K .pieces → Joins (K .at c) d → weigh (hits (segmentOf (K .at c) d)) (mesh K) ≡ 2
