@@ -283,47 +283,6 @@ module _ {keys : List ℕ} {key : ℕ} {marks : List ℕ} {mark m j : ℕ} (w : 
 pub lower-on : (k s : ℕ) → k < 6 → s ≡ secondSlot k → OnSlot k s
 lower-on k s l e = let t = two-slots k l in record { edge-lt = l; slot-lt = rw e (t .second-lt); holds = rw e (t .second-has) }
 
--- the first cell, marked alone
-module _ (keys near : List ℕ) (n key mark : ℕ) (marks : List ℕ) (J : Paired keys near n) (fresh : (d : ℕ) → getD marks d 0 ≢ mark)
-    (c k : ℕ) (hc : c < n) (hk : k < 6) (at : getD keys (6 * c + k) 0 ≡ key) (room : n ≤ length marks) where
-  pub marked : getD (set marks c mark) c 0 ≡ mark
-  marked = getD-set-same marks c mark 0 (omega arith)
-
-  alone : (d : ℕ) → getD (set marks c mark) d 0 ≡ mark → d ≡ c
-  alone d m = elim (ℕ-discrete d c) [ yes e ↦ e | no e ↦ absurd (fresh d (sym (getD-set-other marks c d mark 0 e) ∙ m)) ]
-
-  pub slot-side : (s : ℕ) → s < 4 → contains k s ≡ true → KeySlot keys key (4 * c + s)
-  slot-side s l h =
-      let a : (4 * c + s) / 4 ≡ c = omega arith in
-      let b : (4 * c + s) % 4 ≡ s = omega arith in
-      record { k = k; lt = hk; is = rw a at; holds = rw b h }
-
-  pub start-open : (s : ℕ) → OnSlot k s → Open keys near n key mark (set marks c mark) (4 * c + s) (4 * c + otherSlot k s)
-  start-open s on = record { at = λ j l t m p q. absurd (go j t (alone (j / 4) m) p q) }
-    where
-      go : (j : ℕ) → KeySlot keys key j → j / 4 ≡ c → j ≢ 4 * c + s → j ≢ 4 * c + otherSlot k s → ⊥
-      go j t e p q =
-          let f : getD keys (6 * c + t .k) 0 ≡ key = rw (← e) (t .is) in
-          let h : contains k (j % 4) ≡ true = rw (J .one c k (t .k) hc hk (t .lt) (at ∙ sym f)) (t .holds) in
-          ⊎-elim (λ (u : j % 4 ≡ s). p (omega arith)) (λ (u : j % 4 ≡ otherSlot k s). q (omega arith))
-          (third-of k s hk (on .slot-lt) (on .holds) .only (j % 4) (omega arith) h)
-
-  -- after the two spreads
-  pub both-spread : (b : ℕ) → 4 * n ≤ b → (marks₁ marks₂ : List ℕ) → Grown keys near n key mark (set marks c mark) marks₁ → Grown keys near n key mark marks₁ marks₂
-      → Open keys near n key mark marks₂ b b → Reached keys near n key mark c marks marks₂
-  both-spread b hb marks₁ marks₂ g₁ g₂ o =
-      record {
-        same = g₂ .same ∙ g₁ .same ∙ length-set marks c mark;
-        has = g₂ .keep c (g₁ .keep c marked);
-        only = λ d. ⊎-elim (λ (e : getD marks₂ d 0 ≡ getD marks₁ d 0). ⊎-elim (λ (f : getD marks₁ d 0 ≡ getD (set marks c mark) d 0). first d (e ∙ f))
-            (λ (f : getD marks₁ d 0 ≡ mark). inr (e ∙ f)) (g₁ .only d)) (λ (e : getD marks₂ d 0 ≡ mark). inr e) (g₂ .only d);
-        closed = λ j l s p m. ⊎-elim (λ (z : getD near j 0 ≡ 0). absurd (omega arith)) (λ z. z) (o .at j l s m (λ q. omega arith) (λ q. omega arith));
-        within = λ P cl h d m. g₂ .within P cl (g₁ .within P cl (λ x y. rw (alone x y) h)) d m;
-      }
-    where
-      first : (d : ℕ) → getD marks₂ d 0 ≡ getD (set marks c mark) d 0 → (getD marks₂ d 0 ≡ getD marks d 0) ⊎ (getD marks₂ d 0 ≡ mark)
-      first d e = elim (ℕ-discrete d c) [ yes f ↦ inr (e ∙ rw f marked) | no f ↦ inl (e ∙ getD-set-other marks c d mark 0 f) ]
-
 pub top-key : (keys : List ℕ) (key m top : ℕ) → top ≡ last (sameKey keys key) m → 0 < top → getD keys (6 * ((top - 1) / 6) + (top - 1) % 6) 0 ≡ key
 unfolding sameKey
 top-key keys key m top e pos =
@@ -350,6 +309,45 @@ module _ {keys next near : List ℕ} {n key mark top : ℕ} {marks : List ℕ} (
 
   edge-lt : (top - 1) % 6 < 6
   edge-lt = omega arith
+
+  -- the first cell, marked alone
+  marked : getD (set marks ((top - 1) / 6) mark) ((top - 1) / 6) 0 ≡ mark
+  marked = getD-set-same marks ((top - 1) / 6) mark 0 (omega (arith, cell-lt, S .room))
+
+  alone : (d : ℕ) → getD (set marks ((top - 1) / 6) mark) d 0 ≡ mark → d ≡ (top - 1) / 6
+  alone d m = elim (ℕ-discrete d ((top - 1) / 6)) [ yes e ↦ e | no e ↦ absurd (S .fresh d (sym (getD-set-other marks ((top - 1) / 6) d mark 0 e) ∙ m)) ]
+
+  slot-side : (s : ℕ) → s < 4 → contains ((top - 1) % 6) s ≡ true → KeySlot keys key (4 * ((top - 1) / 6) + s)
+  slot-side s l h =
+      let a : (4 * ((top - 1) / 6) + s) / 4 ≡ ((top - 1) / 6) = omega arith in
+      let b : (4 * ((top - 1) / 6) + s) % 4 ≡ s = omega arith in
+      record { k = (top - 1) % 6; lt = edge-lt; is = rw a at-top; holds = rw b h }
+
+  start-open : (s : ℕ) → OnSlot ((top - 1) % 6) s → Open keys near n key mark (set marks ((top - 1) / 6) mark) (4 * ((top - 1) / 6) + s) (4 * ((top - 1) / 6) + otherSlot ((top - 1) % 6) s)
+  start-open s on = record { at = λ j l t m p q. absurd (go j t (alone (j / 4) m) p q) }
+    where
+      go : (j : ℕ) → KeySlot keys key j → j / 4 ≡ ((top - 1) / 6) → j ≢ 4 * ((top - 1) / 6) + s → j ≢ 4 * ((top - 1) / 6) + otherSlot ((top - 1) % 6) s → ⊥
+      go j t e p q =
+          let f : getD keys (6 * ((top - 1) / 6) + t .k) 0 ≡ key = rw (← e) (t .is) in
+          let h : contains ((top - 1) % 6) (j % 4) ≡ true = rw (S .paired .one ((top - 1) / 6) ((top - 1) % 6) (t .k) cell-lt edge-lt (t .lt) (at-top ∙ sym f)) (t .holds) in
+          ⊎-elim (λ (u : j % 4 ≡ s). p (omega arith)) (λ (u : j % 4 ≡ otherSlot ((top - 1) % 6) s). q (omega arith))
+          (third-of ((top - 1) % 6) s edge-lt (on .slot-lt) (on .holds) .only (j % 4) (omega arith) h)
+
+  -- after the two spreads
+  both-spread : (b : ℕ) → 4 * n ≤ b → (marks₁ marks₂ : List ℕ) → Grown keys near n key mark (set marks ((top - 1) / 6) mark) marks₁ → Grown keys near n key mark marks₁ marks₂
+      → Open keys near n key mark marks₂ b b → Reached keys near n key mark ((top - 1) / 6) marks marks₂
+  both-spread b hb marks₁ marks₂ g₁ g₂ o =
+      record {
+        same = g₂ .same ∙ g₁ .same ∙ length-set marks ((top - 1) / 6) mark;
+        has = g₂ .keep ((top - 1) / 6) (g₁ .keep ((top - 1) / 6) marked);
+        only = λ d. ⊎-elim (λ (e : getD marks₂ d 0 ≡ getD marks₁ d 0). ⊎-elim (λ (f : getD marks₁ d 0 ≡ getD (set marks ((top - 1) / 6) mark) d 0). first d (e ∙ f))
+            (λ (f : getD marks₁ d 0 ≡ mark). inr (e ∙ f)) (g₁ .only d)) (λ (e : getD marks₂ d 0 ≡ mark). inr e) (g₂ .only d);
+        closed = λ j l s p m. ⊎-elim (λ (z : getD near j 0 ≡ 0). absurd (omega arith)) (λ z. z) (o .at j l s m (λ q. omega arith) (λ q. omega arith));
+        within = λ P cl h d m. g₂ .within P cl (g₁ .within P cl (λ x y. rw (alone x y) h)) d m;
+      }
+    where
+      first : (d : ℕ) → getD marks₂ d 0 ≡ getD (set marks ((top - 1) / 6) mark) d 0 → (getD marks₂ d 0 ≡ getD marks d 0) ⊎ (getD marks₂ d 0 ≡ mark)
+      first d e = elim (ℕ-discrete d ((top - 1) / 6)) [ yes f ↦ inr (e ∙ rw f marked) | no f ↦ inl (e ∙ getD-set-other marks ((top - 1) / 6) d mark 0 f) ]
 
   -- near leads to slots of the cells
   near-within : (j : ℕ) → j < 4 * n → getD near j 0 ≤ 4 * n
@@ -386,10 +384,10 @@ module _ {keys next near : List ℕ} {n key mark top : ℕ} {marks : List ℕ} (
         let m : (4 * ((top - 1) / 6) + s) % 4 ≡ s = omega (arith, (on .slot-lt)) in
         record {
           paired = S .paired;
-          side = slot-side keys near n key mark marks (S .paired) (S .fresh) ((top - 1) / 6) ((top - 1) % 6) cell-lt edge-lt at-top (S .room) s (on .slot-lt) (on .holds);
+          side = slot-side s (on .slot-lt) (on .holds);
           rank-is = rw (m, ← e) f;
-          here = rw d (marked keys near n key mark marks (S .paired) (S .fresh) ((top - 1) / 6) ((top - 1) % 6) cell-lt edge-lt at-top (S .room));
-          opens = rw e (start-open keys near n key mark marks (S .paired) (S .fresh) ((top - 1) / 6) ((top - 1) % 6) cell-lt edge-lt at-top (S .room) s on);
+          here = rw d marked;
+          opens = rw e (start-open s on);
         }
 
     pub spread-second : (o r b : ℕ) → o ≡ otherSlot ((top - 1) % 6) s → o < 4 → r ≡ rankIn o s → (marks₁ : List ℕ)
@@ -400,11 +398,9 @@ module _ {keys next near : List ℕ} {n key mark top : ℕ} {marks : List ℕ} (
         let t : otherSlot ((top - 1) % 6) o ≡ s = rw e (third .back) in
         record {
           paired = S .paired;
-          side = slot-side keys near n key mark marks (S .paired) (S .fresh) ((top - 1) / 6) ((top - 1) % 6) cell-lt edge-lt at-top (S .room) o l
-              (rw e (third .other));
+          side = slot-side o l (rw e (third .other));
           rank-is = rw (m, t) f;
-          here = grown-at (g .grown) ((top - 1) / 6) (4 * ((top - 1) / 6) + o) (omega arith)
-              (marked keys near n key mark marks (S .paired) (S .fresh) ((top - 1) / 6) ((top - 1) % 6) cell-lt edge-lt at-top (S .room));
+          here = grown-at (g .grown) ((top - 1) / 6) (4 * ((top - 1) / 6) + o) (omega arith) marked;
           opens = open-free b (g .opens);
         }
 
@@ -415,5 +411,4 @@ module _ {keys next near : List ℕ} {n key mark top : ℕ} {marks : List ℕ} (
     spread-both o r q e l f h marks₁ marks₂ g₁ g₂ =
         let a = g₁ .over keys key (4 * ((top - 1) / 6) + o) (spread-first o r e f) in
         let b = g₂ .over keys key (4 * n) (spread-second o q (4 * n) e l h marks₁ a) in
-        both-spread keys near n key mark marks (S .paired) (S .fresh) ((top - 1) / 6) ((top - 1) % 6) cell-lt edge-lt at-top (S .room) (4 * n) (le-refl (4 * n)) marks₁ marks₂
-        (a .grown) (b .grown) (b .opens)
+        both-spread (4 * n) (le-refl (4 * n)) marks₁ marks₂ (a .grown) (b .grown) (b .opens)
