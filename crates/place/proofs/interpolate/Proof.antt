@@ -1,6 +1,6 @@
 use mathlib.Core.Path.{refl}
-use Rattle.places.proofs.interpolate.Statement.{statement}
-use Rattle.places.proofs.interpolate.Tie as tie
+use Rattle.place.proofs.interpolate.Statement.{statement}
+use Rattle.place.proofs.interpolate.Tie as tie
 
 -- each operation of the definition is one of the code
 returns : tie.Need-returns

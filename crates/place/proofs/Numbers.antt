@@ -1,16 +1,19 @@
 -- Points as numbers in a list.
 use Prim.Native.Nat.{ℕ, zero, suc, _+_, _*_, _≤_, _<_}
 use mathlib.Core.Path.{_≡_, refl, sym, ap, _∙_}
+use mathlib.Core.Logic.{inl}
 use mathlib.Core.List.{List, [], _∷_, _++_, append-assoc}
 use native.Mathlib.Omega.{arith}
 use native.Mathlib.Nat.{not-suc-le-zero}
 use lib.ListN.{length, getD, set, drop, List·getD-append}
 use lib.Seq.{sets, getD-append-add}
 use lib.Ieee.{Float, nan}
+use Rattle.counting.specs.Range.{over}
 use Rattle.counting.proofs.Below.{below-three}
 use Rattle.counting.proofs.Fronts.{sets-two, sets-front}
-use Rattle.places.specs.declared.Place.{Place}
-use Rattle.places.specs.Place.{along, between, coordinates, placeAt, numbers, allNumbers}
+use Rattle.counting.proofs.Stores.{getD-sets-out}
+use Rattle.place.specs.declared.Place.{Place}
+use Rattle.place.specs.Place.{along, between, coordinates, placeAt, numbers, allNumbers}
 
 -- three stores, as code writes them
 pub sets-three : {A : Type 0} (l : List A) (n : ℕ) (a b c : A) → set (set (set l n a) (n + 1) b) (n + 2) c ≡ sets l n (a ∷ b ∷ c ∷ [])
@@ -22,6 +25,11 @@ pub numbers-append : (l m : List Place) → allNumbers (l ++ m) ≡ allNumbers l
 unfolding allNumbers
 numbers-append [] m = refl
 numbers-append (p ∷ l) m = ap (λ (x : List Float). numbers p ++ x) (numbers-append l m) ∙ sym (append-assoc (numbers p) (allNumbers l) (allNumbers m))
+
+pub numbers-over : (f : ℕ → List Place) (n p : ℕ) → allNumbers (over f n p) ≡ over (λ k. allNumbers (f k)) n p
+unfolding over allNumbers
+numbers-over f zero p = refl
+numbers-over f (suc n) p = numbers-append (f p) (over f n (suc p)) ∙ ap (λ (x : List Float). allNumbers (f p) ++ x) (numbers-over f n (suc p))
 
 pub length-numbers : (l : List Place) → length (allNumbers l) ≡ coordinates * length l
 unfolding allNumbers
@@ -53,6 +61,14 @@ front-place ps l g p r h =
     let b = front-at ps l g 1 p r h (omega arith) in
     let c = front-at ps l g 2 p r h (omega arith) in
     rw (a, b, c)
+
+-- the points before a store stay
+pub place-kept : (l : List Float) (m : ℕ) (v : List Float) (g : ℕ) → g < m → placeAt (sets l (coordinates * m) v) g ≡ placeAt l g
+place-kept l m v g h =
+    let at : (t : ℕ) → t < coordinates → getD (sets l (coordinates * m) v) (coordinates * g + t) nan ≡ getD l (coordinates * g + t) nan =
+    λ t k. getD-sets-out v l (coordinates * m) (coordinates * g + t) nan (inl (omega arith)) in
+    let a : getD (sets l (coordinates * m) v) (coordinates * g) nan ≡ getD l (coordinates * g) nan = getD-sets-out v l (coordinates * m) (coordinates * g) nan (inl (omega arith)) in
+    rw (a, at 1 (omega arith), at 2 (omega arith))
 
 -- a number of a place that is loaded, and of one between two
 pub number-loaded : (l : List Float) (k t : ℕ) → t < coordinates → getD (numbers (placeAt l k)) t nan ≡ getD l (coordinates * k + t) nan
