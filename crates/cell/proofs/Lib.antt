@@ -29,3 +29,4 @@ pub mod Holding
 pub mod Cells
 pub mod Fits
 pub mod TriangleClaims
+pub mod Middles

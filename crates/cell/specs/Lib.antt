@@ -19,3 +19,4 @@ pub mod Fits
 pub mod Names
 pub mod Polygons
 pub mod TriangleClaims
+pub mod Middles

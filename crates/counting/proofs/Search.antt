@@ -11,7 +11,7 @@ use borrow.Author.Tests.{lt-ltb, le-ltb, ltb-true, le-leb, lt-leb}
 use Rattle.counting.specs.Pick.{pick, one}
 use Rattle.counting.specs.Range.{total}
 use Rattle.counting.specs.Search.{seek, first, last, some, every, count}
-use Rattle.counting.proofs.Bools.{clash, and-true, and-left, and-right, or-left, or-right, or-false, holds-or}
+use Rattle.counting.proofs.Bools.{not-clash, clash, and-true, and-left, and-right, or-left, or-right, or-false, holds-or}
 use Rattle.counting.proofs.Range.{total-snoc}
 
 -- below n, or at the last of suc n numbers
@@ -159,6 +159,9 @@ module _ (t : ℕ → Bool) where
   unfolding every
   is-every zero h = refl
   is-every (suc n) h = and-true (every t n) (t n) (is-every n (λ i l. h i (omega arith))) (h n (omega arith))
+
+  pub every-not : (n i : ℕ) → i < n → t i ≡ false → every t n ≡ false
+  every-not n i h e = not-clash (every t n) (λ q. clash (every-is n q i h) e)
 
   -- the last number below n that passes
   pub last-none : last t 0 ≡ 0

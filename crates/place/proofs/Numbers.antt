@@ -9,6 +9,7 @@ use lib.ListN.{length, getD, set, drop, List·getD-append}
 use lib.Seq.{sets, getD-append-add}
 use lib.Ieee.{Float, nan}
 use Rattle.counting.specs.Range.{over}
+use Rattle.counting.specs.Stored.{Stored}
 use Rattle.counting.proofs.Below.{below-three}
 use Rattle.counting.proofs.Fronts.{sets-two, sets-front}
 use Rattle.counting.proofs.Stores.{getD-sets-out}
@@ -62,13 +63,12 @@ front-place ps l g p r h =
     let c = front-at ps l g 2 p r h (omega arith) in
     rw (a, b, c)
 
--- the points before a store stay
-pub place-kept : (l : List Float) (m : ℕ) (v : List Float) (g : ℕ) → g < m → placeAt (sets l (coordinates * m) v) g ≡ placeAt l g
-place-kept l m v g h =
-    let at : (t : ℕ) → t < coordinates → getD (sets l (coordinates * m) v) (coordinates * g + t) nan ≡ getD l (coordinates * g + t) nan =
-    λ t k. getD-sets-out v l (coordinates * m) (coordinates * g + t) nan (inl (omega arith)) in
-    let a : getD (sets l (coordinates * m) v) (coordinates * g) nan ≡ getD l (coordinates * g) nan = getD-sets-out v l (coordinates * m) (coordinates * g) nan (inl (omega arith)) in
-    rw (a, at 1 (omega arith), at 2 (omega arith))
+-- the points before what is stored stay
+pub place-kept : {was is vs : List Float} {m n : ℕ} → Stored was (coordinates * m) vs is n → (g : ℕ) → g < m → placeAt is g ≡ placeAt was g
+place-kept {was} {is} {vs} {m} S g h =
+    let at : (k : ℕ) → k < coordinates * m → getD is k nan ≡ getD was k nan =
+    λ k l. ap (λ (x : List Float). getD x k nan) (S .area) ∙ getD-sets-out vs was (coordinates * m) k nan (inl l) in
+    rw (at (coordinates * g) (omega arith), at (coordinates * g + 1) (omega arith), at (coordinates * g + 2) (omega arith))
 
 -- a number of a place that is loaded, and of one between two
 pub number-loaded : (l : List Float) (k t : ℕ) → t < coordinates → getD (numbers (placeAt l k)) t nan ≡ getD l (coordinates * k + t) nan
