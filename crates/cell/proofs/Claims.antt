@@ -7,9 +7,9 @@ use mathlib.Core.List.{List, [], _∷_}
 use native.Mathlib.Nat.{eq-or-lt-of-le}
 use native.Mathlib.Omega.{arith}
 use native.Mathlib.Decide.{decLt, ℕ-discrete}
-use lib.Dec.{eqb}
+use lib.Dec.{eqb, ltb}
 use lib.ListN.{getD}
-use borrow.Author.Tests.{eqb-false, ne-eqb}
+use borrow.Author.Tests.{ltb-true, lt-ltb}
 use Rattle.counting.specs.Pick.{pick, one}
 use Rattle.cell.specs.declared.LoopType.{LoopType}
 use Rattle.cell.specs.declared.LoopType.the-variants.{Contractible, Corner, Diagonal, LowestCorner}
@@ -23,7 +23,7 @@ use Rattle.cell.proofs.Lay.{lay, lower-numbers}
 use Rattle.cell.proofs.Mates.{ports, darts, laws}
 use Rattle.cell.proofs.Loops.{the-loop, dart-live, size-le, size-two}
 use Rattle.cell.proofs.Follow.{step-of, goes-on, along-most, along-once}
-use Rattle.cell.proofs.Leasts.{kept-is, kept-rise, kept-all}
+use Rattle.counting.proofs.Kept.{kept-is, kept-rise, kept-all}
 use Rattle.cell.proofs.Three.{three-normal, three-corner}
 
 pub cellLaws : (w : Edges) (v : List ℕ) → CellLaws w v
@@ -42,13 +42,13 @@ cellLaws w v = record {
   exactly = λ all s x L. along-once w s x L (all s x L) all;
   three-normal = three-normal w;
   three-corner = λ p l e. three-corner w p l e v;
-  rising = kept-rise none (crossings w) 0;
-  listed = λ i l. let K = kept-is none (crossings w) 0 i l in (omega (arith, K .high), omega (arith, eqb-false (loopSize w (getD (leasts w) i 0)) 0 (K .fails)));
-  all = λ p l h. kept-all none (crossings w) 0 p (omega arith) (omega arith) (ne-eqb (loopSize w p) 0 (λ e. omega arith));
+  rising = kept-rise some (crossings w) 0;
+  listed = λ i l. let K = kept-is some (crossings w) 0 i l in (omega (arith, K .high), ltb-true 0 (loopSize w (getD (leasts w) i 0)) (K .passes));
+  all = λ p l h. kept-all some (crossings w) 0 p (omega arith) (omega arith) (lt-ltb 0 (loopSize w p) h);
 }
   where
-    none : ℕ → Bool
-    none p = eqb (loopSize w p) 0
+    some : ℕ → Bool
+    some p = ltb 0 (loopSize w p)
 
 -- where no crossing number belongs to two edges
 module _ (w : Edges) (S : Separate w) where

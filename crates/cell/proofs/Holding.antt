@@ -10,19 +10,18 @@ use Rattle.counting.specs.Range.{after}
 use Rattle.cell.specs.declared.Cell.{Cell}
 use Rattle.cell.specs.Cell.{mate, slot}
 use Rattle.cell.specs.Loop.{dart}
-use Rattle.cell.specs.Route.{startLimit}
 use Rattle.cell.specs.Round.{foldsIn}
 use Rattle.cell.proofs.Loops.{from-lt, from-slot, from-point, normal-is}
-use Rattle.cell.proofs.Reading.{Looped, looped-halves, looped-points}
+use Rattle.cell.proofs.Going.{Looped, looped-halves, looped-points}
 use Rattle.cell.specs.Triangles.{edgesOf, numberOf, manyBy, inTwo, loopTriangles}
 use Rattle.cell.specs.Traced.{RecordedLoop, tracedTriangles}
 use Rattle.cell.proofs.LoopTriangles.{length-traced}
 use Rattle.cell.proofs.Taken.{two-four, dart-leads, traced-loop}
 
 module _ {c : Cell} {p n : ℕ} {halves points : List ℕ} (L : Looped c p n halves points) where
-  pub looped-traced : n < startLimit → RecordedLoop halves points n
-  looped-traced h = record {
-    few = h;
+  pub looped-traced : RecordedLoop halves points n
+  looped-traced = record {
+    few = omega (arith, L .few);
     halves-long = looped-halves L;
     points-long = looped-points L;
     halves-are = λ k l. rw (L .halves-are) (from-lt c p (L .inside) k (omega (arith, L .size)));

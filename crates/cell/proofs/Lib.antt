@@ -6,13 +6,11 @@ pub mod Route
 pub mod Ready
 pub mod Mates
 pub mod Start
-pub mod Putting
+pub mod Using
 pub mod Walking
 pub mod Recording
 pub mod Loops
-pub mod Leasts
-pub mod Tracing
-pub mod Reading
+pub mod Going
 pub mod Segments
 pub mod Follow
 pub mod Three

@@ -1,5 +1,5 @@
 -- The loops of a cell, and what is read of one from its record.
-use Prim.Native.Nat.{ℕ, suc, _+_, _*_, _-_, _/_, _%_, _≤_, _<_}
+use Prim.Native.Nat.{ℕ, suc, _+_, _*_, _/_, _%_, _≤_, _<_}
 use mathlib.Core.Path.{_≡_, refl, sym, ap, ap₂, _∙_}
 use mathlib.Core.Logic.{_≢_, ⊎-elim}
 use mathlib.Core.Bool.{Bool}
@@ -12,7 +12,7 @@ use lib.ListN.{getD, length}
 use Rattle.counting.specs.Pick.{one}
 use Rattle.counting.specs.Range.{total, after, before}
 use Rattle.counting.specs.Lists.{tally}
-use Rattle.counting.proofs.Range.{total-ext, total-next, total-split, total-round, before-after, after-last, after-on, after-lt, length-over}
+use Rattle.counting.proofs.Range.{total-ext, total-next, total-round, before-after, after-last, after-on, after-lt, length-over}
 use Rattle.slots.specs.Slots.{edgeRank, firstSlot}
 use Rattle.slots.proofs.Slots.{two-slots}
 use Rattle.walk.specs.Iterate.{it}
@@ -28,7 +28,7 @@ use Rattle.cell.specs.Loop.{loopSize, dart, loopDarts, folded, normal, p
 use Rattle.cell.specs.Of.{edgesOf}
 use Rattle.cell.specs.Half.{halfEdges, edgeOf, halfOf, halfEdge}
 use Rattle.cell.specs.Dart.{dartNumber}
-use Rattle.cell.specs.Trace.{halvesFrom, pointsFrom}
+use Rattle.cell.specs.Scratch.{halvesFrom, pointsFrom}
 use Rattle.cell.specs.Round.{foldsIn, crossesIn, roundAnswer}
 use Rattle.cell.proofs.Half as halves
 use Rattle.cell.proofs.Lay.{lay}
@@ -171,12 +171,6 @@ sizes w =
       total-ext (λ p. length (walk.loopAt (crossings w) s p)) (loopSize w) (crossings w) 0 (λ p a b. length-orbit s (loopSize w p) (2 * p)),
       flat-room (crossings w) s rev (darts w),
     )
-
--- there is room for the loop from p after those before it
-pub size-room : (w : Edges) (p : ℕ) → p < crossings w → total (loopSize w) p 0 + loopSize w p ≤ crossings w
-size-room w p l =
-    let e : crossings w ≡ (p + 1) + (crossings w - (p + 1)) = omega arith in
-    omega (arith, sizes w, ap (λ n. total (loopSize w) n 0) e, total-split (loopSize w) (p + 1) (crossings w - (p + 1)) 0, total-next (loopSize w) p)
 
 -- what is read of the record of the loop from p
 module _ (c : Cell) (p : ℕ) where

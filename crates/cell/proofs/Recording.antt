@@ -4,8 +4,9 @@ use mathlib.Core.Path.{_≡_, refl, sym, ap, _∙_}
 use mathlib.Core.List.{List, [], _∷_, _++_, map, map-append}
 use native.Mathlib.Nat.{not-suc-le-zero}
 use native.Mathlib.Omega.{arith}
-use native.Mathlib.Decide.{decLt}
-use lib.ListN.{getD, set, length, length-map}
+use native.Mathlib.Numerals.{add-one}
+use lib.ListN.{getD, set, take, length, length-map}
+use lib.Seq.{take-suc-set}
 use Rattle.counting.proofs.Lists.{getD-map}
 use Rattle.walk.specs.Iterate.{it, orbit}
 use Rattle.walk.specs.Walk as walk
@@ -18,13 +19,13 @@ use Rattle.cell.specs.Of.{edgesOf}
 use Rattle.cell.specs.Half.{edgeOf, halfOf, halfEdge}
 use Rattle.cell.specs.Route.{mostInCell, startLimit, Routed}
 use Rattle.cell.specs.Dart.{Parts, IsDart, Ready, Leads, dartNumber, dartOf}
-use Rattle.cell.specs.Trace.{halvesFrom, pointsFrom}
-use Rattle.cell.specs.Walked.{Starts, Marked, Kept, Put, Lent, Walked}
+use Rattle.cell.specs.Scratch.{halvesFrom, pointsFrom}
+use Rattle.cell.specs.Walked.{Starts, Marked, Kept, Used, Lent, Walked}
 use Rattle.cell.proofs.Half.{place-is}
 use Rattle.cell.proofs.Step.{number-half, parts-number, parts-edge, parts-index, parts-slot}
 use Rattle.cell.proofs.Route.{start-at, start-near, fits}
-use Rattle.cell.proofs.Putting.{kept-none, kept-set, put-none, put-more, put-off}
-use Rattle.cell.proofs.Walking.{Walking, dart-next, walking-start, walking-longer, walking-end, walking-low, walking-home, walking-on, walking-mark, walking-met, start-met}
+use Rattle.cell.proofs.Using.{kept-set, used-none}
+use Rattle.cell.proofs.Walking.{Walking, dart-next, walking-start, walking-room, walking-end, walking-low, walking-home, walking-on, walking-mark, walking-met, start-met}
 
 -- a dart in parts leaves by its half-edge, from its point
 module _ {w : Edges} {h t x : ℕ} (P : Parts w h t x) where
@@ -73,60 +74,59 @@ module _ (w : Edges) (f : ℕ → ℕ) (p : ℕ) where
 abbrev pub pointOf : Cell → ℕ → ℕ
 pointOf c d = inGrid (edgesOf c) (d / 2)
 
--- no loop starts at p, where a walk has put v and u
-module _ {c : Cell} {n p at : ℕ} {ms₀ hs₀ ps₀ ms hs ps v u : List ℕ} {end : ℕ} (z : loopSize (edgesOf c) p ≡ 0) (M : Marked c ms) (K : Kept n ms₀ ms)
-    (H : Put n hs₀ at v end hs) (P : Put n ps₀ at u end ps) (room : at ≤ n) (hn : n ≤ length hs₀) (pn : n ≤ length ps₀) where
-  pub walked-none : Walked c n p at ms₀ hs₀ ps₀ at ms hs ps
-  unfolding halvesFrom pointsFrom
-  walked-none = record {
-    marked = M;
-    marks-kept = K;
-    halves-put = rw (run-loop (edgesOf c) (halfEdge (edgesOf c)) p 0 z, run-none (edgesOf c) (halfEdge (edgesOf c)) p) (put-off H (omega arith));
-    points-put = rw (run-loop (edgesOf c) (pointOf c) p 0 z, run-none (edgesOf c) (pointOf c) p) (put-off P (omega arith));
-  }
+-- one more at the front
+take-more : (l : List ℕ) (k x : ℕ) → k < length l → {v : List ℕ} → take k l ≡ v → take (k + 1) (set l k x) ≡ v ++ (x ∷ [])
+take-more l k x h e = rw (add-one k) (take-suc-set l k x h ∙ ap (λ a. a ++ (x ∷ [])) e)
+
+-- no loop starts at p
+walked-none : {c : Cell} {n p : ℕ} {ms hs ps ms′ hs′ ps′ : List ℕ} → loopSize (edgesOf c) p ≡ 0 → Marked c ms′ → Used n ms hs ps ms′ hs′ ps′
+    → Walked c n p ms hs ps 0 ms′ hs′ ps′
+unfolding halvesFrom pointsFrom
+walked-none {c} {n} {p} z M U = record {
+  marked = M;
+  marks-kept = U .marks-kept;
+  halves-kept = U .halves-kept;
+  points-kept = U .points-kept;
+  size = sym z;
+  halves-are = rw (run-loop (edgesOf c) (halfEdge (edgesOf c)) p 0 z, run-none (edgesOf c) (halfEdge (edgesOf c)) p) refl;
+  points-are = rw (run-loop (edgesOf c) (pointOf c) p 0 z, run-none (edgesOf c) (pointOf c) p) refl;
+}
 
 -- at dart k, with those before it recorded
-pub record Going (c : Cell) (n p at : ℕ) (ms₀ hs₀ ps₀ ms hs ps : List ℕ) (d : Dart) (i : ℕ) : Type 0 where
-  pub k : ℕ
+pub record Recording (c : Cell) (n p : ℕ) (ms₀ hs₀ ps₀ ms hs ps : List ℕ) (d : Dart) (k : ℕ) : Type 0 where
   pub walking : Walking (edgesOf c) p k
   pub isDart : IsDart (edgesOf c) d
   pub is : dartOf d ≡ dart (edgesOf c) p k
   pub marked : Marked c ms
-  pub marks-kept : Kept n ms₀ ms
-  pub halves-put : Put n hs₀ at (run (edgesOf c) (halfEdge (edgesOf c)) p k) i hs
-  pub points-put : Put n ps₀ at (run (edgesOf c) (pointOf c) p k) i ps
+  pub used : Used n ms₀ hs₀ ps₀ ms hs ps
+  pub halves-are : take k hs ≡ run (edgesOf c) (halfEdge (edgesOf c)) p k
+  pub points-are : take k ps ≡ run (edgesOf c) (pointOf c) p k
 
-module _ {c : Cell} {t : List ℕ} {n p at : ℕ} {ms₀ hs₀ ps₀ : List ℕ} (L : Lent c t n p at ms₀ hs₀ ps₀) where
+module _ {c : Cell} {t : List ℕ} {n p : ℕ} {ms₀ hs₀ ps₀ : List ℕ} (L : Lent c t n p ms₀ hs₀ ps₀) where
   abbrev w : Edges
   w = edgesOf c
 
   inside : p < crossings w
   inside = omega (arith, L .all, L .inside)
 
-  pub lent-met : getD ms₀ p 0 < p → Walked c n p at ms₀ hs₀ ps₀ at ms₀ hs₀ ps₀
-  lent-met h =
-      walked-none (start-met w ms₀ p inside (L .marked) h) (L .marked) (kept-none n ms₀) (put-none n at hs₀) (put-none n at ps₀)
-      (omega (arith, L .room)) (L .halves-long) (L .points-long)
+  pub lent-met : getD ms₀ p 0 < p → Walked c n p ms₀ hs₀ ps₀ 0 ms₀ hs₀ ps₀
+  lent-met h = walked-none (start-met w ms₀ p inside (L .marked) h) (L .marked) (used-none n ms₀ hs₀ ps₀)
 
-  pub going-start : {d : Dart} → Starts w p d → Going c n p at ms₀ hs₀ ps₀ ms₀ hs₀ ps₀ d at
+  pub recording-start : {d : Dart} → Starts w p d → Recording c n p ms₀ hs₀ ps₀ ms₀ hs₀ ps₀ d 0
   unfolding dart it
-  going-start D = record {
-    k = 0;
+  recording-start D = record {
     walking = walking-start w p inside;
     isDart = D .dart;
     is = D .is;
     marked = L .marked;
-    marks-kept = kept-none n ms₀;
-    halves-put = rw (run-none w (halfEdge w) p) (put-none n at hs₀);
-    points-put = rw (run-none w (pointOf c) p) (put-none n at ps₀);
+    used = used-none n ms₀ hs₀ ps₀;
+    halves-are = sym (run-none w (halfEdge w) p);
+    points-are = sym (run-none w (pointOf c) p);
   }
 
-  module _ {ms hs ps : List ℕ} {d : Dart} {i : ℕ} (G : Going c n p at ms₀ hs₀ ps₀ ms hs ps d i) where
+  module _ {ms hs ps : List ℕ} {d : Dart} {k : ℕ} (G : Recording c n p ms₀ hs₀ ps₀ ms hs ps d k) where
     R : Routed c t
     R = L .routed
-
-    abbrev k : ℕ
-    k = G .k
 
     abbrev h : ℕ
     h = d .half
@@ -135,86 +135,81 @@ module _ {c : Cell} {t : List ℕ} {n p at : ℕ} {ms₀ hs₀ ps₀ : List ℕ}
     abbrev point : ℕ
     point = getD t (9 * h + 4) 0 + d .index
 
-    none : {ms′ hs′ ps′ v u : List ℕ} {end : ℕ} → loopSize w p ≡ 0 → Marked c ms′ → Kept n ms₀ ms′ → Put n hs₀ at v end hs′ → Put n ps₀ at u end ps′
-        → Walked c n p at ms₀ hs₀ ps₀ at ms′ hs′ ps′
-    none z M K H P = walked-none z M K H P (omega (arith, L .room)) (L .halves-long) (L .points-long)
+    pub recording-point : point < 2 * startLimit
+    recording-point = omega (arith, start-at R h (G .isDart .half-lt), start-near R h (G .isDart .half-lt), fits R h (G .isDart .half-lt) (d .index) (G .isDart .index-lt))
 
-    -- there is no room for a loop as long as the walk
-    pub going-far : n ≤ i → Walked c n p at ms₀ hs₀ ps₀ at ms hs ps
-    going-far f = none z (G .marked) (G .marks-kept) (G .halves-put) (G .points-put)
-      where
-        i-is : i ≡ at + k
-        i-is = G .halves-put .next ∙ ap (λ m. at + m) (run-long w (halfEdge w) p k)
+    pub recording-ready : Ready c t d
+    recording-ready = record { routed = R; dart = G .isDart }
 
-        z : loopSize w p ≡ 0
-        z = elim (decLt 0 (loopSize w p)) [ yes l ↦ absurd (omega (arith, walking-longer (G .walking) l, L .room, i-is)) | no l ↦ omega arith ]
+    room : k < n
+    room = omega (arith, walking-room (G .walking), L .all)
 
-    pub going-point : point < 2 * startLimit
-    going-point = omega (arith, start-at R h (G .isDart .half-lt), start-near R h (G .isDart .half-lt), fits R h (G .isDart .half-lt) (d .index) (G .isDart .index-lt))
+    pub recording-long : (k < n) × (k < length hs) × (k < length ps)
+    recording-long = (room, omega (arith, room, G .used .halves-kept .long, L .halves-long), omega (arith, room, G .used .points-kept .long, L .points-long))
 
-    pub going-ready : Ready c t d
-    going-ready = record { routed = R; dart = G .isDart }
+    used-more : {ms′ : List ℕ} → Kept n ms₀ ms′ → Used n ms₀ hs₀ ps₀ ms′ (set hs k h) (set ps k point)
+    used-more K = record { marks-kept = K; halves-kept = kept-set (G .used .halves-kept) k h room; points-kept = kept-set (G .used .points-kept) k point room }
 
-    pub going-long : i < n → (i < length hs) × (i < length ps)
-    going-long b = (omega (arith, G .halves-put .kept .long, L .halves-long), omega (arith, G .points-put .kept .long, L .points-long))
+    halves-more : take (k + 1) (set hs k h) ≡ run w (halfEdge w) p (k + 1)
+    halves-more = rw (run-more w (halfEdge w) p k, ← G .is, parts-half (G .isDart)) (take-more hs k h (recording-long .1) (G .halves-are))
 
-    module _ (b : i < n) where
-      halves-more : Put n hs₀ at (run w (halfEdge w) p (k + 1)) (i + 1) (set hs i h)
-      halves-more =
-          rw (run-more w (halfEdge w) p k, ← G .is, parts-half (G .isDart))
-          (put-more (G .halves-put) h b (omega (arith, L .halves-long)))
+    points-more : take (k + 1) (set ps k point) ≡ run w (pointOf c) p (k + 1)
+    points-more =
+        rw (run-more w (pointOf c) p k, ← G .is, parts-point (G .isDart), ← start-at R h (G .isDart .half-lt))
+        (take-more ps k point (recording-long .2) (G .points-are))
 
-      points-more : Put n ps₀ at (run w (pointOf c) p (k + 1)) (i + 1) (set ps i point)
-      points-more =
-          rw (run-more w (pointOf c) p k, ← G .is, parts-point (G .isDart), ← start-at R h (G .isDart .half-lt))
-          (put-more (G .points-put) point b (omega (arith, L .points-long)))
+    none : loopSize w p ≡ 0 → Walked c n p ms₀ hs₀ ps₀ 0 ms (set hs k h) (set ps k point)
+    none z = walked-none z (G .marked) (used-more (G .used .marks-kept))
 
-      -- the curve ends
-      pub going-end : step w (dartOf d) ≡ 2 * crossings w → Walked c n p at ms₀ hs₀ ps₀ at ms (set hs i h) (set ps i point)
-      going-end e = none (walking-end (G .walking) (rw (G .is) at e)) (G .marked) (G .marks-kept) halves-more points-more
+    -- the curve ends
+    pub recording-end : step w (dartOf d) ≡ 2 * crossings w → Walked c n p ms₀ hs₀ ps₀ 0 ms (set hs k h) (set ps k point)
+    recording-end e = none (walking-end (G .walking) (rw (G .is) at e))
 
-      -- or goes on at dart e
-      module _ {e : Dart} (S : Leads w d e) where
-        abbrev y : ℕ
-        y = step w (dart w p k)
+    -- or goes on at dart e
+    module _ {e : Dart} (S : Leads w d e) where
+      abbrev y : ℕ
+      y = step w (dart w p k)
 
-        here : y ≡ dartOf e
-        here = ap (step w) (sym (G .is)) ∙ S .is
+      here : y ≡ dartOf e
+      here = ap (step w) (sym (G .is)) ∙ S .is
 
-        on : y < 2 * crossings w
-        on = rw here (parts-lt (S .to))
+      on : y < 2 * crossings w
+      on = rw here (parts-lt (S .to))
 
-        half-is : y / 2 ≡ e .number
-        half-is = ap (λ n. n / 2) here ∙ number-half (e .half) (e .number)
+      half-is : y / 2 ≡ e .number
+      half-is = ap (λ n. n / 2) here ∙ number-half (e .half) (e .number)
 
-        pub going-lt : (e .number < length ms) × (e .number < mostInCell)
-        going-lt = (omega (arith, parts-number w (S .to), G .marked .long), omega (arith, parts-number w (S .to), R .few))
+      pub recording-lt : (e .number < length ms) × (e .number < mostInCell)
+      recording-lt = (omega (arith, parts-number w (S .to), G .marked .long), omega (arith, parts-number w (S .to), R .few))
 
-        pub going-low : e .number < p → Walked c n p at ms₀ hs₀ ps₀ at ms (set hs i h) (set ps i point)
-        going-low f = none (walking-low (G .walking) on (rw half-is f)) (G .marked) (G .marks-kept) halves-more points-more
+      pub recording-low : e .number < p → Walked c n p ms₀ hs₀ ps₀ 0 ms (set hs k h) (set ps k point)
+      recording-low f = none (walking-low (G .walking) on (rw half-is f))
 
-        pub going-home : e .number ≡ p → Walked c n p at ms₀ hs₀ ps₀ (i + 1) ms (set hs i h) (set ps i point)
-        unfolding halvesFrom pointsFrom
-        going-home f =
-            let z = walking-home (G .walking) on (half-is ∙ f) in
-            record {
-              marked = G .marked;
-              marks-kept = G .marks-kept;
-              halves-put = rw (run-loop w (halfEdge w) p (k + 1) z) halves-more;
-              points-put = rw (run-loop w (pointOf c) p (k + 1) z) points-more;
-            }
+      pub recording-home : e .number ≡ p → Walked c n p ms₀ hs₀ ps₀ (k + 1) ms (set hs k h) (set ps k point)
+      unfolding halvesFrom pointsFrom
+      recording-home f =
+          let z = walking-home (G .walking) on (half-is ∙ f) in
+          let U = used-more (G .used .marks-kept) in
+          record {
+            marked = G .marked;
+            marks-kept = U .marks-kept;
+            halves-kept = U .halves-kept;
+            points-kept = U .points-kept;
+            size = sym z;
+            halves-are = halves-more ∙ sym (run-loop w (halfEdge w) p (k + 1) z);
+            points-are = points-more ∙ sym (run-loop w (pointOf c) p (k + 1) z);
+          }
 
-        pub going-met : getD ms (e .number) 0 < p → Walked c n p at ms₀ hs₀ ps₀ at ms (set hs i h) (set ps i point)
-        going-met f = none (walking-met (G .walking) on (G .marked) (rw half-is f)) (G .marked) (G .marks-kept) halves-more points-more
+      pub recording-met : getD ms (e .number) 0 < p → Walked c n p ms₀ hs₀ ps₀ 0 ms (set hs k h) (set ps k point)
+      recording-met f = none (walking-met (G .walking) on (G .marked) (rw half-is f))
 
-        pub going-on : p < e .number → Going c n p at ms₀ hs₀ ps₀ (set ms (e .number) p) (set hs i h) (set ps i point) e (i + 1)
-        going-on f = record {
-          k = k + 1;
-          walking = walking-on (G .walking) on (rw half-is f);
-          isDart = S .to;
-          is = sym (dart-next w p k ∙ here);
-          marked = rw half-is at (walking-mark (G .walking) on (G .marked));
-          marks-kept = kept-set (G .marks-kept) (e .number) p (omega (arith, parts-number w (S .to), L .all));
-          halves-put = halves-more;
-          points-put = points-more;
-        }
+      pub recording-on : p < e .number → Recording c n p ms₀ hs₀ ps₀ (set ms (e .number) p) (set hs k h) (set ps k point) e (k + 1)
+      recording-on f = record {
+        walking = walking-on (G .walking) on (rw half-is f);
+        isDart = S .to;
+        is = sym (dart-next w p k ∙ here);
+        marked = rw half-is at (walking-mark (G .walking) on (G .marked));
+        used = used-more (kept-set (G .used .marks-kept) (e .number) p (omega (arith, parts-number w (S .to), L .all)));
+        halves-are = halves-more;
+        points-are = points-more;
+      }

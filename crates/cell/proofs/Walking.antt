@@ -1,14 +1,15 @@
 -- What a walk from the crossing p keeps.
-use Prim.Native.Nat.{ℕ, _+_, _*_, _-_, _/_, _≤_, _<_, min}
-use mathlib.Core.Path.{_≡_, refl, sym, ap, _∙_}
+use Prim.Native.Nat.{ℕ, _+_, _*_, _-_, _/_, _≤_, _<_}
+use mathlib.Core.Path.{_≡_, refl, ap, _∙_}
 use mathlib.Core.Logic.{⊎-elim}
 use mathlib.Core.List.{List}
 use native.Mathlib.Nat.{eq-or-lt-of-le}
 use native.Mathlib.Omega.{arith}
 use native.Mathlib.Numerals.{add-one}
 use native.Mathlib.Decide.{decLt}
-use lib.ListN.{getD, set, length, replicate, take, length-replicate, length-take, getD-replicate}
-use lib.Seq.{getD-take}
+use lib.ListN.{getD, set, length}
+use Rattle.counting.specs.Stored.{filled}
+use Rattle.counting.proofs.Stored.{length-filled, filled-at}
 use Rattle.walk.specs.Iterate.{it}
 use Rattle.walk.specs.Darts.{half, rev}
 use Rattle.walk.proofs.Iterate.{it-suc}
@@ -20,18 +21,16 @@ use Rattle.cell.specs.Cell.{Edges, crossings, step}
 use Rattle.cell.specs.Loop.{loopSize, dart}
 use Rattle.cell.specs.Of.{edgesOf}
 use Rattle.cell.specs.Route.{mostInCell}
-use Rattle.cell.specs.Trace.{unmarked}
+use Rattle.cell.specs.Scratch.{unmarked}
 use Rattle.cell.specs.Walked.{Marked}
-use Rattle.cell.proofs.Mates.{darts, laws}
+use Rattle.cell.proofs.Mates.{darts}
 
 -- marks that are cleared say nothing
-pub cleared : (c : Cell) (n : ℕ) (m : List ℕ) → n ≡ crossings (edgesOf c) → n ≤ mostInCell → take n m ≡ replicate n unmarked → Marked c m
-cleared c n m e l h =
-    let long : n ≡ min n (length m) = sym (length-replicate {A = ℕ} n unmarked) ∙ sym (ap length h) ∙ length-take n m in
-    record {
-      long = omega arith;
-      by = λ x a b. absurd (omega (arith, sym (getD-take n m x 0 (omega arith)) ∙ ap (λ l. getD l x 0) h ∙ getD-replicate {A = ℕ} n x unmarked 0 (omega arith)));
-    }
+pub cleared : (c : Cell) (n : ℕ) (m : List ℕ) → n ≡ crossings (edgesOf c) → n ≤ mostInCell → n ≤ length m → Marked c (filled (λ i. unmarked) n m)
+cleared c n m e l h = record {
+  long = omega (arith, length-filled (λ i. unmarked) n m);
+  by = λ x a b. absurd (omega (arith, filled-at (λ i. unmarked) n m 0 h x (omega arith)));
+}
 
 -- a walk from p that has come to its dart k, and was above p since it left
 pub record Walking (w : Edges) (p k : ℕ) : Type 0 where
@@ -43,11 +42,6 @@ pub record Walking (w : Edges) (p k : ℕ) : Type 0 where
 pub dart-next : (w : Edges) (p k : ℕ) → dart w p (k + 1) ≡ step w (dart w p k)
 unfolding dart
 dart-next w p k = rw add-one (it-suc (step w) k (2 * p))
-
--- a loop comes home
-pub dart-home : (w : Edges) (p : ℕ) → p < crossings w → 0 < loopSize w p → dart w p (loopSize w p) ≡ 2 * p
-unfolding dart loopSize
-dart-home w p l h = laws w .found p l h .0 .home
 
 pub walking-start : (w : Edges) (p : ℕ) → p < crossings w → Walking w p 0
 unfolding loopSize dart it
@@ -75,14 +69,6 @@ module _ {w : Edges} {p k : ℕ} (W : Walking w p k) where
         | no h ↦
             let (j, jN, L) = closes (2 * N) N (step w) rev half (darts w) (2 * p) (λ j l. W .live j (omega arith)) in
             absurd (omega (arith, W .up j (L .pos) (omega arith), L .home))
-      ]
-
-  -- a loop is longer than the walk has come
-  pub walking-longer : 0 < loopSize w p → k < loopSize w p
-  walking-longer h =
-      elim (decLt k (loopSize w p)) [
-        | yes l ↦ l
-        | no l ↦ absurd (omega (arith, W .up (loopSize w p) h (omega arith), dart-home w p (W .start) h))
       ]
 
   pub walking-end : y ≡ 2 * N → loopSize w p ≡ 0

@@ -5,7 +5,7 @@ pub mod Half
 pub mod Route
 pub mod Dart
 pub mod Nodes
-pub mod Trace
+pub mod Scratch
 pub mod Walked
 pub mod Round
 pub mod Answer

@@ -2,10 +2,10 @@
 use Prim.Native.Nat.{ℕ, _+_, _*_, _/_, _%_}
 use mathlib.Core.Bool.{Bool}
 use mathlib.Core.List.{List, [], _∷_}
-use lib.Dec.{eqb}
+use lib.Dec.{eqb, ltb}
 use lib.ListN.{getD, drop}
 use Rattle.counting.specs.Pick.{pick, one}
-use Rattle.counting.specs.Range.{over}
+use Rattle.counting.specs.Range.{kept}
 use Rattle.counting.specs.Lists.{tally}
 use Rattle.walk.specs.Iterate.{it}
 use Rattle.walk.specs.Walk as walk
@@ -66,8 +66,8 @@ module _ (w : Edges) where
 
   -- the least crossings of the loops, in order
   unfoldable pub leasts : List ℕ
-  unfolding loopSize over
-  leasts = over (λ p. pick (eqb (loopSize w p) 0) [] (p ∷ [])) (crossings w) 0
+  unfolding loopSize kept
+  leasts = kept (λ p. ltb 0 (loopSize w p)) (crossings w) 0
 
   module _ (v : List ℕ) where
     unfoldable pub typeOf : ℕ → List ℕ

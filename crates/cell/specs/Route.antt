@@ -12,15 +12,12 @@ use Rattle.cell.specs.Cell.{Edges, base, crossings}
 use Rattle.cell.specs.Of.{countOf, startOf, edgesOf}
 use Rattle.cell.specs.Half.{halfEdges, slotOf, rankOf, edgeOf, twin, around}
 
--- the greatest count of an edge, a byte; the most crossings that a cell can have; and its most loops, of two crossings or more each
+-- the greatest count of an edge, a byte; and the most crossings that a cell can have
 abbrev pub mostCount : ℕ
 mostCount = 255
 
 abbrev pub mostInCell : ℕ
 mostInCell = 6 * mostCount
-
-abbrev pub mostLoops : ℕ
-mostLoops = 3 * mostCount
 
 -- one more than the greatest number that a start can have
 abbrev pub startLimit : ℕ

@@ -4,12 +4,9 @@ ghost use Prim.Native.Nat.{_%_, _<_, _≤_};
 ghost use lib.Dec.{eqb};
 ghost use lib.ListN.{getD, length};
 ghost use Rattle.counting.specs.Pick.{one};
-ghost use Rattle.counting.specs.Range.{total};
-ghost use Rattle.cell.specs.Of.{edgesOf};
-ghost use Rattle.cell.specs.Loop.{nodeWith, typeBy, loopAnswer};
-ghost use Rattle.cell.specs.Route.{mostLoops, startLimit};
+ghost use Rattle.cell.specs.Loop.{nodeWith, typeBy};
+ghost use Rattle.cell.specs.Route.{startLimit};
 ghost use Rattle.cell.specs.Half.{edgeOf};
-ghost use Rattle.cell.specs.Trace.{leastsOf, From};
 ghost use Rattle.cell.specs.Round.{foldsIn, crossesIn, roundAnswer};
 ghost use Rattle.cell.specs.Answer.{typeNumbers, loopNumbers};
 use super::Cell;
@@ -112,29 +109,4 @@ pub(crate) fn answer_of(c: Cell, halves: &[u8], points: &[u32]) -> Loop
     let t = type_of(c, x, y, z);
     let normal = folds_of(halves) == 0;
     Loop::Found(points[0], halves.len() as u32, normal, t)
-}
-
-// The sum of the first k lengths: the place of loop k in the record.
-fn places_before(lengths: &[u16], k: usize) -> usize
-    requires { ⌜ (k ≤ length (now lengths)) × (k ≤ mostLoops) ⌝ }
-    ensures { λ r. ⌜ r ≡ total (λ j. getD (now (lengths .entry)) j 0) k 0 ⌝ }
-{
-    let mut at: usize = 0;
-    let mut j: usize = 0;
-    while j < k {
-        at += routes::wide16(lengths[j]);
-        j += 1;
-    }
-    at
-}
-
-// Loop k of the cell, of those recorded.
-pub(crate) fn nth(c: Cell, lengths: &[u16], halves: &[u8], points: &[u32], k: usize) -> Loop
-    requires { ⌜ From c 0 0 (now lengths) (now halves) (now points) ⌝ }
-    requires { ⌜ (k < length (leastsOf c)) × (k ≤ mostLoops) ⌝ }
-    ensures { λ r. ⌜ loopNumbers r ≡ loopAnswer (edgesOf c) (c .nodes) k ⌝ }
-{
-    let at = places_before(lengths, k);
-    let end = at + routes::wide16(lengths[k]);
-    answer_of(c, &halves[at..end], &points[at..end])
 }

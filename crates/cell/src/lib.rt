@@ -1,14 +1,11 @@
 // The loops of a cell and their triangles, from the counts and first crossing numbers of its six edges.
 ghost use mathlib.Core.Path.{_≡_};
-ghost use lib.ListN.{length};
 ghost use Rattle.cell.specs.Of.{edgesOf};
 ghost use Rattle.cell.specs.Loop.{loopAnswer};
-ghost use Rattle.cell.specs.Trace.{leastsOf, Traced};
 ghost use Rattle.cell.specs.Answer.{loopNumbers};
 
 mod answers;
 mod make;
-mod recorded;
 mod routes;
 mod steps;
 mod tables;
@@ -27,12 +24,10 @@ pub use triangles::write_in;
 pub use words::NO_NAME;
 pub use words::WORD_COUNT;
 
-// The most crossings of an edge and of a cell, and the most loops of a cell: each has two crossings or more.
+// The most crossings of an edge and of a cell.
 pub const MOST_COUNT: usize = 255;
 
 pub const MOST_IN_CELL: usize = 6 * MOST_COUNT;
-
-pub const MOST_LOOPS: usize = 3 * MOST_COUNT;
 
 // A cell: the counts of its edges 01, 02, 03, 12, 13, 23 and the crossing number at index 0 of each, the names of the faces in its
 // slots, its nodes' numbers, and its own number.
@@ -109,43 +104,28 @@ enum Next {
     End,
 }
 
-// How many loops are recorded, and the place after the last.
-struct Extent {
-    loops: usize,
-    end: usize,
-}
-
-// Records the cell's loops by least crossing, and answers how many they are: their lengths in `lengths`, and of each in turn the half-edges of
-// its darts in `halves` and the numbers of its crossings in `points`. What the arrays hold before does not matter.
-pub fn trace(
-    c: Cell,
-    marks: &mut [u16; MOST_IN_CELL],
-    halves: &mut [u8; MOST_IN_CELL],
-    points: &mut [u32; MOST_IN_CELL],
-    lengths: &mut [u16; MOST_LOOPS],
-) -> usize
-    ensures { λ r. ⌜ r ≡ length (leastsOf c) ⌝ }
-    ensures { λ _. ⌜ Traced c (now (marks .entry)) (now (halves .entry)) (now (points .entry)) (now (lengths .entry)) (now (marks .exit)) (now (halves .exit)) (now (points .exit)) (now (lengths .exit)) ⌝ }
-{
-    let n = crossings_of(c);
-    walks::clear(marks, n);
-    let r = walks::walk_all(c, n, marks, halves, points, lengths);
-    walks::clear(marks, n);
-    walks::wipe(halves, points, r.end, n);
-    r.loops
-}
-
-// Loop k of the cell, or that there are k or fewer. The trace's arrays stand on the stack: 12 KB.
+// Loop k of the cell, or that there are k or fewer. The walks' arrays stand on the stack: 11 KB.
 pub fn loop_at(c: Cell, k: usize) -> Loop
     ensures { λ r. ⌜ loopNumbers r ≡ loopAnswer (edgesOf c) (c .nodes) k ⌝ }
 {
     let mut marks = [0u16; MOST_IN_CELL];
     let mut halves = [0u8; MOST_IN_CELL];
     let mut points = [0u32; MOST_IN_CELL];
-    let mut lengths = [0u16; MOST_LOOPS];
-    let n = trace(c, &mut marks, &mut halves, &mut points, &mut lengths);
-    if n <= k {
-        return Loop::Nothing;
+    let n = crossings_of(c);
+    let routes = routes::routes_of(c);
+    walks::clear(&mut marks, n);
+    let mut left = k;
+    let mut p: usize = 0;
+    while p < n {
+        let m = walks::walk(c, &routes, n, p, &mut marks, &mut halves, &mut points);
+        p += 1;
+        if m == 0 {
+            continue;
+        }
+        if left == 0 {
+            return answers::answer_of(c, &halves[0..m], &points[0..m]);
+        }
+        left -= 1;
     }
-    answers::nth(c, &lengths, &halves, &points, k)
+    Loop::Nothing
 }

@@ -2,7 +2,6 @@
 ghost use mathlib.Core.Path.{_≡_};
 ghost use mathlib.Core.Bool.{true, _&&_};
 ghost use lib.Dec.{eqb};
-ghost use Rattle.cell.specs.Route.{startLimit};
 ghost use Rattle.cell.specs.Round.{foldsIn};
 ghost use mathlib.Core.List.{_∷_};
 ghost use Prim.Native.Nat.{suc, _<_, min};
@@ -17,13 +16,6 @@ use super::Triangle;
 
 fn wide(x: u8) -> usize
     ensures { λ r. ⌜ r ≡ x ⌝ }
-{
-    x as usize
-}
-
-// The length of a loop.
-pub(crate) fn size(x: u16) -> usize
-    ensures { λ r. ⌜ (r ≡ x) × (r < startLimit) ⌝ }
 {
     x as usize
 }

@@ -1,32 +1,107 @@
-// The triangles of a cell's loops: by value, one by one, and as words in a lent area.
+// The triangles of a cell's loops: by value, one by one, and as words in a lent area. The loops are walked one after the other, and the triangles of
+// each are made from its record before the next is walked.
 ghost use mathlib.Core.Path.{_≡_};
-ghost use Prim.Native.Nat.{_≤_};
+ghost use Prim.Native.Nat.{_+_, _*_, _≤_};
+ghost use lib.Dec.{leb};
 ghost use lib.ListN.{length};
+ghost use lib.Seq.{sets};
+ghost use Rattle.cell.specs.Cell.{crossings};
 ghost use Rattle.cell.specs.Route.{mostInCell};
-ghost use Rattle.cell.specs.Trace.{Traced};
-ghost use Rattle.cell.specs.Triangles.{cellTriangles};
+ghost use Rattle.cell.specs.Scratch.{Cleared};
+ghost use Rattle.cell.specs.Walked.{Used};
+ghost use Rattle.cell.specs.Words.{wordCount, allWords};
+ghost use Rattle.cell.specs.Triangles.{edgesOf, cellTriangles};
 ghost use Rattle.cell.specs.Nth.{nthOf, nthNumbers, nthAnswer};
 ghost use Rattle.cell.specs.Fits.{nextAt, areaThen};
 use super::Cell;
 use super::MOST_IN_CELL;
-use super::MOST_LOOPS;
 use super::Nth;
-use super::recorded;
-use super::trace;
+use super::make::in_two;
+use super::make::many;
+use super::make::triangle_of;
+use super::routes::crossings_of;
+use super::routes::routes_of;
+use super::walks::clear;
+use super::walks::walk;
+use super::walks::wipe;
+use super::words::WORD_COUNT;
+use super::write::write_loop;
 
-// How many triangles the cell has. The lent arrays are those of `trace`, and it leaves them as that does.
+// How many triangles the cell has. The walks use the lent arrays as far as the cell's crossings reach, and clear them at the end. What these hold
+// before does not matter.
 pub fn count_in(
     c: Cell,
     marks: &mut [u16; MOST_IN_CELL],
     halves: &mut [u8; MOST_IN_CELL],
     points: &mut [u32; MOST_IN_CELL],
-    lengths: &mut [u16; MOST_LOOPS],
 ) -> usize
     ensures { λ r. ⌜ (r ≡ length (cellTriangles c)) × (r ≤ mostInCell) ⌝ }
-    ensures { λ _. ⌜ Traced c (now (marks .entry)) (now (halves .entry)) (now (points .entry)) (now (lengths .entry)) (now (marks .exit)) (now (halves .exit)) (now (points .exit)) (now (lengths .exit)) ⌝ }
+    ensures { λ _. ⌜ Cleared c (now (marks .entry)) (now (halves .entry)) (now (points .entry)) (now (marks .exit)) (now (halves .exit)) (now (points .exit)) ⌝ }
 {
-    let n = trace(c, marks, halves, points, lengths);
-    recorded::count(c, n, lengths, halves, points)
+    let n = crossings_of(c);
+    let routes = routes_of(c);
+    clear(marks, n);
+    let mut t: usize = 0;
+    let mut p: usize = 0;
+    while p < n {
+        let m = walk(c, &routes, n, p, marks, halves, points);
+        let two = in_two(&halves[0..m], m);
+        t += many(m, two);
+        p += 1;
+    }
+    clear(marks, n);
+    wipe(halves, points, n);
+    t
+}
+
+// Whether the words of the triangles have room from index `at` on in an area of `room` words. A cell has no more triangles than crossings, so that
+// they are counted only where there is not room for so many.
+fn has_room(
+    c: Cell,
+    marks: &mut [u16; MOST_IN_CELL],
+    halves: &mut [u8; MOST_IN_CELL],
+    points: &mut [u32; MOST_IN_CELL],
+    room: usize,
+    at: usize,
+) -> bool
+    ensures { λ r. ⌜ r ≡ leb (at + wordCount * length (cellTriangles c)) room ⌝ }
+    ensures { λ _. ⌜ Used (crossings (edgesOf c)) (now (marks .entry)) (now (halves .entry)) (now (points .entry)) (now (marks .exit)) (now (halves .exit)) (now (points .exit)) ⌝ }
+{
+    if room < at {
+        return false;
+    }
+    if WORD_COUNT * crossings_of(c) <= room - at {
+        return true;
+    }
+    let t = count_in(c, marks, halves, points);
+    WORD_COUNT * t <= room - at
+}
+
+// Writes the words of the triangles, which have room from index `at` on, and answers the next index.
+fn write_all(
+    c: Cell,
+    marks: &mut [u16; MOST_IN_CELL],
+    halves: &mut [u8; MOST_IN_CELL],
+    points: &mut [u32; MOST_IN_CELL],
+    area: &mut [u32],
+    at: usize,
+) -> usize
+    requires { ⌜ at + wordCount * length (cellTriangles c) ≤ length (now area) ⌝ }
+    ensures { λ r. ⌜ (r ≡ at + wordCount * length (cellTriangles c)) × (now (area .exit) ≡ sets (now (area .entry)) at (allWords (cellTriangles c))) ⌝ }
+    ensures { λ _. ⌜ Used (crossings (edgesOf c)) (now (marks .entry)) (now (halves .entry)) (now (points .entry)) (now (marks .exit)) (now (halves .exit)) (now (points .exit)) ⌝ }
+{
+    let n = crossings_of(c);
+    let routes = routes_of(c);
+    clear(marks, n);
+    let mut i = at;
+    let mut p: usize = 0;
+    while p < n {
+        let m = walk(c, &routes, n, p, marks, halves, points);
+        let two = in_two(&halves[0..m], m);
+        i = write_loop(c, &halves[0..m], &points[0..m], m, two, area, i);
+        p += 1;
+    }
+    i
 }
 
 // Writes the words of the cell's triangles from index `at` on and answers the next index. Where they have no room there, it writes nothing and
@@ -36,58 +111,65 @@ pub fn write_in(
     marks: &mut [u16; MOST_IN_CELL],
     halves: &mut [u8; MOST_IN_CELL],
     points: &mut [u32; MOST_IN_CELL],
-    lengths: &mut [u16; MOST_LOOPS],
     area: &mut [u32],
     at: usize,
 ) -> usize
     ensures { λ r. ⌜ (r ≡ nextAt c (now (area .entry)) at) × (now (area .exit) ≡ areaThen c (now (area .entry)) at) ⌝ }
-    ensures { λ _. ⌜ Traced c (now (marks .entry)) (now (halves .entry)) (now (points .entry)) (now (lengths .entry)) (now (marks .exit)) (now (halves .exit)) (now (points .exit)) (now (lengths .exit)) ⌝ }
+    ensures { λ _. ⌜ Cleared c (now (marks .entry)) (now (halves .entry)) (now (points .entry)) (now (marks .exit)) (now (halves .exit)) (now (points .exit)) ⌝ }
 {
-    let n = trace(c, marks, halves, points, lengths);
-    if recorded::has_room(c, n, lengths, halves, points, area.len(), at) {
-        return recorded::write(c, n, lengths, halves, points, area, at);
+    let n = crossings_of(c);
+    if has_room(c, marks, halves, points, area.len(), at) {
+        let i = write_all(c, marks, halves, points, area, at);
+        clear(marks, n);
+        wipe(halves, points, n);
+        return i;
     }
+    clear(marks, n);
+    wipe(halves, points, n);
     at
 }
 
-// How many triangles the cell has. About 12 KB of stack.
+// How many triangles the cell has. About 11 KB of stack.
 pub fn triangle_count(c: Cell) -> usize
     ensures { λ r. ⌜ (r ≡ length (cellTriangles c)) × (r ≤ mostInCell) ⌝ }
 {
     let mut marks = [0u16; MOST_IN_CELL];
     let mut halves = [0u8; MOST_IN_CELL];
     let mut points = [0u32; MOST_IN_CELL];
-    let mut lengths = [0u16; MOST_LOOPS];
-    count_in(c, &mut marks, &mut halves, &mut points, &mut lengths)
+    count_in(c, &mut marks, &mut halves, &mut points)
 }
 
-// Triangle t of the cell. About 12 KB of stack.
+// Triangle t of the cell. About 11 KB of stack.
 pub fn triangle_at(c: Cell, t: usize) -> Nth
     ensures { λ r. ⌜ (r ≡ nthOf (cellTriangles c) t) × (nthNumbers r ≡ nthAnswer (cellTriangles c) t) ⌝ }
 {
     let mut marks = [0u16; MOST_IN_CELL];
     let mut halves = [0u8; MOST_IN_CELL];
     let mut points = [0u32; MOST_IN_CELL];
-    let mut lengths = [0u16; MOST_LOOPS];
-    let n = trace(c, &mut marks, &mut halves, &mut points, &mut lengths);
-    recorded::seek(c, n, &lengths, &halves, &points, t)
+    let n = crossings_of(c);
+    let routes = routes_of(c);
+    clear(&mut marks, n);
+    let mut left = t;
+    let mut p: usize = 0;
+    while p < n {
+        let m = walk(c, &routes, n, p, &mut marks, &mut halves, &mut points);
+        let two = in_two(&halves[0..m], m);
+        let k = many(m, two);
+        if left < k {
+            return Nth::Found(triangle_of(c, &halves[0..m], &points[0..m], m, two, left));
+        }
+        left -= k;
+        p += 1;
+    }
+    Nth::Nothing
 }
 
-// As `write_in`, with arrays of its own. About 12 KB of stack.
+// As `write_in`, with arrays of its own. About 11 KB of stack.
 pub fn write_cell(c: Cell, area: &mut [u32], at: usize) -> usize
     ensures { λ r. ⌜ (r ≡ nextAt c (now (area .entry)) at) × (now (area .exit) ≡ areaThen c (now (area .entry)) at) ⌝ }
 {
     let mut marks = [0u16; MOST_IN_CELL];
     let mut halves = [0u8; MOST_IN_CELL];
     let mut points = [0u32; MOST_IN_CELL];
-    let mut lengths = [0u16; MOST_LOOPS];
-    write_in(
-        c,
-        &mut marks,
-        &mut halves,
-        &mut points,
-        &mut lengths,
-        area,
-        at,
-    )
+    write_in(c, &mut marks, &mut halves, &mut points, area, at)
 }

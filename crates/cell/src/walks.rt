@@ -1,16 +1,16 @@
 // The walk along a loop, with marks. A walk passes its start, unless that is marked, and then crossings that no earlier walk has passed, which it
 // marks: so for all loops of a cell together there are no more steps than crossings.
 ghost use mathlib.Core.Path.{_≡_};
-ghost use Prim.Native.Nat.{_-_, _<_, _≤_};
-ghost use lib.ListN.{length, replicate};
+ghost use Prim.Native.Nat.{_<_, _≤_};
+ghost use lib.ListN.{length};
+ghost use Rattle.counting.specs.Stored.{filled};
 ghost use Rattle.cell.specs.Cell.{crossings, holds};
 ghost use Rattle.cell.specs.Of.{edgesOf};
-ghost use Rattle.cell.specs.Trace.{unmarked};
+ghost use Rattle.cell.specs.Scratch.{unmarked};
 ghost use Rattle.cell.specs.Route.{Routed};
-ghost use Rattle.cell.specs.Walked.{Located, Starts, Put, Lent, Walked, Walkable, Recorded};
+ghost use Rattle.cell.specs.Walked.{Located, Starts, Lent, Walked};
 use super::Cell;
 use super::Dart;
-use super::Extent;
 use super::Next;
 use super::routes;
 use super::routes::ROUTES;
@@ -68,7 +68,7 @@ fn start_at(c: Cell, routes: &[usize; ROUTES], p: usize) -> Dart
 // Clears the first n marks.
 pub(crate) fn clear(marks: &mut [u16], n: usize)
     requires { ⌜ n ≤ length (now marks) ⌝ }
-    ensures { λ _. ⌜ Put n (now (marks .entry)) 0 (replicate n unmarked) n (now (marks .exit)) ⌝ }
+    ensures { λ _. ⌜ now (marks .exit) ≡ filled (λ i. unmarked) n (now (marks .entry)) ⌝ }
 {
     let mut i: usize = 0;
     while i < n {
@@ -77,13 +77,13 @@ pub(crate) fn clear(marks: &mut [u16], n: usize)
     }
 }
 
-// Sets the places from `at` to n to 0.
-pub(crate) fn wipe(halves: &mut [u8], points: &mut [u32], at: usize, n: usize)
-    requires { ⌜ (at ≤ n) × (n ≤ length (now halves)) × (n ≤ length (now points)) ⌝ }
-    ensures { λ _. ⌜ Put n (now (halves .entry)) at (replicate (n - at) 0) n (now (halves .exit)) ⌝ }
-    ensures { λ _. ⌜ Put n (now (points .entry)) at (replicate (n - at) 0) n (now (points .exit)) ⌝ }
+// Sets the first n places of a record to 0.
+pub(crate) fn wipe(halves: &mut [u8], points: &mut [u32], n: usize)
+    requires { ⌜ (n ≤ length (now halves)) × (n ≤ length (now points)) ⌝ }
+    ensures { λ _. ⌜ now (halves .exit) ≡ filled (λ i. 0) n (now (halves .entry)) ⌝ }
+    ensures { λ _. ⌜ now (points .exit) ≡ filled (λ i. 0) n (now (points .entry)) ⌝ }
 {
-    let mut i = at;
+    let mut i: usize = 0;
     while i < n {
         halves[i] = 0;
         points[i] = 0;
@@ -91,75 +91,44 @@ pub(crate) fn wipe(halves: &mut [u8], points: &mut [u32], at: usize, n: usize)
     }
 }
 
-// Records the loop whose least crossing is p from place `at` on, and answers the next place; `at` where there is no such loop. What the walk comes
-// to is marked with p; it stops where an earlier walk has been, or where there is no room below n for a loop so long.
-fn walk(
+// Records the loop whose least crossing is p, and answers its length; 0 where there is no such loop. What the walk comes to is marked with p; it
+// stops where an earlier walk has been. The cell has n crossings.
+pub(crate) fn walk(
     c: Cell,
     routes: &[usize; ROUTES],
     n: usize,
     p: usize,
-    at: usize,
     marks: &mut [u16],
     halves: &mut [u8],
     points: &mut [u32],
 ) -> usize
-    requires { ⌜ Lent c (now routes) n p at (now marks) (now halves) (now points) ⌝ }
-    ensures { λ r. ⌜ Walked c n p at (now (marks .entry)) (now (halves .entry)) (now (points .entry)) r (now (marks .exit)) (now (halves .exit)) (now (points .exit)) ⌝ }
+    requires { ⌜ Lent c (now routes) n p (now marks) (now halves) (now points) ⌝ }
+    ensures { λ r. ⌜ Walked c n p (now (marks .entry)) (now (halves .entry)) (now (points .entry)) r (now (marks .exit)) (now (halves .exit)) (now (points .exit)) ⌝ }
 {
     if routes::wide16(marks[p]) < p {
-        return at;
+        return 0;
     }
     let mut d = start_at(c, routes, p);
-    let mut i = at;
-    while i < n {
+    let mut k: usize = 0;
+    loop {
         let h = d.half;
-        halves[i] = h as u8;
-        points[i] = (routes[9 * h + routes::START] + d.index) as u32;
-        i += 1;
+        halves[k] = h as u8;
+        points[k] = (routes[9 * h + routes::START] + d.index) as u32;
+        k += 1;
         let Next::On(e) = steps::next(c, routes, d) else {
-            return at;
+            return 0;
         };
         let x = e.number;
         if x < p {
-            return at;
+            return 0;
         }
         if x == p {
-            return i;
+            return k;
         }
         if routes::wide16(marks[x]) < p {
-            return at;
+            return 0;
         }
         marks[x] = p as u16;
         d = e;
     }
-    at
-}
-
-// Records the loops of the cell, by least crossing.
-pub(crate) fn walk_all(
-    c: Cell,
-    n: usize,
-    marks: &mut [u16],
-    halves: &mut [u8],
-    points: &mut [u32],
-    lengths: &mut [u16],
-) -> Extent
-    requires { ⌜ Walkable c n (now marks) (now halves) (now points) (now lengths) ⌝ }
-    ensures { λ r. ⌜ Recorded c n (now (marks .entry)) (now (halves .entry)) (now (points .entry)) (now (lengths .entry)) r (now (marks .exit)) (now (halves .exit)) (now (points .exit)) (now (lengths .exit)) ⌝ }
-{
-    let routes = routes::routes_of(c);
-    let mut loops: usize = 0;
-    let mut at: usize = 0;
-    let mut p: usize = 0;
-    while p < n {
-        let end = walk(c, &routes, n, p, at, marks, halves, points);
-        p += 1;
-        if end == at {
-            continue;
-        }
-        lengths[loops] = (end - at) as u16;
-        loops += 1;
-        at = end;
-    }
-    Extent { loops, end: at }
 }

@@ -3,15 +3,18 @@ use borrow.Author.Needs.{needs}
 use Prim.Native.Nat.{_-_}
 use lib.ListN.{length-set}
 use Rattle.cell.proofs.Ready.{onward-on, onward-end}
-use Rattle.cell.proofs.Recording.{Going, lent-met, going-start, going-far, going-point, going-ready, going-long, going-end, going-lt, going-low, going-home, going-met, going-on}
+use Rattle.cell.proofs.Recording.{Recording, lent-met, recording-start, recording-point, recording-ready, recording-long, recording-end, recording-lt, recording-low, recording-home, recording-met, recording-on}
 use Rattle.cell.proofs.walks.walk.Statement.{statement}
 use Rattle.cell.proofs.walks.walk.Tie as tie
+use Rattle.cell.proofs.routes.wide16.Reads as wide16-reads
+use Rattle.cell.proofs.steps.next.Reads as next-reads
+use Rattle.cell.proofs.walks.start_at.Reads as start-at-reads
 
 abbrev Inv-loop : tie.InvT-loop
-Inv-loop c routes n p at marks₀ halves₀ points₀ d₀ i₀ marks halves points d i = Going c n p at marks₀ halves₀ points₀ marks halves points d i
+Inv-loop c routes n p marks₀ halves₀ points₀ d₀ k₀ marks halves points d k = Recording c n p marks₀ halves₀ points₀ marks halves points d k
 
 abbrev μ-loop : tie.MeasureT-loop
-μ-loop c routes n p at marks₀ halves₀ points₀ d₀ i₀ marks halves points d i = n - i
+μ-loop c routes n p marks₀ halves₀ points₀ d₀ k₀ marks halves points d k = n - k
 
 mul-wide16 : tie.Need-mul-wide16 Inv-loop μ-loop
 mul-wide16 c = omega (arith, c .before .before .before .pre .inside, c .before .before .before .pre .all, c .before .before .before .pre .marked .long)
@@ -29,43 +32,43 @@ start-at-requires : tie.Need-start-at-requires Inv-loop μ-loop
 start-at-requires c κs = (c .before .before .before .before .before .before .pre .routed, omega (arith, c .before .before .before .before .before .before .pre .inside, c .before .before .before .before .before .before .pre .all))
 
 loop-holds : tie.Need-loop-holds Inv-loop μ-loop
-loop-holds c = going-start (c .before .before .before .before .before .before .before .pre) (c .start-at .ensures)
+loop-holds c = recording-start (c .before .before .before .before .before .before .before .pre) (c .start-at .ensures)
 
 cast-halves : tie.Need-cast-halves Inv-loop μ-loop
-cast-halves c = omega (arith, c .before .loop .inv .isDart .half-lt)
+cast-halves c = omega (arith, c .loop .inv .isDart .half-lt)
 
 slice-write-halves : tie.Need-slice-write-halves Inv-loop μ-loop
-slice-write-halves c = going-long (c .before .before .before .before .before .before .before .before .before .pre) (c .before .loop .inv) (omega arith) .0
+slice-write-halves c = recording-long (c .before .before .before .before .before .before .before .before .pre) (c .loop .inv) .1
 
 mul-points : tie.Need-mul-points Inv-loop μ-loop
-mul-points c = omega (arith, c .before .loop .inv .isDart .half-lt)
+mul-points c = omega (arith, c .loop .inv .isDart .half-lt)
 
 add-points : tie.Need-add-points Inv-loop μ-loop
-add-points c = omega (arith, c .before .loop .inv .isDart .half-lt)
+add-points c = omega (arith, c .loop .inv .isDart .half-lt)
 
 mul-points-2 : tie.Need-mul-points-2 Inv-loop μ-loop
-mul-points-2 c = omega (arith, c .before .loop .inv .isDart .half-lt)
+mul-points-2 c = omega (arith, c .loop .inv .isDart .half-lt)
 
 element-copy-out-points : tie.Need-element-copy-out-points Inv-loop μ-loop
-element-copy-out-points c = omega (arith, c .before .loop .inv .isDart .half-lt)
+element-copy-out-points c = omega (arith, c .loop .inv .isDart .half-lt)
 
 add-points-2 : tie.Need-add-points-2 Inv-loop μ-loop
-add-points-2 c = omega (arith, going-point (c .before .before .before .before .before .before .before .before .before .before .before .pre) (c .before .before .before .loop .inv))
+add-points-2 c = omega (arith, recording-point (c .before .before .before .before .before .before .before .before .before .before .pre) (c .before .before .loop .inv))
 
 cast-points : tie.Need-cast-points Inv-loop μ-loop
-cast-points c = omega (arith, going-point (c .before .before .before .before .before .before .before .before .before .before .before .pre) (c .before .before .before .loop .inv))
+cast-points c = omega (arith, recording-point (c .before .before .before .before .before .before .before .before .before .before .pre) (c .before .before .loop .inv))
 
 mul-points-3 : tie.Need-mul-points-3 Inv-loop μ-loop
-mul-points-3 c = omega (arith, going-long (c .before .before .before .before .before .before .before .before .before .before .before .pre) (c .before .before .before .loop .inv) (omega arith) .1)
+mul-points-3 c = omega (arith, recording-long (c .before .before .before .before .before .before .before .before .before .before .pre) (c .before .before .loop .inv) .2)
 
 slice-write-points : tie.Need-slice-write-points Inv-loop μ-loop
-slice-write-points c = omega (arith, going-long (c .before .before .before .before .before .before .before .before .before .before .before .pre) (c .before .before .before .loop .inv) (omega arith) .1)
+slice-write-points c = omega (arith, recording-long (c .before .before .before .before .before .before .before .before .before .before .pre) (c .before .before .loop .inv) .2)
 
-add-i : tie.Need-add-i Inv-loop μ-loop
-add-i c = omega arith
+add-k : tie.Need-add-k Inv-loop μ-loop
+add-k c = omega (arith, recording-long (c .before .before .before .before .before .before .before .before .before .before .pre) (c .before .before .loop .inv) .2)
 
 next-requires : tie.Need-next-requires Inv-loop μ-loop
-next-requires c κs = going-ready (c .before .before .before .before .before .before .before .before .before .before .before .pre) (c .before .before .before .loop .inv)
+next-requires c κs = recording-ready (c .before .before .before .before .before .before .before .before .before .before .pre) (c .before .before .loop .inv)
 
 enum-known-e : tie.Need-enum-known-e Inv-loop μ-loop
 enum-known-e c = search needs
@@ -74,88 +77,76 @@ enum-told : tie.Need-enum-told Inv-loop μ-loop
 enum-told c = search needs
 
 same-length : tie.Need-same-length Inv-loop μ-loop
-same-length c = c .before .before .before .before .before .before .loop .inv .marks-kept .long
+same-length c = c .before .before .before .before .before .loop .inv .used .marks-kept .long
 
 same-length-2 : tie.Need-same-length-2 Inv-loop μ-loop
-same-length-2 c = simp length-set (c .before .before .before .before .before .before .loop .inv .halves-put .kept .long)
+same-length-2 c = simp length-set (c .before .before .before .before .before .loop .inv .used .halves-kept .long)
 
 same-length-3 : tie.Need-same-length-3 Inv-loop μ-loop
-same-length-3 c = simp length-set (c .before .before .before .before .before .before .loop .inv .points-put .kept .long)
+same-length-3 c = simp length-set (c .before .before .before .before .before .loop .inv .used .points-kept .long)
 
 returns-2 : tie.Need-returns-2 Inv-loop μ-loop
-returns-2 c = going-end (c .before .before .before .before .before .before .before .before .before .before .before .before .before .before .pre) (c .before .before .before .before .before .before .loop .inv) (omega arith) (onward-end _ _ (c .before .before .next .ensures) (c .enum-told .given .1))
+returns-2 c = recording-end (c .before .before .before .before .before .before .before .before .before .before .before .before .before .pre) (c .before .before .before .before .before .loop .inv) (onward-end _ _ (c .before .before .next .ensures) (c .enum-told .given .1))
 
 same-length-4 : tie.Need-same-length-4 Inv-loop μ-loop
-same-length-4 c = c .before .before .before .before .before .before .before .before .loop .inv .marks-kept .long
+same-length-4 c = c .before .before .before .before .before .before .before .loop .inv .used .marks-kept .long
 
 same-length-5 : tie.Need-same-length-5 Inv-loop μ-loop
-same-length-5 c = simp length-set (c .before .before .before .before .before .before .before .before .loop .inv .halves-put .kept .long)
+same-length-5 c = simp length-set (c .before .before .before .before .before .before .before .loop .inv .used .halves-kept .long)
 
 same-length-6 : tie.Need-same-length-6 Inv-loop μ-loop
-same-length-6 c = simp length-set (c .before .before .before .before .before .before .before .before .loop .inv .points-put .kept .long)
+same-length-6 c = simp length-set (c .before .before .before .before .before .before .before .loop .inv .used .points-kept .long)
 
 returns-3 : tie.Need-returns-3 Inv-loop μ-loop
-returns-3 c = going-low (c .before .before .before .before .before .before .before .before .before .before .before .before .before .before .before .before .pre) (c .before .before .before .before .before .before .before .before .loop .inv) (omega arith) (onward-on (c .before .before .before .before .next .ensures) (c .before .before .e .given .1)) (c .if2 .taken)
+returns-3 c = recording-low (c .before .before .before .before .before .before .before .before .before .before .before .before .before .before .before .pre) (c .before .before .before .before .before .before .before .loop .inv) (onward-on (c .before .before .before .before .next .ensures) (c .before .before .e .given .1)) (c .if2 .taken)
 
 same-length-7 : tie.Need-same-length-7 Inv-loop μ-loop
-same-length-7 c = c .before .before .before .before .before .before .before .before .before .loop .inv .marks-kept .long
+same-length-7 c = c .before .before .before .before .before .before .before .before .loop .inv .used .marks-kept .long
 
 same-length-8 : tie.Need-same-length-8 Inv-loop μ-loop
-same-length-8 c = simp length-set (c .before .before .before .before .before .before .before .before .before .loop .inv .halves-put .kept .long)
+same-length-8 c = simp length-set (c .before .before .before .before .before .before .before .before .loop .inv .used .halves-kept .long)
 
 same-length-9 : tie.Need-same-length-9 Inv-loop μ-loop
-same-length-9 c = simp length-set (c .before .before .before .before .before .before .before .before .before .loop .inv .points-put .kept .long)
+same-length-9 c = simp length-set (c .before .before .before .before .before .before .before .before .loop .inv .used .points-kept .long)
 
 returns-4 : tie.Need-returns-4 Inv-loop μ-loop
-returns-4 c = going-home (c .before .before .before .before .before .before .before .before .before .before .before .before .before .before .before .before .before .pre) (c .before .before .before .before .before .before .before .before .before .loop .inv) (omega arith) (onward-on (c .before .before .before .before .before .next .ensures) (c .before .before .before .e .given .1)) (c .if3 .taken)
+returns-4 c = recording-home (c .before .before .before .before .before .before .before .before .before .before .before .before .before .before .before .before .pre) (c .before .before .before .before .before .before .before .before .loop .inv) (onward-on (c .before .before .before .before .before .next .ensures) (c .before .before .before .e .given .1)) (c .if3 .taken)
 
 mul-wide16-2 : tie.Need-mul-wide16-2 Inv-loop μ-loop
-mul-wide16-2 c = omega (arith, going-lt (c .before .before .before .before .before .before .before .before .before .before .before .before .before .before .before .before .before .pre) (c .before .before .before .before .before .before .before .before .before .loop .inv) (omega arith) (onward-on (c .before .before .before .before .before .next .ensures) (c .before .before .before .e .given .1)))
+mul-wide16-2 c = omega (arith, recording-lt (c .before .before .before .before .before .before .before .before .before .before .before .before .before .before .before .before .pre) (c .before .before .before .before .before .before .before .before .loop .inv) (onward-on (c .before .before .before .before .before .next .ensures) (c .before .before .before .e .given .1)))
 
 slice-read-wide16-2 : tie.Need-slice-read-wide16-2 Inv-loop μ-loop
-slice-read-wide16-2 c = omega (arith, going-lt (c .before .before .before .before .before .before .before .before .before .before .before .before .before .before .before .before .before .before .pre) (c .before .before .before .before .before .before .before .before .before .before .loop .inv) (omega arith) (onward-on (c .before .before .before .before .before .before .next .ensures) (c .before .before .before .before .e .given .1)))
+slice-read-wide16-2 c = omega (arith, recording-lt (c .before .before .before .before .before .before .before .before .before .before .before .before .before .before .before .before .before .pre) (c .before .before .before .before .before .before .before .before .before .loop .inv) (onward-on (c .before .before .before .before .before .before .next .ensures) (c .before .before .before .before .e .given .1)))
 
 wide16-requires-2 : tie.Need-wide16-requires-2 Inv-loop μ-loop
 wide16-requires-2 c κs = tt
 
 same-length-10 : tie.Need-same-length-10 Inv-loop μ-loop
-same-length-10 c = c .before .before .before .before .before .before .before .before .before .before .before .before .loop .inv .marks-kept .long
+same-length-10 c = c .before .before .before .before .before .before .before .before .before .before .before .loop .inv .used .marks-kept .long
 
 same-length-11 : tie.Need-same-length-11 Inv-loop μ-loop
-same-length-11 c = simp length-set (c .before .before .before .before .before .before .before .before .before .before .before .before .loop .inv .halves-put .kept .long)
+same-length-11 c = simp length-set (c .before .before .before .before .before .before .before .before .before .before .before .loop .inv .used .halves-kept .long)
 
 same-length-12 : tie.Need-same-length-12 Inv-loop μ-loop
-same-length-12 c = simp length-set (c .before .before .before .before .before .before .before .before .before .before .before .before .loop .inv .points-put .kept .long)
+same-length-12 c = simp length-set (c .before .before .before .before .before .before .before .before .before .before .before .loop .inv .used .points-kept .long)
 
 returns-5 : tie.Need-returns-5 Inv-loop μ-loop
-returns-5 c = going-met (c .before .before .before .before .before .before .before .before .before .before .before .before .before .before .before .before .before .before .before .before .pre) (c .before .before .before .before .before .before .before .before .before .before .before .before .loop .inv) (omega arith) (onward-on (c .before .before .before .before .before .before .before .before .next .ensures) (c .before .before .before .before .before .before .e .given .1)) (rw (c .before .wide162 .ensures .0) at (c .if4 .taken))
+returns-5 c = recording-met (c .before .before .before .before .before .before .before .before .before .before .before .before .before .before .before .before .before .before .before .pre) (c .before .before .before .before .before .before .before .before .before .before .before .loop .inv) (onward-on (c .before .before .before .before .before .before .before .before .next .ensures) (c .before .before .before .before .before .before .e .given .1)) (rw (c .before .wide162 .ensures .0) at (c .if4 .taken))
 
 cast-marks : tie.Need-cast-marks Inv-loop μ-loop
-cast-marks c = omega (arith, c .before .before .before .before .before .before .before .before .before .before .before .before .before .before .before .before .before .before .before .before .pre .inside, c .before .before .before .before .before .before .before .before .before .before .before .before .before .before .before .before .before .before .before .before .pre .all, c .before .before .before .before .before .before .before .before .before .before .before .before .before .before .before .before .before .before .before .before .pre .routed .few)
+cast-marks c = omega (arith, c .before .before .before .before .before .before .before .before .before .before .before .before .before .before .before .before .before .before .before .pre .inside, c .before .before .before .before .before .before .before .before .before .before .before .before .before .before .before .before .before .before .before .pre .all, c .before .before .before .before .before .before .before .before .before .before .before .before .before .before .before .before .before .before .before .pre .routed .few)
 
 mul-marks : tie.Need-mul-marks Inv-loop μ-loop
-mul-marks c = omega (arith, going-lt (c .before .before .before .before .before .before .before .before .before .before .before .before .before .before .before .before .before .before .before .before .pre) (c .before .before .before .before .before .before .before .before .before .before .before .before .loop .inv) (omega arith) (onward-on (c .before .before .before .before .before .before .before .before .next .ensures) (c .before .before .before .before .before .before .e .given .1)))
+mul-marks c = omega (arith, recording-lt (c .before .before .before .before .before .before .before .before .before .before .before .before .before .before .before .before .before .before .before .pre) (c .before .before .before .before .before .before .before .before .before .before .before .loop .inv) (onward-on (c .before .before .before .before .before .before .before .before .next .ensures) (c .before .before .before .before .before .before .e .given .1)))
 
 slice-write-marks : tie.Need-slice-write-marks Inv-loop μ-loop
-slice-write-marks c = omega (arith, going-lt (c .before .before .before .before .before .before .before .before .before .before .before .before .before .before .before .before .before .before .before .before .pre) (c .before .before .before .before .before .before .before .before .before .before .before .before .loop .inv) (omega arith) (onward-on (c .before .before .before .before .before .before .before .before .next .ensures) (c .before .before .before .before .before .before .e .given .1)))
+slice-write-marks c = omega (arith, recording-lt (c .before .before .before .before .before .before .before .before .before .before .before .before .before .before .before .before .before .before .before .pre) (c .before .before .before .before .before .before .before .before .before .before .before .loop .inv) (onward-on (c .before .before .before .before .before .before .before .before .next .ensures) (c .before .before .before .before .before .before .e .given .1)))
 
 loop-less : tie.Need-loop-less Inv-loop μ-loop
-loop-less c = omega arith
+loop-less c = omega (arith, recording-long (c .before .before .before .before .before .before .before .before .before .before .before .before .before .before .before .before .before .before .before .pre) (c .before .before .before .before .before .before .before .before .before .before .before .loop .inv) .0)
 
 loop-again : tie.Need-loop-again Inv-loop μ-loop
-loop-again c = going-on (c .before .before .before .before .before .before .before .before .before .before .before .before .before .before .before .before .before .before .before .before .pre) (c .before .before .before .before .before .before .before .before .before .before .before .before .loop .inv) (omega arith) (onward-on (c .before .before .before .before .before .before .before .before .next .ensures) (c .before .before .before .before .before .before .e .given .1)) (omega arith)
-
-same-length-13 : tie.Need-same-length-13 Inv-loop μ-loop
-same-length-13 c = c .before .loop .inv .marks-kept .long
-
-same-length-14 : tie.Need-same-length-14 Inv-loop μ-loop
-same-length-14 c = c .before .loop .inv .halves-put .kept .long
-
-same-length-15 : tie.Need-same-length-15 Inv-loop μ-loop
-same-length-15 c = c .before .loop .inv .points-put .kept .long
-
-returns-6 : tie.Need-returns-6 Inv-loop μ-loop
-returns-6 c = going-far (c .before .before .before .before .before .before .before .before .before .pre) (c .before .loop .inv) (omega arith)
+loop-again c = recording-on (c .before .before .before .before .before .before .before .before .before .before .before .before .before .before .before .before .before .before .before .pre) (c .before .before .before .before .before .before .before .before .before .before .before .loop .inv) (onward-on (c .before .before .before .before .before .before .before .before .next .ensures) (c .before .before .before .before .before .before .e .given .1)) (omega arith)
 
 pub walk-spec : {M : Type 1} → statement M
 walk-spec =
@@ -179,7 +170,7 @@ walk-spec =
     cast-points
     mul-points-3
     slice-write-points
-    add-i
+    add-k
     next-requires
     enum-known-e
     enum-told
@@ -206,8 +197,4 @@ walk-spec =
     mul-marks
     slice-write-marks
     loop-less
-    loop-again
-    same-length-13
-    same-length-14
-    same-length-15
-    returns-6)
+    loop-again)

@@ -1,0 +1,109 @@
+-- The walks from all crossings of a cell in turn: those from crossings below p are done.
+use Prim.Native.Nat.{ℕ, _+_, _≤_, _<_}
+use mathlib.Core.Path.{_≡_, sym, ap, _∙_}
+use mathlib.Core.List.{List}
+use native.Mathlib.Omega.{arith}
+use lib.ListN.{length, take}
+use Rattle.counting.specs.Stored.{filled}
+use Rattle.cell.specs.declared.Cell.{Cell}
+use Rattle.cell.specs.Cell.{crossings}
+use Rattle.cell.specs.Loop.{loopSize}
+use Rattle.cell.specs.Of.{edgesOf}
+use Rattle.cell.specs.Route.{mostInCell, Routed}
+use Rattle.cell.specs.Scratch.{unmarked, halvesFrom, pointsFrom, Cleared}
+use Rattle.cell.specs.Walked.{Marked, Used, Lent, Walked}
+use Rattle.cell.proofs.Using.{Long, kept-none, kept-filled, used-then, used-cleared}
+use Rattle.cell.proofs.Walking.{cleared}
+use Rattle.cell.proofs.Loops.{size-le, length-halves, length-points}
+
+-- hs and ps are the record of the loop from p, of m darts
+pub record Looped (c : Cell) (p m : ℕ) (hs ps : List ℕ) : Type 0 where
+  pub inside : p < crossings (edgesOf c)
+  pub size : m ≡ loopSize (edgesOf c) p
+  pub few : m ≤ mostInCell
+  pub halves-are : hs ≡ halvesFrom c p
+  pub points-are : ps ≡ pointsFrom c p
+
+module _ {c : Cell} {p m : ℕ} {hs ps : List ℕ} (L : Looped c p m hs ps) where
+  pub looped-halves : length hs ≡ m
+  looped-halves = ap length (L .halves-are) ∙ length-halves c p ∙ sym (L .size)
+
+  pub looped-points : length ps ≡ m
+  looped-points = ap length (L .points-are) ∙ length-points c p ∙ sym (L .size)
+
+-- the arrays were ms₀, hs₀, ps₀ and are ms, hs, ps; the cell has n crossings
+pub record Going (c : Cell) (n : ℕ) (routes ms₀ hs₀ ps₀ ms hs ps : List ℕ) (p : ℕ) : Type 0 where
+  pub all : n ≡ crossings (edgesOf c)
+  pub few : n ≤ mostInCell
+  pub up : p ≤ n
+  pub long : Long n ms₀ hs₀ ps₀
+  pub routed : Routed c routes
+  pub marked : Marked c ms
+  pub used : Used n ms₀ hs₀ ps₀ ms hs ps
+
+-- the marks are cleared
+pub going-start : {c : Cell} {n : ℕ} {routes ms₀ hs₀ ps₀ ms : List ℕ} → (n ≡ crossings (edgesOf c)) × (n ≤ mostInCell) → Long n ms₀ hs₀ ps₀ → Routed c routes
+    → ms ≡ filled (λ i. unmarked) n ms₀ → Going c n routes ms₀ hs₀ ps₀ ms hs₀ ps₀ 0
+going-start {c} {n} {routes} {ms₀} {hs₀} {ps₀} e L R q = record {
+  all = e .0;
+  few = e .1;
+  up = omega arith;
+  long = L;
+  routed = R;
+  marked = rw q (cleared c n ms₀ (e .0) (e .1) (L .marks-long));
+  used = record { marks-kept = rw q (kept-filled (λ i. unmarked) n ms₀ (L .marks-long)); halves-kept = kept-none n hs₀; points-kept = kept-none n ps₀ };
+}
+
+module _ {c : Cell} {n : ℕ} {routes ms₀ hs₀ ps₀ ms hs ps : List ℕ} {p : ℕ} (G : Going c n routes ms₀ hs₀ ps₀ ms hs ps p) where
+  pub going-long : Long n ms hs ps
+  going-long = record {
+    marks-long = omega (arith, G .long .marks-long, G .used .marks-kept .long);
+    halves-long = omega (arith, G .long .halves-long, G .used .halves-kept .long);
+    points-long = omega (arith, G .long .points-long, G .used .points-kept .long);
+  }
+
+  -- the arrays are cleared to ms′, hs′, ps′
+  pub going-cleared : {ms′ hs′ ps′ : List ℕ} → ms′ ≡ filled (λ i. unmarked) n ms → hs′ ≡ filled (λ i. 0) n hs → ps′ ≡ filled (λ i. 0) n ps → Cleared c ms₀ hs₀ ps₀ ms′ hs′ ps′
+  going-cleared a b d = used-cleared (rw (← G .all) (G .long)) (rw (← G .all) (G .used)) (G .all) a b d
+
+  -- the next walk is from p
+  module _ (l : p < n) where
+    pub going-in : p < crossings (edgesOf c)
+    going-in = omega (arith, G .all)
+
+    pub going-lent : Lent c routes n p ms hs ps
+    going-lent = record {
+      routed = G .routed;
+      all = G .all;
+      inside = l;
+      marked = G .marked;
+      halves-long = going-long .halves-long;
+      points-long = going-long .points-long;
+    }
+
+    module _ {m : ℕ} {ms′ hs′ ps′ : List ℕ} (W : Walked c n p ms hs ps m ms′ hs′ ps′) where
+      pub going-more : Going c n routes ms₀ hs₀ ps₀ ms′ hs′ ps′ (p + 1)
+      going-more = record {
+        all = G .all;
+        few = G .few;
+        up = omega arith;
+        long = G .long;
+        routed = G .routed;
+        marked = W .marked;
+        used = used-then (G .used) (record { marks-kept = W .marks-kept; halves-kept = W .halves-kept; points-kept = W .points-kept });
+      }
+
+      pub going-looped : Looped c p m (take m hs′) (take m ps′)
+      going-looped = record {
+        inside = going-in;
+        size = W .size;
+        few = omega (arith, W .size, size-le (edgesOf c) p going-in, G .all, G .few);
+        halves-are = W .halves-are;
+        points-are = W .points-are;
+      }
+
+      -- they are parts of the arrays
+      pub going-part : (m ≤ length hs′) × (m ≤ length ps′)
+      going-part =
+          let s = size-le (edgesOf c) p going-in in
+          (omega (arith, W .size, s, G .all, W .halves-kept .long, going-long .halves-long), omega (arith, W .size, s, G .all, W .points-kept .long, going-long .points-long))
