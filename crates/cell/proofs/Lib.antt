@@ -27,4 +27,4 @@ pub mod Holding
 pub mod Cells
 pub mod Fits
 pub mod TriangleClaims
-pub mod Middles
+pub mod Fans

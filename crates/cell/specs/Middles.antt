@@ -1,6 +1,7 @@
 -- The middles of a cell's fans (01), and what is left where they are written among the points of an area.
-use Prim.Native.Nat.{ℕ, _+_, _*_, _/_}
-use mathlib.Core.Bool.{Bool}
+use Prim.Native.Nat.{ℕ, _+_, _*_, _/_, _≤_}
+use mathlib.Core.Path.{_≡_}
+use mathlib.Core.Bool.{Bool, true}
 use mathlib.Core.List.{List, [], _∷_}
 use lib.Dec.{eqb, leb}
 use lib.ListN.{length, getD}
@@ -63,3 +64,8 @@ recordedFan halves = hasMiddle (length halves) (eqb (foldsIn halves) 0)
 
 unfoldable pub recordedMiddle : (halves points : List ℕ) (area : List Float) → List Place
 recordedMiddle halves points area = pick (recordedFan halves) (middle (λ k. placeAt area (getD points k 0)) (length points) ∷ []) []
+
+-- the places of the cell's crossings stand before point `at`, and its middles have room from there on
+pub record MiddlesRoom (c : Cell) (area : List Float) (at : ℕ) : Type 0 where
+  pub below : numberedBelow c at ≡ true
+  pub room : coordinates * (at + fanCount c) ≤ length area

@@ -14,7 +14,7 @@ use Rattle.counting.specs.Range.{over}
 use Rattle.counting.specs.Stored.{Stored, storedIn, nextIn}
 use Rattle.counting.proofs.Bools.{and-left, and-right, and-true, clash}
 use Rattle.counting.proofs.Range.{length-over, total-ext, over-ext}
-use Rattle.counting.proofs.Search.{every-is, is-every, count-total}
+use Rattle.counting.proofs.Search.{every-is, is-every, every-not, count-total}
 use Rattle.counting.proofs.Stored.{stored-none, stored-as, stored-more, stored-fits, stored-room, stored-in, stored-not, stored-nothing}
 use Rattle.place.specs.declared.Place.{Place}
 use Rattle.place.specs.Place.{middle, coordinates, placeAt, numbers, allNumbers}
@@ -28,27 +28,29 @@ use Rattle.cell.specs.Of.{countOf, startOf, edgesOf}
 use Rattle.cell.specs.Loop.{loopSize, dart, normal, inGrid}
 use Rattle.cell.specs.Round.{foldsIn}
 use Rattle.cell.specs.Triangles.{numberOf}
-use Rattle.cell.specs.Middles.{isFan, loopPoint, fanCount, loopMiddle, cellMiddles, numberedBelow, middlesAt, pointsThen, nextPoint, recordedFan, recordedMiddle}
+use Rattle.cell.specs.Middles.{isFan, loopPoint, fanCount, loopMiddle, cellMiddles, numberedBelow, middlesAt, pointsThen, nextPoint, recordedFan, recordedMiddle, MiddlesRoom}
 use Rattle.cell.proofs.Lay.{lay}
 use Rattle.cell.proofs.Loops.{from-point, normal-is, dart-live}
 use Rattle.cell.proofs.Going.{Looped, looped-halves, looped-points}
 
--- a loop of n with f folded segments: the cases of the code
-module _ (n f : ℕ) where
-  pub fan-none : n ≡ 0 → 0 ≡ one (hasMiddle n (eqb f 0))
+-- the cases of the code
+module _ (halves : List ℕ) where
+  pub fan-none : length halves ≡ 0 → 0 ≡ one (recordedFan halves)
   unfolding hasMiddle
   fan-none e = rw e
 
-  pub fan-three : n ≡ 3 → 0 ≡ one (hasMiddle n (eqb f 0))
+  pub fan-three : length halves ≡ 3 → 0 ≡ one (recordedFan halves)
   unfolding hasMiddle
   fan-three e = rw e
 
-  pub fan-normal : n ≡ 4 → f ≡ 0 → 0 ≡ one (hasMiddle n (eqb f 0))
+  pub fan-normal : length halves ≡ 4 → foldsIn halves ≡ 0 → 0 ≡ one (recordedFan halves)
   unfolding hasMiddle
   fan-normal e h = rw (e, h)
 
-  pub fan-else : n ≢ 0 → n ≢ 3 → (n ≡ 4 → f ≢ 0) → 1 ≡ one (hasMiddle n (eqb f 0))
-  fan-else a b h = ap one (sym (fan-middle n (eqb f 0) (omega arith) (shape-else n (eqb f 0) b (λ e. ne-eqb f 0 (h e)))))
+  pub fan-else : length halves ≢ 0 → length halves ≢ 3 → (length halves ≡ 4 → foldsIn halves ≢ 0) → 1 ≡ one (recordedFan halves)
+  fan-else a b h =
+      let f = eqb (foldsIn halves) 0 in
+      ap one (sym (fan-middle (length halves) f (omega arith) (shape-else (length halves) f b (λ e. ne-eqb (foldsIn halves) 0 (h e)))))
 
 -- a list of one point, or of none
 one-long : (b : Bool) (p : Place) → length (pick b (p ∷ []) []) ≡ one b
@@ -77,6 +79,10 @@ module _ (c : Cell) (n : ℕ) where
   pub below-all : ((e : ℕ) → e < 6 → startOf c e + countOf c e ≤ n) → numberedBelow c n ≡ true
   unfolding numberedBelow
   below-all h = is-every (λ e. leb (startOf c e + countOf c e) n) 6 (λ e l. le-leb (startOf c e + countOf c e) n (h e l))
+
+  pub below-not : (e : ℕ) → e < 6 → n < startOf c e + countOf c e → numberedBelow c n ≡ false
+  unfolding numberedBelow
+  below-not e l h = every-not (λ e. leb (startOf c e + countOf c e) n) 6 e l (lt-leb (startOf c e + countOf c e) n h)
 
   pub below-at : numberedBelow c n ≡ true → (e : ℕ) → e < 6 → startOf c e + countOf c e ≤ n
   unfolding numberedBelow
@@ -152,36 +158,40 @@ module _ (c : Cell) (area : List Float) (at : ℕ) where
   all-long : length (allNumbers (cellMiddles (placeAt area) c)) ≡ coordinates * fanCount c
   all-long = length-numbers (cellMiddles (placeAt area) c) ∙ ap (λ k. coordinates * k) (length-cell (placeAt area) c)
 
-  module _ (b : numberedBelow c at ≡ true) (room : coordinates * (at + fanCount c) ≤ length area) where
-    module _ {p i : ℕ} {mid : List Float} (S : Stored area (coordinates * at) (over middleOf p 0) mid (coordinates * i)) (l : p < crossings (edgesOf c)) where
+  module _ (R : MiddlesRoom c area at) where
+    module _ {p : ℕ} (i : ℕ) {mid : List Float} (S : Stored area (coordinates * at) (over middleOf p 0) mid (coordinates * i)) (l : p < crossings (edgesOf c)) where
       pub middle-room : coordinates * (i + one (isFan c p)) ≤ length mid
       middle-room =
           omega (
             arith,
-            stored-fits middleOf (crossings (edgesOf c)) p S l (omega (arith, room, all-long, ap length all-are)),
+            stored-fits middleOf (crossings (edgesOf c)) p S l (omega (arith, R .room, all-long, ap length all-are)),
             length-numbers (loopMiddle (placeAt area) c p),
             length-loop (placeAt area) c p,
           )
 
-      pub middle-next : {n : ℕ} {halves points : List ℕ} → Looped c p n halves points → {out : List Float} {m : ℕ} → Stored mid i (allNumbers (recordedMiddle halves points mid)) out m
+      pub middle-next : {n : ℕ} {halves points : List ℕ} → Looped c p n halves points → {out : List Float} {m : ℕ} → Stored mid (coordinates * i) (allNumbers (recordedMiddle halves points mid)) out m
           → Stored area (coordinates * at) (over middleOf (p + 1) 0) out m
       middle-next L T =
           stored-more middleOf p S
-          (stored-as T (ap allNumbers (looped-middle L mid ∙ loop-ext c at b (placeAt mid) (placeAt area) (place-kept S) p l)) refl)
+          (stored-as T (ap allNumbers (looped-middle L mid ∙ loop-ext c at (R .below) (placeAt mid) (placeAt area) (place-kept S) p l)) refl)
 
-    -- all of them, as the call answers, and what that says
-    pub middles-done : {out : List Float} {r : ℕ} → Stored area (coordinates * at) (over middleOf (crossings (edgesOf c)) 0) out (coordinates * r)
+    pub middles-all : {n p m : ℕ} {out : List Float} → Stored area (coordinates * at) (over middleOf p 0) out m → n ≡ crossings (edgesOf c) → p ≤ n → n ≤ p
+        → Stored area (coordinates * at) (allNumbers (cellMiddles (placeAt area) c)) out m
+    middles-all {n} {p} S e h l = let q : p ≡ crossings (edgesOf c) = omega arith in stored-as S (ap (λ k. over middleOf k 0) q ∙ sym all-are) refl
+
+    -- as the call answers, and what that says
+    pub middles-done : {out : List Float} {r : ℕ} → Stored area (coordinates * at) (allNumbers (cellMiddles (placeAt area) c)) out (coordinates * r)
         → (r ≡ nextPoint c area at) × (out ≡ pointsThen c area at)
     unfolding nextPoint pointsThen middlesAt
     middles-done {out} {r} S =
-        let e = stored-in (stored-as S (sym all-are) refl) (omega (arith, room, all-long)) in
-        rw b (omega (arith, e .1), e .0)
+        let e = stored-in S (omega (arith, R .room, all-long)) in
+        rw (R .below) (omega (arith, e .1), e .0)
 
     pub middles-stored : Stored area (coordinates * at) (allNumbers (cellMiddles (placeAt area) c)) (pointsThen c area at) (coordinates * nextPoint c area at)
     unfolding nextPoint pointsThen middlesAt
     middles-stored =
-        let S = stored-room area (coordinates * at) (allNumbers (cellMiddles (placeAt area) c)) (omega (arith, room, all-long)) in
-        rw b (stored-as S refl (omega (arith, S .after, all-long)))
+        let S = stored-room area (coordinates * at) (allNumbers (cellMiddles (placeAt area) c)) (omega (arith, R .room, all-long)) in
+        rw (R .below) (stored-as S refl (omega (arith, S .after, all-long)))
 
   -- none are written
   pub middles-not : (numberedBelow c at && leb (coordinates * (at + fanCount c)) (length area)) ≡ false → (at ≡ nextPoint c area at) × (area ≡ pointsThen c area at)
