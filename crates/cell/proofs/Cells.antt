@@ -1,1 +1,142 @@
--- The triangles of a cell's loops in turn, and a cell's loops: those from crossings below p are done.
+-- The loops of a cell and their triangles in turn: those from crossings below p are done.
+use Prim.Native.Nat.{ℕ, zero, suc, _+_, _*_, _-_, _≤_, _<_}
+use mathlib.Core.Path.{_≡_, refl, sym, ap, _∙_}
+use mathlib.Core.List.{List, [], _∷_, _++_, append-nil}
+use native.Mathlib.Nat.{zero-add, add-zero}
+use native.Mathlib.Omega.{arith}
+use lib.Dec.{ltb}
+use lib.ListN.{length, drop, length-append, drop-of-length-le}
+use lib.Seq.{sets, drop-append-le, drop-append-add}
+use borrow.Author.Tests.{lt-ltb, le-ltb}
+use Rattle.answer.specs.Answer.{result}
+use Rattle.counting.specs.Pick.{pick}
+use Rattle.counting.specs.Range.{over, kept}
+use Rattle.counting.specs.Stored.{Stored, Summed}
+use Rattle.counting.proofs.Fronts.{over-more, over-at, over-within}
+use Rattle.counting.proofs.Stored.{stored-more, summed-more}
+use Rattle.cell.specs.declared.Cell.{Cell}
+use Rattle.cell.specs.Cell.{Edges, crossings}
+use Rattle.cell.specs.Loop.{loopSize, leasts, answerFrom, loopAnswer}
+use Rattle.cell.specs.Route.{mostInCell}
+use Rattle.cell.specs.Round.{roundAnswer}
+use Rattle.cell.specs.declared.Triangle.{Triangle}
+use Rattle.cell.specs.declared.Nth.the-variants.{Found, Nothing}
+use Rattle.cell.specs.Words.{wordCount, allWords}
+use Rattle.cell.specs.Triangles.{edgesOf, loopTriangles, cellTriangles}
+use Rattle.cell.specs.Nth.{nthOf, nthNumbers, nthAnswer}
+use Rattle.cell.proofs.LoopTriangles.{Entry}
+use Rattle.cell.proofs.Storing.{length-all, all-append}
+use Rattle.cell.proofs.Loops.{answer-is}
+use Rattle.cell.proofs.Going.{Looped}
+use Rattle.cell.proofs.Taken.{loop-few, length-cell, cell-few}
+
+-- the number of triangles of each
+abbrev pub manyAt : Cell → ℕ → ℕ
+manyAt c p = length (loopTriangles c p)
+
+pub counted-more : {c : Cell} {p m : ℕ} {hs ps : List ℕ} → Looped c p m hs ps → {t : ℕ} → Summed (manyAt c) mostInCell p t → (k : ℕ) → k ≡ manyAt c p
+    → Summed (manyAt c) mostInCell (p + 1) (t + k)
+counted-more {c} {p} L S k e = summed-more (manyAt c) mostInCell S k e (omega (arith, loop-few c p, L .size, L .few))
+
+pub counted-all : (c : Cell) {p t : ℕ} → Summed (manyAt c) mostInCell p t → p ≡ crossings (edgesOf c) → p ≤ mostInCell → (t ≡ length (cellTriangles c)) × (t ≤ mostInCell)
+counted-all c {p} {t} S e h =
+    let f : t ≡ length (cellTriangles c) = S .is ∙ rw e (sym (length-cell c)) in
+    (f, omega (arith, cell-few c))
+
+-- the words of the triangles of each
+abbrev pub wordsAt : Cell → ℕ → List ℕ
+wordsAt c p = allWords (loopTriangles c p)
+
+words-over : (f : ℕ → List Triangle) (n p : ℕ) → over (λ p. allWords (f p)) n p ≡ allWords (over f n p)
+unfolding over allWords
+words-over f zero p = refl
+words-over f (suc n) p = ap (λ l. allWords (f p) ++ l) (words-over f n (suc p)) ∙ sym (all-append (f p) (over f n (suc p)))
+
+words-all : (c : Cell) → over (wordsAt c) (crossings (edgesOf c)) 0 ≡ allWords (cellTriangles c)
+unfolding cellTriangles
+words-all c = words-over (loopTriangles c) (crossings (edgesOf c)) 0
+
+module _ (c : Cell) {out₀ : List ℕ} {at : ℕ} (p : ℕ) {out : List ℕ} {i : ℕ} (S : Stored out₀ at (over (wordsAt c) p 0) out i) where
+  pub written-all : p ≡ crossings (edgesOf c) → (i ≡ at + wordCount * length (cellTriangles c)) × (out ≡ sets out₀ at (allWords (cellTriangles c)))
+  written-all e =
+      let f : over (wordsAt c) p 0 ≡ allWords (cellTriangles c) = rw e (words-all c) in
+      (omega (arith, S .after, ap length f, length-all (cellTriangles c)), S .area ∙ ap (sets out₀ at) f)
+
+  pub written-room : p < crossings (edgesOf c) → i + wordCount * manyAt c p ≤ at + wordCount * length (cellTriangles c)
+  written-room l =
+      omega (
+        arith,
+        S .after,
+        over-within (wordsAt c) (crossings (edgesOf c)) p l,
+        ap length (words-all c),
+        length-all (cellTriangles c),
+        length-all (loopTriangles c p),
+      )
+
+  pub written-more : {out′ : List ℕ} {j m : ℕ} → m ≡ manyAt c p → j ≡ i + wordCount * m → {l : List Triangle} → l ≡ loopTriangles c p → out′ ≡ sets out i (allWords l)
+      → Stored out₀ at (over (wordsAt c) (p + 1) 0) out′ j
+  written-more e f g q =
+      stored-more (wordsAt c) p S (record { area = q ∙ ap (λ l. sets out i (allWords l)) g; after = omega (arith, f, e, length-all (loopTriangles c p)) })
+
+-- Entry t of the lists of f, joined, is entry `left` of those from p on.
+module _ {A : Type 0} (f : ℕ → List A) where
+  pub record Seeking (t p left : ℕ) : Type 0 where
+    pub is : t ≡ length (over f p 0) + left
+
+  pub seeking-none : (t : ℕ) → Seeking t 0 t
+  unfolding over
+  seeking-none t = record { is = sym (zero-add t) }
+
+  module _ {t p left : ℕ} (S : Seeking t p left) where
+    pub seeking-more : (k : ℕ) → k ≡ length (f p) → k ≤ left → Seeking t (p + 1) (left - k)
+    seeking-more k e h = record { is = omega (arith, S .is, ap length (over-more f p), length-append (over f p 0) (f p)) }
+
+    pub seeking-off : drop t (over f p 0) ≡ []
+    seeking-off = drop-of-length-le (over f p 0) {i = t} (omega (arith, S .is))
+
+    pub seeking-here : (n : ℕ) → p < n → left ≤ length (f p) → drop t (over f n 0) ≡ drop left (f p) ++ over f (n - suc p) (suc p)
+    seeking-here n l h =
+        rw (S .is, over-at f n p l)
+        (drop-append-add (over f p 0) (f p ++ over f (n - suc p) (suc p)) left ∙ drop-append-le left (f p) (over f (n - suc p) (suc p)) h)
+
+-- triangle t of the cell
+module _ (c : Cell) {t p left : ℕ} (S : Seeking (loopTriangles c) t p left) where
+  pub triangle-off : p ≡ crossings (edgesOf c) → (Nothing ≡ nthOf (cellTriangles c) t) × (nthNumbers Nothing ≡ nthAnswer (cellTriangles c) t)
+  unfolding cellTriangles nthOf nthAnswer
+  triangle-off l = let e = rw l at (seeking-off (loopTriangles c) S) in (rw e, rw e)
+
+  pub triangle-here : p < crossings (edgesOf c) → (r : Triangle) {w : List Triangle} → w ≡ loopTriangles c p → left < manyAt c p → Entry w left r
+      → (Found r ≡ nthOf (cellTriangles c) t) × (nthNumbers (Found r) ≡ nthAnswer (cellTriangles c) t)
+  unfolding cellTriangles nthOf nthAnswer
+  triangle-here l r e h q =
+      let f = seeking-here (loopTriangles c) S (crossings (edgesOf c)) l (omega arith) ∙ rw (← e, q) refl in
+      (rw f, rw f)
+
+-- the loop from each, if there is one
+abbrev pub leastAt : Edges → ℕ → List ℕ
+leastAt w p = pick (ltb 0 (loopSize w p)) (p ∷ []) []
+
+-- loop k of the cell
+module _ (c : Cell) {k p left : ℕ} (S : Seeking (leastAt (edgesOf c)) k p left) where
+  abbrev w : Edges
+  w = edgesOf c
+
+  pub loop-off : p ≡ crossings w → result [] ≡ loopAnswer w (c .nodes) k
+  unfolding loopAnswer leasts kept answerFrom
+  loop-off l = sym (ap (answerFrom w (c .nodes)) (rw l at (seeking-off (leastAt w) S)))
+
+  pub loop-skip : loopSize w p ≡ 0 → Seeking (leastAt w) k (p + 1) left
+  loop-skip z = record { is = seeking-more (leastAt w) S 0 (rw (le-ltb 0 (loopSize w p) (omega arith)) refl) (omega arith) .is }
+
+  module _ (h : 0 < loopSize w p) where
+    one : leastAt w p ≡ p ∷ []
+    one = rw (lt-ltb 0 (loopSize w p) h) refl
+
+    pub loop-pass : 0 < left → Seeking (leastAt w) k (p + 1) (left - 1)
+    loop-pass l = seeking-more (leastAt w) S 1 (sym (ap length one)) l
+
+    pub loop-here : p < crossings w → left ≡ 0 → {m : ℕ} {hs ps : List ℕ} → Looped c p m hs ps → roundAnswer (c .nodes) hs ps ≡ loopAnswer w (c .nodes) k
+    unfolding loopAnswer leasts kept answerFrom
+    loop-here l z L =
+        let e = seeking-here (leastAt w) S (crossings w) l (omega arith) in
+        rw (L .halves-are, L .points-are) (answer-is c p l h) ∙ sym (ap (answerFrom w (c .nodes)) e ∙ rw (z, one) refl)

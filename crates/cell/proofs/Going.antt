@@ -1,18 +1,20 @@
 -- The walks from all crossings of a cell in turn: those from crossings below p are done.
-use Prim.Native.Nat.{ℕ, _+_, _≤_, _<_}
+use Prim.Native.Nat.{ℕ, _+_, _-_, _≤_, _<_}
 use mathlib.Core.Path.{_≡_, sym, ap, _∙_}
 use mathlib.Core.List.{List}
+use native.Mathlib.Nat.{sub-zero}
 use native.Mathlib.Omega.{arith}
 use lib.ListN.{length, take}
 use Rattle.counting.specs.Stored.{filled}
+use Rattle.counting.proofs.Stored.{length-filled}
 use Rattle.cell.specs.declared.Cell.{Cell}
 use Rattle.cell.specs.Cell.{crossings}
 use Rattle.cell.specs.Loop.{loopSize}
 use Rattle.cell.specs.Of.{edgesOf}
 use Rattle.cell.specs.Route.{mostInCell, Routed}
 use Rattle.cell.specs.Scratch.{unmarked, halvesFrom, pointsFrom, Cleared}
-use Rattle.cell.specs.Walked.{Marked, Used, Lent, Walked}
-use Rattle.cell.proofs.Using.{Long, kept-none, kept-filled, used-then, used-cleared}
+use Rattle.cell.specs.Walked.{Marked, Long, Used, Lent, Walked}
+use Rattle.cell.proofs.Using.{kept-then, kept-filled, filled-kept, used-none, used-then}
 use Rattle.cell.proofs.Walking.{cleared}
 use Rattle.cell.proofs.Loops.{size-le, length-halves, length-points}
 
@@ -42,16 +44,16 @@ pub record Going (c : Cell) (n : ℕ) (routes ms₀ hs₀ ps₀ ms hs ps : List 
   pub used : Used n ms₀ hs₀ ps₀ ms hs ps
 
 -- the marks are cleared
-pub going-start : {c : Cell} {n : ℕ} {routes ms₀ hs₀ ps₀ ms : List ℕ} → (n ≡ crossings (edgesOf c)) × (n ≤ mostInCell) → Long n ms₀ hs₀ ps₀ → Routed c routes
-    → ms ≡ filled (λ i. unmarked) n ms₀ → Going c n routes ms₀ hs₀ ps₀ ms hs₀ ps₀ 0
-going-start {c} {n} {routes} {ms₀} {hs₀} {ps₀} e L R q = record {
+pub going-start : {c : Cell} {n : ℕ} {routes ms hs ps : List ℕ} (was : List ℕ) → (n ≡ crossings (edgesOf c)) × (n ≤ mostInCell) → Routed c routes
+    → Long n was hs ps → ms ≡ filled (λ i. unmarked) n was → Going c n routes ms hs ps ms hs ps 0
+going-start {c} {n} {routes} {ms} {hs} {ps} was e R L q = record {
   all = e .0;
   few = e .1;
   up = omega arith;
-  long = L;
+  long = record { marks-long = omega (arith, L .marks-long, ap length q, length-filled (λ i. unmarked) n was); halves-long = L .halves-long; points-long = L .points-long };
   routed = R;
-  marked = rw q (cleared c n ms₀ (e .0) (e .1) (L .marks-long));
-  used = record { marks-kept = rw q (kept-filled (λ i. unmarked) n ms₀ (L .marks-long)); halves-kept = kept-none n hs₀; points-kept = kept-none n ps₀ };
+  marked = rw q (cleared c n was (e .0) (e .1) (L .marks-long));
+  used = used-none n ms hs ps;
 }
 
 module _ {c : Cell} {n : ℕ} {routes ms₀ hs₀ ps₀ ms hs ps : List ℕ} {p : ℕ} (G : Going c n routes ms₀ hs₀ ps₀ ms hs ps p) where
@@ -62,9 +64,14 @@ module _ {c : Cell} {n : ℕ} {routes ms₀ hs₀ ps₀ ms hs ps : List ℕ} {p 
     points-long = omega (arith, G .long .points-long, G .used .points-kept .long);
   }
 
-  -- the arrays are cleared to ms′, hs′, ps′
-  pub going-cleared : {ms′ hs′ ps′ : List ℕ} → ms′ ≡ filled (λ i. unmarked) n ms → hs′ ≡ filled (λ i. 0) n hs → ps′ ≡ filled (λ i. 0) n ps → Cleared c ms₀ hs₀ ps₀ ms′ hs′ ps′
-  going-cleared a b d = used-cleared (rw (← G .all) (G .long)) (rw (← G .all) (G .used)) (G .all) a b d
+  -- the arrays are cleared to ms′, hs′, ps′; the marks were cleared before the walks
+  pub going-cleared : {was ms′ hs′ ps′ : List ℕ} → n ≤ length was → ms₀ ≡ filled (λ i. unmarked) n was
+      → ms′ ≡ filled (λ i. unmarked) n ms → hs′ ≡ filled (λ i. 0) n hs → ps′ ≡ filled (λ i. 0) n ps → Cleared c was hs₀ ps₀ ms′ hs′ ps′
+  going-cleared {was} h q a b d = record {
+    marks-are = rw (← G .all) (a ∙ filled-kept (λ i. unmarked) n (kept-then (rw q (kept-filled (λ i. unmarked) n was h)) (G .used .marks-kept)) h);
+    halves-are = rw (← G .all) (b ∙ filled-kept (λ i. 0) n (G .used .halves-kept) (G .long .halves-long));
+    points-are = rw (← G .all) (d ∙ filled-kept (λ i. 0) n (G .used .points-kept) (G .long .points-long));
+  }
 
   -- the next walk is from p
   module _ (l : p < n) where
@@ -93,13 +100,14 @@ module _ {c : Cell} {n : ℕ} {routes ms₀ hs₀ ps₀ ms hs ps : List ℕ} {p 
         used = used-then (G .used) (record { marks-kept = W .marks-kept; halves-kept = W .halves-kept; points-kept = W .points-kept });
       }
 
-      pub going-looped : Looped c p m (take m hs′) (take m ps′)
+      -- in the slices from 0 to m
+      pub going-looped : Looped c p m (take (m - 0) hs′) (take (m - 0) ps′)
       going-looped = record {
         inside = going-in;
         size = W .size;
         few = omega (arith, W .size, size-le (edgesOf c) p going-in, G .all, G .few);
-        halves-are = W .halves-are;
-        points-are = W .points-are;
+        halves-are = rw (sub-zero m) (W .halves-are);
+        points-are = rw (sub-zero m) (W .points-are);
       }
 
       -- they are parts of the arrays

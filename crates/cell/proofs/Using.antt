@@ -14,7 +14,7 @@ use Rattle.cell.specs.declared.Cell.{Cell}
 use Rattle.cell.specs.Cell.{crossings}
 use Rattle.cell.specs.Of.{edgesOf}
 use Rattle.cell.specs.Scratch.{unmarked, Cleared}
-use Rattle.cell.specs.Walked.{Kept, Used}
+use Rattle.cell.specs.Walked.{Kept, Long, Used}
 
 pub kept-none : (n : ℕ) (l : List ℕ) → Kept n l l
 kept-none n l = record { long = refl; back = refl }
@@ -48,12 +48,6 @@ module _ {n : ℕ} {ms hs ps ms′ hs′ ps′ : List ℕ} (U : Used n ms hs ps 
 pub used-none : (n : ℕ) (ms hs ps : List ℕ) → Used n ms hs ps ms hs ps
 used-none n ms hs ps = record { marks-kept = kept-none n ms; halves-kept = kept-none n hs; points-kept = kept-none n ps }
 
--- with room for n
-pub record Long (n : ℕ) (ms hs ps : List ℕ) : Type 0 where
-  pub marks-long : n ≤ length ms
-  pub halves-long : n ≤ length hs
-  pub points-long : n ≤ length ps
-
 module _ {c : Cell} {ms hs ps ms′ hs′ ps′ : List ℕ} (L : Long (crossings (edgesOf c)) ms hs ps) where
   -- arrays that were used are cleared
   pub used-cleared : Used (crossings (edgesOf c)) ms hs ps ms′ hs′ ps′ → {n : ℕ} → n ≡ crossings (edgesOf c) → {ms″ hs″ ps″ : List ℕ}
@@ -71,6 +65,14 @@ module _ {c : Cell} {ms hs ps ms′ hs′ ps′ : List ℕ} (L : Long (crossings
     halves-kept = rw (C .halves-are) (kept-filled (λ i. 0) (crossings (edgesOf c)) hs (L .halves-long));
     points-kept = rw (C .points-are) (kept-filled (λ i. 0) (crossings (edgesOf c)) ps (L .points-long));
   }
+
+-- clearing changes no length
+pub cleared-same : {c : Cell} {ms hs ps ms′ hs′ ps′ : List ℕ} → Cleared c ms hs ps ms′ hs′ ps′ → (length ms′ ≡ length ms) × (length hs′ ≡ length hs) × (length ps′ ≡ length ps)
+cleared-same {c} {ms} {hs} {ps} C = (
+  ap length (C .marks-are) ∙ length-filled (λ i. unmarked) (crossings (edgesOf c)) ms,
+  ap length (C .halves-are) ∙ length-filled (λ i. 0) (crossings (edgesOf c)) hs,
+  ap length (C .points-are) ∙ length-filled (λ i. 0) (crossings (edgesOf c)) ps,
+)
 
 -- v in the first i places of a list, on the way to n
 pub record Filling (v n : ℕ) (l : List ℕ) (i : ℕ) (m : List ℕ) : Type 0 where

@@ -8,7 +8,7 @@ ghost use lib.Seq.{sets};
 ghost use Rattle.cell.specs.Cell.{crossings};
 ghost use Rattle.cell.specs.Route.{mostInCell};
 ghost use Rattle.cell.specs.Scratch.{Cleared};
-ghost use Rattle.cell.specs.Walked.{Used};
+ghost use Rattle.cell.specs.Walked.{Long, Used};
 ghost use Rattle.cell.specs.Words.{wordCount, allWords};
 ghost use Rattle.cell.specs.Triangles.{edgesOf, cellTriangles};
 ghost use Rattle.cell.specs.Nth.{nthOf, nthNumbers, nthAnswer};
@@ -27,14 +27,9 @@ use super::walks::wipe;
 use super::words::WORD_COUNT;
 use super::write::write_loop;
 
-// How many triangles the cell has. The walks use the lent arrays as far as the cell's crossings reach, and clear them at the end. What these hold
-// before does not matter.
-pub fn count_in(
-    c: Cell,
-    marks: &mut [u16; MOST_IN_CELL],
-    halves: &mut [u8; MOST_IN_CELL],
-    points: &mut [u32; MOST_IN_CELL],
-) -> usize
+// How many triangles the cell has.
+fn count(c: Cell, marks: &mut [u16], halves: &mut [u8], points: &mut [u32]) -> usize
+    requires { ⌜ Long (crossings (edgesOf c)) (now marks) (now halves) (now points) ⌝ }
     ensures { λ r. ⌜ (r ≡ length (cellTriangles c)) × (r ≤ mostInCell) ⌝ }
     ensures { λ _. ⌜ Cleared c (now (marks .entry)) (now (halves .entry)) (now (points .entry)) (now (marks .exit)) (now (halves .exit)) (now (points .exit)) ⌝ }
 {
@@ -52,6 +47,50 @@ pub fn count_in(
     clear(marks, n);
     wipe(halves, points, n);
     t
+}
+
+// Writes the words of the triangles, which have room from index `at` on, and answers the next index.
+fn write_all(
+    c: Cell,
+    marks: &mut [u16],
+    halves: &mut [u8],
+    points: &mut [u32],
+    area: &mut [u32],
+    at: usize,
+) -> usize
+    requires { ⌜ Long (crossings (edgesOf c)) (now marks) (now halves) (now points) ⌝ }
+    requires { ⌜ at + wordCount * length (cellTriangles c) ≤ length (now area) ⌝ }
+    ensures { λ r. ⌜ (r ≡ at + wordCount * length (cellTriangles c)) × (now (area .exit) ≡ sets (now (area .entry)) at (allWords (cellTriangles c))) ⌝ }
+    ensures { λ _. ⌜ Cleared c (now (marks .entry)) (now (halves .entry)) (now (points .entry)) (now (marks .exit)) (now (halves .exit)) (now (points .exit)) ⌝ }
+{
+    let n = crossings_of(c);
+    let routes = routes_of(c);
+    clear(marks, n);
+    let mut i = at;
+    let mut p: usize = 0;
+    while p < n {
+        let m = walk(c, &routes, n, p, marks, halves, points);
+        let two = in_two(&halves[0..m], m);
+        i = write_loop(c, &halves[0..m], &points[0..m], m, two, area, i);
+        p += 1;
+    }
+    clear(marks, n);
+    wipe(halves, points, n);
+    i
+}
+
+// How many triangles the cell has. The walks use the lent arrays as far as the cell's crossings reach, and clear them at the end. What these hold
+// before does not matter.
+pub fn count_in(
+    c: Cell,
+    marks: &mut [u16; MOST_IN_CELL],
+    halves: &mut [u8; MOST_IN_CELL],
+    points: &mut [u32; MOST_IN_CELL],
+) -> usize
+    ensures { λ r. ⌜ (r ≡ length (cellTriangles c)) × (r ≤ mostInCell) ⌝ }
+    ensures { λ _. ⌜ Cleared c (now (marks .entry)) (now (halves .entry)) (now (points .entry)) (now (marks .exit)) (now (halves .exit)) (now (points .exit)) ⌝ }
+{
+    count(c, marks, halves, points)
 }
 
 // Whether the words of the triangles have room from index `at` on in an area of `room` words. A cell has no more triangles than crossings, so that
@@ -73,35 +112,8 @@ fn has_room(
     if WORD_COUNT * crossings_of(c) <= room - at {
         return true;
     }
-    let t = count_in(c, marks, halves, points);
+    let t = count(c, marks, halves, points);
     WORD_COUNT * t <= room - at
-}
-
-// Writes the words of the triangles, which have room from index `at` on, and answers the next index.
-fn write_all(
-    c: Cell,
-    marks: &mut [u16; MOST_IN_CELL],
-    halves: &mut [u8; MOST_IN_CELL],
-    points: &mut [u32; MOST_IN_CELL],
-    area: &mut [u32],
-    at: usize,
-) -> usize
-    requires { ⌜ at + wordCount * length (cellTriangles c) ≤ length (now area) ⌝ }
-    ensures { λ r. ⌜ (r ≡ at + wordCount * length (cellTriangles c)) × (now (area .exit) ≡ sets (now (area .entry)) at (allWords (cellTriangles c))) ⌝ }
-    ensures { λ _. ⌜ Used (crossings (edgesOf c)) (now (marks .entry)) (now (halves .entry)) (now (points .entry)) (now (marks .exit)) (now (halves .exit)) (now (points .exit)) ⌝ }
-{
-    let n = crossings_of(c);
-    let routes = routes_of(c);
-    clear(marks, n);
-    let mut i = at;
-    let mut p: usize = 0;
-    while p < n {
-        let m = walk(c, &routes, n, p, marks, halves, points);
-        let two = in_two(&halves[0..m], m);
-        i = write_loop(c, &halves[0..m], &points[0..m], m, two, area, i);
-        p += 1;
-    }
-    i
 }
 
 // Writes the words of the cell's triangles from index `at` on and answers the next index. Where they have no room there, it writes nothing and
@@ -117,13 +129,10 @@ pub fn write_in(
     ensures { λ r. ⌜ (r ≡ nextAt c (now (area .entry)) at) × (now (area .exit) ≡ areaThen c (now (area .entry)) at) ⌝ }
     ensures { λ _. ⌜ Cleared c (now (marks .entry)) (now (halves .entry)) (now (points .entry)) (now (marks .exit)) (now (halves .exit)) (now (points .exit)) ⌝ }
 {
-    let n = crossings_of(c);
     if has_room(c, marks, halves, points, area.len(), at) {
-        let i = write_all(c, marks, halves, points, area, at);
-        clear(marks, n);
-        wipe(halves, points, n);
-        return i;
+        return write_all(c, marks, halves, points, area, at);
     }
+    let n = crossings_of(c);
     clear(marks, n);
     wipe(halves, points, n);
     at

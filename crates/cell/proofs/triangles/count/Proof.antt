@@ -1,0 +1,112 @@
+use native.Mathlib.Omega.{arith}
+use Prim.Native.Nat.{_-_}
+use mathlib.Core.Path.{_∙_}
+use Rattle.counting.specs.Stored.{Summed}
+use Rattle.counting.proofs.Stored.{summed-none}
+use Rattle.cell.specs.Route.{mostInCell}
+use Rattle.cell.proofs.Using.{cleared-same}
+use Rattle.cell.proofs.Going.{Going, going-start, going-long, going-lent, going-more, going-looped, going-part, going-cleared}
+use Rattle.cell.proofs.Holding.{looped-many}
+use Rattle.cell.proofs.Cells.{manyAt, counted-more, counted-all}
+use Rattle.cell.proofs.triangles.count.Statement.{statement}
+use Rattle.cell.proofs.triangles.count.Tie as tie
+use Rattle.cell.proofs.make.in_two.Reads as in-two-reads
+use Rattle.cell.proofs.make.many.Reads as many-reads
+use Rattle.cell.proofs.routes.crossings_of.Reads as crossings-of-reads
+use Rattle.cell.proofs.routes.routes_of.Reads as routes-of-reads
+use Rattle.cell.proofs.walks.clear.Reads as clear-reads
+use Rattle.cell.proofs.walks.walk.Reads as walk-reads
+use Rattle.cell.proofs.walks.wipe.Reads as wipe-reads
+
+abbrev Inv-loop : tie.InvT-loop
+Inv-loop c marks₀ halves₀ points₀ n routes t₀ p₀ marks halves points t p = Going c n routes marks₀ halves₀ points₀ marks halves points p × Summed (manyAt c) mostInCell p t
+
+abbrev μ-loop : tie.MeasureT-loop
+μ-loop c marks₀ halves₀ points₀ n routes t₀ p₀ marks halves points t p = n - p
+
+crossings-of-requires : tie.Need-crossings-of-requires Inv-loop μ-loop
+crossings-of-requires c κs = tt
+
+routes-of-requires : tie.Need-routes-of-requires Inv-loop μ-loop
+routes-of-requires c κs = tt
+
+clear-requires : tie.Need-clear-requires Inv-loop μ-loop
+clear-requires c κs = omega (arith, c .before .before .before .before .before .before .pre .marks-long, c .before .before .crossings-of .ensures .0)
+
+loop-holds : tie.Need-loop-holds Inv-loop μ-loop
+loop-holds c = (going-start _ (c .before .before .before .before .before .crossings-of .ensures) (c .before .before .before .before .routes-of .ensures) (rw (c .before .before .before .before .before .crossings-of .ensures .0) (c .before .before .before .before .before .before .before .before .before .pre)) (c .before .before .clear .ensures), summed-none _ _)
+
+walk-requires : tie.Need-walk-requires Inv-loop μ-loop
+walk-requires c κs = going-lent (c .before .before .before .before .before .loop .inv .0) (omega arith)
+
+sub-in-two : tie.Need-sub-in-two Inv-loop μ-loop
+sub-in-two c = omega arith
+
+part-in-two-start : tie.Need-part-in-two-start Inv-loop μ-loop
+part-in-two-start c = omega arith
+
+part-in-two-end : tie.Need-part-in-two-end Inv-loop μ-loop
+part-in-two-end c = going-part (c .before .before .before .before .before .before .before .before .before .before .before .before .before .loop .inv .0) (omega arith) (c .before .before .before .before .before .before .before .walk .ensures) .0
+
+in-two-requires : tie.Need-in-two-requires Inv-loop μ-loop
+in-two-requires c κs = tt
+
+many-requires : tie.Need-many-requires Inv-loop μ-loop
+many-requires c κs = tt
+
+add-t : tie.Need-add-t Inv-loop μ-loop
+add-t c = omega (arith, counted-more (going-looped (c .before .before .before .before .before .before .before .before .before .before .before .before .before .before .before .before .loop .inv .0) (omega arith) (c .before .before .before .before .before .before .before .before .before .before .walk .ensures)) (c .before .before .before .before .before .before .before .before .before .before .before .before .before .before .before .before .loop .inv .1) _ (c .many .ensures ∙ looped-many (going-looped (c .before .before .before .before .before .before .before .before .before .before .before .before .before .before .before .before .loop .inv .0) (omega arith) (c .before .before .before .before .before .before .before .before .before .before .walk .ensures)) (c .before .in-two .ensures)) .few, c .before .before .before .before .before .before .before .before .before .before .before .before .before .before .before .before .loop .inv .0 .few)
+
+add-p : tie.Need-add-p Inv-loop μ-loop
+add-p c = omega (arith, c .before .before .before .before .before .before .before .before .before .before .before .before .before .before .before .before .loop .inv .0 .few)
+
+loop-less : tie.Need-loop-less Inv-loop μ-loop
+loop-less c = omega arith
+
+loop-again : tie.Need-loop-again Inv-loop μ-loop
+loop-again c = (going-more (c .before .before .before .before .before .before .before .before .before .before .before .before .before .before .before .before .loop .inv .0) (omega arith) (c .before .before .before .before .before .before .before .before .before .before .walk .ensures), counted-more (going-looped (c .before .before .before .before .before .before .before .before .before .before .before .before .before .before .before .before .loop .inv .0) (omega arith) (c .before .before .before .before .before .before .before .before .before .before .walk .ensures)) (c .before .before .before .before .before .before .before .before .before .before .before .before .before .before .before .before .loop .inv .1) _ (c .many .ensures ∙ looped-many (going-looped (c .before .before .before .before .before .before .before .before .before .before .before .before .before .before .before .before .loop .inv .0) (omega arith) (c .before .before .before .before .before .before .before .before .before .before .walk .ensures)) (c .before .in-two .ensures)))
+
+clear-requires-2 : tie.Need-clear-requires-2 Inv-loop μ-loop
+clear-requires-2 c κs = going-long (c .before .before .loop .inv .0) .marks-long
+
+wipe-requires : tie.Need-wipe-requires Inv-loop μ-loop
+wipe-requires c κs = (going-long (c .before .before .before .before .before .before .before .loop .inv .0) .halves-long, going-long (c .before .before .before .before .before .before .before .loop .inv .0) .points-long)
+
+same-length : tie.Need-same-length Inv-loop μ-loop
+same-length c = cleared-same (going-cleared (c .before .before .before .before .before .before .before .before .before .before .before .before .loop .inv .0) (omega (arith, c .before .before .before .before .before .before .before .before .before .before .before .before .before .before .before .before .before .before .before .before .before .before .pre .marks-long, c .before .before .before .before .before .before .before .before .before .before .before .before .before .before .before .before .before .before .crossings-of .ensures .0)) (c .before .before .before .before .before .before .before .before .before .before .before .before .before .before .before .clear .ensures) (c .before .before .before .before .before .before .before .before .before .clear2 .ensures) (c .before .before .before .before .wipe .ensures .0) (c .before .before .before .before .wipe .ensures .1)) .0
+
+same-length-2 : tie.Need-same-length-2 Inv-loop μ-loop
+same-length-2 c = cleared-same (going-cleared (c .before .before .before .before .before .before .before .before .before .before .before .before .loop .inv .0) (omega (arith, c .before .before .before .before .before .before .before .before .before .before .before .before .before .before .before .before .before .before .before .before .before .before .pre .marks-long, c .before .before .before .before .before .before .before .before .before .before .before .before .before .before .before .before .before .before .crossings-of .ensures .0)) (c .before .before .before .before .before .before .before .before .before .before .before .before .before .before .before .clear .ensures) (c .before .before .before .before .before .before .before .before .before .clear2 .ensures) (c .before .before .before .before .wipe .ensures .0) (c .before .before .before .before .wipe .ensures .1)) .1
+
+same-length-3 : tie.Need-same-length-3 Inv-loop μ-loop
+same-length-3 c = cleared-same (going-cleared (c .before .before .before .before .before .before .before .before .before .before .before .before .loop .inv .0) (omega (arith, c .before .before .before .before .before .before .before .before .before .before .before .before .before .before .before .before .before .before .before .before .before .before .pre .marks-long, c .before .before .before .before .before .before .before .before .before .before .before .before .before .before .before .before .before .before .crossings-of .ensures .0)) (c .before .before .before .before .before .before .before .before .before .before .before .before .before .before .before .clear .ensures) (c .before .before .before .before .before .before .before .before .before .clear2 .ensures) (c .before .before .before .before .wipe .ensures .0) (c .before .before .before .before .wipe .ensures .1)) .2
+
+returns : tie.Need-returns Inv-loop μ-loop
+returns c = (counted-all _ (c .before .before .before .before .before .before .before .before .before .before .before .before .loop .inv .1) (omega (arith, c .before .before .before .before .before .before .before .before .before .before .before .before .loop .inv .0 .up, c .before .before .before .before .before .before .before .before .before .before .before .before .loop .inv .0 .all)) (omega (arith, c .before .before .before .before .before .before .before .before .before .before .before .before .loop .inv .0 .up, c .before .before .before .before .before .before .before .before .before .before .before .before .loop .inv .0 .few)), going-cleared (c .before .before .before .before .before .before .before .before .before .before .before .before .loop .inv .0) (omega (arith, c .before .before .before .before .before .before .before .before .before .before .before .before .before .before .before .before .before .before .before .before .before .before .pre .marks-long, c .before .before .before .before .before .before .before .before .before .before .before .before .before .before .before .before .before .before .crossings-of .ensures .0)) (c .before .before .before .before .before .before .before .before .before .before .before .before .before .before .before .clear .ensures) (c .before .before .before .before .before .before .before .before .before .clear2 .ensures) (c .before .before .before .before .wipe .ensures .0) (c .before .before .before .before .wipe .ensures .1))
+
+pub count-spec : {M : Type 1} → statement M
+count-spec =
+    tie.close
+    (tie.spec
+    Inv-loop
+    μ-loop
+    crossings-of-requires
+    routes-of-requires
+    clear-requires
+    loop-holds
+    walk-requires
+    sub-in-two
+    part-in-two-start
+    part-in-two-end
+    in-two-requires
+    many-requires
+    add-t
+    add-p
+    loop-less
+    loop-again
+    clear-requires-2
+    wipe-requires
+    same-length
+    same-length-2
+    same-length-3
+    returns)
