@@ -4,6 +4,7 @@ use mathlib.Core.Path.{_≡_, refl, sym, ap, ap₂, _∙_}
 use mathlib.Core.Logic.{_≢_}
 use mathlib.Core.Bool.{Bool, true, false, _&&_}
 use mathlib.Core.List.{List, [], _∷_}
+use native.Mathlib.Numerals.{add-one}
 use native.Mathlib.Omega.{arith}
 use lib.Dec.{eqb, leb}
 use lib.ListN.{length, getD}
@@ -11,10 +12,11 @@ use lib.Ieee.{Float}
 use borrow.Author.Tests.{le-leb, leb-true, lt-leb, leb-false, ne-eqb}
 use Rattle.counting.specs.Pick.{pick, one}
 use Rattle.counting.specs.Range.{over}
+use Rattle.counting.specs.Search.{count}
 use Rattle.counting.specs.Stored.{Stored, storedIn, nextIn}
 use Rattle.counting.proofs.Bools.{and-left, and-right, and-true, clash}
 use Rattle.counting.proofs.Range.{length-over, total-ext, over-ext}
-use Rattle.counting.proofs.Search.{every-is, is-every, every-not, count-total}
+use Rattle.counting.proofs.Search.{every-is, is-every, every-not, count-total, count-le}
 use Rattle.counting.proofs.Stored.{stored-none, stored-as, stored-more, stored-fits, stored-room, stored-in, stored-not, stored-nothing}
 use Rattle.place.specs.declared.Place.{Place}
 use Rattle.place.specs.Place.{middle, coordinates, placeAt, numbers, allNumbers}
@@ -27,6 +29,7 @@ use Rattle.cell.specs.Cell.{crossings, edge}
 use Rattle.cell.specs.Of.{countOf, startOf, edgesOf}
 use Rattle.cell.specs.Loop.{loopSize, dart, normal, inGrid}
 use Rattle.cell.specs.Round.{foldsIn}
+use Rattle.cell.specs.Route.{mostInCell}
 use Rattle.cell.specs.Triangles.{numberOf}
 use Rattle.cell.specs.Middles.{isFan, loopPoint, fanCount, loopMiddle, cellMiddles, numberedBelow, middlesAt, pointsThen, nextPoint, recordedFan, recordedMiddle, MiddlesRoom}
 use Rattle.cell.proofs.Lay.{lay}
@@ -128,6 +131,15 @@ module _ {c : Cell} {p n : ℕ} {halves points : List ℕ} (L : Looped c p n hal
       (λ k h. ap (placeAt area) (ap (λ l. getD l k 0) (L .points-are) ∙ from-point c p k (omega (arith, e)))))
       ∙ ap₂ (λ (b : Bool) (m : ℕ). pick b (middle (λ k. placeAt area (loopPoint c p k)) m ∷ []) []) looped-fan e
 
+  -- one fan more, or none
+  pub fans-more : {t k : ℕ} → t ≡ count (isFan c) p → k ≡ one (recordedFan halves) → t + k ≡ count (isFan c) (p + 1)
+  unfolding count
+  fans-more e f = rw (add-one p) (omega (arith, e, f, ap one looped-fan))
+
+pub fans-all : (c : Cell) {p t : ℕ} → t ≡ count (isFan c) p → p ≡ crossings (edgesOf c) → crossings (edgesOf c) ≤ mostInCell → (t ≡ fanCount c) × (t ≤ mostInCell)
+unfolding fanCount
+fans-all c {p} e q few = (e ∙ ap (count (isFan c)) q, omega (arith, e, q, count-le (isFan c) p))
+
 -- a recorded loop's middle is written, or there is none
 module _ (halves points : List ℕ) (area : List Float) (at r : ℕ) (q : r ≡ one (recordedFan halves)) where
   is-fan : (b : Bool) → one b ≡ r → (r ≡ 0 → b ≡ false) × (r ≢ 0 → b ≡ true)
@@ -146,12 +158,13 @@ module _ (halves points : List ℕ) (area : List Float) (at r : ℕ) (q : r ≡ 
       let b = is-fan (recordedFan halves) (sym q) .1 z in
       rw (b, ← e) (record { area = f ∙ stored-room area (coordinates * at) (numbers p) (omega (arith, room, ap one b)) .area; after = omega arith })
 
+-- the numbers of the middle of each loop
+abbrev pub middleOf : Cell → List Float → ℕ → List Float
+middleOf c area p = allNumbers (loopMiddle (placeAt area) c p)
+
 -- the middles of the first loops are written, and the one of the next is
 module _ (c : Cell) (area : List Float) (at : ℕ) where
-  abbrev pub middleOf : ℕ → List Float
-  middleOf p = allNumbers (loopMiddle (placeAt area) c p)
-
-  all-are : allNumbers (cellMiddles (placeAt area) c) ≡ over middleOf (crossings (edgesOf c)) 0
+  all-are : allNumbers (cellMiddles (placeAt area) c) ≡ over (middleOf c area) (crossings (edgesOf c)) 0
   unfolding cellMiddles
   all-are = numbers-over (loopMiddle (placeAt area) c) (crossings (edgesOf c)) 0
 
@@ -159,25 +172,27 @@ module _ (c : Cell) (area : List Float) (at : ℕ) where
   all-long = length-numbers (cellMiddles (placeAt area) c) ∙ ap (λ k. coordinates * k) (length-cell (placeAt area) c)
 
   module _ (R : MiddlesRoom c area at) where
-    module _ {p : ℕ} (i : ℕ) {mid : List Float} (S : Stored area (coordinates * at) (over middleOf p 0) mid (coordinates * i)) (l : p < crossings (edgesOf c)) where
-      pub middle-room : coordinates * (i + one (isFan c p)) ≤ length mid
+    module _ {p : ℕ} (i : ℕ) {mid : List Float} (S : Stored area (coordinates * at) (over (middleOf c area) p 0) mid (coordinates * i))
+        {n : ℕ} {halves points : List ℕ} (L : Looped c p n halves points) where
+      pub middle-room : coordinates * (i + one (recordedFan halves)) ≤ length mid
       middle-room =
           omega (
             arith,
-            stored-fits middleOf (crossings (edgesOf c)) p S l (omega (arith, R .room, all-long, ap length all-are)),
+            stored-fits (middleOf c area) (crossings (edgesOf c)) p S (L .inside) (omega (arith, R .room, all-long, ap length all-are)),
             length-numbers (loopMiddle (placeAt area) c p),
             length-loop (placeAt area) c p,
+            ap one (looped-fan L),
           )
 
-      pub middle-next : {n : ℕ} {halves points : List ℕ} → Looped c p n halves points → {out : List Float} {m : ℕ} → Stored mid (coordinates * i) (allNumbers (recordedMiddle halves points mid)) out m
-          → Stored area (coordinates * at) (over middleOf (p + 1) 0) out m
-      middle-next L T =
-          stored-more middleOf p S
-          (stored-as T (ap allNumbers (looped-middle L mid ∙ loop-ext c at (R .below) (placeAt mid) (placeAt area) (place-kept S) p l)) refl)
+      pub middle-next : {out : List Float} {m : ℕ} → Stored mid (coordinates * i) (allNumbers (recordedMiddle halves points mid)) out m
+          → Stored area (coordinates * at) (over (middleOf c area) (p + 1) 0) out m
+      middle-next T =
+          stored-more (middleOf c area) p S
+          (stored-as T (ap allNumbers (looped-middle L mid ∙ loop-ext c at (R .below) (placeAt mid) (placeAt area) (place-kept S) p (L .inside))) refl)
 
-    pub middles-all : {n p m : ℕ} {out : List Float} → Stored area (coordinates * at) (over middleOf p 0) out m → n ≡ crossings (edgesOf c) → p ≤ n → n ≤ p
+    pub middles-all : {p m : ℕ} {out : List Float} → Stored area (coordinates * at) (over (middleOf c area) p 0) out m → p ≡ crossings (edgesOf c)
         → Stored area (coordinates * at) (allNumbers (cellMiddles (placeAt area) c)) out m
-    middles-all {n} {p} S e h l = let q : p ≡ crossings (edgesOf c) = omega arith in stored-as S (ap (λ k. over middleOf k 0) q ∙ sym all-are) refl
+    middles-all S e = stored-as S (ap (λ k. over (middleOf c area) k 0) e ∙ sym all-are) refl
 
     -- as the call answers, and what that says
     pub middles-done : {out : List Float} {r : ℕ} → Stored area (coordinates * at) (allNumbers (cellMiddles (placeAt area) c)) out (coordinates * r)

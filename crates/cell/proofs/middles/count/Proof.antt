@@ -1,95 +1,78 @@
+use native.Mathlib.Omega.{arith}
+use Prim.Native.Nat.{_+_, _-_}
+use mathlib.Core.Path.{_≡_, refl}
+use Rattle.counting.specs.Search.{count}
+use Rattle.counting.proofs.Search.{count-le}
+use Rattle.cell.specs.Middles.{isFan}
+use Rattle.cell.proofs.Using.{cleared-same}
+use Rattle.cell.proofs.Going.{Going, going-start, going-long, going-lent, going-more, going-looped, going-part, going-cleared}
+use Rattle.cell.proofs.Fans.{fans-more, fans-all}
 use Rattle.cell.proofs.middles.count.Statement.{statement}
 use Rattle.cell.proofs.middles.count.Tie as tie
-use Rattle.cell.proofs.middles.count.Reads as reads
-use Rattle.cell.proofs.middles.count.Lts as lts
-use Rattle.cell.proofs.middles.fan_of.Reads as fan-of-reads
-use Rattle.cell.proofs.routes.crossings_of.Reads as crossings-of-reads
-use Rattle.cell.proofs.routes.routes_of.Reads as routes-of-reads
-use Rattle.cell.proofs.walks.clear.Reads as clear-reads
-use Rattle.cell.proofs.walks.walk.Reads as walk-reads
-use Rattle.cell.proofs.walks.wipe.Reads as wipe-reads
 
 abbrev Inv-loop : tie.InvT-loop
-Inv-loop c marks₀ halves₀ points₀ n routes t₀ p₀ marks halves points t p = ?
+Inv-loop c marks₀ halves₀ points₀ n routes t₀ p₀ marks halves points t p = Going c n routes marks₀ halves₀ points₀ marks halves points p × (t ≡ count (isFan c) p)
 
 abbrev μ-loop : tie.MeasureT-loop
-μ-loop c marks₀ halves₀ points₀ n routes t₀ p₀ marks halves points t p = ?
+μ-loop c marks₀ halves₀ points₀ n routes t₀ p₀ marks halves points t p = n - p
 
--- src/middles.rt:62:9
 crossings-of-requires : tie.Need-crossings-of-requires Inv-loop μ-loop
-crossings-of-requires c κs = ?
+crossings-of-requires c κs = tt
 
--- src/middles.rt:63:18
 routes-of-requires : tie.Need-routes-of-requires Inv-loop μ-loop
-routes-of-requires c κs = ?
+routes-of-requires c κs = tt
 
--- src/middles.rt:64:5
 clear-requires : tie.Need-clear-requires Inv-loop μ-loop
-clear-requires c κs = ?
+clear-requires c κs = omega (arith, c .before .before .before .before .before .before .pre .marks-long, c .before .before .crossings-of .ensures .0)
 
--- src/middles.rt:67:5
 loop-holds : tie.Need-loop-holds Inv-loop μ-loop
-loop-holds c = ?
+unfolding count
+loop-holds c = (going-start _ (c .before .before .before .before .before .crossings-of .ensures) (c .before .before .before .before .routes-of .ensures) (rw (c .before .before .before .before .before .crossings-of .ensures .0) (c .before .before .before .before .before .before .before .before .before .pre)) (c .before .before .clear .ensures), refl)
 
--- src/middles.rt:68:13
 walk-requires : tie.Need-walk-requires Inv-loop μ-loop
-walk-requires c κs = ?
+walk-requires c κs = going-lent (c .before .before .before .before .before .loop .inv .0) (omega arith)
 
--- src/middles.rt:69:21
 sub-fan-of : tie.Need-sub-fan-of Inv-loop μ-loop
-sub-fan-of c = ?
+sub-fan-of c = omega arith
 
--- src/middles.rt:69:21
 part-fan-of-start : tie.Need-part-fan-of-start Inv-loop μ-loop
-part-fan-of-start c = ?
+part-fan-of-start c = omega arith
 
--- src/middles.rt:69:21
 part-fan-of-end : tie.Need-part-fan-of-end Inv-loop μ-loop
-part-fan-of-end c = ?
+part-fan-of-end c = going-part (c .before .before .before .before .before .before .before .before .before .before .before .before .before .loop .inv .0) (omega arith) (c .before .before .before .before .before .before .before .walk .ensures) .0
 
--- src/middles.rt:69:14
 fan-of-requires : tie.Need-fan-of-requires Inv-loop μ-loop
-fan-of-requires c κs = ?
+fan-of-requires c κs = tt
 
--- src/middles.rt:69:9
 add-t : tie.Need-add-t Inv-loop μ-loop
-add-t c = ?
+add-t c = omega (arith, fans-more (going-looped (c .before .before .before .before .before .before .before .before .before .before .before .before .before .before .before .loop .inv .0) (omega arith) (c .before .before .before .before .before .before .before .before .before .walk .ensures)) (c .before .before .before .before .before .before .before .before .before .before .before .before .before .before .before .loop .inv .1) (c .fan-of .ensures), count-le (isFan (c .before .before .before .before .before .before .before .before .before .before .before .before .before .before .before .before .before .before .before .before .before .before .before .before .before .args .c)) (c .before .before .before .before .before .before .before .before .before .before .before .before .before .before .before .loop .p + 1), c .before .before .before .before .before .before .before .before .before .before .before .before .before .before .before .loop .inv .0 .few)
 
--- src/middles.rt:70:9
 add-p : tie.Need-add-p Inv-loop μ-loop
-add-p c = ?
+add-p c = omega (arith, c .before .before .before .before .before .before .before .before .before .before .before .before .before .before .before .loop .inv .0 .few)
 
--- src/middles.rt:67:5
 loop-less : tie.Need-loop-less Inv-loop μ-loop
-loop-less c = ?
+loop-less c = omega arith
 
--- src/middles.rt:67:5
 loop-again : tie.Need-loop-again Inv-loop μ-loop
-loop-again c = ?
+loop-again c = (going-more (c .before .before .before .before .before .before .before .before .before .before .before .before .before .before .before .loop .inv .0) (omega arith) (c .before .before .before .before .before .before .before .before .before .walk .ensures), fans-more (going-looped (c .before .before .before .before .before .before .before .before .before .before .before .before .before .before .before .loop .inv .0) (omega arith) (c .before .before .before .before .before .before .before .before .before .walk .ensures)) (c .before .before .before .before .before .before .before .before .before .before .before .before .before .before .before .loop .inv .1) (c .fan-of .ensures))
 
--- src/middles.rt:72:5
 clear-requires-2 : tie.Need-clear-requires-2 Inv-loop μ-loop
-clear-requires-2 c κs = ?
+clear-requires-2 c κs = going-long (c .before .before .loop .inv .0) .marks-long
 
--- src/middles.rt:73:5
 wipe-requires : tie.Need-wipe-requires Inv-loop μ-loop
-wipe-requires c κs = ?
+wipe-requires c κs = let L = going-long (c .before .before .before .before .before .before .before .loop .inv .0) in (L .halves-long, L .points-long)
 
--- src/middles.rt:57:1
 same-length : tie.Need-same-length Inv-loop μ-loop
-same-length c = ?
+same-length c = cleared-same (going-cleared (c .before .before .before .before .before .before .before .before .before .before .before .before .loop .inv .0) (omega (arith, c .before .before .before .before .before .before .before .before .before .before .before .before .before .before .before .before .before .before .before .before .before .before .pre .marks-long, c .before .before .before .before .before .before .before .before .before .before .before .before .before .before .before .before .before .before .crossings-of .ensures .0)) (c .before .before .before .before .before .before .before .before .before .before .before .before .before .before .before .clear .ensures) (c .before .before .before .before .before .before .before .before .before .clear2 .ensures) (c .before .before .before .before .wipe .ensures .0) (c .before .before .before .before .wipe .ensures .1)) .0
 
--- src/middles.rt:57:1
 same-length-2 : tie.Need-same-length-2 Inv-loop μ-loop
-same-length-2 c = ?
+same-length-2 c = cleared-same (going-cleared (c .before .before .before .before .before .before .before .before .before .before .before .before .loop .inv .0) (omega (arith, c .before .before .before .before .before .before .before .before .before .before .before .before .before .before .before .before .before .before .before .before .before .before .pre .marks-long, c .before .before .before .before .before .before .before .before .before .before .before .before .before .before .before .before .before .before .crossings-of .ensures .0)) (c .before .before .before .before .before .before .before .before .before .before .before .before .before .before .before .clear .ensures) (c .before .before .before .before .before .before .before .before .before .clear2 .ensures) (c .before .before .before .before .wipe .ensures .0) (c .before .before .before .before .wipe .ensures .1)) .1
 
--- src/middles.rt:57:1
 same-length-3 : tie.Need-same-length-3 Inv-loop μ-loop
-same-length-3 c = ?
+same-length-3 c = cleared-same (going-cleared (c .before .before .before .before .before .before .before .before .before .before .before .before .loop .inv .0) (omega (arith, c .before .before .before .before .before .before .before .before .before .before .before .before .before .before .before .before .before .before .before .before .before .before .pre .marks-long, c .before .before .before .before .before .before .before .before .before .before .before .before .before .before .before .before .before .before .crossings-of .ensures .0)) (c .before .before .before .before .before .before .before .before .before .before .before .before .before .before .before .clear .ensures) (c .before .before .before .before .before .before .before .before .before .clear2 .ensures) (c .before .before .before .before .wipe .ensures .0) (c .before .before .before .before .wipe .ensures .1)) .2
 
--- src/middles.rt:57:1
 returns : tie.Need-returns Inv-loop μ-loop
-returns c = ?
+returns c = (fans-all (c .before .before .before .before .before .before .before .before .before .before .before .before .before .before .before .before .before .before .before .before .before .before .args .c) (c .before .before .before .before .before .before .before .before .before .before .before .before .loop .inv .1) (omega (arith, c .before .before .before .before .before .before .before .before .before .before .before .before .loop .inv .0 .up, c .before .before .before .before .before .before .before .before .before .before .before .before .loop .inv .0 .all)) (omega (arith, c .before .before .before .before .before .before .before .before .before .before .before .before .loop .inv .0 .all, c .before .before .before .before .before .before .before .before .before .before .before .before .loop .inv .0 .few)), going-cleared (c .before .before .before .before .before .before .before .before .before .before .before .before .loop .inv .0) (omega (arith, c .before .before .before .before .before .before .before .before .before .before .before .before .before .before .before .before .before .before .before .before .before .before .pre .marks-long, c .before .before .before .before .before .before .before .before .before .before .before .before .before .before .before .before .before .before .crossings-of .ensures .0)) (c .before .before .before .before .before .before .before .before .before .before .before .before .before .before .before .clear .ensures) (c .before .before .before .before .before .before .before .before .before .clear2 .ensures) (c .before .before .before .before .wipe .ensures .0) (c .before .before .before .before .wipe .ensures .1))
 
 pub count-spec : {M : Type 1} → statement M
 count-spec =
