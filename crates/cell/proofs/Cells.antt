@@ -2,7 +2,7 @@
 use Prim.Native.Nat.{ℕ, zero, suc, _+_, _*_, _-_, _≤_, _<_}
 use mathlib.Core.Path.{_≡_, refl, sym, ap, _∙_}
 use mathlib.Core.List.{List, [], _∷_, _++_, append-nil}
-use native.Mathlib.Nat.{zero-add, add-zero}
+use native.Mathlib.Nat.{zero-add, sub-zero}
 use native.Mathlib.Omega.{arith}
 use lib.Dec.{ltb}
 use lib.ListN.{length, drop, length-append, drop-of-length-le}
@@ -108,8 +108,8 @@ module _ (c : Cell) {t p left : ℕ} (S : Seeking (loopTriangles c) t p left) wh
   pub triangle-here : p < crossings (edgesOf c) → (r : Triangle) {w : List Triangle} → w ≡ loopTriangles c p → left < manyAt c p → Entry w left r
       → (Found r ≡ nthOf (cellTriangles c) t) × (nthNumbers (Found r) ≡ nthAnswer (cellTriangles c) t)
   unfolding cellTriangles nthOf nthAnswer
-  triangle-here l r e h q =
-      let f = seeking-here (loopTriangles c) S (crossings (edgesOf c)) l (omega arith) ∙ rw (← e, q) refl in
+  triangle-here l r {w} e h q =
+      let f = rw (← e, q) at (seeking-here (loopTriangles c) S (crossings (edgesOf c)) l (omega arith)) in
       (rw f, rw f)
 
 -- the loop from each, if there is one
@@ -126,7 +126,7 @@ module _ (c : Cell) {k p left : ℕ} (S : Seeking (leastAt (edgesOf c)) k p left
   loop-off l = sym (ap (answerFrom w (c .nodes)) (rw l at (seeking-off (leastAt w) S)))
 
   pub loop-skip : loopSize w p ≡ 0 → Seeking (leastAt w) k (p + 1) left
-  loop-skip z = record { is = seeking-more (leastAt w) S 0 (rw (le-ltb 0 (loopSize w p) (omega arith)) refl) (omega arith) .is }
+  loop-skip z = rw (sub-zero left) at (seeking-more (leastAt w) S 0 (rw (le-ltb 0 (loopSize w p) (omega arith)) refl) (omega arith))
 
   module _ (h : 0 < loopSize w p) where
     one : leastAt w p ≡ p ∷ []
@@ -139,4 +139,4 @@ module _ (c : Cell) {k p left : ℕ} (S : Seeking (leastAt (edgesOf c)) k p left
     unfolding loopAnswer leasts kept answerFrom
     loop-here l z L =
         let e = seeking-here (leastAt w) S (crossings w) l (omega arith) in
-        rw (L .halves-are, L .points-are) (answer-is c p l h) ∙ sym (ap (answerFrom w (c .nodes)) e ∙ rw (z, one) refl)
+        rw (L .halves-are, L .points-are) (answer-is c p l h ∙ sym (ap (answerFrom w (c .nodes)) (rw (z, one) at e)))

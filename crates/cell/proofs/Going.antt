@@ -6,7 +6,6 @@ use native.Mathlib.Nat.{sub-zero}
 use native.Mathlib.Omega.{arith}
 use lib.ListN.{length, take}
 use Rattle.counting.specs.Stored.{filled}
-use Rattle.counting.proofs.Stored.{length-filled}
 use Rattle.cell.specs.declared.Cell.{Cell}
 use Rattle.cell.specs.Cell.{crossings}
 use Rattle.cell.specs.Loop.{loopSize}
@@ -14,7 +13,7 @@ use Rattle.cell.specs.Of.{edgesOf}
 use Rattle.cell.specs.Route.{mostInCell, Routed}
 use Rattle.cell.specs.Scratch.{unmarked, halvesFrom, pointsFrom, Cleared}
 use Rattle.cell.specs.Walked.{Marked, Long, Used, Lent, Walked}
-use Rattle.cell.proofs.Using.{kept-then, kept-filled, filled-kept, used-none, used-then}
+use Rattle.cell.proofs.Using.{kept-then, filled-same, kept-filled, filled-kept, used-none, used-then}
 use Rattle.cell.proofs.Walking.{cleared}
 use Rattle.cell.proofs.Loops.{size-le, length-halves, length-points}
 
@@ -50,7 +49,7 @@ going-start {c} {n} {routes} {ms} {hs} {ps} was e R L q = record {
   all = e .0;
   few = e .1;
   up = omega arith;
-  long = record { marks-long = omega (arith, L .marks-long, ap length q, length-filled (λ i. unmarked) n was); halves-long = L .halves-long; points-long = L .points-long };
+  long = record { marks-long = omega (arith, L .marks-long, filled-same (λ i. unmarked) n was q); halves-long = L .halves-long; points-long = L .points-long };
   routed = R;
   marked = rw q (cleared c n was (e .0) (e .1) (L .marks-long));
   used = used-none n ms hs ps;

@@ -31,6 +31,9 @@ module _ (f : ℕ → ℕ) (n : ℕ) where
   unfolding filled
   parts l h = sets-front (values f n) l (omega (arith, length-singles f n 0)) ∙ ap (λ k. values f n ++ drop k l) (length-singles f n 0)
 
+  pub filled-same : (l : List ℕ) {m : List ℕ} → m ≡ filled f n l → length m ≡ length l
+  filled-same l e = ap length e ∙ length-filled f n l
+
   pub kept-filled : (l : List ℕ) → n ≤ length l → Kept n l (filled f n l)
   kept-filled l h = record { long = length-filled f n l; back = ap (drop n) (parts l h) ∙ drop-at (values f n) (drop n l) n (length-singles f n 0) }
 
@@ -68,11 +71,9 @@ module _ {c : Cell} {ms hs ps ms′ hs′ ps′ : List ℕ} (L : Long (crossings
 
 -- clearing changes no length
 pub cleared-same : {c : Cell} {ms hs ps ms′ hs′ ps′ : List ℕ} → Cleared c ms hs ps ms′ hs′ ps′ → (length ms′ ≡ length ms) × (length hs′ ≡ length hs) × (length ps′ ≡ length ps)
-cleared-same {c} {ms} {hs} {ps} C = (
-  ap length (C .marks-are) ∙ length-filled (λ i. unmarked) (crossings (edgesOf c)) ms,
-  ap length (C .halves-are) ∙ length-filled (λ i. 0) (crossings (edgesOf c)) hs,
-  ap length (C .points-are) ∙ length-filled (λ i. 0) (crossings (edgesOf c)) ps,
-)
+cleared-same {c} {ms} {hs} {ps} C =
+    let n = crossings (edgesOf c) in
+    (filled-same (λ i. unmarked) n ms (C .marks-are), filled-same (λ i. 0) n hs (C .halves-are), filled-same (λ i. 0) n ps (C .points-are))
 
 -- v in the first i places of a list, on the way to n
 pub record Filling (v n : ℕ) (l : List ℕ) (i : ℕ) (m : List ℕ) : Type 0 where
@@ -84,7 +85,7 @@ filling-none v n l = record { up = omega arith; is = filled-none (λ i. v) l }
 
 module _ {v n : ℕ} {l : List ℕ} {i : ℕ} {m : List ℕ} (F : Filling v n l i m) where
   pub filling-long : length m ≡ length l
-  filling-long = ap length (F .is) ∙ length-filled (λ i. v) i l
+  filling-long = filled-same (λ i. v) i l (F .is)
 
   pub filling-more : i < n → Filling v n l (i + 1) (set m i v)
   filling-more h = record { up = omega arith; is = filled-more (λ i. v) i l m v (F .is) refl }

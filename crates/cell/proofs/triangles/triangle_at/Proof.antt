@@ -1,0 +1,134 @@
+use native.Mathlib.Omega.{arith}
+use Prim.Native.Nat.{_-_}
+use mathlib.Core.Path.{refl, sym, _∙_}
+use Rattle.cell.specs.Triangles.{loopTriangles}
+use Rattle.cell.proofs.Using.{filled-same}
+use Rattle.cell.proofs.Going.{Going, going-start, going-in, going-lent, going-more, going-looped, going-part}
+use Rattle.cell.proofs.Holding.{looped-traced, looped-four, looped-loop, looped-many}
+use Rattle.cell.proofs.Cells.{Seeking, seeking-none, seeking-more, triangle-off, triangle-here}
+use Rattle.cell.proofs.triangles.triangle_at.Statement.{statement}
+use Rattle.cell.proofs.triangles.triangle_at.Tie as tie
+use Rattle.cell.proofs.make.in_two.Reads as in-two-reads
+use Rattle.cell.proofs.make.many.Reads as many-reads
+use Rattle.cell.proofs.make.triangle_of.Reads as triangle-of-reads
+use Rattle.cell.proofs.routes.crossings_of.Reads as crossings-of-reads
+use Rattle.cell.proofs.routes.routes_of.Reads as routes-of-reads
+use Rattle.cell.proofs.walks.clear.Reads as clear-reads
+use Rattle.cell.proofs.walks.walk.Reads as walk-reads
+
+abbrev Inv-loop : tie.InvT-loop
+Inv-loop c t marks₀ halves₀ points₀ n routes left₀ p₀ marks halves points left p = Going c n routes marks₀ halves₀ points₀ marks halves points p × Seeking (loopTriangles c) t p left
+
+abbrev μ-loop : tie.MeasureT-loop
+μ-loop c t marks₀ halves₀ points₀ n routes left₀ p₀ marks halves points left p = n - p
+
+crossings-of-requires : tie.Need-crossings-of-requires Inv-loop μ-loop
+crossings-of-requires c κs = tt
+
+routes-of-requires : tie.Need-routes-of-requires Inv-loop μ-loop
+routes-of-requires c κs = tt
+
+slice-aggregate-clear : tie.Need-slice-aggregate-clear Inv-loop μ-loop
+slice-aggregate-clear c = refl
+
+clear-requires : tie.Need-clear-requires Inv-loop μ-loop
+clear-requires c κs = c .before .before .crossings-of .ensures .1
+
+loop-holds : tie.Need-loop-holds Inv-loop μ-loop
+loop-holds c = (going-start _ (c .before .before .before .before .crossings-of .ensures) (c .before .before .before .routes-of .ensures) (record { marks-long = c .before .before .before .before .crossings-of .ensures .1; halves-long = c .before .before .before .before .crossings-of .ensures .1; points-long = c .before .before .before .before .crossings-of .ensures .1 }) (c .before .clear .ensures), seeking-none _ _)
+
+slice-aggregate-walk : tie.Need-slice-aggregate-walk Inv-loop μ-loop
+slice-aggregate-walk c = sym (c .before .before .before .loop .inv .0 .used .marks-kept .long ∙ filled-same _ _ _ (c .before .before .before .before .before .clear .ensures))
+
+slice-aggregate-walk-2 : tie.Need-slice-aggregate-walk-2 Inv-loop μ-loop
+slice-aggregate-walk-2 c = sym (c .before .before .before .before .loop .inv .0 .used .halves-kept .long)
+
+slice-aggregate-walk-3 : tie.Need-slice-aggregate-walk-3 Inv-loop μ-loop
+slice-aggregate-walk-3 c = sym (c .before .before .before .before .before .loop .inv .0 .used .points-kept .long)
+
+walk-requires : tie.Need-walk-requires Inv-loop μ-loop
+walk-requires c κs = going-lent (c .before .before .before .before .before .loop .inv .0) (omega arith)
+
+sub-in-two : tie.Need-sub-in-two Inv-loop μ-loop
+sub-in-two c = omega arith
+
+part-in-two-start : tie.Need-part-in-two-start Inv-loop μ-loop
+part-in-two-start c = omega arith
+
+part-in-two-end : tie.Need-part-in-two-end Inv-loop μ-loop
+part-in-two-end c = going-part (c .before .before .before .before .before .before .before .before .before .before .loop .inv .0) (omega arith) (c .before .before .before .before .walk .ensures) .0
+
+in-two-requires : tie.Need-in-two-requires Inv-loop μ-loop
+in-two-requires c κs = tt
+
+many-requires : tie.Need-many-requires Inv-loop μ-loop
+many-requires c κs = tt
+
+sub-triangle-of : tie.Need-sub-triangle-of Inv-loop μ-loop
+sub-triangle-of c = omega arith
+
+part-triangle-of-start : tie.Need-part-triangle-of-start Inv-loop μ-loop
+part-triangle-of-start c = omega arith
+
+part-triangle-of-end : tie.Need-part-triangle-of-end Inv-loop μ-loop
+part-triangle-of-end c = going-part (c .before .before .before .before .before .before .before .before .before .before .before .before .before .before .before .loop .inv .0) (omega arith) (c .before .before .before .before .before .before .before .before .before .walk .ensures) .0
+
+sub-triangle-of-2 : tie.Need-sub-triangle-of-2 Inv-loop μ-loop
+sub-triangle-of-2 c = omega arith
+
+part-triangle-of-start-2 : tie.Need-part-triangle-of-start-2 Inv-loop μ-loop
+part-triangle-of-start-2 c = omega arith
+
+part-triangle-of-end-2 : tie.Need-part-triangle-of-end-2 Inv-loop μ-loop
+part-triangle-of-end-2 c = going-part (c .before .before .before .before .before .before .before .before .before .before .before .before .before .before .before .before .before .loop .inv .0) (omega arith) (c .before .before .before .before .before .before .before .before .before .before .before .walk .ensures) .1
+
+triangle-of-requires : tie.Need-triangle-of-requires Inv-loop μ-loop
+triangle-of-requires c κs = let L = going-looped (c .before .before .before .before .before .before .before .before .before .before .before .before .before .before .before .before .before .before .loop .inv .0) (omega arith) (c .before .before .before .before .before .before .before .before .before .before .before .before .walk .ensures) in (looped-traced L, (looped-four L (c .before .before .before .before .before .before .in-two .ensures), omega (arith, c .before .before .before .before .before .many .ensures)))
+
+returns : tie.Need-returns Inv-loop μ-loop
+returns c = let L = going-looped (c .before .before .before .before .before .before .before .before .before .before .before .before .before .before .before .before .before .before .before .loop .inv .0) (omega arith) (c .before .before .before .before .before .before .before .before .before .before .before .before .before .walk .ensures) in triangle-here _ (c .before .before .before .before .before .before .before .before .before .before .before .before .before .before .before .before .before .before .before .loop .inv .1) (going-in (c .before .before .before .before .before .before .before .before .before .before .before .before .before .before .before .before .before .before .before .loop .inv .0) (omega arith)) _ (looped-loop L (c .before .before .before .before .before .before .before .in-two .ensures)) (omega (arith, looped-many L (c .before .before .before .before .before .before .before .in-two .ensures), c .before .before .before .before .before .before .many .ensures)) (c .triangle-of .ensures)
+
+add-p : tie.Need-add-p Inv-loop μ-loop
+add-p c = omega (arith, c .before .before .before .before .before .before .before .before .before .before .before .before .before .before .loop .inv .0 .few)
+
+loop-less : tie.Need-loop-less Inv-loop μ-loop
+loop-less c = omega arith
+
+loop-again : tie.Need-loop-again Inv-loop μ-loop
+loop-again c = (going-more (c .before .before .before .before .before .before .before .before .before .before .before .before .before .before .loop .inv .0) (omega arith) (c .before .before .before .before .before .before .before .before .walk .ensures), seeking-more _ (c .before .before .before .before .before .before .before .before .before .before .before .before .before .before .loop .inv .1) _ (c .before .many .ensures ∙ looped-many (going-looped (c .before .before .before .before .before .before .before .before .before .before .before .before .before .before .loop .inv .0) (omega arith) (c .before .before .before .before .before .before .before .before .walk .ensures)) (c .before .before .in-two .ensures)) (omega arith))
+
+returns-2 : tie.Need-returns-2 Inv-loop μ-loop
+returns-2 c = triangle-off _ (c .before .loop .inv .1) (omega (arith, c .before .loop .inv .0 .up, c .before .loop .inv .0 .all))
+
+pub triangle-at-spec : {M : Type 1} → statement M
+triangle-at-spec =
+    tie.close
+    (tie.spec
+    Inv-loop
+    μ-loop
+    crossings-of-requires
+    routes-of-requires
+    slice-aggregate-clear
+    clear-requires
+    loop-holds
+    slice-aggregate-walk
+    slice-aggregate-walk-2
+    slice-aggregate-walk-3
+    walk-requires
+    sub-in-two
+    part-in-two-start
+    part-in-two-end
+    in-two-requires
+    many-requires
+    sub-triangle-of
+    part-triangle-of-start
+    part-triangle-of-end
+    sub-triangle-of-2
+    part-triangle-of-start-2
+    part-triangle-of-end-2
+    triangle-of-requires
+    returns
+    add-p
+    loop-less
+    loop-again
+    returns-2)

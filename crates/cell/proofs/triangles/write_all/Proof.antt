@@ -1,0 +1,136 @@
+use native.Mathlib.Omega.{arith}
+use Prim.Native.Nat.{_-_}
+use Rattle.counting.specs.Range.{over}
+use Rattle.counting.specs.Stored.{Stored}
+use Rattle.counting.proofs.Stored.{stored-none, stored-long}
+use Rattle.cell.proofs.Using.{cleared-same}
+use Rattle.cell.proofs.Going.{Going, going-start, going-long, going-in, going-lent, going-more, going-looped, going-part, going-cleared}
+use Rattle.cell.proofs.Holding.{looped-traced, looped-four, looped-loop, looped-many}
+use Rattle.cell.proofs.Cells.{wordsAt, written-all, written-room, written-more}
+use Rattle.cell.proofs.triangles.write_all.Statement.{statement}
+use Rattle.cell.proofs.triangles.write_all.Tie as tie
+use Rattle.cell.proofs.make.in_two.Reads as in-two-reads
+use Rattle.cell.proofs.routes.crossings_of.Reads as crossings-of-reads
+use Rattle.cell.proofs.routes.routes_of.Reads as routes-of-reads
+use Rattle.cell.proofs.walks.clear.Reads as clear-reads
+use Rattle.cell.proofs.walks.walk.Reads as walk-reads
+use Rattle.cell.proofs.walks.wipe.Reads as wipe-reads
+use Rattle.cell.proofs.write.write_loop.Reads as write-loop-reads
+
+abbrev Inv-loop : tie.InvT-loop
+Inv-loop c marks₀ halves₀ points₀ area₀ at n routes i₀ p₀ marks halves points area i p = Going c n routes marks₀ halves₀ points₀ marks halves points p × Stored area₀ at (over (wordsAt c) p 0) area i
+
+abbrev μ-loop : tie.MeasureT-loop
+μ-loop c marks₀ halves₀ points₀ area₀ at n routes i₀ p₀ marks halves points area i p = n - p
+
+crossings-of-requires : tie.Need-crossings-of-requires Inv-loop μ-loop
+crossings-of-requires c κs = tt
+
+routes-of-requires : tie.Need-routes-of-requires Inv-loop μ-loop
+routes-of-requires c κs = tt
+
+clear-requires : tie.Need-clear-requires Inv-loop μ-loop
+clear-requires c κs = omega (arith, c .before .before .before .before .before .before .before .pre .0 .marks-long, c .before .before .crossings-of .ensures .0)
+
+loop-holds : tie.Need-loop-holds Inv-loop μ-loop
+unfolding over
+loop-holds c = (going-start _ (c .before .before .before .before .before .crossings-of .ensures) (c .before .before .before .before .routes-of .ensures) (rw (c .before .before .before .before .before .crossings-of .ensures .0) (c .before .before .before .before .before .before .before .before .before .before .pre .0)) (c .before .before .clear .ensures), stored-none _ _)
+
+walk-requires : tie.Need-walk-requires Inv-loop μ-loop
+walk-requires c κs = going-lent (c .before .before .before .before .before .loop .inv .0) (omega arith)
+
+sub-in-two : tie.Need-sub-in-two Inv-loop μ-loop
+sub-in-two c = omega arith
+
+part-in-two-start : tie.Need-part-in-two-start Inv-loop μ-loop
+part-in-two-start c = omega arith
+
+part-in-two-end : tie.Need-part-in-two-end Inv-loop μ-loop
+part-in-two-end c = going-part (c .before .before .before .before .before .before .before .before .before .before .before .before .before .loop .inv .0) (omega arith) (c .before .before .before .before .before .before .before .walk .ensures) .0
+
+in-two-requires : tie.Need-in-two-requires Inv-loop μ-loop
+in-two-requires c κs = tt
+
+sub-write-loop : tie.Need-sub-write-loop Inv-loop μ-loop
+sub-write-loop c = omega arith
+
+part-write-loop-start : tie.Need-part-write-loop-start Inv-loop μ-loop
+part-write-loop-start c = omega arith
+
+part-write-loop-end : tie.Need-part-write-loop-end Inv-loop μ-loop
+part-write-loop-end c = going-part (c .before .before .before .before .before .before .before .before .before .before .before .before .before .before .before .before .loop .inv .0) (omega arith) (c .before .before .before .before .before .before .before .before .before .before .walk .ensures) .0
+
+sub-write-loop-2 : tie.Need-sub-write-loop-2 Inv-loop μ-loop
+sub-write-loop-2 c = omega arith
+
+part-write-loop-start-2 : tie.Need-part-write-loop-start-2 Inv-loop μ-loop
+part-write-loop-start-2 c = omega arith
+
+part-write-loop-end-2 : tie.Need-part-write-loop-end-2 Inv-loop μ-loop
+part-write-loop-end-2 c = going-part (c .before .before .before .before .before .before .before .before .before .before .before .before .before .before .before .before .before .before .loop .inv .0) (omega arith) (c .before .before .before .before .before .before .before .before .before .before .before .before .walk .ensures) .1
+
+write-loop-requires : tie.Need-write-loop-requires Inv-loop μ-loop
+write-loop-requires c κs = let L = going-looped (c .before .before .before .before .before .before .before .before .before .before .before .before .before .before .before .before .before .before .before .before .loop .inv .0) (omega arith) (c .before .before .before .before .before .before .before .before .before .before .before .before .before .before .walk .ensures) in (looped-traced L, (looped-four L (c .before .before .before .before .before .in-two .ensures), omega (arith, looped-many L (c .before .before .before .before .before .in-two .ensures), written-room _ _ (c .before .before .before .before .before .before .before .before .before .before .before .before .before .before .before .before .before .before .before .before .loop .inv .1) (going-in (c .before .before .before .before .before .before .before .before .before .before .before .before .before .before .before .before .before .before .before .before .loop .inv .0) (omega arith)), stored-long (c .before .before .before .before .before .before .before .before .before .before .before .before .before .before .before .before .before .before .before .before .loop .inv .1), c .before .before .before .before .before .before .before .before .before .before .before .before .before .before .before .before .before .before .before .before .before .before .before .before .before .before .before .before .before .before .before .pre .1)))
+
+add-p : tie.Need-add-p Inv-loop μ-loop
+add-p c = omega (arith, c .before .before .before .before .before .before .before .before .before .before .before .before .before .before .before .before .before .before .before .before .before .before .before .loop .inv .0 .few)
+
+loop-less : tie.Need-loop-less Inv-loop μ-loop
+loop-less c = omega arith
+
+loop-again : tie.Need-loop-again Inv-loop μ-loop
+loop-again c = let L = going-looped (c .before .before .before .before .before .before .before .before .before .before .before .before .before .before .before .before .before .before .before .before .before .before .before .loop .inv .0) (omega arith) (c .before .before .before .before .before .before .before .before .before .before .before .before .before .before .before .before .before .walk .ensures) in (going-more (c .before .before .before .before .before .before .before .before .before .before .before .before .before .before .before .before .before .before .before .before .before .before .before .loop .inv .0) (omega arith) (c .before .before .before .before .before .before .before .before .before .before .before .before .before .before .before .before .before .walk .ensures), written-more _ _ (c .before .before .before .before .before .before .before .before .before .before .before .before .before .before .before .before .before .before .before .before .before .before .before .loop .inv .1) (looped-many L (c .before .before .before .before .before .before .before .before .in-two .ensures)) (c .before .before .write-loop .ensures .0) (looped-loop L (c .before .before .before .before .before .before .before .before .in-two .ensures)) (c .before .before .write-loop .ensures .1))
+
+clear-requires-2 : tie.Need-clear-requires-2 Inv-loop μ-loop
+clear-requires-2 c κs = going-long (c .before .before .loop .inv .0) .marks-long
+
+wipe-requires : tie.Need-wipe-requires Inv-loop μ-loop
+wipe-requires c κs = (going-long (c .before .before .before .before .before .before .before .loop .inv .0) .halves-long, going-long (c .before .before .before .before .before .before .before .loop .inv .0) .points-long)
+
+same-length : tie.Need-same-length Inv-loop μ-loop
+same-length c = cleared-same (going-cleared (c .before .before .before .before .before .before .before .before .before .before .before .before .loop .inv .0) (omega (arith, c .before .before .before .before .before .before .before .before .before .before .before .before .before .before .before .before .before .before .before .before .before .before .before .pre .0 .marks-long, c .before .before .before .before .before .before .before .before .before .before .before .before .before .before .before .before .before .before .crossings-of .ensures .0)) (c .before .before .before .before .before .before .before .before .before .before .before .before .before .before .before .clear .ensures) (c .before .before .before .before .before .before .before .before .before .clear2 .ensures) (c .before .before .before .before .wipe .ensures .0) (c .before .before .before .before .wipe .ensures .1)) .0
+
+same-length-2 : tie.Need-same-length-2 Inv-loop μ-loop
+same-length-2 c = cleared-same (going-cleared (c .before .before .before .before .before .before .before .before .before .before .before .before .loop .inv .0) (omega (arith, c .before .before .before .before .before .before .before .before .before .before .before .before .before .before .before .before .before .before .before .before .before .before .before .pre .0 .marks-long, c .before .before .before .before .before .before .before .before .before .before .before .before .before .before .before .before .before .before .crossings-of .ensures .0)) (c .before .before .before .before .before .before .before .before .before .before .before .before .before .before .before .clear .ensures) (c .before .before .before .before .before .before .before .before .before .clear2 .ensures) (c .before .before .before .before .wipe .ensures .0) (c .before .before .before .before .wipe .ensures .1)) .1
+
+same-length-3 : tie.Need-same-length-3 Inv-loop μ-loop
+same-length-3 c = cleared-same (going-cleared (c .before .before .before .before .before .before .before .before .before .before .before .before .loop .inv .0) (omega (arith, c .before .before .before .before .before .before .before .before .before .before .before .before .before .before .before .before .before .before .before .before .before .before .before .pre .0 .marks-long, c .before .before .before .before .before .before .before .before .before .before .before .before .before .before .before .before .before .before .crossings-of .ensures .0)) (c .before .before .before .before .before .before .before .before .before .before .before .before .before .before .before .clear .ensures) (c .before .before .before .before .before .before .before .before .before .clear2 .ensures) (c .before .before .before .before .wipe .ensures .0) (c .before .before .before .before .wipe .ensures .1)) .2
+
+same-length-4 : tie.Need-same-length-4 Inv-loop μ-loop
+same-length-4 c = stored-long (c .before .before .before .before .before .before .before .before .before .before .before .before .loop .inv .1)
+
+returns : tie.Need-returns Inv-loop μ-loop
+returns c = (written-all _ _ (c .before .before .before .before .before .before .before .before .before .before .before .before .loop .inv .1) (omega (arith, c .before .before .before .before .before .before .before .before .before .before .before .before .loop .inv .0 .up, c .before .before .before .before .before .before .before .before .before .before .before .before .loop .inv .0 .all)), going-cleared (c .before .before .before .before .before .before .before .before .before .before .before .before .loop .inv .0) (omega (arith, c .before .before .before .before .before .before .before .before .before .before .before .before .before .before .before .before .before .before .before .before .before .before .before .pre .0 .marks-long, c .before .before .before .before .before .before .before .before .before .before .before .before .before .before .before .before .before .before .crossings-of .ensures .0)) (c .before .before .before .before .before .before .before .before .before .before .before .before .before .before .before .clear .ensures) (c .before .before .before .before .before .before .before .before .before .clear2 .ensures) (c .before .before .before .before .wipe .ensures .0) (c .before .before .before .before .wipe .ensures .1))
+
+pub write-all-spec : {M : Type 1} → statement M
+write-all-spec =
+    tie.close
+    (tie.spec
+    Inv-loop
+    μ-loop
+    crossings-of-requires
+    routes-of-requires
+    clear-requires
+    loop-holds
+    walk-requires
+    sub-in-two
+    part-in-two-start
+    part-in-two-end
+    in-two-requires
+    sub-write-loop
+    part-write-loop-start
+    part-write-loop-end
+    sub-write-loop-2
+    part-write-loop-start-2
+    part-write-loop-end-2
+    write-loop-requires
+    add-p
+    loop-less
+    loop-again
+    clear-requires-2
+    wipe-requires
+    same-length
+    same-length-2
+    same-length-3
+    same-length-4
+    returns)
