@@ -1,5 +1,5 @@
 -- The fans of a cell and their middles: from the records of its loops, and as they are written.
-use Prim.Native.Nat.{ℕ, _+_, _*_, _/_, _≤_, _<_}
+use Prim.Native.Nat.{ℕ, _+_, _-_, _*_, _/_, _≤_, _<_}
 use mathlib.Core.Path.{_≡_, refl, sym, ap, ap₂, _∙_}
 use mathlib.Core.Logic.{_≢_}
 use mathlib.Core.Bool.{Bool, true, false, _&&_}
@@ -14,7 +14,7 @@ use Rattle.counting.specs.Pick.{pick, one}
 use Rattle.counting.specs.Range.{over}
 use Rattle.counting.specs.Search.{count}
 use Rattle.counting.specs.Stored.{Stored, storedIn, nextIn}
-use Rattle.counting.proofs.Bools.{and-left, and-right, and-true, clash}
+use Rattle.counting.proofs.Bools.{and-left, and-right, and-false-right, bool-same}
 use Rattle.counting.proofs.Range.{length-over, total-ext, over-ext}
 use Rattle.counting.proofs.Search.{every-is, is-every, every-not, count-total, count-le}
 use Rattle.counting.proofs.Stored.{stored-none, stored-as, stored-more, stored-fits, stored-room, stored-in, stored-not, stored-nothing}
@@ -31,10 +31,15 @@ use Rattle.cell.specs.Loop.{loopSize, dart, normal, inGrid}
 use Rattle.cell.specs.Round.{foldsIn}
 use Rattle.cell.specs.Route.{mostInCell}
 use Rattle.cell.specs.Triangles.{numberOf}
+use Rattle.cell.specs.Walked.{Long}
 use Rattle.cell.specs.Middles.{isFan, loopPoint, fanCount, loopMiddle, cellMiddles, numberedBelow, middlesAt, pointsThen, nextPoint, recordedFan, recordedMiddle, MiddlesRoom}
 use Rattle.cell.proofs.Lay.{lay}
 use Rattle.cell.proofs.Loops.{from-point, normal-is, dart-live}
 use Rattle.cell.proofs.Going.{Looped, looped-halves, looped-points}
+
+-- the arrays have room for the darts of a cell
+pub long-few : {m n : ℕ} {marks halves points : List ℕ} → Long m marks halves points → n ≤ m → Long n marks halves points
+long-few L h = record { marks-long = omega (arith, L .marks-long); halves-long = omega (arith, L .halves-long); points-long = omega (arith, L .points-long) }
 
 -- the cases of the code
 module _ (halves : List ℕ) where
@@ -220,3 +225,29 @@ module _ (c : Cell) (area : List Float) (at : ℕ) where
       go true e =
           let n = stored-not area (coordinates * at) (allNumbers (cellMiddles (placeAt area) c)) (omega (arith, leb-false (coordinates * (at + fanCount c)) (length area) e, all-long)) in
           (omega (arith, n .1), n .0)
+
+-- whether they have room, as the code asks
+module _ (c : Cell) (room at : ℕ) where
+  abbrev pub fits : Bool
+  fits = numberedBelow c at && leb (coordinates * (at + fanCount c)) room
+
+  pub fits-short : room / 3 < at → false ≡ fits
+  fits-short h = sym (and-false-right (numberedBelow c at) _ (lt-leb (coordinates * (at + fanCount c)) room (omega arith)))
+
+  pub fits-not : numberedBelow c at ≡ false → false ≡ fits
+  fits-not e = rw e
+
+  module _ (b : numberedBelow c at ≡ true) (h : at ≤ room / 3) where
+    pub fits-count : {t : ℕ} → t ≡ fanCount c → leb t (room / 3 - at) ≡ fits
+    fits-count {t} e =
+        let n = coordinates * (at + fanCount c) in
+        rw b (bool-same (leb t (room / 3 - at)) (leb n room) (λ q. le-leb n room (omega (arith, leb-true t (room / 3 - at) q))) (λ q. le-leb t (room / 3 - at) (omega (arith, leb-true n room q))))
+
+    pub fits-most : {n : ℕ} → n ≡ crossings (edgesOf c) → n ≤ room / 3 - at → true ≡ fits
+    unfolding fanCount
+    fits-most e l = rw b (sym (le-leb (coordinates * (at + fanCount c)) room (omega (arith, count-le (isFan c) (crossings (edgesOf c))))))
+
+pub fits-room : (c : Cell) (area : List Float) (at : ℕ) → fits c (length area) at ≡ true → MiddlesRoom c area at
+fits-room c area at e =
+    let n = coordinates * (at + fanCount c) in
+    record { below = and-left (numberedBelow c at) (leb n (length area)) e; room = leb-true n (length area) (and-right (numberedBelow c at) (leb n (length area)) e) }

@@ -55,7 +55,7 @@ fn put_middle(halves: &[u8], points: &[u32], area: &mut [f64], at: usize) -> usi
 
 // How many fans the cell has.
 fn count(c: Cell, marks: &mut [u16], halves: &mut [u8], points: &mut [u32]) -> usize
-    requires { ⌜ Long (crossings (edgesOf c)) (now marks) (now halves) (now points) ⌝ }
+    requires { ⌜ Long mostInCell (now marks) (now halves) (now points) ⌝ }
     ensures { λ r. ⌜ (r ≡ fanCount c) × (r ≤ mostInCell) ⌝ }
     ensures { λ _. ⌜ Cleared c (now (marks .entry)) (now (halves .entry)) (now (points .entry)) (now (marks .exit)) (now (halves .exit)) (now (points .exit)) ⌝ }
 {
@@ -83,7 +83,7 @@ fn write_all(
     area: &mut [f64],
     at: usize,
 ) -> usize
-    requires { ⌜ Long (crossings (edgesOf c)) (now marks) (now halves) (now points) ⌝ }
+    requires { ⌜ Long mostInCell (now marks) (now halves) (now points) ⌝ }
     requires { ⌜ MiddlesRoom c (now area) at ⌝ }
     ensures { λ r. ⌜ Stored (now (area .entry)) (coordinates * at) (allNumbers (cellMiddles (placeAt (now (area .entry))) c)) (now (area .exit)) (coordinates * r) ⌝ }
     ensures { λ _. ⌜ Cleared c (now (marks .entry)) (now (halves .entry)) (now (points .entry)) (now (marks .exit)) (now (halves .exit)) (now (points .exit)) ⌝ }
@@ -170,10 +170,10 @@ pub fn middles_in(
     ensures { λ r. ⌜ (r ≡ nextPoint c (now (area .entry)) at) × (now (area .exit) ≡ pointsThen c (now (area .entry)) at) ⌝ }
     ensures { λ _. ⌜ Cleared c (now (marks .entry)) (now (halves .entry)) (now (points .entry)) (now (marks .exit)) (now (halves .exit)) (now (points .exit)) ⌝ }
 {
+    let n = crossings_of(c);
     if has_room(c, marks, halves, points, area.len(), at) {
         return write_all(c, marks, halves, points, area, at);
     }
-    let n = crossings_of(c);
     clear(marks, n);
     wipe(halves, points, n);
     at

@@ -1,39 +1,33 @@
+use native.Mathlib.Omega.{arith}
+use mathlib.Core.Path.{sym, _∙_}
+use denote.Ref.{now}
+use borrow.Author.Tests.{not-true, not-false}
+use Rattle.cell.proofs.Using.{used-none, cleared-used}
+use Rattle.cell.proofs.Fans.{fits-short, fits-not, fits-count, fits-most}
 use borrow.Author.Needs.{needs}
 use Rattle.cell.proofs.middles.has_room.Statement.{statement}
 use Rattle.cell.proofs.middles.has_room.Tie as tie
-use Rattle.cell.proofs.middles.has_room.Reads as reads
-use Rattle.cell.proofs.middles.has_room.Lts as lts
-use Rattle.cell.proofs.middles.count.Reads as count-reads
-use Rattle.cell.proofs.middles.is_below.Reads as is-below-reads
-use Rattle.cell.proofs.routes.crossings_of.Reads as crossings-of-reads
 
--- src/middles.rt:148:9
 returns : tie.Need-returns
-returns c = ?
+returns c = (fits-short (c .before .args .c) (c .before .args .room) (c .before .args .at) (c .if1 .taken), used-none _ (now (c .before .args .marks)) (now (c .before .args .halves)) (now (c .before .args .points)))
 
--- src/middles.rt:150:9
 is-below-requires : tie.Need-is-below-requires
 is-below-requires c κs = search needs
 
--- src/middles.rt:151:9
 returns-2 : tie.Need-returns-2
-returns-2 c = ?
+returns-2 c = (fits-not (c .before .before .before .args .c) (c .before .before .before .args .room) (c .before .before .before .args .at) (sym (c .before .is-below .ensures) ∙ not-true _ (c .if2 .taken)), used-none _ (now (c .before .before .before .args .marks)) (now (c .before .before .before .args .halves)) (now (c .before .before .before .args .points)))
 
--- src/middles.rt:153:8
 crossings-of-requires : tie.Need-crossings-of-requires
 crossings-of-requires c κs = search needs
 
--- src/middles.rt:154:9
 returns-3 : tie.Need-returns-3
-returns-3 c = ?
+returns-3 c = (fits-most (c .before .before .before .before .before .args .c) (c .before .before .before .before .before .args .room) (c .before .before .before .before .before .args .at) (sym (c .before .before .before .is-below .ensures) ∙ not-false _ (c .before .before .if2 .left)) (omega arith) (c .before .crossings-of .ensures .0) (c .if3 .taken), used-none _ (now (c .before .before .before .before .before .args .marks)) (now (c .before .before .before .before .before .args .halves)) (now (c .before .before .before .before .before .args .points)))
 
--- src/middles.rt:156:9
 count-requires : tie.Need-count-requires
 count-requires c κs = search needs
 
--- src/middles.rt:135:1
 returns-4 : tie.Need-returns-4
-returns-4 c = ?
+returns-4 c = (fits-count (c .before .before .before .before .before .before .before .before .before .args .c) (c .before .before .before .before .before .before .before .before .before .args .room) (c .before .before .before .before .before .before .before .before .before .args .at) (sym (c .before .before .before .before .before .before .before .is-below .ensures) ∙ not-false _ (c .before .before .before .before .before .before .if2 .left)) (omega arith) (c .count .ensures .0 .0), cleared-used (record { marks-long = omega (arith, c .before .before .before .before .before .crossings-of .ensures); halves-long = omega (arith, c .before .before .before .before .before .crossings-of .ensures); points-long = omega (arith, c .before .before .before .before .before .crossings-of .ensures) }) (c .count .ensures .1))
 
 pub has-room-spec : {M : Type 1} → statement M
 has-room-spec =

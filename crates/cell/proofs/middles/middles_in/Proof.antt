@@ -1,55 +1,45 @@
+use native.Mathlib.Omega.{arith}
+use mathlib.Core.Path.{sym, refl, _∙_}
+use denote.Ref.{now}
 use borrow.Author.Needs.{needs}
+use Rattle.cell.proofs.Using.{used-cleared}
+use Rattle.cell.proofs.Fans.{fits-room, middles-done, middles-not}
 use Rattle.cell.proofs.middles.middles_in.Statement.{statement}
 use Rattle.cell.proofs.middles.middles_in.Tie as tie
-use Rattle.cell.proofs.middles.middles_in.Reads as reads
-use Rattle.cell.proofs.middles.middles_in.Lts as lts
-use Rattle.cell.proofs.middles.has_room.Reads as has-room-reads
-use Rattle.cell.proofs.middles.write_all.Reads as write-all-reads
-use Rattle.cell.proofs.routes.crossings_of.Reads as crossings-of-reads
-use Rattle.cell.proofs.walks.clear.Reads as clear-reads
-use Rattle.cell.proofs.walks.wipe.Reads as wipe-reads
 
--- src/middles.rt:173:8
+crossings-of-requires : tie.Need-crossings-of-requires
+crossings-of-requires c κs = tt
+
 has-room-requires : tie.Need-has-room-requires
-has-room-requires c κs = search needs
+has-room-requires c κs = tt
 
--- src/middles.rt:174:9
 write-all-requires : tie.Need-write-all-requires
-write-all-requires c κs = ?
+write-all-requires c κs = (search needs, fits-room (c .before .before .before .before .before .before .before .before .before .before .before .args .c) (now (c .before .before .before .before .before .before .before .before .before .before .before .args .area)) (c .before .before .before .before .before .before .before .before .before .before .before .args .at) (sym (c .before .before .before .before .before .has-room .ensures .0) ∙ c .before .before .before .before .if1 .taken))
 
--- src/middles.rt:174:9
 same-length : tie.Need-same-length
 same-length c = search needs
 
--- src/middles.rt:174:9
 returns : tie.Need-returns
-returns c = ?
+returns c = (middles-done (c .before .before .before .before .before .before .before .before .before .before .before .before .before .before .args .c) (now (c .before .before .before .before .before .before .before .before .before .before .before .before .before .before .args .area)) (c .before .before .before .before .before .before .before .before .before .before .before .before .before .before .args .at) (fits-room (c .before .before .before .before .before .before .before .before .before .before .before .before .before .before .args .c) (now (c .before .before .before .before .before .before .before .before .before .before .before .before .before .before .args .area)) (c .before .before .before .before .before .before .before .before .before .before .before .before .before .before .args .at) (sym (c .before .before .before .before .before .before .before .before .has-room .ensures .0) ∙ c .before .before .before .before .before .before .before .if1 .taken)) (c .before .before .write-all .ensures .0), let C = c .before .before .write-all .ensures .1 in used-cleared (record { marks-long = omega (arith, c .before .before .before .before .before .before .before .before .before .before .before .before .crossings-of .ensures); halves-long = omega (arith, c .before .before .before .before .before .before .before .before .before .before .before .before .crossings-of .ensures); points-long = omega (arith, c .before .before .before .before .before .before .before .before .before .before .before .before .crossings-of .ensures) }) (c .before .before .before .before .before .before .before .before .has-room .ensures .1) refl (C .marks-are) (C .halves-are) (C .points-are))
 
--- src/middles.rt:176:9
-crossings-of-requires : tie.Need-crossings-of-requires
-crossings-of-requires c κs = search needs
-
--- src/middles.rt:177:5
 clear-requires : tie.Need-clear-requires
 clear-requires c κs = search needs
 
--- src/middles.rt:178:5
 wipe-requires : tie.Need-wipe-requires
 wipe-requires c κs = search needs
 
--- src/middles.rt:162:1
 returns-2 : tie.Need-returns-2
-returns-2 c = ?
+returns-2 c = (middles-not (c .before .before .before .before .before .before .before .before .before .before .before .before .args .c) (now (c .before .before .before .before .before .before .before .before .before .before .before .before .args .area)) (c .before .before .before .before .before .before .before .before .before .before .before .before .args .at) (sym (c .before .before .before .before .before .before .has-room .ensures .0) ∙ c .before .before .before .before .before .if1 .left), used-cleared (record { marks-long = omega (arith, c .before .before .before .before .before .before .before .before .before .before .crossings-of .ensures); halves-long = omega (arith, c .before .before .before .before .before .before .before .before .before .before .crossings-of .ensures); points-long = omega (arith, c .before .before .before .before .before .before .before .before .before .before .crossings-of .ensures) }) (c .before .before .before .before .before .before .has-room .ensures .1) (c .before .before .before .before .before .before .before .before .before .before .crossings-of .ensures .0) (c .before .before .before .clear .ensures) (c .wipe .ensures .0) (c .wipe .ensures .1))
 
 pub middles-in-spec : {M : Type 1} → statement M
 middles-in-spec =
     tie.close
     (tie.spec
+    crossings-of-requires
     has-room-requires
     write-all-requires
     same-length
     returns
-    crossings-of-requires
     clear-requires
     wipe-requires
     returns-2)

@@ -7,7 +7,7 @@ use Rattle.counting.proofs.Stored.{stored-none, stored-long}
 use Rattle.place.specs.Place.{coordinates}
 use Rattle.cell.proofs.Using.{cleared-same}
 use Rattle.cell.proofs.Going.{Going, going-start, going-long, going-lent, going-more, going-looped, going-part, going-cleared}
-use Rattle.cell.proofs.Fans.{middleOf, middle-room, middle-next, middles-all}
+use Rattle.cell.proofs.Fans.{long-few, middleOf, middle-room, middle-next, middles-all}
 use Rattle.cell.proofs.middles.write_all.Statement.{statement}
 use Rattle.cell.proofs.middles.write_all.Tie as tie
 
@@ -24,11 +24,11 @@ routes-of-requires : tie.Need-routes-of-requires Inv-loop μ-loop
 routes-of-requires c κs = tt
 
 clear-requires : tie.Need-clear-requires Inv-loop μ-loop
-clear-requires c κs = omega (arith, c .before .before .before .before .before .before .before .pre .0 .marks-long, c .before .before .crossings-of .ensures .0)
+clear-requires c κs = omega (arith, c .before .before .before .before .before .before .before .pre .0 .marks-long, c .before .before .crossings-of .ensures .1)
 
 loop-holds : tie.Need-loop-holds Inv-loop μ-loop
 unfolding over
-loop-holds c = (going-start _ (c .before .before .before .before .before .crossings-of .ensures) (c .before .before .before .before .routes-of .ensures) (rw (c .before .before .before .before .before .crossings-of .ensures .0) (c .before .before .before .before .before .before .before .before .before .before .pre .0)) (c .before .before .clear .ensures), stored-none _ _)
+loop-holds c = (going-start _ (c .before .before .before .before .before .crossings-of .ensures) (c .before .before .before .before .routes-of .ensures) (long-few (c .before .before .before .before .before .before .before .before .before .before .pre .0) (c .before .before .before .before .before .crossings-of .ensures .1)) (c .before .before .clear .ensures), stored-none _ _)
 
 walk-requires : tie.Need-walk-requires Inv-loop μ-loop
 walk-requires c κs = going-lent (c .before .before .before .before .before .loop .inv .0) (omega arith)
@@ -70,19 +70,19 @@ wipe-requires : tie.Need-wipe-requires Inv-loop μ-loop
 wipe-requires c κs = let L = going-long (c .before .before .before .before .before .before .before .loop .inv .0) in (L .halves-long, L .points-long)
 
 same-length : tie.Need-same-length Inv-loop μ-loop
-same-length c = cleared-same (going-cleared (c .before .before .before .before .before .before .before .before .before .before .before .before .loop .inv .0) (omega (arith, c .before .before .before .before .before .before .before .before .before .before .before .before .before .before .before .before .before .before .before .before .before .before .before .pre .0 .marks-long, c .before .before .before .before .before .before .before .before .before .before .before .before .before .before .before .before .before .before .crossings-of .ensures .0)) (c .before .before .before .before .before .before .before .before .before .before .before .before .before .before .before .clear .ensures) (c .before .before .before .before .before .before .before .before .before .clear2 .ensures) (c .before .before .before .before .wipe .ensures .0) (c .before .before .before .before .wipe .ensures .1)) .0
+same-length c = cleared-same (going-cleared (c .before .before .before .before .before .before .before .before .before .before .before .before .loop .inv .0) (omega (arith, c .before .before .before .before .before .before .before .before .before .before .before .before .before .before .before .before .before .before .before .before .before .before .before .pre .0 .marks-long, c .before .before .before .before .before .before .before .before .before .before .before .before .before .before .before .before .before .before .crossings-of .ensures .1)) (c .before .before .before .before .before .before .before .before .before .before .before .before .before .before .before .clear .ensures) (c .before .before .before .before .before .before .before .before .before .clear2 .ensures) (c .before .before .before .before .wipe .ensures .0) (c .before .before .before .before .wipe .ensures .1)) .0
 
 same-length-2 : tie.Need-same-length-2 Inv-loop μ-loop
-same-length-2 c = cleared-same (going-cleared (c .before .before .before .before .before .before .before .before .before .before .before .before .loop .inv .0) (omega (arith, c .before .before .before .before .before .before .before .before .before .before .before .before .before .before .before .before .before .before .before .before .before .before .before .pre .0 .marks-long, c .before .before .before .before .before .before .before .before .before .before .before .before .before .before .before .before .before .before .crossings-of .ensures .0)) (c .before .before .before .before .before .before .before .before .before .before .before .before .before .before .before .clear .ensures) (c .before .before .before .before .before .before .before .before .before .clear2 .ensures) (c .before .before .before .before .wipe .ensures .0) (c .before .before .before .before .wipe .ensures .1)) .1
+same-length-2 c = cleared-same (going-cleared (c .before .before .before .before .before .before .before .before .before .before .before .before .loop .inv .0) (omega (arith, c .before .before .before .before .before .before .before .before .before .before .before .before .before .before .before .before .before .before .before .before .before .before .before .pre .0 .marks-long, c .before .before .before .before .before .before .before .before .before .before .before .before .before .before .before .before .before .before .crossings-of .ensures .1)) (c .before .before .before .before .before .before .before .before .before .before .before .before .before .before .before .clear .ensures) (c .before .before .before .before .before .before .before .before .before .clear2 .ensures) (c .before .before .before .before .wipe .ensures .0) (c .before .before .before .before .wipe .ensures .1)) .1
 
 same-length-3 : tie.Need-same-length-3 Inv-loop μ-loop
-same-length-3 c = cleared-same (going-cleared (c .before .before .before .before .before .before .before .before .before .before .before .before .loop .inv .0) (omega (arith, c .before .before .before .before .before .before .before .before .before .before .before .before .before .before .before .before .before .before .before .before .before .before .before .pre .0 .marks-long, c .before .before .before .before .before .before .before .before .before .before .before .before .before .before .before .before .before .before .crossings-of .ensures .0)) (c .before .before .before .before .before .before .before .before .before .before .before .before .before .before .before .clear .ensures) (c .before .before .before .before .before .before .before .before .before .clear2 .ensures) (c .before .before .before .before .wipe .ensures .0) (c .before .before .before .before .wipe .ensures .1)) .2
+same-length-3 c = cleared-same (going-cleared (c .before .before .before .before .before .before .before .before .before .before .before .before .loop .inv .0) (omega (arith, c .before .before .before .before .before .before .before .before .before .before .before .before .before .before .before .before .before .before .before .before .before .before .before .pre .0 .marks-long, c .before .before .before .before .before .before .before .before .before .before .before .before .before .before .before .before .before .before .crossings-of .ensures .1)) (c .before .before .before .before .before .before .before .before .before .before .before .before .before .before .before .clear .ensures) (c .before .before .before .before .before .before .before .before .before .clear2 .ensures) (c .before .before .before .before .wipe .ensures .0) (c .before .before .before .before .wipe .ensures .1)) .2
 
 same-length-4 : tie.Need-same-length-4 Inv-loop μ-loop
 same-length-4 c = stored-long (c .before .before .before .before .before .before .before .before .before .before .before .before .loop .inv .1)
 
 returns : tie.Need-returns Inv-loop μ-loop
-returns c = (middles-all (c .before .before .before .before .before .before .before .before .before .before .before .before .before .before .before .before .before .before .before .before .before .before .before .args .c) (now (c .before .before .before .before .before .before .before .before .before .before .before .before .before .before .before .before .before .before .before .before .before .before .before .args .area)) (c .before .before .before .before .before .before .before .before .before .before .before .before .before .before .before .before .before .before .before .before .before .before .before .args .at) (c .before .before .before .before .before .before .before .before .before .before .before .before .before .before .before .before .before .before .before .before .before .before .before .pre .1) (c .before .before .before .before .before .before .before .before .before .before .before .before .loop .inv .1) (omega (arith, c .before .before .before .before .before .before .before .before .before .before .before .before .loop .inv .0 .up, c .before .before .before .before .before .before .before .before .before .before .before .before .loop .inv .0 .all)), going-cleared (c .before .before .before .before .before .before .before .before .before .before .before .before .loop .inv .0) (omega (arith, c .before .before .before .before .before .before .before .before .before .before .before .before .before .before .before .before .before .before .before .before .before .before .before .pre .0 .marks-long, c .before .before .before .before .before .before .before .before .before .before .before .before .before .before .before .before .before .before .crossings-of .ensures .0)) (c .before .before .before .before .before .before .before .before .before .before .before .before .before .before .before .clear .ensures) (c .before .before .before .before .before .before .before .before .before .clear2 .ensures) (c .before .before .before .before .wipe .ensures .0) (c .before .before .before .before .wipe .ensures .1))
+returns c = (middles-all (c .before .before .before .before .before .before .before .before .before .before .before .before .before .before .before .before .before .before .before .before .before .before .before .args .c) (now (c .before .before .before .before .before .before .before .before .before .before .before .before .before .before .before .before .before .before .before .before .before .before .before .args .area)) (c .before .before .before .before .before .before .before .before .before .before .before .before .before .before .before .before .before .before .before .before .before .before .before .args .at) (c .before .before .before .before .before .before .before .before .before .before .before .before .before .before .before .before .before .before .before .before .before .before .before .pre .1) (c .before .before .before .before .before .before .before .before .before .before .before .before .loop .inv .1) (omega (arith, c .before .before .before .before .before .before .before .before .before .before .before .before .loop .inv .0 .up, c .before .before .before .before .before .before .before .before .before .before .before .before .loop .inv .0 .all)), going-cleared (c .before .before .before .before .before .before .before .before .before .before .before .before .loop .inv .0) (omega (arith, c .before .before .before .before .before .before .before .before .before .before .before .before .before .before .before .before .before .before .before .before .before .before .before .pre .0 .marks-long, c .before .before .before .before .before .before .before .before .before .before .before .before .before .before .before .before .before .before .crossings-of .ensures .1)) (c .before .before .before .before .before .before .before .before .before .before .before .before .before .before .before .clear .ensures) (c .before .before .before .before .before .before .before .before .before .clear2 .ensures) (c .before .before .before .before .wipe .ensures .0) (c .before .before .before .before .wipe .ensures .1))
 
 pub write-all-spec : {M : Type 1} → statement M
 write-all-spec =
