@@ -13,7 +13,7 @@ use Rattle.cell.specs.Of.{edgesOf}
 use Rattle.cell.specs.Route.{mostInCell, Routed}
 use Rattle.cell.specs.Scratch.{unmarked, halvesFrom, pointsFrom, Cleared}
 use Rattle.cell.specs.Walked.{Marked, Long, Used, Lent, Walked}
-use Rattle.cell.proofs.Using.{kept-then, filled-same, kept-filled, filled-kept, used-none, used-then}
+use Rattle.cell.proofs.Using.{kept-then, filled-same, kept-filled, used-cleared, used-none, used-then}
 use Rattle.cell.proofs.Walking.{cleared}
 use Rattle.cell.proofs.Loops.{size-le, length-halves, length-points}
 
@@ -66,11 +66,14 @@ module _ {c : Cell} {n : ℕ} {routes ms₀ hs₀ ps₀ ms hs ps : List ℕ} {p 
   -- the arrays are cleared to ms′, hs′, ps′; the marks were cleared before the walks
   pub going-cleared : {was ms′ hs′ ps′ : List ℕ} → n ≤ length was → ms₀ ≡ filled (λ i. unmarked) n was
       → ms′ ≡ filled (λ i. unmarked) n ms → hs′ ≡ filled (λ i. 0) n hs → ps′ ≡ filled (λ i. 0) n ps → Cleared c was hs₀ ps₀ ms′ hs′ ps′
-  going-cleared {was} h q a b d = record {
-    marks-are = rw (← G .all) (a ∙ filled-kept (λ i. unmarked) n (kept-then (rw q (kept-filled (λ i. unmarked) n was h)) (G .used .marks-kept)) h);
-    halves-are = rw (← G .all) (b ∙ filled-kept (λ i. 0) n (G .used .halves-kept) (G .long .halves-long));
-    points-are = rw (← G .all) (d ∙ filled-kept (λ i. 0) n (G .used .points-kept) (G .long .points-long));
-  }
+  going-cleared {was} h q a b d =
+      used-cleared
+      (record { all = G .all; few = G .few; long = record { marks-long = h; halves-long = G .long .halves-long; points-long = G .long .points-long } })
+      (record {
+        marks-kept = kept-then (rw q (kept-filled (λ i. unmarked) n was h)) (G .used .marks-kept);
+        halves-kept = G .used .halves-kept;
+        points-kept = G .used .points-kept;
+      }) a b d
 
   -- the next walk is from p
   module _ (l : p < n) where

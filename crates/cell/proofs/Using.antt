@@ -14,7 +14,7 @@ use Rattle.cell.specs.declared.Cell.{Cell}
 use Rattle.cell.specs.Cell.{crossings}
 use Rattle.cell.specs.Of.{edgesOf}
 use Rattle.cell.specs.Scratch.{unmarked, Cleared}
-use Rattle.cell.specs.Walked.{Kept, Long, Used}
+use Rattle.cell.specs.Walked.{Kept, Room, Used}
 
 pub kept-none : (n : ℕ) (l : List ℕ) → Kept n l l
 kept-none n l = record { long = refl; back = refl }
@@ -51,23 +51,23 @@ module _ {n : ℕ} {ms hs ps ms′ hs′ ps′ : List ℕ} (U : Used n ms hs ps 
 pub used-none : (n : ℕ) (ms hs ps : List ℕ) → Used n ms hs ps ms hs ps
 used-none n ms hs ps = record { marks-kept = kept-none n ms; halves-kept = kept-none n hs; points-kept = kept-none n ps }
 
-module _ {c : Cell} {ms hs ps ms′ hs′ ps′ : List ℕ} (L : Long (crossings (edgesOf c)) ms hs ps) where
+module _ {c : Cell} {n : ℕ} {ms hs ps ms′ hs′ ps′ : List ℕ} (R : Room c n ms hs ps) where
   -- arrays that were used are cleared
-  pub used-cleared : Used (crossings (edgesOf c)) ms hs ps ms′ hs′ ps′ → {n : ℕ} → n ≡ crossings (edgesOf c) → {ms″ hs″ ps″ : List ℕ}
+  pub used-cleared : Used n ms hs ps ms′ hs′ ps′ → {ms″ hs″ ps″ : List ℕ}
       → ms″ ≡ filled (λ i. unmarked) n ms′ → hs″ ≡ filled (λ i. 0) n hs′ → ps″ ≡ filled (λ i. 0) n ps′ → Cleared c ms hs ps ms″ hs″ ps″
-  used-cleared U e a b d = record {
-    marks-are = a ∙ rw e (filled-kept (λ i. unmarked) (crossings (edgesOf c)) (U .marks-kept) (L .marks-long));
-    halves-are = b ∙ rw e (filled-kept (λ i. 0) (crossings (edgesOf c)) (U .halves-kept) (L .halves-long));
-    points-are = d ∙ rw e (filled-kept (λ i. 0) (crossings (edgesOf c)) (U .points-kept) (L .points-long));
+  used-cleared U a b d = record {
+    marks-are = rw (← R .all) (a ∙ filled-kept (λ i. unmarked) n (U .marks-kept) (R .long .marks-long));
+    halves-are = rw (← R .all) (b ∙ filled-kept (λ i. 0) n (U .halves-kept) (R .long .halves-long));
+    points-are = rw (← R .all) (d ∙ filled-kept (λ i. 0) n (U .points-kept) (R .long .points-long));
   }
 
   -- and are used, where they are cleared
-  pub cleared-used : Cleared c ms hs ps ms′ hs′ ps′ → Used (crossings (edgesOf c)) ms hs ps ms′ hs′ ps′
-  cleared-used C = record {
-    marks-kept = rw (C .marks-are) (kept-filled (λ i. unmarked) (crossings (edgesOf c)) ms (L .marks-long));
-    halves-kept = rw (C .halves-are) (kept-filled (λ i. 0) (crossings (edgesOf c)) hs (L .halves-long));
-    points-kept = rw (C .points-are) (kept-filled (λ i. 0) (crossings (edgesOf c)) ps (L .points-long));
-  }
+  pub cleared-used : Cleared c ms hs ps ms′ hs′ ps′ → Used n ms hs ps ms′ hs′ ps′
+  cleared-used C = rw (R .all) (record {
+    marks-kept = rw (C .marks-are) (kept-filled (λ i. unmarked) (crossings (edgesOf c)) ms (omega (arith, R .all, R .long .marks-long)));
+    halves-kept = rw (C .halves-are) (kept-filled (λ i. 0) (crossings (edgesOf c)) hs (omega (arith, R .all, R .long .halves-long)));
+    points-kept = rw (C .points-are) (kept-filled (λ i. 0) (crossings (edgesOf c)) ps (omega (arith, R .all, R .long .points-long)));
+  })
 
 -- clearing changes no length
 pub cleared-same : {c : Cell} {ms hs ps ms′ hs′ ps′ : List ℕ} → Cleared c ms hs ps ms′ hs′ ps′ → (length ms′ ≡ length ms) × (length hs′ ≡ length hs) × (length ps′ ≡ length ps)

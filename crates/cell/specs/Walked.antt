@@ -9,7 +9,7 @@ use Rattle.cell.specs.declared.Dart.{Dart}
 use Rattle.cell.specs.Cell.{Edges, crossings, edge, step}
 use Rattle.cell.specs.Loop.{loopSize}
 use Rattle.cell.specs.Of.{edgesOf}
-use Rattle.cell.specs.Route.{Routed}
+use Rattle.cell.specs.Route.{mostInCell, Routed}
 use Rattle.cell.specs.Dart.{IsDart, dartOf}
 use Rattle.cell.specs.Scratch.{halvesFrom, pointsFrom}
 
@@ -44,6 +44,12 @@ pub record Used (n : ℕ) (marks halves points marks′ halves′ points′ : Li
   pub marks-kept : Kept n marks marks′
   pub halves-kept : Kept n halves halves′
   pub points-kept : Kept n points points′
+
+-- what the walks from all crossings of the cell are given: how many these are, and room for so many
+pub record Room (c : Cell) (n : ℕ) (marks halves points : List ℕ) : Type 0 where
+  pub all : n ≡ crossings (edgesOf c)
+  pub few : n ≤ mostInCell
+  pub long : Long n marks halves points
 
 -- what the walk from p is given: the cell's routes, sound marks, and room for as many darts as the cell has crossings
 pub record Lent (c : Cell) (routes : List ℕ) (n p : ℕ) (marks halves points : List ℕ) : Type 0 where

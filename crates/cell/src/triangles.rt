@@ -5,12 +5,11 @@ ghost use Prim.Native.Nat.{_+_, _*_, _≤_};
 ghost use lib.Dec.{leb};
 ghost use lib.ListN.{length};
 ghost use lib.Seq.{sets};
-ghost use Rattle.cell.specs.Cell.{crossings};
 ghost use Rattle.cell.specs.Route.{mostInCell};
 ghost use Rattle.cell.specs.Scratch.{Cleared};
-ghost use Rattle.cell.specs.Walked.{Long, Used};
+ghost use Rattle.cell.specs.Walked.{Room, Used};
 ghost use Rattle.cell.specs.Words.{wordCount, allWords};
-ghost use Rattle.cell.specs.Triangles.{edgesOf, cellTriangles};
+ghost use Rattle.cell.specs.Triangles.{cellTriangles};
 ghost use Rattle.cell.specs.Nth.{nthOf, nthNumbers, nthAnswer};
 ghost use Rattle.cell.specs.Fits.{nextAt, areaThen};
 use super::Cell;
@@ -27,13 +26,12 @@ use super::walks::wipe;
 use super::words::WORD_COUNT;
 use super::write::write_loop;
 
-// How many triangles the cell has.
-fn count(c: Cell, marks: &mut [u16], halves: &mut [u8], points: &mut [u32]) -> usize
-    requires { ⌜ Long (crossings (edgesOf c)) (now marks) (now halves) (now points) ⌝ }
+// How many triangles the cell has, which has n crossings.
+fn count(c: Cell, n: usize, marks: &mut [u16], halves: &mut [u8], points: &mut [u32]) -> usize
+    requires { ⌜ Room c n (now marks) (now halves) (now points) ⌝ }
     ensures { λ r. ⌜ (r ≡ length (cellTriangles c)) × (r ≤ mostInCell) ⌝ }
     ensures { λ _. ⌜ Cleared c (now (marks .entry)) (now (halves .entry)) (now (points .entry)) (now (marks .exit)) (now (halves .exit)) (now (points .exit)) ⌝ }
 {
-    let n = crossings_of(c);
     let routes = routes_of(c);
     clear(marks, n);
     let mut t: usize = 0;
@@ -52,18 +50,18 @@ fn count(c: Cell, marks: &mut [u16], halves: &mut [u8], points: &mut [u32]) -> u
 // Writes the words of the triangles, which have room from index `at` on, and answers the next index.
 fn write_all(
     c: Cell,
+    n: usize,
     marks: &mut [u16],
     halves: &mut [u8],
     points: &mut [u32],
     area: &mut [u32],
     at: usize,
 ) -> usize
-    requires { ⌜ Long (crossings (edgesOf c)) (now marks) (now halves) (now points) ⌝ }
+    requires { ⌜ Room c n (now marks) (now halves) (now points) ⌝ }
     requires { ⌜ at + wordCount * length (cellTriangles c) ≤ length (now area) ⌝ }
     ensures { λ r. ⌜ (r ≡ at + wordCount * length (cellTriangles c)) × (now (area .exit) ≡ sets (now (area .entry)) at (allWords (cellTriangles c))) ⌝ }
     ensures { λ _. ⌜ Cleared c (now (marks .entry)) (now (halves .entry)) (now (points .entry)) (now (marks .exit)) (now (halves .exit)) (now (points .exit)) ⌝ }
 {
-    let n = crossings_of(c);
     let routes = routes_of(c);
     clear(marks, n);
     let mut i = at;
@@ -90,29 +88,32 @@ pub fn count_in(
     ensures { λ r. ⌜ (r ≡ length (cellTriangles c)) × (r ≤ mostInCell) ⌝ }
     ensures { λ _. ⌜ Cleared c (now (marks .entry)) (now (halves .entry)) (now (points .entry)) (now (marks .exit)) (now (halves .exit)) (now (points .exit)) ⌝ }
 {
-    count(c, marks, halves, points)
+    let n = crossings_of(c);
+    count(c, n, marks, halves, points)
 }
 
 // Whether the words of the triangles have room from index `at` on in an area of `room` words. A cell has no more triangles than crossings, so that
 // they are counted only where there is not room for so many.
 fn has_room(
     c: Cell,
-    marks: &mut [u16; MOST_IN_CELL],
-    halves: &mut [u8; MOST_IN_CELL],
-    points: &mut [u32; MOST_IN_CELL],
+    n: usize,
+    marks: &mut [u16],
+    halves: &mut [u8],
+    points: &mut [u32],
     room: usize,
     at: usize,
 ) -> bool
+    requires { ⌜ Room c n (now marks) (now halves) (now points) ⌝ }
     ensures { λ r. ⌜ r ≡ leb (at + wordCount * length (cellTriangles c)) room ⌝ }
-    ensures { λ _. ⌜ Used (crossings (edgesOf c)) (now (marks .entry)) (now (halves .entry)) (now (points .entry)) (now (marks .exit)) (now (halves .exit)) (now (points .exit)) ⌝ }
+    ensures { λ _. ⌜ Used n (now (marks .entry)) (now (halves .entry)) (now (points .entry)) (now (marks .exit)) (now (halves .exit)) (now (points .exit)) ⌝ }
 {
     if room < at {
         return false;
     }
-    if WORD_COUNT * crossings_of(c) <= room - at {
+    if WORD_COUNT * n <= room - at {
         return true;
     }
-    let t = count(c, marks, halves, points);
+    let t = count(c, n, marks, halves, points);
     WORD_COUNT * t <= room - at
 }
 
@@ -129,10 +130,10 @@ pub fn write_in(
     ensures { λ r. ⌜ (r ≡ nextAt c (now (area .entry)) at) × (now (area .exit) ≡ areaThen c (now (area .entry)) at) ⌝ }
     ensures { λ _. ⌜ Cleared c (now (marks .entry)) (now (halves .entry)) (now (points .entry)) (now (marks .exit)) (now (halves .exit)) (now (points .exit)) ⌝ }
 {
-    if has_room(c, marks, halves, points, area.len(), at) {
-        return write_all(c, marks, halves, points, area, at);
-    }
     let n = crossings_of(c);
+    if has_room(c, n, marks, halves, points, area.len(), at) {
+        return write_all(c, n, marks, halves, points, area, at);
+    }
     clear(marks, n);
     wipe(halves, points, n);
     at

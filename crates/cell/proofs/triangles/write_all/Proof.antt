@@ -10,7 +10,6 @@ use Rattle.cell.proofs.Cells.{wordsAt, written-all, written-room, writt
 use Rattle.cell.proofs.triangles.write_all.Statement.{statement}
 use Rattle.cell.proofs.triangles.write_all.Tie as tie
 use Rattle.cell.proofs.make.in_two.Reads as in-two-reads
-use Rattle.cell.proofs.routes.crossings_of.Reads as crossings-of-reads
 use Rattle.cell.proofs.routes.routes_of.Reads as routes-of-reads
 use Rattle.cell.proofs.walks.clear.Reads as clear-reads
 use Rattle.cell.proofs.walks.walk.Reads as walk-reads
@@ -18,23 +17,20 @@ use Rattle.cell.proofs.walks.wipe.Reads as wipe-reads
 use Rattle.cell.proofs.write.write_loop.Reads as write-loop-reads
 
 abbrev Inv-loop : tie.InvT-loop
-Inv-loop c marks₀ halves₀ points₀ area₀ at n routes i₀ p₀ marks halves points area i p = Going c n routes marks₀ halves₀ points₀ marks halves points p × Stored area₀ at (over (wordsAt c) p 0) area i
+Inv-loop c n marks₀ halves₀ points₀ area₀ at routes i₀ p₀ marks halves points area i p = Going c n routes marks₀ halves₀ points₀ marks halves points p × Stored area₀ at (over (wordsAt c) p 0) area i
 
 abbrev μ-loop : tie.MeasureT-loop
-μ-loop c marks₀ halves₀ points₀ area₀ at n routes i₀ p₀ marks halves points area i p = n - p
-
-crossings-of-requires : tie.Need-crossings-of-requires Inv-loop μ-loop
-crossings-of-requires c κs = tt
+μ-loop c n marks₀ halves₀ points₀ area₀ at routes i₀ p₀ marks halves points area i p = n - p
 
 routes-of-requires : tie.Need-routes-of-requires Inv-loop μ-loop
 routes-of-requires c κs = tt
 
 clear-requires : tie.Need-clear-requires Inv-loop μ-loop
-clear-requires c κs = omega (arith, c .before .before .before .before .before .before .before .pre .0 .marks-long, c .before .before .crossings-of .ensures .0)
+clear-requires c κs = c .before .before .before .before .before .before .pre .0 .long .marks-long
 
 loop-holds : tie.Need-loop-holds Inv-loop μ-loop
 unfolding over
-loop-holds c = (going-start _ (c .before .before .before .before .before .crossings-of .ensures) (c .before .before .before .before .routes-of .ensures) (rw (c .before .before .before .before .before .crossings-of .ensures .0) (c .before .before .before .before .before .before .before .before .before .before .pre .0)) (c .before .before .clear .ensures), stored-none _ _)
+loop-holds c = (going-start _ (c .before .before .before .before .before .before .before .before .before .pre .0 .all, c .before .before .before .before .before .before .before .before .before .pre .0 .few) (c .before .before .before .before .routes-of .ensures) (c .before .before .before .before .before .before .before .before .before .pre .0 .long) (c .before .before .clear .ensures), stored-none _ _)
 
 walk-requires : tie.Need-walk-requires Inv-loop μ-loop
 walk-requires c κs = going-lent (c .before .before .before .before .before .loop .inv .0) (omega arith)
@@ -70,7 +66,7 @@ part-write-loop-end-2 : tie.Need-part-write-loop-end-2 Inv-loop μ-loop
 part-write-loop-end-2 c = going-part (c .before .before .before .before .before .before .before .before .before .before .before .before .before .before .before .before .before .before .loop .inv .0) (omega arith) (c .before .before .before .before .before .before .before .before .before .before .before .before .walk .ensures) .1
 
 write-loop-requires : tie.Need-write-loop-requires Inv-loop μ-loop
-write-loop-requires c κs = let L = going-looped (c .before .before .before .before .before .before .before .before .before .before .before .before .before .before .before .before .before .before .before .before .loop .inv .0) (omega arith) (c .before .before .before .before .before .before .before .before .before .before .before .before .before .before .walk .ensures) in (looped-traced L, (looped-four L (c .before .before .before .before .before .in-two .ensures), omega (arith, looped-many L (c .before .before .before .before .before .in-two .ensures), written-room _ _ (c .before .before .before .before .before .before .before .before .before .before .before .before .before .before .before .before .before .before .before .before .loop .inv .1) (going-in (c .before .before .before .before .before .before .before .before .before .before .before .before .before .before .before .before .before .before .before .before .loop .inv .0) (omega arith)), stored-long (c .before .before .before .before .before .before .before .before .before .before .before .before .before .before .before .before .before .before .before .before .loop .inv .1), c .before .before .before .before .before .before .before .before .before .before .before .before .before .before .before .before .before .before .before .before .before .before .before .before .before .before .before .before .before .before .before .pre .1)))
+write-loop-requires c κs = let L = going-looped (c .before .before .before .before .before .before .before .before .before .before .before .before .before .before .before .before .before .before .before .before .loop .inv .0) (omega arith) (c .before .before .before .before .before .before .before .before .before .before .before .before .before .before .walk .ensures) in (looped-traced L, (looped-four L (c .before .before .before .before .before .in-two .ensures), omega (arith, looped-many L (c .before .before .before .before .before .in-two .ensures), written-room _ _ (c .before .before .before .before .before .before .before .before .before .before .before .before .before .before .before .before .before .before .before .before .loop .inv .1) (going-in (c .before .before .before .before .before .before .before .before .before .before .before .before .before .before .before .before .before .before .before .before .loop .inv .0) (omega arith)), stored-long (c .before .before .before .before .before .before .before .before .before .before .before .before .before .before .before .before .before .before .before .before .loop .inv .1), c .before .before .before .before .before .before .before .before .before .before .before .before .before .before .before .before .before .before .before .before .before .before .before .before .before .before .before .before .before .before .pre .1)))
 
 add-p : tie.Need-add-p Inv-loop μ-loop
 add-p c = omega (arith, c .before .before .before .before .before .before .before .before .before .before .before .before .before .before .before .before .before .before .before .before .before .before .before .loop .inv .0 .few)
@@ -88,19 +84,19 @@ wipe-requires : tie.Need-wipe-requires Inv-loop μ-loop
 wipe-requires c κs = (going-long (c .before .before .before .before .before .before .before .loop .inv .0) .halves-long, going-long (c .before .before .before .before .before .before .before .loop .inv .0) .points-long)
 
 same-length : tie.Need-same-length Inv-loop μ-loop
-same-length c = cleared-same (going-cleared (c .before .before .before .before .before .before .before .before .before .before .before .before .loop .inv .0) (omega (arith, c .before .before .before .before .before .before .before .before .before .before .before .before .before .before .before .before .before .before .before .before .before .before .before .pre .0 .marks-long, c .before .before .before .before .before .before .before .before .before .before .before .before .before .before .before .before .before .before .crossings-of .ensures .0)) (c .before .before .before .before .before .before .before .before .before .before .before .before .before .before .before .clear .ensures) (c .before .before .before .before .before .before .before .before .before .clear2 .ensures) (c .before .before .before .before .wipe .ensures .0) (c .before .before .before .before .wipe .ensures .1)) .0
+same-length c = cleared-same (going-cleared (c .before .before .before .before .before .before .before .before .before .before .before .before .loop .inv .0) (c .before .before .before .before .before .before .before .before .before .before .before .before .before .before .before .before .before .before .before .before .before .before .pre .0 .long .marks-long) (c .before .before .before .before .before .before .before .before .before .before .before .before .before .before .before .clear .ensures) (c .before .before .before .before .before .before .before .before .before .clear2 .ensures) (c .before .before .before .before .wipe .ensures .0) (c .before .before .before .before .wipe .ensures .1)) .0
 
 same-length-2 : tie.Need-same-length-2 Inv-loop μ-loop
-same-length-2 c = cleared-same (going-cleared (c .before .before .before .before .before .before .before .before .before .before .before .before .loop .inv .0) (omega (arith, c .before .before .before .before .before .before .before .before .before .before .before .before .before .before .before .before .before .before .before .before .before .before .before .pre .0 .marks-long, c .before .before .before .before .before .before .before .before .before .before .before .before .before .before .before .before .before .before .crossings-of .ensures .0)) (c .before .before .before .before .before .before .before .before .before .before .before .before .before .before .before .clear .ensures) (c .before .before .before .before .before .before .before .before .before .clear2 .ensures) (c .before .before .before .before .wipe .ensures .0) (c .before .before .before .before .wipe .ensures .1)) .1
+same-length-2 c = cleared-same (going-cleared (c .before .before .before .before .before .before .before .before .before .before .before .before .loop .inv .0) (c .before .before .before .before .before .before .before .before .before .before .before .before .before .before .before .before .before .before .before .before .before .before .pre .0 .long .marks-long) (c .before .before .before .before .before .before .before .before .before .before .before .before .before .before .before .clear .ensures) (c .before .before .before .before .before .before .before .before .before .clear2 .ensures) (c .before .before .before .before .wipe .ensures .0) (c .before .before .before .before .wipe .ensures .1)) .1
 
 same-length-3 : tie.Need-same-length-3 Inv-loop μ-loop
-same-length-3 c = cleared-same (going-cleared (c .before .before .before .before .before .before .before .before .before .before .before .before .loop .inv .0) (omega (arith, c .before .before .before .before .before .before .before .before .before .before .before .before .before .before .before .before .before .before .before .before .before .before .before .pre .0 .marks-long, c .before .before .before .before .before .before .before .before .before .before .before .before .before .before .before .before .before .before .crossings-of .ensures .0)) (c .before .before .before .before .before .before .before .before .before .before .before .before .before .before .before .clear .ensures) (c .before .before .before .before .before .before .before .before .before .clear2 .ensures) (c .before .before .before .before .wipe .ensures .0) (c .before .before .before .before .wipe .ensures .1)) .2
+same-length-3 c = cleared-same (going-cleared (c .before .before .before .before .before .before .before .before .before .before .before .before .loop .inv .0) (c .before .before .before .before .before .before .before .before .before .before .before .before .before .before .before .before .before .before .before .before .before .before .pre .0 .long .marks-long) (c .before .before .before .before .before .before .before .before .before .before .before .before .before .before .before .clear .ensures) (c .before .before .before .before .before .before .before .before .before .clear2 .ensures) (c .before .before .before .before .wipe .ensures .0) (c .before .before .before .before .wipe .ensures .1)) .2
 
 same-length-4 : tie.Need-same-length-4 Inv-loop μ-loop
 same-length-4 c = stored-long (c .before .before .before .before .before .before .before .before .before .before .before .before .loop .inv .1)
 
 returns : tie.Need-returns Inv-loop μ-loop
-returns c = (written-all _ _ (c .before .before .before .before .before .before .before .before .before .before .before .before .loop .inv .1) (omega (arith, c .before .before .before .before .before .before .before .before .before .before .before .before .loop .inv .0 .up, c .before .before .before .before .before .before .before .before .before .before .before .before .loop .inv .0 .all)), going-cleared (c .before .before .before .before .before .before .before .before .before .before .before .before .loop .inv .0) (omega (arith, c .before .before .before .before .before .before .before .before .before .before .before .before .before .before .before .before .before .before .before .before .before .before .before .pre .0 .marks-long, c .before .before .before .before .before .before .before .before .before .before .before .before .before .before .before .before .before .before .crossings-of .ensures .0)) (c .before .before .before .before .before .before .before .before .before .before .before .before .before .before .before .clear .ensures) (c .before .before .before .before .before .before .before .before .before .clear2 .ensures) (c .before .before .before .before .wipe .ensures .0) (c .before .before .before .before .wipe .ensures .1))
+returns c = (written-all _ _ (c .before .before .before .before .before .before .before .before .before .before .before .before .loop .inv .1) (omega (arith, c .before .before .before .before .before .before .before .before .before .before .before .before .loop .inv .0 .up, c .before .before .before .before .before .before .before .before .before .before .before .before .loop .inv .0 .all)), going-cleared (c .before .before .before .before .before .before .before .before .before .before .before .before .loop .inv .0) (c .before .before .before .before .before .before .before .before .before .before .before .before .before .before .before .before .before .before .before .before .before .before .pre .0 .long .marks-long) (c .before .before .before .before .before .before .before .before .before .before .before .before .before .before .before .clear .ensures) (c .before .before .before .before .before .before .before .before .before .clear2 .ensures) (c .before .before .before .before .wipe .ensures .0) (c .before .before .before .before .wipe .ensures .1))
 
 pub write-all-spec : {M : Type 1} → statement M
 write-all-spec =
@@ -108,7 +104,6 @@ write-all-spec =
     (tie.spec
     Inv-loop
     μ-loop
-    crossings-of-requires
     routes-of-requires
     clear-requires
     loop-holds
