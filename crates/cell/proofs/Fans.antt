@@ -31,15 +31,10 @@ use Rattle.cell.specs.Loop.{loopSize, dart, normal, inGrid}
 use Rattle.cell.specs.Round.{foldsIn}
 use Rattle.cell.specs.Route.{mostInCell}
 use Rattle.cell.specs.Triangles.{numberOf}
-use Rattle.cell.specs.Walked.{Long}
 use Rattle.cell.specs.Middles.{isFan, loopPoint, fanCount, loopMiddle, cellMiddles, numberedBelow, middlesAt, pointsThen, nextPoint, recordedFan, recordedMiddle, MiddlesRoom}
 use Rattle.cell.proofs.Lay.{lay}
 use Rattle.cell.proofs.Loops.{from-point, normal-is, dart-live}
 use Rattle.cell.proofs.Going.{Looped, looped-halves, looped-points}
-
--- the arrays have room for the darts of a cell
-pub long-few : {m n : ℕ} {marks halves points : List ℕ} → Long m marks halves points → n ≤ m → Long n marks halves points
-long-few L h = record { marks-long = omega (arith, L .marks-long); halves-long = omega (arith, L .halves-long); points-long = omega (arith, L .points-long) }
 
 -- the cases of the code
 module _ (halves : List ℕ) where

@@ -7,11 +7,9 @@ ghost use lib.ListN.{length};
 ghost use Rattle.counting.specs.Pick.{one};
 ghost use Rattle.counting.specs.Stored.{Stored};
 ghost use Rattle.place.specs.Place.{coordinates, placeAt, allNumbers};
-ghost use Rattle.cell.specs.Cell.{crossings};
-ghost use Rattle.cell.specs.Of.{edgesOf};
 ghost use Rattle.cell.specs.Route.{mostInCell};
 ghost use Rattle.cell.specs.Scratch.{Cleared};
-ghost use Rattle.cell.specs.Walked.{Long, Used};
+ghost use Rattle.cell.specs.Walked.{Room, Used};
 ghost use Rattle.cell.specs.Middles.{fanCount, cellMiddles, numberedBelow, pointsThen, nextPoint, recordedFan, recordedMiddle, MiddlesRoom};
 use super::Cell;
 use super::MOST_IN_CELL;
@@ -53,13 +51,12 @@ fn put_middle(halves: &[u8], points: &[u32], area: &mut [f64], at: usize) -> usi
     at + 1
 }
 
-// How many fans the cell has.
-fn count(c: Cell, marks: &mut [u16], halves: &mut [u8], points: &mut [u32]) -> usize
-    requires { ⌜ Long mostInCell (now marks) (now halves) (now points) ⌝ }
+// How many fans the cell has, which has n crossings.
+fn count(c: Cell, n: usize, marks: &mut [u16], halves: &mut [u8], points: &mut [u32]) -> usize
+    requires { ⌜ Room c n (now marks) (now halves) (now points) ⌝ }
     ensures { λ r. ⌜ (r ≡ fanCount c) × (r ≤ mostInCell) ⌝ }
     ensures { λ _. ⌜ Cleared c (now (marks .entry)) (now (halves .entry)) (now (points .entry)) (now (marks .exit)) (now (halves .exit)) (now (points .exit)) ⌝ }
 {
-    let n = crossings_of(c);
     let routes = routes_of(c);
     clear(marks, n);
     let mut t: usize = 0;
@@ -77,18 +74,18 @@ fn count(c: Cell, marks: &mut [u16], halves: &mut [u8], points: &mut [u32]) -> u
 // Writes the middles, which have room from point `at` on, and answers the next point.
 fn write_all(
     c: Cell,
+    n: usize,
     marks: &mut [u16],
     halves: &mut [u8],
     points: &mut [u32],
     area: &mut [f64],
     at: usize,
 ) -> usize
-    requires { ⌜ Long mostInCell (now marks) (now halves) (now points) ⌝ }
+    requires { ⌜ Room c n (now marks) (now halves) (now points) ⌝ }
     requires { ⌜ MiddlesRoom c (now area) at ⌝ }
     ensures { λ r. ⌜ Stored (now (area .entry)) (coordinates * at) (allNumbers (cellMiddles (placeAt (now (area .entry))) c)) (now (area .exit)) (coordinates * r) ⌝ }
     ensures { λ _. ⌜ Cleared c (now (marks .entry)) (now (halves .entry)) (now (points .entry)) (now (marks .exit)) (now (halves .exit)) (now (points .exit)) ⌝ }
 {
-    let n = crossings_of(c);
     let routes = routes_of(c);
     clear(marks, n);
     let mut i = at;
@@ -113,7 +110,8 @@ pub fn fans_in(
     ensures { λ r. ⌜ (r ≡ fanCount c) × (r ≤ mostInCell) ⌝ }
     ensures { λ _. ⌜ Cleared c (now (marks .entry)) (now (halves .entry)) (now (points .entry)) (now (marks .exit)) (now (halves .exit)) (now (points .exit)) ⌝ }
 {
-    count(c, marks, halves, points)
+    let n = crossings_of(c);
+    count(c, n, marks, halves, points)
 }
 
 // Whether the cell's crossings have numbers below n.
@@ -134,14 +132,16 @@ fn is_below(c: Cell, n: usize) -> bool
 // has no more fans than crossings, so that they are counted only where there is not room for so many.
 fn has_room(
     c: Cell,
-    marks: &mut [u16; MOST_IN_CELL],
-    halves: &mut [u8; MOST_IN_CELL],
-    points: &mut [u32; MOST_IN_CELL],
+    n: usize,
+    marks: &mut [u16],
+    halves: &mut [u8],
+    points: &mut [u32],
     room: usize,
     at: usize,
 ) -> bool
+    requires { ⌜ Room c n (now marks) (now halves) (now points) ⌝ }
     ensures { λ r. ⌜ r ≡ (numberedBelow c at && leb (coordinates * (at + fanCount c)) room) ⌝ }
-    ensures { λ _. ⌜ Used (crossings (edgesOf c)) (now (marks .entry)) (now (halves .entry)) (now (points .entry)) (now (marks .exit)) (now (halves .exit)) (now (points .exit)) ⌝ }
+    ensures { λ _. ⌜ Used n (now (marks .entry)) (now (halves .entry)) (now (points .entry)) (now (marks .exit)) (now (halves .exit)) (now (points .exit)) ⌝ }
 {
     let all = room / 3;
     if all < at {
@@ -150,10 +150,10 @@ fn has_room(
     if !is_below(c, at) {
         return false;
     }
-    if crossings_of(c) <= all - at {
+    if n <= all - at {
         return true;
     }
-    let t = count(c, marks, halves, points);
+    let t = count(c, n, marks, halves, points);
     t <= all - at
 }
 
@@ -171,8 +171,8 @@ pub fn middles_in(
     ensures { λ _. ⌜ Cleared c (now (marks .entry)) (now (halves .entry)) (now (points .entry)) (now (marks .exit)) (now (halves .exit)) (now (points .exit)) ⌝ }
 {
     let n = crossings_of(c);
-    if has_room(c, marks, halves, points, area.len(), at) {
-        return write_all(c, marks, halves, points, area, at);
+    if has_room(c, n, marks, halves, points, area.len(), at) {
+        return write_all(c, n, marks, halves, points, area, at);
     }
     clear(marks, n);
     wipe(halves, points, n);
