@@ -15,7 +15,7 @@ use Rattle.cell.specs.declared.LoopType.{LoopType}
 use Rattle.cell.specs.declared.LoopType.the-variants.{Contractible, Corner, Diagonal, LowestCorner}
 use Rattle.cell.specs.declared.Loop.{Loop}
 use Rattle.cell.specs.declared.Loop.the-variants.{Found, Nothing}
-use Rattle.cell.specs.Cell.{Edges, base, crossings, edge, index}
+use Rattle.cell.specs.Cell.{Edges, base, crossings, edge}
 use Rattle.cell.specs.Loop.{loopSize, dart, inGrid, leasts}
 use Rattle.cell.specs.Answer.{typeNumbers, loopNumbers}
 use Rattle.cell.specs.Claims.{OneToOne, CellLaws, Separate, Ordered}

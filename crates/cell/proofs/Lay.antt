@@ -2,7 +2,7 @@
 use Prim.Native.Nat.{ℕ, _+_, _-_, _<_, _≤_}
 use mathlib.Core.Path.{_≡_, refl, sym, ap, _∙_}
 use mathlib.Core.Logic.{_⊎_, inl, inr, _≢_, ⊎-elim}
-use mathlib.Core.Bool.{Bool, true, false, _&&_, _||_}
+use mathlib.Core.Bool.{Bool, true, false, _&&_}
 use native.Mathlib.Omega.{arith}
 use native.Mathlib.Decide.{decLt, ℕ-discrete}
 use lib.Dec.{eqb, ltb, leb}
@@ -17,7 +17,7 @@ use Rattle.counting.proofs.Search.{first-at}
 use Rattle.counting.proofs.Onto.{onto}
 use Rattle.counting.proofs.Pack.{row-lt, col-lt, unpack}
 use Rattle.cell.specs.Cell.{Edges, ahead, base, crossings, number, holds, edge, index}
-use Rattle.cell.specs.Claims.{Lay, Separate, Rising, LaidSame}
+use Rattle.cell.specs.Claims.{Lay, Separate, LaidSame}
 
 module _ (w : Edges) where
   -- edge j is laid before edge k

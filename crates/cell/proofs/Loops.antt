@@ -11,10 +11,10 @@ use lib.Dec.{eqb}
 use lib.ListN.{getD, length}
 use Rattle.counting.specs.Pick.{one}
 use Rattle.counting.specs.Range.{total, after, before}
+use Rattle.counting.specs.Stored.{Summed}
 use Rattle.counting.specs.Lists.{tally}
-use Rattle.counting.proofs.Range.{total-ext, total-next, total-round, before-after, after-last, after-on, after-lt, length-over}
-use Rattle.slots.specs.Slots.{edgeRank, firstSlot}
-use Rattle.slots.proofs.Slots.{two-slots}
+use Rattle.counting.proofs.Range.{total-ext, total-round, before-after, after-last, after-on, after-lt, length-over}
+use Rattle.slots.specs.Slots.{edgeRank}
 use Rattle.walk.specs.Iterate.{it}
 use Rattle.walk.specs.Darts.{Loop, half, rev}
 use Rattle.walk.specs.Walk as walk
@@ -27,26 +27,12 @@ use Rattle.cell.specs.Cell.{Edges, crossings, edge, slot, first, second,
 use Rattle.cell.specs.Loop.{loopSize, dart, loopDarts, folded, normal, parity, inGrid, typeOf, answerFrom}
 use Rattle.cell.specs.Of.{edgesOf}
 use Rattle.cell.specs.Half.{halfEdges, edgeOf, halfOf, halfEdge}
-use Rattle.cell.specs.Dart.{dartNumber}
 use Rattle.cell.specs.Scratch.{halvesFrom, pointsFrom}
 use Rattle.cell.specs.Round.{foldsIn, crossesIn, roundAnswer}
 use Rattle.cell.proofs.Half as halves
-use Rattle.cell.proofs.Lay.{lay}
-use Rattle.cell.proofs.Step.{number-first, number-second, slot-first, slot-second, step-is}
+use Rattle.cell.proofs.Step.{step-is}
 use Rattle.cell.proofs.Mates.{slot-has, ports, darts, laws}
 use Rattle.cell.proofs.Recording.{run-loop, run-at, run-long, pointOf}
-
--- a sum of k ones and zeros on the way
-pub record Summed (g : ℕ → ℕ) (k x : ℕ) : Type 0 where
-  pub is : x ≡ total g k 0
-  pub few : x ≤ k
-
-pub summed-none : (g : ℕ → ℕ) → Summed g 0 0
-unfolding total
-summed-none g = record { is = refl; few = omega arith }
-
-pub summed-more : {g : ℕ → ℕ} {k x : ℕ} → Summed g k x → (y : ℕ) → y ≡ g k → y ≤ 1 → Summed g (k + 1) (x + y)
-summed-more {g} {k} {x} S y e h = record { is = omega (arith, S .is, total-next g k); few = omega (arith, S .few) }
 
 -- the folded segments of a record, each counted at the place that it comes to
 module _ (l : List ℕ) where
@@ -60,7 +46,7 @@ module _ (l : List ℕ) where
   unfolding foldsIn total
   folds-none e = rw e
 
-  pub folds-all : {k x : ℕ} → Summed foldAt k x → k ≡ n → x ≡ foldsIn l
+  pub folds-all : {k x : ℕ} → Summed foldAt 1 k x → k ≡ n → x ≡ foldsIn l
   unfolding foldsIn foldAt
   folds-all {k} {x} S e =
       S .is ∙ ap (λ m. total foldAt m 0) e ∙ sym (total-round foldAt n)
@@ -98,24 +84,6 @@ module _ (w : Edges) where
         let P = ports w in
         let m = walks.live N (first w) (second w) (mate w) P d h in
         λ e. P .other d l (sym (ap (λ n. n / 2) (step-is w d) ∙ walks.land-half N (first w) (second w) (mate w) (slot w d) (mate w (slot w d) (d / 2)) m) ∙ e)
-
-  -- a dart is the one of its crossing that leaves by its half-edge
-  pub dart-number : (d : ℕ) → d < 2 * N → dartNumber (halfEdge w d) (d / 2) ≡ d
-  dart-number = walks.by-parity N (λ d. dartNumber (halfEdge w d) (d / 2) ≡ d)
-      (λ x l.
-      let d = 2 * x in
-      let e : d / 2 ≡ x = omega arith in
-      rw e (number-first (halfEdge w d) x (ap firstSlot (half-edge d (omega arith) ∙ ap (edge w) e) ∙ sym (half-slot d (omega arith) ∙ slot-first w x))))
-      (λ x l.
-      let d = 2 * x + 1 in
-      let e : d / 2 ≡ x = omega arith in
-      rw e (number-second (halfEdge w d) x (λ q. omega (
-        arith,
-        q,
-        ap firstSlot (half-edge d (omega arith) ∙ ap (edge w) e),
-        half-slot d (omega arith) ∙ slot-second w x,
-        two-slots (edge w x) (lay w .edge-lt x l) .apart,
-      ))))
 
   module _ (p : ℕ) (l : p < N) where
     -- a loop that is found

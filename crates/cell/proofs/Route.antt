@@ -27,10 +27,10 @@ use Rattle.face.proofs.Ends.{edge-of}
 use Rattle.face.proofs.Gaps.{corner-node}
 use Rattle.cell.specs.declared.Cell.{Cell}
 use Rattle.cell.specs.declared.Run.{Run}
-use Rattle.cell.specs.Cell.{Edges, ahead, base, number, holds, crossings}
+use Rattle.cell.specs.Cell.{Edges, ahead, base, number}
 use Rattle.cell.specs.Of.{countOf, startOf, edgesOf}
-use Rattle.cell.specs.Half.{halfEdges, slotOf, rankOf, edgeOf, halfOf, twin, around}
-use Rattle.cell.specs.Route.{columns, lowAt, highAt, countAt, firstAt, startAt, roundLowAt, roundHighAt, twinAt, rankAt, cornerOf, front, fronts, links, Firsts, IsRun, SlotRuns, Routed, mostCount, mostInCell, startLimit}
+use Rattle.cell.specs.Half.{halfEdges, rankOf, edgeOf, halfOf, twin, around}
+use Rattle.cell.specs.Route.{columns, lowAt, highAt, countAt, firstAt, startAt, roundLowAt, roundHighAt, twinAt, rankAt, cornerOf, front, fronts, links, IsRun, SlotRuns, Routed, mostCount, mostInCell, startLimit}
 use Rattle.cell.proofs.Lay.{base-all, laid-same}
 use Rattle.cell.proofs.Half.{edge-lt, half-slot, half-place, half-edge, first-half}
 

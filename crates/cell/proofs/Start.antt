@@ -5,7 +5,7 @@ use mathlib.Core.Bool.{true, false}
 use mathlib.Core.List.{List}
 use native.Mathlib.Omega.{arith}
 use native.Mathlib.Decide.{decLt}
-use lib.Dec.{ltb, leb}
+use lib.Dec.{ltb}
 use lib.ListN.{getD}
 use borrow.Author.Tests.{lt-leb, le-leb}
 use Rattle.counting.proofs.Bools.{clash}
@@ -15,7 +15,7 @@ use Rattle.cell.specs.declared.Cell.{Cell}
 use Rattle.cell.specs.declared.Dart.{Dart}
 use Rattle.cell.specs.Cell.{Edges, base, crossings, holds, edge, index}
 use Rattle.cell.specs.Of.{edgesOf}
-use Rattle.cell.specs.Half.{halfEdges, slotOf, edgeOf, halfOf}
+use Rattle.cell.specs.Half.{halfEdges, halfOf}
 use Rattle.cell.specs.Route.{columns, countAt, firstAt, Routed}
 use Rattle.cell.specs.Walked.{Located, Starts}
 use Rattle.cell.proofs.Lay.{lay}

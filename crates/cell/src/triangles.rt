@@ -68,8 +68,9 @@ fn write_all(
     let mut p: usize = 0;
     while p < n {
         let m = walk(c, &routes, n, p, marks, halves, points);
-        let two = in_two(&halves[0..m], m);
-        i = write_loop(c, &halves[0..m], &points[0..m], m, two, area, i);
+        let hs = &halves[0..m];
+        let two = in_two(hs, m);
+        i = write_loop(c, hs, &points[0..m], m, two, area, i);
         p += 1;
     }
     clear(marks, n);
@@ -163,10 +164,11 @@ pub fn triangle_at(c: Cell, t: usize) -> Nth
     let mut p: usize = 0;
     while p < n {
         let m = walk(c, &routes, n, p, &mut marks, &mut halves, &mut points);
-        let two = in_two(&halves[0..m], m);
+        let hs = &halves[0..m];
+        let two = in_two(hs, m);
         let k = many(m, two);
         if left < k {
-            return Nth::Found(triangle_of(c, &halves[0..m], &points[0..m], m, two, left));
+            return Nth::Found(triangle_of(c, hs, &points[0..m], m, two, left));
         }
         left -= k;
         p += 1;

@@ -8,11 +8,10 @@ ghost use Rattle.grid.specs.Grid.{mostCells, cellCount};
 ghost use Rattle.mesh.specs.Table.{mostTriangles, tableTriangles};
 use crate::cells::cell_at;
 use cell::MOST_IN_CELL;
-use cell::MOST_LOOPS;
 use grid::MOST_EDGES;
 use grid::MOST_SLOTS;
 
-// How many triangles the cells have. About 12 KB of stack.
+// How many triangles the cells have. About 11 KB of stack.
 pub(crate) fn count_all(
     cells: &[u16],
     counts: &[u8],
@@ -26,13 +25,12 @@ pub(crate) fn count_all(
     let mut marks = [0u16; MOST_IN_CELL];
     let mut halves = [0u8; MOST_IN_CELL];
     let mut points = [0u32; MOST_IN_CELL];
-    let mut lengths = [0u16; MOST_LOOPS];
     let n = cells.len() / 4;
     let mut t: usize = 0;
     let mut c: usize = 0;
     while c < n {
         let cell = cell_at(cells, counts, names, sides, starts, c);
-        t += cell::count_in(cell, &mut marks, &mut halves, &mut points, &mut lengths);
+        t += cell::count_in(cell, &mut marks, &mut halves, &mut points);
         c += 1;
     }
     t
@@ -59,7 +57,7 @@ pub(crate) fn most_all(
     t
 }
 
-// Writes the words of all the cells' triangles from the front of the area on, and answers how many words. About 12 KB of stack.
+// Writes the words of all the cells' triangles from the front of the area on, and answers how many words. About 11 KB of stack.
 pub(crate) fn write_all(
     cells: &[u16],
     counts: &[u8],
@@ -74,21 +72,12 @@ pub(crate) fn write_all(
     let mut marks = [0u16; MOST_IN_CELL];
     let mut halves = [0u8; MOST_IN_CELL];
     let mut points = [0u32; MOST_IN_CELL];
-    let mut lengths = [0u16; MOST_LOOPS];
     let n = cells.len() / 4;
     let mut i: usize = 0;
     let mut c: usize = 0;
     while c < n {
         let cell = cell_at(cells, counts, names, sides, starts, c);
-        i = cell::write_in(
-            cell,
-            &mut marks,
-            &mut halves,
-            &mut points,
-            &mut lengths,
-            area,
-            i,
-        );
+        i = cell::write_in(cell, &mut marks, &mut halves, &mut points, area, i);
         c += 1;
     }
     i

@@ -7,11 +7,6 @@ use Rattle.cell.proofs.Going.{Going, looped-halves, looped-points, goin
 use Rattle.cell.proofs.Cells.{leastAt, Seeking, seeking-none, loop-off, loop-skip, loop-pass, loop-here}
 use Rattle.cell.proofs.loop_at.Statement.{statement}
 use Rattle.cell.proofs.loop_at.Tie as tie
-use Rattle.cell.proofs.answers.answer_of.Reads as answer-of-reads
-use Rattle.cell.proofs.routes.crossings_of.Reads as crossings-of-reads
-use Rattle.cell.proofs.routes.routes_of.Reads as routes-of-reads
-use Rattle.cell.proofs.walks.clear.Reads as clear-reads
-use Rattle.cell.proofs.walks.walk.Reads as walk-reads
 
 abbrev Inv-loop : tie.InvT-loop
 Inv-loop c k marks₀ halves₀ points₀ n routes left₀ p₀ marks halves points left p = Going c n routes marks₀ halves₀ points₀ marks halves points p × Seeking (leastAt (edgesOf c)) k p left

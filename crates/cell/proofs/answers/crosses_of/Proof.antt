@@ -7,18 +7,20 @@ use Rattle.counting.specs.Range.{total}
 use denote.Ref.{now}
 use mathlib.Core.Path.{_≡_, ap, _∙_}
 use Rattle.cell.specs.Round.{crossesIn}
-use Rattle.cell.proofs.Loops.{Summed, summed-none, summed-more, crossAt}
+use Rattle.counting.specs.Stored.{Summed}
+use Rattle.counting.proofs.Stored.{summed-none, summed-more}
+use Rattle.cell.proofs.Loops.{crossAt}
 use Rattle.cell.proofs.answers.crosses_of.Statement.{statement}
 use Rattle.cell.proofs.answers.crosses_of.Tie as tie
 
 abbrev Inv-loop : tie.InvT-loop
-Inv-loop halves e x₀ k₀ x k = (k ≤ length halves) × Summed (crossAt halves e) k x
+Inv-loop halves e x₀ k₀ x k = (k ≤ length halves) × Summed (crossAt halves e) 1 k x
 
 abbrev μ-loop : tie.MeasureT-loop
 μ-loop halves e x₀ k₀ x k = length halves - k
 
 loop-holds : tie.Need-loop-holds Inv-loop μ-loop
-loop-holds c = (omega arith, summed-none _)
+loop-holds c = (omega arith, summed-none _ _)
 
 edge-at-requires : tie.Need-edge-at-requires Inv-loop μ-loop
 edge-at-requires c κs = omega arith
@@ -37,7 +39,7 @@ loop-less c = omega arith
 
 loop-again : tie.Need-loop-again Inv-loop μ-loop
 unfolding crossAt
-loop-again c = (omega arith, summed-more (c .before .before .before .loop .inv .1) _ (c .same .ensures .0 ∙ ap (λ a. one (eqb a (c .before .before .before .before .before .args .e))) (c .before .edge-at .ensures)) (c .same .ensures .1))
+loop-again c = (omega arith, summed-more _ _ (c .before .before .before .loop .inv .1) _ (c .same .ensures .0 ∙ ap (λ a. one (eqb a (c .before .before .before .before .before .args .e))) (c .before .edge-at .ensures)) (c .same .ensures .1))
 
 returns : tie.Need-returns Inv-loop μ-loop
 unfolding crossesIn crossAt

@@ -8,12 +8,14 @@ use denote.Ref.{now}
 use Rattle.counting.specs.Pick.{one}
 use Rattle.counting.specs.Range.{before}
 use Rattle.cell.specs.Half.{edgeOf}
-use Rattle.cell.proofs.Loops.{Summed, summed-none, summed-more, foldAt, folds-none, folds-all, before-next}
+use Rattle.counting.specs.Stored.{Summed}
+use Rattle.counting.proofs.Stored.{summed-none, summed-more}
+use Rattle.cell.proofs.Loops.{foldAt, folds-none, folds-all, before-next}
 use Rattle.cell.proofs.answers.folds_of.Statement.{statement}
 use Rattle.cell.proofs.answers.folds_of.Tie as tie
 
 abbrev Inv-loop : tie.InvT-loop
-Inv-loop halves n a₀ f₀ k₀ a f k = (k ≤ n) × Summed (foldAt halves) k f × (a ≡ edgeOf (getD halves (before n k) 0)) × (n ≡ length halves)
+Inv-loop halves n a₀ f₀ k₀ a f k = (k ≤ n) × Summed (foldAt halves) 1 k f × (a ≡ edgeOf (getD halves (before n k) 0)) × (n ≡ length halves)
 
 abbrev μ-loop : tie.MeasureT-loop
 μ-loop halves n a₀ f₀ k₀ a f k = n - k
@@ -28,7 +30,7 @@ edge-at-requires : tie.Need-edge-at-requires Inv-loop μ-loop
 edge-at-requires c κs = omega arith
 
 loop-holds : tie.Need-loop-holds Inv-loop μ-loop
-loop-holds c = (omega arith, summed-none _, c .edge-at .ensures, search needs)
+loop-holds c = (omega arith, summed-none _ _, c .edge-at .ensures, search needs)
 
 edge-at-requires-2 : tie.Need-edge-at-requires-2 Inv-loop μ-loop
 edge-at-requires-2 c κs = omega arith
@@ -51,7 +53,7 @@ loop-again c = let hs = now (c .before .before .before .before .before .before .
     let k = c .before .before .before .loop .k in
     let L = c .before .before .before .loop .inv in (
       omega arith,
-      summed-more (L .1) _ (c .same .ensures .0 ∙ ap one (ap₂ eqb (L .2 ∙ ap (λ m. edgeOf (getD hs (before m k) 0)) (L .3)) (c .before .edge-at2 .ensures))) (c .same .ensures .1),
+      summed-more _ _ (L .1) _ (c .same .ensures .0 ∙ ap one (ap₂ eqb (L .2 ∙ ap (λ m. edgeOf (getD hs (before m k) 0)) (L .3)) (c .before .edge-at2 .ensures))) (c .same .ensures .1),
       c .before .edge-at2 .ensures ∙ ap (λ j. edgeOf (getD hs j 0)) (sym (before-next hs k)),
       L .3,
     )

@@ -1,6 +1,5 @@
 use Prim.Native.Nat.{_-_, _≤_}
 use native.Mathlib.Omega.{arith}
-use mathlib.Core.Path.{_≡_}
 use Rattle.cell.specs.Of.{edgesOf}
 use Rattle.cell.proofs.Route.{Rises, rises-one, rises-more, rises-all}
 use Rattle.cell.proofs.routes.firsts_of.Statement.{statement}

@@ -1,4 +1,3 @@
-use mathlib.Core.Path.{_∙_}
 use borrow.Author.Needs.{needs}
 use Rattle.cell.proofs.Route.{slot-fronts}
 use Rattle.cell.proofs.routes.put_slot.Statement.{statement}

@@ -10,12 +10,6 @@ use Rattle.cell.proofs.Holding.{looped-many}
 use Rattle.cell.proofs.Cells.{manyAt, counted-more, counted-all}
 use Rattle.cell.proofs.triangles.count.Statement.{statement}
 use Rattle.cell.proofs.triangles.count.Tie as tie
-use Rattle.cell.proofs.make.in_two.Reads as in-two-reads
-use Rattle.cell.proofs.make.many.Reads as many-reads
-use Rattle.cell.proofs.routes.routes_of.Reads as routes-of-reads
-use Rattle.cell.proofs.walks.clear.Reads as clear-reads
-use Rattle.cell.proofs.walks.walk.Reads as walk-reads
-use Rattle.cell.proofs.walks.wipe.Reads as wipe-reads
 
 abbrev Inv-loop : tie.InvT-loop
 Inv-loop c n marks₀ halves₀ points₀ routes t₀ p₀ marks halves points t p = Going c n routes marks₀ halves₀ points₀ marks halves points p × Summed (manyAt c) mostInCell p t

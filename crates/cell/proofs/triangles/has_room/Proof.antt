@@ -8,10 +8,8 @@ use borrow.Author.Tests.{le-leb, lt-leb}
 use Rattle.cell.proofs.Using.{used-none, cleared-used, cleared-same}
 use Rattle.cell.proofs.Taken.{cell-few}
 use Rattle.cell.proofs.Fits.{room-left}
-use borrow.Author.Needs.{needs}
 use Rattle.cell.proofs.triangles.has_room.Statement.{statement}
 use Rattle.cell.proofs.triangles.has_room.Tie as tie
-use Rattle.cell.proofs.triangles.count.Reads as count-reads
 
 returns : tie.Need-returns
 returns c = (sym (lt-leb (c .before .before .before .before .args .at + wordCount * length (cellTriangles (c .before .before .before .before .args .c))) (c .before .before .before .before .args .room) (omega arith)), used-none _ _ _ _)

@@ -8,13 +8,6 @@ use Rattle.cell.proofs.Holding.{looped-traced, looped-four, looped-loop
 use Rattle.cell.proofs.Cells.{Seeking, seeking-none, seeking-more, triangle-off, triangle-here}
 use Rattle.cell.proofs.triangles.triangle_at.Statement.{statement}
 use Rattle.cell.proofs.triangles.triangle_at.Tie as tie
-use Rattle.cell.proofs.make.in_two.Reads as in-two-reads
-use Rattle.cell.proofs.make.many.Reads as many-reads
-use Rattle.cell.proofs.make.triangle_of.Reads as triangle-of-reads
-use Rattle.cell.proofs.routes.crossings_of.Reads as crossings-of-reads
-use Rattle.cell.proofs.routes.routes_of.Reads as routes-of-reads
-use Rattle.cell.proofs.walks.clear.Reads as clear-reads
-use Rattle.cell.proofs.walks.walk.Reads as walk-reads
 
 abbrev Inv-loop : tie.InvT-loop
 Inv-loop c t marks₀ halves₀ points₀ n routes left₀ p₀ marks halves points left p = Going c n routes marks₀ halves₀ points₀ marks halves points p × Seeking (loopTriangles c) t p left
@@ -49,14 +42,14 @@ slice-aggregate-walk-3 c = sym (c .before .before .before .before .before .loop 
 walk-requires : tie.Need-walk-requires Inv-loop μ-loop
 walk-requires c κs = going-lent (c .before .before .before .before .before .loop .inv .0) (omega arith)
 
-sub-in-two : tie.Need-sub-in-two Inv-loop μ-loop
-sub-in-two c = omega arith
+sub-hs : tie.Need-sub-hs Inv-loop μ-loop
+sub-hs c = omega arith
 
-part-in-two-start : tie.Need-part-in-two-start Inv-loop μ-loop
-part-in-two-start c = omega arith
+part-hs-start : tie.Need-part-hs-start Inv-loop μ-loop
+part-hs-start c = omega arith
 
-part-in-two-end : tie.Need-part-in-two-end Inv-loop μ-loop
-part-in-two-end c = going-part (c .before .before .before .before .before .before .before .before .before .before .loop .inv .0) (omega arith) (c .before .before .before .before .walk .ensures) .0
+part-hs-end : tie.Need-part-hs-end Inv-loop μ-loop
+part-hs-end c = going-part (c .before .before .before .before .before .before .before .before .before .before .loop .inv .0) (omega arith) (c .before .before .before .before .walk .ensures) .0
 
 in-two-requires : tie.Need-in-two-requires Inv-loop μ-loop
 in-two-requires c κs = tt
@@ -71,22 +64,13 @@ part-triangle-of-start : tie.Need-part-triangle-of-start Inv-loop μ-loop
 part-triangle-of-start c = omega arith
 
 part-triangle-of-end : tie.Need-part-triangle-of-end Inv-loop μ-loop
-part-triangle-of-end c = going-part (c .before .before .before .before .before .before .before .before .before .before .before .before .before .before .before .loop .inv .0) (omega arith) (c .before .before .before .before .before .before .before .before .before .walk .ensures) .0
-
-sub-triangle-of-2 : tie.Need-sub-triangle-of-2 Inv-loop μ-loop
-sub-triangle-of-2 c = omega arith
-
-part-triangle-of-start-2 : tie.Need-part-triangle-of-start-2 Inv-loop μ-loop
-part-triangle-of-start-2 c = omega arith
-
-part-triangle-of-end-2 : tie.Need-part-triangle-of-end-2 Inv-loop μ-loop
-part-triangle-of-end-2 c = going-part (c .before .before .before .before .before .before .before .before .before .before .before .before .before .before .before .before .before .loop .inv .0) (omega arith) (c .before .before .before .before .before .before .before .before .before .before .before .walk .ensures) .1
+part-triangle-of-end c = going-part (c .before .before .before .before .before .before .before .before .before .before .before .before .before .before .before .loop .inv .0) (omega arith) (c .before .before .before .before .before .before .before .before .before .walk .ensures) .1
 
 triangle-of-requires : tie.Need-triangle-of-requires Inv-loop μ-loop
-triangle-of-requires c κs = let L = going-looped (c .before .before .before .before .before .before .before .before .before .before .before .before .before .before .before .before .before .before .loop .inv .0) (omega arith) (c .before .before .before .before .before .before .before .before .before .before .before .before .walk .ensures) in (looped-traced L, (looped-four L (c .before .before .before .before .before .before .in-two .ensures), omega (arith, c .before .before .before .before .before .many .ensures)))
+triangle-of-requires c κs = let L = going-looped (c .before .before .before .before .before .before .before .before .before .before .before .before .before .before .before .before .loop .inv .0) (omega arith) (c .before .before .before .before .before .before .before .before .before .before .walk .ensures) in (looped-traced L, (looped-four L (c .before .before .before .before .in-two .ensures), omega (arith, c .before .before .before .many .ensures)))
 
 returns : tie.Need-returns Inv-loop μ-loop
-returns c = let L = going-looped (c .before .before .before .before .before .before .before .before .before .before .before .before .before .before .before .before .before .before .before .loop .inv .0) (omega arith) (c .before .before .before .before .before .before .before .before .before .before .before .before .before .walk .ensures) in triangle-here _ (c .before .before .before .before .before .before .before .before .before .before .before .before .before .before .before .before .before .before .before .loop .inv .1) (going-in (c .before .before .before .before .before .before .before .before .before .before .before .before .before .before .before .before .before .before .before .loop .inv .0) (omega arith)) _ (looped-loop L (c .before .before .before .before .before .before .before .in-two .ensures)) (omega (arith, looped-many L (c .before .before .before .before .before .before .before .in-two .ensures), c .before .before .before .before .before .before .many .ensures)) (c .triangle-of .ensures)
+returns c = let L = going-looped (c .before .before .before .before .before .before .before .before .before .before .before .before .before .before .before .before .before .loop .inv .0) (omega arith) (c .before .before .before .before .before .before .before .before .before .before .before .walk .ensures) in triangle-here _ (c .before .before .before .before .before .before .before .before .before .before .before .before .before .before .before .before .before .loop .inv .1) (going-in (c .before .before .before .before .before .before .before .before .before .before .before .before .before .before .before .before .before .loop .inv .0) (omega arith)) _ (looped-loop L (c .before .before .before .before .before .in-two .ensures)) (omega (arith, looped-many L (c .before .before .before .before .before .in-two .ensures), c .before .before .before .before .many .ensures)) (c .triangle-of .ensures)
 
 add-p : tie.Need-add-p Inv-loop μ-loop
 add-p c = omega (arith, c .before .before .before .before .before .before .before .before .before .before .before .before .before .before .loop .inv .0 .few)
@@ -115,17 +99,14 @@ triangle-at-spec =
     slice-aggregate-walk-2
     slice-aggregate-walk-3
     walk-requires
-    sub-in-two
-    part-in-two-start
-    part-in-two-end
+    sub-hs
+    part-hs-start
+    part-hs-end
     in-two-requires
     many-requires
     sub-triangle-of
     part-triangle-of-start
     part-triangle-of-end
-    sub-triangle-of-2
-    part-triangle-of-start-2
-    part-triangle-of-end-2
     triangle-of-requires
     returns
     add-p

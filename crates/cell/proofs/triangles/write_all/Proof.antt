@@ -9,12 +9,6 @@ use Rattle.cell.proofs.Holding.{looped-traced, looped-four, looped-loop
 use Rattle.cell.proofs.Cells.{wordsAt, written-all, written-room, written-more}
 use Rattle.cell.proofs.triangles.write_all.Statement.{statement}
 use Rattle.cell.proofs.triangles.write_all.Tie as tie
-use Rattle.cell.proofs.make.in_two.Reads as in-two-reads
-use Rattle.cell.proofs.routes.routes_of.Reads as routes-of-reads
-use Rattle.cell.proofs.walks.clear.Reads as clear-reads
-use Rattle.cell.proofs.walks.walk.Reads as walk-reads
-use Rattle.cell.proofs.walks.wipe.Reads as wipe-reads
-use Rattle.cell.proofs.write.write_loop.Reads as write-loop-reads
 
 abbrev Inv-loop : tie.InvT-loop
 Inv-loop c n marks₀ halves₀ points₀ area₀ at routes i₀ p₀ marks halves points area i p = Going c n routes marks₀ halves₀ points₀ marks halves points p × Stored area₀ at (over (wordsAt c) p 0) area i
@@ -35,14 +29,14 @@ loop-holds c = (going-start _ (c .before .before .before .before .before .before
 walk-requires : tie.Need-walk-requires Inv-loop μ-loop
 walk-requires c κs = going-lent (c .before .before .before .before .before .loop .inv .0) (omega arith)
 
-sub-in-two : tie.Need-sub-in-two Inv-loop μ-loop
-sub-in-two c = omega arith
+sub-hs : tie.Need-sub-hs Inv-loop μ-loop
+sub-hs c = omega arith
 
-part-in-two-start : tie.Need-part-in-two-start Inv-loop μ-loop
-part-in-two-start c = omega arith
+part-hs-start : tie.Need-part-hs-start Inv-loop μ-loop
+part-hs-start c = omega arith
 
-part-in-two-end : tie.Need-part-in-two-end Inv-loop μ-loop
-part-in-two-end c = going-part (c .before .before .before .before .before .before .before .before .before .before .before .before .before .loop .inv .0) (omega arith) (c .before .before .before .before .before .before .before .walk .ensures) .0
+part-hs-end : tie.Need-part-hs-end Inv-loop μ-loop
+part-hs-end c = going-part (c .before .before .before .before .before .before .before .before .before .before .before .before .before .loop .inv .0) (omega arith) (c .before .before .before .before .before .before .before .walk .ensures) .0
 
 in-two-requires : tie.Need-in-two-requires Inv-loop μ-loop
 in-two-requires c κs = tt
@@ -54,28 +48,19 @@ part-write-loop-start : tie.Need-part-write-loop-start Inv-loop μ-loop
 part-write-loop-start c = omega arith
 
 part-write-loop-end : tie.Need-part-write-loop-end Inv-loop μ-loop
-part-write-loop-end c = going-part (c .before .before .before .before .before .before .before .before .before .before .before .before .before .before .before .before .loop .inv .0) (omega arith) (c .before .before .before .before .before .before .before .before .before .before .walk .ensures) .0
-
-sub-write-loop-2 : tie.Need-sub-write-loop-2 Inv-loop μ-loop
-sub-write-loop-2 c = omega arith
-
-part-write-loop-start-2 : tie.Need-part-write-loop-start-2 Inv-loop μ-loop
-part-write-loop-start-2 c = omega arith
-
-part-write-loop-end-2 : tie.Need-part-write-loop-end-2 Inv-loop μ-loop
-part-write-loop-end-2 c = going-part (c .before .before .before .before .before .before .before .before .before .before .before .before .before .before .before .before .before .before .loop .inv .0) (omega arith) (c .before .before .before .before .before .before .before .before .before .before .before .before .walk .ensures) .1
+part-write-loop-end c = going-part (c .before .before .before .before .before .before .before .before .before .before .before .before .before .before .before .before .loop .inv .0) (omega arith) (c .before .before .before .before .before .before .before .before .before .before .walk .ensures) .1
 
 write-loop-requires : tie.Need-write-loop-requires Inv-loop μ-loop
-write-loop-requires c κs = let L = going-looped (c .before .before .before .before .before .before .before .before .before .before .before .before .before .before .before .before .before .before .before .before .loop .inv .0) (omega arith) (c .before .before .before .before .before .before .before .before .before .before .before .before .before .before .walk .ensures) in (looped-traced L, (looped-four L (c .before .before .before .before .before .in-two .ensures), omega (arith, looped-many L (c .before .before .before .before .before .in-two .ensures), written-room _ _ (c .before .before .before .before .before .before .before .before .before .before .before .before .before .before .before .before .before .before .before .before .loop .inv .1) (going-in (c .before .before .before .before .before .before .before .before .before .before .before .before .before .before .before .before .before .before .before .before .loop .inv .0) (omega arith)), stored-long (c .before .before .before .before .before .before .before .before .before .before .before .before .before .before .before .before .before .before .before .before .loop .inv .1), c .before .before .before .before .before .before .before .before .before .before .before .before .before .before .before .before .before .before .before .before .before .before .before .before .before .before .before .before .before .before .pre .1)))
+write-loop-requires c κs = let L = going-looped (c .before .before .before .before .before .before .before .before .before .before .before .before .before .before .before .before .before .before .loop .inv .0) (omega arith) (c .before .before .before .before .before .before .before .before .before .before .before .before .walk .ensures) in (looped-traced L, (looped-four L (c .before .before .before .in-two .ensures), omega (arith, looped-many L (c .before .before .before .in-two .ensures), written-room _ _ (c .before .before .before .before .before .before .before .before .before .before .before .before .before .before .before .before .before .before .loop .inv .1) (going-in (c .before .before .before .before .before .before .before .before .before .before .before .before .before .before .before .before .before .before .loop .inv .0) (omega arith)), stored-long (c .before .before .before .before .before .before .before .before .before .before .before .before .before .before .before .before .before .before .loop .inv .1), c .before .before .before .before .before .before .before .before .before .before .before .before .before .before .before .before .before .before .before .before .before .before .before .before .before .before .before .before .pre .1)))
 
 add-p : tie.Need-add-p Inv-loop μ-loop
-add-p c = omega (arith, c .before .before .before .before .before .before .before .before .before .before .before .before .before .before .before .before .before .before .before .before .before .before .before .loop .inv .0 .few)
+add-p c = omega (arith, c .before .before .before .before .before .before .before .before .before .before .before .before .before .before .before .before .before .before .before .before .before .loop .inv .0 .few)
 
 loop-less : tie.Need-loop-less Inv-loop μ-loop
 loop-less c = omega arith
 
 loop-again : tie.Need-loop-again Inv-loop μ-loop
-loop-again c = let L = going-looped (c .before .before .before .before .before .before .before .before .before .before .before .before .before .before .before .before .before .before .before .before .before .before .before .loop .inv .0) (omega arith) (c .before .before .before .before .before .before .before .before .before .before .before .before .before .before .before .before .before .walk .ensures) in (going-more (c .before .before .before .before .before .before .before .before .before .before .before .before .before .before .before .before .before .before .before .before .before .before .before .loop .inv .0) (omega arith) (c .before .before .before .before .before .before .before .before .before .before .before .before .before .before .before .before .before .walk .ensures), written-more _ _ (c .before .before .before .before .before .before .before .before .before .before .before .before .before .before .before .before .before .before .before .before .before .before .before .loop .inv .1) (looped-many L (c .before .before .before .before .before .before .before .before .in-two .ensures)) (c .before .before .write-loop .ensures .0) (looped-loop L (c .before .before .before .before .before .before .before .before .in-two .ensures)) (c .before .before .write-loop .ensures .1))
+loop-again c = let L = going-looped (c .before .before .before .before .before .before .before .before .before .before .before .before .before .before .before .before .before .before .before .before .before .loop .inv .0) (omega arith) (c .before .before .before .before .before .before .before .before .before .before .before .before .before .before .before .walk .ensures) in (going-more (c .before .before .before .before .before .before .before .before .before .before .before .before .before .before .before .before .before .before .before .before .before .loop .inv .0) (omega arith) (c .before .before .before .before .before .before .before .before .before .before .before .before .before .before .before .walk .ensures), written-more _ _ (c .before .before .before .before .before .before .before .before .before .before .before .before .before .before .before .before .before .before .before .before .before .loop .inv .1) (looped-many L (c .before .before .before .before .before .before .in-two .ensures)) (c .before .before .write-loop .ensures .0) (looped-loop L (c .before .before .before .before .before .before .in-two .ensures)) (c .before .before .write-loop .ensures .1))
 
 clear-requires-2 : tie.Need-clear-requires-2 Inv-loop μ-loop
 clear-requires-2 c κs = going-long (c .before .before .loop .inv .0) .marks-long
@@ -108,16 +93,13 @@ write-all-spec =
     clear-requires
     loop-holds
     walk-requires
-    sub-in-two
-    part-in-two-start
-    part-in-two-end
+    sub-hs
+    part-hs-start
+    part-hs-end
     in-two-requires
     sub-write-loop
     part-write-loop-start
     part-write-loop-end
-    sub-write-loop-2
-    part-write-loop-start-2
-    part-write-loop-end-2
     write-loop-requires
     add-p
     loop-less

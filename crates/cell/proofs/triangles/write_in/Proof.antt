@@ -5,11 +5,6 @@ use Rattle.cell.proofs.Fits.{no-room, has-room}
 use borrow.Author.Needs.{needs}
 use Rattle.cell.proofs.triangles.write_in.Statement.{statement}
 use Rattle.cell.proofs.triangles.write_in.Tie as tie
-use Rattle.cell.proofs.routes.crossings_of.Reads as crossings-of-reads
-use Rattle.cell.proofs.triangles.has_room.Reads as has-room-reads
-use Rattle.cell.proofs.triangles.write_all.Reads as write-all-reads
-use Rattle.cell.proofs.walks.clear.Reads as clear-reads
-use Rattle.cell.proofs.walks.wipe.Reads as wipe-reads
 
 crossings-of-requires : tie.Need-crossings-of-requires
 crossings-of-requires c κs = search needs

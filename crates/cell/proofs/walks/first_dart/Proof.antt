@@ -1,5 +1,5 @@
 use native.Mathlib.Omega.{arith}
-use mathlib.Core.Path.{refl, ap, _∙_}
+use mathlib.Core.Path.{refl}
 use Rattle.cell.proofs.Start.{located-lt, located-first, starts}
 use borrow.Author.Needs.{needs}
 use Rattle.cell.proofs.walks.first_dart.Statement.{statement}

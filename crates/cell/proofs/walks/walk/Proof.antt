@@ -6,9 +6,6 @@ use Rattle.cell.proofs.Ready.{onward-on, onward-end}
 use Rattle.cell.proofs.Recording.{Recording, lent-met, recording-start, recording-point, recording-ready, recording-long, recording-end, recording-lt, recording-low, recording-home, recording-met, recording-on}
 use Rattle.cell.proofs.walks.walk.Statement.{statement}
 use Rattle.cell.proofs.walks.walk.Tie as tie
-use Rattle.cell.proofs.routes.wide16.Reads as wide16-reads
-use Rattle.cell.proofs.steps.next.Reads as next-reads
-use Rattle.cell.proofs.walks.start_at.Reads as start-at-reads
 
 abbrev Inv-loop : tie.InvT-loop
 Inv-loop c routes n p marks₀ halves₀ points₀ d₀ k₀ marks halves points d k = Recording c n p marks₀ halves₀ points₀ marks halves points d k
