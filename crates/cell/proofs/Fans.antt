@@ -20,7 +20,7 @@ use Rattle.counting.proofs.Search.{every-is, is-every, every-not, count-total, 
 use Rattle.counting.proofs.Stored.{stored-none, stored-as, stored-more, stored-fits, stored-room, stored-in, stored-not, stored-nothing}
 use Rattle.place.specs.declared.Place.{Place}
 use Rattle.place.specs.Place.{middle, coordinates, placeAt, numbers, allNumbers}
-use Rattle.place.proofs.Numbers.{numbers-over, length-numbers, place-kept}
+use Rattle.place.proofs.Numbers.{numbers-over, length-numbers, point-stored, place-kept}
 use Rattle.place.proofs.Sums.{middle-ext}
 use Rattle.manifold.specs.Shape.{hasMiddle}
 use Rattle.manifold.proofs.Shapes.{middle-fan, fan-middle, shape-else}
@@ -156,7 +156,7 @@ module _ (halves points : List ℕ) (area : List Float) (at r : ℕ) (q : r ≡ 
   unfolding recordedMiddle allNumbers
   put-one z room {p} e f =
       let b = is-fan (recordedFan halves) (sym q) .1 z in
-      rw (b, ← e) (record { area = f ∙ stored-room area (coordinates * at) (numbers p) (omega (arith, room, ap one b)) .area; after = omega arith })
+      rw (b, ← e) (point-stored at p (omega (arith, room, ap one b)) f)
 
 -- the numbers of the middle of each loop
 abbrev pub middleOf : Cell → List Float → ℕ → List Float

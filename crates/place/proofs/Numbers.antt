@@ -9,9 +9,10 @@ use lib.ListN.{length, getD, set, drop, List·getD-append}
 use lib.Seq.{sets, getD-append-add}
 use lib.Ieee.{Float, nan}
 use Rattle.counting.specs.Range.{over}
-use Rattle.counting.specs.Stored.{Stored}
+use Rattle.counting.specs.Stored.{Stored, storedIn}
 use Rattle.counting.proofs.Below.{below-three}
 use Rattle.counting.proofs.Fronts.{sets-two, sets-front}
+use Rattle.counting.proofs.Stored.{stored-as, stored-then, stored-room}
 use Rattle.counting.proofs.Stores.{getD-sets-out}
 use Rattle.place.specs.declared.Place.{Place}
 use Rattle.place.specs.Place.{along, between, coordinates, placeAt, numbers, allNumbers}
@@ -62,6 +63,16 @@ front-place ps l g p r h =
     let b = front-at ps l g 1 p r h (omega arith) in
     let c = front-at ps l g 2 p r h (omega arith) in
     rw (a, b, c)
+
+-- points stored after others, and one point
+pub points-then : {was mid is : List Float} {at m n : ℕ} (ps qs : List Place) → Stored was at (allNumbers ps) mid m → Stored mid m (allNumbers qs) is n
+    → Stored was at (allNumbers (ps ++ qs)) is n
+points-then ps qs S T = stored-as (stored-then S T) (sym (numbers-append ps qs)) refl
+
+pub point-stored : {was is : List Float} (k : ℕ) (p : Place) → coordinates * k + coordinates ≤ length was → is ≡ storedIn was (coordinates * k) (numbers p)
+    → Stored was (coordinates * k) (allNumbers (p ∷ [])) is (coordinates * (k + 1))
+unfolding allNumbers
+point-stored {was} k p h e = record { area = e ∙ stored-room was (coordinates * k) (numbers p) h .area; after = omega arith }
 
 -- the points before what is stored stay
 pub place-kept : {was is vs : List Float} {m n : ℕ} → Stored was (coordinates * m) vs is n → (g : ℕ) → g < m → placeAt is g ≡ placeAt was g
