@@ -39,7 +39,7 @@ module _ (cells edges counts names sides starts : List ℕ) (nodes fractions : L
         arith,
         length-append crossingPlaces (tableMiddles cells counts names sides starts place),
         length-singles place (crossings counts) 0,
-        length-table place cells counts names sides starts,
+        length-table cells counts names sides starts place,
       )
 
   module _ (n : ℕ) (R : Ready cells counts names sides starts edges n) (before : List Float) (r : Placed) (m : ℕ)
