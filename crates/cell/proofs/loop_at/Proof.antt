@@ -14,12 +14,6 @@ Inv-loop c k marks₀ halves₀ points₀ n routes left₀ p₀ marks halves poi
 abbrev μ-loop : tie.MeasureT-loop
 μ-loop c k marks₀ halves₀ points₀ n routes left₀ p₀ marks halves points left p = n - p
 
-crossings-of-requires : tie.Need-crossings-of-requires Inv-loop μ-loop
-crossings-of-requires c κs = tt
-
-routes-of-requires : tie.Need-routes-of-requires Inv-loop μ-loop
-routes-of-requires c κs = tt
-
 slice-aggregate-clear : tie.Need-slice-aggregate-clear Inv-loop μ-loop
 slice-aggregate-clear c = refl
 
@@ -44,26 +38,11 @@ walk-requires c κs = going-lent (c .before .before .before .before .before .loo
 add-p : tie.Need-add-p Inv-loop μ-loop
 add-p c = omega (arith, c .before .before .before .before .before .before .before .before .before .loop .inv .0 .few)
 
-loop-less : tie.Need-loop-less Inv-loop μ-loop
-loop-less c = omega arith
-
 loop-again : tie.Need-loop-again Inv-loop μ-loop
 loop-again c = (going-more (c .before .before .before .before .before .before .before .before .before .before .loop .inv .0) (omega arith) (c .before .before .before .before .walk .ensures), loop-skip (c .before .before .before .before .before .before .before .before .before .before .before .before .before .before .before .before .args .c) (c .before .before .before .before .before .before .before .before .before .before .loop .inv .1) (omega (arith, c .before .before .before .before .walk .ensures .size)))
 
-sub-answer-of : tie.Need-sub-answer-of Inv-loop μ-loop
-sub-answer-of c = omega arith
-
-part-answer-of-start : tie.Need-part-answer-of-start Inv-loop μ-loop
-part-answer-of-start c = omega arith
-
 part-answer-of-end : tie.Need-part-answer-of-end Inv-loop μ-loop
 part-answer-of-end c = going-part (c .before .before .before .before .before .before .before .before .before .before .before .before .loop .inv .0) (omega arith) (c .before .before .before .before .before .before .walk .ensures) .0
-
-sub-answer-of-2 : tie.Need-sub-answer-of-2 Inv-loop μ-loop
-sub-answer-of-2 c = omega arith
-
-part-answer-of-start-2 : tie.Need-part-answer-of-start-2 Inv-loop μ-loop
-part-answer-of-start-2 c = omega arith
 
 part-answer-of-end-2 : tie.Need-part-answer-of-end-2 Inv-loop μ-loop
 part-answer-of-end-2 c = going-part (c .before .before .before .before .before .before .before .before .before .before .before .before .before .before .loop .inv .0) (omega arith) (c .before .before .before .before .before .before .before .before .walk .ensures) .1
@@ -73,12 +52,6 @@ answer-of-requires c κs = let L = going-looped (c .before .before .before .befo
 
 returns : tie.Need-returns Inv-loop μ-loop
 returns c = c .answer-of .ensures ∙ loop-here _ (c .before .before .before .before .before .before .before .before .before .before .before .before .before .before .before .before .loop .inv .1) (omega (arith, c .before .before .before .before .before .before .before .before .before .before .walk .ensures .size)) (going-in (c .before .before .before .before .before .before .before .before .before .before .before .before .before .before .before .before .loop .inv .0) (omega arith)) (omega arith) (going-looped (c .before .before .before .before .before .before .before .before .before .before .before .before .before .before .before .before .loop .inv .0) (omega arith) (c .before .before .before .before .before .before .before .before .before .before .walk .ensures))
-
-sub-left : tie.Need-sub-left Inv-loop μ-loop
-sub-left c = omega arith
-
-loop-less-2 : tie.Need-loop-less-2 Inv-loop μ-loop
-loop-less-2 c = omega arith
 
 loop-again-2 : tie.Need-loop-again-2 Inv-loop μ-loop
 loop-again-2 c = (going-more (c .before .before .before .before .before .before .before .before .before .before .before .loop .inv .0) (omega arith) (c .before .before .before .before .before .walk .ensures), loop-pass (c .before .before .before .before .before .before .before .before .before .before .before .before .before .before .before .before .before .args .c) (c .before .before .before .before .before .before .before .before .before .before .before .loop .inv .1) (omega (arith, c .before .before .before .before .before .walk .ensures .size)) (omega arith))
@@ -92,8 +65,8 @@ loop-at-spec =
     (tie.spec
     Inv-loop
     μ-loop
-    crossings-of-requires
-    routes-of-requires
+    (λ c κs. tt)
+    (λ c κs. tt)
     slice-aggregate-clear
     clear-requires
     loop-holds
@@ -102,17 +75,17 @@ loop-at-spec =
     slice-aggregate-walk-3
     walk-requires
     add-p
-    loop-less
+    (λ c. omega arith)
     loop-again
-    sub-answer-of
-    part-answer-of-start
+    (λ c. omega arith)
+    (λ c. omega arith)
     part-answer-of-end
-    sub-answer-of-2
-    part-answer-of-start-2
+    (λ c. omega arith)
+    (λ c. omega arith)
     part-answer-of-end-2
     answer-of-requires
     returns
-    sub-left
-    loop-less-2
+    (λ c. omega arith)
+    (λ c. omega arith)
     loop-again-2
     returns-2)

@@ -22,20 +22,8 @@ abbrev μ-loop : tie.MeasureT-loop
 loop-holds : tie.Need-loop-holds Inv-loop μ-loop
 loop-holds c = (omega arith, summed-none _ _)
 
-edge-at-requires : tie.Need-edge-at-requires Inv-loop μ-loop
-edge-at-requires c κs = omega arith
-
-same-requires : tie.Need-same-requires Inv-loop μ-loop
-same-requires c κs = tt
-
 add-x : tie.Need-add-x Inv-loop μ-loop
 add-x c = omega (arith, c .before .before .before .loop .inv .1 .few, c .before .before .before .before .before .fits)
-
-add-k : tie.Need-add-k Inv-loop μ-loop
-add-k c = omega arith
-
-loop-less : tie.Need-loop-less Inv-loop μ-loop
-loop-less c = omega arith
 
 loop-again : tie.Need-loop-again Inv-loop μ-loop
 unfolding crossAt
@@ -52,10 +40,10 @@ crosses-of-spec =
     Inv-loop
     μ-loop
     loop-holds
-    edge-at-requires
-    same-requires
+    (λ c κs. omega arith)
+    (λ c κs. tt)
     add-x
-    add-k
-    loop-less
+    (λ c. omega arith)
+    (λ c. omega arith)
     loop-again
     returns)

@@ -23,29 +23,11 @@ abbrev μ-loop : tie.MeasureT-loop
 returns : tie.Need-returns Inv-loop μ-loop
 returns c = sym (folds-none (now (c .before .before .args .halves)) (omega arith))
 
-sub-edge-at : tie.Need-sub-edge-at Inv-loop μ-loop
-sub-edge-at c = omega arith
-
-edge-at-requires : tie.Need-edge-at-requires Inv-loop μ-loop
-edge-at-requires c κs = omega arith
-
 loop-holds : tie.Need-loop-holds Inv-loop μ-loop
 loop-holds c = (omega arith, summed-none _ _, c .edge-at .ensures, search needs)
 
-edge-at-requires-2 : tie.Need-edge-at-requires-2 Inv-loop μ-loop
-edge-at-requires-2 c κs = omega arith
-
-same-requires : tie.Need-same-requires Inv-loop μ-loop
-same-requires c κs = tt
-
 add-f : tie.Need-add-f Inv-loop μ-loop
 add-f c = omega (arith, c .before .before .before .loop .inv .1 .few)
-
-add-k : tie.Need-add-k Inv-loop μ-loop
-add-k c = omega arith
-
-loop-less : tie.Need-loop-less Inv-loop μ-loop
-loop-less c = omega arith
 
 loop-again : tie.Need-loop-again Inv-loop μ-loop
 unfolding foldAt
@@ -68,13 +50,13 @@ folds-of-spec =
     Inv-loop
     μ-loop
     returns
-    sub-edge-at
-    edge-at-requires
+    (λ c. omega arith)
+    (λ c κs. omega arith)
     loop-holds
-    edge-at-requires-2
-    same-requires
+    (λ c κs. omega arith)
+    (λ c κs. tt)
     add-f
-    add-k
-    loop-less
+    (λ c. omega arith)
+    (λ c. omega arith)
     loop-again
     returns-2)

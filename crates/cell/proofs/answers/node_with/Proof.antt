@@ -4,22 +4,13 @@ use borrow.Author.Needs.{needs}
 use Rattle.cell.proofs.answers.node_with.Statement.{statement}
 use Rattle.cell.proofs.answers.node_with.Tie as tie
 
-element-copy-out-result : tie.Need-element-copy-out-result
-element-copy-out-result c = search needs
-
 returns : tie.Need-returns
 unfolding nodeWith
 returns c = simp (eq-eqb _ _ (c .before .if1 .taken))
 
-element-copy-out-result-2 : tie.Need-element-copy-out-result-2
-element-copy-out-result-2 c = search needs
-
 returns-2 : tie.Need-returns-2
 unfolding nodeWith
 returns-2 c = simp (ne-eqb _ _ (c .before .before .if1 .left), eq-eqb _ _ (c .before .if2 .taken))
-
-element-copy-out-result-3 : tie.Need-element-copy-out-result-3
-element-copy-out-result-3 c = search needs
 
 returns-3 : tie.Need-returns-3
 unfolding nodeWith
@@ -29,9 +20,9 @@ pub node-with-spec : {M : Type 1} → statement M
 node-with-spec =
     tie.close
     (tie.spec
-    element-copy-out-result
+    (λ c. search needs)
     returns
-    element-copy-out-result-2
+    (λ c. search needs)
     returns-2
-    element-copy-out-result-3
+    (λ c. search needs)
     returns-3)

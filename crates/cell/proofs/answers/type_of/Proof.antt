@@ -7,32 +7,17 @@ use borrow.Author.Needs.{needs}
 use Rattle.cell.proofs.answers.type_of.Statement.{statement}
 use Rattle.cell.proofs.answers.type_of.Tie as tie
 
-add-sum : tie.Need-add-sum
-add-sum c = search needs
-
-add-sum-2 : tie.Need-add-sum-2
-add-sum-2 c = search needs
-
 returns : tie.Need-returns
 unfolding typeBy
 returns c = simp (eq-eqb _ _ (c .if1 .taken))
-
-node-with-requires : tie.Need-node-with-requires
-node-with-requires c κs = search needs
 
 returns-2 : tie.Need-returns-2
 unfolding typeBy
 returns-2 c = simp (ne-eqb _ _ (c .before .before .if1 .left), eq-eqb _ _ (c .before .if2 .taken)) (ap (λ (x : ℕ). 2 ∷ x ∷ []) (c .node-with .ensures))
 
-element-copy-out-t16 : tie.Need-element-copy-out-t16
-element-copy-out-t16 c = search needs
-
 returns-3 : tie.Need-returns-3
 unfolding typeBy
 returns-3 c = simp (ne-eqb _ _ (c .before .before .before .if1 .left), ne-eqb _ _ (c .before .before .if2 .left), eq-eqb _ _ (c .before .if3 .taken))
-
-node-with-requires-2 : tie.Need-node-with-requires-2
-node-with-requires-2 c κs = search needs
 
 returns-4 : tie.Need-returns-4
 unfolding typeBy
@@ -42,12 +27,12 @@ pub type-of-spec : {M : Type 1} → statement M
 type-of-spec =
     tie.close
     (tie.spec
-    add-sum
-    add-sum-2
+    (λ c. search needs)
+    (λ c. search needs)
     returns
-    node-with-requires
+    (λ c κs. search needs)
     returns-2
-    element-copy-out-t16
+    (λ c. search needs)
     returns-3
-    node-with-requires-2
+    (λ c κs. search needs)
     returns-4)

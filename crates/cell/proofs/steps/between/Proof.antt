@@ -5,15 +5,6 @@ use borrow.Author.Needs.{needs}
 use Rattle.cell.proofs.steps.between.Statement.{statement}
 use Rattle.cell.proofs.steps.between.Tie as tie
 
-route-requires : tie.Need-route-requires
-route-requires c κs = search needs
-
-route-requires-2 : tie.Need-route-requires-2
-route-requires-2 c κs = search needs
-
-route-requires-3 : tie.Need-route-requires-3
-route-requires-3 c κs = search needs
-
 sub-up : tie.Need-sub-up
 sub-up c = omega (arith, c .before .route2 .ensures, c .route3 .ensures, below-high (c .before .before .before .pre .0) (c .before .before .before .pre .1))
 
@@ -28,9 +19,6 @@ onto-requires c κs = let a = c .before .before .before .before in (a .pre .0 .r
 
 returns : tie.Need-returns
 returns c = let a = c .before .before .before .before .before in leads (c .before .before .before .before .route .ensures) (to-up (a .pre .0) (a .pre .1) (rw (c .before .before .before .route2 .ensures, c .before .before .route3 .ensures) at (c .before .if1 .taken))) (c .onto .ensures)
-
-route-requires-4 : tie.Need-route-requires-4
-route-requires-4 c κs = search needs
 
 returns-2 : tie.Need-returns-2
 returns-2 c = let a = c .before .before .before .before .before .before in to-end (a .pre .0) (a .pre .1) (rw (c .before .before .before .before .route2 .ensures, c .before .before .before .route3 .ensures) at (c .before .before .if1 .left)) (c .if2 .taken ∙ c .before .route4 .ensures)
@@ -48,15 +36,15 @@ pub between-spec : {M : Type 1} → statement M
 between-spec =
     tie.close
     (tie.spec
-    route-requires
-    route-requires-2
-    route-requires-3
+    (λ c κs. search needs)
+    (λ c κs. search needs)
+    (λ c κs. search needs)
     sub-up
     sub-up-2
     add-onto
     onto-requires
     returns
-    route-requires-4
+    (λ c κs. search needs)
     returns-2
     sub-onto
     onto-requires-2

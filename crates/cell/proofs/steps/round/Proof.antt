@@ -5,9 +5,6 @@ use borrow.Author.Needs.{needs}
 use Rattle.cell.proofs.steps.round.Statement.{statement}
 use Rattle.cell.proofs.steps.round.Tie as tie
 
-route-requires : tie.Need-route-requires
-route-requires c κs = search needs
-
 sub-onto : tie.Need-sub-onto
 sub-onto c = omega (arith, c .route .ensures, turn-count (c .before .before .pre .0) (c .before .before .pre .1), c .before .before .pre .1 .room)
 
@@ -20,13 +17,10 @@ onto-requires c κs = let a = c .before .before in (a .pre .0, spot refl (over-t
 returns : tie.Need-returns
 returns c = let a = c .before .before .before in leads refl (over-to (a .pre .0) (a .pre .1) (c .before .before .if1 .taken) _ (c .before .route .ensures)) (c .onto .ensures)
 
-onto-requires-2 : tie.Need-onto-requires-2
-onto-requires-2 c κs = search needs
-
 returns-2 : tie.Need-returns-2
 returns-2 c = let a = c .before .before in leads refl (on-to (a .pre .0) (a .pre .1) (c .before .if1 .left)) (c .onto2 .ensures)
 
 pub round-spec : {M : Type 1} → statement M
 round-spec =
     tie.close
-    (tie.spec route-requires sub-onto sub-onto-2 onto-requires returns onto-requires-2 returns-2)
+    (tie.spec (λ c κs. search needs) sub-onto sub-onto-2 onto-requires returns (λ c κs. search needs) returns-2)

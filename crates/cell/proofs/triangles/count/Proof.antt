@@ -17,9 +17,6 @@ Inv-loop c n marks₀ halves₀ points₀ routes t₀ p₀ marks halves points t
 abbrev μ-loop : tie.MeasureT-loop
 μ-loop c n marks₀ halves₀ points₀ routes t₀ p₀ marks halves points t p = n - p
 
-routes-of-requires : tie.Need-routes-of-requires Inv-loop μ-loop
-routes-of-requires c κs = tt
-
 clear-requires : tie.Need-clear-requires Inv-loop μ-loop
 clear-requires c κs = c .before .before .before .before .before .pre .long .marks-long
 
@@ -29,29 +26,14 @@ loop-holds c = (going-start _ (c .before .before .before .before .before .before
 walk-requires : tie.Need-walk-requires Inv-loop μ-loop
 walk-requires c κs = going-lent (c .before .before .before .before .before .loop .inv .0) (omega arith)
 
-sub-in-two : tie.Need-sub-in-two Inv-loop μ-loop
-sub-in-two c = omega arith
-
-part-in-two-start : tie.Need-part-in-two-start Inv-loop μ-loop
-part-in-two-start c = omega arith
-
 part-in-two-end : tie.Need-part-in-two-end Inv-loop μ-loop
 part-in-two-end c = going-part (c .before .before .before .before .before .before .before .before .before .before .before .before .before .loop .inv .0) (omega arith) (c .before .before .before .before .before .before .before .walk .ensures) .0
-
-in-two-requires : tie.Need-in-two-requires Inv-loop μ-loop
-in-two-requires c κs = tt
-
-many-requires : tie.Need-many-requires Inv-loop μ-loop
-many-requires c κs = tt
 
 add-t : tie.Need-add-t Inv-loop μ-loop
 add-t c = omega (arith, counted-more (going-looped (c .before .before .before .before .before .before .before .before .before .before .before .before .before .before .before .before .loop .inv .0) (omega arith) (c .before .before .before .before .before .before .before .before .before .before .walk .ensures)) (c .before .before .before .before .before .before .before .before .before .before .before .before .before .before .before .before .loop .inv .1) _ (c .many .ensures ∙ looped-many (going-looped (c .before .before .before .before .before .before .before .before .before .before .before .before .before .before .before .before .loop .inv .0) (omega arith) (c .before .before .before .before .before .before .before .before .before .before .walk .ensures)) (c .before .in-two .ensures)) .few, c .before .before .before .before .before .before .before .before .before .before .before .before .before .before .before .before .loop .inv .0 .few)
 
 add-p : tie.Need-add-p Inv-loop μ-loop
 add-p c = omega (arith, c .before .before .before .before .before .before .before .before .before .before .before .before .before .before .before .before .loop .inv .0 .few)
-
-loop-less : tie.Need-loop-less Inv-loop μ-loop
-loop-less c = omega arith
 
 loop-again : tie.Need-loop-again Inv-loop μ-loop
 loop-again c = (going-more (c .before .before .before .before .before .before .before .before .before .before .before .before .before .before .before .before .loop .inv .0) (omega arith) (c .before .before .before .before .before .before .before .before .before .before .walk .ensures), counted-more (going-looped (c .before .before .before .before .before .before .before .before .before .before .before .before .before .before .before .before .loop .inv .0) (omega arith) (c .before .before .before .before .before .before .before .before .before .before .walk .ensures)) (c .before .before .before .before .before .before .before .before .before .before .before .before .before .before .before .before .loop .inv .1) _ (c .many .ensures ∙ looped-many (going-looped (c .before .before .before .before .before .before .before .before .before .before .before .before .before .before .before .before .loop .inv .0) (omega arith) (c .before .before .before .before .before .before .before .before .before .before .walk .ensures)) (c .before .in-two .ensures)))
@@ -80,18 +62,18 @@ count-spec =
     (tie.spec
     Inv-loop
     μ-loop
-    routes-of-requires
+    (λ c κs. tt)
     clear-requires
     loop-holds
     walk-requires
-    sub-in-two
-    part-in-two-start
+    (λ c. omega arith)
+    (λ c. omega arith)
     part-in-two-end
-    in-two-requires
-    many-requires
+    (λ c κs. tt)
+    (λ c κs. tt)
     add-t
     add-p
-    loop-less
+    (λ c. omega arith)
     loop-again
     clear-requires-2
     wipe-requires

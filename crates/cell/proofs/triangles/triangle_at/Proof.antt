@@ -15,12 +15,6 @@ Inv-loop c t marks₀ halves₀ points₀ n routes left₀ p₀ marks halves poi
 abbrev μ-loop : tie.MeasureT-loop
 μ-loop c t marks₀ halves₀ points₀ n routes left₀ p₀ marks halves points left p = n - p
 
-crossings-of-requires : tie.Need-crossings-of-requires Inv-loop μ-loop
-crossings-of-requires c κs = tt
-
-routes-of-requires : tie.Need-routes-of-requires Inv-loop μ-loop
-routes-of-requires c κs = tt
-
 slice-aggregate-clear : tie.Need-slice-aggregate-clear Inv-loop μ-loop
 slice-aggregate-clear c = refl
 
@@ -42,26 +36,8 @@ slice-aggregate-walk-3 c = sym (c .before .before .before .before .before .loop 
 walk-requires : tie.Need-walk-requires Inv-loop μ-loop
 walk-requires c κs = going-lent (c .before .before .before .before .before .loop .inv .0) (omega arith)
 
-sub-hs : tie.Need-sub-hs Inv-loop μ-loop
-sub-hs c = omega arith
-
-part-hs-start : tie.Need-part-hs-start Inv-loop μ-loop
-part-hs-start c = omega arith
-
 part-hs-end : tie.Need-part-hs-end Inv-loop μ-loop
 part-hs-end c = going-part (c .before .before .before .before .before .before .before .before .before .before .loop .inv .0) (omega arith) (c .before .before .before .before .walk .ensures) .0
-
-in-two-requires : tie.Need-in-two-requires Inv-loop μ-loop
-in-two-requires c κs = tt
-
-many-requires : tie.Need-many-requires Inv-loop μ-loop
-many-requires c κs = tt
-
-sub-triangle-of : tie.Need-sub-triangle-of Inv-loop μ-loop
-sub-triangle-of c = omega arith
-
-part-triangle-of-start : tie.Need-part-triangle-of-start Inv-loop μ-loop
-part-triangle-of-start c = omega arith
 
 part-triangle-of-end : tie.Need-part-triangle-of-end Inv-loop μ-loop
 part-triangle-of-end c = going-part (c .before .before .before .before .before .before .before .before .before .before .before .before .before .before .before .loop .inv .0) (omega arith) (c .before .before .before .before .before .before .before .before .before .walk .ensures) .1
@@ -75,9 +51,6 @@ returns c = let L = going-looped (c .before .before .before .before .before .bef
 add-p : tie.Need-add-p Inv-loop μ-loop
 add-p c = omega (arith, c .before .before .before .before .before .before .before .before .before .before .before .before .before .before .loop .inv .0 .few)
 
-loop-less : tie.Need-loop-less Inv-loop μ-loop
-loop-less c = omega arith
-
 loop-again : tie.Need-loop-again Inv-loop μ-loop
 loop-again c = (going-more (c .before .before .before .before .before .before .before .before .before .before .before .before .before .before .loop .inv .0) (omega arith) (c .before .before .before .before .before .before .before .before .walk .ensures), seeking-more _ (c .before .before .before .before .before .before .before .before .before .before .before .before .before .before .loop .inv .1) _ (c .before .many .ensures ∙ looped-many (going-looped (c .before .before .before .before .before .before .before .before .before .before .before .before .before .before .loop .inv .0) (omega arith) (c .before .before .before .before .before .before .before .before .walk .ensures)) (c .before .before .in-two .ensures)) (omega arith))
 
@@ -90,8 +63,8 @@ triangle-at-spec =
     (tie.spec
     Inv-loop
     μ-loop
-    crossings-of-requires
-    routes-of-requires
+    (λ c κs. tt)
+    (λ c κs. tt)
     slice-aggregate-clear
     clear-requires
     loop-holds
@@ -99,17 +72,17 @@ triangle-at-spec =
     slice-aggregate-walk-2
     slice-aggregate-walk-3
     walk-requires
-    sub-hs
-    part-hs-start
+    (λ c. omega arith)
+    (λ c. omega arith)
     part-hs-end
-    in-two-requires
-    many-requires
-    sub-triangle-of
-    part-triangle-of-start
+    (λ c κs. tt)
+    (λ c κs. tt)
+    (λ c. omega arith)
+    (λ c. omega arith)
     part-triangle-of-end
     triangle-of-requires
     returns
     add-p
-    loop-less
+    (λ c. omega arith)
     loop-again
     returns-2)

@@ -16,9 +16,6 @@ Inv-loop c n marks₀ halves₀ points₀ area₀ at routes i₀ p₀ marks halv
 abbrev μ-loop : tie.MeasureT-loop
 μ-loop c n marks₀ halves₀ points₀ area₀ at routes i₀ p₀ marks halves points area i p = n - p
 
-routes-of-requires : tie.Need-routes-of-requires Inv-loop μ-loop
-routes-of-requires c κs = tt
-
 clear-requires : tie.Need-clear-requires Inv-loop μ-loop
 clear-requires c κs = c .before .before .before .before .before .before .pre .0 .long .marks-long
 
@@ -29,23 +26,8 @@ loop-holds c = (going-start _ (c .before .before .before .before .before .before
 walk-requires : tie.Need-walk-requires Inv-loop μ-loop
 walk-requires c κs = going-lent (c .before .before .before .before .before .loop .inv .0) (omega arith)
 
-sub-hs : tie.Need-sub-hs Inv-loop μ-loop
-sub-hs c = omega arith
-
-part-hs-start : tie.Need-part-hs-start Inv-loop μ-loop
-part-hs-start c = omega arith
-
 part-hs-end : tie.Need-part-hs-end Inv-loop μ-loop
 part-hs-end c = going-part (c .before .before .before .before .before .before .before .before .before .before .before .before .before .loop .inv .0) (omega arith) (c .before .before .before .before .before .before .before .walk .ensures) .0
-
-in-two-requires : tie.Need-in-two-requires Inv-loop μ-loop
-in-two-requires c κs = tt
-
-sub-write-loop : tie.Need-sub-write-loop Inv-loop μ-loop
-sub-write-loop c = omega arith
-
-part-write-loop-start : tie.Need-part-write-loop-start Inv-loop μ-loop
-part-write-loop-start c = omega arith
 
 part-write-loop-end : tie.Need-part-write-loop-end Inv-loop μ-loop
 part-write-loop-end c = going-part (c .before .before .before .before .before .before .before .before .before .before .before .before .before .before .before .before .loop .inv .0) (omega arith) (c .before .before .before .before .before .before .before .before .before .before .walk .ensures) .1
@@ -55,9 +37,6 @@ write-loop-requires c κs = let L = going-looped (c .before .before .before .bef
 
 add-p : tie.Need-add-p Inv-loop μ-loop
 add-p c = omega (arith, c .before .before .before .before .before .before .before .before .before .before .before .before .before .before .before .before .before .before .before .before .before .loop .inv .0 .few)
-
-loop-less : tie.Need-loop-less Inv-loop μ-loop
-loop-less c = omega arith
 
 loop-again : tie.Need-loop-again Inv-loop μ-loop
 loop-again c = let L = going-looped (c .before .before .before .before .before .before .before .before .before .before .before .before .before .before .before .before .before .before .before .before .before .loop .inv .0) (omega arith) (c .before .before .before .before .before .before .before .before .before .before .before .before .before .before .before .walk .ensures) in (going-more (c .before .before .before .before .before .before .before .before .before .before .before .before .before .before .before .before .before .before .before .before .before .loop .inv .0) (omega arith) (c .before .before .before .before .before .before .before .before .before .before .before .before .before .before .before .walk .ensures), written-more _ _ (c .before .before .before .before .before .before .before .before .before .before .before .before .before .before .before .before .before .before .before .before .before .loop .inv .1) (looped-many L (c .before .before .before .before .before .before .in-two .ensures)) (c .before .before .write-loop .ensures .0) (looped-loop L (c .before .before .before .before .before .before .in-two .ensures)) (c .before .before .write-loop .ensures .1))
@@ -89,20 +68,20 @@ write-all-spec =
     (tie.spec
     Inv-loop
     μ-loop
-    routes-of-requires
+    (λ c κs. tt)
     clear-requires
     loop-holds
     walk-requires
-    sub-hs
-    part-hs-start
+    (λ c. omega arith)
+    (λ c. omega arith)
     part-hs-end
-    in-two-requires
-    sub-write-loop
-    part-write-loop-start
+    (λ c κs. tt)
+    (λ c. omega arith)
+    (λ c. omega arith)
     part-write-loop-end
     write-loop-requires
     add-p
-    loop-less
+    (λ c. omega arith)
     loop-again
     clear-requires-2
     wipe-requires

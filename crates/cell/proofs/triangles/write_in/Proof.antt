@@ -6,26 +6,11 @@ use borrow.Author.Needs.{needs}
 use Rattle.cell.proofs.triangles.write_in.Statement.{statement}
 use Rattle.cell.proofs.triangles.write_in.Tie as tie
 
-crossings-of-requires : tie.Need-crossings-of-requires
-crossings-of-requires c κs = search needs
-
-has-room-requires : tie.Need-has-room-requires
-has-room-requires c κs = search needs
-
 write-all-requires : tie.Need-write-all-requires
 write-all-requires c κs = (search needs, leb-true _ _ (sym (c .before .before .before .before .before .has-room .ensures .0) ∙ c .before .before .before .before .if1 .taken))
 
-same-length : tie.Need-same-length
-same-length c = search needs
-
 returns : tie.Need-returns
 returns c = (has-room _ _ _ (leb-true _ _ (sym (c .before .before .before .before .before .before .before .before .has-room .ensures .0) ∙ c .before .before .before .before .before .before .before .if1 .taken)) (c .before .before .write-all .ensures .0), used-cleared (record { all = c .before .before .before .before .before .before .before .before .before .before .before .before .crossings-of .ensures .0; few = c .before .before .before .before .before .before .before .before .before .before .before .before .crossings-of .ensures .1; long = search needs }) (c .before .before .before .before .before .before .before .before .has-room .ensures .1) (rw (c .before .before .before .before .before .before .before .before .before .before .before .before .crossings-of .ensures .0) (c .before .before .write-all .ensures .1 .marks-are)) (rw (c .before .before .before .before .before .before .before .before .before .before .before .before .crossings-of .ensures .0) (c .before .before .write-all .ensures .1 .halves-are)) (rw (c .before .before .before .before .before .before .before .before .before .before .before .before .crossings-of .ensures .0) (c .before .before .write-all .ensures .1 .points-are)))
-
-clear-requires : tie.Need-clear-requires
-clear-requires c κs = search needs
-
-wipe-requires : tie.Need-wipe-requires
-wipe-requires c κs = search needs
 
 returns-2 : tie.Need-returns-2
 returns-2 c = (no-room _ _ _ (sym (c .before .before .before .before .before .before .has-room .ensures .0) ∙ c .before .before .before .before .before .if1 .left), used-cleared (record { all = c .before .before .before .before .before .before .before .before .before .before .crossings-of .ensures .0; few = c .before .before .before .before .before .before .before .before .before .before .crossings-of .ensures .1; long = search needs }) (c .before .before .before .before .before .before .has-room .ensures .1) (c .before .before .before .clear .ensures) (c .wipe .ensures .0) (c .wipe .ensures .1))
@@ -34,11 +19,11 @@ pub write-in-spec : {M : Type 1} → statement M
 write-in-spec =
     tie.close
     (tie.spec
-    crossings-of-requires
-    has-room-requires
+    (λ c κs. search needs)
+    (λ c κs. search needs)
     write-all-requires
-    same-length
+    (λ c. search needs)
     returns
-    clear-requires
-    wipe-requires
+    (λ c κs. search needs)
+    (λ c κs. search needs)
     returns-2)

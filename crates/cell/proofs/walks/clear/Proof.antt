@@ -14,17 +14,8 @@ abbrev μ-loop : tie.MeasureT-loop
 loop-holds : tie.Need-loop-holds Inv-loop μ-loop
 loop-holds c = filling-none unmarked _ _
 
-mul-marks : tie.Need-mul-marks Inv-loop μ-loop
-mul-marks c = omega arith
-
 slice-write-marks : tie.Need-slice-write-marks Inv-loop μ-loop
 slice-write-marks c = omega (arith, filling-long (c .before .loop .inv), c .before .before .pre)
-
-add-i : tie.Need-add-i Inv-loop μ-loop
-add-i c = omega arith
-
-loop-less : tie.Need-loop-less Inv-loop μ-loop
-loop-less c = omega arith
 
 loop-again : tie.Need-loop-again Inv-loop μ-loop
 loop-again c = filling-more (c .before .loop .inv) (omega arith)
@@ -42,10 +33,10 @@ clear-spec =
     Inv-loop
     μ-loop
     loop-holds
-    mul-marks
+    (λ c. omega arith)
     slice-write-marks
-    add-i
-    loop-less
+    (λ c. omega arith)
+    (λ c. omega arith)
     loop-again
     same-length
     returns)

@@ -5,17 +5,8 @@ use borrow.Author.Needs.{needs}
 use Rattle.cell.proofs.walks.is_on.Statement.{statement}
 use Rattle.cell.proofs.walks.is_on.Tie as tie
 
-first-of-requires : tie.Need-first-of-requires
-first-of-requires c κs = search needs
-
-route-requires : tie.Need-route-requires
-route-requires c κs = search needs
-
 returns : tie.Need-returns
 returns c = let a = c .before .before .before in not-on (a .pre .0) _ _ (a .pre .1) (c .before .before .first-of .ensures .0) (c .before .before .first-of .ensures .1) (rw (c .before .route .ensures) at (c .if1 .taken))
-
-route-requires-2 : tie.Need-route-requires-2
-route-requires-2 c κs = search needs
 
 add-result : tie.Need-add-result
 add-result c = omega (arith, c .route2 .ensures, c .before .before .route .ensures, fits-all (c .before .before .before .before .pre .0) _ (c .before .before .before .first-of .ensures .1))
@@ -26,4 +17,4 @@ returns-2 c = let a = c .before .before .before .before in rw (c .before .before
 pub is-on-spec : {M : Type 1} → statement M
 is-on-spec =
     tie.close
-    (tie.spec first-of-requires route-requires returns route-requires-2 add-result returns-2)
+    (tie.spec (λ c κs. search needs) (λ c κs. search needs) returns (λ c κs. search needs) add-result returns-2)

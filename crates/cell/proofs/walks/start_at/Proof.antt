@@ -27,12 +27,6 @@ first-dart-requires c κs = let a = c .before .before .before .before in record 
 returns : tie.Need-returns Inv-loop μ-loop
 returns c = c .first-dart .ensures
 
-add-e : tie.Need-add-e Inv-loop μ-loop
-add-e c = omega arith
-
-loop-less : tie.Need-loop-less Inv-loop μ-loop
-loop-less c = omega arith
-
 loop-again : tie.Need-loop-again Inv-loop μ-loop
 loop-again c = (omega arith, below-more _ _ (c .before .before .before .loop .inv .1) (sym (c .before .is-on .ensures) ∙ c .if1 .left))
 
@@ -52,8 +46,8 @@ start-at-spec =
     is-on-requires
     first-dart-requires
     returns
-    add-e
-    loop-less
+    (λ c. omega arith)
+    (λ c. omega arith)
     loop-again
     first-dart-requires-2
     returns-2)

@@ -19,9 +19,6 @@ mul-wide16 c = omega (arith, c .before .before .before .pre .inside, c .before .
 slice-read-wide16 : tie.Need-slice-read-wide16 Inv-loop μ-loop
 slice-read-wide16 c = omega (arith, c .before .before .before .before .pre .inside, c .before .before .before .before .pre .all, c .before .before .before .before .pre .marked .long)
 
-wide16-requires : tie.Need-wide16-requires Inv-loop μ-loop
-wide16-requires c κs = tt
-
 returns : tie.Need-returns Inv-loop μ-loop
 returns c = lent-met (c .before .before .before .before .before .before .pre) (rw (c .before .wide16 .ensures .0) at (c .if1 .taken))
 
@@ -67,12 +64,6 @@ add-k c = omega (arith, recording-long (c .before .before .before .before .befor
 next-requires : tie.Need-next-requires Inv-loop μ-loop
 next-requires c κs = recording-ready (c .before .before .before .before .before .before .before .before .before .before .pre) (c .before .before .loop .inv)
 
-enum-known-e : tie.Need-enum-known-e Inv-loop μ-loop
-enum-known-e c = search needs
-
-enum-told : tie.Need-enum-told Inv-loop μ-loop
-enum-told c = search needs
-
 same-length : tie.Need-same-length Inv-loop μ-loop
 same-length c = c .before .before .before .before .before .loop .inv .used .marks-kept .long
 
@@ -115,9 +106,6 @@ mul-wide16-2 c = omega (arith, recording-lt (c .before .before .before .before .
 slice-read-wide16-2 : tie.Need-slice-read-wide16-2 Inv-loop μ-loop
 slice-read-wide16-2 c = omega (arith, recording-lt (c .before .before .before .before .before .before .before .before .before .before .before .before .before .before .before .before .before .pre) (c .before .before .before .before .before .before .before .before .before .loop .inv) (onward-on (c .before .before .before .before .before .before .next .ensures) (c .before .before .before .before .e .given .1)))
 
-wide16-requires-2 : tie.Need-wide16-requires-2 Inv-loop μ-loop
-wide16-requires-2 c κs = tt
-
 same-length-10 : tie.Need-same-length-10 Inv-loop μ-loop
 same-length-10 c = c .before .before .before .before .before .before .before .before .before .before .before .loop .inv .used .marks-kept .long
 
@@ -153,7 +141,7 @@ walk-spec =
     μ-loop
     mul-wide16
     slice-read-wide16
-    wide16-requires
+    (λ c κs. tt)
     returns
     start-at-requires
     loop-holds
@@ -169,8 +157,8 @@ walk-spec =
     slice-write-points
     add-k
     next-requires
-    enum-known-e
-    enum-told
+    (λ c. search needs)
+    (λ c. search needs)
     same-length
     same-length-2
     same-length-3
@@ -185,7 +173,7 @@ walk-spec =
     returns-4
     mul-wide16-2
     slice-read-wide16-2
-    wide16-requires-2
+    (λ c κs. tt)
     same-length-10
     same-length-11
     same-length-12

@@ -22,12 +22,6 @@ mul-points c = omega (arith, filling-long (c .before .loop .inv .1), c .before .
 slice-write-points : tie.Need-slice-write-points Inv-loop μ-loop
 slice-write-points c = omega (arith, filling-long (c .before .loop .inv .1), c .before .before .pre .1)
 
-add-i : tie.Need-add-i Inv-loop μ-loop
-add-i c = omega arith
-
-loop-less : tie.Need-loop-less Inv-loop μ-loop
-loop-less c = omega arith
-
 loop-again : tie.Need-loop-again Inv-loop μ-loop
 loop-again c = (filling-more (c .before .loop .inv .0) (omega arith), filling-more (c .before .loop .inv .1) (omega arith))
 
@@ -50,8 +44,8 @@ wipe-spec =
     slice-write-halves
     mul-points
     slice-write-points
-    add-i
-    loop-less
+    (λ c. omega arith)
+    (λ c. omega arith)
     loop-again
     same-length
     same-length-2
