@@ -27,3 +27,4 @@ pub mod Cells
 pub mod Fits
 pub mod TriangleClaims
 pub mod Renaming
+pub mod Fans

@@ -20,3 +20,4 @@ pub mod Names
 pub mod Polygons
 pub mod TriangleClaims
 pub mod Renaming
+pub mod Middles

@@ -6,6 +6,7 @@ ghost use Rattle.cell.specs.Answer.{loopNumbers};
 
 mod answers;
 mod make;
+mod middles;
 mod routes;
 mod steps;
 mod tables;
@@ -15,6 +16,8 @@ mod words;
 mod write;
 
 pub use answers::folds_of;
+pub use middles::fans_in;
+pub use middles::middles_in;
 pub use routes::crossings_of;
 pub use triangles::count_in;
 pub use triangles::triangle_at;

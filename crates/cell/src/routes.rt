@@ -181,6 +181,14 @@ fn count_at(c: Cell, e: usize) -> usize
     wide8(count_of(c, e))
 }
 
+// The crossing number after those of edge e.
+pub(crate) fn end_of(c: Cell, e: usize) -> usize
+    requires { ⌜ e < 6 ⌝ }
+    ensures { λ r. ⌜ r ≡ startOf c e + countOf c e ⌝ }
+{
+    wide16(start_of(c, e)) + count_at(c, e)
+}
+
 // How many crossings the cell has.
 pub fn crossings_of(c: Cell) -> usize
     ensures { λ r. ⌜ (r ≡ crossings (edgesOf c)) × (r ≤ mostInCell) ⌝ }

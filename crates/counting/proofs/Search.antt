@@ -12,7 +12,7 @@ use Rattle.counting.specs.Pick.{pick, one}
 use Rattle.counting.specs.Range.{total}
 use Rattle.counting.specs.Search.{seek, first, last, some, every, count}
 use Rattle.counting.proofs.Below.{trichotomy}
-use Rattle.counting.proofs.Bools.{clash, and-true, and-left, and-right, holds-or, one-le}
+use Rattle.counting.proofs.Bools.{not-clash, clash, and-true, and-left, and-right, holds-or, one-le}
 use Rattle.counting.proofs.Range.{total-le, total-mono, total-snoc}
 
 -- below n, or at the last of suc n numbers
@@ -174,6 +174,9 @@ module _ (t : ℕ → Bool) where
   unfolding every
   is-every zero h = refl
   is-every (suc n) h = and-true (every t n) (t n) (is-every n (λ i l. h i (omega arith))) (h n (omega arith))
+
+  pub every-not : (n i : ℕ) → i < n → t i ≡ false → every t n ≡ false
+  every-not n i h e = not-clash (every t n) (λ q. clash (every-is n q i h) e)
 
   -- the last number below n that passes
   pub last-none : last t 0 ≡ 0

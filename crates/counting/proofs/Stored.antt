@@ -1,17 +1,21 @@
 -- Laws of what is stored or summed so far, over the type of the entries, their number and their width.
 use Prim.Native.Nat.{ℕ, _+_, _*_, _≤_, _<_}
 use mathlib.Core.Path.{_≡_, refl, sym, ap, ap₂, _∙_}
+use mathlib.Core.Bool.{Bool, true, false}
 use mathlib.Core.List.{List, [], _∷_, _++_, append-nil}
 use native.Mathlib.Nat.{zero-add, add-zero, mul-suc}
 use native.Mathlib.Numerals.{add-one}
 use native.Mathlib.Omega.{arith}
+use lib.Dec.{leb}
 use lib.ListN.{length, getD, take, drop, set, length-append}
 use lib.Seq.{sets, length-sets, drop-length, take-suc, take-all}
+use borrow.Author.Tests.{le-leb, lt-leb}
+use Rattle.counting.specs.Pick.{pick}
 use Rattle.counting.specs.Range.{over, total, values}
-use Rattle.counting.specs.Stored.{Stored, Summed, filled}
+use Rattle.counting.specs.Stored.{Stored, Summed, filled, storedIn, nextIn}
 use Rattle.counting.proofs.Range.{total-next}
 use Rattle.counting.proofs.Lists.{length-singles, values-ext, values-at}
-use Rattle.counting.proofs.Fronts.{sets-append, sets-front, over-more, over-split, over-shift}
+use Rattle.counting.proofs.Fronts.{sets-append, sets-front, over-more, over-split, over-shift, over-within}
 use Rattle.counting.proofs.Stores.{getD-sets-in}
 
 module _ {A : Type 0} where
@@ -44,6 +48,10 @@ module _ {A : Type 0} where
   pub stored-more : (f : ℕ → List A) (k : ℕ) {was mid is : List A} {at m n : ℕ} → Stored was at (over f k 0) mid m → Stored mid m (f k) is n → Stored was at (over f (k + 1) 0) is n
   stored-more f k S T = stored-as (stored-then S T) (sym (over-more f k)) refl
 
+  -- the next one of n has room
+  pub stored-fits : (f : ℕ → List A) (n k : ℕ) {was is : List A} {at m : ℕ} → Stored was at (over f k 0) is m → k < n → at + length (over f n 0) ≤ length was → m + length (f k) ≤ length is
+  stored-fits f n k S h r = omega (arith, S .after, stored-long S, over-within f n k h)
+
   -- one entry more of a list
   pub stored-entry : (l : List A) (i : ℕ) (d : A) {was mid : List A} {at m : ℕ} → Stored was at (take i l) mid m → i < length l
       → Stored was at (take (i + 1) l) (set mid m (getD l i d)) (m + 1)
@@ -52,6 +60,26 @@ module _ {A : Type 0} where
 
   pub stored-all : (l : List A) (i : ℕ) {was is : List A} {at n : ℕ} → Stored was at (take i l) is n → length l ≤ i → Stored was at l is n
   stored-all l i S h = stored-as S (take-all i l h) refl
+
+  -- where the values have room, and where they have none
+  pub stored-room : (was : List A) (at : ℕ) (vs : List A) → at + length vs ≤ length was → Stored was at vs (storedIn was at vs) (nextIn was at vs)
+  unfolding storedIn nextIn
+  stored-room was at vs h = let e = le-leb (at + length vs) (length was) h in record { area = rw e; after = rw e }
+
+  pub stored-in : {was : List A} {at : ℕ} {vs is : List A} {n : ℕ} → Stored was at vs is n → at + length vs ≤ length was → (is ≡ storedIn was at vs) × (n ≡ nextIn was at vs)
+  stored-in {was} {at} {vs} S h = let T = stored-room was at vs h in (S .area ∙ sym (T .area), S .after ∙ sym (T .after))
+
+  pub stored-not : (was : List A) (at : ℕ) (vs : List A) → length was < at + length vs → (was ≡ storedIn was at vs) × (at ≡ nextIn was at vs)
+  unfolding storedIn nextIn
+  stored-not was at vs h = let e = lt-leb (at + length vs) (length was) h in (rw e, rw e)
+
+  pub stored-nothing : (was : List A) (at : ℕ) → (was ≡ storedIn was at []) × (at ≡ nextIn was at [])
+  unfolding storedIn nextIn
+  stored-nothing was at = go (leb (at + 0) (length was))
+    where
+      go : (b : Bool) → (was ≡ pick b was was) × (at ≡ pick b (at + 0) at)
+      go true = (refl, sym (add-zero at))
+      go false = (refl, refl)
 
   -- one value more, after k of them from the place a on
   pub sets-more : (f : ℕ → A) (a k : ℕ) (l m : List A) (i : ℕ) (x : A) → m ≡ sets l a (values f k) → i ≡ a + k → x ≡ f k → set m i x ≡ sets l a (values f (k + 1))

@@ -19,7 +19,7 @@ use Rattle.grid.specs.Tables.{accepts}
 use Rattle.grid.specs.Accepted.{Sound}
 use Rattle.grid.proofs.Claims.{accepted-is}
 use Rattle.grid.proofs.Accepts.{acceptance-yields}
-use Rattle.places.specs.Place.{coordinates}
+use Rattle.place.specs.Place.{coordinates}
 use Rattle.places.specs.Rows.{nodeEnd, badLists, badNumber, badFraction}
 use Rattle.places.specs.Answer.{needed, placeRows, rowsAnswer, placesAnswer, placed}
 

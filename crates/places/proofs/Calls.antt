@@ -1,6 +1,6 @@
 -- The places call, where the grid check refuses and where it accepts.
 use Prim.Native.Nat.{ℕ, _+_, _<_}
-use mathlib.Core.Path.{_≡_, sym, ap, _∙_, subst}
+use mathlib.Core.Path.{_≡_, sym, ap, _∙_}
 use mathlib.Core.Bool.{true}
 use mathlib.Core.List.{List, [], _∷_, _++_}
 use native.Mathlib.Nat.{zero-add}
@@ -10,10 +10,10 @@ use lib.Seq.{sets}
 use lib.Ieee.{Float}
 use Rattle.answer.specs.Answer.{result, isResult, refused}
 use Rattle.counting.specs.Pick.{pick}
-use Rattle.counting.specs.Range.{over}
+use Rattle.counting.specs.Range.{values}
 use Rattle.counting.proofs.Range.{over-ext}
 use Rattle.counting.proofs.Lists.{getD-singles}
-use Rattle.cell.specs.declared.Cell.{Cell}
+use Rattle.cell.proofs.Fans.{below-all}
 use Rattle.grid.specs.declared.Checked.{Checked}
 use Rattle.grid.specs.declared.Checked.the-variants.{Crossings, Refused}
 use Rattle.grid.specs.Check.{checkNumbers}
@@ -27,28 +27,30 @@ use Rattle.grid.proofs.Filled.{refused-keeps, crossings-accept}
 use Rattle.mesh.specs.Mesh.{gridCell}
 use Rattle.mesh.specs.Table.{tableCell}
 use Rattle.mesh.proofs.Tables.{Tabled, tabled, cell-is}
-use Rattle.places.specs.declared.Place.{Place}
-use Rattle.places.specs.Place.{allNumbers}
-use Rattle.places.specs.Points.{crossingPlace, cellMiddles, middles, points}
+use Rattle.place.specs.declared.Place.{Place}
+use Rattle.place.specs.Place.{allNumbers}
+use Rattle.cell.specs.Middles.{cellMiddles, numberedBelow}
+use Rattle.places.specs.Points.{crossingPlace, middles, points}
 use Rattle.places.specs.Answer.{rowsAnswer, placesAnswer, placed, placesArea}
 use Rattle.places.specs.Done.{Done}
-use Rattle.places.specs.Work.{Below, tableMiddles, tablePoints, Ready, PointsIn}
-use Rattle.places.proofs.Nodes.{numbers-small, low-end, high-end}
+use Rattle.places.specs.Work.{tableMiddles, tablePoints, Ready, PointsIn}
+use Rattle.places.proofs.Nodes.{numbers-small}
 use Rattle.places.proofs.Fractions.{start-fits}
 use Rattle.places.proofs.ExactCase.{exact-case}
 
 module _ {G : Grid} {names sides starts : List ℕ} (T : Tabled G names sides starts) where
   -- the crossings of a cell are those of its edges
-  grid-below : (c : ℕ) → c < cellCount (G .cells) → Below (gridCell G c) (crossings (G .counts))
+  grid-below : (c : ℕ) → c < cellCount (G .cells) → numberedBelow (gridCell G c) (crossings (G .counts)) ≡ true
   unfolding gridCell
-  grid-below c l k h =
+  grid-below c l =
       let e = edgeNumber G c in
+      below-all (gridCell G c) (crossings (G .counts)) (λ k h.
       omega (
         arith,
         getD-singles (λ i. start (G .counts) (e i)) 0 6 0 k h ∙ ap (λ i. start (G .counts) (e i)) (zero-add k),
         getD-singles (λ i. countOf (G .counts) (e i)) 0 6 0 k h ∙ ap (λ i. countOf (G .counts) (e i)) (zero-add k),
         start-fits (G .counts) (e k) (edge-numbers G (T .sound) .listed c k l h),
-      )
+      ))
 
   pub ready : (n : ℕ) → n ≡ crossings (G .counts) → Ready (G .cells) (G .counts) names sides starts (G .edges) n
   ready n e = record {
@@ -56,15 +58,13 @@ module _ {G : Grid} {names sides starts : List ℕ} (T : Tabled G names sides st
     few = omega (arith, e, T .sound .few-crossings);
     few-cells = T .sound .few-cells;
     pairs = T .sound .pairs;
-    lows = λ x l. low-end G (T .sound) x l .below;
-    highs = λ x l. high-end G (T .sound) x l .below;
-    below = λ c l. subst (λ (x : Cell). Below x n) (sym (cell-is T c l)) (subst (λ k. Below (gridCell G c) k) (sym e) (grid-below c l));
+    below = λ c l. rw (cell-is T c l, e) (grid-below c l);
   }
 
   pub points-are : (nodes fractions : List Float) → tablePoints (G .cells) (G .counts) names sides starts (G .edges) nodes fractions ≡ points G nodes fractions
   unfolding tablePoints tableMiddles points middles
   points-are nodes fractions =
-      ap (λ (x : List Place). over (λ g. crossingPlace (G .edges) (G .counts) nodes fractions g ∷ []) (crossings (G .counts)) 0 ++ x)
+      ap (λ (x : List Place). values (crossingPlace (G .edges) (G .counts) nodes fractions) (crossings (G .counts)) ++ x)
       (over-ext (λ c. cellMiddles (crossingPlace (G .edges) (G .counts) nodes fractions) (tableCell (G .cells) (G .counts) names sides starts c))
       (λ c. cellMiddles (crossingPlace (G .edges) (G .counts) nodes fractions) (gridCell G c)) (cellCount (G .cells)) 0
       (λ c a b. ap (cellMiddles (crossingPlace (G .edges) (G .counts) nodes fractions)) (cell-is T c (omega arith))))

@@ -11,7 +11,8 @@ use lib.Ieee.Fits.{down-pos}
 use borrow.Author.Tests.{ltb-true, eqb-true}
 use Rattle.counting.proofs.Bools.{and-left, and-right, or-cases, clash}
 use mathlib.Core.Logic.{⊎-elim}
-use Rattle.places.specs.Place.{floatOf, along, farthest, within, properFraction}
+use Rattle.place.specs.Place.{floatOf, along}
+use Rattle.places.specs.Numbers.{farthest, within, properFraction}
 use Rattle.places.specs.Exact.{Exactly, parts}
 use Rattle.places.proofs.Values.{Val, size-of, add-val, sub-val, mul-val, scale-val}
 

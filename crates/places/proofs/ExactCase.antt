@@ -2,26 +2,27 @@
 use Prim.Native.Nat.{ℕ, _+_, _*_, _/_, _<_}
 use mathlib.Core.Path.{_≡_, sym, ap, _∙_, subst}
 use mathlib.Core.Bool.{true}
-use mathlib.Core.List.{List, [], _∷_}
+use mathlib.Core.List.{List}
 use native.Mathlib.Omega.{arith}
 use lib.ListN.{length, getD, length-append, List·getD-append}
 use lib.IntN.{ℤ, pos, _+ℤ_, _-ℤ_, _*ℤ_}
 use lib.Ieee.{Float, nan}
 use borrow.Author.Tests.{not-false}
 use Rattle.answer.specs.Answer.{result}
-use Rattle.counting.specs.Range.{over}
+use Rattle.counting.specs.Range.{values}
 use Rattle.counting.proofs.Bools.{or-none}
 use Rattle.counting.proofs.Lists.{length-singles, getD-singles}
 use Rattle.counting.proofs.Pack.{row-lt}
 use native.Mathlib.Nat.{zero-add}
 use Rattle.grid.specs.Grid.{Grid, low, high, start, countOf, crossings}
-use Rattle.places.specs.declared.Place.{Place}
-use Rattle.places.specs.Place.{along, coordinates, placeAt, numbers, within, properFraction}
+use Rattle.place.specs.declared.Place.{Place}
+use Rattle.place.specs.Place.{along, coordinates, placeAt, numbers}
+use Rattle.places.specs.Numbers.{within, properFraction}
 use Rattle.places.specs.Points.{edgeOfCrossing, crossingPlace, middles, points}
 use Rattle.places.specs.Rows.{hasNode, badNumber, badFractionAt, badFraction}
 use Rattle.places.specs.Answer.{needed, placesAnswer, placesArea}
 use Rattle.places.specs.Exact.{Exactly, parts, ExactCase}
-use Rattle.places.proofs.Numbers.{front-at, number-loaded, number-between}
+use Rattle.place.proofs.Numbers.{front-at, number-loaded, number-between}
 use Rattle.places.proofs.Exact.{along-exact, within-whole, proper-part}
 use Rattle.places.proofs.Nodes.{End, low-end, high-end}
 use Rattle.places.proofs.Answers.{Passed, passed, placed-is}
@@ -32,19 +33,19 @@ module _ (G : Grid) (nodes fractions : List Float) where
 
   -- point g of the list is crossing g, where there is one
   module _ (g : ℕ) (h : g < crossings (G .counts)) where
-    front-long : length (over (λ x. at x ∷ []) (crossings (G .counts)) 0) ≡ crossings (G .counts)
+    front-long : length (values at (crossings (G .counts))) ≡ crossings (G .counts)
     front-long = length-singles at (crossings (G .counts)) 0
 
     pub point-at : (p : Place) → getD (points G nodes fractions) g p ≡ at g
     unfolding points
     point-at p =
-        List·getD-append (over (λ x. at x ∷ []) (crossings (G .counts)) 0) (middles G nodes fractions) p g (omega (arith, front-long))
+        List·getD-append (values at (crossings (G .counts))) (middles G nodes fractions) p g (omega (arith, front-long))
         ∙ getD-singles at p (crossings (G .counts)) 0 g h
         ∙ ap at (zero-add g)
 
     pub point-lt : g < needed G nodes fractions
     unfolding points
-    point-lt = omega (arith, front-long, length-append (over (λ x. at x ∷ []) (crossings (G .counts)) 0) (middles G nodes fractions))
+    point-lt = omega (arith, front-long, length-append (values at (crossings (G .counts))) (middles G nodes fractions))
 
     edge-lt : edgeOfCrossing (G .counts) g < length (G .counts)
     unfolding edgeOfCrossing start

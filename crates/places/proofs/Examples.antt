@@ -11,15 +11,17 @@ use Rattle.face.specs.Face as face
 use Rattle.walk.specs.Iterate.{it, orbit}
 use Rattle.walk.specs.Step as step
 use Rattle.walk.specs.Walk as walk
-use Rattle.manifold.specs.Shape.{hasMiddle}
 use Rattle.cell.specs.Cell as cell
 use Rattle.cell.specs.Loop as loop
 use Rattle.grid.specs.Grid.{faceNode, sameFace, hasFace, faceName, joins, isEdge, hasEdge, edgeNumber, start}
 use Rattle.answer.specs.Rows.{orRefuse, answerOf}
 use Rattle.grid.specs.Rows.{badLength, badPairs, badCell, sameCell, repeats, crowded, isAfter, badEdge, unlisted, unused, linked, reached, split, tooMany, rows, gridAnswer}
+use Rattle.manifold.specs.Shape.{hasMiddle}
 use Rattle.cell.specs.Triangles.{numberOf}
+use Rattle.cell.specs.Middles.{isFan, loopPoint, loopMiddle, cellMiddles}
 use Rattle.mesh.specs.Mesh.{gridCell}
-use Rattle.places.specs.Place.{sumTo, middle, allNumbers, within, properFraction}
+use Rattle.place.specs.Place.{sumTo, middle, allNumbers}
+use Rattle.places.specs.Numbers.{within, properFraction}
 use Rattle.places.specs.Points as points
 use Rattle.places.specs.Rows.{hasNode, highest, badLists, badNumber, badFractionAt, badFraction}
 use Rattle.places.specs.Answer.{placeRows, rowsAnswer, placesAnswer, placed, placesArea}
@@ -35,7 +37,7 @@ unfolding add sub mul div neg lt le eq ofInt ofBits
     loop.loopSize loop.dart loop.loopDarts loop.folded loop.normal loop.inGrid
     faceNode sameFace hasFace faceName joins isEdge hasEdge edgeNumber start
     badLength badPairs badCell sameCell repeats crowded isAfter badEdge unlisted unused linked reached split tooMany rows orRefuse answerOf gridAnswer
-    numberOf hasMiddle gridCell
-    sumTo middle allNumbers within properFraction points.edgeOfCrossing points.indexOfCrossing points.isFan points.pointOf points.crossingPlace points.loopMiddle points.cellMiddles points.middles points.points
+    hasMiddle numberOf isFan loopPoint loopMiddle cellMiddles gridCell
+    sumTo middle allNumbers within properFraction points.edgeOfCrossing points.indexOfCrossing points.crossingPlace points.middles points.points
     hasNode highest badLists badNumber badFractionAt badFraction placeRows rowsAnswer placesAnswer placed placesArea examples asked listed
 examples-hold = refl

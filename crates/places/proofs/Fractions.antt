@@ -13,7 +13,7 @@ use Rattle.counting.specs.Pack.{pre}
 use Rattle.counting.proofs.Search.{first-le, first-is, first-below, first-at, none-first}
 use Rattle.counting.proofs.Pack.{col-pack, pre-le, pack-lt}
 use Rattle.grid.specs.Grid.{countOf, start, crossings}
-use Rattle.places.specs.Place.{properFraction}
+use Rattle.places.specs.Numbers.{properFraction}
 use Rattle.places.specs.Points.{indexOfCrossing}
 use Rattle.places.specs.Rows.{badFractionAt, badFraction}
 

@@ -11,7 +11,7 @@ use Rattle.answer.specs.Answer.{result, refusal}
 use Rattle.answer.proofs.Rows.{row-passes, row-refuses, rows-end, whole-fault, whole-fine}
 use Rattle.counting.specs.Search.{first, last}
 use Rattle.grid.specs.Grid.{highestNode, crossings}
-use Rattle.places.specs.Place.{coordinates}
+use Rattle.place.specs.Place.{coordinates}
 use Rattle.places.specs.Rows.{highest, nodeEnd, badLists, badNumber, badFraction}
 use Rattle.places.specs.Answer.{placeRows, rowsAnswer}
 use Rattle.places.specs.Work.{Marked, isMarked, badMarked, Reaching, Judgeable}

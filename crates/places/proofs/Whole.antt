@@ -1,6 +1,6 @@
 -- All points of a grid from its tables: judged, and written.
 use Prim.Native.Nat.{ℕ, _+_, _*_, _≤_, _<_}
-use mathlib.Core.Path.{_≡_, sym, ap, _∙_}
+use mathlib.Core.Path.{_≡_, refl, sym, ap, _∙_}
 use mathlib.Core.List.{List, [], _∷_}
 use native.Mathlib.Nat.{zero-add}
 use native.Mathlib.Omega.{arith}
@@ -8,18 +8,17 @@ use lib.ListN.{length, length-append}
 use lib.Seq.{sets, length-sets}
 use lib.Ieee.{Float}
 use Rattle.answer.proofs.Answer.{refused-not}
-use Rattle.counting.specs.Range.{over}
+use Rattle.counting.specs.Range.{values}
 use Rattle.counting.proofs.Lists.{length-singles, getD-singles}
 use Rattle.grid.specs.Grid.{crossings}
-use Rattle.places.specs.declared.Place.{Place}
+use Rattle.place.specs.declared.Place.{Place}
 use Rattle.places.specs.declared.Placed.{Placed}
 use Rattle.places.specs.declared.Placed.the-variants.{Points, Refused}
-use Rattle.places.specs.Place.{coordinates, placeAt, allNumbers}
+use Rattle.place.specs.Place.{coordinates, placeAt, allNumbers}
 use Rattle.places.specs.Points.{crossingPlace}
 use Rattle.places.specs.Answer.{placesNumbers, rowsAnswer}
 use Rattle.places.specs.Work.{Placeable, tableFans, tableMiddles, TableRoom, tablePoints, Ready, PointsIn}
-use Rattle.places.proofs.Numbers.{front-place}
-use Rattle.places.proofs.Stored.{stored-more}
+use Rattle.place.proofs.Numbers.{length-numbers, front-place, points-then}
 use Rattle.places.proofs.Middles.{length-table, table-ext}
 use Rattle.places.proofs.Answers.{Fine, rows-fine, rows-some}
 
@@ -28,7 +27,7 @@ module _ (cells edges counts names sides starts : List ℕ) (nodes fractions : L
   place g = crossingPlace edges counts nodes fractions g
 
   abbrev pub crossingPlaces : List Place
-  crossingPlaces = over (λ g. place g ∷ []) (crossings counts) 0
+  crossingPlaces = values place (crossings counts)
 
   abbrev all : List Place
   all = tablePoints cells counts names sides starts edges nodes fractions
@@ -40,7 +39,7 @@ module _ (cells edges counts names sides starts : List ℕ) (nodes fractions : L
         arith,
         length-append crossingPlaces (tableMiddles cells counts names sides starts place),
         length-singles place (crossings counts) 0,
-        length-table place cells counts names sides starts,
+        length-table cells counts names sides starts place,
       )
 
   module _ (n : ℕ) (R : Ready cells counts names sides starts edges n) (before : List Float) (r : Placed) (m : ℕ)
@@ -65,11 +64,9 @@ module _ (cells edges counts names sides starts : List ℕ) (nodes fractions : L
       room : coordinates * (crossings counts + tableFans cells counts names sides starts) ≤ length before
       room = omega (arith, fine .area-long, points-long)
 
-      pub placeable : Placeable edges counts nodes fractions before
+      pub placeable : Placeable edges counts fractions before
       placeable = record {
         pairs = R .pairs;
-        lows = λ x l. omega (arith, R .lows x l, fine .nodes-long);
-        highs = λ x l. omega (arith, R .highs x l, fine .nodes-long);
         given = fine .fractions-long;
         room = omega (arith, room);
       }
@@ -99,5 +96,7 @@ module _ (cells edges counts names sides starts : List ℕ) (nodes fractions : L
             let w : after ≡ sets before 0 (allNumbers all) =
             q
             ∙ ap (λ (x : List Place). sets mid (coordinates * n) (allNumbers x)) (table-ext cells counts names sides starts n (R .below) (placeAt mid) place loaded)
-            ∙ stored-more before mid 0 n crossingPlaces (tableMiddles cells counts names sides starts place) f (omega (arith, s, R .judged .all)) in
+            ∙ points-then crossingPlaces (tableMiddles cells counts names sides starts place)
+            (record { area = f; after = omega (arith, s, length-numbers crossingPlaces, R .judged .all) })
+            (record { area = refl; after = refl }) .area in
             record { answered = answered; area = w ∙ rw (ap placesNumbers e) }

@@ -13,7 +13,7 @@ use Rattle.grid.specs.Rows.{gridAnswer}
 use Rattle.grid.specs.Tables.{accepts}
 use Rattle.places.specs.declared.Placed.{Placed}
 use Rattle.places.specs.declared.Placed.the-variants.{Points, Refused}
-use Rattle.places.specs.Place.{coordinates, allNumbers}
+use Rattle.place.specs.Place.{coordinates, allNumbers}
 use Rattle.places.specs.Points.{points}
 use Rattle.places.specs.Rows.{nodeEnd, badLists, badNumber, badFraction}
 

@@ -9,7 +9,7 @@ use lib.Ieee.{Float, nan}
 use lib.Ieee.Exact.{HasValue}
 use Rattle.answer.specs.Answer.{result}
 use Rattle.grid.specs.Grid.{Grid, low, high, crossings}
-use Rattle.places.specs.Place.{coordinates}
+use Rattle.place.specs.Place.{coordinates}
 use Rattle.places.specs.Points.{edgeOfCrossing}
 use Rattle.places.specs.Answer.{placesAnswer}
 

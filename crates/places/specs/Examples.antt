@@ -7,7 +7,7 @@ use lib.ListN.{length, replicate}
 use lib.Ieee.{Float, nan, inf, binary64, div, neg, ofBits}
 use Rattle.answer.specs.Answer.{result, refusal}
 use Rattle.grid.specs.Grid.{gridOf}
-use Rattle.places.specs.Place.{floatOf}
+use Rattle.place.specs.Place.{floatOf}
 use Rattle.places.specs.Answer.{placesAnswer, placesArea}
 
 pub record Example : Type 0 where

@@ -1,4 +1,4 @@
-pub mod Place
+pub mod Numbers
 pub mod Points
 pub mod Rows
 pub mod Answer

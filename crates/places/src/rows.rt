@@ -4,7 +4,7 @@ ghost use Prim.Native.Nat.{_+_, _*_, _/_, _≤_, _<_};
 ghost use lib.ListN.{length};
 ghost use Rattle.counting.specs.Search.{first, last};
 ghost use Rattle.grid.specs.Grid.{crossings};
-ghost use Rattle.places.specs.Place.{coordinates};
+ghost use Rattle.place.specs.Place.{coordinates};
 ghost use Rattle.places.specs.Rows.{badFractionAt, badFraction};
 ghost use Rattle.places.specs.Answer.{placesNumbers, rowsAnswer};
 ghost use Rattle.places.specs.Work.{Markable, Marked, isMarked, badMarked, Reaching, Judgeable};

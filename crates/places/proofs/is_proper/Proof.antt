@@ -1,5 +1,5 @@
 use lib.Ieee.{ofBits, ofInt}
-use Rattle.places.specs.Place.{properFraction}
+use Rattle.places.specs.Numbers.{properFraction}
 use Rattle.places.proofs.is_proper.Statement.{statement}
 use Rattle.places.proofs.is_proper.Tie as tie
 

@@ -1,5 +1,5 @@
 use lib.Ieee.{ofBits, neg, ofInt}
-use Rattle.places.specs.Place.{within}
+use Rattle.places.specs.Numbers.{within}
 use Rattle.places.proofs.is_within.Statement.{statement}
 use Rattle.places.proofs.is_within.Tie as tie
 

@@ -1,22 +1,26 @@
 use native.Mathlib.Omega.{arith}
-use Prim.Native.Nat.{_-_, _/_}
+use Prim.Native.Nat.{_-_, _≤_}
 use mathlib.Core.Path.{_≡_, refl, ap, _∙_}
-use lib.ListN.{length}
+use denote.Ref.{now}
+use Rattle.counting.specs.Range.{total}
+use Rattle.counting.specs.Stored.{Summed}
+use Rattle.counting.proofs.Stored.{summed-none, summed-more}
+use Rattle.cell.specs.Route.{mostInCell}
+use Rattle.cell.specs.Middles.{fanCount}
+use Rattle.grid.specs.Grid.{cellCount}
 use Rattle.mesh.specs.Table.{tableCell}
-use Rattle.places.specs.Points.{fanCount}
 use Rattle.places.specs.Work.{tableFans}
-use Rattle.places.proofs.Middles.{Adding, adding-none, adding-more, adding-all}
 use Rattle.places.proofs.fans.count_fans.Statement.{statement}
 use Rattle.places.proofs.fans.count_fans.Tie as tie
 
 abbrev Inv-loop : tie.InvT-loop
-Inv-loop cells counts names sides starts marks₀ halves₀ points₀ lengths₀ n t₀ c₀ marks halves points lengths t c = Adding (λ k. fanCount (tableCell cells counts names sides starts k)) (length cells / 4) c t × (n ≡ length cells / 4)
+Inv-loop cells counts names sides starts marks₀ halves₀ points₀ n t₀ c₀ marks halves points t c = (n ≡ cellCount cells) × (c ≤ n) × Summed (λ k. fanCount (tableCell cells counts names sides starts k)) mostInCell c t
 
 abbrev μ-loop : tie.MeasureT-loop
-μ-loop cells counts names sides starts marks₀ halves₀ points₀ lengths₀ n t₀ c₀ marks halves points lengths t c = n - c
+μ-loop cells counts names sides starts marks₀ halves₀ points₀ n t₀ c₀ marks halves points t c = n - c
 
 loop-holds : tie.Need-loop-holds Inv-loop μ-loop
-loop-holds c = (adding-none _ _, refl)
+loop-holds c = (refl, omega arith, summed-none _ _)
 
 cell-at-requires : tie.Need-cell-at-requires Inv-loop μ-loop
 cell-at-requires c κs = tt
@@ -25,20 +29,20 @@ fans-in-requires : tie.Need-fans-in-requires Inv-loop μ-loop
 fans-in-requires c κs = tt
 
 add-t : tie.Need-add-t Inv-loop μ-loop
-add-t c = omega (arith, c .fans-in .ensures .0 .few, c .before .before .before .before .before .before .before .loop .inv .0 .few, c .before .before .before .before .before .before .before .loop .inv .0 .up, c .before .before .before .before .before .before .before .before .before .before .pre)
+add-t c = omega (arith, c .fans-in .ensures .0 .1, c .before .before .before .before .before .before .loop .inv, c .before .before .before .before .before .before .loop .inv .2 .few, c .before .before .before .before .before .before .before .before .before .pre)
 
 add-c : tie.Need-add-c Inv-loop μ-loop
-add-c c = omega (arith, c .before .before .before .before .before .before .before .loop .inv .0 .up)
+add-c c = omega (arith, c .before .before .before .before .before .before .loop .inv, c .before .before .before .before .before .before .before .before .before .pre)
 
 loop-less : tie.Need-loop-less Inv-loop μ-loop
 loop-less c = omega arith
 
 loop-again : tie.Need-loop-again Inv-loop μ-loop
-loop-again c = (adding-more (c .before .before .before .before .before .before .before .loop .inv .0) (omega (arith, c .before .before .before .before .before .before .before .loop .inv .1)) _ (c .fans-in .ensures .0 .is ∙ ap fanCount (c .before .before .before .before .before .cell-at .ensures)) (c .fans-in .ensures .0 .few), c .before .before .before .before .before .before .before .loop .inv .1)
+loop-again c = (c .before .before .before .before .before .before .loop .inv .0, omega arith, summed-more _ _ (c .before .before .before .before .before .before .loop .inv .2) _ (c .fans-in .ensures .0 .0 ∙ ap fanCount (c .before .before .before .before .cell-at .ensures)) (c .fans-in .ensures .0 .1))
 
 returns : tie.Need-returns Inv-loop μ-loop
 unfolding tableFans
-returns c = (adding-all (c .before .loop .inv .0) (omega (arith, c .before .loop .inv .1)), omega (arith, c .before .loop .inv .0 .few, c .before .loop .inv .0 .up, c .before .before .before .before .pre))
+returns c = let e : c .before .loop .c ≡ cellCount (now (c .before .before .before .before .args .cells)) = omega (arith, c .before .loop .inv) in (c .before .loop .inv .2 .is ∙ ap (λ n. total (λ k. fanCount (tableCell (now (c .before .before .before .before .args .cells)) (now (c .before .before .before .before .args .counts)) (now (c .before .before .before .before .args .names)) (now (c .before .before .before .before .args .sides)) (now (c .before .before .before .before .args .starts)) k)) n 0) e, omega (arith, e, c .before .loop .inv .2 .few, c .before .before .before .before .pre))
 
 pub count-fans-spec : {M : Type 1} → statement M
 count-fans-spec =

@@ -3,7 +3,7 @@ use mathlib.Core.Path.{_∙_, _≡_, sym}
 use native.Mathlib.Omega.{arith}
 use Rattle.counting.specs.Search.{first, seek}
 use Rattle.counting.proofs.Search.{seek-end, seek-hit, seek-miss, seek-start}
-use Rattle.places.specs.Place.{coordinates}
+use Rattle.place.specs.Place.{coordinates}
 use Rattle.places.specs.Work.{badMarked}
 use borrow.Author.Needs.{needs}
 use Rattle.places.proofs.rows.row_16.Statement.{statement}

@@ -1,0 +1,248 @@
+-- The fans of a cell and their middles: from the records of its loops, and as they are written.
+use Prim.Native.Nat.{ℕ, _+_, _-_, _*_, _/_, _≤_, _<_}
+use mathlib.Core.Path.{_≡_, refl, sym, ap, ap₂, _∙_}
+use mathlib.Core.Logic.{_≢_}
+use mathlib.Core.Bool.{Bool, true, false, _&&_}
+use mathlib.Core.List.{List, [], _∷_}
+use native.Mathlib.Numerals.{add-one}
+use native.Mathlib.Omega.{arith}
+use lib.Dec.{eqb, leb}
+use lib.ListN.{length, getD}
+use lib.Ieee.{Float}
+use borrow.Author.Tests.{le-leb, leb-true, lt-leb, leb-false, ne-eqb}
+use Rattle.counting.specs.Pick.{pick, one}
+use Rattle.counting.specs.Range.{over}
+use Rattle.counting.specs.Search.{count}
+use Rattle.counting.specs.Stored.{Stored, storedIn, nextIn}
+use Rattle.counting.proofs.Bools.{and-left, and-right, and-false-right, bool-same}
+use Rattle.counting.proofs.Range.{length-over, total-ext, over-ext}
+use Rattle.counting.proofs.Search.{every-is, is-every, every-not, count-total, count-le}
+use Rattle.counting.proofs.Stored.{stored-none, stored-as, stored-more, stored-fits, stored-room, stored-in, stored-not, stored-nothing}
+use Rattle.place.specs.declared.Place.{Place}
+use Rattle.place.specs.Place.{middle, coordinates, placeAt, numbers, allNumbers}
+use Rattle.place.proofs.Numbers.{numbers-over, length-numbers, point-stored, place-kept}
+use Rattle.place.proofs.Sums.{middle-ext}
+use Rattle.manifold.specs.Shape.{hasMiddle}
+use Rattle.manifold.proofs.Shapes.{middle-fan, fan-middle, shape-else}
+use Rattle.cell.specs.declared.Cell.{Cell}
+use Rattle.cell.specs.Cell.{crossings, edge}
+use Rattle.cell.specs.Of.{countOf, startOf, edgesOf}
+use Rattle.cell.specs.Loop.{loopSize, dart, normal, inGrid}
+use Rattle.cell.specs.Round.{foldsIn}
+use Rattle.cell.specs.Route.{mostInCell}
+use Rattle.cell.specs.Triangles.{numberOf}
+use Rattle.cell.specs.Middles.{isFan, loopPoint, fanCount, loopMiddle, cellMiddles, numberedBelow, middlesAt, pointsThen, nextPoint, recordedFan, recordedMiddle, MiddlesRoom}
+use Rattle.cell.proofs.Lay.{lay}
+use Rattle.cell.proofs.Loops.{from-point, normal-is, dart-live}
+use Rattle.cell.proofs.Going.{Looped, looped-halves, looped-points}
+
+-- the cases of the code
+module _ (halves : List ℕ) where
+  pub fan-none : length halves ≡ 0 → 0 ≡ one (recordedFan halves)
+  unfolding hasMiddle
+  fan-none e = rw e
+
+  pub fan-three : length halves ≡ 3 → 0 ≡ one (recordedFan halves)
+  unfolding hasMiddle
+  fan-three e = rw e
+
+  pub fan-normal : length halves ≡ 4 → foldsIn halves ≡ 0 → 0 ≡ one (recordedFan halves)
+  unfolding hasMiddle
+  fan-normal e h = rw (e, h)
+
+  pub fan-else : length halves ≢ 0 → length halves ≢ 3 → (length halves ≡ 4 → foldsIn halves ≢ 0) → 1 ≡ one (recordedFan halves)
+  fan-else a b h =
+      let f = eqb (foldsIn halves) 0 in
+      ap one (sym (fan-middle (length halves) f (omega arith) (shape-else (length halves) f b (λ e. ne-eqb (foldsIn halves) 0 (h e)))))
+
+-- a list of one point, or of none
+one-long : (b : Bool) (p : Place) → length (pick b (p ∷ []) []) ≡ one b
+one-long true p = refl
+one-long false p = refl
+
+one-ext : (b : Bool) (p q : Place) → (b ≡ true → p ≡ q) → pick b (p ∷ []) [] ≡ pick b (q ∷ []) []
+one-ext true p q h = ap (λ (x : Place). x ∷ []) (h refl)
+one-ext false p q h = refl
+
+-- how many middles there are
+module _ (place : ℕ → Place) (c : Cell) where
+  pub length-loop : (p : ℕ) → length (loopMiddle place c p) ≡ one (isFan c p)
+  unfolding loopMiddle
+  length-loop p = one-long (isFan c p) (middle (λ k. place (loopPoint c p k)) (loopSize (edgesOf c) p))
+
+  pub length-cell : length (cellMiddles place c) ≡ fanCount c
+  unfolding cellMiddles fanCount
+  length-cell =
+      length-over (loopMiddle place c) (crossings (edgesOf c)) 0
+      ∙ total-ext (λ p. length (loopMiddle place c p)) (λ p. one (isFan c p)) (crossings (edgesOf c)) 0 (λ p a b. length-loop p)
+      ∙ sym (count-total (isFan c) (crossings (edgesOf c)))
+
+-- numbers below n
+module _ (c : Cell) (n : ℕ) where
+  pub below-all : ((e : ℕ) → e < 6 → startOf c e + countOf c e ≤ n) → numberedBelow c n ≡ true
+  unfolding numberedBelow
+  below-all h = is-every (λ e. leb (startOf c e + countOf c e) n) 6 (λ e l. le-leb (startOf c e + countOf c e) n (h e l))
+
+  pub below-not : (e : ℕ) → e < 6 → n < startOf c e + countOf c e → numberedBelow c n ≡ false
+  unfolding numberedBelow
+  below-not e l h = every-not (λ e. leb (startOf c e + countOf c e) n) 6 e l (lt-leb (startOf c e + countOf c e) n h)
+
+  pub below-at : numberedBelow c n ≡ true → (e : ℕ) → e < 6 → startOf c e + countOf c e ≤ n
+  unfolding numberedBelow
+  below-at h e l = leb-true (startOf c e + countOf c e) n (every-is (λ e. leb (startOf c e + countOf c e) n) 6 h e l)
+
+pub below-more : (c : Cell) {n m : ℕ} → numberedBelow c n ≡ true → n ≤ m → numberedBelow c m ≡ true
+below-more c {n} {m} h l = below-all c m (λ e k. omega (arith, below-at c n h e k))
+
+-- the middles are determined by the places of the cell's crossings
+module _ (c : Cell) (n : ℕ) (b : numberedBelow c n ≡ true) (place other : ℕ → Place) (same : (g : ℕ) → g < n → place g ≡ other g) where
+  point-below : (p k : ℕ) → p < crossings (edgesOf c) → k < loopSize (edgesOf c) p → loopPoint c p k < n
+  unfolding loopPoint numberOf inGrid
+  point-below p k l h =
+      let w = edgesOf c in
+      let x = dart w p k / 2 in
+      let d : x < crossings w = omega (arith, dart-live w p l k h) in
+      omega (arith, below-at c n b (edge w x) (lay w .edge-lt x d), lay w .index-lt x d)
+
+  pub loop-ext : (p : ℕ) → p < crossings (edgesOf c) → loopMiddle place c p ≡ loopMiddle other c p
+  unfolding loopMiddle isFan
+  loop-ext p l =
+      let n = loopSize (edgesOf c) p in
+      one-ext (isFan c p) (middle (λ k. place (loopPoint c p k)) n) (middle (λ k. other (loopPoint c p k)) n)
+      (λ e. middle-ext (λ k. place (loopPoint c p k)) (λ k. other (loopPoint c p k)) n (middle-fan n (normal (edgesOf c) p) e .0) (λ k h. same (loopPoint c p k) (point-below p k l h)))
+
+  pub cell-ext : cellMiddles place c ≡ cellMiddles other c
+  unfolding cellMiddles
+  cell-ext = over-ext (loopMiddle place c) (loopMiddle other c) (crossings (edgesOf c)) 0 (λ p a l. loop-ext p (omega arith))
+
+-- what is recorded of a loop
+module _ {c : Cell} {p n : ℕ} {halves points : List ℕ} (L : Looped c p n halves points) where
+  pub looped-fan : recordedFan halves ≡ isFan c p
+  unfolding isFan
+  looped-fan = ap₂ hasMiddle (looped-halves L ∙ L .size) (ap (λ l. eqb (foldsIn l) 0) (L .halves-are) ∙ sym (normal-is c p (L .inside)))
+
+  pub looped-middle : (area : List Float) → recordedMiddle halves points area ≡ loopMiddle (placeAt area) c p
+  unfolding recordedMiddle loopMiddle loopPoint numberOf
+  looped-middle area =
+      let m = length points in
+      let e = looped-points L ∙ L .size in
+      one-ext (recordedFan halves) (middle (λ k. placeAt area (getD points k 0)) m) (middle (λ k. placeAt area (loopPoint c p k)) m)
+      (λ f. middle-ext (λ k. placeAt area (getD points k 0)) (λ k. placeAt area (loopPoint c p k)) m (omega (arith, middle-fan (length halves) (eqb (foldsIn halves) 0) f .0, looped-halves L, looped-points L))
+      (λ k h. ap (placeAt area) (ap (λ l. getD l k 0) (L .points-are) ∙ from-point c p k (omega (arith, e)))))
+      ∙ ap₂ (λ (b : Bool) (m : ℕ). pick b (middle (λ k. placeAt area (loopPoint c p k)) m ∷ []) []) looped-fan e
+
+  -- one fan more, or none
+  pub fans-more : {t k : ℕ} → t ≡ count (isFan c) p → k ≡ one (recordedFan halves) → t + k ≡ count (isFan c) (p + 1)
+  unfolding count
+  fans-more e f = rw (add-one p) (omega (arith, e, f, ap one looped-fan))
+
+pub fans-all : (c : Cell) {p t : ℕ} → t ≡ count (isFan c) p → p ≡ crossings (edgesOf c) → crossings (edgesOf c) ≤ mostInCell → (t ≡ fanCount c) × (t ≤ mostInCell)
+unfolding fanCount
+fans-all c {p} e q few = (e ∙ ap (count (isFan c)) q, omega (arith, e, q, count-le (isFan c) p))
+
+-- a recorded loop's middle is written, or there is none
+module _ (halves points : List ℕ) (area : List Float) (at r : ℕ) (q : r ≡ one (recordedFan halves)) where
+  is-fan : (b : Bool) → one b ≡ r → (r ≡ 0 → b ≡ false) × (r ≢ 0 → b ≡ true)
+  is-fan true e = (λ z. absurd (omega arith), λ z. refl)
+  is-fan false e = (λ z. refl, λ z. absurd (z (sym e)))
+
+  pub put-none : r ≡ 0 → Stored area (coordinates * at) (allNumbers (recordedMiddle halves points area)) area (coordinates * at)
+  unfolding recordedMiddle allNumbers
+  put-none z = rw (is-fan (recordedFan halves) (sym q) .0 z) (stored-none area (coordinates * at))
+
+  pub put-one : r ≢ 0 → coordinates * (at + one (recordedFan halves)) ≤ length area → {p : Place} {out : List Float}
+      → p ≡ middle (λ k. placeAt area (getD points k 0)) (length points) → out ≡ storedIn area (coordinates * at) (numbers p)
+      → Stored area (coordinates * at) (allNumbers (recordedMiddle halves points area)) out (coordinates * (at + 1))
+  unfolding recordedMiddle allNumbers
+  put-one z room {p} e f =
+      let b = is-fan (recordedFan halves) (sym q) .1 z in
+      rw (b, ← e) (point-stored at p (omega (arith, room, ap one b)) f)
+
+-- the numbers of the middle of each loop
+abbrev pub middleOf : Cell → List Float → ℕ → List Float
+middleOf c area p = allNumbers (loopMiddle (placeAt area) c p)
+
+-- the middles of the first loops are written, and the one of the next is
+module _ (c : Cell) (area : List Float) (at : ℕ) where
+  all-are : allNumbers (cellMiddles (placeAt area) c) ≡ over (middleOf c area) (crossings (edgesOf c)) 0
+  unfolding cellMiddles
+  all-are = numbers-over (loopMiddle (placeAt area) c) (crossings (edgesOf c)) 0
+
+  all-long : length (allNumbers (cellMiddles (placeAt area) c)) ≡ coordinates * fanCount c
+  all-long = length-numbers (cellMiddles (placeAt area) c) ∙ ap (λ k. coordinates * k) (length-cell (placeAt area) c)
+
+  module _ (R : MiddlesRoom c area at) where
+    module _ {p : ℕ} (i : ℕ) {mid : List Float} (S : Stored area (coordinates * at) (over (middleOf c area) p 0) mid (coordinates * i))
+        {n : ℕ} {halves points : List ℕ} (L : Looped c p n halves points) where
+      pub middle-room : coordinates * (i + one (recordedFan halves)) ≤ length mid
+      middle-room =
+          omega (
+            arith,
+            stored-fits (middleOf c area) (crossings (edgesOf c)) p S (L .inside) (omega (arith, R .room, all-long, ap length all-are)),
+            length-numbers (loopMiddle (placeAt area) c p),
+            length-loop (placeAt area) c p,
+            ap one (looped-fan L),
+          )
+
+      pub middle-next : {out : List Float} {m : ℕ} → Stored mid (coordinates * i) (allNumbers (recordedMiddle halves points mid)) out m
+          → Stored area (coordinates * at) (over (middleOf c area) (p + 1) 0) out m
+      middle-next T =
+          stored-more (middleOf c area) p S
+          (stored-as T (ap allNumbers (looped-middle L mid ∙ loop-ext c at (R .below) (placeAt mid) (placeAt area) (place-kept S) p (L .inside))) refl)
+
+    pub middles-all : {p m : ℕ} {out : List Float} → Stored area (coordinates * at) (over (middleOf c area) p 0) out m → p ≡ crossings (edgesOf c)
+        → Stored area (coordinates * at) (allNumbers (cellMiddles (placeAt area) c)) out m
+    middles-all S e = stored-as S (ap (λ k. over (middleOf c area) k 0) e ∙ sym all-are) refl
+
+    -- as the call answers, and what that says
+    pub middles-done : {out : List Float} {r : ℕ} → Stored area (coordinates * at) (allNumbers (cellMiddles (placeAt area) c)) out (coordinates * r)
+        → (r ≡ nextPoint c area at) × (out ≡ pointsThen c area at)
+    unfolding nextPoint pointsThen middlesAt
+    middles-done {out} {r} S =
+        let e = stored-in S (omega (arith, R .room, all-long)) in
+        rw (R .below) (omega (arith, e .1), e .0)
+
+    pub middles-stored : Stored area (coordinates * at) (allNumbers (cellMiddles (placeAt area) c)) (pointsThen c area at) (coordinates * nextPoint c area at)
+    unfolding nextPoint pointsThen middlesAt
+    middles-stored =
+        let S = stored-room area (coordinates * at) (allNumbers (cellMiddles (placeAt area) c)) (omega (arith, R .room, all-long)) in
+        rw (R .below) (stored-as S refl (omega (arith, S .after, all-long)))
+
+  -- none are written
+  pub middles-not : (numberedBelow c at && leb (coordinates * (at + fanCount c)) (length area)) ≡ false → (at ≡ nextPoint c area at) × (area ≡ pointsThen c area at)
+  unfolding nextPoint pointsThen middlesAt allNumbers
+  middles-not h = go (numberedBelow c at) h
+    where
+      go : (b : Bool) → (b && leb (coordinates * (at + fanCount c)) (length area)) ≡ false
+          → (at ≡ nextIn area (coordinates * at) (allNumbers (pick b (cellMiddles (placeAt area) c) [])) / coordinates)
+          × (area ≡ storedIn area (coordinates * at) (allNumbers (pick b (cellMiddles (placeAt area) c) [])))
+      go false e = let n = stored-nothing area (coordinates * at) in (omega (arith, n .1), n .0)
+      go true e =
+          let n = stored-not area (coordinates * at) (allNumbers (cellMiddles (placeAt area) c)) (omega (arith, leb-false (coordinates * (at + fanCount c)) (length area) e, all-long)) in
+          (omega (arith, n .1), n .0)
+
+-- whether they have room, as the code asks
+module _ (c : Cell) (room at : ℕ) where
+  abbrev pub fits : Bool
+  fits = numberedBelow c at && leb (coordinates * (at + fanCount c)) room
+
+  pub fits-short : room / 3 < at → false ≡ fits
+  fits-short h = sym (and-false-right (numberedBelow c at) _ (lt-leb (coordinates * (at + fanCount c)) room (omega arith)))
+
+  pub fits-not : numberedBelow c at ≡ false → false ≡ fits
+  fits-not e = rw e
+
+  module _ (b : numberedBelow c at ≡ true) (h : at ≤ room / 3) where
+    pub fits-count : {t : ℕ} → t ≡ fanCount c → leb t (room / 3 - at) ≡ fits
+    fits-count {t} e =
+        let n = coordinates * (at + fanCount c) in
+        rw b (bool-same (leb t (room / 3 - at)) (leb n room) (λ q. le-leb n room (omega (arith, leb-true t (room / 3 - at) q))) (λ q. le-leb t (room / 3 - at) (omega (arith, leb-true n room q))))
+
+    pub fits-most : {n : ℕ} → n ≡ crossings (edgesOf c) → n ≤ room / 3 - at → true ≡ fits
+    unfolding fanCount
+    fits-most e l = rw b (sym (le-leb (coordinates * (at + fanCount c)) room (omega (arith, count-le (isFan c) (crossings (edgesOf c))))))
+
+pub fits-room : (c : Cell) (area : List Float) (at : ℕ) → fits c (length area) at ≡ true → MiddlesRoom c area at
+fits-room c area at e =
+    let n = coordinates * (at + fanCount c) in
+    record { below = and-left (numberedBelow c at) (leb n (length area)) e; room = leb-true n (length area) (and-right (numberedBelow c at) (leb n (length area)) e) }

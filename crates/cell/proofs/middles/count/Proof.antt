@@ -1,0 +1,97 @@
+use native.Mathlib.Omega.{arith}
+use Prim.Native.Nat.{_+_, _-_}
+use mathlib.Core.Path.{_≡_, refl}
+use Rattle.counting.specs.Search.{count}
+use Rattle.counting.proofs.Search.{count-le}
+use Rattle.cell.specs.Middles.{isFan}
+use Rattle.cell.proofs.Using.{cleared-same}
+use Rattle.cell.proofs.Going.{Going, going-start, going-long, going-lent, going-more, going-looped, going-part, going-cleared}
+use Rattle.cell.proofs.Fans.{fans-more, fans-all}
+use Rattle.cell.proofs.middles.count.Statement.{statement}
+use Rattle.cell.proofs.middles.count.Tie as tie
+
+abbrev Inv-loop : tie.InvT-loop
+Inv-loop c n marks₀ halves₀ points₀ routes t₀ p₀ marks halves points t p = Going c n routes marks₀ halves₀ points₀ marks halves points p × (t ≡ count (isFan c) p)
+
+abbrev μ-loop : tie.MeasureT-loop
+μ-loop c n marks₀ halves₀ points₀ routes t₀ p₀ marks halves points t p = n - p
+
+routes-of-requires : tie.Need-routes-of-requires Inv-loop μ-loop
+routes-of-requires c κs = tt
+
+clear-requires : tie.Need-clear-requires Inv-loop μ-loop
+clear-requires c κs = c .before .before .before .before .before .pre .long .marks-long
+
+loop-holds : tie.Need-loop-holds Inv-loop μ-loop
+unfolding count
+loop-holds c = (going-start _ (c .before .before .before .before .before .before .before .before .pre .all, c .before .before .before .before .before .before .before .before .pre .few) (c .before .before .before .before .routes-of .ensures) (c .before .before .before .before .before .before .before .before .pre .long) (c .before .before .clear .ensures), refl)
+
+walk-requires : tie.Need-walk-requires Inv-loop μ-loop
+walk-requires c κs = going-lent (c .before .before .before .before .before .loop .inv .0) (omega arith)
+
+sub-fan-of : tie.Need-sub-fan-of Inv-loop μ-loop
+sub-fan-of c = omega arith
+
+part-fan-of-start : tie.Need-part-fan-of-start Inv-loop μ-loop
+part-fan-of-start c = omega arith
+
+part-fan-of-end : tie.Need-part-fan-of-end Inv-loop μ-loop
+part-fan-of-end c = going-part (c .before .before .before .before .before .before .before .before .before .before .before .before .before .loop .inv .0) (omega arith) (c .before .before .before .before .before .before .before .walk .ensures) .0
+
+fan-of-requires : tie.Need-fan-of-requires Inv-loop μ-loop
+fan-of-requires c κs = tt
+
+add-t : tie.Need-add-t Inv-loop μ-loop
+add-t c = omega (arith, fans-more (going-looped (c .before .before .before .before .before .before .before .before .before .before .before .before .before .before .before .loop .inv .0) (omega arith) (c .before .before .before .before .before .before .before .before .before .walk .ensures)) (c .before .before .before .before .before .before .before .before .before .before .before .before .before .before .before .loop .inv .1) (c .fan-of .ensures), count-le (isFan (c .before .before .before .before .before .before .before .before .before .before .before .before .before .before .before .before .before .before .before .before .before .before .before .before .args .c)) (c .before .before .before .before .before .before .before .before .before .before .before .before .before .before .before .loop .p + 1), c .before .before .before .before .before .before .before .before .before .before .before .before .before .before .before .loop .inv .0 .few)
+
+add-p : tie.Need-add-p Inv-loop μ-loop
+add-p c = omega (arith, c .before .before .before .before .before .before .before .before .before .before .before .before .before .before .before .loop .inv .0 .few)
+
+loop-less : tie.Need-loop-less Inv-loop μ-loop
+loop-less c = omega arith
+
+loop-again : tie.Need-loop-again Inv-loop μ-loop
+loop-again c = (going-more (c .before .before .before .before .before .before .before .before .before .before .before .before .before .before .before .loop .inv .0) (omega arith) (c .before .before .before .before .before .before .before .before .before .walk .ensures), fans-more (going-looped (c .before .before .before .before .before .before .before .before .before .before .before .before .before .before .before .loop .inv .0) (omega arith) (c .before .before .before .before .before .before .before .before .before .walk .ensures)) (c .before .before .before .before .before .before .before .before .before .before .before .before .before .before .before .loop .inv .1) (c .fan-of .ensures))
+
+clear-requires-2 : tie.Need-clear-requires-2 Inv-loop μ-loop
+clear-requires-2 c κs = going-long (c .before .before .loop .inv .0) .marks-long
+
+wipe-requires : tie.Need-wipe-requires Inv-loop μ-loop
+wipe-requires c κs = let L = going-long (c .before .before .before .before .before .before .before .loop .inv .0) in (L .halves-long, L .points-long)
+
+same-length : tie.Need-same-length Inv-loop μ-loop
+same-length c = cleared-same (going-cleared (c .before .before .before .before .before .before .before .before .before .before .before .before .loop .inv .0) (c .before .before .before .before .before .before .before .before .before .before .before .before .before .before .before .before .before .before .before .before .before .pre .long .marks-long) (c .before .before .before .before .before .before .before .before .before .before .before .before .before .before .before .clear .ensures) (c .before .before .before .before .before .before .before .before .before .clear2 .ensures) (c .before .before .before .before .wipe .ensures .0) (c .before .before .before .before .wipe .ensures .1)) .0
+
+same-length-2 : tie.Need-same-length-2 Inv-loop μ-loop
+same-length-2 c = cleared-same (going-cleared (c .before .before .before .before .before .before .before .before .before .before .before .before .loop .inv .0) (c .before .before .before .before .before .before .before .before .before .before .before .before .before .before .before .before .before .before .before .before .before .pre .long .marks-long) (c .before .before .before .before .before .before .before .before .before .before .before .before .before .before .before .clear .ensures) (c .before .before .before .before .before .before .before .before .before .clear2 .ensures) (c .before .before .before .before .wipe .ensures .0) (c .before .before .before .before .wipe .ensures .1)) .1
+
+same-length-3 : tie.Need-same-length-3 Inv-loop μ-loop
+same-length-3 c = cleared-same (going-cleared (c .before .before .before .before .before .before .before .before .before .before .before .before .loop .inv .0) (c .before .before .before .before .before .before .before .before .before .before .before .before .before .before .before .before .before .before .before .before .before .pre .long .marks-long) (c .before .before .before .before .before .before .before .before .before .before .before .before .before .before .before .clear .ensures) (c .before .before .before .before .before .before .before .before .before .clear2 .ensures) (c .before .before .before .before .wipe .ensures .0) (c .before .before .before .before .wipe .ensures .1)) .2
+
+returns : tie.Need-returns Inv-loop μ-loop
+returns c = (fans-all (c .before .before .before .before .before .before .before .before .before .before .before .before .before .before .before .before .before .before .before .before .before .args .c) (c .before .before .before .before .before .before .before .before .before .before .before .before .loop .inv .1) (omega (arith, c .before .before .before .before .before .before .before .before .before .before .before .before .loop .inv .0 .up, c .before .before .before .before .before .before .before .before .before .before .before .before .loop .inv .0 .all)) (omega (arith, c .before .before .before .before .before .before .before .before .before .before .before .before .loop .inv .0 .all, c .before .before .before .before .before .before .before .before .before .before .before .before .loop .inv .0 .few)), going-cleared (c .before .before .before .before .before .before .before .before .before .before .before .before .loop .inv .0) (c .before .before .before .before .before .before .before .before .before .before .before .before .before .before .before .before .before .before .before .before .before .pre .long .marks-long) (c .before .before .before .before .before .before .before .before .before .before .before .before .before .before .before .clear .ensures) (c .before .before .before .before .before .before .before .before .before .clear2 .ensures) (c .before .before .before .before .wipe .ensures .0) (c .before .before .before .before .wipe .ensures .1))
+
+pub count-spec : {M : Type 1} → statement M
+count-spec =
+    tie.close
+    (tie.spec
+    Inv-loop
+    μ-loop
+    routes-of-requires
+    clear-requires
+    loop-holds
+    walk-requires
+    sub-fan-of
+    part-fan-of-start
+    part-fan-of-end
+    fan-of-requires
+    add-t
+    add-p
+    loop-less
+    loop-again
+    clear-requires-2
+    wipe-requires
+    same-length
+    same-length-2
+    same-length-3
+    returns)

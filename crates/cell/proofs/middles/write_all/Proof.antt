@@ -1,0 +1,110 @@
+use native.Mathlib.Omega.{arith}
+use Prim.Native.Nat.{_-_, _*_}
+use denote.Ref.{now}
+use Rattle.counting.specs.Range.{over}
+use Rattle.counting.specs.Stored.{Stored}
+use Rattle.counting.proofs.Stored.{stored-none, stored-long}
+use Rattle.place.specs.Place.{coordinates}
+use Rattle.cell.proofs.Using.{cleared-same}
+use Rattle.cell.proofs.Going.{Going, going-start, going-long, going-lent, going-more, going-looped, going-part, going-cleared}
+use Rattle.cell.proofs.Fans.{middleOf, middle-room, middle-next, middles-all}
+use Rattle.cell.proofs.middles.write_all.Statement.{statement}
+use Rattle.cell.proofs.middles.write_all.Tie as tie
+
+abbrev Inv-loop : tie.InvT-loop
+Inv-loop c n marks₀ halves₀ points₀ area₀ at routes i₀ p₀ marks halves points area i p = Going c n routes marks₀ halves₀ points₀ marks halves points p × Stored area₀ (coordinates * at) (over (middleOf c area₀) p 0) area (coordinates * i)
+
+abbrev μ-loop : tie.MeasureT-loop
+μ-loop c n marks₀ halves₀ points₀ area₀ at routes i₀ p₀ marks halves points area i p = n - p
+
+routes-of-requires : tie.Need-routes-of-requires Inv-loop μ-loop
+routes-of-requires c κs = tt
+
+clear-requires : tie.Need-clear-requires Inv-loop μ-loop
+clear-requires c κs = c .before .before .before .before .before .before .pre .0 .long .marks-long
+
+loop-holds : tie.Need-loop-holds Inv-loop μ-loop
+unfolding over
+loop-holds c = (going-start _ (c .before .before .before .before .before .before .before .before .before .pre .0 .all, c .before .before .before .before .before .before .before .before .before .pre .0 .few) (c .before .before .before .before .routes-of .ensures) (c .before .before .before .before .before .before .before .before .before .pre .0 .long) (c .before .before .clear .ensures), stored-none _ _)
+
+walk-requires : tie.Need-walk-requires Inv-loop μ-loop
+walk-requires c κs = going-lent (c .before .before .before .before .before .loop .inv .0) (omega arith)
+
+sub-put-middle : tie.Need-sub-put-middle Inv-loop μ-loop
+sub-put-middle c = omega arith
+
+part-put-middle-start : tie.Need-part-put-middle-start Inv-loop μ-loop
+part-put-middle-start c = omega arith
+
+part-put-middle-end : tie.Need-part-put-middle-end Inv-loop μ-loop
+part-put-middle-end c = going-part (c .before .before .before .before .before .before .before .before .before .before .before .before .before .loop .inv .0) (omega arith) (c .before .before .before .before .before .before .before .walk .ensures) .0
+
+sub-put-middle-2 : tie.Need-sub-put-middle-2 Inv-loop μ-loop
+sub-put-middle-2 c = omega arith
+
+part-put-middle-start-2 : tie.Need-part-put-middle-start-2 Inv-loop μ-loop
+part-put-middle-start-2 c = omega arith
+
+part-put-middle-end-2 : tie.Need-part-put-middle-end-2 Inv-loop μ-loop
+part-put-middle-end-2 c = going-part (c .before .before .before .before .before .before .before .before .before .before .before .before .before .before .before .loop .inv .0) (omega arith) (c .before .before .before .before .before .before .before .before .before .walk .ensures) .1
+
+put-middle-requires : tie.Need-put-middle-requires Inv-loop μ-loop
+put-middle-requires c κs = middle-room (c .before .before .before .before .before .before .before .before .before .before .before .before .before .before .before .before .before .before .before .before .before .before .before .before .before .before .before .args .c) (now (c .before .before .before .before .before .before .before .before .before .before .before .before .before .before .before .before .before .before .before .before .before .before .before .before .before .before .before .args .area)) (c .before .before .before .before .before .before .before .before .before .before .before .before .before .before .before .before .before .before .before .before .before .before .before .before .before .before .before .args .at) (c .before .before .before .before .before .before .before .before .before .before .before .before .before .before .before .before .before .before .before .before .before .before .before .before .before .before .before .pre .1) (c .before .before .before .before .before .before .before .before .before .before .before .before .before .before .before .before .before .loop .i) (c .before .before .before .before .before .before .before .before .before .before .before .before .before .before .before .before .before .loop .inv .1) (going-looped (c .before .before .before .before .before .before .before .before .before .before .before .before .before .before .before .before .before .loop .inv .0) (omega arith) (c .before .before .before .before .before .before .before .before .before .before .before .walk .ensures))
+
+add-p : tie.Need-add-p Inv-loop μ-loop
+add-p c = omega (arith, c .before .before .before .before .before .before .before .before .before .before .before .before .before .before .before .before .before .before .before .before .loop .inv .0 .few)
+
+loop-less : tie.Need-loop-less Inv-loop μ-loop
+loop-less c = omega arith
+
+loop-again : tie.Need-loop-again Inv-loop μ-loop
+loop-again c = (going-more (c .before .before .before .before .before .before .before .before .before .before .before .before .before .before .before .before .before .before .before .before .loop .inv .0) (omega arith) (c .before .before .before .before .before .before .before .before .before .before .before .before .before .before .walk .ensures), middle-next (c .before .before .before .before .before .before .before .before .before .before .before .before .before .before .before .before .before .before .before .before .before .before .before .before .before .before .before .before .before .before .args .c) (now (c .before .before .before .before .before .before .before .before .before .before .before .before .before .before .before .before .before .before .before .before .before .before .before .before .before .before .before .before .before .before .args .area)) (c .before .before .before .before .before .before .before .before .before .before .before .before .before .before .before .before .before .before .before .before .before .before .before .before .before .before .before .before .before .before .args .at) (c .before .before .before .before .before .before .before .before .before .before .before .before .before .before .before .before .before .before .before .before .before .before .before .before .before .before .before .before .before .before .pre .1) (c .before .before .before .before .before .before .before .before .before .before .before .before .before .before .before .before .before .before .before .before .loop .i) (c .before .before .before .before .before .before .before .before .before .before .before .before .before .before .before .before .before .before .before .before .loop .inv .1) (going-looped (c .before .before .before .before .before .before .before .before .before .before .before .before .before .before .before .before .before .before .before .before .loop .inv .0) (omega arith) (c .before .before .before .before .before .before .before .before .before .before .before .before .before .before .walk .ensures)) (c .before .before .put-middle .ensures))
+
+clear-requires-2 : tie.Need-clear-requires-2 Inv-loop μ-loop
+clear-requires-2 c κs = going-long (c .before .before .loop .inv .0) .marks-long
+
+wipe-requires : tie.Need-wipe-requires Inv-loop μ-loop
+wipe-requires c κs = let L = going-long (c .before .before .before .before .before .before .before .loop .inv .0) in (L .halves-long, L .points-long)
+
+same-length : tie.Need-same-length Inv-loop μ-loop
+same-length c = cleared-same (going-cleared (c .before .before .before .before .before .before .before .before .before .before .before .before .loop .inv .0) (c .before .before .before .before .before .before .before .before .before .before .before .before .before .before .before .before .before .before .before .before .before .before .pre .0 .long .marks-long) (c .before .before .before .before .before .before .before .before .before .before .before .before .before .before .before .clear .ensures) (c .before .before .before .before .before .before .before .before .before .clear2 .ensures) (c .before .before .before .before .wipe .ensures .0) (c .before .before .before .before .wipe .ensures .1)) .0
+
+same-length-2 : tie.Need-same-length-2 Inv-loop μ-loop
+same-length-2 c = cleared-same (going-cleared (c .before .before .before .before .before .before .before .before .before .before .before .before .loop .inv .0) (c .before .before .before .before .before .before .before .before .before .before .before .before .before .before .before .before .before .before .before .before .before .before .pre .0 .long .marks-long) (c .before .before .before .before .before .before .before .before .before .before .before .before .before .before .before .clear .ensures) (c .before .before .before .before .before .before .before .before .before .clear2 .ensures) (c .before .before .before .before .wipe .ensures .0) (c .before .before .before .before .wipe .ensures .1)) .1
+
+same-length-3 : tie.Need-same-length-3 Inv-loop μ-loop
+same-length-3 c = cleared-same (going-cleared (c .before .before .before .before .before .before .before .before .before .before .before .before .loop .inv .0) (c .before .before .before .before .before .before .before .before .before .before .before .before .before .before .before .before .before .before .before .before .before .before .pre .0 .long .marks-long) (c .before .before .before .before .before .before .before .before .before .before .before .before .before .before .before .clear .ensures) (c .before .before .before .before .before .before .before .before .before .clear2 .ensures) (c .before .before .before .before .wipe .ensures .0) (c .before .before .before .before .wipe .ensures .1)) .2
+
+same-length-4 : tie.Need-same-length-4 Inv-loop μ-loop
+same-length-4 c = stored-long (c .before .before .before .before .before .before .before .before .before .before .before .before .loop .inv .1)
+
+returns : tie.Need-returns Inv-loop μ-loop
+returns c = (middles-all (c .before .before .before .before .before .before .before .before .before .before .before .before .before .before .before .before .before .before .before .before .before .before .args .c) (now (c .before .before .before .before .before .before .before .before .before .before .before .before .before .before .before .before .before .before .before .before .before .before .args .area)) (c .before .before .before .before .before .before .before .before .before .before .before .before .before .before .before .before .before .before .before .before .before .before .args .at) (c .before .before .before .before .before .before .before .before .before .before .before .before .before .before .before .before .before .before .before .before .before .before .pre .1) (c .before .before .before .before .before .before .before .before .before .before .before .before .loop .inv .1) (omega (arith, c .before .before .before .before .before .before .before .before .before .before .before .before .loop .inv .0 .up, c .before .before .before .before .before .before .before .before .before .before .before .before .loop .inv .0 .all)), going-cleared (c .before .before .before .before .before .before .before .before .before .before .before .before .loop .inv .0) (c .before .before .before .before .before .before .before .before .before .before .before .before .before .before .before .before .before .before .before .before .before .before .pre .0 .long .marks-long) (c .before .before .before .before .before .before .before .before .before .before .before .before .before .before .before .clear .ensures) (c .before .before .before .before .before .before .before .before .before .clear2 .ensures) (c .before .before .before .before .wipe .ensures .0) (c .before .before .before .before .wipe .ensures .1))
+
+pub write-all-spec : {M : Type 1} → statement M
+write-all-spec =
+    tie.close
+    (tie.spec
+    Inv-loop
+    μ-loop
+    routes-of-requires
+    clear-requires
+    loop-holds
+    walk-requires
+    sub-put-middle
+    part-put-middle-start
+    part-put-middle-end
+    sub-put-middle-2
+    part-put-middle-start-2
+    part-put-middle-end-2
+    put-middle-requires
+    add-p
+    loop-less
+    loop-again
+    clear-requires-2
+    wipe-requires
+    same-length
+    same-length-2
+    same-length-3
+    same-length-4
+    returns)

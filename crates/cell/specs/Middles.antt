@@ -1,0 +1,71 @@
+-- The middles of a cell's fans (01), and what is left where they are written among the points of an area.
+use Prim.Native.Nat.{ℕ, _+_, _*_, _/_, _≤_}
+use mathlib.Core.Path.{_≡_}
+use mathlib.Core.Bool.{Bool, true}
+use mathlib.Core.List.{List, [], _∷_}
+use lib.Dec.{eqb, leb}
+use lib.ListN.{length, getD}
+use lib.Ieee.{Float}
+use Rattle.counting.specs.Pick.{pick}
+use Rattle.counting.specs.Range.{over}
+use Rattle.counting.specs.Search.{every, count}
+use Rattle.counting.specs.Stored.{storedIn, nextIn}
+use Rattle.place.specs.declared.Place.{Place}
+use Rattle.place.specs.Place.{middle, coordinates, placeAt, allNumbers}
+use Rattle.manifold.specs.Shape.{hasMiddle}
+use Rattle.cell.specs.declared.Cell.{Cell}
+use Rattle.cell.specs.Cell.{crossings}
+use Rattle.cell.specs.Of.{countOf, startOf, edgesOf}
+use Rattle.cell.specs.Loop.{loopSize, dart, normal}
+use Rattle.cell.specs.Round.{foldsIn}
+use Rattle.cell.specs.Triangles.{numberOf}
+
+module _ (c : Cell) (p : ℕ) where
+  -- the loop from the crossing p is drawn as a fan
+  unfoldable pub isFan : Bool
+  isFan = hasMiddle (loopSize (edgesOf c) p) (normal (edgesOf c) p)
+
+  -- the crossing number of its point k
+  unfoldable pub loopPoint : ℕ → ℕ
+  loopPoint k = numberOf c (dart (edgesOf c) p k / 2)
+
+-- how many fans a cell has
+unfoldable pub fanCount : Cell → ℕ
+fanCount c = count (isFan c) (crossings (edgesOf c))
+
+-- the middles of fans, where the crossings are at `place`
+module _ (place : ℕ → Place) (c : Cell) where
+  -- of the loop from the crossing p, where it is drawn as a fan
+  unfoldable pub loopMiddle : ℕ → List Place
+  loopMiddle p = pick (isFan c p) (middle (λ k. place (loopPoint c p k)) (loopSize (edgesOf c) p) ∷ []) []
+
+  unfoldable pub cellMiddles : List Place
+  cellMiddles = over loopMiddle (crossings (edgesOf c)) 0
+
+-- the cell's crossings have numbers below n
+unfoldable pub numberedBelow : Cell → ℕ → Bool
+numberedBelow c n = every (λ e. leb (startOf c e + countOf c e) n) 6
+
+module _ (c : Cell) (area : List Float) (at : ℕ) where
+  -- the middles to be written from point `at` on: the cell's, where the places of its crossings stand before that point; else none
+  unfoldable pub middlesAt : List Place
+  middlesAt = pick (numberedBelow c at) (cellMiddles (placeAt area) c) []
+
+  -- the area then, with them where they have room; and the next point
+  unfoldable pub pointsThen : List Float
+  pointsThen = storedIn area (coordinates * at) (allNumbers middlesAt)
+
+  unfoldable pub nextPoint : ℕ
+  nextPoint = nextIn area (coordinates * at) (allNumbers middlesAt) / coordinates
+
+-- Only contracts of parts cite what follows. A recorded loop is drawn as a fan; its middle then, by the places of an area's points.
+abbrev pub recordedFan : (halves : List ℕ) → Bool
+recordedFan halves = hasMiddle (length halves) (eqb (foldsIn halves) 0)
+
+unfoldable pub recordedMiddle : (halves points : List ℕ) (area : List Float) → List Place
+recordedMiddle halves points area = pick (recordedFan halves) (middle (λ k. placeAt area (getD points k 0)) (length points) ∷ []) []
+
+-- the places of the cell's crossings stand before point `at`, and its middles have room from there on
+pub record MiddlesRoom (c : Cell) (area : List Float) (at : ℕ) : Type 0 where
+  pub below : numberedBelow c at ≡ true
+  pub room : coordinates * (at + fanCount c) ≤ length area

@@ -1,0 +1,180 @@
+// The fans among a cell's loops: counted, and their middles written among the points of an area.
+ghost use mathlib.Core.Path.{_≡_};
+ghost use mathlib.Core.Bool.{_&&_};
+ghost use Prim.Native.Nat.{_+_, _*_, _≤_};
+ghost use lib.Dec.{leb};
+ghost use lib.ListN.{length};
+ghost use Rattle.counting.specs.Pick.{one};
+ghost use Rattle.counting.specs.Stored.{Stored};
+ghost use Rattle.place.specs.Place.{coordinates, placeAt, allNumbers};
+ghost use Rattle.cell.specs.Route.{mostInCell};
+ghost use Rattle.cell.specs.Scratch.{Cleared};
+ghost use Rattle.cell.specs.Walked.{Room, Used};
+ghost use Rattle.cell.specs.Middles.{fanCount, cellMiddles, numberedBelow, pointsThen, nextPoint, recordedFan, recordedMiddle, MiddlesRoom};
+use super::Cell;
+use super::MOST_IN_CELL;
+use super::answers::folds_of;
+use super::routes::crossings_of;
+use super::routes::end_of;
+use super::routes::routes_of;
+use super::walks::clear;
+use super::walks::walk;
+use super::walks::wipe;
+
+// 1 where a recorded loop is drawn as a fan, else 0.
+fn fan_of(halves: &[u8]) -> usize
+    ensures { λ r. ⌜ r ≡ one (recordedFan (now (halves .entry))) ⌝ }
+{
+    let n = halves.len();
+    if n == 0 {
+        return 0;
+    }
+    if n == 3 {
+        return 0;
+    }
+    if n != 4 {
+        return 1;
+    }
+    if folds_of(halves) == 0 { 0 } else { 1 }
+}
+
+// Writes the middle of a recorded loop as point `at` of the area, where the loop is drawn as a fan, and answers the next point.
+fn put_middle(halves: &[u8], points: &[u32], area: &mut [f64], at: usize) -> usize
+    requires { ⌜ coordinates * (at + one (recordedFan (now halves))) ≤ length (now area) ⌝ }
+    ensures { λ r. ⌜ Stored (now (area .entry)) (coordinates * at) (allNumbers (recordedMiddle (now (halves .entry)) (now (points .entry)) (now (area .entry)))) (now (area .exit)) (coordinates * r) ⌝ }
+{
+    if fan_of(halves) == 0 {
+        return at;
+    }
+    let p = place::middle_of(area, points);
+    place::store(area, at, p);
+    at + 1
+}
+
+// How many fans the cell has, which has n crossings.
+fn count(c: Cell, n: usize, marks: &mut [u16], halves: &mut [u8], points: &mut [u32]) -> usize
+    requires { ⌜ Room c n (now marks) (now halves) (now points) ⌝ }
+    ensures { λ r. ⌜ (r ≡ fanCount c) × (r ≤ mostInCell) ⌝ }
+    ensures { λ _. ⌜ Cleared c (now (marks .entry)) (now (halves .entry)) (now (points .entry)) (now (marks .exit)) (now (halves .exit)) (now (points .exit)) ⌝ }
+{
+    let routes = routes_of(c);
+    clear(marks, n);
+    let mut t: usize = 0;
+    let mut p: usize = 0;
+    while p < n {
+        let m = walk(c, &routes, n, p, marks, halves, points);
+        t += fan_of(&halves[0..m]);
+        p += 1;
+    }
+    clear(marks, n);
+    wipe(halves, points, n);
+    t
+}
+
+// Writes the middles, which have room from point `at` on, and answers the next point.
+fn write_all(
+    c: Cell,
+    n: usize,
+    marks: &mut [u16],
+    halves: &mut [u8],
+    points: &mut [u32],
+    area: &mut [f64],
+    at: usize,
+) -> usize
+    requires { ⌜ Room c n (now marks) (now halves) (now points) ⌝ }
+    requires { ⌜ MiddlesRoom c (now area) at ⌝ }
+    ensures { λ r. ⌜ Stored (now (area .entry)) (coordinates * at) (allNumbers (cellMiddles (placeAt (now (area .entry))) c)) (now (area .exit)) (coordinates * r) ⌝ }
+    ensures { λ _. ⌜ Cleared c (now (marks .entry)) (now (halves .entry)) (now (points .entry)) (now (marks .exit)) (now (halves .exit)) (now (points .exit)) ⌝ }
+{
+    let routes = routes_of(c);
+    clear(marks, n);
+    let mut i = at;
+    let mut p: usize = 0;
+    while p < n {
+        let m = walk(c, &routes, n, p, marks, halves, points);
+        i = put_middle(&halves[0..m], &points[0..m], area, i);
+        p += 1;
+    }
+    clear(marks, n);
+    wipe(halves, points, n);
+    i
+}
+
+// How many fans the cell has. The lent arrays are as those of `count_in`.
+pub fn fans_in(
+    c: Cell,
+    marks: &mut [u16; MOST_IN_CELL],
+    halves: &mut [u8; MOST_IN_CELL],
+    points: &mut [u32; MOST_IN_CELL],
+) -> usize
+    ensures { λ r. ⌜ (r ≡ fanCount c) × (r ≤ mostInCell) ⌝ }
+    ensures { λ _. ⌜ Cleared c (now (marks .entry)) (now (halves .entry)) (now (points .entry)) (now (marks .exit)) (now (halves .exit)) (now (points .exit)) ⌝ }
+{
+    let n = crossings_of(c);
+    count(c, n, marks, halves, points)
+}
+
+// Whether the cell's crossings have numbers below n.
+fn is_below(c: Cell, n: usize) -> bool
+    ensures { λ r. ⌜ r ≡ numberedBelow c n ⌝ }
+{
+    let mut e: usize = 0;
+    while e < 6 {
+        if n < end_of(c, e) {
+            return false;
+        }
+        e += 1;
+    }
+    true
+}
+
+// Whether the places of the cell's crossings stand before point `at`, and its middles have room from there on in an area of `room` numbers. A cell
+// has no more fans than crossings, so that they are counted only where there is not room for so many.
+fn has_room(
+    c: Cell,
+    n: usize,
+    marks: &mut [u16],
+    halves: &mut [u8],
+    points: &mut [u32],
+    room: usize,
+    at: usize,
+) -> bool
+    requires { ⌜ Room c n (now marks) (now halves) (now points) ⌝ }
+    ensures { λ r. ⌜ r ≡ (numberedBelow c at && leb (coordinates * (at + fanCount c)) room) ⌝ }
+    ensures { λ _. ⌜ Used n (now (marks .entry)) (now (halves .entry)) (now (points .entry)) (now (marks .exit)) (now (halves .exit)) (now (points .exit)) ⌝ }
+{
+    let all = room / 3;
+    if all < at {
+        return false;
+    }
+    if !is_below(c, at) {
+        return false;
+    }
+    if n <= all - at {
+        return true;
+    }
+    let t = count(c, n, marks, halves, points);
+    t <= all - at
+}
+
+// Writes the middles of the cell's fans from point `at` of the area on and answers the next point. Where they have no room there, or the place of a
+// crossing of the cell does not stand before that point, it writes nothing and answers `at`. The lent arrays are as those of `count_in`.
+pub fn middles_in(
+    c: Cell,
+    marks: &mut [u16; MOST_IN_CELL],
+    halves: &mut [u8; MOST_IN_CELL],
+    points: &mut [u32; MOST_IN_CELL],
+    area: &mut [f64],
+    at: usize,
+) -> usize
+    ensures { λ r. ⌜ (r ≡ nextPoint c (now (area .entry)) at) × (now (area .exit) ≡ pointsThen c (now (area .entry)) at) ⌝ }
+    ensures { λ _. ⌜ Cleared c (now (marks .entry)) (now (halves .entry)) (now (points .entry)) (now (marks .exit)) (now (halves .exit)) (now (points .exit)) ⌝ }
+{
+    let n = crossings_of(c);
+    if has_room(c, n, marks, halves, points, area.len(), at) {
+        return write_all(c, n, marks, halves, points, area, at);
+    }
+    clear(marks, n);
+    wipe(halves, points, n);
+    at
+}
