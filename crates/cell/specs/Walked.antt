@@ -33,13 +33,13 @@ pub record Kept (n : ℕ) (before after : List ℕ) : Type 0 where
   pub long : length after ≡ length before
   pub back : drop n after ≡ drop n before
 
--- the arrays of the walks, with n places or more
+-- the arrays of the walks have n places or more
 pub record Long (n : ℕ) (marks halves points : List ℕ) : Type 0 where
   pub marks-long : n ≤ length marks
   pub halves-long : n ≤ length halves
   pub points-long : n ≤ length points
 
--- and changed below place n at most
+-- these arrays before and after: none has changed from place n on
 pub record Used (n : ℕ) (marks halves points marks′ halves′ points′ : List ℕ) : Type 0 where
   pub marks-kept : Kept n marks marks′
   pub halves-kept : Kept n halves halves′

@@ -26,7 +26,7 @@ use super::walks::wipe;
 use super::words::WORD_COUNT;
 use super::write::write_loop;
 
-// How many triangles the cell has, which has n crossings.
+// How many triangles the cell has. It has n crossings, here and below.
 fn count(c: Cell, n: usize, marks: &mut [u16], halves: &mut [u8], points: &mut [u32]) -> usize
     requires { ⌜ Room c n (now marks) (now halves) (now points) ⌝ }
     ensures { λ r. ⌜ (r ≡ length (cellTriangles c)) × (r ≤ mostInCell) ⌝ }
