@@ -8,6 +8,7 @@ use native.Mathlib.Decide.{decLt}
 use native.Mathlib.Omega.{arith}
 use lib.Dec.{eqb, leb, ltb}
 use borrow.Author.Tests.{eqb-true, eqb-false, leb-true, leb-false, ltb-true, ltb-false}
+use Rattle.counting.proofs.Below.{trichotomy}
 use Rattle.counting.proofs.Pigeon.{pigeonhole}
 use Rattle.counting.proofs.Search.{Least, least}
 use Rattle.walk.specs.Iterate.{it}
@@ -94,14 +95,7 @@ module _ (M N : ℕ) (s rv cr : ℕ → ℕ) (D : Darts M N s rv cr) where
 
   -- a loop has one length, from each of its darts
   pub loop-length : {p k l : ℕ} → Loop M s p k → Loop M s p l → k ≡ l
-  loop-length {p} {k} {l} K L =
-      elim (decLt k l) [
-        | yes h ↦ absurd (L .first k (K .pos) h (K .home))
-        | no h ↦ elim (decLt l k) [
-          | yes g ↦ absurd (K .first l (L .pos) g (L .home))
-          | no g ↦ omega arith
-        ]
-      ]
+  loop-length {p} {k} {l} K L = trichotomy k l (λ h. absurd (L .first k (K .pos) h (K .home))) (λ h. absurd (K .first l (L .pos) h (L .home))) (λ e. e)
 
   pub loop-next : {p k : ℕ} → Loop M s p k → Loop M s (s p) k
   unfolding it
@@ -230,11 +224,8 @@ module _ (M N : ℕ) (s rv cr : ℕ → ℕ) (D : Darts M N s rv cr) where
 
   -- a loop has no more crossings than there are
   pub loop-short : {p k : ℕ} → Loop M s p k → k ≤ N
-  loop-short {p} {k} L = go (ltb N k) refl
-    where
-      go : (b : Bool) → ltb N k ≡ b → k ≤ N
-      go false e = ltb-false N k e
-      go true e =
-          let l = ltb-true N k e in
-          absurd (pigeonhole N (λ i. cr (it s i p)) (λ i h. D .cr-lt (it s i p) (L .live i (omega arith)))
-          (λ i j a h q. omega (arith, loop-distinct L i j (omega arith) (omega arith) q)))
+  loop-short {p} {k} L = elim (decLt N k) [
+    | yes l ↦ absurd (pigeonhole N (λ i. cr (it s i p)) (λ i h. D .cr-lt (it s i p) (L .live i (omega arith)))
+        (λ i j a h q. omega (arith, loop-distinct L i j (omega arith) (omega arith) q)))
+    | no l ↦ omega arith
+  ]

@@ -60,25 +60,20 @@ module _ (s : ℕ → ℕ) (at : ℕ → Status) where
       ∙ omega arith
 
 -- what a place says, both ways
-place-home : (M p d : ℕ) → status M p d ≡ home → (d < M) × (d / 2 ≡ p)
-unfolding status
-place-home M p d e = go (ltb d M) (ltb (d / 2) p) (eqb (d / 2) p) refl refl refl e
-  where
-    go : (a b c : Bool) → ltb d M ≡ a → ltb (d / 2) p ≡ b → eqb (d / 2) p ≡ c → judge a b c ≡ home → (d < M) × (d / 2 ≡ p)
-    go false b c u v w q = let z : _≡_ {A = ℕ} 0 1 = cc in absurd (omega arith)
-    go true true c u v w q = let z : _≡_ {A = ℕ} 0 1 = cc in absurd (omega arith)
-    go true false true u v w q = (ltb-true d M u, eqb-true (d / 2) p w)
-    go true false false u v w q = let z : _≡_ {A = ℕ} 0 1 = cc in absurd (omega arith)
+abbrev Says : ℕ → ℕ → ℕ → Status → Type 0
+Says M p d home = (d < M) × (d / 2 ≡ p)
+Says M p d off = Unit {0}
+Says M p d on = (d < M) × (p < d / 2)
 
-place-on : (M p d : ℕ) → status M p d ≡ on → (d < M) × (p < d / 2)
+says : (M p d : ℕ) (x : Status) → status M p d ≡ x → Says M p d x
 unfolding status
-place-on M p d e = go (ltb d M) (ltb (d / 2) p) (eqb (d / 2) p) refl refl refl e
+says M p d x e = subst (Says M p d) e (go (ltb d M) (ltb (d / 2) p) (eqb (d / 2) p) refl refl refl)
   where
-    go : (a b c : Bool) → ltb d M ≡ a → ltb (d / 2) p ≡ b → eqb (d / 2) p ≡ c → judge a b c ≡ on → (d < M) × (p < d / 2)
-    go false b c u v w q = let z : _≡_ {A = ℕ} 0 1 = cc in absurd (omega arith)
-    go true true c u v w q = let z : _≡_ {A = ℕ} 0 1 = cc in absurd (omega arith)
-    go true false true u v w q = let z : _≡_ {A = ℕ} 0 1 = cc in absurd (omega arith)
-    go true false false u v w q = (ltb-true d M u, omega (arith, ltb-false (d / 2) p v, eqb-false (d / 2) p w))
+    go : (a b c : Bool) → ltb d M ≡ a → ltb (d / 2) p ≡ b → eqb (d / 2) p ≡ c → Says M p d (judge a b c)
+    go false b c u v w = tt
+    go true true c u v w = tt
+    go true false true u v w = (ltb-true d M u, eqb-true (d / 2) p w)
+    go true false false u v w = (ltb-true d M u, omega (arith, ltb-false (d / 2) p v, eqb-false (d / 2) p w))
 
 pub home-place : (M p d : ℕ) → d < M → d / 2 ≡ p → status M p d ≡ home
 unfolding status
@@ -125,8 +120,8 @@ module _ (N : ℕ) (s rv : ℕ → ℕ) (D : Darts (2 * N) N s rv half) where
       go : (j : ℕ) × (suc r ≡ 1 + j) × Came s (status (2 * N) p) N (s (2 * p)) j
           → Loop (2 * N) s (2 * p) (suc r) × Lowest s half (2 * p) (suc r)
       go w =
-          let end = place-home (2 * N) p (it s r (s (2 * p))) (at-end (w .0) (w .1) (w .2 .last)) in
-          loop-of p r l (end .0) (end .1) (λ i h. place-on (2 * N) p (it s i (s (2 * p))) (w .2 .way i (omega (arith, w .1))))
+          let end = says (2 * N) p (it s r (s (2 * p))) home (at-end (w .0) (w .1) (w .2 .last)) in
+          loop-of p r l (end .0) (end .1) (λ i h. says (2 * N) p (it s i (s (2 * p))) on (w .2 .way i (omega (arith, w .1))))
 
   -- and the walk finds each such loop
   pub finds : (p k : ℕ) → k ≤ N → p < N → Loop (2 * N) s (2 * p) k → Lowest s half (2 * p) k → size N s p ≡ k
@@ -158,7 +153,7 @@ size-live N s p (suc i) l h = go (size N s p) refl h
     go zero e g = absurd (not-suc-le-zero g)
     go (suc r) e g =
         let (j, f, c) = came s (status (2 * N) p) N 1 (s (2 * p)) r e in
-        place-on (2 * N) p (it s i (s (2 * p))) (c .way i (omega arith)) .0
+        says (2 * N) p (it s i (s (2 * p))) on (c .way i (omega arith)) .0
 
 -- steps that agree on the darts below 2 * N take the same walks, and find the same loops
 module _ (N : ℕ) (s t : ℕ → ℕ) (same : (d : ℕ) → d < 2 * N → s d ≡ t d) where
@@ -178,7 +173,7 @@ module _ (N : ℕ) (s t : ℕ → ℕ) (same : (d : ℕ) → d < 2 * N → s d �
       go ih home e = turn-home s (status (2 * N) p) n k d e ∙ sym (turn-home t (status (2 * N) p) n k d e)
       go ih off e = turn-off s (status (2 * N) p) n k d e ∙ sym (turn-off t (status (2 * N) p) n k d e)
       go ih on e =
-          turn-on s (status (2 * N) p) n k d e ∙ ih ∙ ap (turn t (status (2 * N) p) n (suc k)) (same d (place-on (2 * N) p d e .0))
+          turn-on s (status (2 * N) p) n k d e ∙ ih ∙ ap (turn t (status (2 * N) p) n (suc k)) (same d (says (2 * N) p d on e .0))
           ∙ sym (turn-on t (status (2 * N) p) n k d e)
 
   pub size-ext : (p : ℕ) → p < N → size N s p ≡ size N t p
