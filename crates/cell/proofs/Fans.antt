@@ -14,10 +14,10 @@ use Rattle.counting.specs.Pick.{pick, one}
 use Rattle.counting.specs.Range.{over}
 use Rattle.counting.specs.Search.{count}
 use Rattle.counting.specs.Stored.{Stored, storedIn, nextIn}
-use Rattle.counting.proofs.Bools.{and-left, and-right, and-false-right, bool-same}
+use Rattle.counting.proofs.Bools.{and-left, and-right, and-false-right}
 use Rattle.counting.proofs.Range.{length-over, total-ext, over-ext}
 use Rattle.counting.proofs.Search.{every-is, is-every, every-not, count-total, count-le}
-use Rattle.counting.proofs.Stored.{stored-none, stored-as, stored-more, stored-fits, stored-room, stored-in, stored-not, stored-nothing}
+use Rattle.counting.proofs.Stored.{stored-none, stored-as, stored-more, stored-fits, stored-room, stored-not, stored-nothing}
 use Rattle.place.specs.declared.Place.{Place}
 use Rattle.place.specs.Place.{middle, coordinates, placeAt, numbers, allNumbers}
 use Rattle.place.proofs.Numbers.{numbers-over, length-numbers, point-stored, place-kept}
@@ -34,6 +34,7 @@ use Rattle.cell.specs.Triangles.{numberOf}
 use Rattle.cell.specs.Middles.{isFan, loopPoint, fanCount, loopMiddle, cellMiddles, numberedBelow, middlesAt, pointsThen, nextPoint, recordedFan, recordedMiddle, MiddlesRoom}
 use Rattle.cell.proofs.Lay.{lay}
 use Rattle.cell.proofs.Loops.{from-point, normal-is, dart-live}
+use Rattle.cell.proofs.Fits.{room-left}
 use Rattle.cell.proofs.Going.{Looped, looped-halves, looped-points}
 
 -- the cases of the code
@@ -194,55 +195,53 @@ module _ (c : Cell) (area : List Float) (at : ℕ) where
         → Stored area (coordinates * at) (allNumbers (cellMiddles (placeAt area) c)) out m
     middles-all S e = stored-as S (ap (λ k. over (middleOf c area) k 0) e ∙ sym all-are) refl
 
-    -- as the call answers, and what that says
-    pub middles-done : {out : List Float} {r : ℕ} → Stored area (coordinates * at) (allNumbers (cellMiddles (placeAt area) c)) out (coordinates * r)
-        → (r ≡ nextPoint c area at) × (out ≡ pointsThen c area at)
-    unfolding nextPoint pointsThen middlesAt
-    middles-done {out} {r} S =
-        let e = stored-in S (omega (arith, R .room, all-long)) in
-        rw (R .below) (omega (arith, e .1), e .0)
-
+    -- as the call answers
     pub middles-stored : Stored area (coordinates * at) (allNumbers (cellMiddles (placeAt area) c)) (pointsThen c area at) (coordinates * nextPoint c area at)
     unfolding nextPoint pointsThen middlesAt
     middles-stored =
         let S = stored-room area (coordinates * at) (allNumbers (cellMiddles (placeAt area) c)) (omega (arith, R .room, all-long)) in
         rw (R .below) (stored-as S refl (omega (arith, S .after, all-long)))
 
-  -- none are written
-  pub middles-not : (numberedBelow c at && leb (coordinates * (at + fanCount c)) (length area)) ≡ false → (at ≡ nextPoint c area at) × (area ≡ pointsThen c area at)
-  unfolding nextPoint pointsThen middlesAt allNumbers
-  middles-not h = go (numberedBelow c at) h
-    where
-      go : (b : Bool) → (b && leb (coordinates * (at + fanCount c)) (length area)) ≡ false
-          → (at ≡ nextIn area (coordinates * at) (allNumbers (pick b (cellMiddles (placeAt area) c) [])) / coordinates)
-          × (area ≡ storedIn area (coordinates * at) (allNumbers (pick b (cellMiddles (placeAt area) c) [])))
-      go false e = let n = stored-nothing area (coordinates * at) in (omega (arith, n .1), n .0)
-      go true e =
-          let n = stored-not area (coordinates * at) (allNumbers (cellMiddles (placeAt area) c)) (omega (arith, leb-false (coordinates * (at + fanCount c)) (length area) e, all-long)) in
-          (omega (arith, n .1), n .0)
+    pub middles-done : {out : List Float} {r : ℕ} → Stored area (coordinates * at) (allNumbers (cellMiddles (placeAt area) c)) out (coordinates * r)
+        → (r ≡ nextPoint c area at) × (out ≡ pointsThen c area at)
+    middles-done S = (omega (arith, S .after, middles-stored .after), S .area ∙ sym (middles-stored .area))
 
--- whether they have room, as the code asks
-module _ (c : Cell) (room at : ℕ) where
-  abbrev pub fits : Bool
-  fits = numberedBelow c at && leb (coordinates * (at + fanCount c)) room
+-- whether the places of the crossings stand before point `at`, and the middles have room
+abbrev pub fits : Cell → (room at : ℕ) → Bool
+fits c room at = numberedBelow c at && leb (at + fanCount c) (room / coordinates)
 
-  pub fits-short : room / 3 < at → false ≡ fits
-  fits-short h = sym (and-false-right (numberedBelow c at) _ (lt-leb (coordinates * (at + fanCount c)) room (omega arith)))
-
-  pub fits-not : numberedBelow c at ≡ false → false ≡ fits
-  fits-not e = rw e
-
-  module _ (b : numberedBelow c at ≡ true) (h : at ≤ room / 3) where
-    pub fits-count : {t : ℕ} → t ≡ fanCount c → leb t (room / 3 - at) ≡ fits
-    fits-count {t} e =
-        let n = coordinates * (at + fanCount c) in
-        rw b (bool-same (leb t (room / 3 - at)) (leb n room) (λ q. le-leb n room (omega (arith, leb-true t (room / 3 - at) q))) (λ q. le-leb t (room / 3 - at) (omega (arith, leb-true n room q))))
-
-    pub fits-most : {n : ℕ} → n ≡ crossings (edgesOf c) → n ≤ room / 3 - at → true ≡ fits
-    unfolding fanCount
-    fits-most e l = rw b (sym (le-leb (coordinates * (at + fanCount c)) room (omega (arith, count-le (isFan c) (crossings (edgesOf c))))))
+-- where they have none, nothing is written
+pub middles-not : (c : Cell) (area : List Float) (at : ℕ) → fits c (length area) at ≡ false → (at ≡ nextPoint c area at) × (area ≡ pointsThen c area at)
+unfolding nextPoint pointsThen middlesAt allNumbers
+middles-not c area at = go (numberedBelow c at)
+  where
+    go : (b : Bool) → (b && leb (at + fanCount c) (length area / coordinates)) ≡ false
+        → (at ≡ nextIn area (coordinates * at) (allNumbers (pick b (cellMiddles (placeAt area) c) [])) / coordinates)
+        × (area ≡ storedIn area (coordinates * at) (allNumbers (pick b (cellMiddles (placeAt area) c) [])))
+    go false e = let n = stored-nothing area (coordinates * at) in (omega (arith, n .1), n .0)
+    go true e =
+        let n =
+        stored-not area (coordinates * at) (allNumbers (cellMiddles (placeAt area) c))
+        (omega (arith, leb-false (at + fanCount c) (length area / coordinates) e, all-long c area at)) in
+        (omega (arith, n .1), n .0)
 
 pub fits-room : (c : Cell) (area : List Float) (at : ℕ) → fits c (length area) at ≡ true → MiddlesRoom c area at
 fits-room c area at e =
-    let n = coordinates * (at + fanCount c) in
-    record { below = and-left (numberedBelow c at) (leb n (length area)) e; room = leb-true n (length area) (and-right (numberedBelow c at) (leb n (length area)) e) }
+    let t = leb (at + fanCount c) (length area / coordinates) in
+    record { below = and-left (numberedBelow c at) t e; room = omega (arith, leb-true (at + fanCount c) (length area / coordinates) (and-right (numberedBelow c at) t e)) }
+
+-- as the code asks
+module _ (c : Cell) (room at : ℕ) where
+  pub fits-short : room / coordinates < at → false ≡ fits c room at
+  fits-short h = sym (and-false-right (numberedBelow c at) _ (lt-leb (at + fanCount c) (room / coordinates) (omega arith)))
+
+  pub fits-not : numberedBelow c at ≡ false → false ≡ fits c room at
+  fits-not e = rw e
+
+  module _ (b : numberedBelow c at ≡ true) (h : at ≤ room / coordinates) where
+    pub fits-count : {t : ℕ} → t ≡ fanCount c → leb t (room / coordinates - at) ≡ fits c room at
+    fits-count e = rw (b, e) (room-left (fanCount c) at (room / coordinates) h)
+
+    pub fits-most : {n : ℕ} → n ≡ crossings (edgesOf c) → n ≤ room / coordinates - at → true ≡ fits c room at
+    unfolding fanCount
+    fits-most e l = rw b (sym (le-leb (at + fanCount c) (room / coordinates) (omega (arith, count-le (isFan c) (crossings (edgesOf c))))))

@@ -8,28 +8,38 @@ use native.Mathlib.Decide.{decLt}
 use lib.Dec.{leb}
 use lib.ListN.{length}
 use lib.Seq.{sets}
-use borrow.Author.Tests.{le-leb, lt-leb}
+use borrow.Author.Tests.{le-leb, lt-leb, leb-false}
+use Rattle.counting.specs.Stored.{Stored}
+use Rattle.counting.proofs.Stored.{stored-room, stored-not}
 use Rattle.cell.specs.declared.Cell.{Cell}
 use Rattle.cell.specs.Words.{wordCount, allWords}
 use Rattle.cell.specs.Triangles.{cellTriangles}
-use Rattle.cell.specs.Fits.{endOf, nextAt, areaThen}
+use Rattle.cell.specs.Fits.{nextAt, areaThen}
+use Rattle.cell.proofs.Storing.{length-all}
 
 module _ (c : Cell) (area : List ℕ) (at : ℕ) where
-  pub no-room : leb (at + wordCount * length (cellTriangles c)) (length area) ≡ false → (at ≡ nextAt c area at) × (area ≡ areaThen c area at)
-  unfolding endOf nextAt areaThen
-  no-room e = (rw e, rw e)
+  abbrev ends : ℕ
+  ends = at + wordCount * length (cellTriangles c)
 
-  module _ (h : at + wordCount * length (cellTriangles c) ≤ length area) where
-    pub next-is : nextAt c area at ≡ at + wordCount * length (cellTriangles c)
-    unfolding endOf nextAt
-    next-is = rw (le-leb (at + wordCount * length (cellTriangles c)) (length area) h)
+  long : length (allWords (cellTriangles c)) ≡ wordCount * length (cellTriangles c)
+  long = length-all (cellTriangles c)
+
+  pub no-room : leb ends (length area) ≡ false → (at ≡ nextAt c area at) × (area ≡ areaThen c area at)
+  unfolding nextAt areaThen
+  no-room e = let n = stored-not area at (allWords (cellTriangles c)) (omega (arith, leb-false ends (length area) e, long)) in (n .1, n .0)
+
+  module _ (h : ends ≤ length area) where
+    stored : Stored area at (allWords (cellTriangles c)) (areaThen c area at) (nextAt c area at)
+    unfolding nextAt areaThen
+    stored = stored-room area at (allWords (cellTriangles c)) (omega (arith, h, long))
+
+    pub next-is : nextAt c area at ≡ ends
+    next-is = omega (arith, stored .after, long)
 
     pub area-is : areaThen c area at ≡ sets area at (allWords (cellTriangles c))
-    unfolding endOf areaThen
-    area-is = rw (le-leb (at + wordCount * length (cellTriangles c)) (length area) h)
+    area-is = stored .area
 
-    pub has-room : {i : ℕ} {out : List ℕ} → (i ≡ at + wordCount * length (cellTriangles c)) × (out ≡ sets area at (allWords (cellTriangles c)))
-        → (i ≡ nextAt c area at) × (out ≡ areaThen c area at)
+    pub has-room : {i : ℕ} {out : List ℕ} → (i ≡ ends) × (out ≡ sets area at (allWords (cellTriangles c))) → (i ≡ nextAt c area at) × (out ≡ areaThen c area at)
     has-room q = (q .0 ∙ sym next-is, q .1 ∙ sym area-is)
 
 -- k more than `at` are no more than `room`

@@ -1,7 +1,7 @@
 // The fans among a cell's loops: counted, and their middles written among the points of an area.
 ghost use mathlib.Core.Path.{_≡_};
 ghost use mathlib.Core.Bool.{_&&_};
-ghost use Prim.Native.Nat.{_+_, _*_, _≤_};
+ghost use Prim.Native.Nat.{_+_, _*_, _/_, _≤_};
 ghost use lib.Dec.{leb};
 ghost use lib.ListN.{length};
 ghost use Rattle.counting.specs.Pick.{one};
@@ -140,7 +140,7 @@ fn has_room(
     at: usize,
 ) -> bool
     requires { ⌜ Room c n (now marks) (now halves) (now points) ⌝ }
-    ensures { λ r. ⌜ r ≡ (numberedBelow c at && leb (coordinates * (at + fanCount c)) room) ⌝ }
+    ensures { λ r. ⌜ r ≡ (numberedBelow c at && leb (at + fanCount c) (room / coordinates)) ⌝ }
     ensures { λ _. ⌜ Used n (now (marks .entry)) (now (halves .entry)) (now (points .entry)) (now (marks .exit)) (now (halves .exit)) (now (points .exit)) ⌝ }
 {
     let all = room / 3;

@@ -66,9 +66,6 @@ module _ {A : Type 0} where
   unfolding storedIn nextIn
   stored-room was at vs h = let e = le-leb (at + length vs) (length was) h in record { area = rw e; after = rw e }
 
-  pub stored-in : {was : List A} {at : ℕ} {vs is : List A} {n : ℕ} → Stored was at vs is n → at + length vs ≤ length was → (is ≡ storedIn was at vs) × (n ≡ nextIn was at vs)
-  stored-in {was} {at} {vs} S h = let T = stored-room was at vs h in (S .area ∙ sym (T .area), S .after ∙ sym (T .after))
-
   pub stored-not : (was : List A) (at : ℕ) (vs : List A) → length was < at + length vs → (was ≡ storedIn was at vs) × (at ≡ nextIn was at vs)
   unfolding storedIn nextIn
   stored-not was at vs h = let e = lt-leb (at + length vs) (length was) h in (rw e, rw e)

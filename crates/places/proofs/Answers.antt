@@ -25,7 +25,6 @@ use Rattle.places.specs.Answer.{needed, placeRows, rowsAnswer, placesAns
 
 -- what a result of rows 15 to 17 tells
 pub record Fine (cells counts : List ℕ) (nodes fractions : List Float) (needed room : ℕ) : Type 0 where
-  pub nodes-long : coordinates * nodeEnd cells ≤ length nodes
   pub fractions-long : length fractions ≡ crossings counts
   pub area-long : coordinates * needed ≤ room
   pub numbers-fine : (i : ℕ) → i < coordinates * nodeEnd cells → badNumber cells nodes i ≡ false
@@ -33,12 +32,12 @@ pub record Fine (cells counts : List ℕ) (nodes fractions : List Float) (needed
 
 module _ (cells counts : List ℕ) (nodes fractions : List Float) (needed room : ℕ) where
   lists-fine : badLists cells counts nodes fractions needed room ≡ false
-      → (coordinates * nodeEnd cells ≤ length nodes) × (length fractions ≡ crossings counts) × (coordinates * needed ≤ room)
+      → (length fractions ≡ crossings counts) × (coordinates * needed ≤ room)
   unfolding badLists
   lists-fine e =
-      let (p, q) = or-none (ltb (length nodes) (coordinates * nodeEnd cells)) (not (eqb (length fractions) (crossings counts)) || ltb room (coordinates * needed)) e in
+      let (_, q) = or-none (ltb (length nodes) (coordinates * nodeEnd cells)) (not (eqb (length fractions) (crossings counts)) || ltb room (coordinates * needed)) e in
       let (r, s) = or-none (not (eqb (length fractions) (crossings counts))) (ltb room (coordinates * needed)) q in
-      (ltb-false _ _ p, eqb-true _ _ (not-false _ r), ltb-false _ _ s)
+      (eqb-true _ _ (not-false _ r), ltb-false _ _ s)
 
   rows-numbered : numbered (placeRows cells counts nodes fractions needed room) ≡ true
   unfolding placeRows numbered
@@ -50,7 +49,7 @@ module _ (cells counts : List ℕ) (nodes fractions : List Float) (needed room :
       let rows = placeRows cells counts nodes fractions needed room in
       let a = result-clear rows (needed ∷ []) rows-numbered (ap isResult h) in
       let l = lists-fine (clear-since rows 15 a 0 (omega arith)) in
-      record { nodes-long = l .0; fractions-long = l .1; area-long = l .2; numbers-fine = clear-since rows 16 a; fractions-fine = clear-since rows 17 a }
+      record { fractions-long = l .0; area-long = l .1; numbers-fine = clear-since rows 16 a; fractions-fine = clear-since rows 17 a }
 
   -- the rows' answer has a first number
   pub rows-some : [] ≡ rowsAnswer cells counts nodes fractions needed room → ⊥

@@ -17,57 +17,15 @@ Inv-loop list points n p₀ i₀ p i = (0 < i) × (i ≤ n) × (n ≡ length poi
 abbrev μ-loop : tie.MeasureT-loop
 μ-loop list points n p₀ i₀ p i = n - i
 
-load-requires : tie.Need-load-requires Inv-loop μ-loop
-load-requires c κs = tt
-
-over-requires : tie.Need-over-requires Inv-loop μ-loop
-over-requires c κs = tt
-
 returns : tie.Need-returns Inv-loop μ-loop
 unfolding middle sumTo ofBits ofInt
 returns c = let a = c .before .before .before .before .before .args in let z : length (now (a .points)) ≡ 0 = c .before .before .if1 .taken in c .over .ensures ∙ ap (λ (x : Place). divided x (floatOf 0)) (c .before .load .ensures ∙ ap (placeAt (now (a .list))) (sym (List·getD-eq-default (now (a .points)) 0 (omega (arith, z))))) ∙ ap (λ n. middle (λ k. placeAt (now (a .list)) (getD (now (a .points)) k 0)) n) (sym z)
 
-shared-slice-read-wide : tie.Need-shared-slice-read-wide Inv-loop μ-loop
-shared-slice-read-wide c = omega (arith, c .before .if1 .left)
-
-wide-requires : tie.Need-wide-requires Inv-loop μ-loop
-wide-requires c κs = tt
-
-load-requires-2 : tie.Need-load-requires-2 Inv-loop μ-loop
-load-requires-2 c κs = tt
-
 loop-holds : tie.Need-loop-holds Inv-loop μ-loop
 loop-holds c = let a = c .before .before .before .before .before .before .args in (omega arith, omega (arith, c .before .before .before .if1 .left), refl, c .load2 .ensures ∙ ap (placeAt (now (a .list))) (c .before .wide .ensures) ∙ sum-one (λ k. placeAt (now (a .list)) (getD (now (a .points)) k 0)))
 
-mul-wide : tie.Need-mul-wide Inv-loop μ-loop
-mul-wide c = search needs
-
-shared-slice-read-wide-2 : tie.Need-shared-slice-read-wide-2 Inv-loop μ-loop
-shared-slice-read-wide-2 c = omega (arith, c .before .before .loop .inv .2)
-
-wide-requires-2 : tie.Need-wide-requires-2 Inv-loop μ-loop
-wide-requires-2 c κs = tt
-
-load-requires-3 : tie.Need-load-requires-3 Inv-loop μ-loop
-load-requires-3 c κs = tt
-
-plus-requires : tie.Need-plus-requires Inv-loop μ-loop
-plus-requires c κs = tt
-
-add-i : tie.Need-add-i Inv-loop μ-loop
-add-i c = search needs
-
-loop-less : tie.Need-loop-less Inv-loop μ-loop
-loop-less c = omega arith
-
 loop-again : tie.Need-loop-again Inv-loop μ-loop
 loop-again c = let a = c .before .before .before .before .before .before .before .before .before .before .before .before .args in let l = c .before .before .before .before .before .loop in (omega arith, omega arith, l .inv .2, c .plus .ensures ∙ sum-more (λ k. placeAt (now (a .list)) (getD (now (a .points)) k 0)) (l .i) (l .inv .0) (l .inv .3) (c .before .load3 .ensures ∙ ap (placeAt (now (a .list))) (c .before .before .wide2 .ensures)))
-
-nearest-u64-to-f64-requires : tie.Need-nearest-u64-to-f64-requires Inv-loop μ-loop
-nearest-u64-to-f64-requires c κs = tt
-
-over-requires-2 : tie.Need-over-requires-2 Inv-loop μ-loop
-over-requires-2 c κs = tt
 
 returns-2 : tie.Need-returns-2 Inv-loop μ-loop
 unfolding middle
@@ -79,21 +37,21 @@ middle-of-spec =
     (tie.spec
     Inv-loop
     μ-loop
-    load-requires
-    over-requires
+    (λ c κs. tt)
+    (λ c κs. tt)
     returns
-    shared-slice-read-wide
-    wide-requires
-    load-requires-2
+    (λ c. omega (arith, c .before .if1 .left))
+    (λ c κs. tt)
+    (λ c κs. tt)
     loop-holds
-    mul-wide
-    shared-slice-read-wide-2
-    wide-requires-2
-    load-requires-3
-    plus-requires
-    add-i
-    loop-less
+    (λ c. search needs)
+    (λ c. omega (arith, c .before .before .loop .inv .2))
+    (λ c κs. tt)
+    (λ c κs. tt)
+    (λ c κs. tt)
+    (λ c. search needs)
+    (λ c. omega arith)
     loop-again
-    nearest-u64-to-f64-requires
-    over-requires-2
+    (λ c κs. tt)
+    (λ c κs. tt)
     returns-2)

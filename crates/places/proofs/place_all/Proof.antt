@@ -7,9 +7,6 @@ use borrow.Author.Needs.{needs}
 use Rattle.places.proofs.place_all.Statement.{statement}
 use Rattle.places.proofs.place_all.Tie as tie
 
-count-fans-requires : tie.Need-count-fans-requires
-count-fans-requires c κs = c .before .before .before .before .before .before .pre .few-cells
-
 add-all : tie.Need-add-all
 add-all c = omega (arith, c .before .before .before .before .before .before .before .pre .few, c .count-fans .ensures .1)
 
@@ -27,9 +24,6 @@ returns c =
     let t = c .before .before .before .count-fans in
     refused-in (now (a .cells)) (now (a .edges)) (now (a .counts)) (now (a .names)) (now (a .sides)) (now (a .starts)) (now (a .nodes)) (now (a .fractions)) (a .n) R (now (a .area)) (j .result) (a .n + t .result) (ap (λ k. a .n + k) (t .ensures .0)) (j .ensures) _ _ (c .enum-told .given .1)
 
-enum-told-2 : tie.Need-enum-told-2
-enum-told-2 c = search needs
-
 place-crossings-requires : tie.Need-place-crossings-requires
 place-crossings-requires c κs =
     let a = c .before .before .before .before .before .before .before .before .before .before .before .args in
@@ -46,9 +40,6 @@ write-middles-requires c κs =
     let t = c .before .before .before .before .before .before .before .before .count-fans in
     (table-room (now (a .cells)) (now (a .edges)) (now (a .counts)) (now (a .names)) (now (a .sides)) (now (a .starts)) (now (a .nodes)) (now (a .fractions)) (a .n) R (now (a .area)) (j .result) (a .n + t .result) (ap (λ k. a .n + k) (t .ensures .0)) (j .ensures) _ (c .before .before .before .before .before .enum-told2 .given .1) _ (c .before .before .before .place-crossings .ensures))
 
-same-length : tie.Need-same-length
-same-length c = search needs
-
 returns-2 : tie.Need-returns-2
 returns-2 c =
     let a = c .before .before .before .before .before .before .before .before .before .before .before .before .before .before .before .before .before .before .args in
@@ -61,13 +52,13 @@ pub place-all-spec : {M : Type 1} → statement M
 place-all-spec =
     tie.close
     (tie.spec
-    count-fans-requires
+    (λ c κs. c .before .before .before .before .before .before .pre .few-cells)
     add-all
     judge-requires
     enum-told
     returns
-    enum-told-2
+    (λ c. search needs)
     place-crossings-requires
     write-middles-requires
-    same-length
+    (λ c. search needs)
     returns-2)

@@ -6,18 +6,6 @@ use borrow.Author.Needs.{needs}
 use Rattle.places.proofs.places.Statement.{statement}
 use Rattle.places.proofs.places.Tie as tie
 
-open-requires : tie.Need-open-requires
-open-requires c κs = search needs
-
-enum-known-row : tie.Need-enum-known-row
-enum-known-row c = search needs
-
-enum-known-n : tie.Need-enum-known-n
-enum-known-n c = search needs
-
-cast-place-all : tie.Need-cast-place-all
-cast-place-all c = search needs
-
 place-all-requires : tie.Need-place-all-requires
 place-all-requires c κs =
     let a = c .before .before .before .before .before .before .before .before .before .before .before .before .before .before .before .before .before .args in
@@ -30,9 +18,6 @@ returns c =
     let o = c .before .before .before .«open» in
     refused-done (gridOf (now (a .cells)) (now (a .edges)) (now (a .counts))) (now (a .nodes)) (now (a .fractions)) (o .result) _ _ (now (a .area)) (c .before .row .given .1) (o .ensures .0)
 
-same-length : tie.Need-same-length
-same-length c = search needs
-
 returns-2 : tie.Need-returns-2
 returns-2 c =
     let a = c .before .before .before .before .before .before .before .before .before .before .before .before .before .before .before .before .before .before .before .before .args in
@@ -43,11 +28,11 @@ pub places-spec : {M : Type 1} → statement M
 places-spec =
     tie.close
     (tie.spec
-    open-requires
-    enum-known-row
-    enum-known-n
-    cast-place-all
+    (λ c κs. search needs)
+    (λ c. search needs)
+    (λ c. search needs)
+    (λ c. search needs)
     place-all-requires
     returns
-    same-length
+    (λ c. search needs)
     returns-2)

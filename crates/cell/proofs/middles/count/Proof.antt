@@ -16,30 +16,12 @@ Inv-loop c n marks₀ halves₀ points₀ routes t₀ p₀ marks halves points t
 abbrev μ-loop : tie.MeasureT-loop
 μ-loop c n marks₀ halves₀ points₀ routes t₀ p₀ marks halves points t p = n - p
 
-routes-of-requires : tie.Need-routes-of-requires Inv-loop μ-loop
-routes-of-requires c κs = tt
-
-clear-requires : tie.Need-clear-requires Inv-loop μ-loop
-clear-requires c κs = c .before .before .before .before .before .pre .long .marks-long
-
 loop-holds : tie.Need-loop-holds Inv-loop μ-loop
 unfolding count
 loop-holds c = (going-start _ (c .before .before .before .before .before .before .before .before .pre .all, c .before .before .before .before .before .before .before .before .pre .few) (c .before .before .before .before .routes-of .ensures) (c .before .before .before .before .before .before .before .before .pre .long) (c .before .before .clear .ensures), refl)
 
-walk-requires : tie.Need-walk-requires Inv-loop μ-loop
-walk-requires c κs = going-lent (c .before .before .before .before .before .loop .inv .0) (omega arith)
-
-sub-fan-of : tie.Need-sub-fan-of Inv-loop μ-loop
-sub-fan-of c = omega arith
-
-part-fan-of-start : tie.Need-part-fan-of-start Inv-loop μ-loop
-part-fan-of-start c = omega arith
-
 part-fan-of-end : tie.Need-part-fan-of-end Inv-loop μ-loop
 part-fan-of-end c = going-part (c .before .before .before .before .before .before .before .before .before .before .before .before .before .loop .inv .0) (omega arith) (c .before .before .before .before .before .before .before .walk .ensures) .0
-
-fan-of-requires : tie.Need-fan-of-requires Inv-loop μ-loop
-fan-of-requires c κs = tt
 
 add-t : tie.Need-add-t Inv-loop μ-loop
 add-t c = omega (arith, fans-more (going-looped (c .before .before .before .before .before .before .before .before .before .before .before .before .before .before .before .loop .inv .0) (omega arith) (c .before .before .before .before .before .before .before .before .before .walk .ensures)) (c .before .before .before .before .before .before .before .before .before .before .before .before .before .before .before .loop .inv .1) (c .fan-of .ensures), count-le (isFan (c .before .before .before .before .before .before .before .before .before .before .before .before .before .before .before .before .before .before .before .before .before .before .before .before .args .c)) (c .before .before .before .before .before .before .before .before .before .before .before .before .before .before .before .loop .p + 1), c .before .before .before .before .before .before .before .before .before .before .before .before .before .before .before .loop .inv .0 .few)
@@ -47,14 +29,8 @@ add-t c = omega (arith, fans-more (going-looped (c .before .before .before .befo
 add-p : tie.Need-add-p Inv-loop μ-loop
 add-p c = omega (arith, c .before .before .before .before .before .before .before .before .before .before .before .before .before .before .before .loop .inv .0 .few)
 
-loop-less : tie.Need-loop-less Inv-loop μ-loop
-loop-less c = omega arith
-
 loop-again : tie.Need-loop-again Inv-loop μ-loop
 loop-again c = (going-more (c .before .before .before .before .before .before .before .before .before .before .before .before .before .before .before .loop .inv .0) (omega arith) (c .before .before .before .before .before .before .before .before .before .walk .ensures), fans-more (going-looped (c .before .before .before .before .before .before .before .before .before .before .before .before .before .before .before .loop .inv .0) (omega arith) (c .before .before .before .before .before .before .before .before .before .walk .ensures)) (c .before .before .before .before .before .before .before .before .before .before .before .before .before .before .before .loop .inv .1) (c .fan-of .ensures))
-
-clear-requires-2 : tie.Need-clear-requires-2 Inv-loop μ-loop
-clear-requires-2 c κs = going-long (c .before .before .loop .inv .0) .marks-long
 
 wipe-requires : tie.Need-wipe-requires Inv-loop μ-loop
 wipe-requires c κs = let L = going-long (c .before .before .before .before .before .before .before .loop .inv .0) in (L .halves-long, L .points-long)
@@ -77,19 +53,19 @@ count-spec =
     (tie.spec
     Inv-loop
     μ-loop
-    routes-of-requires
-    clear-requires
+    (λ c κs. tt)
+    (λ c κs. c .before .before .before .before .before .pre .long .marks-long)
     loop-holds
-    walk-requires
-    sub-fan-of
-    part-fan-of-start
+    (λ c κs. going-lent (c .before .before .before .before .before .loop .inv .0) (omega arith))
+    (λ c. omega arith)
+    (λ c. omega arith)
     part-fan-of-end
-    fan-of-requires
+    (λ c κs. tt)
     add-t
     add-p
-    loop-less
+    (λ c. omega arith)
     loop-again
-    clear-requires-2
+    (λ c κs. going-long (c .before .before .loop .inv .0) .marks-long)
     wipe-requires
     same-length
     same-length-2

@@ -9,26 +9,11 @@ use Rattle.cell.proofs.middles.has_room.Tie as tie
 returns : tie.Need-returns
 returns c = (fits-short (c .before .before .before .before .args .c) (c .before .before .before .before .args .room) (c .before .before .before .before .args .at) (c .if1 .taken), used-none _ _ _ _)
 
-is-below-requires : tie.Need-is-below-requires
-is-below-requires c κs = tt
-
 returns-2 : tie.Need-returns-2
 returns-2 c = (fits-not (c .before .before .before .before .before .before .args .c) (c .before .before .before .before .before .before .args .room) (c .before .before .before .before .before .before .args .at) (sym (c .before .is-below .ensures) ∙ not-true _ (c .if2 .taken)), used-none _ _ _ _)
 
 returns-3 : tie.Need-returns-3
 returns-3 c = (fits-most (c .before .before .before .before .before .before .before .args .c) (c .before .before .before .before .before .before .before .args .room) (c .before .before .before .before .before .before .before .args .at) (sym (c .before .before .is-below .ensures) ∙ not-false _ (c .before .if2 .left)) (omega arith) (c .before .before .before .before .before .before .before .pre .all) (c .if3 .taken), used-none _ _ _ _)
-
-count-requires : tie.Need-count-requires
-count-requires c κs = c .before .before .before .before .before .before .before .before .before .before .pre
-
-same-length : tie.Need-same-length
-same-length c = cleared-same (c .before .before .before .before .before .before .count .ensures .1) .0
-
-same-length-2 : tie.Need-same-length-2
-same-length-2 c = cleared-same (c .before .before .before .before .before .before .count .ensures .1) .1
-
-same-length-3 : tie.Need-same-length-3
-same-length-3 c = cleared-same (c .before .before .before .before .before .before .count .ensures .1) .2
 
 returns-4 : tie.Need-returns-4
 returns-4 c = (fits-count (c .before .before .before .before .before .before .before .before .before .before .before .before .before .before .before .before .before .args .c) (c .before .before .before .before .before .before .before .before .before .before .before .before .before .before .before .before .before .args .room) (c .before .before .before .before .before .before .before .before .before .before .before .before .before .before .before .before .before .args .at) (sym (c .before .before .before .before .before .before .before .before .before .before .before .before .is-below .ensures) ∙ not-false _ (c .before .before .before .before .before .before .before .before .before .before .before .if2 .left)) (omega arith) (c .before .before .before .before .before .before .count .ensures .0 .0), cleared-used (c .before .before .before .before .before .before .before .before .before .before .before .before .before .before .before .before .before .pre) (c .before .before .before .before .before .before .count .ensures .1))
@@ -38,11 +23,11 @@ has-room-spec =
     tie.close
     (tie.spec
     returns
-    is-below-requires
+    (λ c κs. tt)
     returns-2
     returns-3
-    count-requires
-    same-length
-    same-length-2
-    same-length-3
+    (λ c κs. c .before .before .before .before .before .before .before .before .before .before .pre)
+    (λ c. cleared-same (c .before .before .before .before .before .before .count .ensures .1) .0)
+    (λ c. cleared-same (c .before .before .before .before .before .before .count .ensures .1) .1)
+    (λ c. cleared-same (c .before .before .before .before .before .before .count .ensures .1) .2)
     returns-4)

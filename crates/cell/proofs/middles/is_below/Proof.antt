@@ -14,20 +14,8 @@ Inv-loop c n e₀ e = (e ≤ 6) × ((k : ℕ) → k < e → startOf c k + countO
 abbrev μ-loop : tie.MeasureT-loop
 μ-loop c n e₀ e = 6 - e
 
-loop-holds : tie.Need-loop-holds Inv-loop μ-loop
-loop-holds c = (omega arith, λ k l. absurd (omega arith))
-
-end-of-requires : tie.Need-end-of-requires Inv-loop μ-loop
-end-of-requires c κs = omega arith
-
 returns : tie.Need-returns Inv-loop μ-loop
 returns c = sym (below-not (c .before .before .before .before .args .c) (c .before .before .before .before .args .n) (c .before .before .before .loop .e) (omega arith) (omega (arith, c .before .end-of .ensures)))
-
-add-e : tie.Need-add-e Inv-loop μ-loop
-add-e c = omega arith
-
-loop-less : tie.Need-loop-less Inv-loop μ-loop
-loop-less c = omega arith
 
 loop-again : tie.Need-loop-again Inv-loop μ-loop
 loop-again c = (omega arith, λ k l. ⊎-elim (λ (q : k ≡ c .before .before .before .loop .e). rw q (omega (arith, c .before .end-of .ensures))) (λ (h : k < c .before .before .before .loop .e). c .before .before .before .loop .inv .1 k h) (below-or k (c .before .before .before .loop .e) (omega arith)))
@@ -41,10 +29,10 @@ is-below-spec =
     (tie.spec
     Inv-loop
     μ-loop
-    loop-holds
-    end-of-requires
+    (λ c. (omega arith, λ k l. absurd (omega arith)))
+    (λ c κs. omega arith)
     returns
-    add-e
-    loop-less
+    (λ c. omega arith)
+    (λ c. omega arith)
     loop-again
     returns-2)

@@ -4,23 +4,8 @@ use borrow.Author.Needs.{needs}
 use Rattle.cell.proofs.middles.put_middle.Statement.{statement}
 use Rattle.cell.proofs.middles.put_middle.Tie as tie
 
-fan-of-requires : tie.Need-fan-of-requires
-fan-of-requires c κs = search needs
-
 returns : tie.Need-returns
 returns c = put-none (now (c .before .before .before .before .before .args .halves)) (now (c .before .before .before .before .before .args .points)) (now (c .before .before .before .before .before .args .area)) (c .before .before .before .before .before .args .at) (c .before .fan-of .result) (c .before .fan-of .ensures) (c .if1 .taken)
-
-middle-of-requires : tie.Need-middle-of-requires
-middle-of-requires c κs = search needs
-
-store-requires : tie.Need-store-requires
-store-requires c κs = search needs
-
-add-result : tie.Need-add-result
-add-result c = search needs
-
-same-length : tie.Need-same-length
-same-length c = search needs
 
 returns-2 : tie.Need-returns-2
 returns-2 c = put-one (now (c .before .before .before .before .before .before .before .before .before .before .before .args .halves)) (now (c .before .before .before .before .before .before .before .before .before .before .before .args .points)) (now (c .before .before .before .before .before .before .before .before .before .before .before .args .area)) (c .before .before .before .before .before .before .before .before .before .before .before .args .at) (c .before .before .before .before .before .before .before .fan-of .result) (c .before .before .before .before .before .before .before .fan-of .ensures) (c .before .before .before .before .before .before .if1 .left) (c .before .before .before .before .before .before .before .before .before .before .before .pre) (c .before .before .before .before .middle-of .ensures) (c .before .before .store .ensures)
@@ -29,10 +14,10 @@ pub put-middle-spec : {M : Type 1} → statement M
 put-middle-spec =
     tie.close
     (tie.spec
-    fan-of-requires
+    (λ c κs. search needs)
     returns
-    middle-of-requires
-    store-requires
-    add-result
-    same-length
+    (λ c κs. search needs)
+    (λ c κs. search needs)
+    (λ c. search needs)
+    (λ c. search needs)
     returns-2)

@@ -17,33 +17,12 @@ Inv-loop c n marks₀ halves₀ points₀ area₀ at routes i₀ p₀ marks halv
 abbrev μ-loop : tie.MeasureT-loop
 μ-loop c n marks₀ halves₀ points₀ area₀ at routes i₀ p₀ marks halves points area i p = n - p
 
-routes-of-requires : tie.Need-routes-of-requires Inv-loop μ-loop
-routes-of-requires c κs = tt
-
-clear-requires : tie.Need-clear-requires Inv-loop μ-loop
-clear-requires c κs = c .before .before .before .before .before .before .pre .0 .long .marks-long
-
 loop-holds : tie.Need-loop-holds Inv-loop μ-loop
 unfolding over
 loop-holds c = (going-start _ (c .before .before .before .before .before .before .before .before .before .pre .0 .all, c .before .before .before .before .before .before .before .before .before .pre .0 .few) (c .before .before .before .before .routes-of .ensures) (c .before .before .before .before .before .before .before .before .before .pre .0 .long) (c .before .before .clear .ensures), stored-none _ _)
 
-walk-requires : tie.Need-walk-requires Inv-loop μ-loop
-walk-requires c κs = going-lent (c .before .before .before .before .before .loop .inv .0) (omega arith)
-
-sub-put-middle : tie.Need-sub-put-middle Inv-loop μ-loop
-sub-put-middle c = omega arith
-
-part-put-middle-start : tie.Need-part-put-middle-start Inv-loop μ-loop
-part-put-middle-start c = omega arith
-
 part-put-middle-end : tie.Need-part-put-middle-end Inv-loop μ-loop
 part-put-middle-end c = going-part (c .before .before .before .before .before .before .before .before .before .before .before .before .before .loop .inv .0) (omega arith) (c .before .before .before .before .before .before .before .walk .ensures) .0
-
-sub-put-middle-2 : tie.Need-sub-put-middle-2 Inv-loop μ-loop
-sub-put-middle-2 c = omega arith
-
-part-put-middle-start-2 : tie.Need-part-put-middle-start-2 Inv-loop μ-loop
-part-put-middle-start-2 c = omega arith
 
 part-put-middle-end-2 : tie.Need-part-put-middle-end-2 Inv-loop μ-loop
 part-put-middle-end-2 c = going-part (c .before .before .before .before .before .before .before .before .before .before .before .before .before .before .before .loop .inv .0) (omega arith) (c .before .before .before .before .before .before .before .before .before .walk .ensures) .1
@@ -54,14 +33,8 @@ put-middle-requires c κs = middle-room (c .before .before .before .before .befo
 add-p : tie.Need-add-p Inv-loop μ-loop
 add-p c = omega (arith, c .before .before .before .before .before .before .before .before .before .before .before .before .before .before .before .before .before .before .before .before .loop .inv .0 .few)
 
-loop-less : tie.Need-loop-less Inv-loop μ-loop
-loop-less c = omega arith
-
 loop-again : tie.Need-loop-again Inv-loop μ-loop
 loop-again c = (going-more (c .before .before .before .before .before .before .before .before .before .before .before .before .before .before .before .before .before .before .before .before .loop .inv .0) (omega arith) (c .before .before .before .before .before .before .before .before .before .before .before .before .before .before .walk .ensures), middle-next (c .before .before .before .before .before .before .before .before .before .before .before .before .before .before .before .before .before .before .before .before .before .before .before .before .before .before .before .before .before .before .args .c) (now (c .before .before .before .before .before .before .before .before .before .before .before .before .before .before .before .before .before .before .before .before .before .before .before .before .before .before .before .before .before .before .args .area)) (c .before .before .before .before .before .before .before .before .before .before .before .before .before .before .before .before .before .before .before .before .before .before .before .before .before .before .before .before .before .before .args .at) (c .before .before .before .before .before .before .before .before .before .before .before .before .before .before .before .before .before .before .before .before .before .before .before .before .before .before .before .before .before .before .pre .1) (c .before .before .before .before .before .before .before .before .before .before .before .before .before .before .before .before .before .before .before .before .loop .i) (c .before .before .before .before .before .before .before .before .before .before .before .before .before .before .before .before .before .before .before .before .loop .inv .1) (going-looped (c .before .before .before .before .before .before .before .before .before .before .before .before .before .before .before .before .before .before .before .before .loop .inv .0) (omega arith) (c .before .before .before .before .before .before .before .before .before .before .before .before .before .before .walk .ensures)) (c .before .before .put-middle .ensures))
-
-clear-requires-2 : tie.Need-clear-requires-2 Inv-loop μ-loop
-clear-requires-2 c κs = going-long (c .before .before .loop .inv .0) .marks-long
 
 wipe-requires : tie.Need-wipe-requires Inv-loop μ-loop
 wipe-requires c κs = let L = going-long (c .before .before .before .before .before .before .before .loop .inv .0) in (L .halves-long, L .points-long)
@@ -87,21 +60,21 @@ write-all-spec =
     (tie.spec
     Inv-loop
     μ-loop
-    routes-of-requires
-    clear-requires
+    (λ c κs. tt)
+    (λ c κs. c .before .before .before .before .before .before .pre .0 .long .marks-long)
     loop-holds
-    walk-requires
-    sub-put-middle
-    part-put-middle-start
+    (λ c κs. going-lent (c .before .before .before .before .before .loop .inv .0) (omega arith))
+    (λ c. omega arith)
+    (λ c. omega arith)
     part-put-middle-end
-    sub-put-middle-2
-    part-put-middle-start-2
+    (λ c. omega arith)
+    (λ c. omega arith)
     part-put-middle-end-2
     put-middle-requires
     add-p
-    loop-less
+    (λ c. omega arith)
     loop-again
-    clear-requires-2
+    (λ c κs. going-long (c .before .before .loop .inv .0) .marks-long)
     wipe-requires
     same-length
     same-length-2

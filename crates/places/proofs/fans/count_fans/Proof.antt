@@ -19,23 +19,11 @@ Inv-loop cells counts names sides starts marks₀ halves₀ points₀ n t₀ c�
 abbrev μ-loop : tie.MeasureT-loop
 μ-loop cells counts names sides starts marks₀ halves₀ points₀ n t₀ c₀ marks halves points t c = n - c
 
-loop-holds : tie.Need-loop-holds Inv-loop μ-loop
-loop-holds c = (refl, omega arith, summed-none _ _)
-
-cell-at-requires : tie.Need-cell-at-requires Inv-loop μ-loop
-cell-at-requires c κs = tt
-
-fans-in-requires : tie.Need-fans-in-requires Inv-loop μ-loop
-fans-in-requires c κs = tt
-
 add-t : tie.Need-add-t Inv-loop μ-loop
 add-t c = omega (arith, c .fans-in .ensures .0 .1, c .before .before .before .before .before .before .loop .inv, c .before .before .before .before .before .before .loop .inv .2 .few, c .before .before .before .before .before .before .before .before .before .pre)
 
 add-c : tie.Need-add-c Inv-loop μ-loop
 add-c c = omega (arith, c .before .before .before .before .before .before .loop .inv, c .before .before .before .before .before .before .before .before .before .pre)
-
-loop-less : tie.Need-loop-less Inv-loop μ-loop
-loop-less c = omega arith
 
 loop-again : tie.Need-loop-again Inv-loop μ-loop
 loop-again c = (c .before .before .before .before .before .before .loop .inv .0, omega arith, summed-more _ _ (c .before .before .before .before .before .before .loop .inv .2) _ (c .fans-in .ensures .0 .0 ∙ ap fanCount (c .before .before .before .before .cell-at .ensures)) (c .fans-in .ensures .0 .1))
@@ -50,11 +38,11 @@ count-fans-spec =
     (tie.spec
     Inv-loop
     μ-loop
-    loop-holds
-    cell-at-requires
-    fans-in-requires
+    (λ c. (refl, omega arith, summed-none _ _))
+    (λ c κs. tt)
+    (λ c κs. tt)
     add-t
     add-c
-    loop-less
+    (λ c. omega arith)
     loop-again
     returns)

@@ -25,21 +25,6 @@ abbrev μ-loop : tie.MeasureT-loop
 loop-holds : tie.Need-loop-holds Inv-loop μ-loop
 loop-holds c = (omega arith, sym (start-zero _), all-none (now (c .before .before .before .before .before .args .edges)) (now (c .before .before .before .before .before .args .counts)) (now (c .before .before .before .before .before .args .nodes)) (now (c .before .before .before .before .before .args .fractions)) (now (c .before .before .before .before .before .args .area)))
 
-mul-wide : tie.Need-mul-wide Inv-loop μ-loop
-mul-wide c = omega (arith, c .before .before .before .before .before .before .before .pre .pairs)
-
-mul-wide-2 : tie.Need-mul-wide-2 Inv-loop μ-loop
-mul-wide-2 c = omega (arith, c .before .before .before .before .before .before .before .pre .pairs)
-
-shared-slice-read-wide : tie.Need-shared-slice-read-wide Inv-loop μ-loop
-shared-slice-read-wide c = omega (arith, c .before .before .before .before .before .before .before .before .pre .pairs)
-
-wide-requires : tie.Need-wide-requires Inv-loop μ-loop
-wide-requires c κs = tt
-
-load-requires : tie.Need-load-requires Inv-loop μ-loop
-load-requires c κs = tt
-
 mul-wide-3 : tie.Need-mul-wide-3 Inv-loop μ-loop
 mul-wide-3 c = omega (arith, c .before .before .before .before .before .before .before .before .before .before .pre .pairs)
 
@@ -52,35 +37,14 @@ mul-wide-4 c = omega (arith, c .before .before .before .before .before .before .
 shared-slice-read-wide-2 : tie.Need-shared-slice-read-wide-2 Inv-loop μ-loop
 shared-slice-read-wide-2 c = omega (arith, c .before .before .before .before .before .before .before .before .before .before .before .pre .pairs)
 
-wide-requires-2 : tie.Need-wide-requires-2 Inv-loop μ-loop
-wide-requires-2 c κs = tt
-
-load-requires-2 : tie.Need-load-requires-2 Inv-loop μ-loop
-load-requires-2 c κs = tt
-
-shared-slice-read-size : tie.Need-shared-slice-read-size Inv-loop μ-loop
-shared-slice-read-size c = omega arith
-
-size-requires : tie.Need-size-requires Inv-loop μ-loop
-size-requires c κs = tt
-
 place-edge-requires : tie.Need-place-edge-requires Inv-loop μ-loop
 place-edge-requires c κs = let f = start-fits (now (c .before .before .before .before .before .before .before .before .before .before .before .before .before .before .before .before .args .counts)) (c .before .before .before .before .before .before .before .before .before .before .loop .e) (omega arith) in record { given = omega (arith, c .before .before .before .before .before .before .before .before .before .before .loop .inv .1, c .before .size .ensures .0, c .before .before .before .before .before .before .before .before .before .before .before .before .before .before .before .before .pre .given, f); room = omega (arith, c .before .before .before .before .before .before .before .before .before .before .loop .inv .1, stored-long (c .before .before .before .before .before .before .before .before .before .before .loop .inv .2), c .before .size .ensures .0, c .before .before .before .before .before .before .before .before .before .before .before .before .before .before .before .before .pre .room, f) }
 
 add-g : tie.Need-add-g Inv-loop μ-loop
 add-g c = let a = c .before .before .before .before .before .before .before .before .before .before .before .before .before .before .before .before .before .before .before .args in let l = c .before .before .before .before .before .before .before .before .before .before .before .before .before .loop in omega (arith, l .inv .1, c .before .before .before .before .size .ensures .0, c .before .before .before .before .before .before .before .before .before .before .before .before .before .before .before .before .before .before .before .pre .given, c .before .before .before .before .before .before .before .before .before .before .before .before .before .before .before .before .before .before .before .good .1 .1 .1 .0 .0, start-fits (now (a .counts)) (l .e) (omega arith))
 
-add-e : tie.Need-add-e Inv-loop μ-loop
-add-e c = omega arith
-
-loop-less : tie.Need-loop-less Inv-loop μ-loop
-loop-less c = omega arith
-
 loop-again : tie.Need-loop-again Inv-loop μ-loop
 loop-again c = let l = c .before .before .before .before .before .before .before .before .before .before .before .before .before .loop in (omega arith, omega (arith, l .inv .1, c .before .before .before .before .size .ensures .0, start-next (now (c .before .before .before .before .before .before .before .before .before .before .before .before .before .before .before .before .before .before .before .args .counts)) (l .e)), all-more (now (c .before .before .before .before .before .before .before .before .before .before .before .before .before .before .before .before .before .before .before .args .edges)) (now (c .before .before .before .before .before .before .before .before .before .before .before .before .before .before .before .before .before .before .before .args .counts)) (now (c .before .before .before .before .before .before .before .before .before .before .before .before .before .before .before .before .before .before .before .args .nodes)) (now (c .before .before .before .before .before .before .before .before .before .before .before .before .before .before .before .before .before .before .before .args .fractions)) (l .e) (l .g) (c .before .before .before .before .size .result) (l .inv .2) (omega arith) (l .inv .1) (c .before .before .before .before .size .ensures .0) (c .before .before .before .before .before .before .before .before .before .load .ensures ∙ ap (placeAt (now (c .before .before .before .before .before .before .before .before .before .before .before .before .before .before .before .before .before .before .before .args .nodes))) (c .before .before .before .before .before .before .before .before .before .before .wide .ensures)) (c .before .before .before .before .before .before .load2 .ensures ∙ ap (placeAt (now (c .before .before .before .before .before .before .before .before .before .before .before .before .before .before .before .before .before .before .before .args .nodes))) (c .before .before .before .before .before .before .before .wide2 .ensures)) (c .before .before .place-edge .ensures))
-
-same-length : tie.Need-same-length Inv-loop μ-loop
-same-length c = stored-long (c .before .loop .inv .2)
 
 returns : tie.Need-returns Inv-loop μ-loop
 returns c = let l = c .before .loop in let z : l .e ≡ length (now (c .before .before .before .before .before .before .before .args .counts)) = omega arith in l .inv .2 .area ∙ ap (λ n. sets (now (c .before .before .before .before .before .before .before .args .area)) 0 (allNumbers (values (crossingPlace (now (c .before .before .before .before .before .before .before .args .edges)) (now (c .before .before .before .before .before .before .before .args .counts)) (now (c .before .before .before .before .before .before .before .args .nodes)) (now (c .before .before .before .before .before .before .before .args .fractions))) n))) (l .inv .1 ∙ ap (start (now (c .before .before .before .before .before .before .before .args .counts))) z)
@@ -92,23 +56,23 @@ place-crossings-spec =
     Inv-loop
     μ-loop
     loop-holds
-    mul-wide
-    mul-wide-2
-    shared-slice-read-wide
-    wide-requires
-    load-requires
+    (λ c. omega (arith, c .before .before .before .before .before .before .before .pre .pairs))
+    (λ c. omega (arith, c .before .before .before .before .before .before .before .pre .pairs))
+    (λ c. omega (arith, c .before .before .before .before .before .before .before .before .pre .pairs))
+    (λ c κs. tt)
+    (λ c κs. tt)
     mul-wide-3
     add-wide
     mul-wide-4
     shared-slice-read-wide-2
-    wide-requires-2
-    load-requires-2
-    shared-slice-read-size
-    size-requires
+    (λ c κs. tt)
+    (λ c κs. tt)
+    (λ c. omega arith)
+    (λ c κs. tt)
     place-edge-requires
     add-g
-    add-e
-    loop-less
+    (λ c. omega arith)
+    (λ c. omega arith)
     loop-again
-    same-length
+    (λ c. stored-long (c .before .loop .inv .2))
     returns)

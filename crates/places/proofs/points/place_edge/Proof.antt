@@ -19,32 +19,8 @@ abbrev μ-loop : tie.MeasureT-loop
 loop-holds : tie.Need-loop-holds Inv-loop μ-loop
 loop-holds c = (omega arith, edge-none (c .before .before .args .u) (c .before .before .args .v) (now (c .before .before .args .fractions)) (c .before .before .args .g) (now (c .before .before .args .area)))
 
-add-q : tie.Need-add-q Inv-loop μ-loop
-add-q c = omega (arith, c .before .before .before .before .pre .given)
-
-mul-interpolate : tie.Need-mul-interpolate Inv-loop μ-loop
-mul-interpolate c = omega (arith, c .before .before .before .before .pre .given)
-
-shared-slice-read-interpolate : tie.Need-shared-slice-read-interpolate Inv-loop μ-loop
-shared-slice-read-interpolate c = omega (arith, c .before .before .before .before .before .pre .given)
-
-interpolate-requires : tie.Need-interpolate-requires Inv-loop μ-loop
-interpolate-requires c κs = tt
-
-store-requires : tie.Need-store-requires Inv-loop μ-loop
-store-requires c κs = tt
-
-add-i : tie.Need-add-i Inv-loop μ-loop
-add-i c = omega arith
-
-loop-less : tie.Need-loop-less Inv-loop μ-loop
-loop-less c = omega arith
-
 loop-again : tie.Need-loop-again Inv-loop μ-loop
 loop-again c = (omega arith, edge-more (c .before .before .before .before .before .before .before .before .before .before .args .u) (c .before .before .before .before .before .before .before .before .before .before .args .v) (now (c .before .before .before .before .before .before .before .before .before .before .args .fractions)) (c .before .before .before .before .before .before .before .before .before .before .args .g) (c .before .before .before .before .before .before .before .loop .i) (c .before .before .before .before .before .before .before .loop .inv .1) (omega (arith, c .before .before .before .before .before .before .before .before .before .before .pre .room, stored-long (c .before .before .before .before .before .before .before .loop .inv .1))) (c .before .before .before .before .interpolate .ensures) (c .before .before .store .ensures))
-
-same-length : tie.Need-same-length Inv-loop μ-loop
-same-length c = stored-long (c .before .loop .inv .1)
 
 returns : tie.Need-returns Inv-loop μ-loop
 returns c = let l = c .before .loop in let e : l .i ≡ c .before .before .before .before .args .n = omega arith in rw (← e) (l .inv .1)
@@ -56,13 +32,13 @@ place-edge-spec =
     Inv-loop
     μ-loop
     loop-holds
-    add-q
-    mul-interpolate
-    shared-slice-read-interpolate
-    interpolate-requires
-    store-requires
-    add-i
-    loop-less
+    (λ c. omega (arith, c .before .before .before .before .pre .given))
+    (λ c. omega (arith, c .before .before .before .before .pre .given))
+    (λ c. omega (arith, c .before .before .before .before .before .pre .given))
+    (λ c κs. tt)
+    (λ c κs. tt)
+    (λ c. omega arith)
+    (λ c. omega arith)
     loop-again
-    same-length
+    (λ c. stored-long (c .before .loop .inv .1))
     returns)

@@ -6,18 +6,6 @@ use borrow.Author.Needs.{needs}
 use Rattle.places.proofs.rows.bad_number.Statement.{statement}
 use Rattle.places.proofs.rows.bad_number.Tie as tie
 
-shared-slice-read-if1 : tie.Need-shared-slice-read-if1
-shared-slice-read-if1 c = search needs
-
-mul-is-within : tie.Need-mul-is-within
-mul-is-within c = search needs
-
-shared-slice-read-is-within : tie.Need-shared-slice-read-is-within
-shared-slice-read-is-within c = search needs
-
-is-within-requires : tie.Need-is-within-requires
-is-within-requires c κs = search needs
-
 returns : tie.Need-returns
 returns c = let a = c .before .before .before .before .before .before .args in ap not (c .is-within .ensures) ∙ number-marked (now (a .used)) (now (a .nodes)) (a .i) (c .before .before .if1 .taken)
 
@@ -28,9 +16,9 @@ pub bad-number-spec : {M : Type 1} → statement M
 bad-number-spec =
     tie.close
     (tie.spec
-    shared-slice-read-if1
-    mul-is-within
-    shared-slice-read-is-within
-    is-within-requires
+    (λ c. search needs)
+    (λ c. search needs)
+    (λ c. search needs)
+    (λ c κs. search needs)
     returns
     returns-2)

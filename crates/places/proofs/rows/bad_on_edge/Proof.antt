@@ -14,23 +14,8 @@ Inv-loop fractions g n i₀ i = (i ≤ n) × (first (λ k. badFractionAt fractio
 abbrev μ-loop : tie.MeasureT-loop
 μ-loop fractions g n i₀ i = n - i
 
-loop-holds : tie.Need-loop-holds Inv-loop μ-loop
-loop-holds c = (omega arith, seek-start _ _)
-
-add-bad-fraction : tie.Need-add-bad-fraction Inv-loop μ-loop
-add-bad-fraction c = search needs
-
-bad-fraction-requires : tie.Need-bad-fraction-requires Inv-loop μ-loop
-bad-fraction-requires c κs = search needs
-
 returns : tie.Need-returns Inv-loop μ-loop
 returns c = sym (c .before .before .before .loop .inv .1 ∙ seek-hit _ _ _ (omega arith) (sym (c .before .bad-fraction .ensures) ∙ c .if1 .taken))
-
-add-i : tie.Need-add-i Inv-loop μ-loop
-add-i c = search needs
-
-loop-less : tie.Need-loop-less Inv-loop μ-loop
-loop-less c = search needs
 
 loop-again : tie.Need-loop-again Inv-loop μ-loop
 loop-again c = (omega arith, c .before .before .before .loop .inv .1 ∙ seek-miss _ _ _ (omega arith) (sym (c .before .bad-fraction .ensures) ∙ c .if1 .left))
@@ -44,11 +29,11 @@ bad-on-edge-spec =
     (tie.spec
     Inv-loop
     μ-loop
-    loop-holds
-    add-bad-fraction
-    bad-fraction-requires
+    (λ c. (omega arith, seek-start _ _))
+    (λ c. search needs)
+    (λ c κs. search needs)
     returns
-    add-i
-    loop-less
+    (λ c. search needs)
+    (λ c. search needs)
     loop-again
     returns-2)

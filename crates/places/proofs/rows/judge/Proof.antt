@@ -5,18 +5,6 @@ use borrow.Author.Needs.{needs}
 use Rattle.places.proofs.rows.judge.Statement.{statement}
 use Rattle.places.proofs.rows.judge.Tie as tie
 
-slice-aggregate-mark : tie.Need-slice-aggregate-mark
-slice-aggregate-mark c = search needs
-
-mark-requires : tie.Need-mark-requires
-mark-requires c κs = search needs
-
-slice-aggregate-marked-end : tie.Need-slice-aggregate-marked-end
-slice-aggregate-marked-end c = search needs
-
-marked-end-requires : tie.Need-marked-end-requires
-marked-end-requires c κs = search needs
-
 mul-if1 : tie.Need-mul-if1
 mul-if1 c =
     let a = c .before .before .before .before .before .before .before .before .before .args in
@@ -41,9 +29,6 @@ returns-2 c =
     let J = c .before .before .before .before .before .before .before .before .before .before .before .pre .0 in
     other-fractions (now (a .cells)) (now (a .counts)) (a .n) J _ m (c .before .before .marked-end .result) e (now (a .nodes)) (now (a .fractions)) (a .points) (a .room) (c .before .if1 .left) (c .if2 .taken)
 
-mul-if3 : tie.Need-mul-if3
-mul-if3 c = search needs
-
 returns-3 : tie.Need-returns-3
 returns-3 c =
     let a = c .before .before .before .before .before .before .before .before .before .before .before .before .args in
@@ -51,9 +36,6 @@ returns-3 c =
     let e = c .before .before .before .marked-end .ensures in
     let J = c .before .before .before .before .before .before .before .before .before .before .before .before .pre .0 in
     short-area (now (a .cells)) (now (a .counts)) (a .n) J _ m (c .before .before .before .marked-end .result) e (now (a .nodes)) (now (a .fractions)) (a .points) (a .room) (c .before .before .if1 .left) (c .before .if2 .left) (c .if3 .taken)
-
-slice-aggregate-row-16 : tie.Need-slice-aggregate-row-16
-slice-aggregate-row-16 c = search needs
 
 row-16-requires : tie.Need-row-16-requires
 row-16-requires c κs =
@@ -63,9 +45,6 @@ row-16-requires c κs =
     let J = c .before .before .before .before .before .before .before .before .before .before .before .before .before .pre .0 in
     table-reaches (now (a .cells)) (now (a .counts)) (a .n) J _ m (c .before .before .before .before .marked-end .result) e (now (a .nodes)) (c .before .before .before .if1 .left)
 
-mul-if4 : tie.Need-mul-if4
-mul-if4 c = search needs
-
 returns-4 : tie.Need-returns-4
 returns-4 c =
     let a = c .before .before .before .before .before .before .before .before .before .before .before .before .before .before .before .args in
@@ -74,9 +53,6 @@ returns-4 c =
     let J = c .before .before .before .before .before .before .before .before .before .before .before .before .before .before .before .pre .0 in
     bad-number-found (now (a .cells)) (now (a .counts)) (a .n) J _ m (c .before .before .before .before .before .before .marked-end .result) e (now (a .nodes)) (now (a .fractions)) (a .points) (a .room) (c .before .before .before .before .before .if1 .left) (c .before .before .before .before .if2 .left) (c .before .before .before .if3 .left) (c .before .row-16 .result) (c .before .row-16 .ensures) (c .if4 .taken)
 
-row-17-requires : tie.Need-row-17-requires
-row-17-requires c κs = search needs
-
 returns-5 : tie.Need-returns-5
 returns-5 c =
     let a = c .before .before .before .before .before .before .before .before .before .before .before .before .before .before .before .before .before .args in
@@ -84,9 +60,6 @@ returns-5 c =
     let e = c .before .before .before .before .before .before .before .before .marked-end .ensures in
     let J = c .before .before .before .before .before .before .before .before .before .before .before .before .before .before .before .before .before .pre .0 in
     bad-fraction-found (now (a .cells)) (now (a .counts)) (a .n) J _ m (c .before .before .before .before .before .before .before .before .marked-end .result) e (now (a .nodes)) (now (a .fractions)) (a .points) (a .room) (c .before .before .before .before .before .before .before .if1 .left) (c .before .before .before .before .before .before .if2 .left) (c .before .before .before .before .before .if3 .left) (c .before .before .before .row-16 .result) (c .before .before .before .row-16 .ensures) (c .before .before .if4 .left) (c .before .row-17 .result) (c .before .row-17 .ensures) (c .if5 .taken)
-
-cast-t22 : tie.Need-cast-t22
-cast-t22 c = search needs
 
 returns-6 : tie.Need-returns-6
 returns-6 c =
@@ -100,20 +73,20 @@ pub judge-spec : {M : Type 1} → statement M
 judge-spec =
     tie.close
     (tie.spec
-    slice-aggregate-mark
-    mark-requires
-    slice-aggregate-marked-end
-    marked-end-requires
+    (λ c. search needs)
+    (λ c κs. search needs)
+    (λ c. search needs)
+    (λ c κs. search needs)
     mul-if1
     returns
     returns-2
-    mul-if3
+    (λ c. search needs)
     returns-3
-    slice-aggregate-row-16
+    (λ c. search needs)
     row-16-requires
-    mul-if4
+    (λ c. search needs)
     returns-4
-    row-17-requires
+    (λ c κs. search needs)
     returns-5
-    cast-t22
+    (λ c. search needs)
     returns-6)

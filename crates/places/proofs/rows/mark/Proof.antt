@@ -14,32 +14,11 @@ Inv-loop cells used₀ j₀ used j = (j ≤ length cells) × Marking cells used 
 abbrev μ-loop : tie.MeasureT-loop
 μ-loop cells used₀ j₀ used j = length cells - j
 
-loop-holds : tie.Need-loop-holds Inv-loop μ-loop
-loop-holds c = (omega arith, marking-none _ _ (c .before .before .pre .blank))
-
-mul-wide : tie.Need-mul-wide Inv-loop μ-loop
-mul-wide c = search needs
-
-shared-slice-read-wide : tie.Need-shared-slice-read-wide Inv-loop μ-loop
-shared-slice-read-wide c = search needs
-
-wide-requires : tie.Need-wide-requires Inv-loop μ-loop
-wide-requires c κs = search needs
-
 slice-write-used : tie.Need-slice-write-used Inv-loop μ-loop
 slice-write-used c = omega (arith, c .before .before .before .loop .inv .1 .long, c .wide .ensures, c .before .before .before .before .before .before .pre .nodes (c .before .before .before .loop .j) (omega arith))
 
-add-j : tie.Need-add-j Inv-loop μ-loop
-add-j c = search needs
-
-loop-less : tie.Need-loop-less Inv-loop μ-loop
-loop-less c = search needs
-
 loop-again : tie.Need-loop-again Inv-loop μ-loop
 loop-again c = let l = c .before .before .before .loop in (omega arith, marking-more (now (c .before .before .before .before .before .before .args .cells)) (l .used) (l .j) (c .wide .result) (l .inv .1) (c .wide .ensures) (omega (arith, c .wide .ensures, c .before .before .before .before .before .before .pre .nodes (l .j) (omega arith))))
-
-same-length : tie.Need-same-length Inv-loop μ-loop
-same-length c = c .before .loop .inv .1 .long ∙ sym (ap length (c .before .before .before .before .pre .blank))
 
 returns : tie.Need-returns Inv-loop μ-loop
 returns c = let l = c .before .loop in let e : l .j ≡ length (now (c .before .before .before .before .args .cells)) = omega arith in marked (now (c .before .before .before .before .args .cells)) (l .used) (c .before .before .before .before .pre .fours) (l .j) e (l .inv .1)
@@ -50,13 +29,13 @@ mark-spec =
     (tie.spec
     Inv-loop
     μ-loop
-    loop-holds
-    mul-wide
-    shared-slice-read-wide
-    wide-requires
+    (λ c. (omega arith, marking-none _ _ (c .before .before .pre .blank)))
+    (λ c. search needs)
+    (λ c. search needs)
+    (λ c κs. search needs)
     slice-write-used
-    add-j
-    loop-less
+    (λ c. search needs)
+    (λ c. search needs)
     loop-again
-    same-length
+    (λ c. c .before .loop .inv .1 .long ∙ sym (ap length (c .before .before .before .before .pre .blank)))
     returns)

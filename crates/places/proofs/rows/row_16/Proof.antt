@@ -15,23 +15,11 @@ Inv-loop used nodes n m i₀ i = (i ≤ m) × (first (badMarked used nodes) m �
 abbrev μ-loop : tie.MeasureT-loop
 μ-loop used nodes n m i₀ i = m - i
 
-mul-m : tie.Need-mul-m Inv-loop μ-loop
-mul-m c = omega (arith, c .before .before .pre .list)
-
-loop-holds : tie.Need-loop-holds Inv-loop μ-loop
-loop-holds c = (omega arith, seek-start _ _)
-
 bad-number-requires : tie.Need-bad-number-requires Inv-loop μ-loop
 bad-number-requires c κs = (omega (arith, c .before .before .before .before .pre .table), omega (arith, c .before .before .before .before .pre .list))
 
 returns : tie.Need-returns Inv-loop μ-loop
 returns c = sym (c .before .before .before .loop .inv .1 ∙ seek-hit _ _ _ (omega arith) (sym (c .before .bad-number .ensures) ∙ c .if1 .taken))
-
-add-i : tie.Need-add-i Inv-loop μ-loop
-add-i c = search needs
-
-loop-less : tie.Need-loop-less Inv-loop μ-loop
-loop-less c = search needs
 
 loop-again : tie.Need-loop-again Inv-loop μ-loop
 loop-again c = (omega arith, c .before .before .before .loop .inv .1 ∙ seek-miss _ _ _ (omega arith) (sym (c .before .bad-number .ensures) ∙ c .if1 .left))
@@ -45,11 +33,11 @@ row-16-spec =
     (tie.spec
     Inv-loop
     μ-loop
-    mul-m
-    loop-holds
+    (λ c. omega (arith, c .before .before .pre .list))
+    (λ c. (omega arith, seek-start _ _))
     bad-number-requires
     returns
-    add-i
-    loop-less
+    (λ c. search needs)
+    (λ c. search needs)
     loop-again
     returns-2)

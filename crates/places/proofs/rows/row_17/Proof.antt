@@ -16,15 +16,6 @@ Inv-loop counts fractions g₀ e₀ g e = (e ≤ length counts) × (g ≡ start 
 abbrev μ-loop : tie.MeasureT-loop
 μ-loop counts fractions g₀ e₀ g e = length counts - e
 
-loop-holds : tie.Need-loop-holds Inv-loop μ-loop
-loop-holds c = (omega arith, sym (start-zero _), fine-none _ _)
-
-shared-slice-read-size : tie.Need-shared-slice-read-size Inv-loop μ-loop
-shared-slice-read-size c = omega arith
-
-size-requires : tie.Need-size-requires Inv-loop μ-loop
-size-requires c κs = search needs
-
 bad-on-edge-requires : tie.Need-bad-on-edge-requires Inv-loop μ-loop
 bad-on-edge-requires c κs = let a = c .before .before .before .before .before .before .args in let l = c .before .before .before .loop in omega (arith, l .inv .1, c .size .ensures .0, c .before .before .before .before .before .before .pre, start-fits (now (a .counts)) (l .e) (omega arith))
 
@@ -36,12 +27,6 @@ returns c = let a = c .before .before .before .before .before .before .before .b
 
 add-g : tie.Need-add-g Inv-loop μ-loop
 add-g c = let a = c .before .before .before .before .before .before .before .before .args in let l = c .before .before .before .before .before .loop in omega (arith, l .inv .1, c .before .before .size .ensures .0, c .before .before .before .before .before .before .before .before .pre, start-fits (now (a .counts)) (l .e) (omega arith))
-
-add-e : tie.Need-add-e Inv-loop μ-loop
-add-e c = search needs
-
-loop-less : tie.Need-loop-less Inv-loop μ-loop
-loop-less c = search needs
 
 loop-again : tie.Need-loop-again Inv-loop μ-loop
 loop-again c = let a = c .before .before .before .before .before .before .before .before .args in let l = c .before .before .before .before .before .loop in (omega arith, omega (arith, l .inv .1, c .before .before .size .ensures .0, start-next (now (a .counts)) (l .e)), fine-on (now (a .counts)) (now (a .fractions)) (l .e) (omega arith) (l .g) (c .before .before .size .result) (c .before .bad-on-edge .result) (l .inv .1) (c .before .before .size .ensures .0) (c .before .bad-on-edge .ensures) (l .inv .2) (c .if1 .left))
@@ -55,14 +40,14 @@ row-17-spec =
     (tie.spec
     Inv-loop
     μ-loop
-    loop-holds
-    shared-slice-read-size
-    size-requires
+    (λ c. (omega arith, sym (start-zero _), fine-none _ _))
+    (λ c. omega arith)
+    (λ c κs. search needs)
     bad-on-edge-requires
     add-result
     returns
     add-g
-    add-e
-    loop-less
+    (λ c. search needs)
+    (λ c. search needs)
     loop-again
     returns-2)
