@@ -1,4 +1,4 @@
--- What private functions of the reader and the writer ask of their callers; only their contracts cite this file.
+-- Only contracts of parts cite this file. What private functions of the reader and the writer ask of their callers.
 use Prim.Native.Nat.{ℕ, _+_, _*_, _/_, _≤_, _<_}
 use mathlib.Core.Path.{_≡_}
 use mathlib.Core.List.{List}

@@ -1,4 +1,4 @@
--- A loop as it is recorded: place k of one list has the half-edge by which its dart k leaves, place k of another the crossing number of its
+-- Only contracts of parts cite this file. A loop as it is recorded: place k of one list has the half-edge by which its dart k leaves, place k of another the crossing number of its
 -- point k. A half-edge is 3 * slot + edge of the slot. No call outside the crate depends on it.
 use Prim.Native.Nat.{ℕ, _/_, _<_, min}
 use mathlib.Core.Path.{_≡_}

@@ -1,4 +1,4 @@
--- What is answered and written for a grid whose tables are at hand.
+-- Only contracts of parts cite this file. What is answered and written for a grid whose tables are at hand.
 use mathlib.Core.Path.{_≡_}
 use mathlib.Core.List.{List}
 use Prim.Native.Nat.{ℕ}

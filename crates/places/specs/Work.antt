@@ -1,4 +1,4 @@
--- What the call's own functions ask of each other. No call outside the crate depends on it.
+-- Only contracts of parts cite this file. What the call's own functions ask of each other.
 use Prim.Native.Nat.{ℕ, suc, _+_, _*_, _/_, _≤_, _<_}
 use mathlib.Core.Path.{_≡_}
 use mathlib.Core.Bool.{Bool, true, not, _&&_}
