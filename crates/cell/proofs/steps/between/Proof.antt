@@ -1,5 +1,4 @@
 use native.Mathlib.Omega.{arith}
-use mathlib.Core.Path.{_∙_}
 use Rattle.cell.proofs.Ready.{spot, leads, below-high, index-small, to-end, to-up, down-pos, to-down}
 use borrow.Author.Needs.{needs}
 use Rattle.cell.proofs.steps.between.Statement.{statement}
@@ -21,7 +20,7 @@ returns : tie.Need-returns
 returns c = let a = c .before .before .before .before .before in leads (c .before .before .before .before .route .ensures) (to-up (a .pre .0) (a .pre .1) (rw (c .before .before .before .route2 .ensures, c .before .before .route3 .ensures) at (c .before .if1 .taken))) (c .onto .ensures)
 
 returns-2 : tie.Need-returns-2
-returns-2 c = let a = c .before .before .before .before .before .before in to-end (a .pre .0) (a .pre .1) (rw (c .before .before .before .before .route2 .ensures, c .before .before .before .route3 .ensures) at (c .before .before .if1 .left)) (c .if2 .taken ∙ c .before .route4 .ensures)
+returns-2 c = let a = c .before .before .before .before .before .before in to-end (a .pre .0) (a .pre .1) (rw (c .before .before .before .before .route2 .ensures, c .before .before .before .route3 .ensures) at (c .before .before .if1 .left)) (omega (arith, c .if2 .taken, c .before .route4 .ensures))
 
 sub-onto : tie.Need-sub-onto
 sub-onto c = let a = c .before .before .before .before .before .before in down-pos (a .pre .0) (a .pre .1) (rw (c .before .before .before .before .route2 .ensures, c .before .before .before .route3 .ensures) at (c .before .before .if1 .left)) (rw (c .before .route4 .ensures) at (c .if2 .left))
