@@ -1,19 +1,19 @@
 -- The loops of a cell and their triangles in turn: those from crossings below p are done.
-use Prim.Native.Nat.{ℕ, zero, suc, _+_, _*_, _-_, _≤_, _<_}
+use Prim.Native.Nat.{ℕ, suc, _+_, _-_, _≤_, _<_}
 use mathlib.Core.Path.{_≡_, refl, sym, ap, _∙_}
 use mathlib.Core.List.{List, [], _∷_, _++_}
 use native.Mathlib.Nat.{zero-add, sub-zero}
 use native.Mathlib.Omega.{arith}
 use lib.Dec.{ltb}
 use lib.ListN.{length, drop, length-append, drop-of-length-le}
-use lib.Seq.{sets, drop-append-le, drop-append-add}
+use lib.Seq.{drop-append-le, drop-append-add}
 use borrow.Author.Tests.{lt-ltb, le-ltb}
 use Rattle.answer.specs.Answer.{result}
 use Rattle.counting.specs.Pick.{pick}
 use Rattle.counting.specs.Range.{over, kept}
-use Rattle.counting.specs.Stored.{Stored, Summed}
-use Rattle.counting.proofs.Fronts.{over-more, over-at, over-within}
-use Rattle.counting.proofs.Stored.{stored-more, summed-more}
+use Rattle.counting.specs.Stored.{Summed}
+use Rattle.counting.proofs.Fronts.{over-more, over-at}
+use Rattle.counting.proofs.Stored.{summed-more}
 use Rattle.cell.specs.declared.Cell.{Cell}
 use Rattle.cell.specs.Cell.{Edges, crossings}
 use Rattle.cell.specs.Loop.{loopSize, leasts, answerFrom, loopAnswer}
@@ -21,11 +21,9 @@ use Rattle.cell.specs.Route.{mostInCell}
 use Rattle.cell.specs.Round.{roundAnswer}
 use Rattle.cell.specs.declared.Triangle.{Triangle}
 use Rattle.cell.specs.declared.Nth.the-variants.{Found, Nothing}
-use Rattle.cell.specs.Words.{wordCount, allWords}
 use Rattle.cell.specs.Triangles.{edgesOf, loopTriangles, cellTriangles}
 use Rattle.cell.specs.Nth.{nthOf, nthNumbers, nthAnswer}
 use Rattle.cell.proofs.LoopTriangles.{Entry}
-use Rattle.cell.proofs.Storing.{length-all, all-append}
 use Rattle.cell.proofs.Loops.{answer-is}
 use Rattle.cell.proofs.Going.{Looped}
 use Rattle.cell.proofs.Taken.{loop-few, length-cell, cell-few}
@@ -42,41 +40,6 @@ pub counted-all : (c : Cell) {p t : ℕ} → Summed (manyAt c) mostInCell p t �
 counted-all c {p} {t} S e h =
     let f : t ≡ length (cellTriangles c) = S .is ∙ rw e (sym (length-cell c)) in
     (f, omega (arith, cell-few c))
-
--- the words of the triangles of each
-abbrev pub wordsAt : Cell → ℕ → List ℕ
-wordsAt c p = allWords (loopTriangles c p)
-
-words-over : (f : ℕ → List Triangle) (n p : ℕ) → over (λ p. allWords (f p)) n p ≡ allWords (over f n p)
-unfolding over allWords
-words-over f zero p = refl
-words-over f (suc n) p = ap (λ l. allWords (f p) ++ l) (words-over f n (suc p)) ∙ sym (all-append (f p) (over f n (suc p)))
-
-words-all : (c : Cell) → over (wordsAt c) (crossings (edgesOf c)) 0 ≡ allWords (cellTriangles c)
-unfolding cellTriangles
-words-all c = words-over (loopTriangles c) (crossings (edgesOf c)) 0
-
-module _ (c : Cell) {out₀ : List ℕ} {at : ℕ} (p : ℕ) {out : List ℕ} {i : ℕ} (S : Stored out₀ at (over (wordsAt c) p 0) out i) where
-  pub written-all : p ≡ crossings (edgesOf c) → (i ≡ at + wordCount * length (cellTriangles c)) × (out ≡ sets out₀ at (allWords (cellTriangles c)))
-  written-all e =
-      let f : over (wordsAt c) p 0 ≡ allWords (cellTriangles c) = rw e (words-all c) in
-      (omega (arith, S .after, ap length f, length-all (cellTriangles c)), S .area ∙ ap (sets out₀ at) f)
-
-  pub written-room : p < crossings (edgesOf c) → i + wordCount * manyAt c p ≤ at + wordCount * length (cellTriangles c)
-  written-room l =
-      omega (
-        arith,
-        S .after,
-        over-within (wordsAt c) (crossings (edgesOf c)) p l,
-        ap length (words-all c),
-        length-all (cellTriangles c),
-        length-all (loopTriangles c p),
-      )
-
-  pub written-more : {out′ : List ℕ} {j m : ℕ} → m ≡ manyAt c p → j ≡ i + wordCount * m → {l : List Triangle} → l ≡ loopTriangles c p → out′ ≡ sets out i (allWords l)
-      → Stored out₀ at (over (wordsAt c) (p + 1) 0) out′ j
-  written-more e f g q =
-      stored-more (wordsAt c) p S (record { area = q ∙ ap (λ l. sets out i (allWords l)) g; after = omega (arith, f, e, length-all (loopTriangles c p)) })
 
 -- Entry t of the lists of f, joined, is entry `left` of those from p on.
 module _ {A : Type 0} (f : ℕ → List A) where

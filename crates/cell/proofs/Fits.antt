@@ -1,46 +1,25 @@
--- Whether a cell's words have room.
-use Prim.Native.Nat.{ℕ, _+_, _*_, _-_, _≤_}
+-- Whether the words of triangles have room.
+use Prim.Native.Nat.{ℕ, _+_, _*_, _-_, _≤_, _<_}
 use mathlib.Core.Path.{_≡_, sym, _∙_}
-use mathlib.Core.Bool.{false}
 use mathlib.Core.List.{List}
 use native.Mathlib.Omega.{arith}
 use native.Mathlib.Decide.{decLt}
 use lib.Dec.{leb}
 use lib.ListN.{length}
 use lib.Seq.{sets}
-use borrow.Author.Tests.{le-leb, lt-leb, leb-false}
-use Rattle.counting.specs.Stored.{Stored}
+use borrow.Author.Tests.{le-leb, lt-leb}
+use Rattle.counting.specs.Stored.{storedIn, nextIn}
 use Rattle.counting.proofs.Stored.{stored-room, stored-not}
-use Rattle.cell.specs.declared.Cell.{Cell}
+use Rattle.cell.specs.declared.Triangle.{Triangle}
 use Rattle.cell.specs.Words.{wordCount, allWords}
-use Rattle.cell.specs.Triangles.{cellTriangles}
-use Rattle.cell.specs.Fits.{nextAt, areaThen}
 use Rattle.cell.proofs.Storing.{length-all}
 
-module _ (c : Cell) (area : List ℕ) (at : ℕ) where
-  abbrev ends : ℕ
-  ends = at + wordCount * length (cellTriangles c)
+module _ (l : List Triangle) (area : List ℕ) (at : ℕ) where
+  pub no-room : length area < at + wordCount * length l → (at ≡ nextIn area at (allWords l)) × (area ≡ storedIn area at (allWords l))
+  no-room h = let n = stored-not area at (allWords l) (omega (arith, h, length-all l)) in (n .1, n .0)
 
-  long : length (allWords (cellTriangles c)) ≡ wordCount * length (cellTriangles c)
-  long = length-all (cellTriangles c)
-
-  pub no-room : leb ends (length area) ≡ false → (at ≡ nextAt c area at) × (area ≡ areaThen c area at)
-  unfolding nextAt areaThen
-  no-room e = let n = stored-not area at (allWords (cellTriangles c)) (omega (arith, leb-false ends (length area) e, long)) in (n .1, n .0)
-
-  module _ (h : ends ≤ length area) where
-    stored : Stored area at (allWords (cellTriangles c)) (areaThen c area at) (nextAt c area at)
-    unfolding nextAt areaThen
-    stored = stored-room area at (allWords (cellTriangles c)) (omega (arith, h, long))
-
-    pub next-is : nextAt c area at ≡ ends
-    next-is = omega (arith, stored .after, long)
-
-    pub area-is : areaThen c area at ≡ sets area at (allWords (cellTriangles c))
-    area-is = stored .area
-
-    pub has-room : {i : ℕ} {out : List ℕ} → (i ≡ ends) × (out ≡ sets area at (allWords (cellTriangles c))) → (i ≡ nextAt c area at) × (out ≡ areaThen c area at)
-    has-room q = (q .0 ∙ sym next-is, q .1 ∙ sym area-is)
+  pub has-room : at + wordCount * length l ≤ length area → (at + wordCount * length l ≡ nextIn area at (allWords l)) × (sets area at (allWords l) ≡ storedIn area at (allWords l))
+  has-room h = let S = stored-room area at (allWords l) (omega (arith, h, length-all l)) in (omega (arith, S .after, length-all l), sym (S .area))
 
 -- k more than `at` are no more than `room`
 pub room-left : (k at room : ℕ) → at ≤ room → leb k (room - at) ≡ leb (at + k) room

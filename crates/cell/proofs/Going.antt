@@ -63,17 +63,21 @@ module _ {c : Cell} {n : ℕ} {routes ms₀ hs₀ ps₀ ms hs ps : List ℕ} {p 
     points-long = omega (arith, G .long .points-long, G .used .points-kept .long);
   }
 
-  -- the arrays are cleared to ms′, hs′, ps′; the marks were cleared before the walks
+  -- what is kept of the arrays; the marks were cleared before the walks
+  pub going-used : {was : List ℕ} → n ≤ length was → ms₀ ≡ filled (λ i. unmarked) n was → Used n was hs₀ ps₀ ms hs ps
+  going-used {was} h q = record {
+    marks-kept = kept-then (rw q (kept-filled (λ i. unmarked) n was h)) (G .used .marks-kept);
+    halves-kept = G .used .halves-kept;
+    points-kept = G .used .points-kept;
+  }
+
+  -- the arrays are cleared to ms′, hs′, ps′
   pub going-cleared : {was ms′ hs′ ps′ : List ℕ} → n ≤ length was → ms₀ ≡ filled (λ i. unmarked) n was
       → ms′ ≡ filled (λ i. unmarked) n ms → hs′ ≡ filled (λ i. 0) n hs → ps′ ≡ filled (λ i. 0) n ps → Cleared c was hs₀ ps₀ ms′ hs′ ps′
   going-cleared {was} h q a b d =
       used-cleared
       (record { all = G .all; few = G .few; long = record { marks-long = h; halves-long = G .long .halves-long; points-long = G .long .points-long } })
-      (record {
-        marks-kept = kept-then (rw q (kept-filled (λ i. unmarked) n was h)) (G .used .marks-kept);
-        halves-kept = G .used .halves-kept;
-        points-kept = G .used .points-kept;
-      }) a b d
+      (going-used h q) a b d
 
   -- the next walk is from p
   module _ (l : p < n) where

@@ -24,6 +24,7 @@ pub mod LoopTriangles
 pub mod Taken
 pub mod Holding
 pub mod Cells
+pub mod Values
 pub mod Fits
 pub mod TriangleClaims
 pub mod Renaming

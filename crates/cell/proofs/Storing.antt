@@ -1,5 +1,5 @@
 -- The words of triangles, and how they are stored one after the other.
-use Prim.Native.Nat.{ℕ, zero, suc, _+_, _*_}
+use Prim.Native.Nat.{ℕ, zero, suc, _+_, _*_, _≤_, _<_}
 use mathlib.Core.Path.{_≡_, refl, sym, ap, _∙_}
 use mathlib.Core.List.{List, [], _∷_, _++_, append-assoc, append-nil}
 use native.Mathlib.Omega.{arith}
@@ -7,6 +7,7 @@ use lib.ListN.{length, getD, length-append}
 use lib.Seq.{sets}
 use Rattle.counting.specs.Range.{over, values}
 use Rattle.counting.specs.Stored.{Stored}
+use Rattle.counting.proofs.Fronts.{over-within}
 use Rattle.counting.proofs.Lists.{length-singles}
 use Rattle.counting.proofs.Stored.{stored-none, stored-then, stored-more}
 use Rattle.cell.specs.declared.Side.{Side}
@@ -60,6 +61,25 @@ pub words-over : (f : ℕ → List Triangle) (n p : ℕ) → over (λ p. allWord
 unfolding over allWords
 words-over f zero p = refl
 words-over f (suc n) p = ap (λ l. allWords (f p) ++ l) (words-over f n (suc p)) ∙ sym (all-append (f p) (over f n (suc p)))
+
+-- the words of list k
+abbrev pub wordsOf : (ℕ → List Triangle) → ℕ → List ℕ
+wordsOf f k = allWords (f k)
+
+-- the words of the first k lists of f are stored in `was` from `at` on, which makes it `is`, and the next goes to i
+module _ (f : ℕ → List Triangle) {was : List ℕ} {at : ℕ} (k : ℕ) {is : List ℕ} {i : ℕ} (S : Stored was at (over (wordsOf f) k 0) is i) where
+  long : (n : ℕ) → length (over (wordsOf f) n 0) ≡ wordCount * length (over f n 0)
+  long n = ap length (words-over f n 0) ∙ length-all (over f n 0)
+
+  pub written-all : (n : ℕ) → k ≡ n → (i ≡ at + wordCount * length (over f n 0)) × (is ≡ sets was at (allWords (over f n 0)))
+  written-all n e = rw (← e) (omega (arith, S .after, long k), S .area ∙ ap (sets was at) (words-over f k 0))
+
+  pub written-room : (n : ℕ) → k < n → i + wordCount * length (f k) ≤ at + wordCount * length (over f n 0)
+  written-room n l = omega (arith, S .after, over-within (wordsOf f) n k l, long n, length-all (f k))
+
+  pub written-more : {is′ : List ℕ} {j m : ℕ} → m ≡ length (f k) → j ≡ i + wordCount * m → {l : List Triangle} → l ≡ f k → is′ ≡ sets is i (allWords l)
+      → Stored was at (over (wordsOf f) (k + 1) 0) is′ j
+  written-more e p g q = stored-more (wordsOf f) k S (record { area = q ∙ ap (λ l. sets is i (allWords l)) g; after = omega (arith, p, e, length-all (f k)) })
 
 -- the first k triangles of t are stored in `was` from `at` on, which makes it `is`, and the next goes to i
 pub record Run (t : ℕ → Triangle) (k : ℕ) (was : List ℕ) (at : ℕ) (is : List ℕ) (i : ℕ) : Type 0 where

@@ -16,6 +16,7 @@ pub mod Triangles
 pub mod Traced
 pub mod Nth
 pub mod Fits
+pub mod Table
 pub mod Names
 pub mod Polygons
 pub mod TriangleClaims

@@ -5,6 +5,8 @@ ghost use Rattle.cell.specs.Loop.{loopAnswer};
 ghost use Rattle.cell.specs.Answer.{loopNumbers};
 
 mod answers;
+mod drawing;
+mod entries;
 mod make;
 mod middles;
 mod routes;
@@ -16,14 +18,14 @@ mod words;
 mod write;
 
 pub use answers::folds_of;
+pub use drawing::draw;
+pub use entries::cell_at;
 pub use middles::fans_in;
 pub use middles::middles_in;
 pub use routes::crossings_of;
-pub use triangles::count_in;
 pub use triangles::triangle_at;
 pub use triangles::triangle_count;
 pub use triangles::write_cell;
-pub use triangles::write_in;
 pub use words::NO_NAME;
 pub use words::WORD_COUNT;
 

@@ -5,8 +5,9 @@ ghost use Prim.Native.Nat.{_+_, _*_, _≤_};
 ghost use lib.Dec.{leb};
 ghost use lib.ListN.{length};
 ghost use lib.Seq.{sets};
+ghost use Rattle.cell.specs.Cell.{crossings};
+ghost use Rattle.cell.specs.Of.{edgesOf};
 ghost use Rattle.cell.specs.Route.{mostInCell};
-ghost use Rattle.cell.specs.Scratch.{Cleared};
 ghost use Rattle.cell.specs.Walked.{Room, Used};
 ghost use Rattle.cell.specs.Words.{wordCount, allWords};
 ghost use Rattle.cell.specs.Triangles.{cellTriangles};
@@ -22,7 +23,6 @@ use super::routes::crossings_of;
 use super::routes::routes_of;
 use super::walks::clear;
 use super::walks::walk;
-use super::walks::wipe;
 use super::words::WORD_COUNT;
 use super::write::write_loop;
 
@@ -30,7 +30,7 @@ use super::write::write_loop;
 fn count(c: Cell, n: usize, marks: &mut [u16], halves: &mut [u8], points: &mut [u32]) -> usize
     requires { ⌜ Room c n (now marks) (now halves) (now points) ⌝ }
     ensures { λ r. ⌜ (r ≡ length (cellTriangles c)) × (r ≤ mostInCell) ⌝ }
-    ensures { λ _. ⌜ Cleared c (now (marks .entry)) (now (halves .entry)) (now (points .entry)) (now (marks .exit)) (now (halves .exit)) (now (points .exit)) ⌝ }
+    ensures { λ _. ⌜ Used n (now (marks .entry)) (now (halves .entry)) (now (points .entry)) (now (marks .exit)) (now (halves .exit)) (now (points .exit)) ⌝ }
 {
     let routes = routes_of(c);
     clear(marks, n);
@@ -42,13 +42,11 @@ fn count(c: Cell, n: usize, marks: &mut [u16], halves: &mut [u8], points: &mut [
         t += many(m, two);
         p += 1;
     }
-    clear(marks, n);
-    wipe(halves, points, n);
     t
 }
 
 // Writes the words of the triangles, which have room from index `at` on, and answers the next index.
-fn write_all(
+fn write(
     c: Cell,
     n: usize,
     marks: &mut [u16],
@@ -60,7 +58,7 @@ fn write_all(
     requires { ⌜ Room c n (now marks) (now halves) (now points) ⌝ }
     requires { ⌜ at + wordCount * length (cellTriangles c) ≤ length (now area) ⌝ }
     ensures { λ r. ⌜ (r ≡ at + wordCount * length (cellTriangles c)) × (now (area .exit) ≡ sets (now (area .entry)) at (allWords (cellTriangles c))) ⌝ }
-    ensures { λ _. ⌜ Cleared c (now (marks .entry)) (now (halves .entry)) (now (points .entry)) (now (marks .exit)) (now (halves .exit)) (now (points .exit)) ⌝ }
+    ensures { λ _. ⌜ Used n (now (marks .entry)) (now (halves .entry)) (now (points .entry)) (now (marks .exit)) (now (halves .exit)) (now (points .exit)) ⌝ }
 {
     let routes = routes_of(c);
     clear(marks, n);
@@ -73,54 +71,24 @@ fn write_all(
         i = write_loop(c, hs, &points[0..m], m, two, area, i);
         p += 1;
     }
-    clear(marks, n);
-    wipe(halves, points, n);
     i
 }
 
-// How many triangles the cell has. The walks use the lent arrays as far as the cell's crossings reach, and clear them at the end. What these hold
-// before does not matter.
-pub fn count_in(
+// The same, with arrays for any cell. What they hold before does not matter, here and below.
+pub(crate) fn count_in(
     c: Cell,
     marks: &mut [u16; MOST_IN_CELL],
     halves: &mut [u8; MOST_IN_CELL],
     points: &mut [u32; MOST_IN_CELL],
 ) -> usize
     ensures { λ r. ⌜ (r ≡ length (cellTriangles c)) × (r ≤ mostInCell) ⌝ }
-    ensures { λ _. ⌜ Cleared c (now (marks .entry)) (now (halves .entry)) (now (points .entry)) (now (marks .exit)) (now (halves .exit)) (now (points .exit)) ⌝ }
+    ensures { λ _. ⌜ Used (crossings (edgesOf c)) (now (marks .entry)) (now (halves .entry)) (now (points .entry)) (now (marks .exit)) (now (halves .exit)) (now (points .exit)) ⌝ }
 {
     let n = crossings_of(c);
     count(c, n, marks, halves, points)
 }
 
-// Whether the words of the triangles have room from index `at` on in an area of `room` words. A cell has no more triangles than crossings, so that
-// they are counted only where there is not room for so many.
-fn has_room(
-    c: Cell,
-    n: usize,
-    marks: &mut [u16],
-    halves: &mut [u8],
-    points: &mut [u32],
-    room: usize,
-    at: usize,
-) -> bool
-    requires { ⌜ Room c n (now marks) (now halves) (now points) ⌝ }
-    ensures { λ r. ⌜ r ≡ leb (at + wordCount * length (cellTriangles c)) room ⌝ }
-    ensures { λ _. ⌜ Used n (now (marks .entry)) (now (halves .entry)) (now (points .entry)) (now (marks .exit)) (now (halves .exit)) (now (points .exit)) ⌝ }
-{
-    if room < at {
-        return false;
-    }
-    if WORD_COUNT * n <= room - at {
-        return true;
-    }
-    let t = count(c, n, marks, halves, points);
-    WORD_COUNT * t <= room - at
-}
-
-// Writes the words of the cell's triangles from index `at` on and answers the next index. Where they have no room there, it writes nothing and
-// answers `at`. The lent arrays are as above.
-pub fn write_in(
+pub(crate) fn write_in(
     c: Cell,
     marks: &mut [u16; MOST_IN_CELL],
     halves: &mut [u8; MOST_IN_CELL],
@@ -128,16 +96,12 @@ pub fn write_in(
     area: &mut [u32],
     at: usize,
 ) -> usize
-    ensures { λ r. ⌜ (r ≡ nextAt c (now (area .entry)) at) × (now (area .exit) ≡ areaThen c (now (area .entry)) at) ⌝ }
-    ensures { λ _. ⌜ Cleared c (now (marks .entry)) (now (halves .entry)) (now (points .entry)) (now (marks .exit)) (now (halves .exit)) (now (points .exit)) ⌝ }
+    requires { ⌜ at + wordCount * length (cellTriangles c) ≤ length (now area) ⌝ }
+    ensures { λ r. ⌜ (r ≡ at + wordCount * length (cellTriangles c)) × (now (area .exit) ≡ sets (now (area .entry)) at (allWords (cellTriangles c))) ⌝ }
+    ensures { λ _. ⌜ Used (crossings (edgesOf c)) (now (marks .entry)) (now (halves .entry)) (now (points .entry)) (now (marks .exit)) (now (halves .exit)) (now (points .exit)) ⌝ }
 {
     let n = crossings_of(c);
-    if has_room(c, n, marks, halves, points, area.len(), at) {
-        return write_all(c, n, marks, halves, points, area, at);
-    }
-    clear(marks, n);
-    wipe(halves, points, n);
-    at
+    write(c, n, marks, halves, points, area, at)
 }
 
 // How many triangles the cell has. About 11 KB of stack.
@@ -176,12 +140,30 @@ pub fn triangle_at(c: Cell, t: usize) -> Nth
     Nth::Nothing
 }
 
-// As `write_in`, with arrays of its own. About 11 KB of stack.
+// Whether the words of the triangles have room from index `at` on in an area of `room` words. A cell has no more triangles than crossings, so that
+// they are counted only where there is not room for so many.
+fn has_room(c: Cell, room: usize, at: usize) -> bool
+    ensures { λ r. ⌜ r ≡ leb (at + wordCount * length (cellTriangles c)) room ⌝ }
+{
+    if room < at {
+        return false;
+    }
+    if WORD_COUNT * crossings_of(c) <= room - at {
+        return true;
+    }
+    WORD_COUNT * triangle_count(c) <= room - at
+}
+
+// Writes the words of the cell's triangles from index `at` on and answers the next index. Where they have no room there, it writes nothing and
+// answers `at`. About 22 KB of stack.
 pub fn write_cell(c: Cell, area: &mut [u32], at: usize) -> usize
     ensures { λ r. ⌜ (r ≡ nextAt c (now (area .entry)) at) × (now (area .exit) ≡ areaThen c (now (area .entry)) at) ⌝ }
 {
     let mut marks = [0u16; MOST_IN_CELL];
     let mut halves = [0u8; MOST_IN_CELL];
     let mut points = [0u32; MOST_IN_CELL];
-    write_in(c, &mut marks, &mut halves, &mut points, area, at)
+    if has_room(c, area.len(), at) {
+        return write_in(c, &mut marks, &mut halves, &mut points, area, at);
+    }
+    at
 }

@@ -19,9 +19,10 @@ use Rattle.grid.specs.Rows.{gridAnswer}
 use Rattle.grid.specs.Tables.{accepts}
 use Rattle.grid.proofs.Claims.{accepted-is, never-empty}
 use Rattle.cell.specs.declared.Triangle.{Triangle}
-use Rattle.cell.specs.Words.{wordCount, allWords}
+use Rattle.cell.specs.Words.{wordCount}
 use Rattle.cell.proofs.Storing.{length-all}
-use Rattle.mesh.specs.Room.{roomAnswer, roomArea}
+use Rattle.cell.proofs.Fits as writes
+use Rattle.mesh.specs.Room.{roomAnswer}
 use Rattle.mesh.specs.Mesh.{meshTriangles, meshWords}
 use Rattle.mesh.specs.Answer.{meshAnswer, meshArea}
 use Rattle.mesh.proofs.Claims.{mesh-some}
@@ -58,13 +59,13 @@ module _ (words area : List ℕ) (n : ℕ) (fits : wordCount * n ≤ length word
 
 -- a mesh that has room
 module _ (mesh : List Triangle) (t : ℕ) (area : List ℕ) (h : result (t ∷ []) ≡ roomAnswer mesh (length area)) where
-  has-room : (t ≡ length mesh) × (wordCount * length mesh ≤ length area) × (sets area 0 (allWords mesh) ≡ roomArea mesh area)
-  unfolding roomAnswer roomArea
+  has-room : (t ≡ length mesh) × (wordCount * length mesh ≤ length area)
+  unfolding roomAnswer
   has-room = go (leb (wordCount * length mesh) (length area)) refl h
     where
       go : (b : Bool) → leb (wordCount * length mesh) (length area) ≡ b → result (t ∷ []) ≡ pick b (result (length mesh ∷ [])) (refusal 12 (length mesh))
-          → (t ≡ length mesh) × (wordCount * length mesh ≤ length area) × (sets area 0 (allWords mesh) ≡ pick b (sets area 0 (allWords mesh)) area)
-      go true e q = (cc, leb-true _ _ e, refl)
+          → (t ≡ length mesh) × (wordCount * length mesh ≤ length area)
+      go true e q = (cc, leb-true _ _ e)
       go false e q = let z : _≡_ {A = ℕ} 0 12 = cc in absurd (omega arith)
 
 module _ (G : Grid) where
@@ -102,7 +103,7 @@ module _ (G : Grid) where
 
       stored : after ≡ sets before 0 (meshWords G)
       unfolding meshArea meshWords
-      stored = area ∙ simp accepted (sym (has-room (meshTriangles G) t before answered .2))
+      stored = area ∙ simp accepted (sym (writes.has-room (meshTriangles G) before 0 (omega (arith, has-room (meshTriangles G) t before answered .1)) .1))
 
       long : length (meshWords G) ≡ wordCount * t
       unfolding meshWords

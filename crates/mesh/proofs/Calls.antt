@@ -1,20 +1,22 @@
 -- The mesh call and the loops call, where the grid check refuses and where it accepts.
-use Prim.Native.Nat.{ℕ, _≤_}
+use Prim.Native.Nat.{ℕ}
 use mathlib.Core.Path.{_≡_, sym, ap, _∙_}
 use mathlib.Core.Bool.{false}
 use mathlib.Core.List.{List}
 use lib.ListN.{length}
 use Rattle.answer.specs.Answer.{refused}
+use Rattle.counting.specs.Stored.{storedIn}
+use Rattle.cell.specs.Words.{allWords}
 use Rattle.grid.specs.Grid.{Grid, mostSlots, mostEdges}
 use Rattle.grid.specs.declared.Checked.{Checked}
 use Rattle.grid.specs.declared.Checked.the-variants.{Crossings, Refused}
-use Rattle.grid.specs.Grid.{mostCells, cellCount}
 use Rattle.grid.specs.Check.{checkNumbers}
 use Rattle.grid.specs.Rows.{gridAnswer}
 use Rattle.grid.specs.Tables.{accepts, Opened}
 use Rattle.grid.proofs.Filled.{refused-keeps, told-accepts, told-sound}
-use Rattle.mesh.specs.Table.{tableLoop}
-use Rattle.mesh.specs.Room.{roomAnswer, roomArea}
+use Rattle.mesh.specs.Mesh.{meshWords}
+use Rattle.mesh.specs.Asked.{tableLoop}
+use Rattle.mesh.specs.Room.{roomAnswer}
 use Rattle.mesh.specs.Drawn.{Drawn}
 use Rattle.mesh.specs.Answer.{meshAnswer, meshArea, loopsAnswer}
 use Rattle.mesh.specs.Done.{Done}
@@ -38,19 +40,16 @@ module _ (G : Grid) where
     refused-loops c k = rw keeps is-refusal
 
   module _ (r : Checked) (n : ℕ) (e : r ≡ Crossings n) (q : checkNumbers r ≡ gridAnswer G) where
-    pub accepted-few : cellCount (G .cells) ≤ mostCells
-    accepted-few = told-sound G r n e q .few-cells
-
     module _ (names₀ sides₀ starts₀ names sides starts : List ℕ) (ln : length names₀ ≡ mostSlots) (ls : length sides₀ ≡ mostEdges) (lt : length starts₀ ≡ mostEdges)
         (o : Opened G names₀ sides₀ starts₀ names sides starts) where
       tables : Tabled G names sides starts
       tables = tabled G names₀ sides₀ starts₀ names sides starts (told-sound G r n e q) (told-accepts G r n e q) ln ls lt o
 
       pub drawn-done : (before after answer : List ℕ) → Drawn (G .cells) (G .counts) names sides starts before after answer → Done G before after answer
-      unfolding meshAnswer meshArea
+      unfolding meshAnswer meshArea meshWords
       drawn-done before after answer d = record {
         answered = rw (told-accepts G r n e q) (d .answered ∙ ap (λ m. roomAnswer m (length before)) (triangles-are tables));
-        area = rw (told-accepts G r n e q) (d .area ∙ ap (λ m. roomArea m before) (triangles-are tables));
+        area = rw (told-accepts G r n e q) (d .area ∙ ap (λ m. storedIn before 0 (allWords m)) (triangles-are tables));
         demand = demand3;
       }
 

@@ -19,8 +19,9 @@ use Rattle.grid.specs.Rows.{badLength, badPairs, badCell, sameCell, repeats, cr
 use Rattle.cell.specs.Triangles as triangle
 use Rattle.cell.specs.Words.{cornerWords, words, allWords}
 use Rattle.cell.specs.Nth.{nthAnswer}
+use Rattle.counting.specs.Stored.{storedIn}
 use Rattle.mesh.specs.Mesh.{gridCell, meshTriangles, meshWords}
-use Rattle.mesh.specs.Room.{roomAnswer, roomArea}
+use Rattle.mesh.specs.Room.{roomAnswer}
 use Rattle.mesh.specs.Asked.{askedLoop}
 use Rattle.mesh.specs.Answer.{meshAnswer, meshArea, loopsAnswer}
 use Rattle.mesh.specs.Examples.{faceAnswers, startsOf, gridLoops, loopPoints, gridPoints, sidesOf, different, tallies, computed, examples, ExamplesHold}
@@ -35,6 +36,6 @@ unfolding seek first last some every count rise faceAnswer segments unjoinedCoun
     faceNode sameFace hasFace faceName joins isEdge hasEdge edgeNumber start
     badLength badPairs badCell sameCell repeats crowded isAfter badEdge unlisted unused linked reached split tooMany rows rows.orRefuse rows.answerOf gridAnswer
     triangle.numberOf triangle.segmentOf triangle.point triangle.segment triangle.triangle triangle.loopTriangles triangle.cellTriangles
-    cornerWords words allWords nthAnswer gridCell meshTriangles meshWords roomAnswer roomArea askedLoop meshAnswer meshArea loopsAnswer
+    cornerWords words allWords nthAnswer gridCell meshTriangles meshWords roomAnswer storedIn askedLoop meshAnswer meshArea loopsAnswer
     faceAnswers startsOf gridLoops loopPoints gridPoints sidesOf different tallies computed examples
 examples-hold = refl

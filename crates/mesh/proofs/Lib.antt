@@ -1,7 +1,5 @@
 pub mod Joins
-pub mod Progress
 pub mod Askings
-pub mod Values
 pub mod Tables
 pub mod Rooms
 pub mod Calls

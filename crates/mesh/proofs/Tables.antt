@@ -19,8 +19,8 @@ use Rattle.grid.proofs.Sound.{edge-numbers}
 use Rattle.grid.specs.Tables.{accepts, Opened, nameAt, sideAt}
 use Rattle.cell.specs.Triangles.{cellTriangles}
 use Rattle.mesh.specs.Mesh.{gridCell, meshTriangles}
-use Rattle.mesh.specs.Table.{tableCounts, tableStarts, ofFour, side, tableCell, tableTriangles, tableLoop}
-use Rattle.mesh.specs.Asked.{askedLoop}
+use Rattle.cell.specs.Table.{tableCounts, tableStarts, ofFour, side, drawnCells, tableCell, tableTriangles}
+use Rattle.mesh.specs.Asked.{askedLoop, tableLoop}
 use Rattle.mesh.proofs.Askings.{asked-ext}
 
 -- the tables of an accepted grid, in arrays that are long enough
@@ -75,8 +75,10 @@ module _ {G : Grid} {names sides starts : List ℕ} (T : Tabled G names sides st
   pub triangles-are : tableTriangles (G .cells) (G .counts) names sides starts ≡ meshTriangles G
   unfolding tableTriangles meshTriangles
   triangles-are =
-      over-ext (λ c. cellTriangles (tableCell (G .cells) (G .counts) names sides starts c)) (λ c. cellTriangles (gridCell G c)) (cellCount (G .cells)) 0
-      (λ c a b. ap cellTriangles (cell-is c (omega arith)))
+      let d : drawnCells (G .cells) ≡ cellCount (G .cells) = omega (arith, T .sound .few-cells) in
+      rw d
+      (over-ext (λ c. cellTriangles (tableCell (G .cells) (G .counts) names sides starts c)) (λ c. cellTriangles (gridCell G c)) (cellCount (G .cells)) 0
+      (λ c a b. ap cellTriangles (cell-is c (omega arith))))
 
   pub loop-is : (c k : ℕ) → tableLoop (G .cells) (G .counts) names sides starts c k ≡ askedLoop (gridCell G) (cellCount (G .cells)) c k
   unfolding tableLoop

@@ -2,11 +2,12 @@
 use Prim.Native.Nat.{ℕ}
 use mathlib.Core.List.{List}
 use Rattle.counting.specs.Pick.{pick}
+use Rattle.counting.specs.Stored.{storedIn}
 use Rattle.grid.specs.Grid.{Grid, cellCount}
 use Rattle.grid.specs.Rows.{gridAnswer}
 use Rattle.grid.specs.Tables.{accepts}
-use Rattle.mesh.specs.Mesh.{gridCell, meshTriangles}
-use Rattle.mesh.specs.Room.{roomAnswer, roomArea}
+use Rattle.mesh.specs.Mesh.{gridCell, meshTriangles, meshWords}
+use Rattle.mesh.specs.Room.{roomAnswer}
 use Rattle.mesh.specs.Asked.{askedLoop}
 
 module _ (G : Grid) where
@@ -15,10 +16,9 @@ module _ (G : Grid) where
   unfolding roomAnswer
   meshAnswer room = pick (accepts G) (roomAnswer (meshTriangles G) room) (gridAnswer G)
 
-  -- the lent area afterwards: the words of the mesh at its front, and the rest as it was; all as it was where the call refuses
+  -- the lent area afterwards: the words of the mesh at its front, and the rest as it was; all as it was where they have no room or the check refuses
   unfoldable pub meshArea : List ℕ → List ℕ
-  unfolding roomArea
-  meshArea area = pick (accepts G) (roomArea (meshTriangles G) area) area
+  meshArea area = pick (accepts G) (storedIn area 0 (meshWords G)) area
 
   -- the loops call (01): rows 1 to 10; then 11 with the cell asked for; else loop k of cell c
   unfoldable pub loopsAnswer : ℕ → ℕ → List ℕ

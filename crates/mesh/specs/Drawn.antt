@@ -3,9 +3,11 @@ use mathlib.Core.Path.{_≡_}
 use mathlib.Core.List.{List}
 use Prim.Native.Nat.{ℕ}
 use lib.ListN.{length}
-use Rattle.mesh.specs.Room.{roomAnswer, roomArea}
-use Rattle.mesh.specs.Table.{tableTriangles}
+use Rattle.counting.specs.Stored.{storedIn}
+use Rattle.cell.specs.Words.{allWords}
+use Rattle.cell.specs.Table.{tableTriangles}
+use Rattle.mesh.specs.Room.{roomAnswer}
 
 pub record Drawn (cells counts names sides starts before after answer : List ℕ) : Type 0 where
   pub answered : answer ≡ roomAnswer (tableTriangles cells counts names sides starts) (length before)
-  pub area : after ≡ roomArea (tableTriangles cells counts names sides starts) before
+  pub area : after ≡ storedIn before 0 (allWords (tableTriangles cells counts names sides starts))

@@ -1,7 +1,6 @@
 pub mod Mesh
 pub mod Room
 pub mod Asked
-pub mod Table
 pub mod Drawn
 pub mod Answer
 pub mod Numbers

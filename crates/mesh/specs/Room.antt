@@ -3,16 +3,11 @@ use Prim.Native.Nat.{ℕ, _*_}
 use mathlib.Core.List.{List, [], _∷_}
 use lib.Dec.{leb}
 use lib.ListN.{length}
-use lib.Seq.{sets}
 use Rattle.answer.specs.Answer.{result, refusal}
 use Rattle.counting.specs.Pick.{pick}
 use Rattle.cell.specs.declared.Triangle.{Triangle}
-use Rattle.cell.specs.Words.{wordCount, allWords}
+use Rattle.cell.specs.Words.{wordCount}
 
 -- the numbers answered for a mesh and an area of so many words: row 12 with the triangles needed, or their number
 unfoldable pub roomAnswer : List Triangle → ℕ → List ℕ
 roomAnswer mesh room = pick (leb (wordCount * length mesh) room) (result (length mesh ∷ [])) (refusal 12 (length mesh))
-
--- the area afterwards
-unfoldable pub roomArea : List Triangle → List ℕ → List ℕ
-roomArea mesh area = pick (leb (wordCount * length mesh) (length area)) (sets area 0 (allWords mesh)) area

@@ -1,9 +1,8 @@
 // The mesh call and the loops call.
 ghost use mathlib.Core.Path.{_≡_};
-ghost use Prim.Native.Nat.{_≤_};
-ghost use Rattle.grid.specs.Grid.{gridOf, mostCells, cellCount};
+ghost use Rattle.grid.specs.Grid.{gridOf};
 ghost use Rattle.mesh.specs.Numbers.{meshNumbers, loopsNumbers};
-ghost use Rattle.mesh.specs.Table.{tableLoop};
+ghost use Rattle.mesh.specs.Asked.{tableLoop};
 ghost use Rattle.mesh.specs.Answer.{loopsAnswer};
 ghost use Rattle.mesh.specs.Drawn.{Drawn};
 ghost use Rattle.mesh.specs.Done.{Done};
@@ -12,9 +11,6 @@ use cell::WORD_COUNT;
 use grid::Checked;
 use grid::MOST_EDGES;
 use grid::MOST_SLOTS;
-
-pub mod cells;
-mod meshing;
 
 // The number of triangles, or the number and the place of a refusal.
 pub enum Meshed {
@@ -28,7 +24,7 @@ pub enum Looped {
     Refused(u8, usize),
 }
 
-// The mesh of a grid from its tables: row 12, or the words. Where the area has room for any mesh of so many crossings, nothing is counted first.
+// The mesh of a grid from its tables: row 12, or the words.
 fn draw(
     cells: &[u16],
     counts: &[u8],
@@ -37,20 +33,13 @@ fn draw(
     starts: &[u32; MOST_EDGES],
     area: &mut [u32],
 ) -> Meshed
-    requires { ⌜ cellCount (now cells) ≤ mostCells ⌝ }
     ensures { λ r. ⌜ Drawn (now (cells .entry)) (now (counts .entry)) (now (names .entry)) (now (sides .entry)) (now (starts .entry)) (now (area .entry)) (now (area .exit)) (meshNumbers r) ⌝ }
 {
-    let most = meshing::most_all(cells, counts, names, sides, starts);
-    if WORD_COUNT * most <= area.len() {
-        let words = meshing::write_all(cells, counts, names, sides, starts, area);
-        return Meshed::Triangles((words / WORD_COUNT) as u32);
+    let t = cell::draw(cells, counts, names, sides, starts, area);
+    if area.len() < WORD_COUNT * t {
+        return Meshed::Refused(12, t);
     }
-    let n = meshing::count_all(cells, counts, names, sides, starts);
-    if area.len() < WORD_COUNT * n {
-        return Meshed::Refused(12, n);
-    }
-    meshing::write_all(cells, counts, names, sides, starts, area);
-    Meshed::Triangles(n as u32)
+    Meshed::Triangles(t as u32)
 }
 
 // The mesh call. Keeps 88 KB on the stack for the grid's tables, besides what `grid::open` keeps.
@@ -79,7 +68,7 @@ fn loop_of(
     ensures { λ r. ⌜ loopsNumbers r ≡ tableLoop (now (cells .entry)) (now (counts .entry)) (now (names .entry)) (now (sides .entry)) (now (starts .entry)) c k ⌝ }
 {
     if c < cells.len() / 4 {
-        let cell = cells::cell_at(cells, counts, names, sides, starts, c);
+        let cell = cell::cell_at(cells, counts, names, sides, starts, c);
         return Looped::Told(cell::loop_at(cell, k));
     }
     Looped::Refused(11, c)

@@ -25,7 +25,7 @@ use Rattle.grid.proofs.Accepts.{acceptance-yields}
 use Rattle.grid.proofs.Claims.{accepted-is}
 use Rattle.grid.proofs.Filled.{refused-keeps, crossings-accept}
 use Rattle.mesh.specs.Mesh.{gridCell}
-use Rattle.mesh.specs.Table.{tableCell}
+use Rattle.cell.specs.Table.{tableCell}
 use Rattle.mesh.proofs.Tables.{Tabled, tabled, cell-is}
 use Rattle.place.specs.declared.Place.{Place}
 use Rattle.place.specs.Place.{allNumbers}

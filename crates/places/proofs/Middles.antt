@@ -18,7 +18,7 @@ use Rattle.cell.specs.declared.Cell.{Cell}
 use Rattle.cell.specs.Middles.{fanCount, cellMiddles, numberedBelow, pointsThen, nextPoint, MiddlesRoom}
 use Rattle.cell.proofs.Fans.{length-cell, below-more, cell-ext, middles-stored}
 use Rattle.grid.specs.Grid.{cellCount}
-use Rattle.mesh.specs.Table.{tableCell}
+use Rattle.cell.specs.Table.{tableCell}
 use Rattle.places.specs.Work.{tableFans, tableMiddles, TableRoom}
 
 module _ (cells counts names sides starts : List ℕ) where

@@ -11,7 +11,7 @@ use Rattle.answer.specs.Answer.{isResult}
 use Rattle.counting.specs.Pick.{pick, one}
 use Rattle.counting.specs.Range.{total, over, values}
 use Rattle.cell.specs.Middles.{fanCount, cellMiddles, numberedBelow}
-use Rattle.mesh.specs.Table.{tableCell}
+use Rattle.cell.specs.Table.{tableCell}
 use Rattle.grid.specs.Grid.{highestNode, mostCells, mostCrossings, cellCount, crossings}
 use Rattle.place.specs.declared.Place.{Place}
 use Rattle.place.specs.Place.{between, coordinates, allNumbers}

@@ -4,12 +4,12 @@ ghost use Prim.Native.Nat.{_*_, _≤_};
 ghost use lib.Seq.{sets};
 ghost use Rattle.place.specs.Place.{coordinates, placeAt, allNumbers};
 ghost use Rattle.grid.specs.Grid.{mostCells, cellCount};
-ghost use Rattle.mesh.specs.Table.{mostTriangles};
+ghost use Rattle.cell.specs.Table.{mostTriangles};
 ghost use Rattle.places.specs.Work.{tableFans, tableMiddles, TableRoom};
 use cell::MOST_IN_CELL;
+use cell::cell_at;
 use grid::MOST_EDGES;
 use grid::MOST_SLOTS;
-use mesh::cells::cell_at;
 
 // How many fans the cells have. About 11 KB of stack.
 pub(crate) fn count_fans(

@@ -1,7 +1,6 @@
 use mathlib.Core.Path.{ap, _∙_}
 use native.Mathlib.Omega.{arith}
-use Rattle.mesh.specs.Table.{tableLoop}
-use Rattle.mesh.specs.Asked.{cellLoop}
+use Rattle.mesh.specs.Asked.{cellLoop, tableLoop}
 use Rattle.mesh.proofs.Askings.{asked-there, asked-beyond}
 use borrow.Author.Needs.{needs}
 use Rattle.mesh.proofs.loop_of.Statement.{statement}

@@ -1,12 +1,9 @@
 use mathlib.Core.Path.{refl}
 use Rattle.grid.specs.Grid.{gridOf}
-use Rattle.mesh.proofs.Calls.{refused-done, accepted-few, drawn-done}
+use Rattle.mesh.proofs.Calls.{refused-done, drawn-done}
 use borrow.Author.Needs.{needs}
 use Rattle.mesh.proofs.mesh.Statement.{statement}
 use Rattle.mesh.proofs.mesh.Tie as tie
-
-draw-requires : tie.Need-draw-requires
-draw-requires c κs = accepted-few (gridOf (c .before .before .before .before .before .before .before .before .before .before .before .before .before .before .args .cells .now) (c .before .before .before .before .before .before .before .before .before .before .before .before .before .before .args .edges .now) (c .before .before .before .before .before .before .before .before .before .before .before .before .before .before .args .counts .now)) (c .before .before .before .before .before .before .«open» .result) _ (c .before .before .before .before .enum-told .given .1) (c .before .before .before .before .before .before .«open» .ensures .0)
 
 returns : tie.Need-returns
 returns c = refused-done (gridOf (c .before .before .before .before .before .before .before .before .before .before .before .args .cells .now) (c .before .before .before .before .before .before .before .before .before .before .before .args .edges .now) (c .before .before .before .before .before .before .before .before .before .before .before .args .counts .now)) (c .before .before .before .«open» .result) _ _ (c .before .row .given .1) (c .before .before .before .«open» .ensures .0) (c .before .before .before .before .before .before .before .before .before .before .before .args .area .now)
@@ -17,4 +14,4 @@ returns-2 c = drawn-done (gridOf (c .before .before .before .before .before .bef
 pub mesh-spec : {M : Type 1} → statement M
 mesh-spec =
     tie.close
-    (tie.spec (λ c κs. search needs) (λ c. search needs) (λ c. search needs) draw-requires returns (λ c. search needs) returns-2)
+    (tie.spec (λ c κs. search needs) (λ c. search needs) (λ c. search needs) (λ c κs. search needs) returns (λ c. search needs) returns-2)

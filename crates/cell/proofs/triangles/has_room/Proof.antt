@@ -1,53 +1,34 @@
 use Prim.Native.Nat.{_+_, _*_}
+use mathlib.Core.Path.{sym}
+use native.Mathlib.Omega.{arith}
 use lib.ListN.{length}
+use borrow.Author.Tests.{le-leb, lt-leb}
 use Rattle.cell.specs.Words.{wordCount}
 use Rattle.cell.specs.Triangles.{cellTriangles}
-use native.Mathlib.Omega.{arith}
-use mathlib.Core.Path.{sym}
-use borrow.Author.Tests.{le-leb, lt-leb}
-use Rattle.cell.proofs.Using.{used-none, cleared-used, cleared-same}
 use Rattle.cell.proofs.Taken.{cell-few}
 use Rattle.cell.proofs.Fits.{room-left}
+use borrow.Author.Needs.{needs}
 use Rattle.cell.proofs.triangles.has_room.Statement.{statement}
 use Rattle.cell.proofs.triangles.has_room.Tie as tie
 
 returns : tie.Need-returns
-returns c = (sym (lt-leb (c .before .before .before .before .args .at + wordCount * length (cellTriangles (c .before .before .before .before .args .c))) (c .before .before .before .before .args .room) (omega arith)), used-none _ _ _ _)
+returns c = sym (lt-leb (c .before .args .at + wordCount * length (cellTriangles (c .before .args .c))) (c .before .args .room) (omega arith))
 
 mul-if2 : tie.Need-mul-if2
-mul-if2 c = omega (arith, c .before .before .before .before .pre .few)
+mul-if2 c = omega (arith, c .crossings-of .ensures .1)
 
 returns-2 : tie.Need-returns-2
-returns-2 c = (sym (le-leb (c .before .before .before .before .before .args .at + wordCount * length (cellTriangles (c .before .before .before .before .before .args .c))) (c .before .before .before .before .before .args .room) (omega (arith, cell-few (c .before .before .before .before .before .args .c), c .before .before .before .before .before .pre .all))), used-none _ _ _ _)
-
-count-requires : tie.Need-count-requires
-count-requires c κs = c .before .before .before .before .before .before .before .before .pre
+returns-2 c =
+    let A = c .before .before .before .args in
+    sym (le-leb (A .at + wordCount * length (cellTriangles (A .c))) (A .room) (omega (arith, cell-few (A .c), c .before .crossings-of .ensures .0)))
 
 mul-result : tie.Need-mul-result
-mul-result c = omega (arith, c .before .before .before .before .before .before .count .ensures .0 .1)
-
-same-length : tie.Need-same-length
-same-length c = cleared-same (c .before .before .before .before .before .before .count .ensures .1) .0
-
-same-length-2 : tie.Need-same-length-2
-same-length-2 c = cleared-same (c .before .before .before .before .before .before .count .ensures .1) .1
-
-same-length-3 : tie.Need-same-length-3
-same-length-3 c = cleared-same (c .before .before .before .before .before .before .count .ensures .1) .2
+mul-result c = omega (arith, c .triangle-count .ensures .1)
 
 returns-3 : tie.Need-returns-3
-returns-3 c = (rw (c .before .before .before .before .before .before .count .ensures .0 .0) (room-left _ (c .before .before .before .before .before .before .before .before .before .before .before .before .before .before .before .args .at) (c .before .before .before .before .before .before .before .before .before .before .before .before .before .before .before .args .room) (omega arith)), cleared-used (c .before .before .before .before .before .before .before .before .before .before .before .before .before .before .before .pre) (c .before .before .before .before .before .before .count .ensures .1))
+returns-3 c =
+    let A = c .before .before .before .before .args in
+    rw (c .triangle-count .ensures .0) (room-left _ (A .at) (A .room) (omega arith))
 
 pub has-room-spec : {M : Type 1} → statement M
-has-room-spec =
-    tie.close
-    (tie.spec
-    returns
-    mul-if2
-    returns-2
-    count-requires
-    mul-result
-    same-length
-    same-length-2
-    same-length-3
-    returns-3)
+has-room-spec = tie.close (tie.spec returns (λ c κs. tt) mul-if2 returns-2 (λ c κs. tt) mul-result returns-3)

@@ -8,7 +8,7 @@ use Rattle.counting.proofs.Stored.{summed-none, summed-more}
 use Rattle.cell.specs.Route.{mostInCell}
 use Rattle.cell.specs.Middles.{fanCount}
 use Rattle.grid.specs.Grid.{cellCount}
-use Rattle.mesh.specs.Table.{tableCell}
+use Rattle.cell.specs.Table.{tableCell}
 use Rattle.places.specs.Work.{tableFans}
 use Rattle.places.proofs.fans.count_fans.Statement.{statement}
 use Rattle.places.proofs.fans.count_fans.Tie as tie

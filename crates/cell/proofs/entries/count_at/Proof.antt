@@ -1,8 +1,8 @@
 use native.Mathlib.Omega.{arith}
-use Rattle.mesh.proofs.Values.{past-end}
+use Rattle.cell.proofs.Values.{past-end}
 use borrow.Author.Needs.{needs}
-use Rattle.mesh.proofs.cells.count_at.Statement.{statement}
-use Rattle.mesh.proofs.cells.count_at.Tie as tie
+use Rattle.cell.proofs.entries.count_at.Statement.{statement}
+use Rattle.cell.proofs.entries.count_at.Tie as tie
 
 returns-2 : tie.Need-returns-2
 returns-2 c = past-end (c .before .args .counts .now) (c .before .args .i) (omega arith)

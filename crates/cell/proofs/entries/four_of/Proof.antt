@@ -2,9 +2,9 @@ use Prim.Native.Nat.{_+_, _*_, _-_}
 use mathlib.Core.Path.{refl}
 use native.Mathlib.Omega.{arith}
 use lib.ListN.{getD}
-use Rattle.mesh.proofs.Values.{Valued, valued-none, valued-more, valued-all}
-use Rattle.mesh.proofs.cells.four_of.Statement.{statement}
-use Rattle.mesh.proofs.cells.four_of.Tie as tie
+use Rattle.cell.proofs.Values.{Valued, valued-none, valued-more, valued-all}
+use Rattle.cell.proofs.entries.four_of.Statement.{statement}
+use Rattle.cell.proofs.entries.four_of.Tie as tie
 
 abbrev Inv-loop : tie.InvT-loop
 Inv-loop list c four₀ i₀ four i = Valued (λ j. getD list (4 * c + j) 0) 4 four₀ i four

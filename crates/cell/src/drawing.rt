@@ -3,62 +3,76 @@ ghost use mathlib.Core.Path.{_≡_};
 ghost use Prim.Native.Nat.{_*_, _≤_};
 ghost use lib.ListN.{length};
 ghost use lib.Seq.{sets};
+ghost use Rattle.counting.specs.Stored.{storedIn};
 ghost use Rattle.cell.specs.Words.{wordCount, allWords};
-ghost use Rattle.grid.specs.Grid.{mostCells, cellCount};
-ghost use Rattle.mesh.specs.Table.{mostTriangles, tableTriangles};
-use crate::cells::cell_at;
-use cell::MOST_IN_CELL;
+ghost use Rattle.cell.specs.Table.{drawnCells, mostTriangles, tableTriangles};
+use super::MOST_IN_CELL;
+use super::entries::cell_at;
+use super::routes::crossings_of;
+use super::triangles::count_in;
+use super::triangles::write_in;
+use super::words::WORD_COUNT;
+use grid::MOST_CELLS;
 use grid::MOST_EDGES;
 use grid::MOST_SLOTS;
 
+// How many cells are drawn.
+fn drawn(cells: &[u16]) -> usize
+    ensures { λ r. ⌜ r ≡ drawnCells (now (cells .entry)) ⌝ }
+{
+    let n = cells.len() / 4;
+    if n < MOST_CELLS {
+        return n;
+    }
+    MOST_CELLS
+}
+
 // How many triangles the cells have. About 11 KB of stack.
-pub(crate) fn count_all(
+fn count_all(
     cells: &[u16],
     counts: &[u8],
     names: &[u16; MOST_SLOTS],
     sides: &[u16; MOST_EDGES],
     starts: &[u32; MOST_EDGES],
 ) -> usize
-    requires { ⌜ cellCount (now cells) ≤ mostCells ⌝ }
     ensures { λ r. ⌜ (r ≡ length (tableTriangles (now (cells .entry)) (now (counts .entry)) (now (names .entry)) (now (sides .entry)) (now (starts .entry)))) × (r ≤ mostTriangles) ⌝ }
 {
     let mut marks = [0u16; MOST_IN_CELL];
     let mut halves = [0u8; MOST_IN_CELL];
     let mut points = [0u32; MOST_IN_CELL];
-    let n = cells.len() / 4;
+    let n = drawn(cells);
     let mut t: usize = 0;
     let mut c: usize = 0;
     while c < n {
         let cell = cell_at(cells, counts, names, sides, starts, c);
-        t += cell::count_in(cell, &mut marks, &mut halves, &mut points);
+        t += count_in(cell, &mut marks, &mut halves, &mut points);
         c += 1;
     }
     t
 }
 
 // At least as many as the cells have triangles: a cell has no more than crossings.
-pub(crate) fn most_all(
+fn most_all(
     cells: &[u16],
     counts: &[u8],
     names: &[u16; MOST_SLOTS],
     sides: &[u16; MOST_EDGES],
     starts: &[u32; MOST_EDGES],
 ) -> usize
-    requires { ⌜ cellCount (now cells) ≤ mostCells ⌝ }
     ensures { λ r. ⌜ (length (tableTriangles (now (cells .entry)) (now (counts .entry)) (now (names .entry)) (now (sides .entry)) (now (starts .entry))) ≤ r) × (r ≤ mostTriangles) ⌝ }
 {
-    let n = cells.len() / 4;
+    let n = drawn(cells);
     let mut t: usize = 0;
     let mut c: usize = 0;
     while c < n {
-        t += cell::crossings_of(cell_at(cells, counts, names, sides, starts, c));
+        t += crossings_of(cell_at(cells, counts, names, sides, starts, c));
         c += 1;
     }
     t
 }
 
 // Writes the words of all the cells' triangles from the front of the area on, and answers how many words. About 11 KB of stack.
-pub(crate) fn write_all(
+fn write_all(
     cells: &[u16],
     counts: &[u8],
     names: &[u16; MOST_SLOTS],
@@ -72,13 +86,38 @@ pub(crate) fn write_all(
     let mut marks = [0u16; MOST_IN_CELL];
     let mut halves = [0u8; MOST_IN_CELL];
     let mut points = [0u32; MOST_IN_CELL];
-    let n = cells.len() / 4;
+    let n = drawn(cells);
     let mut i: usize = 0;
     let mut c: usize = 0;
     while c < n {
         let cell = cell_at(cells, counts, names, sides, starts, c);
-        i = cell::write_in(cell, &mut marks, &mut halves, &mut points, area, i);
+        i = write_in(cell, &mut marks, &mut halves, &mut points, area, i);
         c += 1;
     }
     i
+}
+
+// Writes the words of the triangles of all cells of the tables from the front of the area on, where they have room there, and answers how many triangles
+// there are. Where the area has room for any triangles of so many crossings, nothing is counted first. About 11 KB of stack.
+pub fn draw(
+    cells: &[u16],
+    counts: &[u8],
+    names: &[u16; MOST_SLOTS],
+    sides: &[u16; MOST_EDGES],
+    starts: &[u32; MOST_EDGES],
+    area: &mut [u32],
+) -> usize
+    ensures { λ r. ⌜ (r ≡ length (tableTriangles (now (cells .entry)) (now (counts .entry)) (now (names .entry)) (now (sides .entry)) (now (starts .entry)))) × (r ≤ mostTriangles) ⌝ }
+    ensures { λ _. ⌜ now (area .exit) ≡ storedIn (now (area .entry)) 0 (allWords (tableTriangles (now (cells .entry)) (now (counts .entry)) (now (names .entry)) (now (sides .entry)) (now (starts .entry)))) ⌝ }
+{
+    let most = most_all(cells, counts, names, sides, starts);
+    if WORD_COUNT * most <= area.len() {
+        return write_all(cells, counts, names, sides, starts, area) / WORD_COUNT;
+    }
+    let t = count_all(cells, counts, names, sides, starts);
+    if area.len() < WORD_COUNT * t {
+        return t;
+    }
+    write_all(cells, counts, names, sides, starts, area);
+    t
 }

@@ -1,15 +1,13 @@
 -- A cell of a grid from the grid's tables, whatever stands in them; and what is made of all cells.
-use Prim.Native.Nat.{ℕ, _+_, _*_, _%_}
+use Prim.Native.Nat.{ℕ, _+_, _*_, _%_, min}
 use mathlib.Core.List.{List}
 use lib.ListN.{getD}
 use Rattle.counting.specs.Range.{over, values}
 use Rattle.cell.specs.declared.Cell.{Cell}
-use Rattle.cell.specs.Route as cell
-use Rattle.cell.specs.Route.{startLimit}
+use Rattle.cell.specs.Route.{mostInCell, startLimit}
 use Rattle.cell.specs.declared.Triangle.{Triangle}
 use Rattle.cell.specs.Triangles.{cellTriangles}
 use Rattle.grid.specs.Grid.{mostCells, cellCount}
-use Rattle.mesh.specs.Asked.{askedLoop}
 
 -- the edge k of cell c
 abbrev pub side : List ℕ → ℕ → ℕ → ℕ
@@ -35,14 +33,14 @@ tableCell cells counts names sides starts c = record {
   index = c % mostCells;
 }
 
+-- so many cells are drawn: a grid has no more
+abbrev pub drawnCells : List ℕ → ℕ
+drawnCells cells = min (cellCount cells) mostCells
+
 -- the triangles of all cells
 unfoldable pub tableTriangles : (cells counts names sides starts : List ℕ) → List Triangle
-tableTriangles cells counts names sides starts = over (λ c. cellTriangles (tableCell cells counts names sides starts c)) (cellCount cells) 0
-
--- loop k of cell c, or row 11
-unfoldable pub tableLoop : (cells counts names sides starts : List ℕ) → ℕ → ℕ → List ℕ
-tableLoop cells counts names sides starts c k = askedLoop (tableCell cells counts names sides starts) (cellCount cells) c k
+tableTriangles cells counts names sides starts = over (λ c. cellTriangles (tableCell cells counts names sides starts c)) (drawnCells cells) 0
 
 -- the most triangles that a grid can have: no cell has more than crossings
 abbrev pub mostTriangles : ℕ
-mostTriangles = cell.mostInCell * mostCells
+mostTriangles = mostInCell * mostCells

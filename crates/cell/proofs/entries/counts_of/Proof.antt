@@ -2,10 +2,10 @@ use Prim.Native.Nat.{_-_}
 use mathlib.Core.Path.{refl, ap, _∙_}
 use native.Mathlib.Omega.{arith}
 use lib.ListN.{getD}
-use Rattle.mesh.specs.Table.{side}
-use Rattle.mesh.proofs.Values.{Valued, valued-none, valued-more, valued-all}
-use Rattle.mesh.proofs.cells.counts_of.Statement.{statement}
-use Rattle.mesh.proofs.cells.counts_of.Tie as tie
+use Rattle.cell.specs.Table.{side}
+use Rattle.cell.proofs.Values.{Valued, valued-none, valued-more, valued-all}
+use Rattle.cell.proofs.entries.counts_of.Statement.{statement}
+use Rattle.cell.proofs.entries.counts_of.Tie as tie
 
 abbrev Inv-loop : tie.InvT-loop
 Inv-loop counts sides c six₀ k₀ six k = Valued (λ j. getD counts (side sides c j) 0) 6 six₀ k six
@@ -19,7 +19,7 @@ loop-holds c = valued-none _ _ refl
 loop-again : tie.Need-loop-again Inv-loop μ-loop
 loop-again c =
     valued-more _ _ (c .before .before .before .before .loop .inv) (omega arith) _
-    (c .count-at .ensures ∙ ap (λ e. getD (c .before .before .before .before .before .before .before .args .counts .now) e 0) (c .before .wide .ensures ∙ c .before .before .entry .ensures))
+    (c .count-at .ensures ∙ ap (λ e. getD (c .before .before .before .before .before .before .before .args .counts .now) e 0) (c .before .wide16 .ensures .0 ∙ c .before .before .entry .ensures))
 
 returns : tie.Need-returns Inv-loop μ-loop
 returns c = valued-all _ _ (c .before .loop .inv) (omega arith)

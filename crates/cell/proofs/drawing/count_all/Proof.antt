@@ -1,4 +1,4 @@
--- `mesh::meshing::count_all` meets its contract.
+-- `cell::drawing::count_all` meets its contract.
 use Prim.Native.Nat.{_-_, _≤_}
 use mathlib.Core.Path.{sym, ap, _∙_}
 use native.Mathlib.Omega.{arith}
@@ -6,11 +6,11 @@ use lib.ListN.{length}
 use Rattle.counting.specs.Stored.{Summed}
 use Rattle.counting.proofs.Range.{length-over}
 use Rattle.counting.proofs.Stored.{summed-none, summed-more, summed-all}
 use Rattle.cell.specs.Route.{mostInCell}
 use Rattle.cell.specs.Triangles.{cellTriangles}
-use Rattle.mesh.specs.Table.{tableCell, tableTriangles}
-use Rattle.mesh.proofs.meshing.count_all.Statement.{statement}
-use Rattle.mesh.proofs.meshing.count_all.Tie as tie
+use Rattle.cell.specs.Table.{tableCell, tableTriangles}
+use Rattle.cell.proofs.drawing.count_all.Statement.{statement}
+use Rattle.cell.proofs.drawing.count_all.Tie as tie
 
 abbrev Inv-loop : tie.InvT-loop
 Inv-loop cells counts names sides starts marks₀ halves₀ points₀ n t₀ c₀ marks halves points t c =
@@ -23,18 +23,18 @@ loop-holds : tie.Need-loop-holds Inv-loop μ-loop
 loop-holds c = (omega arith, summed-none _ _)
 
 add-t : tie.Need-add-t Inv-loop μ-loop
-add-t c = omega (arith, c .count-in .ensures .0 .1, c .before .before .before .before .before .before .loop .inv .1 .few, c .before .before .before .before .before .before .before .before .before .pre)
+add-t c = omega (arith, c .count-in .ensures .0 .1, c .before .before .before .before .before .before .loop .inv .1 .few, c .before .before .before .before .before .before .before .drawn .ensures)
 
 loop-again : tie.Need-loop-again Inv-loop μ-loop
 loop-again c =
-    let e = c .before .before .before .before .cell-at .ensures in
-    (omega arith, summed-more _ _ (c .before .before .before .before .before .before .loop .inv .1) _ (c .count-in .ensures .0 .0 ∙ ap (λ v. length (cellTriangles v)) e) (c .count-in .ensures .0 .1))
+    let N = c .count-in .ensures .0 in
+    (omega arith, summed-more _ _ (c .before .before .before .before .before .before .loop .inv .1) _ (N .0 ∙ ap (λ v. length (cellTriangles v)) (c .before .before .before .before .cell-at .ensures)) (N .1))
 
 returns : tie.Need-returns Inv-loop μ-loop
 unfolding tableTriangles
 returns c =
     let S = c .before .loop .inv .1 in
-    (summed-all _ _ S (omega arith) ∙ sym (length-over _ _ 0), omega (arith, S .few, c .before .before .before .before .pre))
+    (summed-all _ _ S (omega (arith, c .before .before .drawn .ensures)) ∙ sym (length-over _ _ 0), omega (arith, S .few, c .before .before .drawn .ensures))
 
 pub count-all-spec : {M : Type 1} → statement M
 count-all-spec =
@@ -42,6 +42,7 @@ count-all-spec =
     (tie.spec
     Inv-loop
     μ-loop
+    (λ c κs. tt)
     loop-holds
     (λ c κs. tt)
     (λ c κs. tt)

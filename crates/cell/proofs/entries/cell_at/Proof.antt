@@ -1,7 +1,7 @@
-use Rattle.mesh.specs.Table.{tableCell}
+use Rattle.cell.specs.Table.{tableCell}
 use borrow.Author.Needs.{needs}
-use Rattle.mesh.proofs.cells.cell_at.Statement.{statement}
-use Rattle.mesh.proofs.cells.cell_at.Tie as tie
+use Rattle.cell.proofs.entries.cell_at.Statement.{statement}
+use Rattle.cell.proofs.entries.cell_at.Tie as tie
 
 returns : tie.Need-returns
 unfolding tableCell

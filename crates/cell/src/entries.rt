@@ -2,18 +2,13 @@
 ghost use mathlib.Core.Path.{_≡_};
 ghost use Prim.Native.Nat.{_+_, _%_, _<_};
 ghost use lib.ListN.{getD};
 ghost use Rattle.cell.specs.Route.{startLimit};
 ghost use Rattle.grid.specs.Grid.{mostCells};
-ghost use Rattle.mesh.specs.Table.{tableCounts, tableStarts, ofFour, tableCell};
-use cell::Cell;
+ghost use Rattle.cell.specs.Table.{tableCounts, tableStarts, ofFour, tableCell};
+use super::Cell;
+use super::routes::wide16;
 use grid::MOST_EDGES;
 use grid::MOST_SLOTS;
-
-fn wide(x: u16) -> usize
-    ensures { λ r. ⌜ r ≡ x ⌝ }
-{
-    x as usize
-}
 
 // Entry i of a list, 0 past its end.
 fn entry(list: &[u16], i: usize) -> u16
@@ -50,7 +45,7 @@ fn counts_of(counts: &[u8], sides: &[u16], c: usize) -> [u8; 6]
     let mut six = [0u8; 6];
     let mut k: usize = 0;
     while k < 6 {
-        let e = wide(entry(sides, 6 * c + k));
+        let e = wide16(entry(sides, 6 * c + k));
         six[k] = count_at(counts, e);
         k += 1;
     }
@@ -64,7 +59,7 @@ fn starts_of(starts: &[u32], sides: &[u16], c: usize) -> [u16; 6]
     let mut six = [0u16; 6];
     let mut k: usize = 0;
     while k < 6 {
-        let e = wide(entry(sides, 6 * c + k));
+        let e = wide16(entry(sides, 6 * c + k));
         six[k] = start_at(starts, e);
         k += 1;
     }
