@@ -100,7 +100,8 @@ fn write_all(
     i
 }
 
-// How many fans the cell has. The lent arrays are as those of `count_in`.
+// How many fans the cell has. The walks use the lent arrays as far as the cell's crossings reach, and clear them at the end. What these hold
+// before does not matter.
 pub fn fans_in(
     c: Cell,
     marks: &mut [u16; MOST_IN_CELL],
@@ -158,7 +159,7 @@ fn has_room(
 }
 
 // Writes the middles of the cell's fans from point `at` of the area on and answers the next point. Where they have no room there, or the place of a
-// crossing of the cell does not stand before that point, it writes nothing and answers `at`. The lent arrays are as those of `count_in`.
+// crossing of the cell does not stand before that point, it writes nothing and answers `at`. The lent arrays are as above.
 pub fn middles_in(
     c: Cell,
     marks: &mut [u16; MOST_IN_CELL],

@@ -7,7 +7,6 @@ use Rattle.cell.specs.Words.{wordCount}
 use Rattle.cell.specs.Triangles.{cellTriangles}
 use Rattle.cell.proofs.Taken.{cell-few}
 use Rattle.cell.proofs.Fits.{room-left}
-use borrow.Author.Needs.{needs}
 use Rattle.cell.proofs.triangles.has_room.Statement.{statement}
 use Rattle.cell.proofs.triangles.has_room.Tie as tie
 
