@@ -3,6 +3,7 @@ use Prim.Native.Nat.{ℕ, _+_, _*_, _%_, min}
 use mathlib.Core.List.{List}
 use lib.ListN.{getD}
 use Rattle.counting.specs.Range.{over, values}
+use Rattle.counting.specs.Pack.{pre}
 use Rattle.cell.specs.declared.Cell.{Cell}
 use Rattle.cell.specs.Route.{mostInCell, startLimit}
 use Rattle.cell.specs.declared.Triangle.{Triangle}
@@ -32,6 +33,10 @@ tableCell cells counts names sides starts c = record {
   nodes = ofFour cells (c % mostCells);
   index = c % mostCells;
 }
+
+-- how many crossings it has
+unfoldable pub tableCrossings : (counts sides : List ℕ) → ℕ → ℕ
+tableCrossings counts sides c = pre (λ k. getD (tableCounts counts sides (c % mostCells)) k 0) 6
 
 -- so many cells are drawn: a grid has no more
 abbrev pub drawnCells : List ℕ → ℕ

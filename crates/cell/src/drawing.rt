@@ -1,6 +1,7 @@
 // The triangles of all cells, counted and written.
 ghost use mathlib.Core.Path.{_≡_};
-ghost use Prim.Native.Nat.{_*_, _≤_};
+ghost use mathlib.Core.List.{List};
+ghost use Prim.Native.Nat.{ℕ, _*_, _≤_};
 ghost use lib.ListN.{length};
 ghost use lib.Seq.{sets};
 ghost use Rattle.counting.specs.Stored.{storedIn};
@@ -8,7 +9,7 @@ ghost use Rattle.cell.specs.Words.{wordCount, allWords};
 ghost use Rattle.cell.specs.Table.{drawnCells, mostTriangles, tableTriangles};
 use super::MOST_IN_CELL;
 use super::entries::cell_at;
-use super::routes::crossings_of;
+use super::entries::crossings_at;
 use super::triangles::count_in;
 use super::triangles::write_in;
 use super::words::WORD_COUNT;
@@ -51,21 +52,15 @@ fn count_all(
     t
 }
 
-// At least as many as the cells have triangles: a cell has no more than crossings.
-fn most_all(
-    cells: &[u16],
-    counts: &[u8],
-    names: &[u16; MOST_SLOTS],
-    sides: &[u16; MOST_EDGES],
-    starts: &[u32; MOST_EDGES],
-) -> usize
-    ensures { λ r. ⌜ (length (tableTriangles (now (cells .entry)) (now (counts .entry)) (now (names .entry)) (now (sides .entry)) (now (starts .entry))) ≤ r) × (r ≤ mostTriangles) ⌝ }
+// At least as many as the cells have triangles, whatever their names and starts: a cell has no more than crossings.
+fn most_all(cells: &[u16], counts: &[u8], sides: &[u16; MOST_EDGES]) -> usize
+    ensures { λ r. ⌜ ((names starts : List ℕ) → length (tableTriangles (now (cells .entry)) (now (counts .entry)) names (now (sides .entry)) starts) ≤ r) × (r ≤ mostTriangles) ⌝ }
 {
     let n = drawn(cells);
     let mut t: usize = 0;
     let mut c: usize = 0;
     while c < n {
-        t += crossings_of(cell_at(cells, counts, names, sides, starts, c));
+        t += crossings_at(counts, sides, c);
         c += 1;
     }
     t
@@ -110,7 +105,7 @@ pub fn draw(
     ensures { λ r. ⌜ (r ≡ length (tableTriangles (now (cells .entry)) (now (counts .entry)) (now (names .entry)) (now (sides .entry)) (now (starts .entry)))) × (r ≤ mostTriangles) ⌝ }
     ensures { λ _. ⌜ now (area .exit) ≡ storedIn (now (area .entry)) 0 (allWords (tableTriangles (now (cells .entry)) (now (counts .entry)) (now (names .entry)) (now (sides .entry)) (now (starts .entry)))) ⌝ }
 {
-    let most = most_all(cells, counts, names, sides, starts);
+    let most = most_all(cells, counts, sides);
     if WORD_COUNT * most <= area.len() {
         return write_all(cells, counts, names, sides, starts, area) / WORD_COUNT;
     }

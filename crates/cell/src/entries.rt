@@ -1,11 +1,12 @@
 // A cell of a grid, from the grid's tables.
 ghost use mathlib.Core.Path.{_≡_};
-ghost use Prim.Native.Nat.{_+_, _%_, _<_};
+ghost use Prim.Native.Nat.{_+_, _%_, _≤_, _<_};
 ghost use lib.ListN.{getD};
-ghost use Rattle.cell.specs.Route.{startLimit};
+ghost use Rattle.cell.specs.Route.{mostInCell, startLimit};
 ghost use Rattle.grid.specs.Grid.{mostCells};
-ghost use Rattle.cell.specs.Table.{tableCounts, tableStarts, ofFour, tableCell};
+ghost use Rattle.cell.specs.Table.{tableCounts, tableStarts, ofFour, tableCell, tableCrossings};
 use super::Cell;
+use super::routes::crossings_of;
 use super::routes::wide16;
 use grid::MOST_EDGES;
 use grid::MOST_SLOTS;
@@ -77,6 +78,20 @@ fn four_of(list: &[u16], c: usize) -> [u16; 4]
         i += 1;
     }
     four
+}
+
+// How many crossings cell c has.
+pub(crate) fn crossings_at(counts: &[u8], sides: &[u16; MOST_EDGES], c: usize) -> usize
+    ensures { λ r. ⌜ (r ≡ tableCrossings (now (counts .entry)) (now (sides .entry)) c) × (r ≤ mostInCell) ⌝ }
+{
+    let edge_counts = counts_of(counts, sides, c % 2048);
+    crossings_of(Cell {
+        counts: edge_counts,
+        starts: [0u16; 6],
+        names: [0u16; 4],
+        nodes: [0u16; 4],
+        index: 0,
+    })
 }
 
 // Cell c.

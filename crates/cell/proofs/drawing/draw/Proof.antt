@@ -8,13 +8,15 @@ use Rattle.cell.proofs.drawing.draw.Statement.{statement}
 use Rattle.cell.proofs.drawing.draw.Tie as tie
 
 write-all-requires : tie.Need-write-all-requires
-write-all-requires c κs = omega (arith, c .before .before .most-all .ensures .0)
+write-all-requires c κs = let A = c .before .before .before .before .before .before .args in omega (arith, c .before .before .most-all .ensures .0 (A .names .now) (A .starts .now))
 
 returns : tie.Need-returns
 returns c =
     let w = c .before .before .write-all .ensures in
     let m = c .before .before .before .before .before .most-all .ensures in
-    ((omega (arith, w .0), omega (arith, w .0, m .0, m .1)), w .1 ∙ has-room _ _ 0 (omega (arith, m .0)) .1)
+    let A = c .before .before .before .before .before .before .before .before .before .args in
+    let few = m .0 (A .names .now) (A .starts .now) in
+    ((omega (arith, w .0), omega (arith, w .0, few, m .1)), w .1 ∙ has-room _ _ 0 (omega (arith, few)) .1)
 
 returns-2 : tie.Need-returns-2
 returns-2 c =
