@@ -1,13 +1,13 @@
 -- Where the walk from a crossing starts: on the edge whose range holds the crossing.
 use Prim.Native.Nat.{ℕ, _+_, _*_, _-_, _<_, _≤_}
-use mathlib.Core.Path.{_≡_, sym, ap, _∙_}
-use mathlib.Core.Bool.{true, false}
+use mathlib.Core.Path.{_≡_, refl, sym, ap, _∙_}
+use mathlib.Core.Bool.{Bool, true, false, _&&_}
 use mathlib.Core.List.{List}
 use native.Mathlib.Omega.{arith}
 use native.Mathlib.Decide.{decLt}
-use lib.Dec.{ltb}
+use lib.Dec.{leb}
 use lib.ListN.{getD}
-use borrow.Author.Tests.{lt-leb, le-leb}
+use borrow.Author.Tests.{le-leb, lt-ltb, le-ltb}
 use Rattle.counting.proofs.Bools.{clash}
 use Rattle.counting.proofs.Search as search
 use Rattle.slots.specs.Slots.{firstSlot}
@@ -23,6 +23,11 @@ use Rattle.cell.proofs.Half.{first-half}
 use Rattle.cell.proofs.Step.{number-first}
 use Rattle.cell.proofs.Route.{count-at, first-at}
 
+-- a test that adds nothing
+and-true : (b : Bool) → b ≡ (b && true)
+and-true true = refl
+and-true false = refl
+
 -- what is read there tells whether crossing p is one of edge e
 module _ {c : Cell} {t : List ℕ} (R : Routed c t) (e p : ℕ) {h : ℕ} (le : e < 6) (q : h ≡ halfOf (firstSlot e) e) (l : h < halfEdges) where
   first-is : getD t (columns * h + firstAt) 0 ≡ base (edgesOf c) e
@@ -31,13 +36,13 @@ module _ {c : Cell} {t : List ℕ} (R : Routed c t) (e p : ℕ) {h : ℕ} (le : 
   count-is : getD t (columns * h + countAt) 0 ≡ edgesOf c .count e
   count-is = count-at R h l ∙ ap (edgesOf c .count) (first-half le q .0)
 
-  pub not-on : p < getD t (columns * h + firstAt) 0 → false ≡ holds (edgesOf c) p e
+  pub not-on : getD t (columns * h + firstAt) 0 + getD t (columns * h + countAt) 0 ≤ p → false ≡ holds (edgesOf c) p e
   unfolding holds
-  not-on b = rw (lt-leb (base (edgesOf c) e) p (omega (arith, first-is)))
+  not-on b = rw (le-leb (base (edgesOf c) e) p (omega (arith, first-is)), le-ltb p (base (edgesOf c) e + edgesOf c .count e) (omega (arith, first-is, count-is)))
 
-  pub may-on : getD t (columns * h + firstAt) 0 ≤ p → ltb p (getD t (columns * h + firstAt) 0 + getD t (columns * h + countAt) 0) ≡ holds (edgesOf c) p e
+  pub may-on : p < getD t (columns * h + firstAt) 0 + getD t (columns * h + countAt) 0 → leb (getD t (columns * h + firstAt) 0) p ≡ holds (edgesOf c) p e
   unfolding holds
-  may-on b = rw (le-leb (base (edgesOf c) e) p (omega (arith, first-is)), first-is, count-is)
+  may-on b = rw (lt-ltb p (base (edgesOf c) e + edgesOf c .count e) (omega (arith, first-is, count-is)), first-is) (and-true (leb (base (edgesOf c) e) p))
 
 -- the edge of crossing p is found by its range
 module _ (w : Edges) (p : ℕ) (l : p < crossings w) where

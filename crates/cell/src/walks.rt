@@ -28,11 +28,11 @@ fn is_on(c: Cell, routes: &[usize; ROUTES], e: usize, p: usize) -> bool
 {
     let h = tables::first_of(e);
     let first = routes::route(routes, h, routes::FIRST);
-    if p < first {
+    let n = routes::route(routes, h, routes::COUNT);
+    if first + n <= p {
         return false;
     }
-    let n = routes::route(routes, h, routes::COUNT);
-    p < first + n
+    first <= p
 }
 
 // The first dart of crossing p, which is one of edge e.
