@@ -1,26 +1,42 @@
-use borrow.Author.Needs.{needs}
-use Prim.Native.Nat.{ℕ}
-use mathlib.Core.Path.{refl}
-use mathlib.Core.List.{List, [], _∷_}
-use Rattle.counting.specs.Search.{every}
+use Prim.Native.Nat.{ℕ, _<_}
+use native.Mathlib.Omega.{arith}
+use mathlib.Core.Path.{_≡_, refl, sym, ap, _∙_}
 use Rattle.slots.specs.Slots.{firstSlot}
-use Rattle.cell.specs.Half.{halfOf}
-use Rattle.cell.proofs.Half.{entry}
+use Rattle.cell.specs.Half.{halfEdges, halfOf}
 use Rattle.cell.proofs.tables.first_of.Statement.{statement}
 use Rattle.cell.proofs.tables.first_of.Tie as tie
 
-table : List ℕ
-table = 9 ∷ 10 ∷ 7 ∷ 11 ∷ 8 ∷ 5 ∷ []
-
-mul-result : tie.Need-mul-result
-mul-result c = search needs
-
-array-read-result : tie.Need-array-read-result
-array-read-result c = search needs
+-- the half-edge in the first slot of the edge i
+first-is : {e i h : ℕ} → halfOf (firstSlot i) i ≡ h → h < halfEdges → e ≡ i → (h ≡ halfOf (firstSlot e) e) × (h < halfEdges)
+first-is p l is = (sym (ap (λ k. halfOf (firstSlot k) k) is ∙ p), l)
 
 returns : tie.Need-returns
-unfolding table every halfOf firstSlot
-returns c = entry 6 (λ e. halfOf (firstSlot e) e) 12 table refl (c .args .e) (search needs)
+unfolding halfOf firstSlot
+returns c = first-is refl (omega arith) (c .match .keys1)
+
+returns-2 : tie.Need-returns-2
+unfolding halfOf firstSlot
+returns-2 c = first-is refl (omega arith) (c .match .keys2)
+
+returns-3 : tie.Need-returns-3
+unfolding halfOf firstSlot
+returns-3 c = first-is refl (omega arith) (c .match .keys3)
+
+returns-4 : tie.Need-returns-4
+unfolding halfOf firstSlot
+returns-4 c = first-is refl (omega arith) (c .match .keys4)
+
+returns-5 : tie.Need-returns-5
+unfolding halfOf firstSlot
+returns-5 c = first-is refl (omega arith) (c .match .keys5)
+
+returns-6 : tie.Need-returns-6
+unfolding halfOf firstSlot
+returns-6 c =
+    let l = c .before .pre in
+    let r = c .match .rest in
+    let is : c .before .args .e ≡ 5 = omega (arith, l, r .0 .0 .0 .0 .1, r .0 .0 .0 .1, r .0 .0 .1, r .0 .1, r .1) in
+    first-is refl (omega arith) is
 
 pub first-of-spec : {M : Type 1} → statement M
-first-of-spec = tie.close (tie.spec mul-result array-read-result returns)
+first-of-spec = tie.close (tie.spec returns returns-2 returns-3 returns-4 returns-5 returns-6)
