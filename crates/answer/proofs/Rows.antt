@@ -14,7 +14,8 @@ use Rattle.counting.specs.Search.{first, seek, some}
 use Rattle.counting.proofs.Bools.{and-left, and-right}
 use Rattle.counting.proofs.Search.{first-at, first-below, first-is, none-first, some-first, some-none}
 use Rattle.answer.specs.Answer.{refusal, result, isResult}
-use Rattle.answer.specs.Rows.{Row, orRefuse, answerOf, since, numbered, rowAt, Clear, AllClear, Refusal}
+use Rattle.answer.specs.Rows.{Row, orRefuse, answerOf}
+use Rattle.answer.specs.Faults.{since, numbered, rowAt, Clear, AllClear, Refusal}
 use Rattle.answer.proofs.Answer.{no-nil}
 
 module _ (row : Row) (more : List Row) (rest : List ℕ) (p : ℕ) (e : p ≡ first (row .fault) (row .places)) where

@@ -17,7 +17,7 @@ use Rattle.counting.proofs.Stored.{summed-more}
 use Rattle.cell.specs.declared.Cell.{Cell}
 use Rattle.cell.specs.Cell.{Edges, crossings}
 use Rattle.cell.specs.Loop.{loopSize, leasts, answerFrom, loopAnswer}
-use Rattle.cell.specs.Route.{mostInCell}
+use Rattle.cell.specs.Limits.{mostInCell}
 use Rattle.cell.specs.Round.{roundAnswer}
 use Rattle.cell.specs.declared.Triangle.{Triangle}
 use Rattle.cell.specs.declared.Nth.the-variants.{Found, Nothing}

@@ -29,9 +29,10 @@ use Rattle.cell.specs.Cell.{crossings, edge}
 use Rattle.cell.specs.Of.{countOf, startOf, edgesOf}
 use Rattle.cell.specs.Loop.{loopSize, dart, normal, inGrid}
 use Rattle.cell.specs.Round.{foldsIn}
-use Rattle.cell.specs.Route.{mostInCell}
+use Rattle.cell.specs.Limits.{mostInCell}
 use Rattle.cell.specs.Triangles.{numberOf}
-use Rattle.cell.specs.Middles.{isFan, loopPoint, fanCount, loopMiddle, cellMiddles, numberedBelow, middlesAt, pointsThen, nextPoint, recordedFan, recordedMiddle, MiddlesRoom}
+use Rattle.cell.specs.Middles.{isFan, loopPoint, fanCount, loopMiddle, cellMiddles, numberedBelow, middlesAt, pointsThen, nextPoint}
+use Rattle.cell.specs.Centres.{recordedFan, recordedMiddle, MiddlesRoom}
 use Rattle.cell.proofs.Lay.{lay}
 use Rattle.cell.proofs.Loops.{from-point, normal-is, dart-live}
 use Rattle.cell.proofs.Fits.{room-left}

@@ -10,7 +10,8 @@ use Rattle.cell.specs.declared.Cell.{Cell}
 use Rattle.cell.specs.Cell.{crossings}
 use Rattle.cell.specs.Loop.{loopSize}
 use Rattle.cell.specs.Of.{edgesOf}
-use Rattle.cell.specs.Route.{mostInCell, Routed}
+use Rattle.cell.specs.Route.{Routed}
+use Rattle.cell.specs.Limits.{mostInCell}
 use Rattle.cell.specs.Scratch.{unmarked, halvesFrom, pointsFrom, Cleared}
 use Rattle.cell.specs.Walked.{Marked, Long, Used, Lent, Walked}
 use Rattle.cell.proofs.Using.{kept-then, filled-same, kept-filled, used-cleared, used-none, used-then}

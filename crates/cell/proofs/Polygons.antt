@@ -14,7 +14,7 @@ use Rattle.cell.specs.Cell.{crossings, slot, step}
 use Rattle.cell.specs.Loop.{loopSize, dart, normal}
 use Rattle.cell.proofs.Mates.{slot-has, ports}
 use Rattle.manifold.specs.Shape.{shapeOf}
-use Rattle.manifold.specs.Triangle.{tri, cornerOf, sideOf}
+use Rattle.manifold.specs.Plain.{tri, cornerOf, sideOf}
 use Rattle.manifold.specs.Polygon as manifold
 use Rattle.manifold.specs.Polygon.{Simple}
 use Rattle.manifold.specs.Piece.{Piece, dart as dartOf, sizeOf}

@@ -16,7 +16,8 @@ use Rattle.cell.specs.declared.Next.the-variants.{On, End}
 use Rattle.cell.specs.Cell.{Edges, crossings, number, step}
 use Rattle.cell.specs.Of.{edgesOf}
 use Rattle.cell.specs.Half.{halfEdges, rankOf, edgeOf}
-use Rattle.cell.specs.Route.{cornerOf, columns, lowAt, highAt, countAt, roundLowAt, roundHighAt, twinAt, rankAt, mostInCell, Routed}
+use Rattle.cell.specs.Route.{cornerOf, columns, lowAt, highAt, countAt, roundLowAt, roundHighAt, twinAt, rankAt, Routed}
+use Rattle.cell.specs.Limits.{mostInCell}
 use Rattle.cell.specs.Dart.{Spot, IsDartAt, Ready, Turns, Between, Leads, Onward, dartNumber, dartOf}
 use Rattle.cell.proofs.Reach.{Reach, low-lt, high-lt, low-fits, high-fits, turn-low, turn-high, between-end, between-up, between-down}
 use Rattle.cell.proofs.Route.{low-at, high-at, count-at, low-next-at, high-next-at, twin-at, place-at, fits}

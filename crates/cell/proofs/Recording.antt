@@ -17,7 +17,8 @@ use Rattle.cell.specs.Cell.{Edges, crossings, index, step}
 use Rattle.cell.specs.Loop.{loopSize, dart, loopDarts, inGrid}
 use Rattle.cell.specs.Of.{edgesOf}
 use Rattle.cell.specs.Half.{edgeOf, halfOf, halfEdge}
-use Rattle.cell.specs.Route.{mostInCell, startLimit, Routed}
+use Rattle.cell.specs.Route.{Routed}
+use Rattle.cell.specs.Limits.{mostInCell, startLimit}
 use Rattle.cell.specs.Dart.{Parts, IsDart, Ready, Leads, dartNumber, dartOf}
 use Rattle.cell.specs.Scratch.{halvesFrom, pointsFrom}
 use Rattle.cell.specs.Walked.{Starts, Marked, Kept, Used, Lent, Walked}

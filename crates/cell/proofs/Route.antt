@@ -30,7 +30,9 @@ use Rattle.cell.specs.declared.Run.{Run}
 use Rattle.cell.specs.Cell.{Edges, ahead, base, number}
 use Rattle.cell.specs.Of.{countOf, startOf, edgesOf}
 use Rattle.cell.specs.Half.{halfEdges, rankOf, edgeOf, halfOf, twin, around}
-use Rattle.cell.specs.Route.{columns, lowAt, highAt, countAt, firstAt, startAt, roundLowAt, roundHighAt, twinAt, rankAt, cornerOf, front, fronts, links, IsRun, SlotRuns, Routed, mostCount, mostInCell, startLimit}
+use Rattle.cell.specs.Route.{columns, lowAt, highAt, countAt, firstAt, startAt, roundLowAt, roundHighAt, twinAt, rankAt, cornerOf, front, fronts, links, IsRun, SlotRuns, Routed}
+use Rattle.cell.specs.Limits.{mostInCell, startLimit}
+use Rattle.slots.specs.Limits.{mostCount}
 use Rattle.cell.proofs.Lay.{base-all, laid-same}
 use Rattle.cell.proofs.Half.{edge-lt, half-slot, half-place, half-edge, first-half}
 

@@ -20,7 +20,7 @@ use Rattle.cell.specs.declared.Cell.{Cell}
 use Rattle.cell.specs.Cell.{Edges, crossings, step}
 use Rattle.cell.specs.Loop.{loopSize, dart}
 use Rattle.cell.specs.Of.{edgesOf}
-use Rattle.cell.specs.Route.{mostInCell}
+use Rattle.cell.specs.Limits.{mostInCell}
 use Rattle.cell.specs.Scratch.{unmarked}
 use Rattle.cell.specs.Walked.{Marked}
 use Rattle.cell.proofs.Mates.{darts}

@@ -1,3 +1,4 @@
+pub mod Limits
 pub mod Cell
 pub mod Loop
 pub mod Of
@@ -22,3 +23,4 @@ pub mod Polygons
 pub mod TriangleClaims
 pub mod Renaming
 pub mod Middles
+pub mod Centres

@@ -1,10 +1,8 @@
 -- The middles of a cell's fans (01), and what is left where they are written among the points of an area.
-use Prim.Native.Nat.{ℕ, _+_, _*_, _/_, _≤_}
-use mathlib.Core.Path.{_≡_}
-use mathlib.Core.Bool.{Bool, true}
+use Prim.Native.Nat.{ℕ, _+_, _*_, _/_}
+use mathlib.Core.Bool.{Bool}
 use mathlib.Core.List.{List, [], _∷_}
-use lib.Dec.{eqb, leb}
-use lib.ListN.{length, getD}
+use lib.Dec.{leb}
 use lib.Ieee.{Float}
 use Rattle.counting.specs.Pick.{pick}
 use Rattle.counting.specs.Range.{over}
@@ -17,7 +15,6 @@ use Rattle.cell.specs.declared.Cell.{Cell}
 use Rattle.cell.specs.Cell.{crossings}
 use Rattle.cell.specs.Of.{countOf, startOf, edgesOf}
 use Rattle.cell.specs.Loop.{loopSize, dart, normal}
-use Rattle.cell.specs.Round.{foldsIn}
 use Rattle.cell.specs.Triangles.{numberOf}
 
 module _ (c : Cell) (p : ℕ) where
@@ -57,15 +54,3 @@ module _ (c : Cell) (area : List Float) (at : ℕ) where
 
   unfoldable pub nextPoint : ℕ
   nextPoint = nextIn area (coordinates * at) (allNumbers middlesAt) / coordinates
-
--- Only contracts of parts cite what follows. A recorded loop is drawn as a fan; its middle then, by the places of an area's points.
-abbrev pub recordedFan : (halves : List ℕ) → Bool
-recordedFan halves = hasMiddle (length halves) (eqb (foldsIn halves) 0)
-
-unfoldable pub recordedMiddle : (halves points : List ℕ) (area : List Float) → List Place
-recordedMiddle halves points area = pick (recordedFan halves) (middle (λ k. placeAt area (getD points k 0)) (length points) ∷ []) []
-
--- the places of the cell's crossings stand before point `at`, and its middles have room from there on
-pub record MiddlesRoom (c : Cell) (area : List Float) (at : ℕ) : Type 0 where
-  pub below : numberedBelow c at ≡ true
-  pub room : coordinates * (at + fanCount c) ≤ length area

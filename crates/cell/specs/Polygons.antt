@@ -5,7 +5,7 @@ use lib.ListN.{getD}
 use Rattle.cell.specs.declared.Cell.{Cell}
 use Rattle.cell.specs.Cell.{crossings, first, second, mate}
 use Rattle.cell.specs.Loop.{normal}
-use Rattle.manifold.specs.Triangle.{Tri, tri}
+use Rattle.manifold.specs.Plain.{Tri, tri}
 use Rattle.manifold.specs.Polygon.{Polygon}
 use Rattle.manifold.specs.Piece.{Local, slotOf, lowerOf, dart, sizeOf}
 use Rattle.cell.specs.declared.Triangle.{Triangle}

@@ -4,24 +4,15 @@ use mathlib.Core.Path.{_≡_}
 use mathlib.Core.List.{List, [], _∷_}
 use lib.ListN.{getD}
 use lib.Seq.{sets}
+use Rattle.slots.specs.Limits.{mostCount}
 use Rattle.slots.specs.Slots.{slotEdge}
 use Rattle.face.specs.Face.{lower, upper, cornerCountAt}
 use Rattle.cell.specs.declared.Cell.{Cell}
 use Rattle.cell.specs.declared.Run.{Run}
+use Rattle.cell.specs.Limits.{mostInCell, startLimit}
 use Rattle.cell.specs.Cell.{Edges, base, crossings}
 use Rattle.cell.specs.Of.{countOf, startOf, edgesOf}
 use Rattle.cell.specs.Half.{halfEdges, slotOf, rankOf, edgeOf, twin, around}
-
--- the greatest count of an edge, a byte; and the most crossings that a cell can have
-abbrev pub mostCount : ℕ
-mostCount = 255
-
-abbrev pub mostInCell : ℕ
-mostInCell = 6 * mostCount
-
--- one more than the greatest number that a start can have
-abbrev pub startLimit : ℕ
-startLimit = 65536
 
 -- the columns of the routes: the corner counts at the lower and the upper end of the half-edge's edge; the edge's count, its first number in the cell
 -- and in the grid; the half-edges that follow round the lower end, round the upper end, and after a folded segment; its rank in the slot

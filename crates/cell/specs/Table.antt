@@ -5,7 +5,7 @@ use lib.ListN.{getD}
 use Rattle.counting.specs.Range.{over, values}
 use Rattle.counting.specs.Pack.{pre}
 use Rattle.cell.specs.declared.Cell.{Cell}
-use Rattle.cell.specs.Route.{mostInCell, startLimit}
+use Rattle.cell.specs.Limits.{mostInCell, startLimit}
 use Rattle.cell.specs.declared.Triangle.{Triangle}
 use Rattle.cell.specs.Triangles.{cellTriangles}
 use Rattle.grid.specs.Grid.{mostCells, cellCount}

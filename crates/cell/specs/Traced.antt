@@ -9,7 +9,7 @@ use Rattle.counting.specs.Range.{after}
 use Rattle.manifold.specs.Shape.{Shape, shapeOf, triangleOf, trianglesOf}
 use Rattle.cell.specs.declared.Cell.{Cell}
 use Rattle.cell.specs.Half.{halfEdges}
-use Rattle.cell.specs.Route.{startLimit}
+use Rattle.cell.specs.Limits.{startLimit}
 use Rattle.cell.specs.declared.Corner.{Corner}
 use Rattle.cell.specs.declared.Corner.the-variants.{Crossing, Middle}
 use Rattle.cell.specs.declared.Side.{Side}

@@ -9,7 +9,8 @@ use Rattle.cell.specs.declared.Dart.{Dart}
 use Rattle.cell.specs.Cell.{Edges, crossings, edge, step}
 use Rattle.cell.specs.Loop.{loopSize}
 use Rattle.cell.specs.Of.{edgesOf}
-use Rattle.cell.specs.Route.{mostInCell, Routed}
+use Rattle.cell.specs.Route.{Routed}
+use Rattle.cell.specs.Limits.{mostInCell}
 use Rattle.cell.specs.Dart.{IsDart, dartOf}
 use Rattle.cell.specs.Scratch.{halvesFrom, pointsFrom}
 

@@ -5,7 +5,7 @@ ghost use lib.Dec.{eqb};
 ghost use lib.ListN.{getD, length};
 ghost use Rattle.counting.specs.Pick.{one};
 ghost use Rattle.cell.specs.Loop.{nodeWith, typeBy};
-ghost use Rattle.cell.specs.Route.{startLimit};
+ghost use Rattle.cell.specs.Limits.{startLimit};
 ghost use Rattle.cell.specs.Half.{edgeOf};
 ghost use Rattle.cell.specs.Round.{foldsIn, crossesIn, roundAnswer};
 ghost use Rattle.cell.specs.Answer.{typeNumbers, loopNumbers};
@@ -34,7 +34,7 @@ fn edge_at(halves: &[u8], k: usize) -> usize
 }
 
 // The folded segments of a recorded loop, from the one that comes to place 0 on.
-pub fn folds_of(halves: &[u8]) -> usize
+pub(crate) fn folds_of(halves: &[u8]) -> usize
     ensures { λ r. ⌜ r ≡ foldsIn (now (halves .entry)) ⌝ }
 {
     let n = halves.len();

@@ -2,7 +2,7 @@
 ghost use mathlib.Core.Path.{_≡_};
 ghost use Prim.Native.Nat.{_+_, _%_, _≤_, _<_};
 ghost use lib.ListN.{getD};
-ghost use Rattle.cell.specs.Route.{mostInCell, startLimit};
+ghost use Rattle.cell.specs.Limits.{mostInCell, startLimit};
 ghost use Rattle.grid.specs.Grid.{mostCells};
 ghost use Rattle.cell.specs.Table.{tableCounts, tableStarts, ofFour, tableCell, tableCrossings};
 use super::Cell;

@@ -17,7 +17,6 @@ mod walks;
 mod words;
 mod write;
 
-pub use answers::folds_of;
 pub use drawing::draw;
 pub use entries::cell_at;
 pub use middles::fans_in;

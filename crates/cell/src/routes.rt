@@ -7,7 +7,9 @@ ghost use lib.Seq.{sets};
 ghost use Rattle.cell.specs.Cell.{ahead, base, crossings};
 ghost use Rattle.cell.specs.Of.{countOf, startOf, edgesOf};
 ghost use Rattle.cell.specs.Half.{halfEdges};
-ghost use Rattle.cell.specs.Route.{columns, mostCount, mostInCell, startLimit, fronts, Firsts, IsRun, SlotRuns, Routed};
+ghost use Rattle.cell.specs.Route.{columns, fronts, Firsts, IsRun, SlotRuns, Routed};
+ghost use Rattle.cell.specs.Limits.{mostInCell, startLimit};
+ghost use Rattle.slots.specs.Limits.{mostCount};
 use super::Cell;
 use super::Run;
 

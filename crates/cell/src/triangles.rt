@@ -7,7 +7,7 @@ ghost use lib.ListN.{length};
 ghost use lib.Seq.{sets};
 ghost use Rattle.cell.specs.Cell.{crossings};
 ghost use Rattle.cell.specs.Of.{edgesOf};
-ghost use Rattle.cell.specs.Route.{mostInCell};
+ghost use Rattle.cell.specs.Limits.{mostInCell};
 ghost use Rattle.cell.specs.Walked.{Room, Used};
 ghost use Rattle.cell.specs.Words.{wordCount, allWords};
 ghost use Rattle.cell.specs.Triangles.{cellTriangles};

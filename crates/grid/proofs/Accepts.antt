@@ -6,7 +6,8 @@ use native.Mathlib.Decide.{decLt}
 use native.Mathlib.Omega.{arith}
 use lib.ListN.{List·getD-eq-default, getD, length}
 use Rattle.counting.specs.Lists.{All}
-use Rattle.answer.specs.Rows.{AllClear, Clear, rowAt, since, whole}
+use Rattle.answer.specs.Rows.{whole}
+use Rattle.answer.specs.Faults.{AllClear, Clear, rowAt, since}
 use Rattle.answer.proofs.Rows.{clear-since}
 use Rattle.counting.proofs.Lists.{all-at}
 use Rattle.grid.specs.Accepted.{Accepted, Sound}

@@ -10,7 +10,8 @@ use borrow.Author.Tests.{eqb-false, eqb-true, ltb-false, not-false}
 use Rattle.counting.specs.Search.{first}
 use Rattle.counting.proofs.Bools.{or-none}
 use Rattle.answer.specs.Answer.{refusal, result}
-use Rattle.answer.specs.Rows.{answerOf, rowAt, since}
+use Rattle.answer.specs.Rows.{answerOf}
+use Rattle.answer.specs.Faults.{rowAt, since}
 use Rattle.answer.proofs.Rows.{row-passes, row-refuses, rows-end}
 use Rattle.grid.specs.Grid.{Grid, cellCount, crossings, mostCells}
 use Rattle.grid.specs.Rows.{badLength, badPairs, gridAnswer, rows}

@@ -8,7 +8,7 @@ use lib.ListN.{length}
 use Rattle.counting.specs.Pack.{col}
 use Rattle.counting.proofs.Pack.{col-lt, col-pack, pack-lt, pre-le, row-lt, row-pack, unpack}
 use Rattle.answer.specs.Answer.{isResult, result}
-use Rattle.answer.specs.Rows.{AllClear, numbered}
+use Rattle.answer.specs.Faults.{AllClear, numbered}
 use Rattle.answer.proofs.Answer.{mixed, refusals}
 use Rattle.answer.proofs.Rows.{answer-some, clear-answer, clear-or-refusal, refusal-answer, refused-by, result-clear, result-is}
 use Rattle.grid.specs.Check.{checkNumbers}

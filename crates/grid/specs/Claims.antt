@@ -5,7 +5,7 @@ use mathlib.Core.Logic.{_⊎_, _≢_}
 use mathlib.Core.List.{List, [], _∷_}
 use lib.ListN.{length}
 use Rattle.answer.specs.Answer.{result, refusal}
-use Rattle.answer.specs.Rows.{AllClear, Refusal}
+use Rattle.answer.specs.Faults.{AllClear, Refusal}
 use Rattle.grid.specs.Grid.{Grid, countOf, crossing, crossings}
 use Rattle.grid.specs.Rows.{rows, gridAnswer}
 use Rattle.grid.specs.Check.{checkNumbers}

@@ -7,7 +7,8 @@ use mathlib.Core.List.{List, [], _∷_}
 use lib.ListN.{length, getD, replicate}
 use lib.Dec.{eqb, ltb}
 use Rattle.answer.specs.Answer.{result}
-use Rattle.answer.specs.Rows.{answerOf, since}
+use Rattle.answer.specs.Rows.{answerOf}
+use Rattle.answer.specs.Faults.{since}
 use Rattle.counting.specs.Pick.{pick}
 use Rattle.counting.specs.Search.{first, last, some, count}
 use Rattle.slots.specs.Slots.{lo, hi, rankIn, contains, thirdPosition}

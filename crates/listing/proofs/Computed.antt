@@ -3,7 +3,7 @@ use mathlib.Core.Path.{refl}
 use Rattle.counting.specs.Search.{seek, first, last, some, every, count}
 use Rattle.counting.specs.Range.{total, over}
 use Rattle.counting.specs.Lists.{tally}
-use Rattle.counting.specs.Pack.{pre, rowFrom, colFrom, row, col}
+use Rattle.counting.specs.Pack.{pre, row, col}
 use Rattle.counting.specs.Reach.{reach}
 use Rattle.slots.specs.Slots.{lo, hi, position, lower, upper, edgeBetween, slotEdge, edgeRank, contains, firstSlot, secondSlot}
 use Rattle.face.specs.Face as face
@@ -28,7 +28,7 @@ use Rattle.listing.specs.Listing.{orRefused, meshListing, gridListing, b
 use Rattle.listing.specs.Examples.{Examples}
 
 pub computed : Examples
-unfolding seek first last some every count total over tally pre rowFrom colFrom row col reach
+unfolding seek first last some every count total over tally pre row col reach
     lo hi position lower upper edgeBetween slotEdge edgeRank contains firstSlot secondSlot
     face.other face.opposite face.halfAbove face.cornerCount face.residual face.countOn face.others face.kth face.cornerCountAt face.partner face.faceJoin
     it orbit step.face step.land step.step walk.status walk.turn walk.size walk.loopAt

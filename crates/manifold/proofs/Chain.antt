@@ -9,8 +9,8 @@ use borrow.Author.Tests.{eq-eqb, ne-eqb}
 use Rattle.counting.specs.Pick.{pick}
 use Rattle.counting.specs.Range.{after, before}
 use Rattle.counting.proofs.Range.{after-lt, after-ne, after-once, before-lt, after-before}
-use Rattle.manifold.specs.Triangle.{Corner, Side, cornerOf, sideOf, prev, nth}
-use Rattle.manifold.specs.Ring.{Passes, OneRing}
+use Rattle.manifold.specs.Triangle.{Corner, Side, prev}
+use Rattle.manifold.specs.Plain.{cornerOf, sideOf, nth, Passes, OneRing}
 use Rattle.manifold.specs.Polygon.{Polygon, Shape, single, double, fan, shape, corner, centre, segment, spoke, triangle, many, inners, triangles, Simple}
 use Rattle.manifold.specs.Claims.{AtPoint}
 use Rattle.manifold.proofs.Triangle.{cross-middle}

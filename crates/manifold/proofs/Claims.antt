@@ -7,7 +7,8 @@ use Rattle.counting.specs.Pick.{one}
 use Rattle.counting.specs.Range.{total}
 use Rattle.counting.specs.Lists.{tally}
 use Rattle.counting.proofs.Range.{total-zero, total-one}
-use Rattle.manifold.specs.Triangle.{Side, sideOf, hasSide, same, nth}
+use Rattle.manifold.specs.Triangle.{Side, same}
+use Rattle.manifold.specs.Plain.{sideOf, hasSide, nth}
 use Rattle.manifold.specs.Polygon.{Polygon, shape, segment, spoke, inners, triangles, Simple}
 use Rattle.manifold.specs.Complex.{Complex, Lawful, mesh}
 use Rattle.manifold.specs.Claims.{PolygonLaws, Manifold}

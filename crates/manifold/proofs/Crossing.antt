@@ -8,8 +8,8 @@ use native.Mathlib.Omega.{arith}
 use Rattle.counting.specs.Range.{after}
 use Rattle.counting.proofs.Range.{after-lt, before-after}
 use Rattle.walk.specs.Darts.{half}
-use Rattle.manifold.specs.Triangle.{cross, Side, Tri, cornerOf, nth}
-use Rattle.manifold.specs.Ring.{Chain, OneRing}
+use Rattle.manifold.specs.Triangle.{cross, Side}
+use Rattle.manifold.specs.Plain.{Tri, cornerOf, nth, Chain, OneRing}
 use Rattle.manifold.specs.Polygon.{Polygon, corner, segment, triangles}
 use Rattle.manifold.specs.Piece.{mateOf, segmentOf, dart}
 use Rattle.manifold.specs.Complex.{Complex, Joins, Lawful, Shut, Has, Shares, LinkedAt, loopOf, mesh}

@@ -16,8 +16,8 @@ use Rattle.counting.proofs.Search.{every-is}
 use Rattle.walk.specs.Iterate.{it}
 use Rattle.walk.specs.Step.{face, step}
 use Rattle.walk.specs.Walk.{size}
-use Rattle.manifold.specs.Triangle.{cross, seg, tri}
-use Rattle.manifold.specs.Ring.{OneRing}
+use Rattle.manifold.specs.Triangle.{cross, seg}
+use Rattle.manifold.specs.Plain.{tri, OneRing}
 use Rattle.manifold.specs.Polygon.{shape, triangles}
 use Rattle.manifold.specs.Piece.{Local, Piece, slotOf, mateOf}
 use Rattle.manifold.specs.Complex.{Complex, mesh}

@@ -7,8 +7,8 @@ use Rattle.counting.specs.Range.{over, after}
 use Rattle.counting.specs.Lists.{weigh, All}
 use Rattle.counting.proofs.Lists.{all-over, all-at, at-all, stands-over}
 use Rattle.walk.specs.Darts.{half}
-use Rattle.manifold.specs.Triangle.{Corner, cross, Tri, cornerOf, sideOf, next, noTri}
-use Rattle.manifold.specs.Ring.{Chain}
+use Rattle.manifold.specs.Triangle.{Corner, cross, next}
+use Rattle.manifold.specs.Plain.{Tri, cornerOf, sideOf, noTri, Chain}
 use Rattle.manifold.specs.Polygon.{Polygon, shape, corner, triangles, spoke, Simple}
 use Rattle.manifold.specs.Piece.{mateOf, dart}
 use Rattle.manifold.specs.Complex.{Complex, Lawful, Shut, SameEnds, loopOf, mesh}

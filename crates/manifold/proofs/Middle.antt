@@ -2,8 +2,7 @@
 use Prim.Native.Nat.{ℕ, _<_}
 use mathlib.Core.Path.{_≡_}
 use native.Mathlib.Omega.{arith}
-use Rattle.manifold.specs.Triangle.{Tri, nth}
-use Rattle.manifold.specs.Ring.{OneRing}
+use Rattle.manifold.specs.Plain.{Tri, nth, OneRing}
 use Rattle.manifold.specs.Polygon.{shape, fan, centre, triangles}
 use Rattle.manifold.specs.Complex.{Complex, Lawful, Shut, loopOf, mesh}
 use Rattle.manifold.proofs.Sound.{Member, member}

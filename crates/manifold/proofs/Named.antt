@@ -5,8 +5,9 @@ use mathlib.Core.List.{List, map}
 use native.Mathlib.Omega.{arith}
 use lib.ListN.{length, getD, length-map}
 use Rattle.counting.proofs.Lists.{getD-map}
-use Rattle.manifold.specs.Triangle.{Corner, Side, Tri, noTri, cornerOf, sideOf, nth}
-use Rattle.manifold.specs.Ring.{PassesIn, ChainIn, RingIn, Passes, Chain, OneRing}
+use Rattle.manifold.specs.Triangle.{Corner, Side}
+use Rattle.manifold.specs.Plain.{Tri, noTri, cornerOf, sideOf, nth, Passes, Chain, OneRing}
+use Rattle.manifold.specs.Ring.{PassesIn, ChainIn, RingIn}
 
 module _ {T : Type 0} (none : T) (f : T → Tri) where
   abbrev corner : T → ℕ → Corner

@@ -11,7 +11,8 @@ use Rattle.counting.specs.Range.{total, over, after}
 use Rattle.counting.specs.Lists.{weigh}
 use Rattle.counting.proofs.Range.{total-ext, total-add, total-round, after-on, after-last, after-lt, after-ne}
 use Rattle.counting.proofs.Lists.{weigh-over}
-use Rattle.manifold.specs.Triangle.{Corner, cross, middle, Side, Tri, tri, cornerOf, sideOf, next, same, noTri, nth}
+use Rattle.manifold.specs.Triangle.{Corner, cross, middle, Side, next, same}
+use Rattle.manifold.specs.Plain.{Tri, tri, cornerOf, sideOf, noTri, nth}
 use Rattle.manifold.specs.Polygon.{Polygon, Shape, single, double, fan, shape, corner, centre, segment, spoke, triangle, many, inners, triangles, Simple}
 pub use Rattle.manifold.proofs.Shapes.{Fits}
 use Rattle.manifold.proofs.Shapes.{fits as shape-fits, length-triangles, getD-triangles}

@@ -17,8 +17,8 @@ use Rattle.walk.specs.Darts.{half, rev, Loop}
 use Rattle.walk.proofs.Iterate.{it-suc}
 use Rattle.walk.proofs.Curve.{loop-distinct}
 use Rattle.walk.proofs.Step.{rev-first, rev-second, by-parity}
-use Rattle.manifold.specs.Triangle.{Corner, Side, Tri, cornerOf, sideOf, next, prev, same, noTri, nth}
-use Rattle.manifold.specs.Ring.{Passes, OneRing}
+use Rattle.manifold.specs.Triangle.{Corner, Side, next, prev, same}
+use Rattle.manifold.specs.Plain.{Tri, cornerOf, sideOf, noTri, nth, Passes, OneRing}
 use Rattle.manifold.proofs.Triangle.{hits, hits-is}
 use Rattle.manifold.proofs.Sound.{Member, member, Sound, corner-once, forward, backward}
 use Rattle.manifold.proofs.Together.{port, Here, Spreads, Together}

@@ -10,7 +10,8 @@ use Rattle.counting.specs.Range.{total, over}
 use Rattle.counting.specs.Lists.{tally, weigh}
 use Rattle.counting.proofs.Range.{total-zero, total-one, total-ext, total-pos, total-single, total-two, total-le-two}
 use Rattle.counting.proofs.Lists.{weigh-over}
-use Rattle.manifold.specs.Triangle.{Side, seg, inner, same, hasSide}
+use Rattle.manifold.specs.Triangle.{Side, seg, inner, same}
+use Rattle.manifold.specs.Plain.{hasSide}
 use Rattle.manifold.specs.Polygon.{shape, spoke, inners, triangles}
 use Rattle.manifold.specs.Piece.{slotOf, lowerOf, segmentOf, dart, sizeOf}
 use Rattle.manifold.specs.Complex.{Complex, Joins, Lawful, Shut, loopOf, mesh}

@@ -11,8 +11,8 @@ use borrow.Author.Tests.{eqb-true, eqb-false}
 use Rattle.counting.specs.Pick.{one}
 use Rattle.counting.specs.Lists.{tally, weigh}
 use Rattle.counting.proofs.Lists.{Stands, tally-weigh, weigh-ext}
-use Rattle.manifold.specs.Triangle.{Corner, Side, Tri, cornerOf, sideOf, next, prev, hasSide, noTri, nth}
-use Rattle.manifold.specs.Ring.{Passes}
+use Rattle.manifold.specs.Triangle.{Corner, Side, next, prev}
+use Rattle.manifold.specs.Plain.{Tri, cornerOf, sideOf, hasSide, noTri, nth, Passes}
 use Rattle.manifold.proofs.Triangle.{hits, hits-one}
 
 -- v is a triangle of the list

@@ -5,8 +5,8 @@ use mathlib.Core.Logic.{_⊎_, inl, inr}
 use mathlib.Core.Bool.{Bool, true, false}
 use mathlib.Core.List.{List}
 use native.Mathlib.Omega.{arith}
-use Rattle.manifold.specs.Triangle.{Corner, Side, Tri, cornerOf, sideOf, prev, nth}
-use Rattle.manifold.specs.Ring.{Passes, Chain}
+use Rattle.manifold.specs.Triangle.{Corner, Side, prev}
+use Rattle.manifold.specs.Plain.{Tri, cornerOf, sideOf, nth, Passes, Chain}
 use Rattle.manifold.proofs.Sound.{Member, member, turned}
 
 -- the two sides at corner j

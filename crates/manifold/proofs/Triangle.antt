@@ -12,7 +12,8 @@ use Rattle.counting.specs.Pick.{one}
 use Rattle.counting.specs.Lists.{tally, weigh}
 use Rattle.counting.proofs.Bools.{and-left, and-right, clash, not-clash}
 use Rattle.counting.proofs.Lists.{tally-weigh, weigh-mono}
-use Rattle.manifold.specs.Triangle.{Corner, cross, middle, Side, seg, inner, Tri, tri, sideOf, next, alike, same, hasSide}
+use Rattle.manifold.specs.Triangle.{Corner, cross, middle, Side, seg, inner, next, alike, same}
+use Rattle.manifold.specs.Plain.{Tri, tri, sideOf, hasSide}
 
 pub cross-middle : {x c p : ℕ} → cross x ≢ middle c p
 cross-middle e = let z : _≡_ {A = ℕ} 0 1 = cc in omega arith

@@ -5,8 +5,8 @@ use mathlib.Core.Logic.{_⊎_}
 use lib.ListN.{length}
 use Rattle.counting.specs.Range.{over, before}
 use Rattle.counting.specs.Lists.{tally}
-use Rattle.manifold.specs.Triangle.{Side, cross, sideOf, hasSide, nth}
-use Rattle.manifold.specs.Ring.{Chain, OneRing}
+use Rattle.manifold.specs.Triangle.{Side, cross}
+use Rattle.manifold.specs.Plain.{sideOf, hasSide, nth, Chain, OneRing}
 use Rattle.manifold.specs.Polygon.{Polygon, shape, fan, corner, centre, segment, spoke, inners, triangles}
 use Rattle.manifold.specs.Piece.{sizeOf}
 use Rattle.manifold.specs.Complex.{Complex, Shut, Has, LinkedAt, loopOf, mesh}

@@ -6,7 +6,7 @@ use mathlib.Core.Bool.{Bool}
 use mathlib.Core.List.{List}
 use Rattle.counting.specs.Range.{over}
 use Rattle.walk.specs.Darts.{half, rev}
-use Rattle.manifold.specs.Triangle.{Tri}
+use Rattle.manifold.specs.Plain.{Tri}
 use Rattle.manifold.specs.Polygon.{Polygon, triangles}
 use Rattle.manifold.specs.Piece.{Local, Piece, slotOf, mateOf, lowerOf, segmentOf, dart, sizeOf}
 

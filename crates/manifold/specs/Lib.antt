@@ -1,5 +1,6 @@
 pub mod Triangle
 pub mod Ring
+pub mod Plain
 pub mod Shape
 pub mod Polygon
 pub mod Piece

@@ -3,7 +3,8 @@ use Prim.Native.Nat.{ℕ, _<_}
 use mathlib.Core.Path.{_≡_}
 use mathlib.Core.Bool.{Bool}
 use mathlib.Core.List.{List}
-use Rattle.manifold.specs.Triangle.{Corner, cross, middle, Side, seg, inner, Tri, tri}
+use Rattle.manifold.specs.Triangle.{Corner, cross, middle, Side, seg, inner}
+use Rattle.manifold.specs.Plain.{Tri, tri}
 pub use Rattle.manifold.specs.Shape.{Shape, single, double, fan, shapeBy}
 use Rattle.manifold.specs.Shape.{shapeOf, manyOf, innersOf, triangleOf, trianglesOf}
 

@@ -4,8 +4,7 @@ use mathlib.Core.Path.{_≡_}
 use mathlib.Core.Logic.{_⊎_, _≢_}
 use mathlib.Core.List.{List}
 use lib.ListN.{length, getD}
-use Rattle.manifold.specs.Triangle as own
-use Rattle.manifold.specs.Triangle.{Corner, Side, Tri, noTri, prev}
+use Rattle.manifold.specs.Triangle.{Corner, Side, prev}
 
 module _ {T : Type 0} (none : T) (cornerOf : T → ℕ → Corner) (sideOf : T → ℕ → Side) where
   -- the triangle v is entered over σ and left over τ, its two sides that end at the point g; g is one of its corners, once
@@ -37,13 +36,3 @@ module _ {T : Type 0} (none : T) (cornerOf : T → ℕ → Corner) (sideOf : T �
     pub chain : ChainIn mesh g
     pub more : 1 < chain .n
     pub home : chain .side (chain .n) ≡ chain .side 0
-
--- the same of triangles that are no more than their corners and sides
-abbrev pub Passes : Tri → Corner → Side → Side → Type 0
-Passes = PassesIn noTri own.cornerOf own.sideOf
-
-abbrev pub Chain : List Tri → Corner → Type 0
-Chain = ChainIn noTri own.cornerOf own.sideOf
-
-abbrev pub OneRing : List Tri → Corner → Type 0
-OneRing = RingIn noTri own.cornerOf own.sideOf

@@ -15,8 +15,9 @@ use Rattle.face.proofs.Claims.{faceLaws}
 use Rattle.cell.specs.Cell as cell
 use Rattle.cell.specs.Loop.{loopSize, normal}
 use Rattle.cell.proofs.Lay.{lay}
-use Rattle.manifold.specs.Triangle as names
-use Rattle.manifold.specs.Triangle.{Corner, Side, noTri, nth, cross, middle, same}
+use Rattle.manifold.specs.Plain as names
+use Rattle.manifold.specs.Triangle.{Corner, Side, cross, middle, same}
+use Rattle.manifold.specs.Plain.{noTri, nth}
 use Rattle.manifold.specs.Polygon.{shape, triangles}
 use Rattle.manifold.specs.Complex as complex
 use Rattle.manifold.specs.Complex.{Complex, Shut, Has, loopOf}

@@ -9,7 +9,7 @@ use lib.ListN.{length}
 use borrow.Author.Tests.{eqb-true, not-true}
 use Rattle.counting.specs.Search.{seek, first, last, some, every, count}
 use Rattle.counting.specs.Range.{total, over}
-use Rattle.counting.specs.Pack.{pre, rowFrom, colFrom, row, col}
+use Rattle.counting.specs.Pack.{pre, row, col}
 use Rattle.counting.specs.Reach.{reach}
 use Rattle.counting.proofs.Bools.{clash, and-left, and-right, or-cases}
 use Rattle.counting.proofs.Search.{every-is}
@@ -65,7 +65,7 @@ unfolding every some count seek first last total over pre reach lo hi position l
 three-accepted = refl
 
 three-triangles : length (meshTriangles (gridOf threeCells threeEdges threeCounts)) ≡ 6
-unfolding every some count seek first last total over pre rowFrom colFrom row col lo hi position lower upper edgeBetween slotEdge edgeRank contains firstSlot secondSlot
+unfolding every some count seek first last total over pre row col lo hi position lower upper edgeBetween slotEdge edgeRank contains firstSlot secondSlot
     face.other face.opposite face.halfAbove face.cornerCount face.residual face.countOn face.others face.kth face.cornerCountAt face.partner face.faceJoin
     it orbit step.face step.land step.step walk.status walk.turn walk.size walk.loopAt
     cell.ahead cell.base cell.holds cell.edge cell.index cell.joinAt cell.joinedTo cell.mate cell.slot cell.step loop.loopSize loop.dart loop.loopDarts loop.folded loop.normal

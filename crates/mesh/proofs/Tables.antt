@@ -12,7 +12,7 @@ use Rattle.counting.proofs.Lists.{values-ext}
 use Rattle.counting.proofs.Stored.{filled-at}
 use Rattle.counting.proofs.Range.{over-ext}
 use Rattle.counting.proofs.Pack.{pre-le}
-use Rattle.cell.specs.Route.{startLimit}
+use Rattle.cell.specs.Limits.{startLimit}
 use Rattle.grid.specs.Grid.{Grid, mostCells, cellCount, faceName, edgeNumber, countOf, start, mostSlots, mostEdges}
 use Rattle.grid.specs.Accepted.{Sound}
 use Rattle.grid.proofs.Sound.{edge-numbers}

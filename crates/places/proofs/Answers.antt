@@ -9,7 +9,7 @@ use lib.ListN.{length}
 use lib.Ieee.{Float}
 use borrow.Author.Tests.{ltb-false, eqb-true, not-false}
 use Rattle.answer.specs.Answer.{result, isResult}
-use Rattle.answer.specs.Rows.{numbered, since}
+use Rattle.answer.specs.Faults.{numbered, since}
 use Rattle.answer.proofs.Rows.{answer-some, clear-since, result-clear}
 use Rattle.counting.specs.Pick.{pick}
 use Rattle.counting.proofs.Bools.{clash, or-none}

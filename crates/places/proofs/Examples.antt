@@ -4,7 +4,7 @@ use lib.Ieee.{add, sub, mul, div, neg, lt, le, eq, ofInt, ofBits}
 use Rattle.counting.specs.Search.{seek, first, last, some, every, count}
 use Rattle.counting.specs.Range.{total, over}
 use Rattle.counting.specs.Lists.{tally}
-use Rattle.counting.specs.Pack.{pre, rowFrom, colFrom, row, col}
+use Rattle.counting.specs.Pack.{pre, row, col}
 use Rattle.counting.specs.Reach.{reach}
 use Rattle.slots.specs.Slots.{lo, hi, position, lower, upper, edgeBetween, slotEdge, edgeRank, contains, firstSlot, secondSlot}
 use Rattle.face.specs.Face as face
@@ -29,7 +29,7 @@ use Rattle.places.specs.Examples.{examples, asked, listed, ExamplesHold}
 
 pub examples-hold : ExamplesHold
 unfolding add sub mul div neg lt le eq ofInt ofBits
-    seek first last some every count total over tally pre rowFrom colFrom row col reach
+    seek first last some every count total over tally pre row col reach
     lo hi position lower upper edgeBetween slotEdge edgeRank contains firstSlot secondSlot
     face.other face.opposite face.halfAbove face.cornerCount face.residual face.countOn face.others face.kth face.cornerCountAt face.partner face.faceJoin
     it orbit step.face step.land step.step walk.status walk.turn walk.size walk.loopAt

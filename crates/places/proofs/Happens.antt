@@ -13,7 +13,7 @@ use lib.Ieee.{add, sub, mul, div, neg, lt, le, eq, ofInt, ofBits}
 use Rattle.counting.specs.Search.{seek, first, last, some, every, count}
 use Rattle.counting.specs.Range.{total, over}
 use Rattle.counting.specs.Lists.{tally}
-use Rattle.counting.specs.Pack.{pre, rowFrom, colFrom, row, col}
+use Rattle.counting.specs.Pack.{pre, row, col}
 use Rattle.counting.specs.Reach.{reach}
 use Rattle.slots.specs.Slots.{lo, hi, position, lower, upper, edgeBetween, slotEdge, edgeRank, contains, firstSlot, secondSlot}
 use Rattle.face.specs.Face as face
@@ -34,7 +34,8 @@ use Rattle.places.specs.Numbers.{within, properFraction}
 use Rattle.places.specs.Points as points
 use Rattle.places.specs.Rows.{hasNode, highest, badLists, badNumber, badFractionAt, badFraction}
 use Rattle.places.specs.Answer.{placeRows, rowsAnswer, placesAnswer, placed, placesArea}
-use Rattle.places.specs.Exact.{WholeAt, Happens}
+use Rattle.places.specs.Exact.{WholeAt}
+use Rattle.places.specs.Claims.{Happens}
 
 theCells : List ℕ
 theCells = 0 ∷ 1 ∷ 2 ∷ 3 ∷ []
@@ -59,7 +60,7 @@ theArea = nan ∷ nan ∷ nan ∷ []
 
 answered : placesAnswer (gridOf theCells theEdges theCounts) theNodes theFractions (length theArea) ≡ result (1 ∷ [])
 unfolding add sub mul div neg lt le eq ofInt ofBits
-    seek first last some every count total over tally pre rowFrom colFrom row col reach
+    seek first last some every count total over tally pre row col reach
     lo hi position lower upper edgeBetween slotEdge edgeRank contains firstSlot secondSlot
     face.other face.opposite face.halfAbove face.cornerCount face.residual face.countOn face.others face.kth face.cornerCountAt face.partner face.faceJoin
     it orbit step.face step.land step.step walk.status walk.turn walk.size walk.loopAt
@@ -79,7 +80,7 @@ one-crossing = refl
 
 module _ where
   at-first : (t : ℕ) → t < 3 → (u : ℤ) × (v : ℤ) × (k : ℤ) × WholeAt theEdges theCounts theNodes theFractions 0 t u v k
-  unfolding row rowFrom points.edgeOfCrossing theEdges theCounts theNodes theFractions
+  unfolding row points.edgeOfCrossing theEdges theCounts theNodes theFractions
   at-first =
       below-three (λ t. (u : ℤ) × (v : ℤ) × (k : ℤ) × WholeAt theEdges theCounts theNodes theFractions 0 t u v k) (
         pos 3,

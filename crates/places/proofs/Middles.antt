@@ -15,7 +15,8 @@ use Rattle.place.specs.declared.Place.{Place}
 use Rattle.place.specs.Place.{coordinates, placeAt, allNumbers}
 use Rattle.place.proofs.Numbers.{numbers-over, length-numbers, place-kept}
 use Rattle.cell.specs.declared.Cell.{Cell}
-use Rattle.cell.specs.Middles.{fanCount, cellMiddles, numberedBelow, pointsThen, nextPoint, MiddlesRoom}
+use Rattle.cell.specs.Middles.{fanCount, cellMiddles, numberedBelow, pointsThen, nextPoint}
+use Rattle.cell.specs.Centres.{MiddlesRoom}
 use Rattle.cell.proofs.Fans.{length-cell, below-more, cell-ext, middles-stored}
 use Rattle.grid.specs.Grid.{cellCount}
 use Rattle.cell.specs.Table.{tableCell}

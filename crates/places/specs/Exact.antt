@@ -3,15 +3,14 @@ use Prim.Native.Nat.{ℕ, _+_, _*_, _<_}
 use mathlib.Core.Path.{_≡_}
 use mathlib.Core.Bool.{Bool, true, false}
 use mathlib.Core.List.{List}
-use lib.ListN.{length, getD}
+use lib.ListN.{getD}
 use lib.IntN.{ℤ, pos, negℤ, _+ℤ_, _-ℤ_, _*ℤ_}
 use lib.Ieee.{Float, nan}
 use lib.Ieee.Exact.{HasValue}
 use Rattle.answer.specs.Answer.{result}
-use Rattle.grid.specs.Grid.{Grid, low, high, crossings}
+use Rattle.grid.specs.Grid.{low, high, crossings}
 use Rattle.place.specs.Place.{coordinates}
 use Rattle.places.specs.Points.{edgeOfCrossing}
-use Rattle.places.specs.Answer.{placesAnswer}
 
 -- the whole number of this size, negative where the sign is true
 abbrev pub signed : Bool → ℕ → ℤ
@@ -44,13 +43,3 @@ module _ (edges counts : List ℕ) (nodes fractions : List Float) where
       (values : List ℕ) → answer ≡ result values
       → (g t : ℕ) → g < crossings counts → t < coordinates → (u v k : ℤ) → WholeAt edges counts nodes fractions g t u v k
       → Exactly parts (getD after (coordinates * g + t) nan) (pos parts *ℤ u +ℤ k *ℤ (v -ℤ u))
-
--- the case is not empty: an input that is not refused, with a crossing, and whole numbers for each crossing and number
-pub record Happens : Type 0 where
-  pub grid : Grid
-  pub nodes : List Float
-  pub fractions : List Float
-  pub area : List Float
-  pub placed : (values : List ℕ) × (placesAnswer grid nodes fractions (length area) ≡ result values)
-  pub some : 0 < crossings (grid .counts)
-  pub whole : (g t : ℕ) → g < crossings (grid .counts) → t < coordinates → (u : ℤ) × (v : ℤ) × (k : ℤ) × WholeAt (grid .edges) (grid .counts) nodes fractions g t u v k

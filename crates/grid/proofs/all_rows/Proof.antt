@@ -2,7 +2,7 @@
 use mathlib.Core.Path.{_∙_, refl, sym}
 use native.Mathlib.Omega.{arith}
 use borrow.Author.Needs.{needs}
-use Rattle.answer.specs.Rows.{since}
+use Rattle.answer.specs.Faults.{since}
 use Rattle.answer.proofs.Rows.{whole-fault, whole-fine}
 use Rattle.grid.specs.Rows.{rows}
 use Rattle.grid.proofs.Answers.{answer-passes, answer-refuses, answer-start, length-fine, pairs-fine}

@@ -1,6 +1,6 @@
 -- `grid::edge_rows` meets its contract.
 use mathlib.Core.Path.{_∙_, refl}
-use Rattle.answer.specs.Rows.{since}
+use Rattle.answer.specs.Faults.{since}
 use Rattle.grid.specs.Rows.{rows}
 use Rattle.grid.proofs.Answers.{answer-passes, answer-refuses}
 use Rattle.grid.proofs.edge_rows.Statement.{statement}

@@ -7,7 +7,7 @@ use borrow.Author.Needs.{needs}
 use Rattle.counting.proofs.Search.{first-none}
 use Rattle.counting.proofs.Stored.{length-filled}
 use Rattle.grid.specs.Grid.{cellCount, gridOf}
-use Rattle.answer.specs.Rows.{since}
+use Rattle.answer.specs.Faults.{since}
 use Rattle.grid.specs.Rows.{rows, unused}
 use Rattle.grid.specs.Work.{Table, listedAt}
 use Rattle.grid.proofs.Answers.{answer-passes, answer-refuses, where-accepted}

@@ -6,7 +6,7 @@ use lib.ListN.{length}
 use Rattle.counting.specs.Stored.{Summed}
 use Rattle.counting.proofs.Range.{length-over, total-mono}
 use Rattle.counting.proofs.Stored.{summed-none, summed-more, summed-all}
-use Rattle.cell.specs.Route.{mostInCell}
+use Rattle.cell.specs.Limits.{mostInCell}
 use Rattle.cell.specs.Triangles.{cellTriangles}
 use Rattle.cell.specs.Table.{drawnCells, tableCell, tableCrossings, tableTriangles}
 use Rattle.cell.proofs.Taken.{cell-few}

@@ -2,7 +2,7 @@ use Prim.Native.Nat.{_-_, _%_}
 use mathlib.Core.Path.{refl, ap, _∙_}
 use native.Mathlib.Omega.{arith}
 use lib.ListN.{getD}
-use Rattle.cell.specs.Route.{startLimit}
+use Rattle.cell.specs.Limits.{startLimit}
 use Rattle.cell.specs.Table.{side}
 use Rattle.cell.proofs.Values.{Valued, valued-none, valued-more, valued-all}
 use Rattle.cell.proofs.entries.starts_of.Statement.{statement}

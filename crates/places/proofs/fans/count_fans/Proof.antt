@@ -5,7 +5,7 @@ use denote.Ref.{now}
 use Rattle.counting.specs.Range.{total}
 use Rattle.counting.specs.Stored.{Summed}
 use Rattle.counting.proofs.Stored.{summed-none, summed-more}
-use Rattle.cell.specs.Route.{mostInCell}
+use Rattle.cell.specs.Limits.{mostInCell}
 use Rattle.cell.specs.Middles.{fanCount}
 use Rattle.grid.specs.Grid.{cellCount}
 use Rattle.cell.specs.Table.{tableCell}
