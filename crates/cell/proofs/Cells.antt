@@ -41,6 +41,11 @@ counted-all c {p} {t} S e h =
     let f : t ≡ length (cellTriangles c) = S .is ∙ rw e (sym (length-cell c)) in
     (f, omega (arith, cell-few c))
 
+-- a cell without crossings has no triangles
+pub no-triangles : (c : Cell) → crossings (edgesOf c) ≡ 0 → cellTriangles c ≡ []
+unfolding cellTriangles over
+no-triangles c e = rw e
+
 -- Entry t of the lists of f, joined, is entry `left` of those from p on.
 module _ {A : Type 0} (f : ℕ → List A) where
   pub record Seeking (t p left : ℕ) : Type 0 where

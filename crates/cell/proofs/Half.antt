@@ -4,9 +4,7 @@ use mathlib.Core.Path.{_≡_, refl, _∙_}
 use mathlib.Core.Logic.{_≢_}
 use mathlib.Core.Bool.{Bool, true, false, not, _&&_, _||_}
 use native.Mathlib.Omega.{arith}
-use mathlib.Core.List.{List}
 use lib.Dec.{eqb, ltb}
-use lib.ListN.{getD}
 use borrow.Author.Tests.{eqb-true, ltb-true, eq-eqb, ne-eqb, le-ltb}
 use Rattle.counting.specs.Pick.{pick}
 use Rattle.counting.specs.Search.{every}
@@ -86,15 +84,6 @@ unfolding halfOf
 first-half {e} {h} le q =
     let S = first-slot e le in
     (rw q (half-edge (firstSlot e) (edgeRank (firstSlot e) e) (S .place-lt) ∙ S .edge-is), rw q (half-slot (firstSlot e) (edgeRank (firstSlot e) e) (S .place-lt)), omega (arith, q, S .place-lt, S .lt))
-
--- a table of m entries that pass the test is right at each, and its entries are below the bound
-pub entry : (m : ℕ) (f : ℕ → ℕ) (n : ℕ) (l : List ℕ) → every (λ i. eqb (getD l i 0) (f i) && ltb (getD l i 0) n) m ≡ true
-    → (i : ℕ) → i < m → (getD l i 0 ≡ f i) × (getD l i 0 < n)
-entry m f n l e i lt =
-    let t = every-is (λ i. eqb (getD l i 0) (f i) && ltb (getD l i 0) n) m e i lt in (
-      eqb-true (getD l i 0) (f i) (and-left (eqb (getD l i 0) (f i)) (ltb (getD l i 0) n) t),
-      ltb-true (getD l i 0) n (and-right (eqb (getD l i 0) (f i)) (ltb (getD l i 0) n) t),
-    )
 
 -- the edge of a byte that is no half-edge is that of one of the last slot
 pastTest : ℕ → Bool

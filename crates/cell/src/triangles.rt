@@ -74,7 +74,7 @@ fn write(
     i
 }
 
-// The same, with arrays for any cell. What they hold before does not matter, here and below.
+// The same, with arrays for any cell, and at once for a cell without crossings. What the arrays hold before does not matter, here and below.
 pub(crate) fn count_in(
     c: Cell,
     marks: &mut [u16; MOST_IN_CELL],
@@ -85,6 +85,9 @@ pub(crate) fn count_in(
     ensures { λ _. ⌜ Used (crossings (edgesOf c)) (now (marks .entry)) (now (halves .entry)) (now (points .entry)) (now (marks .exit)) (now (halves .exit)) (now (points .exit)) ⌝ }
 {
     let n = crossings_of(c);
+    if n == 0 {
+        return 0;
+    }
     count(c, n, marks, halves, points)
 }
 
@@ -101,6 +104,9 @@ pub(crate) fn write_in(
     ensures { λ _. ⌜ Used (crossings (edgesOf c)) (now (marks .entry)) (now (halves .entry)) (now (points .entry)) (now (marks .exit)) (now (halves .exit)) (now (points .exit)) ⌝ }
 {
     let n = crossings_of(c);
+    if n == 0 {
+        return at;
+    }
     write(c, n, marks, halves, points, area, at)
 }
 
