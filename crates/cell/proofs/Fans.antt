@@ -10,17 +10,19 @@ use lib.Dec.{eqb, leb}
 use lib.ListN.{length, getD}
 use lib.Ieee.{Float}
 use borrow.Author.Tests.{le-leb, leb-true, lt-leb, leb-false, ne-eqb}
+use Rattle.counting.specs.Lists.{gather}
 use Rattle.counting.specs.Pick.{pick, one}
 use Rattle.counting.specs.Range.{over}
 use Rattle.counting.specs.Search.{count}
 use Rattle.counting.specs.Stored.{Stored, storedIn, nextIn}
 use Rattle.counting.proofs.Bools.{and-left, and-right, and-false-right}
+use Rattle.counting.proofs.Lists.{gather-over}
 use Rattle.counting.proofs.Range.{length-over, total-ext, over-ext}
 use Rattle.counting.proofs.Search.{every-is, is-every, every-not, count-total, count-le}
 use Rattle.counting.proofs.Stored.{stored-none, stored-as, stored-more, stored-fits, stored-room, stored-not, stored-nothing}
 use Rattle.place.specs.declared.Place.{Place}
 use Rattle.place.specs.Place.{middle, coordinates, placeAt, numbers, allNumbers}
-use Rattle.place.proofs.Numbers.{numbers-over, length-numbers, point-stored, place-kept}
+use Rattle.place.proofs.Numbers.{length-numbers, point-stored, place-kept}
 use Rattle.place.proofs.Sums.{middle-ext}
 use Rattle.manifold.specs.Shape.{hasMiddle}
 use Rattle.manifold.proofs.Shapes.{middle-fan, fan-middle, shape-else}
@@ -149,13 +151,13 @@ module _ (halves points : List ℕ) (area : List Float) (at r : ℕ) (q : r ≡ 
   is-fan false e = (λ z. refl, λ z. absurd (z (sym e)))
 
   pub put-none : r ≡ 0 → Stored area (coordinates * at) (allNumbers (recordedMiddle halves points area)) area (coordinates * at)
-  unfolding recordedMiddle allNumbers
+  unfolding recordedMiddle gather
   put-none z = rw (is-fan (recordedFan halves) (sym q) .0 z) (stored-none area (coordinates * at))
 
   pub put-one : r ≢ 0 → coordinates * (at + one (recordedFan halves)) ≤ length area → {p : Place} {out : List Float}
       → p ≡ middle (λ k. placeAt area (getD points k 0)) (length points) → out ≡ storedIn area (coordinates * at) (numbers p)
       → Stored area (coordinates * at) (allNumbers (recordedMiddle halves points area)) out (coordinates * (at + 1))
-  unfolding recordedMiddle allNumbers
+  unfolding recordedMiddle gather
   put-one z room {p} e f =
       let b = is-fan (recordedFan halves) (sym q) .1 z in
       rw (b, ← e) (point-stored at p (omega (arith, room, ap one b)) f)
@@ -168,7 +170,7 @@ middleOf c area p = allNumbers (loopMiddle (placeAt area) c p)
 module _ (c : Cell) (area : List Float) (at : ℕ) where
   all-are : allNumbers (cellMiddles (placeAt area) c) ≡ over (middleOf c area) (crossings (edgesOf c)) 0
   unfolding cellMiddles
-  all-are = numbers-over (loopMiddle (placeAt area) c) (crossings (edgesOf c)) 0
+  all-are = gather-over numbers (loopMiddle (placeAt area) c) (crossings (edgesOf c)) 0
 
   all-long : length (allNumbers (cellMiddles (placeAt area) c)) ≡ coordinates * fanCount c
   all-long = length-numbers (cellMiddles (placeAt area) c) ∙ ap (λ k. coordinates * k) (length-cell (placeAt area) c)
@@ -213,7 +215,7 @@ fits c room at = numberedBelow c at && leb (at + fanCount c) (room / coordinates
 
 -- where they have none, nothing is written
 pub middles-not : (c : Cell) (area : List Float) (at : ℕ) → fits c (length area) at ≡ false → (at ≡ nextPoint c area at) × (area ≡ pointsThen c area at)
-unfolding nextPoint pointsThen middlesAt allNumbers
+unfolding nextPoint pointsThen middlesAt gather
 middles-not c area at = go (numberedBelow c at)
   where
     go : (b : Bool) → (b && leb (at + fanCount c) (length area / coordinates)) ≡ false

@@ -1,14 +1,15 @@
 -- The words of triangles, and how they are stored one after the other.
 use Prim.Native.Nat.{ℕ, zero, suc, _+_, _*_, _≤_, _<_}
 use mathlib.Core.Path.{_≡_, refl, sym, ap, _∙_}
-use mathlib.Core.List.{List, [], _∷_, _++_, append-assoc, append-nil}
+use mathlib.Core.List.{List, [], _∷_, _++_, append-nil}
 use native.Mathlib.Omega.{arith}
 use lib.ListN.{length, getD, length-append}
 use lib.Seq.{sets}
+use Rattle.counting.specs.Lists.{gather}
 use Rattle.counting.specs.Range.{over, values}
 use Rattle.counting.specs.Stored.{Stored}
 use Rattle.counting.proofs.Fronts.{over-within}
-use Rattle.counting.proofs.Lists.{length-singles}
+use Rattle.counting.proofs.Lists.{length-singles, gather-over, length-gather}
 use Rattle.counting.proofs.Stored.{stored-none, stored-then, stored-more}
 use Rattle.cell.specs.declared.Side.{Side}
 use Rattle.cell.specs.declared.Side.the-variants.{Segment, Inner}
@@ -47,20 +48,7 @@ length-words t =
     simp length-append (omega (arith, side-two (t .side0), side-two (t .side1), side-two (t .side2)))
 
 pub length-all : (l : List Triangle) → length (allWords l) ≡ wordCount * length l
-unfolding allWords
-length-all [] = refl
-length-all (t ∷ l) = omega (arith, length-append (words t) (allWords l), length-words t, length-all l)
-
-pub all-append : (l m : List Triangle) → allWords (l ++ m) ≡ allWords l ++ allWords m
-unfolding allWords
-all-append [] m = refl
-all-append (t ∷ l) m = ap (λ w. words t ++ w) (all-append l m) ∙ sym (append-assoc (words t) (allWords l) (allWords m))
-
--- list by list
-pub words-over : (f : ℕ → List Triangle) (n p : ℕ) → over (λ p. allWords (f p)) n p ≡ allWords (over f n p)
-unfolding over allWords
-words-over f zero p = refl
-words-over f (suc n) p = ap (λ l. allWords (f p) ++ l) (words-over f n (suc p)) ∙ sym (all-append (f p) (over f n (suc p)))
+length-all l = length-gather words length-words l
 
 -- the words of list k
 abbrev pub wordsOf : (ℕ → List Triangle) → ℕ → List ℕ
@@ -69,10 +57,10 @@ wordsOf f k = allWords (f k)
 -- the words of the first k lists of f are stored in `was` from `at` on, which makes it `is`, and the next goes to i
 module _ (f : ℕ → List Triangle) {was : List ℕ} {at : ℕ} (k : ℕ) {is : List ℕ} {i : ℕ} (S : Stored was at (over (wordsOf f) k 0) is i) where
   long : (n : ℕ) → length (over (wordsOf f) n 0) ≡ wordCount * length (over f n 0)
-  long n = ap length (words-over f n 0) ∙ length-all (over f n 0)
+  long n = ap length (sym (gather-over words f n 0)) ∙ length-all (over f n 0)
 
   pub written-all : (n : ℕ) → k ≡ n → (i ≡ at + wordCount * length (over f n 0)) × (is ≡ sets was at (allWords (over f n 0)))
-  written-all n e = rw (← e) (omega (arith, S .after, long k), S .area ∙ ap (sets was at) (words-over f k 0))
+  written-all n e = rw (← e) (omega (arith, S .after, long k), S .area ∙ ap (sets was at) (sym (gather-over words f k 0)))
 
   pub written-room : (n : ℕ) → k < n → i + wordCount * length (f k) ≤ at + wordCount * length (over f n 0)
   written-room n l = omega (arith, S .after, over-within (wordsOf f) n k l, long n, length-all (f k))
@@ -91,13 +79,13 @@ run-none t was at = record { stored = stored-none was at }
 
 module _ {t : ℕ → Triangle} {k : ℕ} {was : List ℕ} {at : ℕ} {is : List ℕ} {i : ℕ} (R : Run t k was at is i) where
   pub run-place : i ≡ at + wordCount * k
-  run-place = omega (arith, R .stored .after, ap length (words-over (λ k. t k ∷ []) k 0), length-all (values t k), length-singles t k 0)
+  run-place = omega (arith, R .stored .after, ap length (sym (gather-over words (λ k. t k ∷ []) k 0)), length-all (values t k), length-singles t k 0)
 
   pub run-more : {is′ : List ℕ} {v : Triangle} → v ≡ t k → is′ ≡ sets is i (words v) → Run t (k + 1) was at is′ (i + wordCount)
-  unfolding allWords
+  unfolding gather
   run-more e q =
       let S : Stored is i (allWords (t k ∷ [])) _ (i + wordCount) = record { area = q ∙ rw e (ap (sets is i) (sym (append-nil (words (t k))))); after = omega (arith, length-all (t k ∷ [])) } in
       record { stored = stored-more (λ k. allWords (t k ∷ [])) k (R .stored) S }
 
   pub run-all : (n : ℕ) → k ≡ n → is ≡ sets was at (allWords (values t n))
-  run-all n e = rw (← e) (R .stored .area ∙ ap (sets was at) (words-over (λ k. t k ∷ []) k 0))
+  run-all n e = rw (← e) (R .stored .area ∙ ap (sets was at) (sym (gather-over words (λ k. t k ∷ []) k 0)))

@@ -1,10 +1,11 @@
 -- A cell of a grid from the grid's tables, whatever stands in them; and what is made of all cells.
 use Prim.Native.Nat.{ℕ, _+_, _*_, _%_, min}
-use mathlib.Core.List.{List}
+use mathlib.Core.List.{List, []}
 use lib.ListN.{getD}
 use Rattle.counting.specs.Range.{over, values}
-use Rattle.counting.specs.Pack.{pre}
 use Rattle.cell.specs.declared.Cell.{Cell}
+use Rattle.cell.specs.Cell.{crossings}
+use Rattle.cell.specs.Of.{edgesOf}
 use Rattle.cell.specs.Limits.{mostInCell, startLimit}
 use Rattle.cell.specs.declared.Triangle.{Triangle}
 use Rattle.cell.specs.Triangles.{cellTriangles}
@@ -34,9 +35,9 @@ tableCell cells counts names sides starts c = record {
   index = c % mostCells;
 }
 
--- how many crossings it has
+-- how many crossings it has, whatever its nodes, names and starts
 unfoldable pub tableCrossings : (counts sides : List ℕ) → ℕ → ℕ
-tableCrossings counts sides c = pre (λ k. getD (tableCounts counts sides (c % mostCells)) k 0) 6
+tableCrossings counts sides c = crossings (edgesOf (tableCell [] counts [] sides [] c))
 
 -- so many cells are drawn: a grid has no more
 abbrev pub drawnCells : List ℕ → ℕ

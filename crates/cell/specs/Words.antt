@@ -1,6 +1,7 @@
 -- A triangle as eleven words (01): cell, p0, three corners, three sides of two words.
 use Prim.Native.Nat.{ℕ}
 use mathlib.Core.List.{List, [], _∷_, _++_}
+use Rattle.counting.specs.Lists.{gather}
 use Rattle.cell.specs.declared.Corner.{Corner}
 use Rattle.cell.specs.declared.Corner.the-variants.{Crossing, Middle}
 use Rattle.cell.specs.declared.Side.{Side}
@@ -32,7 +33,5 @@ unfolding cornerWords
 words t = (t .cell ∷ t .p0 ∷ []) ++ (cornerWords t ++ (sideWords (t .side0) ++ (sideWords (t .side1) ++ sideWords (t .side2))))
 
 -- the words of several triangles, in order
-unfoldable pub allWords : List Triangle → List ℕ
-unfolding words
-allWords [] = []
-allWords (t ∷ l) = words t ++ allWords l
+abbrev pub allWords : List Triangle → List ℕ
+allWords l = gather words l

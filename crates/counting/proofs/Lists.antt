@@ -3,8 +3,8 @@ use Prim.Native.Nat.{ℕ, zero, suc, _+_, _*_, _≤_, _<_}
 use mathlib.Core.Path.{_≡_, refl, sym, ap, ap₂, _∙_, subst}
 use mathlib.Core.Logic.{⊎-elim}
 use mathlib.Core.Bool.{Bool}
-use mathlib.Core.List.{List, [], _∷_, _++_, map, map-append}
-use native.Mathlib.Nat.{zero-add, add-assoc, mul-zero, mul-one, mul-add, not-suc-le-zero, eq-or-lt-of-le}
+use mathlib.Core.List.{List, [], _∷_, _++_, map, map-append, append-assoc}
+use native.Mathlib.Nat.{zero-add, add-comm, add-assoc, mul-zero, mul-one, mul-suc, mul-add, not-suc-le-zero, eq-or-lt-of-le}
 use native.Mathlib.Omega.{arith}
 use lib.Dec.{eqb}
 use lib.ListN.{length, getD, length-append, List·getD-append}
@@ -12,7 +12,7 @@ use lib.Seq.{getD-append-add}
 use borrow.Author.Tests.{eq-eqb, ne-eqb}
 use Rattle.counting.specs.Pick.{one}
 use Rattle.counting.specs.Range.{total, over, values}
-use Rattle.counting.specs.Lists.{weigh, tally, All}
+use Rattle.counting.specs.Lists.{weigh, tally, All, gather}
 use Rattle.counting.proofs.Range.{total-zero, total-single, total-add, total-le, total-shift, total-ext, over-ext}
 
 module _ {A : Type 0} (h : A → ℕ) where
@@ -169,3 +169,20 @@ module _ {A B : Type 0} (f : A → B) where
   unfolding tally
   tally-map p [] = refl
   tally-map p (x ∷ l) = ap (λ n. one (p (f x)) + n) (tally-map p l)
+
+module _ {A B : Type 0} (f : A → List B) where
+  pub gather-append : (l m : List A) → gather f (l ++ m) ≡ gather f l ++ gather f m
+  unfolding gather
+  gather-append [] m = refl
+  gather-append (x ∷ l) m = ap (λ w. f x ++ w) (gather-append l m) ∙ sym (append-assoc (f x) (gather f l) (gather f m))
+
+  -- list by list
+  pub gather-over : (g : ℕ → List A) (n p : ℕ) → gather f (over g n p) ≡ over (λ k. gather f (g k)) n p
+  unfolding over gather
+  gather-over g zero p = refl
+  gather-over g (suc n) p = gather-append (g p) (over g n (suc p)) ∙ ap (λ w. gather f (g p) ++ w) (gather-over g n (suc p))
+
+  pub length-gather : {k : ℕ} → ((x : A) → length (f x) ≡ k) → (l : List A) → length (gather f l) ≡ k * length l
+  unfolding gather
+  length-gather e [] = omega arith
+  length-gather {k} e (x ∷ l) = length-append (f x) (gather f l) ∙ ap₂ _+_ (e x) (length-gather e l) ∙ add-comm k (k * length l) ∙ sym (mul-suc k (length l))

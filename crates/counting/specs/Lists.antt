@@ -1,7 +1,7 @@
--- Sums and tests over the entries of a list.
+-- Sums, tests and joined lists over the entries of a list.
 use Prim.Native.Nat.{ℕ, _+_}
 use mathlib.Core.Bool.{Bool}
-use mathlib.Core.List.{List, [], _∷_}
+use mathlib.Core.List.{List, [], _∷_, _++_}
 use Rattle.counting.specs.Pick.{one}
 
 module _ {A : Type 0} where
@@ -19,3 +19,8 @@ module _ {A : Type 0} where
   unfoldable pub All : (A → Type 0) → List A → Type 0
   All P [] = Unit {0}
   All P (x ∷ l) = P x × All P l
+
+-- the lists of f for the entries, joined
+unfoldable pub gather : {A B : Type 0} → (A → List B) → List A → List B
+gather f [] = []
+gather f (x ∷ l) = f x ++ gather f l

@@ -2,16 +2,17 @@
 use Prim.Native.Nat.{ℕ, zero, suc, _+_, _*_, _≤_, _<_}
 use mathlib.Core.Path.{_≡_, refl, sym, ap, _∙_}
 use mathlib.Core.Logic.{inl}
-use mathlib.Core.List.{List, [], _∷_, _++_, append-assoc}
+use mathlib.Core.List.{List, [], _∷_, _++_}
 use native.Mathlib.Omega.{arith}
 use native.Mathlib.Nat.{not-suc-le-zero}
 use lib.ListN.{length, getD, set, drop, List·getD-append}
 use lib.Seq.{sets, getD-append-add}
 use lib.Ieee.{Float, nan}
-use Rattle.counting.specs.Range.{over}
+use Rattle.counting.specs.Lists.{gather}
 use Rattle.counting.specs.Stored.{Stored, storedIn}
 use Rattle.counting.proofs.Below.{below-three}
 use Rattle.counting.proofs.Fronts.{sets-two, sets-front}
+use Rattle.counting.proofs.Lists.{gather-append, length-gather}
 use Rattle.counting.proofs.Stored.{stored-as, stored-then, stored-room}
 use Rattle.counting.proofs.Stores.{getD-sets-out}
 use Rattle.place.specs.declared.Place.{Place}
@@ -23,24 +24,12 @@ sets-three {A} l n a b c =
     let e : n + 2 ≡ suc (suc n) = omega arith in
     ap (λ (x : List A). set x (n + 2) c) (sets-two l n a b) ∙ ap (λ k. set (sets l n (a ∷ b ∷ [])) k c) e
 
-pub numbers-append : (l m : List Place) → allNumbers (l ++ m) ≡ allNumbers l ++ allNumbers m
-unfolding allNumbers
-numbers-append [] m = refl
-numbers-append (p ∷ l) m = ap (λ (x : List Float). numbers p ++ x) (numbers-append l m) ∙ sym (append-assoc (numbers p) (allNumbers l) (allNumbers m))
-
-pub numbers-over : (f : ℕ → List Place) (n p : ℕ) → allNumbers (over f n p) ≡ over (λ k. allNumbers (f k)) n p
-unfolding over allNumbers
-numbers-over f zero p = refl
-numbers-over f (suc n) p = numbers-append (f p) (over f n (suc p)) ∙ ap (λ (x : List Float). allNumbers (f p) ++ x) (numbers-over f n (suc p))
-
 pub length-numbers : (l : List Place) → length (allNumbers l) ≡ coordinates * length l
-unfolding allNumbers
-length-numbers [] = refl
-length-numbers (p ∷ l) = omega (arith, length-numbers l)
+length-numbers l = length-gather numbers (λ p. refl) l
 
 -- number t of point g
 pub numbers-at : (l : List Place) (g t : ℕ) (p : Place) → g < length l → t < coordinates → getD (allNumbers l) (coordinates * g + t) nan ≡ getD (numbers (getD l g p)) t nan
-unfolding allNumbers
+unfolding gather
 numbers-at [] g t p h k = absurd (not-suc-le-zero h)
 numbers-at (q ∷ l) zero t p h k = let e : coordinates * 0 + t ≡ t = omega arith in ap (λ n. getD (numbers q ++ allNumbers l) n nan) e ∙ List·getD-append (numbers q) (allNumbers l) nan t k
 numbers-at (q ∷ l) (suc g) t p h k =
@@ -67,11 +56,11 @@ front-place ps l g p r h =
 -- points stored after others, and one point
 pub points-then : {was mid is : List Float} {at m n : ℕ} (ps qs : List Place) → Stored was at (allNumbers ps) mid m → Stored mid m (allNumbers qs) is n
     → Stored was at (allNumbers (ps ++ qs)) is n
-points-then ps qs S T = stored-as (stored-then S T) (sym (numbers-append ps qs)) refl
+points-then ps qs S T = stored-as (stored-then S T) (sym (gather-append numbers ps qs)) refl
 
 pub point-stored : {was is : List Float} (k : ℕ) (p : Place) → coordinates * k + coordinates ≤ length was → is ≡ storedIn was (coordinates * k) (numbers p)
     → Stored was (coordinates * k) (allNumbers (p ∷ [])) is (coordinates * (k + 1))
-unfolding allNumbers
+unfolding gather
 point-stored {was} k p h e = record { area = e ∙ stored-room was (coordinates * k) (numbers p) h .area; after = omega arith }
 
 -- the points before what is stored stay

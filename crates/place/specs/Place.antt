@@ -1,9 +1,10 @@
 -- A point of space (01): a struct of three 64-bit floats, and what is done with it. Each operation on floats rounds once.
 use Prim.Native.Nat.{ℕ, zero, suc, _+_, _-_, _*_}
-use mathlib.Core.List.{List, [], _∷_, _++_}
+use mathlib.Core.List.{List, [], _∷_}
 use lib.ListN.{getD}
 use lib.IntN.{pos}
 use lib.Ieee.{Float, nan, binary64, add, sub, mul, div, ofInt}
+use Rattle.counting.specs.Lists.{gather}
 use Rattle.place.specs.declared.Place.{Place}
 
 -- the whole number n as a float
@@ -47,6 +48,5 @@ placeAt l k = record {
 abbrev pub numbers : Place → List Float
 numbers p = p .x ∷ p .y ∷ p .z ∷ []
 
-unfoldable pub allNumbers : List Place → List Float
-allNumbers [] = []
-allNumbers (p ∷ l) = numbers p ++ allNumbers l
+abbrev pub allNumbers : List Place → List Float
+allNumbers l = gather numbers l

@@ -7,6 +7,7 @@ use native.Mathlib.Numerals.{add-one}
 use native.Mathlib.Omega.{arith}
 use lib.ListN.{length, getD}
 use lib.Ieee.{Float, nan}
+use Rattle.counting.specs.Lists.{gather}
 use Rattle.counting.specs.Range.{over, values}
 use Rattle.counting.specs.Stored.{Stored, storedIn}
 use Rattle.counting.proofs.Range.{over-snoc, over-ext}
@@ -22,7 +23,7 @@ use Rattle.places.specs.Work.{onEdge}
 
 module _ (u v : Place) (fractions : List Float) (g : ℕ) where
   pub edge-none : (l : List Float) → Stored l (coordinates * g) (allNumbers (onEdge u v fractions 0 g)) l (coordinates * (g + 0))
-  unfolding onEdge over allNumbers
+  unfolding onEdge over gather
   edge-none l = stored-as (stored-none l (coordinates * g)) refl (omega arith)
 
   -- one crossing more
@@ -54,7 +55,7 @@ module _ (edges counts : List ℕ) (nodes fractions : List Float) where
       rw r)
 
   pub all-none : (l : List Float) → Stored l 0 (allNumbers (values placeOf 0)) l (coordinates * 0)
-  unfolding over allNumbers
+  unfolding over gather
   all-none l = stored-none l 0
 
   pub all-more : {was mid out : List Float} {m k : ℕ} (e g n : ℕ) {u v : Place} → Stored was 0 (allNumbers (values placeOf g)) mid m

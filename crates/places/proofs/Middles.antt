@@ -9,11 +9,12 @@ use lib.Seq.{sets}
 use lib.Ieee.{Float}
 use Rattle.counting.specs.Range.{over}
 use Rattle.counting.specs.Stored.{Stored}
+use Rattle.counting.proofs.Lists.{gather-over}
 use Rattle.counting.proofs.Range.{length-over, total-ext, over-ext}
 use Rattle.counting.proofs.Stored.{stored-as, stored-more, stored-fits}
 use Rattle.place.specs.declared.Place.{Place}
-use Rattle.place.specs.Place.{coordinates, placeAt, allNumbers}
-use Rattle.place.proofs.Numbers.{numbers-over, length-numbers, place-kept}
+use Rattle.place.specs.Place.{coordinates, placeAt, numbers, allNumbers}
+use Rattle.place.proofs.Numbers.{length-numbers, place-kept}
 use Rattle.cell.specs.declared.Cell.{Cell}
 use Rattle.cell.specs.Middles.{fanCount, cellMiddles, numberedBelow, pointsThen, nextPoint}
 use Rattle.cell.specs.Centres.{MiddlesRoom}
@@ -46,7 +47,7 @@ module _ (cells counts names sides starts : List ℕ) where
   module _ (area : List Float) where
     all-are : allNumbers (tableMiddles cells counts names sides starts (placeAt area)) ≡ over (numbersAt area) (cellCount cells) 0
     unfolding tableMiddles
-    all-are = numbers-over (λ c. cellMiddles (placeAt area) (cellAt c)) (cellCount cells) 0
+    all-are = gather-over numbers (λ c. cellMiddles (placeAt area) (cellAt c)) (cellCount cells) 0
 
     all-long : length (over (numbersAt area) (cellCount cells) 0) ≡ coordinates * tableFans cells counts names sides starts
     all-long = omega (arith, ap length all-are, length-numbers (tableMiddles cells counts names sides starts (placeAt area)), length-table (placeAt area))

@@ -1,14 +1,14 @@
 use borrow.Author.Needs.{needs}
 use native.Mathlib.Omega.{arith}
 use mathlib.Core.Path.{refl, sym, _∙_}
-use Rattle.cell.specs.Words.{allWords}
+use Rattle.counting.specs.Lists.{gather}
 use Rattle.cell.proofs.Cells.{no-triangles}
 use Rattle.cell.proofs.Using.{used-none}
 use Rattle.cell.proofs.triangles.write_in.Statement.{statement}
 use Rattle.cell.proofs.triangles.write_in.Tie as tie
 
 returns : tie.Need-returns
-unfolding allWords
+unfolding gather
 returns c =
     let e = no-triangles (c .before .before .before .args .c) (sym (c .before .crossings-of .ensures .0) ∙ c .if1 .taken) in
     (rw e (omega arith, refl), used-none _ _ _ _)
