@@ -2,7 +2,7 @@
 use mathlib.Core.Path.{refl}
 use Rattle.counting.specs.Search.{seek, first, last, some, every, count}
 use Rattle.counting.specs.Range.{total, over}
-use Rattle.counting.specs.Lists.{tally}
+use Rattle.counting.specs.Lists.{tally, gather}
 use Rattle.counting.specs.Pack.{pre, row, col}
 use Rattle.counting.specs.Reach.{reach}
 use Rattle.slots.specs.Slots.{lo, hi, position, lower, upper, edgeBetween, slotEdge, edgeRank, contains, firstSlot, secondSlot}
@@ -16,7 +16,7 @@ use Rattle.grid.specs.Grid.{faceNode, sameFace, hasFace, faceName, joins, isEdg
 use Rattle.answer.specs.Rows.{orRefuse, answerOf}
 use Rattle.grid.specs.Rows.{badLength, badPairs, badCell, sameCell, repeats, crowded, isAfter, badEdge, unlisted, unused, linked, reached, split, tooMany, rows, gridAnswer}
 use Rattle.cell.specs.Triangles as triangle
-use Rattle.cell.specs.Words.{cornerWords, words, allWords}
+use Rattle.cell.specs.Words.{cornerWords, words}
 use Rattle.mesh.specs.Mesh.{gridCell, meshTriangles, meshWords}
 use Rattle.mesh.specs.Room.{roomAnswer}
 use Rattle.mesh.specs.Answer.{meshAnswer}
@@ -37,7 +37,7 @@ unfolding seek first last some every count total over tally pre row col reach
     faceNode sameFace hasFace faceName joins isEdge hasEdge edgeNumber start
     badLength badPairs badCell sameCell repeats crowded isAfter badEdge unlisted unused linked reached split tooMany rows orRefuse answerOf gridAnswer
     triangle.numberOf triangle.segmentOf triangle.point triangle.segment triangle.triangle triangle.loopTriangles triangle.cellTriangles
-    cornerWords words allWords gridCell meshTriangles meshWords roomAnswer meshAnswer
+    cornerWords words gather gridCell meshTriangles meshWords roomAnswer meshAnswer
     bytes.lengthOf bytes.kindAt bytes.nextRecord bytes.isRecord bytes.bodyStart bytes.bodySize bytes.body
     bundle.isOf bundle.start bundle.run bundle.cells bundle.edgesFrom bundle.edges bundle.stop bundle.bundleAnswer bundle.nodesOf bundle.endsOf bundle.countsOf
     cellBytes edgeBytes bundleBytes

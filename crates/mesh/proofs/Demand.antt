@@ -86,7 +86,7 @@ module _ (G : Grid) where
       ap (tally (names.hasSide σ)) (sym mesh-named) ∙ tally-map named (names.hasSide σ) (meshTriangles G)
       ∙ ap (λ f. tally f (meshTriangles G)) (λ i t. has-named σ t i)
 
-  ring-of : (g : Corner) → Rattle.manifold.specs.Ring.OneRing (complex.mesh (gridComplex G)) g → OneRing G g
+  ring-of : (g : Corner) → names.OneRing (complex.mesh (gridComplex G)) g → OneRing G g
   ring-of g r =
       subst (λ f. RingIn none f sideAt (meshTriangles G) g) (λ k t i. corner-named t i k)
       (subst (λ f. RingIn none (λ t i. names.cornerOf (named t) i) f (meshTriangles G) g) (λ k t i. side-named t i k)

@@ -2,7 +2,7 @@
 use mathlib.Core.Path.{refl}
 use Rattle.counting.specs.Search.{seek, first, last, some, every, count, rise}
 use Rattle.counting.specs.Range.{total, over}
-use Rattle.counting.specs.Lists.{tally}
+use Rattle.counting.specs.Lists.{tally, gather}
 use Rattle.counting.specs.Pack.{pre, row, col}
 use Rattle.counting.specs.Reach.{reach}
 use Rattle.slots.specs.Slots.{lo, hi, position, lower, upper, edgeBetween, slotEdge, edgeRank, contains, firstSlot, secondSlot}
@@ -17,7 +17,7 @@ use Rattle.grid.specs.Grid.{faceNode, sameFace, hasFace, faceName, joins, isEdg
 use Rattle.answer.specs.Rows as rows
 use Rattle.grid.specs.Rows.{badLength, badPairs, badCell, sameCell, repeats, crowded, isAfter, badEdge, unlisted, unused, linked, reached, split, tooMany, rows, gridAnswer}
 use Rattle.cell.specs.Triangles as triangle
-use Rattle.cell.specs.Words.{cornerWords, words, allWords}
+use Rattle.cell.specs.Words.{cornerWords, words}
 use Rattle.cell.specs.Nth.{nthAnswer}
 use Rattle.counting.specs.Stored.{storedIn}
 use Rattle.mesh.specs.Mesh.{gridCell, meshTriangles, meshWords}
@@ -36,6 +36,6 @@ unfolding seek first last some every count rise faceAnswer segments unjoinedCoun
     faceNode sameFace hasFace faceName joins isEdge hasEdge edgeNumber start
     badLength badPairs badCell sameCell repeats crowded isAfter badEdge unlisted unused linked reached split tooMany rows rows.orRefuse rows.answerOf gridAnswer
     triangle.numberOf triangle.segmentOf triangle.point triangle.segment triangle.triangle triangle.loopTriangles triangle.cellTriangles
-    cornerWords words allWords nthAnswer gridCell meshTriangles meshWords roomAnswer storedIn askedLoop meshAnswer meshArea loopsAnswer
+    cornerWords words gather nthAnswer gridCell meshTriangles meshWords roomAnswer storedIn askedLoop meshAnswer meshArea loopsAnswer
     faceAnswers startsOf gridLoops loopPoints gridPoints sidesOf different tallies computed examples
 examples-hold = refl

@@ -3,7 +3,7 @@ use mathlib.Core.Path.{refl}
 use lib.Ieee.{add, sub, mul, div, neg, lt, le, eq, ofInt, ofBits}
 use Rattle.counting.specs.Search.{seek, first, last, some, every, count}
 use Rattle.counting.specs.Range.{total, over}
-use Rattle.counting.specs.Lists.{tally}
+use Rattle.counting.specs.Lists.{tally, gather}
 use Rattle.counting.specs.Pack.{pre, row, col}
 use Rattle.counting.specs.Reach.{reach}
 use Rattle.slots.specs.Slots.{lo, hi, position, lower, upper, edgeBetween, slotEdge, edgeRank, contains, firstSlot, secondSlot}
@@ -20,7 +20,7 @@ use Rattle.manifold.specs.Shape.{hasMiddle}
 use Rattle.cell.specs.Triangles.{numberOf}
 use Rattle.cell.specs.Middles.{isFan, loopPoint, loopMiddle, cellMiddles}
 use Rattle.mesh.specs.Mesh.{gridCell}
-use Rattle.place.specs.Place.{sumTo, middle, allNumbers}
+use Rattle.place.specs.Place.{sumTo, middle}
 use Rattle.places.specs.Numbers.{within, properFraction}
 use Rattle.places.specs.Points as points
 use Rattle.places.specs.Rows.{hasNode, highest, badLists, badNumber, badFractionAt, badFraction}
@@ -38,6 +38,6 @@ unfolding add sub mul div neg lt le eq ofInt ofBits
     faceNode sameFace hasFace faceName joins isEdge hasEdge edgeNumber start
     badLength badPairs badCell sameCell repeats crowded isAfter badEdge unlisted unused linked reached split tooMany rows orRefuse answerOf gridAnswer
     hasMiddle numberOf isFan loopPoint loopMiddle cellMiddles gridCell
-    sumTo middle allNumbers within properFraction points.edgeOfCrossing points.indexOfCrossing points.crossingPlace points.middles points.points
+    sumTo middle gather within properFraction points.edgeOfCrossing points.indexOfCrossing points.crossingPlace points.middles points.points
     hasNode highest badLists badNumber badFractionAt badFraction placeRows rowsAnswer placesAnswer placed placesArea examples asked listed
 examples-hold = refl
