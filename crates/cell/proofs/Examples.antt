@@ -1,6 +1,6 @@
 -- The examples, by computation.
 use mathlib.Core.Path.{refl}
-use Rattle.counting.specs.Range.{total, over}
+use Rattle.counting.specs.Range.{total, over, kept}
 use Rattle.counting.specs.Search.{seek, first, last}
 use Rattle.counting.specs.Lists.{tally}
 use Rattle.counting.specs.Pack.{pre}
@@ -17,7 +17,7 @@ use Rattle.cell.specs.Round.{foldsIn, crossesIn}
 use Rattle.cell.specs.Examples.{ExamplesHold, alone, among, examples, loopsOf, pointsOf, allPoints, computed, listed, parts, partsListed}
 
 pub examples-hold : ExamplesHold
-unfolding total over seek first last tally pre
+unfolding total over kept seek first last tally pre
     slots.lo slots.hi slots.position slots.lower slots.upper slots.edgeBetween slots.slotEdge slots.edgeRank slots.contains slots.firstSlot slots.secondSlot
     face.other face.opposite face.halfAbove face.cornerCount face.residual face.countOn face.others face.kth face.cornerCountAt face.partner face.faceJoin
     it orbit steps.face steps.land steps.step walk.status walk.turn walk.size walk.loopAt

@@ -48,7 +48,6 @@ module _ (w : Edges) where
 
   -- the face call's answer for crossing x on slot s
   unfoldable pub joinAt : ℕ → ℕ → List ℕ
-  unfolding faceJoin
   joinAt s x = faceJoin (w .count (slotEdge s 0)) (w .count (slotEdge s 1)) (w .count (slotEdge s 2)) (edgeRank s (edge x)) (index x)
 
   -- the crossing that an answer on slot s leads to, by its case, edge and index; the number of crossings where it is not joined
@@ -57,7 +56,6 @@ module _ (w : Edges) where
 
   -- the mate of crossing x on slot s: the other end of its segment there
   unfoldable pub mate : ℕ → ℕ → ℕ
-  unfolding joinAt joinedTo
   mate s x = joinedTo s (joinAt s x)
 
   -- the two slots of a crossing, the face whose third node is lower first
@@ -69,9 +67,7 @@ module _ (w : Edges) where
 
   -- the slot by which a dart leaves, and the dart after it; no dart where its curve ends
   unfoldable pub slot : ℕ → ℕ
-  unfolding mate
   slot = walk.face crossings first second mate
 
   unfoldable pub step : ℕ → ℕ
-  unfolding mate
   step = walk.step crossings first second mate

@@ -15,31 +15,25 @@ use Rattle.cell.specs.Cell.{Edges, crossings, edge, index, step}
 module _ (w : Edges) where
   -- the length (01) of the loop from p: its number of segments; 0 where there is no loop whose least crossing is p
   unfoldable pub loopSize : ℕ → ℕ
-  unfolding step
   loopSize p = walk.size (crossings w) (step w) p
 
   -- its dart k, and all its darts
   unfoldable pub dart : ℕ → ℕ → ℕ
-  unfolding step
   dart p k = it (step w) k (2 * p)
 
   unfoldable pub loopDarts : ℕ → List ℕ
-  unfolding step
   loopDarts p = walk.loopAt (crossings w) (step w) p
 
   -- the segment along dart d has both ends on one edge
   unfoldable pub folded : ℕ → Bool
-  unfolding step
   folded d = eqb (edge w (d / 2)) (edge w (step w d / 2))
 
   -- normal (01): no segment has both ends on one edge
   unfoldable pub normal : ℕ → Bool
-  unfolding folded loopDarts
   normal p = eqb (tally folded (loopDarts p)) 0
 
   -- the number of the loop's own crossings on edge k, mod 2
   unfoldable pub parity : ℕ → ℕ → ℕ
-  unfolding loopDarts
   parity p k = tally (λ d. eqb (edge w (d / 2)) k) (loopDarts p) % 2
 
 -- The type (01) in numbers, from the parities a, b, c on the edges from the cell's lowest node to its nodes at positions 1, 2, 3: their sum, and
@@ -51,7 +45,6 @@ module _ (v : List ℕ) (a b c : ℕ) where
 
   -- 0 contractible; 2 diagonal, the lowest node paired with the node of parity 0; 3 corner at the lowest node; 1 corner at the node of parity 1
   unfoldable pub typeBy : List ℕ
-  unfolding nodeWith
   typeBy =
       pick (eqb (a + b + c) 0) (0 ∷ [])
       (pick (eqb (a + b + c) 2) (2 ∷ nodeWith 0 ∷ [])
@@ -66,21 +59,17 @@ module _ (w : Edges) where
 
   -- the least crossings of the loops, in order
   unfoldable pub leasts : List ℕ
-  unfolding loopSize kept
   leasts = kept (λ p. ltb 0 (loopSize w p)) (crossings w) 0
 
   module _ (v : List ℕ) where
     unfoldable pub typeOf : ℕ → List ℕ
-    unfolding typeBy parity
     typeOf p = typeBy v (parity w p 0) (parity w p 1) (parity w p 2)
 
     -- what is answered of the loop from p: p0, n, normal or not, and its type; and of no loop
     unfoldable pub answerFrom : List ℕ → List ℕ
-    unfolding inGrid loopSize normal typeOf
     answerFrom [] = result []
     answerFrom (p ∷ l) = result (inGrid p ∷ loopSize w p ∷ one (normal w p) ∷ typeOf p)
 
     -- loop k of the cell (01); none if there are k or fewer
     unfoldable pub loopAnswer : ℕ → List ℕ
-    unfolding leasts answerFrom
     loopAnswer k = answerFrom (drop k leasts)

@@ -27,5 +27,4 @@ firstWords [] = result []
 firstWords (t ∷ l) = result (words t)
 
 unfoldable pub nthAnswer : List Triangle → ℕ → List ℕ
-unfolding words
 nthAnswer l t = firstWords (drop t l)

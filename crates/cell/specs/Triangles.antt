@@ -30,22 +30,18 @@ triangle cell p0 x y z r s t = record {
 module _ (c : Cell) where
   -- the crossing number of the cell's crossing x
   unfoldable pub numberOf : ℕ → ℕ
-  unfolding inGrid
   numberOf x = inGrid (edgesOf c) x
 
   -- the segment along a dart, from its crossing to its mate: named by its face's name and its lower crossing number
   unfoldable pub segmentOf : ℕ → Side
-  unfolding numberOf slot mate
   segmentOf d = Segment (getD (c .names) (slot (edgesOf c) d) 0) (min (numberOf (d / 2)) (numberOf (mate (edgesOf c) (slot (edgesOf c) d) (d / 2))))
 
   -- the loop from the crossing p: its point k, and its segment g(k), from point k to the next
   module _ (p : ℕ) where
     unfoldable pub point : ℕ → Corner
-    unfolding numberOf dart
     point k = Crossing (numberOf (dart (edgesOf c) p k / 2))
 
     unfoldable pub segment : ℕ → Side
-    unfolding segmentOf dart
     segment k = segmentOf (dart (edgesOf c) p k)
 
     -- the triangles of the loop: none where there is no loop from p
@@ -56,5 +52,4 @@ module _ (c : Cell) where
 
   -- the triangles of the cell, loop by loop
   unfoldable pub cellTriangles : List Triangle
-  unfolding loopTriangles over
   cellTriangles = over loopTriangles (crossings (edgesOf c)) 0

@@ -29,7 +29,6 @@ unfoldable pub cornerWords : Triangle → List ℕ
 cornerWords t = cornerWord (t .corner0) ∷ cornerWord (t .corner1) ∷ cornerWord (t .corner2) ∷ []
 
 unfoldable pub words : Triangle → List ℕ
-unfolding cornerWords
 words t = (t .cell ∷ t .p0 ∷ []) ++ (cornerWords t ++ (sideWords (t .side0) ++ (sideWords (t .side1) ++ sideWords (t .side2))))
 
 -- the words of several triangles, in order

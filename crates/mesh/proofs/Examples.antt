@@ -1,7 +1,7 @@
 -- The examples, by computation.
 use mathlib.Core.Path.{refl}
 use Rattle.counting.specs.Search.{seek, first, last, some, every, count, rise}
-use Rattle.counting.specs.Range.{total, over}
+use Rattle.counting.specs.Range.{total, over, kept}
 use Rattle.counting.specs.Lists.{tally, gather}
 use Rattle.counting.specs.Pack.{pre, row, col}
 use Rattle.counting.specs.Reach.{reach}
@@ -27,7 +27,7 @@ use Rattle.mesh.specs.Answer.{meshAnswer, meshArea, loopsAnswer}
 use Rattle.mesh.specs.Examples.{faceAnswers, startsOf, gridLoops, loopPoints, gridPoints, sidesOf, different, tallies, computed, examples, ExamplesHold}
 
 pub examples-hold : ExamplesHold
-unfolding seek first last some every count rise faceAnswer segments unjoinedCount total over tally pre row col reach
+unfolding seek first last some every count rise faceAnswer segments unjoinedCount total over kept tally pre row col reach
     lo hi position lower upper edgeBetween slotEdge edgeRank contains firstSlot secondSlot
     face.other face.opposite face.halfAbove face.cornerCount face.residual face.countOn face.others face.kth face.cornerCountAt face.partner face.faceJoin
     it orbit step.face step.land step.step walk.status walk.turn walk.size walk.loopAt
