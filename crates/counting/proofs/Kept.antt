@@ -13,22 +13,23 @@ use Rattle.counting.proofs.Bools.{clash}
 use Rattle.counting.proofs.Range.{total-shift}
 
 module _ (t : ℕ → Bool) where
-  pub record Kept (n p q : ℕ) : Type 0 where
+  -- q is one of the n numbers from p on, and passes
+  pub record Passing (n p q : ℕ) : Type 0 where
     pub low : p ≤ q
     pub high : q < p + n
     pub passes : t q ≡ true
 
-  later : {n p q : ℕ} → Kept n (suc p) q → Kept (suc n) p q
+  later : {n p q : ℕ} → Passing n (suc p) q → Passing (suc n) p q
   later K = record { low = omega (arith, K .low); high = omega (arith, K .high); passes = K .passes }
 
   -- each of them is one, in rising order, and every one is there
-  pub kept-is : (n p i : ℕ) → i < length (kept t n p) → Kept n p (getD (kept t n p) i 0)
+  pub kept-is : (n p i : ℕ) → i < length (kept t n p) → Passing n p (getD (kept t n p) i 0)
   unfolding over kept
   kept-is zero p i h = absurd (not-suc-le-zero h)
   kept-is (suc n) p i h = go (kept-is n (suc p)) (t p) refl i h
     where
-      go : ((i : ℕ) → i < length (kept t n (suc p)) → Kept n (suc p) (getD (kept t n (suc p)) i 0)) → (b : Bool) → t p ≡ b → (i : ℕ)
-          → i < length (pick b (p ∷ []) [] ++ kept t n (suc p)) → Kept (suc n) p (getD (pick b (p ∷ []) [] ++ kept t n (suc p)) i 0)
+      go : ((i : ℕ) → i < length (kept t n (suc p)) → Passing n (suc p) (getD (kept t n (suc p)) i 0)) → (b : Bool) → t p ≡ b → (i : ℕ)
+          → i < length (pick b (p ∷ []) [] ++ kept t n (suc p)) → Passing (suc n) p (getD (pick b (p ∷ []) [] ++ kept t n (suc p)) i 0)
       go ih false e i l = later (ih i l)
       go ih true e zero l = record { low = omega arith; high = omega arith; passes = e }
       go ih true e (suc i) l = later (ih i (omega arith))
