@@ -1,5 +1,5 @@
 -- The fans of a cell and their middles: from the records of its loops, and as they are written.
-use Prim.Native.Nat.{ℕ, _+_, _-_, _*_, _/_, _≤_, _<_}
+use Prim.Native.Nat.{ℕ, zero, suc, _+_, _-_, _*_, _/_, _≤_, _<_}
 use mathlib.Core.Path.{_≡_, refl, sym, ap, ap₂, _∙_}
 use mathlib.Core.Logic.{_≢_}
 use mathlib.Core.Bool.{Bool, true, false, _&&_}
@@ -19,7 +19,7 @@ use Rattle.counting.proofs.Bools.{and-left, and-right, and-false-right}
 use Rattle.counting.proofs.Lists.{gather-over}
 use Rattle.counting.proofs.Range.{length-over, total-ext, over-ext}
 use Rattle.counting.proofs.Search.{every-is, is-every, every-not, count-total, count-le}
-use Rattle.counting.proofs.Stored.{stored-none, stored-as, stored-more, stored-fits, stored-room, stored-not, stored-nothing}
+use Rattle.counting.proofs.Stored.{stored-none, stored-as, stored-more, stored-fits, stored-room, stored-not, stored-nothing, stored-same}
 use Rattle.place.specs.declared.Place.{Place}
 use Rattle.place.specs.Place.{middle, coordinates, placeAt, numbers, allNumbers}
 use Rattle.place.proofs.Numbers.{length-numbers, point-stored, place-kept}
@@ -34,6 +34,7 @@ use Rattle.cell.specs.Round.{foldsIn}
 use Rattle.cell.specs.Limits.{mostInCell}
 use Rattle.cell.specs.Triangles.{numberOf}
 use Rattle.cell.specs.Middles.{isFan, loopPoint, fanCount, loopMiddle, cellMiddles, numberedBelow, middlesAt, pointsThen, nextPoint}
+use Rattle.cell.specs.Table.{tableCell, middlesWritten}
 use Rattle.cell.specs.Centres.{recordedFan, recordedMiddle, MiddlesRoom}
 use Rattle.cell.proofs.Lay.{lay}
 use Rattle.cell.proofs.Loops.{from-point, normal-is, dart-live}
@@ -144,6 +145,11 @@ pub fans-all : (c : Cell) {p t : ℕ} → t ≡ count (isFan c) p → p ≡ cros
 unfolding fanCount
 fans-all c {p} e q few = (e ∙ ap (count (isFan c)) q, omega (arith, e, q, count-le (isFan c) p))
 
+-- a cell without crossings has no fans
+pub no-fans : (c : Cell) → crossings (edgesOf c) ≡ 0 → 0 ≡ fanCount c
+unfolding fanCount count
+no-fans c e = rw e
+
 -- a recorded loop's middle is written, or there is none
 module _ (halves points : List ℕ) (area : List Float) (at r : ℕ) (q : r ≡ one (recordedFan halves)) where
   is-fan : (b : Bool) → one b ≡ r → (r ≡ 0 → b ≡ false) × (r ≢ 0 → b ≡ true)
@@ -228,6 +234,17 @@ middles-not c area at = go (numberedBelow c at)
         (omega (arith, leb-false (at + fanCount c) (length area / coordinates) e, all-long c area at)) in
         (omega (arith, n .1), n .0)
 
+-- nor are there any in a cell without crossings
+pub no-middles : (c : Cell) (area : List Float) (at : ℕ) → crossings (edgesOf c) ≡ 0 → (at ≡ nextPoint c area at) × (area ≡ pointsThen c area at)
+unfolding nextPoint pointsThen middlesAt cellMiddles over gather
+no-middles c area at e = rw e (go (numberedBelow c at))
+  where
+    go : (b : Bool)
+        → (at ≡ nextIn area (coordinates * at) (allNumbers (pick b [] [])) / coordinates)
+        × (area ≡ storedIn area (coordinates * at) (allNumbers (pick b [] [])))
+    go false = let n = stored-nothing area (coordinates * at) in (omega (arith, n .1), n .0)
+    go true = let n = stored-nothing area (coordinates * at) in (omega (arith, n .1), n .0)
+
 pub fits-room : (c : Cell) (area : List Float) (at : ℕ) → fits c (length area) at ≡ true → MiddlesRoom c area at
 fits-room c area at e =
     let t = leb (at + fanCount c) (length area / coordinates) in
@@ -248,3 +265,19 @@ module _ (c : Cell) (room at : ℕ) where
     pub fits-most : {n : ℕ} → n ≡ crossings (edgesOf c) → n ≤ room / coordinates - at → true ≡ fits c room at
     unfolding fanCount
     fits-most e l = rw b (sym (le-leb (at + fanCount c) (room / coordinates) (omega (arith, count-le (isFan c) (crossings (edgesOf c))))))
+
+-- the middles of all cells, cell by cell
+module _ (cells counts names sides starts : List ℕ) (area : List Float) (at n : ℕ) {mid : List Float} {i : ℕ}
+    (e : (mid, i) ≡ middlesWritten cells counts names sides starts area at n) where
+  pub written-more : {v : Cell} → v ≡ tableCell cells counts names sides starts n → {r : ℕ} {out : List Float}
+      → (r ≡ nextPoint v mid i) × (out ≡ pointsThen v mid i) → (out, r) ≡ middlesWritten cells counts names sides starts area at (n + 1)
+  unfolding middlesWritten
+  written-more {v} q {r} {out} p = rw (add-one n, ← e, ← q, ← p .0, ← p .1)
+
+  pub written-long : length mid ≡ length area
+  unfolding middlesWritten pointsThen
+  written-long = ap (λ (w : List Float × ℕ). length (w .0)) e ∙ long n
+    where
+      long : (n : ℕ) → length (middlesWritten cells counts names sides starts area at n .0) ≡ length area
+      long zero = refl
+      long (suc n) = stored-same _ _ _ ∙ long n

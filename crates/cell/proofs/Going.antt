@@ -12,9 +12,9 @@ use Rattle.cell.specs.Loop.{loopSize}
 use Rattle.cell.specs.Of.{edgesOf}
 use Rattle.cell.specs.Route.{Routed}
 use Rattle.cell.specs.Limits.{mostInCell}
-use Rattle.cell.specs.Scratch.{unmarked, halvesFrom, pointsFrom, Cleared}
+use Rattle.cell.specs.Scratch.{unmarked, halvesFrom, pointsFrom}
 use Rattle.cell.specs.Walked.{Marked, Long, Used, Lent, Walked}
-use Rattle.cell.proofs.Using.{kept-then, filled-same, kept-filled, used-cleared, used-none, used-then}
+use Rattle.cell.proofs.Using.{kept-then, filled-same, kept-filled, used-none, used-then}
 use Rattle.cell.proofs.Walking.{cleared}
 use Rattle.cell.proofs.Loops.{size-le, length-halves, length-points}
 
@@ -71,14 +71,6 @@ module _ {c : Cell} {n : ℕ} {routes ms₀ hs₀ ps₀ ms hs ps : List ℕ} {p 
     halves-kept = G .used .halves-kept;
     points-kept = G .used .points-kept;
   }
-
-  -- the arrays are cleared to ms′, hs′, ps′
-  pub going-cleared : {was ms′ hs′ ps′ : List ℕ} → n ≤ length was → ms₀ ≡ filled (λ i. unmarked) n was
-      → ms′ ≡ filled (λ i. unmarked) n ms → hs′ ≡ filled (λ i. 0) n hs → ps′ ≡ filled (λ i. 0) n ps → Cleared c was hs₀ ps₀ ms′ hs′ ps′
-  going-cleared {was} h q a b d =
-      used-cleared
-      (record { all = G .all; few = G .few; long = record { marks-long = h; halves-long = G .long .halves-long; points-long = G .long .points-long } })
-      (going-used h q) a b d
 
   -- the next walk is from p
   module _ (l : p < n) where

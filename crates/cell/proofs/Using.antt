@@ -10,11 +10,7 @@ use Rattle.counting.specs.Stored.{filled}
 use Rattle.counting.proofs.Fronts.{sets-front}
 use Rattle.counting.proofs.Lists.{length-singles}
 use Rattle.counting.proofs.Stored.{filled-none, filled-more, length-filled}
-use Rattle.cell.specs.declared.Cell.{Cell}
-use Rattle.cell.specs.Cell.{crossings}
-use Rattle.cell.specs.Of.{edgesOf}
-use Rattle.cell.specs.Scratch.{unmarked, Cleared}
-use Rattle.cell.specs.Walked.{Kept, Room, Used}
+use Rattle.cell.specs.Walked.{Kept, Used}
 
 pub kept-none : (n : ℕ) (l : List ℕ) → Kept n l l
 kept-none n l = record { long = refl; back = refl }
@@ -37,9 +33,6 @@ module _ (f : ℕ → ℕ) (n : ℕ) where
   pub kept-filled : (l : List ℕ) → n ≤ length l → Kept n l (filled f n l)
   kept-filled l h = record { long = length-filled f n l; back = ap (drop n) (parts l h) ∙ drop-at (values f n) (drop n l) n (length-singles f n 0) }
 
-  pub filled-kept : {l m : List ℕ} → Kept n l m → n ≤ length l → filled f n m ≡ filled f n l
-  filled-kept {l} {m} K h = parts m (omega (arith, K .long)) ∙ ap (λ r. values f n ++ r) (K .back) ∙ sym (parts l h)
-
 module _ {n : ℕ} {ms hs ps ms′ hs′ ps′ : List ℕ} (U : Used n ms hs ps ms′ hs′ ps′) where
   pub used-then : {ms″ hs″ ps″ : List ℕ} → Used n ms′ hs′ ps′ ms″ hs″ ps″ → Used n ms hs ps ms″ hs″ ps″
   used-then T = record {
@@ -50,30 +43,6 @@ module _ {n : ℕ} {ms hs ps ms′ hs′ ps′ : List ℕ} (U : Used n ms hs ps 
 
 pub used-none : (n : ℕ) (ms hs ps : List ℕ) → Used n ms hs ps ms hs ps
 used-none n ms hs ps = record { marks-kept = kept-none n ms; halves-kept = kept-none n hs; points-kept = kept-none n ps }
-
-module _ {c : Cell} {n : ℕ} {ms hs ps ms′ hs′ ps′ : List ℕ} (R : Room c n ms hs ps) where
-  -- arrays that were used are cleared
-  pub used-cleared : Used n ms hs ps ms′ hs′ ps′ → {ms″ hs″ ps″ : List ℕ}
-      → ms″ ≡ filled (λ i. unmarked) n ms′ → hs″ ≡ filled (λ i. 0) n hs′ → ps″ ≡ filled (λ i. 0) n ps′ → Cleared c ms hs ps ms″ hs″ ps″
-  used-cleared U a b d = record {
-    marks-are = rw (← R .all) (a ∙ filled-kept (λ i. unmarked) n (U .marks-kept) (R .long .marks-long));
-    halves-are = rw (← R .all) (b ∙ filled-kept (λ i. 0) n (U .halves-kept) (R .long .halves-long));
-    points-are = rw (← R .all) (d ∙ filled-kept (λ i. 0) n (U .points-kept) (R .long .points-long));
-  }
-
-  -- and are used, where they are cleared
-  pub cleared-used : Cleared c ms hs ps ms′ hs′ ps′ → Used n ms hs ps ms′ hs′ ps′
-  cleared-used C = rw (R .all) (record {
-    marks-kept = rw (C .marks-are) (kept-filled (λ i. unmarked) (crossings (edgesOf c)) ms (omega (arith, R .all, R .long .marks-long)));
-    halves-kept = rw (C .halves-are) (kept-filled (λ i. 0) (crossings (edgesOf c)) hs (omega (arith, R .all, R .long .halves-long)));
-    points-kept = rw (C .points-are) (kept-filled (λ i. 0) (crossings (edgesOf c)) ps (omega (arith, R .all, R .long .points-long)));
-  })
-
--- clearing changes no length
-pub cleared-same : {c : Cell} {ms hs ps ms′ hs′ ps′ : List ℕ} → Cleared c ms hs ps ms′ hs′ ps′ → (length ms′ ≡ length ms) × (length hs′ ≡ length hs) × (length ps′ ≡ length ps)
-cleared-same {c} {ms} {hs} {ps} C =
-    let n = crossings (edgesOf c) in
-    (filled-same (λ i. unmarked) n ms (C .marks-are), filled-same (λ i. 0) n hs (C .halves-are), filled-same (λ i. 0) n ps (C .points-are))
 
 -- v in the first i places of a list, on the way to n
 pub record Filling (v n : ℕ) (l : List ℕ) (i : ℕ) (m : List ℕ) : Type 0 where

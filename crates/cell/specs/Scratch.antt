@@ -1,10 +1,7 @@
--- What a walk records of a loop of a cell, and how a call that walks leaves the arrays that it is lent.
+-- Only contracts of parts cite this file. What a walk records of a loop of a cell.
 use Prim.Native.Nat.{ℕ, _/_}
-use mathlib.Core.Path.{_≡_}
 use mathlib.Core.List.{List, map}
-use Rattle.counting.specs.Stored.{filled}
 use Rattle.cell.specs.declared.Cell.{Cell}
-use Rattle.cell.specs.Cell.{crossings}
 use Rattle.cell.specs.Loop.{loopDarts, inGrid}
 use Rattle.cell.specs.Of.{edgesOf}
 use Rattle.cell.specs.Half.{halfEdge}
@@ -20,9 +17,3 @@ module _ (c : Cell) where
 
   unfoldable pub pointsFrom : ℕ → List ℕ
   pointsFrom p = map (λ d. inGrid (edgesOf c) (d / 2)) (loopDarts (edgesOf c) p)
-
-  -- The lent arrays before a call, and after it. As far as the cell's crossings reach, each has one value in all places; beyond, it is kept.
-  pub record Cleared (marks halves points marks′ halves′ points′ : List ℕ) : Type 0 where
-    pub marks-are : marks′ ≡ filled (λ i. unmarked) (crossings (edgesOf c)) marks
-    pub halves-are : halves′ ≡ filled (λ i. 0) (crossings (edgesOf c)) halves
-    pub points-are : points′ ≡ filled (λ i. 0) (crossings (edgesOf c)) points

@@ -1,14 +1,16 @@
 -- A cell of a grid from the grid's tables, whatever stands in them; and what is made of all cells.
-use Prim.Native.Nat.{ℕ, _+_, _*_, _%_, min}
+use Prim.Native.Nat.{ℕ, zero, suc, _+_, _*_, _%_, min}
 use mathlib.Core.List.{List, []}
 use lib.ListN.{getD}
-use Rattle.counting.specs.Range.{over, values}
+use lib.Ieee.{Float}
+use Rattle.counting.specs.Range.{total, over, values}
 use Rattle.cell.specs.declared.Cell.{Cell}
 use Rattle.cell.specs.Cell.{crossings}
 use Rattle.cell.specs.Of.{edgesOf}
 use Rattle.cell.specs.Limits.{mostInCell, startLimit}
 use Rattle.cell.specs.declared.Triangle.{Triangle}
 use Rattle.cell.specs.Triangles.{cellTriangles}
+use Rattle.cell.specs.Middles.{fanCount, pointsThen, nextPoint}
 use Rattle.grid.specs.Grid.{mostCells, cellCount}
 
 -- the edge k of cell c
@@ -50,3 +52,16 @@ tableTriangles cells counts names sides starts = over (λ c. cellTriangles (tabl
 -- the most triangles that a grid can have: no cell has more than crossings
 abbrev pub mostTriangles : ℕ
 mostTriangles = mostInCell * mostCells
+
+module _ (cells counts names sides starts : List ℕ) where
+  -- how many fans all cells have
+  unfoldable pub tableFans : ℕ
+  tableFans = total (λ c. fanCount (tableCell cells counts names sides starts c)) (drawnCells cells) 0
+
+  -- the area and the next point, once the middles of the first n cells are written from point `at` on
+  unfoldable pub middlesWritten : (area : List Float) (at n : ℕ) → List Float × ℕ
+  middlesWritten area at zero = (area, at)
+  middlesWritten area at (suc n) =
+      let v = tableCell cells counts names sides starts n in
+      let w = middlesWritten area at n in
+      (pointsThen v (w .0) (w .1), nextPoint v (w .0) (w .1))

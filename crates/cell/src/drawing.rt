@@ -18,7 +18,7 @@ use grid::MOST_EDGES;
 use grid::MOST_SLOTS;
 
 // How many cells are drawn.
-fn drawn(cells: &[u16]) -> usize
+pub(crate) fn drawn(cells: &[u16]) -> usize
     ensures { λ r. ⌜ r ≡ drawnCells (now (cells .entry)) ⌝ }
 {
     let n = cells.len() / 4;

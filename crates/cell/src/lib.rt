@@ -7,6 +7,7 @@ ghost use Rattle.cell.specs.Answer.{loopNumbers};
 mod answers;
 mod drawing;
 mod entries;
+mod fanning;
 mod make;
 mod middles;
 mod routes;
@@ -19,8 +20,8 @@ mod write;
 
 pub use drawing::draw;
 pub use entries::cell_at;
-pub use middles::fans_in;
-pub use middles::middles_in;
+pub use fanning::count_fans;
+pub use fanning::write_middles;
 pub use routes::crossings_of;
 pub use triangles::triangle_at;
 pub use triangles::triangle_count;

@@ -7,8 +7,9 @@ ghost use lib.ListN.{length};
 ghost use Rattle.counting.specs.Pick.{one};
 ghost use Rattle.counting.specs.Stored.{Stored};
 ghost use Rattle.place.specs.Place.{coordinates, placeAt, allNumbers};
+ghost use Rattle.cell.specs.Cell.{crossings};
+ghost use Rattle.cell.specs.Of.{edgesOf};
 ghost use Rattle.cell.specs.Limits.{mostInCell};
-ghost use Rattle.cell.specs.Scratch.{Cleared};
 ghost use Rattle.cell.specs.Walked.{Room, Used};
 ghost use Rattle.cell.specs.Middles.{fanCount, cellMiddles, numberedBelow, pointsThen, nextPoint};
 ghost use Rattle.cell.specs.Centres.{recordedFan, recordedMiddle, MiddlesRoom};
@@ -20,7 +21,6 @@ use super::routes::end_of;
 use super::routes::routes_of;
 use super::walks::clear;
 use super::walks::walk;
-use super::walks::wipe;
 
 // 1 where a recorded loop is drawn as a fan, else 0.
 fn fan_of(halves: &[u8]) -> usize
@@ -56,7 +56,7 @@ fn put_middle(halves: &[u8], points: &[u32], area: &mut [f64], at: usize) -> usi
 fn count(c: Cell, n: usize, marks: &mut [u16], halves: &mut [u8], points: &mut [u32]) -> usize
     requires { ⌜ Room c n (now marks) (now halves) (now points) ⌝ }
     ensures { λ r. ⌜ (r ≡ fanCount c) × (r ≤ mostInCell) ⌝ }
-    ensures { λ _. ⌜ Cleared c (now (marks .entry)) (now (halves .entry)) (now (points .entry)) (now (marks .exit)) (now (halves .exit)) (now (points .exit)) ⌝ }
+    ensures { λ _. ⌜ Used n (now (marks .entry)) (now (halves .entry)) (now (points .entry)) (now (marks .exit)) (now (halves .exit)) (now (points .exit)) ⌝ }
 {
     let routes = routes_of(c);
     clear(marks, n);
@@ -67,8 +67,6 @@ fn count(c: Cell, n: usize, marks: &mut [u16], halves: &mut [u8], points: &mut [
         t += fan_of(&halves[0..m]);
         p += 1;
     }
-    clear(marks, n);
-    wipe(halves, points, n);
     t
 }
 
@@ -85,7 +83,7 @@ fn write_all(
     requires { ⌜ Room c n (now marks) (now halves) (now points) ⌝ }
     requires { ⌜ MiddlesRoom c (now area) at ⌝ }
     ensures { λ r. ⌜ Stored (now (area .entry)) (coordinates * at) (allNumbers (cellMiddles (placeAt (now (area .entry))) c)) (now (area .exit)) (coordinates * r) ⌝ }
-    ensures { λ _. ⌜ Cleared c (now (marks .entry)) (now (halves .entry)) (now (points .entry)) (now (marks .exit)) (now (halves .exit)) (now (points .exit)) ⌝ }
+    ensures { λ _. ⌜ Used n (now (marks .entry)) (now (halves .entry)) (now (points .entry)) (now (marks .exit)) (now (halves .exit)) (now (points .exit)) ⌝ }
 {
     let routes = routes_of(c);
     clear(marks, n);
@@ -96,23 +94,23 @@ fn write_all(
         i = put_middle(&halves[0..m], &points[0..m], area, i);
         p += 1;
     }
-    clear(marks, n);
-    wipe(halves, points, n);
     i
 }
 
-// How many fans the cell has. The walks use the lent arrays as far as the cell's crossings reach, and clear them at the end. What these hold
-// before does not matter.
-pub fn fans_in(
+// How many fans the cell has, and at once for a cell without crossings. What the arrays hold before does not matter, here and below.
+pub(crate) fn fans_in(
     c: Cell,
     marks: &mut [u16; MOST_IN_CELL],
     halves: &mut [u8; MOST_IN_CELL],
     points: &mut [u32; MOST_IN_CELL],
 ) -> usize
     ensures { λ r. ⌜ (r ≡ fanCount c) × (r ≤ mostInCell) ⌝ }
-    ensures { λ _. ⌜ Cleared c (now (marks .entry)) (now (halves .entry)) (now (points .entry)) (now (marks .exit)) (now (halves .exit)) (now (points .exit)) ⌝ }
+    ensures { λ _. ⌜ Used (crossings (edgesOf c)) (now (marks .entry)) (now (halves .entry)) (now (points .entry)) (now (marks .exit)) (now (halves .exit)) (now (points .exit)) ⌝ }
 {
     let n = crossings_of(c);
+    if n == 0 {
+        return 0;
+    }
     count(c, n, marks, halves, points)
 }
 
@@ -160,8 +158,8 @@ fn has_room(
 }
 
 // Writes the middles of the cell's fans from point `at` of the area on and answers the next point. Where they have no room there, or the place of a
-// crossing of the cell does not stand before that point, it writes nothing and answers `at`. The lent arrays are as above.
-pub fn middles_in(
+// crossing of the cell does not stand before that point, it writes nothing and answers `at`.
+pub(crate) fn middles_in(
     c: Cell,
     marks: &mut [u16; MOST_IN_CELL],
     halves: &mut [u8; MOST_IN_CELL],
@@ -170,13 +168,14 @@ pub fn middles_in(
     at: usize,
 ) -> usize
     ensures { λ r. ⌜ (r ≡ nextPoint c (now (area .entry)) at) × (now (area .exit) ≡ pointsThen c (now (area .entry)) at) ⌝ }
-    ensures { λ _. ⌜ Cleared c (now (marks .entry)) (now (halves .entry)) (now (points .entry)) (now (marks .exit)) (now (halves .exit)) (now (points .exit)) ⌝ }
+    ensures { λ _. ⌜ Used (crossings (edgesOf c)) (now (marks .entry)) (now (halves .entry)) (now (points .entry)) (now (marks .exit)) (now (halves .exit)) (now (points .exit)) ⌝ }
 {
     let n = crossings_of(c);
+    if n == 0 {
+        return at;
+    }
     if has_room(c, n, marks, halves, points, area.len(), at) {
         return write_all(c, n, marks, halves, points, area, at);
     }
-    clear(marks, n);
-    wipe(halves, points, n);
     at
 }

@@ -77,20 +77,6 @@ pub(crate) fn clear(marks: &mut [u16], n: usize)
     }
 }
 
-// Sets the first n places of a record to 0.
-pub(crate) fn wipe(halves: &mut [u8], points: &mut [u32], n: usize)
-    requires { ⌜ (n ≤ length (now halves)) × (n ≤ length (now points)) ⌝ }
-    ensures { λ _. ⌜ now (halves .exit) ≡ filled (λ i. 0) n (now (halves .entry)) ⌝ }
-    ensures { λ _. ⌜ now (points .exit) ≡ filled (λ i. 0) n (now (points .entry)) ⌝ }
-{
-    let mut i: usize = 0;
-    while i < n {
-        halves[i] = 0;
-        points[i] = 0;
-        i += 1;
-    }
-}
-
 // Records the loop whose least crossing is p, and answers its length; 0 where there is no such loop. What the walk comes to is marked with p; it
 // stops where an earlier walk has been. The cell has n crossings.
 pub(crate) fn walk(

@@ -78,6 +78,14 @@ module _ {A : Type 0} where
       go true = (refl, sym (add-zero at))
       go false = (refl, refl)
 
+  pub stored-same : (was : List A) (at : ℕ) (vs : List A) → length (storedIn was at vs) ≡ length was
+  unfolding storedIn
+  stored-same was at vs = go (leb (at + length vs) (length was))
+    where
+      go : (b : Bool) → length (pick b (sets was at vs) was) ≡ length was
+      go true = length-sets was at vs
+      go false = refl
+
   -- one value more, after k of them from the place a on
   pub sets-more : (f : ℕ → A) (a k : ℕ) (l m : List A) (i : ℕ) (x : A) → m ≡ sets l a (values f k) → i ≡ a + k → x ≡ f k → set m i x ≡ sets l a (values f (k + 1))
   sets-more f a k l m i x e p q =

@@ -25,7 +25,7 @@ use Rattle.grid.proofs.Accepts.{acceptance-yields}
 use Rattle.grid.proofs.Claims.{accepted-is}
 use Rattle.grid.proofs.Filled.{refused-keeps, crossings-accept}
 use Rattle.mesh.specs.Mesh.{gridCell}
-use Rattle.cell.specs.Table.{tableCell}
+use Rattle.cell.specs.Table.{tableCell, drawnCells}
 use Rattle.mesh.proofs.Tables.{Tabled, tabled, cell-is}
 use Rattle.place.specs.declared.Place.{Place}
 use Rattle.place.specs.Place.{allNumbers}
@@ -56,7 +56,6 @@ module _ {G : Grid} {names sides starts : List ℕ} (T : Tabled G names sides st
   ready n e = record {
     judged = record { fours = T .sound .fours; some = T .sound .some-cell; nodes = numbers-small G (T .sound); all = e };
     few = omega (arith, e, T .sound .few-crossings);
-    few-cells = T .sound .few-cells;
     pairs = T .sound .pairs;
     below = λ c l. rw (cell-is T c l, e) (grid-below c l);
   }
@@ -64,10 +63,11 @@ module _ {G : Grid} {names sides starts : List ℕ} (T : Tabled G names sides st
   pub points-are : (nodes fractions : List Float) → tablePoints (G .cells) (G .counts) names sides starts (G .edges) nodes fractions ≡ points G nodes fractions
   unfolding tablePoints tableMiddles points middles
   points-are nodes fractions =
+      let all : drawnCells (G .cells) ≡ cellCount (G .cells) = omega (arith, T .sound .few-cells) in
       ap (λ (x : List Place). values (crossingPlace (G .edges) (G .counts) nodes fractions) (crossings (G .counts)) ++ x)
-      (over-ext (λ c. cellMiddles (crossingPlace (G .edges) (G .counts) nodes fractions) (tableCell (G .cells) (G .counts) names sides starts c))
+      (rw all (over-ext (λ c. cellMiddles (crossingPlace (G .edges) (G .counts) nodes fractions) (tableCell (G .cells) (G .counts) names sides starts c))
       (λ c. cellMiddles (crossingPlace (G .edges) (G .counts) nodes fractions) (gridCell G c)) (cellCount (G .cells)) 0
-      (λ c a b. ap (cellMiddles (crossingPlace (G .edges) (G .counts) nodes fractions)) (cell-is T c (omega arith))))
+      (λ c a b. ap (cellMiddles (crossingPlace (G .edges) (G .counts) nodes fractions)) (cell-is T c (omega arith)))))
 
 module _ (G : Grid) (nodes fractions : List Float) where
   -- the two equations give the exact case

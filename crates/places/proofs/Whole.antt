@@ -1,6 +1,7 @@
 -- All points of a grid from its tables: judged, and written.
 use Prim.Native.Nat.{ℕ, _+_, _*_, _≤_, _<_}
 use mathlib.Core.Path.{_≡_, refl, sym, ap, _∙_}
+use mathlib.Core.Bool.{true}
 use mathlib.Core.List.{List, [], _∷_}
 use native.Mathlib.Nat.{zero-add}
 use native.Mathlib.Omega.{arith}
@@ -17,9 +18,11 @@ use Rattle.places.specs.declared.Placed.the-variants.{Points, Refused}
 use Rattle.place.specs.Place.{coordinates, placeAt, allNumbers}
 use Rattle.places.specs.Points.{crossingPlace}
 use Rattle.places.specs.Answer.{placesNumbers, rowsAnswer}
-use Rattle.places.specs.Work.{Placeable, tableFans, tableMiddles, TableRoom, tablePoints, Ready, PointsIn}
+use Rattle.cell.specs.Middles.{numberedBelow}
+use Rattle.cell.specs.Table.{tableCell, drawnCells, tableFans, middlesWritten}
+use Rattle.places.specs.Work.{Placeable, tableMiddles, tablePoints, Ready, PointsIn}
 use Rattle.place.proofs.Numbers.{length-numbers, front-place, points-then}
-use Rattle.places.proofs.Middles.{length-table, table-ext}
+use Rattle.places.proofs.Middles.{TableRoom, length-table, table-ext, written-all}
 use Rattle.places.proofs.Answers.{Fine, rows-fine, rows-some}
 
 module _ (cells edges counts names sides starts : List ℕ) (nodes fractions : List Float) where
@@ -76,8 +79,11 @@ module _ (cells edges counts names sides starts : List ℕ) (nodes fractions : L
         same : length mid ≡ length before
         same = ap length f ∙ length-sets before 0 (allNumbers crossingPlaces)
 
-        pub table-room : TableRoom cells counts names sides starts mid n
-        table-room = record { below = R .below; room = omega (arith, same, room, R .judged .all) }
+        below : (c : ℕ) → c < drawnCells cells → numberedBelow (tableCell cells counts names sides starts c) n ≡ true
+        below c l = R .below c (omega arith)
+
+        table-room : TableRoom cells counts names sides starts mid n
+        table-room = record { below = below; room = omega (arith, same, room, R .judged .all) }
 
         loaded : (g : ℕ) → g < n → placeAt mid g ≡ place g
         loaded g l =
@@ -88,14 +94,14 @@ module _ (cells edges counts names sides starts : List ℕ) (nodes fractions : L
             ∙ getD-singles place (place g) (crossings counts) 0 g i
             ∙ ap place (zero-add g)
 
-        pub points-in : (after : List Float) → after ≡ sets mid (coordinates * n) (allNumbers (tableMiddles cells counts names sides starts (placeAt mid)))
+        pub points-in : (after : List Float) {next : ℕ} → (after, next) ≡ middlesWritten cells counts names sides starts mid n (drawnCells cells)
             → PointsIn cells counts names sides starts edges nodes fractions before after (placesNumbers r)
         unfolding tablePoints
         points-in after q =
             let s = length-singles place (crossings counts) 0 in
             let w : after ≡ sets before 0 (allNumbers all) =
-            q
-            ∙ ap (λ (x : List Place). sets mid (coordinates * n) (allNumbers x)) (table-ext cells counts names sides starts n (R .below) (placeAt mid) place loaded)
+            written-all cells counts names sides starts mid n table-room q
+            ∙ ap (λ (x : List Place). sets mid (coordinates * n) (allNumbers x)) (table-ext cells counts names sides starts n below (placeAt mid) place loaded)
             ∙ points-then crossingPlaces (tableMiddles cells counts names sides starts place)
             (record { area = f; after = omega (arith, s, length-numbers crossingPlaces, R .judged .all) })
             (record { area = refl; after = refl }) .area in

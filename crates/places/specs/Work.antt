@@ -9,10 +9,10 @@ use lib.Seq.{sets}
 use lib.Ieee.{Float, nan}
 use Rattle.answer.specs.Answer.{isResult}
 use Rattle.counting.specs.Pick.{pick, one}
-use Rattle.counting.specs.Range.{total, over, values}
-use Rattle.cell.specs.Middles.{fanCount, cellMiddles, numberedBelow}
-use Rattle.cell.specs.Table.{tableCell}
-use Rattle.grid.specs.Grid.{highestNode, mostCells, mostCrossings, cellCount, crossings}
+use Rattle.counting.specs.Range.{over, values}
+use Rattle.cell.specs.Middles.{cellMiddles, numberedBelow}
+use Rattle.cell.specs.Table.{tableCell, drawnCells}
+use Rattle.grid.specs.Grid.{highestNode, mostCrossings, cellCount, crossings}
 use Rattle.place.specs.declared.Place.{Place}
 use Rattle.place.specs.Place.{between, coordinates, allNumbers}
 use Rattle.places.specs.Numbers.{within}
@@ -65,18 +65,10 @@ pub record Placeable (edges counts : List ℕ) (fractions area : List Float) : T
   pub given : length fractions ≡ crossings counts
   pub room : coordinates * crossings counts ≤ length area
 
--- the fans of all cells, from the grid's tables
+-- the middles of the fans of all cells, from the grid's tables
 module _ (cells counts names sides starts : List ℕ) where
-  unfoldable pub tableFans : ℕ
-  tableFans = total (λ c. fanCount (tableCell cells counts names sides starts c)) (cellCount cells) 0
-
   unfoldable pub tableMiddles : (ℕ → Place) → List Place
-  tableMiddles place = over (λ c. cellMiddles place (tableCell cells counts names sides starts c)) (cellCount cells) 0
-
-  -- the places of all crossings stand before point `base`, and there is room for all middles from there on
-  pub record TableRoom (area : List Float) (base : ℕ) : Type 0 where
-    pub below : (c : ℕ) → c < cellCount cells → numberedBelow (tableCell cells counts names sides starts c) base ≡ true
-    pub room : coordinates * (base + tableFans) ≤ length area
+  tableMiddles place = over (λ c. cellMiddles place (tableCell cells counts names sides starts c)) (drawnCells cells) 0
 
   -- all points
   unfoldable pub tablePoints : (edges : List ℕ) (nodes fractions : List Float) → List Place
@@ -87,7 +79,6 @@ module _ (cells counts names sides starts : List ℕ) where
   pub record Ready (edges : List ℕ) (n : ℕ) : Type 0 where
     pub judged : Judgeable cells counts n
     pub few : n ≤ mostCrossings
-    pub few-cells : cellCount cells ≤ mostCells
     pub pairs : length edges ≡ 2 * length counts
     pub below : (c : ℕ) → c < cellCount cells → numberedBelow (tableCell cells counts names sides starts c) n ≡ true
 

@@ -9,7 +9,6 @@ use grid::Checked;
 use grid::MOST_EDGES;
 use grid::MOST_SLOTS;
 
-mod fans;
 mod points;
 mod rows;
 
@@ -53,13 +52,13 @@ fn place_all(
     requires { ⌜ Ready (now cells) (now counts) (now names) (now sides) (now starts) (now edges) n ⌝ }
     ensures { λ r. ⌜ PointsIn (now (cells .entry)) (now (counts .entry)) (now (names .entry)) (now (sides .entry)) (now (starts .entry)) (now (edges .entry)) (now (nodes .entry)) (now (fractions .entry)) (now (area .entry)) (now (area .exit)) (placesNumbers r) ⌝ }
 {
-    let all = n + fans::count_fans(cells, counts, names, sides, starts);
+    let all = n + cell::count_fans(cells, counts, names, sides, starts);
     let r = rows::judge(cells, counts, nodes, fractions, n, all, area.len());
     if let Placed::Refused(_, _) = r {
         return r;
     }
     points::place_crossings(edges, counts, nodes, fractions, area);
-    fans::write_middles(cells, counts, names, sides, starts, area, n);
+    cell::write_middles(cells, counts, names, sides, starts, area, n);
     r
 }
 

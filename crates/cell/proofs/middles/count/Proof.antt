@@ -4,8 +4,7 @@ use mathlib.Core.Path.{_≡_, refl}
 use Rattle.counting.specs.Search.{count}
 use Rattle.counting.proofs.Search.{count-le}
 use Rattle.cell.specs.Middles.{isFan}
-use Rattle.cell.proofs.Using.{cleared-same}
-use Rattle.cell.proofs.Going.{Going, going-start, going-long, going-lent, going-more, going-looped, going-part, going-cleared}
+use Rattle.cell.proofs.Going.{Going, going-start, going-lent, going-more, going-looped, going-part, going-used}
 use Rattle.cell.proofs.Fans.{fans-more, fans-all}
 use Rattle.cell.proofs.middles.count.Statement.{statement}
 use Rattle.cell.proofs.middles.count.Tie as tie
@@ -32,20 +31,19 @@ add-p c = omega (arith, c .before .before .before .before .before .before .befor
 loop-again : tie.Need-loop-again Inv-loop μ-loop
 loop-again c = (going-more (c .before .before .before .before .before .before .before .before .before .before .before .before .before .before .before .loop .inv .0) (omega arith) (c .before .before .before .before .before .before .before .before .before .walk .ensures), fans-more (going-looped (c .before .before .before .before .before .before .before .before .before .before .before .before .before .before .before .loop .inv .0) (omega arith) (c .before .before .before .before .before .before .before .before .before .walk .ensures)) (c .before .before .before .before .before .before .before .before .before .before .before .before .before .before .before .loop .inv .1) (c .fan-of .ensures))
 
-wipe-requires : tie.Need-wipe-requires Inv-loop μ-loop
-wipe-requires c κs = let L = going-long (c .before .before .before .before .before .before .before .loop .inv .0) in (L .halves-long, L .points-long)
-
 same-length : tie.Need-same-length Inv-loop μ-loop
-same-length c = cleared-same (going-cleared (c .before .before .before .before .before .before .before .before .before .before .before .before .loop .inv .0) (c .before .before .before .before .before .before .before .before .before .before .before .before .before .before .before .before .before .before .before .before .before .pre .long .marks-long) (c .before .before .before .before .before .before .before .before .before .before .before .before .before .before .before .clear .ensures) (c .before .before .before .before .before .before .before .before .before .clear2 .ensures) (c .before .before .before .before .wipe .ensures .0) (c .before .before .before .before .wipe .ensures .1)) .0
+same-length c = going-used (c .before .loop .inv .0) (c .before .before .before .before .before .before .before .before .before .before .pre .long .marks-long) (c .before .before .before .before .clear .ensures) .marks-kept .long
 
 same-length-2 : tie.Need-same-length-2 Inv-loop μ-loop
-same-length-2 c = cleared-same (going-cleared (c .before .before .before .before .before .before .before .before .before .before .before .before .loop .inv .0) (c .before .before .before .before .before .before .before .before .before .before .before .before .before .before .before .before .before .before .before .before .before .pre .long .marks-long) (c .before .before .before .before .before .before .before .before .before .before .before .before .before .before .before .clear .ensures) (c .before .before .before .before .before .before .before .before .before .clear2 .ensures) (c .before .before .before .before .wipe .ensures .0) (c .before .before .before .before .wipe .ensures .1)) .1
+same-length-2 c = going-used (c .before .loop .inv .0) (c .before .before .before .before .before .before .before .before .before .before .pre .long .marks-long) (c .before .before .before .before .clear .ensures) .halves-kept .long
 
 same-length-3 : tie.Need-same-length-3 Inv-loop μ-loop
-same-length-3 c = cleared-same (going-cleared (c .before .before .before .before .before .before .before .before .before .before .before .before .loop .inv .0) (c .before .before .before .before .before .before .before .before .before .before .before .before .before .before .before .before .before .before .before .before .before .pre .long .marks-long) (c .before .before .before .before .before .before .before .before .before .before .before .before .before .before .before .clear .ensures) (c .before .before .before .before .before .before .before .before .before .clear2 .ensures) (c .before .before .before .before .wipe .ensures .0) (c .before .before .before .before .wipe .ensures .1)) .2
+same-length-3 c = going-used (c .before .loop .inv .0) (c .before .before .before .before .before .before .before .before .before .before .pre .long .marks-long) (c .before .before .before .before .clear .ensures) .points-kept .long
 
 returns : tie.Need-returns Inv-loop μ-loop
-returns c = (fans-all (c .before .before .before .before .before .before .before .before .before .before .before .before .before .before .before .before .before .before .before .before .before .args .c) (c .before .before .before .before .before .before .before .before .before .before .before .before .loop .inv .1) (omega (arith, c .before .before .before .before .before .before .before .before .before .before .before .before .loop .inv .0 .up, c .before .before .before .before .before .before .before .before .before .before .before .before .loop .inv .0 .all)) (omega (arith, c .before .before .before .before .before .before .before .before .before .before .before .before .loop .inv .0 .all, c .before .before .before .before .before .before .before .before .before .before .before .before .loop .inv .0 .few)), going-cleared (c .before .before .before .before .before .before .before .before .before .before .before .before .loop .inv .0) (c .before .before .before .before .before .before .before .before .before .before .before .before .before .before .before .before .before .before .before .before .before .pre .long .marks-long) (c .before .before .before .before .before .before .before .before .before .before .before .before .before .before .before .clear .ensures) (c .before .before .before .before .before .before .before .before .before .clear2 .ensures) (c .before .before .before .before .wipe .ensures .0) (c .before .before .before .before .wipe .ensures .1))
+returns c =
+    let G = c .before .loop .inv .0 in
+    (fans-all _ (c .before .loop .inv .1) (omega (arith, G .up, G .all)) (omega (arith, G .all, G .few)), going-used G (c .before .before .before .before .before .before .before .before .before .before .pre .long .marks-long) (c .before .before .before .before .clear .ensures))
 
 pub count-spec : {M : Type 1} → statement M
 count-spec =
@@ -65,8 +63,6 @@ count-spec =
     add-p
     (λ c. omega arith)
     loop-again
-    (λ c κs. going-long (c .before .before .loop .inv .0) .marks-long)
-    wipe-requires
     same-length
     same-length-2
     same-length-3

@@ -1,7 +1,7 @@
 use native.Mathlib.Omega.{arith}
 use mathlib.Core.Path.{sym, _∙_}
 use borrow.Author.Tests.{not-true, not-false}
-use Rattle.cell.proofs.Using.{used-none, cleared-used, cleared-same}
+use Rattle.cell.proofs.Using.{used-none}
 use Rattle.cell.proofs.Fans.{fits-short, fits-not, fits-count, fits-most}
 use Rattle.cell.proofs.middles.has_room.Statement.{statement}
 use Rattle.cell.proofs.middles.has_room.Tie as tie
@@ -16,7 +16,7 @@ returns-3 : tie.Need-returns-3
 returns-3 c = (fits-most (c .before .before .before .before .before .before .before .args .c) (c .before .before .before .before .before .before .before .args .room) (c .before .before .before .before .before .before .before .args .at) (sym (c .before .before .is-below .ensures) ∙ not-false _ (c .before .if2 .left)) (omega arith) (c .before .before .before .before .before .before .before .pre .all) (c .if3 .taken), used-none _ _ _ _)
 
 returns-4 : tie.Need-returns-4
-returns-4 c = (fits-count (c .before .before .before .before .before .before .before .before .before .before .before .before .before .before .before .before .before .args .c) (c .before .before .before .before .before .before .before .before .before .before .before .before .before .before .before .before .before .args .room) (c .before .before .before .before .before .before .before .before .before .before .before .before .before .before .before .before .before .args .at) (sym (c .before .before .before .before .before .before .before .before .before .before .before .before .is-below .ensures) ∙ not-false _ (c .before .before .before .before .before .before .before .before .before .before .before .if2 .left)) (omega arith) (c .before .before .before .before .before .before .count .ensures .0 .0), cleared-used (c .before .before .before .before .before .before .before .before .before .before .before .before .before .before .before .before .before .pre) (c .before .before .before .before .before .before .count .ensures .1))
+returns-4 c = (fits-count (c .before .before .before .before .before .before .before .before .before .before .before .before .before .before .before .before .before .args .c) (c .before .before .before .before .before .before .before .before .before .before .before .before .before .before .before .before .before .args .room) (c .before .before .before .before .before .before .before .before .before .before .before .before .before .before .before .before .before .args .at) (sym (c .before .before .before .before .before .before .before .before .before .before .before .before .is-below .ensures) ∙ not-false _ (c .before .before .before .before .before .before .before .before .before .before .before .if2 .left)) (omega arith) (c .before .before .before .before .before .before .count .ensures .0 .0), c .before .before .before .before .before .before .count .ensures .1)
 
 pub has-room-spec : {M : Type 1} → statement M
 has-room-spec =
@@ -27,7 +27,7 @@ has-room-spec =
     returns-2
     returns-3
     (λ c κs. c .before .before .before .before .before .before .before .before .before .before .pre)
-    (λ c. cleared-same (c .before .before .before .before .before .before .count .ensures .1) .0)
-    (λ c. cleared-same (c .before .before .before .before .before .before .count .ensures .1) .1)
-    (λ c. cleared-same (c .before .before .before .before .before .before .count .ensures .1) .2)
+    (λ c. c .before .before .before .before .before .before .count .ensures .1 .marks-kept .long)
+    (λ c. c .before .before .before .before .before .before .count .ensures .1 .halves-kept .long)
+    (λ c. c .before .before .before .before .before .before .count .ensures .1 .points-kept .long)
     returns-4)
