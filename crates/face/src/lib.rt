@@ -59,7 +59,8 @@ fn count_of(f: Face, edge: u32) -> u8
     if edge == 2 { f.bc } else { 0 }
 }
 
-// The corner counts of the face with these counts: rule 3 with ab, ac or bc above the other two, else rules 1 and 2.
+// The corner counts of the face with these counts: rule 3 with ab, ac or bc above the other two; else rules 1 and 2, with one half, rounded down. What is
+// taken from ab and ac for the other two is that half, and in rule 2 the 1 besides by which it lessens the counts.
 pub fn corners_of(ab: u8, ac: u8, bc: u8) -> CornerCounts
     ensures { λ r. ⌜ cornerList r ≡ corners ab ac bc ⌝ }
 {
@@ -75,10 +76,13 @@ pub fn corners_of(ab: u8, ac: u8, bc: u8) -> CornerCounts
     if x + y < z {
         return CornerCounts { a: 0, b: ab, c: ac };
     }
+    let above = x + y - z;
+    let a = above / 2;
+    let taken = above - a;
     CornerCounts {
-        a: ((x + y - z) / 2) as u8,
-        b: ((x + z - y) / 2) as u8,
-        c: ((y + z - x) / 2) as u8,
+        a: a as u8,
+        b: (x - taken) as u8,
+        c: (y - taken) as u8,
     }
 }
 

@@ -1,6 +1,6 @@
 use borrow.Author.Needs.{needs}
 use Prim.Native.Nat.{ℕ, _+_, _-_, _/_, _≤_}
-use mathlib.Core.Path.{_≡_, sym}
+use mathlib.Core.Path.{_≡_, sym, _∙_}
 use mathlib.Core.List.{[], _∷_}
 use native.Mathlib.Omega.{arith}
 use Rattle.face.specs.Face.{corners}
@@ -9,8 +9,9 @@ use Rattle.face.proofs.corners_of.Statement.{statement}
 use Rattle.face.proofs.corners_of.Tie as tie
 
 -- no count above the other two
-level : (x y z : ℕ) → x ≤ y + z → y ≤ x + z → z ≤ x + y → corners x y z ≡ (x + y - z) / 2 ∷ (x + z - y) / 2 ∷ (y + z - x) / 2 ∷ []
-level x y z h k l = simp (corner-half x y z h k l, corner-half x z y (omega arith) l k, corner-half y z x (omega arith) (omega arith) h)
+level : (x y z a b c : ℕ) → x ≤ y + z → y ≤ x + z → z ≤ x + y → a ≡ (x + y - z) / 2 → b ≡ (x + z - y) / 2 → c ≡ (y + z - x) / 2 → corners x y z ≡ a ∷ b ∷ c ∷ []
+level x y z a b c h k l p q r =
+    simp (corner-half x y z h k l ∙ sym p, corner-half x z y (omega arith) l k ∙ sym q, corner-half y z x (omega arith) (omega arith) h ∙ sym r)
 
 returns : tie.Need-returns
 returns c = sym (corners-ab _ _ _ (c .if1 .taken))
@@ -22,7 +23,11 @@ returns-3 : tie.Need-returns-3
 returns-3 c = sym (corners-bc _ _ _ (c .if3 .taken))
 
 returns-4 : tie.Need-returns-4
-returns-4 c = sym (level _ _ _ (c .before .before .if1 .left) (c .before .if2 .left) (c .if3 .left))
+returns-4 c =
+    let ab = c .before .before .if1 .left in
+    let ac = c .before .if2 .left in
+    let bc = c .if3 .left in
+    sym (level _ _ _ _ _ _ ab ac bc (omega arith) (omega arith) (omega arith))
 
 pub corners-of-spec : {M : Type 1} → statement M
 corners-of-spec =
@@ -34,7 +39,6 @@ corners-of-spec =
     returns-2
     (λ c. search needs)
     returns-3
-    (λ c. search needs)
     (λ c. search needs)
     (λ c. search needs)
     (λ c. search needs)
