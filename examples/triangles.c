@@ -15,7 +15,7 @@
 /* No accepted grid needs longer lists; a longer bundle is refused with 14. */
 static uint16_t cells[4 * CITTERNBLAZE_MOST_CELLS];
 static uint16_t edges[2 * CITTERNBLAZE_MOST_EDGES];
-static uint8_t counts[CITTERNBLAZE_MOST_EDGES];
+static uint16_t counts[CITTERNBLAZE_MOST_EDGES];
 static double nodes[3 * NODES];
 static double fractions[CITTERNBLAZE_MOST_CROSSINGS];
 

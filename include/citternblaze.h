@@ -24,7 +24,7 @@
  *   System V calling convention, as Linux has it.
  * - Of C's functions memcpy and memset, at most.
  * - Stack: CITTERNBLAZE_STACK_BYTES suffice for any call. The four calls on a
- *   grid take 264 to 364 KB, as measured, each other call under 1 KB.
+ *   grid take 264 to 530 KB, as measured, each other call under 1 KB.
  * - For citternblaze_places, 64-bit floating point as a C program finds it at its
  *   start: rounding to nearest, subnormal numbers on (no flush to zero), no
  *   exception trapped. The other calls do not compute with it.
@@ -47,6 +47,7 @@
 #define CITTERNBLAZE_MOST_CELLS 2048
 #define CITTERNBLAZE_MOST_EDGES 12288
 #define CITTERNBLAZE_HIGHEST_NODE 4095
+#define CITTERNBLAZE_HIGHEST_COUNT 4095
 #define CITTERNBLAZE_MOST_CROSSINGS 65535
 
 /* The first number of an answer that is a result, of every call but
@@ -78,13 +79,16 @@
 #define CITTERNBLAZE_DIAGONAL 2
 #define CITTERNBLAZE_LOWEST_CORNER 3
 
-/* The kinds of a record. */
+/* The kinds of a record. An edge is of kind EDGE where its count is 255 or less,
+ * and of kind WIDE_EDGE where it is more. */
 #define CITTERNBLAZE_KIND_CELL 1
 #define CITTERNBLAZE_KIND_EDGE 2
 #define CITTERNBLAZE_KIND_END 3
+#define CITTERNBLAZE_KIND_WIDE_EDGE 4
 
 /* The refusals: the first number of an answer that is not a result. The second is
- * the refusal's place, as docs/FORMAT.md has it. */
+ * the refusal's place, as docs/FORMAT.md has it. They are judged in the order of
+ * their numbers, but 18 directly after 6. */
 #define CITTERNBLAZE_REFUSED_CELL_LIST 1     /* cells: length or number */
 #define CITTERNBLAZE_REFUSED_EDGE_LIST 2     /* edges: length */
 #define CITTERNBLAZE_REFUSED_CELL_NODES 3    /* a cell's nodes */
@@ -102,6 +106,7 @@
 #define CITTERNBLAZE_REFUSED_PLACE_LISTS 15  /* places: lengths */
 #define CITTERNBLAZE_REFUSED_NODE_PLACE 16   /* a number of a node's place */
 #define CITTERNBLAZE_REFUSED_FRACTION 17     /* a fraction */
+#define CITTERNBLAZE_REFUSED_COUNT 18        /* a count over 4095 */
 
 #ifdef __cplusplus
 extern "C" {
@@ -109,13 +114,13 @@ extern "C" {
 
 /* The face call. What a crossing of a face a < b < c is joined to.
  *
- * Reads the counts of the edges ab, ac, bc; an edge, 0 ab, 1 ac, 2 bc; and an
- * index on it, counted from its lower node.
+ * Reads the counts of the edges ab, ac, bc, which may be any of 16 bits; an edge,
+ * 0 ab, 1 ac, 2 bc; and an index on it, counted from its lower node.
  *
  * Answers 0 and the partner's edge and index; or 1, where the crossing is
  * unjoined; or 2, where there is no such crossing: the edge is over 2, or the
  * index not below its count. */
-size_t citternblaze_face(uint8_t ab, uint8_t ac, uint8_t bc,
+size_t citternblaze_face(uint16_t ab, uint16_t ac, uint16_t bc,
                          uint32_t edge, uint32_t index,
                          uint64_t *answer, size_t answer_len);
 
@@ -125,11 +130,11 @@ size_t citternblaze_face(uint8_t ab, uint8_t ac, uint8_t bc,
  * each edge.
  *
  * Answers 0 and the number of crossings, where the grid is accepted; or the
- * number and the place of a refusal, 1 to 10. Takes up to 512 KB of the
+ * number and the place of a refusal, 1 to 10 or 18. Takes up to 512 KB of the
  * stack. */
 size_t citternblaze_check(const uint16_t *cells, size_t cells_len,
                           const uint16_t *edges, size_t edges_len,
-                          const uint8_t *counts, size_t counts_len,
+                          const uint16_t *counts, size_t counts_len,
                           uint64_t *answer, size_t answer_len);
 
 /* The mesh call. Writes the triangles of a grid at the front of the area, eleven
@@ -144,7 +149,7 @@ size_t citternblaze_check(const uint16_t *cells, size_t cells_len,
  * side.
  *
  * Answers 0 and the number of triangles; or the number and the place of a
- * refusal: 1 to 10 as citternblaze_check has them, or 12 and the number of
+ * refusal: 1 to 10 and 18 as citternblaze_check has them, or 12 and the number of
  * triangles needed, where the area is too short. A refusal keeps every word of
  * the area. Takes up to 640 KB of the stack.
  *
@@ -153,7 +158,7 @@ size_t citternblaze_check(const uint16_t *cells, size_t cells_len,
  * cells once; else twice, first to count. */
 size_t citternblaze_mesh(const uint16_t *cells, size_t cells_len,
                          const uint16_t *edges, size_t edges_len,
-                         const uint8_t *counts, size_t counts_len,
+                         const uint16_t *counts, size_t counts_len,
                          uint32_t *area, size_t area_len,
                          uint64_t *answer, size_t answer_len);
 
@@ -167,12 +172,12 @@ size_t citternblaze_mesh(const uint16_t *cells, size_t cells_len,
  * else 0; and its type: 0, contractible; 1 and a node, the corner that it cuts
  * off; 2 and a node, which it keeps together with the cell's lowest; 3 and the
  * cell's lowest node, the corner that it cuts off. Or 0 alone, where the cell
- * has no such loop. Or the number and the place of a refusal: 1 to 10 as
+ * has no such loop. Or the number and the place of a refusal: 1 to 10 and 18 as
  * citternblaze_check has them, or 11 and the cell asked for, where there is no
  * such cell. Takes up to 640 KB of the stack. */
 size_t citternblaze_loops(const uint16_t *cells, size_t cells_len,
                           const uint16_t *edges, size_t edges_len,
-                          const uint8_t *counts, size_t counts_len,
+                          const uint16_t *counts, size_t counts_len,
                           size_t cell, size_t index,
                           uint64_t *answer, size_t answer_len);
 
@@ -186,15 +191,15 @@ size_t citternblaze_loops(const uint16_t *cells, size_t cells_len,
  * the higher it lies.
  *
  * Answers 0 and the number of points; or the number and the place of a refusal:
- * 1 to 10 as citternblaze_check has them; 15 and 0 where the list of places or
- * the area is too short, or the fractions are not one to a crossing; 16 and the
- * index of a number among the places of the cells' nodes that is not from
+ * 1 to 10 and 18 as citternblaze_check has them; 15 and 0 where the list of
+ * places or the area is too short, or the fractions are not one to a crossing; 16
+ * and the index of a number among the places of the cells' nodes that is not from
  * -1000000 to 1000000; 17 and a crossing whose fraction is not above 0 and below
  * 1, or not above the one before it on its edge. A refusal keeps every number of
  * the area. Takes up to 640 KB of the stack. */
 size_t citternblaze_places(const uint16_t *cells, size_t cells_len,
                            const uint16_t *edges, size_t edges_len,
-                           const uint8_t *counts, size_t counts_len,
+                           const uint16_t *counts, size_t counts_len,
                            const double *nodes, size_t nodes_len,
                            const double *fractions, size_t fractions_len,
                            double *area, size_t area_len,
@@ -202,9 +207,9 @@ size_t citternblaze_places(const uint16_t *cells, size_t cells_len,
 
 /* The record reader's first call. What stands at a start of a bundle's bytes.
  *
- * Answers 0, the record's kind (1 cell, 2 edge, 3 end) and the start of the next
- * record; or 13 and the start, or 13 and bytes_len where the start is not below
- * it. */
+ * Answers 0, the record's kind (1 cell, 2 or 4 edge, 3 end) and the start of the
+ * next record; or 13 and the start, or 13 and bytes_len where the start is not
+ * below it. A record of kind 4 with a count of 255 or less is refused. */
 size_t citternblaze_record(const uint8_t *bytes, size_t bytes_len, size_t start,
                            uint64_t *answer, size_t answer_len);
 
@@ -227,11 +232,12 @@ size_t citternblaze_record_body(const uint8_t *bytes, size_t bytes_len,
 size_t citternblaze_bundle_read(const uint8_t *bytes, size_t bytes_len,
                                 uint16_t *nodes, size_t nodes_len,
                                 uint16_t *ends, size_t ends_len,
-                                uint8_t *counts, size_t counts_len,
+                                uint16_t *counts, size_t counts_len,
                                 uint64_t *answer, size_t answer_len);
 
 /* The bundle writer. Writes the bundle of cells, edges and counts at the front
- * of the area, and keeps the area beyond it. It does not check the grid.
+ * of the area, and keeps the area beyond it: 12 bytes for each cell, 9 for each
+ * edge, one more where its count is over 255, and 4. It does not check the grid.
  *
  * Answers 0 and the number of bytes written; or 13 and 0 where the lists are not
  * 4 nodes to a cell or 2 ends to a count; or 14 and the number of bytes needed,
@@ -239,7 +245,7 @@ size_t citternblaze_bundle_read(const uint8_t *bytes, size_t bytes_len,
  * of the area. */
 size_t citternblaze_bundle_write(const uint16_t *nodes, size_t nodes_len,
                                  const uint16_t *ends, size_t ends_len,
-                                 const uint8_t *counts, size_t counts_len,
+                                 const uint16_t *counts, size_t counts_len,
                                  uint8_t *area, size_t area_len,
                                  uint64_t *answer, size_t answer_len);
 

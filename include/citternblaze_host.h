@@ -17,14 +17,14 @@
 extern "C" {
 #endif
 
-/* The number of the bundle's refusal, or 0: 13 for a record that is cut short or has a wrong length, kind or order, for bytes after the
- * end, and for no end. */
+/* The number of the bundle's refusal, or 0: 13 for a record that is cut short or has a wrong length, kind or order, for a record of kind 4
+ * with a count of 255 or less, for bytes after the end, and for no end. */
 uint32_t citternblaze_bundle_refusal(const uint8_t *bytes, size_t length);
 
 /* The number of the bundle's cells; 0 for a broken bundle. */
 uint64_t citternblaze_bundle_cells(const uint8_t *bytes, size_t length);
 
-/* The number of the bundle's edges; 0 for a broken bundle. */
+/* The number of the bundle's edges, of both kinds; 0 for a broken bundle. */
 uint64_t citternblaze_bundle_edges(const uint8_t *bytes, size_t length);
 
 #ifdef __cplusplus

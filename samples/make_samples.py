@@ -4,13 +4,13 @@
     make_samples.py            write the files
     make_samples.py --check    write nothing; fail if a file differs, is missing or is not described here
 
-Needs Python 3 and no package. The format is that of document 01, "Bundles".
+Needs Python 3 and no package. The format is that of document 01, "Bundles", with the records of kind 4 of document 02.
 """
 import itertools
 import pathlib
 import sys
 
-CELL, EDGE, END = 1, 2, 3
+CELL, EDGE, END, WIDE_EDGE = 1, 2, 3, 4
 
 
 def word(number):
@@ -27,7 +27,14 @@ def cell(*nodes):
 
 
 def edge(u, v, count):
+    if count > 255:
+        return wide_edge(u, v, count)
     return record(EDGE, word(u) + word(v) + bytes([count]))
+
+
+def wide_edge(u, v, count, length=None):
+    """An edge's record of kind 4, whatever its count is."""
+    return record(WIDE_EDGE, word(u) + word(v) + word(count), length)
 
 
 def bundle(cells, edges):
@@ -67,16 +74,17 @@ def corners(*counts):
     return grid(cells, {(c[0], v): n for c, n in zip(cells, counts) for v in c[1:]})
 
 
-def largest():
-    """An accepted grid of 32,767 bytes, the most that a whole bundle below 32,769 bytes can have: sizes leave 1 when divided by 3.
-    Three chains, with one triangle in the first cell."""
+def largest(*counts):
+    """Three chains, with these counts on the edges from node 0 and one triangle in the first cell. Without a count above 255 it has 32,767
+    bytes, the most that an accepted grid without one can have below 32,769: sizes leave 1 when divided by 3. With one it has 32,768."""
     cells = chain(0, 836) + chain(839, 1) + chain(843, 1)
-    return grid(cells, {(0, 1): 1, (0, 2): 1, (0, 3): 1})
+    return grid(cells, {(0, v): n for v, n in zip((1, 2, 3), counts)})
 
 
 ONE = [(0, 1, 2, 3)]
 ONE_EDGES = [(u, v, 0) for u, v in pairs(ONE)]
 GOOD = one_cell(1, 1, 1, 0, 0, 0)
+WIDE = one_cell(0, 0, 0, 0, 0, 300)
 THREE = [(0, 1, 2, 3), (0, 1, 2, 4), (0, 1, 3, 4)]
 
 SAMPLES = {
@@ -88,10 +96,15 @@ SAMPLES = {
     "diagonal-0-with-1": one_cell(0, 1, 1, 1, 1, 0),
     "loop-of-eight": one_cell(2, 1, 1, 1, 1, 2),
     "two-on-01": one_cell(2, 0, 0, 0, 0, 0),
+    # one cell with counts above 255: records of kinds 2 and 4, and one triangle, the other crossings being on open curves; and 128 fans
+    "count-256": one_cell(1, 256, 255, 0, 0, 0),
+    "count-4095": one_cell(4095, 4094, 1, 0, 0, 0),
+    "256-on-01": one_cell(256, 0, 0, 0, 0, 0),
     # several cells
     "three-round-01": grid(THREE, {(0, 1): 2}),
     "triangles-1489": corners(255, 255, 255, 255, 255, 214),
-    "bytes-32767": largest(),
+    "bytes-32767": largest(1, 1, 1),
+    "bytes-32768": largest(1, 256, 255),
     # refusals of the grid and the mesh, by their rows
     "refused-1-no-cell": bundle([], []),
     "refused-1-2049-cells": bundle(separate(1023) * 2 + [(0, 1, 2, 3)] * 3, []),
@@ -104,10 +117,16 @@ SAMPLES = {
     "refused-6-falling-ends": bundle(ONE, ONE_EDGES[:5] + [(3, 2, 0)]),
     "refused-6-unsorted": bundle(ONE, ONE_EDGES[:1] + [ONE_EDGES[2], ONE_EDGES[1]] + ONE_EDGES[3:]),
     "refused-6-edge-twice": bundle(ONE, ONE_EDGES + ONE_EDGES[5:]),
+    "refused-6-before-18": bundle(ONE, [(0, 1, 4096), ONE_EDGES[2], ONE_EDGES[1]] + ONE_EDGES[3:]),
+    "refused-18-count-4096": one_cell(0, 0, 0, 4096, 0, 0),
+    "refused-18-count-65535": one_cell(0, 65535, 0, 0, 4096, 0),
+    "refused-18-before-7": bundle(ONE, ONE_EDGES[:4] + [(1, 3, 4096)]),
     "refused-7-edge-missing": bundle(ONE, ONE_EDGES[:5]),
     "refused-8-edge-of-no-cell": bundle(ONE, ONE_EDGES + [(7, 8, 0)]),
     "refused-9-not-linked": grid([(0, 1, 2, 3), (0, 1, 4, 5)]),
     "refused-10-65790-crossings": grid(separate(43), other=255),
+    "refused-10-73710-crossings": grid(separate(3), other=4095),
+    "refused-12-4094-triangles": one_cell(4095, 0, 0, 0, 0, 0),
     "refused-12-64260-crossings": grid(separate(42), other=255),
     "refused-12-1490-triangles": corners(255, 255, 255, 255, 255, 215),
     # row 13 in each of its ways
@@ -120,18 +139,23 @@ SAMPLES = {
     "refused-13-end-length": GOOD[:-4] + record(END, length=3),
     "refused-13-length-high-byte": record(CELL, bytes(8), length=256 + 10) + GOOD[12:],
     "refused-13-kind-0": GOOD[:12] + record(0) + GOOD[12:],
-    "refused-13-kind-4": GOOD[:-4] + record(4) + GOOD[-4:],
+    "refused-13-kind-4-no-body": GOOD[:-4] + record(WIDE_EDGE) + GOOD[-4:],
+    "refused-13-kind-4-count-255": GOOD[:12] + wide_edge(0, 1, 255) + GOOD[21:],
+    "refused-13-kind-4-count-0": GOOD[:57] + wide_edge(2, 3, 0) + GOOD[66:],
+    "refused-13-kind-4-length": WIDE[:57] + wide_edge(2, 3, 300, length=7) + WIDE[67:],
+    "refused-13-kind-4-cut": WIDE[:-5],
+    "refused-13-cell-after-kind-4": WIDE[:-4] + cell(4, 5, 6, 7) + WIDE[-4:],
     "refused-13-kind-high-byte": record(256 + CELL, bytes(8)) + GOOD[12:],
     "refused-13-cell-after-edge": GOOD[:-4] + cell(4, 5, 6, 7) + GOOD[-4:],
     "refused-13-byte-after-end": GOOD + b"\0",
     "refused-13-end-after-end": GOOD + record(END),
     "refused-13-no-end": GOOD[:-4],
     # the limit of the program's input: the fault stands at 32,767 in both, and one byte more is over the limit
-    "refused-13-32768-bytes": largest() + bytes(1),
-    "refused-13-32769-bytes": largest() + bytes(2),
+    "refused-13-32768-bytes": largest(1, 1, 1) + bytes(1),
+    "refused-13-32769-bytes": largest(1, 1, 1) + bytes(2),
 }
 
-SIZES = {"bytes-32767": 32767, "refused-13-32768-bytes": 32768, "refused-13-32769-bytes": 32769}
+SIZES = {"bytes-32767": 32767, "bytes-32768": 32768, "refused-13-32768-bytes": 32768, "refused-13-32769-bytes": 32769}
 
 
 def main():

@@ -1,5 +1,5 @@
 #!/usr/bin/env bash
-# Builds examples/triangles.c as C and as C++, runs both on three samples, and compares what they print with examples/*.out. Wants
+# Builds examples/triangles.c as C and as C++, runs both on samples, and compares what they print with examples/*.out. Wants
 # target/staticlib/libcapi.a (`rt staticlib capi`).
 set -euo pipefail
 cd "$(dirname "$0")/.."

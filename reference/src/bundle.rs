@@ -5,16 +5,21 @@ use crate::{refuse, Refusal};
 
 /// Kind of a cell record: four nodes.
 pub const CELL: u16 = 1;
-/// Kind of an edge record: two nodes and a count.
+/// Kind of an edge record: two nodes and a count of one byte.
 pub const EDGE: u16 = 2;
 /// Kind of the record that ends a bundle.
 pub const END: u16 = 3;
+/// Kind of an edge record with a count of two bytes, which one byte can't hold.
+pub const WIDE_EDGE: u16 = 4;
 
 /// Bytes of the length and kind before a body.
 const HEAD: usize = 4;
 const CELL_BYTES: usize = HEAD + 8;
 const EDGE_BYTES: usize = HEAD + 5;
+const WIDE_EDGE_BYTES: usize = HEAD + 6;
 const END_BYTES: usize = HEAD;
+/// Bytes before the count in an edge record of either kind.
+const BEFORE_COUNT: usize = HEAD + 4;
 
 /// How many cells and edges a bundle has.
 #[derive(Clone, Copy, Debug, PartialEq, Eq)]
@@ -29,18 +34,22 @@ pub fn record(bytes: &[u8], start: usize) -> Result<(u16, usize), Refusal> {
         Some(rest) => rest,
         None => return refuse(13, bytes.len()),
     };
-    let size = match rest {
-        [low, high, kind_low, kind_high, ..] => {
-            let kind = u16::from_le_bytes([*kind_low, *kind_high]);
-            let length = usize::from(u16::from_le_bytes([*low, *high]));
-            record_bytes(kind).filter(|&size| size == 2 + length && size <= rest.len())
-        }
-        _ => None,
-    };
-    match size {
-        Some(size) => Ok((u16::from_le_bytes([rest[2], rest[3]]), start + size)),
+    match first_record(rest) {
+        Some((kind, size)) => Ok((kind, start + size)),
         None => refuse(13, start),
     }
+}
+
+/// Kind and bytes of the record that the input begins with, if it is whole and
+/// of a form that a writer makes.
+fn first_record(input: &[u8]) -> Option<(u16, usize)> {
+    let head = input.get(..HEAD)?;
+    let length = usize::from(u16::from_le_bytes([head[0], head[1]]));
+    let kind = u16::from_le_bytes([head[2], head[3]]);
+    let size = record_bytes(kind)?;
+    let record = input.get(..size)?;
+    let right = size == 2 + length && (kind != WIDE_EDGE || edge_kind(count_of(record)) == kind);
+    right.then_some((kind, size))
 }
 
 /// Body of the record at `start`, or the empty front of the input where
@@ -57,7 +66,7 @@ pub fn read(
     bytes: &[u8],
     cells: &mut [u16],
     edges: &mut [u16],
-    counts: &mut [u8],
+    counts: &mut [u16],
 ) -> Result<Sizes, Refusal> {
     let sizes = scan(bytes)?;
     let room = cells.len() / 4 >= sizes.cells
@@ -73,10 +82,14 @@ pub fn read(
     {
         copy_numbers(&record[HEAD..], nodes);
     }
-    let edge_records = others[..sizes.edges * EDGE_BYTES].chunks_exact(EDGE_BYTES);
-    for ((record, ends), count) in edge_records.zip(edges.chunks_exact_mut(2)).zip(counts) {
+    let mut rest = others;
+    let lists = edges.chunks_exact_mut(2).zip(counts);
+    for (ends, count) in lists.take(sizes.edges) {
+        let (_, size) = first_record(rest).expect("the scan has met this record");
+        let (record, others) = rest.split_at(size);
         copy_numbers(&record[HEAD..], ends);
-        *count = record[EDGE_BYTES - 1];
+        *count = count_of(record);
+        rest = others;
     }
     Ok(sizes)
 }
@@ -85,14 +98,14 @@ pub fn read(
 pub fn write(
     cells: &[u16],
     edges: &[u16],
-    counts: &[u8],
+    counts: &[u16],
     area: &mut [u8],
 ) -> Result<usize, Refusal> {
     if cells.len() % 4 != 0 || edges.len() != 2 * counts.len() {
         return refuse(13, 0);
     }
     let edges_at = cells.len() / 4 * CELL_BYTES;
-    let end_at = edges_at + counts.len() * EDGE_BYTES;
+    let end_at = edges_at + counts.iter().map(|&count| edge_bytes(count)).sum::<usize>();
     let needed = end_at + END_BYTES;
     if area.len() < needed {
         return refuse(14, needed.min(u32::MAX as usize));
@@ -101,10 +114,13 @@ pub fn write(
     for (record, nodes) in cell_records.zip(cells.chunks_exact(4)) {
         put_record(record, CELL, nodes);
     }
-    let edge_records = area[edges_at..end_at].chunks_exact_mut(EDGE_BYTES);
-    for ((record, ends), &count) in edge_records.zip(edges.chunks_exact(2)).zip(counts) {
-        put_record(record, EDGE, ends);
-        record[EDGE_BYTES - 1] = count;
+    let mut at = edges_at;
+    for (ends, &count) in edges.chunks_exact(2).zip(counts) {
+        let record = &mut area[at..at + edge_bytes(count)];
+        at += record.len();
+        put_record(record, edge_kind(count), ends);
+        let counted = &mut record[BEFORE_COUNT..];
+        counted.copy_from_slice(&count.to_le_bytes()[..counted.len()]);
     }
     put_record(&mut area[end_at..needed], END, &[]);
     Ok(needed)
@@ -133,7 +149,7 @@ fn scan(bytes: &[u8]) -> Result<Sizes, Refusal> {
         let (kind, next) = record(bytes, start)?;
         match kind {
             CELL if sizes.edges == 0 => sizes.cells += 1,
-            EDGE => sizes.edges += 1,
+            EDGE | WIDE_EDGE => sizes.edges += 1,
             END if next == bytes.len() => return Ok(sizes),
             END => return refuse(13, next),
             _ => return refuse(13, start),
@@ -147,9 +163,32 @@ fn record_bytes(kind: u16) -> Option<usize> {
     match kind {
         CELL => Some(CELL_BYTES),
         EDGE => Some(EDGE_BYTES),
+        WIDE_EDGE => Some(WIDE_EDGE_BYTES),
         END => Some(END_BYTES),
         _ => None,
     }
+}
+
+/// The kind of the record of an edge with this count.
+fn edge_kind(count: u16) -> u16 {
+    match u8::try_from(count) {
+        Ok(_) => EDGE,
+        Err(_) => WIDE_EDGE,
+    }
+}
+
+/// Bytes of the record of an edge with this count.
+fn edge_bytes(count: u16) -> usize {
+    match edge_kind(count) {
+        EDGE => EDGE_BYTES,
+        _ => WIDE_EDGE_BYTES,
+    }
+}
+
+/// The count of an edge's whole record, of either kind.
+fn count_of(record: &[u8]) -> u16 {
+    let high = record.get(BEFORE_COUNT + 1).copied().unwrap_or(0);
+    u16::from_le_bytes([record[BEFORE_COUNT], high])
 }
 
 fn copy_numbers(body: &[u8], numbers: &mut [u16]) {

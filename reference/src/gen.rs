@@ -3,7 +3,7 @@
 
 use std::collections::{BTreeMap, BTreeSet};
 
-use crate::grid::{MAX_CELLS, NODE_LIMIT};
+use crate::grid::{MAX_CELLS, MAX_COUNT, MAX_CROSSINGS, NODE_LIMIT};
 
 /// A small random generator (splitmix64).
 #[derive(Clone)]
@@ -48,7 +48,7 @@ impl Rng {
 pub struct Sample {
     pub cells: Vec<u16>,
     pub edges: Vec<u16>,
-    pub counts: Vec<u8>,
+    pub counts: Vec<u16>,
 }
 
 type Nodes = [u16; 4];
@@ -95,16 +95,16 @@ impl Sample {
     }
 
     /// Gives every edge a count from `low` to `high`.
-    pub fn with_counts(mut self, rng: &mut Rng, low: u8, high: u8) -> Sample {
+    pub fn with_counts(mut self, rng: &mut Rng, low: u16, high: u16) -> Sample {
         for count in &mut self.counts {
-            *count = rng.between(usize::from(low), usize::from(high)) as u8;
+            *count = rng.between(usize::from(low), usize::from(high)) as u16;
         }
         self
     }
 
     /// Counts with an even sum on every face: each node takes a side, edges
-    /// between the sides are odd, and up to `pairs` pairs (at most 127) come on
-    /// top.
+    /// between the sides are odd, and up to `pairs` pairs (at most 2,047) come
+    /// on top.
     pub fn with_even_counts(mut self, rng: &mut Rng, pairs: usize) -> Sample {
         let sides: Vec<bool> = (0..NODE_LIMIT).map(|_| rng.coin()).collect();
         self.count_by_sides(rng, &sides, pairs);
@@ -130,7 +130,7 @@ impl Sample {
     fn count_by_sides(&mut self, rng: &mut Rng, sides: &[bool], pairs: usize) {
         for ([u, v], count) in self.edge_list().into_iter().zip(&mut self.counts) {
             let odd = sides[usize::from(u)] != sides[usize::from(v)];
-            *count = (usize::from(odd) + 2 * rng.below(pairs + 1)) as u8;
+            *count = (usize::from(odd) + 2 * rng.below(pairs + 1)) as u16;
         }
     }
 
@@ -362,8 +362,8 @@ pub fn random_shape(rng: &mut Rng) -> Sample {
     }
 }
 
-/// The grid with a fault of the given row (1 to 10) and none of an earlier
-/// row; none if the grid has no room for it.
+/// The grid with a fault of the given row of the grid check and none of a row
+/// that runs earlier; none if the grid has no room for it.
 pub fn broken(rng: &mut Rng, sample: &Sample, row: u8) -> Option<Sample> {
     let mut grid = sample.clone();
     match row {
@@ -376,7 +376,8 @@ pub fn broken(rng: &mut Rng, sample: &Sample, row: u8) -> Option<Sample> {
         7 => drop_edge(rng, &mut grid),
         8 => add_stray_edge(rng, &mut grid),
         9 => part_star(rng, &mut grid)?,
-        _ => flood(&mut grid)?,
+        10 => flood(rng, &mut grid)?,
+        _ => raise_count(rng, &mut grid)?,
     }
     Some(grid)
 }
@@ -467,7 +468,7 @@ fn drop_edge(rng: &mut Rng, grid: &mut Sample) {
 }
 
 /// Puts an edge where its nodes belong, unless it is listed already.
-fn insert_edge(grid: &mut Sample, ends: [u16; 2], count: u8) -> bool {
+fn insert_edge(grid: &mut Sample, ends: [u16; 2], count: u16) -> bool {
     match grid.edge_list().binary_search(&ends) {
         Ok(_) => false,
         Err(at) => {
@@ -506,18 +507,29 @@ fn part_star(rng: &mut Rng, grid: &mut Sample) -> Option<()> {
     Some(())
 }
 
-/// Full counts everywhere, and separate cells until that is too much.
-fn flood(grid: &mut Sample) -> Option<()> {
-    let mut fresh = fresh_nodes(&mut Rng::new(0), grid);
+/// A count over 4,095, at the limit or beyond.
+fn raise_count(rng: &mut Rng, grid: &mut Sample) -> Option<()> {
+    let lowest = usize::from(MAX_COUNT) + 1;
+    let highest = [lowest, 2 * lowest, usize::from(u16::MAX)][rng.below(3)];
+    let edge = rng.below(grid.counts.len());
+    *grid.counts.get_mut(edge)? = rng.between(lowest, highest) as u16;
+    Some(())
+}
+
+/// The same large count everywhere, and separate cells until that is too much.
+fn flood(rng: &mut Rng, grid: &mut Sample) -> Option<()> {
+    let mut fresh = fresh_nodes(rng, grid);
     fresh.sort_unstable();
     let mut cells = grid.cell_list();
-    let missing = (258_usize.saturating_sub(grid.counts.len()) + 5) / 6;
+    let count = if rng.coin() { 255 } else { MAX_COUNT };
+    let enough = MAX_CROSSINGS as usize / usize::from(count) + 1;
+    let missing = (enough.saturating_sub(grid.counts.len()) + 5) / 6;
     if cells.len() + missing > MAX_CELLS || fresh.len() < 4 * missing {
         return None;
     }
     let added = fresh.chunks_exact(4).take(missing);
     cells.extend(added.map(|c| [c[0], c[1], c[2], c[3]]));
     *grid = Sample::from_cells(cells);
-    grid.counts.fill(255);
+    grid.counts.fill(count);
     Some(())
 }

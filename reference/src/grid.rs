@@ -7,8 +7,12 @@ use crate::{refuse, Refusal};
 pub const MAX_CELLS: usize = 2048;
 /// Nodes are numbered below this.
 pub const NODE_LIMIT: u16 = 4096;
+/// Most crossings that an edge may have.
+pub const MAX_COUNT: u16 = 4095;
 /// Most crossings that a grid may have.
 pub const MAX_CROSSINGS: u64 = 65_535;
+/// The rows of refusals of the grid check, in the order in which they run.
+pub const ROWS: [u8; 11] = [1, 2, 3, 4, 5, 6, 18, 7, 8, 9, 10];
 /// Stands in `GridTables::twins` for a face that only one cell has.
 pub const NO_TWIN: u16 = u16::MAX;
 
@@ -26,7 +30,7 @@ const FACE_BITS: u32 = CELL_BITS + 2;
 pub struct Lists<'a> {
     pub cells: &'a [u16],
     pub edges: &'a [u16],
-    pub counts: &'a [u8],
+    pub counts: &'a [u16],
 }
 
 impl Lists<'_> {
@@ -65,7 +69,7 @@ pub struct GridTables {
 }
 
 /// The grid check: the number of crossings of an accepted grid.
-pub fn check(cells: &[u16], edges: &[u16], counts: &[u8]) -> Result<u32, Refusal> {
+pub fn check(cells: &[u16], edges: &[u16], counts: &[u16]) -> Result<u32, Refusal> {
     let lists = Lists {
         cells,
         edges,
@@ -82,6 +86,7 @@ impl GridTables {
         self.check_repeated_cells(lists)?;
         self.pair_faces(lists)?;
         self.index_edges(lists)?;
+        check_counts(lists)?;
         self.find_cell_edges(lists)?;
         self.check_stars()?;
         self.number_crossings(lists)
@@ -274,6 +279,14 @@ fn check_nodes(lists: &Lists) -> Result<(), Refusal> {
     });
     match bad {
         Some(cell) => refuse(3, cell),
+        None => Ok(()),
+    }
+}
+
+/// Row 18.
+fn check_counts(lists: &Lists) -> Result<(), Refusal> {
+    match lists.counts.iter().position(|&count| count > MAX_COUNT) {
+        Some(edge) => refuse(18, edge),
         None => Ok(()),
     }
 }

@@ -166,7 +166,7 @@ struct Faces {
 }
 
 impl Faces {
-    fn new(cells: &[u16], edges: &[u16], counts: &[u8]) -> Faces {
+    fn new(cells: &[u16], edges: &[u16], counts: &[u16]) -> Faces {
         let mut edge_data = HashMap::new();
         let mut crossings = 0;
         for (ends, &count) in edges.chunks_exact(2).zip(counts) {
@@ -226,7 +226,7 @@ impl Faces {
 }
 
 /// Whether every outer edge has count 0 and every face an even sum.
-pub fn should_close(cells: &[u16], edges: &[u16], counts: &[u8]) -> bool {
+pub fn should_close(cells: &[u16], edges: &[u16], counts: &[u16]) -> bool {
     let faces = Faces::new(cells, edges, counts);
     faces.named.keys().all(|name| {
         let sum: u32 = faces.counts(*name).iter().sum();
@@ -261,7 +261,7 @@ pub fn alternates(counts: [u32; 3]) -> bool {
 }
 
 /// Examines the mesh of a grid, given as the words of its triangles.
-pub fn inspect(cells: &[u16], edges: &[u16], counts: &[u8], words: &[u32]) -> Report {
+pub fn inspect(cells: &[u16], edges: &[u16], counts: &[u16], words: &[u32]) -> Report {
     let faces = Faces::new(cells, edges, counts);
     let pieces = Pieces::new(words);
     let mut report = Report {

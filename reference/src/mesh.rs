@@ -36,7 +36,12 @@ pub struct Mesher {
 }
 
 /// Writes the mesh of a grid into `area`; the answer is its triangles.
-pub fn mesh(cells: &[u16], edges: &[u16], counts: &[u8], area: &mut [u32]) -> Result<u32, Refusal> {
+pub fn mesh(
+    cells: &[u16],
+    edges: &[u16],
+    counts: &[u16],
+    area: &mut [u32],
+) -> Result<u32, Refusal> {
     Mesher::default().mesh(cells, edges, counts, area)
 }
 
@@ -44,7 +49,7 @@ pub fn mesh(cells: &[u16], edges: &[u16], counts: &[u8], area: &mut [u32]) -> Re
 pub fn loop_of_cell(
     cells: &[u16],
     edges: &[u16],
-    counts: &[u8],
+    counts: &[u16],
     cell: u64,
     index: u64,
 ) -> Result<Option<LoopAnswer>, Refusal> {
@@ -57,7 +62,7 @@ impl Mesher {
         &mut self,
         cells: &[u16],
         edges: &[u16],
-        counts: &[u8],
+        counts: &[u16],
         area: &mut [u32],
     ) -> Result<u32, Refusal> {
         let lists = Lists {
@@ -79,7 +84,7 @@ impl Mesher {
         &mut self,
         cells: &[u16],
         edges: &[u16],
-        counts: &[u8],
+        counts: &[u16],
         cell: u64,
         index: u64,
     ) -> Result<Option<LoopAnswer>, Refusal> {

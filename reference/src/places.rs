@@ -58,7 +58,7 @@ impl Place {
 pub fn places(
     cells: &[u16],
     edges: &[u16],
-    counts: &[u8],
+    counts: &[u16],
     node_places: &[f64],
     fractions: &[f64],
     area: &mut [f64],
@@ -103,7 +103,7 @@ fn check_node_places(cells: &[u16], node_places: &[f64]) -> Result<(), Refusal> 
 }
 
 /// Row 17.
-fn check_fractions(counts: &[u8], fractions: &[f64]) -> Result<(), Refusal> {
+fn check_fractions(counts: &[u16], fractions: &[f64]) -> Result<(), Refusal> {
     let mut crossing = 0;
     for &count in counts {
         let mut before = 0.0;

@@ -13,20 +13,26 @@ fn refused<T>(number: u8, place: usize) -> Result<T, Refusal> {
     })
 }
 
-/// Any three lists of fitting lengths; they need not make a grid.
+/// Any three lists of fitting lengths, with counts of all sizes; they need not
+/// make a grid.
 fn random_lists(rng: &mut Rng, most: usize) -> Sample {
     let cells = rng.between(0, most);
     let edges = rng.between(0, most);
     let mut words = |count| (0..count).map(|_| rng.word() as u16).collect::<Vec<u16>>();
-    Sample {
+    let mut lists = Sample {
         cells: words(4 * cells),
         edges: words(2 * edges),
-        counts: words(edges).into_iter().map(|word| word as u8).collect(),
+        counts: words(edges),
+    };
+    for count in &mut lists.counts {
+        *count >>= rng.below(16);
     }
+    lists
 }
 
 fn bundle_of(lists: &Sample) -> Vec<u8> {
-    let size = 3 * lists.cells.len() + 9 * lists.counts.len() + 4;
+    let wide = lists.counts.iter().filter(|&&count| count >= 256).count();
+    let size = 3 * lists.cells.len() + 9 * lists.counts.len() + wide + 4;
     let mut area = vec![0xee; size + 3];
     let written = write(&lists.cells, &lists.edges, &lists.counts, &mut area);
     assert_eq!(written, Ok(size));
@@ -43,7 +49,17 @@ fn small_bundle() -> Vec<u8> {
     })
 }
 
-/// A second reader: eats cells, then edges, then wants exactly an end.
+/// A cell, and edges of both kinds in turn.
+fn mixed_bundle() -> Vec<u8> {
+    bundle_of(&Sample {
+        cells: vec![0, 1, 2, 3],
+        edges: vec![0, 1, 2, 3, 4, 5, 6, 7],
+        counts: vec![256, 255, 4096, 0],
+    })
+}
+
+/// A second reader: eats cells, then edges of both kinds, then wants exactly an
+/// end.
 fn plain_read(bytes: &[u8]) -> Result<Sample, usize> {
     let word = |at: usize| u16::from(bytes[at]) + 256 * u16::from(bytes[at + 1]);
     let left = |at: usize| bytes.len() - at;
@@ -55,10 +71,18 @@ fn plain_read(bytes: &[u8]) -> Result<Sample, usize> {
             .extend([4, 6, 8, 10].map(|offset| word(at + offset)));
         at += 12;
     }
-    while bytes[at..].starts_with(&[7, 0, 2, 0]) && left(at) >= 9 {
-        lists.edges.extend([4, 6].map(|offset| word(at + offset)));
-        lists.counts.push(bytes[at + 8]);
-        at += 9;
+    loop {
+        if bytes[at..].starts_with(&[7, 0, 2, 0]) && left(at) >= 9 {
+            lists.edges.extend([4, 6].map(|offset| word(at + offset)));
+            lists.counts.push(u16::from(bytes[at + 8]));
+            at += 9;
+        } else if bytes[at..].starts_with(&[8, 0, 4, 0]) && left(at) >= 10 && bytes[at + 9] > 0 {
+            lists.edges.extend([4, 6].map(|offset| word(at + offset)));
+            lists.counts.push(word(at + 8));
+            at += 10;
+        } else {
+            break;
+        }
     }
     if bytes[at..] == [2, 0, 3, 0] {
         Ok(lists)
@@ -74,7 +98,7 @@ fn compare(bytes: &[u8]) {
     let room = bytes.len() + 8;
     let mut cells = vec![0xaaaa; room];
     let mut edges = vec![0xbbbb; room];
-    let mut counts = vec![0xcc; room];
+    let mut counts = vec![0xcccc; room];
     let answer = read(bytes, &mut cells, &mut edges, &mut counts);
     let expected = plain_read(bytes);
     let number = if expected.is_ok() { 0 } else { 13 };
@@ -89,7 +113,7 @@ fn compare(bytes: &[u8]) {
     assert!(number == 13 || answer == Ok(sizes));
     assert_written(&cells, &lists.cells, 0xaaaa);
     assert_written(&edges, &lists.edges, 0xbbbb);
-    assert_written(&counts, &lists.counts, 0xcc);
+    assert_written(&counts, &lists.counts, 0xcccc);
     let host = (host_refusal(bytes), host_cells(bytes), host_edges(bytes));
     assert_eq!(host, (number, sizes.cells as u32, sizes.edges as u32));
 }
@@ -119,6 +143,81 @@ fn written_bytes_are_as_laid_down() {
     let edge = [7, 0, 2, 0, 0, 0, 1, 0, 200];
     let end = [2, 0, 3, 0];
     assert_eq!(bundle_of(&lists), [&cell[..], &edge, &end].concat());
+}
+
+/// Kind 4 exactly for counts above 255, those above 4,095 too.
+#[test]
+fn the_count_decides_the_kind() {
+    for (count, edge) in [
+        (0, vec![7, 0, 2, 0, 9, 0, 8, 1, 0]),
+        (255, vec![7, 0, 2, 0, 9, 0, 8, 1, 255]),
+        (256, vec![8, 0, 4, 0, 9, 0, 8, 1, 0, 1]),
+        (1000, vec![8, 0, 4, 0, 9, 0, 8, 1, 232, 3]),
+        (4095, vec![8, 0, 4, 0, 9, 0, 8, 1, 255, 15]),
+        (4096, vec![8, 0, 4, 0, 9, 0, 8, 1, 0, 16]),
+        (65_535, vec![8, 0, 4, 0, 9, 0, 8, 1, 255, 255]),
+    ] {
+        let lists = Sample {
+            cells: vec![],
+            edges: vec![9, 264],
+            counts: vec![count],
+        };
+        let bytes = [&edge[..], &[2, 0, 3, 0]].concat();
+        assert_eq!(bundle_of(&lists), bytes);
+        compare(&bytes);
+        let (mut ends, mut counts) = ([0; 2], [7]);
+        let sizes = Sizes { cells: 0, edges: 1 };
+        assert_eq!(read(&bytes, &mut [], &mut ends, &mut counts), Ok(sizes));
+        assert_eq!((ends, counts), ([9, 264], [count]));
+        assert_eq!(record(&bytes, 0), Ok((u16::from(edge[2]), edge.len())));
+        assert_eq!(record_body(&bytes, 0), &edge[4..]);
+    }
+}
+
+/// A kind 4 record with 255 or less is refused where it starts, by both calls of
+/// the record reader, the bundle reader and the host.
+#[test]
+fn kind_4_with_a_count_of_one_byte() {
+    let cell = [10, 0, 1, 0, 1, 2, 3, 4, 5, 6, 7, 8];
+    let edge = [7, 0, 2, 0, 9, 8, 7, 6, 5];
+    for count in 0..=255 {
+        let narrow = [8, 0, 4, 0, 9, 8, 7, 6, count, 0];
+        let bytes = [&cell[..], &edge, &narrow, &[2, 0, 3, 0]].concat();
+        compare(&bytes);
+        assert_eq!(read(&bytes, &mut [], &mut [], &mut []), refused(13, 21));
+        assert_eq!(host_refusal(&bytes), 13);
+        assert_eq!(record(&bytes, 21), refused(13, 21));
+        assert_eq!(record_body(&bytes, 21), []);
+        assert_eq!(record(&narrow, 0), refused(13, 0));
+        assert_eq!(record_body(&narrow, 0), []);
+    }
+}
+
+#[test]
+fn kinds_of_edges_mix() {
+    let bytes = mixed_bundle();
+    assert_eq!(bytes.len(), 12 + 10 + 9 + 10 + 9 + 4);
+    let starts = [
+        (0, 1, 12),
+        (12, 4, 22),
+        (22, 2, 31),
+        (31, 4, 41),
+        (41, 2, 50),
+        (50, 3, 54),
+    ];
+    for (start, kind, next) in starts {
+        assert_eq!(record(&bytes, start), Ok((kind, next)));
+        let body = record_body(&bytes, start);
+        assert_eq!(body.as_ptr_range(), bytes[start + 4..next].as_ptr_range());
+    }
+    compare(&bytes);
+    let (mut cells, mut edges, mut counts) = ([0; 5], [0; 9], [7; 5]);
+    let sizes = Sizes { cells: 1, edges: 4 };
+    assert_eq!(read(&bytes, &mut cells, &mut edges, &mut counts), Ok(sizes));
+    assert_eq!(edges, [0, 1, 2, 3, 4, 5, 6, 7, 0]);
+    assert_eq!(counts, [256, 255, 4096, 0, 7]);
+    let short = read(&bytes, &mut cells, &mut edges, &mut counts[..3]);
+    assert_eq!(short, refused(14, 0));
 }
 
 #[test]
@@ -152,8 +251,10 @@ fn bundles_come_back_as_they_were() {
 #[test]
 fn every_truncation() {
     let bytes = small_bundle();
-    for length in 0..=bytes.len() {
-        compare(&bytes[..length]);
+    for bytes in [small_bundle(), mixed_bundle()] {
+        for length in 0..=bytes.len() {
+            compare(&bytes[..length]);
+        }
     }
     assert_eq!(host_refusal(&[]), 13);
     assert_eq!(read(&[], &mut [], &mut [], &mut []), refused(13, 0));
@@ -166,14 +267,15 @@ fn every_truncation() {
 
 #[test]
 fn every_changed_byte() {
-    let mut bytes = small_bundle();
-    for at in 0..bytes.len() {
-        let kept = bytes[at];
-        for value in 0..=255 {
-            bytes[at] = value;
-            compare(&bytes);
+    for mut bytes in [small_bundle(), mixed_bundle()] {
+        for at in 0..bytes.len() {
+            let kept = bytes[at];
+            for value in 0..=255 {
+                bytes[at] = value;
+                compare(&bytes);
+            }
+            bytes[at] = kept;
         }
-        bytes[at] = kept;
     }
 }
 
@@ -204,14 +306,18 @@ fn random_damage() {
 #[test]
 fn records_in_any_order() {
     let mut rng = Rng::new(3);
-    let records: [&[u8]; 4] = [
+    let records: [&[u8]; 7] = [
         &[10, 0, 1, 0, 1, 2, 3, 4, 5, 6, 7, 8],
         &[7, 0, 2, 0, 9, 8, 7, 6, 5],
+        &[8, 0, 4, 0, 9, 8, 7, 6, 5, 4],
         &[2, 0, 3, 0],
         &[2, 0, 4, 0],
+        &[8, 0, 4, 0, 9, 8, 7, 6, 5, 0],
+        &[2, 0, 0, 0],
     ];
     for _ in 0..20_000 {
-        let chosen = (0..rng.below(6)).map(|_| records[rng.below(4)]);
+        // more of the records that are right
+        let chosen = (0..rng.below(6)).map(|_| records[[0, 1, 2, 3, rng.below(7)][rng.below(5)]]);
         let bytes = chosen.collect::<Vec<&[u8]>>().concat();
         compare(&bytes);
     }
@@ -221,8 +327,9 @@ fn records_in_any_order() {
 fn row_13_places() {
     let cell = [10, 0, 1, 0, 1, 2, 3, 4, 5, 6, 7, 8];
     let edge = [7, 0, 2, 0, 9, 8, 7, 6, 5];
+    let wide = [8, 0, 4, 0, 9, 8, 7, 6, 5, 1];
     let end = [2, 0, 3, 0];
-    let cases: [(Vec<&[u8]>, usize); 8] = [
+    let cases: [(Vec<&[u8]>, usize); 14] = [
         (vec![], 0),
         (vec![&cell, &edge], 21),
         (vec![&cell, &edge, &cell, &end], 21),
@@ -231,6 +338,13 @@ fn row_13_places() {
         (vec![&cell, &end, &[0]], 16),
         (vec![&cell, &[2], &end], 12),
         (vec![&cell, &[0, 0], &end], 12),
+        (vec![&cell, &wide], 22),
+        (vec![&wide, &edge, &wide, &cell, &end], 29),
+        // the end's first byte is the count's second
+        (vec![&edge, &wide[..9], &end], 19),
+        (vec![&edge, &wide[..9]], 9),
+        (vec![&edge, &[7, 0, 4, 0, 9, 8, 7, 6, 5], &end], 9),
+        (vec![&wide, &[8, 0, 2, 0, 9, 8, 7, 6, 5, 1], &end], 10),
     ];
     for (parts, place) in cases {
         let bytes = parts.concat();
@@ -273,9 +387,17 @@ fn row_14_short_lists() {
 
 /// Kind and size of the record that the bytes begin with, if any.
 fn plain_record(bytes: &[u8]) -> Option<(u16, usize)> {
-    let heads = [([10, 0, 1, 0], 12), ([7, 0, 2, 0], 9), ([2, 0, 3, 0], 4)];
+    let heads = [
+        ([10, 0, 1, 0], 12),
+        ([7, 0, 2, 0], 9),
+        ([8, 0, 4, 0], 10),
+        ([2, 0, 3, 0], 4),
+    ];
     let fits = |(head, size): &([u8; 4], usize)| bytes.starts_with(head) && bytes.len() >= *size;
     let (head, size) = heads.into_iter().find(fits)?;
+    if head[2] == 4 && bytes[9] == 0 {
+        return None;
+    }
     Some((u16::from(head[2]), size))
 }
 
@@ -284,8 +406,8 @@ fn records_anywhere_in_random_bytes() {
     let mut rng = Rng::new(4);
     for _ in 0..3_000 {
         let length = rng.below(40);
-        let few = [0, 0, 0, 1, 2, 3, 7, 10];
-        let bytes: Vec<u8> = (0..length).map(|_| few[rng.below(8)]).collect();
+        let few = [0, 0, 0, 1, 2, 3, 4, 7, 8, 10];
+        let bytes: Vec<u8> = (0..length).map(|_| few[rng.below(10)]).collect();
         for start in 0..length {
             let wanted = plain_record(&bytes[start..]);
             let body = record_body(&bytes, start);
@@ -364,6 +486,8 @@ fn writer_refusals() {
     }
     let answer = write(&[0, 1, 2, 3], &[0, 1], &[5], &mut area[..24]);
     assert_eq!(answer, refused(14, 25));
+    let answer = write(&[0, 1, 2, 3], &[0, 1], &[256], &mut area[..25]);
+    assert_eq!(answer, refused(14, 26));
     assert_eq!(write(&[0, 1, 2], &[], &[], &mut []), refused(13, 0));
     assert_eq!(write(&[], &[], &[], &mut area[..3]), refused(14, 4));
     assert_eq!(area, [9; 64]);

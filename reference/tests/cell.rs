@@ -96,6 +96,45 @@ fn one_long_loop() {
     assert_eq!(triangle_count(8, true), 8);
 }
 
+/// The loop of 3 2 1 1 2 3 goes through all twelve crossings; with 4095 on the
+/// long edges, and 2048 and 2047 on the others, there is one loop too.
+#[test]
+fn one_loop_through_every_crossing() {
+    let small = loops([3, 2, 1, 1, 2, 3]);
+    assert_eq!(small.len(), 1);
+    assert_eq!((small[0].0.len(), small[0].1), (12, true));
+    let large = loops([4095, 2048, 2047, 2047, 2048, 4095]);
+    assert_eq!(large.len(), 1);
+    let (mut points, normal) = large[0].clone();
+    assert_eq!((points.len(), normal), (16_380, true));
+    points.sort_unstable();
+    points.dedup();
+    assert_eq!(points.len(), 16_380);
+}
+
+#[test]
+fn many_loops_of_one_length() {
+    // the loop of 2 1 1 1 1 2, 2047 times
+    let eights = loops([4094, 2047, 2047, 2047, 2047, 4094]);
+    assert_eq!(eights.len(), 2047);
+    assert!(eights
+        .iter()
+        .all(|(points, normal)| points.len() == 8 && *normal));
+    let corners = loops([4095, 4095, 4095, 0, 0, 0]);
+    let corner = |k: u16| (vec![k, 4095 + k, 8190 + k], true);
+    assert_eq!(corners, (0..4095).map(corner).collect::<Vec<_>>());
+    // 2047 triangles at each node; the middle crossing of each edge is unjoined
+    let full = loops([4095; 6]);
+    assert_eq!(full.len(), 4 * 2047);
+    assert!(full
+        .iter()
+        .all(|(points, normal)| points.len() == 3 && *normal));
+    // index 0 is unjoined on both faces, and neighbours are joined on both
+    let pairs = loops([4095, 0, 0, 0, 0, 0]);
+    let pair = |k: u16| (vec![2 * k + 1, 2 * k + 2], false);
+    assert_eq!(pairs, (0..2047).map(pair).collect::<Vec<_>>());
+}
+
 #[test]
 fn two_points_make_a_loop_along_one_edge() {
     for edge in 0..6 {

@@ -178,6 +178,54 @@ fn long_edge_skips_its_first_residual() {
     assert_eq!(join(counts, 0, 4), joined(2, 0));
 }
 
+/// Which of the three counts' crossings are joined to which, by hand.
+#[test]
+fn counts_above_a_byte() {
+    let joined = |edge, index| Join::Joined { edge, index };
+    // corner counts 550, 450 and 50
+    let even = [1000, 600, 500];
+    for (edge, index, partner) in [
+        (0, 0, joined(1, 0)),
+        (0, 549, joined(1, 549)),
+        (0, 550, joined(2, 449)),
+        (0, 999, joined(2, 0)),
+        (1, 550, joined(2, 450)),
+        (1, 599, joined(2, 499)),
+    ] {
+        assert_eq!(join(even, edge, index), partner);
+    }
+    // 1000, 599 and 499 after the 1 is taken off: corner counts 550, 450 and 49
+    let odd = [1001, 600, 500];
+    for (edge, index, partner) in [
+        (0, 549, joined(1, 549)),
+        (0, 550, Join::Unjoined),
+        (0, 551, joined(2, 449)),
+        (1, 550, Join::Unjoined),
+        (1, 551, joined(2, 451)),
+        (2, 450, Join::Unjoined),
+    ] {
+        assert_eq!(join(odd, edge, index), partner);
+    }
+    // residuals 1 to 65,533
+    let long = [65_535, 1, 1];
+    for (index, partner) in [
+        (0, joined(1, 0)),
+        (1, Join::Unjoined),
+        (2, joined(0, 3)),
+        (65_533, joined(0, 65_532)),
+        (65_534, joined(2, 0)),
+        (65_535, Join::NoCrossing),
+    ] {
+        assert_eq!(join(long, 0, index), partner);
+    }
+    // corner counts 32,767
+    let full = [65_535; 3];
+    assert_eq!(join(full, 0, 32_766), joined(1, 32_766));
+    assert_eq!(join(full, 0, 32_767), Join::Unjoined);
+    assert_eq!(join(full, 0, 32_768), joined(2, 32_766));
+    assert_eq!(join(full, 1, 32_768), joined(2, 32_768));
+}
+
 #[test]
 fn no_crossing_outside_the_face() {
     for (edge, index) in [(3, 0), (u32::MAX, 0), (0, 2), (1, 0), (2, 7), (0, u32::MAX)] {

@@ -4,7 +4,7 @@ use reference::gen::{
     self, box_of_five, box_of_six, box_ring, broken, closed_fan, gathered, open_fan, random_shape,
     ring, separate, Rng, Sample,
 };
-use reference::grid::{check, GridTables, Lists, NO_TWIN};
+use reference::grid::{check, GridTables, Lists, NO_TWIN, ROWS};
 use reference::Refusal;
 
 fn verdict(grid: &Sample) -> Result<u32, (u8, u64)> {
@@ -12,7 +12,7 @@ fn verdict(grid: &Sample) -> Result<u32, (u8, u64)> {
     answer.map_err(|Refusal { number, place }| (number, place))
 }
 
-fn one_cell(counts: [u8; 6]) -> Sample {
+fn one_cell(counts: [u16; 6]) -> Sample {
     Sample {
         cells: vec![0, 1, 2, 3],
         edges: vec![0, 1, 0, 2, 0, 3, 1, 2, 1, 3, 2, 3],
@@ -53,7 +53,7 @@ fn plain_check(grid: &Sample) -> Result<u32, (u8, u64)> {
     let cells: Vec<&[u16]> = cells.chunks(4).collect();
     let edges: Vec<&[u16]> = edges.chunks(2).collect();
     plain_cells(&cells)?;
-    plain_edges(&cells, &edges)?;
+    plain_edges(&cells, &edges, counts)?;
     let total: u32 = counts.iter().map(|&count| u32::from(count)).sum();
     fault(10, (total > 65_535).then_some(0))?;
     Ok(total)
@@ -72,11 +72,12 @@ fn plain_cells(cells: &[&[u16]]) -> Result<(), (u8, u64)> {
     fault(5, all.clone().find(|&c| is_third(cells, c)))
 }
 
-/// Rows 6 to 9.
-fn plain_edges(cells: &[&[u16]], edges: &[&[u16]]) -> Result<(), (u8, u64)> {
+/// Row 6, row 18, and rows 7 to 9.
+fn plain_edges(cells: &[&[u16]], edges: &[&[u16]], counts: &[u16]) -> Result<(), (u8, u64)> {
     let repeats = |e: usize| e > 0 && edges[e - 1] >= edges[e];
     let misplaced = |&e: &usize| edges[e][0] >= edges[e][1] || repeats(e);
     fault(6, (0..edges.len()).find(misplaced))?;
+    fault(18, (0..edges.len()).find(|&e| counts[e] >= 4096))?;
     let pairs = [[0, 1], [0, 2], [0, 3], [1, 2], [1, 3], [2, 3]];
     let listed = |ends: [u16; 2]| edges.contains(&&ends[..]);
     let lacking = |c: &&[u16]| !pairs.iter().all(|&[u, v]| listed([c[u], c[v]]));
@@ -120,6 +121,7 @@ fn single_cell_is_accepted() {
     assert_eq!(verdict(&one_cell([0; 6])), Ok(0));
     assert_eq!(verdict(&one_cell([1, 0, 0, 0, 0, 0])), Ok(1));
     assert_eq!(verdict(&one_cell([255; 6])), Ok(1530));
+    assert_eq!(verdict(&one_cell([4095; 6])), Ok(24_570));
 }
 
 #[test]
@@ -216,6 +218,46 @@ fn row_6_edge_order() {
 }
 
 #[test]
+fn row_18_counts() {
+    for edge in 0..6 {
+        let mut grid = one_cell([4095; 6]);
+        for count in [4096, 4097, 8192, 65_280, 65_535] {
+            grid.counts[edge] = count;
+            assert_eq!(verdict(&grid), Err((18, edge as u64)));
+        }
+        grid.counts[5] = 65_535;
+        assert_eq!(verdict(&grid), Err((18, edge as u64)));
+    }
+}
+
+/// Row 18 runs after row 6 and before row 7, whatever their places are.
+#[test]
+fn row_18_stands_between_rows_6_and_7() {
+    let mut unordered = one_cell([4096, 0, 0, 0, 0, 0]);
+    unordered.edges[10..].copy_from_slice(&[3, 2]);
+    assert_eq!(verdict(&unordered), Err((6, 5)));
+    let mut missing = one_cell([0, 0, 0, 0, 4096, 0]);
+    missing.edges.truncate(10);
+    missing.counts.truncate(5);
+    assert_eq!(verdict(&missing), Err((18, 4)));
+    missing.counts[4] = 4095;
+    assert_eq!(verdict(&missing), Err((7, 0)));
+    let mut stray = one_cell([0; 6]);
+    stray.edges.extend([7, 8]);
+    stray.counts.push(4096);
+    assert_eq!(verdict(&stray), Err((18, 6)));
+    stray.counts[6] = 4095;
+    assert_eq!(verdict(&stray), Err((8, 6)));
+    let mut parted = grid_of(&[[0, 1, 2, 3], [0, 1, 4, 5]]);
+    let last = parted.counts.len() - 1;
+    parted.counts[last] = 65_535;
+    assert_eq!(verdict(&parted), Err((18, last as u64)));
+    let mut repeated = one_cell([4096; 6]);
+    repeated.cells = [[0, 1, 2, 3], [0, 1, 2, 3]].concat();
+    assert_eq!(verdict(&repeated), Err((4, 1)));
+}
+
+#[test]
 fn row_7_missing_edge() {
     let mut grid = one_cell([0; 6]);
     grid.edges.truncate(10);
@@ -276,6 +318,17 @@ fn row_10_crossings() {
     assert_eq!(verdict(&exact), Ok(65_535));
     exact.counts[0] = 1;
     assert_eq!(verdict(&exact), Err((10, 0)));
+    // 16 times 4,095 is 65,520
+    let mut large = separate(3);
+    large.counts[..16].fill(4095);
+    large.counts[16] = 15;
+    assert_eq!(verdict(&large), Ok(65_535));
+    large.counts[17] = 1;
+    assert_eq!(verdict(&large), Err((10, 0)));
+    large.counts[3] = 4096;
+    assert_eq!(verdict(&large), Err((18, 3)));
+    let many = separate(1024).with_counts(&mut rng, 4095, 4095);
+    assert_eq!(verdict(&many), Err((10, 0)));
 }
 
 #[test]
@@ -283,9 +336,9 @@ fn earlier_rows_win() {
     let mut rng = Rng::new(7);
     for seed in 0..300 {
         let mut grid = random_shape(&mut Rng::new(seed)).with_counts(&mut rng, 0, 3);
-        let later = rng.between(2, 10) as u8;
-        let earlier = rng.between(1, usize::from(later) - 1) as u8;
-        for row in [later, earlier] {
+        let later = rng.between(1, ROWS.len() - 1);
+        let earlier = rng.below(later);
+        for row in [ROWS[later], ROWS[earlier]] {
             grid = broken(&mut rng, &grid, row).unwrap_or(grid);
         }
         let answer = verdict(&grid);
@@ -300,7 +353,7 @@ fn broken_grids_are_refused_by_their_row() {
     for seed in 0..60 {
         let grid = random_shape(&mut Rng::new(seed)).with_counts(&mut rng, 0, 3);
         assert_eq!(verdict(&grid), plain_check(&grid));
-        for row in 1..=10 {
+        for row in ROWS {
             if let Some(bad) = broken(&mut rng, &grid, row) {
                 let answer = verdict(&bad);
                 assert_eq!(answer.map_err(|(number, _)| number), Err(row));
@@ -332,7 +385,7 @@ fn unlinked_gatherings_are_judged_alike() {
 #[test]
 fn random_small_lists_are_judged_alike() {
     let mut rng = Rng::new(17);
-    let mut seen = [0; 10];
+    let mut seen = [0; 19];
     for _ in 0..30_000 {
         let nodes = rng.between(4, 8);
         let cells: Vec<[u16; 4]> = (0..rng.between(1, 5))
@@ -349,11 +402,15 @@ fn random_small_lists_are_judged_alike() {
             let at = rng.below(grid.edges.len());
             grid.edges[at] = rng.below(nodes) as u16;
         }
+        if rng.below(4) == 0 {
+            let at = rng.below(grid.counts.len());
+            grid.counts[at] = rng.between(4090, 4100) as u16;
+        }
         let answer = verdict(&grid);
         assert_eq!(answer, plain_check(&grid));
         seen[answer.map_or_else(|(row, _)| usize::from(row), |_| 0)] += 1;
     }
-    for row in [0, 4, 5, 6, 7, 9] {
+    for row in [0, 4, 5, 6, 18, 7, 9] {
         assert!(seen[row] > 20, "row {row} seen {} times", seen[row]);
     }
 }

@@ -5,13 +5,14 @@ use reference::gen::{separate, Sample};
 use reference::listing::listing;
 
 fn bundle_of(grid: &Sample) -> Vec<u8> {
-    let mut area = vec![0; 3 * grid.cells.len() + 9 * grid.counts.len() + 4];
+    let wide = grid.counts.iter().filter(|&&count| count > 255).count();
+    let mut area = vec![0; 3 * grid.cells.len() + 9 * grid.counts.len() + wide + 4];
     let size = write(&grid.cells, &grid.edges, &grid.counts, &mut area);
     assert_eq!(size, Ok(area.len()));
     area
 }
 
-fn cells_with(counts: &[[u8; 6]]) -> Sample {
+fn cells_with(counts: &[[u16; 6]]) -> Sample {
     let counts_list = counts.concat();
     Sample {
         counts: counts_list,
@@ -46,6 +47,23 @@ fn refusals() {
     assert_eq!(listing(&bundle_of(&grid)), "refused 3 at 1\n");
 }
 
+/// One triangle at node 0; the other crossings are on an open curve.
+#[test]
+fn counts_above_a_byte() {
+    let bytes = bundle_of(&cells_with(&[[256, 255, 1, 0, 0, 0]]));
+    assert_eq!(bytes.len(), 71);
+    let wanted = "cells 1 edges 6 crossings 512 triangles 1\n\
+                  T 0 0 0 256 511 3 0 1 256 2 0\n";
+    assert_eq!(listing(&bytes), wanted);
+    let bytes = bundle_of(&cells_with(&[[0, 0, 4095, 0, 0, 0]]));
+    assert_eq!(listing(&bytes), "refused 12 at 4094\n");
+    let bytes = bundle_of(&cells_with(&[[0; 6], [0, 0, 4096, 0, 0, 0]]));
+    assert_eq!(listing(&bytes), "refused 18 at 8\n");
+    let mut bytes = bundle_of(&cells_with(&[[256, 0, 0, 0, 0, 0]]));
+    bytes[21] = 0;
+    assert_eq!(listing(&bytes), "refused 13 at 12\n");
+}
+
 #[test]
 fn input_limit() {
     let mut long = vec![0; 32_769];
@@ -72,6 +90,13 @@ fn input_limit() {
     };
     assert_eq!(bundle_of(&edges).len(), 32_764);
     assert_eq!(listing(&bundle_of(&edges)), "refused 1 at 0\n");
+    let wide = Sample {
+        cells: vec![0; 4],
+        edges: vec![0; 2 * 3276],
+        counts: [vec![256; 3268], vec![0; 8]].concat(),
+    };
+    assert_eq!(bundle_of(&wide).len(), 32_768);
+    assert_eq!(listing(&bundle_of(&wide)), "refused 3 at 0\n");
 }
 
 #[test]

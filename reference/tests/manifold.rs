@@ -95,11 +95,20 @@ fn large_counts_close_too() {
 }
 
 #[test]
+fn the_largest_counts_close_too() {
+    let mut grid = closed_fan(5);
+    grid.counts[0] = 4094;
+    let found = report(&grid);
+    assert!(closes(&grid) && found.closed(), "{found:?}");
+    assert_eq!(found.triangles, 5 * 4094);
+}
+
+#[test]
 fn every_mesh_is_sound() {
     let mut rng = Rng::new(59);
     let mut borders = 0;
     for seed in 0..120 {
-        let most = rng.between(1, 9) as u8;
+        let most = rng.between(1, 9) as u16;
         let grid = random_shape(&mut Rng::new(seed)).with_counts(&mut rng, 0, most);
         let found = report(&grid);
         assert!(found.sound(), "{found:?}");

@@ -11,7 +11,7 @@ use reference::Refusal;
 
 const UNTOUCHED: u32 = 0xdead_beef;
 
-fn one_cell(counts: [u8; 6]) -> Sample {
+fn one_cell(counts: [u16; 6]) -> Sample {
     Sample {
         cells: vec![0, 1, 2, 3],
         edges: vec![0, 1, 0, 2, 0, 3, 1, 2, 1, 3, 2, 3],
@@ -216,15 +216,28 @@ fn plain_triangles(cell: u32, data: &PlainCell, found: &PlainLoop, out: &mut Vec
     }
 }
 
+/// Of a cell with more loops than this only so many are asked for, and the last.
+const LOOPS_ASKED: usize = 60;
+
 /// Compares mesh and loops with the plain mesher; answers the triangles.
 fn compare(grid: &Sample) -> usize {
     let mut expected = Vec::new();
+    let mut mesher = Mesher::default();
     for (cell, nodes) in grid.cell_list().iter().enumerate() {
         let data = plain_cell(grid, cell);
         let found = plain_loops(data.counts);
-        let answers = loops_of(grid, cell as u64);
-        assert_eq!(answers.len(), found.len());
-        for (plain, answer) in found.iter().zip(answers) {
+        let mut ask = |k: usize| {
+            let Sample {
+                cells,
+                edges,
+                counts,
+            } = grid;
+            let answer = mesher.loop_of_cell(cells, edges, counts, cell as u64, k as u64);
+            answer.expect("the grid is accepted")
+        };
+        assert_eq!(ask(found.len()), None);
+        assert_eq!(ask(found.len() + 1), None);
+        for (k, plain) in found.iter().enumerate() {
             let (edge, index) = plain.points[0];
             let (parity_sum, kind) = plain.kind(nodes);
             let wanted = LoopAnswer {
@@ -234,7 +247,9 @@ fn compare(grid: &Sample) -> usize {
                 parity_sum,
                 kind,
             };
-            assert_eq!(answer, wanted);
+            if k < LOOPS_ASKED || k + 1 == found.len() {
+                assert_eq!(ask(k), Some(wanted));
+            }
             plain_triangles(cell as u32, &data, plain, &mut expected);
         }
     }
@@ -245,7 +260,7 @@ fn compare(grid: &Sample) -> usize {
 #[test]
 fn all_small_counts_of_one_cell() {
     for code in 0..4096_u32 {
-        let counts = [0, 2, 4, 6, 8, 10].map(|shift| (code >> shift & 3) as u8);
+        let counts = [0, 2, 4, 6, 8, 10].map(|shift| (code >> shift & 3) as u16);
         compare(&one_cell(counts));
     }
 }
@@ -255,9 +270,65 @@ fn random_counts_of_one_cell() {
     let mut rng = Rng::new(3);
     for _ in 0..1500 {
         let most = rng.between(1, 40);
-        let counts = [(); 6].map(|()| rng.between(0, most) as u8);
+        let counts = [(); 6].map(|()| rng.between(0, most) as u16);
         compare(&one_cell(counts));
     }
+}
+
+#[test]
+fn large_counts_of_one_cell() {
+    let examples = [
+        ([4095, 0, 0, 0, 0, 0], 4094),
+        ([4095, 4095, 4095, 0, 0, 0], 4095),
+        ([4095; 6], 4 * 2047),
+        ([4094; 6], 4 * 2047),
+        ([4094, 2047, 2047, 2047, 2047, 4094], 16_376),
+        ([4095, 2048, 2047, 2047, 2048, 4095], 16_380),
+        // one triangle; the other crossings are on an open curve
+        ([256, 255, 1, 0, 0, 0], 1),
+        ([4095, 4094, 1, 0, 0, 0], 1),
+    ];
+    for (counts, triangles) in examples {
+        assert_eq!(compare(&one_cell(counts)), triangles, "{counts:?}");
+    }
+    let mut rng = Rng::new(73);
+    for _ in 0..40 {
+        let counts = [(); 6].map(|()| {
+            let most = 1 << rng.between(1, 12);
+            rng.below(most) as u16
+        });
+        compare(&one_cell(counts));
+    }
+}
+
+/// Counts above 4,095 are refused with the edge, by the mesh and the loops call.
+#[test]
+fn row_18_of_both_calls() {
+    for edge in 0..6 {
+        let mut grid = one_cell([1, 1, 1, 0, 0, 0]);
+        grid.counts[edge] = 4096;
+        let Sample {
+            cells,
+            edges,
+            counts,
+        } = grid;
+        let refusal = Refusal {
+            number: 18,
+            place: edge as u64,
+        };
+        let mut area = [UNTOUCHED; 20];
+        assert_eq!(mesh(&cells, &edges, &counts, &mut area), Err(refusal));
+        assert_eq!(area, [UNTOUCHED; 20]);
+        assert_eq!(loop_of_cell(&cells, &edges, &counts, 9, 0), Err(refusal));
+    }
+}
+
+/// 2,047 loops of two points in each of 40 cells round the edge 0 1.
+#[test]
+fn a_full_edge_of_many_cells() {
+    let mut grid = closed_fan(40);
+    grid.counts[0] = 4095;
+    assert_eq!(words_of(&grid).len(), 40 * 4094 * TRIANGLE_WORDS);
 }
 
 #[test]
@@ -266,7 +337,7 @@ fn random_grids() {
     let mut triangles = 0;
     for seed in 0..150 {
         let shape = random_shape(&mut Rng::new(seed));
-        let most = rng.between(1, 9) as u8;
+        let most = rng.between(1, 9) as u16;
         let grid = match rng.below(3) {
             0 => shape.with_counts(&mut rng, 0, most),
             1 => shape.with_even_counts(&mut rng, 3),

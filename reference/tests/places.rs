@@ -12,7 +12,7 @@ fn refused<T>(number: u8, place: u64) -> Result<T, Refusal> {
     Err(Refusal { number, place })
 }
 
-fn one_cell(counts: [u8; 6]) -> Sample {
+fn one_cell(counts: [u16; 6]) -> Sample {
     Sample {
         cells: vec![0, 1, 2, 3],
         edges: vec![0, 1, 0, 2, 0, 3, 1, 2, 1, 3, 2, 3],
@@ -138,12 +138,39 @@ fn plain_places(call: &Call) -> Vec<f64> {
     numbers
 }
 
+/// The third of 4,095 crossings, and the middle of the first two that are joined:
+/// index 0 is unjoined.
+#[test]
+fn an_edge_of_4095() {
+    let mut call = Call {
+        grid: one_cell([4095, 0, 0, 0, 0, 0]),
+        nodes: vec![
+            0.0, 0.0, 0.0, 4096.0, 0.0, -8192.0, 0.0, 0.0, 0.0, 0.0, 0.0, 0.0,
+        ],
+        fractions: (1..4096).map(|part| f64::from(part) / 4096.0).collect(),
+        area: vec![UNTOUCHED; 3 * (4095 + 2047) + 1],
+    };
+    assert_eq!(call.run(), Ok(4095 + 2047));
+    assert_eq!(call.area[6..9], [3.0, 0.0, -6.0]);
+    assert_eq!(call.area[3 * 4095..3 * 4096], [2.5, 0.0, -5.0]);
+    assert_eq!(call.area[3 * (4095 + 2047)], UNTOUCHED);
+    call.fractions[4094] = 1.0;
+    call.area.fill(UNTOUCHED);
+    call.refuses(17, 4094);
+    call.nodes[4] = f64::NAN;
+    call.refuses(16, 4);
+    call.fractions.pop();
+    call.refuses(15, 0);
+    call.grid.counts[5] = 4096;
+    call.refuses(18, 5);
+}
+
 #[test]
 fn random_grids_are_placed_alike() {
     let mut rng = Rng::new(37);
     let mut middles = 0;
     for seed in 0..80 {
-        let most = rng.between(1, 12) as u8;
+        let most = rng.between(1, 12) as u16;
         let grid = random_shape(&mut Rng::new(seed)).with_counts(&mut rng, 0, most);
         let mut call = call(&mut rng, grid, seed % 2 == 0);
         let expected = plain_places(&call);

@@ -34,7 +34,7 @@ static void show(const char *call, size_t many) {
   clear();
 }
 
-static void face(const char *call, uint8_t ab, uint8_t ac, uint8_t bc,
+static void face(const char *call, uint16_t ab, uint16_t ac, uint16_t bc,
                  uint32_t edge, uint32_t index, size_t answer_len) {
   show(call, citternblaze_face(ab, ac, bc, edge, index, answer, answer_len));
 }
@@ -49,6 +49,10 @@ static void test_face(void) {
   face("face 0 255 255, edge 2, index 0", 0, 255, 255, 2, 0, ROOM);
   face("face 255 0 0, edge 4294967295, index 4294967295", 255, 0, 0, UINT32_MAX,
        UINT32_MAX, ROOM);
+  face("face 1001 600 500, edge 2, index 450", 1001, 600, 500, 2, 450, ROOM);
+  face("face 1001 600 500, edge 1, index 551", 1001, 600, 500, 1, 551, ROOM);
+  face("face 65535 1 1, edge 0, index 65533", 65535, 1, 1, 0, 65533, ROOM);
+  face("face 65535 1 1, edge 0, index 65535", 65535, 1, 1, 0, 65535, ROOM);
   face("face 5 1 1, edge 0, index 2, answer area of 6", 5, 1, 1, 0, 2, ENOUGH);
   face("face 5 1 1, edge 0, index 2, answer area of 5", 5, 1, 1, 0, 2, SHORT);
   face("face 5 1 1, edge 0, index 2, answer area of 0", 5, 1, 1, 0, 2, 0);
@@ -57,7 +61,7 @@ static void test_face(void) {
 static const uint16_t cells[] = {0, 1, 2, 3, 0, 1, 2, 4};
 static const uint16_t edges[] = {0, 1, 0, 2, 0, 3, 0, 4, 1, 2,
                                  1, 3, 1, 4, 2, 3, 2, 4};
-static const uint8_t counts[] = {1, 2, 3, 4, 5, 6, 7, 8, 255};
+static const uint16_t counts[] = {1, 2, 3, 4, 5, 6, 7, 8, 255};
 
 static void check(const char *call, size_t cells_len, size_t edges_len,
                   size_t counts_len, size_t answer_len) {
@@ -66,7 +70,11 @@ static void check(const char *call, size_t cells_len, size_t edges_len,
 }
 
 static void test_check(void) {
+  static const uint16_t six[] = {0, 1, 0, 2, 0, 3, 1, 2, 1, 3, 2, 3};
+  static const uint16_t full[] = {4095, 4095, 4095, 4095, 4095, 4095};
   check("check 2 cells", 8, 18, 9, ROOM);
+  show("check 1 cell, every count 4095",
+       citternblaze_check(cells, 4, six, 12, full, 6, answer, ROOM));
   check("check 5 numbers", 5, 18, 9, ROOM);
   check("check no cells", 0, 18, 9, ROOM);
   check("check 9 edges, 8 counts", 8, 18, 8, ROOM);
@@ -82,7 +90,7 @@ static void test_check(void) {
 
 /* The mesh of cells 0 1 2 3 and 0 1 2 4 with these counts, in an area of
  * area_len words. */
-static void mesh(const char *call, const uint8_t *edge_counts, size_t cells_len,
+static void mesh(const char *call, const uint16_t *edge_counts, size_t cells_len,
                  size_t area_len, size_t answer_len) {
   uint32_t area[WORDS];
   memset(area, 0xa5, sizeof area);
@@ -99,16 +107,21 @@ static void mesh(const char *call, const uint8_t *edge_counts, size_t cells_len,
 }
 
 static void test_mesh(void) {
-  static const uint8_t none[9] = {0};
+  static const uint16_t none[9] = {0};
   /* corners at 0 of both cells, and at 3 of the first */
-  static const uint8_t corner[9] = {1, 1, 1, 1};
-  static const uint8_t at_3[9] = {0, 0, 1, 0, 0, 1, 0, 1};
+  static const uint16_t corner[9] = {1, 1, 1, 1};
+  static const uint16_t at_3[9] = {0, 0, 1, 0, 0, 1, 0, 1};
   /* edge 0 3: a loop of length 2 in the first cell */
-  static const uint8_t twice[9] = {0, 0, 2};
+  static const uint16_t twice[9] = {0, 0, 2};
+  /* a corner at 0 of the first cell, and open curves */
+  static const uint16_t many[9] = {4095, 4094, 1};
+  static const uint16_t over[9] = {0, 0, 0, 0, 0, 0, 0, 4096};
   mesh("mesh without crossings", none, 8, WORDS, ROOM);
   mesh("mesh of a corner in two cells", corner, 8, WORDS, ROOM);
   mesh("mesh of a corner in one cell", at_3, 8, WORDS, ROOM);
   mesh("mesh of a loop of two segments", twice, 8, WORDS, ROOM);
+  mesh("mesh of a corner among 8190 crossings", many, 8, WORDS, ROOM);
+  mesh("mesh, a count of 4096", over, 8, WORDS, ROOM);
   mesh("mesh, area of 22", twice, 8, 22, ROOM);
   mesh("mesh, area of 21", twice, 8, 21, ROOM);
   mesh("mesh, area of 0", twice, 8, 0, ROOM);
@@ -120,7 +133,7 @@ static void test_mesh(void) {
 }
 
 /* Loop `index` of cell `cell` of cells 0 1 2 3 and 0 1 2 4 with these counts. */
-static void loop(const char *call, const uint8_t *edge_counts, size_t cells_len,
+static void loop(const char *call, const uint16_t *edge_counts, size_t cells_len,
                  size_t cell, size_t index, size_t answer_len) {
   show(call, citternblaze_loops(cells, cells_len, edges, 18, edge_counts, 9, cell,
                                 index, answer, answer_len));
@@ -129,10 +142,12 @@ static void loop(const char *call, const uint8_t *edge_counts, size_t cells_len,
 static void test_loops(void) {
   /* a corner at 0 of both cells; a corner at 3; a loop of length 2; 0 and 1
    * apart from 2, 3 and 4 */
-  static const uint8_t corner[9] = {1, 1, 1, 1};
-  static const uint8_t at_3[9] = {0, 0, 1, 0, 0, 1, 0, 1};
-  static const uint8_t twice[9] = {0, 0, 2};
-  static const uint8_t apart[9] = {0, 1, 1, 1, 1, 1, 1};
+  static const uint16_t corner[9] = {1, 1, 1, 1};
+  static const uint16_t at_3[9] = {0, 0, 1, 0, 0, 1, 0, 1};
+  static const uint16_t twice[9] = {0, 0, 2};
+  static const uint16_t apart[9] = {0, 1, 1, 1, 1, 1, 1};
+  static const uint16_t full[9] = {0, 0, 4095};
+  static const uint16_t over[9] = {0, 0, 4096};
   loop("loop 0 of cell 0, a corner at 0", corner, 8, 0, 0, ROOM);
   loop("loop 0 of cell 1, a corner at 0", corner, 8, 1, 0, ROOM);
   loop("loop 1 of cell 1", corner, 8, 1, 1, ROOM);
@@ -140,6 +155,9 @@ static void test_loops(void) {
   loop("loop 0 of cell 0, of two segments", twice, 8, 0, 0, ROOM);
   loop("loop 0 of cell 1, none", twice, 8, 1, 0, ROOM);
   loop("loop 0 of cell 1, diagonal", apart, 8, 1, 0, ROOM);
+  loop("loop 2046 of cell 0, 4095 on an edge", full, 8, 0, 2046, ROOM);
+  loop("loop 2047 of cell 0, 4095 on an edge", full, 8, 0, 2047, ROOM);
+  loop("loop 0 of cell 2 of 2, a count of 4096", over, 8, 2, 0, ROOM);
   loop("the highest loop of cell 1", apart, 8, 1, SIZE_MAX, ROOM);
   loop("loop 0 of cell 2 of 2", corner, 8, 2, 0, ROOM);
   loop("loop 0 of the highest cell", corner, 8, SIZE_MAX, 0, ROOM);
@@ -153,10 +171,10 @@ static void test_loops(void) {
 
 /* The places of cells 0 1 2 3 and 0 1 2 4, with crossings on edge 0 3 only:
  * count_03 of them. Node k is at 8k, -k, 0.5. */
-static void place(const char *call, uint8_t count_03, const double *fractions,
+static void place(const char *call, uint16_t count_03, const double *fractions,
                   size_t fractions_len, size_t nodes_len, size_t area_len,
                   size_t answer_len) {
-  const uint8_t edge_counts[9] = {0, 0, count_03};
+  const uint16_t edge_counts[9] = {0, 0, count_03};
   double nodes[15], area[NUMBERS];
   for (int k = 0; k < 5; k++) {
     nodes[3 * k] = 8 * k;
@@ -186,6 +204,7 @@ static void test_places(void) {
   place("places of a crossing", 1, quarters, 1, 15, NUMBERS, ROOM);
   place("places of two crossings and a middle", 2, quarters, 2, 15, NUMBERS,
         ROOM);
+  place("places, a count of 4096", 4096, quarters, 2, 15, NUMBERS, ROOM);
   place("places, area of 9", 2, quarters, 2, 15, 9, ROOM);
   place("places, area of 8", 2, quarters, 2, 15, 8, ROOM);
   place("places, 14 numbers for 5 nodes", 2, quarters, 2, 14, NUMBERS, ROOM);
@@ -197,9 +216,15 @@ static void test_places(void) {
   place("places, answer area of 5", 2, quarters, 2, 15, NUMBERS, SHORT);
 }
 
-/* A cell, an edge and an end. */
-static const uint8_t bundle[] = {10, 0, 1, 0, 0, 0, 1, 0, 2, 0, 3, 1, 7,
-                                 0,  2, 0, 5, 0, 6, 1, 9, 2, 0, 3, 0};
+/* A cell, an edge of kind 2, one of kind 4 and an end. */
+static const uint8_t bundle[] = {
+    10, 0, 1, 0, 0, 0, 1, 0, 2, 0, 3, 1, /* nodes 0 1 2 259 */
+    7, 0, 2, 0, 5, 0, 6, 1, 9,           /* ends 5 262, count 9 */
+    8, 0, 4, 0, 5, 0, 7, 1, 255, 15,     /* ends 5 263, count 4095 */
+    2, 0, 3, 0};
+
+/* An edge of kind 4 with 255, and an end. */
+static const uint8_t narrow[] = {8, 0, 4, 0, 5, 0, 7, 1, 255, 0, 2, 0, 3, 0};
 
 static void record(const char *call, size_t bytes_len, size_t start,
                    size_t answer_len) {
@@ -215,19 +240,24 @@ static void test_record(void) {
   record("record at 0", sizeof bundle, 0, ROOM);
   record("record at 12", sizeof bundle, 12, ROOM);
   record("record at 21", sizeof bundle, 21, ROOM);
+  record("record at 31", sizeof bundle, 31, ROOM);
   record("record at 1", sizeof bundle, 1, ROOM);
-  record("record at 25 of 25", sizeof bundle, sizeof bundle, ROOM);
+  record("record at 35 of 35", sizeof bundle, sizeof bundle, ROOM);
   record("record at the highest start", sizeof bundle, SIZE_MAX, ROOM);
   record("record at 0 of 11", 11, 0, ROOM);
+  record("record at 21 of 30", 30, 21, ROOM);
   record("record at 0 of 0", 0, 0, ROOM);
+  show("record of kind 4 with 255",
+       citternblaze_record(narrow, sizeof narrow, 0, answer, ROOM));
+  show("body of kind 4 with 255",
+       citternblaze_record_body(narrow, sizeof narrow, 0, answer, ROOM));
   record("record at 0, answer area of 6", sizeof bundle, 0, ENOUGH);
   record("record at 0, answer area of 5", sizeof bundle, 0, SHORT);
 }
 
 static void read_bundle(const char *call, size_t bytes_len, size_t nodes_len,
                         size_t ends_len, size_t counts_len, size_t answer_len) {
-  uint16_t nodes[6], ends[4];
-  uint8_t count[3];
+  uint16_t nodes[6], ends[6], count[3];
   memset(nodes, 0xa5, sizeof nodes);
   memset(ends, 0xa5, sizeof ends);
   memset(count, 0xa5, sizeof count);
@@ -238,7 +268,7 @@ static void read_bundle(const char *call, size_t bytes_len, size_t nodes_len,
   for (size_t i = 0; i < 6; i++)
     printf(" %x", nodes[i]);
   printf(", ends");
-  for (size_t i = 0; i < 4; i++)
+  for (size_t i = 0; i < 6; i++)
     printf(" %x", ends[i]);
   printf(", counts");
   for (size_t i = 0; i < 3; i++)
@@ -247,25 +277,30 @@ static void read_bundle(const char *call, size_t bytes_len, size_t nodes_len,
 }
 
 static void test_bundle_read(void) {
-  read_bundle("read", sizeof bundle, 6, 4, 3, ROOM);
-  read_bundle("read into lists just long enough", sizeof bundle, 4, 2, 1, ROOM);
-  read_bundle("read, list of 3 nodes", sizeof bundle, 3, 4, 3, ROOM);
-  read_bundle("read, list of 1 end", sizeof bundle, 6, 1, 3, ROOM);
-  read_bundle("read, no list of counts", sizeof bundle, 6, 4, 0, ROOM);
-  read_bundle("read a bundle cut to 24", 24, 6, 4, 3, ROOM);
-  read_bundle("read a bundle cut to 21", 21, 6, 4, 3, ROOM);
-  read_bundle("read nothing", 0, 6, 4, 3, ROOM);
-  read_bundle("read, answer area of 6", sizeof bundle, 6, 4, 3, ENOUGH);
-  read_bundle("read, answer area of 5", sizeof bundle, 6, 4, 3, SHORT);
+  read_bundle("read", sizeof bundle, 6, 6, 3, ROOM);
+  read_bundle("read into lists just long enough", sizeof bundle, 4, 4, 2, ROOM);
+  read_bundle("read, list of 3 nodes", sizeof bundle, 3, 6, 3, ROOM);
+  read_bundle("read, list of 3 ends", sizeof bundle, 6, 3, 3, ROOM);
+  read_bundle("read, list of 1 count", sizeof bundle, 6, 6, 1, ROOM);
+  read_bundle("read a bundle cut to 34", 34, 6, 6, 3, ROOM);
+  read_bundle("read a bundle cut to 31", 31, 6, 6, 3, ROOM);
+  read_bundle("read a bundle cut to 30", 30, 6, 6, 3, ROOM);
+  read_bundle("read nothing", 0, 6, 6, 3, ROOM);
+  read_bundle("read, answer area of 6", sizeof bundle, 6, 6, 3, ENOUGH);
+  read_bundle("read, answer area of 5", sizeof bundle, 6, 6, 3, SHORT);
+  show("read kind 4 with 255",
+       citternblaze_bundle_read(narrow, sizeof narrow, NULL, 0, NULL, 0, NULL, 0,
+                                answer, ROOM));
 }
 
-static void write_bundle(const char *call, size_t nodes_len, size_t ends_len,
-                         size_t counts_len, size_t area_len,
-                         size_t answer_len) {
+static void write_bundle_of(const char *call, const uint16_t *edge_counts,
+                            size_t nodes_len, size_t ends_len,
+                            size_t counts_len, size_t area_len,
+                            size_t answer_len) {
   uint8_t area[28];
   memset(area, 0xa5, sizeof area);
   show(call, citternblaze_bundle_write(cells, nodes_len, edges, ends_len,
-                                       counts, counts_len, area, area_len,
+                                       edge_counts, counts_len, area, area_len,
                                        answer, answer_len));
   printf("  area");
   for (size_t i = 0; i < sizeof area; i++)
@@ -273,10 +308,23 @@ static void write_bundle(const char *call, size_t nodes_len, size_t ends_len,
   printf("\n");
 }
 
+static void write_bundle(const char *call, size_t nodes_len, size_t ends_len,
+                         size_t counts_len, size_t area_len,
+                         size_t answer_len) {
+  write_bundle_of(call, counts, nodes_len, ends_len, counts_len, area_len,
+                  answer_len);
+}
+
 static void test_bundle_write(void) {
+  static const uint16_t wide[] = {256, 255}, widest[] = {65535};
   write_bundle("write a cell and an edge", 4, 2, 1, 28, ROOM);
   write_bundle("write into an area just long enough", 4, 2, 1, 25, ROOM);
   write_bundle("write into an area too short by one", 4, 2, 1, 24, ROOM);
+  write_bundle_of("write a count of 256", wide, 4, 2, 1, 28, ROOM);
+  write_bundle_of("write a count of 256, area of 26", wide, 4, 2, 1, 26, ROOM);
+  write_bundle_of("write a count of 256, area of 25", wide, 4, 2, 1, 25, ROOM);
+  write_bundle_of("write counts of 256 and 255", wide, 0, 4, 2, 28, ROOM);
+  write_bundle_of("write a count of 65535", widest, 0, 2, 1, 28, ROOM);
   write_bundle("write nothing", 0, 0, 0, 4, ROOM);
   write_bundle("write 5 nodes", 5, 2, 1, 28, ROOM);
   write_bundle("write 3 ends", 4, 3, 1, 28, ROOM);
@@ -299,7 +347,7 @@ static void refusal(const char *name, uint64_t number, size_t many) {
  * 0. */
 static size_t check_of(const uint16_t *of_cells, size_t cells_len,
                        const uint16_t *of_edges, size_t edges_len) {
-  static const uint8_t zeros[11] = {0};
+  static const uint16_t zeros[11] = {0};
   return citternblaze_check(of_cells, cells_len, of_edges, edges_len, zeros,
                             edges_len / 2, answer, ROOM);
 }
@@ -314,12 +362,13 @@ static size_t check_of(const uint16_t *of_cells, size_t cells_len,
 static size_t check_full(void) {
   static const int ends[12] = {0, 1, 0, 2, 0, 3, 1, 2, 1, 3, 2, 3};
   static uint16_t many_cells[4 * FULL], many_edges[12 * FULL];
-  static uint8_t many_counts[6 * FULL];
+  static uint16_t many_counts[6 * FULL];
   for (int i = 0; i < 4 * FULL; i++)
     many_cells[i] = (uint16_t)i;
   for (int i = 0; i < 12 * FULL; i++)
     many_edges[i] = (uint16_t)(i / 12 * 4 + ends[i % 12]);
-  memset(many_counts, 255, sizeof many_counts);
+  for (int i = 0; i < 6 * FULL; i++)
+    many_counts[i] = 255;
   return citternblaze_check(many_cells, 4 * FULL, many_edges, 12 * FULL,
                             many_counts, 6 * FULL, answer, ROOM);
 }
@@ -335,6 +384,7 @@ static void test_grid_refusals(void) {
   static const uint16_t added[] = {0, 1, 0, 2, 0, 3, 1, 2, 1, 3, 2, 3, 7, 8};
   static const uint16_t odd[] = {0, 1, 0}, equal[] = {1, 1};
   static const uint16_t swapped[] = {0, 2, 0, 1, 0, 3, 1, 2, 1, 3, 2, 3};
+  static const uint16_t over[6] = {0, 0, 0, 4096};
   static const uint16_t of_apart[] = {0, 1, 0, 2, 0, 3, 0, 4, 0, 5, 1,
                                       2, 1, 3, 1, 4, 1, 5, 2, 3, 4, 5};
   REFUSAL(CELL_LIST, CHECK(five, six));
@@ -344,6 +394,12 @@ static void test_grid_refusals(void) {
   REFUSAL(FACE_CROWDED, CHECK(three, six));
   REFUSAL(EDGE_ORDER, CHECK(one, equal));
   REFUSAL(EDGE_ORDER, CHECK(one, swapped));
+  REFUSAL(COUNT, citternblaze_check(one, 4, six, 12, over, 6, answer, ROOM));
+  /* 18 stands between 6 and 7 */
+  REFUSAL(EDGE_ORDER,
+          citternblaze_check(one, 4, swapped, 12, over, 6, answer, ROOM));
+  REFUSAL(COUNT,
+          citternblaze_check(one, 4, without, 10, over, 5, answer, ROOM));
   REFUSAL(EDGE_MISSING, CHECK(one, without));
   REFUSAL(EDGE_STRAY, CHECK(one, added));
   REFUSAL(EDGE_UNLINKED, CHECK(apart, of_apart));
@@ -352,7 +408,7 @@ static void test_grid_refusals(void) {
 
 static void test_other_refusals(void) {
   static const uint16_t six[] = {0, 1, 0, 2, 0, 3, 1, 2, 1, 3, 2, 3};
-  static const uint8_t corner[6] = {1, 1, 1}, twice[6] = {2};
+  static const uint16_t corner[6] = {1, 1, 1}, twice[6] = {2};
   static const double halves[2] = {0.5, 0.5};
   double nodes[12] = {0, 0, 0, 8, 0, 0, 0, 8, 0, 0, 0, 8}, points[9];
   uint8_t bytes[70];
@@ -408,7 +464,7 @@ static void test_null(void) {
   show("read nothing", citternblaze_bundle_read(NULL, 0, NULL, 0, NULL, 0, NULL,
                                                 0, answer, ROOM));
   show("read an end into no lists",
-       citternblaze_bundle_read(bundle + 21, 4, NULL, 0, NULL, 0, NULL, 0, answer,
+       citternblaze_bundle_read(bundle + 31, 4, NULL, 0, NULL, 0, NULL, 0, answer,
                                 ROOM));
   show("read into no lists",
        citternblaze_bundle_read(bundle, sizeof bundle, NULL, 0, NULL, 0, NULL, 0,

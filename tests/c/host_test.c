@@ -13,6 +13,8 @@
 
 static const uint8_t cell[] = {10, 0, 1, 0, 0, 0, 1, 0, 2, 0, 3, 0};
 static const uint8_t edge[] = {7, 0, 2, 0, 0, 0, 1, 0, 5};
+static const uint8_t wide[] = {8, 0, 4, 0, 0, 0, 2, 0, 0, 1};
+static const uint8_t narrow[] = {8, 0, 4, 0, 0, 0, 2, 0, 255, 0};
 static const uint8_t end[] = {2, 0, 3, 0};
 
 static uint8_t input[MANY * sizeof cell + sizeof end];
@@ -61,6 +63,7 @@ int main(void)
     add(cell, sizeof cell);
     add(cell, sizeof cell);
     add(edge, sizeof edge);
+    add(wide, sizeof wide);
     add(end, sizeof end);
     ask_guarded("good", used);
     for (size_t length = 1; length < used; length++) {
@@ -82,12 +85,34 @@ int main(void)
     ask_guarded("cell after edge", used);
 
     used = 0;
+    add(wide, sizeof wide);
+    add(cell, sizeof cell);
+    add(end, sizeof end);
+    ask_guarded("cell after edge of kind 4", used);
+
+    used = 0;
+    add(cell, sizeof cell);
+    add(wide, sizeof wide);
+    add(edge, sizeof edge);
+    add(wide, sizeof wide);
+    add(end, sizeof end);
+    ask_guarded("kinds 2 and 4", used);
+
+    used = 0;
+    add(cell, sizeof cell);
+    add(narrow, sizeof narrow);
+    add(end, sizeof end);
+    ask_guarded("kind 4 with 255", used);
+
+    used = 0;
     add(cell, sizeof cell);
     add(end, sizeof end);
     input[0] = 11;
     ask_guarded("wrong length", used);
     input[0] = 10;
     input[2] = 4;
+    ask_guarded("kind 4 with the length of a cell", used);
+    input[2] = 0;
     ask_guarded("no kind", used);
 
     used = 0;

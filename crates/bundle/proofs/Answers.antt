@@ -10,13 +10,13 @@ use borrow.Author.Tests.{leb-true, eq-eqb, ne-eqb, le-leb}
 use Rattle.answer.specs.Answer.{result, refusal}
 use Rattle.counting.specs.Pick.{pick}
 use Rattle.counting.proofs.Bools.{clash, not-clash, and-left, and-right}
-use Rattle.bundle.specs.Record.{cellKind, edgeKind, endKind, brokenRow, nextRecord}
-use Rattle.bundle.specs.Bundle.{isOf, start, run, cells, edgesFrom, edges, stop, bundleAnswer, isBundle, hasRoom, isTaken, readAnswer, nodesOf, endsOf, countsOf, cellNodes, edgeEnds, writtenOver, leaves, nodesLeft, endsLeft, countsLeft, shortRow}
+use Rattle.bundle.specs.Record.{brokenRow, nextRecord}
+use Rattle.bundle.specs.Bundle.{cellSection, edgeSection, endSection, isOf, start, run, cells, edgesFrom, edges, stop, bundleAnswer, isBundle, hasRoom, isTaken, readAnswer, nodesOf, endsOf, countsOf, cellNodes, edgeEnds, writtenOver, leaves, nodesLeft, endsLeft, countsLeft, shortRow}
 use Rattle.bundle.proofs.OneRecord.{apart}
 
 module _ (s : List ℕ) where
   -- the numbers of two runs are those of the bundle
-  module _ (c p e q : ℕ) (hc : c ≡ run s cellKind 0) (hp : p ≡ start s 0 c) (he : e ≡ run s edgeKind p) (hq : q ≡ start s p e) where
+  module _ (c p e q : ℕ) (hc : c ≡ run s cellSection 0) (hp : p ≡ start s 0 c) (he : e ≡ run s edgeSection p) (hq : q ≡ start s p e) where
     pub cells-are : c ≡ cells s
     unfolding cells
     cells-are = hc
@@ -27,22 +27,22 @@ module _ (s : List ℕ) where
 
     pub edges-are : e ≡ edges s
     unfolding edges
-    edges-are = he ∙ ap (run s edgeKind) from-is
+    edges-are = he ∙ ap (run s edgeSection) from-is
 
     pub stop-is : q ≡ stop s
     unfolding stop
     stop-is = hq ∙ ap (λ n. start s n e) from-is ∙ ap (start s (edgesFrom s)) edges-are
 
   -- row 13
-  pub answer-open : isOf s endKind (stop s) ≡ false → bundleAnswer s ≡ refusal brokenRow (stop s)
+  pub answer-open : isOf s endSection (stop s) ≡ false → bundleAnswer s ≡ refusal brokenRow (stop s)
   unfolding bundleAnswer
   answer-open h = simp h
 
-  pub answer-after : isOf s endKind (stop s) ≡ true → (nextRecord s (stop s) ≡ length s → ⊥) → bundleAnswer s ≡ refusal brokenRow (nextRecord s (stop s))
+  pub answer-after : isOf s endSection (stop s) ≡ true → (nextRecord s (stop s) ≡ length s → ⊥) → bundleAnswer s ≡ refusal brokenRow (nextRecord s (stop s))
   unfolding bundleAnswer
   answer-after h l = simp (h, ne-eqb _ _ l)
 
-  pub answer-lists : isOf s endKind (stop s) ≡ true → nextRecord s (stop s) ≡ length s → bundleAnswer s ≡ result (cells s ∷ edges s ∷ [])
+  pub answer-lists : isOf s endSection (stop s) ≡ true → nextRecord s (stop s) ≡ length s → bundleAnswer s ≡ result (cells s ∷ edges s ∷ [])
   unfolding bundleAnswer
   answer-lists h l = simp (h, eq-eqb _ _ l)
 
@@ -53,11 +53,11 @@ module _ (s : List ℕ) where
 
   pub bundle-answer : isBundle s ≡ true → bundleAnswer s ≡ result (cells s ∷ edges s ∷ [])
   unfolding bundleAnswer isBundle
-  bundle-answer h = both (isOf s endKind (stop s)) (eqb (nextRecord s (stop s)) (length s)) _ _ _ h
+  bundle-answer h = both (isOf s endSection (stop s)) (eqb (nextRecord s (stop s)) (length s)) _ _ _ h
 
   pub refused : isBundle s ≡ false → (place : ℕ) × (bundleAnswer s ≡ refusal brokenRow place)
   unfolding bundleAnswer isBundle
-  refused h = go (isOf s endKind (stop s)) (eqb (nextRecord s (stop s)) (length s)) h
+  refused h = go (isOf s endSection (stop s)) (eqb (nextRecord s (stop s)) (length s)) h
     where
       go : (a b : Bool) → (a && b) ≡ false
           → (place : ℕ) × (pick a (pick b (result (cells s ∷ edges s ∷ [])) (refusal brokenRow (nextRecord s (stop s)))) (refusal brokenRow (stop s)) ≡ refusal brokenRow place)

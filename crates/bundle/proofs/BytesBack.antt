@@ -1,14 +1,14 @@
 -- A bundle that is read and written again has its bytes back. Assumes nothing.
 use Prim.Native.Nat.{ℕ, zero, suc, _+_, _-_, _*_, _/_, _%_, _≤_, _<_}
 use mathlib.Core.Path.{_≡_, refl, sym, ap, _∙_}
-use mathlib.Core.Bool.{true}
+use mathlib.Core.Bool.{true, false}
 use mathlib.Core.List.{List, [], _∷_, _++_, append-assoc}
 use native.Mathlib.Decide.{decLt}
 use native.Mathlib.Omega.{arith}
 use lib.Dec.{eqb}
-use lib.ListN.{length, getD, take, drop, take-append-drop, length-take, List·getD-eq-default}
-use lib.Seq.{take-all, take-suc, take-add, getD-take, getD-drop, drop-cons, drop-drop, drop-length}
-use borrow.Author.Tests.{eqb-true}
+use lib.ListN.{length, getD, take, drop, take-append-drop, length-take, length-drop, drop-of-length-le, List·getD-eq-default}
+use lib.Seq.{take-all, take-add, getD-take, getD-drop, drop-cons, drop-drop, drop-length}
+use borrow.Author.Tests.{eqb-true, lt-leb}
 use Rattle.answer.specs.Answer.{result}
 use Rattle.counting.specs.Range.{over}
 use Rattle.counting.specs.Lists.{All}
@@ -16,13 +16,13 @@ use Rattle.counting.proofs.Bools.{and-left, and-right}
 use Rattle.counting.proofs.Lists.{all-at}
 use Rattle.counting.proofs.Range.{over-ext}
 use Rattle.counting.proofs.Fronts.{over-more, getD-blocks, first-parts}
-use Rattle.bundle.specs.Record.{byteValues, cellKind, edgeKind, endKind, wordSize, lengthBytes, headBytes, word, lengthOf, kindAt, nextRecord, bodyStart, bodySize, body}
-use Rattle.bundle.specs.Bundle.{cellNodes, edgeEnds, isOf, start, cells, edgesFrom, edges, stop, isBundle, leadingWords, nodesOf, endsOf, countsOf, writtenOver}
-use Rattle.bundle.specs.Written.{wordBytes, headOf, recordBytes, listBytes, endRecord, cellBytes, edgeBytes, bundleBytes}
+use Rattle.bundle.specs.Record.{byteValues, wordSize, lengthBytes, headBytes, countPlace, word, kindAt, isWide, nextRecord, isRecord, bodyStart, bodySize, body}
+use Rattle.bundle.specs.Bundle.{cellNodes, edgeEnds, cellSection, edgeSection, endSection, isOf, start, cells, edgesFrom, edges, stop, isBundle, leadingWords, nodesOf, endsOf, countsOf, writtenOver}
+use Rattle.bundle.specs.Written.{wordBytes, headOf, recordBytes, listBytes, kindFor, countBytes, endRecord, cellBytes, edgeBytes, bundleBytes}
 use Rattle.bundle.specs.Claims.{BytesBack, ReadWritten}
 use Rattle.bundle.proofs.OneRecord.{stands, next-ge, body-whole}
-use Rattle.bundle.proofs.Runs.{of-record, of-kind, body-of, run-all}
-use Rattle.bundle.proofs.Fills.{end-size, cell-body, edge-body, length-words, countBy, length-nodes, length-ends, length-counts}
+use Rattle.bundle.proofs.Runs.{of-record, run-all}
+use Rattle.bundle.proofs.Fills.{cell-kind, end-kind, cell-body, end-body, Edge, oneByte, twoBytes, edge-body, edge-ge, length-words, countBy, length-nodes, length-ends, length-counts}
 use Rattle.bundle.proofs.Answers.{accepted, accepted-cells, accepted-edges, read-bundle, read-taken, left-front}
 use Rattle.bundle.proofs.Writes.{answer-written}
 
@@ -44,18 +44,17 @@ module _ (s : List ℕ) (bytes : (k : ℕ) → getD s k 0 < byteValues) where
   words-back n h = over-ext _ _ n 0 (λ k _ l. sym (word-back (wordSize * k) (omega (arith, l, h)))) ∙ first-parts wordSize n s
 
   -- a record is its length, its kind and its body
-  record-back : (kind a : ℕ) → isOf s kind a ≡ true → drop a s ≡ recordBytes kind (body s a) ++ drop (nextRecord s a) s
+  record-back : (a : ℕ) → isRecord s a ≡ true → drop a s ≡ recordBytes (kindAt s a) (body s a) ++ drop (nextRecord s a) s
   unfolding kindAt
-  record-back kind a h =
-      let r = of-record s kind a h in
+  record-back a r =
+      let kind = kindAt s a in
       let w = stands s a r in
       let m = nextRecord s a - (a + headBytes) in
       let n : a + headBytes + m ≡ nextRecord s a = omega (arith, next-ge s a r) in
-      let len : word s a ≡ lengthOf kind = w .right ∙ ap lengthOf (of-kind s kind a h) in
       let head : take headBytes (drop a s) ≡ headOf kind =
       take-add wordSize wordSize (drop a s)
       ∙ ap (λ (x : List ℕ). take wordSize (drop a s) ++ take wordSize x) (drop-drop wordSize a s)
-      ∙ cc (word-back a (omega (arith, w .inside)), word-back (a + lengthBytes) (omega (arith, w .inside)), len, of-kind s kind a h) in
+      ∙ cc (word-back a (omega (arith, w .inside)), word-back (a + lengthBytes) (omega (arith, w .inside)), w .right) in
       let rest : drop (a + headBytes) s ≡ body s a ++ drop (nextRecord s a) s =
       sym (take-append-drop m (drop (a + headBytes) s))
       ∙ ap (λ (x : List ℕ). take m (drop (a + headBytes) s) ++ x) (drop-drop m (a + headBytes) s ∙ ap (λ k. drop k s) n)
@@ -105,36 +104,54 @@ module _ (s : List ℕ) (bytes : (k : ℕ) → getD s k 0 < byteValues) where
   unfolding cellBytes cells nodesOf
   cell-bytes k h =
       let a = start s 0 k in
-      let o = run-all s 0 cellKind k h in
+      let o = run-all s 0 cellSection k h in
       let n = cell-body s a o in
       let e : listBytes (nodesOf s) (cellNodes * k) cellNodes ≡ body s a =
       list-back (λ j. body s (start s 0 j)) cellNodes (cells s) k h (body-bytes a) (omega (arith, n)) ∙ take-all (wordSize * cellNodes) (body s a) (omega (arith, n)) in
-      record-back s bytes cellKind a o ∙ ap (λ (x : List ℕ). recordBytes cellKind x ++ drop (nextRecord s a) s) (sym e)
+      record-back s bytes a (of-record s cellSection a o) ∙ cc (cell-kind s a o, e)
+
+  -- the kind of an edge and its bytes after the ends are those of its count
+  edge-back : (a : ℕ) → isOf s edgeSection a ≡ true → (kindAt s a ≡ kindFor (word (body s a) countPlace)) × (drop countPlace (body s a) ≡ countBytes (word (body s a) countPlace))
+  unfolding kindFor countBytes
+  edge-back a o = go (edge-body s a o)
+    where
+      b : List ℕ
+      b = body s a
+
+      go : Edge s a → (kindAt s a ≡ kindFor (word b countPlace)) × (drop countPlace b ≡ countBytes (word b countPlace))
+      go (oneByte e n) =
+          let z : getD b (countPlace + 1) 0 ≡ 0 = List·getD-eq-default b 0 {n = countPlace + 1} (omega arith) in
+          let w : word b countPlace ≡ getD b countPlace 0 = omega (arith, z) in
+          let l : word b countPlace < byteValues = omega (arith, w, body-bytes a countPlace) in
+          let f : isWide (word b countPlace) ≡ false = lt-leb _ _ l in
+          (e ∙ simp f, simp f (drop-cons b countPlace 0 (omega arith) ∙ cc (w, drop-of-length-le b {i = suc countPlace} (omega arith))))
+      go (twoBytes e n f) =
+          (e ∙ simp f, simp f (sym (take-all wordSize (drop countPlace b) (simp length-drop (omega arith))) ∙ word-back b (body-bytes a) countPlace (omega arith)))
 
   edge-bytes : (k : ℕ) → k < edges s → drop (start s (edgesFrom s) k) s ≡ edgeBytes (endsOf s) (countsOf s) k ++ drop (nextRecord s (start s (edgesFrom s) k)) s
   unfolding edgeBytes edges endsOf countsOf
   edge-bytes k h =
       let from = edgesFrom s in
       let a = start s from k in
-      let o = run-all s from edgeKind k h in
-      let n = edge-body s a o in
+      let o = run-all s from edgeSection k h in
+      let n = edge-ge s a o in
       let one : k ≡ 1 * k + 0 = omega arith in
       let u : listBytes (endsOf s) (edgeEnds * k) edgeEnds ≡ take (wordSize * edgeEnds) (body s a) =
       list-back (λ j. body s (start s from j)) edgeEnds (edges s) k h (body-bytes a) (omega (arith, n)) in
-      let v : getD (countsOf s) k 0 ≡ getD (body s a) (wordSize * edgeEnds) 0 =
+      let v : getD (countsOf s) k 0 ≡ word (body s a) countPlace =
       ap (λ i. getD (countsOf s) i 0) one ∙ getD-blocks (countBy s from) 1 (edges s) (λ _ _. refl) k 0 0 h (omega arith) in
-      let e : listBytes (endsOf s) (edgeEnds * k) edgeEnds ++ (getD (countsOf s) k 0 ∷ []) ≡ body s a =
-      cc (u, v) ∙ sym (take-suc (body s a) (wordSize * edgeEnds) 0 (omega (arith, n))) ∙ take-all (suc (wordSize * edgeEnds)) (body s a) (omega (arith, n)) in
-      record-back s bytes edgeKind a o ∙ ap (λ (x : List ℕ). recordBytes edgeKind x ++ drop (nextRecord s a) s) (sym e)
+      let e : listBytes (endsOf s) (edgeEnds * k) edgeEnds ++ countBytes (getD (countsOf s) k 0) ≡ body s a =
+      cc (u, v, edge-back a o .1) ∙ take-append-drop countPlace (body s a) in
+      record-back s bytes a (of-record s edgeSection a o) ∙ cc (e, v, edge-back a o .0)
 
   end-bytes : isBundle s ≡ true → drop (stop s) s ≡ endRecord
   unfolding isBundle
   end-bytes h =
       let t = eqb (nextRecord s (stop s)) (length s) in
-      let o = and-left (isOf s endKind (stop s)) t h in
-      let none : body s (stop s) ≡ [] = sym (take-all 0 (body s (stop s)) (omega (arith, body-of s endKind (stop s) o, end-size))) in
-      let last : drop (nextRecord s (stop s)) s ≡ [] = ap (λ n. drop n s) (eqb-true (nextRecord s (stop s)) (length s) (and-right (isOf s endKind (stop s)) t h)) ∙ drop-length s in
-      record-back s bytes endKind (stop s) o ∙ cc (none, last)
+      let o = and-left (isOf s endSection (stop s)) t h in
+      let none : body s (stop s) ≡ [] = sym (take-all 0 (body s (stop s)) (omega (arith, end-body s (stop s) o))) in
+      let last : drop (nextRecord s (stop s)) s ≡ [] = ap (λ n. drop n s) (eqb-true (nextRecord s (stop s)) (length s) (and-right (isOf s endSection (stop s)) t h)) ∙ drop-length s in
+      record-back s bytes (stop s) (of-record s endSection (stop s) o) ∙ cc (end-kind s (stop s) o, none, last)
 
   all-back : isBundle s ≡ true → bundleBytes (nodesOf s) (endsOf s) (countsOf s) ≡ s
   unfolding bundleBytes edgesFrom stop

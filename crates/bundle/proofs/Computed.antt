@@ -2,11 +2,11 @@
 use mathlib.Core.Path.{refl}
 use Rattle.counting.specs.Range.{over}
 use Rattle.counting.specs.Search.{first, seek}
-use Rattle.bundle.specs.Record.{lengthOf, kindAt, nextRecord, isRecord, recordAnswer, bodyStart, bodySize, body}
-use Rattle.bundle.specs.Bundle.{isOf, start, run, cells, edgesFrom, edges, stop, isBundle, bundleAnswer, hasRoom, readAnswer, nodesOf, endsOf, countsOf}
-use Rattle.bundle.specs.Written.{cellBytes, edgeBytes, bundleBytes, isFormed, fitsArea, writeAnswer}
+use Rattle.bundle.specs.Record.{lengthOf, kindAt, nextRecord, countAt, mayHave, isRecord, recordAnswer, bodyStart, bodySize, body}
+use Rattle.bundle.specs.Bundle.{sectionOf, isOf, start, run, cells, edgesFrom, edges, stop, isBundle, bundleAnswer, hasRoom, readAnswer, nodesOf, endsOf, countsOf}
+use Rattle.bundle.specs.Written.{kindFor, countBytes, cellBytes, edgeBytes, bundleBytes, isFormed, fitsArea, writeAnswer}
 use Rattle.bundle.specs.Examples.{Examples}
 
 pub computed : Examples
-unfolding over first seek lengthOf kindAt nextRecord isRecord recordAnswer bodyStart bodySize body isOf start run cells edgesFrom edges stop isBundle bundleAnswer hasRoom readAnswer nodesOf endsOf countsOf cellBytes edgeBytes bundleBytes isFormed fitsArea writeAnswer
+unfolding over first seek lengthOf kindAt nextRecord countAt mayHave isRecord recordAnswer bodyStart bodySize body sectionOf isOf start run cells edgesFrom edges stop isBundle bundleAnswer hasRoom readAnswer nodesOf endsOf countsOf kindFor countBytes cellBytes edgeBytes bundleBytes isFormed fitsArea writeAnswer
 computed = refl

@@ -1,41 +1,78 @@
 -- The sizes of records, and a turn of the loops that fill lists from records. Assumes nothing.
-use Prim.Native.Nat.{ℕ, _+_, _*_, _≤_}
-use mathlib.Core.Path.{_≡_, refl, ap, _∙_}
+use Prim.Native.Nat.{ℕ, _+_, _-_, _*_, _≤_, _<_}
+use mathlib.Core.Path.{_≡_, refl, sym, ap, _∙_, subst}
 use mathlib.Core.Bool.{true}
 use mathlib.Core.List.{List, [], _∷_}
-use native.Mathlib.Nat.{zero-add, le-refl}
+use native.Mathlib.Nat.{le-refl}
 use native.Mathlib.Omega.{arith}
 use lib.Dec.{eqb}
-use lib.ListN.{length, getD, set}
+use lib.ListN.{length, getD, drop, set}
+use lib.Seq.{getD-take, getD-drop}
 use borrow.Author.Tests.{eqb-true}
 use Rattle.counting.specs.Range.{over}
 use Rattle.counting.specs.Stored.{Stored}
 use Rattle.counting.proofs.Bools.{and-left, and-right}
 use Rattle.counting.proofs.Fronts.{length-blocks}
 use Rattle.counting.proofs.Stored.{stored-one, stored-more, stored-front}
-use Rattle.bundle.specs.Record.{cellKind, edgeKind, endKind, wordSize, lengthBytes, cellSize, edgeSize, endSize, word, lengthOf, nextRecord, body}
-use Rattle.bundle.specs.Bundle.{isOf, start, cells, edgesFrom, edges, stop, isBundle, cellNodes, edgeEnds, leadingWords, nodesIn, endsIn, countIn, nodesOf, endsOf, countsOf, writtenOver}
-use Rattle.bundle.proofs.Runs.{next-of, body-of, run-apart}
+use Rattle.bundle.specs.Record.{cellKind, edgeKind, endKind, wideKind, wordSize, headBytes, cellSize, edgeSize, endSize, countPlace, word, lengthOf, kindAt, countAt, isWide, mayHave, nextRecord, body}
+use Rattle.bundle.specs.Bundle.{cellSection, edgeSection, endSection, isOf, start, cells, edgesFrom, edges, stop, isBundle, cellNodes, edgeEnds, leadingWords, nodesIn, endsIn, countIn, nodesOf, endsOf, countsOf, writtenOver}
+use Rattle.bundle.proofs.OneRecord.{Kind, cell, edge, wide, end, kind-cases, stands, body-whole, body-length}
+use Rattle.bundle.proofs.Runs.{body-of, of-record, of-section, run-apart}
 
--- the three sizes are those of the kinds' lengths
-pub cell-size : lengthBytes + lengthOf cellKind ≡ cellSize
-unfolding lengthOf
-cell-size = refl
+-- a record of a section has one of its kinds, and its body is as long as the kind says: the nodes of a cell; the ends of an edge and a byte, or two
+module _ (s : List ℕ) (at : ℕ) where
+  kind-at : (section : ℕ) → isOf s section at ≡ true → Kind (kindAt s at) section
+  kind-at section h = subst (Kind (kindAt s at)) (of-section s section at h) (kind-cases _ (stands s at (of-record s section at h) .known))
 
-pub edge-size : lengthBytes + lengthOf edgeKind ≡ edgeSize
-unfolding lengthOf
-edge-size = refl
+  pub cell-kind : isOf s cellSection at ≡ true → kindAt s at ≡ cellKind
+  cell-kind h = elim (kind-at cellSection h) [ cell e ↦ e ]
 
-pub end-size : lengthBytes + lengthOf endKind ≡ endSize
-unfolding lengthOf
-end-size = refl
+  pub end-kind : isOf s endSection at ≡ true → kindAt s at ≡ endKind
+  end-kind h = elim (kind-at endSection h) [ end e ↦ e ]
 
--- the body of a cell is its nodes, that of an edge its ends and a byte
-pub cell-body : (s : List ℕ) (at : ℕ) → isOf s cellKind at ≡ true → length (body s at) ≡ wordSize * cellNodes
-cell-body s at h = omega (arith, body-of s cellKind at h, cell-size)
+  length-at : (kind : ℕ) → kindAt s at ≡ kind → (section : ℕ) → isOf s section at ≡ true → wordSize + length (body s at) ≡ lengthOf kind
+  length-at kind e section h = body-of s at (of-record s section at h) ∙ ap lengthOf e
 
-pub edge-body : (s : List ℕ) (at : ℕ) → isOf s edgeKind at ≡ true → length (body s at) ≡ wordSize * edgeEnds + 1
-edge-body s at h = omega (arith, body-of s edgeKind at h, edge-size)
+  pub cell-body : isOf s cellSection at ≡ true → length (body s at) ≡ wordSize * cellNodes
+  unfolding lengthOf
+  cell-body h = omega (arith, length-at cellKind (cell-kind h) cellSection h)
+
+  pub end-body : isOf s endSection at ≡ true → length (body s at) ≡ 0
+  unfolding lengthOf
+  end-body h = omega (arith, length-at endKind (end-kind h) endSection h)
+
+  -- the count of a record with two bytes for it, in its body
+  wide-count : isOf s edgeSection at ≡ true → length (body s at) ≡ countPlace + wordSize → countAt s at ≡ word (body s at) countPlace
+  unfolding countAt
+  wide-count h n =
+      let e = sym (body-whole s at (of-record s edgeSection at h) .0) in
+      let m : nextRecord s at - (at + headBytes) ≡ countPlace + wordSize = omega (arith, body-length s at (of-record s edgeSection at h), n) in
+      let byte : (i : ℕ) → i < countPlace + wordSize → getD (body s at) i 0 ≡ getD s (at + headBytes + i) 0 = λ i l.
+      ap (λ (x : List ℕ). getD x i 0) e ∙ getD-take (nextRecord s at - (at + headBytes)) (drop (at + headBytes) s) i 0 (omega (arith, m, l)) ∙ getD-drop (at + headBytes) s i 0 in
+      let f : at + headBytes + (countPlace + 1) ≡ at + headBytes + countPlace + 1 = omega arith in
+      sym (cc (byte countPlace (omega arith), byte (countPlace + 1) (omega arith), ap (λ k. getD s k 0) f))
+
+  -- a count of one byte ends the body
+  pub data Edge : Type 0 where
+    oneByte : kindAt s at ≡ edgeKind → length (body s at) ≡ countPlace + 1 → Edge
+    twoBytes : kindAt s at ≡ wideKind → length (body s at) ≡ countPlace + wordSize → isWide (word (body s at) countPlace) ≡ true → Edge
+
+  pub edge-body : isOf s edgeSection at ≡ true → Edge
+  unfolding lengthOf mayHave
+  edge-body h = go (kind-at edgeSection h)
+    where
+      go : Kind (kindAt s at) edgeSection → Edge
+      go (edge e) = oneByte e (omega (arith, length-at edgeKind e edgeSection h))
+      go (wide e) =
+          let n : length (body s at) ≡ countPlace + wordSize = omega (arith, length-at wideKind e edgeSection h) in
+          twoBytes e n (ap isWide (sym (wide-count h n)) ∙ sym (ap (λ k. mayHave k (countAt s at)) e) ∙ stands s at (of-record s edgeSection at h) .proper)
+
+  pub edge-ge : isOf s edgeSection at ≡ true → countPlace < length (body s at)
+  edge-ge h = go (edge-body h)
+    where
+      go : Edge → countPlace < length (body s at)
+      go (oneByte _ n) = omega arith
+      go (twoBytes _ n _) = omega arith
 
 pub length-words : (n : ℕ) (b : List ℕ) → length (leadingWords n b) ≡ n
 length-words n b = let e : 1 * n ≡ n = omega arith in length-blocks (λ i. word b (wordSize * i) ∷ []) 1 n (λ _ _. refl) ∙ e
@@ -64,22 +101,25 @@ module _ (s : List ℕ) where
   unfolding countsOf
   length-counts = let e : 1 * edges s ≡ edges s = omega arith in length-blocks (countBy s (edgesFrom s)) 1 (edges s) (λ j _. refl) ∙ e
 
-  -- and so is the bundle
-  cells-apart : edgesFrom s ≡ cellSize * cells s
+  -- and the bundle is at least as long as its records
+  record-ge : (section n at : ℕ) → isOf s section at ≡ true → n ≤ headBytes + length (body s at) → at + n ≤ nextRecord s at
+  record-ge section n at h l = omega (arith, body-length s at (of-record s section at h), l)
+
+  cells-apart : cellSize * cells s ≤ edgesFrom s
   unfolding edgesFrom cells
-  cells-apart = run-apart s 0 cellKind (cells s) (le-refl (cells s)) ∙ ap (λ w. 0 + w * cells s) cell-size ∙ zero-add (cellSize * cells s)
+  cells-apart = omega (arith, run-apart s 0 cellSection cellSize (λ at h. record-ge cellSection cellSize at h (omega (arith, cell-body s at h))) (cells s) (le-refl (cells s)))
 
-  edges-apart : stop s ≡ edgesFrom s + edgeSize * edges s
+  edges-apart : edgesFrom s + edgeSize * edges s ≤ stop s
   unfolding stop edges
-  edges-apart = run-apart s (edgesFrom s) edgeKind (edges s) (le-refl (edges s)) ∙ ap (λ w. edgesFrom s + w * edges s) edge-size
+  edges-apart = run-apart s (edgesFrom s) edgeSection edgeSize (λ at h. record-ge edgeSection edgeSize at h (omega (arith, edge-ge s at h))) (edges s) (le-refl (edges s))
 
-  pub bundle-size : isBundle s ≡ true → length s ≡ cellSize * cells s + edgeSize * edges s + endSize
+  pub bundle-size : isBundle s ≡ true → cellSize * cells s + edgeSize * edges s + endSize ≤ length s
   unfolding isBundle
   bundle-size h =
       let t = eqb (nextRecord s (stop s)) (length s) in
-      let o = and-left (isOf s endKind (stop s)) t h in
-      let n : nextRecord s (stop s) ≡ length s = eqb-true _ _ (and-right (isOf s endKind (stop s)) t h) in
-      omega (arith, n, next-of s endKind (stop s) o, end-size, cells-apart, edges-apart)
+      let o = and-left (isOf s endSection (stop s)) t h in
+      let n : nextRecord s (stop s) ≡ length s = eqb-true _ _ (and-right (isOf s endSection (stop s)) t h) in
+      omega (arith, n, record-ge endSection endSize (stop s) o (omega arith), cells-apart, edges-apart)
 
 -- what the body of record k means to a list is stored next
 module _ (s : List ℕ) (from at k : ℕ) (h : at ≡ start s from k) where
@@ -88,9 +128,9 @@ module _ (s : List ℕ) (from at k : ℕ) (h : at ≡ start s from k) where
       → Stored l0 0 (over (λ j. f (body s (start s from j))) (k + 1) 0) l' next
   turn f p q = stored-more (λ j. f (body s (start s from j))) k p (rw h at q)
 
-  pub count-turn : (b : List ℕ) → b ≡ body s at → {l0 l : List ℕ}
-      → Stored l0 0 (over (countBy s from) k 0) l k → Stored l0 0 (over (countBy s from) (k + 1) 0) (set l k (getD b (wordSize * edgeEnds) 0)) (k + 1)
-  count-turn b e {l0} {l} p = turn countIn p (rw (← e) (stored-one l k (getD b (wordSize * edgeEnds) 0)))
+  pub count-turn : (x : ℕ) → x ≡ word (body s at) countPlace → {l0 l : List ℕ}
+      → Stored l0 0 (over (countBy s from) k 0) l k → Stored l0 0 (over (countBy s from) (k + 1) 0) (set l k x) (k + 1)
+  count-turn x e {l0} {l} p = turn countIn p (rw (← e) (stored-one l k x))
 
 -- all of them are stored
 pub filled-all : (g : ℕ → List ℕ) (k n : ℕ) {next : ℕ} {l l0 : List ℕ} → Stored l0 0 (over g k 0) l next → k ≡ n → next ≤ length l0 → l ≡ writtenOver (over g n 0) l0

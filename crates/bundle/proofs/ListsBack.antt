@@ -9,7 +9,7 @@ use native.Mathlib.Decide.{decLt}
 use native.Mathlib.Omega.{arith}
 use lib.Dec.{eqb}
 use lib.ListN.{length, getD, take, drop, length-append, List·getD-append}
-use lib.Seq.{getD-append-add, getD-at, take-at, drop-append-add, drop-cons}
+use lib.Seq.{getD-append-add, take-at, drop-append-add, drop-cons}
 use borrow.Author.Tests.{eqb-true, eq-eqb}
 use Rattle.answer.specs.Answer.{result, refusal}
 use Rattle.counting.specs.Pick.{pick}
@@ -17,15 +17,15 @@ use Rattle.counting.specs.Range.{over}
 use Rattle.counting.proofs.Bools.{and-left, and-right, and-true}
 use Rattle.counting.proofs.Range.{over-ext}
 use Rattle.counting.proofs.Fronts.{getD-blocks, over-more, over-at, in-parts, singles}
-use Rattle.bundle.specs.Record.{byteValues, brokenRow, cellKind, edgeKind, endKind, wordSize, lengthBytes, headBytes, word, lengthOf, kindAt, nextRecord, body}
-use Rattle.bundle.specs.Bundle.{cellNodes, edgeEnds, isOf, start, run, cells, edgesFrom, edges, stop, isBundle, leadingWords, nodesIn, endsIn, countIn, nodesOf, endsOf, countsOf, shortRow, writtenOver}
-use Rattle.bundle.specs.Written.{wordBytes, recordBytes, listBytes, endRecord, cellBytes, edgeBytes, bundleBytes, isFormed, fitsArea, isWritten, mostNamed, writeAnswer}
+use Rattle.bundle.specs.Record.{byteValues, brokenRow, cellKind, endKind, wordSize, lengthBytes, headBytes, countPlace, word, lengthOf, kindAt, countAt, isWide, mayHave, nextRecord, isRecord, body}
+use Rattle.bundle.specs.Bundle.{cellNodes, edgeEnds, cellSection, edgeSection, endSection, sectionOf, sectionAt, isOf, start, run, cells, edgesFrom, edges, stop, isBundle, leadingWords, nodesIn, endsIn, countIn, nodesOf, endsOf, countsOf, shortRow, writtenOver}
+use Rattle.bundle.specs.Written.{wordBytes, recordBytes, listBytes, kindFor, countBytes, endRecord, cellBytes, edgeBytes, bundleBytes, isFormed, fitsArea, isWritten, mostNamed, writeAnswer}
 use Rattle.bundle.specs.Claims.{ListsBack, WrittenRead}
 use Rattle.bundle.proofs.OneRecord.{standing, body-whole}
-use Rattle.bundle.proofs.Runs.{Going, going, on, arrived, of-record, is-of, of-kind, other-of, next-of}
-use Rattle.bundle.proofs.Fills.{end-size}
+use Rattle.bundle.proofs.Runs.{Going, going, on, arrived, of-record, is-of, of-section, other-of, next-of}
+use Rattle.bundle.proofs.Fills.{end-kind}
 use Rattle.bundle.proofs.Answers.{read-lists, left-front}
-use Rattle.bundle.proofs.Writes.{length-list, length-edges}
+use Rattle.bundle.proofs.Writes.{length-list}
 
 -- a word after a front of the bytes
 word-in : (p t : List ℕ) (j : ℕ) → word (p ++ t) (length p + j) ≡ word t j
@@ -38,38 +38,50 @@ halves : (x : ℕ) → x % byteValues + byteValues * (x / byteValues) ≡ x
 halves x = omega arith
 
 -- a record with the body b after a front p
-module _ (p r b : List ℕ) (kind : ℕ) (size : wordSize + length b ≡ lengthOf kind) where
+module _ (p r b : List ℕ) (kind : ℕ) (size : wordSize + length b ≡ lengthOf kind) (proper : mayHave kind (word (b ++ r) countPlace) ≡ true) where
   abbrev bytes : List ℕ
   bytes = p ++ (recordBytes kind b ++ r)
 
-  record-put : isOf bytes kind (length p) ≡ true
-  unfolding kindAt nextRecord
+  kind-put : kindAt bytes (length p) ≡ kind
+  unfolding kindAt
+  kind-put = word-in p (recordBytes kind b ++ r) wordSize ∙ halves kind
+
+  record-put : isRecord bytes (length p) ≡ true
+  unfolding nextRecord countAt
   record-put =
       let t = recordBytes kind b ++ r in
       let e : word bytes (length p) ≡ lengthOf kind = ap (word bytes) (sym (add-zero (length p))) ∙ word-in p t 0 ∙ halves (lengthOf kind) in
-      let k : kindAt bytes (length p) ≡ kind = word-in p t wordSize ∙ halves kind in
+      let k = kind-put in
       let n = length-append p t in
       let m = length-append b r in
-      is-of bytes kind (length p)
-      (standing bytes (length p) (record { inside = omega arith; known = omega (arith, ap lengthOf k, size); right = e ∙ sym (ap lengthOf k); fits = omega arith }))
-      k
+      let q : length p + headBytes + countPlace ≡ length p + (headBytes + countPlace) = omega arith in
+      let c : word bytes (length p + headBytes + countPlace) ≡ word (b ++ r) countPlace = ap (word bytes) q ∙ word-in p t (headBytes + countPlace) in
+      standing bytes (length p)
+      (record {
+        inside = omega arith;
+        known = omega (arith, ap lengthOf k, size);
+        right = e ∙ sym (ap lengthOf k);
+        fits = omega arith;
+        proper = cc (c, k) ∙ proper;
+      })
 
   body-put : body bytes (length p) ≡ b
   body-put =
-      let o = record-put in
-      let n : nextRecord bytes (length p) - (length p + headBytes) ≡ length b = omega (arith, next-of bytes kind (length p) o, size) in
-      sym (body-whole bytes (length p) (of-record bytes kind (length p) o) .0)
+      let n : nextRecord bytes (length p) - (length p + headBytes) ≡ length b = omega (arith, next-of bytes (length p) record-put, ap lengthOf kind-put, size) in
+      sym (body-whole bytes (length p) record-put .0)
       ∙ ap (λ k. take k (drop (length p + headBytes) bytes)) n
       ∙ ap (take (length b)) (drop-append-add p (recordBytes kind b ++ r) headBytes)
       ∙ take-at b r (length b) refl
 
--- records of one kind, each with its body, between a front and a rest
-record Laid (s p r : List ℕ) (kind n : ℕ) (g b : ℕ → List ℕ) : Type 0 where
+-- records of one section, each with its kind and its body, between a front and a rest
+record Laid (s p r : List ℕ) (section n : ℕ) (kind : ℕ → ℕ) (g b : ℕ → List ℕ) : Type 0 where
   whole : s ≡ p ++ (over g n 0 ++ r)
-  each : (k : ℕ) → g k ≡ recordBytes kind (b k)
-  size : (k : ℕ) → wordSize + length (b k) ≡ lengthOf kind
+  each : (k : ℕ) → g k ≡ recordBytes (kind k) (b k)
+  within : (k : ℕ) → sectionOf (kind k) ≡ section
+  size : (k : ℕ) → wordSize + length (b k) ≡ lengthOf (kind k)
+  proper : (k : ℕ) (t : List ℕ) → mayHave (kind k) (word (b k ++ t) countPlace) ≡ true
 
-module _ {s p r : List ℕ} {kind n : ℕ} {g b : ℕ → List ℕ} (l : Laid s p r kind n g b) where
+module _ {s p r : List ℕ} {section n : ℕ} {kind : ℕ → ℕ} {g b : ℕ → List ℕ} (l : Laid s p r section n kind g b) where
   -- where record k stands
   abbrev place : ℕ → ℕ
   place k = length p + length (over g k 0)
@@ -78,10 +90,10 @@ module _ {s p r : List ℕ} {kind n : ℕ} {g b : ℕ → List ℕ} (l : Laid s 
   unfolding over
   place-zero = add-zero (length p)
 
-  place-more : (k : ℕ) → place (k + 1) ≡ place k + (lengthBytes + lengthOf kind)
+  place-more : (k : ℕ) → place (k + 1) ≡ place k + (lengthBytes + lengthOf (kind k))
   place-more k = omega (arith, ap length (over-more g k), length-append (over g k 0) (g k), ap length (l .each k), l .size k)
 
-  split : (k : ℕ) → k < n → s ≡ (p ++ over g k 0) ++ (recordBytes kind (b k) ++ (over g (n - suc k) (suc k) ++ r))
+  split : (k : ℕ) → k < n → s ≡ (p ++ over g k 0) ++ (recordBytes (kind k) (b k) ++ (over g (n - suc k) (suc k) ++ r))
   split k h =
       let x = over g k 0 in
       let y = over g (n - suc k) (suc k) in
@@ -89,28 +101,31 @@ module _ {s p r : List ℕ} {kind n : ℕ} {g b : ℕ → List ℕ} (l : Laid s 
       l .whole ∙ ap (λ (z : List ℕ). p ++ (z ++ r)) (over-at g n k h) ∙ e ∙ ap (λ (z : List ℕ). (p ++ x) ++ (z ++ (y ++ r))) (l .each k)
 
   -- what is so of a record after any front is so there
-  there : {A : Type 0} (f : List ℕ → ℕ → A) (v : A) (k : ℕ) → k < n → ((q t : List ℕ) → f (q ++ (recordBytes kind (b k) ++ t)) (length q) ≡ v) → f s (place k) ≡ v
+  there : {A : Type 0} (f : List ℕ → ℕ → A) (v : A) (k : ℕ) → k < n → ((q t : List ℕ) → f (q ++ (recordBytes (kind k) (b k) ++ t)) (length q) ≡ v) → f s (place k) ≡ v
   there f v k h e = ap (λ x. f x (place k)) (split k h) ∙ ap (f _) (sym (length-append p (over g k 0))) ∙ e (p ++ over g k 0) _
 
-  is-at : (k : ℕ) → k < n → isOf s kind (place k) ≡ true
-  is-at k h = there (λ x. isOf x kind) true k h (λ q t. record-put q t (b k) kind (l .size k))
+  kind-is : (k : ℕ) → k < n → kindAt s (place k) ≡ kind k
+  kind-is k h = there kindAt (kind k) k h (λ q t. kind-put q t (b k) (kind k) (l .size k) (l .proper k t))
 
-  goes : (k : ℕ) → k ≤ n → Going s (length p) kind (place k) k
-  goes zero h = rw place-zero (going s (length p) kind)
+  is-at : (k : ℕ) → k < n → isOf s section (place k) ≡ true
+  is-at k h = is-of s section (place k) (there isRecord true k h (λ q t. record-put q t (b k) (kind k) (l .size k) (l .proper k t))) (ap sectionOf (kind-is k h) ∙ l .within k)
+
+  goes : (k : ℕ) → k ≤ n → Going s (length p) section (place k) k
+  goes zero h = rw place-zero (going s (length p) section)
   goes (suc k) h =
       let o = is-at k h in
-      let q : place (k + 1) ≡ nextRecord s (place k) = place-more k ∙ sym (next-of s kind (place k) o) in
-      rw (← add-one k, q) (on s (length p) kind (place k) k (goes k (omega arith)) o)
+      let q : place (k + 1) ≡ nextRecord s (place k) = omega (arith, place-more k, next-of s (place k) (of-record s section (place k) o), ap lengthOf (kind-is k h)) in
+      rw (← add-one k, q) (on s (length p) section (place k) k (goes k (omega arith)) o)
 
   -- none after them: they are a run
-  run-is : isOf s kind (place n) ≡ false → run s kind (length p) ≡ n
-  run-is f = sym (arrived s (length p) kind (place n) n (goes n (le-refl n)) f)
+  run-is : isOf s section (place n) ≡ false → run s section (length p) ≡ n
+  run-is f = sym (arrived s (length p) section (place n) n (goes n (le-refl n)) f)
 
   starts : (k : ℕ) → k ≤ n → start s (length p) k ≡ place k
   starts k h = sym (goes k h .reached)
 
   bodies : (k : ℕ) → k < n → body s (start s (length p) k) ≡ b k
-  bodies k h = ap (body s) (starts k (omega arith)) ∙ there body (b k) k h (λ q t. body-put q t (b k) kind (l .size k))
+  bodies k h = ap (body s) (starts k (omega arith)) ∙ there body (b k) k h (λ q t. body-put q t (b k) (kind k) (l .size k) (l .proper k t))
 
 -- the words of bytes that begin with those of a list
 words-of : (l t : List ℕ) (from n : ℕ) → from + n ≤ length l → leadingWords n (listBytes l from n ++ t) ≡ take n (drop from l)
@@ -150,34 +165,66 @@ module _ (nodes ends counts : List ℕ) where
   cellBody k = listBytes nodes (cellNodes * k) cellNodes
 
   abbrev edgeBody : ℕ → List ℕ
-  edgeBody k = listBytes ends (edgeEnds * k) edgeEnds ++ (getD counts k 0 ∷ [])
+  edgeBody k = listBytes ends (edgeEnds * k) edgeEnds ++ countBytes (getD counts k 0)
 
-  cells-laid : Laid s [] (es ++ endRecord) cellKind c (cellBytes nodes) cellBody
-  unfolding bundleBytes cellBytes lengthOf over
-  cells-laid = record { whole = append-assoc cs es endRecord; each = λ k. refl; size = λ k. refl }
+  abbrev edgeKinds : ℕ → ℕ
+  edgeKinds k = kindFor (getD counts k 0)
 
-  edges-laid : Laid s cs endRecord edgeKind e (edgeBytes ends counts) edgeBody
-  unfolding bundleBytes edgeBytes lengthOf over
-  edges-laid = record { whole = append-assoc cs es endRecord; each = λ k. refl; size = λ k. refl }
+  cells-laid : Laid s [] (es ++ endRecord) cellSection c (λ _. cellKind) (cellBytes nodes) cellBody
+  unfolding bundleBytes cellBytes lengthOf sectionOf mayHave over
+  cells-laid = record { whole = append-assoc cs es endRecord; each = λ k. refl; within = λ k. refl; size = λ k. refl; proper = λ k t. refl }
 
-  end-at : isOf s endKind (length (cs ++ es)) ≡ true
-  unfolding bundleBytes lengthOf
-  end-at = record-put (cs ++ es) [] [] endKind refl
+  -- an edge's record, by its count
+  record EdgeLaid (k : ℕ) : Type 0 where
+    within : sectionOf (edgeKinds k) ≡ edgeSection
+    size : wordSize + length (edgeBody k) ≡ lengthOf (edgeKinds k)
+    proper : (t : List ℕ) → mayHave (edgeKinds k) (word (edgeBody k ++ t) countPlace) ≡ true
+    back : word (edgeBody k) countPlace ≡ getD counts k 0
+
+  edge-laid : (k : ℕ) → EdgeLaid k
+  unfolding kindFor countBytes lengthOf sectionOf mayHave over
+  edge-laid k = go (isWide x) refl
+    where
+      x : ℕ
+      x = getD counts k 0
+
+      go : (b : Bool) → isWide x ≡ b → EdgeLaid k
+      go true h = record { within = simp h; size = simp h; proper = λ t. simp h (ap isWide (halves x) ∙ h); back = simp h (halves x) }
+      go false h = record { within = simp h; size = simp h; proper = λ t. simp h; back = simp h (add-zero x) }
+
+  edges-laid : Laid s cs endRecord edgeSection e edgeKinds (edgeBytes ends counts) edgeBody
+  unfolding bundleBytes edgeBytes
+  edges-laid =
+      record {
+        whole = append-assoc cs es endRecord;
+        each = λ k. refl;
+        within = λ k. edge-laid k .within;
+        size = λ k. edge-laid k .size;
+        proper = λ k. edge-laid k .proper;
+      }
+
+  end-at : isOf s endSection (length (cs ++ es)) ≡ true
+  unfolding bundleBytes lengthOf sectionOf mayHave
+  end-at = is-of s endSection (length (cs ++ es)) (record-put (cs ++ es) [] [] endKind refl refl) (ap sectionOf (kind-put (cs ++ es) [] [] endKind refl refl))
 
   -- no cell after the cells, and no edge after the edges
-  no-cell : isOf s cellKind (length cs) ≡ false
-  no-cell = elim (decLt 0 e) [ yes l ↦ other edgeKind _ (is-at edges-laid 0 l) (place-zero edges-laid) (omega arith) | no l ↦ other endKind _ end-at (omega (arith, length-append cs es, length-edges nodes ends counts)) (omega arith) ]
+  no-cell : isOf s cellSection (length cs) ≡ false
+  unfolding over
+  no-cell = elim (decLt 0 e) [ yes l ↦ other edgeSection _ (is-at edges-laid 0 l) (place-zero edges-laid) (omega arith) | no l ↦ other endSection _ end-at (omega (arith, length-append cs es, none (omega arith))) (omega arith) ]
     where
-      other : (kind at : ℕ) → isOf s kind at ≡ true → at ≡ length cs → cellKind < kind → isOf s cellKind (length cs) ≡ false
-      other kind at h p l = other-of s cellKind (length cs) (λ q. let k = of-kind s kind at h in let f = ap (kindAt s) p in omega (arith, k, f, q, l))
+      none : e ≡ 0 → length es ≡ 0
+      none h = ap (λ n. length (over (edgeBytes ends counts) n 0)) h
 
-  no-edge : isOf s edgeKind (length cs + length es) ≡ false
-  no-edge = other-of s edgeKind _ (λ q. let k = of-kind s endKind _ end-at in omega (arith, k, q, ap (kindAt s) (length-append cs es)))
+      other : (section at : ℕ) → isOf s section at ≡ true → at ≡ length cs → cellSection < section → isOf s cellSection (length cs) ≡ false
+      other section at h p l = other-of s cellSection (length cs) (λ q. let k = of-section s section at h in let f = ap (sectionAt s) p in omega (arith, k, f, q, l))
+
+  no-edge : isOf s edgeSection (length cs + length es) ≡ false
+  no-edge = other-of s edgeSection _ (λ q. let k = of-section s endSection _ end-at in omega (arith, k, q, ap (sectionAt s) (length-append cs es)))
 
   -- so the reader finds them all
   cells-are : cells s ≡ c
   unfolding cells
-  cells-are = run-is cells-laid (ap (isOf s cellKind) (zero-add (length cs)) ∙ no-cell)
+  cells-are = run-is cells-laid (ap (isOf s cellSection) (zero-add (length cs)) ∙ no-cell)
 
   from-is : edgesFrom s ≡ length cs
   unfolding edgesFrom
@@ -185,23 +232,23 @@ module _ (nodes ends counts : List ℕ) where
 
   edges-are : edges s ≡ e
   unfolding edges
-  edges-are = ap (run s edgeKind) from-is ∙ run-is edges-laid no-edge
+  edges-are = ap (run s edgeSection) from-is ∙ run-is edges-laid no-edge
 
   stop-is : stop s ≡ length (cs ++ es)
   unfolding stop
   stop-is = ap (start s (edgesFrom s)) edges-are ∙ ap (λ n. start s n e) from-is ∙ starts edges-laid e (le-refl e) ∙ sym (length-append cs es)
 
   next-is : nextRecord s (stop s) ≡ length s
-  unfolding bundleBytes
+  unfolding bundleBytes lengthOf
   next-is =
       ap (nextRecord s) stop-is
-      ∙ next-of s endKind (length (cs ++ es)) end-at
-      ∙ ap (λ n. length (cs ++ es) + n) end-size
+      ∙ next-of s (length (cs ++ es)) (of-record s endSection _ end-at)
+      ∙ ap (λ k. length (cs ++ es) + (lengthBytes + lengthOf k)) (end-kind s (length (cs ++ es)) end-at)
       ∙ sym (length-append (cs ++ es) endRecord)
 
   is-bundle : isBundle s ≡ true
   unfolding isBundle
-  is-bundle = and-true _ _ (ap (isOf s endKind) stop-is ∙ end-at) (eq-eqb _ _ next-is)
+  is-bundle = and-true _ _ (ap (isOf s endSection) stop-is ∙ end-at) (eq-eqb _ _ next-is)
 
   edge-of : (k : ℕ) → k < e → body s (start s (edgesFrom s) k) ≡ edgeBody k
   edge-of k h = ap (λ n. body s (start s n k)) from-is ∙ bodies edges-laid k h
@@ -220,7 +267,7 @@ module _ (nodes ends counts : List ℕ) where
 
     ends-are : endsOf s ≡ ends
     unfolding endsOf
-    ends-are = listed _ edgeEnds e (edges s) ends edges-are h2 (λ k l. ap endsIn (edge-of k l) ∙ words-of ends (getD counts k 0 ∷ []) (edgeEnds * k) edgeEnds (omega (arith, h2)))
+    ends-are = listed _ edgeEnds e (edges s) ends edges-are h2 (λ k l. ap endsIn (edge-of k l) ∙ words-of ends (countBytes (getD counts k 0)) (edgeEnds * k) edgeEnds (omega (arith, h2)))
 
     counts-are : countsOf s ≡ counts
     unfolding countsOf
@@ -230,7 +277,7 @@ module _ (nodes ends counts : List ℕ) where
         one-of k l =
             let z : k ≡ 1 * k = omega arith in
             ap countIn (edge-of k l)
-            ∙ ap (λ x. x ∷ []) (getD-at (listBytes ends (edgeEnds * k) edgeEnds) (getD counts k 0) [] 0 (wordSize * edgeEnds) (length-list ends (edgeEnds * k) edgeEnds))
+            ∙ ap (λ x. x ∷ []) (edge-laid k .back)
             ∙ ap (take 1) (sym (drop-cons counts k 0 l))
             ∙ ap (λ n. take 1 (drop n counts)) z
 

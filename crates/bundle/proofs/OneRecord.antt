@@ -10,42 +10,48 @@ use lib.ListN.{length, take, drop, length-take, length-drop}
 use borrow.Author.Tests.{ltb-true, leb-true, eqb-true, lt-ltb, le-ltb, le-leb, eq-eqb}
 use Rattle.answer.specs.Answer.{result, refusal}
 use Rattle.counting.specs.Pick.{pick}
-use Rattle.counting.proofs.Bools.{and-left, and-right, not-clash}
-use Rattle.bundle.specs.Record.{cellKind, edgeKind, endKind, wordSize, lengthBytes, headBytes, cellLength, edgeLength, endLength, word, lengthOf, kindAt, nextRecord, isRecord, recordAnswer, brokenRow, body, bodySize, bodyStart}
+use Rattle.counting.proofs.Bools.{clash, and-left, and-right, not-clash}
+use Rattle.bundle.specs.Record.{cellKind, edgeKind, endKind, wideKind, wordSize, lengthBytes, headBytes, cellLength, edgeLength, endLength, wideLength, word, lengthOf, kindAt, nextRecord, countAt, mayHave, isRecord, recordAnswer, brokenRow, body, bodySize, bodyStart}
+use Rattle.bundle.specs.Bundle.{cellSection, edgeSection, endSection, sectionOf}
+use Rattle.bundle.specs.Needed.{WideLent}
 
--- a kind with a length is one of three
-pub data Kind (k : ℕ) : Type 0 where
-  cell : k ≡ cellKind → Kind k
-  edge : k ≡ edgeKind → Kind k
-  end : k ≡ endKind → Kind k
+-- a kind with a length is one of four, each in its section
+pub data Kind (k : ℕ) : ℕ → Type 0 where
+  cell : k ≡ cellKind → Kind k cellSection
+  edge : k ≡ edgeKind → Kind k edgeSection
+  wide : k ≡ wideKind → Kind k edgeSection
+  end : k ≡ endKind → Kind k endSection
 
-kind-pick : (k : ℕ) (a b c : Bool) → eqb k cellKind ≡ a → eqb k edgeKind ≡ b → eqb k endKind ≡ c
-    → 0 < pick a cellLength (pick b edgeLength (pick c endLength 0)) → Kind k
-kind-pick k true b c ea eb ec h = cell (eqb-true _ _ ea)
-kind-pick k false true c ea eb ec h = edge (eqb-true _ _ eb)
-kind-pick k false false true ea eb ec h = end (eqb-true _ _ ec)
-kind-pick k false false false ea eb ec h = absurd (omega (arith, h))
+kind-pick : (k : ℕ) (a b c d : Bool) → eqb k cellKind ≡ a → eqb k edgeKind ≡ b → eqb k endKind ≡ c → eqb k wideKind ≡ d
+    → 0 < pick a cellLength (pick b edgeLength (pick c endLength (pick d wideLength 0))) → Kind k (pick a cellSection (pick b edgeSection (pick d edgeSection (pick c endSection 0))))
+kind-pick k true b c d ea eb ec ed h = cell (eqb-true _ _ ea)
+kind-pick k false true c d ea eb ec ed h = edge (eqb-true _ _ eb)
+kind-pick k false false c true ea eb ec ed h = wide (eqb-true _ _ ed)
+kind-pick k false false true false ea eb ec ed h = end (eqb-true _ _ ec)
+kind-pick k false false false false ea eb ec ed h = absurd (omega (arith, h))
 
-pub kind-cases : (k : ℕ) → 0 < lengthOf k → Kind k
-unfolding lengthOf
-kind-cases k h = kind-pick k (eqb k cellKind) (eqb k edgeKind) (eqb k endKind) refl refl refl h
+pub kind-cases : (k : ℕ) → 0 < lengthOf k → Kind k (sectionOf k)
+unfolding lengthOf sectionOf
+kind-cases k h = kind-pick k (eqb k cellKind) (eqb k edgeKind) (eqb k endKind) (eqb k wideKind) refl refl refl refl h
 
 -- whose record has at least the two bytes of the kind
 pub length-ge : (kind : ℕ) → 0 < lengthOf kind → wordSize ≤ lengthOf kind
 unfolding lengthOf
-length-ge kind h = go (kind-cases kind h)
+length-ge kind h = go (sectionOf kind) (kind-cases kind h)
   where
-    go : Kind kind → wordSize ≤ lengthOf kind
-    go (cell e) = omega (arith, ap lengthOf e)
-    go (edge e) = omega (arith, ap lengthOf e)
-    go (end e) = omega (arith, ap lengthOf e)
+    go : (section : ℕ) → Kind kind section → wordSize ≤ lengthOf kind
+    go _ (cell e) = omega (arith, ap lengthOf e)
+    go _ (edge e) = omega (arith, ap lengthOf e)
+    go _ (wide e) = omega (arith, ap lengthOf e)
+    go _ (end e) = omega (arith, ap lengthOf e)
 
--- the four parts of `isRecord`
+-- the five parts of `isRecord`
 pub record Stands (s : List ℕ) (at : ℕ) : Type 0 where
   pub inside : at + headBytes ≤ length s
   pub known : 0 < lengthOf (kindAt s at)
   pub right : word s at ≡ lengthOf (kindAt s at)
   pub fits : nextRecord s at ≤ length s
+  pub proper : mayHave (kindAt s at) (countAt s at) ≡ true
 
 -- a result of two values is no refusal
 pub apart : {A : Type 0} (a b c d : ℕ) → result (a ∷ b ∷ []) ≡ refusal c d → A
@@ -59,16 +65,19 @@ module _ (s : List ℕ) (at : ℕ) where
       let b = ltb 0 (lengthOf (kindAt s at)) in
       let c = eqb (word s at) (lengthOf (kindAt s at)) in
       let d = leb (nextRecord s at) (length s) in
+      let e = mayHave (kindAt s at) (countAt s at) in
+      let g = and-left (a && b && c && d) e h in
       record {
-        inside = leb-true _ _ (and-left a b (and-left (a && b) c (and-left (a && b && c) d h)));
-        known = ltb-true _ _ (and-right a b (and-left (a && b) c (and-left (a && b && c) d h)));
-        right = eqb-true _ _ (and-right (a && b) c (and-left (a && b && c) d h));
-        fits = leb-true _ _ (and-right (a && b && c) d h);
+        inside = leb-true _ _ (and-left a b (and-left (a && b) c (and-left (a && b && c) d g)));
+        known = ltb-true _ _ (and-right a b (and-left (a && b) c (and-left (a && b && c) d g)));
+        right = eqb-true _ _ (and-right (a && b) c (and-left (a && b && c) d g));
+        fits = leb-true _ _ (and-right (a && b && c) d g);
+        proper = and-right (a && b && c && d) e h;
       }
 
   pub standing : Stands s at → isRecord s at ≡ true
   unfolding isRecord
-  standing w = simp (le-leb _ _ (w .inside), lt-ltb _ _ (w .known), eq-eqb _ _ (w .right), le-leb _ _ (w .fits))
+  standing w = simp (le-leb _ _ (w .inside), lt-ltb _ _ (w .known), eq-eqb _ _ (w .right), le-leb _ _ (w .fits), w .proper)
 
   pub absent : (Stands s at → ⊥) → isRecord s at ≡ false
   absent h = not-clash (isRecord s at) (λ e. h (stands e))
@@ -122,7 +131,8 @@ module _ (s : List ℕ) (at : ℕ) where
   unfolding body bodySize bodyStart
   body-none h = (simp h, simp h)
 
--- the cases of the record reader: the length l, the kind k and its kind's length w were read at a place within the bytes
+-- the cases of the record reader: a length, a kind, that kind's length and whether the count is one that it may have were read at a place within
+-- the bytes
 module _ (s : List ℕ) (at : ℕ) (l : at < length s) where
   pub case-short : length s - at < headBytes → refusal brokenRow at ≡ recordAnswer s at
   case-short h = sym (answer-refused s at l (absent s at (λ w. omega (arith, w .inside, h))))
@@ -142,14 +152,29 @@ module _ (s : List ℕ) (at : ℕ) (l : at < length s) where
     unfolding nextRecord
     case-cut h = sym (answer-refused s at l (absent s at (λ w. omega (arith, w .fits, h, el, l))))
 
-    pub case-whole : headBytes ≤ length s - at → (right ≡ 0 → ⊥) → len ≡ right → lengthBytes + len ≤ length s - at → result (kind ∷ (at + (lengthBytes + len)) ∷ []) ≡ recordAnswer s at
-    unfolding nextRecord kindAt
-    case-whole h4 h0 h1 h2 =
-        let w : Stands s at = record {
-          inside = omega arith;
-          known = omega (arith, len-of, h0);
-          right = sym el ∙ h1 ∙ len-of;
-          fits = omega arith;
-        } in
-        let e : at + (lengthBytes + len) ≡ at + lengthBytes + word s at = omega arith in
-        cc (answer-whole s at (standing s at w))
+    -- all bytes of a record of kind 4 with its length are there, the count too
+    pub wide-inside : len ≡ right → lengthBytes + len ≤ length s - at → WideLent s at kind
+    unfolding lengthOf
+    wide-inside h1 h2 e = omega (arith, h1, h2, er, ap lengthOf e)
+
+    module _ (may : Bool) (em : may ≡ mayHave kind (countAt s at)) where
+      proper-of : may ≡ mayHave (kindAt s at) (countAt s at)
+      unfolding kindAt
+      proper-of = em ∙ ap (λ k. mayHave k (countAt s at)) ek
+
+      pub case-small : may ≡ false → refusal brokenRow at ≡ recordAnswer s at
+      case-small h = sym (answer-refused s at l (absent s at (λ w. clash (proper-of ∙ w .proper) h)))
+
+      pub case-whole : headBytes ≤ length s - at → (right ≡ 0 → ⊥) → len ≡ right → lengthBytes + len ≤ length s - at → may ≡ true
+          → result (kind ∷ (at + (lengthBytes + len)) ∷ []) ≡ recordAnswer s at
+      unfolding nextRecord kindAt
+      case-whole h4 h0 h1 h2 hm =
+          let w : Stands s at = record {
+            inside = omega arith;
+            known = omega (arith, len-of, h0);
+            right = sym el ∙ h1 ∙ len-of;
+            fits = omega arith;
+            proper = sym proper-of ∙ hm;
+          } in
+          let e : at + (lengthBytes + len) ≡ at + lengthBytes + word s at = omega arith in
+          cc (answer-whole s at (standing s at w))

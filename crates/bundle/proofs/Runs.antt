@@ -1,4 +1,4 @@
--- Records of one kind that stand one after the other. Assumes nothing.
+-- Records of one section that stand one after the other. Assumes nothing.
 use Prim.Native.Nat.{ℕ, zero, suc, _+_, _*_, _≤_, _<_}
 use mathlib.Core.Path.{_≡_, refl, sym, ap, _∙_}
 use mathlib.Core.Logic.{⊎-elim}
@@ -12,53 +12,51 @@ use lib.ListN.{length}
 use borrow.Author.Tests.{eqb-true, eq-eqb, ne-eqb, not-true, not-false}
 use Rattle.counting.proofs.Bools.{and-left, and-right, and-true, and-false-left, and-false-right}
 use Rattle.counting.proofs.Search.{first-at, first-is, first-below, below-or}
-use Rattle.bundle.specs.Record.{wordSize, lengthBytes, headBytes, word, lengthOf, kindAt, nextRecord, isRecord, body}
-use Rattle.bundle.specs.Bundle.{isOf, start, run}
+use Rattle.bundle.specs.Record.{wordSize, lengthBytes, headBytes, lengthOf, kindAt, nextRecord, isRecord, body}
+use Rattle.bundle.specs.Bundle.{sectionAt, isOf, start, run}
 use Rattle.bundle.proofs.OneRecord.{stands, next-ge, body-length}
 
--- a record of a kind at a place
-module _ (s : List ℕ) (kind at : ℕ) where
-  pub of-record : isOf s kind at ≡ true → isRecord s at ≡ true
-  unfolding isOf
-  of-record h = and-left (isRecord s at) (eqb (kindAt s at) kind) h
+module _ (s : List ℕ) (at : ℕ) (h : isRecord s at ≡ true) where
+  -- the next record comes straight after a record's bytes
+  pub next-of : nextRecord s at ≡ at + (lengthBytes + lengthOf (kindAt s at))
+  unfolding nextRecord
+  next-of = omega (arith, stands s at h .right)
 
-  pub of-kind : isOf s kind at ≡ true → kindAt s at ≡ kind
-  unfolding isOf
-  of-kind h = eqb-true _ _ (and-right (isRecord s at) (eqb (kindAt s at) kind) h)
+  -- its body is what its length counts besides the kind
+  pub body-of : wordSize + length (body s at) ≡ lengthOf (kindAt s at)
+  body-of = omega (arith, body-length s at h, next-of)
 
-  pub is-of : isRecord s at ≡ true → kindAt s at ≡ kind → isOf s kind at ≡ true
+-- a record of a section at a place
+module _ (s : List ℕ) (section at : ℕ) where
+  pub of-record : isOf s section at ≡ true → isRecord s at ≡ true
+  unfolding isOf
+  of-record h = and-left (isRecord s at) (eqb (sectionAt s at) section) h
+
+  pub of-section : isOf s section at ≡ true → sectionAt s at ≡ section
+  unfolding isOf
+  of-section h = eqb-true _ _ (and-right (isRecord s at) (eqb (sectionAt s at) section) h)
+
+  pub is-of : isRecord s at ≡ true → sectionAt s at ≡ section → isOf s section at ≡ true
   unfolding isOf
   is-of h e = and-true _ _ h (eq-eqb _ _ e)
 
-  pub none-of : isRecord s at ≡ false → isOf s kind at ≡ false
+  pub none-of : isRecord s at ≡ false → isOf s section at ≡ false
   unfolding isOf
-  none-of h = and-false-left (isRecord s at) (eqb (kindAt s at) kind) h
+  none-of h = and-false-left (isRecord s at) (eqb (sectionAt s at) section) h
 
-  pub other-of : (kindAt s at ≡ kind → ⊥) → isOf s kind at ≡ false
+  pub other-of : (sectionAt s at ≡ section → ⊥) → isOf s section at ≡ false
   unfolding isOf
-  other-of h = and-false-right (isRecord s at) (eqb (kindAt s at) kind) (ne-eqb _ _ h)
+  other-of h = and-false-right (isRecord s at) (eqb (sectionAt s at) section) (ne-eqb _ _ h)
 
-  -- the next record comes straight after its bytes
-  pub next-of : isOf s kind at ≡ true → nextRecord s at ≡ at + (lengthBytes + lengthOf kind)
-  unfolding nextRecord
-  next-of h =
-      let w = stands s at (of-record h) in
-      let e : word s at ≡ lengthOf kind = w .right ∙ ap lengthOf (of-kind h) in
-      omega (arith, e)
-
-  -- its body is what its length counts besides the kind
-  pub body-of : isOf s kind at ≡ true → wordSize + length (body s at) ≡ lengthOf kind
-  body-of h = omega (arith, body-length s at (of-record h), next-of h)
-
--- a walk over records of a kind, which came to a place after some of them
-pub record Going (s : List ℕ) (from kind at count : ℕ) : Type 0 where
+-- a walk over records of a section, which came to a place after some of them
+pub record Going (s : List ℕ) (from section at count : ℕ) : Type 0 where
   pub reached : at ≡ start s from count
-  pub all : (j : ℕ) → j < count → isOf s kind (start s from j) ≡ true
+  pub all : (j : ℕ) → j < count → isOf s section (start s from j) ≡ true
   pub few : count ≤ at
   pub inside : count ≤ length s
 
-module _ (s : List ℕ) (from kind : ℕ) where
-  pub going : Going s from kind from 0
+module _ (s : List ℕ) (from section : ℕ) where
+  pub going : Going s from section from 0
   unfolding start
   going = record { reached = refl; all = λ j h. absurd (omega (arith, h)); few = omega arith; inside = omega arith }
 
@@ -66,74 +64,74 @@ module _ (s : List ℕ) (from kind : ℕ) where
   unfolding start
   start-more k = ap (start s from) (add-one k)
 
-  module _ (at count : ℕ) (g : Going s from kind at count) where
-    pub on : isOf s kind at ≡ true → Going s from kind (nextRecord s at) (count + 1)
+  module _ (at count : ℕ) (g : Going s from section at count) where
+    pub on : isOf s section at ≡ true → Going s from section (nextRecord s at) (count + 1)
     on h =
-        let n = next-ge s at (of-record s kind at h) in
-        let w = stands s at (of-record s kind at h) in
+        let n = next-ge s at (of-record s section at h) in
+        let w = stands s at (of-record s section at h) in
         record {
           reached = ap (nextRecord s) (g .reached) ∙ sym (start-more count);
-          all = λ j l. ⊎-elim (λ (e : j ≡ count). ap (λ i. isOf s kind (start s from i)) e ∙ ap (isOf s kind) (sym (g .reached)) ∙ h) (λ (b : j < count). g .all j b) (below-or j count (omega arith));
+          all = λ j l. ⊎-elim (λ (e : j ≡ count). ap (λ i. isOf s section (start s from i)) e ∙ ap (isOf s section) (sym (g .reached)) ∙ h) (λ (b : j < count). g .all j b) (below-or j count (omega arith));
           few = omega (arith, g .few, n);
           inside = omega (arith, g .few, n, w .fits);
         }
 
-    pub arrived : isOf s kind at ≡ false → count ≡ run s kind from
+    pub arrived : isOf s section at ≡ false → count ≡ run s section from
     unfolding run
     arrived h =
         sym
-        (first-at (λ k. not (isOf s kind (start s from k))) (suc (length s)) count (omega (arith, g .inside))
-        (ap not (ap (isOf s kind) (sym (g .reached)) ∙ h))
+        (first-at (λ k. not (isOf s section (start s from k))) (suc (length s)) count (omega (arith, g .inside))
+        (ap not (ap (isOf s section) (sym (g .reached)) ∙ h))
         (λ j b. ap not (g .all j b)))
 
   -- the records of a run
-  pub run-all : (j : ℕ) → j < run s kind from → isOf s kind (start s from j) ≡ true
+  pub run-all : (j : ℕ) → j < run s section from → isOf s section (start s from j) ≡ true
   unfolding run
-  run-all j h = not-false _ (first-below (λ k. not (isOf s kind (start s from k))) (suc (length s)) j h)
+  run-all j h = not-false _ (first-below (λ k. not (isOf s section (start s from k))) (suc (length s)) j h)
 
-  pub run-going : (k : ℕ) → k ≤ run s kind from → Going s from kind (start s from k) k
+  pub run-going : (k : ℕ) → k ≤ run s section from → Going s from section (start s from k) k
   unfolding start
   run-going zero h = going
   run-going (suc k) h = rw (← add-one k) (on (start s from k) k (run-going k (omega arith)) (run-all k h))
 
-  pub run-few : run s kind from ≤ length s
-  run-few = run-going (run s kind from) (le-refl (run s kind from)) .inside
+  pub run-few : run s section from ≤ length s
+  run-few = run-going (run s section from) (le-refl (run s section from)) .inside
 
-  pub run-inside : (k : ℕ) → from ≤ length s → k ≤ run s kind from → start s from k ≤ length s
+  pub run-inside : (k : ℕ) → from ≤ length s → k ≤ run s section from → start s from k ≤ length s
   unfolding start
   run-inside zero l h = l
-  run-inside (suc k) l h = stands s (start s from k) (of-record s kind (start s from k) (run-all k h)) .fits
+  run-inside (suc k) l h = stands s (start s from k) (of-record s section (start s from k) (run-all k h)) .fits
 
-  pub run-stop : isOf s kind (start s from (run s kind from)) ≡ false
+  pub run-stop : isOf s section (start s from (run s section from)) ≡ false
   unfolding run
-  run-stop = not-true _ (first-is (λ k. not (isOf s kind (start s from k))) (suc (length s)) (omega (arith, run-few)))
+  run-stop = not-true _ (first-is (λ k. not (isOf s section (start s from k))) (suc (length s)) (omega (arith, run-few)))
 
-  -- they start as far apart as the kind says
-  pub run-apart : (k : ℕ) → k ≤ run s kind from → start s from k ≡ from + (lengthBytes + lengthOf kind) * k
+  -- they start at least as far apart as the least of them is long
+  pub run-apart : (n : ℕ) → ((at : ℕ) → isOf s section at ≡ true → at + n ≤ nextRecord s at) → (k : ℕ) → k ≤ run s section from → from + n * k ≤ start s from k
   unfolding start
-  run-apart zero h = omega (arith, mul-zero (lengthBytes + lengthOf kind))
-  run-apart (suc k) h = omega (arith, next-of s kind (start s from k) (run-all k h), run-apart k (omega arith), mul-suc (lengthBytes + lengthOf kind) k)
+  run-apart n least zero h = omega (arith, mul-zero n)
+  run-apart n least (suc k) h = omega (arith, least (start s from k) (run-all k h), run-apart n least k (omega arith), mul-suc n k)
 
 -- a second walk over the records of a run, body by body
-pub record Walked (s : List ℕ) (from kind at k : ℕ) : Type 0 where
-  pub upto : k ≤ run s kind from
+pub record Walked (s : List ℕ) (from section at k : ℕ) : Type 0 where
+  pub upto : k ≤ run s section from
   pub reached : at ≡ start s from k
 
-module _ (s : List ℕ) (from kind : ℕ) where
-  pub walked : Walked s from kind from 0
+module _ (s : List ℕ) (from section : ℕ) where
+  pub walked : Walked s from section from 0
   unfolding start
   walked = record { upto = omega arith; reached = refl }
 
-  module _ (at k : ℕ) (g : Walked s from kind at k) (l : k < run s kind from) where
-    pub here : isOf s kind at ≡ true
-    here = ap (isOf s kind) (g .reached) ∙ run-all s from kind k l
+  module _ (at k : ℕ) (g : Walked s from section at k) (l : k < run s section from) where
+    pub here : isOf s section at ≡ true
+    here = ap (isOf s section) (g .reached) ∙ run-all s from section k l
 
     pub walked-fits : at + (headBytes + length (body s at)) ≤ length s
-    walked-fits = let r = of-record s kind at here in omega (arith, body-length s at r, stands s at r .fits)
+    walked-fits = let r = of-record s section at here in omega (arith, body-length s at r, stands s at r .fits)
 
-    pub walked-on : Walked s from kind (at + (headBytes + length (body s at))) (k + 1)
+    pub walked-on : Walked s from section (at + (headBytes + length (body s at))) (k + 1)
     walked-on =
         record {
           upto = omega arith;
-          reached = body-length s at (of-record s kind at here) ∙ ap (nextRecord s) (g .reached) ∙ sym (start-more s from kind k);
+          reached = body-length s at (of-record s section at here) ∙ ap (nextRecord s) (g .reached) ∙ sym (start-more s from section k);
         }

@@ -1,22 +1,26 @@
 -- The writer: the length of what it writes, and the cases of its answer. Assumes nothing.
 use Prim.Native.Nat.{ℕ, _+_, _*_, _/_, _%_, _≤_, _<_, min}
 use mathlib.Core.Path.{_≡_, refl, ap, _∙_, sym}
-use mathlib.Core.Bool.{true, false}
+use mathlib.Core.Bool.{Bool, true, false}
 use mathlib.Core.List.{List, [], _∷_, _++_}
 use native.Mathlib.Nat.{zero-add}
 use native.Mathlib.Omega.{arith}
 use lib.Dec.{eqb}
-use lib.ListN.{length, getD, length-append}
+use lib.ListN.{length, getD, replicate, length-append}
 use borrow.Author.Tests.{eq-eqb, ne-eqb, le-leb, lt-leb}
 use Rattle.answer.specs.Answer.{result, refusal}
-use Rattle.counting.specs.Range.{over}
+use Rattle.counting.specs.Pick.{pick, one}
+use Rattle.counting.specs.Range.{total, over}
 use Rattle.counting.specs.Stored.{Stored}
 use Rattle.counting.proofs.Bools.{and-false-left, and-false-right}
+use Rattle.counting.proofs.Range.{total-ext, total-add, length-over}
+use Rattle.counting.proofs.Search.{count-total}
 use Rattle.counting.proofs.Fronts.{length-blocks}
 use Rattle.counting.proofs.Stored.{stored-then, stored-front}
-use Rattle.bundle.specs.Record.{brokenRow, wordSize, cellSize, edgeSize, endSize}
+use Rattle.bundle.specs.Record.{byteValues, brokenRow, wordSize, headBytes, countPlace, cellSize, edgeSize, isWide}
 use Rattle.bundle.specs.Bundle.{cellNodes, edgeEnds, shortRow}
-use Rattle.bundle.specs.Written.{mostNamed, wordBytes, listBytes, endRecord, cellBytes, edgeBytes, bundleBytes, isFormed, fitsArea, isWritten, writeAnswer, areaLeft}
+use Rattle.bundle.specs.Written.{mostNamed, wordBytes, listBytes, countBytes, endRecord, cellBytes, edgeBytes, bundleBytes, isFormed, fitsArea, isWritten, writeAnswer, areaLeft}
+use Rattle.bundle.specs.Needed.{wides, sizeOf}
 
 pub length-list : (l : List ℕ) (from n : ℕ) → length (listBytes l from n) ≡ wordSize * n
 length-list l from n = length-blocks (λ i. wordBytes (getD l (from + i) 0)) wordSize n (λ _ _. refl)
@@ -25,14 +29,35 @@ pub length-cell : (nodes : List ℕ) (k : ℕ) → length (cellBytes nodes k) �
 unfolding cellBytes over
 length-cell nodes k = refl
 
-pub length-edge : (ends counts : List ℕ) (k : ℕ) → length (edgeBytes ends counts k) ≡ edgeSize
+-- the bytes of a count
+pub bytes-wide : (count : ℕ) → byteValues ≤ count → countBytes count ≡ wordBytes count
+unfolding countBytes
+bytes-wide count h = simp (le-leb _ _ h)
+
+pub bytes-narrow : (count : ℕ) → count < byteValues → countBytes count ≡ count ∷ []
+unfolding countBytes
+bytes-narrow count h = simp (lt-leb _ _ h)
+
+length-count : (count : ℕ) → length (countBytes count) ≡ 1 + one (isWide count)
+unfolding countBytes
+length-count count = go (isWide count)
+  where
+    go : (b : Bool) → length (pick b (wordBytes count) (count ∷ [])) ≡ 1 + one b
+    go true = refl
+    go false = refl
+
+-- an edge's record is its head, its ends and its count
+pub edge-parts : (ends counts : List ℕ) (k : ℕ) → length (edgeBytes ends counts k) ≡ headBytes + countPlace + length (countBytes (getD counts k 0))
 unfolding edgeBytes over
-length-edge ends counts k = refl
+edge-parts ends counts k = omega arith
+
+length-edge : (ends counts : List ℕ) (k : ℕ) → length (edgeBytes ends counts k) ≡ edgeSize + one (isWide (getD counts k 0))
+length-edge ends counts k = omega (arith, edge-parts ends counts k, length-count (getD counts k 0))
 
 module _ (nodes ends counts : List ℕ) where
   -- the bytes of a bundle, by its records
   abbrev pub sizeBy : ℕ
-  sizeBy = cellSize * (length nodes / cellNodes) + edgeSize * length counts + endSize
+  sizeBy = sizeOf (length nodes / cellNodes) (length counts) (wides counts)
 
   abbrev cellsPart : List ℕ
   cellsPart = over (cellBytes nodes) (length nodes / cellNodes) 0
@@ -43,8 +68,17 @@ module _ (nodes ends counts : List ℕ) where
   pub length-cells : length cellsPart ≡ cellSize * (length nodes / cellNodes)
   length-cells = length-blocks (cellBytes nodes) cellSize (length nodes / cellNodes) (λ k _. length-cell nodes k)
 
-  pub length-edges : length edgesPart ≡ edgeSize * length counts
-  length-edges = length-blocks (edgeBytes ends counts) edgeSize (length counts) (λ k _. length-edge ends counts k)
+  pub length-edges : length edgesPart ≡ edgeSize * length counts + wides counts
+  unfolding wides
+  length-edges =
+      let n = length counts in
+      let more : ℕ → ℕ = λ k. one (isWide (getD counts k 0)) in
+      let narrow : ℕ → List ℕ = λ _. replicate edgeSize 0 in
+      let same : total (λ _. edgeSize) n 0 ≡ edgeSize * n = sym (length-over narrow n 0) ∙ length-blocks narrow edgeSize n (λ _ _. refl) in
+      length-over (edgeBytes ends counts) n 0
+      ∙ total-ext _ (λ k. edgeSize + more k) n 0 (λ k _ _. length-edge ends counts k)
+      ∙ total-add (λ _. edgeSize) more n 0
+      ∙ omega (arith, same, count-total (λ k. isWide (getD counts k 0)) n)
 
   pub length-bundle : length (bundleBytes nodes ends counts) ≡ sizeBy
   unfolding bundleBytes

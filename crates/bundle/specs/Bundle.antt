@@ -3,12 +3,12 @@ use Prim.Native.Nat.{ℕ, zero, suc, _*_}
 use mathlib.Core.Bool.{Bool, not, _&&_}
 use mathlib.Core.List.{List, [], _∷_, _++_}
 use lib.Dec.{leb, eqb}
-use lib.ListN.{length, getD, drop}
+use lib.ListN.{length, drop}
 use Rattle.answer.specs.Answer.{result, refusal}
 use Rattle.counting.specs.Pick.{pick}
 use Rattle.counting.specs.Range.{over}
 use Rattle.counting.specs.Search.{first}
-use Rattle.bundle.specs.Record.{cellKind, edgeKind, endKind, brokenRow, wordSize, word, kindAt, nextRecord, isRecord, body}
+use Rattle.bundle.specs.Record.{cellKind, edgeKind, endKind, wideKind, brokenRow, wordSize, countPlace, word, kindAt, nextRecord, isRecord, body}
 use Rattle.bundle.specs.declared.Contents.{Contents}
 use Rattle.bundle.specs.declared.Contents.the-variants.{Lists, Refused}
 
@@ -16,28 +16,45 @@ use Rattle.bundle.specs.declared.Contents.the-variants.{Lists, Refused}
 abbrev pub shortRow : ℕ
 shortRow = 14
 
--- a record of a kind stands at a place
+-- the sections of a bundle, in their order
+abbrev pub cellSection : ℕ
+cellSection = 1
+
+abbrev pub edgeSection : ℕ
+edgeSection = 2
+
+abbrev pub endSection : ℕ
+endSection = 3
+
+-- the section that records of a kind stand in; 0 where the number is no kind
+unfoldable pub sectionOf : ℕ → ℕ
+sectionOf kind = pick (eqb kind cellKind) cellSection (pick (eqb kind edgeKind) edgeSection (pick (eqb kind wideKind) edgeSection (pick (eqb kind endKind) endSection 0)))
+
+abbrev pub sectionAt : List ℕ → ℕ → ℕ
+sectionAt s at = sectionOf (kindAt s at)
+
+-- a record of a section stands at a place
 unfoldable pub isOf : List ℕ → ℕ → ℕ → Bool
-isOf s kind at = isRecord s at && eqb (kindAt s at) kind
+isOf s section at = isRecord s at && eqb (sectionAt s at) section
 
 -- where record k from a place on starts, each after the one before it
 unfoldable pub start : List ℕ → ℕ → ℕ → ℕ
 start s from zero = from
 start s from (suc k) = nextRecord s (start s from k)
 
--- how many records of a kind stand from a place on, one after the other
+-- how many records of a section stand from a place on, one after the other
 unfoldable pub run : List ℕ → ℕ → ℕ → ℕ
-run s kind from = first (λ k. not (isOf s kind (start s from k))) (suc (length s))
+run s section from = first (λ k. not (isOf s section (start s from k))) (suc (length s))
 
 -- the cells, the edges after them, and the place where these stop
 unfoldable pub cells : List ℕ → ℕ
-cells s = run s cellKind 0
+cells s = run s cellSection 0
 
 unfoldable pub edgesFrom : List ℕ → ℕ
 edgesFrom s = start s 0 (cells s)
 
 unfoldable pub edges : List ℕ → ℕ
-edges s = run s edgeKind (edgesFrom s)
+edges s = run s edgeSection (edgesFrom s)
 
 unfoldable pub stop : List ℕ → ℕ
 stop s = start s (edgesFrom s) (edges s)
@@ -46,12 +63,12 @@ stop s = start s (edgesFrom s) (edges s)
 -- input's length if only whole records were met; where bytes follow the end, it starts at the first of these.
 unfoldable pub bundleAnswer : List ℕ → List ℕ
 bundleAnswer s =
-    pick (isOf s endKind (stop s))
+    pick (isOf s endSection (stop s))
     (pick (eqb (nextRecord s (stop s)) (length s)) (result (cells s ∷ edges s ∷ [])) (refusal brokenRow (nextRecord s (stop s))))
     (refusal brokenRow (stop s))
 
 unfoldable pub isBundle : List ℕ → Bool
-isBundle s = isOf s endKind (stop s) && eqb (nextRecord s (stop s)) (length s)
+isBundle s = isOf s endSection (stop s) && eqb (nextRecord s (stop s)) (length s)
 
 -- the numbers that a cell has in the list of nodes, and an edge in the list of ends
 abbrev pub cellNodes : ℕ
@@ -64,7 +81,8 @@ edgeEnds = 2
 abbrev pub leadingWords : ℕ → List ℕ → List ℕ
 leadingWords n b = over (λ i. word b (wordSize * i) ∷ []) n 0
 
--- what a body means: the nodes of a cell; the ends of an edge, and its count after them
+-- what a body means: the nodes of a cell; the ends of an edge, and its count after them. A count of one byte ends the body, and the high byte
+-- that is not there is read as 0.
 abbrev pub nodesIn : List ℕ → List ℕ
 nodesIn b = leadingWords cellNodes b
 
@@ -72,7 +90,7 @@ abbrev pub endsIn : List ℕ → List ℕ
 endsIn b = leadingWords edgeEnds b
 
 abbrev pub countIn : List ℕ → List ℕ
-countIn b = getD b (wordSize * edgeEnds) 0 ∷ []
+countIn b = word b countPlace ∷ []
 
 -- the three lists
 unfoldable pub nodesOf : List ℕ → List ℕ

@@ -16,7 +16,7 @@ pub record Example : Type 0 where
 abbrev pub asks : List ℕ → List ℕ → Example
 asks found asked = record { found = found; asked = asked }
 
--- the cell 0 1 2 3; the cell 258 3 4 4095, whose first node has the bytes 2 and 1; the edge 0 1 with count 5; the end
+-- the cell 0 1 2 3; the cell 258 3 4 4095, whose first node has the bytes 2 and 1; the edge 0 1 with count 5
 abbrev pub cell : List ℕ
 cell = 10 ∷ 0 ∷ 1 ∷ 0 ∷ 0 ∷ 0 ∷ 1 ∷ 0 ∷ 2 ∷ 0 ∷ 3 ∷ 0 ∷ []
 
@@ -26,6 +26,11 @@ high = 10 ∷ 0 ∷ 1 ∷ 0 ∷ 2 ∷ 1 ∷ 3 ∷ 0 ∷ 4 ∷ 0 ∷ 255 ∷ 15 �
 abbrev pub edge : List ℕ
 edge = 7 ∷ 0 ∷ 2 ∷ 0 ∷ 0 ∷ 0 ∷ 1 ∷ 0 ∷ 5 ∷ []
 
+-- the edge 0 2 with a count of two bytes
+abbrev pub wide : ℕ → ℕ → List ℕ
+wide low high = 8 ∷ 0 ∷ 4 ∷ 0 ∷ 0 ∷ 0 ∷ 2 ∷ 0 ∷ low ∷ high ∷ []
+
+-- the end
 abbrev pub end : List ℕ
 end = 2 ∷ 0 ∷ 3 ∷ 0 ∷ []
 
@@ -42,6 +47,10 @@ good =
     ∷ asks (nodesOf (cell ++ high ++ edge ++ end)) (0 ∷ 1 ∷ 2 ∷ 3 ∷ 258 ∷ 3 ∷ 4 ∷ 4095 ∷ [])
     ∷ asks (endsOf (cell ++ high ++ edge ++ end)) (0 ∷ 1 ∷ [])
     ∷ asks (countsOf (cell ++ high ++ edge ++ end)) (5 ∷ [])
+    ∷ asks (bundleAnswer (wide 0 1 ++ end)) (result (0 ∷ 1 ∷ []))
+    ∷ asks (bundleAnswer (cell ++ wide 0 1 ++ edge ++ wide 255 255 ++ end)) (result (1 ∷ 3 ∷ []))
+    ∷ asks (endsOf (edge ++ wide 0 1 ++ edge ++ end)) (0 ∷ 1 ∷ 0 ∷ 2 ∷ 0 ∷ 1 ∷ [])
+    ∷ asks (countsOf (wide 0 1 ++ edge ++ wide 255 15 ++ wide 255 255 ++ end)) (256 ∷ 5 ∷ 4095 ∷ 65535 ∷ [])
     ∷ []
 
 -- empty; only whole records and no end; a record that is cut short at each place
@@ -52,9 +61,10 @@ short =
     ∷ asks (bundleAnswer (cell ++ edge)) (refusal 13 21)
     ∷ (over (λ k. asks (bundleAnswer (take (k + 1) cell)) (refusal 13 0) ∷ []) 11 0
     ++ over (λ k. asks (bundleAnswer (cell ++ take (k + 1) edge)) (refusal 13 12) ∷ []) 8 0
+    ++ over (λ k. asks (bundleAnswer (cell ++ take (k + 1) (wide 0 1))) (refusal 13 12) ∷ []) 9 0
     ++ over (λ k. asks (bundleAnswer (cell ++ edge ++ take (k + 1) end)) (refusal 13 21) ∷ []) 3 0)
 
--- a wrong length of each kind, lengths and kinds that are right in their low byte only, and no kind
+-- a wrong length of each kind, lengths and kinds that are right in their low byte only, no kind, and counts that a byte holds in kind 4
 abbrev pub wrong : List Example
 wrong =
     asks (bundleAnswer (headed 9 0 1 0 cell ++ end)) (refusal 13 0)
@@ -66,6 +76,11 @@ wrong =
     ∷ asks (bundleAnswer (headed 10 0 1 1 cell ++ end)) (refusal 13 0)
     ∷ asks (bundleAnswer (headed 2 0 0 0 end)) (refusal 13 0)
     ∷ asks (bundleAnswer (cell ++ headed 2 0 4 0 end)) (refusal 13 12)
+    ∷ asks (bundleAnswer (headed 7 0 4 0 (wide 0 1) ++ end)) (refusal 13 0)
+    ∷ asks (bundleAnswer (headed 9 0 4 0 (wide 0 1) ++ end)) (refusal 13 0)
+    ∷ asks (bundleAnswer (headed 8 0 5 0 (wide 0 1) ++ end)) (refusal 13 0)
+    ∷ asks (bundleAnswer (edge ++ wide 255 0 ++ end)) (refusal 13 9)
+    ∷ asks (bundleAnswer (cell ++ wide 0 0 ++ end)) (refusal 13 12)
     ∷ []
 
 -- a cell after an edge, and bytes after the end: one, a second end, a cell
@@ -73,6 +88,7 @@ abbrev pub disorder : List Example
 disorder =
     asks (bundleAnswer (edge ++ cell ++ end)) (refusal 13 9)
     ∷ asks (bundleAnswer (cell ++ edge ++ cell ++ end)) (refusal 13 21)
+    ∷ asks (bundleAnswer (wide 0 1 ++ cell ++ end)) (refusal 13 10)
     ∷ asks (bundleAnswer (end ++ (0 ∷ []))) (refusal 13 4)
     ∷ asks (bundleAnswer (end ++ end)) (refusal 13 4)
     ∷ asks (bundleAnswer (cell ++ end ++ cell)) (refusal 13 16)
@@ -94,6 +110,10 @@ starts =
     ∷ asks (bodyStart end 0 ∷ []) (4 ∷ [])
     ∷ asks (body (cell ++ end) 1) []
     ∷ asks (bodyStart (cell ++ end) 1 ∷ []) (0 ∷ [])
+    ∷ asks (recordAnswer (edge ++ wide 0 1 ++ end) 9) (result (4 ∷ 19 ∷ []))
+    ∷ asks (body (edge ++ wide 0 1 ++ end) 9) (0 ∷ 0 ∷ 2 ∷ 0 ∷ 0 ∷ 1 ∷ [])
+    ∷ asks (recordAnswer (wide 255 0 ++ end) 0) (refusal 13 0)
+    ∷ asks (body (wide 255 0 ++ end) 0) []
     ∷ []
 
 -- lent lists that hold the bundle, and each of them one too short; 13 comes before 14
@@ -112,6 +132,10 @@ abbrev pub writes : List Example
 writes =
     asks (bundleBytes [] [] []) end
     ∷ asks (bundleBytes (258 ∷ 3 ∷ 4 ∷ 4095 ∷ []) (0 ∷ 1 ∷ []) (5 ∷ [])) (high ++ edge ++ end)
+    ∷ asks (bundleBytes [] (0 ∷ 2 ∷ 0 ∷ 1 ∷ 0 ∷ 2 ∷ []) (256 ∷ 5 ∷ 65535 ∷ [])) (wide 0 1 ++ edge ++ wide 255 255 ++ end)
+    ∷ asks (bundleBytes [] (0 ∷ 1 ∷ []) (255 ∷ [])) (take 8 edge ++ (255 ∷ []) ++ end)
+    ∷ asks (writeAnswer [] (0 ∷ 2 ∷ []) (256 ∷ []) 14) (result (14 ∷ []))
+    ∷ asks (writeAnswer [] (0 ∷ 2 ∷ []) (256 ∷ []) 13) (refusal 14 14)
     ∷ asks (writeAnswer (0 ∷ 1 ∷ 2 ∷ 3 ∷ []) (0 ∷ 1 ∷ []) (5 ∷ []) 25) (result (25 ∷ []))
     ∷ asks (writeAnswer (0 ∷ 1 ∷ 2 ∷ 3 ∷ []) (0 ∷ 1 ∷ []) (5 ∷ []) 24) (refusal 14 25)
     ∷ asks (writeAnswer [] [] [] 0) (refusal 14 4)

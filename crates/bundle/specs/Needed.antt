@@ -1,17 +1,30 @@
--- Only contracts of parts cite this file. What private functions of the reader and the writer ask of their callers.
+-- Only contracts of parts cite this file. What private functions of the reader and the writer ask of their callers, and sizes that they work out.
 use Prim.Native.Nat.{ℕ, _+_, _*_, _/_, _≤_, _<_}
 use mathlib.Core.Path.{_≡_}
 use mathlib.Core.List.{List}
-use lib.ListN.{length}
+use lib.ListN.{length, getD}
 use Rattle.counting.specs.Range.{over}
-use Rattle.bundle.specs.Record.{wordSize, cellSize, edgeSize}
+use Rattle.counting.specs.Search.{count}
+use Rattle.bundle.specs.Record.{wordSize, headBytes, cellSize, edgeSize, endSize, wideKind, isWide, countPlace}
 use Rattle.bundle.specs.Bundle.{cells, edgesFrom, edges, cellNodes, edgeEnds}
 use Rattle.bundle.specs.Written.{cellBytes, edgeBytes}
+
+-- how many of the counts a byte does not hold
+unfoldable pub wides : List ℕ → ℕ
+wides counts = count (λ k. isWide (getD counts k 0)) (length counts)
+
+-- the bytes of a bundle of so many cells and edges, of which so many are of kind 4, which has a byte more
+abbrev pub sizeOf : ℕ → ℕ → ℕ → ℕ
+sizeOf cells edges wide = cellSize * cells + edgeSize * edges + wide + endSize
 
 -- n numbers of 16 bits in a body, and room for them in a list
 pub record WordsLent (body : List ℕ) (n : ℕ) (list : List ℕ) (at : ℕ) : Type 0 where
   pub all : wordSize * n ≤ length body
   pub room : at + n ≤ length list
+
+-- a record of kind 4 has its count within the bytes
+abbrev pub WideLent : List ℕ → ℕ → ℕ → Type 0
+WideLent s start kind = kind ≡ wideKind → start + headBytes + countPlace + wordSize ≤ length s
 
 -- all the cells of the bytes, and room for their nodes
 pub record CellsLent (s : List ℕ) (count : ℕ) (nodes : List ℕ) : Type 0 where
@@ -39,7 +52,7 @@ pub record CellFits (area : List ℕ) (at : ℕ) (nodes : List ℕ) (k : ℕ) : 
 pub record EdgeFits (area : List ℕ) (at : ℕ) (ends counts : List ℕ) (k : ℕ) : Type 0 where
   pub pair : edgeEnds * k + edgeEnds ≤ length ends
   pub all : k < length counts
-  pub room : at + edgeSize ≤ length area
+  pub room : at + length (edgeBytes ends counts k) ≤ length area
 
 -- room for the records of all the cells at the front of the area
 pub record CellsFit (nodes area : List ℕ) : Type 0 where

@@ -1,6 +1,6 @@
 -- One record of a bundle (01): what stands at a start, and its body. Bytes are numbers below 256, and a number of 16 bits has its low byte first.
 use Prim.Native.Nat.{ℕ, _+_, _-_, _*_}
-use mathlib.Core.Bool.{Bool, _&&_}
+use mathlib.Core.Bool.{Bool, true, _&&_}
 use mathlib.Core.List.{List, [], _∷_}
 use lib.Dec.{ltb, leb, eqb}
 use lib.ListN.{length, getD, take, drop}
@@ -17,7 +17,7 @@ byteValues = 256
 abbrev pub brokenRow : ℕ
 brokenRow = 13
 
--- the kinds of records
+-- the kinds of records; an edge has kind 2 where a byte holds its count, and kind 4 where none does
 abbrev pub cellKind : ℕ
 cellKind = 1
 
@@ -26,6 +26,9 @@ edgeKind = 2
 
 abbrev pub endKind : ℕ
 endKind = 3
+
+abbrev pub wideKind : ℕ
+wideKind = 4
 
 -- the bytes of a number of 16 bits; of the length; and of length and kind, which stand before the body
 abbrev pub wordSize : ℕ
@@ -37,7 +40,7 @@ lengthBytes = wordSize
 abbrev pub headBytes : ℕ
 headBytes = lengthBytes + wordSize
 
--- the lengths of the three kinds, which count the bytes after the length itself
+-- the lengths of the kinds, which count the bytes after the length itself
 abbrev pub cellLength : ℕ
 cellLength = 10
 
@@ -47,7 +50,10 @@ edgeLength = 7
 abbrev pub endLength : ℕ
 endLength = 2
 
--- the bytes of a whole record of each kind
+abbrev pub wideLength : ℕ
+wideLength = 8
+
+-- the bytes of a whole record of the first three kinds; one of kind 4 has a byte more than one of kind 2
 abbrev pub cellSize : ℕ
 cellSize = lengthBytes + cellLength
 
@@ -59,7 +65,7 @@ endSize = lengthBytes + endLength
 
 -- the length that a record of a kind has; 0 where the number is no kind
 unfoldable pub lengthOf : ℕ → ℕ
-lengthOf kind = pick (eqb kind cellKind) cellLength (pick (eqb kind edgeKind) edgeLength (pick (eqb kind endKind) endLength 0))
+lengthOf kind = pick (eqb kind cellKind) cellLength (pick (eqb kind edgeKind) edgeLength (pick (eqb kind endKind) endLength (pick (eqb kind wideKind) wideLength 0)))
 
 -- the number of 16 bits at a place
 abbrev pub word : List ℕ → ℕ → ℕ
@@ -72,13 +78,30 @@ kindAt s at = word s (at + lengthBytes)
 unfoldable pub nextRecord : List ℕ → ℕ → ℕ
 nextRecord s at = at + lengthBytes + word s at
 
--- a record stands at a place: its length and kind are there, the kind is one of the three and has this length, and all its bytes are there
+-- where the count stands in the body of an edge, after its two ends; and the number there, in the record at a place
+abbrev pub countPlace : ℕ
+countPlace = wordSize + wordSize
+
+unfoldable pub countAt : List ℕ → ℕ → ℕ
+countAt s at = word s (at + headBytes + countPlace)
+
+-- a byte does not hold the count
+abbrev pub isWide : ℕ → Bool
+isWide count = leb byteValues count
+
+-- a record of the kind may have the count: kind 4 only one that a byte does not hold. Other kinds have any, or none.
+unfoldable pub mayHave : ℕ → ℕ → Bool
+mayHave kind count = pick (eqb kind wideKind) (isWide count) true
+
+-- a record stands at a place: its length and kind are there, the kind is one of the four and has this length, all its bytes are there, and the
+-- count is one that the kind may have
 unfoldable pub isRecord : List ℕ → ℕ → Bool
 isRecord s at =
     leb (at + headBytes) (length s)
     && ltb 0 (lengthOf (kindAt s at))
     && eqb (word s at) (lengthOf (kindAt s at))
     && leb (nextRecord s at) (length s)
+    && mayHave (kindAt s at) (countAt s at)
 
 -- the answer for a start: kind and next start, or refusal 13 with the start, or with the input's length where the start is not below it
 unfoldable pub recordAnswer : List ℕ → ℕ → List ℕ

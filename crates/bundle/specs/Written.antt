@@ -7,7 +7,7 @@ use lib.ListN.{length, getD}
 use Rattle.answer.specs.Answer.{result, refusal}
 use Rattle.counting.specs.Pick.{pick}
 use Rattle.counting.specs.Range.{over}
-use Rattle.bundle.specs.Record.{byteValues, cellKind, edgeKind, endKind, lengthOf, brokenRow}
+use Rattle.bundle.specs.Record.{byteValues, cellKind, edgeKind, endKind, wideKind, lengthOf, isWide, brokenRow}
 use Rattle.bundle.specs.Bundle.{cellNodes, edgeEnds, shortRow, leaves}
 use Rattle.bundle.specs.declared.Written.{Written}
 use Rattle.bundle.specs.declared.Written.the-variants.{Bytes, Unformed, Short}
@@ -31,12 +31,19 @@ recordBytes kind body = headOf kind ++ body
 abbrev pub listBytes : List ℕ → ℕ → ℕ → List ℕ
 listBytes l from n = over (λ i. wordBytes (getD l (from + i) 0)) n 0
 
+-- the kind of an edge with a count, and the bytes of the count: one, or two where a byte does not hold it
+unfoldable pub kindFor : ℕ → ℕ
+kindFor count = pick (isWide count) wideKind edgeKind
+
+unfoldable pub countBytes : ℕ → List ℕ
+countBytes count = pick (isWide count) (wordBytes count) (count ∷ [])
+
 -- the records of cell k, of edge k, and of the end
 unfoldable pub cellBytes : List ℕ → ℕ → List ℕ
 cellBytes nodes k = recordBytes cellKind (listBytes nodes (cellNodes * k) cellNodes)
 
 unfoldable pub edgeBytes : List ℕ → List ℕ → ℕ → List ℕ
-edgeBytes ends counts k = recordBytes edgeKind (listBytes ends (edgeEnds * k) edgeEnds ++ (getD counts k 0 ∷ []))
+edgeBytes ends counts k = recordBytes (kindFor (getD counts k 0)) (listBytes ends (edgeEnds * k) edgeEnds ++ countBytes (getD counts k 0))
 
 abbrev pub endRecord : List ℕ
 endRecord = recordBytes endKind []

@@ -4,33 +4,62 @@ use crate::Record;
 use crate::records::BROKEN_ROW;
 use crate::records::CELL;
 use crate::records::CELL_NODES;
+use crate::records::COUNT_PLACE;
 use crate::records::EDGE;
 use crate::records::EDGE_ENDS;
 use crate::records::END;
 use crate::records::HEAD_BYTES;
+use crate::records::WIDE;
 use crate::records::WORD_BYTES;
 use crate::records::body_at;
 use crate::records::record_at;
 use crate::records::word_at;
 ghost use mathlib.Core.Path.{_≡_};
-ghost use Prim.Native.Nat.{_+_};
+ghost use Prim.Native.Nat.{_+_, _<_};
 ghost use lib.ListN.{length};
 ghost use Rattle.counting.specs.Stored.{Stored};
-ghost use Rattle.bundle.specs.Bundle.{start, run, leadingWords, edgesFrom, bundleAnswer, readAnswer, nodesOf, endsOf, countsOf, writtenOver, nodesLeft, endsLeft, countsLeft, contentsNumbers};
+ghost use Rattle.bundle.specs.Record.{countPlace, word};
+ghost use Rattle.bundle.specs.Bundle.{sectionOf, start, run, leadingWords, edgesFrom, bundleAnswer, readAnswer, nodesOf, endsOf, countsOf, writtenOver, nodesLeft, endsLeft, countsLeft, contentsNumbers};
 ghost use Rattle.bundle.specs.Needed.{WordsLent, CellsLent, EdgesLent};
 
 // The row of refusals that speaks of short lists.
 pub const SHORT_ROW: u8 = 14;
 
-// Records of one kind in a row: how many, and where they stop.
+// The sections of a bundle, in their order.
+const CELL_SECTION: usize = 1;
+
+const EDGE_SECTION: usize = 2;
+
+const END_SECTION: usize = 3;
+
+// The section that records of a kind stand in; 0 where the number is no kind.
+fn section_of(kind: u16) -> usize
+    ensures { λ r. ⌜ r ≡ sectionOf kind ⌝ }
+{
+    if kind == CELL {
+        return CELL_SECTION;
+    }
+    if kind == EDGE {
+        return EDGE_SECTION;
+    }
+    if kind == WIDE {
+        return EDGE_SECTION;
+    }
+    if kind == END {
+        return END_SECTION;
+    }
+    0
+}
+
+// Records of one section in a row: how many, and where they stop.
 struct Run {
     count: usize,
     stop: usize,
 }
 
-// The records of a kind from a place on.
-fn run_from(bytes: &[u8], from: usize, kind: u16) -> Run
-    ensures { λ r. ⌜ (r .count ≡ run (now (bytes .entry)) kind from) × (r .stop ≡ start (now (bytes .entry)) from (r .count)) ⌝ }
+// The records of a section from a place on.
+fn run_from(bytes: &[u8], from: usize, section: usize) -> Run
+    ensures { λ r. ⌜ (r .count ≡ run (now (bytes .entry)) section from) × (r .stop ≡ start (now (bytes .entry)) from (r .count)) ⌝ }
 {
     let mut at = from;
     let mut count: usize = 0;
@@ -39,8 +68,8 @@ fn run_from(bytes: &[u8], from: usize, kind: u16) -> Run
             Record::Refused(number, place) => {
                 return Run { count, stop: at };
             }
-            Record::Whole(found, next) => {
-                if found != kind {
+            Record::Whole(kind, next) => {
+                if section_of(kind) != section {
                     return Run { count, stop: at };
                 }
                 count += 1;
@@ -54,13 +83,13 @@ fn run_from(bytes: &[u8], from: usize, kind: u16) -> Run
 pub fn scan(bytes: &[u8]) -> Contents
     ensures { λ r. ⌜ contentsNumbers r ≡ bundleAnswer (now (bytes .entry)) ⌝ }
 {
-    let cells = run_from(bytes, 0, CELL);
-    let edges = run_from(bytes, cells.stop, EDGE);
+    let cells = run_from(bytes, 0, CELL_SECTION);
+    let edges = run_from(bytes, cells.stop, EDGE_SECTION);
     let stop = edges.stop;
     match record_at(bytes, stop) {
         Record::Refused(number, place) => Contents::Refused(BROKEN_ROW, stop),
         Record::Whole(kind, next) => {
-            if kind != END {
+            if section_of(kind) != END_SECTION {
                 return Contents::Refused(BROKEN_ROW, stop);
             }
             if next != bytes.len() {
@@ -83,6 +112,17 @@ fn fill_words(body: &[u8], n: usize, list: &mut [u16], at: usize)
     }
 }
 
+// The count in the body of an edge: the byte that ends it, or 16 bits.
+fn count_in(body: &[u8]) -> u16
+    requires { ⌜ countPlace < length (now body) ⌝ }
+    ensures { λ r. ⌜ r ≡ word (now (body .entry)) countPlace ⌝ }
+{
+    if body.len() == COUNT_PLACE + 1 {
+        return body[COUNT_PLACE] as u16;
+    }
+    word_at(body, COUNT_PLACE)
+}
+
 // Fills the nodes of the cells, and answers where the edges start.
 fn fill_cells(bytes: &[u8], count: usize, nodes: &mut [u16]) -> usize
     requires { ⌜ CellsLent (now bytes) count (now nodes) ⌝ }
@@ -101,7 +141,7 @@ fn fill_cells(bytes: &[u8], count: usize, nodes: &mut [u16]) -> usize
 }
 
 // Fills the ends and counts of the edges, whose records start at from.
-fn fill_edges(bytes: &[u8], from: usize, count: usize, ends: &mut [u16], counts: &mut [u8])
+fn fill_edges(bytes: &[u8], from: usize, count: usize, ends: &mut [u16], counts: &mut [u16])
     requires { ⌜ EdgesLent (now bytes) from count (now ends) (now counts) ⌝ }
     ensures { λ _. ⌜ now (ends .exit) ≡ writtenOver (endsOf (now (bytes .entry))) (now (ends .entry)) ⌝ }
     ensures { λ _. ⌜ now (counts .exit) ≡ writtenOver (countsOf (now (bytes .entry))) (now (counts .entry)) ⌝ }
@@ -111,14 +151,14 @@ fn fill_edges(bytes: &[u8], from: usize, count: usize, ends: &mut [u16], counts:
     while k < count {
         let body = body_at(bytes, at);
         fill_words(body, EDGE_ENDS, ends, EDGE_ENDS * k);
-        counts[k] = body[WORD_BYTES * EDGE_ENDS];
+        counts[k] = count_in(body);
         at += HEAD_BYTES + body.len();
         k += 1;
     }
 }
 
 // Fills the lists with the bundle's cells and edges, and answers how many there are; a refusal leaves the lists as they are.
-pub fn read(bytes: &[u8], nodes: &mut [u16], ends: &mut [u16], counts: &mut [u8]) -> Contents
+pub fn read(bytes: &[u8], nodes: &mut [u16], ends: &mut [u16], counts: &mut [u16]) -> Contents
     ensures answer { λ r. ⌜ contentsNumbers r ≡ readAnswer (now (bytes .entry)) (length (now (nodes .entry))) (length (now (ends .entry))) (length (now (counts .entry))) ⌝ }
     ensures nodes { λ r. ⌜ now (nodes .exit) ≡ nodesLeft (now (bytes .entry)) (now (nodes .entry)) (now (ends .entry)) (now (counts .entry)) ⌝ }
     ensures ends { λ r. ⌜ now (ends .exit) ≡ endsLeft (now (bytes .entry)) (now (nodes .entry)) (now (ends .entry)) (now (counts .entry)) ⌝ }

@@ -3,7 +3,8 @@ use crate::Record;
 ghost use mathlib.Core.Path.{_≡_};
 ghost use Prim.Native.Nat.{_+_, _<_};
 ghost use lib.ListN.{length};
-ghost use Rattle.bundle.specs.Record.{word, lengthOf, recordAnswer, recordNumbers, body, bodyStart};
+ghost use Rattle.bundle.specs.Record.{word, lengthOf, mayHave, countAt, recordAnswer, recordNumbers, body, bodyStart};
+ghost use Rattle.bundle.specs.Needed.{WideLent};
 
 pub(crate) const CELL: u16 = 1;
 
@@ -11,12 +12,16 @@ pub(crate) const EDGE: u16 = 2;
 
 pub(crate) const END: u16 = 3;
 
-// The lengths of the three kinds, which count the bytes after the length itself.
+pub(crate) const WIDE: u16 = 4;
+
+// The lengths of the kinds, which count the bytes after the length itself.
 const CELL_LENGTH: u16 = 10;
 
 const EDGE_LENGTH: u16 = 7;
 
 const END_LENGTH: u16 = 2;
+
+const WIDE_LENGTH: u16 = 8;
 
 // The values of a byte.
 pub(crate) const BYTE_VALUES: u16 = 256;
@@ -26,7 +31,7 @@ pub(crate) const WORD_BYTES: usize = 2;
 
 pub const HEAD_BYTES: usize = WORD_BYTES + WORD_BYTES;
 
-// The bytes of a whole record of each kind.
+// The bytes of a whole record of the first three kinds; one of kind 4 has a byte more than one of kind 2.
 pub const CELL_BYTES: usize = WORD_BYTES + CELL_LENGTH as usize;
 
 pub const EDGE_BYTES: usize = WORD_BYTES + EDGE_LENGTH as usize;
@@ -37,6 +42,9 @@ pub const END_BYTES: usize = WORD_BYTES + END_LENGTH as usize;
 pub const CELL_NODES: usize = 4;
 
 pub const EDGE_ENDS: usize = 2;
+
+// Where the count stands in the body of an edge.
+pub(crate) const COUNT_PLACE: usize = WORD_BYTES * EDGE_ENDS;
 
 // The row of refusals that speaks of records.
 pub const BROKEN_ROW: u8 = 13;
@@ -62,7 +70,22 @@ pub(crate) fn length_of(kind: u16) -> u16
     if kind == END {
         return END_LENGTH;
     }
+    if kind == WIDE {
+        return WIDE_LENGTH;
+    }
     0
+}
+
+// Whether the record of a kind at a start has a count that the kind may have.
+fn may_have(bytes: &[u8], start: usize, kind: u16) -> bool
+    requires { ⌜ WideLent (now bytes) start kind ⌝ }
+    ensures { λ r. ⌜ r ≡ mayHave kind (countAt (now (bytes .entry)) start) ⌝ }
+{
+    if kind != WIDE {
+        return true;
+    }
+    let count = word_at(bytes, start + HEAD_BYTES + COUNT_PLACE);
+    BYTE_VALUES <= count
 }
 
 // The kind of the record at a start and the next start, or refusal 13.
@@ -86,6 +109,9 @@ pub fn record_at(bytes: &[u8], start: usize) -> Record
     }
     let size = WORD_BYTES + (length as usize);
     if bytes.len() - start < size {
+        return Record::Refused(BROKEN_ROW, start);
+    }
+    if !may_have(bytes, start, kind) {
         return Record::Refused(BROKEN_ROW, start);
     }
     Record::Whole(kind, start + size)

@@ -9,18 +9,20 @@ use crate::records::EDGE_BYTES;
 use crate::records::EDGE_ENDS;
 use crate::records::END;
 use crate::records::END_BYTES;
+use crate::records::WIDE;
 use crate::records::WORD_BYTES;
 use crate::records::length_of;
 ghost use mathlib.Core.Path.{_≡_};
 ghost use Prim.Native.Nat.{_+_, _*_, _/_, _%_, _≤_, min};
 ghost use lib.Dec.{leb};
 ghost use lib.ListN.{length};
+ghost use Rattle.counting.specs.Pick.{one};
 ghost use Rattle.counting.specs.Range.{over};
 ghost use Rattle.counting.specs.Stored.{Stored};
-ghost use Rattle.bundle.specs.Record.{byteValues, wordSize, headBytes, cellSize, edgeSize, endSize};
+ghost use Rattle.bundle.specs.Record.{byteValues, wordSize, headBytes, isWide};
 ghost use Rattle.bundle.specs.Bundle.{cellNodes};
-ghost use Rattle.bundle.specs.Written.{mostNamed, wordBytes, headOf, listBytes, cellBytes, edgeBytes, writeAnswer, areaLeft, writtenNumbers};
-ghost use Rattle.bundle.specs.Needed.{ListFits, CellFits, EdgeFits, CellsFit, EdgesFit};
+ghost use Rattle.bundle.specs.Written.{mostNamed, wordBytes, headOf, listBytes, kindFor, countBytes, cellBytes, edgeBytes, writeAnswer, areaLeft, writtenNumbers};
+ghost use Rattle.bundle.specs.Needed.{wides, sizeOf, ListFits, CellFits, EdgeFits, CellsFit, EdgesFit};
 
 // The greatest number of bytes that a refusal names.
 const MOST: usize = 4294967295;
@@ -80,15 +82,38 @@ fn put_cell(area: &mut [u8], at: usize, nodes: &[u16], k: usize) -> usize
     put_words(area, body, nodes, CELL_NODES * k, CELL_NODES)
 }
 
+// The kind of an edge with a count.
+fn kind_for(count: u16) -> u16
+    ensures { λ r. ⌜ r ≡ kindFor count ⌝ }
+{
+    if BYTE_VALUES <= count {
+        return WIDE;
+    }
+    EDGE
+}
+
+// The bytes of a count.
+fn put_count(area: &mut [u8], at: usize, count: u16) -> usize
+    requires { ⌜ at + length (countBytes count) ≤ length (now area) ⌝ }
+    ensures { λ r. ⌜ Stored (now (area .entry)) at (countBytes count) (now (area .exit)) r ⌝ }
+{
+    if BYTE_VALUES <= count {
+        return put_word(area, at, count);
+    }
+    area[at] = low(count);
+    at + 1
+}
+
 // The record of edge k.
-fn put_edge(area: &mut [u8], at: usize, ends: &[u16], counts: &[u8], k: usize) -> usize
+fn put_edge(area: &mut [u8], at: usize, ends: &[u16], counts: &[u16], k: usize) -> usize
     requires { ⌜ EdgeFits (now area) at (now ends) (now counts) k ⌝ }
     ensures { λ r. ⌜ Stored (now (area .entry)) at (edgeBytes (now (ends .entry)) (now (counts .entry)) k) (now (area .exit)) r ⌝ }
 {
-    let body = put_head(area, at, EDGE);
+    let count = counts[k];
+    let kind = kind_for(count);
+    let body = put_head(area, at, kind);
     let next = put_words(area, body, ends, EDGE_ENDS * k, EDGE_ENDS);
-    area[next] = counts[k];
-    next + 1
+    put_count(area, next, count)
 }
 
 // The records of the cells, at the front of the area.
@@ -107,7 +132,7 @@ fn put_cells(nodes: &[u16], area: &mut [u8]) -> usize
 }
 
 // The records of the edges, from a place on.
-fn put_edges(ends: &[u16], counts: &[u8], from: usize, area: &mut [u8]) -> usize
+fn put_edges(ends: &[u16], counts: &[u16], from: usize, area: &mut [u8]) -> usize
     requires { ⌜ EdgesFit (now ends) (now counts) from (now area) ⌝ }
     ensures { λ r. ⌜ Stored (now (area .entry)) from (over (edgeBytes (now (ends .entry)) (now (counts .entry))) (length (now (counts .entry))) 0) (now (area .exit)) r ⌝ }
 {
@@ -120,9 +145,33 @@ fn put_edges(ends: &[u16], counts: &[u8], from: usize, area: &mut [u8]) -> usize
     at
 }
 
-// Whether a bundle of so many cells and edges fits a number of bytes.
-fn fits(cells: usize, edges: usize, room: usize) -> bool
-    ensures { λ r. ⌜ r ≡ leb (cellSize * cells + edgeSize * edges + endSize) room ⌝ }
+// 1 for a count that a byte does not hold.
+fn more(count: u16) -> usize
+    ensures { λ r. ⌜ r ≡ one (isWide count) ⌝ }
+{
+    if BYTE_VALUES <= count {
+        return 1;
+    }
+    0
+}
+
+// How many of the counts a byte does not hold.
+fn wides_in(counts: &[u16]) -> usize
+    ensures { λ r. ⌜ r ≡ wides (now (counts .entry)) ⌝ }
+{
+    let mut n: usize = 0;
+    let mut k: usize = 0;
+    while k < counts.len() {
+        let count = counts[k];
+        n += more(count);
+        k += 1;
+    }
+    n
+}
+
+// Whether a bundle of so many cells and edges, of which so many are of kind 4, fits a number of bytes.
+fn fits(cells: usize, edges: usize, wide: usize, room: usize) -> bool
+    ensures { λ r. ⌜ r ≡ leb (sizeOf cells edges wide) room ⌝ }
 {
     if room < END_BYTES {
         return false;
@@ -131,12 +180,15 @@ fn fits(cells: usize, edges: usize, room: usize) -> bool
         return false;
     }
     let left = room - END_BYTES - CELL_BYTES * cells;
-    edges <= left / EDGE_BYTES
+    if left / EDGE_BYTES < edges {
+        return false;
+    }
+    wide <= left - EDGE_BYTES * edges
 }
 
-// The bytes of a bundle of so many cells and edges, as a refusal names them.
-fn needed(cells: usize, edges: usize) -> usize
-    ensures { λ r. ⌜ r ≡ min (cellSize * cells + edgeSize * edges + endSize) mostNamed ⌝ }
+// The bytes of such a bundle, as a refusal names them.
+fn needed(cells: usize, edges: usize, wide: usize) -> usize
+    ensures { λ r. ⌜ r ≡ min (sizeOf cells edges wide) mostNamed ⌝ }
 {
     if MOST / CELL_BYTES < cells {
         return MOST;
@@ -144,7 +196,10 @@ fn needed(cells: usize, edges: usize) -> usize
     if MOST / EDGE_BYTES < edges {
         return MOST;
     }
-    let n = CELL_BYTES * cells + EDGE_BYTES * edges + END_BYTES;
+    if MOST < wide {
+        return MOST;
+    }
+    let n = CELL_BYTES * cells + EDGE_BYTES * edges + wide + END_BYTES;
     if MOST < n {
         return MOST;
     }
@@ -152,7 +207,7 @@ fn needed(cells: usize, edges: usize) -> usize
 }
 
 // Writes the bundle of the lists and answers its number of bytes; a refusal leaves the area as it is.
-pub fn write(nodes: &[u16], ends: &[u16], counts: &[u8], area: &mut [u8]) -> Written
+pub fn write(nodes: &[u16], ends: &[u16], counts: &[u16], area: &mut [u8]) -> Written
     ensures answer { λ r. ⌜ writtenNumbers r ≡ writeAnswer (now (nodes .entry)) (now (ends .entry)) (now (counts .entry)) (length (now (area .entry))) ⌝ }
     ensures area { λ r. ⌜ now (area .exit) ≡ areaLeft (now (nodes .entry)) (now (ends .entry)) (now (counts .entry)) (now (area .entry)) ⌝ }
 {
@@ -167,8 +222,9 @@ pub fn write(nodes: &[u16], ends: &[u16], counts: &[u8], area: &mut [u8]) -> Wri
     if ends.len() / EDGE_ENDS != edges {
         return Written::Unformed;
     }
-    if !fits(cells, edges, area.len()) {
-        return Written::Short(needed(cells, edges));
+    let wide = wides_in(counts);
+    if !fits(cells, edges, wide, area.len()) {
+        return Written::Short(needed(cells, edges, wide));
     }
     let from = put_cells(nodes, area);
     let stop = put_edges(ends, counts, from, area);

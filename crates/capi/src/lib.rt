@@ -53,9 +53,9 @@ fn put(answer: &mut [u64], numbers: &[u64]) -> usize
 // The face call: 0 and the partner's edge and index; 1 unjoined; 2 no such crossing.
 #[no_mangle]
 pub extern "C" fn citternblaze_face(
-    ab: u8,
-    ac: u8,
-    bc: u8,
+    ab: u16,
+    ac: u16,
+    bc: u16,
     edge: u32,
     index: u32,
     answer: &mut [u64],
@@ -74,7 +74,7 @@ pub extern "C" fn citternblaze_face(
 pub extern "C" fn citternblaze_check(
     cells: &[u16],
     edges: &[u16],
-    counts: &[u8],
+    counts: &[u16],
     answer: &mut [u64],
 ) -> usize
     ensures { λ r. ⌜ Answers (gridAnswer (gridOf (now (cells .entry)) (now (edges .entry)) (now (counts .entry)))) (now (answer .entry)) (now (answer .exit)) r ⌝ }
@@ -90,7 +90,7 @@ pub extern "C" fn citternblaze_check(
 pub extern "C" fn citternblaze_mesh(
     cells: &[u16],
     edges: &[u16],
-    counts: &[u8],
+    counts: &[u16],
     area: &mut [u32],
     answer: &mut [u64],
 ) -> usize
@@ -142,7 +142,7 @@ fn put_loop(answer: &mut [u64], l: Loop) -> usize
 pub extern "C" fn citternblaze_loops(
     cells: &[u16],
     edges: &[u16],
-    counts: &[u8],
+    counts: &[u16],
     cell: usize,
     index: usize,
     answer: &mut [u64],
@@ -160,7 +160,7 @@ pub extern "C" fn citternblaze_loops(
 pub extern "C" fn citternblaze_places(
     cells: &[u16],
     edges: &[u16],
-    counts: &[u8],
+    counts: &[u16],
     nodes: &[f64],
     fractions: &[f64],
     area: &mut [f64],
@@ -209,7 +209,7 @@ pub extern "C" fn citternblaze_bundle_read(
     bytes: &[u8],
     nodes: &mut [u16],
     ends: &mut [u16],
-    counts: &mut [u8],
+    counts: &mut [u16],
     answer: &mut [u64],
 ) -> usize
     ensures answer { λ r. ⌜ Answers (readAnswer (now (bytes .entry)) (length (now (nodes .entry))) (length (now (ends .entry))) (length (now (counts .entry)))) (now (answer .entry)) (now (answer .exit)) r ⌝ }
@@ -231,7 +231,7 @@ pub extern "C" fn citternblaze_bundle_read(
 pub extern "C" fn citternblaze_bundle_write(
     nodes: &[u16],
     ends: &[u16],
-    counts: &[u8],
+    counts: &[u16],
     area: &mut [u8],
     answer: &mut [u64],
 ) -> usize

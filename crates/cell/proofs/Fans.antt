@@ -1,10 +1,11 @@
 -- The fans of a cell and their middles: from the records of its loops, and as they are written.
 use Prim.Native.Nat.{ℕ, zero, suc, _+_, _-_, _*_, _/_, _≤_, _<_}
 use mathlib.Core.Path.{_≡_, refl, sym, ap, ap₂, _∙_}
-use mathlib.Core.Logic.{_≢_}
+use mathlib.Core.Logic.{_≢_, _⊎_, ⊎-elim}
 use mathlib.Core.Bool.{Bool, true, false, _&&_}
 use mathlib.Core.List.{List, [], _∷_}
 use native.Mathlib.Numerals.{add-one}
+use native.Mathlib.Decide.{decLt}
 use native.Mathlib.Omega.{arith}
 use lib.Dec.{eqb, leb}
 use lib.ListN.{length, getD}
@@ -18,7 +19,7 @@ use Rattle.counting.specs.Stored.{Stored, storedIn, nextIn}
 use Rattle.counting.proofs.Bools.{and-left, and-right, and-false-right}
 use Rattle.counting.proofs.Lists.{gather-over}
 use Rattle.counting.proofs.Range.{length-over, total-ext, over-ext}
-use Rattle.counting.proofs.Search.{every-is, is-every, every-not, count-total, count-le}
+use Rattle.counting.proofs.Search.{below-or, every-is, is-every, every-not, count-total, count-le}
 use Rattle.counting.proofs.Stored.{stored-none, stored-as, stored-more, stored-fits, stored-room, stored-not, stored-nothing, stored-same}
 use Rattle.place.specs.declared.Place.{Place}
 use Rattle.place.specs.Place.{middle, coordinates, placeAt, numbers, allNumbers}
@@ -98,6 +99,27 @@ module _ (c : Cell) (n : ℕ) where
 
 pub below-more : (c : Cell) {n m : ℕ} → numberedBelow c n ≡ true → n ≤ m → numberedBelow c m ≡ true
 below-more c {n} {m} h l = below-all c m (λ e k. omega (arith, below-at c n h e k))
+
+-- the highest of the numbers after the first e edges' crossings
+pub record Highest (c : Cell) (e last : ℕ) : Type 0 where
+  pub above : (k : ℕ) → k < e → startOf c k + countOf c k ≤ last
+  pub reached : (n : ℕ) → n < last → (k : ℕ) × (k < 6) × (n < startOf c k + countOf c k)
+
+pub highest-none : (c : Cell) → Highest c 0 0
+highest-none c = record { above = λ k l. absurd (omega arith); reached = λ n l. absurd (omega arith) }
+
+module _ {c : Cell} {e last : ℕ} (H : Highest c e last) where
+  pub highest-more : {next : ℕ} → e < 6 → last ≤ next → startOf c e + countOf c e ≤ next → (next ≡ last) ⊎ (next ≡ startOf c e + countOf c e) → Highest c (e + 1) next
+  highest-more {next} l up end is = record {
+    above = λ k h. ⊎-elim (λ (q : k ≡ e). rw q end) (λ (g : k < e). omega (arith, H .above k g)) (below-or k e (omega arith));
+    reached = λ n h. ⊎-elim (λ (q : next ≡ last). H .reached n (omega arith)) (λ (q : next ≡ startOf c e + countOf c e). (e, l, omega arith)) is;
+  }
+
+  pub highest-all : 6 ≤ e → (n : ℕ) → leb last n ≡ numberedBelow c n
+  highest-all l n = elim (decLt n last) [
+    | yes h ↦ let w = H .reached n h in lt-leb last n h ∙ sym (below-not c n (w .0) (w .1) (w .2))
+    | no h ↦ le-leb last n (omega arith) ∙ sym (below-all c n (λ k g. omega (arith, H .above k (omega arith))))
+  ]
 
 -- the middles are determined by the places of the cell's crossings
 module _ (c : Cell) (n : ℕ) (b : numberedBelow c n ≡ true) (place other : ℕ → Place) (same : (g : ℕ) → g < n → place g ≡ other g) where

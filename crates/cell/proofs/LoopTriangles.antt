@@ -26,7 +26,7 @@ Entry l k t = drop k l ≡ t ∷ drop (suc k) l
 module _ (c : Cell) (halves points : List ℕ) (n : ℕ) (two : Bool) where
   pub length-traced : length (tracedTriangles c halves points n two) ≡ manyOf (shapeOf n two) n
   unfolding tracedTriangles
-  length-traced = length-triangles (triangle (c .index) (getD points 0 0)) (pointAt points) Middle (segmentAt c halves points n) Inner n (shapeOf n two)
+  length-traced = length-triangles (triangle (c .index) (getD points 0 0)) (pointAt points) Middle (segmentAt (c .names) halves points n) Inner n (shapeOf n two)
 
   module _ (k : ℕ) where
     abbrev this : Triangle
@@ -37,7 +37,7 @@ module _ (c : Cell) (halves points : List ℕ) (n : ℕ) (two : Bool) where
     traced-entry l e =
         drop-cons (tracedTriangles c halves points n two) k this (omega (arith, length-traced))
         ∙ ap (λ t. t ∷ drop (suc k) (tracedTriangles c halves points n two))
-        (getD-triangles (triangle (c .index) (getD points 0 0)) (pointAt points) Middle (segmentAt c halves points n) Inner n this (shapeOf n two) k l ∙ sym e)
+        (getD-triangles (triangle (c .index) (getD points 0 0)) (pointAt points) Middle (segmentAt (c .names) halves points n) Inner n this (shapeOf n two) k l ∙ sym e)
 
     pub this-single : n ≡ 3 → tracedTriangle c halves points 3 single 0 ≡ this
     unfolding tracedTriangle

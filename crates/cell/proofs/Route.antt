@@ -19,7 +19,8 @@ use Rattle.counting.specs.Pack.{pre}
 use Rattle.counting.proofs.Range.{total-next}
 use Rattle.counting.proofs.Search.{every-is}
 use Rattle.counting.proofs.Stores.{getD-sets-in, getD-sets-out}
-use Rattle.counting.proofs.Pack.{pre-next}
+use Rattle.counting.proofs.Pack.{pre-next, pre-most}
+use Rattle.slots.specs.Limits.{mostCount}
 use Rattle.slots.specs.Slots.{slotEdge, firstSlot}
 use Rattle.face.specs.Face.{lower, upper, other, corners}
 use Rattle.face.specs.Ends.{low, high}
@@ -32,7 +33,6 @@ use Rattle.cell.specs.Of.{countOf, startOf, edgesOf}
 use Rattle.cell.specs.Half.{halfEdges, rankOf, edgeOf, halfOf, twin, around}
 use Rattle.cell.specs.Route.{columns, lowAt, highAt, countAt, firstAt, startAt, roundLowAt, roundHighAt, twinAt, rankAt, cornerOf, front, fronts, links, IsRun, SlotRuns, Routed}
 use Rattle.cell.specs.Limits.{mostInCell, startLimit}
-use Rattle.slots.specs.Limits.{mostCount}
 use Rattle.cell.proofs.Lay.{base-all, laid-same}
 use Rattle.cell.proofs.Half.{edge-lt, half-slot, half-place, half-edge, first-half}
 
@@ -126,22 +126,25 @@ module _ {w : Edges} where
     unfolding base
     before-all a b = S .is ∙ ap (λ m. total (λ i. pick (ahead w k i) (w .count i) 0) m 0) (omega arith)
 
--- the counts and starts of an edge are of 8 and 16 bits
-pub record Small (c : Cell) (e : ℕ) : Type 0 where
-  pub count : countOf c e ≤ mostCount
-  pub start : startOf c e < startLimit
+-- the start of an edge is of 16 bits
+start-small : {c : Cell} {e : ℕ} {x : Run} → IsRun c e x → startOf c e < startLimit
+start-small R = rw (R .start-is) at (R .near)
 
-small : {c : Cell} {e : ℕ} {x : Run} → IsRun c e x → Small c e
-small R = record { count = rw (R .count-is) at (R .small); start = rw (R .start-is) at (R .near) }
+-- the count of an edge is at most the limit, and the listed one where that is
+pub count-few : (c : Cell) (e : ℕ) → countOf c e ≤ mostCount
+count-few c e = omega arith
+
+pub count-listed : (c : Cell) (e : ℕ) → getD (c .counts) e 0 ≤ mostCount → countOf c e ≡ getD (c .counts) e 0
+count-listed c e h = omega arith
 
 -- the first n half-edges have their numbers in t, and all have their links
 pub record Written (c : Cell) (n : ℕ) (t : List ℕ) : Type 0 where
   pub long : length t ≡ 108
   pub linked : (h i : ℕ) → h < halfEdges → i < 4 → getD t (9 * h + (5 + i)) 0 ≡ getD (links h) i 0
   pub counted : (h i : ℕ) → h < n → i < 5 → getD t (9 * h + i) 0 ≡ getD (front (edgesOf c) h) i 0
-  pub bits : (h : ℕ) → h < n → Small c (edgeOf h)
+  pub near : (h : ℕ) → h < n → startOf c (edgeOf h) < startLimit
 
-written-one : {c : Cell} {n : ℕ} {t : List ℕ} → Written c n t → n < halfEdges → Small c (edgeOf n) → Written c (n + 1) (sets t (9 * n) (front (edgesOf c) n))
+written-one : {c : Cell} {n : ℕ} {t : List ℕ} → Written c n t → n < halfEdges → startOf c (edgeOf n) < startLimit → Written c (n + 1) (sets t (9 * n) (front (edgesOf c) n))
 written-one {c} {n} {t} W l S = record {
   long = length-sets t (9 * n) v ∙ W .long;
   linked = λ h i a b. getD-sets-out v t (9 * n) (9 * h + (5 + i)) 0
@@ -149,7 +152,7 @@ written-one {c} {n} {t} W l S = record {
   counted = λ h i a b. ⊎-elim
       (λ (q : h ≡ n). rw q (getD-sets-in v t (9 * n) i 0 (omega (arith, five)) (omega (arith, five, W .long))))
       (λ (g : h < n). getD-sets-out v t (9 * n) (9 * h + i) 0 (inl (omega arith)) ∙ W .counted h i g b) (eq-or-lt-of-le (omega arith));
-  bits = λ h a. ⊎-elim (λ (q : h ≡ n). rw q S) (λ (g : h < n). W .bits h g) (eq-or-lt-of-le (omega arith));
+  near = λ h a. ⊎-elim (λ (q : h ≡ n). rw q S) (λ (g : h < n). W .near h g) (eq-or-lt-of-le (omega arith));
 }
   where
     v : List ℕ
@@ -166,9 +169,9 @@ written-slot {c} {t} {s} W l R u e =
     let q : 3 * s + 2 + 1 ≡ 3 * (s + 1) = omega arith in
     let z : 3 * s + 0 ≡ 3 * s = omega arith in
     let k = half-edge s 0 (omega arith) in
-    let a = written-one W (omega arith) (rw (rw z at k) (small (R .of-ab))) in
-    let b = written-one a (omega arith) (rw (half-edge s 1 (omega arith)) (small (R .of-ac))) in
-    let d = written-one (rw p at b) (omega arith) (rw (half-edge s 2 (omega arith)) (small (R .of-bc))) in
+    let a = written-one W (omega arith) (rw (rw z at k) (start-small (R .of-ab))) in
+    let b = written-one a (omega arith) (rw (half-edge s 1 (omega arith)) (start-small (R .of-ac))) in
+    let d = written-one (rw p at b) (omega arith) (rw (half-edge s 2 (omega arith)) (start-small (R .of-bc))) in
     rw e (rw q at d)
 
 -- all four slots: each edge has a half-edge
@@ -176,16 +179,9 @@ pub written-all : {c : Cell} {t : List ℕ} {s : ℕ} → Written c (3 * s) t �
 written-all {c} {t} {s} W l = record {
   counted = λ h i a b. W .counted h i (omega arith) b;
   linked = W .linked;
-  few = below 6 (omega arith);
-  near = λ e a. bits e a .start;
+  few = pre-most (countOf c) mostCount (count-few c) 6;
+  near = λ e a. let F = first-half a refl in rw (F .0) at (W .near (halfOf (firstSlot e) e) (omega (arith, F .2)));
 }
-  where
-    bits : (e : ℕ) → e < 6 → Small c e
-    bits e a = let F = first-half a refl in rw (F .0) at (W .bits (halfOf (firstSlot e) e) (omega (arith, F .2)))
-
-    below : (n : ℕ) → n ≤ 6 → pre (countOf c) n ≤ mostCount * n
-    below zero a = omega (arith, sum-none {w = edgesOf c} .is)
-    below (suc n) a = omega (arith, pre-next (countOf c) 0 n, below n (omega arith), bits n (omega arith) .count)
 
 -- the links that are written down
 unfoldable pub linkTable : List ℕ
@@ -203,7 +199,7 @@ written-none c = record {
       (every-is (λ i. eqb (getD linkTable (9 * h + (5 + i)) 0) (getD (links h) i 0)) 4
       (every-is (λ h. every (λ i. eqb (getD linkTable (9 * h + (5 + i)) 0) (getD (links h) i 0)) 4) halfEdges links-pass h a) i b);
   counted = λ h i a b. absurd (omega arith);
-  bits = λ h a. absurd (omega arith);
+  near = λ h a. absurd (omega arith);
 }
 
 -- what is read

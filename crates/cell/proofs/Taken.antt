@@ -56,14 +56,14 @@ module _ (c : Cell) (p : ℕ) where
     unfolding point
     traced-point k l = ap Crossing (numbers k l)
 
-    traced-segment : (k : ℕ) → k < m → segmentAt c halves points m k ≡ segment c p k
+    traced-segment : (k : ℕ) → k < m → segmentAt (c .names) halves points m k ≡ segment c p k
     unfolding segmentAt segment segmentOf
     traced-segment k l = rw (slots k l, numbers k l, numbers (after m k) (after-lt m k l), leads k l)
 
     pub traced-loop : (two : Bool) → two ≡ (eqb m 4 && normal (edgesOf c) p) → tracedTriangles c halves points m two ≡ loopTriangles c p
     unfolding tracedTriangles loopTriangles
     traced-loop two e =
-        triangles-ext (triangle (c .index) (getD points 0 0)) (pointAt points) Middle (segmentAt c halves points m) Inner m
+        triangles-ext (triangle (c .index) (getD points 0 0)) (pointAt points) Middle (segmentAt (c .names) halves points m) Inner m
         (triangle (c .index) (numberOf c p)) (point c p) (segment c p) (λ l. ap (triangle (c .index)) (numbers 0 l ∙ first-point)) traced-point traced-segment
         (shapeOf m two) (fits m two)
         ∙ ap (λ q. trianglesOf (triangle (c .index) (numberOf c p)) (point c p) Middle (segment c p) Inner m q) (ap (shapeOf m) e ∙ shape-two m (normal (edgesOf c) p))

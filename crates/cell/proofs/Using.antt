@@ -1,16 +1,26 @@
 -- What is kept of the arrays that the walks use.
-use Prim.Native.Nat.{ℕ, _+_, _≤_, _<_}
+use Prim.Native.Nat.{ℕ, _+_, _%_, _≤_, _<_}
 use mathlib.Core.Path.{_≡_, refl, sym, ap, _∙_}
-use mathlib.Core.List.{List, _++_}
+use mathlib.Core.List.{List, [], _++_}
+use native.Mathlib.Decide.{decLt}
 use native.Mathlib.Omega.{arith}
-use lib.ListN.{length, drop, set, length-set}
+use lib.ListN.{length, getD, drop, set, length-set}
 use lib.Seq.{drop-set-lt, drop-at}
 use Rattle.counting.specs.Range.{values}
 use Rattle.counting.specs.Stored.{filled}
 use Rattle.counting.proofs.Fronts.{sets-front}
-use Rattle.counting.proofs.Lists.{length-singles}
+use Rattle.counting.proofs.Lists.{length-singles, values-at}
 use Rattle.counting.proofs.Stored.{filled-none, filled-more, length-filled}
-use Rattle.cell.specs.Walked.{Kept, Used}
+use Rattle.counting.proofs.Pack.{pre-most}
+use Rattle.slots.specs.Limits.{mostCount}
+use Rattle.grid.specs.Grid.{mostCells}
+use Rattle.cell.specs.declared.Cell.{Cell}
+use Rattle.cell.specs.Cell.{crossings}
+use Rattle.cell.specs.Of.{countOf, edgesOf}
+use Rattle.cell.specs.Limits.{mostInCell, fewCount, fewInCell}
+use Rattle.cell.specs.Table.{side, tableCounts, tableCell, tableCrossings}
+use Rattle.cell.specs.Walked.{Kept, Long, Few, Spacious, Sized, Used, Room}
+use Rattle.cell.proofs.Values.{past-end}
 
 pub kept-none : (n : ℕ) (l : List ℕ) → Kept n l l
 kept-none n l = record { long = refl; back = refl }
@@ -43,6 +53,57 @@ module _ {n : ℕ} {ms hs ps ms′ hs′ ps′ : List ℕ} (U : Used n ms hs ps 
 
 pub used-none : (n : ℕ) (ms hs ps : List ℕ) → Used n ms hs ps ms hs ps
 used-none n ms hs ps = record { marks-kept = kept-none n ms; halves-kept = kept-none n hs; points-kept = kept-none n ps }
+
+-- arrays that keep their lengths
+pub sized-none : (ms hs ps : List ℕ) → Sized ms hs ps ms hs ps
+sized-none ms hs ps = record { marks-same = refl; halves-same = refl; points-same = refl }
+
+pub used-sized : {n : ℕ} {ms hs ps ms′ hs′ ps′ : List ℕ} → Used n ms hs ps ms′ hs′ ps′ → Sized ms hs ps ms′ hs′ ps′
+used-sized U = record { marks-same = U .marks-kept .long; halves-same = U .halves-kept .long; points-same = U .points-kept .long }
+
+module _ {ms hs ps ms′ hs′ ps′ : List ℕ} (S : Sized ms hs ps ms′ hs′ ps′) where
+  pub sized-on : {ms″ hs″ ps″ : List ℕ} → Sized ms′ hs′ ps′ ms″ hs″ ps″ → Sized ms hs ps ms″ hs″ ps″
+  sized-on T = record {
+    marks-same = T .marks-same ∙ S .marks-same;
+    halves-same = T .halves-same ∙ S .halves-same;
+    points-same = T .points-same ∙ S .points-same;
+  }
+
+  pub sized-as : {ms″ hs″ ps″ : List ℕ} → ms″ ≡ ms′ → hs″ ≡ hs′ → ps″ ≡ ps′ → Sized ms hs ps ms″ hs″ ps″
+  sized-as p q r = record { marks-same = rw p (S .marks-same); halves-same = rw q (S .halves-same); points-same = rw r (S .points-same) }
+
+  pub sized-long : {n : ℕ} → Long n ms hs ps → Long n ms′ hs′ ps′
+  sized-long L = record {
+    marks-long = rw (S .marks-same) (L .marks-long);
+    halves-long = rw (S .halves-same) (L .halves-long);
+    points-long = rw (S .points-same) (L .points-long);
+  }
+
+  pub sized-given : {c : Cell} {n : ℕ} → Room c n ms hs ps → Room c n ms′ hs′ ps′
+  sized-given R = record { all = R .all; few = R .few; long = sized-long (R .long) }
+
+  -- a cell of the tables has room in them, if they had room for each
+  pub sized-room : (cells counts names sides starts : List ℕ) (c : ℕ) {v : Cell} {n : ℕ} → Spacious counts sides ms hs ps
+      → v ≡ tableCell cells counts names sides starts c → n ≡ crossings (edgesOf v) → n ≤ mostInCell → Room v n ms′ hs′ ps′
+  unfolding tableCell tableCrossings
+  sized-room cells counts names sides starts c {v} {n} R e all few =
+      record { all = all; few = few; long = sized-long (rw (all ∙ ap (λ x. crossings (edgesOf x)) e) (R c)) }
+
+-- So many crossings has a cell of the tables at most: as many as any cell, and fewer where the counts are.
+module _ (counts sides : List ℕ) (c : ℕ) where
+  pub table-most : tableCrossings counts sides c ≤ mostInCell
+  unfolding tableCrossings
+  table-most = pre-most (countOf (tableCell [] counts [] sides [] c)) mostCount (λ k. omega arith) 6
+
+  pub table-few : Few counts → tableCrossings counts sides c ≤ fewInCell
+  unfolding tableCrossings tableCell
+  table-few h = pre-most (countOf (tableCell [] counts [] sides [] c)) fewCount (λ k. omega (arith, few k)) 6
+    where
+      few : (k : ℕ) → getD (tableCounts counts sides (c % mostCells)) k 0 ≤ fewCount
+      few k = elim (decLt k 6) [
+        | yes l ↦ rw (values-at (λ k. getD counts (side sides (c % mostCells) k) 0) 6 k 0 l) (h (side sides (c % mostCells) k))
+        | no n ↦ omega (arith, past-end (tableCounts counts sides (c % mostCells)) k (omega (arith, length-singles (λ k. getD counts (side sides (c % mostCells) k) 0) 6 0)))
+      ]
 
 -- v in the first i places of a list, on the way to n
 pub record Filling (v n : ℕ) (l : List ℕ) (i : ℕ) (m : List ℕ) : Type 0 where

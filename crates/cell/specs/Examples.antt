@@ -7,6 +7,7 @@ use lib.ListN.{length, getD}
 use Rattle.counting.specs.Range.{over}
 use Rattle.answer.specs.Answer.{result}
 use Rattle.cell.specs.Cell.{Edges, crossings}
+use Rattle.cell.specs.Of.{edgesOf}
 use Rattle.cell.specs.Loop.{loopSize, dart, inGrid, leasts, loopAnswer}
 use Rattle.cell.specs.Route.{front, links}
 use Rattle.cell.specs.Round.{foldsIn, crossesIn}
@@ -22,7 +23,7 @@ pub record Example : Type 0 where
   pub points : List (List ℕ)
 
 abbrev pub edges : (counts starts : List ℕ) → Edges
-edges counts starts = record { count = λ e. getD counts e 0; start = λ e. getD starts e 0 }
+edges counts starts = edgesOf (record { counts = counts; starts = starts; names = []; nodes = []; index = 0 })
 
 -- the only cell of a grid, 0 1 2 3
 unfoldable pub alone : (a b c d e f : ℕ) (loops points : List (List ℕ)) → Example
@@ -96,15 +97,20 @@ listed [] = []
 listed (x ∷ l) = (x .crossings ∷ []) ∷ (x .loops ++ (x .points ++ listed l))
 
 -- Counts 5 1 0 1 0 0 with starts of their own: the routes of half-edges 9, 10, 11 in slot 3, a face 5 1 1, and of 6 in slot 2, a face 5 0 0.
+-- Counts 4095 4096 300 65535 0 0, of which the second and the fourth are taken as 4,095: crossings, and the routes of 9, 10, 11, 6.
 -- A recorded loop of edges 01, 02, 02, 01, and one of 01, 01: folded segments, and crossings on edge 01; of none.
 unfoldable pub parts : List (List ℕ)
 parts =
     front w 9 ∷ front w 10 ∷ front w 11 ∷ front w 6 ∷ links 9 ∷ links 10 ∷ links 6
+    ∷ (crossings v ∷ []) ∷ front v 9 ∷ front v 10 ∷ front v 11 ∷ front v 6
     ∷ (foldsIn round ∷ crossesIn round 0 ∷ foldsIn pair ∷ crossesIn pair 0 ∷ foldsIn [] ∷ [])
     ∷ []
   where
     w : Edges
-    w = edges (5 ∷ 1 ∷ 0 ∷ 1 ∷ 0 ∷ 0 ∷ []) (10 ∷ 20 ∷ 30 ∷ 40 ∷ 50 ∷ 60 ∷ [])
+    w = edges (5 ∷ 1 ∷ 0 ∷ 1 ∷ 0 ∷ 0 ∷ []) rising
+
+    v : Edges
+    v = edges (4095 ∷ 4096 ∷ 300 ∷ 65535 ∷ 0 ∷ 0 ∷ []) rising
 
     round : List ℕ
     round = 9 ∷ 3 ∷ 10 ∷ 6 ∷ []
@@ -116,6 +122,7 @@ unfoldable pub partsListed : List (List ℕ)
 partsListed =
     (1 ∷ 1 ∷ 5 ∷ 0 ∷ 10 ∷ []) ∷ (1 ∷ 0 ∷ 1 ∷ 5 ∷ 20 ∷ []) ∷ (1 ∷ 0 ∷ 1 ∷ 6 ∷ 40 ∷ []) ∷ (0 ∷ 0 ∷ 5 ∷ 0 ∷ 10 ∷ [])
     ∷ (3 ∷ 0 ∷ 6 ∷ 0 ∷ []) ∷ (6 ∷ 0 ∷ 3 ∷ 1 ∷ []) ∷ (4 ∷ 1 ∷ 9 ∷ 0 ∷ [])
+    ∷ (12585 ∷ []) ∷ (2047 ∷ 2047 ∷ 4095 ∷ 0 ∷ 10 ∷ []) ∷ (2047 ∷ 2047 ∷ 4095 ∷ 4095 ∷ 20 ∷ []) ∷ (2047 ∷ 2047 ∷ 4095 ∷ 8490 ∷ 40 ∷ []) ∷ (300 ∷ 0 ∷ 4095 ∷ 0 ∷ 10 ∷ [])
     ∷ (2 ∷ 2 ∷ 2 ∷ 2 ∷ 0 ∷ [])
     ∷ []
 

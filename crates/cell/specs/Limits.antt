@@ -6,6 +6,13 @@ use Rattle.slots.specs.Limits.{mostCount}
 abbrev pub mostInCell : ℕ
 mostInCell = 6 * mostCount
 
+-- up to this count the arrays of the walks have so many places; no answer depends on it
+abbrev pub fewCount : ℕ
+fewCount = 255
+
+abbrev pub fewInCell : ℕ
+fewInCell = 6 * fewCount
+
 -- one more than the greatest number that a start can have
 abbrev pub startLimit : ℕ
 startLimit = 65536

@@ -70,7 +70,6 @@ Firsts c f = (k : ℕ) → k < 6 → getD f k 0 ≡ base (edgesOf c) k
 -- x is the run of edge e
 pub record IsRun (c : Cell) (e : ℕ) (x : Run) : Type 0 where
   pub count-is : x .count ≡ countOf c e
-  pub small : x .count ≤ mostCount
   pub first-is : x .first ≡ base (edgesOf c) e
   pub start-is : x .start ≡ startOf c e
   pub near : x .start < startLimit

@@ -27,14 +27,14 @@ pub record RecordedLoop (halves points : List ℕ) (n : ℕ) : Type 0 where
 abbrev pub pointAt : List ℕ → ℕ → Corner
 pointAt points k = Crossing (getD points k 0)
 
-module _ (c : Cell) (halves points : List ℕ) (n : ℕ) where
-  -- from point k to the next, on the face in the half-edge's slot
-  unfoldable pub segmentAt : ℕ → Side
-  segmentAt k = Segment (getD (c .names) (getD halves k 0 / 3) 0) (min (getD points k 0) (getD points (after n k) 0))
+-- from point k to the next, on the face in the half-edge's slot, whose name is given
+unfoldable pub segmentAt : (names halves points : List ℕ) (n k : ℕ) → Side
+segmentAt names halves points n k = Segment (getD names (getD halves k 0 / 3) 0) (min (getD points k 0) (getD points (after n k) 0))
 
+module _ (c : Cell) (halves points : List ℕ) (n : ℕ) where
   -- its triangle k in a shape, and all its triangles; `two` says that n is 4 and the loop normal
   unfoldable pub tracedTriangle : Shape → ℕ → Triangle
-  tracedTriangle sh k = triangleOf (triangle (c .index) (getD points 0 0)) (pointAt points) Middle segmentAt Inner n sh k
+  tracedTriangle sh k = triangleOf (triangle (c .index) (getD points 0 0)) (pointAt points) Middle (segmentAt (c .names) halves points n) Inner n sh k
 
   unfoldable pub tracedTriangles : Bool → List Triangle
-  tracedTriangles two = trianglesOf (triangle (c .index) (getD points 0 0)) (pointAt points) Middle segmentAt Inner n (shapeOf n two)
+  tracedTriangles two = trianglesOf (triangle (c .index) (getD points 0 0)) (pointAt points) Middle (segmentAt (c .names) halves points n) Inner n (shapeOf n two)

@@ -2,7 +2,7 @@
 use Prim.Native.Nat.{ℕ, _*_, _≤_, _<_}
 use mathlib.Core.Path.{_≡_}
 use mathlib.Core.List.{List}
-use lib.ListN.{drop, length, take}
+use lib.ListN.{drop, getD, length, take}
 use Rattle.walk.specs.Marks.{Marks}
 use Rattle.cell.specs.declared.Cell.{Cell}
 use Rattle.cell.specs.declared.Dart.{Dart}
@@ -10,9 +10,10 @@ use Rattle.cell.specs.Cell.{Edges, crossings, edge, step}
 use Rattle.cell.specs.Loop.{loopSize}
 use Rattle.cell.specs.Of.{edgesOf}
 use Rattle.cell.specs.Route.{Routed}
-use Rattle.cell.specs.Limits.{mostInCell}
+use Rattle.cell.specs.Limits.{mostInCell, fewCount}
 use Rattle.cell.specs.Dart.{IsDart, dartOf}
 use Rattle.cell.specs.Scratch.{halvesFrom, pointsFrom}
+use Rattle.cell.specs.Table.{tableCrossings}
 
 -- crossing p of the cell whose routes are t is one of edge e
 pub record Located (c : Cell) (t : List ℕ) (p e : ℕ) : Type 0 where
@@ -40,7 +41,21 @@ pub record Long (n : ℕ) (marks halves points : List ℕ) : Type 0 where
   pub halves-long : n ≤ length halves
   pub points-long : n ≤ length points
 
--- these arrays before and after: none has changed from place n on
+-- no count is above the lesser limit
+abbrev pub Few : List ℕ → Type 0
+Few counts = (i : ℕ) → getD counts i 0 ≤ fewCount
+
+-- the arrays have for each cell of the tables as many places as it has crossings
+abbrev pub Spacious : (counts sides marks halves points : List ℕ) → Type 0
+Spacious counts sides marks halves points = (c : ℕ) → Long (tableCrossings counts sides c) marks halves points
+
+-- these arrays before and after: all keep their lengths
+pub record Sized (marks halves points marks′ halves′ points′ : List ℕ) : Type 0 where
+  pub marks-same : length marks′ ≡ length marks
+  pub halves-same : length halves′ ≡ length halves
+  pub points-same : length points′ ≡ length points
+
+-- and none has changed from place n on
 pub record Used (n : ℕ) (marks halves points marks′ halves′ points′ : List ℕ) : Type 0 where
   pub marks-kept : Kept n marks marks′
   pub halves-kept : Kept n halves halves′

@@ -1,13 +1,17 @@
 // A cell of a grid, from the grid's tables.
 ghost use mathlib.Core.Path.{_≡_};
-ghost use Prim.Native.Nat.{_+_, _%_, _≤_, _<_};
+ghost use Prim.Native.Nat.{ℕ, _+_, _%_, _≤_, _<_};
 ghost use lib.ListN.{getD};
+ghost use Rattle.cell.specs.Cell.{crossings};
+ghost use Rattle.cell.specs.Of.{edgesOf};
 ghost use Rattle.cell.specs.Limits.{mostInCell, startLimit};
 ghost use Rattle.grid.specs.Grid.{mostCells};
 ghost use Rattle.cell.specs.Table.{tableCounts, tableStarts, ofFour, tableCell, tableCrossings};
 use super::Cell;
+use super::Counted;
 use super::routes::crossings_of;
 use super::routes::wide16;
+use grid::MOST_CELLS;
 use grid::MOST_EDGES;
 use grid::MOST_SLOTS;
 
@@ -21,15 +25,6 @@ fn entry(list: &[u16], i: usize) -> u16
     0
 }
 
-fn count_at(counts: &[u8], i: usize) -> u8
-    ensures { λ r. ⌜ r ≡ getD (now (counts .entry)) i 0 ⌝ }
-{
-    if i < counts.len() {
-        return counts[i];
-    }
-    0
-}
-
 fn start_at(starts: &[u32], i: usize) -> u16
     ensures { λ r. ⌜ r ≡ getD (now (starts .entry)) i 0 % startLimit ⌝ }
 {
@@ -39,15 +34,15 @@ fn start_at(starts: &[u32], i: usize) -> u16
     0
 }
 
-fn counts_of(counts: &[u8], sides: &[u16], c: usize) -> [u8; 6]
+fn counts_of(counts: &[u16], sides: &[u16], c: usize) -> [u16; 6]
     requires { ⌜ c < mostCells ⌝ }
     ensures { λ r. ⌜ r ≡ tableCounts (now (counts .entry)) (now (sides .entry)) c ⌝ }
 {
-    let mut six = [0u8; 6];
+    let mut six = [0u16; 6];
     let mut k: usize = 0;
     while k < 6 {
         let e = wide16(entry(sides, 6 * c + k));
-        six[k] = count_at(counts, e);
+        six[k] = entry(counts, e);
         k += 1;
     }
     six
@@ -81,10 +76,10 @@ fn four_of(list: &[u16], c: usize) -> [u16; 4]
 }
 
 // How many crossings cell c has.
-pub(crate) fn crossings_at(counts: &[u8], sides: &[u16; MOST_EDGES], c: usize) -> usize
+pub(crate) fn crossings_at(counts: &[u16], sides: &[u16; MOST_EDGES], c: usize) -> usize
     ensures { λ r. ⌜ (r ≡ tableCrossings (now (counts .entry)) (now (sides .entry)) c) × (r ≤ mostInCell) ⌝ }
 {
-    let edge_counts = counts_of(counts, sides, c % 2048);
+    let edge_counts = counts_of(counts, sides, c % MOST_CELLS);
     crossings_of(Cell {
         counts: edge_counts,
         starts: [0u16; 6],
@@ -94,10 +89,53 @@ pub(crate) fn crossings_at(counts: &[u8], sides: &[u16; MOST_EDGES], c: usize) -
     })
 }
 
+// No count is greater.
+pub(crate) fn greatest(counts: &[u16]) -> u16
+    ensures { λ r. ⌜ ((i : ℕ) → getD (now (counts .entry)) i 0 ≤ r) ⌝ }
+{
+    let mut most: u16 = 0;
+    let mut i: usize = 0;
+    while i < counts.len() {
+        let n = counts[i];
+        if most < n {
+            most = n;
+        }
+        i += 1;
+    }
+    most
+}
+
+// Cell c, and how many crossings it has: these are added up before the cell is stored.
+pub(crate) fn counted_at(
+    cells: &[u16],
+    counts: &[u16],
+    names: &[u16; MOST_SLOTS],
+    sides: &[u16; MOST_EDGES],
+    starts: &[u32; MOST_EDGES],
+    c: usize,
+) -> Counted
+    ensures { λ r. ⌜ (r .cell ≡ tableCell (now (cells .entry)) (now (counts .entry)) (now (names .entry)) (now (sides .entry)) (now (starts .entry)) c) × (r .crossings ≡ crossings (edgesOf (r .cell))) × (r .crossings ≤ mostInCell) ⌝ }
+{
+    let m = c % MOST_CELLS;
+    let edge_counts = counts_of(counts, sides, m);
+    let edge_starts = starts_of(starts, sides, m);
+    let slot_names = four_of(names, m);
+    let nodes = four_of(cells, m);
+    let cell = Cell {
+        counts: edge_counts,
+        starts: edge_starts,
+        names: slot_names,
+        nodes,
+        index: m as u16,
+    };
+    let crossings = crossings_of(cell);
+    Counted { cell, crossings }
+}
+
 // Cell c.
 pub fn cell_at(
     cells: &[u16],
-    counts: &[u8],
+    counts: &[u16],
     names: &[u16; MOST_SLOTS],
     sides: &[u16; MOST_EDGES],
     starts: &[u32; MOST_EDGES],
@@ -105,16 +143,6 @@ pub fn cell_at(
 ) -> Cell
     ensures { λ r. ⌜ r ≡ tableCell (now (cells .entry)) (now (counts .entry)) (now (names .entry)) (now (sides .entry)) (now (starts .entry)) c ⌝ }
 {
-    let m = c % 2048;
-    let edge_counts = counts_of(counts, sides, m);
-    let edge_starts = starts_of(starts, sides, m);
-    let slot_names = four_of(names, m);
-    let nodes = four_of(cells, m);
-    Cell {
-        counts: edge_counts,
-        starts: edge_starts,
-        names: slot_names,
-        nodes,
-        index: m as u16,
-    }
+    let x = counted_at(cells, counts, names, sides, starts, c);
+    x.cell
 }

@@ -3,6 +3,8 @@ ghost use mathlib.Core.Path.{_≡_};
 ghost use Rattle.cell.specs.Of.{edgesOf};
 ghost use Rattle.cell.specs.Loop.{loopAnswer};
 ghost use Rattle.cell.specs.Answer.{loopNumbers};
+ghost use Rattle.cell.specs.Walked.{Room, Used};
+use grid::MOST_COUNT;
 
 mod answers;
 mod drawing;
@@ -29,19 +31,28 @@ pub use triangles::write_cell;
 pub use words::NO_NAME;
 pub use words::WORD_COUNT;
 
-// The most crossings of an edge and of a cell.
-pub const MOST_COUNT: usize = 255;
+// The most crossings of a cell. The arrays of the walks have a place for each; and fewer, where no count is above the second limit: clearing the larger
+// ones costs a small grid more than all else in a cell. Nothing that is answered depends on the second limit.
+pub const MOST_IN_CELL: usize = 6 * MOST_COUNT as usize;
 
-pub const MOST_IN_CELL: usize = 6 * MOST_COUNT;
+const FEW_COUNT: u16 = 255;
+
+const FEW_IN_CELL: usize = 6 * FEW_COUNT as usize;
 
 // A cell: the counts of its edges 01, 02, 03, 12, 13, 23 and the crossing number at index 0 of each, the names of the faces in its
 // slots, its nodes' numbers, and its own number.
 pub struct Cell {
-    pub counts: [u8; 6],
+    pub counts: [u16; 6],
     pub starts: [u16; 6],
     pub names: [u16; 4],
     pub nodes: [u16; 4],
     pub index: u16,
+}
+
+// A cell, and how many crossings it has.
+struct Counted {
+    cell: Cell,
+    crossings: usize,
 }
 
 // The type of a loop: a case for each of document 01's numbers 0 to 3. With it the number of a node: the corner's, where it is not the cell's
@@ -91,7 +102,7 @@ pub enum Nth {
 
 // The crossings of an edge: how many they are, and the number of the first in the cell and in the grid.
 struct Run {
-    count: u8,
+    count: u16,
     first: usize,
     start: usize,
 }
@@ -109,20 +120,25 @@ enum Next {
     End,
 }
 
-// Loop k of the cell, or that there are k or fewer. The walks' arrays stand on the stack: 11 KB.
-pub fn loop_at(c: Cell, k: usize) -> Loop
+// Loop k of the cell, which has n crossings, or that there are k or fewer. The arrays are the walks'.
+fn loop_in(
+    c: Cell,
+    n: usize,
+    k: usize,
+    marks: &mut [u16],
+    halves: &mut [u8],
+    points: &mut [u32],
+) -> Loop
+    requires { ⌜ Room c n (now marks) (now halves) (now points) ⌝ }
     ensures { λ r. ⌜ loopNumbers r ≡ loopAnswer (edgesOf c) (c .nodes) k ⌝ }
+    ensures { λ _. ⌜ Used n (now (marks .entry)) (now (halves .entry)) (now (points .entry)) (now (marks .exit)) (now (halves .exit)) (now (points .exit)) ⌝ }
 {
-    let mut marks = [0u16; MOST_IN_CELL];
-    let mut halves = [0u8; MOST_IN_CELL];
-    let mut points = [0u32; MOST_IN_CELL];
-    let n = crossings_of(c);
     let routes = routes::routes_of(c);
-    walks::clear(&mut marks, n);
+    walks::clear(marks, n);
     let mut left = k;
     let mut p: usize = 0;
     while p < n {
-        let m = walks::walk(c, &routes, n, p, &mut marks, &mut halves, &mut points);
+        let m = walks::walk(c, &routes, n, p, marks, halves, points);
         p += 1;
         if m == 0 {
             continue;
@@ -133,4 +149,21 @@ pub fn loop_at(c: Cell, k: usize) -> Loop
         left -= 1;
     }
     Loop::Nothing
+}
+
+// Loop k of the cell, or that there are k or fewer. The walks' arrays stand on the stack.
+pub fn loop_at(c: Cell, k: usize) -> Loop
+    ensures { λ r. ⌜ loopNumbers r ≡ loopAnswer (edgesOf c) (c .nodes) k ⌝ }
+{
+    let n = crossings_of(c);
+    if n <= FEW_IN_CELL {
+        let mut marks = [0u16; FEW_IN_CELL];
+        let mut halves = [0u8; FEW_IN_CELL];
+        let mut points = [0u32; FEW_IN_CELL];
+        return loop_in(c, n, k, &mut marks, &mut halves, &mut points);
+    }
+    let mut marks = [0u16; MOST_IN_CELL];
+    let mut halves = [0u8; MOST_IN_CELL];
+    let mut points = [0u32; MOST_IN_CELL];
+    loop_in(c, n, k, &mut marks, &mut halves, &mut points)
 }

@@ -38,15 +38,15 @@ fn after_of(n: usize, k: usize) -> usize
     if k + 1 == n { 0 } else { k + 1 }
 }
 
-// Segment k of a recorded loop of n points.
-fn segment_at(c: Cell, halves: &[u8], points: &[u32], n: usize, k: usize) -> Side
+// Segment k of a recorded loop of n points, by the names of the faces in the cell's slots.
+fn segment_at(names: [u16; 4], halves: &[u8], points: &[u32], n: usize, k: usize) -> Side
     requires { ⌜ RecordedLoop (now halves) (now points) n ⌝ }
     requires { ⌜ k < n ⌝ }
-    ensures { λ r. ⌜ r ≡ segmentAt c (now (halves .entry)) (now (points .entry)) n k ⌝ }
+    ensures { λ r. ⌜ r ≡ segmentAt names (now (halves .entry)) (now (points .entry)) n k ⌝ }
 {
     let s = wide(halves[k]) / 3;
     let j = after_of(n, k);
-    Side::Segment(word(c.names[s]), lower(points[k], points[j]))
+    Side::Segment(word(names[s]), lower(points[k], points[j]))
 }
 
 // The triangle of a loop of three.
@@ -54,9 +54,10 @@ fn whole_of(c: Cell, halves: &[u8], points: &[u32]) -> Triangle
     requires { ⌜ RecordedLoop (now halves) (now points) 3 ⌝ }
     ensures { λ r. ⌜ r ≡ tracedTriangle c (now (halves .entry)) (now (points .entry)) 3 single 0 ⌝ }
 {
-    let r = segment_at(c, halves, points, 3, 0);
-    let s = segment_at(c, halves, points, 3, 1);
-    let t = segment_at(c, halves, points, 3, 2);
+    let names = c.names;
+    let r = segment_at(names, halves, points, 3, 0);
+    let s = segment_at(names, halves, points, 3, 1);
+    let t = segment_at(names, halves, points, 3, 2);
     Triangle {
         cell: word(c.index),
         p0: points[0],
@@ -74,8 +75,9 @@ fn half0_of(c: Cell, halves: &[u8], points: &[u32]) -> Triangle
     requires { ⌜ RecordedLoop (now halves) (now points) 4 ⌝ }
     ensures { λ r. ⌜ r ≡ tracedTriangle c (now (halves .entry)) (now (points .entry)) 4 double 0 ⌝ }
 {
-    let r = segment_at(c, halves, points, 4, 0);
-    let s = segment_at(c, halves, points, 4, 1);
+    let names = c.names;
+    let r = segment_at(names, halves, points, 4, 0);
+    let s = segment_at(names, halves, points, 4, 1);
     Triangle {
         cell: word(c.index),
         p0: points[0],
@@ -92,8 +94,9 @@ fn half1_of(c: Cell, halves: &[u8], points: &[u32]) -> Triangle
     requires { ⌜ RecordedLoop (now halves) (now points) 4 ⌝ }
     ensures { λ r. ⌜ r ≡ tracedTriangle c (now (halves .entry)) (now (points .entry)) 4 double 1 ⌝ }
 {
-    let s = segment_at(c, halves, points, 4, 2);
-    let t = segment_at(c, halves, points, 4, 3);
+    let names = c.names;
+    let s = segment_at(names, halves, points, 4, 2);
+    let t = segment_at(names, halves, points, 4, 3);
     Triangle {
         cell: word(c.index),
         p0: points[0],
@@ -112,7 +115,8 @@ fn spoke_of(c: Cell, halves: &[u8], points: &[u32], n: usize, k: usize) -> Trian
     requires { ⌜ k < n ⌝ }
     ensures { λ r. ⌜ r ≡ tracedTriangle c (now (halves .entry)) (now (points .entry)) n fan k ⌝ }
 {
-    let s = segment_at(c, halves, points, n, k);
+    let names = c.names;
+    let s = segment_at(names, halves, points, n, k);
     let j = after_of(n, k);
     Triangle {
         cell: word(c.index),

@@ -7,16 +7,12 @@ ghost use lib.ListN.{length};
 ghost use Rattle.counting.specs.Pick.{one};
 ghost use Rattle.counting.specs.Stored.{Stored};
 ghost use Rattle.place.specs.Place.{coordinates, placeAt, allNumbers};
-ghost use Rattle.cell.specs.Cell.{crossings};
-ghost use Rattle.cell.specs.Of.{edgesOf};
 ghost use Rattle.cell.specs.Limits.{mostInCell};
 ghost use Rattle.cell.specs.Walked.{Room, Used};
 ghost use Rattle.cell.specs.Middles.{fanCount, cellMiddles, numberedBelow, pointsThen, nextPoint};
 ghost use Rattle.cell.specs.Centres.{recordedFan, recordedMiddle, MiddlesRoom};
 use super::Cell;
-use super::MOST_IN_CELL;
 use super::answers::folds_of;
-use super::routes::crossings_of;
 use super::routes::end_of;
 use super::routes::routes_of;
 use super::walks::clear;
@@ -100,32 +96,35 @@ fn write_all(
 // How many fans the cell has, and at once for a cell without crossings. What the arrays hold before does not matter, here and below.
 pub(crate) fn fans_in(
     c: Cell,
-    marks: &mut [u16; MOST_IN_CELL],
-    halves: &mut [u8; MOST_IN_CELL],
-    points: &mut [u32; MOST_IN_CELL],
+    n: usize,
+    marks: &mut [u16],
+    halves: &mut [u8],
+    points: &mut [u32],
 ) -> usize
+    requires { ⌜ Room c n (now marks) (now halves) (now points) ⌝ }
     ensures { λ r. ⌜ (r ≡ fanCount c) × (r ≤ mostInCell) ⌝ }
-    ensures { λ _. ⌜ Used (crossings (edgesOf c)) (now (marks .entry)) (now (halves .entry)) (now (points .entry)) (now (marks .exit)) (now (halves .exit)) (now (points .exit)) ⌝ }
+    ensures { λ _. ⌜ Used n (now (marks .entry)) (now (halves .entry)) (now (points .entry)) (now (marks .exit)) (now (halves .exit)) (now (points .exit)) ⌝ }
 {
-    let n = crossings_of(c);
     if n == 0 {
         return 0;
     }
     count(c, n, marks, halves, points)
 }
 
-// Whether the cell's crossings have numbers below n.
+// Whether the cell's crossings have numbers below n, by the highest. With a way out at each edge the walks are no longer compiled in place (SPEED.md).
 fn is_below(c: Cell, n: usize) -> bool
     ensures { λ r. ⌜ r ≡ numberedBelow c n ⌝ }
 {
+    let mut last: usize = 0;
     let mut e: usize = 0;
     while e < 6 {
-        if n < end_of(c, e) {
-            return false;
+        let end = end_of(c, e);
+        if last < end {
+            last = end;
         }
         e += 1;
     }
-    true
+    last <= n
 }
 
 // Whether the places of the cell's crossings stand before point `at`, and its middles have room from there on in an area of `room` numbers. A cell
@@ -161,16 +160,17 @@ fn has_room(
 // crossing of the cell does not stand before that point, it writes nothing and answers `at`.
 pub(crate) fn middles_in(
     c: Cell,
-    marks: &mut [u16; MOST_IN_CELL],
-    halves: &mut [u8; MOST_IN_CELL],
-    points: &mut [u32; MOST_IN_CELL],
+    n: usize,
+    marks: &mut [u16],
+    halves: &mut [u8],
+    points: &mut [u32],
     area: &mut [f64],
     at: usize,
 ) -> usize
+    requires { ⌜ Room c n (now marks) (now halves) (now points) ⌝ }
     ensures { λ r. ⌜ (r ≡ nextPoint c (now (area .entry)) at) × (now (area .exit) ≡ pointsThen c (now (area .entry)) at) ⌝ }
-    ensures { λ _. ⌜ Used (crossings (edgesOf c)) (now (marks .entry)) (now (halves .entry)) (now (points .entry)) (now (marks .exit)) (now (halves .exit)) (now (points .exit)) ⌝ }
+    ensures { λ _. ⌜ Used n (now (marks .entry)) (now (halves .entry)) (now (points .entry)) (now (marks .exit)) (now (halves .exit)) (now (points .exit)) ⌝ }
 {
-    let n = crossings_of(c);
     if n == 0 {
         return at;
     }

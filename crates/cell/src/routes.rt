@@ -4,14 +4,15 @@ ghost use mathlib.Core.List.{[], _∷_};
 ghost use Prim.Native.Nat.{_+_, _*_, _<_, _≤_};
 ghost use lib.ListN.{getD};
 ghost use lib.Seq.{sets};
+ghost use Rattle.slots.specs.Limits.{mostCount};
 ghost use Rattle.cell.specs.Cell.{ahead, base, crossings};
 ghost use Rattle.cell.specs.Of.{countOf, startOf, edgesOf};
 ghost use Rattle.cell.specs.Half.{halfEdges};
 ghost use Rattle.cell.specs.Route.{columns, fronts, Firsts, IsRun, SlotRuns, Routed};
 ghost use Rattle.cell.specs.Limits.{mostInCell, startLimit};
-ghost use Rattle.slots.specs.Limits.{mostCount};
 use super::Cell;
 use super::Run;
+use grid::MOST_COUNT;
 
 // The columns of the routes.
 pub(crate) const LOW: usize = 0;
@@ -151,7 +152,7 @@ const LINKS: [usize; ROUTES] = [
 ];
 
 pub(crate) fn wide8(x: u8) -> usize
-    ensures { λ r. ⌜ (r ≡ x) × (r ≤ mostCount) ⌝ }
+    ensures { λ r. ⌜ (r ≡ x) × (r < 256) ⌝ }
 {
     x as usize
 }
@@ -162,11 +163,13 @@ pub(crate) fn wide16(x: u16) -> usize
     x as usize
 }
 
-fn count_of(c: Cell, e: usize) -> u8
+// The count of edge e, as the limit where it is above.
+fn count_of(c: Cell, e: usize) -> u16
     requires { ⌜ e < 6 ⌝ }
     ensures { λ r. ⌜ r ≡ countOf c e ⌝ }
 {
-    c.counts[e]
+    let n = c.counts[e];
+    if n < MOST_COUNT { n } else { MOST_COUNT }
 }
 
 fn start_of(c: Cell, e: usize) -> u16
@@ -180,7 +183,7 @@ fn count_at(c: Cell, e: usize) -> usize
     requires { ⌜ e < 6 ⌝ }
     ensures { λ r. ⌜ (r ≡ countOf c e) × (r ≤ mostCount) ⌝ }
 {
-    wide8(count_of(c, e))
+    wide16(count_of(c, e))
 }
 
 // The crossing number after those of edge e.
@@ -297,7 +300,7 @@ fn put_front(t: &mut [usize; ROUTES], h: usize, low: usize, high: usize, x: Run)
 {
     t[COLUMNS * h + LOW] = low;
     t[COLUMNS * h + HIGH] = high;
-    t[COLUMNS * h + COUNT] = wide8(x.count);
+    t[COLUMNS * h + COUNT] = wide16(x.count);
     t[COLUMNS * h + FIRST] = x.first;
     t[COLUMNS * h + START] = x.start;
 }
@@ -309,9 +312,9 @@ fn put_slot(c: Cell, t: &mut [usize; ROUTES], s: usize, ab: Run, ac: Run, bc: Ru
     ensures { λ _. ⌜ now (t .exit) ≡ fronts (edgesOf c) s (now (t .entry)) ⌝ }
 {
     let corners = face::corners_of(ab.count, ac.count, bc.count);
-    let a = wide8(corners.a);
-    let b = wide8(corners.b);
-    let d = wide8(corners.c);
+    let a = wide16(corners.a);
+    let b = wide16(corners.b);
+    let d = wide16(corners.c);
     put_front(t, 3 * s, a, b, ab);
     put_front(t, 3 * s + 1, a, d, ac);
     put_front(t, 3 * s + 2, b, d, bc);

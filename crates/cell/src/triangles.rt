@@ -74,17 +74,18 @@ fn write(
     i
 }
 
-// The same, with arrays for any cell, and at once for a cell without crossings. What the arrays hold before does not matter, here and below.
+// `count` and `write`, and at once for a cell without crossings. What the arrays hold before does not matter.
 pub(crate) fn count_in(
     c: Cell,
-    marks: &mut [u16; MOST_IN_CELL],
-    halves: &mut [u8; MOST_IN_CELL],
-    points: &mut [u32; MOST_IN_CELL],
+    n: usize,
+    marks: &mut [u16],
+    halves: &mut [u8],
+    points: &mut [u32],
 ) -> usize
+    requires { ⌜ Room c n (now marks) (now halves) (now points) ⌝ }
     ensures { λ r. ⌜ (r ≡ length (cellTriangles c)) × (r ≤ mostInCell) ⌝ }
-    ensures { λ _. ⌜ Used (crossings (edgesOf c)) (now (marks .entry)) (now (halves .entry)) (now (points .entry)) (now (marks .exit)) (now (halves .exit)) (now (points .exit)) ⌝ }
+    ensures { λ _. ⌜ Used n (now (marks .entry)) (now (halves .entry)) (now (points .entry)) (now (marks .exit)) (now (halves .exit)) (now (points .exit)) ⌝ }
 {
-    let n = crossings_of(c);
     if n == 0 {
         return 0;
     }
@@ -93,34 +94,36 @@ pub(crate) fn count_in(
 
 pub(crate) fn write_in(
     c: Cell,
-    marks: &mut [u16; MOST_IN_CELL],
-    halves: &mut [u8; MOST_IN_CELL],
-    points: &mut [u32; MOST_IN_CELL],
+    n: usize,
+    marks: &mut [u16],
+    halves: &mut [u8],
+    points: &mut [u32],
     area: &mut [u32],
     at: usize,
 ) -> usize
+    requires { ⌜ Room c n (now marks) (now halves) (now points) ⌝ }
     requires { ⌜ at + wordCount * length (cellTriangles c) ≤ length (now area) ⌝ }
     ensures { λ r. ⌜ (r ≡ at + wordCount * length (cellTriangles c)) × (now (area .exit) ≡ sets (now (area .entry)) at (allWords (cellTriangles c))) ⌝ }
-    ensures { λ _. ⌜ Used (crossings (edgesOf c)) (now (marks .entry)) (now (halves .entry)) (now (points .entry)) (now (marks .exit)) (now (halves .exit)) (now (points .exit)) ⌝ }
+    ensures { λ _. ⌜ Used n (now (marks .entry)) (now (halves .entry)) (now (points .entry)) (now (marks .exit)) (now (halves .exit)) (now (points .exit)) ⌝ }
 {
-    let n = crossings_of(c);
     if n == 0 {
         return at;
     }
     write(c, n, marks, halves, points, area, at)
 }
 
-// How many triangles the cell has. About 11 KB of stack.
+// How many triangles the cell has. About 172 KB of stack.
 pub fn triangle_count(c: Cell) -> usize
     ensures { λ r. ⌜ (r ≡ length (cellTriangles c)) × (r ≤ mostInCell) ⌝ }
 {
     let mut marks = [0u16; MOST_IN_CELL];
     let mut halves = [0u8; MOST_IN_CELL];
     let mut points = [0u32; MOST_IN_CELL];
-    count_in(c, &mut marks, &mut halves, &mut points)
+    let n = crossings_of(c);
+    count_in(c, n, &mut marks, &mut halves, &mut points)
 }
 
-// Triangle t of the cell. About 11 KB of stack.
+// Triangle t of the cell. About 172 KB of stack.
 pub fn triangle_at(c: Cell, t: usize) -> Nth
     ensures { λ r. ⌜ (r ≡ nthOf (cellTriangles c) t) × (nthNumbers r ≡ nthAnswer (cellTriangles c) t) ⌝ }
 {
@@ -161,7 +164,7 @@ fn has_room(c: Cell, room: usize, at: usize) -> bool
 }
 
 // Writes the words of the cell's triangles from index `at` on and answers the next index. Where they have no room there, it writes nothing and
-// answers `at`. About 22 KB of stack.
+// answers `at`. About 344 KB of stack.
 pub fn write_cell(c: Cell, area: &mut [u32], at: usize) -> usize
     ensures { λ r. ⌜ (r ≡ nextAt c (now (area .entry)) at) × (now (area .exit) ≡ areaThen c (now (area .entry)) at) ⌝ }
 {
@@ -169,7 +172,8 @@ pub fn write_cell(c: Cell, area: &mut [u32], at: usize) -> usize
     let mut halves = [0u8; MOST_IN_CELL];
     let mut points = [0u32; MOST_IN_CELL];
     if has_room(c, area.len(), at) {
-        return write_in(c, &mut marks, &mut halves, &mut points, area, at);
+        let n = crossings_of(c);
+        return write_in(c, n, &mut marks, &mut halves, &mut points, area, at);
     }
     at
 }

@@ -1,10 +1,10 @@
 -- Laws of rows laid end to end.
-use Prim.Native.Nat.{ℕ, zero, suc, _+_, _-_, _≤_, _<_}
+use Prim.Native.Nat.{ℕ, zero, suc, _+_, _-_, _*_, _≤_, _<_}
 use mathlib.Core.Path.{_≡_, sym, ap, _∙_}
 use mathlib.Core.Logic.{⊎-elim}
 use mathlib.Core.Bool.{Bool, false}
 use native.Mathlib.Decide.{decLt}
-use native.Mathlib.Nat.{not-suc-le-zero, zero-add, eq-or-lt-of-le}
+use native.Mathlib.Nat.{not-suc-le-zero, zero-add, mul-zero, mul-suc, eq-or-lt-of-le}
 use native.Mathlib.Omega.{arith}
 use lib.Dec.{ltb}
 use borrow.Author.Tests.{ltb-true, ltb-false, lt-ltb, le-ltb}
@@ -27,6 +27,11 @@ module _ (w : ℕ → ℕ) where
     pub pre-next : (r : ℕ) → pre w (suc r) ≡ pre w r + w r
     unfolding pre
     pre-next r = total-snoc w r 0 ∙ ap (λ y. total w r 0 + w y) (zero-add r)
+
+    -- where no row has more than m places
+    pub pre-most : ((r : ℕ) → w r ≤ m) → (n : ℕ) → pre w n ≤ m * n
+    pre-most h zero = omega (arith, pre-zero, mul-zero m)
+    pre-most h (suc n) = omega (arith, pre-next n, pre-most h n, h n, mul-suc m n)
 
     pub pre-le : (r s : ℕ) → r < s → pre w r + w r ≤ pre w s
     pre-le r zero h = absurd (not-suc-le-zero h)

@@ -16,16 +16,16 @@ pub enum Join {
 
 // The counts of the edges of a face. The edges ab, ac, bc are 0, 1, 2, and the nodes a, b, c are 0, 1, 2.
 struct Face {
-    ab: u8,
-    ac: u8,
-    bc: u8,
+    ab: u16,
+    ac: u16,
+    bc: u16,
 }
 
 // The corner counts of a face, at its nodes a, b, c.
 pub struct CornerCounts {
-    pub a: u8,
-    pub b: u8,
-    pub c: u8,
+    pub a: u16,
+    pub b: u16,
+    pub c: u16,
 }
 
 fn lower_end(edge: u32) -> u32
@@ -47,7 +47,7 @@ fn other_edge(node: u32, edge: u32) -> u32
     node + 1 - edge
 }
 
-fn count_of(f: Face, edge: u32) -> u8
+fn count_of(f: Face, edge: u32) -> u16
     ensures { λ r. ⌜ r ≡ countOn (f .ab) (f .ac) (f .bc) edge ⌝ }
 {
     if edge == 0 {
@@ -61,7 +61,7 @@ fn count_of(f: Face, edge: u32) -> u8
 
 // The corner counts of the face with these counts: rule 3 with ab, ac or bc above the other two; else rules 1 and 2, with one half, rounded down. What is
 // taken from ab and ac for the other two is that half, and in rule 2 the 1 besides by which it lessens the counts.
-pub fn corners_of(ab: u8, ac: u8, bc: u8) -> CornerCounts
+pub fn corners_of(ab: u16, ac: u16, bc: u16) -> CornerCounts
     ensures { λ r. ⌜ cornerList r ≡ corners ab ac bc ⌝ }
 {
     let x = ab as u32;
@@ -80,13 +80,13 @@ pub fn corners_of(ab: u8, ac: u8, bc: u8) -> CornerCounts
     let a = above / 2;
     let taken = above - a;
     CornerCounts {
-        a: a as u8,
-        b: (x - taken) as u8,
-        c: (y - taken) as u8,
+        a: a as u16,
+        b: (x - taken) as u16,
+        c: (y - taken) as u16,
     }
 }
 
-fn corner_at(c: CornerCounts, node: u32) -> u8
+fn corner_at(c: CornerCounts, node: u32) -> u16
     ensures { λ r. ⌜ r ≡ getD (cornerList c) node 0 ⌝ }
 {
     if node == 0 {
@@ -152,7 +152,7 @@ fn join_on(f: Face, edge: u32, x: u32, p: u32, q: u32, t: u32) -> Join
 }
 
 // The face call: the crossing at an index of an edge (0 ab, 1 ac, 2 bc) of the face with these counts.
-pub fn face_join(ab: u8, ac: u8, bc: u8, edge: u32, index: u32) -> Join
+pub fn face_join(ab: u16, ac: u16, bc: u16, edge: u32, index: u32) -> Join
     ensures { λ j. ⌜ joinNumbers j ≡ faceJoin ab ac bc edge index ⌝ }
 {
     let f = Face { ab, ac, bc };

@@ -50,6 +50,7 @@ module _ (G : Grid) (clear : AllClear (rows G)) where
     row-4 = none 4;
     row-5 = none 5;
     row-6 = none 6;
+    row-18 = none 18;
     row-7 = none 7;
     row-8 = none 8;
     row-10 = none 10 0 (omega arith);
@@ -63,7 +64,7 @@ all-clear : (G : Grid) → Accepted G → AllClear (rows G)
 unfolding rows All
 all-clear G A =
     let F = faultless G (A .sound) in
-    all-at Clear (whole 0 false) (rows G) (λ p h. F .row-1, (λ p h. F .row-2, (F .row-3, (F .row-4, (F .row-5, (F .row-6, (F .row-7, (F .row-8, (links-clear G (A .linked), (λ p h. F .row-10, tt))))))))))
+    all-at Clear (whole 0 false) (rows G) (λ p h. F .row-1, (λ p h. F .row-2, (F .row-3, (F .row-4, (F .row-5, (F .row-6, (F .row-18, (F .row-7, (F .row-8, (links-clear G (A .linked), (λ p h. F .row-10, tt)))))))))))
 
 pub acceptance-yields : AcceptanceYields
 acceptance-yields G values e = accepted G (clear-accepted G values e)

@@ -7,12 +7,12 @@ use Rattle.counting.specs.Pack.{pre}
 use Rattle.counting.specs.Reach.{reach}
 use Rattle.slots.specs.Slots.{lo, hi, position, contains}
 use Rattle.grid.specs.Grid.{faceNode, sameFace, hasFace, faceName, joins, isEdge, hasEdge, outer, edgeNumber, start}
-use Rattle.grid.specs.Rows.{badLength, badPairs, badCell, sameCell, repeats, crowded, isAfter, badEdge, unlisted, unused, linked, reached, split, tooMany, rows, gridAnswer}
+use Rattle.grid.specs.Rows.{badLength, badPairs, badCell, sameCell, repeats, crowded, isAfter, badEdge, badCount, unlisted, unused, linked, reached, split, tooMany, rows, gridAnswer}
 use Rattle.grid.specs.Examples.{of, examples, found, expected}
 
 pub examples-hold : of (λ x. gridAnswer (x .grid)) examples ≡ of (λ x. x .answer) examples
 unfolding of examples seek first last some every count total pre reach lo hi position contains faceNode sameFace hasFace joins isEdge hasEdge start
-    badLength badPairs badCell sameCell repeats crowded isAfter badEdge unlisted unused linked reached split tooMany rows orRefuse answerOf gridAnswer
+    badLength badPairs badCell sameCell repeats crowded isAfter badEdge badCount unlisted unused linked reached split tooMany rows orRefuse answerOf gridAnswer
 examples-hold = refl
 
 pub tables-hold : found ≡ expected

@@ -1,4 +1,4 @@
--- The rows 1 to 8 and 10 have no fault exactly where the grid is sound; what follows for the numbers of edges.
+-- The rows 1 to 8, 18 and 10 have no fault exactly where the grid is sound; what follows for the numbers of edges.
 use Prim.Native.Nat.{ℕ, zero, suc, _%_, _*_, _+_, _-_, _/_, _<_, _≤_}
 use mathlib.Core.Path.{_∙_, _≡_, ap, refl, sym}
 use mathlib.Core.Logic.{_≢_, inl, inr, ⊎-elim}
@@ -15,11 +15,12 @@ use Rattle.counting.proofs.Below.{climb, trichotomy}
 use Rattle.counting.proofs.Bools.{and-left, and-right, and-true, clash, not-clash, or-false, or-none}
 use Rattle.counting.proofs.Pigeon.{pigeonhole}
 use Rattle.counting.proofs.Search.{count-two-of, every-is, first-is, is-every, none-some, some-first, some-found, some-is, some-none, two-counted}
+use Rattle.slots.specs.Limits.{mostCount}
 use Rattle.slots.specs.Slots.{hi, lo}
 use Rattle.slots.proofs.Slots.{edge-order, two-slots}
 use Rattle.grid.specs.Accepted.{Before, EdgeIs, EdgeNumbers, Sound}
-use Rattle.grid.specs.Grid.{Grid, SameFace, cellCount, crossings, edgeNumber, hasEdge, hasFace, high, highestNode, isEdge, joins, low, mostCells, mostCrossings, node, sameFace}
-use Rattle.grid.specs.Rows.{isAfter, badCell, badEdge, badLength, badPairs, repeats, sameCell, crowded, tooMany, unlisted, unused}
+use Rattle.grid.specs.Grid.{Grid, SameFace, cellCount, countOf, crossings, edgeNumber, hasEdge, hasFace, high, highestNode, isEdge, joins, low, mostCells, mostCrossings, node, sameFace}
+use Rattle.grid.specs.Rows.{isAfter, badCell, badCount, badEdge, badLength, badPairs, repeats, sameCell, crowded, tooMany, unlisted, unused}
 use Rattle.grid.proofs.Answers.{length-fine, pairs-fine}
 use Rattle.grid.proofs.Packed.{cell-fine, nodes-rise, same-true, true-same}
 
@@ -108,7 +109,7 @@ module _ (cells : List ℕ) (clear : (c : ℕ) → c < cellCount cells → crowd
       (λ k. no-three c b a t s r l k la lt ls lr (flip cells a r c t g) (flip cells a r b s f)) (λ e. ab e))
       (λ e. bc e)
 
--- the rows 1 to 8 and 10 without a fault
+-- the rows 1 to 8, 18 and 10 without a fault
 pub record Faultless (G : Grid) : Type 0 where
   pub row-1 : badLength (G .cells) ≡ false
   pub row-2 : badPairs (G .edges) (G .counts) ≡ false
@@ -116,6 +117,7 @@ pub record Faultless (G : Grid) : Type 0 where
   pub row-4 : (c : ℕ) → c < cellCount (G .cells) → repeats (G .cells) c ≡ false
   pub row-5 : (c : ℕ) → c < cellCount (G .cells) → crowded (G .cells) c ≡ false
   pub row-6 : (e : ℕ) → e < length (G .counts) → badEdge (G .edges) e ≡ false
+  pub row-18 : (e : ℕ) → e < length (G .counts) → badCount (G .counts) e ≡ false
   pub row-7 : (c : ℕ) → c < cellCount (G .cells) → unlisted G c ≡ false
   pub row-8 : (e : ℕ) → e < length (G .counts) → unused G e ≡ false
   pub row-10 : tooMany (G .counts) ≡ false
@@ -153,7 +155,7 @@ module _ (G : Grid) (F : Faultless G) where
       (λ i j k a b. before-trans (low (G .edges) i) (high (G .edges) i) (low (G .edges) j) (high (G .edges) j) (low (G .edges) k) (high (G .edges) k) a b) next-edge
 
   pub sound : Sound G
-  unfolding unlisted unused hasEdge tooMany
+  unfolding badCount unlisted unused hasEdge tooMany
   sound = record {
     fours = lists .0;
     some-cell = lists .1;
@@ -165,6 +167,7 @@ module _ (G : Grid) (F : Faultless G) where
     third = no-third (G .cells) (F .row-5);
     ends = edge-ends;
     sorted = sorted-edges;
+    counts-within = λ e h. ltb-false mostCount (countOf (G .counts) e) (F .row-18 e h);
     listed = λ c k h l.
         let w = some-is (isEdge G c k) (length (G .counts)) (not-false _ (some-none (λ k. not (some (isEdge G c k) (length (G .counts)))) 6 (F .row-7 c h) k l)) in
         (w .0, w .1, edge-true G c k (w .0) (w .2));
@@ -287,7 +290,7 @@ module _ (G : Grid) (S : Sound G) where
           rw (z, before-after (G .edges) d (suc d) (S .sorted d (suc d) (omega arith) h), lt-ltb 0 (suc d) (omega arith))
 
   pub faultless : Faultless G
-  unfolding badLength badPairs badCell repeats sameCell unlisted unused hasEdge tooMany
+  unfolding badLength badPairs badCell repeats sameCell badCount unlisted unused hasEdge tooMany
   faultless = record {
     row-1 = rw (eq-eqb (length (G .cells) % 4) 0 (omega (arith, S .fours)), ne-eqb (length (G .cells)) 0 (λ e. omega (arith, S .some-cell, S .fours)), le-ltb mostCells (cellCount (G .cells)) (S .few-cells));
     row-2 = rw (eq-eqb (length (G .edges)) (2 * length (G .counts)) (S .pairs));
@@ -298,6 +301,7 @@ module _ (G : Grid) (S : Sound G) where
         (let f = S .distinct d c (omega arith) h (λ i k. eqb-true _ _ (every-is (λ i. eqb (node (G .cells) d i) (node (G .cells) c i)) 4 e i k)) in omega arith)));
     row-5 = clear-third;
     row-6 = clear-edge;
+    row-18 = λ e h. le-ltb mostCount (countOf (G .counts) e) (S .counts-within e h);
     row-7 = λ c h. none-some (λ k. not (some (isEdge G c k) (length (G .counts)))) 6 (λ k l.
         (let (e, le, is) = S .listed c k h l in ap not (some-found (isEdge G c k) (length (G .counts)) e le (true-edge G c k e is))));
     row-8 = λ e h.

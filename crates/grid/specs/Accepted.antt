@@ -3,8 +3,9 @@ use Prim.Native.Nat.{ℕ, _*_, _≤_, _<_}
 use mathlib.Core.Path.{_≡_}
 use mathlib.Core.Logic.{_⊎_, _≢_}
 use lib.ListN.{length}
+use Rattle.slots.specs.Limits.{mostCount}
 use Rattle.slots.specs.Slots.{lo, hi, slotEdge}
-use Rattle.grid.specs.Grid.{Grid, highestNode, mostCells, mostCrossings, cellCount, node, SameFace, low, high, edgeNumber, crossings}
+use Rattle.grid.specs.Grid.{Grid, highestNode, mostCells, mostCrossings, cellCount, node, SameFace, low, high, edgeNumber, countOf, crossings}
 
 -- by the lower end and then the higher
 abbrev pub Before : ℕ → ℕ → ℕ → ℕ → Type 0
@@ -16,7 +17,7 @@ pub record EdgeIs (G : Grid) (c k e : ℕ) : Type 0 where
   pub high-is : high (G .edges) e ≡ node (G .cells) c (hi k)
 
 module _ (G : Grid) where
-  -- without a fault of the rows 1 to 8 and 10
+  -- without a fault of the rows 1 to 8, 18 and 10
   pub record Sound : Type 0 where
     -- 1: four numbers to a cell, and 1 to 2,048 cells; 2: two ends to a count
     pub fours : length (G .cells) ≡ 4 * cellCount (G .cells)
@@ -32,6 +33,8 @@ module _ (G : Grid) where
     -- 6: each edge from its lower end to its higher, and the edges strictly sorted
     pub ends : (e : ℕ) → e < length (G .counts) → low (G .edges) e < high (G .edges) e
     pub sorted : (d e : ℕ) → d < e → e < length (G .counts) → Before (low (G .edges) d) (high (G .edges) d) (low (G .edges) e) (high (G .edges) e)
+    -- 18: each count within the limit
+    pub counts-within : (e : ℕ) → e < length (G .counts) → countOf (G .counts) e ≤ mostCount
     -- 7: each edge of each cell is listed; 8: and no other
     pub listed : (c k : ℕ) → c < cellCount (G .cells) → k < 6 → (e : ℕ) × (e < length (G .counts)) × EdgeIs G c k e
     pub used : (e : ℕ) → e < length (G .counts) → (c : ℕ) × (k : ℕ) × (c < cellCount (G .cells)) × (k < 6) × EdgeIs G c k e

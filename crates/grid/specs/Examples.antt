@@ -1,4 +1,4 @@
--- Grids and their answers: the examples of 01's table for rows 1 to 9, limits, and grids with several faults.
+-- Grids and their answers: the examples of 01's table for rows 1 to 9, limits, row 18, and grids with several faults.
 use Prim.Native.Nat.{ℕ}
 use mathlib.Core.List.{List, [], _∷_}
 use Rattle.answer.specs.Answer.{result, refusal}
@@ -49,6 +49,24 @@ chainEdges = 0 ∷ 1 ∷ 0 ∷ 2 ∷ 0 ∷ 3 ∷ 0 ∷ 4 ∷ 0 ∷ 5 ∷ 1 ∷ 2
 abbrev twelve : List ℕ
 twelve = 0 ∷ 0 ∷ 0 ∷ 0 ∷ 0 ∷ 0 ∷ 0 ∷ 0 ∷ 0 ∷ 0 ∷ 0 ∷ 0 ∷ []
 
+-- three cells that share no node
+abbrev loose : List ℕ
+loose = 0 ∷ 1 ∷ 2 ∷ 3 ∷ 4 ∷ 5 ∷ 6 ∷ 7 ∷ 8 ∷ 9 ∷ 10 ∷ 11 ∷ []
+
+abbrev looseEdges : List ℕ
+looseEdges = 0 ∷ 1 ∷ 0 ∷ 2 ∷ 0 ∷ 3 ∷ 1 ∷ 2 ∷ 1 ∷ 3 ∷ 2 ∷ 3 ∷ 4 ∷ 5 ∷ 4 ∷ 6 ∷ 4 ∷ 7 ∷ 5 ∷ 6 ∷ 5 ∷ 7 ∷ 6 ∷ 7 ∷ 8 ∷ 9 ∷ 8 ∷ 10 ∷ 8 ∷ 11 ∷ 9 ∷ 10 ∷ 9 ∷ 11 ∷ 10 ∷ 11 ∷ []
+
+-- cells 0123 and 0145 as above, and 6789; with so many edges each count can be within its limit and the crossings too many
+abbrev many : List ℕ
+many = 0 ∷ 1 ∷ 2 ∷ 3 ∷ 0 ∷ 1 ∷ 4 ∷ 5 ∷ 6 ∷ 7 ∷ 8 ∷ 9 ∷ []
+
+abbrev manyEdges : List ℕ
+manyEdges = 0 ∷ 1 ∷ 0 ∷ 2 ∷ 0 ∷ 3 ∷ 0 ∷ 4 ∷ 0 ∷ 5 ∷ 1 ∷ 2 ∷ 1 ∷ 3 ∷ 1 ∷ 4 ∷ 1 ∷ 5 ∷ 2 ∷ 3 ∷ 4 ∷ 5 ∷ 6 ∷ 7 ∷ 6 ∷ 8 ∷ 6 ∷ 9 ∷ 7 ∷ 8 ∷ 7 ∷ 9 ∷ 8 ∷ 9 ∷ []
+
+-- the greatest count, sixteen times, before others
+abbrev sixteen : List ℕ → List ℕ
+sixteen more = 4095 ∷ 4095 ∷ 4095 ∷ 4095 ∷ 4095 ∷ 4095 ∷ 4095 ∷ 4095 ∷ 4095 ∷ 4095 ∷ 4095 ∷ 4095 ∷ 4095 ∷ 4095 ∷ 4095 ∷ 4095 ∷ more
+
 unfoldable pub examples : List Example
 examples =
     -- accepted: no crossing, one, and one count for each edge
@@ -82,6 +100,11 @@ examples =
     ∷ example cell (0 ∷ 1 ∷ 0 ∷ 1 ∷ 0 ∷ 3 ∷ 1 ∷ 2 ∷ 1 ∷ 3 ∷ 2 ∷ 3 ∷ []) zeros (refusal 6 1)
     ∷ example cell (0 ∷ 1 ∷ 0 ∷ 2 ∷ 0 ∷ 3 ∷ 1 ∷ 2 ∷ 2 ∷ 3 ∷ 1 ∷ 3 ∷ []) zeros (refusal 6 5)
     ∷ example cell (0 ∷ 1 ∷ 0 ∷ 3 ∷ 0 ∷ 2 ∷ 1 ∷ 2 ∷ 1 ∷ 3 ∷ 2 ∷ 3 ∷ []) zeros (refusal 6 2)
+    -- 18: 4,095 is allowed, one more is not; the lowest of two, and the highest 16-bit count
+    ∷ example cell six (0 ∷ 0 ∷ 4095 ∷ 0 ∷ 0 ∷ 0 ∷ []) (result (4095 ∷ []))
+    ∷ example cell six (0 ∷ 0 ∷ 4096 ∷ 0 ∷ 0 ∷ 0 ∷ []) (refusal 18 2)
+    ∷ example cell six (0 ∷ 4096 ∷ 0 ∷ 0 ∷ 65535 ∷ 0 ∷ []) (refusal 18 1)
+    ∷ example cell six (0 ∷ 0 ∷ 0 ∷ 0 ∷ 0 ∷ 65535 ∷ []) (refusal 18 5)
     -- 7: without 2 3, and without any
     ∷ example cell (0 ∷ 1 ∷ 0 ∷ 2 ∷ 0 ∷ 3 ∷ 1 ∷ 2 ∷ 1 ∷ 3 ∷ []) (0 ∷ 0 ∷ 0 ∷ 0 ∷ 0 ∷ []) (refusal 7 0)
     ∷ example cell [] [] (refusal 7 0)
@@ -94,21 +117,24 @@ examples =
     ∷ example apart apartEdges eleven (refusal 9 0)
     ∷ example chain chainEdges twelve (result (0 ∷ []))
     -- 10: 65,535 crossings are allowed, one more is not
-    ∷ example cell six (0 ∷ 0 ∷ 65535 ∷ 0 ∷ 0 ∷ 0 ∷ []) (result (65535 ∷ []))
-    ∷ example cell six (0 ∷ 0 ∷ 65536 ∷ 0 ∷ 0 ∷ 0 ∷ []) (refusal 10 0)
-    ∷ example cell six (1 ∷ 0 ∷ 65534 ∷ 0 ∷ 0 ∷ 1 ∷ []) (refusal 10 0)
+    ∷ example loose looseEdges (sixteen (15 ∷ 0 ∷ [])) (result (65535 ∷ []))
+    ∷ example loose looseEdges (sixteen (15 ∷ 1 ∷ [])) (refusal 10 0)
+    ∷ example loose looseEdges (sixteen (4095 ∷ 4095 ∷ [])) (refusal 10 0)
     -- several faults: the first row, and in it the lowest place
-    ∷ example (0 ∷ 2 ∷ 1 ∷ 3 ∷ 9 ∷ []) (1 ∷ 1 ∷ 1 ∷ []) (65536 ∷ []) (refusal 1 0)
-    ∷ example (0 ∷ 2 ∷ 1 ∷ 3 ∷ []) (1 ∷ 1 ∷ 1 ∷ []) (65536 ∷ []) (refusal 2 0)
-    ∷ example (0 ∷ 1 ∷ 2 ∷ 3 ∷ 0 ∷ 1 ∷ 2 ∷ 3 ∷ 0 ∷ 1 ∷ 2 ∷ 3 ∷ 3 ∷ 2 ∷ 1 ∷ 0 ∷ []) (1 ∷ 1 ∷ []) (65536 ∷ []) (refusal 3 3)
-    ∷ example (0 ∷ 1 ∷ 2 ∷ 3 ∷ 0 ∷ 1 ∷ 2 ∷ 3 ∷ 0 ∷ 1 ∷ 2 ∷ 3 ∷ []) (1 ∷ 1 ∷ []) (65536 ∷ []) (refusal 4 1)
-    ∷ example (0 ∷ 1 ∷ 2 ∷ 3 ∷ 0 ∷ 1 ∷ 2 ∷ 4 ∷ 0 ∷ 1 ∷ 2 ∷ 5 ∷ []) (1 ∷ 1 ∷ []) (65536 ∷ []) (refusal 5 2)
-    ∷ example apart (0 ∷ 1 ∷ 7 ∷ 8 ∷ 1 ∷ 1 ∷ 2 ∷ 2 ∷ []) (65536 ∷ 0 ∷ 0 ∷ 0 ∷ []) (refusal 6 2)
-    ∷ example apart (0 ∷ 1 ∷ 7 ∷ 8 ∷ []) (65536 ∷ 0 ∷ []) (refusal 7 0)
-    ∷ example apart
-    (0 ∷ 1 ∷ 0 ∷ 2 ∷ 0 ∷ 3 ∷ 0 ∷ 4 ∷ 0 ∷ 5 ∷ 1 ∷ 2 ∷ 1 ∷ 3 ∷ 1 ∷ 4 ∷ 1 ∷ 5 ∷ 2 ∷ 3 ∷ 2 ∷ 4 ∷ 4 ∷ 5 ∷ 7 ∷ 8 ∷ [])
-    (65536 ∷ 0 ∷ 0 ∷ 0 ∷ 0 ∷ 0 ∷ 0 ∷ 0 ∷ 0 ∷ 0 ∷ 0 ∷ 0 ∷ 0 ∷ []) (refusal 8 10)
-    ∷ example apart apartEdges (65536 ∷ 0 ∷ 0 ∷ 0 ∷ 0 ∷ 0 ∷ 0 ∷ 0 ∷ 0 ∷ 0 ∷ 0 ∷ []) (refusal 9 0)
+    ∷ example (0 ∷ 2 ∷ 1 ∷ 3 ∷ 9 ∷ []) (1 ∷ 1 ∷ 1 ∷ []) (65535 ∷ 1 ∷ []) (refusal 1 0)
+    ∷ example (0 ∷ 2 ∷ 1 ∷ 3 ∷ []) (1 ∷ 1 ∷ 1 ∷ []) (65535 ∷ 1 ∷ []) (refusal 2 0)
+    ∷ example (0 ∷ 1 ∷ 2 ∷ 3 ∷ 0 ∷ 1 ∷ 2 ∷ 3 ∷ 0 ∷ 1 ∷ 2 ∷ 3 ∷ 3 ∷ 2 ∷ 1 ∷ 0 ∷ []) (1 ∷ 1 ∷ 1 ∷ 1 ∷ []) (65535 ∷ 1 ∷ []) (refusal 3 3)
+    ∷ example (0 ∷ 1 ∷ 2 ∷ 3 ∷ 0 ∷ 1 ∷ 2 ∷ 3 ∷ 0 ∷ 1 ∷ 2 ∷ 3 ∷ []) (1 ∷ 1 ∷ 1 ∷ 1 ∷ []) (65535 ∷ 1 ∷ []) (refusal 4 1)
+    ∷ example (0 ∷ 1 ∷ 2 ∷ 3 ∷ 0 ∷ 1 ∷ 2 ∷ 4 ∷ 0 ∷ 1 ∷ 2 ∷ 5 ∷ []) (1 ∷ 1 ∷ 1 ∷ 1 ∷ []) (65535 ∷ 1 ∷ []) (refusal 5 2)
+    ∷ example apart (0 ∷ 1 ∷ 7 ∷ 8 ∷ 1 ∷ 1 ∷ 2 ∷ 2 ∷ []) (65535 ∷ 1 ∷ 0 ∷ 0 ∷ []) (refusal 6 2)
+    ∷ example apart (0 ∷ 1 ∷ 7 ∷ 8 ∷ 8 ∷ 9 ∷ []) (1 ∷ 4096 ∷ 65535 ∷ []) (refusal 18 1)
+    ∷ example many
+    (0 ∷ 1 ∷ 0 ∷ 2 ∷ 0 ∷ 3 ∷ 0 ∷ 4 ∷ 0 ∷ 5 ∷ 1 ∷ 2 ∷ 1 ∷ 3 ∷ 1 ∷ 4 ∷ 1 ∷ 5 ∷ 2 ∷ 3 ∷ 2 ∷ 4 ∷ 6 ∷ 7 ∷ 6 ∷ 8 ∷ 7 ∷ 8 ∷ 7 ∷ 9 ∷ 8 ∷ 9 ∷ 8 ∷ 10 ∷ [])
+    (sixteen (4095 ∷ [])) (refusal 7 1)
+    ∷ example many
+    (0 ∷ 1 ∷ 0 ∷ 2 ∷ 0 ∷ 3 ∷ 0 ∷ 4 ∷ 0 ∷ 5 ∷ 1 ∷ 2 ∷ 1 ∷ 3 ∷ 1 ∷ 4 ∷ 1 ∷ 5 ∷ 2 ∷ 3 ∷ 2 ∷ 4 ∷ 4 ∷ 5 ∷ 6 ∷ 7 ∷ 6 ∷ 8 ∷ 6 ∷ 9 ∷ 7 ∷ 8 ∷ 7 ∷ 9 ∷ 8 ∷ 9 ∷ 8 ∷ 10 ∷ [])
+    (sixteen (4095 ∷ 0 ∷ 0 ∷ [])) (refusal 8 10)
+    ∷ example many manyEdges (sixteen (4095 ∷ [])) (refusal 9 0)
     ∷ []
 
 -- the values of f below n

@@ -18,7 +18,7 @@ pub record Grid : Type 0 where
 abbrev pub gridOf : List ℕ → List ℕ → List ℕ → Grid
 gridOf cells edges counts = record { cells = cells; edges = edges; counts = counts }
 
--- the highest node, and the most cells and crossings that a grid may have
+-- the highest node, and the most cells and crossings that a grid may have. The greatest count of an edge is `mostCount` of the crate slots.
 abbrev pub highestNode : ℕ
 highestNode = 4095
 

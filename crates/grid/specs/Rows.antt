@@ -1,4 +1,4 @@
--- What the grid check refuses: rows 1 to 10 of the table of 01. Each row is a test of its places; its fault is the lowest place that passes.
+-- What the grid check refuses: rows 1 to 10 of the table of 01, and row 18 (02, W1). Each row is a test of its places; its fault is the lowest place that passes.
 use Prim.Native.Nat.{ℕ, _+_, _*_, _-_, _%_}
 use mathlib.Core.Bool.{Bool, not, _&&_, _||_}
 use mathlib.Core.List.{List, [], _∷_}
@@ -9,8 +9,9 @@ use Rattle.answer.specs.Rows.{Row, whole, each, answerOf}
 use Rattle.counting.specs.Pick.{pick}
 use Rattle.counting.specs.Search.{first, some, every, count}
 use Rattle.counting.specs.Reach.{reach}
+use Rattle.slots.specs.Limits.{mostCount}
 use Rattle.slots.specs.Slots.{contains}
-use Rattle.grid.specs.Grid.{Grid, highestNode, mostCells, mostCrossings, cellCount, node, hasFace, low, high, isEdge, hasEdge, crossings}
+use Rattle.grid.specs.Grid.{Grid, highestNode, mostCells, mostCrossings, cellCount, node, hasFace, low, high, isEdge, hasEdge, countOf, crossings}
 
 -- 1: the list of nodes is not one of whole cells, or has no cell or more than 2,048
 unfoldable pub badLength : List ℕ → Bool
@@ -45,6 +46,10 @@ module _ (edges : List ℕ) where
   unfoldable pub badEdge : ℕ → Bool
   badEdge e = not (ltb (low edges e) (high edges e)) || (ltb 0 e && not (isAfter (e - 1) e))
 
+-- 18: the count of the edge is above 4,095
+unfoldable pub badCount : List ℕ → ℕ → Bool
+badCount counts e = ltb mostCount (countOf counts e)
+
 module _ (G : Grid) where
   -- 7: an edge of the cell is not listed
   unfoldable pub unlisted : ℕ → Bool
@@ -71,7 +76,7 @@ unfoldable pub tooMany : List ℕ → Bool
 tooMany counts = ltb mostCrossings (crossings counts)
 
 module _ (G : Grid) where
-  -- the rows 1 to 10, in order
+  -- the rows in order: 18 directly after 6
   unfoldable pub rows : List Row
   rows =
       whole 1 (badLength (G .cells))
@@ -80,6 +85,7 @@ module _ (G : Grid) where
       ∷ each 4 (cellCount (G .cells)) (repeats (G .cells))
       ∷ each 5 (cellCount (G .cells)) (crowded (G .cells))
       ∷ each 6 (length (G .counts)) (badEdge (G .edges))
+      ∷ each 18 (length (G .counts)) (badCount (G .counts))
       ∷ each 7 (cellCount (G .cells)) (unlisted G)
       ∷ each 8 (length (G .counts)) (unused G)
       ∷ each 9 (length (G .counts)) (split G)

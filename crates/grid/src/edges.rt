@@ -1,4 +1,4 @@
-// Rows 2, 6, 7 and 8: the edges.
+// Rows 2, 6, 18, 7 and 8: the edges.
 ghost use mathlib.Core.Path.{_≡_};
 ghost use Prim.Native.Nat.{_+_, _*_, _<_, _≤_};
 ghost use lib.ListN.{length, getD, set, replicate};
@@ -7,8 +7,9 @@ ghost use Rattle.counting.specs.Range.{values};
 ghost use Rattle.counting.specs.Search.{first};
 ghost use Rattle.counting.specs.Stored.{filled};
 ghost use Rattle.grid.specs.Grid.{gridOf, mostEdges, cellCount};
-ghost use Rattle.grid.specs.Rows.{badPairs, badEdge, unused};
+ghost use Rattle.grid.specs.Rows.{badPairs, badEdge, badCount, unused};
 ghost use Rattle.grid.specs.Work.{Table, edgeKey, sideKey, Findable, Putting, Put, listedAt, blankIn};
+use crate::MOST_COUNT;
 use crate::cells::node_at;
 use crate::keys::latest;
 use crate::keys::walk;
@@ -19,7 +20,7 @@ const LO: [usize; 6] = [0, 0, 0, 1, 1, 2];
 
 const HI: [usize; 6] = [1, 2, 3, 2, 3, 3];
 
-pub(crate) fn row_2(edges: &[u16], counts: &[u8]) -> bool
+pub(crate) fn row_2(edges: &[u16], counts: &[u16]) -> bool
     ensures { λ r. ⌜ r ≡ badPairs (now (edges .entry)) (now (counts .entry)) ⌝ }
 {
     edges.len() != 2 * counts.len()
@@ -59,7 +60,7 @@ fn bad_edge(edges: &[u16], e: usize) -> bool
 }
 
 // The lowest edge whose ends do not rise, or that is not after its predecessor; the number of edges where there is none.
-pub(crate) fn row_6(edges: &[u16], counts: &[u8]) -> usize
+pub(crate) fn row_6(edges: &[u16], counts: &[u16]) -> usize
     requires { ⌜ length (now edges) ≡ 2 * length (now counts) ⌝ }
     ensures { λ r. ⌜ r ≡ first (badEdge (now (edges .entry))) (length (now (counts .entry))) ⌝ }
 {
@@ -67,6 +68,21 @@ pub(crate) fn row_6(edges: &[u16], counts: &[u8]) -> usize
     let mut e = 0;
     while e < n {
         if bad_edge(edges, e) {
+            return e;
+        }
+        e += 1;
+    }
+    n
+}
+
+// The lowest edge whose count is above 4,095; the number of edges where there is none.
+pub(crate) fn row_18(counts: &[u16]) -> usize
+    ensures { λ r. ⌜ r ≡ first (badCount (now (counts .entry))) (length (now (counts .entry))) ⌝ }
+{
+    let n = counts.len();
+    let mut e = 0;
+    while e < n {
+        if MOST_COUNT < counts[e] {
             return e;
         }
         e += 1;
@@ -147,7 +163,7 @@ fn put(
 pub(crate) fn row_8(
     cells: &[u16],
     edges: &[u16],
-    counts: &[u8],
+    counts: &[u16],
     keys: &[usize],
     head: &[u16],
     next: &[u16],

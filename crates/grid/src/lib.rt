@@ -14,8 +14,10 @@ mod keys;
 mod links;
 mod tables;
 
-// The highest node, and the most cells and crossings that a grid may have.
+// The highest node, the greatest count of an edge, and the most cells and crossings that a grid may have.
 pub const HIGHEST_NODE: usize = 4095;
+
+pub const MOST_COUNT: u16 = 4095;
 
 pub const MOST_CELLS: usize = 2048;
 
@@ -34,15 +36,15 @@ pub enum Checked {
     Refused(u8, usize),
 }
 
-pub(crate) fn size(x: u8) -> u32
+pub(crate) fn size(x: u16) -> u32
     ensures { λ r. ⌜ r ≡ x ⌝ }
-    ensures { λ r. ⌜ r < 256 ⌝ }
+    ensures { λ r. ⌜ r < 65536 ⌝ }
 {
     x as u32
 }
 
 // The sum of the counts; 65,536 where it is more than 65,535.
-fn total(counts: &[u8]) -> u32
+fn total(counts: &[u16]) -> u32
     ensures { λ r. ⌜ r ≡ capped (now (counts .entry)) ⌝ }
 {
     let mut s: u32 = 0;
@@ -61,7 +63,7 @@ fn total(counts: &[u8]) -> u32
 fn last_rows(
     cells: &[u16],
     edges: &[u16],
-    counts: &[u8],
+    counts: &[u16],
     near: &[u16],
     keys: &[usize],
     head: &[u16],
@@ -85,7 +87,7 @@ fn last_rows(
 fn side_rows(
     cells: &[u16],
     edges: &[u16],
-    counts: &[u8],
+    counts: &[u16],
     near: &[u16],
     sides: &mut [usize],
 ) -> Checked
@@ -110,11 +112,11 @@ fn side_rows(
     last_rows(cells, edges, counts, near, &keys, &head, &next)
 }
 
-// Row 6, and those after it.
+// Rows 6 and 18, and those after them.
 fn edge_rows(
     cells: &[u16],
     edges: &[u16],
-    counts: &[u8],
+    counts: &[u16],
     near: &[u16],
     sides: &mut [usize],
 ) -> Checked
@@ -126,6 +128,10 @@ fn edge_rows(
     if p6 < counts.len() {
         return Checked::Refused(6, p6);
     }
+    let p18 = edges::row_18(counts);
+    if p18 < counts.len() {
+        return Checked::Refused(18, p18);
+    }
     side_rows(cells, edges, counts, near, sides)
 }
 
@@ -133,7 +139,7 @@ fn edge_rows(
 fn cell_rows(
     cells: &[u16],
     edges: &[u16],
-    counts: &[u8],
+    counts: &[u16],
     near: &mut [u16],
     sides: &mut [usize],
 ) -> Checked
@@ -161,7 +167,7 @@ fn cell_rows(
 fn all_rows(
     cells: &[u16],
     edges: &[u16],
-    counts: &[u8],
+    counts: &[u16],
     near: &mut [u16],
     sides: &mut [usize],
 ) -> Checked
@@ -179,7 +185,7 @@ fn all_rows(
 }
 
 // The grid check. Keeps 264 KB on the stack, with what its functions keep.
-pub fn check(cells: &[u16], edges: &[u16], counts: &[u8]) -> Checked
+pub fn check(cells: &[u16], edges: &[u16], counts: &[u16]) -> Checked
     ensures { λ r. ⌜ checkNumbers r ≡ gridAnswer (gridOf (now (cells .entry)) (now (edges .entry)) (now (counts .entry))) ⌝ }
 {
     let mut near = [0u16; MOST_SLOTS];
@@ -192,7 +198,7 @@ pub fn check(cells: &[u16], edges: &[u16], counts: &[u8]) -> Checked
 pub fn open(
     cells: &[u16],
     edges: &[u16],
-    counts: &[u8],
+    counts: &[u16],
     names: &mut [u16; MOST_SLOTS],
     sides: &mut [u16; MOST_EDGES],
     starts: &mut [u32; MOST_EDGES],

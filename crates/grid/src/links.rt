@@ -143,7 +143,7 @@ fn split_at(
 pub(crate) fn row_9(
     cells: &[u16],
     edges: &[u16],
-    counts: &[u8],
+    counts: &[u16],
     near: &[u16],
     keys: &[usize],
     head: &[u16],

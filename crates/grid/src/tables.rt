@@ -46,7 +46,7 @@ pub(crate) fn write_sides(n: usize, listed: &[usize], sides: &mut [u16])
     }
 }
 
-pub(crate) fn write_starts(counts: &[u8], starts: &mut [u32])
+pub(crate) fn write_starts(counts: &[u16], starts: &mut [u32])
     requires { ⌜ length (now counts) ≤ length (now starts) ⌝ }
     requires { ⌜ crossings (now counts) ≤ mostCrossings ⌝ }
     ensures { λ _. ⌜ now (starts .exit) ≡ filled (start (now (counts .entry))) (length (now (counts .entry))) (now (starts .entry)) ⌝ }

@@ -14,7 +14,7 @@ use Rattle.cell.specs.Cell as cell
 use Rattle.cell.specs.Loop as loop
 use Rattle.grid.specs.Grid.{faceNode, sameFace, hasFace, faceName, joins, isEdge, hasEdge, edgeNumber, start}
 use Rattle.answer.specs.Rows.{orRefuse, answerOf}
-use Rattle.grid.specs.Rows.{badLength, badPairs, badCell, sameCell, repeats, crowded, isAfter, badEdge, unlisted, unused, linked, reached, split, tooMany, rows, gridAnswer}
+use Rattle.grid.specs.Rows.{badLength, badPairs, badCell, sameCell, repeats, crowded, isAfter, badEdge, badCount, unlisted, unused, linked, reached, split, tooMany, rows, gridAnswer}
 use Rattle.cell.specs.Triangles as triangle
 use Rattle.cell.specs.Words.{cornerWords, words}
 use Rattle.mesh.specs.Mesh.{gridCell, meshTriangles, meshWords}
@@ -22,7 +22,7 @@ use Rattle.mesh.specs.Room.{roomAnswer}
 use Rattle.mesh.specs.Answer.{meshAnswer}
 use Rattle.bundle.specs.Record as bytes
 use Rattle.bundle.specs.Bundle as bundle
-use Rattle.bundle.specs.Written.{cellBytes, edgeBytes, bundleBytes}
+use Rattle.bundle.specs.Written.{kindFor, countBytes, cellBytes, edgeBytes, bundleBytes}
 use Rattle.listing.specs.Text.{digits, decimal, labelled, refusedLine, head, wordText, wordAt, line}
 use Rattle.listing.specs.Listing.{orRefused, meshListing, gridListing, bundleListing, listing}
 use Rattle.listing.specs.Examples.{Examples}
@@ -35,11 +35,11 @@ unfolding seek first last some every count total over tally pre row col reach
     cell.ahead cell.base cell.holds cell.edge cell.index cell.joinAt cell.joinedTo cell.mate cell.slot cell.step
     loop.loopSize loop.dart loop.loopDarts loop.folded loop.normal loop.parity loop.nodeWith loop.typeBy loop.inGrid loop.typeOf loop.leasts loop.answerFrom loop.loopAnswer
     faceNode sameFace hasFace faceName joins isEdge hasEdge edgeNumber start
-    badLength badPairs badCell sameCell repeats crowded isAfter badEdge unlisted unused linked reached split tooMany rows orRefuse answerOf gridAnswer
+    badLength badPairs badCell sameCell repeats crowded isAfter badEdge badCount unlisted unused linked reached split tooMany rows orRefuse answerOf gridAnswer
     triangle.numberOf triangle.segmentOf triangle.point triangle.segment triangle.triangle triangle.loopTriangles triangle.cellTriangles
     cornerWords words gather gridCell meshTriangles meshWords roomAnswer meshAnswer
-    bytes.lengthOf bytes.kindAt bytes.nextRecord bytes.isRecord bytes.bodyStart bytes.bodySize bytes.body
-    bundle.isOf bundle.start bundle.run bundle.cells bundle.edgesFrom bundle.edges bundle.stop bundle.bundleAnswer bundle.nodesOf bundle.endsOf bundle.countsOf
-    cellBytes edgeBytes bundleBytes
+    bytes.lengthOf bytes.kindAt bytes.nextRecord bytes.countAt bytes.mayHave bytes.isRecord bytes.bodyStart bytes.bodySize bytes.body
+    bundle.sectionOf bundle.isOf bundle.start bundle.run bundle.cells bundle.edgesFrom bundle.edges bundle.stop bundle.bundleAnswer bundle.nodesOf bundle.endsOf bundle.countsOf
+    kindFor countBytes cellBytes edgeBytes bundleBytes
     digits decimal labelled refusedLine head wordText wordAt line orRefused meshListing gridListing bundleListing listing
 computed = refl

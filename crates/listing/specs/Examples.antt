@@ -2,7 +2,8 @@
 use Prim.Native.Nat.{ℕ}
 use mathlib.Core.Path.{_≡_}
 use mathlib.Core.List.{List, [], _∷_, _++_, map}
-use Rattle.bundle.specs.Written.{bundleBytes, endRecord}
+use Rattle.bundle.specs.Record.{wideKind}
+use Rattle.bundle.specs.Written.{recordBytes, bundleBytes, endRecord}
 use Rattle.listing.specs.Text.{decimal, wordText, refusedLine}
 use Rattle.listing.specs.Listing.{listing}
 
@@ -84,13 +85,16 @@ abbrev pub empty : List ℕ
 empty =
     (114 ∷ 101 ∷ 102 ∷ 117 ∷ 115 ∷ 101 ∷ 100 ∷ 32 ∷ 49 ∷ 51 ∷ 32 ∷ 97 ∷ 116 ∷ 32 ∷ 48 ∷ 10 ∷ [])
 
--- refusals: no bytes; no cell; a cell that does not increase; an edge that is not listed; a byte after the end, and after the end of a grid that is refused
+-- refusals: no bytes; no cell; a cell that does not increase; an edge that is not listed, with kind 2 and with kind 4; kind 4 with a count that a byte
+-- holds; a byte after the end, and after the end of a grid that is refused
 abbrev pub refused : List Example
 refused =
     asks (listing []) empty
     ∷ asks (listing endRecord) (refusedLine 1 0)
     ∷ asks (listing (bundleBytes (0 ∷ 2 ∷ 1 ∷ 3 ∷ []) edges (0 ∷ 0 ∷ 0 ∷ 0 ∷ 0 ∷ 0 ∷ []))) (refusedLine 3 0)
     ∷ asks (listing (bundleBytes (0 ∷ 1 ∷ 2 ∷ 3 ∷ []) (0 ∷ 1 ∷ 0 ∷ 2 ∷ []) (0 ∷ 0 ∷ []))) (refusedLine 7 0)
+    ∷ asks (listing (bundleBytes (0 ∷ 1 ∷ 2 ∷ 3 ∷ []) (0 ∷ 1 ∷ 0 ∷ 2 ∷ []) (256 ∷ 0 ∷ []))) (refusedLine 7 0)
+    ∷ asks (listing (recordBytes wideKind (0 ∷ 0 ∷ 1 ∷ 0 ∷ 255 ∷ 0 ∷ []) ++ endRecord)) empty
     ∷ asks (listing (oneCell (2 ∷ 0 ∷ 0 ∷ 0 ∷ 0 ∷ 0 ∷ []) ++ (0 ∷ []))) (refusedLine 13 70)
     ∷ asks (listing (endRecord ++ (0 ∷ []))) (refusedLine 13 4)
     ∷ []

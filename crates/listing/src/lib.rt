@@ -40,7 +40,7 @@ const AREA_WORDS: usize = WORD_COUNT * AREA_TRIANGLES;
 pub const ROOM: usize = HEAD_ROOM + LINE_ROOM * AREA_TRIANGLES;
 
 // The listing of a grid that the check accepts with so many crossings. About 64 KB of stack, besides what `mesh::mesh` keeps.
-fn list_mesh(nodes: &[u16], ends: &[u16], counts: &[u8], crossings: u32, out: &mut [u8]) -> usize
+fn list_mesh(nodes: &[u16], ends: &[u16], counts: &[u16], crossings: u32, out: &mut [u8]) -> usize
     requires { ⌜ (result (crossings ∷ []) ≡ gridAnswer (gridOf (now nodes) (now ends) (now counts))) × (roomBytes ≤ length (now out)) ⌝ }
     ensures stored { λ r. ⌜ Stored (now (out .entry)) 0 (gridListing (gridOf (now (nodes .entry)) (now (ends .entry)) (now (counts .entry)))) (now (out .exit)) r ⌝ }
     ensures few { λ r. ⌜ r ≤ roomBytes ⌝ }
@@ -56,7 +56,7 @@ fn list_mesh(nodes: &[u16], ends: &[u16], counts: &[u8], crossings: u32, out: &m
 }
 
 // The listing of a grid.
-fn list_grid(nodes: &[u16], ends: &[u16], counts: &[u8], out: &mut [u8]) -> usize
+fn list_grid(nodes: &[u16], ends: &[u16], counts: &[u16], out: &mut [u8]) -> usize
     requires { ⌜ roomBytes ≤ length (now out) ⌝ }
     ensures stored { λ r. ⌜ Stored (now (out .entry)) 0 (gridListing (gridOf (now (nodes .entry)) (now (ends .entry)) (now (counts .entry)))) (now (out .exit)) r ⌝ }
     ensures few { λ r. ⌜ r ≤ roomBytes ⌝ }
@@ -67,7 +67,7 @@ fn list_grid(nodes: &[u16], ends: &[u16], counts: &[u8], out: &mut [u8]) -> usiz
     }
 }
 
-// Puts the listing of any bytes at the front of the area, and answers how many bytes it has. Keeps 40 KB on the stack, besides what `list_grid` keeps.
+// Puts the listing of any bytes at the front of the area, and answers how many bytes it has. Keeps 44 KB on the stack, besides what `list_grid` keeps.
 pub fn list(bytes: &[u8], out: &mut [u8; ROOM]) -> usize
     ensures { λ r. ⌜ Listed (now (bytes .entry)) (now (out .entry)) (now (out .exit)) r ⌝ }
 {
@@ -76,7 +76,7 @@ pub fn list(bytes: &[u8], out: &mut [u8; ROOM]) -> usize
     }
     let mut nodes = [0u16; CELL_NODES * CELLS_IN_BUNDLE];
     let mut ends = [0u16; EDGE_ENDS * EDGES_IN_BUNDLE];
-    let mut counts = [0u8; EDGES_IN_BUNDLE];
+    let mut counts = [0u16; EDGES_IN_BUNDLE];
     match bundle::read(bytes, &mut nodes, &mut ends, &mut counts) {
         Contents::Refused(row, place) => lines::put_refused(out, row, place),
         Contents::Lists(cells, edges) => {

@@ -3,11 +3,13 @@ use Prim.Native.Nat.{ℕ, _+_, _*_, _/_, _≤_, _<_}
 use mathlib.Core.Path.{_≡_, refl, sym, ap, ap₂, _∙_, subst}
 use mathlib.Core.Logic.{_⊎_, inl, inr, ⊎-elim}
 use native.Mathlib.Omega.{arith}
+use native.Mathlib.Decide.{decLt}
 use lib.ListN.{length}
 use Rattle.counting.proofs.Below.{rising-once}
 use Rattle.counting.proofs.Lists.{values-at}
 use Rattle.counting.proofs.Pack.{pre-le}
 use Rattle.counting.proofs.Search.{first-ext}
+use Rattle.slots.specs.Limits.{mostCount}
 use Rattle.slots.specs.Slots.{lo, hi, position, lower, upper, slotEdge, edgeRank, firstSlot, secondSlot}
 use Rattle.slots.proofs.Slots.{slot-edge, face-ends, same-slot, corner-lt}
 use Rattle.face.specs.Face.{unjoined, faceJoin}
@@ -19,6 +21,7 @@ use Rattle.cell.specs.Claims.{Separate}
 use Rattle.cell.specs.Loop.{inGrid, normal}
 use Rattle.cell.proofs.Lay.{lay}
 use Rattle.cell.proofs.Mates.{mate-joined}
+use Rattle.cell.proofs.Route.{count-listed}
 use Rattle.cell.proofs.Claims.{ordered, rising-separate}
 use Rattle.mesh.proofs.Joins.{three, On, index-in, num-lt, num-edge, num-index, num-place, is-num, Joined, joined-or, on-dart}
 use Rattle.cell.specs.Triangles as triangles
@@ -32,6 +35,7 @@ use Rattle.grid.specs.Accepted.{Sound}
 use Rattle.grid.proofs.Sound.{edge-numbers}
 use Rattle.grid.proofs.Names.{same-named}
 use Rattle.mesh.specs.Mesh.{gridCell}
+use Rattle.cell.proofs.Values.{past-end}
 
 module _ (G : Grid) where
   -- the number of edge k of cell c, and the edges of the cell
@@ -47,11 +51,7 @@ module _ (G : Grid) where
   abbrev pub gridComplex : Complex
   gridComplex = record { pieces = cellCount (G .cells); at = at; tag = λ c. c; normal = λ c p. normal (w c) p }
 
-  -- the count, the start and the face name of an edge and of a slot of cell c
-  pub count-of : (c k : ℕ) → k < 6 → w c .count k ≡ countOf (G .counts) (en c k)
-  unfolding gridCell
-  count-of c k l = values-at (λ k. countOf (G .counts) (en c k)) 6 k 0 l
-
+  -- the start of an edge and the face name of a slot of cell c
   pub start-of : (c k : ℕ) → k < 6 → w c .start k ≡ start (G .counts) (en c k)
   unfolding gridCell
   start-of c k l = values-at (λ k. start (G .counts) (en c k)) 6 k 0 l
@@ -70,6 +70,16 @@ module _ (G : Grid) where
   start-le a b h = pre-le (countOf (G .counts)) 0 a b h
 
   module _ (S : Sound G) where
+    -- no count is above the limit, so the count of an edge of cell c is the listed one
+    few : (e : ℕ) → countOf (G .counts) e ≤ mostCount
+    few e = elim (decLt e (length (G .counts))) [ yes h ↦ S .counts-within e h | no h ↦ omega (arith, past-end (G .counts) e (omega arith)) ]
+
+    pub count-of : (c k : ℕ) → k < 6 → w c .count k ≡ countOf (G .counts) (en c k)
+    unfolding gridCell
+    count-of c k l =
+        let q = values-at (λ k. countOf (G .counts) (en c k)) 6 k 0 l in
+        count-listed (gridCell G c) k (rw q (few (en c k))) ∙ q
+
     -- no crossing number belongs to two edges of a cell, so the crossing numbers of a cell rise
     pub separate : (c : ℕ) → c < cellCount (G .cells) → Separate (w c)
     separate c lc = rising-separate (w c)

@@ -111,7 +111,7 @@ module _ (G : Grid) where
         let i = col (countOf (G .counts)) n g in
         let (c, k, lc, lk, q) = edge-numbers G (A .sound) .used e (row-lt (countOf (G .counts)) n g l) in
         let v = w G c in
-        let li : i < v .count k = rw (count-of G c k lk, q) (col-lt (countOf (G .counts)) n g l) in
+        let li : i < v .count k = rw (count-of G (A .sound) c k lk, q) (col-lt (countOf (G .counts)) n g l) in
         let x = cell.number v k i in
         let lx : x < cell.crossings v = lay v .number-lt k i lk li in (
           c,

@@ -22,7 +22,7 @@ use Rattle.walk.specs.Walk as walk
 use Rattle.cell.specs.Cell as cell
 use Rattle.cell.specs.Loop as loop
 use Rattle.grid.specs.Grid.{Grid, gridOf, cellCount, countOf, outer, faceNode, sameFace, hasFace, faceName, joins, isEdge, hasEdge, edgeNumber, start}
-use Rattle.grid.specs.Rows.{badLength, badPairs, badCell, sameCell, repeats, crowded, isAfter, badEdge, unlisted, unused, linked, reached, split, tooMany, rows, gridAnswer}
+use Rattle.grid.specs.Rows.{badLength, badPairs, badCell, sameCell, repeats, crowded, isAfter, badEdge, badCount, unlisted, unused, linked, reached, split, tooMany, rows, gridAnswer}
 use Rattle.answer.specs.Rows.{orRefuse, answerOf}
 use Rattle.cell.specs.Triangles as triangle
 use Rattle.mesh.specs.Mesh.{gridCell, meshTriangles}
@@ -61,7 +61,7 @@ three-pass = refl
 three-accepted : gridAnswer (gridOf threeCells threeEdges threeCounts) ≡ result (2 ∷ [])
 unfolding every some count seek first last total over pre reach lo hi position lower upper edgeBetween slotEdge contains
     faceNode sameFace hasFace joins isEdge hasEdge edgeNumber start
-    badLength badPairs badCell sameCell repeats crowded isAfter badEdge unlisted unused linked reached split tooMany rows orRefuse answerOf gridAnswer
+    badLength badPairs badCell sameCell repeats crowded isAfter badEdge badCount unlisted unused linked reached split tooMany rows orRefuse answerOf gridAnswer
 three-accepted = refl
 
 three-triangles : length (meshTriangles (gridOf threeCells threeEdges threeCounts)) ≡ 6

@@ -57,7 +57,7 @@ module _ (G : Grid) where
 
     -- the three counts of a slot as the cell has them
     three-is : (c s j : ℕ) → s < 4 → j < 3 → three (w G c) s j ≡ faceCount G c s j
-    three-is c s j ls lj = count-of G c (slotEdge s j) (slot-edge s j ls lj .lt)
+    three-is c s j ls lj = count-of G S c (slotEdge s j) (slot-edge s j ls lj .lt)
 
     even-slot : (c s : ℕ) → c < cellCount (G .cells) → s < 4
         → (three (w G c) s 0 + three (w G c) s 1 + three (w G c) s 2) % 2 ≡ 0
@@ -120,8 +120,8 @@ module _ (G : Grid) where
         let i = index va xa in
         let E = edge-numbers G S in
         let le = E .listed a ka (ha .lt) lka in
-        let li : i < countOf (G .counts) (en G a ka) = subst (λ n. i < n) (count-of G a ka lka) (lay va .index-lt xa la) in
-        let lj : index vb xb < countOf (G .counts) (en G b kb) = subst (λ n. index vb xb < n) (count-of G b kb lkb) (lay vb .index-lt xb lb) in
+        let li : i < countOf (G .counts) (en G a ka) = subst (λ n. i < n) (count-of G S a ka lka) (lay va .index-lt xa la) in
+        let lj : index vb xb < countOf (G .counts) (en G b kb) = subst (λ n. index vb xb < n) (count-of G S b kb lkb) (lay vb .index-lt xb lb) in
         let na : start (G .counts) (en G a ka) + i ≡ g = sym (number-of G a xa la) ∙ ha .is in
         let nb : start (G .counts) (en G b kb) + index vb xb ≡ g = sym (number-of G b xb lb) ∙ hb .is in
         let e : en G a ka ≡ en G b kb = edge-of-number (en G a ka) (en G b kb) i (index vb xb) le (E .listed b kb (hb .lt) lkb) li lj (na ∙ sym nb) in

@@ -198,10 +198,11 @@ examples =
     ∷ face 0 1 4 (joined 2 3 ∷ unjoined ∷ joined 2 2 ∷ joined 2 1 ∷ joined 1 0 ∷ []) 2 1
     ∷ face 3 4 5 (joined 1 0 ∷ joined 2 1 ∷ joined 2 0 ∷ joined 0 0 ∷ joined 2 2 ∷ joined 2 3 ∷ joined 2 4 ∷ joined 0 2 ∷ joined 0 1 ∷ joined 1 1 ∷ joined 1 2 ∷ joined 1 3 ∷ []) 6 0
     ∷ face 2 1 1 (joined 1 0 ∷ joined 2 0 ∷ joined 0 0 ∷ joined 0 1 ∷ []) 2 0
-    -- no such crossing, and the largest counts of a byte
+    -- no such crossing, and the largest counts of a byte and of 16 bits
     ∷ join 0 0 0 0 0 noCrossing ∷ join 5 1 1 0 5 noCrossing ∷ join 3 3 3 3 0 noCrossing ∷ join 3 3 3 4294967295 4294967295 noCrossing
     ∷ join 255 255 255 0 126 (joined 1 126) ∷ join 255 255 255 0 127 unjoined ∷ join 255 255 255 0 128 (joined 2 126)
     ∷ join 255 0 0 0 0 unjoined ∷ join 255 0 0 0 254 (joined 0 253) ∷ join 255 255 0 0 254 (joined 1 254) ∷ join 0 255 255 2 0 (joined 1 0)
+    ∷ join 65535 65535 65535 0 32767 unjoined ∷ join 65535 65535 65535 0 32768 (joined 2 32766) ∷ join 0 65535 65535 2 65535 noCrossing
     -- a triangle of a cell: the second, and one too many
     ∷ nth cell six twoLoopCounts 0 1 (result (0 ∷ 1 ∷ 1 ∷ 2 ∷ noName ∷ 3 ∷ 1 ∷ noName ∷ 1 ∷ noName ∷ 0 ∷ []))
     ∷ nth cell six twoLoopCounts 0 3 no ∷ nth cell six cornerCounts 0 18446744073709551615 no
@@ -210,14 +211,15 @@ examples =
     ∷ mesh cell six cornerCounts (replicate 13 9) (result (1 ∷ [])) (0 ∷ 0 ∷ 0 ∷ 1 ∷ 2 ∷ 3 ∷ 0 ∷ 1 ∷ 1 ∷ 2 ∷ 0 ∷ 9 ∷ 9 ∷ [])
     ∷ mesh cell six cornerCounts (replicate 10 9) (refusal 12 1) (replicate 10 9)
     ∷ mesh threeCells threeEdges threeCounts (replicate 65 9) (refusal 12 6) (replicate 65 9)
-    ∷ mesh cell [] cornerCounts [] (refusal 2 0) []
-    -- the loops call: loop after loop, none after the last; a later cell; cell 1 of 1; a refused grid comes first
+    ∷ mesh cell [] cornerCounts [] (refusal 2 0) [] ∷ mesh cell six (0 ∷ 4096 ∷ 0 ∷ 0 ∷ 0 ∷ 0 ∷ []) (9 ∷ []) (refusal 18 1) (9 ∷ [])
+    -- the loops call: loop after loop, none after the last; a count above 255; a later cell; cell 1 of 1; a refused grid comes first
     ∷ loop cell six twoLoopCounts 0 0 (result (0 ∷ 3 ∷ 1 ∷ 3 ∷ 0 ∷ [])) ∷ loop cell six twoLoopCounts 0 1 (result (1 ∷ 2 ∷ 0 ∷ 0 ∷ []))
     ∷ loop cell six twoLoopCounts 0 2 no ∷ loop cell six twoLoopCounts 0 18446744073709551615 no
+    ∷ loop cell six (300 ∷ 0 ∷ 0 ∷ 0 ∷ 0 ∷ 0 ∷ []) 0 149 (result (298 ∷ 2 ∷ 0 ∷ 0 ∷ [])) ∷ loop cell six (300 ∷ 0 ∷ 0 ∷ 0 ∷ 0 ∷ 0 ∷ []) 0 150 no
     ∷ loop twoCells twoEdges twoCounts 1 0 (result (2 ∷ 3 ∷ 1 ∷ 1 ∷ 4 ∷ [])) ∷ loop twoCells twoEdges twoCounts 1 1 no
     ∷ loop twoCells twoEdges twoCounts 18446744073709551615 0 (refusal 11 18446744073709551615)
     ∷ loop cell six cornerCounts 1 0 (refusal 11 1)
-    ∷ loop cell [] cornerCounts 1 0 (refusal 2 0)
+    ∷ loop cell [] cornerCounts 1 0 (refusal 2 0) ∷ loop cell six (0 ∷ 0 ∷ 0 ∷ 0 ∷ 0 ∷ 4096 ∷ []) 1 0 (refusal 18 5)
     ∷ []
 
 -- every example is as the definitions say, part by part

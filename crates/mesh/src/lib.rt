@@ -27,7 +27,7 @@ pub enum Looped {
 // The mesh of a grid from its tables: row 12, or the words.
 fn draw(
     cells: &[u16],
-    counts: &[u8],
+    counts: &[u16],
     names: &[u16; MOST_SLOTS],
     sides: &[u16; MOST_EDGES],
     starts: &[u32; MOST_EDGES],
@@ -43,7 +43,7 @@ fn draw(
 }
 
 // The mesh call. Keeps 88 KB on the stack for the grid's tables, besides what `grid::open` keeps.
-pub fn mesh(cells: &[u16], edges: &[u16], counts: &[u8], area: &mut [u32]) -> Meshed
+pub fn mesh(cells: &[u16], edges: &[u16], counts: &[u16], area: &mut [u32]) -> Meshed
     ensures { λ r. ⌜ Done (gridOf (now (cells .entry)) (now (edges .entry)) (now (counts .entry))) (now (area .entry)) (now (area .exit)) (meshNumbers r) ⌝ }
 {
     let mut names = [0u16; MOST_SLOTS];
@@ -58,7 +58,7 @@ pub fn mesh(cells: &[u16], edges: &[u16], counts: &[u8], area: &mut [u32]) -> Me
 // Loop k of cell c of a grid from its tables: row 11, or what the cell tells.
 fn loop_of(
     cells: &[u16],
-    counts: &[u8],
+    counts: &[u16],
     names: &[u16; MOST_SLOTS],
     sides: &[u16; MOST_EDGES],
     starts: &[u32; MOST_EDGES],
@@ -75,7 +75,7 @@ fn loop_of(
 }
 
 // The loops call: loop k of cell c. Keeps 88 KB on the stack for the grid's tables, besides what `grid::open` keeps.
-pub fn loops(cells: &[u16], edges: &[u16], counts: &[u8], c: usize, k: usize) -> Looped
+pub fn loops(cells: &[u16], edges: &[u16], counts: &[u16], c: usize, k: usize) -> Looped
     ensures { λ r. ⌜ loopsNumbers r ≡ loopsAnswer (gridOf (now (cells .entry)) (now (edges .entry)) (now (counts .entry))) c k ⌝ }
 {
     let mut names = [0u16; MOST_SLOTS];

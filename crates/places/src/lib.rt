@@ -40,7 +40,7 @@ fn is_proper(s: f64) -> bool
 fn place_all(
     cells: &[u16],
     edges: &[u16],
-    counts: &[u8],
+    counts: &[u16],
     names: &[u16; MOST_SLOTS],
     sides: &[u16; MOST_EDGES],
     starts: &[u32; MOST_EDGES],
@@ -66,7 +66,7 @@ fn place_all(
 pub fn places(
     cells: &[u16],
     edges: &[u16],
-    counts: &[u8],
+    counts: &[u16],
     nodes: &[f64],
     fractions: &[f64],
     area: &mut [f64],

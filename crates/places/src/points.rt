@@ -8,7 +8,6 @@ ghost use Rattle.grid.specs.Grid.{crossings};
 ghost use Rattle.place.specs.Place.{coordinates, allNumbers};
 ghost use Rattle.places.specs.Points.{crossingPlace};
 ghost use Rattle.places.specs.Work.{onEdge, Fitting, Placeable};
-use super::rows::size;
 use super::rows::wide;
 use place::Place;
 
@@ -29,7 +28,7 @@ fn place_edge(u: Place, v: Place, fractions: &[f64], area: &mut [f64], n: usize,
 // Writes the places of all crossings.
 pub(crate) fn place_crossings(
     edges: &[u16],
-    counts: &[u8],
+    counts: &[u16],
     nodes: &[f64],
     fractions: &[f64],
     area: &mut [f64],
@@ -42,7 +41,7 @@ pub(crate) fn place_crossings(
     while e < counts.len() {
         let u = place::load(nodes, wide(edges[2 * e]));
         let v = place::load(nodes, wide(edges[2 * e + 1]));
-        let n = size(counts[e]);
+        let n = wide(counts[e]);
         place_edge(u, v, fractions, area, n, g);
         g += n;
         e += 1;

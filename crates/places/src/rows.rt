@@ -13,16 +13,9 @@ use super::is_proper;
 use super::is_within;
 use grid::HIGHEST_NODE;
 
-// A node's number.
+// A node's number, or the count of an edge.
 pub(crate) fn wide(x: u16) -> usize
     ensures { λ r. ⌜ r ≡ x ⌝ }
-{
-    x as usize
-}
-
-// The count of an edge.
-pub(crate) fn size(x: u8) -> usize
-    ensures { λ r. ⌜ (r ≡ x) × (r < 256) ⌝ }
 {
     x as usize
 }
@@ -113,14 +106,14 @@ fn bad_on_edge(fractions: &[f64], g: usize, n: usize) -> usize
 }
 
 // The lowest crossing with a faulty fraction; the number of crossings where there is none.
-pub(crate) fn row_17(counts: &[u8], fractions: &[f64]) -> usize
+pub(crate) fn row_17(counts: &[u16], fractions: &[f64]) -> usize
     requires { ⌜ length (now fractions) ≡ crossings (now counts) ⌝ }
     ensures { λ r. ⌜ r ≡ first (badFraction (now (counts .entry)) (now (fractions .entry))) (crossings (now (counts .entry))) ⌝ }
 {
     let mut g = 0;
     let mut e = 0;
     while e < counts.len() {
-        let n = size(counts[e]);
+        let n = wide(counts[e]);
         let i = bad_on_edge(fractions, g, n);
         if i < n {
             return g + i;
@@ -134,7 +127,7 @@ pub(crate) fn row_17(counts: &[u8], fractions: &[f64]) -> usize
 // Rows 15, 16 and 17, for n crossings, so many points, and an area of `room` numbers. Keeps 4 KB on the stack.
 pub(crate) fn judge(
     cells: &[u16],
-    counts: &[u8],
+    counts: &[u16],
     nodes: &[f64],
     fractions: &[f64],
     n: usize,

@@ -3,24 +3,30 @@
 use reference::bundle;
 use reference::gen::{Rng, Sample};
 
-/// A record of each kind.
+/// A record of each kind, and one of kind 4 with a count that kind 2 can hold.
 pub const CELL: [u8; 12] = [10, 0, 1, 0, 0, 0, 1, 0, 2, 0, 3, 1];
 pub const EDGE: [u8; 9] = [7, 0, 2, 0, 5, 0, 255, 255, 9];
+pub const WIDE: [u8; 10] = [8, 0, 4, 0, 5, 0, 255, 255, 9, 1];
 pub const END: [u8; 4] = [2, 0, 3, 0];
+pub const NARROW: [u8; 10] = [8, 0, 4, 0, 5, 0, 255, 255, 255, 0];
 
-pub fn small_bundles() -> [Vec<u8>; 5] {
+pub fn small_bundles() -> [Vec<u8>; 8] {
     [
         END.to_vec(),
         [&CELL[..], &END].concat(),
         [&EDGE[..], &END].concat(),
         [&CELL[..], &EDGE, &END].concat(),
         [&CELL[..], &CELL, &EDGE, &EDGE, &END].concat(),
+        [&WIDE[..], &END].concat(),
+        [&CELL[..], &EDGE, &WIDE, &END].concat(),
+        [&CELL[..], &WIDE, &EDGE, &WIDE, &END].concat(),
     ]
 }
 
 /// The bytes of the bundle of these lists.
 pub fn size(lists: &Sample) -> usize {
-    3 * lists.cells.len() + 9 * lists.counts.len() + 4
+    let wide = lists.counts.iter().filter(|&&count| count > 255).count();
+    3 * lists.cells.len() + 9 * lists.counts.len() + wide + 4
 }
 
 /// The bundle of the lists, by the second implementation, or none where they are
@@ -33,25 +39,43 @@ pub fn written(lists: &Sample) -> Option<Vec<u8>> {
     }
 }
 
-/// Any lists with four numbers to a cell and two to a count.
+/// Whether a record of kind 4 stands before the first fault of the records.
+pub fn has_wide(bytes: &[u8]) -> bool {
+    let mut start = 0;
+    while let Ok((kind, next)) = bundle::record(bytes, start) {
+        if kind == bundle::WIDE_EDGE {
+            return true;
+        }
+        start = next;
+    }
+    false
+}
+
+/// Any lists with four numbers to a cell and two to a count; counts have from 1
+/// to 16 bits.
 pub fn random_lists(rng: &mut Rng, most: usize) -> Sample {
     let [cells, edges] = [(); 2].map(|()| rng.between(0, most));
     let mut words = |many| (0..many).map(|_| rng.word() as u16).collect::<Vec<u16>>();
-    Sample {
+    let mut lists = Sample {
         cells: words(4 * cells),
         edges: words(2 * edges),
-        counts: words(edges).into_iter().map(|word| word as u8).collect(),
+        counts: words(edges),
+    };
+    for count in &mut lists.counts {
+        *count >>= rng.below(16);
     }
+    lists
 }
 
 /// Changes the bytes at one place.
 pub fn damage(rng: &mut Rng, bytes: &mut Vec<u8>) {
     let at = rng.below(bytes.len() + 1);
-    match rng.below(5) {
+    match rng.below(6) {
         0 => bytes.insert(at, rng.below(12) as u8),
         1 => bytes.truncate(at),
         2 => drop(bytes.splice(at..at, END)),
-        3 if at < bytes.len() => bytes[at] = rng.word() as u8,
+        3 => drop(bytes.splice(at..at, [WIDE, NARROW][rng.below(2)])),
+        4 if at < bytes.len() => bytes[at] = rng.word() as u8,
         _ => {
             let until = rng.between(at, bytes.len());
             bytes.drain(at..until);

@@ -5,9 +5,9 @@
 mod c {
     extern "C" {
         pub fn citternblaze_face(
-            ab: u8,
-            ac: u8,
-            bc: u8,
+            ab: u16,
+            ac: u16,
+            bc: u16,
             edge: u32,
             index: u32,
             answer: *mut u64,
@@ -19,7 +19,7 @@ mod c {
             cells_len: usize,
             edges: *const u16,
             edges_len: usize,
-            counts: *const u8,
+            counts: *const u16,
             counts_len: usize,
             answer: *mut u64,
             answer_len: usize,
@@ -30,7 +30,7 @@ mod c {
             cells_len: usize,
             edges: *const u16,
             edges_len: usize,
-            counts: *const u8,
+            counts: *const u16,
             counts_len: usize,
             area: *mut u32,
             area_len: usize,
@@ -43,7 +43,7 @@ mod c {
             cells_len: usize,
             edges: *const u16,
             edges_len: usize,
-            counts: *const u8,
+            counts: *const u16,
             counts_len: usize,
             cell: usize,
             index: usize,
@@ -56,7 +56,7 @@ mod c {
             cells_len: usize,
             edges: *const u16,
             edges_len: usize,
-            counts: *const u8,
+            counts: *const u16,
             counts_len: usize,
             nodes: *const f64,
             nodes_len: usize,
@@ -91,7 +91,7 @@ mod c {
             nodes_len: usize,
             ends: *mut u16,
             ends_len: usize,
-            counts: *mut u8,
+            counts: *mut u16,
             counts_len: usize,
             answer: *mut u64,
             answer_len: usize,
@@ -102,7 +102,7 @@ mod c {
             nodes_len: usize,
             ends: *const u16,
             ends_len: usize,
-            counts: *const u8,
+            counts: *const u16,
             counts_len: usize,
             area: *mut u8,
             area_len: usize,
@@ -122,12 +122,12 @@ mod c {
 // one slice, which is lent for the length of the call. What is lent for writing
 // is lent alone, since the slices are.
 
-pub fn face(counts: [u8; 3], edge: u32, index: u32, answer: &mut [u64]) -> usize {
+pub fn face(counts: [u16; 3], edge: u32, index: u32, answer: &mut [u64]) -> usize {
     let [ab, ac, bc] = counts;
     unsafe { c::citternblaze_face(ab, ac, bc, edge, index, answer.as_mut_ptr(), answer.len()) }
 }
 
-pub fn check(cells: &[u16], edges: &[u16], counts: &[u8], answer: &mut [u64]) -> usize {
+pub fn check(cells: &[u16], edges: &[u16], counts: &[u16], answer: &mut [u64]) -> usize {
     unsafe {
         c::citternblaze_check(
             cells.as_ptr(),
@@ -145,7 +145,7 @@ pub fn check(cells: &[u16], edges: &[u16], counts: &[u8], answer: &mut [u64]) ->
 pub fn mesh(
     cells: &[u16],
     edges: &[u16],
-    counts: &[u8],
+    counts: &[u16],
     area: &mut [u32],
     answer: &mut [u64],
 ) -> usize {
@@ -168,7 +168,7 @@ pub fn mesh(
 pub fn loops(
     cells: &[u16],
     edges: &[u16],
-    counts: &[u8],
+    counts: &[u16],
     [cell, index]: [usize; 2],
     answer: &mut [u64],
 ) -> usize {
@@ -190,7 +190,7 @@ pub fn loops(
 
 /// The area has the bits of its numbers, so that each of them is told apart.
 pub fn places(
-    (cells, edges, counts): (&[u16], &[u16], &[u8]),
+    (cells, edges, counts): (&[u16], &[u16], &[u16]),
     nodes: &[f64],
     fractions: &[f64],
     area: &mut [u64],
@@ -230,7 +230,7 @@ pub fn bundle_read(
     bytes: &[u8],
     nodes: &mut [u16],
     ends: &mut [u16],
-    counts: &mut [u8],
+    counts: &mut [u16],
     answer: &mut [u64],
 ) -> usize {
     unsafe {
@@ -252,7 +252,7 @@ pub fn bundle_read(
 pub fn bundle_write(
     nodes: &[u16],
     ends: &[u16],
-    counts: &[u8],
+    counts: &[u16],
     area: &mut [u8],
     answer: &mut [u64],
 ) -> usize {

@@ -20,7 +20,7 @@ fn numbers<T>(answer: Result<T, Refusal>, values: impl FnOnce(T) -> Vec<u64>) ->
 }
 
 /// 0 and the partner's edge and index; 1 unjoined; 2 no such crossing.
-pub fn face(counts: [u8; 3], edge: u32, index: u32) -> Vec<u64> {
+pub fn face(counts: [u16; 3], edge: u32, index: u32) -> Vec<u64> {
     match face::join(counts.map(u32::from), edge, index) {
         Join::Joined { edge, index } => vec![0, u64::from(edge), u64::from(index)],
         Join::Unjoined => vec![1],
@@ -100,7 +100,7 @@ pub fn bundle_read(
     bytes: &[u8],
     nodes: &mut [u16],
     ends: &mut [u16],
-    counts: &mut [u8],
+    counts: &mut [u16],
 ) -> Vec<u64> {
     let answer = bundle::read(bytes, nodes, ends, counts);
     numbers(answer, |Sizes { cells, edges }| {
@@ -109,7 +109,7 @@ pub fn bundle_read(
 }
 
 /// 0 and the number of bytes written, or a refusal; fills the area.
-pub fn bundle_write(nodes: &[u16], ends: &[u16], counts: &[u8], area: &mut [u8]) -> Vec<u64> {
+pub fn bundle_write(nodes: &[u16], ends: &[u16], counts: &[u16], area: &mut [u8]) -> Vec<u64> {
     let answer = bundle::write(nodes, ends, counts, area);
     numbers(answer, |bytes| vec![bytes as u64])
 }

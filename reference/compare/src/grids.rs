@@ -4,10 +4,21 @@ use reference::gen::{
     box_of_five, box_of_six, box_ring, broken, closed_fan, cone, gathered, linked, open_fan,
     random_shape, ring, separate, sphere, Rng, Sample,
 };
-use reference::grid::MAX_CELLS;
+use reference::grid::{MAX_CELLS, MAX_COUNT, ROWS};
 
-/// The rows of refusals of the grid check.
-pub const ROWS: u8 = 10;
+/// How many calls were answered with each number: 0, or that of a refusal.
+pub type Numbers = [u64; 19];
+
+/// How many were refused by each row of the grid check, in the order in which the
+/// rows run: 1 to 6, 18, 7 to 10.
+pub fn by_rows(numbers: &Numbers) -> [u64; ROWS.len()] {
+    ROWS.map(|row| numbers[usize::from(row)])
+}
+
+/// Whether some were accepted, and some refused by each row of the grid check.
+pub fn every_row(numbers: &Numbers) -> bool {
+    numbers[0] > 0 && by_rows(numbers).iter().all(|&refused| refused > 0)
+}
 
 /// The lowest number of crossings of a full grid, and the first one that a
 /// refusal could name.
@@ -60,20 +71,42 @@ fn large_shape(rng: &mut Rng) -> Sample {
     }
 }
 
-/// Counts of a random kind: few, some, any, even on each face, or 0 on the
-/// outer edges.
+/// Counts of a random kind: few, some, any of a byte, even on each face, 0 on the
+/// outer edges, or, less often, large ones.
 pub fn with_random_counts(rng: &mut Rng, shape: Sample) -> Sample {
-    match rng.below(6) {
-        0 => shape.with_counts(rng, 0, 3),
-        1 => shape.with_counts(rng, 0, 12),
-        2 => shape.with_counts(rng, 0, 255),
-        3 => shape.with_even_counts(rng, 3),
-        4 => shape.with_closed_counts(rng, 3),
-        _ => {
+    match rng.below(25) {
+        0..=3 => shape.with_counts(rng, 0, 3),
+        4..=7 => shape.with_counts(rng, 0, 12),
+        8..=11 => shape.with_counts(rng, 0, 255),
+        12..=15 => shape.with_even_counts(rng, 3),
+        16..=19 => shape.with_closed_counts(rng, 3),
+        20..=23 => {
             let pairs = if shape.counts.len() < 100 { 100 } else { 10 };
             shape.with_closed_counts(rng, pairs)
         }
+        _ => with_large_counts(rng, shape),
     }
+}
+
+/// A count above 255, or about that, which an edge may have.
+fn large_count(rng: &mut Rng) -> u16 {
+    let most = usize::from(MAX_COUNT);
+    let count = match rng.below(8) {
+        0 => most,
+        1 => rng.between(250, 260),
+        _ => rng.between(256, most),
+    };
+    count as u16
+}
+
+/// Few crossings on most edges, and large counts on some.
+fn with_large_counts(rng: &mut Rng, shape: Sample) -> Sample {
+    let mut grid = shape.with_counts(rng, 0, 3);
+    for _ in 0..rng.between(1, 12) {
+        let edge = rng.below(grid.counts.len());
+        grid.counts[edge] = large_count(rng);
+    }
+    grid
 }
 
 /// Counts with this sum, or as near to it as they come, some of them moved
@@ -82,12 +115,12 @@ pub fn with_crossings(rng: &mut Rng, mut grid: Sample, sum: usize) -> Sample {
     let edges = grid.counts.len();
     for (edge, count) in grid.counts.iter_mut().enumerate() {
         let share = sum / edges + usize::from(edge < sum % edges);
-        *count = share.min(255) as u8;
+        *count = share.min(usize::from(MAX_COUNT)) as u16;
     }
     for _ in 0..edges {
         let [from, to] = [rng.below(edges), rng.below(edges)];
-        let most = grid.counts[from].min(255 - grid.counts[to]);
-        let moved = rng.between(0, usize::from(most)) as u8;
+        let most = grid.counts[from].min(MAX_COUNT - grid.counts[to]);
+        let moved = rng.between(0, usize::from(most)) as u16;
         grid.counts[from] -= moved;
         grid.counts[to] += moved;
     }
@@ -96,10 +129,11 @@ pub fn with_crossings(rng: &mut Rng, mut grid: Sample, sum: usize) -> Sample {
 
 /// A grid with about as many crossings as one may have, or a few too many.
 fn full_grid(rng: &mut Rng) -> Sample {
-    let shape = match rng.below(4) {
+    let shape = match rng.below(5) {
         0 => box_of_six([3, 4, 4]),
         1 => closed_fan(rng.between(200, 900) as u16),
-        2 => separate(rng.between(44, 400) as u16),
+        2 => separate(rng.between(3, 43) as u16),
+        3 => separate(rng.between(44, 400) as u16),
         _ => large_shape(rng),
     };
     let sum = match rng.below(4) {
@@ -116,6 +150,11 @@ pub fn random_grid(rng: &mut Rng) -> Sample {
         1 | 2 => {
             let shape = large_shape(rng);
             with_random_counts(rng, shape)
+        }
+        3 => {
+            let shape = random_shape(rng);
+            let grid = with_large_counts(rng, shape);
+            broken(rng, &grid, 18).unwrap_or(grid)
         }
         _ => {
             let shape = random_shape(rng);
@@ -152,9 +191,10 @@ pub fn closed_grid(rng: &mut Rng) -> Sample {
         0 => large_shape(rng),
         _ => shape_with_inside(rng),
     };
-    let pairs = match (shape.counts.len(), rng.below(16)) {
-        (0..=60, 0) => 127,
-        (_, 1) => 12,
+    let pairs = match (shape.counts.len(), rng.below(160)) {
+        (edges @ 1..=60, 0) => (60_000 / edges).min(2_047),
+        (1..=60, 1..=9) => 127,
+        (_, 10..=19) => 12,
         _ => rng.between(0, 2),
     };
     let grid = shape.with_closed_counts(rng, pairs);
@@ -166,7 +206,7 @@ pub fn closed_grid(rng: &mut Rng) -> Sample {
 }
 
 /// One cell with random nodes and counts up to `most`.
-pub fn single_cell(rng: &mut Rng, most: u8) -> Sample {
+pub fn single_cell(rng: &mut Rng, most: u16) -> Sample {
     let top = rng.between(3, 4_095);
     let mut nodes: Vec<u16> = Vec::new();
     while nodes.len() < 4 {
@@ -178,16 +218,32 @@ pub fn single_cell(rng: &mut Rng, most: u8) -> Sample {
     Sample::from_cells([[nodes[0], nodes[1], nodes[2], nodes[3]]]).with_counts(rng, 0, most)
 }
 
+/// One cell with even sums and no long edge on its faces: some triangles at each
+/// node, and between them films that go round the cell, the longest of them
+/// through some thousand crossings.
+pub fn winding_cell(rng: &mut Rng) -> Sample {
+    let corners = [(); 4].map(|()| rng.between(0, 500));
+    let [x, y] = [(); 2].map(|()| rng.between(0, 1_500));
+    // of each pair of opposite edges: 01 and 23, 02 and 13, 03 and 12
+    let mut left = [x + y, x, y];
+    rng.shuffle(&mut left);
+    let ends = [[0, 1], [0, 2], [0, 3], [1, 2], [1, 3], [2, 3]];
+    let mut grid = Sample::from_cells([[0, 1, 2, 3]]);
+    for (edge, [u, v]) in ends.into_iter().enumerate() {
+        let pair = edge.min(5 - edge);
+        grid.counts[edge] = (left[pair] + corners[u] + corners[v]) as u16;
+    }
+    grid
+}
+
 /// The grid with faults of one to three random rows.
 pub fn with_faults(rng: &mut Rng, mut grid: Sample) -> Sample {
     let faults = [1, 1, 2, 3][rng.below(4)];
     // later rows first: a fault of an early row can leave no room for them
-    let mut rows: Vec<u8> = (0..faults)
-        .map(|_| rng.between(1, usize::from(ROWS)) as u8)
-        .collect();
+    let mut rows: Vec<usize> = (0..faults).map(|_| rng.below(ROWS.len())).collect();
     rows.sort_unstable();
     for row in rows.into_iter().rev() {
-        if let Some(faulty) = broken(rng, &grid, row) {
+        if let Some(faulty) = broken(rng, &grid, ROWS[row]) {
             grid = faulty;
         }
     }

@@ -1,5 +1,7 @@
 //! Random places of nodes and fractions of crossings, whole and spoiled.
 
+use std::collections::BTreeSet;
+
 use reference::gen::{Rng, Sample};
 use reference::places::FURTHEST;
 
@@ -71,12 +73,22 @@ fn coordinate(rng: &mut Rng, kind: Kind) -> f64 {
     }
 }
 
+/// How many fractions in 1,024ths an edge can have.
+const PARTS: u16 = 1_023;
+
+impl Kind {
+    /// Whether a grid with these counts has a placing of this kind.
+    pub fn fits(self, counts: &[u16]) -> bool {
+        self != Kind::Whole || counts.iter().all(|&count| count <= PARTS)
+    }
+}
+
 /// The fractions of one edge, increasing.
-fn fractions_of_edge(rng: &mut Rng, kind: Kind, count: u8) -> Vec<f64> {
+fn fractions_of_edge(rng: &mut Rng, kind: Kind, count: u16) -> Vec<f64> {
     let many = usize::from(count);
     match kind {
         Kind::Whole => {
-            let mut parts: Vec<u16> = (1..1_024).collect();
+            let mut parts: Vec<u16> = (1..=PARTS).collect();
             rng.shuffle(&mut parts);
             parts.truncate(many);
             parts.sort_unstable();
@@ -86,15 +98,15 @@ fn fractions_of_edge(rng: &mut Rng, kind: Kind, count: u8) -> Vec<f64> {
                 .collect()
         }
         Kind::Any => {
-            let mut found: Vec<f64> = Vec::new();
+            // the order of positive numbers is that of their bits
+            let mut found: BTreeSet<u64> = BTreeSet::new();
             while found.len() < many {
                 let fraction = unit(rng);
-                if fraction > 0.0 && !found.contains(&fraction) {
-                    found.push(fraction);
+                if fraction > 0.0 {
+                    found.insert(fraction.to_bits());
                 }
             }
-            found.sort_unstable_by(f64::total_cmp);
-            found
+            found.into_iter().map(f64::from_bits).collect()
         }
         Kind::Edge => {
             let first = match rng.below(3) {
@@ -109,8 +121,8 @@ fn fractions_of_edge(rng: &mut Rng, kind: Kind, count: u8) -> Vec<f64> {
     }
 }
 
-/// Numbers for the nodes and crossings of an accepted grid. Nodes that no cell
-/// has get any bits.
+/// Numbers for the nodes and crossings of an accepted grid that the kind fits.
+/// Nodes that no cell has get any bits.
 pub fn placing(rng: &mut Rng, grid: Sample, kind: Kind) -> Placing {
     let highest = grid.cells.iter().max().map_or(0, |&node| usize::from(node));
     let mut used = vec![false; highest + 1];

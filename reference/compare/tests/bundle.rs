@@ -1,13 +1,16 @@
 //! Records, the bundle reader and the writer against the second implementation.
 
-use compare::bundles::{random_bytes, random_lists, size, small_bundles, CELL, EDGE, END};
+use compare::bundles::{
+    has_wide, random_bytes, random_lists, size, small_bundles, CELL, EDGE, END, NARROW, WIDE,
+};
 use compare::lent::{after, answers, answers_in_all, Lent, ANSWER_WORDS};
 use compare::{calls, expected, seed, setting};
 use reference::gen::{random_shape, Rng, Sample};
 
 /// Values before a call and guards; no two are alike.
 const NODE: u16 = 0xa5a4;
-const COUNT: u8 = 0xa7;
+const COUNT: u16 = 0xa7a6;
+const BYTE: u8 = 0xa9;
 const GUARD: u16 = 0xc3c2;
 const BYTE_GUARD: u8 = 0xc5;
 
@@ -25,7 +28,7 @@ fn compare_read(bytes: &[u8], [nodes, ends, counts]: Room) -> bool {
     let right = answers(&numbers, |answer| {
         let mut lent_nodes = Lent::new(&before.0, GUARD);
         let mut lent_ends = Lent::new(&before.1, GUARD);
-        let mut lent_counts = Lent::new(&before.2, BYTE_GUARD);
+        let mut lent_counts = Lent::new(&before.2, GUARD);
         let many = calls::bundle_read(
             bytes,
             lent_nodes.area(),
@@ -35,7 +38,7 @@ fn compare_read(bytes: &[u8], [nodes, ends, counts]: Room) -> bool {
         );
         assert!(lent_nodes.is(&after.0, GUARD), "{bytes:?}");
         assert!(lent_ends.is(&after.1, GUARD), "{bytes:?}");
-        assert!(lent_counts.is(&after.2, BYTE_GUARD), "{bytes:?}");
+        assert!(lent_counts.is(&after.2, GUARD), "{bytes:?}");
         many
     });
     assert!(right, "not answered with {numbers:?} alone: {bytes:?}");
@@ -76,7 +79,7 @@ fn compare_write(lists: &Sample, area: usize) -> Vec<u8> {
         edges,
         counts,
     } = lists;
-    let before = vec![COUNT; area];
+    let before = vec![BYTE; area];
     let mut after = before.clone();
     let numbers = expected::bundle_write(cells, edges, counts, &mut after);
     assert!(numbers[0] == 0 || after == before);
@@ -130,8 +133,16 @@ fn every_changed_byte() {
 
 #[test]
 fn records_in_any_order() {
-    let records: [&[u8]; 5] = [&CELL, &EDGE, &END, &[2, 0, 4, 0], &[4, 0, 3, 0, 1, 1]];
-    let most = 6;
+    let records: [&[u8]; 7] = [
+        &CELL,
+        &EDGE,
+        &WIDE,
+        &END,
+        &NARROW,
+        &[2, 0, 4, 0],
+        &[4, 0, 3, 0, 1, 1],
+    ];
+    let most = 5;
     for many in 0..=most {
         for mut order in 0..records.len().pow(many) {
             let mut bytes = Vec::new();
@@ -148,17 +159,20 @@ fn records_in_any_order() {
 #[test]
 fn random_bytes_and_damage() {
     let mut rng = Rng::new(seed("bundle"));
-    let [mut taken, mut refused] = [0, 0];
+    let [mut taken, mut wide, mut refused] = [0, 0, 0];
     for _ in 0..setting("CITTERNBLAZE_BUNDLES", 20_000) {
         let bytes = random_bytes(&mut rng, bundle_of);
         if compare_all(&bytes) {
             taken += 1;
+            wide += u32::from(has_wide(&bytes));
         } else {
             refused += 1;
         }
     }
-    println!("bundles, random: {taken} taken, {refused} refused");
-    assert!(taken > 0 && refused > 0);
+    println!(
+        "bundles, random: {taken} taken, {wide} of them with a record of kind 4; {refused} refused"
+    );
+    assert!(taken > wide && wide > 0 && refused > 0);
 }
 
 #[test]
@@ -183,7 +197,7 @@ fn lists_of_any_length_are_written() {
                 let lists = Sample {
                     cells: (0..cells).map(|node| 0x0201 * node).collect(),
                     edges: (0..edges).map(|node| 0xfefd - node).collect(),
-                    counts: (0..counts).map(|count| 0x7f + count).collect(),
+                    counts: (0..counts).map(|count| 0xfe + count).collect(),
                 };
                 for area in 0..=size(&lists) + 3 {
                     compare_write(&lists, area);
@@ -198,7 +212,7 @@ fn grids_go_there_and_back() {
     let mut rng = Rng::new(seed("bundle"));
     for _ in 0..1_000 {
         let lists = match rng.below(2) {
-            0 => random_shape(&mut rng).with_counts(&mut rng, 0, 255),
+            0 => random_shape(&mut rng).with_counts(&mut rng, 0, 511),
             _ => random_lists(&mut rng, 300),
         };
         let mut area = vec![0; size(&lists)];
@@ -232,13 +246,15 @@ fn grids_go_there_and_back() {
 
 #[test]
 fn any_answer_area() {
-    let bundle = [&CELL[..], &EDGE, &END].concat();
+    let bundle = [&CELL[..], &EDGE, &WIDE, &END, &NARROW].concat();
     for (start, record, body) in [
         (0, vec![0, 1, 12], [4, 8]),
         (12, vec![0, 2, 21], [16, 5]),
-        (21, vec![0, 3, 25], [25, 0]),
+        (21, vec![0, 4, 31], [25, 6]),
+        (31, vec![0, 3, 35], [35, 0]),
         (1, vec![13, 1], [0, 0]),
-        (25, vec![13, 25], [0, 0]),
+        (35, vec![13, 35], [0, 0]),
+        (45, vec![13, 45], [0, 0]),
     ] {
         let call = |answer: &mut [u64]| calls::record(&bundle, start, answer);
         assert!(answers_in_all(&record, call));
@@ -246,13 +262,15 @@ fn any_answer_area() {
         assert!(answers_in_all(&body, call));
     }
     let reads = [
-        (25, 4, vec![0, 1, 1]),
-        (24, 4, vec![13, 21]),
-        (25, 3, vec![14, 0]),
+        (35, 4, vec![0, 1, 2]),
+        (34, 4, vec![13, 31]),
+        (30, 4, vec![13, 21]),
+        (45, 4, vec![13, 35]),
+        (35, 3, vec![14, 0]),
     ];
     for (len, nodes, numbers) in reads {
         let bytes = &bundle[..len];
-        let before = (vec![NODE; nodes], [NODE + 1; 2], [COUNT]);
+        let before = (vec![NODE; nodes], [NODE + 1; 4], [COUNT; 2]);
         let mut read = before.clone();
         expected::bundle_read(bytes, &mut read.0, &mut read.1, &mut read.2);
         let call = |answer: &mut [u64]| {
@@ -265,9 +283,15 @@ fn any_answer_area() {
         };
         assert!(answers_in_all(&numbers, call));
     }
-    for (counts, area, numbers) in [(1, 25, [0, 25]), (2, 40, [13, 0]), (1, 24, [14, 25])] {
-        let before = vec![COUNT; area];
-        let counts = vec![0; counts];
+    for (counts, area, numbers) in [
+        (vec![255], 25, [0, 25]),
+        (vec![256], 26, [0, 26]),
+        (vec![65_535], 26, [0, 26]),
+        (vec![0; 2], 40, [13, 0]),
+        (vec![255], 24, [14, 25]),
+        (vec![256], 25, [14, 26]),
+    ] {
+        let before = vec![BYTE; area];
         let mut written = before.clone();
         expected::bundle_write(&[0; 4], &[0; 2], &counts, &mut written);
         let call = |answer: &mut [u64]| {

@@ -2,11 +2,14 @@
 
 use std::thread;
 
-use compare::grids::{random_grid, shapes, with_crossings, with_faults, with_random_counts, ROWS};
+use compare::grids::{
+    by_rows, every_row, random_grid, shapes, with_crossings, with_faults, with_random_counts,
+    Numbers,
+};
 use compare::lent::{answers, answers_in_all, ANSWER_WORDS};
 use compare::{calls, expected, seed, setting};
 use reference::gen::{broken, closed_fan, open_fan, ring, separate, Rng, Sample};
-use reference::grid::MAX_CELLS;
+use reference::grid::{MAX_CELLS, ROWS};
 
 /// What the compared grids were.
 #[derive(Default)]
@@ -15,7 +18,8 @@ struct Tally {
     hundred_cells: u64,
     over_1500_cells: u64,
     over_60000_crossings: u64,
-    refused: [u64; ROWS as usize + 1],
+    over_255: u64,
+    refused: Numbers,
 }
 
 impl Tally {
@@ -27,23 +31,26 @@ impl Tally {
             self.hundred_cells += u64::from(cells >= 100);
             self.over_1500_cells += u64::from(cells > 1_500);
             self.over_60000_crossings += u64::from(numbers[1] > 60_000);
+            self.over_255 += u64::from(grid.counts.iter().any(|&count| count > 255));
         }
     }
 
     fn report(&self, what: &str) {
         println!(
             "{what}: {} accepted, of these {} of 100 cells or more, {} of over 1,500, \
-             {} of over 60,000 crossings; refused by rows 1 to 10: {:?}",
+             {} of over 60,000 crossings, {} with a count over 255; refused by rows 1 to 6, 18, \
+             7 to 10: {:?}",
             self.accepted,
             self.hundred_cells,
             self.over_1500_cells,
             self.over_60000_crossings,
-            &self.refused[1..]
+            self.over_255,
+            by_rows(&self.refused)
         );
     }
 }
 
-fn grid(cells: &[u16], edges: &[u16], counts: &[u8]) -> Sample {
+fn grid(cells: &[u16], edges: &[u16], counts: &[u16]) -> Sample {
     Sample {
         cells: cells.to_vec(),
         edges: edges.to_vec(),
@@ -102,6 +109,7 @@ fn examples_of_the_table() {
     added.counts.push(0);
     let cases = [
         ([0, 6], grid(&CELL, &CELL_EDGES, &[1; 6])),
+        ([0, 24_570], grid(&CELL, &CELL_EDGES, &[4_095; 6])),
         ([1, 0], grid(&[0, 1, 2, 3, 4], &CELL_EDGES, &[1; 6])),
         ([1, 0], grid(&[], &[], &[])),
         ([2, 0], grid(&CELL, &[0, 1, 0], &[1])),
@@ -110,6 +118,15 @@ fn examples_of_the_table() {
         ([4, 1], of_cells(&[CELL, CELL])),
         ([5, 2], of_cells(&[CELL, [0, 1, 2, 4], [0, 1, 2, 5]])),
         ([6, 0], grid(&CELL, &[1, 1], &[1])),
+        ([6, 1], grid(&CELL, &[0, 2, 0, 1], &[4_096, 1])),
+        (
+            [18, 1],
+            grid(&CELL, &CELL_EDGES, &[1, 4_096, 1, 1, 1, 65_535]),
+        ),
+        (
+            [18, 4],
+            grid(&CELL, &CELL_EDGES[..10], &[1, 1, 1, 1, 4_096]),
+        ),
         ([7, 0], grid(&CELL, &CELL_EDGES[..10], &[1; 5])),
         ([8, 6], added),
         ([9, 0], of_cells(&[CELL, [0, 1, 4, 5]])),
@@ -188,6 +205,11 @@ fn edges_by_the_hundred_thousand() {
     let mut repeated = edges.clone();
     repeated[MANY..].copy_from_slice(&edges[..MANY]);
     compare_with([6, MANY as u64 / 2], &cell(&repeated, MANY));
+    let mut large = cell(&edges, MANY);
+    for (count, numbers) in [(4_095, [8, 3]), (4_096, [18, MANY as u64 - 1])] {
+        large.counts[MANY - 1] = count;
+        compare_with(numbers, &large);
+    }
     // without 2 3
     compare_with([7, 0], &cell(&many_edges(1_500), 1_500));
     let mut rng = Rng::new(1);
@@ -205,12 +227,14 @@ fn edges_by_the_hundred_thousand() {
 fn sums_of_counts_at_the_limit() {
     let mut rng = Rng::new(2);
     for sum in [0, 1, 255, 65_534, 65_535, 65_536, 65_537, 66_300] {
-        let grid = with_crossings(&mut rng, separate(60), sum);
         let numbers = match sum {
             0..=65_535 => [0, sum as u64],
             _ => [10, 0],
         };
-        compare_with(numbers, &grid);
+        for cells in [60, 3] {
+            let grid = with_crossings(&mut rng, separate(cells), sum);
+            compare_with(numbers, &grid);
+        }
     }
 }
 
@@ -222,7 +246,7 @@ fn each_shape_broken_in_each_way() {
         for _ in 0..4 {
             let whole = with_random_counts(&mut rng, shape.clone()).reordered(&mut rng);
             compare(&whole, &mut tally);
-            for row in 1..=ROWS {
+            for row in ROWS {
                 if let Some(faulty) = broken(&mut rng, &whole, row) {
                     let numbers = expected::check(&faulty);
                     assert_eq!(numbers[0], u64::from(row), "{faulty:?}");
@@ -233,7 +257,7 @@ fn each_shape_broken_in_each_way() {
             }
         }
     }
-    assert!(tally.refused.iter().all(|&grids| grids > 0));
+    assert!(every_row(&tally.refused));
     tally.report("check, each shape broken in each way");
 }
 
@@ -254,7 +278,8 @@ fn random_grids() {
         assert!(tally.hundred_cells >= 1_000);
         assert!(tally.over_1500_cells >= 20);
         assert!(tally.over_60000_crossings >= 10);
-        assert!(tally.refused.iter().all(|&grids| grids > 0));
+        assert!(tally.over_255 >= 100);
+        assert!(every_row(&tally.refused));
     }
 }
 

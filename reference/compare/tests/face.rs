@@ -2,6 +2,7 @@
 
 use compare::lent::{answers, answers_in_all};
 use compare::{calls, expected, seed, setting};
+use reference::face::{corner_counts, INCIDENT};
 use reference::gen::Rng;
 
 /// Edges asked for: the three of a face, and two that no face has.
@@ -9,10 +10,15 @@ const EDGES: u32 = 5;
 
 /// Counts of which some triples are of every rule, at the ends and in the
 /// middle of a byte.
-const SPREAD: [u8; 8] = [0, 1, 2, 3, 127, 128, 254, 255];
+const SPREAD: [u16; 8] = [0, 1, 2, 3, 127, 128, 254, 255];
+
+/// The same of 16 bits, and about the most of an edge of a grid.
+const WIDE: [u16; 13] = [
+    0, 1, 2, 3, 255, 256, 4_094, 4_095, 4_096, 32_767, 32_768, 65_534, 65_535,
+];
 
 /// Compares one face call; `counted` takes which case it was.
-fn compare(counts: [u8; 3], edge: u32, index: u32, counted: &mut [u64; 3]) {
+fn compare(counts: [u16; 3], edge: u32, index: u32, counted: &mut [u64; 3]) {
     let numbers = expected::face(counts, edge, index);
     counted[numbers[0] as usize] += 1;
     assert!(
@@ -22,11 +28,25 @@ fn compare(counts: [u8; 3], edge: u32, index: u32, counted: &mut [u64; 3]) {
 }
 
 /// Compares every edge, and every index of it up to the second beyond its end.
-fn compare_all(counts: [u8; 3], counted: &mut [u64; 3]) {
+fn compare_all(counts: [u16; 3], counted: &mut [u64; 3]) {
     for edge in 0..EDGES {
         let count = counts.get(edge as usize).copied().unwrap_or(0);
         for index in 0..=u32::from(count) + 1 {
             compare(counts, edge, index, counted);
+        }
+    }
+}
+
+/// Compares indices at the ends of each edge, and about where the segments of one
+/// corner end.
+fn compare_some(counts: [u16; 3], counted: &mut [u64; 3]) {
+    let cuts = corner_counts(counts.map(u32::from));
+    for (edge, [low, high]) in INCIDENT.into_iter().enumerate() {
+        let count = u32::from(counts[edge]);
+        for at in [0, cuts[low], count - cuts[high], count] {
+            for index in at.saturating_sub(3)..=at + 3 {
+                compare(counts, edge as u32, index, counted);
+            }
         }
     }
 }
@@ -36,7 +56,7 @@ fn report(what: &str, [joined, unjoined, none]: [u64; 3]) {
     assert!(joined > 0 && unjoined > 0 && none > 0);
 }
 
-fn triples(of: &[u8]) -> impl Iterator<Item = [u8; 3]> + '_ {
+fn triples(of: &[u16]) -> impl Iterator<Item = [u16; 3]> + '_ {
     let pairs = of
         .iter()
         .flat_map(move |&a| of.iter().map(move |&b| (a, b)));
@@ -46,7 +66,7 @@ fn triples(of: &[u8]) -> impl Iterator<Item = [u8; 3]> + '_ {
 #[test]
 fn small_counts() {
     let mut counted = [0; 3];
-    let small: Vec<u8> = (0..=12).collect();
+    let small: Vec<u16> = (0..=12).collect();
     for counts in triples(&small) {
         compare_all(counts, &mut counted);
     }
@@ -63,11 +83,23 @@ fn spread_counts() {
 }
 
 #[test]
+fn wide_counts() {
+    let mut counted = [0; 3];
+    for counts in triples(&WIDE) {
+        compare_some(counts, &mut counted);
+    }
+    report("face, counts of 16 bits", counted);
+}
+
+#[test]
 fn random_counts() {
     let mut rng = Rng::new(seed("face"));
     let mut counted = [0; 3];
-    for _ in 0..setting("CITTERNBLAZE_FACES", 200_000u32) {
-        let counts = [(); 3].map(|()| rng.below(256) as u8);
+    for _ in 0..setting("CITTERNBLAZE_FACES", 100_000u32) {
+        // of about one size, so that each rule comes up
+        let most = 1 << rng.between(2, 16);
+        let counts = [(); 3].map(|()| rng.below(most) as u16);
+        compare_some(counts, &mut counted);
         let edge = rng.below(3);
         let index = rng.below(usize::from(counts[edge]) + 2);
         // now and then any 32-bit numbers
@@ -86,6 +118,9 @@ fn any_answer_area() {
     let cases = [
         ([5, 1, 1], 0, 2, vec![0, 0, 3]),
         ([3, 3, 3], 0, 1, vec![1]),
+        ([65_535, 1, 1], 0, 65_533, vec![0, 0, 65_532]),
+        ([65_535; 3], 0, 32_767, vec![1]),
+        ([65_535; 3], 1, 32_768, vec![0, 2, 32_768]),
         ([0, 0, 0], 3, 0, vec![2]),
     ];
     for (counts, edge, index, numbers) in cases {

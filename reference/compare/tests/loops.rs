@@ -2,14 +2,16 @@
 
 use std::thread;
 
-use compare::grids::{closed_grid, random_grid, single_cell, with_faults};
+use compare::grids::{
+    by_rows, closed_grid, every_row, random_grid, single_cell, winding_cell, with_faults, Numbers,
+};
 use compare::lent::{answers, answers_in_all, ANSWER_WORDS};
 use compare::{calls, expected, seed, setting};
 use reference::gen::{random_shape, sphere, Rng, Sample};
 use reference::mesh::Mesher;
 
-/// Grids of at most so many cells have all their loops compared.
-const SMALL: usize = 40;
+/// Grids of at most so many cells and crossings have all their loops compared.
+const SMALL: [usize; 2] = [40, 8_000];
 
 /// What the compared calls answered.
 #[derive(Default)]
@@ -18,12 +20,13 @@ struct Tally {
     folded: u64,
     types: [u64; 4],
     none: u64,
-    refused: [u64; 12],
+    refused: Numbers,
     longest: u64,
 }
 
 impl Tally {
     fn add(&mut self, numbers: &[u64]) {
+        self.refused[numbers[0] as usize] += 1;
         match *numbers {
             [0] => self.none += 1,
             [0, _, length, normal, of, ..] => {
@@ -31,21 +34,23 @@ impl Tally {
                 self.folded += u64::from(normal == 0);
                 self.longest = self.longest.max(length);
             }
-            _ => self.refused[numbers[0] as usize] += 1,
+            _ => {}
         }
     }
 
     fn report(&self, what: &str) {
         println!(
             "loops, {what}: {} cells whole; {} loops, by type 0 to 3: {:?}, {} not normal, the \
-             longest of {} segments; {} answers of none; refused by rows 1 to 11: {:?}",
+             longest of {} segments; {} answers of none; refused by rows 1 to 6, 18, 7 to 10: \
+             {:?}, 11: {}",
             self.cells,
             self.types.iter().sum::<u64>(),
             self.types,
             self.folded,
             self.longest,
             self.none,
-            &self.refused[1..]
+            by_rows(&self.refused),
+            self.refused[11]
         );
     }
 }
@@ -92,7 +97,7 @@ fn compare_all(mesher: &mut Mesher, grid: &Sample, tally: &mut Tally) {
     }
 }
 
-fn one_cell(counts: [u8; 6]) -> Sample {
+fn one_cell(counts: [u16; 6]) -> Sample {
     let mut grid = Sample::from_cells([[0, 1, 2, 3]]);
     grid.counts = counts.to_vec();
     grid
@@ -100,7 +105,7 @@ fn one_cell(counts: [u8; 6]) -> Sample {
 
 #[test]
 fn examples() {
-    let cases: [(_, _, &[u64]); 9] = [
+    let cases: [(_, _, &[u64]); 14] = [
         ([0; 6], [0, 0], &[0]),
         ([1, 0, 0, 0, 0, 0], [0, 0], &[0]),
         ([1; 6], [0, 0], &[0]),
@@ -110,6 +115,15 @@ fn examples() {
         ([0, 1, 1, 1, 1, 0], [0, 0], &[0, 0, 4, 1, 2, 1]),
         ([2, 1, 1, 1, 1, 2], [0, 0], &[0, 0, 8, 1, 2, 1]),
         ([2, 0, 0, 0, 0, 0], [0, 0], &[0, 0, 2, 0, 0]),
+        ([4_095, 0, 0, 0, 0, 0], [0, 2_046], &[0, 4_093, 2, 0, 0]),
+        ([4_095, 0, 0, 0, 0, 0], [0, 2_047], &[0]),
+        (
+            [4_095, 2_048, 2_047, 2_047, 2_048, 4_095],
+            [0, 0],
+            &[0, 0, 16_380, 1, 2, 2],
+        ),
+        ([4_096, 0, 0, 0, 0, 4_096], [9, 0], &[18, 0]),
+        ([0, 0, 65_535, 0, 0, 0], [0, 0], &[18, 2]),
     ];
     for (counts, ask, numbers) in cases {
         let grid = one_cell(counts);
@@ -134,7 +148,7 @@ fn single_cells() {
     let mut mesher = Mesher::default();
     let mut tally = Tally::default();
     for of in 0..4_096 {
-        let counts = [0, 2, 4, 6, 8, 10].map(|shift| (of >> shift & 3) as u8);
+        let counts = [0, 2, 4, 6, 8, 10].map(|shift| of >> shift & 3);
         compare_all(&mut mesher, &one_cell(counts), &mut tally);
     }
     tally.report("single cells, all counts 0..3");
@@ -145,9 +159,21 @@ fn single_cells() {
         }
         tally.report(&format!("single cells, counts 0..{most}"));
     }
+    let mut tally = Tally::default();
+    for turn in 0..200 {
+        let grid = match turn % 2 {
+            0 => single_cell(&mut rng, 4_095),
+            _ => winding_cell(&mut rng),
+        };
+        for index in [0, 1, rng.below(100), rng.below(5_000), 24_570] {
+            compare(&mut mesher, &grid, [0, index], &mut tally);
+        }
+    }
+    tally.report("some loops of single cells with large counts");
+    assert!(tally.longest > 1_000);
 }
 
-/// An accepted grid of few cells.
+/// An accepted grid of few cells and crossings.
 fn small_grid(rng: &mut Rng) -> Sample {
     loop {
         let grid = match rng.below(4) {
@@ -156,7 +182,8 @@ fn small_grid(rng: &mut Rng) -> Sample {
             2 => random_shape(rng).with_even_counts(rng, 3),
             _ => random_shape(rng).with_counts(rng, 0, 3),
         };
-        if grid.cells.len() / 4 <= SMALL {
+        let crossings: usize = grid.counts.iter().map(|&count| usize::from(count)).sum();
+        if grid.cells.len() / 4 <= SMALL[0] && crossings <= SMALL[1] {
             return grid;
         }
     }
@@ -200,7 +227,7 @@ fn random_grids() {
     tally.report("random grids");
     if grids >= 20_000 {
         assert!(tally.types.iter().all(|&loops| loops > 0));
-        assert!(tally.refused[1..].iter().all(|&grids| grids > 0));
+        assert!(every_row(&tally.refused) && tally.refused[11] > 0);
     }
 }
 

@@ -3,12 +3,14 @@
 use std::thread;
 
 use compare::grids::{
-    closed_grid, random_grid, shapes, single_cell, with_faults, with_random_counts, ROWS,
+    by_rows, closed_grid, every_row, random_grid, shapes, single_cell, winding_cell, with_faults,
+    with_random_counts, Numbers,
 };
 use compare::lent::{after, answers, answers_in_all, Lent, ANSWER_WORDS};
 use compare::{calls, expected, seed, setting};
 use reference::cell::{NO_NUMBER, TRIANGLE_WORDS};
 use reference::gen::{broken, separate, sphere, Rng, Sample};
+use reference::grid::ROWS;
 use reference::manifold::{inspect, should_close};
 use reference::mesh::Mesher;
 
@@ -35,9 +37,11 @@ struct Tally {
     over_1500_cells: u64,
     over_60000_crossings: u64,
     count_of_255: u64,
+    over_255: u64,
+    count_of_4095: u64,
     closed: u64,
     inspected: u64,
-    refused: [u64; ROWS as usize + 1],
+    refused: Numbers,
     short: u64,
     ample: u64,
 }
@@ -51,26 +55,31 @@ impl Tally {
         self.over_1500_cells += u64::from(cells > 1_500);
         self.over_60000_crossings += u64::from(crossings > 60_000);
         self.count_of_255 += u64::from(grid.counts.contains(&255));
+        self.over_255 += u64::from(grid.counts.iter().any(|&count| count > 255));
+        self.count_of_4095 += u64::from(grid.counts.contains(&4_095));
     }
 
     fn report(&self, what: &str) {
         println!(
             "mesh, {what}: {} grids, of these {} accepted ({} of 100 cells or more, {} of over \
-             1,500, {} with over 60,000 crossings, {} with a count of 255), {} that must close \
-             and have triangles; {} triangles; sides and rings counted in {} meshes; {} areas too \
-             short, {} with room for any mesh; refused by rows 1 to 10: {:?}",
+             1,500, {} with over 60,000 crossings, {} with a count of 255, {} with one over 255, \
+             {} with one of 4,095), {} that must close and have triangles; {} triangles; sides and \
+             rings counted in {} meshes; {} areas too short, {} with room for any mesh; refused by \
+             rows 1 to 6, 18, 7 to 10: {:?}",
             self.grids,
             self.refused[0],
             self.hundred_cells,
             self.over_1500_cells,
             self.over_60000_crossings,
             self.count_of_255,
+            self.over_255,
+            self.count_of_4095,
             self.closed,
             self.triangles,
             self.inspected,
             self.short,
             self.ample,
-            &self.refused[1..]
+            by_rows(&self.refused)
         );
     }
 }
@@ -152,7 +161,7 @@ fn compare(mesher: &mut Mesher, rng: &mut Rng, grid: &Sample, tally: &mut Tally)
 
 const CELL: [u16; 4] = [0, 1, 2, 3];
 
-fn one_cell(counts: [u8; 6]) -> Sample {
+fn one_cell(counts: [u16; 6]) -> Sample {
     let mut grid = Sample::from_cells([CELL]);
     grid.counts = counts.to_vec();
     grid
@@ -196,8 +205,11 @@ fn examples_of_one_cell() {
         compare_with([0, 0], &[], 0, &one_cell(counts));
         compare_with([0, 0], &[], 30, &one_cell(counts));
     }
-    let cases: [(_, &[u32]); 3] = [
+    // one triangle; the other crossings are on an open curve
+    let wide = [0, 0, 0, 4_095, 8_189, 3, 0, 1, 4_095, 2, 0];
+    let cases: [(_, &[u32]); 4] = [
         ([1, 1, 1, 0, 0, 0], &corner),
+        ([4_095, 4_094, 1, 0, 0, 0], &wide),
         ([0, 1, 1, 1, 1, 0], &diagonal.concat()),
         ([2, 0, 0, 0, 0, 0], &fan.concat()),
     ];
@@ -216,6 +228,19 @@ fn examples_of_one_cell() {
     assert_eq!(numbers, [0, 8]);
     let points: Vec<u32> = area.chunks(11).map(|words| words[2]).collect();
     assert_eq!(points, [0, 2, 6, 4, 1, 5, 7, 3]);
+    // pairs on one edge; corners; octagons; one loop of all crossings
+    for (counts, triangles) in [
+        ([4_095, 0, 0, 0, 0, 0], 4_094),
+        ([4_095; 6], 4 * 2_047),
+        ([4_094, 2_047, 2_047, 2_047, 2_047, 4_094], 8 * 2_047),
+        ([4_095, 2_048, 2_047, 2_047, 2_048, 4_095], 16_380),
+    ] {
+        let len = TRIANGLE_WORDS * triangles as usize;
+        for (len, first) in [(len, 0), (len - 1, 12), (11 * 24_570, 0)] {
+            let (numbers, _) = compare_in(&mut Mesher::default(), &one_cell(counts), len);
+            assert_eq!(numbers, [first, triangles]);
+        }
+    }
 }
 
 /// A grid of these cells in this order, with its edges, all of count 0.
@@ -274,6 +299,7 @@ fn examples_of_the_table() {
         ([4, 1], of_cells(&[CELL, CELL])),
         ([5, 2], of_cells(&[CELL, [0, 1, 2, 4], [0, 1, 2, 5]])),
         ([6, 0], unordered),
+        ([18, 3], one_cell([1, 1, 1, 4_096, 0, 4_097])),
         ([7, 0], without),
         ([8, 6], added),
         ([9, 0], of_cells(&[CELL, [0, 1, 4, 5]])),
@@ -286,8 +312,8 @@ fn examples_of_the_table() {
 }
 
 /// The counts of six edges that a number below 4096 tells.
-fn small_counts(of: u16) -> [u8; 6] {
-    [0, 2, 4, 6, 8, 10].map(|shift| (of >> shift & 3) as u8)
+fn small_counts(of: u16) -> [u16; 6] {
+    [0, 2, 4, 6, 8, 10].map(|shift| of >> shift & 3)
 }
 
 #[test]
@@ -304,7 +330,7 @@ fn single_cells() {
         );
     }
     tally.report("single cells, all counts 0..3");
-    for (most, cells) in [(3, 1_000), (12, 4_000), (255, 2_000)] {
+    for (most, cells) in [(3, 1_000), (12, 4_000), (255, 2_000), (4_095, 200)] {
         let mut tally = Tally::default();
         for _ in 0..cells {
             let grid = single_cell(&mut rng, most);
@@ -313,6 +339,13 @@ fn single_cells() {
         tally.report(&format!("single cells, counts 0..{most}"));
         assert_eq!(tally.refused[0], cells);
     }
+    let mut tally = Tally::default();
+    for _ in 0..200 {
+        let grid = winding_cell(&mut rng);
+        compare(&mut mesher, &mut rng, &grid, &mut tally);
+    }
+    tally.report("single cells with films that go round");
+    assert_eq!(tally.refused[0], 200);
 }
 
 #[test]
@@ -323,7 +356,7 @@ fn each_shape_broken_in_each_way() {
     for shape in shapes(&mut rng) {
         let whole = with_random_counts(&mut rng, shape).reordered(&mut rng);
         compare(&mut mesher, &mut rng, &whole, &mut tally);
-        for row in 1..=ROWS {
+        for row in ROWS {
             if let Some(faulty) = broken(&mut rng, &whole, row) {
                 compare(&mut mesher, &mut rng, &faulty, &mut tally);
             }
@@ -331,7 +364,7 @@ fn each_shape_broken_in_each_way() {
             compare(&mut mesher, &mut rng, &several, &mut tally);
         }
     }
-    assert!(tally.refused.iter().all(|&grids| grids > 0));
+    assert!(every_row(&tally.refused));
     tally.report("each shape broken in each way");
 }
 
@@ -360,7 +393,9 @@ fn random_grids() {
         assert!(tally.over_60000_crossings >= 10);
         assert!(tally.closed >= tally.grids / 4);
         assert!(tally.count_of_255 >= 100);
-        assert!(tally.refused.iter().all(|&grids| grids > 0));
+        assert!(tally.over_255 >= 100);
+        assert!(tally.count_of_4095 >= 20);
+        assert!(every_row(&tally.refused));
     }
 }
 

@@ -8,8 +8,10 @@ use std::io::Write;
 use std::path::{Path, PathBuf};
 use std::process::{Command, Stdio};
 
-use compare::bundles::{damage, random_bytes, small_bundles, written};
-use compare::grids::{closed_grid, random_grid, single_cell, with_crossings, with_faults};
+use compare::bundles::{damage, has_wide, random_bytes, small_bundles, written};
+use compare::grids::{
+    by_rows, closed_grid, random_grid, single_cell, with_crossings, with_faults, Numbers,
+};
 use compare::{seed, setting};
 use reference::gen::{random_shape, separate, Rng, Sample};
 use reference::listing::{listing, MAX_INPUT};
@@ -51,11 +53,12 @@ fn prints_for(bytes: &[u8], first: usize) -> Vec<u8> {
 struct Tally {
     meshes: u64,
     triangles: usize,
-    refused: [u64; 14],
+    wide: u64,
+    refused: Numbers,
 }
 
 impl Tally {
-    fn add(&mut self, text: &str) {
+    fn add(&mut self, bytes: &[u8], text: &str) {
         match text.strip_prefix("refused ") {
             Some(rest) => {
                 let number: String = rest.chars().take_while(char::is_ascii_digit).collect();
@@ -63,6 +66,7 @@ impl Tally {
             }
             None => {
                 self.meshes += 1;
+                self.wide += u64::from(has_wide(bytes));
                 self.triangles += text.lines().count() - 1;
             }
         }
@@ -71,7 +75,7 @@ impl Tally {
 
 fn compare(rng: &mut Rng, bytes: &[u8], tally: &mut Tally) {
     let text = listing(bytes);
-    tally.add(&text);
+    tally.add(bytes, &text);
     let first = rng.between(0, bytes.len());
     assert_eq!(
         prints_for(bytes, first),
@@ -83,16 +87,25 @@ fn compare(rng: &mut Rng, bytes: &[u8], tally: &mut Tally) {
 
 /// A grid whose mesh has few triangles, or any grid.
 fn grid(rng: &mut Rng) -> Sample {
-    match rng.below(8) {
+    match rng.below(9) {
         0 => random_grid(rng),
         1 => closed_grid(rng),
-        2 => single_cell(rng, 255),
+        2 => {
+            let most = [255, 300, 4_095][rng.below(3)];
+            single_cell(rng, most)
+        }
         3 => {
             let cells = rng.between(40, 60) as u16;
             let sum = rng.between(60_000, 65_600);
             with_crossings(rng, separate(cells), sum)
         }
         4 => random_shape(rng).with_even_counts(rng, 2),
+        5 => {
+            let mut grid = random_shape(rng).with_counts(rng, 0, 1);
+            let edge = rng.below(grid.counts.len());
+            grid.counts[edge] = rng.between(250, 450) as u16;
+            grid
+        }
         _ => random_shape(rng).with_counts(rng, 0, 3),
     }
 }
@@ -125,14 +138,18 @@ fn random_and_damaged_bundles() {
         compare(&mut rng, &bytes, &mut tally);
     }
     println!(
-        "meshlist: {} meshes with {} triangles; refused by rows 1 to 13: {:?}",
+        "meshlist: {} meshes with {} triangles, {} of them of a bundle with a record of kind 4; \
+         refused by rows 1 to 6, 18, 7 to 10: {:?}, 12 and 13: {:?}",
         tally.meshes,
         tally.triangles,
-        &tally.refused[1..]
+        tally.wide,
+        by_rows(&tally.refused),
+        &tally.refused[12..=13]
     );
     if many >= 3_000 {
         assert!(tally.meshes >= 1_000);
-        for row in (3..=10).chain(12..=13) {
+        assert!(tally.wide >= 50);
+        for row in (3..=10).chain([12, 13, 18]) {
             assert!(tally.refused[row] > 0, "row {row}");
         }
     }
@@ -154,6 +171,18 @@ fn small_and_large_inputs() {
             counts: vec![],
         };
         let bytes = written(&lists).expect("formed lists");
+        compare(&mut rng, &bytes, &mut tally);
+    }
+    // 32,764 bytes, and one more for each count over 255
+    for wide in [3, 4, 5] {
+        let mut lists = Sample {
+            cells: vec![],
+            edges: vec![0; 2 * 3_640],
+            counts: vec![0; 3_640],
+        };
+        lists.counts[..wide].fill(4_095);
+        let bytes = written(&lists).expect("formed lists");
+        assert_eq!(bytes.len(), 32_764 + wide);
         compare(&mut rng, &bytes, &mut tally);
     }
     for len in [MAX_INPUT - 1, MAX_INPUT, MAX_INPUT + 1, 60_000, 1_000_000] {

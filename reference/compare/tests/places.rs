@@ -2,7 +2,9 @@
 
 use std::thread;
 
-use compare::grids::{closed_grid, random_grid, single_cell, with_faults};
+use compare::grids::{
+    by_rows, closed_grid, every_row, random_grid, single_cell, with_faults, Numbers,
+};
 use compare::lent::{after, answers, answers_in_all, Lent, ANSWER_WORDS};
 use compare::placing::{placing, spoiled, Kind, Placing, KINDS};
 use compare::{calls, expected, seed, setting};
@@ -30,21 +32,21 @@ struct Tally {
     points: u64,
     middles: u64,
     exact: u64,
-    refused: [u64; 18],
+    refused: Numbers,
 }
 
 impl Tally {
     fn report(&self, what: &str) {
         println!(
             "places, {what}: {} calls, {} placed: {} points, {} of them middles; {} numbers also \
-             compared with exact ones; refused by rows 1 to 10: {:?}, 15 to 17: {:?}",
+             compared with exact ones; refused by rows 1 to 6, 18, 7 to 10: {:?}, 15 to 17: {:?}",
             self.grids,
             self.refused[0],
             self.points,
             self.middles,
             self.exact,
-            &self.refused[1..=10],
-            &self.refused[15..]
+            by_rows(&self.refused),
+            &self.refused[15..=17]
         );
     }
 }
@@ -141,7 +143,7 @@ fn compare_exact(placing: &Placing, area: &[u64], tally: &mut Tally) {
 /// Compares a grid with numbers of each kind, whole and spoiled.
 fn compare_kinds(rng: &mut Rng, grid: &Sample, tally: &mut Tally) {
     let points = points(grid);
-    for kind in KINDS {
+    for kind in KINDS.into_iter().filter(|kind| kind.fits(&grid.counts)) {
         let whole = placing(rng, grid.clone(), kind);
         let area = compare(rng, &whole, points, tally);
         if kind == Kind::Whole {
@@ -152,7 +154,7 @@ fn compare_kinds(rng: &mut Rng, grid: &Sample, tally: &mut Tally) {
     }
 }
 
-fn one_cell(counts: [u8; 6]) -> Sample {
+fn one_cell(counts: [u16; 6]) -> Sample {
     let mut grid = Sample::from_cells([[0, 1, 2, 3]]);
     grid.counts = counts.to_vec();
     grid
@@ -196,6 +198,12 @@ fn examples() {
     compare_with([17, 1], &of(two, &[0.5, 1.0]), 9);
     let corner = compare_with([0, 3], &of([1, 1, 1, 0, 0, 0], &[0.5; 3]), 9);
     assert_eq!(corner[..3], [1.5, 2.5, 3.5]);
+    let wide = [4_095, 0, 0, 0, 0, 0];
+    let parts: Vec<f64> = (1..4_096).map(|part| f64::from(part) / 4_096.0).collect();
+    let area = compare_with([0, 6_142], &of(wide, &parts), 3 * 6_142);
+    assert_eq!(area[3 * 1_023..3 * 1_024], [0.75, 1.75, 2.75]);
+    compare_with([15, 0], &of(wide, &parts[1..]), 3 * 6_142);
+    compare_with([18, 3], &of([1, 1, 1, 4_096, 0, 0], &parts), 9);
     for at in 0..12 {
         let beyond = f64::from_bits(1_000_000f64.to_bits() + 1);
         for odd in [f64::NAN, f64::INFINITY, -f64::INFINITY, beyond, -beyond] {
@@ -217,7 +225,7 @@ fn examples() {
 #[test]
 fn single_cells() {
     let mut rng = Rng::new(seed("places"));
-    for (most, cells) in [(3, 1_000), (12, 500), (255, 50)] {
+    for (most, cells) in [(3, 1_000), (12, 500), (255, 50), (1_023, 5), (4_095, 5)] {
         let mut tally = Tally::default();
         for _ in 0..cells {
             let grid = single_cell(&mut rng, most);
@@ -253,8 +261,8 @@ fn random_grids() {
     tally.report("random grids");
     if grids >= 20_000 {
         assert!(tally.middles > 0 && tally.exact > 0);
-        assert!(tally.refused[..=10].iter().all(|&calls| calls > 0));
-        assert!(tally.refused[15..].iter().all(|&calls| calls > 0));
+        assert!(every_row(&tally.refused));
+        assert!(tally.refused[15..=17].iter().all(|&calls| calls > 0));
     }
 }
 

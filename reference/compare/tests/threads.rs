@@ -17,7 +17,7 @@ fn compare(seed: u64) {
     let mut mesher = Mesher::default();
     for turn in 0..100 {
         let grid = match turn % 2 {
-            0 => single_cell(&mut rng, 255),
+            0 => single_cell(&mut rng, 4_095),
             _ => random_shape(&mut rng).with_counts(&mut rng, 0, 5),
         };
         let Sample {

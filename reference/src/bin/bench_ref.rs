@@ -91,6 +91,8 @@ fn main() {
     bench_mesh("2 box, even faces, counts 0..21", &even);
     let full = separate(42).with_counts(&mut rng, 255, 255);
     bench_mesh("3 separate cells, counts 255", &full);
+    let fuller = separate(2).with_counts(&mut Rng::new(4), 4_095, 4_095);
+    bench_mesh("3 separate cells, counts 4,095", &fuller);
     let fan = closed_fan(2048).with_counts(&mut rng, 4, 14);
     bench_mesh("4 closed fan, counts 4..14", &fan);
     let mut hub = fan.clone();

@@ -47,6 +47,7 @@ total-spec =
     μ-loop
     loop-holds
     (λ c. search needs)
+    (λ c. search needs)
     (λ c κs. search needs)
     (λ c. search needs)
     returns

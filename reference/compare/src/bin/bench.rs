@@ -219,6 +219,20 @@ fn meshes(bench: &Bench) {
     bench.mesh("4 mesh, cells round one edge, counts 4..14", &fan);
 }
 
+/// Cells with counts in the thousands.
+fn thousands(bench: &Bench) {
+    let mut rng = Rng::new(4);
+    let full = separate(2).with_counts(&mut rng, 4_095, 4_095);
+    let fan = closed_fan(10).with_counts(&mut rng, 1_500, 2_100);
+    for (name, grid) in [
+        ("separate cells, counts 4,095", full),
+        ("cells round one edge, counts 1,500..2,100", fan),
+    ] {
+        bench.mesh(&format!("6 mesh, {name}"), &grid);
+        bench.check(&format!("6 check, {name}"), &grid);
+    }
+}
+
 /// As many cells as a grid may have, in several shapes.
 fn checks(bench: &Bench) {
     let mut rng = Rng::new(2);
@@ -264,4 +278,5 @@ fn main() {
     meshes(&bench);
     checks(&bench);
     growth(&bench);
+    thousands(&bench);
 }

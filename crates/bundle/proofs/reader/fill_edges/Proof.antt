@@ -1,5 +1,6 @@
-use Prim.Native.Nat.{_+_, _-_, _*_, _≤_, _<_}
+use Prim.Native.Nat.{ℕ, _+_, _-_, _*_, _≤_, _<_}
 use mathlib.Core.Path.{_≡_, sym, ap, _∙_}
+use mathlib.Core.List.{List}
 use native.Mathlib.Omega.{arith}
 use lib.ListN.{length}
 use denote.Ref.{now}
@@ -7,39 +8,39 @@ use borrow.Author.Needs.{needs}
 use Rattle.counting.specs.Range.{over}
 use Rattle.counting.specs.Stored.{Stored}
 use Rattle.counting.proofs.Stored.{stored-none, stored-long}
-use Rattle.bundle.specs.Record.{edgeKind, wordSize, headBytes, body}
-use Rattle.bundle.specs.Bundle.{edgeEnds, run, edges, endsIn, endsOf, countsOf, writtenOver}
+use Rattle.bundle.specs.Record.{headBytes, countPlace, word, body}
+use Rattle.bundle.specs.Bundle.{edgeEnds, edgeSection, run, edges, endsIn, endsOf, countsOf, writtenOver}
 use Rattle.bundle.proofs.Runs.{Walked, walked, here, walked-fits, walked-on}
-use Rattle.bundle.proofs.Fills.{edge-body, endsBy, countBy, turn, count-turn, filled-all}
+use Rattle.bundle.proofs.Fills.{edge-ge, endsBy, countBy, turn, count-turn, filled-all}
 use Rattle.bundle.proofs.reader.fill_edges.Statement.{statement}
 use Rattle.bundle.proofs.reader.fill_edges.Tie as tie
 
 abbrev Inv-loop : tie.InvT-loop
-Inv-loop bytes from count ends₀ counts₀ k₀ at₀ ends counts k at = Walked bytes from edgeKind at k × Stored ends₀ 0 (over (endsBy bytes from) k 0) ends (edgeEnds * k) × Stored counts₀ 0 (over (countBy bytes from) k 0) counts k
+Inv-loop bytes from count ends₀ counts₀ k₀ at₀ ends counts k at = Walked bytes from edgeSection at k × Stored ends₀ 0 (over (endsBy bytes from) k 0) ends (edgeEnds * k) × Stored counts₀ 0 (over (countBy bytes from) k 0) counts k
 
 abbrev μ-loop : tie.MeasureT-loop
 μ-loop bytes from count ends₀ counts₀ k₀ at₀ ends counts k at = count - k
 
 loop-holds : tie.Need-loop-holds Inv-loop μ-loop
 unfolding over
-loop-holds c = (walked _ _ edgeKind, stored-none _ _, stored-none _ _)
+loop-holds c = (walked _ _ edgeSection, stored-none _ _, stored-none _ _)
 
 -- within the loop the next record and the room for its numbers are there
 abbrev Turn : Type 0
 Turn = tie.In-loop Inv-loop μ-loop
 
-below : (c : Turn) → c .before .loop .k < run (now (c .before .before .before .before .before .args .bytes)) edgeKind (c .before .before .before .before .before .args .from)
+below : (c : Turn) → c .before .loop .k < run (now (c .before .before .before .before .before .args .bytes)) edgeSection (c .before .before .before .before .before .args .from)
 unfolding edges
 below c =
     let p = c .before .before .before .before .before .pre in
-    let e = p .all ∙ ap (run (now (c .before .before .before .before .before .args .bytes)) edgeKind) (sym (p .begin)) in
+    let e = p .all ∙ ap (run (now (c .before .before .before .before .before .args .bytes)) edgeSection) (sym (p .begin)) in
     omega (arith, e, c .loop-test .taken)
 
-size : (c : Turn) → length (body (now (c .before .before .before .before .before .args .bytes)) (c .before .loop .at)) ≡ wordSize * edgeEnds + 1
-size c = edge-body _ _ (here _ _ edgeKind _ _ (c .before .loop .inv .0) (below c))
+size : (c : Turn) → countPlace < length (body (now (c .before .before .before .before .before .args .bytes)) (c .before .loop .at))
+size c = edge-ge _ _ (here _ _ edgeSection _ _ (c .before .loop .inv .0) (below c))
 
 fits : (c : Turn) → c .before .loop .at + (headBytes + length (body (now (c .before .before .before .before .before .args .bytes)) (c .before .loop .at))) ≤ length (now (c .before .before .before .before .before .args .bytes))
-fits c = walked-fits _ _ edgeKind _ _ (c .before .loop .inv .0) (below c)
+fits c = walked-fits _ _ edgeSection _ _ (c .before .loop .inv .0) (below c)
 
 space : (c : Turn) → (edgeEnds * c .before .loop .k + edgeEnds ≤ length (c .before .loop .ends)) × (c .before .loop .k < length (c .before .loop .counts))
 space c =
@@ -58,11 +59,11 @@ fill-words-requires c κs =
     let t = c .before .before in
     record { all = omega (arith, ap length (c .before .body-at .ensures .0), size t); room = omega (arith, space t .0) }
 
-mul-counts : tie.Need-mul-counts Inv-loop μ-loop
-mul-counts c = omega arith
+count-in-requires : tie.Need-count-in-requires Inv-loop μ-loop
+count-in-requires c κs = omega (arith, size (c .before .before .before .before .before), ap length (c .before .before .before .before .body-at .ensures .0))
 
-shared-slice-read-counts : tie.Need-shared-slice-read-counts Inv-loop μ-loop
-shared-slice-read-counts c = omega (arith, size (c .before .before .before .before .before .before), ap length (c .before .before .before .before .before .body-at .ensures .0))
+mul-counts : tie.Need-mul-counts Inv-loop μ-loop
+mul-counts c = omega (arith, space (c .before .before .before .before .before .before) .1)
 
 slice-write-counts : tie.Need-slice-write-counts Inv-loop μ-loop
 slice-write-counts c = omega (arith, space (c .before .before .before .before .before .before) .1)
@@ -85,9 +86,9 @@ loop-again c =
     let l = t .before .loop in
     let e = c .before .before .before .before .before .body-at .ensures .0 in
     let n : edgeEnds * (l .k + 1) ≡ edgeEnds * l .k + edgeEnds = omega arith in (
-      rw e (walked-on _ _ edgeKind _ _ (l .inv .0) (below t)),
+      rw e (walked-on _ _ edgeSection _ _ (l .inv .0) (below t)),
       rw n (turn _ _ _ _ (l .inv .0 .reached) endsIn (l .inv .1) (rw e at (c .before .before .before .fill-words .ensures))),
-      count-turn _ _ _ _ (l .inv .0 .reached) _ e (l .inv .2),
+      count-turn _ _ _ _ (l .inv .0 .reached) _ (c .count-in .ensures ∙ ap (λ (b : List ℕ). word b countPlace) e) (l .inv .2),
     )
 
 same-length : tie.Need-same-length Inv-loop μ-loop
@@ -100,7 +101,7 @@ all-done : (c : tie.After-loop Inv-loop μ-loop) → c .before .loop .k ≡ edge
 unfolding edges
 all-done c =
     let p = c .before .before .before .before .before .pre in
-    let e = p .all ∙ ap (run (now (c .before .before .before .before .before .args .bytes)) edgeKind) (sym (p .begin)) in
+    let e = p .all ∙ ap (run (now (c .before .before .before .before .before .args .bytes)) edgeSection) (sym (p .begin)) in
     omega (arith, e, p .all, c .before .loop .inv .0 .upto)
 
 returns : tie.Need-returns Inv-loop μ-loop
@@ -125,8 +126,8 @@ fill-edges-spec =
     body-at-requires
     mul-fill-words
     fill-words-requires
+    count-in-requires
     mul-counts
-    shared-slice-read-counts
     slice-write-counts
     add-at
     add-at-2

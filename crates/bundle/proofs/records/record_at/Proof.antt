@@ -1,6 +1,8 @@
 use mathlib.Core.Path.{_≡_, sym}
 use native.Mathlib.Omega.{arith}
-use Rattle.bundle.proofs.OneRecord.{answer-outside, case-short, case-unknown, case-wrong, case-cut, case-whole}
+use borrow.Author.Tests.{not-true, not-false}
+use Rattle.bundle.proofs.OneRecord.{answer-outside, case-short, case-unknown, case-wrong, case-cut, wide-inside, case-small, case-whole}
+use denote.Ref.{now}
 use borrow.Author.Needs.{needs}
 use Rattle.bundle.proofs.records.record_at.Statement.{statement}
 use Rattle.bundle.proofs.records.record_at.Tie as tie
@@ -44,13 +46,22 @@ sub-if5 c = search needs
 returns-5 : tie.Need-returns-5
 returns-5 c = case-cut _ _ (c .before .before .before .before .before .before .before .if1 .left) _ _ _ (c .before .before .before .before .before .word-at .ensures) (c .before .before .before .before .word-at2 .ensures) (c .before .before .before .length-of .ensures) (c .if5 .taken)
 
+may-have-requires : tie.Need-may-have-requires
+may-have-requires c κs =
+    let e : c .before .before .before .before .before .word-at .result ≡ c .before .before .before .length-of .result = omega (arith, c .before .if4 .left) in
+    let a = c .before .before .before .before .before .before .before .before .before .args in
+    wide-inside (now (a .bytes)) (a .start) (c .before .before .before .before .before .before .before .if1 .left) _ _ _ (c .before .before .before .before .before .word-at .ensures) (c .before .before .before .before .word-at2 .ensures) (c .before .before .before .length-of .ensures) e (c .if5 .left)
+
+returns-6 : tie.Need-returns-6
+returns-6 c = case-small _ _ (c .before .before .before .before .before .before .before .before .before .if1 .left) _ _ _ (c .before .before .before .before .before .before .before .word-at .ensures) (c .before .before .before .before .before .before .word-at2 .ensures) (c .before .before .before .before .before .length-of .ensures) _ (c .before .may-have .ensures) (not-true _ (c .if6 .taken))
+
 add-t10 : tie.Need-add-t10
 add-t10 c = search needs
 
-returns-6 : tie.Need-returns-6
-returns-6 c =
-    let e : c .before .before .before .before .before .word-at .result ≡ c .before .before .before .length-of .result = omega (arith, c .before .if4 .left) in
-    case-whole _ _ (c .before .before .before .before .before .before .before .if1 .left) _ _ _ (c .before .before .before .before .before .word-at .ensures) (c .before .before .before .before .word-at2 .ensures) (c .before .before .before .length-of .ensures) (c .before .before .before .before .before .before .if2 .left) (c .before .before .if3 .left) e (c .if5 .left)
+returns-7 : tie.Need-returns-7
+returns-7 c =
+    let e : c .before .before .before .before .before .before .before .word-at .result ≡ c .before .before .before .before .before .length-of .result = omega (arith, c .before .before .before .if4 .left) in
+    case-whole _ _ (c .before .before .before .before .before .before .before .before .before .if1 .left) _ _ _ (c .before .before .before .before .before .before .before .word-at .ensures) (c .before .before .before .before .before .before .word-at2 .ensures) (c .before .before .before .before .before .length-of .ensures) _ (c .before .may-have .ensures) (c .before .before .before .before .before .before .before .before .if2 .left) (c .before .before .before .before .if3 .left) e (c .before .before .if5 .left) (not-false _ (c .if6 .left))
 
 pub record-at-spec : {M : Type 1} → statement M
 record-at-spec =
@@ -69,5 +80,7 @@ record-at-spec =
     add-size
     sub-if5
     returns-5
+    may-have-requires
+    returns-6
     add-t10
-    returns-6)
+    returns-7)

@@ -8,7 +8,6 @@ use Rattle.counting.specs.Stored.{Stored}
 use Rattle.counting.proofs.Fronts.{over-within}
 use Rattle.counting.proofs.Stored.{stored-none, stored-more, stored-long}
 use Rattle.bundle.specs.Written.{edgeBytes}
-use Rattle.bundle.proofs.Writes.{length-edge}
 use Rattle.bundle.proofs.writer.put_edges.Statement.{statement}
 use Rattle.bundle.proofs.writer.put_edges.Tie as tie
 
@@ -29,7 +28,7 @@ put-edge-requires c κs =
     let ends = now (s .args .ends) in
     let counts = now (s .args .counts) in
     let p = l .inv .1 in
-    record { pair = omega (arith, s .pre .pairs); all = omega arith; room = omega (arith, over-within (edgeBytes ends counts) (length counts) (l .k) (omega arith), length-edge ends counts (l .k), p .after, stored-long p, s .pre .room) }
+    record { pair = omega (arith, s .pre .pairs); all = omega arith; room = omega (arith, over-within (edgeBytes ends counts) (length counts) (l .k) (omega arith), p .after, stored-long p, s .pre .room) }
 
 add-k : tie.Need-add-k Inv-loop μ-loop
 add-k c = omega arith

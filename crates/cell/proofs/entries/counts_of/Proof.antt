@@ -19,7 +19,7 @@ loop-holds c = valued-none _ _ refl
 loop-again : tie.Need-loop-again Inv-loop μ-loop
 loop-again c =
     valued-more _ _ (c .before .before .before .before .loop .inv) (omega arith) _
-    (c .count-at .ensures ∙ ap (λ e. getD (c .before .before .before .before .before .before .before .args .counts .now) e 0) (c .before .wide16 .ensures .0 ∙ c .before .before .entry .ensures))
+    (c .entry2 .ensures ∙ ap (λ e. getD (c .before .before .before .before .before .before .before .args .counts .now) e 0) (c .before .wide16 .ensures .0 ∙ c .before .before .entry .ensures))
 
 returns : tie.Need-returns Inv-loop μ-loop
 returns c = valued-all _ _ (c .before .loop .inv) (omega arith)
@@ -36,6 +36,7 @@ counts-of-spec =
     (λ c κs. tt)
     (λ c κs. tt)
     (λ c κs. tt)
+    (λ c. omega arith)
     (λ c. omega arith)
     (λ c. omega arith)
     (λ c. omega arith)

@@ -1,51 +1,61 @@
--- `cell::count_fans` meets its contract.
-use Prim.Native.Nat.{_-_, _≤_}
-use mathlib.Core.Path.{ap, _∙_}
+use borrow.Author.Needs.{needs}
+use denote.Ref.{now}
 use native.Mathlib.Omega.{arith}
-use Rattle.counting.specs.Stored.{Summed}
-use Rattle.counting.proofs.Stored.{summed-none, summed-more, summed-all}
-use Rattle.cell.specs.Limits.{mostInCell}
-use Rattle.cell.specs.Middles.{fanCount}
-use Rattle.cell.specs.Table.{tableCell, tableFans}
+use Rattle.cell.proofs.Using.{table-few, table-most}
 use Rattle.cell.proofs.fanning.count_fans.Statement.{statement}
 use Rattle.cell.proofs.fanning.count_fans.Tie as tie
 
-abbrev Inv-loop : tie.InvT-loop
-Inv-loop cells counts names sides starts marks₀ halves₀ points₀ n t₀ c₀ marks halves points t c =
-    (c ≤ n) × Summed (λ k. fanCount (tableCell cells counts names sides starts k)) mostInCell c t
+greatest-requires : tie.Need-greatest-requires
+greatest-requires c κs = search needs
 
-abbrev μ-loop : tie.MeasureT-loop
-μ-loop cells counts names sides starts marks₀ halves₀ points₀ n t₀ c₀ marks halves points t c = n - c
+slice-aggregate-fans-in-all : tie.Need-slice-aggregate-fans-in-all
+slice-aggregate-fans-in-all c = search needs
 
-loop-holds : tie.Need-loop-holds Inv-loop μ-loop
-loop-holds c = (omega arith, summed-none _ _)
+slice-aggregate-fans-in-all-2 : tie.Need-slice-aggregate-fans-in-all-2
+slice-aggregate-fans-in-all-2 c = search needs
 
-add-t : tie.Need-add-t Inv-loop μ-loop
-add-t c = omega (arith, c .fans-in .ensures .0 .1, c .before .before .before .before .before .before .loop .inv .1 .few, c .before .before .before .before .before .before .before .drawn .ensures)
+slice-aggregate-fans-in-all-3 : tie.Need-slice-aggregate-fans-in-all-3
+slice-aggregate-fans-in-all-3 c = search needs
 
-loop-again : tie.Need-loop-again Inv-loop μ-loop
-loop-again c =
-    let N = c .fans-in .ensures .0 in
-    (omega arith, summed-more _ _ (c .before .before .before .before .before .before .loop .inv .1) _ (N .0 ∙ ap fanCount (c .before .before .before .before .cell-at .ensures)) (N .1))
+fans-in-all-requires : tie.Need-fans-in-all-requires
+fans-in-all-requires c κs k =
+    let A = c .before .before .before .before .before .before .before .args in
+    let h = table-few (now (A .counts)) (now (A .sides)) k (λ i. omega (arith, c .before .before .before .before .greatest .ensures i)) in
+    record { marks-long = h; halves-long = h; points-long = h }
 
-returns : tie.Need-returns Inv-loop μ-loop
-unfolding tableFans
-returns c =
-    let S = c .before .loop .inv .1 in
-    (summed-all _ _ S (omega (arith, c .before .before .drawn .ensures)), omega (arith, S .few, c .before .before .drawn .ensures))
+returns : tie.Need-returns
+returns c = search needs
+
+slice-aggregate-fans-in-all-4 : tie.Need-slice-aggregate-fans-in-all-4
+slice-aggregate-fans-in-all-4 c = search needs
+
+slice-aggregate-fans-in-all-5 : tie.Need-slice-aggregate-fans-in-all-5
+slice-aggregate-fans-in-all-5 c = search needs
+
+slice-aggregate-fans-in-all-6 : tie.Need-slice-aggregate-fans-in-all-6
+slice-aggregate-fans-in-all-6 c = search needs
+
+fans-in-all-requires-2 : tie.Need-fans-in-all-requires-2
+fans-in-all-requires-2 c κs k =
+    let A = c .before .before .before .before .before .before .before .args in
+    let h = table-most (now (A .counts)) (now (A .sides)) k in
+    record { marks-long = h; halves-long = h; points-long = h }
+
+returns-2 : tie.Need-returns-2
+returns-2 c = search needs
 
 pub count-fans-spec : {M : Type 1} → statement M
 count-fans-spec =
     tie.close
     (tie.spec
-    Inv-loop
-    μ-loop
-    (λ c κs. tt)
-    loop-holds
-    (λ c κs. tt)
-    (λ c κs. tt)
-    add-t
-    (λ c. omega arith)
-    (λ c. omega arith)
-    loop-again
-    returns)
+    greatest-requires
+    slice-aggregate-fans-in-all
+    slice-aggregate-fans-in-all-2
+    slice-aggregate-fans-in-all-3
+    fans-in-all-requires
+    returns
+    slice-aggregate-fans-in-all-4
+    slice-aggregate-fans-in-all-5
+    slice-aggregate-fans-in-all-6
+    fans-in-all-requires-2
+    returns-2)

@@ -13,17 +13,17 @@ segment-at-requires-2 c κs = search needs
 word-requires : tie.Need-word-requires
 word-requires c κs = search needs
 
-shared-slice-read-t8 : tie.Need-shared-slice-read-t8
-shared-slice-read-t8 c = search needs
+shared-slice-read-t9 : tie.Need-shared-slice-read-t9
+shared-slice-read-t9 c = search needs
 
-shared-slice-read-t10 : tie.Need-shared-slice-read-t10
-shared-slice-read-t10 c = search needs
+shared-slice-read-t11 : tie.Need-shared-slice-read-t11
+shared-slice-read-t11 c = search needs
 
-shared-slice-read-t13 : tie.Need-shared-slice-read-t13
-shared-slice-read-t13 c = search needs
+shared-slice-read-t14 : tie.Need-shared-slice-read-t14
+shared-slice-read-t14 c = search needs
 
-shared-slice-read-t16 : tie.Need-shared-slice-read-t16
-shared-slice-read-t16 c = search needs
+shared-slice-read-t17 : tie.Need-shared-slice-read-t17
+shared-slice-read-t17 c = search needs
 
 returns : tie.Need-returns
 unfolding tracedTriangle triangle
@@ -36,8 +36,8 @@ half0-of-spec =
     segment-at-requires
     segment-at-requires-2
     word-requires
-    shared-slice-read-t8
-    shared-slice-read-t10
-    shared-slice-read-t13
-    shared-slice-read-t16
+    shared-slice-read-t9
+    shared-slice-read-t11
+    shared-slice-read-t14
+    shared-slice-read-t17
     returns)

@@ -21,8 +21,8 @@ after-of-requires c κs = search needs
 mul-word : tie.Need-mul-word
 mul-word c = search needs
 
-element-copy-out-word : tie.Need-element-copy-out-word
-element-copy-out-word c = omega (arith, c .before .wide .ensures, c .before .before .before .before .before .pre .0 .halves-are (c .before .before .before .before .before .args .k) (c .before .before .before .before .before .pre .1))
+array-read-word : tie.Need-array-read-word
+array-read-word c = omega (arith, c .before .wide .ensures, c .before .before .before .before .before .pre .0 .halves-are (c .before .before .before .before .before .args .k) (c .before .before .before .before .before .pre .1))
 
 word-requires : tie.Need-word-requires
 word-requires c κs = search needs
@@ -44,8 +44,10 @@ lower-requires c κs = search needs
 
 returns : tie.Need-returns
 unfolding segmentAt
-returns c = let face = c .before .before .before .word .ensures ∙ ap (λ h. getD (c .before .before .before .before .before .before .before .before .before .before .args .t1 .names) (h / 3) 0) (c .before .before .before .before .before .before .wide .ensures) in
-    let low = c .lower .ensures ∙ ap (λ j. min (getD (now (c .before .before .before .before .before .before .before .before .before .before .args .points)) (c .before .before .before .before .before .before .before .before .before .before .args .k) 0) (getD (now (c .before .before .before .before .before .before .before .before .before .before .args .points)) j 0)) (c .before .before .before .before .before .after-of .ensures .0) in
+returns c =
+    let A = c .before .before .before .before .before .before .before .before .before .args in
+    let face = c .before .before .before .word .ensures ∙ ap (λ h. getD (A .t1) (h / 3) 0) (c .before .before .before .before .before .wide .ensures) in
+    let low = c .lower .ensures ∙ ap (λ j. min (getD (now (A .points)) (A .k) 0) (getD (now (A .points)) j 0)) (c .before .before .before .before .after-of .ensures .0) in
     ap₂ Segment face low
 
 pub segment-at-spec : {M : Type 1} → statement M
@@ -56,7 +58,7 @@ segment-at-spec =
     wide-requires
     after-of-requires
     mul-word
-    element-copy-out-word
+    array-read-word
     word-requires
     mul-lower
     shared-slice-read-lower

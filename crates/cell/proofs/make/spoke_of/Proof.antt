@@ -13,26 +13,26 @@ after-of-requires c κs = search needs
 word-requires : tie.Need-word-requires
 word-requires c κs = search needs
 
-shared-slice-read-t10 : tie.Need-shared-slice-read-t10
-shared-slice-read-t10 c = search needs
+shared-slice-read-t11 : tie.Need-shared-slice-read-t11
+shared-slice-read-t11 c = search needs
 
-mul-t11 : tie.Need-mul-t11
-mul-t11 c = search needs
+mul-t12 : tie.Need-mul-t12
+mul-t12 c = search needs
 
-shared-slice-read-t13 : tie.Need-shared-slice-read-t13
-shared-slice-read-t13 c = search needs
+shared-slice-read-t14 : tie.Need-shared-slice-read-t14
+shared-slice-read-t14 c = search needs
 
-mul-t15 : tie.Need-mul-t15
-mul-t15 c = search needs
+mul-t16 : tie.Need-mul-t16
+mul-t16 c = search needs
 
-shared-slice-read-t17 : tie.Need-shared-slice-read-t17
-shared-slice-read-t17 c = search needs
+shared-slice-read-t18 : tie.Need-shared-slice-read-t18
+shared-slice-read-t18 c = search needs
 
-cast-t20 : tie.Need-cast-t20
-cast-t20 c = search needs
+cast-t21 : tie.Need-cast-t21
+cast-t21 c = search needs
 
-cast-t22 : tie.Need-cast-t22
-cast-t22 c = search needs
+cast-t23 : tie.Need-cast-t23
+cast-t23 c = search needs
 
 returns : tie.Need-returns
 unfolding tracedTriangle triangle
@@ -45,11 +45,11 @@ spoke-of-spec =
     segment-at-requires
     after-of-requires
     word-requires
-    shared-slice-read-t10
-    mul-t11
-    shared-slice-read-t13
-    mul-t15
-    shared-slice-read-t17
-    cast-t20
-    cast-t22
+    shared-slice-read-t11
+    mul-t12
+    shared-slice-read-t14
+    mul-t16
+    shared-slice-read-t18
+    cast-t21
+    cast-t23
     returns)

@@ -16,17 +16,17 @@ segment-at-requires-3 c κs = search needs
 word-requires : tie.Need-word-requires
 word-requires c κs = search needs
 
-shared-slice-read-t9 : tie.Need-shared-slice-read-t9
-shared-slice-read-t9 c = search needs
+shared-slice-read-t10 : tie.Need-shared-slice-read-t10
+shared-slice-read-t10 c = search needs
 
-shared-slice-read-t11 : tie.Need-shared-slice-read-t11
-shared-slice-read-t11 c = search needs
+shared-slice-read-t12 : tie.Need-shared-slice-read-t12
+shared-slice-read-t12 c = search needs
 
-shared-slice-read-t14 : tie.Need-shared-slice-read-t14
-shared-slice-read-t14 c = search needs
+shared-slice-read-t15 : tie.Need-shared-slice-read-t15
+shared-slice-read-t15 c = search needs
 
-shared-slice-read-t17 : tie.Need-shared-slice-read-t17
-shared-slice-read-t17 c = search needs
+shared-slice-read-t18 : tie.Need-shared-slice-read-t18
+shared-slice-read-t18 c = search needs
 
 returns : tie.Need-returns
 unfolding tracedTriangle triangle
@@ -40,8 +40,8 @@ whole-of-spec =
     segment-at-requires-2
     segment-at-requires-3
     word-requires
-    shared-slice-read-t9
-    shared-slice-read-t11
-    shared-slice-read-t14
-    shared-slice-read-t17
+    shared-slice-read-t10
+    shared-slice-read-t12
+    shared-slice-read-t15
+    shared-slice-read-t18
     returns)

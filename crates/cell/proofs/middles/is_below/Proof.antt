@@ -1,27 +1,24 @@
 use native.Mathlib.Omega.{arith}
-use Prim.Native.Nat.{ℕ, _+_, _-_, _<_, _≤_}
-use mathlib.Core.Path.{_≡_, sym}
-use mathlib.Core.Logic.{⊎-elim}
-use Rattle.counting.proofs.Search.{below-or}
-use Rattle.cell.specs.Of.{countOf, startOf}
-use Rattle.cell.proofs.Fans.{below-all, below-not}
+use Prim.Native.Nat.{_-_, _≤_}
+use mathlib.Core.Logic.{⊎-elim, inl, inr}
+use Rattle.cell.proofs.Fans.{Highest, highest-none, highest-more, highest-all}
 use Rattle.cell.proofs.middles.is_below.Statement.{statement}
 use Rattle.cell.proofs.middles.is_below.Tie as tie
 
 abbrev Inv-loop : tie.InvT-loop
-Inv-loop c n e₀ e = (e ≤ 6) × ((k : ℕ) → k < e → startOf c k + countOf c k ≤ n)
+Inv-loop c n last₀ e₀ last e = (e ≤ 6) × Highest c e last
 
 abbrev μ-loop : tie.MeasureT-loop
-μ-loop c n e₀ e = 6 - e
-
-returns : tie.Need-returns Inv-loop μ-loop
-returns c = sym (below-not (c .before .before .before .before .args .c) (c .before .before .before .before .args .n) (c .before .before .before .loop .e) (omega arith) (omega (arith, c .before .end-of .ensures)))
+μ-loop c n last₀ e₀ last e = 6 - e
 
 loop-again : tie.Need-loop-again Inv-loop μ-loop
-loop-again c = (omega arith, λ k l. ⊎-elim (λ (q : k ≡ c .before .before .before .loop .e). rw q (omega (arith, c .before .end-of .ensures))) (λ (h : k < c .before .before .before .loop .e). c .before .before .before .loop .inv .1 k h) (below-or k (c .before .before .before .loop .e) (omega arith)))
+loop-again c =
+    let H = c .before .before .before .loop .inv .1 in
+    let e = c .before .end-of .ensures in
+    (omega arith, ⊎-elim (λ w. highest-more H (omega arith) (omega arith) (omega (arith, e)) (inr (omega (arith, e)))) (λ w. highest-more H (omega arith) (omega arith) (omega (arith, e)) (inl (omega arith))) (c .if1 .came))
 
-returns-2 : tie.Need-returns-2 Inv-loop μ-loop
-returns-2 c = sym (below-all (c .before .before .args .c) (c .before .before .args .n) (λ k l. c .before .loop .inv .1 k (omega arith)))
+returns : tie.Need-returns Inv-loop μ-loop
+returns c = highest-all (c .before .loop .inv .1) (omega arith) _
 
 pub is-below-spec : {M : Type 1} → statement M
 is-below-spec =
@@ -29,10 +26,9 @@ is-below-spec =
     (tie.spec
     Inv-loop
     μ-loop
-    (λ c. (omega arith, λ k l. absurd (omega arith)))
+    (λ c. (omega arith, highest-none _))
     (λ c κs. omega arith)
-    returns
     (λ c. omega arith)
     (λ c. omega arith)
     loop-again
-    returns-2)
+    returns)

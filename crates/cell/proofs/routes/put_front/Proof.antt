@@ -29,8 +29,8 @@ mul-t-4 c = search needs
 element-write-t-2 : tie.Need-element-write-t-2
 element-write-t-2 c = search needs
 
-wide8-requires : tie.Need-wide8-requires
-wide8-requires c κs = search needs
+wide16-requires : tie.Need-wide16-requires
+wide16-requires c κs = search needs
 
 mul-t-5 : tie.Need-mul-t-5
 mul-t-5 c = search needs
@@ -76,7 +76,7 @@ returns c =
     let q : 9 * h + 2 ≡ suc (suc (9 * h)) = omega arith in
     let r : 9 * h + 3 ≡ suc (suc (suc (9 * h))) = omega arith in
     let s : 9 * h + 4 ≡ suc (suc (suc (suc (9 * h)))) = omega arith in
-    rw (o, p, q, r, s, c .wide8 .ensures .0) refl
+    rw (o, p, q, r, s, c .wide16 .ensures .0) refl
 
 pub put-front-spec : {M : Type 1} → statement M
 put-front-spec =
@@ -90,7 +90,7 @@ put-front-spec =
     add-t-2
     mul-t-4
     element-write-t-2
-    wide8-requires
+    wide16-requires
     mul-t-5
     add-t-3
     mul-t-6

@@ -20,7 +20,7 @@ wide16-requires : tie.Need-wide16-requires
 wide16-requires c κs = search needs
 
 returns : tie.Need-returns
-returns c = record { count-is = c .before .before .count-of .ensures; small = omega (arith, c .before .before .count-of .ok); first-is = c .before .before .before .before .pre .1 (c .before .before .before .before .args .e) (omega (arith, c .before .before .before .before .pre .0)); start-is = c .wide16 .ensures .0 ∙ c .before .start-of .ensures; near = c .wide16 .ensures .1 }
+returns c = record { count-is = c .before .before .count-of .ensures; first-is = c .before .before .before .before .pre .1 (c .before .before .before .before .args .e) (omega (arith, c .before .before .before .before .pre .0)); start-is = c .wide16 .ensures .0 ∙ c .before .start-of .ensures; near = c .wide16 .ensures .1 }
 
 pub run-of-spec : {M : Type 1} → statement M
 run-of-spec =

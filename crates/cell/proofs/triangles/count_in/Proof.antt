@@ -9,11 +9,24 @@ use Rattle.cell.proofs.triangles.count_in.Tie as tie
 
 returns : tie.Need-returns
 returns c =
-    let e = no-triangles _ (sym (c .before .crossings-of .ensures .0) ∙ c .if1 .taken) in
+    let e = no-triangles _ (sym (c .before .before .before .before .pre .all) ∙ c .if1 .taken) in
     ((sym (ap length e), omega arith), used-none _ _ _ _)
 
+count-requires : tie.Need-count-requires
+count-requires c κs = search needs
+
+same-length : tie.Need-same-length
+same-length c = search needs
+
+same-length-2 : tie.Need-same-length-2
+same-length-2 c = search needs
+
+same-length-3 : tie.Need-same-length-3
+same-length-3 c = search needs
+
 returns-2 : tie.Need-returns-2
-returns-2 c = (c .count .ensures .0, rw (← c .before .before .before .before .before .crossings-of .ensures .0) (c .count .ensures .1))
+returns-2 c = search needs
 
 pub count-in-spec : {M : Type 1} → statement M
-count-in-spec = tie.close (tie.spec (λ c κs. search needs) returns (λ c κs. search needs) returns-2)
+count-in-spec =
+    tie.close (tie.spec returns count-requires same-length same-length-2 same-length-3 returns-2)

@@ -60,6 +60,7 @@ write-starts-spec =
     (λ c. search needs)
     slice-write-starts
     (λ c. search needs)
+    (λ c. search needs)
     (λ c κs. search needs)
     add-s
     (λ c. search needs)
