@@ -1,15 +1,24 @@
 -- A point of space (01): a struct of three 64-bit floats, and what is done with it. Each operation on floats rounds once.
 use Prim.Native.Nat.{ℕ, zero, suc, _+_, _-_, _*_}
+use mathlib.Core.Bool.{Bool, _&&_}
 use mathlib.Core.List.{List, [], _∷_}
 use lib.ListN.{getD}
-use lib.IntN.{pos}
-use lib.Ieee.{Float, nan, binary64, add, sub, mul, div, ofInt}
+use lib.IntN.{pos, negℤ}
+use lib.Ieee.{Float, nan, binary64, add, sub, mul, div, le, ofInt}
 use Rattle.counting.specs.Lists.{gather}
 use Rattle.place.specs.declared.Place.{Place}
 
 -- the whole number n as a float
 abbrev pub floatOf : ℕ → Float
 floatOf n = ofInt binary64 (pos n)
+
+-- the farthest that a number of a point may be from 0
+abbrev pub farthest : ℕ
+farthest = 1000000
+
+-- not farther, to either side: false of a NaN and of the infinities
+unfoldable pub within : Float → Bool
+within x = le (ofInt binary64 (negℤ (pos farthest))) x && le x (floatOf farthest)
 
 -- u + s × (v − u)
 abbrev pub along : Float → Float → Float → Float

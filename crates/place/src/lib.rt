@@ -4,12 +4,23 @@ ghost use Prim.Native.Nat.{_+_, _*_, _<_};
 ghost use lib.ListN.{length, getD};
 ghost use lib.Ieee.{nan};
 ghost use Rattle.counting.specs.Stored.{storedIn};
-ghost use Rattle.place.specs.Place.{between, added, divided, middle, coordinates, placeAt, numbers};
+ghost use Rattle.place.specs.Place.{within, between, added, divided, middle, coordinates, placeAt, numbers};
 
 pub struct Place {
     pub x: f64,
     pub y: f64,
     pub z: f64,
+}
+
+// Whether a number is within a million, the ends allowed.
+pub fn is_within(x: f64) -> bool
+    ensures { λ r. ⌜ r ≡ within x ⌝ }
+{
+    if -1000000.0 <= x {
+        x <= 1000000.0
+    } else {
+        false
+    }
 }
 
 // The point with fraction s from u to v.

@@ -1,18 +1,18 @@
 -- Where both ends' numbers are whole and the fraction is a whole number of 1,024ths, no operation of a placed crossing rounds.
 use mathlib.Core.Path.{_≡_, refl, sym, ap, _∙_, subst}
 use Prim.Native.Nat.{ℕ, _+_, _*_, _≤_, _<_}
-use native.Mathlib.Nat.{le-of-mul-le-mul-right, le-of-lt}
+use native.Mathlib.Nat.{le-of-mul-le-mul-right}
 use native.Mathlib.Omega.{arith}
-use mathlib.Core.Bool.{Bool, true, false, _&&_, _||_}
-use lib.Dec.{lit<, lit≤, ltb, eqb}
-use lib.IntN.{ℤ, pos, negℤ, natAbs, _+ℤ_, _-ℤ_, _*ℤ_, *ℤ-comm}
-use lib.Ieee.{Float, nan, inf, fin, binary64, up, down, sub, mul, lt, le, eq, ofInt}
+use mathlib.Core.Bool.{true, false}
+use lib.Dec.{lit<, lit≤, ltb}
+use lib.IntN.{ℤ, pos, natAbs, _+ℤ_, _-ℤ_, _*ℤ_, *ℤ-comm}
+use lib.Ieee.{Float, nan, inf, fin, binary64, up, down, sub, mul, lt, ofInt}
 use lib.Ieee.Fits.{down-pos}
-use borrow.Author.Tests.{ltb-true, eqb-true}
-use Rattle.counting.proofs.Bools.{and-left, and-right, or-cases, clash}
-use mathlib.Core.Logic.{⊎-elim}
-use Rattle.place.specs.Place.{floatOf, along}
-use Rattle.places.specs.Numbers.{farthest, within, properFraction}
+use borrow.Author.Tests.{ltb-true}
+use Rattle.counting.proofs.Bools.{and-right, clash}
+use Rattle.place.specs.Place.{floatOf, farthest, within, along}
+use Rattle.place.proofs.Within.{within-limited}
+use Rattle.places.specs.Numbers.{properFraction}
 use Rattle.places.specs.Exact.{Exactly, parts}
 use Rattle.places.proofs.Values.{Val, size-of, add-val, sub-val, mul-val, scale-val}
 
@@ -34,25 +34,12 @@ along-exact U W S u v k hU hV hS lu lv lk =
 size-is : {x : Float} {z : ℤ} {c : ℕ} (X : Exactly c x z) → natAbs z ≡ X .size
 size-is X = ap natAbs (sym (X .is)) ∙ size-of (X .sign) (X .size)
 
-at-most : (a b : ℕ) (q : Bool) → (q ≡ true → a ≡ b) → (ltb a b || q) ≡ true → a ≤ b
-at-most a b q f h = ⊎-elim (λ e. le-of-lt (ltb-true a b e)) (λ e. (let z = f e in omega arith)) (or-cases (ltb a b) q h)
-
 -- the limits of rows 16 and 17 are limits on such numbers
 pub within-whole : (x : Float) (z : ℤ) → Exactly 1 x z → within x ≡ true → natAbs z ≤ farthest
-unfolding within ofInt le lt eq
 within-whole nan z X h = absurd (X .has)
 within-whole (inf s) z X h = absurd (X .has)
-within-whole (fin true m e) z X h =
-    let n = m * up e * 1 in
-    let b = farthest * down e in
-    let a = at-most n b (eqb b n && true) (λ q. sym (eqb-true b n (and-left (eqb b n) true q))) (and-left (ltb n b || (eqb b n && true)) (le (fin true m e) (floatOf farthest)) h) in
-    let l : X .size * down e ≤ farthest * down e = omega (arith, a, X .has .1) in
-    subst (λ k. k ≤ farthest) (sym (size-is X)) (le-of-mul-le-mul-right l (down-pos e))
-within-whole (fin false m e) z X h =
-    let n = m * up e * 1 in
-    let b = farthest * down e in
-    let a = at-most n b (eqb n b && true) (λ q. eqb-true n b (and-left (eqb n b) true q)) (and-right (le (ofInt binary64 (negℤ (pos farthest))) (fin false m e)) (ltb n b || (eqb n b && true)) h) in
-    let l : X .size * down e ≤ farthest * down e = omega (arith, a, X .has .1) in
+within-whole (fin s m e) z X h =
+    let l : X .size * down e ≤ farthest * down e = omega (arith, within-limited (fin s m e) h, X .has .1) in
     subst (λ k. k ≤ farthest) (sym (size-is X)) (le-of-mul-le-mul-right l (down-pos e))
 
 pub proper-part : (x : Float) (z : ℤ) → Exactly parts x z → properFraction x ≡ true → natAbs z ≤ parts

@@ -16,8 +16,8 @@ use Rattle.counting.proofs.Pack.{row-lt}
 use native.Mathlib.Nat.{zero-add}
 use Rattle.grid.specs.Grid.{Grid, low, high, start, countOf, crossings}
 use Rattle.place.specs.declared.Place.{Place}
-use Rattle.place.specs.Place.{along, coordinates, placeAt, numbers}
-use Rattle.places.specs.Numbers.{within, properFraction}
+use Rattle.place.specs.Place.{within, along, coordinates, placeAt, numbers}
+use Rattle.places.specs.Numbers.{properFraction}
 use Rattle.places.specs.Points.{edgeOfCrossing, crossingPlace, middles, points}
 use Rattle.places.specs.Rows.{hasNode, badNumber, badFractionAt, badFraction}
 use Rattle.places.specs.Answer.{needed, placesAnswer, placesArea}

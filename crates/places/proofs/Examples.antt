@@ -20,8 +20,8 @@ use Rattle.manifold.specs.Shape.{hasMiddle}
 use Rattle.cell.specs.Triangles.{numberOf}
 use Rattle.cell.specs.Middles.{isFan, loopPoint, loopMiddle, cellMiddles}
 use Rattle.mesh.specs.Mesh.{gridCell}
-use Rattle.place.specs.Place.{sumTo, middle}
-use Rattle.places.specs.Numbers.{within, properFraction}
+use Rattle.place.specs.Place.{within, sumTo, middle}
+use Rattle.places.specs.Numbers.{properFraction}
 use Rattle.places.specs.Points as points
 use Rattle.places.specs.Rows.{hasNode, highest, badLists, badNumber, badFractionAt, badFraction}
 use Rattle.places.specs.Answer.{placeRows, rowsAnswer, placesAnswer, placed, placesArea}

@@ -14,8 +14,7 @@ use Rattle.counting.proofs.Bools.{not-clash}
 use Rattle.counting.specs.Search.{some, first, last}
 use Rattle.counting.proofs.Search.{some-zero, some-hit, some-miss, some-blocks, first-ext, last-at, last-hit, last-miss}
 use Rattle.grid.specs.Grid.{highestNode, cellCount}
-use Rattle.place.specs.Place.{coordinates}
-use Rattle.places.specs.Numbers.{within}
+use Rattle.place.specs.Place.{within, coordinates}
 use Rattle.places.specs.Rows.{hasNode, highest, nodeEnd, badNumber}
 use Rattle.places.proofs.Nodes.{highest-has, has-highest}
 use Rattle.places.specs.Work.{Marked, isMarked, badMarked}

@@ -7,8 +7,8 @@ use lib.ListN.{length, getD}
 use lib.Ieee.{Float, nan, lt}
 use Rattle.counting.specs.Search.{some}
 use Rattle.grid.specs.Grid.{cellCount, node, crossings}
-use Rattle.place.specs.Place.{coordinates}
-use Rattle.places.specs.Numbers.{within, properFraction}
+use Rattle.place.specs.Place.{within, coordinates}
+use Rattle.places.specs.Numbers.{properFraction}
 use Rattle.places.specs.Points.{indexOfCrossing}
 
 -- v is a node of some cell

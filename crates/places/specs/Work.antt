@@ -14,8 +14,7 @@ use Rattle.cell.specs.Middles.{cellMiddles, numberedBelow}
 use Rattle.cell.specs.Table.{tableCell, drawnCells}
 use Rattle.grid.specs.Grid.{highestNode, mostCrossings, cellCount, crossings}
 use Rattle.place.specs.declared.Place.{Place}
-use Rattle.place.specs.Place.{between, coordinates, allNumbers}
-use Rattle.places.specs.Numbers.{within}
+use Rattle.place.specs.Place.{within, between, coordinates, allNumbers}
 use Rattle.places.specs.Points.{crossingPlace}
 use Rattle.places.specs.Rows.{hasNode}
 use Rattle.places.specs.Answer.{rowsAnswer}

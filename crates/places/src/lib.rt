@@ -1,7 +1,7 @@
 // The places call: the points of a mesh, by the places of the nodes and the fractions of the crossings.
 ghost use mathlib.Core.Path.{_≡_};
 ghost use Rattle.grid.specs.Grid.{gridOf};
-ghost use Rattle.places.specs.Numbers.{within, properFraction};
+ghost use Rattle.places.specs.Numbers.{properFraction};
 ghost use Rattle.places.specs.Answer.{placesNumbers};
 ghost use Rattle.places.specs.Done.{Done};
 ghost use Rattle.places.specs.Work.{Ready, PointsIn};
@@ -16,17 +16,6 @@ mod rows;
 pub enum Placed {
     Points(u32),
     Refused(u8, usize),
-}
-
-// Whether a number is within a million, the ends allowed.
-fn is_within(x: f64) -> bool
-    ensures { λ r. ⌜ r ≡ within x ⌝ }
-{
-    if -1000000.0 <= x {
-        x <= 1000000.0
-    } else {
-        false
-    }
 }
 
 // Whether a fraction is above 0 and below 1.

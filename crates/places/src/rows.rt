@@ -10,7 +10,6 @@ ghost use Rattle.places.specs.Answer.{placesNumbers, rowsAnswer};
 ghost use Rattle.places.specs.Work.{Markable, Marked, isMarked, badMarked, Reaching, Judgeable};
 use super::Placed;
 use super::is_proper;
-use super::is_within;
 use grid::HIGHEST_NODE;
 
 // A node's number, or the count of an edge.
@@ -54,7 +53,7 @@ fn bad_number(used: &[u8], nodes: &[f64], i: usize) -> bool
 {
     let v = i / 3;
     if used[v] == 1 {
-        return !is_within(nodes[i]);
+        return !place::is_within(nodes[i]);
     }
     false
 }

@@ -1,7 +1,7 @@
 use lib.Ieee.{ofBits, neg, ofInt}
-use Rattle.places.specs.Numbers.{within}
-use Rattle.places.proofs.is_within.Statement.{statement}
-use Rattle.places.proofs.is_within.Tie as tie
+use Rattle.place.specs.Place.{within}
+use Rattle.place.proofs.is_within.Statement.{statement}
+use Rattle.place.proofs.is_within.Tie as tie
 
 returns : tie.Need-returns
 unfolding within ofBits neg ofInt
