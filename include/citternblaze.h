@@ -25,9 +25,9 @@
  * - Of C's functions memcpy and memset, at most.
  * - Stack: CITTERNBLAZE_STACK_BYTES suffice for any call. The four calls on a
  *   grid take 264 to 530 KB, as measured, each other call under 1 KB.
- * - For citternblaze_places, 64-bit floating point as a C program finds it at its
- *   start: rounding to nearest, subnormal numbers on (no flush to zero), no
- *   exception trapped. The other calls do not compute with it.
+ * - For citternblaze_places and citternblaze_nearest, 64-bit floating point as a C
+ *   program finds it at its start: rounding to nearest, subnormal numbers on (no
+ *   flush to zero), no exception trapped. The other calls do not compute with it.
  * - Nothing of threads: there is no state between calls, and any number of
  *   threads may call at once, where no area that one of them writes is lent to
  *   another. */
@@ -107,6 +107,7 @@
 #define CITTERNBLAZE_REFUSED_NODE_PLACE 16   /* a number of a node's place */
 #define CITTERNBLAZE_REFUSED_FRACTION 17     /* a fraction */
 #define CITTERNBLAZE_REFUSED_COUNT 18        /* a count over 4095 */
+#define CITTERNBLAZE_REFUSED_POINTS 23       /* nearest: list or number */
 
 #ifdef __cplusplus
 extern "C" {
@@ -248,6 +249,24 @@ size_t citternblaze_bundle_write(const uint16_t *nodes, size_t nodes_len,
                                  const uint16_t *counts, size_t counts_len,
                                  uint8_t *area, size_t area_len,
                                  uint64_t *answer, size_t answer_len);
+
+/* The nearest call. Which point of a list is nearest to a place, the query.
+ *
+ * Reads the points, three numbers each, as citternblaze_places writes them; and
+ * the query's three numbers.
+ *
+ * The squared distance of a point is (dx * dx + dy * dy) + dz * dz, where dx, dy
+ * and dz are its numbers less those of the query, each operation rounded once.
+ *
+ * Answers 0, the number of the point with the least squared distance, the lowest
+ * of several, and this distance, as the bits of a double: memcpy(&distance,
+ * &answer[2], sizeof distance). Or 0 alone, where the list is empty. Or 23 and a
+ * place: 0 where the list is not three numbers to a point, and else the lowest
+ * index of a number that is not from -1000000 to 1000000, where x, y and z have
+ * the indices points_len, points_len + 1 and points_len + 2. */
+size_t citternblaze_nearest(const double *points, size_t points_len,
+                            double x, double y, double z,
+                            uint64_t *answer, size_t answer_len);
 
 #ifdef __cplusplus
 }

@@ -13,6 +13,8 @@ pub mod bundle;
 
 pub mod places;
 
+pub mod nearest;
+
 pub mod listing;
 
 pub mod gen;

@@ -333,6 +333,47 @@ static void test_bundle_write(void) {
   write_bundle("write, answer area of 5", 4, 2, 1, 28, SHORT);
 }
 
+/* The nearest of the first points_len numbers to x, y, z. A distance that is
+ * answered is printed as the number that its bits are. */
+static void nearest(const char *call, const double *points, size_t points_len,
+                    double x, double y, double z, size_t answer_len) {
+  size_t many =
+      citternblaze_nearest(points, points_len, x, y, z, answer, answer_len);
+  double distance = -77;
+  if (many == 3)
+    memcpy(&distance, &answer[2], sizeof distance);
+  show(call, many);
+  if (many == 3)
+    printf("  distance %.17g\n", distance);
+}
+
+static void test_nearest(void) {
+  static const double list[] = {3, 4, 12, 0, -1, 0, 1, 0, 0, 0.9, 1.8, 0.8};
+  static const double signs[] = {0.0, -0.0, 0.0};
+  static const double ends[] = {1e6, -1e6, 1e6};
+  double odd[] = {0, 0, 0, 0, 0, 0};
+  const double nan = (odd[0] / odd[0]), infinity = 1 / odd[0];
+  nearest("nearest of 1", list, 3, 0, 0, 0, ROOM);
+  nearest("nearest of 2 as near", list, 9, 0, 0, 0, ROOM);
+  nearest("nearest of 4, the last", list, 12, 1, 2, 1, ROOM);
+  nearest("nearest of 4, in the first", list, 12, 3, 4, 12, ROOM);
+  nearest("nearest, -0", signs, 3, -0.0, 0, -0.0, ROOM);
+  nearest("nearest, the greatest distance", ends, 3, -1e6, 1e6, -1e6, ROOM);
+  nearest("nearest of none", list, 0, 0, 0, 0, ROOM);
+  nearest("nearest of none, y not a number", list, 0, 0, nan, 0, ROOM);
+  nearest("nearest of 2 numbers", list, 2, nan, 0, 0, ROOM);
+  nearest("nearest of 2, z beyond the limit", list, 6, 0, 0, -1000001, ROOM);
+  nearest("nearest of 2, x infinite", list, 6, infinity, nan, 0, ROOM);
+  odd[4] = nan;
+  odd[5] = -infinity;
+  nearest("nearest of 2, number 4 not a number", odd, 6, nan, 0, 0, ROOM);
+  odd[4] = 0;
+  nearest("nearest of 2, number 5 infinite", odd, 6, 0, 0, 0, ROOM);
+  nearest("nearest, answer area of 6", list, 9, 0, 0, 0, ENOUGH);
+  nearest("nearest, answer area of 5", list, 9, 0, 0, 0, SHORT);
+  nearest("nearest, answer area of 0", list, 9, 0, 0, 0, 0);
+}
+
 /* A refusal of docs/FORMAT.md: its name and number in the header, and what an
  * example of it answers. */
 static void refusal(const char *name, uint64_t number, size_t many) {
@@ -437,6 +478,8 @@ static void test_other_refusals(void) {
   REFUSAL(FRACTION,
           citternblaze_places(cells, 4, six, 12, twice, 6, nodes, 12, halves, 2,
                               points, 9, answer, ROOM));
+  REFUSAL(POINTS, citternblaze_nearest(nodes, 11, 0, 0, 0, answer, ROOM));
+  REFUSAL(POINTS, citternblaze_nearest(nodes, 12, 0, 0, 2e6, answer, ROOM));
 }
 
 /* Every list and every area as (NULL, 0). */
@@ -474,6 +517,8 @@ static void test_null(void) {
   show("write nothing into no area",
        citternblaze_bundle_write(NULL, 0, NULL, 0, NULL, 0, NULL, 0, answer,
                                  ROOM));
+  show("nearest of nothing",
+       citternblaze_nearest(NULL, 0, 0, 0, 0, answer, ROOM));
   show("check, no answer area",
        citternblaze_check(NULL, 0, NULL, 0, NULL, 0, NULL, 0));
   show("mesh, no answer area",
@@ -489,6 +534,8 @@ static void test_null(void) {
        citternblaze_bundle_read(NULL, 0, NULL, 0, NULL, 0, NULL, 0, NULL, 0));
   show("write, no answer area",
        citternblaze_bundle_write(NULL, 0, NULL, 0, NULL, 0, NULL, 0, NULL, 0));
+  show("nearest, no answer area",
+       citternblaze_nearest(NULL, 0, 0, 0, 0, NULL, 0));
 }
 
 int main(void) {
@@ -501,6 +548,7 @@ int main(void) {
   test_record();
   test_bundle_read();
   test_bundle_write();
+  test_nearest();
   test_grid_refusals();
   test_other_refusals();
   test_null();

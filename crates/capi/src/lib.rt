@@ -16,6 +16,7 @@ ghost use Rattle.answer.specs.Answer.{result};
 ghost use Rattle.cell.specs.Answer.{typeNumbers, loopNumbers};
 ghost use Rattle.mesh.specs.Answer.{meshAnswer, meshArea, loopsAnswer};
 ghost use Rattle.places.specs.Answer.{placesAnswer, placesArea};
+ghost use Rattle.nearest.specs.Answer.{nearestAnswer};
 use bundle::BROKEN_ROW;
 use bundle::Contents;
 use bundle::HEAD_BYTES;
@@ -28,6 +29,9 @@ use face::Join;
 use grid::Checked;
 use mesh::Looped;
 use mesh::Meshed;
+use nearest::Measured;
+use nearest::Nearest;
+use place::Place;
 use places::Placed;
 
 // The words that hold any answer: CITTERNBLAZE_ANSWER_WORDS of the header.
@@ -245,5 +249,28 @@ pub extern "C" fn citternblaze_bundle_write(
         Written::Bytes(n) => put(answer, &[0, n as u64]),
         Written::Unformed => put(answer, &[BROKEN_ROW as u64, 0]),
         Written::Short(needed) => put(answer, &[SHORT_ROW as u64, needed as u64]),
+    }
+}
+
+// The nearest call: 0, the number of the nearest point and the bits of its squared distance; 0 alone where the list has no point; or the number
+// and the place of a refusal.
+#[no_mangle]
+pub extern "C" fn citternblaze_nearest(
+    points: &[f64],
+    x: f64,
+    y: f64,
+    z: f64,
+    answer: &mut [u64],
+) -> usize
+    ensures { λ r. ⌜ Answers (nearestAnswer (now (points .entry)) (record { x = x; y = y; z = z })) (now (answer .entry)) (now (answer .exit)) r ⌝ }
+{
+    match nearest::nearest_point(points, Place { x, y, z }) {
+        Measured::Told(n) => {
+            match n {
+                Nearest::NoPoint => put(answer, &[0]),
+                Nearest::At(k, d) => put(answer, &[0, k as u64, f64::to_bits(d)]),
+            }
+        }
+        Measured::Refused(row, place) => put(answer, &[row as u64, place as u64]),
     }
 }

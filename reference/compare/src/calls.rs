@@ -110,6 +110,16 @@ mod c {
             answer_len: usize,
         ) -> usize;
 
+        pub fn citternblaze_nearest(
+            points: *const f64,
+            points_len: usize,
+            x: f64,
+            y: f64,
+            z: f64,
+            answer: *mut u64,
+            answer_len: usize,
+        ) -> usize;
+
         pub fn citternblaze_bundle_refusal(bytes: *const u8, length: usize) -> u32;
 
         pub fn citternblaze_bundle_cells(bytes: *const u8, length: usize) -> u64;
@@ -270,6 +280,11 @@ pub fn bundle_write(
             answer.len(),
         )
     }
+}
+
+pub fn nearest(points: &[f64], [x, y, z]: [f64; 3], answer: &mut [u64]) -> usize {
+    let (area, len) = (answer.as_mut_ptr(), answer.len());
+    unsafe { c::citternblaze_nearest(points.as_ptr(), points.len(), x, y, z, area, len) }
 }
 
 /// The host's three numbers: the refusal or 0, the cells, the edges.

@@ -6,7 +6,8 @@ use reference::face::{self, Join};
 use reference::gen::Sample;
 use reference::grid;
 use reference::mesh::Mesher;
-use reference::places;
+use reference::nearest::{self, Nearest};
+use reference::places::{self, Place};
 use reference::Refusal;
 
 use crate::placing::Placing;
@@ -112,6 +113,16 @@ pub fn bundle_read(
 pub fn bundle_write(nodes: &[u16], ends: &[u16], counts: &[u16], area: &mut [u8]) -> Vec<u64> {
     let answer = bundle::write(nodes, ends, counts, area);
     numbers(answer, |bytes| vec![bytes as u64])
+}
+
+/// 0, the point's number and the bits of its squared distance; 0 alone for no
+/// point; or a refusal.
+pub fn nearest(points: &[f64], [x, y, z]: [f64; 3]) -> Vec<u64> {
+    let answer = nearest::nearest(points, Place { x, y, z });
+    numbers(answer, |found| match found {
+        Nearest::NoPoint => vec![],
+        Nearest::At { number, squared } => vec![number as u64, squared.to_bits()],
+    })
 }
 
 /// The host's three numbers: the refusal or 0, the cells, the edges.

@@ -1,15 +1,19 @@
-//! Times the proved mesh call and grid check and the second implementation's in
-//! one run. All work on the same grid in turn; the order of a round alternates.
+//! Times the proved mesh call, grid check and nearest call and the second
+//! implementation's in one run. All work on the same input in turn; the order of
+//! a round alternates.
 
 use std::env;
+use std::iter;
 use std::time::{Duration, Instant};
 
-use compare::calls;
 use compare::lent::ANSWER_WORDS;
+use compare::{calls, expected};
 use reference::cell::TRIANGLE_WORDS;
 use reference::gen::{box_of_six, closed_fan, cone, separate, Rng, Sample};
 use reference::grid::{self, GridTables, Lists, MAX_CELLS};
 use reference::mesh::{self, Mesher};
+use reference::nearest;
+use reference::places::{Place, FURTHEST};
 
 /// How long the calls on one grid are repeated: so many milliseconds, or those
 /// of the first argument. A second argument is the front of the names of the
@@ -19,8 +23,8 @@ const PATIENCE: u64 = 1_500;
 /// Least rounds on one grid, however long they take.
 const ROUNDS: usize = 15;
 
-/// What is timed in each round: the proved call, the second implementation with
-/// memory kept from the call before, and with new memory.
+/// What is timed in each round of a call on a grid: the proved call, the second
+/// implementation with memory kept from the call before, and with new memory.
 const WAYS: usize = 3;
 
 /// Times of one way's calls on one grid, in microseconds.
@@ -30,19 +34,15 @@ struct Times {
 }
 
 /// Times of each way, `call(way)` in turn.
-fn times(patience: Duration, mut call: impl FnMut(usize)) -> [Times; WAYS] {
-    let mut micros: [Vec<f64>; WAYS] = Default::default();
+fn times<const N: usize>(patience: Duration, mut call: impl FnMut(usize)) -> [Times; N] {
+    let mut micros = [(); N].map(|()| Vec::new());
     let begin = Instant::now();
     for round in 0.. {
         if round >= ROUNDS && begin.elapsed() >= patience {
             break;
         }
-        for turn in 0..WAYS {
-            let way = if round % 2 == 0 {
-                turn
-            } else {
-                WAYS - 1 - turn
-            };
+        for turn in 0..N {
+            let way = if round % 2 == 0 { turn } else { N - 1 - turn };
             let start = Instant::now();
             call(way);
             micros[way].push(start.elapsed().as_secs_f64() * 1e6);
@@ -121,6 +121,25 @@ fn check_times(grid: &Sample, patience: Duration) -> [Times; WAYS] {
     })
 }
 
+/// Times of the point of a list that is nearest to the origin: the proved call
+/// and the second implementation, which keep no memory.
+fn nearest_times(points: &[f64], patience: Duration) -> [Times; 2] {
+    let numbers = expected::nearest(points, [0.0; 3]);
+    let origin = Place {
+        x: 0.0,
+        y: 0.0,
+        z: 0.0,
+    };
+    let mut answer = [1; ANSWER_WORDS];
+    times(patience, |way| match way {
+        0 => {
+            calls::nearest(points, [0.0; 3], &mut answer);
+            assert_eq!(answer[..numbers.len()], numbers);
+        }
+        _ => assert!(nearest::nearest(points, origin).is_ok()),
+    })
+}
+
 fn size(grid: &Sample) -> String {
     let crossings: u32 = grid.counts.iter().map(|&count| u32::from(count)).sum();
     let cells = grid.cells.len() / 4;
@@ -191,6 +210,25 @@ impl Bench {
             proved.median / new.median,
         );
     }
+
+    fn nearest(&self, name: &str, points: &[f64]) {
+        if !name.starts_with(&self.only) {
+            return;
+        }
+        let [proved, reference] = nearest_times(points, self.patience);
+        println!(
+            "{name}: {} points\n\
+         \x20 best:   proved {:8.1} us; reference {:8.1} us, ratio {:.2}\n\
+         \x20 median: proved {:8.1} us; reference {:8.1} us, ratio {:.2}",
+            points.len() / 3,
+            proved.best,
+            reference.best,
+            proved.best / reference.best,
+            proved.median,
+            reference.median,
+            proved.median / reference.median,
+        );
+    }
 }
 
 /// A box of this many cells.
@@ -257,6 +295,18 @@ fn growth(bench: &Bench) {
     }
 }
 
+/// Points anywhere within the limit, and points that come nearer and nearer.
+fn lists(bench: &Bench) {
+    let mut rng = Rng::new(4);
+    for many in [100, 65_535, 1_000_000] {
+        let anywhere = || rng.between(0, 2_000_000) as f64 - FURTHEST;
+        let points: Vec<f64> = iter::repeat_with(anywhere).take(3 * many).collect();
+        bench.nearest("7 nearest, points anywhere", &points);
+    }
+    let nearer: Vec<f64> = (0..3 * 65_535).rev().map(|at| f64::from(at / 3)).collect();
+    bench.nearest("7 nearest, each point nearer", &nearer);
+}
+
 fn main() {
     let millis = match env::args().nth(1) {
         Some(text) => text.parse().expect("milliseconds"),
@@ -272,11 +322,13 @@ fn main() {
          clear their tables, on the stack, in each call; the reference keeps its own from call to \
          call, uncleared, or makes new ones. Triangle areas are written before the first round \
          and not cleared between rounds. An area has room for any mesh with so many crossings in \
-         its cells, so that the proved call need not count first, or for this mesh alone.",
+         its cells, so that the proved call need not count first, or for this mesh alone. The \
+         nearest call and its reference keep nothing.",
         bench.patience
     );
     meshes(&bench);
     checks(&bench);
     growth(&bench);
     thousands(&bench);
+    lists(&bench);
 }
