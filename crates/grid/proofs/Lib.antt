@@ -13,4 +13,5 @@ pub mod Linking
 pub mod Accepts
 pub mod Filled
 pub mod Names
+pub mod Nodes
 pub mod Examples

@@ -43,6 +43,10 @@ module _ (cells : List ℕ) where
   abbrev pub node : ℕ → ℕ → ℕ
   node c i = getD cells (4 * c + i) 0
 
+  -- v is a node of some cell
+  unfoldable pub hasNode : ℕ → Bool
+  hasNode v = some (λ c. some (λ i. eqb (node c i) v) 4) cellCount
+
   -- node i, of three, of slot s (01) of cell c
   unfoldable pub faceNode : ℕ → ℕ → ℕ → ℕ
   faceNode c s i = node c (position s i)

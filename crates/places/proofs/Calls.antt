@@ -34,7 +34,7 @@ use Rattle.places.specs.Points.{crossingPlace, middles, points}
 use Rattle.places.specs.Answer.{rowsAnswer, placesAnswer, placed, placesArea}
 use Rattle.places.specs.Done.{Done}
 use Rattle.places.specs.Work.{tableMiddles, tablePoints, Ready, PointsIn}
-use Rattle.places.proofs.Nodes.{numbers-small}
+use Rattle.grid.proofs.Nodes.{numbers-small}
 use Rattle.places.proofs.Fractions.{start-fits}
 use Rattle.places.proofs.ExactCase.{exact-case}
 

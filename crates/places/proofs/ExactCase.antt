@@ -14,12 +14,12 @@ use Rattle.counting.proofs.Bools.{or-none}
 use Rattle.counting.proofs.Lists.{length-singles, getD-singles}
 use Rattle.counting.proofs.Pack.{row-lt}
 use native.Mathlib.Nat.{zero-add}
-use Rattle.grid.specs.Grid.{Grid, low, high, start, countOf, crossings}
+use Rattle.grid.specs.Grid.{Grid, low, high, start, countOf, crossings, hasNode}
 use Rattle.place.specs.declared.Place.{Place}
 use Rattle.place.specs.Place.{within, along, coordinates, placeAt, numbers}
 use Rattle.places.specs.Numbers.{properFraction}
 use Rattle.places.specs.Points.{edgeOfCrossing, crossingPlace, middles, points}
-use Rattle.places.specs.Rows.{hasNode, badNumber, badFractionAt, badFraction}
+use Rattle.places.specs.Rows.{badNumber, badFractionAt, badFraction}
 use Rattle.places.specs.Answer.{needed, placesAnswer, placesArea}
 use Rattle.places.specs.Exact.{Exactly, parts, ExactCase}
 use Rattle.place.proofs.Numbers.{front-at, number-loaded, number-between}

@@ -13,7 +13,7 @@ use Rattle.walk.specs.Step as step
 use Rattle.walk.specs.Walk as walk
 use Rattle.cell.specs.Cell as cell
 use Rattle.cell.specs.Loop as loop
-use Rattle.grid.specs.Grid.{faceNode, sameFace, hasFace, faceName, joins, isEdge, hasEdge, edgeNumber, start}
+use Rattle.grid.specs.Grid.{faceNode, sameFace, hasFace, faceName, joins, isEdge, hasEdge, edgeNumber, start, hasNode}
 use Rattle.answer.specs.Rows.{orRefuse, answerOf}
 use Rattle.grid.specs.Rows.{badLength, badPairs, badCell, sameCell, repeats, crowded, isAfter, badEdge, badCount, unlisted, unused, linked, reached, split, tooMany, rows, gridAnswer}
 use Rattle.manifold.specs.Shape.{hasMiddle}
@@ -23,7 +23,7 @@ use Rattle.mesh.specs.Mesh.{gridCell}
 use Rattle.place.specs.Place.{within, sumTo, middle}
 use Rattle.places.specs.Numbers.{properFraction}
 use Rattle.places.specs.Points as points
-use Rattle.places.specs.Rows.{hasNode, highest, badLists, badNumber, badFractionAt, badFraction}
+use Rattle.places.specs.Rows.{highest, badLists, badNumber, badFractionAt, badFraction}
 use Rattle.places.specs.Answer.{placeRows, rowsAnswer, placesAnswer, placed, placesArea}
 use Rattle.places.specs.Examples.{examples, asked, listed, ExamplesHold}
 

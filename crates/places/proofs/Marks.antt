@@ -5,53 +5,27 @@ use mathlib.Core.Bool.{Bool, true, false, not, _&&_}
 use mathlib.Core.List.{List}
 use native.Mathlib.Omega.{arith}
 use lib.Dec.{eqb}
-use lib.ListN.{length, getD, set, replicate, length-set, length-replicate, getD-replicate}
-use lib.Seq.{getD-set-same, getD-set-other}
+use lib.ListN.{length, getD}
 use lib.Ieee.{Float, nan}
-use borrow.Author.Tests.{eq-eqb, ne-eqb, eqb-true, eqb-false}
-use Rattle.counting.specs.Pick.{one}
+use borrow.Author.Tests.{eq-eqb, ne-eqb}
+use Rattle.counting.specs.Pick.{pick, one}
 use Rattle.counting.proofs.Bools.{not-clash}
-use Rattle.counting.specs.Search.{some, first, last}
-use Rattle.counting.proofs.Search.{some-zero, some-hit, some-miss, some-blocks, first-ext, last-at, last-hit, last-miss}
-use Rattle.grid.specs.Grid.{highestNode, cellCount}
+use Rattle.counting.specs.Search.{first, last}
+use Rattle.counting.proofs.Search.{first-ext, last-at, last-hit, last-miss}
+use Rattle.grid.specs.Grid.{highestNode, cellCount, hasNode}
 use Rattle.place.specs.Place.{within, coordinates}
-use Rattle.places.specs.Rows.{hasNode, highest, nodeEnd, badNumber}
+use Rattle.places.specs.Rows.{highest, nodeEnd, badNumber}
+use Rattle.grid.proofs.Nodes.{Noted, noted-all}
 use Rattle.places.proofs.Nodes.{highest-has, has-highest}
 use Rattle.places.specs.Work.{Marked, isMarked, badMarked}
 
--- the table with the first j numbers of the cells marked
-pub record Marking (cells used : List ℕ) (j : ℕ) : Type 0 where
-  pub long : length used ≡ suc highestNode
-  pub at : (v : ℕ) → v ≤ highestNode → getD used v 0 ≡ one (some (λ i. eqb (getD cells i 0) v) j)
-
 module _ (cells used : List ℕ) where
-  pub marking-none : used ≡ replicate (suc highestNode) 0 → Marking cells used 0
-  marking-none e = record {
-    long = ap length e ∙ length-replicate {A = ℕ} (suc highestNode) 0;
-    at = λ v h. ap (λ (l : List ℕ). getD l v 0) e ∙ getD-replicate {A = ℕ} (suc highestNode) v 0 0 (omega arith) ∙ ap one (sym (some-zero (λ i. eqb (getD cells i 0) v)));
-  }
-
-  module _ (j v : ℕ) (m : Marking cells used j) (e : v ≡ getD cells j 0) (h : v ≤ highestNode) where
-    marking-at : (x : ℕ) → x ≤ highestNode → (b : Bool) → eqb (getD cells j 0) x ≡ b → getD (set used v 1) x 0 ≡ one (some (λ i. eqb (getD cells i 0) x) (j + 1))
-    marking-at x l true q =
-        let z : x ≡ v = omega (arith, eqb-true (getD cells j 0) x q) in
-        ap (λ k. getD (set used v 1) k 0) z
-        ∙ getD-set-same used v 1 0 (omega (arith, m .long))
-        ∙ ap one (sym (some-hit (λ i. eqb (getD cells i 0) x) j q))
-    marking-at x l false q =
-        getD-set-other used v x 1 0 (λ z. eqb-false (getD cells j 0) x q (omega arith))
-        ∙ m .at x l
-        ∙ ap one (sym (some-miss (λ i. eqb (getD cells i 0) x) j q))
-
-    pub marking-more : Marking cells (set used v 1) (j + 1)
-    marking-more = record { long = length-set used v 1 ∙ m .long; at = λ x l. marking-at x l (eqb (getD cells j 0) x) refl }
-
-  pub marked : length cells ≡ 4 * cellCount cells → (j : ℕ) → j ≡ length cells → Marking cells used j → Marked cells used
-  unfolding hasNode
-  marked f j e m = record {
-    long = m .long;
-    at = λ v h. m .at v h ∙ ap one (ap (some (λ i. eqb (getD cells i 0) v)) (e ∙ f) ∙ some-blocks (λ i. eqb (getD cells i 0) v) 4 (cellCount cells));
-  }
+  pub marked : length cells ≡ 4 * cellCount cells → (j : ℕ) → j ≡ length cells → Noted cells (λ v. 1) 0 j used → Marked cells used
+  marked f j e m = record { long = m .long; at = λ v h. noted-all cells (λ v. 1) 0 used f j e m v h ∙ pick-one (hasNode cells v) }
+    where
+      pick-one : (b : Bool) → pick b 1 0 ≡ one b
+      pick-one true = refl
+      pick-one false = refl
 
   module _ (m : Marked cells used) where
     is-marked : (v : ℕ) → v ≤ highestNode → isMarked used v ≡ hasNode cells v

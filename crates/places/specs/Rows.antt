@@ -5,15 +5,10 @@ use mathlib.Core.List.{List, [], _∷_}
 use lib.Dec.{eqb, ltb}
 use lib.ListN.{length, getD}
 use lib.Ieee.{Float, nan, lt}
-use Rattle.counting.specs.Search.{some}
-use Rattle.grid.specs.Grid.{cellCount, node, crossings}
+use Rattle.grid.specs.Grid.{hasNode, crossings}
 use Rattle.place.specs.Place.{within, coordinates}
 use Rattle.places.specs.Numbers.{properFraction}
 use Rattle.places.specs.Points.{indexOfCrossing}
-
--- v is a node of some cell
-unfoldable pub hasNode : (cells : List ℕ) → ℕ → Bool
-hasNode cells v = some (λ c. some (λ i. eqb (node cells c i) v) 4) (cellCount cells)
 
 -- the highest node of the cells
 unfoldable pub highest : (cells : List ℕ) → ℕ

@@ -12,11 +12,10 @@ use Rattle.counting.specs.Pick.{pick, one}
 use Rattle.counting.specs.Range.{over, values}
 use Rattle.cell.specs.Middles.{cellMiddles, numberedBelow}
 use Rattle.cell.specs.Table.{tableCell, drawnCells}
-use Rattle.grid.specs.Grid.{highestNode, mostCrossings, cellCount, crossings}
+use Rattle.grid.specs.Grid.{highestNode, mostCrossings, cellCount, hasNode, crossings}
 use Rattle.place.specs.declared.Place.{Place}
 use Rattle.place.specs.Place.{within, between, coordinates, allNumbers}
 use Rattle.places.specs.Points.{crossingPlace}
-use Rattle.places.specs.Rows.{hasNode}
 use Rattle.places.specs.Answer.{rowsAnswer}
 
 -- what the table of nodes starts from: blank, for cells of four nodes within the limit

@@ -1,15 +1,16 @@
 use Prim.Native.Nat.{_-_, _≤_}
-use mathlib.Core.Path.{_∙_, _≡_, sym, ap}
+use mathlib.Core.Path.{_∙_, _≡_, refl, sym, ap}
 use native.Mathlib.Omega.{arith}
 use lib.ListN.{length}
 use denote.Ref.{now}
-use Rattle.places.proofs.Marks.{Marking, marking-none, marking-more, marked}
+use Rattle.grid.proofs.Nodes.{Noted, noted-none, noted-more}
+use Rattle.places.proofs.Marks.{marked}
 use borrow.Author.Needs.{needs}
 use Rattle.places.proofs.rows.mark.Statement.{statement}
 use Rattle.places.proofs.rows.mark.Tie as tie
 
 abbrev Inv-loop : tie.InvT-loop
-Inv-loop cells used₀ j₀ used j = (j ≤ length cells) × Marking cells used j
+Inv-loop cells used₀ j₀ used j = (j ≤ length cells) × Noted cells (λ v. 1) 0 j used
 
 abbrev μ-loop : tie.MeasureT-loop
 μ-loop cells used₀ j₀ used j = length cells - j
@@ -18,7 +19,7 @@ slice-write-used : tie.Need-slice-write-used Inv-loop μ-loop
 slice-write-used c = omega (arith, c .before .before .before .loop .inv .1 .long, c .wide .ensures, c .before .before .before .before .before .before .pre .nodes (c .before .before .before .loop .j) (omega arith))
 
 loop-again : tie.Need-loop-again Inv-loop μ-loop
-loop-again c = let l = c .before .before .before .loop in (omega arith, marking-more (now (c .before .before .before .before .before .before .args .cells)) (l .used) (l .j) (c .wide .result) (l .inv .1) (c .wide .ensures) (omega (arith, c .wide .ensures, c .before .before .before .before .before .before .pre .nodes (l .j) (omega arith))))
+loop-again c = let l = c .before .before .before .loop in (omega arith, noted-more (now (c .before .before .before .before .before .before .args .cells)) (λ v. 1) 0 (l .used) (l .j) (c .wide .result) (l .inv .1) (c .wide .ensures) (omega (arith, c .wide .ensures, c .before .before .before .before .before .before .pre .nodes (l .j) (omega arith))) 1 refl)
 
 returns : tie.Need-returns Inv-loop μ-loop
 returns c = let l = c .before .loop in let e : l .j ≡ length (now (c .before .before .before .before .args .cells)) = omega arith in marked (now (c .before .before .before .before .args .cells)) (l .used) (c .before .before .before .before .pre .fours) (l .j) e (l .inv .1)
@@ -29,7 +30,7 @@ mark-spec =
     (tie.spec
     Inv-loop
     μ-loop
-    (λ c. (omega arith, marking-none _ _ (c .before .before .pre .blank)))
+    (λ c. (omega arith, noted-none _ (λ v. 1) 0 _ (c .before .before .pre .blank)))
     (λ c. search needs)
     (λ c. search needs)
     (λ c κs. search needs)
