@@ -23,7 +23,7 @@
  * - A processor of the kind x86-64, with no extension beyond SSE2, and the
  *   System V calling convention, as Linux has it.
  * - Of C's functions memcpy and memset, at most.
- * - Stack: CITTERNBLAZE_STACK_BYTES suffice for any call. The four calls on a
+ * - Stack: CITTERNBLAZE_STACK_BYTES suffice for any call. The five calls on a
  *   grid take 264 to 530 KB, as measured, each other call under 1 KB.
  * - For citternblaze_places and citternblaze_nearest, 64-bit floating point as a C
  *   program finds it at its start: rounding to nearest, subnormal numbers on (no
@@ -58,6 +58,11 @@
 #define CITTERNBLAZE_JOINED 0
 #define CITTERNBLAZE_UNJOINED 1
 #define CITTERNBLAZE_NO_CROSSING 2
+
+/* The bytes of a shading, one for each node that there may be, and the byte of a
+ * node that no cell has. */
+#define CITTERNBLAZE_SHADING_BYTES 4096
+#define CITTERNBLAZE_UNUSED 255
 
 /* The words of a triangle: how many they are, and where each stands. A side has
  * two words, and corner 0 is the start of side 0. */
@@ -107,6 +112,8 @@
 #define CITTERNBLAZE_REFUSED_NODE_PLACE 16   /* a number of a node's place */
 #define CITTERNBLAZE_REFUSED_FRACTION 17     /* a fraction */
 #define CITTERNBLAZE_REFUSED_COUNT 18        /* a count over 4095 */
+#define CITTERNBLAZE_REFUSED_SHADING_AREA 19 /* not 4096 bytes */
+#define CITTERNBLAZE_REFUSED_NO_SHADING 20   /* the grid has no shading */
 #define CITTERNBLAZE_REFUSED_POINTS 23       /* nearest: list or number */
 
 #ifdef __cplusplus
@@ -205,6 +212,25 @@ size_t citternblaze_places(const uint16_t *cells, size_t cells_len,
                            const double *fractions, size_t fractions_len,
                            double *area, size_t area_len,
                            uint64_t *answer, size_t answer_len);
+
+/* The shading call. Writes which side of the surfaces each node is on: for every
+ * node of a cell 0 or 1, such that the ends of an edge differ exactly where its
+ * count is odd, and 255 for a node that no cell has. The byte of node n is
+ * area[n]. The lowest node of each connected part of the grid has 0; nodes are
+ * connected where edges lead from the one to the other.
+ *
+ * Reads the cells, edges and counts, as citternblaze_check does.
+ *
+ * Answers 0; or the number and the place of a refusal: 1 to 10 and 18 as
+ * citternblaze_check has them; 19 and 0 where the area is not 4096 bytes; 20 and
+ * 0 where there is no shading, as where a closed way along edges has an odd number
+ * of crossings. A refusal keeps every byte of the area. Takes up to 512 KB of the
+ * stack. */
+size_t citternblaze_shading(const uint16_t *cells, size_t cells_len,
+                            const uint16_t *edges, size_t edges_len,
+                            const uint16_t *counts, size_t counts_len,
+                            uint8_t *area, size_t area_len,
+                            uint64_t *answer, size_t answer_len);
 
 /* The record reader's first call. What stands at a start of a bundle's bytes.
  *

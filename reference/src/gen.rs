@@ -260,6 +260,11 @@ pub fn closed_fan(cells: u16) -> Sample {
     Sample::from_cells((0..cells).map(|k| [0, 1, 2 + k, 2 + (k + 1) % cells]))
 }
 
+/// Cells in a long row, each sharing a face with the next.
+pub fn row_of(cells: u16) -> Sample {
+    Sample::from_cells((0..cells).map(|k| [0, 1, 2, 3].map(|step| k + step)))
+}
+
 /// Seven or more cells in a ring, each sharing a face with the next.
 pub fn ring(cells: u16) -> Sample {
     Sample::from_cells((0..cells).map(|k| [0, 1, 2, 3].map(|step| (k + step) % cells)))

@@ -15,6 +15,8 @@ pub mod places;
 
 pub mod nearest;
 
+pub mod shading;
+
 pub mod listing;
 
 pub mod gen;

@@ -216,6 +216,40 @@ static void test_places(void) {
   place("places, answer area of 5", 2, quarters, 2, 15, NUMBERS, SHORT);
 }
 
+/* The sides of cells 0 1 2 3 and 0 1 2 4 with these counts. Each byte that differs
+ * from the one before it is printed, after its node; 165 is untouched. */
+static void shade(const char *call, const uint16_t *edge_counts, size_t area_len,
+                  size_t answer_len) {
+  uint8_t area[CITTERNBLAZE_SHADING_BYTES + 2];
+  memset(area, 0xa5, sizeof area);
+  show(call, citternblaze_shading(cells, 8, edges, 18, edge_counts, 9, area,
+                                  area_len, answer, answer_len));
+  printf("  area");
+  for (size_t i = 0; i < sizeof area; i++) {
+    if (i == 0 || area[i] != area[i - 1])
+      printf(" %zu:%u", i, area[i]);
+  }
+  printf("\n");
+}
+
+static void test_shading(void) {
+  static const uint16_t same[9] = {0}, even[9] = {2, 4, 254, 2, 2, 4094, 2, 2, 0};
+  /* edges 03 13 23 cut off node 3; 01 02 03 04 node 0; 03 alone nothing */
+  static const uint16_t at_3[9] = {0, 0, 1, 0, 0, 3, 0, 4095, 0};
+  static const uint16_t at_0[9] = {1, 1, 1, 1}, odd[9] = {0, 0, 1};
+  const size_t bytes = CITTERNBLAZE_SHADING_BYTES;
+  shade("shading, no crossing", same, bytes, ROOM);
+  shade("shading, even counts", even, bytes, ROOM);
+  shade("shading, node 3 cut off", at_3, bytes, ROOM);
+  shade("shading, node 0 cut off", at_0, bytes, ROOM);
+  shade("shading, an odd edge", odd, bytes, ROOM);
+  shade("shading, area of 4095", at_3, bytes - 1, ROOM);
+  shade("shading, area of 4097", at_3, bytes + 1, ROOM);
+  shade("shading, an odd edge, area of 0", odd, 0, ROOM);
+  shade("shading, answer area of 6", at_3, bytes, ENOUGH);
+  shade("shading, answer area of 5", at_3, bytes, SHORT);
+}
+
 /* A cell, an edge of kind 2, one of kind 4 and an end. */
 static const uint8_t bundle[] = {
     10, 0, 1, 0, 0, 0, 1, 0, 2, 0, 3, 1, /* nodes 0 1 2 259 */
@@ -449,10 +483,10 @@ static void test_grid_refusals(void) {
 
 static void test_other_refusals(void) {
   static const uint16_t six[] = {0, 1, 0, 2, 0, 3, 1, 2, 1, 3, 2, 3};
-  static const uint16_t corner[6] = {1, 1, 1}, twice[6] = {2};
+  static const uint16_t corner[6] = {1, 1, 1}, twice[6] = {2}, odd[6] = {1};
   static const double halves[2] = {0.5, 0.5};
   double nodes[12] = {0, 0, 0, 8, 0, 0, 0, 8, 0, 0, 0, 8}, points[9];
-  uint8_t bytes[70];
+  uint8_t bytes[70], sides[CITTERNBLAZE_SHADING_BYTES];
   uint16_t lists[12];
   uint32_t words[11];
   REFUSAL(NO_CELL, citternblaze_loops(cells, 4, six, 12, corner, 6, 1, 0, answer,
@@ -478,6 +512,10 @@ static void test_other_refusals(void) {
   REFUSAL(FRACTION,
           citternblaze_places(cells, 4, six, 12, twice, 6, nodes, 12, halves, 2,
                               points, 9, answer, ROOM));
+  REFUSAL(SHADING_AREA, citternblaze_shading(cells, 4, six, 12, corner, 6, bytes,
+                                             70, answer, ROOM));
+  REFUSAL(NO_SHADING, citternblaze_shading(cells, 4, six, 12, odd, 6, sides,
+                                           sizeof sides, answer, ROOM));
   REFUSAL(POINTS, citternblaze_nearest(nodes, 11, 0, 0, 0, answer, ROOM));
   REFUSAL(POINTS, citternblaze_nearest(nodes, 12, 0, 0, 2e6, answer, ROOM));
 }
@@ -502,6 +540,10 @@ static void test_null(void) {
   show("places, no numbers",
        citternblaze_places(cells, 8, edges, 18, counts, 9, NULL, 0, NULL, 0, NULL,
                            0, answer, ROOM));
+  show("shading of nothing",
+       citternblaze_shading(NULL, 0, NULL, 0, NULL, 0, NULL, 0, answer, ROOM));
+  show("shading, no area", citternblaze_shading(cells, 8, edges, 18, counts, 9,
+                                                NULL, 0, answer, ROOM));
   show("record of nothing", citternblaze_record(NULL, 0, 0, answer, ROOM));
   show("body of nothing", citternblaze_record_body(NULL, 0, 0, answer, ROOM));
   show("read nothing", citternblaze_bundle_read(NULL, 0, NULL, 0, NULL, 0, NULL,
@@ -528,6 +570,8 @@ static void test_null(void) {
   show("places, no answer area",
        citternblaze_places(NULL, 0, NULL, 0, NULL, 0, NULL, 0, NULL, 0, NULL, 0,
                            NULL, 0));
+  show("shading, no answer area",
+       citternblaze_shading(NULL, 0, NULL, 0, NULL, 0, NULL, 0, NULL, 0));
   show("record, no answer area", citternblaze_record(NULL, 0, 0, NULL, 0));
   show("body, no answer area", citternblaze_record_body(NULL, 0, 0, NULL, 0));
   show("read, no answer area",
@@ -545,6 +589,7 @@ int main(void) {
   test_mesh();
   test_loops();
   test_places();
+  test_shading();
   test_record();
   test_bundle_read();
   test_bundle_write();

@@ -16,6 +16,7 @@ ghost use Rattle.answer.specs.Answer.{result};
 ghost use Rattle.cell.specs.Answer.{typeNumbers, loopNumbers};
 ghost use Rattle.mesh.specs.Answer.{meshAnswer, meshArea, loopsAnswer};
 ghost use Rattle.places.specs.Answer.{placesAnswer, placesArea};
+ghost use Rattle.shading.specs.Answer.{shadingAnswer, shadingArea};
 ghost use Rattle.nearest.specs.Answer.{nearestAnswer};
 use bundle::BROKEN_ROW;
 use bundle::Contents;
@@ -33,6 +34,7 @@ use nearest::Measured;
 use nearest::Nearest;
 use place::Place;
 use places::Placed;
+use shading::Shaded;
 
 // The words that hold any answer: CITTERNBLAZE_ANSWER_WORDS of the header.
 const ANSWER_WORDS: usize = 6;
@@ -179,6 +181,27 @@ pub extern "C" fn citternblaze_places(
     match places::places(cells, edges, counts, nodes, fractions, area) {
         Placed::Points(n) => put(answer, &[0, n as u64]),
         Placed::Refused(row, place) => put(answer, &[row as u64, place as u64]),
+    }
+}
+
+// The shading call: 0, or the number and the place of a refusal, which leaves the area as it is.
+#[no_mangle]
+pub extern "C" fn citternblaze_shading(
+    cells: &[u16],
+    edges: &[u16],
+    counts: &[u16],
+    area: &mut [u8],
+    answer: &mut [u64],
+) -> usize
+    ensures answer { λ r. ⌜ Answers (shadingAnswer (gridOf (now (cells .entry)) (now (edges .entry)) (now (counts .entry))) (length (now (area .entry)))) (now (answer .entry)) (now (answer .exit)) r ⌝ }
+    ensures area { λ r. ⌜ now (area .exit) ≡ ifRoom (now (answer .entry)) (shadingArea (gridOf (now (cells .entry)) (now (edges .entry)) (now (counts .entry))) (now (area .entry))) (now (area .entry)) ⌝ }
+{
+    if answer.len() < ANSWER_WORDS {
+        return ANSWER_WORDS;
+    }
+    match shading::shade(cells, edges, counts, area) {
+        Shaded::Written => put(answer, &[0]),
+        Shaded::Refused(row, place) => put(answer, &[row as u64, place as u64]),
     }
 }
 

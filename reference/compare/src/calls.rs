@@ -68,6 +68,19 @@ mod c {
             answer_len: usize,
         ) -> usize;
 
+        pub fn citternblaze_shading(
+            cells: *const u16,
+            cells_len: usize,
+            edges: *const u16,
+            edges_len: usize,
+            counts: *const u16,
+            counts_len: usize,
+            area: *mut u8,
+            area_len: usize,
+            answer: *mut u64,
+            answer_len: usize,
+        ) -> usize;
+
         pub fn citternblaze_record(
             bytes: *const u8,
             bytes_len: usize,
@@ -219,6 +232,29 @@ pub fn places(
             fractions.as_ptr(),
             fractions.len(),
             area.as_mut_ptr().cast(),
+            area.len(),
+            answer.as_mut_ptr(),
+            answer.len(),
+        )
+    }
+}
+
+pub fn shading(
+    cells: &[u16],
+    edges: &[u16],
+    counts: &[u16],
+    area: &mut [u8],
+    answer: &mut [u64],
+) -> usize {
+    unsafe {
+        c::citternblaze_shading(
+            cells.as_ptr(),
+            cells.len(),
+            edges.as_ptr(),
+            edges.len(),
+            counts.as_ptr(),
+            counts.len(),
+            area.as_mut_ptr(),
             area.len(),
             answer.as_mut_ptr(),
             answer.len(),

@@ -8,6 +8,7 @@ use reference::grid;
 use reference::mesh::Mesher;
 use reference::nearest::{self, Nearest};
 use reference::places::{self, Place};
+use reference::shading;
 use reference::Refusal;
 
 use crate::placing::Placing;
@@ -81,6 +82,12 @@ pub fn places(placing: &Placing, area: &mut [u64]) -> Vec<u64> {
         *bits = number.to_bits();
     }
     numbers(answer, |points| vec![u64::from(points)])
+}
+
+/// 0, or a refusal; fills the area.
+pub fn shading(grid: &Sample, area: &mut [u8]) -> Vec<u64> {
+    let answer = shading::shade(&grid.cells, &grid.edges, &grid.counts, area);
+    numbers(answer, |()| vec![])
 }
 
 /// 0, the kind and the next start, or a refusal.

@@ -1,13 +1,15 @@
 //! Random grids for the comparison of every call that takes one.
 
+use std::collections::{BTreeMap, BTreeSet};
+
 use reference::gen::{
     box_of_five, box_of_six, box_ring, broken, closed_fan, cone, gathered, linked, open_fan,
     random_shape, ring, separate, sphere, Rng, Sample,
 };
-use reference::grid::{MAX_CELLS, MAX_COUNT, ROWS};
+use reference::grid::{MAX_CELLS, MAX_COUNT, NODE_LIMIT, ROWS};
 
 /// How many calls were answered with each number: 0, or that of a refusal.
-pub type Numbers = [u64; 19];
+pub type Numbers = [u64; 21];
 
 /// How many were refused by each row of the grid check, in the order in which the
 /// rows run: 1 to 6, 18, 7 to 10.
@@ -232,6 +234,62 @@ pub fn winding_cell(rng: &mut Rng) -> Sample {
     for (edge, [u, v]) in ends.into_iter().enumerate() {
         let pair = edge.min(5 - edge);
         grid.counts[edge] = (left[pair] + corners[u] + corners[v]) as u16;
+    }
+    grid
+}
+
+/// The grid with its nodes named anew, and their counts with its edges.
+fn renamed(grid: &Sample, name: impl Fn(u16) -> u16) -> Sample {
+    let sorted = |[u, v]: [u16; 2]| [u.min(v), u.max(v)];
+    let ends = grid.edge_list().into_iter().map(|ends| ends.map(&name));
+    let counts: BTreeMap<[u16; 2], u16> = ends.map(sorted).zip(grid.counts.clone()).collect();
+    let cells = grid.cell_list().into_iter().map(|nodes| nodes.map(&name));
+    let mut named = Sample::from_cells(cells);
+    named.counts = named.edge_list().iter().map(|ends| counts[ends]).collect();
+    named
+}
+
+/// The grid with its nodes anywhere, some of them at 0 and at 4,095, and its
+/// cells in any order.
+pub fn dealt(rng: &mut Rng, grid: &Sample) -> Sample {
+    let mut names: Vec<u16> = (0..NODE_LIMIT).collect();
+    rng.shuffle(&mut names);
+    let nodes = grid
+        .cells
+        .iter()
+        .max()
+        .map_or(1, |&node| usize::from(node) + 1);
+    for end in [0, NODE_LIMIT - 1] {
+        let from = names.iter().position(|&name| name == end);
+        names.swap(rng.below(nodes), from.expect("every node has a name"));
+    }
+    renamed(grid, |node| names[usize::from(node)]).reordered(rng)
+}
+
+/// All of these grids, which share no node: the nodes of each in its order,
+/// after those of the one before.
+pub fn beside(grids: &[Sample]) -> Sample {
+    let mut all = Sample::from_cells([]);
+    let mut first = 0;
+    for grid in grids {
+        let nodes: BTreeSet<u16> = grid.cells.iter().copied().collect();
+        let names: BTreeMap<u16, u16> = nodes.into_iter().zip(first..).collect();
+        let moved = renamed(grid, |node| names[&node]);
+        first += names.len() as u16;
+        all.cells.extend(moved.cells);
+        all.edges.extend(moved.edges);
+        all.counts.extend(moved.counts);
+    }
+    all
+}
+
+/// A ring of seven or more cells with an even sum on every face, whose nodes
+/// nevertheless cannot take sides: edges across one place are odd where the
+/// sides of their ends agree, and even where they differ.
+pub fn twisted(rng: &mut Rng, cells: u16, pairs: usize) -> Sample {
+    let mut grid = ring(cells).with_even_counts(rng, pairs);
+    for ([u, v], count) in grid.edge_list().into_iter().zip(&mut grid.counts) {
+        *count += u16::from(v - u > 3);
     }
     grid
 }

@@ -1,19 +1,21 @@
-//! Times the proved mesh call, grid check and nearest call and the second
-//! implementation's in one run. All work on the same input in turn; the order of
-//! a round alternates.
+//! Times the proved mesh call, grid check, shading call and nearest call and the
+//! second implementation's in one run. All work on the same input in turn; the
+//! order of a round alternates.
 
 use std::env;
 use std::iter;
 use std::time::{Duration, Instant};
 
+use compare::grids::{dealt, twisted};
 use compare::lent::ANSWER_WORDS;
 use compare::{calls, expected};
 use reference::cell::TRIANGLE_WORDS;
-use reference::gen::{box_of_six, closed_fan, cone, separate, Rng, Sample};
+use reference::gen::{box_of_six, closed_fan, cone, row_of, separate, Rng, Sample};
 use reference::grid::{self, GridTables, Lists, MAX_CELLS};
 use reference::mesh::{self, Mesher};
 use reference::nearest;
 use reference::places::{Place, FURTHEST};
+use reference::shading::{self, Shader};
 
 /// How long the calls on one grid are repeated: so many milliseconds, or those
 /// of the first argument. A second argument is the front of the names of the
@@ -26,6 +28,9 @@ const ROUNDS: usize = 15;
 /// What is timed in each round of a call on a grid: the proved call, the second
 /// implementation with memory kept from the call before, and with new memory.
 const WAYS: usize = 3;
+
+/// The bytes of a shading.
+const SHADING_BYTES: usize = 4_096;
 
 /// Times of one way's calls on one grid, in microseconds.
 struct Times {
@@ -140,6 +145,37 @@ fn nearest_times(points: &[f64], patience: Duration) -> [Times; 2] {
     })
 }
 
+/// Times of a grid's shading, or of finding that it has none. Each way has an
+/// area of its own.
+fn shading_times(grid: &Sample, patience: Duration) -> [Times; WAYS] {
+    let Sample {
+        cells,
+        edges,
+        counts,
+    } = grid;
+    let mut areas = [(); WAYS].map(|()| vec![1; SHADING_BYTES]);
+    let mut shader = Shader::default();
+    let mut answer = [1; ANSWER_WORDS];
+    let numbers = expected::shading(grid, &mut vec![1; SHADING_BYTES]);
+    let shaded = numbers == [0];
+    let times = times(patience, |way| match way {
+        0 => {
+            calls::shading(cells, edges, counts, &mut areas[0], &mut answer);
+            assert_eq!(answer[..numbers.len()], numbers);
+        }
+        1 => {
+            let answer = shader.shade(cells, edges, counts, &mut areas[1]);
+            assert_eq!(answer.is_ok(), shaded);
+        }
+        _ => {
+            let answer = shading::shade(cells, edges, counts, &mut areas[2]);
+            assert_eq!(answer.is_ok(), shaded);
+        }
+    });
+    assert!(areas[0] == areas[1] && areas[1] == areas[2]);
+    times
+}
+
 fn size(grid: &Sample) -> String {
     let crossings: u32 = grid.counts.iter().map(|&count| u32::from(count)).sum();
     let cells = grid.cells.len() / 4;
@@ -187,28 +223,19 @@ impl Bench {
     }
 
     fn check(&self, name: &str, grid: &Sample) {
-        if !name.starts_with(&self.only) {
-            return;
+        if name.starts_with(&self.only) {
+            print_times(name, grid, check_times(grid, self.patience));
         }
-        let [proved, kept, new] = check_times(grid, self.patience);
-        println!(
-            "{name}: {}\n\
-         \x20 best:   proved {:8.1} us; reference {:8.1} us, ratio {:.2}; with new memory \
-         {:8.1} us, ratio {:.2}\n\
-         \x20 median: proved {:8.1} us; reference {:8.1} us, ratio {:.2}; with new memory \
-         {:8.1} us, ratio {:.2}",
-            size(grid),
-            proved.best,
-            kept.best,
-            proved.best / kept.best,
-            new.best,
-            proved.best / new.best,
-            proved.median,
-            kept.median,
-            proved.median / kept.median,
-            new.median,
-            proved.median / new.median,
-        );
+    }
+
+    /// The call, and the check that it starts with.
+    fn shading(&self, name: &str, grid: &Sample) {
+        let name = format!("8 shading, {name}");
+        if name.starts_with(&self.only) {
+            print_times(&name, grid, shading_times(grid, self.patience));
+            let check = check_times(grid, self.patience);
+            print_times("  its check", grid, check);
+        }
     }
 
     fn nearest(&self, name: &str, points: &[f64]) {
@@ -229,6 +256,27 @@ impl Bench {
             proved.median / reference.median,
         );
     }
+}
+
+fn print_times(name: &str, grid: &Sample, [proved, kept, new]: [Times; WAYS]) {
+    println!(
+        "{name}: {}\n\
+         \x20 best:   proved {:8.1} us; reference {:8.1} us, ratio {:.2}; with new memory \
+         {:8.1} us, ratio {:.2}\n\
+         \x20 median: proved {:8.1} us; reference {:8.1} us, ratio {:.2}; with new memory \
+         {:8.1} us, ratio {:.2}",
+        size(grid),
+        proved.best,
+        kept.best,
+        proved.best / kept.best,
+        new.best,
+        proved.best / new.best,
+        proved.median,
+        kept.median,
+        proved.median / kept.median,
+        new.median,
+        proved.median / new.median,
+    );
 }
 
 /// A box of this many cells.
@@ -307,6 +355,26 @@ fn lists(bench: &Bench) {
     bench.nearest("7 nearest, each point nearer", &nearer);
 }
 
+/// Shadings of as many cells as a grid may have, and of rows of cells, which are
+/// long and thin; and grids without one.
+fn shadings(bench: &Bench) {
+    let mut rng = Rng::new(5);
+    let boxed = part_of_box(MAX_CELLS).with_even_counts(&mut rng, 3);
+    bench.shading("box", &boxed);
+    bench.shading("box, shuffled nodes and cells", &dealt(&mut rng, &boxed));
+    for cells in [256, 512, 1_024, 2_048] {
+        let row = row_of(cells).with_even_counts(&mut rng, 3);
+        bench.shading("row", &row);
+        bench.shading("row, shuffled nodes and cells", &dealt(&mut rng, &row));
+    }
+    let fan = closed_fan(MAX_CELLS as u16).with_even_counts(&mut rng, 3);
+    bench.shading("cells round one edge", &fan);
+    let apart = separate(1_024).with_even_counts(&mut rng, 3);
+    bench.shading("cells that share nothing", &apart);
+    let ring = twisted(&mut rng, MAX_CELLS as u16, 3);
+    bench.shading("ring without a shading", &ring);
+}
+
 fn main() {
     let millis = match env::args().nth(1) {
         Some(text) => text.parse().expect("milliseconds"),
@@ -331,4 +399,5 @@ fn main() {
     growth(&bench);
     thousands(&bench);
     lists(&bench);
+    shadings(&bench);
 }

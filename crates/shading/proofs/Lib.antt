@@ -1,0 +1,12 @@
+pub mod Across
+pub mod Paths
+pub mod Marks
+pub mod Shadings
+pub mod Forests
+pub mod Ties
+pub mod Climbs
+pub mod Bytes
+pub mod Calls
+pub mod Claims
+pub mod Ring
+pub mod Examples
