@@ -5,7 +5,7 @@ use mathlib.Core.Logic.{_⊎_, inl, inr, ⊎-elim}
 use mathlib.Core.Bool.{Bool, true, false, _&&_}
 use native.Mathlib.Omega.{arith}
 use native.Mathlib.Numerals.{add-one}
-use native.Mathlib.Nat.{mul-zero, mul-suc, mul-comm, mul-le-mul-left, mod-lt, div-add-mod, mul-div-cancel-left, div-lt-iff-lt-mul, not-suc-le-zero, eq-or-lt-of-le, le-of-suc-le-suc}
+use native.Mathlib.Nat.{add-zero, mul-zero, mul-suc, mul-comm, mul-le-mul-left, mod-lt, div-add-mod, mul-div-cancel-left, div-lt-iff-lt-mul, not-suc-le-zero, eq-or-lt-of-le, le-of-suc-le-suc}
 use lib.Dec.{ltb}
 use borrow.Author.Tests.{lt-ltb, ltb-true}
 use Rattle.counting.specs.Pick.{pick, one}
@@ -251,6 +251,17 @@ module _ (t : ℕ → Bool) where
 
 pub some-through : (t u : ℕ → Bool) → ((x : ℕ) → u x ≡ false → t x ≡ false) → (n : ℕ) → some t n ≡ some t (last u n)
 some-through t u wide n = some-last t n ∙ ap (λ (x : ℕ). ltb 0 x) (last-through t u wide n) ∙ sym (some-last t (last u n))
+
+-- the last of m + k numbers: among the k after the first m, or else among these
+pub last-plus : (t : ℕ → Bool) (m k : ℕ) → last t (m + k) ≡ pick (ltb 0 (last (λ i. t (m + i)) k)) (m + last (λ i. t (m + i)) k) (last t m)
+unfolding last
+last-plus t m zero = ap (last t) (add-zero m)
+last-plus t m (suc k) = let e : m + suc k ≡ suc (m + k) = omega arith in ap (last t) e ∙ go (last-plus t m k) (t (m + k))
+  where
+    go : last t (m + k) ≡ pick (ltb 0 (last (λ i. t (m + i)) k)) (m + last (λ i. t (m + i)) k) (last t m)
+        → (b : Bool) → pick b (suc (m + k)) (last t (m + k)) ≡ pick (ltb 0 (pick b (suc k) (last (λ i. t (m + i)) k))) (m + pick b (suc k) (last (λ i. t (m + i)) k)) (last t m)
+    go ih true = let e : suc (m + k) ≡ m + suc k = omega arith in e ∙ simp (lt-ltb 0 (suc k) (omega arith))
+    go ih false = ih
 
 -- tests that agree
 module _ (t u : ℕ → Bool) where

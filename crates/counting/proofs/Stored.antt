@@ -1,6 +1,7 @@
 -- Laws of what is stored or summed so far, over the type of the entries, their number and their width.
 use Prim.Native.Nat.{ℕ, _+_, _*_, _≤_, _<_}
 use mathlib.Core.Path.{_≡_, refl, sym, ap, ap₂, _∙_}
+use mathlib.Core.Logic.{inr}
 use mathlib.Core.Bool.{Bool, true, false}
 use mathlib.Core.List.{List, [], _∷_, _++_, append-nil}
 use native.Mathlib.Nat.{zero-add, add-zero, mul-suc}
@@ -8,7 +9,7 @@ use native.Mathlib.Numerals.{add-one}
 use native.Mathlib.Omega.{arith}
 use lib.Dec.{leb}
 use lib.ListN.{length, getD, take, drop, set, length-append}
-use lib.Seq.{sets, length-sets, drop-length, take-suc, take-all}
+use lib.Seq.{sets, length-sets, drop-at, drop-length, take-suc, take-all}
 use borrow.Author.Tests.{le-leb, lt-leb}
 use Rattle.counting.specs.Pick.{pick}
 use Rattle.counting.specs.Range.{over, total, values}
@@ -16,7 +17,7 @@ use Rattle.counting.specs.Stored.{Stored, Summed, filled, storedIn, next
 use Rattle.counting.proofs.Range.{total-next}
 use Rattle.counting.proofs.Lists.{length-singles, values-ext, values-at}
 use Rattle.counting.proofs.Fronts.{sets-append, sets-front, over-more, over-split, over-shift, over-within}
-use Rattle.counting.proofs.Stores.{getD-sets-in}
+use Rattle.counting.proofs.Stores.{getD-sets-in, getD-sets-out}
 
 module _ {A : Type 0} where
   pub stored-none : (was : List A) (at : ℕ) → Stored was at [] was at
@@ -128,6 +129,17 @@ module _ {A : Type 0} where
         ap (λ k. getD (sets l 0 (values f n)) k d) (sym (zero-add i))
         ∙ getD-sets-in (values f n) l 0 i d (omega arith) (omega arith) ∙ values-at f n i d h
 
+    pub filled-beyond : (n : ℕ) (l : List A) (d : A) (i : ℕ) → n ≤ i → getD (filled f n l) i d ≡ getD l i d
+    unfolding filled
+    filled-beyond n l d i h = getD-sets-out (values f n) l 0 i d (inr (omega (arith, length-singles f n 0)))
+
+    -- its front
+    pub filled-front : (n : ℕ) (l : List A) → n ≤ length l → filled f n l ≡ values f n ++ drop n l
+    unfolding filled
+    filled-front n l h =
+        let e = length-singles f n 0 in
+        sets-front (values f n) l (omega arith) ∙ ap (λ k. values f n ++ drop k l) e
+
     -- the whole of a list
     pub filled-whole : (n : ℕ) (l : List A) → length l ≡ n → filled f n l ≡ values f n
     unfolding filled
@@ -136,6 +148,13 @@ module _ {A : Type 0} where
         sets-front (values f n) l (omega arith)
         ∙ ap (λ (r : List A). values f n ++ r) (ap (λ i. drop i l) (s ∙ sym e) ∙ drop-length l)
         ∙ append-nil (values f n)
+
+  pub filled-again : (f g : ℕ → A) (n : ℕ) (l : List A) → n ≤ length l → filled f n (filled g n l) ≡ filled f n l
+  filled-again f g n l h =
+      filled-front f n (filled g n l) (omega (arith, length-filled g n l))
+      ∙ ap (λ (r : List A). values f n ++ drop n r) (filled-front g n l h)
+      ∙ ap (λ (r : List A). values f n ++ r) (drop-at (values g n) (drop n l) n (length-singles g n 0))
+      ∙ sym (filled-front f n l h)
 
   pub filled-ext : (f g : ℕ → A) (n : ℕ) (l : List A) → ((i : ℕ) → i < n → f i ≡ g i) → filled f n l ≡ filled g n l
   unfolding filled

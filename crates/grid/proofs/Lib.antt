@@ -1,4 +1,3 @@
-pub mod Chain
 pub mod Packed
 pub mod Mates
 pub mod Faces

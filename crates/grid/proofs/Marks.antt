@@ -18,7 +18,7 @@ use Rattle.counting.proofs.Involution.{count-less, less}
 use Rattle.counting.proofs.Search.{count-ext, down-hit, down-miss, last-is, last-le, some-through, some-zero}
 use Rattle.slots.specs.Slots.{contains, position, hi, lo, otherSlot, rankIn, secondSlot}
 use Rattle.slots.proofs.Slots.{Third, ends-sum, rank-of, third-of, two-slots}
-use Rattle.grid.proofs.Chain.{top-le}
+use Rattle.counting.proofs.Chains.{top-le}
 use Rattle.grid.specs.Work.{Closed, Reached, Grown, OnSlot, Open, Paired, KeySlot, Splitting, Spread, Spreadable, Spreading, Spreads, missing, rank, sameKey}
 
 -- how the other slot is found, from the sum of an edge's ends

@@ -1,6 +1,6 @@
 -- Keys: equal exactly where the nodes are.
 use Prim.Native.Nat.{ℕ, _%_, _*_, _+_, _/_, _<_, _≤_}
-use mathlib.Core.Path.{_∙_, _≡_, ap, refl}
+use mathlib.Core.Path.{_∙_, _≡_, refl}
 use mathlib.Core.Bool.{Bool, _&&_, _||_, false, not, true}
 use mathlib.Core.List.{List}
 use native.Mathlib.Numerals.{add-one}
@@ -10,22 +10,14 @@ use lib.ListN.{getD, length}
 use borrow.Author.Tests.{eq-eqb, eqb-false, eqb-true, le-leb, le-ltb, leb-false, lt-leb, ltb-false, ne-eqb}
 use Rattle.counting.specs.Pick.{pick}
 use Rattle.counting.specs.Search.{every, first, last, some}
-use Rattle.counting.specs.Stored.{filled}
 use Rattle.counting.proofs.Below.{rising, rising-once}
 use Rattle.counting.proofs.Bools.{or-none, or-right}
-use Rattle.counting.proofs.Stored.{length-filled, filled-at}
 use Rattle.counting.proofs.Search.{every-is, first-none, is-every, none-some, some-ext, some-found, some-last, some-none}
 use Rattle.slots.specs.Slots.{position}
 use Rattle.slots.proofs.Slots.{corner-lt, same-slot}
 use Rattle.grid.specs.Grid.{SameFace, cellCount, faceNode, highestNode, mostCells, node, sameFace}
 use Rattle.grid.specs.Rows.{badCell, badLength, repeats, sameCell}
 use Rattle.grid.specs.Work.{RisingCells, Table, cellKey, faceKey, join, sameKey}
-
-pub filled-table : (f : ℕ → ℕ) (n : ℕ) (l m : List ℕ) → m ≡ filled f n l → n ≤ length l → Table f n m
-filled-table f n l m e r = record {
-  room = omega (arith, ap length e, length-filled f n l);
-  at = λ i h. ap (λ (m : List ℕ). getD m i 0) e ∙ filled-at f n l 0 r i h;
-}
 
 -- row 1
 pub length-odd : (cells : List ℕ) → (length cells % 4 ≡ 0 → ⊥) → badLength cells ≡ true

@@ -21,7 +21,7 @@ use Rattle.slots.proofs.Slots.{edge-slot, face-ends, slot-edge, slot-rank}
 use Rattle.grid.specs.Grid.{Grid, cellCount, hasEdge, hasFace, isEdge, node, sameFace}
 use Rattle.grid.specs.Rows.{reached, linked, split}
 use Rattle.grid.specs.Work.{Closed, Linkable, Reached, Near, RisingCells, Paired, KeySlot, Table, edgeKey, join, missing, rank, sameKey, sideKey}
-use Rattle.grid.proofs.Chain.{top-le}
+use Rattle.counting.proofs.Chains.{top-le}
 use Rattle.grid.proofs.Marks.{top-key}
 use Rattle.grid.proofs.Packed.{join-eqb, rises, same-true}
 use Rattle.grid.proofs.Sides.{is-side, used-found}

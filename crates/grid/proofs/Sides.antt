@@ -20,7 +20,7 @@ use Rattle.slots.specs.Slots.{hi, lo}
 use Rattle.grid.specs.Grid.{Grid, cellCount, hasEdge, high, isEdge, joins, low, mostCells, mostEdges, node}
 use Rattle.grid.specs.Rows.{isAfter, unlisted, unused}
 use Rattle.grid.specs.Work.{Put, Table, blankIn, edgeKey, foundAt, join, listedAt, sameKey, sideKey}
-use Rattle.grid.proofs.Mates.{zeros}
+use Rattle.counting.proofs.Chains.{zeros}
 use Rattle.grid.proofs.Packed.{join-eqb}
 
 pub leb-not : (a b : ℕ) → leb a b ≡ not (ltb b a)

@@ -12,15 +12,12 @@ use Rattle.answer.specs.Faults.{since}
 use Rattle.counting.specs.Pick.{pick}
 use Rattle.counting.specs.Search.{first, last, some, count}
 use Rattle.slots.specs.Slots.{lo, hi, rankIn, contains, thirdPosition}
+pub use Rattle.counting.specs.Chains.{Table, Chained, Headed, Chainable, Walkable, buckets, chainAt}
+unfoldable pub use Rattle.counting.specs.Chains.{sameKey, inBucket}
 use Rattle.grid.specs.declared.Checked.{Checked}
 use Rattle.grid.specs.declared.Checked.the-variants.{Crossings, Refused}
 use Rattle.grid.specs.Grid.{Grid, highestNode, mostCells, mostCrossings, mostSlots, mostEdges, cellCount, node, faceNode, sameFace, low, high, isEdge, crossings}
 use Rattle.grid.specs.Rows.{rows, unused}
-
--- the first n entries of a list are f's values
-pub record Table (f : ℕ → ℕ) (n : ℕ) (l : List ℕ) : Type 0 where
-  pub room : n ≤ length l
-  pub at : (i : ℕ) → i < n → getD l i 0 ≡ f i
 
 -- KEYS: nodes packed into one number, so that equal keys are equal nodes
 
@@ -36,43 +33,6 @@ faceKey cells j =
 
 unfoldable pub edgeKey : List ℕ → ℕ → ℕ
 edgeKey edges e = join (low edges e) (high edges e)
-
--- CHAINS: keys with the same remainder, each with the one before it
-
-abbrev pub buckets : ℕ
-buckets = 7919
-
-unfoldable pub sameKey : List ℕ → ℕ → ℕ → Bool
-sameKey keys key x = eqb (getD keys x 0) key
-
-unfoldable pub inBucket : List ℕ → ℕ → ℕ → Bool
-inBucket keys h x = eqb (getD keys x 0 % buckets) h
-
--- one more than the last place before j with the remainder of j's key, or 0
-abbrev pub chainAt : List ℕ → ℕ → ℕ
-chainAt keys j = last (inBucket keys (getD keys j 0 % buckets)) j
-
--- next chains the first n keys
-pub record Chained (keys : List ℕ) (n : ℕ) (next : List ℕ) : Type 0 where
-  pub keyed : n ≤ length keys
-  pub table : Table (chainAt keys) n next
-
--- head has the end of each chain
-abbrev pub Headed : List ℕ → ℕ → List ℕ → Type 0
-Headed keys n head = Table (λ h. last (inBucket keys h) n) buckets head
-
--- what `chain` starts from
-pub record Chainable (keys : List ℕ) (n : ℕ) (head next : List ℕ) : Type 0 where
-  pub keyed : n ≤ length keys
-  pub room : n ≤ length next
-  pub small : n < 65536
-  pub blank : head ≡ replicate buckets 0
-
--- what `walk` starts from: start is the last place before m with the key's remainder
-pub record Walkable (keys next : List ℕ) (n m start key : ℕ) : Type 0 where
-  pub chained : Chained keys n next
-  pub within : m ≤ n
-  pub starts : start ≡ last (inBucket keys (key % buckets)) m
 
 -- CELLS: what rows 1 and 3 leave of the cells
 

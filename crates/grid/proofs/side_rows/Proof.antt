@@ -11,7 +11,7 @@ use Rattle.answer.specs.Faults.{since}
 use Rattle.grid.specs.Rows.{rows, unused}
 use Rattle.grid.specs.Work.{Table, listedAt}
 use Rattle.grid.proofs.Answers.{answer-passes, answer-refuses, where-accepted}
-use Rattle.grid.proofs.Packed.{filled-table}
+use Rattle.counting.proofs.Chains.{filled-table}
 use Rattle.grid.proofs.Sides.{unlisted-blank}
 use Rattle.grid.proofs.side_rows.Statement.{statement}
 use Rattle.grid.proofs.side_rows.Tie as tie

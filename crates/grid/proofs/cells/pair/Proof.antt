@@ -6,7 +6,7 @@ use lib.ListN.{length, length-set}
 use borrow.Author.Needs.{needs}
 use Rattle.counting.proofs.Search.{Seeking, seeking-all, seeking-hit, seeking-more, seeking-none}
 use Rattle.grid.specs.Work.{Mates, thirdAt}
-use Rattle.grid.proofs.Chain.{top-le}
+use Rattle.counting.proofs.Chains.{top-le}
 use Rattle.grid.proofs.Mates.{mates-alone, mates-two, third-none, third-not, third-there}
 use Rattle.grid.proofs.cells.pair.Statement.{statement}
 use Rattle.grid.proofs.cells.pair.Tie as tie

@@ -9,7 +9,8 @@ use Rattle.counting.proofs.Search.{Seeking, seeking-all, seeking-hit, seeking-m
 use Rattle.counting.proofs.Stored.{length-filled}
 use Rattle.grid.specs.Rows.{repeats}
 use Rattle.grid.specs.Work.{Chained, Table, cellKey}
-use Rattle.grid.proofs.Packed.{filled-table, repeats-last}
+use Rattle.counting.proofs.Chains.{filled-table}
+use Rattle.grid.proofs.Packed.{repeats-last}
 use Rattle.grid.proofs.cells.row_4.Statement.{statement}
 use Rattle.grid.proofs.cells.row_4.Tie as tie
 

@@ -7,8 +7,8 @@ use borrow.Author.Needs.{needs}
 use Rattle.counting.proofs.Stored.{length-filled}
 use Rattle.grid.specs.Grid.{mostCells}
 use Rattle.grid.proofs.Faces.{paired-near, third-first}
-use Rattle.grid.proofs.Mates.{mates-none, zeros}
-use Rattle.grid.proofs.Packed.{filled-table}
+use Rattle.grid.proofs.Mates.{mates-none}
+use Rattle.counting.proofs.Chains.{filled-table, zeros}
 use Rattle.grid.proofs.cells.row_5.Statement.{statement}
 use Rattle.grid.proofs.cells.row_5.Tie as tie
 

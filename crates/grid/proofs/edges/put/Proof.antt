@@ -3,7 +3,7 @@ use Prim.Native.Nat.{_-_}
 use mathlib.Core.Path.{_∙_}
 use native.Mathlib.Omega.{arith}
 use borrow.Author.Needs.{needs}
-use Rattle.grid.proofs.Chain.{top-le}
+use Rattle.counting.proofs.Chains.{top-le}
 use Rattle.grid.proofs.Sides.{Placing, placing-end, placing-more, placing-start}
 use Rattle.grid.proofs.edges.put.Statement.{statement}
 use Rattle.grid.proofs.edges.put.Tie as tie

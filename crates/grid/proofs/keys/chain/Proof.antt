@@ -6,8 +6,7 @@ use native.Mathlib.Omega.{arith}
 use lib.ListN.{length, length-set}
 use borrow.Author.Needs.{needs}
 use Rattle.counting.proofs.Stored.{length-filled}
-use Rattle.grid.proofs.Chain.{Chaining, chaining-more, chaining-none}
-use Rattle.grid.proofs.Packed.{filled-table}
+use Rattle.counting.proofs.Chains.{Chaining, chaining-more, chaining-none, filled-table}
 use Rattle.grid.proofs.keys.chain.Statement.{statement}
 use Rattle.grid.proofs.keys.chain.Tie as tie
 

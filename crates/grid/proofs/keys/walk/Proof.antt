@@ -3,7 +3,7 @@ use Prim.Native.Nat.{_-_}
 use mathlib.Core.Path.{sym}
 use native.Mathlib.Omega.{arith}
 use borrow.Author.Needs.{needs}
-use Rattle.grid.proofs.Chain.{Walked, chained-less, walked-end, walked-hit, walked-more, walked-start}
+use Rattle.counting.proofs.Chains.{Walked, chained-less, walked-end, walked-hit, walked-more, walked-start}
 use Rattle.grid.proofs.keys.walk.Statement.{statement}
 use Rattle.grid.proofs.keys.walk.Tie as tie
 

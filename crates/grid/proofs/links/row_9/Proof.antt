@@ -7,7 +7,7 @@ use borrow.Author.Needs.{needs}
 use Rattle.counting.proofs.Search.{Seeking, seeking-all, seeking-hit, seeking-more, seeking-none}
 use Rattle.grid.specs.Grid.{gridOf, mostCells}
 use Rattle.grid.specs.Rows.{split}
-use Rattle.grid.proofs.Mates.{zeros}
+use Rattle.counting.proofs.Chains.{zeros}
 use Rattle.grid.proofs.Ring.{Under, edge-found, paired, split-told, under-fresh, under-more}
 use Rattle.grid.proofs.links.row_9.Statement.{statement}
 use Rattle.grid.proofs.links.row_9.Tie as tie

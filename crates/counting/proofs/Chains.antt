@@ -1,18 +1,36 @@
 -- Laws of keys chained by their remainder.
-use Prim.Native.Nat.{ℕ, _%_, _+_, _-_, _<_, _≤_}
-use mathlib.Core.Path.{_∙_, _≡_, ap, sym}
+use Prim.Native.Nat.{ℕ, zero, suc, _%_, _+_, _-_, _<_, _≤_}
+use mathlib.Core.Path.{_∙_, _≡_, ap, refl, sym}
 use mathlib.Core.Bool.{false, true}
 use mathlib.Core.List.{List}
-use native.Mathlib.Decide.{ℕ-discrete}
+use native.Mathlib.Decide.{decLt, ℕ-discrete}
 use native.Mathlib.Omega.{arith}
 use lib.ListN.{getD, getD-replicate, length, length-replicate, length-set, replicate, set}
-use lib.Seq.{getD-set-other, getD-set-same}
+use lib.Seq.{ext-getD, getD-set-other, getD-set-same}
 use borrow.Author.Tests.{eq-eqb, eqb-false, eqb-true, ne-eqb}
 use Rattle.counting.specs.Search.{last}
 use Rattle.counting.specs.Stored.{filled}
 use Rattle.counting.proofs.Search.{last-hit, last-is, last-le, last-miss, last-none, last-through}
-use Rattle.counting.proofs.Stored.{filled-more, filled-none}
-use Rattle.grid.specs.Work.{Chained, buckets, chainAt, inBucket, sameKey}
+use Rattle.counting.proofs.Stored.{filled-at, filled-beyond, filled-more, filled-none, length-filled}
+use Rattle.counting.specs.Chains.{Table, Chained, buckets, chainAt, inBucket, sameKey}
+
+-- a filled front
+pub filled-table : (f : ℕ → ℕ) (n : ℕ) (l m : List ℕ) → m ≡ filled f n l → n ≤ length l → Table f n m
+filled-table f n l m e r = record {
+  room = omega (arith, ap length e, length-filled f n l);
+  at = λ i h. ap (λ (m : List ℕ). getD m i 0) e ∙ filled-at f n l 0 r i h;
+}
+
+pub table-filled : (f : ℕ → ℕ) (n : ℕ) (l : List ℕ) → Table f n l → l ≡ filled f n l
+table-filled f n l t =
+    ext-getD 0 l (filled f n l) (sym (length-filled f n l))
+    (λ i h. elim (decLt i n) [ yes b ↦ t .at i b ∙ sym (filled-at f n l 0 (t .room) i b) | no b ↦ sym (filled-beyond f n l 0 i (omega arith)) ])
+
+-- a new list
+pub zeros : (n : ℕ) (i : ℕ) → getD (replicate {A = ℕ} n 0) i 0 ≡ 0
+zeros zero i = refl
+zeros (suc n) zero = refl
+zeros (suc n) (suc i) = zeros n i
 
 pub key-bucket : (keys : List ℕ) (k x : ℕ) → inBucket keys (k % buckets) x ≡ false → sameKey keys k x ≡ false
 unfolding sameKey inBucket
