@@ -24,7 +24,8 @@
  *   System V calling convention, as Linux has it.
  * - Of C's functions memcpy and memset, at most.
  * - Stack: CITTERNBLAZE_STACK_BYTES suffice for any call. The five calls on a
- *   grid take 264 to 530 KB, as measured, each other call under 1 KB.
+ *   grid take 264 to 530 KB, as measured, the bundle reader 151 KB, each other
+ *   call under 1 KB.
  * - For citternblaze_places and citternblaze_nearest, 64-bit floating point as a C
  *   program finds it at its start: rounding to nearest, subnormal numbers on (no
  *   flush to zero), no exception trapped. The other calls do not compute with it.
@@ -85,15 +86,17 @@
 #define CITTERNBLAZE_LOWEST_CORNER 3
 
 /* The kinds of a record. An edge is of kind EDGE where its count is 255 or less,
- * and of kind WIDE_EDGE where it is more. */
+ * and of kind WIDE_EDGE where it is more. A later look at an edge is of kind LOOK,
+ * whatever its count. */
 #define CITTERNBLAZE_KIND_CELL 1
 #define CITTERNBLAZE_KIND_EDGE 2
 #define CITTERNBLAZE_KIND_END 3
 #define CITTERNBLAZE_KIND_WIDE_EDGE 4
+#define CITTERNBLAZE_KIND_LOOK 5
 
 /* The refusals: the first number of an answer that is not a result. The second is
  * the refusal's place, as docs/FORMAT.md has it. They are judged in the order of
- * their numbers, but 18 directly after 6. */
+ * their numbers, but 18 directly after 6, and 22 directly after 13. */
 #define CITTERNBLAZE_REFUSED_CELL_LIST 1     /* cells: length or number */
 #define CITTERNBLAZE_REFUSED_EDGE_LIST 2     /* edges: length */
 #define CITTERNBLAZE_REFUSED_CELL_NODES 3    /* a cell's nodes */
@@ -114,6 +117,7 @@
 #define CITTERNBLAZE_REFUSED_COUNT 18        /* a count over 4095 */
 #define CITTERNBLAZE_REFUSED_SHADING_AREA 19 /* not 4096 bytes */
 #define CITTERNBLAZE_REFUSED_NO_SHADING 20   /* the grid has no shading */
+#define CITTERNBLAZE_REFUSED_LOOK 22         /* a look for no edge */
 #define CITTERNBLAZE_REFUSED_POINTS 23       /* nearest: list or number */
 
 #ifdef __cplusplus
@@ -234,9 +238,9 @@ size_t citternblaze_shading(const uint16_t *cells, size_t cells_len,
 
 /* The record reader's first call. What stands at a start of a bundle's bytes.
  *
- * Answers 0, the record's kind (1 cell, 2 or 4 edge, 3 end) and the start of the
- * next record; or 13 and the start, or 13 and bytes_len where the start is not
- * below it. A record of kind 4 with a count of 255 or less is refused. */
+ * Answers 0, the record's kind (1 cell, 2 or 4 edge, 3 end, 5 look) and the start
+ * of the next record; or 13 and the start, or 13 and bytes_len where the start is
+ * not below it. A record of kind 4 with a count of 255 or less is refused. */
 size_t citternblaze_record(const uint8_t *bytes, size_t bytes_len, size_t start,
                            uint64_t *answer, size_t answer_len);
 
@@ -251,11 +255,13 @@ size_t citternblaze_record_body(const uint8_t *bytes, size_t bytes_len,
 
 /* The bundle reader. Fills the lists with the bundle's cells, four nodes each,
  * the ends of its edges, two to an edge, and their counts, and keeps the lists
- * beyond them. It does not check the grid.
+ * beyond them. The count of an edge is that of the last look with its pair of
+ * ends, or its own where there is none. It does not check the grid.
  *
  * Answers 0 and the numbers of cells and edges; or 13 and the place of a fault
- * of the records; or 14 and 0 where a list is too short. A refusal keeps every
- * value of the lists. */
+ * of the records; or 22 and the start of the lowest look whose pair no edge has;
+ * or 14 and 0 where a list is too short. A refusal keeps every value of the
+ * lists. Takes up to 192 KB of the stack. */
 size_t citternblaze_bundle_read(const uint8_t *bytes, size_t bytes_len,
                                 uint16_t *nodes, size_t nodes_len,
                                 uint16_t *ends, size_t ends_len,

@@ -4,13 +4,13 @@
     make_samples.py            write the files
     make_samples.py --check    write nothing; fail if a file differs, is missing or is not described here
 
-Needs Python 3 and no package. The format is that of document 01, "Bundles", with the records of kind 4 of document 02.
+Needs Python 3 and no package. The format is that of document 01, "Bundles", with the records of kinds 4 and 5 of document 02.
 """
 import itertools
 import pathlib
 import sys
 
-CELL, EDGE, END, WIDE_EDGE = 1, 2, 3, 4
+CELL, EDGE, END, WIDE_EDGE, LOOK = 1, 2, 3, 4, 5
 
 
 def word(number):
@@ -35,6 +35,16 @@ def edge(u, v, count):
 def wide_edge(u, v, count, length=None):
     """An edge's record of kind 4, whatever its count is."""
     return record(WIDE_EDGE, word(u) + word(v) + word(count), length)
+
+
+def look(u, v, count, length=None):
+    """A later look at an edge: a record of kind 5."""
+    return record(LOOK, word(u) + word(v) + word(count), length)
+
+
+def seen_again(data, *looks):
+    """A bundle with later looks (u, v, count) before its end."""
+    return data[:-4] + b"".join(look(*l) for l in looks) + data[-4:]
 
 
 def bundle(cells, edges):
@@ -100,6 +110,11 @@ SAMPLES = {
     "count-256": one_cell(1, 256, 255, 0, 0, 0),
     "count-4095": one_cell(4095, 4094, 1, 0, 0, 0),
     "256-on-01": one_cell(256, 0, 0, 0, 0, 0),
+    # one cell with later looks: the listings of `two-on-01`, `corner-at-0` (twice) and `count-256`
+    "look-once": seen_again(one_cell(0, 0, 0, 0, 0, 0), (0, 1, 2)),
+    "look-twice": seen_again(one_cell(7, 1, 1, 0, 0, 0), (0, 1, 300), (0, 1, 1)),
+    "look-4096-then-1": seen_again(one_cell(300, 1, 0, 0, 0, 0), (0, 1, 4096), (0, 3, 1), (0, 1, 1)),
+    "look-256": seen_again(one_cell(1, 5, 255, 0, 0, 0), (0, 2, 256)),
     # several cells
     "three-round-01": grid(THREE, {(0, 1): 2}),
     "triangles-1489": corners(255, 255, 255, 255, 255, 214),
@@ -118,6 +133,8 @@ SAMPLES = {
     "refused-6-unsorted": bundle(ONE, ONE_EDGES[:1] + [ONE_EDGES[2], ONE_EDGES[1]] + ONE_EDGES[3:]),
     "refused-6-edge-twice": bundle(ONE, ONE_EDGES + ONE_EDGES[5:]),
     "refused-6-before-18": bundle(ONE, [(0, 1, 4096), ONE_EDGES[2], ONE_EDGES[1]] + ONE_EDGES[3:]),
+    "refused-6-look-edge-twice": seen_again(bundle(ONE, ONE_EDGES + ONE_EDGES[5:]), (2, 3, 1)),
+    "refused-18-look-4096": seen_again(GOOD, (0, 1, 2), (1, 2, 4096)),
     "refused-18-count-4096": one_cell(0, 0, 0, 4096, 0, 0),
     "refused-18-count-65535": one_cell(0, 65535, 0, 0, 4096, 0),
     "refused-18-before-7": bundle(ONE, ONE_EDGES[:4] + [(1, 3, 4096)]),
@@ -145,11 +162,25 @@ SAMPLES = {
     "refused-13-kind-4-length": WIDE[:57] + wide_edge(2, 3, 300, length=7) + WIDE[67:],
     "refused-13-kind-4-cut": WIDE[:-5],
     "refused-13-cell-after-kind-4": WIDE[:-4] + cell(4, 5, 6, 7) + WIDE[-4:],
+    "refused-13-look-before-edges": GOOD[:12] + look(0, 1, 1) + GOOD[12:],
+    "refused-13-look-between-edges": GOOD[:57] + look(0, 1, 1) + GOOD[57:],
+    "refused-13-cell-after-look": seen_again(GOOD, (0, 1, 1))[:-4] + cell(4, 5, 6, 7) + GOOD[-4:],
+    "refused-13-look-after-end": GOOD + look(0, 1, 1),
+    "refused-13-look-cut": seen_again(GOOD, (0, 1, 1))[:-5],
+    "refused-13-look-no-end": seen_again(GOOD, (0, 1, 1))[:-4],
+    "refused-13-look-length": GOOD[:-4] + look(0, 1, 1, length=7) + GOOD[-4:],
+    "refused-13-kind-6": GOOD[:-4] + record(6, bytes(6)) + GOOD[-4:],
     "refused-13-kind-high-byte": record(256 + CELL, bytes(8)) + GOOD[12:],
     "refused-13-cell-after-edge": GOOD[:-4] + cell(4, 5, 6, 7) + GOOD[-4:],
     "refused-13-byte-after-end": GOOD + b"\0",
     "refused-13-end-after-end": GOOD + record(END),
     "refused-13-no-end": GOOD[:-4],
+    # row 22: the pair turned round, the lowest of several, no edges at all; 13 wins, wherever it stands
+    "refused-22-pair-turned": seen_again(GOOD, (1, 0, 1)),
+    "refused-22-lowest": seen_again(GOOD, (0, 1, 1), (2, 3, 1), (3, 2, 1), (0, 1, 1), (7, 8, 1)),
+    "refused-22-no-edges": seen_again(bundle(ONE, []), (0, 1, 1)),
+    "refused-22-before-3": seen_again(bundle([(0, 2, 1, 3)], ONE_EDGES), (1, 1, 0)),
+    "refused-13-after-22": seen_again(GOOD, (1, 0, 1)) + b"\0",
     # the limit of the program's input: the fault stands at 32,767 in both, and one byte more is over the limit
     "refused-13-32768-bytes": largest(1, 1, 1) + bytes(1),
     "refused-13-32769-bytes": largest(1, 1, 1) + bytes(2),

@@ -2,6 +2,7 @@
 //! writer, and the three numbers for a host program.
 
 use crate::{refuse, Refusal};
+use std::collections::{HashMap, HashSet};
 
 /// Kind of a cell record: four nodes.
 pub const CELL: u16 = 1;
@@ -11,14 +12,17 @@ pub const EDGE: u16 = 2;
 pub const END: u16 = 3;
 /// Kind of an edge record with a count of two bytes, which one byte can't hold.
 pub const WIDE_EDGE: u16 = 4;
+/// Kind of a later look at an edge: two nodes and its new count, of two bytes.
+pub const LOOK: u16 = 5;
 
 /// Bytes of the length and kind before a body.
 const HEAD: usize = 4;
 const CELL_BYTES: usize = HEAD + 8;
 const EDGE_BYTES: usize = HEAD + 5;
 const WIDE_EDGE_BYTES: usize = HEAD + 6;
+const LOOK_BYTES: usize = HEAD + 6;
 const END_BYTES: usize = HEAD;
-/// Bytes before the count in an edge record of either kind.
+/// Bytes before the count in a record of an edge or a look.
 const BEFORE_COUNT: usize = HEAD + 4;
 
 /// How many cells and edges a bundle has.
@@ -68,28 +72,28 @@ pub fn read(
     edges: &mut [u16],
     counts: &mut [u16],
 ) -> Result<Sizes, Refusal> {
-    let sizes = scan(bytes)?;
+    let layout = scan(bytes)?;
+    let sizes = layout.sizes;
     let room = cells.len() / 4 >= sizes.cells
         && edges.len() / 2 >= sizes.edges
         && counts.len() >= sizes.edges;
     if !room {
         return refuse(14, 0);
     }
-    let (cell_records, others) = bytes.split_at(sizes.cells * CELL_BYTES);
-    for (record, nodes) in cell_records
-        .chunks_exact(CELL_BYTES)
-        .zip(cells.chunks_exact_mut(4))
-    {
+    let cell_records = layout.cells.chunks_exact(CELL_BYTES);
+    for (record, nodes) in cell_records.zip(cells.chunks_exact_mut(4)) {
         copy_numbers(&record[HEAD..], nodes);
     }
-    let mut rest = others;
+    // a later record for the pair takes the place of an earlier one
+    let seen: HashMap<&[u8], u16> = layout
+        .looks()
+        .map(|look| (pair_of(look), count_of(look)))
+        .collect();
     let lists = edges.chunks_exact_mut(2).zip(counts);
-    for (ends, count) in lists.take(sizes.edges) {
-        let (_, size) = first_record(rest).expect("the scan has met this record");
-        let (record, others) = rest.split_at(size);
+    for (record, (ends, count)) in layout.edges().zip(lists) {
         copy_numbers(&record[HEAD..], ends);
-        *count = count_of(record);
-        rest = others;
+        let again = seen.get(pair_of(record)).copied();
+        *count = again.unwrap_or_else(|| count_of(record));
     }
     Ok(sizes)
 }
@@ -133,24 +137,81 @@ pub fn host_refusal(bytes: &[u8]) -> u32 {
 
 /// The host's second number: the bundle's cells, 0 if it is broken.
 pub fn host_cells(bytes: &[u8]) -> u32 {
-    scan(bytes).map_or(0, |sizes| sizes.cells as u32)
+    scan(bytes).map_or(0, |layout| layout.sizes.cells as u32)
 }
 
 /// The host's third number: the bundle's edges, 0 if it is broken.
 pub fn host_edges(bytes: &[u8]) -> u32 {
-    scan(bytes).map_or(0, |sizes| sizes.edges as u32)
+    scan(bytes).map_or(0, |layout| layout.sizes.edges as u32)
 }
 
-/// Row 13 over a whole bundle; counts its cells and edges.
-fn scan(bytes: &[u8]) -> Result<Sizes, Refusal> {
+/// The records of a whole bundle, section by section.
+struct Layout<'a> {
+    sizes: Sizes,
+    cells: &'a [u8],
+    edges: &'a [u8],
+    looks: &'a [u8],
+}
+
+impl<'a> Layout<'a> {
+    fn edges(&self) -> impl Iterator<Item = &'a [u8]> {
+        let mut rest = self.edges;
+        std::iter::from_fn(move || {
+            let (_, size) = first_record(rest)?;
+            let (record, others) = rest.split_at(size);
+            rest = others;
+            Some(record)
+        })
+    }
+
+    fn looks(&self) -> impl Iterator<Item = &'a [u8]> {
+        self.looks.chunks_exact(LOOK_BYTES)
+    }
+
+    /// The number of the first look whose pair no edge has.
+    fn stray(&self) -> Option<usize> {
+        if self.looks.is_empty() {
+            return None;
+        }
+        let known: HashSet<&[u8]> = self.edges().map(pair_of).collect();
+        self.looks().position(|look| !known.contains(pair_of(look)))
+    }
+}
+
+/// Rows 13 and 22 over a whole bundle.
+fn scan(bytes: &[u8]) -> Result<Layout<'_>, Refusal> {
+    let layout = lay_out(bytes)?;
+    let looks_at = layout.cells.len() + layout.edges.len();
+    match layout.stray() {
+        Some(look) => refuse(22, looks_at + look * LOOK_BYTES),
+        None => Ok(layout),
+    }
+}
+
+/// Row 13 over a whole bundle: cells, edges, looks and one end, in this order.
+fn lay_out(bytes: &[u8]) -> Result<Layout<'_>, Refusal> {
     let mut sizes = Sizes { cells: 0, edges: 0 };
-    let mut start = 0;
+    let [mut edges_at, mut looks_at, mut start] = [0; 3];
     loop {
         let (kind, next) = record(bytes, start)?;
         match kind {
-            CELL if sizes.edges == 0 => sizes.cells += 1,
-            EDGE | WIDE_EDGE => sizes.edges += 1,
-            END if next == bytes.len() => return Ok(sizes),
+            CELL if edges_at == start => {
+                sizes.cells += 1;
+                [edges_at, looks_at] = [next; 2];
+            }
+            EDGE | WIDE_EDGE if looks_at == start => {
+                sizes.edges += 1;
+                looks_at = next;
+            }
+            LOOK => {}
+            END if next == bytes.len() => {
+                return Ok(Layout {
+                    sizes,
+                    cells: &bytes[..edges_at],
+                    edges: &bytes[edges_at..looks_at],
+                    looks: &bytes[looks_at..start],
+                })
+            }
             END => return refuse(13, next),
             _ => return refuse(13, start),
         }
@@ -164,6 +225,7 @@ fn record_bytes(kind: u16) -> Option<usize> {
         CELL => Some(CELL_BYTES),
         EDGE => Some(EDGE_BYTES),
         WIDE_EDGE => Some(WIDE_EDGE_BYTES),
+        LOOK => Some(LOOK_BYTES),
         END => Some(END_BYTES),
         _ => None,
     }
@@ -185,7 +247,12 @@ fn edge_bytes(count: u16) -> usize {
     }
 }
 
-/// The count of an edge's whole record, of either kind.
+/// The two nodes in the record of an edge or a look, as bytes.
+fn pair_of(record: &[u8]) -> &[u8] {
+    &record[HEAD..BEFORE_COUNT]
+}
+
+/// The count in the record of an edge or a look.
 fn count_of(record: &[u8]) -> u16 {
     let high = record.get(BEFORE_COUNT + 1).copied().unwrap_or(0);
     u16::from_le_bytes([record[BEFORE_COUNT], high])

@@ -58,9 +58,31 @@ fn mixed_bundle() -> Vec<u8> {
     })
 }
 
-/// A second reader: eats cells, then edges of both kinds, then wants exactly an
-/// end.
-fn plain_read(bytes: &[u8]) -> Result<Sample, usize> {
+/// Edges of both kinds, and looks at both and at one of them again.
+fn looked_bundle() -> Vec<u8> {
+    let bundle = bundle_of(&Sample {
+        cells: vec![0, 1, 2, 3],
+        edges: vec![4, 5, 2, 3],
+        counts: vec![5, 300],
+    });
+    seen_again(&bundle, &[[2, 3, 4], [4, 5, 300], [2, 3, 7]])
+}
+
+/// The bundle with these looks before its end: the pair u, v and a count each.
+fn seen_again(bundle: &[u8], looks: &[[u16; 3]]) -> Vec<u8> {
+    let mut bytes = bundle[..bundle.len() - 4].to_vec();
+    for look in looks {
+        bytes.extend([8, 0, 5, 0]);
+        bytes.extend(look.iter().flat_map(|number| number.to_le_bytes()));
+    }
+    bytes.extend([2, 0, 3, 0]);
+    bytes
+}
+
+/// A second reader: eats cells, then edges of both kinds, then looks, then wants
+/// exactly an end; then puts each look's count to the edges, in turn. A refusal
+/// is a number and a place.
+fn plain_read(bytes: &[u8]) -> Result<Sample, (u32, usize)> {
     let word = |at: usize| u16::from(bytes[at]) + 256 * u16::from(bytes[at + 1]);
     let left = |at: usize| bytes.len() - at;
     let mut lists = empty_lists();
@@ -84,13 +106,30 @@ fn plain_read(bytes: &[u8]) -> Result<Sample, usize> {
             break;
         }
     }
-    if bytes[at..] == [2, 0, 3, 0] {
-        Ok(lists)
-    } else if bytes[at..].starts_with(&[2, 0, 3, 0]) {
-        Err(at + 4)
-    } else {
-        Err(at)
+    let mut looks = Vec::new();
+    while bytes[at..].starts_with(&[8, 0, 5, 0]) && left(at) >= 10 {
+        looks.push((at, [4, 6, 8].map(|offset| word(at + offset))));
+        at += 10;
     }
+    if bytes[at..].starts_with(&[2, 0, 3, 0]) && left(at) > 4 {
+        return Err((13, at + 4));
+    }
+    if bytes[at..] != [2, 0, 3, 0] {
+        return Err((13, at));
+    }
+    for (at, [u, v, count]) in looks {
+        let mut met = false;
+        for (k, ends) in lists.edges.chunks(2).enumerate() {
+            if ends == [u, v] {
+                lists.counts[k] = count;
+                met = true;
+            }
+        }
+        if !met {
+            return Err((22, at));
+        }
+    }
+    Ok(lists)
 }
 
 /// Reads with ample lists and compares everything with the plain reader.
@@ -101,16 +140,16 @@ fn compare(bytes: &[u8]) {
     let mut counts = vec![0xcccc; room];
     let answer = read(bytes, &mut cells, &mut edges, &mut counts);
     let expected = plain_read(bytes);
-    let number = if expected.is_ok() { 0 } else { 13 };
-    let lists = expected.unwrap_or_else(|place| {
-        assert_eq!(answer, refused(13, place), "{bytes:?}");
+    let number = expected.as_ref().map_or_else(|refusal| refusal.0, |_| 0);
+    let lists = expected.unwrap_or_else(|(number, place)| {
+        assert_eq!(answer, refused(number as u8, place), "{bytes:?}");
         empty_lists()
     });
     let sizes = Sizes {
         cells: lists.cells.len() / 4,
         edges: lists.counts.len(),
     };
-    assert!(number == 13 || answer == Ok(sizes));
+    assert!(number > 0 || answer == Ok(sizes));
     assert_written(&cells, &lists.cells, 0xaaaa);
     assert_written(&edges, &lists.edges, 0xbbbb);
     assert_written(&counts, &lists.counts, 0xcccc);
@@ -220,6 +259,94 @@ fn kinds_of_edges_mix() {
     assert_eq!(short, refused(14, 0));
 }
 
+/// The last look with a pair gives the count of every edge with that pair.
+#[test]
+fn looks_replace_counts() {
+    let bundle = bundle_of(&Sample {
+        cells: vec![0, 1, 2, 3],
+        edges: vec![0, 1, 0, 2, 0, 1, 1, 0],
+        counts: vec![5, 300, 6, 7],
+    });
+    let cases: [(&[[u16; 3]], [u16; 4]); 8] = [
+        (&[], [5, 300, 6, 7]),
+        (&[[0, 1, 9]], [9, 300, 9, 7]),
+        (&[[0, 1, 9], [0, 1, 8]], [8, 300, 8, 7]),
+        (&[[0, 1, 9], [0, 2, 0], [0, 1, 5]], [5, 0, 5, 7]),
+        (&[[1, 0, 255]], [5, 300, 6, 255]),
+        (&[[1, 0, 256]], [5, 300, 6, 256]),
+        (&[[0, 2, 4096], [1, 0, 65_535]], [5, 4096, 6, 65_535]),
+        (&[[0, 2, 255]], [5, 255, 6, 7]),
+    ];
+    for (looks, left) in cases {
+        let bytes = seen_again(&bundle, looks);
+        compare(&bytes);
+        let mut counts = [1; 5];
+        let sizes = Sizes { cells: 1, edges: 4 };
+        let answer = read(&bytes, &mut [0; 4], &mut [0; 8], &mut counts);
+        assert_eq!(answer, Ok(sizes));
+        assert_eq!(counts, [left[0], left[1], left[2], left[3], 1]);
+        let host = [host_refusal(&bytes), host_cells(&bytes), host_edges(&bytes)];
+        assert_eq!(host, [0, 1, 4]);
+        let short = read(&bytes, &mut [0; 4], &mut [0; 8], &mut counts[..3]);
+        assert_eq!(short, refused(14, 0));
+    }
+}
+
+/// 22 at the lowest look for no edge, after 13 over everything and before 14.
+#[test]
+fn looks_for_no_edge() {
+    let bundle = bundle_of(&Sample {
+        cells: vec![0, 1, 2, 3],
+        edges: vec![0, 1, 0, 2],
+        counts: vec![5, 300],
+    });
+    assert_eq!(bundle.len(), 12 + 9 + 10 + 4);
+    for (looks, place) in [
+        (&[[1, 0, 9]][..], 31),
+        (&[[0, 1, 9], [2, 0, 9]], 41),
+        (&[[0, 1, 9], [1, 2, 9], [0, 2, 9], [3, 3, 3]], 41),
+        (&[[0, 257, 9]], 31),
+        (&[[256, 1, 9]], 31),
+    ] {
+        let bytes = seen_again(&bundle, looks);
+        compare(&bytes);
+        assert_eq!(read(&bytes, &mut [], &mut [], &mut []), refused(22, place));
+        let host = [host_refusal(&bytes), host_cells(&bytes), host_edges(&bytes)];
+        assert_eq!(host, [22, 0, 0]);
+        let longer = [&bytes[..], &[0]].concat();
+        let end = bytes.len();
+        assert_eq!(read(&longer, &mut [], &mut [], &mut []), refused(13, end));
+    }
+    let no_edges = seen_again(&[2, 0, 3, 0], &[[0, 1, 9]]);
+    assert_eq!(read(&no_edges, &mut [], &mut [], &mut []), refused(22, 0));
+}
+
+/// A bundle with looks comes back as the bundle of its surviving lists.
+#[test]
+fn survivors_come_back() {
+    let mut rng = Rng::new(5);
+    for _ in 0..2_000 {
+        let mut lists = random_lists(&mut rng, 12);
+        for node in &mut lists.edges {
+            *node %= 3;
+        }
+        let mut looks = Vec::new();
+        for _ in 0..rng.below(12) {
+            if let Some(edges) = lists.counts.len().checked_sub(1) {
+                let edge = rng.between(0, edges);
+                let [u, v] = [lists.edges[2 * edge], lists.edges[2 * edge + 1]];
+                looks.push([u, v, rng.word() as u16 >> rng.below(16)]);
+            }
+        }
+        let bytes = seen_again(&bundle_of(&lists), &looks);
+        compare(&bytes);
+        let left = plain_read(&bytes).expect("every look is for an edge");
+        let back = bundle_of(&left);
+        assert_eq!(plain_read(&back), Ok(left));
+        compare(&back);
+    }
+}
+
 #[test]
 fn bundles_come_back_as_they_were() {
     let mut rng = Rng::new(1);
@@ -251,7 +378,7 @@ fn bundles_come_back_as_they_were() {
 #[test]
 fn every_truncation() {
     let bytes = small_bundle();
-    for bytes in [small_bundle(), mixed_bundle()] {
+    for bytes in [small_bundle(), mixed_bundle(), looked_bundle()] {
         for length in 0..=bytes.len() {
             compare(&bytes[..length]);
         }
@@ -267,7 +394,7 @@ fn every_truncation() {
 
 #[test]
 fn every_changed_byte() {
-    for mut bytes in [small_bundle(), mixed_bundle()] {
+    for mut bytes in [small_bundle(), mixed_bundle(), looked_bundle()] {
         for at in 0..bytes.len() {
             let kept = bytes[at];
             for value in 0..=255 {
@@ -290,7 +417,8 @@ fn random_damage() {
                 0 => bytes.insert(at, rng.below(12) as u8),
                 1 => bytes.truncate(at),
                 2 => {
-                    bytes.splice(at..at, [2, 0, 3, 0]);
+                    let records: [&[u8]; 2] = [&[2, 0, 3, 0], &[8, 0, 5, 0, 9, 8, 7, 6, 5, 4]];
+                    bytes.splice(at..at, records[rng.below(2)].iter().copied());
                 }
                 _ => {
                     let until = rng.between(at, bytes.len());
@@ -306,18 +434,22 @@ fn random_damage() {
 #[test]
 fn records_in_any_order() {
     let mut rng = Rng::new(3);
-    let records: [&[u8]; 7] = [
+    let records: [&[u8]; 10] = [
         &[10, 0, 1, 0, 1, 2, 3, 4, 5, 6, 7, 8],
         &[7, 0, 2, 0, 9, 8, 7, 6, 5],
         &[8, 0, 4, 0, 9, 8, 7, 6, 5, 4],
+        &[8, 0, 5, 0, 9, 8, 7, 6, 1, 0],
         &[2, 0, 3, 0],
+        &[8, 0, 5, 0, 9, 8, 6, 7, 1, 0],
+        &[7, 0, 5, 0, 9, 8, 7, 6, 1],
         &[2, 0, 4, 0],
         &[8, 0, 4, 0, 9, 8, 7, 6, 5, 0],
         &[2, 0, 0, 0],
     ];
     for _ in 0..20_000 {
         // more of the records that are right
-        let chosen = (0..rng.below(6)).map(|_| records[[0, 1, 2, 3, rng.below(7)][rng.below(5)]]);
+        let chosen =
+            (0..rng.below(6)).map(|_| records[[0, 1, 2, 3, 4, rng.below(10)][rng.below(6)]]);
         let bytes = chosen.collect::<Vec<&[u8]>>().concat();
         compare(&bytes);
     }
@@ -329,7 +461,8 @@ fn row_13_places() {
     let edge = [7, 0, 2, 0, 9, 8, 7, 6, 5];
     let wide = [8, 0, 4, 0, 9, 8, 7, 6, 5, 1];
     let end = [2, 0, 3, 0];
-    let cases: [(Vec<&[u8]>, usize); 14] = [
+    let look = [8, 0, 5, 0, 9, 8, 7, 6, 5, 0];
+    let cases: [(Vec<&[u8]>, usize); 22] = [
         (vec![], 0),
         (vec![&cell, &edge], 21),
         (vec![&cell, &edge, &cell, &end], 21),
@@ -345,6 +478,15 @@ fn row_13_places() {
         (vec![&edge, &wide[..9]], 9),
         (vec![&edge, &[7, 0, 4, 0, 9, 8, 7, 6, 5], &end], 9),
         (vec![&wide, &[8, 0, 2, 0, 9, 8, 7, 6, 5, 1], &end], 10),
+        // looks: before the edges, before the cells, after the end, cut, without an end
+        (vec![&look, &edge, &end], 10),
+        (vec![&edge, &look, &edge, &end], 19),
+        (vec![&edge, &look, &cell, &end], 19),
+        (vec![&look, &cell, &edge, &end], 10),
+        (vec![&edge, &end, &look], 13),
+        (vec![&edge, &look[..9]], 9),
+        (vec![&edge, &look], 19),
+        (vec![&edge, &[7, 0, 5, 0, 9, 8, 7, 6, 5], &end], 9),
     ];
     for (parts, place) in cases {
         let bytes = parts.concat();
@@ -391,6 +533,7 @@ fn plain_record(bytes: &[u8]) -> Option<(u16, usize)> {
         ([10, 0, 1, 0], 12),
         ([7, 0, 2, 0], 9),
         ([8, 0, 4, 0], 10),
+        ([8, 0, 5, 0], 10),
         ([2, 0, 3, 0], 4),
     ];
     let fits = |(head, size): &([u8; 4], usize)| bytes.starts_with(head) && bytes.len() >= *size;
@@ -406,8 +549,8 @@ fn records_anywhere_in_random_bytes() {
     let mut rng = Rng::new(4);
     for _ in 0..3_000 {
         let length = rng.below(40);
-        let few = [0, 0, 0, 1, 2, 3, 4, 7, 8, 10];
-        let bytes: Vec<u8> = (0..length).map(|_| few[rng.below(10)]).collect();
+        let few = [0, 0, 0, 1, 2, 3, 4, 5, 7, 8, 10];
+        let bytes: Vec<u8> = (0..length).map(|_| few[rng.below(11)]).collect();
         for start in 0..length {
             let wanted = plain_record(&bytes[start..]);
             let body = record_body(&bytes, start);

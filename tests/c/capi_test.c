@@ -260,6 +260,22 @@ static const uint8_t bundle[] = {
 /* An edge of kind 4 with 255, and an end. */
 static const uint8_t narrow[] = {8, 0, 4, 0, 5, 0, 7, 1, 255, 0, 2, 0, 3, 0};
 
+/* The same with looks: 5 262 has 300 and then 1, 5 263 has 7. */
+static const uint8_t looked[] = {
+    10, 0, 1, 0, 0, 0, 1, 0, 2, 0, 3, 1, /* */
+    7, 0, 2, 0, 5, 0, 6, 1, 9,           /* */
+    8, 0, 4, 0, 5, 0, 7, 1, 255, 15,     /* */
+    8, 0, 5, 0, 5, 0, 6, 1, 44, 1,       /* */
+    8, 0, 5, 0, 5, 0, 7, 1, 7, 0,        /* */
+    8, 0, 5, 0, 5, 0, 6, 1, 1, 0,        /* */
+    2, 0, 3, 0};
+
+/* An edge, a look at it, one with its pair turned round, and an end. */
+static const uint8_t stray[] = {7, 0, 2, 0, 5, 0, 6, 1, 9,     /* */
+                                8, 0, 5, 0, 5, 0, 6, 1, 44, 1, /* */
+                                8, 0, 5, 0, 6, 1, 5, 0, 44, 1, /* */
+                                2, 0, 3, 0};
+
 static void record(const char *call, size_t bytes_len, size_t start,
                    size_t answer_len) {
   printf("%s, ", call);
@@ -285,17 +301,22 @@ static void test_record(void) {
        citternblaze_record(narrow, sizeof narrow, 0, answer, ROOM));
   show("body of kind 4 with 255",
        citternblaze_record_body(narrow, sizeof narrow, 0, answer, ROOM));
+  show("record of a look",
+       citternblaze_record(looked, sizeof looked, 31, answer, ROOM));
+  show("body of a look",
+       citternblaze_record_body(looked, sizeof looked, 31, answer, ROOM));
   record("record at 0, answer area of 6", sizeof bundle, 0, ENOUGH);
   record("record at 0, answer area of 5", sizeof bundle, 0, SHORT);
 }
 
-static void read_bundle(const char *call, size_t bytes_len, size_t nodes_len,
-                        size_t ends_len, size_t counts_len, size_t answer_len) {
+static void read_bytes(const char *call, const uint8_t *bytes, size_t bytes_len,
+                       size_t nodes_len, size_t ends_len, size_t counts_len,
+                       size_t answer_len) {
   uint16_t nodes[6], ends[6], count[3];
   memset(nodes, 0xa5, sizeof nodes);
   memset(ends, 0xa5, sizeof ends);
   memset(count, 0xa5, sizeof count);
-  show(call, citternblaze_bundle_read(bundle, bytes_len, nodes, nodes_len, ends,
+  show(call, citternblaze_bundle_read(bytes, bytes_len, nodes, nodes_len, ends,
                                       ends_len, count, counts_len, answer,
                                       answer_len));
   printf("  nodes");
@@ -310,6 +331,12 @@ static void read_bundle(const char *call, size_t bytes_len, size_t nodes_len,
   printf("\n");
 }
 
+static void read_bundle(const char *call, size_t bytes_len, size_t nodes_len,
+                        size_t ends_len, size_t counts_len, size_t answer_len) {
+  read_bytes(call, bundle, bytes_len, nodes_len, ends_len, counts_len,
+             answer_len);
+}
+
 static void test_bundle_read(void) {
   read_bundle("read", sizeof bundle, 6, 6, 3, ROOM);
   read_bundle("read into lists just long enough", sizeof bundle, 4, 4, 2, ROOM);
@@ -322,6 +349,15 @@ static void test_bundle_read(void) {
   read_bundle("read nothing", 0, 6, 6, 3, ROOM);
   read_bundle("read, answer area of 6", sizeof bundle, 6, 6, 3, ENOUGH);
   read_bundle("read, answer area of 5", sizeof bundle, 6, 6, 3, SHORT);
+  read_bytes("read looks", looked, sizeof looked, 6, 6, 3, ROOM);
+  read_bytes("read looks, list of 1 count", looked, sizeof looked, 6, 6, 1, ROOM);
+  read_bytes("read looks, answer area of 5", looked, sizeof looked, 6, 6, 3,
+             SHORT);
+  read_bytes("read a look for no edge", stray, sizeof stray, 6, 6, 3, ROOM);
+  read_bytes("read a look for no edge, no lists", stray, sizeof stray, 0, 0, 0,
+             ROOM);
+  read_bytes("read a look for no edge, cut by one", stray, sizeof stray - 1, 6, 6,
+             3, ROOM);
   show("read kind 4 with 255",
        citternblaze_bundle_read(narrow, sizeof narrow, NULL, 0, NULL, 0, NULL, 0,
                                 answer, ROOM));
@@ -499,6 +535,8 @@ static void test_other_refusals(void) {
                                             0, answer, ROOM));
   REFUSAL(BUNDLE_AREA, citternblaze_bundle_read(bytes, 70, lists, 3, NULL, 0,
                                                 NULL, 0, answer, ROOM));
+  REFUSAL(LOOK, citternblaze_bundle_read(stray, sizeof stray, NULL, 0, NULL, 0,
+                                         NULL, 0, answer, ROOM));
   REFUSAL(BUNDLE_AREA, citternblaze_bundle_write(cells, 4, six, 12, twice, 6,
                                                  bytes, 69, answer, ROOM));
   REFUSAL(PLACE_LISTS,

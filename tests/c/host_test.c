@@ -15,6 +15,8 @@ static const uint8_t cell[] = {10, 0, 1, 0, 0, 0, 1, 0, 2, 0, 3, 0};
 static const uint8_t edge[] = {7, 0, 2, 0, 0, 0, 1, 0, 5};
 static const uint8_t wide[] = {8, 0, 4, 0, 0, 0, 2, 0, 0, 1};
 static const uint8_t narrow[] = {8, 0, 4, 0, 0, 0, 2, 0, 255, 0};
+static const uint8_t look[] = {8, 0, 5, 0, 0, 0, 1, 0, 0, 1};
+static const uint8_t turned[] = {8, 0, 5, 0, 1, 0, 0, 0, 0, 1};
 static const uint8_t end[] = {2, 0, 3, 0};
 
 static uint8_t input[MANY * sizeof cell + sizeof end];
@@ -106,6 +108,38 @@ int main(void)
 
     used = 0;
     add(cell, sizeof cell);
+    add(edge, sizeof edge);
+    add(wide, sizeof wide);
+    add(look, sizeof look);
+    add(look, sizeof look);
+    add(end, sizeof end);
+    ask_guarded("looks", used);
+
+    used = 0;
+    add(cell, sizeof cell);
+    add(edge, sizeof edge);
+    add(look, sizeof look);
+    add(turned, sizeof turned);
+    ask_guarded("look for no edge, no end", used);
+    add(end, sizeof end);
+    ask_guarded("look for no edge", used);
+    input[used++] = 0;
+    ask_guarded("look for no edge, a byte after the end", used);
+
+    used = 0;
+    add(look, sizeof look);
+    add(edge, sizeof edge);
+    add(end, sizeof end);
+    ask_guarded("look before its edge", used);
+
+    used = 0;
+    add(edge, sizeof edge);
+    add(end, sizeof end);
+    add(look, sizeof look);
+    ask_guarded("look after the end", used);
+
+    used = 0;
+    add(cell, sizeof cell);
     add(end, sizeof end);
     input[0] = 11;
     ask_guarded("wrong length", used);
@@ -120,5 +154,12 @@ int main(void)
         add(cell, sizeof cell);
     add(end, sizeof end);
     ask_guarded("many cells", used);
+
+    used = 0;
+    add(edge, sizeof edge);
+    for (int i = 0; i < MANY; i++)
+        add(look, sizeof look);
+    add(end, sizeof end);
+    ask_guarded("many looks", used);
     return 0;
 }

@@ -1,37 +1,41 @@
 -- The cases of the reader's answers. Assumes nothing.
-use Prim.Native.Nat.{ℕ, _*_, _≤_}
+use Prim.Native.Nat.{ℕ, _*_, _≤_, _<_}
 use mathlib.Core.Path.{_≡_, refl, sym, ap, _∙_}
 use mathlib.Core.Bool.{Bool, true, false, not, _&&_}
 use mathlib.Core.List.{List, [], _∷_}
+use native.Mathlib.Decide.{decLt, ℕ-discrete}
+use native.Mathlib.Omega.{arith}
 use lib.Dec.{leb, eqb}
 use lib.ListN.{length, take}
 use lib.Seq.{take-at}
-use borrow.Author.Tests.{leb-true, eq-eqb, ne-eqb, le-leb}
+use borrow.Author.Tests.{leb-true, eqb-true, eq-eqb, ne-eqb, le-leb, le-ltb, lt-ltb}
 use Rattle.answer.specs.Answer.{result, refusal}
 use Rattle.counting.specs.Pick.{pick}
-use Rattle.counting.proofs.Bools.{clash, not-clash, and-left, and-right}
+use Rattle.counting.proofs.Bools.{clash, not-clash, and-true, and-left, and-right}
 use Rattle.bundle.specs.Record.{brokenRow, nextRecord}
-use Rattle.bundle.specs.Bundle.{cellSection, edgeSection, endSection, isOf, start, run, cells, edgesFrom, edges, stop, bundleAnswer, isBundle, hasRoom, isTaken, readAnswer, nodesOf, endsOf, countsOf, cellNodes, edgeEnds, writtenOver, leaves, nodesLeft, endsLeft, countsLeft, shortRow}
+use Rattle.bundle.specs.Bundle.{cellSection, edgeSection, lookSection, endSection, isOf, start, run, cells, edgesFrom, edges, looksFrom, looks, stop, lookAt, firstStray, bundleAnswer, isLaid, isBundle, hasRoom, isTaken, readAnswer, nodesOf, endsOf, countsOf, cellNodes, edgeEnds, writtenOver, leaves, nodesLeft, endsLeft, countsLeft, shortRow, strayRow}
+use Rattle.bundle.specs.Needed.{LaidOut}
 use Rattle.bundle.proofs.OneRecord.{apart}
 
 module _ (s : List ℕ) where
-  -- the numbers of two runs are those of the bundle
-  module _ (c p e q : ℕ) (hc : c ≡ run s cellSection 0) (hp : p ≡ start s 0 c) (he : e ≡ run s edgeSection p) (hq : q ≡ start s p e) where
-    pub cells-are : c ≡ cells s
-    unfolding cells
-    cells-are = hc
-
-    pub from-is : p ≡ edgesFrom s
-    unfolding edgesFrom
-    from-is = hp ∙ ap (start s 0) cells-are
-
-    pub edges-are : e ≡ edges s
-    unfolding edges
-    edges-are = he ∙ ap (run s edgeSection) from-is
-
-    pub stop-is : q ≡ stop s
-    unfolding stop
-    stop-is = hq ∙ ap (λ n. start s n e) from-is ∙ ap (start s (edgesFrom s)) edges-are
+  -- the numbers of three runs are those of the bundle
+  module _ (c p e q l r : ℕ) (hc : c ≡ run s cellSection 0) (hp : p ≡ start s 0 c) (he : e ≡ run s edgeSection p) (hq : q ≡ start s p e)
+      (hl : l ≡ run s lookSection q) (hr : r ≡ start s q l) where
+    pub laid : LaidOut s c p e q l r
+    unfolding cells edgesFrom edges looksFrom looks stop
+    laid =
+        let fp : p ≡ edgesFrom s = hp ∙ ap (start s 0) hc in
+        let fe : e ≡ edges s = he ∙ ap (run s edgeSection) fp in
+        let fq : q ≡ looksFrom s = hq ∙ ap (λ n. start s n e) fp ∙ ap (start s (edgesFrom s)) fe in
+        let fl : l ≡ looks s = hl ∙ ap (run s lookSection) fq in
+        record {
+          cellsAre = hc;
+          edgesBegin = fp;
+          edgesAre = fe;
+          looksBegin = fq;
+          looksAre = fl;
+          stops = hr ∙ ap (λ n. start s n l) fq ∙ ap (start s (looksFrom s)) fl;
+        }
 
   -- row 13
   pub answer-open : isOf s endSection (stop s) ≡ false → bundleAnswer s ≡ refusal brokenRow (stop s)
@@ -42,28 +46,75 @@ module _ (s : List ℕ) where
   unfolding bundleAnswer
   answer-after h l = simp (h, ne-eqb _ _ l)
 
-  pub answer-lists : isOf s endSection (stop s) ≡ true → nextRecord s (stop s) ≡ length s → bundleAnswer s ≡ result (cells s ∷ edges s ∷ [])
+  -- row 22
+  pub answer-stray : isOf s endSection (stop s) ≡ true → nextRecord s (stop s) ≡ length s → firstStray s < looks s → bundleAnswer s ≡ refusal strayRow (lookAt s (firstStray s))
   unfolding bundleAnswer
-  answer-lists h l = simp (h, eq-eqb _ _ l)
+  answer-stray h l k = simp (h, eq-eqb _ _ l, lt-ltb _ _ k)
 
-  both : (a b : Bool) (x y z : List ℕ) → (a && b) ≡ true → pick a (pick b x y) z ≡ x
-  both true true x y z h = refl
-  both true false x y z h = clash h refl
-  both false b x y z h = clash h refl
+  pub answer-lists : isOf s endSection (stop s) ≡ true → nextRecord s (stop s) ≡ length s → looks s ≤ firstStray s → bundleAnswer s ≡ result (cells s ∷ edges s ∷ [])
+  unfolding bundleAnswer
+  answer-lists h l k = simp (h, eq-eqb _ _ l, le-ltb _ _ k)
+
+  -- which of the four cases the bytes are
+  pub data Case : Type 0 where
+    unended : isOf s endSection (stop s) ≡ false → Case
+    more : isOf s endSection (stop s) ≡ true → (nextRecord s (stop s) ≡ length s → ⊥) → Case
+    stray : isOf s endSection (stop s) ≡ true → nextRecord s (stop s) ≡ length s → firstStray s < looks s → Case
+    whole : isOf s endSection (stop s) ≡ true → nextRecord s (stop s) ≡ length s → looks s ≤ firstStray s → Case
+
+  pub case-of : Case
+  case-of = go (isOf s endSection (stop s)) refl
+    where
+      go : (b : Bool) → isOf s endSection (stop s) ≡ b → Case
+      go false h = unended h
+      go true h =
+          elim (ℕ-discrete (nextRecord s (stop s)) (length s)) [
+            | no n ↦ more h n
+            | yes e ↦ elim (decLt (firstStray s) (looks s)) [ yes l ↦ stray h e l | no l ↦ whole h e (omega arith) ]
+          ]
+
+  -- only the last is a bundle
+  pub is-laid : isOf s endSection (stop s) ≡ true → nextRecord s (stop s) ≡ length s → isLaid s ≡ true
+  unfolding isLaid
+  is-laid h e = and-true _ _ h (eq-eqb _ _ e)
+
+  pub is-bundle : isOf s endSection (stop s) ≡ true → nextRecord s (stop s) ≡ length s → looks s ≤ firstStray s → isBundle s ≡ true
+  unfolding isBundle
+  is-bundle h e l = and-true _ _ (is-laid h e) (le-leb _ _ l)
+
+  -- what it is to be one
+  pub record Bundled : Type 0 where
+    pub ended : isOf s endSection (stop s) ≡ true
+    pub nothing : nextRecord s (stop s) ≡ length s
+    pub met : looks s ≤ firstStray s
+
+  pub bundled : isBundle s ≡ true → Bundled
+  unfolding isBundle isLaid
+  bundled h =
+      let a = isOf s endSection (stop s) in
+      let b = eqb (nextRecord s (stop s)) (length s) in
+      let c = leb (looks s) (firstStray s) in
+      let g = and-left (a && b) c h in
+      record { ended = and-left a b g; nothing = eqb-true _ _ (and-right a b g); met = leb-true _ _ (and-right (a && b) c h) }
 
   pub bundle-answer : isBundle s ≡ true → bundleAnswer s ≡ result (cells s ∷ edges s ∷ [])
-  unfolding bundleAnswer isBundle
-  bundle-answer h = both (isOf s endSection (stop s)) (eqb (nextRecord s (stop s)) (length s)) _ _ _ h
+  bundle-answer h = let w = bundled h in answer-lists (w .ended) (w .nothing) (w .met)
 
-  pub refused : isBundle s ≡ false → (place : ℕ) × (bundleAnswer s ≡ refusal brokenRow place)
-  unfolding bundleAnswer isBundle
-  refused h = go (isOf s endSection (stop s)) (eqb (nextRecord s (stop s)) (length s)) h
+  -- a refusal has a row's number
+  pub record Refusing : Type 0 where
+    pub row : ℕ
+    pub place : ℕ
+    pub some : 0 < row
+    pub is : bundleAnswer s ≡ refusal row place
+
+  pub refused : isBundle s ≡ false → Refusing
+  refused h = go case-of
     where
-      go : (a b : Bool) → (a && b) ≡ false
-          → (place : ℕ) × (pick a (pick b (result (cells s ∷ edges s ∷ [])) (refusal brokenRow (nextRecord s (stop s)))) (refusal brokenRow (stop s)) ≡ refusal brokenRow place)
-      go true true h = clash refl h
-      go true false h = (nextRecord s (stop s), refl)
-      go false b h = (stop s, refl)
+      go : Case → Refusing
+      go (unended e) = record { row = brokenRow; place = stop s; some = omega arith; is = answer-open e }
+      go (more e n) = record { row = brokenRow; place = nextRecord s (stop s); some = omega arith; is = answer-after e n }
+      go (stray e n l) = record { row = strayRow; place = lookAt s (firstStray s); some = omega arith; is = answer-stray e n l }
+      go (whole e n l) = clash (is-bundle e n l) h
 
   -- what an answer says of the bytes
   pub accepted : (c e : ℕ) → result (c ∷ e ∷ []) ≡ bundleAnswer s → isBundle s ≡ true
@@ -71,7 +122,7 @@ module _ (s : List ℕ) where
     where
       go : (b : Bool) → isBundle s ≡ b → b ≡ true
       go true q = refl
-      go false q = apart _ _ _ _ (h ∙ refused q .1)
+      go false q = apart _ _ _ _ (h ∙ refused q .is)
 
   pub accepted-cells : (c e : ℕ) → result (c ∷ e ∷ []) ≡ bundleAnswer s → c ≡ cells s
   accepted-cells c e h = let q = bundle-answer (accepted c e h) in cc

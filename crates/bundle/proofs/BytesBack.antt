@@ -5,25 +5,23 @@ use mathlib.Core.Bool.{true, false}
 use mathlib.Core.List.{List, [], _∷_, _++_, append-assoc}
 use native.Mathlib.Decide.{decLt}
 use native.Mathlib.Omega.{arith}
-use lib.Dec.{eqb}
 use lib.ListN.{length, getD, take, drop, take-append-drop, length-take, length-drop, drop-of-length-le, List·getD-eq-default}
 use lib.Seq.{take-all, take-add, getD-take, getD-drop, drop-cons, drop-drop, drop-length}
-use borrow.Author.Tests.{eqb-true, lt-leb}
+use borrow.Author.Tests.{lt-leb}
 use Rattle.answer.specs.Answer.{result}
 use Rattle.counting.specs.Range.{over}
 use Rattle.counting.specs.Lists.{All}
-use Rattle.counting.proofs.Bools.{and-left, and-right}
 use Rattle.counting.proofs.Lists.{all-at}
 use Rattle.counting.proofs.Range.{over-ext}
 use Rattle.counting.proofs.Fronts.{over-more, getD-blocks, first-parts}
 use Rattle.bundle.specs.Record.{byteValues, wordSize, lengthBytes, headBytes, countPlace, word, kindAt, isWide, nextRecord, isRecord, bodyStart, bodySize, body}
-use Rattle.bundle.specs.Bundle.{cellNodes, edgeEnds, cellSection, edgeSection, endSection, isOf, start, cells, edgesFrom, edges, stop, isBundle, leadingWords, nodesOf, endsOf, countsOf, writtenOver}
+use Rattle.bundle.specs.Bundle.{cellNodes, edgeEnds, cellSection, edgeSection, endSection, isOf, start, cells, edgesFrom, edges, looksFrom, looks, stop, surviving, isBundle, leadingWords, nodesOf, endsOf, countsOf, writtenOver}
 use Rattle.bundle.specs.Written.{wordBytes, headOf, recordBytes, listBytes, kindFor, countBytes, endRecord, cellBytes, edgeBytes, bundleBytes}
 use Rattle.bundle.specs.Claims.{BytesBack, ReadWritten}
 use Rattle.bundle.proofs.OneRecord.{stands, next-ge, body-whole}
 use Rattle.bundle.proofs.Runs.{of-record, run-all}
-use Rattle.bundle.proofs.Fills.{cell-kind, end-kind, cell-body, end-body, Edge, oneByte, twoBytes, edge-body, edge-ge, length-words, countBy, length-nodes, length-ends, length-counts}
-use Rattle.bundle.proofs.Answers.{accepted, accepted-cells, accepted-edges, read-bundle, read-taken, left-front}
+use Rattle.bundle.proofs.Fills.{cell-kind, end-kind, cell-body, end-body, Edge, oneByte, twoBytes, edge-body, edge-ge, length-words, count-kept, length-nodes, length-ends, length-counts}
+use Rattle.bundle.proofs.Answers.{bundled, accepted, accepted-cells, accepted-edges, read-bundle, read-taken, left-front}
 use Rattle.bundle.proofs.Writes.{answer-written}
 
 low-half : (x y : ℕ) → x < byteValues → x ≡ (x + byteValues * y) % byteValues
@@ -128,9 +126,9 @@ module _ (s : List ℕ) (bytes : (k : ℕ) → getD s k 0 < byteValues) where
       go (twoBytes e n f) =
           (e ∙ simp f, simp f (sym (take-all wordSize (drop countPlace b) (simp length-drop (omega arith))) ∙ word-back b (body-bytes a) countPlace (omega arith)))
 
-  edge-bytes : (k : ℕ) → k < edges s → drop (start s (edgesFrom s) k) s ≡ edgeBytes (endsOf s) (countsOf s) k ++ drop (nextRecord s (start s (edgesFrom s) k)) s
+  edge-bytes : looks s ≡ 0 → (k : ℕ) → k < edges s → drop (start s (edgesFrom s) k) s ≡ edgeBytes (endsOf s) (countsOf s) k ++ drop (nextRecord s (start s (edgesFrom s) k)) s
   unfolding edgeBytes edges endsOf countsOf
-  edge-bytes k h =
+  edge-bytes none k h =
       let from = edgesFrom s in
       let a = start s from k in
       let o = run-all s from edgeSection k h in
@@ -139,36 +137,35 @@ module _ (s : List ℕ) (bytes : (k : ℕ) → getD s k 0 < byteValues) where
       let u : listBytes (endsOf s) (edgeEnds * k) edgeEnds ≡ take (wordSize * edgeEnds) (body s a) =
       list-back (λ j. body s (start s from j)) edgeEnds (edges s) k h (body-bytes a) (omega (arith, n)) in
       let v : getD (countsOf s) k 0 ≡ word (body s a) countPlace =
-      ap (λ i. getD (countsOf s) i 0) one ∙ getD-blocks (countBy s from) 1 (edges s) (λ _ _. refl) k 0 0 h (omega arith) in
+      ap (λ i. getD (countsOf s) i 0) one ∙ getD-blocks (λ j. surviving s j ∷ []) 1 (edges s) (λ _ _. refl) k 0 0 h (omega arith) ∙ count-kept s none k in
       let e : listBytes (endsOf s) (edgeEnds * k) edgeEnds ++ countBytes (getD (countsOf s) k 0) ≡ body s a =
       cc (u, v, edge-back a o .1) ∙ take-append-drop countPlace (body s a) in
       record-back s bytes a (of-record s edgeSection a o) ∙ cc (e, v, edge-back a o .0)
 
   end-bytes : isBundle s ≡ true → drop (stop s) s ≡ endRecord
-  unfolding isBundle
   end-bytes h =
-      let t = eqb (nextRecord s (stop s)) (length s) in
-      let o = and-left (isOf s endSection (stop s)) t h in
+      let o = bundled s h .ended in
       let none : body s (stop s) ≡ [] = sym (take-all 0 (body s (stop s)) (omega (arith, end-body s (stop s) o))) in
-      let last : drop (nextRecord s (stop s)) s ≡ [] = ap (λ n. drop n s) (eqb-true (nextRecord s (stop s)) (length s) (and-right (isOf s endSection (stop s)) t h)) ∙ drop-length s in
+      let last : drop (nextRecord s (stop s)) s ≡ [] = ap (λ n. drop n s) (bundled s h .nothing) ∙ drop-length s in
       record-back s bytes (stop s) (of-record s endSection (stop s) o) ∙ cc (end-kind s (stop s) o, none, last)
 
-  all-back : isBundle s ≡ true → bundleBytes (nodesOf s) (endsOf s) (countsOf s) ≡ s
-  unfolding bundleBytes edgesFrom stop
-  all-back h =
+  all-back : isBundle s ≡ true → looks s ≡ 0 → bundleBytes (nodesOf s) (endsOf s) (countsOf s) ≡ s
+  unfolding bundleBytes edgesFrom looksFrom stop start
+  all-back h none =
+      let last : stop s ≡ looksFrom s = ap (start s (looksFrom s)) none in
       let c : length (nodesOf s) / cellNodes ≡ cells s = omega (arith, length-nodes s) in
       let x = over (cellBytes (nodesOf s)) (cells s) 0 in
       let y = over (edgeBytes (endsOf s) (countsOf s)) (edges s) 0 in
       ap (λ n. over (cellBytes (nodesOf s)) n 0 ++ over (edgeBytes (endsOf s) (countsOf s)) (length (countsOf s)) 0 ++ endRecord) c
       ∙ ap (λ n. x ++ over (edgeBytes (endsOf s) (countsOf s)) n 0 ++ endRecord) (length-counts s)
       ∙ append-assoc x y endRecord
-      ∙ ap (λ (z : List ℕ). x ++ (y ++ z)) (sym (end-bytes h))
-      ∙ ap (λ (z : List ℕ). x ++ z) (sym (chain s (edgesFrom s) (edges s) (edgeBytes (endsOf s) (countsOf s)) edge-bytes))
+      ∙ ap (λ (z : List ℕ). x ++ (y ++ z)) (sym (end-bytes h) ∙ ap (λ n. drop n s) last)
+      ∙ ap (λ (z : List ℕ). x ++ z) (sym (chain s (edgesFrom s) (edges s) (edgeBytes (endsOf s) (countsOf s)) (edge-bytes none)))
       ∙ sym (chain s 0 (cells s) (cellBytes (nodesOf s)) cell-bytes)
 
-  back : isBundle s ≡ true → (area : List ℕ) → length s ≤ length area → BytesBack s (nodesOf s) (endsOf s) (countsOf s) area
-  back h area l =
-      let e = all-back h in
+  back : isBundle s ≡ true → looks s ≡ 0 → (area : List ℕ) → length s ≤ length area → BytesBack s (nodesOf s) (endsOf s) (countsOf s) area
+  back h none area l =
+      let e = all-back h none in
       let w = answer-written (nodesOf s) (endsOf s) (countsOf s) (length area) (omega (arith, length-nodes s)) (length-ends s ∙ ap (λ n. edgeEnds * n) (sym (length-counts s))) (omega (arith, ap length e, l)) in
       record {
         answer = w .0 ∙ ap (λ (z : List ℕ). result (length z ∷ [])) e;
@@ -184,10 +181,10 @@ byte s h k =
     ]
 
 pub read-written : ReadWritten
-read-written s b nodes ends counts c e h area l =
+read-written s b none nodes ends counts c e h area l =
     let g = sym (read-bundle s _ _ _ c e h) in
     let t = read-taken s _ _ _ c e h in
     let n : take (cellNodes * c) _ ≡ nodesOf s = left-front t (nodesOf s) nodes _ (length-nodes s ∙ ap (λ k. cellNodes * k) (sym (accepted-cells s c e g))) in
     let m : take (edgeEnds * e) _ ≡ endsOf s = left-front t (endsOf s) ends _ (length-ends s ∙ ap (λ k. edgeEnds * k) (sym (accepted-edges s c e g))) in
     let k : take e _ ≡ countsOf s = left-front t (countsOf s) counts _ (length-counts s ∙ sym (accepted-edges s c e g)) in
-    rw (n, m, k) (back s (byte s b) (accepted s c e g) area l)
+    rw (n, m, k) (back s (byte s b) (accepted s c e g) none area l)

@@ -5,19 +5,29 @@ use mathlib.Core.Bool.{true}
 use mathlib.Core.List.{List, [], _∷_}
 use native.Mathlib.Nat.{le-refl}
 use native.Mathlib.Omega.{arith}
-use lib.Dec.{eqb}
 use lib.ListN.{length, getD, drop, set}
-use lib.Seq.{getD-take, getD-drop}
-use borrow.Author.Tests.{eqb-true}
+use lib.Seq.{getD-take, getD-drop, sets}
 use Rattle.counting.specs.Range.{over}
-use Rattle.counting.specs.Stored.{Stored}
-use Rattle.counting.proofs.Bools.{and-left, and-right}
+use Rattle.counting.specs.Stored.{Stored, filled}
+use Rattle.counting.proofs.Range.{over-ext}
 use Rattle.counting.proofs.Fronts.{length-blocks}
+use Rattle.counting.proofs.Search.{last-none}
 use Rattle.counting.proofs.Stored.{stored-one, stored-more, stored-front}
-use Rattle.bundle.specs.Record.{cellKind, edgeKind, endKind, wideKind, wordSize, headBytes, cellSize, edgeSize, endSize, countPlace, word, lengthOf, kindAt, countAt, isWide, mayHave, nextRecord, body}
-use Rattle.bundle.specs.Bundle.{cellSection, edgeSection, endSection, isOf, start, cells, edgesFrom, edges, stop, isBundle, cellNodes, edgeEnds, leadingWords, nodesIn, endsIn, countIn, nodesOf, endsOf, countsOf, writtenOver}
-use Rattle.bundle.proofs.OneRecord.{Kind, cell, edge, wide, end, kind-cases, stands, body-whole, body-length}
+use Rattle.bundle.specs.Record.{cellKind, edgeKind, endKind, wideKind, lookKind, wordSize, headBytes, cellSize, edgeSize, endSize, lookSize, countPlace, word, lengthOf, kindAt, countAt, isWide, mayHave, nextRecord, isRecord, body}
+use Rattle.bundle.specs.Bundle.{cellSection, edgeSection, lookSection, endSection, isOf, start, cells, edgesFrom, edges, looksFrom, looks, edgeAt, stop, isFor, countFrom, countAfter, isBundle, cellNodes, edgeEnds, leadingWords, nodesIn, endsIn, countIn, surviving, nodesOf, endsOf, countsOf, writtenOver}
+use Rattle.bundle.proofs.OneRecord.{Kind, cell, edge, wide, look, end, kind-cases, stands, body-whole, body-length}
 use Rattle.bundle.proofs.Runs.{body-of, of-record, of-section, run-apart}
+use Rattle.bundle.proofs.Answers.{bundled}
+
+-- a word of a record's body, in the bytes
+pub body-word : (s : List ℕ) (at : ℕ) → isRecord s at ≡ true → (j : ℕ) → j + wordSize ≤ length (body s at) → word (body s at) j ≡ word s (at + headBytes + j)
+body-word s at r j l =
+    let e = sym (body-whole s at r .0) in
+    let m : nextRecord s at - (at + headBytes) ≡ length (body s at) = omega (arith, body-length s at r) in
+    let byte : (i : ℕ) → i < length (body s at) → getD (body s at) i 0 ≡ getD s (at + headBytes + i) 0 = λ i h.
+    ap (λ (x : List ℕ). getD x i 0) e ∙ getD-take (nextRecord s at - (at + headBytes)) (drop (at + headBytes) s) i 0 (omega (arith, m, h)) ∙ getD-drop (at + headBytes) s i 0 in
+    let f : at + headBytes + (j + 1) ≡ at + headBytes + j + 1 = omega arith in
+    cc (byte j (omega arith), byte (j + 1) (omega arith), ap (λ k. getD s k 0) f)
 
 -- a record of a section has one of its kinds, and its body is as long as the kind says: the nodes of a cell; the ends of an edge and a byte, or two
 module _ (s : List ℕ) (at : ℕ) where
@@ -41,16 +51,17 @@ module _ (s : List ℕ) (at : ℕ) where
   unfolding lengthOf
   end-body h = omega (arith, length-at endKind (end-kind h) endSection h)
 
+  pub look-kind : isOf s lookSection at ≡ true → kindAt s at ≡ lookKind
+  look-kind h = elim (kind-at lookSection h) [ look e ↦ e ]
+
+  pub look-body : isOf s lookSection at ≡ true → length (body s at) ≡ countPlace + wordSize
+  unfolding lengthOf
+  look-body h = omega (arith, length-at lookKind (look-kind h) lookSection h)
+
   -- the count of a record with two bytes for it, in its body
   wide-count : isOf s edgeSection at ≡ true → length (body s at) ≡ countPlace + wordSize → countAt s at ≡ word (body s at) countPlace
   unfolding countAt
-  wide-count h n =
-      let e = sym (body-whole s at (of-record s edgeSection at h) .0) in
-      let m : nextRecord s at - (at + headBytes) ≡ countPlace + wordSize = omega (arith, body-length s at (of-record s edgeSection at h), n) in
-      let byte : (i : ℕ) → i < countPlace + wordSize → getD (body s at) i 0 ≡ getD s (at + headBytes + i) 0 = λ i l.
-      ap (λ (x : List ℕ). getD x i 0) e ∙ getD-take (nextRecord s at - (at + headBytes)) (drop (at + headBytes) s) i 0 (omega (arith, m, l)) ∙ getD-drop (at + headBytes) s i 0 in
-      let f : at + headBytes + (countPlace + 1) ≡ at + headBytes + countPlace + 1 = omega arith in
-      sym (cc (byte countPlace (omega arith), byte (countPlace + 1) (omega arith), ap (λ k. getD s k 0) f))
+  wide-count h n = sym (body-word s at (of-record s edgeSection at h) countPlace (omega arith))
 
   -- a count of one byte ends the body
   pub data Edge : Type 0 where
@@ -85,7 +96,7 @@ abbrev pub endsBy : List ℕ → ℕ → ℕ → List ℕ
 endsBy s from k = endsIn (body s (start s from k))
 
 abbrev pub countBy : List ℕ → ℕ → ℕ → List ℕ
-countBy s from k = countIn (body s (start s from k))
+countBy s from k = countIn (body s (start s from k)) ∷ []
 
 -- the lists are as long as the bundle's numbers say
 module _ (s : List ℕ) where
@@ -99,7 +110,16 @@ module _ (s : List ℕ) where
 
   pub length-counts : length (countsOf s) ≡ edges s
   unfolding countsOf
-  length-counts = let e : 1 * edges s ≡ edges s = omega arith in length-blocks (countBy s (edgesFrom s)) 1 (edges s) (λ j _. refl) ∙ e
+  length-counts = let e : 1 * edges s ≡ edges s = omega arith in length-blocks (λ n. surviving s n ∷ []) 1 (edges s) (λ j _. refl) ∙ e
+
+  -- before any look an edge has its own count, and so it has where there is none
+  pub count-own : (n : ℕ) → countAfter s 0 n ≡ countIn (body s (edgeAt s n))
+  unfolding countAfter countFrom
+  count-own n = ap (countFrom s n) (last-none (isFor s n))
+
+  pub count-kept : looks s ≡ 0 → (n : ℕ) → surviving s n ≡ countIn (body s (edgeAt s n))
+  unfolding surviving
+  count-kept h n = ap (λ m. countAfter s m n) h ∙ count-own n
 
   -- and the bundle is at least as long as its records
   record-ge : (section n at : ℕ) → isOf s section at ≡ true → n ≤ headBytes + length (body s at) → at + n ≤ nextRecord s at
@@ -109,17 +129,18 @@ module _ (s : List ℕ) where
   unfolding edgesFrom cells
   cells-apart = omega (arith, run-apart s 0 cellSection cellSize (λ at h. record-ge cellSection cellSize at h (omega (arith, cell-body s at h))) (cells s) (le-refl (cells s)))
 
-  edges-apart : edgesFrom s + edgeSize * edges s ≤ stop s
-  unfolding stop edges
+  edges-apart : edgesFrom s + edgeSize * edges s ≤ looksFrom s
+  unfolding looksFrom edges
   edges-apart = run-apart s (edgesFrom s) edgeSection edgeSize (λ at h. record-ge edgeSection edgeSize at h (omega (arith, edge-ge s at h))) (edges s) (le-refl (edges s))
 
+  looks-apart : looksFrom s + lookSize * looks s ≤ stop s
+  unfolding stop looks
+  looks-apart = run-apart s (looksFrom s) lookSection lookSize (λ at h. record-ge lookSection lookSize at h (omega (arith, look-body s at h))) (looks s) (le-refl (looks s))
+
   pub bundle-size : isBundle s ≡ true → cellSize * cells s + edgeSize * edges s + endSize ≤ length s
-  unfolding isBundle
   bundle-size h =
-      let t = eqb (nextRecord s (stop s)) (length s) in
-      let o = and-left (isOf s endSection (stop s)) t h in
-      let n : nextRecord s (stop s) ≡ length s = eqb-true _ _ (and-right (isOf s endSection (stop s)) t h) in
-      omega (arith, n, record-ge endSection endSize (stop s) o (omega arith), cells-apart, edges-apart)
+      let w = bundled s h in
+      omega (arith, w .nothing, record-ge endSection endSize (stop s) (w .ended) (omega arith), cells-apart, edges-apart, looks-apart)
 
 -- what the body of record k means to a list is stored next
 module _ (s : List ℕ) (from at k : ℕ) (h : at ≡ start s from k) where
@@ -128,9 +149,18 @@ module _ (s : List ℕ) (from at k : ℕ) (h : at ≡ start s from k) where
       → Stored l0 0 (over (λ j. f (body s (start s from j))) (k + 1) 0) l' next
   turn f p q = stored-more (λ j. f (body s (start s from j))) k p (rw h at q)
 
-  pub count-turn : (x : ℕ) → x ≡ word (body s at) countPlace → {l0 l : List ℕ}
+  pub count-turn : (x : ℕ) → x ≡ countIn (body s at) → {l0 l : List ℕ}
       → Stored l0 0 (over (countBy s from) k 0) l k → Stored l0 0 (over (countBy s from) (k + 1) 0) (set l k x) (k + 1)
-  count-turn x e {l0} {l} p = turn countIn p (rw (← e) (stored-one l k x))
+  count-turn x e {l0} {l} p = turn (λ b. countIn b ∷ []) p (rw (← e) (stored-one l k x))
+
+-- the edges' own counts are stored
+pub own-filled : (s : List ℕ) (from k : ℕ) {next : ℕ} {l l0 : List ℕ} → from ≡ edgesFrom s → k ≡ edges s → Stored l0 0 (over (countBy s from) k 0) l next → l ≡ filled (countAfter s 0) (edges s) l0
+unfolding filled
+own-filled s from k {next} {l} {l0} b e p =
+    p .area
+    ∙ ap (λ n. sets l0 0 (over (countBy s from) n 0)) e
+    ∙ ap (λ f. sets l0 0 (over (countBy s f) (edges s) 0)) b
+    ∙ ap (sets l0 0) (over-ext _ _ (edges s) 0 (λ n _ _. ap (λ x. x ∷ []) (sym (count-own s n))))
 
 -- all of them are stored
 pub filled-all : (g : ℕ → List ℕ) (k n : ℕ) {next : ℕ} {l l0 : List ℕ} → Stored l0 0 (over g k 0) l next → k ≡ n → next ≤ length l0 → l ≡ writtenOver (over g n 0) l0

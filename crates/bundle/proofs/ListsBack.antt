@@ -1,4 +1,4 @@
--- Lists that are written and read again are the same lists. Assumes nothing.
+-- Lists that are written and read again are the same lists; so a bundle that is read comes back as the bundle of its surviving lists. Assumes nothing.
 use Prim.Native.Nat.{ℕ, zero, suc, _+_, _-_, _*_, _/_, _%_, _≤_, _<_, min}
 use mathlib.Core.Path.{_≡_, refl, sym, ap, _∙_}
 use mathlib.Core.Bool.{Bool, true, false}
@@ -10,7 +10,7 @@ use native.Mathlib.Omega.{arith}
 use lib.Dec.{eqb}
 use lib.ListN.{length, getD, take, drop, length-append, List·getD-append}
 use lib.Seq.{getD-append-add, take-at, drop-append-add, drop-cons}
-use borrow.Author.Tests.{eqb-true, eq-eqb}
+use borrow.Author.Tests.{eqb-true}
 use Rattle.answer.specs.Answer.{result, refusal}
 use Rattle.counting.specs.Pick.{pick}
 use Rattle.counting.specs.Range.{over}
@@ -18,14 +18,14 @@ use Rattle.counting.proofs.Bools.{and-left, and-right, and-true}
 use Rattle.counting.proofs.Range.{over-ext}
 use Rattle.counting.proofs.Fronts.{getD-blocks, over-more, over-at, in-parts, singles}
 use Rattle.bundle.specs.Record.{byteValues, brokenRow, cellKind, endKind, wordSize, lengthBytes, headBytes, countPlace, word, lengthOf, kindAt, countAt, isWide, mayHave, nextRecord, isRecord, body}
-use Rattle.bundle.specs.Bundle.{cellNodes, edgeEnds, cellSection, edgeSection, endSection, sectionOf, sectionAt, isOf, start, run, cells, edgesFrom, edges, stop, isBundle, leadingWords, nodesIn, endsIn, countIn, nodesOf, endsOf, countsOf, shortRow, writtenOver}
+use Rattle.bundle.specs.Bundle.{cellNodes, edgeEnds, cellSection, edgeSection, lookSection, endSection, sectionOf, sectionAt, isOf, start, run, cells, edgesFrom, edges, looksFrom, looks, stop, surviving, isBundle, leadingWords, nodesIn, endsIn, countIn, nodesOf, endsOf, countsOf, shortRow, writtenOver}
 use Rattle.bundle.specs.Written.{wordBytes, recordBytes, listBytes, kindFor, countBytes, endRecord, cellBytes, edgeBytes, bundleBytes, isFormed, fitsArea, isWritten, mostNamed, writeAnswer}
-use Rattle.bundle.specs.Claims.{ListsBack, WrittenRead}
+use Rattle.bundle.specs.Claims.{ListsBack, WrittenRead, ReadAgain}
 use Rattle.bundle.proofs.OneRecord.{standing, body-whole}
 use Rattle.bundle.proofs.Runs.{Going, going, on, arrived, of-record, is-of, of-section, other-of, next-of}
-use Rattle.bundle.proofs.Fills.{end-kind}
-use Rattle.bundle.proofs.Answers.{read-lists, left-front}
-use Rattle.bundle.proofs.Writes.{length-list}
+use Rattle.bundle.proofs.Fills.{end-kind, length-nodes, length-ends, length-counts, count-kept}
+use Rattle.bundle.proofs.Answers.{accepted-cells, accepted-edges, read-bundle, read-taken, read-lists, left-front, is-bundle as bundle-is}
+use Rattle.bundle.proofs.Writes.{length-list, answer-written}
 
 -- a word after a front of the bytes
 word-in : (p t : List ℕ) (j : ℕ) → word (p ++ t) (length p + j) ≡ word t j
@@ -207,7 +207,7 @@ module _ (nodes ends counts : List ℕ) where
   unfolding bundleBytes lengthOf sectionOf mayHave
   end-at = is-of s endSection (length (cs ++ es)) (record-put (cs ++ es) [] [] endKind refl refl) (ap sectionOf (kind-put (cs ++ es) [] [] endKind refl refl))
 
-  -- no cell after the cells, and no edge after the edges
+  -- no cell after the cells, and neither edge nor look after the edges
   no-cell : isOf s cellSection (length cs) ≡ false
   unfolding over
   no-cell = elim (decLt 0 e) [ yes l ↦ other edgeSection _ (is-at edges-laid 0 l) (place-zero edges-laid) (omega arith) | no l ↦ other endSection _ end-at (omega (arith, length-append cs es, none (omega arith))) (omega arith) ]
@@ -218,8 +218,8 @@ module _ (nodes ends counts : List ℕ) where
       other : (section at : ℕ) → isOf s section at ≡ true → at ≡ length cs → cellSection < section → isOf s cellSection (length cs) ≡ false
       other section at h p l = other-of s cellSection (length cs) (λ q. let k = of-section s section at h in let f = ap (sectionAt s) p in omega (arith, k, f, q, l))
 
-  no-edge : isOf s edgeSection (length cs + length es) ≡ false
-  no-edge = other-of s edgeSection _ (λ q. let k = of-section s endSection _ end-at in omega (arith, k, q, ap (sectionAt s) (length-append cs es)))
+  no-more : (section : ℕ) → section < endSection → (at : ℕ) → at ≡ length (cs ++ es) → isOf s section at ≡ false
+  no-more section l at e = other-of s section at (λ q. let k = of-section s endSection _ end-at in omega (arith, k, q, l, ap (sectionAt s) e))
 
   -- so the reader finds them all
   cells-are : cells s ≡ c
@@ -232,11 +232,19 @@ module _ (nodes ends counts : List ℕ) where
 
   edges-are : edges s ≡ e
   unfolding edges
-  edges-are = ap (run s edgeSection) from-is ∙ run-is edges-laid no-edge
+  edges-are = ap (run s edgeSection) from-is ∙ run-is edges-laid (no-more edgeSection (omega arith) _ (sym (length-append cs es)))
+
+  base-is : looksFrom s ≡ length (cs ++ es)
+  unfolding looksFrom
+  base-is = ap (start s (edgesFrom s)) edges-are ∙ ap (λ n. start s n e) from-is ∙ starts edges-laid e (le-refl e) ∙ sym (length-append cs es)
+
+  looks-are : looks s ≡ 0
+  unfolding looks
+  looks-are = sym (arrived s (looksFrom s) lookSection (looksFrom s) 0 (going s (looksFrom s) lookSection) (no-more lookSection (omega arith) _ base-is))
 
   stop-is : stop s ≡ length (cs ++ es)
-  unfolding stop
-  stop-is = ap (start s (edgesFrom s)) edges-are ∙ ap (λ n. start s n e) from-is ∙ starts edges-laid e (le-refl e) ∙ sym (length-append cs es)
+  unfolding stop start
+  stop-is = ap (start s (looksFrom s)) looks-are ∙ base-is
 
   next-is : nextRecord s (stop s) ≡ length s
   unfolding bundleBytes lengthOf
@@ -247,8 +255,7 @@ module _ (nodes ends counts : List ℕ) where
       ∙ sym (length-append (cs ++ es) endRecord)
 
   is-bundle : isBundle s ≡ true
-  unfolding isBundle
-  is-bundle = and-true _ _ (ap (isOf s endSection) stop-is ∙ end-at) (eq-eqb _ _ next-is)
+  is-bundle = bundle-is s (ap (isOf s endSection) stop-is ∙ end-at) next-is (omega (arith, looks-are))
 
   edge-of : (k : ℕ) → k < e → body s (start s (edgesFrom s) k) ≡ edgeBody k
   edge-of k h = ap (λ n. body s (start s n k)) from-is ∙ bodies edges-laid k h
@@ -273,11 +280,10 @@ module _ (nodes ends counts : List ℕ) where
     unfolding countsOf
     counts-are = listed _ 1 e (edges s) counts edges-are (omega arith) one-of
       where
-        one-of : (k : ℕ) → k < e → countIn (body s (start s (edgesFrom s) k)) ≡ take 1 (drop (1 * k) counts)
+        one-of : (k : ℕ) → k < e → surviving s k ∷ [] ≡ take 1 (drop (1 * k) counts)
         one-of k l =
             let z : k ≡ 1 * k = omega arith in
-            ap countIn (edge-of k l)
-            ∙ ap (λ x. x ∷ []) (edge-laid k .back)
+            ap (λ x. x ∷ []) (count-kept s looks-are k ∙ ap countIn (edge-of k l) ∙ edge-laid k .back)
             ∙ ap (take 1) (sym (drop-cons counts k 0 l))
             ∙ ap (λ n. take 1 (drop n counts)) z
 
@@ -320,3 +326,19 @@ pub written-read : WrittenRead
 written-read nodes ends counts area n h ns es cs hn he hc =
     let f = formed nodes ends counts (length area) n h in
     rw (left-front (f .written) (bundleBytes nodes ends counts) area n (sym (f .all))) (back nodes ends counts (f .fours) (f .pairs) ns es cs hn he hc)
+
+pub read-again : ReadAgain
+read-again s nodes ends counts c e h area l =
+    let g = sym (read-bundle s _ _ _ c e h) in
+    let t = read-taken s _ _ _ c e h in
+    let n : take (cellNodes * c) _ ≡ nodesOf s = left-front t (nodesOf s) nodes _ (length-nodes s ∙ ap (λ k. cellNodes * k) (sym (accepted-cells s c e g))) in
+    let m : take (edgeEnds * e) _ ≡ endsOf s = left-front t (endsOf s) ends _ (length-ends s ∙ ap (λ k. edgeEnds * k) (sym (accepted-edges s c e g))) in
+    let k : take e _ ≡ countsOf s = left-front t (countsOf s) counts _ (length-counts s ∙ sym (accepted-edges s c e g)) in
+    let fours : length (nodesOf s) % cellNodes ≡ 0 = omega (arith, length-nodes s) in
+    let pairs : length (endsOf s) ≡ edgeEnds * length (countsOf s) = length-ends s ∙ ap (λ i. edgeEnds * i) (sym (length-counts s)) in
+    let w = answer-written (nodesOf s) (endsOf s) (countsOf s) (length area) fours pairs l in
+    rw (n, m, k)
+    (record {
+      back = record { answer = w .0; bytes = simp (w .1) };
+      again = back (nodesOf s) (endsOf s) (countsOf s) fours pairs;
+    })

@@ -11,28 +11,31 @@ use borrow.Author.Tests.{ltb-true, leb-true, eqb-true, lt-ltb, le-ltb, le-leb, e
 use Rattle.answer.specs.Answer.{result, refusal}
 use Rattle.counting.specs.Pick.{pick}
 use Rattle.counting.proofs.Bools.{clash, and-left, and-right, not-clash}
-use Rattle.bundle.specs.Record.{cellKind, edgeKind, endKind, wideKind, wordSize, lengthBytes, headBytes, cellLength, edgeLength, endLength, wideLength, word, lengthOf, kindAt, nextRecord, countAt, mayHave, isRecord, recordAnswer, brokenRow, body, bodySize, bodyStart}
-use Rattle.bundle.specs.Bundle.{cellSection, edgeSection, endSection, sectionOf}
+use Rattle.bundle.specs.Record.{cellKind, edgeKind, endKind, wideKind, lookKind, wordSize, lengthBytes, headBytes, cellLength, edgeLength, endLength, wideLength, lookLength, word, lengthOf, kindAt, nextRecord, countAt, mayHave, isRecord, recordAnswer, brokenRow, body, bodySize, bodyStart}
+use Rattle.bundle.specs.Bundle.{cellSection, edgeSection, lookSection, endSection, sectionOf}
 use Rattle.bundle.specs.Needed.{WideLent}
 
--- a kind with a length is one of four, each in its section
+-- a kind with a length is one of five, each in its section
 pub data Kind (k : ℕ) : ℕ → Type 0 where
   cell : k ≡ cellKind → Kind k cellSection
   edge : k ≡ edgeKind → Kind k edgeSection
   wide : k ≡ wideKind → Kind k edgeSection
+  look : k ≡ lookKind → Kind k lookSection
   end : k ≡ endKind → Kind k endSection
 
-kind-pick : (k : ℕ) (a b c d : Bool) → eqb k cellKind ≡ a → eqb k edgeKind ≡ b → eqb k endKind ≡ c → eqb k wideKind ≡ d
-    → 0 < pick a cellLength (pick b edgeLength (pick c endLength (pick d wideLength 0))) → Kind k (pick a cellSection (pick b edgeSection (pick d edgeSection (pick c endSection 0))))
-kind-pick k true b c d ea eb ec ed h = cell (eqb-true _ _ ea)
-kind-pick k false true c d ea eb ec ed h = edge (eqb-true _ _ eb)
-kind-pick k false false c true ea eb ec ed h = wide (eqb-true _ _ ed)
-kind-pick k false false true false ea eb ec ed h = end (eqb-true _ _ ec)
-kind-pick k false false false false ea eb ec ed h = absurd (omega (arith, h))
+kind-pick : (k : ℕ) (a b c d e : Bool) → eqb k cellKind ≡ a → eqb k edgeKind ≡ b → eqb k endKind ≡ c → eqb k wideKind ≡ d → eqb k lookKind ≡ e
+    → 0 < pick a cellLength (pick b edgeLength (pick c endLength (pick d wideLength (pick e lookLength 0))))
+    → Kind k (pick a cellSection (pick b edgeSection (pick d edgeSection (pick e lookSection (pick c endSection 0)))))
+kind-pick k true b c d e ea eb ec ed ee h = cell (eqb-true _ _ ea)
+kind-pick k false true c d e ea eb ec ed ee h = edge (eqb-true _ _ eb)
+kind-pick k false false c true e ea eb ec ed ee h = wide (eqb-true _ _ ed)
+kind-pick k false false c false true ea eb ec ed ee h = look (eqb-true _ _ ee)
+kind-pick k false false true false false ea eb ec ed ee h = end (eqb-true _ _ ec)
+kind-pick k false false false false false ea eb ec ed ee h = absurd (omega (arith, h))
 
 pub kind-cases : (k : ℕ) → 0 < lengthOf k → Kind k (sectionOf k)
 unfolding lengthOf sectionOf
-kind-cases k h = kind-pick k (eqb k cellKind) (eqb k edgeKind) (eqb k endKind) (eqb k wideKind) refl refl refl refl h
+kind-cases k h = kind-pick k (eqb k cellKind) (eqb k edgeKind) (eqb k endKind) (eqb k wideKind) (eqb k lookKind) refl refl refl refl refl h
 
 -- whose record has at least the two bytes of the kind
 pub length-ge : (kind : ℕ) → 0 < lengthOf kind → wordSize ≤ lengthOf kind
@@ -43,6 +46,7 @@ length-ge kind h = go (sectionOf kind) (kind-cases kind h)
     go _ (cell e) = omega (arith, ap lengthOf e)
     go _ (edge e) = omega (arith, ap lengthOf e)
     go _ (wide e) = omega (arith, ap lengthOf e)
+    go _ (look e) = omega (arith, ap lengthOf e)
     go _ (end e) = omega (arith, ap lengthOf e)
 
 -- the five parts of `isRecord`

@@ -129,9 +129,8 @@ module _ (s : List ℕ) (from section : ℕ) where
     pub walked-fits : at + (headBytes + length (body s at)) ≤ length s
     walked-fits = let r = of-record s section at here in omega (arith, body-length s at r, stands s at r .fits)
 
+    pub walked-next : Walked s from section (nextRecord s at) (k + 1)
+    walked-next = record { upto = omega arith; reached = ap (nextRecord s) (g .reached) ∙ sym (start-more s from section k) }
+
     pub walked-on : Walked s from section (at + (headBytes + length (body s at))) (k + 1)
-    walked-on =
-        record {
-          upto = omega arith;
-          reached = body-length s at (of-record s section at here) ∙ ap (nextRecord s) (g .reached) ∙ sym (start-more s from section k);
-        }
+    walked-on = rw (body-length s at (of-record s section at here)) walked-next

@@ -1,20 +1,23 @@
--- A bundle (01): cells, then edges, then one end. What the reader answers, and the lists that the bytes mean.
+-- A bundle (01, and 02's W7): cells, then edges, then later looks at edges, then one end. What the reader answers, and the lists that the bytes mean.
 use Prim.Native.Nat.{ℕ, zero, suc, _*_}
 use mathlib.Core.Bool.{Bool, not, _&&_}
 use mathlib.Core.List.{List, [], _∷_, _++_}
-use lib.Dec.{leb, eqb}
+use lib.Dec.{ltb, leb, eqb}
 use lib.ListN.{length, drop}
 use Rattle.answer.specs.Answer.{result, refusal}
 use Rattle.counting.specs.Pick.{pick}
-use Rattle.counting.specs.Range.{over}
-use Rattle.counting.specs.Search.{first}
-use Rattle.bundle.specs.Record.{cellKind, edgeKind, endKind, wideKind, brokenRow, wordSize, countPlace, word, kindAt, nextRecord, isRecord, body}
+use Rattle.counting.specs.Range.{over, values}
+use Rattle.counting.specs.Search.{first, last, some}
+use Rattle.bundle.specs.Record.{cellKind, edgeKind, endKind, wideKind, lookKind, brokenRow, wordSize, countPlace, word, kindAt, nextRecord, isRecord, body}
 use Rattle.bundle.specs.declared.Contents.{Contents}
 use Rattle.bundle.specs.declared.Contents.the-variants.{Lists, Refused}
 
--- the row of the table of refusals that speaks of short lists
+-- the rows of the table of refusals that speak of short lists, and of looks for no edge (02, W7)
 abbrev pub shortRow : ℕ
 shortRow = 14
+
+abbrev pub strayRow : ℕ
+strayRow = 22
 
 -- the sections of a bundle, in their order
 abbrev pub cellSection : ℕ
@@ -23,12 +26,15 @@ cellSection = 1
 abbrev pub edgeSection : ℕ
 edgeSection = 2
 
+abbrev pub lookSection : ℕ
+lookSection = 3
+
 abbrev pub endSection : ℕ
-endSection = 3
+endSection = 4
 
 -- the section that records of a kind stand in; 0 where the number is no kind
 unfoldable pub sectionOf : ℕ → ℕ
-sectionOf kind = pick (eqb kind cellKind) cellSection (pick (eqb kind edgeKind) edgeSection (pick (eqb kind wideKind) edgeSection (pick (eqb kind endKind) endSection 0)))
+sectionOf kind = pick (eqb kind cellKind) cellSection (pick (eqb kind edgeKind) edgeSection (pick (eqb kind wideKind) edgeSection (pick (eqb kind lookKind) lookSection (pick (eqb kind endKind) endSection 0))))
 
 abbrev pub sectionAt : List ℕ → ℕ → ℕ
 sectionAt s at = sectionOf (kindAt s at)
@@ -46,7 +52,7 @@ start s from (suc k) = nextRecord s (start s from k)
 unfoldable pub run : List ℕ → ℕ → ℕ → ℕ
 run s section from = first (λ k. not (isOf s section (start s from k))) (suc (length s))
 
--- the cells, the edges after them, and the place where these stop
+-- the cells, the edges after them, the looks after these, and the place where all these stop
 unfoldable pub cells : List ℕ → ℕ
 cells s = run s cellSection 0
 
@@ -56,19 +62,62 @@ edgesFrom s = start s 0 (cells s)
 unfoldable pub edges : List ℕ → ℕ
 edges s = run s edgeSection (edgesFrom s)
 
+unfoldable pub looksFrom : List ℕ → ℕ
+looksFrom s = start s (edgesFrom s) (edges s)
+
+unfoldable pub looks : List ℕ → ℕ
+looks s = run s lookSection (looksFrom s)
+
 unfoldable pub stop : List ℕ → ℕ
-stop s = start s (edgesFrom s) (edges s)
+stop s = start s (looksFrom s) (looks s)
+
+-- where edge n and look k start
+abbrev pub edgeAt : List ℕ → ℕ → ℕ
+edgeAt s n = start s (edgesFrom s) n
+
+abbrev pub lookAt : List ℕ → ℕ → ℕ
+lookAt s k = start s (looksFrom s) k
+
+-- end i of an edge or a look, u or v, from its body; and its count, after the two. A count of one byte ends the body, and the high byte that is not
+-- there is read as 0.
+abbrev pub endIn : List ℕ → ℕ → ℕ
+endIn b i = word b (wordSize * i)
+
+abbrev pub countIn : List ℕ → ℕ
+countIn b = word b countPlace
+
+-- the bodies a and b have the same pair u, v, compared as it stands
+unfoldable pub samePair : List ℕ → List ℕ → Bool
+samePair a b = eqb (endIn a 0) (endIn b 0) && eqb (endIn a 1) (endIn b 1)
+
+-- look k is for edge n
+unfoldable pub isFor : List ℕ → ℕ → ℕ → Bool
+isFor s n k = samePair (body s (edgeAt s n)) (body s (lookAt s k))
+
+-- look k is for none of the edges; and the lowest such look, or the number of looks where there is none
+unfoldable pub isStray : List ℕ → ℕ → Bool
+isStray s k = not (some (λ n. isFor s n k) (edges s))
+
+unfoldable pub firstStray : List ℕ → ℕ
+firstStray s = first (isStray s) (looks s)
 
 -- row 13 over everything: there an end has to stand, with nothing after it. Where none stands, the fault starts at that place, which is the
--- input's length if only whole records were met; where bytes follow the end, it starts at the first of these.
+-- input's length if only whole records were met; where bytes follow the end, it starts at the first of these. Then row 22, at the start of the
+-- lowest look that is for no edge.
 unfoldable pub bundleAnswer : List ℕ → List ℕ
 bundleAnswer s =
     pick (isOf s endSection (stop s))
-    (pick (eqb (nextRecord s (stop s)) (length s)) (result (cells s ∷ edges s ∷ [])) (refusal brokenRow (nextRecord s (stop s))))
+    (pick (eqb (nextRecord s (stop s)) (length s))
+    (pick (ltb (firstStray s) (looks s)) (refusal strayRow (lookAt s (firstStray s))) (result (cells s ∷ edges s ∷ [])))
+    (refusal brokenRow (nextRecord s (stop s))))
     (refusal brokenRow (stop s))
 
+-- row 13 finds nothing; and row 22 neither
+unfoldable pub isLaid : List ℕ → Bool
+isLaid s = isOf s endSection (stop s) && eqb (nextRecord s (stop s)) (length s)
+
 unfoldable pub isBundle : List ℕ → Bool
-isBundle s = isOf s endSection (stop s) && eqb (nextRecord s (stop s)) (length s)
+isBundle s = isLaid s && leb (looks s) (firstStray s)
 
 -- the numbers that a cell has in the list of nodes, and an edge in the list of ends
 abbrev pub cellNodes : ℕ
@@ -81,26 +130,34 @@ edgeEnds = 2
 abbrev pub leadingWords : ℕ → List ℕ → List ℕ
 leadingWords n b = over (λ i. word b (wordSize * i) ∷ []) n 0
 
--- what a body means: the nodes of a cell; the ends of an edge, and its count after them. A count of one byte ends the body, and the high byte
--- that is not there is read as 0.
+-- what a body means: the nodes of a cell, the ends of an edge
 abbrev pub nodesIn : List ℕ → List ℕ
 nodesIn b = leadingWords cellNodes b
 
 abbrev pub endsIn : List ℕ → List ℕ
 endsIn b = leadingWords edgeEnds b
 
-abbrev pub countIn : List ℕ → List ℕ
-countIn b = word b countPlace ∷ []
+-- the count of edge n from look k, where p is k + 1; its own where p is 0
+unfoldable pub countFrom : List ℕ → ℕ → ℕ → ℕ
+countFrom s n zero = countIn (body s (edgeAt s n))
+countFrom s n (suc k) = countIn (body s (lookAt s k))
+
+-- the count of edge n after the first m looks: that of the last of them that is for it, or its own; and the surviving count (02, W7), after all
+unfoldable pub countAfter : List ℕ → ℕ → ℕ → ℕ
+countAfter s m n = countFrom s n (last (isFor s n) m)
+
+unfoldable pub surviving : List ℕ → ℕ → ℕ
+surviving s n = countAfter s (looks s) n
 
 -- the three lists
 unfoldable pub nodesOf : List ℕ → List ℕ
 nodesOf s = over (λ k. nodesIn (body s (start s 0 k))) (cells s) 0
 
 unfoldable pub endsOf : List ℕ → List ℕ
-endsOf s = over (λ k. endsIn (body s (start s (edgesFrom s) k))) (edges s) 0
+endsOf s = over (λ k. endsIn (body s (edgeAt s k))) (edges s) 0
 
 unfoldable pub countsOf : List ℕ → List ℕ
-countsOf s = over (λ k. countIn (body s (start s (edgesFrom s) k))) (edges s) 0
+countsOf s = values (surviving s) (edges s)
 
 -- lent lists of these lengths hold the bundle's
 unfoldable pub hasRoom : List ℕ → ℕ → ℕ → ℕ → Bool
@@ -110,7 +167,7 @@ hasRoom s nodes ends counts = leb (cellNodes * cells s) nodes && leb (edgeEnds *
 unfoldable pub isTaken : List ℕ → ℕ → ℕ → ℕ → Bool
 isTaken s nodes ends counts = isBundle s && hasRoom s nodes ends counts
 
--- row 13, then row 14
+-- rows 13 and 22, then row 14
 unfoldable pub readAnswer : List ℕ → ℕ → ℕ → ℕ → List ℕ
 readAnswer s nodes ends counts = pick (isBundle s && not (hasRoom s nodes ends counts)) (refusal shortRow 0) (bundleAnswer s)
 

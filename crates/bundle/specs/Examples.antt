@@ -1,4 +1,4 @@
--- Examples, each with the answer that document 01 asks. One computed theorem says that the definitions give these answers.
+-- Examples, each with the answer that documents 01 and 02 ask. One computed theorem says that the definitions give these answers.
 use Prim.Native.Nat.{ℕ, _+_}
 use mathlib.Core.Path.{_≡_}
 use mathlib.Core.List.{List, [], _∷_, _++_, map}
@@ -29,6 +29,10 @@ edge = 7 ∷ 0 ∷ 2 ∷ 0 ∷ 0 ∷ 0 ∷ 1 ∷ 0 ∷ 5 ∷ []
 -- the edge 0 2 with a count of two bytes
 abbrev pub wide : ℕ → ℕ → List ℕ
 wide low high = 8 ∷ 0 ∷ 4 ∷ 0 ∷ 0 ∷ 0 ∷ 2 ∷ 0 ∷ low ∷ high ∷ []
+
+-- a look: the pair u v, and a count of two bytes
+abbrev pub look : ℕ → ℕ → ℕ → ℕ → List ℕ
+look u v low high = 8 ∷ 0 ∷ 5 ∷ 0 ∷ u ∷ 0 ∷ v ∷ 0 ∷ low ∷ high ∷ []
 
 -- the end
 abbrev pub end : List ℕ
@@ -62,6 +66,7 @@ short =
     ∷ (over (λ k. asks (bundleAnswer (take (k + 1) cell)) (refusal 13 0) ∷ []) 11 0
     ++ over (λ k. asks (bundleAnswer (cell ++ take (k + 1) edge)) (refusal 13 12) ∷ []) 8 0
     ++ over (λ k. asks (bundleAnswer (cell ++ take (k + 1) (wide 0 1))) (refusal 13 12) ∷ []) 9 0
+    ++ over (λ k. asks (bundleAnswer (cell ++ edge ++ take (k + 1) (look 0 1 9 0))) (refusal 13 21) ∷ []) 9 0
     ++ over (λ k. asks (bundleAnswer (cell ++ edge ++ take (k + 1) end)) (refusal 13 21) ∷ []) 3 0)
 
 -- a wrong length of each kind, lengths and kinds that are right in their low byte only, no kind, and counts that a byte holds in kind 4
@@ -78,7 +83,10 @@ wrong =
     ∷ asks (bundleAnswer (cell ++ headed 2 0 4 0 end)) (refusal 13 12)
     ∷ asks (bundleAnswer (headed 7 0 4 0 (wide 0 1) ++ end)) (refusal 13 0)
     ∷ asks (bundleAnswer (headed 9 0 4 0 (wide 0 1) ++ end)) (refusal 13 0)
-    ∷ asks (bundleAnswer (headed 8 0 5 0 (wide 0 1) ++ end)) (refusal 13 0)
+    ∷ asks (bundleAnswer (headed 8 0 6 0 (wide 0 1) ++ end)) (refusal 13 0)
+    ∷ asks (bundleAnswer (edge ++ headed 7 0 5 0 (look 0 1 9 0) ++ end)) (refusal 13 9)
+    ∷ asks (bundleAnswer (edge ++ headed 9 0 5 0 (look 0 1 9 0) ++ end)) (refusal 13 9)
+    ∷ asks (bundleAnswer (edge ++ headed 8 0 5 1 (look 0 1 9 0) ++ end)) (refusal 13 9)
     ∷ asks (bundleAnswer (edge ++ wide 255 0 ++ end)) (refusal 13 9)
     ∷ asks (bundleAnswer (cell ++ wide 0 0 ++ end)) (refusal 13 12)
     ∷ []
@@ -92,6 +100,40 @@ disorder =
     ∷ asks (bundleAnswer (end ++ (0 ∷ []))) (refusal 13 4)
     ∷ asks (bundleAnswer (end ++ end)) (refusal 13 4)
     ∷ asks (bundleAnswer (cell ++ end ++ cell)) (refusal 13 16)
+    ∷ []
+
+-- later looks: the last for a pair counts, for every edge with it, and whatever its count; they are not among the edges
+abbrev pub looked : List Example
+looked =
+    asks (bundleAnswer (cell ++ edge ++ look 0 1 9 0 ++ end)) (result (1 ∷ 1 ∷ []))
+    ∷ asks (countsOf (cell ++ edge ++ look 0 1 9 0 ++ end)) (9 ∷ [])
+    ∷ asks (endsOf (cell ++ edge ++ look 0 1 9 0 ++ end)) (0 ∷ 1 ∷ [])
+    ∷ asks (bundleAnswer (edge ++ look 0 1 9 0 ++ look 0 1 3 0 ++ end)) (result (0 ∷ 1 ∷ []))
+    ∷ asks (countsOf (edge ++ look 0 1 9 0 ++ look 0 1 3 0 ++ end)) (3 ∷ [])
+    ∷ asks (countsOf (edge ++ wide 0 1 ++ look 0 2 7 0 ++ look 0 1 9 0 ++ look 0 2 8 0 ++ end)) (9 ∷ 8 ∷ [])
+    ∷ asks (countsOf (edge ++ wide 0 1 ++ edge ++ look 0 1 9 0 ++ end)) (9 ∷ 256 ∷ 9 ∷ [])
+    ∷ asks (countsOf (edge ++ wide 0 1 ++ look 0 1 0 0 ++ end)) (0 ∷ 256 ∷ [])
+    ∷ asks (countsOf (edge ++ look 0 1 0 1 ++ end)) (256 ∷ [])
+    ∷ asks (countsOf (edge ++ look 0 1 255 255 ++ end)) (65535 ∷ [])
+    ∷ asks (countsOf (wide 0 1 ++ look 0 2 255 0 ++ end)) (255 ∷ [])
+    ∷ []
+
+-- a look for no edge: its first byte, the lowest; the pair turned round, or its ends beside other ends; 13 anywhere comes first
+abbrev pub strayed : List Example
+strayed =
+    asks (bundleAnswer (edge ++ look 1 0 9 0 ++ end)) (refusal 22 9)
+    ∷ asks (bundleAnswer (edge ++ look 0 2 9 0 ++ end)) (refusal 22 9)
+    ∷ asks (bundleAnswer (edge ++ look 2 1 9 0 ++ end)) (refusal 22 9)
+    ∷ asks (bundleAnswer (look 0 1 9 0 ++ end)) (refusal 22 0)
+    ∷ asks (bundleAnswer (cell ++ look 0 1 9 0 ++ end)) (refusal 22 12)
+    ∷ asks (bundleAnswer (edge ++ look 0 1 9 0 ++ look 1 0 9 0 ++ look 0 1 3 0 ++ look 5 6 1 0 ++ end)) (refusal 22 19)
+    ∷ asks (bundleAnswer (edge ++ look 1 0 9 0 ++ end ++ (0 ∷ []))) (refusal 13 23)
+    ∷ asks (bundleAnswer (edge ++ look 1 0 9 0)) (refusal 13 19)
+    ∷ asks (bundleAnswer (edge ++ look 1 0 9 0 ++ edge ++ end)) (refusal 13 19)
+    ∷ asks (bundleAnswer (look 0 1 9 0 ++ edge ++ end)) (refusal 13 10)
+    ∷ asks (bundleAnswer (look 0 1 9 0 ++ cell ++ edge ++ end)) (refusal 13 10)
+    ∷ asks (bundleAnswer (edge ++ look 0 1 9 0 ++ cell ++ end)) (refusal 13 19)
+    ∷ asks (bundleAnswer (edge ++ end ++ look 0 1 9 0)) (refusal 13 13)
     ∷ []
 
 -- one record at a start, whatever its order, and its body
@@ -112,11 +154,14 @@ starts =
     ∷ asks (bodyStart (cell ++ end) 1 ∷ []) (0 ∷ [])
     ∷ asks (recordAnswer (edge ++ wide 0 1 ++ end) 9) (result (4 ∷ 19 ∷ []))
     ∷ asks (body (edge ++ wide 0 1 ++ end) 9) (0 ∷ 0 ∷ 2 ∷ 0 ∷ 0 ∷ 1 ∷ [])
+    ∷ asks (recordAnswer (edge ++ look 7 6 255 0 ++ end) 9) (result (5 ∷ 19 ∷ []))
+    ∷ asks (body (edge ++ look 7 6 255 0 ++ end) 9) (7 ∷ 0 ∷ 6 ∷ 0 ∷ 255 ∷ 0 ∷ [])
+    ∷ asks (bodyStart (edge ++ look 7 6 255 0 ++ end) 9 ∷ []) (13 ∷ [])
     ∷ asks (recordAnswer (wide 255 0 ++ end) 0) (refusal 13 0)
     ∷ asks (body (wide 255 0 ++ end) 0) []
     ∷ []
 
--- lent lists that hold the bundle, and each of them one too short; 13 comes before 14
+-- lent lists that hold the bundle, and each of them one too short; 13 and 22 come before 14
 abbrev pub lent : List Example
 lent =
     asks (readAnswer (cell ++ high ++ edge ++ end) 8 2 1) (result (2 ∷ 1 ∷ []))
@@ -125,6 +170,9 @@ lent =
     ∷ asks (readAnswer (cell ++ high ++ edge ++ end) 8 1 1) (refusal 14 0)
     ∷ asks (readAnswer (cell ++ high ++ edge ++ end) 8 2 0) (refusal 14 0)
     ∷ asks (readAnswer (cell ++ edge) 0 0 0) (refusal 13 21)
+    ∷ asks (readAnswer (cell ++ edge ++ look 0 1 9 0 ++ look 0 1 3 0 ++ end) 4 2 1) (result (1 ∷ 1 ∷ []))
+    ∷ asks (readAnswer (cell ++ edge ++ look 0 1 9 0 ++ end) 4 2 0) (refusal 14 0)
+    ∷ asks (readAnswer (cell ++ edge ++ look 1 0 9 0 ++ end) 0 0 0) (refusal 22 21)
     ∷ []
 
 -- the writer: bytes, lists that are not formed, an area one byte too short
@@ -145,7 +193,7 @@ writes =
     ∷ []
 
 abbrev pub examples : List Example
-examples = good ++ short ++ wrong ++ disorder ++ starts ++ lent ++ writes
+examples = good ++ short ++ wrong ++ disorder ++ looked ++ strayed ++ starts ++ lent ++ writes
 
 -- the definitions give what is asked, for each
 abbrev pub Examples : Type 0

@@ -1,11 +1,11 @@
--- The faults of row 13 (01), each with the place where it starts. Records are laid from the front by their own lengths, as far as they are whole.
+-- The faults of row 13 (01), each with the place where it starts; and that of row 22 (02, W7). Records are laid from the front by their own lengths, as far as they are whole.
 use Prim.Native.Nat.{ℕ, suc, _<_}
 use mathlib.Core.Path.{_≡_}
 use mathlib.Core.Bool.{true, false}
 use mathlib.Core.List.{List}
 use lib.ListN.{length}
-use Rattle.bundle.specs.Record.{isRecord}
-use Rattle.bundle.specs.Bundle.{endSection, sectionAt, start}
+use Rattle.bundle.specs.Record.{isRecord, body}
+use Rattle.bundle.specs.Bundle.{endSection, sectionAt, start, edges, looks, edgeAt, lookAt, samePair}
 
 -- the first k records are whole
 abbrev pub AllWhole : List ℕ → ℕ → Type 0
@@ -24,3 +24,10 @@ pub data Fault (s : List ℕ) (place : ℕ) : Type 0 where
   trailing : (k : ℕ) → place ≡ start s 0 (suc k) → AllWhole s (suc k) → sectionBy s k ≡ endSection → place < length s → Fault s place
   -- only whole records, and no end
   endless : (k : ℕ) → place ≡ start s 0 k → AllWhole s k → place ≡ length s → ((j : ℕ) → j < k → sectionBy s j ≡ endSection → ⊥) → Fault s place
+
+-- a look whose pair none of the edges has
+pub record Stray (s : List ℕ) (place : ℕ) : Type 0 where
+  pub look : ℕ
+  pub listed : look < looks s
+  pub begins : place ≡ lookAt s look
+  pub unmet : (n : ℕ) → n < edges s → samePair (body s (edgeAt s n)) (body s place) ≡ false

@@ -6,7 +6,7 @@ use lib.ListN.{length, getD}
 use Rattle.counting.specs.Range.{over}
 use Rattle.counting.specs.Search.{count}
 use Rattle.bundle.specs.Record.{wordSize, headBytes, cellSize, edgeSize, endSize, wideKind, isWide, countPlace}
-use Rattle.bundle.specs.Bundle.{cells, edgesFrom, edges, cellNodes, edgeEnds}
+use Rattle.bundle.specs.Bundle.{cells, edgesFrom, edges, looksFrom, looks, stop, cellNodes, edgeEnds}
 use Rattle.bundle.specs.Written.{cellBytes, edgeBytes}
 
 -- how many of the counts a byte does not hold
@@ -25,6 +25,15 @@ pub record WordsLent (body : List ℕ) (n : ℕ) (list : List ℕ) (at : ℕ) : 
 -- a record of kind 4 has its count within the bytes
 abbrev pub WideLent : List ℕ → ℕ → ℕ → Type 0
 WideLent s start kind = kind ≡ wideKind → start + headBytes + countPlace + wordSize ≤ length s
+
+-- the sections of the bytes: how many records, where the edges and the looks start, and where the looks stop
+pub record LaidOut (s : List ℕ) (c edgesAt e looksAt l stopAt : ℕ) : Type 0 where
+  pub cellsAre : c ≡ cells s
+  pub edgesBegin : edgesAt ≡ edgesFrom s
+  pub edgesAre : e ≡ edges s
+  pub looksBegin : looksAt ≡ looksFrom s
+  pub looksAre : l ≡ looks s
+  pub stops : stopAt ≡ stop s
 
 -- all the cells of the bytes, and room for their nodes
 pub record CellsLent (s : List ℕ) (count : ℕ) (nodes : List ℕ) : Type 0 where

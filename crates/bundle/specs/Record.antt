@@ -17,7 +17,8 @@ byteValues = 256
 abbrev pub brokenRow : ℕ
 brokenRow = 13
 
--- the kinds of records; an edge has kind 2 where a byte holds its count, and kind 4 where none does
+-- the kinds of records; an edge has kind 2 where a byte holds its count, and kind 4 where none does; kind 5 is a later look at an edge, with a new
+-- count
 abbrev pub cellKind : ℕ
 cellKind = 1
 
@@ -29,6 +30,9 @@ endKind = 3
 
 abbrev pub wideKind : ℕ
 wideKind = 4
+
+abbrev pub lookKind : ℕ
+lookKind = 5
 
 -- the bytes of a number of 16 bits; of the length; and of length and kind, which stand before the body
 abbrev pub wordSize : ℕ
@@ -53,7 +57,10 @@ endLength = 2
 abbrev pub wideLength : ℕ
 wideLength = 8
 
--- the bytes of a whole record of the first three kinds; one of kind 4 has a byte more than one of kind 2
+abbrev pub lookLength : ℕ
+lookLength = 8
+
+-- the bytes of a whole record of each kind but 4, which has a byte more than kind 2
 abbrev pub cellSize : ℕ
 cellSize = lengthBytes + cellLength
 
@@ -63,9 +70,12 @@ edgeSize = lengthBytes + edgeLength
 abbrev pub endSize : ℕ
 endSize = lengthBytes + endLength
 
+abbrev pub lookSize : ℕ
+lookSize = lengthBytes + lookLength
+
 -- the length that a record of a kind has; 0 where the number is no kind
 unfoldable pub lengthOf : ℕ → ℕ
-lengthOf kind = pick (eqb kind cellKind) cellLength (pick (eqb kind edgeKind) edgeLength (pick (eqb kind endKind) endLength (pick (eqb kind wideKind) wideLength 0)))
+lengthOf kind = pick (eqb kind cellKind) cellLength (pick (eqb kind edgeKind) edgeLength (pick (eqb kind endKind) endLength (pick (eqb kind wideKind) wideLength (pick (eqb kind lookKind) lookLength 0))))
 
 -- the number of 16 bits at a place
 abbrev pub word : List ℕ → ℕ → ℕ
@@ -78,7 +88,7 @@ kindAt s at = word s (at + lengthBytes)
 unfoldable pub nextRecord : List ℕ → ℕ → ℕ
 nextRecord s at = at + lengthBytes + word s at
 
--- where the count stands in the body of an edge, after its two ends; and the number there, in the record at a place
+-- where the count stands in the body of an edge or a look, after its two ends; and the number there, in the record at a place
 abbrev pub countPlace : ℕ
 countPlace = wordSize + wordSize
 
@@ -93,7 +103,7 @@ isWide count = leb byteValues count
 unfoldable pub mayHave : ℕ → ℕ → Bool
 mayHave kind count = pick (eqb kind wideKind) (isWide count) true
 
--- a record stands at a place: its length and kind are there, the kind is one of the four and has this length, all its bytes are there, and the
+-- a record stands at a place: its length and kind are there, the kind is one of the five and has this length, all its bytes are there, and the
 -- count is one that the kind may have
 unfoldable pub isRecord : List ℕ → ℕ → Bool
 isRecord s at =

@@ -1,9 +1,11 @@
 // Bundles: records, the reader and the writer.
+mod looks;
 mod reader;
 mod records;
 mod writer;
 
 pub use reader::SHORT_ROW;
+pub use reader::STRAY_ROW;
 pub use reader::read;
 pub use reader::scan;
 pub use records::BROKEN_ROW;

@@ -1,6 +1,8 @@
 // The bundle reader: what the bytes hold, then the lists.
 use crate::Contents;
 use crate::Record;
+use crate::looks::first_stray;
+use crate::looks::replace;
 use crate::records::BROKEN_ROW;
 use crate::records::CELL;
 use crate::records::CELL_NODES;
@@ -9,6 +11,8 @@ use crate::records::EDGE;
 use crate::records::EDGE_ENDS;
 use crate::records::END;
 use crate::records::HEAD_BYTES;
+use crate::records::LOOK;
+use crate::records::LOOK_BYTES;
 use crate::records::WIDE;
 use crate::records::WORD_BYTES;
 use crate::records::body_at;
@@ -17,20 +21,24 @@ use crate::records::word_at;
 ghost use mathlib.Core.Path.{_≡_};
 ghost use Prim.Native.Nat.{_+_, _<_};
 ghost use lib.ListN.{length};
-ghost use Rattle.counting.specs.Stored.{Stored};
+ghost use Rattle.counting.specs.Stored.{Stored, filled};
 ghost use Rattle.bundle.specs.Record.{countPlace, word};
-ghost use Rattle.bundle.specs.Bundle.{sectionOf, start, run, leadingWords, edgesFrom, bundleAnswer, readAnswer, nodesOf, endsOf, countsOf, writtenOver, nodesLeft, endsLeft, countsLeft, contentsNumbers};
-ghost use Rattle.bundle.specs.Needed.{WordsLent, CellsLent, EdgesLent};
+ghost use Rattle.bundle.specs.Bundle.{sectionOf, start, run, leadingWords, edgesFrom, edges, looksFrom, bundleAnswer, readAnswer, nodesOf, endsOf, countAfter, writtenOver, nodesLeft, endsLeft, countsLeft, contentsNumbers};
+ghost use Rattle.bundle.specs.Needed.{WordsLent, CellsLent, EdgesLent, LaidOut};
 
-// The row of refusals that speaks of short lists.
+// The rows of refusals that speak of short lists, and of looks for no edge.
 pub const SHORT_ROW: u8 = 14;
+
+pub const STRAY_ROW: u8 = 22;
 
 // The sections of a bundle, in their order.
 const CELL_SECTION: usize = 1;
 
 const EDGE_SECTION: usize = 2;
 
-const END_SECTION: usize = 3;
+const LOOK_SECTION: usize = 3;
+
+const END_SECTION: usize = 4;
 
 // The section that records of a kind stand in; 0 where the number is no kind.
 fn section_of(kind: u16) -> usize
@@ -44,6 +52,9 @@ fn section_of(kind: u16) -> usize
     }
     if kind == WIDE {
         return EDGE_SECTION;
+    }
+    if kind == LOOK {
+        return LOOK_SECTION;
     }
     if kind == END {
         return END_SECTION;
@@ -79,13 +90,32 @@ fn run_from(bytes: &[u8], from: usize, section: usize) -> Run
     }
 }
 
-// How many cells and edges the bundle has, or refusal 13; no list is lent.
-pub fn scan(bytes: &[u8]) -> Contents
-    ensures { λ r. ⌜ contentsNumbers r ≡ bundleAnswer (now (bytes .entry)) ⌝ }
+// The cells, the edges and the looks of the bytes; each section starts where the one before it stops.
+struct Layout {
+    cells: Run,
+    edges: Run,
+    looks: Run,
+}
+
+fn layout_of(bytes: &[u8]) -> Layout
+    ensures { λ r. ⌜ LaidOut (now (bytes .entry)) (r .cells .count) (r .cells .stop) (r .edges .count) (r .edges .stop) (r .looks .count) (r .looks .stop) ⌝ }
 {
     let cells = run_from(bytes, 0, CELL_SECTION);
     let edges = run_from(bytes, cells.stop, EDGE_SECTION);
-    let stop = edges.stop;
+    let looks = run_from(bytes, edges.stop, LOOK_SECTION);
+    Layout {
+        cells,
+        edges,
+        looks,
+    }
+}
+
+// How many cells and edges the bundle has, or refusal 13 or 22; no list is lent.
+pub fn scan(bytes: &[u8]) -> Contents
+    ensures { λ r. ⌜ contentsNumbers r ≡ bundleAnswer (now (bytes .entry)) ⌝ }
+{
+    let l = layout_of(bytes);
+    let stop = l.looks.stop;
     match record_at(bytes, stop) {
         Record::Refused(number, place) => Contents::Refused(BROKEN_ROW, stop),
         Record::Whole(kind, next) => {
@@ -95,7 +125,17 @@ pub fn scan(bytes: &[u8]) -> Contents
             if next != bytes.len() {
                 return Contents::Refused(BROKEN_ROW, next);
             }
-            Contents::Lists(cells.count, edges.count)
+            let k = first_stray(
+                bytes,
+                l.cells.stop,
+                l.edges.count,
+                l.edges.stop,
+                l.looks.count,
+            );
+            if k < l.looks.count {
+                return Contents::Refused(STRAY_ROW, l.edges.stop + LOOK_BYTES * k);
+            }
+            Contents::Lists(l.cells.count, l.edges.count)
         }
     }
 }
@@ -140,11 +180,18 @@ fn fill_cells(bytes: &[u8], count: usize, nodes: &mut [u16]) -> usize
     at
 }
 
-// Fills the ends and counts of the edges, whose records start at from.
-fn fill_edges(bytes: &[u8], from: usize, count: usize, ends: &mut [u16], counts: &mut [u16])
+// Fills the ends and the own counts of the edges, whose records start at from, and answers where the looks start.
+fn fill_edges(
+    bytes: &[u8],
+    from: usize,
+    count: usize,
+    ends: &mut [u16],
+    counts: &mut [u16],
+) -> usize
     requires { ⌜ EdgesLent (now bytes) from count (now ends) (now counts) ⌝ }
+    ensures { λ r. ⌜ r ≡ looksFrom (now (bytes .entry)) ⌝ }
     ensures { λ _. ⌜ now (ends .exit) ≡ writtenOver (endsOf (now (bytes .entry))) (now (ends .entry)) ⌝ }
-    ensures { λ _. ⌜ now (counts .exit) ≡ writtenOver (countsOf (now (bytes .entry))) (now (counts .entry)) ⌝ }
+    ensures { λ _. ⌜ now (counts .exit) ≡ filled (countAfter (now (bytes .entry)) 0) (edges (now (bytes .entry))) (now (counts .entry)) ⌝ }
 {
     let mut k: usize = 0;
     let mut at = from;
@@ -155,6 +202,7 @@ fn fill_edges(bytes: &[u8], from: usize, count: usize, ends: &mut [u16], counts:
         at += HEAD_BYTES + body.len();
         k += 1;
     }
+    at
 }
 
 // Fills the lists with the bundle's cells and edges, and answers how many there are; a refusal leaves the lists as they are.
@@ -177,7 +225,9 @@ pub fn read(bytes: &[u8], nodes: &mut [u16], ends: &mut [u16], counts: &mut [u16
                 return Contents::Refused(SHORT_ROW, 0);
             }
             let from = fill_cells(bytes, cells, nodes);
-            fill_edges(bytes, from, edges, ends, counts);
+            let base = fill_edges(bytes, from, edges, ends, counts);
+            let looks = run_from(bytes, base, LOOK_SECTION);
+            replace(bytes, from, edges, base, looks.count, counts);
             Contents::Lists(cells, edges)
         }
     }

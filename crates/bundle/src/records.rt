@@ -14,6 +14,8 @@ pub(crate) const END: u16 = 3;
 
 pub(crate) const WIDE: u16 = 4;
 
+pub(crate) const LOOK: u16 = 5;
+
 // The lengths of the kinds, which count the bytes after the length itself.
 const CELL_LENGTH: u16 = 10;
 
@@ -23,6 +25,8 @@ const END_LENGTH: u16 = 2;
 
 const WIDE_LENGTH: u16 = 8;
 
+const LOOK_LENGTH: u16 = 8;
+
 // The values of a byte.
 pub(crate) const BYTE_VALUES: u16 = 256;
 
@@ -31,19 +35,21 @@ pub(crate) const WORD_BYTES: usize = 2;
 
 pub const HEAD_BYTES: usize = WORD_BYTES + WORD_BYTES;
 
-// The bytes of a whole record of the first three kinds; one of kind 4 has a byte more than one of kind 2.
+// The bytes of a whole record of each kind but 4, which has a byte more than kind 2.
 pub const CELL_BYTES: usize = WORD_BYTES + CELL_LENGTH as usize;
 
 pub const EDGE_BYTES: usize = WORD_BYTES + EDGE_LENGTH as usize;
 
 pub const END_BYTES: usize = WORD_BYTES + END_LENGTH as usize;
 
+pub(crate) const LOOK_BYTES: usize = WORD_BYTES + LOOK_LENGTH as usize;
+
 // The numbers that a cell has in the list of nodes, and an edge in the list of ends.
 pub const CELL_NODES: usize = 4;
 
 pub const EDGE_ENDS: usize = 2;
 
-// Where the count stands in the body of an edge.
+// Where the count stands in the body of an edge or a look.
 pub(crate) const COUNT_PLACE: usize = WORD_BYTES * EDGE_ENDS;
 
 // The row of refusals that speaks of records.
@@ -72,6 +78,9 @@ pub(crate) fn length_of(kind: u16) -> u16
     }
     if kind == WIDE {
         return WIDE_LENGTH;
+    }
+    if kind == LOOK {
+        return LOOK_LENGTH;
     }
     0
 }

@@ -1,4 +1,4 @@
--- What the C host is told of a bundle (01). It lends no lists, so of the table of refusals only row 13 can be met.
+-- What the C host is told of a bundle (01, and 02's W7). It lends no lists, so of the table of refusals only rows 13 and 22 can be met.
 use Prim.Native.Nat.{ℕ}
 use mathlib.Core.Bool.{cond}
 use mathlib.Core.List.{List}
@@ -9,7 +9,7 @@ use Rattle.bundle.specs.Bundle.{cells, edges, isBundle, bundleAnswer}
 abbrev pub refusalOf : List ℕ → ℕ
 refusalOf s = getD (bundleAnswer s) 0 0
 
--- the cells and the edges of a bundle; 0 for a broken one
+-- the cells and the edges of a bundle, to which looks do not count; 0 for a broken one
 abbrev pub cellsOf : List ℕ → ℕ
 cellsOf s = cond (isBundle s) (cells s) 0
 

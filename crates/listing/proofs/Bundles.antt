@@ -28,7 +28,7 @@ module _ (s : List ℕ) where
 
   -- a refusal of the bundle has the number of its row
   broken : (n p : ℕ) → refusal n p ≡ bundleAnswer s → n ≡ 0 → ⊥
-  broken n p h z = let q = refused s (rejected s n p h) .1 in let y : n ≡ brokenRow = cc in omega arith
+  broken n p h z = let r = refused s (rejected s n p h) in let q = r .is in let y : n ≡ r .row = cc in omega (arith, r .some)
 
   module _ (small : length s ≤ mostBytes) where
     -- the lists have room for any bundle

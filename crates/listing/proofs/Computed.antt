@@ -39,7 +39,8 @@ unfolding seek first last some every count total over tally pre row col reach
     triangle.numberOf triangle.segmentOf triangle.point triangle.segment triangle.triangle triangle.loopTriangles triangle.cellTriangles
     cornerWords words gather gridCell meshTriangles meshWords roomAnswer meshAnswer
     bytes.lengthOf bytes.kindAt bytes.nextRecord bytes.countAt bytes.mayHave bytes.isRecord bytes.bodyStart bytes.bodySize bytes.body
-    bundle.sectionOf bundle.isOf bundle.start bundle.run bundle.cells bundle.edgesFrom bundle.edges bundle.stop bundle.bundleAnswer bundle.nodesOf bundle.endsOf bundle.countsOf
+    bundle.sectionOf bundle.isOf bundle.start bundle.run bundle.cells bundle.edgesFrom bundle.edges bundle.looksFrom bundle.looks bundle.stop bundle.samePair bundle.isFor bundle.isStray bundle.firstStray
+    bundle.countFrom bundle.countAfter bundle.surviving bundle.bundleAnswer bundle.nodesOf bundle.endsOf bundle.countsOf
     kindFor countBytes cellBytes edgeBytes bundleBytes
     digits decimal labelled refusedLine head wordText wordAt line orRefused meshListing gridListing bundleListing listing
 computed = refl

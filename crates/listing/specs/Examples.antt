@@ -1,9 +1,9 @@
--- Examples, each with the text that document 01 asks. One computed theorem says that the definitions give these texts.
+-- Examples, each with the text that documents 01 and 02 ask. One computed theorem says that the definitions give these texts.
 use Prim.Native.Nat.{ℕ}
 use mathlib.Core.Path.{_≡_}
 use mathlib.Core.List.{List, [], _∷_, _++_, map}
-use Rattle.bundle.specs.Record.{wideKind}
-use Rattle.bundle.specs.Written.{recordBytes, bundleBytes, endRecord}
+use Rattle.bundle.specs.Record.{edgeKind, wideKind, lookKind}
+use Rattle.bundle.specs.Written.{wordBytes, recordBytes, bundleBytes, endRecord}
 use Rattle.listing.specs.Text.{decimal, wordText, refusedLine}
 use Rattle.listing.specs.Listing.{listing}
 
@@ -20,6 +20,10 @@ edges = 0 ∷ 1 ∷ 0 ∷ 2 ∷ 0 ∷ 3 ∷ 1 ∷ 2 ∷ 1 ∷ 3 ∷ 2 ∷ 3 ∷ 
 
 abbrev pub oneCell : List ℕ → List ℕ
 oneCell counts = bundleBytes (0 ∷ 1 ∷ 2 ∷ 3 ∷ []) edges counts
+
+-- a later look
+abbrev pub look : ℕ → ℕ → ℕ → List ℕ
+look u v count = recordBytes lookKind (wordBytes u ++ wordBytes v ++ wordBytes count)
 
 -- digits, and words with a blank before them: 4294967295 is a dash
 abbrev pub numbers : List Example
@@ -86,7 +90,7 @@ empty =
     (114 ∷ 101 ∷ 102 ∷ 117 ∷ 115 ∷ 101 ∷ 100 ∷ 32 ∷ 49 ∷ 51 ∷ 32 ∷ 97 ∷ 116 ∷ 32 ∷ 48 ∷ 10 ∷ [])
 
 -- refusals: no bytes; no cell; a cell that does not increase; an edge that is not listed, with kind 2 and with kind 4; kind 4 with a count that a byte
--- holds; a byte after the end, and after the end of a grid that is refused
+-- holds; a byte after the end, and after the end of a grid that is refused; a look with its pair turned round
 abbrev pub refused : List Example
 refused =
     asks (listing []) empty
@@ -97,6 +101,7 @@ refused =
     ∷ asks (listing (recordBytes wideKind (0 ∷ 0 ∷ 1 ∷ 0 ∷ 255 ∷ 0 ∷ []) ++ endRecord)) empty
     ∷ asks (listing (oneCell (2 ∷ 0 ∷ 0 ∷ 0 ∷ 0 ∷ 0 ∷ []) ++ (0 ∷ []))) (refusedLine 13 70)
     ∷ asks (listing (endRecord ++ (0 ∷ []))) (refusedLine 13 4)
+    ∷ asks (listing (recordBytes edgeKind (wordBytes 0 ++ wordBytes 1 ++ (5 ∷ [])) ++ look 1 0 2 ++ endRecord)) (refusedLine 22 9)
     ∷ []
 
 abbrev pub table : List Example

@@ -47,7 +47,7 @@ module _ (G : Grid) where
   unfoldable pub gridListing : List ℕ
   gridListing = orRefused (meshAnswer G (wordCount * areaTriangles)) meshListing
 
--- the bundle reader's refusal (row 13), or the listing of the grid of its lists
+-- the bundle reader's refusal (rows 13 and 22), or the listing of the grid of its lists
 unfoldable pub bundleListing : List ℕ → List ℕ
 bundleListing s = orRefused (bundleAnswer s) (gridListing (gridOf (nodesOf s) (endsOf s) (countsOf s)))
 

@@ -9,7 +9,7 @@ use reference::gen::{
 use reference::grid::{MAX_CELLS, MAX_COUNT, NODE_LIMIT, ROWS};
 
 /// How many calls were answered with each number: 0, or that of a refusal.
-pub type Numbers = [u64; 21];
+pub type Numbers = [u64; 23];
 
 /// How many were refused by each row of the grid check, in the order in which the
 /// rows run: 1 to 6, 18, 7 to 10.

@@ -1,10 +1,14 @@
 //! Records, the bundle reader and the writer against the second implementation.
 
+use std::thread;
+
 use compare::bundles::{
-    has_wide, random_bytes, random_lists, size, small_bundles, CELL, EDGE, END, NARROW, WIDE,
+    has_kind, random_bytes, random_lists, seen_again, size, small_bundles, AGAIN, CELL, EDGE, END,
+    LOOK, NARROW, STRAY, WIDE,
 };
 use compare::lent::{after, answers, answers_in_all, Lent, ANSWER_WORDS};
 use compare::{calls, expected, seed, setting};
+use reference::bundle;
 use reference::gen::{random_shape, Rng, Sample};
 
 /// Values before a call and guards; no two are alike.
@@ -133,10 +137,12 @@ fn every_changed_byte() {
 
 #[test]
 fn records_in_any_order() {
-    let records: [&[u8]; 7] = [
+    let records: [&[u8]; 9] = [
         &CELL,
         &EDGE,
         &WIDE,
+        &LOOK,
+        &STRAY,
         &END,
         &NARROW,
         &[2, 0, 4, 0],
@@ -159,20 +165,22 @@ fn records_in_any_order() {
 #[test]
 fn random_bytes_and_damage() {
     let mut rng = Rng::new(seed("bundle"));
-    let [mut taken, mut wide, mut refused] = [0, 0, 0];
+    let [mut taken, mut wide, mut looked, mut refused] = [0; 4];
     for _ in 0..setting("CITTERNBLAZE_BUNDLES", 20_000) {
         let bytes = random_bytes(&mut rng, bundle_of);
         if compare_all(&bytes) {
             taken += 1;
-            wide += u32::from(has_wide(&bytes));
+            wide += u32::from(has_kind(&bytes, bundle::WIDE_EDGE));
+            looked += u32::from(has_kind(&bytes, bundle::LOOK));
         } else {
             refused += 1;
         }
     }
     println!(
-        "bundles, random: {taken} taken, {wide} of them with a record of kind 4; {refused} refused"
+        "bundles, random: {taken} taken, {wide} of them with a record of kind 4, {looked} with one \
+         of kind 5; {refused} refused"
     );
-    assert!(taken > wide && wide > 0 && refused > 0);
+    assert!(taken > wide.max(looked) && wide > 0 && looked > 0 && refused > 0);
 }
 
 #[test]
@@ -222,26 +230,109 @@ fn grids_go_there_and_back() {
         area.copy_from_slice(&compare_write(&lists, size(&lists) + 7)[..size(&lists)]);
         let room = [lists.cells.len(), lists.edges.len(), lists.counts.len()];
         assert!(compare_read(&area, room));
-        let mut back = Sample {
-            cells: vec![0; room[0]],
-            edges: vec![0; room[1]],
-            counts: vec![0; room[2]],
-        };
-        let mut answer = [0; ANSWER_WORDS];
-        calls::bundle_read(
-            &area,
-            &mut back.cells,
-            &mut back.edges,
-            &mut back.counts,
-            &mut answer,
-        );
-        assert_eq!(back, lists);
+        assert_eq!(read_back(&area, room), lists);
         for list in 0..3 {
             let mut short = room;
             short[list] = short[list].saturating_sub(1);
             compare_read(&area, short);
         }
     }
+}
+
+/// Looks by the thousand, as many as a block of the reader holds and some more or
+/// less; and one of them for no edge.
+#[test]
+fn many_looks() {
+    let mut rng = Rng::new(seed("looks"));
+    for looks in [1, 4_096, 12_287, 12_288, 12_289, 24_576, 24_577, 30_000] {
+        let edges: Vec<u16> = (0..600).map(|_| rng.below(30) as u16).collect();
+        let mut bytes = Vec::new();
+        for ends in edges.chunks(2) {
+            bytes.extend([
+                7,
+                0,
+                2,
+                0,
+                ends[0] as u8,
+                0,
+                ends[1] as u8,
+                0,
+                rng.word() as u8,
+            ]);
+        }
+        let looks_at = bytes.len();
+        for look in 0..looks {
+            let edge = 2 * rng.below(300);
+            let [u, v] = [edges[edge] as u8, edges[edge + 1] as u8];
+            bytes.extend([8, 0, 5, 0, u, 0, v, 0]);
+            bytes.extend((look as u16).to_le_bytes());
+        }
+        bytes.extend(END);
+        assert!(compare_read(&bytes, [0, 600, 300]));
+        compare_read(&bytes, [0, 600, 299]);
+        for stray in [rng.below(looks), looks - 1] {
+            let mut bytes = bytes.clone();
+            bytes[looks_at + 10 * stray + 5] = 1;
+            assert!(!compare_read(&bytes, [0, 600, 300]));
+            assert!(!compare_read(&bytes, [0, 0, 0]));
+        }
+    }
+}
+
+/// What the headers say of the stack.
+#[test]
+fn stack_of_192_kilobytes() {
+    let read = || {
+        let bytes = [&EDGE[..], &LOOK, &AGAIN, &END].concat();
+        let (mut ends, mut counts, mut answer) = ([0; 2], [0; 1], [0; ANSWER_WORDS]);
+        calls::bundle_read(&bytes, &mut [], &mut ends, &mut counts, &mut answer);
+        assert_eq!(calls::host(&bytes), [0, 0, 1]);
+        (answer[..3].to_vec(), counts)
+    };
+    let thread = thread::Builder::new().stack_size(192 * 1024).spawn(read);
+    let told = thread.expect("a thread").join().expect("an answer");
+    assert_eq!(told, (vec![0, 0, 1], [4_097]));
+}
+
+/// A bundle with looks, read, written and read again: the same lists, and no
+/// looks.
+#[test]
+fn survivors_come_back() {
+    let mut rng = Rng::new(seed("survivors"));
+    let mut looked = 0;
+    for _ in 0..1_000 {
+        let lists = random_lists(&mut rng, 20);
+        let bytes = seen_again(&mut rng, bundle_of(&lists), &lists.edges, 12);
+        let room = [lists.cells.len(), lists.edges.len(), lists.counts.len()];
+        if !compare_read(&bytes, room) {
+            continue;
+        }
+        looked += u32::from(has_kind(&bytes, bundle::LOOK));
+        let left = read_back(&bytes, room);
+        let survivors = bundle_of(&left);
+        assert!(!has_kind(&survivors, bundle::LOOK));
+        assert!(compare_read(&survivors, room));
+        assert_eq!(read_back(&survivors, room), left);
+    }
+    assert!(looked > 100);
+}
+
+/// What the proved reader leaves in lists of these lengths.
+fn read_back(bytes: &[u8], room: Room) -> Sample {
+    let mut back = Sample {
+        cells: vec![0; room[0]],
+        edges: vec![0; room[1]],
+        counts: vec![0; room[2]],
+    };
+    let mut answer = [0; ANSWER_WORDS];
+    calls::bundle_read(
+        bytes,
+        &mut back.cells,
+        &mut back.edges,
+        &mut back.counts,
+        &mut answer,
+    );
+    back
 }
 
 #[test]
@@ -261,15 +352,21 @@ fn any_answer_area() {
         let call = |answer: &mut [u64]| calls::record_body(&bundle, start, answer);
         assert!(answers_in_all(&body, call));
     }
+    let looked = [&CELL[..], &EDGE, &WIDE, &LOOK, &AGAIN, &END].concat();
+    let stray = [&CELL[..], &EDGE, &WIDE, &LOOK, &STRAY, &END].concat();
     let reads = [
-        (35, 4, vec![0, 1, 2]),
-        (34, 4, vec![13, 31]),
-        (30, 4, vec![13, 21]),
-        (45, 4, vec![13, 35]),
-        (35, 3, vec![14, 0]),
+        (&bundle[..35], 4, vec![0, 1, 2]),
+        (&bundle[..34], 4, vec![13, 31]),
+        (&bundle[..30], 4, vec![13, 21]),
+        (&bundle[..45], 4, vec![13, 35]),
+        (&bundle[..35], 3, vec![14, 0]),
+        (&looked[..], 4, vec![0, 1, 2]),
+        (&looked[..], 3, vec![14, 0]),
+        (&stray[..], 4, vec![22, 41]),
+        (&stray[..], 3, vec![22, 41]),
+        (&stray[..54], 3, vec![13, 51]),
     ];
-    for (len, nodes, numbers) in reads {
-        let bytes = &bundle[..len];
+    for (bytes, nodes, numbers) in reads {
         let before = (vec![NODE; nodes], [NODE + 1; 4], [COUNT; 2]);
         let mut read = before.clone();
         expected::bundle_read(bytes, &mut read.0, &mut read.1, &mut read.2);

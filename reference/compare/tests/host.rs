@@ -1,6 +1,6 @@
 //! The host's three functions against the second implementation.
 
-use compare::bundles::{damage, random_bytes, random_lists, small_bundles, written};
+use compare::bundles::{damage, random_bytes, random_lists, seen_again, small_bundles, written};
 use compare::grids::random_grid;
 use compare::{calls, expected, seed, setting};
 use reference::gen::{Rng, Sample};
@@ -9,7 +9,7 @@ use reference::gen::{Rng, Sample};
 fn compare(bytes: &[u8]) -> bool {
     let numbers = expected::host(bytes);
     assert_eq!(calls::host(bytes), numbers, "{bytes:?}");
-    assert!(numbers[0] == 0 || numbers == [13, 0, 0]);
+    assert!(numbers[0] == 0 || numbers == [13, 0, 0] || numbers == [22, 0, 0]);
     numbers[0] == 0
 }
 
@@ -62,6 +62,8 @@ fn bundles_of_grids() {
             [0, lists.cells.len() as u64 / 4, lists.counts.len() as u64]
         );
         assert!(compare(&bytes));
+        bytes = seen_again(&mut rng, bytes, &lists.edges, 30);
+        compare(&bytes);
         damage(&mut rng, &mut bytes);
         compare(&bytes);
     }

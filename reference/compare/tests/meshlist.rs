@@ -8,11 +8,12 @@ use std::io::Write;
 use std::path::{Path, PathBuf};
 use std::process::{Command, Stdio};
 
-use compare::bundles::{damage, has_wide, random_bytes, small_bundles, written};
+use compare::bundles::{damage, has_kind, random_bytes, seen_again, small_bundles, written};
 use compare::grids::{
     by_rows, closed_grid, random_grid, single_cell, with_crossings, with_faults, Numbers,
 };
 use compare::{seed, setting};
+use reference::bundle;
 use reference::gen::{random_shape, separate, Rng, Sample};
 use reference::listing::{listing, MAX_INPUT};
 
@@ -54,6 +55,7 @@ struct Tally {
     meshes: u64,
     triangles: usize,
     wide: u64,
+    looked: u64,
     refused: Numbers,
 }
 
@@ -66,7 +68,8 @@ impl Tally {
             }
             None => {
                 self.meshes += 1;
-                self.wide += u64::from(has_wide(bytes));
+                self.wide += u64::from(has_kind(bytes, bundle::WIDE_EDGE));
+                self.looked += u64::from(has_kind(bytes, bundle::LOOK));
                 self.triangles += text.lines().count() - 1;
             }
         }
@@ -119,6 +122,7 @@ fn input(rng: &mut Rng) -> Vec<u8> {
         _ => whole,
     };
     let mut bytes = match written(&lists) {
+        Some(bytes) if rng.below(4) == 0 => seen_again(rng, bytes, &lists.edges, 3),
         Some(bytes) => bytes,
         None => random_bytes(rng, |lists| written(lists).expect("formed lists")),
     };
@@ -138,18 +142,20 @@ fn random_and_damaged_bundles() {
         compare(&mut rng, &bytes, &mut tally);
     }
     println!(
-        "meshlist: {} meshes with {} triangles, {} of them of a bundle with a record of kind 4; \
-         refused by rows 1 to 6, 18, 7 to 10: {:?}, 12 and 13: {:?}",
+        "meshlist: {} meshes with {} triangles, {} of them of a bundle with a record of kind 4, {} \
+         with one of kind 5; refused by rows 1 to 6, 18, 7 to 10: {:?}, 12 and 13: {:?}, 22: {}",
         tally.meshes,
         tally.triangles,
         tally.wide,
+        tally.looked,
         by_rows(&tally.refused),
-        &tally.refused[12..=13]
+        &tally.refused[12..=13],
+        tally.refused[22]
     );
     if many >= 3_000 {
         assert!(tally.meshes >= 1_000);
-        assert!(tally.wide >= 50);
-        for row in (3..=10).chain([12, 13, 18]) {
+        assert!(tally.wide >= 50 && tally.looked >= 50);
+        for row in (3..=10).chain([12, 13, 18, 22]) {
             assert!(tally.refused[row] > 0, "row {row}");
         }
     }

@@ -1,14 +1,16 @@
-//! Times the proved mesh call, grid check, shading call and nearest call and the
-//! second implementation's in one run. All work on the same input in turn; the
-//! order of a round alternates.
+//! Times the proved mesh call, grid check, shading call, nearest call and bundle
+//! reader and the second implementation's in one run. All work on the same input in
+//! turn; the order of a round alternates.
 
 use std::env;
 use std::iter;
 use std::time::{Duration, Instant};
 
+use compare::bundles::{written, END};
 use compare::grids::{dealt, twisted};
 use compare::lent::ANSWER_WORDS;
 use compare::{calls, expected};
+use reference::bundle;
 use reference::cell::TRIANGLE_WORDS;
 use reference::gen::{box_of_six, closed_fan, cone, row_of, separate, Rng, Sample};
 use reference::grid::{self, GridTables, Lists, MAX_CELLS};
@@ -38,7 +40,7 @@ struct Times {
     median: f64,
 }
 
-/// Times of each way, `call(way)` in turn.
+/// Times of each of N ways, `call(way)` in turn.
 fn times<const N: usize>(patience: Duration, mut call: impl FnMut(usize)) -> [Times; N] {
     let mut micros = [(); N].map(|()| Vec::new());
     let begin = Instant::now();
@@ -176,6 +178,46 @@ fn shading_times(grid: &Sample, patience: Duration) -> [Times; WAYS] {
     times
 }
 
+/// The lists' bundle, and the same with a look at each edge, in any order.
+fn with_looks(lists: &Sample, rng: &mut Rng) -> [Vec<u8>; 2] {
+    let plain = written(lists).expect("formed lists");
+    let mut looks: Vec<[u16; 3]> = lists
+        .edges
+        .chunks(2)
+        .map(|ends| [ends[0], ends[1], rng.below(400) as u16])
+        .collect();
+    for last in (1..looks.len()).rev() {
+        looks.swap(last, rng.below(last + 1));
+    }
+    let mut looked = plain[..plain.len() - END.len()].to_vec();
+    for look in &looks {
+        looked.extend([8, 0, 5, 0]);
+        looked.extend(look.iter().flat_map(|number| number.to_le_bytes()));
+    }
+    looked.extend(END);
+    [plain, looked]
+}
+
+/// Times of the bundle reader on each of the two bundles: the proved call, then
+/// the second implementation.
+fn looks_times(lists: &Sample, bundles: &[Vec<u8>; 2], patience: Duration) -> [Times; 4] {
+    let Sample {
+        mut cells,
+        mut edges,
+        mut counts,
+    } = lists.clone();
+    let mut answer = [1; ANSWER_WORDS];
+    times(patience, |way| {
+        let bytes = &bundles[way % 2];
+        if way < 2 {
+            calls::bundle_read(bytes, &mut cells, &mut edges, &mut counts, &mut answer);
+            assert_eq!(answer[0], 0);
+        } else {
+            bundle::read(bytes, &mut cells, &mut edges, &mut counts).expect("a bundle");
+        }
+    })
+}
+
 fn size(grid: &Sample) -> String {
     let crossings: u32 = grid.counts.iter().map(|&count| u32::from(count)).sum();
     let cells = grid.cells.len() / 4;
@@ -219,6 +261,30 @@ impl Bench {
             let median = line([proved.median, kept.median, new.median]);
             println!("  room for {text}, best:   {best}");
             println!("  room for {text}, median: {median}");
+        }
+    }
+
+    /// The bundle reader without and with looks.
+    fn looks(&self, name: &str, lists: &Sample, rng: &mut Rng) {
+        if !name.starts_with(&self.only) {
+            return;
+        }
+        let bundles = with_looks(lists, rng);
+        let [a, b, c, d] = looks_times(lists, &bundles, self.patience);
+        println!("{name}: {} edges and as many looks", lists.counts.len());
+        let best = [a.best, b.best, c.best, d.best];
+        let median = [a.median, b.median, c.median, d.median];
+        for (text, micros) in [("best:  ", best), ("median:", median)] {
+            let [plain, looked, plain_ref, looked_ref] = micros;
+            println!(
+                "  {text} proved {plain:8.1} us without looks, {looked:8.1} us with, ratio {:.2}; \
+                 reference {plain_ref:8.1} us and {looked_ref:8.1} us, ratio {:.2}; proved over \
+                 reference {:.2} without, {:.2} with",
+                looked / plain,
+                looked_ref / plain_ref,
+                plain / plain_ref,
+                looked / looked_ref,
+            );
         }
     }
 
@@ -333,6 +399,17 @@ fn checks(bench: &Bench) {
     bench.check("5 check, cells that share nothing", &apart);
 }
 
+/// Bundles of as many edges as a grid may have, and of few.
+fn bundles(bench: &Bench) {
+    let mut rng = Rng::new(5);
+    for cells in [1, 100, MAX_CELLS] {
+        let lists = separate(cells as u16).with_counts(&mut rng, 0, 300);
+        bench.looks("9 bundle, looks", &lists, &mut rng);
+    }
+    let boxed = part_of_box(MAX_CELLS).with_counts(&mut rng, 0, 20);
+    bench.looks("9 bundle, looks, box", &boxed, &mut rng);
+}
+
 /// How time grows with the cells.
 fn growth(bench: &Bench) {
     let mut rng = Rng::new(3);
@@ -400,4 +477,5 @@ fn main() {
     thousands(&bench);
     lists(&bench);
     shadings(&bench);
+    bundles(&bench);
 }

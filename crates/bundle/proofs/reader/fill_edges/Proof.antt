@@ -9,9 +9,9 @@ use Rattle.counting.specs.Range.{over}
 use Rattle.counting.specs.Stored.{Stored}
 use Rattle.counting.proofs.Stored.{stored-none, stored-long}
 use Rattle.bundle.specs.Record.{headBytes, countPlace, word, body}
-use Rattle.bundle.specs.Bundle.{edgeEnds, edgeSection, run, edges, endsIn, endsOf, countsOf, writtenOver}
+use Rattle.bundle.specs.Bundle.{edgeEnds, edgeSection, start, run, edges, looksFrom, endsIn, endsOf, writtenOver}
 use Rattle.bundle.proofs.Runs.{Walked, walked, here, walked-fits, walked-on}
-use Rattle.bundle.proofs.Fills.{edge-ge, endsBy, countBy, turn, count-turn, filled-all}
+use Rattle.bundle.proofs.Fills.{edge-ge, endsBy, countBy, turn, count-turn, own-filled, filled-all}
 use Rattle.bundle.proofs.reader.fill_edges.Statement.{statement}
 use Rattle.bundle.proofs.reader.fill_edges.Tie as tie
 
@@ -105,15 +105,18 @@ all-done c =
     omega (arith, e, p .all, c .before .loop .inv .0 .upto)
 
 returns : tie.Need-returns Inv-loop μ-loop
-unfolding endsOf countsOf
+unfolding looksFrom endsOf
 returns c =
     let l = c .before .loop in
     let a = c .before .before .before .before .before .args in
     let p = c .before .before .before .before .before .pre in
     let s = now (a .bytes) in
     let e : l .k ≡ edges s = all-done c in (
-      filled-all (endsBy s (a .from)) (l .k) (edges s) (l .inv .1) e (omega (arith, e, p .all, p .endsRoom)) ∙ ap (λ n. writtenOver (over (endsBy s n) (edges s) 0) (now (a .ends))) (p .begin),
-      filled-all (countBy s (a .from)) (l .k) (edges s) (l .inv .2) e (omega (arith, e, p .all, p .countsRoom)) ∙ ap (λ n. writtenOver (over (countBy s n) (edges s) 0) (now (a .counts))) (p .begin),
+      l .inv .0 .reached ∙ ap (start s (a .from)) e ∙ ap (λ n. start s n (edges s)) (p .begin),
+      (
+        filled-all (endsBy s (a .from)) (l .k) (edges s) (l .inv .1) e (omega (arith, e, p .all, p .endsRoom)) ∙ ap (λ n. writtenOver (over (endsBy s n) (edges s) 0) (now (a .ends))) (p .begin),
+        own-filled s (a .from) (l .k) (p .begin) e (l .inv .2),
+      ),
     )
 
 pub fill-edges-spec : {M : Type 1} → statement M

@@ -1,14 +1,19 @@
 use Prim.Native.Nat.{ℕ, _*_, _≤_}
-use mathlib.Core.Path.{_≡_, ap, _∙_}
+use mathlib.Core.Path.{_≡_, sym, ap, _∙_}
 use mathlib.Core.Bool.{true}
-use mathlib.Core.List.{List, [], _∷_}
+use mathlib.Core.List.{List, [], _∷_, _++_}
 use native.Mathlib.Omega.{arith}
-use lib.ListN.{length}
+use lib.ListN.{length, drop}
 use denote.Ref.{now}
 use Rattle.answer.specs.Answer.{result}
-use Rattle.bundle.specs.Bundle.{cellNodes, edgeEnds, cells, edges, isBundle, bundleAnswer, contentsNumbers}
+use Rattle.counting.specs.Stored.{filled}
+use Rattle.counting.proofs.Stored.{filled-again, filled-front}
+use Rattle.counting.proofs.Chains.{filled-table}
+use Rattle.bundle.specs.Bundle.{cellNodes, edgeEnds, lookSection, run, cells, edges, looks, countAfter, surviving, countsOf, isBundle, bundleAnswer, writtenOver, contentsNumbers}
+use Rattle.bundle.specs.Looked.{LooksLent}
 use Rattle.bundle.specs.declared.Contents.the-variants.{Lists, Refused}
 use Rattle.bundle.proofs.Answers.{accepted, accepted-cells, accepted-edges, rejected, room, no-room, leaves-broken, leaves-short, leaves-lists}
+use Rattle.bundle.proofs.Fills.{length-counts}
 use borrow.Author.Needs.{needs}
 use Rattle.bundle.proofs.reader.read.Statement.{statement}
 use Rattle.bundle.proofs.reader.read.Tie as tie
@@ -90,6 +95,27 @@ returns-4 c =
     let l = leaves-broken (now (a .bytes)) (now (a .nodes)) (now (a .ends)) (now (a .counts)) (rejected (now (a .bytes)) _ _ t) in
     (t ∙ l .0, l .1)
 
+run-from-requires : tie.Need-run-from-requires
+run-from-requires c κs = search needs
+
+-- the edges and the looks, and where the looks start
+listed : (c : tie.After-run-from) → LooksLent (bytes (c .before .before .before .before .before .before .before .before .before .before .before .before .before .before .before)) (c .before .before .before .before .before .before .before .before .before .before .fill-cells .result) (c .before .before .before .before .before .before .before .before .before .before .before .before .before .before .before .before .cells .given .0 .1 .0) (c .before .before .before .before .before .fill-edges .result) (c .run-from .result .count)
+unfolding looks
+listed c =
+    let s = bytes (c .before .before .before .before .before .before .before .before .before .before .before .before .before .before .before) in
+    let b = c .before .before .before .before .before .fill-edges .ensures .0 in
+    record {
+      listed = record { begin = c .before .before .before .before .before .before .before .before .before .before .fill-cells .ensures .0; all = edges-are (c .before .before .before .before .before .before .before .before .before .before .before .before .before .before .before) };
+      begin = b;
+      all = c .run-from .ensures .0 ∙ ap (run s lookSection) b;
+    }
+
+room-of : (c : tie.After-run-from) → edges (bytes (c .before .before .before .before .before .before .before .before .before .before .before .before .before .before .before)) ≤ length (counts (c .before .before .before .before .before .before .before .before .before .before .before .before .before .before .before))
+room-of c = omega (arith, edges-are (c .before .before .before .before .before .before .before .before .before .before .before .before .before .before .before), c .before .before .before .before .before .before .before .before .before .before .before .before .if3 .left)
+
+replace-requires : tie.Need-replace-requires
+replace-requires c κs = (listed (c .before), filled-table _ _ _ _ (c .before .before .before .before .before .before .fill-edges .ensures .1 .1) (room-of (c .before)))
+
 same-length : tie.Need-same-length
 same-length c = search needs
 
@@ -99,14 +125,26 @@ same-length-2 c = search needs
 same-length-3 : tie.Need-same-length-3
 same-length-3 c = search needs
 
+-- the counts that are left
+survive : (s old : List ℕ) {mid new : List ℕ} → edges s ≤ length old → mid ≡ filled (countAfter s 0) (edges s) old → new ≡ filled (countAfter s (looks s)) (edges s) mid
+    → new ≡ writtenOver (countsOf s) old
+unfolding countsOf surviving
+survive s old {mid} {new} r p q =
+    q
+    ∙ ap (filled (countAfter s (looks s)) (edges s)) p
+    ∙ filled-again (countAfter s (looks s)) (countAfter s 0) (edges s) old r
+    ∙ filled-front (countAfter s (looks s)) (edges s) old r
+    ∙ ap (λ n. countsOf s ++ drop n old) (sym (length-counts s))
+
 returns-5 : tie.Need-returns-5
 returns-5 c =
-    let g = c .before .before .before .before .before .before .before .before .before .before .before .before .before .before in
-    let n : cellNodes * cells (bytes g) ≤ length (nodes g) = omega (arith, cells-are g, c .before .before .before .before .before .before .before .before .before .before .before .before .before .if1 .left) in
-    let m : edgeEnds * edges (bytes g) ≤ length (ends g) = omega (arith, edges-are g, c .before .before .before .before .before .before .before .before .before .before .before .before .if2 .left) in
-    let k : edges (bytes g) ≤ length (counts g) = omega (arith, edges-are g, c .before .before .before .before .before .before .before .before .before .before .before .if3 .left) in
+    let g = c .before .before .before .before .before .before .before .before .before .before .before .before .before .before .before .before .before .before .before in
+    let n : cellNodes * cells (bytes g) ≤ length (nodes g) = omega (arith, cells-are g, c .before .before .before .before .before .before .before .before .before .before .before .before .before .before .before .before .before .before .if1 .left) in
+    let m : edgeEnds * edges (bytes g) ≤ length (ends g) = omega (arith, edges-are g, c .before .before .before .before .before .before .before .before .before .before .before .before .before .before .before .before .before .if2 .left) in
+    let k : edges (bytes g) ≤ length (counts g) = omega (arith, edges-are g, c .before .before .before .before .before .before .before .before .before .before .before .before .before .before .before .before .if3 .left) in
     let l = leaves-lists (bytes g) (nodes g) (ends g) (counts g) (good g) (room (bytes g) _ _ _ n m k) in
-    (told g ∙ l .0, (c .before .before .before .before .before .before .before .before .before .fill-cells .ensures .1 ∙ l .1 .0, (c .before .before .before .before .fill-edges .ensures .0 ∙ l .1 .1 .0, c .before .before .before .before .fill-edges .ensures .1 ∙ l .1 .1 .1)))
+    let e = c .before .before .before .before .before .before .before .before .before .fill-edges .ensures in
+    (told g ∙ l .0, (c .before .before .before .before .before .before .before .before .before .before .before .before .before .before .fill-cells .ensures .1 ∙ l .1 .0, (e .1 .0 ∙ l .1 .1 .0, survive (bytes g) (counts g) k (e .1 .1) (c .before .before .replace .ensures) ∙ l .1 .1 .1)))
 
 pub read-spec : {M : Type 1} → statement M
 read-spec =
@@ -120,6 +158,8 @@ read-spec =
     returns-3
     fill-cells-requires
     fill-edges-requires
+    run-from-requires
+    replace-requires
     returns-4
     same-length
     same-length-2
