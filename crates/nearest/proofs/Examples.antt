@@ -6,10 +6,10 @@ use Rattle.counting.specs.Search.{seek, first}
 use Rattle.place.specs.Place.{within}
 use Rattle.nearest.specs.Distance.{square, squaredDistance, leastTo, distanceOf}
 use Rattle.nearest.specs.Answer.{badPoints, nearestRows, nearestNumber, nearestValues, nearestAnswer}
-use Rattle.nearest.specs.Examples.{examples, asked, listed, ExamplesHold}
+use Rattle.nearest.specs.Examples.{examples, ExamplesHold}
 
 pub examples-hold : ExamplesHold
 unfolding add sub mul div neg lt le eq ofInt ofBits toBits
     orRefuse answerOf seek first within square squaredDistance leastTo distanceOf
-    badPoints nearestRows nearestNumber nearestValues nearestAnswer examples asked listed
+    badPoints nearestRows nearestNumber nearestValues nearestAnswer examples
 examples-hold = refl

@@ -2,7 +2,7 @@
 use Prim.Native.Nat.{ℕ}
 use mathlib.Core.Path.{_≡_}
 use mathlib.Core.Bool.{true, false}
-use mathlib.Core.List.{List, [], _∷_, _++_}
+use mathlib.Core.List.{List, [], _∷_, _++_, map}
 use lib.ListN.{replicate}
 use lib.Ieee.{Float, nan, inf, binary64, div, neg, ofBits}
 use Rattle.answer.specs.Answer.{result, refusal}
@@ -87,13 +87,5 @@ examples =
     ∷ asks (replicate 5 zero ++ (inf false ∷ [])) origin (refusal 23 5) ∷ asks (replicate 3 zero) (at zero (inf true) (inf false)) (refusal 23 4)
     ∷ []
 
-unfoldable pub asked : List Example → List (List ℕ)
-asked [] = []
-asked (x ∷ l) = nearestAnswer (x .points) (x .query) ∷ asked l
-
-unfoldable pub listed : List Example → List (List ℕ)
-listed [] = []
-listed (x ∷ l) = x .answer ∷ listed l
-
 abbrev pub ExamplesHold : Type 0
-ExamplesHold = asked examples ≡ listed examples
+ExamplesHold = map (λ x. nearestAnswer (x .points) (x .query)) examples ≡ map (λ x. x .answer) examples

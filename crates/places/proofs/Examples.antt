@@ -25,7 +25,7 @@ use Rattle.places.specs.Numbers.{properFraction}
 use Rattle.places.specs.Points as points
 use Rattle.places.specs.Rows.{highest, badLists, badNumber, badFractionAt, badFraction}
 use Rattle.places.specs.Answer.{placeRows, rowsAnswer, placesAnswer, placed, placesArea}
-use Rattle.places.specs.Examples.{examples, asked, listed, ExamplesHold}
+use Rattle.places.specs.Examples.{examples, ExamplesHold}
 
 pub examples-hold : ExamplesHold
 unfolding add sub mul div neg lt le eq ofInt ofBits
@@ -39,5 +39,5 @@ unfolding add sub mul div neg lt le eq ofInt ofBits
     badLength badPairs badCell sameCell repeats crowded isAfter badEdge badCount unlisted unused linked reached split tooMany rows orRefuse answerOf gridAnswer
     hasMiddle numberOf isFan loopPoint loopMiddle cellMiddles gridCell
     sumTo middle gather within properFraction points.edgeOfCrossing points.indexOfCrossing points.crossingPlace points.middles points.points
-    hasNode highest badLists badNumber badFractionAt badFraction placeRows rowsAnswer placesAnswer placed placesArea examples asked listed
+    hasNode highest badLists badNumber badFractionAt badFraction placeRows rowsAnswer placesAnswer placed placesArea examples
 examples-hold = refl

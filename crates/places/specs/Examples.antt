@@ -2,7 +2,7 @@
 use Prim.Native.Nat.{ℕ, _-_}
 use mathlib.Core.Path.{_≡_}
 use mathlib.Core.Bool.{true, false}
-use mathlib.Core.List.{List, [], _∷_, _++_}
+use mathlib.Core.List.{List, [], _∷_, _++_, map}
 use lib.ListN.{length, replicate}
 use lib.Ieee.{Float, nan, inf, binary64, div, neg, ofBits}
 use Rattle.answer.specs.Answer.{result, refusal}
@@ -247,17 +247,14 @@ pub record Outcome : Type 0 where
   pub answer : List ℕ
   pub area : List Float
 
-unfoldable pub asked : List Example → List Outcome
-asked [] = []
-asked (x ∷ l) =
-    record {
-      answer = placesAnswer (gridOf (x .cells) (x .edges) (x .counts)) (x .nodes) (x .fractions) (length (lent (x .room)));
-      area = placesArea (gridOf (x .cells) (x .edges) (x .counts)) (x .nodes) (x .fractions) (lent (x .room));
-    } ∷ asked l
+abbrev pub outcome : Example → Outcome
+outcome x = record {
+  answer = placesAnswer (gridOf (x .cells) (x .edges) (x .counts)) (x .nodes) (x .fractions) (length (lent (x .room)));
+  area = placesArea (gridOf (x .cells) (x .edges) (x .counts)) (x .nodes) (x .fractions) (lent (x .room));
+}
 
-unfoldable pub listed : List Example → List Outcome
-listed [] = []
-listed (x ∷ l) = record { answer = x .answer; area = x .written ++ lent (x .room - length (x .written)) } ∷ listed l
+abbrev pub listed : Example → Outcome
+listed x = record { answer = x .answer; area = x .written ++ lent (x .room - length (x .written)) }
 
 abbrev pub ExamplesHold : Type 0
-ExamplesHold = asked examples ≡ listed examples
+ExamplesHold = map outcome examples ≡ map listed examples

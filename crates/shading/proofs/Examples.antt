@@ -10,10 +10,10 @@ use Rattle.grid.specs.Grid.{hasNode, faceNode, sameFace, hasFace, joins, isEdge
 use Rattle.grid.specs.Rows.{badLength, badPairs, badCell, sameCell, repeats, crowded, isAfter, badEdge, badCount, unlisted, unused, linked, reached, split, tooMany, rows, gridAnswer}
 use Rattle.shading.specs.Marks.{moved, united, marksAfter, finalMarks, agrees, unshaded, sideBytes}
 use Rattle.shading.specs.Answer.{shadingRows, shadingAnswer, shadingArea}
-use Rattle.shading.specs.Examples.{examples, answers, expected, ExamplesHold}
+use Rattle.shading.specs.Examples.{examples, ExamplesHold}
 
 pub examples-hold : ExamplesHold
-unfolding examples answers expected seek first last some every count total over pre reach lo hi position contains
+unfolding examples seek first last some every count total over pre reach lo hi position contains
     hasNode faceNode sameFace hasFace joins isEdge hasEdge start
     badLength badPairs badCell sameCell repeats crowded isAfter badEdge badCount unlisted unused linked reached split tooMany rows orRefuse answerOf gridAnswer
     moved united marksAfter finalMarks agrees unshaded sideBytes shadingRows shadingAnswer shadingArea

@@ -1,7 +1,7 @@
 -- Examples of the shading call: a grid, an area's length, the answer, and the area afterwards. The area holds 7s before.
 use Prim.Native.Nat.{ℕ}
 use mathlib.Core.Path.{_≡_}
-use mathlib.Core.List.{List, [], _∷_, _++_}
+use mathlib.Core.List.{List, [], _∷_, _++_, map}
 use lib.ListN.{replicate}
 use Rattle.answer.specs.Answer.{result, refusal}
 use Rattle.grid.specs.Grid.{Grid, gridOf}
@@ -17,7 +17,7 @@ pub record Example : Type 0 where
 abbrev pub sevens : ℕ → List ℕ
 sevens n = replicate n 7
 
--- unusedByte nodes
+-- nodes of no cell
 abbrev free : ℕ → List ℕ
 free n = replicate n 255
 
@@ -95,7 +95,7 @@ examples =
     ∷ shades (cell (0 ∷ 1 ∷ 1 ∷ 1 ∷ 1 ∷ 0 ∷ [])) (0 ∷ 0 ∷ 1 ∷ 1 ∷ free 4092)
     ∷ shades (cell (2 ∷ 1 ∷ 1 ∷ 1 ∷ 1 ∷ 2 ∷ [])) (0 ∷ 0 ∷ 1 ∷ 1 ∷ free 4092)
     ∷ shades (cell (4 ∷ 255 ∷ 4094 ∷ 4095 ∷ 2 ∷ 3 ∷ [])) (0 ∷ 0 ∷ 1 ∷ 0 ∷ free 4092)
-    -- nodes 0 and 4,095, with unusedByte nodes between
+    -- nodes 0 and 4,095, with nodes of no cell between
     ∷ shades (ends (0 ∷ 1 ∷ 1 ∷ 1 ∷ 1 ∷ 0 ∷ [])) (0 ∷ 255 ∷ 0 ∷ 255 ∷ 255 ∷ 1 ∷ (free 4089 ++ (1 ∷ [])))
     -- node 0 in no cell: the lowest node of the grid is 1
     ∷ shades (high (1 ∷ 0 ∷ 1 ∷ 1 ∷ 0 ∷ 1 ∷ [])) (255 ∷ 0 ∷ 1 ∷ 0 ∷ 1 ∷ free 4091)
@@ -119,13 +119,7 @@ examples =
     ∷ refuses (cell (1 ∷ 0 ∷ 0 ∷ 0 ∷ 0 ∷ [])) 4096 2 0
     ∷ []
 
-unfoldable pub answers : List Example → List (List ℕ)
-answers [] = []
-answers (x ∷ l) = shadingAnswer (x .grid) (x .room) ∷ shadingArea (x .grid) (sevens (x .room)) ∷ answers l
-
-unfoldable pub expected : List Example → List (List ℕ)
-expected [] = []
-expected (x ∷ l) = x .answer ∷ x .after ∷ expected l
-
 abbrev pub ExamplesHold : Type 0
-ExamplesHold = answers examples ≡ expected examples
+ExamplesHold =
+    map (λ x. shadingAnswer (x .grid) (x .room) ∷ shadingArea (x .grid) (sevens (x .room)) ∷ []) examples
+    ≡ map (λ x. x .answer ∷ x .after ∷ []) examples
