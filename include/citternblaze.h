@@ -136,6 +136,21 @@ size_t citternblaze_face(uint16_t ab, uint16_t ac, uint16_t bc,
                          uint32_t edge, uint32_t index,
                          uint64_t *answer, size_t answer_len);
 
+/* The booking. How many triangles a cell has, from the counts of its edges alone.
+ *
+ * Reads the counts of the edges 01, 02, 03, 12, 13, 23, which may be any of 16
+ * bits.
+ *
+ * Answers 0; t, the corner triangles: at each node the least of its three corner
+ * counts; d1 and d2, the two smaller of the counts left at the lowest node, the
+ * larger first; and the triangles of the cell, t and 2 d1 where d2 is 0, else t
+ * and 4 (d1 + d2). Or 0 alone, "walk it", where a face has an odd sum or a count
+ * above the other two: such a cell's loops have to be walked, as citternblaze_mesh
+ * does. */
+size_t citternblaze_book(uint16_t e01, uint16_t e02, uint16_t e03,
+                         uint16_t e12, uint16_t e13, uint16_t e23,
+                         uint64_t *answer, size_t answer_len);
+
 /* The grid check.
  *
  * Reads the cells, four nodes each; the edges, two nodes each; and a count for
@@ -166,8 +181,9 @@ size_t citternblaze_check(const uint16_t *cells, size_t cells_len,
  * the area. Takes up to 640 KB of the stack.
  *
  * A cell has no more triangles than crossings. Where the area has room for as
- * many triangles as the cells have crossings together, the call goes over the
- * cells once; else twice, first to count. */
+ * many triangles as the cells have crossings together, the loops of each cell are
+ * walked once. Else the cells that citternblaze_book answers "walk it" for are
+ * walked twice, first to count. */
 size_t citternblaze_mesh(const uint16_t *cells, size_t cells_len,
                          const uint16_t *edges, size_t edges_len,
                          const uint16_t *counts, size_t counts_len,

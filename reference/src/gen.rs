@@ -83,15 +83,17 @@ impl Sample {
     /// How many crossings the cells have, each counted in every cell that has
     /// it. No mesh of the grid has more triangles.
     pub fn crossings_in_cells(&self) -> usize {
+        let cells = self.counts_in_cells().into_iter().flatten();
+        cells.map(usize::from).sum()
+    }
+
+    /// The counts of each cell's edges 01, 02, 03, 12, 13, 23.
+    pub fn counts_in_cells(&self) -> Vec<[u16; 6]> {
         let pairs = self.edges.chunks_exact(2).map(|ends| (ends[0], ends[1]));
         let counts: BTreeMap<_, _> = pairs.zip(&self.counts).collect();
-        let crossings = |cell: &[u16]| -> usize {
-            let pairs = (0..4).flat_map(|high| (0..high).map(move |low| (low, high)));
-            pairs
-                .map(|(low, high)| usize::from(*counts[&(cell[low], cell[high])]))
-                .sum()
-        };
-        self.cells.chunks_exact(4).map(crossings).sum()
+        let ends = [[0, 1], [0, 2], [0, 3], [1, 2], [1, 3], [2, 3]];
+        let of = |cell: &[u16]| ends.map(|[low, high]| *counts[&(cell[low], cell[high])]);
+        self.cells.chunks_exact(4).map(of).collect()
     }
 
     /// Gives every edge a count from `low` to `high`.
@@ -123,6 +125,26 @@ impl Sample {
             if outer.contains(edge) {
                 *count = 0;
             }
+        }
+        self
+    }
+
+    /// Counts of the level sets of a height at each node, and of spheres round
+    /// nodes: 0 on every outer edge, and on each face an even sum and no count
+    /// above the other two.
+    pub fn with_level_sets(mut self, rng: &mut Rng, heights: usize, spheres: usize) -> Sample {
+        let mut draw = |most: usize| -> Vec<u16> {
+            let numbers = (0..NODE_LIMIT).map(|_| rng.below(most + 1) as u16);
+            numbers.collect()
+        };
+        let [mut height, mut round] = [draw(heights), draw(spheres)];
+        for &node in outer_edges(&self.cell_list()).iter().flatten() {
+            height[usize::from(node)] = 0;
+            round[usize::from(node)] = 0;
+        }
+        for (ends, count) in self.edge_list().into_iter().zip(&mut self.counts) {
+            let [u, v] = ends.map(usize::from);
+            *count = height[u].abs_diff(height[v]) + round[u] + round[v];
         }
         self
     }

@@ -9,6 +9,8 @@ pub mod grid;
 
 pub mod mesh;
 
+pub mod booking;
+
 pub mod bundle;
 
 pub mod places;

@@ -58,6 +58,37 @@ static void test_face(void) {
   face("face 5 1 1, edge 0, index 2, answer area of 0", 5, 1, 1, 0, 2, 0);
 }
 
+static void book(const char *call, const uint16_t of[6], size_t answer_len) {
+  show(call, citternblaze_book(of[0], of[1], of[2], of[3], of[4], of[5], answer,
+                               answer_len));
+}
+
+static void test_book(void) {
+  static const uint16_t none[6] = {0};
+  static const uint16_t corner[6] = {1, 1, 1, 0, 0, 0};
+  static const uint16_t quad[6] = {0, 1, 1, 1, 1, 0};
+  static const uint16_t octagon[6] = {2, 1, 1, 1, 1, 2};
+  static const uint16_t spirals[6] = {11, 9, 8, 6, 9, 15};
+  static const uint16_t turned[6] = {9, 11, 6, 12, 15, 5};
+  static const uint16_t quads[6] = {4, 12, 9, 10, 7, 5};
+  static const uint16_t most[6] = {65535, 65533, 65532, 65532, 65533, 65535};
+  static const uint16_t odd[6] = {1, 1, 1, 1, 1, 1};
+  static const uint16_t above[6] = {2, 0, 0, 0, 0, 0};
+  book("book 0 0 0 0 0 0", none, ROOM);
+  book("book 1 1 1 0 0 0", corner, ROOM);
+  book("book 0 1 1 1 1 0", quad, ROOM);
+  book("book 2 1 1 1 1 2", octagon, ROOM);
+  book("book 11 9 8 6 9 15", spirals, ROOM);
+  book("book 9 11 6 12 15 5", turned, ROOM);
+  book("book 4 12 9 10 7 5", quads, ROOM);
+  book("book 65535 65533 65532 65532 65533 65535", most, ROOM);
+  book("book 1 1 1 1 1 1, to be walked", odd, ROOM);
+  book("book 2 0 0 0 0 0, to be walked", above, ROOM);
+  book("book 2 1 1 1 1 2, answer area of 6", octagon, ENOUGH);
+  book("book 2 1 1 1 1 2, answer area of 5", octagon, SHORT);
+  book("book 2 1 1 1 1 2, answer area of 0", octagon, 0);
+}
+
 static const uint16_t cells[] = {0, 1, 2, 3, 0, 1, 2, 4};
 static const uint16_t edges[] = {0, 1, 0, 2, 0, 3, 0, 4, 1, 2,
                                  1, 3, 1, 4, 2, 3, 2, 4};
@@ -562,6 +593,7 @@ static void test_other_refusals(void) {
 static void test_null(void) {
   uint8_t area[4];
   show("face, no answer area", citternblaze_face(5, 1, 1, 0, 2, NULL, 0));
+  show("book, no answer area", citternblaze_book(2, 1, 1, 1, 1, 2, NULL, 0));
   show("check of nothing",
        citternblaze_check(NULL, 0, NULL, 0, NULL, 0, answer, ROOM));
   show("check without edges",
@@ -623,6 +655,7 @@ static void test_null(void) {
 int main(void) {
   clear();
   test_face();
+  test_book();
   test_check();
   test_mesh();
   test_loops();

@@ -2,7 +2,7 @@
 // too few words for any answer, the call changes nothing at all and returns how many are needed. No pointer is kept.
 ghost use Prim.Native.Nat.{_≤_};
 ghost use mathlib.Core.Path.{_≡_};
-ghost use mathlib.Core.List.{_∷_};
+ghost use mathlib.Core.List.{[], _∷_};
 ghost use lib.ListN.{length};
 ghost use Rattle.capi.specs.Written.{answerWords, ifRoom, Answers, bodyNumbers};
 ghost use Rattle.bundle.specs.Record.{recordAnswer};
@@ -14,10 +14,13 @@ ghost use Rattle.grid.specs.Rows.{gridAnswer};
 ghost use Rattle.counting.specs.Pick.{one};
 ghost use Rattle.answer.specs.Answer.{result};
 ghost use Rattle.cell.specs.Answer.{typeNumbers, loopNumbers};
+ghost use Rattle.cell.specs.Level.{byEdge};
+ghost use Rattle.booking.specs.Answer.{bookingAnswer};
 ghost use Rattle.mesh.specs.Answer.{meshAnswer, meshArea, loopsAnswer};
 ghost use Rattle.places.specs.Answer.{placesAnswer, placesArea};
 ghost use Rattle.shading.specs.Answer.{shadingAnswer, shadingArea};
 ghost use Rattle.nearest.specs.Answer.{nearestAnswer};
+use booking::Booking;
 use bundle::BROKEN_ROW;
 use bundle::Contents;
 use bundle::HEAD_BYTES;
@@ -72,6 +75,28 @@ pub extern "C" fn citternblaze_face(
         Join::Joined(e, i) => put(answer, &[0, e as u64, i as u64]),
         Join::Unjoined => put(answer, &[1]),
         Join::NoCrossing => put(answer, &[2]),
+    }
+}
+
+// The booking of a cell with these counts: 0, the corner triangles, the two smaller numbers left at the lowest node, and the triangles; 0 alone where the
+// cell is to be walked.
+#[no_mangle]
+pub extern "C" fn citternblaze_book(
+    e01: u16,
+    e02: u16,
+    e03: u16,
+    e12: u16,
+    e13: u16,
+    e23: u16,
+    answer: &mut [u64],
+) -> usize
+    ensures { λ r. ⌜ Answers (bookingAnswer (byEdge (e01 ∷ e02 ∷ e03 ∷ e12 ∷ e13 ∷ e23 ∷ []))) (now (answer .entry)) (now (answer .exit)) r ⌝ }
+{
+    match booking::book([e01, e02, e03, e12, e13, e23]) {
+        Booking::Booked(t, d1, d2, n) => {
+            put(answer, &[0, t as u64, d1 as u64, d2 as u64, n as u64])
+        }
+        Booking::WalkIt => put(answer, &[0]),
     }
 }
 

@@ -1,21 +1,22 @@
 -- The edges of a cell laid end to end: its crossings are numbered one to one, in the order in which the edges are laid.
 use Prim.Native.Nat.{ℕ, _+_, _-_, _<_, _≤_}
-use mathlib.Core.Path.{_≡_, refl, sym, ap, _∙_}
+use mathlib.Core.Path.{_≡_, refl, sym, ap, ap₂, _∙_}
 use mathlib.Core.Logic.{_⊎_, inl, inr, _≢_, ⊎-elim}
 use mathlib.Core.Bool.{Bool, true, false, _&&_}
 use native.Mathlib.Omega.{arith}
 use native.Mathlib.Decide.{decLt, ℕ-discrete}
 use lib.Dec.{eqb, ltb, leb}
 use borrow.Author.Tests.{ltb-true, lt-ltb, le-ltb, leb-true, le-leb, eqb-true, eq-eqb, ne-eqb}
-use Rattle.counting.specs.Pick.{pick}
+use Rattle.counting.specs.Pick.{pick, one}
 use Rattle.counting.specs.Range.{total}
 use Rattle.counting.specs.Search as search
 use Rattle.counting.specs.Pack.{pre, row, col}
 use Rattle.counting.proofs.Bools.{and-left, and-right, and-true, or-left, or-right, or-cases, not-clash}
 use Rattle.counting.proofs.Range.{total-mono, total-add, total-single, total-ext, total-split, total-zero}
-use Rattle.counting.proofs.Search.{first-at}
-use Rattle.counting.proofs.Onto.{onto}
-use Rattle.counting.proofs.Pack.{row-lt, col-lt, unpack}
+use Rattle.counting.proofs.Search.{first-at, count-total, count-ext}
+use Rattle.counting.proofs.Onto.{onto, total-onto}
+use Rattle.counting.proofs.Rows.{count-rows}
+use Rattle.counting.proofs.Pack.{row-lt, col-lt, unpack, row-pack, col-pack}
 use Rattle.cell.specs.Cell.{Edges, ahead, base, crossings, number, holds, edge, index}
 use Rattle.cell.specs.Claims.{Lay, Separate, LaidSame}
 
@@ -161,32 +162,36 @@ module _ (w : Edges) where
     within : t < w .count k
     is : number w k t ≡ x
 
-  of : (x : ℕ) → x < crossings w → Of x
+  -- the y-th crossing edge by edge, as it is laid: one to one
+  abbrev r : ℕ → ℕ
+  r y = row (w .count) 6 y
+
+  abbrev c : ℕ → ℕ
+  c y = col (w .count) 6 y
+
+  abbrev laid : ℕ → ℕ
+  laid y = number w (r y) (c y)
+
+  r-lt : (y : ℕ) → y < crossings w → r y < 6
+  r-lt y l = row-lt (w .count) 6 y l
+
+  c-lt : (y : ℕ) → y < crossings w → c y < w .count (r y)
+  c-lt y l = col-lt (w .count) 6 y l
+
+  laid-lt : (y : ℕ) → y < crossings w → laid y < crossings w
+  laid-lt y l = number-lt (r y) (c y) (r-lt y l) (c-lt y l)
+
+  laid-apart : (i j : ℕ) → i < j → j < crossings w → laid i ≢ laid j
   unfolding In
+  laid-apart i j h lj e =
+      let li : i < crossings w = omega arith in
+      let q : r i ≡ r j = once (laid i) (r i) (r j) (r-lt i li) (r-lt j lj) (here (r i) (c i) (r-lt i li) (c-lt i li)) (rw e (here (r j) (c j) (r-lt j lj) (c-lt j lj))) in
+      omega (arith, ap (base w) q, ap (pre (w .count)) q, unpack (w .count) 6 i li, unpack (w .count) 6 j lj, e)
+
+  of : (x : ℕ) → x < crossings w → Of x
   of x l =
-      let (y, ly, e) = onto (crossings w) f (λ y ly. number-lt (r y) (c y) (r-lt y ly) (c-lt y ly)) apart x l in
+      let (y, ly, e) = onto (crossings w) laid laid-lt laid-apart x l in
       record { k = r y; t = c y; lt = r-lt y ly; within = c-lt y ly; is = e }
-    where
-      r : ℕ → ℕ
-      r y = row (w .count) 6 y
-
-      c : ℕ → ℕ
-      c y = col (w .count) 6 y
-
-      f : ℕ → ℕ
-      f y = number w (r y) (c y)
-
-      r-lt : (y : ℕ) → y < crossings w → r y < 6
-      r-lt y l = row-lt (w .count) 6 y l
-
-      c-lt : (y : ℕ) → y < crossings w → c y < w .count (r y)
-      c-lt y l = col-lt (w .count) 6 y l
-
-      apart : (i j : ℕ) → i < j → j < crossings w → f i ≢ f j
-      apart i j h lj e =
-          let li : i < crossings w = omega arith in
-          let q : r i ≡ r j = once (f i) (r i) (r j) (r-lt i li) (r-lt j lj) (here (r i) (c i) (r-lt i li) (c-lt i li)) (rw e (here (r j) (c j) (r-lt j lj) (c-lt j lj))) in
-          omega (arith, ap (base w) q, ap (pre (w .count)) q, unpack (w .count) 6 i li, unpack (w .count) 6 j lj, e)
 
   module _ (x : ℕ) (l : x < crossings w) where
     o : Of x
@@ -219,6 +224,15 @@ module _ (w : Edges) where
 
   pub lay : Lay w
   lay = record { edge-lt = edge-lt; index-lt = index-lt; back = back; number-lt = number-lt; number-edge = number-edge; number-index = number-index; later = later }
+
+  -- how many of the cell's crossings pass a test, edge by edge
+  pub count-edges : (t : ℕ → Bool) → search.count t (crossings w) ≡ total (λ k. search.count (λ i. t (number w k i)) (w .count k)) 6 0
+  count-edges t =
+      count-total t (crossings w) ∙ sym (total-onto (crossings w) laid laid-lt laid-apart (λ x. one (t x))) ∙ sym (count-total (λ y. t (laid y)) (crossings w))
+      ∙ count-rows (w .count) (λ y. t (laid y)) 6
+      ∙ total-ext (λ r. search.count (λ i. t (laid (pre (w .count) r + i))) (w .count r)) (λ k. search.count (λ i. t (number w k i)) (w .count k)) 6 0
+      (λ k a l. count-ext (λ i. t (laid (pre (w .count) k + i))) (λ i. t (number w k i)) (w .count k)
+      (λ i h. ap t (ap₂ (number w) (row-pack (w .count) 6 k i (omega arith) h) (col-pack (w .count) 6 k i (omega arith) h))))
 
   -- an edge that is laid before another, both with crossings, has the lower numbers
   pub lower-numbers : Separate w → (j k : ℕ) → j < 6 → k < 6 → j ≢ k → 0 < w .count j → 0 < w .count k → ahead w k j ≡ true → w .start j + w .count j ≤ w .start k

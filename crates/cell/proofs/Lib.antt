@@ -14,6 +14,7 @@ pub mod Going
 pub mod Segments
 pub mod Follow
 pub mod Three
+pub mod Levels
 pub mod Nodes
 pub mod Turn
 pub mod Claims

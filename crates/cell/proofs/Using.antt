@@ -69,9 +69,6 @@ module _ {ms hs ps ms′ hs′ ps′ : List ℕ} (S : Sized ms hs ps ms′ hs′
     points-same = T .points-same ∙ S .points-same;
   }
 
-  pub sized-as : {ms″ hs″ ps″ : List ℕ} → ms″ ≡ ms′ → hs″ ≡ hs′ → ps″ ≡ ps′ → Sized ms hs ps ms″ hs″ ps″
-  sized-as p q r = record { marks-same = rw p (S .marks-same); halves-same = rw q (S .halves-same); points-same = rw r (S .points-same) }
-
   pub sized-long : {n : ℕ} → Long n ms hs ps → Long n ms′ hs′ ps′
   sized-long L = record {
     marks-long = rw (S .marks-same) (L .marks-long);

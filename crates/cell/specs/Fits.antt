@@ -1,5 +1,5 @@
--- What is left in an area where the words of a cell's triangles are written from index `at` on.
-use Prim.Native.Nat.{ℕ}
+-- What is left in an area where the words of a cell's triangles are written from index `at` on, and those of several cells.
+use Prim.Native.Nat.{ℕ, zero, suc}
 use mathlib.Core.List.{List}
 use Rattle.counting.specs.Stored.{storedIn, nextIn}
 use Rattle.cell.specs.declared.Cell.{Cell}
@@ -14,3 +14,14 @@ module _ (c : Cell) (area : List ℕ) (at : ℕ) where
   -- the area then: with the words, or as it was
   unfoldable pub areaThen : List ℕ
   areaThen = storedIn area at (allWords (cellTriangles c))
+
+-- The same for cells one after the other, the first from the front on, each that has room from where the one before it left off: the next index and
+-- the area after n of them. Writing keeps the area's length, by which alone the next index goes.
+module _ (cell : ℕ → Cell) (area : List ℕ) where
+  unfoldable pub nextAfter : ℕ → ℕ
+  nextAfter zero = 0
+  nextAfter (suc n) = nextAt (cell n) area (nextAfter n)
+
+  unfoldable pub areaAfter : ℕ → List ℕ
+  areaAfter zero = area
+  areaAfter (suc n) = areaThen (cell n) (areaAfter n) (nextAfter n)

@@ -6,6 +6,7 @@ pub mod Half
 pub mod Route
 pub mod Dart
 pub mod Nodes
+pub mod Level
 pub mod Scratch
 pub mod Walked
 pub mod Round

@@ -16,3 +16,7 @@ fewInCell = 6 * fewCount
 -- one more than the greatest number that a start can have
 abbrev pub startLimit : ℕ
 startLimit = 65536
+
+-- the most that two numbers of 16 bits add up to
+abbrev pub mostSum : ℕ
+mostSum = 131070

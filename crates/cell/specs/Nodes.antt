@@ -1,4 +1,4 @@
--- Only laws cite this file. The edges, crossings and darts of a cell by the positions of its nodes, in any order.
+-- The edges, crossings and darts of a cell by the positions of its nodes, in any order; of these only laws cite crossings and darts.
 use Prim.Native.Nat.{ℕ, _+_, _*_, _-_, _<_}
 use mathlib.Core.Logic.{_≢_}
 use lib.Dec.{ltb}
@@ -25,22 +25,24 @@ pub record Arranged (a b c d : ℕ) : Type 0 where
 unfoldable pub joining : ℕ → ℕ → ℕ
 joining a b = pick (ltb a b) (edgeBetween a b) (edgeBetween b a)
 
-module _ (w : Edges) where
+-- From the counts of the edges, n k for edge k
+module _ (n : ℕ → ℕ) where
   -- its count
   abbrev pub countBetween : ℕ → ℕ → ℕ
-  countBetween a b = w .count (joining a b)
+  countBetween a b = n (joining a b)
 
   -- the index of the k-th crossing from a on it (01)
   unfoldable pub kthFrom : ℕ → ℕ → ℕ → ℕ
   kthFrom a b k = pick (ltb a b) k (countBetween a b - 1 - k)
 
-  -- that crossing, and its dart by slot d
-  unfoldable pub crossingAt : ℕ → ℕ → ℕ → ℕ
-  crossingAt a b k = number w (joining a b) (kthFrom a b k)
-
-  unfoldable pub dartAt : ℕ → ℕ → ℕ → ℕ → ℕ
-  dartAt a b d k = dartNumber (3 * d + edgeRank d (joining a b)) (crossingAt a b k)
-
   -- the corner count (01) at position a of the face abc
   unfoldable pub cornerFrom : ℕ → ℕ → ℕ → ℕ
   cornerFrom a b c = cornerCount (countBetween a b) (countBetween a c) (countBetween b c)
+
+module _ (w : Edges) where
+  -- the k-th crossing from a on that edge, and its dart by slot d
+  unfoldable pub crossingAt : ℕ → ℕ → ℕ → ℕ
+  crossingAt a b k = number w (joining a b) (kthFrom (w .count) a b k)
+
+  unfoldable pub dartAt : ℕ → ℕ → ℕ → ℕ → ℕ
+  dartAt a b d k = dartNumber (3 * d + edgeRank d (joining a b)) (crossingAt a b k)

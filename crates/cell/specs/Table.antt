@@ -1,9 +1,11 @@
 -- A cell of a grid from the grid's tables, whatever stands in them; and what is made of all cells.
 use Prim.Native.Nat.{ℕ, zero, suc, _+_, _*_, _%_, min}
 use mathlib.Core.List.{List, []}
-use lib.ListN.{getD}
+use lib.ListN.{getD, length}
 use lib.Ieee.{Float}
+use Rattle.counting.specs.Pick.{pick}
 use Rattle.counting.specs.Range.{total, over, values}
+use Rattle.slots.specs.Limits.{mostCount}
 use Rattle.cell.specs.declared.Cell.{Cell}
 use Rattle.cell.specs.Cell.{crossings}
 use Rattle.cell.specs.Of.{edgesOf}
@@ -11,6 +13,7 @@ use Rattle.cell.specs.Limits.{mostInCell, startLimit}
 use Rattle.cell.specs.declared.Triangle.{Triangle}
 use Rattle.cell.specs.Triangles.{cellTriangles}
 use Rattle.cell.specs.Middles.{fanCount, pointsThen, nextPoint}
+use Rattle.cell.specs.Level.{byEdge, isLevelCell}
 use Rattle.grid.specs.Grid.{mostCells, cellCount}
 
 -- the edge k of cell c
@@ -37,6 +40,10 @@ tableCell cells counts names sides starts c = record {
   index = c % mostCells;
 }
 
+-- the counts of its edges as its loops have them, none above the limit
+abbrev pub takenCounts : (counts sides : List ℕ) → ℕ → List ℕ
+takenCounts counts sides c = values (λ k. min (getD counts (side sides (c % mostCells) k) 0) mostCount) 6
+
 -- how many crossings it has, whatever its nodes, names and starts
 unfoldable pub tableCrossings : (counts sides : List ℕ) → ℕ → ℕ
 tableCrossings counts sides c = crossings (edgesOf (tableCell [] counts [] sides [] c))
@@ -48,6 +55,10 @@ drawnCells cells = min (cellCount cells) mostCells
 -- the triangles of all cells
 unfoldable pub tableTriangles : (cells counts names sides starts : List ℕ) → List Triangle
 tableTriangles cells counts names sides starts = over (λ c. cellTriangles (tableCell cells counts names sides starts c)) (drawnCells cells) 0
+
+-- how many triangles cell c has where some face has an odd sum or a count above the other two, else 0
+unfoldable pub walkedAt : (cells counts names sides starts : List ℕ) → ℕ → ℕ
+walkedAt cells counts names sides starts c = pick (isLevelCell (byEdge (takenCounts counts sides c))) 0 (length (cellTriangles (tableCell cells counts names sides starts c)))
 
 -- the most triangles that a grid can have: no cell has more than crossings
 abbrev pub mostTriangles : ℕ

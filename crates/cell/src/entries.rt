@@ -1,17 +1,19 @@
 // A cell of a grid, from the grid's tables.
 ghost use mathlib.Core.Path.{_≡_};
-ghost use Prim.Native.Nat.{ℕ, _+_, _%_, _≤_, _<_};
+ghost use Prim.Native.Nat.{ℕ, _+_, _%_, _≤_, _<_, min};
 ghost use lib.ListN.{getD};
+ghost use Rattle.slots.specs.Limits.{mostCount};
 ghost use Rattle.cell.specs.Cell.{crossings};
 ghost use Rattle.cell.specs.Of.{edgesOf};
 ghost use Rattle.cell.specs.Limits.{mostInCell, startLimit};
 ghost use Rattle.grid.specs.Grid.{mostCells};
-ghost use Rattle.cell.specs.Table.{tableCounts, tableStarts, ofFour, tableCell, tableCrossings};
+ghost use Rattle.cell.specs.Table.{tableCounts, tableStarts, ofFour, tableCell, takenCounts};
 use super::Cell;
 use super::Counted;
 use super::routes::crossings_of;
 use super::routes::wide16;
 use grid::MOST_CELLS;
+use grid::MOST_COUNT;
 use grid::MOST_EDGES;
 use grid::MOST_SLOTS;
 
@@ -75,18 +77,26 @@ fn four_of(list: &[u16], c: usize) -> [u16; 4]
     four
 }
 
-// How many crossings cell c has.
-pub(crate) fn crossings_at(counts: &[u16], sides: &[u16; MOST_EDGES], c: usize) -> usize
-    ensures { λ r. ⌜ (r ≡ tableCrossings (now (counts .entry)) (now (sides .entry)) c) × (r ≤ mostInCell) ⌝ }
+// A count, the limit where it is above.
+fn limited(n: u16) -> u16
+    ensures { λ r. ⌜ r ≡ min n mostCount ⌝ }
 {
-    let edge_counts = counts_of(counts, sides, c % MOST_CELLS);
-    crossings_of(Cell {
-        counts: edge_counts,
-        starts: [0u16; 6],
-        names: [0u16; 4],
-        nodes: [0u16; 4],
-        index: 0,
-    })
+    if n < MOST_COUNT { n } else { MOST_COUNT }
+}
+
+// The counts of cell c, none above the limit.
+pub fn counts_at(counts: &[u16], sides: &[u16; MOST_EDGES], c: usize) -> [u16; 6]
+    ensures { λ r. ⌜ r ≡ takenCounts (now (counts .entry)) (now (sides .entry)) c ⌝ }
+{
+    let m = c % MOST_CELLS;
+    let mut six = [0u16; 6];
+    let mut k: usize = 0;
+    while k < 6 {
+        let e = wide16(sides[6 * m + k]);
+        six[k] = limited(entry(counts, e));
+        k += 1;
+    }
+    six
 }
 
 // No count is greater.

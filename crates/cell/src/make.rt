@@ -3,7 +3,7 @@ ghost use mathlib.Core.Path.{_≡_};
 ghost use mathlib.Core.Bool.{true, _&&_};
 ghost use lib.Dec.{eqb};
 ghost use Rattle.cell.specs.Round.{foldsIn};
-ghost use Prim.Native.Nat.{_<_, min};
+ghost use Prim.Native.Nat.{_<_};
 ghost use Rattle.counting.specs.Range.{after};
 ghost use Rattle.manifold.specs.Shape.{single, double, fan, shapeOf, manyOf};
 ghost use Rattle.cell.specs.Traced.{RecordedLoop, segmentAt, tracedTriangle};
@@ -11,6 +11,7 @@ use super::Cell;
 use super::Corner;
 use super::Side;
 use super::Triangle;
+use super::numbers::lower;
 
 fn wide(x: u8) -> usize
     ensures { λ r. ⌜ r ≡ x ⌝ }
@@ -22,12 +23,6 @@ fn word(x: u16) -> u32
     ensures { λ r. ⌜ r ≡ x ⌝ }
 {
     x as u32
-}
-
-fn lower(a: u32, b: u32) -> u32
-    ensures { λ r. ⌜ r ≡ min a b ⌝ }
-{
-    if a < b { a } else { b }
 }
 
 // The place after k in a round of n.

@@ -92,7 +92,7 @@ pub(crate) fn count_in(
     count(c, n, marks, halves, points)
 }
 
-pub(crate) fn write_in(
+fn write_in(
     c: Cell,
     n: usize,
     marks: &mut [u16],
@@ -151,29 +151,56 @@ pub fn triangle_at(c: Cell, t: usize) -> Nth
 
 // Whether the words of the triangles have room from index `at` on in an area of `room` words. A cell has no more triangles than crossings, so that
 // they are counted only where there is not room for so many.
-fn has_room(c: Cell, room: usize, at: usize) -> bool
+fn has_room(
+    c: Cell,
+    n: usize,
+    marks: &mut [u16],
+    halves: &mut [u8],
+    points: &mut [u32],
+    room: usize,
+    at: usize,
+) -> bool
+    requires { ⌜ Room c n (now marks) (now halves) (now points) ⌝ }
     ensures { λ r. ⌜ r ≡ leb (at + wordCount * length (cellTriangles c)) room ⌝ }
+    ensures { λ _. ⌜ Used n (now (marks .entry)) (now (halves .entry)) (now (points .entry)) (now (marks .exit)) (now (halves .exit)) (now (points .exit)) ⌝ }
 {
     if room < at {
         return false;
     }
-    if WORD_COUNT * crossings_of(c) <= room - at {
+    if WORD_COUNT * n <= room - at {
         return true;
     }
-    WORD_COUNT * triangle_count(c) <= room - at
+    WORD_COUNT * count_in(c, n, marks, halves, points) <= room - at
 }
 
 // Writes the words of the cell's triangles from index `at` on and answers the next index. Where they have no room there, it writes nothing and
-// answers `at`. About 344 KB of stack.
+// answers `at`.
+pub(crate) fn put_in(
+    c: Cell,
+    n: usize,
+    marks: &mut [u16],
+    halves: &mut [u8],
+    points: &mut [u32],
+    area: &mut [u32],
+    at: usize,
+) -> usize
+    requires { ⌜ Room c n (now marks) (now halves) (now points) ⌝ }
+    ensures { λ r. ⌜ (r ≡ nextAt c (now (area .entry)) at) × (now (area .exit) ≡ areaThen c (now (area .entry)) at) ⌝ }
+    ensures { λ _. ⌜ Used n (now (marks .entry)) (now (halves .entry)) (now (points .entry)) (now (marks .exit)) (now (halves .exit)) (now (points .exit)) ⌝ }
+{
+    if has_room(c, n, marks, halves, points, area.len(), at) {
+        return write_in(c, n, marks, halves, points, area, at);
+    }
+    at
+}
+
+// The same, with arrays of its own. About 172 KB of stack.
 pub fn write_cell(c: Cell, area: &mut [u32], at: usize) -> usize
     ensures { λ r. ⌜ (r ≡ nextAt c (now (area .entry)) at) × (now (area .exit) ≡ areaThen c (now (area .entry)) at) ⌝ }
 {
     let mut marks = [0u16; MOST_IN_CELL];
     let mut halves = [0u8; MOST_IN_CELL];
     let mut points = [0u32; MOST_IN_CELL];
-    if has_room(c, area.len(), at) {
-        let n = crossings_of(c);
-        return write_in(c, n, &mut marks, &mut halves, &mut points, area, at);
-    }
-    at
+    let n = crossings_of(c);
+    put_in(c, n, &mut marks, &mut halves, &mut points, area, at)
 }

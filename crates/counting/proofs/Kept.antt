@@ -7,10 +7,12 @@ use mathlib.Core.List.{[], _∷_, _++_}
 use native.Mathlib.Nat.{not-suc-le-zero, eq-or-lt-of-le}
 use native.Mathlib.Omega.{arith}
 use lib.ListN.{length, getD}
-use Rattle.counting.specs.Pick.{pick}
+use Rattle.counting.specs.Pick.{pick, one}
 use Rattle.counting.specs.Range.{total, over, kept}
+use Rattle.counting.specs.Lists.{tally}
 use Rattle.counting.proofs.Bools.{clash}
-use Rattle.counting.proofs.Range.{total-shift}
+use Rattle.counting.proofs.Lists.{tally-over}
+use Rattle.counting.proofs.Range.{total-ext, total-shift}
 
 module _ (t : ℕ → Bool) where
   -- q is one of the n numbers from p on, and passes
@@ -86,3 +88,14 @@ module _ (t : ℕ → Bool) where
             let z : passing p ≡ g p = ap (λ b. pick b (g p) 0) e in
             let k : j < length (kept t n (suc p)) = omega arith in
             omega (arith, ih j k, front (getD (kept t n (suc p)) j 0) (kept-is n (suc p) j k .low), total-shift (λ i. g (getD (p ∷ kept t n (suc p)) i 0)) j 0)
+
+-- how many of them pass another test
+pub tally-kept : (s t : ℕ → Bool) (n p : ℕ) → tally t (kept s n p) ≡ total (λ q. pick (s q) (one (t q)) 0) n p
+unfolding kept tally
+tally-kept s t n p =
+    tally-over t (λ q. pick (s q) (q ∷ []) []) n p
+    ∙ total-ext (λ q. tally t (pick (s q) (q ∷ []) [])) (λ q. pick (s q) (one (t q)) 0) n p (λ q _ _. go q (s q))
+  where
+    go : (q : ℕ) (b : Bool) → tally t (pick b (q ∷ []) []) ≡ pick b (one (t q)) 0
+    go q true = omega arith
+    go q false = refl

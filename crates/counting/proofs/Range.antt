@@ -4,7 +4,7 @@ use mathlib.Core.Path.{_≡_, refl, sym, ap, ap₂, _∙_}
 use mathlib.Core.Logic.{_⊎_, inl, inr, _≢_, ⊎-elim}
 use mathlib.Core.Bool.{Bool, true, false}
 use mathlib.Core.List.{List, _++_, append-assoc, append-nil}
-use native.Mathlib.Nat.{not-suc-le-zero, zero-add, add-zero, eq-or-lt-of-le, eq-zero-or-pos}
+use native.Mathlib.Nat.{not-suc-le-zero, zero-add, add-zero, mul-zero, mul-add, zero-mul, suc-mul, eq-or-lt-of-le, eq-zero-or-pos}
 use native.Mathlib.Numerals.{add-one}
 use native.Mathlib.Omega.{arith}
 use lib.Dec.{eqb}
@@ -35,6 +35,17 @@ pub total-zero : (g : ℕ → ℕ) (n p : ℕ) → ((q : ℕ) → p ≤ q → q 
 unfolding total
 total-zero g zero p h = refl
 total-zero g (suc n) p h = rw (h p (omega arith) (omega arith), total-zero g n (suc p) (λ q a b. h q (omega arith) (omega arith)))
+
+-- sums of one value, and of a multiple
+pub total-same : (g : ℕ → ℕ) (c n p : ℕ) → ((q : ℕ) → p ≤ q → q < p + n → g q ≡ c) → total g n p ≡ n * c
+unfolding total
+total-same g c zero p h = sym (zero-mul c)
+total-same g c (suc n) p h = omega (arith, h p (omega arith) (omega arith), total-same g c n (suc p) (λ q a b. h q (omega arith) (omega arith)), suc-mul n c)
+
+pub total-times : (k : ℕ) (f : ℕ → ℕ) (n p : ℕ) → total (λ q. k * f q) n p ≡ k * total f n p
+unfolding total
+total-times k f zero p = sym (mul-zero k)
+total-times k f (suc n) p = ap (λ m. k * f p + m) (total-times k f n (suc p)) ∙ sym (mul-add k (f p) (total f n (suc p)))
 
 -- a value at one place only
 pub total-single : (g : ℕ → ℕ) (n p a : ℕ) → p ≤ a → a < p + n → ((q : ℕ) → p ≤ q → q < p + n → q ≢ a → g q ≡ 0) → total g n p ≡ g a

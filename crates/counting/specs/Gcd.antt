@@ -1,4 +1,4 @@
--- Only proofs cite this file. The greatest common divisor.
+-- The greatest common divisor.
 use Prim.Native.Nat.{ℕ, suc, _+_, _-_, _%_}
 use mathlib.Core.Bool.{Bool, _&&_}
 use lib.Dec.{eqb}

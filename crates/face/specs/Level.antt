@@ -1,13 +1,19 @@
--- Only proofs cite this file. Rule 1 (01) alone: a face with an even sum of counts and none above the other two, and such a face with corner
--- segments taken off. Stated for cells whose four faces are such (02, W9 and W12).
+-- Rule 1 (01) alone: a face with an even sum of counts and none above the other two; only proofs cite what follows its test, also of such a face
+-- with corner segments taken off. Stated for cells whose four faces are such (02, W9 and W12).
 use Prim.Native.Nat.{ℕ, _+_, _-_, _%_, _<_, _≤_}
 use mathlib.Core.Path.{_≡_}
 use mathlib.Core.Logic.{_≢_}
+use mathlib.Core.Bool.{Bool, _&&_}
+use lib.Dec.{eqb, leb}
 use Rattle.face.specs.Face.{lower, upper, other, countOn, kth, cornerCountAt}
 use Rattle.face.specs.Ends.{Edge, End}
 use Rattle.face.specs.Rim.{Segment}
 
--- three counts, in any order
+-- three counts, in any order: an even sum, and none above the other two
+unfoldable pub isLevel : ℕ → ℕ → ℕ → Bool
+isLevel p q o = eqb ((p + q + o) % 2) 0 && (leb p (q + o) && (leb q (p + o) && leb o (p + q)))
+
+-- the same as facts
 pub record Level (p q o : ℕ) : Type 0 where
   pub even : (p + q + o) % 2 ≡ 0
   pub first : p ≤ q + o

@@ -35,7 +35,7 @@ fn draw(
 ) -> Meshed
     ensures { λ r. ⌜ Drawn (now (cells .entry)) (now (counts .entry)) (now (names .entry)) (now (sides .entry)) (now (starts .entry)) (now (area .entry)) (now (area .exit)) (meshNumbers r) ⌝ }
 {
-    let t = cell::draw(cells, counts, names, sides, starts, area);
+    let t = booking::draw(cells, counts, names, sides, starts, area);
     if area.len() < WORD_COUNT * t {
         return Meshed::Refused(12, t);
     }

@@ -1,7 +1,8 @@
 //! The numbers that a call has to answer, by the second implementation.
 
+use reference::booking;
 use reference::bundle::{self, Sizes};
-use reference::cell::LoopType;
+use reference::cell::{CellWalker, LoopType};
 use reference::face::{self, Join};
 use reference::gen::Sample;
 use reference::grid;
@@ -28,6 +29,23 @@ pub fn face(counts: [u16; 3], edge: u32, index: u32) -> Vec<u64> {
         Join::Unjoined => vec![1],
         Join::NoCrossing => vec![2],
     }
+}
+
+/// 0, the corner triangles, the two numbers left and the triangles; 0 alone for
+/// a cell that is to be walked.
+pub fn book(walker: &mut CellWalker, counts: [u16; 6]) -> Vec<u64> {
+    let values = match booking::book(walker, counts) {
+        Some(booked) => {
+            let [larger, smaller] = booked.left;
+            vec![booked.corner_triangles, larger, smaller, booked.triangles]
+        }
+        None => vec![],
+    };
+    [vec![0], values]
+        .concat()
+        .into_iter()
+        .map(u64::from)
+        .collect()
 }
 
 /// 0 and the number of crossings, or a refusal.

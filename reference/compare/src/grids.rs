@@ -74,9 +74,9 @@ fn large_shape(rng: &mut Rng) -> Sample {
 }
 
 /// Counts of a random kind: few, some, any of a byte, even on each face, 0 on the
-/// outer edges, or, less often, large ones.
+/// outer edges, those of level sets, or, less often, large ones.
 pub fn with_random_counts(rng: &mut Rng, shape: Sample) -> Sample {
-    match rng.below(25) {
+    match rng.below(28) {
         0..=3 => shape.with_counts(rng, 0, 3),
         4..=7 => shape.with_counts(rng, 0, 12),
         8..=11 => shape.with_counts(rng, 0, 255),
@@ -86,6 +86,7 @@ pub fn with_random_counts(rng: &mut Rng, shape: Sample) -> Sample {
             let pairs = if shape.counts.len() < 100 { 100 } else { 10 };
             shape.with_closed_counts(rng, pairs)
         }
+        24..=26 => shape.with_level_sets(rng, 6, 2),
         _ => with_large_counts(rng, shape),
     }
 }

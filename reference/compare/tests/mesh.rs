@@ -8,6 +8,7 @@ use compare::grids::{
 };
 use compare::lent::{after, answers, answers_in_all, Lent, ANSWER_WORDS};
 use compare::{calls, expected, seed, setting};
+use reference::booking::is_booked;
 use reference::cell::{NO_NUMBER, TRIANGLE_WORDS};
 use reference::gen::{broken, separate, sphere, Rng, Sample};
 use reference::grid::ROWS;
@@ -39,6 +40,7 @@ struct Tally {
     count_of_255: u64,
     over_255: u64,
     count_of_4095: u64,
+    all_booked: u64,
     closed: u64,
     inspected: u64,
     refused: Numbers,
@@ -57,15 +59,17 @@ impl Tally {
         self.count_of_255 += u64::from(grid.counts.contains(&255));
         self.over_255 += u64::from(grid.counts.iter().any(|&count| count > 255));
         self.count_of_4095 += u64::from(grid.counts.contains(&4_095));
+        let booked = grid.counts_in_cells().into_iter().all(is_booked);
+        self.all_booked += u64::from(cells > 1 && triangles > 0 && booked);
     }
 
     fn report(&self, what: &str) {
         println!(
             "mesh, {what}: {} grids, of these {} accepted ({} of 100 cells or more, {} of over \
              1,500, {} with over 60,000 crossings, {} with a count of 255, {} with one over 255, \
-             {} with one of 4,095), {} that must close and have triangles; {} triangles; sides and \
-             rings counted in {} meshes; {} areas too short, {} with room for any mesh; refused by \
-             rows 1 to 6, 18, 7 to 10: {:?}",
+             {} with one of 4,095, {} of several cells, all of which are booked), {} that must \
+             close and have triangles; {} triangles; sides and rings counted in {} meshes; {} areas \
+             too short, {} with room for any mesh; refused by rows 1 to 6, 18, 7 to 10: {:?}",
             self.grids,
             self.refused[0],
             self.hundred_cells,
@@ -74,6 +78,7 @@ impl Tally {
             self.count_of_255,
             self.over_255,
             self.count_of_4095,
+            self.all_booked,
             self.closed,
             self.triangles,
             self.inspected,
@@ -395,6 +400,7 @@ fn random_grids() {
         assert!(tally.count_of_255 >= 100);
         assert!(tally.over_255 >= 100);
         assert!(tally.count_of_4095 >= 20);
+        assert!(tally.all_booked >= 500);
         assert!(every_row(&tally.refused));
     }
 }
@@ -406,15 +412,21 @@ fn stack_of_640_kilobytes() {
     let call = move || {
         let mut area = vec![0; 11 * 65_535];
         let mut answer = [1; ANSWER_WORDS];
-        calls::mesh(
-            &grid.cells,
-            &grid.edges,
-            &grid.counts,
-            &mut area,
-            &mut answer,
-        );
-        answer[0]
+        // room for any mesh, and for none, where the cells are counted
+        [area.len(), 0].map(|len| {
+            calls::mesh(
+                &grid.cells,
+                &grid.edges,
+                &grid.counts,
+                &mut area[..len],
+                &mut answer,
+            );
+            answer[0]
+        })
     };
     let thread = thread::Builder::new().stack_size(640 * 1024).spawn(call);
-    assert_eq!(thread.expect("a thread").join().expect("an answer"), 0);
+    assert_eq!(
+        thread.expect("a thread").join().expect("an answer"),
+        [0, 12]
+    );
 }

@@ -1,17 +1,18 @@
-//! Times the proved mesh call, grid check, shading call, nearest call and bundle
-//! reader and the second implementation's in one run. All work on the same input in
-//! turn; the order of a round alternates.
+//! Times the proved mesh call, grid check, shading call, nearest call, bundle reader
+//! and booking and the second implementation's in one run. All work on the same
+//! input in turn; the order of a round alternates.
 
 use std::env;
 use std::iter;
 use std::time::{Duration, Instant};
 
 use compare::bundles::{written, END};
-use compare::grids::{dealt, twisted};
+use compare::grids::{dealt, twisted, winding_cell};
 use compare::lent::ANSWER_WORDS;
 use compare::{calls, expected};
+use reference::booking::book;
 use reference::bundle;
-use reference::cell::TRIANGLE_WORDS;
+use reference::cell::{CellWalker, TRIANGLE_WORDS};
 use reference::gen::{box_of_six, closed_fan, cone, row_of, separate, Rng, Sample};
 use reference::grid::{self, GridTables, Lists, MAX_CELLS};
 use reference::mesh::{self, Mesher};
@@ -218,6 +219,33 @@ fn looks_times(lists: &Sample, bundles: &[Vec<u8>; 2], patience: Duration) -> [T
     })
 }
 
+/// Times of the bookings of these cells, one after the other. The second
+/// implementation walks each.
+fn book_times(cells: &[[u16; 6]], patience: Duration) -> [Times; WAYS] {
+    let mut walker = CellWalker::default();
+    let mut triangles = |counts| book(&mut walker, counts).map_or(0, |booked| booked.triangles);
+    let needed: u64 = cells
+        .iter()
+        .map(|&counts| u64::from(triangles(counts)))
+        .sum();
+    let mut walker = CellWalker::default();
+    let mut answer = [0; ANSWER_WORDS];
+    times(patience, |way| {
+        let triangles = |&counts: &[u16; 6]| match way {
+            0 => match calls::book(counts, &mut answer) {
+                5 => answer[4],
+                _ => 0,
+            },
+            1 => book(&mut walker, counts).map_or(0, |booked| u64::from(booked.triangles)),
+            _ => {
+                let booked = book(&mut CellWalker::default(), counts);
+                booked.map_or(0, |booked| u64::from(booked.triangles))
+            }
+        };
+        assert_eq!(cells.iter().map(triangles).sum::<u64>(), needed);
+    })
+}
+
 fn size(grid: &Sample) -> String {
     let crossings: u32 = grid.counts.iter().map(|&count| u32::from(count)).sum();
     let cells = grid.cells.len() / 4;
@@ -289,19 +317,44 @@ impl Bench {
     }
 
     fn check(&self, name: &str, grid: &Sample) {
-        if name.starts_with(&self.only) {
-            print_times(name, grid, check_times(grid, self.patience));
-        }
+        self.short(name, &size(grid), |patience| check_times(grid, patience));
     }
 
     /// The call, and the check that it starts with.
     fn shading(&self, name: &str, grid: &Sample) {
         let name = format!("8 shading, {name}");
-        if name.starts_with(&self.only) {
-            print_times(&name, grid, shading_times(grid, self.patience));
-            let check = check_times(grid, self.patience);
-            print_times("  its check", grid, check);
+        self.short(&name, &size(grid), |patience| shading_times(grid, patience));
+        self.check(&format!("{name}, its check"), grid);
+    }
+
+    fn book(&self, name: &str, cells: &[[u16; 6]]) {
+        let many = format!("{} cells", cells.len());
+        self.short(name, &many, |patience| book_times(cells, patience));
+    }
+
+    /// Times of calls with short answers.
+    fn short(&self, name: &str, size: &str, measure: impl Fn(Duration) -> [Times; WAYS]) {
+        if !name.starts_with(&self.only) {
+            return;
         }
+        let [proved, kept, new] = measure(self.patience);
+        println!(
+            "{name}: {size}\n\
+         \x20 best:   proved {:8.1} us; reference {:8.1} us, ratio {:.2}; with new memory \
+         {:8.1} us, ratio {:.2}\n\
+         \x20 median: proved {:8.1} us; reference {:8.1} us, ratio {:.2}; with new memory \
+         {:8.1} us, ratio {:.2}",
+            proved.best,
+            kept.best,
+            proved.best / kept.best,
+            new.best,
+            proved.best / new.best,
+            proved.median,
+            kept.median,
+            proved.median / kept.median,
+            new.median,
+            proved.median / new.median,
+        );
     }
 
     fn nearest(&self, name: &str, points: &[f64]) {
@@ -322,27 +375,6 @@ impl Bench {
             proved.median / reference.median,
         );
     }
-}
-
-fn print_times(name: &str, grid: &Sample, [proved, kept, new]: [Times; WAYS]) {
-    println!(
-        "{name}: {}\n\
-         \x20 best:   proved {:8.1} us; reference {:8.1} us, ratio {:.2}; with new memory \
-         {:8.1} us, ratio {:.2}\n\
-         \x20 median: proved {:8.1} us; reference {:8.1} us, ratio {:.2}; with new memory \
-         {:8.1} us, ratio {:.2}",
-        size(grid),
-        proved.best,
-        kept.best,
-        proved.best / kept.best,
-        new.best,
-        proved.best / new.best,
-        proved.median,
-        kept.median,
-        proved.median / kept.median,
-        new.median,
-        proved.median / new.median,
-    );
 }
 
 /// A box of this many cells.
@@ -383,6 +415,25 @@ fn thousands(bench: &Bench) {
         bench.mesh(&format!("6 mesh, {name}"), &grid);
         bench.check(&format!("6 check, {name}"), &grid);
     }
+}
+
+/// Closed grids of about 1,800 cells, all of which can be booked; and bookings of
+/// single cells.
+fn bookings(bench: &Bench) {
+    let mut rng = Rng::new(5);
+    let shape = box_of_six([6, 5, 10]);
+    let few = shape.clone().with_level_sets(&mut rng, 3, 0);
+    bench.mesh("10 mesh, box, closed, level sets, counts 0..3", &few);
+    let many = shape.with_level_sets(&mut rng, 12, 4);
+    bench.mesh("10 mesh, box, closed, level sets, counts 0..20", &many);
+    for (text, grid) in [("0..3", few), ("0..20", many)] {
+        let name = format!("10 book, cells of that grid, counts {text}");
+        bench.book(&name, &grid.counts_in_cells());
+    }
+    let winding: Vec<[u16; 6]> = (0..20)
+        .map(|_| winding_cell(&mut rng).counts_in_cells()[0])
+        .collect();
+    bench.book("10 book, cells with long loops, counts to 4,000", &winding);
 }
 
 /// As many cells as a grid may have, in several shapes.
@@ -478,4 +529,5 @@ fn main() {
     lists(&bench);
     shadings(&bench);
     bundles(&bench);
+    bookings(&bench);
 }

@@ -1,0 +1,21 @@
+-- The examples, by computation.
+use mathlib.Core.Path.{refl}
+use Rattle.counting.specs.Range.{total}
+use Rattle.counting.specs.Search.{seek, first, last, every}
+use Rattle.counting.specs.Gcd.{divides, gcd}
+use Rattle.slots.specs.Slots as slots
+use Rattle.face.specs.Face as face
+use Rattle.face.specs.Level.{isLevel}
+use Rattle.cell.specs.Nodes.{joining, cornerFrom}
+use Rattle.cell.specs.Level.{isLevelCell}
+use Rattle.booking.specs.Booking.{median, beside, cornerOn, leastCorner, cornerTriangles, leftBetween, larger, smaller, otherLength, booked}
+use Rattle.booking.specs.Answer.{bookingAnswer}
+use Rattle.booking.specs.Examples.{ExamplesHold, of, examples}
+
+pub examples-hold : ExamplesHold
+unfolding total seek first last every divides gcd
+    slots.lo slots.hi slots.position slots.lower slots.upper slots.edgeBetween slots.slotEdge
+    face.halfAbove face.cornerCount isLevel joining cornerFrom isLevelCell
+    median beside cornerOn leastCorner cornerTriangles leftBetween larger smaller otherLength booked
+    bookingAnswer of examples
+examples-hold = refl

@@ -1,0 +1,14 @@
+pub mod Counts
+pub mod Numbers
+pub mod Closed
+pub mod Darts
+pub mod Rounds
+pub mod Spiral
+pub mod Lengths
+pub mod Corners
+pub mod Count
+pub mod Triangles
+pub mod Sums
+pub mod Totals
+pub mod Claims
+pub mod Examples

@@ -1,0 +1,140 @@
+-- The triangles of the cells of a grid's tables: what is booked and what is walked together are all of them, and there are no more than crossings.
+use Prim.Native.Nat.{ℕ, _+_, _*_, _≤_}
+use mathlib.Core.Path.{_≡_, refl, sym, ap, _∙_}
+use mathlib.Core.Logic.{_⊎_, ⊎-elim}
+use mathlib.Core.Bool.{Bool, true, false}
+use mathlib.Core.List.{List, [], _∷_}
+use native.Mathlib.Nat.{eq-zero-or-pos}
+use native.Mathlib.Omega.{arith}
+use lib.ListN.{length}
+use borrow.Author.Tests.{eq-eqb, ne-eqb}
+use Rattle.counting.specs.Pick.{pick}
+use Rattle.counting.specs.Range.{total}
+use Rattle.counting.specs.Pack.{pre}
+use Rattle.counting.proofs.Range.{total-ext, total-add, total-mono, length-over}
+use Rattle.cell.specs.declared.Cell.{Cell}
+use Rattle.cell.specs.Cell.{crossings}
+use Rattle.cell.specs.Limits.{mostInCell}
+use Rattle.cell.specs.Triangles.{cellTriangles}
+use Rattle.cell.specs.Level.{byEdge, isLevelCell}
+use Rattle.cell.specs.Table.{tableCell, takenCounts, tableCrossings, drawnCells, tableTriangles, walkedAt}
+use Rattle.cell.proofs.Taken.{cell-few}
+use Rattle.cell.proofs.Using.{table-most}
+use Rattle.cell.proofs.Values.{taken-is, taken-crossings}
+use Rattle.answer.specs.Answer.{result}
+use Rattle.booking.specs.declared.Booking.{Booking}
+use Rattle.booking.specs.declared.Booking.the-variants.{Booked, WalkIt}
+use Rattle.booking.specs.Booking.{cornerTriangles, larger, smaller, beside, booked}
+use Rattle.booking.specs.Answer.{bookingNumbers, bookingAnswer}
+use Rattle.booking.specs.Totals.{bookedTriangles, walkedCrossings, bookedAt, crossingsAt}
+use Rattle.booking.proofs.Counts.{plain}
+use Rattle.booking.proofs.Count.{crossings-are}
+use Rattle.booking.proofs.Triangles.{triangles-booked}
+
+-- no more is booked than there are crossings
+pub beside-few : (x y : ℕ) → beside x y ≤ 4 * (x + y)
+unfolding beside
+beside-few x y = ⊎-elim (λ (e : y ≡ 0). rw (eq-eqb y 0 e) (omega arith)) (λ h. rw (ne-eqb y 0 (omega arith)) (omega arith)) (eq-zero-or-pos y)
+
+pub booked-few : (w : ℕ → ℕ) → isLevelCell w ≡ true → booked w ≤ pre w 6
+unfolding booked
+booked-few w K = omega (arith, crossings-are (plain w) K, beside-few (larger w) (smaller w))
+
+-- what is summed by a booking's answer
+module _ (w : ℕ → ℕ) where
+  abbrev Told : Bool → List ℕ
+  Told b = pick b (result (cornerTriangles w ∷ larger w ∷ smaller w ∷ booked w ∷ [])) (result [])
+
+  pub triangles-told : (j : Booking) → bookingNumbers j ≡ bookingAnswer w → bookedTriangles j ≡ pick (isLevelCell w) (booked w) 0
+  unfolding bookingAnswer
+  triangles-told (Booked t x y n) e = go (isLevelCell w) e
+    where
+      go : (b : Bool) → bookingNumbers (Booked t x y n) ≡ Told b → n ≡ pick b (booked w) 0
+      go true e = cc
+      go false e = let z : _≡_ {A = ℕ} 0 1 = cc in absurd (omega arith)
+  triangles-told WalkIt e = go (isLevelCell w) e
+    where
+      go : (b : Bool) → bookingNumbers WalkIt ≡ Told b → 0 ≡ pick b (booked w) 0
+      go true e = let z : _≡_ {A = ℕ} 0 1 = cc in absurd (omega arith)
+      go false e = refl
+
+  pub crossings-told : (j : Booking) → bookingNumbers j ≡ bookingAnswer w → walkedCrossings j w ≡ pick (isLevelCell w) 0 (pre w 6)
+  unfolding bookingAnswer
+  crossings-told (Booked t x y n) e = go (isLevelCell w) e
+    where
+      go : (b : Bool) → bookingNumbers (Booked t x y n) ≡ Told b → 0 ≡ pick b 0 (pre w 6)
+      go true e = refl
+      go false e = let z : _≡_ {A = ℕ} 0 1 = cc in absurd (omega arith)
+  crossings-told WalkIt e = go (isLevelCell w) e
+    where
+      go : (b : Bool) → bookingNumbers WalkIt ≡ Told b → pre w 6 ≡ pick b 0 (pre w 6)
+      go true e = let z : _≡_ {A = ℕ} 0 1 = cc in absurd (omega arith)
+      go false e = refl
+
+-- a cell of the tables
+module _ (counts sides : List ℕ) (c : ℕ) where
+  abbrev pub taken : ℕ → ℕ
+  taken = byEdge (takenCounts counts sides c)
+
+  pub booked-most : bookedAt counts sides c ≤ mostInCell
+  unfolding bookedAt
+  booked-most = go (isLevelCell taken) refl
+    where
+      go : (b : Bool) → isLevelCell taken ≡ b → pick b (booked taken) 0 ≤ mostInCell
+      go true k = omega (arith, booked-few taken k, taken-crossings counts sides c, table-most counts sides c)
+      go false k = omega arith
+
+  pub crossings-most : crossingsAt counts sides c ≤ mostInCell
+  unfolding crossingsAt
+  crossings-most = go (isLevelCell taken)
+    where
+      go : (b : Bool) → pick b 0 (tableCrossings counts sides c) ≤ mostInCell
+      go true = omega arith
+      go false = table-most counts sides c
+
+module _ (cells counts names sides starts : List ℕ) where
+  abbrev at : ℕ → Cell
+  at c = tableCell cells counts names sides starts c
+
+  abbrev walked : ℕ → ℕ
+  walked = walkedAt cells counts names sides starts
+
+  -- its triangles are those walked and those booked, and there are no more than crossings
+  both : (c : ℕ) → length (cellTriangles (at c)) ≡ bookedAt counts sides c + walked c
+  unfolding walkedAt bookedAt
+  both c = go (isLevelCell (taken counts sides c)) refl
+    where
+      right : isLevelCell (taken counts sides c) ≡ true → length (cellTriangles (at c)) ≡ booked (taken counts sides c)
+      right K = let e = taken-is cells counts names sides starts c in triangles-booked (at c) (sym (ap isLevelCell e) ∙ K) ∙ sym (ap booked e)
+
+      go : (b : Bool) → isLevelCell (taken counts sides c) ≡ b → length (cellTriangles (at c)) ≡ pick b (booked (taken counts sides c)) 0 + pick b 0 (length (cellTriangles (at c)))
+      go true k = right k ∙ omega arith
+      go false k = omega arith
+
+  few : (c : ℕ) → length (cellTriangles (at c)) ≤ tableCrossings counts sides c
+  few c = omega (arith, cell-few (at c), ap (λ w. pre w 6) (taken-is cells counts names sides starts c), taken-crossings counts sides c)
+
+  walked-few : (c : ℕ) → walked c ≤ crossingsAt counts sides c
+  unfolding walkedAt crossingsAt
+  walked-few c = go (isLevelCell (taken counts sides c))
+    where
+      go : (b : Bool) → pick b 0 (length (cellTriangles (at c))) ≤ pick b 0 (tableCrossings counts sides c)
+      go true = omega arith
+      go false = few c
+
+  -- all cells
+  pub all-counted : length (tableTriangles cells counts names sides starts) ≡ total (bookedAt counts sides) (drawnCells cells) 0 + total walked (drawnCells cells) 0
+  unfolding tableTriangles
+  all-counted =
+      length-over (λ c. cellTriangles (at c)) (drawnCells cells) 0
+      ∙ total-ext (λ c. length (cellTriangles (at c))) (λ c. bookedAt counts sides c + walked c) (drawnCells cells) 0 (λ c a b. both c)
+      ∙ total-add (bookedAt counts sides) walked (drawnCells cells) 0
+
+  pub others-few : total walked (drawnCells cells) 0 ≤ total (crossingsAt counts sides) (drawnCells cells) 0
+  others-few = total-mono walked (crossingsAt counts sides) (drawnCells cells) 0 (λ c a b. walked-few c)
+
+  pub all-few : length (tableTriangles cells counts names sides starts) ≤ total (tableCrossings counts sides) (drawnCells cells) 0
+  unfolding tableTriangles
+  all-few =
+      rw (length-over (λ c. cellTriangles (at c)) (drawnCells cells) 0)
+      (total-mono (λ c. length (cellTriangles (at c))) (tableCrossings counts sides) (drawnCells cells) 0 (λ c a b. few c))

@@ -1,0 +1,41 @@
+-- Only contracts of parts cite this file. What is summed over the cells of a grid's tables: the triangles of the cells that are booked, and the crossings of
+-- the others.
+use Prim.Native.Nat.{ℕ, _≤_}
+use mathlib.Core.Path.{_≡_}
+use mathlib.Core.List.{List}
+use Rattle.counting.specs.Pick.{pick}
+use Rattle.counting.specs.Range.{total}
+use Rattle.counting.specs.Pack.{pre}
+use Rattle.cell.specs.Level.{byEdge, isLevelCell}
+use Rattle.cell.specs.Table.{takenCounts, tableCrossings, mostTriangles}
+use Rattle.booking.specs.declared.Booking.{Booking}
+use Rattle.booking.specs.declared.Booking.the-variants.{Booked, WalkIt}
+use Rattle.booking.specs.Booking.{booked}
+
+-- the most that six counts of 16 bits add up to
+abbrev pub mostCounts : ℕ
+mostCounts = 393210
+
+-- of a booking
+abbrev pub bookedTriangles : Booking → ℕ
+bookedTriangles (Booked t x y n) = n
+bookedTriangles WalkIt = 0
+
+abbrev pub walkedCrossings : Booking → (ℕ → ℕ) → ℕ
+walkedCrossings (Booked t x y n) w = 0
+walkedCrossings WalkIt w = pre w 6
+
+-- of cell c of the tables
+module _ (counts sides : List ℕ) where
+  unfoldable pub bookedAt : ℕ → ℕ
+  bookedAt c = pick (isLevelCell (byEdge (takenCounts counts sides c))) (booked (byEdge (takenCounts counts sides c))) 0
+
+  unfoldable pub crossingsAt : ℕ → ℕ
+  crossingsAt c = pick (isLevelCell (byEdge (takenCounts counts sides c))) 0 (tableCrossings counts sides c)
+
+  -- of n cells
+  pub record AreTotals (n triangles crossings : ℕ) : Type 0 where
+    pub triangles-are : triangles ≡ total bookedAt n 0
+    pub crossings-are : crossings ≡ total crossingsAt n 0
+    pub few-triangles : triangles ≤ mostTriangles
+    pub few-crossings : crossings ≤ mostTriangles
