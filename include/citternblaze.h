@@ -60,6 +60,14 @@
 #define CITTERNBLAZE_UNJOINED 1
 #define CITTERNBLAZE_NO_CROSSING 2
 
+/* How a crossing is joined: round a corner, or along its edge. */
+#define CITTERNBLAZE_ROUND 0
+#define CITTERNBLAZE_ALONG 1
+
+/* Why a crossing is unjoined: rule 2 left it, or rule 3 skipped it. */
+#define CITTERNBLAZE_LEFT 0
+#define CITTERNBLAZE_SKIPPED 1
+
 /* The bytes of a shading, one for each node that there may be, and the byte of a
  * node that no cell has. */
 #define CITTERNBLAZE_SHADING_BYTES 4096
@@ -129,9 +137,13 @@ extern "C" {
  * Reads the counts of the edges ab, ac, bc, which may be any of 16 bits; an edge,
  * 0 ab, 1 ac, 2 bc; and an index on it, counted from its lower node.
  *
- * Answers 0 and the partner's edge and index; or 1, where the crossing is
- * unjoined; or 2, where there is no such crossing: the edge is over 2, or the
- * index not below its count. */
+ * Answers 0, the partner's edge and index, and how the two are joined: 0 and the
+ * corner that the segment goes round, 0 a, 1 b, 2 c; or 1, along their edge. Or 1,
+ * where the crossing is unjoined, and why: 0, where the face's sum is odd and no
+ * count above the other two, so that each edge leaves one; or 1, where the edge's
+ * count is above the other two and the crossings between its corners are odd in
+ * number, so that the first is skipped. Or 2, where there is no such crossing: the
+ * edge is over 2, or the index not below its count. */
 size_t citternblaze_face(uint16_t ab, uint16_t ac, uint16_t bc,
                          uint32_t edge, uint32_t index,
                          uint64_t *answer, size_t answer_len);

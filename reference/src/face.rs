@@ -3,13 +3,31 @@
 //! A face has corners a < b < c (numbered 0, 1, 2) and edges ab, ac, bc
 //! (numbered 0, 1, 2).
 
+/// How a segment of a face runs.
+#[derive(Clone, Copy, Debug, PartialEq, Eq)]
+pub enum How {
+    /// It cuts off this corner (0 for a, 1 for b, 2 for c).
+    Round(u32),
+    /// Both its ends are on one edge.
+    Along,
+}
+
+/// Why no segment ends at a crossing.
+#[derive(Clone, Copy, Debug, PartialEq, Eq)]
+pub enum Why {
+    /// Rule 2 takes 1 off each count and leaves this crossing of its edge.
+    Left,
+    /// Rule 3 skips the first of an odd number of residuals.
+    Skipped,
+}
+
 /// What becomes of one crossing on a face.
 #[derive(Clone, Copy, Debug, PartialEq, Eq)]
 pub enum Join {
     /// A segment leads to this crossing.
-    Joined { edge: u32, index: u32 },
+    Joined { edge: u32, index: u32, how: How },
     /// The crossing is there, but no segment of the face ends at it.
-    Unjoined,
+    Unjoined(Why),
     /// The face has no such edge, or the edge no such crossing.
     NoCrossing,
 }
@@ -50,8 +68,7 @@ pub fn join(counts: [u32; 3], edge: u32, index: u32) -> Join {
     } else if from_high < cuts[high] {
         across_corner(counts, high, edge, from_high)
     } else {
-        let gap = counts[edge] - cuts[low] - cuts[high];
-        along_edge(edge, cuts[low] + gap % 2, index)
+        between_corners(counts, cuts, edge, index)
     }
 }
 
@@ -67,17 +84,27 @@ fn across_corner(counts: [u32; 3], corner: usize, edge: usize, rank: u32) -> Joi
     Join::Joined {
         edge: other as u32,
         index,
+        how: How::Round(corner as u32),
     }
 }
 
-/// Partner of a crossing between the corner cuts; pairs start at `first_pair`
-/// and the crossing before that, if it is between the cuts, is left alone.
-fn along_edge(edge: usize, first_pair: u32, index: u32) -> Join {
+/// A crossing between the corner cuts. Rule 3, where its edge has more
+/// crossings than the other two: residuals pair up, an odd one out is the
+/// first. Rule 2 otherwise.
+fn between_corners(counts: [u32; 3], cuts: [u32; 3], edge: usize, index: u32) -> Join {
+    let all: u64 = counts.iter().map(|&count| u64::from(count)).sum();
+    if 2 * u64::from(counts[edge]) <= all {
+        return Join::Unjoined(Why::Left);
+    }
+    let [low, high] = INCIDENT[edge];
+    let residuals = counts[edge] - cuts[low] - cuts[high];
+    let first_pair = cuts[low] + residuals % 2;
     if index < first_pair {
-        return Join::Unjoined;
+        return Join::Unjoined(Why::Skipped);
     }
     Join::Joined {
         edge: edge as u32,
         index: first_pair + ((index - first_pair) ^ 1),
+        how: How::Along,
     }
 }

@@ -208,6 +208,7 @@ impl Faces {
                 if let Join::Joined {
                     edge: other,
                     index: there,
+                    ..
                 } = join(counts, edge, index)
                 {
                     let partner = data[other as usize].1 + there;
@@ -245,8 +246,8 @@ pub fn alternates(counts: [u32; 3]) -> bool {
     let mut ended = BTreeSet::new();
     for (edge, index) in rim {
         let partner = match join(counts, edge, index) {
-            Join::Joined { edge, index } => (edge, index),
-            Join::Unjoined | Join::NoCrossing => continue,
+            Join::Joined { edge, index, .. } => (edge, index),
+            Join::Unjoined(_) | Join::NoCrossing => continue,
         };
         if ended.contains(&(edge, index)) {
             if begun.pop() != Some(partner) {

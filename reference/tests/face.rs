@@ -2,11 +2,23 @@
 
 use std::collections::BTreeMap;
 
-use reference::face::{join, Join};
+use reference::face::{join, How, Join, Why};
 use reference::gen::Rng;
 use reference::manifold::alternates;
 
 type Crossing = (u32, u32);
+
+/// Joined round a corner to a crossing.
+fn round(corner: u32, edge: u32, index: u32) -> Join {
+    let how = How::Round(corner);
+    Join::Joined { edge, index, how }
+}
+
+/// Joined along an edge to a crossing.
+fn along(edge: u32, index: u32) -> Join {
+    let how = How::Along;
+    Join::Joined { edge, index, how }
+}
 
 /// The edge between two corners (0 for a, 1 for b, 2 for c).
 fn edge_between(i: usize, j: usize) -> usize {
@@ -66,8 +78,8 @@ fn partners(counts: [u32; 3]) -> BTreeMap<Crossing, Option<Crossing>> {
     for edge in 0..3 {
         for index in 0..counts[edge as usize] {
             let partner = match join(counts, edge, index) {
-                Join::Joined { edge, index } => Some((edge, index)),
-                Join::Unjoined => None,
+                Join::Joined { edge, index, .. } => Some((edge, index)),
+                Join::Unjoined(_) => None,
                 Join::NoCrossing => panic!("{counts:?} has crossing {index} on edge {edge}"),
             };
             found.insert((edge, index), partner);
@@ -161,69 +173,105 @@ fn even_counts_of_three_leave_the_middles() {
     let counts = [3, 3, 3];
     assert_eq!(plain_segments(counts).len(), 3);
     for edge in 0..3 {
-        assert_eq!(join(counts, edge, 1), Join::Unjoined);
-        assert_ne!(join(counts, edge, 0), Join::Unjoined);
-        assert_ne!(join(counts, edge, 2), Join::Unjoined);
+        assert_eq!(join(counts, edge, 1), Join::Unjoined(Why::Left));
+        assert!(matches!(join(counts, edge, 0), Join::Joined { .. }));
+        assert!(matches!(join(counts, edge, 2), Join::Joined { .. }));
     }
 }
 
 #[test]
 fn long_edge_skips_its_first_residual() {
     let counts = [5, 1, 1];
-    let joined = |edge, index| Join::Joined { edge, index };
-    assert_eq!(join(counts, 0, 0), joined(1, 0));
-    assert_eq!(join(counts, 0, 1), Join::Unjoined);
-    assert_eq!(join(counts, 0, 2), joined(0, 3));
-    assert_eq!(join(counts, 0, 3), joined(0, 2));
-    assert_eq!(join(counts, 0, 4), joined(2, 0));
+    assert_eq!(join(counts, 0, 0), round(0, 1, 0));
+    assert_eq!(join(counts, 0, 1), Join::Unjoined(Why::Skipped));
+    assert_eq!(join(counts, 0, 2), along(0, 3));
+    assert_eq!(join(counts, 0, 3), along(0, 2));
+    assert_eq!(join(counts, 0, 4), round(1, 2, 0));
 }
 
 /// Which of the three counts' crossings are joined to which, by hand.
 #[test]
 fn counts_above_a_byte() {
-    let joined = |edge, index| Join::Joined { edge, index };
     // corner counts 550, 450 and 50
     let even = [1000, 600, 500];
     for (edge, index, partner) in [
-        (0, 0, joined(1, 0)),
-        (0, 549, joined(1, 549)),
-        (0, 550, joined(2, 449)),
-        (0, 999, joined(2, 0)),
-        (1, 550, joined(2, 450)),
-        (1, 599, joined(2, 499)),
+        (0, 0, round(0, 1, 0)),
+        (0, 549, round(0, 1, 549)),
+        (0, 550, round(1, 2, 449)),
+        (0, 999, round(1, 2, 0)),
+        (1, 550, round(2, 2, 450)),
+        (1, 599, round(2, 2, 499)),
     ] {
         assert_eq!(join(even, edge, index), partner);
     }
     // 1000, 599 and 499 after the 1 is taken off: corner counts 550, 450 and 49
     let odd = [1001, 600, 500];
     for (edge, index, partner) in [
-        (0, 549, joined(1, 549)),
-        (0, 550, Join::Unjoined),
-        (0, 551, joined(2, 449)),
-        (1, 550, Join::Unjoined),
-        (1, 551, joined(2, 451)),
-        (2, 450, Join::Unjoined),
+        (0, 549, round(0, 1, 549)),
+        (0, 550, Join::Unjoined(Why::Left)),
+        (0, 551, round(1, 2, 449)),
+        (1, 550, Join::Unjoined(Why::Left)),
+        (1, 551, round(2, 2, 451)),
+        (2, 450, Join::Unjoined(Why::Left)),
     ] {
         assert_eq!(join(odd, edge, index), partner);
     }
+}
+
+/// The same of the largest counts.
+#[test]
+fn counts_of_sixteen_bits() {
     // residuals 1 to 65,533
     let long = [65_535, 1, 1];
     for (index, partner) in [
-        (0, joined(1, 0)),
-        (1, Join::Unjoined),
-        (2, joined(0, 3)),
-        (65_533, joined(0, 65_532)),
-        (65_534, joined(2, 0)),
+        (0, round(0, 1, 0)),
+        (1, Join::Unjoined(Why::Skipped)),
+        (2, along(0, 3)),
+        (65_533, along(0, 65_532)),
+        (65_534, round(1, 2, 0)),
         (65_535, Join::NoCrossing),
     ] {
         assert_eq!(join(long, 0, index), partner);
     }
     // corner counts 32,767
     let full = [65_535; 3];
-    assert_eq!(join(full, 0, 32_766), joined(1, 32_766));
-    assert_eq!(join(full, 0, 32_767), Join::Unjoined);
-    assert_eq!(join(full, 0, 32_768), joined(2, 32_766));
-    assert_eq!(join(full, 1, 32_768), joined(2, 32_768));
+    assert_eq!(join(full, 0, 32_766), round(0, 1, 32_766));
+    assert_eq!(join(full, 0, 32_767), Join::Unjoined(Why::Left));
+    assert_eq!(join(full, 0, 32_768), round(1, 2, 32_766));
+    assert_eq!(join(full, 1, 32_768), round(2, 2, 32_768));
+}
+
+/// How and why, from the rules: a corner's node is an end of both edges and told
+/// by both; skipped only in rule 3, left only in rule 2.
+#[test]
+fn reasons_follow_the_rules() {
+    for counts in all_counts(12) {
+        let sum: u32 = counts.iter().sum();
+        let balanced = counts.iter().all(|&count| 2 * count <= sum);
+        for edge in 0..3 {
+            for index in 0..counts[edge as usize] {
+                match join(counts, edge, index) {
+                    Join::Joined {
+                        edge: other,
+                        index: there,
+                        how,
+                    } => {
+                        assert_eq!(
+                            join(counts, other, there),
+                            Join::Joined { edge, index, how }
+                        );
+                        match how {
+                            How::Round(corner) => assert_eq!(edge + other, corner + 1),
+                            How::Along => assert_eq!((edge, index.abs_diff(there)), (other, 1)),
+                        }
+                        assert_eq!(how == How::Along, edge == other);
+                    }
+                    Join::Unjoined(why) => assert_eq!(why == Why::Left, balanced),
+                    Join::NoCrossing => panic!("{counts:?} has crossing {index} on edge {edge}"),
+                }
+            }
+        }
+    }
 }
 
 #[test]
@@ -245,22 +293,20 @@ fn counts_of_any_size_are_mutual() {
             Join::Joined {
                 edge: other,
                 index: there,
+                how,
             } => {
-                let back = Join::Joined {
-                    edge: edge as u32,
-                    index,
-                };
-                assert_eq!(join(counts, other, there), back);
+                let edge = edge as u32;
+                assert_eq!(
+                    join(counts, other, there),
+                    Join::Joined { edge, index, how }
+                );
+                assert_eq!(how == How::Along, edge == other);
             }
-            Join::Unjoined => assert_eq!(counts.iter().fold(0, |sum, c| (sum + c % 2) % 2), 1),
+            Join::Unjoined(_) => assert_eq!(counts.iter().fold(0, |sum, c| (sum + c % 2) % 2), 1),
             Join::NoCrossing => assert_eq!(counts[edge], 0),
         }
     }
     let full = [u32::MAX; 3];
-    assert_eq!(join(full, 1, u32::MAX / 2), Join::Unjoined);
-    let end = Join::Joined {
-        edge: 2,
-        index: u32::MAX - 1,
-    };
-    assert_eq!(join(full, 1, u32::MAX - 1), end);
+    assert_eq!(join(full, 1, u32::MAX / 2), Join::Unjoined(Why::Left));
+    assert_eq!(join(full, 1, u32::MAX - 1), round(2, 2, u32::MAX - 1));
 }

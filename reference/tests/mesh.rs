@@ -85,7 +85,7 @@ fn step(counts: [u32; 6], (edge, index): (usize, u32), slot: usize) -> Option<(u
     let rank = on_face.iter().position(|&e| e == edge)?;
     let face_counts = [0, 1, 2].map(|r: usize| counts[on_face[r]]);
     match join(face_counts, rank as u32, index) {
-        Join::Joined { edge, index } => Some((on_face[edge as usize], index)),
+        Join::Joined { edge, index, .. } => Some((on_face[edge as usize], index)),
         _ => None,
     }
 }

@@ -22,11 +22,12 @@ use Rattle.cell.specs.Of.{countOf, edgesOf}
 use Rattle.cell.specs.Loop.{loopSize, dart, folded, normal, leasts}
 use Rattle.cell.specs.Triangles.{loopTriangles, cellTriangles}
 use Rattle.cell.specs.Level.{isLevelCell}
+use Rattle.cell.proofs.Folds.{folded-ends}
 use Rattle.cell.proofs.Loops.{dart-live, tally-darts}
 use Rattle.cell.proofs.Taken.{length-loop, length-cell}
 use Rattle.booking.specs.Booking.{cornerTriangles, larger, smaller, otherLength, beside, booked}
 use Rattle.booking.proofs.Numbers.{not-three, long-times, gcd-none, long-four, long-more}
-use Rattle.booking.proofs.Closed.{moves}
+use Rattle.booking.proofs.Closed.{goes, moves}
 use Rattle.booking.proofs.Count.{other, by-size, threes-are, others-are}
 
 module _ (w : Edges) (K : isLevelCell (w .count) ≡ true) where
@@ -35,12 +36,13 @@ module _ (w : Edges) (K : isLevelCell (w .count) ≡ true) where
 
   -- no segment is folded
   pub normal-all : (p : ℕ) → p < N → normal w p ≡ true
-  unfolding normal folded
+  unfolding normal
   normal-all p l =
       eq-eqb (tally (folded w) _) 0
       (tally-darts w p l (folded w)
       ∙ total-zero (λ k. one (folded w (dart w p k))) (loopSize w p) 0
-      (λ k _ h. ap one (ne-eqb (edge w (dart w p k / 2)) (edge w (step w (dart w p k) / 2)) (moves w K (dart w p k) (dart-live w p l k (omega arith))))))
+      (λ k _ h. let d = dart-live w p l k (omega arith) in
+      ap one (folded-ends w (dart w p k) d (goes w K (dart w p k) d) ∙ ne-eqb (edge w (dart w p k / 2)) (edge w (step w (dart w p k) / 2)) (moves w K (dart w p k) d))))
 
   -- what is tallied of the listed loops
   tally-leasts : (t : ℕ → Bool) → tally t (leasts w) ≡ total (λ p. pick (ltb 0 (loopSize w p)) (one (t p)) 0) N 0

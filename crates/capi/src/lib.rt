@@ -8,7 +8,8 @@ ghost use Rattle.capi.specs.Written.{answerWords, ifRoom, Answers, bodyN
 ghost use Rattle.bundle.specs.Record.{recordAnswer};
 ghost use Rattle.bundle.specs.Bundle.{isTaken, readAnswer, nodesOf, endsOf, countsOf, leaves};
 ghost use Rattle.bundle.specs.Written.{bundleBytes, isWritten, writeAnswer};
-ghost use Rattle.face.specs.Face.{faceJoin};
+ghost use Rattle.face.specs.Face.{joinedBy, unjoinedBy, faceAnswer};
+ghost use Rattle.face.specs.Join.{howNumbers, whyNumber};
 ghost use Rattle.grid.specs.Grid.{gridOf};
 ghost use Rattle.grid.specs.Rows.{gridAnswer};
 ghost use Rattle.counting.specs.Pick.{one};
@@ -29,7 +30,9 @@ use bundle::SHORT_ROW;
 use bundle::Written;
 use cell::Loop;
 use cell::LoopType;
+use face::How;
 use face::Join;
+use face::Why;
 use grid::Checked;
 use mesh::Looped;
 use mesh::Meshed;
@@ -59,7 +62,30 @@ fn put(answer: &mut [u64], numbers: &[u64]) -> usize
     i
 }
 
-// The face call: 0 and the partner's edge and index; 1 unjoined; 2 no such crossing.
+// Puts the numbers of a crossing that is joined to another.
+fn put_joined(answer: &mut [u64], edge: u32, index: u32, how: How) -> usize
+    ensures { λ r. ⌜ Answers (joinedBy edge index (howNumbers how)) (now (answer .entry)) (now (answer .exit)) r ⌝ }
+{
+    let e = edge as u64;
+    let i = index as u64;
+    match how {
+        How::Round(w) => put(answer, &[0, e, i, 0, w as u64]),
+        How::Along => put(answer, &[0, e, i, 1]),
+    }
+}
+
+// Puts the numbers of a crossing that is unjoined.
+fn put_unjoined(answer: &mut [u64], why: Why) -> usize
+    ensures { λ r. ⌜ Answers (unjoinedBy (whyNumber why)) (now (answer .entry)) (now (answer .exit)) r ⌝ }
+{
+    match why {
+        Why::Left => put(answer, &[1, 0]),
+        Why::Skipped => put(answer, &[1, 1]),
+    }
+}
+
+// The face call: 0, the partner's edge and index, and how: 0 and the corner it goes round (0 a, 1 b, 2 c), or 1 along its edge; 1 unjoined, and why:
+// 0 left by rule 2, 1 skipped by rule 3; 2 no such crossing.
 #[no_mangle]
 pub extern "C" fn citternblaze_face(
     ab: u16,
@@ -69,11 +95,11 @@ pub extern "C" fn citternblaze_face(
     index: u32,
     answer: &mut [u64],
 ) -> usize
-    ensures { λ r. ⌜ Answers (faceJoin ab ac bc edge index) (now (answer .entry)) (now (answer .exit)) r ⌝ }
+    ensures { λ r. ⌜ Answers (faceAnswer ab ac bc edge index) (now (answer .entry)) (now (answer .exit)) r ⌝ }
 {
     match face::face_join(ab, ac, bc, edge, index) {
-        Join::Joined(e, i) => put(answer, &[0, e as u64, i as u64]),
-        Join::Unjoined => put(answer, &[1]),
+        Join::Joined(e, i, how) => put_joined(answer, e, i, how),
+        Join::Unjoined(why) => put_unjoined(answer, why),
         Join::NoCrossing => put(answer, &[2]),
     }
 }

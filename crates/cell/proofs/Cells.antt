@@ -1,6 +1,7 @@
 -- The loops of a cell and their triangles in turn: those from crossings below p are done.
 use Prim.Native.Nat.{ℕ, suc, _+_, _-_, _≤_, _<_}
 use mathlib.Core.Path.{_≡_, refl, sym, ap, _∙_}
+use mathlib.Core.Bool.{Bool}
 use mathlib.Core.List.{List, [], _∷_, _++_}
 use native.Mathlib.Nat.{zero-add, sub-zero}
 use native.Mathlib.Omega.{arith}
@@ -32,7 +33,7 @@ use Rattle.cell.proofs.Taken.{loop-few, length-cell, cell-few}
 abbrev pub manyAt : Cell → ℕ → ℕ
 manyAt c p = length (loopTriangles c p)
 
-pub counted-more : {c : Cell} {p m : ℕ} {hs ps : List ℕ} → Looped c p m hs ps → {t : ℕ} → Summed (manyAt c) mostInCell p t → (k : ℕ) → k ≡ manyAt c p
+pub counted-more : {c : Cell} {p m : ℕ} {b : Bool} {hs ps : List ℕ} → Looped c p m b hs ps → {t : ℕ} → Summed (manyAt c) mostInCell p t → (k : ℕ) → k ≡ manyAt c p
     → Summed (manyAt c) mostInCell (p + 1) (t + k)
 counted-more {c} {p} L S k e = summed-more (manyAt c) mostInCell S k e (omega (arith, loop-few c p, L .size, L .few))
 
@@ -103,8 +104,8 @@ module _ (c : Cell) {k p left : ℕ} (S : Seeking (leastAt (edgesOf c)) k p left
     pub loop-pass : 0 < left → Seeking (leastAt w) k (p + 1) (left - 1)
     loop-pass l = seeking-more (leastAt w) S 1 (sym (ap length one)) l
 
-    pub loop-here : p < crossings w → left ≡ 0 → {m : ℕ} {hs ps : List ℕ} → Looped c p m hs ps → roundAnswer (c .nodes) hs ps ≡ loopAnswer w (c .nodes) k
+    pub loop-here : p < crossings w → left ≡ 0 → {m : ℕ} {b : Bool} {hs ps : List ℕ} → Looped c p m b hs ps → roundAnswer (c .nodes) hs ps b ≡ loopAnswer w (c .nodes) k
     unfolding loopAnswer leasts kept answerFrom
     loop-here l z L =
         let e = seeking-here (leastAt w) S (crossings w) l (omega arith) in
-        rw (L .halves-are, L .points-are) (answer-is c p l h ∙ sym (ap (answerFrom w (c .nodes)) (rw (z, one) at e)))
+        rw (L .halves-are, L .points-are, L .told) (answer-is c p l h ∙ sym (ap (answerFrom w (c .nodes)) (rw (z, one) at e)))

@@ -23,6 +23,7 @@ use Rattle.cell.proofs.Lay.{lay, lower-numbers}
 use Rattle.cell.proofs.Mates.{ports, darts, laws}
 use Rattle.cell.proofs.Loops.{the-loop, dart-live, size-le, size-two}
 use Rattle.cell.proofs.Follow.{step-of, goes-on, along-most, along-once}
+use Rattle.cell.proofs.Folds.{normal-ends}
 use Rattle.counting.proofs.Kept.{kept-is, kept-rise, kept-all}
 use Rattle.cell.proofs.Three.{three-normal, three-corner}
 
@@ -40,6 +41,7 @@ cellLaws w v = record {
   goes = goes-on w;
   most = along-most w;
   exactly = λ all s x L. along-once w s x L (all s x L) all;
+  normal-ends = normal-ends w;
   three-normal = three-normal w;
   three-corner = λ p l e. three-corner w p l e v;
   rising = kept-rise some (crossings w) 0;

@@ -7,10 +7,10 @@ use mathlib.Core.List.{List, [], _∷_}
 use native.Mathlib.Numerals.{add-one}
 use native.Mathlib.Decide.{decLt}
 use native.Mathlib.Omega.{arith}
-use lib.Dec.{eqb, leb}
+use lib.Dec.{leb}
 use lib.ListN.{length, getD}
 use lib.Ieee.{Float}
-use borrow.Author.Tests.{le-leb, leb-true, lt-leb, leb-false, ne-eqb}
+use borrow.Author.Tests.{le-leb, leb-true, lt-leb, leb-false}
 use Rattle.counting.specs.Lists.{gather}
 use Rattle.counting.specs.Pick.{pick, one}
 use Rattle.counting.specs.Range.{over}
@@ -31,35 +31,32 @@ use Rattle.cell.specs.declared.Cell.{Cell}
 use Rattle.cell.specs.Cell.{crossings, edge}
 use Rattle.cell.specs.Of.{countOf, startOf, edgesOf}
 use Rattle.cell.specs.Loop.{loopSize, dart, normal, inGrid}
-use Rattle.cell.specs.Round.{foldsIn}
 use Rattle.cell.specs.Limits.{mostInCell}
 use Rattle.cell.specs.Triangles.{numberOf}
 use Rattle.cell.specs.Middles.{isFan, loopPoint, fanCount, loopMiddle, cellMiddles, numberedBelow, middlesAt, pointsThen, nextPoint}
 use Rattle.cell.specs.Table.{tableCell, middlesWritten}
-use Rattle.cell.specs.Centres.{recordedFan, recordedMiddle, MiddlesRoom}
+use Rattle.cell.specs.Centres.{recordedMiddle, MiddlesRoom}
 use Rattle.cell.proofs.Lay.{lay}
-use Rattle.cell.proofs.Loops.{from-point, normal-is, dart-live}
+use Rattle.cell.proofs.Loops.{from-point, dart-live}
 use Rattle.cell.proofs.Fits.{room-left}
-use Rattle.cell.proofs.Going.{Looped, looped-halves, looped-points}
+use Rattle.cell.proofs.Going.{Looped, looped-points}
 
 -- the cases of the code
-module _ (halves : List ℕ) where
-  pub fan-none : length halves ≡ 0 → 0 ≡ one (recordedFan halves)
+module _ (n : ℕ) (normal : Bool) where
+  pub fan-none : n ≡ 0 → 0 ≡ one (hasMiddle n normal)
   unfolding hasMiddle
   fan-none e = rw e
 
-  pub fan-three : length halves ≡ 3 → 0 ≡ one (recordedFan halves)
+  pub fan-three : n ≡ 3 → 0 ≡ one (hasMiddle n normal)
   unfolding hasMiddle
   fan-three e = rw e
 
-  pub fan-normal : length halves ≡ 4 → foldsIn halves ≡ 0 → 0 ≡ one (recordedFan halves)
+  pub fan-normal : n ≡ 4 → normal ≡ true → 0 ≡ one (hasMiddle n normal)
   unfolding hasMiddle
   fan-normal e h = rw (e, h)
 
-  pub fan-else : length halves ≢ 0 → length halves ≢ 3 → (length halves ≡ 4 → foldsIn halves ≢ 0) → 1 ≡ one (recordedFan halves)
-  fan-else a b h =
-      let f = eqb (foldsIn halves) 0 in
-      ap one (sym (fan-middle (length halves) f (omega arith) (shape-else (length halves) f b (λ e. ne-eqb (foldsIn halves) 0 (h e)))))
+  pub fan-else : n ≢ 0 → n ≢ 3 → (n ≡ 4 → normal ≡ false) → 1 ≡ one (hasMiddle n normal)
+  fan-else a b h = ap one (sym (fan-middle n normal (omega arith) (shape-else n normal b h)))
 
 -- a list of one point, or of none
 one-long : (b : Bool) (p : Place) → length (pick b (p ∷ []) []) ≡ one b
@@ -143,23 +140,26 @@ module _ (c : Cell) (n : ℕ) (b : numberedBelow c n ≡ true) (place other : �
   cell-ext = over-ext (loopMiddle place c) (loopMiddle other c) (crossings (edgesOf c)) 0 (λ p a l. loop-ext p (omega arith))
 
 -- what is recorded of a loop
-module _ {c : Cell} {p n : ℕ} {halves points : List ℕ} (L : Looped c p n halves points) where
-  pub looped-fan : recordedFan halves ≡ isFan c p
+module _ {c : Cell} {p n : ℕ} {b : Bool} {halves points : List ℕ} (L : Looped c p n b halves points) where
+  pub looped-fan : hasMiddle n b ≡ isFan c p
   unfolding isFan
-  looped-fan = ap₂ hasMiddle (looped-halves L ∙ L .size) (ap (λ l. eqb (foldsIn l) 0) (L .halves-are) ∙ sym (normal-is c p (L .inside)))
+  looped-fan = ap₂ hasMiddle (L .size) (L .told)
 
-  pub looped-middle : (area : List Float) → recordedMiddle halves points area ≡ loopMiddle (placeAt area) c p
+  points-fan : hasMiddle (length points) b ≡ isFan c p
+  points-fan = ap (λ m. hasMiddle m b) (looped-points L) ∙ looped-fan
+
+  pub looped-middle : (area : List Float) → recordedMiddle points b area ≡ loopMiddle (placeAt area) c p
   unfolding recordedMiddle loopMiddle loopPoint numberOf
   looped-middle area =
       let m = length points in
       let e = looped-points L ∙ L .size in
-      one-ext (recordedFan halves) (middle (λ k. placeAt area (getD points k 0)) m) (middle (λ k. placeAt area (loopPoint c p k)) m)
-      (λ f. middle-ext (λ k. placeAt area (getD points k 0)) (λ k. placeAt area (loopPoint c p k)) m (omega (arith, middle-fan (length halves) (eqb (foldsIn halves) 0) f .0, looped-halves L, looped-points L))
+      one-ext (hasMiddle m b) (middle (λ k. placeAt area (getD points k 0)) m) (middle (λ k. placeAt area (loopPoint c p k)) m)
+      (λ f. middle-ext (λ k. placeAt area (getD points k 0)) (λ k. placeAt area (loopPoint c p k)) m (middle-fan m b f .0)
       (λ k h. ap (placeAt area) (ap (λ l. getD l k 0) (L .points-are) ∙ from-point c p k (omega (arith, e)))))
-      ∙ ap₂ (λ (b : Bool) (m : ℕ). pick b (middle (λ k. placeAt area (loopPoint c p k)) m ∷ []) []) looped-fan e
+      ∙ ap₂ (λ (b : Bool) (m : ℕ). pick b (middle (λ k. placeAt area (loopPoint c p k)) m ∷ []) []) points-fan e
 
   -- one fan more, or none
-  pub fans-more : {t k : ℕ} → t ≡ count (isFan c) p → k ≡ one (recordedFan halves) → t + k ≡ count (isFan c) (p + 1)
+  pub fans-more : {t k : ℕ} → t ≡ count (isFan c) p → k ≡ one (hasMiddle n b) → t + k ≡ count (isFan c) (p + 1)
   unfolding count
   fans-more e f = rw (add-one p) (omega (arith, e, f, ap one looped-fan))
 
@@ -173,21 +173,21 @@ unfolding fanCount count
 no-fans c e = rw e
 
 -- a recorded loop's middle is written, or there is none
-module _ (halves points : List ℕ) (area : List Float) (at r : ℕ) (q : r ≡ one (recordedFan halves)) where
+module _ (points : List ℕ) (normal : Bool) (area : List Float) (at r : ℕ) (q : r ≡ one (hasMiddle (length points) normal)) where
   is-fan : (b : Bool) → one b ≡ r → (r ≡ 0 → b ≡ false) × (r ≢ 0 → b ≡ true)
   is-fan true e = (λ z. absurd (omega arith), λ z. refl)
   is-fan false e = (λ z. refl, λ z. absurd (z (sym e)))
 
-  pub put-none : r ≡ 0 → Stored area (coordinates * at) (allNumbers (recordedMiddle halves points area)) area (coordinates * at)
+  pub put-none : r ≡ 0 → Stored area (coordinates * at) (allNumbers (recordedMiddle points normal area)) area (coordinates * at)
   unfolding recordedMiddle gather
-  put-none z = rw (is-fan (recordedFan halves) (sym q) .0 z) (stored-none area (coordinates * at))
+  put-none z = rw (is-fan (hasMiddle (length points) normal) (sym q) .0 z) (stored-none area (coordinates * at))
 
-  pub put-one : r ≢ 0 → coordinates * (at + one (recordedFan halves)) ≤ length area → {p : Place} {out : List Float}
+  pub put-one : r ≢ 0 → coordinates * (at + one (hasMiddle (length points) normal)) ≤ length area → {p : Place} {out : List Float}
       → p ≡ middle (λ k. placeAt area (getD points k 0)) (length points) → out ≡ storedIn area (coordinates * at) (numbers p)
-      → Stored area (coordinates * at) (allNumbers (recordedMiddle halves points area)) out (coordinates * (at + 1))
+      → Stored area (coordinates * at) (allNumbers (recordedMiddle points normal area)) out (coordinates * (at + 1))
   unfolding recordedMiddle gather
   put-one z room {p} e f =
-      let b = is-fan (recordedFan halves) (sym q) .1 z in
+      let b = is-fan (hasMiddle (length points) normal) (sym q) .1 z in
       rw (b, ← e) (point-stored at p (omega (arith, room, ap one b)) f)
 
 -- the numbers of the middle of each loop
@@ -205,18 +205,18 @@ module _ (c : Cell) (area : List Float) (at : ℕ) where
 
   module _ (R : MiddlesRoom c area at) where
     module _ {p : ℕ} (i : ℕ) {mid : List Float} (S : Stored area (coordinates * at) (over (middleOf c area) p 0) mid (coordinates * i))
-        {n : ℕ} {halves points : List ℕ} (L : Looped c p n halves points) where
-      pub middle-room : coordinates * (i + one (recordedFan halves)) ≤ length mid
+        {n : ℕ} {b : Bool} {halves points : List ℕ} (L : Looped c p n b halves points) where
+      pub middle-room : coordinates * (i + one (hasMiddle (length points) b)) ≤ length mid
       middle-room =
           omega (
             arith,
             stored-fits (middleOf c area) (crossings (edgesOf c)) p S (L .inside) (omega (arith, R .room, all-long, ap length all-are)),
             length-numbers (loopMiddle (placeAt area) c p),
             length-loop (placeAt area) c p,
-            ap one (looped-fan L),
+            ap one (points-fan L),
           )
 
-      pub middle-next : {out : List Float} {m : ℕ} → Stored mid (coordinates * i) (allNumbers (recordedMiddle halves points mid)) out m
+      pub middle-next : {out : List Float} {m : ℕ} → Stored mid (coordinates * i) (allNumbers (recordedMiddle points b mid)) out m
           → Stored area (coordinates * at) (over (middleOf c area) (p + 1) 0) out m
       middle-next T =
           stored-more (middleOf c area) p S

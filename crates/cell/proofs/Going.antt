@@ -1,6 +1,7 @@
 -- The walks from all crossings of a cell in turn: those from crossings below p are done.
 use Prim.Native.Nat.{ℕ, _+_, _-_, _≤_, _<_}
 use mathlib.Core.Path.{_≡_, sym, ap, _∙_}
+use mathlib.Core.Bool.{Bool}
 use mathlib.Core.List.{List}
 use native.Mathlib.Nat.{sub-zero}
 use native.Mathlib.Omega.{arith}
@@ -8,7 +9,7 @@ use lib.ListN.{length, take}
 use Rattle.counting.specs.Stored.{filled}
 use Rattle.cell.specs.declared.Cell.{Cell}
 use Rattle.cell.specs.Cell.{crossings}
-use Rattle.cell.specs.Loop.{loopSize}
+use Rattle.cell.specs.Loop.{loopSize, normal}
 use Rattle.cell.specs.Of.{edgesOf}
 use Rattle.cell.specs.Route.{Routed}
 use Rattle.cell.specs.Limits.{mostInCell}
@@ -18,15 +19,16 @@ use Rattle.cell.proofs.Using.{kept-then, filled-same, kept-filled, used
 use Rattle.cell.proofs.Walking.{cleared}
 use Rattle.cell.proofs.Loops.{size-le, length-halves, length-points}
 
--- hs and ps are the record of the loop from p, of m darts
-pub record Looped (c : Cell) (p m : ℕ) (hs ps : List ℕ) : Type 0 where
+-- hs and ps are the record of the loop from p, of m darts, and b tells whether it is normal
+pub record Looped (c : Cell) (p m : ℕ) (b : Bool) (hs ps : List ℕ) : Type 0 where
   pub inside : p < crossings (edgesOf c)
   pub size : m ≡ loopSize (edgesOf c) p
+  pub told : b ≡ normal (edgesOf c) p
   pub few : m ≤ mostInCell
   pub halves-are : hs ≡ halvesFrom c p
   pub points-are : ps ≡ pointsFrom c p
 
-module _ {c : Cell} {p m : ℕ} {hs ps : List ℕ} (L : Looped c p m hs ps) where
+module _ {c : Cell} {p m : ℕ} {b : Bool} {hs ps : List ℕ} (L : Looped c p m b hs ps) where
   pub looped-halves : length hs ≡ m
   looped-halves = ap length (L .halves-are) ∙ length-halves c p ∙ sym (L .size)
 
@@ -87,7 +89,7 @@ module _ {c : Cell} {n : ℕ} {routes ms₀ hs₀ ps₀ ms hs ps : List ℕ} {p 
       points-long = going-long .points-long;
     }
 
-    module _ {m : ℕ} {ms′ hs′ ps′ : List ℕ} (W : Walked c n p ms hs ps m ms′ hs′ ps′) where
+    module _ {m : ℕ} {b : Bool} {ms′ hs′ ps′ : List ℕ} (W : Walked c n p ms hs ps m b ms′ hs′ ps′) where
       pub going-more : Going c n routes ms₀ hs₀ ps₀ ms′ hs′ ps′ (p + 1)
       going-more = record {
         all = G .all;
@@ -100,10 +102,11 @@ module _ {c : Cell} {n : ℕ} {routes ms₀ hs₀ ps₀ ms hs ps : List ℕ} {p 
       }
 
       -- in the slices from 0 to m
-      pub going-looped : Looped c p m (take (m - 0) hs′) (take (m - 0) ps′)
+      pub going-looped : Looped c p m b (take (m - 0) hs′) (take (m - 0) ps′)
       going-looped = record {
         inside = going-in;
         size = W .size;
+        told = W .told;
         few = omega (arith, W .size, size-le (edgesOf c) p going-in, G .all, G .few);
         halves-are = rw (sub-zero m) (W .halves-are);
         points-are = rw (sub-zero m) (W .points-are);

@@ -11,15 +11,14 @@ use Rattle.manifold.specs.Shape.{shapeOf, manyOf}
 use Rattle.cell.specs.declared.Cell.{Cell}
 use Rattle.cell.specs.Cell.{mate, slot}
 use Rattle.cell.specs.Loop.{dart}
-use Rattle.cell.specs.Round.{foldsIn}
-use Rattle.cell.proofs.Loops.{from-lt, from-slot, from-point, normal-is}
+use Rattle.cell.proofs.Loops.{from-lt, from-slot, from-point}
 use Rattle.cell.proofs.Going.{Looped, looped-halves, looped-points}
 use Rattle.cell.specs.Triangles.{edgesOf, numberOf, loopTriangles}
 use Rattle.cell.specs.Traced.{RecordedLoop, tracedTriangles}
 use Rattle.cell.proofs.LoopTriangles.{length-traced}
 use Rattle.cell.proofs.Taken.{two-four, dart-leads, traced-loop}
 
-module _ {c : Cell} {p n : ℕ} {halves points : List ℕ} (L : Looped c p n halves points) where
+module _ {c : Cell} {p n : ℕ} {b : Bool} {halves points : List ℕ} (L : Looped c p n b halves points) where
   pub looped-traced : RecordedLoop halves points n
   looped-traced = record {
     few = omega (arith, L .few);
@@ -38,14 +37,14 @@ module _ {c : Cell} {p n : ℕ} {halves points : List ℕ} (L : Looped c p n hal
   leads : (k : ℕ) → k < n → mate (edgesOf c) (slot (edgesOf c) (dart (edgesOf c) p k)) (dart (edgesOf c) p k / 2) ≡ dart (edgesOf c) p (after n k) / 2
   leads k h = dart-leads c p (L .inside) k (omega (arith, L .size)) ∙ ap (λ m. dart (edgesOf c) p (after m k) / 2) (sym (L .size))
 
-  module _ {two : Bool} (is : two ≡ (eqb n 4 && eqb (foldsIn halves) 0)) where
+  module _ {two : Bool} (is : two ≡ (eqb n 4 && b)) where
     pub looped-four : two ≡ true → n ≡ 4
-    looped-four = two-four n two (eqb (foldsIn halves) 0) is
+    looped-four = two-four n two b is
 
     pub looped-loop : tracedTriangles c halves points n two ≡ loopTriangles c p
     looped-loop =
         traced-loop c p halves points n (L .size) slots numbers leads two
-        (is ∙ ap (λ b. eqb n 4 && b) (ap (λ l. eqb (foldsIn l) 0) (L .halves-are) ∙ sym (normal-is c p (L .inside))))
+        (is ∙ ap (λ x. eqb n 4 && x) (L .told))
 
     pub looped-many : manyOf (shapeOf n two) n ≡ length (loopTriangles c p)
     looped-many = sym (length-traced c halves points n two) ∙ ap length looped-loop

@@ -13,6 +13,7 @@ pub mod Loops
 pub mod Going
 pub mod Segments
 pub mod Follow
+pub mod Folds
 pub mod Three
 pub mod Levels
 pub mod Nodes

@@ -1,19 +1,17 @@
 -- The loops of a cell, and what is read of one from its record.
-use Prim.Native.Nat.{ℕ, suc, _+_, _*_, _/_, _%_, _≤_, _<_}
-use mathlib.Core.Path.{_≡_, refl, sym, ap, ap₂, _∙_}
+use Prim.Native.Nat.{ℕ, suc, _*_, _/_, _%_, _≤_, _<_}
+use mathlib.Core.Path.{_≡_, refl, sym, ap, _∙_}
 use mathlib.Core.Logic.{_≢_, ⊎-elim}
 use mathlib.Core.Bool.{Bool}
 use mathlib.Core.List.{List, [], _∷_}
 use native.Mathlib.Nat.{eq-or-lt-of-le, eq-zero-or-pos}
 use native.Mathlib.Omega.{arith}
-use native.Mathlib.Numerals.{add-one}
 use lib.Dec.{eqb}
 use lib.ListN.{getD, length}
 use Rattle.counting.specs.Pick.{one}
-use Rattle.counting.specs.Range.{total, after, before}
-use Rattle.counting.specs.Stored.{Summed}
+use Rattle.counting.specs.Range.{total, after}
 use Rattle.counting.specs.Lists.{tally}
-use Rattle.counting.proofs.Range.{total-ext, total-round, before-after, after-last, after-on, after-lt, length-over}
+use Rattle.counting.proofs.Range.{total-ext, after-last, after-on, length-over}
 use Rattle.slots.specs.Slots.{edgeRank}
 use Rattle.walk.specs.Iterate.{it}
 use Rattle.walk.specs.Darts.{Loop, half, rev}
@@ -24,40 +22,20 @@ use Rattle.walk.proofs.Once.{flat-room}
 use Rattle.walk.proofs.Iterate.{tally-orbit, length-orbit, it-suc}
 use Rattle.cell.specs.declared.Cell.{Cell}
 use Rattle.cell.specs.Cell.{Edges, crossings, edge, slot, first, second, mate, step}
-use Rattle.cell.specs.Loop.{loopSize, dart, loopDarts, folded, normal, parity, inGrid, typeOf, answerFrom}
+use Rattle.cell.specs.Loop.{loopSize, dart, loopDarts, normal, parity, inGrid, typeOf, answerFrom}
 use Rattle.cell.specs.Of.{edgesOf}
 use Rattle.cell.specs.Half.{halfEdges, edgeOf, halfOf, halfEdge}
 use Rattle.cell.specs.Scratch.{halvesFrom, pointsFrom}
-use Rattle.cell.specs.Round.{foldsIn, crossesIn, roundAnswer}
+use Rattle.cell.specs.Round.{crossesIn, roundAnswer}
 use Rattle.cell.proofs.Half as halves
 use Rattle.cell.proofs.Step.{step-is}
 use Rattle.cell.proofs.Mates.{slot-has, ports, darts, laws}
 use Rattle.cell.proofs.Recording.{run-loop, run-at, run-long, pointOf}
 
--- the folded segments of a record, each counted at the place that it comes to
+-- the crossings of a record on an edge
 module _ (l : List ℕ) where
-  abbrev n : ℕ
-  n = length l
-
-  unfoldable pub foldAt : ℕ → ℕ
-  foldAt k = one (eqb (edgeOf (getD l (before n k) 0)) (edgeOf (getD l k 0)))
-
-  pub folds-none : n ≡ 0 → foldsIn l ≡ 0
-  unfolding foldsIn total
-  folds-none e = rw e
-
-  pub folds-all : {k x : ℕ} → Summed foldAt 1 k x → k ≡ n → x ≡ foldsIn l
-  unfolding foldsIn foldAt
-  folds-all {k} {x} S e =
-      S .is ∙ ap (λ m. total foldAt m 0) e ∙ sym (total-round foldAt n)
-      ∙ total-ext (λ k. foldAt (after n k)) (λ k. one (eqb (edgeOf (getD l k 0)) (edgeOf (getD l (after n k) 0)))) n 0
-      (λ k a b. ap (λ j. one (eqb (edgeOf (getD l j 0)) (edgeOf (getD l (after n k) 0)))) (before-after n k (omega arith)))
-
   unfoldable pub crossAt : ℕ → ℕ → ℕ
   crossAt e k = one (eqb (edgeOf (getD l k 0)) e)
-
-  pub before-next : (k : ℕ) → before n (k + 1) ≡ k
-  before-next k = ap (before n) (add-one k)
 
 module _ (w : Edges) where
   abbrev N : ℕ
@@ -174,17 +152,6 @@ module _ (c : Cell) (p : ℕ) where
     from-edge : (k : ℕ) → k < size → edgeOf (getD (halvesFrom c p) k 0) ≡ edge cw (dart cw p k / 2)
     from-edge k h = rw (from-half k h) (half-edge cw (dart cw p k) (dart-live cw p l k h))
 
-    from-next : (k : ℕ) → k < size → edgeOf (getD (halvesFrom c p) (after size k) 0) ≡ edge cw (step cw (dart cw p k) / 2)
-    from-next k h = from-edge (after size k) (after-lt size k h) ∙ ap (λ d. edge cw (d / 2)) (dart-after cw p l k h)
-
-    pub normal-is : normal cw p ≡ eqb (foldsIn (halvesFrom c p)) 0
-    unfolding normal folded foldsIn
-    normal-is =
-        rw length-halves
-        (ap (λ x. eqb x 0) (tally-darts cw p l (folded cw)
-        ∙ total-ext (λ k. one (folded cw (dart cw p k))) (λ k. one (eqb (edgeOf (getD (halvesFrom c p) k 0)) (edgeOf (getD (halvesFrom c p) (after size k) 0)))) size 0
-        (λ k a b. ap one (ap₂ eqb (sym (from-edge k (omega arith))) (sym (from-next k (omega arith)))))))
-
     pub parity-is : (e : ℕ) → parity cw p e ≡ crossesIn (halvesFrom c p) e % 2
     unfolding parity crossesIn
     parity-is e =
@@ -194,8 +161,8 @@ module _ (c : Cell) (p : ℕ) where
         (λ k a b. ap (λ x. one (eqb x e)) (sym (from-edge k (omega arith))))))
 
     -- what is answered of it
-    pub answer-is : 0 < size → roundAnswer (c .nodes) (halvesFrom c p) (pointsFrom c p) ≡ answerFrom cw (c .nodes) (p ∷ [])
+    pub answer-is : 0 < size → roundAnswer (c .nodes) (halvesFrom c p) (pointsFrom c p) (normal cw p) ≡ answerFrom cw (c .nodes) (p ∷ [])
     unfolding answerFrom typeOf roundAnswer
     answer-is h =
         let x : dart cw p 0 / 2 ≡ p = omega (arith, dart-zero cw p l) in
-        rw (from-point 0 h, x, length-halves, ← normal-is, ← parity-is 0, ← parity-is 1, ← parity-is 2) refl
+        rw (from-point 0 h, x, length-halves, ← parity-is 0, ← parity-is 1, ← parity-is 2) refl

@@ -6,17 +6,18 @@ use native.Mathlib.Omega.{arith}
 use lib.Dec.{eqb, ltb}
 use Rattle.counting.specs.Pick.{pick}
 use Rattle.slots.specs.Slots.{slotEdge}
-use Rattle.face.specs.Face.{joined, lower, upper, other, countOn, kth, faceJoin}
+use Rattle.face.specs.Face.{along, joinedBy, joined, isAlong, lower, upper, other, countOn, kth, partner, faceAnswer, faceJoin}
 use Rattle.face.specs.Ends.{Edge, on-ab, on-ac, on-bc, End, low, high, Corners}
 use Rattle.face.proofs.Ends.{edge-of, edge-lt as face-edge-lt, on, end-other}
 use Rattle.face.proofs.Gaps.{corner-fits}
-use Rattle.face.proofs.Branches.{face-low, face-high, face-skip, face-up, face-down}
+use Rattle.face.proofs.Branches.{answer-low, answer-high, answer-up, answer-down, face-low, face-high, face-skip, face-up, face-down}
 use Rattle.cell.specs.Cell.{Edges, number, crossings, step}
+use Rattle.cell.specs.Loop.{folded}
 use Rattle.cell.specs.Half.{halfEdges, slotOf, rankOf, edgeOf, twin, around}
 use Rattle.cell.specs.Route.{cornerOf}
 use Rattle.cell.specs.Dart.{Parts, dartNumber}
 use Rattle.cell.proofs.Half.{place-lt, twin-lt, twin-edge, half-edge}
-use Rattle.cell.proofs.Step.{joinOn, step-joined, step-unjoined}
+use Rattle.cell.proofs.Step.{joinOn, answerOn, fold-is, step-joined, step-unjoined}
 
 -- a step from crossing x over half-edge h leads to index u of the edge of half-edge g, left by g
 pub record Reach (w : Edges) (h x g u : ℕ) : Type 0 where
@@ -79,6 +80,10 @@ module _ (w : Edges) where
       corners : Corners ab ac bc (rankOf h) (w .count (edgeOf h)) (cornerOf w (lower (rankOf h)) h) (cornerOf w (upper (rankOf h)) h)
       unfolding cornerOf
       corners = record { edge = own; own = sym own-count; at-lower = refl; at-upper = refl }
+
+      pub high-own : cornerOf w (upper (rankOf h)) h ≤ w .count (edgeOf h)
+      unfolding cornerOf
+      high-own = omega (arith, own-count, corner-fits ab ac bc (upper (rankOf h)) (rankOf h))
 
       -- the crossings of the next edge round the node v
       next-count : (v : ℕ) → End v (rankOf h) → countOn ab ac bc (other v (rankOf h)) ≡ w .count (edgeOf (around v h))
@@ -143,6 +148,23 @@ module _ (w : Edges) where
     unfolding joinOn
     join-face = refl
 
+    answer-face : folded w (dartNumber h x) ≡ isAlong (faceAnswer (ab h) (ac h) (bc h) j t)
+    unfolding answerOn
+    answer-face = fold-is w P
+
+    told-round : (v k : ℕ) → faceAnswer (ab h) (ac h) (bc h) j t ≡ partner (ab h) (ac h) (bc h) v j k → folded w (dartNumber h x) ≡ false
+    unfolding partner
+    told-round v k e = answer-face ∙ ap isAlong e
+
+    told-along : {u : ℕ} → faceAnswer (ab h) (ac h) (bc h) j t ≡ joinedBy j u along → folded w (dartNumber h x) ≡ true
+    told-along e = answer-face ∙ ap isAlong e
+
+    pub low-told : t < cornerOf w (lower j) h → folded w (dartNumber h x) ≡ false
+    low-told b = told-round (lower j) t (answer-low (corners h l) t b)
+
+    pub high-told : (k : ℕ) → k ≡ w .count (edgeOf h) - 1 - t → k < cornerOf w (upper j) h → folded w (dartNumber h x) ≡ false
+    high-told k e b = told-round (upper j) (w .count (edgeOf h) - 1 - t) (answer-high (corners h l) t (P .index-lt) (omega arith))
+
     -- the k-th from its lower or its upper end
     pub turn-low : t < cornerOf w (lower j) h → Reach w h x (around (lower j) h) (pick (eqb j 2) (w .count (edgeOf (around (lower j) h)) - 1 - t) t)
     turn-low b =
@@ -164,12 +186,18 @@ module _ (w : Edges) where
           let r = reach j u (place-lt h l) ul (join-face ∙ e) in
           rw here at r
 
+      pub up-told : (w .count (edgeOf h) - cornerOf w (upper j) h - t) % 2 ≡ 0 → folded w (dartNumber h x) ≡ true
+      up-told z = told-along {u = t + 1} (answer-up (corners h l) t a b z)
+
       pub between-up : (w .count (edgeOf h) - cornerOf w (upper j) h - t) % 2 ≡ 0 → Reach w h x (twin h) (t + 1)
       between-up z = fold (t + 1) (omega arith) (face-up (corners h l) t a b z)
 
       module _ (z : (w .count (edgeOf h) - cornerOf w (upper j) h - t) % 2 ≡ 1) where
         pub between-end : t ≡ cornerOf w (lower j) h → step w (dartNumber h x) ≡ 2 * crossings w
         between-end e = step-unjoined w P (join-face ∙ face-skip (corners h l) t a b z e)
+
+        pub down-told : cornerOf w (lower j) h < t → folded w (dartNumber h x) ≡ true
+        down-told e = told-along {u = t - 1} (answer-down (corners h l) t a b z e)
 
         pub between-down : cornerOf w (lower j) h < t → Reach w h x (twin h) (t - 1)
         between-down e = fold (t - 1) (before-lt (P .index-lt)) (face-down (corners h l) t a b z e)

@@ -2,41 +2,41 @@
 use Prim.Native.Nat.{ℕ, _+_, _*_, _-_, _%_, _≤_, _<_}
 use mathlib.Core.Path.{_≡_, refl, sym, ap, _∙_, subst}
 use mathlib.Core.Bool.{Bool, true, false}
-use mathlib.Core.Logic.{_≢_}
 use mathlib.Core.List.{List}
 use native.Mathlib.Omega.{arith}
 use lib.Dec.{eqb, ltb}
 use lib.ListN.{getD}
 use Rattle.counting.specs.Pick.{pick}
+use Rattle.face.specs.declared.Stand.the-variants.{Low, High}
 use Rattle.face.specs.Face.{lower, upper}
+use Rattle.face.proofs.Stands.{Stands, Within}
 use Rattle.cell.specs.declared.Cell.{Cell}
 use Rattle.cell.specs.declared.Dart.{Dart}
 use Rattle.cell.specs.declared.Next.{Next}
 use Rattle.cell.specs.declared.Next.the-variants.{On, End}
 use Rattle.cell.specs.Cell.{Edges, crossings, number, step}
+use Rattle.cell.specs.Loop.{folded}
 use Rattle.cell.specs.Of.{edgesOf}
-use Rattle.cell.specs.Half.{halfEdges, rankOf, edgeOf}
+use Rattle.cell.specs.Half.{halfEdges, rankOf, edgeOf, twin}
 use Rattle.cell.specs.Route.{cornerOf, columns, lowAt, highAt, countAt, roundLowAt, roundHighAt, twinAt, rankAt, Routed}
 use Rattle.cell.specs.Limits.{mostInCell}
-use Rattle.cell.specs.Dart.{Spot, IsDartAt, Ready, Turns, Between, Leads, Onward, dartNumber, dartOf}
-use Rattle.cell.proofs.Reach.{Reach, low-lt, high-lt, low-fits, high-fits, turn-low, turn-high, between-end, between-up, between-down}
+use Rattle.cell.specs.Dart.{Spot, IsDartAt, Ready, AtLow, AtHigh, Turns, Beside, Leads, Onward, dartNumber, dartOf}
+use Rattle.cell.proofs.Reach.{Reach, high-own, low-lt, high-lt, low-fits, high-fits, turn-low, turn-high, between-end, between-up, between-down, low-told, high-told, up-told, down-told}
 use Rattle.cell.proofs.Route.{low-at, high-at, count-at, low-next-at, high-next-at, twin-at, place-at, fits}
-
-odd-one : (n : ℕ) → n % 2 ≢ 0 → n % 2 ≡ 1
-odd-one n z = omega arith
 
 -- a step comes to index u of the edge of half-edge g, which is read as f
 pub spot : {w : Edges} {h x f g u : ℕ} → f ≡ g → Reach w h x g u → Spot w f u
 spot e r = rw e (record { half-lt = r .parts .half-lt; index-lt = r .parts .index-lt })
 
-pub leads : {w : Edges} {d r : Dart} {f g u : ℕ} → f ≡ g → Reach w (d .half) (d .number) g u → IsDartAt w f u r → Leads w d r
-leads {w} {d} {r} e R A = record {
+pub leads : {w : Edges} {d r : Dart} {f g u : ℕ} {b : Bool} → f ≡ g → Reach w (d .half) (d .number) g u → folded w (dartOf d) ≡ b → IsDartAt w f u r → Leads w d r b
+leads {w} {d} {r} e R q A = record {
   to = record {
     half-lt = rw (A .half-is, e) (R .parts .half-lt);
     index-lt = rw (A .half-is, A .index-is, e) (R .parts .index-lt);
     number-is = rw (A .half-is, A .index-is) (A .number-is);
   };
   is = R .is ∙ rw (A .half-is, A .number-is, e) refl;
+  told = q;
 }
 
 module _ {c : Cell} {t : List ℕ} {d : Dart} (R : Ready c t d) where
@@ -66,48 +66,62 @@ module _ {c : Cell} {t : List ℕ} {d : Dart} (R : Ready c t d) where
   index-small = omega (arith, fits (R .routed) h l (d .index) (R .dart .index-lt))
 
   -- round the lower end, and round the upper one
-  pub to-low : d .index < own lowAt → Turns w d (own roundLowAt) (d .index) (eqb (own rankAt) 2)
-  to-low b =
-      let a : d .index < cornerOf w (lower (rankOf h)) h = rw low-is at b in
-      rw (low-next-at (R .routed) h l, place-at (R .routed) h l) (record { half-lt = low-lt w h l; room = low-fits w h l (d .index) a; is = turn-low w (R .dart) a .is })
+  pub to-low : AtLow w d → Turns w d (own roundLowAt) (d .index) (eqb (own rankAt) 2)
+  to-low a =
+      rw (low-next-at (R .routed) h l, place-at (R .routed) h l)
+      (record { half-lt = low-lt w h l; room = low-fits w h l (d .index) a; is = turn-low w (R .dart) a .is; told = low-told w (R .dart) a })
 
-  pub to-high : (k : ℕ) → k ≡ own countAt - 1 - d .index → k < own highAt → Turns w d (own roundHighAt) k (ltb 0 (own rankAt))
-  to-high k e b =
-      let a : k < cornerOf w (upper (rankOf h)) h = rw high-is at b in
+  pub to-high : (k : ℕ) → AtHigh w d k → Turns w d (own roundHighAt) k (ltb 0 (own rankAt))
+  to-high k A =
       rw (high-next-at (R .routed) h l, place-at (R .routed) h l)
-      (record { half-lt = high-lt w h l; room = high-fits w h l k a; is = turn-high w (R .dart) k (rw count-is at e) a .is })
+      (record { half-lt = high-lt w h l; room = high-fits w h l k (A .below); is = turn-high w (R .dart) k (A .is) (A .below) .is; told = high-told w (R .dart) k (A .is) (A .below) })
 
-  module _ (B : Between w d) where
-    -- the crossings from this one to the upper corner
-    abbrev up : ℕ
-    up = own countAt - own highAt - d .index
+  pub twin-is : own twinAt ≡ twin h
+  twin-is = twin-at (R .routed) h l
 
-    up-is : up ≡ w .count (edgeOf h) - cornerOf w (upper (rankOf h)) h - d .index
-    up-is = rw (high-is, count-is) refl
+  -- by where the face call has the dart stand
+  pub upper-fits : own highAt ≤ own countAt
+  upper-fits = rw (high-is, count-is) (high-own w h l)
 
-    -- it stands below them
-    pub below-high : d .index + own highAt < own countAt
-    below-high = rw (high-is, count-is) (B .high)
+  module _ {n p q : ℕ} (en : n ≡ own countAt) (ep : p ≡ own lowAt) (eq : q ≡ own highAt) where
+    abbrev t₀ : ℕ
+    t₀ = d .index
 
-    pub to-up : up % 2 ≡ 0 → Reach w h (d .number) (own twinAt) (d .index + 1)
-    to-up z = rw (twin-at (R .routed) h l) (between-up w (R .dart) (B .low) (B .high) (rw up-is at z))
+    pub stands-low : Stands p (n - q) t₀ Low → AtLow w d
+    stands-low s = omega (arith, s, low-is)
 
-    module _ (z : up % 2 ≢ 0) where
-      odd : (w .count (edgeOf h) - cornerOf w (upper (rankOf h)) h - d .index) % 2 ≡ 1
-      odd = let n = rw up-is at z in odd-one (w .count (edgeOf h) - cornerOf w (upper (rankOf h)) h - d .index) n
+    pub stands-high : Stands p (n - q) t₀ High → AtHigh w d (n - 1 - t₀)
+    stands-high s = record { is = rw (en ∙ count-is) refl; below = omega (arith, s .1, high-is, count-is, R .dart .index-lt) }
 
-      pub to-end : d .index ≡ own lowAt → step w (dartOf d) ≡ 2 * crossings w
-      to-end e = between-end w (R .dart) (B .low) (B .high) odd (e ∙ low-is)
+    counts : (cornerOf w (lower (rankOf h)) h ≡ p) × (cornerOf w (upper (rankOf h)) h ≡ q) × (w .count (edgeOf h) ≡ n)
+    counts = (sym (ep ∙ low-is), sym (eq ∙ high-is), sym (en ∙ count-is))
 
-      module _ (e : d .index ≢ own lowAt) where
-        past-low : cornerOf w (lower (rankOf h)) h < d .index
-        past-low = let n = rw low-is at e in omega (arith, B .low)
+    module _ (W : Within p (n - q) t₀) where
+      low : cornerOf w (lower (rankOf h)) h ≤ t₀
+      low = rw (counts .0) (W .low)
 
-        pub down-pos : 1 ≤ d .index
-        down-pos = omega (arith, past-low)
+      high : t₀ + cornerOf w (upper (rankOf h)) h < w .count (edgeOf h)
+      high = omega (arith, W .high, counts)
 
-        pub to-down : Reach w h (d .number) (own twinAt) (d .index - 1)
-        to-down = rw (twin-at (R .routed) h l) (between-down w (R .dart) (B .low) (B .high) odd past-low)
+      beside : {u : ℕ} → Reach w h (d .number) (twin h) u → folded w (dartOf d) ≡ true → Beside w d u
+      beside r e = record { spot = record { half-lt = r .parts .half-lt; index-lt = r .parts .index-lt }; is = r .is; told = e }
+
+      pub stands-up : (n - q - t₀) % 2 ≡ 0 → Beside w d (t₀ + 1)
+      stands-up z =
+          let y : (w .count (edgeOf h) - cornerOf w (upper (rankOf h)) h - t₀) % 2 ≡ 0 = rw (counts .1, counts .2) z in
+          beside (between-up w (R .dart) low high y) (up-told w (R .dart) low high y)
+
+      module _ (z : (n - q - t₀) % 2 ≡ 1) where
+        y : (w .count (edgeOf h) - cornerOf w (upper (rankOf h)) h - t₀) % 2 ≡ 1
+        y = rw (counts .1, counts .2) z
+
+        pub stands-down : p < t₀ → Beside w d (t₀ - 1)
+        stands-down e =
+            let f : cornerOf w (lower (rankOf h)) h < t₀ = rw (counts .0) e in
+            beside (between-down w (R .dart) low high y f) (down-told w (R .dart) low high y f)
+
+        pub stands-alone : t₀ ≡ p → step w (dartOf d) ≡ 2 * crossings w
+        stands-alone e = between-end w (R .dart) low high y (e ∙ sym (counts .0))
 
 -- a dart that a turn comes to
 module _ {c : Cell} {t : List ℕ} (R : Routed c t) {d : Dart} {g k : ℕ} {over : Bool} (T : Turns (edgesOf c) d g k over) where
@@ -130,8 +144,16 @@ module _ {c : Cell} {t : List ℕ} (R : Routed c t) {d : Dart} {g k : ℕ} {over
   pub on-to : over ≡ false → Reach v (d .half) (d .number) g k
   on-to e = to false k e refl (T .room)
 
+-- along the edge, whose twin half-edge is read as f
+module _ {w : Edges} {d : Dart} {u f : ℕ} (A : Beside w d u) (e : f ≡ twin (d .half)) where
+  pub beside-spot : Spot w f u
+  beside-spot = rw e (A .spot)
+
+  pub beside-leads : {r : Dart} → IsDartAt w f u r → Leads w d r true
+  beside-leads D = leads e (record { parts = record { half-lt = A .spot .half-lt; index-lt = A .spot .index-lt; number-is = refl }; is = A .is }) (A .told) D
+
 -- what a step came to, by its case
-pub onward-on : {w : Edges} {d e : Dart} {r : Next} → Onward w d r → r ≡ On e → Leads w d e
+pub onward-on : {w : Edges} {d e : Dart} {b : Bool} {r : Next} → Onward w d r → r ≡ On e b → Leads w d e b
 onward-on {w} {d} o q = subst (Onward w d) q o
 
 pub onward-end : (w : Edges) (d : Dart) {r : Next} → Onward w d r → r ≡ End → step w (dartOf d) ≡ 2 * crossings w

@@ -24,7 +24,8 @@ use Rattle.manifold.proofs.Shapes.{fits, triangles-ext, map-triangles}
 use Rattle.cell.specs.declared.Cell.{Cell}
 use Rattle.cell.specs.declared.Corner.the-variants.{Crossing, Middle}
 use Rattle.cell.specs.declared.Side.the-variants.{Segment, Inner}
-use Rattle.cell.specs.Cell.{Edges, ahead, base, crossings, edge, index, number, joinAt, mate, first, second, slot, step}
+use Rattle.face.specs.Face.{isAlong}
+use Rattle.cell.specs.Cell.{Edges, ahead, base, crossings, edge, index, number, answerAt, joinAt, mate, first, second, slot, step}
 use Rattle.cell.specs.Loop.{loopSize, dart, folded, normal, inGrid}
 use Rattle.cell.specs.Of.{countOf, startOf}
 use Rattle.cell.specs.Triangles.{edgesOf, triangle, numberOf, segmentOf, point, segment, loopTriangles, cellTriangles}
@@ -32,7 +33,7 @@ use Rattle.cell.specs.Renaming.{Renaming, renamedCorner, renamedSide, re
 use Rattle.cell.proofs.Lay.{lay}
 use Rattle.cell.proofs.Step.{step-is}
 use Rattle.cell.proofs.Mates.{mate-joined, mate-unjoined, joined-edge, joined-index, mate-cases, slot-has}
-use Rattle.cell.proofs.Loops.{dart-live, dart-after, tally-darts}
+use Rattle.cell.proofs.Loops.{dart-live, tally-darts}
 use Rattle.cell.proofs.Taken.{dart-leads}
 
 -- numbers in the same order, by their tests
@@ -102,6 +103,10 @@ module _ (r : Renaming) (a b : Cell) (R : RenamedCell r a b) where
 
     index-same : index v x ≡ index w x
     index-same = sym (ap (index w) at ∙ lay w .number-index (edge v x) (index v x) (lay v .edge-lt x l) (lay v .index-lt x l))
+
+    answer-same : (f : ℕ) → answerAt w f x ≡ answerAt v f x
+    unfolding answerAt
+    answer-same f = rw (edge-same, index-same)
 
     join-same : (f : ℕ) → joinAt w f x ≡ joinAt v f x
     unfolding joinAt
@@ -174,9 +179,8 @@ module _ (r : Renaming) (a b : Cell) (R : RenamedCell r a b) where
     folded-same k h =
         let d = dart v p k in
         let ld = dart-live v p l k h in
-        ap₂ eqb (edge-same (d / 2) (omega arith))
-        (edge-same (step v d / 2) (omega (arith, next-live k h, dart-after v p l k h)) ∙ ap (λ e. edge w (e / 2)) (step-same d ld))
-        ∙ ap (λ e. eqb (edge w (e / 2)) (edge w (step w e / 2))) (dart-same k h)
+        ap isAlong (sym (answer-same (d / 2) (omega arith) (slot v d)) ∙ ap (λ f. answerAt w f (d / 2)) (slot-same d ld))
+        ∙ ap (λ e. isAlong (answerAt w (slot w e) (e / 2))) (dart-same k h)
 
     normal-same : normal v p ≡ normal w p
     unfolding normal

@@ -10,18 +10,22 @@ use borrow.Author.Tests.{eqb-true, eqb-false, eq-eqb, ne-eqb, le-ltb}
 use Rattle.counting.specs.Pick.{one}
 use Rattle.slots.specs.Slots.{slotEdge, firstSlot, secondSlot}
 use Rattle.slots.proofs.Slots.{one-of-two}
-use Rattle.face.specs.Face.{joined, unjoined, faceJoin}
+use Rattle.face.specs.Face.{joined, unjoined, isAlong, faceAnswer, faceJoin}
 use Rattle.walk.specs.Step as walk
 use Rattle.walk.proofs.Step.{face-first, face-second, land-first, land-second}
-use Rattle.cell.specs.Cell.{Edges, crossings, edge, index, number, joinAt, joinedTo, mate, first, second, slot, step}
+use Rattle.cell.specs.Cell.{Edges, crossings, edge, index, number, answerAt, joinAt, joinedTo, mate, first, second, slot, step}
+use Rattle.cell.specs.Loop.{folded}
 use Rattle.cell.specs.Half.{halfEdges, slotOf, rankOf, edgeOf, twin}
 use Rattle.cell.specs.Dart.{Parts, dartNumber}
 use Rattle.cell.proofs.Lay.{lay}
 use Rattle.cell.proofs.Half.{slot-lt, edge-lt, place-is, within, twin-edge, twin-second, twin-first, half-slot, half-edge}
 
--- the answer of the face call on the slot of half-edge h
+-- what the face call joins a crossing to on the slot of half-edge h, and its whole answer
 unfoldable pub joinOn : Edges → ℕ → ℕ → List ℕ
 joinOn w h t = faceJoin (w .count (slotEdge (slotOf h) 0)) (w .count (slotEdge (slotOf h) 1)) (w .count (slotEdge (slotOf h) 2)) (rankOf h) t
+
+unfoldable pub answerOn : Edges → ℕ → ℕ → List ℕ
+answerOn w h t = faceAnswer (w .count (slotEdge (slotOf h) 0)) (w .count (slotEdge (slotOf h) 1)) (w .count (slotEdge (slotOf h) 2)) (rankOf h) t
 
 -- the dart of crossing x that leaves by half-edge h is the first or the second
 module _ (h x : ℕ) where
@@ -126,6 +130,11 @@ module _ (w : Edges) where
     join-is : joinAt w (slotOf h) x ≡ joinOn w h t
     unfolding joinAt joinOn
     join-is = rw (edge-in, index-in, place-is h (P .half-lt))
+
+    -- whether the segment goes along its edge
+    pub fold-is : folded w (dartNumber h x) ≡ isAlong (answerOn w h t)
+    unfolding folded answerAt answerOn
+    fold-is = rw (parts-slot, number-half h x, edge-in, index-in, place-is h (P .half-lt))
 
     step-land : step w (dartNumber h x) ≡ walk.land (crossings w) (first w) (second w) (mate w) (slotOf h) (mate w (slotOf h) x)
     step-land = step-is (dartNumber h x) ∙ rw (parts-slot, number-half h x)

@@ -21,6 +21,7 @@ use Rattle.cell.specs.Loop.{loopSize, dart, loopDarts, folded, normal, p
 use Rattle.cell.proofs.Lay.{lay}
 use Rattle.cell.proofs.Mates.{slot-has}
 use Rattle.cell.proofs.Follow.{contained, next-on, next-apart}
+use Rattle.cell.proofs.Folds.{folded-ends}
 use Rattle.cell.proofs.Loops.{the-loop, dart-live, tally-darts}
 
 -- the edge that two slots share
@@ -144,15 +145,15 @@ module _ (w : Edges) where
     tally-three t = tally-darts w p l t ∙ ap (λ n. total (λ k. one (t (dart w p k))) n 0) three
 
     pub three-normal : normal w p ≡ true
-    unfolding normal folded
+    unfolding normal
     three-normal =
         let a : eqb e0 e1 ≡ false = not-true (eqb e0 e1) (and-left (not (eqb e0 e1)) (not (eqb e1 e2) && not (eqb e2 e0)) all-apart) in
         let r = and-right (not (eqb e0 e1)) (not (eqb e1 e2) && not (eqb e2 e0)) all-apart in
         let b : eqb e1 e2 ≡ false = not-true (eqb e1 e2) (and-left (not (eqb e1 e2)) (not (eqb e2 e0)) r) in
         let d : eqb e2 e0 ≡ false = not-true (eqb e2 e0) (and-right (not (eqb e1 e2)) (not (eqb e2 e0)) r) in
-        let x : folded w d0 ≡ false = ap (λ y. eqb e0 (edge w (y / 2))) (sym one-two) ∙ a in
-        let y : folded w d1 ≡ false = ap (λ y. eqb e1 (edge w (y / 2))) (sym two-three) ∙ b in
-        let z : folded w d2 ≡ false = ap (λ y. eqb e2 (edge w (y / 2))) (sym three-one) ∙ d in
+        let x : folded w d0 ≡ false = folded-ends w d0 l0 (rw (← one-two) l1) ∙ ap (λ y. eqb e0 (edge w (y / 2))) (sym one-two) ∙ a in
+        let y : folded w d1 ≡ false = folded-ends w d1 l1 (rw (← two-three) l2) ∙ ap (λ y. eqb e1 (edge w (y / 2))) (sym two-three) ∙ b in
+        let z : folded w d2 ≡ false = folded-ends w d2 l2 (rw (← three-one) l0) ∙ ap (λ y. eqb e2 (edge w (y / 2))) (sym three-one) ∙ d in
         eq-eqb (tally (folded w) (loopDarts w p)) 0 (tally-three (folded w) ∙ omega (arith, ap one x, ap one y, ap one z))
 
     parity-three : (k : ℕ) → parity w p k ≡ par e0 e1 e2 k

@@ -11,7 +11,7 @@ use Rattle.counting.specs.Range.{total}
 use Rattle.counting.specs.Search as search
 use Rattle.counting.specs.Pack.{pre}
 use Rattle.slots.specs.Slots.{slotEdge, edgeRank, firstSlot, secondSlot}
-use Rattle.face.specs.Face.{faceJoin}
+use Rattle.face.specs.Face.{faceAnswer, faceJoin}
 use Rattle.walk.specs.Step as walk
 
 -- the six edges of a cell: the count of edge k, and the crossing number (01) at its index 0
@@ -46,7 +46,10 @@ module _ (w : Edges) where
   unfoldable pub index : ℕ → ℕ
   index x = x - base (edge x)
 
-  -- the face call's answer for crossing x on slot s
+  -- the face call's answer for crossing x on slot s; and without how and why
+  unfoldable pub answerAt : ℕ → ℕ → List ℕ
+  answerAt s x = faceAnswer (w .count (slotEdge s 0)) (w .count (slotEdge s 1)) (w .count (slotEdge s 2)) (edgeRank s (edge x)) (index x)
+
   unfoldable pub joinAt : ℕ → ℕ → List ℕ
   joinAt s x = faceJoin (w .count (slotEdge s 0)) (w .count (slotEdge s 1)) (w .count (slotEdge s 2)) (edgeRank s (edge x)) (index x)
 

@@ -3,7 +3,6 @@ use Prim.Native.Nat.{ℕ, _+_, _*_, _≤_}
 use mathlib.Core.Path.{_≡_}
 use mathlib.Core.Bool.{Bool, true}
 use mathlib.Core.List.{List, [], _∷_}
-use lib.Dec.{eqb}
 use lib.ListN.{length, getD}
 use lib.Ieee.{Float}
 use Rattle.counting.specs.Pick.{pick}
@@ -11,15 +10,11 @@ use Rattle.place.specs.declared.Place.{Place}
 use Rattle.place.specs.Place.{middle, coordinates, placeAt}
 use Rattle.manifold.specs.Shape.{hasMiddle}
 use Rattle.cell.specs.declared.Cell.{Cell}
-use Rattle.cell.specs.Round.{foldsIn}
 use Rattle.cell.specs.Middles.{fanCount, numberedBelow}
 
--- a recorded loop is drawn as a fan; its middle then, by the places of an area's points.
-abbrev pub recordedFan : (halves : List ℕ) → Bool
-recordedFan halves = hasMiddle (length halves) (eqb (foldsIn halves) 0)
-
-unfoldable pub recordedMiddle : (halves points : List ℕ) (area : List Float) → List Place
-recordedMiddle halves points area = pick (recordedFan halves) (middle (λ k. placeAt area (getD points k 0)) (length points) ∷ []) []
+-- the middle of a recorded loop, normal or not, where it is drawn as a fan, by the places of an area's points
+unfoldable pub recordedMiddle : (points : List ℕ) (normal : Bool) (area : List Float) → List Place
+recordedMiddle points normal area = pick (hasMiddle (length points) normal) (middle (λ k. placeAt area (getD points k 0)) (length points) ∷ []) []
 
 -- the places of the cell's crossings stand before point `at`, and its middles have room from there on
 pub record MiddlesRoom (c : Cell) (area : List Float) (at : ℕ) : Type 0 where

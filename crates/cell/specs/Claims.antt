@@ -16,7 +16,7 @@ use Rattle.walk.specs.Claims.{WalkLaws}
 use Rattle.cell.specs.declared.LoopType.{LoopType}
 use Rattle.cell.specs.declared.Loop.{Loop}
 use Rattle.cell.specs.Cell.{Edges, ahead, base, crossings, edge, index, number, joinAt, mate, first, second, slot, step}
-use Rattle.cell.specs.Loop.{loopSize, dart, normal, typeOf, inGrid, leasts}
+use Rattle.cell.specs.Loop.{loopSize, dart, loopDarts, normal, typeOf, inGrid, leasts}
 use Rattle.cell.specs.Answer.{typeNumbers, loopNumbers}
 
 -- the readings of the answer in numbers are one to one, so that the numbers determine the enums
@@ -78,6 +78,8 @@ pub record CellLaws (w : Edges) (v : List ℕ) : Type 0 where
   -- each segment of the cell's faces is on at most one loop, once; on exactly one where no crossing of the cell is unjoined
   pub most : (s x : ℕ) → Lies w s x → Joined w s x → tally (runsAlong w s x) (flat (crossings w) (step w)) ≤ 1
   pub exactly : AllJoined w → (s x : ℕ) → Lies w s x → tally (runsAlong w s x) (flat (crossings w) (step w)) ≡ 1
+  -- a loop is normal exactly where no segment of it has both ends on one edge
+  pub normal-ends : (p : ℕ) → p < crossings w → normal w p ≡ eqb (tally (λ d. eqb (edge w (d / 2)) (edge w (step w d / 2))) (loopDarts w p)) 0
   -- a loop of three segments is normal, and a corner
   pub three-normal : (p : ℕ) → p < crossings w → loopSize w p ≡ 3 → normal w p ≡ true
   pub three-corner : (p : ℕ) → p < crossings w → loopSize w p ≡ 3 → (getD (typeOf w v p) 0 0 ≡ 1) ⊎ (getD (typeOf w v p) 0 0 ≡ 3)

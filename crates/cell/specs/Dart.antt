@@ -1,7 +1,7 @@
 -- Only contracts of parts cite this file. Darts in parts: the crossing with index t on the edge of half-edge h, which is crossing x of the cell, left by h.
-use Prim.Native.Nat.{ℕ, _+_, _*_, _-_, _≤_, _<_}
+use Prim.Native.Nat.{ℕ, _+_, _*_, _-_, _<_}
 use mathlib.Core.Path.{_≡_}
-use mathlib.Core.Bool.{Bool, not}
+use mathlib.Core.Bool.{Bool, true, false, not}
 use mathlib.Core.List.{List}
 use lib.Dec.{eqb}
 use Rattle.counting.specs.Pick.{pick, one}
@@ -12,7 +12,8 @@ use Rattle.cell.specs.declared.Dart.{Dart}
 use Rattle.cell.specs.declared.Next.{Next}
 use Rattle.cell.specs.declared.Next.the-variants.{On, End}
 use Rattle.cell.specs.Cell.{Edges, number, crossings, step}
-use Rattle.cell.specs.Half.{halfEdges, slotOf, rankOf, edgeOf}
+use Rattle.cell.specs.Half.{halfEdges, slotOf, rankOf, edgeOf, twin}
+use Rattle.cell.specs.Loop.{folded}
 use Rattle.cell.specs.Of.{edgesOf}
 use Rattle.cell.specs.Route.{cornerOf, Routed}
 
@@ -39,10 +40,13 @@ pub record Ready (c : Cell) (t : List ℕ) (d : Dart) : Type 0 where
   pub routed : Routed c t
   pub dart : IsDart (edgesOf c) d
 
--- the dart is below neither corner count
-pub record Between (w : Edges) (d : Dart) : Type 0 where
-  pub low : cornerOf w (lower (rankOf (d .half))) (d .half) ≤ d .index
-  pub high : d .index + cornerOf w (upper (rankOf (d .half))) (d .half) < w .count (edgeOf (d .half))
+-- the dart is at the lower end of its edge, or the k-th crossing at the upper
+abbrev pub AtLow : Edges → Dart → Type 0
+AtLow w d = d .index < cornerOf w (lower (rankOf (d .half))) (d .half)
+
+pub record AtHigh (w : Edges) (d : Dart) (k : ℕ) : Type 0 where
+  pub is : k ≡ w .count (edgeOf (d .half)) - 1 - d .index
+  pub below : k < cornerOf w (upper (rankOf (d .half))) (d .half)
 
 -- its number: the first dart of its crossing if it leaves by the first slot, else the second
 unfoldable pub dartNumber : ℕ → ℕ → ℕ
@@ -57,13 +61,21 @@ pub record Turns (w : Edges) (d : Dart) (g k : ℕ) (over : Bool) : Type 0 where
   pub half-lt : g < halfEdges
   pub room : k < w .count (edgeOf g)
   pub is : step w (dartOf d) ≡ dartNumber g (number w (edgeOf g) (pick over (w .count (edgeOf g) - 1 - k) k))
+  pub told : folded w (dartOf d) ≡ false
 
--- a step leads from dart d to dart r
-pub record Leads (w : Edges) (d r : Dart) : Type 0 where
+-- a step leads from dart d along its edge, to index u
+pub record Beside (w : Edges) (d : Dart) (u : ℕ) : Type 0 where
+  pub spot : Spot w (twin (d .half)) u
+  pub is : step w (dartOf d) ≡ dartNumber (twin (d .half)) (number w (edgeOf (twin (d .half))) u)
+  pub told : folded w (dartOf d) ≡ true
+
+-- a step leads from dart d to dart r, along the edge or not
+pub record Leads (w : Edges) (d r : Dart) (along : Bool) : Type 0 where
   pub to : IsDart w r
   pub is : step w (dartOf d) ≡ dartOf r
+  pub told : folded w (dartOf d) ≡ along
 
 -- what a step from dart d comes to: a dart, or the end of the curve
 abbrev pub Onward : Edges → Dart → Next → Type 0
-Onward w d (On r) = Leads w d r
+Onward w d (On r along) = Leads w d r along
 Onward w d End = step w (dartOf d) ≡ 2 * crossings w

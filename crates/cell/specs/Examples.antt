@@ -10,7 +10,7 @@ use Rattle.cell.specs.Cell.{Edges, crossings}
 use Rattle.cell.specs.Of.{edgesOf}
 use Rattle.cell.specs.Loop.{loopSize, dart, inGrid, leasts, loopAnswer}
 use Rattle.cell.specs.Route.{front, links}
-use Rattle.cell.specs.Round.{foldsIn, crossesIn}
+use Rattle.cell.specs.Round.{crossesIn}
 
 -- a cell by its counts, its edges' first crossing numbers and its nodes; how many crossings it has, the answers for loop 0 and on to the first
 -- that is none, and the points of each loop
@@ -67,6 +67,8 @@ examples =
     -- diagonal, the lowest node with 2 and with 3
     ∷ alone 1 0 1 1 0 1 (result (0 ∷ 4 ∷ 1 ∷ 2 ∷ 2 ∷ []) ∷ no ∷ []) ((0 ∷ 2 ∷ 3 ∷ 1 ∷ []) ∷ [])
     ∷ alone 1 1 0 0 1 1 (result (0 ∷ 4 ∷ 1 ∷ 2 ∷ 3 ∷ []) ∷ no ∷ []) ((0 ∷ 1 ∷ 3 ∷ 2 ∷ []) ∷ [])
+    -- only the closing segment goes along its edge
+    ∷ alone 2 1 0 1 0 1 (result (0 ∷ 5 ∷ 0 ∷ 1 ∷ 2 ∷ []) ∷ no ∷ []) ((0 ∷ 2 ∷ 4 ∷ 3 ∷ 1 ∷ []) ∷ [])
     -- the numbers of crossings and nodes are those of the grid
     ∷ among (0 ∷ 1 ∷ 1 ∷ 1 ∷ 1 ∷ 0 ∷ []) rising 4 (result (20 ∷ 4 ∷ 1 ∷ 2 ∷ 7 ∷ []) ∷ no ∷ []) ((20 ∷ 40 ∷ 50 ∷ 30 ∷ []) ∷ [])
     ∷ among (1 ∷ 1 ∷ 1 ∷ 0 ∷ 0 ∷ 0 ∷ []) rising 3 (result (10 ∷ 3 ∷ 1 ∷ 3 ∷ 4 ∷ []) ∷ no ∷ []) ((10 ∷ 20 ∷ 30 ∷ []) ∷ [])
@@ -98,12 +100,12 @@ listed (x ∷ l) = (x .crossings ∷ []) ∷ (x .loops ++ (x .points ++ listed l
 
 -- Counts 5 1 0 1 0 0 with starts of their own: the routes of half-edges 9, 10, 11 in slot 3, a face 5 1 1, and of 6 in slot 2, a face 5 0 0.
 -- Counts 4095 4096 300 65535 0 0, of which the second and the fourth are taken as 4,095: crossings, and the routes of 9, 10, 11, 6.
--- A recorded loop of edges 01, 02, 02, 01, and one of 01, 01: folded segments, and crossings on edge 01; of none.
+-- A recorded loop of edges 01, 02, 02, 01, and one of 01, 01, and of none: crossings on edge 01.
 unfoldable pub parts : List (List ℕ)
 parts =
     front w 9 ∷ front w 10 ∷ front w 11 ∷ front w 6 ∷ links 9 ∷ links 10 ∷ links 6
     ∷ (crossings v ∷ []) ∷ front v 9 ∷ front v 10 ∷ front v 11 ∷ front v 6
-    ∷ (foldsIn round ∷ crossesIn round 0 ∷ foldsIn pair ∷ crossesIn pair 0 ∷ foldsIn [] ∷ [])
+    ∷ (crossesIn round 0 ∷ crossesIn pair 0 ∷ crossesIn [] 0 ∷ [])
     ∷ []
   where
     w : Edges
@@ -123,7 +125,7 @@ partsListed =
     (1 ∷ 1 ∷ 5 ∷ 0 ∷ 10 ∷ []) ∷ (1 ∷ 0 ∷ 1 ∷ 5 ∷ 20 ∷ []) ∷ (1 ∷ 0 ∷ 1 ∷ 6 ∷ 40 ∷ []) ∷ (0 ∷ 0 ∷ 5 ∷ 0 ∷ 10 ∷ [])
     ∷ (3 ∷ 0 ∷ 6 ∷ 0 ∷ []) ∷ (6 ∷ 0 ∷ 3 ∷ 1 ∷ []) ∷ (4 ∷ 1 ∷ 9 ∷ 0 ∷ [])
     ∷ (12585 ∷ []) ∷ (2047 ∷ 2047 ∷ 4095 ∷ 0 ∷ 10 ∷ []) ∷ (2047 ∷ 2047 ∷ 4095 ∷ 4095 ∷ 20 ∷ []) ∷ (2047 ∷ 2047 ∷ 4095 ∷ 8490 ∷ 40 ∷ []) ∷ (300 ∷ 0 ∷ 4095 ∷ 0 ∷ 10 ∷ [])
-    ∷ (2 ∷ 2 ∷ 2 ∷ 2 ∷ 0 ∷ [])
+    ∷ (2 ∷ 2 ∷ 0 ∷ [])
     ∷ []
 
 abbrev pub ExamplesHold : Type 0

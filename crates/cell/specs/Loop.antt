@@ -7,10 +7,11 @@ use lib.ListN.{getD, drop}
 use Rattle.counting.specs.Pick.{pick, one}
 use Rattle.counting.specs.Range.{kept}
 use Rattle.counting.specs.Lists.{tally}
+use Rattle.face.specs.Face.{isAlong}
 use Rattle.walk.specs.Iterate.{it}
 use Rattle.walk.specs.Walk as walk
 use Rattle.answer.specs.Answer.{result}
-use Rattle.cell.specs.Cell.{Edges, crossings, edge, index, step}
+use Rattle.cell.specs.Cell.{Edges, crossings, edge, index, answerAt, slot, step}
 
 module _ (w : Edges) where
   -- the length (01) of the loop from p: its number of segments; 0 where there is no loop whose least crossing is p
@@ -24,11 +25,11 @@ module _ (w : Edges) where
   unfoldable pub loopDarts : ℕ → List ℕ
   loopDarts p = walk.loopAt (crossings w) (step w) p
 
-  -- the segment along dart d has both ends on one edge
+  -- the segment that dart d follows goes along its edge (02, W10), by the face call's answer
   unfoldable pub folded : ℕ → Bool
-  folded d = eqb (edge w (d / 2)) (edge w (step w d / 2))
+  folded d = isAlong (answerAt w (slot w d) (d / 2))
 
-  -- normal (01): no segment has both ends on one edge
+  -- normal (02, W10): no segment goes along its edge. This is 01's definition, that none has both ends on one edge (CellLaws, normal-ends)
   unfoldable pub normal : ℕ → Bool
   normal p = eqb (tally folded (loopDarts p)) 0
 

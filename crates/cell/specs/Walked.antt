@@ -1,13 +1,15 @@
 -- Only contracts of parts cite this file. What the walks along a cell's loops are given, and what they leave.
 use Prim.Native.Nat.{ℕ, _*_, _≤_, _<_}
 use mathlib.Core.Path.{_≡_}
+use mathlib.Core.Bool.{Bool, _||_}
 use mathlib.Core.List.{List}
+use lib.Dec.{ltb}
 use lib.ListN.{drop, getD, length, take}
 use Rattle.walk.specs.Marks.{Marks}
 use Rattle.cell.specs.declared.Cell.{Cell}
 use Rattle.cell.specs.declared.Dart.{Dart}
 use Rattle.cell.specs.Cell.{Edges, crossings, edge, step}
-use Rattle.cell.specs.Loop.{loopSize}
+use Rattle.cell.specs.Loop.{loopSize, normal}
 use Rattle.cell.specs.Of.{edgesOf}
 use Rattle.cell.specs.Route.{Routed}
 use Rattle.cell.specs.Limits.{mostInCell, fewCount}
@@ -29,6 +31,10 @@ pub record Starts (w : Edges) (p : ℕ) (d : Dart) : Type 0 where
 -- marks that earlier walks left: each mark is the start of a walk that came there
 abbrev pub Marked : Cell → List ℕ → Type 0
 Marked c m = Marks (crossings (edgesOf c)) (step (edgesOf c)) m
+
+-- a walk from p ends at crossing x without a loop: x is below p, or an earlier walk has been there
+unfoldable pub isMet : (marks : List ℕ) (p x : ℕ) → Bool
+isMet marks p x = ltb x p || ltb (getD marks x 0) p
 
 -- a list that has changed below place n at most
 pub record Kept (n : ℕ) (before after : List ℕ) : Type 0 where
@@ -76,12 +82,13 @@ pub record Lent (c : Cell) (routes : List ℕ) (n p : ℕ) (marks halves points 
   pub halves-long : n ≤ length halves
   pub points-long : n ≤ length points
 
--- what it leaves: the loop from p, of m darts, recorded in the first m places; where there is none, m is 0
-pub record Walked (c : Cell) (n p : ℕ) (marks halves points : List ℕ) (m : ℕ) (marks′ halves′ points′ : List ℕ) : Type 0 where
+-- what it leaves: the loop from p, of m darts, recorded in the first m places; where there is none, m is 0. It tells whether the loop is normal
+pub record Walked (c : Cell) (n p : ℕ) (marks halves points : List ℕ) (m : ℕ) (b : Bool) (marks′ halves′ points′ : List ℕ) : Type 0 where
   pub marked : Marked c marks′
   pub marks-kept : Kept n marks marks′
   pub halves-kept : Kept n halves halves′
   pub points-kept : Kept n points points′
   pub size : m ≡ loopSize (edgesOf c) p
+  pub told : b ≡ normal (edgesOf c) p
   pub halves-are : take m halves′ ≡ halvesFrom c p
   pub points-are : take m points′ ≡ pointsFrom c p

@@ -7,7 +7,7 @@ ghost use Rattle.counting.specs.Pick.{one};
 ghost use Rattle.cell.specs.Loop.{nodeWith, typeBy};
 ghost use Rattle.cell.specs.Limits.{startLimit};
 ghost use Rattle.cell.specs.Half.{edgeOf};
-ghost use Rattle.cell.specs.Round.{foldsIn, crossesIn, roundAnswer};
+ghost use Rattle.cell.specs.Round.{crossesIn, roundAnswer};
 ghost use Rattle.cell.specs.Answer.{typeNumbers, loopNumbers};
 use super::Cell;
 use super::Loop;
@@ -31,26 +31,6 @@ fn edge_at(halves: &[u8], k: usize) -> usize
         return tables::edge_of(h);
     }
     tables::edge_of(9 + h % 3)
-}
-
-// The folded segments of a recorded loop, from the one that comes to place 0 on.
-pub(crate) fn folds_of(halves: &[u8]) -> usize
-    ensures { λ r. ⌜ r ≡ foldsIn (now (halves .entry)) ⌝ }
-{
-    let n = halves.len();
-    if n == 0 {
-        return 0;
-    }
-    let mut a = edge_at(halves, n - 1);
-    let mut f: usize = 0;
-    let mut k: usize = 0;
-    while k < n {
-        let b = edge_at(halves, k);
-        f += same(a, b);
-        a = b;
-        k += 1;
-    }
-    f
 }
 
 // The crossings of a recorded loop on edge e.
@@ -98,15 +78,14 @@ fn type_of(c: Cell, x: usize, y: usize, z: usize) -> LoopType
     LoopType::Corner(node_with(c, a, b, d, 1))
 }
 
-// What is answered of a recorded loop.
-pub(crate) fn answer_of(c: Cell, halves: &[u8], points: &[u32]) -> Loop
+// What is answered of a recorded loop, of which its walk told whether it is normal.
+pub(crate) fn answer_of(c: Cell, halves: &[u8], points: &[u32], normal: bool) -> Loop
     requires { ⌜ (0 < length (now points)) × (length (now halves) < startLimit) ⌝ }
-    ensures { λ r. ⌜ loopNumbers r ≡ roundAnswer (c .nodes) (now (halves .entry)) (now (points .entry)) ⌝ }
+    ensures { λ r. ⌜ loopNumbers r ≡ roundAnswer (c .nodes) (now (halves .entry)) (now (points .entry)) normal ⌝ }
 {
     let x = crosses_of(halves, 0);
     let y = crosses_of(halves, 1);
     let z = crosses_of(halves, 2);
     let t = type_of(c, x, y, z);
-    let normal = folds_of(halves) == 0;
     Loop::Found(points[0], halves.len() as u32, normal, t)
 }

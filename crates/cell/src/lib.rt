@@ -123,10 +123,16 @@ struct Dart {
     number: usize,
 }
 
-// What follows a dart: another, or the end of its curve.
+// What follows a dart: another, and whether the segment to it goes along its edge; or the end of its curve.
 enum Next {
-    On(Dart),
+    On(Dart, bool),
     End,
+}
+
+// What a walk found: the length of the loop, 0 where there is none, and whether it is normal.
+struct Trip {
+    length: usize,
+    normal: bool,
 }
 
 // Loop k of the cell, which has n crossings, or that there are k or fewer. The arrays are the walks'.
@@ -147,13 +153,14 @@ fn loop_in(
     let mut left = k;
     let mut p: usize = 0;
     while p < n {
-        let m = walks::walk(c, &routes, n, p, marks, halves, points);
+        let t = walks::walk(c, &routes, n, p, marks, halves, points);
+        let m = t.length;
         p += 1;
         if m == 0 {
             continue;
         }
         if left == 0 {
-            return answers::answer_of(c, &halves[0..m], &points[0..m]);
+            return answers::answer_of(c, &halves[0..m], &points[0..m], t.normal);
         }
         left -= 1;
     }

@@ -2,7 +2,6 @@
 ghost use mathlib.Core.Path.{_≡_};
 ghost use mathlib.Core.Bool.{true, _&&_};
 ghost use lib.Dec.{eqb};
-ghost use Rattle.cell.specs.Round.{foldsIn};
 ghost use Prim.Native.Nat.{_<_};
 ghost use Rattle.counting.specs.Range.{after};
 ghost use Rattle.manifold.specs.Shape.{single, double, fan, shapeOf, manyOf};
@@ -125,14 +124,11 @@ fn spoke_of(c: Cell, halves: &[u8], points: &[u32], n: usize, k: usize) -> Trian
     }
 }
 
-// Whether a recorded loop of n is in two triangles: n is 4, and no segment has both ends on one edge.
-pub(crate) fn in_two(halves: &[u8], n: usize) -> bool
-    ensures { λ r. ⌜ r ≡ (eqb n 4 && eqb (foldsIn (now (halves .entry))) 0) ⌝ }
+// Whether a loop of n is in two triangles: n is 4, and it is normal.
+pub(crate) fn in_two(n: usize, normal: bool) -> bool
+    ensures { λ r. ⌜ r ≡ (eqb n 4 && normal) ⌝ }
 {
-    if n == 4 {
-        return super::answers::folds_of(halves) == 0;
-    }
-    false
+    if n == 4 { normal } else { false }
 }
 
 // How many triangles a loop of n gives; `two` says that n is 4 and the loop normal.

@@ -7,22 +7,21 @@ ghost use lib.ListN.{length};
 ghost use Rattle.counting.specs.Pick.{one};
 ghost use Rattle.counting.specs.Stored.{Stored};
 ghost use Rattle.place.specs.Place.{coordinates, placeAt, allNumbers};
+ghost use Rattle.manifold.specs.Shape.{hasMiddle};
 ghost use Rattle.cell.specs.Limits.{mostInCell};
 ghost use Rattle.cell.specs.Walked.{Room, Used};
 ghost use Rattle.cell.specs.Middles.{fanCount, cellMiddles, numberedBelow, pointsThen, nextPoint};
-ghost use Rattle.cell.specs.Centres.{recordedFan, recordedMiddle, MiddlesRoom};
+ghost use Rattle.cell.specs.Centres.{recordedMiddle, MiddlesRoom};
 use super::Cell;
-use super::answers::folds_of;
 use super::routes::end_of;
 use super::routes::routes_of;
 use super::walks::clear;
 use super::walks::walk;
 
-// 1 where a recorded loop is drawn as a fan, else 0.
-fn fan_of(halves: &[u8]) -> usize
-    ensures { λ r. ⌜ r ≡ one (recordedFan (now (halves .entry))) ⌝ }
+// 1 where a loop of n, normal or not, is drawn as a fan, else 0.
+fn fan_of(n: usize, normal: bool) -> usize
+    ensures { λ r. ⌜ r ≡ one (hasMiddle n normal) ⌝ }
 {
-    let n = halves.len();
     if n == 0 {
         return 0;
     }
@@ -32,15 +31,15 @@ fn fan_of(halves: &[u8]) -> usize
     if n != 4 {
         return 1;
     }
-    if folds_of(halves) == 0 { 0 } else { 1 }
+    if normal { 0 } else { 1 }
 }
 
 // Writes the middle of a recorded loop as point `at` of the area, where the loop is drawn as a fan, and answers the next point.
-fn put_middle(halves: &[u8], points: &[u32], area: &mut [f64], at: usize) -> usize
-    requires { ⌜ coordinates * (at + one (recordedFan (now halves))) ≤ length (now area) ⌝ }
-    ensures { λ r. ⌜ Stored (now (area .entry)) (coordinates * at) (allNumbers (recordedMiddle (now (halves .entry)) (now (points .entry)) (now (area .entry)))) (now (area .exit)) (coordinates * r) ⌝ }
+fn put_middle(points: &[u32], normal: bool, area: &mut [f64], at: usize) -> usize
+    requires { ⌜ coordinates * (at + one (hasMiddle (length (now points)) normal)) ≤ length (now area) ⌝ }
+    ensures { λ r. ⌜ Stored (now (area .entry)) (coordinates * at) (allNumbers (recordedMiddle (now (points .entry)) normal (now (area .entry)))) (now (area .exit)) (coordinates * r) ⌝ }
 {
-    if fan_of(halves) == 0 {
+    if fan_of(points.len(), normal) == 0 {
         return at;
     }
     let p = place::middle_of(area, points);
@@ -59,8 +58,8 @@ fn count(c: Cell, n: usize, marks: &mut [u16], halves: &mut [u8], points: &mut [
     let mut t: usize = 0;
     let mut p: usize = 0;
     while p < n {
-        let m = walk(c, &routes, n, p, marks, halves, points);
-        t += fan_of(&halves[0..m]);
+        let w = walk(c, &routes, n, p, marks, halves, points);
+        t += fan_of(w.length, w.normal);
         p += 1;
     }
     t
@@ -86,8 +85,9 @@ fn write_all(
     let mut i = at;
     let mut p: usize = 0;
     while p < n {
-        let m = walk(c, &routes, n, p, marks, halves, points);
-        i = put_middle(&halves[0..m], &points[0..m], area, i);
+        let w = walk(c, &routes, n, p, marks, halves, points);
+        let m = w.length;
+        i = put_middle(&points[0..m], w.normal, area, i);
         p += 1;
     }
     i

@@ -1,12 +1,15 @@
 // The step from dart to dart, by the routes of a cell.
+ghost use mathlib.Core.Bool.{true, false};
 ghost use Rattle.cell.specs.Of.{edgesOf};
 ghost use Rattle.cell.specs.Route.{Routed};
-ghost use Rattle.cell.specs.Dart.{IsDartAt, Spot, Ready, Turns, Between, Leads, Onward};
+ghost use Rattle.cell.specs.Dart.{IsDartAt, Spot, Ready, AtLow, AtHigh, Turns, Beside, Leads, Onward};
 use super::Cell;
 use super::Dart;
 use super::Next;
 use super::routes;
 use super::routes::ROUTES;
+use face::Stand;
+use face::stand_of;
 
 // The dart at index u that leaves by half-edge g.
 fn onto(c: Cell, routes: &[usize; ROUTES], g: usize, u: usize) -> Dart
@@ -27,7 +30,7 @@ fn onto(c: Cell, routes: &[usize; ROUTES], g: usize, u: usize) -> Dart
 fn round(c: Cell, routes: &[usize; ROUTES], d: Dart, g: usize, k: usize, over: bool) -> Dart
     requires { ⌜ Routed c (now routes) ⌝ }
     requires { ⌜ Turns (edgesOf c) d g k over ⌝ }
-    ensures { λ r. ⌜ Leads (edgesOf c) d r ⌝ }
+    ensures { λ r. ⌜ Leads (edgesOf c) d r false ⌝ }
 {
     if over {
         let n = routes::route(routes, g, routes::COUNT);
@@ -36,29 +39,38 @@ fn round(c: Cell, routes: &[usize; ROUTES], d: Dart, g: usize, k: usize, over: b
     onto(c, routes, g, k)
 }
 
-// Past both corners: neighbours are joined in pairs, down from the upper corner, and the lowest is left over if they are odd.
-fn between(c: Cell, routes: &[usize; ROUTES], d: Dart) -> Next
+// Along the dart's edge: to index u.
+fn beside(c: Cell, routes: &[usize; ROUTES], d: Dart, u: usize) -> Dart
     requires { ⌜ Ready c (now routes) d ⌝ }
-    requires { ⌜ Between (edgesOf c) d ⌝ }
-    ensures { λ r. ⌜ Onward (edgesOf c) d r ⌝ }
+    requires { ⌜ Beside (edgesOf c) d u ⌝ }
+    ensures { λ r. ⌜ Leads (edgesOf c) d r true ⌝ }
 {
-    let h = d.half;
-    let t = d.index;
-    let g = routes::route(routes, h, routes::TWIN);
-    let n = routes::route(routes, h, routes::COUNT);
-    let high = routes::route(routes, h, routes::HIGH);
-    let up = n - high - t;
-    if up % 2 == 0 {
-        return Next::On(onto(c, routes, g, t + 1));
-    }
-    let low = routes::route(routes, h, routes::LOW);
-    if t == low {
-        return Next::End;
-    }
-    Next::On(onto(c, routes, g, t - 1))
+    let g = routes::route(routes, d.half, routes::TWIN);
+    onto(c, routes, g, u)
 }
 
-// What follows a dart.
+// Round the lower end of the dart's edge, and round the upper one, of which it is the k-th crossing.
+fn below(c: Cell, routes: &[usize; ROUTES], d: Dart) -> Dart
+    requires { ⌜ Ready c (now routes) d ⌝ }
+    requires { ⌜ AtLow (edgesOf c) d ⌝ }
+    ensures { λ r. ⌜ Leads (edgesOf c) d r false ⌝ }
+{
+    let g = routes::route(routes, d.half, routes::ROUND_LOW);
+    let rank = routes::route(routes, d.half, routes::RANK);
+    round(c, routes, d, g, d.index, rank == 2)
+}
+
+fn above(c: Cell, routes: &[usize; ROUTES], d: Dart, k: usize) -> Dart
+    requires { ⌜ Ready c (now routes) d ⌝ }
+    requires { ⌜ AtHigh (edgesOf c) d k ⌝ }
+    ensures { λ r. ⌜ Leads (edgesOf c) d r false ⌝ }
+{
+    let g = routes::route(routes, d.half, routes::ROUND_HIGH);
+    let rank = routes::route(routes, d.half, routes::RANK);
+    round(c, routes, d, g, k, 0 < rank)
+}
+
+// What follows a dart, as the face call decides it.
 pub(crate) fn next(c: Cell, routes: &[usize; ROUTES], d: Dart) -> Next
     requires { ⌜ Ready c (now routes) d ⌝ }
     ensures { λ r. ⌜ Onward (edgesOf c) d r ⌝ }
@@ -66,18 +78,13 @@ pub(crate) fn next(c: Cell, routes: &[usize; ROUTES], d: Dart) -> Next
     let h = d.half;
     let t = d.index;
     let low = routes::route(routes, h, routes::LOW);
-    if t < low {
-        let g = routes::route(routes, h, routes::ROUND_LOW);
-        let rank = routes::route(routes, h, routes::RANK);
-        return Next::On(round(c, routes, d, g, t, rank == 2));
-    }
     let n = routes::route(routes, h, routes::COUNT);
-    let k = n - 1 - t;
     let high = routes::route(routes, h, routes::HIGH);
-    if k < high {
-        let g = routes::route(routes, h, routes::ROUND_HIGH);
-        let rank = routes::route(routes, h, routes::RANK);
-        return Next::On(round(c, routes, d, g, k, 0 < rank));
+    match stand_of(low, n - high, t) {
+        Stand::Low => Next::On(below(c, routes, d), false),
+        Stand::High => Next::On(above(c, routes, d, n - 1 - t), false),
+        Stand::Up => Next::On(beside(c, routes, d, t + 1), true),
+        Stand::Down => Next::On(beside(c, routes, d, t - 1), true),
+        Stand::Alone => Next::End,
     }
-    between(c, routes, d)
 }

@@ -37,9 +37,8 @@ fn count(c: Cell, n: usize, marks: &mut [u16], halves: &mut [u8], points: &mut [
     let mut t: usize = 0;
     let mut p: usize = 0;
     while p < n {
-        let m = walk(c, &routes, n, p, marks, halves, points);
-        let two = in_two(&halves[0..m], m);
-        t += many(m, two);
+        let w = walk(c, &routes, n, p, marks, halves, points);
+        t += many(w.length, in_two(w.length, w.normal));
         p += 1;
     }
     t
@@ -65,10 +64,10 @@ fn write(
     let mut i = at;
     let mut p: usize = 0;
     while p < n {
-        let m = walk(c, &routes, n, p, marks, halves, points);
-        let hs = &halves[0..m];
-        let two = in_two(hs, m);
-        i = write_loop(c, hs, &points[0..m], m, two, area, i);
+        let w = walk(c, &routes, n, p, marks, halves, points);
+        let m = w.length;
+        let two = in_two(m, w.normal);
+        i = write_loop(c, &halves[0..m], &points[0..m], m, two, area, i);
         p += 1;
     }
     i
@@ -136,12 +135,12 @@ pub fn triangle_at(c: Cell, t: usize) -> Nth
     let mut left = t;
     let mut p: usize = 0;
     while p < n {
-        let m = walk(c, &routes, n, p, &mut marks, &mut halves, &mut points);
-        let hs = &halves[0..m];
-        let two = in_two(hs, m);
+        let w = walk(c, &routes, n, p, &mut marks, &mut halves, &mut points);
+        let m = w.length;
+        let two = in_two(m, w.normal);
         let k = many(m, two);
         if left < k {
-            return Nth::Found(triangle_of(c, hs, &points[0..m], m, two, left));
+            return Nth::Found(triangle_of(c, &halves[0..m], &points[0..m], m, two, left));
         }
         left -= k;
         p += 1;

@@ -2,10 +2,12 @@ pub mod Corner
 pub mod Ends
 pub mod Gaps
 pub mod Branches
+pub mod Stands
 pub mod Calls
 pub mod Answers
 pub mod Links
 pub mod Laws
+pub mod Reasons
 pub mod Rim
 pub mod Tally
 pub mod Level

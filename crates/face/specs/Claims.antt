@@ -3,7 +3,7 @@ use Prim.Native.Nat.{ℕ, _+_, _-_, _*_, _%_, _<_, _≤_}
 use mathlib.Core.Path.{_≡_}
 use mathlib.Core.Logic.{_⊎_}
 use Rattle.face.specs.declared.Join.{Join}
-use Rattle.face.specs.Face.{unjoined, noCrossing, other, countOn, others, kth, cornerCountAt, faceJoin}
+use Rattle.face.specs.Face.{round, along, left, skipped, joinedBy, unjoinedBy, noCrossing, unjoined, bare, lower, other, countOn, others, kth, cornerCountAt, faceAnswer, faceJoin}
 use Rattle.face.specs.Join.{joinNumbers}
 use Rattle.face.specs.Ends.{End}
 use Rattle.face.specs.Rim.{rim, Segment, Alternate}
@@ -43,3 +43,30 @@ pub record FaceLaws (ab ac bc : ℕ) : Type 0 where
   pub rim-once : (e t e′ t′ : ℕ) → t < countOn ab ac bc e → t′ < countOn ab ac bc e′ → rim ab ac bc e t ≡ rim ab ac bc e′ t′ → (e ≡ e′) × (t ≡ t′)
   -- no two segments alternate
   pub no-alternation : (e t e′ t′ u i u′ i′ : ℕ) → Segment ab ac bc e t e′ t′ → Segment ab ac bc u i u′ i′ → Alternate ab ac bc e t e′ t′ u i u′ i′ → ⊥
+
+-- how and why (02, W10)
+pub record ReasonLaws (ab ac bc : ℕ) : Type 0 where
+  -- what a crossing is joined to is the face call's answer without how and why
+  pub without : (e t : ℕ) → faceJoin ab ac bc e t ≡ bare (faceAnswer ab ac bc e t)
+  -- a joined crossing tells how, an unjoined one why
+  pub how : (e t e′ t′ : ℕ) → Segment ab ac bc e t e′ t′ →
+      ((w : ℕ) × (faceAnswer ab ac bc e t ≡ joinedBy e′ t′ (round w))) ⊎ (faceAnswer ab ac bc e t ≡ joinedBy e′ t′ along)
+  pub why : (e t : ℕ) → faceJoin ab ac bc e t ≡ unjoined → (faceAnswer ab ac bc e t ≡ unjoinedBy left) ⊎ (faceAnswer ab ac bc e t ≡ unjoinedBy skipped)
+  -- round a corner: both ends tell the same node, which is an end of both edges, and from which both are the k-th, k below its corner count
+  pub round-back : (e t e′ t′ w : ℕ) → faceAnswer ab ac bc e t ≡ joinedBy e′ t′ (round w) → faceAnswer ab ac bc e′ t′ ≡ joinedBy e t (round w)
+  pub round-ends : (e t e′ t′ w : ℕ) → faceAnswer ab ac bc e t ≡ joinedBy e′ t′ (round w) → End w e × End w e′
+  pub round-rank : (e t e′ t′ w : ℕ) → faceAnswer ab ac bc e t ≡ joinedBy e′ t′ (round w) →
+      (k : ℕ) × (k < cornerCountAt ab ac bc w e) × (t ≡ kth ab ac bc w e k) × (t′ ≡ kth ab ac bc w e′ k)
+  -- along an edge: exactly where both ends are on one
+  pub along-one : (e t e′ t′ : ℕ) → faceAnswer ab ac bc e t ≡ joinedBy e′ t′ along → e ≡ e′
+  pub one-along : (e t e′ t′ : ℕ) → Segment ab ac bc e t e′ t′ → e ≡ e′ → faceAnswer ab ac bc e t ≡ joinedBy e′ t′ along
+  -- skipped: exactly the first residual in rule 3 where these are odd in number
+  pub skipped-odd : (e t : ℕ) → faceAnswer ab ac bc e t ≡ unjoinedBy skipped →
+      (others ab ac bc e < countOn ab ac bc e) × ((countOn ab ac bc e - others ab ac bc e) % 2 ≡ 1) × (t ≡ countOn ab ac bc (other (lower e) e))
+  pub odd-skipped : (e : ℕ) → others ab ac bc e < countOn ab ac bc e → (countOn ab ac bc e - others ab ac bc e) % 2 ≡ 1 →
+      faceAnswer ab ac bc e (countOn ab ac bc (other (lower e) e)) ≡ unjoinedBy skipped
+  -- left: exactly in rule 2, on each edge the one crossing between its corners
+  pub left-rule : (e t : ℕ) → faceAnswer ab ac bc e t ≡ unjoinedBy left →
+      ((ab + ac + bc) % 2 ≡ 1) × ((u : ℕ) → countOn ab ac bc u ≤ others ab ac bc u) × (t ≡ cornerCountAt ab ac bc (lower e) e)
+  pub rule-left : (ab + ac + bc) % 2 ≡ 1 → ((u : ℕ) → countOn ab ac bc u ≤ others ab ac bc u) → (e : ℕ) → e < 3 →
+      faceAnswer ab ac bc e (cornerCountAt ab ac bc (lower e) e) ≡ unjoinedBy left

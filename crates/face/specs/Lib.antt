@@ -1,5 +1,6 @@
 pub mod Face
 pub mod Join
+pub mod Stand
 pub mod Corners
 pub mod Ends
 pub mod Rim

@@ -13,7 +13,7 @@ abbrev pub faceEdges : ℕ
 faceEdges = 3
 
 module _ (ab ac bc : ℕ) where
-  -- the answer of the face call for the crossing x
+  -- the answer of the face call for the crossing x, without how and why
   unfoldable pub joinOf : ℕ → List ℕ
   joinOf x = faceJoin ab ac bc (row (countOn ab ac bc) faceEdges x) (col (countOn ab ac bc) faceEdges x)
 

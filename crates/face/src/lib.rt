@@ -1,17 +1,40 @@
-// The face call: what a crossing of a face is joined to, from the counts of the face's edges.
+// The face call: what a crossing of a face is joined to and how, or why it is not, from the counts of the face's edges.
 ghost use mathlib.Core.Path.{_≡_};
-ghost use Prim.Native.Nat.{_+_, _<_};
+ghost use Prim.Native.Nat.{_+_, _≤_, _<_};
 ghost use lib.ListN.{getD};
-ghost use Rattle.face.specs.Face.{lower, upper, other, corners, residual, countOn, kth, partner, faceJoin};
-ghost use Rattle.face.specs.Join.{joinNumbers};
+ghost use Rattle.face.specs.Face.{lower, upper, other, corners, countOn, kth, partner, faceAnswer};
+ghost use Rattle.face.specs.Join.{joinNumbers, whyNumber};
+ghost use Rattle.face.specs.Stand.{standNumber, standOn, whyOn};
 ghost use Rattle.face.specs.Corners.{cornerList};
 ghost use Rattle.face.specs.Ends.{End, AtCorner, OnEdge};
 
-// Where a crossing goes: to the partner's edge and index, nowhere, or there is no such crossing.
+// How a crossing is joined: round a corner, by its node (0 a, 1 b, 2 c), or along its edge.
+pub enum How {
+    Round(u32),
+    Along,
+}
+
+// Why a crossing is unjoined: rule 2 left it, or rule 3 skipped it.
+pub enum Why {
+    Left,
+    Skipped,
+}
+
+// Where a crossing goes: to the partner's edge and index, and how; nowhere, and why; or there is no such crossing.
 pub enum Join {
-    Joined(u32, u32),
-    Unjoined,
+    Joined(u32, u32, How),
+    Unjoined(Why),
     NoCrossing,
+}
+
+// Where a crossing stands on its edge: at the lower corner, or at the upper; between them and joined to the next one up, or to the next one down; or
+// between them and alone.
+pub enum Stand {
+    Low,
+    High,
+    Up,
+    Down,
+    Alone,
 }
 
 // The counts of the edges of a face. The edges ab, ac, bc are 0, 1, 2, and the nodes a, b, c are 0, 1, 2.
@@ -114,46 +137,61 @@ fn partner_of(f: Face, node: u32, edge: u32, k: u32) -> Join
     ensures { λ j. ⌜ joinNumbers j ≡ partner (f .ab) (f .ac) (f .bc) node edge k ⌝ }
 {
     let e = other_edge(node, edge);
-    Join::Joined(e, kth_of(f, node, e, k))
+    Join::Joined(e, kth_of(f, node, e, k), How::Round(node))
 }
 
-// Residual s of r, on an edge whose first residual has index p: the first is skipped if r is odd, and each other is joined to the one above it
-// if an odd number is above it, else to the one below.
-fn residual_join(edge: u32, r: u32, p: u32, s: u32) -> Join
-    requires { ⌜ (s < r) × (p + r < 4294967296) ⌝ }
-    ensures { λ j. ⌜ joinNumbers j ≡ residual edge r s (p + s) ⌝ }
-{
-    let skip = r % 2;
-    let above = r - 1 - s;
-    if s < skip {
-        return Join::Unjoined;
-    }
-    if above % 2 == 1 {
-        Join::Joined(edge, p + s + 1)
-    } else {
-        Join::Joined(edge, p + s - 1)
-    }
-}
-
-// Crossing t of an edge of x crossings, with the corner counts p and q at its lower and its upper end. An edge that is not above the
-// other two has at most one crossing between its corners, which is unjoined, as a single residual is.
-fn join_on(f: Face, edge: u32, x: u32, p: u32, q: u32, t: u32) -> Join
-    requires { ⌜ OnEdge (f .ab) (f .ac) (f .bc) edge x p q t ⌝ }
-    ensures { λ j. ⌜ joinNumbers j ≡ faceJoin (f .ab) (f .ac) (f .bc) edge t ⌝ }
+// Where crossing t of an edge stands, of which those below p are at its lower corner and those from `end` on at its upper. Between them neighbours are
+// joined in pairs, from the upper corner down; if they are odd in number, the lowest is alone. The walks of a cell decide by it too.
+pub fn stand_of(p: usize, end: usize, t: usize) -> Stand
+    ensures { λ r. ⌜ standNumber r ≡ standOn p end t ⌝ }
 {
     if t < p {
-        return partner_of(f, lower_end(edge), edge, t);
+        return Stand::Low;
     }
-    let k = x - 1 - t;
-    if k < q {
-        return partner_of(f, upper_end(edge), edge, k);
+    if end <= t {
+        return Stand::High;
     }
-    residual_join(edge, x - p - q, p, t - p)
+    if (end - t) % 2 == 0 {
+        return Stand::Up;
+    }
+    if t == p { Stand::Alone } else { Stand::Down }
+}
+
+fn sum_of(f: Face) -> u32
+    ensures { λ r. ⌜ r ≡ f .ab + f .ac + f .bc ⌝ }
+{
+    (f.ab as u32) + (f.ac as u32) + (f.bc as u32)
+}
+
+// Why a crossing of an edge of x crossings is unjoined: rule 3 skipped it where the edge has more than the other two, else rule 2 left it.
+fn why_of(f: Face, x: u32) -> Why
+    requires { ⌜ x ≤ f .ab + f .ac + f .bc ⌝ }
+    ensures { λ r. ⌜ whyNumber r ≡ whyOn (f .ab) (f .ac) (f .bc) x ⌝ }
+{
+    if sum_of(f) - x < x {
+        Why::Skipped
+    } else {
+        Why::Left
+    }
+}
+
+// Crossing t of an edge of x crossings, with the corner counts p and q at its lower and its upper end.
+fn join_on(f: Face, edge: u32, x: u32, p: u32, q: u32, t: u32) -> Join
+    requires { ⌜ OnEdge (f .ab) (f .ac) (f .bc) edge x p q t ⌝ }
+    ensures { λ j. ⌜ joinNumbers j ≡ faceAnswer (f .ab) (f .ac) (f .bc) edge t ⌝ }
+{
+    match stand_of(p as usize, (x - q) as usize, t as usize) {
+        Stand::Low => partner_of(f, lower_end(edge), edge, t),
+        Stand::High => partner_of(f, upper_end(edge), edge, x - 1 - t),
+        Stand::Up => Join::Joined(edge, t + 1, How::Along),
+        Stand::Down => Join::Joined(edge, t - 1, How::Along),
+        Stand::Alone => Join::Unjoined(why_of(f, x)),
+    }
 }
 
 // The face call: the crossing at an index of an edge (0 ab, 1 ac, 2 bc) of the face with these counts.
 pub fn face_join(ab: u16, ac: u16, bc: u16, edge: u32, index: u32) -> Join
-    ensures { λ j. ⌜ joinNumbers j ≡ faceJoin ab ac bc edge index ⌝ }
+    ensures { λ j. ⌜ joinNumbers j ≡ faceAnswer ab ac bc edge index ⌝ }
 {
     let f = Face { ab, ac, bc };
     let x = count_of(f, edge) as u32;

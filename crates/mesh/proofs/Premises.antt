@@ -66,9 +66,9 @@ three-accepted = refl
 
 three-triangles : length (meshTriangles (gridOf threeCells threeEdges threeCounts)) ≡ 6
 unfolding every some count seek first last total over pre row col lo hi position lower upper edgeBetween slotEdge edgeRank contains firstSlot secondSlot
-    face.other face.opposite face.halfAbove face.cornerCount face.residual face.countOn face.others face.kth face.cornerCountAt face.partner face.faceJoin
+    face.other face.opposite face.halfAbove face.cornerCount face.residual face.countOn face.others face.kth face.cornerCountAt face.partner face.faceAnswer face.faceJoin
     it orbit step.face step.land step.step walk.status walk.turn walk.size walk.loopAt
-    cell.ahead cell.base cell.holds cell.edge cell.index cell.joinAt cell.joinedTo cell.mate cell.slot cell.step loop.loopSize loop.dart loop.loopDarts loop.folded loop.normal
+    cell.ahead cell.base cell.holds cell.edge cell.index cell.answerAt cell.joinAt cell.joinedTo cell.mate cell.slot cell.step loop.loopSize loop.dart loop.loopDarts loop.folded loop.normal
     faceNode sameFace faceName joins isEdge edgeNumber start
     triangle.numberOf triangle.segmentOf triangle.point triangle.segment triangle.triangle triangle.loopTriangles triangle.cellTriangles
     gridCell meshTriangles

@@ -10,7 +10,7 @@ use Rattle.answer.specs.Answer.{result, refusal}
 use Rattle.counting.specs.Pick.{pick, one}
 use Rattle.counting.specs.Range.{over, values}
 use Rattle.counting.specs.Lists.{tally}
-use Rattle.face.specs.Face.{joined, unjoined, noCrossing, countOn, faceJoin}
+use Rattle.face.specs.Face.{round, along, left, skipped, joinedBy, unjoinedBy, noCrossing, countOn, faceAnswer}
 use Rattle.face.specs.Tally.{segments, unjoinedCount}
 use Rattle.cell.specs.Loop.{loopSize, dart, leasts}
 use Rattle.grid.specs.Grid.{Grid, gridOf, cellCount}
@@ -40,9 +40,22 @@ pub data Example : Type 0 where
   -- the loops call: the lists, cell c, k; the answer
   loop : (cells edges counts : List ℕ) (c k : ℕ) (answer : List ℕ) → Example
 
+-- the face call's answers: joined round a corner, along the edge; unjoined
+abbrev roundTo : (w e t : ℕ) → List ℕ
+roundTo w e t = joinedBy e t (round w)
+
+abbrev alongTo : (e t : ℕ) → List ℕ
+alongTo e t = joinedBy e t along
+
+abbrev leftBy2 : List ℕ
+leftBy2 = unjoinedBy left
+
+abbrev skippedBy3 : List ℕ
+skippedBy3 = unjoinedBy skipped
+
 -- the answers for all crossings of a face
 unfoldable pub faceAnswers : ℕ → ℕ → ℕ → List (List ℕ)
-faceAnswers ab ac bc = over (λ e. over (λ t. faceJoin ab ac bc e t ∷ []) (countOn ab ac bc e) 0) 3 0
+faceAnswers ab ac bc = over (λ e. over (λ t. faceAnswer ab ac bc e t ∷ []) (countOn ab ac bc e) 0) 3 0
 
 module _ (G : Grid) where
   -- the least crossings of the loops of cell c
@@ -90,7 +103,7 @@ computed (face ab ac bc answers sides free) = face ab ac bc (faceAnswers ab ac b
 computed (grid cells edges counts answer loops points words sizes) =
     grid cells edges counts (gridAnswer (gridOf cells edges counts)) (gridLoops (gridOf cells edges counts)) (gridPoints (gridOf cells edges counts)) (meshWords (gridOf cells edges counts))
     (tallies (meshTriangles (gridOf cells edges counts)))
-computed (join ab ac bc e t answer) = join ab ac bc e t (faceJoin ab ac bc e t)
+computed (join ab ac bc e t answer) = join ab ac bc e t (faceAnswer ab ac bc e t)
 computed (nth cells edges counts c t answer) = nth cells edges counts c t (nthAnswer (cellTriangles (gridCell (gridOf cells edges counts) c)) t)
 computed (mesh cells edges counts area answer after) = mesh cells edges counts area (meshAnswer (gridOf cells edges counts) (length area)) (meshArea (gridOf cells edges counts) area)
 computed (loop cells edges counts c k answer) = loop cells edges counts c k (loopsAnswer (gridOf cells edges counts) c k)
@@ -157,9 +170,9 @@ examples =
     0 ∷ 0 ∷ 7 ∷ 3 ∷ noName ∷ 1 ∷ 3 ∷ noName ∷ 7 ∷ noName ∷ 6 ∷
     0 ∷ 0 ∷ 3 ∷ 0 ∷ noName ∷ 2 ∷ 0 ∷ noName ∷ 0 ∷ noName ∷ 7 ∷ []) (8 ∷ 8 ∷ 8 ∷ [])
     -- P: a face 3 3 3: three segments, each index 1 unjoined, so that three crossings are
-    ∷ face 3 3 3 (joined 1 0 ∷ unjoined ∷ joined 2 0 ∷ joined 0 0 ∷ unjoined ∷ joined 2 2 ∷ joined 0 2 ∷ unjoined ∷ joined 1 2 ∷ []) 3 3
+    ∷ face 3 3 3 (roundTo 0 1 0 ∷ leftBy2 ∷ roundTo 1 2 0 ∷ roundTo 0 0 0 ∷ leftBy2 ∷ roundTo 2 2 2 ∷ roundTo 1 0 2 ∷ leftBy2 ∷ roundTo 2 1 2 ∷ []) 3 3
     -- P: a face 5 1 1: index 1 unjoined, 2 joined to 3
-    ∷ face 5 1 1 (joined 1 0 ∷ unjoined ∷ joined 0 3 ∷ joined 0 2 ∷ joined 2 0 ∷ joined 0 0 ∷ joined 0 4 ∷ []) 3 1
+    ∷ face 5 1 1 (roundTo 0 1 0 ∷ skippedBy3 ∷ alongTo 0 3 ∷ alongTo 0 2 ∷ roundTo 1 2 0 ∷ roundTo 0 0 0 ∷ roundTo 1 0 4 ∷ []) 3 1
     -- P: three cells round an edge with two crossings: a loop of length 2 in each, six triangles, three segments (faces 2, 3, 6), six inner sides
     ∷ grid threeCells threeEdges threeCounts (result (2 ∷ []))
     (result (0 ∷ 2 ∷ 0 ∷ 0 ∷ []) ∷ no ∷ result (0 ∷ 2 ∷ 0 ∷ 0 ∷ []) ∷ no ∷ result (0 ∷ 2 ∷ 0 ∷ 0 ∷ []) ∷ no ∷ [])
@@ -194,15 +207,15 @@ examples =
     1 ∷ 2 ∷ 2 ∷ 3 ∷ 4 ∷ 6 ∷ 2 ∷ 4 ∷ 3 ∷ 5 ∷ 2 ∷ []) (3 ∷ 5 ∷ 2 ∷ [])
     -- faces: rule 3 on the other edges, with an even and an odd number of residuals; three corner counts that differ; a count that is the sum of
     -- the other two
-    ∷ face 1 4 1 (joined 1 0 ∷ joined 0 0 ∷ joined 1 2 ∷ joined 1 1 ∷ joined 2 0 ∷ joined 1 3 ∷ []) 3 0
-    ∷ face 0 1 4 (joined 2 3 ∷ unjoined ∷ joined 2 2 ∷ joined 2 1 ∷ joined 1 0 ∷ []) 2 1
-    ∷ face 3 4 5 (joined 1 0 ∷ joined 2 1 ∷ joined 2 0 ∷ joined 0 0 ∷ joined 2 2 ∷ joined 2 3 ∷ joined 2 4 ∷ joined 0 2 ∷ joined 0 1 ∷ joined 1 1 ∷ joined 1 2 ∷ joined 1 3 ∷ []) 6 0
-    ∷ face 2 1 1 (joined 1 0 ∷ joined 2 0 ∷ joined 0 0 ∷ joined 0 1 ∷ []) 2 0
+    ∷ face 1 4 1 (roundTo 0 1 0 ∷ roundTo 0 0 0 ∷ alongTo 1 2 ∷ alongTo 1 1 ∷ roundTo 2 2 0 ∷ roundTo 2 1 3 ∷ []) 3 0
+    ∷ face 0 1 4 (roundTo 2 2 3 ∷ skippedBy3 ∷ alongTo 2 2 ∷ alongTo 2 1 ∷ roundTo 2 1 0 ∷ []) 2 1
+    ∷ face 3 4 5 (roundTo 0 1 0 ∷ roundTo 1 2 1 ∷ roundTo 1 2 0 ∷ roundTo 0 0 0 ∷ roundTo 2 2 2 ∷ roundTo 2 2 3 ∷ roundTo 2 2 4 ∷ roundTo 1 0 2 ∷ roundTo 1 0 1 ∷ roundTo 2 1 1 ∷ roundTo 2 1 2 ∷ roundTo 2 1 3 ∷ []) 6 0
+    ∷ face 2 1 1 (roundTo 0 1 0 ∷ roundTo 1 2 0 ∷ roundTo 0 0 0 ∷ roundTo 1 0 1 ∷ []) 2 0
     -- no such crossing, and the largest counts of a byte and of 16 bits
     ∷ join 0 0 0 0 0 noCrossing ∷ join 5 1 1 0 5 noCrossing ∷ join 3 3 3 3 0 noCrossing ∷ join 3 3 3 4294967295 4294967295 noCrossing
-    ∷ join 255 255 255 0 126 (joined 1 126) ∷ join 255 255 255 0 127 unjoined ∷ join 255 255 255 0 128 (joined 2 126)
-    ∷ join 255 0 0 0 0 unjoined ∷ join 255 0 0 0 254 (joined 0 253) ∷ join 255 255 0 0 254 (joined 1 254) ∷ join 0 255 255 2 0 (joined 1 0)
-    ∷ join 65535 65535 65535 0 32767 unjoined ∷ join 65535 65535 65535 0 32768 (joined 2 32766) ∷ join 0 65535 65535 2 65535 noCrossing
+    ∷ join 255 255 255 0 126 (roundTo 0 1 126) ∷ join 255 255 255 0 127 leftBy2 ∷ join 255 255 255 0 128 (roundTo 1 2 126)
+    ∷ join 255 0 0 0 0 skippedBy3 ∷ join 255 0 0 0 254 (alongTo 0 253) ∷ join 255 255 0 0 254 (roundTo 0 1 254) ∷ join 0 255 255 2 0 (roundTo 2 1 0)
+    ∷ join 65535 65535 65535 0 32767 leftBy2 ∷ join 65535 65535 65535 0 32768 (roundTo 1 2 32766) ∷ join 0 65535 65535 2 65535 noCrossing
     -- a triangle of a cell: the second, and one too many
     ∷ nth cell six twoLoopCounts 0 1 (result (0 ∷ 1 ∷ 1 ∷ 2 ∷ noName ∷ 3 ∷ 1 ∷ noName ∷ 1 ∷ noName ∷ 0 ∷ []))
     ∷ nth cell six twoLoopCounts 0 3 no ∷ nth cell six cornerCounts 0 18446744073709551615 no

@@ -3,7 +3,7 @@
 use reference::booking;
 use reference::bundle::{self, Sizes};
 use reference::cell::{CellWalker, LoopType};
-use reference::face::{self, Join};
+use reference::face::{self, How, Join, Why};
 use reference::gen::Sample;
 use reference::grid;
 use reference::mesh::Mesher;
@@ -22,11 +22,19 @@ fn numbers<T>(answer: Result<T, Refusal>, values: impl FnOnce(T) -> Vec<u64>) ->
     }
 }
 
-/// 0 and the partner's edge and index; 1 unjoined; 2 no such crossing.
+/// 0, the partner's edge and index, and 0 and the corner or 1 along the edge; 1
+/// unjoined, and 0 left or 1 skipped; 2 no such crossing.
 pub fn face(counts: [u16; 3], edge: u32, index: u32) -> Vec<u64> {
     match face::join(counts.map(u32::from), edge, index) {
-        Join::Joined { edge, index } => vec![0, u64::from(edge), u64::from(index)],
-        Join::Unjoined => vec![1],
+        Join::Joined { edge, index, how } => {
+            let how = match how {
+                How::Round(corner) => vec![0, u64::from(corner)],
+                How::Along => vec![1],
+            };
+            [vec![0, u64::from(edge), u64::from(index)], how].concat()
+        }
+        Join::Unjoined(Why::Left) => vec![1, 0],
+        Join::Unjoined(Why::Skipped) => vec![1, 1],
         Join::NoCrossing => vec![2],
     }
 }

@@ -17,10 +17,19 @@ const WIDE: [u16; 13] = [
     0, 1, 2, 3, 255, 256, 4_094, 4_095, 4_096, 32_767, 32_768, 65_534, 65_535,
 ];
 
+/// How many of each case: joined round a corner and along an edge, unjoined as
+/// left and as skipped, and no such crossing.
+type Counted = [u64; 5];
+
 /// Compares one face call; `counted` takes which case it was.
-fn compare(counts: [u16; 3], edge: u32, index: u32, counted: &mut [u64; 3]) {
+fn compare(counts: [u16; 3], edge: u32, index: u32, counted: &mut Counted) {
     let numbers = expected::face(counts, edge, index);
-    counted[numbers[0] as usize] += 1;
+    let case = match numbers[..] {
+        [0, _, _, how, ..] => how as usize,
+        [1, why] => 2 + why as usize,
+        _ => 4,
+    };
+    counted[case] += 1;
     assert!(
         answers(&numbers, |area| calls::face(counts, edge, index, area)),
         "face {counts:?}, edge {edge}, index {index}: not answered with {numbers:?} alone"
@@ -28,7 +37,7 @@ fn compare(counts: [u16; 3], edge: u32, index: u32, counted: &mut [u64; 3]) {
 }
 
 /// Compares every edge, and every index of it up to the second beyond its end.
-fn compare_all(counts: [u16; 3], counted: &mut [u64; 3]) {
+fn compare_all(counts: [u16; 3], counted: &mut Counted) {
     for edge in 0..EDGES {
         let count = counts.get(edge as usize).copied().unwrap_or(0);
         for index in 0..=u32::from(count) + 1 {
@@ -39,7 +48,7 @@ fn compare_all(counts: [u16; 3], counted: &mut [u64; 3]) {
 
 /// Compares indices at the ends of each edge, and about where the segments of one
 /// corner end.
-fn compare_some(counts: [u16; 3], counted: &mut [u64; 3]) {
+fn compare_some(counts: [u16; 3], counted: &mut Counted) {
     let cuts = corner_counts(counts.map(u32::from));
     for (edge, [low, high]) in INCIDENT.into_iter().enumerate() {
         let count = u32::from(counts[edge]);
@@ -51,9 +60,10 @@ fn compare_some(counts: [u16; 3], counted: &mut [u64; 3]) {
     }
 }
 
-fn report(what: &str, [joined, unjoined, none]: [u64; 3]) {
-    println!("{what}: {joined} joined, {unjoined} unjoined, {none} no such crossing");
-    assert!(joined > 0 && unjoined > 0 && none > 0);
+fn report(what: &str, counted: Counted) {
+    let [round, along, left, skipped, none] = counted;
+    println!("{what}: {round} joined round a corner, {along} along an edge; {left} left, {skipped} skipped; {none} no such crossing");
+    assert!(counted.iter().all(|&cases| cases > 0));
 }
 
 fn triples(of: &[u16]) -> impl Iterator<Item = [u16; 3]> + '_ {
@@ -65,7 +75,7 @@ fn triples(of: &[u16]) -> impl Iterator<Item = [u16; 3]> + '_ {
 
 #[test]
 fn small_counts() {
-    let mut counted = [0; 3];
+    let mut counted = [0; 5];
     let small: Vec<u16> = (0..=12).collect();
     for counts in triples(&small) {
         compare_all(counts, &mut counted);
@@ -75,7 +85,7 @@ fn small_counts() {
 
 #[test]
 fn spread_counts() {
-    let mut counted = [0; 3];
+    let mut counted = [0; 5];
     for counts in triples(&SPREAD) {
         compare_all(counts, &mut counted);
     }
@@ -84,7 +94,7 @@ fn spread_counts() {
 
 #[test]
 fn wide_counts() {
-    let mut counted = [0; 3];
+    let mut counted = [0; 5];
     for counts in triples(&WIDE) {
         compare_some(counts, &mut counted);
     }
@@ -94,7 +104,7 @@ fn wide_counts() {
 #[test]
 fn random_counts() {
     let mut rng = Rng::new(seed("face"));
-    let mut counted = [0; 3];
+    let mut counted = [0; 5];
     for _ in 0..setting("CITTERNBLAZE_FACES", 100_000u32) {
         // of about one size, so that each rule comes up
         let most = 1 << rng.between(2, 16);
@@ -116,11 +126,12 @@ fn random_counts() {
 #[test]
 fn any_answer_area() {
     let cases = [
-        ([5, 1, 1], 0, 2, vec![0, 0, 3]),
-        ([3, 3, 3], 0, 1, vec![1]),
-        ([65_535, 1, 1], 0, 65_533, vec![0, 0, 65_532]),
-        ([65_535; 3], 0, 32_767, vec![1]),
-        ([65_535; 3], 1, 32_768, vec![0, 2, 32_768]),
+        ([5, 1, 1], 0, 2, vec![0, 0, 3, 1]),
+        ([5, 1, 1], 0, 1, vec![1, 1]),
+        ([3, 3, 3], 0, 1, vec![1, 0]),
+        ([65_535, 1, 1], 0, 65_533, vec![0, 0, 65_532, 1]),
+        ([65_535; 3], 0, 32_767, vec![1, 0]),
+        ([65_535; 3], 1, 32_768, vec![0, 2, 32_768, 0, 2]),
         ([0, 0, 0], 3, 0, vec![2]),
     ];
     for (counts, edge, index, numbers) in cases {

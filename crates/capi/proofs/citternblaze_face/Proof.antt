@@ -5,13 +5,13 @@ use Rattle.capi.proofs.citternblaze_face.Statement.{statement}
 use Rattle.capi.proofs.citternblaze_face.Tie as tie
 
 returns : tie.Need-returns
-returns c = answers-told joinNumbers (c .before .before .before .before .before .before .e .given .1) (c .before .before .before .before .before .before .before .before .face-join .ensures) (c .before .before .put .ensures)
+returns c = answers-told joinNumbers (c .before .before .before .before .before .e .given .1) (c .before .before .before .before .before .before .before .face-join .ensures) (c .before .before .put-joined .ensures)
 
 returns-2 : tie.Need-returns-2
-returns-2 c = answers-told joinNumbers (c .before .before .before .before .before .enum-told .given .1) (c .before .before .before .before .before .before .before .face-join .ensures) (c .before .before .put2 .ensures)
+returns-2 c = answers-told joinNumbers (c .before .before .before .before .before .why .given .1) (c .before .before .before .before .before .before .before .face-join .ensures) (c .before .before .put-unjoined .ensures)
 
 returns-3 : tie.Need-returns-3
-returns-3 c = answers-told joinNumbers (c .before .before .before .before .before .enum-told2 .given .1) (c .before .before .before .before .before .before .before .face-join .ensures) (c .before .before .put3 .ensures)
+returns-3 c = answers-told joinNumbers (c .before .before .before .before .before .enum-told .given .1) (c .before .before .before .before .before .before .before .face-join .ensures) (c .before .before .put .ensures)
 
 pub citternblaze-face-spec : {M : Type 1} → statement M
 citternblaze-face-spec =
@@ -19,11 +19,7 @@ citternblaze-face-spec =
     (tie.spec
     (λ c κs. search needs)
     (λ c. search needs)
-    (λ c. search needs)
-    (λ c. search needs)
-    (λ c. search needs)
     (λ c κs. search needs)
-    (λ c. search needs)
     (λ c. search needs)
     (λ c κs. search needs)
     (λ c. search needs)

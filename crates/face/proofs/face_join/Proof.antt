@@ -4,12 +4,12 @@ use native.Mathlib.Omega.{arith}
 use Rattle.face.specs.Ends.{low, high}
 use Rattle.face.proofs.Ends.{edge-counted}
 use Rattle.face.proofs.Gaps.{corner-read}
-use Rattle.face.proofs.Branches.{face-off}
+use Rattle.face.proofs.Branches.{answer-off}
 use Rattle.face.proofs.face_join.Statement.{statement}
 use Rattle.face.proofs.face_join.Tie as tie
 
 returns : tie.Need-returns
-returns c = sym (face-off _ _ _ _ _ (omega arith))
+returns c = sym (answer-off _ _ _ _ _ (omega arith))
 
 join-on-requires : tie.Need-join-on-requires
 join-on-requires c κs =

@@ -1,16 +1,15 @@
 use borrow.Author.Needs.{needs}
-use borrow.Author.Tests.{eq-eqb, ne-eqb}
-use Rattle.face.specs.Face.{kth}
+use mathlib.Core.Path.{sym, _∙_}
+use native.Mathlib.Omega.{arith}
+use Rattle.face.proofs.Calls.{kth-at, kth-off}
 use Rattle.face.proofs.kth_of.Statement.{statement}
 use Rattle.face.proofs.kth_of.Tie as tie
 
 returns : tie.Need-returns
-unfolding kth
-returns c = simp (← (c .before .lower-end .ensures), eq-eqb _ _ (c .if1 .taken))
+returns c = sym (kth-at _ _ _ _ _ _ (omega (arith, c .if1 .taken, c .before .lower-end .ensures)))
 
 returns-2 : tie.Need-returns-2
-unfolding kth
-returns-2 c = simp (← (c .before .before .lower-end .ensures), ne-eqb _ _ (c .before .if1 .left), ← (c .count-of .ensures))
+returns-2 c = rw (c .count-of .ensures) (sym (kth-off _ _ _ _ _ _ (λ z. c .before .if1 .left (z ∙ sym (c .before .before .lower-end .ensures)))))
 
 pub kth-of-spec : {M : Type 1} → statement M
 kth-of-spec =

@@ -6,13 +6,12 @@ use Rattle.cell.proofs.answers.answer_of.Tie as tie
 
 returns : tie.Need-returns
 unfolding roundAnswer
-returns c = rw (c .before .folds-of .ensures, c .before .before .type-of .ensures, c .before .before .before .before .before .crosses-of .ensures, c .before .before .before .before .crosses-of2 .ensures, c .before .before .before .crosses-of3 .ensures) refl
+returns c = rw (c .before .type-of .ensures, c .before .before .before .before .crosses-of .ensures, c .before .before .before .crosses-of2 .ensures, c .before .before .crosses-of3 .ensures) refl
 
 pub answer-of-spec : {M : Type 1} → statement M
 answer-of-spec =
     tie.close
     (tie.spec
-    (λ c κs. search needs)
     (λ c κs. search needs)
     (λ c κs. search needs)
     (λ c κs. search needs)

@@ -4,7 +4,7 @@ use mathlib.Core.Path.{_≡_, refl}
 use Rattle.counting.specs.Search.{count}
 use Rattle.counting.proofs.Search.{count-le}
 use Rattle.cell.specs.Middles.{isFan}
-use Rattle.cell.proofs.Going.{Going, going-start, going-lent, going-more, going-looped, going-part, going-used}
+use Rattle.cell.proofs.Going.{Going, going-start, going-lent, going-more, going-looped, going-used}
 use Rattle.cell.proofs.Fans.{fans-more, fans-all}
 use Rattle.cell.proofs.middles.count.Statement.{statement}
 use Rattle.cell.proofs.middles.count.Tie as tie
@@ -19,17 +19,14 @@ loop-holds : tie.Need-loop-holds Inv-loop μ-loop
 unfolding count
 loop-holds c = (going-start _ (c .before .before .before .before .before .before .before .before .pre .all, c .before .before .before .before .before .before .before .before .pre .few) (c .before .before .before .before .routes-of .ensures) (c .before .before .before .before .before .before .before .before .pre .long) (c .before .before .clear .ensures), refl)
 
-part-fan-of-end : tie.Need-part-fan-of-end Inv-loop μ-loop
-part-fan-of-end c = going-part (c .before .before .before .before .before .before .before .before .before .before .before .before .before .loop .inv .0) (omega arith) (c .before .before .before .before .before .before .before .walk .ensures) .0
-
 add-t : tie.Need-add-t Inv-loop μ-loop
-add-t c = omega (arith, fans-more (going-looped (c .before .before .before .before .before .before .before .before .before .before .before .before .before .before .before .loop .inv .0) (omega arith) (c .before .before .before .before .before .before .before .before .before .walk .ensures)) (c .before .before .before .before .before .before .before .before .before .before .before .before .before .before .before .loop .inv .1) (c .fan-of .ensures), count-le (isFan (c .before .before .before .before .before .before .before .before .before .before .before .before .before .before .before .before .before .before .before .before .before .before .before .before .args .c)) (c .before .before .before .before .before .before .before .before .before .before .before .before .before .before .before .loop .p + 1), c .before .before .before .before .before .before .before .before .before .before .before .before .before .before .before .loop .inv .0 .few)
+add-t c = omega (arith, fans-more (going-looped (c .before .before .before .before .before .before .before .before .before .before .before .before .before .loop .inv .0) (omega arith) (c .before .before .before .before .before .before .before .walk .ensures)) (c .before .before .before .before .before .before .before .before .before .before .before .before .before .loop .inv .1) (c .fan-of .ensures), count-le (isFan (c .before .before .before .before .before .before .before .before .before .before .before .before .before .before .before .before .before .before .before .before .before .before .args .c)) (c .before .before .before .before .before .before .before .before .before .before .before .before .before .loop .p + 1), c .before .before .before .before .before .before .before .before .before .before .before .before .before .loop .inv .0 .few)
 
 add-p : tie.Need-add-p Inv-loop μ-loop
-add-p c = omega (arith, c .before .before .before .before .before .before .before .before .before .before .before .before .before .before .before .loop .inv .0 .few)
+add-p c = omega (arith, c .before .before .before .before .before .before .before .before .before .before .before .before .before .loop .inv .0 .few)
 
 loop-again : tie.Need-loop-again Inv-loop μ-loop
-loop-again c = (going-more (c .before .before .before .before .before .before .before .before .before .before .before .before .before .before .before .loop .inv .0) (omega arith) (c .before .before .before .before .before .before .before .before .before .walk .ensures), fans-more (going-looped (c .before .before .before .before .before .before .before .before .before .before .before .before .before .before .before .loop .inv .0) (omega arith) (c .before .before .before .before .before .before .before .before .before .walk .ensures)) (c .before .before .before .before .before .before .before .before .before .before .before .before .before .before .before .loop .inv .1) (c .fan-of .ensures))
+loop-again c = (going-more (c .before .before .before .before .before .before .before .before .before .before .before .before .before .loop .inv .0) (omega arith) (c .before .before .before .before .before .before .before .walk .ensures), fans-more (going-looped (c .before .before .before .before .before .before .before .before .before .before .before .before .before .loop .inv .0) (omega arith) (c .before .before .before .before .before .before .before .walk .ensures)) (c .before .before .before .before .before .before .before .before .before .before .before .before .before .loop .inv .1) (c .fan-of .ensures))
 
 same-length : tie.Need-same-length Inv-loop μ-loop
 same-length c = going-used (c .before .loop .inv .0) (c .before .before .before .before .before .before .before .before .before .before .pre .long .marks-long) (c .before .before .before .before .clear .ensures) .marks-kept .long
@@ -55,9 +52,6 @@ count-spec =
     (λ c κs. c .before .before .before .before .before .pre .long .marks-long)
     loop-holds
     (λ c κs. going-lent (c .before .before .before .before .before .loop .inv .0) (omega arith))
-    (λ c. omega arith)
-    (λ c. omega arith)
-    part-fan-of-end
     (λ c κs. tt)
     add-t
     add-p

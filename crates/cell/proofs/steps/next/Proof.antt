@@ -1,24 +1,40 @@
 use native.Mathlib.Omega.{arith}
-use mathlib.Core.Path.{refl, _∙_}
-use Rattle.cell.proofs.Ready.{low-is, high-is, count-is, to-low, to-high}
 use borrow.Author.Needs.{needs}
+use Rattle.face.specs.declared.Stand.the-variants.{Low, High, Up, Down, Alone}
+use Rattle.face.proofs.Stands.{stands}
+use Rattle.cell.proofs.Ready.{count-is, index-small, upper-fits, stands-low, stands-high, stands-up, stands-down, stands-alone}
 use Rattle.cell.proofs.steps.next.Statement.{statement}
 use Rattle.cell.proofs.steps.next.Tie as tie
 
-round-requires : tie.Need-round-requires
-round-requires c κs = let a = c .before .before .before .before in (a .pre .routed, rw (c .before .route2 .ensures, c .route3 .ensures) (to-low (a .pre) (rw (c .before .before .before .route .ensures) at (c .before .before .if1 .taken))))
+sub-stand-of : tie.Need-sub-stand-of
+sub-stand-of c = omega (arith, c .before .route2 .ensures, c .route3 .ensures, upper-fits (c .before .before .before .pre))
 
-sub-k : tie.Need-sub-k
-sub-k c = let a = c .before .before .before in omega (arith, c .route4 .ensures, count-is (a .pre), a .pre .dart .index-lt)
+below-requires : tie.Need-below-requires
+below-requires c κs = let a = c .before .before .before .before .before .before in (a .pre, stands-low (a .pre) (c .before .before .before .before .route2 .ensures) (c .before .before .before .before .before .route .ensures) (c .before .before .before .route3 .ensures) (stands _ _ _ Low (c .before .before .stand-of .ensures) (c .enum-told .given .1)))
 
-sub-k-2 : tie.Need-sub-k-2
-sub-k-2 c = let a = c .before .before .before in omega (arith, c .route4 .ensures, count-is (a .pre), a .pre .dart .index-lt)
+sub-above : tie.Need-sub-above
+sub-above c = let a = c .before .before .before .before .before .before in omega (arith, c .before .before .before .before .route2 .ensures, count-is (a .pre), a .pre .dart .index-lt)
 
-round-requires-2 : tie.Need-round-requires-2
-round-requires-2 c κs = let a = c .before .before .before .before .before .before .before in (a .pre .routed, rw (c .before .route6 .ensures, c .route7 .ensures) (to-high (a .pre) _ (rw (c .before .before .before .before .route4 .ensures) refl) (rw (c .before .before .before .route5 .ensures) at (c .before .before .if2 .taken))))
+sub-above-2 : tie.Need-sub-above-2
+sub-above-2 c = let a = c .before .before .before .before .before .before in omega (arith, c .before .before .before .before .route2 .ensures, count-is (a .pre), a .pre .dart .index-lt)
 
-between-requires : tie.Need-between-requires
-between-requires c κs = let a = c .before .before .before .before .before in (a .pre, record { low = rw (c .before .before .before .before .route .ensures ∙ low-is (a .pre)) at (c .before .before .before .if1 .left); high = omega (arith, c .before .route5 .ensures, c .before .before .route4 .ensures, high-is (a .pre), count-is (a .pre), a .pre .dart .index-lt, c .if2 .left) })
+above-requires : tie.Need-above-requires
+above-requires c κs = let a = c .before .before .before .before .before .before in (a .pre, stands-high (a .pre) (c .before .before .before .before .route2 .ensures) (c .before .before .before .before .before .route .ensures) (c .before .before .before .route3 .ensures) (stands _ _ _ High (c .before .before .stand-of .ensures) (c .enum-told2 .given .1)))
+
+add-beside : tie.Need-add-beside
+add-beside c = omega (arith, index-small (c .before .before .before .before .before .before .pre))
+
+beside-requires : tie.Need-beside-requires
+beside-requires c κs = let a = c .before .before .before .before .before .before in let s = (stands _ _ _ Up (c .before .before .stand-of .ensures) (c .enum-told3 .given .1)) in (a .pre, stands-up (a .pre) (c .before .before .before .before .route2 .ensures) (c .before .before .before .before .before .route .ensures) (c .before .before .before .route3 .ensures) (s .0) (s .1))
+
+sub-beside : tie.Need-sub-beside
+sub-beside c = omega (arith, (stands _ _ _ Down (c .before .before .stand-of .ensures) (c .enum-told4 .given .1)) .2)
+
+beside-requires-2 : tie.Need-beside-requires-2
+beside-requires-2 c κs = let a = c .before .before .before .before .before .before in let s = (stands _ _ _ Down (c .before .before .stand-of .ensures) (c .enum-told4 .given .1)) in (a .pre, stands-down (a .pre) (c .before .before .before .before .route2 .ensures) (c .before .before .before .before .before .route .ensures) (c .before .before .before .route3 .ensures) (s .0) (s .1) (s .2))
+
+returns-5 : tie.Need-returns-5
+returns-5 c = let a = c .before .before .before .before .before .before in let s = (stands _ _ _ Alone (c .before .before .stand-of .ensures) (c .enum-told5 .given .1)) in stands-alone (a .pre) (c .before .before .before .before .route2 .ensures) (c .before .before .before .before .before .route .ensures) (c .before .before .before .route3 .ensures) (s .0) (s .1) (s .2)
 
 pub next-spec : {M : Type 1} → statement M
 next-spec =
@@ -27,15 +43,23 @@ next-spec =
     (λ c κs. search needs)
     (λ c κs. search needs)
     (λ c κs. search needs)
-    round-requires
+    sub-stand-of
+    (λ c κs. search needs)
     (λ c. search needs)
-    (λ c κs. search needs)
-    sub-k
-    sub-k-2
-    (λ c κs. search needs)
-    (λ c κs. search needs)
-    (λ c κs. search needs)
-    round-requires-2
+    below-requires
     (λ c. search needs)
-    between-requires
-    (λ c. search needs))
+    sub-above
+    sub-above-2
+    above-requires
+    (λ c. search needs)
+    add-beside
+    beside-requires
+    (λ c. search needs)
+    sub-beside
+    beside-requires-2
+    (λ c. search needs)
+    (λ c. search needs)
+    (λ c. search needs)
+    (λ c. search needs)
+    (λ c. search needs)
+    returns-5)

@@ -15,10 +15,10 @@ onto-requires : tie.Need-onto-requires
 onto-requires c κs = let a = c .before .before in (a .pre .0, spot refl (over-to (a .pre .0) (a .pre .1) (c .before .if1 .taken) _ (c .route .ensures)))
 
 returns : tie.Need-returns
-returns c = let a = c .before .before .before in leads refl (over-to (a .pre .0) (a .pre .1) (c .before .before .if1 .taken) _ (c .before .route .ensures)) (c .onto .ensures)
+returns c = let a = c .before .before .before in leads refl (over-to (a .pre .0) (a .pre .1) (c .before .before .if1 .taken) _ (c .before .route .ensures)) (a .pre .1 .told) (c .onto .ensures)
 
 returns-2 : tie.Need-returns-2
-returns-2 c = let a = c .before .before in leads refl (on-to (a .pre .0) (a .pre .1) (c .before .if1 .left)) (c .onto2 .ensures)
+returns-2 c = let a = c .before .before in leads refl (on-to (a .pre .0) (a .pre .1) (c .before .if1 .left)) (a .pre .1 .told) (c .onto2 .ensures)
 
 pub round-spec : {M : Type 1} → statement M
 round-spec =

@@ -4,7 +4,7 @@ use mathlib.Core.Path.{_∙_}
 use Rattle.counting.specs.Stored.{Summed}
 use Rattle.counting.proofs.Stored.{summed-none}
 use Rattle.cell.specs.Limits.{mostInCell}
-use Rattle.cell.proofs.Going.{Going, going-start, going-lent, going-more, going-looped, going-part, going-used}
+use Rattle.cell.proofs.Going.{Going, going-start, going-lent, going-more, going-looped, going-used}
 use Rattle.cell.proofs.Taken.{two-four}
 use Rattle.cell.proofs.Holding.{looped-many}
 use Rattle.cell.proofs.Cells.{manyAt, counted-more, counted-all}
@@ -26,17 +26,14 @@ loop-holds c = (going-start _ (c .before .before .before .before .before .before
 walk-requires : tie.Need-walk-requires Inv-loop μ-loop
 walk-requires c κs = going-lent (c .before .before .before .before .before .loop .inv .0) (omega arith)
 
-part-in-two-end : tie.Need-part-in-two-end Inv-loop μ-loop
-part-in-two-end c = going-part (c .before .before .before .before .before .before .before .before .before .before .before .before .before .loop .inv .0) (omega arith) (c .before .before .before .before .before .before .before .walk .ensures) .0
-
 add-t : tie.Need-add-t Inv-loop μ-loop
-add-t c = omega (arith, counted-more (going-looped (c .before .before .before .before .before .before .before .before .before .before .before .before .before .before .before .before .loop .inv .0) (omega arith) (c .before .before .before .before .before .before .before .before .before .before .walk .ensures)) (c .before .before .before .before .before .before .before .before .before .before .before .before .before .before .before .before .loop .inv .1) _ (c .many .ensures ∙ looped-many (going-looped (c .before .before .before .before .before .before .before .before .before .before .before .before .before .before .before .before .loop .inv .0) (omega arith) (c .before .before .before .before .before .before .before .before .before .before .walk .ensures)) (c .before .in-two .ensures)) .few, c .before .before .before .before .before .before .before .before .before .before .before .before .before .before .before .before .loop .inv .0 .few)
+add-t c = omega (arith, counted-more (going-looped (c .before .before .before .before .before .before .before .before .before .before .before .before .before .before .loop .inv .0) (omega arith) (c .before .before .before .before .before .before .before .before .walk .ensures)) (c .before .before .before .before .before .before .before .before .before .before .before .before .before .before .loop .inv .1) _ (c .many .ensures ∙ looped-many (going-looped (c .before .before .before .before .before .before .before .before .before .before .before .before .before .before .loop .inv .0) (omega arith) (c .before .before .before .before .before .before .before .before .walk .ensures)) (c .before .in-two .ensures)) .few, c .before .before .before .before .before .before .before .before .before .before .before .before .before .before .loop .inv .0 .few)
 
 add-p : tie.Need-add-p Inv-loop μ-loop
-add-p c = omega (arith, c .before .before .before .before .before .before .before .before .before .before .before .before .before .before .before .before .loop .inv .0 .few)
+add-p c = omega (arith, c .before .before .before .before .before .before .before .before .before .before .before .before .before .before .loop .inv .0 .few)
 
 loop-again : tie.Need-loop-again Inv-loop μ-loop
-loop-again c = (going-more (c .before .before .before .before .before .before .before .before .before .before .before .before .before .before .before .before .loop .inv .0) (omega arith) (c .before .before .before .before .before .before .before .before .before .before .walk .ensures), counted-more (going-looped (c .before .before .before .before .before .before .before .before .before .before .before .before .before .before .before .before .loop .inv .0) (omega arith) (c .before .before .before .before .before .before .before .before .before .before .walk .ensures)) (c .before .before .before .before .before .before .before .before .before .before .before .before .before .before .before .before .loop .inv .1) _ (c .many .ensures ∙ looped-many (going-looped (c .before .before .before .before .before .before .before .before .before .before .before .before .before .before .before .before .loop .inv .0) (omega arith) (c .before .before .before .before .before .before .before .before .before .before .walk .ensures)) (c .before .in-two .ensures)))
+loop-again c = (going-more (c .before .before .before .before .before .before .before .before .before .before .before .before .before .before .loop .inv .0) (omega arith) (c .before .before .before .before .before .before .before .before .walk .ensures), counted-more (going-looped (c .before .before .before .before .before .before .before .before .before .before .before .before .before .before .loop .inv .0) (omega arith) (c .before .before .before .before .before .before .before .before .walk .ensures)) (c .before .before .before .before .before .before .before .before .before .before .before .before .before .before .loop .inv .1) _ (c .many .ensures ∙ looped-many (going-looped (c .before .before .before .before .before .before .before .before .before .before .before .before .before .before .loop .inv .0) (omega arith) (c .before .before .before .before .before .before .before .before .walk .ensures)) (c .before .in-two .ensures)))
 
 same-length : tie.Need-same-length Inv-loop μ-loop
 same-length c = going-used (c .before .loop .inv .0) (c .before .before .before .before .before .before .before .before .before .before .pre .long .marks-long) (c .before .before .before .before .clear .ensures) .marks-kept .long
@@ -62,9 +59,6 @@ count-spec =
     clear-requires
     loop-holds
     walk-requires
-    (λ c. omega arith)
-    (λ c. omega arith)
-    part-in-two-end
     (λ c κs. tt)
     (λ c κs. two-four _ _ _ (c .in-two .ensures))
     add-t

@@ -38,23 +38,23 @@ slice-aggregate-walk-3 c = sym (c .before .before .before .before .before .loop 
 walk-requires : tie.Need-walk-requires Inv-loop μ-loop
 walk-requires c κs = going-lent (c .before .before .before .before .before .loop .inv .0) (omega arith)
 
-part-hs-end : tie.Need-part-hs-end Inv-loop μ-loop
-part-hs-end c = going-part (c .before .before .before .before .before .before .before .before .before .before .loop .inv .0) (omega arith) (c .before .before .before .before .walk .ensures) .0
-
 part-triangle-of-end : tie.Need-part-triangle-of-end Inv-loop μ-loop
-part-triangle-of-end c = going-part (c .before .before .before .before .before .before .before .before .before .before .before .before .before .before .before .loop .inv .0) (omega arith) (c .before .before .before .before .before .before .before .before .before .walk .ensures) .1
+part-triangle-of-end c = going-part (c .before .before .before .before .before .before .before .before .before .before .before .before .before .loop .inv .0) (omega arith) (c .before .before .before .before .before .before .before .walk .ensures) .0
+
+part-triangle-of-end-2 : tie.Need-part-triangle-of-end-2 Inv-loop μ-loop
+part-triangle-of-end-2 c = going-part (c .before .before .before .before .before .before .before .before .before .before .before .before .before .before .before .loop .inv .0) (omega arith) (c .before .before .before .before .before .before .before .before .before .walk .ensures) .1
 
 triangle-of-requires : tie.Need-triangle-of-requires Inv-loop μ-loop
-triangle-of-requires c κs = let L = going-looped (c .before .before .before .before .before .before .before .before .before .before .before .before .before .before .before .before .loop .inv .0) (omega arith) (c .before .before .before .before .before .before .before .before .before .before .walk .ensures) in (looped-traced L, (looped-four L (c .before .before .before .before .in-two .ensures), omega (arith, c .before .before .before .many .ensures)))
+triangle-of-requires c κs = let L = going-looped (c .before .before .before .before .before .before .before .before .before .before .before .before .before .before .before .before .loop .inv .0) (omega arith) (c .before .before .before .before .before .before .before .before .before .before .walk .ensures) in (looped-traced L, (looped-four L (c .before .before .before .before .before .before .in-two .ensures), omega (arith, c .before .before .before .before .before .many .ensures)))
 
 returns : tie.Need-returns Inv-loop μ-loop
-returns c = let L = going-looped (c .before .before .before .before .before .before .before .before .before .before .before .before .before .before .before .before .before .loop .inv .0) (omega arith) (c .before .before .before .before .before .before .before .before .before .before .before .walk .ensures) in triangle-here _ (c .before .before .before .before .before .before .before .before .before .before .before .before .before .before .before .before .before .loop .inv .1) (going-in (c .before .before .before .before .before .before .before .before .before .before .before .before .before .before .before .before .before .loop .inv .0) (omega arith)) _ (looped-loop L (c .before .before .before .before .before .in-two .ensures)) (omega (arith, looped-many L (c .before .before .before .before .before .in-two .ensures), c .before .before .before .before .many .ensures)) (traced-entry _ _ _ _ _ _ (omega (arith, c .before .before .before .before .many .ensures)) (c .triangle-of .ensures))
+returns c = let L = going-looped (c .before .before .before .before .before .before .before .before .before .before .before .before .before .before .before .before .before .loop .inv .0) (omega arith) (c .before .before .before .before .before .before .before .before .before .before .before .walk .ensures) in triangle-here _ (c .before .before .before .before .before .before .before .before .before .before .before .before .before .before .before .before .before .loop .inv .1) (going-in (c .before .before .before .before .before .before .before .before .before .before .before .before .before .before .before .before .before .loop .inv .0) (omega arith)) _ (looped-loop L (c .before .before .before .before .before .before .before .in-two .ensures)) (omega (arith, looped-many L (c .before .before .before .before .before .before .before .in-two .ensures), c .before .before .before .before .before .before .many .ensures)) (traced-entry _ _ _ _ _ _ (omega (arith, c .before .before .before .before .before .before .many .ensures)) (c .triangle-of .ensures))
 
 add-p : tie.Need-add-p Inv-loop μ-loop
-add-p c = omega (arith, c .before .before .before .before .before .before .before .before .before .before .before .before .before .before .loop .inv .0 .few)
+add-p c = omega (arith, c .before .before .before .before .before .before .before .before .before .before .before .before .loop .inv .0 .few)
 
 loop-again : tie.Need-loop-again Inv-loop μ-loop
-loop-again c = (going-more (c .before .before .before .before .before .before .before .before .before .before .before .before .before .before .loop .inv .0) (omega arith) (c .before .before .before .before .before .before .before .before .walk .ensures), seeking-more _ (c .before .before .before .before .before .before .before .before .before .before .before .before .before .before .loop .inv .1) _ (c .before .many .ensures ∙ looped-many (going-looped (c .before .before .before .before .before .before .before .before .before .before .before .before .before .before .loop .inv .0) (omega arith) (c .before .before .before .before .before .before .before .before .walk .ensures)) (c .before .before .in-two .ensures)) (omega arith))
+loop-again c = (going-more (c .before .before .before .before .before .before .before .before .before .before .before .before .loop .inv .0) (omega arith) (c .before .before .before .before .before .before .walk .ensures), seeking-more _ (c .before .before .before .before .before .before .before .before .before .before .before .before .loop .inv .1) _ (c .before .many .ensures ∙ looped-many (going-looped (c .before .before .before .before .before .before .before .before .before .before .before .before .loop .inv .0) (omega arith) (c .before .before .before .before .before .before .walk .ensures)) (c .before .before .in-two .ensures)) (omega arith))
 
 returns-2 : tie.Need-returns-2 Inv-loop μ-loop
 returns-2 c = triangle-off _ (c .before .loop .inv .1) (omega (arith, c .before .loop .inv .0 .up, c .before .loop .inv .0 .all))
@@ -74,14 +74,14 @@ triangle-at-spec =
     slice-aggregate-walk-2
     slice-aggregate-walk-3
     walk-requires
-    (λ c. omega arith)
-    (λ c. omega arith)
-    part-hs-end
     (λ c κs. tt)
     (λ c κs. two-four _ _ _ (c .in-two .ensures))
     (λ c. omega arith)
     (λ c. omega arith)
     part-triangle-of-end
+    (λ c. omega arith)
+    (λ c. omega arith)
+    part-triangle-of-end-2
     triangle-of-requires
     returns
     add-p

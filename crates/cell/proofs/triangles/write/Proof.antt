@@ -28,21 +28,21 @@ loop-holds c = (going-start _ (c .before .before .before .before .before .before
 walk-requires : tie.Need-walk-requires Inv-loop μ-loop
 walk-requires c κs = going-lent (c .before .before .before .before .before .loop .inv .0) (omega arith)
 
-part-hs-end : tie.Need-part-hs-end Inv-loop μ-loop
-part-hs-end c = going-part (c .before .before .before .before .before .before .before .before .before .before .before .before .before .loop .inv .0) (omega arith) (c .before .before .before .before .before .before .before .walk .ensures) .0
-
 part-write-loop-end : tie.Need-part-write-loop-end Inv-loop μ-loop
-part-write-loop-end c = going-part (c .before .before .before .before .before .before .before .before .before .before .before .before .before .before .before .before .loop .inv .0) (omega arith) (c .before .before .before .before .before .before .before .before .before .before .walk .ensures) .1
+part-write-loop-end c = going-part (c .before .before .before .before .before .before .before .before .before .before .before .before .before .before .loop .inv .0) (omega arith) (c .before .before .before .before .before .before .before .before .walk .ensures) .0
+
+part-write-loop-end-2 : tie.Need-part-write-loop-end-2 Inv-loop μ-loop
+part-write-loop-end-2 c = going-part (c .before .before .before .before .before .before .before .before .before .before .before .before .before .before .before .before .loop .inv .0) (omega arith) (c .before .before .before .before .before .before .before .before .before .before .walk .ensures) .1
 
 write-loop-requires : tie.Need-write-loop-requires Inv-loop μ-loop
 unfolding cellTriangles
-write-loop-requires c κs = let L = going-looped (c .before .before .before .before .before .before .before .before .before .before .before .before .before .before .before .before .before .before .loop .inv .0) (omega arith) (c .before .before .before .before .before .before .before .before .before .before .before .before .walk .ensures) in (looped-traced L, (looped-four L (c .before .before .before .in-two .ensures), omega (arith, looped-many L (c .before .before .before .in-two .ensures), written-room _ _ (c .before .before .before .before .before .before .before .before .before .before .before .before .before .before .before .before .before .before .loop .inv .1) _ (going-in (c .before .before .before .before .before .before .before .before .before .before .before .before .before .before .before .before .before .before .loop .inv .0) (omega arith)), stored-long (c .before .before .before .before .before .before .before .before .before .before .before .before .before .before .before .before .before .before .loop .inv .1), c .before .before .before .before .before .before .before .before .before .before .before .before .before .before .before .before .before .before .before .before .before .before .before .before .before .before .before .before .pre .1)))
+write-loop-requires c κs = let L = going-looped (c .before .before .before .before .before .before .before .before .before .before .before .before .before .before .before .before .before .before .loop .inv .0) (omega arith) (c .before .before .before .before .before .before .before .before .before .before .before .before .walk .ensures) in (looped-traced L, (looped-four L (c .before .before .before .before .before .in-two .ensures), omega (arith, looped-many L (c .before .before .before .before .before .in-two .ensures), written-room _ _ (c .before .before .before .before .before .before .before .before .before .before .before .before .before .before .before .before .before .before .loop .inv .1) _ (going-in (c .before .before .before .before .before .before .before .before .before .before .before .before .before .before .before .before .before .before .loop .inv .0) (omega arith)), stored-long (c .before .before .before .before .before .before .before .before .before .before .before .before .before .before .before .before .before .before .loop .inv .1), c .before .before .before .before .before .before .before .before .before .before .before .before .before .before .before .before .before .before .before .before .before .before .before .before .before .before .before .before .pre .1)))
 
 add-p : tie.Need-add-p Inv-loop μ-loop
 add-p c = omega (arith, c .before .before .before .before .before .before .before .before .before .before .before .before .before .before .before .before .before .before .before .before .before .loop .inv .0 .few)
 
 loop-again : tie.Need-loop-again Inv-loop μ-loop
-loop-again c = let L = going-looped (c .before .before .before .before .before .before .before .before .before .before .before .before .before .before .before .before .before .before .before .before .before .loop .inv .0) (omega arith) (c .before .before .before .before .before .before .before .before .before .before .before .before .before .before .before .walk .ensures) in (going-more (c .before .before .before .before .before .before .before .before .before .before .before .before .before .before .before .before .before .before .before .before .before .loop .inv .0) (omega arith) (c .before .before .before .before .before .before .before .before .before .before .before .before .before .before .before .walk .ensures), written-more _ _ (c .before .before .before .before .before .before .before .before .before .before .before .before .before .before .before .before .before .before .before .before .before .loop .inv .1) (looped-many L (c .before .before .before .before .before .before .in-two .ensures)) (c .before .before .write-loop .ensures .0) (looped-loop L (c .before .before .before .before .before .before .in-two .ensures)) (c .before .before .write-loop .ensures .1))
+loop-again c = let L = going-looped (c .before .before .before .before .before .before .before .before .before .before .before .before .before .before .before .before .before .before .before .before .before .loop .inv .0) (omega arith) (c .before .before .before .before .before .before .before .before .before .before .before .before .before .before .before .walk .ensures) in (going-more (c .before .before .before .before .before .before .before .before .before .before .before .before .before .before .before .before .before .before .before .before .before .loop .inv .0) (omega arith) (c .before .before .before .before .before .before .before .before .before .before .before .before .before .before .before .walk .ensures), written-more _ _ (c .before .before .before .before .before .before .before .before .before .before .before .before .before .before .before .before .before .before .before .before .before .loop .inv .1) (looped-many L (c .before .before .before .before .before .before .before .before .in-two .ensures)) (c .before .before .write-loop .ensures .0) (looped-loop L (c .before .before .before .before .before .before .before .before .in-two .ensures)) (c .before .before .write-loop .ensures .1))
 
 same-length : tie.Need-same-length Inv-loop μ-loop
 same-length c = going-used (c .before .loop .inv .0) (c .before .before .before .before .before .before .before .before .before .before .before .pre .0 .long .marks-long) (c .before .before .before .before .clear .ensures) .marks-kept .long
@@ -73,13 +73,13 @@ write-spec =
     clear-requires
     loop-holds
     walk-requires
-    (λ c. omega arith)
-    (λ c. omega arith)
-    part-hs-end
     (λ c κs. tt)
     (λ c. omega arith)
     (λ c. omega arith)
     part-write-loop-end
+    (λ c. omega arith)
+    (λ c. omega arith)
+    part-write-loop-end-2
     write-loop-requires
     add-p
     (λ c. omega arith)

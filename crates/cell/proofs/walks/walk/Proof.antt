@@ -1,26 +1,24 @@
 use native.Mathlib.Omega.{arith}
 use borrow.Author.Needs.{needs}
 use Prim.Native.Nat.{_-_}
+use mathlib.Core.Path.{sym, _∙_}
 use lib.ListN.{length-set}
 use Rattle.cell.proofs.Ready.{onward-on, onward-end}
-use Rattle.cell.proofs.Recording.{Recording, lent-met, recording-start, recording-point, recording-ready, recording-long, recording-end, recording-lt, recording-low, recording-home, recording-met, recording-on}
+use Rattle.cell.proofs.Recording.{Recording, lent-met, recording-start, recording-point, recording-ready, recording-long, recording-end, recording-lt, recording-home, recording-met, recording-on, met-above}
 use Rattle.cell.proofs.walks.walk.Statement.{statement}
 use Rattle.cell.proofs.walks.walk.Tie as tie
 
 abbrev Inv-loop : tie.InvT-loop
-Inv-loop c routes n p marks₀ halves₀ points₀ d₀ k₀ marks halves points d k = Recording c n p marks₀ halves₀ points₀ marks halves points d k
+Inv-loop c routes n p marks₀ halves₀ points₀ d₀ k₀ normal₀ marks halves points d k normal = Recording c n p marks₀ halves₀ points₀ marks halves points d k normal
 
 abbrev μ-loop : tie.MeasureT-loop
-μ-loop c routes n p marks₀ halves₀ points₀ d₀ k₀ marks halves points d k = n - k
+μ-loop c routes n p marks₀ halves₀ points₀ d₀ k₀ normal₀ marks halves points d k normal = n - k
 
-mul-wide16 : tie.Need-mul-wide16 Inv-loop μ-loop
-mul-wide16 c = omega (arith, c .before .before .before .pre .inside, c .before .before .before .pre .all, c .before .before .before .pre .marked .long)
-
-slice-read-wide16 : tie.Need-slice-read-wide16 Inv-loop μ-loop
-slice-read-wide16 c = omega (arith, c .before .before .before .before .pre .inside, c .before .before .before .before .pre .all, c .before .before .before .before .pre .marked .long)
+met-requires : tie.Need-met-requires Inv-loop μ-loop
+met-requires c κs = omega (arith, c .before .before .before .before .pre .inside, c .before .before .before .before .pre .all, c .before .before .before .before .pre .marked .long)
 
 returns : tie.Need-returns Inv-loop μ-loop
-returns c = lent-met (c .before .before .before .before .before .before .pre) (rw (c .before .wide16 .ensures .0) at (c .if1 .taken))
+returns c = lent-met (c .before .before .before .before .before .before .pre) (sym (c .before .met .ensures) ∙ c .if1 .taken)
 
 start-at-requires : tie.Need-start-at-requires Inv-loop μ-loop
 start-at-requires c κs = (c .before .before .before .before .before .before .pre .routed, omega (arith, c .before .before .before .before .before .before .pre .inside, c .before .before .before .before .before .before .pre .all))
@@ -64,59 +62,44 @@ add-k c = omega (arith, recording-long (c .before .before .before .before .befor
 next-requires : tie.Need-next-requires Inv-loop μ-loop
 next-requires c κs = recording-ready (c .before .before .before .before .before .before .before .before .before .before .pre) (c .before .before .loop .inv)
 
-same-length : tie.Need-same-length Inv-loop μ-loop
-same-length c = c .before .before .before .before .before .loop .inv .used .marks-kept .long
-
 same-length-2 : tie.Need-same-length-2 Inv-loop μ-loop
-same-length-2 c = simp length-set (c .before .before .before .before .before .loop .inv .used .halves-kept .long)
+same-length-2 c = c .before .before .before .before .before .loop .inv .used .marks-kept .long
 
 same-length-3 : tie.Need-same-length-3 Inv-loop μ-loop
-same-length-3 c = simp length-set (c .before .before .before .before .before .loop .inv .used .points-kept .long)
+same-length-3 c = simp length-set (c .before .before .before .before .before .loop .inv .used .halves-kept .long)
+
+same-length-4 : tie.Need-same-length-4 Inv-loop μ-loop
+same-length-4 c = simp length-set (c .before .before .before .before .before .loop .inv .used .points-kept .long)
 
 returns-2 : tie.Need-returns-2 Inv-loop μ-loop
 returns-2 c = recording-end (c .before .before .before .before .before .before .before .before .before .before .before .before .before .pre) (c .before .before .before .before .before .loop .inv) (onward-end _ _ (c .before .before .next .ensures) (c .enum-told .given .1))
 
-same-length-4 : tie.Need-same-length-4 Inv-loop μ-loop
-same-length-4 c = c .before .before .before .before .before .before .before .loop .inv .used .marks-kept .long
-
 same-length-5 : tie.Need-same-length-5 Inv-loop μ-loop
-same-length-5 c = simp length-set (c .before .before .before .before .before .before .before .loop .inv .used .halves-kept .long)
+same-length-5 c = c .before .before .before .before .before .before .before .before .loop .inv .used .marks-kept .long
 
 same-length-6 : tie.Need-same-length-6 Inv-loop μ-loop
-same-length-6 c = simp length-set (c .before .before .before .before .before .before .before .loop .inv .used .points-kept .long)
-
-returns-3 : tie.Need-returns-3 Inv-loop μ-loop
-returns-3 c = recording-low (c .before .before .before .before .before .before .before .before .before .before .before .before .before .before .before .pre) (c .before .before .before .before .before .before .before .loop .inv) (onward-on (c .before .before .before .before .next .ensures) (c .before .before .e .given .1)) (c .if2 .taken)
+same-length-6 c = simp length-set (c .before .before .before .before .before .before .before .before .loop .inv .used .halves-kept .long)
 
 same-length-7 : tie.Need-same-length-7 Inv-loop μ-loop
-same-length-7 c = c .before .before .before .before .before .before .before .before .loop .inv .used .marks-kept .long
+same-length-7 c = simp length-set (c .before .before .before .before .before .before .before .before .loop .inv .used .points-kept .long)
+
+returns-3 : tie.Need-returns-3 Inv-loop μ-loop
+returns-3 c = recording-home (c .before .before .before .before .before .before .before .before .before .before .before .before .before .before .before .before .pre) (c .before .before .before .before .before .before .before .before .loop .inv) (onward-on (c .before .before .before .before .before .next .ensures) (c .before .before .before .e .given .1)) (c .before .still .ensures) (c .if2 .taken)
+
+met-requires-2 : tie.Need-met-requires-2 Inv-loop μ-loop
+met-requires-2 c κs = recording-lt (c .before .before .before .before .before .before .before .before .before .before .before .before .before .before .before .before .before .pre) (c .before .before .before .before .before .before .before .before .before .loop .inv) (onward-on (c .before .before .before .before .before .before .next .ensures) (c .before .before .before .before .e .given .1)) .0
 
 same-length-8 : tie.Need-same-length-8 Inv-loop μ-loop
-same-length-8 c = simp length-set (c .before .before .before .before .before .before .before .before .loop .inv .used .halves-kept .long)
+same-length-8 c = c .before .before .before .before .before .before .before .before .before .before .before .loop .inv .used .marks-kept .long
 
 same-length-9 : tie.Need-same-length-9 Inv-loop μ-loop
-same-length-9 c = simp length-set (c .before .before .before .before .before .before .before .before .loop .inv .used .points-kept .long)
-
-returns-4 : tie.Need-returns-4 Inv-loop μ-loop
-returns-4 c = recording-home (c .before .before .before .before .before .before .before .before .before .before .before .before .before .before .before .before .pre) (c .before .before .before .before .before .before .before .before .loop .inv) (onward-on (c .before .before .before .before .before .next .ensures) (c .before .before .before .e .given .1)) (c .if3 .taken)
-
-mul-wide16-2 : tie.Need-mul-wide16-2 Inv-loop μ-loop
-mul-wide16-2 c = omega (arith, recording-lt (c .before .before .before .before .before .before .before .before .before .before .before .before .before .before .before .before .pre) (c .before .before .before .before .before .before .before .before .loop .inv) (onward-on (c .before .before .before .before .before .next .ensures) (c .before .before .before .e .given .1)))
-
-slice-read-wide16-2 : tie.Need-slice-read-wide16-2 Inv-loop μ-loop
-slice-read-wide16-2 c = omega (arith, recording-lt (c .before .before .before .before .before .before .before .before .before .before .before .before .before .before .before .before .before .pre) (c .before .before .before .before .before .before .before .before .before .loop .inv) (onward-on (c .before .before .before .before .before .before .next .ensures) (c .before .before .before .before .e .given .1)))
+same-length-9 c = simp length-set (c .before .before .before .before .before .before .before .before .before .before .before .loop .inv .used .halves-kept .long)
 
 same-length-10 : tie.Need-same-length-10 Inv-loop μ-loop
-same-length-10 c = c .before .before .before .before .before .before .before .before .before .before .before .loop .inv .used .marks-kept .long
+same-length-10 c = simp length-set (c .before .before .before .before .before .before .before .before .before .before .before .loop .inv .used .points-kept .long)
 
-same-length-11 : tie.Need-same-length-11 Inv-loop μ-loop
-same-length-11 c = simp length-set (c .before .before .before .before .before .before .before .before .before .before .before .loop .inv .used .halves-kept .long)
-
-same-length-12 : tie.Need-same-length-12 Inv-loop μ-loop
-same-length-12 c = simp length-set (c .before .before .before .before .before .before .before .before .before .before .before .loop .inv .used .points-kept .long)
-
-returns-5 : tie.Need-returns-5 Inv-loop μ-loop
-returns-5 c = recording-met (c .before .before .before .before .before .before .before .before .before .before .before .before .before .before .before .before .before .before .before .pre) (c .before .before .before .before .before .before .before .before .before .before .before .loop .inv) (onward-on (c .before .before .before .before .before .before .before .before .next .ensures) (c .before .before .before .before .before .before .e .given .1)) (rw (c .before .wide162 .ensures .0) at (c .if4 .taken))
+returns-4 : tie.Need-returns-4 Inv-loop μ-loop
+returns-4 c = recording-met (c .before .before .before .before .before .before .before .before .before .before .before .before .before .before .before .before .before .before .before .pre) (c .before .before .before .before .before .before .before .before .before .before .before .loop .inv) (onward-on (c .before .before .before .before .before .before .before .before .next .ensures) (c .before .before .before .before .before .before .e .given .1)) (sym (c .before .met2 .ensures) ∙ c .if3 .taken)
 
 cast-marks : tie.Need-cast-marks Inv-loop μ-loop
 cast-marks c = omega (arith, c .before .before .before .before .before .before .before .before .before .before .before .before .before .before .before .before .before .before .before .pre .inside, c .before .before .before .before .before .before .before .before .before .before .before .before .before .before .before .before .before .before .before .pre .all, c .before .before .before .before .before .before .before .before .before .before .before .before .before .before .before .before .before .before .before .pre .routed .few)
@@ -131,7 +114,7 @@ loop-less : tie.Need-loop-less Inv-loop μ-loop
 loop-less c = omega (arith, recording-long (c .before .before .before .before .before .before .before .before .before .before .before .before .before .before .before .before .before .before .before .pre) (c .before .before .before .before .before .before .before .before .before .before .before .loop .inv) .0)
 
 loop-again : tie.Need-loop-again Inv-loop μ-loop
-loop-again c = recording-on (c .before .before .before .before .before .before .before .before .before .before .before .before .before .before .before .before .before .before .before .pre) (c .before .before .before .before .before .before .before .before .before .before .before .loop .inv) (onward-on (c .before .before .before .before .before .before .before .before .next .ensures) (c .before .before .before .before .before .before .e .given .1)) (omega arith)
+loop-again c = recording-on (c .before .before .before .before .before .before .before .before .before .before .before .before .before .before .before .before .before .before .before .pre) (c .before .before .before .before .before .before .before .before .before .before .before .loop .inv) (onward-on (c .before .before .before .before .before .before .before .before .next .ensures) (c .before .before .before .before .before .before .e .given .1)) (c .before .before .before .before .still .ensures) (omega (arith, met-above _ _ _ (sym (c .before .met2 .ensures) ∙ c .if3 .left), c .before .before .before .if2 .left))
 
 pub walk-spec : {M : Type 1} → statement M
 walk-spec =
@@ -139,9 +122,8 @@ walk-spec =
     (tie.spec
     Inv-loop
     μ-loop
-    mul-wide16
-    slice-read-wide16
-    (λ c κs. tt)
+    met-requires
+    (λ c. search needs)
     returns
     start-at-requires
     loop-holds
@@ -159,25 +141,20 @@ walk-spec =
     next-requires
     (λ c. search needs)
     (λ c. search needs)
-    same-length
     same-length-2
     same-length-3
-    returns-2
     same-length-4
+    returns-2
+    (λ c κs. search needs)
     same-length-5
     same-length-6
-    returns-3
     same-length-7
+    returns-3
+    met-requires-2
     same-length-8
     same-length-9
-    returns-4
-    mul-wide16-2
-    slice-read-wide16-2
-    (λ c κs. tt)
     same-length-10
-    same-length-11
-    same-length-12
-    returns-5
+    returns-4
     cast-marks
     mul-marks
     slice-write-marks
