@@ -20,11 +20,11 @@ use Rattle.cell.specs.declared.Cell.{Cell}
 use Rattle.cell.specs.Cell.{Edges, crossings, edge, step}
 use Rattle.cell.specs.Of.{countOf, edgesOf}
 use Rattle.cell.specs.Loop.{loopSize, dart, folded, normal, leasts}
-use Rattle.cell.specs.Triangles.{loopTriangles, cellTriangles}
+use Rattle.cell.specs.Triangles.{manyFrom, triangleCount, cellTriangles}
 use Rattle.cell.specs.Level.{isLevelCell}
 use Rattle.cell.proofs.Folds.{folded-ends}
 use Rattle.cell.proofs.Loops.{dart-live, tally-darts}
-use Rattle.cell.proofs.Taken.{length-loop, length-cell}
+use Rattle.cell.proofs.Taken.{cell-count}
 use Rattle.booking.specs.Booking.{cornerTriangles, larger, smaller, otherLength, beside, booked}
 use Rattle.booking.proofs.Numbers.{not-three, long-times, gcd-none, long-four, long-more}
 use Rattle.booking.proofs.Closed.{goes, moves}
@@ -88,22 +88,19 @@ module _ (w : Edges) (K : isLevelCell (w .count) ≡ true) where
       (eq-zero-or-pos (smaller (w .count)))
 
   -- the triangles of a loop, and of all
-  many-at : (p : ℕ) → p < N → manyOf (shapeOf (loopSize w p) (normal w p)) (loopSize w p) ≡ one (eqb (loopSize w p) 3) + each * other w K p
+  many-at : (p : ℕ) → p < N → manyFrom w p ≡ one (eqb (loopSize w p) 3) + each * other w K p
+  unfolding manyFrom
   many-at p l =
       rw (normal-all p l)
       (by-size w K (λ n t o. manyOf (shapeOf n true) n ≡ t + each * o)
       (omega (arith, mul-zero each)) (omega (arith, mul-zero each)) (λ h. many-long h ∙ omega (arith, mul-one each)) p l)
 
-  pub loops-booked : total (λ p. manyOf (shapeOf (loopSize w p) (normal w p)) (loopSize w p)) N 0 ≡ booked (w .count)
-  unfolding booked
+  pub loops-booked : triangleCount w ≡ booked (w .count)
+  unfolding triangleCount booked
   loops-booked =
-      total-ext (λ p. manyOf (shapeOf (loopSize w p) (normal w p)) (loopSize w p)) (λ p. one (eqb (loopSize w p) 3) + each * other w K p) N 0 (λ p _ l. many-at p (omega arith))
+      total-ext (manyFrom w) (λ p. one (eqb (loopSize w p) 3) + each * other w K p) N 0 (λ p _ l. many-at p (omega arith))
       ∙ total-add (λ p. one (eqb (loopSize w p) 3)) (λ p. each * other w K p) N 0
       ∙ ap₂ (λ m n. m + n) (threes-are w K) (total-times each (other w K) N 0 ∙ ap (λ n. each * n) (others-are w K) ∙ beside-is)
 
 pub triangles-booked : (c : Cell) → isLevelCell (countOf c) ≡ true → length (cellTriangles c) ≡ booked (countOf c)
-triangles-booked c K =
-    length-cell c
-    ∙ total-ext (λ p. length (loopTriangles c p)) (λ p. manyOf (shapeOf (loopSize (edgesOf c) p) (normal (edgesOf c) p)) (loopSize (edgesOf c) p)) (crossings (edgesOf c)) 0
-    (λ p _ l. length-loop c p)
-    ∙ loops-booked (edgesOf c) K
+triangles-booked c K = cell-count c ∙ loops-booked (edgesOf c) K

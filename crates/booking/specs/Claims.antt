@@ -6,17 +6,15 @@ use mathlib.Core.Bool.{true, not}
 use lib.Dec.{eqb}
 use lib.ListN.{length}
 use Rattle.counting.specs.Lists.{tally}
-use Rattle.counting.specs.Range.{total}
 use Rattle.counting.specs.Gcd.{gcd}
 use Rattle.walk.specs.Darts.{Loop}
 use Rattle.walk.specs.Walk.{flat}
 use Rattle.walk.specs.Claims.{ofCrossing}
-use Rattle.manifold.specs.Shape.{shapeOf, manyOf}
 use Rattle.cell.specs.declared.Cell.{Cell}
 use Rattle.cell.specs.Cell.{Edges, crossings, step}
 use Rattle.cell.specs.Of.{countOf}
 use Rattle.cell.specs.Loop.{loopSize, dart, normal, leasts}
-use Rattle.cell.specs.Triangles.{cellTriangles}
+use Rattle.cell.specs.Triangles.{triangleCount, cellTriangles}
 use Rattle.cell.specs.Nodes.{Arranged, countBetween, cornerFrom, crossingAt, dartAt}
 use Rattle.cell.specs.Level.{isLevelCell}
 use Rattle.booking.specs.declared.Booking.{Booking}
@@ -72,7 +70,7 @@ module _ (w : Edges) where
     pub quad : smaller (w .count) ≡ 0 → (p : ℕ) → Other p → loopSize w p ≡ 4
     pub longer : 0 < smaller (w .count) → (p : ℕ) → Other p → 8 ≤ loopSize w p
     -- their triangles together are those booked
-    pub triangles : total (λ p. manyOf (shapeOf (loopSize w p) (normal w p)) (loopSize w p)) (crossings w) 0 ≡ booked (w .count)
+    pub triangles : triangleCount w ≡ booked (w .count)
 
 -- Corner counts and what is left, in closed form, for any order a b c d of the positions.
 pub record CountLaws (w : ℕ → ℕ) (a b c d : ℕ) : Type 0 where

@@ -9,7 +9,7 @@ use lib.ListN.{length, getD}
 use borrow.Author.Tests.{eqb-true}
 use Rattle.counting.specs.Range.{total, after}
 use Rattle.counting.proofs.Bools.{and-left}
-use Rattle.counting.proofs.Range.{after-lt, length-over, total-mono}
+use Rattle.counting.proofs.Range.{after-lt, length-over, total-ext, total-mono}
 use Rattle.manifold.specs.Shape.{Shape, shapeOf, manyOf, trianglesOf}
 use Rattle.manifold.proofs.Shapes.{shape-two, fits, many-le, length-triangles, triangles-ext}
 use Rattle.walk.specs.Iterate.{it}
@@ -22,7 +22,7 @@ use Rattle.cell.proofs.Loops.{sizes, dart-live, dart-after}
 use Rattle.cell.specs.Loop.{loopSize, dart, normal}
 use Rattle.cell.specs.declared.Corner.the-variants.{Crossing, Middle}
 use Rattle.cell.specs.declared.Side.the-variants.{Inner}
-use Rattle.cell.specs.Triangles.{triangle, edgesOf, numberOf, segmentOf, point, segment, loopTriangles, cellTriangles}
+use Rattle.cell.specs.Triangles.{manyFrom, triangleCount, triangle, edgesOf, numberOf, segmentOf, point, segment, loopTriangles, cellTriangles}
 use Rattle.cell.specs.Traced.{pointAt, segmentAt, tracedTriangles}
 
 -- n is 4 where the code says that a loop is in two triangles
@@ -86,6 +86,11 @@ module _ (c : Cell) (p : ℕ) (l : p < crossings (edgesOf c)) where
 pub length-cell : (c : Cell) → length (cellTriangles c) ≡ total (λ p. length (loopTriangles c p)) (crossings (edgesOf c)) 0
 unfolding cellTriangles
 length-cell c = length-over (loopTriangles c) (crossings (edgesOf c)) 0
+
+pub cell-count : (c : Cell) → length (cellTriangles c) ≡ triangleCount (edgesOf c)
+unfolding triangleCount manyFrom
+cell-count c =
+    length-cell c ∙ total-ext (λ p. length (loopTriangles c p)) (manyFrom (edgesOf c)) (crossings (edgesOf c)) 0 (λ p a b. length-loop c p)
 
 pub cell-few : (c : Cell) → length (cellTriangles c) ≤ crossings (edgesOf c)
 cell-few c =

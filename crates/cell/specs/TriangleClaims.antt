@@ -11,15 +11,16 @@ use Rattle.manifold.specs.Shape.{shapeOf, manyOf}
 use Rattle.manifold.specs.Polygon.{triangles}
 use Rattle.manifold.specs.Claims.{PolygonLaws}
 use Rattle.cell.specs.Words.{wordCount, allWords}
-use Rattle.cell.specs.Triangles.{edgesOf, loopTriangles, cellTriangles}
+use Rattle.cell.specs.Triangles.{triangleCount, edgesOf, loopTriangles, cellTriangles}
 use Rattle.cell.specs.Polygons.{polygonOf, named, Apart}
 
 pub record TriangleLaws (c : Cell) : Type 0 where
   -- a loop gives 1, 2 or n triangles, and at most n
   pub many : (p : ℕ) → length (loopTriangles c p) ≡ manyOf (shapeOf (loopSize (edgesOf c) p) (normal (edgesOf c) p)) (loopSize (edgesOf c) p)
   pub loop-few : (p : ℕ) → length (loopTriangles c p) ≤ loopSize (edgesOf c) p
-  -- a cell gives those of its loops together, and at most as many as it has crossings
+  -- a cell gives those of its loops together, so many by its edges alone, and at most as many as it has crossings
   pub sum : length (cellTriangles c) ≡ total (λ p. length (loopTriangles c p)) (crossings (edgesOf c)) 0
+  pub counted : length (cellTriangles c) ≡ triangleCount (edgesOf c)
   pub few : length (cellTriangles c) ≤ crossings (edgesOf c)
   -- each triangle is eleven words
   pub words : length (allWords (cellTriangles c)) ≡ wordCount * length (cellTriangles c)

@@ -1,18 +1,30 @@
 -- The triangles of a loop (01) and of a cell.
 use Prim.Native.Nat.{ℕ, _/_, min}
 use mathlib.Core.List.{List}
-use lib.ListN.{getD}
-use Rattle.counting.specs.Range.{over}
-use Rattle.manifold.specs.Shape.{shapeOf, trianglesOf}
+use lib.ListN.{length, getD}
+use Rattle.counting.specs.Range.{total, over}
+use Rattle.manifold.specs.Shape.{shapeOf, manyOf, trianglesOf}
 use Rattle.cell.specs.declared.Cell.{Cell}
-use Rattle.cell.specs.Cell.{crossings, mate, slot}
+use Rattle.cell.specs.Cell.{Edges, crossings, mate, slot}
 pub use Rattle.cell.specs.Of.{edgesOf}
-use Rattle.cell.specs.Loop.{loopSize, dart, normal, inGrid}
+use Rattle.cell.specs.Loop.{loopSize, dart, normal, inGrid, leasts}
 use Rattle.cell.specs.declared.Corner.{Corner}
 use Rattle.cell.specs.declared.Corner.the-variants.{Crossing, Middle}
 use Rattle.cell.specs.declared.Side.{Side}
 use Rattle.cell.specs.declared.Side.the-variants.{Segment, Inner}
 use Rattle.cell.specs.declared.Triangle.{Triangle}
+
+-- how many loops a cell has and how many triangles: both go by its edges alone
+module _ (w : Edges) where
+  unfoldable pub loopCount : ℕ
+  loopCount = length (leasts w)
+
+  -- the triangles of the loop from p
+  unfoldable pub manyFrom : ℕ → ℕ
+  manyFrom p = manyOf (shapeOf (loopSize w p) (normal w p)) (loopSize w p)
+
+  unfoldable pub triangleCount : ℕ
+  triangleCount = total manyFrom (crossings w) 0
 
 -- a triangle of the loop of the cell with the number `cell` from the crossing number p0, by its corners and sides
 unfoldable pub triangle : (cell p0 : ℕ) (x y z : Corner) (r s t : Side) → Triangle

@@ -4,16 +4,16 @@ use mathlib.Core.Path.{_≡_, refl, sym, ap, ap₂, _∙_, subst}
 use mathlib.Core.Logic.{⊎-elim}
 use mathlib.Core.Bool.{Bool}
 use mathlib.Core.List.{List, [], _∷_, _++_, map, map-append, append-assoc}
-use native.Mathlib.Nat.{zero-add, add-comm, add-assoc, mul-zero, mul-one, mul-suc, mul-add, not-suc-le-zero, eq-or-lt-of-le}
+use native.Mathlib.Nat.{zero-add, add-comm, add-assoc, mul-zero, mul-suc, mul-add, not-suc-le-zero, eq-or-lt-of-le}
 use native.Mathlib.Omega.{arith}
 use lib.Dec.{eqb}
 use lib.ListN.{length, getD, length-append, List·getD-append}
 use lib.Seq.{getD-append-add}
-use borrow.Author.Tests.{eq-eqb, ne-eqb}
+use borrow.Author.Tests.{lt-ltb}
 use Rattle.counting.specs.Pick.{one}
 use Rattle.counting.specs.Range.{total, over, values}
 use Rattle.counting.specs.Lists.{weigh, tally, All, gather}
-use Rattle.counting.proofs.Range.{total-zero, total-single, total-add, total-le, total-shift, total-ext, over-ext}
+use Rattle.counting.proofs.Range.{total-zero, total-at, total-add, total-le, total-shift, total-ext, over-ext}
 
 module _ {A : Type 0} (h : A → ℕ) where
   pub weigh-append : (l m : List A) → weigh h (l ++ m) ≡ weigh h l + weigh h m
@@ -81,9 +81,7 @@ module _ {A : Type 0} (f : A → ℕ) (N : ℕ) where
       (λ q _ _. mul-add (h q) (one (eqb (f x) q)) (tally (λ y. eqb (f y) q) l))
       ∙ total-add (λ v. h v * one (eqb (f x) v)) (λ v. h v * tally (λ y. eqb (f y) v) l) N 0
       ∙ ap₂ (λ m n. m + n)
-      (total-single (λ v. h v * one (eqb (f x) v)) N 0 (f x) (omega arith) (omega (arith, a .0))
-      (λ q _ _ n. ap (λ m. h q * m) (ap one (ne-eqb (f x) q (λ e. n (sym e)))) ∙ mul-zero (h q))
-      ∙ ap (λ m. h (f x) * m) (ap one (eq-eqb (f x) (f x) refl)) ∙ mul-one (h (f x)))
+      (total-at h N (f x) ∙ rw (lt-ltb (f x) N (a .0)) refl)
       (weigh-numbers h l (a .1))
 
   -- how often each number below N is met makes up the length

@@ -4,12 +4,13 @@ use mathlib.Core.Path.{_≡_, refl, sym, ap, ap₂, _∙_}
 use mathlib.Core.Logic.{_⊎_, inl, inr, _≢_, ⊎-elim}
 use mathlib.Core.Bool.{Bool, true, false}
 use mathlib.Core.List.{List, _++_, append-assoc, append-nil}
-use native.Mathlib.Nat.{not-suc-le-zero, zero-add, add-zero, mul-zero, mul-add, zero-mul, suc-mul, eq-or-lt-of-le, eq-zero-or-pos}
+use native.Mathlib.Nat.{not-suc-le-zero, zero-add, add-zero, mul-zero, mul-one, mul-add, zero-mul, suc-mul, eq-or-lt-of-le, eq-zero-or-pos}
 use native.Mathlib.Numerals.{add-one}
 use native.Mathlib.Omega.{arith}
-use lib.Dec.{eqb}
+use native.Mathlib.Decide.{decLt}
+use lib.Dec.{eqb, ltb}
 use lib.ListN.{length, length-append}
-use borrow.Author.Tests.{eq-eqb, ne-eqb, eqb-true, eqb-false}
+use borrow.Author.Tests.{eq-eqb, ne-eqb, eqb-true, eqb-false, lt-ltb, le-ltb}
 use Rattle.counting.specs.Pick.{pick, one}
 use Rattle.counting.specs.Range.{total, over, after, before}
 
@@ -46,6 +47,12 @@ pub total-times : (k : ℕ) (f : ℕ → ℕ) (n p : ℕ) → total (λ q. k * f
 unfolding total
 total-times k f zero p = sym (mul-zero k)
 total-times k f (suc n) p = ap (λ m. k * f p + m) (total-times k f n (suc p)) ∙ sym (mul-add k (f p) (total f n (suc p)))
+
+-- sums of sums in either order
+pub total-swap : (a : ℕ → ℕ → ℕ) (m n p q : ℕ) → total (λ i. total (a i) n q) m p ≡ total (λ j. total (λ i. a i j) m p) n q
+unfolding total
+total-swap a zero n p q = sym (total-zero (λ j. 0) n q (λ j _ _. refl))
+total-swap a (suc m) n p q = ap (λ k. total (a p) n q + k) (total-swap a m n (suc p) q) ∙ sym (total-add (a p) (λ j. total (λ i. a i j) m (suc p)) n q)
 
 -- a value at one place only
 pub total-single : (g : ℕ → ℕ) (n p a : ℕ) → p ≤ a → a < p + n → ((q : ℕ) → p ≤ q → q < p + n → q ≢ a → g q ≡ 0) → total g n p ≡ g a
@@ -141,6 +148,19 @@ mark-at a q e = ap one (eq-eqb q a e)
 
 pub mark-off : (a q : ℕ) → q ≢ a → mark a q ≡ 0
 mark-off a q e = ap one (ne-eqb q a e)
+
+-- the value at the place a, where it is below n
+pub total-at : (h : ℕ → ℕ) (n a : ℕ) → total (λ q. h q * one (eqb a q)) n 0 ≡ pick (ltb a n) (h a) 0
+total-at h n a =
+    elim (decLt a n) [
+      | yes l ↦ rw (lt-ltb a n l)
+          (total-single (λ q. h q * one (eqb a q)) n 0 a (omega arith) (omega arith) (λ q _ _ w. other q (λ e. w (sym e)))
+          ∙ ap (λ m. h a * m) (ap one (eq-eqb a a refl)) ∙ mul-one (h a))
+      | no l ↦ rw (le-ltb a n (omega arith)) (total-zero (λ q. h q * one (eqb a q)) n 0 (λ q _ w. other q (λ e. omega arith)))
+    ]
+  where
+    other : (q : ℕ) → a ≢ q → h q * one (eqb a q) ≡ 0
+    other q w = ap (λ m. h q * m) (ap one (ne-eqb a q w)) ∙ mul-zero (h q)
 
 pub total-mark : (a n : ℕ) → a < n → total (mark a) n 0 ≡ 1
 total-mark a n l = total-one (mark a) n 0 a (omega arith) (omega arith) (mark-at a a refl) (λ q u v w. mark-off a q w)

@@ -6,14 +6,14 @@ use mathlib.Core.Bool.{Bool, true, false, _&&_}
 use native.Mathlib.Omega.{arith}
 use native.Mathlib.Numerals.{add-one}
 use native.Mathlib.Nat.{add-zero, mul-zero, mul-suc, mul-comm, mul-le-mul-left, mod-lt, div-add-mod, mul-div-cancel-left, div-lt-iff-lt-mul, not-suc-le-zero, eq-or-lt-of-le, le-of-suc-le-suc}
-use lib.Dec.{ltb}
+use lib.Dec.{eqb, ltb}
 use borrow.Author.Tests.{lt-ltb, ltb-true}
 use Rattle.counting.specs.Pick.{pick, one}
 use Rattle.counting.specs.Range.{total}
 use Rattle.counting.specs.Search.{seek, first, last, some, every, count}
 use Rattle.counting.proofs.Below.{trichotomy}
 use Rattle.counting.proofs.Bools.{not-clash, clash, and-true, and-left, and-right, holds-or, one-le}
-use Rattle.counting.proofs.Range.{total-le, total-mono, total-snoc}
+use Rattle.counting.proofs.Range.{total-ext, total-le, total-mono, total-snoc, total-swap, total-times, total-at}
 
 -- below n, or at the last of suc n numbers
 pub below-or : (i n : ℕ) → i < suc n → (i ≡ n) ⊎ (i < n)
@@ -437,6 +437,14 @@ pub count-sum : (f g h : ℕ → Bool) (n : ℕ) → ((i : ℕ) → i < n → on
 unfolding count
 count-sum f g h zero e = refl
 count-sum f g h (suc n) e = omega (arith, count-sum f g h n (λ i a. e i (omega arith)), e n (omega arith))
+
+-- what the numbers below n add, which goes by f: how many there are of each value below N, times what each adds
+pub count-sorted : (f h : ℕ → ℕ) (N n : ℕ) → total (λ v. count (λ c. eqb (f c) v) n * h v) N 0 ≡ total (λ c. pick (ltb (f c) N) (h (f c)) 0) n 0
+count-sorted f h N n =
+    total-ext (λ v. count (λ c. eqb (f c) v) n * h v) (λ v. total (λ c. h v * one (eqb (f c) v)) n 0) N 0
+    (λ v _ _. mul-comm (count (λ c. eqb (f c) v) n) (h v) ∙ ap (λ m. h v * m) (count-total (λ c. eqb (f c) v) n) ∙ sym (total-times (h v) (λ c. one (eqb (f c) v)) n 0))
+    ∙ total-swap (λ v c. h v * one (eqb (f c) v)) N n 0 0
+    ∙ total-ext (λ c. total (λ v. h v * one (eqb (f c) v)) N 0) (λ c. pick (ltb (f c) N) (h (f c)) 0) n 0 (λ c _ _. total-at h N (f c))
 
 -- a test that implies another
 module _ (t u : ℕ → Bool) (into : (i : ℕ) → t i ≡ true → u i ≡ true) where

@@ -8,3 +8,4 @@ pub mod Marks
 pub mod Rest
 pub mod Claims
 pub mod Example
+pub mod Relabel

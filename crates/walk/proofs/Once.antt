@@ -38,7 +38,7 @@ module _ (N : ℕ) (s rv : ℕ → ℕ) (D : Darts (2 * N) N s rv half) where
       let (K, kow) = listed q lq (omega (arith, u .at-lt)) in
       omega (arith, one-loop (2 * N) N s rv half D L K low kow x o u)
 
-  tally-in : (p x : ℕ) → p < N → In p x → tally (ofCrossing x) (loopAt N s p) ≡ 1
+  pub tally-in : (p x : ℕ) → p < N → In p x → tally (ofCrossing x) (loopAt N s p) ≡ 1
   unfolding loopAt
   tally-in p x l o =
       tally-orbit (ofCrossing x) s (size N s p) (2 * p)
@@ -82,7 +82,7 @@ module _ (N : ℕ) (s rv : ℕ → ℕ) (D : Darts (2 * N) N s rv half) where
       subst (λ y. tally (ofCrossing y) (flat N s) ≡ 1) same (closed-once (2 * x) (K .0) (K .2) 0)
 
   -- and every crossing at most once
-  counted-in : (p x : ℕ) → 0 < tally (ofCrossing x) (loopAt N s p) → In p x
+  pub counted-in : (p x : ℕ) → 0 < tally (ofCrossing x) (loopAt N s p) → In p x
   unfolding loopAt
   counted-in p x h =
       let w = total-pos (λ i. one (ofCrossing x (it s i (2 * p)))) (size N s p) 0 (rw (tally-orbit (ofCrossing x) s (size N s p) (2 * p)) at h) in
