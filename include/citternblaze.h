@@ -148,6 +148,18 @@ size_t citternblaze_face(uint16_t ab, uint16_t ac, uint16_t bc,
                          uint32_t edge, uint32_t index,
                          uint64_t *answer, size_t answer_len);
 
+/* The table of common cells. How many loops and triangles a cell has whose six
+ * counts are 0, 1 or 2.
+ *
+ * Reads the counts of the edges 01, 02, 03, 12, 13, 23, which may be any of 16
+ * bits.
+ *
+ * Answers 0, the number of loops and the number of triangles; or 0 alone, where
+ * a count is above 2: the cell is outside the table. */
+size_t citternblaze_case(uint16_t e01, uint16_t e02, uint16_t e03,
+                         uint16_t e12, uint16_t e13, uint16_t e23,
+                         uint64_t *answer, size_t answer_len);
+
 /* The booking. How many triangles a cell has, from the counts of its edges alone.
  *
  * Reads the counts of the edges 01, 02, 03, 12, 13, 23, which may be any of 16
@@ -194,8 +206,9 @@ size_t citternblaze_check(const uint16_t *cells, size_t cells_len,
  *
  * A cell has no more triangles than crossings. Where the area has room for as
  * many triangles as the cells have crossings together, the loops of each cell are
- * walked once. Else the cells that citternblaze_book answers "walk it" for are
- * walked twice, first to count. */
+ * walked once. Else the cells that are outside the table of citternblaze_case and
+ * that citternblaze_book answers "walk it" for are walked twice, first to
+ * count. */
 size_t citternblaze_mesh(const uint16_t *cells, size_t cells_len,
                          const uint16_t *edges, size_t edges_len,
                          const uint16_t *counts, size_t counts_len,

@@ -12,6 +12,7 @@ pub mod mesh;
 pub mod booking;
 
 pub mod bundle;
+pub mod cases;
 
 pub mod places;
 

@@ -58,6 +58,35 @@ static void test_face(void) {
   face("face 5 1 1, edge 0, index 2, answer area of 0", 5, 1, 1, 0, 2, 0);
 }
 
+static void entry(const char *call, const uint16_t of[6], size_t answer_len) {
+  show(call, citternblaze_case(of[0], of[1], of[2], of[3], of[4], of[5], answer,
+                               answer_len));
+}
+
+static void test_case(void) {
+  static const uint16_t none[6] = {0};
+  static const uint16_t open[6] = {1, 1, 1, 1, 1, 1};
+  static const uint16_t corner[6] = {1, 1, 1, 0, 0, 0};
+  static const uint16_t rim[6] = {0, 0, 0, 1, 1, 1};
+  static const uint16_t octagon[6] = {2, 1, 1, 1, 1, 2};
+  static const uint16_t full[6] = {2, 2, 2, 2, 2, 2};
+  static const uint16_t first[6] = {3, 0, 0, 0, 0, 0};
+  static const uint16_t last[6] = {0, 0, 0, 0, 0, 3};
+  static const uint16_t most[6] = {65535, 65535, 65535, 65535, 65535, 65535};
+  entry("case 0 0 0 0 0 0", none, ROOM);
+  entry("case 1 1 1 1 1 1", open, ROOM);
+  entry("case 1 1 1 0 0 0", corner, ROOM);
+  entry("case 0 0 0 1 1 1", rim, ROOM);
+  entry("case 2 1 1 1 1 2", octagon, ROOM);
+  entry("case 2 2 2 2 2 2", full, ROOM);
+  entry("case 3 0 0 0 0 0, outside", first, ROOM);
+  entry("case 0 0 0 0 0 3, outside", last, ROOM);
+  entry("case 65535 65535 65535 65535 65535 65535, outside", most, ROOM);
+  entry("case 2 1 1 1 1 2, answer area of 6", octagon, ENOUGH);
+  entry("case 2 1 1 1 1 2, answer area of 5", octagon, SHORT);
+  entry("case 2 1 1 1 1 2, answer area of 0", octagon, 0);
+}
+
 static void book(const char *call, const uint16_t of[6], size_t answer_len) {
   show(call, citternblaze_book(of[0], of[1], of[2], of[3], of[4], of[5], answer,
                                answer_len));
@@ -593,6 +622,7 @@ static void test_other_refusals(void) {
 static void test_null(void) {
   uint8_t area[4];
   show("face, no answer area", citternblaze_face(5, 1, 1, 0, 2, NULL, 0));
+  show("case, no answer area", citternblaze_case(2, 1, 1, 1, 1, 2, NULL, 0));
   show("book, no answer area", citternblaze_book(2, 1, 1, 1, 1, 2, NULL, 0));
   show("check of nothing",
        citternblaze_check(NULL, 0, NULL, 0, NULL, 0, answer, ROOM));
@@ -655,6 +685,7 @@ static void test_null(void) {
 int main(void) {
   clear();
   test_face();
+  test_case();
   test_book();
   test_check();
   test_mesh();

@@ -1,32 +1,38 @@
--- The triangles of the cells of a grid's tables: what is booked and what is walked together are all of them, and there are no more than crossings.
+-- The triangles of the cells of a grid's tables: what is had by entry, what is booked and what is walked together are all of them, and there are no more
+-- than crossings.
 use Prim.Native.Nat.{ℕ, _+_, _*_, _≤_}
 use mathlib.Core.Path.{_≡_, refl, sym, ap, _∙_}
 use mathlib.Core.Logic.{_⊎_, ⊎-elim}
-use mathlib.Core.Bool.{Bool, true, false}
+use mathlib.Core.Bool.{Bool, true, false, _||_}
 use mathlib.Core.List.{List, [], _∷_}
 use native.Mathlib.Nat.{eq-zero-or-pos}
 use native.Mathlib.Omega.{arith}
+use lib.Dec.{ltb}
 use lib.ListN.{length}
 use borrow.Author.Tests.{eq-eqb, ne-eqb}
 use Rattle.counting.specs.Pick.{pick}
 use Rattle.counting.specs.Range.{total}
 use Rattle.counting.specs.Pack.{pre}
-use Rattle.counting.proofs.Range.{total-ext, total-add, total-mono, length-over}
+use Rattle.counting.proofs.Range.{total-ext, total-add, total-mono, total-same, length-over}
 use Rattle.cell.specs.declared.Cell.{Cell}
-use Rattle.cell.specs.Cell.{crossings}
+use Rattle.grid.specs.Grid.{mostCells}
 use Rattle.cell.specs.Limits.{mostInCell}
 use Rattle.cell.specs.Triangles.{cellTriangles}
 use Rattle.cell.specs.Level.{byEdge, isLevelCell}
-use Rattle.cell.specs.Table.{tableCell, takenCounts, tableCrossings, drawnCells, tableTriangles, walkedAt}
+use Rattle.cell.specs.Common.{isCommon, isKnown}
+use Rattle.cell.specs.Table.{tableCell, takenCounts, tableCrossings, drawnCells, mostTriangles, tableTriangles, walkedAt}
 use Rattle.cell.proofs.Taken.{cell-few}
 use Rattle.cell.proofs.Using.{table-most}
 use Rattle.cell.proofs.Values.{taken-is, taken-crossings}
+use Rattle.cases.specs.Cases.{entries, entryOf}
+use Rattle.cases.specs.Tally.{trianglesAt, findEntryAt}
+use Rattle.cases.proofs.Claims.{by-place, common-triangles}
 use Rattle.answer.specs.Answer.{result}
 use Rattle.booking.specs.declared.Booking.{Booking}
 use Rattle.booking.specs.declared.Booking.the-variants.{Booked, WalkIt}
 use Rattle.booking.specs.Booking.{cornerTriangles, larger, smaller, beside, booked}
 use Rattle.booking.specs.Answer.{bookingNumbers, bookingAnswer}
-use Rattle.booking.specs.Totals.{bookedTriangles, walkedCrossings, bookedAt, crossingsAt}
+use Rattle.booking.specs.Totals.{bookedTriangles, walkedCrossings, commonAt, bookedAt, knownAt, crossingsAt}
 use Rattle.booking.proofs.Counts.{plain}
 use Rattle.booking.proofs.Count.{crossings-are}
 use Rattle.booking.proofs.Triangles.{triangles-booked}
@@ -78,19 +84,42 @@ module _ (counts sides : List ℕ) (c : ℕ) where
 
   pub booked-most : bookedAt counts sides c ≤ mostInCell
   unfolding bookedAt
-  booked-most = go (isLevelCell taken) refl
+  booked-most = go (isCommon taken) (isLevelCell taken) refl
     where
-      go : (b : Bool) → isLevelCell taken ≡ b → pick b (booked taken) 0 ≤ mostInCell
-      go true k = omega (arith, booked-few taken k, taken-crossings counts sides c, table-most counts sides c)
-      go false k = omega arith
+      go : (a b : Bool) → isLevelCell taken ≡ b → pick a 0 (pick b (booked taken) 0) ≤ mostInCell
+      go true b k = omega arith
+      go false true k = omega (arith, booked-few taken k, taken-crossings counts sides c, table-most counts sides c)
+      go false false k = omega arith
 
   pub crossings-most : crossingsAt counts sides c ≤ mostInCell
   unfolding crossingsAt
-  crossings-most = go (isLevelCell taken)
+  crossings-most = go (isKnown taken)
     where
       go : (b : Bool) → pick b 0 (tableCrossings counts sides c) ≤ mostInCell
       go true = omega arith
       go false = table-most counts sides c
+
+  -- a cell with an entry adds to the tally alone, and one without to the booking and the crossings
+  pub none-booked : isCommon taken ≡ true → 0 ≡ bookedAt counts sides c
+  unfolding bookedAt
+  none-booked C = rw C refl
+
+  pub none-walked : isCommon taken ≡ true → 0 ≡ crossingsAt counts sides c
+  unfolding crossingsAt isKnown
+  none-walked C = rw C refl
+
+  pub all-booked : isCommon taken ≡ false → pick (isLevelCell taken) (booked taken) 0 ≡ bookedAt counts sides c
+  unfolding bookedAt
+  all-booked C = rw C refl
+
+  pub all-walked : isCommon taken ≡ false → pick (isLevelCell taken) 0 (tableCrossings counts sides c) ≡ crossingsAt counts sides c
+  unfolding crossingsAt isKnown
+  all-walked C = rw C refl
+
+  -- its triangles by its place in the table
+  pub placed : pick (ltb (findEntryAt counts sides c) entries) (trianglesAt (findEntryAt counts sides c)) 0 ≡ commonAt counts sides c
+  unfolding findEntryAt commonAt
+  placed = by-place taken
 
 module _ (cells counts names sides starts : List ℕ) where
   abbrev at : ℕ → Cell
@@ -99,36 +128,38 @@ module _ (cells counts names sides starts : List ℕ) where
   abbrev walked : ℕ → ℕ
   walked = walkedAt cells counts names sides starts
 
-  -- its triangles are those walked and those booked, and there are no more than crossings
-  both : (c : ℕ) → length (cellTriangles (at c)) ≡ bookedAt counts sides c + walked c
-  unfolding walkedAt bookedAt
-  both c = go (isLevelCell (taken counts sides c)) refl
+  -- its triangles are those of its entry, those booked and those walked, and there are no more than crossings
+  both : (c : ℕ) → length (cellTriangles (at c)) ≡ knownAt counts sides c + walked c
+  unfolding walkedAt knownAt commonAt bookedAt isKnown
+  both c = go (isCommon (taken counts sides c)) (isLevelCell (taken counts sides c)) refl refl
     where
       right : isLevelCell (taken counts sides c) ≡ true → length (cellTriangles (at c)) ≡ booked (taken counts sides c)
       right K = let e = taken-is cells counts names sides starts c in triangles-booked (at c) (sym (ap isLevelCell e) ∙ K) ∙ sym (ap booked e)
 
-      go : (b : Bool) → isLevelCell (taken counts sides c) ≡ b → length (cellTriangles (at c)) ≡ pick b (booked (taken counts sides c)) 0 + pick b 0 (length (cellTriangles (at c)))
-      go true k = right k ∙ omega arith
-      go false k = omega arith
+      go : (a b : Bool) → isCommon (taken counts sides c) ≡ a → isLevelCell (taken counts sides c) ≡ b
+          → length (cellTriangles (at c)) ≡ pick a (trianglesAt (entryOf (taken counts sides c))) 0 + pick a 0 (pick b (booked (taken counts sides c)) 0) + pick (a || b) 0 (length (cellTriangles (at c)))
+      go true b k j = common-triangles cells counts names sides starts c k ∙ omega arith
+      go false true k j = right j ∙ omega arith
+      go false false k j = omega arith
 
   few : (c : ℕ) → length (cellTriangles (at c)) ≤ tableCrossings counts sides c
   few c = omega (arith, cell-few (at c), ap (λ w. pre w 6) (taken-is cells counts names sides starts c), taken-crossings counts sides c)
 
   walked-few : (c : ℕ) → walked c ≤ crossingsAt counts sides c
   unfolding walkedAt crossingsAt
-  walked-few c = go (isLevelCell (taken counts sides c))
+  walked-few c = go (isKnown (taken counts sides c))
     where
       go : (b : Bool) → pick b 0 (length (cellTriangles (at c))) ≤ pick b 0 (tableCrossings counts sides c)
       go true = omega arith
       go false = few c
 
   -- all cells
-  pub all-counted : length (tableTriangles cells counts names sides starts) ≡ total (bookedAt counts sides) (drawnCells cells) 0 + total walked (drawnCells cells) 0
+  pub all-counted : length (tableTriangles cells counts names sides starts) ≡ total (knownAt counts sides) (drawnCells cells) 0 + total walked (drawnCells cells) 0
   unfolding tableTriangles
   all-counted =
       length-over (λ c. cellTriangles (at c)) (drawnCells cells) 0
-      ∙ total-ext (λ c. length (cellTriangles (at c))) (λ c. bookedAt counts sides c + walked c) (drawnCells cells) 0 (λ c a b. both c)
-      ∙ total-add (bookedAt counts sides) walked (drawnCells cells) 0
+      ∙ total-ext (λ c. length (cellTriangles (at c))) (λ c. knownAt counts sides c + walked c) (drawnCells cells) 0 (λ c a b. both c)
+      ∙ total-add (knownAt counts sides) walked (drawnCells cells) 0
 
   pub others-few : total walked (drawnCells cells) 0 ≤ total (crossingsAt counts sides) (drawnCells cells) 0
   others-few = total-mono walked (crossingsAt counts sides) (drawnCells cells) 0 (λ c a b. walked-few c)
@@ -138,3 +169,15 @@ module _ (cells counts names sides starts : List ℕ) where
   all-few =
       rw (length-over (λ c. cellTriangles (at c)) (drawnCells cells) 0)
       (total-mono (λ c. length (cellTriangles (at c))) (tableCrossings counts sides) (drawnCells cells) 0 (λ c a b. few c))
+
+-- no more are known than there are crossings
+known-most : (counts sides : List ℕ) (c : ℕ) → knownAt counts sides c ≤ mostInCell
+known-most counts sides c = omega (arith, both [] counts [] sides [] c, few [] counts [] sides [] c, table-most counts sides c)
+
+pub known-few : (counts sides : List ℕ) (n : ℕ) → n ≤ mostCells → total (knownAt counts sides) n 0 ≤ mostTriangles
+known-few counts sides n h =
+    omega (
+      arith,
+      total-mono (knownAt counts sides) (λ c. mostInCell) n 0 (λ c _ _. known-most counts sides c),
+      total-same (λ c. mostInCell) mostInCell n 0 (λ c _ _. refl),
+    )

@@ -1,13 +1,16 @@
--- Only contracts of parts cite this file. What is summed over the cells of a grid's tables: the triangles of the cells that are booked, and the crossings of
--- the others.
-use Prim.Native.Nat.{ℕ, _≤_}
+-- Only contracts of parts cite this file. What is summed over the cells of a grid's tables: the triangles of the cells that have an entry in the table or
+-- are booked, and the crossings of the others.
+use Prim.Native.Nat.{ℕ, _+_, _≤_}
 use mathlib.Core.Path.{_≡_}
 use mathlib.Core.List.{List}
 use Rattle.counting.specs.Pick.{pick}
 use Rattle.counting.specs.Range.{total}
 use Rattle.counting.specs.Pack.{pre}
 use Rattle.cell.specs.Level.{byEdge, isLevelCell}
+use Rattle.cell.specs.Common.{isCommon, isKnown}
 use Rattle.cell.specs.Table.{takenCounts, tableCrossings, mostTriangles}
+use Rattle.cases.specs.Cases.{entryOf}
+use Rattle.cases.specs.Tally.{trianglesAt}
 use Rattle.booking.specs.declared.Booking.{Booking}
 use Rattle.booking.specs.declared.Booking.the-variants.{Booked, WalkIt}
 use Rattle.booking.specs.Booking.{booked}
@@ -27,15 +30,25 @@ walkedCrossings WalkIt w = pre w 6
 
 -- of cell c of the tables
 module _ (counts sides : List ℕ) where
+  abbrev pub countsAt : ℕ → (ℕ → ℕ)
+  countsAt c = byEdge (takenCounts counts sides c)
+
+  -- its triangles by its entry, by the booking where it has none, and either way
+  unfoldable pub commonAt : ℕ → ℕ
+  commonAt c = pick (isCommon (countsAt c)) (trianglesAt (entryOf (countsAt c))) 0
+
   unfoldable pub bookedAt : ℕ → ℕ
-  bookedAt c = pick (isLevelCell (byEdge (takenCounts counts sides c))) (booked (byEdge (takenCounts counts sides c))) 0
+  bookedAt c = pick (isCommon (countsAt c)) 0 (pick (isLevelCell (countsAt c)) (booked (countsAt c)) 0)
+
+  unfoldable pub knownAt : ℕ → ℕ
+  knownAt c = commonAt c + bookedAt c
 
   unfoldable pub crossingsAt : ℕ → ℕ
-  crossingsAt c = pick (isLevelCell (byEdge (takenCounts counts sides c))) 0 (tableCrossings counts sides c)
+  crossingsAt c = pick (isKnown (countsAt c)) 0 (tableCrossings counts sides c)
 
   -- of n cells
   pub record AreTotals (n triangles crossings : ℕ) : Type 0 where
-    pub triangles-are : triangles ≡ total bookedAt n 0
+    pub triangles-are : triangles ≡ total knownAt n 0
     pub crossings-are : crossings ≡ total crossingsAt n 0
     pub few-triangles : triangles ≤ mostTriangles
     pub few-crossings : crossings ≤ mostTriangles

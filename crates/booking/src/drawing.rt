@@ -1,4 +1,5 @@
-// The triangles of all cells of a grid's tables, counted and written. A cell is walked to be counted only where it cannot be booked.
+// The triangles of all cells of a grid's tables, counted and written. A cell is walked to be counted only where it has no entry in the table of common
+// cells and cannot be booked.
 ghost use mathlib.Core.Path.{_≡_};
 ghost use Prim.Native.Nat.{_≤_};
 ghost use lib.ListN.{length};
@@ -11,6 +12,7 @@ ghost use Rattle.cell.specs.Table.{drawnCells, mostTriangles, tableCrossings, t
 ghost use Rattle.booking.specs.Totals.{mostCounts, bookedTriangles, walkedCrossings, crossingsAt, AreTotals};
 use super::Booking;
 use super::book;
+use cases::ENTRIES;
 use cell::WORD_COUNT;
 use grid::MOST_EDGES;
 use grid::MOST_SLOTS;
@@ -33,9 +35,9 @@ fn crossings_in(counts: [u16; 6]) -> usize
         + wide(counts[5])
 }
 
-// What the cells come to: the triangles of those that are booked, and the crossings of the others.
+// What the cells come to: the triangles of those that are in the table of common cells or are booked, and the crossings of the others.
 struct Totals {
-    booked: usize,
+    known: usize,
     crossings: usize,
 }
 
@@ -73,24 +75,33 @@ fn all_crossings(cells: &[u16], counts: &[u16], sides: &[u16; MOST_EDGES]) -> us
     t
 }
 
+// The common cells are tallied by entry: the number of cells times triangles.
 fn totals_of(cells: &[u16], counts: &[u16], sides: &[u16; MOST_EDGES]) -> Totals
-    ensures { λ r. ⌜ AreTotals (now (counts .entry)) (now (sides .entry)) (drawnCells (now (cells .entry))) (r .booked) (r .crossings) ⌝ }
+    ensures { λ r. ⌜ AreTotals (now (counts .entry)) (now (sides .entry)) (drawnCells (now (cells .entry))) (r .known) (r .crossings) ⌝ }
 {
     let n = cell::drawn(cells);
+    let mut tally = [0u16; ENTRIES];
     let mut booked: usize = 0;
     let mut crossings: usize = 0;
     let mut c: usize = 0;
     while c < n {
         let six = cell::counts_at(counts, sides, c);
+        let e = cases::find_entry(six);
+        if e < ENTRIES {
+            tally[e] += 1;
+            c += 1;
+            continue;
+        }
         let b = book(six);
         booked += booked_in(b);
         crossings += unbooked_in(b, six);
         c += 1;
     }
-    Totals { booked, crossings }
+    let known = booked + cases::triangles_in(&tally);
+    Totals { known, crossings }
 }
 
-// How many triangles the cells have that are not booked; they have so many crossings.
+// How many triangles the cells have that are neither in the table nor booked; they have so many crossings.
 fn count_others(
     cells: &[u16],
     counts: &[u16],
@@ -109,8 +120,8 @@ fn count_others(
 }
 
 // Writes the words of the triangles of all cells of the tables from the front of the area on, where they have room there, and answers how many triangles
-// there are. Where the area has room for as many triangles as the cells have crossings, nothing is counted first; else the cells are booked, and only
-// those are walked to be counted that cannot be. About 183 KB of stack.
+// there are. Where the area has room for as many triangles as the cells have crossings, nothing is counted first; else the cells are counted by their entries
+// in the table or by the booking, and only those are walked to be counted that have neither. About 183 KB of stack.
 pub fn draw(
     cells: &[u16],
     counts: &[u16],
@@ -125,7 +136,7 @@ pub fn draw(
     let most = all_crossings(cells, counts, sides);
     if area.len() < WORD_COUNT * most {
         let totals = totals_of(cells, counts, sides);
-        let t = totals.booked + count_others(cells, counts, names, sides, starts, totals.crossings);
+        let t = totals.known + count_others(cells, counts, names, sides, starts, totals.crossings);
         if area.len() < WORD_COUNT * t {
             return t;
         }

@@ -16,6 +16,7 @@ ghost use Rattle.counting.specs.Pick.{one};
 ghost use Rattle.answer.specs.Answer.{result};
 ghost use Rattle.cell.specs.Answer.{typeNumbers, loopNumbers};
 ghost use Rattle.cell.specs.Level.{byEdge};
+ghost use Rattle.cases.specs.Answer.{caseAnswer};
 ghost use Rattle.booking.specs.Answer.{bookingAnswer};
 ghost use Rattle.mesh.specs.Answer.{meshAnswer, meshArea, loopsAnswer};
 ghost use Rattle.places.specs.Answer.{placesAnswer, placesArea};
@@ -28,6 +29,7 @@ use bundle::HEAD_BYTES;
 use bundle::Record;
 use bundle::SHORT_ROW;
 use bundle::Written;
+use cases::Case;
 use cell::Loop;
 use cell::LoopType;
 use face::How;
@@ -101,6 +103,25 @@ pub extern "C" fn citternblaze_face(
         Join::Joined(e, i, how) => put_joined(answer, e, i, how),
         Join::Unjoined(why) => put_unjoined(answer, why),
         Join::NoCrossing => put(answer, &[2]),
+    }
+}
+
+// The entry of a cell with these counts in the table of common cells: 0, its loops and its triangles; 0 alone where the cell is outside.
+#[no_mangle]
+pub extern "C" fn citternblaze_case(
+    e01: u16,
+    e02: u16,
+    e03: u16,
+    e12: u16,
+    e13: u16,
+    e23: u16,
+    answer: &mut [u64],
+) -> usize
+    ensures { λ r. ⌜ Answers (caseAnswer (byEdge (e01 ∷ e02 ∷ e03 ∷ e12 ∷ e13 ∷ e23 ∷ []))) (now (answer .entry)) (now (answer .exit)) r ⌝ }
+{
+    match cases::look_up([e01, e02, e03, e12, e13, e23]) {
+        Case::Common(loops, triangles) => put(answer, &[0, loops as u64, triangles as u64]),
+        Case::Outside => put(answer, &[0]),
     }
 }
 

@@ -7,6 +7,7 @@ pub mod Route
 pub mod Dart
 pub mod Nodes
 pub mod Level
+pub mod Common
 pub mod Scratch
 pub mod Walked
 pub mod Round

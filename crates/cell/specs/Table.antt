@@ -13,7 +13,8 @@ use Rattle.cell.specs.Limits.{mostInCell, startLimit}
 use Rattle.cell.specs.declared.Triangle.{Triangle}
 use Rattle.cell.specs.Triangles.{cellTriangles}
 use Rattle.cell.specs.Middles.{fanCount, pointsThen, nextPoint}
-use Rattle.cell.specs.Level.{byEdge, isLevelCell}
+use Rattle.cell.specs.Level.{byEdge}
+use Rattle.cell.specs.Common.{isKnown}
 use Rattle.grid.specs.Grid.{mostCells, cellCount}
 
 -- the edge k of cell c
@@ -56,9 +57,9 @@ drawnCells cells = min (cellCount cells) mostCells
 unfoldable pub tableTriangles : (cells counts names sides starts : List ℕ) → List Triangle
 tableTriangles cells counts names sides starts = over (λ c. cellTriangles (tableCell cells counts names sides starts c)) (drawnCells cells) 0
 
--- how many triangles cell c has where some face has an odd sum or a count above the other two, else 0
+-- how many triangles cell c has where they are counted by a walk, else 0
 unfoldable pub walkedAt : (cells counts names sides starts : List ℕ) → ℕ → ℕ
-walkedAt cells counts names sides starts c = pick (isLevelCell (byEdge (takenCounts counts sides c))) 0 (length (cellTriangles (tableCell cells counts names sides starts c)))
+walkedAt cells counts names sides starts c = pick (isKnown (byEdge (takenCounts counts sides c))) 0 (length (cellTriangles (tableCell cells counts names sides starts c)))
 
 -- the most triangles that a grid can have: no cell has more than crossings
 abbrev pub mostTriangles : ℕ

@@ -11,7 +11,7 @@ use super::MOST_IN_CELL;
 use super::entries::counted_at;
 use super::entries::counts_at;
 use super::entries::greatest;
-use super::level::is_level;
+use super::level::is_known;
 use super::triangles::count_in;
 use super::triangles::put_in;
 use grid::MOST_CELLS;
@@ -29,7 +29,8 @@ pub fn drawn(cells: &[u16]) -> usize
     MOST_CELLS
 }
 
-// How many triangles those cells have of which some face has an odd sum or a count above the other two. The arrays are the walks', here and below.
+// How many triangles those cells have that are walked to be counted: some count is above 2, and some face has an odd sum or a count above the other two.
+// The arrays are the walks', here and below.
 fn walked_in_all(
     cells: &[u16],
     counts: &[u16],
@@ -48,7 +49,7 @@ fn walked_in_all(
     let mut t: usize = 0;
     let mut c: usize = 0;
     while c < n {
-        if is_level(counts_at(counts, sides, c)) {
+        if is_known(counts_at(counts, sides, c)) {
             c += 1;
             continue;
         }

@@ -1,10 +1,14 @@
-// The cells in which only rule 1 is met.
+// The cells whose triangles are counted without a walk: those in which only rule 1 is met, and the common ones.
 ghost use mathlib.Core.Path.{_≡_};
 ghost use Prim.Native.Nat.{_+_, _%_, _≤_, min, max};
 ghost use Rattle.cell.specs.Level.{byEdge, isLevelCell};
+ghost use Rattle.cell.specs.Common.{isCommon, isKnown};
 use super::numbers::higher;
 use super::numbers::lower;
 use super::numbers::sum_of;
+
+// One more than the greatest count of a common cell.
+const DIGIT_LIMIT: u16 = 3;
 
 fn sum_of_three(a: u16, b: u16, c: u16) -> u32
     ensures { λ r. ⌜ r ≡ a + b + c ⌝ }
@@ -51,4 +55,28 @@ pub fn is_level(counts: [u16; 6]) -> bool
         return false;
     }
     highest_pair(e01, e02, e03, e12, e13, e23) <= lowest_node(e01, e02, e03, e12, e13, e23)
+}
+
+// Whether the six counts are 0, 1 or 2.
+pub fn is_common(counts: [u16; 6]) -> bool
+    ensures { λ r. ⌜ r ≡ isCommon (byEdge counts) ⌝ }
+{
+    let mut k: usize = 0;
+    while k < 6 {
+        if counts[k] >= DIGIT_LIMIT {
+            return false;
+        }
+        k += 1;
+    }
+    true
+}
+
+// Whether the triangles of a cell with these counts are counted without a walk.
+pub(crate) fn is_known(counts: [u16; 6]) -> bool
+    ensures { λ r. ⌜ r ≡ isKnown (byEdge counts) ⌝ }
+{
+    if is_common(counts) {
+        return true;
+    }
+    is_level(counts)
 }

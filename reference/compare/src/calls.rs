@@ -14,6 +14,17 @@ mod c {
             answer_len: usize,
         ) -> usize;
 
+        pub fn citternblaze_case(
+            e01: u16,
+            e02: u16,
+            e03: u16,
+            e12: u16,
+            e13: u16,
+            e23: u16,
+            answer: *mut u64,
+            answer_len: usize,
+        ) -> usize;
+
         pub fn citternblaze_book(
             e01: u16,
             e02: u16,
@@ -159,6 +170,12 @@ mod c {
 pub fn face(counts: [u16; 3], edge: u32, index: u32, answer: &mut [u64]) -> usize {
     let [ab, ac, bc] = counts;
     unsafe { c::citternblaze_face(ab, ac, bc, edge, index, answer.as_mut_ptr(), answer.len()) }
+}
+
+pub fn case(counts: [u16; 6], answer: &mut [u64]) -> usize {
+    let [a, b, c, d, e, f] = counts;
+    let (area, len) = (answer.as_mut_ptr(), answer.len());
+    unsafe { c::citternblaze_case(a, b, c, d, e, f, area, len) }
 }
 
 pub fn book(counts: [u16; 6], answer: &mut [u64]) -> usize {

@@ -2,6 +2,7 @@
 
 use reference::booking;
 use reference::bundle::{self, Sizes};
+use reference::cases;
 use reference::cell::{CellWalker, LoopType};
 use reference::face::{self, How, Join, Why};
 use reference::gen::Sample;
@@ -36,6 +37,14 @@ pub fn face(counts: [u16; 3], edge: u32, index: u32) -> Vec<u64> {
         Join::Unjoined(Why::Left) => vec![1, 0],
         Join::Unjoined(Why::Skipped) => vec![1, 1],
         Join::NoCrossing => vec![2],
+    }
+}
+
+/// 0, the loops and the triangles; 0 alone for a cell outside the table.
+pub fn case(walker: &mut CellWalker, counts: [u16; 6]) -> Vec<u64> {
+    match cases::case(walker, counts) {
+        Some(case) => vec![0, u64::from(case.loops), u64::from(case.triangles)],
+        None => vec![0],
     }
 }
 

@@ -12,6 +12,7 @@ use compare::lent::ANSWER_WORDS;
 use compare::{calls, expected};
 use reference::booking::book;
 use reference::bundle;
+use reference::cases::{case, counts_of};
 use reference::cell::{CellWalker, TRIANGLE_WORDS};
 use reference::gen::{box_of_six, closed_fan, cone, row_of, separate, Rng, Sample};
 use reference::grid::{self, GridTables, Lists, MAX_CELLS};
@@ -219,28 +220,44 @@ fn looks_times(lists: &Sample, bundles: &[Vec<u8>; 2], patience: Duration) -> [T
     })
 }
 
-/// Times of the bookings of these cells, one after the other. The second
-/// implementation walks each.
-fn book_times(cells: &[[u16; 6]], patience: Duration) -> [Times; WAYS] {
+/// The triangles that a call tells of a cell, by the proved call and by the second
+/// implementation, which walks.
+struct Told {
+    proved: fn([u16; 6], &mut [u64]) -> u64,
+    reference: fn(&mut CellWalker, [u16; 6]) -> u64,
+}
+
+const BOOK: Told = Told {
+    proved: |counts, answer| match calls::book(counts, answer) {
+        5 => answer[4],
+        _ => 0,
+    },
+    reference: |walker, counts| {
+        book(walker, counts).map_or(0, |booked| u64::from(booked.triangles))
+    },
+};
+
+const CASE: Told = Told {
+    proved: |counts, answer| match calls::case(counts, answer) {
+        3 => answer[2],
+        _ => 0,
+    },
+    reference: |walker, counts| case(walker, counts).map_or(0, |case| u64::from(case.triangles)),
+};
+
+/// Times of a call for each of these cells, one after the other.
+fn told_times(told: &Told, cells: &[[u16; 6]], patience: Duration) -> [Times; WAYS] {
     let mut walker = CellWalker::default();
-    let mut triangles = |counts| book(&mut walker, counts).map_or(0, |booked| booked.triangles);
     let needed: u64 = cells
         .iter()
-        .map(|&counts| u64::from(triangles(counts)))
+        .map(|&counts| (told.reference)(&mut walker, counts))
         .sum();
-    let mut walker = CellWalker::default();
     let mut answer = [0; ANSWER_WORDS];
     times(patience, |way| {
         let triangles = |&counts: &[u16; 6]| match way {
-            0 => match calls::book(counts, &mut answer) {
-                5 => answer[4],
-                _ => 0,
-            },
-            1 => book(&mut walker, counts).map_or(0, |booked| u64::from(booked.triangles)),
-            _ => {
-                let booked = book(&mut CellWalker::default(), counts);
-                booked.map_or(0, |booked| u64::from(booked.triangles))
-            }
+            0 => (told.proved)(counts, &mut answer),
+            1 => (told.reference)(&mut walker, counts),
+            _ => (told.reference)(&mut CellWalker::default(), counts),
         };
         assert_eq!(cells.iter().map(triangles).sum::<u64>(), needed);
     })
@@ -327,9 +344,9 @@ impl Bench {
         self.check(&format!("{name}, its check"), grid);
     }
 
-    fn book(&self, name: &str, cells: &[[u16; 6]]) {
+    fn told(&self, told: &Told, name: &str, cells: &[[u16; 6]]) {
         let many = format!("{} cells", cells.len());
-        self.short(name, &many, |patience| book_times(cells, patience));
+        self.short(name, &many, |patience| told_times(told, cells, patience));
     }
 
     /// Times of calls with short answers.
@@ -391,6 +408,8 @@ fn meshes(bench: &Bench) {
     let shape = box_of_six([6, 5, 10]);
     let few = shape.clone().with_counts(&mut rng, 0, 3);
     bench.mesh("1 mesh, box, counts 0..3", &few);
+    let common = shape.clone().with_counts(&mut Rng::new(6), 0, 2);
+    bench.mesh("1 mesh, box, counts 0..2", &common);
     let closed = shape.clone().with_closed_counts(&mut rng, 1);
     bench.mesh("1 mesh, box, closed, counts 0..3", &closed);
     let many = shape.clone().with_counts(&mut rng, 16, 24);
@@ -417,6 +436,12 @@ fn thousands(bench: &Bench) {
     }
 }
 
+/// All cells of the table.
+fn entries(bench: &Bench) {
+    let all: Vec<[u16; 6]> = (0..729).map(counts_of).collect();
+    bench.told(&CASE, "11 case, every entry", &all);
+}
+
 /// Closed grids of about 1,800 cells, all of which can be booked; and bookings of
 /// single cells.
 fn bookings(bench: &Bench) {
@@ -428,12 +453,16 @@ fn bookings(bench: &Bench) {
     bench.mesh("10 mesh, box, closed, level sets, counts 0..20", &many);
     for (text, grid) in [("0..3", few), ("0..20", many)] {
         let name = format!("10 book, cells of that grid, counts {text}");
-        bench.book(&name, &grid.counts_in_cells());
+        bench.told(&BOOK, &name, &grid.counts_in_cells());
     }
     let winding: Vec<[u16; 6]> = (0..20)
         .map(|_| winding_cell(&mut rng).counts_in_cells()[0])
         .collect();
-    bench.book("10 book, cells with long loops, counts to 4,000", &winding);
+    bench.told(
+        &BOOK,
+        "10 book, cells with long loops, counts to 4,000",
+        &winding,
+    );
 }
 
 /// As many cells as a grid may have, in several shapes.
@@ -530,4 +559,5 @@ fn main() {
     shadings(&bench);
     bundles(&bench);
     bookings(&bench);
+    entries(&bench);
 }

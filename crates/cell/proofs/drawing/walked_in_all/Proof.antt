@@ -11,7 +11,8 @@ use Rattle.counting.specs.Stored.{Summed}
 use Rattle.counting.proofs.Stored.{summed-none, summed-more, summed-all}
 use Rattle.cell.specs.Limits.{mostInCell}
 use Rattle.cell.specs.Triangles.{cellTriangles}
-use Rattle.cell.specs.Level.{byEdge, isLevelCell}
+use Rattle.cell.specs.Level.{byEdge}
+use Rattle.cell.specs.Common.{isKnown}
 use Rattle.cell.specs.Table.{tableCell, takenCounts, walkedAt}
 use Rattle.cell.specs.Walked.{Sized}
 use Rattle.cell.proofs.Using.{used-sized, sized-none, sized-on, sized-room}
@@ -27,11 +28,11 @@ abbrev μ-loop : tie.MeasureT-loop
 
 -- a cell that is passed over, and one that is walked
 module _ (cells counts names sides starts : List ℕ) {n t : ℕ} (S : Summed (walkedAt cells counts names sides starts) mostInCell n t) where
-  passed : isLevelCell (byEdge (takenCounts counts sides n)) ≡ true → Summed (walkedAt cells counts names sides starts) mostInCell (n + 1) t
+  passed : isKnown (byEdge (takenCounts counts sides n)) ≡ true → Summed (walkedAt cells counts names sides starts) mostInCell (n + 1) t
   unfolding walkedAt
   passed e = rw (add-zero t) at (summed-more (walkedAt cells counts names sides starts) mostInCell S 0 (rw e) (omega arith))
 
-  walked : isLevelCell (byEdge (takenCounts counts sides n)) ≡ false → (x : ℕ) → x ≡ length (cellTriangles (tableCell cells counts names sides starts n)) → x ≤ mostInCell
+  walked : isKnown (byEdge (takenCounts counts sides n)) ≡ false → (x : ℕ) → x ≡ length (cellTriangles (tableCell cells counts names sides starts n)) → x ≤ mostInCell
       → Summed (walkedAt cells counts names sides starts) mostInCell (n + 1) (t + x)
   unfolding walkedAt
   walked e x q = summed-more (walkedAt cells counts names sides starts) mostInCell S x (rw e q)
@@ -46,7 +47,7 @@ loop-again c =
       omega arith,
       I .1,
       passed (now (A .cells)) (now (A .counts)) (now (A .names)) (now (A .sides)) (now (A .starts)) (I .2)
-          (ap (λ l. isLevelCell (byEdge l)) (sym (c .before .before .counts-at .ensures)) ∙ sym (c .before .is-level .ensures) ∙ c .if1 .taken),
+          (ap (λ l. isKnown (byEdge l)) (sym (c .before .before .counts-at .ensures)) ∙ sym (c .before .is-known .ensures) ∙ c .if1 .taken),
     )
 
 count-in-requires : tie.Need-count-in-requires Inv-loop μ-loop
@@ -67,7 +68,7 @@ loop-again-2 c =
       omega arith,
       sized-on (I .1) (used-sized (N .1)),
       walked (now (A .cells)) (now (A .counts)) (now (A .names)) (now (A .sides)) (now (A .starts)) (I .2)
-          (ap (λ l. isLevelCell (byEdge l)) (sym (c .before .before .before .before .before .before .before .before .before .before .before .before .before .counts-at .ensures)) ∙ sym (c .before .before .before .before .before .before .before .before .before .before .before .before .is-level .ensures) ∙ c .before .before .before .before .before .before .before .before .before .before .before .if1 .left)
+          (ap (λ l. isKnown (byEdge l)) (sym (c .before .before .before .before .before .before .before .before .before .before .before .before .before .counts-at .ensures)) ∙ sym (c .before .before .before .before .before .before .before .before .before .before .before .before .is-known .ensures) ∙ c .before .before .before .before .before .before .before .before .before .before .before .if1 .left)
           _ (N .0 .0 ∙ ap (λ v. length (cellTriangles v)) (c .before .before .before .before .before .before .before .before .before .before .counted-at .ensures .0)) (N .0 .1),
     )
 

@@ -1,0 +1,27 @@
+-- The examples, by computation.
+use mathlib.Core.Path.{refl}
+use Rattle.counting.specs.Range.{total, over, kept}
+use Rattle.counting.specs.Search.{seek, first, last, every}
+use Rattle.counting.specs.Lists.{tally}
+use Rattle.counting.specs.Pack.{pre}
+use Rattle.slots.specs.Slots as slots
+use Rattle.face.specs.Face as face
+use Rattle.walk.specs.Iterate.{orbit}
+use Rattle.walk.specs.Step as steps
+use Rattle.walk.specs.Walk as walk
+use Rattle.cell.specs.Cell.{ahead, base, holds, edge, index, answerAt, joinAt, joinedTo, mate, slot, step}
+use Rattle.cell.specs.Loop.{loopSize, loopDarts, folded, normal, leasts}
+use Rattle.cell.specs.Common.{isCommon}
+use Rattle.cell.specs.Triangles.{loopCount, manyFrom, triangleCount}
+use Rattle.cases.specs.Cases.{digits, entryOf}
+use Rattle.cases.specs.Answer.{caseAnswer, findEntry}
+use Rattle.cases.specs.Examples.{ExamplesHold, of, examples}
+
+pub examples-hold : ExamplesHold
+unfolding total over kept seek first last every tally pre
+    slots.lo slots.hi slots.position slots.lower slots.upper slots.edgeBetween slots.slotEdge slots.edgeRank slots.contains slots.firstSlot slots.secondSlot
+    face.other face.opposite face.halfAbove face.cornerCount face.residual face.countOn face.others face.kth face.cornerCountAt face.partner face.faceAnswer face.faceJoin
+    orbit steps.face steps.land steps.step walk.status walk.turn walk.size walk.loopAt
+    ahead base holds edge index answerAt joinAt joinedTo mate slot step loopSize loopDarts folded normal leasts
+    isCommon digits entryOf loopCount manyFrom triangleCount caseAnswer findEntry of examples
+examples-hold = refl

@@ -1,0 +1,10 @@
+pub mod Quick
+pub mod Both
+pub mod Digits
+pub mod Rows
+pub mod Test
+pub mod Table
+pub mod Laid
+pub mod Tally
+pub mod Claims
+pub mod Examples
