@@ -236,7 +236,9 @@ size_t citternblaze_loops(const uint16_t *cells, size_t cells_len,
 
 /* The places call. Writes the places of a grid's points at the front of the area,
  * three numbers each, and keeps the area beyond them: first the crossings, by
- * number, then the middles of the loops that are drawn as fans, in mesh order.
+ * number, then the middles of the loops that are drawn as fans, in mesh order: the
+ * mean of a loop's points, but where loops of length 8 lie one inside the other,
+ * each at a place of its own between the middles of two opposite edges.
  *
  * Reads the cells, edges and counts, as citternblaze_check does; the places of
  * the nodes, three numbers for each node from 0 to the highest of a cell; and a

@@ -5,7 +5,7 @@ use crate::cell::{triangle_count, CellWalker, Closed, FACE_EDGES};
 use crate::face::corner_counts;
 
 /// Positions of a cell's nodes that each of its edges joins.
-const ENDS: [[usize; 2]; 6] = [[0, 1], [0, 2], [0, 3], [1, 2], [1, 3], [2, 3]];
+pub const ENDS: [[usize; 2]; 6] = [[0, 1], [0, 2], [0, 3], [1, 2], [1, 3], [2, 3]];
 
 /// What is booked of a cell.
 #[derive(Clone, Copy, Debug, PartialEq, Eq)]

@@ -16,6 +16,8 @@ pub mod cases;
 
 pub mod places;
 
+pub mod nest;
+
 pub mod nearest;
 
 pub mod shading;

@@ -4,6 +4,7 @@ use crate::cell::{
     is_fan, loop_type, triangle_count, CellWalker, Closed, Loop, LoopType, Stop, TRIANGLE_WORDS,
 };
 use crate::grid::{GridTables, Lists};
+use crate::nest::Nest;
 use crate::{refuse, Refusal};
 
 /// The answer of the loops call.
@@ -110,12 +111,26 @@ impl Mesher {
         Ok(crossings)
     }
 
-    /// The stops of each fan of the traced grid, in mesh order.
-    pub(crate) fn fans(&self) -> impl Iterator<Item = &[Stop]> {
+    /// The cell and the stops of each fan of the traced grid, in mesh order.
+    pub(crate) fn fans(&self) -> impl Iterator<Item = (usize, &[Stop])> {
         self.loops().filter_map(|(span, stops)| {
             let fan = is_fan(stops.len() as u32, span.normal);
-            fan.then_some(stops)
+            fan.then_some((span.cell as usize, stops))
         })
+    }
+
+    /// The nest of each cell of the traced grid.
+    pub(crate) fn nests(&self, lists: &Lists) -> Vec<Option<Nest>> {
+        let mut lengths = vec![Vec::new(); lists.cell_count()];
+        for (span, stops) in self.loops() {
+            lengths[span.cell as usize].push(stops.len());
+        }
+        let cells = lengths.iter().enumerate();
+        let nest = |(cell, lengths): (usize, &Vec<usize>)| {
+            let (counts, starts) = self.edges_of(lists, cell);
+            Nest::of(counts.map(|count| count as u16), starts, lengths)
+        };
+        cells.map(nest).collect()
     }
 
     /// Traces the loops of every cell and counts their triangles.
@@ -165,8 +180,8 @@ impl Mesher {
         }
     }
 
-    /// Loads a cell into the walker; gives its counts and first crossings.
-    fn load_cell(&mut self, lists: &Lists, cell: usize) -> ([u32; 6], [u32; 6]) {
+    /// The counts and first crossings of a cell's edges.
+    fn edges_of(&self, lists: &Lists, cell: usize) -> ([u32; 6], [u32; 6]) {
         let edges = self.tables.cell_edges[cell];
         let (mut counts, mut starts) = ([0; 6], [0; 6]);
         for position in 0..6 {
@@ -174,6 +189,12 @@ impl Mesher {
             counts[position] = u32::from(lists.counts[edge]);
             starts[position] = self.tables.starts[edge];
         }
+        (counts, starts)
+    }
+
+    /// Loads a cell into the walker; gives its counts and first crossings.
+    fn load_cell(&mut self, lists: &Lists, cell: usize) -> ([u32; 6], [u32; 6]) {
+        let (counts, starts) = self.edges_of(lists, cell);
         self.walker.load(&counts, &starts);
         (counts, starts)
     }

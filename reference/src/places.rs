@@ -36,7 +36,7 @@ impl Place {
         }
     }
 
-    fn plus(self, other: Place) -> Place {
+    pub fn plus(self, other: Place) -> Place {
         Place {
             x: self.x + other.x,
             y: self.y + other.y,
@@ -44,7 +44,7 @@ impl Place {
         }
     }
 
-    fn over(self, divisor: f64) -> Place {
+    pub fn over(self, divisor: f64) -> Place {
         Place {
             x: self.x / divisor,
             y: self.y / divisor,
@@ -80,8 +80,14 @@ pub fn places(
     check_node_places(cells, node_places)?;
     check_fractions(counts, fractions)?;
     write_crossings(&lists, node_places, fractions, area);
-    for (point, stops) in (crossings..).zip(mesher.fans()) {
-        middle(stops, area).write(area, point);
+    let nests = mesher.nests(&lists);
+    for (point, (cell, stops)) in (crossings..).zip(mesher.fans()) {
+        let corners = lists.cell(cell).map(usize::from);
+        let place = match &nests[cell] {
+            Some(nest) => nest.middle(stops, corners.map(|node| Place::read(node_places, node))),
+            None => mean(stops, area),
+        };
+        place.write(area, point);
     }
     Ok(points as u32)
 }
@@ -132,7 +138,7 @@ fn write_crossings(lists: &Lists, node_places: &[f64], fractions: &[f64], area: 
 }
 
 /// The mean of a fan's points, added up in loop order.
-fn middle(stops: &[Stop], placed: &[f64]) -> Place {
+fn mean(stops: &[Stop], placed: &[f64]) -> Place {
     let mut points = stops
         .iter()
         .map(|stop| Place::read(placed, usize::from(stop.crossing)));

@@ -1,5 +1,6 @@
 //! The places call: examples, rows 15 to 17, and a plain second placing.
 
+use reference::booking::is_booked;
 use reference::cell::{NO_NUMBER, TRIANGLE_WORDS};
 use reference::gen::{random_shape, Rng, Sample};
 use reference::mesh::mesh;
@@ -80,7 +81,11 @@ fn call(rng: &mut Rng, grid: Sample, whole: bool) -> Call {
     };
     let nodes = (0..3 * (highest + 1)).map(|_| number()).collect();
     let fractions = fractions(rng, &grid);
-    let area = vec![UNTOUCHED; 3 * (crossings(&grid) + fans(&grid).len()) + 5];
+    let fans = loops_of_mesh(&grid)
+        .iter()
+        .filter(|(_, fan, _)| *fan)
+        .count();
+    let area = vec![UNTOUCHED; 3 * (crossings(&grid) + fans) + 5];
     Call {
         grid,
         nodes,
@@ -89,8 +94,9 @@ fn call(rng: &mut Rng, grid: Sample, whole: bool) -> Call {
     }
 }
 
-/// Crossings round each middle, taken from the mesh's own triangles.
-fn fans(grid: &Sample) -> Vec<Vec<usize>> {
+/// The loops of a grid's mesh, each with its cell and the first corners of its
+/// triangles; of a fan these are its points in order.
+fn loops_of_mesh(grid: &Sample) -> Vec<(usize, bool, Vec<usize>)> {
     let Sample {
         cells,
         edges,
@@ -98,17 +104,75 @@ fn fans(grid: &Sample) -> Vec<Vec<usize>> {
     } = grid;
     let mut area = vec![0; 2_000_000];
     let triangles = mesh(cells, edges, counts, &mut area).expect("an accepted grid");
-    let mut found: Vec<((u32, u32), Vec<usize>)> = Vec::new();
+    let mut found: Vec<((u32, u32), bool, Vec<usize>)> = Vec::new();
     for words in area.chunks(TRIANGLE_WORDS).take(triangles as usize) {
-        if words[4] == NO_NUMBER {
-            let name = (words[0], words[1]);
-            match found.last_mut() {
-                Some((last, points)) if *last == name => points.push(words[2] as usize),
-                _ => found.push((name, vec![words[2] as usize])),
-            }
+        let name = (words[0], words[1]);
+        match found.last_mut() {
+            Some((last, _, points)) if *last == name => points.push(words[2] as usize),
+            _ => found.push((name, words[4] == NO_NUMBER, vec![words[2] as usize])),
         }
     }
-    found.into_iter().map(|(_, points)| points).collect()
+    let plain =
+        |((cell, _), fan, points): ((u32, u32), bool, Vec<usize>)| (cell as usize, fan, points);
+    found.into_iter().map(plain).collect()
+}
+
+/// The counts of a cell's edges and their first crossings.
+fn edges_of_cell(grid: &Sample, cell: usize) -> ([u16; 6], [usize; 6]) {
+    let nodes = grid.cell_list()[cell];
+    let edges = grid.edge_list();
+    let ends = [[0, 1], [0, 2], [0, 3], [1, 2], [1, 3], [2, 3]];
+    let number = ends.map(|[u, v]| {
+        let pair = [nodes[u], nodes[v]];
+        edges
+            .iter()
+            .position(|&edge| edge == pair)
+            .expect("an edge")
+    });
+    let start = |edge: usize| grid.counts[..edge].iter().map(|&n| usize::from(n)).sum();
+    (number.map(|edge| grid.counts[edge]), number.map(start))
+}
+
+/// The middle of a loop of length 8 of a cell with so many and no other fans, by
+/// its greatest index on the first edge of the pair with the largest sum.
+fn nested_middle(call: &Call, cell: usize, many: usize, points: &[usize]) -> [f64; 3] {
+    let (counts, starts) = edges_of_cell(&call.grid, cell);
+    let count = |edge: usize| usize::from(counts[edge]);
+    let pair = |edge: usize| count(edge) + count(5 - edge);
+    let first = (0..3).max_by_key(|&edge| pair(edge)).expect("three pairs");
+    let range = starts[first]..starts[first] + count(first);
+    let greatest = points.iter().filter(|point| range.contains(point)).max();
+    let below = (count(0) + count(1) + count(2) - pair(first)) / 2;
+    let number = greatest.expect("a crossing there") - starts[first] - below - many;
+    let nodes = call.grid.cell_list()[cell].map(usize::from);
+    let apart = [[2, 3], [1, 3], [1, 2]][first];
+    let mut place = [0.0; 3];
+    for (part, at) in place.iter_mut().enumerate() {
+        let half = |[u, v]: [usize; 2]| {
+            let sum = call.nodes[3 * nodes[u] + part] + call.nodes[3 * nodes[v] + part];
+            sum / 2.0
+        };
+        let [from, to] = [half([0, first + 1]), half(apart)];
+        let fraction = (number + 1) as f64 / (many + 1) as f64;
+        *at = from + (to - from) * fraction;
+    }
+    place
+}
+
+/// How many loops of length 8 lie one inside the other in a cell, if these are all
+/// but triangles; else 0.
+fn nest_of(grid: &Sample, loops: &[(usize, bool, Vec<usize>)], cell: usize) -> usize {
+    let others: Vec<usize> = loops
+        .iter()
+        .filter(|(at, _, points)| *at == cell && points.len() != 1)
+        .map(|(_, _, points)| points.len())
+        .collect();
+    let nested = others.len() > 1 && others.iter().all(|&length| length == 8);
+    if nested && is_booked(edges_of_cell(grid, cell).0) {
+        others.len()
+    } else {
+        0
+    }
 }
 
 /// Every number that the call should write.
@@ -126,7 +190,13 @@ fn plain_places(call: &Call) -> Vec<f64> {
             crossing += 1;
         }
     }
-    for points in fans(&call.grid) {
+    let loops = loops_of_mesh(&call.grid);
+    for (cell, _, points) in loops.iter().filter(|(_, fan, _)| *fan) {
+        let many = nest_of(&call.grid, &loops, *cell);
+        if many > 0 {
+            numbers.extend(nested_middle(call, *cell, many, points));
+            continue;
+        }
         for part in 0..3 {
             let mut sum = numbers[3 * points[0] + part];
             for point in &points[1..] {
@@ -331,4 +401,23 @@ fn earlier_rows_win() {
     one.refuses(15, 0);
     one.grid.counts.pop();
     one.refuses(2, 0);
+}
+
+/// Two loops of length 8 one inside the other: the crossings 0 and 3 of edge 01
+/// are on the first, which is further from that edge.
+#[test]
+fn nested_loops() {
+    let mut call = Call {
+        grid: one_cell([4, 2, 2, 2, 2, 4]),
+        nodes: vec![0.0, 0.0, 0.0, 2.0, 0.0, 0.0, 0.0, 6.0, 1.0, 0.0, 6.0, 5.0],
+        fractions: [4, 2, 2, 2, 2, 4]
+            .iter()
+            .flat_map(|&count| (1..=count).map(move |k| f64::from(k) / 8.0))
+            .collect(),
+        area: vec![UNTOUCHED; 54],
+    };
+    assert_eq!(call.run(), Ok(18));
+    let third = |part: f64| [1.0 + -1.0 * part, 6.0 * part, 3.0 * part];
+    assert_eq!(call.area[48..51], third(2.0 / 3.0));
+    assert_eq!(call.area[51..54], third(1.0 / 3.0));
 }

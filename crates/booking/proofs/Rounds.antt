@@ -16,7 +16,7 @@ module _ (n x : ℕ) where
   furthers-lt zero q l = l
   furthers-lt (suc j) q l = furthers-lt j (further n x q) (further-lt q l)
 
-  furthers-is : (j q : ℕ) → q < n → it (further n x) j q ≡ (q + x * j) % n
+  pub furthers-is : (j q : ℕ) → q < n → it (further n x) j q ≡ (q + x * j) % n
   unfolding it further
   furthers-is zero q l = sym (ap (λ m. m % n) (omega (arith, mul-zero x)) ∙ mod-eq-of-lt l)
   furthers-is (suc j) q l =

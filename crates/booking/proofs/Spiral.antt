@@ -82,12 +82,12 @@ module _ (w : Edges) (K : isLevelCell (w .count) ≡ true) where
         ]
 
     -- four steps: over crossings that are not on ad, and 2 * x places on
-    record Four (q : ℕ) : Type 0 where
-      away : (r : ℕ) → 0 < r → r < 4 → edge w (it (step w) r (roundDart w a b c d q) / 2) ≢ joining a d
-      to : it (step w) 4 (roundDart w a b c d q) ≡ roundDart w a b c d (it (further n x) 2 q)
+    pub record Four (q : ℕ) : Type 0 where
+      pub away : (r : ℕ) → 0 < r → r < 4 → edge w (it (step w) r (roundDart w a b c d q) / 2) ≢ joining a d
+      pub to : it (step w) 4 (roundDart w a b c d q) ≡ roundDart w a b c d (it (further n x) 2 q)
 
   module _ {a b c d : ℕ} (L : Longest (w .count) a b c d) where
-    four : (q : ℕ) → q < n L → Four L q
+    pub four : (q : ℕ) → q < n L → Four L q
     unfolding it
     four q l =
         let L′ = longest-second (w .count) K L in

@@ -7,10 +7,10 @@ use mathlib.Core.List.{List, [], _∷_}
 use native.Mathlib.Numerals.{add-one}
 use native.Mathlib.Decide.{decLt}
 use native.Mathlib.Omega.{arith}
-use lib.Dec.{leb}
+use lib.Dec.{ltb, leb}
 use lib.ListN.{length, getD}
 use lib.Ieee.{Float}
-use borrow.Author.Tests.{le-leb, leb-true, lt-leb, leb-false}
+use borrow.Author.Tests.{le-leb, leb-true, lt-leb, leb-false, ltb-true}
 use Rattle.counting.specs.Lists.{gather}
 use Rattle.counting.specs.Pick.{pick, one}
 use Rattle.counting.specs.Range.{over}
@@ -33,13 +33,16 @@ use Rattle.cell.specs.Of.{countOf, startOf, edgesOf}
 use Rattle.cell.specs.Loop.{loopSize, dart, normal, inGrid}
 use Rattle.cell.specs.Limits.{mostInCell}
 use Rattle.cell.specs.Triangles.{numberOf}
-use Rattle.cell.specs.Middles.{isFan, loopPoint, fanCount, loopMiddle, cellMiddles, numberedBelow, middlesAt, pointsThen, nextPoint}
+use Rattle.cell.specs.declared.Nest.{Nest}
+use Rattle.cell.specs.Nests.{nestEdge, nestMiddle}
+use Rattle.cell.specs.Middles.{isFan, loopPoint, fanCount, cornerPlace, fanMiddle, loopMiddle, cellMiddles, numberedBelow, middlesAt, pointsThen, nextPoint}
 use Rattle.cell.specs.Table.{tableCell, middlesWritten}
-use Rattle.cell.specs.Centres.{recordedMiddle, MiddlesRoom}
+use Rattle.cell.specs.Centres.{IsNest, recordedPlace, recordedMiddle, MiddlesRoom}
 use Rattle.cell.proofs.Lay.{lay}
 use Rattle.cell.proofs.Loops.{from-point, dart-live}
 use Rattle.cell.proofs.Fits.{room-left}
 use Rattle.cell.proofs.Going.{Looped, looped-points}
+use Rattle.cell.proofs.Nesting.{looped-nested}
 
 -- the cases of the code
 module _ (n : ℕ) (normal : Bool) where
@@ -67,17 +70,22 @@ one-ext : (b : Bool) (p q : Place) → (b ≡ true → p ≡ q) → pick b (p �
 one-ext true p q h = ap (λ (x : Place). x ∷ []) (h refl)
 one-ext false p q h = refl
 
--- how many middles there are
-module _ (place : ℕ → Place) (c : Cell) where
-  pub length-loop : (p : ℕ) → length (loopMiddle place c p) ≡ one (isFan c p)
-  unfolding loopMiddle
-  length-loop p = one-long (isFan c p) (middle (λ k. place (loopPoint c p k)) (loopSize (edgesOf c) p))
+-- two choices by the same test
+choice : (b : Bool) {d : Bool} {p q r s : Place} → b ≡ d → (b ≡ true → p ≡ q) → r ≡ s → pick b p r ≡ pick d q s
+choice true e f g = rw (← e) (f refl)
+choice false e f g = rw (← e) g
 
-  pub length-cell : length (cellMiddles place c) ≡ fanCount c
+-- how many middles there are
+module _ (nodes : List Float) (place : ℕ → Place) (c : Cell) where
+  pub length-loop : (p : ℕ) → length (loopMiddle nodes place c p) ≡ one (isFan c p)
+  unfolding loopMiddle
+  length-loop p = one-long (isFan c p) (fanMiddle nodes place c p)
+
+  pub length-cell : length (cellMiddles nodes place c) ≡ fanCount c
   unfolding cellMiddles fanCount
   length-cell =
-      length-over (loopMiddle place c) (crossings (edgesOf c)) 0
-      ∙ total-ext (λ p. length (loopMiddle place c p)) (λ p. one (isFan c p)) (crossings (edgesOf c)) 0 (λ p a b. length-loop p)
+      length-over (loopMiddle nodes place c) (crossings (edgesOf c)) 0
+      ∙ total-ext (λ p. length (loopMiddle nodes place c p)) (λ p. one (isFan c p)) (crossings (edgesOf c)) 0 (λ p a b. length-loop p)
       ∙ sym (count-total (isFan c) (crossings (edgesOf c)))
 
 -- numbers below n
@@ -118,8 +126,8 @@ module _ {c : Cell} {e last : ℕ} (H : Highest c e last) where
     | no h ↦ le-leb last n (omega arith) ∙ sym (below-all c n (λ k g. omega (arith, H .above k (omega arith))))
   ]
 
--- the middles are determined by the places of the cell's crossings
-module _ (c : Cell) (n : ℕ) (b : numberedBelow c n ≡ true) (place other : ℕ → Place) (same : (g : ℕ) → g < n → place g ≡ other g) where
+-- the middles are determined by the nodes' places and those of the cell's crossings
+module _ (nodes : List Float) (c : Cell) (n : ℕ) (b : numberedBelow c n ≡ true) (place other : ℕ → Place) (same : (g : ℕ) → g < n → place g ≡ other g) where
   point-below : (p k : ℕ) → p < crossings (edgesOf c) → k < loopSize (edgesOf c) p → loopPoint c p k < n
   unfolding loopPoint numberOf inGrid
   point-below p k l h =
@@ -128,16 +136,17 @@ module _ (c : Cell) (n : ℕ) (b : numberedBelow c n ≡ true) (place other : �
       let d : x < crossings w = omega (arith, dart-live w p l k h) in
       omega (arith, below-at c n b (edge w x) (lay w .edge-lt x d), lay w .index-lt x d)
 
-  pub loop-ext : (p : ℕ) → p < crossings (edgesOf c) → loopMiddle place c p ≡ loopMiddle other c p
-  unfolding loopMiddle isFan
+  pub loop-ext : (p : ℕ) → p < crossings (edgesOf c) → loopMiddle nodes place c p ≡ loopMiddle nodes other c p
+  unfolding loopMiddle fanMiddle isFan
   loop-ext p l =
       let n = loopSize (edgesOf c) p in
-      one-ext (isFan c p) (middle (λ k. place (loopPoint c p k)) n) (middle (λ k. other (loopPoint c p k)) n)
-      (λ e. middle-ext (λ k. place (loopPoint c p k)) (λ k. other (loopPoint c p k)) n (middle-fan n (normal (edgesOf c) p) e .0) (λ k h. same (loopPoint c p k) (point-below p k l h)))
+      one-ext (isFan c p) (fanMiddle nodes place c p) (fanMiddle nodes other c p)
+      (λ e. ap (λ (m : Place). pick (ltb (nestEdge (countOf c)) 3) (nestMiddle (cornerPlace nodes c) c p) m)
+      (middle-ext (λ k. place (loopPoint c p k)) (λ k. other (loopPoint c p k)) n (middle-fan n (normal (edgesOf c) p) e .0) (λ k h. same (loopPoint c p k) (point-below p k l h))))
 
-  pub cell-ext : cellMiddles place c ≡ cellMiddles other c
+  pub cell-ext : cellMiddles nodes place c ≡ cellMiddles nodes other c
   unfolding cellMiddles
-  cell-ext = over-ext (loopMiddle place c) (loopMiddle other c) (crossings (edgesOf c)) 0 (λ p a l. loop-ext p (omega arith))
+  cell-ext = over-ext (loopMiddle nodes place c) (loopMiddle nodes other c) (crossings (edgesOf c)) 0 (λ p a l. loop-ext p (omega arith))
 
 -- what is recorded of a loop
 module _ {c : Cell} {p n : ℕ} {b : Bool} {halves points : List ℕ} (L : Looped c p n b halves points) where
@@ -148,15 +157,23 @@ module _ {c : Cell} {p n : ℕ} {b : Bool} {halves points : List ℕ} (L : Loope
   points-fan : hasMiddle (length points) b ≡ isFan c p
   points-fan = ap (λ m. hasMiddle m b) (looped-points L) ∙ looped-fan
 
-  pub looped-middle : (area : List Float) → recordedMiddle points b area ≡ loopMiddle (placeAt area) c p
-  unfolding recordedMiddle loopMiddle loopPoint numberOf
-  looped-middle area =
-      let m = length points in
-      let e = looped-points L ∙ L .size in
-      one-ext (hasMiddle m b) (middle (λ k. placeAt area (getD points k 0)) m) (middle (λ k. placeAt area (loopPoint c p k)) m)
-      (λ f. middle-ext (λ k. placeAt area (getD points k 0)) (λ k. placeAt area (loopPoint c p k)) m (middle-fan m b f .0)
-      (λ k h. ap (placeAt area) (ap (λ l. getD l k 0) (L .points-are) ∙ from-point c p k (omega (arith, e)))))
-      ∙ ap₂ (λ (b : Bool) (m : ℕ). pick b (middle (λ k. placeAt area (loopPoint c p k)) m ∷ []) []) points-fan e
+  module _ {q : Nest} (Q : IsNest c q) (nodes area : List Float) where
+    -- in a nest, or by its points
+    looped-place : hasMiddle (length points) b ≡ true → recordedPlace c q nodes halves points area ≡ fanMiddle nodes (placeAt area) c p
+    unfolding recordedPlace fanMiddle loopPoint numberOf
+    looped-place f =
+        let m = length points in
+        let e = looped-points L ∙ L .size in
+        choice (ltb (q .edge) 3) (ap (λ k. ltb k 3) (Q .edge-is)) (λ t. looped-nested L Q nodes (ltb-true (q .edge) 3 t))
+        (middle-ext (λ k. placeAt area (getD points k 0)) (λ k. placeAt area (loopPoint c p k)) m (middle-fan m b f .0)
+        (λ k h. ap (placeAt area) (ap (λ l. getD l k 0) (L .points-are) ∙ from-point c p k (omega (arith, e))))
+        ∙ ap (middle (λ k. placeAt area (loopPoint c p k))) e)
+
+    pub looped-middle : recordedMiddle c q nodes halves points b area ≡ loopMiddle nodes (placeAt area) c p
+    unfolding recordedMiddle loopMiddle
+    looped-middle =
+        one-ext (hasMiddle (length points) b) (recordedPlace c q nodes halves points area) (fanMiddle nodes (placeAt area) c p) looped-place
+        ∙ ap (λ (b : Bool). pick b (fanMiddle nodes (placeAt area) c p ∷ []) []) points-fan
 
   -- one fan more, or none
   pub fans-more : {t k : ℕ} → t ≡ count (isFan c) p → k ≡ one (hasMiddle n b) → t + k ≡ count (isFan c) (p + 1)
@@ -173,68 +190,68 @@ unfolding fanCount count
 no-fans c e = rw e
 
 -- a recorded loop's middle is written, or there is none
-module _ (points : List ℕ) (normal : Bool) (area : List Float) (at r : ℕ) (q : r ≡ one (hasMiddle (length points) normal)) where
+module _ (c : Cell) (n : Nest) (nodes : List Float) (halves points : List ℕ) (normal : Bool) (area : List Float) (at r : ℕ) (q : r ≡ one (hasMiddle (length points) normal)) where
   is-fan : (b : Bool) → one b ≡ r → (r ≡ 0 → b ≡ false) × (r ≢ 0 → b ≡ true)
   is-fan true e = (λ z. absurd (omega arith), λ z. refl)
   is-fan false e = (λ z. refl, λ z. absurd (z (sym e)))
 
-  pub put-none : r ≡ 0 → Stored area (coordinates * at) (allNumbers (recordedMiddle points normal area)) area (coordinates * at)
+  pub put-none : r ≡ 0 → Stored area (coordinates * at) (allNumbers (recordedMiddle c n nodes halves points normal area)) area (coordinates * at)
   unfolding recordedMiddle gather
   put-none z = rw (is-fan (hasMiddle (length points) normal) (sym q) .0 z) (stored-none area (coordinates * at))
 
   pub put-one : r ≢ 0 → coordinates * (at + one (hasMiddle (length points) normal)) ≤ length area → {p : Place} {out : List Float}
-      → p ≡ middle (λ k. placeAt area (getD points k 0)) (length points) → out ≡ storedIn area (coordinates * at) (numbers p)
-      → Stored area (coordinates * at) (allNumbers (recordedMiddle points normal area)) out (coordinates * (at + 1))
+      → p ≡ recordedPlace c n nodes halves points area → out ≡ storedIn area (coordinates * at) (numbers p)
+      → Stored area (coordinates * at) (allNumbers (recordedMiddle c n nodes halves points normal area)) out (coordinates * (at + 1))
   unfolding recordedMiddle gather
   put-one z room {p} e f =
       let b = is-fan (hasMiddle (length points) normal) (sym q) .1 z in
       rw (b, ← e) (point-stored at p (omega (arith, room, ap one b)) f)
 
 -- the numbers of the middle of each loop
-abbrev pub middleOf : Cell → List Float → ℕ → List Float
-middleOf c area p = allNumbers (loopMiddle (placeAt area) c p)
+abbrev pub middleOf : List Float → Cell → List Float → ℕ → List Float
+middleOf nodes c area p = allNumbers (loopMiddle nodes (placeAt area) c p)
 
 -- the middles of the first loops are written, and the one of the next is
-module _ (c : Cell) (area : List Float) (at : ℕ) where
-  all-are : allNumbers (cellMiddles (placeAt area) c) ≡ over (middleOf c area) (crossings (edgesOf c)) 0
+module _ (nodes : List Float) (c : Cell) (area : List Float) (at : ℕ) where
+  all-are : allNumbers (cellMiddles nodes (placeAt area) c) ≡ over (middleOf nodes c area) (crossings (edgesOf c)) 0
   unfolding cellMiddles
-  all-are = gather-over numbers (loopMiddle (placeAt area) c) (crossings (edgesOf c)) 0
+  all-are = gather-over numbers (loopMiddle nodes (placeAt area) c) (crossings (edgesOf c)) 0
 
-  all-long : length (allNumbers (cellMiddles (placeAt area) c)) ≡ coordinates * fanCount c
-  all-long = length-numbers (cellMiddles (placeAt area) c) ∙ ap (λ k. coordinates * k) (length-cell (placeAt area) c)
+  all-long : length (allNumbers (cellMiddles nodes (placeAt area) c)) ≡ coordinates * fanCount c
+  all-long = length-numbers (cellMiddles nodes (placeAt area) c) ∙ ap (λ k. coordinates * k) (length-cell nodes (placeAt area) c)
 
   module _ (R : MiddlesRoom c area at) where
-    module _ {p : ℕ} (i : ℕ) {mid : List Float} (S : Stored area (coordinates * at) (over (middleOf c area) p 0) mid (coordinates * i))
+    module _ {p : ℕ} (i : ℕ) {mid : List Float} (S : Stored area (coordinates * at) (over (middleOf nodes c area) p 0) mid (coordinates * i))
         {n : ℕ} {b : Bool} {halves points : List ℕ} (L : Looped c p n b halves points) where
       pub middle-room : coordinates * (i + one (hasMiddle (length points) b)) ≤ length mid
       middle-room =
           omega (
             arith,
-            stored-fits (middleOf c area) (crossings (edgesOf c)) p S (L .inside) (omega (arith, R .room, all-long, ap length all-are)),
-            length-numbers (loopMiddle (placeAt area) c p),
-            length-loop (placeAt area) c p,
+            stored-fits (middleOf nodes c area) (crossings (edgesOf c)) p S (L .inside) (omega (arith, R .room, all-long, ap length all-are)),
+            length-numbers (loopMiddle nodes (placeAt area) c p),
+            length-loop nodes (placeAt area) c p,
             ap one (points-fan L),
           )
 
-      pub middle-next : {out : List Float} {m : ℕ} → Stored mid (coordinates * i) (allNumbers (recordedMiddle points b mid)) out m
-          → Stored area (coordinates * at) (over (middleOf c area) (p + 1) 0) out m
-      middle-next T =
-          stored-more (middleOf c area) p S
-          (stored-as T (ap allNumbers (looped-middle L mid ∙ loop-ext c at (R .below) (placeAt mid) (placeAt area) (place-kept S) p (L .inside))) refl)
+      pub middle-next : {q : Nest} → IsNest c q → {out : List Float} {m : ℕ} → Stored mid (coordinates * i) (allNumbers (recordedMiddle c q nodes halves points b mid)) out m
+          → Stored area (coordinates * at) (over (middleOf nodes c area) (p + 1) 0) out m
+      middle-next Q T =
+          stored-more (middleOf nodes c area) p S
+          (stored-as T (ap allNumbers (looped-middle L Q nodes mid ∙ loop-ext nodes c at (R .below) (placeAt mid) (placeAt area) (place-kept S) p (L .inside))) refl)
 
-    pub middles-all : {p m : ℕ} {out : List Float} → Stored area (coordinates * at) (over (middleOf c area) p 0) out m → p ≡ crossings (edgesOf c)
-        → Stored area (coordinates * at) (allNumbers (cellMiddles (placeAt area) c)) out m
-    middles-all S e = stored-as S (ap (λ k. over (middleOf c area) k 0) e ∙ sym all-are) refl
+    pub middles-all : {p m : ℕ} {out : List Float} → Stored area (coordinates * at) (over (middleOf nodes c area) p 0) out m → p ≡ crossings (edgesOf c)
+        → Stored area (coordinates * at) (allNumbers (cellMiddles nodes (placeAt area) c)) out m
+    middles-all S e = stored-as S (ap (λ k. over (middleOf nodes c area) k 0) e ∙ sym all-are) refl
 
     -- as the call answers
-    pub middles-stored : Stored area (coordinates * at) (allNumbers (cellMiddles (placeAt area) c)) (pointsThen c area at) (coordinates * nextPoint c area at)
+    pub middles-stored : Stored area (coordinates * at) (allNumbers (cellMiddles nodes (placeAt area) c)) (pointsThen nodes c area at) (coordinates * nextPoint nodes c area at)
     unfolding nextPoint pointsThen middlesAt
     middles-stored =
-        let S = stored-room area (coordinates * at) (allNumbers (cellMiddles (placeAt area) c)) (omega (arith, R .room, all-long)) in
+        let S = stored-room area (coordinates * at) (allNumbers (cellMiddles nodes (placeAt area) c)) (omega (arith, R .room, all-long)) in
         rw (R .below) (stored-as S refl (omega (arith, S .after, all-long)))
 
-    pub middles-done : {out : List Float} {r : ℕ} → Stored area (coordinates * at) (allNumbers (cellMiddles (placeAt area) c)) out (coordinates * r)
-        → (r ≡ nextPoint c area at) × (out ≡ pointsThen c area at)
+    pub middles-done : {out : List Float} {r : ℕ} → Stored area (coordinates * at) (allNumbers (cellMiddles nodes (placeAt area) c)) out (coordinates * r)
+        → (r ≡ nextPoint nodes c area at) × (out ≡ pointsThen nodes c area at)
     middles-done S = (omega (arith, S .after, middles-stored .after), S .area ∙ sym (middles-stored .area))
 
 -- whether the places of the crossings stand before point `at`, and the middles have room
@@ -242,24 +259,24 @@ abbrev pub fits : Cell → (room at : ℕ) → Bool
 fits c room at = numberedBelow c at && leb (at + fanCount c) (room / coordinates)
 
 -- where they have none, nothing is written
-pub middles-not : (c : Cell) (area : List Float) (at : ℕ) → fits c (length area) at ≡ false → (at ≡ nextPoint c area at) × (area ≡ pointsThen c area at)
+pub middles-not : (nodes : List Float) (c : Cell) (area : List Float) (at : ℕ) → fits c (length area) at ≡ false → (at ≡ nextPoint nodes c area at) × (area ≡ pointsThen nodes c area at)
 unfolding nextPoint pointsThen middlesAt gather
-middles-not c area at = go (numberedBelow c at)
+middles-not nodes c area at = go (numberedBelow c at)
   where
     go : (b : Bool) → (b && leb (at + fanCount c) (length area / coordinates)) ≡ false
-        → (at ≡ nextIn area (coordinates * at) (allNumbers (pick b (cellMiddles (placeAt area) c) [])) / coordinates)
-        × (area ≡ storedIn area (coordinates * at) (allNumbers (pick b (cellMiddles (placeAt area) c) [])))
+        → (at ≡ nextIn area (coordinates * at) (allNumbers (pick b (cellMiddles nodes (placeAt area) c) [])) / coordinates)
+        × (area ≡ storedIn area (coordinates * at) (allNumbers (pick b (cellMiddles nodes (placeAt area) c) [])))
     go false e = let n = stored-nothing area (coordinates * at) in (omega (arith, n .1), n .0)
     go true e =
         let n =
-        stored-not area (coordinates * at) (allNumbers (cellMiddles (placeAt area) c))
-        (omega (arith, leb-false (at + fanCount c) (length area / coordinates) e, all-long c area at)) in
+        stored-not area (coordinates * at) (allNumbers (cellMiddles nodes (placeAt area) c))
+        (omega (arith, leb-false (at + fanCount c) (length area / coordinates) e, all-long nodes c area at)) in
         (omega (arith, n .1), n .0)
 
 -- nor are there any in a cell without crossings
-pub no-middles : (c : Cell) (area : List Float) (at : ℕ) → crossings (edgesOf c) ≡ 0 → (at ≡ nextPoint c area at) × (area ≡ pointsThen c area at)
+pub no-middles : (nodes : List Float) (c : Cell) (area : List Float) (at : ℕ) → crossings (edgesOf c) ≡ 0 → (at ≡ nextPoint nodes c area at) × (area ≡ pointsThen nodes c area at)
 unfolding nextPoint pointsThen middlesAt cellMiddles over gather
-no-middles c area at e = rw e (go (numberedBelow c at))
+no-middles nodes c area at e = rw e (go (numberedBelow c at))
   where
     go : (b : Bool)
         → (at ≡ nextIn area (coordinates * at) (allNumbers (pick b [] [])) / coordinates)
@@ -289,10 +306,10 @@ module _ (c : Cell) (room at : ℕ) where
     fits-most e l = rw b (sym (le-leb (at + fanCount c) (room / coordinates) (omega (arith, count-le (isFan c) (crossings (edgesOf c))))))
 
 -- the middles of all cells, cell by cell
-module _ (cells counts names sides starts : List ℕ) (area : List Float) (at n : ℕ) {mid : List Float} {i : ℕ}
-    (e : (mid, i) ≡ middlesWritten cells counts names sides starts area at n) where
+module _ (cells counts names sides starts : List ℕ) (nodes area : List Float) (at n : ℕ) {mid : List Float} {i : ℕ}
+    (e : (mid, i) ≡ middlesWritten cells counts names sides starts nodes area at n) where
   pub written-more : {v : Cell} → v ≡ tableCell cells counts names sides starts n → {r : ℕ} {out : List Float}
-      → (r ≡ nextPoint v mid i) × (out ≡ pointsThen v mid i) → (out, r) ≡ middlesWritten cells counts names sides starts area at (n + 1)
+      → (r ≡ nextPoint nodes v mid i) × (out ≡ pointsThen nodes v mid i) → (out, r) ≡ middlesWritten cells counts names sides starts nodes area at (n + 1)
   unfolding middlesWritten
   written-more {v} q {r} {out} p = rw (add-one n, ← e, ← q, ← p .0, ← p .1)
 
@@ -300,6 +317,6 @@ module _ (cells counts names sides starts : List ℕ) (area : List Float) (at n 
   unfolding middlesWritten pointsThen
   written-long = ap (λ (w : List Float × ℕ). length (w .0)) e ∙ long n
     where
-      long : (n : ℕ) → length (middlesWritten cells counts names sides starts area at n .0) ≡ length area
+      long : (n : ℕ) → length (middlesWritten cells counts names sides starts nodes area at n .0) ≡ length area
       long zero = refl
       long (suc n) = stored-same _ _ _ ∙ long n

@@ -30,4 +30,5 @@ pub mod Values
 pub mod Fits
 pub mod TriangleClaims
 pub mod Renaming
+pub mod Nesting
 pub mod Fans

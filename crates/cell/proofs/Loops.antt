@@ -149,7 +149,7 @@ module _ (c : Cell) (p : ℕ) where
     pub from-slot : (k : ℕ) → k < size → getD (halvesFrom c p) k 0 / 3 ≡ slot cw (dart cw p k)
     from-slot k h = rw (from-half k h) (half-slot cw (dart cw p k) (dart-live cw p l k h))
 
-    from-edge : (k : ℕ) → k < size → edgeOf (getD (halvesFrom c p) k 0) ≡ edge cw (dart cw p k / 2)
+    pub from-edge : (k : ℕ) → k < size → edgeOf (getD (halvesFrom c p) k 0) ≡ edge cw (dart cw p k / 2)
     from-edge k h = rw (from-half k h) (half-edge cw (dart cw p k) (dart-live cw p l k h))
 
     pub parity-is : (e : ℕ) → parity cw p e ≡ crossesIn (halvesFrom c p) e % 2

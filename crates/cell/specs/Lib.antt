@@ -24,5 +24,6 @@ pub mod Names
 pub mod Polygons
 pub mod TriangleClaims
 pub mod Renaming
+pub mod Nests
 pub mod Middles
 pub mod Centres

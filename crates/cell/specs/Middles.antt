@@ -1,8 +1,9 @@
--- The middles of a cell's fans (01), and what is left where they are written among the points of an area.
+-- The middles of a cell's fans (01; 02, W3), and what is left where they are written among the points of an area.
 use Prim.Native.Nat.{ℕ, _+_, _*_, _/_}
 use mathlib.Core.Bool.{Bool}
 use mathlib.Core.List.{List, [], _∷_}
-use lib.Dec.{leb}
+use lib.Dec.{ltb, leb}
+use lib.ListN.{getD}
 use lib.Ieee.{Float}
 use Rattle.counting.specs.Pick.{pick}
 use Rattle.counting.specs.Range.{over}
@@ -16,6 +17,7 @@ use Rattle.cell.specs.Cell.{crossings}
 use Rattle.cell.specs.Of.{countOf, startOf, edgesOf}
 use Rattle.cell.specs.Loop.{loopSize, dart, normal}
 use Rattle.cell.specs.Triangles.{numberOf}
+use Rattle.cell.specs.Nests.{nestEdge, nestMiddle}
 
 module _ (c : Cell) (p : ℕ) where
   -- the loop from the crossing p is drawn as a fan
@@ -30,11 +32,19 @@ module _ (c : Cell) (p : ℕ) where
 unfoldable pub fanCount : Cell → ℕ
 fanCount c = count (isFan c) (crossings (edgesOf c))
 
--- the middles of fans, where the crossings are at `place`
-module _ (place : ℕ → Place) (c : Cell) where
-  -- of the loop from the crossing p, where it is drawn as a fan
+-- the place of the cell's node at position k, from the listed places of nodes
+abbrev pub cornerPlace : (nodes : List Float) → Cell → ℕ → Place
+cornerPlace nodes c k = placeAt nodes (getD (c .nodes) k 0)
+
+-- the middles of fans, where the places of nodes are listed and the crossings are at `place`
+module _ (nodes : List Float) (place : ℕ → Place) (c : Cell) where
+  -- of the loop from the crossing p: in a nest its own place on the axis, else the mean of its points
+  unfoldable pub fanMiddle : ℕ → Place
+  fanMiddle p = pick (ltb (nestEdge (countOf c)) 3) (nestMiddle (cornerPlace nodes c) c p) (middle (λ k. place (loopPoint c p k)) (loopSize (edgesOf c) p))
+
+  -- where it is drawn as a fan
   unfoldable pub loopMiddle : ℕ → List Place
-  loopMiddle p = pick (isFan c p) (middle (λ k. place (loopPoint c p k)) (loopSize (edgesOf c) p) ∷ []) []
+  loopMiddle p = pick (isFan c p) (fanMiddle p ∷ []) []
 
   unfoldable pub cellMiddles : List Place
   cellMiddles = over loopMiddle (crossings (edgesOf c)) 0
@@ -43,10 +53,10 @@ module _ (place : ℕ → Place) (c : Cell) where
 unfoldable pub numberedBelow : Cell → ℕ → Bool
 numberedBelow c n = every (λ e. leb (startOf c e + countOf c e) n) 6
 
-module _ (c : Cell) (area : List Float) (at : ℕ) where
+module _ (nodes : List Float) (c : Cell) (area : List Float) (at : ℕ) where
   -- the middles to be written from point `at` on: the cell's, where the places of its crossings stand before that point; else none
   unfoldable pub middlesAt : List Place
-  middlesAt = pick (numberedBelow c at) (cellMiddles (placeAt area) c) []
+  middlesAt = pick (numberedBelow c at) (cellMiddles nodes (placeAt area) c) []
 
   -- the area then, with them where they have room; and the next point
   unfoldable pub pointsThen : List Float

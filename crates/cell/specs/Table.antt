@@ -71,9 +71,9 @@ module _ (cells counts names sides starts : List ℕ) where
   tableFans = total (λ c. fanCount (tableCell cells counts names sides starts c)) (drawnCells cells) 0
 
   -- the area and the next point, once the middles of the first n cells are written from point `at` on
-  unfoldable pub middlesWritten : (area : List Float) (at n : ℕ) → List Float × ℕ
-  middlesWritten area at zero = (area, at)
-  middlesWritten area at (suc n) =
+  unfoldable pub middlesWritten : (nodes area : List Float) (at n : ℕ) → List Float × ℕ
+  middlesWritten nodes area at zero = (area, at)
+  middlesWritten nodes area at (suc n) =
       let v = tableCell cells counts names sides starts n in
-      let w = middlesWritten area at n in
-      (pointsThen v (w .0) (w .1), nextPoint v (w .0) (w .1))
+      let w = middlesWritten nodes area at n in
+      (pointsThen nodes v (w .0) (w .1), nextPoint nodes v (w .0) (w .1))

@@ -22,7 +22,7 @@ fn same(a: usize, b: usize) -> usize
 }
 
 // The edge of the half-edge recorded at place k; of any other byte as the definition has it.
-fn edge_at(halves: &[u8], k: usize) -> usize
+pub(crate) fn edge_at(halves: &[u8], k: usize) -> usize
     requires { ⌜ k < length (now halves) ⌝ }
     ensures { λ r. ⌜ r ≡ edgeOf (getD (now (halves .entry)) k 0) ⌝ }
 {

@@ -80,8 +80,8 @@ pub fn count_fans(
     )
 }
 
-// Writes the middles of the fans cell by cell, from point `at` of the area on, and answers the next point. Of a cell whose middles have no room, or
-// one of whose crossings has no place before the next point, nothing is written.
+// Writes the middles of the fans cell by cell, from point `at` of the area on, and answers the next point. `nodes` has the nodes' places. Of a cell whose
+// middles have no room, or one of whose crossings has no place before the next point, nothing is written.
 fn middles_in_all(
     cells: &[u16],
     counts: &[u16],
@@ -91,11 +91,12 @@ fn middles_in_all(
     marks: &mut [u16],
     halves: &mut [u8],
     points: &mut [u32],
+    nodes: &[f64],
     area: &mut [f64],
     at: usize,
 ) -> usize
     requires { ⌜ Spacious (now counts) (now sides) (now marks) (now halves) (now points) ⌝ }
-    ensures { λ r. ⌜ (now (area .exit), r) ≡ middlesWritten (now (cells .entry)) (now (counts .entry)) (now (names .entry)) (now (sides .entry)) (now (starts .entry)) (now (area .entry)) at (drawnCells (now (cells .entry))) ⌝ }
+    ensures { λ r. ⌜ (now (area .exit), r) ≡ middlesWritten (now (cells .entry)) (now (counts .entry)) (now (names .entry)) (now (sides .entry)) (now (starts .entry)) (now (nodes .entry)) (now (area .entry)) at (drawnCells (now (cells .entry))) ⌝ }
     ensures { λ _. ⌜ Sized (now (marks .entry)) (now (halves .entry)) (now (points .entry)) (now (marks .exit)) (now (halves .exit)) (now (points .exit)) ⌝ }
 {
     let n = drawn(cells);
@@ -103,7 +104,7 @@ fn middles_in_all(
     let mut c: usize = 0;
     while c < n {
         let x = counted_at(cells, counts, names, sides, starts, c);
-        i = middles_in(x.cell, x.crossings, marks, halves, points, area, i);
+        i = middles_in(x.cell, x.crossings, marks, halves, points, nodes, area, i);
         c += 1;
     }
     i
@@ -116,11 +117,12 @@ fn few_middles(
     names: &[u16; MOST_SLOTS],
     sides: &[u16; MOST_EDGES],
     starts: &[u32; MOST_EDGES],
+    nodes: &[f64],
     area: &mut [f64],
     at: usize,
 ) -> usize
     requires { ⌜ Few (now counts) ⌝ }
-    ensures { λ r. ⌜ (now (area .exit), r) ≡ middlesWritten (now (cells .entry)) (now (counts .entry)) (now (names .entry)) (now (sides .entry)) (now (starts .entry)) (now (area .entry)) at (drawnCells (now (cells .entry))) ⌝ }
+    ensures { λ r. ⌜ (now (area .exit), r) ≡ middlesWritten (now (cells .entry)) (now (counts .entry)) (now (names .entry)) (now (sides .entry)) (now (starts .entry)) (now (nodes .entry)) (now (area .entry)) at (drawnCells (now (cells .entry))) ⌝ }
 {
     let mut marks = [0u16; FEW_IN_CELL];
     let mut halves = [0u8; FEW_IN_CELL];
@@ -134,6 +136,7 @@ fn few_middles(
         &mut marks,
         &mut halves,
         &mut points,
+        nodes,
         area,
         at,
     )
@@ -146,13 +149,14 @@ pub fn write_middles(
     names: &[u16; MOST_SLOTS],
     sides: &[u16; MOST_EDGES],
     starts: &[u32; MOST_EDGES],
+    nodes: &[f64],
     area: &mut [f64],
     at: usize,
 ) -> usize
-    ensures { λ r. ⌜ (now (area .exit), r) ≡ middlesWritten (now (cells .entry)) (now (counts .entry)) (now (names .entry)) (now (sides .entry)) (now (starts .entry)) (now (area .entry)) at (drawnCells (now (cells .entry))) ⌝ }
+    ensures { λ r. ⌜ (now (area .exit), r) ≡ middlesWritten (now (cells .entry)) (now (counts .entry)) (now (names .entry)) (now (sides .entry)) (now (starts .entry)) (now (nodes .entry)) (now (area .entry)) at (drawnCells (now (cells .entry))) ⌝ }
 {
     if greatest(counts) <= FEW_COUNT {
-        return few_middles(cells, counts, names, sides, starts, area, at);
+        return few_middles(cells, counts, names, sides, starts, nodes, area, at);
     }
     let mut marks = [0u16; MOST_IN_CELL];
     let mut halves = [0u8; MOST_IN_CELL];
@@ -166,6 +170,7 @@ pub fn write_middles(
         &mut marks,
         &mut halves,
         &mut points,
+        nodes,
         area,
         at,
     )

@@ -13,6 +13,7 @@ mod fanning;
 mod level;
 mod make;
 mod middles;
+mod nests;
 mod numbers;
 mod routes;
 mod steps;
@@ -122,6 +123,13 @@ struct Dart {
     half: usize,
     index: usize,
     number: usize,
+}
+
+// The nest of a cell: its edge E, or 3 for none; how many loops it has, m, and the crossing number of the crossing m of E, of those that are left.
+struct Nest {
+    edge: usize,
+    count: usize,
+    low: usize,
 }
 
 // What follows a dart: another, and whether the segment to it goes along its edge; or the end of its curve.

@@ -8,15 +8,19 @@ ghost use Rattle.counting.specs.Pick.{one};
 ghost use Rattle.counting.specs.Stored.{Stored};
 ghost use Rattle.place.specs.Place.{coordinates, placeAt, allNumbers};
 ghost use Rattle.manifold.specs.Shape.{hasMiddle};
-ghost use Rattle.cell.specs.Limits.{mostInCell};
+ghost use Rattle.cell.specs.Limits.{mostInCell, mostSum};
 ghost use Rattle.cell.specs.Walked.{Room, Used};
 ghost use Rattle.cell.specs.Middles.{fanCount, cellMiddles, numberedBelow, pointsThen, nextPoint};
-ghost use Rattle.cell.specs.Centres.{recordedMiddle, MiddlesRoom};
+ghost use Rattle.cell.specs.Centres.{recordedPlace, recordedMiddle, MiddlesRoom};
 use super::Cell;
+use super::Nest;
+use super::nests::nest_in;
+use super::nests::nested_middle;
 use super::routes::end_of;
 use super::routes::routes_of;
 use super::walks::clear;
 use super::walks::walk;
+use place::Place;
 
 // 1 where a loop of n, normal or not, is drawn as a fan, else 0.
 fn fan_of(n: usize, normal: bool) -> usize
@@ -34,15 +38,35 @@ fn fan_of(n: usize, normal: bool) -> usize
     if normal { 0 } else { 1 }
 }
 
+// The middle of a recorded loop of the cell with the nest q: in a nest by the nodes' places, else by the area's points.
+fn middle_in(c: Cell, q: Nest, nodes: &[f64], halves: &[u8], points: &[u32], area: &[f64]) -> Place
+    requires { ⌜ q .count ≤ mostSum ⌝ }
+    ensures { λ r. ⌜ r ≡ recordedPlace c q (now (nodes .entry)) (now (halves .entry)) (now (points .entry)) (now (area .entry)) ⌝ }
+{
+    if q.edge < 3 {
+        return nested_middle(c, q, nodes, halves, points);
+    }
+    place::middle_of(area, points)
+}
+
 // Writes the middle of a recorded loop as point `at` of the area, where the loop is drawn as a fan, and answers the next point.
-fn put_middle(points: &[u32], normal: bool, area: &mut [f64], at: usize) -> usize
-    requires { ⌜ coordinates * (at + one (hasMiddle (length (now points)) normal)) ≤ length (now area) ⌝ }
-    ensures { λ r. ⌜ Stored (now (area .entry)) (coordinates * at) (allNumbers (recordedMiddle (now (points .entry)) normal (now (area .entry)))) (now (area .exit)) (coordinates * r) ⌝ }
+fn put_middle(
+    c: Cell,
+    q: Nest,
+    nodes: &[f64],
+    halves: &[u8],
+    points: &[u32],
+    normal: bool,
+    area: &mut [f64],
+    at: usize,
+) -> usize
+    requires { ⌜ (q .count ≤ mostSum) × (coordinates * (at + one (hasMiddle (length (now points)) normal)) ≤ length (now area)) ⌝ }
+    ensures { λ r. ⌜ Stored (now (area .entry)) (coordinates * at) (allNumbers (recordedMiddle c q (now (nodes .entry)) (now (halves .entry)) (now (points .entry)) normal (now (area .entry)))) (now (area .exit)) (coordinates * r) ⌝ }
 {
     if fan_of(points.len(), normal) == 0 {
         return at;
     }
-    let p = place::middle_of(area, points);
+    let p = middle_in(c, q, nodes, halves, points, area);
     place::store(area, at, p);
     at + 1
 }
@@ -72,22 +96,24 @@ fn write_all(
     marks: &mut [u16],
     halves: &mut [u8],
     points: &mut [u32],
+    nodes: &[f64],
     area: &mut [f64],
     at: usize,
 ) -> usize
     requires { ⌜ Room c n (now marks) (now halves) (now points) ⌝ }
     requires { ⌜ MiddlesRoom c (now area) at ⌝ }
-    ensures { λ r. ⌜ Stored (now (area .entry)) (coordinates * at) (allNumbers (cellMiddles (placeAt (now (area .entry))) c)) (now (area .exit)) (coordinates * r) ⌝ }
+    ensures { λ r. ⌜ Stored (now (area .entry)) (coordinates * at) (allNumbers (cellMiddles (now (nodes .entry)) (placeAt (now (area .entry))) c)) (now (area .exit)) (coordinates * r) ⌝ }
     ensures { λ _. ⌜ Used n (now (marks .entry)) (now (halves .entry)) (now (points .entry)) (now (marks .exit)) (now (halves .exit)) (now (points .exit)) ⌝ }
 {
     let routes = routes_of(c);
+    let q = nest_in(c, n);
     clear(marks, n);
     let mut i = at;
     let mut p: usize = 0;
     while p < n {
         let w = walk(c, &routes, n, p, marks, halves, points);
         let m = w.length;
-        i = put_middle(&points[0..m], w.normal, area, i);
+        i = put_middle(c, q, nodes, &halves[0..m], &points[0..m], w.normal, area, i);
         p += 1;
     }
     i
@@ -164,18 +190,19 @@ pub(crate) fn middles_in(
     marks: &mut [u16],
     halves: &mut [u8],
     points: &mut [u32],
+    nodes: &[f64],
     area: &mut [f64],
     at: usize,
 ) -> usize
     requires { ⌜ Room c n (now marks) (now halves) (now points) ⌝ }
-    ensures { λ r. ⌜ (r ≡ nextPoint c (now (area .entry)) at) × (now (area .exit) ≡ pointsThen c (now (area .entry)) at) ⌝ }
+    ensures { λ r. ⌜ (r ≡ nextPoint (now (nodes .entry)) c (now (area .entry)) at) × (now (area .exit) ≡ pointsThen (now (nodes .entry)) c (now (area .entry)) at) ⌝ }
     ensures { λ _. ⌜ Used n (now (marks .entry)) (now (halves .entry)) (now (points .entry)) (now (marks .exit)) (now (halves .exit)) (now (points .exit)) ⌝ }
 {
     if n == 0 {
         return at;
     }
     if has_room(c, n, marks, halves, points, area.len(), at) {
-        return write_all(c, n, marks, halves, points, area, at);
+        return write_all(c, n, marks, halves, points, nodes, area, at);
     }
     at
 }

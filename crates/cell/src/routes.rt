@@ -164,7 +164,7 @@ pub(crate) fn wide16(x: u16) -> usize
 }
 
 // The count of edge e, as the limit where it is above.
-fn count_of(c: Cell, e: usize) -> u16
+pub(crate) fn count_of(c: Cell, e: usize) -> u16
     requires { ⌜ e < 6 ⌝ }
     ensures { λ r. ⌜ r ≡ countOf c e ⌝ }
 {
@@ -172,7 +172,7 @@ fn count_of(c: Cell, e: usize) -> u16
     if n < MOST_COUNT { n } else { MOST_COUNT }
 }
 
-fn start_of(c: Cell, e: usize) -> u16
+pub(crate) fn start_of(c: Cell, e: usize) -> u16
     requires { ⌜ e < 6 ⌝ }
     ensures { λ r. ⌜ r ≡ startOf c e ⌝ }
 {

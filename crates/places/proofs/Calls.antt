@@ -30,6 +30,7 @@ use Rattle.mesh.proofs.Tables.{Tabled, tabled, cell-is}
 use Rattle.place.specs.declared.Place.{Place}
 use Rattle.place.specs.Place.{allNumbers}
 use Rattle.cell.specs.Middles.{cellMiddles, numberedBelow}
+use Rattle.places.specs.Nested.{placedMiddles}
 use Rattle.places.specs.Points.{crossingPlace, middles, points}
 use Rattle.places.specs.Answer.{rowsAnswer, placesAnswer, placed, placesArea}
 use Rattle.places.specs.Done.{Done}
@@ -37,6 +38,7 @@ use Rattle.places.specs.Work.{tableMiddles, tablePoints, Ready, PointsIn
 use Rattle.grid.proofs.Nodes.{numbers-small}
 use Rattle.places.proofs.Fractions.{start-fits}
 use Rattle.places.proofs.ExactCase.{exact-case}
+use Rattle.places.proofs.Nested.{by-counts}
 
 module _ {G : Grid} {names sides starts : List ℕ} (T : Tabled G names sides starts) where
   -- the crossings of a cell are those of its edges
@@ -65,9 +67,9 @@ module _ {G : Grid} {names sides starts : List ℕ} (T : Tabled G names sides st
   points-are nodes fractions =
       let all : drawnCells (G .cells) ≡ cellCount (G .cells) = omega (arith, T .sound .few-cells) in
       ap (λ (x : List Place). values (crossingPlace (G .edges) (G .counts) nodes fractions) (crossings (G .counts)) ++ x)
-      (rw all (over-ext (λ c. cellMiddles (crossingPlace (G .edges) (G .counts) nodes fractions) (tableCell (G .cells) (G .counts) names sides starts c))
-      (λ c. cellMiddles (crossingPlace (G .edges) (G .counts) nodes fractions) (gridCell G c)) (cellCount (G .cells)) 0
-      (λ c a b. ap (cellMiddles (crossingPlace (G .edges) (G .counts) nodes fractions)) (cell-is T c (omega arith)))))
+      (rw all (over-ext (λ c. cellMiddles nodes (crossingPlace (G .edges) (G .counts) nodes fractions) (tableCell (G .cells) (G .counts) names sides starts c))
+      (λ c. placedMiddles nodes (crossingPlace (G .edges) (G .counts) nodes fractions) (gridCell G c)) (cellCount (G .cells)) 0
+      (λ c a b. ap (cellMiddles nodes (crossingPlace (G .edges) (G .counts) nodes fractions)) (cell-is T c (omega arith)) ∙ by-counts nodes (crossingPlace (G .edges) (G .counts) nodes fractions) (gridCell G c))))
 
 module _ (G : Grid) (nodes fractions : List Float) where
   -- the two equations give the exact case

@@ -1,8 +1,8 @@
--- The examples, by computation.
+-- The examples of the call, and those of nests, by computation.
 use mathlib.Core.Path.{refl}
 use lib.Ieee.{add, sub, mul, div, neg, lt, le, eq, ofInt, ofBits}
 use Rattle.counting.specs.Search.{seek, first, last, some, every, count}
-use Rattle.counting.specs.Range.{total, over}
+use Rattle.counting.specs.Range.{total, over, kept}
 use Rattle.counting.specs.Lists.{tally, gather}
 use Rattle.counting.specs.Pack.{pre, row, col}
 use Rattle.counting.specs.Reach.{reach}
@@ -18,7 +18,12 @@ use Rattle.answer.specs.Rows.{orRefuse, answerOf}
 use Rattle.grid.specs.Rows.{badLength, badPairs, badCell, sameCell, repeats, crowded, isAfter, badEdge, badCount, unlisted, unused, linked, reached, split, tooMany, rows, gridAnswer}
 use Rattle.manifold.specs.Shape.{hasMiddle}
 use Rattle.cell.specs.Triangles.{numberOf}
-use Rattle.cell.specs.Middles.{isFan, loopPoint, loopMiddle, cellMiddles}
+use Rattle.cell.specs.Middles.{isFan, loopPoint}
+use Rattle.face.specs.Level.{isLevel}
+use Rattle.cell.specs.Level.{isLevelCell}
+use Rattle.cell.specs.Nodes.{joining, cornerFrom}
+use Rattle.booking.specs.Booking.{cornerOn, leastCorner, leftBetween}
+use Rattle.places.specs.Nested as nested
 use Rattle.mesh.specs.Mesh.{gridCell}
 use Rattle.place.specs.Place.{within, sumTo, middle}
 use Rattle.places.specs.Numbers.{properFraction}
@@ -26,18 +31,32 @@ use Rattle.places.specs.Points as points
 use Rattle.places.specs.Rows.{highest, badLists, badNumber, badFractionAt, badFraction}
 use Rattle.places.specs.Answer.{placeRows, rowsAnswer, placesAnswer, placed, placesArea}
 use Rattle.places.specs.Examples.{examples, ExamplesHold}
+use Rattle.places.specs.NestExamples as nests
+use Rattle.places.specs.NestExamples.{NestsHold}
 
 pub examples-hold : ExamplesHold
 unfolding add sub mul div neg lt le eq ofInt ofBits
-    seek first last some every count total over tally pre row col reach
+    seek first last some every count total over kept tally pre row col reach
     lo hi position lower upper edgeBetween slotEdge edgeRank contains firstSlot secondSlot
     face.other face.opposite face.halfAbove face.cornerCount face.residual face.countOn face.others face.kth face.cornerCountAt face.partner face.faceAnswer face.faceJoin
     it orbit step.face step.land step.step walk.status walk.turn walk.size walk.loopAt
     cell.ahead cell.base cell.holds cell.edge cell.index cell.answerAt cell.joinAt cell.joinedTo cell.mate cell.slot cell.step
-    loop.loopSize loop.dart loop.loopDarts loop.folded loop.normal loop.inGrid
+    loop.loopSize loop.dart loop.loopDarts loop.folded loop.normal loop.inGrid loop.leasts
     faceNode sameFace hasFace faceName joins isEdge hasEdge edgeNumber start
     badLength badPairs badCell sameCell repeats crowded isAfter badEdge badCount unlisted unused linked reached split tooMany rows orRefuse answerOf gridAnswer
-    hasMiddle numberOf isFan loopPoint loopMiddle cellMiddles gridCell
+    hasMiddle numberOf isFan loopPoint isLevel isLevelCell joining cornerFrom cornerOn leastCorner leftBetween
+    nested.octagons nested.others nested.isNested nested.axisEdge nested.remaining nested.through nested.nestNumber nested.nestedMiddle nested.placedMiddle nested.placedMiddles
+    gridCell
     sumTo middle gather within properFraction points.edgeOfCrossing points.indexOfCrossing points.crossingPlace points.middles points.points
     hasNode highest badLists badNumber badFractionAt badFraction placeRows rowsAnswer placesAnswer placed placesArea examples
 examples-hold = refl
+
+pub nests-hold : NestsHold
+unfolding seek first last some every count total over kept tally pre gather
+    lo hi position lower upper edgeBetween slotEdge edgeRank contains firstSlot secondSlot
+    face.other face.opposite face.halfAbove face.cornerCount face.residual face.countOn face.others face.kth face.cornerCountAt face.partner face.faceAnswer face.faceJoin
+    it orbit step.face step.land step.step walk.status walk.turn walk.size walk.loopAt
+    cell.ahead cell.base cell.holds cell.edge cell.index cell.answerAt cell.joinAt cell.joinedTo cell.mate cell.slot cell.step loop.loopSize loop.dart loop.leasts
+    isLevel isLevelCell joining cornerFrom cornerOn leastCorner leftBetween
+    nested.octagons nested.others nested.isNested nested.axisEdge nested.remaining nested.through nested.nestNumber nests.examples
+nests-hold = refl

@@ -40,9 +40,9 @@ module _ (cells edges counts names sides starts : List ℕ) (nodes fractions : L
   points-long =
       omega (
         arith,
-        length-append crossingPlaces (tableMiddles cells counts names sides starts place),
+        length-append crossingPlaces (tableMiddles cells counts names sides starts nodes place),
         length-singles place (crossings counts) 0,
-        length-table cells counts names sides starts place,
+        length-table cells counts names sides starts nodes place,
       )
 
   module _ (n : ℕ) (R : Ready cells counts names sides starts edges n) (before : List Float) (r : Placed) (m : ℕ)
@@ -94,15 +94,15 @@ module _ (cells edges counts names sides starts : List ℕ) (nodes fractions : L
             ∙ getD-singles place (place g) (crossings counts) 0 g i
             ∙ ap place (zero-add g)
 
-        pub points-in : (after : List Float) {next : ℕ} → (after, next) ≡ middlesWritten cells counts names sides starts mid n (drawnCells cells)
+        pub points-in : (after : List Float) {next : ℕ} → (after, next) ≡ middlesWritten cells counts names sides starts nodes mid n (drawnCells cells)
             → PointsIn cells counts names sides starts edges nodes fractions before after (placesNumbers r)
         unfolding tablePoints
         points-in after q =
             let s = length-singles place (crossings counts) 0 in
             let w : after ≡ sets before 0 (allNumbers all) =
-            written-all cells counts names sides starts mid n table-room q
-            ∙ ap (λ (x : List Place). sets mid (coordinates * n) (allNumbers x)) (table-ext cells counts names sides starts n below (placeAt mid) place loaded)
-            ∙ points-then crossingPlaces (tableMiddles cells counts names sides starts place)
+            written-all cells counts names sides starts nodes mid n table-room q
+            ∙ ap (λ (x : List Place). sets mid (coordinates * n) (allNumbers x)) (table-ext cells counts names sides starts nodes n below (placeAt mid) place loaded)
+            ∙ points-then crossingPlaces (tableMiddles cells counts names sides starts nodes place)
             (record { area = f; after = omega (arith, s, length-numbers crossingPlaces, R .judged .all) })
             (record { area = refl; after = refl }) .area in
             record { answered = answered; area = w ∙ rw (ap placesNumbers e) }

@@ -1,16 +1,29 @@
 -- What is claimed of the places call beside its contract.
-use Prim.Native.Nat.{ℕ, _<_}
+use Prim.Native.Nat.{ℕ, _*_, _-_, _<_}
 use mathlib.Core.Path.{_≡_}
+use mathlib.Core.Bool.{true, not, _&&_}
 use mathlib.Core.List.{List}
+use lib.Dec.{eqb, ltb}
 use lib.ListN.{length}
 use lib.IntN.{ℤ}
 use lib.Ieee.{Float}
 use Rattle.answer.specs.Answer.{result}
 use Rattle.grid.specs.Grid.{Grid, crossings}
+use Rattle.counting.specs.Lists.{tally}
+use Rattle.slots.specs.Slots.{lo, hi}
+use Rattle.place.specs.declared.Place.{Place}
 use Rattle.place.specs.Place.{coordinates}
+use Rattle.cell.specs.declared.Cell.{Cell}
+use Rattle.cell.specs.Of.{countOf, edgesOf}
+use Rattle.cell.specs.Loop.{loopSize, leasts}
+use Rattle.cell.specs.Level.{isLevelCell}
+use Rattle.cell.specs.Middles.{cellMiddles}
+use Rattle.booking.specs.Booking.{leftBetween, larger, smaller}
+use Rattle.booking.specs.Claims.{Other}
 use Rattle.places.specs.declared.Placed.{Placed}
 use Rattle.places.specs.Answer.{placesNumbers, placesAnswer}
 use Rattle.places.specs.Exact.{WholeAt}
+use Rattle.places.specs.Nested.{octagons, isNested, axisEdge, nestNumber, placedMiddles}
 
 -- the numbers tell the answer: no two values of the enum are read as the same answer of the call
 abbrev pub PlacesTold : Type 0
@@ -26,3 +39,24 @@ pub record Happens : Type 0 where
   pub placed : (values : List ℕ) × (placesAnswer grid nodes fractions (length area) ≡ result values)
   pub some : 0 < crossings (grid .counts)
   pub whole : (g t : ℕ) → g < crossings (grid .counts) → t < coordinates → (u : ℤ) × (v : ℤ) × (k : ℤ) × WholeAt (grid .edges) (grid .counts) nodes fractions g t u v k
+
+-- the nests of 02 are the cells with rule 1 alone and d1 = d2 = m > 1
+abbrev pub NestedByCounts : Type 0
+NestedByCounts =
+    (c : Cell) → isNested c ≡ (isLevelCell (countOf c) && (eqb (larger (countOf c)) (smaller (countOf c)) && ltb 1 (smaller (countOf c))))
+
+pub record NestLaws (c : Cell) : Type 0 where
+  -- m is d1; E and its opposite keep 2 * m
+  pub many : octagons c ≡ larger (countOf c)
+  pub keeps : leftBetween (countOf c) (lo (axisEdge c)) (hi (axisEdge c)) ≡ 2 * octagons c
+  pub opposite : leftBetween (countOf c) (lo (5 - axisEdge c)) (hi (5 - axisEdge c)) ≡ 2 * octagons c
+  -- each loop that is no triangle has an i below m, and each i is that of one loop
+  pub below : (p : ℕ) → Other (edgesOf c) p → nestNumber c p < octagons c
+  pub once : (i : ℕ) → i < octagons c → tally (λ p. not (eqb (loopSize (edgesOf c) p) 3) && eqb (nestNumber c p) i) (leasts (edgesOf c)) ≡ 1
+
+abbrev pub EachOnce : Type 0
+EachOnce = (c : Cell) → isNested c ≡ true → NestLaws c
+
+-- the rule by counts, by which the code goes, gives the same middles for every cell and all places
+abbrev pub NestsAgree : Type 0
+NestsAgree = (nodes : List Float) (place : ℕ → Place) (c : Cell) → cellMiddles nodes place c ≡ placedMiddles nodes place c

@@ -138,6 +138,49 @@ twoFans =
     ∷ bits 0x3fd11eb851eb851f ∷ bits 0xbff2f0a3d70a3d71 ∷ bits 0x3ffad70a3d70a3d8
     ∷ bits 0x3fee666666666666 ∷ bits 0xbfff333333333333 ∷ bits 0x400199999999999a ∷ []
 
+abbrev nested : List Float
+nested =
+    bits 0x3fd570a3d70a3d71 ∷ bits 0xbfee147ae147ae15 ∷ bits 0x40048f5c28f5c290
+    ∷ bits 0x3fe1eb851eb851ec ∷ bits 0x3fc47ae147ae1480 ∷ bits 0x400428f5c28f5c29
+    ∷ bits 0x3fe7ae147ae147ae ∷ bits 0x3ff0a3d70a3d70a4 ∷ bits 0x4003d70a3d70a3d7
+    ∷ bits 0x3feee147ae147ae2 ∷ bits 0x40011eb851eb851f ∷ bits 0x400370a3d70a3d70
+    ∷ bits 0xbfd999999999999b ∷ bits 0xbffd99999999999a ∷ bits 0x3ff399999999999a
+    ∷ bits 0xbff999999999999b ∷ bits 0xc002cccccccccccd ∷ bits 0xbff8666666666666
+    ∷ bits 0x3fe4cccccccccccc ∷ bits 0xbffcf5c28f5c28f6 ∷ bits 0x4002e147ae147ae2
+    ∷ bits 0x3ff6666666666667 ∷ bits 0xc00147ae147ae148 ∷ bits 0x3fff5c28f5c28f5c
+    ∷ bits 0x3fdc28f5c28f5c28 ∷ bits 0x3ffb851eb851eb84 ∷ bits 0x3ff570a3d70a3d70
+    ∷ bits 0xbff35c28f5c28f5c ∷ bits 0xbfef5c28f5c28f5c ∷ bits 0xbff4f5c28f5c28f4
+    ∷ bits 0x3ff28f5c28f5c290 ∷ bits 0x400251eb851eb852 ∷ bits 0x4002b851eb851eb8
+    ∷ bits 0x3ff6e147ae147ae2 ∷ bits 0xbf747ae147ae1600 ∷ bits 0x40008f5c28f5c28f
+    ∷ bits 0xc0000a3d70a3d70b ∷ bits 0xc004ae147ae147ae ∷ bits 0xc00551eb851eb852
+    ∷ bits 0xbfeab851eb851eba ∷ bits 0xc003f5c28f5c28f6 ∷ bits 0xbff4147ae147ae14
+    ∷ bits 0xbfd0000000000000 ∷ bits 0xc00399999999999a ∷ bits 0xbfe1999999999998
+    ∷ bits 0x3ff8147ae147ae14 ∷ bits 0xc002851eb851eb85 ∷ bits 0x3ff90a3d70a3d70a
+    ∷ bits 0x3fa9999999999990 ∷ bits 0xbff6eeeeeeeeeeef ∷ bits 0x3fdddddddddddde0
+    ∷ bits 0x3fd6666666666666 ∷ bits 0xbfdaaaaaaaaaaaac ∷ bits 0x3ff7bbbbbbbbbbbc ∷ []
+
+abbrev oddFace : List Float
+oddFace =
+    bits 0x3fd570a3d70a3d71 ∷ bits 0xbfee147ae147ae15 ∷ bits 0x40048f5c28f5c290
+    ∷ bits 0x3fe1eb851eb851ec ∷ bits 0x3fc47ae147ae1480 ∷ bits 0x400428f5c28f5c29
+    ∷ bits 0x3fe7ae147ae147ae ∷ bits 0x3ff0a3d70a3d70a4 ∷ bits 0x4003d70a3d70a3d7
+    ∷ bits 0x3fea8f5c28f5c290 ∷ bits 0x3ff7ae147ae147ae ∷ bits 0x4003ae147ae147ae
+    ∷ bits 0x3feee147ae147ae2 ∷ bits 0x40011eb851eb851f ∷ bits 0x400370a3d70a3d70
+    ∷ bits 0xbfd999999999999b ∷ bits 0xbffd99999999999a ∷ bits 0x3ff399999999999a
+    ∷ bits 0xbff999999999999b ∷ bits 0xc002cccccccccccd ∷ bits 0xbff8666666666666
+    ∷ bits 0x3fe4cccccccccccc ∷ bits 0xbffcf5c28f5c28f6 ∷ bits 0x4002e147ae147ae2
+    ∷ bits 0x3ff6666666666667 ∷ bits 0xc00147ae147ae148 ∷ bits 0x3fff5c28f5c28f5c
+    ∷ bits 0x3fdc28f5c28f5c28 ∷ bits 0x3ffb851eb851eb84 ∷ bits 0x3ff570a3d70a3d70
+    ∷ bits 0xbff35c28f5c28f5c ∷ bits 0xbfef5c28f5c28f5c ∷ bits 0xbff4f5c28f5c28f4
+    ∷ bits 0x3ff28f5c28f5c290 ∷ bits 0x400251eb851eb852 ∷ bits 0x4002b851eb851eb8
+    ∷ bits 0x3ff6e147ae147ae2 ∷ bits 0xbf747ae147ae1600 ∷ bits 0x40008f5c28f5c28f
+    ∷ bits 0xc0000a3d70a3d70b ∷ bits 0xc004ae147ae147ae ∷ bits 0xc00551eb851eb852
+    ∷ bits 0xbfeab851eb851eba ∷ bits 0xc003f5c28f5c28f6 ∷ bits 0xbff4147ae147ae14
+    ∷ bits 0xbfd0000000000000 ∷ bits 0xc00399999999999a ∷ bits 0xbfe1999999999998
+    ∷ bits 0x3ff8147ae147ae14 ∷ bits 0xc002851eb851eb85 ∷ bits 0x3ff90a3d70a3d70a
+    ∷ bits 0x3fd0851eb851eb85 ∷ bits 0xbfdb28f5c28f5c2a ∷ bits 0x3ff4eb851eb851ec
+    ∷ bits 0x3fbd1eb851eb851a ∷ bits 0xbff1828f5c28f5c3 ∷ bits 0x3fe44ccccccccccd ∷ []
+
 abbrev whole : List Float
 whole =
     bits 0x411e848000000000 ∷ bits 0xc11e848000000000 ∷ bits 0x400c000000000000
@@ -199,6 +242,17 @@ examples =
     ∷ cell (2 ∷ 1 ∷ 1 ∷ 1 ∷ 1 ∷ 2 ∷ []) otherNodes (twentieths 8 ∷ twentieths 17 ∷ twentieths 16 ∷ twentieths 9 ∷ twentieths 16 ∷ twentieths 17 ∷ twentieths 12 ∷ twentieths 17 ∷ []) 30 (result (9 ∷ [])) eight
     -- five points: the middle's three numbers differ too where the sum is multiplied by a fifth
     ∷ cell (0 ∷ 0 ∷ 1 ∷ 2 ∷ 1 ∷ 1 ∷ []) someNodes (twentieths 1 ∷ twentieths 1 ∷ twentieths 11 ∷ twentieths 6 ∷ twentieths 1 ∷ []) 18 (result (6 ∷ [])) five
+    -- two loops of length 8 one inside the other: each has a middle of its own, the first with i = 1, the second with i = 0. All six numbers differ where
+    -- i is counted from the upper node, where E and its opposite change places, with m below or without the 1 above, and from the means
+    ∷ cell (4 ∷ 2 ∷ 2 ∷ 2 ∷ 2 ∷ 4 ∷ []) someNodes
+    (twentieths 3 ∷ twentieths 8 ∷ twentieths 12 ∷ twentieths 17 ∷ twentieths 5 ∷ twentieths 15 ∷ twentieths 6 ∷ twentieths 16 ∷ twentieths 4 ∷ twentieths 14
+    ∷ twentieths 2 ∷ twentieths 11 ∷ twentieths 1 ∷ twentieths 7 ∷ twentieths 10 ∷ twentieths 19 ∷ [])
+    55 (result (18 ∷ [])) nested
+    -- a crossing more on 01, and with it faces of odd sums: the same two loops, with the means of their points
+    ∷ cell (5 ∷ 2 ∷ 2 ∷ 2 ∷ 2 ∷ 4 ∷ []) someNodes
+    (twentieths 3 ∷ twentieths 8 ∷ twentieths 12 ∷ twentieths 14 ∷ twentieths 17 ∷ twentieths 5 ∷ twentieths 15 ∷ twentieths 6 ∷ twentieths 16 ∷ twentieths 4
+    ∷ twentieths 14 ∷ twentieths 2 ∷ twentieths 11 ∷ twentieths 1 ∷ twentieths 7 ∷ twentieths 10 ∷ twentieths 19 ∷ [])
+    57 (result (19 ∷ [])) oddFace
     -- an open curve: one point, no middle
     ∷ onTwo 1 0 (half ∷ []) (result (1 ∷ [])) (replicate 3 (floatOf 0))
     -- middles by cell, not by crossing number

@@ -1,4 +1,5 @@
 pub mod Numbers
+pub mod Nested
 pub mod Points
 pub mod Rows
 pub mod Answer
@@ -6,4 +7,5 @@ pub mod Exact
 pub mod Done
 pub mod Work
 pub mod Examples
+pub mod NestExamples
 pub mod Claims

@@ -7,9 +7,9 @@ use Rattle.counting.specs.Range.{over, values}
 use Rattle.counting.specs.Pack.{row, col}
 use Rattle.place.specs.declared.Place.{Place}
 use Rattle.place.specs.Place.{between, placeAt}
-use Rattle.cell.specs.Middles.{cellMiddles}
 use Rattle.grid.specs.Grid.{Grid, cellCount, low, high, countOf, crossings}
 use Rattle.mesh.specs.Mesh.{gridCell}
+use Rattle.places.specs.Nested.{placedMiddles}
 
 module _ (counts : List ℕ) where
   -- the edge and the index of the crossing number g
@@ -26,7 +26,7 @@ module _ (edges counts : List ℕ) (nodes fractions : List Float) where
 
 module _ (G : Grid) (nodes fractions : List Float) where
   unfoldable pub middles : List Place
-  middles = over (λ c. cellMiddles (crossingPlace (G .edges) (G .counts) nodes fractions) (gridCell G c)) (cellCount (G .cells)) 0
+  middles = over (λ c. placedMiddles nodes (crossingPlace (G .edges) (G .counts) nodes fractions) (gridCell G c)) (cellCount (G .cells)) 0
 
   unfoldable pub points : List Place
   points = values (crossingPlace (G .edges) (G .counts) nodes fractions) (crossings (G .counts)) ++ middles

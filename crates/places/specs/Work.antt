@@ -65,13 +65,13 @@ pub record Placeable (edges counts : List ℕ) (fractions area : List Float) : T
 
 -- the middles of the fans of all cells, from the grid's tables
 module _ (cells counts names sides starts : List ℕ) where
-  unfoldable pub tableMiddles : (ℕ → Place) → List Place
-  tableMiddles place = over (λ c. cellMiddles place (tableCell cells counts names sides starts c)) (drawnCells cells) 0
+  unfoldable pub tableMiddles : List Float → (ℕ → Place) → List Place
+  tableMiddles nodes place = over (λ c. cellMiddles nodes place (tableCell cells counts names sides starts c)) (drawnCells cells) 0
 
   -- all points
   unfoldable pub tablePoints : (edges : List ℕ) (nodes fractions : List Float) → List Place
   tablePoints edges nodes fractions =
-      values (crossingPlace edges counts nodes fractions) (crossings counts) ++ tableMiddles (crossingPlace edges counts nodes fractions)
+      values (crossingPlace edges counts nodes fractions) (crossings counts) ++ tableMiddles nodes (crossingPlace edges counts nodes fractions)
 
   -- the tables of an accepted grid with n crossings: four nodes to a cell, two ends to an edge, and crossing numbers below n
   pub record Ready (edges : List ℕ) (n : ℕ) : Type 0 where

@@ -47,7 +47,7 @@ fn place_all(
         return r;
     }
     points::place_crossings(edges, counts, nodes, fractions, area);
-    cell::write_middles(cells, counts, names, sides, starts, area, n);
+    cell::write_middles(cells, counts, names, sides, starts, nodes, area, n);
     r
 }
 

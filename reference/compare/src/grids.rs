@@ -227,9 +227,49 @@ pub fn single_cell(rng: &mut Rng, most: u16) -> Sample {
 pub fn winding_cell(rng: &mut Rng) -> Sample {
     let corners = [(); 4].map(|()| rng.between(0, 500));
     let [x, y] = [(); 2].map(|()| rng.between(0, 1_500));
-    // of each pair of opposite edges: 01 and 23, 02 and 13, 03 and 12
     let mut left = [x + y, x, y];
     rng.shuffle(&mut left);
+    cell_keeping(corners, left)
+}
+
+/// One cell with one to `most` loops of length 8, one inside the other, and some
+/// triangles at each node.
+pub fn nested_cell(rng: &mut Rng, most: usize) -> Sample {
+    let corners = [(); 4].map(|()| rng.between(0, most));
+    let many = rng.between(1, most);
+    let mut left = [2 * many, many, many];
+    rng.shuffle(&mut left);
+    cell_keeping(corners, left)
+}
+
+/// The grid with a cell more, on one of the faces of its first cell; the counts of
+/// the new edges are up to `most`.
+pub fn with_neighbour(rng: &mut Rng, grid: &Sample, most: usize) -> Sample {
+    let mut cells = grid.cell_list();
+    let highest = grid.cells.iter().max().map_or(0, |&node| node);
+    let mut cell = cells[0];
+    cell[rng.below(4)] = highest + 1;
+    cells.push(cell);
+    let counts: BTreeMap<[u16; 2], u16> = grid
+        .edge_list()
+        .into_iter()
+        .zip(grid.counts.clone())
+        .collect();
+    let mut larger = Sample::from_cells(cells);
+    let edges = larger.edge_list();
+    larger.counts = edges
+        .iter()
+        .map(|ends| match counts.get(ends) {
+            Some(&count) => count,
+            None => rng.between(0, most) as u16,
+        })
+        .collect();
+    larger
+}
+
+/// One cell with so many triangles at each node, and so many crossings left on
+/// each of a pair of opposite edges: 01 and 23, 02 and 13, 03 and 12.
+fn cell_keeping(corners: [usize; 4], left: [usize; 3]) -> Sample {
     let ends = [[0, 1], [0, 2], [0, 3], [1, 2], [1, 3], [2, 3]];
     let mut grid = Sample::from_cells([[0, 1, 2, 3]]);
     for (edge, [u, v]) in ends.into_iter().enumerate() {

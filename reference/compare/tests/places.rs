@@ -3,12 +3,14 @@
 use std::thread;
 
 use compare::grids::{
-    by_rows, closed_grid, every_row, random_grid, single_cell, with_faults, Numbers,
+    by_rows, closed_grid, dealt, every_row, nested_cell, random_grid, single_cell, with_faults,
+    with_neighbour, Numbers,
 };
 use compare::lent::{after, answers, answers_in_all, Lent, ANSWER_WORDS};
 use compare::placing::{placing, spoiled, Kind, Placing, KINDS};
 use compare::{calls, expected, seed, setting};
-use reference::cell::{NO_NUMBER, TRIANGLE_WORDS};
+use reference::booking::loops;
+use reference::cell::{CellWalker, NO_NUMBER, TRIANGLE_WORDS};
 use reference::gen::{sphere, Rng, Sample};
 use reference::mesh::Mesher;
 
@@ -232,6 +234,40 @@ fn single_cells() {
             compare_kinds(&mut rng, &grid, &mut tally);
         }
         tally.report(&format!("single cells, counts 0..{most}"));
+    }
+}
+
+/// How many loops of length 8 the cell has, where it has no others than triangles.
+fn nested(grid: &Sample) -> usize {
+    let mut counts = [0; 6];
+    counts.copy_from_slice(&grid.counts);
+    let loops = loops(&mut CellWalker::default(), counts);
+    let others: Vec<u32> = loops.iter().map(|l| l.length).filter(|&n| n != 3).collect();
+    assert!(others.iter().all(|&length| length == 8), "{grid:?}");
+    others.len()
+}
+
+/// Cells with loops of length 8 one inside the other: alone, with any nodes, with
+/// a neighbour, and with one count changed.
+#[test]
+fn nested_cells() {
+    let mut rng = Rng::new(seed("nests"));
+    for (most, cells) in [(2, 300), (6, 300), (40, 100), (500, 10)] {
+        let mut tally = Tally::default();
+        let mut nests = 0;
+        for _ in 0..cells {
+            let cell = nested_cell(&mut rng, most);
+            nests += u64::from(nested(&cell) > 1);
+            let mut changed = cell.clone();
+            let edge = rng.below(6);
+            changed.counts[edge] += rng.between(1, 2) as u16;
+            let beside = with_neighbour(&mut rng, &cell, most);
+            for grid in [&cell, &dealt(&mut rng, &cell), &beside, &changed] {
+                compare_kinds(&mut rng, grid, &mut tally);
+            }
+        }
+        assert!(nests > 0);
+        tally.report(&format!("{nests} nests of up to {most} loops"));
     }
 }
 
