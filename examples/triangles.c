@@ -1,5 +1,5 @@
-/* From a bundle file to triangles in space: reads the bundle, meshes its grid,
- * places the crossings and the middles of fans, and prints each triangle with
+/* From a bundle file to triangles in space: reads the bundle, opens and meshes its
+ * grid, places the crossings and the middles of fans, and prints each triangle with
  * the places of its corners. README.md has the line that builds it.
  *
  * A bundle says which nodes and edges there are and how many crossings each edge
@@ -16,6 +16,7 @@
 static uint16_t cells[4 * CITTERNBLAZE_MOST_CELLS];
 static uint16_t edges[2 * CITTERNBLAZE_MOST_EDGES];
 static uint16_t counts[CITTERNBLAZE_MOST_EDGES];
+static uint32_t starts[CITTERNBLAZE_MOST_EDGES];
 static double nodes[3 * NODES];
 static double fractions[CITTERNBLAZE_MOST_CROSSINGS];
 
@@ -76,19 +77,29 @@ static void read_bundle(const char *name) {
   counts_len = (size_t)answer[2];
 }
 
+/* Fills in the starts of the grid, and gives the number of its crossings. */
+static size_t open_grid(void) {
+  citternblaze_open(cells, cells_len, edges, edges_len, counts, counts_len,
+                    starts, counts_len, answer, CITTERNBLAZE_ANSWER_WORDS);
+  expect_done("grid");
+  return (size_t)answer[1];
+}
+
 /* The triangles of the grid: how many, and their words. */
 static size_t mesh(uint32_t **words) {
   size_t triangles, length;
   /* without an area the call refuses with 12 and says how many there are */
-  citternblaze_mesh(cells, cells_len, edges, edges_len, counts, counts_len, NULL,
-                    0, answer, CITTERNBLAZE_ANSWER_WORDS);
+  citternblaze_mesh(cells, cells_len, edges, edges_len, counts, counts_len,
+                    starts, counts_len, NULL, 0, answer,
+                    CITTERNBLAZE_ANSWER_WORDS);
   if (answer[0] != CITTERNBLAZE_REFUSED_MESH_AREA)
     expect_done("mesh");
   triangles = (size_t)answer[1];
   length = CITTERNBLAZE_TRIANGLE_WORDS * triangles;
   *words = (uint32_t *)room(length * sizeof **words);
   citternblaze_mesh(cells, cells_len, edges, edges_len, counts, counts_len,
-                    *words, length, answer, CITTERNBLAZE_ANSWER_WORDS);
+                    starts, counts_len, *words, length, answer,
+                    CITTERNBLAZE_ANSWER_WORDS);
   expect_done("mesh");
   return triangles;
 }
@@ -101,14 +112,12 @@ static void node_places(void) {
       nodes[3 * node + axis] = node / 4 + (node % 4 == axis + 1);
 }
 
-/* The crossings of each edge at even distances; how many there are. The mesh call
- * took the grid, so they are no more than the list has room for. */
-static size_t even_fractions(void) {
-  size_t crossings = 0;
+/* The crossings of each edge at even distances. The grid is opened, so they are no
+ * more than the list has room for. */
+static void even_fractions(void) {
   for (size_t edge = 0; edge < counts_len; edge++)
     for (int index = 0; index < counts[edge]; index++)
-      fractions[crossings++] = (index + 1) / (counts[edge] + 1.0);
-  return crossings;
+      fractions[starts[edge] + index] = (index + 1) / (counts[edge] + 1.0);
 }
 
 /* Prints each triangle. The middles stand behind the crossings, one for each fan
@@ -147,15 +156,17 @@ int main(int argc, char **argv) {
     return 2;
   }
   read_bundle(argv[1]);
+  crossings = open_grid();
   triangles = mesh(&words);
   node_places();
-  crossings = even_fractions();
+  even_fractions();
   /* a fan has two triangles or more, so there are no more fans than triangles */
   length = 3 * (crossings + triangles);
   points = (double *)room(length * sizeof *points);
   citternblaze_places(cells, cells_len, edges, edges_len, counts, counts_len,
-                      nodes, 3 * NODES, fractions, crossings, points, length,
-                      answer, CITTERNBLAZE_ANSWER_WORDS);
+                      starts, counts_len, nodes, 3 * NODES, fractions,
+                      crossings, points, length, answer,
+                      CITTERNBLAZE_ANSWER_WORDS);
   expect_done("places");
   printf("crossings %lu middles %lu triangles %lu\n", (unsigned long)crossings,
          (unsigned long)(answer[1] - crossings), (unsigned long)triangles);

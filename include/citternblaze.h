@@ -23,9 +23,9 @@
  * - A processor of the kind x86-64, with no extension beyond SSE2, and the
  *   System V calling convention, as Linux has it.
  * - Of C's functions memcpy and memset, at most.
- * - Stack: CITTERNBLAZE_STACK_BYTES suffice for any call. The five calls on a
- *   grid take 264 to 530 KB, as measured, the bundle reader 151 KB, each other
- *   call under 1 KB.
+ * - Stack: CITTERNBLAZE_STACK_BYTES suffice for any call. The seven calls on a
+ *   grid take 264 to 483 KB, as measured, the bundle reader 148 KB,
+ *   citternblaze_case 2 KB, each other call under 1 KB.
  * - For citternblaze_places and citternblaze_nearest, 64-bit floating point as a C
  *   program finds it at its start: rounding to nearest, subnormal numbers on (no
  *   flush to zero), no exception trapped. The other calls do not compute with it.
@@ -104,9 +104,10 @@
 
 /* The refusals: the first number of an answer that is not a result. The second is
  * the refusal's place, as docs/FORMAT.md has it. They are judged in the order of
- * their numbers, but 18 directly after 6, and 22 directly after 13. */
+ * their numbers, but 18 directly after 6, and 22 directly after 13; of a setting
+ * 21, 18 and 10, after those of its grid. */
 #define CITTERNBLAZE_REFUSED_CELL_LIST 1     /* cells: length or number */
-#define CITTERNBLAZE_REFUSED_EDGE_LIST 2     /* edges: length */
+#define CITTERNBLAZE_REFUSED_EDGE_LIST 2     /* edges, starts: length, sums */
 #define CITTERNBLAZE_REFUSED_CELL_NODES 3    /* a cell's nodes */
 #define CITTERNBLAZE_REFUSED_CELL_REPEATED 4 /* a cell twice */
 #define CITTERNBLAZE_REFUSED_FACE_CROWDED 5  /* a face in three cells */
@@ -125,6 +126,7 @@
 #define CITTERNBLAZE_REFUSED_COUNT 18        /* a count over 4095 */
 #define CITTERNBLAZE_REFUSED_SHADING_AREA 19 /* not 4096 bytes */
 #define CITTERNBLAZE_REFUSED_NO_SHADING 20   /* the grid has no shading */
+#define CITTERNBLAZE_REFUSED_NO_EDGE 21      /* no such edge */
 #define CITTERNBLAZE_REFUSED_LOOK 22         /* a look for no edge */
 #define CITTERNBLAZE_REFUSED_POINTS 23       /* nearest: list or number */
 
@@ -177,8 +179,9 @@ size_t citternblaze_book(uint16_t e01, uint16_t e02, uint16_t e03,
 
 /* The grid check.
  *
- * Reads the cells, four nodes each; the edges, two nodes each; and a count for
- * each edge.
+ * Reads the cells, four nodes each; the edges, two nodes each; a count for each
+ * edge; and its start, the sum of the counts of all earlier edges, as
+ * citternblaze_open fills them in and citternblaze_set_count keeps them.
  *
  * Answers 0 and the number of crossings, where the grid is accepted; or the
  * number and the place of a refusal, 1 to 10 or 18. Takes up to 512 KB of the
@@ -186,12 +189,47 @@ size_t citternblaze_book(uint16_t e01, uint16_t e02, uint16_t e03,
 size_t citternblaze_check(const uint16_t *cells, size_t cells_len,
                           const uint16_t *edges, size_t edges_len,
                           const uint16_t *counts, size_t counts_len,
+                          const uint32_t *starts, size_t starts_len,
                           uint64_t *answer, size_t answer_len);
+
+/* The opening call. Checks a grid whose starts are not known, and fills them in.
+ *
+ * Reads the cells, edges and counts, as citternblaze_check does, and of the starts
+ * only how many there are: one for each count.
+ *
+ * Answers 0 and the number of crossings; or the number and the place of a
+ * refusal, 1 to 10 or 18, which keeps every start. Takes up to 512 KB of the
+ * stack. */
+size_t citternblaze_open(const uint16_t *cells, size_t cells_len,
+                         const uint16_t *edges, size_t edges_len,
+                         const uint16_t *counts, size_t counts_len,
+                         uint32_t *starts, size_t starts_len,
+                         uint64_t *answer, size_t answer_len);
+
+/* The setting call. Sets the count of one edge, and brings the starts of all later
+ * edges up to date. After any number of such calls on an accepted grid, with no
+ * other writing to its lists, every call answers as for a grid that is opened
+ * afresh with the counts that it then has.
+ *
+ * Reads the grid, as citternblaze_check does; the number of an edge, and the count
+ * that it is to have.
+ *
+ * Answers 0 and the number of crossings with this count; or the number and the
+ * place of a refusal: 1 to 10 and 18 as citternblaze_check has them for the grid
+ * as it is lent; 21 and the edge, where there is no such edge; 18 and the edge,
+ * where the count is over 4095; 10 and 0, where there would be too many crossings.
+ * A refusal keeps every count and every start. Takes up to 512 KB of the stack. */
+size_t citternblaze_set_count(const uint16_t *cells, size_t cells_len,
+                              const uint16_t *edges, size_t edges_len,
+                              uint16_t *counts, size_t counts_len,
+                              uint32_t *starts, size_t starts_len,
+                              size_t edge, uint16_t count,
+                              uint64_t *answer, size_t answer_len);
 
 /* The mesh call. Writes the triangles of a grid at the front of the area, eleven
  * words each, and keeps the area beyond them.
  *
- * Reads the cells, edges and counts, as citternblaze_check does.
+ * Reads the grid, as citternblaze_check does.
  *
  * The words of a triangle: its cell; p0, the least crossing of its loop; three
  * corners, each a crossing, or 4294967295 for the loop's middle point; three
@@ -212,14 +250,15 @@ size_t citternblaze_check(const uint16_t *cells, size_t cells_len,
 size_t citternblaze_mesh(const uint16_t *cells, size_t cells_len,
                          const uint16_t *edges, size_t edges_len,
                          const uint16_t *counts, size_t counts_len,
+                         const uint32_t *starts, size_t starts_len,
                          uint32_t *area, size_t area_len,
                          uint64_t *answer, size_t answer_len);
 
 /* The loops call. One loop of a cell; a cell's loops are ordered by their least
  * crossings.
  *
- * Reads the cells, edges and counts, as citternblaze_check does; the number of a
- * cell, and which of its loops is asked for, from 0.
+ * Reads the grid, as citternblaze_check does; the number of a cell, and which of
+ * its loops is asked for, from 0.
  *
  * Answers 0; p0, the loop's least crossing; its length; 1 where it is normal, or
  * else 0; and its type: 0, contractible; 1 and a node, the corner that it cuts
@@ -231,6 +270,7 @@ size_t citternblaze_mesh(const uint16_t *cells, size_t cells_len,
 size_t citternblaze_loops(const uint16_t *cells, size_t cells_len,
                           const uint16_t *edges, size_t edges_len,
                           const uint16_t *counts, size_t counts_len,
+                          const uint32_t *starts, size_t starts_len,
                           size_t cell, size_t index,
                           uint64_t *answer, size_t answer_len);
 
@@ -240,10 +280,9 @@ size_t citternblaze_loops(const uint16_t *cells, size_t cells_len,
  * mean of a loop's points, but where loops of length 8 lie one inside the other,
  * each at a place of its own between the middles of two opposite edges.
  *
- * Reads the cells, edges and counts, as citternblaze_check does; the places of
- * the nodes, three numbers for each node from 0 to the highest of a cell; and a
- * fraction for each crossing, which says how far from its edge's lower node to
- * the higher it lies.
+ * Reads the grid, as citternblaze_check does; the places of the nodes, three
+ * numbers for each node from 0 to the highest of a cell; and a fraction for each
+ * crossing, which says how far from its edge's lower node to the higher it lies.
  *
  * Answers 0 and the number of points; or the number and the place of a refusal:
  * 1 to 10 and 18 as citternblaze_check has them; 15 and 0 where the list of
@@ -255,6 +294,7 @@ size_t citternblaze_loops(const uint16_t *cells, size_t cells_len,
 size_t citternblaze_places(const uint16_t *cells, size_t cells_len,
                            const uint16_t *edges, size_t edges_len,
                            const uint16_t *counts, size_t counts_len,
+                           const uint32_t *starts, size_t starts_len,
                            const double *nodes, size_t nodes_len,
                            const double *fractions, size_t fractions_len,
                            double *area, size_t area_len,
@@ -266,7 +306,7 @@ size_t citternblaze_places(const uint16_t *cells, size_t cells_len,
  * area[n]. The lowest node of each connected part of the grid has 0; nodes are
  * connected where edges lead from the one to the other.
  *
- * Reads the cells, edges and counts, as citternblaze_check does.
+ * Reads the grid, as citternblaze_check does.
  *
  * Answers 0; or the number and the place of a refusal: 1 to 10 and 18 as
  * citternblaze_check has them; 19 and 0 where the area is not 4096 bytes; 20 and
@@ -276,6 +316,7 @@ size_t citternblaze_places(const uint16_t *cells, size_t cells_len,
 size_t citternblaze_shading(const uint16_t *cells, size_t cells_len,
                             const uint16_t *edges, size_t edges_len,
                             const uint16_t *counts, size_t counts_len,
+                            const uint32_t *starts, size_t starts_len,
                             uint8_t *area, size_t area_len,
                             uint64_t *answer, size_t answer_len);
 

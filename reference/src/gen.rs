@@ -3,7 +3,7 @@
 
 use std::collections::{BTreeMap, BTreeSet};
 
-use crate::grid::{MAX_CELLS, MAX_COUNT, MAX_CROSSINGS, NODE_LIMIT};
+use crate::grid::{fill_starts, Lists, MAX_CELLS, MAX_COUNT, MAX_CROSSINGS, NODE_LIMIT};
 
 /// A small random generator (splitmix64).
 #[derive(Clone)]
@@ -43,7 +43,7 @@ impl Rng {
     }
 }
 
-/// The three lists of a grid.
+/// The lists of a grid without its starts.
 #[derive(Clone, Debug, PartialEq, Eq)]
 pub struct Sample {
     pub cells: Vec<u16>,
@@ -68,6 +68,23 @@ impl Sample {
             counts: vec![0; edges.len()],
             cells: sorted.into_iter().flatten().collect(),
             edges: edges.into_iter().flatten().collect(),
+        }
+    }
+
+    /// The starts that the edges should have.
+    pub fn starts(&self) -> Vec<u32> {
+        let mut starts = vec![0; self.counts.len()];
+        fill_starts(&self.counts, &mut starts);
+        starts
+    }
+
+    /// The grid with these starts.
+    pub fn lists<'a>(&'a self, starts: &'a [u32]) -> Lists<'a> {
+        Lists {
+            cells: &self.cells,
+            edges: &self.edges,
+            counts: &self.counts,
+            starts,
         }
     }
 

@@ -25,12 +25,13 @@ const NODE_BITS: u32 = 12;
 const CELL_BITS: u32 = 11;
 const FACE_BITS: u32 = CELL_BITS + 2;
 
-/// The caller's three lists.
+/// The caller's lists.
 #[derive(Clone, Copy)]
 pub struct Lists<'a> {
     pub cells: &'a [u16],
     pub edges: &'a [u16],
     pub counts: &'a [u16],
+    pub starts: &'a [u32],
 }
 
 impl Lists<'_> {
@@ -58,8 +59,6 @@ pub struct GridTables {
     pub twins: Vec<u16>,
     /// By cell and slot: the name of the face.
     pub face_names: Vec<u16>,
-    /// Number of the first crossing on each edge.
-    pub starts: Vec<u32>,
     keys: Vec<u64>,
     edge_keys: Vec<u32>,
     first_edges: Vec<u32>,
@@ -69,19 +68,90 @@ pub struct GridTables {
 }
 
 /// The grid check: the number of crossings of an accepted grid.
-pub fn check(cells: &[u16], edges: &[u16], counts: &[u16]) -> Result<u32, Refusal> {
+pub fn check(lists: Lists) -> Result<u32, Refusal> {
+    GridTables::default().check(lists)
+}
+
+/// Fills the starts of a grid, if it has no other fault than wrong ones; tells
+/// its crossings.
+pub fn open(
+    cells: &[u16],
+    edges: &[u16],
+    counts: &[u16],
+    starts: &mut [u32],
+) -> Result<u32, Refusal> {
     let lists = Lists {
         cells,
         edges,
         counts,
+        starts,
     };
-    GridTables::default().check(&lists)
+    check_lengths(lists)?;
+    let crossings = GridTables::default().check_rest(lists)?;
+    fill_starts(counts, starts);
+    Ok(crossings)
+}
+
+/// Sets the count of one edge of a grid and puts its starts right; tells its
+/// crossings.
+pub fn set_count(
+    cells: &[u16],
+    edges: &[u16],
+    counts: &mut [u16],
+    starts: &mut [u32],
+    edge: usize,
+    count: u16,
+) -> Result<u32, Refusal> {
+    let lists = Lists {
+        cells,
+        edges,
+        counts,
+        starts,
+    };
+    check(lists)?;
+    if edge >= counts.len() {
+        return refuse(21, edge);
+    }
+    if count > MAX_COUNT {
+        return refuse(18, edge);
+    }
+    let others = counts.iter().enumerate().filter(|&(at, _)| at != edge);
+    let total = u64::from(count) + others.map(|(_, &other)| u64::from(other)).sum::<u64>();
+    if total > MAX_CROSSINGS {
+        return refuse(10, 0);
+    }
+    counts[edge] = count;
+    fill_starts(counts, starts);
+    Ok(total as u32)
+}
+
+/// The sum of the earlier counts, for each edge.
+fn sums(counts: &[u16]) -> impl Iterator<Item = u64> + '_ {
+    counts.iter().scan(0, |total, &count| {
+        let sum = *total;
+        *total += u64::from(count);
+        Some(sum)
+    })
+}
+
+/// Gives each edge its sum, which has 32 bits in a grid without another fault.
+pub fn fill_starts(counts: &[u16], starts: &mut [u32]) {
+    for (start, sum) in starts.iter_mut().zip(sums(counts)) {
+        *start = sum as u32;
+    }
 }
 
 impl GridTables {
     /// Checks a grid and fills the tables; they mean nothing after a refusal.
-    pub fn check(&mut self, lists: &Lists) -> Result<u32, Refusal> {
+    pub fn check(&mut self, lists: Lists) -> Result<u32, Refusal> {
         check_lengths(lists)?;
+        check_starts(lists)?;
+        self.check_rest(lists)
+    }
+
+    /// The rows after 2.
+    fn check_rest(&mut self, lists: Lists) -> Result<u32, Refusal> {
+        let lists = &lists;
         check_nodes(lists)?;
         self.check_repeated_cells(lists)?;
         self.pair_faces(lists)?;
@@ -89,7 +159,7 @@ impl GridTables {
         check_counts(lists)?;
         self.find_cell_edges(lists)?;
         self.check_stars()?;
-        self.number_crossings(lists)
+        count_crossings(lists)
     }
 
     /// Row 4.
@@ -243,32 +313,29 @@ impl GridTables {
             rank = rank_in_face(left, position);
         }
     }
-
-    /// Row 10.
-    fn number_crossings(&mut self, lists: &Lists) -> Result<u32, Refusal> {
-        self.starts.clear();
-        let mut total = 0;
-        for &count in lists.counts {
-            self.starts.push(total as u32);
-            total += u64::from(count);
-        }
-        if total > MAX_CROSSINGS {
-            return refuse(10, 0);
-        }
-        Ok(total as u32)
-    }
 }
 
-/// Rows 1 and 2.
-fn check_lengths(lists: &Lists) -> Result<(), Refusal> {
+/// Row 1, and the numbers of row 2.
+fn check_lengths(lists: Lists) -> Result<(), Refusal> {
     let whole = lists.cells.len() % 4 == 0;
     if !whole || lists.cells.is_empty() || lists.cell_count() > MAX_CELLS {
         return refuse(1, 0);
     }
-    if lists.edges.len() != 2 * lists.counts.len() {
+    let edges = lists.counts.len();
+    if lists.edges.len() != 2 * edges || lists.starts.len() != edges {
         return refuse(2, 0);
     }
     Ok(())
+}
+
+/// The sums of row 2.
+fn check_starts(lists: Lists) -> Result<(), Refusal> {
+    let starts = lists.starts.iter().map(|&start| u64::from(start));
+    if starts.eq(sums(lists.counts)) {
+        Ok(())
+    } else {
+        refuse(2, 0)
+    }
 }
 
 /// Row 3.
@@ -281,6 +348,15 @@ fn check_nodes(lists: &Lists) -> Result<(), Refusal> {
         Some(cell) => refuse(3, cell),
         None => Ok(()),
     }
+}
+
+/// Row 10.
+fn count_crossings(lists: &Lists) -> Result<u32, Refusal> {
+    let total: u64 = lists.counts.iter().map(|&count| u64::from(count)).sum();
+    if total > MAX_CROSSINGS {
+        return refuse(10, 0);
+    }
+    Ok(total as u32)
 }
 
 /// Row 18.

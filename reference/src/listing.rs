@@ -4,6 +4,7 @@ use std::fmt::Write;
 
 use crate::bundle;
 use crate::cell::{NO_NUMBER, TRIANGLE_WORDS};
+use crate::grid::{self, Lists};
 use crate::mesh::mesh;
 use crate::Refusal;
 
@@ -29,9 +30,16 @@ fn list_mesh(input: &[u8]) -> Result<String, Refusal> {
     cells.truncate(4 * sizes.cells);
     edges.truncate(2 * sizes.edges);
     counts.truncate(sizes.edges);
+    let mut starts = vec![0; sizes.edges];
+    let crossings = grid::open(&cells, &edges, &counts, &mut starts)?;
+    let lists = Lists {
+        cells: &cells,
+        edges: &edges,
+        counts: &counts,
+        starts: &starts,
+    };
     let mut area = vec![0; MAX_TRIANGLES * TRIANGLE_WORDS];
-    let triangles = mesh(&cells, &edges, &counts, &mut area)?;
-    let crossings: u32 = counts.iter().map(|&count| u32::from(count)).sum();
+    let triangles = mesh(lists, &mut area)?;
     let mut text = format!(
         "cells {} edges {} crossings {crossings} triangles {triangles}\n",
         sizes.cells, sizes.edges

@@ -37,41 +37,19 @@ pub struct Mesher {
 }
 
 /// Writes the mesh of a grid into `area`; the answer is its triangles.
-pub fn mesh(
-    cells: &[u16],
-    edges: &[u16],
-    counts: &[u16],
-    area: &mut [u32],
-) -> Result<u32, Refusal> {
-    Mesher::default().mesh(cells, edges, counts, area)
+pub fn mesh(lists: Lists, area: &mut [u32]) -> Result<u32, Refusal> {
+    Mesher::default().mesh(lists, area)
 }
 
 /// Tells of loop `index` of a cell, if the cell has so many.
-pub fn loop_of_cell(
-    cells: &[u16],
-    edges: &[u16],
-    counts: &[u16],
-    cell: u64,
-    index: u64,
-) -> Result<Option<LoopAnswer>, Refusal> {
-    Mesher::default().loop_of_cell(cells, edges, counts, cell, index)
+pub fn loop_of_cell(lists: Lists, cell: u64, index: u64) -> Result<Option<LoopAnswer>, Refusal> {
+    Mesher::default().loop_of_cell(lists, cell, index)
 }
 
 impl Mesher {
     /// As the free function, with this memory.
-    pub fn mesh(
-        &mut self,
-        cells: &[u16],
-        edges: &[u16],
-        counts: &[u16],
-        area: &mut [u32],
-    ) -> Result<u32, Refusal> {
-        let lists = Lists {
-            cells,
-            edges,
-            counts,
-        };
-        self.tables.check(&lists)?;
+    pub fn mesh(&mut self, lists: Lists, area: &mut [u32]) -> Result<u32, Refusal> {
+        self.tables.check(lists)?;
         let triangles = self.trace_grid(&lists) as usize;
         if area.len() / TRIANGLE_WORDS < triangles {
             return refuse(12, triangles);
@@ -83,18 +61,11 @@ impl Mesher {
     /// As the free function, with this memory.
     pub fn loop_of_cell(
         &mut self,
-        cells: &[u16],
-        edges: &[u16],
-        counts: &[u16],
+        lists: Lists,
         cell: u64,
         index: u64,
     ) -> Result<Option<LoopAnswer>, Refusal> {
-        let lists = Lists {
-            cells,
-            edges,
-            counts,
-        };
-        self.tables.check(&lists)?;
+        self.tables.check(lists)?;
         if cell >= lists.cell_count() as u64 {
             return Err(Refusal {
                 number: 11,
@@ -106,7 +77,7 @@ impl Mesher {
 
     /// Checks a grid and traces all its loops; the answer is its crossings.
     pub(crate) fn prepare(&mut self, lists: &Lists) -> Result<u32, Refusal> {
-        let crossings = self.tables.check(lists)?;
+        let crossings = self.tables.check(*lists)?;
         self.trace_grid(lists);
         Ok(crossings)
     }
@@ -187,7 +158,7 @@ impl Mesher {
         for position in 0..6 {
             let edge = edges[position] as usize;
             counts[position] = u32::from(lists.counts[edge]);
-            starts[position] = self.tables.starts[edge];
+            starts[position] = lists.starts[edge];
         }
         (counts, starts)
     }

@@ -56,18 +56,12 @@ impl Place {
 /// Writes the places of crossings and middles, three numbers to a point; the
 /// answer is the points written.
 pub fn places(
-    cells: &[u16],
-    edges: &[u16],
-    counts: &[u16],
+    lists: Lists,
     node_places: &[f64],
     fractions: &[f64],
     area: &mut [f64],
 ) -> Result<u32, Refusal> {
-    let lists = Lists {
-        cells,
-        edges,
-        counts,
-    };
+    let Lists { cells, counts, .. } = lists;
     let mut mesher = Mesher::default();
     let crossings = mesher.prepare(&lists)? as usize;
     let points = crossings + mesher.fans().count();

@@ -25,24 +25,13 @@ pub struct Shader {
 
 /// Writes 0 or 1 for each node of a cell into an area of one byte a node, and
 /// 255 for the others.
-pub fn shade(cells: &[u16], edges: &[u16], counts: &[u16], area: &mut [u8]) -> Result<(), Refusal> {
-    Shader::default().shade(cells, edges, counts, area)
+pub fn shade(lists: Lists, area: &mut [u8]) -> Result<(), Refusal> {
+    Shader::default().shade(lists, area)
 }
 
 impl Shader {
-    pub fn shade(
-        &mut self,
-        cells: &[u16],
-        edges: &[u16],
-        counts: &[u16],
-        area: &mut [u8],
-    ) -> Result<(), Refusal> {
-        let lists = Lists {
-            cells,
-            edges,
-            counts,
-        };
-        self.tables.check(&lists)?;
+    pub fn shade(&mut self, lists: Lists, area: &mut [u8]) -> Result<(), Refusal> {
+        self.tables.check(lists)?;
         if area.len() != NODES {
             return refuse(19, 0);
         }

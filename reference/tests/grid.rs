@@ -4,11 +4,11 @@ use reference::gen::{
     self, box_of_five, box_of_six, box_ring, broken, closed_fan, gathered, open_fan, random_shape,
     ring, separate, Rng, Sample,
 };
-use reference::grid::{check, GridTables, Lists, NO_TWIN, ROWS};
+use reference::grid::{check, open, set_count, GridTables, NO_TWIN, ROWS};
 use reference::Refusal;
 
 fn verdict(grid: &Sample) -> Result<u32, (u8, u64)> {
-    let answer = check(&grid.cells, &grid.edges, &grid.counts);
+    let answer = check(grid.lists(&grid.starts()));
     answer.map_err(|Refusal { number, place }| (number, place))
 }
 
@@ -464,9 +464,10 @@ fn compare_edges(tables: &GridTables, grid: &Sample) {
         let [a, b, c, d] = *cell;
         assert_eq!(listed, [[a, b], [a, c], [a, d], [b, c], [b, d], [c, d]]);
     }
+    let starts = grid.starts();
     for edge in 0..edges.len() {
         let earlier = grid.counts[..edge].iter().map(|&count| u32::from(count));
-        assert_eq!(tables.starts[edge], earlier.sum());
+        assert_eq!(starts[edge], earlier.sum());
     }
 }
 
@@ -477,13 +478,99 @@ fn tables_of_an_accepted_grid() {
     for seed in 0..40 {
         let grid = random_shape(&mut Rng::new(seed)).with_counts(&mut rng, 0, 9);
         let grid = grid.reordered(&mut rng);
-        let lists = Lists {
-            cells: &grid.cells,
-            edges: &grid.edges,
-            counts: &grid.counts,
-        };
-        assert!(tables.check(&lists).is_ok());
+        assert!(tables.check(grid.lists(&grid.starts())).is_ok());
         compare_faces(&tables, &grid.cell_list());
         compare_edges(&tables, &grid);
+    }
+}
+
+/// The cell with counts 1 to 6, whose starts are these.
+const SUMS: [u32; 6] = [0, 1, 3, 6, 10, 15];
+
+fn refused<T>(number: u8, place: u64) -> Result<T, Refusal> {
+    Err(Refusal { number, place })
+}
+
+#[test]
+fn row_2_of_starts() {
+    let grid = one_cell([1, 2, 3, 4, 5, 6]);
+    assert_eq!(grid.starts(), SUMS);
+    assert_eq!(check(grid.lists(&SUMS)), Ok(21));
+    let mut longer = SUMS.to_vec();
+    longer.push(21);
+    let last = [0, 1, 3, 6, 10, 14];
+    let own = [1, 3, 6, 10, 15, 21];
+    let high = [0, 1, 3, 6 + (1 << 31), 10, 15];
+    for starts in [&SUMS[..5], &longer, &last, &own, &high, &[]] {
+        assert_eq!(check(grid.lists(starts)), refused(2, 0), "{starts:?}");
+    }
+    let mut falling = grid.clone();
+    falling.cells = vec![0, 2, 1, 3];
+    assert_eq!(check(falling.lists(&last)), refused(2, 0));
+    assert_eq!(check(falling.lists(&SUMS)), refused(3, 0));
+    falling.cells.push(4);
+    assert_eq!(check(falling.lists(&last)), refused(1, 0));
+}
+
+#[test]
+fn opening_fills_the_starts() {
+    let grid = one_cell([1, 2, 3, 4, 5, 6]);
+    let mut starts = [9; 6];
+    let answer = open(&grid.cells, &grid.edges, &grid.counts, &mut starts);
+    assert_eq!((answer, starts), (Ok(21), SUMS));
+    for many in [0, 5, 7] {
+        let mut starts = vec![9; many];
+        let answer = open(&grid.cells, &grid.edges, &grid.counts, &mut starts);
+        assert_eq!((answer, starts), (refused(2, 0), vec![9; many]));
+    }
+    let over = one_cell([1, 2, 4_096, 4, 5, 6]);
+    let mut starts = [9; 6];
+    let answer = open(&over.cells, &over.edges, &over.counts, &mut starts);
+    assert_eq!((answer, starts), (refused(18, 2), [9; 6]));
+}
+
+/// Settings in turn: what is answered, and the counts and starts after each.
+#[test]
+fn settings_in_turn() {
+    let mut grid = one_cell([1, 2, 3, 4, 5, 6]);
+    let mut starts = SUMS;
+    let first = ([1, 2, 7, 4, 5, 6], [0, 1, 3, 10, 14, 19]);
+    let second = ([0, 2, 7, 4, 5, 6], [0, 0, 2, 9, 13, 18]);
+    for (edge, count, answer, after) in [
+        (2, 7, Ok(25), first),
+        (6, 4_096, refused(21, 6), first),
+        (2, 4_096, refused(18, 2), first),
+        (0, 0, Ok(24), second),
+        (usize::MAX, 0, refused(21, u64::MAX), second),
+        (2, 7, Ok(24), second),
+    ] {
+        let (cells, edges, counts) = (&grid.cells, &grid.edges, &mut grid.counts);
+        let answered = set_count(cells, edges, counts, &mut starts, edge, count);
+        assert_eq!(answered, answer);
+        assert_eq!((&grid.counts[..], starts), (&after.0[..], after.1));
+    }
+}
+
+/// The new total has the new count in it and not the old one; the grid as it
+/// stands is judged first.
+#[test]
+fn settings_of_full_grids() {
+    let mut full = separate(3);
+    full.counts.fill(4_095);
+    full.counts[16..].copy_from_slice(&[15, 0]);
+    for (last, edge, count, answer) in [
+        (0, 17, 1, refused(10, 0)),
+        (0, 17, 4_096, refused(18, 17)),
+        (0, 0, 4_095, Ok(65_535)),
+        (0, 16, 14, Ok(65_534)),
+        (1, 18, 0, refused(10, 0)),
+    ] {
+        let mut grid = full.clone();
+        grid.counts[17] = last;
+        let mut starts = grid.starts();
+        let (cells, edges, counts) = (&grid.cells, &grid.edges, &mut grid.counts);
+        let answered = set_count(cells, edges, counts, &mut starts, edge, count);
+        assert_eq!(answered, answer);
+        assert_eq!(starts, grid.starts());
     }
 }

@@ -9,13 +9,8 @@ use reference::manifold::{inspect, should_close, Report};
 use reference::mesh::mesh;
 
 fn words_of(grid: &Sample) -> Vec<u32> {
-    let Sample {
-        cells,
-        edges,
-        counts,
-    } = grid;
     let mut area = vec![0; 3_000_000];
-    let triangles = mesh(cells, edges, counts, &mut area).expect("an accepted grid");
+    let triangles = mesh(grid.lists(&grid.starts()), &mut area).expect("an accepted grid");
     area.truncate(triangles as usize * TRIANGLE_WORDS);
     area
 }

@@ -21,13 +21,10 @@ fn one_cell(counts: [u16; 6]) -> Sample {
 
 /// Triangles of a grid; also tries areas that are too short, exact and long.
 fn words_of(grid: &Sample) -> Vec<u32> {
-    let Sample {
-        cells,
-        edges,
-        counts,
-    } = grid;
+    let starts = grid.starts();
+    let lists = grid.lists(&starts);
     let mut mesher = Mesher::default();
-    let needed = match mesher.mesh(cells, edges, counts, &mut []) {
+    let needed = match mesher.mesh(lists, &mut []) {
         Ok(triangles) => triangles as usize,
         Err(refusal) => {
             assert_eq!(refusal.number, 12);
@@ -42,28 +39,21 @@ fn words_of(grid: &Sample) -> Vec<u32> {
             number: 12,
             place: needed as u64,
         };
-        assert_eq!(mesher.mesh(cells, edges, counts, &mut short), Err(refusal));
+        assert_eq!(mesher.mesh(lists, &mut short), Err(refusal));
         assert!(short.iter().all(|&word| word == UNTOUCHED));
     }
     let mut long = vec![UNTOUCHED; exact + 30];
-    assert_eq!(mesh(cells, edges, counts, &mut long), Ok(needed as u32));
+    assert_eq!(mesh(lists, &mut long), Ok(needed as u32));
     assert!(long[exact..].iter().all(|&word| word == UNTOUCHED));
     let mut area = vec![UNTOUCHED; exact];
-    assert_eq!(
-        mesher.mesh(cells, edges, counts, &mut area),
-        Ok(needed as u32)
-    );
+    assert_eq!(mesher.mesh(lists, &mut area), Ok(needed as u32));
     assert_eq!(area, long[..exact]);
     area
 }
 
 fn loops_of(grid: &Sample, cell: u64) -> Vec<LoopAnswer> {
-    let Sample {
-        cells,
-        edges,
-        counts,
-    } = grid;
-    let ask = |k| loop_of_cell(cells, edges, counts, cell, k).expect("the grid is accepted");
+    let starts = grid.starts();
+    let ask = |k| loop_of_cell(grid.lists(&starts), cell, k).expect("the grid is accepted");
     let found: Vec<LoopAnswer> = (0..).map_while(ask).collect();
     assert_eq!(ask(found.len() as u64 + 1), None);
     assert_eq!(ask(u64::MAX >> 40), None);
@@ -222,17 +212,13 @@ const LOOPS_ASKED: usize = 60;
 /// Compares mesh and loops with the plain mesher; answers the triangles.
 fn compare(grid: &Sample) -> usize {
     let mut expected = Vec::new();
+    let starts = grid.starts();
     let mut mesher = Mesher::default();
     for (cell, nodes) in grid.cell_list().iter().enumerate() {
         let data = plain_cell(grid, cell);
         let found = plain_loops(data.counts);
         let mut ask = |k: usize| {
-            let Sample {
-                cells,
-                edges,
-                counts,
-            } = grid;
-            let answer = mesher.loop_of_cell(cells, edges, counts, cell as u64, k as u64);
+            let answer = mesher.loop_of_cell(grid.lists(&starts), cell as u64, k as u64);
             answer.expect("the grid is accepted")
         };
         assert_eq!(ask(found.len()), None);
@@ -307,19 +293,16 @@ fn row_18_of_both_calls() {
     for edge in 0..6 {
         let mut grid = one_cell([1, 1, 1, 0, 0, 0]);
         grid.counts[edge] = 4096;
-        let Sample {
-            cells,
-            edges,
-            counts,
-        } = grid;
+        let starts = grid.starts();
+        let lists = grid.lists(&starts);
         let refusal = Refusal {
             number: 18,
             place: edge as u64,
         };
         let mut area = [UNTOUCHED; 20];
-        assert_eq!(mesh(&cells, &edges, &counts, &mut area), Err(refusal));
+        assert_eq!(mesh(lists, &mut area), Err(refusal));
         assert_eq!(area, [UNTOUCHED; 20]);
-        assert_eq!(loop_of_cell(&cells, &edges, &counts, 9, 0), Err(refusal));
+        assert_eq!(loop_of_cell(lists, 9, 0), Err(refusal));
     }
 }
 
@@ -434,71 +417,61 @@ fn forty_two_full_cells() {
     let mut rng = Rng::new(0);
     let full = separate(42).with_counts(&mut rng, 255, 255);
     assert_eq!(words_of(&full).len(), 42 * 4 * 127 * TRIANGLE_WORDS);
-    let Sample {
-        cells,
-        edges,
-        counts,
-    } = separate(43).with_counts(&mut rng, 255, 255);
+    let grid = separate(43).with_counts(&mut rng, 255, 255);
+    let starts = grid.starts();
+    let lists = grid.lists(&starts);
     let refusal = Refusal {
         number: 10,
         place: 0,
     };
-    assert_eq!(mesh(&cells, &edges, &counts, &mut []), Err(refusal));
-    assert_eq!(loop_of_cell(&cells, &edges, &counts, 99, 0), Err(refusal));
+    assert_eq!(mesh(lists, &mut []), Err(refusal));
+    assert_eq!(loop_of_cell(lists, 99, 0), Err(refusal));
 }
 
 #[test]
 fn row_11_no_such_cell() {
-    let Sample {
-        cells,
-        edges,
-        counts,
-    } = one_cell([2; 6]);
+    let grid = one_cell([2; 6]);
+    let starts = grid.starts();
+    let lists = grid.lists(&starts);
     for cell in [1, 2, 2048, u64::MAX] {
         let refusal = Refusal {
             number: 11,
             place: cell,
         };
-        assert_eq!(loop_of_cell(&cells, &edges, &counts, cell, 0), Err(refusal));
+        assert_eq!(loop_of_cell(lists, cell, 0), Err(refusal));
     }
 }
 
 #[test]
 fn row_12_short_area() {
-    let Sample {
-        cells,
-        edges,
-        counts,
-    } = one_cell([1, 1, 1, 0, 0, 0]);
+    let grid = one_cell([1, 1, 1, 0, 0, 0]);
+    let starts = grid.starts();
+    let lists = grid.lists(&starts);
     let mut area = [UNTOUCHED; 10];
     let refusal = Refusal {
         number: 12,
         place: 1,
     };
-    assert_eq!(mesh(&cells, &edges, &counts, &mut area), Err(refusal));
+    assert_eq!(mesh(lists, &mut area), Err(refusal));
     assert_eq!(area, [UNTOUCHED; 10]);
-    let Sample {
-        cells,
-        edges,
-        counts,
-    } = one_cell([1, 0, 0, 0, 0, 0]);
-    assert_eq!(mesh(&cells, &edges, &counts, &mut []), Ok(0));
+    let grid = one_cell([1, 0, 0, 0, 0, 0]);
+    let starts = grid.starts();
+    let lists = grid.lists(&starts);
+    assert_eq!(mesh(lists, &mut []), Ok(0));
 }
 
 #[test]
 fn a_refused_grid_leaves_the_area() {
-    let Sample {
-        cells,
-        edges,
-        mut counts,
-    } = one_cell([1, 1, 1, 0, 0, 0]);
-    counts.push(0);
+    let mut grid = one_cell([1, 1, 1, 0, 0, 0]);
+    grid.counts.push(0);
+    let starts = grid.starts();
+    let lists = grid.lists(&starts);
     let mut area = [UNTOUCHED; 20];
     let refusal = Refusal {
         number: 2,
         place: 0,
     };
-    assert_eq!(mesh(&cells, &edges, &counts, &mut area), Err(refusal));
+    assert_eq!(mesh(lists, &mut area), Err(refusal));
     assert_eq!(area, [UNTOUCHED; 20]);
 }
 
@@ -512,15 +485,12 @@ fn memory_is_reused_safely() {
         if rng.below(4) == 0 {
             grid.cells[0] = 4096;
         }
-        let Sample {
-            cells,
-            edges,
-            counts,
-        } = &grid;
+        let starts = grid.starts();
+        let lists = grid.lists(&starts);
         let mut area = vec![UNTOUCHED; 600_000];
         let mut other = area.clone();
-        let answer = mesher.mesh(cells, edges, counts, &mut area);
-        assert_eq!(answer, mesh(cells, edges, counts, &mut other));
+        let answer = mesher.mesh(lists, &mut area);
+        assert_eq!(answer, mesh(lists, &mut other));
         assert_eq!(area, other);
     }
 }

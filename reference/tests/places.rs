@@ -31,15 +31,9 @@ struct Call {
 
 impl Call {
     fn run(&mut self) -> Result<u32, Refusal> {
-        let Sample {
-            cells,
-            edges,
-            counts,
-        } = &self.grid;
+        let starts = self.grid.starts();
         places(
-            cells,
-            edges,
-            counts,
+            self.grid.lists(&starts),
             &self.nodes,
             &self.fractions,
             &mut self.area,
@@ -97,13 +91,8 @@ fn call(rng: &mut Rng, grid: Sample, whole: bool) -> Call {
 /// The loops of a grid's mesh, each with its cell and the first corners of its
 /// triangles; of a fan these are its points in order.
 fn loops_of_mesh(grid: &Sample) -> Vec<(usize, bool, Vec<usize>)> {
-    let Sample {
-        cells,
-        edges,
-        counts,
-    } = grid;
     let mut area = vec![0; 2_000_000];
-    let triangles = mesh(cells, edges, counts, &mut area).expect("an accepted grid");
+    let triangles = mesh(grid.lists(&grid.starts()), &mut area).expect("an accepted grid");
     let mut found: Vec<((u32, u32), bool, Vec<usize>)> = Vec::new();
     for words in area.chunks(TRIANGLE_WORDS).take(triangles as usize) {
         let name = (words[0], words[1]);

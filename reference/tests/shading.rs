@@ -21,7 +21,7 @@ fn one_cell(counts: [u16; 6]) -> Sample {
 /// The bytes for a grid, or why there are none; a refusal keeps every byte.
 fn shaded_in(grid: &Sample, len: usize) -> Result<Vec<u8>, Refusal> {
     let mut area = vec![UNTOUCHED; len];
-    let answer = shade(&grid.cells, &grid.edges, &grid.counts, &mut area);
+    let answer = shade(grid.lists(&grid.starts()), &mut area);
     if answer.is_err() {
         assert!(area.iter().all(|&byte| byte == UNTOUCHED));
     }

@@ -34,6 +34,19 @@ static void show(const char *call, size_t many) {
   clear();
 }
 
+#define MOST_SUMS 258
+
+/* The starts that edges with these counts have. */
+static uint32_t *sums(const uint16_t *of, size_t len) {
+  static uint32_t starts[MOST_SUMS];
+  uint32_t sum = 0;
+  for (size_t i = 0; i < len; i++) {
+    starts[i] = sum;
+    sum += of[i];
+  }
+  return starts;
+}
+
 static void face(const char *call, uint16_t ab, uint16_t ac, uint16_t bc,
                  uint32_t edge, uint32_t index, size_t answer_len) {
   show(call, citternblaze_face(ab, ac, bc, edge, index, answer, answer_len));
@@ -126,6 +139,7 @@ static const uint16_t counts[] = {1, 2, 3, 4, 5, 6, 7, 8, 255};
 static void check(const char *call, size_t cells_len, size_t edges_len,
                   size_t counts_len, size_t answer_len) {
   show(call, citternblaze_check(cells, cells_len, edges, edges_len, counts,
+                                counts_len, sums(counts, counts_len),
                                 counts_len, answer, answer_len));
 }
 
@@ -134,16 +148,88 @@ static void test_check(void) {
   static const uint16_t full[] = {4095, 4095, 4095, 4095, 4095, 4095};
   check("check 2 cells", 8, 18, 9, ROOM);
   show("check 1 cell, every count 4095",
-       citternblaze_check(cells, 4, six, 12, full, 6, answer, ROOM));
+       citternblaze_check(cells, 4, six, 12, full, 6, sums(full, 6), 6, answer,
+                          ROOM));
   check("check 5 numbers", 5, 18, 9, ROOM);
   check("check no cells", 0, 18, 9, ROOM);
   check("check 9 edges, 8 counts", 8, 18, 8, ROOM);
   check("check 8 edges", 8, 16, 8, ROOM);
   check("check 7 edges", 8, 14, 7, ROOM);
   check("check 1 cell", 4, 18, 9, ROOM);
+  show("check, starts of other counts",
+       citternblaze_check(cells, 8, edges, 18, counts, 9, sums(full, 6), 9,
+                          answer, ROOM));
+  show("check, 8 starts",
+       citternblaze_check(cells, 8, edges, 18, counts, 9, sums(counts, 9), 8,
+                          answer, ROOM));
   check("check 2 cells, answer area of 6", 8, 18, 9, ENOUGH);
   check("check 2 cells, answer area of 5", 8, 18, 9, SHORT);
   check("check 2 cells, answer area of 0", 8, 18, 9, 0);
+}
+
+#define STARTS 10
+
+/* Lent starts, and what became of them; 2779096485 is untouched. */
+static void show_starts(const uint32_t *starts) {
+  printf("  starts");
+  for (size_t i = 0; i < STARTS; i++) {
+    if (starts[i] == UINT32_C(0xa5a5a5a5))
+      printf(" -");
+    else
+      printf(" %" PRIu32, starts[i]);
+  }
+  printf("\n");
+}
+
+static void open_grid(const char *call, const uint16_t *edge_counts,
+                      size_t starts_len, size_t answer_len) {
+  uint32_t starts[STARTS];
+  memset(starts, 0xa5, sizeof starts);
+  show(call, citternblaze_open(cells, 8, edges, 18, edge_counts, 9, starts,
+                               starts_len, answer, answer_len));
+  show_starts(starts);
+}
+
+static void test_open(void) {
+  static const uint16_t over[9] = {0, 0, 0, 0, 0, 0, 0, 4096};
+  open_grid("open 2 cells", counts, 9, ROOM);
+  open_grid("open, 8 starts", counts, 8, ROOM);
+  open_grid("open, 10 starts", counts, 10, ROOM);
+  open_grid("open, a count of 4096", over, 9, ROOM);
+  open_grid("open, answer area of 6", counts, 9, ENOUGH);
+  open_grid("open, answer area of 5", counts, 9, SHORT);
+}
+
+/* Sets the count of an edge of cells 0 1 2 3 and 0 1 2 4, whose starts are those
+ * of their counts, or 1 too high from edge `from` on. */
+static void set(const char *call, size_t from, size_t edge, uint16_t count,
+                size_t answer_len) {
+  uint16_t edge_counts[9];
+  uint32_t starts[STARTS];
+  memcpy(edge_counts, counts, sizeof counts);
+  memset(starts, 0xa5, sizeof starts);
+  memcpy(starts, sums(counts, 9), 9 * sizeof *starts);
+  for (size_t i = from; i < 9; i++)
+    starts[i]++;
+  show(call, citternblaze_set_count(cells, 8, edges, 18, edge_counts, 9, starts,
+                                    9, edge, count, answer, answer_len));
+  printf("  counts");
+  for (size_t i = 0; i < 9; i++)
+    printf(" %u", edge_counts[i]);
+  printf("\n");
+  show_starts(starts);
+}
+
+static void test_set(void) {
+  set("set edge 3 to 0", 9, 3, 0, ROOM);
+  set("set edge 0 to 4095", 9, 0, 4095, ROOM);
+  set("set edge 8 to 7", 9, 8, 7, ROOM);
+  set("set edge 9 of 9", 9, 9, 0, ROOM);
+  set("set the highest edge to 4096", 9, SIZE_MAX, 4096, ROOM);
+  set("set edge 3 to 4096", 9, 3, 4096, ROOM);
+  set("set edge 9 of 9, the last start wrong", 8, 9, 0, ROOM);
+  set("set edge 3, answer area of 6", 9, 3, 0, ENOUGH);
+  set("set edge 3, answer area of 5", 9, 3, 0, SHORT);
 }
 
 #define WORDS 24
@@ -154,8 +240,9 @@ static void mesh(const char *call, const uint16_t *edge_counts, size_t cells_len
                  size_t area_len, size_t answer_len) {
   uint32_t area[WORDS];
   memset(area, 0xa5, sizeof area);
-  show(call, citternblaze_mesh(cells, cells_len, edges, 18, edge_counts, 9, area,
-                               area_len, answer, answer_len));
+  show(call, citternblaze_mesh(cells, cells_len, edges, 18, edge_counts, 9,
+                               sums(edge_counts, 9), 9, area, area_len, answer,
+                               answer_len));
   printf("  area");
   for (size_t i = 0; i < WORDS; i++) {
     if (area[i] == UINT32_C(0xa5a5a5a5))
@@ -195,8 +282,9 @@ static void test_mesh(void) {
 /* Loop `index` of cell `cell` of cells 0 1 2 3 and 0 1 2 4 with these counts. */
 static void loop(const char *call, const uint16_t *edge_counts, size_t cells_len,
                  size_t cell, size_t index, size_t answer_len) {
-  show(call, citternblaze_loops(cells, cells_len, edges, 18, edge_counts, 9, cell,
-                                index, answer, answer_len));
+  show(call, citternblaze_loops(cells, cells_len, edges, 18, edge_counts, 9,
+                                sums(edge_counts, 9), 9, cell, index, answer,
+                                answer_len));
 }
 
 static void test_loops(void) {
@@ -243,9 +331,10 @@ static void place(const char *call, uint16_t count_03, const double *fractions,
   }
   for (size_t i = 0; i < NUMBERS; i++)
     area[i] = -77;
-  show(call, citternblaze_places(cells, 8, edges, 18, edge_counts, 9, nodes,
-                                 nodes_len, fractions, fractions_len, area,
-                                 area_len, answer, answer_len));
+  show(call, citternblaze_places(cells, 8, edges, 18, edge_counts, 9,
+                                 sums(edge_counts, 9), 9, nodes, nodes_len,
+                                 fractions, fractions_len, area, area_len,
+                                 answer, answer_len));
   printf("  area");
   for (size_t i = 0; i < NUMBERS; i++) {
     if (area[i] == -77)
@@ -282,8 +371,9 @@ static void shade(const char *call, const uint16_t *edge_counts, size_t area_len
                   size_t answer_len) {
   uint8_t area[CITTERNBLAZE_SHADING_BYTES + 2];
   memset(area, 0xa5, sizeof area);
-  show(call, citternblaze_shading(cells, 8, edges, 18, edge_counts, 9, area,
-                                  area_len, answer, answer_len));
+  show(call, citternblaze_shading(cells, 8, edges, 18, edge_counts, 9,
+                                  sums(edge_counts, 9), 9, area, area_len,
+                                  answer, answer_len));
   printf("  area");
   for (size_t i = 0; i < sizeof area; i++) {
     if (i == 0 || area[i] != area[i - 1])
@@ -520,6 +610,7 @@ static size_t check_of(const uint16_t *of_cells, size_t cells_len,
                        const uint16_t *of_edges, size_t edges_len) {
   static const uint16_t zeros[11] = {0};
   return citternblaze_check(of_cells, cells_len, of_edges, edges_len, zeros,
+                            edges_len / 2, sums(zeros, edges_len / 2),
                             edges_len / 2, answer, ROOM);
 }
 
@@ -541,7 +632,8 @@ static size_t check_full(void) {
   for (int i = 0; i < 6 * FULL; i++)
     many_counts[i] = 255;
   return citternblaze_check(many_cells, 4 * FULL, many_edges, 12 * FULL,
-                            many_counts, 6 * FULL, answer, ROOM);
+                            many_counts, 6 * FULL, sums(many_counts, 6 * FULL),
+                            6 * FULL, answer, ROOM);
 }
 
 static void test_grid_refusals(void) {
@@ -565,12 +657,15 @@ static void test_grid_refusals(void) {
   REFUSAL(FACE_CROWDED, CHECK(three, six));
   REFUSAL(EDGE_ORDER, CHECK(one, equal));
   REFUSAL(EDGE_ORDER, CHECK(one, swapped));
-  REFUSAL(COUNT, citternblaze_check(one, 4, six, 12, over, 6, answer, ROOM));
+  REFUSAL(COUNT, citternblaze_check(one, 4, six, 12, over, 6, sums(over, 6), 6,
+                                    answer, ROOM));
   /* 18 stands between 6 and 7 */
   REFUSAL(EDGE_ORDER,
-          citternblaze_check(one, 4, swapped, 12, over, 6, answer, ROOM));
+          citternblaze_check(one, 4, swapped, 12, over, 6, sums(over, 6), 6,
+                             answer, ROOM));
   REFUSAL(COUNT,
-          citternblaze_check(one, 4, without, 10, over, 5, answer, ROOM));
+          citternblaze_check(one, 4, without, 10, over, 5, sums(over, 5), 5,
+                             answer, ROOM));
   REFUSAL(EDGE_MISSING, CHECK(one, without));
   REFUSAL(EDGE_STRAY, CHECK(one, added));
   REFUSAL(EDGE_UNLINKED, CHECK(apart, of_apart));
@@ -583,12 +678,18 @@ static void test_other_refusals(void) {
   static const double halves[2] = {0.5, 0.5};
   double nodes[12] = {0, 0, 0, 8, 0, 0, 0, 8, 0, 0, 0, 8}, points[9];
   uint8_t bytes[70], sides[CITTERNBLAZE_SHADING_BYTES];
-  uint16_t lists[12];
+  uint16_t lists[12] = {0};
   uint32_t words[11];
-  REFUSAL(NO_CELL, citternblaze_loops(cells, 4, six, 12, corner, 6, 1, 0, answer,
-                                      ROOM));
-  REFUSAL(MESH_AREA, citternblaze_mesh(cells, 4, six, 12, corner, 6, words, 10,
-                                       answer, ROOM));
+  uint32_t starts[6] = {0};
+  REFUSAL(EDGE_LIST, citternblaze_check(cells, 4, six, 12, corner, 6, starts, 6,
+                                        answer, ROOM));
+  REFUSAL(NO_EDGE, citternblaze_set_count(cells, 4, six, 12, lists, 6, starts, 6,
+                                          6, 0, answer, ROOM));
+  REFUSAL(NO_CELL, citternblaze_loops(cells, 4, six, 12, corner, 6,
+                                      sums(corner, 6), 6, 1, 0, answer, ROOM));
+  REFUSAL(MESH_AREA, citternblaze_mesh(cells, 4, six, 12, corner, 6,
+                                       sums(corner, 6), 6, words, 10, answer,
+                                       ROOM));
   show("write", citternblaze_bundle_write(cells, 4, six, 12, twice, 6, bytes, 70,
                                           answer, ROOM));
   REFUSAL(RECORDS, citternblaze_bundle_read(bytes, 69, lists, 4, NULL, 0, NULL,
@@ -600,20 +701,22 @@ static void test_other_refusals(void) {
   REFUSAL(BUNDLE_AREA, citternblaze_bundle_write(cells, 4, six, 12, twice, 6,
                                                  bytes, 69, answer, ROOM));
   REFUSAL(PLACE_LISTS,
-          citternblaze_places(cells, 4, six, 12, twice, 6, nodes, 12, halves, 1,
-                              points, 9, answer, ROOM));
+          citternblaze_places(cells, 4, six, 12, twice, 6, sums(twice, 6), 6,
+                              nodes, 12, halves, 1, points, 9, answer, ROOM));
   nodes[4] = nodes[0] / nodes[0];
   REFUSAL(NODE_PLACE,
-          citternblaze_places(cells, 4, six, 12, twice, 6, nodes, 12, halves, 2,
-                              points, 9, answer, ROOM));
+          citternblaze_places(cells, 4, six, 12, twice, 6, sums(twice, 6), 6,
+                              nodes, 12, halves, 2, points, 9, answer, ROOM));
   nodes[4] = 0;
   REFUSAL(FRACTION,
-          citternblaze_places(cells, 4, six, 12, twice, 6, nodes, 12, halves, 2,
-                              points, 9, answer, ROOM));
-  REFUSAL(SHADING_AREA, citternblaze_shading(cells, 4, six, 12, corner, 6, bytes,
-                                             70, answer, ROOM));
-  REFUSAL(NO_SHADING, citternblaze_shading(cells, 4, six, 12, odd, 6, sides,
-                                           sizeof sides, answer, ROOM));
+          citternblaze_places(cells, 4, six, 12, twice, 6, sums(twice, 6), 6,
+                              nodes, 12, halves, 2, points, 9, answer, ROOM));
+  REFUSAL(SHADING_AREA, citternblaze_shading(cells, 4, six, 12, corner, 6,
+                                             sums(corner, 6), 6, bytes, 70,
+                                             answer, ROOM));
+  REFUSAL(NO_SHADING, citternblaze_shading(cells, 4, six, 12, odd, 6,
+                                           sums(odd, 6), 6, sides, sizeof sides,
+                                           answer, ROOM));
   REFUSAL(POINTS, citternblaze_nearest(nodes, 11, 0, 0, 0, answer, ROOM));
   REFUSAL(POINTS, citternblaze_nearest(nodes, 12, 0, 0, 2e6, answer, ROOM));
 }
@@ -625,25 +728,34 @@ static void test_null(void) {
   show("case, no answer area", citternblaze_case(2, 1, 1, 1, 1, 2, NULL, 0));
   show("book, no answer area", citternblaze_book(2, 1, 1, 1, 1, 2, NULL, 0));
   show("check of nothing",
-       citternblaze_check(NULL, 0, NULL, 0, NULL, 0, answer, ROOM));
+       citternblaze_check(NULL, 0, NULL, 0, NULL, 0, NULL, 0, answer, ROOM));
   show("check without edges",
-       citternblaze_check(cells, 8, NULL, 0, NULL, 0, answer, ROOM));
+       citternblaze_check(cells, 8, NULL, 0, NULL, 0, NULL, 0, answer, ROOM));
+  show("open nothing",
+       citternblaze_open(NULL, 0, NULL, 0, NULL, 0, NULL, 0, answer, ROOM));
+  show("set nothing", citternblaze_set_count(NULL, 0, NULL, 0, NULL, 0, NULL, 0,
+                                             0, 0, answer, ROOM));
   show("mesh of nothing",
-       citternblaze_mesh(NULL, 0, NULL, 0, NULL, 0, NULL, 0, answer, ROOM));
-  show("mesh, no area", citternblaze_mesh(cells, 8, edges, 18, counts, 9, NULL, 0,
-                                          answer, ROOM));
+       citternblaze_mesh(NULL, 0, NULL, 0, NULL, 0, NULL, 0, NULL, 0, answer,
+                         ROOM));
+  show("mesh, no area", citternblaze_mesh(cells, 8, edges, 18, counts, 9,
+                                          sums(counts, 9), 9, NULL, 0, answer,
+                                          ROOM));
   show("loop of nothing",
-       citternblaze_loops(NULL, 0, NULL, 0, NULL, 0, 0, 0, answer, ROOM));
+       citternblaze_loops(NULL, 0, NULL, 0, NULL, 0, NULL, 0, 0, 0, answer,
+                          ROOM));
   show("places of nothing",
        citternblaze_places(NULL, 0, NULL, 0, NULL, 0, NULL, 0, NULL, 0, NULL, 0,
-                           answer, ROOM));
+                           NULL, 0, answer, ROOM));
   show("places, no numbers",
-       citternblaze_places(cells, 8, edges, 18, counts, 9, NULL, 0, NULL, 0, NULL,
-                           0, answer, ROOM));
+       citternblaze_places(cells, 8, edges, 18, counts, 9, sums(counts, 9), 9,
+                           NULL, 0, NULL, 0, NULL, 0, answer, ROOM));
   show("shading of nothing",
-       citternblaze_shading(NULL, 0, NULL, 0, NULL, 0, NULL, 0, answer, ROOM));
+       citternblaze_shading(NULL, 0, NULL, 0, NULL, 0, NULL, 0, NULL, 0, answer,
+                            ROOM));
   show("shading, no area", citternblaze_shading(cells, 8, edges, 18, counts, 9,
-                                                NULL, 0, answer, ROOM));
+                                                sums(counts, 9), 9, NULL, 0,
+                                                answer, ROOM));
   show("record of nothing", citternblaze_record(NULL, 0, 0, answer, ROOM));
   show("body of nothing", citternblaze_record_body(NULL, 0, 0, answer, ROOM));
   show("read nothing", citternblaze_bundle_read(NULL, 0, NULL, 0, NULL, 0, NULL,
@@ -662,16 +774,22 @@ static void test_null(void) {
   show("nearest of nothing",
        citternblaze_nearest(NULL, 0, 0, 0, 0, answer, ROOM));
   show("check, no answer area",
-       citternblaze_check(NULL, 0, NULL, 0, NULL, 0, NULL, 0));
+       citternblaze_check(NULL, 0, NULL, 0, NULL, 0, NULL, 0, NULL, 0));
+  show("open, no answer area",
+       citternblaze_open(NULL, 0, NULL, 0, NULL, 0, NULL, 0, NULL, 0));
+  show("set, no answer area",
+       citternblaze_set_count(NULL, 0, NULL, 0, NULL, 0, NULL, 0, 0, 0, NULL,
+                              0));
   show("mesh, no answer area",
-       citternblaze_mesh(NULL, 0, NULL, 0, NULL, 0, NULL, 0, NULL, 0));
+       citternblaze_mesh(NULL, 0, NULL, 0, NULL, 0, NULL, 0, NULL, 0, NULL, 0));
   show("loops, no answer area",
-       citternblaze_loops(NULL, 0, NULL, 0, NULL, 0, 0, 0, NULL, 0));
+       citternblaze_loops(NULL, 0, NULL, 0, NULL, 0, NULL, 0, 0, 0, NULL, 0));
   show("places, no answer area",
        citternblaze_places(NULL, 0, NULL, 0, NULL, 0, NULL, 0, NULL, 0, NULL, 0,
-                           NULL, 0));
+                           NULL, 0, NULL, 0));
   show("shading, no answer area",
-       citternblaze_shading(NULL, 0, NULL, 0, NULL, 0, NULL, 0, NULL, 0));
+       citternblaze_shading(NULL, 0, NULL, 0, NULL, 0, NULL, 0, NULL, 0, NULL,
+                            0));
   show("record, no answer area", citternblaze_record(NULL, 0, 0, NULL, 0));
   show("body, no answer area", citternblaze_record_body(NULL, 0, 0, NULL, 0));
   show("read, no answer area",
@@ -688,6 +806,8 @@ int main(void) {
   test_case();
   test_book();
   test_check();
+  test_open();
+  test_set();
   test_mesh();
   test_loops();
   test_places();

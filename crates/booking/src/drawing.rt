@@ -107,7 +107,7 @@ fn count_others(
     counts: &[u16],
     names: &[u16; MOST_SLOTS],
     sides: &[u16; MOST_EDGES],
-    starts: &[u32; MOST_EDGES],
+    starts: &[u32],
     crossings: usize,
 ) -> usize
     requires { ⌜ crossings ≡ total (crossingsAt (now counts) (now sides)) (drawnCells (now cells)) 0 ⌝ }
@@ -127,7 +127,7 @@ pub fn draw(
     counts: &[u16],
     names: &[u16; MOST_SLOTS],
     sides: &[u16; MOST_EDGES],
-    starts: &[u32; MOST_EDGES],
+    starts: &[u32],
     area: &mut [u32],
 ) -> usize
     ensures { λ r. ⌜ (r ≡ length (tableTriangles (now (cells .entry)) (now (counts .entry)) (now (names .entry)) (now (sides .entry)) (now (starts .entry)))) × (r ≤ mostTriangles) ⌝ }

@@ -1,8 +1,11 @@
 -- Laws of what a call answers.
 use Prim.Native.Nat.{ℕ}
 use mathlib.Core.Path.{_≡_, subst, sym, ap, _∙_}
-use mathlib.Core.List.{List, _∷_}
+use mathlib.Core.List.{List, [], _∷_}
 use Rattle.answer.specs.Answer.{result}
+use Rattle.grid.specs.Grid.{Grid}
+use Rattle.grid.specs.Opening.{opened, openAnswer}
+use Rattle.grid.proofs.Claims.{never-empty}
 use Rattle.cell.specs.declared.LoopType.{LoopType}
 use Rattle.cell.specs.Answer.{typeNumbers}
 use Rattle.capi.specs.Written.{Answers}
@@ -27,3 +30,8 @@ type-told told = ap typeNumbers (sym told)
 -- the numbers of a loop, from those of its type
 pub loop-told : {p n b flag : ℕ} {types numbers : List ℕ} → b ≡ flag → types ≡ numbers → 0 ∷ p ∷ n ∷ b ∷ types ≡ result (p ∷ n ∷ flag ∷ numbers)
 loop-told {p = p} {n = n} {flag = flag} {types = types} is are = ap (λ x. 0 ∷ p ∷ n ∷ x ∷ types) is ∙ ap (λ l. 0 ∷ p ∷ n ∷ flag ∷ l) are
+
+-- the opening call always answers
+pub open-some : (G : Grid) → [] ≡ openAnswer G → ⊥
+unfolding openAnswer
+open-some G = never-empty (opened G)

@@ -1,3 +1,4 @@
 pub mod Answers
 pub mod Body
 pub mod Putting
+pub mod Claims

@@ -12,6 +12,8 @@ ghost use Rattle.face.specs.Face.{joinedBy, unjoinedBy, faceAnswer};
 ghost use Rattle.face.specs.Join.{howNumbers, whyNumber};
 ghost use Rattle.grid.specs.Grid.{gridOf};
 ghost use Rattle.grid.specs.Rows.{gridAnswer};
+ghost use Rattle.grid.specs.Opening.{openAnswer, openStarts};
+ghost use Rattle.grid.specs.Setting.{setAnswer, setCounts, setStarts};
 ghost use Rattle.counting.specs.Pick.{one};
 ghost use Rattle.answer.specs.Answer.{result};
 ghost use Rattle.cell.specs.Answer.{typeNumbers, loopNumbers};
@@ -153,11 +155,59 @@ pub extern "C" fn citternblaze_check(
     cells: &[u16],
     edges: &[u16],
     counts: &[u16],
+    starts: &[u32],
     answer: &mut [u64],
 ) -> usize
-    ensures { λ r. ⌜ Answers (gridAnswer (gridOf (now (cells .entry)) (now (edges .entry)) (now (counts .entry)))) (now (answer .entry)) (now (answer .exit)) r ⌝ }
+    ensures { λ r. ⌜ Answers (gridAnswer (gridOf (now (cells .entry)) (now (edges .entry)) (now (counts .entry)) (now (starts .entry)))) (now (answer .entry)) (now (answer .exit)) r ⌝ }
 {
-    match grid::check(cells, edges, counts) {
+    match grid::check(cells, edges, counts, starts) {
+        Checked::Crossings(n) => put(answer, &[0, n as u64]),
+        Checked::Refused(row, place) => put(answer, &[row as u64, place as u64]),
+    }
+}
+
+// The opening call: 0 and the number of crossings, and the starts are filled in; or the number and the place of a refusal, which leaves them as they
+// are.
+#[no_mangle]
+pub extern "C" fn citternblaze_open(
+    cells: &[u16],
+    edges: &[u16],
+    counts: &[u16],
+    starts: &mut [u32],
+    answer: &mut [u64],
+) -> usize
+    ensures answer { λ r. ⌜ Answers (openAnswer (gridOf (now (cells .entry)) (now (edges .entry)) (now (counts .entry)) (now (starts .entry)))) (now (answer .entry)) (now (answer .exit)) r ⌝ }
+    ensures starts { λ r. ⌜ now (starts .exit) ≡ ifRoom (now (answer .entry)) (openStarts (gridOf (now (cells .entry)) (now (edges .entry)) (now (counts .entry)) (now (starts .entry)))) (now (starts .entry)) ⌝ }
+{
+    if answer.len() < ANSWER_WORDS {
+        return ANSWER_WORDS;
+    }
+    match grid::open(cells, edges, counts, starts) {
+        Checked::Crossings(n) => put(answer, &[0, n as u64]),
+        Checked::Refused(row, place) => put(answer, &[row as u64, place as u64]),
+    }
+}
+
+// The setting call: 0 and the number of crossings, and the count and the starts are set; or the number and the place of a refusal, which leaves them
+// as they are.
+#[no_mangle]
+pub extern "C" fn citternblaze_set_count(
+    cells: &[u16],
+    edges: &[u16],
+    counts: &mut [u16],
+    starts: &mut [u32],
+    edge: usize,
+    count: u16,
+    answer: &mut [u64],
+) -> usize
+    ensures answer { λ r. ⌜ Answers (setAnswer (gridOf (now (cells .entry)) (now (edges .entry)) (now (counts .entry)) (now (starts .entry))) edge count) (now (answer .entry)) (now (answer .exit)) r ⌝ }
+    ensures counts { λ r. ⌜ now (counts .exit) ≡ ifRoom (now (answer .entry)) (setCounts (gridOf (now (cells .entry)) (now (edges .entry)) (now (counts .entry)) (now (starts .entry))) edge count) (now (counts .entry)) ⌝ }
+    ensures starts { λ r. ⌜ now (starts .exit) ≡ ifRoom (now (answer .entry)) (setStarts (gridOf (now (cells .entry)) (now (edges .entry)) (now (counts .entry)) (now (starts .entry))) edge count) (now (starts .entry)) ⌝ }
+{
+    if answer.len() < ANSWER_WORDS {
+        return ANSWER_WORDS;
+    }
+    match grid::set_count(cells, edges, counts, starts, edge, count) {
         Checked::Crossings(n) => put(answer, &[0, n as u64]),
         Checked::Refused(row, place) => put(answer, &[row as u64, place as u64]),
     }
@@ -169,16 +219,17 @@ pub extern "C" fn citternblaze_mesh(
     cells: &[u16],
     edges: &[u16],
     counts: &[u16],
+    starts: &[u32],
     area: &mut [u32],
     answer: &mut [u64],
 ) -> usize
-    ensures answer { λ r. ⌜ Answers (meshAnswer (gridOf (now (cells .entry)) (now (edges .entry)) (now (counts .entry))) (length (now (area .entry)))) (now (answer .entry)) (now (answer .exit)) r ⌝ }
-    ensures area { λ r. ⌜ now (area .exit) ≡ ifRoom (now (answer .entry)) (meshArea (gridOf (now (cells .entry)) (now (edges .entry)) (now (counts .entry))) (now (area .entry))) (now (area .entry)) ⌝ }
+    ensures answer { λ r. ⌜ Answers (meshAnswer (gridOf (now (cells .entry)) (now (edges .entry)) (now (counts .entry)) (now (starts .entry))) (length (now (area .entry)))) (now (answer .entry)) (now (answer .exit)) r ⌝ }
+    ensures area { λ r. ⌜ now (area .exit) ≡ ifRoom (now (answer .entry)) (meshArea (gridOf (now (cells .entry)) (now (edges .entry)) (now (counts .entry)) (now (starts .entry))) (now (area .entry))) (now (area .entry)) ⌝ }
 {
     if answer.len() < ANSWER_WORDS {
         return ANSWER_WORDS;
     }
-    match mesh::mesh(cells, edges, counts, area) {
+    match mesh::mesh(cells, edges, counts, starts, area) {
         Meshed::Triangles(n) => put(answer, &[0, n as u64]),
         Meshed::Refused(row, place) => put(answer, &[row as u64, place as u64]),
     }
@@ -221,13 +272,14 @@ pub extern "C" fn citternblaze_loops(
     cells: &[u16],
     edges: &[u16],
     counts: &[u16],
+    starts: &[u32],
     cell: usize,
     index: usize,
     answer: &mut [u64],
 ) -> usize
-    ensures { λ r. ⌜ Answers (loopsAnswer (gridOf (now (cells .entry)) (now (edges .entry)) (now (counts .entry))) cell index) (now (answer .entry)) (now (answer .exit)) r ⌝ }
+    ensures { λ r. ⌜ Answers (loopsAnswer (gridOf (now (cells .entry)) (now (edges .entry)) (now (counts .entry)) (now (starts .entry))) cell index) (now (answer .entry)) (now (answer .exit)) r ⌝ }
 {
-    match mesh::loops(cells, edges, counts, cell, index) {
+    match mesh::loops(cells, edges, counts, starts, cell, index) {
         Looped::Told(l) => put_loop(answer, l),
         Looped::Refused(row, place) => put(answer, &[row as u64, place as u64]),
     }
@@ -239,18 +291,19 @@ pub extern "C" fn citternblaze_places(
     cells: &[u16],
     edges: &[u16],
     counts: &[u16],
+    starts: &[u32],
     nodes: &[f64],
     fractions: &[f64],
     area: &mut [f64],
     answer: &mut [u64],
 ) -> usize
-    ensures answer { λ r. ⌜ Answers (placesAnswer (gridOf (now (cells .entry)) (now (edges .entry)) (now (counts .entry))) (now (nodes .entry)) (now (fractions .entry)) (length (now (area .entry)))) (now (answer .entry)) (now (answer .exit)) r ⌝ }
-    ensures area { λ r. ⌜ now (area .exit) ≡ ifRoom (now (answer .entry)) (placesArea (gridOf (now (cells .entry)) (now (edges .entry)) (now (counts .entry))) (now (nodes .entry)) (now (fractions .entry)) (now (area .entry))) (now (area .entry)) ⌝ }
+    ensures answer { λ r. ⌜ Answers (placesAnswer (gridOf (now (cells .entry)) (now (edges .entry)) (now (counts .entry)) (now (starts .entry))) (now (nodes .entry)) (now (fractions .entry)) (length (now (area .entry)))) (now (answer .entry)) (now (answer .exit)) r ⌝ }
+    ensures area { λ r. ⌜ now (area .exit) ≡ ifRoom (now (answer .entry)) (placesArea (gridOf (now (cells .entry)) (now (edges .entry)) (now (counts .entry)) (now (starts .entry))) (now (nodes .entry)) (now (fractions .entry)) (now (area .entry))) (now (area .entry)) ⌝ }
 {
     if answer.len() < ANSWER_WORDS {
         return ANSWER_WORDS;
     }
-    match places::places(cells, edges, counts, nodes, fractions, area) {
+    match places::places(cells, edges, counts, starts, nodes, fractions, area) {
         Placed::Points(n) => put(answer, &[0, n as u64]),
         Placed::Refused(row, place) => put(answer, &[row as u64, place as u64]),
     }
@@ -262,16 +315,17 @@ pub extern "C" fn citternblaze_shading(
     cells: &[u16],
     edges: &[u16],
     counts: &[u16],
+    starts: &[u32],
     area: &mut [u8],
     answer: &mut [u64],
 ) -> usize
-    ensures answer { λ r. ⌜ Answers (shadingAnswer (gridOf (now (cells .entry)) (now (edges .entry)) (now (counts .entry))) (length (now (area .entry)))) (now (answer .entry)) (now (answer .exit)) r ⌝ }
-    ensures area { λ r. ⌜ now (area .exit) ≡ ifRoom (now (answer .entry)) (shadingArea (gridOf (now (cells .entry)) (now (edges .entry)) (now (counts .entry))) (now (area .entry))) (now (area .entry)) ⌝ }
+    ensures answer { λ r. ⌜ Answers (shadingAnswer (gridOf (now (cells .entry)) (now (edges .entry)) (now (counts .entry)) (now (starts .entry))) (length (now (area .entry)))) (now (answer .entry)) (now (answer .exit)) r ⌝ }
+    ensures area { λ r. ⌜ now (area .exit) ≡ ifRoom (now (answer .entry)) (shadingArea (gridOf (now (cells .entry)) (now (edges .entry)) (now (counts .entry)) (now (starts .entry))) (now (area .entry))) (now (area .entry)) ⌝ }
 {
     if answer.len() < ANSWER_WORDS {
         return ANSWER_WORDS;
     }
-    match shading::shade(cells, edges, counts, area) {
+    match shading::shade(cells, edges, counts, starts, area) {
         Shaded::Written => put(answer, &[0]),
         Shaded::Refused(row, place) => put(answer, &[row as u64, place as u64]),
     }

@@ -36,7 +36,7 @@ fn walked_in_all(
     counts: &[u16],
     names: &[u16; MOST_SLOTS],
     sides: &[u16; MOST_EDGES],
-    starts: &[u32; MOST_EDGES],
+    starts: &[u32],
     marks: &mut [u16],
     halves: &mut [u8],
     points: &mut [u32],
@@ -66,7 +66,7 @@ pub fn count_walked(
     counts: &[u16],
     names: &[u16; MOST_SLOTS],
     sides: &[u16; MOST_EDGES],
-    starts: &[u32; MOST_EDGES],
+    starts: &[u32],
 ) -> usize
     ensures { λ r. ⌜ (r ≡ total (walkedAt (now (cells .entry)) (now (counts .entry)) (now (names .entry)) (now (sides .entry)) (now (starts .entry))) (drawnCells (now (cells .entry))) 0) × (r ≤ mostTriangles) ⌝ }
 {
@@ -107,7 +107,7 @@ fn put_in_all(
     counts: &[u16],
     names: &[u16; MOST_SLOTS],
     sides: &[u16; MOST_EDGES],
-    starts: &[u32; MOST_EDGES],
+    starts: &[u32],
     marks: &mut [u16],
     halves: &mut [u8],
     points: &mut [u32],
@@ -134,7 +134,7 @@ fn put_few(
     counts: &[u16],
     names: &[u16; MOST_SLOTS],
     sides: &[u16; MOST_EDGES],
-    starts: &[u32; MOST_EDGES],
+    starts: &[u32],
     area: &mut [u32],
 ) -> usize
     requires { ⌜ Few (now counts) ⌝ }
@@ -162,7 +162,7 @@ pub fn write_cells(
     counts: &[u16],
     names: &[u16; MOST_SLOTS],
     sides: &[u16; MOST_EDGES],
-    starts: &[u32; MOST_EDGES],
+    starts: &[u32],
     area: &mut [u32],
 ) -> usize
     ensures { λ r. ⌜ (r ≡ nextAfter (tableCell (now (cells .entry)) (now (counts .entry)) (now (names .entry)) (now (sides .entry)) (now (starts .entry))) (now (area .entry)) (drawnCells (now (cells .entry)))) × (now (area .exit) ≡ areaAfter (tableCell (now (cells .entry)) (now (counts .entry)) (now (names .entry)) (now (sides .entry)) (now (starts .entry))) (now (area .entry)) (drawnCells (now (cells .entry)))) ⌝ }

@@ -121,7 +121,7 @@ pub(crate) fn counted_at(
     counts: &[u16],
     names: &[u16; MOST_SLOTS],
     sides: &[u16; MOST_EDGES],
-    starts: &[u32; MOST_EDGES],
+    starts: &[u32],
     c: usize,
 ) -> Counted
     ensures { λ r. ⌜ (r .cell ≡ tableCell (now (cells .entry)) (now (counts .entry)) (now (names .entry)) (now (sides .entry)) (now (starts .entry)) c) × (r .crossings ≡ crossings (edgesOf (r .cell))) × (r .crossings ≤ mostInCell) ⌝ }
@@ -148,7 +148,7 @@ pub fn cell_at(
     counts: &[u16],
     names: &[u16; MOST_SLOTS],
     sides: &[u16; MOST_EDGES],
-    starts: &[u32; MOST_EDGES],
+    starts: &[u32],
     c: usize,
 ) -> Cell
     ensures { λ r. ⌜ r ≡ tableCell (now (cells .entry)) (now (counts .entry)) (now (names .entry)) (now (sides .entry)) (now (starts .entry)) c ⌝ }

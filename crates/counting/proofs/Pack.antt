@@ -1,7 +1,7 @@
 -- Laws of rows laid end to end.
 use Prim.Native.Nat.{ℕ, zero, suc, _+_, _-_, _*_, _≤_, _<_}
 use mathlib.Core.Path.{_≡_, sym, ap, _∙_}
-use mathlib.Core.Logic.{⊎-elim}
+use mathlib.Core.Logic.{_≢_, ⊎-elim}
 use mathlib.Core.Bool.{Bool, false}
 use native.Mathlib.Decide.{decLt}
 use native.Mathlib.Nat.{not-suc-le-zero, zero-add, mul-zero, mul-suc, eq-or-lt-of-le}
@@ -79,3 +79,15 @@ module _ (w : ℕ → ℕ) where
     pub col-pack : (r i : ℕ) → r < m → i < w r → col w m (pre w r + i) ≡ i
     unfolding col
     col-pack r i h l = omega (arith, ap (pre w) (row-pack r i h l))
+
+-- widths that differ at row i alone
+module _ (v w : ℕ → ℕ) (i : ℕ) (same : (r : ℕ) → r ≢ i → v r ≡ w r) where
+  pub pre-kept : (r : ℕ) → r ≤ i → pre v r ≡ pre w r
+  pre-kept zero h = omega (arith, pre-zero v, pre-zero w)
+  pre-kept (suc r) h = omega (arith, pre-next v 0 r, pre-next w 0 r, pre-kept r (omega arith), same r (λ e. omega arith))
+
+  pub pre-changed : (r : ℕ) → i < r → pre v r + w i ≡ pre w r + v i
+  pre-changed zero h = absurd (not-suc-le-zero h)
+  pre-changed (suc r) h =
+      ⊎-elim (λ (e : i ≡ r). rw (← e) (omega (arith, pre-next v 0 i, pre-next w 0 i, pre-kept i (omega arith))))
+      (λ (l : i < r). omega (arith, pre-next v 0 r, pre-next w 0 r, pre-changed r l, same r (λ e. omega arith))) (eq-or-lt-of-le (omega arith))

@@ -1,7 +1,7 @@
--- The rows in turn; what rows 1 and 2 leave, and what is left in the check's tables.
+-- The rows in turn; what row 1 leaves, and what is left in the check's tables.
 use Prim.Native.Nat.{ℕ, _%_, _*_, _<_, _≤_}
 use mathlib.Core.Path.{_∙_, _≡_, ap, refl, sym}
-use mathlib.Core.Bool.{_||_, false, not}
+use mathlib.Core.Bool.{Bool, _||_, false, not, true}
 use mathlib.Core.List.{List, [], _∷_}
 use native.Mathlib.Omega.{arith}
 use lib.Dec.{eqb, ltb}
@@ -10,14 +10,15 @@ use borrow.Author.Tests.{eqb-false, eqb-true, ltb-false, not-false}
 use Rattle.counting.specs.Search.{first}
 use Rattle.counting.proofs.Bools.{or-none}
 use Rattle.answer.specs.Answer.{refusal, result}
-use Rattle.answer.specs.Rows.{answerOf}
+use Rattle.answer.specs.Rows.{answerOf, whole}
 use Rattle.answer.specs.Faults.{rowAt, since}
-use Rattle.answer.proofs.Rows.{row-passes, row-refuses, rows-end}
-use Rattle.grid.specs.Grid.{Grid, cellCount, crossings, mostCells}
-use Rattle.grid.specs.Rows.{badLength, badPairs, gridAnswer, rows}
-use Rattle.grid.specs.Work.{Near, Table, WhereAccepted, Worked, answerFrom, listedAt}
+use Rattle.answer.proofs.Rows.{row-passes, row-refuses, rows-end, whole-fault, whole-fine}
+use Rattle.grid.specs.Grid.{Grid, built, cellCount, crossings, mostCells}
+use Rattle.grid.specs.Rows.{badLength, badLists, gridAnswer, rows}
+use Rattle.grid.specs.Work.{Near, Table, WhereAccepted, Worked, answerFrom, answerWith, listedAt}
 use Rattle.grid.specs.declared.Checked.{Checked}
 use Rattle.grid.specs.declared.Checked.the-variants.{Crossings, Refused}
+use Rattle.grid.proofs.Starts.{built-is, lists-fine}
 
 -- row n, and row m which follows it
 module _ (G : Grid) (n m : ℕ) (follows : since n (rows G) ≡ rowAt (since n (rows G)) 0 ∷ since m (rows G))
@@ -30,16 +31,12 @@ module _ (G : Grid) (n m : ℕ) (follows : since n (rows G) ≡ rowAt (since n (
   unfolding answerFrom
   answer-refuses l = row-refuses (rowAt (since n (rows G)) 0) (since m (rows G)) _ p e l ∙ ap (λ r. answerOf r (result (crossings (G .counts) ∷ []))) (sym follows)
 
--- the first row and the end
-pub answer-start : (G : Grid) → answerFrom 1 G ≡ gridAnswer G
-unfolding answerFrom gridAnswer since rows
-answer-start G = refl
-
+-- the end
 pub answer-end : (G : Grid) → result (crossings (G .counts) ∷ []) ≡ answerFrom 11 G
 unfolding answerFrom since rows
 answer-end G = rows-end _
 
--- what rows 1 and 2 leave
+-- what row 1 leaves
 pub length-fine : (cells : List ℕ) → badLength cells ≡ false → (length cells ≡ 4 * cellCount cells) × (0 < cellCount cells) × (cellCount cells ≤ mostCells)
 unfolding badLength
 length-fine cells e =
@@ -49,9 +46,39 @@ length-fine cells e =
     let g = eqb-false (length cells) 0 p in
     (omega arith, omega arith, ltb-false mostCells (cellCount cells) q)
 
-pub pairs-fine : (edges counts : List ℕ) → badPairs edges counts ≡ false → length edges ≡ 2 * length counts
-unfolding badPairs
-pairs-fine edges counts e = eqb-true (length edges) (2 * length counts) (not-false (eqb (length edges) (2 * length counts)) e)
+-- rows 1 and 2, with row 2's verdict at hand
+module _ (wrong : Bool) (G : Grid) where
+  pub with-1 : badLength (G .cells) ≡ true → refusal 1 0 ≡ answerWith wrong G
+  unfolding answerWith
+  with-1 h = row-refuses (whole 1 (badLength (G .cells))) _ _ 0 (whole-fault _ h) (omega arith)
+
+  pub with-2 : badLength (G .cells) ≡ false → wrong ≡ true → refusal 2 0 ≡ answerWith wrong G
+  unfolding answerWith
+  with-2 h e =
+      row-refuses (whole 2 wrong) (since 3 (rows G)) _ 0 (whole-fault _ e) (omega arith)
+      ∙ row-passes (whole 1 (badLength (G .cells))) _ _ 1 (whole-fine _ h) (omega arith)
+
+  pub with-3 : badLength (G .cells) ≡ false → wrong ≡ false → answerFrom 3 G ≡ answerWith wrong G
+  unfolding answerWith answerFrom
+  with-3 h e =
+      row-passes (whole 2 wrong) (since 3 (rows G)) _ 1 (whole-fine _ e) (omega arith)
+      ∙ row-passes (whole 1 (badLength (G .cells))) _ _ 1 (whole-fine _ h) (omega arith)
+
+-- the verdict by which the check judges
+judged : (G : Grid) → answerWith (badLists (G .edges) (G .counts) (G .starts)) G ≡ gridAnswer G
+unfolding answerWith gridAnswer rows since
+judged G = refl
+
+pub verdict : (G : Grid) (wrong : Bool) → wrong ≡ badLists (G .edges) (G .counts) (G .starts)
+    → answerWith wrong (built (G .cells) (G .edges) (G .counts)) ≡ gridAnswer G
+verdict G wrong e = go wrong e (badLength (G .cells)) refl ∙ ap (λ b. answerWith b G) e ∙ judged G
+  where
+    -- rows 1 and 2 refuse alike; else the two grids are one
+    go : (b : Bool) → b ≡ badLists (G .edges) (G .counts) (G .starts) → (l : Bool) → badLength (G .cells) ≡ l
+        → answerWith b (built (G .cells) (G .edges) (G .counts)) ≡ answerWith b G
+    go true q true h = sym (with-1 true (built (G .cells) (G .edges) (G .counts)) h) ∙ with-1 true G h
+    go true q false h = sym (with-2 true (built (G .cells) (G .edges) (G .counts)) h refl) ∙ with-2 true G h refl
+    go false q l h = let f = lists-fine (G .edges) (G .counts) (G .starts) (sym q) in ap (answerWith false) (sym (built-is G (f .1) (f .2)))
 
 -- a fact that holds anyway
 pub where-accepted : {T : Type 0} (r : Checked) → T → WhereAccepted r T

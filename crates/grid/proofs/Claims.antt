@@ -1,8 +1,9 @@
 -- Accepted exactly where no row has a fault; refused at the first row with one, at its lowest place; crossing numbers.
+use Prim.Native.Nat.{ℕ}
 use mathlib.Core.Path.{_≡_, ap, refl}
 use mathlib.Core.Logic.{inl, inr, ⊎-elim}
 use mathlib.Core.Bool.{true}
-use mathlib.Core.List.{[], _∷_}
+use mathlib.Core.List.{List, [], _∷_}
 use native.Mathlib.Omega.{arith}
 use lib.ListN.{length}
 use Rattle.counting.specs.Pack.{col}
@@ -12,8 +13,9 @@ use Rattle.answer.specs.Faults.{AllClear, numbered}
 use Rattle.answer.proofs.Answer.{mixed, refusals}
 use Rattle.answer.proofs.Rows.{answer-some, clear-answer, clear-or-refusal, refusal-answer, refused-by, result-clear, result-is}
 use Rattle.grid.specs.Check.{checkNumbers}
-use Rattle.grid.specs.Claims.{AcceptsClear, AcceptsOrRefuses, AnswerTold, ClearAccepted, CrossingNumbers, FaultRefused, RefusesFault}
+use Rattle.grid.specs.Claims.{AcceptsClear, AcceptsOrRefuses, AnswerTold, ClearAccepted, CrossingNumbers, FaultRefused, OpenTold, RefusesFault}
 use Rattle.grid.specs.Grid.{Grid, countOf, crossings, start}
+use Rattle.grid.specs.Opening.{openAnswer, opened}
 use Rattle.grid.specs.Rows.{gridAnswer, rows}
 use Rattle.grid.specs.Tables.{accepts}
 use Rattle.grid.specs.declared.Checked.{Checked}
@@ -52,14 +54,19 @@ pub accepted-is : (G : Grid) → accepts G ≡ true → gridAnswer G ≡ result 
 unfolding gridAnswer
 accepted-is G h = result-is (rows G) (crossings (G .counts) ∷ []) (rows-numbered G) h
 
+-- an answer that is not empty is read from one value alone
+pub told : (answer : List ℕ) → ([] ≡ answer → ⊥) → (r s : Checked) → checkNumbers r ≡ answer → checkNumbers s ≡ answer → r ≡ s
+told answer some (Crossings n) (Crossings m) a b = let x : n ≡ m = cc in rw x
+told answer some (Crossings n) (Refused k p) a b = absurd (mixed answer some k p (n ∷ []) a b)
+told answer some (Refused k p) (Crossings n) a b = absurd (mixed answer some k p (n ∷ []) b a)
+told answer some (Refused k p) (Refused l q) a b = let (x, y) = refusals answer some k p l q a b in rw (x, y)
+
 pub answer-told : AnswerTold
-answer-told G = go
-  where
-    go : (r s : Checked) → checkNumbers r ≡ gridAnswer G → checkNumbers s ≡ gridAnswer G → r ≡ s
-    go (Crossings n) (Crossings m) a b = let x : n ≡ m = cc in rw x
-    go (Crossings n) (Refused k p) a b = absurd (mixed (gridAnswer G) (never-empty G) k p (n ∷ []) a b)
-    go (Refused k p) (Crossings n) a b = absurd (mixed (gridAnswer G) (never-empty G) k p (n ∷ []) b a)
-    go (Refused k p) (Refused l q) a b = let (x, y) = refusals (gridAnswer G) (never-empty G) k p l q a b in rw (x, y)
+answer-told G = told (gridAnswer G) (never-empty G)
+
+pub open-told : OpenTold
+unfolding openAnswer
+open-told G = told (openAnswer G) (never-empty (opened G))
 
 pub crossing-numbers : CrossingNumbers
 unfolding start

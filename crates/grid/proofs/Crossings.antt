@@ -8,11 +8,13 @@ use native.Mathlib.Nat.{eq-or-lt-of-le}
 use native.Mathlib.Numerals.{add-one}
 use native.Mathlib.Omega.{arith}
 use lib.Dec.{ltb}
+use lib.ListN.{getD, length, set}
+use lib.Seq.{getD-set-other, getD-set-same}
 use borrow.Author.Tests.{le-ltb, lt-ltb, ltb-false}
 use Rattle.counting.specs.Pack.{pre}
 use Rattle.counting.specs.Pick.{pick}
 use Rattle.counting.specs.Range.{total}
-use Rattle.counting.proofs.Pack.{pre-le, pre-next}
+use Rattle.counting.proofs.Pack.{pre-changed, pre-kept, pre-le, pre-next}
 use Rattle.grid.specs.Grid.{countOf, crossings, mostCrossings, start}
 use Rattle.grid.specs.Rows.{tooMany}
 use Rattle.grid.specs.Work.{capped}
@@ -55,3 +57,14 @@ module _ (counts : List ℕ) where
           → (b ≡ false) × (pick b (mostCrossings + 1) (crossings counts) ≡ crossings counts)
       go true e f = absurd (omega arith)
       go false e f = (refl, refl)
+
+-- one count is set: the starts up to its edge stay, and those after it change as the count does
+module _ (counts : List ℕ) (e x : ℕ) where
+  pub start-kept : (d : ℕ) → d ≤ e → start (set counts e x) d ≡ start counts d
+  unfolding start
+  start-kept = pre-kept (countOf (set counts e x)) (countOf counts) e (λ d n. getD-set-other counts e d x 0 n)
+
+  pub start-set : e < length counts → (d : ℕ) → e < d → start (set counts e x) d + countOf counts e ≡ start counts d + x
+  unfolding start
+  start-set h d l =
+      omega (arith, pre-changed (countOf (set counts e x)) (countOf counts) e (λ d n. getD-set-other counts e d x 0 n) d l, getD-set-same counts e x 0 h)

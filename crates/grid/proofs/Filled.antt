@@ -18,9 +18,9 @@ use Rattle.answer.specs.Answer.{result}
 use Rattle.answer.proofs.Answer.{refused-not}
 use Rattle.grid.specs.Accepted.{EdgeNumbers, Sound}
 use Rattle.grid.specs.Check.{checkNumbers}
-use Rattle.grid.specs.Grid.{Grid, cellCount, crossings, edgeNumber, faceName, isEdge, mostCrossings, mostEdges, mostSlots, sameFace, start}
+use Rattle.grid.specs.Grid.{Grid, built, cellCount, edgeNumber, faceName, isEdge, mostEdges, mostSlots, sameFace}
 use Rattle.grid.specs.Rows.{gridAnswer}
-use Rattle.grid.specs.Tables.{Opened, accepts, nameAt, sideAt}
+use Rattle.grid.specs.Tables.{Laid, accepts, nameAt, sideAt}
 use Rattle.grid.specs.Work.{Copying, Lowering, Near, RisingCells, WhereAccepted, Worked, listedAt, lowerPlace}
 use Rattle.grid.specs.declared.Checked.{Checked}
 use Rattle.grid.specs.declared.Checked.the-variants.{Crossings, Refused}
@@ -28,6 +28,7 @@ use Rattle.grid.proofs.Accepts.{acceptance-yields, ordered}
 use Rattle.grid.proofs.Sound.{edge-numbers}
 use Rattle.grid.proofs.Claims.{never-empty}
 use Rattle.grid.proofs.Packed.{one-slot, true-same}
+use Rattle.grid.proofs.Starts.{built-is}
 
 -- the lower of two places
 pub lower-none : (j x : ℕ) → x ≡ 0 → j ≡ lowerPlace j x
@@ -98,8 +99,8 @@ module _ (G : Grid) where
   pub crossings-accept : (n : ℕ) → checkNumbers (Crossings n) ≡ gridAnswer G → accepts G ≡ true
   crossings-accept n e = rw (← e)
 
-  pub opened-kept : accepts G ≡ false → (names sides starts : List ℕ) → Opened G names sides starts names sides starts
-  opened-kept e names sides starts = record { names-are = rw e; sides-are = rw e; starts-are = rw e }
+  pub laid-kept : accepts G ≡ false → (names sides : List ℕ) → Laid G names sides names sides
+  laid-kept e names sides = record { names-are = rw e; sides-are = rw e }
 
   -- an answer that is known to be a result
   module _ (r : Checked) (n : ℕ) (e : r ≡ Crossings n) (h : checkNumbers r ≡ gridAnswer G) where
@@ -112,13 +113,20 @@ module _ (G : Grid) where
     pub told-accepts : accepts G ≡ true
     told-accepts = crossings-accept n (sym is-result)
 
+    -- its starts are those of its counts
+    pub told-built : G ≡ built (G .cells) (G .edges) (G .counts)
+    told-built = built-is G (told-sound .starts-long) (told-sound .starts-are)
+
+    pub sound-built : Sound (built (G .cells) (G .edges) (G .counts))
+    sound-built = subst Sound told-built told-sound
+
     -- what the check then leaves is what the writers take
-    module _ (across listed : List ℕ) (w : WhereAccepted r (Worked G across listed)) where
+    module _ (across listed : List ℕ) (w : WhereAccepted r (Worked (built (G .cells) (G .edges) (G .counts)) across listed)) where
       E : EdgeNumbers G
       E = edge-numbers G told-sound
 
       W : Worked G across listed
-      W = subst (λ r. WhereAccepted r (Worked G across listed)) e w
+      W = subst (λ H. Worked H across listed) (sym told-built) (subst (λ r. WhereAccepted r (Worked (built (G .cells) (G .edges) (G .counts)) across listed)) e w)
 
       pub copying : (table : List ℕ) → mostSlots ≤ length table → Copying (4 * cellCount (G .cells)) across table
       copying table room = record { few = omega (arith, told-sound .few-cells); across-room = W .near-is .room; room = omega (arith, told-sound .few-cells) }
@@ -135,19 +143,14 @@ module _ (G : Grid) where
                 (omega (arith, e), omega (arith, e, l, E .few, told-sound .few-cells)));
           }
 
-      pub starting : (table : List ℕ) → mostEdges ≤ length table → (length (G .counts) ≤ length table) × (crossings (G .counts) ≤ mostCrossings)
-      starting table room = (omega (arith, told-sound .few-cells, E .few), told-sound .few-crossings)
-
-      pub opened-filled : (names₀ sides₀ starts₀ names sides starts : List ℕ)
+      pub laid-filled : (names₀ sides₀ names sides : List ℕ)
           → names ≡ filled (λ j. lowerPlace j (getD across j 0)) (4 * cellCount (G .cells)) names₀
           → sides ≡ filled (λ j. getD listed j 0 - 1) (6 * cellCount (G .cells)) sides₀
-          → starts ≡ filled (start (G .counts)) (length (G .counts)) starts₀
-          → Opened G names₀ sides₀ starts₀ names sides starts
-      opened-filled names₀ sides₀ starts₀ names sides starts p r t =
+          → Laid G names₀ sides₀ names sides
+      laid-filled names₀ sides₀ names sides p r =
           record {
             names-are = rw told-accepts (p ∙ filled-ext (λ j. lowerPlace j (getD across j 0)) (nameAt (G .cells)) (4 * cellCount (G .cells)) names₀
                 (λ j h. name-is-lower (G .cells) across (ordered G told-sound) (W .near-is) j h));
             sides-are = rw told-accepts (r ∙ filled-ext (λ j. getD listed j 0 - 1) (sideAt G) (6 * cellCount (G .cells)) sides₀
                 (λ j h. omega (arith, W .sided .at j h ∙ listed-side G E j h)));
-            starts-are = rw told-accepts t;
           }

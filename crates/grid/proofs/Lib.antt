@@ -5,12 +5,15 @@ pub mod Sides
 pub mod Marks
 pub mod Ring
 pub mod Crossings
+pub mod Starts
 pub mod Answers
 pub mod Claims
 pub mod Sound
 pub mod Linking
 pub mod Accepts
 pub mod Filled
+pub mod Openings
+pub mod Settings
 pub mod Names
 pub mod Nodes
 pub mod Examples

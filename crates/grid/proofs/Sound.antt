@@ -20,9 +20,10 @@ use Rattle.slots.specs.Slots.{hi, lo}
 use Rattle.slots.proofs.Slots.{edge-order, two-slots}
 use Rattle.grid.specs.Accepted.{Before, EdgeIs, EdgeNumbers, Sound}
 use Rattle.grid.specs.Grid.{Grid, SameFace, cellCount, countOf, crossings, edgeNumber, hasEdge, hasFace, high, highestNode, isEdge, joins, low, mostCells, mostCrossings, node, sameFace}
-use Rattle.grid.specs.Rows.{isAfter, badCell, badCount, badEdge, badLength, badPairs, repeats, sameCell, crowded, tooMany, unlisted, unused}
-use Rattle.grid.proofs.Answers.{length-fine, pairs-fine}
+use Rattle.grid.specs.Rows.{isAfter, badCell, badCount, badEdge, badLength, badLists, repeats, sameCell, crowded, tooMany, unlisted, unused}
+use Rattle.grid.proofs.Answers.{length-fine}
 use Rattle.grid.proofs.Packed.{cell-fine, nodes-rise, same-true, true-same}
+use Rattle.grid.proofs.Starts.{fine-lists, lists-fine}
 
 -- the same face: either way round, and from one to the next
 pub flip : (cells : List ℕ) (a r b s : ℕ) → SameFace cells a r b s → SameFace cells b s a r
@@ -112,7 +113,7 @@ module _ (cells : List ℕ) (clear : (c : ℕ) → c < cellCount cells → crowd
 -- the rows 1 to 8, 18 and 10 without a fault
 pub record Faultless (G : Grid) : Type 0 where
   pub row-1 : badLength (G .cells) ≡ false
-  pub row-2 : badPairs (G .edges) (G .counts) ≡ false
+  pub row-2 : badLists (G .edges) (G .counts) (G .starts) ≡ false
   pub row-3 : (c : ℕ) → c < cellCount (G .cells) → badCell (G .cells) c ≡ false
   pub row-4 : (c : ℕ) → c < cellCount (G .cells) → repeats (G .cells) c ≡ false
   pub row-5 : (c : ℕ) → c < cellCount (G .cells) → crowded (G .cells) c ≡ false
@@ -160,7 +161,9 @@ module _ (G : Grid) (F : Faultless G) where
     fours = lists .0;
     some-cell = lists .1;
     few-cells = lists .2;
-    pairs = pairs-fine (G .edges) (G .counts) (F .row-2);
+    pairs = lists-fine (G .edges) (G .counts) (G .starts) (F .row-2) .0;
+    starts-long = lists-fine (G .edges) (G .counts) (G .starts) (F .row-2) .1;
+    starts-are = lists-fine (G .edges) (G .counts) (G .starts) (F .row-2) .2;
     within = λ c i h l. cell-fine (G .cells) c (F .row-3 c h) .0 i l;
     increasing = λ c i j h. nodes-rise (G .cells) c (cell-fine (G .cells) c (F .row-3 c h) .1) i j;
     distinct = distinct-cells;
@@ -290,10 +293,10 @@ module _ (G : Grid) (S : Sound G) where
           rw (z, before-after (G .edges) d (suc d) (S .sorted d (suc d) (omega arith) h), lt-ltb 0 (suc d) (omega arith))
 
   pub faultless : Faultless G
-  unfolding badLength badPairs badCell repeats sameCell badCount unlisted unused hasEdge tooMany
+  unfolding badLength badCell repeats sameCell badCount unlisted unused hasEdge tooMany
   faultless = record {
     row-1 = rw (eq-eqb (length (G .cells) % 4) 0 (omega (arith, S .fours)), ne-eqb (length (G .cells)) 0 (λ e. omega (arith, S .some-cell, S .fours)), le-ltb mostCells (cellCount (G .cells)) (S .few-cells));
-    row-2 = rw (eq-eqb (length (G .edges)) (2 * length (G .counts)) (S .pairs));
+    row-2 = fine-lists (G .edges) (G .counts) (G .starts) (S .pairs) (S .starts-long) (S .starts-are);
     row-3 = λ c h. or-false (some (λ i. ltb highestNode (node (G .cells) c i)) 4) (some (λ i. leb (node (G .cells) c (i + 1)) (node (G .cells) c i)) 3)
         (none-some (λ i. ltb highestNode (node (G .cells) c i)) 4 (λ i l. le-ltb highestNode (node (G .cells) c i) (S .within c i h l)))
         (none-some (λ i. leb (node (G .cells) c (i + 1)) (node (G .cells) c i)) 3 (λ i l. lt-leb (node (G .cells) c (i + 1)) (node (G .cells) c i) (S .increasing c i (i + 1) h (omega arith) (omega arith))));

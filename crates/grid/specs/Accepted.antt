@@ -2,10 +2,10 @@
 use Prim.Native.Nat.{ℕ, _*_, _≤_, _<_}
 use mathlib.Core.Path.{_≡_}
 use mathlib.Core.Logic.{_⊎_, _≢_}
-use lib.ListN.{length}
+use lib.ListN.{length, getD}
 use Rattle.slots.specs.Limits.{mostCount}
 use Rattle.slots.specs.Slots.{lo, hi, slotEdge}
-use Rattle.grid.specs.Grid.{Grid, highestNode, mostCells, mostCrossings, cellCount, node, SameFace, low, high, edgeNumber, countOf, crossings}
+use Rattle.grid.specs.Grid.{Grid, highestNode, mostCells, mostCrossings, cellCount, node, SameFace, low, high, edgeNumber, countOf, start, crossings}
 
 -- by the lower end and then the higher
 abbrev pub Before : ℕ → ℕ → ℕ → ℕ → Type 0
@@ -19,11 +19,14 @@ pub record EdgeIs (G : Grid) (c k e : ℕ) : Type 0 where
 module _ (G : Grid) where
   -- without a fault of the rows 1 to 8, 18 and 10
   pub record Sound : Type 0 where
-    -- 1: four numbers to a cell, and 1 to 2,048 cells; 2: two ends to a count
+    -- 1: four numbers to a cell, and 1 to 2,048 cells
     pub fours : length (G .cells) ≡ 4 * cellCount (G .cells)
     pub some-cell : 0 < cellCount (G .cells)
     pub few-cells : cellCount (G .cells) ≤ mostCells
+    -- 2: two ends to a count, and one start, the sum of the counts before
     pub pairs : length (G .edges) ≡ 2 * length (G .counts)
+    pub starts-long : length (G .starts) ≡ length (G .counts)
+    pub starts-are : (e : ℕ) → e < length (G .counts) → getD (G .starts) e 0 ≡ start (G .counts) e
     -- 3: nodes within the limit, and strictly increasing; 4: no cell twice; 5: a face in at most two cells
     pub within : (c i : ℕ) → c < cellCount (G .cells) → i < 4 → node (G .cells) c i ≤ highestNode
     pub increasing : (c i j : ℕ) → c < cellCount (G .cells) → i < j → j < 4 → node (G .cells) c i < node (G .cells) c j

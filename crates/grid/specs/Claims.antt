@@ -3,11 +3,13 @@ use Prim.Native.Nat.{ℕ, _<_}
 use mathlib.Core.Path.{_≡_}
 use mathlib.Core.Logic.{_⊎_, _≢_}
 use mathlib.Core.List.{List, [], _∷_}
-use lib.ListN.{length}
+use lib.ListN.{length, getD}
 use Rattle.answer.specs.Answer.{result, refusal}
 use Rattle.answer.specs.Faults.{AllClear, Refusal}
-use Rattle.grid.specs.Grid.{Grid, countOf, crossing, crossings}
+use Rattle.grid.specs.Grid.{Grid, gridOf, countOf, start, crossing, crossings, built}
 use Rattle.grid.specs.Rows.{rows, gridAnswer}
+use Rattle.grid.specs.Opening.{openAnswer, openStarts, openedAfresh}
+use Rattle.grid.specs.Setting.{setAnswer, Setting, setAll}
 use Rattle.grid.specs.Check.{checkNumbers}
 use Rattle.grid.specs.declared.Checked.{Checked}
 use Rattle.grid.specs.Accepted.{Accepted, Sound, EdgeNumbers}
@@ -34,6 +36,12 @@ AcceptsOrRefuses = (G : Grid) → (gridAnswer G ≡ result (crossings (G .counts
 abbrev pub AnswerTold : Type 0
 AnswerTold = (G : Grid) (r s : Checked) → checkNumbers r ≡ gridAnswer G → checkNumbers s ≡ gridAnswer G → r ≡ s
 
+abbrev pub OpenTold : Type 0
+OpenTold = (G : Grid) (r s : Checked) → checkNumbers r ≡ openAnswer G → checkNumbers s ≡ openAnswer G → r ≡ s
+
+abbrev pub SetTold : Type 0
+SetTold = (G : Grid) (edge count : ℕ) (r s : Checked) → checkNumbers r ≡ setAnswer G edge count → checkNumbers s ≡ setAnswer G edge count → r ≡ s
+
 -- a grid is accepted exactly where it is as 01 asks, said without the tests of the rows
 abbrev pub AcceptanceYields : Type 1
 AcceptanceYields = (G : Grid) (values : List ℕ) → gridAnswer G ≡ result values → Accepted G
@@ -57,3 +65,25 @@ pub record Numbered (counts : List ℕ) (edgeOf indexOf : ℕ → ℕ) : Type 0 
 
 abbrev pub CrossingNumbers : Type 0
 CrossingNumbers = (counts : List ℕ) → (edgeOf : ℕ → ℕ) × (indexOf : ℕ → ℕ) × Numbered counts edgeOf indexOf
+
+-- the opening call minds only the number of the starts: with one to a count it answers as the check of the grid built afresh, and where it accepts
+-- leaves that grid's starts
+abbrev pub OpensBuilt : Type 0
+OpensBuilt = (cells edges counts starts : List ℕ) → length starts ≡ length counts
+    → (openAnswer (gridOf cells edges counts starts) ≡ gridAnswer (built cells edges counts))
+    × ((values : List ℕ) → gridAnswer (built cells edges counts) ≡ result values → openStarts (gridOf cells edges counts starts) ≡ built cells edges counts .starts)
+
+-- H is what settings have made of the accepted grid G
+pub record SetRight (G H : Grid) : Type 0 where
+  -- a start for each count, the sum of the earlier ones
+  pub many-same : length (H .counts) ≡ length (G .counts)
+  pub starts-long : length (H .starts) ≡ length (H .counts)
+  pub starts-are : (e : ℕ) → e < length (H .counts) → getD (H .starts) e 0 ≡ start (H .counts) e
+  pub accepted : gridAnswer H ≡ result (crossings (H .counts) ∷ [])
+  -- H is the grid that is built afresh with its counts, and the one that the opening call leaves, whatever starts it is lent
+  pub fresh : H ≡ built (G .cells) (G .edges) (H .counts)
+  pub reopened : (starts : List ℕ) → length starts ≡ length (H .counts) → H ≡ openedAfresh (G .cells) (G .edges) (H .counts) starts
+
+-- after any list of settings on an accepted grid, refused ones among them
+abbrev pub SettingsRight : Type 0
+SettingsRight = (G : Grid) (values : List ℕ) → gridAnswer G ≡ result values → (l : List Setting) → SetRight G (setAll l G)

@@ -1,18 +1,25 @@
--- Grids and their answers: the examples of 01's table for rows 1 to 9, limits, row 18, and grids with several faults.
+-- Grids and their answers: the examples of 01's table for rows 1 to 9, limits, row 18, wrong starts, and grids with several faults; openings and
+-- settings.
 use Prim.Native.Nat.{ℕ}
 use mathlib.Core.List.{List, [], _∷_}
 use Rattle.answer.specs.Answer.{result, refusal}
 use Rattle.counting.specs.Pick.{one}
 use Rattle.counting.specs.Range.{over}
-use Rattle.grid.specs.Grid.{Grid, gridOf, outer, start}
+use Rattle.grid.specs.Grid.{Grid, gridOf, outer, start, built}
 use Rattle.grid.specs.Tables.{nameAt, sideAt}
+use Rattle.grid.specs.Opening.{openAnswer, openStarts}
+use Rattle.grid.specs.Setting.{Setting, setAll, setAnswer, setCounts, setStarts}
 
 pub record Example : Type 0 where
   pub grid : Grid
   pub answer : List ℕ
 
+-- a grid with the starts that it should have, and one with others
 abbrev example : List ℕ → List ℕ → List ℕ → List ℕ → Example
-example cells edges counts answer = record { grid = gridOf cells edges counts; answer = answer }
+example cells edges counts answer = record { grid = built cells edges counts; answer = answer }
+
+abbrev started : List ℕ → List ℕ → List ℕ → List ℕ → List ℕ → Example
+started cells edges counts starts answer = record { grid = gridOf cells edges counts starts; answer = answer }
 
 -- a list of each example
 unfoldable pub of : (Example → List ℕ) → List Example → List (List ℕ)
@@ -82,6 +89,14 @@ examples =
     ∷ example cell six (0 ∷ 0 ∷ 0 ∷ 0 ∷ 0 ∷ []) (refusal 2 0)
     ∷ example cell six (0 ∷ 0 ∷ 0 ∷ 0 ∷ 0 ∷ 0 ∷ 0 ∷ []) (refusal 2 0)
     ∷ example cell six [] (refusal 2 0)
+    -- the starts 0 1 3 6 10 15; 2: one start too few, one too many, none; the last start wrong, the first; starts that count their own edge
+    ∷ started cell six (1 ∷ 2 ∷ 3 ∷ 4 ∷ 5 ∷ 6 ∷ []) (0 ∷ 1 ∷ 3 ∷ 6 ∷ 10 ∷ 15 ∷ []) (result (21 ∷ []))
+    ∷ started cell six (1 ∷ 2 ∷ 3 ∷ 4 ∷ 5 ∷ 6 ∷ []) (0 ∷ 1 ∷ 3 ∷ 6 ∷ 10 ∷ []) (refusal 2 0)
+    ∷ started cell six (1 ∷ 2 ∷ 3 ∷ 4 ∷ 5 ∷ 6 ∷ []) (0 ∷ 1 ∷ 3 ∷ 6 ∷ 10 ∷ 15 ∷ 21 ∷ []) (refusal 2 0)
+    ∷ started cell six zeros [] (refusal 2 0)
+    ∷ started cell six (1 ∷ 2 ∷ 3 ∷ 4 ∷ 5 ∷ 6 ∷ []) (0 ∷ 1 ∷ 3 ∷ 6 ∷ 10 ∷ 14 ∷ []) (refusal 2 0)
+    ∷ started cell six zeros (1 ∷ 0 ∷ 0 ∷ 0 ∷ 0 ∷ 0 ∷ []) (refusal 2 0)
+    ∷ started cell six (1 ∷ 2 ∷ 3 ∷ 4 ∷ 5 ∷ 6 ∷ []) (1 ∷ 3 ∷ 6 ∷ 10 ∷ 15 ∷ 21 ∷ []) (refusal 2 0)
     -- 3: 0 2 1 3, a node twice, the node 4,096, the highest 16-bit node in the second cell
     ∷ example (0 ∷ 2 ∷ 1 ∷ 3 ∷ []) six zeros (refusal 3 0)
     ∷ example (0 ∷ 1 ∷ 1 ∷ 3 ∷ []) six zeros (refusal 3 0)
@@ -121,6 +136,8 @@ examples =
     ∷ example loose looseEdges (sixteen (15 ∷ 1 ∷ [])) (refusal 10 0)
     ∷ example loose looseEdges (sixteen (4095 ∷ 4095 ∷ [])) (refusal 10 0)
     -- several faults: the first row, and in it the lowest place
+    ∷ started (0 ∷ 2 ∷ 1 ∷ 3 ∷ 9 ∷ []) six zeros (1 ∷ []) (refusal 1 0)
+    ∷ started (0 ∷ 2 ∷ 1 ∷ 3 ∷ []) six zeros (1 ∷ 0 ∷ 0 ∷ 0 ∷ 0 ∷ 0 ∷ []) (refusal 2 0)
     ∷ example (0 ∷ 2 ∷ 1 ∷ 3 ∷ 9 ∷ []) (1 ∷ 1 ∷ 1 ∷ []) (65535 ∷ 1 ∷ []) (refusal 1 0)
     ∷ example (0 ∷ 2 ∷ 1 ∷ 3 ∷ []) (1 ∷ 1 ∷ 1 ∷ []) (65535 ∷ 1 ∷ []) (refusal 2 0)
     ∷ example (0 ∷ 1 ∷ 2 ∷ 3 ∷ 0 ∷ 1 ∷ 2 ∷ 3 ∷ 0 ∷ 1 ∷ 2 ∷ 3 ∷ 3 ∷ 2 ∷ 1 ∷ 0 ∷ []) (1 ∷ 1 ∷ 1 ∷ 1 ∷ []) (65535 ∷ 1 ∷ []) (refusal 3 3)
@@ -152,8 +169,8 @@ roundEdges = 0 ∷ 1 ∷ 0 ∷ 2 ∷ 0 ∷ 3 ∷ 0 ∷ 4 ∷ 1 ∷ 2 ∷ 1 ∷ 3
 unfoldable pub found : List (List ℕ)
 found =
     values 12 (nameAt chain)
-    ∷ values 18 (sideAt (gridOf chain chainEdges twelve))
-    ∷ values 10 (λ e. one (outer (gridOf round roundEdges []) e))
+    ∷ values 18 (sideAt (built chain chainEdges twelve))
+    ∷ values 10 (λ e. one (outer (built round roundEdges []) e))
     ∷ values 7 (start (1 ∷ 2 ∷ 3 ∷ 4 ∷ 5 ∷ 6 ∷ []))
     ∷ []
 
@@ -163,4 +180,73 @@ expected =
     ∷ (0 ∷ 1 ∷ 2 ∷ 5 ∷ 6 ∷ 9 ∷ 0 ∷ 2 ∷ 3 ∷ 6 ∷ 7 ∷ 10 ∷ 0 ∷ 3 ∷ 4 ∷ 7 ∷ 8 ∷ 11 ∷ [])
     ∷ (0 ∷ 1 ∷ 1 ∷ 1 ∷ 1 ∷ 1 ∷ 1 ∷ 1 ∷ 1 ∷ 1 ∷ [])
     ∷ (0 ∷ 1 ∷ 3 ∷ 6 ∷ 10 ∷ 15 ∷ 21 ∷ [])
+    ∷ []
+
+-- OPENINGS AND SETTINGS of the cell with the counts 1 to 6: what is answered, and the lists afterwards
+
+abbrev upToSix : List ℕ
+upToSix = 1 ∷ 2 ∷ 3 ∷ 4 ∷ 5 ∷ 6 ∷ []
+
+abbrev sums : List ℕ
+sums = 0 ∷ 1 ∷ 3 ∷ 6 ∷ 10 ∷ 15 ∷ []
+
+-- the answer and the starts after an opening that is lent these
+abbrev opening : List ℕ → List ℕ → List (List ℕ)
+opening counts starts = openAnswer (gridOf cell six counts starts) ∷ openStarts (gridOf cell six counts starts) ∷ []
+
+-- the answer, the counts and the starts after a setting of a grid with these starts
+abbrev settingOf : List ℕ → ℕ → ℕ → List (List ℕ)
+settingOf starts edge count =
+    setAnswer (gridOf cell six upToSix starts) edge count
+    ∷ setCounts (gridOf cell six upToSix starts) edge count
+    ∷ setStarts (gridOf cell six upToSix starts) edge count
+    ∷ []
+
+abbrev setting : ℕ → ℕ → Setting
+setting edge count = record { edge = edge; count = count }
+
+-- settings in turn, two of them refused
+abbrev inTurn : Grid
+inTurn = setAll (setting 2 7 ∷ setting 6 1 ∷ setting 2 4096 ∷ setting 0 0 ∷ []) (built cell six upToSix)
+
+-- the greatest number of crossings
+abbrev full : Grid
+full = built loose looseEdges (sixteen (15 ∷ 0 ∷ []))
+
+unfoldable pub tried : List (List (List ℕ))
+tried =
+    -- whatever the starts are, but not whatever their number is; a refusal keeps them
+    opening upToSix (9 ∷ 9 ∷ 9 ∷ 9 ∷ 9 ∷ 9 ∷ [])
+    ∷ opening upToSix (9 ∷ 9 ∷ 9 ∷ 9 ∷ 9 ∷ [])
+    ∷ opening upToSix (9 ∷ 9 ∷ 9 ∷ 9 ∷ 9 ∷ 9 ∷ 9 ∷ [])
+    ∷ opening (1 ∷ 2 ∷ 4096 ∷ 4 ∷ 5 ∷ 6 ∷ []) (9 ∷ 9 ∷ 9 ∷ 9 ∷ 9 ∷ 9 ∷ [])
+    -- all later starts change, none before; the first edge, the last
+    ∷ settingOf sums 2 7
+    ∷ settingOf sums 0 0
+    ∷ settingOf sums 5 4095
+    -- 21 before 18; the starts as they are lent before 21
+    ∷ settingOf sums 6 0
+    ∷ settingOf sums 6 4096
+    ∷ settingOf sums 2 4096
+    ∷ settingOf (0 ∷ 1 ∷ 3 ∷ 6 ∷ 10 ∷ 16 ∷ []) 6 0
+    ∷ (inTurn .counts ∷ inTurn .starts ∷ [])
+    -- 18 before 10; the old count is no longer in the total; the crossings as they are lent before 21
+    ∷ (setAnswer full 17 4096 ∷ setAnswer full 17 1 ∷ setAnswer full 0 4095 ∷ setAnswer full 16 14 ∷ setAnswer (built loose looseEdges (sixteen (15 ∷ 1 ∷ []))) 18 0 ∷ [])
+    ∷ []
+
+unfoldable pub triedExpected : List (List (List ℕ))
+triedExpected =
+    (result (21 ∷ []) ∷ sums ∷ [])
+    ∷ (refusal 2 0 ∷ (9 ∷ 9 ∷ 9 ∷ 9 ∷ 9 ∷ []) ∷ [])
+    ∷ (refusal 2 0 ∷ (9 ∷ 9 ∷ 9 ∷ 9 ∷ 9 ∷ 9 ∷ 9 ∷ []) ∷ [])
+    ∷ (refusal 18 2 ∷ (9 ∷ 9 ∷ 9 ∷ 9 ∷ 9 ∷ 9 ∷ []) ∷ [])
+    ∷ (result (25 ∷ []) ∷ (1 ∷ 2 ∷ 7 ∷ 4 ∷ 5 ∷ 6 ∷ []) ∷ (0 ∷ 1 ∷ 3 ∷ 10 ∷ 14 ∷ 19 ∷ []) ∷ [])
+    ∷ (result (20 ∷ []) ∷ (0 ∷ 2 ∷ 3 ∷ 4 ∷ 5 ∷ 6 ∷ []) ∷ (0 ∷ 0 ∷ 2 ∷ 5 ∷ 9 ∷ 14 ∷ []) ∷ [])
+    ∷ (result (4110 ∷ []) ∷ (1 ∷ 2 ∷ 3 ∷ 4 ∷ 5 ∷ 4095 ∷ []) ∷ sums ∷ [])
+    ∷ (refusal 21 6 ∷ upToSix ∷ sums ∷ [])
+    ∷ (refusal 21 6 ∷ upToSix ∷ sums ∷ [])
+    ∷ (refusal 18 2 ∷ upToSix ∷ sums ∷ [])
+    ∷ (refusal 2 0 ∷ upToSix ∷ (0 ∷ 1 ∷ 3 ∷ 6 ∷ 10 ∷ 16 ∷ []) ∷ [])
+    ∷ ((0 ∷ 2 ∷ 7 ∷ 4 ∷ 5 ∷ 6 ∷ []) ∷ (0 ∷ 0 ∷ 2 ∷ 9 ∷ 13 ∷ 18 ∷ []) ∷ [])
+    ∷ (refusal 18 17 ∷ refusal 10 0 ∷ result (65535 ∷ []) ∷ result (65534 ∷ []) ∷ refusal 10 0 ∷ [])
     ∷ []

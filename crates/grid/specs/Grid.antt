@@ -1,4 +1,4 @@
--- A grid (01): a list of cells, four nodes each; a list of edges, two nodes each; a count for each edge.
+-- A grid (01): a list of cells, four nodes each; a list of edges, two nodes each; a count for each edge, and beside it its start (02, W5).
 use Prim.Native.Nat.{ℕ, _+_, _*_, _/_, _%_, _<_}
 use mathlib.Core.Path.{_≡_}
 use mathlib.Core.Bool.{Bool, _&&_}
@@ -7,16 +7,18 @@ use lib.ListN.{length, getD}
 use lib.Dec.{eqb}
 use Rattle.counting.specs.Search.{first, some, every, count}
 use Rattle.counting.specs.Pack.{pre}
+use Rattle.counting.specs.Range.{values}
 use Rattle.slots.specs.Slots.{lo, hi, position, contains}
 
--- the three lists, four numbers to a cell, two to an edge, one to a count
+-- the four lists: four numbers to a cell, two to an edge, one to a count, one to a start
 pub record Grid : Type 0 where
   pub cells : List ℕ
   pub edges : List ℕ
   pub counts : List ℕ
+  pub starts : List ℕ
 
-abbrev pub gridOf : List ℕ → List ℕ → List ℕ → Grid
-gridOf cells edges counts = record { cells = cells; edges = edges; counts = counts }
+abbrev pub gridOf : List ℕ → List ℕ → List ℕ → List ℕ → Grid
+gridOf cells edges counts starts = record { cells = cells; edges = edges; counts = counts; starts = starts }
 
 -- the highest node, and the most cells and crossings that a grid may have. The greatest count of an edge is `mostCount` of the crate slots.
 abbrev pub highestNode : ℕ
@@ -113,3 +115,11 @@ module _ (counts : List ℕ) where
   -- the number of crossings
   abbrev pub crossings : ℕ
   crossings = start (length counts)
+
+  -- the starts of all edges
+  unfoldable pub startsOf : List ℕ
+  startsOf = values start (length counts)
+
+-- a grid built afresh with these counts: each start is the sum of the counts before its edge
+abbrev pub built : List ℕ → List ℕ → List ℕ → Grid
+built cells edges counts = gridOf cells edges counts (startsOf counts)

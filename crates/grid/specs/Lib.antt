@@ -3,6 +3,8 @@ pub mod Rows
 pub mod Check
 pub mod Examples
 pub mod Tables
+pub mod Opening
+pub mod Setting
 pub mod Accepted
 pub mod Claims
 pub mod Work

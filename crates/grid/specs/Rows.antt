@@ -1,8 +1,8 @@
--- What the grid check refuses: rows 1 to 10 of the table of 01, and row 18 (02, W1). Each row is a test of its places; its fault is the lowest place that passes.
+-- What the grid check refuses: rows 1 to 10 of the table of 01, row 2 with the starts (02, W5), and row 18 (02, W1). Each row is a test of its places; its fault is the lowest place that passes.
 use Prim.Native.Nat.{ℕ, _+_, _*_, _-_, _%_}
 use mathlib.Core.Bool.{Bool, not, _&&_, _||_}
 use mathlib.Core.List.{List, [], _∷_}
-use lib.ListN.{length}
+use lib.ListN.{length, getD}
 use lib.Dec.{eqb, leb, ltb}
 use Rattle.answer.specs.Answer.{result}
 use Rattle.answer.specs.Rows.{Row, whole, each, answerOf}
@@ -11,15 +11,22 @@ use Rattle.counting.specs.Search.{first, some, every, count}
 use Rattle.counting.specs.Reach.{reach}
 use Rattle.slots.specs.Limits.{mostCount}
 use Rattle.slots.specs.Slots.{contains}
-use Rattle.grid.specs.Grid.{Grid, highestNode, mostCells, mostCrossings, cellCount, node, hasFace, low, high, isEdge, hasEdge, countOf, crossings}
+use Rattle.grid.specs.Grid.{Grid, highestNode, mostCells, mostCrossings, cellCount, node, hasFace, low, high, isEdge, hasEdge, countOf, start, crossings}
 
 -- 1: the list of nodes is not one of whole cells, or has no cell or more than 2,048
 unfoldable pub badLength : List ℕ → Bool
 badLength cells = not (eqb (length cells % 4) 0) || (eqb (length cells) 0 || ltb mostCells (cellCount cells))
 
--- 2: the list of ends does not have two for each count
-unfoldable pub badPairs : List ℕ → List ℕ → Bool
-badPairs edges counts = not (eqb (length edges) (2 * length counts))
+-- 2: the list of ends does not have two for each count, or the list of starts one
+unfoldable pub badNumbers : (edges counts starts : List ℕ) → Bool
+badNumbers edges counts starts = not (eqb (length edges) (2 * length counts)) || not (eqb (length starts) (length counts))
+
+-- 2: a start is not the sum of the counts before its edge
+unfoldable pub badStart : (counts starts : List ℕ) → ℕ → Bool
+badStart counts starts e = not (eqb (getD starts e 0) (start counts e))
+
+unfoldable pub badLists : (edges counts starts : List ℕ) → Bool
+badLists edges counts starts = badNumbers edges counts starts || some (badStart counts starts) (length counts)
 
 module _ (cells : List ℕ) where
   -- 3: a node of the cell is above 4,095, or its nodes do not rise
@@ -80,7 +87,7 @@ module _ (G : Grid) where
   unfoldable pub rows : List Row
   rows =
       whole 1 (badLength (G .cells))
-      ∷ whole 2 (badPairs (G .edges) (G .counts))
+      ∷ whole 2 (badLists (G .edges) (G .counts) (G .starts))
       ∷ each 3 (cellCount (G .cells)) (badCell (G .cells))
       ∷ each 4 (cellCount (G .cells)) (repeats (G .cells))
       ∷ each 5 (cellCount (G .cells)) (crowded (G .cells))

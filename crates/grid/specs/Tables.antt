@@ -3,11 +3,10 @@ use Prim.Native.Nat.{ℕ, _*_, _/_, _%_}
 use mathlib.Core.Path.{_≡_}
 use mathlib.Core.Bool.{Bool}
 use mathlib.Core.List.{List}
-use lib.ListN.{length}
 use Rattle.answer.specs.Answer.{isResult}
 use Rattle.counting.specs.Pick.{pick}
 use Rattle.counting.specs.Stored.{filled}
-use Rattle.grid.specs.Grid.{Grid, cellCount, faceName, edgeNumber, start}
+use Rattle.grid.specs.Grid.{Grid, cellCount, faceName, edgeNumber}
 use Rattle.grid.specs.Rows.{gridAnswer}
 
 -- the name of face 4 c + s of the cells
@@ -22,9 +21,8 @@ sideAt G j = edgeNumber G (j / 6) (j % 6)
 abbrev pub accepts : Grid → Bool
 accepts G = isResult (gridAnswer G)
 
--- what `open` leaves in the three lent tables, where they held names₀ .. starts₀: of an accepted grid the tables, and beyond them what was there;
--- else all that was there
-pub record Opened (G : Grid) (names₀ sides₀ starts₀ names sides starts : List ℕ) : Type 0 where
+-- what `lay` leaves in the two lent tables, where they held names₀ and sides₀: of an accepted grid the tables, and beyond them what was there; else
+-- all that was there
+pub record Laid (G : Grid) (names₀ sides₀ names sides : List ℕ) : Type 0 where
   pub names-are : names ≡ pick (accepts G) (filled (nameAt (G .cells)) (4 * cellCount (G .cells)) names₀) names₀
   pub sides-are : sides ≡ pick (accepts G) (filled (sideAt G) (6 * cellCount (G .cells)) sides₀) sides₀
-  pub starts-are : starts ≡ pick (accepts G) (filled (start (G .counts)) (length (G .counts)) starts₀) starts₀

@@ -4,10 +4,10 @@ use mathlib.Core.Path.{_≡_}
 use mathlib.Core.Logic.{_⊎_, _≢_}
 use mathlib.Core.Bool.{Bool, true, false, not, _&&_}
 use mathlib.Core.List.{List, [], _∷_}
-use lib.ListN.{length, getD, replicate}
+use lib.ListN.{length, getD, replicate, set}
 use lib.Dec.{eqb, ltb}
-use Rattle.answer.specs.Answer.{result}
-use Rattle.answer.specs.Rows.{answerOf}
+use Rattle.answer.specs.Answer.{result, isResult}
+use Rattle.answer.specs.Rows.{whole, answerOf}
 use Rattle.answer.specs.Faults.{since}
 use Rattle.counting.specs.Pick.{pick}
 use Rattle.counting.specs.Search.{first, last, some, count}
@@ -16,8 +16,9 @@ pub use Rattle.counting.specs.Chains.{Table, Chained, Headed, Chainable, Walkab
 unfoldable pub use Rattle.counting.specs.Chains.{sameKey, inBucket}
 use Rattle.grid.specs.declared.Checked.{Checked}
 use Rattle.grid.specs.declared.Checked.the-variants.{Crossings, Refused}
-use Rattle.grid.specs.Grid.{Grid, highestNode, mostCells, mostCrossings, mostSlots, mostEdges, cellCount, node, faceNode, sameFace, low, high, isEdge, crossings}
-use Rattle.grid.specs.Rows.{rows, unused}
+use Rattle.grid.specs.Grid.{Grid, highestNode, mostCells, mostCrossings, mostSlots, mostEdges, cellCount, node, faceNode, sameFace, low, high, isEdge, start, crossings, startsOf}
+use Rattle.grid.specs.Rows.{badLength, rows, unused}
+use Rattle.grid.specs.Setting.{changeAnswer}
 
 -- KEYS: nodes packed into one number, so that equal keys are equal nodes
 
@@ -251,6 +252,10 @@ WhereAccepted (Refused row place) T = Unit {0}
 unfoldable pub answerFrom : ℕ → Grid → List ℕ
 answerFrom n G = answerOf (since n (rows G)) (result (crossings (G .counts) ∷ []))
 
+-- the answer of all rows, with this verdict for row 2
+unfoldable pub answerWith : Bool → Grid → List ℕ
+answerWith wrong G = answerOf (whole 1 (badLength (G .cells)) ∷ whole 2 wrong ∷ since 3 (rows G)) (result (crossings (G .counts) ∷ []))
+
 -- what row 3 and those after it start from
 pub record Celling (G : Grid) (near sides : List ℕ) : Type 0 where
   pub few : cellCount (G .cells) ≤ mostCells
@@ -280,3 +285,24 @@ pub record Lowering (n : ℕ) (listed table : List ℕ) : Type 0 where
   pub listed-room : n ≤ length listed
   pub room : n ≤ length table
   pub entries : (j : ℕ) → j < n → (1 ≤ getD listed j 0) × (getD listed j 0 ≤ 65536)
+
+-- the starts of the edges before one are there, and s is its own
+pub record Starting (counts : List ℕ) (from s : ℕ) (starts : List ℕ) : Type 0 where
+  pub room : length counts ≤ length starts
+  pub few : crossings counts ≤ mostCrossings
+  pub within : from ≤ length counts
+  pub own : s ≡ start counts from
+  pub before : (e : ℕ) → e < from → getD starts e 0 ≡ start counts e
+
+-- SETTINGS: what `change` starts from, the counts and starts of an accepted grid with n crossings, and what it leaves
+
+pub record Changeable (counts starts : List ℕ) (n : ℕ) : Type 0 where
+  pub long : length starts ≡ length counts
+  pub starts-are : (e : ℕ) → e < length counts → getD starts e 0 ≡ start counts e
+  pub few : crossings counts ≤ mostCrossings
+  pub all : n ≡ crossings counts
+
+pub record Changed (counts₀ starts₀ : List ℕ) (edge count : ℕ) (counts starts answer : List ℕ) : Type 0 where
+  pub answered : answer ≡ changeAnswer counts₀ edge count
+  pub counts-are : counts ≡ pick (isResult answer) (set counts₀ edge count) counts₀
+  pub starts-are : starts ≡ pick (isResult answer) (startsOf (set counts₀ edge count)) starts₀

@@ -4,10 +4,10 @@ ghost use Prim.Native.Nat.{_+_, _*_, _<_, _≤_};
 ghost use lib.ListN.{length, getD, set, replicate};
 ghost use lib.Seq.{sets};
 ghost use Rattle.counting.specs.Range.{values};
-ghost use Rattle.counting.specs.Search.{first};
+ghost use Rattle.counting.specs.Search.{first, some};
 ghost use Rattle.counting.specs.Stored.{filled};
-ghost use Rattle.grid.specs.Grid.{gridOf, mostEdges, cellCount};
-ghost use Rattle.grid.specs.Rows.{badPairs, badEdge, badCount, unused};
+ghost use Rattle.grid.specs.Grid.{built, mostEdges, cellCount};
+ghost use Rattle.grid.specs.Rows.{badNumbers, badStart, badLists, badEdge, badCount, unused};
 ghost use Rattle.grid.specs.Work.{Table, edgeKey, sideKey, Findable, Putting, Put, listedAt, blankIn};
 use crate::MOST_COUNT;
 use crate::cells::node_at;
@@ -20,10 +20,47 @@ const LO: [usize; 6] = [0, 0, 0, 1, 1, 2];
 
 const HI: [usize; 6] = [1, 2, 3, 2, 3, 3];
 
-pub(crate) fn row_2(edges: &[u16], counts: &[u16]) -> bool
-    ensures { λ r. ⌜ r ≡ badPairs (now (edges .entry)) (now (counts .entry)) ⌝ }
+// Whether the lists do not have two ends and one start to a count.
+pub(crate) fn bad_numbers(edges: &[u16], counts: &[u16], starts: &[u32]) -> bool
+    ensures { λ r. ⌜ r ≡ badNumbers (now (edges .entry)) (now (counts .entry)) (now (starts .entry)) ⌝ }
 {
-    edges.len() != 2 * counts.len()
+    if edges.len() != 2 * counts.len() {
+        return true;
+    }
+    starts.len() != counts.len()
+}
+
+fn wide_start(x: u32) -> usize
+    ensures { λ r. ⌜ r ≡ x ⌝ }
+    ensures { λ r. ⌜ r < 4294967296 ⌝ }
+{
+    x as usize
+}
+
+// Whether some start is not the sum of the counts before its edge. The sum is one more count than a start at most, so it does not overflow.
+fn bad_starts(counts: &[u16], starts: &[u32]) -> bool
+    requires { ⌜ length (now starts) ≡ length (now counts) ⌝ }
+    ensures { λ r. ⌜ r ≡ some (badStart (now (counts .entry)) (now (starts .entry))) (length (now (counts .entry))) ⌝ }
+{
+    let mut s = 0;
+    let mut e = 0;
+    while e < counts.len() {
+        if wide_start(starts[e]) != s {
+            return true;
+        }
+        s += wide(counts[e]);
+        e += 1;
+    }
+    false
+}
+
+pub(crate) fn row_2(edges: &[u16], counts: &[u16], starts: &[u32]) -> bool
+    ensures { λ r. ⌜ r ≡ badLists (now (edges .entry)) (now (counts .entry)) (now (starts .entry)) ⌝ }
+{
+    if bad_numbers(edges, counts, starts) {
+        return true;
+    }
+    bad_starts(counts, starts)
 }
 
 fn end_at(edges: &[u16], i: usize) -> usize
@@ -169,10 +206,10 @@ pub(crate) fn row_8(
     next: &[u16],
     sides: &mut [usize],
 ) -> usize
-    requires { ⌜ Findable (gridOf (now cells) (now edges) (now counts)) (now keys) (now head) (now next) ⌝ }
+    requires { ⌜ Findable (built (now cells) (now edges) (now counts)) (now keys) (now head) (now next) ⌝ }
     requires { ⌜ now sides ≡ replicate mostEdges 0 ⌝ }
-    ensures { λ r. ⌜ r ≡ first (unused (gridOf (now (cells .entry)) (now (edges .entry)) (now (counts .entry)))) (length (now (counts .entry))) ⌝ }
-    ensures { λ _. ⌜ Table (listedAt (gridOf (now (cells .entry)) (now (edges .entry)) (now (counts .entry)))) (6 * cellCount (now (cells .entry))) (now (sides .exit)) ⌝ }
+    ensures { λ r. ⌜ r ≡ first (unused (built (now (cells .entry)) (now (edges .entry)) (now (counts .entry)))) (length (now (counts .entry))) ⌝ }
+    ensures { λ _. ⌜ Table (listedAt (built (now (cells .entry)) (now (edges .entry)) (now (counts .entry)))) (6 * cellCount (now (cells .entry))) (now (sides .exit)) ⌝ }
 {
     let n = 6 * (cells.len() / 4);
     let m = counts.len();

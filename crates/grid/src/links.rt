@@ -5,7 +5,7 @@ ghost use Prim.Native.Nat.{_-_, _*_, _/_, _<_};
 ghost use lib.ListN.{length};
 ghost use Rattle.counting.specs.Search.{first, some};
 ghost use Rattle.slots.specs.Slots.{position, rankIn, otherSlot, secondSlot};
-ghost use Rattle.grid.specs.Grid.{gridOf};
+ghost use Rattle.grid.specs.Grid.{built};
 ghost use Rattle.grid.specs.Rows.{split};
 ghost use Rattle.grid.specs.Work.{OnSlot, Spreadable, Spreads, missing, Leaving, Reached, Splitting, Linkable};
 use crate::MOST_CELLS;
@@ -149,8 +149,8 @@ pub(crate) fn row_9(
     head: &[u16],
     next: &[u16],
 ) -> usize
-    requires { ⌜ Linkable (gridOf (now cells) (now edges) (now counts)) (now near) (now keys) (now head) (now next) ⌝ }
-    ensures { λ r. ⌜ r ≡ first (split (gridOf (now (cells .entry)) (now (edges .entry)) (now (counts .entry)))) (length (now (counts .entry))) ⌝ }
+    requires { ⌜ Linkable (built (now cells) (now edges) (now counts)) (now near) (now keys) (now head) (now next) ⌝ }
+    ensures { λ r. ⌜ r ≡ first (split (built (now (cells .entry)) (now (edges .entry)) (now (counts .entry)))) (length (now (counts .entry))) ⌝ }
 {
     let n = cells.len() / 4;
     let m = counts.len();

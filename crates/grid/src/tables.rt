@@ -3,8 +3,8 @@ ghost use mathlib.Core.Path.{_≡_};
 ghost use Prim.Native.Nat.{_-_, _≤_};
 ghost use lib.ListN.{length, getD};
 ghost use Rattle.counting.specs.Stored.{filled};
-ghost use Rattle.grid.specs.Grid.{mostCrossings, start, crossings};
-ghost use Rattle.grid.specs.Work.{Copying, Lowering, lowerPlace};
+ghost use Rattle.grid.specs.Grid.{start};
+ghost use Rattle.grid.specs.Work.{Copying, Lowering, Starting, lowerPlace};
 use crate::keys::wide;
 use crate::size;
 
@@ -46,16 +46,16 @@ pub(crate) fn write_sides(n: usize, listed: &[usize], sides: &mut [u16])
     }
 }
 
-pub(crate) fn write_starts(counts: &[u16], starts: &mut [u32])
-    requires { ⌜ length (now counts) ≤ length (now starts) ⌝ }
-    requires { ⌜ crossings (now counts) ≤ mostCrossings ⌝ }
+// The starts of the edges from one on, where s is its start and those before it stand already.
+pub(crate) fn write_starts(counts: &[u16], from: usize, s: u32, starts: &mut [u32])
+    requires { ⌜ Starting (now counts) from s (now starts) ⌝ }
     ensures { λ _. ⌜ now (starts .exit) ≡ filled (start (now (counts .entry))) (length (now (counts .entry))) (now (starts .entry)) ⌝ }
 {
-    let mut s: u32 = 0;
-    let mut e = 0;
+    let mut sum = s;
+    let mut e = from;
     while e < counts.len() {
-        starts[e] = s;
-        s += size(counts[e]);
+        starts[e] = sum;
+        sum += size(counts[e]);
         e += 1;
     }
 }

@@ -13,7 +13,7 @@ use Rattle.bundle.specs.Record.{cellSize, edgeSize, brokenRow}
 use Rattle.bundle.specs.Bundle.{cellNodes, edgeEnds, bundleAnswer, isBundle, isTaken, readAnswer, nodesOf, endsOf, countsOf, writtenOver, leaves}
 use Rattle.bundle.proofs.Fills.{length-nodes, length-ends, length-counts, bundle-size}
 use Rattle.bundle.proofs.Answers.{bundle-answer, accepted, accepted-cells, accepted-edges, refused, rejected, read-taken, read-lists, left-front}
-use Rattle.grid.specs.Grid.{gridOf}
+use Rattle.grid.specs.Grid.{built}
 use Rattle.listing.specs.Text.{refusedLine}
 use Rattle.listing.specs.Listing.{mostBytes, cellsInBundle, edgesInBundle, roomBytes, gridListing, bundleListing, listing, Listed}
 use Rattle.listing.proofs.Meshes.{or-result, or-refusal}
@@ -67,7 +67,7 @@ module _ (s : List ℕ) where
 
       pub read-listed : (ns es cs : List ℕ) {nodes ends counts : List ℕ}
           → nodes ≡ leaves taken (nodesOf s) ns → ends ≡ leaves taken (endsOf s) es → counts ≡ leaves taken (countsOf s) cs
-          → gridListing (gridOf (take (cellNodes * c) nodes) (take (edgeEnds * e) ends) (take e counts)) ≡ listing s
+          → gridListing (built (take (cellNodes * c) nodes) (take (edgeEnds * e) ends) (take e counts)) ≡ listing s
       unfolding bundleListing
       read-listed ns es cs p q r =
           let x = accepted-cells s c e own in

@@ -12,9 +12,9 @@ use Rattle.walk.specs.Step as step
 use Rattle.walk.specs.Walk as walk
 use Rattle.cell.specs.Cell as cell
 use Rattle.cell.specs.Loop as loop
-use Rattle.grid.specs.Grid.{faceNode, sameFace, hasFace, faceName, joins, isEdge, hasEdge, edgeNumber, start}
+use Rattle.grid.specs.Grid.{faceNode, sameFace, hasFace, faceName, joins, isEdge, hasEdge, edgeNumber, start, startsOf}
 use Rattle.answer.specs.Rows.{orRefuse, answerOf}
-use Rattle.grid.specs.Rows.{badLength, badPairs, badCell, sameCell, repeats, crowded, isAfter, badEdge, badCount, unlisted, unused, linked, reached, split, tooMany, rows, gridAnswer}
+use Rattle.grid.specs.Rows.{badLength, badNumbers, badStart, badLists, badCell, sameCell, repeats, crowded, isAfter, badEdge, badCount, unlisted, unused, linked, reached, split, tooMany, rows, gridAnswer}
 use Rattle.cell.specs.Triangles as triangle
 use Rattle.cell.specs.Words.{cornerWords, words}
 use Rattle.mesh.specs.Mesh.{gridCell, meshTriangles, meshWords}
@@ -34,8 +34,8 @@ unfolding seek first last some every count total over tally pre row col reach
     it orbit step.face step.land step.step walk.status walk.turn walk.size walk.loopAt
     cell.ahead cell.base cell.holds cell.edge cell.index cell.answerAt cell.joinAt cell.joinedTo cell.mate cell.slot cell.step
     loop.loopSize loop.dart loop.loopDarts loop.folded loop.normal loop.parity loop.nodeWith loop.typeBy loop.inGrid loop.typeOf loop.leasts loop.answerFrom loop.loopAnswer
-    faceNode sameFace hasFace faceName joins isEdge hasEdge edgeNumber start
-    badLength badPairs badCell sameCell repeats crowded isAfter badEdge badCount unlisted unused linked reached split tooMany rows orRefuse answerOf gridAnswer
+    faceNode sameFace hasFace faceName joins isEdge hasEdge edgeNumber start startsOf
+    badLength badNumbers badStart badLists badCell sameCell repeats crowded isAfter badEdge badCount unlisted unused linked reached split tooMany rows orRefuse answerOf gridAnswer
     triangle.numberOf triangle.segmentOf triangle.point triangle.segment triangle.triangle triangle.loopTriangles triangle.cellTriangles
     cornerWords words gather gridCell meshTriangles meshWords roomAnswer meshAnswer
     bytes.lengthOf bytes.kindAt bytes.nextRecord bytes.countAt bytes.mayHave bytes.isRecord bytes.bodyStart bytes.bodySize bytes.body

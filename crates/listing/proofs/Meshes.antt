@@ -14,9 +14,11 @@ use Rattle.counting.specs.Pick.{pick}
 use Rattle.counting.specs.Range.{over}
 use Rattle.counting.proofs.Range.{over-ext}
 use Rattle.counting.proofs.Fronts.{sets-front}
-use Rattle.grid.specs.Grid.{Grid, cellCount, crossings}
+use Rattle.grid.specs.Grid.{Grid, gridOf, built, cellCount, crossings}
 use Rattle.grid.specs.Rows.{gridAnswer}
 use Rattle.grid.specs.Tables.{accepts}
+use Rattle.grid.specs.Opening.{openAnswer, openStarts}
+use Rattle.grid.proofs.Openings.{opens-built}
 use Rattle.grid.proofs.Claims.{accepted-is, never-empty}
 use Rattle.cell.specs.declared.Triangle.{Triangle}
 use Rattle.cell.specs.Words.{wordCount}
@@ -118,3 +120,18 @@ module _ (G : Grid) where
           (same-lines (meshWords G) before t (omega (arith, long)) (omega (arith, long, few-triangles, room)))
           ∙ ap₂ (λ y k. head (cellCount (G .cells)) (length (G .counts)) y k ++ over (line (meshWords G)) k 0) all-crossings all-triangles
           ∙ or-result (t ∷ []) _ (meshListing G) (answer ∙ ap (meshAnswer G) room)
+
+-- a grid that is opened with as many starts as it has counts is the one that is built afresh
+module _ (nodes ends counts starts : List ℕ) (long : length starts ≡ length counts) where
+  pub opened-answer : openAnswer (gridOf nodes ends counts starts) ≡ gridAnswer (built nodes ends counts)
+  opened-answer = opens-built nodes ends counts starts long .0
+
+  module _ (x : ℕ) (after : List ℕ) (h : result (x ∷ []) ≡ openAnswer (gridOf nodes ends counts starts)) (e : after ≡ openStarts (gridOf nodes ends counts starts)) where
+    opened-grid : gridOf nodes ends counts after ≡ built nodes ends counts
+    opened-grid = ap (gridOf nodes ends counts) (e ∙ opens-built nodes ends counts starts long .1 (x ∷ []) (sym (h ∙ opened-answer)))
+
+    pub opened-accepted : result (x ∷ []) ≡ gridAnswer (gridOf nodes ends counts after)
+    opened-accepted = h ∙ opened-answer ∙ ap gridAnswer (sym opened-grid)
+
+    pub opened-listing : gridListing (gridOf nodes ends counts after) ≡ gridListing (built nodes ends counts)
+    opened-listing = ap gridListing opened-grid

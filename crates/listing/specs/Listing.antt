@@ -9,7 +9,7 @@ use Rattle.counting.specs.Pick.{pick}
 use Rattle.counting.specs.Range.{over}
 use Rattle.bundle.specs.Record.{brokenRow, cellSize, edgeSize, endSize}
 use Rattle.bundle.specs.Bundle.{bundleAnswer, nodesOf, endsOf, countsOf, writtenOver}
-use Rattle.grid.specs.Grid.{Grid, gridOf, cellCount, crossings}
+use Rattle.grid.specs.Grid.{Grid, built, cellCount, crossings}
 use Rattle.cell.specs.Words.{wordCount}
 use Rattle.mesh.specs.Mesh.{meshTriangles, meshWords}
 use Rattle.mesh.specs.Answer.{meshAnswer}
@@ -49,7 +49,7 @@ module _ (G : Grid) where
 
 -- the bundle reader's refusal (rows 13 and 22), or the listing of the grid of its lists
 unfoldable pub bundleListing : List ℕ → List ℕ
-bundleListing s = orRefused (bundleAnswer s) (gridListing (gridOf (nodesOf s) (endsOf s) (countsOf s)))
+bundleListing s = orRefused (bundleAnswer s) (gridListing (built (nodesOf s) (endsOf s) (countsOf s)))
 
 -- over the most bytes, row 13 at that number, whatever they are
 unfoldable pub listing : List ℕ → List ℕ

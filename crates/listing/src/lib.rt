@@ -5,7 +5,8 @@ ghost use mathlib.Core.List.{[], _∷_};
 ghost use lib.ListN.{length};
 ghost use Rattle.answer.specs.Answer.{result};
 ghost use Rattle.counting.specs.Stored.{Stored};
-ghost use Rattle.grid.specs.Grid.{gridOf};
+ghost use Rattle.grid.specs.Grid.{gridOf, built};
+ghost use Rattle.grid.specs.Opening.{openStarts};
 ghost use Rattle.grid.specs.Rows.{gridAnswer};
 ghost use Rattle.listing.specs.Listing.{roomBytes, gridListing, Listed};
 use crate::lines::HEAD_ROOM;
@@ -40,13 +41,20 @@ const AREA_WORDS: usize = WORD_COUNT * AREA_TRIANGLES;
 pub const ROOM: usize = HEAD_ROOM + LINE_ROOM * AREA_TRIANGLES;
 
 // The listing of a grid that the check accepts with so many crossings. About 64 KB of stack, besides what `mesh::mesh` keeps.
-fn list_mesh(nodes: &[u16], ends: &[u16], counts: &[u16], crossings: u32, out: &mut [u8]) -> usize
-    requires { ⌜ (result (crossings ∷ []) ≡ gridAnswer (gridOf (now nodes) (now ends) (now counts))) × (roomBytes ≤ length (now out)) ⌝ }
-    ensures stored { λ r. ⌜ Stored (now (out .entry)) 0 (gridListing (gridOf (now (nodes .entry)) (now (ends .entry)) (now (counts .entry)))) (now (out .exit)) r ⌝ }
+fn list_mesh(
+    nodes: &[u16],
+    ends: &[u16],
+    counts: &[u16],
+    starts: &[u32],
+    crossings: u32,
+    out: &mut [u8],
+) -> usize
+    requires { ⌜ (result (crossings ∷ []) ≡ gridAnswer (gridOf (now nodes) (now ends) (now counts) (now starts))) × (roomBytes ≤ length (now out)) ⌝ }
+    ensures stored { λ r. ⌜ Stored (now (out .entry)) 0 (gridListing (gridOf (now (nodes .entry)) (now (ends .entry)) (now (counts .entry)) (now (starts .entry)))) (now (out .exit)) r ⌝ }
     ensures few { λ r. ⌜ r ≤ roomBytes ⌝ }
 {
     let mut area = [0u32; AREA_WORDS];
-    match mesh::mesh(nodes, ends, counts, &mut area) {
+    match mesh::mesh(nodes, ends, counts, starts, &mut area) {
         Meshed::Refused(row, place) => lines::put_refused(out, row, place),
         Meshed::Triangles(n) => {
             let at = lines::put_head(out, nodes.len() / CELL_NODES, counts.len(), crossings, n);
@@ -55,19 +63,26 @@ fn list_mesh(nodes: &[u16], ends: &[u16], counts: &[u16], crossings: u32, out: &
     }
 }
 
-// The listing of a grid.
-fn list_grid(nodes: &[u16], ends: &[u16], counts: &[u16], out: &mut [u8]) -> usize
-    requires { ⌜ roomBytes ≤ length (now out) ⌝ }
-    ensures stored { λ r. ⌜ Stored (now (out .entry)) 0 (gridListing (gridOf (now (nodes .entry)) (now (ends .entry)) (now (counts .entry)))) (now (out .exit)) r ⌝ }
+// The listing of a grid that is opened here, with room for its starts.
+fn list_grid(
+    nodes: &[u16],
+    ends: &[u16],
+    counts: &[u16],
+    starts: &mut [u32],
+    out: &mut [u8],
+) -> usize
+    requires { ⌜ (length (now starts) ≡ length (now counts)) × (roomBytes ≤ length (now out)) ⌝ }
+    ensures stored { λ r. ⌜ Stored (now (out .entry)) 0 (gridListing (built (now (nodes .entry)) (now (ends .entry)) (now (counts .entry)))) (now (out .exit)) r ⌝ }
     ensures few { λ r. ⌜ r ≤ roomBytes ⌝ }
+    ensures starts { λ _. ⌜ now (starts .exit) ≡ openStarts (gridOf (now (nodes .entry)) (now (ends .entry)) (now (counts .entry)) (now (starts .entry))) ⌝ }
 {
-    match grid::check(nodes, ends, counts) {
+    match grid::open(nodes, ends, counts, starts) {
         Checked::Refused(row, place) => lines::put_refused(out, row, place),
-        Checked::Crossings(x) => list_mesh(nodes, ends, counts, x, out),
+        Checked::Crossings(x) => list_mesh(nodes, ends, counts, starts, x, out),
     }
 }
 
-// Puts the listing of any bytes at the front of the area, and answers how many bytes it has. Keeps 44 KB on the stack, besides what `list_grid` keeps.
+// Puts the listing of any bytes at the front of the area, and answers how many bytes it has. Keeps 58 KB on the stack, besides what `list_grid` keeps.
 pub fn list(bytes: &[u8], out: &mut [u8; ROOM]) -> usize
     ensures { λ r. ⌜ Listed (now (bytes .entry)) (now (out .entry)) (now (out .exit)) r ⌝ }
 {
@@ -77,12 +92,19 @@ pub fn list(bytes: &[u8], out: &mut [u8; ROOM]) -> usize
     let mut nodes = [0u16; CELL_NODES * CELLS_IN_BUNDLE];
     let mut ends = [0u16; EDGE_ENDS * EDGES_IN_BUNDLE];
     let mut counts = [0u16; EDGES_IN_BUNDLE];
+    let mut starts = [0u32; EDGES_IN_BUNDLE];
     match bundle::read(bytes, &mut nodes, &mut ends, &mut counts) {
         Contents::Refused(row, place) => lines::put_refused(out, row, place),
         Contents::Lists(cells, edges) => {
             let n = CELL_NODES * cells;
             let m = EDGE_ENDS * edges;
-            list_grid(&nodes[..n], &ends[..m], &counts[..edges], out)
+            list_grid(
+                &nodes[..n],
+                &ends[..m],
+                &counts[..edges],
+                &mut starts[..edges],
+                out,
+            )
         }
     }
 }

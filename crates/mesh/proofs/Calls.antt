@@ -12,7 +12,7 @@ use Rattle.grid.specs.declared.Checked.{Checked}
 use Rattle.grid.specs.declared.Checked.the-variants.{Crossings, Refused}
 use Rattle.grid.specs.Check.{checkNumbers}
 use Rattle.grid.specs.Rows.{gridAnswer}
-use Rattle.grid.specs.Tables.{accepts, Opened}
+use Rattle.grid.specs.Tables.{accepts, Laid}
 use Rattle.grid.proofs.Filled.{refused-keeps, told-accepts, told-sound}
 use Rattle.mesh.specs.Mesh.{meshWords}
 use Rattle.mesh.specs.Asked.{tableLoop}
@@ -40,12 +40,12 @@ module _ (G : Grid) where
     refused-loops c k = rw keeps is-refusal
 
   module _ (r : Checked) (n : ℕ) (e : r ≡ Crossings n) (q : checkNumbers r ≡ gridAnswer G) where
-    module _ (names₀ sides₀ starts₀ names sides starts : List ℕ) (ln : length names₀ ≡ mostSlots) (ls : length sides₀ ≡ mostEdges) (lt : length starts₀ ≡ mostEdges)
-        (o : Opened G names₀ sides₀ starts₀ names sides starts) where
-      tables : Tabled G names sides starts
-      tables = tabled G names₀ sides₀ starts₀ names sides starts (told-sound G r n e q) (told-accepts G r n e q) ln ls lt o
+    module _ (names₀ sides₀ names sides : List ℕ) (ln : length names₀ ≡ mostSlots) (ls : length sides₀ ≡ mostEdges)
+        (o : Laid G names₀ sides₀ names sides) where
+      tables : Tabled G names sides
+      tables = tabled G names₀ sides₀ names sides (told-sound G r n e q) (told-accepts G r n e q) ln ls o
 
-      pub drawn-done : (before after answer : List ℕ) → Drawn (G .cells) (G .counts) names sides starts before after answer → Done G before after answer
+      pub drawn-done : (before after answer : List ℕ) → Drawn (G .cells) (G .counts) names sides (G .starts) before after answer → Done G before after answer
       unfolding meshAnswer meshArea meshWords
       drawn-done before after answer d = record {
         answered = rw (told-accepts G r n e q) (d .answered ∙ ap (λ m. roomAnswer m (length before)) (triangles-are tables));
@@ -53,6 +53,6 @@ module _ (G : Grid) where
         demand = demand3;
       }
 
-      pub told-loops : (c k : ℕ) → tableLoop (G .cells) (G .counts) names sides starts c k ≡ loopsAnswer G c k
+      pub told-loops : (c k : ℕ) → tableLoop (G .cells) (G .counts) names sides (G .starts) c k ≡ loopsAnswer G c k
       unfolding loopsAnswer
       told-loops c k = rw (told-accepts G r n e q) (loop-is tables c k)

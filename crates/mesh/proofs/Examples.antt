@@ -13,9 +13,9 @@ use Rattle.walk.specs.Step as step
 use Rattle.walk.specs.Walk as walk
 use Rattle.cell.specs.Cell as cell
 use Rattle.cell.specs.Loop as loop
-use Rattle.grid.specs.Grid.{faceNode, sameFace, hasFace, faceName, joins, isEdge, hasEdge, edgeNumber, start}
+use Rattle.grid.specs.Grid.{faceNode, sameFace, hasFace, faceName, joins, isEdge, hasEdge, edgeNumber, start, startsOf}
 use Rattle.answer.specs.Rows as rows
-use Rattle.grid.specs.Rows.{badLength, badPairs, badCell, sameCell, repeats, crowded, isAfter, badEdge, badCount, unlisted, unused, linked, reached, split, tooMany, rows, gridAnswer}
+use Rattle.grid.specs.Rows.{badLength, badNumbers, badStart, badLists, badCell, sameCell, repeats, crowded, isAfter, badEdge, badCount, unlisted, unused, linked, reached, split, tooMany, rows, gridAnswer}
 use Rattle.cell.specs.Triangles as triangle
 use Rattle.cell.specs.Words.{cornerWords, words}
 use Rattle.cell.specs.Nth.{nthAnswer}
@@ -24,7 +24,7 @@ use Rattle.mesh.specs.Mesh.{gridCell, meshTriangles, meshWords}
 use Rattle.mesh.specs.Room.{roomAnswer}
 use Rattle.mesh.specs.Asked.{askedLoop}
 use Rattle.mesh.specs.Answer.{meshAnswer, meshArea, loopsAnswer}
-use Rattle.mesh.specs.Examples.{faceAnswers, startsOf, gridLoops, loopPoints, gridPoints, sidesOf, different, tallies, computed, examples, ExamplesHold}
+use Rattle.mesh.specs.Examples.{faceAnswers, leastsOf, gridLoops, loopPoints, gridPoints, sidesOf, different, tallies, computed, examples, ExamplesHold}
 
 pub examples-hold : ExamplesHold
 unfolding seek first last some every count rise joinOf segments unjoinedCount total over kept tally pre row col reach
@@ -33,9 +33,9 @@ unfolding seek first last some every count rise joinOf segments unjoinedCount to
     it orbit step.face step.land step.step walk.status walk.turn walk.size walk.loopAt
     cell.ahead cell.base cell.holds cell.edge cell.index cell.answerAt cell.joinAt cell.joinedTo cell.mate cell.slot cell.step
     loop.loopSize loop.dart loop.loopDarts loop.folded loop.normal loop.parity loop.nodeWith loop.typeBy loop.inGrid loop.typeOf loop.leasts loop.answerFrom loop.loopAnswer
-    faceNode sameFace hasFace faceName joins isEdge hasEdge edgeNumber start
-    badLength badPairs badCell sameCell repeats crowded isAfter badEdge badCount unlisted unused linked reached split tooMany rows rows.orRefuse rows.answerOf gridAnswer
+    faceNode sameFace hasFace faceName joins isEdge hasEdge edgeNumber start startsOf
+    badLength badNumbers badStart badLists badCell sameCell repeats crowded isAfter badEdge badCount unlisted unused linked reached split tooMany rows rows.orRefuse rows.answerOf gridAnswer
     triangle.numberOf triangle.segmentOf triangle.point triangle.segment triangle.triangle triangle.loopTriangles triangle.cellTriangles
     cornerWords words gather nthAnswer gridCell meshTriangles meshWords roomAnswer storedIn askedLoop meshAnswer meshArea loopsAnswer
-    faceAnswers startsOf gridLoops loopPoints gridPoints sidesOf different tallies computed examples
+    faceAnswers leastsOf gridLoops loopPoints gridPoints sidesOf different tallies computed examples
 examples-hold = refl

@@ -21,8 +21,8 @@ use Rattle.walk.specs.Step as step
 use Rattle.walk.specs.Walk as walk
 use Rattle.cell.specs.Cell as cell
 use Rattle.cell.specs.Loop as loop
-use Rattle.grid.specs.Grid.{Grid, gridOf, cellCount, countOf, outer, faceNode, sameFace, hasFace, faceName, joins, isEdge, hasEdge, edgeNumber, start}
-use Rattle.grid.specs.Rows.{badLength, badPairs, badCell, sameCell, repeats, crowded, isAfter, badEdge, badCount, unlisted, unused, linked, reached, split, tooMany, rows, gridAnswer}
+use Rattle.grid.specs.Grid.{Grid, built, cellCount, countOf, outer, faceNode, sameFace, hasFace, faceName, joins, isEdge, hasEdge, edgeNumber, start, startsOf}
+use Rattle.grid.specs.Rows.{badLength, badNumbers, badStart, badLists, badCell, sameCell, repeats, crowded, isAfter, badEdge, badCount, unlisted, unused, linked, reached, split, tooMany, rows, gridAnswer}
 use Rattle.answer.specs.Rows.{orRefuse, answerOf}
 use Rattle.cell.specs.Triangles as triangle
 use Rattle.mesh.specs.Mesh.{gridCell, meshTriangles}
@@ -53,18 +53,18 @@ module _ (G : Grid) where
   }
 
 -- three cells round an edge: every outer edge has count zero, and each face an even sum
-three-pass : premiseTest (gridOf threeCells threeEdges threeCounts) ≡ true
+three-pass : premiseTest (built threeCells threeEdges threeCounts) ≡ true
 unfolding premiseTest zeroTest evenTest every some count seek first last total over pre lo hi position lower upper edgeBetween slotEdge contains
     outer faceNode sameFace hasFace joins isEdge edgeNumber
 three-pass = refl
 
-three-accepted : gridAnswer (gridOf threeCells threeEdges threeCounts) ≡ result (2 ∷ [])
+three-accepted : gridAnswer (built threeCells threeEdges threeCounts) ≡ result (2 ∷ [])
 unfolding every some count seek first last total over pre reach lo hi position lower upper edgeBetween slotEdge contains
-    faceNode sameFace hasFace joins isEdge hasEdge edgeNumber start
-    badLength badPairs badCell sameCell repeats crowded isAfter badEdge badCount unlisted unused linked reached split tooMany rows orRefuse answerOf gridAnswer
+    faceNode sameFace hasFace joins isEdge hasEdge edgeNumber start startsOf
+    badLength badNumbers badStart badLists badCell sameCell repeats crowded isAfter badEdge badCount unlisted unused linked reached split tooMany rows orRefuse answerOf gridAnswer
 three-accepted = refl
 
-three-triangles : length (meshTriangles (gridOf threeCells threeEdges threeCounts)) ≡ 6
+three-triangles : length (meshTriangles (built threeCells threeEdges threeCounts)) ≡ 6
 unfolding every some count seek first last total over pre row col lo hi position lower upper edgeBetween slotEdge edgeRank contains firstSlot secondSlot
     face.other face.opposite face.halfAbove face.cornerCount face.residual face.countOn face.others face.kth face.cornerCountAt face.partner face.faceAnswer face.faceJoin
     it orbit step.face step.land step.step walk.status walk.turn walk.size walk.loopAt
@@ -77,6 +77,6 @@ three-triangles = refl
 pub ringsHappen : RingsHappen
 ringsHappen = record {
   accepted = three-accepted;
-  premises = tested (gridOf threeCells threeEdges threeCounts) three-pass;
+  premises = tested (built threeCells threeEdges threeCounts) three-pass;
   triangles = three-triangles;
 }

@@ -16,7 +16,7 @@ use Rattle.cell.specs.Limits.{startLimit}
 use Rattle.grid.specs.Grid.{Grid, mostCells, cellCount, faceName, edgeNumber, countOf, start, mostSlots, mostEdges}
 use Rattle.grid.specs.Accepted.{Sound}
 use Rattle.grid.proofs.Sound.{edge-numbers}
-use Rattle.grid.specs.Tables.{accepts, Opened, nameAt, sideAt}
+use Rattle.grid.specs.Tables.{accepts, Laid, nameAt, sideAt}
 use Rattle.cell.specs.Triangles.{cellTriangles}
 use Rattle.mesh.specs.Mesh.{gridCell, meshTriangles}
 use Rattle.cell.specs.Table.{tableCounts, tableStarts, ofFour, side, drawnCells, tableCell, tableTriangles}
@@ -24,13 +24,12 @@ use Rattle.mesh.specs.Asked.{askedLoop, tableLoop}
 use Rattle.mesh.proofs.Askings.{asked-ext}
 
 -- the tables of an accepted grid, in arrays that are long enough
-pub record Tabled (G : Grid) (names sides starts : List ℕ) : Type 0 where
+pub record Tabled (G : Grid) (names sides : List ℕ) : Type 0 where
   pub sound : Sound G
   pub name : (j : ℕ) → j < 4 * cellCount (G .cells) → getD names j 0 ≡ nameAt (G .cells) j
   pub edge : (j : ℕ) → j < 6 * cellCount (G .cells) → getD sides j 0 ≡ sideAt G j
-  pub first : (e : ℕ) → e < length (G .counts) → getD starts e 0 ≡ start (G .counts) e
 
-module _ {G : Grid} {names sides starts : List ℕ} (T : Tabled G names sides starts) where
+module _ {G : Grid} {names sides : List ℕ} (T : Tabled G names sides) where
   side-is : (c k : ℕ) → c < cellCount (G .cells) → k < 6 → side sides c k ≡ edgeNumber G c k
   side-is c k lc lk =
       let a : (6 * c + k) / 6 ≡ c = omega arith in
@@ -46,22 +45,22 @@ module _ {G : Grid} {names sides starts : List ℕ} (T : Tabled G names sides st
   side-lt : (c k : ℕ) → c < cellCount (G .cells) → k < 6 → side sides c k < length (G .counts)
   side-lt c k lc lk = rw (side-is c k lc lk) (edge-numbers G (T .sound) .listed c k lc lk)
 
-  start-is : (c k : ℕ) → c < cellCount (G .cells) → k < 6 → getD starts (side sides c k) 0 % startLimit ≡ start (G .counts) (edgeNumber G c k)
+  start-is : (c k : ℕ) → c < cellCount (G .cells) → k < 6 → getD (G .starts) (side sides c k) 0 % startLimit ≡ start (G .counts) (edgeNumber G c k)
   unfolding start
   start-is c k lc lk =
       let e = edgeNumber G c k in
       let l : e < length (G .counts) = edge-numbers G (T .sound) .listed c k lc lk in
-      let q : getD starts (side sides c k) 0 ≡ start (G .counts) e = T .first (side sides c k) (side-lt c k lc lk) ∙ ap (start (G .counts)) (side-is c k lc lk) in
+      let q : getD (G .starts) (side sides c k) 0 ≡ start (G .counts) e = T .sound .starts-are (side sides c k) (side-lt c k lc lk) ∙ ap (start (G .counts)) (side-is c k lc lk) in
       omega (arith, q, pre-le (countOf (G .counts)) 0 e (length (G .counts)) l, T .sound .few-crossings)
 
-  pub cell-is : (c : ℕ) → c < cellCount (G .cells) → tableCell (G .cells) (G .counts) names sides starts c ≡ gridCell G c
+  pub cell-is : (c : ℕ) → c < cellCount (G .cells) → tableCell (G .cells) (G .counts) names sides (G .starts) c ≡ gridCell G c
   unfolding tableCell gridCell
   cell-is c lc =
       let m : c % mostCells ≡ c = omega (arith, T .sound .few-cells) in
       let a : tableCounts (G .counts) sides c ≡ values (λ k. countOf (G .counts) (edgeNumber G c k)) 6 =
       values-ext (λ k. getD (G .counts) (side sides c k) 0) (λ k. countOf (G .counts) (edgeNumber G c k)) 6 (λ k l. ap (countOf (G .counts)) (side-is c k lc l)) in
-      let b : tableStarts starts sides c ≡ values (λ k. start (G .counts) (edgeNumber G c k)) 6 =
-      values-ext (λ k. getD starts (side sides c k) 0 % startLimit) (λ k. start (G .counts) (edgeNumber G c k)) 6 (λ k l. start-is c k lc l) in
+      let b : tableStarts (G .starts) sides c ≡ values (λ k. start (G .counts) (edgeNumber G c k)) 6 =
+      values-ext (λ k. getD (G .starts) (side sides c k) 0 % startLimit) (λ k. start (G .counts) (edgeNumber G c k)) 6 (λ k l. start-is c k lc l) in
       let d : ofFour names c ≡ values (faceName (G .cells) c) 4 = values-ext (λ s. getD names (4 * c + s) 0) (faceName (G .cells) c) 4 (λ s l. name-is c s lc l) in
       rw m (ap₂ (λ x y. record { counts = x; starts = y; names = ofFour names c; nodes = ofFour (G .cells) c; index = c }) a b
       ∙ ap (λ z. record {
@@ -72,27 +71,25 @@ module _ {G : Grid} {names sides starts : List ℕ} (T : Tabled G names sides st
         index = c;
       }) d)
 
-  pub triangles-are : tableTriangles (G .cells) (G .counts) names sides starts ≡ meshTriangles G
+  pub triangles-are : tableTriangles (G .cells) (G .counts) names sides (G .starts) ≡ meshTriangles G
   unfolding tableTriangles meshTriangles
   triangles-are =
       let d : drawnCells (G .cells) ≡ cellCount (G .cells) = omega (arith, T .sound .few-cells) in
       rw d
-      (over-ext (λ c. cellTriangles (tableCell (G .cells) (G .counts) names sides starts c)) (λ c. cellTriangles (gridCell G c)) (cellCount (G .cells)) 0
+      (over-ext (λ c. cellTriangles (tableCell (G .cells) (G .counts) names sides (G .starts) c)) (λ c. cellTriangles (gridCell G c)) (cellCount (G .cells)) 0
       (λ c a b. ap cellTriangles (cell-is c (omega arith))))
 
-  pub loop-is : (c k : ℕ) → tableLoop (G .cells) (G .counts) names sides starts c k ≡ askedLoop (gridCell G) (cellCount (G .cells)) c k
+  pub loop-is : (c k : ℕ) → tableLoop (G .cells) (G .counts) names sides (G .starts) c k ≡ askedLoop (gridCell G) (cellCount (G .cells)) c k
   unfolding tableLoop
-  loop-is c k = asked-ext (tableCell (G .cells) (G .counts) names sides starts) (gridCell G) (cellCount (G .cells)) c k (cell-is c)
+  loop-is c k = asked-ext (tableCell (G .cells) (G .counts) names sides (G .starts)) (gridCell G) (cellCount (G .cells)) c k (cell-is c)
 
--- what `open` leaves where the grid is accepted
-pub tabled : (G : Grid) (names₀ sides₀ starts₀ names sides starts : List ℕ) → Sound G → accepts G ≡ true
-    → length names₀ ≡ mostSlots → length sides₀ ≡ mostEdges → length starts₀ ≡ mostEdges
-    → Opened G names₀ sides₀ starts₀ names sides starts → Tabled G names sides starts
-tabled G names₀ sides₀ starts₀ names sides starts S e ln ls lt o = record {
+-- what `lay` leaves where the grid is accepted
+pub tabled : (G : Grid) (names₀ sides₀ names sides : List ℕ) → Sound G → accepts G ≡ true
+    → length names₀ ≡ mostSlots → length sides₀ ≡ mostEdges → Laid G names₀ sides₀ names sides → Tabled G names sides
+tabled G names₀ sides₀ names sides S e ln ls o = record {
   sound = S;
   name = λ j h. ap (λ l. getD l j 0) (taken (filled (nameAt (G .cells)) (4 * cellCount (G .cells)) names₀) names₀ names (o .names-are)) ∙ filled-at (nameAt (G .cells)) (4 * cellCount (G .cells)) names₀ 0 (omega (arith, S .few-cells)) j h;
   edge = λ j h. ap (λ l. getD l j 0) (taken (filled (sideAt G) (6 * cellCount (G .cells)) sides₀) sides₀ sides (o .sides-are)) ∙ filled-at (sideAt G) (6 * cellCount (G .cells)) sides₀ 0 (omega (arith, S .few-cells)) j h;
-  first = λ f h. ap (λ l. getD l f 0) (taken (filled (start (G .counts)) (length (G .counts)) starts₀) starts₀ starts (o .starts-are)) ∙ filled-at (start (G .counts)) (length (G .counts)) starts₀ 0 (omega (arith, S .few-cells, edge-numbers G S .few)) f h;
 }
   where
     taken : (x y l : List ℕ) → l ≡ pick (accepts G) x y → l ≡ x

@@ -6,7 +6,7 @@ use lib.ListN.{length}
 use Rattle.answer.specs.Answer.{result}
 use Rattle.cell.specs.Of.{edgesOf}
 use Rattle.cell.specs.Claims.{OrderLaws}
-use Rattle.grid.specs.Grid.{Grid, gridOf, cellCount}
+use Rattle.grid.specs.Grid.{Grid, built, cellCount}
 use Rattle.grid.specs.Rows.{gridAnswer}
 use Rattle.mesh.specs.declared.Meshed.{Meshed}
 use Rattle.mesh.specs.declared.Looped.{Looped}
@@ -32,6 +32,6 @@ LoopsOrdered = (G : Grid) (total : ℕ) → gridAnswer G ≡ result (total ∷ [
 
 -- demand 3 is not empty: three cells round an edge (01) are accepted, meet both premises of the rings, and have six triangles
 pub record RingsHappen : Type 0 where
-  pub accepted : gridAnswer (gridOf threeCells threeEdges threeCounts) ≡ result (2 ∷ [])
-  pub premises : RingPremises (gridOf threeCells threeEdges threeCounts)
-  pub triangles : length (meshTriangles (gridOf threeCells threeEdges threeCounts)) ≡ 6
+  pub accepted : gridAnswer (built threeCells threeEdges threeCounts) ≡ result (2 ∷ [])
+  pub premises : RingPremises (built threeCells threeEdges threeCounts)
+  pub triangles : length (meshTriangles (built threeCells threeEdges threeCounts)) ≡ 6

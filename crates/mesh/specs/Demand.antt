@@ -65,6 +65,6 @@ module _ (G : Grid) where
     -- and at the middle of every fan
     pub ring-at-middle : RingPremises → (c p : ℕ) → Fan c p → OneRing (middle c (numberOf (gridCell G c) p))
 
--- the whole of it: for every three lists that the grid check accepts, answering the number of crossings
+-- the whole of it: for every four lists that the grid check accepts, answering the number of crossings
 abbrev pub Demand3 : Type 0
 Demand3 = (G : Grid) (total : ℕ) → gridAnswer G ≡ result (total ∷ []) → MeshLaws G total

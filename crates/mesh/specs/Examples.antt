@@ -13,7 +13,7 @@ use Rattle.counting.specs.Lists.{tally}
 use Rattle.face.specs.Face.{round, along, left, skipped, joinedBy, unjoinedBy, noCrossing, countOn, faceAnswer}
 use Rattle.face.specs.Tally.{segments, unjoinedCount}
 use Rattle.cell.specs.Loop.{loopSize, dart, leasts}
-use Rattle.grid.specs.Grid.{Grid, gridOf, cellCount}
+use Rattle.grid.specs.Grid.{Grid, built, cellCount}
 use Rattle.grid.specs.Rows.{gridAnswer}
 use Rattle.cell.specs.Triangles.{edgesOf, numberOf, cellTriangles}
 use Rattle.cell.specs.Nth.{nthAnswer}
@@ -59,13 +59,13 @@ faceAnswers ab ac bc = over (λ e. over (λ t. faceAnswer ab ac bc e t ∷ []) (
 
 module _ (G : Grid) where
   -- the least crossings of the loops of cell c
-  unfoldable pub startsOf : ℕ → List ℕ
+  unfoldable pub leastsOf : ℕ → List ℕ
   unfolding gridCell leasts
-  startsOf c = leasts (edgesOf (gridCell G c))
+  leastsOf c = leasts (edgesOf (gridCell G c))
 
   unfoldable pub gridLoops : List (List ℕ)
-  unfolding startsOf
-  gridLoops = over (λ c. over (λ k. cellLoop (gridCell G c) k ∷ []) (suc (length (startsOf c))) 0) (cellCount (G .cells)) 0
+  unfolding leastsOf
+  gridLoops = over (λ c. over (λ k. cellLoop (gridCell G c) k ∷ []) (suc (length (leastsOf c))) 0) (cellCount (G .cells)) 0
 
   -- the crossing numbers of a loop's points, in order
   unfoldable pub loopPoints : ℕ → ℕ → List ℕ
@@ -73,8 +73,8 @@ module _ (G : Grid) where
   loopPoints c p = values (λ k. numberOf (gridCell G c) (dart (edgesOf (gridCell G c)) p k / 2)) (loopSize (edgesOf (gridCell G c)) p)
 
   unfoldable pub gridPoints : List (List ℕ)
-  unfolding startsOf loopPoints
-  gridPoints = over (λ c. over (λ k. loopPoints c (getD (startsOf c) k 0) ∷ []) (length (startsOf c)) 0) (cellCount (G .cells)) 0
+  unfolding leastsOf loopPoints
+  gridPoints = over (λ c. over (λ k. loopPoints c (getD (leastsOf c) k 0) ∷ []) (length (leastsOf c)) 0) (cellCount (G .cells)) 0
 
 -- the sides of triangles, with a test which of them to take
 unfoldable pub sidesOf : (Side → Bool) → List Triangle → List Side
@@ -101,12 +101,12 @@ tallies l = length l ∷ different (sidesOf isSegment l) ∷ different (sidesOf 
 unfoldable pub computed : Example → Example
 computed (face ab ac bc answers sides free) = face ab ac bc (faceAnswers ab ac bc) (segments ab ac bc) (unjoinedCount ab ac bc)
 computed (grid cells edges counts answer loops points words sizes) =
-    grid cells edges counts (gridAnswer (gridOf cells edges counts)) (gridLoops (gridOf cells edges counts)) (gridPoints (gridOf cells edges counts)) (meshWords (gridOf cells edges counts))
-    (tallies (meshTriangles (gridOf cells edges counts)))
+    grid cells edges counts (gridAnswer (built cells edges counts)) (gridLoops (built cells edges counts)) (gridPoints (built cells edges counts)) (meshWords (built cells edges counts))
+    (tallies (meshTriangles (built cells edges counts)))
 computed (join ab ac bc e t answer) = join ab ac bc e t (faceAnswer ab ac bc e t)
-computed (nth cells edges counts c t answer) = nth cells edges counts c t (nthAnswer (cellTriangles (gridCell (gridOf cells edges counts) c)) t)
-computed (mesh cells edges counts area answer after) = mesh cells edges counts area (meshAnswer (gridOf cells edges counts) (length area)) (meshArea (gridOf cells edges counts) area)
-computed (loop cells edges counts c k answer) = loop cells edges counts c k (loopsAnswer (gridOf cells edges counts) c k)
+computed (nth cells edges counts c t answer) = nth cells edges counts c t (nthAnswer (cellTriangles (gridCell (built cells edges counts) c)) t)
+computed (mesh cells edges counts area answer after) = mesh cells edges counts area (meshAnswer (built cells edges counts) (length area)) (meshArea (built cells edges counts) area)
+computed (loop cells edges counts c k answer) = loop cells edges counts c k (loopsAnswer (built cells edges counts) c k)
 
 -- one cell 0 1 2 3; no loop
 abbrev cell : List ℕ

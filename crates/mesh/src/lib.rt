@@ -30,7 +30,7 @@ fn draw(
     counts: &[u16],
     names: &[u16; MOST_SLOTS],
     sides: &[u16; MOST_EDGES],
-    starts: &[u32; MOST_EDGES],
+    starts: &[u32],
     area: &mut [u32],
 ) -> Meshed
     ensures { λ r. ⌜ Drawn (now (cells .entry)) (now (counts .entry)) (now (names .entry)) (now (sides .entry)) (now (starts .entry)) (now (area .entry)) (now (area .exit)) (meshNumbers r) ⌝ }
@@ -42,16 +42,21 @@ fn draw(
     Meshed::Triangles(t as u32)
 }
 
-// The mesh call. Keeps 88 KB on the stack for the grid's tables, besides what `grid::open` keeps.
-pub fn mesh(cells: &[u16], edges: &[u16], counts: &[u16], area: &mut [u32]) -> Meshed
-    ensures { λ r. ⌜ Done (gridOf (now (cells .entry)) (now (edges .entry)) (now (counts .entry))) (now (area .entry)) (now (area .exit)) (meshNumbers r) ⌝ }
+// The mesh call. Keeps 40 KB on the stack for the grid's tables, besides what `grid::lay` keeps.
+pub fn mesh(
+    cells: &[u16],
+    edges: &[u16],
+    counts: &[u16],
+    starts: &[u32],
+    area: &mut [u32],
+) -> Meshed
+    ensures { λ r. ⌜ Done (gridOf (now (cells .entry)) (now (edges .entry)) (now (counts .entry)) (now (starts .entry))) (now (area .entry)) (now (area .exit)) (meshNumbers r) ⌝ }
 {
     let mut names = [0u16; MOST_SLOTS];
     let mut sides = [0u16; MOST_EDGES];
-    let mut starts = [0u32; MOST_EDGES];
-    match grid::open(cells, edges, counts, &mut names, &mut sides, &mut starts) {
+    match grid::lay(cells, edges, counts, starts, &mut names, &mut sides) {
         Checked::Refused(row, place) => Meshed::Refused(row, place),
-        Checked::Crossings(_) => draw(cells, counts, &names, &sides, &starts, area),
+        Checked::Crossings(_) => draw(cells, counts, &names, &sides, starts, area),
     }
 }
 
@@ -61,7 +66,7 @@ fn loop_of(
     counts: &[u16],
     names: &[u16; MOST_SLOTS],
     sides: &[u16; MOST_EDGES],
-    starts: &[u32; MOST_EDGES],
+    starts: &[u32],
     c: usize,
     k: usize,
 ) -> Looped
@@ -74,15 +79,21 @@ fn loop_of(
     Looped::Refused(11, c)
 }
 
-// The loops call: loop k of cell c. Keeps 88 KB on the stack for the grid's tables, besides what `grid::open` keeps.
-pub fn loops(cells: &[u16], edges: &[u16], counts: &[u16], c: usize, k: usize) -> Looped
-    ensures { λ r. ⌜ loopsNumbers r ≡ loopsAnswer (gridOf (now (cells .entry)) (now (edges .entry)) (now (counts .entry))) c k ⌝ }
+// The loops call: loop k of cell c. Keeps 40 KB on the stack for the grid's tables, besides what `grid::lay` keeps.
+pub fn loops(
+    cells: &[u16],
+    edges: &[u16],
+    counts: &[u16],
+    starts: &[u32],
+    c: usize,
+    k: usize,
+) -> Looped
+    ensures { λ r. ⌜ loopsNumbers r ≡ loopsAnswer (gridOf (now (cells .entry)) (now (edges .entry)) (now (counts .entry)) (now (starts .entry))) c k ⌝ }
 {
     let mut names = [0u16; MOST_SLOTS];
     let mut sides = [0u16; MOST_EDGES];
-    let mut starts = [0u32; MOST_EDGES];
-    match grid::open(cells, edges, counts, &mut names, &mut sides, &mut starts) {
+    match grid::lay(cells, edges, counts, starts, &mut names, &mut sides) {
         Checked::Refused(row, place) => Looped::Refused(row, place),
-        Checked::Crossings(_) => loop_of(cells, counts, &names, &sides, &starts, c, k),
+        Checked::Crossings(_) => loop_of(cells, counts, &names, &sides, starts, c, k),
     }
 }

@@ -20,7 +20,7 @@ use Rattle.grid.specs.Accepted.{Sound}
 use Rattle.grid.proofs.Claims.{accepted-is}
 use Rattle.grid.proofs.Accepts.{acceptance-yields}
 use Rattle.place.specs.Place.{coordinates}
-use Rattle.places.specs.Rows.{nodeEnd, badLists, badNumber, badFraction}
+use Rattle.places.specs.Rows.{nodeEnd, badPlaceLists, badNumber, badFraction}
 use Rattle.places.specs.Answer.{needed, placeRows, rowsAnswer, placesAnswer, placed}
 
 -- what a result of rows 15 to 17 tells
@@ -31,9 +31,9 @@ pub record Fine (cells counts : List ℕ) (nodes fractions : List Float) (needed
   pub fractions-fine : (g : ℕ) → g < crossings counts → badFraction counts fractions g ≡ false
 
 module _ (cells counts : List ℕ) (nodes fractions : List Float) (needed room : ℕ) where
-  lists-fine : badLists cells counts nodes fractions needed room ≡ false
+  lists-fine : badPlaceLists cells counts nodes fractions needed room ≡ false
       → (length fractions ≡ crossings counts) × (coordinates * needed ≤ room)
-  unfolding badLists
+  unfolding badPlaceLists
   lists-fine e =
       let (_, q) = or-none (ltb (length nodes) (coordinates * nodeEnd cells)) (not (eqb (length fractions) (crossings counts)) || ltb room (coordinates * needed)) e in
       let (r, s) = or-none (not (eqb (length fractions) (crossings counts))) (ltb room (coordinates * needed)) q in

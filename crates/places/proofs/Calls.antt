@@ -19,7 +19,7 @@ use Rattle.grid.specs.declared.Checked.the-variants.{Crossings, Refused}
 use Rattle.grid.specs.Check.{checkNumbers}
 use Rattle.grid.specs.Grid.{Grid, mostSlots, mostEdges, cellCount, edgeNumber, countOf, start, crossings}
 use Rattle.grid.specs.Rows.{gridAnswer}
-use Rattle.grid.specs.Tables.{accepts, Opened}
+use Rattle.grid.specs.Tables.{accepts, Laid}
 use Rattle.grid.proofs.Sound.{edge-numbers}
 use Rattle.grid.proofs.Accepts.{acceptance-yields}
 use Rattle.grid.proofs.Claims.{accepted-is}
@@ -40,7 +40,7 @@ use Rattle.places.proofs.Fractions.{start-fits}
 use Rattle.places.proofs.ExactCase.{exact-case}
 use Rattle.places.proofs.Nested.{by-counts}
 
-module _ {G : Grid} {names sides starts : List ℕ} (T : Tabled G names sides starts) where
+module _ {G : Grid} {names sides : List ℕ} (T : Tabled G names sides) where
   -- the crossings of a cell are those of its edges
   grid-below : (c : ℕ) → c < cellCount (G .cells) → numberedBelow (gridCell G c) (crossings (G .counts)) ≡ true
   unfolding gridCell
@@ -54,7 +54,7 @@ module _ {G : Grid} {names sides starts : List ℕ} (T : Tabled G names sides st
         start-fits (G .counts) (e k) (edge-numbers G (T .sound) .listed c k l h),
       ))
 
-  pub ready : (n : ℕ) → n ≡ crossings (G .counts) → Ready (G .cells) (G .counts) names sides starts (G .edges) n
+  pub ready : (n : ℕ) → n ≡ crossings (G .counts) → Ready (G .cells) (G .counts) names sides (G .starts) (G .edges) n
   ready n e = record {
     judged = record { fours = T .sound .fours; some = T .sound .some-cell; nodes = numbers-small G (T .sound); all = e };
     few = omega (arith, e, T .sound .few-crossings);
@@ -62,12 +62,12 @@ module _ {G : Grid} {names sides starts : List ℕ} (T : Tabled G names sides st
     below = λ c l. rw (cell-is T c l, e) (grid-below c l);
   }
 
-  pub points-are : (nodes fractions : List Float) → tablePoints (G .cells) (G .counts) names sides starts (G .edges) nodes fractions ≡ points G nodes fractions
+  pub points-are : (nodes fractions : List Float) → tablePoints (G .cells) (G .counts) names sides (G .starts) (G .edges) nodes fractions ≡ points G nodes fractions
   unfolding tablePoints tableMiddles points middles
   points-are nodes fractions =
       let all : drawnCells (G .cells) ≡ cellCount (G .cells) = omega (arith, T .sound .few-cells) in
       ap (λ (x : List Place). values (crossingPlace (G .edges) (G .counts) nodes fractions) (crossings (G .counts)) ++ x)
-      (rw all (over-ext (λ c. cellMiddles nodes (crossingPlace (G .edges) (G .counts) nodes fractions) (tableCell (G .cells) (G .counts) names sides starts c))
+      (rw all (over-ext (λ c. cellMiddles nodes (crossingPlace (G .edges) (G .counts) nodes fractions) (tableCell (G .cells) (G .counts) names sides (G .starts) c))
       (λ c. placedMiddles nodes (crossingPlace (G .edges) (G .counts) nodes fractions) (gridCell G c)) (cellCount (G .cells)) 0
       (λ c a b. ap (cellMiddles nodes (crossingPlace (G .edges) (G .counts) nodes fractions)) (cell-is T c (omega arith)) ∙ by-counts nodes (crossingPlace (G .edges) (G .counts) nodes fractions) (gridCell G c))))
 
@@ -95,16 +95,14 @@ module _ (G : Grid) (nodes fractions : List Float) where
     number-is : n ≡ crossings (G .counts)
     number-is = ap (λ (l : List ℕ). getD l 1 0) (sym is-result ∙ accepted-is G accepted)
 
-    module _ (names₀ sides₀ starts₀ names sides starts : List ℕ) (ln : length names₀ ≡ mostSlots) (ls : length sides₀ ≡ mostEdges) (lt : length starts₀ ≡ mostEdges)
-        (o : Opened G names₀ sides₀ starts₀ names sides starts) where
-      tables : Tabled G names sides starts
-      tables =
-          tabled G names₀ sides₀ starts₀ names sides starts (acceptance-yields G (n ∷ []) is-result .sound) accepted ln ls lt o
+    module _ (names₀ sides₀ names sides : List ℕ) (ln : length names₀ ≡ mostSlots) (ls : length sides₀ ≡ mostEdges) (o : Laid G names₀ sides₀ names sides) where
+      tables : Tabled G names sides
+      tables = tabled G names₀ sides₀ names sides (acceptance-yields G (n ∷ []) is-result .sound) accepted ln ls o
 
-      pub opened-ready : Ready (G .cells) (G .counts) names sides starts (G .edges) n
-      opened-ready = ready tables n number-is
+      pub laid-ready : Ready (G .cells) (G .counts) names sides (G .starts) (G .edges) n
+      laid-ready = ready tables n number-is
 
-      pub placed-done : (before after : List Float) (answer : List ℕ) → PointsIn (G .cells) (G .counts) names sides starts (G .edges) nodes fractions before after answer
+      pub placed-done : (before after : List Float) (answer : List ℕ) → PointsIn (G .cells) (G .counts) names sides (G .starts) (G .edges) nodes fractions before after answer
           → Done G nodes fractions before after answer
       unfolding placesAnswer placesArea placed
       placed-done before after answer d =

@@ -22,9 +22,9 @@ use Rattle.walk.specs.Step as step
 use Rattle.walk.specs.Walk as walk
 use Rattle.cell.specs.Cell as cell
 use Rattle.cell.specs.Loop as loop
-use Rattle.grid.specs.Grid.{gridOf, crossings, faceNode, sameFace, hasFace, faceName, joins, isEdge, hasEdge, edgeNumber, start, hasNode}
+use Rattle.grid.specs.Grid.{built, crossings, faceNode, sameFace, hasFace, faceName, joins, isEdge, hasEdge, edgeNumber, start, startsOf, hasNode}
 use Rattle.answer.specs.Rows.{orRefuse, answerOf}
-use Rattle.grid.specs.Rows.{badLength, badPairs, badCell, sameCell, repeats, crowded, isAfter, badEdge, badCount, unlisted, unused, linked, reached, split, tooMany, rows, gridAnswer}
+use Rattle.grid.specs.Rows.{badLength, badNumbers, badStart, badLists, badCell, sameCell, repeats, crowded, isAfter, badEdge, badCount, unlisted, unused, linked, reached, split, tooMany, rows, gridAnswer}
 use Rattle.manifold.specs.Shape.{hasMiddle}
 use Rattle.cell.specs.Triangles.{numberOf}
 use Rattle.cell.specs.Middles.{isFan, loopPoint}
@@ -37,7 +37,7 @@ use Rattle.mesh.specs.Mesh.{gridCell}
 use Rattle.place.specs.Place.{within, sumTo, middle}
 use Rattle.places.specs.Numbers.{properFraction}
 use Rattle.places.specs.Points as points
-use Rattle.places.specs.Rows.{highest, badLists, badNumber, badFractionAt, badFraction}
+use Rattle.places.specs.Rows.{highest, badPlaceLists, badNumber, badFractionAt, badFraction}
 use Rattle.places.specs.Answer.{placeRows, rowsAnswer, placesAnswer, placed, placesArea}
 use Rattle.places.specs.Exact.{WholeAt}
 use Rattle.places.specs.Claims.{Happens}
@@ -63,7 +63,7 @@ theFractions = fin false 1 (negsuc 0) ∷ []
 theArea : List Float
 theArea = nan ∷ nan ∷ nan ∷ []
 
-answered : placesAnswer (gridOf theCells theEdges theCounts) theNodes theFractions (length theArea) ≡ result (1 ∷ [])
+answered : placesAnswer (built theCells theEdges theCounts) theNodes theFractions (length theArea) ≡ result (1 ∷ [])
 unfolding add sub mul div neg lt le eq ofInt ofBits
     seek first last some every count total over kept tally pre row col reach
     lo hi position lower upper edgeBetween slotEdge edgeRank contains firstSlot secondSlot
@@ -71,13 +71,13 @@ unfolding add sub mul div neg lt le eq ofInt ofBits
     it orbit step.face step.land step.step walk.status walk.turn walk.size walk.loopAt
     cell.ahead cell.base cell.holds cell.edge cell.index cell.answerAt cell.joinAt cell.joinedTo cell.mate cell.slot cell.step
     loop.loopSize loop.dart loop.loopDarts loop.folded loop.normal loop.inGrid loop.leasts
-    faceNode sameFace hasFace faceName joins isEdge hasEdge edgeNumber start
-    badLength badPairs badCell sameCell repeats crowded isAfter badEdge badCount unlisted unused linked reached split tooMany rows orRefuse answerOf gridAnswer
+    faceNode sameFace hasFace faceName joins isEdge hasEdge edgeNumber start startsOf
+    badLength badNumbers badStart badLists badCell sameCell repeats crowded isAfter badEdge badCount unlisted unused linked reached split tooMany rows orRefuse answerOf gridAnswer
     hasMiddle numberOf isFan loopPoint isLevel isLevelCell joining cornerFrom cornerOn leastCorner leftBetween
     nested.octagons nested.others nested.isNested nested.axisEdge nested.remaining nested.through nested.nestNumber nested.nestedMiddle nested.placedMiddle nested.placedMiddles
     gridCell
     sumTo middle gather within properFraction points.edgeOfCrossing points.indexOfCrossing points.crossingPlace points.middles points.points
-    hasNode highest badLists badNumber badFractionAt badFraction placeRows rowsAnswer placesAnswer placed placesArea
+    hasNode highest badPlaceLists badNumber badFractionAt badFraction placeRows rowsAnswer placesAnswer placed placesArea
     theCells theEdges theCounts theNodes theFractions theArea
 answered = refl
 
@@ -120,7 +120,7 @@ module _ where
 
 pub happens : Happens
 happens = record {
-  grid = gridOf theCells theEdges theCounts;
+  grid = built theCells theEdges theCounts;
   nodes = theNodes;
   fractions = theFractions;
   area = theArea;

@@ -12,7 +12,7 @@ use Rattle.answer.proofs.Rows.{row-passes, row-refuses, rows-end, whole-fault, 
 use Rattle.counting.specs.Search.{first, last}
 use Rattle.grid.specs.Grid.{highestNode, crossings}
 use Rattle.place.specs.Place.{coordinates}
-use Rattle.places.specs.Rows.{highest, nodeEnd, badLists, badNumber, badFraction}
+use Rattle.places.specs.Rows.{highest, nodeEnd, badPlaceLists, badNumber, badFraction}
 use Rattle.places.specs.Answer.{placeRows, rowsAnswer}
 use Rattle.places.specs.Work.{Marked, isMarked, badMarked, Reaching, Judgeable}
 use Rattle.places.proofs.Nodes.{highest-small}
@@ -23,26 +23,26 @@ module _ (cells counts : List ℕ) (nodes fractions : List Float) (needed room :
   answer = rowsAnswer cells counts nodes fractions needed room
 
   abbrev Bad : Bool → Type 0
-  Bad b = badLists cells counts nodes fractions needed room ≡ b
+  Bad b = badPlaceLists cells counts nodes fractions needed room ≡ b
 
   -- row 15: one of three lengths
   module _ (end n : ℕ) (e : end ≡ nodeEnd cells) (c : n ≡ crossings counts) where
     nodes-bad : length nodes < coordinates * end → Bad true
-    unfolding badLists
+    unfolding badPlaceLists
     nodes-bad h = rw (lt-ltb (length nodes) (coordinates * nodeEnd cells) (omega (arith, e)))
 
     module _ (a : coordinates * end ≤ length nodes) where
       fractions-bad : (length fractions ≡ n → ⊥) → Bad true
-      unfolding badLists
+      unfolding badPlaceLists
       fractions-bad h = rw (le-ltb (length nodes) (coordinates * nodeEnd cells) (omega (arith, e)), ne-eqb (length fractions) (crossings counts) (λ q. h (q ∙ sym c)))
 
       module _ (b : length fractions ≡ n) where
         area-bad : room < coordinates * needed → Bad true
-        unfolding badLists
+        unfolding badPlaceLists
         area-bad h = rw (le-ltb (length nodes) (coordinates * nodeEnd cells) (omega (arith, e)), eq-eqb (length fractions) (crossings counts) (b ∙ c), lt-ltb room (coordinates * needed) h)
 
         lists-good : coordinates * needed ≤ room → Bad false
-        unfolding badLists
+        unfolding badPlaceLists
         lists-good h = rw (le-ltb (length nodes) (coordinates * nodeEnd cells) (omega (arith, e)), eq-eqb (length fractions) (crossings counts) (b ∙ c), le-ltb room (coordinates * needed) h)
 
   row-15 : Bad true → refusal 15 0 ≡ answer
@@ -91,7 +91,7 @@ module _ (cells counts : List ℕ) (n : ℕ) (J : Judgeable cells counts n) (use
         short-area h = row-15 cells counts nodes fractions needed room (area-bad cells counts nodes fractions needed room end n end-known (J .all) a b h)
 
         module _ (d : coordinates * needed ≤ room) (i : ℕ) (f : i ≡ first (badMarked used nodes) (coordinates * end)) where
-          good : badLists cells counts nodes fractions needed room ≡ false
+          good : badPlaceLists cells counts nodes fractions needed room ≡ false
           good = lists-good cells counts nodes fractions needed room end n end-known (J .all) a b d
 
           number-known : i ≡ first (badNumber cells nodes) (coordinates * nodeEnd cells)

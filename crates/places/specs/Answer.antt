@@ -15,7 +15,7 @@ use Rattle.places.specs.declared.Placed.{Placed}
 use Rattle.places.specs.declared.Placed.the-variants.{Points, Refused}
 use Rattle.place.specs.Place.{coordinates, allNumbers}
 use Rattle.places.specs.Points.{points}
-use Rattle.places.specs.Rows.{nodeEnd, badLists, badNumber, badFraction}
+use Rattle.places.specs.Rows.{nodeEnd, badPlaceLists, badNumber, badFraction}
 
 -- the call's answer as the numbers of 01
 abbrev pub placesNumbers : Placed → List ℕ
@@ -26,7 +26,7 @@ module _ (cells counts : List ℕ) (nodes fractions : List Float) (needed room :
   -- the rows 15, 16 and 17, for so many points and an area of `room` numbers
   unfoldable pub placeRows : List Row
   placeRows =
-      whole 15 (badLists cells counts nodes fractions needed room)
+      whole 15 (badPlaceLists cells counts nodes fractions needed room)
       ∷ each 16 (coordinates * nodeEnd cells) (badNumber cells nodes)
       ∷ each 17 (crossings counts) (badFraction counts fractions)
       ∷ []

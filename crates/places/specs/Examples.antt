@@ -6,7 +6,7 @@ use mathlib.Core.List.{List, [], _∷_, _++_, map}
 use lib.ListN.{length, replicate}
 use lib.Ieee.{Float, nan, inf, binary64, div, neg, ofBits}
 use Rattle.answer.specs.Answer.{result, refusal}
-use Rattle.grid.specs.Grid.{gridOf}
+use Rattle.grid.specs.Grid.{built}
 use Rattle.place.specs.Place.{floatOf}
 use Rattle.places.specs.Answer.{placesAnswer, placesArea}
 
@@ -303,8 +303,8 @@ pub record Outcome : Type 0 where
 
 abbrev pub outcome : Example → Outcome
 outcome x = record {
-  answer = placesAnswer (gridOf (x .cells) (x .edges) (x .counts)) (x .nodes) (x .fractions) (length (lent (x .room)));
-  area = placesArea (gridOf (x .cells) (x .edges) (x .counts)) (x .nodes) (x .fractions) (lent (x .room));
+  answer = placesAnswer (built (x .cells) (x .edges) (x .counts)) (x .nodes) (x .fractions) (length (lent (x .room)));
+  area = placesArea (built (x .cells) (x .edges) (x .counts)) (x .nodes) (x .fractions) (lent (x .room));
 }
 
 abbrev pub listed : Example → Outcome

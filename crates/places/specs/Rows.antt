@@ -20,8 +20,8 @@ abbrev pub nodeEnd : List ℕ → ℕ
 nodeEnd cells = highest cells + 1
 
 -- 15: there are not three numbers for each node up to the highest, not as many fractions as crossings, or not three of `room` numbers for each point
-unfoldable pub badLists : (cells counts : List ℕ) (nodes fractions : List Float) (needed room : ℕ) → Bool
-badLists cells counts nodes fractions needed room =
+unfoldable pub badPlaceLists : (cells counts : List ℕ) (nodes fractions : List Float) (needed room : ℕ) → Bool
+badPlaceLists cells counts nodes fractions needed room =
     ltb (length nodes) (coordinates * nodeEnd cells) || (not (eqb (length fractions) (crossings counts)) || ltb room (coordinates * needed))
 
 -- 16: number i is of the place of a node of some cell, and is not within the limit

@@ -32,7 +32,7 @@ fn place_all(
     counts: &[u16],
     names: &[u16; MOST_SLOTS],
     sides: &[u16; MOST_EDGES],
-    starts: &[u32; MOST_EDGES],
+    starts: &[u32],
     nodes: &[f64],
     fractions: &[f64],
     area: &mut [f64],
@@ -51,21 +51,21 @@ fn place_all(
     r
 }
 
-// The places call. Keeps 88 KB on the stack for the grid's tables, besides what `grid::open` keeps while it runs.
+// The places call. Keeps 40 KB on the stack for the grid's tables, besides what `grid::lay` keeps while it runs.
 pub fn places(
     cells: &[u16],
     edges: &[u16],
     counts: &[u16],
+    starts: &[u32],
     nodes: &[f64],
     fractions: &[f64],
     area: &mut [f64],
 ) -> Placed
-    ensures { λ r. ⌜ Done (gridOf (now (cells .entry)) (now (edges .entry)) (now (counts .entry))) (now (nodes .entry)) (now (fractions .entry)) (now (area .entry)) (now (area .exit)) (placesNumbers r) ⌝ }
+    ensures { λ r. ⌜ Done (gridOf (now (cells .entry)) (now (edges .entry)) (now (counts .entry)) (now (starts .entry))) (now (nodes .entry)) (now (fractions .entry)) (now (area .entry)) (now (area .exit)) (placesNumbers r) ⌝ }
 {
     let mut names = [0u16; MOST_SLOTS];
     let mut sides = [0u16; MOST_EDGES];
-    let mut starts = [0u32; MOST_EDGES];
-    match grid::open(cells, edges, counts, &mut names, &mut sides, &mut starts) {
+    match grid::lay(cells, edges, counts, starts, &mut names, &mut sides) {
         Checked::Refused(row, place) => Placed::Refused(row, place),
         Checked::Crossings(n) => {
             place_all(
@@ -74,7 +74,7 @@ pub fn places(
                 counts,
                 &names,
                 &sides,
-                &starts,
+                starts,
                 nodes,
                 fractions,
                 area,

@@ -18,12 +18,12 @@ use Rattle.counting.proofs.Stored.{filled-whole}
 use Rattle.grid.specs.declared.Checked.{Checked}
 use Rattle.grid.specs.declared.Checked.the-variants as checked
 use Rattle.grid.specs.declared.Checked.the-variants.{Crossings}
-use Rattle.grid.specs.Grid.{Grid, hasNode, low, high}
+use Rattle.grid.specs.Grid.{Grid, hasNode, low, high, built}
 use Rattle.grid.specs.Rows.{gridAnswer}
 use Rattle.grid.specs.Check.{checkNumbers}
 use Rattle.grid.specs.Tables.{accepts}
 use Rattle.grid.specs.Accepted.{Sound}
-use Rattle.grid.proofs.Filled.{refused-keeps, crossings-accept}
+use Rattle.grid.proofs.Filled.{refused-keeps, crossings-accept, told-built}
 use Rattle.grid.proofs.Nodes.{low-has, high-has}
 use Rattle.shading.specs.Marks.{mostNodes, unusedByte, finalMarks, byteOf, unshaded, sideBytes}
 use Rattle.shading.specs.declared.Shaded.the-variants.{Refused}
@@ -197,8 +197,10 @@ module _ (G : Grid) (before : List ℕ) where
         let a = kept-answer k in
         record { answered = f ∙ a; area = sym (ap (λ b. pick b (sideBytes G) before) k) ∙ area-by (gridAnswer G) a }
 
-    pub shaded-done : (total : ℕ) → r ≡ Crossings total → (after answer : List ℕ) → ShadedIn G before after answer → Done G before after answer
-    shaded-done total q after answer D =
+    pub shaded-done : (total : ℕ) → r ≡ Crossings total → (after answer : List ℕ)
+        → ShadedIn (built (G .cells) (G .edges) (G .counts)) before after answer → Done G before after answer
+    shaded-done total q after answer B =
+        let D = subst (λ H. ShadedIn H before after answer) (sym (told-built G r total q e)) B in
         let f : checkNumbers (Crossings total) ≡ gridAnswer G = ap checkNumbers (sym q) ∙ e in
         let a : answer ≡ shadingAnswer G (length before) = D .answered ∙ rows-answer (crossings-accept G total f) in
         record { answered = a; area = D .area ∙ area-by answer a }

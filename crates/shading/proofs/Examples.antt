@@ -6,15 +6,15 @@ use Rattle.counting.specs.Range.{total, over}
 use Rattle.counting.specs.Pack.{pre}
 use Rattle.counting.specs.Reach.{reach}
 use Rattle.slots.specs.Slots.{lo, hi, position, contains}
-use Rattle.grid.specs.Grid.{hasNode, faceNode, sameFace, hasFace, joins, isEdge, hasEdge, start}
-use Rattle.grid.specs.Rows.{badLength, badPairs, badCell, sameCell, repeats, crowded, isAfter, badEdge, badCount, unlisted, unused, linked, reached, split, tooMany, rows, gridAnswer}
+use Rattle.grid.specs.Grid.{hasNode, faceNode, sameFace, hasFace, joins, isEdge, hasEdge, start, startsOf}
+use Rattle.grid.specs.Rows.{badLength, badNumbers, badStart, badLists, badCell, sameCell, repeats, crowded, isAfter, badEdge, badCount, unlisted, unused, linked, reached, split, tooMany, rows, gridAnswer}
 use Rattle.shading.specs.Marks.{moved, united, marksAfter, finalMarks, agrees, unshaded, sideBytes}
 use Rattle.shading.specs.Answer.{shadingRows, shadingAnswer, shadingArea}
 use Rattle.shading.specs.Examples.{examples, ExamplesHold}
 
 pub examples-hold : ExamplesHold
 unfolding examples seek first last some every count total over pre reach lo hi position contains
-    hasNode faceNode sameFace hasFace joins isEdge hasEdge start
-    badLength badPairs badCell sameCell repeats crowded isAfter badEdge badCount unlisted unused linked reached split tooMany rows orRefuse answerOf gridAnswer
+    hasNode faceNode sameFace hasFace joins isEdge hasEdge start startsOf
+    badLength badNumbers badStart badLists badCell sameCell repeats crowded isAfter badEdge badCount unlisted unused linked reached split tooMany rows orRefuse answerOf gridAnswer
     moved united marksAfter finalMarks agrees unshaded sideBytes shadingRows shadingAnswer shadingArea
 examples-hold = refl

@@ -13,8 +13,8 @@ use Rattle.counting.specs.Pack.{pre}
 use Rattle.counting.specs.Reach.{reach}
 use Rattle.counting.proofs.Search.{every-is}
 use Rattle.slots.specs.Slots.{lo, hi, position, lower, upper, edgeBetween, slotEdge, contains}
-use Rattle.grid.specs.Grid.{Grid, cellCount, countOf, edgeNumber, faceNode, sameFace, hasFace, joins, isEdge, hasEdge, start}
-use Rattle.grid.specs.Rows.{badLength, badPairs, badCell, sameCell, repeats, crowded, isAfter, badEdge, badCount, unlisted, unused, linked, reached, split, tooMany, rows, gridAnswer}
+use Rattle.grid.specs.Grid.{Grid, cellCount, countOf, edgeNumber, faceNode, sameFace, hasFace, joins, isEdge, hasEdge, start, startsOf}
+use Rattle.grid.specs.Rows.{badLength, badNumbers, badStart, badLists, badCell, sameCell, repeats, crowded, isAfter, badEdge, badCount, unlisted, unused, linked, reached, split, tooMany, rows, gridAnswer}
 use Rattle.grid.proofs.Accepts.{acceptance-yields}
 use Rattle.shading.specs.Marks.{mostNodes, moved, united, marksAfter, finalMarks, agrees, unshaded}
 use Rattle.shading.specs.Answer.{shadingRows, shadingAnswer}
@@ -26,8 +26,8 @@ abbrev R : Grid
 R = ring ringCounts
 
 accepted : gridAnswer R ≡ result (6 ∷ [])
-unfolding seek first last some every count total pre reach lo hi position contains faceNode sameFace hasFace joins isEdge hasEdge start
-    badLength badPairs badCell sameCell repeats crowded isAfter badEdge badCount unlisted unused linked reached split tooMany rows orRefuse answerOf gridAnswer
+unfolding seek first last some every count total over pre reach lo hi position contains faceNode sameFace hasFace joins isEdge hasEdge start startsOf
+    badLength badNumbers badStart badLists badCell sameCell repeats crowded isAfter badEdge badCount unlisted unused linked reached split tooMany rows orRefuse answerOf gridAnswer
 accepted = refl
 
 -- the sum of the three counts of slot s of cell c is even
@@ -46,8 +46,8 @@ unfolding every over moved united marksAfter finalMarks agrees unshaded
 lacks = refl
 
 refused : shadingAnswer R mostNodes ≡ refusal 20 0
-unfolding seek first last some every count total over pre reach lo hi position contains faceNode sameFace hasFace joins isEdge hasEdge start
-    badLength badPairs badCell sameCell repeats crowded isAfter badEdge badCount unlisted unused linked reached split tooMany rows orRefuse answerOf gridAnswer
+unfolding seek first last some every count total over pre reach lo hi position contains faceNode sameFace hasFace joins isEdge hasEdge start startsOf
+    badLength badNumbers badStart badLists badCell sameCell repeats crowded isAfter badEdge badCount unlisted unused linked reached split tooMany rows orRefuse answerOf gridAnswer
     moved united marksAfter finalMarks agrees unshaded shadingRows shadingAnswer
 refused = refl
 

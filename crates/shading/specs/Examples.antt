@@ -4,7 +4,7 @@ use mathlib.Core.Path.{_≡_}
 use mathlib.Core.List.{List, [], _∷_, _++_, map}
 use lib.ListN.{replicate}
 use Rattle.answer.specs.Answer.{result, refusal}
-use Rattle.grid.specs.Grid.{Grid, gridOf}
+use Rattle.grid.specs.Grid.{Grid, built}
 use Rattle.shading.specs.Answer.{shadingAnswer, shadingArea}
 
 pub record Example : Type 0 where
@@ -31,26 +31,26 @@ refuses G room number place = record { grid = G; room = room; answer = refusal n
 
 -- one cell 0 1 2 3 with the counts of 01, 02, 03, 12, 13, 23
 abbrev cell : List ℕ → Grid
-cell counts = gridOf (0 ∷ 1 ∷ 2 ∷ 3 ∷ []) (0 ∷ 1 ∷ 0 ∷ 2 ∷ 0 ∷ 3 ∷ 1 ∷ 2 ∷ 1 ∷ 3 ∷ 2 ∷ 3 ∷ []) counts
+cell counts = built (0 ∷ 1 ∷ 2 ∷ 3 ∷ []) (0 ∷ 1 ∷ 0 ∷ 2 ∷ 0 ∷ 3 ∷ 1 ∷ 2 ∷ 1 ∷ 3 ∷ 2 ∷ 3 ∷ []) counts
 
 -- one cell 0 2 5 4095
 abbrev ends : List ℕ → Grid
-ends counts = gridOf (0 ∷ 2 ∷ 5 ∷ 4095 ∷ []) (0 ∷ 2 ∷ 0 ∷ 5 ∷ 0 ∷ 4095 ∷ 2 ∷ 5 ∷ 2 ∷ 4095 ∷ 5 ∷ 4095 ∷ []) counts
+ends counts = built (0 ∷ 2 ∷ 5 ∷ 4095 ∷ []) (0 ∷ 2 ∷ 0 ∷ 5 ∷ 0 ∷ 4095 ∷ 2 ∷ 5 ∷ 2 ∷ 4095 ∷ 5 ∷ 4095 ∷ []) counts
 
 -- one cell 1 2 3 4
 abbrev high : List ℕ → Grid
-high counts = gridOf (1 ∷ 2 ∷ 3 ∷ 4 ∷ []) (1 ∷ 2 ∷ 1 ∷ 3 ∷ 1 ∷ 4 ∷ 2 ∷ 3 ∷ 2 ∷ 4 ∷ 3 ∷ 4 ∷ []) counts
+high counts = built (1 ∷ 2 ∷ 3 ∷ 4 ∷ []) (1 ∷ 2 ∷ 1 ∷ 3 ∷ 1 ∷ 4 ∷ 2 ∷ 3 ∷ 2 ∷ 4 ∷ 3 ∷ 4 ∷ []) counts
 
 -- two cells that share no node, listed with the higher nodes first: 1 4 6 8 and 0 2 5 7
 abbrev apart : List ℕ → Grid
 apart counts =
-    gridOf (1 ∷ 4 ∷ 6 ∷ 8 ∷ 0 ∷ 2 ∷ 5 ∷ 7 ∷ [])
+    built (1 ∷ 4 ∷ 6 ∷ 8 ∷ 0 ∷ 2 ∷ 5 ∷ 7 ∷ [])
     (0 ∷ 2 ∷ 0 ∷ 5 ∷ 0 ∷ 7 ∷ 1 ∷ 4 ∷ 1 ∷ 6 ∷ 1 ∷ 8 ∷ 2 ∷ 5 ∷ 2 ∷ 7 ∷ 4 ∷ 6 ∷ 4 ∷ 8 ∷ 5 ∷ 7 ∷ 6 ∷ 8 ∷ []) counts
 
 -- three triangles of nodes, 0 1 2, 3 4 5 and 6 7 8, and three cells between each two of them: a ring
 abbrev pub ring : List ℕ → Grid
 ring counts =
-    gridOf
+    built
     (0 ∷ 1 ∷ 2 ∷ 5 ∷ 0 ∷ 1 ∷ 4 ∷ 5 ∷ 0 ∷ 3 ∷ 4 ∷ 5
     ∷ 3 ∷ 4 ∷ 5 ∷ 8 ∷ 3 ∷ 4 ∷ 7 ∷ 8 ∷ 3 ∷ 6 ∷ 7 ∷ 8
     ∷ 2 ∷ 6 ∷ 7 ∷ 8 ∷ 1 ∷ 2 ∷ 6 ∷ 7 ∷ 0 ∷ 1 ∷ 2 ∷ 6 ∷ [])

@@ -1,7 +1,7 @@
 // The shading call: which side of the surface each node of a grid is on.
 ghost use mathlib.Core.Path.{_≡_};
 ghost use Prim.Native.Nat.{_<_};
-ghost use Rattle.grid.specs.Grid.{gridOf};
+ghost use Rattle.grid.specs.Grid.{gridOf, built};
 ghost use Rattle.grid.specs.Accepted.{Sound};
 ghost use Rattle.shading.specs.Marks.{mostNodes};
 ghost use Rattle.shading.specs.Answer.{shadingNumbers};
@@ -65,8 +65,8 @@ fn write_sides(links: &[u16], area: &mut [u8])
 
 // Rows 19 and 20 for a grid that is accepted, and where they refuse nothing, the sides. Keeps 8 KB on the stack.
 fn shade_accepted(cells: &[u16], edges: &[u16], counts: &[u16], area: &mut [u8]) -> Shaded
-    requires { ⌜ Sound (gridOf (now cells) (now edges) (now counts)) ⌝ }
-    ensures { λ r. ⌜ ShadedIn (gridOf (now (cells .entry)) (now (edges .entry)) (now (counts .entry))) (now (area .entry)) (now (area .exit)) (shadingNumbers r) ⌝ }
+    requires { ⌜ Sound (built (now cells) (now edges) (now counts)) ⌝ }
+    ensures { λ r. ⌜ ShadedIn (built (now (cells .entry)) (now (edges .entry)) (now (counts .entry))) (now (area .entry)) (now (area .exit)) (shadingNumbers r) ⌝ }
 {
     if area.len() != MOST_NODES {
         return Shaded::Refused(19, 0);
@@ -81,10 +81,16 @@ fn shade_accepted(cells: &[u16], edges: &[u16], counts: &[u16], area: &mut [u8])
 }
 
 // The shading call. Keeps as much on the stack as `grid::check` while it runs, and 8 KB afterwards.
-pub fn shade(cells: &[u16], edges: &[u16], counts: &[u16], area: &mut [u8]) -> Shaded
-    ensures { λ r. ⌜ Done (gridOf (now (cells .entry)) (now (edges .entry)) (now (counts .entry))) (now (area .entry)) (now (area .exit)) (shadingNumbers r) ⌝ }
+pub fn shade(
+    cells: &[u16],
+    edges: &[u16],
+    counts: &[u16],
+    starts: &[u32],
+    area: &mut [u8],
+) -> Shaded
+    ensures { λ r. ⌜ Done (gridOf (now (cells .entry)) (now (edges .entry)) (now (counts .entry)) (now (starts .entry))) (now (area .entry)) (now (area .exit)) (shadingNumbers r) ⌝ }
 {
-    match grid::check(cells, edges, counts) {
+    match grid::check(cells, edges, counts, starts) {
         Checked::Refused(row, place) => Shaded::Refused(row, place),
         Checked::Crossings(_) => shade_accepted(cells, edges, counts, area),
     }

@@ -1,6 +1,8 @@
 //! The calls of include/citternblaze.h and of include/citternblaze_host.h, over
 //! slices.
 
+use reference::grid::Lists;
+
 /// The declarations of the two headers. A slice is a pointer and a length.
 mod c {
     extern "C" {
@@ -43,6 +45,36 @@ mod c {
             edges_len: usize,
             counts: *const u16,
             counts_len: usize,
+            starts: *const u32,
+            starts_len: usize,
+            answer: *mut u64,
+            answer_len: usize,
+        ) -> usize;
+
+        pub fn citternblaze_open(
+            cells: *const u16,
+            cells_len: usize,
+            edges: *const u16,
+            edges_len: usize,
+            counts: *const u16,
+            counts_len: usize,
+            starts: *mut u32,
+            starts_len: usize,
+            answer: *mut u64,
+            answer_len: usize,
+        ) -> usize;
+
+        pub fn citternblaze_set_count(
+            cells: *const u16,
+            cells_len: usize,
+            edges: *const u16,
+            edges_len: usize,
+            counts: *mut u16,
+            counts_len: usize,
+            starts: *mut u32,
+            starts_len: usize,
+            edge: usize,
+            count: u16,
             answer: *mut u64,
             answer_len: usize,
         ) -> usize;
@@ -54,6 +86,8 @@ mod c {
             edges_len: usize,
             counts: *const u16,
             counts_len: usize,
+            starts: *const u32,
+            starts_len: usize,
             area: *mut u32,
             area_len: usize,
             answer: *mut u64,
@@ -67,6 +101,8 @@ mod c {
             edges_len: usize,
             counts: *const u16,
             counts_len: usize,
+            starts: *const u32,
+            starts_len: usize,
             cell: usize,
             index: usize,
             answer: *mut u64,
@@ -80,6 +116,8 @@ mod c {
             edges_len: usize,
             counts: *const u16,
             counts_len: usize,
+            starts: *const u32,
+            starts_len: usize,
             nodes: *const f64,
             nodes_len: usize,
             fractions: *const f64,
@@ -97,6 +135,8 @@ mod c {
             edges_len: usize,
             counts: *const u16,
             counts_len: usize,
+            starts: *const u32,
+            starts_len: usize,
             area: *mut u8,
             area_len: usize,
             answer: *mut u64,
@@ -184,36 +224,82 @@ pub fn book(counts: [u16; 6], answer: &mut [u64]) -> usize {
     unsafe { c::citternblaze_book(a, b, c, d, e, f, area, len) }
 }
 
-pub fn check(cells: &[u16], edges: &[u16], counts: &[u16], answer: &mut [u64]) -> usize {
+pub fn check(grid: Lists, answer: &mut [u64]) -> usize {
     unsafe {
         c::citternblaze_check(
-            cells.as_ptr(),
-            cells.len(),
-            edges.as_ptr(),
-            edges.len(),
-            counts.as_ptr(),
-            counts.len(),
+            grid.cells.as_ptr(),
+            grid.cells.len(),
+            grid.edges.as_ptr(),
+            grid.edges.len(),
+            grid.counts.as_ptr(),
+            grid.counts.len(),
+            grid.starts.as_ptr(),
+            grid.starts.len(),
             answer.as_mut_ptr(),
             answer.len(),
         )
     }
 }
 
-pub fn mesh(
+pub fn open(
     cells: &[u16],
     edges: &[u16],
     counts: &[u16],
-    area: &mut [u32],
+    starts: &mut [u32],
     answer: &mut [u64],
 ) -> usize {
     unsafe {
-        c::citternblaze_mesh(
+        c::citternblaze_open(
             cells.as_ptr(),
             cells.len(),
             edges.as_ptr(),
             edges.len(),
             counts.as_ptr(),
             counts.len(),
+            starts.as_mut_ptr(),
+            starts.len(),
+            answer.as_mut_ptr(),
+            answer.len(),
+        )
+    }
+}
+
+pub fn set_count(
+    (cells, edges): (&[u16], &[u16]),
+    counts: &mut [u16],
+    starts: &mut [u32],
+    (edge, count): (usize, u16),
+    answer: &mut [u64],
+) -> usize {
+    unsafe {
+        c::citternblaze_set_count(
+            cells.as_ptr(),
+            cells.len(),
+            edges.as_ptr(),
+            edges.len(),
+            counts.as_mut_ptr(),
+            counts.len(),
+            starts.as_mut_ptr(),
+            starts.len(),
+            edge,
+            count,
+            answer.as_mut_ptr(),
+            answer.len(),
+        )
+    }
+}
+
+pub fn mesh(grid: Lists, area: &mut [u32], answer: &mut [u64]) -> usize {
+    unsafe {
+        c::citternblaze_mesh(
+            grid.cells.as_ptr(),
+            grid.cells.len(),
+            grid.edges.as_ptr(),
+            grid.edges.len(),
+            grid.counts.as_ptr(),
+            grid.counts.len(),
+            grid.starts.as_ptr(),
+            grid.starts.len(),
             area.as_mut_ptr(),
             area.len(),
             answer.as_mut_ptr(),
@@ -222,21 +308,17 @@ pub fn mesh(
     }
 }
 
-pub fn loops(
-    cells: &[u16],
-    edges: &[u16],
-    counts: &[u16],
-    [cell, index]: [usize; 2],
-    answer: &mut [u64],
-) -> usize {
+pub fn loops(grid: Lists, [cell, index]: [usize; 2], answer: &mut [u64]) -> usize {
     unsafe {
         c::citternblaze_loops(
-            cells.as_ptr(),
-            cells.len(),
-            edges.as_ptr(),
-            edges.len(),
-            counts.as_ptr(),
-            counts.len(),
+            grid.cells.as_ptr(),
+            grid.cells.len(),
+            grid.edges.as_ptr(),
+            grid.edges.len(),
+            grid.counts.as_ptr(),
+            grid.counts.len(),
+            grid.starts.as_ptr(),
+            grid.starts.len(),
             cell,
             index,
             answer.as_mut_ptr(),
@@ -247,7 +329,7 @@ pub fn loops(
 
 /// The area has the bits of its numbers, so that each of them is told apart.
 pub fn places(
-    (cells, edges, counts): (&[u16], &[u16], &[u16]),
+    grid: Lists,
     nodes: &[f64],
     fractions: &[f64],
     area: &mut [u64],
@@ -255,12 +337,14 @@ pub fn places(
 ) -> usize {
     unsafe {
         c::citternblaze_places(
-            cells.as_ptr(),
-            cells.len(),
-            edges.as_ptr(),
-            edges.len(),
-            counts.as_ptr(),
-            counts.len(),
+            grid.cells.as_ptr(),
+            grid.cells.len(),
+            grid.edges.as_ptr(),
+            grid.edges.len(),
+            grid.counts.as_ptr(),
+            grid.counts.len(),
+            grid.starts.as_ptr(),
+            grid.starts.len(),
             nodes.as_ptr(),
             nodes.len(),
             fractions.as_ptr(),
@@ -273,21 +357,17 @@ pub fn places(
     }
 }
 
-pub fn shading(
-    cells: &[u16],
-    edges: &[u16],
-    counts: &[u16],
-    area: &mut [u8],
-    answer: &mut [u64],
-) -> usize {
+pub fn shading(grid: Lists, area: &mut [u8], answer: &mut [u64]) -> usize {
     unsafe {
         c::citternblaze_shading(
-            cells.as_ptr(),
-            cells.len(),
-            edges.as_ptr(),
-            edges.len(),
-            counts.as_ptr(),
-            counts.len(),
+            grid.cells.as_ptr(),
+            grid.cells.len(),
+            grid.edges.as_ptr(),
+            grid.edges.len(),
+            grid.counts.as_ptr(),
+            grid.counts.len(),
+            grid.starts.as_ptr(),
+            grid.starts.len(),
             area.as_mut_ptr(),
             area.len(),
             answer.as_mut_ptr(),

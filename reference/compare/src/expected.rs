@@ -6,7 +6,7 @@ use reference::cases;
 use reference::cell::{CellWalker, LoopType};
 use reference::face::{self, How, Join, Why};
 use reference::gen::Sample;
-use reference::grid;
+use reference::grid::{self, Lists};
 use reference::mesh::Mesher;
 use reference::nearest::{self, Nearest};
 use reference::places::{self, Place};
@@ -66,22 +66,34 @@ pub fn book(walker: &mut CellWalker, counts: [u16; 6]) -> Vec<u64> {
 }
 
 /// 0 and the number of crossings, or a refusal.
-pub fn check(grid: &Sample) -> Vec<u64> {
-    let answer = grid::check(&grid.cells, &grid.edges, &grid.counts);
+pub fn check(grid: Lists) -> Vec<u64> {
+    numbers(grid::check(grid), |crossings| vec![u64::from(crossings)])
+}
+
+/// 0 and the number of crossings, or a refusal; fills the starts.
+pub fn open(grid: &Sample, starts: &mut [u32]) -> Vec<u64> {
+    let answer = grid::open(&grid.cells, &grid.edges, &grid.counts, starts);
+    numbers(answer, |crossings| vec![u64::from(crossings)])
+}
+
+/// 0 and the number of crossings, or a refusal; sets the count and the starts.
+pub fn set_count(grid: &mut Sample, starts: &mut [u32], edge: usize, count: u16) -> Vec<u64> {
+    let (cells, edges, counts) = (&grid.cells, &grid.edges, &mut grid.counts);
+    let answer = grid::set_count(cells, edges, counts, starts, edge, count);
     numbers(answer, |crossings| vec![u64::from(crossings)])
 }
 
 /// 0 and the number of triangles, or a refusal; fills the area.
-pub fn mesh(mesher: &mut Mesher, grid: &Sample, area: &mut [u32]) -> Vec<u64> {
-    let answer = mesher.mesh(&grid.cells, &grid.edges, &grid.counts, area);
-    numbers(answer, |triangles| vec![u64::from(triangles)])
+pub fn mesh(mesher: &mut Mesher, grid: Lists, area: &mut [u32]) -> Vec<u64> {
+    numbers(mesher.mesh(grid, area), |triangles| {
+        vec![u64::from(triangles)]
+    })
 }
 
 /// 0, p0, the length, 1 for normal or 0, the type and its node; 0 alone for no
 /// such loop; or a refusal.
-pub fn loops(mesher: &mut Mesher, grid: &Sample, [cell, index]: [usize; 2]) -> Vec<u64> {
-    let [cell, index] = [cell as u64, index as u64];
-    let answer = mesher.loop_of_cell(&grid.cells, &grid.edges, &grid.counts, cell, index);
+pub fn loops(mesher: &mut Mesher, grid: Lists, [cell, index]: [usize; 2]) -> Vec<u64> {
+    let answer = mesher.loop_of_cell(grid, cell as u64, index as u64);
     numbers(answer, |found| match found {
         None => vec![],
         Some(told) => {
@@ -98,21 +110,14 @@ pub fn loops(mesher: &mut Mesher, grid: &Sample, [cell, index]: [usize; 2]) -> V
 
 /// 0 and the number of points, or a refusal; fills the area, which has the bits
 /// of its numbers.
-pub fn places(placing: &Placing, area: &mut [u64]) -> Vec<u64> {
+pub fn places(placing: &Placing, starts: &[u32], area: &mut [u64]) -> Vec<u64> {
     let Placing {
         grid,
         nodes,
         fractions,
     } = placing;
     let mut numbers_in: Vec<f64> = area.iter().copied().map(f64::from_bits).collect();
-    let answer = places::places(
-        &grid.cells,
-        &grid.edges,
-        &grid.counts,
-        nodes,
-        fractions,
-        &mut numbers_in,
-    );
+    let answer = places::places(grid.lists(starts), nodes, fractions, &mut numbers_in);
     for (bits, number) in area.iter_mut().zip(numbers_in) {
         *bits = number.to_bits();
     }
@@ -120,9 +125,8 @@ pub fn places(placing: &Placing, area: &mut [u64]) -> Vec<u64> {
 }
 
 /// 0, or a refusal; fills the area.
-pub fn shading(grid: &Sample, area: &mut [u8]) -> Vec<u64> {
-    let answer = shading::shade(&grid.cells, &grid.edges, &grid.counts, area);
-    numbers(answer, |()| vec![])
+pub fn shading(grid: Lists, area: &mut [u8]) -> Vec<u64> {
+    numbers(shading::shade(grid, area), |()| vec![])
 }
 
 /// 0, the kind and the next start, or a refusal.

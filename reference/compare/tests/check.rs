@@ -60,29 +60,23 @@ fn grid(cells: &[u16], edges: &[u16], counts: &[u16]) -> Sample {
 
 /// Compares the check of one grid.
 fn compare(grid: &Sample, tally: &mut Tally) {
-    let numbers = expected::check(grid);
+    let starts = grid.starts();
+    let lists = grid.lists(&starts);
+    let numbers = expected::check(lists);
     tally.add(grid, &numbers);
-    let Sample {
-        cells,
-        edges,
-        counts,
-    } = grid;
     assert!(
-        answers(&numbers, |area| calls::check(cells, edges, counts, area)),
+        answers(&numbers, |area| calls::check(lists, area)),
         "not answered with {numbers:?} alone: {grid:?}"
     );
 }
 
 /// Compares the check of a grid with what it has to answer, in any area.
 fn compare_with(numbers: [u64; 2], grid: &Sample) {
-    let Sample {
-        cells,
-        edges,
-        counts,
-    } = grid;
-    assert_eq!(expected::check(grid), numbers, "{grid:?}");
+    let starts = grid.starts();
+    let lists = grid.lists(&starts);
+    assert_eq!(expected::check(lists), numbers, "{grid:?}");
     assert!(
-        answers_in_all(&numbers, |area| calls::check(cells, edges, counts, area)),
+        answers_in_all(&numbers, |area| calls::check(lists, area)),
         "not answered with {numbers:?} alone: {grid:?}"
     );
 }
@@ -248,7 +242,7 @@ fn each_shape_broken_in_each_way() {
             compare(&whole, &mut tally);
             for row in ROWS {
                 if let Some(faulty) = broken(&mut rng, &whole, row) {
-                    let numbers = expected::check(&faulty);
+                    let numbers = expected::check(faulty.lists(&faulty.starts()));
                     assert_eq!(numbers[0], u64::from(row), "{faulty:?}");
                     compare(&faulty, &mut tally);
                 }
@@ -288,8 +282,9 @@ fn random_grids() {
 fn stack_of_512_kilobytes() {
     let check = || {
         let grid = closed_fan(MAX_CELLS as u16);
+        let starts = grid.starts();
         let mut answer = [0; ANSWER_WORDS];
-        calls::check(&grid.cells, &grid.edges, &grid.counts, &mut answer)
+        calls::check(grid.lists(&starts), &mut answer)
     };
     let thread = thread::Builder::new().stack_size(512 * 1024).spawn(check);
     assert_eq!(thread.expect("a thread").join().expect("an answer"), 2);

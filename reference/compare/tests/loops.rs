@@ -57,17 +57,12 @@ impl Tally {
 
 /// Compares one call, and tells its numbers.
 fn compare(mesher: &mut Mesher, grid: &Sample, ask: [usize; 2], tally: &mut Tally) -> Vec<u64> {
-    let numbers = expected::loops(mesher, grid, ask);
+    let starts = grid.starts();
+    let lists = grid.lists(&starts);
+    let numbers = expected::loops(mesher, lists, ask);
     tally.add(&numbers);
-    let Sample {
-        cells,
-        edges,
-        counts,
-    } = grid;
     assert!(
-        answers(&numbers, |area| calls::loops(
-            cells, edges, counts, ask, area
-        )),
+        answers(&numbers, |area| calls::loops(lists, ask, area)),
         "cell and loop {ask:?}: not answered with {numbers:?} alone: {grid:?}"
     );
     numbers
@@ -127,16 +122,11 @@ fn examples() {
     ];
     for (counts, ask, numbers) in cases {
         let grid = one_cell(counts);
-        assert_eq!(expected::loops(&mut Mesher::default(), &grid, ask), numbers);
-        let Sample {
-            cells,
-            edges,
-            counts,
-        } = &grid;
+        let starts = grid.starts();
+        let lists = grid.lists(&starts);
+        assert_eq!(expected::loops(&mut Mesher::default(), lists, ask), numbers);
         assert!(
-            answers_in_all(numbers, |area| calls::loops(
-                cells, edges, counts, ask, area
-            )),
+            answers_in_all(numbers, |area| calls::loops(lists, ask, area)),
             "{grid:?}, cell and loop {ask:?}"
         );
     }
@@ -237,7 +227,7 @@ fn stack_of_640_kilobytes() {
     let grid = sphere([5, 5, 5]).with_counts(&mut Rng::new(1), 0, 12);
     let call = move || {
         let mut answer = [1; ANSWER_WORDS];
-        calls::loops(&grid.cells, &grid.edges, &grid.counts, [9, 0], &mut answer);
+        calls::loops(grid.lists(&grid.starts()), [9, 0], &mut answer);
         answer[0]
     };
     let thread = thread::Builder::new().stack_size(640 * 1024).spawn(call);

@@ -94,10 +94,10 @@ impl Tally {
 fn compare_in(mesher: &mut Mesher, grid: &Sample, len: usize) -> (Vec<u64>, Vec<u32>) {
     let mut area = untouched(len);
     let mut lent = Lent::new(&area, GUARD);
-    let numbers = expected::mesh(mesher, grid, &mut area);
-    let right = answers(&numbers, |answer| {
-        calls::mesh(&grid.cells, &grid.edges, &grid.counts, lent.area(), answer)
-    });
+    let starts = grid.starts();
+    let lists = grid.lists(&starts);
+    let numbers = expected::mesh(mesher, lists, &mut area);
+    let right = answers(&numbers, |answer| calls::mesh(lists, lent.area(), answer));
     assert!(
         right,
         "area of {len}: not answered with {numbers:?} alone: {grid:?}"
@@ -135,7 +135,8 @@ fn count_sides(grid: &Sample, words: &[u32], tally: &mut Tally) {
 /// way.
 fn compare(mesher: &mut Mesher, rng: &mut Rng, grid: &Sample, tally: &mut Tally) {
     tally.grids += 1;
-    let [number, place] = match expected::mesh(mesher, grid, &mut [])[..] {
+    let starts = grid.starts();
+    let [number, place] = match expected::mesh(mesher, grid.lists(&starts), &mut [])[..] {
         [number, place] => [number as usize, place as usize],
         _ => panic!("two numbers"),
     };
@@ -184,9 +185,10 @@ fn compare_with(numbers: [u64; 2], words: &[u32], len: usize, grid: &Sample) {
         "{grid:?}"
     );
     let before = untouched(len);
+    let starts = grid.starts();
     let right = answers_in_all(&numbers, |answer| {
         let mut lent = Lent::new(&before, GUARD);
-        let many = calls::mesh(&grid.cells, &grid.edges, &grid.counts, lent.area(), answer);
+        let many = calls::mesh(grid.lists(&starts), lent.area(), answer);
         assert!(lent.is(after(answer, &before, &area), GUARD), "{grid:?}");
         many
     });
@@ -410,17 +412,12 @@ fn random_grids() {
 fn stack_of_640_kilobytes() {
     let grid = sphere([5, 5, 5]).with_counts(&mut Rng::new(1), 0, 12);
     let call = move || {
+        let starts = grid.starts();
         let mut area = vec![0; 11 * 65_535];
         let mut answer = [1; ANSWER_WORDS];
         // room for any mesh, and for none, where the cells are counted
         [area.len(), 0].map(|len| {
-            calls::mesh(
-                &grid.cells,
-                &grid.edges,
-                &grid.counts,
-                &mut area[..len],
-                &mut answer,
-            );
+            calls::mesh(grid.lists(&starts), &mut area[..len], &mut answer);
             answer[0]
         })
     };

@@ -218,16 +218,12 @@ fn random_lists() {
 
 /// Places a grid's points by the proved call.
 fn placed(placing: &Placing) -> Vec<f64> {
-    let Sample {
-        cells,
-        edges,
-        counts,
-    } = &placing.grid;
+    let starts = placing.grid.starts();
     let (nodes, fractions) = (&placing.nodes, &placing.fractions);
     let mut area = vec![0; 3 * (fractions.len() + placing.grid.crossings_in_cells())];
     let mut answer = [1; 6];
     calls::places(
-        (cells, edges, counts),
+        placing.grid.lists(&starts),
         nodes,
         fractions,
         &mut area,
@@ -282,7 +278,7 @@ fn placed_points() {
             0 => closed_grid(&mut rng),
             _ => random_grid(&mut rng),
         };
-        if expected::check(&grid)[0] == 0 {
+        if expected::check(grid.lists(&grid.starts()))[0] == 0 {
             compare_kinds(&mut rng, &grid, &mut tally);
         }
     }

@@ -55,13 +55,9 @@ impl Tally {
 
 /// The proved call.
 fn call(placing: &Placing, area: &mut [u64], answer: &mut [u64]) -> usize {
-    let Sample {
-        cells,
-        edges,
-        counts,
-    } = &placing.grid;
     let (nodes, fractions) = (&placing.nodes, &placing.fractions);
-    calls::places((cells, edges, counts), nodes, fractions, area, answer)
+    let starts = placing.grid.starts();
+    calls::places(placing.grid.lists(&starts), nodes, fractions, area, answer)
 }
 
 /// Compares a call on an area of this length: the numbers answered and every
@@ -69,7 +65,7 @@ fn call(placing: &Placing, area: &mut [u64], answer: &mut [u64]) -> usize {
 fn compare_in(placing: &Placing, len: usize) -> (Vec<u64>, Vec<u64>) {
     let mut area = untouched(len);
     let mut lent = Lent::new(&area, GUARD);
-    let numbers = expected::places(placing, &mut area);
+    let numbers = expected::places(placing, &placing.grid.starts(), &mut area);
     let right = answers(&numbers, |answer| call(placing, lent.area(), answer));
     assert!(
         right,
@@ -93,12 +89,14 @@ fn crossings(grid: &Sample) -> usize {
 /// fan by its last triangle, the one whose side 1 is inner side 0.
 fn points(grid: &Sample) -> usize {
     let mut mesher = Mesher::default();
-    let triangles = match expected::mesh(&mut mesher, grid, &mut [])[..] {
+    let starts = grid.starts();
+    let lists = grid.lists(&starts);
+    let triangles = match expected::mesh(&mut mesher, lists, &mut [])[..] {
         [0 | 12, triangles] => triangles as usize,
         _ => return 0,
     };
     let mut words = vec![0; TRIANGLE_WORDS * triangles];
-    expected::mesh(&mut mesher, grid, &mut words);
+    expected::mesh(&mut mesher, lists, &mut words);
     let all = words.chunks_exact(TRIANGLE_WORDS);
     let last = |words: &&[u32]| words[4] == NO_NUMBER && words[8] == 0;
     crossings(grid) + all.filter(last).count()
@@ -281,7 +279,7 @@ fn random_grids() {
             0 => closed_grid(&mut rng),
             _ => random_grid(&mut rng),
         };
-        let accepted = expected::check(&grid)[0] == 0;
+        let accepted = expected::check(grid.lists(&grid.starts()))[0] == 0;
         if accepted {
             compare_kinds(&mut rng, &grid, &mut tally);
         }
@@ -311,10 +309,9 @@ fn stack_of_640_kilobytes() {
     let call = move || {
         let mut area = vec![0; 9 * 65_535];
         let mut answer = [1; ANSWER_WORDS];
-        let grid = &placing.grid;
-        let lists = (&grid.cells[..], &grid.edges[..], &grid.counts[..]);
+        let starts = placing.grid.starts();
         calls::places(
-            lists,
+            placing.grid.lists(&starts),
             &placing.nodes,
             &placing.fractions,
             &mut area,

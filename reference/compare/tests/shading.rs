@@ -66,9 +66,11 @@ impl Tally {
 fn compare_in(grid: &Sample, len: usize) -> (Vec<u64>, Vec<u8>) {
     let mut area = untouched(len);
     let mut lent = Lent::new(&area, GUARD);
-    let numbers = expected::shading(grid, &mut area);
+    let starts = grid.starts();
+    let lists = grid.lists(&starts);
+    let numbers = expected::shading(lists, &mut area);
     let right = answers(&numbers, |answer| {
-        calls::shading(&grid.cells, &grid.edges, &grid.counts, lent.area(), answer)
+        calls::shading(lists, lent.area(), answer)
     });
     assert!(
         right,
@@ -163,12 +165,14 @@ fn compare(grid: &Sample, other: usize, tally: &mut Tally) {
 /// Compares the call on one grid with what it has to answer, in answer areas of
 /// every length.
 fn compare_with(numbers: &[u64], grid: &Sample, len: usize) {
+    let starts = grid.starts();
+    let lists = grid.lists(&starts);
     let mut made = untouched(len);
-    assert_eq!(expected::shading(grid, &mut made), numbers, "{grid:?}");
+    assert_eq!(expected::shading(lists, &mut made), numbers, "{grid:?}");
     let mut call = |answer: &mut [u64]| {
         let before = untouched(len);
         let mut lent = Lent::new(&before, GUARD);
-        let returned = calls::shading(&grid.cells, &grid.edges, &grid.counts, lent.area(), answer);
+        let returned = calls::shading(lists, lent.area(), answer);
         assert!(lent.is(after(answer, &before, &made), GUARD));
         returned
     };
@@ -350,13 +354,7 @@ fn stack_of_512_kilobytes() {
         let grid = closed_fan(MAX_CELLS as u16);
         let mut area = vec![7; AREA];
         let mut answer = [1; ANSWER_WORDS];
-        calls::shading(
-            &grid.cells,
-            &grid.edges,
-            &grid.counts,
-            &mut area,
-            &mut answer,
-        )
+        calls::shading(grid.lists(&grid.starts()), &mut area, &mut answer)
     };
     let thread = thread::Builder::new().stack_size(512 * 1024).spawn(shade);
     assert_eq!(thread.expect("a thread").join().expect("an answer"), 1);

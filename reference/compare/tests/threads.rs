@@ -5,7 +5,7 @@ use std::thread;
 use compare::grids::single_cell;
 use compare::lent::answers;
 use compare::{calls, expected};
-use reference::gen::{random_shape, Rng, Sample};
+use reference::gen::{random_shape, Rng};
 use reference::mesh::Mesher;
 
 /// More threads than a small machine has processors.
@@ -20,27 +20,20 @@ fn compare(seed: u64) {
             0 => single_cell(&mut rng, 4_095),
             _ => random_shape(&mut rng).with_counts(&mut rng, 0, 5),
         };
-        let Sample {
-            cells,
-            edges,
-            counts,
-        } = &grid;
-        let numbers = expected::check(&grid);
-        assert!(answers(&numbers, |answer| calls::check(
-            cells, edges, counts, answer
-        )));
+        let starts = grid.starts();
+        let lists = grid.lists(&starts);
+        let numbers = expected::check(lists);
+        assert!(answers(&numbers, |answer| calls::check(lists, answer)));
         let mut made = vec![7; 11 * grid.crossings_in_cells()];
         let mut area = made.clone();
-        let numbers = expected::mesh(&mut mesher, &grid, &mut made);
+        let numbers = expected::mesh(&mut mesher, lists, &mut made);
         assert!(answers(&numbers, |answer| {
-            calls::mesh(cells, edges, counts, &mut area, answer)
+            calls::mesh(lists, &mut area, answer)
         }));
         assert_eq!(area, made);
-        let ask = [rng.below(cells.len() / 4), rng.below(3)];
-        let numbers = expected::loops(&mut mesher, &grid, ask);
-        assert!(answers(&numbers, |answer| calls::loops(
-            cells, edges, counts, ask, answer
-        )));
+        let ask = [rng.below(grid.cells.len() / 4), rng.below(3)];
+        let numbers = expected::loops(&mut mesher, lists, ask);
+        assert!(answers(&numbers, |answer| calls::loops(lists, ask, answer)));
     }
 }
 

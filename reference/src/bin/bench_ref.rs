@@ -5,7 +5,7 @@ use std::time::{Duration, Instant};
 
 use reference::cell::TRIANGLE_WORDS;
 use reference::gen::{box_of_six, closed_fan, separate, Rng, Sample};
-use reference::grid::{GridTables, Lists};
+use reference::grid::GridTables;
 use reference::mesh::Mesher;
 
 /// How long each work is repeated.
@@ -29,26 +29,23 @@ fn micros(time: Duration) -> f64 {
 
 fn bench_mesh(name: &str, grid: &Sample) {
     let mut mesher = Mesher::default();
-    let Sample {
-        cells,
-        edges,
-        counts,
-    } = grid;
-    let needed = match mesher.mesh(cells, edges, counts, &mut []) {
+    let starts = grid.starts();
+    let lists = grid.lists(&starts);
+    let needed = match mesher.mesh(lists, &mut []) {
         Ok(triangles) => u64::from(triangles),
         Err(refusal) => refusal.place,
     };
     let mut area = vec![0; needed as usize * TRIANGLE_WORDS];
     let time = best(|| {
-        let answer = mesher.mesh(cells, edges, counts, &mut area);
+        let answer = mesher.mesh(lists, &mut area);
         assert_eq!(answer, Ok(needed as u32));
     });
-    let crossings: u32 = counts.iter().map(|&count| u32::from(count)).sum();
+    let crossings: u32 = grid.counts.iter().map(|&count| u32::from(count)).sum();
     println!(
         "{name}: {} cells, {} edges, {crossings} crossings, {needed} triangles, \
          {:.1} us a call, {:.2} million triangles a second",
-        cells.len() / 4,
-        counts.len(),
+        grid.cells.len() / 4,
+        grid.counts.len(),
         micros(time),
         needed as f64 / micros(time),
     );
@@ -56,13 +53,9 @@ fn bench_mesh(name: &str, grid: &Sample) {
 
 fn bench_check(name: &str, grid: &Sample) {
     let mut tables = GridTables::default();
-    let lists = Lists {
-        cells: &grid.cells,
-        edges: &grid.edges,
-        counts: &grid.counts,
-    };
+    let starts = grid.starts();
     let time = best(|| {
-        let answer = tables.check(&lists);
+        let answer = tables.check(grid.lists(&starts));
         assert!(answer.is_ok());
     });
     println!(

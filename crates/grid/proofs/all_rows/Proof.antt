@@ -1,34 +1,20 @@
 -- `grid::all_rows` meets its contract.
-use mathlib.Core.Path.{_∙_, refl, sym}
-use native.Mathlib.Omega.{arith}
+use mathlib.Core.Path.{_∙_, sym}
 use borrow.Author.Needs.{needs}
-use Rattle.answer.specs.Faults.{since}
-use Rattle.answer.proofs.Rows.{whole-fault, whole-fine}
-use Rattle.grid.specs.Rows.{rows}
-use Rattle.grid.proofs.Answers.{answer-passes, answer-refuses, answer-start, length-fine, pairs-fine}
+use Rattle.grid.proofs.Answers.{length-fine, with-1, with-2, with-3}
 use Rattle.grid.proofs.all_rows.Statement.{statement}
 use Rattle.grid.proofs.all_rows.Tie as tie
 
 returns : tie.Need-returns
-unfolding since rows
-returns c = (answer-refuses _ 1 2 refl 0 (whole-fault _ (sym (c .before .row-1 .ensures) ∙ c .if1 .taken)) (omega arith) ∙ answer-start _, tt)
+returns c = (with-1 _ _ (sym (c .before .row-1 .ensures) ∙ c .if1 .taken), tt)
 
 returns-2 : tie.Need-returns-2
-unfolding since rows
-returns-2 c =
-    let c-row-1 = c .before .before .before .row-1 in (
-      answer-refuses _ 2 3 refl 0 (whole-fault _ (sym (c .before .row-2 .ensures) ∙ c .if2 .taken)) (omega arith)
-          ∙ answer-passes _ 1 2 refl 1 (whole-fine _ (sym (c-row-1 .ensures) ∙ c .before .before .if1 .left)) (omega arith) ∙ answer-start _,
-      tt,
-    )
+returns-2 c = (with-2 _ _ (sym (c .before .before .row-1 .ensures) ∙ c .before .if1 .left) (c .if2 .taken), tt)
 
 cell-rows-requires : tie.Need-cell-rows-requires
 cell-rows-requires c κs =
-    let c-pre = c .before .before .before .before .before .before .before .before .before .before .before .pre in
-    let c-row-1 = c .before .before .before .before .before .row-1 in
-    let c-if1 = c .before .before .before .before .if1 in
-    let c-row-2 = c .before .before .before .row-2 in
-    record { few = length-fine _ (sym (c-row-1 .ensures) ∙ c-if1 .left) .2; pairs = pairs-fine _ _ (sym (c-row-2 .ensures) ∙ c .before .before .if2 .left); blank = c-pre }
+    let p = c .before .before .before .before .before .before .before .before .before .before .pre in
+    record { few = length-fine _ (sym (c .before .before .before .before .row-1 .ensures) ∙ c .before .before .before .if1 .left) .2; pairs = p .0 (c .before .before .if2 .left); blank = p .1 }
 
 same-length : tie.Need-same-length
 same-length c = c .before .before .before .before .cell-rows .kept .1 .1 .1 .0
@@ -37,28 +23,9 @@ same-length-2 : tie.Need-same-length-2
 same-length-2 c = c .before .before .before .before .cell-rows .kept .1 .1 .1 .1 .0
 
 returns-3 : tie.Need-returns-3
-unfolding since rows
 returns-3 c =
-    let c-row-1 = c .before .before .before .before .before .before .before .before .before .before .row-1 in
-    let c-if1 = c .before .before .before .before .before .before .before .before .before .if1 in
-    let c-row-2 = c .before .before .before .before .before .before .before .before .row-2 in
-    let c-if2 = c .before .before .before .before .before .before .before .if2 in
-    let c-cell-rows = c .before .before .before .before .cell-rows in (
-      c-cell-rows .ensures .0
-          ∙ answer-passes _ 2 3 refl 1 (whole-fine _ (sym (c-row-2 .ensures) ∙ c-if2 .left)) (omega arith)
-          ∙ answer-passes _ 1 2 refl 1 (whole-fine _ (sym (c-row-1 .ensures) ∙ c-if1 .left)) (omega arith) ∙ answer-start _,
-      c-cell-rows .ensures .1,
-    )
+    let r = c .before .before .before .before .cell-rows in
+    (r .ensures .0 ∙ with-3 _ _ (sym (c .before .before .before .before .before .before .before .before .before .row-1 .ensures) ∙ c .before .before .before .before .before .before .before .before .if1 .left) (c .before .before .before .before .before .before .before .if2 .left), r .ensures .1)
 
 pub all-rows-spec : {M : Type 1} → statement M
-all-rows-spec =
-    tie.close
-    (tie.spec
-    (λ c κs. search needs)
-    returns
-    (λ c κs. search needs)
-    returns-2
-    cell-rows-requires
-    same-length
-    same-length-2
-    returns-3)
+all-rows-spec = tie.close (tie.spec (λ c κs. search needs) returns returns-2 cell-rows-requires same-length same-length-2 returns-3)

@@ -6,7 +6,7 @@ use lib.ListN.{length}
 use borrow.Author.Needs.{needs}
 use Rattle.counting.proofs.Search.{first-none}
 use Rattle.counting.proofs.Stored.{length-filled}
-use Rattle.grid.specs.Grid.{cellCount, gridOf}
+use Rattle.grid.specs.Grid.{built, cellCount}
 use Rattle.answer.specs.Faults.{since}
 use Rattle.grid.specs.Rows.{rows, unused}
 use Rattle.grid.specs.Work.{Table, listedAt}
@@ -88,7 +88,7 @@ last-rows-requires c κs =
         chained = c-chain .ensures .0;
         headed = c-chain .ensures .1;
       };
-      used = first-none (unused (gridOf (c-args .cells .now) (c-args .edges .now) (c-args .counts .now))) (length (c-args .counts .now))
+      used = first-none (unused (built (c-args .cells .now) (c-args .edges .now) (c-args .counts .now))) (length (c-args .counts .now))
           (omega (arith, c .before .before .before .before .before .before .before .before .before .row-8 .ensures .0, c-if2 .left));
     }
 
@@ -105,7 +105,7 @@ returns-3 c =
       c .last-rows .ensures
           ∙ answer-passes _ 8 9 refl _ (c-row-8 .ensures .0) (c .before .before .before .before .if2 .left)
           ∙ answer-passes _ 7 8 refl _ (c .before .before .before .before .before .before .row-7 .ensures ∙ sym (unlisted-blank _ _ t)) (c-if1 .left),
-      where-accepted {T = Table (listedAt (gridOf (c-args .cells .now) (c-args .edges .now) (c-args .counts .now))) (6 * cellCount (c-args .cells .now)) (c-row-8 .last .1 .1 .1 .1 .1 .1 .0)} (c .last-rows .result) t,
+      where-accepted {T = Table (listedAt (built (c-args .cells .now) (c-args .edges .now) (c-args .counts .now))) (6 * cellCount (c-args .cells .now)) (c-row-8 .last .1 .1 .1 .1 .1 .1 .0)} (c .last-rows .result) t,
     )
 
 pub side-rows-spec : {M : Type 1} → statement M

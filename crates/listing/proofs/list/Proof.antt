@@ -2,6 +2,7 @@ use Prim.Native.Nat.{_*_, _≤_}
 use mathlib.Core.Path.{_≡_, sym, ap, _∙_}
 use mathlib.Core.List.{[], _∷_}
 use native.Mathlib.Omega.{arith}
+use lib.ListN.{length-take}
 use lib.Seq.{length-take-le}
 use Rattle.answer.specs.Answer.{result}
 use Rattle.bundle.specs.Record.{cellSize, edgeSize}
@@ -49,11 +50,23 @@ array-share-prefix-counts c = omega (arith, few (c .before .before))
 slice-aggregate-list-grid-3 : tie.Need-slice-aggregate-list-grid-3
 slice-aggregate-list-grid-3 c = sym (length-take-le _ _ (omega (arith, few (c .before .before .before))))
 
+array-borrow-prefix-starts : tie.Need-array-borrow-prefix-starts
+array-borrow-prefix-starts c = omega (arith, few (c .before .before .before))
+
+slice-aggregate-list-grid-4 : tie.Need-slice-aggregate-list-grid-4
+slice-aggregate-list-grid-4 c = sym (length-take-le _ _ (omega (arith, few (c .before .before .before .before))))
+
+list-grid-requires : tie.Need-list-grid-requires
+list-grid-requires c κs = (simp length-take (omega (arith, few (c .before .before .before .before .before))), search needs)
+
 returns-2 : tie.Need-returns-2
 returns-2 c = all-listed (c .before .before .before .before .before .before .before .before .before .before .before .before .before .before .args .bytes .now) (c .put-refused2 .ensures .0) (omega arith) (read-refused (c .before .before .before .before .before .before .before .before .before .before .before .before .before .before .args .bytes .now) (c .before .before .before .before .before .before .before .before .before .before .before .before .if1 .left) _ _ (sym (ap contentsNumbers (c .before .before .before .row .given .1)) ∙ c .before .before .before .before .before .before .before .before .read .ensures .0)) (search needs)
 
 returns-3 : tie.Need-returns-3
-returns-3 c = all-listed _ (c .list-grid .ensures .0) (omega arith) (read-listed (c .before .before .before .before .before .before .before .before .before .before .before .before .before .before .before .before .before .args .bytes .now) (c .before .before .before .before .before .before .before .before .before .before .before .before .before .before .before .if1 .left) _ _ (told (c .before .before .before .before .before)) _ _ _ (c .before .before .before .before .before .before .before .before .before .before .before .read .ensures .1 .0) (c .before .before .before .before .before .before .before .before .before .before .before .read .ensures .1 .1 .0) (c .before .before .before .before .before .before .before .before .before .before .before .read .ensures .1 .1 .1)) (search needs)
+returns-3 c =
+    let r = c .before .before .before .before .before .before .before .before .before .before .before .before .before .read in
+    all-listed _ (c .before .list-grid .ensures .0) (c .before .list-grid .ensures .1 .0)
+    (read-listed (c .before .before .before .before .before .before .before .before .before .before .before .before .before .before .before .before .before .before .before .args .bytes .now) (c .before .before .before .before .before .before .before .before .before .before .before .before .before .before .before .before .before .if1 .left) _ _ (told (c .before .before .before .before .before .before .before)) _ _ _ (r .ensures .1 .0) (r .ensures .1 .1 .0) (r .ensures .1 .1 .1)) (search needs)
 
 pub list-spec : {M : Type 1} → statement M
 list-spec =
@@ -76,6 +89,8 @@ list-spec =
     slice-aggregate-list-grid-2
     array-share-prefix-counts
     slice-aggregate-list-grid-3
-    (λ c κs. search needs)
+    array-borrow-prefix-starts
+    slice-aggregate-list-grid-4
+    list-grid-requires
     returns-2
     returns-3)

@@ -10,14 +10,14 @@ use Rattle.mesh.proofs.draw.Tie as tie
 returns : tie.Need-returns
 returns c =
     let d = c .before .before .before .draw .ensures in
-    let A = c .before .before .before .before .before .before .before .before .args in
+    let A = c .before .before .before .before .before .before .before .before .before .args in
     let m = tableTriangles (A .cells .now) (A .counts .now) (A .names .now) (A .sides .now) (A .starts .now) in
     record { answered = rw (d .0 .0) (answer-short m (length (A .area .now)) (omega (arith, d .0 .0))); area = d .1 }
 
 returns-2 : tie.Need-returns-2
 returns-2 c =
     let d = c .before .before .before .draw .ensures in
-    let A = c .before .before .before .before .before .before .before .before .args in
+    let A = c .before .before .before .before .before .before .before .before .before .args in
     let m = tableTriangles (A .cells .now) (A .counts .now) (A .names .now) (A .sides .now) (A .starts .now) in
     record { answered = rw (d .0 .0) (answer-fits m (length (A .area .now)) (omega (arith, d .0 .0))); area = d .1 }
 

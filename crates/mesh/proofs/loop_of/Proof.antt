@@ -8,7 +8,7 @@ use Rattle.mesh.proofs.loop_of.Tie as tie
 
 returns : tie.Need-returns
 unfolding tableLoop
-returns c = c .loop-at .ensures ∙ ap (λ v. cellLoop v (c .before .before .before .before .before .args .k)) (c .before .cell-at .ensures) ∙ asked-there _ _ _ _ (omega arith)
+returns c = c .loop-at .ensures ∙ ap (λ v. cellLoop v (c .before .before .before .before .before .before .args .k)) (c .before .cell-at .ensures) ∙ asked-there _ _ _ _ (omega arith)
 
 returns-2 : tie.Need-returns-2
 unfolding tableLoop

@@ -15,7 +15,7 @@ use reference::bundle;
 use reference::cases::{case, counts_of};
 use reference::cell::{CellWalker, TRIANGLE_WORDS};
 use reference::gen::{box_of_six, closed_fan, cone, row_of, separate, Rng, Sample};
-use reference::grid::{self, GridTables, Lists, MAX_CELLS};
+use reference::grid::{self, GridTables, MAX_CELLS};
 use reference::mesh::{self, Mesher};
 use reference::nearest;
 use reference::places::{Place, FURTHEST};
@@ -68,7 +68,7 @@ fn times<const N: usize>(patience: Duration, mut call: impl FnMut(usize)) -> [Ti
 
 /// How many triangles a grid has.
 fn triangles(grid: &Sample) -> usize {
-    match mesh::mesh(&grid.cells, &grid.edges, &grid.counts, &mut []) {
+    match mesh::mesh(grid.lists(&grid.starts()), &mut []) {
         Ok(triangles) => triangles as usize,
         Err(refusal) => refusal.place as usize,
     }
@@ -78,26 +78,23 @@ fn triangles(grid: &Sample) -> usize {
 /// has an area of its own, which is written before the first round and not
 /// cleared between rounds.
 fn mesh_times(grid: &Sample, room: usize, patience: Duration) -> [Times; WAYS] {
-    let Sample {
-        cells,
-        edges,
-        counts,
-    } = grid;
+    let starts = grid.starts();
+    let lists = grid.lists(&starts);
     let needed = triangles(grid);
     let mut areas = [(); WAYS].map(|()| vec![1; room * TRIANGLE_WORDS]);
     let mut mesher = Mesher::default();
     let mut answer = [1; ANSWER_WORDS];
     let times = times(patience, |way| match way {
         0 => {
-            calls::mesh(cells, edges, counts, &mut areas[0], &mut answer);
+            calls::mesh(lists, &mut areas[0], &mut answer);
             assert_eq!(answer[..2], [0, needed as u64]);
         }
         1 => {
-            let answer = mesher.mesh(cells, edges, counts, &mut areas[1]);
+            let answer = mesher.mesh(lists, &mut areas[1]);
             assert_eq!(answer, Ok(needed as u32));
         }
         _ => {
-            let answer = mesh::mesh(cells, edges, counts, &mut areas[2]);
+            let answer = mesh::mesh(lists, &mut areas[2]);
             assert_eq!(answer, Ok(needed as u32));
         }
     });
@@ -107,26 +104,18 @@ fn mesh_times(grid: &Sample, room: usize, patience: Duration) -> [Times; WAYS] {
 
 /// Times of a grid's check.
 fn check_times(grid: &Sample, patience: Duration) -> [Times; WAYS] {
-    let Sample {
-        cells,
-        edges,
-        counts,
-    } = grid;
-    let lists = Lists {
-        cells,
-        edges,
-        counts,
-    };
-    let crossings = grid::check(cells, edges, counts).expect("the grid is accepted");
+    let starts = grid.starts();
+    let lists = grid.lists(&starts);
+    let crossings = grid::check(lists).expect("the grid is accepted");
     let mut tables = GridTables::default();
     let mut answer = [1; ANSWER_WORDS];
     times(patience, |way| match way {
         0 => {
-            calls::check(cells, edges, counts, &mut answer);
+            calls::check(lists, &mut answer);
             assert_eq!(answer[..2], [0, u64::from(crossings)]);
         }
-        1 => assert_eq!(tables.check(&lists), Ok(crossings)),
-        _ => assert_eq!(grid::check(cells, edges, counts), Ok(crossings)),
+        1 => assert_eq!(tables.check(lists), Ok(crossings)),
+        _ => assert_eq!(grid::check(lists), Ok(crossings)),
     })
 }
 
@@ -152,27 +141,24 @@ fn nearest_times(points: &[f64], patience: Duration) -> [Times; 2] {
 /// Times of a grid's shading, or of finding that it has none. Each way has an
 /// area of its own.
 fn shading_times(grid: &Sample, patience: Duration) -> [Times; WAYS] {
-    let Sample {
-        cells,
-        edges,
-        counts,
-    } = grid;
+    let starts = grid.starts();
+    let lists = grid.lists(&starts);
     let mut areas = [(); WAYS].map(|()| vec![1; SHADING_BYTES]);
     let mut shader = Shader::default();
     let mut answer = [1; ANSWER_WORDS];
-    let numbers = expected::shading(grid, &mut vec![1; SHADING_BYTES]);
+    let numbers = expected::shading(lists, &mut vec![1; SHADING_BYTES]);
     let shaded = numbers == [0];
     let times = times(patience, |way| match way {
         0 => {
-            calls::shading(cells, edges, counts, &mut areas[0], &mut answer);
+            calls::shading(lists, &mut areas[0], &mut answer);
             assert_eq!(answer[..numbers.len()], numbers);
         }
         1 => {
-            let answer = shader.shade(cells, edges, counts, &mut areas[1]);
+            let answer = shader.shade(lists, &mut areas[1]);
             assert_eq!(answer.is_ok(), shaded);
         }
         _ => {
-            let answer = shading::shade(cells, edges, counts, &mut areas[2]);
+            let answer = shading::shade(lists, &mut areas[2]);
             assert_eq!(answer.is_ok(), shaded);
         }
     });
@@ -217,6 +203,32 @@ fn looks_times(lists: &Sample, bundles: &[Vec<u8>; 2], patience: Duration) -> [T
         } else {
             bundle::read(bytes, &mut cells, &mut edges, &mut counts).expect("a bundle");
         }
+    })
+}
+
+/// Times of the proved check, opening and setting of a grid, and of the second
+/// implementation's setting. The first edge is set to 0 and to 1 in turn, so that
+/// all starts but its own change.
+fn setting_times(grid: &Sample, patience: Duration) -> [Times; 4] {
+    let (cells, edges) = (&grid.cells[..], &grid.edges[..]);
+    let starts = grid.starts();
+    let mut lent = [(); 3].map(|()| (grid.counts.clone(), starts.clone()));
+    let mut answer = [1; ANSWER_WORDS];
+    let mut turns = [0; 4];
+    times(patience, |way| {
+        turns[way] += 1;
+        let count = turns[way] % 2;
+        let (counts, starts) = &mut lent[way.saturating_sub(1)];
+        match way {
+            0 => calls::check(grid.lists(starts), &mut answer),
+            1 => calls::open(cells, edges, counts, starts, &mut answer),
+            2 => calls::set_count((cells, edges), counts, starts, (0, count), &mut answer),
+            _ => {
+                let set = grid::set_count(cells, edges, counts, starts, 0, count);
+                usize::from(set.is_err())
+            }
+        };
+        assert_eq!(answer[0], 0);
     })
 }
 
@@ -342,6 +354,26 @@ impl Bench {
         let name = format!("8 shading, {name}");
         self.short(&name, &size(grid), |patience| shading_times(grid, patience));
         self.check(&format!("{name}, its check"), grid);
+    }
+
+    /// The check, the opening and the setting of one grid.
+    fn setting(&self, name: &str, grid: &Sample) {
+        if !name.starts_with(&self.only) {
+            return;
+        }
+        let [check, open, set, of_reference] = setting_times(grid, self.patience);
+        println!("{name}: {}", size(grid));
+        let best = [check.best, open.best, set.best, of_reference.best];
+        let median = [check.median, open.median, set.median, of_reference.median];
+        for (text, [check, open, set, of_reference]) in [("best:  ", best), ("median:", median)] {
+            println!(
+                "  {text} check {check:8.1} us; opening {open:8.1} us, ratio {:.2}; setting \
+                 {set:8.1} us, ratio {:.2}; reference's setting {of_reference:8.1} us, ratio {:.2}",
+                open / check,
+                set / check,
+                set / of_reference,
+            );
+        }
     }
 
     fn told(&self, told: &Told, name: &str, cells: &[[u16; 6]]) {
@@ -490,6 +522,17 @@ fn bundles(bench: &Bench) {
     bench.looks("9 bundle, looks, box", &boxed, &mut rng);
 }
 
+/// Settings of as many cells as a grid may have, and of one.
+fn settings(bench: &Bench) {
+    let mut rng = Rng::new(6);
+    for cells in [1, 100, MAX_CELLS] {
+        let part = part_of_box(cells).with_counts(&mut rng, 0, 20);
+        bench.setting("11 setting, box", &part);
+    }
+    let apart = separate((MAX_CELLS / 2) as u16).with_counts(&mut rng, 0, 8);
+    bench.setting("11 setting, cells that share nothing", &apart);
+}
+
 /// How time grows with the cells.
 fn growth(bench: &Bench) {
     let mut rng = Rng::new(3);
@@ -560,4 +603,5 @@ fn main() {
     bundles(&bench);
     bookings(&bench);
     entries(&bench);
+    settings(&bench);
 }

@@ -24,7 +24,7 @@ all cells counts names sides starts area h = all-put (tableCell cells counts nam
 
 returns : tie.Need-returns
 returns c =
-    let A = c .before .before .before .before .before .before .before .before .before .args in
+    let A = c .before .before .before .before .before .before .before .before .before .before .args in
     let most = c .before .before .before .before .before .all-crossings .ensures in
     let T = c .before .before .before .totals-of .ensures in
     let n = c .before .before .count-others .ensures .0 in
@@ -34,7 +34,7 @@ returns c =
 
 returns-2 : tie.Need-returns-2
 returns-2 c =
-    let A = c .before .before .before .before .before .before .before .before .before .args in
+    let A = c .before .before .before .before .before .before .before .before .before .before .args in
     let few = all-few (A .cells .now) (A .counts .now) (A .names .now) (A .sides .now) (A .starts .now) in
     let sum = all-counted (A .cells .now) (A .counts .now) (A .names .now) (A .sides .now) (A .starts .now) in
     let most = c .before .before .before .before .before .all-crossings .ensures in

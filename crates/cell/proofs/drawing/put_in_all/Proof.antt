@@ -24,10 +24,10 @@ loop-holds c = (omega arith, sized-none _ _ _, put-none _ _)
 
 put-in-requires : tie.Need-put-in-requires Inv-loop μ-loop
 put-in-requires c κs =
-    let A = c .before .before .before .before .before .before .before .before .before .before .before .before .before .before .args in
+    let A = c .before .before .before .before .before .before .before .before .before .before .before .before .before .before .before .args in
     let L = c .before .before .before .before .before .before .loop in
     let x = c .before .before .before .before .counted-at .ensures in
-    sized-room (L .inv .1) (now (A .cells)) (now (A .counts)) (now (A .names)) (now (A .sides)) (now (A .starts)) (L .c) (c .before .before .before .before .before .before .before .before .before .before .before .before .before .before .pre) (x .0) (x .1) (x .2)
+    sized-room (L .inv .1) (now (A .cells)) (now (A .counts)) (now (A .names)) (now (A .sides)) (now (A .starts)) (L .c) (c .before .before .before .before .before .before .before .before .before .before .before .before .before .before .before .pre) (x .0) (x .1) (x .2)
 
 loop-again : tie.Need-loop-again Inv-loop μ-loop
 loop-again c =
@@ -37,7 +37,7 @@ loop-again c =
 
 returns : tie.Need-returns Inv-loop μ-loop
 returns c =
-    let A = c .before .before .before .before .before .before .before .before .before .args in
+    let A = c .before .before .before .before .before .before .before .before .before .before .args in
     let I = c .before .loop .inv in
     let t = tableCell (now (A .cells)) (now (A .counts)) (now (A .names)) (now (A .sides)) (now (A .starts)) in
     let d = c .before .before .drawn .ensures in

@@ -42,7 +42,7 @@ loop-holds c = (omega arith, sized-none _ _ _, summed-none _ _)
 
 loop-again : tie.Need-loop-again Inv-loop μ-loop
 loop-again c =
-    let A = c .before .before .before .before .before .before .before .before .before .before .before .args in
+    let A = c .before .before .before .before .before .before .before .before .before .before .before .before .args in
     let I = c .before .before .before .before .loop .inv in (
       omega arith,
       I .1,
@@ -52,17 +52,17 @@ loop-again c =
 
 count-in-requires : tie.Need-count-in-requires Inv-loop μ-loop
 count-in-requires c κs =
-    let A = c .before .before .before .before .before .before .before .before .before .before .before .before .before .before .before .args in
+    let A = c .before .before .before .before .before .before .before .before .before .before .before .before .before .before .before .before .args in
     let L = c .before .before .before .before .before .before .before .before .loop in
     let x = c .before .before .before .counted-at .ensures in
-    sized-room (L .inv .1) (now (A .cells)) (now (A .counts)) (now (A .names)) (now (A .sides)) (now (A .starts)) (L .c) (c .before .before .before .before .before .before .before .before .before .before .before .before .before .before .before .pre) (x .0) (x .1) (x .2)
+    sized-room (L .inv .1) (now (A .cells)) (now (A .counts)) (now (A .names)) (now (A .sides)) (now (A .starts)) (L .c) (c .before .before .before .before .before .before .before .before .before .before .before .before .before .before .before .before .pre) (x .0) (x .1) (x .2)
 
 add-t : tie.Need-add-t Inv-loop μ-loop
 add-t c = omega (arith, c .before .before .before .before .before .before .count-in .ensures .0 .1, c .before .before .before .before .before .before .before .before .before .before .before .before .before .before .before .loop .inv .2 .few, c .before .before .before .before .before .before .before .before .before .before .before .before .before .before .before .before .drawn .ensures)
 
 loop-again-2 : tie.Need-loop-again-2 Inv-loop μ-loop
 loop-again-2 c =
-    let A = c .before .before .before .before .before .before .before .before .before .before .before .before .before .before .before .before .before .before .before .before .before .before .args in
+    let A = c .before .before .before .before .before .before .before .before .before .before .before .before .before .before .before .before .before .before .before .before .before .before .before .args in
     let I = c .before .before .before .before .before .before .before .before .before .before .before .before .before .before .before .loop .inv in
     let N = c .before .before .before .before .before .before .count-in .ensures in (
       omega arith,

@@ -11,7 +11,7 @@ put-few-requires c κs i = omega (arith, c .before .before .greatest .ensures i,
 
 put-in-all-requires : tie.Need-put-in-all-requires
 put-in-all-requires c κs k =
-    let A = c .before .before .before .before .before .before .before .before .before .args in
+    let A = c .before .before .before .before .before .before .before .before .before .before .args in
     let h = table-most (now (A .counts)) (now (A .sides)) k in
     record { marks-long = h; halves-long = h; points-long = h }
 

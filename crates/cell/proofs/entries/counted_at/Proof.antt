@@ -7,7 +7,7 @@ returns : tie.Need-returns
 unfolding tableCell
 returns c = (
   simp (
-    c .before .before .before .before .before .before .before .counts-of .ensures,
+    c .before .before .before .before .before .before .counts-of .ensures,
     c .before .before .before .before .starts-of .ensures,
     c .before .before .four-of .ensures,
     c .before .four-of2 .ensures,

@@ -19,7 +19,7 @@ slice-aggregate-fans-in-all-3 c = search needs
 
 fans-in-all-requires : tie.Need-fans-in-all-requires
 fans-in-all-requires c κs k =
-    let A = c .before .before .before .before .before .before .before .args in
+    let A = c .before .before .before .before .before .before .before .before .args in
     let h = table-few (now (A .counts)) (now (A .sides)) k (λ i. omega (arith, c .before .before .before .before .greatest .ensures i)) in
     record { marks-long = h; halves-long = h; points-long = h }
 
@@ -37,7 +37,7 @@ slice-aggregate-fans-in-all-6 c = search needs
 
 fans-in-all-requires-2 : tie.Need-fans-in-all-requires-2
 fans-in-all-requires-2 c κs k =
-    let A = c .before .before .before .before .before .before .before .args in
+    let A = c .before .before .before .before .before .before .before .before .args in
     let h = table-most (now (A .counts)) (now (A .sides)) k in
     record { marks-long = h; halves-long = h; points-long = h }
 

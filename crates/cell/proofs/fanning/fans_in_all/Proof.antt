@@ -30,10 +30,10 @@ counted-at-requires c κs = tt
 
 fans-in-requires : tie.Need-fans-in-requires Inv-loop μ-loop
 fans-in-requires c κs =
-    let A = c .before .before .before .before .before .before .before .before .before .before .before .before .args in
+    let A = c .before .before .before .before .before .before .before .before .before .before .before .before .before .args in
     let L = c .before .before .before .before .before .loop in
     let x = c .before .before .before .counted-at .ensures in
-    sized-room (L .inv .1) (now (A .cells)) (now (A .counts)) (now (A .names)) (now (A .sides)) (now (A .starts)) (L .c) (c .before .before .before .before .before .before .before .before .before .before .before .before .pre) (x .0) (x .1) (x .2)
+    sized-room (L .inv .1) (now (A .cells)) (now (A .counts)) (now (A .names)) (now (A .sides)) (now (A .starts)) (L .c) (c .before .before .before .before .before .before .before .before .before .before .before .before .before .pre) (x .0) (x .1) (x .2)
 
 add-t : tie.Need-add-t Inv-loop μ-loop
 add-t c = omega (arith, c .before .before .before .before .before .before .fans-in .ensures .0 .1, c .before .before .before .before .before .before .before .before .before .before .before .before .loop .inv .2 .few, c .before .before .before .before .before .before .before .before .before .before .before .before .before .drawn .ensures)

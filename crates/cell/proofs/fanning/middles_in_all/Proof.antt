@@ -29,10 +29,10 @@ counted-at-requires c κs = tt
 
 middles-in-requires : tie.Need-middles-in-requires Inv-loop μ-loop
 middles-in-requires c κs =
-    let A = c .before .before .before .before .before .before .before .before .before .before .before .before .before .before .before .args in
+    let A = c .before .before .before .before .before .before .before .before .before .before .before .before .before .before .before .before .args in
     let L = c .before .before .before .before .before .before .loop in
     let x = c .before .before .before .before .counted-at .ensures in
-    sized-room (L .inv .1) (now (A .cells)) (now (A .counts)) (now (A .names)) (now (A .sides)) (now (A .starts)) (L .c) (c .before .before .before .before .before .before .before .before .before .before .before .before .before .before .before .pre) (x .0) (x .1) (x .2)
+    sized-room (L .inv .1) (now (A .cells)) (now (A .counts)) (now (A .names)) (now (A .sides)) (now (A .starts)) (L .c) (c .before .before .before .before .before .before .before .before .before .before .before .before .before .before .before .before .pre) (x .0) (x .1) (x .2)
 
 add-c : tie.Need-add-c Inv-loop μ-loop
 add-c c = omega arith
@@ -42,7 +42,7 @@ loop-less c = omega arith
 
 loop-again : tie.Need-loop-again Inv-loop μ-loop
 loop-again c =
-    let A = c .before .before .before .before .before .before .before .before .before .before .before .before .before .before .before .before .before .before .before .before .before .before .before .before .args in
+    let A = c .before .before .before .before .before .before .before .before .before .before .before .before .before .before .before .before .before .before .before .before .before .before .before .before .before .args in
     let L = c .before .before .before .before .before .before .before .before .before .before .before .before .before .before .before .loop in
     let w = c .before .before .before .before .before .before .before .before .middles-in .ensures in
     (omega arith, sized-on (L .inv .1) (used-sized (w .1)), written-more (now (A .cells)) (now (A .counts)) (now (A .names)) (now (A .sides)) (now (A .starts)) (now (A .nodes)) (now (A .area)) (A .at) (L .c) (L .inv .2) (c .before .before .before .before .before .before .before .before .before .before .before .before .before .counted-at .ensures .0) (w .0))
@@ -58,12 +58,12 @@ same-length-3 c = c .before .loop .inv .1 .points-same
 
 same-length-4 : tie.Need-same-length-4 Inv-loop μ-loop
 same-length-4 c =
-    let A = c .before .before .before .before .before .before .before .before .before .before .args in
+    let A = c .before .before .before .before .before .before .before .before .before .before .before .args in
     written-long (now (A .cells)) (now (A .counts)) (now (A .names)) (now (A .sides)) (now (A .starts)) (now (A .nodes)) (now (A .area)) (A .at) (c .before .loop .c) (c .before .loop .inv .2)
 
 returns : tie.Need-returns Inv-loop μ-loop
 returns c =
-    let A = c .before .before .before .before .before .before .before .before .before .before .args in
+    let A = c .before .before .before .before .before .before .before .before .before .before .before .args in
     (c .before .loop .inv .2 ∙ ap (middlesWritten (now (A .cells)) (now (A .counts)) (now (A .names)) (now (A .sides)) (now (A .starts)) (now (A .nodes)) (now (A .area)) (A .at)) (omega (arith, c .before .before .drawn .ensures)), c .before .loop .inv .1)
 
 pub middles-in-all-spec : {M : Type 1} → statement M

@@ -10,7 +10,7 @@ few-middles-requires c κs i = omega (arith, c .before .before .greatest .ensure
 
 middles-in-all-requires : tie.Need-middles-in-all-requires
 middles-in-all-requires c κs k =
-    let A = c .before .before .before .before .before .before .before .before .before .before .args in
+    let A = c .before .before .before .before .before .before .before .before .before .before .before .args in
     let h = table-most (now (A .counts)) (now (A .sides)) k in
     record { marks-long = h; halves-long = h; points-long = h }
 

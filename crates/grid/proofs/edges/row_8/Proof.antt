@@ -6,7 +6,7 @@ use lib.ListN.{length, length-replicate}
 use borrow.Author.Needs.{needs}
 use Rattle.counting.specs.Search.{seek}
 use Rattle.counting.proofs.Search.{seek-end, seek-start}
-use Rattle.grid.specs.Grid.{gridOf, mostEdges}
+use Rattle.grid.specs.Grid.{built, mostEdges}
 use Rattle.grid.specs.Rows.{unused}
 use Rattle.grid.proofs.Sides.{Listed, listed-all, listed-none, listed-put, listed-skip, lowest-hit, lowest-miss, unused-none, unused-not}
 use Rattle.grid.proofs.edges.row_8.Statement.{statement}
@@ -14,7 +14,7 @@ use Rattle.grid.proofs.edges.row_8.Tie as tie
 
 abbrev Inv-loop : tie.InvT-loop
 Inv-loop cells edges counts keys head next sides₀ n m lowest₀ e₀ sides lowest e =
-    (e ≤ m) × Listed (gridOf cells edges counts) m e sides × (lowest ≡ seek (unused (gridOf cells edges counts)) (m - e) e)
+    (e ≤ m) × Listed (built cells edges counts) m e sides × (lowest ≡ seek (unused (built cells edges counts)) (m - e) e)
 
 abbrev μ-loop : tie.MeasureT-loop
 μ-loop cells edges counts keys head next sides₀ n m lowest₀ e₀ sides lowest e = e
@@ -51,7 +51,7 @@ loop-again-2 c =
     let w = c-loop .inv in
     let p = c-pre .0 in
     let z = rw (c-edge-key .ensures) at (c .before .before .before .before .before .latest .ensures) in
-    let f = unused-not (gridOf (c-args .cells .now) (c-args .edges .now) (c-args .counts .now)) (p .small) (p .small-ends) (c-args .keys .now) (p .table) (c-loop .e - 1) (omega (arith, z, c-if1 .left)) in
+    let f = unused-not (built (c-args .cells .now) (c-args .edges .now) (c-args .counts .now)) (p .small) (p .small-ends) (c-args .keys .now) (p .table) (c-loop .e - 1) (omega (arith, z, c-if1 .left)) in
     (omega arith, listed-put (p .small) (p .small-ends) (p .table) _ (omega arith) (w .1) (omega arith) _ (rw (c-edge-key .ensures) at (c .before .before .put .ensures)), lowest-miss _ _ _ _ _ (omega arith) (omega arith) f (w .2))
 
 same-length : tie.Need-same-length Inv-loop μ-loop

@@ -5,7 +5,7 @@ use native.Mathlib.Omega.{arith}
 use lib.ListN.{length}
 use borrow.Author.Needs.{needs}
 use Rattle.counting.proofs.Search.{Seeking, seeking-all, seeking-hit, seeking-more, seeking-none}
-use Rattle.grid.specs.Grid.{gridOf, mostCells}
+use Rattle.grid.specs.Grid.{built, mostCells}
 use Rattle.grid.specs.Rows.{split}
 use Rattle.counting.proofs.Chains.{zeros}
 use Rattle.grid.proofs.Ring.{Under, edge-found, paired, split-told, under-fresh, under-more}
@@ -14,7 +14,7 @@ use Rattle.grid.proofs.links.row_9.Tie as tie
 
 abbrev Inv-loop : tie.InvT-loop
 Inv-loop cells edges counts near keys head next n m marks₀ e₀ marks e =
-    Seeking (split (gridOf cells edges counts)) m e × (length marks ≡ mostCells) × Under marks e
+    Seeking (split (built cells edges counts)) m e × (length marks ≡ mostCells) × Under marks e
 
 abbrev μ-loop : tie.MeasureT-loop
 μ-loop cells edges counts near keys head next n m marks₀ e₀ marks e = m - e

@@ -1,37 +1,40 @@
 -- `grid::tables::write_starts` meets its contract.
 use Prim.Native.Nat.{ℕ, _-_, _≤_}
-use mathlib.Core.Path.{_∙_, _≡_, ap, sym}
+use mathlib.Core.Path.{_∙_, _≡_, ap}
 use native.Mathlib.Omega.{arith}
 use lib.ListN.{length}
 use borrow.Author.Needs.{needs}
 use Rattle.counting.specs.Stored.{filled}
-use Rattle.counting.proofs.Stored.{filled-more, filled-none, length-filled}
+use Rattle.counting.proofs.Chains.{table-filled}
+use Rattle.counting.proofs.Stored.{filled-more, length-filled}
 use Rattle.grid.specs.Grid.{start}
-use Rattle.grid.proofs.Crossings.{start-mono, start-next, start-zero}
+use Rattle.grid.proofs.Crossings.{start-mono, start-next}
 use Rattle.grid.proofs.tables.write_starts.Statement.{statement}
 use Rattle.grid.proofs.tables.write_starts.Tie as tie
 
 abbrev Inv-loop : tie.InvT-loop
-Inv-loop counts starts₀ s₀ e₀ starts s e = (e ≤ length counts) × (s ≡ start counts e) × (starts ≡ filled (start counts) e starts₀)
+Inv-loop counts from s starts₀ sum₀ e₀ starts sum e = (e ≤ length counts) × (sum ≡ start counts e) × (starts ≡ filled (start counts) e starts₀)
 
 abbrev μ-loop : tie.MeasureT-loop
-μ-loop counts starts₀ s₀ e₀ starts s e = length counts - e
+μ-loop counts from s starts₀ sum₀ e₀ starts sum e = length counts - e
 
 loop-holds : tie.Need-loop-holds Inv-loop μ-loop
-loop-holds c = (omega arith, sym (start-zero _), filled-none _ _)
+loop-holds c =
+    let p = c .before .before .pre in
+    (p .within, p .own, table-filled _ _ _ (record { room = omega (arith, p .room, p .within); at = p .before }))
 
 slice-write-starts : tie.Need-slice-write-starts Inv-loop μ-loop
 slice-write-starts c =
     let c-pre = c .before .before .before .before .pre in
     let c-args = c .before .before .before .before .args in
-    omega (arith, c-pre .0, ap length (c .before .loop .inv .2), length-filled (start (c-args .counts .now)) (c .before .loop .e) (c-args .starts .now))
+    omega (arith, c-pre .room, ap length (c .before .loop .inv .2), length-filled (start (c-args .counts .now)) (c .before .loop .e) (c-args .starts .now))
 
-add-s : tie.Need-add-s Inv-loop μ-loop
-add-s c =
+add-sum : tie.Need-add-sum Inv-loop μ-loop
+add-sum c =
     let c-pre = c .before .before .before .before .before .before .pre in
     let c-args = c .before .before .before .before .before .before .args in
     let c-loop = c .before .before .before .loop in
-    omega (arith, c-pre .1, c-loop .inv .1, c .size .ensures .1, start-mono (c-args .counts .now) (c-loop .e) (length (c-args .counts .now)) (omega arith))
+    omega (arith, c-pre .few, c-loop .inv .1, c .size .ensures .1, start-mono (c-args .counts .now) (c-loop .e) (length (c-args .counts .now)) (omega arith))
 
 loop-again : tie.Need-loop-again Inv-loop μ-loop
 loop-again c =
@@ -62,7 +65,7 @@ write-starts-spec =
     (λ c. search needs)
     (λ c. search needs)
     (λ c κs. search needs)
-    add-s
+    add-sum
     (λ c. search needs)
     (λ c. search needs)
     loop-again
