@@ -2,12 +2,12 @@
 use Prim.Native.Nat.{ℕ}
 use mathlib.Core.Path.{_≡_, refl, _∙_}
 use mathlib.Core.Bool.{Bool, true, false}
-use mathlib.Core.List.{List, [], _∷_}
+use mathlib.Core.List.{[], _∷_}
 use native.Mathlib.Omega.{arith}
 use lib.ListN.{length}
 use Rattle.counting.specs.Pick.{pick}
 use Rattle.answer.specs.Answer.{result}
-use Rattle.cell.specs.declared.Cell.{Cell}
+use Rattle.answer.proofs.Answer.{no-nil}
 use Rattle.cell.specs.Cell.{Edges}
 use Rattle.cell.specs.Of.{countOf}
 use Rattle.cell.specs.Loop.{loopSize}
@@ -74,13 +74,10 @@ books w K = record { counts = λ a b c d A. countLaws (w .count) K A; steps = λ
 pub trianglesBooked : TrianglesBooked
 trianglesBooked c K = triangles-booked c K
 
-no-nil : {A : Type 0} {a : ℕ} {l : List ℕ} → a ∷ l ≡ [] → A
-no-nil q = let z : _≡_ {A = ℕ} 0 1 = cc in absurd (omega arith)
-
 pub oneToOne : OneToOne
 oneToOne (Booked t x y n) (Booked u z v m) e = cc
-oneToOne (Booked t x y n) WalkIt e = no-nil {a = t} {l = x ∷ y ∷ n ∷ []} (cc)
-oneToOne WalkIt (Booked t x y n) e = no-nil {a = t} {l = x ∷ y ∷ n ∷ []} (cc)
+oneToOne (Booked t x y n) WalkIt e = absurd (no-nil {a = t} {l = x ∷ y ∷ n ∷ []} (cc))
+oneToOne WalkIt (Booked t x y n) e = absurd (no-nil {a = t} {l = x ∷ y ∷ n ∷ []} (cc))
 oneToOne WalkIt WalkIt e = refl
 
 pub answerRight : AnswerRight
@@ -92,4 +89,4 @@ answerRight c t x y n e = go (isLevelCell (countOf c)) refl e
 
     go : (b : Bool) → isLevelCell w ≡ b → bookingNumbers (Booked t x y n) ≡ pick b (result (cornerTriangles w ∷ larger w ∷ smaller w ∷ booked w ∷ [])) (result []) → length (cellTriangles c) ≡ n
     go true k f = trianglesBooked c k ∙ cc
-    go false k f = no-nil {a = t} {l = x ∷ y ∷ n ∷ []} (cc)
+    go false k f = absurd (no-nil {a = t} {l = x ∷ y ∷ n ∷ []} (cc))

@@ -1,7 +1,7 @@
 -- The crossings that are in corner triangles, and the length of the loop of every dart.
 use Prim.Native.Nat.{ℕ, _+_, _*_, _-_, _/_, _≤_, _<_}
 use mathlib.Core.Path.{_≡_, sym, _∙_}
-use mathlib.Core.Logic.{_⊎_, ⊎-elim}
+use mathlib.Core.Logic.{⊎-elim}
 use mathlib.Core.Bool.{Bool, true, false, _||_}
 use native.Mathlib.Omega.{arith}
 use lib.Dec.{ltb, leb, eqb}
@@ -16,7 +16,7 @@ use Rattle.walk.proofs.Curve.{loop-length, loop-later}
 use Rattle.walk.proofs.Once.{closed-in}
 use Rattle.cell.specs.Cell.{Edges, crossings, edge, index, step}
 use Rattle.cell.specs.Loop.{loopSize, dart}
-use Rattle.cell.specs.Nodes.{Arranged, joining, countBetween, kthFrom, dartAt}
+use Rattle.cell.specs.Nodes.{Arranged, countBetween, kthFrom, dartAt}
 use Rattle.cell.specs.Level.{isLevelCell}
 use Rattle.cell.proofs.Nodes.{bacd, joining-ends, arranged, lo-is, hi-is}
 use Rattle.cell.proofs.Turn.{dart-flip, crossing-flip, crossing-edge, crossing-index, crossing-is, dart-is}

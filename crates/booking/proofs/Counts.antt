@@ -1,7 +1,7 @@
 -- Corner counts and what is left, in closed form: with S(a) the sum of the counts at a, and M the largest sum of a pair of opposite edges, twice the
 -- corner triangles at a are S(a) - M; opposite edges keep the same; of the three numbers left at a node the largest is the sum of the others.
 use Prim.Native.Nat.{ℕ, zero, suc, _+_, _*_, _-_, _≤_, _<_, max}
-use mathlib.Core.Path.{_≡_, refl, sym, ap, _∙_}
+use mathlib.Core.Path.{_≡_, refl, sym, _∙_}
 use mathlib.Core.Logic.{_⊎_, inl, inr, _≢_, ⊎-elim}
 use mathlib.Core.Bool.{Bool, true, false}
 use native.Mathlib.Omega.{arith}

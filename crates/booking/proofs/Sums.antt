@@ -2,7 +2,7 @@
 -- least and above the one between.
 use Prim.Native.Nat.{ℕ, _+_, _*_, _-_, _/_, _≤_, min, max}
 use mathlib.Core.Path.{_≡_, sym, ap, _∙_}
-use mathlib.Core.Logic.{_⊎_, ⊎-elim}
+use mathlib.Core.Logic.{⊎-elim}
 use mathlib.Core.Bool.{true, false}
 use mathlib.Core.List.{List, []}
 use native.Mathlib.Omega.{arith}
@@ -13,27 +13,41 @@ use Rattle.cell.specs.Limits.{mostSum}
 use Rattle.cell.specs.Nodes.{Arranged, joining}
 use Rattle.cell.specs.Level.{byEdge, isLevelCell}
 use Rattle.cell.proofs.Nodes.{abdc, acbd, acdb, badc, cdab, dcba}
-use Rattle.booking.specs.Booking.{smallest, cornerTriangles, leftBetween, larger, smaller, booked}
+use Rattle.booking.specs.Booking.{smallest, median, cornerTriangles, leftBetween, larger, smaller, booked}
 use Rattle.booking.specs.Left.{pairSum, largestPair, Longest}
 use Rattle.booking.specs.Answer.{bookingAnswer}
-use Rattle.booking.specs.Sums.{Three, ofThree, highest, between, Sums}
+use Rattle.booking.specs.Sums.{Three, ofThree, largest, Sums}
 use Rattle.booking.proofs.Counts.{ways, Pairs, pairs, top-cases, twice-least, twice-left, numbers}
 
+-- what the largest and the least of three numbers leave of their sum is the one between
+abbrev remains : (x y z : ℕ) → ℕ
+remains x y z = x + y + z - largest x y z - smallest x y z
+
+pub remains-median : (x y z : ℕ) → remains x y z ≡ median x y z
+unfolding median
+remains-median x y z = left (largest x y z) (smallest x y z) (median x y z) (x + y + z) (all x y z)
+  where
+    all : (x y z : ℕ) → largest x y z + smallest x y z + median x y z ≡ x + y + z
+    all x y z = omega arith
+
+    left : (h l m s : ℕ) → h + l + m ≡ s → s - h - l ≡ m
+    left h l m s e = omega arith
+
 -- three sums in order
-pub in-order : {x y z : ℕ} → Sums x y z → Three (highest x y z) (between x y z) (smallest x y z)
+pub in-order : {x y z : ℕ} → Sums x y z → Three (largest x y z) (remains x y z) (smallest x y z)
 in-order {x} {y} {z} S = record { low = low x y z; high = high x y z; fit = omega (arith, S .fit, low x y z); few = S .few }
   where
-    low : (x y z : ℕ) → smallest x y z ≤ between x y z
+    low : (x y z : ℕ) → smallest x y z ≤ remains x y z
     low x y z = omega arith
 
-    high : (x y z : ℕ) → between x y z ≤ highest x y z
+    high : (x y z : ℕ) → remains x y z ≤ largest x y z
     high x y z = omega arith
 
 -- p and q are half of what m has above v and above u
 halves : (u v m p q : ℕ) → 2 * p + v ≡ m → 2 * q + u ≡ m → (max p q ≡ (m - min u v) / 2) × (min p q ≡ (m - max u v) / 2)
 halves u v m p q e f = (omega arith, omega arith)
 
--- the other two of three sums, of which m is the highest
+-- the other two of three sums, of which m is the largest
 abbrev Others : (u v m x y z : ℕ) → Type 0
 Others u v m x y z = (smallest x y z ≡ min u v) × (x + y + z ≡ m + (min u v + max u v))
 
@@ -98,19 +112,19 @@ module _ (w : ℕ → ℕ) (K : isLevelCell w ≡ true) where
       P : Pairs w 0 1 2 3
       P = pairs w A
 
-  pub sums-fit : 2 * highest x y z ≤ x + y + z
+  pub sums-fit : 2 * largest x y z ≤ x + y + z
   unfolding largestPair
   sums-fit = omega (arith, corners-sum)
 
   -- the answer
-  pub sums-answer : ofThree (highest x y z) (between x y z) (smallest x y z) ≡ bookingAnswer w
+  pub sums-answer : ofThree (largest x y z) (median x y z) (smallest x y z) ≡ bookingAnswer w
   unfolding ofThree bookingAnswer booked largestPair
   sums-answer =
-      let t : smallest x y z + between x y z - highest x y z ≡ cornerTriangles w = three (highest x y z) (x + y + z) (smallest x y z) (cornerTriangles w) (in-order-low x y z) corners-sum in
+      let t : smallest x y z + remains x y z - largest x y z ≡ cornerTriangles w = three (largest x y z) (x + y + z) (smallest x y z) (cornerTriangles w) (in-order-low x y z) corners-sum in
       let (p, q) = numbers-by in
-      rw (K, t, ← p, ← q)
+      rw (← remains-median x y z, K, t, ← p, ← q)
     where
-      in-order-low : (x y z : ℕ) → smallest x y z + highest x y z ≤ x + y + z
+      in-order-low : (x y z : ℕ) → smallest x y z + largest x y z ≤ x + y + z
       in-order-low x y z = omega arith
 
       three : (m s l t : ℕ) → l + m ≤ s → t + 2 * m ≡ s → l + (s - m - l) - m ≡ t
@@ -129,6 +143,6 @@ module _ (l : List ℕ) where
   unfolding joining edgeBetween
   book-sums K x y z e f g a b c = record { fit = rw (e, f, g) (sums-fit w K); few = omega arith }
 
-  pub book-it : isLevelCell w ≡ true → (x y z : ℕ) → x ≡ w 0 + w 5 → y ≡ w 1 + w 4 → z ≡ w 2 + w 3 → ofThree (highest x y z) (between x y z) (smallest x y z) ≡ bookingAnswer w
+  pub book-it : isLevelCell w ≡ true → (x y z : ℕ) → x ≡ w 0 + w 5 → y ≡ w 1 + w 4 → z ≡ w 2 + w 3 → ofThree (largest x y z) (median x y z) (smallest x y z) ≡ bookingAnswer w
   unfolding joining edgeBetween
   book-it K x y z e f g = rw (e, f, g) (sums-answer w K)

@@ -3,9 +3,9 @@ ghost use mathlib.Core.Path.{_≡_};
 ghost use Prim.Native.Nat.{_+_, _≤_};
 ghost use Rattle.cell.specs.Limits.{mostSum};
 ghost use Rattle.cell.specs.Level.{byEdge};
-ghost use Rattle.booking.specs.Booking.{smallest, beside};
+ghost use Rattle.booking.specs.Booking.{smallest, median, beside};
 ghost use Rattle.booking.specs.Answer.{bookingNumbers, bookingAnswer};
-ghost use Rattle.booking.specs.Sums.{Three, ofThree, highest, between, Sums};
+ghost use Rattle.booking.specs.Sums.{Three, ofThree, largest, Sums};
 use cell::higher;
 use cell::lower;
 use cell::sum_of;
@@ -43,7 +43,7 @@ fn of_three(most: u32, mid: u32, least: u32) -> Booking
 // The same, in any order.
 fn from_sums(x: u32, y: u32, z: u32) -> Booking
     requires { ⌜ Sums x y z ⌝ }
-    ensures { λ r. ⌜ bookingNumbers r ≡ ofThree (highest x y z) (between x y z) (smallest x y z) ⌝ }
+    ensures { λ r. ⌜ bookingNumbers r ≡ ofThree (largest x y z) (median x y z) (smallest x y z) ⌝ }
 {
     let most = higher(higher(x, y), z);
     let least = lower(lower(x, y), z);

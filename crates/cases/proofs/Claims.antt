@@ -25,7 +25,7 @@ use Rattle.cell.proofs.Taken.{cell-count}
 use Rattle.cell.proofs.Values.{taken-is}
 use Rattle.cases.specs.declared.Case.the-variants.{Common, Outside}
 use Rattle.cases.specs.Cases.{entries, entryOf, alone}
-use Rattle.cases.specs.Table.{rows, table}
+use Rattle.cases.specs.Table.{tableRows, table}
 use Rattle.cases.specs.Answer.{caseNumbers, caseAnswer, findEntry}
 use Rattle.cases.specs.Tally.{trianglesAt, findEntryAt, outsideAt}
 use Rattle.cases.specs.Claims.{OneToOne, Whole, EveryEntry, LaidAnyhow, CellsRight, AnswerRight, TotalByEntry}
@@ -40,7 +40,7 @@ one-to-one Outside (Common m u) e = absurd (no-nil {a = m} {l = u ∷ []} (cc))
 one-to-one Outside Outside e = refl
 
 pub whole : Whole
-unfolding over rows table
+unfolding over tableRows table
 whole = refl
 
 pub laid-anyhow : LaidAnyhow

@@ -11,7 +11,7 @@ use Rattle.counting.specs.Pick.{pick}
 use Rattle.counting.specs.Range.{over, values}
 use Rattle.counting.proofs.Search.{every-is}
 use Rattle.cell.specs.Common.{digitLimit, isCommon}
-use Rattle.cases.specs.Cases.{entries, digits, entryOf}
+use Rattle.cases.specs.Cases.{entries, fromDigits, entryOf}
 use Rattle.cases.specs.Answer.{findEntry}
 use Rattle.cases.proofs.Quick.{digit}
 
@@ -21,11 +21,11 @@ module _ (w : ℕ → ℕ) (C : isCommon w ≡ true) where
   few k l = ltb-true (w k) digitLimit (every-is (λ k. ltb (w k) digitLimit) 6 C k l)
 
   pub entry-lt : entryOf w < entries
-  unfolding entryOf digits
+  unfolding entryOf fromDigits
   entry-lt = omega (arith, few 0 (omega arith), few 1 (omega arith), few 2 (omega arith), few 3 (omega arith), few 4 (omega arith), few 5 (omega arith))
 
   number : entryOf w ≡ 243 * w 0 + 81 * w 1 + 27 * w 2 + 9 * w 3 + 3 * w 4 + w 5
-  unfolding entryOf digits
+  unfolding entryOf fromDigits
   number = omega arith
 
   -- the digits of the number are the counts again
@@ -45,29 +45,29 @@ module _ (w : ℕ → ℕ) (C : isCommon w ≡ true) where
           rw (e0, e1, e2, e3, e4, e5) refl
 
 -- no number of fewer of the digits is greater
-up : (w : ℕ → ℕ) (k j : ℕ) → digits w k ≤ digits w (k + j)
-unfolding digits
+up : (w : ℕ → ℕ) (k j : ℕ) → fromDigits w k ≤ fromDigits w (k + j)
+unfolding fromDigits
 up w k zero = rw (add-zero k) (omega arith)
 up w k (suc j) = rw (add-suc k j) (omega (arith, up w k j))
 
-pub digits-lt : (w : ℕ → ℕ) → isCommon w ≡ true → (k : ℕ) → k ≤ 6 → digits w k < entries
+pub digits-lt : (w : ℕ → ℕ) → isCommon w ≡ true → (k : ℕ) → k ≤ 6 → fromDigits w k < entries
 unfolding entryOf
-digits-lt w C k h = let e : k + (6 - k) ≡ 6 = omega arith in omega (arith, up w k (6 - k), ap (digits w) e, entry-lt w C)
+digits-lt w C k h = let e : k + (6 - k) ≡ 6 = omega arith in omega (arith, up w k (6 - k), ap (fromDigits w) e, entry-lt w C)
 
 -- the digits one by one
-pub digits-none : (w : ℕ → ℕ) → 0 ≡ digits w 0
-unfolding digits
+pub digits-none : (w : ℕ → ℕ) → 0 ≡ fromDigits w 0
+unfolding fromDigits
 digits-none w = refl
 
-pub digits-more : (w : ℕ → ℕ) (k n x : ℕ) → n ≡ digits w k → x ≡ w k → digitLimit * n + x ≡ digits w (k + 1)
-unfolding digits
+pub digits-more : (w : ℕ → ℕ) (k n x : ℕ) → n ≡ fromDigits w k → x ≡ w k → digitLimit * n + x ≡ fromDigits w (k + 1)
+unfolding fromDigits
 digits-more w k n x e f = let s : k + 1 ≡ suc k = omega arith in rw (s, e, f) refl
 
 -- the place of an entry
 module _ (w : ℕ → ℕ) where
-  pub found-in : isCommon w ≡ true → (n k : ℕ) → n ≡ digits w k → k ≡ 6 → n ≡ findEntry w
+  pub found-in : isCommon w ≡ true → (n k : ℕ) → n ≡ fromDigits w k → k ≡ 6 → n ≡ findEntry w
   unfolding findEntry entryOf
-  found-in C n k e f = rw C (e ∙ ap (digits w) f)
+  found-in C n k e f = rw C (e ∙ ap (fromDigits w) f)
 
   pub found-out : isCommon w ≡ false → entries ≡ findEntry w
   unfolding findEntry

@@ -13,7 +13,7 @@ use Rattle.cell.specs.Cell.{ahead, base, holds, edge, index, answerAt, joinAt, 
 use Rattle.cell.specs.Loop.{loopSize, loopDarts, folded, normal, leasts}
 use Rattle.cell.specs.Common.{isCommon}
 use Rattle.cell.specs.Triangles.{loopCount, manyFrom, triangleCount}
-use Rattle.cases.specs.Cases.{digits, entryOf}
+use Rattle.cases.specs.Cases.{fromDigits, entryOf}
 use Rattle.cases.specs.Answer.{caseAnswer, findEntry}
 use Rattle.cases.specs.Examples.{ExamplesHold, of, examples}
 
@@ -23,5 +23,5 @@ unfolding total over kept seek first last every tally pre
     face.other face.opposite face.halfAbove face.cornerCount face.residual face.countOn face.others face.kth face.cornerCountAt face.partner face.faceAnswer face.faceJoin
     orbit steps.face steps.land steps.step walk.status walk.turn walk.size walk.loopAt
     ahead base holds edge index answerAt joinAt joinedTo mate slot step loopSize loopDarts folded normal leasts
-    isCommon digits entryOf loopCount manyFrom triangleCount caseAnswer findEntry of examples
+    isCommon fromDigits entryOf loopCount manyFrom triangleCount caseAnswer findEntry of examples
 examples-hold = refl

@@ -8,14 +8,14 @@ abbrev pub entries : ℕ
 entries = 729
 
 -- the first n of the counts w k as digits, the first most significant
-unfoldable pub digits : (ℕ → ℕ) → ℕ → ℕ
-digits w zero = 0
-digits w (suc n) = digitLimit * digits w n + w n
+unfoldable pub fromDigits : (ℕ → ℕ) → ℕ → ℕ
+fromDigits w zero = 0
+fromDigits w (suc n) = digitLimit * fromDigits w n + w n
 
 -- the number of a cell's entry: its six counts as digits, edge 01 first
 unfoldable pub entryOf : (ℕ → ℕ) → ℕ
-unfolding digits
-entryOf w = digits w 6
+unfolding fromDigits
+entryOf w = fromDigits w 6
 
 -- the edges of a cell that is alone, by its counts: of two edges that start alike the first is laid first
 abbrev pub alone : (ℕ → ℕ) → Edges

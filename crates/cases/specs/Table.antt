@@ -9,8 +9,8 @@ use Rattle.counting.specs.Range.{over}
 abbrev pub rowCount : ℕ
 rowCount = 81
 
-unfoldable pub rows : List (List ℕ)
-rows =
+unfoldable pub tableRows : List (List ℕ)
+tableRows =
     (0 ∷ 0 ∷ 0 ∷ 0 ∷ 1 ∷ 2 ∷ 0 ∷ 0 ∷ 0 ∷ 0 ∷ 0 ∷ 0 ∷ 1 ∷ 2 ∷ 0 ∷ 0 ∷ 1 ∷ 4 ∷ [])
     ∷ (0 ∷ 0 ∷ 0 ∷ 0 ∷ 0 ∷ 0 ∷ 0 ∷ 0 ∷ 0 ∷ 0 ∷ 0 ∷ 0 ∷ 0 ∷ 0 ∷ 0 ∷ 0 ∷ 0 ∷ 0 ∷ [])
     ∷ (1 ∷ 2 ∷ 0 ∷ 0 ∷ 1 ∷ 4 ∷ 0 ∷ 0 ∷ 0 ∷ 0 ∷ 0 ∷ 0 ∷ 1 ∷ 4 ∷ 0 ∷ 0 ∷ 1 ∷ 6 ∷ [])
@@ -96,4 +96,4 @@ rows =
 
 -- the rows, one after the other
 unfoldable pub table : List ℕ
-table = over (λ k. getD rows k []) rowCount 0
+table = over (λ k. getD tableRows k []) rowCount 0

@@ -4,6 +4,7 @@ ghost use Prim.Native.Nat.{_≤_};
 ghost use Rattle.cell.specs.Level.{byEdge};
 ghost use Rattle.cases.specs.Cases.{entries};
 ghost use Rattle.cases.specs.Answer.{caseNumbers, caseAnswer, findEntry};
+use cell::DIGIT_LIMIT;
 
 mod numbers;
 
@@ -17,6 +18,9 @@ pub enum Case {
 
 // So many entries the table has.
 pub const ENTRIES: usize = 729;
+
+// An entry's number has the counts as its digits, to this base.
+const BASE: usize = DIGIT_LIMIT as usize;
 
 fn wide(x: u16) -> usize
     ensures { λ r. ⌜ (r ≡ x) × (r ≤ 65535) ⌝ }
@@ -34,7 +38,7 @@ pub fn find_entry(counts: [u16; 6]) -> usize
     let mut n: usize = 0;
     let mut k: usize = 0;
     while k < 6 {
-        n = 3 * n + wide(counts[k]);
+        n = BASE * n + wide(counts[k]);
         k += 1;
     }
     n

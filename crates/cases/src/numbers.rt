@@ -4,7 +4,7 @@ ghost use Prim.Native.Nat.{_+_, _*_, _<_, _≤_};
 ghost use mathlib.Core.List.{[], _∷_};
 ghost use lib.ListN.{getD};
 ghost use Rattle.counting.specs.Range.{total};
-ghost use Rattle.cases.specs.Table.{rows, table};
+ghost use Rattle.cases.specs.Table.{tableRows, table};
 ghost use Rattle.cases.specs.Cases.{entries};
 ghost use Rattle.cases.specs.Tally.{trianglesFor, mostFor};
 use super::ENTRIES;
@@ -99,7 +99,7 @@ const ROWS: [[u8; 2 * IN_ROW]; ENTRIES / IN_ROW] = [
 
 // The rows by value. They stand in this function alone: the proof of each function that has them in it is dear (DECISIONS.md).
 fn table_rows() -> [[u8; 2 * IN_ROW]; ENTRIES / IN_ROW]
-    ensures { λ r. ⌜ r ≡ rows ⌝ }
+    ensures { λ r. ⌜ r ≡ tableRows ⌝ }
 {
     ROWS
 }

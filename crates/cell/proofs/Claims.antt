@@ -11,6 +11,7 @@ use lib.Dec.{eqb, ltb}
 use lib.ListN.{getD}
 use borrow.Author.Tests.{ltb-true, lt-ltb}
 use Rattle.counting.specs.Pick.{pick, one}
+use Rattle.answer.proofs.Answer.{no-nil}
 use Rattle.cell.specs.declared.LoopType.{LoopType}
 use Rattle.cell.specs.declared.LoopType.the-variants.{Contractible, Corner, Diagonal, LowestCorner}
 use Rattle.cell.specs.declared.Loop.{Loop}
@@ -116,16 +117,13 @@ flags true false q = absurd (omega arith)
 flags false true q = absurd (omega arith)
 flags false false q = refl
 
-no-nil : {A : Type 0} {a : ℕ} {l : List ℕ} → a ∷ l ≡ [] → A
-no-nil q = let z : _≡_ {A = ℕ} 0 1 = cc in absurd (omega arith)
-
 loops : (k l : Loop) → loopNumbers k ≡ loopNumbers l → k ≡ l
 loops (Found p n a s) (Found q m b t) e =
     let f : a ≡ b = flags a b (cc) in
     let g : s ≡ t = types s t (cc) in
     cc
-loops (Found p n a s) Nothing e = no-nil {a = p} {l = n ∷ one a ∷ typeNumbers s} (cc)
-loops Nothing (Found p n a s) e = no-nil {a = p} {l = n ∷ one a ∷ typeNumbers s} (cc)
+loops (Found p n a s) Nothing e = absurd (no-nil {a = p} {l = n ∷ one a ∷ typeNumbers s} (cc))
+loops Nothing (Found p n a s) e = absurd (no-nil {a = p} {l = n ∷ one a ∷ typeNumbers s} (cc))
 loops Nothing Nothing e = refl
 
 pub oneToOne : OneToOne

@@ -16,7 +16,7 @@ use Rattle.face.proofs.Ends.{edge-of}
 use Rattle.face.proofs.Gaps.{kth-lower, kth-upper}
 use Rattle.face.proofs.Corner.{corner-le, corner-swap}
 use Rattle.face.proofs.Claims.{faceLaws}
-use Rattle.cell.specs.Cell.{Edges, crossings, number, edge, index, slot, step}
+use Rattle.cell.specs.Cell.{Edges, crossings, edge, index, slot, step}
 use Rattle.cell.specs.Half.{slotOf, edgeOf}
 use Rattle.cell.specs.Dart.{Parts, dartNumber}
 use Rattle.cell.proofs.Lay.{lay}

@@ -4,7 +4,6 @@ use mathlib.Core.Path.{_≡_}
 use mathlib.Core.List.{List, [], _∷_}
 use lib.ListN.{getD}
 use lib.Seq.{sets}
-use Rattle.slots.specs.Limits.{mostCount}
 use Rattle.slots.specs.Slots.{slotEdge}
 use Rattle.face.specs.Face.{lower, upper, cornerCountAt}
 use Rattle.cell.specs.declared.Cell.{Cell}

@@ -8,7 +8,7 @@ use super::numbers::lower;
 use super::numbers::sum_of;
 
 // One more than the greatest count of a common cell.
-const DIGIT_LIMIT: u16 = 3;
+pub const DIGIT_LIMIT: u16 = 3;
 
 fn sum_of_three(a: u16, b: u16, c: u16) -> u32
     ensures { λ r. ⌜ r ≡ a + b + c ⌝ }

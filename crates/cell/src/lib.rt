@@ -30,6 +30,7 @@ pub use entries::cell_at;
 pub use entries::counts_at;
 pub use fanning::count_fans;
 pub use fanning::write_middles;
+pub use level::DIGIT_LIMIT;
 pub use level::is_common;
 pub use level::is_level;
 pub use numbers::higher;

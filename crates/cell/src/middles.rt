@@ -137,7 +137,7 @@ pub(crate) fn fans_in(
     count(c, n, marks, halves, points)
 }
 
-// Whether the cell's crossings have numbers below n, by the highest. With a way out at each edge the walks are no longer compiled in place (SPEED.md).
+// Whether the cell's crossings have numbers below n, by the highest. With a way out at each edge the walks are not compiled in place (SPEED.md).
 fn is_below(c: Cell, n: usize) -> bool
     ensures { λ r. ⌜ r ≡ numberedBelow c n ⌝ }
 {

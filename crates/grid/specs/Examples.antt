@@ -230,7 +230,7 @@ tried =
     ∷ settingOf sums 2 4096
     ∷ settingOf (0 ∷ 1 ∷ 3 ∷ 6 ∷ 10 ∷ 16 ∷ []) 6 0
     ∷ (inTurn .counts ∷ inTurn .starts ∷ [])
-    -- 18 before 10; the old count is no longer in the total; the crossings as they are lent before 21
+    -- 18 before 10; the total without the count that is replaced; the crossings as they are lent before 21
     ∷ (setAnswer full 17 4096 ∷ setAnswer full 17 1 ∷ setAnswer full 0 4095 ∷ setAnswer full 16 14 ∷ setAnswer (built loose looseEdges (sixteen (15 ∷ 1 ∷ []))) 18 0 ∷ [])
     ∷ []
 

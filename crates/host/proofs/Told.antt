@@ -7,11 +7,11 @@ use Rattle.bundle.specs.Bundle.{bundleAnswer, contentsNumbers}
 use Rattle.bundle.specs.declared.Contents.{Contents}
 use Rattle.bundle.specs.declared.Contents.the-variants.{Lists, Refused}
 use Rattle.bundle.proofs.Answers.{accepted, accepted-cells, accepted-edges, rejected}
-use Rattle.host.specs.Host.{refusalOf, cellsOf, edgesOf}
+use Rattle.host.specs.Host.{refusalOf, bundleCells, bundleEdges}
 
 -- the three numbers are the bundle's
 abbrev pub Is : List ℕ → ℕ → ℕ → ℕ → Type 0
-Is s n c e = (n ≡ refusalOf s) × ((c ≡ cellsOf s) × (e ≡ edgesOf s))
+Is s n c e = (n ≡ refusalOf s) × ((c ≡ bundleCells s) × (e ≡ bundleEdges s))
 
 module _ (s : List ℕ) (r : Contents) (h : contentsNumbers r ≡ bundleAnswer s) where
   pub whole : (c e : ℕ) → Lists c e ≡ r → Is s 0 c e

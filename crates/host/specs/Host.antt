@@ -10,8 +10,8 @@ abbrev pub refusalOf : List ℕ → ℕ
 refusalOf s = getD (bundleAnswer s) 0 0
 
 -- the cells and the edges of a bundle, to which looks do not count; 0 for a broken one
-abbrev pub cellsOf : List ℕ → ℕ
-cellsOf s = cond (isBundle s) (cells s) 0
+abbrev pub bundleCells : List ℕ → ℕ
+bundleCells s = cond (isBundle s) (cells s) 0
 
-abbrev pub edgesOf : List ℕ → ℕ
-edgesOf s = cond (isBundle s) (edges s) 0
+abbrev pub bundleEdges : List ℕ → ℕ
+bundleEdges s = cond (isBundle s) (edges s) 0

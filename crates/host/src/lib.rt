@@ -1,7 +1,7 @@
 // For the probe's host, a C program: the refusal, the cells and the edges of a bundle, over its bytes.
 use bundle::Contents;
 ghost use mathlib.Core.Path.{_≡_};
-ghost use Rattle.host.specs.Host.{refusalOf, cellsOf, edgesOf};
+ghost use Rattle.host.specs.Host.{refusalOf, bundleCells, bundleEdges};
 
 // What the host is told: the number of the refusal or 0, the cells and the edges.
 struct Numbers {
@@ -11,7 +11,7 @@ struct Numbers {
 }
 
 fn numbers_of(bytes: &[u8]) -> Numbers
-    ensures { λ r. ⌜ (r .refusal ≡ refusalOf (now (bytes .entry))) × ((r .cells ≡ cellsOf (now (bytes .entry))) × (r .edges ≡ edgesOf (now (bytes .entry)))) ⌝ }
+    ensures { λ r. ⌜ (r .refusal ≡ refusalOf (now (bytes .entry))) × ((r .cells ≡ bundleCells (now (bytes .entry))) × (r .edges ≡ bundleEdges (now (bytes .entry)))) ⌝ }
 {
     match bundle::scan(bytes) {
         Contents::Lists(cells, edges) => {
@@ -41,7 +41,7 @@ pub extern "C" fn citternblaze_bundle_refusal(bytes: &[u8]) -> u32
 // The cells of a bundle, or 0 for a broken one.
 #[no_mangle]
 pub extern "C" fn citternblaze_bundle_cells(bytes: &[u8]) -> u64
-    ensures { λ r. ⌜ r ≡ cellsOf (now (bytes .entry)) ⌝ }
+    ensures { λ r. ⌜ r ≡ bundleCells (now (bytes .entry)) ⌝ }
 {
     let t = numbers_of(bytes);
     t.cells
@@ -50,7 +50,7 @@ pub extern "C" fn citternblaze_bundle_cells(bytes: &[u8]) -> u64
 // The edges of a bundle, or 0 for a broken one.
 #[no_mangle]
 pub extern "C" fn citternblaze_bundle_edges(bytes: &[u8]) -> u64
-    ensures { λ r. ⌜ r ≡ edgesOf (now (bytes .entry)) ⌝ }
+    ensures { λ r. ⌜ r ≡ bundleEdges (now (bytes .entry)) ⌝ }
 {
     let t = numbers_of(bytes);
     t.edges

@@ -91,8 +91,8 @@ empty =
 
 -- refusals: no bytes; no cell; a cell that does not increase; an edge that is not listed, with kind 2 and with kind 4; kind 4 with a count that a byte
 -- holds; a byte after the end, and after the end of a grid that is refused; a look with its pair turned round
-abbrev pub refused : List Example
-refused =
+abbrev pub refusals : List Example
+refusals =
     asks (listing []) empty
     ∷ asks (listing endRecord) (refusedLine 1 0)
     ∷ asks (listing (bundleBytes (0 ∷ 2 ∷ 1 ∷ 3 ∷ []) edges (0 ∷ 0 ∷ 0 ∷ 0 ∷ 0 ∷ 0 ∷ []))) (refusedLine 3 0)
@@ -104,9 +104,9 @@ refused =
     ∷ asks (listing (recordBytes edgeKind (wordBytes 0 ++ wordBytes 1 ++ (5 ∷ [])) ++ look 1 0 2 ++ endRecord)) (refusedLine 22 9)
     ∷ []
 
-abbrev pub table : List Example
-table = numbers ++ accepted ++ refused
+abbrev pub examples : List Example
+examples = numbers ++ accepted ++ refusals
 
 -- each is as asked
 abbrev pub Examples : Type 0
-Examples = map (λ e. e .found) table ≡ map (λ e. e .asked) table
+Examples = map (λ e. e .found) examples ≡ map (λ e. e .asked) examples

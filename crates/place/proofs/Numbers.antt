@@ -16,7 +16,7 @@ use Rattle.counting.proofs.Lists.{gather-append, length-gather}
 use Rattle.counting.proofs.Stored.{stored-as, stored-then, stored-room}
 use Rattle.counting.proofs.Stores.{getD-sets-out}
 use Rattle.place.specs.declared.Place.{Place}
-use Rattle.place.specs.Place.{along, between, coordinates, placeAt, numbers, allNumbers}
+use Rattle.place.specs.Place.{interpolated, between, coordinates, placeAt, numbers, allNumbers}
 
 -- three stores, as code writes them
 pub sets-three : {A : Type 0} (l : List A) (n : ℕ) (a b c : A) → set (set (set l n a) (n + 1) b) (n + 2) c ≡ sets l n (a ∷ b ∷ c ∷ [])
@@ -76,5 +76,5 @@ number-loaded l k =
     let e : coordinates * k ≡ coordinates * k + 0 = omega arith in
     below-three (λ t. getD (numbers (placeAt l k)) t nan ≡ getD l (coordinates * k + t) nan) (ap (λ n. getD l n nan) e) refl refl
 
-pub number-between : (u v : Place) (s : Float) (t : ℕ) → t < coordinates → getD (numbers (between u v s)) t nan ≡ along (getD (numbers u) t nan) (getD (numbers v) t nan) s
-number-between u v s = below-three (λ t. getD (numbers (between u v s)) t nan ≡ along (getD (numbers u) t nan) (getD (numbers v) t nan) s) refl refl refl
+pub number-between : (u v : Place) (s : Float) (t : ℕ) → t < coordinates → getD (numbers (between u v s)) t nan ≡ interpolated (getD (numbers u) t nan) (getD (numbers v) t nan) s
+number-between u v s = below-three (λ t. getD (numbers (between u v s)) t nan ≡ interpolated (getD (numbers u) t nan) (getD (numbers v) t nan) s) refl refl refl

@@ -21,12 +21,12 @@ unfoldable pub within : Float → Bool
 within x = le (ofInt binary64 (negℤ (pos farthest))) x && le x (floatOf farthest)
 
 -- u + s × (v − u)
-abbrev pub along : Float → Float → Float → Float
-along u v s = add binary64 u (mul binary64 s (sub binary64 v u))
+abbrev pub interpolated : Float → Float → Float → Float
+interpolated u v s = add binary64 u (mul binary64 s (sub binary64 v u))
 
 -- the point with fraction s between two points
 abbrev pub between : Place → Place → Float → Place
-between u v s = record { x = along (u .x) (v .x) s; y = along (u .y) (v .y) s; z = along (u .z) (v .z) s }
+between u v s = record { x = interpolated (u .x) (v .x) s; y = interpolated (u .y) (v .y) s; z = interpolated (u .z) (v .z) s }
 
 abbrev pub added : Place → Place → Place
 added p q = record { x = add binary64 (p .x) (q .x); y = add binary64 (p .y) (q .y); z = add binary64 (p .z) (q .z) }

@@ -1,6 +1,6 @@
 -- Where both ends' numbers are whole and the fraction is a whole number of 1,024ths, no operation of a placed crossing rounds.
 use mathlib.Core.Path.{_≡_, refl, sym, ap, _∙_, subst}
-use Prim.Native.Nat.{ℕ, _+_, _*_, _≤_, _<_}
+use Prim.Native.Nat.{ℕ, _+_, _*_, _≤_}
 use native.Mathlib.Nat.{le-of-mul-le-mul-right}
 use native.Mathlib.Omega.{arith}
 use mathlib.Core.Bool.{true, false}
@@ -10,7 +10,7 @@ use lib.Ieee.{Float, nan, inf, fin, binary64, up, down, sub, mul, lt, ofInt}
 use lib.Ieee.Fits.{down-pos}
 use borrow.Author.Tests.{ltb-true}
 use Rattle.counting.proofs.Bools.{and-right, clash}
-use Rattle.place.specs.Place.{floatOf, farthest, within, along}
+use Rattle.place.specs.Place.{floatOf, farthest, within, interpolated}
 use Rattle.place.proofs.Within.{within-limited}
 use Rattle.places.specs.Numbers.{properFraction}
 use Rattle.places.specs.Exact.{Exactly, parts}
@@ -20,10 +20,10 @@ bounded : (x : Float) (z : ℤ) (c N : ℕ) → Exactly c x z → natAbs z ≤ N
 bounded x z c N X l = record { sign = X .sign; size = X .size; has = X .has; is = X .is; small = subst (λ (k : ℕ). k ≤ N) (ap natAbs (sym (X .is)) ∙ size-of (X .sign) (X .size)) l }
 
 -- 1,024 times the placed number is 1024 u + k (v - u)
-pub along-exact : (U W S : Float) (u v k : ℤ) → Exactly 1 U u → Exactly 1 W v → Exactly parts S k
+pub interpolated-exact : (U W S : Float) (u v k : ℤ) → Exactly 1 U u → Exactly 1 W v → Exactly parts S k
     → natAbs u ≤ farthest → natAbs v ≤ farthest → natAbs k ≤ parts
-    → Exactly parts (along U W S) (pos parts *ℤ u +ℤ k *ℤ (v -ℤ u))
-along-exact U W S u v k hU hV hS lu lv lk =
+    → Exactly parts (interpolated U W S) (pos parts *ℤ u +ℤ k *ℤ (v -ℤ u))
+interpolated-exact U W S u v k hU hV hS lu lv lk =
     let f = binary64 in
     let VU = bounded U u 1 farthest hU lu in
     let D = sub-val f W U v u 0 farthest farthest (lit≤ tt) (lit< tt) (bounded W v 1 farthest hV lv) VU in

@@ -5,7 +5,7 @@ use mathlib.Core.Bool.{true}
 use mathlib.Core.List.{List}
 use native.Mathlib.Omega.{arith}
 use lib.ListN.{length, getD, length-append, List·getD-append}
-use lib.IntN.{ℤ, pos, _+ℤ_, _-ℤ_, _*ℤ_}
+use lib.IntN.{pos, _+ℤ_, _-ℤ_, _*ℤ_}
 use lib.Ieee.{Float, nan}
 use borrow.Author.Tests.{not-false}
 use Rattle.answer.specs.Answer.{result}
@@ -16,14 +16,14 @@ use Rattle.counting.proofs.Pack.{row-lt}
 use native.Mathlib.Nat.{zero-add}
 use Rattle.grid.specs.Grid.{Grid, low, high, start, countOf, crossings, hasNode}
 use Rattle.place.specs.declared.Place.{Place}
-use Rattle.place.specs.Place.{within, along, coordinates, placeAt, numbers}
+use Rattle.place.specs.Place.{within, interpolated, coordinates, placeAt, numbers}
 use Rattle.places.specs.Numbers.{properFraction}
 use Rattle.places.specs.Points.{edgeOfCrossing, crossingPlace, middles, points}
 use Rattle.places.specs.Rows.{badNumber, badFractionAt, badFraction}
 use Rattle.places.specs.Answer.{needed, placesAnswer, placesArea}
 use Rattle.places.specs.Exact.{Exactly, parts, ExactCase}
 use Rattle.place.proofs.Numbers.{front-at, number-loaded, number-between}
-use Rattle.places.proofs.Exact.{along-exact, within-whole, proper-part}
+use Rattle.places.proofs.Exact.{interpolated-exact, within-whole, proper-part}
 use Rattle.places.proofs.Nodes.{End, low-end, high-end}
 use Rattle.places.proofs.Answers.{Passed, passed, placed-is}
 
@@ -58,7 +58,7 @@ module _ (G : Grid) (nodes fractions : List Float) where
     -- number t of the place that is written for crossing g
     pub written : (g t : ℕ) → g < crossings (G .counts) → t < coordinates
         → getD (placesArea G nodes fractions area) (coordinates * g + t) nan
-        ≡ along (getD nodes (coordinates * low (G .edges) (edgeOfCrossing (G .counts) g) + t) nan) (getD nodes (coordinates * high (G .edges) (edgeOfCrossing (G .counts) g) + t) nan) (getD fractions g nan)
+        ≡ interpolated (getD nodes (coordinates * low (G .edges) (edgeOfCrossing (G .counts) g) + t) nan) (getD nodes (coordinates * high (G .edges) (edgeOfCrossing (G .counts) g) + t) nan) (getD fractions g nan)
     unfolding placesArea crossingPlace
     written g t h k =
         let ps = points G nodes fractions in
@@ -70,8 +70,8 @@ module _ (G : Grid) (nodes fractions : List Float) where
         (front-at ps area g t u (ok .rows .area-long) l k
         ∙ ap (λ (p : Place). getD (numbers p) t nan) (point-at g h u)
         ∙ number-between u v s t k
-        ∙ ap (λ x. along x (getD (numbers v) t nan) s) (number-loaded nodes (low (G .edges) (edgeOfCrossing (G .counts) g)) t k)
-        ∙ ap (λ x. along (getD nodes (coordinates * low (G .edges) (edgeOfCrossing (G .counts) g) + t) nan) x s) (number-loaded nodes (high (G .edges) (edgeOfCrossing (G .counts) g)) t k))
+        ∙ ap (λ x. interpolated x (getD (numbers v) t nan) s) (number-loaded nodes (low (G .edges) (edgeOfCrossing (G .counts) g)) t k)
+        ∙ ap (λ x. interpolated (getD nodes (coordinates * low (G .edges) (edgeOfCrossing (G .counts) g) + t) nan) x s) (number-loaded nodes (high (G .edges) (edgeOfCrossing (G .counts) g)) t k))
 
     -- rows 16 and 17 at the numbers it is made of
     within-at : (v t : ℕ) → End G (ok .grid) v → t < coordinates → within (getD nodes (coordinates * v + t) nan) ≡ true
@@ -92,5 +92,5 @@ module _ (G : Grid) (nodes fractions : List Float) where
       let lw = within-at area values e (low (G .edges) (edgeOfCrossing (G .counts) g)) t (low-end G (a .grid) (edgeOfCrossing (G .counts) g) c) k in
       let hw = within-at area values e (high (G .edges) (edgeOfCrossing (G .counts) g)) t (high-end G (a .grid) (edgeOfCrossing (G .counts) g) c) k in
       subst (λ x. Exactly parts x (pos parts *ℤ u +ℤ n *ℤ (v -ℤ u))) (sym (written area values e g t h k))
-      (along-exact _ _ _ u v n (w .lower) (w .upper) (w .part) (within-whole _ u (w .lower) lw) (within-whole _ v (w .upper) hw)
+      (interpolated-exact _ _ _ u v n (w .lower) (w .upper) (w .part) (within-whole _ u (w .lower) lw) (within-whole _ v (w .upper) hw)
       (proper-part _ n (w .part) (proper-at area values e g h)))

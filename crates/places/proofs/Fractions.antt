@@ -9,7 +9,6 @@ use lib.ListN.{length, getD}
 use lib.Ieee.{Float, nan, lt}
 use borrow.Author.Tests.{lt-ltb}
 use Rattle.counting.specs.Search.{first}
-use Rattle.counting.specs.Pack.{pre}
 use Rattle.counting.proofs.Search.{first-le, first-is, first-below, first-at, none-first}
 use Rattle.counting.proofs.Pack.{col-pack, pre-le, pack-lt}
 use Rattle.grid.specs.Grid.{countOf, start, crossings}

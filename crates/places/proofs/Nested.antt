@@ -19,6 +19,7 @@ use Rattle.counting.proofs.Gcd.{gcd-both}
 use Rattle.counting.proofs.Kept.{tally-kept}
 use Rattle.counting.proofs.Range.{total-ext, total-one, total-pos, over-ext}
 use Rattle.counting.proofs.Search.{first-ext}
+use Rattle.slots.specs.Slots.{lo}
 use Rattle.place.specs.declared.Place.{Place}
 use Rattle.place.specs.Place.{between, middle}
 use Rattle.manifold.specs.Shape.{hasMiddle}
@@ -178,7 +179,7 @@ module _ (c : Cell) where
 
     through-is : (p r : ℕ) → through c p r ≡ passes w e (leastCorner n 0) p r
     unfolding through remaining passes
-    through-is p r = rw (axis-is, nest-ends N .lower)
+    through-is p r = ap (λ k. passes w k (leastCorner n (lo k)) p r) axis-is ∙ ap (λ k. passes w e (leastCorner n k) p r) (nest-ends N .lower)
 
     number-is : (p : ℕ) → nestNumber c p ≡ first (λ i. passes w e (leastCorner n 0) p (m + i)) m
     unfolding nestNumber

@@ -11,6 +11,9 @@ across-twice s t h = omega arith
 pub across-like : (s t h : ℕ) → s % 2 ≡ t % 2 → across s h ≡ across t h
 across-like s t h e = omega arith
 
+pub bit-odd : (s : ℕ) → s % 2 ≡ s % 2 % 2
+bit-odd s = omega arith
+
 pub across-even : (s h : ℕ) → s % 2 ≡ 0 → across s h ≡ h
 across-even s h e = omega arith
 

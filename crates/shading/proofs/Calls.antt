@@ -1,7 +1,7 @@
 -- What the call answers and writes, from what its parts leave.
 use Prim.Native.Nat.{ℕ, _+_, _*_, _/_, _%_, _<_}
 use mathlib.Core.Path.{_≡_, refl, sym, ap, _∙_, subst}
-use mathlib.Core.Logic.{_⊎_, ⊎-elim, _≢_}
+use mathlib.Core.Logic.{⊎-elim, _≢_}
 use mathlib.Core.Bool.{Bool, true, false, not}
 use mathlib.Core.List.{List, [], _∷_}
 use native.Mathlib.Omega.{arith}
@@ -12,7 +12,6 @@ use Rattle.answer.specs.Answer.{result, refusal, isResult}
 use Rattle.answer.specs.Rows.{whole, answerOf}
 use Rattle.answer.proofs.Rows.{row-passes, row-refuses, rows-end, whole-fault, whole-fine}
 use Rattle.counting.specs.Pick.{pick}
-use Rattle.counting.specs.Stored.{filled}
 use Rattle.counting.proofs.Bools.{holds-or}
 use Rattle.counting.proofs.Stored.{filled-whole}
 use Rattle.grid.specs.declared.Checked.{Checked}

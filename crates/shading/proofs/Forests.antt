@@ -5,11 +5,11 @@ use mathlib.Core.Logic.{_≢_}
 use mathlib.Core.List.{List}
 use native.Mathlib.Decide.{ℕ-discrete}
 use native.Mathlib.Omega.{arith}
-use lib.ListN.{length, getD, set, length-set}
+use lib.ListN.{getD, set, length-set}
 use lib.Seq.{getD-set-same, getD-set-other}
 use Rattle.shading.specs.Marks.{mostNodes}
 use Rattle.shading.specs.Work.{across, noLink, HasLink, Forest, Fits, SameNodes, Halved, Halvable, HalvedAt, Rooted, Found}
-use Rattle.shading.proofs.Across.{across-twice, across-like, across-even}
+use Rattle.shading.proofs.Across.{across-twice, across-like, bit-odd, across-even}
 
 -- one link is set
 module _ (l : List ℕ) (F : Forest l) (y z : ℕ) (Y : HasLink l y) where
@@ -179,9 +179,6 @@ module _ (l : List ℕ) (x : ℕ) (m : List ℕ) (y side : ℕ) (D : Finding l x
         ∙ ap (across side) (f y (H .halved .nodes .kept y (D .linked)) ∙ ap (λ k. across k (h (k / 2))) (sym (H .is)))
         ∙ across-twice side z (h (z / 2)) ∙ across-like (side + z) ((side + z) % 2) (h (z / 2)) (bit-odd (side + z));
   }
-    where
-      bit-odd : (s : ℕ) → s % 2 ≡ s % 2 % 2
-      bit-odd s = omega arith
 
   pub finding-end : getD m y 0 / 2 ≡ y → Found l x m (2 * y + side)
   finding-end e = record {

@@ -13,11 +13,8 @@ use Rattle.counting.proofs.Bools.{clash}
 use Rattle.counting.proofs.Search.{below-or}
 use Rattle.grid.specs.Grid.{low, high, countOf}
 use Rattle.shading.specs.Work.{across, HasLink, Forest, Fits, SameNodes, Agrees, Found, Tied, United, AllUnitable, TiedAll}
-use Rattle.shading.proofs.Across.{across-twice, across-like, across-back, across-even, across-odd, across-between}
+use Rattle.shading.proofs.Across.{across-twice, across-like, bit-odd, across-back, across-even, across-odd, across-between}
 use Rattle.shading.proofs.Forests.{same-then, halved-then, tie-nodes, tie-forest, tie-fits, tie-back}
-
-bit-odd : (s : ℕ) → s % 2 ≡ s % 2 % 2
-bit-odd s = omega arith
 
 both-ways : (a b c : ℕ) → (c + (b + (a + b + c) % 2)) % 2 ≡ a % 2
 both-ways a b c = omega arith

@@ -2,7 +2,7 @@
 -- those of the other, where it does not depend on the crossing that a loop starts from.
 use Prim.Native.Nat.{ℕ, zero, suc, _+_, _*_, _/_, _%_, _≤_, _<_}
 use mathlib.Core.Path.{_≡_, refl, sym, ap, _∙_, subst}
-use mathlib.Core.Logic.{_⊎_, _≢_, ⊎-elim}
+use mathlib.Core.Logic.{_≢_, ⊎-elim}
 use mathlib.Core.Bool.{Bool, true, false}
 use native.Mathlib.Nat.{eq-zero-or-pos, mul-one, mul-zero}
 use native.Mathlib.Omega.{arith}

@@ -7,18 +7,18 @@ use native.Mathlib.Omega.{arith}
 use borrow.Author.Tests.{not-true, not-false}
 use Rattle.cell.specs.Level.{byEdge}
 use Rattle.cell.specs.Common.{isCommon}
-use Rattle.cases.specs.Cases.{entries, digits}
+use Rattle.cases.specs.Cases.{entries, fromDigits}
 use Rattle.cases.proofs.Digits.{digits-none, digits-more, digits-lt, found-in, found-out}
 use Rattle.cases.proofs.find_entry.Statement.{statement}
 use Rattle.cases.proofs.find_entry.Tie as tie
 
 abbrev Inv-loop : tie.InvT-loop
-Inv-loop counts n₀ k₀ n k = (k ≤ 6) × (isCommon (byEdge counts) ≡ true) × (n ≡ digits (byEdge counts) k)
+Inv-loop counts n₀ k₀ n k = (k ≤ 6) × (isCommon (byEdge counts) ≡ true) × (n ≡ fromDigits (byEdge counts) k)
 
 abbrev μ-loop : tie.MeasureT-loop
 μ-loop counts n₀ k₀ n k = 6 - k
 
-bound : (l : List ℕ) (n k : ℕ) → (k ≤ 6) × (isCommon (byEdge l) ≡ true) × (n ≡ digits (byEdge l) k) → n < entries
+bound : (l : List ℕ) (n k : ℕ) → (k ≤ 6) × (isCommon (byEdge l) ≡ true) × (n ≡ fromDigits (byEdge l) k) → n < entries
 bound l n k I = omega (arith, I .2, digits-lt (byEdge l) (I .1) k (I .0))
 
 returns : tie.Need-returns Inv-loop μ-loop

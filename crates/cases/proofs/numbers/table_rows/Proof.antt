@@ -1,11 +1,11 @@
 -- `cases::numbers::table_rows` meets its contract.
 use mathlib.Core.Path.{refl}
-use Rattle.cases.specs.Table.{rows}
+use Rattle.cases.specs.Table.{tableRows}
 use Rattle.cases.proofs.numbers.table_rows.Statement.{statement}
 use Rattle.cases.proofs.numbers.table_rows.Tie as tie
 
 returns : tie.Need-returns
-unfolding rows
+unfolding tableRows
 returns c = refl
 
 pub table-rows-spec : {M : Type 1} → statement M

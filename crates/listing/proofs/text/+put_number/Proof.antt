@@ -1,5 +1,5 @@
 use Rattle.listing.proofs.Numbers.{length-one, length-last, number-one, number-last}
-use Prim.Native.Nat.{ℕ, _+_, _<_}
+use Prim.Native.Nat.{ℕ, _<_}
 use native.Mathlib.Omega.{arith}
 use borrow.Author.Needs.{needs}
 use borrow.Fn.Kinds.{In}
