@@ -1,0 +1,24 @@
+//! Links the proved calls: libcapi.a in the folder that CITTERNBLAZE_LIB names,
+//! or else in target/staticlib of the repository, where `rt staticlib capi`
+//! writes it.
+
+use std::env;
+use std::path::{Path, PathBuf};
+
+fn main() {
+    let package = env::var("CARGO_MANIFEST_DIR").expect("cargo sets the package's folder");
+    let folder = match env::var_os("CITTERNBLAZE_LIB") {
+        Some(folder) => PathBuf::from(folder),
+        None => Path::new(&package).join("../target/staticlib"),
+    };
+    let library = folder.join("libcapi.a");
+    assert!(
+        library.is_file(),
+        "{} is missing: run `rt staticlib capi`",
+        library.display()
+    );
+    println!("cargo:rerun-if-env-changed=CITTERNBLAZE_LIB");
+    println!("cargo:rerun-if-changed={}", library.display());
+    println!("cargo:rustc-link-search=native={}", folder.display());
+    println!("cargo:rustc-link-lib=static=capi");
+}

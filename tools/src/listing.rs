@@ -1,0 +1,95 @@
+//! The listing that the program `meshlist` prints for a bundle, and the words for
+//! what it refuses.
+
+use std::fmt::Write;
+
+use crate::calls::{self, Grid, Refusal, NO_NUMBER, REFUSED_MESH_AREA, TRIANGLE_WORDS};
+use crate::progress::Progress;
+use crate::refusals;
+
+/// What a listing takes at most: bytes of a bundle, and triangles.
+#[derive(Clone, Copy)]
+pub struct Limits {
+    pub bytes: usize,
+    pub triangles: usize,
+}
+
+/// The limits of `meshlist`.
+pub const MESHLIST: Limits = Limits {
+    bytes: 32_768,
+    triangles: 1_489,
+};
+
+pub const NO_LIMITS: Limits = Limits {
+    bytes: usize::MAX,
+    triangles: usize::MAX,
+};
+
+/// A refusal, and what it means in words.
+pub struct Refused {
+    pub refusal: Refusal,
+    pub words: String,
+}
+
+/// The listing of a bundle's bytes.
+pub fn listing(bytes: &[u8], limits: Limits) -> Result<String, Refused> {
+    if bytes.len() > limits.bytes {
+        return Err(too_long(bytes.len(), limits.bytes));
+    }
+    let of_bytes = |refusal| Refused {
+        refusal,
+        words: refusals::of_bytes(refusal, bytes),
+    };
+    let lists = calls::bundle_read(bytes).map_err(of_bytes)?;
+    let of_lists = |refusal| Refused {
+        refusal,
+        words: refusals::of_lists(refusal, &lists),
+    };
+    let grid = Grid::open(lists.clone()).map_err(of_lists)?;
+    let words = grid.mesh_within(limits.triangles);
+    let words = words.map_err(|refusal| match refusal.number {
+        REFUSED_MESH_AREA => too_large(refusal, limits.triangles),
+        _ => of_lists(refusal),
+    })?;
+    Ok(lines(&grid, &words))
+}
+
+fn too_long(bytes: usize, most: usize) -> Refused {
+    Refused {
+        refusal: Refusal {
+            number: 13,
+            place: most as u64,
+        },
+        words: format!("{bytes} bytes: a listing is of {most} at most, unless --any-size is given"),
+    }
+}
+
+fn too_large(refusal: Refusal, most: usize) -> Refused {
+    let triangles = refusal.place;
+    Refused {
+        refusal,
+        words: format!(
+            "{triangles} triangles: a listing has {most} at most, unless --any-size is given"
+        ),
+    }
+}
+
+fn lines(grid: &Grid, words: &[u32]) -> String {
+    let (cells, edges) = (grid.lists().cells.len() / 4, grid.lists().counts.len());
+    let (crossings, triangles) = (grid.crossings(), words.len() / TRIANGLE_WORDS);
+    let mut out =
+        format!("cells {cells} edges {edges} crossings {crossings} triangles {triangles}\n");
+    let mut progress = Progress::new("triangles listed:", triangles);
+    for triangle in words.chunks_exact(TRIANGLE_WORDS) {
+        out.push('T');
+        for &word in triangle {
+            match word {
+                NO_NUMBER => out.push_str(" -"),
+                _ => write!(out, " {word}").expect("a string takes any text"),
+            }
+        }
+        out.push('\n');
+        progress.step();
+    }
+    out
+}
