@@ -23,9 +23,10 @@
  * - A processor of the kind x86-64, with no extension beyond SSE2, and the
  *   System V calling convention, as Linux has it.
  * - Of C's functions memcpy and memset, at most.
- * - Stack: CITTERNBLAZE_STACK_BYTES suffice for any call. The seven calls on a
- *   grid take 264 to 483 KB, as measured, the bundle reader 148 KB,
- *   citternblaze_case 2 KB, each other call under 1 KB.
+ * - Stack: CITTERNBLAZE_STACK_BYTES suffice for any call. The chains call of a
+ *   flat grid takes 916 KB, as measured, its check 148 KB; the seven calls on a
+ *   grid take 264 to 483 KB, the bundle reader 148 KB, citternblaze_case 2 KB,
+ *   each other call under 1 KB.
  * - For citternblaze_places and citternblaze_nearest, 64-bit floating point as a C
  *   program finds it at its start: rounding to nearest, subnormal numbers on (no
  *   flush to zero), no exception trapped. The other calls do not compute with it.
@@ -42,7 +43,7 @@
 #define CITTERNBLAZE_ANSWER_WORDS 6
 
 /* The bytes of stack that suffice for any call. */
-#define CITTERNBLAZE_STACK_BYTES (640 * 1024)
+#define CITTERNBLAZE_STACK_BYTES (1024 * 1024)
 
 /* What an accepted grid has at most. */
 #define CITTERNBLAZE_MOST_CELLS 2048
@@ -51,11 +52,17 @@
 #define CITTERNBLAZE_HIGHEST_COUNT 4095
 #define CITTERNBLAZE_MOST_CROSSINGS 65535
 
+/* What an accepted flat grid has at most, besides: its nodes, counts and crossings
+ * have the limits of a grid. */
+#define CITTERNBLAZE_MOST_FLAT_TRIANGLES 2048
+#define CITTERNBLAZE_MOST_FLAT_EDGES 6144
+
 /* The first number of an answer that is a result, of every call but
- * citternblaze_face and citternblaze_record_body; any other is a refusal. */
+ * citternblaze_face, citternblaze_flat_face and citternblaze_record_body; any other
+ * is a refusal. */
 #define CITTERNBLAZE_DONE 0
 
-/* The first number of citternblaze_face's answer. */
+/* The first number of the answer of citternblaze_face and citternblaze_flat_face. */
 #define CITTERNBLAZE_JOINED 0
 #define CITTERNBLAZE_UNJOINED 1
 #define CITTERNBLAZE_NO_CROSSING 2
@@ -85,6 +92,10 @@
  * that is an inner side. */
 #define CITTERNBLAZE_MIDDLE 4294967295u
 #define CITTERNBLAZE_INNER 4294967295u
+
+/* The first word of a chain: it is open, or closed. */
+#define CITTERNBLAZE_OPEN 0
+#define CITTERNBLAZE_CLOSED 1
 
 /* The types of a loop: contractible; corner, at a node that is not the cell's
  * lowest; diagonal; corner, at the cell's lowest node. */
@@ -129,6 +140,7 @@
 #define CITTERNBLAZE_REFUSED_NO_EDGE 21      /* no such edge */
 #define CITTERNBLAZE_REFUSED_LOOK 22         /* a look for no edge */
 #define CITTERNBLAZE_REFUSED_POINTS 23       /* nearest: list or number */
+#define CITTERNBLAZE_REFUSED_CHAIN_AREA 24   /* area too short for the chains */
 
 #ifdef __cplusplus
 extern "C" {
@@ -319,6 +331,49 @@ size_t citternblaze_shading(const uint16_t *cells, size_t cells_len,
                             const uint32_t *starts, size_t starts_len,
                             uint8_t *area, size_t area_len,
                             uint64_t *answer, size_t answer_len);
+
+/* The face call for a triangle of a flat grid: as citternblaze_face, but where the
+ * sum of the counts is odd and none is above the other two, the largest alone is
+ * lessened by 1, the first of ab, ac, bc on a tie, so that one crossing of the
+ * triangle is left, on that edge. */
+size_t citternblaze_flat_face(uint16_t ab, uint16_t ac, uint16_t bc,
+                              uint32_t edge, uint32_t index,
+                              uint64_t *answer, size_t answer_len);
+
+/* The check of a flat grid: a sheet of triangles.
+ *
+ * Reads the triangles, three nodes each, strictly increasing; the edges, two nodes
+ * each; and a count for each edge.
+ *
+ * Answers 0 and the number of crossings, where the flat grid is accepted; or the
+ * number and the place of a refusal, 1 to 8, 10 or 18, with triangles for cells and
+ * edges for faces. Takes up to 192 KB of the stack. */
+size_t citternblaze_flat_check(const uint16_t *triangles, size_t triangles_len,
+                               const uint16_t *edges, size_t edges_len,
+                               const uint16_t *counts, size_t counts_len,
+                               uint64_t *answer, size_t answer_len);
+
+/* The chains call. Writes the chains of segments of a flat grid at the front of the
+ * area, one after the other, by their least crossings, and keeps the area beyond
+ * them.
+ *
+ * Reads the triangles, edges and counts, as citternblaze_flat_check does.
+ *
+ * The words of a chain: 1 where it is closed, or 0 where it is open; the number of
+ * its crossings; and these in turn. An open chain starts at its end with the lower
+ * number. A closed one starts at its least crossing, and leaves it into the
+ * triangle listed first. A crossing without a segment is in no chain.
+ *
+ * Answers 0 and the number of words; or the number and the place of a refusal: 1
+ * to 8, 10 and 18 as citternblaze_flat_check has them, or 24 and the number of
+ * words needed, where the area is too short; twice as many words as there are
+ * crossings suffice. A refusal keeps every word of the area. Takes up to 1,024 KB
+ * of the stack. */
+size_t citternblaze_flat_chains(const uint16_t *triangles, size_t triangles_len,
+                                const uint16_t *edges, size_t edges_len,
+                                const uint16_t *counts, size_t counts_len,
+                                uint32_t *area, size_t area_len,
+                                uint64_t *answer, size_t answer_len);
 
 /* The record reader's first call. What stands at a start of a bundle's bytes.
  *

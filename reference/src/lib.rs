@@ -22,6 +22,10 @@ pub mod nearest;
 
 pub mod shading;
 
+pub mod flat;
+
+pub mod sheets;
+
 pub mod listing;
 
 pub mod gen;

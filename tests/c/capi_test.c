@@ -400,6 +400,54 @@ static void test_shading(void) {
   shade("shading, answer area of 5", at_3, bytes, SHORT);
 }
 
+/* A sheet: triangles 0 1 2, 0 1 3, 0 2 3 round node 0, with edges 01 02 03 12 13
+ * 23, of which 12 has one crossing and those from node 0 have two each. */
+static const uint16_t triangles[] = {0, 1, 2, 0, 1, 3, 0, 2, 3};
+static const uint16_t flat_edges[] = {0, 1, 0, 2, 0, 3, 1, 2, 1, 3, 2, 3};
+static const uint16_t flat_counts[] = {2, 2, 2, 1, 0, 0};
+
+/* Its chains, and the whole area of twelve words. */
+static void trace(const char *call, size_t area_len, size_t answer_len) {
+  uint32_t area[12];
+  memset(area, 0xa5, sizeof area);
+  show(call, citternblaze_flat_chains(triangles, 9, flat_edges, 12, flat_counts, 6,
+                                      area, area_len, answer, answer_len));
+  printf("  area");
+  for (size_t i = 0; i < 12; i++) {
+    if (area[i] == 0xa5a5a5a5)
+      printf(" -");
+    else
+      printf(" %" PRIu32, area[i]);
+  }
+  printf("\n");
+}
+
+static void flat_face(const char *call, uint32_t edge, uint32_t index,
+                      size_t answer_len) {
+  show(call, citternblaze_flat_face(2, 2, 1, edge, index, answer, answer_len));
+}
+
+static void test_flat(void) {
+  flat_face("flat face, joined", 1, 1, ROOM);
+  flat_face("flat face, unjoined", 0, 1, ROOM);
+  flat_face("flat face, no crossing", 2, 1, ROOM);
+  flat_face("flat face, answer area of 6", 1, 1, ENOUGH);
+  flat_face("flat face, answer area of 5", 1, 1, SHORT);
+  show("flat check", citternblaze_flat_check(triangles, 9, flat_edges, 12,
+                                             flat_counts, 6, answer, ROOM));
+  show("flat check, answer area of 5",
+       citternblaze_flat_check(triangles, 9, flat_edges, 12, flat_counts, 6, answer,
+                               SHORT));
+  show("flat check, no edges",
+       citternblaze_flat_check(triangles, 9, flat_edges, 0, flat_counts, 0, answer,
+                               ROOM));
+  trace("chains, area of 12", 12, ROOM);
+  trace("chains, area of 11", 11, ROOM);
+  trace("chains, area of 10", 10, ROOM);
+  trace("chains, answer area of 6", 12, ENOUGH);
+  trace("chains, answer area of 5", 12, SHORT);
+}
+
 /* A cell, an edge of kind 2, one of kind 4 and an end. */
 static const uint8_t bundle[] = {
     10, 0, 1, 0, 0, 0, 1, 0, 2, 0, 3, 1, /* nodes 0 1 2 259 */
@@ -717,6 +765,9 @@ static void test_other_refusals(void) {
   REFUSAL(NO_SHADING, citternblaze_shading(cells, 4, six, 12, odd, 6,
                                            sums(odd, 6), 6, sides, sizeof sides,
                                            answer, ROOM));
+  REFUSAL(CHAIN_AREA,
+          citternblaze_flat_chains(triangles, 9, flat_edges, 12, flat_counts, 6,
+                                   words, 4, answer, ROOM));
   REFUSAL(POINTS, citternblaze_nearest(nodes, 11, 0, 0, 0, answer, ROOM));
   REFUSAL(POINTS, citternblaze_nearest(nodes, 12, 0, 0, 2e6, answer, ROOM));
 }
@@ -756,6 +807,14 @@ static void test_null(void) {
   show("shading, no area", citternblaze_shading(cells, 8, edges, 18, counts, 9,
                                                 sums(counts, 9), 9, NULL, 0,
                                                 answer, ROOM));
+  show("flat face, no answer area", citternblaze_flat_face(2, 2, 1, 0, 0, NULL, 0));
+  show("flat check of nothing",
+       citternblaze_flat_check(NULL, 0, NULL, 0, NULL, 0, answer, ROOM));
+  show("chains of nothing", citternblaze_flat_chains(NULL, 0, NULL, 0, NULL, 0, NULL,
+                                                     0, answer, ROOM));
+  show("chains, no area",
+       citternblaze_flat_chains(triangles, 9, flat_edges, 12, flat_counts, 6, NULL,
+                                0, answer, ROOM));
   show("record of nothing", citternblaze_record(NULL, 0, 0, answer, ROOM));
   show("body of nothing", citternblaze_record_body(NULL, 0, 0, answer, ROOM));
   show("read nothing", citternblaze_bundle_read(NULL, 0, NULL, 0, NULL, 0, NULL,
@@ -790,6 +849,10 @@ static void test_null(void) {
   show("shading, no answer area",
        citternblaze_shading(NULL, 0, NULL, 0, NULL, 0, NULL, 0, NULL, 0, NULL,
                             0));
+  show("flat check, no answer area",
+       citternblaze_flat_check(NULL, 0, NULL, 0, NULL, 0, NULL, 0));
+  show("chains, no answer area",
+       citternblaze_flat_chains(NULL, 0, NULL, 0, NULL, 0, NULL, 0, NULL, 0));
   show("record, no answer area", citternblaze_record(NULL, 0, 0, NULL, 0));
   show("body, no answer area", citternblaze_record_body(NULL, 0, 0, NULL, 0));
   show("read, no answer area",
@@ -812,6 +875,7 @@ int main(void) {
   test_loops();
   test_places();
   test_shading();
+  test_flat();
   test_record();
   test_bundle_read();
   test_bundle_write();

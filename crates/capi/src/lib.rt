@@ -10,6 +10,10 @@ ghost use Rattle.bundle.specs.Bundle.{isTaken, readAnswer, nodesOf, endsOf, cou
 ghost use Rattle.bundle.specs.Written.{bundleBytes, isWritten, writeAnswer};
 ghost use Rattle.face.specs.Face.{joinedBy, unjoinedBy, faceAnswer};
 ghost use Rattle.face.specs.Join.{howNumbers, whyNumber};
+ghost use Rattle.flat.specs.FlatGrid.{flatOf};
+ghost use Rattle.flat.specs.Join.{triangleAnswer};
+ghost use Rattle.flat.specs.Rows.{flatAnswer};
+ghost use Rattle.flat.specs.Answer.{chainsAnswer, chainsArea};
 ghost use Rattle.grid.specs.Grid.{gridOf};
 ghost use Rattle.grid.specs.Rows.{gridAnswer};
 ghost use Rattle.grid.specs.Opening.{openAnswer, openStarts};
@@ -37,6 +41,7 @@ use cell::LoopType;
 use face::How;
 use face::Join;
 use face::Why;
+use flat::Traced;
 use grid::Checked;
 use mesh::Looped;
 use mesh::Meshed;
@@ -328,6 +333,62 @@ pub extern "C" fn citternblaze_shading(
     match shading::shade(cells, edges, counts, starts, area) {
         Shaded::Written => put(answer, &[0]),
         Shaded::Refused(row, place) => put(answer, &[row as u64, place as u64]),
+    }
+}
+
+// The face call for a triangle of a flat grid: its answers are those of the face call.
+#[no_mangle]
+pub extern "C" fn citternblaze_flat_face(
+    ab: u16,
+    ac: u16,
+    bc: u16,
+    edge: u32,
+    index: u32,
+    answer: &mut [u64],
+) -> usize
+    ensures { λ r. ⌜ Answers (triangleAnswer ab ac bc edge index) (now (answer .entry)) (now (answer .exit)) r ⌝ }
+{
+    match flat::flat_join(ab, ac, bc, edge, index) {
+        Join::Joined(e, i, how) => put_joined(answer, e, i, how),
+        Join::Unjoined(why) => put_unjoined(answer, why),
+        Join::NoCrossing => put(answer, &[2]),
+    }
+}
+
+// The check of a flat grid: 0 and the number of crossings, or the number and the place of a refusal.
+#[no_mangle]
+pub extern "C" fn citternblaze_flat_check(
+    triangles: &[u16],
+    edges: &[u16],
+    counts: &[u16],
+    answer: &mut [u64],
+) -> usize
+    ensures { λ r. ⌜ Answers (flatAnswer (flatOf (now (triangles .entry)) (now (edges .entry)) (now (counts .entry)))) (now (answer .entry)) (now (answer .exit)) r ⌝ }
+{
+    match flat::check(triangles, edges, counts) {
+        Checked::Crossings(n) => put(answer, &[0, n as u64]),
+        Checked::Refused(row, place) => put(answer, &[row as u64, place as u64]),
+    }
+}
+
+// The chains call: 0 and the number of words, or the number and the place of a refusal, which leaves the area as it is.
+#[no_mangle]
+pub extern "C" fn citternblaze_flat_chains(
+    triangles: &[u16],
+    edges: &[u16],
+    counts: &[u16],
+    area: &mut [u32],
+    answer: &mut [u64],
+) -> usize
+    ensures answer { λ r. ⌜ Answers (chainsAnswer (flatOf (now (triangles .entry)) (now (edges .entry)) (now (counts .entry))) (length (now (area .entry)))) (now (answer .entry)) (now (answer .exit)) r ⌝ }
+    ensures area { λ r. ⌜ now (area .exit) ≡ ifRoom (now (answer .entry)) (chainsArea (flatOf (now (triangles .entry)) (now (edges .entry)) (now (counts .entry))) (now (area .entry))) (now (area .entry)) ⌝ }
+{
+    if answer.len() < ANSWER_WORDS {
+        return ANSWER_WORDS;
+    }
+    match flat::chains(triangles, edges, counts, area) {
+        Traced::Words(n) => put(answer, &[0, n as u64]),
+        Traced::Refused(row, place) => put(answer, &[row as u64, place as u64]),
     }
 }
 

@@ -31,7 +31,7 @@ module _ (ab ac bc : ℕ) where
   without e t = refl
 
   -- the k-th from a corner
-  corner-answer : {w e : ℕ} (k : ℕ) → End w e → k < cornerCountAt ab ac bc w e → faceAnswer ab ac bc e (kth ab ac bc w e k) ≡ partner ab ac bc w e k
+  pub corner-answer : {w e : ℕ} (k : ℕ) → End w e → k < cornerCountAt ab ac bc w e → faceAnswer ab ac bc e (kth ab ac bc w e k) ≡ partner ab ac bc w e k
   corner-answer {e = e} k (low d) h = rw (kth-lower ab ac bc e k) (answer-low (corners-of ab ac bc d) k h)
   corner-answer {e = e} k (high d) h =
       let f = corner-fits ab ac bc (upper e) e in

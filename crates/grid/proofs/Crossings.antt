@@ -17,7 +17,7 @@ use Rattle.counting.specs.Range.{total}
 use Rattle.counting.proofs.Pack.{pre-changed, pre-kept, pre-le, pre-next}
 use Rattle.grid.specs.Grid.{countOf, crossings, mostCrossings, start}
 use Rattle.grid.specs.Rows.{tooMany}
-use Rattle.grid.specs.Work.{capped}
+use Rattle.grid.specs.Shared.{capped}
 
 module _ (counts : List ℕ) where
   pub start-zero : start counts 0 ≡ 0

@@ -8,6 +8,7 @@ pub mod Crossings
 pub mod Starts
 pub mod Answers
 pub mod Claims
+pub mod Sorted
 pub mod Sound
 pub mod Linking
 pub mod Accepts

@@ -25,7 +25,8 @@ use Rattle.counting.proofs.Chains.{top-le}
 use Rattle.grid.proofs.Marks.{top-key}
 use Rattle.grid.proofs.Packed.{join-eqb, rises, same-true}
 use Rattle.grid.proofs.Sides.{is-side, used-found}
-use Rattle.grid.proofs.Sound.{before-same, ends-before}
+use Rattle.grid.proofs.Sorted.{before-same}
+use Rattle.grid.proofs.Sound.{ends-before}
 
 module _ (cells : List ℕ) (good : RisingCells cells) (keys near : List ℕ) (tk : Table (sideKey cells) (6 * cellCount cells) keys) (N : Near cells near) where
   side-at : (c k : ℕ) → c < cellCount cells → k < 6 → getD keys (6 * c + k) 0 ≡ join (node cells c (lo k)) (node cells c (hi k))

@@ -1,18 +1,17 @@
 -- The rows 1 to 8, 18 and 10 have no fault exactly where the grid is sound; what follows for the numbers of edges.
-use Prim.Native.Nat.{ℕ, zero, suc, _%_, _*_, _+_, _-_, _/_, _<_, _≤_}
-use mathlib.Core.Path.{_∙_, _≡_, ap, refl, sym}
+use Prim.Native.Nat.{ℕ, _%_, _*_, _+_, _-_, _/_, _<_, _≤_}
+use mathlib.Core.Path.{_∙_, _≡_, ap, sym}
 use mathlib.Core.Logic.{_≢_, inl, inr, ⊎-elim}
-use mathlib.Core.Bool.{Bool, _&&_, false, not, true}
+use mathlib.Core.Bool.{Bool, false, not, true}
 use mathlib.Core.List.{List}
 use native.Mathlib.Decide.{decLt}
 use native.Mathlib.Omega.{arith}
 use lib.Dec.{eqb, leb, ltb}
 use lib.ListN.{length}
-use borrow.Author.Tests.{eq-eqb, eqb-true, le-ltb, lt-leb, lt-ltb, ltb-false, ltb-true, ne-eqb, not-false}
-use Rattle.counting.specs.Pick.{pick}
+use borrow.Author.Tests.{eq-eqb, eqb-true, le-ltb, lt-leb, ltb-false, ne-eqb, not-false}
 use Rattle.counting.specs.Search.{count, first, some}
-use Rattle.counting.proofs.Below.{climb, trichotomy}
-use Rattle.counting.proofs.Bools.{and-left, and-right, and-true, clash, not-clash, or-false, or-none}
+use Rattle.counting.proofs.Below.{trichotomy}
+use Rattle.counting.proofs.Bools.{and-left, and-right, and-true, clash, not-clash, or-false}
 use Rattle.counting.proofs.Pigeon.{pigeonhole}
 use Rattle.counting.proofs.Search.{count-two-of, every-is, first-is, is-every, none-some, some-first, some-found, some-is, some-none, two-counted}
 use Rattle.slots.specs.Limits.{mostCount}
@@ -20,8 +19,9 @@ use Rattle.slots.specs.Slots.{hi, lo}
 use Rattle.slots.proofs.Slots.{edge-order, two-slots}
 use Rattle.grid.specs.Accepted.{Before, EdgeIs, EdgeNumbers, Sound}
 use Rattle.grid.specs.Grid.{Grid, SameFace, cellCount, countOf, crossings, edgeNumber, hasEdge, hasFace, high, highestNode, isEdge, joins, low, mostCells, mostCrossings, node, sameFace}
-use Rattle.grid.specs.Rows.{isAfter, badCell, badCount, badEdge, badLength, badLists, repeats, sameCell, crowded, tooMany, unlisted, unused}
+use Rattle.grid.specs.Rows.{badCell, badCount, badEdge, badLength, badLists, repeats, sameCell, crowded, tooMany, unlisted, unused}
 use Rattle.grid.proofs.Answers.{length-fine}
+use Rattle.grid.proofs.Sorted.{before-not, before-same, clear-edge, edge-ends, same-edge, sorted-edges}
 use Rattle.grid.proofs.Packed.{cell-fine, nodes-rise, same-true, true-same}
 use Rattle.grid.proofs.Starts.{fine-lists, lists-fine}
 
@@ -32,44 +32,12 @@ flip cells a r b s h i l = sym (h i l)
 via : (cells : List ℕ) (a r b s c t : ℕ) → SameFace cells a r b s → SameFace cells b s c t → SameFace cells a r c t
 via cells a r b s c t h k i l = h i l ∙ k i l
 
--- earlier and later ends
-before-trans : (a b c d e f : ℕ) → Before a b c d → Before c d e f → Before a b e f
-before-trans a b c d e f (inl h) (inl k) = inl (omega arith)
-before-trans a b c d e f (inl h) (inr k) = inl (omega (arith, k .0))
-before-trans a b c d e f (inr h) (inl k) = inl (omega (arith, h .0))
-before-trans a b c d e f (inr h) (inr k) = inr (h .0 ∙ k .0, omega (arith, h .1, k .1))
-
-before-not : (a b c d : ℕ) → Before a b c d → Before c d a b → ⊥
-before-not a b c d (inl h) (inl k) = omega arith
-before-not a b c d (inl h) (inr k) = omega (arith, k .0)
-before-not a b c d (inr h) (inl k) = omega (arith, h .0)
-before-not a b c d (inr h) (inr k) = omega (arith, h .1, k .1)
-
-pub before-same : (a b c d : ℕ) → a ≡ c → b ≡ d → Before a b c d → ⊥
-before-same a b c d e f (inl h) = omega arith
-before-same a b c d e f (inr h) = omega (arith, h .1)
-
 -- the ends of two edges of a cell whose nodes rise
 pub ends-before : (f : ℕ → ℕ) → ((a b : ℕ) → a < b → b < 4 → f a < f b) → (k l : ℕ) → k < l → l < 6 → Before (f (lo k)) (f (hi k)) (f (lo l)) (f (hi l))
 ends-before f rises k l h ll =
     let t = two-slots l ll in
     ⊎-elim (λ (o : lo k < lo l). inl (rises (lo k) (lo l) o (omega (arith, t .rising, t .within))))
     (λ (o : (lo k ≡ lo l) × (hi k < hi l)). inr (ap f (o .0), rises (hi k) (hi l) (o .1) (t .within))) (edge-order k l h ll)
-
-module _ (edges : List ℕ) (d e : ℕ) where
-  after-before : isAfter edges d e ≡ true → Before (low edges d) (high edges d) (low edges e) (high edges e)
-  unfolding isAfter
-  after-before h = go (eqb (low edges d) (low edges e)) refl h
-    where
-      go : (b : Bool) → eqb (low edges d) (low edges e) ≡ b → pick b (ltb (high edges d) (high edges e)) (ltb (low edges d) (low edges e)) ≡ true
-          → Before (low edges d) (high edges d) (low edges e) (high edges e)
-      go true q k = inr (eqb-true (low edges d) (low edges e) q, ltb-true (high edges d) (high edges e) k)
-      go false q k = inl (ltb-true (low edges d) (low edges e) k)
-
-  before-after : Before (low edges d) (high edges d) (low edges e) (high edges e) → isAfter edges d e ≡ true
-  unfolding isAfter
-  before-after (inl h) = rw (ne-eqb (low edges d) (low edges e) (λ q. omega arith)) (lt-ltb (low edges d) (low edges e) h)
-  before-after (inr h) = rw (eq-eqb (low edges d) (low edges e) (h .0)) (lt-ltb (high edges d) (high edges e) (h .1))
 
 -- an edge of a cell, as a test and as equations
 module _ (G : Grid) (c k e : ℕ) where
@@ -137,24 +105,6 @@ module _ (G : Grid) (F : Faultless G) where
   distinct-cells c d lc ld same =
       trichotomy c d (λ l. absurd (earlier-cell c d l ld same)) (λ l. absurd (earlier-cell d c l lc (λ i k. sym (same i k)))) (λ e. e)
 
-  edge-ends : (e : ℕ) → e < length (G .counts) → low (G .edges) e < high (G .edges) e
-  unfolding badEdge
-  edge-ends e h =
-      ltb-true (low (G .edges) e) (high (G .edges) e) (not-false (ltb (low (G .edges) e) (high (G .edges) e))
-      (or-none (not (ltb (low (G .edges) e) (high (G .edges) e))) (ltb 0 e && not (isAfter (G .edges) (e - 1) e)) (F .row-6 e h) .0))
-
-  next-edge : (e : ℕ) → suc e < length (G .counts) → Before (low (G .edges) e) (high (G .edges) e) (low (G .edges) (suc e)) (high (G .edges) (suc e))
-  unfolding badEdge
-  next-edge e h =
-      let b = or-none (not (ltb (low (G .edges) (suc e)) (high (G .edges) (suc e)))) (ltb 0 (suc e) && not (isAfter (G .edges) (suc e - 1) (suc e))) (F .row-6 (suc e) h) .1 in
-      let z : suc e - 1 ≡ e = omega arith in
-      after-before (G .edges) e (suc e) (not-false (isAfter (G .edges) e (suc e)) (rw (lt-ltb 0 (suc e) (omega arith), z) at b))
-
-  sorted-edges : (d e : ℕ) → d < e → e < length (G .counts) → Before (low (G .edges) d) (high (G .edges) d) (low (G .edges) e) (high (G .edges) e)
-  sorted-edges =
-      climb (λ d e. Before (low (G .edges) d) (high (G .edges) d) (low (G .edges) e) (high (G .edges) e)) (length (G .counts))
-      (λ i j k a b. before-trans (low (G .edges) i) (high (G .edges) i) (low (G .edges) j) (high (G .edges) j) (low (G .edges) k) (high (G .edges) k) a b) next-edge
-
   pub sound : Sound G
   unfolding badCount unlisted unused hasEdge tooMany
   sound = record {
@@ -168,8 +118,8 @@ module _ (G : Grid) (F : Faultless G) where
     increasing = λ c i j h. nodes-rise (G .cells) c (cell-fine (G .cells) c (F .row-3 c h) .1) i j;
     distinct = distinct-cells;
     third = no-third (G .cells) (F .row-5);
-    ends = edge-ends;
-    sorted = sorted-edges;
+    ends = edge-ends (G .edges) (length (G .counts)) (F .row-6);
+    sorted = sorted-edges (G .edges) (length (G .counts)) (F .row-6);
     counts-within = λ e h. ltb-false mostCount (countOf (G .counts) e) (F .row-18 e h);
     listed = λ c k h l.
         let w = some-is (isEdge G c k) (length (G .counts)) (not-false _ (some-none (λ k. not (some (isEdge G c k) (length (G .counts)))) 6 (F .row-7 c h) k l)) in
@@ -182,11 +132,6 @@ module _ (G : Grid) (F : Faultless G) where
   }
 
 module _ (G : Grid) (S : Sound G) where
-  same-edge : (d e : ℕ) → d < length (G .counts) → e < length (G .counts) → low (G .edges) d ≡ low (G .edges) e → high (G .edges) d ≡ high (G .edges) e → d ≡ e
-  same-edge d e ld le p q = trichotomy d e
-      (λ l. absurd (before-same (low (G .edges) d) (high (G .edges) d) (low (G .edges) e) (high (G .edges) e) p q (S .sorted d e l le)))
-      (λ l. absurd (before-same (low (G .edges) e) (high (G .edges) e) (low (G .edges) d) (high (G .edges) d) (sym p) (sym q) (S .sorted e d l ld))) (λ e. e)
-
   number : ℕ → ℕ → ℕ
   number = edgeNumber G
 
@@ -204,7 +149,7 @@ module _ (G : Grid) (S : Sound G) where
   number-only : (c k e : ℕ) → c < cellCount (G .cells) → k < 6 → e < length (G .counts) → EdgeIs G c k e → number c k ≡ e
   number-only c k e h l le is =
       let n = number-is c k h l in
-      same-edge (number c k) e (number-lt c k h l) le (n .low-is ∙ sym (is .low-is)) (n .high-is ∙ sym (is .high-is))
+      same-edge (G .edges) (length (G .counts)) (S .sorted) (number c k) e (number-lt c k h l) le (n .low-is ∙ sym (is .low-is)) (n .high-is ∙ sym (is .high-is))
 
   edge-used : (e : ℕ) → e < length (G .counts) → (c : ℕ) × (k : ℕ) × (c < cellCount (G .cells)) × (k < 6) × (number c k ≡ e)
   edge-used e h = let (c, k, lc, lk, is) = S .used e h in (c, k, lc, lk, number-only c k e lc lk h is)
@@ -262,7 +207,7 @@ module _ (G : Grid) (S : Sound G) where
     listed = number-lt;
     is = number-is;
     only = number-only;
-    one-edge = same-edge;
+    one-edge = same-edge (G .edges) (length (G .counts)) (S .sorted);
     used = edge-used;
     few = edges-few;
     rising = number-rises;
@@ -282,16 +227,6 @@ module _ (G : Grid) (S : Sound G) where
           S .third c i j s (u .0) (v .0) h (omega arith) (omega arith) l (u .1) (v .1) (flip (G .cells) i (u .0) c s (same-true (G .cells) i (u .0) c s (u .2)))
           (flip (G .cells) j (v .0) c s (same-true (G .cells) j (v .0) c s (v .2))) (λ f. omega arith) (λ f. omega arith) (λ f. omega arith)
 
-  clear-edge : (e : ℕ) → e < length (G .counts) → badEdge (G .edges) e ≡ false
-  unfolding badEdge
-  clear-edge e h = or-false (not (ltb (low (G .edges) e) (high (G .edges) e))) (ltb 0 e && not (isAfter (G .edges) (e - 1) e)) (rw (lt-ltb (low (G .edges) e) (high (G .edges) e) (S .ends e h))) (later e h)
-    where
-      later : (e : ℕ) → e < length (G .counts) → ltb 0 e && not (isAfter (G .edges) (e - 1) e) ≡ false
-      later zero h = refl
-      later (suc d) h =
-          let z : suc d - 1 ≡ d = omega arith in
-          rw (z, before-after (G .edges) d (suc d) (S .sorted d (suc d) (omega arith) h), lt-ltb 0 (suc d) (omega arith))
-
   pub faultless : Faultless G
   unfolding badLength badCell repeats sameCell badCount unlisted unused hasEdge tooMany
   faultless = record {
@@ -303,7 +238,7 @@ module _ (G : Grid) (S : Sound G) where
     row-4 = λ c h. none-some (λ d. sameCell (G .cells) d c) c (λ d l. not-clash (sameCell (G .cells) d c) (λ e.
         (let f = S .distinct d c (omega arith) h (λ i k. eqb-true _ _ (every-is (λ i. eqb (node (G .cells) d i) (node (G .cells) c i)) 4 e i k)) in omega arith)));
     row-5 = clear-third;
-    row-6 = clear-edge;
+    row-6 = clear-edge (G .edges) (length (G .counts)) (S .ends) (S .sorted);
     row-18 = λ e h. le-ltb mostCount (countOf (G .counts) e) (S .counts-within e h);
     row-7 = λ c h. none-some (λ k. not (some (isEdge G c k) (length (G .counts)))) 6 (λ k l.
         (let (e, le, is) = S .listed c k h l in ap not (some-found (isEdge G c k) (length (G .counts)) e le (true-edge G c k e is))));

@@ -7,4 +7,5 @@ pub mod Opening
 pub mod Setting
 pub mod Accepted
 pub mod Claims
+pub mod Shared
 pub mod Work

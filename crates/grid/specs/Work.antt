@@ -1,5 +1,5 @@
 -- Only contracts of parts cite this file. What the check's own functions ask of each other: the meaning of their local tables.
-use Prim.Native.Nat.{ℕ, suc, _+_, _*_, _-_, _/_, _%_, _≤_, _<_}
+use Prim.Native.Nat.{ℕ, _+_, _*_, _-_, _/_, _%_, _≤_, _<_}
 use mathlib.Core.Path.{_≡_}
 use mathlib.Core.Logic.{_⊎_, _≢_}
 use mathlib.Core.Bool.{Bool, true, false, not, _&&_}
@@ -19,11 +19,11 @@ use Rattle.grid.specs.declared.Checked.the-variants.{Crossings, Refused}
 use Rattle.grid.specs.Grid.{Grid, highestNode, mostCells, mostCrossings, mostSlots, mostEdges, cellCount, node, faceNode, sameFace, low, high, isEdge, start, crossings, startsOf}
 use Rattle.grid.specs.Rows.{badLength, rows, unused}
 use Rattle.grid.specs.Setting.{changeAnswer}
+use Rattle.grid.specs.Shared.{foundOr}
+pub use Rattle.grid.specs.Shared.{join}
+unfoldable pub use Rattle.grid.specs.Shared.{edgeKey}
 
 -- KEYS: nodes packed into one number, so that equal keys are equal nodes
-
-abbrev pub join : ℕ → ℕ → ℕ
-join a b = a * 65536 + b
 
 unfoldable pub cellKey : List ℕ → ℕ → ℕ
 cellKey cells c = join (join (join (node cells c 0) (node cells c 1)) (node cells c 2)) (node cells c 3)
@@ -31,9 +31,6 @@ cellKey cells c = join (join (join (node cells c 0) (node cells c 1)) (node cell
 unfoldable pub faceKey : List ℕ → ℕ → ℕ
 faceKey cells j =
     join (join (faceNode cells (j / 4) (j % 4) 0) (faceNode cells (j / 4) (j % 4) 1)) (faceNode cells (j / 4) (j % 4) 2)
-
-unfoldable pub edgeKey : List ℕ → ℕ → ℕ
-edgeKey edges e = join (low edges e) (high edges e)
 
 -- CELLS: what rows 1 and 3 leave of the cells
 
@@ -111,10 +108,18 @@ pub record Put (keys : List ℕ) (n key x : ℕ) (sides₀ sides : List ℕ) : T
   pub same : length sides ≡ length sides₀
   pub hit : (j : ℕ) → j < n → getD keys j 0 ≡ key → getD sides j 0 ≡ x
   pub miss : (j : ℕ) → getD keys j 0 ≢ key → getD sides j 0 ≡ getD sides₀ j 0
+  pub rest : (j : ℕ) → n ≤ j → getD sides j 0 ≡ getD sides₀ j 0
 
 -- one more than x where x is below m, else 0
 abbrev pub foundAt : ℕ → ℕ → ℕ
-foundAt m x = pick (ltb x m) (suc x) 0
+foundAt m x = foundOr m x 0
+
+-- what `place_edges` starts from
+pub record Placeable (edges : List ℕ) (m : ℕ) (keys head next : List ℕ) (n : ℕ) (sides : List ℕ) : Type 0 where
+  pub ends : 2 * m ≤ length edges
+  pub chained : Chained keys n next
+  pub headed : Headed keys n head
+  pub room : n ≤ length sides
 
 -- one more than the place in the list of edge j % 6 of cell j / 6; 0 where it is not listed
 unfoldable pub listedAt : Grid → ℕ → ℕ
@@ -230,10 +235,6 @@ pub record Linkable (G : Grid) (near keys head next : List ℕ) : Type 0 where
   pub used : (e : ℕ) → e < length (G .counts) → unused G e ≡ false
 
 -- THE WHOLE
-
--- the number of crossings, or 65,536 where it is more than 65,535
-unfoldable pub capped : List ℕ → ℕ
-capped counts = pick (ltb mostCrossings (crossings counts)) (mostCrossings + 1) (crossings counts)
 
 -- what the check starts from, and what it leaves in its two tables where it accepts
 pub record Blank (near sides : List ℕ) : Type 0 where

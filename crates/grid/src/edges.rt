@@ -1,6 +1,6 @@
 // Rows 2, 6, 18, 7 and 8: the edges.
 ghost use mathlib.Core.Path.{_≡_};
-ghost use Prim.Native.Nat.{_+_, _*_, _<_, _≤_};
+ghost use Prim.Native.Nat.{_+_, _*_, _/_, _<_, _≤_};
 ghost use lib.ListN.{length, getD, set, replicate};
 ghost use lib.Seq.{sets};
 ghost use Rattle.counting.specs.Range.{values};
@@ -8,7 +8,8 @@ ghost use Rattle.counting.specs.Search.{first, some};
 ghost use Rattle.counting.specs.Stored.{filled};
 ghost use Rattle.grid.specs.Grid.{built, mostEdges, cellCount};
 ghost use Rattle.grid.specs.Rows.{badNumbers, badStart, badLists, badEdge, badCount, unused};
-ghost use Rattle.grid.specs.Work.{Table, edgeKey, sideKey, Findable, Putting, Put, listedAt, blankIn};
+ghost use Rattle.grid.specs.Shared.{keyless, placedAt};
+ghost use Rattle.grid.specs.Work.{Table, edgeKey, sideKey, Findable, Putting, Put, Placeable, listedAt, blankIn};
 use crate::MOST_COUNT;
 use crate::cells::node_at;
 use crate::keys::latest;
@@ -97,11 +98,10 @@ fn bad_edge(edges: &[u16], e: usize) -> bool
 }
 
 // The lowest edge whose ends do not rise, or that is not after its predecessor; the number of edges where there is none.
-pub(crate) fn row_6(edges: &[u16], counts: &[u16]) -> usize
-    requires { ⌜ length (now edges) ≡ 2 * length (now counts) ⌝ }
-    ensures { λ r. ⌜ r ≡ first (badEdge (now (edges .entry))) (length (now (counts .entry))) ⌝ }
+pub fn edge_order(edges: &[u16]) -> usize
+    ensures { λ r. ⌜ r ≡ first (badEdge (now (edges .entry))) (length (now (edges .entry)) / 2) ⌝ }
 {
-    let n = counts.len();
+    let n = edges.len() / 2;
     let mut e = 0;
     while e < n {
         if bad_edge(edges, e) {
@@ -112,8 +112,15 @@ pub(crate) fn row_6(edges: &[u16], counts: &[u16]) -> usize
     n
 }
 
+pub(crate) fn row_6(edges: &[u16], counts: &[u16]) -> usize
+    requires { ⌜ length (now edges) ≡ 2 * length (now counts) ⌝ }
+    ensures { λ r. ⌜ r ≡ first (badEdge (now (edges .entry))) (length (now (counts .entry))) ⌝ }
+{
+    edge_order(edges)
+}
+
 // The lowest edge whose count is above 4,095; the number of edges where there is none.
-pub(crate) fn row_18(counts: &[u16]) -> usize
+pub fn row_18(counts: &[u16]) -> usize
     ensures { λ r. ⌜ r ≡ first (badCount (now (counts .entry))) (length (now (counts .entry))) ⌝ }
 {
     let n = counts.len();
@@ -195,6 +202,36 @@ fn put(
     }
 }
 
+// The lowest of the first m edges that has none of the first n keys; m where there is none. Each of these keys that an edge has gets one more than the
+// place of the lowest such edge; the other entries stay.
+pub(crate) fn place_edges(
+    edges: &[u16],
+    m: usize,
+    keys: &[usize],
+    head: &[u16],
+    next: &[u16],
+    n: usize,
+    sides: &mut [usize],
+) -> usize
+    requires { ⌜ Placeable (now edges) m (now keys) (now head) (now next) n (now sides) ⌝ }
+    ensures { λ r. ⌜ r ≡ first (keyless (now (edges .entry)) (now (keys .entry)) n) m ⌝ }
+    ensures { λ _. ⌜ now (sides .exit) ≡ filled (placedAt (now (edges .entry)) m (now (keys .entry)) (now (sides .entry))) n (now (sides .entry)) ⌝ }
+{
+    let mut lowest = m;
+    let mut e = m;
+    while 0 < e {
+        e -= 1;
+        let key = edge_key(edges, e);
+        let top = latest(keys, head, next, n, key);
+        if top == 0 {
+            lowest = e;
+            continue;
+        }
+        put(keys, next, n, key, top, e + 1, sides);
+    }
+    lowest
+}
+
 // The lowest listed edge that no cell has; the number of edges where there is none. For row 7, each edge of each cell gets
 // one more than its place in the list, and keeps 0 where it is not listed.
 pub(crate) fn row_8(
@@ -211,21 +248,15 @@ pub(crate) fn row_8(
     ensures { λ r. ⌜ r ≡ first (unused (built (now (cells .entry)) (now (edges .entry)) (now (counts .entry)))) (length (now (counts .entry))) ⌝ }
     ensures { λ _. ⌜ Table (listedAt (built (now (cells .entry)) (now (edges .entry)) (now (counts .entry)))) (6 * cellCount (now (cells .entry))) (now (sides .exit)) ⌝ }
 {
-    let n = 6 * (cells.len() / 4);
-    let m = counts.len();
-    let mut lowest = m;
-    let mut e = m;
-    while 0 < e {
-        e -= 1;
-        let key = edge_key(edges, e);
-        let top = latest(keys, head, next, n, key);
-        if top == 0 {
-            lowest = e;
-            continue;
-        }
-        put(keys, next, n, key, top, e + 1, sides);
-    }
-    lowest
+    place_edges(
+        edges,
+        counts.len(),
+        keys,
+        head,
+        next,
+        6 * (cells.len() / 4),
+        sides,
+    )
 }
 
 // The lowest cell with an entry of 0 among its six; the number of cells where there is none.

@@ -6,17 +6,24 @@ ghost use lib.ListN.{length};
 ghost use Rattle.grid.specs.Grid.{gridOf, cellCount, built};
 ghost use Rattle.grid.specs.Rows.{gridAnswer};
 ghost use Rattle.grid.specs.Check.{checkNumbers};
+ghost use Rattle.grid.specs.Shared.{capped};
 ghost use Rattle.grid.specs.Tables.{Laid};
 ghost use Rattle.grid.specs.Opening.{openAnswer, openStarts};
 ghost use Rattle.grid.specs.Setting.{setAnswer, setCounts, setStarts};
-ghost use Rattle.grid.specs.Work.{Table, listedAt, answerFrom, answerWith, Celling, Edging, Linkable, capped, Blank, Worked, WhereAccepted, Changeable, Changed};
+ghost use Rattle.grid.specs.Work.{Table, listedAt, answerFrom, answerWith, Celling, Edging, Linkable, Blank, Worked, WhereAccepted, Changeable, Changed};
 use keys::BUCKETS;
 
 mod cells;
 mod edges;
 mod keys;
 mod links;
+mod shared;
 mod tables;
+
+pub use edges::edge_order;
+pub use edges::row_18;
+pub use shared::earlier_places;
+pub use shared::edge_places;
 
 // The highest node, the greatest count of an edge, and the most cells and crossings that a grid may have.
 pub const HIGHEST_NODE: usize = 4095;
@@ -48,7 +55,7 @@ pub(crate) fn size(x: u16) -> u32
 }
 
 // The sum of the counts; 65,536 where it is more than 65,535.
-fn total(counts: &[u16]) -> u32
+pub fn total(counts: &[u16]) -> u32
     ensures { λ r. ⌜ r ≡ capped (now (counts .entry)) ⌝ }
 {
     let mut s: u32 = 0;

@@ -143,6 +143,40 @@ mod c {
             answer_len: usize,
         ) -> usize;
 
+        pub fn citternblaze_flat_face(
+            ab: u16,
+            ac: u16,
+            bc: u16,
+            edge: u32,
+            index: u32,
+            answer: *mut u64,
+            answer_len: usize,
+        ) -> usize;
+
+        pub fn citternblaze_flat_check(
+            triangles: *const u16,
+            triangles_len: usize,
+            edges: *const u16,
+            edges_len: usize,
+            counts: *const u16,
+            counts_len: usize,
+            answer: *mut u64,
+            answer_len: usize,
+        ) -> usize;
+
+        pub fn citternblaze_flat_chains(
+            triangles: *const u16,
+            triangles_len: usize,
+            edges: *const u16,
+            edges_len: usize,
+            counts: *const u16,
+            counts_len: usize,
+            area: *mut u32,
+            area_len: usize,
+            answer: *mut u64,
+            answer_len: usize,
+        ) -> usize;
+
         pub fn citternblaze_record(
             bytes: *const u8,
             bytes_len: usize,
@@ -368,6 +402,50 @@ pub fn shading(grid: Lists, area: &mut [u8], answer: &mut [u64]) -> usize {
             grid.counts.len(),
             grid.starts.as_ptr(),
             grid.starts.len(),
+            area.as_mut_ptr(),
+            area.len(),
+            answer.as_mut_ptr(),
+            answer.len(),
+        )
+    }
+}
+
+pub fn flat_face(counts: [u16; 3], edge: u32, index: u32, answer: &mut [u64]) -> usize {
+    let [ab, ac, bc] = counts;
+    let (area, len) = (answer.as_mut_ptr(), answer.len());
+    unsafe { c::citternblaze_flat_face(ab, ac, bc, edge, index, area, len) }
+}
+
+pub fn flat_check(triangles: &[u16], edges: &[u16], counts: &[u16], answer: &mut [u64]) -> usize {
+    unsafe {
+        c::citternblaze_flat_check(
+            triangles.as_ptr(),
+            triangles.len(),
+            edges.as_ptr(),
+            edges.len(),
+            counts.as_ptr(),
+            counts.len(),
+            answer.as_mut_ptr(),
+            answer.len(),
+        )
+    }
+}
+
+pub fn flat_chains(
+    triangles: &[u16],
+    edges: &[u16],
+    counts: &[u16],
+    area: &mut [u32],
+    answer: &mut [u64],
+) -> usize {
+    unsafe {
+        c::citternblaze_flat_chains(
+            triangles.as_ptr(),
+            triangles.len(),
+            edges.as_ptr(),
+            edges.len(),
+            counts.as_ptr(),
+            counts.len(),
             area.as_mut_ptr(),
             area.len(),
             answer.as_mut_ptr(),

@@ -5,12 +5,14 @@ use reference::bundle::{self, Sizes};
 use reference::cases;
 use reference::cell::{CellWalker, LoopType};
 use reference::face::{self, How, Join, Why};
+use reference::flat::{self, Tracer};
 use reference::gen::Sample;
 use reference::grid::{self, Lists};
 use reference::mesh::Mesher;
 use reference::nearest::{self, Nearest};
 use reference::places::{self, Place};
 use reference::shading;
+use reference::sheets::FlatSample;
 use reference::Refusal;
 
 use crate::placing::Placing;
@@ -26,7 +28,11 @@ fn numbers<T>(answer: Result<T, Refusal>, values: impl FnOnce(T) -> Vec<u64>) ->
 /// 0, the partner's edge and index, and 0 and the corner or 1 along the edge; 1
 /// unjoined, and 0 left or 1 skipped; 2 no such crossing.
 pub fn face(counts: [u16; 3], edge: u32, index: u32) -> Vec<u64> {
-    match face::join(counts.map(u32::from), edge, index) {
+    joined(face::join(counts.map(u32::from), edge, index))
+}
+
+fn joined(answer: Join) -> Vec<u64> {
+    match answer {
         Join::Joined { edge, index, how } => {
             let how = match how {
                 How::Round(corner) => vec![0, u64::from(corner)],
@@ -46,6 +52,25 @@ pub fn case(walker: &mut CellWalker, counts: [u16; 6]) -> Vec<u64> {
         Some(case) => vec![0, u64::from(case.loops), u64::from(case.triangles)],
         None => vec![0],
     }
+}
+
+/// The same for a triangle of a flat grid.
+pub fn flat_face(counts: [u16; 3], edge: u32, index: u32) -> Vec<u64> {
+    joined(flat::join(counts.map(u32::from), edge, index))
+}
+
+/// 0 and the number of crossings, or a refusal.
+pub fn flat_check(sample: &FlatSample) -> Vec<u64> {
+    numbers(flat::check(&sample.sheet()), |crossings| {
+        vec![u64::from(crossings)]
+    })
+}
+
+/// 0 and the number of words, or a refusal; fills the area.
+pub fn flat_chains(tracer: &mut Tracer, sample: &FlatSample, area: &mut [u32]) -> Vec<u64> {
+    numbers(tracer.chains(&sample.sheet(), area), |words| {
+        vec![u64::from(words)]
+    })
 }
 
 /// 0, the corner triangles, the two numbers left and the triangles; 0 alone for

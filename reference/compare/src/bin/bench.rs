@@ -1,5 +1,5 @@
-//! Times the proved mesh call, grid check, shading call, nearest call, bundle reader
-//! and booking and the second implementation's in one run. All work on the same
+//! Times the proved mesh call, grid check, shading call, nearest call, bundle reader,
+//! booking and chains call and the second implementation's in one run. All work on the same
 //! input in turn; the order of a round alternates.
 
 use std::env;
@@ -14,12 +14,14 @@ use reference::booking::book;
 use reference::bundle;
 use reference::cases::{case, counts_of};
 use reference::cell::{CellWalker, TRIANGLE_WORDS};
+use reference::flat::{self, Tracer};
 use reference::gen::{box_of_six, closed_fan, cone, row_of, separate, Rng, Sample};
 use reference::grid::{self, GridTables, MAX_CELLS};
 use reference::mesh::{self, Mesher};
 use reference::nearest;
 use reference::places::{Place, FURTHEST};
 use reference::shading::{self, Shader};
+use reference::sheets::{band, disc, squares, strip, FlatSample};
 
 /// How long the calls on one grid are repeated: so many milliseconds, or those
 /// of the first argument. A second argument is the front of the names of the
@@ -275,6 +277,38 @@ fn told_times(told: &Told, cells: &[[u16; 6]], patience: Duration) -> [Times; WA
     })
 }
 
+/// The words of a sheet's chains.
+fn words_needed(sample: &FlatSample) -> usize {
+    match flat::chains(&sample.sheet(), &mut []) {
+        Ok(words) => words as usize,
+        Err(refusal) => refusal.place as usize,
+    }
+}
+
+/// Times of a sheet's chains in an area of so many words. Each way has an area of its
+/// own.
+fn chains_times(sample: &FlatSample, room: usize, patience: Duration) -> [Times; WAYS] {
+    let FlatSample {
+        triangles,
+        edges,
+        counts,
+    } = sample;
+    let words = words_needed(sample) as u32;
+    let mut areas = [(); WAYS].map(|()| vec![1; room]);
+    let mut tracer = Tracer::default();
+    let mut answer = [1; ANSWER_WORDS];
+    let times = times(patience, |way| match way {
+        0 => {
+            calls::flat_chains(triangles, edges, counts, &mut areas[0], &mut answer);
+            assert_eq!(answer[..2], [0, u64::from(words)]);
+        }
+        1 => assert_eq!(tracer.chains(&sample.sheet(), &mut areas[1]), Ok(words)),
+        _ => assert_eq!(flat::chains(&sample.sheet(), &mut areas[2]), Ok(words)),
+    });
+    assert!(areas[0] == areas[1] && areas[1] == areas[2]);
+    times
+}
+
 fn size(grid: &Sample) -> String {
     let crossings: u32 = grid.counts.iter().map(|&count| u32::from(count)).sum();
     let cells = grid.cells.len() / 4;
@@ -379,6 +413,24 @@ impl Bench {
     fn told(&self, told: &Told, name: &str, cells: &[[u16; 6]]) {
         let many = format!("{} cells", cells.len());
         self.short(name, &many, |patience| told_times(told, cells, patience));
+    }
+
+    /// The chains call in an area with room for any chains of so many crossings, and
+    /// for these chains alone.
+    fn chains(&self, name: &str, sample: &FlatSample) {
+        let crossings: u32 = sample.counts.iter().map(|&count| u32::from(count)).sum();
+        let triangles = sample.triangles.len() / 3;
+        let size = format!("{triangles} triangles, {crossings} crossings");
+        let rooms = [
+            ("any chains", 2 * crossings as usize),
+            ("these chains", words_needed(sample)),
+        ];
+        for (text, room) in rooms {
+            let name = format!("11 chains, {name}, room for {text}");
+            self.short(&name, &size, |patience| {
+                chains_times(sample, room, patience)
+            });
+        }
     }
 
     /// Times of calls with short answers.
@@ -575,6 +627,26 @@ fn shadings(bench: &Bench) {
     bench.shading("ring without a shading", &ring);
 }
 
+/// Sheets of as many triangles as there may be, and how time grows with the
+/// crossings.
+fn sheets(bench: &Bench) {
+    let mut rng = Rng::new(6);
+    for most in [1, 4, 16, 40] {
+        let sheet = squares(32, 32).with_counts(&mut rng, most);
+        bench.chains(&format!("squares, counts 0..{most}"), &sheet);
+    }
+    let rings = squares(32, 32).with_rings(&mut rng, 10);
+    bench.chains("squares, rings round nodes", &rings);
+    bench.chains("strip", &strip(2_048).with_counts(&mut rng, 16));
+    bench.chains("Möbius band", &band(2_047).with_even_counts(&mut rng, 6));
+    bench.chains("disc", &disc(2_048).with_rings(&mut rng, 8));
+    for most in [1, 16] {
+        let dealt = squares(32, 32).renumbered(&mut rng).reordered(&mut rng);
+        let sheet = dealt.with_counts(&mut rng, most);
+        bench.chains(&format!("squares dealt, counts 0..{most}"), &sheet);
+    }
+}
+
 fn main() {
     let millis = match env::args().nth(1) {
         Some(text) => text.parse().expect("milliseconds"),
@@ -604,4 +676,5 @@ fn main() {
     bookings(&bench);
     entries(&bench);
     settings(&bench);
+    sheets(&bench);
 }

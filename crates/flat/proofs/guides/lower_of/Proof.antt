@@ -1,0 +1,20 @@
+-- `flat::guides::lower_of` meets its contract.
+use borrow.Author.Tests.{eq-eqb, ne-eqb}
+use Rattle.face.specs.Face.{lower}
+use Rattle.flat.proofs.guides.lower_of.Statement.{statement}
+use Rattle.flat.proofs.guides.lower_of.Tie as tie
+
+returns : tie.Need-returns
+unfolding lower
+returns c = simp (eq-eqb _ _ (c .if1 .taken))
+
+returns-2 : tie.Need-returns-2
+unfolding lower
+returns-2 c = simp (ne-eqb _ _ (c .if1 .left))
+
+pub lower-of-spec : {M : Type 1} → statement M
+lower-of-spec =
+    tie.close
+    (tie.spec
+    returns
+    returns-2)

@@ -1,0 +1,20 @@
+-- `flat::guides::upper_of` meets its contract.
+use borrow.Author.Tests.{eq-eqb, ne-eqb}
+use Rattle.face.specs.Face.{upper}
+use Rattle.flat.proofs.guides.upper_of.Statement.{statement}
+use Rattle.flat.proofs.guides.upper_of.Tie as tie
+
+returns : tie.Need-returns
+unfolding upper
+returns c = simp (eq-eqb _ _ (c .if1 .taken))
+
+returns-2 : tie.Need-returns-2
+unfolding upper
+returns-2 c = simp (ne-eqb _ _ (c .if1 .left))
+
+pub upper-of-spec : {M : Type 1} → statement M
+upper-of-spec =
+    tie.close
+    (tie.spec
+    returns
+    returns-2)

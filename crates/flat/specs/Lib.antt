@@ -1,0 +1,15 @@
+pub mod FlatGrid
+pub mod Rows
+pub mod Accepted
+pub mod Join
+pub mod JoinClaims
+pub mod Chain
+pub mod ChainClaims
+pub mod Chains
+pub mod GridClaims
+pub mod Answer
+pub mod Numbers
+pub mod Done
+pub mod Claims
+pub mod Work
+pub mod Examples
