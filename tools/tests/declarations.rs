@@ -1,5 +1,6 @@
-//! The declarations of src/calls.rs against include/citternblaze.h: each function
-//! that is declared has the header's parameters, by name and type, and its result.
+//! The declarations of include/citternblaze.rs against include/citternblaze.h: the
+//! same functions, each with the header's parameters, by name and type, and its
+//! result.
 
 use std::collections::BTreeMap;
 use std::fs;
@@ -58,13 +59,13 @@ fn of_header(header: &str) -> BTreeMap<String, Signature> {
     found
 }
 
-/// The functions that the extern block of the program declares.
-fn of_program(source: &str) -> BTreeMap<String, Signature> {
+/// The functions that an extern block declares.
+fn of_block(source: &str) -> BTreeMap<String, Signature> {
     let block = source
         .split("extern \"C\" {")
         .nth(1)
         .expect("an extern block");
-    let block = block.split("\n    }\n").next().expect("its end");
+    let block = block.split("\n}\n").next().expect("its end");
     let one_line = block.split_whitespace().collect::<Vec<_>>().join(" ");
     let mut found = BTreeMap::new();
     for declared in one_line.split(';').filter(|text| !text.trim().is_empty()) {
@@ -85,11 +86,9 @@ fn of_program(source: &str) -> BTreeMap<String, Signature> {
 #[test]
 fn as_in_the_header() {
     let header = of_header(&read("../include/citternblaze.h"));
-    let program = of_program(&read("src/calls.rs"));
-    assert!(program.len() >= 9, "the extern block was read: {program:?}");
-    for (name, signature) in &program {
-        assert_eq!(Some(signature), header.get(name), "{name}");
-    }
+    let declared = of_block(&read("../include/citternblaze.rs"));
+    assert!(header.len() >= 17, "the header was read: {header:?}");
+    assert_eq!(declared, header);
 }
 
 /// A constant of the header.
