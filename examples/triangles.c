@@ -1,6 +1,7 @@
 /* From a bundle file to triangles in space: reads the bundle, opens and meshes its
- * grid, places the crossings and the middles of fans, and prints each triangle with
- * the places of its corners. README.md has the line that builds it.
+ * grid, places the crossings, the inner crossings of split cells and the middles of
+ * fans, and prints each triangle with the places of its corners. README.md has the
+ * line that builds it.
  *
  * A bundle says which nodes and edges there are and how many crossings each edge
  * has, not where they lie: a probe knows that from its scan. This program makes
@@ -17,6 +18,8 @@ static uint16_t cells[4 * CITTERNBLAZE_MOST_CELLS];
 static uint16_t edges[2 * CITTERNBLAZE_MOST_EDGES];
 static uint16_t counts[CITTERNBLAZE_MOST_EDGES];
 static uint32_t starts[CITTERNBLAZE_MOST_EDGES];
+/* The point of each cell's first inner crossing, and the first middle's. */
+static size_t inner[CITTERNBLAZE_MOST_CELLS + 1];
 static double nodes[3 * NODES];
 static double fractions[CITTERNBLAZE_MOST_CROSSINGS];
 
@@ -120,15 +123,47 @@ static void even_fractions(void) {
       fractions[starts[edge] + index] = (index + 1) / (counts[edge] + 1.0);
 }
 
-/* Prints each triangle. The middles stand behind the crossings, one for each fan
- * in mesh order; the triangles of a fan stand together, and share cell and p0. */
-static void print(const uint32_t *words, size_t triangles, const double *points,
-                  size_t crossings) {
+/* Fills in where the inner crossings of each cell stand among the points: behind
+ * the outer ones, by cell. A cell's triangles have each of them, so their highest
+ * number says how many there are. */
+static void place_inner(const uint32_t *words, size_t triangles,
+                        size_t crossings) {
+  for (size_t at = 0; at < triangles; at++) {
+    const uint32_t *of = words + CITTERNBLAZE_TRIANGLE_WORDS * at;
+    const uint32_t *corner = of + CITTERNBLAZE_TRIANGLE_CORNERS;
+    size_t *next =
+        &inner[of[CITTERNBLAZE_TRIANGLE_CELL] % CITTERNBLAZE_MOST_CELLS + 1];
+    for (int k = 0; k < 3; k++)
+      if (corner[k] != CITTERNBLAZE_MIDDLE &&
+          corner[k] >= CITTERNBLAZE_INNER_CROSSING + *next)
+        *next = corner[k] - CITTERNBLAZE_INNER_CROSSING + 1;
+  }
+  inner[0] = crossings;
+  for (size_t cell = 0; cell < CITTERNBLAZE_MOST_CELLS; cell++)
+    inner[cell + 1] += inner[cell];
+}
+
+/* The point of a corner, where so many fans have begun. The middles stand behind
+ * the inner crossings, one for each fan in mesh order. */
+static size_t point_of(uint32_t corner, size_t cell, size_t fans) {
+  if (corner == CITTERNBLAZE_MIDDLE)
+    return inner[CITTERNBLAZE_MOST_CELLS] + fans - 1;
+  if (corner >= CITTERNBLAZE_INNER_CROSSING)
+    return inner[cell] + (corner - CITTERNBLAZE_INNER_CROSSING);
+  return corner;
+}
+
+/* Prints each triangle. The triangles of a fan stand together, and share words 0
+ * and 1. */
+static void print(const uint32_t *words, size_t triangles,
+                  const double *points) {
   const uint32_t *fan = NULL;
   size_t fans = 0;
   for (size_t at = 0; at < triangles; at++) {
     const uint32_t *of = words + CITTERNBLAZE_TRIANGLE_WORDS * at;
     const uint32_t *corner = of + CITTERNBLAZE_TRIANGLE_CORNERS;
+    size_t cell = of[CITTERNBLAZE_TRIANGLE_CELL] % CITTERNBLAZE_MOST_CELLS;
+    size_t part = of[CITTERNBLAZE_TRIANGLE_CELL] / CITTERNBLAZE_MOST_CELLS;
     if (corner[2] == CITTERNBLAZE_MIDDLE &&
         (fan == NULL ||
          of[CITTERNBLAZE_TRIANGLE_CELL] != fan[CITTERNBLAZE_TRIANGLE_CELL] ||
@@ -136,12 +171,13 @@ static void print(const uint32_t *words, size_t triangles, const double *points,
       fan = of;
       fans++;
     }
-    printf("cell %lu:", (unsigned long)of[CITTERNBLAZE_TRIANGLE_CELL]);
+    printf("cell %lu", (unsigned long)cell);
+    if (part > 0)
+      printf(" sub-cell %lu", (unsigned long)part);
+    printf(":");
     for (int k = 0; k < 3; k++) {
-      size_t point =
-          corner[k] == CITTERNBLAZE_MIDDLE ? crossings + fans - 1 : corner[k];
-      printf(" (%g %g %g)", points[3 * point], points[3 * point + 1],
-             points[3 * point + 2]);
+      const double *point = points + 3 * point_of(corner[k], cell, fans);
+      printf(" (%g %g %g)", point[0], point[1], point[2]);
     }
     printf("\n");
   }
@@ -160,7 +196,8 @@ int main(int argc, char **argv) {
   triangles = mesh(&words);
   node_places();
   even_fractions();
-  /* a fan has two triangles or more, so there are no more fans than triangles */
+  /* a fan has two triangles or more, and a cell more triangles than fans and inner
+   * crossings */
   length = 3 * (crossings + triangles);
   points = (double *)room(length * sizeof *points);
   citternblaze_places(cells, cells_len, edges, edges_len, counts, counts_len,
@@ -168,9 +205,13 @@ int main(int argc, char **argv) {
                       crossings, points, length, answer,
                       CITTERNBLAZE_ANSWER_WORDS);
   expect_done("places");
-  printf("crossings %lu middles %lu triangles %lu\n", (unsigned long)crossings,
-         (unsigned long)(answer[1] - crossings), (unsigned long)triangles);
-  print(words, triangles, points, crossings);
+  place_inner(words, triangles, crossings);
+  printf("crossings %lu inner %lu middles %lu triangles %lu\n",
+         (unsigned long)crossings,
+         (unsigned long)(inner[CITTERNBLAZE_MOST_CELLS] - crossings),
+         (unsigned long)(answer[1] - inner[CITTERNBLAZE_MOST_CELLS]),
+         (unsigned long)triangles);
+  print(words, triangles, points);
   free(points);
   free(words);
   return 0;

@@ -23,10 +23,13 @@
  * - A processor of the kind x86-64, with no extension beyond SSE2, and the
  *   System V calling convention, as Linux has it.
  * - Of C's functions memcpy and memset, at most.
- * - Stack: CITTERNBLAZE_STACK_BYTES suffice for any call. The chains call of a
- *   flat grid takes 916 KB, as measured, its check 148 KB; the seven calls on a
- *   grid take 264 to 483 KB, the bundle reader 148 KB, citternblaze_case 2 KB,
- *   each other call under 1 KB.
+ * - Stack: CITTERNBLAZE_STACK_BYTES suffice for any call. As measured, the seven
+ *   calls on a grid take 264 to 483 KB where no split is inside another; with the
+ *   2,045 splits of d1 4092 and d2 2, one inside the other, the mesh call takes
+ *   1,252 KB and the places call 2,160 KB. The chains call of a flat grid takes
+ *   916 KB, its check 148 KB, the bundle reader 148 KB, citternblaze_case 2 KB,
+ *   each other call under 1 KB. What a call's text below says it takes is tested
+ *   on a thread with exactly that stack.
  * - For citternblaze_places and citternblaze_nearest, 64-bit floating point as a C
  *   program finds it at its start: rounding to nearest, subnormal numbers on (no
  *   flush to zero), no exception trapped. The other calls do not compute with it.
@@ -43,7 +46,7 @@
 #define CITTERNBLAZE_ANSWER_WORDS 6
 
 /* The bytes of stack that suffice for any call. */
-#define CITTERNBLAZE_STACK_BYTES (1024 * 1024)
+#define CITTERNBLAZE_STACK_BYTES (2560 * 1024)
 
 /* What an accepted grid has at most. */
 #define CITTERNBLAZE_MOST_CELLS 2048
@@ -96,6 +99,11 @@
 /* The first word of a chain: it is open, or closed. */
 #define CITTERNBLAZE_OPEN 0
 #define CITTERNBLAZE_CLOSED 1
+
+/* The first number of a split cell's inner crossings, and the first name of its
+ * inner faces. */
+#define CITTERNBLAZE_INNER_CROSSING 65536u
+#define CITTERNBLAZE_INNER_FACE 8192u
 
 /* The types of a loop: contractible; corner, at a node that is not the cell's
  * lowest; diagonal; corner, at the cell's lowest node. */
@@ -181,10 +189,12 @@ size_t citternblaze_case(uint16_t e01, uint16_t e02, uint16_t e03,
  *
  * Answers 0; t, the corner triangles: at each node the least of its three corner
  * counts; d1 and d2, the two smaller of the counts left at the lowest node, the
- * larger first; and the triangles of the cell, t and 2 d1 where d2 is 0, else t
- * and 4 (d1 + d2). Or 0 alone, "walk it", where a face has an odd sum or a count
- * above the other two: such a cell's loops have to be walked, as citternblaze_mesh
- * does. */
+ * larger first; and the triangles of the cell. These are t and 2 d1 where d2 is 0;
+ * where d1 > d2 > 0 and both have a common divisor above 1, t and the triangles of
+ * the parts into which citternblaze_mesh splits the cell, which pass 32 bits for
+ * large counts; else t and 4 (d1 + d2). Or 0 alone, "walk it", where a face has an
+ * odd sum or a count above the other two: such a cell's loops have to be walked, as
+ * citternblaze_mesh does. */
 size_t citternblaze_book(uint16_t e01, uint16_t e02, uint16_t e03,
                          uint16_t e12, uint16_t e13, uint16_t e23,
                          uint64_t *answer, size_t answer_len);
@@ -249,16 +259,25 @@ size_t citternblaze_set_count(const uint16_t *cells, size_t cells_len,
  * and the lower crossing of a segment, or 4294967295 and the number of an inner
  * side.
  *
- * Answers 0 and the number of triangles; or the number and the place of a
- * refusal: 1 to 10 and 18 as citternblaze_check has them, or 12 and the number of
- * triangles needed, where the area is too short. A refusal keeps every word of
- * the area. Takes up to 640 KB of the stack.
+ * A cell whose numbers d1 and d2 (citternblaze_book) are d1 > d2 > 0 and have a
+ * common divisor above 1 is split, and the triangles of its parts stand in place
+ * of those of its loops. The first word of a triangle is then the cell and
+ * CITTERNBLAZE_MOST_CELLS times the number of the part, 0 for a corner triangle of
+ * the cell itself. Crossings from 65536 on are inner ones of that cell, and faces
+ * from 8192 on inner faces: the same number in another cell is another crossing or
+ * face. docs/FORMAT.md says how they are numbered.
  *
- * A cell has no more triangles than crossings. Where the area has room for as
- * many triangles as the cells have crossings together, the loops of each cell are
- * walked once. Else the cells that are outside the table of citternblaze_case and
- * that citternblaze_book answers "walk it" for are walked twice, first to
- * count. */
+ * Answers 0, the number of triangles and the number of splits; or the number and
+ * the place of a refusal: 1 to 10 and 18 as citternblaze_check has them, or 12 and
+ * the number of triangles needed, where the area is too short. A refusal keeps
+ * every word of the area. Takes up to 1536 KB of the stack, and up to 640 KB where
+ * no split is inside another.
+ *
+ * A cell that is not split has no more triangles than crossings. Where the area has
+ * room for as many triangles as the cells have crossings together and those that
+ * splitting adds, no cell is walked to count. Else the cells that are outside the
+ * table of citternblaze_case and that citternblaze_book answers "walk it" for are
+ * walked twice, first to count. */
 size_t citternblaze_mesh(const uint16_t *cells, size_t cells_len,
                          const uint16_t *edges, size_t edges_len,
                          const uint16_t *counts, size_t counts_len,
@@ -288,13 +307,16 @@ size_t citternblaze_loops(const uint16_t *cells, size_t cells_len,
 
 /* The places call. Writes the places of a grid's points at the front of the area,
  * three numbers each, and keeps the area beyond them: first the crossings, by
- * number, then the middles of the loops that are drawn as fans, in mesh order: the
- * mean of a loop's points, but where loops of length 8 lie one inside the other,
- * each at a place of its own between the middles of two opposite edges.
+ * number; then the inner crossings of split cells, by cell and number; then the
+ * middles of the loops that are drawn as fans, in mesh order: the mean of a loop's
+ * points, but where loops of length 8 lie one inside the other, as in every part
+ * of a split cell that has fans, each at a place of its own between the middles of
+ * two opposite edges.
  *
  * Reads the grid, as citternblaze_check does; the places of the nodes, three
  * numbers for each node from 0 to the highest of a cell; and a fraction for each
  * crossing, which says how far from its edge's lower node to the higher it lies.
+ * Inner crossings have none.
  *
  * Answers 0 and the number of points; or the number and the place of a refusal:
  * 1 to 10 and 18 as citternblaze_check has them; 15 and 0 where the list of
@@ -302,7 +324,8 @@ size_t citternblaze_loops(const uint16_t *cells, size_t cells_len,
  * and the index of a number among the places of the cells' nodes that is not from
  * -1000000 to 1000000; 17 and a crossing whose fraction is not above 0 and below
  * 1, or not above the one before it on its edge. A refusal keeps every number of
- * the area. Takes up to 640 KB of the stack. */
+ * the area. Takes up to 2560 KB of the stack, and up to 640 KB where no split is
+ * inside another. */
 size_t citternblaze_places(const uint16_t *cells, size_t cells_len,
                            const uint16_t *edges, size_t edges_len,
                            const uint16_t *counts, size_t counts_len,

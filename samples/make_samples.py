@@ -78,6 +78,19 @@ def chain(first, number):
     return [tuple(range(k, k + 4)) for k in range(first, first + number)]
 
 
+def spirals(first, second, along, even, odd):
+    """A cell for each link of one chain of nodes with each of another: links are pairs of neighbours in the list, of which a circle repeats its
+    first node at its end. Links have the count `along`, edges from one chain to the other `even` or `odd` in turn."""
+    cells, counts = [], {}
+    for i, j in itertools.product(range(len(first) - 1), range(len(second) - 1)):
+        links = [first[i : i + 2], second[j : j + 2]]
+        cells.append(tuple(sorted(links[0] + links[1])))
+        counts.update({tuple(sorted(link)): along for link in links})
+        for a, b in itertools.product((i, i + 1), (j, j + 1)):
+            counts[tuple(sorted((first[a], second[b])))] = odd if (a + b) % 2 else even
+    return grid(cells, counts)
+
+
 def corners(*counts):
     """Separate cells; cell k has counts[k] triangles round its lowest node."""
     cells = separate(len(counts))
@@ -120,6 +133,16 @@ SAMPLES = {
     "triangles-1489": corners(255, 255, 255, 255, 255, 214),
     "bytes-32767": largest(1, 1, 1),
     "bytes-32768": largest(1, 256, 255),
+    # cells that are split: once, with corner triangles, twice and three times; two cells and a sphere of sixteen; one whose numbers have no
+    # common divisor, which is not split; and as many triangles as the program lists
+    "split-once": one_cell(4, 2, 6, 6, 2, 4),
+    "split-with-corners": one_cell(5, 5, 7, 8, 2, 6),
+    "split-twice": one_cell(6, 2, 8, 8, 2, 6),
+    "split-three-times": one_cell(4, 14, 10, 10, 14, 4),
+    "split-two-cells": spirals([1, 4], [3, 0, 2], 6, 4, 2),
+    "split-sphere": spirals([0, 5, 2, 7, 0], [4, 1, 6, 3, 4], 4, 6, 2),
+    "not-split": one_cell(3, 2, 5, 5, 2, 3),
+    "split-1489": one_cell(125, 95, 127, 34, 2, 32),
     # refusals of the grid and the mesh, by their rows
     "refused-1-no-cell": bundle([], []),
     "refused-1-2049-cells": bundle(separate(1023) * 2 + [(0, 1, 2, 3)] * 3, []),
@@ -146,6 +169,8 @@ SAMPLES = {
     "refused-12-4094-triangles": one_cell(4095, 0, 0, 0, 0, 0),
     "refused-12-64260-crossings": grid(separate(42), other=255),
     "refused-12-1490-triangles": corners(255, 255, 255, 255, 255, 215),
+    "refused-12-split-1490": one_cell(126, 96, 128, 34, 2, 32),
+    "refused-12-split-longest": one_cell(4092, 2, 4094, 4094, 2, 4092),
     # row 13 in each of its ways
     "refused-13-empty": b"",
     "refused-13-cut-in-length": GOOD[:-3],

@@ -6,7 +6,7 @@ cd "$(dirname "$0")/.."
 library=target/staticlib/libcapi.a
 
 mkdir -p target/c
-cc -std=c99 -Wall -Wextra -Wpedantic -Werror -O2 -Iinclude -o target/c/capi_test tests/c/capi_test.c "$library"
+cc -std=c99 -Wall -Wextra -Wpedantic -Werror -O2 -pthread -Iinclude -o target/c/capi_test tests/c/capi_test.c "$library"
 timeout 60 target/c/capi_test >target/c/capi_test.out
 diff tests/c/capi_test.out target/c/capi_test.out
 

@@ -35,7 +35,7 @@ done
 
 # texts: to a bundle with its places beside it, and back
 texts=(samples/texts/*.txt tools/target/tmp/random-*.txt)
-[ "${#texts[@]}" -ge 15 ] || fail "random grids are missing"
+[ "${#texts[@]}" -ge 20 ] || fail "random grids are missing"
 for text in "${texts[@]}"; do
   rm -f "$work"/*
   "$tool" unpack "$text" --output "$work/first"
@@ -64,7 +64,7 @@ for text in "${texts[@]}"; do
   [ "$(assimp_says "$work/mesh.obj" Faces)" = "$faces" ] || fail "assimp reads other faces from the OBJ of $text"
   meshes=$((meshes + 1))
 done
-[ "$meshes" -ge 8 ] || fail "$meshes meshes are too few"
+[ "$meshes" -ge 12 ] || fail "$meshes meshes are too few"
 
 # what list prints, check-mesh reads
 for text in "${texts[@]}"; do

@@ -1,8 +1,10 @@
 //! How many triangles a cell has, told from its six counts. The loops are
-//! walked here, so that a booking which does not walk can be held to them.
+//! walked here, so that a booking which does not walk can be held to them; only
+//! the triangles of a cell that is split are summed part by part.
 
 use crate::cell::{triangle_count, CellWalker, Closed, FACE_EDGES};
 use crate::face::corner_counts;
+use crate::split;
 
 /// Positions of a cell's nodes that each of its edges joins.
 pub const ENDS: [[usize; 2]; 6] = [[0, 1], [0, 2], [0, 3], [1, 2], [1, 3], [2, 3]];
@@ -14,7 +16,8 @@ pub struct Booking {
     pub corner_triangles: u32,
     /// The two smaller counts left at the lowest node, the larger first.
     pub left: [u32; 2],
-    pub triangles: u32,
+    /// Those of the mesh: of a split cell, of all its parts.
+    pub triangles: u64,
 }
 
 /// Whether no face has an odd sum or a count above the other two.
@@ -39,6 +42,33 @@ pub fn least_corners(counts: [u16; 6]) -> [u32; 4] {
     least
 }
 
+/// What each edge keeps when these corner triangles go.
+pub fn left_by(counts: [u16; 6], least: [u32; 4]) -> [u16; 6] {
+    let mut left = counts;
+    for (count, [u, v]) in left.iter_mut().zip(ENDS) {
+        *count -= (least[u] + least[v]) as u16;
+    }
+    left
+}
+
+/// What each edge keeps when the corner triangles go.
+pub fn left_counts(counts: [u16; 6]) -> [u16; 6] {
+    left_by(counts, least_corners(counts))
+}
+
+/// The two smaller of the counts left at the lowest node, the larger first.
+pub fn smaller_two([x, y, z, ..]: [u16; 6]) -> [u16; 2] {
+    let mut at_lowest = [x, y, z];
+    at_lowest.sort_unstable();
+    [at_lowest[1], at_lowest[0]]
+}
+
+/// The two smaller counts left at the lowest node, d1 and d2 of document 02,
+/// the larger first.
+pub fn two_numbers(counts: [u16; 6]) -> [u16; 2] {
+    smaller_two(left_counts(counts))
+}
+
 /// All loops of a cell with these counts, by lowest crossing.
 pub fn loops(walker: &mut CellWalker, counts: [u16; 6]) -> Vec<Closed> {
     walker.load(&counts.map(u32::from), &[0; 6]);
@@ -57,20 +87,18 @@ pub fn book(walker: &mut CellWalker, counts: [u16; 6]) -> Option<Booking> {
     if !is_booked(counts) {
         return None;
     }
-    let least = least_corners(counts);
-    let mut at_lowest = [0, 1, 2].map(|edge| {
-        let [u, v] = ENDS[edge];
-        u32::from(counts[edge]) - least[u] - least[v]
-    });
-    at_lowest.sort_unstable();
     let loops = loops(walker, counts);
     let three = loops.iter().filter(|closed| closed.length == 3);
-    let triangles = loops
+    let spanned = loops
         .iter()
-        .map(|closed| triangle_count(closed.length, closed.normal));
+        .map(|closed| u64::from(triangle_count(closed.length, closed.normal)));
+    let triangles = match split::totals(counts) {
+        Some(totals) => totals.triangles,
+        None => spanned.sum(),
+    };
     Some(Booking {
         corner_triangles: three.count() as u32,
-        left: [at_lowest[1], at_lowest[0]],
-        triangles: triangles.sum(),
+        left: two_numbers(counts).map(u32::from),
+        triangles,
     })
 }

@@ -67,9 +67,15 @@ impl CellWalker {
     /// Takes up a cell: the count of each of its edges and the number of the
     /// first crossing there.
     pub fn load(&mut self, counts: &[u32; 6], starts: &[u32; 6]) {
+        self.load_in_order([0, 1, 2, 3, 4, 5], counts, starts);
+    }
+
+    /// As `load`, for edges whose crossings are numbered in this order.
+    #[inline]
+    pub fn load_in_order(&mut self, order: [usize; 6], counts: &[u32; 6], starts: &[u32; 6]) {
         self.numbers.clear();
         let mut bases = [0; 6];
-        for edge in 0..6 {
+        for edge in order {
             bases[edge] = self.numbers.len();
             let numbers = starts[edge]..starts[edge] + counts[edge];
             self.numbers.extend(numbers.map(|number| number as u16));
@@ -263,6 +269,26 @@ impl Triangle {
             Side::Inner(number) => [NO_NUMBER, number],
         });
         [self.cell, self.p0, a, b, c, d, e, f, g, h, i]
+    }
+
+    /// The same triangle with other numbers for its crossings, which keep
+    /// their order.
+    pub fn renumbered(&self, numbers: &[u32]) -> Triangle {
+        Triangle {
+            cell: self.cell,
+            p0: numbers[self.p0 as usize],
+            corners: self.corners.map(|corner| match corner {
+                Corner::Crossing(number) => Corner::Crossing(numbers[number as usize]),
+                Corner::Middle => Corner::Middle,
+            }),
+            sides: self.sides.map(|side| match side {
+                Side::Segment { face, lower } => Side::Segment {
+                    face,
+                    lower: numbers[lower as usize],
+                },
+                Side::Inner(number) => Side::Inner(number),
+            }),
+        }
     }
 }
 

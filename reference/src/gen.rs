@@ -4,6 +4,7 @@
 use std::collections::{BTreeMap, BTreeSet};
 
 use crate::grid::{fill_starts, Lists, MAX_CELLS, MAX_COUNT, MAX_CROSSINGS, NODE_LIMIT};
+use crate::split;
 
 /// A small random generator (splitmix64).
 #[derive(Clone)]
@@ -97,11 +98,15 @@ impl Sample {
         self.edges.chunks_exact(2).map(|e| [e[0], e[1]]).collect()
     }
 
-    /// How many crossings the cells have, each counted in every cell that has
-    /// it. No mesh of the grid has more triangles.
-    pub fn crossings_in_cells(&self) -> usize {
-        let cells = self.counts_in_cells().into_iter().flatten();
-        cells.map(usize::from).sum()
+    /// A number of triangles that no mesh of the grid is above: of a cell that
+    /// is split those of its parts, of others one to a crossing. Beside the
+    /// grid's crossings no more points than these are placed.
+    pub fn most_triangles(&self) -> usize {
+        let most = |counts: [u16; 6]| match split::totals(counts) {
+            Some(totals) => totals.triangles as usize,
+            None => counts.into_iter().map(usize::from).sum(),
+        };
+        self.counts_in_cells().into_iter().map(most).sum()
     }
 
     /// The counts of each cell's edges 01, 02, 03, 12, 13, 23.
@@ -162,6 +167,36 @@ impl Sample {
         for (ends, count) in self.edge_list().into_iter().zip(&mut self.counts) {
             let [u, v] = ends.map(usize::from);
             *count = height[u].abs_diff(height[v]) + round[u] + round[v];
+        }
+        self
+    }
+
+    /// Even counts that are 0 on every outer edge, with cells that are split:
+    /// some of those that have no node in common with one another or with an
+    /// outer edge get the counts of spirals, up to `most` beside the corners.
+    pub fn with_closed_spirals(mut self, rng: &mut Rng, most: usize, pairs: usize) -> Sample {
+        let outer = outer_edges(&self.cell_list());
+        let mut taken: BTreeSet<u16> = outer.iter().flatten().copied().collect();
+        let mut sides: Vec<bool> = (0..NODE_LIMIT)
+            .map(|node| !taken.contains(&node) && rng.coin())
+            .collect();
+        let mut fixed: BTreeMap<[u16; 2], u16> = outer.into_iter().map(|edge| (edge, 0)).collect();
+        let mut cells = self.cell_list();
+        rng.shuffle(&mut cells);
+        for cell in cells {
+            if cell.iter().any(|node| taken.contains(node)) {
+                continue;
+            }
+            let counts = spiral_cell(rng, 2, most);
+            fixed.extend(cell_edges(&cell).into_iter().zip(counts));
+            for (&node, count) in cell[1..].iter().zip(counts) {
+                sides[usize::from(node)] = sides[usize::from(cell[0])] ^ (count % 2 == 1);
+            }
+            taken.extend(cell);
+        }
+        self.count_by_sides(rng, &sides, pairs);
+        for (edge, count) in self.edge_list().iter().zip(&mut self.counts) {
+            *count = *fixed.get(edge).unwrap_or(count);
         }
         self
     }
@@ -324,6 +359,118 @@ pub fn sphere(size: BoxSize) -> Sample {
     let mut cells = box_of_six(size).cell_list();
     cells.extend(cone(size).cell_list());
     Sample::from_cells(cells)
+}
+
+/// Six counts of a cell that is split: up to `corners` corner triangles at each
+/// node, and up to `most` (at least 6) on an edge beside them.
+pub fn spiral_cell(rng: &mut Rng, corners: usize, most: usize) -> [u16; 6] {
+    let mut kept = spiral_counts(rng, most);
+    rng.shuffle(&mut kept);
+    let at = [(); 4].map(|()| rng.between(0, corners) as u16);
+    let ends = [[0, 1], [0, 2], [0, 3], [1, 2], [1, 3], [2, 3]];
+    let mut counts = [0; 6];
+    for (edge, [u, v]) in ends.into_iter().enumerate() {
+        counts[edge] = kept[edge.min(5 - edge)] + at[u] + at[v];
+    }
+    counts
+}
+
+/// Three counts: two different ones with a common divisor above 1, and their
+/// sum, which is up to `most`.
+fn spiral_counts(rng: &mut Rng, most: usize) -> [u16; 3] {
+    let unit = rng.between(2, most / 3);
+    let sum = rng.between(3, most / unit);
+    let smaller = rng.between(1, (sum - 1) / 2);
+    [unit * (sum - smaller), unit * smaller, unit * sum].map(|count| count as u16)
+}
+
+/// A row of nodes, each linked to the next; in a circle, an even number of 4 or
+/// more, the last to the first too.
+#[derive(Clone, Copy, Debug)]
+pub enum Chain {
+    Row(usize),
+    Circle(usize),
+}
+
+impl Chain {
+    /// How many nodes it has.
+    fn nodes(self) -> usize {
+        match self {
+            Chain::Row(nodes) | Chain::Circle(nodes) => nodes,
+        }
+    }
+
+    /// The nodes of each link.
+    fn links(self) -> Vec<[usize; 2]> {
+        let last = match self {
+            Chain::Row(nodes) => nodes - 1,
+            Chain::Circle(nodes) => nodes,
+        };
+        let link = |at: usize| [at, (at + 1) % self.nodes()];
+        (0..last).map(link).collect()
+    }
+}
+
+/// Two chains of nodes, and a cell for each link of one with each link of the
+/// other; every cell is split, with counts as for `spiral_cell`. Of two circles
+/// every face is in two cells; where a row has two nodes, all cells are round
+/// its link.
+pub fn spiral_join(rng: &mut Rng, chains: [Chain; 2], corners: usize, most: usize) -> Sample {
+    let mut kept = spiral_counts(rng, most);
+    rng.shuffle(&mut kept);
+    joined(rng, chains, corners, kept)
+}
+
+/// The two chains' cells, which keep so much: on each link, and on the edges from
+/// one chain to the other, in turn. Nodes have random names.
+pub fn joined(rng: &mut Rng, chains: [Chain; 2], corners: usize, kept: [u16; 3]) -> Sample {
+    let mut names: Vec<u16> = (0..NODE_LIMIT).collect();
+    rng.shuffle(&mut names);
+    let mut sites = vec![0; names.len()];
+    for (site, &name) in names.iter().enumerate() {
+        sites[usize::from(name)] = site;
+    }
+    let size = chains[0].nodes();
+    let links = |chain: usize| chains[chain].links().into_iter();
+    let cell =
+        |[i, k]: [usize; 2], [j, l]: [usize; 2]| [i, k, size + j, size + l].map(|s| names[s]);
+    let cells = links(0).flat_map(|a| links(1).map(move |b| cell(a, b)));
+    let mut grid = Sample::from_cells(cells);
+    let at: Vec<u16> = names
+        .iter()
+        .map(|_| rng.between(0, corners) as u16)
+        .collect();
+    for ([u, v], count) in grid.edge_list().into_iter().zip(&mut grid.counts) {
+        let ends = [u, v].map(usize::from);
+        *count = kept_between(ends.map(|node| sites[node]), size, kept) + at[ends[0]] + at[ends[1]];
+    }
+    grid
+}
+
+/// What an edge between two sites keeps; the second chain's start at `size`.
+fn kept_between([u, v]: [usize; 2], size: usize, [along, even, odd]: [u16; 3]) -> u16 {
+    match (u < size) == (v < size) {
+        true => along,
+        false if (u + v - size) % 2 == 0 => even,
+        false => odd,
+    }
+}
+
+/// A row of two to five nodes, or a circle of four or six.
+pub fn any_chain(rng: &mut Rng) -> Chain {
+    match rng.below(3) {
+        0 => Chain::Circle(2 * rng.between(2, 3)),
+        _ => Chain::Row(rng.between(2, 5)),
+    }
+}
+
+/// The five cells of five nodes: every face is in two of them.
+pub fn five_nodes() -> Sample {
+    let all = [0, 1, 2, 3, 4];
+    Sample::from_cells(all.map(|omitted| {
+        let kept: Vec<u16> = all.into_iter().filter(|&node| node != omitted).collect();
+        [kept[0], kept[1], kept[2], kept[3]]
+    }))
 }
 
 /// Cells that share nothing.

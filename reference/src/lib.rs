@@ -11,6 +11,8 @@ pub mod mesh;
 
 pub mod booking;
 
+pub mod split;
+
 pub mod bundle;
 pub mod cases;
 

@@ -39,7 +39,7 @@ fn list_mesh(input: &[u8]) -> Result<String, Refusal> {
         starts: &starts,
     };
     let mut area = vec![0; MAX_TRIANGLES * TRIANGLE_WORDS];
-    let triangles = mesh(lists, &mut area)?;
+    let triangles = mesh(lists, &mut area)?.triangles;
     let mut text = format!(
         "cells {} edges {} crossings {crossings} triangles {triangles}\n",
         sizes.cells, sizes.edges

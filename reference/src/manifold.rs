@@ -1,11 +1,14 @@
 //! An independent check that the triangles of a mesh fit together: how often
 //! each side is used, whether the triangles round each point form one ring,
-//! and whether the segments of each face keep apart.
+//! and whether the segments of each face keep apart. Inner faces and crossings
+//! of cells that are split are covered too, each told apart by its cell.
 
 use std::collections::{BTreeMap, BTreeSet, HashMap, HashSet};
 
-use crate::cell::{NO_NUMBER, TRIANGLE_WORDS};
+use crate::booking::ENDS;
+use crate::cell::{FACE_EDGES, NO_NUMBER, TRIANGLE_WORDS};
 use crate::face::{join, Join};
+use crate::split::{Working, FIRST_INNER_CROSSING, FIRST_INNER_FACE, SUB_CELL_STEP};
 
 /// What was found; every field but the first two counts faults, or what is a
 /// fault only in a mesh that should close.
@@ -17,18 +20,27 @@ pub struct Report {
     pub crowded_sides: usize,
     /// Sides in one triangle only.
     pub open_sides: usize,
-    /// Inner sides not in exactly two triangles.
+    /// Inner sides, and segments of inner faces, not in exactly two triangles.
     pub split_inner_sides: usize,
     /// Sides whose triangles disagree about their two ends.
     pub mismatched_sides: usize,
     /// Segment sides that are no segment of the named face.
     pub false_segments: usize,
-    /// Segments of faces that no triangle has.
+    /// Segments of the grid's faces that no triangle has.
     pub undrawn_segments: usize,
+    /// Segments of inner faces that no triangle has.
+    pub undrawn_inner_segments: usize,
+    /// Segments of the grid's faces that two triangles of one cell have.
+    pub repeated_segments: usize,
+    /// Segments of the grid's faces in a cell that is split which no triangle of
+    /// that cell has.
+    pub unspanned_segments: usize,
     /// Middles without one ring.
     pub broken_middles: usize,
     /// Crossings of the grid without one ring.
     pub broken_crossings: usize,
+    /// Inner crossings without one ring.
+    pub broken_inner_crossings: usize,
     /// Faces with two segments that alternate.
     pub alternating_faces: usize,
 }
@@ -41,6 +53,10 @@ impl Report {
             && self.mismatched_sides == 0
             && self.false_segments == 0
             && self.broken_middles == 0
+            && self.undrawn_inner_segments == 0
+            && self.repeated_segments == 0
+            && self.unspanned_segments == 0
+            && self.broken_inner_crossings == 0
             && self.alternating_faces == 0
     }
 
@@ -53,29 +69,48 @@ impl Report {
     }
 }
 
-/// A side's identity: face and lower crossing, or the mark of an inner side
-/// with its number, cell and p0.
+/// A side's identity: face and lower crossing, with the cell for an inner face,
+/// or the mark of an inner side with its number and words 0 and 1.
 type SideKey = [u32; 4];
-/// A point's identity: a crossing, or the mark of a middle with cell and p0.
+/// A point's identity: a crossing, with the cell for an inner one, or the mark
+/// of a middle with words 0 and 1.
 type PointKey = [u32; 3];
+
+/// The identity of a crossing that a triangle of the cell has.
+fn crossing_key(cell: u32, crossing: u32) -> PointKey {
+    let inner = crossing >= FIRST_INNER_CROSSING;
+    [crossing, if inner { cell } else { 0 }, 0]
+}
+
+/// The identity of a segment that a triangle of the cell has.
+fn segment_key(cell: u32, face: u32, lower: u32) -> SideKey {
+    let inner = face >= FIRST_INNER_FACE;
+    [face, lower, if inner { cell } else { 0 }, 0]
+}
 
 #[derive(Clone, Copy)]
 struct Piece {
+    cell: u32,
     points: [PointKey; 3],
     sides: [SideKey; 3],
 }
 
 fn read_piece(words: &[u32]) -> Piece {
-    let (cell, p0) = (words[0], words[1]);
+    let (part, p0) = (words[0], words[1]);
+    let cell = part % SUB_CELL_STEP;
     let points = [2, 3, 4].map(|at| match words[at] {
-        NO_NUMBER => [NO_NUMBER, cell, p0],
-        crossing => [crossing, 0, 0],
+        NO_NUMBER => [NO_NUMBER, part, p0],
+        crossing => crossing_key(cell, crossing),
     });
     let sides = [5, 7, 9].map(|at| match words[at] {
-        NO_NUMBER => [NO_NUMBER, words[at + 1], cell, p0],
-        face => [face, words[at + 1], 0, 0],
+        NO_NUMBER => [NO_NUMBER, words[at + 1], part, p0],
+        face => segment_key(cell, face, words[at + 1]),
     });
-    Piece { points, sides }
+    Piece {
+        cell,
+        points,
+        sides,
+    }
 }
 
 /// The triangles of a mesh, found by side and by point.
@@ -105,7 +140,7 @@ impl Pieces {
 
     /// The two sides of a triangle that end at the point.
     fn sides_at(&self, piece: usize, point: PointKey) -> [SideKey; 2] {
-        let Piece { points, sides } = self.all[piece];
+        let Piece { points, sides, .. } = self.all[piece];
         match points.iter().position(|&corner| corner == point) {
             Some(turn) => [sides[turn], sides[(turn + 2) % 3]],
             None => [[NO_NUMBER; 4]; 2],
@@ -148,9 +183,15 @@ impl Pieces {
         }
     }
 
+    /// How many triangles of the cell have the side.
+    fn uses_in(&self, side: SideKey, cell: u32) -> usize {
+        let users = self.by_side.get(&side).into_iter().flatten();
+        users.filter(|&&piece| self.all[piece].cell == cell).count()
+    }
+
     /// The ends of a side as one of its triangles has them.
     fn ends(&self, piece: usize, side: SideKey) -> [PointKey; 2] {
-        let Piece { points, sides } = self.all[piece];
+        let Piece { points, sides, .. } = self.all[piece];
         let turn = sides.iter().position(|&s| s == side).unwrap_or(0);
         let mut ends = [points[turn], points[(turn + 1) % 3]];
         ends.sort_unstable();
@@ -158,72 +199,123 @@ impl Pieces {
     }
 }
 
-/// The grid's faces, named, with counts and first crossings of their edges.
+/// Counts and first crossings of a face's edges ab, ac, bc.
+type FaceEdges = [(u32, u32); 3];
+
+/// The grid's faces and the inner ones, named.
+#[derive(Default)]
 struct Faces {
-    named: BTreeMap<u32, [(u32, u32); 3]>,
+    named: BTreeMap<u32, FaceEdges>,
     single: BTreeSet<u32>,
     crossings: u32,
+    /// Count and first crossing of each edge.
+    edges: HashMap<[u16; 2], (u32, u32)>,
+    /// By the nodes of a face.
+    names: HashMap<[u16; 3], u32>,
+    /// By cell and name.
+    inner: BTreeMap<(u32, u32), FaceEdges>,
+    /// Cell and number.
+    inner_crossings: Vec<(u32, u32)>,
+    /// Cells that are split, with the names of their faces.
+    split: Vec<(u32, [u32; 4])>,
 }
 
 impl Faces {
     fn new(cells: &[u16], edges: &[u16], counts: &[u16]) -> Faces {
-        let mut edge_data = HashMap::new();
-        let mut crossings = 0;
+        let mut faces = Faces::default();
         for (ends, &count) in edges.chunks_exact(2).zip(counts) {
-            edge_data.insert((ends[0], ends[1]), (u32::from(count), crossings));
-            crossings += u32::from(count);
+            let edge = (u32::from(count), faces.crossings);
+            faces.edges.insert([ends[0], ends[1]], edge);
+            faces.crossings += u32::from(count);
         }
-        let mut first_names = HashMap::new();
-        let mut named = BTreeMap::new();
-        let mut single = BTreeSet::new();
         for (cell, nodes) in (0..).zip(cells.chunks_exact(4)) {
-            for slot in 0..4 {
-                let mut face = nodes.to_vec();
-                face.remove(slot);
-                let name = 4 * cell + slot as u32;
-                if let Some(least) = first_names.insert(face.clone(), name) {
-                    first_names.insert(face, least);
-                    single.remove(&least);
-                } else {
-                    single.insert(name);
-                    let pairs = [(0, 1), (0, 2), (1, 2)];
-                    named.insert(name, pairs.map(|(u, v)| edge_data[&(face[u], face[v])]));
+            let [a, b, c, d] = [0, 1, 2, 3].map(|at| nodes[at]);
+            let by_slot = [
+                (0, [b, c, d]),
+                (1, [a, c, d]),
+                (2, [a, b, d]),
+                (3, [a, b, c]),
+            ];
+            let names = by_slot.map(|(slot, face)| faces.add_face(4 * cell + slot, face));
+            let edges = ENDS.map(|[u, v]| faces.edges[&[nodes[u], nodes[v]]]);
+            faces.add_inner(cell, names, edges);
+        }
+        faces
+    }
+
+    /// Adds a face of a cell, named so unless an earlier cell has it; tells its
+    /// name.
+    fn add_face(&mut self, name: u32, face: [u16; 3]) -> u32 {
+        let least = *self.names.entry(face).or_insert(name);
+        if least == name {
+            let pairs = [[0, 1], [0, 2], [1, 2]].map(|ends| ends.map(|at: usize| face[at]));
+            self.single.insert(name);
+            self.named.insert(name, pairs.map(|ends| self.edges[&ends]));
+        } else {
+            self.single.remove(&least);
+        }
+        least
+    }
+
+    /// Adds the inner faces and crossings of a cell. The first part with an
+    /// inner face has its whole counts.
+    fn add_inner(&mut self, cell: u32, names: [u32; 4], edges: [(u32, u32); 6]) {
+        let counts = edges.map(|(count, _)| count as u16);
+        let working = Working::of(counts, edges.map(|(_, first)| first), names);
+        if working.is_some() {
+            self.split.push((cell, names));
+        }
+        for step in working.into_iter().flatten() {
+            let part = step.part;
+            for (slot, edges) in FACE_EDGES.into_iter().enumerate() {
+                let name = part.faces[slot];
+                if name >= FIRST_INNER_FACE {
+                    let of = |edge: usize| (u32::from(part.counts[edge]), part.firsts[edge] as u32);
+                    self.inner.entry((cell, name)).or_insert(edges.map(of));
                 }
             }
-        }
-        Faces {
-            named,
-            single,
-            crossings,
+            if let Some(split) = step.split {
+                for (first, count) in split.firsts.into_iter().zip(split.counts) {
+                    let numbers = (first as u32..).take(usize::from(count));
+                    self.inner_crossings.extend(numbers.map(|n| (cell, n)));
+                }
+            }
         }
     }
 
-    /// All segments of a face as pairs of crossings, the lower one first.
-    fn segments(&self, name: u32) -> Vec<[u32; 2]> {
-        let data = self.named[&name];
-        let counts = data.map(|(count, _)| count);
-        let mut found = Vec::new();
-        for (edge, (count, start)) in (0..).zip(data) {
-            for index in 0..count {
-                if let Join::Joined {
-                    edge: other,
-                    index: there,
-                    ..
-                } = join(counts, edge, index)
-                {
-                    let partner = data[other as usize].1 + there;
-                    if start + index < partner {
-                        found.push([start + index, partner]);
-                    }
-                }
-            }
-        }
-        found
+    /// Every face with its cell, name and edges; the cell of a face of the grid
+    /// does not count.
+    fn all(&self) -> impl Iterator<Item = (u32, u32, FaceEdges)> + '_ {
+        let outer = self.named.iter().map(|(&name, &edges)| (0, name, edges));
+        let inner = self.inner.iter();
+        outer.chain(inner.map(|(&(cell, name), &edges)| (cell, name, edges)))
     }
 
     fn counts(&self, name: u32) -> [u32; 3] {
         self.named[&name].map(|(count, _)| count)
     }
+}
+
+/// All segments of a face as pairs of crossings, the lower one first.
+fn segments(edges: FaceEdges) -> Vec<[u32; 2]> {
+    let counts = edges.map(|(count, _)| count);
+    let mut found = Vec::new();
+    for (edge, (count, start)) in (0..).zip(edges) {
+        for index in 0..count {
+            if let Join::Joined {
+                edge: other,
+                index: there,
+                ..
+            } = join(counts, edge, index)
+            {
+                let partner = edges[other as usize].1 + there;
+                if start + index < partner {
+                    found.push([start + index, partner]);
+                }
+            }
+        }
+    }
+    found
 }
 
 /// Whether every outer edge has count 0 and every face an even sum.
@@ -272,6 +364,7 @@ pub fn inspect(cells: &[u16], edges: &[u16], counts: &[u16], words: &[u32]) -> R
     };
     inspect_sides(&pieces, &mut report);
     inspect_segments(&faces, &pieces, &mut report);
+    inspect_cells(&faces, &pieces, &mut report);
     inspect_points(&faces, &pieces, &mut report);
     report
 }
@@ -280,7 +373,7 @@ fn inspect_sides(pieces: &Pieces, report: &mut Report) {
     for (&side, users) in &pieces.by_side {
         report.crowded_sides += usize::from(users.len() > 2);
         report.open_sides += usize::from(users.len() == 1);
-        let inner = side[0] == NO_NUMBER;
+        let inner = side[0] >= FIRST_INNER_FACE;
         report.split_inner_sides += usize::from(inner && users.len() != 2);
         let ends = pieces.ends(users[0], side);
         let differ = users.iter().any(|&piece| pieces.ends(piece, side) != ends);
@@ -290,16 +383,18 @@ fn inspect_sides(pieces: &Pieces, report: &mut Report) {
 
 fn inspect_segments(faces: &Faces, pieces: &Pieces, report: &mut Report) {
     let mut real = HashSet::new();
-    for &name in faces.named.keys() {
-        report.alternating_faces += usize::from(alternates(faces.counts(name)));
-        for [lower, higher] in faces.segments(name) {
-            let side = [name, lower, 0, 0];
-            let ends = [[lower, 0, 0], [higher, 0, 0]];
+    for (cell, name, edges) in faces.all() {
+        let counts = edges.map(|(count, _)| count);
+        report.alternating_faces += usize::from(alternates(counts));
+        for [lower, higher] in segments(edges) {
+            let side = segment_key(cell, name, lower);
+            let ends = [crossing_key(cell, lower), crossing_key(cell, higher)];
             match pieces.by_side.get(&side) {
                 Some(users) if pieces.ends(users[0], side) == ends => {
                     real.insert(side);
                 }
                 Some(_) => {}
+                None if name >= FIRST_INNER_FACE => report.undrawn_inner_segments += 1,
                 None => report.undrawn_segments += 1,
             }
         }
@@ -308,9 +403,35 @@ fn inspect_segments(faces: &Faces, pieces: &Pieces, report: &mut Report) {
     report.false_segments = drawn.filter(|&side| !real.contains(side)).count();
 }
 
+/// In one cell a segment of the grid's faces is in one triangle at most, and in
+/// one where the cell is split.
+fn inspect_cells(faces: &Faces, pieces: &Pieces, report: &mut Report) {
+    for (&side, users) in &pieces.by_side {
+        let cells: BTreeSet<u32> = users.iter().map(|&piece| pieces.all[piece].cell).collect();
+        let repeated = side[0] < FIRST_INNER_FACE && cells.len() < users.len();
+        report.repeated_segments += usize::from(repeated);
+    }
+    for &(cell, names) in &faces.split {
+        for name in names {
+            let lower = segments(faces.named[&name])
+                .into_iter()
+                .map(|[lower, _]| lower);
+            let missing = lower.filter(|&lower| {
+                let side = segment_key(cell, name, lower);
+                pieces.uses_in(side, cell) == 0
+            });
+            report.unspanned_segments += missing.count();
+        }
+    }
+}
+
 fn inspect_points(faces: &Faces, pieces: &Pieces, report: &mut Report) {
+    let broken = |point: &PointKey| !pieces.one_ring(*point);
     let middles = pieces.by_point.keys().filter(|point| point[0] == NO_NUMBER);
-    report.broken_middles = middles.filter(|&&point| !pieces.one_ring(point)).count();
-    let crossings = (0..faces.crossings).map(|number| [number, 0, 0]);
-    report.broken_crossings = crossings.filter(|&point| !pieces.one_ring(point)).count();
+    report.broken_middles = middles.filter(|&point| broken(point)).count();
+    let crossings = (0..faces.crossings).map(|number| crossing_key(0, number));
+    report.broken_crossings = crossings.filter(broken).count();
+    let inner = faces.inner_crossings.iter();
+    let inner = inner.map(|&(cell, number)| crossing_key(cell, number));
+    report.broken_inner_crossings = inner.filter(broken).count();
 }

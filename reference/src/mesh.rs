@@ -1,11 +1,20 @@
 //! The mesh call and the loops call.
 
 use crate::cell::{
-    is_fan, loop_type, triangle_count, CellWalker, Closed, Loop, LoopType, Stop, TRIANGLE_WORDS,
+    is_fan, loop_type, triangle_count, CellWalker, Closed, Loop, LoopType, Stop, Triangle,
+    TRIANGLE_WORDS,
 };
 use crate::grid::{GridTables, Lists};
 use crate::nest::Nest;
+use crate::split::{self, PartWalker, Totals, Working, SUB_CELL_STEP};
 use crate::{refuse, Refusal};
+
+/// The answer of the mesh call.
+#[derive(Clone, Copy, Debug, Default, PartialEq, Eq)]
+pub struct MeshAnswer {
+    pub triangles: u64,
+    pub splits: u64,
+}
 
 /// The answer of the loops call.
 #[derive(Clone, Copy, Debug, PartialEq, Eq)]
@@ -19,12 +28,24 @@ pub struct LoopAnswer {
     pub kind: LoopType,
 }
 
-/// A traced loop: its cell, where its stops end, and whether it is normal.
+/// A traced loop: its cell, where its stops end, and whether it is normal. A
+/// cell that is split has one span without stops in place of its loops.
 #[derive(Clone, Copy)]
 struct Span {
     cell: u32,
     end: u32,
     normal: bool,
+    split: bool,
+}
+
+/// What a mesh is made of, in order.
+pub(crate) enum Piece<'a> {
+    Loop {
+        cell: usize,
+        stops: &'a [Stop],
+        normal: bool,
+    },
+    SplitCell(usize),
 }
 
 /// Memory for the calls of this module, reused from call to call.
@@ -34,10 +55,13 @@ pub struct Mesher {
     walker: CellWalker,
     stops: Vec<Stop>,
     spans: Vec<Span>,
+    /// Sums over the cells that are split.
+    split_totals: Totals,
 }
 
-/// Writes the mesh of a grid into `area`; the answer is its triangles.
-pub fn mesh(lists: Lists, area: &mut [u32]) -> Result<u32, Refusal> {
+/// Writes the mesh of a grid into `area`; the answer is its triangles and the
+/// splits made.
+pub fn mesh(lists: Lists, area: &mut [u32]) -> Result<MeshAnswer, Refusal> {
     Mesher::default().mesh(lists, area)
 }
 
@@ -48,14 +72,33 @@ pub fn loop_of_cell(lists: Lists, cell: u64, index: u64) -> Result<Option<LoopAn
 
 impl Mesher {
     /// As the free function, with this memory.
-    pub fn mesh(&mut self, lists: Lists, area: &mut [u32]) -> Result<u32, Refusal> {
+    pub fn mesh(&mut self, lists: Lists, area: &mut [u32]) -> Result<MeshAnswer, Refusal> {
         self.tables.check(lists)?;
-        let triangles = self.trace_grid(&lists) as usize;
-        if area.len() / TRIANGLE_WORDS < triangles {
-            return refuse(12, triangles);
+        let triangles = self.trace_grid(&lists);
+        if ((area.len() / TRIANGLE_WORDS) as u64) < triangles {
+            return refuse(12, triangles as usize);
         }
-        self.write_triangles(area);
-        Ok(triangles as u32)
+        self.write_triangles(&lists, area);
+        Ok(MeshAnswer {
+            triangles,
+            splits: self.split_totals.splits,
+        })
+    }
+
+    /// Gives the triangles of a grid one after another; the answer is as that of
+    /// `mesh` in an area with room.
+    pub fn each_triangle(
+        &mut self,
+        lists: Lists,
+        give: impl FnMut(Triangle),
+    ) -> Result<MeshAnswer, Refusal> {
+        self.tables.check(lists)?;
+        let triangles = self.trace_grid(&lists);
+        self.give_triangles(&lists, give);
+        Ok(MeshAnswer {
+            triangles,
+            splits: self.split_totals.splits,
+        })
     }
 
     /// As the free function, with this memory.
@@ -82,12 +125,40 @@ impl Mesher {
         Ok(crossings)
     }
 
-    /// The cell and the stops of each fan of the traced grid, in mesh order.
-    pub(crate) fn fans(&self) -> impl Iterator<Item = (usize, &[Stop])> {
-        self.loops().filter_map(|(span, stops)| {
-            let fan = is_fan(stops.len() as u32, span.normal);
-            fan.then_some((span.cell as usize, stops))
+    /// Sums over the cells of the traced grid that are split.
+    pub(crate) fn split_totals(&self) -> Totals {
+        self.split_totals
+    }
+
+    /// How many loops of the cells that are not split have fans.
+    pub(crate) fn fan_count(&self) -> u64 {
+        let loops = self.loops().filter(|(span, _)| !span.split);
+        let fans = loops.filter(|(span, stops)| is_fan(stops.len() as u32, span.normal));
+        fans.count() as u64
+    }
+
+    /// The loops and split cells of the traced grid, in mesh order.
+    pub(crate) fn pieces(&self) -> impl Iterator<Item = Piece<'_>> {
+        self.loops().map(|(span, stops)| match span.split {
+            true => Piece::SplitCell(span.cell as usize),
+            false => Piece::Loop {
+                cell: span.cell as usize,
+                stops,
+                normal: span.normal,
+            },
         })
+    }
+
+    /// The working of a cell of the traced grid.
+    pub(crate) fn working(&self, lists: &Lists, cell: usize) -> Working {
+        let (counts, starts) = self.edges_of(lists, cell);
+        let working = Working::of(counts.map(|count| count as u16), starts, self.names(cell));
+        working.expect("a cell that is split")
+    }
+
+    /// Names of a cell's faces by slot.
+    fn names(&self, cell: usize) -> [u32; 4] {
+        [0, 1, 2, 3].map(|slot| u32::from(self.tables.face_names[4 * cell + slot]))
     }
 
     /// The nest of each cell of the traced grid.
@@ -104,21 +175,47 @@ impl Mesher {
         cells.map(nest).collect()
     }
 
-    /// Traces the loops of every cell and counts their triangles.
-    fn trace_grid(&mut self, lists: &Lists) -> u32 {
+    /// Traces the loops of every cell that is not split and counts all
+    /// triangles.
+    fn trace_grid(&mut self, lists: &Lists) -> u64 {
         self.stops.clear();
         self.spans.clear();
+        self.split_totals = Totals::default();
         let mut triangles = 0;
         for cell in 0..lists.cell_count() {
-            self.load_cell(lists, cell);
-            while let Some(Closed { length, normal }) = self.walker.next_loop(&mut self.stops) {
-                triangles += triangle_count(length, normal);
-                self.spans.push(Span {
-                    cell: cell as u32,
-                    end: self.stops.len() as u32,
-                    normal,
-                });
+            let (counts, starts) = self.edges_of(lists, cell);
+            match split::totals(counts.map(|count| count as u16)) {
+                Some(totals) => self.note_split(cell, totals),
+                None => {
+                    self.walker.load(&counts, &starts);
+                    triangles += self.trace_cell(cell);
+                }
             }
+        }
+        triangles + self.split_totals.triangles
+    }
+
+    fn note_split(&mut self, cell: usize, totals: Totals) {
+        self.split_totals.add(totals);
+        self.spans.push(Span {
+            cell: cell as u32,
+            end: self.stops.len() as u32,
+            normal: true,
+            split: true,
+        });
+    }
+
+    /// Traces the loops of the loaded cell and counts their triangles.
+    fn trace_cell(&mut self, cell: usize) -> u64 {
+        let mut triangles = 0;
+        while let Some(Closed { length, normal }) = self.walker.next_loop(&mut self.stops) {
+            triangles += u64::from(triangle_count(length, normal));
+            self.spans.push(Span {
+                cell: cell as u32,
+                end: self.stops.len() as u32,
+                normal,
+                split: false,
+            });
         }
         triangles
     }
@@ -132,22 +229,59 @@ impl Mesher {
         })
     }
 
-    fn write_triangles(&self, area: &mut [u32]) {
+    fn write_triangles(&self, lists: &Lists, area: &mut [u32]) {
         let mut places = area.chunks_exact_mut(TRIANGLE_WORDS);
-        for (span, stops) in self.loops() {
-            let first = 4 * span.cell as usize;
-            let names = [0, 1, 2, 3].map(|slot| u32::from(self.tables.face_names[first + slot]));
-            let spanned = Loop {
-                cell: span.cell,
-                names,
-                stops,
-                normal: span.normal,
-            };
-            spanned.each_triangle(|triangle| {
-                if let Some(place) = places.next() {
-                    place.copy_from_slice(&triangle.words());
+        self.give_triangles(lists, |triangle| {
+            if let Some(place) = places.next() {
+                place.copy_from_slice(&triangle.words());
+            }
+        });
+    }
+
+    fn give_triangles(&self, lists: &Lists, mut give: impl FnMut(Triangle)) {
+        let mut walker = PartWalker::default();
+        for piece in self.pieces() {
+            match piece {
+                Piece::Loop {
+                    cell,
+                    stops,
+                    normal,
+                } => Loop {
+                    cell: cell as u32,
+                    names: self.names(cell),
+                    stops,
+                    normal,
                 }
-            });
+                .each_triangle(&mut give),
+                Piece::SplitCell(cell) => {
+                    self.give_split(lists, cell, &mut walker, &mut give);
+                }
+            }
+        }
+    }
+
+    /// Gives the triangles of a cell that is split, part by part: of a part
+    /// that is split the loops of three segments, of others all loops.
+    fn give_split(
+        &self,
+        lists: &Lists,
+        cell: usize,
+        walker: &mut PartWalker,
+        mut give: impl FnMut(Triangle),
+    ) {
+        for step in self.working(lists, cell) {
+            walker.load(&step.part);
+            while let Some(normal) = walker.next_loop() {
+                let spanned = Loop {
+                    cell: cell as u32 + SUB_CELL_STEP * step.number,
+                    names: step.part.faces,
+                    stops: &walker.stops,
+                    normal,
+                };
+                if step.split.is_none() || walker.stops.len() == 3 {
+                    spanned.each_triangle(|triangle| give(triangle.renumbered(&walker.numbers)));
+                }
+            }
         }
     }
 

@@ -1,7 +1,7 @@
 //! Cells whose loops other than triangles are two or more of length 8, one
 //! inside the other: each of these loops has a middle of its own.
 
-use crate::booking::{is_booked, least_corners, ENDS};
+use crate::booking::{is_booked, least_corners, left_counts, ENDS};
 use crate::cell::Stop;
 use crate::places::Place;
 
@@ -23,17 +23,13 @@ impl Nest {
         if many < 2 || others.iter().any(|&length| length != 8) || !is_booked(counts) {
             return None;
         }
-        let least = least_corners(counts);
-        let left = |edge: usize| {
-            let [u, v] = ENDS[edge];
-            u32::from(counts[edge]) - least[u] - least[v]
-        };
-        let first = (0..6).find(|&edge| left(edge) == 2 * many);
+        let left = left_counts(counts);
+        let first = left.iter().position(|&kept| u32::from(kept) == 2 * many);
         let first = first.expect("an edge that keeps two crossings for each loop");
         let [u, v] = ENDS[first];
         let apart = |ends: &&[usize; 2]| !ends.contains(&u) && !ends.contains(&v);
         let opposite = ENDS.iter().find(apart).expect("an opposite edge");
-        let lowest = starts[first] + least[u] + many;
+        let lowest = starts[first] + least_corners(counts)[u] + many;
         Some(Nest {
             axis: [ENDS[first], *opposite],
             upper: (lowest..lowest + many).collect(),

@@ -1,8 +1,10 @@
 //! The places call: where the crossings and the middles of fans are.
 
-use crate::cell::Stop;
+use crate::cell::{is_fan, Stop};
 use crate::grid::{Lists, NODE_LIMIT};
-use crate::mesh::Mesher;
+use crate::mesh::{Mesher, Piece};
+use crate::nest::Nest;
+use crate::split::{PartWalker, Split, Step};
 use crate::{refuse, Refusal};
 
 /// Furthest that a node may be from zero in any component.
@@ -53,37 +55,137 @@ impl Place {
     }
 }
 
-/// Writes the places of crossings and middles, three numbers to a point; the
-/// answer is the points written.
+/// Writes the places of crossings, inner crossings and middles, three numbers
+/// to a point; the answer is the points written.
 pub fn places(
     lists: Lists,
     node_places: &[f64],
     fractions: &[f64],
     area: &mut [f64],
-) -> Result<u32, Refusal> {
+) -> Result<u64, Refusal> {
     let Lists { cells, counts, .. } = lists;
     let mut mesher = Mesher::default();
-    let crossings = mesher.prepare(&lists)? as usize;
-    let points = crossings + mesher.fans().count();
+    let crossings = u64::from(mesher.prepare(&lists)?);
+    let totals = mesher.split_totals();
+    let points = crossings + totals.inner_crossings + totals.fans + mesher.fan_count();
     let highest = cells.iter().max().map_or(0, |&node| usize::from(node));
-    let enough =
-        node_places.len() / 3 > highest && fractions.len() == crossings && area.len() / 3 >= points;
+    let enough = node_places.len() / 3 > highest
+        && fractions.len() as u64 == crossings
+        && (area.len() / 3) as u64 >= points;
     if !enough {
         return refuse(15, 0);
     }
     check_node_places(cells, node_places)?;
     check_fractions(counts, fractions)?;
     write_crossings(&lists, node_places, fractions, area);
-    let nests = mesher.nests(&lists);
-    for (point, (cell, stops)) in (crossings..).zip(mesher.fans()) {
-        let corners = lists.cell(cell).map(usize::from);
-        let place = match &nests[cell] {
-            Some(nest) => nest.middle(stops, corners.map(|node| Place::read(node_places, node))),
-            None => mean(stops, area),
-        };
-        place.write(area, point);
+    let mut placing = Placing {
+        mesher: &mesher,
+        lists: &lists,
+        node_places,
+        area,
+        next: crossings as usize,
+    };
+    placing.write_inner_crossings();
+    placing.write_middles();
+    Ok(points)
+}
+
+/// The places of the points after the outer crossings.
+struct Placing<'a> {
+    mesher: &'a Mesher,
+    lists: &'a Lists<'a>,
+    node_places: &'a [f64],
+    area: &'a mut [f64],
+    /// The point to be written next.
+    next: usize,
+}
+
+impl Placing<'_> {
+    fn write(&mut self, place: Place) {
+        place.write(self.area, self.next);
+        self.next += 1;
     }
-    Ok(points as u32)
+
+    /// Places of a cell's nodes.
+    fn nodes_of(&self, cell: usize) -> [Place; 4] {
+        let nodes = self.lists.cell(cell).map(usize::from);
+        nodes.map(|node| Place::read(self.node_places, node))
+    }
+
+    /// By cell and number, which is the order in which splits are made.
+    fn write_inner_crossings(&mut self) {
+        let mesher = self.mesher;
+        for piece in mesher.pieces() {
+            if let Piece::SplitCell(cell) = piece {
+                let mut nodes = self.nodes_of(cell).to_vec();
+                let steps = mesher.working(self.lists, cell);
+                for split in steps.filter_map(|step| step.split) {
+                    nodes.push(new_node(&split, &nodes));
+                    self.write_around(&split, &nodes);
+                }
+            }
+        }
+    }
+
+    /// The crossings of a split's inner edges, outward from its new node.
+    fn write_around(&mut self, split: &Split, nodes: &[Place]) {
+        let from = nodes[split.new_node];
+        for (node, count) in split.labelled.into_iter().zip(split.counts) {
+            for h in 0..count {
+                let fraction = (f64::from(h) + 1.0) / (f64::from(count) + 1.0);
+                self.write(from.toward(nodes[node], fraction));
+            }
+        }
+    }
+
+    fn write_middles(&mut self) {
+        let mesher = self.mesher;
+        let nests = mesher.nests(self.lists);
+        for piece in mesher.pieces() {
+            match piece {
+                Piece::SplitCell(cell) => self.write_split_middles(cell),
+                Piece::Loop {
+                    cell,
+                    stops,
+                    normal,
+                } if is_fan(stops.len() as u32, normal) => {
+                    let place = match &nests[cell] {
+                        Some(nest) => nest.middle(stops, self.nodes_of(cell)),
+                        None => mean(stops, self.area),
+                    };
+                    self.write(place);
+                }
+                Piece::Loop { .. } => {}
+            }
+        }
+    }
+
+    /// Middles of the octagons in the sub-cells of a cell.
+    fn write_split_middles(&mut self, cell: usize) {
+        let mut nodes = self.nodes_of(cell).to_vec();
+        let mut walker = PartWalker::default();
+        for Step { part, split, .. } in self.mesher.working(self.lists, cell) {
+            if let Some(split) = split {
+                nodes.push(new_node(&split, &nodes));
+                continue;
+            }
+            let lengths = walker.lengths(&part);
+            let nest = Nest::of(part.counts, walker.starts, &lengths);
+            while let Some(normal) = walker.next_loop() {
+                if is_fan(walker.stops.len() as u32, normal) {
+                    let nest = nest.as_ref().expect("fans of a sub-cell are nested");
+                    let corners = part.nodes.map(|node| nodes[node]);
+                    self.write(nest.middle(&walker.stops, corners));
+                }
+            }
+        }
+    }
+}
+
+/// The mean of the nodes i, j, k, l.
+fn new_node(split: &Split, nodes: &[Place]) -> Place {
+    let [i, j, k, l] = split.labelled.map(|node| nodes[node]);
+    i.plus(j).plus(k).plus(l).over(4.0)
 }
 
 /// Row 16.

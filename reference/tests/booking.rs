@@ -29,14 +29,30 @@ fn told(walker: &mut CellWalker, counts: [u16; 6]) -> Option<Booking> {
     }
     let beside = if smaller == 0 {
         2 * larger
+    } else if gcd(larger, smaller) > 1 {
+        split_triangles(larger, smaller)
     } else {
         4 * (larger + smaller)
     };
-    assert_eq!(booking.triangles, corners + beside, "{counts:?}");
+    assert_eq!(booking.triangles, u64::from(corners + beside), "{counts:?}");
     Some(booking)
 }
 
-fn booking(corner_triangles: u32, left: [u32; 2], triangles: u32) -> Option<Booking> {
+/// Triangles of what is left in a cell that is split, or of its octagons. By
+/// hand from document 02: with d1 > d2 the sub-cells without l, k, j, i have
+/// d1 - d2, d2, d1 and 2 × d2 corner triangles; beside them d2 octagons, the
+/// numbers d1 - d2 and d2, d2 quads, and d1 - d2 quads.
+fn split_triangles(larger: u32, smaller: u32) -> u32 {
+    if larger == smaller {
+        return 8 * larger;
+    }
+    let rest = larger - smaller;
+    let corners = rest + smaller + larger + 2 * smaller;
+    let flat = 8 * smaller + 2 * smaller + 2 * rest;
+    corners + flat + split_triangles(rest.max(smaller), rest.min(smaller))
+}
+
+fn booking(corner_triangles: u32, left: [u32; 2], triangles: u64) -> Option<Booking> {
     Some(Booking {
         corner_triangles,
         left,
@@ -53,7 +69,7 @@ fn examples() {
         ([0, 1, 1, 1, 1, 0], booking(0, [1, 0], 2)),
         ([2, 1, 1, 1, 1, 2], booking(0, [1, 1], 8)),
         ([2; 6], booking(4, [0, 0], 4)),
-        ([11, 9, 8, 6, 9, 15], booking(6, [6, 4], 46)),
+        ([11, 9, 8, 6, 9, 15], booking(6, [6, 4], 122)),
         ([4, 12, 9, 10, 7, 5], booking(9, [5, 0], 19)),
         ([1; 6], None),
         ([2, 0, 0, 0, 0, 0], None),

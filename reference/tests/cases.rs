@@ -41,7 +41,7 @@ fn entries() {
         let case = case(&mut walker, counts).expect("inside");
         assert!(case.loops <= case.triangles, "{counts:?}");
         if let Some(booking) = book(&mut walker, counts) {
-            assert_eq!(booking.triangles, case.triangles, "{counts:?}");
+            assert_eq!(booking.triangles, u64::from(case.triangles), "{counts:?}");
             booked += 1;
         }
     }

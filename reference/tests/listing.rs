@@ -109,3 +109,17 @@ fn triangle_limit() {
     let more = cells_with(&[[255; 6], [255; 6], corner(255), corner(219)]);
     assert_eq!(listing(&bundle_of(&more)), "refused 12 at 1490\n");
 }
+
+/// The triangles of a cell that is split, sub-cell 1 first, and the total when
+/// they are too many.
+#[test]
+fn split_cells() {
+    let text = listing(&bundle_of(&cells_with(&[[4, 2, 6, 6, 2, 4]])));
+    let lines: Vec<&str> = text.lines().collect();
+    assert_eq!(lines.len(), 53);
+    assert_eq!(lines[0], "cells 1 edges 6 crossings 24 triangles 52");
+    assert_eq!(lines[1], "T 2048 0 0 65539 - 8192 0 - 1 - 0");
+    assert_eq!(lines[52], "T 8192 17 17 65545 20 8195 17 8197 20 0 17");
+    let text = listing(&bundle_of(&cells_with(&[[100, 2, 102, 102, 2, 100]])));
+    assert_eq!(text, "refused 12 at 11188\n");
+}

@@ -10,8 +10,8 @@ use reference::mesh::mesh;
 
 fn words_of(grid: &Sample) -> Vec<u32> {
     let mut area = vec![0; 3_000_000];
-    let triangles = mesh(grid.lists(&grid.starts()), &mut area).expect("an accepted grid");
-    area.truncate(triangles as usize * TRIANGLE_WORDS);
+    let answer = mesh(grid.lists(&grid.starts()), &mut area).expect("an accepted grid");
+    area.truncate(answer.triangles as usize * TRIANGLE_WORDS);
     area
 }
 

@@ -5,6 +5,7 @@ use reference::cell::{NO_NUMBER, TRIANGLE_WORDS};
 use reference::gen::{random_shape, Rng, Sample};
 use reference::mesh::mesh;
 use reference::places::{places, Place};
+use reference::split::is_split;
 use reference::Refusal;
 
 const UNTOUCHED: f64 = -77.25;
@@ -30,7 +31,7 @@ struct Call {
 }
 
 impl Call {
-    fn run(&mut self) -> Result<u32, Refusal> {
+    fn run(&mut self) -> Result<u64, Refusal> {
         let starts = self.grid.starts();
         places(
             self.grid.lists(&starts),
@@ -92,9 +93,10 @@ fn call(rng: &mut Rng, grid: Sample, whole: bool) -> Call {
 /// triangles; of a fan these are its points in order.
 fn loops_of_mesh(grid: &Sample) -> Vec<(usize, bool, Vec<usize>)> {
     let mut area = vec![0; 2_000_000];
-    let triangles = mesh(grid.lists(&grid.starts()), &mut area).expect("an accepted grid");
+    let answer = mesh(grid.lists(&grid.starts()), &mut area).expect("an accepted grid");
+    assert_eq!(answer.splits, 0);
     let mut found: Vec<((u32, u32), bool, Vec<usize>)> = Vec::new();
-    for words in area.chunks(TRIANGLE_WORDS).take(triangles as usize) {
+    for words in area.chunks(TRIANGLE_WORDS).take(answer.triangles as usize) {
         let name = (words[0], words[1]);
         match found.last_mut() {
             Some((last, _, points)) if *last == name => points.push(words[2] as usize),
@@ -231,9 +233,12 @@ fn random_grids_are_placed_alike() {
     for seed in 0..80 {
         let most = rng.between(1, 12) as u16;
         let grid = random_shape(&mut Rng::new(seed)).with_counts(&mut rng, 0, most);
+        if grid.counts_in_cells().into_iter().any(is_split) {
+            continue;
+        }
         let mut call = call(&mut rng, grid, seed % 2 == 0);
         let expected = plain_places(&call);
-        assert_eq!(call.run(), Ok(expected.len() as u32 / 3));
+        assert_eq!(call.run(), Ok(expected.len() as u64 / 3));
         let (written, rest) = call.area.split_at(expected.len());
         let same = written
             .iter()

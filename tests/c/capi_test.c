@@ -1,10 +1,13 @@
 /* Calls every function of include/citternblaze.h and prints what it answers;
  * capi_test.out has what must be printed. A number that no call may touch is
  * printed as "-". */
+#define _POSIX_C_SOURCE 200112L
 #include "citternblaze.h"
 
 #include <inttypes.h>
+#include <pthread.h>
 #include <stdio.h>
+#include <stdlib.h>
 #include <string.h>
 
 #define ROOM 8
@@ -114,6 +117,10 @@ static void test_book(void) {
   static const uint16_t turned[6] = {9, 11, 6, 12, 15, 5};
   static const uint16_t quads[6] = {4, 12, 9, 10, 7, 5};
   static const uint16_t most[6] = {65535, 65533, 65532, 65532, 65533, 65535};
+  static const uint16_t split[6] = {4, 2, 6, 6, 2, 4};
+  static const uint16_t not_split[6] = {3, 2, 5, 5, 2, 3};
+  static const uint16_t longest[6] = {4092, 2, 4094, 4094, 2, 4092};
+  static const uint16_t beyond[6] = {65532, 2, 65534, 65534, 2, 65532};
   static const uint16_t odd[6] = {1, 1, 1, 1, 1, 1};
   static const uint16_t above[6] = {2, 0, 0, 0, 0, 0};
   book("book 0 0 0 0 0 0", none, ROOM);
@@ -124,6 +131,10 @@ static void test_book(void) {
   book("book 9 11 6 12 15 5", turned, ROOM);
   book("book 4 12 9 10 7 5", quads, ROOM);
   book("book 65535 65533 65532 65532 65533 65535", most, ROOM);
+  book("book 4 2 6 6 2 4, split", split, ROOM);
+  book("book 3 2 5 5 2 3, not split", not_split, ROOM);
+  book("book 4092 2 4094 4094 2 4092, split", longest, ROOM);
+  book("book 65532 2 65534 65534 2 65532, split", beyond, ROOM);
   book("book 1 1 1 1 1 1, to be walked", odd, ROOM);
   book("book 2 0 0 0 0 0, to be walked", above, ROOM);
   book("book 2 1 1 1 1 2, answer area of 6", octagon, ENOUGH);
@@ -363,6 +374,153 @@ static void test_places(void) {
   place("places, a fraction of 1", 2, ends, 2, 15, NUMBERS, ROOM);
   place("places, answer area of 6", 2, quarters, 2, 15, NUMBERS, ENOUGH);
   place("places, answer area of 5", 2, quarters, 2, 15, NUMBERS, SHORT);
+}
+
+static const uint16_t six_edges[] = {0, 1, 0, 2, 0, 3, 1, 2, 1, 3, 2, 3};
+
+/* Counts of the cell 0 1 2 3 that keep d1 on 01 and 23, d2 on 02 and 13 and the
+ * sum on 03 and 12. */
+static const uint16_t *spiral(uint16_t d1, uint16_t d2) {
+  static uint16_t of[6];
+  of[0] = of[5] = d1;
+  of[1] = of[4] = d2;
+  of[2] = of[3] = (uint16_t)(d1 + d2);
+  return of;
+}
+
+/* The mesh of the cell 0 1 2 3 with these counts. */
+static size_t mesh_of(const uint16_t *of, uint32_t *area, size_t area_len,
+                      size_t answer_len) {
+  return citternblaze_mesh(cells, 4, six_edges, 12, of, 6, sums(of, 6), 6, area,
+                           area_len, answer, answer_len);
+}
+
+/* A number that tells so many words of 32 bits, and their order. */
+static void show_digest(const void *words, size_t many) {
+  uint64_t sum = UINT64_C(0xcbf29ce484222325);
+  for (size_t i = 0; i < many; i++) {
+    uint32_t word;
+    memcpy(&word, (const char *)words + sizeof word * i, sizeof word);
+    sum = (sum ^ word) * UINT64_C(0x100000001b3);
+  }
+  printf("  digest %016" PRIx64 "\n", sum);
+}
+
+static void show_triangles(const uint32_t *words, size_t triangles) {
+  for (size_t i = 0; i < 11 * triangles; i++) {
+    if (i % 11 == 0)
+      printf("  T");
+    if (words[i] == UINT32_MAX)
+      printf(" -");
+    else
+      printf(" %" PRIu32, words[i]);
+    if (i % 11 == 10)
+      printf("\n");
+  }
+}
+
+#define SPLIT_WORDS (11 * 196)
+
+/* Cells that are split: the words of one split, and of more splits what tells
+ * them; and, of a cell that is not, its fan. */
+static void test_split(void) {
+  static const uint16_t turned[6] = {5, 5, 7, 8, 2, 6};
+  static uint32_t area[SPLIT_WORDS];
+  show("mesh of (4, 2)", mesh_of(spiral(4, 2), area, 11 * 52, ROOM));
+  show_triangles(area, 52);
+  show("mesh of (4, 2), with corners", mesh_of(turned, area, 11 * 55, ROOM));
+  show_triangles(area, 3);
+  memset(area, 0xa5, sizeof area);
+  show("mesh of (4, 2), area of 571", mesh_of(spiral(4, 2), area, 571, ROOM));
+  show("mesh of (4, 2), no area", mesh_of(spiral(4, 2), NULL, 0, ROOM));
+  show("mesh of (4, 2), answer area of 5",
+       mesh_of(spiral(4, 2), area, SPLIT_WORDS, SHORT));
+  show_digest(area, SPLIT_WORDS);
+  show("mesh of (4, 2), answer area of 6",
+       mesh_of(spiral(4, 2), area, SPLIT_WORDS, ENOUGH));
+  show_digest(area, SPLIT_WORDS);
+  show("mesh of (6, 2)", mesh_of(spiral(6, 2), area, 11 * 96, ROOM));
+  show_digest(area, 11 * 96);
+  show("mesh of (10, 4)", mesh_of(spiral(10, 4), area, 11 * 196, ROOM));
+  show_digest(area, 11 * 196);
+  show("mesh of (3, 2)", mesh_of(spiral(3, 2), area, SPLIT_WORDS, ROOM));
+  show_triangles(area, 1);
+  show("loop 1 of (4, 2)",
+       citternblaze_loops(cells, 4, six_edges, 12, spiral(4, 2), 6,
+                          sums(spiral(4, 2), 6), 6, 0, 1, answer, ROOM));
+}
+
+/* The places of the cell 0 1 2 3 with these counts: node 0 at zero, the others at
+ * 24 on an axis each; the crossings of an edge at even distances. */
+static size_t places_of(const uint16_t *of, double *fractions, size_t more,
+                        double *area, size_t area_len) {
+  static const double nodes[12] = {0, 0, 0, 24, 0, 0, 0, 24, 0, 0, 0, 24};
+  size_t many = 0;
+  for (int edge = 0; edge < 6; edge++)
+    for (int i = 1; i <= of[edge]; i++)
+      fractions[many++] = i / (of[edge] + 1.0);
+  return citternblaze_places(cells, 4, six_edges, 12, of, 6, sums(of, 6), 6,
+                             nodes, 12, fractions, many + more, area, area_len,
+                             answer, ROOM);
+}
+
+/* Of (4, 2) the 24 outer crossings, of which the last is shown, then 12 inner ones
+ * and four middles. */
+static void test_split_places(void) {
+  double fractions[36] = {0}, area[3 * 40];
+  for (size_t i = 0; i < 3 * 40; i++)
+    area[i] = -77;
+  show("places of (4, 2)", places_of(spiral(4, 2), fractions, 0, area, 120));
+  for (int point = 23; point < 40; point++)
+    printf("  %d: %.15g %.15g %.15g\n", point, area[3 * point],
+           area[3 * point + 1], area[3 * point + 2]);
+  show("places of (4, 2), area of 119",
+       places_of(spiral(4, 2), fractions, 0, area, 119));
+  show("places of (4, 2), 36 fractions",
+       places_of(spiral(4, 2), fractions, 12, area, 120));
+}
+
+#define DEEP_TRIANGLES ((size_t)16793556)
+#define DEEP_POINTS ((size_t)8404968)
+#define DEEP_CROSSINGS 16376
+
+/* The most splits that a cell can have, 2045, each within the one before: its mesh,
+ * 739 MB, and its places, 202 MB. */
+static void *call_deep(void *failed) {
+  uint32_t *words = malloc(11 * DEEP_TRIANGLES * sizeof *words);
+  if (words == NULL)
+    return failed;
+  show("mesh of (4092, 2)",
+       mesh_of(spiral(4092, 2), words, 11 * DEEP_TRIANGLES, ROOM));
+  show_digest(words, 11 * DEEP_TRIANGLES);
+  show_triangles(words + 11 * (DEEP_TRIANGLES - 1), 1);
+  show("mesh of (4092, 2), a word too short",
+       mesh_of(spiral(4092, 2), words, 11 * DEEP_TRIANGLES - 1, ROOM));
+  free(words);
+  double *fractions = malloc(DEEP_CROSSINGS * sizeof *fractions);
+  double *area = malloc(3 * DEEP_POINTS * sizeof *area);
+  if (fractions == NULL || area == NULL)
+    return failed;
+  show("places of (4092, 2)", places_of(spiral(4092, 2), fractions, 0, area,
+                                        3 * DEEP_POINTS));
+  show_digest(area, 6 * DEEP_POINTS);
+  free(fractions);
+  free(area);
+  return NULL;
+}
+
+/* The same on a thread with exactly the stack that the header names. */
+static void test_deep(void) {
+  static char failed[] = "no memory or no thread";
+  pthread_attr_t with_stack;
+  pthread_t thread;
+  void *outcome = failed;
+  if (pthread_attr_init(&with_stack) == 0 &&
+      pthread_attr_setstacksize(&with_stack, CITTERNBLAZE_STACK_BYTES) == 0 &&
+      pthread_create(&thread, &with_stack, call_deep, failed) == 0)
+    pthread_join(thread, &outcome);
+  if (outcome != NULL)
+    printf("%s\n", (const char *)outcome);
 }
 
 /* The sides of cells 0 1 2 3 and 0 1 2 4 with these counts. Each byte that differs
@@ -872,8 +1030,11 @@ int main(void) {
   test_open();
   test_set();
   test_mesh();
+  test_split();
   test_loops();
   test_places();
+  test_split_places();
+  test_deep();
   test_shading();
   test_flat();
   test_record();

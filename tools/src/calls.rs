@@ -18,6 +18,18 @@ pub const TRIANGLE_WORDS: usize = 11;
 /// loop's middle, and the first word of an inner side.
 pub const NO_NUMBER: u32 = u32::MAX;
 
+/// CITTERNBLAZE_MOST_CELLS: a grid has no more, and word 0 of a triangle is its cell
+/// and so many times the number of its sub-cell.
+pub const MOST_CELLS: u32 = 2_048;
+
+/// CITTERNBLAZE_INNER_CROSSING and CITTERNBLAZE_INNER_FACE: the first number of a
+/// split cell's inner crossings, and the first name of its inner faces.
+pub const INNER_CROSSING: u32 = 65_536;
+pub const INNER_FACE: u32 = 8_192;
+
+/// CITTERNBLAZE_STACK_BYTES: the stack that suffices for any call.
+pub const STACK_BYTES: usize = 2_560 * 1_024;
+
 /// The first number of an answer that is a result.
 const DONE: u64 = 0;
 
@@ -202,7 +214,8 @@ impl Grid {
         self.mesh_within(usize::MAX)
     }
 
-    /// The mesh call.
+    /// The mesh call. It answers the number of splits besides, which the sub-cells
+    /// in the words tell too.
     fn mesh_into(&self, words: &mut [u32]) -> Result<(), Refusal> {
         let numbers = answer(|area, len| unsafe {
             c::citternblaze_mesh(

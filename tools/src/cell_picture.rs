@@ -4,7 +4,7 @@
 use std::collections::HashMap;
 
 use crate::calls::{Grid, Loop, Refusal};
-use crate::cells::loops_of;
+use crate::cells::{loops_of, Ways};
 use crate::face_curves::PlacedFace;
 use crate::face_picture::{
     draw_joining, placed_edges, unjoined_entries, Crossings, PlacedEdge, EDGE, OPEN,
@@ -13,7 +13,6 @@ use crate::faces::{faces_of_cell, Face, Joining, Segment};
 use crate::legend::{self, Entry, Mark};
 use crate::loops::{counted, loop_in_words};
 use crate::marks::{draw_head, draw_node};
-use crate::mesh::{Mesh, Side};
 use crate::plane::Point;
 use crate::svg::{Label, Stroke, Svg, BLUE, GREEN, ORANGE, PURPLE, SKY, VERMILION};
 
@@ -62,7 +61,7 @@ pub fn picture(
         .map(|((face, joining), corners)| PlacedFace::new(face, joining, corners, fractions))
         .collect();
     let loops = loops_of(grid, cell)?;
-    let strokes = segment_strokes(&Mesh::of(grid)?, cell, &loops);
+    let strokes = segment_strokes(&Ways::of(&own, &joinings), &loops);
     let nodes = &grid.lists().cells[4 * cell..4 * cell + 4];
     let edges = net_edges(grid, &placed, fractions);
     let crossings = Crossings::among(&edges);
@@ -84,18 +83,13 @@ pub fn picture(
     Ok(svg.finish())
 }
 
-/// The stroke of each segment of a cell that is on a loop, by the names of the
-/// mesh's sides.
-fn segment_strokes(mesh: &Mesh, cell: usize, loops: &[Loop]) -> HashMap<(usize, usize), Stroke> {
-    let order: HashMap<u64, usize> = loops.iter().map(|of| of.p0).zip(0..).collect();
+/// The stroke of each segment of a cell that is on a loop, by its name. The loops
+/// are followed over the faces: the triangles of a split cell are not of its loops.
+fn segment_strokes(ways: &Ways, loops: &[Loop]) -> HashMap<(usize, usize), Stroke> {
     let mut strokes = HashMap::new();
-    for triangle in mesh.triangles.iter().filter(|of| of.cell as usize == cell) {
-        let index = order.get(&u64::from(triangle.p0)).copied().unwrap_or(0);
-        for side in triangle.sides {
-            if let Side::Segment { face, crossing } = side {
-                strokes.insert((face as usize, crossing as usize), loop_stroke(index));
-            }
-        }
+    for (index, found) in loops.iter().enumerate() {
+        let names = ways.segments(found).into_iter();
+        strokes.extend(names.map(|name| (name, loop_stroke(index))));
     }
     strokes
 }

@@ -1,6 +1,10 @@
-//! The cells of a grid one by one: their edges, and their loops.
+//! The cells of a grid one by one: their edges, their loops, and the segments of
+//! these.
+
+use std::collections::HashMap;
 
 use crate::calls::{Grid, Lists, Loop, Refusal};
+use crate::faces::{Face, Joining};
 
 /// A cell as a grid of its own. Its loops depend on its six counts alone, and its
 /// edges stand in the same order as in the whole grid, so they are the loops of the
@@ -70,4 +74,46 @@ pub fn loops_of(grid: &Grid, cell: usize) -> Result<Vec<Loop>, Refusal> {
         loops.push(Loop { p0, ..found });
     }
     Ok(loops)
+}
+
+/// A segment as it is met at one of its ends: its face, and the crossing there.
+#[derive(Clone, Copy)]
+struct Way {
+    face: usize,
+    to: usize,
+}
+
+/// The ways from each crossing of a cell, one on each of its faces where it is
+/// joined.
+pub struct Ways(HashMap<usize, Vec<Way>>);
+
+impl Ways {
+    /// From the faces of a cell and how their crossings are joined.
+    pub fn of(faces: &[&Face], joinings: &[Joining]) -> Ways {
+        let mut ways: HashMap<usize, Vec<Way>> = HashMap::new();
+        for (face, joining) in faces.iter().zip(joinings) {
+            for segment in &joining.segments {
+                let [low, high] = segment.ends.map(|end| end.number);
+                for (from, to) in [(low, high), (high, low)] {
+                    let face = face.name;
+                    ways.entry(from).or_default().push(Way { face, to });
+                }
+            }
+        }
+        Ways(ways)
+    }
+
+    /// The segments of a loop of the cell, by their names: the face and the lower
+    /// crossing. From p0 it goes from face to face, and is back after its length.
+    pub fn segments(&self, of: &Loop) -> Vec<(usize, usize)> {
+        let mut names = Vec::new();
+        let (mut at, mut came) = (of.p0 as usize, None);
+        for _ in 0..of.length {
+            let way = self.0[&at].iter().find(|way| Some(way.face) != came);
+            let Way { face, to } = *way.expect("a crossing of a loop is joined on both faces");
+            names.push((face, at.min(to)));
+            (at, came) = (to, Some(face));
+        }
+        names
+    }
 }

@@ -1,7 +1,7 @@
 //! The legend below a picture: marks, each with its words.
 
 use crate::calls::Why;
-use crate::marks::{draw_number, draw_unjoined};
+use crate::marks::{draw_number, draw_ring, draw_unjoined};
 use crate::plane::Point;
 use crate::svg::{Label, Stroke, Svg, BLACK};
 
@@ -13,6 +13,7 @@ pub enum Mark {
     Unjoined(Why),
     Number,
     Dot(f64),
+    Ring(f64),
     Nothing,
 }
 
@@ -72,6 +73,7 @@ fn draw_mark(svg: &mut Svg, left: Point, mark: Mark) {
         Mark::Unjoined(why) => draw_unjoined(svg, centre, why, 5.0),
         Mark::Number => draw_number(svg, centre, 7, 8.0),
         Mark::Dot(radius) => svg.disc(centre, radius, BLACK, Stroke::solid(BLACK, 1.0)),
+        Mark::Ring(radius) => draw_ring(svg, centre, radius),
         Mark::Nothing => {}
     }
 }

@@ -31,3 +31,4 @@ pub mod refusals;
 pub mod source;
 pub mod svg;
 pub mod text;
+pub mod triangle_types;

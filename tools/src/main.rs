@@ -1,17 +1,36 @@
 use std::env;
 use std::io::{self, Write};
 use std::process::ExitCode;
+use std::thread;
 
+use citternblaze::calls::STACK_BYTES;
+
+/// What the program's own functions have of the stack.
+const OWN_STACK_BYTES: usize = 1_024 * 1_024;
+
+/// Runs a command on a thread of its own, whose stack suffices for any call,
+/// whatever the system gives to a program's first thread.
 fn main() -> ExitCode {
+    let thread = thread::Builder::new().stack_size(STACK_BYTES + OWN_STACK_BYTES);
+    match thread.spawn(run).map(thread::JoinHandle::join) {
+        Ok(Ok(code)) => code,
+        Ok(Err(_)) => ExitCode::from(101),
+        Err(error) => told(format_args!("no thread: {error}")),
+    }
+}
+
+fn run() -> ExitCode {
     let arguments = env::args_os()
         .skip(1)
         .map(|argument| argument.to_string_lossy().into_owned());
     match citternblaze::commands::run(arguments.collect()) {
         Ok(()) => ExitCode::SUCCESS,
-        Err(fault) => {
-            // a standard error that takes nothing leaves the exit status
-            let _ = writeln!(io::stderr(), "citternblaze: {fault}");
-            ExitCode::FAILURE
-        }
+        Err(fault) => told(format_args!("{fault}")),
     }
+}
+
+fn told(fault: std::fmt::Arguments<'_>) -> ExitCode {
+    // a standard error that takes nothing leaves the exit status
+    let _ = writeln!(io::stderr(), "citternblaze: {fault}");
+    ExitCode::FAILURE
 }

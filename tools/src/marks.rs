@@ -13,6 +13,11 @@ pub fn draw_number(svg: &mut Svg, at: Point, number: usize, radius: f64) {
     svg.text(at, Label::middle(&text, size));
 }
 
+/// A crossing without a number.
+pub fn draw_ring(svg: &mut Svg, at: Point, radius: f64) {
+    svg.disc(at, radius, "#ffffff", Stroke::solid(BLACK, 1.0));
+}
+
 /// The mark of an unjoined crossing: a cross where rule 2 left it, a square where
 /// rule 3 skipped it.
 pub fn draw_unjoined(svg: &mut Svg, at: Point, why: Why, half: f64) {

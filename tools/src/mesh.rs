@@ -1,54 +1,90 @@
 //! The triangles of a mesh, from the words of the mesh call, and the points that
 //! are their corners.
 
-use std::collections::HashMap;
+use std::collections::{BTreeMap, HashMap};
 
-use crate::calls::{Grid, Loop, Refusal, NO_NUMBER, TRIANGLE_WORDS};
-use crate::cells::loops_of;
-use crate::progress::Progress;
+use crate::calls::{
+    Grid, Refusal, INNER_CROSSING, INNER_FACE, MOST_CELLS, NO_NUMBER, TRIANGLE_WORDS,
+};
 
-/// A side of a triangle.
+/// What word 0 tells: a cell, or a sub-cell of a split cell.
 #[derive(Clone, Copy, Debug, PartialEq, Eq, Hash, PartialOrd, Ord)]
-pub enum Side {
-    /// A segment: its face's name and its lower crossing.
-    Segment { face: u32, crossing: u32 },
-    /// An inner side, identified by the cell and p0 of its loop and its number.
-    Inner { cell: u32, p0: u32, number: u32 },
+pub struct Part {
+    pub cell: u32,
+    /// The number of the sub-cell, from 1, or 0 for the cell itself.
+    pub sub_cell: u32,
 }
 
-/// A corner of a triangle.
+impl Part {
+    fn of(word: u32) -> Part {
+        Part {
+            cell: word % MOST_CELLS,
+            sub_cell: word / MOST_CELLS,
+        }
+    }
+
+    pub fn is_sub_cell(self) -> bool {
+        self.sub_cell > 0
+    }
+}
+
+/// A side of a triangle. Those that are in two triangles of any mesh rank first.
+#[derive(Clone, Copy, Debug, PartialEq, Eq, Hash, PartialOrd, Ord)]
+pub enum Side {
+    /// An inner side, identified by words 0 and 1 of its triangles and its number.
+    Inner { part: Part, p0: u32, number: u32 },
+    /// A segment of an inner face, which belongs to its cell.
+    InnerSegment { cell: u32, face: u32, crossing: u32 },
+    /// A segment: its face's name and its lower crossing.
+    Segment { face: u32, crossing: u32 },
+}
+
+/// A corner of a triangle. Those with one ring in any mesh rank first.
 #[derive(Clone, Copy, Debug, PartialEq, Eq, Hash, PartialOrd, Ord)]
 pub enum Corner {
-    Crossing(u32),
-    /// The middle of the loop with this cell and p0.
+    /// The middle of the loop with this part and p0.
     Middle {
-        cell: u32,
+        part: Part,
         p0: u32,
     },
+    /// An inner crossing, which belongs to its cell.
+    InnerCrossing {
+        cell: u32,
+        crossing: u32,
+    },
+    Crossing(u32),
 }
 
 /// A triangle by value. Side t runs from corner t to the next.
 #[derive(Clone, Copy, Debug, PartialEq, Eq)]
 pub struct Triangle {
-    pub cell: u32,
+    pub part: Part,
     pub p0: u32,
     pub corners: [Corner; 3],
     pub sides: [Side; 3],
 }
 
-/// The triangle of eleven words (docs/FORMAT.md, "Triangles").
+/// The triangle of eleven words (docs/FORMAT.md, "Triangles" and "Split cells").
 pub fn triangle(words: [u32; TRIANGLE_WORDS]) -> Triangle {
-    let [cell, p0, ..] = words;
+    let [word, p0, ..] = words;
+    let part = Part::of(word);
+    let cell = part.cell;
     let corner = |at: usize| match words[2 + at] {
-        NO_NUMBER => Corner::Middle { cell, p0 },
-        crossing => Corner::Crossing(crossing),
+        NO_NUMBER => Corner::Middle { part, p0 },
+        crossing if crossing < INNER_CROSSING => Corner::Crossing(crossing),
+        crossing => Corner::InnerCrossing { cell, crossing },
     };
     let side = |at: usize| match [words[5 + 2 * at], words[6 + 2 * at]] {
-        [NO_NUMBER, number] => Side::Inner { cell, p0, number },
-        [face, crossing] => Side::Segment { face, crossing },
+        [NO_NUMBER, number] => Side::Inner { part, p0, number },
+        [face, crossing] if face < INNER_FACE => Side::Segment { face, crossing },
+        [face, crossing] => Side::InnerSegment {
+            cell,
+            face,
+            crossing,
+        },
     };
     Triangle {
-        cell,
+        part,
         p0,
         corners: [0, 1, 2].map(corner),
         sides: [0, 1, 2].map(side),
@@ -56,67 +92,106 @@ pub fn triangle(words: [u32; TRIANGLE_WORDS]) -> Triangle {
 }
 
 /// The triangles of whole groups of words.
-pub fn triangles(words: &[u32]) -> Vec<Triangle> {
+pub fn triangles(words: &[u32]) -> impl Iterator<Item = Triangle> + '_ {
     let groups = words.chunks_exact(TRIANGLE_WORDS);
     let whole = groups.filter_map(|group| <[u32; TRIANGLE_WORDS]>::try_from(group).ok());
-    whole.map(triangle).collect()
+    whole.map(triangle)
 }
 
-/// The mesh of a grid.
+/// The mesh of a grid. It keeps the words: a split cell can have millions of
+/// triangles.
 pub struct Mesh {
-    pub triangles: Vec<Triangle>,
+    words: Vec<u32>,
     crossings: usize,
-    /// The number of each middle's point, by cell and p0.
-    middles: HashMap<(u32, u32), usize>,
+    inner: InnerCrossings,
+    /// The number of each middle among them, by the part and p0 of its loop.
+    middles: HashMap<(Part, u32), usize>,
+}
+
+/// The inner crossings of all cells, by cell and number.
+#[derive(Default)]
+struct InnerCrossings {
+    /// How many there are in the cells before each split cell.
+    before: BTreeMap<u32, usize>,
+    all: usize,
+}
+
+impl InnerCrossings {
+    /// From how many there are in each cell.
+    fn of(counts: BTreeMap<u32, usize>) -> InnerCrossings {
+        let mut inner = InnerCrossings::default();
+        for (cell, count) in counts {
+            inner.before.insert(cell, inner.all);
+            inner.all += count;
+        }
+        inner
+    }
 }
 
 impl Mesh {
     pub fn of(grid: &Grid) -> Result<Mesh, Refusal> {
-        let triangles = triangles(&grid.mesh()?);
+        let words = grid.mesh()?;
+        let mut counts = BTreeMap::new();
         let mut middles = HashMap::new();
-        for corner in triangles.iter().flat_map(|triangle| triangle.corners) {
-            if let Corner::Middle { cell, p0 } = corner {
-                let next = grid.crossings() + middles.len();
-                middles.entry((cell, p0)).or_insert(next);
+        for corner in triangles(&words).flat_map(|triangle| triangle.corners) {
+            match corner {
+                Corner::Crossing(_) => {}
+                Corner::InnerCrossing { cell, crossing } => {
+                    // each is a corner, so the highest tells how many there are
+                    let number = (crossing - INNER_CROSSING) as usize;
+                    let count = counts.entry(cell).or_insert(0);
+                    *count = (number + 1).max(*count);
+                }
+                Corner::Middle { part, p0 } => {
+                    let next = middles.len();
+                    middles.entry((part, p0)).or_insert(next);
+                }
             }
         }
         Ok(Mesh {
-            triangles,
+            words,
             crossings: grid.crossings(),
+            inner: InnerCrossings::of(counts),
             middles,
         })
     }
 
-    /// How many of its loops are fans: each has a middle.
+    pub fn triangles(&self) -> impl Iterator<Item = Triangle> + '_ {
+        triangles(&self.words)
+    }
+
+    /// How many triangles it has.
+    pub fn size(&self) -> usize {
+        self.words.len() / TRIANGLE_WORDS
+    }
+
+    /// How many inner crossings its split cells have.
+    pub fn inner_crossings(&self) -> usize {
+        self.inner.all
+    }
+
+    /// How many loops are fans: each has a middle.
     pub fn fans(&self) -> usize {
         self.middles.len()
     }
 
     /// How many points the places call places.
     pub fn points(&self) -> usize {
-        self.crossings + self.fans()
+        self.crossings + self.inner_crossings() + self.fans()
     }
 
-    /// The number of a corner's point: crossings stand first, then the middles in
-    /// the order of the mesh.
+    /// The number of the point of one of its corners: crossings stand first, then
+    /// the inner ones by cell and number, then the middles in the order of the mesh.
     pub fn point(&self, corner: Corner) -> usize {
         match corner {
             Corner::Crossing(crossing) => crossing as usize,
-            Corner::Middle { cell, p0 } => self.middles.get(&(cell, p0)).copied().unwrap_or(0),
+            Corner::InnerCrossing { cell, crossing } => {
+                let within = (crossing - INNER_CROSSING) as usize;
+                self.crossings + self.inner.before[&cell] + within
+            }
+            Corner::Middle { part, p0 } => {
+                self.crossings + self.inner.all + self.middles[&(part, p0)]
+            }
         }
     }
-}
-
-/// The loops of all cells that the mesh draws, by cell and p0.
-pub fn all_loops(grid: &Grid) -> Result<HashMap<(u32, u32), Loop>, Refusal> {
-    let cells = grid.lists().cells.len() / 4;
-    let mut progress = Progress::new("cells walked:", cells);
-    let mut all = HashMap::new();
-    for cell in 0..cells {
-        for found in loops_of(grid, cell)? {
-            all.insert((cell as u32, found.p0 as u32), found);
-        }
-        progress.step();
-    }
-    Ok(all)
 }

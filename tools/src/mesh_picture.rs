@@ -2,16 +2,17 @@
 //! first. Hidden sides come last, dotted: over a side that is seen its dots cannot
 //! be told from it.
 
-use std::collections::HashMap;
+use std::collections::HashSet;
 
-use crate::calls::{Grid, Loop};
+use crate::calls::{Grid, LoopType};
 use crate::legend::{self, Entry, Mark};
 use crate::loops::counted;
-use crate::marks::{draw_head, draw_number};
+use crate::marks::{draw_head, draw_number, draw_ring};
 use crate::mesh::{Mesh, Triangle};
 use crate::plane::Point;
 use crate::progress::Progress;
-use crate::svg::{Label, Stroke, Svg, BLACK, BLUE, GREY, SKY, YELLOW};
+use crate::svg::{Label, Stroke, Svg, BLACK, BLUE, GREY, PURPLE, SKY, YELLOW};
+use crate::triangle_types::{Loops, TriangleType};
 
 const WIDTH: f64 = 720.0;
 /// The room for the projection.
@@ -32,8 +33,9 @@ const GRID_HIDDEN: Stroke = Stroke {
     dashes: "0.5 4",
 };
 
-/// The radius of a middle's dot.
+/// The radius of a middle's dot, and of an inner crossing's ring.
 const MIDDLE: f64 = 3.0;
+const INNER: f64 = 2.5;
 
 /// So many crossings or nodes are named; more would hide the mesh.
 const NAMED: usize = 60;
@@ -99,7 +101,7 @@ impl Seen {
 pub struct Scene<'a> {
     pub grid: &'a Grid,
     pub mesh: &'a Mesh,
-    pub loops: &'a HashMap<(u32, u32), Loop>,
+    pub loops: &'a Loops,
     /// Three numbers for each node.
     pub nodes: &'a [f64],
     pub points: &'a [[f64; 3]],
@@ -174,7 +176,7 @@ pub fn picture(scene: &Scene<'_>, view: View) -> String {
     let cells = counted(scene.grid.lists().cells.len() / 4, "cell");
     let title = format!(
         "Mesh of {cells}: {}",
-        counted(scene.mesh.triangles.len(), "triangle")
+        counted(scene.mesh.size(), "triangle")
     );
     let mut svg = Svg::new(WIDTH, below + legend::height(&entries), &title);
     let View { round, up } = view;
@@ -188,12 +190,12 @@ pub fn picture(scene: &Scene<'_>, view: View) -> String {
 }
 
 /// What is drawn farthest first: a triangle, or a piece of an edge of the grid.
-enum Shape<'a> {
-    Triangle(&'a Triangle, [Seen; 3]),
+enum Shape {
+    Triangle(TriangleType, [Seen; 3]),
     Piece([Seen; 2]),
 }
 
-impl Shape<'_> {
+impl Shape {
     /// How near its middle is.
     fn near(&self) -> f64 {
         let corners = match self {
@@ -212,10 +214,8 @@ fn corners(scene: &Scene<'_>, triangle: &Triangle, seen: &[Seen]) -> [Seen; 3] {
 
 /// The triangles and the edges of the grid, those whose middle is farthest first.
 fn draw_shapes(svg: &mut Svg, scene: &Scene<'_>, frame: &Frame, seen: &[Seen]) {
-    let triangles = scene.mesh.triangles.iter();
-    let mut shapes: Vec<Shape<'_>> = triangles
-        .map(|triangle| Shape::Triangle(triangle, corners(scene, triangle, seen)))
-        .collect();
+    let shape = |of: Triangle| Shape::Triangle(scene.loops.type_of(&of), corners(scene, &of, seen));
+    let mut shapes: Vec<Shape> = scene.mesh.triangles().map(shape).collect();
     for edge in 0..scene.grid.lists().counts.len() {
         shapes.extend(
             pieces(scene, frame, seen, edge)
@@ -228,9 +228,9 @@ fn draw_shapes(svg: &mut Svg, scene: &Scene<'_>, frame: &Frame, seen: &[Seen]) {
     for shape in shapes {
         match shape {
             Shape::Piece(ends) => svg.line(ends.map(|end| end.at), GRID),
-            Shape::Triangle(triangle, corners) => {
+            Shape::Triangle(of, corners) => {
                 let corners = corners.map(|corner| corner.at);
-                svg.polygon(&corners, colour(scene, triangle), 0.9, SIDE);
+                svg.polygon(&corners, colour(of), 0.9, SIDE);
             }
         }
         progress.step();
@@ -267,23 +267,19 @@ fn draw_hidden(svg: &mut Svg, scene: &Scene<'_>, frame: &Frame, seen: &[Seen]) {
         let ends = [ends[0], ends[1]].map(|node| frame.see(scene.node(node)).at);
         svg.line(ends, GRID_HIDDEN);
     }
-    for triangle in &scene.mesh.triangles {
-        let [a, b, c] = corners(scene, triangle, seen).map(|corner| corner.at);
+    for triangle in scene.mesh.triangles() {
+        let [a, b, c] = corners(scene, &triangle, seen).map(|corner| corner.at);
         svg.polygon(&[a, b, c], "none", 1.0, HIDDEN);
     }
 }
 
-/// The colour of a triangle: that of its loop's type.
-fn colour(scene: &Scene<'_>, triangle: &Triangle) -> &'static str {
-    let found = scene.loops.get(&(triangle.cell, triangle.p0));
-    type_colour(found.map_or(0, |of| of.kind.number()))
-}
-
-fn type_colour(number: u64) -> &'static str {
-    match number {
-        0 => BLUE,
-        2 => YELLOW,
-        _ => SKY,
+/// The colour of a triangle: that of its loop's type, or one for all sub-cells.
+fn colour(of: TriangleType) -> &'static str {
+    match of {
+        TriangleType::Loop(LoopType::Contractible) => BLUE,
+        TriangleType::Loop(LoopType::Corner(_) | LoopType::LowestCorner(_)) => SKY,
+        TriangleType::Loop(LoopType::Diagonal(_)) => YELLOW,
+        TriangleType::SubCell => PURPLE,
     }
 }
 
@@ -299,37 +295,44 @@ fn draw_names(svg: &mut Svg, scene: &Scene<'_>, frame: &Frame, seen: &[Seen]) {
         }
     }
     if scene.grid.crossings() <= NAMED {
-        for (number, point) in seen.iter().take(scene.grid.crossings()).enumerate() {
-            draw_number(svg, point.at, number, 8.0);
+        let (crossings, others) = seen.split_at(scene.grid.crossings());
+        let (inner, middles) = others.split_at(scene.mesh.inner_crossings());
+        for point in inner {
+            draw_ring(svg, point.at, INNER);
         }
-        for point in &seen[scene.grid.crossings()..] {
+        for point in middles {
             svg.disc(point.at, MIDDLE, BLACK, SIDE);
+        }
+        for (number, point) in crossings.iter().enumerate() {
+            draw_number(svg, point.at, number, 8.0);
         }
     }
 }
 
+/// What the legend says of a colour.
+const COLOURS: [(&str, &str); 4] = [
+    (SKY, "triangle of a loop that cuts off a corner"),
+    (YELLOW, "triangle of a diagonal loop"),
+    (BLUE, "triangle of a contractible loop"),
+    (PURPLE, "triangle of a split cell, in one of its sub-cells"),
+];
+
 /// The lines of the legend for what the picture has.
 fn entries(scene: &Scene<'_>) -> Vec<Entry> {
-    let types = [
-        (vec![1, 3], "triangle of a loop that cuts off a corner"),
-        (vec![2], "triangle of a diagonal loop"),
-        (vec![0], "triangle of a contractible loop"),
-    ];
-    let has = |number: u64| {
-        let mut triangles = scene.mesh.triangles.iter();
-        triangles.any(|of| {
-            let found = scene.loops.get(&(of.cell, of.p0));
-            found.map_or(0, |of| of.kind.number()) == number
-        })
-    };
-    let mut entries = Vec::new();
-    for (numbers, words) in types {
-        if let Some(&number) = numbers.iter().find(|&&number| has(number)) {
-            entries.push(Entry::new(Mark::Patch(type_colour(number)), words));
-        }
-    }
+    let triangles = scene.mesh.triangles();
+    let used: HashSet<&str> = triangles
+        .map(|of| colour(scene.loops.type_of(&of)))
+        .collect();
+    let shown = COLOURS.iter().filter(|of| used.contains(of.0));
+    let mut entries: Vec<Entry> = shown
+        .map(|&(colour, words)| Entry::new(Mark::Patch(colour), words))
+        .collect();
     if scene.grid.crossings() <= NAMED {
         entries.push(Entry::new(Mark::Number, "crossing with its number"));
+        if scene.mesh.inner_crossings() > 0 {
+            let words = "inner crossing of a split cell";
+            entries.push(Entry::new(Mark::Ring(INNER), words));
+        }
         if scene.mesh.fans() > 0 {
             entries.push(Entry::new(Mark::Dot(MIDDLE), "middle of a loop"));
         }

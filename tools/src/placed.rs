@@ -99,7 +99,7 @@ fn each_of_an_edge(grid: &Grid, text: &Text) -> Result<(), Fault> {
     Ok(())
 }
 
-/// The placed points of a mesh: crossings, then the middles of fans.
+/// The placed points of a mesh: crossings, inner crossings, middles of fans.
 pub fn points(grid: &Grid, text: &Text, mesh: &Mesh) -> Result<Vec<[f64; 3]>, Fault> {
     let nodes = node_places(grid, text)?;
     let fractions = stated_fractions(grid, text)?;

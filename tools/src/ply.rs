@@ -1,26 +1,28 @@
-//! The placed mesh as a PLY file: crossings and middles as vertices, triangles in
-//! the order of the mesh, each with its cell, the p0 of its loop and the number of
-//! the loop's type.
+//! The placed mesh as a PLY file: crossings, inner crossings and middles as
+//! vertices, triangles in the order of the mesh, each with its cell, the p0 of its
+//! loop, the number of its type and that of its sub-cell.
 
-use std::collections::HashMap;
 use std::fmt::Write;
 
-use crate::calls::Loop;
 use crate::digits::significant;
-use crate::mesh::Mesh;
+use crate::mesh::{Mesh, Part};
+use crate::triangle_types::Loops;
 
 /// The text of the file.
-pub fn ply(mesh: &Mesh, points: &[[f64; 3]], loops: &HashMap<(u32, u32), Loop>) -> String {
-    let mut out = header(points.len(), mesh.triangles.len());
+pub fn ply(mesh: &Mesh, points: &[[f64; 3]], loops: &Loops) -> String {
+    let mut out = header(points.len(), mesh.size());
     for point in points {
         let [x, y, z] = point.map(significant);
         add(&mut out, format_args!("{x} {y} {z}"));
     }
-    for triangle in &mesh.triangles {
+    for triangle in mesh.triangles() {
         let [a, b, c] = triangle.corners.map(|corner| mesh.point(corner));
-        let (cell, p0) = (triangle.cell, triangle.p0);
-        let kind = loops.get(&(cell, p0)).map_or(0, |of| of.kind.number());
-        add(&mut out, format_args!("3 {a} {b} {c} {cell} {p0} {kind}"));
+        let Part { cell, sub_cell } = triangle.part;
+        let (p0, number) = (triangle.p0, loops.type_of(&triangle).number());
+        add(
+            &mut out,
+            format_args!("3 {a} {b} {c} {cell} {p0} {number} {sub_cell}"),
+        );
     }
     out
 }
@@ -29,8 +31,9 @@ fn header(vertices: usize, faces: usize) -> String {
     format!(
         "ply\n\
          format ascii 1.0\n\
-         comment Citternblaze: crossings, then middles of fans; triangles in mesh order\n\
-         comment type: 0 contractible, 1 corner, 2 diagonal, 3 corner at the lowest node\n\
+         comment Citternblaze: crossings, inner crossings, middles; triangles in mesh order\n\
+         comment type: 0 contractible, 1 corner, 2 diagonal, 3 corner at the lowest node,\n\
+         comment 4 in a sub-cell of a split cell; sub_cell: its number, else 0\n\
          element vertex {vertices}\n\
          property double x\n\
          property double y\n\
@@ -40,6 +43,7 @@ fn header(vertices: usize, faces: usize) -> String {
          property int cell\n\
          property int p0\n\
          property uchar type\n\
+         property int sub_cell\n\
          end_header\n"
     )
 }

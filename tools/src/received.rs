@@ -6,7 +6,7 @@ use std::fmt;
 
 use crate::calls::{NO_NUMBER, TRIANGLE_WORDS};
 use crate::fault::Fault;
-use crate::mesh::{triangles, Corner, Side, Triangle};
+use crate::mesh::{triangles, Corner, Part, Side, Triangle};
 use crate::progress::Progress;
 
 /// What was received.
@@ -53,7 +53,7 @@ pub fn read_listing(bytes: &[u8]) -> Result<Received, Fault> {
         }
     }
     Ok(Received {
-        triangles: triangles(&words),
+        triangles: triangles(&words).collect(),
         stated,
     })
 }
@@ -99,7 +99,7 @@ pub fn read_binary(bytes: &[u8]) -> Result<Received, Fault> {
             .fold(0, |sum, &byte| sum << 8 | u32::from(byte))
     };
     let words: Vec<u32> = bytes.chunks_exact(4).map(word).collect();
-    Ok(Received::of(triangles(&words)))
+    Ok(Received::of(triangles(&words).collect()))
 }
 
 /// The numbers of the triangles that have a thing, by this thing.
@@ -111,7 +111,10 @@ pub struct Report {
     pub triangles: usize,
     /// Where the line of totals says another number, this one.
     pub stated: Option<usize>,
+    /// Loops of cells and of sub-cells, told apart by words 0 and 1.
     pub loops: usize,
+    pub sub_cells: usize,
+    pub split_cells: usize,
     pub sides: usize,
     /// Sides in one triangle, and in more than two, with these triangles.
     pub open: Having<Side>,
@@ -149,7 +152,10 @@ pub fn report(received: &Received) -> Report {
     let triangles = &received.triangles[..];
     let sides = having(triangles, |triangle| triangle.sides);
     let points = having(triangles, |triangle| triangle.corners);
-    let loops: BTreeSet<(u32, u32)> = triangles.iter().map(|of| (of.cell, of.p0)).collect();
+    let loops: BTreeSet<(Part, u32)> = triangles.iter().map(|of| (of.part, of.p0)).collect();
+    let parts: BTreeSet<Part> = loops.iter().map(|of| of.0).collect();
+    let sub_cells = parts.iter().filter(|part| part.is_sub_cell());
+    let split_cells: BTreeSet<u32> = sub_cells.clone().map(|part| part.cell).collect();
     let mut ringless = Vec::new();
     let mut progress = Progress::new("points looked at:", points.len());
     for (&corner, at) in &points {
@@ -163,6 +169,8 @@ pub fn report(received: &Received) -> Report {
         triangles: triangles.len(),
         stated: received.stated.filter(|&stated| stated != triangles.len()),
         loops: loops.len(),
+        sub_cells: sub_cells.count(),
+        split_cells: split_cells.len(),
         sides: sides.len(),
         points: points.len(),
         ringless,
@@ -232,22 +240,20 @@ const TOLD: usize = 20;
 
 impl Report {
     /// What no whole mesh has: another number of triangles than is stated, a side in
-    /// more than two, or an inner side in one.
+    /// more than two, or an inner side or a segment of an inner face in one.
     pub fn fault(&self) -> Option<Fault> {
         if let Some(stated) = self.stated {
             let what = format!("{} triangles of {stated}", self.triangles);
             return Some(Fault::new(format!("not a whole mesh: {what}")));
         }
-        let inner = self
-            .open
-            .keys()
-            .filter(|side| matches!(side, Side::Inner { .. }))
-            .count();
-        match (self.crowded.len(), inner) {
-            (0, 0) => None,
-            (crowded, inner) => Some(Fault::new(format!(
+        let open = |kind: fn(&Side) -> bool| self.open.keys().filter(|side| kind(side)).count();
+        let inner = open(|side| matches!(side, Side::Inner { .. }));
+        let segments = open(|side| matches!(side, Side::InnerSegment { .. }));
+        match (self.crowded.len(), inner, segments) {
+            (0, 0, 0) => None,
+            (crowded, ..) => Some(Fault::new(format!(
                 "not a whole mesh: sides in more than two triangles {crowded}, \
-                 inner sides in one {inner}"
+                 inner sides in one {inner}, segments of inner faces in one {segments}"
             ))),
         }
     }
@@ -266,6 +272,10 @@ impl fmt::Display for Report {
             out,
             "triangles {triangles} loops {loops} sides {sides} points {points}"
         )?;
+        if self.split_cells > 0 {
+            let (cells, parts) = (self.split_cells, self.sub_cells);
+            writeln!(out, "split cells {cells} sub-cells {parts}")?;
+        }
         if let Some(stated) = self.stated {
             writeln!(out, "triangles that the line of totals says {stated}")?;
         }
@@ -310,8 +320,13 @@ impl fmt::Display for SideName {
     fn fmt(&self, out: &mut fmt::Formatter<'_>) -> fmt::Result {
         match self.0 {
             Side::Segment { face, crossing } => write!(out, "segment {face} {crossing}"),
-            Side::Inner { cell, p0, number } => {
-                write!(out, "inner side {number} of cell {cell}, p0 {p0}")
+            Side::InnerSegment {
+                cell,
+                face,
+                crossing,
+            } => write!(out, "segment {face} {crossing} of cell {cell}"),
+            Side::Inner { part, p0, number } => {
+                write!(out, "inner side {number} of {part}, p0 {p0}")
             }
         }
     }
@@ -323,7 +338,19 @@ impl fmt::Display for PointName {
     fn fmt(&self, out: &mut fmt::Formatter<'_>) -> fmt::Result {
         match self.0 {
             Corner::Crossing(crossing) => write!(out, "crossing {crossing}"),
-            Corner::Middle { cell, p0 } => write!(out, "middle of cell {cell}, p0 {p0}"),
+            Corner::InnerCrossing { cell, crossing } => {
+                write!(out, "inner crossing {crossing} of cell {cell}")
+            }
+            Corner::Middle { part, p0 } => write!(out, "middle of {part}, p0 {p0}"),
+        }
+    }
+}
+
+impl fmt::Display for Part {
+    fn fmt(&self, out: &mut fmt::Formatter<'_>) -> fmt::Result {
+        match self.sub_cell {
+            0 => write!(out, "cell {}", self.cell),
+            number => write!(out, "cell {}, sub-cell {number}", self.cell),
         }
     }
 }

@@ -6,6 +6,8 @@ use std::collections::BTreeMap;
 use std::fs;
 use std::path::Path;
 
+use citternblaze::calls;
+
 /// The parameters of a function, each with its type, and last its result.
 type Signature = Vec<(String, String)>;
 
@@ -108,20 +110,27 @@ fn constants_as_in_the_header() {
     let header = read("../include/citternblaze.h");
     let of = |name| constant(&header, name);
     assert_eq!(of("CITTERNBLAZE_TRIANGLE_WORDS"), "11");
-    assert_eq!(citternblaze::calls::TRIANGLE_WORDS, 11);
-    assert_eq!(
-        of("CITTERNBLAZE_MIDDLE"),
-        format!("{}u", citternblaze::calls::NO_NUMBER)
+    assert_eq!(calls::TRIANGLE_WORDS, 11);
+    assert_eq!(of("CITTERNBLAZE_MIDDLE"), format!("{}u", calls::NO_NUMBER));
+    assert_eq!(of("CITTERNBLAZE_INNER"), format!("{}u", calls::NO_NUMBER));
+    let inner = [
+        ("CITTERNBLAZE_INNER_CROSSING", calls::INNER_CROSSING),
+        ("CITTERNBLAZE_INNER_FACE", calls::INNER_FACE),
+    ];
+    for (name, value) in inner {
+        assert_eq!(of(name), format!("{value}u"));
+    }
+    assert_eq!(of("CITTERNBLAZE_MOST_CELLS"), calls::MOST_CELLS.to_string());
+    let stack = format!(
+        "#define CITTERNBLAZE_STACK_BYTES ({} * 1024)\n",
+        calls::STACK_BYTES / 1024
     );
-    assert_eq!(
-        of("CITTERNBLAZE_INNER"),
-        format!("{}u", citternblaze::calls::NO_NUMBER)
-    );
+    assert!(header.contains(&stack));
     assert_eq!(of("CITTERNBLAZE_ANSWER_WORDS"), "6");
     let source = read("src/calls.rs");
     assert!(source.contains("const ANSWER_WORDS: usize = 6;"));
     assert_eq!(
         of("CITTERNBLAZE_REFUSED_MESH_AREA"),
-        citternblaze::calls::REFUSED_MESH_AREA.to_string()
+        calls::REFUSED_MESH_AREA.to_string()
     );
 }

@@ -13,9 +13,11 @@ use citternblaze::bundle::{pack, unpack};
 use citternblaze::calls::{bundle_read, Grid, Refusal};
 use citternblaze::cells::loops_of;
 use citternblaze::faces::faces;
-use citternblaze::mesh::{all_loops, Mesh, Triangle};
+use citternblaze::mesh::Mesh;
 use citternblaze::mesh_picture::{self, Scene, View};
+use citternblaze::received::{report, Received};
 use citternblaze::text::{self, Text};
+use citternblaze::triangle_types::Loops;
 use citternblaze::{cell_picture, face_picture, loops, placed, ply};
 use random::Random;
 
@@ -28,20 +30,21 @@ fn shuffled(random: &mut Random, limit: u16) -> Vec<u16> {
     numbers
 }
 
-/// Cells in a row, each with a face of the one before it, with nodes in random
-/// order, random counts, and all places and fractions.
-fn row_of_cells(random: &mut Random, cells: u16, most: usize) -> String {
+/// The text of these cells, with a count for each edge, and random places and
+/// fractions.
+fn text_of(
+    random: &mut Random,
+    cells: &[[u16; 4]],
+    mut count: impl FnMut(&mut Random, [u16; 2]) -> usize,
+) -> String {
     let mut out = format!("{}\n", text::FIRST_LINE);
     let mut edges = BTreeSet::new();
-    for nodes in shuffled(random, cells + 3).windows(4) {
-        let mut nodes = nodes.to_vec();
-        nodes.sort_unstable();
-        let [a, b, c, d] = [nodes[0], nodes[1], nodes[2], nodes[3]];
+    for &[a, b, c, d] in cells {
         writeln!(out, "cell {a} {b} {c} {d}").expect("text");
-        edges.extend([(a, b), (a, c), (a, d), (b, c), (b, d), (c, d)]);
+        edges.extend([[a, b], [a, c], [a, d], [b, c], [b, d], [c, d]]);
     }
-    for &(u, v) in &edges {
-        let count = random.below(most + 1);
+    for [u, v] in edges {
+        let count = count(random, [u, v]);
         writeln!(out, "edge {u} {v} {count}").expect("text");
         let fractions: String = random
             .rising(count)
@@ -50,11 +53,44 @@ fn row_of_cells(random: &mut Random, cells: u16, most: usize) -> String {
             .collect();
         writeln!(out, "fractions {u} {v}{fractions}").expect("text");
     }
-    for node in 0..cells + 3 {
+    let nodes: BTreeSet<u16> = cells.iter().flatten().copied().collect();
+    for node in nodes {
         let [x, y, z] = [0; 3].map(|_| 100.0 * random.fraction() + f64::from(node));
         writeln!(out, "node {node} {x:?} {y:?} {z:?}").expect("text");
     }
     out
+}
+
+/// Cells in a row, each with a face of the one before it, with nodes in random
+/// order and random counts.
+fn row_of_cells(random: &mut Random, cells: u16, most: usize) -> String {
+    let nodes = shuffled(random, cells + 3);
+    let cells = nodes.windows(4).map(|nodes| {
+        let mut nodes = [nodes[0], nodes[1], nodes[2], nodes[3]];
+        nodes.sort_unstable();
+        nodes
+    });
+    let cells: Vec<[u16; 4]> = cells.collect();
+    text_of(random, &cells, |random, _| random.below(most + 1))
+}
+
+/// Two cells on one face that are split alike: opposite edges have d1, d2 or their
+/// sum, and each node has corner triangles.
+fn split_cells(random: &mut Random) -> String {
+    let common = 2 + random.below(3);
+    let d2 = common * (1 + random.below(3));
+    let d1 = d2 + common * (1 + random.below(3));
+    let order = shuffled(random, 3);
+    let ways = order.iter().map(|&at| [d1, d2, d1 + d2][usize::from(at)]);
+    let ways: Vec<usize> = ways.collect();
+    let corners = [0; 4].map(|_| random.below(3));
+    text_of(random, &[[0, 1, 2, 3], [0, 1, 2, 4]], |_, [u, v]| {
+        // node 4 is as node 3
+        let [u, v] = [u, v].map(|node| usize::from(node.min(3)));
+        // 01 and 23, 02 and 13, 03 and 12
+        let pair = if u == 0 { v - 1 } else { 5 - u - v };
+        ways[pair] + corners[u] + corners[v]
+    })
 }
 
 /// The grid of a text, by way of its bundle.
@@ -105,16 +141,15 @@ fn draw_faces(grid: &Grid, stated: &Text) {
     cell_picture::picture(grid, &all, last, &fractions).expect("a picture");
 }
 
-/// The mesh as a file and as a picture.
-fn export_mesh(grid: &Grid, stated: &Text) {
+/// The mesh as a file and as a picture. Answers whether a cell is split.
+fn export_mesh(grid: &Grid, stated: &Text) -> bool {
     let mesh = Mesh::of(grid).expect("a mesh");
-    let loops = all_loops(grid).expect("loops");
+    let loops = Loops::of(grid).expect("loops");
     let points = placed::points(grid, stated, &mesh).expect("points");
-    let known = |of: &Triangle| loops.contains_key(&(of.cell, of.p0));
-    assert!(mesh.triangles.iter().all(known));
+    assert_eq!(points.len(), mesh.points());
     let exported = ply::ply(&mesh, &points, &loops);
     let body = exported.split("end_header\n").nth(1).expect("a body");
-    assert_eq!(body.lines().count(), points.len() + mesh.triangles.len());
+    assert_eq!(body.lines().count(), points.len() + mesh.size());
     let scene = Scene {
         grid,
         mesh: &mesh,
@@ -123,6 +158,23 @@ fn export_mesh(grid: &Grid, stated: &Text) {
         points: &points,
     };
     mesh_picture::picture(&scene, View::default());
+    let found = report(&Received::of(mesh.triangles().collect()));
+    assert_eq!(found.fault(), None);
+    found.split_cells > 0
+}
+
+/// Everything that the program does with a grid. Answers whether a cell is split.
+fn whole_way(written: &str) -> bool {
+    let stated = text::read(written.as_bytes()).expect("a text");
+    let grid = grid_of(&stated);
+    tell(&grid);
+    draw_faces(&grid, &stated);
+    export_mesh(&grid, &stated)
+}
+
+fn keep(name: &str, written: &str) {
+    let file = Path::new(env!("CARGO_TARGET_TMPDIR")).join(format!("random-{name}.txt"));
+    fs::write(file, written).expect("written");
 }
 
 #[test]
@@ -132,14 +184,21 @@ fn random_grids_go_the_whole_way() {
         let cells = 1 + random.below(6) as u16;
         let most = [1, 2, 3, 9][random.below(4)];
         let written = row_of_cells(&mut random, cells, most);
-        let stated = text::read(written.as_bytes()).expect("a text");
-        let grid = grid_of(&stated);
-        tell(&grid);
-        draw_faces(&grid, &stated);
-        export_mesh(&grid, &stated);
+        whole_way(&written);
         if at < 12 {
-            let file = Path::new(env!("CARGO_TARGET_TMPDIR")).join(format!("random-{at}.txt"));
-            fs::write(file, written).expect("written");
+            keep(&at.to_string(), &written);
+        }
+    }
+}
+
+#[test]
+fn random_split_cells_go_the_whole_way() {
+    let mut random = Random(4);
+    for at in 0..60 {
+        let written = split_cells(&mut random);
+        assert!(whole_way(&written), "{written}");
+        if at < 4 {
+            keep(&format!("split-{at}"), &written);
         }
     }
 }

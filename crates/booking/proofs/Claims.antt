@@ -1,25 +1,19 @@
 -- The laws of the cells that are booked, together.
 use Prim.Native.Nat.{ℕ}
 use mathlib.Core.Path.{_≡_, refl, _∙_}
-use mathlib.Core.Bool.{Bool, true, false}
+use mathlib.Core.Bool.{true}
 use mathlib.Core.List.{[], _∷_}
 use native.Mathlib.Omega.{arith}
-use lib.ListN.{length}
-use Rattle.counting.specs.Pick.{pick}
-use Rattle.answer.specs.Answer.{result}
 use Rattle.answer.proofs.Answer.{no-nil}
 use Rattle.cell.specs.Cell.{Edges}
-use Rattle.cell.specs.Of.{countOf}
 use Rattle.cell.specs.Loop.{loopSize}
-use Rattle.cell.specs.Triangles.{cellTriangles}
 use Rattle.cell.specs.Nodes.{Arranged}
 use Rattle.cell.specs.Level.{isLevelCell}
 use Rattle.cell.proofs.Mates.{laws}
 use Rattle.cell.proofs.Turn.{turn}
 use Rattle.booking.specs.declared.Booking.the-variants.{Booked, WalkIt}
-use Rattle.booking.specs.Booking.{cornerTriangles, larger, smaller, otherLength, booked}
-use Rattle.booking.specs.Answer.{bookingNumbers, bookingAnswer}
-use Rattle.booking.specs.Claims.{OneToOne, Other, LoopLaws, CountLaws, StepLaws, Books, TrianglesBooked, AnswerRight}
+use Rattle.booking.specs.Booking.{otherLength}
+use Rattle.booking.specs.Claims.{OneToOne, Other, LoopLaws, CountLaws, StepLaws, Books, TrianglesBooked}
 use Rattle.booking.proofs.Counts.{twice-corner, twice-least, fits, left-opposite, left-sum, numbers}
 use Rattle.booking.proofs.Numbers.{gcd-none, long-four, long-more}
 use Rattle.booking.proofs.Closed.{goes}
@@ -79,14 +73,3 @@ oneToOne (Booked t x y n) (Booked u z v m) e = cc
 oneToOne (Booked t x y n) WalkIt e = absurd (no-nil {a = t} {l = x ∷ y ∷ n ∷ []} (cc))
 oneToOne WalkIt (Booked t x y n) e = absurd (no-nil {a = t} {l = x ∷ y ∷ n ∷ []} (cc))
 oneToOne WalkIt WalkIt e = refl
-
-pub answerRight : AnswerRight
-unfolding bookingAnswer
-answerRight c t x y n e = go (isLevelCell (countOf c)) refl e
-  where
-    w : ℕ → ℕ
-    w = countOf c
-
-    go : (b : Bool) → isLevelCell w ≡ b → bookingNumbers (Booked t x y n) ≡ pick b (result (cornerTriangles w ∷ larger w ∷ smaller w ∷ booked w ∷ [])) (result []) → length (cellTriangles c) ≡ n
-    go true k f = trianglesBooked c k ∙ cc
-    go false k f = absurd (no-nil {a = t} {l = x ∷ y ∷ n ∷ []} (cc))

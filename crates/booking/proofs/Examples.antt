@@ -8,7 +8,8 @@ use Rattle.face.specs.Face as face
 use Rattle.face.specs.Level.{isLevel}
 use Rattle.cell.specs.Nodes.{joining, cornerFrom}
 use Rattle.cell.specs.Level.{isLevelCell}
-use Rattle.booking.specs.Booking.{median, beside, cornerOn, leastCorner, cornerTriangles, leftBetween, larger, smaller, otherLength, booked}
+use Rattle.booking.specs.Booking.{median, beside, cornerOn, leastCorner, cornerTriangles, leftBetween, larger, smaller, otherLength, besideDrawn, bookedSplit}
+use Rattle.booking.specs.Figures.{areSpiral, areSplit, figureIn, figure}
 use Rattle.booking.specs.Answer.{bookingAnswer}
 use Rattle.booking.specs.Examples.{ExamplesHold, of, examples}
 
@@ -16,6 +17,6 @@ pub examples-hold : ExamplesHold
 unfolding total seek first last every divides gcd
     slots.lo slots.hi slots.position slots.lower slots.upper slots.edgeBetween slots.slotEdge
     face.halfAbove face.cornerCount isLevel joining cornerFrom isLevelCell
-    median beside cornerOn leastCorner cornerTriangles leftBetween larger smaller otherLength booked
+    median beside cornerOn leastCorner cornerTriangles leftBetween larger smaller otherLength areSpiral areSplit figureIn figure besideDrawn bookedSplit
     bookingAnswer of examples
 examples-hold = refl

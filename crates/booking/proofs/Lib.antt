@@ -1,4 +1,7 @@
 pub mod Counts
+pub mod Figures
+pub mod UnderWay
+pub mod Drawn
 pub mod Numbers
 pub mod Closed
 pub mod Darts
@@ -10,5 +13,6 @@ pub mod Count
 pub mod Triangles
 pub mod Sums
 pub mod Totals
+pub mod Answers
 pub mod Claims
 pub mod Examples

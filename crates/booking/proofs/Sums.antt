@@ -15,7 +15,7 @@ use Rattle.cell.specs.Level.{byEdge, isLevelCell}
 use Rattle.cell.proofs.Nodes.{abdc, acbd, acdb, badc, cdab, dcba}
 use Rattle.booking.specs.Booking.{smallest, median, cornerTriangles, leftBetween, larger, smaller, booked}
 use Rattle.booking.specs.Left.{pairSum, largestPair, Longest}
-use Rattle.booking.specs.Answer.{bookingAnswer}
+use Rattle.booking.specs.Fans.{fansAnswer}
 use Rattle.booking.specs.Sums.{Three, ofThree, largest, Sums}
 use Rattle.booking.proofs.Counts.{ways, Pairs, pairs, top-cases, twice-least, twice-left, numbers}
 
@@ -117,8 +117,8 @@ module _ (w : ℕ → ℕ) (K : isLevelCell w ≡ true) where
   sums-fit = omega (arith, corners-sum)
 
   -- the answer
-  pub sums-answer : ofThree (largest x y z) (median x y z) (smallest x y z) ≡ bookingAnswer w
-  unfolding ofThree bookingAnswer booked largestPair
+  pub sums-answer : ofThree (largest x y z) (median x y z) (smallest x y z) ≡ fansAnswer w
+  unfolding ofThree fansAnswer booked largestPair
   sums-answer =
       let t : smallest x y z + remains x y z - largest x y z ≡ cornerTriangles w = three (largest x y z) (x + y + z) (smallest x y z) (cornerTriangles w) (in-order-low x y z) corners-sum in
       let (p, q) = numbers-by in
@@ -135,14 +135,14 @@ module _ (l : List ℕ) where
   abbrev w : ℕ → ℕ
   w = byEdge l
 
-  pub walk-it : isLevelCell w ≡ false → result [] ≡ bookingAnswer w
-  unfolding bookingAnswer
+  pub walk-it : isLevelCell w ≡ false → result [] ≡ fansAnswer w
+  unfolding fansAnswer
   walk-it e = rw e
 
   pub book-sums : isLevelCell w ≡ true → (x y z : ℕ) → x ≡ w 0 + w 5 → y ≡ w 1 + w 4 → z ≡ w 2 + w 3 → (x ≤ mostSum) → (y ≤ mostSum) → (z ≤ mostSum) → Sums x y z
   unfolding joining edgeBetween
   book-sums K x y z e f g a b c = record { fit = rw (e, f, g) (sums-fit w K); few = omega arith }
 
-  pub book-it : isLevelCell w ≡ true → (x y z : ℕ) → x ≡ w 0 + w 5 → y ≡ w 1 + w 4 → z ≡ w 2 + w 3 → ofThree (largest x y z) (median x y z) (smallest x y z) ≡ bookingAnswer w
+  pub book-it : isLevelCell w ≡ true → (x y z : ℕ) → x ≡ w 0 + w 5 → y ≡ w 1 + w 4 → z ≡ w 2 + w 3 → ofThree (largest x y z) (median x y z) (smallest x y z) ≡ fansAnswer w
   unfolding joining edgeBetween
   book-it K x y z e f g = rw (e, f, g) (sums-answer w K)

@@ -28,10 +28,10 @@ use Rattle.cases.specs.Cases.{entries, entryOf}
 use Rattle.cases.specs.Tally.{trianglesAt, findEntryAt}
 use Rattle.cases.proofs.Claims.{by-place, common-triangles}
 use Rattle.answer.specs.Answer.{result}
-use Rattle.booking.specs.declared.Booking.{Booking}
-use Rattle.booking.specs.declared.Booking.the-variants.{Booked, WalkIt}
+use Rattle.booking.specs.declared.Fans.{Fans}
+use Rattle.booking.specs.declared.Fans.the-variants.{Counted, WalkIt}
 use Rattle.booking.specs.Booking.{cornerTriangles, larger, smaller, beside, booked}
-use Rattle.booking.specs.Answer.{bookingNumbers, bookingAnswer}
+use Rattle.booking.specs.Fans.{fansNumbers, fansAnswer}
 use Rattle.booking.specs.Totals.{bookedTriangles, walkedCrossings, commonAt, bookedAt, knownAt, crossingsAt}
 use Rattle.booking.proofs.Counts.{plain}
 use Rattle.booking.proofs.Count.{crossings-are}
@@ -51,29 +51,29 @@ module _ (w : ℕ → ℕ) where
   abbrev Told : Bool → List ℕ
   Told b = pick b (result (cornerTriangles w ∷ larger w ∷ smaller w ∷ booked w ∷ [])) (result [])
 
-  pub triangles-told : (j : Booking) → bookingNumbers j ≡ bookingAnswer w → bookedTriangles j ≡ pick (isLevelCell w) (booked w) 0
-  unfolding bookingAnswer
-  triangles-told (Booked t x y n) e = go (isLevelCell w) e
+  pub triangles-told : (j : Fans) → fansNumbers j ≡ fansAnswer w → bookedTriangles j ≡ pick (isLevelCell w) (booked w) 0
+  unfolding fansAnswer
+  triangles-told (Counted t x y n) e = go (isLevelCell w) e
     where
-      go : (b : Bool) → bookingNumbers (Booked t x y n) ≡ Told b → n ≡ pick b (booked w) 0
+      go : (b : Bool) → fansNumbers (Counted t x y n) ≡ Told b → n ≡ pick b (booked w) 0
       go true e = cc
       go false e = let z : _≡_ {A = ℕ} 0 1 = cc in absurd (omega arith)
   triangles-told WalkIt e = go (isLevelCell w) e
     where
-      go : (b : Bool) → bookingNumbers WalkIt ≡ Told b → 0 ≡ pick b (booked w) 0
+      go : (b : Bool) → fansNumbers WalkIt ≡ Told b → 0 ≡ pick b (booked w) 0
       go true e = let z : _≡_ {A = ℕ} 0 1 = cc in absurd (omega arith)
       go false e = refl
 
-  pub crossings-told : (j : Booking) → bookingNumbers j ≡ bookingAnswer w → walkedCrossings j w ≡ pick (isLevelCell w) 0 (pre w 6)
-  unfolding bookingAnswer
-  crossings-told (Booked t x y n) e = go (isLevelCell w) e
+  pub crossings-told : (j : Fans) → fansNumbers j ≡ fansAnswer w → walkedCrossings j w ≡ pick (isLevelCell w) 0 (pre w 6)
+  unfolding fansAnswer
+  crossings-told (Counted t x y n) e = go (isLevelCell w) e
     where
-      go : (b : Bool) → bookingNumbers (Booked t x y n) ≡ Told b → 0 ≡ pick b 0 (pre w 6)
+      go : (b : Bool) → fansNumbers (Counted t x y n) ≡ Told b → 0 ≡ pick b 0 (pre w 6)
       go true e = refl
       go false e = let z : _≡_ {A = ℕ} 0 1 = cc in absurd (omega arith)
   crossings-told WalkIt e = go (isLevelCell w) e
     where
-      go : (b : Bool) → bookingNumbers WalkIt ≡ Told b → pre w 6 ≡ pick b 0 (pre w 6)
+      go : (b : Bool) → fansNumbers WalkIt ≡ Told b → pre w 6 ≡ pick b 0 (pre w 6)
       go true e = let z : _≡_ {A = ℕ} 0 1 = cc in absurd (omega arith)
       go false e = refl
 
@@ -169,6 +169,16 @@ module _ (cells counts names sides starts : List ℕ) where
   all-few =
       rw (length-over (λ c. cellTriangles (at c)) (drawnCells cells) 0)
       (total-mono (λ c. length (cellTriangles (at c))) (tableCrossings counts sides) (drawnCells cells) 0 (λ c a b. few c))
+
+-- so there are no more than any grid can have
+pub all-most : (cells counts names sides starts : List ℕ) → length (tableTriangles cells counts names sides starts) ≤ mostTriangles
+all-most cells counts names sides starts =
+    omega (
+      arith,
+      all-few cells counts names sides starts,
+      total-mono (tableCrossings counts sides) (λ c. mostInCell) (drawnCells cells) 0 (λ c _ _. table-most counts sides c),
+      total-same (λ c. mostInCell) mostInCell (drawnCells cells) 0 (λ c _ _. refl),
+    )
 
 -- no more are known than there are crossings
 known-most : (counts sides : List ℕ) (c : ℕ) → knownAt counts sides c ≤ mostInCell

@@ -6,13 +6,13 @@ use Rattle.answer.specs.Answer.{result}
 use Rattle.cell.specs.Level.{isLevelCell}
 use Rattle.booking.specs.declared.Booking.{Booking}
 use Rattle.booking.specs.declared.Booking.the-variants.{Booked, WalkIt}
-use Rattle.booking.specs.Booking.{cornerTriangles, larger, smaller, booked}
+use Rattle.booking.specs.Booking.{cornerTriangles, larger, smaller, bookedSplit}
 
--- t, d1, d2 and the triangles; or nothing, for "walk it"
+-- t, d1, d2 and the triangles, with the split result (02, W12); or nothing, for "walk it"
 abbrev pub bookingNumbers : Booking → List ℕ
 bookingNumbers (Booked t x y n) = result (t ∷ x ∷ y ∷ n ∷ [])
 bookingNumbers WalkIt = result []
 
 -- what is answered for the counts w k of a cell's edges k
 unfoldable pub bookingAnswer : (ℕ → ℕ) → List ℕ
-bookingAnswer w = pick (isLevelCell w) (result (cornerTriangles w ∷ larger w ∷ smaller w ∷ booked w ∷ [])) (result [])
+bookingAnswer w = pick (isLevelCell w) (result (cornerTriangles w ∷ larger w ∷ smaller w ∷ bookedSplit w ∷ [])) (result [])

@@ -18,10 +18,9 @@ use Rattle.cell.specs.Triangles.{triangleCount, cellTriangles}
 use Rattle.cell.specs.Nodes.{Arranged, countBetween, cornerFrom, crossingAt, dartAt}
 use Rattle.cell.specs.Level.{isLevelCell}
 use Rattle.booking.specs.declared.Booking.{Booking}
-use Rattle.booking.specs.declared.Booking.the-variants.{Booked}
 use Rattle.booking.specs.Booking.{leastCorner, cornerTriangles, leftBetween, larger, smaller, otherLength, booked}
 use Rattle.booking.specs.Left.{largestPair, pairSum, Longest, Numbers, roundSize, TwoSteps}
-use Rattle.booking.specs.Answer.{bookingNumbers, bookingAnswer}
+use Rattle.booking.specs.Answer.{bookingNumbers}
 
 -- the reading of the answer in numbers is one to one, so that the numbers determine the enum
 abbrev pub OneToOne : Type 0
@@ -108,7 +107,3 @@ Books = (w : Edges) → isLevelCell (w .count) ≡ true → BookingLaws w
 -- the triangles of such a cell are those booked
 abbrev pub TrianglesBooked : Type 0
 TrianglesBooked = (c : Cell) → isLevelCell (countOf c) ≡ true → length (cellTriangles c) ≡ booked (countOf c)
-
--- so what is answered for a cell's counts is the number of its triangles
-abbrev pub AnswerRight : Type 0
-AnswerRight = (c : Cell) (t x y n : ℕ) → bookingNumbers (Booked t x y n) ≡ bookingAnswer (countOf c) → length (cellTriangles c) ≡ n

@@ -40,12 +40,12 @@ examples =
     ∷ of 2 1 1 1 1 2 (books 0 1 1 8) 1 8
     ∷ of 1 2 1 1 2 1 (books 0 1 1 8) 1 8
     ∷ of 1 1 2 2 1 1 (books 0 1 1 8) 1 8
-    -- spirals, with and without corner triangles: one, two, three and twenty loops
+    -- spirals, with and without corner triangles: one, two, three and twenty loops; all but the first are split (02, W12)
     ∷ of 7 10 3 3 10 7 (books 0 7 3 40) 1 40
-    ∷ of 11 9 8 6 9 15 (books 6 6 4 46) 2 20
-    ∷ of 9 11 6 12 15 5 (books 6 6 4 46) 2 20
-    ∷ of 13 8 18 17 9 10 (books 5 9 6 65) 3 20
-    ∷ of 130 180 90 90 200 170 (books 100 100 40 660) 20 28
+    ∷ of 11 9 8 6 9 15 (books 6 6 4 122) 2 20
+    ∷ of 9 11 6 12 15 5 (books 6 6 4 122) 2 20
+    ∷ of 13 8 18 17 9 10 (books 5 9 6 179) 3 20
+    ∷ of 130 180 90 90 200 170 (books 100 100 40 2060) 20 28
     -- five quads and nine corner triangles
     ∷ of 4 12 9 10 7 5 (books 9 5 0 19) 5 4
     -- the highest counts: more corner triangles, and more in all, than 16 bits hold

@@ -1,5 +1,7 @@
+pub mod Figures
 pub mod Booking
 pub mod Left
+pub mod Fans
 pub mod Answer
 pub mod Sums
 pub mod Totals

@@ -11,8 +11,8 @@ use Rattle.cell.specs.Common.{isCommon, isKnown}
 use Rattle.cell.specs.Table.{takenCounts, tableCrossings, mostTriangles}
 use Rattle.cases.specs.Cases.{entryOf}
 use Rattle.cases.specs.Tally.{trianglesAt}
-use Rattle.booking.specs.declared.Booking.{Booking}
-use Rattle.booking.specs.declared.Booking.the-variants.{Booked, WalkIt}
+use Rattle.booking.specs.declared.Fans.{Fans}
+use Rattle.booking.specs.declared.Fans.the-variants.{Counted, WalkIt}
 use Rattle.booking.specs.Booking.{booked}
 
 -- the most that six counts of 16 bits add up to
@@ -20,12 +20,12 @@ abbrev pub mostCounts : ℕ
 mostCounts = 393210
 
 -- of a booking
-abbrev pub bookedTriangles : Booking → ℕ
-bookedTriangles (Booked t x y n) = n
+abbrev pub bookedTriangles : Fans → ℕ
+bookedTriangles (Counted t x y n) = n
 bookedTriangles WalkIt = 0
 
-abbrev pub walkedCrossings : Booking → (ℕ → ℕ) → ℕ
-walkedCrossings (Booked t x y n) w = 0
+abbrev pub walkedCrossings : Fans → (ℕ → ℕ) → ℕ
+walkedCrossings (Counted t x y n) w = 0
 walkedCrossings WalkIt w = pre w 6
 
 -- of cell c of the tables

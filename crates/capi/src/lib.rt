@@ -147,9 +147,7 @@ pub extern "C" fn citternblaze_book(
     ensures { λ r. ⌜ Answers (bookingAnswer (byEdge (e01 ∷ e02 ∷ e03 ∷ e12 ∷ e13 ∷ e23 ∷ []))) (now (answer .entry)) (now (answer .exit)) r ⌝ }
 {
     match booking::book([e01, e02, e03, e12, e13, e23]) {
-        Booking::Booked(t, d1, d2, n) => {
-            put(answer, &[0, t as u64, d1 as u64, d2 as u64, n as u64])
-        }
+        Booking::Booked(t, d1, d2, n) => { put(answer, &[0, t as u64, d1 as u64, d2 as u64, n]) }
         Booking::WalkIt => put(answer, &[0]),
     }
 }
@@ -218,7 +216,7 @@ pub extern "C" fn citternblaze_set_count(
     }
 }
 
-// The mesh call: 0 and the number of triangles, or the number and the place of a refusal, which leaves the area as it is.
+// The mesh call: 0, the number of triangles and the number of splits, or the number and the place of a refusal, which leaves the area as it is.
 #[no_mangle]
 pub extern "C" fn citternblaze_mesh(
     cells: &[u16],
@@ -235,7 +233,7 @@ pub extern "C" fn citternblaze_mesh(
         return ANSWER_WORDS;
     }
     match mesh::mesh(cells, edges, counts, starts, area) {
-        Meshed::Triangles(n) => put(answer, &[0, n as u64]),
+        Meshed::Triangles(n, splits) => put(answer, &[0, n, splits as u64]),
         Meshed::Refused(row, place) => put(answer, &[row as u64, place as u64]),
     }
 }
@@ -309,7 +307,7 @@ pub extern "C" fn citternblaze_places(
         return ANSWER_WORDS;
     }
     match places::places(cells, edges, counts, starts, nodes, fractions, area) {
-        Placed::Points(n) => put(answer, &[0, n as u64]),
+        Placed::Points(n) => put(answer, &[0, n]),
         Placed::Refused(row, place) => put(answer, &[row as u64, place as u64]),
     }
 }

@@ -1,11 +1,11 @@
 -- The loops of a cell and their triangles in turn: those from crossings below p are done.
 use Prim.Native.Nat.{ℕ, suc, _+_, _-_, _≤_, _<_}
 use mathlib.Core.Path.{_≡_, refl, sym, ap, _∙_}
-use mathlib.Core.Bool.{Bool}
+use mathlib.Core.Bool.{Bool, true, false, _||_}
 use mathlib.Core.List.{List, [], _∷_, _++_}
-use native.Mathlib.Nat.{zero-add, sub-zero}
+use native.Mathlib.Nat.{zero-add, add-zero, sub-zero}
 use native.Mathlib.Omega.{arith}
-use lib.Dec.{ltb}
+use lib.Dec.{eqb, ltb}
 use lib.ListN.{length, drop, length-append, drop-of-length-le}
 use lib.Seq.{drop-append-le, drop-append-add}
 use borrow.Author.Tests.{lt-ltb, le-ltb}
@@ -22,30 +22,35 @@ use Rattle.cell.specs.Limits.{mostInCell}
 use Rattle.cell.specs.Round.{roundAnswer}
 use Rattle.cell.specs.declared.Triangle.{Triangle}
 use Rattle.cell.specs.declared.Nth.the-variants.{Found, Nothing}
-use Rattle.cell.specs.Triangles.{edgesOf, loopTriangles, cellTriangles}
+use Rattle.cell.specs.Triangles.{edgesOf, loopTriangles, cellTriangles, askedTriangles, trianglesWith}
 use Rattle.cell.specs.Nth.{nthOf, nthNumbers, nthAnswer}
 use Rattle.cell.proofs.LoopTriangles.{Entry}
 use Rattle.cell.proofs.Loops.{answer-is}
 use Rattle.cell.proofs.Going.{Looped}
-use Rattle.cell.proofs.Taken.{loop-few, length-cell, cell-few}
+use Rattle.cell.proofs.Taken.{loop-few, asked-is, asked-not, length-with, with-few}
 
--- the number of triangles of each
-abbrev pub manyAt : Cell → ℕ → ℕ
-manyAt c p = length (loopTriangles c p)
+-- the number of triangles of each that is asked for
+abbrev pub manyAt : (c : Cell) (only p : ℕ) → ℕ
+manyAt c only p = length (askedTriangles c only p)
 
-pub counted-more : {c : Cell} {p m : ℕ} {b : Bool} {hs ps : List ℕ} → Looped c p m b hs ps → {t : ℕ} → Summed (manyAt c) mostInCell p t → (k : ℕ) → k ≡ manyAt c p
-    → Summed (manyAt c) mostInCell (p + 1) (t + k)
-counted-more {c} {p} L S k e = summed-more (manyAt c) mostInCell S k e (omega (arith, loop-few c p, L .size, L .few))
+module _ (only : ℕ) {c : Cell} {p m : ℕ} {b : Bool} {hs ps : List ℕ} (L : Looped c p m b hs ps) {t : ℕ} (S : Summed (manyAt c only) mostInCell p t) where
+  pub counted-more : (k : ℕ) → (eqb only 0 || eqb m only) ≡ true → k ≡ length (loopTriangles c p) → Summed (manyAt c only) mostInCell (p + 1) (t + k)
+  counted-more k a e =
+      let f : k ≡ manyAt c only p = e ∙ ap length (sym (asked-is c only p (rw (L .size) at a))) in
+      summed-more (manyAt c only) mostInCell S k f (omega (arith, loop-few c p, L .size, L .few))
 
-pub counted-all : (c : Cell) {p t : ℕ} → Summed (manyAt c) mostInCell p t → p ≡ crossings (edgesOf c) → p ≤ mostInCell → (t ≡ length (cellTriangles c)) × (t ≤ mostInCell)
-counted-all c {p} {t} S e h =
-    let f : t ≡ length (cellTriangles c) = S .is ∙ rw e (sym (length-cell c)) in
-    (f, omega (arith, cell-few c))
+  pub counted-less : (eqb only 0 || eqb m only) ≡ false → Summed (manyAt c only) mostInCell (p + 1) t
+  counted-less a = rw (add-zero t) at (summed-more (manyAt c only) mostInCell S 0 (ap length (sym (asked-not c only p (rw (L .size) at a)))) (omega arith))
+
+pub counted-all : (c : Cell) (only : ℕ) {p t : ℕ} → Summed (manyAt c only) mostInCell p t → p ≡ crossings (edgesOf c) → p ≤ mostInCell → (t ≡ length (trianglesWith c only)) × (t ≤ mostInCell)
+counted-all c only {p} {t} S e h =
+    let f : t ≡ length (trianglesWith c only) = S .is ∙ rw e (sym (length-with c only)) in
+    (f, omega (arith, with-few c only))
 
 -- a cell without crossings has no triangles
-pub no-triangles : (c : Cell) → crossings (edgesOf c) ≡ 0 → cellTriangles c ≡ []
-unfolding cellTriangles over
-no-triangles c e = rw e
+pub no-triangles : (c : Cell) (only : ℕ) → crossings (edgesOf c) ≡ 0 → trianglesWith c only ≡ []
+unfolding trianglesWith over
+no-triangles c only e = rw e
 
 -- Entry t of the lists of f, joined, is entry `left` of those from p on.
 module _ {A : Type 0} (f : ℕ → List A) where
@@ -74,7 +79,7 @@ module _ (c : Cell) {t p left : ℕ} (S : Seeking (loopTriangles c) t p left) wh
   unfolding cellTriangles nthOf nthAnswer
   triangle-off l = let e = rw l at (seeking-off (loopTriangles c) S) in (rw e, rw e)
 
-  pub triangle-here : p < crossings (edgesOf c) → (r : Triangle) {w : List Triangle} → w ≡ loopTriangles c p → left < manyAt c p → Entry w left r
+  pub triangle-here : p < crossings (edgesOf c) → (r : Triangle) {w : List Triangle} → w ≡ loopTriangles c p → left < length (loopTriangles c p) → Entry w left r
       → (Found r ≡ nthOf (cellTriangles c) t) × (nthNumbers (Found r) ≡ nthAnswer (cellTriangles c) t)
   unfolding cellTriangles nthOf nthAnswer
   triangle-here l r {w} e h q =

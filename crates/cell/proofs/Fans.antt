@@ -10,13 +10,13 @@ use native.Mathlib.Omega.{arith}
 use lib.Dec.{ltb, leb}
 use lib.ListN.{length, getD}
 use lib.Ieee.{Float}
-use borrow.Author.Tests.{le-leb, leb-true, lt-leb, leb-false, ltb-true}
+use borrow.Author.Tests.{le-leb, leb-true, lt-leb, leb-false, ltb-true, lt-ltb}
 use Rattle.counting.specs.Lists.{gather}
 use Rattle.counting.specs.Pick.{pick, one}
 use Rattle.counting.specs.Range.{over}
 use Rattle.counting.specs.Search.{count}
 use Rattle.counting.specs.Stored.{Stored, storedIn, nextIn}
-use Rattle.counting.proofs.Bools.{and-left, and-right, and-false-right}
+use Rattle.counting.proofs.Bools.{clash, and-left, and-right, and-false-right, or-right, or-cases}
 use Rattle.counting.proofs.Lists.{gather-over}
 use Rattle.counting.proofs.Range.{length-over, total-ext, over-ext}
 use Rattle.counting.proofs.Search.{below-or, every-is, is-every, every-not, count-total, count-le}
@@ -35,7 +35,7 @@ use Rattle.cell.specs.Limits.{mostInCell}
 use Rattle.cell.specs.Triangles.{numberOf}
 use Rattle.cell.specs.declared.Nest.{Nest}
 use Rattle.cell.specs.Nests.{nestEdge, nestMiddle}
-use Rattle.cell.specs.Middles.{isFan, loopPoint, fanCount, cornerPlace, fanMiddle, loopMiddle, cellMiddles, numberedBelow, middlesAt, pointsThen, nextPoint}
+use Rattle.cell.specs.Middles.{isFan, loopPoint, fanCount, cornerPlace, fanMiddle, loopMiddle, cellMiddles, numberedBelow, isPlaceable, middlesAt, pointsThen, nextPoint}
 use Rattle.cell.specs.Table.{tableCell, middlesWritten}
 use Rattle.cell.specs.Centres.{IsNest, recordedPlace, recordedMiddle, MiddlesRoom}
 use Rattle.cell.proofs.Lay.{lay}
@@ -74,6 +74,11 @@ one-ext false p q h = refl
 choice : (b : Bool) {d : Bool} {p q r s : Place} → b ≡ d → (b ≡ true → p ≡ q) → r ≡ s → pick b p r ≡ pick d q s
 choice true e f g = rw (← e) (f refl)
 choice false e f g = rw (← e) g
+
+-- where the test fails, by the other
+second : (b : Bool) (p q r : Place) → (b ≡ false → q ≡ r) → pick b p q ≡ pick b p r
+second true p q r h = refl
+second false p q r h = h refl
 
 -- how many middles there are
 module _ (nodes : List Float) (place : ℕ → Place) (c : Cell) where
@@ -126,11 +131,28 @@ module _ {c : Cell} {e last : ℕ} (H : Highest c e last) where
     | no h ↦ le-leb last n (omega arith) ∙ sym (below-all c n (λ k g. omega (arith, H .above k (omega arith))))
   ]
 
--- the middles are determined by the nodes' places and those of the cell's crossings
-module _ (nodes : List Float) (c : Cell) (n : ℕ) (b : numberedBelow c n ≡ true) (place other : ℕ → Place) (same : (g : ℕ) → g < n → place g ≡ other g) where
-  point-below : (p k : ℕ) → p < crossings (edgesOf c) → k < loopSize (edgesOf c) p → loopPoint c p k < n
+-- what can be written from a point on
+pub below-placeable : (c : Cell) (n : ℕ) → numberedBelow c n ≡ true → isPlaceable c n ≡ true
+unfolding isPlaceable
+below-placeable c n e = rw e
+
+pub nest-placeable : (c : Cell) (n : ℕ) → nestEdge (countOf c) < 3 → isPlaceable c n ≡ true
+unfolding isPlaceable
+nest-placeable c n h = or-right (numberedBelow c n) (ltb (nestEdge (countOf c)) 3) (lt-ltb (nestEdge (countOf c)) 3 h)
+
+pub placeable-is : (c : Cell) (n : ℕ) {q : ℕ} → q ≡ nestEdge (countOf c) → numberedBelow c n ≡ false → ltb q 3 ≡ isPlaceable c n
+unfolding isPlaceable
+placeable-is c n e f = rw (e, f)
+
+placeable-below : (c : Cell) (n : ℕ) → isPlaceable c n ≡ true → ltb (nestEdge (countOf c)) 3 ≡ false → numberedBelow c n ≡ true
+unfolding isPlaceable
+placeable-below c n e f = ⊎-elim (λ (h : numberedBelow c n ≡ true). h) (λ (h : ltb (nestEdge (countOf c)) 3 ≡ true). clash h f) (or-cases (numberedBelow c n) (ltb (nestEdge (countOf c)) 3) e)
+
+-- the middles are determined by the nodes' places and, but for a nest, those of the cell's crossings
+module _ (nodes : List Float) (c : Cell) (n : ℕ) (a : isPlaceable c n ≡ true) (place other : ℕ → Place) (same : (g : ℕ) → g < n → place g ≡ other g) where
+  point-below : (p k : ℕ) → numberedBelow c n ≡ true → p < crossings (edgesOf c) → k < loopSize (edgesOf c) p → loopPoint c p k < n
   unfolding loopPoint numberOf inGrid
-  point-below p k l h =
+  point-below p k b l h =
       let w = edgesOf c in
       let x = dart w p k / 2 in
       let d : x < crossings w = omega (arith, dart-live w p l k h) in
@@ -141,8 +163,9 @@ module _ (nodes : List Float) (c : Cell) (n : ℕ) (b : numberedBelow c n ≡ tr
   loop-ext p l =
       let n = loopSize (edgesOf c) p in
       one-ext (isFan c p) (fanMiddle nodes place c p) (fanMiddle nodes other c p)
-      (λ e. ap (λ (m : Place). pick (ltb (nestEdge (countOf c)) 3) (nestMiddle (cornerPlace nodes c) c p) m)
-      (middle-ext (λ k. place (loopPoint c p k)) (λ k. other (loopPoint c p k)) n (middle-fan n (normal (edgesOf c) p) e .0) (λ k h. same (loopPoint c p k) (point-below p k l h))))
+      (λ e. (second (ltb (nestEdge (countOf c)) 3) (nestMiddle (cornerPlace nodes c) c p) (middle (λ k. place (loopPoint c p k)) n) (middle (λ k. other (loopPoint c p k)) n) (λ f.
+      middle-ext (λ k. place (loopPoint c p k)) (λ k. other (loopPoint c p k)) n (middle-fan n (normal (edgesOf c) p) e .0)
+      (λ k h. same (loopPoint c p k) (point-below p k (placeable-below c _ a f) l h)))))
 
   pub cell-ext : cellMiddles nodes place c ≡ cellMiddles nodes other c
   unfolding cellMiddles
@@ -153,6 +176,9 @@ module _ {c : Cell} {p n : ℕ} {b : Bool} {halves points : List ℕ} (L : Loope
   pub looped-fan : hasMiddle n b ≡ isFan c p
   unfolding isFan
   looped-fan = ap₂ hasMiddle (L .size) (L .told)
+
+  pub fan-recorded : {r : ℕ} → r ≡ one (hasMiddle n b) → r ≡ one (hasMiddle (length points) b)
+  fan-recorded e = e ∙ ap (λ m. one (hasMiddle m b)) (sym (looped-points L))
 
   points-fan : hasMiddle (length points) b ≡ isFan c p
   points-fan = ap (λ m. hasMiddle m b) (looped-points L) ∙ looped-fan
@@ -254,14 +280,14 @@ module _ (nodes : List Float) (c : Cell) (area : List Float) (at : ℕ) where
         → (r ≡ nextPoint nodes c area at) × (out ≡ pointsThen nodes c area at)
     middles-done S = (omega (arith, S .after, middles-stored .after), S .area ∙ sym (middles-stored .area))
 
--- whether the places of the crossings stand before point `at`, and the middles have room
+-- whether the middles can be written from point `at` on, and have room
 abbrev pub fits : Cell → (room at : ℕ) → Bool
-fits c room at = numberedBelow c at && leb (at + fanCount c) (room / coordinates)
+fits c room at = isPlaceable c at && leb (at + fanCount c) (room / coordinates)
 
 -- where they have none, nothing is written
 pub middles-not : (nodes : List Float) (c : Cell) (area : List Float) (at : ℕ) → fits c (length area) at ≡ false → (at ≡ nextPoint nodes c area at) × (area ≡ pointsThen nodes c area at)
 unfolding nextPoint pointsThen middlesAt gather
-middles-not nodes c area at = go (numberedBelow c at)
+middles-not nodes c area at = go (isPlaceable c at)
   where
     go : (b : Bool) → (b && leb (at + fanCount c) (length area / coordinates)) ≡ false
         → (at ≡ nextIn area (coordinates * at) (allNumbers (pick b (cellMiddles nodes (placeAt area) c) [])) / coordinates)
@@ -276,7 +302,7 @@ middles-not nodes c area at = go (numberedBelow c at)
 -- nor are there any in a cell without crossings
 pub no-middles : (nodes : List Float) (c : Cell) (area : List Float) (at : ℕ) → crossings (edgesOf c) ≡ 0 → (at ≡ nextPoint nodes c area at) × (area ≡ pointsThen nodes c area at)
 unfolding nextPoint pointsThen middlesAt cellMiddles over gather
-no-middles nodes c area at e = rw e (go (numberedBelow c at))
+no-middles nodes c area at e = rw e (go (isPlaceable c at))
   where
     go : (b : Bool)
         → (at ≡ nextIn area (coordinates * at) (allNumbers (pick b [] [])) / coordinates)
@@ -287,17 +313,17 @@ no-middles nodes c area at e = rw e (go (numberedBelow c at))
 pub fits-room : (c : Cell) (area : List Float) (at : ℕ) → fits c (length area) at ≡ true → MiddlesRoom c area at
 fits-room c area at e =
     let t = leb (at + fanCount c) (length area / coordinates) in
-    record { below = and-left (numberedBelow c at) t e; room = omega (arith, leb-true (at + fanCount c) (length area / coordinates) (and-right (numberedBelow c at) t e)) }
+    record { below = and-left (isPlaceable c at) t e; room = omega (arith, leb-true (at + fanCount c) (length area / coordinates) (and-right (isPlaceable c at) t e)) }
 
 -- as the code asks
 module _ (c : Cell) (room at : ℕ) where
   pub fits-short : room / coordinates < at → false ≡ fits c room at
-  fits-short h = sym (and-false-right (numberedBelow c at) _ (lt-leb (at + fanCount c) (room / coordinates) (omega arith)))
+  fits-short h = sym (and-false-right (isPlaceable c at) _ (lt-leb (at + fanCount c) (room / coordinates) (omega arith)))
 
-  pub fits-not : numberedBelow c at ≡ false → false ≡ fits c room at
+  pub fits-not : isPlaceable c at ≡ false → false ≡ fits c room at
   fits-not e = rw e
 
-  module _ (b : numberedBelow c at ≡ true) (h : at ≤ room / coordinates) where
+  module _ (b : isPlaceable c at ≡ true) (h : at ≤ room / coordinates) where
     pub fits-count : {t : ℕ} → t ≡ fanCount c → leb t (room / coordinates - at) ≡ fits c room at
     fits-count e = rw (b, e) (room-left (fanCount c) at (room / coordinates) h)
 

@@ -18,8 +18,9 @@ use Rattle.counting.proofs.Stored.{stored-none, stored-long, stored-room, store
 use Rattle.cell.specs.declared.Cell.{Cell}
 use Rattle.cell.specs.declared.Triangle.{Triangle}
 use Rattle.cell.specs.Words.{wordCount, allWords}
-use Rattle.cell.specs.Triangles.{cellTriangles}
+use Rattle.cell.specs.Triangles.{cellTriangles, trianglesWith}
 use Rattle.cell.specs.Fits.{nextAt, areaThen, nextAfter, areaAfter}
+use Rattle.cell.proofs.Taken.{with-all}
 use Rattle.cell.proofs.Storing.{length-all, wordsOf, written-all, written-room, written-more}
 
 module _ (l : List Triangle) (area : List ℕ) (at : ℕ) where
@@ -36,6 +37,15 @@ room-left k at room h =
       | yes l ↦ lt-leb k (room - at) (omega arith) ∙ sym (lt-leb (at + k) room l)
       | no l ↦ le-leb k (room - at) (omega arith) ∙ sym (le-leb (at + k) room (omega arith))
     ]
+
+-- all loops of a cell
+pub next-all : (c : Cell) (area : List ℕ) (at : ℕ) → nextIn area at (allWords (trianglesWith c 0)) ≡ nextAt c area at
+unfolding nextAt
+next-all c area at = ap (λ l. nextIn area at (allWords l)) (with-all c)
+
+pub area-all : (c : Cell) (area : List ℕ) (at : ℕ) → storedIn area at (allWords (trianglesWith c 0)) ≡ areaThen c area at
+unfolding areaThen
+area-all c area at = ap (λ l. storedIn area at (allWords l)) (with-all c)
 
 -- cells one after the other: n are done
 module _ (c : Cell) where

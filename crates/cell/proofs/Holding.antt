@@ -1,22 +1,27 @@
 -- The record of a loop of a cell gives the loop's triangles.
-use Prim.Native.Nat.{ℕ, _/_, _<_}
+use Prim.Native.Nat.{ℕ, _+_, _/_, _<_}
 use mathlib.Core.Path.{_≡_, sym, ap, _∙_}
-use mathlib.Core.Bool.{Bool, true, _&&_}
-use mathlib.Core.List.{List}
+use mathlib.Core.Bool.{Bool, true, false, not, _&&_, _||_}
+use mathlib.Core.List.{List, []}
 use native.Mathlib.Omega.{arith}
 use lib.Dec.{eqb}
 use lib.ListN.{length, getD}
-use Rattle.counting.specs.Range.{after}
+use borrow.Author.Tests.{not-true, not-false}
+use Rattle.counting.specs.Range.{over, after}
+use Rattle.counting.specs.Lists.{gather}
+use Rattle.counting.specs.Stored.{Stored}
+use Rattle.counting.proofs.Stored.{stored-none}
 use Rattle.manifold.specs.Shape.{shapeOf, manyOf}
 use Rattle.cell.specs.declared.Cell.{Cell}
 use Rattle.cell.specs.Cell.{mate, slot}
 use Rattle.cell.specs.Loop.{dart}
 use Rattle.cell.proofs.Loops.{from-lt, from-slot, from-point}
 use Rattle.cell.proofs.Going.{Looped, looped-halves, looped-points}
-use Rattle.cell.specs.Triangles.{edgesOf, numberOf, loopTriangles}
+use Rattle.cell.specs.Triangles.{edgesOf, numberOf, loopTriangles, askedTriangles}
 use Rattle.cell.specs.Traced.{RecordedLoop, tracedTriangles}
 use Rattle.cell.proofs.LoopTriangles.{length-traced}
-use Rattle.cell.proofs.Taken.{two-four, dart-leads, traced-loop}
+use Rattle.cell.proofs.Taken.{two-four, dart-leads, traced-loop, asked-is, asked-not}
+use Rattle.cell.proofs.Storing.{wordsOf, written-more}
 
 module _ {c : Cell} {p n : ℕ} {b : Bool} {halves points : List ℕ} (L : Looped c p n b halves points) where
   pub looped-traced : RecordedLoop halves points n
@@ -48,3 +53,21 @@ module _ {c : Cell} {p n : ℕ} {b : Bool} {halves points : List ℕ} (L : Loope
 
     pub looped-many : manyOf (shapeOf n two) n ≡ length (loopTriangles c p)
     looped-many = sym (length-traced c halves points n two) ∙ ap length looped-loop
+
+-- a loop that is left out, and one that is asked for
+module _ (only : ℕ) {c : Cell} {p n : ℕ} {b : Bool} {halves points : List ℕ} (L : Looped c p n b halves points) {out : Bool} (e : out ≡ not (eqb only 0 || eqb n only)) where
+  pub is-out : out ≡ true → (eqb only 0 || eqb n only) ≡ false
+  is-out t = not-true _ (sym e ∙ t)
+
+  pub is-in : out ≡ false → (eqb only 0 || eqb n only) ≡ true
+  is-in t = not-false _ (sym e ∙ t)
+
+  pub out-none : out ≡ true → askedTriangles c only p ≡ []
+  out-none t = asked-not c only p (rw (L .size) at (is-out t))
+
+  pub in-loop : out ≡ false → askedTriangles c only p ≡ loopTriangles c p
+  in-loop t = asked-is c only p (rw (L .size) at (is-in t))
+
+  pub left-out : {was is : List ℕ} {at i : ℕ} → Stored was at (over (wordsOf (askedTriangles c only)) p 0) is i → out ≡ true → Stored was at (over (wordsOf (askedTriangles c only)) (p + 1) 0) is i
+  unfolding gather
+  left-out {was} {is} {at} {i} S t = written-more (askedTriangles c only) p S {m = 0} (ap length (sym (out-none t))) (omega arith) {l = []} (sym (out-none t)) (stored-none is i .area)

@@ -23,6 +23,7 @@ pub mod Examples
 pub mod Polygons
 pub mod Storing
 pub mod LoopTriangles
+pub mod Shaped
 pub mod Taken
 pub mod Holding
 pub mod Cells

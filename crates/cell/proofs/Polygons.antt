@@ -1,5 +1,5 @@
 -- The loops of a cell are polygons, and their triangles are those of the polygons.
-use Prim.Native.Nat.{ℕ, zero, suc, _≤_, _<_}
+use Prim.Native.Nat.{ℕ, _≤_, _<_}
 use mathlib.Core.Path.{_≡_, refl, _∙_}
 use mathlib.Core.Logic.{_≢_}
 use mathlib.Core.List.{map}
@@ -14,7 +14,7 @@ use Rattle.cell.specs.Cell.{crossings, slot, step}
 use Rattle.cell.specs.Loop.{loopSize, dart, normal}
 use Rattle.cell.proofs.Mates.{slot-has, ports}
 use Rattle.manifold.specs.Shape.{shapeOf}
-use Rattle.manifold.specs.Plain.{tri, cornerOf, sideOf}
+use Rattle.manifold.specs.Plain.{tri}
 use Rattle.manifold.specs.Polygon as manifold
 use Rattle.manifold.specs.Polygon.{Simple}
 use Rattle.manifold.specs.Piece.{Piece, dart as dartOf, sizeOf}
@@ -24,21 +24,10 @@ use Rattle.manifold.proofs.Piece.{Listed, dart-once, dart-lt, segment-once, siz
 use Rattle.manifold.proofs.Claims.{polygonLaws}
 use Rattle.cell.specs.declared.Corner.the-variants.{Middle}
 use Rattle.cell.specs.declared.Side.the-variants.{Inner}
-use Rattle.cell.specs.declared.Triangle.{Triangle}
-use Rattle.cell.specs.Names.{cornerName, sideName, cornerAt, sideAt}
+use Rattle.cell.specs.Names.{cornerName, sideName}
 use Rattle.cell.specs.Triangles.{edgesOf, numberOf, segmentOf, point, segment, triangle, loopTriangles, cellTriangles}
 pub use Rattle.cell.specs.Polygons.{localOf, polygonOf, named}
 use Rattle.cell.specs.Polygons.{Apart}
-
-pub corner-named : (t : Triangle) (i : ℕ) → cornerOf (named t) i ≡ cornerAt t i
-corner-named t zero = refl
-corner-named t (suc zero) = refl
-corner-named t (suc (suc i)) = refl
-
-pub side-named : (t : Triangle) (i : ℕ) → sideOf (named t) i ≡ sideAt t i
-side-named t zero = refl
-side-named t (suc zero) = refl
-side-named t (suc (suc i)) = refl
 
 pub loop-named : (c : Cell) (p : ℕ) → map named (loopTriangles c p) ≡ manifold.triangles (polygonOf c p)
 unfolding loopTriangles triangle point segment segmentOf slot step dart loopSize manifold.triangles manifold.shape

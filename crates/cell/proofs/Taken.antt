@@ -1,8 +1,8 @@
 -- What is recorded of a loop of a cell gives the loop's triangles.
 use Prim.Native.Nat.{ℕ, _*_, _/_, _≤_, _<_}
-use mathlib.Core.Path.{_≡_, sym, ap, _∙_, subst}
-use mathlib.Core.Bool.{Bool, true, _&&_}
-use mathlib.Core.List.{List}
+use mathlib.Core.Path.{_≡_, refl, sym, ap, _∙_, subst}
+use mathlib.Core.Bool.{Bool, true, false, _&&_, _||_}
+use mathlib.Core.List.{List, []}
 use native.Mathlib.Omega.{arith}
 use lib.Dec.{eqb}
 use lib.ListN.{length, getD}
@@ -22,7 +22,7 @@ use Rattle.cell.proofs.Loops.{sizes, dart-live, dart-after}
 use Rattle.cell.specs.Loop.{loopSize, dart, normal}
 use Rattle.cell.specs.declared.Corner.the-variants.{Crossing, Middle}
 use Rattle.cell.specs.declared.Side.the-variants.{Inner}
-use Rattle.cell.specs.Triangles.{manyFrom, triangleCount, triangle, edgesOf, numberOf, segmentOf, point, segment, loopTriangles, cellTriangles}
+use Rattle.cell.specs.Triangles.{manyFrom, triangleCount, triangle, edgesOf, numberOf, segmentOf, point, segment, loopTriangles, cellTriangles, askedTriangles, trianglesWith}
 use Rattle.cell.specs.Traced.{pointAt, segmentAt, tracedTriangles}
 
 -- n is 4 where the code says that a loop is in two triangles
@@ -92,11 +92,39 @@ unfolding triangleCount manyFrom
 cell-count c =
     length-cell c ∙ total-ext (λ p. length (loopTriangles c p)) (manyFrom (edgesOf c)) (crossings (edgesOf c)) 0 (λ p a b. length-loop c p)
 
-pub cell-few : (c : Cell) → length (cellTriangles c) ≤ crossings (edgesOf c)
-cell-few c =
+-- the loops that are asked for: all, or those of one length
+pub with-all : (c : Cell) → trianglesWith c 0 ≡ cellTriangles c
+unfolding trianglesWith askedTriangles cellTriangles
+with-all c = refl
+
+module _ (c : Cell) (only p : ℕ) where
+  pub asked-is : (eqb only 0 || eqb (loopSize (edgesOf c) p) only) ≡ true → askedTriangles c only p ≡ loopTriangles c p
+  unfolding askedTriangles
+  asked-is e = rw e
+
+  pub asked-not : (eqb only 0 || eqb (loopSize (edgesOf c) p) only) ≡ false → askedTriangles c only p ≡ []
+  unfolding askedTriangles
+  asked-not e = rw e
+
+  pub asked-few : length (askedTriangles c only p) ≤ loopSize (edgesOf c) p
+  asked-few = go (eqb only 0 || eqb (loopSize (edgesOf c) p) only) refl
+    where
+      go : (b : Bool) → (eqb only 0 || eqb (loopSize (edgesOf c) p) only) ≡ b → length (askedTriangles c only p) ≤ loopSize (edgesOf c) p
+      go true e = rw (asked-is e) (loop-few c p)
+      go false e = rw (asked-not e) (omega arith)
+
+pub length-with : (c : Cell) (only : ℕ) → length (trianglesWith c only) ≡ total (λ p. length (askedTriangles c only p)) (crossings (edgesOf c)) 0
+unfolding trianglesWith
+length-with c only = length-over (askedTriangles c only) (crossings (edgesOf c)) 0
+
+pub with-few : (c : Cell) (only : ℕ) → length (trianglesWith c only) ≤ crossings (edgesOf c)
+with-few c only =
     omega (
       arith,
-      length-cell c,
-      total-mono (λ p. length (loopTriangles c p)) (loopSize (edgesOf c)) (crossings (edgesOf c)) 0 (λ p a b. loop-few c p),
+      length-with c only,
+      total-mono (λ p. length (askedTriangles c only p)) (loopSize (edgesOf c)) (crossings (edgesOf c)) 0 (λ p a b. asked-few c only p),
       sizes (edgesOf c),
     )
+
+pub cell-few : (c : Cell) → length (cellTriangles c) ≤ crossings (edgesOf c)
+cell-few c = rw (← with-all c) (with-few c 0)

@@ -1,11 +1,11 @@
 -- What is kept of the arrays that the walks use.
-use Prim.Native.Nat.{ℕ, _+_, _%_, _≤_, _<_}
+use Prim.Native.Nat.{ℕ, _+_, _-_, _%_, _≤_, _<_, min}
 use mathlib.Core.Path.{_≡_, refl, sym, ap, _∙_}
 use mathlib.Core.List.{List, [], _++_}
 use native.Mathlib.Decide.{decLt}
 use native.Mathlib.Omega.{arith}
 use lib.ListN.{length, getD, drop, set, length-set}
-use lib.Seq.{drop-set-lt, drop-at}
+use lib.Seq.{drop-set-lt, drop-at, ext-getD}
 use Rattle.counting.specs.Range.{values}
 use Rattle.counting.specs.Stored.{filled}
 use Rattle.counting.proofs.Fronts.{sets-front}
@@ -16,8 +16,8 @@ use Rattle.slots.specs.Limits.{mostCount}
 use Rattle.grid.specs.Grid.{mostCells}
 use Rattle.cell.specs.declared.Cell.{Cell}
 use Rattle.cell.specs.Cell.{crossings}
-use Rattle.cell.specs.Of.{countOf, edgesOf}
-use Rattle.cell.specs.Limits.{mostInCell, fewCount, fewInCell}
+use Rattle.cell.specs.Of.{countOf, startOf, edgesOf, limited, Near}
+use Rattle.cell.specs.Limits.{mostInCell, fewCount, fewInCell, shortLimit, startLimit}
 use Rattle.cell.specs.Table.{side, tableCounts, tableCell, tableCrossings}
 use Rattle.cell.specs.Walked.{Kept, Long, Few, Spacious, Sized, Used, Room}
 use Rattle.cell.proofs.Values.{past-end}
@@ -61,6 +61,26 @@ sized-none ms hs ps = record { marks-same = refl; halves-same = refl; points-sam
 pub used-sized : {n : ℕ} {ms hs ps ms′ hs′ ps′ : List ℕ} → Used n ms hs ps ms′ hs′ ps′ → Sized ms hs ps ms′ hs′ ps′
 used-sized U = record { marks-same = U .marks-kept .long; halves-same = U .halves-kept .long; points-same = U .points-kept .long }
 
+-- the starts of a cell of the tables are within their limit
+pub table-near : (cells counts names sides starts : List ℕ) (c : ℕ) → Near (tableCell cells counts names sides starts c)
+unfolding tableCell
+table-near cells counts names sides starts c e l =
+    let f : ℕ → ℕ = λ k. getD starts (side sides (c % mostCells) k) 0 % shortLimit in
+    rw (values-at f 6 e 0 l) (omega arith)
+
+-- so are those of a cell that is taken with its starts within the limit
+pub limited-near : (c : Cell) → Near (limited c)
+unfolding limited
+limited-near c e l = let f : ℕ → ℕ = λ k. min (startOf c k) (startLimit - 1) in rw (values-at f 6 e 0 l) (omega arith)
+
+-- a cell with six starts within the limit is taken as it is
+pub limited-same : (c : Cell) → Near c → length (c .starts) ≡ 6 → limited c ≡ c
+unfolding limited
+limited-same c near six =
+    let f : ℕ → ℕ = λ e. min (startOf c e) (startLimit - 1) in
+    let e : values f 6 ≡ c .starts = ext-getD 0 (values f 6) (c .starts) (length-singles f 6 0 ∙ sym six) (λ i k. (let h : i < 6 = omega (arith, length-singles f 6 0) in values-at f 6 i 0 h ∙ omega (arith, near i h))) in
+    ap (λ s. record { counts = c .counts; starts = s; names = c .names; nodes = c .nodes; index = c .index }) e
+
 module _ {ms hs ps ms′ hs′ ps′ : List ℕ} (S : Sized ms hs ps ms′ hs′ ps′) where
   pub sized-on : {ms″ hs″ ps″ : List ℕ} → Sized ms′ hs′ ps′ ms″ hs″ ps″ → Sized ms hs ps ms″ hs″ ps″
   sized-on T = record {
@@ -77,14 +97,14 @@ module _ {ms hs ps ms′ hs′ ps′ : List ℕ} (S : Sized ms hs ps ms′ hs′
   }
 
   pub sized-given : {c : Cell} {n : ℕ} → Room c n ms hs ps → Room c n ms′ hs′ ps′
-  sized-given R = record { all = R .all; few = R .few; long = sized-long (R .long) }
+  sized-given R = record { near = R .near; all = R .all; few = R .few; long = sized-long (R .long) }
 
   -- a cell of the tables has room in them, if they had room for each
   pub sized-room : (cells counts names sides starts : List ℕ) (c : ℕ) {v : Cell} {n : ℕ} → Spacious counts sides ms hs ps
       → v ≡ tableCell cells counts names sides starts c → n ≡ crossings (edgesOf v) → n ≤ mostInCell → Room v n ms′ hs′ ps′
   unfolding tableCell tableCrossings
   sized-room cells counts names sides starts c {v} {n} R e all few =
-      record { all = all; few = few; long = sized-long (rw (all ∙ ap (λ x. crossings (edgesOf x)) e) (R c)) }
+      record { near = rw e (table-near cells counts names sides starts c); all = all; few = few; long = sized-long (rw (all ∙ ap (λ x. crossings (edgesOf x)) e) (R c)) }
 
 -- So many crossings has a cell of the tables at most: as many as any cell, and fewer where the counts are.
 module _ (counts sides : List ℕ) (c : ℕ) where

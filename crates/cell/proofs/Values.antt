@@ -13,6 +13,7 @@ use Rattle.counting.proofs.Lists.{length-singles, values-at}
 use Rattle.counting.proofs.Stored.{filled-none, filled-more, filled-whole}
 use Rattle.slots.specs.Limits.{mostCount}
 use Rattle.grid.specs.Grid.{mostCells}
+use Rattle.cell.specs.declared.Cell.{Cell}
 use Rattle.cell.specs.Of.{countOf}
 use Rattle.cell.specs.Level.{byEdge}
 use Rattle.cell.specs.Table.{side, tableCell, takenCounts, tableCrossings}
@@ -60,3 +61,14 @@ taken-is cells counts names sides starts c = fun-ext same
 pub taken-crossings : (counts sides : List ℕ) (c : ℕ) → pre (byEdge (takenCounts counts sides c)) 6 ≡ tableCrossings counts sides c
 unfolding tableCrossings
 taken-crossings counts sides c = ap (λ w. pre w 6) (taken-is [] counts [] sides [] c)
+
+-- and the listed counts of a cell that lists six are those of the cell
+pub six-taken : (c : Cell) → length (c .counts) ≡ 6 → byEdge (values (countOf c) 6) ≡ countOf c
+six-taken c six = fun-ext same
+  where
+    same : (k : ℕ) → getD (values (countOf c) 6) k 0 ≡ countOf c k
+    same k =
+        elim (decLt k 6) [
+          | yes l ↦ values-at (countOf c) 6 k 0 l
+          | no l ↦ List·getD-eq-default (values (countOf c) 6) 0 (omega (arith, length-singles (countOf c) 6 0)) ∙ ap (λ n. min n mostCount) (past-end (c .counts) k (omega arith))
+        ]

@@ -17,7 +17,7 @@ use Rattle.cell.specs.Limits.{mostSum}
 use Rattle.cell.specs.Of.{countOf}
 use Rattle.cell.specs.Half.{edgeOf}
 use Rattle.cell.specs.Nests.{greatestOf, nestEdge, nestCount, nestLow, onAxis}
-use Rattle.cell.specs.Middles.{fanCount, cornerPlace, numberedBelow}
+use Rattle.cell.specs.Middles.{fanCount, cornerPlace, isPlaceable}
 
 -- the greatest number of a recorded loop on edge e; 0 where it has none
 unfoldable pub highestOn : (halves points : List ℕ) → ℕ → ℕ
@@ -48,7 +48,7 @@ module _ (c : Cell) (q : Nest) (nodes : List Float) (halves points : List ℕ) w
   unfoldable pub recordedMiddle : (normal : Bool) (area : List Float) → List Place
   recordedMiddle normal area = pick (hasMiddle (length points) normal) (recordedPlace area ∷ []) []
 
--- the places of the cell's crossings stand before point `at`, and its middles have room from there on
+-- the cell's middles can be written from point `at` on, and have room there
 pub record MiddlesRoom (c : Cell) (area : List Float) (at : ℕ) : Type 0 where
-  pub below : numberedBelow c at ≡ true
+  pub below : isPlaceable c at ≡ true
   pub room : coordinates * (at + fanCount c) ≤ length area

@@ -13,9 +13,16 @@ fewCount = 255
 abbrev pub fewInCell : ℕ
 fewInCell = 6 * fewCount
 
--- one more than the greatest number that a start can have
+-- one more than the greatest number that a start can have, in a cell of a grid and in a sub-cell (02, W12)
 abbrev pub startLimit : ℕ
-startLimit = 65536
+startLimit = 67108864
+
+-- one more than the greatest number of 16 bits, and of 32
+abbrev pub shortLimit : ℕ
+shortLimit = 65536
+
+abbrev pub longLimit : ℕ
+longLimit = 4294967296
 
 -- the most that two numbers of 16 bits add up to
 abbrev pub mostSum : ℕ

@@ -1,6 +1,6 @@
 -- The middles of a cell's fans (01; 02, W3), and what is left where they are written among the points of an area.
 use Prim.Native.Nat.{ℕ, _+_, _*_, _/_}
-use mathlib.Core.Bool.{Bool}
+use mathlib.Core.Bool.{Bool, _||_}
 use mathlib.Core.List.{List, [], _∷_}
 use lib.Dec.{ltb, leb}
 use lib.ListN.{getD}
@@ -53,10 +53,14 @@ module _ (nodes : List Float) (place : ℕ → Place) (c : Cell) where
 unfoldable pub numberedBelow : Cell → ℕ → Bool
 numberedBelow c n = every (λ e. leb (startOf c e + countOf c e) n) 6
 
+-- its middles can be written from point n on: the places of its crossings stand before that point, or its fans are those of a nest
+unfoldable pub isPlaceable : Cell → ℕ → Bool
+isPlaceable c n = numberedBelow c n || ltb (nestEdge (countOf c)) 3
+
 module _ (nodes : List Float) (c : Cell) (area : List Float) (at : ℕ) where
-  -- the middles to be written from point `at` on: the cell's, where the places of its crossings stand before that point; else none
+  -- the middles to be written from point `at` on: the cell's, where they can be; else none
   unfoldable pub middlesAt : List Place
-  middlesAt = pick (numberedBelow c at) (cellMiddles nodes (placeAt area) c) []
+  middlesAt = pick (isPlaceable c at) (cellMiddles nodes (placeAt area) c) []
 
   -- the area then, with them where they have room; and the next point
   unfoldable pub pointsThen : List Float

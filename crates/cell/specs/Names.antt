@@ -1,7 +1,6 @@
 -- When two corners, or two sides, of triangles are one (01): a crossing goes by its number and a middle by cell and p0; a segment goes by its
 -- face's name and its lower crossing, and an inner side by cell, p0 and its number.
 use Prim.Native.Nat.{ℕ, zero, suc}
-use mathlib.Core.Bool.{Bool, _||_}
 use Rattle.manifold.specs.Triangle as manifold
 use Rattle.manifold.specs.Triangle.{cross, middle, seg, inner}
 use Rattle.cell.specs.declared.Corner.{Corner}
@@ -29,7 +28,3 @@ abbrev pub sideAt : Triangle → ℕ → manifold.Side
 sideAt t zero = sideName (t .cell) (t .p0) (t .side0)
 sideAt t (suc zero) = sideName (t .cell) (t .p0) (t .side1)
 sideAt t (suc (suc i)) = sideName (t .cell) (t .p0) (t .side2)
-
--- the triangle has the side with this name
-unfoldable pub hasSide : manifold.Side → Triangle → Bool
-hasSide σ t = manifold.same σ (sideAt t 0) || (manifold.same σ (sideAt t 1) || manifold.same σ (sideAt t 2))

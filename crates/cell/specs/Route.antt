@@ -10,7 +10,7 @@ use Rattle.cell.specs.declared.Cell.{Cell}
 use Rattle.cell.specs.declared.Run.{Run}
 use Rattle.cell.specs.Limits.{mostInCell, startLimit}
 use Rattle.cell.specs.Cell.{Edges, base, crossings}
-use Rattle.cell.specs.Of.{countOf, startOf, edgesOf}
+use Rattle.cell.specs.Of.{countOf, startOf, edgesOf, Near}
 use Rattle.cell.specs.Half.{halfEdges, slotOf, rankOf, edgeOf, twin, around}
 
 -- the columns of the routes: the corner counts at the lower and the upper end of the half-edge's edge; the edge's count, its first number in the cell
@@ -84,4 +84,4 @@ pub record Routed (c : Cell) (t : List ℕ) : Type 0 where
   pub counted : (h i : ℕ) → h < halfEdges → i < 5 → getD t (columns * h + i) 0 ≡ getD (front (edgesOf c) h) i 0
   pub linked : (h i : ℕ) → h < halfEdges → i < 4 → getD t (columns * h + (roundLowAt + i)) 0 ≡ getD (links h) i 0
   pub few : crossings (edgesOf c) ≤ mostInCell
-  pub near : (e : ℕ) → e < 6 → startOf c e < startLimit
+  pub near : Near c

@@ -9,7 +9,7 @@ use Rattle.slots.specs.Limits.{mostCount}
 use Rattle.cell.specs.declared.Cell.{Cell}
 use Rattle.cell.specs.Cell.{crossings}
 use Rattle.cell.specs.Of.{edgesOf}
-use Rattle.cell.specs.Limits.{mostInCell, startLimit}
+use Rattle.cell.specs.Limits.{mostInCell, shortLimit}
 use Rattle.cell.specs.declared.Triangle.{Triangle}
 use Rattle.cell.specs.Triangles.{cellTriangles}
 use Rattle.cell.specs.Middles.{fanCount, pointsThen, nextPoint}
@@ -26,12 +26,12 @@ abbrev pub tableCounts : (counts sides : List ℕ) → ℕ → List ℕ
 tableCounts counts sides c = values (λ k. getD counts (side sides c k) 0) 6
 
 abbrev pub tableStarts : (starts sides : List ℕ) → ℕ → List ℕ
-tableStarts starts sides c = values (λ k. getD starts (side sides c k) 0 % startLimit) 6
+tableStarts starts sides c = values (λ k. getD starts (side sides c k) 0 % shortLimit) 6
 
 abbrev pub ofFour : List ℕ → ℕ → List ℕ
 ofFour list c = values (λ i. getD list (4 * c + i) 0) 4
 
--- a place past the end of a list reads as 0, a start is taken modulo its limit, and so is the number of the cell
+-- a place past the end of a list reads as 0, a start is taken modulo 65,536, and so is the number of the cell
 unfoldable pub tableCell : (cells counts names sides starts : List ℕ) → ℕ → Cell
 tableCell cells counts names sides starts c = record {
   counts = tableCounts counts sides (c % mostCells);

@@ -9,7 +9,7 @@ use Rattle.counting.specs.Range.{after}
 use Rattle.manifold.specs.Shape.{Shape, shapeOf, triangleOf, trianglesOf}
 use Rattle.cell.specs.declared.Cell.{Cell}
 use Rattle.cell.specs.Half.{halfEdges}
-use Rattle.cell.specs.Limits.{startLimit}
+use Rattle.cell.specs.Limits.{shortLimit}
 use Rattle.cell.specs.declared.Corner.{Corner}
 use Rattle.cell.specs.declared.Corner.the-variants.{Crossing, Middle}
 use Rattle.cell.specs.declared.Side.{Side}
@@ -19,7 +19,7 @@ use Rattle.cell.specs.Triangles.{triangle}
 
 -- a loop of n is recorded
 pub record RecordedLoop (halves points : List ℕ) (n : ℕ) : Type 0 where
-  pub few : n < startLimit
+  pub few : n < shortLimit
   pub halves-long : length halves ≡ n
   pub points-long : length points ≡ n
   pub halves-are : (k : ℕ) → k < n → getD halves k 0 < halfEdges

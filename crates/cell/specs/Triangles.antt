@@ -1,7 +1,10 @@
 -- The triangles of a loop (01) and of a cell.
 use Prim.Native.Nat.{ℕ, _/_, min}
-use mathlib.Core.List.{List}
+use mathlib.Core.Bool.{_||_}
+use mathlib.Core.List.{List, []}
+use lib.Dec.{eqb}
 use lib.ListN.{length, getD}
+use Rattle.counting.specs.Pick.{pick}
 use Rattle.counting.specs.Range.{total, over}
 use Rattle.manifold.specs.Shape.{shapeOf, manyOf, trianglesOf}
 use Rattle.cell.specs.declared.Cell.{Cell}
@@ -65,3 +68,10 @@ module _ (c : Cell) where
   -- the triangles of the cell, loop by loop
   unfoldable pub cellTriangles : List Triangle
   cellTriangles = over loopTriangles (crossings (edgesOf c)) 0
+
+  -- the triangles of its loops of length `only`, or of all where that is 0: of the loop from p, and of all these loops
+  unfoldable pub askedTriangles : (only p : ℕ) → List Triangle
+  askedTriangles only p = pick (eqb only 0 || eqb (loopSize (edgesOf c) p) only) (loopTriangles p) []
+
+  unfoldable pub trianglesWith : ℕ → List Triangle
+  trianglesWith only = over (askedTriangles only) (crossings (edgesOf c)) 0

@@ -10,7 +10,7 @@ use Rattle.cell.specs.declared.Cell.{Cell}
 use Rattle.cell.specs.declared.Dart.{Dart}
 use Rattle.cell.specs.Cell.{Edges, crossings, edge, step}
 use Rattle.cell.specs.Loop.{loopSize, normal}
-use Rattle.cell.specs.Of.{edgesOf}
+use Rattle.cell.specs.Of.{edgesOf, Near}
 use Rattle.cell.specs.Route.{Routed}
 use Rattle.cell.specs.Limits.{mostInCell, fewCount}
 use Rattle.cell.specs.Dart.{IsDart, dartOf}
@@ -67,8 +67,9 @@ pub record Used (n : ℕ) (marks halves points marks′ halves′ points′ : Li
   pub halves-kept : Kept n halves halves′
   pub points-kept : Kept n points points′
 
--- what the walks from all crossings of the cell are given: how many these are, and room for so many
+-- what the walks from all crossings of the cell are given: starts within their limit, how many crossings these are, and room for so many
 pub record Room (c : Cell) (n : ℕ) (marks halves points : List ℕ) : Type 0 where
+  pub near : Near c
   pub all : n ≡ crossings (edgesOf c)
   pub few : n ≤ mostInCell
   pub long : Long n marks halves points

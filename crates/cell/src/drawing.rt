@@ -54,7 +54,7 @@ fn walked_in_all(
             continue;
         }
         let x = counted_at(cells, counts, names, sides, starts, c);
-        t += count_in(x.cell, x.crossings, marks, halves, points);
+        t += count_in(x.cell, x.crossings, 0, marks, halves, points);
         c += 1;
     }
     t

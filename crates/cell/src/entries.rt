@@ -5,7 +5,7 @@ ghost use lib.ListN.{getD};
 ghost use Rattle.slots.specs.Limits.{mostCount};
 ghost use Rattle.cell.specs.Cell.{crossings};
 ghost use Rattle.cell.specs.Of.{edgesOf};
-ghost use Rattle.cell.specs.Limits.{mostInCell, startLimit};
+ghost use Rattle.cell.specs.Limits.{mostInCell, shortLimit};
 ghost use Rattle.grid.specs.Grid.{mostCells};
 ghost use Rattle.cell.specs.Table.{tableCounts, tableStarts, ofFour, tableCell, takenCounts};
 use super::Cell;
@@ -27,11 +27,11 @@ fn entry(list: &[u16], i: usize) -> u16
     0
 }
 
-fn start_at(starts: &[u32], i: usize) -> u16
-    ensures { λ r. ⌜ r ≡ getD (now (starts .entry)) i 0 % startLimit ⌝ }
+fn start_at(starts: &[u32], i: usize) -> u32
+    ensures { λ r. ⌜ r ≡ getD (now (starts .entry)) i 0 % shortLimit ⌝ }
 {
     if i < starts.len() {
-        return (starts[i] % 65536) as u16;
+        return starts[i] % 65536;
     }
     0
 }
@@ -50,11 +50,11 @@ fn counts_of(counts: &[u16], sides: &[u16], c: usize) -> [u16; 6]
     six
 }
 
-fn starts_of(starts: &[u32], sides: &[u16], c: usize) -> [u16; 6]
+fn starts_of(starts: &[u32], sides: &[u16], c: usize) -> [u32; 6]
     requires { ⌜ c < mostCells ⌝ }
     ensures { λ r. ⌜ r ≡ tableStarts (now (starts .entry)) (now (sides .entry)) c ⌝ }
 {
-    let mut six = [0u16; 6];
+    let mut six = [0u32; 6];
     let mut k: usize = 0;
     while k < 6 {
         let e = wide16(entry(sides, 6 * c + k));
@@ -136,7 +136,7 @@ pub(crate) fn counted_at(
         starts: edge_starts,
         names: slot_names,
         nodes,
-        index: m as u16,
+        index: m as u32,
     };
     let crossings = crossings_of(cell);
     Counted { cell, crossings }

@@ -1,6 +1,6 @@
 // The loops of a cell and their triangles, from the counts and first crossing numbers of its six edges.
 ghost use mathlib.Core.Path.{_≡_};
-ghost use Rattle.cell.specs.Of.{edgesOf};
+ghost use Rattle.cell.specs.Of.{edgesOf, limited};
 ghost use Rattle.cell.specs.Loop.{loopAnswer};
 ghost use Rattle.cell.specs.Answer.{loopNumbers};
 ghost use Rattle.cell.specs.Walked.{Room, Used};
@@ -15,6 +15,8 @@ mod make;
 mod middles;
 mod nests;
 mod numbers;
+mod part_middles;
+mod parts;
 mod routes;
 mod steps;
 mod tables;
@@ -33,13 +35,16 @@ pub use fanning::write_middles;
 pub use level::DIGIT_LIMIT;
 pub use level::is_common;
 pub use level::is_level;
+pub use nests::taken_of;
 pub use numbers::higher;
+pub use numbers::less;
 pub use numbers::lower;
 pub use numbers::sum_of;
+pub use part_middles::write_fans;
+pub use parts::write_loops;
 pub use routes::crossings_of;
 pub use triangles::triangle_at;
 pub use triangles::triangle_count;
-pub use triangles::write_cell;
 pub use words::NO_NAME;
 pub use words::WORD_COUNT;
 
@@ -51,14 +56,14 @@ const FEW_COUNT: u16 = 255;
 
 const FEW_IN_CELL: usize = 6 * FEW_COUNT as usize;
 
-// A cell: the counts of its edges 01, 02, 03, 12, 13, 23 and the crossing number at index 0 of each, the names of the faces in its
-// slots, its nodes' numbers, and its own number.
+// A cell, or a sub-cell of one: the counts of its edges 01, 02, 03, 12, 13, 23 and the crossing number at index 0 of each, the names of the faces in its
+// slots, its nodes' numbers, and word 0 of its triangles: its own number, if it is a cell.
 pub struct Cell {
     pub counts: [u16; 6],
-    pub starts: [u16; 6],
+    pub starts: [u32; 6],
     pub names: [u16; 4],
     pub nodes: [u16; 4],
-    pub index: u16,
+    pub index: u32,
 }
 
 // A cell, and how many crossings it has.
@@ -179,17 +184,18 @@ fn loop_in(
 
 // Loop k of the cell, or that there are k or fewer. The walks' arrays stand on the stack.
 pub fn loop_at(c: Cell, k: usize) -> Loop
-    ensures { λ r. ⌜ loopNumbers r ≡ loopAnswer (edgesOf c) (c .nodes) k ⌝ }
+    ensures { λ r. ⌜ loopNumbers r ≡ loopAnswer (edgesOf (limited c)) (c .nodes) k ⌝ }
 {
-    let n = crossings_of(c);
+    let v = routes::within(c);
+    let n = crossings_of(v);
     if n <= FEW_IN_CELL {
         let mut marks = [0u16; FEW_IN_CELL];
         let mut halves = [0u8; FEW_IN_CELL];
         let mut points = [0u32; FEW_IN_CELL];
-        return loop_in(c, n, k, &mut marks, &mut halves, &mut points);
+        return loop_in(v, n, k, &mut marks, &mut halves, &mut points);
     }
     let mut marks = [0u16; MOST_IN_CELL];
     let mut halves = [0u8; MOST_IN_CELL];
     let mut points = [0u32; MOST_IN_CELL];
-    loop_in(c, n, k, &mut marks, &mut halves, &mut points)
+    loop_in(v, n, k, &mut marks, &mut halves, &mut points)
 }

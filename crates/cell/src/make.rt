@@ -44,7 +44,7 @@ fn segment_at(names: [u16; 4], halves: &[u8], points: &[u32], n: usize, k: usize
 }
 
 // The triangle of a loop of three.
-fn whole_of(c: Cell, halves: &[u8], points: &[u32]) -> Triangle
+pub(crate) fn whole_of(c: Cell, halves: &[u8], points: &[u32]) -> Triangle
     requires { ⌜ RecordedLoop (now halves) (now points) 3 ⌝ }
     ensures { λ r. ⌜ r ≡ tracedTriangle c (now (halves .entry)) (now (points .entry)) 3 single 0 ⌝ }
 {
@@ -53,7 +53,7 @@ fn whole_of(c: Cell, halves: &[u8], points: &[u32]) -> Triangle
     let s = segment_at(names, halves, points, 3, 1);
     let t = segment_at(names, halves, points, 3, 2);
     Triangle {
-        cell: word(c.index),
+        cell: c.index,
         p0: points[0],
         corner0: Corner::Crossing(points[0]),
         corner1: Corner::Crossing(points[1]),
@@ -65,7 +65,7 @@ fn whole_of(c: Cell, halves: &[u8], points: &[u32]) -> Triangle
 }
 
 // The two triangles of a normal loop of four.
-fn half0_of(c: Cell, halves: &[u8], points: &[u32]) -> Triangle
+pub(crate) fn half0_of(c: Cell, halves: &[u8], points: &[u32]) -> Triangle
     requires { ⌜ RecordedLoop (now halves) (now points) 4 ⌝ }
     ensures { λ r. ⌜ r ≡ tracedTriangle c (now (halves .entry)) (now (points .entry)) 4 double 0 ⌝ }
 {
@@ -73,7 +73,7 @@ fn half0_of(c: Cell, halves: &[u8], points: &[u32]) -> Triangle
     let r = segment_at(names, halves, points, 4, 0);
     let s = segment_at(names, halves, points, 4, 1);
     Triangle {
-        cell: word(c.index),
+        cell: c.index,
         p0: points[0],
         corner0: Corner::Crossing(points[0]),
         corner1: Corner::Crossing(points[1]),
@@ -84,7 +84,7 @@ fn half0_of(c: Cell, halves: &[u8], points: &[u32]) -> Triangle
     }
 }
 
-fn half1_of(c: Cell, halves: &[u8], points: &[u32]) -> Triangle
+pub(crate) fn half1_of(c: Cell, halves: &[u8], points: &[u32]) -> Triangle
     requires { ⌜ RecordedLoop (now halves) (now points) 4 ⌝ }
     ensures { λ r. ⌜ r ≡ tracedTriangle c (now (halves .entry)) (now (points .entry)) 4 double 1 ⌝ }
 {
@@ -92,7 +92,7 @@ fn half1_of(c: Cell, halves: &[u8], points: &[u32]) -> Triangle
     let s = segment_at(names, halves, points, 4, 2);
     let t = segment_at(names, halves, points, 4, 3);
     Triangle {
-        cell: word(c.index),
+        cell: c.index,
         p0: points[0],
         corner0: Corner::Crossing(points[0]),
         corner1: Corner::Crossing(points[2]),
@@ -104,7 +104,7 @@ fn half1_of(c: Cell, halves: &[u8], points: &[u32]) -> Triangle
 }
 
 // Triangle k of a fan of n.
-fn spoke_of(c: Cell, halves: &[u8], points: &[u32], n: usize, k: usize) -> Triangle
+pub(crate) fn spoke_of(c: Cell, halves: &[u8], points: &[u32], n: usize, k: usize) -> Triangle
     requires { ⌜ RecordedLoop (now halves) (now points) n ⌝ }
     requires { ⌜ k < n ⌝ }
     ensures { λ r. ⌜ r ≡ tracedTriangle c (now (halves .entry)) (now (points .entry)) n fan k ⌝ }
@@ -113,7 +113,7 @@ fn spoke_of(c: Cell, halves: &[u8], points: &[u32], n: usize, k: usize) -> Trian
     let s = segment_at(names, halves, points, n, k);
     let j = after_of(n, k);
     Triangle {
-        cell: word(c.index),
+        cell: c.index,
         p0: points[0],
         corner0: Corner::Crossing(points[k]),
         corner1: Corner::Crossing(points[j]),

@@ -9,8 +9,10 @@ ghost use Rattle.counting.specs.Stored.{Stored};
 ghost use Rattle.place.specs.Place.{coordinates, placeAt, allNumbers};
 ghost use Rattle.manifold.specs.Shape.{hasMiddle};
 ghost use Rattle.cell.specs.Limits.{mostInCell, mostSum};
+ghost use Rattle.cell.specs.Cell.{crossings};
+ghost use Rattle.cell.specs.Of.{edgesOf};
 ghost use Rattle.cell.specs.Walked.{Room, Used};
-ghost use Rattle.cell.specs.Middles.{fanCount, cellMiddles, numberedBelow, pointsThen, nextPoint};
+ghost use Rattle.cell.specs.Middles.{fanCount, cellMiddles, numberedBelow, isPlaceable, pointsThen, nextPoint};
 ghost use Rattle.cell.specs.Centres.{recordedPlace, recordedMiddle, MiddlesRoom};
 use super::Cell;
 use super::Nest;
@@ -23,7 +25,7 @@ use super::walks::walk;
 use place::Place;
 
 // 1 where a loop of n, normal or not, is drawn as a fan, else 0.
-fn fan_of(n: usize, normal: bool) -> usize
+pub(crate) fn fan_of(n: usize, normal: bool) -> usize
     ensures { λ r. ⌜ r ≡ one (hasMiddle n normal) ⌝ }
 {
     if n == 0 {
@@ -39,7 +41,14 @@ fn fan_of(n: usize, normal: bool) -> usize
 }
 
 // The middle of a recorded loop of the cell with the nest q: in a nest by the nodes' places, else by the area's points.
-fn middle_in(c: Cell, q: Nest, nodes: &[f64], halves: &[u8], points: &[u32], area: &[f64]) -> Place
+pub(crate) fn middle_in(
+    c: Cell,
+    q: Nest,
+    nodes: &[f64],
+    halves: &[u8],
+    points: &[u32],
+    area: &[f64],
+) -> Place
     requires { ⌜ q .count ≤ mostSum ⌝ }
     ensures { λ r. ⌜ r ≡ recordedPlace c q (now (nodes .entry)) (now (halves .entry)) (now (points .entry)) (now (area .entry)) ⌝ }
 {
@@ -153,9 +162,20 @@ fn is_below(c: Cell, n: usize) -> bool
     last <= n
 }
 
-// Whether the places of the cell's crossings stand before point `at`, and its middles have room from there on in an area of `room` numbers. A cell
-// has no more fans than crossings, so that they are counted only where there is not room for so many.
-fn has_room(
+// Whether the places of the cell's crossings stand before point `at`, or its fans are those of a nest, whose middles go by the nodes' places.
+fn is_placeable(c: Cell, n: usize, at: usize) -> bool
+    requires { ⌜ n ≡ crossings (edgesOf c) ⌝ }
+    ensures { λ r. ⌜ r ≡ isPlaceable c at ⌝ }
+{
+    if is_below(c, at) {
+        return true;
+    }
+    nest_in(c, n).edge < 3
+}
+
+// Whether the cell's middles can be written from point `at` on, and have room there in an area of `room` numbers. A cell has no more fans than
+// crossings, so that they are counted only where there is not room for so many.
+pub(crate) fn has_room(
     c: Cell,
     n: usize,
     marks: &mut [u16],
@@ -165,14 +185,14 @@ fn has_room(
     at: usize,
 ) -> bool
     requires { ⌜ Room c n (now marks) (now halves) (now points) ⌝ }
-    ensures { λ r. ⌜ r ≡ (numberedBelow c at && leb (at + fanCount c) (room / coordinates)) ⌝ }
+    ensures { λ r. ⌜ r ≡ (isPlaceable c at && leb (at + fanCount c) (room / coordinates)) ⌝ }
     ensures { λ _. ⌜ Used n (now (marks .entry)) (now (halves .entry)) (now (points .entry)) (now (marks .exit)) (now (halves .exit)) (now (points .exit)) ⌝ }
 {
     let all = room / 3;
     if all < at {
         return false;
     }
-    if !is_below(c, at) {
+    if !is_placeable(c, n, at) {
         return false;
     }
     if n <= all - at {
@@ -183,7 +203,7 @@ fn has_room(
 }
 
 // Writes the middles of the cell's fans from point `at` of the area on and answers the next point. Where they have no room there, or the place of a
-// crossing of the cell does not stand before that point, it writes nothing and answers `at`.
+// crossing of the cell that they go by does not stand before that point, it writes nothing and answers `at`.
 pub(crate) fn middles_in(
     c: Cell,
     n: usize,

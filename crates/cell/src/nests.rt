@@ -21,17 +21,18 @@ use super::numbers::sum_of;
 use super::routes::count_of;
 use super::routes::start_of;
 use super::routes::wide16;
+use super::routes::wide32;
 use place::Place;
 
 // What is left of a, b taken off.
-fn less(a: usize, b: usize) -> usize
+fn minus(a: usize, b: usize) -> usize
     ensures { λ r. ⌜ (r ≡ a - b) × (r ≤ a) ⌝ }
 {
     if a < b { 0 } else { a - b }
 }
 
 // The counts of the cell's edges, none above the limit.
-fn taken_of(c: Cell) -> [u16; 6]
+pub fn taken_of(c: Cell) -> [u16; 6]
     ensures { λ r. ⌜ r ≡ values (countOf c) 6 ⌝ }
 {
     let mut six = [0u16; 6];
@@ -85,9 +86,9 @@ fn count_on(six: [u16; 6], e: usize) -> usize
 {
     let most = pair_of(six, e);
     if e == 0 {
-        return less(most, pair_of(six, 1)) / 2;
+        return minus(most, pair_of(six, 1)) / 2;
     }
-    less(most, pair_of(six, 0)) / 2
+    minus(most, pair_of(six, 0)) / 2
 }
 
 // The corner triangles at the lowest node, where the pair of edge e has the largest sum.
@@ -98,7 +99,7 @@ fn corner_on(six: [u16; 6], e: usize) -> usize
     let x = six[0];
     let y = six[1];
     let z = six[2];
-    less(wide16(x) + wide16(y) + wide16(z), pair_of(six, e)) / 2
+    minus(wide16(x) + wide16(y) + wide16(z), pair_of(six, e)) / 2
 }
 
 // The nest on edge e, whose pair exceeds the others, of a cell in which only rule 1 is met.
@@ -108,7 +109,7 @@ fn nest_on(c: Cell, six: [u16; 6], e: usize) -> Nest
 {
     let m = count_on(six, e);
     let own = corner_on(six, e);
-    let start = wide16(start_of(c, e));
+    let start = wide32(start_of(c, e));
     Nest {
         edge: e,
         count: m,
@@ -193,12 +194,6 @@ fn half_along(c: Cell, nodes: &[f64], k: usize) -> Place
     place::over(place::plus(p, q), 2.0)
 }
 
-fn wide32(x: u32) -> usize
-    ensures { λ r. ⌜ (r ≡ x) × (r < 4294967296) ⌝ }
-{
-    x as usize
-}
-
 // Point k of a recorded loop, 0 past its end.
 fn point_at(points: &[u32], k: usize) -> usize
     ensures { λ r. ⌜ (r ≡ getD (now (points .entry)) k 0) × (r < 4294967296) ⌝ }
@@ -246,7 +241,7 @@ pub(crate) fn nested_middle(c: Cell, q: Nest, nodes: &[f64], halves: &[u8], poin
     ensures { λ r. ⌜ r ≡ recordedNested c q (now (nodes .entry)) (now (halves .entry)) (now (points .entry)) ⌝ }
 {
     let e = q.edge;
-    let i = less(highest_on(halves, points, e), q.low);
+    let i = minus(highest_on(halves, points, e), q.low);
     let a = half_along(c, nodes, e);
     let b = half_along(c, nodes, 5 - e);
     place::interpolate(a, b, part_of(i, q.count))

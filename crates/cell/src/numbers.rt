@@ -1,6 +1,6 @@
 // Numbers compared and added.
 ghost use mathlib.Core.Path.{_≡_};
-ghost use Prim.Native.Nat.{_+_, _≤_, min, max};
+ghost use Prim.Native.Nat.{_+_, _-_, _≤_, min, max};
 ghost use Rattle.cell.specs.Limits.{mostSum};
 
 // The lesser of two numbers.
@@ -15,6 +15,13 @@ pub fn higher(a: u32, b: u32) -> u32
     ensures { λ r. ⌜ r ≡ max a b ⌝ }
 {
     if a < b { b } else { a }
+}
+
+// What is left of a, b taken off.
+pub fn less(a: u32, b: u32) -> u32
+    ensures { λ r. ⌜ r ≡ a - b ⌝ }
+{
+    if a < b { 0 } else { a - b }
 }
 
 // The sum of two counts.

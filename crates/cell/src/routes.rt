@@ -1,15 +1,15 @@
 // The routes of a cell: nine numbers for each half-edge, worked out once and lent to every step.
 ghost use mathlib.Core.Path.{_≡_};
 ghost use mathlib.Core.List.{[], _∷_};
-ghost use Prim.Native.Nat.{_+_, _*_, _<_, _≤_};
+ghost use Prim.Native.Nat.{_+_, _*_, _-_, _<_, _≤_, min};
 ghost use lib.ListN.{getD};
 ghost use lib.Seq.{sets};
 ghost use Rattle.slots.specs.Limits.{mostCount};
 ghost use Rattle.cell.specs.Cell.{ahead, base, crossings};
-ghost use Rattle.cell.specs.Of.{countOf, startOf, edgesOf};
+ghost use Rattle.cell.specs.Of.{countOf, startOf, edgesOf, limited, Near};
 ghost use Rattle.cell.specs.Half.{halfEdges};
 ghost use Rattle.cell.specs.Route.{columns, fronts, Firsts, IsRun, SlotRuns, Routed};
-ghost use Rattle.cell.specs.Limits.{mostInCell, startLimit};
+ghost use Rattle.cell.specs.Limits.{mostInCell, shortLimit, longLimit, startLimit};
 use super::Cell;
 use super::Run;
 use grid::MOST_COUNT;
@@ -158,7 +158,13 @@ pub(crate) fn wide8(x: u8) -> usize
 }
 
 pub(crate) fn wide16(x: u16) -> usize
-    ensures { λ r. ⌜ (r ≡ x) × (r < startLimit) ⌝ }
+    ensures { λ r. ⌜ (r ≡ x) × (r < shortLimit) ⌝ }
+{
+    x as usize
+}
+
+pub(crate) fn wide32(x: u32) -> usize
+    ensures { λ r. ⌜ (r ≡ x) × (r < longLimit) ⌝ }
 {
     x as usize
 }
@@ -172,7 +178,7 @@ pub(crate) fn count_of(c: Cell, e: usize) -> u16
     if n < MOST_COUNT { n } else { MOST_COUNT }
 }
 
-pub(crate) fn start_of(c: Cell, e: usize) -> u16
+pub(crate) fn start_of(c: Cell, e: usize) -> u32
     requires { ⌜ e < 6 ⌝ }
     ensures { λ r. ⌜ r ≡ startOf c e ⌝ }
 {
@@ -191,7 +197,7 @@ pub(crate) fn end_of(c: Cell, e: usize) -> usize
     requires { ⌜ e < 6 ⌝ }
     ensures { λ r. ⌜ r ≡ startOf c e + countOf c e ⌝ }
 {
-    wide16(start_of(c, e)) + count_at(c, e)
+    wide32(start_of(c, e)) + count_at(c, e)
 }
 
 // How many crossings the cell has.
@@ -282,6 +288,7 @@ pub(crate) fn route(routes: &[usize; ROUTES], h: usize, i: usize) -> usize
 // The crossings of edge e.
 fn run_of(c: Cell, firsts: &[usize; 6], e: usize) -> Run
     requires { ⌜ e < 6 ⌝ }
+    requires { ⌜ Near c ⌝ }
     requires { ⌜ Firsts c (now firsts) ⌝ }
     ensures { λ r. ⌜ IsRun c e r ⌝ }
 {
@@ -289,7 +296,7 @@ fn run_of(c: Cell, firsts: &[usize; 6], e: usize) -> Run
     Run {
         count: count_of(c, e),
         first,
-        start: wide16(start_of(c, e)),
+        start: wide32(start_of(c, e)),
     }
 }
 
@@ -322,6 +329,7 @@ fn put_slot(c: Cell, t: &mut [usize; ROUTES], s: usize, ab: Run, ac: Run, bc: Ru
 
 // The routes of the cell. Slot by slot at constant places, so that the compiler works the tables out: a loop over the slots is slower (SPEED.md).
 pub(crate) fn routes_of(c: Cell) -> [usize; ROUTES]
+    requires { ⌜ Near c ⌝ }
     ensures { λ r. ⌜ Routed c r ⌝ }
 {
     let firsts = firsts_of(c);
@@ -337,4 +345,35 @@ pub(crate) fn routes_of(c: Cell) -> [usize; ROUTES]
     put_slot(c, &mut t, 2, e01, e03, e13);
     put_slot(c, &mut t, 3, e01, e02, e12);
     t
+}
+
+// One more than the greatest number that a start can have.
+const START_LIMIT: u32 = 67108864;
+
+fn start_within(x: u32) -> u32
+    ensures { λ r. ⌜ r ≡ min x (startLimit - 1) ⌝ }
+{
+    if x < START_LIMIT { x } else { START_LIMIT - 1 }
+}
+
+// The cell with its starts within their limit.
+pub(crate) fn within(c: Cell) -> Cell
+    ensures { λ r. ⌜ r ≡ limited c ⌝ }
+{
+    let counts = c.counts;
+    let names = c.names;
+    let nodes = c.nodes;
+    let mut starts = [0u32; 6];
+    let mut k: usize = 0;
+    while k < 6 {
+        starts[k] = start_within(start_of(c, k));
+        k += 1;
+    }
+    Cell {
+        counts,
+        starts,
+        names,
+        nodes,
+        index: c.index,
+    }
 }

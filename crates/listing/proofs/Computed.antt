@@ -4,9 +4,11 @@ use Rattle.counting.specs.Search.{seek, first, last, some, every, count}
 use Rattle.counting.specs.Range.{total, over}
 use Rattle.counting.specs.Lists.{tally, gather}
 use Rattle.counting.specs.Pack.{pre, row, col}
+use Rattle.counting.specs.Gcd.{divides, gcd}
 use Rattle.counting.specs.Reach.{reach}
 use Rattle.slots.specs.Slots.{lo, hi, position, lower, upper, edgeBetween, slotEdge, edgeRank, contains, firstSlot, secondSlot}
 use Rattle.face.specs.Face as face
+use Rattle.face.specs.Level.{isLevel}
 use Rattle.walk.specs.Iterate.{it, orbit}
 use Rattle.walk.specs.Step as step
 use Rattle.walk.specs.Walk as walk
@@ -17,7 +19,12 @@ use Rattle.answer.specs.Rows.{orRefuse, answerOf}
 use Rattle.grid.specs.Rows.{badLength, badNumbers, badStart, badLists, badCell, sameCell, repeats, crowded, isAfter, badEdge, badCount, unlisted, unused, linked, reached, split, tooMany, rows, gridAnswer}
 use Rattle.cell.specs.Triangles as triangle
 use Rattle.cell.specs.Words.{cornerWords, words}
-use Rattle.mesh.specs.Mesh.{gridCell, meshTriangles, meshWords}
+use Rattle.cell.specs.Nodes.{joining, cornerFrom}
+use Rattle.cell.specs.Level.{isLevelCell}
+use Rattle.booking.specs.Booking.{median, cornerOn, leastCorner, leftBetween, larger, smaller, isSplit}
+use Rattle.booking.specs.Figures.{areSpiral, areSplit}
+use Rattle.split.specs.Parts.{drawnTriangles, splitsOf}
+use Rattle.mesh.specs.Mesh.{gridCell, meshTriangles, meshSplits, meshWords}
 use Rattle.mesh.specs.Room.{roomAnswer}
 use Rattle.mesh.specs.Answer.{meshAnswer}
 use Rattle.bundle.specs.Record as bytes
@@ -28,16 +35,17 @@ use Rattle.listing.specs.Listing.{orRefused, meshListing, gridListing, b
 use Rattle.listing.specs.Examples.{Examples}
 
 pub computed : Examples
-unfolding seek first last some every count total over tally pre row col reach
+unfolding seek first last some every count total over tally pre row col divides gcd reach
     lo hi position lower upper edgeBetween slotEdge edgeRank contains firstSlot secondSlot
-    face.other face.opposite face.halfAbove face.cornerCount face.residual face.countOn face.others face.kth face.cornerCountAt face.partner face.faceAnswer face.faceJoin
+    face.other face.opposite face.halfAbove face.cornerCount face.residual face.countOn face.others face.kth face.cornerCountAt face.partner face.faceAnswer face.faceJoin isLevel
     it orbit step.face step.land step.step walk.status walk.turn walk.size walk.loopAt
     cell.ahead cell.base cell.holds cell.edge cell.index cell.answerAt cell.joinAt cell.joinedTo cell.mate cell.slot cell.step
     loop.loopSize loop.dart loop.loopDarts loop.folded loop.normal loop.parity loop.nodeWith loop.typeBy loop.inGrid loop.typeOf loop.leasts loop.answerFrom loop.loopAnswer
     faceNode sameFace hasFace faceName joins isEdge hasEdge edgeNumber start startsOf
     badLength badNumbers badStart badLists badCell sameCell repeats crowded isAfter badEdge badCount unlisted unused linked reached split tooMany rows orRefuse answerOf gridAnswer
     triangle.numberOf triangle.segmentOf triangle.point triangle.segment triangle.triangle triangle.loopTriangles triangle.cellTriangles
-    cornerWords words gather gridCell meshTriangles meshWords roomAnswer meshAnswer
+    joining cornerFrom isLevelCell median cornerOn leastCorner leftBetween larger smaller isSplit areSpiral areSplit drawnTriangles splitsOf
+    cornerWords words gather gridCell meshTriangles meshSplits meshWords roomAnswer meshAnswer
     bytes.lengthOf bytes.kindAt bytes.nextRecord bytes.countAt bytes.mayHave bytes.isRecord bytes.bodyStart bytes.bodySize bytes.body
     bundle.sectionOf bundle.isOf bundle.start bundle.run bundle.cells bundle.edgesFrom bundle.edges bundle.looksFrom bundle.looks bundle.stop bundle.samePair bundle.isFor bundle.isStray bundle.firstStray
     bundle.countFrom bundle.countAfter bundle.surviving bundle.bundleAnswer bundle.nodesOf bundle.endsOf bundle.countsOf

@@ -25,7 +25,7 @@ use Rattle.cell.specs.Words.{wordCount}
 use Rattle.cell.proofs.Storing.{length-all}
 use Rattle.cell.proofs.Fits as writes
 use Rattle.mesh.specs.Room.{roomAnswer}
-use Rattle.mesh.specs.Mesh.{meshTriangles, meshWords}
+use Rattle.mesh.specs.Mesh.{meshTriangles, meshSplits, meshWords}
 use Rattle.mesh.specs.Answer.{meshAnswer, meshArea}
 use Rattle.mesh.proofs.Claims.{mesh-some}
 use Rattle.listing.specs.Text.{refusedLine, head, wordText, wordAt, line}
@@ -60,12 +60,12 @@ module _ (words area : List ℕ) (n : ℕ) (fits : wordCount * n ≤ length word
   same-lines = over-ext (line (sets area 0 words)) (line words) n 0 (λ t a b. same-line t (omega arith))
 
 -- a mesh that has room
-module _ (mesh : List Triangle) (t : ℕ) (area : List ℕ) (h : result (t ∷ []) ≡ roomAnswer mesh (length area)) where
+module _ (mesh : List Triangle) (splits t s : ℕ) (area : List ℕ) (h : result (t ∷ s ∷ []) ≡ roomAnswer mesh splits (length area)) where
   has-room : (t ≡ length mesh) × (wordCount * length mesh ≤ length area)
   unfolding roomAnswer
   has-room = go (leb (wordCount * length mesh) (length area)) refl h
     where
-      go : (b : Bool) → leb (wordCount * length mesh) (length area) ≡ b → result (t ∷ []) ≡ pick b (result (length mesh ∷ [])) (refusal 12 (length mesh))
+      go : (b : Bool) → leb (wordCount * length mesh) (length area) ≡ b → result (t ∷ s ∷ []) ≡ pick b (result (length mesh ∷ splits ∷ [])) (refusal 12 (length mesh))
           → (t ≡ length mesh) × (wordCount * length mesh ≤ length area)
       go true e q = (cc, leb-true _ _ e)
       go false e q = let z : _≡_ {A = ℕ} 0 12 = cc in absurd (omega arith)
@@ -90,22 +90,22 @@ module _ (G : Grid) where
     all-crossings : x ≡ crossings (G .counts)
     all-crossings = let e = accepted-is G accepted in cc
 
-    module _ (t : ℕ) (before after : List ℕ) (room : length before ≡ wordCount * areaTriangles)
-        (answer : result (t ∷ []) ≡ meshAnswer G (length before)) (area : after ≡ meshArea G before) where
-      answered : result (t ∷ []) ≡ roomAnswer (meshTriangles G) (length before)
+    module _ (t s : ℕ) (before after : List ℕ) (room : length before ≡ wordCount * areaTriangles)
+        (answer : result (t ∷ s ∷ []) ≡ meshAnswer G (length before)) (area : after ≡ meshArea G before) where
+      answered : result (t ∷ s ∷ []) ≡ roomAnswer (meshTriangles G) (meshSplits G) (length before)
       unfolding meshAnswer
       answered = answer ∙ simp accepted
 
       -- the triangles are all those of the mesh, and no more than the area holds
       all-triangles : t ≡ length (meshTriangles G)
-      all-triangles = has-room (meshTriangles G) t before answered .0
+      all-triangles = has-room (meshTriangles G) (meshSplits G) t s before answered .0
 
       pub few-triangles : t ≤ areaTriangles
-      few-triangles = omega (arith, has-room (meshTriangles G) t before answered .1, all-triangles, room)
+      few-triangles = omega (arith, has-room (meshTriangles G) (meshSplits G) t s before answered .1, all-triangles, room)
 
       stored : after ≡ sets before 0 (meshWords G)
       unfolding meshArea meshWords
-      stored = area ∙ simp accepted (sym (writes.has-room (meshTriangles G) before 0 (omega (arith, has-room (meshTriangles G) t before answered .1)) .1))
+      stored = area ∙ simp accepted (sym (writes.has-room (meshTriangles G) before 0 (omega (arith, has-room (meshTriangles G) (meshSplits G) t s before answered .1)) .1))
 
       long : length (meshWords G) ≡ wordCount * t
       unfolding meshWords
@@ -119,7 +119,7 @@ module _ (G : Grid) where
           ∙ ap (λ (l : List ℕ). head (cellCount (G .cells)) (length (G .counts)) x t ++ l)
           (same-lines (meshWords G) before t (omega (arith, long)) (omega (arith, long, few-triangles, room)))
           ∙ ap₂ (λ y k. head (cellCount (G .cells)) (length (G .counts)) y k ++ over (line (meshWords G)) k 0) all-crossings all-triangles
-          ∙ or-result (t ∷ []) _ (meshListing G) (answer ∙ ap (meshAnswer G) room)
+          ∙ or-result (t ∷ s ∷ []) _ (meshListing G) (answer ∙ ap (meshAnswer G) room)
 
 -- a grid that is opened with as many starts as it has counts is the one that is built afresh
 module _ (nodes ends counts starts : List ℕ) (long : length starts ≡ length counts) where

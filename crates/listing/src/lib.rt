@@ -56,7 +56,7 @@ fn list_mesh(
     let mut area = [0u32; AREA_WORDS];
     match mesh::mesh(nodes, ends, counts, starts, &mut area) {
         Meshed::Refused(row, place) => lines::put_refused(out, row, place),
-        Meshed::Triangles(n) => {
+        Meshed::Triangles(n, _) => {
             let at = lines::put_head(out, nodes.len() / CELL_NODES, counts.len(), crossings, n);
             lines::put_lines(out, at, &area, n)
         }

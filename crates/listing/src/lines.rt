@@ -34,7 +34,7 @@ pub(crate) fn put_head(
     cells: usize,
     edges: usize,
     crossings: u32,
-    triangles: u32,
+    triangles: u64,
 ) -> usize
     requires { ⌜ headRoom ≤ length (now out) ⌝ }
     ensures stored { λ r. ⌜ Stored (now (out .entry)) 0 (head cells edges crossings triangles) (now (out .exit)) r ⌝ }
@@ -74,7 +74,7 @@ fn put_line(out: &mut [u8], at: usize, area: &[u32], t: usize) -> usize
 }
 
 // The lines of the first n triangles.
-pub(crate) fn put_lines(out: &mut [u8], at: usize, area: &[u32], n: u32) -> usize
+pub(crate) fn put_lines(out: &mut [u8], at: usize, area: &[u32], n: u64) -> usize
     requires { ⌜ (at + lineRoom * n ≤ length (now out)) × (wordCount * n ≤ length (now area)) ⌝ }
     ensures stored { λ r. ⌜ Stored (now (out .entry)) at (over (line (now (area .entry))) n 0) (now (out .exit)) r ⌝ }
     ensures few { λ r. ⌜ r ≤ at + lineRoom * n ⌝ }

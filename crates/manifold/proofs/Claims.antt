@@ -1,24 +1,25 @@
 -- The laws of polygons and of complexes, together.
 use Prim.Native.Nat.{ℕ, _+_, _*_, _≤_, _<_}
 use mathlib.Core.Path.{_≡_, refl, sym, ap, _∙_}
-use mathlib.Core.Logic.{_⊎_, inl, inr, _≢_}
+use mathlib.Core.Logic.{_⊎_, inl, inr, _≢_, ⊎-elim}
 use native.Mathlib.Omega.{arith}
 use Rattle.counting.specs.Pick.{one}
 use Rattle.counting.specs.Range.{total}
-use Rattle.counting.specs.Lists.{tally}
+use Rattle.counting.specs.Lists.{tally, weigh}
 use Rattle.counting.proofs.Range.{total-zero, total-one}
 use Rattle.manifold.specs.Triangle.{Side, same}
 use Rattle.manifold.specs.Plain.{sideOf, hasSide, nth}
 use Rattle.manifold.specs.Polygon.{Polygon, shape, segment, spoke, inners, triangles, Simple}
+use Rattle.manifold.specs.Piece.{segmentOf}
 use Rattle.manifold.specs.Complex.{Complex, Lawful, mesh}
 use Rattle.manifold.specs.Claims.{PolygonLaws, Manifold}
-use Rattle.manifold.proofs.Triangle.{eq-same, ne-same}
+use Rattle.manifold.proofs.Triangle.{hits, eq-same, ne-same}
 use Rattle.manifold.proofs.Sound.{member, tally-exact}
 use Rattle.manifold.proofs.Shapes.{many-le}
 use Rattle.manifold.proofs.Polygon.{fits, triangles-length, polygon-sides, Seen, seen, polygon-sound}
 use Rattle.manifold.proofs.Chain.{at-point, fan-ring}
-use Rattle.manifold.proofs.Sides.{at-most-two}
-use Rattle.manifold.proofs.Mesh.{mesh-sound, closed}
+use Rattle.manifold.proofs.Sides.{at-most-two, segment-one, segment-both}
+use Rattle.manifold.proofs.Mesh.{mesh-sound, side-kind, closed}
 use Rattle.manifold.proofs.Few.{piece-few}
 use Rattle.manifold.proofs.Crossing.{crossing-ring}
 use Rattle.manifold.proofs.Middle.{middle-ring}
@@ -63,7 +64,13 @@ pub manifold : (K : Complex) → Lawful K → Manifold K
 manifold K W = record {
   few = piece-few K W;
   most = at-most-two K W;
+  sides = λ t i lt li. ⊎-elim (λ u. inl u) (λ u. let (a, p, k, e, n) = u in inr (a, p, k, e, exact (sideOf (nth (mesh K) t) i) n)) (side-kind K W (nth (mesh K) t) i (member (mesh K) t lt) li);
+  alone = λ c d lc full on only. exact (segmentOf (K .at c) d) (segment-one K W c d lc full on only);
+  shared = λ c d b e lc lb ne full full′ on on′ q. exact (segmentOf (K .at c) d) (segment-both K W c d b e lc lb ne full full′ on on′ q);
   two = λ S t i lt li. tally-exact (mesh-sound K W) (sideOf (nth (mesh K) t) i) ∙ closed K W S .twice (nth (mesh K) t) i (member (mesh K) t lt) li;
   ring = λ S g c h link. crossing-ring K W g S link c h;
   round = λ S c p lc lp some is. middle-ring K W c p lc lp some is S;
 }
+  where
+    exact : {n : ℕ} (σ : Side) → weigh (hits σ) (mesh K) ≡ n → tally (hasSide σ) (mesh K) ≡ n
+    exact σ e = tally-exact (mesh-sound K W) σ ∙ e

@@ -1,17 +1,17 @@
 -- Step 5, whole: the mesh of a complex is sound, and where nothing is left open each side of a triangle occurs twice in it.
 use Prim.Native.Nat.{ℕ, _<_}
 use mathlib.Core.Path.{_≡_, sym, ap, _∙_, subst}
-use mathlib.Core.Logic.{inl, inr, _≢_}
+use mathlib.Core.Logic.{_⊎_, inl, inr, _≢_}
 use native.Mathlib.Omega.{arith}
 use Rattle.counting.specs.Range.{over, after}
 use Rattle.counting.specs.Lists.{weigh, All}
 use Rattle.counting.proofs.Lists.{all-over, all-at, at-all, stands-over}
 use Rattle.walk.specs.Darts.{half}
-use Rattle.manifold.specs.Triangle.{Corner, cross, next}
+use Rattle.manifold.specs.Triangle.{Corner, cross, inner, next}
 use Rattle.manifold.specs.Plain.{Tri, cornerOf, sideOf, noTri, Chain}
 use Rattle.manifold.specs.Polygon.{Polygon, shape, corner, triangles, spoke, Simple}
-use Rattle.manifold.specs.Piece.{mateOf, dart}
-use Rattle.manifold.specs.Complex.{Complex, Lawful, Shut, SameEnds, loopOf, mesh}
+use Rattle.manifold.specs.Piece.{mateOf, segmentOf, dart}
+use Rattle.manifold.specs.Complex.{Complex, Joins, Lawful, Shut, SameEnds, loopOf, mesh}
 use Rattle.manifold.proofs.Triangle.{hits, seg-inner}
 use Rattle.manifold.proofs.Sound.{Member, member, Ends, Sound}
 use Rattle.manifold.proofs.Together.{Here, Spreads, chain-together}
@@ -128,6 +128,34 @@ module _ (K : Complex) where
             go (inr (k, s)) (inr (l, t)) =
                 let q : spoke G k ≡ spoke H l = sym (s .is) ∙ e ∙ t .is in
                 loop-sound (a .c) (a .p) (a .c-lt) (a .p-lt) .ends v i w j (a .in-loop) (same-loop v w a b (W .tags (a .c) (b .c) (a .c-lt) (b .c-lt) (cc)) (cc)) li lj e
+
+    -- a side of a triangle: a segment, or an inner side
+    pub side-kind : (v : Tri) (i : ℕ) → Member (mesh K) v → i < 3
+        → ((c : ℕ) × (d : ℕ) × (c < K .pieces) × Joins (K .at c) d × (sideOf v i ≡ segmentOf (K .at c) d))
+        ⊎ ((a : ℕ) × (p : ℕ) × (k : ℕ) × (sideOf v i ≡ inner a p k) × (weigh (hits (sideOf v i)) (mesh K) ≡ 2))
+    side-kind v i m l = go (of v m)
+      where
+        go : Of v → ((c : ℕ) × (d : ℕ) × (c < K .pieces) × Joins (K .at c) d × (sideOf v i ≡ segmentOf (K .at c) d))
+            ⊎ ((a : ℕ) × (p : ℕ) × (k : ℕ) × (sideOf v i ≡ inner a p k) × (weigh (hits (sideOf v i)) (mesh K) ≡ 2))
+        go a = which (sight v a i l)
+          where
+            which : Seen (loopOf K (a .c) (a .p)) (shape (loopOf K (a .c) (a .p))) v i
+                → ((c : ℕ) × (d : ℕ) × (c < K .pieces) × Joins (K .at c) d × (sideOf v i ≡ segmentOf (K .at c) d))
+                ⊎ ((a : ℕ) × (p : ℕ) × (k : ℕ) × (sideOf v i ≡ inner a p k) × (weigh (hits (sideOf v i)) (mesh K) ≡ 2))
+            which (inl (k, s)) = inl (
+              a .c,
+              dart (K .at (a .c)) (a .p) k,
+              a .c-lt,
+              joins (K .at (a .c)) (W .piece (a .c) (a .c-lt)) (on (a .c) (a .p) k (a .p-lt) (s .lt)),
+              s .is,
+            )
+            which (inr (k, s)) = inr (
+              K .tag (a .c),
+              K .at (a .c) .number (a .p),
+              k,
+              s .is,
+              inner-two K W (sideOf v i) (a .c) (a .p) k (record { c-lt = a .c-lt; p-lt = a .p-lt; k-lt = s .lt; is = s .is }),
+            )
 
     pub closed : Shut K → Closed (mesh K)
     closed S = record { sound = mesh-sound; twice = λ v i m l. twice v i (of v m) l }

@@ -14,7 +14,7 @@ use Rattle.manifold.specs.Triangle.{Side, seg, inner, same}
 use Rattle.manifold.specs.Plain.{hasSide}
 use Rattle.manifold.specs.Polygon.{shape, spoke, inners, triangles}
 use Rattle.manifold.specs.Piece.{slotOf, lowerOf, segmentOf, dart, sizeOf}
-use Rattle.manifold.specs.Complex.{Complex, Joins, Lawful, Shut, loopOf, mesh}
+use Rattle.manifold.specs.Complex.{Complex, Joins, Lawful, Whole, Shut, loopOf, mesh}
 use Rattle.manifold.proofs.Triangle.{hits, eq-same, ne-same, one-same, tally-hits}
 use Rattle.manifold.proofs.Polygon.{polygon-sides}
 use Rattle.manifold.proofs.Piece.{Passed, counts, counted, count-one, count-le, joins, covers, covers-segment}
@@ -134,22 +134,38 @@ module _ (K : Complex) where
     pub at-most-two : (σ : Side) → tally (hasSide σ) (mesh K) ≤ 2
     at-most-two σ = omega (arith, tally-hits σ (mesh K), side-le σ)
 
-    -- where nothing is left open, a segment of a piece occurs twice
-    module _ (S : Shut K) where
-      once : (c d : ℕ) → c < K .pieces → Joins (K .at c) d → inPiece (segmentOf (K .at c) d) c ≡ 1
-      once c d lc ld =
-          let w = covers (K .at c) (W .piece c lc) (S .full c lc) d ld in
-          segment-count (K .at c .name (slotOf (K .at c) d)) (lowerOf (K .at c) d) c
-          ∙ count-one (K .at c) (W .piece c lc) (segmentOf (K .at c) d) (record { p = w .p; i = w .i; on = w .on; is = sym (covers-segment (K .at c) d w) })
+    -- a piece in which no curve ends gives each of its segments once
+    once : (c d : ℕ) → c < K .pieces → Whole (K .at c) → Joins (K .at c) d → inPiece (segmentOf (K .at c) d) c ≡ 1
+    once c d lc full ld =
+        let w = covers (K .at c) (W .piece c lc) full d ld in
+        segment-count (K .at c .name (slotOf (K .at c) d)) (lowerOf (K .at c) d) c
+        ∙ count-one (K .at c) (W .piece c lc) (segmentOf (K .at c) d) (record { p = w .p; i = w .i; on = w .on; is = sym (covers-segment (K .at c) d w) })
 
-      pub segment-two : (c d : ℕ) → c < K .pieces → Joins (K .at c) d → weigh (hits (segmentOf (K .at c) d)) (mesh K) ≡ 2
-      segment-two c d lc ld =
-          let (b, lb, ne, x, lx, q) = S .paired c d lc ld in
-          let e : inPiece (segmentOf (K .at c) d) b ≡ 1 = subst (λ y. inPiece y b ≡ 1) q (once b x lb lx) in
-          let f = K .at c .name (slotOf (K .at c) d) in
-          let l = lowerOf (K .at c) d in
-          whole (segmentOf (K .at c) d)
-          ∙ total-two (inPiece (segmentOf (K .at c) d)) (K .pieces) c b lc lb (λ w. ne (sym w)) (once c d lc ld) e
-          (λ a la ac ab. ⊎-elim (λ z. z)
-          (λ (h : 0 < inPiece (segmentOf (K .at c) d) a). absurd (no-three f l c b a lc lb la (λ w. ne (sym w)) (λ w. ac (sym w)) (λ w. ab (sym w))
-          (omega (arith, once c d lc ld)) (omega (arith, e)) h)) (eq-zero-or-pos (inPiece (segmentOf (K .at c) d) a)))
+    -- so a segment occurs once where no other piece has it, and twice where another has it
+    pub segment-one : (c d : ℕ) → c < K .pieces → Whole (K .at c) → Joins (K .at c) d
+        → ((b e : ℕ) → b < K .pieces → b ≢ c → Joins (K .at b) e → segmentOf (K .at b) e ≢ segmentOf (K .at c) d) → weigh (hits (segmentOf (K .at c) d)) (mesh K) ≡ 1
+    segment-one c d lc full ld only =
+        whole (segmentOf (K .at c) d)
+        ∙ total-one (inPiece (segmentOf (K .at c) d)) (K .pieces) 0 c (omega arith) (omega arith) (once c d lc full ld)
+        (λ a u v ne. ⊎-elim (λ z. z)
+        (λ (h : 0 < inPiece (segmentOf (K .at c) d) a).
+        let la : a < K .pieces = omega arith in
+        let w = segment-in (K .at c .name (slotOf (K .at c) d)) (lowerOf (K .at c) d) a la h in
+        absurd (only a (dart (K .at a) (w .p) (w .i)) la ne (joins (K .at a) (W .piece a la) (w .on)) (sym (w .is))))
+        (eq-zero-or-pos (inPiece (segmentOf (K .at c) d) a)))
+
+    pub segment-both : (c d b e : ℕ) → c < K .pieces → b < K .pieces → b ≢ c → Whole (K .at c) → Whole (K .at b) → Joins (K .at c) d → Joins (K .at b) e
+        → segmentOf (K .at b) e ≡ segmentOf (K .at c) d → weigh (hits (segmentOf (K .at c) d)) (mesh K) ≡ 2
+    segment-both c d b e lc lb ne full full′ ld le q =
+        let n : inPiece (segmentOf (K .at c) d) b ≡ 1 = subst (λ y. inPiece y b ≡ 1) q (once b e lb full′ le) in
+        let f = K .at c .name (slotOf (K .at c) d) in
+        let l = lowerOf (K .at c) d in
+        whole (segmentOf (K .at c) d)
+        ∙ total-two (inPiece (segmentOf (K .at c) d)) (K .pieces) c b lc lb (λ w. ne (sym w)) (once c d lc full ld) n
+        (λ a la ac ab. ⊎-elim (λ z. z)
+        (λ (h : 0 < inPiece (segmentOf (K .at c) d) a). absurd (no-three f l c b a lc lb la (λ w. ne (sym w)) (λ w. ac (sym w)) (λ w. ab (sym w))
+        (omega (arith, once c d lc full ld)) (omega (arith, n)) h)) (eq-zero-or-pos (inPiece (segmentOf (K .at c) d) a)))
+
+    -- where nothing is left open, a segment of a piece occurs twice
+    pub segment-two : Shut K → (c d : ℕ) → c < K .pieces → Joins (K .at c) d → weigh (hits (segmentOf (K .at c) d)) (mesh K) ≡ 2
+    segment-two S c d lc ld = let (b, lb, ne, e, le, q) = S .paired c d lc ld in segment-both c d b e lc lb ne (S .full c lc) (S .full b lb) ld le q

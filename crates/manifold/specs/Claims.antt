@@ -1,15 +1,15 @@
 -- What holds of the triangles of a loop, and of the mesh of a complex.
 use Prim.Native.Nat.{ℕ, _≤_, _<_}
 use mathlib.Core.Path.{_≡_}
-use mathlib.Core.Logic.{_⊎_}
+use mathlib.Core.Logic.{_⊎_, _≢_}
 use lib.ListN.{length}
 use Rattle.counting.specs.Range.{over, before}
 use Rattle.counting.specs.Lists.{tally}
-use Rattle.manifold.specs.Triangle.{Side, cross}
+use Rattle.manifold.specs.Triangle.{Side, cross, inner}
 use Rattle.manifold.specs.Plain.{sideOf, hasSide, nth, Chain, OneRing}
 use Rattle.manifold.specs.Polygon.{Polygon, shape, fan, corner, centre, segment, spoke, inners, triangles}
-use Rattle.manifold.specs.Piece.{sizeOf}
-use Rattle.manifold.specs.Complex.{Complex, Shut, Has, LinkedAt, loopOf, mesh}
+use Rattle.manifold.specs.Piece.{segmentOf, sizeOf}
+use Rattle.manifold.specs.Complex.{Complex, Joins, Whole, Shut, Has, LinkedAt, loopOf, mesh}
 
 -- the triangles at point k: a chain of one or two from segment k − 1 to segment k through inner sides
 pub record AtPoint (G : Polygon) (k : ℕ) : Type 0 where
@@ -40,6 +40,16 @@ pub record Manifold (K : Complex) : Type 1 where
   pub few : (c : ℕ) → c < K .pieces → length (over (λ p. triangles (loopOf K c p)) (K .at c .N) 0) ≤ K .at c .N
   -- no side is in more than two triangles
   pub most : (σ : Side) → tally (hasSide σ) (mesh K) ≤ 2
+  -- a side of a triangle is the segment of a dart of a piece, or an inner side, which is in exactly two
+  pub sides : (t i : ℕ) → t < length (mesh K) → i < 3
+      → ((c : ℕ) × (d : ℕ) × (c < K .pieces) × Joins (K .at c) d × (sideOf (nth (mesh K) t) i ≡ segmentOf (K .at c) d))
+      ⊎ ((a : ℕ) × (p : ℕ) × (k : ℕ) × (sideOf (nth (mesh K) t) i ≡ inner a p k) × (tally (hasSide (sideOf (nth (mesh K) t) i)) (mesh K) ≡ 2))
+  -- where no curve ends in a piece, a segment that it alone has is in exactly one, and one that it shares with another such piece in exactly two
+  pub alone : (c d : ℕ) → c < K .pieces → Whole (K .at c) → Joins (K .at c) d
+      → ((b e : ℕ) → b < K .pieces → b ≢ c → Joins (K .at b) e → segmentOf (K .at b) e ≢ segmentOf (K .at c) d)
+      → tally (hasSide (segmentOf (K .at c) d)) (mesh K) ≡ 1
+  pub shared : (c d b e : ℕ) → c < K .pieces → b < K .pieces → b ≢ c → Whole (K .at c) → Whole (K .at b) → Joins (K .at c) d → Joins (K .at b) e
+      → segmentOf (K .at b) e ≡ segmentOf (K .at c) d → tally (hasSide (segmentOf (K .at c) d)) (mesh K) ≡ 2
   -- where nothing is left open, each side is in exactly two
   pub two : Shut K → (t i : ℕ) → t < length (mesh K) → i < 3 → tally (hasSide (sideOf (nth (mesh K) t) i)) (mesh K) ≡ 2
   -- and the triangles at a crossing whose pieces are linked form one ring

@@ -1,6 +1,6 @@
 -- The mesh call and the loops call, where the grid check refuses and where it accepts.
 use Prim.Native.Nat.{ℕ}
-use mathlib.Core.Path.{_≡_, sym, ap, _∙_}
+use mathlib.Core.Path.{_≡_, sym, ap, ap₂, _∙_}
 use mathlib.Core.Bool.{false}
 use mathlib.Core.List.{List}
 use lib.ListN.{length}
@@ -21,7 +21,7 @@ use Rattle.mesh.specs.Drawn.{Drawn}
 use Rattle.mesh.specs.Answer.{meshAnswer, meshArea, loopsAnswer}
 use Rattle.mesh.specs.Done.{Done}
 use Rattle.mesh.proofs.Demand.{demand3}
-use Rattle.mesh.proofs.Tables.{Tabled, tabled, triangles-are, loop-is}
+use Rattle.mesh.proofs.Tables.{Tabled, tabled, triangles-are, splits-are, loop-is}
 
 module _ (G : Grid) where
   module _ (r : Checked) (row place : ℕ) (e : r ≡ Refused row place) (q : checkNumbers r ≡ gridAnswer G) where
@@ -48,7 +48,7 @@ module _ (G : Grid) where
       pub drawn-done : (before after answer : List ℕ) → Drawn (G .cells) (G .counts) names sides (G .starts) before after answer → Done G before after answer
       unfolding meshAnswer meshArea meshWords
       drawn-done before after answer d = record {
-        answered = rw (told-accepts G r n e q) (d .answered ∙ ap (λ m. roomAnswer m (length before)) (triangles-are tables));
+        answered = rw (told-accepts G r n e q) (d .answered ∙ ap₂ (λ m n. roomAnswer m n (length before)) (triangles-are tables) (splits-are tables));
         area = rw (told-accepts G r n e q) (d .area ∙ ap (λ m. storedIn before 0 (allWords m)) (triangles-are tables));
         demand = demand3;
       }

@@ -1,4 +1,4 @@
--- The numbers tell the answer; the loops of a cell are ordered by p0.
+-- The numbers tell the answer; the splits are few; the loops of a cell are ordered by p0.
 use Prim.Native.Nat.{ℕ, _*_}
 use mathlib.Core.Path.{_≡_, sym, ap, _∙_}
 use mathlib.Core.List.{List, [], _∷_}
@@ -21,16 +21,17 @@ use Rattle.grid.specs.Tables.{accepts}
 use Rattle.grid.specs.Rows.{gridAnswer}
 use Rattle.grid.proofs.Accepts.{acceptance-yields}
 use Rattle.grid.proofs.Claims.{never-empty}
+use Rattle.split.proofs.Claims.{splitsFew}
 use Rattle.mesh.specs.declared.Meshed.{Meshed}
 use Rattle.mesh.specs.declared.Meshed.the-variants.{Triangles, Refused}
 use Rattle.mesh.specs.declared.Looped.{Looped}
 use Rattle.mesh.specs.declared.Looped.the-variants as looped
-use Rattle.mesh.specs.Mesh.{gridCell, meshTriangles}
+use Rattle.mesh.specs.Mesh.{gridCell, meshTriangles, meshSplits}
 use Rattle.mesh.specs.Room.{roomAnswer}
 use Rattle.mesh.specs.Asked.{cellLoop, askedLoop}
 use Rattle.mesh.specs.Answer.{meshAnswer, loopsAnswer}
 use Rattle.mesh.specs.Numbers.{meshNumbers, loopsNumbers}
-use Rattle.mesh.specs.Claims.{MeshTold, LoopsTold, LoopsOrdered}
+use Rattle.mesh.specs.Claims.{MeshTold, LoopsTold, FewSplits, LoopsOrdered}
 use Rattle.mesh.proofs.Complex.{separate}
 
 -- there is always an answer
@@ -38,8 +39,8 @@ module _ (G : Grid) where
   pub mesh-some : (room : ℕ) → [] ≡ meshAnswer G room → ⊥
   unfolding meshAnswer roomAnswer
   mesh-some room =
-      pick-some (accepts G) (roomAnswer mesh room) (gridAnswer G)
-      (pick-some (leb (wordCount * length mesh) room) (result (length mesh ∷ [])) (refusal 12 (length mesh)) no-nil no-nil)
+      pick-some (accepts G) (roomAnswer mesh (meshSplits G) room) (gridAnswer G)
+      (pick-some (leb (wordCount * length mesh) room) (result (length mesh ∷ meshSplits G ∷ [])) (refusal 12 (length mesh)) no-nil no-nil)
       (never-empty G)
     where
       mesh : List Triangle
@@ -63,9 +64,9 @@ module _ (G : Grid) where
 -- two values with one reading that is an answer
 module _ (answer : List ℕ) (some : [] ≡ answer → ⊥) where
   mesh-tells : (r s : Meshed) → meshNumbers r ≡ answer → meshNumbers s ≡ answer → r ≡ s
-  mesh-tells (Triangles n) (Triangles m) a b = let x : n ≡ m = cc in rw x
-  mesh-tells (Triangles n) (Refused k p) a b = absurd (mixed answer some k p (n ∷ []) a b)
-  mesh-tells (Refused k p) (Triangles n) a b = absurd (mixed answer some k p (n ∷ []) b a)
+  mesh-tells (Triangles n s) (Triangles m t) a b = let x : n ≡ m = cc in let y : s ≡ t = cc in rw (x, y)
+  mesh-tells (Triangles n s) (Refused k p) a b = absurd (mixed answer some k p (n ∷ s ∷ []) a b)
+  mesh-tells (Refused k p) (Triangles n s) a b = absurd (mixed answer some k p (n ∷ s ∷ []) b a)
   mesh-tells (Refused k p) (Refused l q) a b = let (x, y) = refusals answer some k p l q a b in rw (x, y)
 
   told-refused : (l : Loop) (k p : ℕ) → loopNumbers l ≡ answer → refused k p ≡ answer → ⊥
@@ -83,6 +84,10 @@ mesh-told G room = mesh-tells (meshAnswer G room) (mesh-some G room)
 
 pub loops-told : LoopsTold
 loops-told G c k = loops-tell (loopsAnswer G c k) (loops-some G c k)
+
+pub fewSplits : FewSplits
+unfolding meshSplits
+fewSplits G = splitsFew .sum (cellCount (G .cells)) (gridCell G)
 
 pub loopsOrdered : LoopsOrdered
 loopsOrdered G total e c l =

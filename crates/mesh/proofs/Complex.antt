@@ -1,4 +1,4 @@
--- An accepted grid is a complex whose cells share whole faces.
+-- An accepted grid is a complex whose cells share whole faces; and each of its cells is fit for a split.
 use Prim.Native.Nat.{ℕ, _+_, _*_, _/_, _≤_, _<_}
 use mathlib.Core.Path.{_≡_, refl, sym, ap, ap₂, _∙_, subst}
 use mathlib.Core.Logic.{_⊎_, inl, inr, ⊎-elim}
@@ -18,7 +18,7 @@ use Rattle.walk.proofs.Step.{face-first, face-second}
 use Rattle.cell.specs.Cell as cell
 use Rattle.cell.specs.Cell.{Edges, crossings, edge, index, number, mate, joinAt}
 use Rattle.cell.specs.Claims.{Separate}
-use Rattle.cell.specs.Loop.{inGrid, normal}
+use Rattle.cell.specs.Loop.{inGrid}
 use Rattle.cell.proofs.Lay.{lay}
 use Rattle.cell.proofs.Mates.{mate-joined}
 use Rattle.cell.proofs.Route.{count-listed}
@@ -33,9 +33,10 @@ use Rattle.manifold.specs.Faces.{Match, Faced}
 use Rattle.grid.specs.Grid.{Grid, cellCount, node, SameFace, faceName, joins, isEdge, edgeNumber, countOf, start}
 use Rattle.grid.specs.Accepted.{Sound}
 use Rattle.grid.proofs.Sound.{edge-numbers}
-use Rattle.grid.proofs.Names.{same-named}
+use Rattle.grid.proofs.Names.{name-lt, same-named}
 use Rattle.mesh.specs.Mesh.{gridCell}
 use Rattle.cell.proofs.Values.{past-end}
+use Rattle.split.specs.Owned.{cellComplex, Fit}
 
 module _ (G : Grid) where
   -- the number of edge k of cell c, and the edges of the cell
@@ -48,8 +49,9 @@ module _ (G : Grid) where
   abbrev pub at : ℕ → Local
   at c = localOf (gridCell G c)
 
-  abbrev pub gridComplex : Complex
-  gridComplex = record { pieces = cellCount (G .cells); at = at; tag = λ c. c; normal = λ c p. normal (w c) p }
+  -- the cells as they are, whether they are split or not
+  abbrev pub cellsOf : Complex
+  cellsOf = cellComplex (cellCount (G .cells)) (gridCell G)
 
   -- the start of an edge and the face name of a slot of cell c
   pub start-of : (c k : ℕ) → k < 6 → w c .start k ≡ start (G .counts) (en c k)
@@ -96,6 +98,17 @@ module _ (G : Grid) where
     names-once c lc s t ls lt e =
         let h = same-named (G .cells) c s c t lc lc ls lt (sym (name-of c s ls) ∙ e ∙ name-of c t lt) in
         same-slot s t ls lt (λ i l. rising-once (node (G .cells) c) 4 (λ a b. S .increasing c a b lc) (position s i) (position t i) (corner-lt s i l) (corner-lt t i l) (h i l))
+
+    -- crossing numbers are below 65,536, and face names below 8,192
+    pub fit : (c : ℕ) → c < cellCount (G .cells) → Fit (gridCell G c)
+    unfolding start
+    fit c lc = record {
+      separate = separate c lc;
+      names = names-once c lc;
+      below = λ k t lk lt.
+          omega (arith, start-of c k lk, count-of c k lk, pre-le (countOf (G .counts)) 0 (en c k) (length (G .counts)) (edge-numbers G S .listed c k lc lk), S .few-crossings);
+      under = λ s ls. omega (arith, name-of c s ls, name-lt (G .cells) c s lc ls, S .few-cells);
+    }
 
     piece-is : (c : ℕ) → c < cellCount (G .cells) → Piece (at c)
     piece-is c lc = piece (gridCell G c) (record { numbers = number-once c lc; names = names-once c lc })
@@ -204,7 +217,7 @@ module _ (G : Grid) where
                       (subst (λ z. z < crossings (w b)) (sym tb) u, ap (at b .number) tb ∙ v ∙ ap (at a .number) (sym ta));
                 }
 
-    pub faced : Faced gridComplex
+    pub faced : Faced cellsOf
     faced = record {
       piece = piece-is;
       tags = λ a b la lb e. e;

@@ -4,10 +4,12 @@ use Rattle.counting.specs.Search.{seek, first, last, some, every, count, rise}
 use Rattle.counting.specs.Range.{total, over, kept}
 use Rattle.counting.specs.Lists.{tally, gather}
 use Rattle.counting.specs.Pack.{pre, row, col}
+use Rattle.counting.specs.Gcd.{divides, gcd}
 use Rattle.counting.specs.Reach.{reach}
 use Rattle.slots.specs.Slots.{lo, hi, position, lower, upper, edgeBetween, slotEdge, edgeRank, contains, firstSlot, secondSlot}
 use Rattle.face.specs.Face as face
 use Rattle.face.specs.Tally.{joinOf, segments, unjoinedCount}
+use Rattle.face.specs.Level.{isLevel}
 use Rattle.walk.specs.Iterate.{it, orbit}
 use Rattle.walk.specs.Step as step
 use Rattle.walk.specs.Walk as walk
@@ -19,15 +21,24 @@ use Rattle.grid.specs.Rows.{badLength, badNumbers, badStart, badLists, badCell,
 use Rattle.cell.specs.Triangles as triangle
 use Rattle.cell.specs.Words.{cornerWords, words}
 use Rattle.cell.specs.Nth.{nthAnswer}
+use Rattle.cell.specs.Nodes.{joining, cornerFrom}
+use Rattle.cell.specs.Level.{isLevelCell}
+use Rattle.booking.specs.Booking.{median, cornerOn, leastCorner, leftBetween, larger, smaller, isSpiral, isSplit}
+use Rattle.booking.specs.Figures.{areSpiral, areSplit, figureIn, figure}
+use Rattle.split.specs.Labels.{remainsTo, labelled, label, spoke}
+use Rattle.split.specs.SubCell.{restStart, armStart, innerName, subAt, sub}
+use Rattle.split.specs.Parts.{parts, allParts, ownCorners, drawnTriangles, splitsOf}
+use Rattle.split.specs.Owned.{owned}
+use Rattle.split.specs.Examples.{alone, of, oneSplit}
 use Rattle.counting.specs.Stored.{storedIn}
-use Rattle.mesh.specs.Mesh.{gridCell, meshTriangles, meshWords}
+use Rattle.mesh.specs.Mesh.{gridCell, meshTriangles, meshSplits, meshWords}
 use Rattle.mesh.specs.Room.{roomAnswer}
 use Rattle.mesh.specs.Asked.{askedLoop}
 use Rattle.mesh.specs.Answer.{meshAnswer, meshArea, loopsAnswer}
 use Rattle.mesh.specs.Examples.{faceAnswers, leastsOf, gridLoops, loopPoints, gridPoints, sidesOf, different, tallies, computed, examples, ExamplesHold}
 
 pub examples-hold : ExamplesHold
-unfolding seek first last some every count rise joinOf segments unjoinedCount total over kept tally pre row col reach
+unfolding seek first last some every count rise joinOf segments unjoinedCount isLevel total over kept tally pre row col divides gcd reach
     lo hi position lower upper edgeBetween slotEdge edgeRank contains firstSlot secondSlot
     face.other face.opposite face.halfAbove face.cornerCount face.residual face.countOn face.others face.kth face.cornerCountAt face.partner face.faceAnswer face.faceJoin
     it orbit step.face step.land step.step walk.status walk.turn walk.size walk.loopAt
@@ -36,6 +47,8 @@ unfolding seek first last some every count rise joinOf segments unjoinedCount to
     faceNode sameFace hasFace faceName joins isEdge hasEdge edgeNumber start startsOf
     badLength badNumbers badStart badLists badCell sameCell repeats crowded isAfter badEdge badCount unlisted unused linked reached split tooMany rows rows.orRefuse rows.answerOf gridAnswer
     triangle.numberOf triangle.segmentOf triangle.point triangle.segment triangle.triangle triangle.loopTriangles triangle.cellTriangles
-    cornerWords words gather nthAnswer gridCell meshTriangles meshWords roomAnswer storedIn askedLoop meshAnswer meshArea loopsAnswer
+    joining cornerFrom isLevelCell median cornerOn leastCorner leftBetween larger smaller isSpiral isSplit areSpiral areSplit figureIn figure
+    remainsTo labelled label spoke restStart armStart innerName subAt sub parts allParts ownCorners drawnTriangles splitsOf owned alone of oneSplit
+    cornerWords words gather nthAnswer gridCell meshTriangles meshSplits meshWords roomAnswer storedIn askedLoop meshAnswer meshArea loopsAnswer
     faceAnswers leastsOf gridLoops loopPoints gridPoints sidesOf different tallies computed examples
 examples-hold = refl

@@ -6,6 +6,7 @@ pub mod Calls
 pub mod Complex
 pub mod Shut
 pub mod Demand
+pub mod Owning
 pub mod Examples
 pub mod Premises
 pub mod Claims

@@ -1,6 +1,6 @@
--- The ring premises by a test, and a grid that meets them with a mesh that is not empty: the theorem on rings says something.
+-- The ring premises by a test, and grids that meet them with a mesh that is not empty, one of them with a split cell: the theorem on rings says something.
 use Prim.Native.Nat.{ℕ, _+_, _%_}
-use mathlib.Core.Path.{_≡_, refl}
+use mathlib.Core.Path.{_≡_, refl, ap}
 use mathlib.Core.Logic.{⊎-elim}
 use mathlib.Core.Bool.{Bool, true, not, _&&_, _||_}
 use mathlib.Core.List.{[], _∷_}
@@ -9,13 +9,16 @@ use lib.ListN.{length}
 use borrow.Author.Tests.{eqb-true, not-true}
 use Rattle.counting.specs.Search.{seek, first, last, some, every, count}
 use Rattle.counting.specs.Range.{total, over}
+use Rattle.counting.specs.Lists.{tally, gather}
 use Rattle.counting.specs.Pack.{pre, row, col}
 use Rattle.counting.specs.Reach.{reach}
+use Rattle.counting.specs.Gcd.{divides, gcd}
 use Rattle.counting.proofs.Bools.{clash, and-left, and-right, or-cases}
 use Rattle.counting.proofs.Search.{every-is}
 use Rattle.answer.specs.Answer.{result}
 use Rattle.slots.specs.Slots.{lo, hi, position, lower, upper, edgeBetween, slotEdge, edgeRank, contains, firstSlot, secondSlot}
 use Rattle.face.specs.Face as face
+use Rattle.face.specs.Level.{isLevel}
 use Rattle.walk.specs.Iterate.{it, orbit}
 use Rattle.walk.specs.Step as step
 use Rattle.walk.specs.Walk as walk
@@ -25,10 +28,17 @@ use Rattle.grid.specs.Grid.{Grid, built, cellCount, countOf, outer, faceNode, s
 use Rattle.grid.specs.Rows.{badLength, badNumbers, badStart, badLists, badCell, sameCell, repeats, crowded, isAfter, badEdge, badCount, unlisted, unused, linked, reached, split, tooMany, rows, gridAnswer}
 use Rattle.answer.specs.Rows.{orRefuse, answerOf}
 use Rattle.cell.specs.Triangles as triangle
-use Rattle.mesh.specs.Mesh.{gridCell, meshTriangles}
+use Rattle.cell.specs.Nodes.{joining, cornerFrom}
+use Rattle.cell.specs.Level.{isLevelCell}
+use Rattle.booking.specs.Booking.{median, cornerOn, leastCorner, leftBetween, larger, smaller, isSpiral, isSplit}
+use Rattle.booking.specs.Figures.{areSpiral, areSplit, figureIn, figure}
+use Rattle.split.specs.Labels.{remainsTo, labelled, label, spoke}
+use Rattle.split.specs.SubCell.{restStart, armStart, innerName, subAt, sub}
+use Rattle.split.specs.Parts.{parts, allParts, ownCorners, drawnTriangles, splitsOf}
+use Rattle.mesh.specs.Mesh.{gridCell, meshTriangles, meshSplits}
 use Rattle.mesh.specs.Demand.{faceCount, RingPremises}
 use Rattle.mesh.specs.Claims.{RingsHappen}
-use Rattle.mesh.specs.Examples.{threeCells, threeEdges, threeCounts}
+use Rattle.mesh.specs.Examples.{threeCells, threeEdges, threeCounts, fiveCells, fiveCounts}
 
 module _ (G : Grid) where
   unfoldable pub zeroTest : ℕ → Bool
@@ -52,31 +62,47 @@ module _ (G : Grid) where
         (every-is (λ c. every (evenTest c) 4) (cellCount (G .cells)) (and-right (every zeroTest (length (G .counts))) (every (λ c. every (evenTest c) 4) (cellCount (G .cells))) e) c lc) s ls);
   }
 
--- three cells round an edge: every outer edge has count zero, and each face an even sum
-three-pass : premiseTest (built threeCells threeEdges threeCounts) ≡ true
+-- three cells round an edge, and five where each face is in two: every outer edge has count zero, and each face an even sum
+passes : (premiseTest (built threeCells threeEdges threeCounts) ≡ true) × (premiseTest (built fiveCells threeEdges fiveCounts) ≡ true)
 unfolding premiseTest zeroTest evenTest every some count seek first last total over pre lo hi position lower upper edgeBetween slotEdge contains
     outer faceNode sameFace hasFace joins isEdge edgeNumber
-three-pass = refl
+passes = (refl, refl)
 
-three-accepted : gridAnswer (built threeCells threeEdges threeCounts) ≡ result (2 ∷ [])
+accepted : (gridAnswer (built threeCells threeEdges threeCounts) ≡ result (2 ∷ [])) × (gridAnswer (built fiveCells threeEdges fiveCounts) ≡ result (24 ∷ []))
 unfolding every some count seek first last total over pre reach lo hi position lower upper edgeBetween slotEdge contains
     faceNode sameFace hasFace joins isEdge hasEdge edgeNumber start startsOf
     badLength badNumbers badStart badLists badCell sameCell repeats crowded isAfter badEdge badCount unlisted unused linked reached split tooMany rows orRefuse answerOf gridAnswer
-three-accepted = refl
+accepted = (refl, refl)
 
-three-triangles : length (meshTriangles (built threeCells threeEdges threeCounts)) ≡ 6
-unfolding every some count seek first last total over pre row col lo hi position lower upper edgeBetween slotEdge edgeRank contains firstSlot secondSlot
+-- the triangles and the splits of a grid
+abbrev drawnOf : Grid → ℕ × ℕ
+drawnOf G = (length (meshTriangles G), meshSplits G)
+
+drawn : (drawnOf (built threeCells threeEdges threeCounts) ≡ (6, 0)) × (drawnOf (built fiveCells threeEdges fiveCounts) ≡ (100, 1))
+unfolding every some count seek first last isLevel total over tally gather pre row col divides gcd
+    lo hi position lower upper edgeBetween slotEdge edgeRank contains firstSlot secondSlot
     face.other face.opposite face.halfAbove face.cornerCount face.residual face.countOn face.others face.kth face.cornerCountAt face.partner face.faceAnswer face.faceJoin
     it orbit step.face step.land step.step walk.status walk.turn walk.size walk.loopAt
-    cell.ahead cell.base cell.holds cell.edge cell.index cell.answerAt cell.joinAt cell.joinedTo cell.mate cell.slot cell.step loop.loopSize loop.dart loop.loopDarts loop.folded loop.normal
+    cell.ahead cell.base cell.holds cell.edge cell.index cell.answerAt cell.joinAt cell.joinedTo cell.mate cell.slot cell.step loop.loopSize loop.dart loop.loopDarts loop.folded loop.normal loop.inGrid
     faceNode sameFace faceName joins isEdge edgeNumber start
     triangle.numberOf triangle.segmentOf triangle.point triangle.segment triangle.triangle triangle.loopTriangles triangle.cellTriangles
-    gridCell meshTriangles
-three-triangles = refl
+    joining cornerFrom isLevelCell median cornerOn leastCorner leftBetween larger smaller isSpiral isSplit areSpiral areSplit figureIn figure
+    remainsTo labelled label spoke restStart armStart innerName subAt sub parts allParts ownCorners drawnTriangles splitsOf
+    gridCell meshTriangles meshSplits
+drawn = (refl, refl)
 
 pub ringsHappen : RingsHappen
 ringsHappen = record {
-  accepted = three-accepted;
-  premises = tested (built threeCells threeEdges threeCounts) three-pass;
-  triangles = three-triangles;
+  three = record {
+    accepted = accepted .0;
+    premises = tested (built threeCells threeEdges threeCounts) (passes .0);
+    drawn = ap (λ n. n .0) (drawn .0);
+    split = ap (λ n. n .1) (drawn .0);
+  };
+  five = record {
+    accepted = accepted .1;
+    premises = tested (built fiveCells threeEdges fiveCounts) (passes .1);
+    drawn = ap (λ n. n .0) (drawn .1);
+    split = ap (λ n. n .1) (drawn .1);
+  };
 }

@@ -9,11 +9,11 @@ use Rattle.cell.specs.declared.Triangle.{Triangle}
 use Rattle.cell.specs.Words.{wordCount}
 use Rattle.mesh.specs.Room.{roomAnswer}
 
-module _ (mesh : List Triangle) (room : ℕ) where
-  pub answer-short : room < wordCount * length mesh → refusal 12 (length mesh) ≡ roomAnswer mesh room
+module _ (mesh : List Triangle) (splits room : ℕ) where
+  pub answer-short : room < wordCount * length mesh → refusal 12 (length mesh) ≡ roomAnswer mesh splits room
   unfolding roomAnswer
   answer-short h = simp (lt-leb (wordCount * length mesh) room h)
 
-  pub answer-fits : wordCount * length mesh ≤ room → result (length mesh ∷ []) ≡ roomAnswer mesh room
+  pub answer-fits : wordCount * length mesh ≤ room → result (length mesh ∷ splits ∷ []) ≡ roomAnswer mesh splits room
   unfolding roomAnswer
   answer-fits h = simp (le-leb (wordCount * length mesh) room h)

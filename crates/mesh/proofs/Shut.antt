@@ -29,7 +29,7 @@ use Rattle.grid.proofs.Sound.{edge-numbers}
 use Rattle.grid.proofs.Packed.{same-true, true-same}
 use Rattle.grid.proofs.Names.{named-same, outer-edge}
 use Rattle.mesh.specs.Demand.{RingPremises, faceCount}
-use Rattle.mesh.proofs.Complex.{w, at, en, gridComplex, count-of, name-of, number-of}
+use Rattle.mesh.proofs.Complex.{w, at, en, cellsOf, count-of, name-of, number-of}
 
 module _ (G : Grid) where
   module _ (S : Sound G) (H : RingPremises G) where
@@ -64,7 +64,7 @@ module _ (G : Grid) where
     even-slot c s lc ls =
         rw (three-is c s 0 ls (omega arith), three-is c s 1 ls (omega arith), three-is c s 2 ls (omega arith)) (H .even c s lc ls)
 
-    pub facesShut : FacesShut (gridComplex G)
+    pub facesShut : FacesShut (cellsOf G)
     facesShut = record { full = full; paired = paired }
       where
         full : (c d : ℕ) → c < cellCount (G .cells) → d < 2 * crossings (w G c) → mateOf (at G c) d < crossings (w G c)
@@ -103,7 +103,7 @@ module _ (G : Grid) where
         sym (row-pack (countOf (G .counts)) (length (G .counts)) e i le li) ∙ ap (row (countOf (G .counts)) (length (G .counts))) q ∙ row-pack (countOf (G .counts)) (length (G .counts)) f j lf lj
 
     -- the cells at a crossing are linked through faces on which it lies: those that contain its edge
-    pub facesLinked : Linked G → (g : ℕ) → FacesLinked (gridComplex G) g
+    pub facesLinked : Linked G → (g : ℕ) → FacesLinked (cellsOf G) g
     facesLinked link g Q pass a b ha hb =
         let va = w G a in
         let vb = w G b in
@@ -130,7 +130,7 @@ module _ (G : Grid) where
         a b ka kb (ha .lt) (hb .lt) lka lkb (E .is a ka (ha .lt) lka) (rw e (E .is b kb (hb .lt) lkb))
       where
         step : (i e : ℕ) → i < countOf (G .counts) e → start (G .counts) e + i ≡ g → (a b r s j : ℕ) → a < cellCount (G .cells) → b < cellCount (G .cells) → r < 4 → s < 4 → j < 3
-            → SameFace (G .cells) a r b s → en G a (slotEdge r j) ≡ e → SharesFace (gridComplex G) g a b
+            → SameFace (G .cells) a r b s → en G a (slotEdge r j) ≡ e → SharesFace (cellsOf G) g a b
         step i e li q a b r s j la lb lr ls lj h m =
             ⊎-elim
             (λ (u : firstSlot (slotEdge r j) ≡ r). make (2 * x) (omega arith) (omega (arith, lx)) (face-first (crossings v) (cell.first v) (cell.second v) (mate v) x ∙ ap firstSlot ex ∙ u))
@@ -152,7 +152,7 @@ module _ (G : Grid) where
             ex : edge v x ≡ slotEdge r j
             ex = num-edge v r j i lr lj li′
 
-            make : (d : ℕ) → half d ≡ x → d < 2 * crossings v → slotOf (at G a) d ≡ r → SharesFace (gridComplex G) g a b
+            make : (d : ℕ) → half d ≡ x → d < 2 * crossings v → slotOf (at G a) d ≡ r → SharesFace (cellsOf G) g a b
             make d hd ld fd = record {
               a-lt = la;
               b-lt = lb;

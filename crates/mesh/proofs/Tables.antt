@@ -10,16 +10,17 @@ use Rattle.counting.specs.Range.{values}
 use Rattle.counting.specs.Stored.{filled}
 use Rattle.counting.proofs.Lists.{values-ext}
 use Rattle.counting.proofs.Stored.{filled-at}
-use Rattle.counting.proofs.Range.{over-ext}
+use Rattle.counting.proofs.Range.{total-ext, over-ext}
 use Rattle.counting.proofs.Pack.{pre-le}
-use Rattle.cell.specs.Limits.{startLimit}
+use Rattle.cell.specs.Limits.{shortLimit}
 use Rattle.grid.specs.Grid.{Grid, mostCells, cellCount, faceName, edgeNumber, countOf, start, mostSlots, mostEdges}
 use Rattle.grid.specs.Accepted.{Sound}
 use Rattle.grid.proofs.Sound.{edge-numbers}
 use Rattle.grid.specs.Tables.{accepts, Laid, nameAt, sideAt}
-use Rattle.cell.specs.Triangles.{cellTriangles}
-use Rattle.mesh.specs.Mesh.{gridCell, meshTriangles}
-use Rattle.cell.specs.Table.{tableCounts, tableStarts, ofFour, side, drawnCells, tableCell, tableTriangles}
+use Rattle.cell.specs.Table.{tableCounts, tableStarts, ofFour, side, drawnCells, tableCell}
+use Rattle.split.specs.Parts.{drawnTriangles, splitsOf}
+use Rattle.split.specs.Table.{tableDrawn, tableSplits}
+use Rattle.mesh.specs.Mesh.{gridCell, meshTriangles, meshSplits}
 use Rattle.mesh.specs.Asked.{askedLoop, tableLoop}
 use Rattle.mesh.proofs.Askings.{asked-ext}
 
@@ -45,7 +46,7 @@ module _ {G : Grid} {names sides : List ℕ} (T : Tabled G names sides) where
   side-lt : (c k : ℕ) → c < cellCount (G .cells) → k < 6 → side sides c k < length (G .counts)
   side-lt c k lc lk = rw (side-is c k lc lk) (edge-numbers G (T .sound) .listed c k lc lk)
 
-  start-is : (c k : ℕ) → c < cellCount (G .cells) → k < 6 → getD (G .starts) (side sides c k) 0 % startLimit ≡ start (G .counts) (edgeNumber G c k)
+  start-is : (c k : ℕ) → c < cellCount (G .cells) → k < 6 → getD (G .starts) (side sides c k) 0 % shortLimit ≡ start (G .counts) (edgeNumber G c k)
   unfolding start
   start-is c k lc lk =
       let e = edgeNumber G c k in
@@ -60,7 +61,7 @@ module _ {G : Grid} {names sides : List ℕ} (T : Tabled G names sides) where
       let a : tableCounts (G .counts) sides c ≡ values (λ k. countOf (G .counts) (edgeNumber G c k)) 6 =
       values-ext (λ k. getD (G .counts) (side sides c k) 0) (λ k. countOf (G .counts) (edgeNumber G c k)) 6 (λ k l. ap (countOf (G .counts)) (side-is c k lc l)) in
       let b : tableStarts (G .starts) sides c ≡ values (λ k. start (G .counts) (edgeNumber G c k)) 6 =
-      values-ext (λ k. getD (G .starts) (side sides c k) 0 % startLimit) (λ k. start (G .counts) (edgeNumber G c k)) 6 (λ k l. start-is c k lc l) in
+      values-ext (λ k. getD (G .starts) (side sides c k) 0 % shortLimit) (λ k. start (G .counts) (edgeNumber G c k)) 6 (λ k l. start-is c k lc l) in
       let d : ofFour names c ≡ values (faceName (G .cells) c) 4 = values-ext (λ s. getD names (4 * c + s) 0) (faceName (G .cells) c) 4 (λ s l. name-is c s lc l) in
       rw m (ap₂ (λ x y. record { counts = x; starts = y; names = ofFour names c; nodes = ofFour (G .cells) c; index = c }) a b
       ∙ ap (λ z. record {
@@ -71,13 +72,22 @@ module _ {G : Grid} {names sides : List ℕ} (T : Tabled G names sides) where
         index = c;
       }) d)
 
-  pub triangles-are : tableTriangles (G .cells) (G .counts) names sides (G .starts) ≡ meshTriangles G
-  unfolding tableTriangles meshTriangles
+  all-drawn : drawnCells (G .cells) ≡ cellCount (G .cells)
+  all-drawn = omega (arith, T .sound .few-cells)
+
+  pub triangles-are : tableDrawn (G .cells) (G .counts) names sides (G .starts) ≡ meshTriangles G
+  unfolding tableDrawn meshTriangles
   triangles-are =
-      let d : drawnCells (G .cells) ≡ cellCount (G .cells) = omega (arith, T .sound .few-cells) in
-      rw d
-      (over-ext (λ c. cellTriangles (tableCell (G .cells) (G .counts) names sides (G .starts) c)) (λ c. cellTriangles (gridCell G c)) (cellCount (G .cells)) 0
-      (λ c a b. ap cellTriangles (cell-is c (omega arith))))
+      rw all-drawn
+      (over-ext (λ c. drawnTriangles (tableCell (G .cells) (G .counts) names sides (G .starts) c)) (λ c. drawnTriangles (gridCell G c)) (cellCount (G .cells)) 0
+      (λ c a b. ap drawnTriangles (cell-is c (omega arith))))
+
+  pub splits-are : tableSplits (G .cells) (G .counts) names sides (G .starts) ≡ meshSplits G
+  unfolding tableSplits meshSplits
+  splits-are =
+      rw all-drawn
+      (total-ext (λ c. splitsOf (tableCell (G .cells) (G .counts) names sides (G .starts) c)) (λ c. splitsOf (gridCell G c)) (cellCount (G .cells)) 0
+      (λ c a b. ap splitsOf (cell-is c (omega arith))))
 
   pub loop-is : (c k : ℕ) → tableLoop (G .cells) (G .counts) names sides (G .starts) c k ≡ askedLoop (gridCell G) (cellCount (G .cells)) c k
   unfolding tableLoop

@@ -6,15 +6,15 @@ use Rattle.counting.specs.Stored.{storedIn}
 use Rattle.grid.specs.Grid.{Grid, cellCount}
 use Rattle.grid.specs.Rows.{gridAnswer}
 use Rattle.grid.specs.Tables.{accepts}
-use Rattle.mesh.specs.Mesh.{gridCell, meshTriangles, meshWords}
+use Rattle.mesh.specs.Mesh.{gridCell, meshTriangles, meshSplits, meshWords}
 use Rattle.mesh.specs.Room.{roomAnswer}
 use Rattle.mesh.specs.Asked.{askedLoop}
 
 module _ (G : Grid) where
-  -- the mesh call (01): rows 1 to 10; then 12 with the number of triangles needed; else the number of triangles
+  -- the mesh call (01): rows 1 to 10; then 12 with the number of triangles needed; else the number of triangles and the number of splits (02, W12)
   unfoldable pub meshAnswer : ℕ → List ℕ
   unfolding roomAnswer
-  meshAnswer room = pick (accepts G) (roomAnswer (meshTriangles G) room) (gridAnswer G)
+  meshAnswer room = pick (accepts G) (roomAnswer (meshTriangles G) (meshSplits G) room) (gridAnswer G)
 
   -- the lent area afterwards: the words of the mesh at its front, and the rest as it was; all as it was where they have no room or the check refuses
   unfoldable pub meshArea : List ℕ → List ℕ

@@ -18,10 +18,11 @@ use Rattle.grid.specs.Rows.{gridAnswer}
 use Rattle.cell.specs.Triangles.{edgesOf, numberOf, cellTriangles}
 use Rattle.cell.specs.Nth.{nthAnswer}
 use Rattle.cell.specs.declared.Triangle.{Triangle}
-use Rattle.cell.specs.Names.{sideAt}
 use Rattle.cell.specs.Words.{noName}
 use Rattle.manifold.specs.Triangle.{Side, seg, inner, same}
+use Rattle.split.specs.Examples.{oneSplit}
 use Rattle.mesh.specs.Mesh.{gridCell, meshTriangles, meshWords}
+use Rattle.mesh.specs.Names.{meshSide}
 use Rattle.mesh.specs.Asked.{cellLoop}
 use Rattle.mesh.specs.Answer.{meshAnswer, meshArea, loopsAnswer}
 
@@ -37,6 +38,8 @@ pub data Example : Type 0 where
   nth : (cells edges counts : List ℕ) (c t : ℕ) (answer : List ℕ) → Example
   -- the mesh call: the lists and the lent area; the answer, and the area afterwards
   mesh : (cells edges counts area answer after : List ℕ) → Example
+  -- the mesh call, where only its answer is told: the lists and so many words of room; the answer
+  sizes : (cells edges counts : List ℕ) (room : ℕ) (answer : List ℕ) → Example
   -- the loops call: the lists, cell c, k; the answer
   loop : (cells edges counts : List ℕ) (c k : ℕ) (answer : List ℕ) → Example
 
@@ -79,7 +82,7 @@ module _ (G : Grid) where
 -- the sides of triangles, with a test which of them to take
 unfoldable pub sidesOf : (Side → Bool) → List Triangle → List Side
 sidesOf t [] = []
-sidesOf t (v ∷ l) = taken (sideAt v 0) (taken (sideAt v 1) (taken (sideAt v 2) (sidesOf t l)))
+sidesOf t (v ∷ l) = taken (meshSide v 0) (taken (meshSide v 1) (taken (meshSide v 2) (sidesOf t l)))
   where
     taken : Side → List Side → List Side
     taken σ m = pick (t σ) (σ ∷ m) m
@@ -100,12 +103,13 @@ tallies l = length l ∷ different (sidesOf isSegment l) ∷ different (sidesOf 
 -- the example with what the definitions say in place of what stands in the table
 unfoldable pub computed : Example → Example
 computed (face ab ac bc answers sides free) = face ab ac bc (faceAnswers ab ac bc) (segments ab ac bc) (unjoinedCount ab ac bc)
-computed (grid cells edges counts answer loops points words sizes) =
+computed (grid cells edges counts answer loops points words sides) =
     grid cells edges counts (gridAnswer (built cells edges counts)) (gridLoops (built cells edges counts)) (gridPoints (built cells edges counts)) (meshWords (built cells edges counts))
     (tallies (meshTriangles (built cells edges counts)))
 computed (join ab ac bc e t answer) = join ab ac bc e t (faceAnswer ab ac bc e t)
 computed (nth cells edges counts c t answer) = nth cells edges counts c t (nthAnswer (cellTriangles (gridCell (built cells edges counts) c)) t)
 computed (mesh cells edges counts area answer after) = mesh cells edges counts area (meshAnswer (built cells edges counts) (length area)) (meshArea (built cells edges counts) area)
+computed (sizes cells edges counts room answer) = sizes cells edges counts room (meshAnswer (built cells edges counts) room)
 computed (loop cells edges counts c k answer) = loop cells edges counts c k (loopsAnswer (built cells edges counts) c k)
 
 -- one cell 0 1 2 3; no loop
@@ -138,12 +142,23 @@ twoEdges = 0 ∷ 1 ∷ 0 ∷ 2 ∷ 0 ∷ 3 ∷ 1 ∷ 2 ∷ 1 ∷ 3 ∷ 1 ∷ 4 �
 abbrev twoCounts : List ℕ
 twoCounts = 2 ∷ 0 ∷ 0 ∷ 0 ∷ 0 ∷ 1 ∷ 0 ∷ 1 ∷ 1 ∷ []
 
+-- the five cells with four of the nodes 0 to 4: each face is in two, and no edge is outer. No crossings at node 0, and in the last cell, 1234, d1 is 4 and
+-- d2 is 2
+abbrev pub fiveCells : List ℕ
+fiveCells = 0 ∷ 1 ∷ 2 ∷ 3 ∷ 0 ∷ 1 ∷ 2 ∷ 4 ∷ 0 ∷ 1 ∷ 3 ∷ 4 ∷ 0 ∷ 2 ∷ 3 ∷ 4 ∷ 1 ∷ 2 ∷ 3 ∷ 4 ∷ []
+
+abbrev pub fiveCounts : List ℕ
+fiveCounts = 0 ∷ 0 ∷ 0 ∷ 0 ∷ 4 ∷ 2 ∷ 6 ∷ 6 ∷ 2 ∷ 4 ∷ []
+
 -- counts of one cell
 abbrev cornerCounts : List ℕ
 cornerCounts = 1 ∷ 1 ∷ 1 ∷ 0 ∷ 0 ∷ 0 ∷ []
 
 abbrev twoLoopCounts : List ℕ
 twoLoopCounts = 3 ∷ 1 ∷ 1 ∷ 0 ∷ 0 ∷ 0 ∷ []
+
+abbrev splitCounts : List ℕ
+splitCounts = 4 ∷ 2 ∷ 6 ∷ 6 ∷ 2 ∷ 4 ∷ []
 
 unfoldable pub examples : List Example
 examples =
@@ -205,6 +220,10 @@ examples =
     (0 ∷ 0 ∷ 0 ∷ 1 ∷ noName ∷ 3 ∷ 0 ∷ noName ∷ 1 ∷ noName ∷ 0 ∷
     0 ∷ 0 ∷ 1 ∷ 0 ∷ noName ∷ 2 ∷ 0 ∷ noName ∷ 0 ∷ noName ∷ 1 ∷
     1 ∷ 2 ∷ 2 ∷ 3 ∷ 4 ∷ 6 ∷ 2 ∷ 4 ∷ 3 ∷ 5 ∷ 2 ∷ []) (3 ∷ 5 ∷ 2 ∷ [])
+    -- d1 4, d2 2: two loops of length 12, and the triangles of the split cell, with 24 segments on its faces, 30 on its inner faces and 36 inner sides
+    ∷ grid cell six splitCounts (result (24 ∷ [])) (result (0 ∷ 12 ∷ 1 ∷ 2 ∷ 1 ∷ []) ∷ result (1 ∷ 12 ∷ 1 ∷ 2 ∷ 1 ∷ []) ∷ no ∷ [])
+    ((0 ∷ 15 ∷ 22 ∷ 10 ∷ 18 ∷ 12 ∷ 3 ∷ 9 ∷ 21 ∷ 16 ∷ 4 ∷ 6 ∷ []) ∷ (1 ∷ 14 ∷ 23 ∷ 11 ∷ 19 ∷ 13 ∷ 2 ∷ 8 ∷ 20 ∷ 17 ∷ 5 ∷ 7 ∷ []) ∷ [])
+    (oneSplit .words) (52 ∷ 54 ∷ 36 ∷ [])
     -- faces: rule 3 on the other edges, with an even and an odd number of residuals; three corner counts that differ; a count that is the sum of
     -- the other two
     ∷ face 1 4 1 (roundTo 0 1 0 ∷ roundTo 0 0 0 ∷ alongTo 1 2 ∷ alongTo 1 1 ∷ roundTo 2 2 0 ∷ roundTo 2 1 3 ∷ []) 3 0
@@ -221,10 +240,14 @@ examples =
     ∷ nth cell six twoLoopCounts 0 3 no ∷ nth cell six cornerCounts 0 18446744073709551615 no
     -- the mesh call: words beyond the mesh keep their values; 10 words for 1 triangle are left as they were, and so are 65 words for 6 triangles,
     -- where five fit; a refused grid comes first
-    ∷ mesh cell six cornerCounts (replicate 13 9) (result (1 ∷ [])) (0 ∷ 0 ∷ 0 ∷ 1 ∷ 2 ∷ 3 ∷ 0 ∷ 1 ∷ 1 ∷ 2 ∷ 0 ∷ 9 ∷ 9 ∷ [])
+    ∷ mesh cell six cornerCounts (replicate 13 9) (result (1 ∷ 0 ∷ [])) (0 ∷ 0 ∷ 0 ∷ 1 ∷ 2 ∷ 3 ∷ 0 ∷ 1 ∷ 1 ∷ 2 ∷ 0 ∷ 9 ∷ 9 ∷ [])
     ∷ mesh cell six cornerCounts (replicate 10 9) (refusal 12 1) (replicate 10 9)
     ∷ mesh threeCells threeEdges threeCounts (replicate 65 9) (refusal 12 6) (replicate 65 9)
     ∷ mesh cell [] cornerCounts [] (refusal 2 0) [] ∷ mesh cell six (0 ∷ 4096 ∷ 0 ∷ 0 ∷ 0 ∷ 0 ∷ []) (9 ∷ []) (refusal 18 1) (9 ∷ [])
+    -- cells that are split: d1 4, d2 2, with 24 crossings, one split and 52 triangles, which take 572 words; d1 6, d2 2, with two splits. Of 4 and 1 the
+    -- greatest common divisor is 1: the fans are drawn
+    ∷ sizes cell six splitCounts 572 (result (52 ∷ 1 ∷ [])) ∷ sizes cell six splitCounts 571 (refusal 12 52)
+    ∷ sizes cell six (6 ∷ 2 ∷ 8 ∷ 8 ∷ 2 ∷ 6 ∷ []) 1056 (result (96 ∷ 2 ∷ [])) ∷ sizes cell six (4 ∷ 1 ∷ 5 ∷ 5 ∷ 1 ∷ 4 ∷ []) 220 (result (20 ∷ 0 ∷ []))
     -- the loops call: loop after loop, none after the last; a count above 255; a later cell; cell 1 of 1; a refused grid comes first
     ∷ loop cell six twoLoopCounts 0 0 (result (0 ∷ 3 ∷ 1 ∷ 3 ∷ 0 ∷ [])) ∷ loop cell six twoLoopCounts 0 1 (result (1 ∷ 2 ∷ 0 ∷ 0 ∷ []))
     ∷ loop cell six twoLoopCounts 0 2 no ∷ loop cell six twoLoopCounts 0 18446744073709551615 no

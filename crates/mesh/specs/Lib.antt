@@ -4,6 +4,7 @@ pub mod Asked
 pub mod Drawn
 pub mod Answer
 pub mod Numbers
+pub mod Names
 pub mod Demand
 pub mod Done
 pub mod Examples

@@ -1,12 +1,12 @@
--- The mesh of a grid (01): the triangles of all its cells, with the face names and crossing numbers of the whole grid.
+-- The mesh of a grid (01; with splits, 02, W12): the triangles that are drawn of all its cells, with the face names and crossing numbers of the whole grid.
 use Prim.Native.Nat.{ℕ}
 use mathlib.Core.List.{List}
-use Rattle.counting.specs.Range.{over, values}
+use Rattle.counting.specs.Range.{total, over, values}
 use Rattle.grid.specs.Grid.{Grid, cellCount, node, faceName, edgeNumber, countOf, start}
 use Rattle.cell.specs.declared.Cell.{Cell}
 use Rattle.cell.specs.declared.Triangle.{Triangle}
-use Rattle.cell.specs.Triangles.{cellTriangles}
 use Rattle.cell.specs.Words.{allWords}
+use Rattle.split.specs.Parts.{drawnTriangles, splitsOf}
 
 module _ (G : Grid) where
   -- cell c with all that belongs to it: the counts and starts of its six edges, the names of its four faces, its nodes
@@ -19,9 +19,13 @@ module _ (G : Grid) where
     index = c;
   }
 
-  -- all triangles, by cell, then loop, then in the order of the loop
+  -- all triangles, by cell, then part, then loop, then in the order of the loop
   unfoldable pub meshTriangles : List Triangle
-  meshTriangles = over (λ c. cellTriangles (gridCell c)) (cellCount (G .cells)) 0
+  meshTriangles = over (λ c. drawnTriangles (gridCell c)) (cellCount (G .cells)) 0
+
+  -- the splits that are made
+  unfoldable pub meshSplits : ℕ
+  meshSplits = total (λ c. splitsOf (gridCell c)) (cellCount (G .cells)) 0
 
   -- the words of all triangles
   unfoldable pub meshWords : List ℕ

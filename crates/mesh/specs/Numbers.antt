@@ -9,7 +9,7 @@ use Rattle.mesh.specs.declared.Looped.{Looped}
 use Rattle.mesh.specs.declared.Looped.the-variants as looped
 
 abbrev pub meshNumbers : Meshed → List ℕ
-meshNumbers (Triangles n) = result (n ∷ [])
+meshNumbers (Triangles n splits) = result (n ∷ splits ∷ [])
 meshNumbers (Refused row place) = refused row place
 
 abbrev pub loopsNumbers : Looped → List ℕ

@@ -8,6 +8,6 @@ use Rattle.counting.specs.Pick.{pick}
 use Rattle.cell.specs.declared.Triangle.{Triangle}
 use Rattle.cell.specs.Words.{wordCount}
 
--- the numbers answered for a mesh and an area of so many words: row 12 with the triangles needed, or their number
-unfoldable pub roomAnswer : List Triangle → ℕ → List ℕ
-roomAnswer mesh room = pick (leb (wordCount * length mesh) room) (result (length mesh ∷ [])) (refusal 12 (length mesh))
+-- the numbers answered for a mesh with so many splits and an area of so many words: row 12 with the triangles needed, or their number and the splits
+unfoldable pub roomAnswer : List Triangle → (splits room : ℕ) → List ℕ
+roomAnswer mesh splits room = pick (leb (wordCount * length mesh) room) (result (length mesh ∷ splits ∷ [])) (refusal 12 (length mesh))

@@ -12,9 +12,9 @@ use grid::Checked;
 use grid::MOST_EDGES;
 use grid::MOST_SLOTS;
 
-// The number of triangles, or the number and the place of a refusal.
+// The number of triangles and the number of splits (02, W12), or the number and the place of a refusal.
 pub enum Meshed {
-    Triangles(u32),
+    Triangles(u64, u32),
     Refused(u8, usize),
 }
 
@@ -35,11 +35,11 @@ fn draw(
 ) -> Meshed
     ensures { λ r. ⌜ Drawn (now (cells .entry)) (now (counts .entry)) (now (names .entry)) (now (sides .entry)) (now (starts .entry)) (now (area .entry)) (now (area .exit)) (meshNumbers r) ⌝ }
 {
-    let t = booking::draw(cells, counts, names, sides, starts, area);
-    if area.len() < WORD_COUNT * t {
-        return Meshed::Refused(12, t);
+    let d = split::draw(cells, counts, names, sides, starts, area);
+    if area.len() < WORD_COUNT * d.triangles {
+        return Meshed::Refused(12, d.triangles);
     }
-    Meshed::Triangles(t as u32)
+    Meshed::Triangles(d.triangles as u64, d.splits)
 }
 
 // The mesh call. Keeps 40 KB on the stack for the grid's tables, besides what `grid::lay` keeps.

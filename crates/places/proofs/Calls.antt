@@ -1,6 +1,6 @@
 -- The places call, where the grid check refuses and where it accepts.
-use Prim.Native.Nat.{ℕ, _<_}
-use mathlib.Core.Path.{_≡_, sym, ap, _∙_}
+use Prim.Native.Nat.{ℕ, _+_, _<_}
+use mathlib.Core.Path.{_≡_, sym, ap, ap₂, _∙_}
 use mathlib.Core.Bool.{true}
 use mathlib.Core.List.{List, [], _∷_, _++_}
 use native.Mathlib.Nat.{zero-add}
@@ -10,7 +10,7 @@ use lib.Seq.{sets}
 use lib.Ieee.{Float}
 use Rattle.answer.specs.Answer.{result, isResult, refused}
 use Rattle.counting.specs.Pick.{pick}
-use Rattle.counting.specs.Range.{values}
+use Rattle.counting.specs.Range.{over, values}
 use Rattle.counting.proofs.Range.{over-ext}
 use Rattle.counting.proofs.Lists.{getD-singles}
 use Rattle.cell.proofs.Fans.{below-all}
@@ -30,15 +30,17 @@ use Rattle.mesh.proofs.Tables.{Tabled, tabled, cell-is}
 use Rattle.place.specs.declared.Place.{Place}
 use Rattle.place.specs.Place.{allNumbers}
 use Rattle.cell.specs.Middles.{cellMiddles, numberedBelow}
-use Rattle.places.specs.Nested.{placedMiddles}
-use Rattle.places.specs.Points.{crossingPlace, middles, points}
+use Rattle.cell.specs.Nests.{nestMiddle}
+use Rattle.split.specs.Standing.{innerPlaces, drawnMiddles}
+use Rattle.places.specs.Nested.{nestedMiddle, placedMiddles}
+use Rattle.places.specs.Points.{crossingPlace, inners, middles, points}
 use Rattle.places.specs.Answer.{rowsAnswer, placesAnswer, placed, placesArea}
 use Rattle.places.specs.Done.{Done}
-use Rattle.places.specs.Work.{tableMiddles, tablePoints, Ready, PointsIn}
+use Rattle.places.specs.Work.{tableInner, tableMiddles, tablePoints, Ready, PointsIn}
 use Rattle.grid.proofs.Nodes.{numbers-small}
 use Rattle.places.proofs.Fractions.{start-fits}
 use Rattle.places.proofs.ExactCase.{exact-case}
-use Rattle.places.proofs.Nested.{by-counts}
+use Rattle.places.proofs.Split.{drawn-same}
 
 module _ {G : Grid} {names sides : List ℕ} (T : Tabled G names sides) where
   -- the crossings of a cell are those of its edges
@@ -63,13 +65,19 @@ module _ {G : Grid} {names sides : List ℕ} (T : Tabled G names sides) where
   }
 
   pub points-are : (nodes fractions : List Float) → tablePoints (G .cells) (G .counts) names sides (G .starts) (G .edges) nodes fractions ≡ points G nodes fractions
-  unfolding tablePoints tableMiddles points middles
+  unfolding tablePoints tableInner tableMiddles points inners middles
   points-are nodes fractions =
       let all : drawnCells (G .cells) ≡ cellCount (G .cells) = omega (arith, T .sound .few-cells) in
-      ap (λ (x : List Place). values (crossingPlace (G .edges) (G .counts) nodes fractions) (crossings (G .counts)) ++ x)
-      (rw all (over-ext (λ c. cellMiddles nodes (crossingPlace (G .edges) (G .counts) nodes fractions) (tableCell (G .cells) (G .counts) names sides (G .starts) c))
-      (λ c. placedMiddles nodes (crossingPlace (G .edges) (G .counts) nodes fractions) (gridCell G c)) (cellCount (G .cells)) 0
-      (λ c a b. ap (cellMiddles nodes (crossingPlace (G .edges) (G .counts) nodes fractions)) (cell-is T c (omega arith)) ∙ by-counts nodes (crossingPlace (G .edges) (G .counts) nodes fractions) (gridCell G c))))
+      let place = crossingPlace (G .edges) (G .counts) nodes fractions in
+      let at = tableCell (G .cells) (G .counts) names sides (G .starts) in
+      let i : over (λ c. innerPlaces nodes (at c)) (drawnCells (G .cells)) 0 ≡ over (λ c. innerPlaces nodes (gridCell G c)) (cellCount (G .cells)) 0 =
+      rw all (over-ext (λ c. innerPlaces nodes (at c)) (λ c. innerPlaces nodes (gridCell G c)) (cellCount (G .cells)) 0 (λ c a b. ap (innerPlaces nodes) (cell-is T c (omega arith)))) in
+      let f : ℕ → List Place = λ c. drawnMiddles nodes (at c) nestMiddle (cellMiddles nodes place (at c)) in
+      let g : ℕ → List Place = λ c. drawnMiddles nodes (gridCell G c) nestedMiddle (placedMiddles nodes place (gridCell G c)) in
+      let m : over f (drawnCells (G .cells)) 0 ≡ over g (cellCount (G .cells)) 0 =
+      rw all (over-ext f g (cellCount (G .cells)) 0
+      (λ c a b. ap (λ v. drawnMiddles nodes v nestMiddle (cellMiddles nodes place v)) (cell-is T c (omega arith)) ∙ drawn-same nodes place (gridCell G c))) in
+      ap₂ (λ (x y : List Place). values place (crossings (G .counts)) ++ (x ++ y)) i m
 
 module _ (G : Grid) (nodes fractions : List Float) where
   -- the two equations give the exact case

@@ -2,7 +2,7 @@
 use Prim.Native.Nat.{ℕ, _+_, _*_, _/_, _<_}
 use mathlib.Core.Path.{_≡_, sym, ap, _∙_, subst}
 use mathlib.Core.Bool.{true}
-use mathlib.Core.List.{List}
+use mathlib.Core.List.{List, _++_}
 use native.Mathlib.Omega.{arith}
 use lib.ListN.{length, getD, length-append, List·getD-append}
 use lib.IntN.{pos, _+ℤ_, _-ℤ_, _*ℤ_}
@@ -18,7 +18,7 @@ use Rattle.grid.specs.Grid.{Grid, low, high, start, countOf, crossings, hasNode
 use Rattle.place.specs.declared.Place.{Place}
 use Rattle.place.specs.Place.{within, interpolated, coordinates, placeAt, numbers}
 use Rattle.places.specs.Numbers.{properFraction}
-use Rattle.places.specs.Points.{edgeOfCrossing, crossingPlace, middles, points}
+use Rattle.places.specs.Points.{edgeOfCrossing, crossingPlace, inners, middles, points}
 use Rattle.places.specs.Rows.{badNumber, badFractionAt, badFraction}
 use Rattle.places.specs.Answer.{needed, placesAnswer, placesArea}
 use Rattle.places.specs.Exact.{Exactly, parts, ExactCase}
@@ -39,13 +39,13 @@ module _ (G : Grid) (nodes fractions : List Float) where
     pub point-at : (p : Place) → getD (points G nodes fractions) g p ≡ at g
     unfolding points
     point-at p =
-        List·getD-append (values at (crossings (G .counts))) (middles G nodes fractions) p g (omega (arith, front-long))
+        List·getD-append (values at (crossings (G .counts))) (inners G nodes fractions ++ middles G nodes fractions) p g (omega (arith, front-long))
         ∙ getD-singles at p (crossings (G .counts)) 0 g h
         ∙ ap at (zero-add g)
 
     pub point-lt : g < needed G nodes fractions
     unfolding points
-    point-lt = omega (arith, front-long, length-append (values at (crossings (G .counts))) (middles G nodes fractions))
+    point-lt = omega (arith, front-long, length-append (values at (crossings (G .counts))) (inners G nodes fractions ++ middles G nodes fractions))
 
     edge-lt : edgeOfCrossing (G .counts) g < length (G .counts)
     unfolding edgeOfCrossing start

@@ -22,7 +22,12 @@ use Rattle.cell.specs.Middles.{isFan, loopPoint}
 use Rattle.face.specs.Level.{isLevel}
 use Rattle.cell.specs.Level.{isLevelCell}
 use Rattle.cell.specs.Nodes.{joining, cornerFrom}
-use Rattle.booking.specs.Booking.{cornerOn, leastCorner, leftBetween}
+use Rattle.counting.specs.Gcd.{divides, gcd}
+use Rattle.booking.specs.Figures.{areSpiral, areSplit, figureIn, figure}
+use Rattle.booking.specs.Booking.{median, cornerOn, leastCorner, leftBetween, larger, smaller, isSpiral, isSplit}
+use Rattle.split.specs.Labels.{remainsTo, labelled, label, spoke}
+use Rattle.split.specs.SubCell as sub-cell
+use Rattle.split.specs.Standing as standing
 use Rattle.places.specs.Nested as nested
 use Rattle.mesh.specs.Mesh.{gridCell}
 use Rattle.place.specs.Place.{within, sumTo, middle}
@@ -33,6 +38,8 @@ use Rattle.places.specs.Answer.{placeRows, rowsAnswer, placesAnswer, pla
 use Rattle.places.specs.Examples.{examples, ExamplesHold}
 use Rattle.places.specs.NestExamples as nests
 use Rattle.places.specs.NestExamples.{NestsHold}
+use Rattle.places.specs.SplitExamples as splits
+use Rattle.places.specs.SplitExamples.{SplitsPlaced}
 
 pub examples-hold : ExamplesHold
 unfolding add sub mul div neg lt le eq ofInt ofBits
@@ -45,9 +52,10 @@ unfolding add sub mul div neg lt le eq ofInt ofBits
     faceNode sameFace hasFace faceName joins isEdge hasEdge edgeNumber start startsOf
     badLength badNumbers badStart badLists badCell sameCell repeats crowded isAfter badEdge badCount unlisted unused linked reached split tooMany rows orRefuse answerOf gridAnswer
     hasMiddle numberOf isFan loopPoint isLevel isLevelCell joining cornerFrom cornerOn leastCorner leftBetween
+    divides gcd median larger smaller areSpiral areSplit isSplit standing.innerPlaces standing.drawnMiddles
     nested.octagons nested.others nested.isNested nested.axisEdge nested.remaining nested.through nested.nestNumber nested.nestedMiddle nested.placedMiddle nested.placedMiddles
     gridCell
-    sumTo middle gather within properFraction points.edgeOfCrossing points.indexOfCrossing points.crossingPlace points.middles points.points
+    sumTo middle gather within properFraction points.edgeOfCrossing points.indexOfCrossing points.crossingPlace points.inners points.middles points.points
     hasNode highest badPlaceLists badNumber badFractionAt badFraction placeRows rowsAnswer placesAnswer placed placesArea examples
 examples-hold = refl
 
@@ -60,3 +68,19 @@ unfolding seek first last some every count total over kept tally pre gather
     isLevel isLevelCell joining cornerFrom cornerOn leastCorner leftBetween
     nested.octagons nested.others nested.isNested nested.axisEdge nested.remaining nested.through nested.nestNumber nests.examples
 nests-hold = refl
+
+pub splits-placed : SplitsPlaced
+unfolding add sub mul div neg lt le eq ofInt ofBits
+    seek first last some every count total over kept tally pre gather divides gcd
+    lo hi position lower upper edgeBetween slotEdge edgeRank contains firstSlot secondSlot
+    face.other face.opposite face.halfAbove face.cornerCount face.residual face.countOn face.others face.kth face.cornerCountAt face.partner face.faceAnswer face.faceJoin
+    it orbit step.face step.land step.step walk.status walk.turn walk.size walk.loopAt
+    cell.ahead cell.base cell.holds cell.edge cell.index cell.answerAt cell.joinAt cell.joinedTo cell.mate cell.slot cell.step
+    loop.loopSize loop.dart loop.loopDarts loop.folded loop.normal loop.inGrid loop.leasts
+    hasMiddle isFan isLevel isLevelCell joining cornerFrom median cornerOn leastCorner leftBetween larger smaller
+    figureIn figure areSpiral areSplit isSpiral isSplit remainsTo labelled label spoke
+    sub-cell.restStart sub-cell.armStart sub-cell.innerName sub-cell.subAt sub-cell.sub
+    nested.octagons nested.others nested.isNested nested.axisEdge nested.remaining nested.through nested.nestNumber nested.nestedMiddle sumTo middle
+    standing.newPlace standing.subPlaces standing.armPlace standing.armPlaces standing.splitPlaces standing.standing standing.fansIn standing.allStanding
+    standing.innerPlaces standing.drawnMiddles splits.examples
+splits-placed = refl

@@ -31,7 +31,10 @@ use Rattle.cell.specs.Middles.{isFan, loopPoint}
 use Rattle.face.specs.Level.{isLevel}
 use Rattle.cell.specs.Level.{isLevelCell}
 use Rattle.cell.specs.Nodes.{joining, cornerFrom}
-use Rattle.booking.specs.Booking.{cornerOn, leastCorner, leftBetween}
+use Rattle.counting.specs.Gcd.{divides, gcd}
+use Rattle.booking.specs.Figures.{areSpiral, areSplit}
+use Rattle.booking.specs.Booking.{median, cornerOn, leastCorner, leftBetween, larger, smaller, isSplit}
+use Rattle.split.specs.Standing as standing
 use Rattle.places.specs.Nested as nested
 use Rattle.mesh.specs.Mesh.{gridCell}
 use Rattle.place.specs.Place.{within, sumTo, middle}
@@ -74,9 +77,10 @@ unfolding add sub mul div neg lt le eq ofInt ofBits
     faceNode sameFace hasFace faceName joins isEdge hasEdge edgeNumber start startsOf
     badLength badNumbers badStart badLists badCell sameCell repeats crowded isAfter badEdge badCount unlisted unused linked reached split tooMany rows orRefuse answerOf gridAnswer
     hasMiddle numberOf isFan loopPoint isLevel isLevelCell joining cornerFrom cornerOn leastCorner leftBetween
+    divides gcd median larger smaller areSpiral areSplit isSplit standing.innerPlaces standing.drawnMiddles
     nested.octagons nested.others nested.isNested nested.axisEdge nested.remaining nested.through nested.nestNumber nested.nestedMiddle nested.placedMiddle nested.placedMiddles
     gridCell
-    sumTo middle gather within properFraction points.edgeOfCrossing points.indexOfCrossing points.crossingPlace points.middles points.points
+    sumTo middle gather within properFraction points.edgeOfCrossing points.indexOfCrossing points.crossingPlace points.inners points.middles points.points
     hasNode highest badPlaceLists badNumber badFractionAt badFraction placeRows rowsAnswer placesAnswer placed placesArea
     theCells theEdges theCounts theNodes theFractions theArea
 answered = refl

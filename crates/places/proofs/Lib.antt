@@ -9,10 +9,10 @@ pub mod ExactCase
 pub mod Examples
 pub mod Happens
 pub mod Middles
-pub mod Axis
 pub mod Visits
 pub mod Ranks
 pub mod Nested
+pub mod Split
 pub mod Judged
 pub mod Whole
 pub mod Calls

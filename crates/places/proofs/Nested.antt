@@ -38,7 +38,7 @@ use Rattle.booking.proofs.Counts.{own}
 use Rattle.booking.proofs.Numbers.{long-times}
 use Rattle.places.specs.Nested.{octagons, others, isNested, axisEdge, remaining, through, nestNumber, pointOnward, nestedMiddle, placedMiddle, placedMiddles}
 use Rattle.places.specs.Claims.{NestedByCounts, EachOnce, NestsAgree}
-use Rattle.places.proofs.Axis.{NestAxis, nest-larger, nest-smaller, nest-left, nest-opposite, nest-ends, nest-first, counts-nest, nest-counts, nest-corner}
+use Rattle.split.proofs.Axis.{NestAxis, nest-larger, nest-smaller, nest-left, nest-opposite, nest-ends, nest-first, counts-nest, nest-counts, nest-corner}
 use Rattle.places.proofs.Ranks.{passes, other-many, other-eight, the-loop, loop-lt, loop-passes, is-other, rank-first, rank-highest, other-passes, one-loop}
 
 -- a product either way round
@@ -64,7 +64,7 @@ onward-is : (a b : Place) (f : Float) → between a b f ≡ pointOnward a b f
 onward-is a b f = simp (mul-swap binary64 f)
 
 -- a loop that is drawn as a fan is no triangle
-not-three : (n : ℕ) (b : Bool) → hasMiddle n b ≡ true → n ≢ 3
+pub not-three : (n : ℕ) (b : Bool) → hasMiddle n b ≡ true → n ≢ 3
 unfolding hasMiddle
 not-three n b h e = clash h (ap (λ k. hasMiddle k b) e)
 
@@ -225,7 +225,7 @@ module _ (c : Cell) where
                 absurd (ne (one-loop w N p i lp li (rw f at h)))
 
     -- the middle is the same
-    middle-same : (corner : ℕ → Place) (p : ℕ) → Other w p → nestMiddle corner c p ≡ nestedMiddle corner c p
+    pub middle-same : (corner : ℕ → Place) (p : ℕ) → Other w p → nestMiddle corner c p ≡ nestedMiddle corner c p
     unfolding nestMiddle nestedMiddle onAxis
     middle-same corner p O = rw (axis-is, nest-octagons N, rank-same p O) (onward-is _ _ _)
 

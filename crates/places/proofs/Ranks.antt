@@ -30,7 +30,7 @@ use Rattle.booking.specs.Booking.{leastCorner, leftBetween}
 use Rattle.booking.specs.Claims.{OnLoop, Other, LoopLaws}
 use Rattle.booking.proofs.Claims.{books}
 use Rattle.booking.proofs.Corners.{isIn, in-corner}
-use Rattle.places.proofs.Axis.{NestAxis, nest-larger, nest-smaller, nest-left, nest-ends}
+use Rattle.split.proofs.Axis.{NestAxis, nest-larger, nest-smaller, nest-left, nest-ends}
 use Rattle.places.proofs.Visits.{own-room, visits}
 
 -- the loop from p goes through crossing r of those that remain of edge e, k of which are below

@@ -24,7 +24,7 @@ use Rattle.booking.proofs.Counts.{left-sum, longest-swap}
 use Rattle.booking.proofs.Darts.{room, round-up, round-down}
 use Rattle.booking.proofs.Rounds.{furthers-is}
 use Rattle.booking.proofs.Spiral.{four}
-use Rattle.places.proofs.Axis.{NestAxis, nest-left, nest-ends, others-of}
+use Rattle.split.proofs.Axis.{NestAxis, nest-left, nest-ends, others-of}
 
 module _ (w : Edges) (K : isLevelCell (w .count) ≡ true) where
   -- four steps from a crossing that remains of ad

@@ -2,15 +2,17 @@
 use Prim.Native.Nat.{ℕ, _+_, _*_, _≤_, _<_}
 use mathlib.Core.Path.{_≡_, refl, sym, ap, _∙_}
 use mathlib.Core.Bool.{true}
-use mathlib.Core.List.{List, [], _∷_}
+use mathlib.Core.List.{List, [], _∷_, _++_}
 use native.Mathlib.Nat.{zero-add}
 use native.Mathlib.Omega.{arith}
 use lib.ListN.{length, length-append}
 use lib.Seq.{sets, length-sets}
 use lib.Ieee.{Float}
 use Rattle.answer.proofs.Answer.{refused-not}
-use Rattle.counting.specs.Range.{values}
+use Rattle.counting.specs.Range.{total, values}
+use Rattle.counting.specs.Stored.{Stored}
 use Rattle.counting.proofs.Lists.{length-singles, getD-singles}
+use Rattle.counting.proofs.Stored.{stored-as, stored-long}
 use Rattle.grid.specs.Grid.{crossings}
 use Rattle.place.specs.declared.Place.{Place}
 use Rattle.places.specs.declared.Placed.{Placed}
@@ -19,10 +21,12 @@ use Rattle.place.specs.Place.{coordinates, placeAt, allNumbers}
 use Rattle.places.specs.Points.{crossingPlace}
 use Rattle.places.specs.Answer.{placesNumbers, rowsAnswer}
 use Rattle.cell.specs.Middles.{numberedBelow}
-use Rattle.cell.specs.Table.{tableCell, drawnCells, tableFans, middlesWritten}
-use Rattle.places.specs.Work.{Placeable, tableMiddles, tablePoints, Ready, PointsIn}
-use Rattle.place.proofs.Numbers.{length-numbers, front-place, points-then}
-use Rattle.places.proofs.Middles.{TableRoom, length-table, table-ext, written-all}
+use Rattle.cell.specs.Table.{tableCell, drawnCells, tableFans}
+use Rattle.cell.proofs.Fans.{below-more}
+use Rattle.split.specs.Spots.{cellsStored, innerIn, addedIn, innerAtCell, middlesAtCell}
+use Rattle.places.specs.Work.{Placeable, tableInner, tableMiddles, tablePoints, restWritten, Ready, PointsIn}
+use Rattle.place.proofs.Numbers.{length-numbers, front-place, points-then, place-kept}
+use Rattle.places.proofs.Middles.{length-inner, length-table, table-ext, inner-written, middles-written}
 use Rattle.places.proofs.Answers.{Fine, rows-fine, rows-some}
 
 module _ (cells edges counts names sides starts : List ℕ) (nodes fractions : List Float) where
@@ -35,18 +39,33 @@ module _ (cells edges counts names sides starts : List ℕ) (nodes fractions : L
   abbrev all : List Place
   all = tablePoints cells counts names sides starts edges nodes fractions
 
-  pub points-long : length all ≡ crossings counts + tableFans cells counts names sides starts
+  abbrev inner : List Place
+  inner = tableInner cells counts names sides starts nodes
+
+  abbrev mids : List Place
+  mids = tableMiddles cells counts names sides starts nodes place
+
+  -- the inner crossings, and the fans that splits add
+  abbrev pub innerSum : ℕ
+  innerSum = total (innerIn counts sides) (drawnCells cells) 0
+
+  abbrev pub addedSum : ℕ
+  addedSum = total (addedIn counts sides) (drawnCells cells) 0
+
+  pub points-long : length all ≡ crossings counts + (innerSum + (tableFans cells counts names sides starts + addedSum))
   unfolding tablePoints
   points-long =
       omega (
         arith,
-        length-append crossingPlaces (tableMiddles cells counts names sides starts nodes place),
+        length-append crossingPlaces (inner ++ mids),
+        length-append inner mids,
         length-singles place (crossings counts) 0,
+        length-inner cells counts names sides starts nodes,
         length-table cells counts names sides starts nodes place,
       )
 
   module _ (n : ℕ) (R : Ready cells counts names sides starts edges n) (before : List Float) (r : Placed) (m : ℕ)
-      (long : m ≡ n + tableFans cells counts names sides starts)
+      (long : m ≡ n + (innerSum + (tableFans cells counts names sides starts + addedSum)))
       (h : placesNumbers r ≡ rowsAnswer cells counts nodes fractions m (length before)) where
     many : m ≡ length all
     many = omega (arith, long, points-long, R .judged .all)
@@ -64,7 +83,7 @@ module _ (cells edges counts names sides starts : List ℕ) (nodes fractions : L
       fine : Fine cells counts nodes fractions (length all) (length before)
       fine = rows-fine cells counts nodes fractions (length all) (length before) (k ∷ []) (sym answered ∙ ap placesNumbers e)
 
-      room : coordinates * (crossings counts + tableFans cells counts names sides starts) ≤ length before
+      room : coordinates * (crossings counts + (innerSum + (tableFans cells counts names sides starts + addedSum))) ≤ length before
       room = omega (arith, fine .area-long, points-long)
 
       pub placeable : Placeable edges counts fractions before
@@ -82,9 +101,6 @@ module _ (cells edges counts names sides starts : List ℕ) (nodes fractions : L
         below : (c : ℕ) → c < drawnCells cells → numberedBelow (tableCell cells counts names sides starts c) n ≡ true
         below c l = R .below c (omega arith)
 
-        table-room : TableRoom cells counts names sides starts mid n
-        table-room = record { below = below; room = omega (arith, same, room, R .judged .all) }
-
         loaded : (g : ℕ) → g < n → placeAt mid g ≡ place g
         loaded g l =
             let s = length-singles place (crossings counts) 0 in
@@ -94,15 +110,48 @@ module _ (cells edges counts names sides starts : List ℕ) (nodes fractions : L
             ∙ getD-singles place (place g) (crossings counts) 0 g i
             ∙ ap place (zero-add g)
 
-        pub points-in : (after : List Float) {next : ℕ} → (after, next) ≡ middlesWritten cells counts names sides starts nodes mid n (drawnCells cells)
+        -- and then the inner crossings and the middles
+        module _ (on : List Float) (j : ℕ) (S : Stored mid (coordinates * n) (allNumbers inner) on (coordinates * j)) where
+          n-le : n ≤ j
+          n-le = omega (arith, S .after)
+
+          kept : (g : ℕ) → g < n → placeAt on g ≡ place g
+          kept g l = place-kept S g l ∙ loaded g l
+
+          mids-same : tableMiddles cells counts names sides starts nodes (placeAt on) ≡ mids
+          mids-same = table-ext cells counts names sides starts nodes n below (placeAt on) place kept
+
+          mids-room : coordinates * (j + length (tableMiddles cells counts names sides starts nodes (placeAt on))) ≤ length on
+          mids-room =
+              omega (
+                arith,
+                room,
+                R .judged .all,
+                same,
+                stored-long S,
+                S .after,
+                length-numbers inner,
+                length-inner cells counts names sides starts nodes,
+                length-table cells counts names sides starts nodes (placeAt on),
+              )
+
+          points-stored : {after : List Float} {next : ℕ} → (after, next) ≡ cellsStored (middlesAtCell cells counts names sides starts nodes) on j (drawnCells cells)
+              → PointsIn cells counts names sides starts edges nodes fractions before after (placesNumbers r)
+          unfolding tablePoints
+          points-stored {after} q =
+              let s = length-singles place (crossings counts) 0 in
+              let T = middles-written cells counts names sides starts nodes on j (λ c l. below-more (tableCell cells counts names sides starts c) (below c l) n-le) mids-room q in
+              let w : after ≡ sets before 0 (allNumbers all) =
+              points-then crossingPlaces (inner ++ mids) (record { area = f; after = omega (arith, s, length-numbers crossingPlaces, R .judged .all) })
+              (points-then inner mids S (stored-as T (ap allNumbers mids-same) refl)) .area in
+              record { answered = answered; area = w ∙ rw (ap placesNumbers e) }
+
+        inner-room : coordinates * (n + length inner) ≤ length mid
+        inner-room = omega (arith, room, R .judged .all, same, length-inner cells counts names sides starts nodes)
+
+        pub points-in : (after : List Float) {next : ℕ} → (after, next) ≡ restWritten cells counts names sides starts nodes mid n
             → PointsIn cells counts names sides starts edges nodes fractions before after (placesNumbers r)
-        unfolding tablePoints
+        unfolding restWritten
         points-in after q =
-            let s = length-singles place (crossings counts) 0 in
-            let w : after ≡ sets before 0 (allNumbers all) =
-            written-all cells counts names sides starts nodes mid n table-room q
-            ∙ ap (λ (x : List Place). sets mid (coordinates * n) (allNumbers x)) (table-ext cells counts names sides starts nodes n below (placeAt mid) place loaded)
-            ∙ points-then crossingPlaces (tableMiddles cells counts names sides starts nodes place)
-            (record { area = f; after = omega (arith, s, length-numbers crossingPlaces, R .judged .all) })
-            (record { area = refl; after = refl }) .area in
-            record { answered = answered; area = w ∙ rw (ap placesNumbers e) }
+            let w = cellsStored (innerAtCell cells counts names sides starts nodes) mid n (drawnCells cells) in
+            points-stored (w .0) (w .1) (inner-written cells counts names sides starts nodes mid n inner-room refl) q

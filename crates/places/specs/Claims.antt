@@ -1,15 +1,17 @@
 -- What is claimed of the places call beside its contract.
 use Prim.Native.Nat.{ℕ, _*_, _-_, _<_}
 use mathlib.Core.Path.{_≡_}
-use mathlib.Core.Bool.{true, not, _&&_}
-use mathlib.Core.List.{List}
+use mathlib.Core.Bool.{true, false, not, _&&_}
+use mathlib.Core.List.{List, _++_}
 use lib.Dec.{eqb, ltb}
 use lib.ListN.{length}
 use lib.IntN.{ℤ}
 use lib.Ieee.{Float}
 use Rattle.answer.specs.Answer.{result}
-use Rattle.grid.specs.Grid.{Grid, crossings}
-use Rattle.counting.specs.Lists.{tally}
+use Rattle.grid.specs.Grid.{Grid, cellCount, crossings}
+use Rattle.mesh.specs.Mesh.{gridCell}
+use Rattle.counting.specs.Lists.{tally, All}
+use Rattle.counting.specs.Range.{over, values}
 use Rattle.slots.specs.Slots.{lo, hi}
 use Rattle.place.specs.declared.Place.{Place}
 use Rattle.place.specs.Place.{coordinates}
@@ -17,10 +19,14 @@ use Rattle.cell.specs.declared.Cell.{Cell}
 use Rattle.cell.specs.Of.{countOf, edgesOf}
 use Rattle.cell.specs.Loop.{loopSize, leasts}
 use Rattle.cell.specs.Level.{isLevelCell}
-use Rattle.cell.specs.Middles.{cellMiddles}
-use Rattle.booking.specs.Booking.{leftBetween, larger, smaller}
+use Rattle.cell.specs.Cell.{crossings as cellCrossings}
+use Rattle.cell.specs.Middles.{isFan, cellMiddles}
+use Rattle.booking.specs.Booking.{leftBetween, larger, smaller, isSplit}
 use Rattle.booking.specs.Claims.{Other}
+use Rattle.split.specs.Parts.{Part, whole, corners}
+use Rattle.split.specs.Standing.{allStanding}
 use Rattle.places.specs.declared.Placed.{Placed}
+use Rattle.places.specs.Points.{crossingPlace, points}
 use Rattle.places.specs.Answer.{placesNumbers, placesAnswer}
 use Rattle.places.specs.Exact.{WholeAt}
 use Rattle.places.specs.Nested.{octagons, isNested, axisEdge, nestNumber, placedMiddles}
@@ -60,3 +66,19 @@ EachOnce = (c : Cell) → isNested c ≡ true → NestLaws c
 -- the rule by counts, by which the code goes, gives the same middles for every cell and all places
 abbrev pub NestsAgree : Type 0
 NestsAgree = (nodes : List Float) (place : ℕ → Place) (c : Cell) → cellMiddles nodes place c ≡ placedMiddles nodes place c
+
+-- of a part: each loop that is drawn as a fan is one of a nest, so that it has a middle of W3 and none is a mean; corner triangles are no fans
+abbrev pub FansNested : Part → Type 0
+FansNested (whole c) = (p : ℕ) → p < cellCrossings (edgesOf c) → isFan c p ≡ true → isNested c ≡ true
+FansNested (corners c) = Unit {0}
+
+-- so are all fans of a split cell (02, W12)
+abbrev pub SplitNested : Type 0
+SplitNested = (nodes : List Float) (c : Cell) → isSplit (countOf c) ≡ true → All (λ s. FansNested (s .part)) (allStanding nodes c)
+
+-- without split cells there are no inner crossings, and the middles are those of W3 and of 01
+abbrev pub UnsplitPlaced : Type 0
+UnsplitPlaced = (G : Grid) (nodes fractions : List Float) → ((c : ℕ) → c < cellCount (G .cells) → isSplit (countOf (gridCell G c)) ≡ false)
+    → points G nodes fractions
+    ≡ values (crossingPlace (G .edges) (G .counts) nodes fractions) (crossings (G .counts))
+    ++ over (λ c. placedMiddles nodes (crossingPlace (G .edges) (G .counts) nodes fractions) (gridCell G c)) (cellCount (G .cells)) 0

@@ -8,4 +8,5 @@ pub mod Done
 pub mod Work
 pub mod Examples
 pub mod NestExamples
+pub mod SplitExamples
 pub mod Claims

@@ -10,11 +10,14 @@ use lib.Ieee.{Float, nan}
 use Rattle.answer.specs.Answer.{isResult}
 use Rattle.counting.specs.Pick.{pick, one}
 use Rattle.counting.specs.Range.{over, values}
+use Rattle.cell.specs.Nests.{nestMiddle}
 use Rattle.cell.specs.Middles.{cellMiddles, numberedBelow}
-use Rattle.cell.specs.Table.{tableCell, drawnCells}
-use Rattle.grid.specs.Grid.{highestNode, mostCrossings, cellCount, hasNode, crossings}
+use Rattle.cell.specs.Table.{tableCell, drawnCells, mostTriangles}
+use Rattle.grid.specs.Grid.{highestNode, mostCells, mostCrossings, cellCount, hasNode, crossings}
 use Rattle.place.specs.declared.Place.{Place}
 use Rattle.place.specs.Place.{within, between, coordinates, allNumbers}
+use Rattle.split.specs.Standing.{innerPlaces, drawnMiddles}
+use Rattle.split.specs.Spots.{mostInner, cellsStored, innerAtCell, middlesAtCell}
 use Rattle.places.specs.Points.{crossingPlace}
 use Rattle.places.specs.Answer.{rowsAnswer}
 
@@ -48,6 +51,10 @@ pub record Judgeable (cells counts : List ℕ) (n : ℕ) : Type 0 where
   pub nodes : (j : ℕ) → j < length cells → getD cells j 0 ≤ highestNode
   pub all : n ≡ crossings counts
 
+-- the most points that a grid can have by this count: crossings, fans, and what splits add of both
+abbrev pub mostPoints : ℕ
+mostPoints = mostCrossings + mostTriangles + 2 * (mostInner * mostCells)
+
 -- n points between u and v, by the fractions from g on
 unfoldable pub onEdge : Place → Place → List Float → ℕ → ℕ → List Place
 onEdge u v fractions n g = over (λ q. between u v (getD fractions q nan) ∷ []) n g
@@ -63,15 +70,30 @@ pub record Placeable (edges counts : List ℕ) (fractions area : List Float) : T
   pub given : length fractions ≡ crossings counts
   pub room : coordinates * crossings counts ≤ length area
 
--- the middles of the fans of all cells, from the grid's tables
+-- the points of all cells, from the grid's tables; the middles by counts
 module _ (cells counts names sides starts : List ℕ) where
+  unfoldable pub tableInner : List Float → List Place
+  tableInner nodes = over (λ c. innerPlaces nodes (tableCell cells counts names sides starts c)) (drawnCells cells) 0
+
+  abbrev pub tableMiddlesOf : List Float → (ℕ → Place) → ℕ → List Place
+  tableMiddlesOf nodes place c =
+      let v = tableCell cells counts names sides starts c in
+      drawnMiddles nodes v nestMiddle (cellMiddles nodes place v)
+
   unfoldable pub tableMiddles : List Float → (ℕ → Place) → List Place
-  tableMiddles nodes place = over (λ c. cellMiddles nodes place (tableCell cells counts names sides starts c)) (drawnCells cells) 0
+  tableMiddles nodes place = over (tableMiddlesOf nodes place) (drawnCells cells) 0
 
   -- all points
   unfoldable pub tablePoints : (edges : List ℕ) (nodes fractions : List Float) → List Place
   tablePoints edges nodes fractions =
-      values (crossingPlace edges counts nodes fractions) (crossings counts) ++ tableMiddles nodes (crossingPlace edges counts nodes fractions)
+      values (crossingPlace edges counts nodes fractions) (crossings counts)
+      ++ (tableInner nodes ++ tableMiddles nodes (crossingPlace edges counts nodes fractions))
+
+  -- the area and the next point, once the inner crossings and then the middles are written from point `at` on
+  unfoldable pub restWritten : (nodes area : List Float) (at : ℕ) → List Float × ℕ
+  restWritten nodes area at =
+      let w = cellsStored (innerAtCell cells counts names sides starts nodes) area at (drawnCells cells) in
+      cellsStored (middlesAtCell cells counts names sides starts nodes) (w .0) (w .1) (drawnCells cells)
 
   -- the tables of an accepted grid with n crossings: four nodes to a cell, two ends to an edge, and crossing numbers below n
   pub record Ready (edges : List ℕ) (n : ℕ) : Type 0 where

@@ -4,7 +4,10 @@ ghost use Rattle.grid.specs.Grid.{gridOf};
 ghost use Rattle.places.specs.Numbers.{properFraction};
 ghost use Rattle.places.specs.Answer.{placesNumbers};
 ghost use Rattle.places.specs.Done.{Done};
-ghost use Rattle.places.specs.Work.{Ready, PointsIn};
+ghost use Rattle.cell.specs.Table.{drawnCells};
+ghost use Rattle.counting.specs.Range.{total};
+ghost use Rattle.split.specs.Spots.{innerIn};
+ghost use Rattle.places.specs.Work.{Ready, PointsIn, restWritten};
 use grid::Checked;
 use grid::MOST_EDGES;
 use grid::MOST_SLOTS;
@@ -14,7 +17,7 @@ mod rows;
 
 // The number of points, or the number and the place of a refusal.
 pub enum Placed {
-    Points(u32),
+    Points(u64),
     Refused(u8, usize),
 }
 
@@ -23,6 +26,29 @@ fn is_proper(s: f64) -> bool
     ensures { λ r. ⌜ r ≡ properFraction s ⌝ }
 {
     if 0.0 < s { s < 1.0 } else { false }
+}
+
+// Writes the places of the inner crossings, of which there are so many, and then those of the middles, from point `at` of the area on, and answers the
+// next point. Where no cell is split, the walks' arrays serve all cells.
+fn place_rest(
+    cells: &[u16],
+    counts: &[u16],
+    names: &[u16; MOST_SLOTS],
+    sides: &[u16; MOST_EDGES],
+    starts: &[u32],
+    nodes: &[f64],
+    area: &mut [f64],
+    at: usize,
+    inner: u64,
+) -> usize
+    requires { ⌜ inner ≡ total (innerIn (now counts) (now sides)) (drawnCells (now cells)) 0 ⌝ }
+    ensures { λ r. ⌜ (now (area .exit), r) ≡ restWritten (now (cells .entry)) (now (counts .entry)) (now (names .entry)) (now (sides .entry)) (now (starts .entry)) (now (nodes .entry)) (now (area .entry)) at ⌝ }
+{
+    if inner == 0 {
+        return cell::write_middles(cells, counts, names, sides, starts, nodes, area, at);
+    }
+    let i = split::write_inner(cells, counts, names, sides, starts, nodes, area, at);
+    split::write_middles(cells, counts, names, sides, starts, nodes, area, i)
 }
 
 // The points of a grid with n crossings, from its tables: the answer of rows 15 to 17, and where they refuse nothing, the points' places.
@@ -41,13 +67,25 @@ fn place_all(
     requires { ⌜ Ready (now cells) (now counts) (now names) (now sides) (now starts) (now edges) n ⌝ }
     ensures { λ r. ⌜ PointsIn (now (cells .entry)) (now (counts .entry)) (now (names .entry)) (now (sides .entry)) (now (starts .entry)) (now (edges .entry)) (now (nodes .entry)) (now (fractions .entry)) (now (area .entry)) (now (area .exit)) (placesNumbers r) ⌝ }
 {
-    let all = n + cell::count_fans(cells, counts, names, sides, starts);
+    let more = split::extra_of(cells, counts, names, sides, starts);
+    let fans = cell::count_fans(cells, counts, names, sides, starts) + more.fans as usize;
+    let all = n + more.inner as usize + fans;
     let r = rows::judge(cells, counts, nodes, fractions, n, all, area.len());
     if let Placed::Refused(_, _) = r {
         return r;
     }
     points::place_crossings(edges, counts, nodes, fractions, area);
-    cell::write_middles(cells, counts, names, sides, starts, nodes, area, n);
+    place_rest(
+        cells,
+        counts,
+        names,
+        sides,
+        starts,
+        nodes,
+        area,
+        n,
+        more.inner,
+    );
     r
 }
 

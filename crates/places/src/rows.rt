@@ -7,7 +7,7 @@ ghost use Rattle.grid.specs.Grid.{crossings};
 ghost use Rattle.place.specs.Place.{coordinates};
 ghost use Rattle.places.specs.Rows.{badFractionAt, badFraction};
 ghost use Rattle.places.specs.Answer.{placesNumbers, rowsAnswer};
-ghost use Rattle.places.specs.Work.{Markable, Marked, isMarked, badMarked, Reaching, Judgeable};
+ghost use Rattle.places.specs.Work.{Markable, Marked, isMarked, badMarked, Reaching, Judgeable, mostPoints};
 use super::Placed;
 use super::is_proper;
 use grid::HIGHEST_NODE;
@@ -134,7 +134,7 @@ pub(crate) fn judge(
     room: usize,
 ) -> Placed
     requires { ⌜ Judgeable (now cells) (now counts) n ⌝ }
-    requires { ⌜ points < 4294967296 ⌝ }
+    requires { ⌜ points ≤ mostPoints ⌝ }
     ensures { λ r. ⌜ placesNumbers r ≡ rowsAnswer (now (cells .entry)) (now (counts .entry)) (now (nodes .entry)) (now (fractions .entry)) points room ⌝ }
 {
     let mut used = [0u8; HIGHEST_NODE + 1];
@@ -157,5 +157,5 @@ pub(crate) fn judge(
     if g < n {
         return Placed::Refused(17, g);
     }
-    Placed::Points(points as u32)
+    Placed::Points(points as u64)
 }

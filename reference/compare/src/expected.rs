@@ -79,15 +79,13 @@ pub fn book(walker: &mut CellWalker, counts: [u16; 6]) -> Vec<u64> {
     let values = match booking::book(walker, counts) {
         Some(booked) => {
             let [larger, smaller] = booked.left;
-            vec![booked.corner_triangles, larger, smaller, booked.triangles]
+            let [corners, larger, smaller] =
+                [booked.corner_triangles, larger, smaller].map(u64::from);
+            vec![corners, larger, smaller, booked.triangles]
         }
         None => vec![],
     };
-    [vec![0], values]
-        .concat()
-        .into_iter()
-        .map(u64::from)
-        .collect()
+    [vec![0], values].concat()
 }
 
 /// 0 and the number of crossings, or a refusal.
@@ -108,10 +106,11 @@ pub fn set_count(grid: &mut Sample, starts: &mut [u32], edge: usize, count: u16)
     numbers(answer, |crossings| vec![u64::from(crossings)])
 }
 
-/// 0 and the number of triangles, or a refusal; fills the area.
+/// 0, the number of triangles and the number of splits, or a refusal; fills the
+/// area.
 pub fn mesh(mesher: &mut Mesher, grid: Lists, area: &mut [u32]) -> Vec<u64> {
-    numbers(mesher.mesh(grid, area), |triangles| {
-        vec![u64::from(triangles)]
+    numbers(mesher.mesh(grid, area), |told| {
+        vec![told.triangles, told.splits]
     })
 }
 
@@ -146,7 +145,7 @@ pub fn places(placing: &Placing, starts: &[u32], area: &mut [u64]) -> Vec<u64> {
     for (bits, number) in area.iter_mut().zip(numbers_in) {
         *bits = number.to_bits();
     }
-    numbers(answer, |points| vec![u64::from(points)])
+    numbers(answer, |points| vec![points])
 }
 
 /// 0, or a refusal; fills the area.

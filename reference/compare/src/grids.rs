@@ -3,8 +3,9 @@
 use std::collections::{BTreeMap, BTreeSet};
 
 use reference::gen::{
-    box_of_five, box_of_six, box_ring, broken, closed_fan, cone, gathered, linked, open_fan,
-    random_shape, ring, separate, sphere, Rng, Sample,
+    any_chain, box_of_five, box_of_six, box_ring, broken, closed_fan, cone, five_nodes, gathered,
+    linked, open_fan, random_shape, ring, separate, sphere, spiral_cell, spiral_join, Chain, Rng,
+    Sample,
 };
 use reference::grid::{MAX_CELLS, MAX_COUNT, NODE_LIMIT, ROWS};
 
@@ -240,6 +241,56 @@ pub fn nested_cell(rng: &mut Rng, most: usize) -> Sample {
     let mut left = [2 * many, many, many];
     rng.shuffle(&mut left);
     cell_keeping(corners, left)
+}
+
+/// One cell that is split, with any nodes; up to `most` beside the corners.
+pub fn spiral(rng: &mut Rng, most: usize) -> Sample {
+    let mut grid = single_cell(rng, 0);
+    grid.counts = spiral_cell(rng, most / 4, most).to_vec();
+    grid
+}
+
+/// A grid with cells that are split: one cell, alone or with a neighbour, cells
+/// that share nothing, rows and circles of them, or a closed grid.
+pub fn spirals(rng: &mut Rng) -> Sample {
+    let most = [6, 8, 12, 20, 40][rng.below(5)];
+    match rng.below(6) {
+        0 => spiral(rng, 4 * most),
+        1 => {
+            let cell = spiral(rng, most);
+            match cell.cells[3] {
+                node if node < NODE_LIMIT - 1 => with_neighbour(rng, &cell, most),
+                _ => cell,
+            }
+        }
+        2 => {
+            let cells: Vec<Sample> = (0..rng.between(2, 6)).map(|_| spiral(rng, most)).collect();
+            beside(&cells).reordered(rng)
+        }
+        3 => {
+            let chains = [(); 2].map(|()| any_chain(rng));
+            spiral_join(rng, chains, 3, most).reordered(rng)
+        }
+        _ => closed_spirals(rng, most),
+    }
+}
+
+/// A grid that meets the premises of the rings and has cells that are split: two
+/// circles, all of whose cells are, or some cells of another grid.
+fn closed_spirals(rng: &mut Rng, most: usize) -> Sample {
+    let pairs = rng.between(0, 4);
+    let shape = match rng.below(6) {
+        0 => five_nodes(),
+        1 => sphere([1, 1, rng.between(1, 2)]),
+        2 => box_of_six([3; 3]),
+        3 => box_of_five([4, 3, 3]),
+        _ => {
+            let circles = [(); 2].map(|()| Chain::Circle(2 * rng.between(2, 3)));
+            return spiral_join(rng, circles, 3, most).reordered(rng);
+        }
+    };
+    let shape = shape.renumbered(rng);
+    shape.with_closed_spirals(rng, most, pairs).reordered(rng)
 }
 
 /// The grid with a cell more, on one of the faces of its first cell; the counts of

@@ -15,6 +15,28 @@ pub mod placing;
 
 use std::env;
 use std::str::FromStr;
+use std::thread;
+
+/// The bytes of stack that suffice for any call: CITTERNBLAZE_STACK_BYTES of the
+/// header.
+fn stack_bytes() -> usize {
+    let header = include_str!("../../../include/citternblaze.h");
+    let defined = header.split_once("CITTERNBLAZE_STACK_BYTES (");
+    let (_, value) = defined.expect("its definition");
+    let (kilobytes, _) = value.split_once(" * 1024)").expect("kilobytes");
+    1024 * kilobytes.parse::<usize>().expect("a number")
+}
+
+/// What is answered on a thread with a stack of exactly so many bytes.
+pub fn on_stack<T: Send + 'static>(bytes: usize, call: impl FnOnce() -> T + Send + 'static) -> T {
+    let thread = thread::Builder::new().stack_size(bytes).spawn(call);
+    thread.expect("a thread").join().expect("an answer")
+}
+
+/// What is answered on a thread with exactly the stack that suffices for any call.
+pub fn on_header_stack<T: Send + 'static>(call: impl FnOnce() -> T + Send + 'static) -> T {
+    on_stack(stack_bytes(), call)
+}
 
 /// The number that an environment variable gives, or else this one.
 pub fn setting<T: FromStr>(name: &str, otherwise: T) -> T {

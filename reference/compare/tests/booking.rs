@@ -4,16 +4,19 @@ use compare::lent::{answers, answers_in_all};
 use compare::{calls, expected, seed, setting};
 use reference::booking::is_booked;
 use reference::cell::CellWalker;
-use reference::gen::Rng;
+use reference::gen::{spiral_cell, Rng};
+use reference::split::is_split;
 
-/// How many cells were booked, with and without quads or longer loops, and how
-/// many are to be walked.
+/// How many cells were booked, with and without quads or longer loops, how many of
+/// them are split, and how many are to be walked; the most triangles of one.
 #[derive(Default)]
 struct Tally {
     corners_only: u64,
     quads: u64,
     longer: u64,
+    split: u64,
     walked: u64,
+    most: u64,
 }
 
 /// Compares the booking of one cell.
@@ -25,6 +28,8 @@ fn compare(walker: &mut CellWalker, counts: [u16; 6], tally: &mut Tally) {
         [_, _, _, _, _] => tally.longer += 1,
         _ => tally.walked += 1,
     }
+    tally.split += u64::from(is_split(counts));
+    tally.most = tally.most.max(numbers.get(4).copied().unwrap_or(0));
     assert!(
         answers(&numbers, |area| calls::book(counts, area)),
         "book {counts:?}: not answered with {numbers:?} alone"
@@ -35,8 +40,8 @@ impl Tally {
     fn report(&self, what: &str) {
         println!(
             "book, {what}: {} with corner triangles at most, {} with quads, {} with longer loops, \
-             {} to be walked",
-            self.corners_only, self.quads, self.longer, self.walked
+             {} split, {} to be walked; the most triangles: {}",
+            self.corners_only, self.quads, self.longer, self.split, self.walked, self.most
         );
         assert!(self.quads > 0 && self.longer > 0 && self.walked > 0);
     }
@@ -113,6 +118,46 @@ fn random_cells() {
     }
 }
 
+/// Cells that are split, up to counts of 16 bits, among them the one of a grid with
+/// the most splits, and the greatest numbers of triangles, which pass 32 bits.
+#[test]
+fn random_spirals() {
+    let mut rng = Rng::new(seed("book, spirals"));
+    let mut walker = CellWalker::default();
+    let mut tally = Tally::default();
+    let cells = setting("CITTERNBLAZE_CELLS", 20_000u32);
+    for (cells, corners, most) in [
+        (cells / 4, 5, 30),
+        (cells / 10, 100, 600),
+        (cells / 40, 1_000, 2_095),
+        (cells / 400, 2_700, 60_000),
+    ] {
+        for _ in 0..cells {
+            let counts = spiral_cell(&mut rng, corners, most);
+            compare(&mut walker, counts, &mut tally);
+        }
+    }
+    for (d1, d2) in [
+        (4_092, 2),
+        (65_532, 2),
+        (65_530, 4),
+        (65_532, 3),
+        (60_000, 2),
+        (43_690, 21_844),
+    ] {
+        let mut kept = [d1, d2, d1 + d2];
+        rng.shuffle(&mut kept);
+        let [x, y, z] = kept;
+        compare(&mut walker, [x, y, z, z, y, x], &mut tally);
+    }
+    println!(
+        "book, spirals: {} split; the most triangles: {}",
+        tally.split, tally.most
+    );
+    assert_eq!(tally.split, tally.longer);
+    assert!(tally.most > u64::from(u32::MAX));
+}
+
 #[test]
 fn any_answer_area() {
     let mut walker = CellWalker::default();
@@ -120,7 +165,17 @@ fn any_answer_area() {
         ([0; 6], vec![0, 0, 0, 0, 0]),
         ([0, 1, 1, 1, 1, 0], vec![0, 0, 1, 0, 2]),
         ([2, 1, 1, 1, 1, 2], vec![0, 0, 1, 1, 8]),
-        ([130, 180, 90, 90, 200, 170], vec![0, 100, 100, 40, 660]),
+        ([130, 180, 90, 90, 200, 170], vec![0, 100, 100, 40, 2_060]),
+        ([4, 2, 6, 6, 2, 4], vec![0, 0, 4, 2, 52]),
+        ([3, 2, 5, 5, 2, 3], vec![0, 0, 3, 2, 20]),
+        (
+            [4_092, 2, 4_094, 4_094, 2, 4_092],
+            vec![0, 0, 4_092, 2, 16_793_556],
+        ),
+        (
+            [65_532, 2, 65_534, 65_534, 2, 65_532],
+            vec![0, 0, 65_532, 2, 4_295_229_396],
+        ),
         ([65_534; 6], vec![0, 131_068, 0, 0, 131_068]),
         ([1; 6], vec![0]),
         ([65_535; 6], vec![0]),

@@ -1,26 +1,25 @@
 //! The mesh call against the second implementation.
 
-use std::thread;
-
 use compare::grids::{
-    by_rows, closed_grid, every_row, random_grid, shapes, single_cell, winding_cell, with_faults,
-    with_random_counts, Numbers,
+    by_rows, closed_grid, every_row, random_grid, shapes, single_cell, spirals, winding_cell,
+    with_faults, with_random_counts, Numbers,
 };
 use compare::lent::{after, answers, answers_in_all, Lent, ANSWER_WORDS};
-use compare::{calls, expected, seed, setting};
+use compare::{calls, expected, on_stack, seed, setting};
 use reference::booking::is_booked;
 use reference::cell::{NO_NUMBER, TRIANGLE_WORDS};
-use reference::gen::{broken, separate, sphere, Rng, Sample};
+use reference::gen::{broken, joined, separate, sphere, Chain, Rng, Sample};
 use reference::grid::ROWS;
 use reference::manifold::{inspect, should_close};
 use reference::mesh::Mesher;
+use reference::split;
 
 /// Stands on both sides of a lent area.
 const GUARD: u32 = 0x5a5a_5a5a;
 
 /// Meshes of at most so many triangles are inspected also where they need not
-/// close.
-const INSPECTED: usize = 300;
+/// close; and of so many where cells are split.
+const INSPECTED: [usize; 2] = [300, 10_000];
 
 /// An area before a call: words that no triangle has.
 fn untouched(len: usize) -> Vec<u32> {
@@ -41,7 +40,10 @@ struct Tally {
     over_255: u64,
     count_of_4095: u64,
     all_booked: u64,
+    split_cells: u64,
+    splits: u64,
     closed: u64,
+    closed_and_split: u64,
     inspected: u64,
     refused: Numbers,
     short: u64,
@@ -49,17 +51,21 @@ struct Tally {
 }
 
 impl Tally {
-    fn accepted(&mut self, grid: &Sample, triangles: usize) {
+    fn accepted(&mut self, grid: &Sample, [triangles, splits]: [u64; 2]) {
         let cells = grid.cells.len() / 4;
         let crossings: u64 = grid.counts.iter().map(|&count| u64::from(count)).sum();
-        self.triangles += triangles as u64;
+        self.triangles += triangles;
+        self.splits += splits;
         self.hundred_cells += u64::from(cells >= 100);
         self.over_1500_cells += u64::from(cells > 1_500);
         self.over_60000_crossings += u64::from(crossings > 60_000);
         self.count_of_255 += u64::from(grid.counts.contains(&255));
         self.over_255 += u64::from(grid.counts.iter().any(|&count| count > 255));
         self.count_of_4095 += u64::from(grid.counts.contains(&4_095));
-        let booked = grid.counts_in_cells().into_iter().all(is_booked);
+        let in_cells = grid.counts_in_cells();
+        let split = in_cells.iter().filter(|&&counts| split::is_split(counts));
+        self.split_cells += split.count() as u64;
+        let booked = in_cells.into_iter().all(is_booked);
         self.all_booked += u64::from(cells > 1 && triangles > 0 && booked);
     }
 
@@ -68,8 +74,9 @@ impl Tally {
             "mesh, {what}: {} grids, of these {} accepted ({} of 100 cells or more, {} of over \
              1,500, {} with over 60,000 crossings, {} with a count of 255, {} with one over 255, \
              {} with one of 4,095, {} of several cells, all of which are booked), {} that must \
-             close and have triangles; {} triangles; sides and rings counted in {} meshes; {} areas \
-             too short, {} with room for any mesh; refused by rows 1 to 6, 18, 7 to 10: {:?}",
+             close and have triangles, {} of these with cells that are split; {} triangles; {} cells \
+             split, {} splits; sides and rings counted in {} meshes; {} areas too short, {} with \
+             room for any mesh; refused by rows 1 to 6, 18, 7 to 10: {:?}",
             self.grids,
             self.refused[0],
             self.hundred_cells,
@@ -80,7 +87,10 @@ impl Tally {
             self.count_of_4095,
             self.all_booked,
             self.closed,
+            self.closed_and_split,
             self.triangles,
+            self.split_cells,
+            self.splits,
             self.inspected,
             self.short,
             self.ample,
@@ -120,12 +130,15 @@ fn count_sides(grid: &Sample, words: &[u32], tally: &mut Tally) {
         counts,
     } = grid;
     let closed = should_close(cells, edges, counts);
-    if closed || words.len() <= INSPECTED * TRIANGLE_WORDS {
+    let in_sub_cell = |triangle: &[u32]| triangle[0] >= split::SUB_CELL_STEP;
+    let split = words.chunks_exact(TRIANGLE_WORDS).any(in_sub_cell);
+    if closed || words.len() <= INSPECTED[usize::from(split)] * TRIANGLE_WORDS {
         let report = inspect(cells, edges, counts, words);
         assert!(report.sound(), "{report:?}: {grid:?}");
         assert!(!closed || report.closed(), "{report:?}: {grid:?}");
         tally.inspected += 1;
         tally.closed += u64::from(closed && !words.is_empty());
+        tally.closed_and_split += u64::from(closed && split);
     }
 }
 
@@ -136,22 +149,19 @@ fn count_sides(grid: &Sample, words: &[u32], tally: &mut Tally) {
 fn compare(mesher: &mut Mesher, rng: &mut Rng, grid: &Sample, tally: &mut Tally) {
     tally.grids += 1;
     let starts = grid.starts();
-    let [number, place] = match expected::mesh(mesher, grid.lists(&starts), &mut [])[..] {
-        [number, place] => [number as usize, place as usize],
-        _ => panic!("two numbers"),
-    };
-    let triangles = match number {
-        0 | 12 => place,
+    let triangles = match expected::mesh(mesher, grid.lists(&starts), &mut [])[..] {
+        [12, needed] => needed as usize,
         _ => 0,
     };
     let exact = TRIANGLE_WORDS * triangles;
     let (numbers, area) = compare_in(mesher, grid, exact + rng.below(13));
     tally.refused[numbers[0] as usize] += 1;
     if numbers[0] == 0 {
-        tally.accepted(grid, triangles);
+        assert_eq!(numbers[1], triangles as u64);
+        tally.accepted(grid, [numbers[1], numbers[2]]);
         count_sides(grid, &area[..exact], tally);
         if tally.grids % 2 == 0 {
-            let most = TRIANGLE_WORDS * grid.crossings_in_cells();
+            let most = TRIANGLE_WORDS * grid.most_triangles();
             let len = [most, most.saturating_sub(1), most + rng.below(13)][rng.below(3)];
             compare_in(mesher, grid, len);
             tally.ample += u64::from(len >= most);
@@ -175,7 +185,7 @@ fn one_cell(counts: [u16; 6]) -> Sample {
 
 /// Compares a grid with the numbers and the words that it has to give, in any
 /// answer area.
-fn compare_with(numbers: [u64; 2], words: &[u32], len: usize, grid: &Sample) {
+fn compare_with(numbers: &[u64], words: &[u32], len: usize, grid: &Sample) {
     let (answered, area) = compare_in(&mut Mesher::default(), grid, len);
     assert_eq!(answered, numbers, "{grid:?}");
     assert_eq!(area[..words.len()], *words, "{grid:?}");
@@ -186,7 +196,7 @@ fn compare_with(numbers: [u64; 2], words: &[u32], len: usize, grid: &Sample) {
     );
     let before = untouched(len);
     let starts = grid.starts();
-    let right = answers_in_all(&numbers, |answer| {
+    let right = answers_in_all(numbers, |answer| {
         let mut lent = Lent::new(&before, GUARD);
         let many = calls::mesh(grid.lists(&starts), lent.area(), answer);
         assert!(lent.is(after(answer, &before, &area), GUARD), "{grid:?}");
@@ -209,8 +219,8 @@ fn examples_of_one_cell() {
         [0, 0, 1, 0, M, 2, 0, M, 0, M, 1],
     ];
     for counts in [[0; 6], [1, 0, 0, 0, 0, 0], [1; 6]] {
-        compare_with([0, 0], &[], 0, &one_cell(counts));
-        compare_with([0, 0], &[], 30, &one_cell(counts));
+        compare_with(&[0, 0, 0], &[], 0, &one_cell(counts));
+        compare_with(&[0, 0, 0], &[], 30, &one_cell(counts));
     }
     // one triangle; the other crossings are on an open curve
     let wide = [0, 0, 0, 4_095, 8_189, 3, 0, 1, 4_095, 2, 0];
@@ -224,15 +234,20 @@ fn examples_of_one_cell() {
         let grid = one_cell(counts);
         let triangles = (words.len() / TRIANGLE_WORDS) as u64;
         for more in [0, 1, 8] {
-            compare_with([0, triangles], words, words.len() + more, &grid);
+            compare_with(&[0, triangles, 0], words, words.len() + more, &grid);
         }
         for len in 0..words.len() {
-            compare_with([12, triangles], &[], len, &grid);
+            compare_with(&[12, triangles], &[], len, &grid);
         }
     }
+}
+
+/// An octagon, and cells with as many crossings as an edge can have.
+#[test]
+fn examples_of_long_loops() {
     let grid = one_cell([2, 1, 1, 1, 1, 2]);
     let (numbers, area) = compare_in(&mut Mesher::default(), &grid, 88);
-    assert_eq!(numbers, [0, 8]);
+    assert_eq!(numbers, [0, 8, 0]);
     let points: Vec<u32> = area.chunks(11).map(|words| words[2]).collect();
     assert_eq!(points, [0, 2, 6, 4, 1, 5, 7, 3]);
     // pairs on one edge; corners; octagons; one loop of all crossings
@@ -245,7 +260,7 @@ fn examples_of_one_cell() {
         let len = TRIANGLE_WORDS * triangles as usize;
         for (len, first) in [(len, 0), (len - 1, 12), (11 * 24_570, 0)] {
             let (numbers, _) = compare_in(&mut Mesher::default(), &one_cell(counts), len);
-            assert_eq!(numbers, [first, triangles]);
+            assert_eq!(numbers[..2], [first, triangles]);
         }
     }
 }
@@ -262,7 +277,7 @@ fn examples_of_several_cells() {
     let mut grid = of_cells(&[CELL, [0, 1, 2, 4], [0, 1, 3, 4]]);
     grid.counts[0] = 2;
     let (numbers, area) = compare_in(&mut Mesher::default(), &grid, 66);
-    assert_eq!(numbers, [0, 6]);
+    assert_eq!(numbers, [0, 6, 0]);
     let named = |at: usize| area[11 * at + 5..11 * at + 7].to_vec();
     assert_eq!(
         [0, 1, 2, 3, 4, 5].map(named),
@@ -276,9 +291,9 @@ fn examples_of_several_cells() {
     // 127 corners at each node
     let grid = full(42);
     let (numbers, _) = compare_in(&mut Mesher::default(), &grid, 11 * 21_336);
-    assert_eq!(numbers, [0, 42 * 4 * 127]);
-    compare_with([12, 21_336], &[], 11 * 21_336 - 1, &grid);
-    compare_with([10, 0], &[], 30, &full(43));
+    assert_eq!(numbers, [0, 42 * 4 * 127, 0]);
+    compare_with(&[12, 21_336], &[], 11 * 21_336 - 1, &grid);
+    compare_with(&[10, 0], &[], 30, &full(43));
 }
 
 #[test]
@@ -313,7 +328,7 @@ fn examples_of_the_table() {
     ];
     for (numbers, grid) in &cases {
         for len in [0, 10, 11, 40] {
-            compare_with(*numbers, &[], len, grid);
+            compare_with(numbers, &[], len, grid);
         }
     }
 }
@@ -375,6 +390,90 @@ fn each_shape_broken_in_each_way() {
     tally.report("each shape broken in each way");
 }
 
+/// Cells of one, two and three splits with all their words, in areas that just
+/// fit and are a word too short; and cells that are not split.
+#[test]
+fn examples_of_split_cells() {
+    for (counts, triangles, splits) in [
+        ([4, 2, 6, 6, 2, 4], 52, 1),
+        ([5, 5, 7, 8, 2, 6], 55, 1),
+        ([6, 2, 8, 8, 2, 6], 96, 2),
+        ([10, 6, 4, 4, 6, 10], 116, 2),
+        ([11, 9, 8, 6, 9, 15], 122, 2),
+        ([4, 14, 10, 10, 14, 4], 196, 3),
+        // gcd 1; d1 = d2; d2 = 0; odd sums
+        ([3, 2, 5, 5, 2, 3], 20, 0),
+        ([4, 4, 8, 8, 4, 4], 32, 0),
+        ([4, 0, 4, 4, 0, 4], 8, 0),
+    ] {
+        let grid = one_cell(counts);
+        let exact = TRIANGLE_WORDS * triangles as usize;
+        let mut words = vec![0; exact];
+        expected::mesh(
+            &mut Mesher::default(),
+            grid.lists(&grid.starts()),
+            &mut words,
+        );
+        let last = words[exact - TRIANGLE_WORDS];
+        assert_eq!(last, split::SUB_CELL_STEP * 4 * splits as u32);
+        for more in [0, 1, 11] {
+            compare_with(&[0, triangles, splits], &words, exact + more, &grid);
+        }
+        for len in [0, 11, exact - 11, exact - 1] {
+            compare_with(&[12, triangles], &[], len, &grid);
+        }
+    }
+}
+
+/// Grids with cells that are split, some of them broken; in those that must close
+/// demand 3 is counted on the words.
+#[test]
+fn random_spirals() {
+    let mut rng = Rng::new(seed("mesh, spirals"));
+    let mut mesher = Mesher::default();
+    let mut tally = Tally::default();
+    let grids = setting("CITTERNBLAZE_GRIDS", 20_000) / 10;
+    while tally.grids < grids {
+        let mut grid = spirals(&mut rng);
+        if rng.below(20) == 0 {
+            grid = with_faults(&mut rng, grid);
+        }
+        compare(&mut mesher, &mut rng, &grid, &mut tally);
+    }
+    tally.report("grids with cells that are split");
+    assert!(tally.split_cells > tally.grids && tally.closed_and_split > tally.grids / 8);
+}
+
+/// The most splits that a cell can have, 2,045, word by word, on the stack that the
+/// header names for the mesh call; and the most triangles of a grid of which we
+/// know, which are only refused.
+#[test]
+fn the_longest_spirals() {
+    const TRIANGLES: usize = 16_793_556;
+    let grid = one_cell([4_092, 2, 4_094, 4_094, 2, 4_092]);
+    let starts = grid.starts();
+    let lists = grid.lists(&starts);
+    let called = grid.clone();
+    let area = on_stack(1_536 * 1_024, move || {
+        let starts = called.starts();
+        let mut area = vec![GUARD; TRIANGLE_WORDS * TRIANGLES];
+        let numbers = [0, TRIANGLES as u64, 2_045];
+        let call = |answer: &mut [u64]| calls::mesh(called.lists(&starts), &mut area, answer);
+        assert!(answers(&numbers, call));
+        area
+    });
+    let mut words = area.chunks_exact(TRIANGLE_WORDS);
+    let told = Mesher::default().each_triangle(lists, |triangle| {
+        assert_eq!(words.next(), Some(&triangle.words()[..]));
+    });
+    assert_eq!(told.map(|told| told.splits), Ok(2_045));
+    assert_eq!(words.next(), None);
+    drop(area);
+    let circles = [Chain::Circle(4); 2];
+    let grid = joined(&mut Rng::new(1), circles, 0, [2, 4_092, 4_094]);
+    compare_with(&[12, 16 * TRIANGLES as u64], &[], 11, &grid);
+}
+
 /// Three grids of ten are made to close, and two are broken.
 #[test]
 fn random_grids() {
@@ -407,23 +506,23 @@ fn random_grids() {
     }
 }
 
-/// What the header says of the stack.
+/// What the header says of the stack where no split is inside another: a grid
+/// without splits, a grid of one, and a cell of one with large counts.
 #[test]
 fn stack_of_640_kilobytes() {
-    let grid = sphere([5, 5, 5]).with_counts(&mut Rng::new(1), 0, 12);
-    let call = move || {
-        let starts = grid.starts();
-        let mut area = vec![0; 11 * 65_535];
-        let mut answer = [1; ANSWER_WORDS];
-        // room for any mesh, and for none, where the cells are counted
-        [area.len(), 0].map(|len| {
-            calls::mesh(grid.lists(&starts), &mut area[..len], &mut answer);
-            answer[0]
-        })
-    };
-    let thread = thread::Builder::new().stack_size(640 * 1024).spawn(call);
-    assert_eq!(
-        thread.expect("a thread").join().expect("an answer"),
-        [0, 12]
-    );
+    let ball = |most| sphere([5, 5, 5]).with_counts(&mut Rng::new(1), 0, most);
+    let large = one_cell([2_730, 1_365, 4_095, 4_095, 1_365, 2_730]);
+    for (grid, splits) in [(ball(5), 0), (ball(12), 1), (large, 1)] {
+        let answered = on_stack(640 * 1_024, move || {
+            let starts = grid.starts();
+            let mut area = vec![0; TRIANGLE_WORDS * 65_535];
+            let mut answer = [1; ANSWER_WORDS];
+            // room for the mesh, and for none, where the cells are counted
+            [area.len(), 0].map(|len| {
+                calls::mesh(grid.lists(&starts), &mut area[..len], &mut answer);
+                [answer[0], answer[2]]
+            })
+        });
+        assert_eq!(answered, [[0, splits], [12, splits]]);
+    }
 }

@@ -10,7 +10,7 @@ use std::process::{Command, Stdio};
 
 use compare::bundles::{damage, has_kind, random_bytes, seen_again, small_bundles, written};
 use compare::grids::{
-    by_rows, closed_grid, random_grid, single_cell, with_crossings, with_faults, Numbers,
+    by_rows, closed_grid, random_grid, single_cell, spiral, with_crossings, with_faults, Numbers,
 };
 use compare::{seed, setting};
 use reference::bundle;
@@ -49,6 +49,16 @@ fn prints_for(bytes: &[u8], first: usize) -> Vec<u8> {
     output.stdout
 }
 
+/// Whether a line has a triangle of a sub-cell: one whose word 0 is 2,048 or more.
+fn is_of_sub_cell(line: &str) -> bool {
+    let word = line
+        .strip_prefix("T ")
+        .and_then(|rest| rest.split(' ').next());
+    word.map_or(false, |word| {
+        word.parse::<u32>().expect("a number") >= 2_048
+    })
+}
+
 /// What the compared listings were: meshes, lines of triangles, refusals.
 #[derive(Default)]
 struct Tally {
@@ -56,6 +66,7 @@ struct Tally {
     triangles: usize,
     wide: u64,
     looked: u64,
+    split: u64,
     refused: Numbers,
 }
 
@@ -71,6 +82,7 @@ impl Tally {
                 self.wide += u64::from(has_kind(bytes, bundle::WIDE_EDGE));
                 self.looked += u64::from(has_kind(bytes, bundle::LOOK));
                 self.triangles += text.lines().count() - 1;
+                self.split += u64::from(text.lines().any(is_of_sub_cell));
             }
         }
     }
@@ -90,7 +102,7 @@ fn compare(rng: &mut Rng, bytes: &[u8], tally: &mut Tally) {
 
 /// A grid whose mesh has few triangles, or any grid.
 fn grid(rng: &mut Rng) -> Sample {
-    match rng.below(9) {
+    match rng.below(10) {
         0 => random_grid(rng),
         1 => closed_grid(rng),
         2 => {
@@ -103,6 +115,10 @@ fn grid(rng: &mut Rng) -> Sample {
             with_crossings(rng, separate(cells), sum)
         }
         4 => random_shape(rng).with_even_counts(rng, 2),
+        6 => {
+            let most = [6, 12, 40, 150][rng.below(4)];
+            spiral(rng, most)
+        }
         5 => {
             let mut grid = random_shape(rng).with_counts(rng, 0, 1);
             let edge = rng.below(grid.counts.len());
@@ -143,18 +159,19 @@ fn random_and_damaged_bundles() {
     }
     println!(
         "meshlist: {} meshes with {} triangles, {} of them of a bundle with a record of kind 4, {} \
-         with one of kind 5; refused by rows 1 to 6, 18, 7 to 10: {:?}, 12 and 13: {:?}, 22: {}",
+         with one of kind 5, {} with cells that are split; refused by rows 1 to 6, 18, 7 to 10: {:?}, 12 and 13: {:?}, 22: {}",
         tally.meshes,
         tally.triangles,
         tally.wide,
         tally.looked,
+        tally.split,
         by_rows(&tally.refused),
         &tally.refused[12..=13],
         tally.refused[22]
     );
     if many >= 3_000 {
         assert!(tally.meshes >= 1_000);
-        assert!(tally.wide >= 50 && tally.looked >= 50);
+        assert!(tally.wide >= 50 && tally.looked >= 50 && tally.split >= 50);
         for row in (3..=10).chain([12, 13, 18, 22]) {
             assert!(tally.refused[row] > 0, "row {row}");
         }

@@ -220,7 +220,7 @@ fn random_lists() {
 fn placed(placing: &Placing) -> Vec<f64> {
     let starts = placing.grid.starts();
     let (nodes, fractions) = (&placing.nodes, &placing.fractions);
-    let mut area = vec![0; 3 * (fractions.len() + placing.grid.crossings_in_cells())];
+    let mut area = vec![0; 3 * (fractions.len() + placing.grid.most_triangles())];
     let mut answer = [1; 6];
     calls::places(
         placing.grid.lists(&starts),

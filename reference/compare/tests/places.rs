@@ -1,18 +1,19 @@
 //! The places call against the second implementation, bit by bit.
 
-use std::thread;
+use std::collections::BTreeSet;
 
 use compare::grids::{
-    by_rows, closed_grid, dealt, every_row, nested_cell, random_grid, single_cell, with_faults,
-    with_neighbour, Numbers,
+    by_rows, closed_grid, dealt, every_row, nested_cell, random_grid, single_cell, spirals,
+    with_faults, with_neighbour, Numbers,
 };
 use compare::lent::{after, answers, answers_in_all, Lent, ANSWER_WORDS};
 use compare::placing::{placing, spoiled, Kind, Placing, KINDS};
-use compare::{calls, expected, seed, setting};
+use compare::{calls, expected, on_header_stack, on_stack, seed, setting};
 use reference::booking::loops;
 use reference::cell::{CellWalker, NO_NUMBER, TRIANGLE_WORDS};
 use reference::gen::{sphere, Rng, Sample};
 use reference::mesh::Mesher;
+use reference::split::{FIRST_INNER_CROSSING, SUB_CELL_STEP};
 
 /// Stands on both sides of a lent area: a not-a-number.
 const GUARD: u64 = 0x7ff5_5a5a_5a5a_5a5a;
@@ -32,7 +33,7 @@ fn untouched(len: usize) -> Vec<u64> {
 struct Tally {
     grids: u64,
     points: u64,
-    middles: u64,
+    beside: u64,
     exact: u64,
     refused: Numbers,
 }
@@ -40,12 +41,12 @@ struct Tally {
 impl Tally {
     fn report(&self, what: &str) {
         println!(
-            "places, {what}: {} calls, {} placed: {} points, {} of them middles; {} numbers also \
-             compared with exact ones; refused by rows 1 to 6, 18, 7 to 10: {:?}, 15 to 17: {:?}",
+            "places, {what}: {} calls, {} placed: {} points, {} of them middles and inner \
+             crossings; {} numbers also compared with exact ones; refused by rows 1 to 6, 18, 7 to 10: {:?}, 15 to 17: {:?}",
             self.grids,
             self.refused[0],
             self.points,
-            self.middles,
+            self.beside,
             self.exact,
             by_rows(&self.refused),
             &self.refused[15..=17]
@@ -85,21 +86,32 @@ fn crossings(grid: &Sample) -> usize {
     grid.counts.iter().map(|&count| usize::from(count)).sum()
 }
 
-/// How many points a grid has, 0 where it is refused: its crossings, and each
-/// fan by its last triangle, the one whose side 1 is inner side 0.
+/// How many points a grid has, 0 where it is refused: its crossings, the inner
+/// crossings that its triangles have, and each fan by its last triangle, the one
+/// whose side 1 is inner side 0.
 fn points(grid: &Sample) -> usize {
     let mut mesher = Mesher::default();
     let starts = grid.starts();
     let lists = grid.lists(&starts);
     let triangles = match expected::mesh(&mut mesher, lists, &mut [])[..] {
-        [0 | 12, triangles] => triangles as usize,
+        [0, triangles, _] | [12, triangles] => triangles as usize,
         _ => return 0,
     };
     let mut words = vec![0; TRIANGLE_WORDS * triangles];
     expected::mesh(&mut mesher, lists, &mut words);
     let all = words.chunks_exact(TRIANGLE_WORDS);
     let last = |words: &&[u32]| words[4] == NO_NUMBER && words[8] == 0;
-    crossings(grid) + all.filter(last).count()
+    crossings(grid) + inner_crossings(&words) + all.filter(last).count()
+}
+
+/// How many inner crossings the triangles have, told apart by their cells.
+fn inner_crossings(words: &[u32]) -> usize {
+    let corners = words.chunks_exact(TRIANGLE_WORDS).flat_map(|words| {
+        let cell = words[0] % SUB_CELL_STEP;
+        words[2..5].iter().map(move |&corner| (cell, corner))
+    });
+    let inner = |&(_, corner): &(u32, u32)| (FIRST_INNER_CROSSING..NO_NUMBER).contains(&corner);
+    corners.filter(inner).collect::<BTreeSet<_>>().len()
 }
 
 /// Compares a call in an area with room, and in one that is too short by a few
@@ -111,7 +123,7 @@ fn compare(rng: &mut Rng, placing: &Placing, points: usize, tally: &mut Tally) -
     tally.refused[numbers[0] as usize] += 1;
     if numbers[0] == 0 {
         tally.points += numbers[1];
-        tally.middles += numbers[1] - crossings(&placing.grid) as u64;
+        tally.beside += numbers[1] - crossings(&placing.grid) as u64;
     }
     if exact > 0 {
         let short = exact - rng.between(1, 4.min(exact));
@@ -269,6 +281,36 @@ fn nested_cells() {
     }
 }
 
+/// Grids with cells that are split: inner crossings after the outer ones, then the
+/// middles.
+#[test]
+fn random_spirals() {
+    let mut rng = Rng::new(seed("places, spirals"));
+    let mut tally = Tally::default();
+    let grids = setting("CITTERNBLAZE_GRIDS", 20_000);
+    for _ in 0..grids / 40 {
+        let grid = spirals(&mut rng);
+        compare_kinds(&mut rng, &grid, &mut tally);
+    }
+    tally.report("grids with cells that are split");
+    assert!(tally.beside > 10 * tally.refused[0]);
+}
+
+/// The most splits that a cell can have, with 8,384,500 inner crossings and 4,092
+/// middles, in an area that just fits and in one that is too short, on the stack
+/// that the header names for any call.
+#[test]
+fn the_longest_spiral() {
+    let mut rng = Rng::new(seed("places, the longest spiral"));
+    let grid = one_cell([4_092, 2, 4_094, 4_094, 2, 4_092]);
+    let points = 16_376 + 8_384_500 + 4_092;
+    let whole = placing(&mut rng, grid, Kind::Any);
+    on_header_stack(move || {
+        assert_eq!(compare_in(&whole, 3 * points).0, [0, points as u64]);
+        assert_eq!(compare_in(&whole, 3 * points - 1).0, [15, 0]);
+    });
+}
+
 #[test]
 fn random_grids() {
     let mut rng = Rng::new(seed("places"));
@@ -294,31 +336,26 @@ fn random_grids() {
     }
     tally.report("random grids");
     if grids >= 20_000 {
-        assert!(tally.middles > 0 && tally.exact > 0);
+        assert!(tally.beside > 0 && tally.exact > 0);
         assert!(every_row(&tally.refused));
         assert!(tally.refused[15..=17].iter().all(|&calls| calls > 0));
     }
 }
 
-/// What the header says of the stack.
+/// What the header says of the stack where no split is inside another: a grid
+/// without splits, a grid of one, and a cell of one with large counts.
 #[test]
 fn stack_of_640_kilobytes() {
-    let mut rng = Rng::new(1);
-    let grid = sphere([5, 5, 5]).with_counts(&mut rng, 0, 12);
-    let placing = placing(&mut rng, grid, Kind::Any);
-    let call = move || {
-        let mut area = vec![0; 9 * 65_535];
-        let mut answer = [1; ANSWER_WORDS];
-        let starts = placing.grid.starts();
-        calls::places(
-            placing.grid.lists(&starts),
-            &placing.nodes,
-            &placing.fractions,
-            &mut area,
-            &mut answer,
-        );
-        answer[0]
-    };
-    let thread = thread::Builder::new().stack_size(640 * 1024).spawn(call);
-    assert_eq!(thread.expect("a thread").join().expect("an answer"), 0);
+    let ball = |most| sphere([5, 5, 5]).with_counts(&mut Rng::new(1), 0, most);
+    let large = one_cell([2_730, 1_365, 4_095, 4_095, 1_365, 2_730]);
+    for grid in [ball(5), ball(12), large] {
+        let placing = placing(&mut Rng::new(1), grid, Kind::Any);
+        let answered = on_stack(640 * 1_024, move || {
+            let mut area = vec![0; 9 * 65_535];
+            let mut answer = [1; ANSWER_WORDS];
+            call(&placing, &mut area, &mut answer);
+            answer[0]
+        });
+        assert_eq!(answered, 0);
+    }
 }

@@ -150,7 +150,7 @@ fn starts_that_are_not_the_sums() {
     for _ in 0..grids / 10 {
         let shape = random_shape(&mut rng);
         let grid = shape.with_counts(&mut rng, 0, 3);
-        let room = grid.crossings_in_cells();
+        let room = grid.most_triangles();
         let mut whole = placing(&mut rng, grid, Kind::Any);
         if rng.below(4) == 0 {
             whole.grid = with_faults(&mut rng, whole.grid);
@@ -218,7 +218,7 @@ fn compare_fresh(rng: &mut Rng, mesher: &mut Mesher, grid: &Sample, starts: &[u3
     let (numbers, opened) = compare_open(grid, &lent);
     assert_eq!(numbers[0], 0);
     assert_eq!(opened, starts);
-    let room = grid.crossings_in_cells();
+    let room = grid.most_triangles();
     let words = compare_mesh(mesher, room, grid.lists(starts));
     assert_eq!(words, compare_mesh(mesher, room, grid.lists(&opened)));
 }

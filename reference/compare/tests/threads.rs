@@ -2,7 +2,7 @@
 
 use std::thread;
 
-use compare::grids::single_cell;
+use compare::grids::{single_cell, spirals};
 use compare::lent::answers;
 use compare::{calls, expected};
 use reference::gen::{random_shape, Rng};
@@ -16,15 +16,16 @@ fn compare(seed: u64) {
     let mut rng = Rng::new(seed);
     let mut mesher = Mesher::default();
     for turn in 0..100 {
-        let grid = match turn % 2 {
+        let grid = match turn % 3 {
             0 => single_cell(&mut rng, 4_095),
+            1 => spirals(&mut rng),
             _ => random_shape(&mut rng).with_counts(&mut rng, 0, 5),
         };
         let starts = grid.starts();
         let lists = grid.lists(&starts);
         let numbers = expected::check(lists);
         assert!(answers(&numbers, |answer| calls::check(lists, answer)));
-        let mut made = vec![7; 11 * grid.crossings_in_cells()];
+        let mut made = vec![7; 11 * grid.most_triangles()];
         let mut area = made.clone();
         let numbers = expected::mesh(&mut mesher, lists, &mut made);
         assert!(answers(&numbers, |answer| {

@@ -4,7 +4,7 @@
 use std::time::{Duration, Instant};
 
 use reference::cell::TRIANGLE_WORDS;
-use reference::gen::{box_of_six, closed_fan, separate, Rng, Sample};
+use reference::gen::{box_of_six, closed_fan, separate, spiral_cell, Rng, Sample};
 use reference::grid::GridTables;
 use reference::mesh::Mesher;
 
@@ -32,13 +32,13 @@ fn bench_mesh(name: &str, grid: &Sample) {
     let starts = grid.starts();
     let lists = grid.lists(&starts);
     let needed = match mesher.mesh(lists, &mut []) {
-        Ok(triangles) => u64::from(triangles),
+        Ok(answer) => answer.triangles,
         Err(refusal) => refusal.place,
     };
     let mut area = vec![0; needed as usize * TRIANGLE_WORDS];
     let time = best(|| {
         let answer = mesher.mesh(lists, &mut area);
-        assert_eq!(answer, Ok(needed as u32));
+        assert_eq!(answer.map(|a| a.triangles), Ok(needed));
     });
     let crossings: u32 = grid.counts.iter().map(|&count| u32::from(count)).sum();
     println!(
@@ -91,9 +91,17 @@ fn main() {
     let mut hub = fan.clone();
     hub.counts[0] = 255;
     bench_mesh("4 closed fan, 255 on its edge", &hub);
+    let mut spirals = separate(100);
+    spirals.counts = (0..100)
+        .flat_map(|_| spiral_cell(&mut rng, 4, 80))
+        .collect();
+    bench_mesh("5 separate cells, spirals to 80", &spirals);
+    let mut spiral = separate(1);
+    spiral.counts = vec![600, 2, 602, 602, 2, 600];
+    bench_mesh("5 one cell, split 299 times", &spiral);
     let full_box = full_box().with_counts(&mut rng, 0, 20);
-    bench_check("5 check, box", &full_box);
+    bench_check("6 check, box", &full_box);
     let mixed = full_box.renumbered(&mut rng).reordered(&mut rng);
-    bench_check("5 check, box with shuffled nodes and cells", &mixed);
-    bench_check("5 check, closed fan", &fan);
+    bench_check("6 check, box with shuffled nodes and cells", &mixed);
+    bench_check("6 check, closed fan", &fan);
 }

@@ -17,9 +17,9 @@ pub const COMMAND: Command = Command {
     usage: "[OPTION..] [LISTING or WORDS]",
     summary: "Tells of a received mesh which sides are open or crowded, and where it has rings",
     detail: "Reads T lines of eleven words, as list prints them, or with --binary the words\n\
-             themselves. A side in more than two triangles, or an inner side in one, is in\n\
-             no mesh: then the exit status is 1, as where the line of totals says another\n\
-             number of triangles.",
+             themselves. A side in more than two triangles is in no mesh, nor is an inner\n\
+             side or a segment of an inner face in one: then the exit status is 1, as where\n\
+             the line of totals says another number of triangles.",
     flags: &[BINARY, OUTPUT],
     run,
 };

@@ -6,10 +6,11 @@ use crate::cell_picture;
 use crate::face_picture;
 use crate::faces::faces;
 use crate::fault::Fault;
-use crate::mesh::{all_loops, Mesh};
+use crate::mesh::Mesh;
 use crate::mesh_picture::{self, Scene, View};
 use crate::placed;
 use crate::source::{self, Source, PLACES};
+use crate::triangle_types::Loops;
 
 const FACE: Flag = Flag {
     name: "--face",
@@ -114,7 +115,7 @@ fn draw_mesh(source: &Source, view: View) -> Result<String, Fault> {
     let refused = |refused| source.refused(refused);
     let misplaced = |fault| source.misplaced(fault);
     let mesh = Mesh::of(&source.grid).map_err(refused)?;
-    let loops = all_loops(&source.grid).map_err(refused)?;
+    let loops = Loops::of(&source.grid).map_err(refused)?;
     let nodes = placed::node_places(&source.grid, &source.text).map_err(misplaced)?;
     let points = placed::points(&source.grid, &source.text, &mesh).map_err(misplaced)?;
     let scene = Scene {

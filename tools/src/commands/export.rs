@@ -3,11 +3,12 @@
 use super::{write_output, Command, OUTPUT};
 use crate::arguments::{Arguments, Flag};
 use crate::fault::Fault;
-use crate::mesh::{all_loops, Mesh};
+use crate::mesh::Mesh;
 use crate::obj;
 use crate::placed;
 use crate::ply;
 use crate::source::{self, PLACES};
+use crate::triangle_types::Loops;
 
 const FORM: Flag = Flag {
     name: "--form",
@@ -19,10 +20,11 @@ pub const COMMAND: Command = Command {
     name: "export",
     usage: "[OPTION..] [BUNDLE or TEXT]",
     summary: "Writes the placed mesh as PLY or OBJ",
-    detail: "Vertices are the crossings by number and then the middles of fans; triangles\n\
-             stand in the order of the mesh. In PLY each has the properties cell, p0 and\n\
-             type. Numbers have 17 significant digits, which read back to the same bits. All\n\
-             nodes must have places.",
+    detail: "Vertices are the crossings by number, the inner crossings of split cells by cell\n\
+             and number, and then the middles of fans; triangles stand in the order of the\n\
+             mesh. In PLY each has the properties cell, p0, type and sub_cell; in a sub-cell\n\
+             type is 4. Numbers have 17 significant digits, which read back to the same bits.\n\
+             All nodes must have places.",
     flags: &[FORM, OUTPUT, PLACES],
     run,
 };
@@ -42,7 +44,7 @@ fn run(arguments: &Arguments) -> Result<(), Fault> {
         .map_err(|fault| source.misplaced(fault))?;
     let file = match form {
         "obj" => obj::obj(&mesh, &points),
-        _ => ply::ply(&mesh, &points, &all_loops(&source.grid).map_err(refused)?),
+        _ => ply::ply(&mesh, &points, &Loops::of(&source.grid).map_err(refused)?),
     };
     write_output(arguments, file.as_bytes())
 }

@@ -14,7 +14,7 @@ add-last c =
 
 returns : tie.Need-returns
 unfolding ofThree
-returns c = cc
+returns c = (cc, omega arith)
 
 pub of-three-spec : {M : Type 1} → statement M
 of-three-spec =

@@ -14,7 +14,7 @@ abbrev μ-loop : tie.MeasureT-loop
 μ-loop c n k marks₀ halves₀ points₀ routes left₀ p₀ marks halves points left p = n - p
 
 routes-of-requires : tie.Need-routes-of-requires Inv-loop μ-loop
-routes-of-requires c κs = tt
+routes-of-requires c κs = c .before .before .before .pre .near
 
 clear-requires : tie.Need-clear-requires Inv-loop μ-loop
 clear-requires c κs = c .before .before .before .before .before .pre .long .marks-long

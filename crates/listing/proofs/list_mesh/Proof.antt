@@ -12,7 +12,7 @@ use Rattle.listing.proofs.list_mesh.Tie as tie
 
 -- the triangles are no more than the area holds
 few : (c : tie.After-known-told2) → c .before .n .given .0 .0 ≤ areaTriangles
-few c = few-triangles (gridOf (c .before .before .before .before .before .before .before .before .before .before .before .args .nodes .now) (c .before .before .before .before .before .before .before .before .before .before .before .args .ends .now) (c .before .before .before .before .before .before .before .before .before .before .before .args .counts .now) (c .before .before .before .before .before .before .before .before .before .before .before .args .starts .now)) _ (c .before .before .before .before .before .before .before .before .before .before .before .pre .0) _ _ _ refl (sym (ap meshNumbers (c .before .n .given .1)) ∙ c .before .before .before .before .mesh .ensures .answered) (c .before .before .before .before .mesh .ensures .area)
+few c = few-triangles (gridOf (c .before .before .before .before .before .before .before .before .before .before .before .args .nodes .now) (c .before .before .before .before .before .before .before .before .before .before .before .args .ends .now) (c .before .before .before .before .before .before .before .before .before .before .before .args .counts .now) (c .before .before .before .before .before .before .before .before .before .before .before .args .starts .now)) _ (c .before .before .before .before .before .before .before .before .before .before .before .pre .0) _ _ _ _ refl (sym (ap meshNumbers (c .before .n .given .1)) ∙ c .before .before .before .before .mesh .ensures .answered) (c .before .before .before .before .mesh .ensures .area)
 
 put-lines-requires : tie.Need-put-lines-requires
 put-lines-requires c κs = (omega (arith, few (c .before .before .before .before .before .before)), omega (arith, few (c .before .before .before .before .before .before)))
@@ -21,7 +21,7 @@ returns : tie.Need-returns
 returns c = (stored-as (c .before .before .put-refused .ensures .0) (mesh-refused (gridOf (c .before .before .before .before .before .before .before .before .before .before .before .before .before .before .before .args .nodes .now) (c .before .before .before .before .before .before .before .before .before .before .before .before .before .before .before .args .ends .now) (c .before .before .before .before .before .before .before .before .before .before .before .before .before .before .before .args .counts .now) (c .before .before .before .before .before .before .before .before .before .before .before .before .before .before .before .args .starts .now)) _ _ (sym (ap meshNumbers (c .before .before .before .before .before .row .given .1)) ∙ c .before .before .before .before .before .before .before .before .mesh .ensures .answered)) refl, search needs)
 
 returns-2 : tie.Need-returns-2
-returns-2 c = (stored-as (stored-then (c .before .before .before .before .before .before .before .put-head .ensures .0) (c .before .before .put-lines .ensures .0)) (listed (gridOf (c .before .before .before .before .before .before .before .before .before .before .before .before .before .before .before .before .before .before .before .before .args .nodes .now) (c .before .before .before .before .before .before .before .before .before .before .before .before .before .before .before .before .before .before .before .before .args .ends .now) (c .before .before .before .before .before .before .before .before .before .before .before .before .before .before .before .before .before .before .before .before .args .counts .now) (c .before .before .before .before .before .before .before .before .before .before .before .before .before .before .before .before .before .before .before .before .args .starts .now)) _ (c .before .before .before .before .before .before .before .before .before .before .before .before .before .before .before .before .before .before .before .before .pre .0) _ _ _ refl (sym (ap meshNumbers (c .before .before .before .before .before .before .before .before .before .before .n .given .1)) ∙ c .before .before .before .before .before .before .before .before .before .before .before .before .before .mesh .ensures .answered) (c .before .before .before .before .before .before .before .before .before .before .before .before .before .mesh .ensures .area)) refl, omega (arith, few (c .before .before .before .before .before .before .before .before .before)))
+returns-2 c = (stored-as (stored-then (c .before .before .before .before .before .before .before .put-head .ensures .0) (c .before .before .put-lines .ensures .0)) (listed (gridOf (c .before .before .before .before .before .before .before .before .before .before .before .before .before .before .before .before .before .before .before .before .args .nodes .now) (c .before .before .before .before .before .before .before .before .before .before .before .before .before .before .before .before .before .before .before .before .args .ends .now) (c .before .before .before .before .before .before .before .before .before .before .before .before .before .before .before .before .before .before .before .before .args .counts .now) (c .before .before .before .before .before .before .before .before .before .before .before .before .before .before .before .before .before .before .before .before .args .starts .now)) _ (c .before .before .before .before .before .before .before .before .before .before .before .before .before .before .before .before .before .before .before .before .pre .0) _ _ _ _ refl (sym (ap meshNumbers (c .before .before .before .before .before .before .before .before .before .before .n .given .1)) ∙ c .before .before .before .before .before .before .before .before .before .before .before .before .before .mesh .ensures .answered) (c .before .before .before .before .before .before .before .before .before .before .before .before .before .mesh .ensures .area)) refl, omega (arith, few (c .before .before .before .before .before .before .before .before .before)))
 
 pub list-mesh-spec : {M : Type 1} → statement M
 list-mesh-spec =

@@ -1,14 +1,19 @@
-use mathlib.Core.Path.{ap, _∙_}
+use mathlib.Core.Path.{_∙_}
 use native.Mathlib.Omega.{arith}
-use Rattle.mesh.specs.Asked.{cellLoop, tableLoop}
-use Rattle.mesh.proofs.Askings.{asked-there, asked-beyond}
+use denote.Ref.{now}
+use Rattle.mesh.specs.Asked.{tableLoop}
+use Rattle.mesh.proofs.Askings.{asked-there, asked-beyond, loop-limited}
 use borrow.Author.Needs.{needs}
 use Rattle.mesh.proofs.loop_of.Statement.{statement}
 use Rattle.mesh.proofs.loop_of.Tie as tie
 
 returns : tie.Need-returns
 unfolding tableLoop
-returns c = c .loop-at .ensures ∙ ap (λ v. cellLoop v (c .before .before .before .before .before .before .args .k)) (c .before .cell-at .ensures) ∙ asked-there _ _ _ _ (omega arith)
+returns c =
+    let A = c .before .before .before .before .before .before .args in
+    c .loop-at .ensures
+    ∙ loop-limited (now (A .cells)) (now (A .counts)) (now (A .names)) (now (A .sides)) (now (A .starts)) (A .c) (A .k) (c .before .cell-at .ensures)
+    ∙ asked-there _ _ _ _ (omega arith)
 
 returns-2 : tie.Need-returns-2
 unfolding tableLoop

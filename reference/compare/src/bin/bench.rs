@@ -1,6 +1,6 @@
-//! Times the proved mesh call, grid check, shading call, nearest call, bundle reader,
-//! booking and chains call and the second implementation's in one run. All work on the same
-//! input in turn; the order of a round alternates.
+//! Times the proved mesh call, grid check, places call, shading call, nearest call, bundle
+//! reader, booking and chains call and the second implementation's in one run. All work on
+//! the same input in turn; the order of a round alternates.
 
 use std::env;
 use std::iter;
@@ -9,19 +9,23 @@ use std::time::{Duration, Instant};
 use compare::bundles::{written, END};
 use compare::grids::{dealt, twisted, winding_cell};
 use compare::lent::ANSWER_WORDS;
+use compare::placing::{placing, Kind, Placing};
 use compare::{calls, expected};
 use reference::booking::book;
 use reference::bundle;
 use reference::cases::{case, counts_of};
 use reference::cell::{CellWalker, TRIANGLE_WORDS};
 use reference::flat::{self, Tracer};
-use reference::gen::{box_of_six, closed_fan, cone, row_of, separate, Rng, Sample};
+use reference::gen::{
+    box_of_six, closed_fan, cone, joined, row_of, separate, spiral_cell, Chain, Rng, Sample,
+};
 use reference::grid::{self, GridTables, MAX_CELLS};
 use reference::mesh::{self, Mesher};
 use reference::nearest;
-use reference::places::{Place, FURTHEST};
+use reference::places::{self, Place, FURTHEST};
 use reference::shading::{self, Shader};
 use reference::sheets::{band, disc, squares, strip, FlatSample};
+use reference::split::is_split;
 
 /// How long the calls on one grid are repeated: so many milliseconds, or those
 /// of the first argument. A second argument is the front of the names of the
@@ -71,7 +75,7 @@ fn times<const N: usize>(patience: Duration, mut call: impl FnMut(usize)) -> [Ti
 /// How many triangles a grid has.
 fn triangles(grid: &Sample) -> usize {
     match mesh::mesh(grid.lists(&grid.starts()), &mut []) {
-        Ok(triangles) => triangles as usize,
+        Ok(answer) => answer.triangles as usize,
         Err(refusal) => refusal.place as usize,
     }
 }
@@ -93,11 +97,11 @@ fn mesh_times(grid: &Sample, room: usize, patience: Duration) -> [Times; WAYS] {
         }
         1 => {
             let answer = mesher.mesh(lists, &mut areas[1]);
-            assert_eq!(answer, Ok(needed as u32));
+            assert_eq!(answer.map(|a| a.triangles), Ok(needed as u64));
         }
         _ => {
             let answer = mesh::mesh(lists, &mut areas[2]);
-            assert_eq!(answer, Ok(needed as u32));
+            assert_eq!(answer.map(|a| a.triangles), Ok(needed as u64));
         }
     });
     assert!(areas[0] == areas[1] && areas[1] == areas[2]);
@@ -138,6 +142,32 @@ fn nearest_times(points: &[f64], patience: Duration) -> [Times; 2] {
         }
         _ => assert!(nearest::nearest(points, origin).is_ok()),
     })
+}
+
+/// Times of a grid's places in an area that has room for more: the proved call and
+/// the second implementation, which keeps no memory. Each has an area of its own.
+fn places_times(placing: &Placing, points: usize, patience: Duration) -> [Times; 2] {
+    let starts = placing.grid.starts();
+    let lists = placing.grid.lists(&starts);
+    let Placing {
+        nodes, fractions, ..
+    } = placing;
+    let mut bits = vec![0; 3 * points];
+    let mut numbers = vec![0.0; 3 * points];
+    let mut answer = [1; ANSWER_WORDS];
+    let placed = places::places(lists, nodes, fractions, &mut numbers).expect("room");
+    let times = times(patience, |way| match way {
+        0 => {
+            calls::places(lists, nodes, fractions, &mut bits, &mut answer);
+            assert_eq!(answer[..2], [0, placed]);
+        }
+        _ => {
+            let answer = places::places(lists, nodes, fractions, &mut numbers);
+            assert_eq!(answer, Ok(placed));
+        }
+    });
+    assert!(numbers.iter().map(|number| number.to_bits()).eq(bits));
+    times
 }
 
 /// Times of a grid's shading, or of finding that it has none. Each way has an
@@ -246,9 +276,7 @@ const BOOK: Told = Told {
         5 => answer[4],
         _ => 0,
     },
-    reference: |walker, counts| {
-        book(walker, counts).map_or(0, |booked| u64::from(booked.triangles))
-    },
+    reference: |walker, counts| book(walker, counts).map_or(0, |booked| booked.triangles),
 };
 
 const CASE: Told = Told {
@@ -332,7 +360,7 @@ impl Bench {
         let triangles = triangles(grid);
         println!("{name}: {}, {triangles} triangles", size(grid));
         let rooms = [
-            ("any mesh", grid.crossings_in_cells()),
+            ("any mesh", grid.most_triangles()),
             ("this mesh", triangles),
         ];
         for (text, room) in rooms {
@@ -459,15 +487,28 @@ impl Bench {
     }
 
     fn nearest(&self, name: &str, points: &[f64]) {
+        let size = format!("{} points", points.len() / 3);
+        self.pair(name, &size, |patience| nearest_times(points, patience));
+    }
+
+    /// The places call with room for the crossings and a point for each triangle.
+    fn places(&self, name: &str, placing: &Placing) {
+        let room = placing.fractions.len() + triangles(&placing.grid);
+        self.pair(name, &size(&placing.grid), |patience| {
+            places_times(placing, room, patience)
+        });
+    }
+
+    /// Times of calls beside a second implementation that keeps no memory.
+    fn pair(&self, name: &str, size: &str, measure: impl Fn(Duration) -> [Times; 2]) {
         if !name.starts_with(&self.only) {
             return;
         }
-        let [proved, reference] = nearest_times(points, self.patience);
+        let [proved, reference] = measure(self.patience);
         println!(
-            "{name}: {} points\n\
+            "{name}: {size}\n\
          \x20 best:   proved {:8.1} us; reference {:8.1} us, ratio {:.2}\n\
          \x20 median: proved {:8.1} us; reference {:8.1} us, ratio {:.2}",
-            points.len() / 3,
             proved.best,
             reference.best,
             proved.best / reference.best,
@@ -518,6 +559,47 @@ fn thousands(bench: &Bench) {
         bench.mesh(&format!("6 mesh, {name}"), &grid);
         bench.check(&format!("6 check, {name}"), &grid);
     }
+}
+
+/// Cells that are split, small and long ones, apart, in a sphere, and few among
+/// others, with the names of their grids.
+fn split_grids(rng: &mut Rng) -> Vec<(String, Sample)> {
+    let sphere = joined(rng, [Chain::Circle(40); 2], 0, [4, 6, 2]);
+    let mut apart = separate(300);
+    for counts in apart.counts.chunks_mut(6) {
+        counts.copy_from_slice(&spiral_cell(rng, 3, 30));
+    }
+    let one = [[400, 2], [400, 150], [1_220, 754]].map(|[d1, d2]| {
+        let long = joined(rng, [Chain::Row(2); 2], 0, [d1, d2, d1 + d2]);
+        (format!("one split cell, ({d1}, {d2})"), long)
+    });
+    let mut grids = vec![
+        ("split cells in a sphere, (4, 2)".to_string(), sphere),
+        ("split cells, up to 30".to_string(), apart),
+    ];
+    grids.extend(one);
+    let many = box_of_six([6, 5, 10]).with_counts(rng, 16, 24);
+    let in_cells = many.counts_in_cells();
+    let few = in_cells.iter().filter(|&&counts| is_split(counts)).count();
+    grids.push((format!("box, counts 16..24, {few} cells split"), many));
+    grids
+}
+
+/// Meshes, places and bookings of cells that are split.
+fn spirals(bench: &Bench) {
+    let mut rng = Rng::new(7);
+    let grids = split_grids(&mut rng);
+    let cells: Vec<[u16; 6]> = (0..1_000)
+        .map(|_| spiral_cell(&mut rng, 100, 4_000))
+        .collect();
+    for (name, grid) in &grids {
+        bench.mesh(&format!("12 mesh, {name}"), grid);
+    }
+    for (name, grid) in grids {
+        let placing = placing(&mut rng, grid, Kind::Any);
+        bench.places(&format!("12 places, {name}"), &placing);
+    }
+    bench.told(&BOOK, "12 book, split cells, up to 4,000", &cells);
 }
 
 /// All cells of the table.
@@ -663,7 +745,7 @@ fn main() {
          call, uncleared, or makes new ones. Triangle areas are written before the first round \
          and not cleared between rounds. An area has room for any mesh with so many crossings in \
          its cells, so that the proved call need not count first, or for this mesh alone. The \
-         nearest call and its reference keep nothing.",
+         nearest call and its reference keep nothing, nor does the reference's places call.",
         bench.patience
     );
     meshes(&bench);
@@ -677,4 +759,5 @@ fn main() {
     entries(&bench);
     settings(&bench);
     sheets(&bench);
+    spirals(&bench);
 }

@@ -6,7 +6,7 @@ use denote.Ref.{now}
 use Rattle.cell.specs.Fits.{nextAfter, areaAfter}
 use Rattle.cell.specs.Table.{tableCell}
 use Rattle.cell.specs.Walked.{Sized}
-use Rattle.cell.proofs.Fits.{Put, put-none, put-more}
+use Rattle.cell.proofs.Fits.{next-all, area-all, Put, put-none, put-more}
 use Rattle.cell.proofs.Using.{used-sized, sized-none, sized-on, sized-room}
 use Rattle.cell.proofs.drawing.put_in_all.Statement.{statement}
 use Rattle.cell.proofs.drawing.put_in_all.Tie as tie
@@ -33,7 +33,7 @@ loop-again : tie.Need-loop-again Inv-loop μ-loop
 loop-again c =
     let I = c .before .before .before .before .before .before .before .before .before .before .before .before .before .before .before .loop .inv in
     let w = c .before .before .before .before .before .before .before .before .put-in .ensures in
-    (omega arith, sized-on (I .1) (used-sized (w .1)), put-more _ _ (I .2) (c .before .before .before .before .before .before .before .before .before .before .before .before .before .counted-at .ensures .0) (w .0 .0) (w .0 .1))
+    (omega arith, sized-on (I .1) (used-sized (w .1)), put-more _ _ (I .2) (c .before .before .before .before .before .before .before .before .before .before .before .before .before .counted-at .ensures .0) (w .0 .0 ∙ next-all _ _ _) (w .0 .1 ∙ area-all _ _ _))
 
 returns : tie.Need-returns Inv-loop μ-loop
 returns c =

@@ -15,6 +15,7 @@ use Rattle.cell.specs.Level.{byEdge}
 use Rattle.cell.specs.Common.{isKnown}
 use Rattle.cell.specs.Table.{tableCell, takenCounts, walkedAt}
 use Rattle.cell.specs.Walked.{Sized}
+use Rattle.cell.proofs.Taken.{with-all}
 use Rattle.cell.proofs.Using.{used-sized, sized-none, sized-on, sized-room}
 use Rattle.cell.proofs.drawing.walked_in_all.Statement.{statement}
 use Rattle.cell.proofs.drawing.walked_in_all.Tie as tie
@@ -69,7 +70,7 @@ loop-again-2 c =
       sized-on (I .1) (used-sized (N .1)),
       walked (now (A .cells)) (now (A .counts)) (now (A .names)) (now (A .sides)) (now (A .starts)) (I .2)
           (ap (λ l. isKnown (byEdge l)) (sym (c .before .before .before .before .before .before .before .before .before .before .before .before .before .counts-at .ensures)) ∙ sym (c .before .before .before .before .before .before .before .before .before .before .before .before .is-known .ensures) ∙ c .before .before .before .before .before .before .before .before .before .before .before .if1 .left)
-          _ (N .0 .0 ∙ ap (λ v. length (cellTriangles v)) (c .before .before .before .before .before .before .before .before .before .before .counted-at .ensures .0)) (N .0 .1),
+          _ (N .0 .0 ∙ ap length (with-all _) ∙ ap (λ v. length (cellTriangles v)) (c .before .before .before .before .before .before .before .before .before .before .counted-at .ensures .0)) (N .0 .1),
     )
 
 returns : tie.Need-returns Inv-loop μ-loop

@@ -48,7 +48,7 @@ count-spec =
     (tie.spec
     Inv-loop
     μ-loop
-    (λ c κs. tt)
+    (λ c κs. c .before .before .before .pre .near)
     (λ c κs. c .before .before .before .before .before .pre .long .marks-long)
     loop-holds
     (λ c κs. going-lent (c .before .before .before .before .before .loop .inv .0) (omega arith))

@@ -67,7 +67,7 @@ write-all-spec =
     (tie.spec
     Inv-loop
     μ-loop
-    (λ c κs. tt)
+    (λ c κs. c .before .before .before .before .before .pre .0 .near)
     (λ c κs. c .before .before .before .before .before .before .pre .0 .all)
     (λ c κs. c .before .before .before .before .before .before .before .before .pre .0 .long .marks-long)
     loop-holds

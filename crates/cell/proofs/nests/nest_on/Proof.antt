@@ -9,7 +9,7 @@ returns : tie.Need-returns
 returns c = record {
   edge-is = c .before .before .before .before .pre .edge-is;
   count-is = λ l. on-count (c .before .before .before .before .pre) (c .before .before .before .count-on .ensures .0);
-  low-is = λ l. on-low (c .before .before .before .before .pre) (c .wide16 .ensures .0 ∙ c .before .start-of .ensures) (c .before .before .corner-on .ensures .0) (c .before .before .before .count-on .ensures .0);
+  low-is = λ l. on-low (c .before .before .before .before .pre) (c .wide32 .ensures .0 ∙ c .before .start-of .ensures) (c .before .before .corner-on .ensures .0) (c .before .before .before .count-on .ensures .0);
   few = c .before .before .before .count-on .ensures .1;
 }
 
@@ -21,6 +21,6 @@ nest-on-spec =
     (λ c κs. c .before .pre .edge-lt)
     (λ c κs. omega (arith, c .before .before .pre .edge-lt))
     (λ c κs. search needs)
-    (λ c. omega (arith, c .wide16 .ensures .1, c .before .before .corner-on .ensures .1, c .before .before .before .count-on .ensures .1))
-    (λ c. omega (arith, c .wide16 .ensures .1, c .before .before .corner-on .ensures .1, c .before .before .before .count-on .ensures .1))
+    (λ c. omega (arith, c .wide32 .ensures .1, c .before .before .corner-on .ensures .1, c .before .before .before .count-on .ensures .1))
+    (λ c. omega (arith, c .wide32 .ensures .1, c .before .before .corner-on .ensures .1, c .before .before .before .count-on .ensures .1))
     returns)

@@ -1,6 +1,8 @@
 use native.Mathlib.Omega.{arith}
-use mathlib.Core.Path.{_∙_}
+use Prim.Native.Nat.{_<_}
+use mathlib.Core.Path.{sym, _∙_, subst}
 use borrow.Author.Needs.{needs}
+use Rattle.cell.specs.Limits.{startLimit}
 use Rattle.cell.proofs.routes.run_of.Statement.{statement}
 use Rattle.cell.proofs.routes.run_of.Tie as tie
 
@@ -16,11 +18,11 @@ count-of-requires c κs = search needs
 start-of-requires : tie.Need-start-of-requires
 start-of-requires c κs = search needs
 
-wide16-requires : tie.Need-wide16-requires
-wide16-requires c κs = search needs
+wide32-requires : tie.Need-wide32-requires
+wide32-requires c κs = search needs
 
 returns : tie.Need-returns
-returns c = record { count-is = c .before .before .count-of .ensures; first-is = c .before .before .before .before .pre .1 (c .before .before .before .before .args .e) (omega (arith, c .before .before .before .before .pre .0)); start-is = c .wide16 .ensures .0 ∙ c .before .start-of .ensures; near = c .wide16 .ensures .1 }
+returns c = record { count-is = c .before .before .count-of .ensures; first-is = c .before .before .before .before .pre .1 .1 (c .before .before .before .before .args .e) (omega (arith, c .before .before .before .before .pre .0)); start-is = c .wide32 .ensures .0 ∙ c .before .start-of .ensures; near = subst (λ n. n < startLimit) (sym (c .wide32 .ensures .0 ∙ c .before .start-of .ensures)) (c .before .before .before .before .pre .1 .0 (c .before .before .before .before .args .e) (c .before .before .before .before .pre .0)) }
 
 pub run-of-spec : {M : Type 1} → statement M
 run-of-spec =
@@ -30,5 +32,5 @@ run-of-spec =
     element-copy-out-first
     count-of-requires
     start-of-requires
-    wide16-requires
+    wide32-requires
     returns)

@@ -9,7 +9,7 @@ use Rattle.cell.proofs.triangles.count_in.Tie as tie
 
 returns : tie.Need-returns
 returns c =
-    let e = no-triangles _ (sym (c .before .before .before .before .pre .all) ∙ c .if1 .taken) in
+    let e = no-triangles _ _ (sym (c .before .before .before .before .pre .all) ∙ c .if1 .taken) in
     ((sym (ap length e), omega arith), used-none _ _ _ _)
 
 count-requires : tie.Need-count-requires

@@ -1,8 +1,12 @@
 use native.Mathlib.Omega.{arith}
-use Prim.Native.Nat.{_-_}
-use mathlib.Core.Path.{refl, sym, _∙_}
-use Rattle.cell.specs.Triangles.{loopTriangles}
-use Rattle.cell.proofs.Using.{filled-same}
+use Prim.Native.Nat.{ℕ, _-_}
+use mathlib.Core.Path.{_≡_, refl, sym, _∙_, subst}
+use Rattle.cell.specs.declared.Cell.{Cell}
+use Rattle.cell.specs.declared.Nth.{Nth}
+use Rattle.cell.specs.Of.{Near}
+use Rattle.cell.specs.Nth.{nthOf, nthNumbers, nthAnswer}
+use Rattle.cell.specs.Triangles.{loopTriangles, cellTriangles}
+use Rattle.cell.proofs.Using.{filled-same, limited-near}
 use Rattle.cell.proofs.Going.{Going, going-start, going-in, going-lent, going-more, going-looped, going-part}
 use Rattle.cell.proofs.LoopTriangles.{traced-entry}
 use Rattle.cell.proofs.Taken.{two-four}
@@ -11,11 +15,19 @@ use Rattle.cell.proofs.Cells.{Seeking, seeking-none, seeking-more, tria
 use Rattle.cell.proofs.triangles.triangle_at.Statement.{statement}
 use Rattle.cell.proofs.triangles.triangle_at.Tie as tie
 
+-- what is found in a cell with its starts within the limit
+as-limited : (t : ℕ) {v w : Cell} {r : Nth} → v ≡ w → (r ≡ nthOf (cellTriangles v) t) × (nthNumbers r ≡ nthAnswer (cellTriangles v) t)
+    → (r ≡ nthOf (cellTriangles w) t) × (nthNumbers r ≡ nthAnswer (cellTriangles w) t)
+as-limited t {v} {w} {r} e h = subst (λ x. (r ≡ nthOf (cellTriangles x) t) × (nthNumbers r ≡ nthAnswer (cellTriangles x) t)) e h
+
 abbrev Inv-loop : tie.InvT-loop
-Inv-loop c t marks₀ halves₀ points₀ n routes left₀ p₀ marks halves points left p = Going c n routes marks₀ halves₀ points₀ marks halves points p × Seeking (loopTriangles c) t p left
+Inv-loop t marks₀ halves₀ points₀ v n routes left₀ p₀ marks halves points left p = Going v n routes marks₀ halves₀ points₀ marks halves points p × Seeking (loopTriangles v) t p left
 
 abbrev μ-loop : tie.MeasureT-loop
-μ-loop c t marks₀ halves₀ points₀ n routes left₀ p₀ marks halves points left p = n - p
+μ-loop t marks₀ halves₀ points₀ v n routes left₀ p₀ marks halves points left p = n - p
+
+routes-of-requires : tie.Need-routes-of-requires Inv-loop μ-loop
+routes-of-requires c κs = subst Near (sym (c .before .within .ensures)) (limited-near _)
 
 slice-aggregate-clear : tie.Need-slice-aggregate-clear Inv-loop μ-loop
 slice-aggregate-clear c = refl
@@ -48,7 +60,7 @@ triangle-of-requires : tie.Need-triangle-of-requires Inv-loop μ-loop
 triangle-of-requires c κs = let L = going-looped (c .before .before .before .before .before .before .before .before .before .before .before .before .before .before .before .before .loop .inv .0) (omega arith) (c .before .before .before .before .before .before .before .before .before .before .walk .ensures) in (looped-traced L, (looped-four L (c .before .before .before .before .before .before .in-two .ensures), omega (arith, c .before .before .before .before .before .many .ensures)))
 
 returns : tie.Need-returns Inv-loop μ-loop
-returns c = let L = going-looped (c .before .before .before .before .before .before .before .before .before .before .before .before .before .before .before .before .before .loop .inv .0) (omega arith) (c .before .before .before .before .before .before .before .before .before .before .before .walk .ensures) in triangle-here _ (c .before .before .before .before .before .before .before .before .before .before .before .before .before .before .before .before .before .loop .inv .1) (going-in (c .before .before .before .before .before .before .before .before .before .before .before .before .before .before .before .before .before .loop .inv .0) (omega arith)) _ (looped-loop L (c .before .before .before .before .before .before .before .in-two .ensures)) (omega (arith, looped-many L (c .before .before .before .before .before .before .before .in-two .ensures), c .before .before .before .before .before .before .many .ensures)) (traced-entry _ _ _ _ _ _ (omega (arith, c .before .before .before .before .before .before .many .ensures)) (c .triangle-of .ensures))
+returns c = let L = going-looped (c .before .before .before .before .before .before .before .before .before .before .before .before .before .before .before .before .before .loop .inv .0) (omega arith) (c .before .before .before .before .before .before .before .before .before .before .before .walk .ensures) in as-limited (c .before .before .before .before .before .before .before .before .before .before .before .before .before .before .before .before .before .before .before .before .before .before .before .before .args .t) (c .before .before .before .before .before .before .before .before .before .before .before .before .before .before .before .before .before .before .before .before .before .before .before .within .ensures) (triangle-here _ (c .before .before .before .before .before .before .before .before .before .before .before .before .before .before .before .before .before .loop .inv .1) (going-in (c .before .before .before .before .before .before .before .before .before .before .before .before .before .before .before .before .before .loop .inv .0) (omega arith)) _ (looped-loop L (c .before .before .before .before .before .before .before .in-two .ensures)) (omega (arith, looped-many L (c .before .before .before .before .before .before .before .in-two .ensures), c .before .before .before .before .before .before .many .ensures)) (traced-entry _ _ _ _ _ _ (omega (arith, c .before .before .before .before .before .before .many .ensures)) (c .triangle-of .ensures)))
 
 add-p : tie.Need-add-p Inv-loop μ-loop
 add-p c = omega (arith, c .before .before .before .before .before .before .before .before .before .before .before .before .loop .inv .0 .few)
@@ -57,7 +69,7 @@ loop-again : tie.Need-loop-again Inv-loop μ-loop
 loop-again c = (going-more (c .before .before .before .before .before .before .before .before .before .before .before .before .loop .inv .0) (omega arith) (c .before .before .before .before .before .before .walk .ensures), seeking-more _ (c .before .before .before .before .before .before .before .before .before .before .before .before .loop .inv .1) _ (c .before .many .ensures ∙ looped-many (going-looped (c .before .before .before .before .before .before .before .before .before .before .before .before .loop .inv .0) (omega arith) (c .before .before .before .before .before .before .walk .ensures)) (c .before .before .in-two .ensures)) (omega arith))
 
 returns-2 : tie.Need-returns-2 Inv-loop μ-loop
-returns-2 c = triangle-off _ (c .before .loop .inv .1) (omega (arith, c .before .loop .inv .0 .up, c .before .loop .inv .0 .all))
+returns-2 c = as-limited (c .before .before .before .before .before .before .before .before .args .t) (c .before .before .before .before .before .before .before .within .ensures) (triangle-off _ (c .before .loop .inv .1) (omega (arith, c .before .loop .inv .0 .up, c .before .loop .inv .0 .all)))
 
 pub triangle-at-spec : {M : Type 1} → statement M
 triangle-at-spec =
@@ -67,6 +79,7 @@ triangle-at-spec =
     μ-loop
     (λ c κs. tt)
     (λ c κs. tt)
+    routes-of-requires
     slice-aggregate-clear
     clear-requires
     loop-holds

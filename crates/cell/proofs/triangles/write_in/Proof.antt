@@ -10,7 +10,7 @@ use Rattle.cell.proofs.triangles.write_in.Tie as tie
 returns : tie.Need-returns
 unfolding gather
 returns c =
-    let e = no-triangles (c .before .before .before .before .before .args .c) (sym (c .before .before .before .before .before .pre .0 .all) ∙ c .if1 .taken) in
+    let e = no-triangles (c .before .before .before .before .before .args .c) 0 (sym (c .before .before .before .before .before .pre .0 .all) ∙ c .if1 .taken) in
     (rw e (omega arith, refl), used-none _ _ _ _)
 
 write-requires : tie.Need-write-requires

@@ -88,5 +88,4 @@ judge-spec =
     returns-4
     (λ c κs. search needs)
     returns-5
-    (λ c. search needs)
     returns-6)

@@ -1,0 +1,34 @@
+-- `booking::tables::crossings_in` meets its contract.
+use native.Mathlib.Omega.{arith}
+use borrow.Author.Needs.{needs}
+use Rattle.counting.specs.Range.{total}
+use Rattle.counting.specs.Pack.{pre}
+use Rattle.booking.proofs.tables.crossings_in.Statement.{statement}
+use Rattle.booking.proofs.tables.crossings_in.Tie as tie
+
+returns : tie.Need-returns
+unfolding pre total
+returns c = (omega arith, omega arith)
+
+pub crossings-in-spec : {M : Type 1} → statement M
+crossings-in-spec =
+    tie.close
+    (tie.spec
+    (λ c. search needs)
+    (λ c κs. search needs)
+    (λ c. search needs)
+    (λ c κs. search needs)
+    (λ c. search needs)
+    (λ c. search needs)
+    (λ c κs. search needs)
+    (λ c. search needs)
+    (λ c. search needs)
+    (λ c κs. search needs)
+    (λ c. search needs)
+    (λ c. search needs)
+    (λ c κs. search needs)
+    (λ c. search needs)
+    (λ c. search needs)
+    (λ c κs. search needs)
+    (λ c. search needs)
+    returns)

@@ -1,0 +1,35 @@
+-- `places::place_rest` meets its contract.
+use Prim.Native.Nat.{ℕ}
+use mathlib.Core.Path.{sym, ap, _∙_}
+use mathlib.Core.List.{List}
+use lib.Ieee.{Float}
+use denote.Ref.{now}
+use borrow.Author.Needs.{needs}
+use Rattle.cell.specs.Table.{drawnCells}
+use Rattle.split.specs.Spots.{cellsStored, middlesAtCell}
+use Rattle.places.specs.Work.{restWritten}
+use Rattle.places.proofs.Middles.{rest-same}
+use Rattle.places.proofs.place_rest.Statement.{statement}
+use Rattle.places.proofs.place_rest.Tie as tie
+
+returns : tie.Need-returns
+returns c = let A = c .before .before .before .before .before .before .before .before .before .before .args in c .before .before .write-middles .ensures ∙ rest-same (now (A .cells)) (now (A .counts)) (now (A .names)) (now (A .sides)) (now (A .starts)) (sym (c .before .before .before .before .before .before .before .before .before .before .pre) ∙ c .before .before .before .before .if1 .taken) (now (A .nodes)) (now (A .area)) (A .at)
+
+returns-2 : tie.Need-returns-2
+unfolding restWritten
+returns-2 c =
+    let A = c .before .before .before .before .before .before .before .before .before .before .before .before .before .before .args in
+    c .before .before .write-middles2 .ensures
+    ∙ ap (λ (w : List Float × ℕ). cellsStored (middlesAtCell (now (A .cells)) (now (A .counts)) (now (A .names)) (now (A .sides)) (now (A .starts)) (now (A .nodes))) (w .0) (w .1) (drawnCells (now (A .cells)))) (c .before .before .before .before .before .before .write-inner .ensures)
+
+pub place-rest-spec : {M : Type 1} → statement M
+place-rest-spec =
+    tie.close
+    (tie.spec
+    (λ c κs. tt)
+    (λ c. search needs)
+    returns
+    (λ c κs. tt)
+    (λ c κs. tt)
+    (λ c. search needs)
+    returns-2)

@@ -1,0 +1,104 @@
+-- The ends of edges, the edges of slots and the counts of the new edges, case by case as code finds them.
+use Prim.Native.Nat.{ℕ, _+_, _-_, _*_, _≤_, _<_, min, max}
+use mathlib.Core.Path.{_≡_, refl, sym, _∙_}
+use mathlib.Core.Logic.{_≢_}
+use native.Mathlib.Omega.{arith}
+use lib.Dec.{eqb}
+use borrow.Author.Tests.{eq-eqb, ne-eqb}
+use Rattle.counting.specs.Pick.{pick}
+use Rattle.counting.specs.Range.{total}
+use Rattle.counting.specs.Search.{seek, first}
+use Rattle.counting.specs.Pack.{pre}
+use Rattle.counting.proofs.Below.{below-three}
+use Rattle.slots.specs.Slots.{lo, hi, position, lower, upper, edgeBetween, slotEdge}
+use Rattle.cell.specs.Nodes.{joining}
+use Rattle.split.specs.Working.{spokeBy}
+use Rattle.split.proofs.Cases.{four, six}
+
+-- the lower and the upper end of an edge
+pub low-first : (e : ℕ) → e < 3 → 0 ≡ lo e
+unfolding lo
+low-first = below-three (λ e. 0 ≡ lo e) refl refl refl
+
+pub low-then : (e : ℕ) → 3 ≤ e → e < 5 → 1 ≡ lo e
+unfolding lo
+low-then e a b = six (λ e. 3 ≤ e → e < 5 → 1 ≡ lo e) (λ a b. absurd (omega arith)) (λ a b. absurd (omega arith)) (λ a b. absurd (omega arith)) (λ a b. refl) (λ a b. refl) (λ a b. absurd (omega arith)) e (omega arith) a b
+
+pub low-last : (e : ℕ) → 5 ≤ e → e < 6 → 2 ≡ lo e
+unfolding lo
+low-last e a b = let z : e ≡ 5 = omega arith in rw z refl
+
+pub high-first : (e : ℕ) → e < 3 → e + 1 ≡ hi e
+unfolding hi
+high-first = below-three (λ e. e + 1 ≡ hi e) refl refl refl
+
+pub high-then : (e : ℕ) → e ≡ 3 → 2 ≡ hi e
+unfolding hi
+high-then e z = rw z refl
+
+pub high-last : (e : ℕ) → 4 ≤ e → e < 6 → 3 ≡ hi e
+unfolding hi
+high-last e a b = six (λ e. 4 ≤ e → e < 6 → 3 ≡ hi e) (λ a b. absurd (omega arith)) (λ a b. absurd (omega arith)) (λ a b. absurd (omega arith)) (λ a b. absurd (omega arith)) (λ a b. refl) (λ a b. refl) e b a b
+
+-- the edge that joins two positions, by the lower and the higher of them
+abbrev byEnds : ℕ → ℕ → ℕ
+byEnds x y = pick (eqb x 0) (y - 1) (pick (eqb x 1) (y + 1) 5)
+
+joined : (a : ℕ) → a < 4 → (b : ℕ) → b < 4 → a ≢ b → joining a b ≡ byEnds (min a b) (max a b)
+unfolding joining edgeBetween first seek lo hi
+joined =
+    four (λ a. (b : ℕ) → b < 4 → a ≢ b → joining a b ≡ byEnds (min a b) (max a b))
+    (four (λ b. 0 ≢ b → joining 0 b ≡ byEnds (min 0 b) (max 0 b)) (λ n. absurd (n refl)) (λ n. refl) (λ n. refl) (λ n. refl))
+    (four (λ b. 1 ≢ b → joining 1 b ≡ byEnds (min 1 b) (max 1 b)) (λ n. refl) (λ n. absurd (n refl)) (λ n. refl) (λ n. refl))
+    (four (λ b. 2 ≢ b → joining 2 b ≡ byEnds (min 2 b) (max 2 b)) (λ n. refl) (λ n. refl) (λ n. absurd (n refl)) (λ n. refl))
+    (four (λ b. 3 ≢ b → joining 3 b ≡ byEnds (min 3 b) (max 3 b)) (λ n. refl) (λ n. refl) (λ n. refl) (λ n. absurd (n refl)))
+
+module _ {a b x y : ℕ} (la : a < 4) (lb : b < 4) (ne : a ≢ b) (ex : x ≡ min a b) (ey : y ≡ max a b) where
+  is : joining a b ≡ byEnds x y
+  is = joined a la b lb ne ∙ rw (ex, ey) refl
+
+  pub joined-first : x ≡ 0 → (y - 1 ≡ joining a b) × (y - 1 < 6)
+  joined-first z = (sym (is ∙ rw (eq-eqb x 0 z) refl), omega arith)
+
+  pub joined-then : x ≢ 0 → x ≡ 1 → (y + 1 ≡ joining a b) × (y + 1 < 6)
+  joined-then n z = (sym (is ∙ rw (ne-eqb x 0 n, eq-eqb x 1 z) refl), omega arith)
+
+  pub joined-last : x ≢ 0 → x ≢ 1 → (5 ≡ joining a b) × (5 < 6)
+  joined-last n m = (sym (is ∙ rw (ne-eqb x 0 n, ne-eqb x 1 m) refl), omega arith)
+
+-- the edges of a slot join its positions, which differ
+pub slot-joins : (p j : ℕ) → p < 4 → j < 3 → joining (position p (lower j)) (position p (upper j)) ≡ slotEdge p j
+unfolding joining slotEdge edgeBetween first seek lo hi position lower upper
+slot-joins p j lp lj =
+    four (λ p. (j : ℕ) → j < 3 → joining (position p (lower j)) (position p (upper j)) ≡ slotEdge p j)
+    (below-three (λ j. joining (position 0 (lower j)) (position 0 (upper j)) ≡ slotEdge 0 j) refl refl refl)
+    (below-three (λ j. joining (position 1 (lower j)) (position 1 (upper j)) ≡ slotEdge 1 j) refl refl refl)
+    (below-three (λ j. joining (position 2 (lower j)) (position 2 (upper j)) ≡ slotEdge 2 j) refl refl refl)
+    (below-three (λ j. joining (position 3 (lower j)) (position 3 (upper j)) ≡ slotEdge 3 j) refl refl refl)
+    p lp j lj
+
+pub slot-differs : (p j : ℕ) → p < 4 → j < 3 → position p (lower j) < position p (upper j)
+unfolding position lower upper
+slot-differs p j lp lj =
+    four (λ p. (j : ℕ) → j < 3 → position p (lower j) < position p (upper j))
+    (below-three (λ j. position 0 (lower j) < position 0 (upper j)) (omega arith) (omega arith) (omega arith))
+    (below-three (λ j. position 1 (lower j) < position 1 (upper j)) (omega arith) (omega arith) (omega arith))
+    (below-three (λ j. position 2 (lower j) < position 2 (upper j)) (omega arith) (omega arith) (omega arith))
+    (below-three (λ j. position 3 (lower j) < position 3 (upper j)) (omega arith) (omega arith) (omega arith))
+    p lp j lj
+
+-- the counts of the new edges, and their sums
+module _ (x y l : ℕ) where
+  pub spoke-at : (n : ℕ) → l ≡ n → spokeBy x y n ≡ spokeBy x y l
+  spoke-at n e = rw e refl
+
+  pub before-at : (n : ℕ) → l ≡ n → pre (spokeBy x y) n ≡ pre (spokeBy x y) l
+  before-at n e = rw e refl
+
+pub spokes-are : (x y : ℕ) → (2 * y ≡ spokeBy x y 0) × (x ≡ spokeBy x y 1) × (y ≡ spokeBy x y 2) × (x - y ≡ spokeBy x y 3)
+unfolding spokeBy
+spokes-are x y = (refl, refl, refl, refl)
+
+pub befores-are : (x y : ℕ) → (0 ≡ pre (spokeBy x y) 0) × (2 * y ≡ pre (spokeBy x y) 1) × (2 * y + x ≡ pre (spokeBy x y) 2) × (3 * y + x ≡ pre (spokeBy x y) 3)
+unfolding pre total spokeBy
+befores-are x y = (refl, omega arith, omega arith, omega arith)

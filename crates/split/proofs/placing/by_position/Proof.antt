@@ -1,0 +1,12 @@
+-- `split::placing::by_position` meets its contract.
+use mathlib.Core.Path.{refl}
+use Rattle.split.specs.Spots.{positioned}
+use Rattle.split.proofs.placing.by_position.Statement.{statement}
+use Rattle.split.proofs.placing.by_position.Tie as tie
+
+returns : tie.Need-returns
+unfolding positioned
+returns c = refl
+
+pub by-position-spec : {M : Type 1} → statement M
+by-position-spec = tie.close (tie.spec returns)

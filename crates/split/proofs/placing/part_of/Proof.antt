@@ -1,0 +1,25 @@
+-- `split::placing::part_of` meets its contract.
+use Prim.Native.Nat.{_+_}
+use mathlib.Core.Path.{ap, ap₂, _∙_}
+use lib.Ieee.{binary64, div}
+use borrow.Author.Needs.{needs}
+use Rattle.place.specs.Place.{floatOf}
+use Rattle.split.proofs.placing.part_of.Statement.{statement}
+use Rattle.split.proofs.placing.part_of.Tie as tie
+
+returns : tie.Need-returns
+returns c =
+    ap₂ (div binary64) (c .before .before .nearest-u64-to-f64 .ensures ∙ ap (λ n. floatOf (n + 1)) (c .before .before .before .wider .ensures))
+    (c .nearest-u64-to-f642 .ensures ∙ ap (λ n. floatOf (n + 1)) (c .before .wider2 .ensures))
+
+pub part-of-spec : {M : Type 1} → statement M
+part-of-spec =
+    tie.close
+    (tie.spec
+    (λ c κs. search needs)
+    (λ c. search needs)
+    (λ c κs. search needs)
+    (λ c κs. search needs)
+    (λ c. search needs)
+    (λ c κs. search needs)
+    returns)

@@ -1,0 +1,100 @@
+-- Only laws cite this file. Pieces that share segments, and their refinement: each piece replaced by parts. The pieces are those of `manifold`.
+use Prim.Native.Nat.{ℕ, _<_}
+use mathlib.Core.Path.{_≡_}
+use mathlib.Core.Logic.{_⊎_, _≢_}
+use Rattle.counting.specs.Pack.{pre, row, col}
+use Rattle.walk.specs.Darts.{half}
+use Rattle.manifold.specs.Triangle.{Side}
+use Rattle.manifold.specs.Piece.{Local, Piece, slotOf, segmentOf}
+use Rattle.manifold.specs.Complex.{Joins, SameEnds, Whole}
+
+pub record Family : Type 0 where
+  pub size : ℕ
+  pub at : ℕ → Local
+
+-- the piece A has the segment σ; it has a segment that ends at the crossing g
+pub record Runs (A : Local) (σ : Side) : Type 0 where
+  pub d : ℕ
+  pub on : Joins A d
+  pub is : segmentOf A d ≡ σ
+
+pub record Meets (A : Local) (g : ℕ) : Type 0 where
+  pub d : ℕ
+  pub on : Joins A d
+  pub is : A .number (half d) ≡ g
+
+-- the pieces A and B share a segment that ends at g
+pub record Shares (A B : Local) (g : ℕ) : Type 0 where
+  pub d : ℕ
+  pub e : ℕ
+  pub d-on : Joins A d
+  pub e-on : Joins B e
+  pub at-d : A .number (half d) ≡ g
+  pub at-e : B .number (half e) ≡ g
+  pub same : segmentOf A d ≡ segmentOf B e
+
+module _ (F : Family) where
+  -- a segment is in at most two pieces, and its name tells its ends
+  pub record Sound : Type 0 where
+    pub piece : (a : ℕ) → a < F .size → Piece (F .at a)
+    pub few : (σ : Side) (a b c : ℕ) → a < F .size → b < F .size → c < F .size → Runs (F .at a) σ → Runs (F .at b) σ → Runs (F .at c) σ
+        → a ≢ b → a ≢ c → b ≢ c → ⊥
+    pub ends : (a b d e : ℕ) → a < F .size → b < F .size → Joins (F .at a) d → Joins (F .at b) e → segmentOf (F .at a) d ≡ segmentOf (F .at b) e
+        → SameEnds (F .at a) d (F .at b) e
+
+  -- no curve ends, and each segment is in a second piece
+  pub record Closed : Type 0 where
+    pub whole : (a : ℕ) → a < F .size → Whole (F .at a)
+    pub paired : (a : ℕ) → a < F .size → (σ : Side) → Runs (F .at a) σ → (b : ℕ) × (b < F .size) × (b ≢ a) × Runs (F .at b) σ
+
+  -- the pieces at g are all linked through segments that end there
+  abbrev pub Linked : ℕ → Type 1
+  Linked g = (Q : ℕ → Type 0) → ((a b : ℕ) → a < F .size → b < F .size → Shares (F .at a) (F .at b) g → Q a → Q b)
+      → (a b : ℕ) → a < F .size → b < F .size → Meets (F .at a) g → Meets (F .at b) g → Q a → Q b
+
+-- the segment of the dart e of B is one of A's, with the same ends
+pub record Outer (A B : Local) (e : ℕ) : Type 0 where
+  pub d : ℕ
+  pub on : Joins A d
+  pub is : segmentOf B e ≡ segmentOf A d
+  pub ends : SameEnds B e A d
+
+-- a part with the segment of the dart d of A, at the same crossing
+pub record Covered (A : Local) (m : ℕ) (B : ℕ → Local) (d : ℕ) : Type 0 where
+  pub j : ℕ
+  pub j-lt : j < m
+  pub e : ℕ
+  pub on : Joins (B j) e
+  pub is : segmentOf (B j) e ≡ segmentOf A d
+  pub point : B j .number (half e) ≡ A .number (half d)
+
+-- the piece A in m parts. Some faces are inner ones, by their names, and some crossings are inner ones, by their numbers
+pub record Refines (A : Local) (m : ℕ) (B : ℕ → Local) (Face Point : ℕ → Type 0) : Type 1 where
+  pub piece : (j : ℕ) → j < m → Piece (B j)
+  pub whole : Whole A → (j : ℕ) → j < m → Whole (B j)
+  -- each segment of A is in exactly one part
+  pub cover : (d : ℕ) → Joins A d → Covered A m B d
+  pub once : (j k d : ℕ) → j < m → k < m → j ≢ k → Joins A d → Runs (B j) (segmentOf A d) → Runs (B k) (segmentOf A d) → ⊥
+  -- every other segment is on an inner face, and in exactly two parts
+  pub kind : (j e : ℕ) → j < m → Joins (B j) e → Outer A (B j) e ⊎ Face (B j .name (slotOf (B j) e))
+  pub inner-few : (j k l e : ℕ) → j < m → k < m → l < m → Joins (B j) e → Face (B j .name (slotOf (B j) e)) → Runs (B k) (segmentOf (B j) e) → Runs (B l) (segmentOf (B j) e)
+      → j ≢ k → j ≢ l → k ≢ l → ⊥
+  pub inner-ends : (j k d e : ℕ) → j < m → k < m → Joins (B j) d → Joins (B k) e → Face (B j .name (slotOf (B j) d)) → segmentOf (B j) d ≡ segmentOf (B k) e
+      → SameEnds (B j) d (B k) e
+  pub inner-paired : (j e : ℕ) → j < m → Joins (B j) e → Face (B j .name (slotOf (B j) e)) → (k : ℕ) × (k < m) × (k ≢ j) × Runs (B k) (segmentOf (B j) e)
+  -- a crossing of a part is one of A's or an inner one; the parts at a crossing are linked
+  pub points : (j g : ℕ) → j < m → Meets (B j) g → Meets A g ⊎ Point g
+  pub linked : (g : ℕ) → Linked (record { size = m; at = B }) g
+
+module _ (F : Family) (m : ℕ → ℕ) (B : ℕ → ℕ → Local) where
+  -- the parts of all pieces, in order
+  unfoldable pub fine : Family
+  fine = record { size = pre m (F .size); at = λ x. B (row m (F .size) x) (col m (F .size) x) }
+
+  -- every piece in parts; inner faces and inner crossings belong to their piece
+  pub record Refined (Face Point : ℕ → ℕ → Type 0) : Type 1 where
+    pub parts : (c : ℕ) → c < F .size → Refines (F .at c) (m c) (B c) (Face c) (Point c)
+    pub faces : (c b f : ℕ) → c < F .size → b < F .size → Face c f → Face b f → c ≡ b
+    pub inner : (c b s : ℕ) → c < F .size → b < F .size → s < F .at b .slots → Face c (F .at b .name s) → ⊥
+    pub points : (c b g : ℕ) → c < F .size → b < F .size → Point c g → Point b g → c ≡ b
+    pub apart : (c b g : ℕ) → c < F .size → b < F .size → Point c g → Meets (F .at b) g → ⊥

@@ -1,0 +1,83 @@
+-- Only laws cite this file. A split of a cell by its faces: the part that keeps the crossings that go with the corner triangles, and the four sub-cells.
+use Prim.Native.Nat.{ℕ, _+_, _≤_, _<_}
+use mathlib.Core.Path.{_≡_}
+use mathlib.Core.Logic.{_⊎_}
+use mathlib.Core.Bool.{Bool, true, _||_}
+use mathlib.Core.List.{[], _∷_}
+use lib.Dec.{ltb, leb}
+use lib.ListN.{getD}
+use Rattle.counting.specs.Pick.{pick}
+use Rattle.slots.specs.Slots.{lo, hi, slotEdge}
+use Rattle.manifold.specs.Piece.{Local}
+use Rattle.cell.specs.declared.Cell.{Cell}
+use Rattle.cell.specs.Cell.{crossings, edge, index}
+use Rattle.cell.specs.Of.{countOf, startOf, edgesOf}
+use Rattle.cell.specs.Claims.{Separate}
+use Rattle.cell.specs.Level.{isLevelCell}
+use Rattle.cell.specs.Polygons.{localOf}
+use Rattle.booking.specs.Booking.{leastCorner}
+use Rattle.split.specs.SubCell.{restCount, restStart, armCount, armStart, innerName}
+use Rattle.split.specs.Shown.{Facet}
+
+module _ (c : Cell) where
+  abbrev pub nameOf : ℕ → ℕ
+  nameOf s = getD (c .names) s 0
+
+  -- the face in slot s
+  abbrev pub facet : ℕ → Facet
+  facet s = record { size = λ j. countOf c (slotEdge s j); start = λ j. startOf c (slotEdge s j); name = nameOf s }
+
+  -- only rule 1 is met in the cell; numbers tell its crossings apart, and names its faces
+  pub record Firm : Type 0 where
+    pub level : isLevelCell (countOf c) ≡ true
+    pub separate : Separate (edgesOf c)
+    pub names : (s r : ℕ) → s < 4 → r < 4 → nameOf s ≡ nameOf r → s ≡ r
+
+  -- besides, its numbers are below b and its names below f
+  pub record Ready (b f : ℕ) : Type 0 where
+    pub firm : Firm
+    pub below : (k t : ℕ) → k < 6 → t < countOf c k → startOf c k + t < b
+    pub under : (s : ℕ) → s < 4 → nameOf s < f
+
+  -- the crossing with the number g goes with the corner triangles, or stays
+  pub record Went (g : ℕ) : Type 0 where
+    pub k : ℕ
+    pub t : ℕ
+    pub k-lt : k < 6
+    pub t-lt : t < countOf c k
+    pub gone : (t < leastCorner (countOf c) (lo k)) ⊎ (countOf c k ≤ t + leastCorner (countOf c) (hi k))
+    pub is : g ≡ startOf c k + t
+
+  pub record Stays (g : ℕ) : Type 0 where
+    pub k : ℕ
+    pub t : ℕ
+    pub k-lt : k < 6
+    pub low : leastCorner (countOf c) (lo k) ≤ t
+    pub high : t + leastCorner (countOf c) (hi k) < countOf c k
+    pub is : g ≡ startOf c k + t
+
+  -- the cell with the mates of the crossings that go alone
+  unfoldable pub goes : ℕ → Bool
+  goes x =
+      ltb (index (edgesOf c) x) (leastCorner (countOf c) (lo (edge (edgesOf c) x)))
+      || leb (countOf c (edge (edgesOf c) x)) (index (edgesOf c) x + leastCorner (countOf c) (hi (edge (edgesOf c) x)))
+
+  abbrev pub cut : Local
+  cut = record {
+    N = crossings (edgesOf c);
+    fa = localOf c .fa;
+    fb = localOf c .fb;
+    mate = λ s x. pick (goes x) (localOf c .mate s x) (crossings (edgesOf c));
+    number = localOf c .number;
+    slots = localOf c .slots;
+    name = localOf c .name;
+  }
+
+  module _ (b f : ℕ) where
+    -- the inner face over edge e
+    abbrev pub inside : ℕ → Facet
+    inside e = record {
+      size = λ i. getD (armCount c (lo e) ∷ armCount c (hi e) ∷ restCount c e ∷ []) i 0;
+      start = λ i. getD (armStart c b (lo e) ∷ armStart c b (hi e) ∷ restStart c e ∷ []) i 0;
+      name = innerName c f e;
+    }

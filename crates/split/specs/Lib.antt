@@ -1,0 +1,16 @@
+pub mod Limits
+pub mod Labels
+pub mod SubCell
+pub mod Parts
+pub mod Counted
+pub mod Standing
+pub mod Table
+pub mod Working
+pub mod Spots
+pub mod Gains
+pub mod Examples
+pub mod Family
+pub mod Shown
+pub mod Five
+pub mod Claims
+pub mod Owned

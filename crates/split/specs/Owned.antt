@@ -1,0 +1,145 @@
+-- Inner crossings and inner faces among those of all cells of a grid (02, W12): each belongs to its cell, and goes by its number or name there and by its
+-- cell. Outer ones keep their numbers and names. So two are told apart as 02 says, by numbers alone.
+use Prim.Native.Nat.{ℕ, _+_, _-_, _*_, _%_, _≤_, _<_}
+use mathlib.Core.Path.{_≡_}
+use mathlib.Core.Bool.{true, false}
+use mathlib.Core.List.{List, [], _∷_, map}
+use lib.Dec.{ltb}
+use lib.ListN.{length, getD}
+use Rattle.counting.specs.Pick.{pick}
+use Rattle.counting.specs.Range.{over}
+use Rattle.counting.specs.Lists.{tally, All}
+use Rattle.counting.specs.Pack.{pre, row, col}
+use Rattle.manifold.specs.Triangle.{Corner, cross, middle, Side, seg, inner}
+use Rattle.manifold.specs.Plain.{Tri, tri, hasSide}
+use Rattle.manifold.specs.Piece.{Local, slotOf, segmentOf}
+use Rattle.manifold.specs.Complex.{Complex, Joins, Lawful, Shut, Has, LinkedAt, mesh}
+use Rattle.grid.specs.Grid.{mostCells}
+use Rattle.cell.specs.declared.Cell.{Cell}
+use Rattle.cell.specs.Of.{countOf, startOf, edgesOf}
+use Rattle.cell.specs.Loop.{normal}
+use Rattle.cell.specs.Claims.{Separate}
+use Rattle.cell.specs.Polygons.{localOf, named}
+use Rattle.booking.specs.Booking.{larger, smaller, isSplit}
+use Rattle.split.specs.Limits.{firstInnerCrossing, firstInnerFace}
+use Rattle.booking.specs.Figures.{innerCrossings}
+use Rattle.split.specs.Parts.{Part, whole, allParts, drawnTriangles}
+use Rattle.split.specs.Family.{Family, Refined}
+use Rattle.split.specs.Five.{nameOf}
+use Rattle.split.specs.Claims.{partLocal, noPart, partCell}
+
+-- of the cell with the number `cell`, where the inner ones start at `first`
+unfoldable pub owned : (first cell : ℕ) → ℕ → ℕ
+owned first cell g = pick (ltb g first) g (first + (g - first) * mostCells + cell)
+
+-- corners and sides of triangles of the cell by these names. A middle and an inner side have word 0 in their names already
+abbrev pub ownedCorner : ℕ → Corner → Corner
+ownedCorner cell (cross g) = cross (owned firstInnerCrossing cell g)
+ownedCorner cell (middle w p) = middle w (owned firstInnerCrossing cell p)
+
+abbrev pub ownedSide : ℕ → Side → Side
+ownedSide cell (seg f g) = seg (owned firstInnerFace cell f) (owned firstInnerCrossing cell g)
+ownedSide cell (inner w p k) = inner w (owned firstInnerCrossing cell p) k
+
+abbrev pub ownedTri : ℕ → Tri → Tri
+ownedTri cell (tri a b c r s t) = tri (ownedCorner cell a) (ownedCorner cell b) (ownedCorner cell c) (ownedSide cell r) (ownedSide cell s) (ownedSide cell t)
+
+-- a piece with other numbers and names
+abbrev pub renamed : (number name : ℕ → ℕ) → Local → Local
+renamed number name A = record {
+  N = A .N;
+  fa = A .fa;
+  fb = A .fb;
+  mate = A .mate;
+  number = λ x. number (A .number x);
+  slots = A .slots;
+  name = λ s. name (A .name s);
+}
+
+-- a part of a cell as a piece of the complex of all cells
+abbrev pub ofCell : ℕ → Local → Local
+ofCell cell A = renamed (owned firstInnerCrossing cell) (owned firstInnerFace cell) A
+
+-- the parts that are drawn of a cell of a grid: those of its split, or the cell whole
+unfoldable pub drawnParts : Cell → List Part
+drawnParts c =
+    elim (isSplit (countOf c)) [
+      | true ↦ allParts c
+      | false ↦ whole c ∷ []
+    ]
+
+-- what is asked of a cell of a grid: numbers and names tell its crossings and faces apart, and are below those of inner ones
+pub record Fit (c : Cell) : Type 0 where
+  pub separate : Separate (edgesOf c)
+  pub names : (s r : ℕ) → s < 4 → r < 4 → nameOf c s ≡ nameOf c r → s ≡ r
+  pub below : (k t : ℕ) → k < 6 → t < countOf c k → startOf c k + t < firstInnerCrossing
+  pub under : (s : ℕ) → s < 4 → nameOf c s < firstInnerFace
+
+-- The cells of a grid as a family and as a complex, and their drawn parts as that which refines it
+module _ (size : ℕ) (cells : ℕ → Cell) where
+  abbrev pub cellFamily : Family
+  cellFamily = record { size = size; at = λ k. localOf (cells k) }
+
+  abbrev pub cellComplex : Complex
+  cellComplex = record { pieces = size; at = λ k. localOf (cells k); tag = λ k. k; normal = λ k p. normal (edgesOf (cells k)) p }
+
+  abbrev pub partCount : ℕ → ℕ
+  partCount k = length (drawnParts (cells k))
+
+  abbrev pub partOf : ℕ → ℕ → Local
+  partOf k j = ofCell k (partLocal (getD (drawnParts (cells k)) j noPart))
+
+  -- inner faces and crossings of cell k, with their cell
+  abbrev pub InnerFaces : ℕ → ℕ → Type 0
+  InnerFaces k f = (x : ℕ) × (firstInnerFace ≤ x) × (f ≡ owned firstInnerFace k x)
+
+  abbrev pub InnerCrossings : ℕ → ℕ → Type 0
+  InnerCrossings k g = (x : ℕ) × (firstInnerCrossing ≤ x) × (g ≡ owned firstInnerCrossing k x)
+
+  -- all drawn parts as the pieces of one complex, whose middles and inner sides go by word 0
+  abbrev pub partAt : ℕ → Part
+  partAt x = getD (drawnParts (cells (row partCount size x))) (col partCount size x) noPart
+
+  abbrev pub gridComplex : Complex
+  gridComplex = record {
+    pieces = pre partCount size;
+    at = λ x. partOf (row partCount size x) (col partCount size x);
+    tag = λ x. partCell (partAt x) .index;
+    normal = λ x p. normal (edgesOf (partCell (partAt x))) p;
+  }
+
+-- each cell of a grid is refined by its parts, and inner faces and crossings belong to their cell
+abbrev pub CellsRefined : Type 1
+CellsRefined = (size : ℕ) (cells : ℕ → Cell) → size ≤ mostCells → ((k : ℕ) → k < size → Fit (cells k))
+    → Refined (cellFamily size cells) (partCount size cells) (partOf size cells) (InnerFaces size cells) (InnerCrossings size cells)
+
+-- So the complex of all drawn parts is lawful, shut and linked at a crossing where that of the cells as they are is; it is always linked at an inner
+-- crossing, and has each inner crossing of each split cell
+pub record GridLaws (size : ℕ) (cells : ℕ → Cell) : Type 1 where
+  pub lawful : Lawful (cellComplex size cells) → Lawful (gridComplex size cells)
+  pub shut : Lawful (cellComplex size cells) → Shut (cellComplex size cells) → Shut (gridComplex size cells)
+  pub linked : Lawful (cellComplex size cells) → (g : ℕ) → LinkedAt (cellComplex size cells) g → LinkedAt (gridComplex size cells) g
+  pub inner-linked : Lawful (cellComplex size cells) → (g : ℕ) → firstInnerCrossing ≤ g → LinkedAt (gridComplex size cells) g
+  pub inner-has : (k g : ℕ) → k < size → isSplit (countOf (cells k)) ≡ true → firstInnerCrossing ≤ g
+      → g < firstInnerCrossing + innerCrossings (larger (countOf (cells k))) (smaller (countOf (cells k))) → (x : ℕ) × Has (gridComplex size cells) (owned firstInnerCrossing k g) x
+  -- a crossing of a cell that is joined there is one of the complex
+  pub outer-has : (g k : ℕ) → Has (cellComplex size cells) g k → (x : ℕ) × Has (gridComplex size cells) g x
+  -- a segment of an inner face is in exactly two triangles, whether the complex is shut or not
+  pub inner-two : Lawful (cellComplex size cells) → (x d : ℕ) → x < gridComplex size cells .pieces → Joins (gridComplex size cells .at x) d
+      → firstInnerFace ≤ gridComplex size cells .at x .name (slotOf (gridComplex size cells .at x) d)
+      → tally (hasSide (segmentOf (gridComplex size cells .at x) d)) (mesh (gridComplex size cells)) ≡ 2
+
+abbrev pub GridSplit : Type 1
+GridSplit = (size : ℕ) (cells : ℕ → Cell) → size ≤ mostCells → ((k : ℕ) → k < size → Fit (cells k)) → ((k : ℕ) → k < size → cells k .index ≡ k) → GridLaws size cells
+
+-- and its mesh is the triangles drawn of all cells
+abbrev pub GridMeshed : Type 0
+GridMeshed = (size : ℕ) (cells : ℕ → Cell) → over (λ k. map (ownedTri k) (map named (drawnTriangles (cells k)))) size 0 ≡ mesh (gridComplex size cells)
+
+-- word 0 of each triangle that is drawn of a cell tells the cell
+abbrev pub DrawnOwned : Type 0
+DrawnOwned = (c : Cell) → c .index < mostCells → All (λ t. t .cell % mostCells ≡ c .index) (drawnTriangles c)
+
+-- there are such cells that are split
+abbrev pub Happens : Type 0
+Happens = (c : Cell) × Fit c × (isSplit (countOf c) ≡ true)
