@@ -23,13 +23,13 @@
  * - A processor of the kind x86-64, with no extension beyond SSE2, and the
  *   System V calling convention, as Linux has it.
  * - Of C's functions memcpy and memset, at most.
- * - Stack: CITTERNBLAZE_STACK_BYTES suffice for any call. As measured, the seven
- *   calls on a grid take 264 to 483 KB where no split is inside another; with the
+ * - Stack: CITTERNBLAZE_STACK_BYTES suffice for any call. As measured, the nine
+ *   calls on a grid take 264 to 545 KB where no split is inside another; with the
  *   2,045 splits of d1 4092 and d2 2, one inside the other, the mesh call takes
- *   1,252 KB and the places call 2,160 KB. The chains call of a flat grid takes
- *   916 KB, its check 148 KB, the bundle reader 148 KB, citternblaze_case 2 KB,
- *   each other call under 1 KB. What a call's text below says it takes is tested
- *   on a thread with exactly that stack.
+ *   1,252 KB, the run call 1,365 KB, the joined call 1,493 KB and the places call
+ *   2,160 KB. The chains call of a flat grid takes 916 KB, its check 148 KB, the
+ *   bundle reader 148 KB, citternblaze_case 2 KB, each other call under 1 KB. What a
+ *   call's text below says it takes is tested on a thread with exactly that stack.
  * - For citternblaze_places and citternblaze_nearest, 64-bit floating point as a C
  *   program finds it at its start: rounding to nearest, subnormal numbers on (no
  *   flush to zero), no exception trapped. The other calls do not compute with it.
@@ -123,8 +123,8 @@
 
 /* The refusals: the first number of an answer that is not a result. The second is
  * the refusal's place, as docs/FORMAT.md has it. They are judged in the order of
- * their numbers, but 18 directly after 6, and 22 directly after 13; of a setting
- * 21, 18 and 10, after those of its grid. */
+ * their numbers, but 18 directly after 6, 22 directly after 13, and 25 and 26
+ * directly after 10; of a setting 21, 18 and 10, after those of its grid. */
 #define CITTERNBLAZE_REFUSED_CELL_LIST 1     /* cells: length or number */
 #define CITTERNBLAZE_REFUSED_EDGE_LIST 2     /* edges, starts: length, sums */
 #define CITTERNBLAZE_REFUSED_CELL_NODES 3    /* a cell's nodes */
@@ -149,6 +149,8 @@
 #define CITTERNBLAZE_REFUSED_LOOK 22         /* a look for no edge */
 #define CITTERNBLAZE_REFUSED_POINTS 23       /* nearest: list or number */
 #define CITTERNBLAZE_REFUSED_CHAIN_AREA 24   /* area too short for the chains */
+#define CITTERNBLAZE_REFUSED_CUTS 25         /* cuts: order, or no cell's number */
+#define CITTERNBLAZE_REFUSED_NO_RUN 26       /* no such run */
 
 #ifdef __cplusplus
 extern "C" {
@@ -284,6 +286,55 @@ size_t citternblaze_mesh(const uint16_t *cells, size_t cells_len,
                          const uint32_t *starts, size_t starts_len,
                          uint32_t *area, size_t area_len,
                          uint64_t *answer, size_t answer_len);
+
+/* The run call. Writes the triangles of one run of a grid at the front of the area,
+ * and keeps the area beyond them. Cuts part the cells of a grid, in their order,
+ * into runs: each cut is the number of the first cell of a run, and run 0, which
+ * has no cut, starts at cell 0.
+ *
+ * Reads the whole grid, as citternblaze_check does; the cuts; and the number of the
+ * run that is asked for, from 0.
+ *
+ * The words are those that citternblaze_mesh writes for the run as a grid of its
+ * own: its cells numbered from 0, the edges of its cells alone, in the order of the
+ * whole, its own crossing numbers and its own names of faces. The whole must pass
+ * every row of the check, but the run need not pass 9.
+ *
+ * Answers 0, the number of triangles and the number of splits; or the number and
+ * the place of a refusal: 1 to 10 and 18 as citternblaze_check has them for the
+ * whole; 25 and the index of the lowest cut that is not above the one before it,
+ * not above 0, or not below the number of cells; 26 and the run, where there are no
+ * more runs than its number; 12 and the triangles of the run, where the area is too
+ * short. A refusal keeps every word of the area. Takes up to 1536 KB of the stack,
+ * and up to 640 KB where no split is inside another. */
+size_t citternblaze_mesh_run(const uint16_t *cells, size_t cells_len,
+                             const uint16_t *edges, size_t edges_len,
+                             const uint16_t *counts, size_t counts_len,
+                             const uint32_t *starts, size_t starts_len,
+                             const uint16_t *cuts, size_t cuts_len, size_t run,
+                             uint32_t *area, size_t area_len,
+                             uint64_t *answer, size_t answer_len);
+
+/* The joined call. Makes the mesh of each run, as citternblaze_mesh_run does, writes
+ * them one after the other, and puts the names of the whole in place of the run's
+ * own for cells, crossings and faces; inner names of split cells stay. Where no cut
+ * is refused, it writes the same words and answers the same numbers as
+ * citternblaze_mesh.
+ *
+ * Reads the whole grid and the cuts, as citternblaze_mesh_run does.
+ *
+ * Answers 0, the number of triangles and the number of splits; or the number and
+ * the place of a refusal: 1 to 10, 18 and 25 as citternblaze_mesh_run has them, or 12
+ * and the triangles of all runs, where the area is too short. A refusal keeps every
+ * word of the area. Takes up to 1792 KB of the stack, and up to 768 KB where no
+ * split is inside another. */
+size_t citternblaze_mesh_joined(const uint16_t *cells, size_t cells_len,
+                                const uint16_t *edges, size_t edges_len,
+                                const uint16_t *counts, size_t counts_len,
+                                const uint32_t *starts, size_t starts_len,
+                                const uint16_t *cuts, size_t cuts_len,
+                                uint32_t *area, size_t area_len,
+                                uint64_t *answer, size_t answer_len);
 
 /* The loops call. One loop of a cell; a cell's loops are ordered by their least
  * crossings.

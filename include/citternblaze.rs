@@ -94,6 +94,41 @@ extern "C" {
         answer_len: usize,
     ) -> usize;
 
+    pub fn citternblaze_mesh_run(
+        cells: *const u16,
+        cells_len: usize,
+        edges: *const u16,
+        edges_len: usize,
+        counts: *const u16,
+        counts_len: usize,
+        starts: *const u32,
+        starts_len: usize,
+        cuts: *const u16,
+        cuts_len: usize,
+        run: usize,
+        area: *mut u32,
+        area_len: usize,
+        answer: *mut u64,
+        answer_len: usize,
+    ) -> usize;
+
+    pub fn citternblaze_mesh_joined(
+        cells: *const u16,
+        cells_len: usize,
+        edges: *const u16,
+        edges_len: usize,
+        counts: *const u16,
+        counts_len: usize,
+        starts: *const u32,
+        starts_len: usize,
+        cuts: *const u16,
+        cuts_len: usize,
+        area: *mut u32,
+        area_len: usize,
+        answer: *mut u64,
+        answer_len: usize,
+    ) -> usize;
+
     pub fn citternblaze_loops(
         cells: *const u16,
         cells_len: usize,

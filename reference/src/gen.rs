@@ -553,6 +553,149 @@ pub fn random_shape(rng: &mut Rng) -> Sample {
     }
 }
 
+/// A whole grid and the cells at which it is cut into runs.
+#[derive(Clone, Debug, PartialEq, Eq)]
+pub struct Layered {
+    pub whole: Sample,
+    pub cuts: Vec<u16>,
+}
+
+impl Sample {
+    /// The grid with random cuts.
+    pub fn cut(self, rng: &mut Rng) -> Layered {
+        let cuts = random_cuts(rng, self.cells.len() / 4);
+        Layered { whole: self, cuts }
+    }
+}
+
+impl Layered {
+    /// The first cell of each run and, at the end, the number of cells.
+    pub fn bounds(&self) -> Vec<usize> {
+        let inner = self.cuts.iter().map(|&cut| usize::from(cut));
+        let bounds = std::iter::once(0).chain(inner);
+        bounds.chain([self.whole.cells.len() / 4]).collect()
+    }
+
+    /// A run by itself: its cells, and those edges of the whole that lie in one of
+    /// them.
+    pub fn run_alone(&self, run: usize) -> Sample {
+        let bounds = self.bounds();
+        let mut alone = Sample {
+            cells: self.whole.cells[4 * bounds[run]..4 * bounds[run + 1]].to_vec(),
+            edges: Vec::new(),
+            counts: Vec::new(),
+        };
+        for (ends, &count) in self.whole.edges.chunks(2).zip(&self.whole.counts) {
+            let has_it = |cell: &[u16]| ends.iter().all(|node| cell.contains(node));
+            if alone.cells.chunks(4).any(has_it) {
+                alone.edges.extend(ends);
+                alone.counts.push(count);
+            }
+        }
+        alone
+    }
+}
+
+/// The cuts between all cells of a grid with so many.
+pub fn all_cuts(cells: usize) -> Vec<u16> {
+    (1..cells as u16).collect()
+}
+
+/// Some of the cuts between cells: none, one, all, or about so many of every
+/// 100.
+pub fn random_cuts(rng: &mut Rng, cells: usize) -> Vec<u16> {
+    let all = all_cuts(cells);
+    let share = rng.between(1, 99);
+    match rng.below(8) {
+        _ if all.is_empty() => all,
+        0 => all,
+        1 => Vec::new(),
+        2 => vec![all[rng.below(all.len())]],
+        _ => all.into_iter().filter(|_| rng.below(100) < share).collect(),
+    }
+}
+
+/// Cuts with one fault or several.
+pub fn broken_cuts(rng: &mut Rng, cells: usize) -> Vec<u16> {
+    let mut cuts = random_cuts(rng, cells);
+    loop {
+        let at = rng.below(cuts.len() + 1);
+        let beyond = cells as u16 + [0, 1, rng.below(60_000) as u16][rng.below(3)];
+        match rng.below(5) {
+            0 => cuts.insert(at, 0),
+            1 => cuts.insert(at, beyond),
+            2 => cuts.insert(at, u16::MAX - rng.below(2) as u16),
+            3 if at < cuts.len() => cuts.insert(at, cuts[at]),
+            4 if at + 1 < cuts.len() => cuts.swap(at, at + 1),
+            _ => continue,
+        }
+        let within = cuts.iter().all(|&cut| cut > 0 && usize::from(cut) < cells);
+        let fine = within && cuts.windows(2).all(|pair| pair[0] < pair[1]);
+        if !fine && rng.coin() {
+            return cuts;
+        }
+    }
+}
+
+/// Cells all the way round edge 0 1, first every second one and then, from the
+/// only cut on, the others. With two pairs or more no run passes row 9 alone.
+pub fn parted_fan(pairs: u16) -> Layered {
+    let cells = 2 * pairs;
+    let wedge = |k: u16| {
+        let [here, next] = [2 + k, 2 + (k + 1) % cells];
+        [0, 1, here.min(next), here.max(next)]
+    };
+    let order = (0..cells).step_by(2).chain((1..cells).step_by(2));
+    Layered {
+        whole: Sample {
+            cells: order.flat_map(wedge).collect(),
+            ..closed_fan(cells)
+        },
+        cuts: vec![pairs],
+    }
+}
+
+/// A random accepted grid with random cuts. Often the cells of an edge are far
+/// apart in the list, so that runs come that do not pass row 9 alone; some
+/// grids have cells that are split.
+pub fn layered(rng: &mut Rng) -> Layered {
+    let size = [(); 3].map(|()| rng.between(2, 3));
+    let circles = [(); 2].map(|()| Chain::Circle(2 * rng.between(2, 4)));
+    let whole = match rng.below(7) {
+        0 => {
+            let pairs = rng.between(2, 12) as u16;
+            let fan = parted_fan(pairs).whole.with_counts(rng, 0, 3);
+            let cuts = vec![pairs];
+            return Layered { whole: fan, cuts };
+        }
+        1 => spiral_join(rng, circles, 2, 12),
+        2 => box_of_six(size).with_closed_spirals(rng, 12, 2),
+        3 => sphere(size).with_closed_spirals(rng, 12, 1),
+        4 => random_shape(rng).with_even_counts(rng, 3),
+        5 => random_shape(rng).with_closed_counts(rng, 3),
+        _ => random_shape(rng).with_counts(rng, 0, 5),
+    };
+    match rng.coin() {
+        true => whole.reordered(rng).cut(rng),
+        false => whole.cut(rng),
+    }
+}
+
+/// A grid of 2,048 cells with random cuts.
+pub fn deep(rng: &mut Rng) -> Layered {
+    let most = MAX_CELLS as u16;
+    let whole = match rng.below(4) {
+        0 => row_of(most).with_counts(rng, 0, 9),
+        1 => ring(most).with_even_counts(rng, 4),
+        2 => closed_fan(most).with_closed_counts(rng, 4),
+        _ => spiral_join(rng, [32, 64].map(Chain::Circle), 1, 9),
+    };
+    match rng.coin() {
+        true => whole.reordered(rng).cut(rng),
+        false => whole.cut(rng),
+    }
+}
+
 /// The grid with a fault of the given row of the grid check and none of a row
 /// that runs earlier; none if the grid has no room for it.
 pub fn broken(rng: &mut Rng, sample: &Sample, row: u8) -> Option<Sample> {

@@ -44,7 +44,7 @@ impl Lists<'_> {
         self.cells.len() / 4
     }
 
-    fn edge(&self, edge: usize) -> [u16; 2] {
+    pub fn edge(&self, edge: usize) -> [u16; 2] {
         [self.edges[2 * edge], self.edges[2 * edge + 1]]
     }
 }
@@ -149,17 +149,29 @@ impl GridTables {
         self.check_rest(lists)
     }
 
+    /// As `check`, without row 9: the cells of an edge may have come apart.
+    pub fn check_run(&mut self, lists: Lists) -> Result<u32, Refusal> {
+        check_lengths(lists)?;
+        check_starts(lists)?;
+        self.check_before_stars(&lists)?;
+        count_crossings(&lists)
+    }
+
     /// The rows after 2.
     fn check_rest(&mut self, lists: Lists) -> Result<u32, Refusal> {
-        let lists = &lists;
+        self.check_before_stars(&lists)?;
+        self.check_stars()?;
+        count_crossings(&lists)
+    }
+
+    /// The rows after 2 and before 9.
+    fn check_before_stars(&mut self, lists: &Lists) -> Result<(), Refusal> {
         check_nodes(lists)?;
         self.check_repeated_cells(lists)?;
         self.pair_faces(lists)?;
         self.index_edges(lists)?;
         check_counts(lists)?;
-        self.find_cell_edges(lists)?;
-        self.check_stars()?;
-        count_crossings(lists)
+        self.find_cell_edges(lists)
     }
 
     /// Row 4.

@@ -13,6 +13,8 @@ pub mod booking;
 
 pub mod split;
 
+pub mod layers;
+
 pub mod bundle;
 pub mod cases;
 

@@ -70,19 +70,47 @@ pub fn loop_of_cell(lists: Lists, cell: u64, index: u64) -> Result<Option<LoopAn
     Mesher::default().loop_of_cell(lists, cell, index)
 }
 
+/// Row 12: an area must have room for so many triangles.
+pub(crate) fn check_area(area: &[u32], triangles: u64) -> Result<(), Refusal> {
+    if ((area.len() / TRIANGLE_WORDS) as u64) < triangles {
+        return refuse(12, triangles as usize);
+    }
+    Ok(())
+}
+
 impl Mesher {
     /// As the free function, with this memory.
     pub fn mesh(&mut self, lists: Lists, area: &mut [u32]) -> Result<MeshAnswer, Refusal> {
         self.tables.check(lists)?;
-        let triangles = self.trace_grid(&lists);
-        if ((area.len() / TRIANGLE_WORDS) as u64) < triangles {
-            return refuse(12, triangles as usize);
-        }
-        self.write_triangles(&lists, area);
-        Ok(MeshAnswer {
-            triangles,
+        self.mesh_checked(&lists, area)
+    }
+
+    /// The mesh of a run of an accepted grid, which need not pass row 9.
+    pub(crate) fn mesh_run(&mut self, run: Lists, area: &mut [u32]) -> Result<MeshAnswer, Refusal> {
+        self.tables.check_run(run)?;
+        self.mesh_checked(&run, area)
+    }
+
+    /// The triangles and splits of a run of an accepted grid.
+    pub(crate) fn count_run(&mut self, run: Lists) -> Result<MeshAnswer, Refusal> {
+        self.tables.check_run(run)?;
+        Ok(self.count_checked(&run))
+    }
+
+    /// Row 12 and the triangles of the grid that the tables are of.
+    fn mesh_checked(&mut self, lists: &Lists, area: &mut [u32]) -> Result<MeshAnswer, Refusal> {
+        let answer = self.count_checked(lists);
+        check_area(area, answer.triangles)?;
+        self.write_triangles(lists, area);
+        Ok(answer)
+    }
+
+    /// Traces the grid that the tables are of.
+    fn count_checked(&mut self, lists: &Lists) -> MeshAnswer {
+        MeshAnswer {
+            triangles: self.trace_grid(lists),
             splits: self.split_totals.splits,
-        })
+        }
     }
 
     /// Gives the triangles of a grid one after another; the answer is as that of

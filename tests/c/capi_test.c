@@ -290,6 +290,63 @@ static void test_mesh(void) {
   mesh("mesh, answer area of 0", twice, 8, WORDS, 0);
 }
 
+/* The cells 0 1 2 3, 0 1 4 5 and 0 1 3 4, of which the first two share the edge 0 1
+ * and no face; a corner at node 0 in each. */
+static const uint16_t chain[] = {0, 1, 2, 3, 0, 1, 4, 5, 0, 1, 3, 4};
+static const uint16_t chain_edges[] = {0, 1, 0, 2, 0, 3, 0, 4, 0, 5, 1, 2,
+                                       1, 3, 1, 4, 1, 5, 2, 3, 3, 4, 4, 5};
+static const uint16_t chain_counts[12] = {1, 1, 1, 1, 1};
+
+#define JOINED SIZE_MAX
+
+/* One run of these cells, or all joined, in an area of area_len words. */
+static void run(const char *call, const uint16_t *cuts, size_t cuts_len,
+                size_t asked, size_t area_len, size_t answer_len) {
+  uint32_t area[34];
+  memset(area, 0xa5, sizeof area);
+  if (asked == JOINED)
+    show(call, citternblaze_mesh_joined(chain, 12, chain_edges, 24, chain_counts,
+                                        12, sums(chain_counts, 12), 12, cuts,
+                                        cuts_len, area, area_len, answer,
+                                        answer_len));
+  else
+    show(call, citternblaze_mesh_run(chain, 12, chain_edges, 24, chain_counts, 12,
+                                     sums(chain_counts, 12), 12, cuts, cuts_len,
+                                     asked, area, area_len, answer, answer_len));
+  printf("  area");
+  for (size_t i = 0; i < 34; i++) {
+    if (area[i] == UINT32_C(0xa5a5a5a5))
+      printf(" -");
+    else
+      printf(" %" PRIu32, area[i]);
+  }
+  printf("\n");
+}
+
+static void test_runs(void) {
+  static const uint16_t two[] = {2}, one_two[] = {1, 2}, falls[] = {2, 1};
+  static const uint16_t zero[] = {0}, three[] = {1, 3};
+  run("run 0 of 2, apart at an edge", two, 1, 0, 34, ROOM);
+  run("run 1 of 2", two, 1, 1, 34, ROOM);
+  run("run 2 of 3", one_two, 2, 2, 34, ROOM);
+  run("run 0, no cuts", NULL, 0, 0, 34, ROOM);
+  run("joined, no cuts", NULL, 0, JOINED, 34, ROOM);
+  run("joined from 2", two, 1, JOINED, 34, ROOM);
+  run("joined from 3", one_two, 2, JOINED, 33, ROOM);
+  run("run 0 of 2, area of 21", two, 1, 0, 21, ROOM);
+  run("run 1 of 2, area of 10", two, 1, 1, 10, ROOM);
+  run("joined, area of 32", two, 1, JOINED, 32, ROOM);
+  run("run 2 of 2", two, 1, 2, 34, ROOM);
+  run("the highest run but one", two, 1, SIZE_MAX - 1, 0, ROOM);
+  run("run 5, a cut of 0", zero, 1, 5, 0, ROOM);
+  run("run 0, falling cuts", falls, 2, 0, 34, ROOM);
+  run("joined, a cut of 3", three, 2, JOINED, 34, ROOM);
+  run("run 1, answer area of 6", two, 1, 1, 34, ENOUGH);
+  run("run 1, answer area of 5", two, 1, 1, 34, SHORT);
+  run("joined, answer area of 6", two, 1, JOINED, 34, ENOUGH);
+  run("joined, answer area of 5", two, 1, JOINED, 34, SHORT);
+}
+
 /* Loop `index` of cell `cell` of cells 0 1 2 3 and 0 1 2 4 with these counts. */
 static void loop(const char *call, const uint16_t *edge_counts, size_t cells_len,
                  size_t cell, size_t index, size_t answer_len) {
@@ -484,8 +541,21 @@ static void test_split_places(void) {
 #define DEEP_POINTS ((size_t)8404968)
 #define DEEP_CROSSINGS 16376
 
+/* The mesh of (4092, 2) as the only run of its cell. */
+static size_t run_of(uint32_t *area, size_t area_len) {
+  const uint16_t *of = spiral(4092, 2);
+  return citternblaze_mesh_run(cells, 4, six_edges, 12, of, 6, sums(of, 6), 6, NULL,
+                               0, 0, area, area_len, answer, ROOM);
+}
+
+static size_t joined_of(uint32_t *area, size_t area_len) {
+  const uint16_t *of = spiral(4092, 2);
+  return citternblaze_mesh_joined(cells, 4, six_edges, 12, of, 6, sums(of, 6), 6,
+                                  NULL, 0, area, area_len, answer, ROOM);
+}
+
 /* The most splits that a cell can have, 2045, each within the one before: its mesh,
- * 739 MB, and its places, 202 MB. */
+ * 739 MB, by all three calls, and its places, 202 MB. */
 static void *call_deep(void *failed) {
   uint32_t *words = malloc(11 * DEEP_TRIANGLES * sizeof *words);
   if (words == NULL)
@@ -496,6 +566,10 @@ static void *call_deep(void *failed) {
   show_triangles(words + 11 * (DEEP_TRIANGLES - 1), 1);
   show("mesh of (4092, 2), a word too short",
        mesh_of(spiral(4092, 2), words, 11 * DEEP_TRIANGLES - 1, ROOM));
+  show("run 0 of (4092, 2)", run_of(words, 11 * DEEP_TRIANGLES));
+  show_digest(words, 11 * DEEP_TRIANGLES);
+  show("joined (4092, 2)", joined_of(words, 11 * DEEP_TRIANGLES));
+  show_digest(words, 11 * DEEP_TRIANGLES);
   free(words);
   double *fractions = malloc(DEEP_CROSSINGS * sizeof *fractions);
   double *area = malloc(3 * DEEP_POINTS * sizeof *area);
@@ -896,6 +970,12 @@ static void test_other_refusals(void) {
   REFUSAL(MESH_AREA, citternblaze_mesh(cells, 4, six, 12, corner, 6,
                                        sums(corner, 6), 6, words, 10, answer,
                                        ROOM));
+  REFUSAL(CUTS, citternblaze_mesh_joined(cells, 4, six, 12, corner, 6,
+                                         sums(corner, 6), 6, lists, 1, words, 11,
+                                         answer, ROOM));
+  REFUSAL(NO_RUN, citternblaze_mesh_run(cells, 4, six, 12, corner, 6,
+                                        sums(corner, 6), 6, NULL, 0, 1, words, 11,
+                                        answer, ROOM));
   show("write", citternblaze_bundle_write(cells, 4, six, 12, twice, 6, bytes, 70,
                                           answer, ROOM));
   REFUSAL(RECORDS, citternblaze_bundle_read(bytes, 69, lists, 4, NULL, 0, NULL,
@@ -950,6 +1030,18 @@ static void test_null(void) {
   show("mesh, no area", citternblaze_mesh(cells, 8, edges, 18, counts, 9,
                                           sums(counts, 9), 9, NULL, 0, answer,
                                           ROOM));
+  show("run of nothing",
+       citternblaze_mesh_run(NULL, 0, NULL, 0, NULL, 0, NULL, 0, NULL, 0, 0, NULL,
+                             0, answer, ROOM));
+  show("joined from nothing",
+       citternblaze_mesh_joined(NULL, 0, NULL, 0, NULL, 0, NULL, 0, NULL, 0, NULL,
+                                0, answer, ROOM));
+  show("run, no area",
+       citternblaze_mesh_run(cells, 8, edges, 18, counts, 9, sums(counts, 9), 9, NULL,
+                             0, 0, NULL, 0, answer, ROOM));
+  show("joined, no area",
+       citternblaze_mesh_joined(cells, 8, edges, 18, counts, 9, sums(counts, 9), 9,
+                                NULL, 0, NULL, 0, answer, ROOM));
   show("loop of nothing",
        citternblaze_loops(NULL, 0, NULL, 0, NULL, 0, NULL, 0, 0, 0, answer,
                           ROOM));
@@ -999,6 +1091,12 @@ static void test_null(void) {
                               0));
   show("mesh, no answer area",
        citternblaze_mesh(NULL, 0, NULL, 0, NULL, 0, NULL, 0, NULL, 0, NULL, 0));
+  show("run, no answer area",
+       citternblaze_mesh_run(NULL, 0, NULL, 0, NULL, 0, NULL, 0, NULL, 0, 0, NULL,
+                             0, NULL, 0));
+  show("joined, no answer area",
+       citternblaze_mesh_joined(NULL, 0, NULL, 0, NULL, 0, NULL, 0, NULL, 0, NULL,
+                                0, NULL, 0));
   show("loops, no answer area",
        citternblaze_loops(NULL, 0, NULL, 0, NULL, 0, NULL, 0, 0, 0, NULL, 0));
   show("places, no answer area",
@@ -1031,6 +1129,7 @@ int main(void) {
   test_set();
   test_mesh();
   test_split();
+  test_runs();
   test_loops();
   test_places();
   test_split_places();

@@ -7,8 +7,8 @@ use citternblaze::calls::{Lists, Refusal};
 use citternblaze::refusals::{meaning, of_bytes, of_lists};
 
 /// Refusals of calls that the program does not make: setting a count, shading,
-/// nearest, flat sections.
-const NOT_CALLED: [u64; 5] = [19, 20, 21, 23, 24];
+/// nearest, flat sections, runs of cells.
+const NOT_CALLED: [u64; 7] = [19, 20, 21, 23, 24, 25, 26];
 
 #[test]
 fn each_has_a_meaning() {

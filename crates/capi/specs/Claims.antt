@@ -10,6 +10,7 @@ use Rattle.grid.specs.Rows.{gridAnswer}
 use Rattle.grid.specs.Opening.{openedAfresh}
 use Rattle.grid.specs.Setting.{Setting, setAll}
 use Rattle.mesh.specs.Answer.{meshAnswer, meshArea, loopsAnswer}
+use Rattle.layers.specs.Answer.{runAnswer, runArea, joinedAnswer, joinedArea}
 use Rattle.places.specs.Answer.{placesAnswer, placesArea}
 use Rattle.shading.specs.Answer.{shadingAnswer, shadingArea}
 
@@ -18,6 +19,10 @@ pub record CallsAgree (G H : Grid) : Type 0 where
   pub check : gridAnswer G ≡ gridAnswer H
   pub mesh : (room : ℕ) → meshAnswer G room ≡ meshAnswer H room
   pub mesh-area : (area : List ℕ) → meshArea G area ≡ meshArea H area
+  pub run : (cuts : List ℕ) (r room : ℕ) → runAnswer G cuts r room ≡ runAnswer H cuts r room
+  pub run-area : (cuts : List ℕ) (r : ℕ) (area : List ℕ) → runArea G cuts r area ≡ runArea H cuts r area
+  pub joined : (cuts : List ℕ) (room : ℕ) → joinedAnswer G cuts room ≡ joinedAnswer H cuts room
+  pub joined-area : (cuts area : List ℕ) → joinedArea G cuts area ≡ joinedArea H cuts area
   pub loops : (c k : ℕ) → loopsAnswer G c k ≡ loopsAnswer H c k
   pub places : (nodes fractions : List Float) (room : ℕ) → placesAnswer G nodes fractions room ≡ placesAnswer H nodes fractions room
   pub places-area : (nodes fractions area : List Float) → placesArea G nodes fractions area ≡ placesArea H nodes fractions area

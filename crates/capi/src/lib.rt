@@ -25,6 +25,7 @@ ghost use Rattle.cell.specs.Level.{byEdge};
 ghost use Rattle.cases.specs.Answer.{caseAnswer};
 ghost use Rattle.booking.specs.Answer.{bookingAnswer};
 ghost use Rattle.mesh.specs.Answer.{meshAnswer, meshArea, loopsAnswer};
+ghost use Rattle.layers.specs.Answer.{runAnswer, runArea, joinedAnswer, joinedArea};
 ghost use Rattle.places.specs.Answer.{placesAnswer, placesArea};
 ghost use Rattle.shading.specs.Answer.{shadingAnswer, shadingArea};
 ghost use Rattle.nearest.specs.Answer.{nearestAnswer};
@@ -233,6 +234,54 @@ pub extern "C" fn citternblaze_mesh(
         return ANSWER_WORDS;
     }
     match mesh::mesh(cells, edges, counts, starts, area) {
+        Meshed::Triangles(n, splits) => put(answer, &[0, n, splits as u64]),
+        Meshed::Refused(row, place) => put(answer, &[row as u64, place as u64]),
+    }
+}
+
+// One run's mesh, asked for by its number from 0: 0, the number of triangles and the number of splits, or the number and the place of a refusal, which
+// leaves the area as it is.
+#[no_mangle]
+pub extern "C" fn citternblaze_mesh_run(
+    cells: &[u16],
+    edges: &[u16],
+    counts: &[u16],
+    starts: &[u32],
+    cuts: &[u16],
+    run: usize,
+    area: &mut [u32],
+    answer: &mut [u64],
+) -> usize
+    ensures answer { λ r. ⌜ Answers (runAnswer (gridOf (now (cells .entry)) (now (edges .entry)) (now (counts .entry)) (now (starts .entry))) (now (cuts .entry)) run (length (now (area .entry)))) (now (answer .entry)) (now (answer .exit)) r ⌝ }
+    ensures area { λ r. ⌜ now (area .exit) ≡ ifRoom (now (answer .entry)) (runArea (gridOf (now (cells .entry)) (now (edges .entry)) (now (counts .entry)) (now (starts .entry))) (now (cuts .entry)) run (now (area .entry))) (now (area .entry)) ⌝ }
+{
+    if answer.len() < ANSWER_WORDS {
+        return ANSWER_WORDS;
+    }
+    match layers::mesh_run(cells, edges, counts, starts, cuts, run, area) {
+        Meshed::Triangles(n, splits) => put(answer, &[0, n, splits as u64]),
+        Meshed::Refused(row, place) => put(answer, &[row as u64, place as u64]),
+    }
+}
+
+// All runs' meshes joined, in the names of the whole: answers as the mesh call does, and leaves the area as it is where it refuses.
+#[no_mangle]
+pub extern "C" fn citternblaze_mesh_joined(
+    cells: &[u16],
+    edges: &[u16],
+    counts: &[u16],
+    starts: &[u32],
+    cuts: &[u16],
+    area: &mut [u32],
+    answer: &mut [u64],
+) -> usize
+    ensures answer { λ r. ⌜ Answers (joinedAnswer (gridOf (now (cells .entry)) (now (edges .entry)) (now (counts .entry)) (now (starts .entry))) (now (cuts .entry)) (length (now (area .entry)))) (now (answer .entry)) (now (answer .exit)) r ⌝ }
+    ensures area { λ r. ⌜ now (area .exit) ≡ ifRoom (now (answer .entry)) (joinedArea (gridOf (now (cells .entry)) (now (edges .entry)) (now (counts .entry)) (now (starts .entry))) (now (cuts .entry)) (now (area .entry))) (now (area .entry)) ⌝ }
+{
+    if answer.len() < ANSWER_WORDS {
+        return ANSWER_WORDS;
+    }
+    match layers::mesh_joined(cells, edges, counts, starts, cuts, area) {
         Meshed::Triangles(n, splits) => put(answer, &[0, n, splits as u64]),
         Meshed::Refused(row, place) => put(answer, &[row as u64, place as u64]),
     }

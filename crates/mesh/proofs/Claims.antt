@@ -63,7 +63,7 @@ module _ (G : Grid) where
 
 -- two values with one reading that is an answer
 module _ (answer : List ℕ) (some : [] ≡ answer → ⊥) where
-  mesh-tells : (r s : Meshed) → meshNumbers r ≡ answer → meshNumbers s ≡ answer → r ≡ s
+  pub mesh-tells : (r s : Meshed) → meshNumbers r ≡ answer → meshNumbers s ≡ answer → r ≡ s
   mesh-tells (Triangles n s) (Triangles m t) a b = let x : n ≡ m = cc in let y : s ≡ t = cc in rw (x, y)
   mesh-tells (Triangles n s) (Refused k p) a b = absurd (mixed answer some k p (n ∷ s ∷ []) a b)
   mesh-tells (Refused k p) (Triangles n s) a b = absurd (mixed answer some k p (n ∷ s ∷ []) b a)

@@ -16,8 +16,8 @@ use cell::WORD_COUNT;
 use grid::MOST_EDGES;
 use grid::MOST_SLOTS;
 
-// What the cells come to.
-fn sums_of(cells: &[u16], counts: &[u16], sides: &[u16; MOST_EDGES]) -> CellSums
+// What the cells come to. At most `crossings + more` triangles are drawn of them.
+pub fn sums_of(cells: &[u16], counts: &[u16], sides: &[u16; MOST_EDGES]) -> CellSums
     ensures { λ r. ⌜ AreSums (now (counts .entry)) (now (sides .entry)) (drawnCells (now (cells .entry))) (r .crossings) (r .splits) (r .more) ⌝ }
 {
     let n = cell::drawn(cells);

@@ -23,6 +23,7 @@ mod spots;
 mod subs;
 
 pub use drawing::draw;
+pub use drawing::sums_of;
 use numbers::spiral_of;
 pub use spots::extra_of;
 pub use spots::write_inner;
@@ -44,10 +45,10 @@ pub struct DrawnSums {
 }
 
 // How many crossings the cells of a grid have, how many splits are made in them, and how many triangles they have more by these.
-struct CellSums {
-    crossings: usize,
-    splits: u64,
-    more: u64,
+pub struct CellSums {
+    pub crossings: usize,
+    pub splits: u64,
+    pub more: u64,
 }
 
 // How many inner crossings the cells of a grid have, and how many fans these have more by their splits.
@@ -157,9 +158,9 @@ fn split_in(
 }
 
 // Where the numbers of inner crossings and the names of inner faces of a cell start.
-const FIRST_CROSSING: u32 = MOST_CROSSINGS + 1;
+pub const FIRST_CROSSING: u32 = MOST_CROSSINGS + 1;
 
-const FIRST_FACE: u32 = MOST_SLOTS as u32;
+pub const FIRST_FACE: u32 = MOST_SLOTS as u32;
 
 // Writes the words of what is drawn of the cell, in which so many splits are made: they have room from index `at` on. Answers the next index. The
 // recursion is as deep as there are splits, at most 2,045.

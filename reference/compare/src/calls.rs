@@ -123,6 +123,55 @@ pub fn mesh(grid: Lists, area: &mut [u32], answer: &mut [u64]) -> usize {
     }
 }
 
+pub fn mesh_run(
+    grid: Lists,
+    cuts: &[u16],
+    run: usize,
+    area: &mut [u32],
+    answer: &mut [u64],
+) -> usize {
+    unsafe {
+        c::citternblaze_mesh_run(
+            grid.cells.as_ptr(),
+            grid.cells.len(),
+            grid.edges.as_ptr(),
+            grid.edges.len(),
+            grid.counts.as_ptr(),
+            grid.counts.len(),
+            grid.starts.as_ptr(),
+            grid.starts.len(),
+            cuts.as_ptr(),
+            cuts.len(),
+            run,
+            area.as_mut_ptr(),
+            area.len(),
+            answer.as_mut_ptr(),
+            answer.len(),
+        )
+    }
+}
+
+pub fn mesh_joined(grid: Lists, cuts: &[u16], area: &mut [u32], answer: &mut [u64]) -> usize {
+    unsafe {
+        c::citternblaze_mesh_joined(
+            grid.cells.as_ptr(),
+            grid.cells.len(),
+            grid.edges.as_ptr(),
+            grid.edges.len(),
+            grid.counts.as_ptr(),
+            grid.counts.len(),
+            grid.starts.as_ptr(),
+            grid.starts.len(),
+            cuts.as_ptr(),
+            cuts.len(),
+            area.as_mut_ptr(),
+            area.len(),
+            answer.as_mut_ptr(),
+            answer.len(),
+        )
+    }
+}
+
 pub fn loops(grid: Lists, [cell, index]: [usize; 2], answer: &mut [u64]) -> usize {
     unsafe {
         c::citternblaze_loops(

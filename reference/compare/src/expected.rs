@@ -8,7 +8,8 @@ use reference::face::{self, How, Join, Why};
 use reference::flat::{self, Tracer};
 use reference::gen::Sample;
 use reference::grid::{self, Lists};
-use reference::mesh::Mesher;
+use reference::layers;
+use reference::mesh::{MeshAnswer, Mesher};
 use reference::nearest::{self, Nearest};
 use reference::places::{self, Place};
 use reference::shading;
@@ -109,9 +110,22 @@ pub fn set_count(grid: &mut Sample, starts: &mut [u32], edge: usize, count: u16)
 /// 0, the number of triangles and the number of splits, or a refusal; fills the
 /// area.
 pub fn mesh(mesher: &mut Mesher, grid: Lists, area: &mut [u32]) -> Vec<u64> {
-    numbers(mesher.mesh(grid, area), |told| {
-        vec![told.triangles, told.splits]
-    })
+    numbers(mesher.mesh(grid, area), meshed)
+}
+
+/// The numbers of triangles and of splits.
+fn meshed(told: MeshAnswer) -> Vec<u64> {
+    vec![told.triangles, told.splits]
+}
+
+/// As `mesh`, for one run of the grid.
+pub fn mesh_run(grid: Lists, cuts: &[u16], run: u64, area: &mut [u32]) -> Vec<u64> {
+    numbers(layers::mesh_run(grid, cuts, run, area), meshed)
+}
+
+/// As `mesh`, for all runs of the grid, joined.
+pub fn mesh_joined(grid: Lists, cuts: &[u16], area: &mut [u32]) -> Vec<u64> {
+    numbers(layers::mesh_joined(grid, cuts, area), meshed)
 }
 
 /// 0, p0, the length, 1 for normal or 0, the type and its node; 0 alone for no

@@ -6,7 +6,7 @@ use compare::lent::{after, answers, answers_in_all, Lent, ANSWER_WORDS};
 use compare::placing::{placing, Kind, Placing};
 use compare::{calls, expected, seed, setting};
 use reference::cell::TRIANGLE_WORDS;
-use reference::gen::{random_shape, separate, Rng, Sample};
+use reference::gen::{random_cuts, random_shape, separate, Rng, Sample};
 use reference::grid::{Lists, MAX_CELLS, MAX_COUNT};
 use reference::mesh::Mesher;
 
@@ -111,6 +111,7 @@ fn compare_calls(rng: &mut Rng, whole: &Placing, starts: &[u32], room: usize) ->
     let loops = expected::loops(&mut mesher, lists, ask);
     assert!(answers(&loops, |answer| calls::loops(lists, ask, answer)));
     compare_mesh(&mut mesher, room, lists);
+    compare_runs(rng, room, lists);
     let mut sides = vec![7; SIDES];
     let mut area = sides.clone();
     let shading = expected::shading(lists, &mut sides);
@@ -129,6 +130,25 @@ fn compare_calls(rng: &mut Rng, whole: &Placing, starts: &[u32], room: usize) ->
     }));
     assert_eq!(area, points);
     numbers[0] as usize
+}
+
+/// Compares a run and the joined mesh, with random cuts, in areas for so many
+/// triangles.
+fn compare_runs(rng: &mut Rng, triangles: usize, lists: Lists) {
+    let cuts = random_cuts(rng, (lists.cells.len() / 4).max(1));
+    let run = rng.below(cuts.len() + 2);
+    let mut made = vec![3; TRIANGLE_WORDS * triangles];
+    let mut area = made.clone();
+    let numbers = expected::mesh_run(lists, &cuts, run as u64, &mut made);
+    assert!(answers(&numbers, |answer| {
+        calls::mesh_run(lists, &cuts, run, &mut area, answer)
+    }));
+    assert_eq!(area, made);
+    let numbers = expected::mesh_joined(lists, &cuts, &mut made);
+    assert!(answers(&numbers, |answer| {
+        calls::mesh_joined(lists, &cuts, &mut area, answer)
+    }));
+    assert_eq!(area, made);
 }
 
 /// Compares the mesh in an area for so many triangles, and gives the words.

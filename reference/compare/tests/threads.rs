@@ -5,13 +5,13 @@ use std::thread;
 use compare::grids::{single_cell, spirals};
 use compare::lent::answers;
 use compare::{calls, expected};
-use reference::gen::{random_shape, Rng};
+use reference::gen::{random_cuts, random_shape, Rng};
 use reference::mesh::Mesher;
 
 /// More threads than a small machine has processors.
 const THREADS: u64 = 8;
 
-/// Compares checks, meshes and loops of random grids.
+/// Compares checks, meshes, joined runs and loops of random grids.
 fn compare(seed: u64) {
     let mut rng = Rng::new(seed);
     let mut mesher = Mesher::default();
@@ -30,6 +30,12 @@ fn compare(seed: u64) {
         let numbers = expected::mesh(&mut mesher, lists, &mut made);
         assert!(answers(&numbers, |answer| {
             calls::mesh(lists, &mut area, answer)
+        }));
+        assert_eq!(area, made);
+        let cuts = random_cuts(&mut rng, grid.cells.len() / 4);
+        area.fill(7);
+        assert!(answers(&numbers, |answer| {
+            calls::mesh_joined(lists, &cuts, &mut area, answer)
         }));
         assert_eq!(area, made);
         let ask = [rng.below(grid.cells.len() / 4), rng.below(3)];

@@ -1,6 +1,7 @@
-//! Times the proved mesh call, grid check, places call, shading call, nearest call, bundle
-//! reader, booking and chains call and the second implementation's in one run. All work on
-//! the same input in turn; the order of a round alternates.
+//! Times the proved mesh call, run call, joined call, grid check, places call, shading
+//! call, nearest call, bundle reader, booking and chains call and the second
+//! implementation's in one run.
+//! All work on the same input in turn; the order of a round alternates.
 
 use std::env;
 use std::iter;
@@ -17,7 +18,8 @@ use reference::cases::{case, counts_of};
 use reference::cell::{CellWalker, TRIANGLE_WORDS};
 use reference::flat::{self, Tracer};
 use reference::gen::{
-    box_of_six, closed_fan, cone, joined, row_of, separate, spiral_cell, Chain, Rng, Sample,
+    box_of_six, closed_fan, cone, joined, row_of, separate, spiral_cell, Chain, Layered, Rng,
+    Sample,
 };
 use reference::grid::{self, GridTables, MAX_CELLS};
 use reference::mesh::{self, Mesher};
@@ -105,6 +107,37 @@ fn mesh_times(grid: &Sample, room: usize, patience: Duration) -> [Times; WAYS] {
         }
     });
     assert!(areas[0] == areas[1] && areas[1] == areas[2]);
+    times
+}
+
+/// Times of a grid's mesh by layers, in an area with room for so many triangles: the
+/// proved mesh call, the proved joined call, the proved run call for each run in
+/// turn, and the second implementation's joined mesh.
+fn layers_times(layered: &Layered, room: usize, patience: Duration) -> [Times; 4] {
+    let Layered { whole, cuts } = layered;
+    let starts = whole.starts();
+    let lists = whole.lists(&starts);
+    let needed = triangles(whole) as u64;
+    let mut areas = [(); 4].map(|()| vec![1; room * TRIANGLE_WORDS]);
+    let mut answer = [1; ANSWER_WORDS];
+    let times = times(patience, |way| {
+        let area = &mut areas[way];
+        let made = match way {
+            0 => calls::mesh(lists, area, &mut answer),
+            1 => calls::mesh_joined(lists, cuts, area, &mut answer),
+            2 => {
+                let made = |run| {
+                    calls::mesh_run(lists, cuts, run, area, &mut answer);
+                    answer[1]
+                };
+                answer[1] = (0..=cuts.len()).map(made).sum();
+                3
+            }
+            _ => expected::mesh_joined(lists, cuts, area).len(),
+        };
+        assert_eq!((made, answer[1]), (3, needed));
+    });
+    assert!(areas[0] == areas[1] && areas[1] == areas[3]);
     times
 }
 
@@ -383,6 +416,40 @@ impl Bench {
         }
     }
 
+    /// The mesh by layers in so many runs of about as many cells, beside the mesh made
+    /// undivided.
+    fn layers(&self, name: &str, grid: &Sample, runs: usize) {
+        let name = format!("13 layers, {name}, {runs} runs");
+        if !name.starts_with(&self.only) {
+            return;
+        }
+        let cells = grid.cells.len() / 4;
+        let layered = Layered {
+            whole: grid.clone(),
+            cuts: (1..runs).map(|run| (run * cells / runs) as u16).collect(),
+        };
+        let triangles = triangles(grid);
+        println!("{name}: {}, {triangles} triangles", size(grid));
+        let rooms = [
+            ("any mesh", grid.most_triangles()),
+            ("this mesh", triangles),
+        ];
+        for (text, room) in rooms {
+            let [mesh, joined, run, reference] = layers_times(&layered, room, self.patience);
+            println!(
+                "  room for {text}: undivided {:8.1} us; joined {:8.1} us, ratio {:.2} (of medians \
+                 {:.2}); all runs, one by one {:8.1} us; reference joined {:8.1} us, ratio {:.2}",
+                mesh.best,
+                joined.best,
+                joined.best / mesh.best,
+                joined.median / mesh.median,
+                run.best,
+                reference.best,
+                joined.best / reference.best,
+            );
+        }
+    }
+
     /// The bundle reader without and with looks.
     fn looks(&self, name: &str, lists: &Sample, rng: &mut Rng) {
         if !name.starts_with(&self.only) {
@@ -602,6 +669,28 @@ fn spirals(bench: &Bench) {
     bench.told(&BOOK, "12 book, split cells, up to 4,000", &cells);
 }
 
+/// Grids of about 2,000 cells in few runs and in runs of one cell, and split cells.
+fn layers(bench: &Bench) {
+    let mut rng = Rng::new(8);
+    let shape = box_of_six([6, 5, 10]);
+    let few = shape.clone().with_counts(&mut rng, 0, 3);
+    let many = shape.with_counts(&mut rng, 16, 24);
+    let fan = closed_fan(MAX_CELLS as u16).with_counts(&mut rng, 4, 14);
+    let circles = [Chain::Circle(40); 2];
+    let split = joined(&mut rng, circles, 0, [4, 6, 2]);
+    for (name, grid) in [
+        ("box, counts 0..3", few),
+        ("box, counts 16..24", many),
+        ("cells round one edge, counts 4..14", fan),
+        ("split cells in a sphere, (4, 2)", split),
+    ] {
+        let cells = grid.cells.len() / 4;
+        for runs in [1, 2, 10, 100, cells] {
+            bench.layers(name, &grid, runs);
+        }
+    }
+}
+
 /// All cells of the table.
 fn entries(bench: &Bench) {
     let all: Vec<[u16; 6]> = (0..729).map(counts_of).collect();
@@ -760,4 +849,5 @@ fn main() {
     settings(&bench);
     sheets(&bench);
     spirals(&bench);
+    layers(&bench);
 }

@@ -1,0 +1,16 @@
+pub mod Renaming
+pub mod Parts
+pub mod Worded
+pub mod Named
+pub mod Runs
+pub mod Own
+pub mod RunTables
+pub mod Joined
+pub mod Examples
+pub mod Claims
+pub mod Steps
+pub mod Over
+pub mod Namings
+pub mod Laying
+pub mod Joining
+pub mod Calls

@@ -1,0 +1,10 @@
+pub mod Renaming
+pub mod Runs
+pub mod Cuts
+pub mod Words
+pub mod Answer
+pub mod Examples
+pub mod Claims
+pub mod Tables
+pub mod Done
+pub mod Work
