@@ -2,10 +2,11 @@
 use Prim.Native.Nat.{ℕ, _+_, _≤_, _<_}
 use mathlib.Core.Path.{_≡_, refl, sym, ap, _∙_, subst}
 use mathlib.Core.Bool.{Bool, true, false}
-use mathlib.Core.List.{List, [], _∷_}
+use mathlib.Core.List.{[], _∷_}
 use native.Mathlib.Omega.{arith}
 use Rattle.counting.specs.Pick.{pick}
 use Rattle.answer.specs.Answer.{result}
+use Rattle.answer.proofs.Answer.{no-nil}
 use Rattle.slots.specs.Slots.{edgeBetween}
 use Rattle.cell.specs.Nodes.{joining}
 use Rattle.cell.specs.Level.{isLevelCell}
@@ -18,9 +19,6 @@ use Rattle.booking.specs.Fans.{fansNumbers, fansAnswer}
 use Rattle.booking.specs.Answer.{bookingAnswer}
 use Rattle.booking.specs.Sums.{mostNumber, FewFans, GainBy, GainIn}
 use Rattle.booking.proofs.Drawn.{split-least}
-
-no-nil : {A : Type 0} {a : ℕ} {l : List ℕ} → a ∷ l ≡ [] → A
-no-nil q = let z : _≡_ {A = ℕ} 0 1 = cc in absurd (omega arith)
 
 -- three numbers of which the least is 2 or more, and the one between 4 or more
 all-least : (x y z : ℕ) → 2 ≤ smallest x y z → (2 ≤ x) × (2 ≤ y) × (2 ≤ z)
@@ -71,7 +69,7 @@ module _ {j : Fans} where
       where
         go : (b : Bool) → result [] ≡ pick b (result (cornerTriangles w ∷ larger w ∷ smaller w ∷ booked w ∷ [])) (result [])
             → result [] ≡ pick b (result (cornerTriangles w ∷ larger w ∷ smaller w ∷ bookedSplit w ∷ [])) (result [])
-        go true f = no-nil {a = cornerTriangles w} {l = larger w ∷ smaller w ∷ booked w ∷ []} (cc)
+        go true f = absurd (no-nil {a = cornerTriangles w} {l = larger w ∷ smaller w ∷ booked w ∷ []} (cc))
         go false f = refl
 
     pub booked-from : {t x y n u d : ℕ} → j ≡ Counted t x y n → u ≡ t → d ≡ besideDrawn x y → result (t ∷ x ∷ y ∷ (u + d) ∷ []) ≡ bookingAnswer w
@@ -85,7 +83,7 @@ module _ {j : Fans} where
             let b : x ≡ larger w = cc in
             let c : y ≡ smaller w = cc in
             rw (p, q, a, b, c) refl
-        go false f = no-nil {a = t} {l = x ∷ y ∷ n ∷ []} (cc)
+        go false f = absurd (no-nil {a = t} {l = x ∷ y ∷ n ∷ []} (cc))
 
     -- what splitting adds
     pub gain-walk : j ≡ WalkIt → {r : Gain} → (r .splits ≡ 0) × (r .more ≡ 0) → GainIn w r
@@ -93,7 +91,7 @@ module _ {j : Fans} where
     gain-walk e {r} (p, q) = go (isLevelCell w) refl (sym (ap fansNumbers e) ∙ told)
       where
         go : (b : Bool) → isLevelCell w ≡ b → result [] ≡ pick b (result (cornerTriangles w ∷ larger w ∷ smaller w ∷ booked w ∷ [])) (result []) → GainIn w r
-        go true k f = no-nil {a = cornerTriangles w} {l = larger w ∷ smaller w ∷ booked w ∷ []} (cc)
+        go true k f = absurd (no-nil {a = cornerTriangles w} {l = larger w ∷ smaller w ∷ booked w ∷ []} (cc))
         go false k f = record { splits-are = p ∙ rw k refl; more-is = q ∙ rw k refl }
 
     pub gain-counted : {t x y n : ℕ} → j ≡ Counted t x y n → {r : Gain} → GainBy x y r → GainIn w r
@@ -105,4 +103,4 @@ module _ {j : Fans} where
             let b : x ≡ larger w = cc in
             let c : y ≡ smaller w = cc in
             record { splits-are = G .splits-are ∙ rw (k, b, c) refl; more-is = G .more-is ∙ rw (k, b, c) refl }
-        go false k f = no-nil {a = t} {l = x ∷ y ∷ n ∷ []} (cc)
+        go false k f = absurd (no-nil {a = t} {l = x ∷ y ∷ n ∷ []} (cc))

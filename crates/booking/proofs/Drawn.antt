@@ -17,7 +17,7 @@ use Rattle.booking.specs.Booking.{beside, besideDrawn, splitsBy, moreBy}
 use Rattle.booking.specs.Sums.{mostNumber, mostBeside, GainBy}
 use Rattle.booking.proofs.Figures.{figure-stop, figure-step, figureLaws}
 
-beside-more : (x y : ℕ) → 0 < y → beside x y ≡ 4 * (x + y)
+pub beside-more : (x y : ℕ) → 0 < y → beside x y ≡ 4 * (x + y)
 unfolding beside
 beside-more x y h = rw (ne-eqb y 0 (λ e. omega arith))
 

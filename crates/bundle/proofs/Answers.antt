@@ -13,20 +13,20 @@ use Rattle.answer.specs.Answer.{result, refusal}
 use Rattle.counting.specs.Pick.{pick}
 use Rattle.counting.proofs.Bools.{clash, not-clash, and-true, and-left, and-right}
 use Rattle.bundle.specs.Record.{brokenRow, nextRecord}
-use Rattle.bundle.specs.Bundle.{cellSection, edgeSection, lookSection, endSection, isOf, start, run, cells, edgesFrom, edges, looksFrom, looks, stop, lookAt, firstStray, bundleAnswer, isLaid, isBundle, hasRoom, isTaken, readAnswer, nodesOf, endsOf, countsOf, cellNodes, edgeEnds, writtenOver, leaves, nodesLeft, endsLeft, countsLeft, shortRow, strayRow}
+use Rattle.bundle.specs.Bundle.{cellSection, edgeSection, lookSection, endSection, isOf, recordStart, run, cells, edgesFrom, edges, looksFrom, looks, stop, lookAt, firstStray, bundleAnswer, isLaid, isBundle, hasRoom, isTaken, readAnswer, nodesOf, endsOf, countsOf, cellNodes, edgeEnds, writtenOver, leaves, nodesLeft, endsLeft, countsLeft, shortRow, strayRow}
 use Rattle.bundle.specs.Needed.{LaidOut}
 use Rattle.bundle.proofs.OneRecord.{apart}
 
 module _ (s : List ℕ) where
   -- the numbers of three runs are those of the bundle
-  module _ (c p e q l r : ℕ) (hc : c ≡ run s cellSection 0) (hp : p ≡ start s 0 c) (he : e ≡ run s edgeSection p) (hq : q ≡ start s p e)
-      (hl : l ≡ run s lookSection q) (hr : r ≡ start s q l) where
+  module _ (c p e q l r : ℕ) (hc : c ≡ run s cellSection 0) (hp : p ≡ recordStart s 0 c) (he : e ≡ run s edgeSection p) (hq : q ≡ recordStart s p e)
+      (hl : l ≡ run s lookSection q) (hr : r ≡ recordStart s q l) where
     pub laid : LaidOut s c p e q l r
     unfolding cells edgesFrom edges looksFrom looks stop
     laid =
-        let fp : p ≡ edgesFrom s = hp ∙ ap (start s 0) hc in
+        let fp : p ≡ edgesFrom s = hp ∙ ap (recordStart s 0) hc in
         let fe : e ≡ edges s = he ∙ ap (run s edgeSection) fp in
-        let fq : q ≡ looksFrom s = hq ∙ ap (λ n. start s n e) fp ∙ ap (start s (edgesFrom s)) fe in
+        let fq : q ≡ looksFrom s = hq ∙ ap (λ n. recordStart s n e) fp ∙ ap (recordStart s (edgesFrom s)) fe in
         let fl : l ≡ looks s = hl ∙ ap (run s lookSection) fq in
         record {
           cellsAre = hc;
@@ -34,7 +34,7 @@ module _ (s : List ℕ) where
           edgesAre = fe;
           looksBegin = fq;
           looksAre = fl;
-          stops = hr ∙ ap (λ n. start s n l) fq ∙ ap (start s (looksFrom s)) fl;
+          stops = hr ∙ ap (λ n. recordStart s n l) fq ∙ ap (recordStart s (looksFrom s)) fl;
         }
 
   -- row 13

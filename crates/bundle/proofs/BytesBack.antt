@@ -15,7 +15,7 @@ use Rattle.counting.proofs.Lists.{all-at}
 use Rattle.counting.proofs.Range.{over-ext}
 use Rattle.counting.proofs.Fronts.{over-more, getD-blocks, first-parts}
 use Rattle.bundle.specs.Record.{byteValues, wordSize, lengthBytes, headBytes, countPlace, word, kindAt, isWide, nextRecord, isRecord, bodyStart, bodySize, body}
-use Rattle.bundle.specs.Bundle.{cellNodes, edgeEnds, cellSection, edgeSection, endSection, isOf, start, cells, edgesFrom, edges, looksFrom, looks, stop, surviving, isBundle, leadingWords, nodesOf, endsOf, countsOf, writtenOver}
+use Rattle.bundle.specs.Bundle.{cellNodes, edgeEnds, cellSection, edgeSection, endSection, isOf, recordStart, cells, edgesFrom, edges, looksFrom, looks, stop, surviving, isBundle, leadingWords, nodesOf, endsOf, countsOf, writtenOver}
 use Rattle.bundle.specs.Written.{wordBytes, headOf, recordBytes, listBytes, kindFor, countBytes, endRecord, cellBytes, edgeBytes, bundleBytes}
 use Rattle.bundle.specs.Claims.{BytesBack, ReadWritten}
 use Rattle.bundle.proofs.OneRecord.{stands, next-ge, body-whole}
@@ -75,16 +75,16 @@ module _ (b : ℕ → List ℕ) (w n k : ℕ) (l : k < n) where
   list-back bytes h = over-ext _ _ w 0 (λ i _ q. ap wordBytes (entry i (omega (arith, q)))) ∙ words-back (b k) bytes w h
 
 -- records one after the other, from the bytes of each
-chain : (s : List ℕ) (from n : ℕ) (g : ℕ → List ℕ) → ((k : ℕ) → k < n → drop (start s from k) s ≡ g k ++ drop (nextRecord s (start s from k)) s)
-    → drop from s ≡ over g n 0 ++ drop (start s from n) s
-unfolding start over
+chain : (s : List ℕ) (from n : ℕ) (g : ℕ → List ℕ) → ((k : ℕ) → k < n → drop (recordStart s from k) s ≡ g k ++ drop (nextRecord s (recordStart s from k)) s)
+    → drop from s ≡ over g n 0 ++ drop (recordStart s from n) s
+unfolding recordStart over
 chain s from zero g h = refl
 chain s from (suc n) g h =
     let e : n + 1 ≡ suc n = omega arith in
     chain s from n g (λ k l. h k (omega arith))
     ∙ ap (λ (x : List ℕ). over g n 0 ++ x) (h n (omega arith))
-    ∙ sym (append-assoc (over g n 0) (g n) (drop (nextRecord s (start s from n)) s))
-    ∙ ap (λ (x : List ℕ). x ++ drop (nextRecord s (start s from n)) s) (sym (over-more g n) ∙ ap (λ k. over g k 0) e)
+    ∙ sym (append-assoc (over g n 0) (g n) (drop (nextRecord s (recordStart s from n)) s))
+    ∙ ap (λ (x : List ℕ). x ++ drop (nextRecord s (recordStart s from n)) s) (sym (over-more g n) ∙ ap (λ k. over g k 0) e)
 
 module _ (s : List ℕ) (bytes : (k : ℕ) → getD s k 0 < byteValues) where
   -- a body's bytes are the bundle's
@@ -98,14 +98,14 @@ module _ (s : List ℕ) (bytes : (k : ℕ) → getD s k 0 < byteValues) where
         | no l ↦ omega (arith, List·getD-eq-default (take n (drop m s)) 0 {n = j} (simp length-take (omega arith)))
       ]
 
-  cell-bytes : (k : ℕ) → k < cells s → drop (start s 0 k) s ≡ cellBytes (nodesOf s) k ++ drop (nextRecord s (start s 0 k)) s
+  cell-bytes : (k : ℕ) → k < cells s → drop (recordStart s 0 k) s ≡ cellBytes (nodesOf s) k ++ drop (nextRecord s (recordStart s 0 k)) s
   unfolding cellBytes cells nodesOf
   cell-bytes k h =
-      let a = start s 0 k in
+      let a = recordStart s 0 k in
       let o = run-all s 0 cellSection k h in
       let n = cell-body s a o in
       let e : listBytes (nodesOf s) (cellNodes * k) cellNodes ≡ body s a =
-      list-back (λ j. body s (start s 0 j)) cellNodes (cells s) k h (body-bytes a) (omega (arith, n)) ∙ take-all (wordSize * cellNodes) (body s a) (omega (arith, n)) in
+      list-back (λ j. body s (recordStart s 0 j)) cellNodes (cells s) k h (body-bytes a) (omega (arith, n)) ∙ take-all (wordSize * cellNodes) (body s a) (omega (arith, n)) in
       record-back s bytes a (of-record s cellSection a o) ∙ cc (cell-kind s a o, e)
 
   -- the kind of an edge and its bytes after the ends are those of its count
@@ -126,16 +126,16 @@ module _ (s : List ℕ) (bytes : (k : ℕ) → getD s k 0 < byteValues) where
       go (twoBytes e n f) =
           (e ∙ simp f, simp f (sym (take-all wordSize (drop countPlace b) (simp length-drop (omega arith))) ∙ word-back b (body-bytes a) countPlace (omega arith)))
 
-  edge-bytes : looks s ≡ 0 → (k : ℕ) → k < edges s → drop (start s (edgesFrom s) k) s ≡ edgeBytes (endsOf s) (countsOf s) k ++ drop (nextRecord s (start s (edgesFrom s) k)) s
+  edge-bytes : looks s ≡ 0 → (k : ℕ) → k < edges s → drop (recordStart s (edgesFrom s) k) s ≡ edgeBytes (endsOf s) (countsOf s) k ++ drop (nextRecord s (recordStart s (edgesFrom s) k)) s
   unfolding edgeBytes edges endsOf countsOf
   edge-bytes none k h =
       let from = edgesFrom s in
-      let a = start s from k in
+      let a = recordStart s from k in
       let o = run-all s from edgeSection k h in
       let n = edge-ge s a o in
       let one : k ≡ 1 * k + 0 = omega arith in
       let u : listBytes (endsOf s) (edgeEnds * k) edgeEnds ≡ take (wordSize * edgeEnds) (body s a) =
-      list-back (λ j. body s (start s from j)) edgeEnds (edges s) k h (body-bytes a) (omega (arith, n)) in
+      list-back (λ j. body s (recordStart s from j)) edgeEnds (edges s) k h (body-bytes a) (omega (arith, n)) in
       let v : getD (countsOf s) k 0 ≡ word (body s a) countPlace =
       ap (λ i. getD (countsOf s) i 0) one ∙ getD-blocks (λ j. surviving s j ∷ []) 1 (edges s) (λ _ _. refl) k 0 0 h (omega arith) ∙ count-kept s none k in
       let e : listBytes (endsOf s) (edgeEnds * k) edgeEnds ++ countBytes (getD (countsOf s) k 0) ≡ body s a =
@@ -150,9 +150,9 @@ module _ (s : List ℕ) (bytes : (k : ℕ) → getD s k 0 < byteValues) where
       record-back s bytes (stop s) (of-record s endSection (stop s) o) ∙ cc (end-kind s (stop s) o, none, last)
 
   all-back : isBundle s ≡ true → looks s ≡ 0 → bundleBytes (nodesOf s) (endsOf s) (countsOf s) ≡ s
-  unfolding bundleBytes edgesFrom looksFrom stop start
+  unfolding bundleBytes edgesFrom looksFrom stop recordStart
   all-back h none =
-      let last : stop s ≡ looksFrom s = ap (start s (looksFrom s)) none in
+      let last : stop s ≡ looksFrom s = ap (recordStart s (looksFrom s)) none in
       let c : length (nodesOf s) / cellNodes ≡ cells s = omega (arith, length-nodes s) in
       let x = over (cellBytes (nodesOf s)) (cells s) 0 in
       let y = over (edgeBytes (endsOf s) (countsOf s)) (edges s) 0 in

@@ -12,17 +12,17 @@ use Rattle.answer.specs.Answer.{refusal}
 use Rattle.counting.proofs.Bools.{clash}
 use Rattle.counting.proofs.Search.{some-none, none-some, first-is, first-below}
 use Rattle.bundle.specs.Record.{headBytes, brokenRow, kindAt, nextRecord, isRecord, body}
-use Rattle.bundle.specs.Bundle.{cellSection, edgeSection, lookSection, endSection, sectionAt, isOf, start, run, cells, edgesFrom, edges, looksFrom, looks, edgeAt, lookAt, stop, samePair, isFor, isStray, firstStray, strayRow, bundleAnswer}
+use Rattle.bundle.specs.Bundle.{cellSection, edgeSection, lookSection, endSection, sectionAt, isOf, recordStart, run, cells, edgesFrom, edges, looksFrom, looks, edgeAt, lookAt, stop, samePair, isFor, isStray, firstStray, strayRow, bundleAnswer}
 use Rattle.bundle.specs.Fault.{AllWhole, sectionBy, Fault, broken, disordered, trailing, endless, Stray}
 use Rattle.bundle.specs.Claims.{LowestFault, NoFault, LowestStray, NoStray, StrayRefused}
 use Rattle.bundle.proofs.OneRecord.{Kind, cell, edge, wide, look, end, kind-cases, apart, stands, next-ge}
 use Rattle.bundle.proofs.Runs.{of-record, of-section, is-of, run-all, run-stop, run-inside}
 use Rattle.bundle.proofs.Answers.{Case, unended, more, stray, whole, case-of, bundled, answer-open, answer-after, answer-stray, answer-lists, accepted}
 
-start-add : (s : List ℕ) (p k j : ℕ) → start s (start s p k) j ≡ start s p (k + j)
-unfolding start
-start-add s p k zero = ap (start s p) (sym (add-zero k))
-start-add s p k (suc j) = let e : suc (k + j) ≡ k + suc j = omega arith in ap (nextRecord s) (start-add s p k j) ∙ ap (start s p) e
+start-add : (s : List ℕ) (p k j : ℕ) → recordStart s (recordStart s p k) j ≡ recordStart s p (k + j)
+unfolding recordStart
+start-add s p k zero = ap (recordStart s p) (sym (add-zero k))
+start-add s p k (suc j) = let e : suc (k + j) ≡ k + suc j = omega arith in ap (nextRecord s) (start-add s p k j) ∙ ap (recordStart s p) e
 
 -- the cells, edges and looks together
 abbrev records : List ℕ → ℕ
@@ -30,22 +30,22 @@ records s = cells s + edges s + looks s
 
 module _ (s : List ℕ) where
   -- whole records start ever later
-  grows : (d m : ℕ) → AllWhole s (m + d) → start s 0 m ≤ start s 0 (m + d)
-  unfolding start
-  grows zero m w = omega (arith, ap (start s 0) (add-zero m))
+  grows : (d m : ℕ) → AllWhole s (m + d) → recordStart s 0 m ≤ recordStart s 0 (m + d)
+  unfolding recordStart
+  grows zero m w = omega (arith, ap (recordStart s 0) (add-zero m))
   grows (suc d) m w =
       let e : m + suc d ≡ suc (m + d) = omega arith in
       let h = grows d m (λ j l. w j (omega arith)) in
-      let n = next-ge s (start s 0 (m + d)) (w (m + d) (omega arith)) in
-      omega (arith, ap (start s 0) e, h, n)
+      let n = next-ge s (recordStart s 0 (m + d)) (w (m + d) (omega arith)) in
+      omega (arith, ap (recordStart s 0) e, h, n)
 
-  later : (m k : ℕ) → m ≤ k → AllWhole s k → start s 0 m ≤ start s 0 k
+  later : (m k : ℕ) → m ≤ k → AllWhole s k → recordStart s 0 m ≤ recordStart s 0 k
   later m k h w =
       let e : m + (k - m) ≡ k = omega arith in
-      omega (arith, grows (k - m) m (λ j l. w j (omega arith)), ap (start s 0) e)
+      omega (arith, grows (k - m) m (λ j l. w j (omega arith)), ap (recordStart s 0) e)
 
-  inside : (k : ℕ) → isRecord s (start s 0 k) ≡ true → start s 0 k + headBytes ≤ length s
-  inside k h = stands s (start s 0 k) h .inside
+  inside : (k : ℕ) → isRecord s (recordStart s 0 k) ≡ true → recordStart s 0 k + headBytes ≤ length s
+  inside k h = stands s (recordStart s 0 k) h .inside
 
   -- the first m records are whole and in order, and no end stands before the last of them
   record Clean (m : ℕ) : Type 0 where
@@ -54,7 +54,7 @@ module _ (s : List ℕ) where
     unclosed : (j : ℕ) → suc j < m → sectionBy s j ≡ endSection → ⊥
 
   module _ (m : ℕ) (c : Clean m) where
-    none-below : (q : ℕ) → q < start s 0 m → Fault s q → ⊥
+    none-below : (q : ℕ) → q < recordStart s 0 m → Fault s q → ⊥
     none-below q l (broken k e w b f) =
         elim (decLt k m) [ yes h ↦ clash (ap (isRecord s) e ∙ c .whole k h) f | no h ↦ let g = later m k (omega arith) w in omega arith ]
     none-below q l (disordered j k e w b f) =
@@ -65,30 +65,30 @@ module _ (s : List ℕ) where
         elim (decLt k m) [ yes h ↦ let g = inside k (c .whole k h) in omega arith | no h ↦ let g = later m k (omega arith) w in omega arith ]
 
   -- the records of the three sections, by their numbers
-  section-record : (section from n first : ℕ) → n ≡ run s section from → from ≡ start s 0 first → (j : ℕ) → first ≤ j → j < first + n → isOf s section (start s 0 j) ≡ true
+  section-record : (section from n first : ℕ) → n ≡ run s section from → from ≡ recordStart s 0 first → (j : ℕ) → first ≤ j → j < first + n → isOf s section (recordStart s 0 j) ≡ true
   section-record section from n first r b j l h =
       let e : first + (j - first) ≡ j = omega arith in
-      sym (ap (isOf s section) (ap (λ p. start s p (j - first)) b ∙ start-add s 0 first (j - first) ∙ ap (start s 0) e)) ∙ run-all s from section (j - first) (omega (arith, r))
+      sym (ap (isOf s section) (ap (λ p. recordStart s p (j - first)) b ∙ start-add s 0 first (j - first) ∙ ap (recordStart s 0) e)) ∙ run-all s from section (j - first) (omega (arith, r))
 
-  looks-start : looksFrom s ≡ start s 0 (cells s + edges s)
+  looks-start : looksFrom s ≡ recordStart s 0 (cells s + edges s)
   unfolding looksFrom edgesFrom
   looks-start = start-add s 0 (cells s) (edges s)
 
-  cell-record : (j : ℕ) → j < cells s → isOf s cellSection (start s 0 j) ≡ true
-  unfolding cells start
+  cell-record : (j : ℕ) → j < cells s → isOf s cellSection (recordStart s 0 j) ≡ true
+  unfolding cells recordStart
   cell-record j h = section-record cellSection 0 (cells s) 0 refl refl j (omega arith) (omega arith)
 
-  edge-record : (j : ℕ) → cells s ≤ j → j < cells s + edges s → isOf s edgeSection (start s 0 j) ≡ true
+  edge-record : (j : ℕ) → cells s ≤ j → j < cells s + edges s → isOf s edgeSection (recordStart s 0 j) ≡ true
   unfolding edgesFrom edges
   edge-record j l h = section-record edgeSection (edgesFrom s) (edges s) (cells s) refl refl j l h
 
-  look-record : (j : ℕ) → cells s + edges s ≤ j → j < records s → isOf s lookSection (start s 0 j) ≡ true
+  look-record : (j : ℕ) → cells s + edges s ≤ j → j < records s → isOf s lookSection (recordStart s 0 j) ≡ true
   unfolding looks
   look-record j l h = section-record lookSection (looksFrom s) (looks s) (cells s + edges s) refl looks-start j l h
 
-  pub stop-start : stop s ≡ start s 0 (records s)
+  pub stop-start : stop s ≡ recordStart s 0 (records s)
   unfolding stop
-  stop-start = ap (λ p. start s p (looks s)) looks-start ∙ start-add s 0 (cells s + edges s) (looks s)
+  stop-start = ap (λ p. recordStart s p (looks s)) looks-start ∙ start-add s 0 (cells s + edges s) (looks s)
 
   edges-inside : edgesFrom s ≤ length s
   unfolding edgesFrom cells
@@ -104,7 +104,7 @@ module _ (s : List ℕ) where
 
   -- before the stop a record is whole, and its section goes by its number
   record Before (j : ℕ) : Type 0 where
-    is : isRecord s (start s 0 j) ≡ true
+    is : isRecord s (recordStart s 0 j) ≡ true
     cellLow : cellSection ≤ sectionBy s j
     edgeLow : cells s ≤ j → edgeSection ≤ sectionBy s j
     lookLow : cells s + edges s ≤ j → lookSection ≤ sectionBy s j
@@ -112,7 +112,7 @@ module _ (s : List ℕ) where
     edgeHigh : j < cells s + edges s → sectionBy s j ≤ edgeSection
     lookHigh : sectionBy s j ≤ lookSection
 
-  before : (j section : ℕ) → isOf s section (start s 0 j) ≡ true → cellSection ≤ section → (cells s ≤ j → edgeSection ≤ section) → (cells s + edges s ≤ j → lookSection ≤ section)
+  before : (j section : ℕ) → isOf s section (recordStart s 0 j) ≡ true → cellSection ≤ section → (cells s ≤ j → edgeSection ≤ section) → (cells s + edges s ≤ j → lookSection ≤ section)
       → (j < cells s → section ≤ cellSection) → (j < cells s + edges s → section ≤ edgeSection) → section ≤ lookSection → Before j
   before j section o a b c d e f =
       let q = of-section s section _ o in
@@ -157,13 +157,13 @@ module _ (s : List ℕ) where
   clean = record { whole = λ j h. kind j h .is; sorted = in-order; unclosed = λ j h e. not-end j (omega arith) e }
 
   module _ (h : isOf s endSection (stop s) ≡ true) where
-    end-record : isOf s endSection (start s 0 (records s)) ≡ true
+    end-record : isOf s endSection (recordStart s 0 (records s)) ≡ true
     end-record = ap (isOf s endSection) (sym stop-start) ∙ h
 
     clean-end : Clean (suc (records s))
     clean-end =
         record {
-          whole = λ j l. elim (decLt j (records s)) [ yes b ↦ kind j b .is | no b ↦ let e : j ≡ records s = omega arith in ap (λ i. isRecord s (start s 0 i)) e ∙ of-record s endSection _ end-record ];
+          whole = λ j l. elim (decLt j (records s)) [ yes b ↦ kind j b .is | no b ↦ let e : j ≡ records s = omega arith in ap (λ i. isRecord s (recordStart s 0 i)) e ∙ of-record s endSection _ end-record ];
           sorted = λ j k l b.
               elim (decLt k (records s)) [
                 | yes r ↦ in-order j k l r
@@ -177,18 +177,18 @@ module _ (s : List ℕ) where
 
     -- bytes after the end
     tail-fault : (nextRecord s (stop s) ≡ length s → ⊥) → Fault s (nextRecord s (stop s)) × ((q : ℕ) → q < nextRecord s (stop s) → Fault s q → ⊥)
-    unfolding start
+    unfolding recordStart
     tail-fault n =
-        let e : nextRecord s (stop s) ≡ start s 0 (suc (records s)) = ap (nextRecord s) stop-start in
+        let e : nextRecord s (stop s) ≡ recordStart s 0 (suc (records s)) = ap (nextRecord s) stop-start in
         let f = stands s (stop s) (of-record s endSection (stop s) h) .fits in
         let l : nextRecord s (stop s) < length s = omega (arith, f, n) in
         (trailing (records s) e (clean-end .whole) (of-section s endSection _ end-record) l, λ q b. none-below (suc (records s)) clean-end q (omega arith))
 
     no-fault : nextRecord s (stop s) ≡ length s → (q : ℕ) → Fault s q → ⊥
-    unfolding start
+    unfolding recordStart
     no-fault n q x = go x
       where
-        e : start s 0 (suc (records s)) ≡ length s
+        e : recordStart s 0 (suc (records s)) ≡ length s
         e = ap (nextRecord s) (sym stop-start) ∙ n
 
         below : q < length s → Fault s q → ⊥
@@ -217,12 +217,12 @@ module _ (s : List ℕ) where
   no-more-looks = run-stop s (looksFrom s) lookSection
 
   no-looks : looks s ≡ 0 → stop s ≡ looksFrom s
-  unfolding stop start
-  no-looks e = ap (start s (looksFrom s)) e
+  unfolding stop recordStart
+  no-looks e = ap (recordStart s (looksFrom s)) e
 
   no-edges : edges s ≡ 0 → looksFrom s ≡ edgesFrom s
-  unfolding looksFrom start
-  no-edges e = ap (start s (edgesFrom s)) e
+  unfolding looksFrom recordStart
+  no-edges e = ap (recordStart s (edgesFrom s)) e
 
   -- where the sections stop, a record whose section is below that of the one before it
   module _ (w : isRecord s (stop s) ≡ true) where
@@ -230,9 +230,9 @@ module _ (s : List ℕ) where
     late-fault j q l =
         let n = records s in
         let g : sectionBy s n ≡ sectionAt s (stop s) = ap (sectionAt s) (sym stop-start) in
-        let last : isRecord s (start s 0 n) ≡ true = ap (isRecord s) (sym stop-start) ∙ w in
+        let last : isRecord s (recordStart s 0 n) ≡ true = ap (isRecord s) (sym stop-start) ∙ w in
         disordered j n stop-start
-        (λ i h. elim (decLt i n) [ yes r ↦ kind i r .is | no r ↦ let e : i ≡ n = omega arith in ap (λ k. isRecord s (start s 0 k)) e ∙ last ]) (omega arith) (omega (arith, l, g))
+        (λ i h. elim (decLt i n) [ yes r ↦ kind i r .is | no r ↦ let e : i ≡ n = omega arith in ap (λ k. isRecord s (recordStart s 0 k)) e ∙ last ]) (omega arith) (omega (arith, l, g))
 
     cell-fault : sectionAt s (stop s) ≡ cellSection → Fault s (stop s)
     cell-fault k =
@@ -298,7 +298,7 @@ module _ (s : List ℕ) where
   looks-rise : (m k : ℕ) → m ≤ k → k < looks s → lookAt s m ≤ lookAt s k
   unfolding looks
   looks-rise m k h l =
-      let at : (i : ℕ) → lookAt s i ≡ start s 0 (cells s + edges s + i) = λ i. ap (λ p. start s p i) looks-start ∙ start-add s 0 (cells s + edges s) i in
+      let at : (i : ℕ) → lookAt s i ≡ recordStart s 0 (cells s + edges s + i) = λ i. ap (λ p. recordStart s p i) looks-start ∙ start-add s 0 (cells s + edges s) i in
       omega (arith, at m, at k, later (cells s + edges s + m) (cells s + edges s + k) (omega arith) (λ j b. clean .whole j (omega arith)))
 
   abbrev LowStray : ℕ → Type 0

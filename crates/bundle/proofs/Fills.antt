@@ -14,7 +14,7 @@ use Rattle.counting.proofs.Fronts.{length-blocks}
 use Rattle.counting.proofs.Search.{last-none}
 use Rattle.counting.proofs.Stored.{stored-one, stored-more, stored-front}
 use Rattle.bundle.specs.Record.{cellKind, edgeKind, endKind, wideKind, lookKind, wordSize, headBytes, cellSize, edgeSize, endSize, lookSize, countPlace, word, lengthOf, kindAt, countAt, isWide, mayHave, nextRecord, isRecord, body}
-use Rattle.bundle.specs.Bundle.{cellSection, edgeSection, lookSection, endSection, isOf, start, cells, edgesFrom, edges, looksFrom, looks, edgeAt, stop, isFor, countFrom, countAfter, isBundle, cellNodes, edgeEnds, leadingWords, nodesIn, endsIn, countIn, surviving, nodesOf, endsOf, countsOf, writtenOver}
+use Rattle.bundle.specs.Bundle.{cellSection, edgeSection, lookSection, endSection, isOf, recordStart, cells, edgesFrom, edges, looksFrom, looks, edgeAt, stop, isFor, countFrom, countAfter, isBundle, cellNodes, edgeEnds, leadingWords, nodesIn, endsIn, countIn, surviving, nodesOf, endsOf, countsOf, writtenOver}
 use Rattle.bundle.proofs.OneRecord.{Kind, cell, edge, wide, look, end, kind-cases, stands, body-whole, body-length}
 use Rattle.bundle.proofs.Runs.{body-of, of-record, of-section, run-apart}
 use Rattle.bundle.proofs.Answers.{bundled}
@@ -90,23 +90,23 @@ length-words n b = let e : 1 * n ≡ n = omega arith in length-blocks (λ i. wor
 
 -- what a list has of record k from a place on
 abbrev pub nodesBy : List ℕ → ℕ → ℕ → List ℕ
-nodesBy s from k = nodesIn (body s (start s from k))
+nodesBy s from k = nodesIn (body s (recordStart s from k))
 
 abbrev pub endsBy : List ℕ → ℕ → ℕ → List ℕ
-endsBy s from k = endsIn (body s (start s from k))
+endsBy s from k = endsIn (body s (recordStart s from k))
 
 abbrev pub countBy : List ℕ → ℕ → ℕ → List ℕ
-countBy s from k = countIn (body s (start s from k)) ∷ []
+countBy s from k = countIn (body s (recordStart s from k)) ∷ []
 
 -- the lists are as long as the bundle's numbers say
 module _ (s : List ℕ) where
   pub length-nodes : length (nodesOf s) ≡ cellNodes * cells s
   unfolding nodesOf
-  length-nodes = length-blocks (nodesBy s 0) cellNodes (cells s) (λ j _. length-words cellNodes (body s (start s 0 j)))
+  length-nodes = length-blocks (nodesBy s 0) cellNodes (cells s) (λ j _. length-words cellNodes (body s (recordStart s 0 j)))
 
   pub length-ends : length (endsOf s) ≡ edgeEnds * edges s
   unfolding endsOf
-  length-ends = length-blocks (endsBy s (edgesFrom s)) edgeEnds (edges s) (λ j _. length-words edgeEnds (body s (start s (edgesFrom s) j)))
+  length-ends = length-blocks (endsBy s (edgesFrom s)) edgeEnds (edges s) (λ j _. length-words edgeEnds (body s (recordStart s (edgesFrom s) j)))
 
   pub length-counts : length (countsOf s) ≡ edges s
   unfolding countsOf
@@ -143,11 +143,11 @@ module _ (s : List ℕ) where
       omega (arith, w .nothing, record-ge endSection endSize (stop s) (w .ended) (omega arith), cells-apart, edges-apart, looks-apart)
 
 -- what the body of record k means to a list is stored next
-module _ (s : List ℕ) (from at k : ℕ) (h : at ≡ start s from k) where
+module _ (s : List ℕ) (from at k : ℕ) (h : at ≡ recordStart s from k) where
   pub turn : (f : List ℕ → List ℕ) {l0 l l' : List ℕ} {m next : ℕ}
-      → Stored l0 0 (over (λ j. f (body s (start s from j))) k 0) l m → Stored l m (f (body s at)) l' next
-      → Stored l0 0 (over (λ j. f (body s (start s from j))) (k + 1) 0) l' next
-  turn f p q = stored-more (λ j. f (body s (start s from j))) k p (rw h at q)
+      → Stored l0 0 (over (λ j. f (body s (recordStart s from j))) k 0) l m → Stored l m (f (body s at)) l' next
+      → Stored l0 0 (over (λ j. f (body s (recordStart s from j))) (k + 1) 0) l' next
+  turn f p q = stored-more (λ j. f (body s (recordStart s from j))) k p (rw h at q)
 
   pub count-turn : (x : ℕ) → x ≡ countIn (body s at) → {l0 l : List ℕ}
       → Stored l0 0 (over (countBy s from) k 0) l k → Stored l0 0 (over (countBy s from) (k + 1) 0) (set l k x) (k + 1)

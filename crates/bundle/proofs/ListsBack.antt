@@ -18,7 +18,7 @@ use Rattle.counting.proofs.Bools.{and-left, and-right, and-true}
 use Rattle.counting.proofs.Range.{over-ext}
 use Rattle.counting.proofs.Fronts.{getD-blocks, over-more, over-at, in-parts, singles}
 use Rattle.bundle.specs.Record.{byteValues, brokenRow, cellKind, endKind, wordSize, lengthBytes, headBytes, countPlace, word, lengthOf, kindAt, countAt, isWide, mayHave, nextRecord, isRecord, body}
-use Rattle.bundle.specs.Bundle.{cellNodes, edgeEnds, cellSection, edgeSection, lookSection, endSection, sectionOf, sectionAt, isOf, start, run, cells, edgesFrom, edges, looksFrom, looks, stop, surviving, isBundle, leadingWords, nodesIn, endsIn, countIn, nodesOf, endsOf, countsOf, shortRow, writtenOver}
+use Rattle.bundle.specs.Bundle.{cellNodes, edgeEnds, cellSection, edgeSection, lookSection, endSection, sectionOf, sectionAt, isOf, recordStart, run, cells, edgesFrom, edges, looksFrom, looks, stop, surviving, isBundle, leadingWords, nodesIn, endsIn, countIn, nodesOf, endsOf, countsOf, shortRow, writtenOver}
 use Rattle.bundle.specs.Written.{wordBytes, recordBytes, listBytes, kindFor, countBytes, endRecord, cellBytes, edgeBytes, bundleBytes, isFormed, fitsArea, isWritten, mostNamed, writeAnswer}
 use Rattle.bundle.specs.Claims.{ListsBack, WrittenRead, ReadAgain}
 use Rattle.bundle.proofs.OneRecord.{standing, body-whole}
@@ -121,10 +121,10 @@ module _ {s p r : List ℕ} {section n : ℕ} {kind : ℕ → ℕ} {g b : ℕ �
   run-is : isOf s section (place n) ≡ false → run s section (length p) ≡ n
   run-is f = sym (arrived s (length p) section (place n) n (goes n (le-refl n)) f)
 
-  starts : (k : ℕ) → k ≤ n → start s (length p) k ≡ place k
+  starts : (k : ℕ) → k ≤ n → recordStart s (length p) k ≡ place k
   starts k h = sym (goes k h .reached)
 
-  bodies : (k : ℕ) → k < n → body s (start s (length p) k) ≡ b k
+  bodies : (k : ℕ) → k < n → body s (recordStart s (length p) k) ≡ b k
   bodies k h = ap (body s) (starts k (omega arith)) ∙ there body (b k) k h (λ q t. body-put q t (b k) (kind k) (l .size k) (l .proper k t))
 
 -- the words of bytes that begin with those of a list
@@ -228,7 +228,7 @@ module _ (nodes ends counts : List ℕ) where
 
   from-is : edgesFrom s ≡ length cs
   unfolding edgesFrom
-  from-is = ap (start s 0) cells-are ∙ starts cells-laid c (le-refl c) ∙ zero-add (length cs)
+  from-is = ap (recordStart s 0) cells-are ∙ starts cells-laid c (le-refl c) ∙ zero-add (length cs)
 
   edges-are : edges s ≡ e
   unfolding edges
@@ -236,15 +236,15 @@ module _ (nodes ends counts : List ℕ) where
 
   base-is : looksFrom s ≡ length (cs ++ es)
   unfolding looksFrom
-  base-is = ap (start s (edgesFrom s)) edges-are ∙ ap (λ n. start s n e) from-is ∙ starts edges-laid e (le-refl e) ∙ sym (length-append cs es)
+  base-is = ap (recordStart s (edgesFrom s)) edges-are ∙ ap (λ n. recordStart s n e) from-is ∙ starts edges-laid e (le-refl e) ∙ sym (length-append cs es)
 
   looks-are : looks s ≡ 0
   unfolding looks
   looks-are = sym (arrived s (looksFrom s) lookSection (looksFrom s) 0 (going s (looksFrom s) lookSection) (no-more lookSection (omega arith) _ base-is))
 
   stop-is : stop s ≡ length (cs ++ es)
-  unfolding stop start
-  stop-is = ap (start s (looksFrom s)) looks-are ∙ base-is
+  unfolding stop recordStart
+  stop-is = ap (recordStart s (looksFrom s)) looks-are ∙ base-is
 
   next-is : nextRecord s (stop s) ≡ length s
   unfolding bundleBytes lengthOf
@@ -257,8 +257,8 @@ module _ (nodes ends counts : List ℕ) where
   is-bundle : isBundle s ≡ true
   is-bundle = bundle-is s (ap (isOf s endSection) stop-is ∙ end-at) next-is (omega (arith, looks-are))
 
-  edge-of : (k : ℕ) → k < e → body s (start s (edgesFrom s) k) ≡ edgeBody k
-  edge-of k h = ap (λ n. body s (start s n k)) from-is ∙ bodies edges-laid k h
+  edge-of : (k : ℕ) → k < e → body s (recordStart s (edgesFrom s) k) ≡ edgeBody k
+  edge-of k h = ap (λ n. body s (recordStart s n k)) from-is ∙ bodies edges-laid k h
 
   -- a list of what the bodies mean, w entries each, is the list that was written
   listed : (f : ℕ → List ℕ) (w n m : ℕ) (l : List ℕ) → m ≡ n → length l ≡ w * n → ((k : ℕ) → k < n → f k ≡ take w (drop (w * k) l)) → over f m 0 ≡ l

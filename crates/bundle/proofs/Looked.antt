@@ -16,8 +16,8 @@ use Rattle.counting.specs.Chains.{Table, sameKey}
 use Rattle.counting.proofs.Bools.{and-left, and-right, and-true, bool-same, eqb-comm}
 use Rattle.counting.proofs.Search.{last-plus, last-ext, last-is, last-le, last-above, some-zero, some-hit, some-miss, some-ext}
 use Rattle.bundle.specs.Record.{byteValues, wordSize, headBytes, lookSize, countPlace, word, lengthOf, nextRecord, isRecord, body}
-use Rattle.bundle.specs.Bundle.{edgeSection, lookSection, isOf, start, run, edgesFrom, edges, looksFrom, looks, edgeAt, lookAt, endIn, countIn, samePair, isFor, isStray, countFrom, countAfter}
-use Rattle.bundle.specs.Looked.{pairKey, keyAt, edgeKey, lookKey, EndsWithin, AllEdges, topOf, unmarked, Marked, countOr}
+use Rattle.bundle.specs.Bundle.{edgeSection, lookSection, isOf, recordStart, run, edgesFrom, edges, looksFrom, looks, edgeAt, lookAt, endIn, countIn, samePair, isFor, isStray, countFrom, countAfter}
+use Rattle.bundle.specs.Looked.{pairKey, keyAt, edgeKey, lookKey, EndsWithin, AllEdges, topOf, keyUnmet, KeysMarked, countOr}
 use Rattle.bundle.proofs.OneRecord.{stands, body-length}
 use Rattle.bundle.proofs.Runs.{Walked, here, walked-next, of-record, next-of, run-all}
 use Rattle.bundle.proofs.Fills.{body-word, look-kind, look-body, edge-ge}
@@ -36,7 +36,7 @@ module _ (s : List ℕ) where
   look-here k h = run-all s (looksFrom s) lookSection k h
 
   pub look-place : (k : ℕ) → k ≤ looks s → lookAt s k ≡ looksFrom s + lookSize * k
-  unfolding start lengthOf
+  unfolding recordStart lengthOf
   look-place zero h = omega (arith, mul-zero lookSize)
   look-place (suc k) h =
       let o = look-here k h in
@@ -106,7 +106,7 @@ module _ (s : List ℕ) where
               ap (countFrom s e) x
 
       -- a place without mark is a stray look
-      module _ (met : List ℕ) (w : Marked s keys n met) (j : ℕ) (hj : j < n) where
+      module _ (met : List ℕ) (w : KeysMarked s keys n met) (j : ℕ) (hj : j < n) where
         abbrev key : ℕ
         key = getD keys j 0
 
@@ -136,8 +136,8 @@ module _ (s : List ℕ) where
             (λ h. let q = eqb-true (topOf s keys n e) top h in for-key e (m + j) he (omega arith) ∙ eq-eqb _ _ (sym (found (edgeKey s e) q) ∙ found key refl ∙ t .at j hj))
             (λ h. let q = eqb-true _ _ (sym (for-key e (m + j) he (omega arith)) ∙ h) in eq-eqb _ _ (ap (λ k. last (sameKey keys k) n) (q ∙ sym (t .at j hj))))
 
-        pub unmarked-stray : unmarked keys met n j ≡ isStray s (m + j)
-        unfolding unmarked isStray
+        pub unmarked-stray : keyUnmet keys met n j ≡ isStray s (m + j)
+        unfolding keyUnmet isStray
         unmarked-stray =
             ap (λ x. eqb x 0) (w .at top (last-le (sameKey keys key) n) ∙ ap one (some-ext _ _ (edges s) edge-met))
             ∙ flip (some (λ e. isFor s e (m + j)) (edges s))
@@ -189,7 +189,7 @@ module _ (s : List ℕ) (from count at k : ℕ) (l : AllEdges s from count) (g :
     edge-next next e = rw e (walked-next s from edgeSection at k g (omega (arith, h, run-of)))
 
     pub edge-key : keyAt s at ≡ edgeKey s k
-    edge-key = ap (keyAt s) (g .reached ∙ ap (λ p. start s p k) (l .begin))
+    edge-key = ap (keyAt s) (g .reached ∙ ap (λ p. recordStart s p k) (l .begin))
 
     pub edge-number : k < edges s
     edge-number = omega (arith, h, l .all)

@@ -13,7 +13,7 @@ use borrow.Author.Tests.{eqb-true, eq-eqb, ne-eqb, not-true, not-false}
 use Rattle.counting.proofs.Bools.{and-left, and-right, and-true, and-false-left, and-false-right}
 use Rattle.counting.proofs.Search.{first-at, first-is, first-below, below-or}
 use Rattle.bundle.specs.Record.{wordSize, lengthBytes, headBytes, lengthOf, kindAt, nextRecord, isRecord, body}
-use Rattle.bundle.specs.Bundle.{sectionAt, isOf, start, run}
+use Rattle.bundle.specs.Bundle.{sectionAt, isOf, recordStart, run}
 use Rattle.bundle.proofs.OneRecord.{stands, next-ge, body-length}
 
 module _ (s : List ℕ) (at : ℕ) (h : isRecord s at ≡ true) where
@@ -50,19 +50,19 @@ module _ (s : List ℕ) (section at : ℕ) where
 
 -- a walk over records of a section, which came to a place after some of them
 pub record Going (s : List ℕ) (from section at count : ℕ) : Type 0 where
-  pub reached : at ≡ start s from count
-  pub all : (j : ℕ) → j < count → isOf s section (start s from j) ≡ true
+  pub reached : at ≡ recordStart s from count
+  pub all : (j : ℕ) → j < count → isOf s section (recordStart s from j) ≡ true
   pub few : count ≤ at
   pub inside : count ≤ length s
 
 module _ (s : List ℕ) (from section : ℕ) where
   pub going : Going s from section from 0
-  unfolding start
+  unfolding recordStart
   going = record { reached = refl; all = λ j h. absurd (omega (arith, h)); few = omega arith; inside = omega arith }
 
-  pub start-more : (k : ℕ) → start s from (k + 1) ≡ nextRecord s (start s from k)
-  unfolding start
-  start-more k = ap (start s from) (add-one k)
+  pub start-more : (k : ℕ) → recordStart s from (k + 1) ≡ nextRecord s (recordStart s from k)
+  unfolding recordStart
+  start-more k = ap (recordStart s from) (add-one k)
 
   module _ (at count : ℕ) (g : Going s from section at count) where
     pub on : isOf s section at ≡ true → Going s from section (nextRecord s at) (count + 1)
@@ -71,7 +71,7 @@ module _ (s : List ℕ) (from section : ℕ) where
         let w = stands s at (of-record s section at h) in
         record {
           reached = ap (nextRecord s) (g .reached) ∙ sym (start-more count);
-          all = λ j l. ⊎-elim (λ (e : j ≡ count). ap (λ i. isOf s section (start s from i)) e ∙ ap (isOf s section) (sym (g .reached)) ∙ h) (λ (b : j < count). g .all j b) (below-or j count (omega arith));
+          all = λ j l. ⊎-elim (λ (e : j ≡ count). ap (λ i. isOf s section (recordStart s from i)) e ∙ ap (isOf s section) (sym (g .reached)) ∙ h) (λ (b : j < count). g .all j b) (below-or j count (omega arith));
           few = omega (arith, g .few, n);
           inside = omega (arith, g .few, n, w .fits);
         }
@@ -80,46 +80,46 @@ module _ (s : List ℕ) (from section : ℕ) where
     unfolding run
     arrived h =
         sym
-        (first-at (λ k. not (isOf s section (start s from k))) (suc (length s)) count (omega (arith, g .inside))
+        (first-at (λ k. not (isOf s section (recordStart s from k))) (suc (length s)) count (omega (arith, g .inside))
         (ap not (ap (isOf s section) (sym (g .reached)) ∙ h))
         (λ j b. ap not (g .all j b)))
 
   -- the records of a run
-  pub run-all : (j : ℕ) → j < run s section from → isOf s section (start s from j) ≡ true
+  pub run-all : (j : ℕ) → j < run s section from → isOf s section (recordStart s from j) ≡ true
   unfolding run
-  run-all j h = not-false _ (first-below (λ k. not (isOf s section (start s from k))) (suc (length s)) j h)
+  run-all j h = not-false _ (first-below (λ k. not (isOf s section (recordStart s from k))) (suc (length s)) j h)
 
-  pub run-going : (k : ℕ) → k ≤ run s section from → Going s from section (start s from k) k
-  unfolding start
+  pub run-going : (k : ℕ) → k ≤ run s section from → Going s from section (recordStart s from k) k
+  unfolding recordStart
   run-going zero h = going
-  run-going (suc k) h = rw (← add-one k) (on (start s from k) k (run-going k (omega arith)) (run-all k h))
+  run-going (suc k) h = rw (← add-one k) (on (recordStart s from k) k (run-going k (omega arith)) (run-all k h))
 
   pub run-few : run s section from ≤ length s
   run-few = run-going (run s section from) (le-refl (run s section from)) .inside
 
-  pub run-inside : (k : ℕ) → from ≤ length s → k ≤ run s section from → start s from k ≤ length s
-  unfolding start
+  pub run-inside : (k : ℕ) → from ≤ length s → k ≤ run s section from → recordStart s from k ≤ length s
+  unfolding recordStart
   run-inside zero l h = l
-  run-inside (suc k) l h = stands s (start s from k) (of-record s section (start s from k) (run-all k h)) .fits
+  run-inside (suc k) l h = stands s (recordStart s from k) (of-record s section (recordStart s from k) (run-all k h)) .fits
 
-  pub run-stop : isOf s section (start s from (run s section from)) ≡ false
+  pub run-stop : isOf s section (recordStart s from (run s section from)) ≡ false
   unfolding run
-  run-stop = not-true _ (first-is (λ k. not (isOf s section (start s from k))) (suc (length s)) (omega (arith, run-few)))
+  run-stop = not-true _ (first-is (λ k. not (isOf s section (recordStart s from k))) (suc (length s)) (omega (arith, run-few)))
 
   -- they start at least as far apart as the least of them is long
-  pub run-apart : (n : ℕ) → ((at : ℕ) → isOf s section at ≡ true → at + n ≤ nextRecord s at) → (k : ℕ) → k ≤ run s section from → from + n * k ≤ start s from k
-  unfolding start
+  pub run-apart : (n : ℕ) → ((at : ℕ) → isOf s section at ≡ true → at + n ≤ nextRecord s at) → (k : ℕ) → k ≤ run s section from → from + n * k ≤ recordStart s from k
+  unfolding recordStart
   run-apart n least zero h = omega (arith, mul-zero n)
-  run-apart n least (suc k) h = omega (arith, least (start s from k) (run-all k h), run-apart n least k (omega arith), mul-suc n k)
+  run-apart n least (suc k) h = omega (arith, least (recordStart s from k) (run-all k h), run-apart n least k (omega arith), mul-suc n k)
 
 -- a second walk over the records of a run, body by body
 pub record Walked (s : List ℕ) (from section at k : ℕ) : Type 0 where
   pub upto : k ≤ run s section from
-  pub reached : at ≡ start s from k
+  pub reached : at ≡ recordStart s from k
 
 module _ (s : List ℕ) (from section : ℕ) where
   pub walked : Walked s from section from 0
-  unfolding start
+  unfolding recordStart
   walked = record { upto = omega arith; reached = refl }
 
   module _ (at k : ℕ) (g : Walked s from section at k) (l : k < run s section from) where

@@ -20,7 +20,7 @@ use Rattle.counting.proofs.Stored.{stored-then, stored-front}
 use Rattle.bundle.specs.Record.{byteValues, brokenRow, wordSize, headBytes, countPlace, cellSize, edgeSize, isWide}
 use Rattle.bundle.specs.Bundle.{cellNodes, edgeEnds, shortRow}
 use Rattle.bundle.specs.Written.{mostNamed, wordBytes, listBytes, countBytes, endRecord, cellBytes, edgeBytes, bundleBytes, isFormed, fitsArea, isWritten, writeAnswer, areaLeft}
-use Rattle.bundle.specs.Needed.{wides, sizeOf}
+use Rattle.bundle.specs.Needed.{wides, bundleSize}
 
 pub length-list : (l : List ℕ) (from n : ℕ) → length (listBytes l from n) ≡ wordSize * n
 length-list l from n = length-blocks (λ i. wordBytes (getD l (from + i) 0)) wordSize n (λ _ _. refl)
@@ -57,7 +57,7 @@ length-edge ends counts k = omega (arith, edge-parts ends counts k, length-count
 module _ (nodes ends counts : List ℕ) where
   -- the bytes of a bundle, by its records
   abbrev pub sizeBy : ℕ
-  sizeBy = sizeOf (length nodes / cellNodes) (length counts) (wides counts)
+  sizeBy = bundleSize (length nodes / cellNodes) (length counts) (wides counts)
 
   abbrev cellsPart : List ℕ
   cellsPart = over (cellBytes nodes) (length nodes / cellNodes) 0

@@ -44,39 +44,39 @@ unfoldable pub isOf : List ℕ → ℕ → ℕ → Bool
 isOf s section at = isRecord s at && eqb (sectionAt s at) section
 
 -- where record k from a place on starts, each after the one before it
-unfoldable pub start : List ℕ → ℕ → ℕ → ℕ
-start s from zero = from
-start s from (suc k) = nextRecord s (start s from k)
+unfoldable pub recordStart : List ℕ → ℕ → ℕ → ℕ
+recordStart s from zero = from
+recordStart s from (suc k) = nextRecord s (recordStart s from k)
 
 -- how many records of a section stand from a place on, one after the other
 unfoldable pub run : List ℕ → ℕ → ℕ → ℕ
-run s section from = first (λ k. not (isOf s section (start s from k))) (suc (length s))
+run s section from = first (λ k. not (isOf s section (recordStart s from k))) (suc (length s))
 
 -- the cells, the edges after them, the looks after these, and the place where all these stop
 unfoldable pub cells : List ℕ → ℕ
 cells s = run s cellSection 0
 
 unfoldable pub edgesFrom : List ℕ → ℕ
-edgesFrom s = start s 0 (cells s)
+edgesFrom s = recordStart s 0 (cells s)
 
 unfoldable pub edges : List ℕ → ℕ
 edges s = run s edgeSection (edgesFrom s)
 
 unfoldable pub looksFrom : List ℕ → ℕ
-looksFrom s = start s (edgesFrom s) (edges s)
+looksFrom s = recordStart s (edgesFrom s) (edges s)
 
 unfoldable pub looks : List ℕ → ℕ
 looks s = run s lookSection (looksFrom s)
 
 unfoldable pub stop : List ℕ → ℕ
-stop s = start s (looksFrom s) (looks s)
+stop s = recordStart s (looksFrom s) (looks s)
 
 -- where edge n and look k start
 abbrev pub edgeAt : List ℕ → ℕ → ℕ
-edgeAt s n = start s (edgesFrom s) n
+edgeAt s n = recordStart s (edgesFrom s) n
 
 abbrev pub lookAt : List ℕ → ℕ → ℕ
-lookAt s k = start s (looksFrom s) k
+lookAt s k = recordStart s (looksFrom s) k
 
 -- end i of an edge or a look, u or v, from its body; and its count, after the two. A count of one byte ends the body, and the high byte that is not
 -- there is read as 0.
@@ -151,7 +151,7 @@ surviving s n = countAfter s (looks s) n
 
 -- the three lists
 unfoldable pub nodesOf : List ℕ → List ℕ
-nodesOf s = over (λ k. nodesIn (body s (start s 0 k))) (cells s) 0
+nodesOf s = over (λ k. nodesIn (body s (recordStart s 0 k))) (cells s) 0
 
 unfoldable pub endsOf : List ℕ → List ℕ
 endsOf s = over (λ k. endsIn (body s (edgeAt s k))) (edges s) 0

@@ -64,7 +64,7 @@ pub record MarksLent (s : List ℕ) (from count : ℕ) (keys head next : List �
   pub blank : (i : ℕ) → getD met i 0 ≡ 0
 
 -- entry i is 1 where an edge's key stands last at i - 1, else 0
-pub record Marked (s keys : List ℕ) (n : ℕ) (met : List ℕ) : Type 0 where
+pub record KeysMarked (s keys : List ℕ) (n : ℕ) (met : List ℕ) : Type 0 where
   pub room : n < length met
   pub at : (i : ℕ) → i ≤ n → getD met i 0 ≡ one (some (λ e. eqb (topOf s keys n e) i) (edges s))
 
@@ -74,8 +74,8 @@ pub record MarksRead (keys head next : List ℕ) (n : ℕ) (met : List ℕ) : Ty
   pub room : n < length met
 
 -- place j of the keys has no mark at the last with its key
-unfoldable pub unmarked : (keys met : List ℕ) → ℕ → ℕ → Bool
-unmarked keys met n j = eqb (getD met (last (sameKey keys (getD keys j 0)) n) 0) 0
+unfoldable pub keyUnmet : (keys met : List ℕ) → ℕ → ℕ → Bool
+keyUnmet keys met n j = eqb (getD met (last (sameKey keys (getD keys j 0)) n) 0) 0
 
 -- the edges, and a block of looks from look m on
 pub record BlockLent (s : List ℕ) (from count looksAt m n : ℕ) : Type 0 where

@@ -14,8 +14,8 @@ unfoldable pub wides : List ℕ → ℕ
 wides counts = count (λ k. isWide (getD counts k 0)) (length counts)
 
 -- the bytes of a bundle of so many cells and edges, of which so many are of kind 4, which has a byte more
-abbrev pub sizeOf : ℕ → ℕ → ℕ → ℕ
-sizeOf cells edges wide = cellSize * cells + edgeSize * edges + wide + endSize
+abbrev pub bundleSize : ℕ → ℕ → ℕ → ℕ
+bundleSize cells edges wide = cellSize * cells + edgeSize * edges + wide + endSize
 
 -- n numbers of 16 bits in a body, and room for them in a list
 pub record WordsLent (body : List ℕ) (n : ℕ) (list : List ℕ) (at : ℕ) : Type 0 where

@@ -13,7 +13,7 @@ ghost use Rattle.counting.specs.Stored.{filled};
 ghost use Rattle.counting.specs.Chains.{Chainable, Walkable, sameKey};
 ghost use Rattle.bundle.specs.Record.{nextRecord, isRecord};
 ghost use Rattle.bundle.specs.Bundle.{edges, looks, isStray, firstStray, countAfter};
-ghost use Rattle.bundle.specs.Looked.{blockLooks, keyAt, lookKey, EndsWithin, KeysLent, HashChains, MarksLent, Marked, MarksRead, unmarked, BlockLent, LooksLent, Counted, PlaceIn, countOr, CountsLent};
+ghost use Rattle.bundle.specs.Looked.{blockLooks, keyAt, lookKey, EndsWithin, KeysLent, HashChains, MarksLent, KeysMarked, MarksRead, keyUnmet, BlockLent, LooksLent, Counted, PlaceIn, countOr, CountsLent};
 
 // The looks of a block, at most.
 const BLOCK: usize = 12288;
@@ -109,7 +109,7 @@ fn mark(
     met: &mut [u8],
 )
     requires { ⌜ MarksLent (now bytes) from count (now keys) (now head) (now next) n (now met) ⌝ }
-    ensures { λ _. ⌜ Marked (now (bytes .entry)) (now (keys .entry)) n (now (met .exit)) ⌝ }
+    ensures { λ _. ⌜ KeysMarked (now (bytes .entry)) (now (keys .entry)) n (now (met .exit)) ⌝ }
 {
     let mut at = from;
     let mut k: usize = 0;
@@ -125,7 +125,7 @@ fn mark(
 // The lowest place whose key has no mark; n where there is none.
 fn unmet(keys: &[usize], head: &[u16], next: &[u16], n: usize, met: &[u8]) -> usize
     requires { ⌜ MarksRead (now keys) (now head) (now next) n (now met) ⌝ }
-    ensures { λ r. ⌜ r ≡ first (unmarked (now (keys .entry)) (now (met .entry)) n) n ⌝ }
+    ensures { λ r. ⌜ r ≡ first (keyUnmet (now (keys .entry)) (now (met .entry)) n) n ⌝ }
 {
     let mut j: usize = 0;
     while j < n {

@@ -23,7 +23,7 @@ ghost use Prim.Native.Nat.{_+_, _<_};
 ghost use lib.ListN.{length};
 ghost use Rattle.counting.specs.Stored.{Stored, filled};
 ghost use Rattle.bundle.specs.Record.{countPlace, word};
-ghost use Rattle.bundle.specs.Bundle.{sectionOf, start, run, leadingWords, edgesFrom, edges, looksFrom, bundleAnswer, readAnswer, nodesOf, endsOf, countAfter, writtenOver, nodesLeft, endsLeft, countsLeft, contentsNumbers};
+ghost use Rattle.bundle.specs.Bundle.{sectionOf, recordStart, run, leadingWords, edgesFrom, edges, looksFrom, bundleAnswer, readAnswer, nodesOf, endsOf, countAfter, writtenOver, nodesLeft, endsLeft, countsLeft, contentsNumbers};
 ghost use Rattle.bundle.specs.Needed.{WordsLent, CellsLent, EdgesLent, LaidOut};
 
 // The rows of refusals that speak of short lists, and of looks for no edge.
@@ -70,7 +70,7 @@ struct Run {
 
 // The records of a section from a place on.
 fn run_from(bytes: &[u8], from: usize, section: usize) -> Run
-    ensures { λ r. ⌜ (r .count ≡ run (now (bytes .entry)) section from) × (r .stop ≡ start (now (bytes .entry)) from (r .count)) ⌝ }
+    ensures { λ r. ⌜ (r .count ≡ run (now (bytes .entry)) section from) × (r .stop ≡ recordStart (now (bytes .entry)) from (r .count)) ⌝ }
 {
     let mut at = from;
     let mut count: usize = 0;

@@ -22,7 +22,7 @@ ghost use Rattle.counting.specs.Stored.{Stored};
 ghost use Rattle.bundle.specs.Record.{byteValues, wordSize, headBytes, isWide};
 ghost use Rattle.bundle.specs.Bundle.{cellNodes};
 ghost use Rattle.bundle.specs.Written.{mostNamed, wordBytes, headOf, listBytes, kindFor, countBytes, cellBytes, edgeBytes, writeAnswer, areaLeft, writtenNumbers};
-ghost use Rattle.bundle.specs.Needed.{wides, sizeOf, ListFits, CellFits, EdgeFits, CellsFit, EdgesFit};
+ghost use Rattle.bundle.specs.Needed.{wides, bundleSize, ListFits, CellFits, EdgeFits, CellsFit, EdgesFit};
 
 // The greatest number of bytes that a refusal names.
 const MOST: usize = 4294967295;
@@ -171,7 +171,7 @@ fn wides_in(counts: &[u16]) -> usize
 
 // Whether a bundle of so many cells and edges, of which so many are of kind 4, fits a number of bytes.
 fn fits(cells: usize, edges: usize, wide: usize, room: usize) -> bool
-    ensures { λ r. ⌜ r ≡ leb (sizeOf cells edges wide) room ⌝ }
+    ensures { λ r. ⌜ r ≡ leb (bundleSize cells edges wide) room ⌝ }
 {
     if room < END_BYTES {
         return false;
@@ -188,7 +188,7 @@ fn fits(cells: usize, edges: usize, wide: usize, room: usize) -> bool
 
 // The bytes of such a bundle, as a refusal names them.
 fn needed(cells: usize, edges: usize, wide: usize) -> usize
-    ensures { λ r. ⌜ r ≡ min (sizeOf cells edges wide) mostNamed ⌝ }
+    ensures { λ r. ⌜ r ≡ min (bundleSize cells edges wide) mostNamed ⌝ }
 {
     if MOST / CELL_BYTES < cells {
         return MOST;

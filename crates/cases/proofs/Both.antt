@@ -23,7 +23,7 @@ use Rattle.walk.specs.Walk as walk
 use Rattle.walk.proofs.Iterate.{tally-orbit}
 use Rattle.walk.proofs.Found.{it-ext, size-ext}
 use Rattle.manifold.specs.Shape.{shapeOf, manyOf}
-use Rattle.cell.specs.Cell.{Edges, crossings, base, edge, index, joinAt, mate, first, second, slot, step}
+use Rattle.cell.specs.Cell.{Edges, crossings, base, edge, index, joinAt, mate, firstSlotAt, secondSlotAt, slot, step}
 use Rattle.cell.specs.Loop.{loopSize, dart, folded, normal, leasts}
 use Rattle.cell.specs.Triangles.{loopCount, manyFrom, triangleCount}
 use Rattle.cell.proofs.Lay.{lay}
@@ -83,7 +83,7 @@ module _ (w : Edges) where
   abbrev fb : ℕ → ℕ
   fb x = secondSlot (getD edges x 0)
 
-  land-is : (f y : ℕ) → walks.land N fa fb (mateOn N counts bases edges) f y ≡ walks.land N (first w) (second w) (mate w) f y
+  land-is : (f y : ℕ) → walks.land N fa fb (mateOn N counts bases edges) f y ≡ walks.land N (firstSlotAt w) (secondSlotAt w) (mate w) f y
   unfolding walks.land
   land-is f y = elim (decLt y N) [ yes h ↦ rw (edge-at y h) refl | no h ↦ rw (le-ltb y N (omega arith)) refl ]
 
@@ -92,7 +92,7 @@ module _ (w : Edges) where
   quick-is d l =
       rw (edge-at (d / 2) (omega arith))
       (land-is (slot w d) (mateOn N counts bases edges (slot w d) (d / 2))
-      ∙ ap (walks.land N (first w) (second w) (mate w) (slot w d)) (mate-is (d / 2) (omega arith) (slot w d) (slot-has w d l))
+      ∙ ap (walks.land N (firstSlotAt w) (secondSlotAt w) (mate w) (slot w d)) (mate-is (d / 2) (omega arith) (slot w d) (slot-has w d l))
       ∙ sym (step-is w d))
 
   next-is : (d : ℕ) → d < 2 * N → step w d ≡ next d

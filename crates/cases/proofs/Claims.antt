@@ -24,11 +24,11 @@ use Rattle.cell.specs.Table.{takenCounts, tableCell, drawnCells, tableTriangles
 use Rattle.cell.proofs.Taken.{cell-count}
 use Rattle.cell.proofs.Values.{taken-is}
 use Rattle.cases.specs.declared.Case.the-variants.{Common, Outside}
-use Rattle.cases.specs.Cases.{entries, entryOf, alone}
+use Rattle.cases.specs.Cases.{entries, entryOf, loneEdges}
 use Rattle.cases.specs.Table.{tableRows, table}
 use Rattle.cases.specs.Answer.{caseNumbers, caseAnswer, findEntry}
 use Rattle.cases.specs.Tally.{trianglesAt, findEntryAt, outsideAt}
-use Rattle.cases.specs.Claims.{OneToOne, Whole, EveryEntry, LaidAnyhow, CellsRight, AnswerRight, TotalByEntry}
+use Rattle.cases.specs.Claims.{OneToOne, TableLength, EveryEntry, LaidAnyhow, CellsRight, AnswerRight, TotalByEntry}
 use Rattle.cases.proofs.Digits.{entry-lt}
 use Rattle.cases.proofs.Table.{loops-alone, triangles-alone}
 use Rattle.cases.proofs.Laid as laid
@@ -39,16 +39,16 @@ one-to-one (Common l t) Outside e = absurd (no-nil {a = l} {l = t ∷ []} (cc))
 one-to-one Outside (Common m u) e = absurd (no-nil {a = m} {l = u ∷ []} (cc))
 one-to-one Outside Outside e = refl
 
-pub whole : Whole
+pub table-length : TableLength
 unfolding over tableRows table
-whole = refl
+table-length = refl
 
 pub laid-anyhow : LaidAnyhow
 laid-anyhow = laid.laid-anyhow
 
 pub every-entry : EveryEntry
 every-entry w C =
-    let S = laid-anyhow (alone (byEdge (values (w .count) 6))) w (λ k l. values-at (w .count) 6 k 0 l) in
+    let S = laid-anyhow (loneEdges (byEdge (values (w .count) 6))) w (λ k l. values-at (w .count) 6 k 0 l) in
     record { within = entry-lt (w .count) C; loops = loops-alone (w .count) C ∙ S .0; triangles = triangles-alone (w .count) C ∙ S .1 }
 
 pub cells-right : CellsRight
@@ -110,9 +110,9 @@ answer-right c l t e = go (isCommon w) e
     w : ℕ → ℕ
     w = countOf c
 
-    same : (loopCount (edgesOf c) ≡ loopCount (alone w)) × (triangleCount (edgesOf c) ≡ triangleCount (alone w))
-    same = laid-anyhow (edgesOf c) (alone w) (λ k _. refl)
+    same : (loopCount (edgesOf c) ≡ loopCount (loneEdges w)) × (triangleCount (edgesOf c) ≡ triangleCount (loneEdges w))
+    same = laid-anyhow (edgesOf c) (loneEdges w) (λ k _. refl)
 
-    go : (b : Bool) → caseNumbers (Common l t) ≡ pick b (result (loopCount (alone w) ∷ triangleCount (alone w) ∷ [])) (result []) → (length (leasts (edgesOf c)) ≡ l) × (length (cellTriangles c) ≡ t)
+    go : (b : Bool) → caseNumbers (Common l t) ≡ pick b (result (loopCount (loneEdges w) ∷ triangleCount (loneEdges w) ∷ [])) (result []) → (length (leasts (edgesOf c)) ≡ l) × (length (cellTriangles c) ≡ t)
     go true f = (same .0 ∙ cc, cell-count c ∙ same .1 ∙ cc)
     go false f = absurd (no-nil {a = l} {l = t ∷ []} (cc))

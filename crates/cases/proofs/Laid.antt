@@ -25,7 +25,7 @@ use Rattle.walk.proofs.Step.{live, by-parity, rev-first, rev-second, rev-lt, ha
 use Rattle.walk.proofs.Once.{In}
 use Rattle.walk.proofs.Relabel.{lift, Relabels, size-same, sum-same, loops-same}
 use Rattle.manifold.specs.Shape.{shapeOf, manyOf}
-use Rattle.cell.specs.Cell.{Edges, crossings, edge, index, number, joinAt, mate, first, second, slot, step}
+use Rattle.cell.specs.Cell.{Edges, crossings, edge, index, number, joinAt, mate, firstSlotAt, secondSlotAt, slot, step}
 use Rattle.cell.specs.Loop.{loopSize, dart, loopDarts, folded, normal, leasts}
 use Rattle.cell.specs.Triangles.{loopCount, manyFrom, triangleCount}
 use Rattle.cell.proofs.Lay.{lay}
@@ -112,7 +112,7 @@ module _ (v w : Edges) (same : (k : ℕ) → k < 6 → v .count k ≡ w .count k
 
       y-lt : y < N
       unfolding step slot
-      y-lt = live N (first v) (second v) (mate v) (ports v) d h
+      y-lt = live N (firstSlotAt v) (secondSlotAt v) (mate v) (ports v) d h
 
       lands : mate w (slot w (lift to d)) (lift to d / 2) ≡ to y
       lands = rw (slot-to, half-lift) (mate-to x (omega arith) (slot v d) (slot-has v d l) y-lt)

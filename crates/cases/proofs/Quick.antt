@@ -17,7 +17,7 @@ use Rattle.walk.specs.Walk as walk
 use Rattle.manifold.specs.Shape.{shapeOf, manyOf}
 use Rattle.cell.specs.Cell.{Edges, crossings, base, edge}
 use Rattle.cell.specs.Level.{byEdge}
-use Rattle.cases.specs.Cases.{alone}
+use Rattle.cases.specs.Cases.{loneEdges}
 
 -- the step of a dart, as `cell` defines it, with N crossings and the lists of counts, of what is laid before each edge, and of the crossings' edges
 module _ (N : ℕ) (counts bases edges : List ℕ) where
@@ -64,7 +64,7 @@ unfoldable pub digit : ℕ → ℕ → ℕ
 digit n k = n / 3 ^ (5 - k) % 3
 
 unfoldable pub bothFor : List ℕ → List ℕ
-bothFor l = both (alone (byEdge l))
+bothFor l = both (loneEdges (byEdge l))
 
 unfoldable pub entryAt : ℕ → List ℕ
 entryAt n = bothFor (values (digit n) 6)

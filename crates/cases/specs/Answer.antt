@@ -7,7 +7,7 @@ use Rattle.cell.specs.Common.{isCommon}
 use Rattle.cell.specs.Triangles.{loopCount, triangleCount}
 use Rattle.cases.specs.declared.Case.{Case}
 use Rattle.cases.specs.declared.Case.the-variants.{Common, Outside}
-use Rattle.cases.specs.Cases.{entries, entryOf, alone}
+use Rattle.cases.specs.Cases.{entries, entryOf, loneEdges}
 
 -- the loops and the triangles; or nothing, for a cell outside the table
 abbrev pub caseNumbers : Case → List ℕ
@@ -16,7 +16,7 @@ caseNumbers Outside = result []
 
 -- what is answered for the counts w k of a cell's edges k
 unfoldable pub caseAnswer : (ℕ → ℕ) → List ℕ
-caseAnswer w = pick (isCommon w) (result (loopCount (alone w) ∷ triangleCount (alone w) ∷ [])) (result [])
+caseAnswer w = pick (isCommon w) (result (loopCount (loneEdges w) ∷ triangleCount (loneEdges w) ∷ [])) (result [])
 
 -- the number of a cell's entry; the number of entries where it has none
 unfoldable pub findEntry : (ℕ → ℕ) → ℕ

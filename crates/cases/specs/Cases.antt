@@ -18,5 +18,5 @@ unfolding fromDigits
 entryOf w = fromDigits w 6
 
 -- the edges of a cell that is alone, by its counts: of two edges that start alike the first is laid first
-abbrev pub alone : (ℕ → ℕ) → Edges
-alone w = record { count = w; start = λ k. 0 }
+abbrev pub loneEdges : (ℕ → ℕ) → Edges
+loneEdges w = record { count = w; start = λ k. 0 }

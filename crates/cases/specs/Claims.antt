@@ -26,8 +26,8 @@ abbrev pub OneToOne : Type 0
 OneToOne = (j k : Case) → caseNumbers j ≡ caseNumbers k → j ≡ k
 
 -- two numbers to an entry
-abbrev pub Whole : Type 0
-Whole = length table ≡ 2 * entries
+abbrev pub TableLength : Type 0
+TableLength = length table ≡ 2 * entries
 
 -- the entry of a common cell with the edges w is what its walks find, wherever its crossing numbers start
 pub record Entry (w : Edges) : Type 0 where

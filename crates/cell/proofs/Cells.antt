@@ -17,7 +17,7 @@ use Rattle.counting.proofs.Fronts.{over-more, over-at}
 use Rattle.counting.proofs.Stored.{summed-more}
 use Rattle.cell.specs.declared.Cell.{Cell}
 use Rattle.cell.specs.Cell.{Edges, crossings}
-use Rattle.cell.specs.Loop.{loopSize, leasts, answerFrom, loopAnswer}
+use Rattle.cell.specs.Loop.{loopSize, leasts, loopTold, loopAnswer}
 use Rattle.cell.specs.Limits.{mostInCell}
 use Rattle.cell.specs.Round.{roundAnswer}
 use Rattle.cell.specs.declared.Triangle.{Triangle}
@@ -96,8 +96,8 @@ module _ (c : Cell) {k p left : ℕ} (S : Seeking (leastAt (edgesOf c)) k p left
   w = edgesOf c
 
   pub loop-off : p ≡ crossings w → result [] ≡ loopAnswer w (c .nodes) k
-  unfolding loopAnswer leasts kept answerFrom
-  loop-off l = sym (ap (answerFrom w (c .nodes)) (rw l at (seeking-off (leastAt w) S)))
+  unfolding loopAnswer leasts kept loopTold
+  loop-off l = sym (ap (loopTold w (c .nodes)) (rw l at (seeking-off (leastAt w) S)))
 
   pub loop-skip : loopSize w p ≡ 0 → Seeking (leastAt w) k (p + 1) left
   loop-skip z = rw (sub-zero left) at (seeking-more (leastAt w) S 0 (rw (le-ltb 0 (loopSize w p) (omega arith)) refl) (omega arith))
@@ -110,7 +110,7 @@ module _ (c : Cell) {k p left : ℕ} (S : Seeking (leastAt (edgesOf c)) k p left
     loop-pass l = seeking-more (leastAt w) S 1 (sym (ap length one)) l
 
     pub loop-here : p < crossings w → left ≡ 0 → {m : ℕ} {b : Bool} {hs ps : List ℕ} → Looped c p m b hs ps → roundAnswer (c .nodes) hs ps b ≡ loopAnswer w (c .nodes) k
-    unfolding loopAnswer leasts kept answerFrom
+    unfolding loopAnswer leasts kept loopTold
     loop-here l z L =
         let e = seeking-here (leastAt w) S (crossings w) l (omega arith) in
-        rw (L .halves-are, L .points-are, L .told) (answer-is c p l h ∙ sym (ap (answerFrom w (c .nodes)) (rw (z, one) at e)))
+        rw (L .halves-are, L .points-are, L .told) (answer-is c p l h ∙ sym (ap (loopTold w (c .nodes)) (rw (z, one) at e)))

@@ -17,7 +17,7 @@ use Rattle.counting.specs.Range.{over}
 use Rattle.counting.specs.Search.{count}
 use Rattle.counting.specs.Stored.{Stored, storedIn, nextIn}
 use Rattle.counting.proofs.Bools.{clash, and-left, and-right, and-false-right, or-right, or-cases}
-use Rattle.counting.proofs.Lists.{gather-over}
+use Rattle.counting.proofs.Lists.{gather-over, one-long, one-ext}
 use Rattle.counting.proofs.Range.{length-over, total-ext, over-ext}
 use Rattle.counting.proofs.Search.{below-or, every-is, is-every, every-not, count-total, count-le}
 use Rattle.counting.proofs.Stored.{stored-none, stored-as, stored-more, stored-fits, stored-room, stored-not, stored-nothing, stored-same}
@@ -60,15 +60,6 @@ module _ (n : ℕ) (normal : Bool) where
 
   pub fan-else : n ≢ 0 → n ≢ 3 → (n ≡ 4 → normal ≡ false) → 1 ≡ one (hasMiddle n normal)
   fan-else a b h = ap one (sym (fan-middle n normal (omega arith) (shape-else n normal b h)))
-
--- a list of one point, or of none
-one-long : (b : Bool) (p : Place) → length (pick b (p ∷ []) []) ≡ one b
-one-long true p = refl
-one-long false p = refl
-
-one-ext : (b : Bool) (p q : Place) → (b ≡ true → p ≡ q) → pick b (p ∷ []) [] ≡ pick b (q ∷ []) []
-one-ext true p q h = ap (λ (x : Place). x ∷ []) (h refl)
-one-ext false p q h = refl
 
 -- two choices by the same test
 choice : (b : Bool) {d : Bool} {p q r s : Place} → b ≡ d → (b ≡ true → p ≡ q) → r ≡ s → pick b p r ≡ pick d q s

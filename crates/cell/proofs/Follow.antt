@@ -12,7 +12,7 @@ use Rattle.slots.proofs.Slots.{EdgeSlot, edge-slot, one-of-two, two-slots, slot
 use Rattle.walk.specs.Darts.{half, rev}
 use Rattle.walk.specs.Walk.{flat}
 use Rattle.walk.proofs.Step as walks
-use Rattle.cell.specs.Cell.{Edges, crossings, edge, mate, first, second, slot, step}
+use Rattle.cell.specs.Cell.{Edges, crossings, edge, mate, firstSlotAt, secondSlotAt, slot, step}
 use Rattle.cell.specs.Claims.{Lies, Joined, AllJoined, runsAlong, StepOf}
 use Rattle.cell.proofs.Lay.{lay}
 use Rattle.cell.proofs.Step.{step-is, slot-first, slot-second}
@@ -38,16 +38,16 @@ module _ (w : Edges) where
   module _ (d : ℕ) (l : d < 2 * N) (on : step w d < 2 * N) where
     goes : mate w (slot w d) (d / 2) < N
     unfolding step slot
-    goes = walks.live N (first w) (second w) (mate w) (ports w) d on
+    goes = walks.live N (firstSlotAt w) (secondSlotAt w) (mate w) (ports w) d on
 
     back-slot : slot w (rev (step w d)) ≡ slot w d
     unfolding slot
     back-slot =
         ap (λ x. slot w (rev x)) (step-is w d)
-        ∙ walks.land-face N (first w) (second w) (mate w) (slot w d) (mate w (slot w d) (d / 2)) goes (ports w .lies d l goes)
+        ∙ walks.land-face N (firstSlotAt w) (secondSlotAt w) (mate w) (slot w d) (mate w (slot w d) (d / 2)) goes (ports w .lies d l goes)
 
     step-half : step w d / 2 ≡ mate w (slot w d) (d / 2)
-    step-half = ap half (step-is w d) ∙ walks.land-half N (first w) (second w) (mate w) (slot w d) (mate w (slot w d) (d / 2)) goes
+    step-half = ap half (step-is w d) ∙ walks.land-half N (firstSlotAt w) (secondSlotAt w) (mate w) (slot w d) (mate w (slot w d) (d / 2)) goes
 
     back-lt : rev (step w d) < 2 * N
     back-lt = walks.rev-lt N (step w d) on
@@ -106,7 +106,7 @@ module _ (w : Edges) where
   goes-on d l j =
       let m = mate-lt (slot w d) (d / 2) (lies-at d l) j in
       let h : step w d / 2 ≡ mate w (slot w d) (d / 2) =
-      ap half (step-is w d) ∙ walks.land-half N (first w) (second w) (mate w) (slot w d) (mate w (slot w d) (d / 2)) m in
+      ap half (step-is w d) ∙ walks.land-half N (firstSlotAt w) (secondSlotAt w) (mate w) (slot w d) (mate w (slot w d) (d / 2)) m in
       omega (arith, h, m)
 
   -- the darts along a segment are that of its one end, and the one back

@@ -12,21 +12,21 @@ use Rattle.counting.proofs.Bools.{and-left, and-right}
 use Rattle.counting.proofs.Search.{every-is}
 use Rattle.slots.specs.Slots.{slotEdge, edgeRank, contains, firstSlot}
 use Rattle.slots.proofs.Slots.{slot-edge, first-slot}
-use Rattle.cell.specs.Half.{halfEdges, slotOf, rankOf, edgeOf, halfOf, twin}
+use Rattle.cell.specs.Half.{halfEdges, halfSlot, rankOf, edgeOf, halfOf, twin}
 
 -- the half-edge that follows lies in the other slot of the same edge: the first if this one lies in the second
 twinTest : ℕ → Bool
 twinTest h =
     ltb (twin h) halfEdges
     && (eqb (edgeOf (twin h)) (edgeOf h)
-    && pick (eqb (firstSlot (edgeOf h)) (slotOf h)) (not (eqb (firstSlot (edgeOf h)) (slotOf (twin h)))) (eqb (firstSlot (edgeOf h)) (slotOf (twin h))))
+    && pick (eqb (firstSlot (edgeOf h)) (halfSlot h)) (not (eqb (firstSlot (edgeOf h)) (halfSlot (twin h)))) (eqb (firstSlot (edgeOf h)) (halfSlot (twin h))))
 
 twins-pass : every twinTest halfEdges ≡ true
 unfolding every twinTest twin edgeOf firstSlot
 twins-pass = refl
 
 module _ (h : ℕ) (l : h < halfEdges) where
-  pub slot-lt : slotOf h < 4
+  pub slot-lt : halfSlot h < 4
   slot-lt = omega arith
 
   pub place-lt : rankOf h < 3
@@ -34,15 +34,15 @@ module _ (h : ℕ) (l : h < halfEdges) where
 
   pub edge-lt : edgeOf h < 6
   unfolding edgeOf
-  edge-lt = slot-edge (slotOf h) (rankOf h) slot-lt place-lt .lt
+  edge-lt = slot-edge (halfSlot h) (rankOf h) slot-lt place-lt .lt
 
-  pub place-is : edgeRank (slotOf h) (edgeOf h) ≡ rankOf h
+  pub place-is : edgeRank (halfSlot h) (edgeOf h) ≡ rankOf h
   unfolding edgeOf
-  place-is = slot-edge (slotOf h) (rankOf h) slot-lt place-lt .place-is
+  place-is = slot-edge (halfSlot h) (rankOf h) slot-lt place-lt .place-is
 
-  pub within : contains (edgeOf h) (slotOf h) ≡ true
+  pub within : contains (edgeOf h) (halfSlot h) ≡ true
   unfolding edgeOf
-  within = slot-edge (slotOf h) (rankOf h) slot-lt place-lt .within
+  within = slot-edge (halfSlot h) (rankOf h) slot-lt place-lt .within
 
   twin-passes : twinTest h ≡ true
   twin-passes = every-is twinTest halfEdges twins-pass h l
@@ -56,19 +56,19 @@ module _ (h : ℕ) (l : h < halfEdges) where
   twin-edge =
       eqb-true (edgeOf (twin h)) (edgeOf h) (and-left (eqb (edgeOf (twin h)) (edgeOf h)) _ (and-right (ltb (twin h) halfEdges) _ twin-passes))
 
-  twin-slot : pick (eqb (firstSlot (edgeOf h)) (slotOf h)) (not (eqb (firstSlot (edgeOf h)) (slotOf (twin h)))) (eqb (firstSlot (edgeOf h)) (slotOf (twin h))) ≡ true
+  twin-slot : pick (eqb (firstSlot (edgeOf h)) (halfSlot h)) (not (eqb (firstSlot (edgeOf h)) (halfSlot (twin h)))) (eqb (firstSlot (edgeOf h)) (halfSlot (twin h))) ≡ true
   unfolding twinTest
   twin-slot = and-right (eqb (edgeOf (twin h)) (edgeOf h)) _ (and-right (ltb (twin h) halfEdges) _ twin-passes)
 
   -- the one half-edge of an edge lies in its first slot, the other in its second
-  pub twin-second : firstSlot (edgeOf h) ≡ slotOf h → eqb (firstSlot (edgeOf h)) (slotOf (twin h)) ≡ false
-  twin-second e = borrow.Author.Tests.not-true (eqb (firstSlot (edgeOf h)) (slotOf (twin h))) (rw (eq-eqb (firstSlot (edgeOf h)) (slotOf h) e) at twin-slot)
+  pub twin-second : firstSlot (edgeOf h) ≡ halfSlot h → eqb (firstSlot (edgeOf h)) (halfSlot (twin h)) ≡ false
+  twin-second e = borrow.Author.Tests.not-true (eqb (firstSlot (edgeOf h)) (halfSlot (twin h))) (rw (eq-eqb (firstSlot (edgeOf h)) (halfSlot h) e) at twin-slot)
 
-  pub twin-first : firstSlot (edgeOf h) ≢ slotOf h → eqb (firstSlot (edgeOf h)) (slotOf (twin h)) ≡ true
-  twin-first e = rw (ne-eqb (firstSlot (edgeOf h)) (slotOf h) e) at twin-slot
+  pub twin-first : firstSlot (edgeOf h) ≢ halfSlot h → eqb (firstSlot (edgeOf h)) (halfSlot (twin h)) ≡ true
+  twin-first e = rw (ne-eqb (firstSlot (edgeOf h)) (halfSlot h) e) at twin-slot
 
 -- the half-edge of edge j in slot s
-pub half-slot : (s j : ℕ) → j < 3 → slotOf (3 * s + j) ≡ s
+pub half-slot : (s j : ℕ) → j < 3 → halfSlot (3 * s + j) ≡ s
 half-slot s j l = omega arith
 
 pub half-place : (s j : ℕ) → j < 3 → rankOf (3 * s + j) ≡ j
@@ -79,7 +79,7 @@ unfolding edgeOf
 half-edge s j l = rw (half-slot s j l, half-place s j l)
 
 -- the half-edge of edge e in its first slot
-pub first-half : {e h : ℕ} → e < 6 → h ≡ halfOf (firstSlot e) e → (edgeOf h ≡ e) × (slotOf h ≡ firstSlot e) × (h < halfEdges)
+pub first-half : {e h : ℕ} → e < 6 → h ≡ halfOf (firstSlot e) e → (edgeOf h ≡ e) × (halfSlot h ≡ firstSlot e) × (h < halfEdges)
 unfolding halfOf
 first-half {e} {h} le q =
     let S = first-slot e le in

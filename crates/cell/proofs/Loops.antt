@@ -21,8 +21,8 @@ use Rattle.walk.proofs.Curve.{loop-short}
 use Rattle.walk.proofs.Once.{flat-room}
 use Rattle.walk.proofs.Iterate.{tally-orbit, length-orbit, it-suc}
 use Rattle.cell.specs.declared.Cell.{Cell}
-use Rattle.cell.specs.Cell.{Edges, crossings, edge, slot, first, second, mate, step}
-use Rattle.cell.specs.Loop.{loopSize, dart, loopDarts, normal, parity, inGrid, typeOf, answerFrom}
+use Rattle.cell.specs.Cell.{Edges, crossings, edge, slot, firstSlotAt, secondSlotAt, mate, step}
+use Rattle.cell.specs.Loop.{loopSize, dart, loopDarts, normal, parity, inGrid, typeOf, loopTold}
 use Rattle.cell.specs.Of.{edgesOf}
 use Rattle.cell.specs.Half.{halfEdges, edgeOf, halfOf, halfEdge}
 use Rattle.cell.specs.Scratch.{halvesFrom, pointsFrom}
@@ -60,8 +60,8 @@ module _ (w : Edges) where
     unfolding step slot
     step-moves h =
         let P = ports w in
-        let m = walks.live N (first w) (second w) (mate w) P d h in
-        λ e. P .other d l (sym (ap (λ n. n / 2) (step-is w d) ∙ walks.land-half N (first w) (second w) (mate w) (slot w d) (mate w (slot w d) (d / 2)) m) ∙ e)
+        let m = walks.live N (firstSlotAt w) (secondSlotAt w) (mate w) P d h in
+        λ e. P .other d l (sym (ap (λ n. n / 2) (step-is w d) ∙ walks.land-half N (firstSlotAt w) (secondSlotAt w) (mate w) (slot w d) (mate w (slot w d) (d / 2)) m) ∙ e)
 
   module _ (p : ℕ) (l : p < N) where
     -- a loop that is found
@@ -161,8 +161,8 @@ module _ (c : Cell) (p : ℕ) where
         (λ k a b. ap (λ x. one (eqb x e)) (sym (from-edge k (omega arith))))))
 
     -- what is answered of it
-    pub answer-is : 0 < size → roundAnswer (c .nodes) (halvesFrom c p) (pointsFrom c p) (normal cw p) ≡ answerFrom cw (c .nodes) (p ∷ [])
-    unfolding answerFrom typeOf roundAnswer
+    pub answer-is : 0 < size → roundAnswer (c .nodes) (halvesFrom c p) (pointsFrom c p) (normal cw p) ≡ loopTold cw (c .nodes) (p ∷ [])
+    unfolding loopTold typeOf roundAnswer
     answer-is h =
         let x : dart cw p 0 / 2 ≡ p = omega (arith, dart-zero cw p l) in
         rw (from-point 0 h, x, length-halves, ← parity-is 0, ← parity-is 1, ← parity-is 2) refl

@@ -13,7 +13,7 @@ use Rattle.walk.specs.Claims.{WalkLaws}
 use Rattle.walk.specs.Step as walk
 use Rattle.walk.proofs.Step as walks
 use Rattle.walk.proofs.Claims.{walkLaws}
-use Rattle.cell.specs.Cell.{Edges, crossings, edge, index, number, joinAt, joinedTo, mate, first, second, slot, step}
+use Rattle.cell.specs.Cell.{Edges, crossings, edge, index, number, joinAt, joinedTo, mate, firstSlotAt, secondSlotAt, slot, step}
 use Rattle.cell.proofs.Lay.{lay}
 use Rattle.cell.proofs.Step.{number-lt, edge-number, index-number, slot-first, slot-second}
 use Rattle.cell.proofs.Reach.{slot-count}
@@ -122,7 +122,7 @@ module _ (w : Edges) where
       (λ x l. let h : 2 * x / 2 ≡ x = omega arith in rw (h, slot-first w x) (first-slot (edge w x) (lay w .edge-lt x l)))
       (λ x l. let h : (2 * x + 1) / 2 ≡ x = omega arith in rw (h, slot-second w x) (second-slot (edge w x) (lay w .edge-lt x l)))
 
-  pub ports : walk.Ports N (first w) (second w) (mate w)
+  pub ports : walk.Ports N (firstSlotAt w) (secondSlotAt w) (mate w)
   unfolding slot
   ports = record {
     apart = λ x l e. omega (arith, e, two-slots (edge w x) (lay w .edge-lt x l) .apart);
@@ -133,7 +133,7 @@ module _ (w : Edges) where
 
   pub darts : Darts (2 * N) N (step w) rev half
   unfolding step
-  darts = walks.darts N (first w) (second w) (mate w) ports
+  darts = walks.darts N (firstSlotAt w) (secondSlotAt w) (mate w) ports
 
   pub laws : WalkLaws N (step w)
   laws = walkLaws N (step w) rev darts

@@ -13,8 +13,8 @@ use Rattle.face.proofs.Gaps.{corner-fits}
 use Rattle.face.proofs.Branches.{answer-low, answer-high, answer-up, answer-down, face-low, face-high, face-skip, face-up, face-down}
 use Rattle.cell.specs.Cell.{Edges, number, crossings, step}
 use Rattle.cell.specs.Loop.{folded}
-use Rattle.cell.specs.Half.{halfEdges, slotOf, rankOf, edgeOf, twin, around}
-use Rattle.cell.specs.Route.{cornerOf}
+use Rattle.cell.specs.Half.{halfEdges, halfSlot, rankOf, edgeOf, twin, around}
+use Rattle.cell.specs.Route.{halfCorner}
 use Rattle.cell.specs.Dart.{Parts, dartNumber}
 use Rattle.cell.proofs.Half.{place-lt, twin-lt, twin-edge, half-edge}
 use Rattle.cell.proofs.Step.{joinOn, answerOn, fold-is, step-joined, step-unjoined}
@@ -60,13 +60,13 @@ module _ (w : Edges) where
 
   module _ (h : ℕ) where
     abbrev ab : ℕ
-    ab = w .count (slotEdge (slotOf h) 0)
+    ab = w .count (slotEdge (halfSlot h) 0)
 
     abbrev ac : ℕ
-    ac = w .count (slotEdge (slotOf h) 1)
+    ac = w .count (slotEdge (halfSlot h) 1)
 
     abbrev bc : ℕ
-    bc = w .count (slotEdge (slotOf h) 2)
+    bc = w .count (slotEdge (halfSlot h) 2)
 
     module _ (l : h < halfEdges) where
       own : Edge (rankOf h)
@@ -74,15 +74,15 @@ module _ (w : Edges) where
 
       own-count : countOn ab ac bc (rankOf h) ≡ w .count (edgeOf h)
       unfolding edgeOf
-      own-count = slot-count (slotOf h) (rankOf h) (place-lt h l)
+      own-count = slot-count (halfSlot h) (rankOf h) (place-lt h l)
 
       -- the counts of the edge and of its two corners, as its face has them
-      corners : Corners ab ac bc (rankOf h) (w .count (edgeOf h)) (cornerOf w (lower (rankOf h)) h) (cornerOf w (upper (rankOf h)) h)
-      unfolding cornerOf
+      corners : Corners ab ac bc (rankOf h) (w .count (edgeOf h)) (halfCorner w (lower (rankOf h)) h) (halfCorner w (upper (rankOf h)) h)
+      unfolding halfCorner
       corners = record { edge = own; own = sym own-count; at-lower = refl; at-upper = refl }
 
-      pub high-own : cornerOf w (upper (rankOf h)) h ≤ w .count (edgeOf h)
-      unfolding cornerOf
+      pub high-own : halfCorner w (upper (rankOf h)) h ≤ w .count (edgeOf h)
+      unfolding halfCorner
       high-own = omega (arith, own-count, corner-fits ab ac bc (upper (rankOf h)) (rankOf h))
 
       -- the crossings of the next edge round the node v
@@ -91,14 +91,14 @@ module _ (w : Edges) where
       next-count v E =
           let i = other v (rankOf h) in
           let il : i < 3 = face-edge-lt (on (end-other E)) in
-          let gl : 3 * slotOf h + i < halfEdges = omega arith in
-          slot-count (slotOf h) i il ∙ ap (w .count) (sym (twin-edge (3 * slotOf h + i) gl ∙ half-edge (slotOf h) i il))
+          let gl : 3 * halfSlot h + i < halfEdges = omega arith in
+          slot-count (halfSlot h) i il ∙ ap (w .count) (sym (twin-edge (3 * halfSlot h + i) gl ∙ half-edge (halfSlot h) i il))
 
       around-lt : (v : ℕ) → End v (rankOf h) → around v h < halfEdges
       unfolding around
       around-lt v E =
           let il : other v (rankOf h) < 3 = face-edge-lt (on (end-other E)) in
-          twin-lt (3 * slotOf h + other v (rankOf h)) (omega arith)
+          twin-lt (3 * halfSlot h + other v (rankOf h)) (omega arith)
 
       pub low-lt : around (lower (rankOf h)) h < halfEdges
       low-lt = around-lt (lower (rankOf h)) (low own)
@@ -107,14 +107,14 @@ module _ (w : Edges) where
       high-lt = around-lt (upper (rankOf h)) (high own)
 
       -- a corner's crossings are on both of its edges
-      around-fits : (v k : ℕ) → End v (rankOf h) → k < cornerOf w v h → k < w .count (edgeOf (around v h))
-      unfolding cornerOf
+      around-fits : (v k : ℕ) → End v (rankOf h) → k < halfCorner w v h → k < w .count (edgeOf (around v h))
+      unfolding halfCorner
       around-fits v k E l = omega (arith, next-count v E, corner-fits ab ac bc v (rankOf h))
 
-      pub low-fits : (k : ℕ) → k < cornerOf w (lower (rankOf h)) h → k < w .count (edgeOf (around (lower (rankOf h)) h))
+      pub low-fits : (k : ℕ) → k < halfCorner w (lower (rankOf h)) h → k < w .count (edgeOf (around (lower (rankOf h)) h))
       low-fits k = around-fits (lower (rankOf h)) k (low own)
 
-      pub high-fits : (k : ℕ) → k < cornerOf w (upper (rankOf h)) h → k < w .count (edgeOf (around (upper (rankOf h)) h))
+      pub high-fits : (k : ℕ) → k < halfCorner w (upper (rankOf h)) h → k < w .count (edgeOf (around (upper (rankOf h)) h))
       high-fits k = around-fits (upper (rankOf h)) k (high own)
 
   module _ {h t x : ℕ} (P : Parts w h t x) where
@@ -124,25 +124,25 @@ module _ (w : Edges) where
     abbrev l : h < halfEdges
     l = P .half-lt
 
-    reach : (i u : ℕ) → i < 3 → u < w .count (slotEdge (slotOf h) i) → joinOn w h t ≡ joined i u → Reach w h x (twin (3 * slotOf h + i)) u
+    reach : (i u : ℕ) → i < 3 → u < w .count (slotEdge (halfSlot h) i) → joinOn w h t ≡ joined i u → Reach w h x (twin (3 * halfSlot h + i)) u
     reach i u il ul e =
-        let g = 3 * slotOf h + i in
+        let g = 3 * halfSlot h + i in
         let gl : g < halfEdges = omega (arith, P .half-lt) in
-        let k : edgeOf (twin g) ≡ slotEdge (slotOf h) i = twin-edge g gl ∙ half-edge (slotOf h) i il in
+        let k : edgeOf (twin g) ≡ slotEdge (halfSlot h) i = twin-edge g gl ∙ half-edge (halfSlot h) i il in
         record {
           parts = record { half-lt = twin-lt g gl; index-lt = rw k ul; number-is = refl };
           is = step-joined w P i u il ul e ∙ rw k refl;
         }
 
     -- round the node v, an end of the edge
-    round : {v : ℕ} (k : ℕ) → End v j → k < cornerOf w v h → joinOn w h t ≡ joined (other v j) (kth (ab h) (ac h) (bc h) v (other v j) k)
+    round : {v : ℕ} (k : ℕ) → End v j → k < halfCorner w v h → joinOn w h t ≡ joined (other v j) (kth (ab h) (ac h) (bc h) v (other v j) k)
         → Reach w h x (around v h) (kth (ab h) (ac h) (bc h) v (other v j) k)
-    unfolding around cornerOf
+    unfolding around halfCorner
     round {v} k E b e =
         let i = other v j in
         let il : i < 3 = face-edge-lt (on (end-other E)) in
         reach i (kth (ab h) (ac h) (bc h) v i k) il
-        (rw (slot-count (slotOf h) i il) at (kth-lt (ab h) (ac h) (bc h) v i k (omega (arith, corner-fits (ab h) (ac h) (bc h) v j)))) e
+        (rw (slot-count (halfSlot h) i il) at (kth-lt (ab h) (ac h) (bc h) v i k (omega (arith, corner-fits (ab h) (ac h) (bc h) v j)))) e
 
     join-face : joinOn w h t ≡ faceJoin (ab h) (ac h) (bc h) j t
     unfolding joinOn
@@ -159,45 +159,45 @@ module _ (w : Edges) where
     told-along : {u : ℕ} → faceAnswer (ab h) (ac h) (bc h) j t ≡ joinedBy j u along → folded w (dartNumber h x) ≡ true
     told-along e = answer-face ∙ ap isAlong e
 
-    pub low-told : t < cornerOf w (lower j) h → folded w (dartNumber h x) ≡ false
+    pub low-told : t < halfCorner w (lower j) h → folded w (dartNumber h x) ≡ false
     low-told b = told-round (lower j) t (answer-low (corners h l) t b)
 
-    pub high-told : (k : ℕ) → k ≡ w .count (edgeOf h) - 1 - t → k < cornerOf w (upper j) h → folded w (dartNumber h x) ≡ false
+    pub high-told : (k : ℕ) → k ≡ w .count (edgeOf h) - 1 - t → k < halfCorner w (upper j) h → folded w (dartNumber h x) ≡ false
     high-told k e b = told-round (upper j) (w .count (edgeOf h) - 1 - t) (answer-high (corners h l) t (P .index-lt) (omega arith))
 
     -- the k-th from its lower or its upper end
-    pub turn-low : t < cornerOf w (lower j) h → Reach w h x (around (lower j) h) (pick (eqb j 2) (w .count (edgeOf (around (lower j) h)) - 1 - t) t)
+    pub turn-low : t < halfCorner w (lower j) h → Reach w h x (around (lower j) h) (pick (eqb j 2) (w .count (edgeOf (around (lower j) h)) - 1 - t) t)
     turn-low b =
         rw (kth-low (ab h) (ac h) (bc h) (own h l) t, next-count h l (lower j) (low (own h l)))
         at (round t (low (own h l)) b (join-face ∙ face-low (corners h l) t b))
 
-    pub turn-high : (k : ℕ) → k ≡ w .count (edgeOf h) - 1 - t → k < cornerOf w (upper j) h
+    pub turn-high : (k : ℕ) → k ≡ w .count (edgeOf h) - 1 - t → k < halfCorner w (upper j) h
         → Reach w h x (around (upper j) h) (pick (ltb 0 j) (w .count (edgeOf (around (upper j) h)) - 1 - k) k)
     turn-high k e b =
         rw (kth-high (ab h) (ac h) (bc h) (own h l) k, next-count h l (upper j) (high (own h l)))
         at (round k (high (own h l)) b (join-face ∙ rw e (face-high (corners h l) t (P .index-lt) (omega arith))))
 
     -- past both corners: neighbours in pairs, down from the upper one
-    module _ (a : cornerOf w (lower j) h ≤ t) (b : t + cornerOf w (upper j) h < w .count (edgeOf h)) where
+    module _ (a : halfCorner w (lower j) h ≤ t) (b : t + halfCorner w (upper j) h < w .count (edgeOf h)) where
       fold : (u : ℕ) → u < w .count (edgeOf h) → faceJoin (ab h) (ac h) (bc h) j t ≡ joined j u → Reach w h x (twin h) u
       unfolding edgeOf
       fold u ul e =
-          let here : 3 * slotOf h + j ≡ h = omega arith in
+          let here : 3 * halfSlot h + j ≡ h = omega arith in
           let r = reach j u (place-lt h l) ul (join-face ∙ e) in
           rw here at r
 
-      pub up-told : (w .count (edgeOf h) - cornerOf w (upper j) h - t) % 2 ≡ 0 → folded w (dartNumber h x) ≡ true
+      pub up-told : (w .count (edgeOf h) - halfCorner w (upper j) h - t) % 2 ≡ 0 → folded w (dartNumber h x) ≡ true
       up-told z = told-along {u = t + 1} (answer-up (corners h l) t a b z)
 
-      pub between-up : (w .count (edgeOf h) - cornerOf w (upper j) h - t) % 2 ≡ 0 → Reach w h x (twin h) (t + 1)
+      pub between-up : (w .count (edgeOf h) - halfCorner w (upper j) h - t) % 2 ≡ 0 → Reach w h x (twin h) (t + 1)
       between-up z = fold (t + 1) (omega arith) (face-up (corners h l) t a b z)
 
-      module _ (z : (w .count (edgeOf h) - cornerOf w (upper j) h - t) % 2 ≡ 1) where
-        pub between-end : t ≡ cornerOf w (lower j) h → step w (dartNumber h x) ≡ 2 * crossings w
+      module _ (z : (w .count (edgeOf h) - halfCorner w (upper j) h - t) % 2 ≡ 1) where
+        pub between-end : t ≡ halfCorner w (lower j) h → step w (dartNumber h x) ≡ 2 * crossings w
         between-end e = step-unjoined w P (join-face ∙ face-skip (corners h l) t a b z e)
 
-        pub down-told : cornerOf w (lower j) h < t → folded w (dartNumber h x) ≡ true
+        pub down-told : halfCorner w (lower j) h < t → folded w (dartNumber h x) ≡ true
         down-told e = told-along {u = t - 1} (answer-down (corners h l) t a b z e)
 
-        pub between-down : cornerOf w (lower j) h < t → Reach w h x (twin h) (t - 1)
+        pub between-down : halfCorner w (lower j) h < t → Reach w h x (twin h) (t - 1)
         between-down e = fold (t - 1) (before-lt (P .index-lt)) (face-down (corners h l) t a b z e)

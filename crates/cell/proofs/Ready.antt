@@ -18,7 +18,7 @@ use Rattle.cell.specs.Cell.{Edges, crossings, number, step}
 use Rattle.cell.specs.Loop.{folded}
 use Rattle.cell.specs.Of.{edgesOf}
 use Rattle.cell.specs.Half.{halfEdges, rankOf, edgeOf, twin}
-use Rattle.cell.specs.Route.{cornerOf, columns, lowAt, highAt, countAt, roundLowAt, roundHighAt, twinAt, rankAt, Routed}
+use Rattle.cell.specs.Route.{halfCorner, columns, lowColumn, highColumn, countColumn, roundLowColumn, roundHighColumn, twinColumn, rankColumn, Routed}
 use Rattle.cell.specs.Limits.{mostInCell}
 use Rattle.cell.specs.Dart.{Spot, IsDartAt, Ready, AtLow, AtHigh, Turns, Beside, Leads, Onward, dartNumber, dartOf}
 use Rattle.cell.proofs.Reach.{Reach, high-own, low-lt, high-lt, low-fits, high-fits, turn-low, turn-high, between-end, between-up, between-down, low-told, high-told, up-told, down-told}
@@ -53,37 +53,37 @@ module _ {c : Cell} {t : List ℕ} {d : Dart} (R : Ready c t d) where
   abbrev own : ℕ → ℕ
   own i = getD t (columns * h + i) 0
 
-  pub low-is : own lowAt ≡ cornerOf w (lower (rankOf h)) h
+  pub low-is : own lowColumn ≡ halfCorner w (lower (rankOf h)) h
   low-is = low-at (R .routed) h l
 
-  pub high-is : own highAt ≡ cornerOf w (upper (rankOf h)) h
+  pub high-is : own highColumn ≡ halfCorner w (upper (rankOf h)) h
   high-is = high-at (R .routed) h l
 
-  pub count-is : own countAt ≡ w .count (edgeOf h)
+  pub count-is : own countColumn ≡ w .count (edgeOf h)
   count-is = count-at (R .routed) h l
 
   pub index-small : d .index < mostInCell
   index-small = omega (arith, fits (R .routed) h l (d .index) (R .dart .index-lt))
 
   -- round the lower end, and round the upper one
-  pub to-low : AtLow w d → Turns w d (own roundLowAt) (d .index) (eqb (own rankAt) 2)
+  pub to-low : AtLow w d → Turns w d (own roundLowColumn) (d .index) (eqb (own rankColumn) 2)
   to-low a =
       rw (low-next-at (R .routed) h l, place-at (R .routed) h l)
       (record { half-lt = low-lt w h l; room = low-fits w h l (d .index) a; is = turn-low w (R .dart) a .is; told = low-told w (R .dart) a })
 
-  pub to-high : (k : ℕ) → AtHigh w d k → Turns w d (own roundHighAt) k (ltb 0 (own rankAt))
+  pub to-high : (k : ℕ) → AtHigh w d k → Turns w d (own roundHighColumn) k (ltb 0 (own rankColumn))
   to-high k A =
       rw (high-next-at (R .routed) h l, place-at (R .routed) h l)
       (record { half-lt = high-lt w h l; room = high-fits w h l k (A .below); is = turn-high w (R .dart) k (A .is) (A .below) .is; told = high-told w (R .dart) k (A .is) (A .below) })
 
-  pub twin-is : own twinAt ≡ twin h
+  pub twin-is : own twinColumn ≡ twin h
   twin-is = twin-at (R .routed) h l
 
   -- by where the face call has the dart stand
-  pub upper-fits : own highAt ≤ own countAt
+  pub upper-fits : own highColumn ≤ own countColumn
   upper-fits = rw (high-is, count-is) (high-own w h l)
 
-  module _ {n p q : ℕ} (en : n ≡ own countAt) (ep : p ≡ own lowAt) (eq : q ≡ own highAt) where
+  module _ {n p q : ℕ} (en : n ≡ own countColumn) (ep : p ≡ own lowColumn) (eq : q ≡ own highColumn) where
     abbrev t₀ : ℕ
     t₀ = d .index
 
@@ -93,14 +93,14 @@ module _ {c : Cell} {t : List ℕ} {d : Dart} (R : Ready c t d) where
     pub stands-high : Stands p (n - q) t₀ High → AtHigh w d (n - 1 - t₀)
     stands-high s = record { is = rw (en ∙ count-is) refl; below = omega (arith, s .1, high-is, count-is, R .dart .index-lt) }
 
-    counts : (cornerOf w (lower (rankOf h)) h ≡ p) × (cornerOf w (upper (rankOf h)) h ≡ q) × (w .count (edgeOf h) ≡ n)
+    counts : (halfCorner w (lower (rankOf h)) h ≡ p) × (halfCorner w (upper (rankOf h)) h ≡ q) × (w .count (edgeOf h) ≡ n)
     counts = (sym (ep ∙ low-is), sym (eq ∙ high-is), sym (en ∙ count-is))
 
     module _ (W : Within p (n - q) t₀) where
-      low : cornerOf w (lower (rankOf h)) h ≤ t₀
+      low : halfCorner w (lower (rankOf h)) h ≤ t₀
       low = rw (counts .0) (W .low)
 
-      high : t₀ + cornerOf w (upper (rankOf h)) h < w .count (edgeOf h)
+      high : t₀ + halfCorner w (upper (rankOf h)) h < w .count (edgeOf h)
       high = omega (arith, W .high, counts)
 
       beside : {u : ℕ} → Reach w h (d .number) (twin h) u → folded w (dartOf d) ≡ true → Beside w d u
@@ -108,16 +108,16 @@ module _ {c : Cell} {t : List ℕ} {d : Dart} (R : Ready c t d) where
 
       pub stands-up : (n - q - t₀) % 2 ≡ 0 → Beside w d (t₀ + 1)
       stands-up z =
-          let y : (w .count (edgeOf h) - cornerOf w (upper (rankOf h)) h - t₀) % 2 ≡ 0 = rw (counts .1, counts .2) z in
+          let y : (w .count (edgeOf h) - halfCorner w (upper (rankOf h)) h - t₀) % 2 ≡ 0 = rw (counts .1, counts .2) z in
           beside (between-up w (R .dart) low high y) (up-told w (R .dart) low high y)
 
       module _ (z : (n - q - t₀) % 2 ≡ 1) where
-        y : (w .count (edgeOf h) - cornerOf w (upper (rankOf h)) h - t₀) % 2 ≡ 1
+        y : (w .count (edgeOf h) - halfCorner w (upper (rankOf h)) h - t₀) % 2 ≡ 1
         y = rw (counts .1, counts .2) z
 
         pub stands-down : p < t₀ → Beside w d (t₀ - 1)
         stands-down e =
-            let f : cornerOf w (lower (rankOf h)) h < t₀ = rw (counts .0) e in
+            let f : halfCorner w (lower (rankOf h)) h < t₀ = rw (counts .0) e in
             beside (between-down w (R .dart) low high y f) (down-told w (R .dart) low high y f)
 
         pub stands-alone : t₀ ≡ p → step w (dartOf d) ≡ 2 * crossings w
@@ -129,7 +129,7 @@ module _ {c : Cell} {t : List ℕ} (R : Routed c t) {d : Dart} {g k : ℕ} {over
   v = edgesOf c
 
   -- the crossings of the edge, as they are read
-  pub turn-count : getD t (columns * g + countAt) 0 ≡ v .count (edgeOf g)
+  pub turn-count : getD t (columns * g + countColumn) 0 ≡ v .count (edgeOf g)
   turn-count = count-at R g (T .half-lt)
 
   to : (b : Bool) (u : ℕ) → over ≡ b → u ≡ pick b (v .count (edgeOf g) - 1 - k) k → u < v .count (edgeOf g) → Reach v (d .half) (d .number) g u
@@ -138,7 +138,7 @@ module _ {c : Cell} {t : List ℕ} (R : Routed c t) {d : Dart} {g k : ℕ} {over
     is = T .is ∙ ap (λ a. dartNumber g (number v (edgeOf g) (pick a (v .count (edgeOf g) - 1 - k) k))) e ∙ ap (λ a. dartNumber g (number v (edgeOf g) a)) (sym q);
   }
 
-  pub over-to : over ≡ true → (n : ℕ) → n ≡ getD t (columns * g + countAt) 0 → Reach v (d .half) (d .number) g (n - 1 - k)
+  pub over-to : over ≡ true → (n : ℕ) → n ≡ getD t (columns * g + countColumn) 0 → Reach v (d .half) (d .number) g (n - 1 - k)
   over-to e n q = to true (n - 1 - k) e (ap (λ a. a - 1 - k) (q ∙ turn-count)) (omega (arith, q, turn-count, T .room))
 
   pub on-to : over ≡ false → Reach v (d .half) (d .number) g k

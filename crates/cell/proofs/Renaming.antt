@@ -25,7 +25,7 @@ use Rattle.cell.specs.declared.Cell.{Cell}
 use Rattle.cell.specs.declared.Corner.the-variants.{Crossing, Middle}
 use Rattle.cell.specs.declared.Side.the-variants.{Segment, Inner}
 use Rattle.face.specs.Face.{isAlong}
-use Rattle.cell.specs.Cell.{Edges, ahead, base, crossings, edge, index, number, answerAt, joinAt, mate, first, second, slot, step}
+use Rattle.cell.specs.Cell.{Edges, ahead, base, crossings, edge, index, number, answerAt, joinAt, mate, firstSlotAt, secondSlotAt, slot, step}
 use Rattle.cell.specs.Loop.{loopSize, dart, folded, normal, inGrid}
 use Rattle.cell.specs.Of.{countOf, startOf}
 use Rattle.cell.specs.Triangles.{edgesOf, triangle, numberOf, segmentOf, point, segment, loopTriangles, cellTriangles}
@@ -145,7 +145,7 @@ module _ (r : Renaming) (a b : Cell) (R : RenamedCell r a b) where
     unfolding walk.land
     step-same = step-is v d ∙ land (slot v d) (mate v (slot v d) (d / 2)) ∙ rw (onward, slot-same) (sym (step-is w d))
       where
-        land : (f y : ℕ) → walk.land N (first v) (second v) (mate v) f y ≡ walk.land N (first w) (second w) (mate w) f y
+        land : (f y : ℕ) → walk.land N (firstSlotAt v) (secondSlotAt v) (mate v) f y ≡ walk.land N (firstSlotAt w) (secondSlotAt w) (mate w) f y
         land f y = elim (decLt y N) [ yes h ↦ rw (edge-same y h) | no h ↦ rw (le-ltb y N (omega arith)) ]
 
     -- the segment along a dart that goes on

@@ -31,7 +31,7 @@ use Rattle.cell.specs.declared.Run.{Run}
 use Rattle.cell.specs.Cell.{Edges, ahead, base, number}
 use Rattle.cell.specs.Of.{countOf, startOf, edgesOf}
 use Rattle.cell.specs.Half.{halfEdges, rankOf, edgeOf, halfOf, twin, around}
-use Rattle.cell.specs.Route.{columns, lowAt, highAt, countAt, firstAt, startAt, roundLowAt, roundHighAt, twinAt, rankAt, cornerOf, front, fronts, links, IsRun, SlotRuns, Routed}
+use Rattle.cell.specs.Route.{columns, lowColumn, highColumn, countColumn, firstColumn, startColumn, roundLowColumn, roundHighColumn, twinColumn, rankColumn, halfCorner, front, fronts, links, IsRun, SlotRuns, Routed}
 use Rattle.cell.specs.Limits.{mostInCell, startLimit}
 use Rattle.cell.proofs.Lay.{base-all, laid-same}
 use Rattle.cell.proofs.Half.{edge-lt, half-slot, half-place, half-edge, first-half}
@@ -43,7 +43,7 @@ length-front w h = refl
 -- the five numbers of edge j of slot s, with the corner counts of the slot's face
 front-at : (w : Edges) (s j : ℕ) → j < 3 → (k : List ℕ) → k ≡ corners (w .count (slotEdge s 0)) (w .count (slotEdge s 1)) (w .count (slotEdge s 2))
     → front w (3 * s + j) ≡ getD k (lower j) 0 ∷ getD k (upper j) 0 ∷ w .count (slotEdge s j) ∷ base w (slotEdge s j) ∷ w .start (slotEdge s j) ∷ []
-unfolding front cornerOf
+unfolding front halfCorner
 front-at w s j l k e =
     rw (
       half-slot s j l,
@@ -208,47 +208,47 @@ module _ {c : Cell} {t : List ℕ} (R : Routed c t) where
   w = edgesOf c
 
   module _ (h : ℕ) (l : h < halfEdges) where
-    pub low-at : getD t (columns * h + lowAt) 0 ≡ cornerOf w (lower (rankOf h)) h
+    pub low-at : getD t (columns * h + lowColumn) 0 ≡ halfCorner w (lower (rankOf h)) h
     unfolding front
-    low-at = R .counted h lowAt l (omega arith)
+    low-at = R .counted h lowColumn l (omega arith)
 
-    pub high-at : getD t (columns * h + highAt) 0 ≡ cornerOf w (upper (rankOf h)) h
+    pub high-at : getD t (columns * h + highColumn) 0 ≡ halfCorner w (upper (rankOf h)) h
     unfolding front
     high-at = R .counted h 1 l (omega arith)
 
-    pub count-at : getD t (columns * h + countAt) 0 ≡ w .count (edgeOf h)
+    pub count-at : getD t (columns * h + countColumn) 0 ≡ w .count (edgeOf h)
     unfolding front
     count-at = R .counted h 2 l (omega arith)
 
-    pub first-at : getD t (columns * h + firstAt) 0 ≡ base w (edgeOf h)
+    pub first-at : getD t (columns * h + firstColumn) 0 ≡ base w (edgeOf h)
     unfolding front
     first-at = R .counted h 3 l (omega arith)
 
-    pub start-at : getD t (columns * h + startAt) 0 ≡ startOf c (edgeOf h)
+    pub start-at : getD t (columns * h + startColumn) 0 ≡ startOf c (edgeOf h)
     unfolding front
     start-at = R .counted h 4 l (omega arith)
 
     pub start-near : startOf c (edgeOf h) < startLimit
     start-near = R .near (edgeOf h) (edge-lt h l)
 
-    pub low-next-at : getD t (columns * h + roundLowAt) 0 ≡ around (lower (rankOf h)) h
+    pub low-next-at : getD t (columns * h + roundLowColumn) 0 ≡ around (lower (rankOf h)) h
     unfolding links
     low-next-at = R .linked h 0 l (omega arith)
 
-    pub high-next-at : getD t (columns * h + roundHighAt) 0 ≡ around (upper (rankOf h)) h
+    pub high-next-at : getD t (columns * h + roundHighColumn) 0 ≡ around (upper (rankOf h)) h
     unfolding links
     high-next-at = R .linked h 1 l (omega arith)
 
-    pub twin-at : getD t (columns * h + twinAt) 0 ≡ twin h
+    pub twin-at : getD t (columns * h + twinColumn) 0 ≡ twin h
     unfolding links
     twin-at = R .linked h 2 l (omega arith)
 
-    pub place-at : getD t (columns * h + rankAt) 0 ≡ rankOf h
+    pub place-at : getD t (columns * h + rankColumn) 0 ≡ rankOf h
     unfolding links
     place-at = R .linked h 3 l (omega arith)
 
     -- all of an edge's crossings are among those of the cell
-    pub fits-all : getD t (columns * h + firstAt) 0 + getD t (columns * h + countAt) 0 ≤ mostInCell
+    pub fits-all : getD t (columns * h + firstColumn) 0 + getD t (columns * h + countColumn) 0 ≤ mostInCell
     fits-all = omega (arith, first-at, count-at, base-all w (edgeOf h) (edge-lt h l), R .few)
 
     pub fits : (u : ℕ) → u < w .count (edgeOf h) → number w (edgeOf h) u < mostInCell

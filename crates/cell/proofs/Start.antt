@@ -16,7 +16,7 @@ use Rattle.cell.specs.declared.Dart.{Dart}
 use Rattle.cell.specs.Cell.{Edges, base, crossings, holds, edge, index}
 use Rattle.cell.specs.Of.{edgesOf}
 use Rattle.cell.specs.Half.{halfEdges, halfOf}
-use Rattle.cell.specs.Route.{columns, countAt, firstAt, Routed}
+use Rattle.cell.specs.Route.{columns, countColumn, firstColumn, Routed}
 use Rattle.cell.specs.Walked.{Located, Starts}
 use Rattle.cell.proofs.Lay.{lay}
 use Rattle.cell.proofs.Half.{first-half}
@@ -30,17 +30,17 @@ and-true false = refl
 
 -- what is read there tells whether crossing p is one of edge e
 module _ {c : Cell} {t : List ℕ} (R : Routed c t) (e p : ℕ) {h : ℕ} (le : e < 6) (q : h ≡ halfOf (firstSlot e) e) (l : h < halfEdges) where
-  first-is : getD t (columns * h + firstAt) 0 ≡ base (edgesOf c) e
+  first-is : getD t (columns * h + firstColumn) 0 ≡ base (edgesOf c) e
   first-is = first-at R h l ∙ ap (base (edgesOf c)) (first-half le q .0)
 
-  count-is : getD t (columns * h + countAt) 0 ≡ edgesOf c .count e
+  count-is : getD t (columns * h + countColumn) 0 ≡ edgesOf c .count e
   count-is = count-at R h l ∙ ap (edgesOf c .count) (first-half le q .0)
 
-  pub not-on : getD t (columns * h + firstAt) 0 + getD t (columns * h + countAt) 0 ≤ p → false ≡ holds (edgesOf c) p e
+  pub not-on : getD t (columns * h + firstColumn) 0 + getD t (columns * h + countColumn) 0 ≤ p → false ≡ holds (edgesOf c) p e
   unfolding holds
   not-on b = rw (le-leb (base (edgesOf c) e) p (omega (arith, first-is)), le-ltb p (base (edgesOf c) e + edgesOf c .count e) (omega (arith, first-is, count-is)))
 
-  pub may-on : p < getD t (columns * h + firstAt) 0 + getD t (columns * h + countAt) 0 → leb (getD t (columns * h + firstAt) 0) p ≡ holds (edgesOf c) p e
+  pub may-on : p < getD t (columns * h + firstColumn) 0 + getD t (columns * h + countColumn) 0 → leb (getD t (columns * h + firstColumn) 0) p ≡ holds (edgesOf c) p e
   unfolding holds
   may-on b = rw (lt-ltb p (base (edgesOf c) e + edgesOf c .count e) (omega (arith, first-is, count-is)), first-is) (and-true (leb (base (edgesOf c) e) p))
 
@@ -64,12 +64,12 @@ module _ {c : Cell} {t : List ℕ} {p e : ℕ} (L : Located c t p e) where
   pub located-lt : e < 6
   located-lt = rw (L .is) (lay (edgesOf c) .edge-lt p (L .inside))
 
-  pub located-first : {h : ℕ} → h ≡ halfOf (firstSlot e) e → h < halfEdges → getD t (columns * h + firstAt) 0 ≤ p
+  pub located-first : {h : ℕ} → h ≡ halfOf (firstSlot e) e → h < halfEdges → getD t (columns * h + firstColumn) 0 ≤ p
   located-first q l = omega (arith, first-is (L .routed) e p located-lt q l, ap (base (edgesOf c)) (L .is), lay (edgesOf c) .back p (L .inside))
 
 -- the first dart of a crossing of edge e
 pub starts : {c : Cell} {t : List ℕ} {p e : ℕ} → Located c t p e → (h : ℕ) → h ≡ halfOf (firstSlot e) e → h < halfEdges
-    → (d : Dart) → d .half ≡ h → d .index ≡ p - getD t (columns * h + firstAt) 0 → d .number ≡ p → Starts (edgesOf c) p d
+    → (d : Dart) → d .half ≡ h → d .index ≡ p - getD t (columns * h + firstColumn) 0 → d .number ≡ p → Starts (edgesOf c) p d
 unfolding index
 starts {c} {t} {p} {e} L h q l d dh dt dp =
     let w = edgesOf c in

@@ -13,33 +13,33 @@ use Rattle.slots.proofs.Slots.{one-of-two}
 use Rattle.face.specs.Face.{joined, unjoined, isAlong, faceAnswer, faceJoin}
 use Rattle.walk.specs.Step as walk
 use Rattle.walk.proofs.Step.{face-first, face-second, land-first, land-second}
-use Rattle.cell.specs.Cell.{Edges, crossings, edge, index, number, answerAt, joinAt, joinedTo, mate, first, second, slot, step}
+use Rattle.cell.specs.Cell.{Edges, crossings, edge, index, number, answerAt, joinAt, joinedTo, mate, firstSlotAt, secondSlotAt, slot, step}
 use Rattle.cell.specs.Loop.{folded}
-use Rattle.cell.specs.Half.{halfEdges, slotOf, rankOf, edgeOf, twin}
+use Rattle.cell.specs.Half.{halfEdges, halfSlot, rankOf, edgeOf, twin}
 use Rattle.cell.specs.Dart.{Parts, dartNumber}
 use Rattle.cell.proofs.Lay.{lay}
 use Rattle.cell.proofs.Half.{slot-lt, edge-lt, place-is, within, twin-edge, twin-second, twin-first, half-slot, half-edge}
 
 -- what the face call joins a crossing to on the slot of half-edge h, and its whole answer
 unfoldable pub joinOn : Edges → ℕ → ℕ → List ℕ
-joinOn w h t = faceJoin (w .count (slotEdge (slotOf h) 0)) (w .count (slotEdge (slotOf h) 1)) (w .count (slotEdge (slotOf h) 2)) (rankOf h) t
+joinOn w h t = faceJoin (w .count (slotEdge (halfSlot h) 0)) (w .count (slotEdge (halfSlot h) 1)) (w .count (slotEdge (halfSlot h) 2)) (rankOf h) t
 
 unfoldable pub answerOn : Edges → ℕ → ℕ → List ℕ
-answerOn w h t = faceAnswer (w .count (slotEdge (slotOf h) 0)) (w .count (slotEdge (slotOf h) 1)) (w .count (slotEdge (slotOf h) 2)) (rankOf h) t
+answerOn w h t = faceAnswer (w .count (slotEdge (halfSlot h) 0)) (w .count (slotEdge (halfSlot h) 1)) (w .count (slotEdge (halfSlot h) 2)) (rankOf h) t
 
 -- the dart of crossing x that leaves by half-edge h is the first or the second
 module _ (h x : ℕ) where
-  pub number-first : firstSlot (edgeOf h) ≡ slotOf h → dartNumber h x ≡ 2 * x
+  pub number-first : firstSlot (edgeOf h) ≡ halfSlot h → dartNumber h x ≡ 2 * x
   unfolding dartNumber
-  number-first e = rw (eq-eqb (firstSlot (edgeOf h)) (slotOf h) e) (omega arith)
+  number-first e = rw (eq-eqb (firstSlot (edgeOf h)) (halfSlot h) e) (omega arith)
 
-  pub number-second : firstSlot (edgeOf h) ≢ slotOf h → dartNumber h x ≡ 2 * x + 1
+  pub number-second : firstSlot (edgeOf h) ≢ halfSlot h → dartNumber h x ≡ 2 * x + 1
   unfolding dartNumber
-  number-second e = rw (ne-eqb (firstSlot (edgeOf h)) (slotOf h) e)
+  number-second e = rw (ne-eqb (firstSlot (edgeOf h)) (halfSlot h) e)
 
   pub number-half : dartNumber h x / 2 ≡ x
   unfolding dartNumber
-  number-half = go (eqb (firstSlot (edgeOf h)) (slotOf h))
+  number-half = go (eqb (firstSlot (edgeOf h)) (halfSlot h))
     where
       go : (b : Bool) → (2 * x + one (not b)) / 2 ≡ x
       go true = omega arith
@@ -59,24 +59,24 @@ module _ (w : Edges) where
 
   pub slot-first : (x : ℕ) → slot w (2 * x) ≡ firstSlot (edge w x)
   unfolding slot
-  slot-first x = face-first (crossings w) (first w) (second w) (mate w) x
+  slot-first x = face-first (crossings w) (firstSlotAt w) (secondSlotAt w) (mate w) x
 
   pub slot-second : (x : ℕ) → slot w (2 * x + 1) ≡ secondSlot (edge w x)
   unfolding slot
-  slot-second x = face-second (crossings w) (first w) (second w) (mate w) x
+  slot-second x = face-second (crossings w) (firstSlotAt w) (secondSlotAt w) (mate w) x
 
-  pub step-is : (d : ℕ) → step w d ≡ walk.land (crossings w) (first w) (second w) (mate w) (slot w d) (mate w (slot w d) (d / 2))
+  pub step-is : (d : ℕ) → step w d ≡ walk.land (crossings w) (firstSlotAt w) (secondSlotAt w) (mate w) (slot w d) (mate w (slot w d) (d / 2))
   unfolding step walk.step slot
   step-is d = refl
 
-  land-none : (s x : ℕ) → crossings w ≤ x → walk.land (crossings w) (first w) (second w) (mate w) s x ≡ 2 * crossings w
+  land-none : (s x : ℕ) → crossings w ≤ x → walk.land (crossings w) (firstSlotAt w) (secondSlotAt w) (mate w) s x ≡ 2 * crossings w
   unfolding walk.land
   land-none s x l = rw (le-ltb x (crossings w) l)
 
   -- a crossing that is come to over half-edge g is left by its twin
   pub land-twin : (g u : ℕ) → g < halfEdges → u < w .count (edgeOf g)
-      → walk.land (crossings w) (first w) (second w) (mate w) (slotOf g) (number w (edgeOf g) u) ≡ dartNumber (twin g) (number w (edgeOf g) u)
-  land-twin g u l ul = go (eqb (firstSlot (edgeOf g)) (slotOf g)) refl
+      → walk.land (crossings w) (firstSlotAt w) (secondSlotAt w) (mate w) (halfSlot g) (number w (edgeOf g) u) ≡ dartNumber (twin g) (number w (edgeOf g) u)
+  land-twin g u l ul = go (eqb (firstSlot (edgeOf g)) (halfSlot g)) refl
     where
       y : ℕ
       y = number w (edgeOf g) u
@@ -87,15 +87,15 @@ module _ (w : Edges) where
       ye : edge w y ≡ edgeOf g
       ye = edge-number (edgeOf g) u (edge-lt g l) ul
 
-      go : (b : Bool) → eqb (firstSlot (edgeOf g)) (slotOf g) ≡ b → walk.land (crossings w) (first w) (second w) (mate w) (slotOf g) y ≡ dartNumber (twin g) y
+      go : (b : Bool) → eqb (firstSlot (edgeOf g)) (halfSlot g) ≡ b → walk.land (crossings w) (firstSlotAt w) (secondSlotAt w) (mate w) (halfSlot g) y ≡ dartNumber (twin g) y
       go true e =
-          let f = eqb-true (firstSlot (edgeOf g)) (slotOf g) e in
-          land-first (crossings w) (first w) (second w) (mate w) (slotOf g) y yl (ap firstSlot ye ∙ f)
-          ∙ sym (number-second (twin g) y (rw (twin-edge g l) (eqb-false (firstSlot (edgeOf g)) (slotOf (twin g)) (twin-second g l f))))
+          let f = eqb-true (firstSlot (edgeOf g)) (halfSlot g) e in
+          land-first (crossings w) (firstSlotAt w) (secondSlotAt w) (mate w) (halfSlot g) y yl (ap firstSlot ye ∙ f)
+          ∙ sym (number-second (twin g) y (rw (twin-edge g l) (eqb-false (firstSlot (edgeOf g)) (halfSlot (twin g)) (twin-second g l f))))
       go false e =
-          let f = eqb-false (firstSlot (edgeOf g)) (slotOf g) e in
-          land-second (crossings w) (first w) (second w) (mate w) (slotOf g) y yl (λ q. f (sym (ap firstSlot ye) ∙ q))
-          ∙ sym (number-first (twin g) y (rw (twin-edge g l) (eqb-true (firstSlot (edgeOf g)) (slotOf (twin g)) (twin-first g l f))))
+          let f = eqb-false (firstSlot (edgeOf g)) (halfSlot g) e in
+          land-second (crossings w) (firstSlotAt w) (secondSlotAt w) (mate w) (halfSlot g) y yl (λ q. f (sym (ap firstSlot ye) ∙ q))
+          ∙ sym (number-first (twin g) y (rw (twin-edge g l) (eqb-true (firstSlot (edgeOf g)) (halfSlot (twin g)) (twin-first g l f))))
 
   module _ {h t x : ℕ} (P : Parts w h t x) where
     number-in : x < crossings w
@@ -117,17 +117,17 @@ module _ (w : Edges) where
     parts-index = rw (number-half h x) index-in
 
     -- the dart's slot is that of its half-edge
-    pub parts-slot : slot w (dartNumber h x) ≡ slotOf h
-    parts-slot = go (eqb (firstSlot (edgeOf h)) (slotOf h)) refl
+    pub parts-slot : slot w (dartNumber h x) ≡ halfSlot h
+    parts-slot = go (eqb (firstSlot (edgeOf h)) (halfSlot h)) refl
       where
-        go : (b : Bool) → eqb (firstSlot (edgeOf h)) (slotOf h) ≡ b → slot w (dartNumber h x) ≡ slotOf h
-        go true e = let f = eqb-true (firstSlot (edgeOf h)) (slotOf h) e in rw (number-first h x f, slot-first x, edge-in) f
+        go : (b : Bool) → eqb (firstSlot (edgeOf h)) (halfSlot h) ≡ b → slot w (dartNumber h x) ≡ halfSlot h
+        go true e = let f = eqb-true (firstSlot (edgeOf h)) (halfSlot h) e in rw (number-first h x f, slot-first x, edge-in) f
         go false e =
-            let f = eqb-false (firstSlot (edgeOf h)) (slotOf h) e in
+            let f = eqb-false (firstSlot (edgeOf h)) (halfSlot h) e in
             rw (number-second h x f, slot-second x, edge-in)
-            (⊎-elim (λ q. absurd (f q)) (λ q. q) (one-of-two (edgeOf h) (slotOf h) (edge-lt h (P .half-lt)) (slot-lt h (P .half-lt)) (within h (P .half-lt))))
+            (⊎-elim (λ q. absurd (f q)) (λ q. q) (one-of-two (edgeOf h) (halfSlot h) (edge-lt h (P .half-lt)) (slot-lt h (P .half-lt)) (within h (P .half-lt))))
 
-    join-is : joinAt w (slotOf h) x ≡ joinOn w h t
+    join-is : joinAt w (halfSlot h) x ≡ joinOn w h t
     unfolding joinAt joinOn
     join-is = rw (edge-in, index-in, place-is h (P .half-lt))
 
@@ -136,24 +136,24 @@ module _ (w : Edges) where
     unfolding folded answerAt answerOn
     fold-is = rw (parts-slot, number-half h x, edge-in, index-in, place-is h (P .half-lt))
 
-    step-land : step w (dartNumber h x) ≡ walk.land (crossings w) (first w) (second w) (mate w) (slotOf h) (mate w (slotOf h) x)
+    step-land : step w (dartNumber h x) ≡ walk.land (crossings w) (firstSlotAt w) (secondSlotAt w) (mate w) (halfSlot h) (mate w (halfSlot h) x)
     step-land = step-is (dartNumber h x) ∙ rw (parts-slot, number-half h x)
 
     -- a step over a segment, and one from an unjoined crossing
-    pub step-joined : (j u : ℕ) → j < 3 → u < w .count (slotEdge (slotOf h) j) → joinOn w h t ≡ joined j u
-        → step w (dartNumber h x) ≡ dartNumber (twin (3 * slotOf h + j)) (number w (slotEdge (slotOf h) j) u)
+    pub step-joined : (j u : ℕ) → j < 3 → u < w .count (slotEdge (halfSlot h) j) → joinOn w h t ≡ joined j u
+        → step w (dartNumber h x) ≡ dartNumber (twin (3 * halfSlot h + j)) (number w (slotEdge (halfSlot h) j) u)
     unfolding mate joinedTo
     step-joined j u jl ul e =
-        let g = 3 * slotOf h + j in
-        let s : slotOf g ≡ slotOf h = half-slot (slotOf h) j jl in
-        let k : edgeOf g ≡ slotEdge (slotOf h) j = half-edge (slotOf h) j jl in
+        let g = 3 * halfSlot h + j in
+        let s : halfSlot g ≡ halfSlot h = half-slot (halfSlot h) j jl in
+        let k : edgeOf g ≡ slotEdge (halfSlot h) j = half-edge (halfSlot h) j jl in
         let gl : g < halfEdges = omega (arith, P .half-lt) in
-        let m : mate w (slotOf h) x ≡ number w (slotEdge (slotOf h) j) u = rw (join-is, e) in
+        let m : mate w (halfSlot h) x ≡ number w (slotEdge (halfSlot h) j) u = rw (join-is, e) in
         let a = land-twin g u gl (rw k ul) in
         step-land ∙ rw m (rw (s, k) at a)
 
     pub step-unjoined : joinOn w h t ≡ unjoined → step w (dartNumber h x) ≡ 2 * crossings w
     unfolding mate joinedTo
     step-unjoined e =
-        let m : mate w (slotOf h) x ≡ crossings w = rw (join-is, e) in
-        step-land ∙ rw m (land-none (slotOf h) (crossings w) (omega arith))
+        let m : mate w (halfSlot h) x ≡ crossings w = rw (join-is, e) in
+        step-land ∙ rw m (land-none (halfSlot h) (crossings w) (omega arith))

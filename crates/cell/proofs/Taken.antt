@@ -16,7 +16,7 @@ use Rattle.walk.specs.Iterate.{it}
 use Rattle.walk.specs.Step as steps
 use Rattle.walk.proofs.Step.{live, land-half}
 use Rattle.cell.specs.declared.Cell.{Cell}
-use Rattle.cell.specs.Cell.{Edges, crossings, first, second, mate, slot, step}
+use Rattle.cell.specs.Cell.{Edges, crossings, firstSlotAt, secondSlotAt, mate, slot, step}
 use Rattle.cell.proofs.Mates.{ports}
 use Rattle.cell.proofs.Loops.{sizes, dart-live, dart-after}
 use Rattle.cell.specs.Loop.{loopSize, dart, normal}
@@ -79,8 +79,8 @@ module _ (c : Cell) (p : ℕ) (l : p < crossings (edgesOf c)) where
   dart-leads k h =
       let d = dart w p k in
       let e = dart-after w p l k h in
-      let m = live (crossings w) (first w) (second w) (mate w) (ports w) d (subst (λ x. x < 2 * crossings w) e (dart-live w p l (after (loopSize w p) k) (after-lt (loopSize w p) k h))) in
-      sym (ap (λ x. x / 2) e ∙ land-half (crossings w) (first w) (second w) (mate w) (slot w d) (mate w (slot w d) (d / 2)) m)
+      let m = live (crossings w) (firstSlotAt w) (secondSlotAt w) (mate w) (ports w) d (subst (λ x. x < 2 * crossings w) e (dart-live w p l (after (loopSize w p) k) (after-lt (loopSize w p) k h))) in
+      sym (ap (λ x. x / 2) e ∙ land-half (crossings w) (firstSlotAt w) (secondSlotAt w) (mate w) (slot w d) (mate w (slot w d) (d / 2)) m)
 
 -- loop by loop
 pub length-cell : (c : Cell) → length (cellTriangles c) ≡ total (λ p. length (loopTriangles c p)) (crossings (edgesOf c)) 0

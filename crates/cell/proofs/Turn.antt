@@ -17,7 +17,7 @@ use Rattle.face.proofs.Gaps.{kth-lower, kth-upper}
 use Rattle.face.proofs.Corner.{corner-le, corner-swap}
 use Rattle.face.proofs.Claims.{faceLaws}
 use Rattle.cell.specs.Cell.{Edges, crossings, edge, index, slot, step}
-use Rattle.cell.specs.Half.{slotOf, edgeOf}
+use Rattle.cell.specs.Half.{halfSlot, edgeOf}
 use Rattle.cell.specs.Dart.{Parts, dartNumber}
 use Rattle.cell.proofs.Lay.{lay}
 use Rattle.cell.proofs.Half.{half-slot, half-place, half-edge}
@@ -177,7 +177,7 @@ module _ (w : Edges) where
       by-edge : {s k : ℕ} → EdgeSlot k s → edgeOf (by s k) ≡ k
       by-edge {s} {k} S = half-edge s (edgeRank s k) (S .place-lt) ∙ S .edge-is
 
-      by-slot : {s k : ℕ} → EdgeSlot k s → slotOf (by s k) ≡ s
+      by-slot : {s k : ℕ} → EdgeSlot k s → halfSlot (by s k) ≡ s
       by-slot {s} {k} S = half-slot s (edgeRank s k) (S .place-lt)
 
   pub crossing-is : (x : ℕ) → x < crossings w → crossingAt w (lo (edge w x)) (hi (edge w x)) (index w x) ≡ x

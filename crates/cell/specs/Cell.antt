@@ -62,15 +62,15 @@ module _ (w : Edges) where
   mate s x = joinedTo s (joinAt s x)
 
   -- the two slots of a crossing, the face whose third node is lower first
-  abbrev pub first : ℕ → ℕ
-  first x = firstSlot (edge x)
+  abbrev pub firstSlotAt : ℕ → ℕ
+  firstSlotAt x = firstSlot (edge x)
 
-  abbrev pub second : ℕ → ℕ
-  second x = secondSlot (edge x)
+  abbrev pub secondSlotAt : ℕ → ℕ
+  secondSlotAt x = secondSlot (edge x)
 
   -- the slot by which a dart leaves, and the dart after it; no dart where its curve ends
   unfoldable pub slot : ℕ → ℕ
-  slot = walk.face crossings first second mate
+  slot = walk.face crossings firstSlotAt secondSlotAt mate
 
   unfoldable pub step : ℕ → ℕ
-  step = walk.step crossings first second mate
+  step = walk.step crossings firstSlotAt secondSlotAt mate

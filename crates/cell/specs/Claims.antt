@@ -15,7 +15,7 @@ use Rattle.walk.specs.Walk.{flat}
 use Rattle.walk.specs.Claims.{WalkLaws}
 use Rattle.cell.specs.declared.LoopType.{LoopType}
 use Rattle.cell.specs.declared.Loop.{Loop}
-use Rattle.cell.specs.Cell.{Edges, ahead, base, crossings, edge, index, number, joinAt, mate, first, second, slot, step}
+use Rattle.cell.specs.Cell.{Edges, ahead, base, crossings, edge, index, number, joinAt, mate, firstSlotAt, secondSlotAt, slot, step}
 use Rattle.cell.specs.Loop.{loopSize, dart, loopDarts, normal, typeOf, inGrid, leasts}
 use Rattle.cell.specs.Answer.{typeNumbers, loopNumbers}
 
@@ -64,7 +64,7 @@ pub record Lay (w : Edges) : Type 0 where
 pub record CellLaws (w : Edges) (v : List ℕ) : Type 0 where
   pub lay : Lay w
   -- faces and mates, and so the step, are as a walk asks; so what holds of walks holds of the cell's
-  pub ports : Ports (crossings w) (first w) (second w) (mate w)
+  pub ports : Ports (crossings w) (firstSlotAt w) (secondSlotAt w) (mate w)
   pub darts : Darts (2 * crossings w) (crossings w) (step w) rev half
   pub walks : WalkLaws (crossings w) (step w)
   -- a loop has two segments or more, and no more than the cell has crossings

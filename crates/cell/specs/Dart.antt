@@ -12,10 +12,10 @@ use Rattle.cell.specs.declared.Dart.{Dart}
 use Rattle.cell.specs.declared.Next.{Next}
 use Rattle.cell.specs.declared.Next.the-variants.{On, End}
 use Rattle.cell.specs.Cell.{Edges, number, crossings, step}
-use Rattle.cell.specs.Half.{halfEdges, slotOf, rankOf, edgeOf, twin}
+use Rattle.cell.specs.Half.{halfEdges, halfSlot, rankOf, edgeOf, twin}
 use Rattle.cell.specs.Loop.{folded}
 use Rattle.cell.specs.Of.{edgesOf}
-use Rattle.cell.specs.Route.{cornerOf, Routed}
+use Rattle.cell.specs.Route.{halfCorner, Routed}
 
 pub record Parts (w : Edges) (h t x : ℕ) : Type 0 where
   pub half-lt : h < halfEdges
@@ -42,16 +42,16 @@ pub record Ready (c : Cell) (t : List ℕ) (d : Dart) : Type 0 where
 
 -- the dart is at the lower end of its edge, or the k-th crossing at the upper
 abbrev pub AtLow : Edges → Dart → Type 0
-AtLow w d = d .index < cornerOf w (lower (rankOf (d .half))) (d .half)
+AtLow w d = d .index < halfCorner w (lower (rankOf (d .half))) (d .half)
 
 pub record AtHigh (w : Edges) (d : Dart) (k : ℕ) : Type 0 where
   pub is : k ≡ w .count (edgeOf (d .half)) - 1 - d .index
-  pub below : k < cornerOf w (upper (rankOf (d .half))) (d .half)
+  pub below : k < halfCorner w (upper (rankOf (d .half))) (d .half)
 
 -- its number: the first dart of its crossing if it leaves by the first slot, else the second
 unfoldable pub dartNumber : ℕ → ℕ → ℕ
 unfolding edgeOf
-dartNumber h x = 2 * x + one (not (eqb (firstSlot (edgeOf h)) (slotOf h)))
+dartNumber h x = 2 * x + one (not (eqb (firstSlot (edgeOf h)) (halfSlot h)))
 
 abbrev pub dartOf : Dart → ℕ
 dartOf d = dartNumber (d .half) (d .number)

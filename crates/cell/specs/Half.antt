@@ -8,15 +8,15 @@ abbrev pub halfEdges : ℕ
 halfEdges = 12
 
 -- the slot of half-edge h, which of the slot's edges it is, and the edge of the cell
-abbrev pub slotOf : ℕ → ℕ
-slotOf h = h / 3
+abbrev pub halfSlot : ℕ → ℕ
+halfSlot h = h / 3
 
 abbrev pub rankOf : ℕ → ℕ
 rankOf h = h % 3
 
 unfoldable pub edgeOf : ℕ → ℕ
 unfolding slotEdge
-edgeOf h = slotEdge (slotOf h) (rankOf h)
+edgeOf h = slotEdge (halfSlot h) (rankOf h)
 
 -- the half-edge of edge k in slot s
 unfoldable pub halfOf : ℕ → ℕ → ℕ
@@ -26,12 +26,12 @@ halfOf s k = 3 * s + edgeRank s k
 -- the half-edge of the same edge in its other slot
 unfoldable pub twin : ℕ → ℕ
 unfolding edgeOf halfOf
-twin h = halfOf (otherSlot (edgeOf h) (slotOf h)) (edgeOf h)
+twin h = halfOf (otherSlot (edgeOf h) (halfSlot h)) (edgeOf h)
 
 -- where a curve goes on that leaves half-edge h round the node v of its slot: over to the other edge there, and on by its other slot
 unfoldable pub around : ℕ → ℕ → ℕ
 unfolding twin
-around v h = twin (3 * slotOf h + other v (rankOf h))
+around v h = twin (3 * halfSlot h + other v (rankOf h))
 
 -- the half-edge by which dart d of a cell leaves
 unfoldable pub halfEdge : Edges → ℕ → ℕ

@@ -67,10 +67,10 @@ module _ (w : Edges) where
     typeOf p = typeBy v (parity w p 0) (parity w p 1) (parity w p 2)
 
     -- what is answered of the loop from p: p0, n, normal or not, and its type; and of no loop
-    unfoldable pub answerFrom : List ℕ → List ℕ
-    answerFrom [] = result []
-    answerFrom (p ∷ l) = result (inGrid p ∷ loopSize w p ∷ one (normal w p) ∷ typeOf p)
+    unfoldable pub loopTold : List ℕ → List ℕ
+    loopTold [] = result []
+    loopTold (p ∷ l) = result (inGrid p ∷ loopSize w p ∷ one (normal w p) ∷ typeOf p)
 
     -- loop k of the cell (01); none if there are k or fewer
     unfoldable pub loopAnswer : ℕ → List ℕ
-    loopAnswer k = answerFrom (drop k leasts)
+    loopAnswer k = loopTold (drop k leasts)

@@ -19,12 +19,12 @@ sideName cell p0 (Segment f g) = seg f g
 sideName cell p0 (Inner k) = inner cell p0 k
 
 -- corner i of a triangle by its name, and side i, which runs from corner i to the next
-abbrev pub cornerAt : Triangle → ℕ → manifold.Corner
-cornerAt t zero = cornerName (t .cell) (t .p0) (t .corner0)
-cornerAt t (suc zero) = cornerName (t .cell) (t .p0) (t .corner1)
-cornerAt t (suc (suc i)) = cornerName (t .cell) (t .p0) (t .corner2)
+abbrev pub cornerNameAt : Triangle → ℕ → manifold.Corner
+cornerNameAt t zero = cornerName (t .cell) (t .p0) (t .corner0)
+cornerNameAt t (suc zero) = cornerName (t .cell) (t .p0) (t .corner1)
+cornerNameAt t (suc (suc i)) = cornerName (t .cell) (t .p0) (t .corner2)
 
-abbrev pub sideAt : Triangle → ℕ → manifold.Side
-sideAt t zero = sideName (t .cell) (t .p0) (t .side0)
-sideAt t (suc zero) = sideName (t .cell) (t .p0) (t .side1)
-sideAt t (suc (suc i)) = sideName (t .cell) (t .p0) (t .side2)
+abbrev pub sideNameAt : Triangle → ℕ → manifold.Side
+sideNameAt t zero = sideName (t .cell) (t .p0) (t .side0)
+sideNameAt t (suc zero) = sideName (t .cell) (t .p0) (t .side1)
+sideNameAt t (suc (suc i)) = sideName (t .cell) (t .p0) (t .side2)

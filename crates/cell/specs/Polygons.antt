@@ -3,13 +3,13 @@ use Prim.Native.Nat.{ℕ, _/_, _<_}
 use mathlib.Core.Path.{_≡_}
 use lib.ListN.{getD}
 use Rattle.cell.specs.declared.Cell.{Cell}
-use Rattle.cell.specs.Cell.{crossings, first, second, mate}
+use Rattle.cell.specs.Cell.{crossings, firstSlotAt, secondSlotAt, mate}
 use Rattle.cell.specs.Loop.{normal}
 use Rattle.manifold.specs.Plain.{Tri, tri}
 use Rattle.manifold.specs.Polygon.{Polygon}
 use Rattle.manifold.specs.Piece.{Local, slotOf, lowerOf, dart, sizeOf}
 use Rattle.cell.specs.declared.Triangle.{Triangle}
-use Rattle.cell.specs.Names.{cornerAt, sideAt}
+use Rattle.cell.specs.Names.{cornerNameAt, sideNameAt}
 use Rattle.cell.specs.Triangles.{edgesOf, numberOf}
 
 abbrev pub slotCount : ℕ
@@ -18,8 +18,8 @@ slotCount = 4
 abbrev pub localOf : Cell → Local
 localOf c = record {
   N = crossings (edgesOf c);
-  fa = first (edgesOf c);
-  fb = second (edgesOf c);
+  fa = firstSlotAt (edgesOf c);
+  fb = secondSlotAt (edgesOf c);
   mate = mate (edgesOf c);
   number = numberOf c;
   slots = slotCount;
@@ -40,7 +40,7 @@ polygonOf c p = record {
 
 -- a triangle by the names of its corners and sides alone
 abbrev pub named : Triangle → Tri
-named t = tri (cornerAt t 0) (cornerAt t 1) (cornerAt t 2) (sideAt t 0) (sideAt t 1) (sideAt t 2)
+named t = tri (cornerNameAt t 0) (cornerNameAt t 1) (cornerNameAt t 2) (sideNameAt t 0) (sideNameAt t 1) (sideNameAt t 2)
 
 -- crossing numbers tell the cell's crossings apart, and names its faces
 pub record Apart (c : Cell) : Type 0 where

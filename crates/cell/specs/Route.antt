@@ -11,48 +11,48 @@ use Rattle.cell.specs.declared.Run.{Run}
 use Rattle.cell.specs.Limits.{mostInCell, startLimit}
 use Rattle.cell.specs.Cell.{Edges, base, crossings}
 use Rattle.cell.specs.Of.{countOf, startOf, edgesOf, Near}
-use Rattle.cell.specs.Half.{halfEdges, slotOf, rankOf, edgeOf, twin, around}
+use Rattle.cell.specs.Half.{halfEdges, halfSlot, rankOf, edgeOf, twin, around}
 
 -- the columns of the routes: the corner counts at the lower and the upper end of the half-edge's edge; the edge's count, its first number in the cell
 -- and in the grid; the half-edges that follow round the lower end, round the upper end, and after a folded segment; its rank in the slot
 abbrev pub columns : ℕ
 columns = 9
 
-abbrev pub lowAt : ℕ
-lowAt = 0
+abbrev pub lowColumn : ℕ
+lowColumn = 0
 
-abbrev pub highAt : ℕ
-highAt = 1
+abbrev pub highColumn : ℕ
+highColumn = 1
 
-abbrev pub countAt : ℕ
-countAt = 2
+abbrev pub countColumn : ℕ
+countColumn = 2
 
-abbrev pub firstAt : ℕ
-firstAt = 3
+abbrev pub firstColumn : ℕ
+firstColumn = 3
 
-abbrev pub startAt : ℕ
-startAt = 4
+abbrev pub startColumn : ℕ
+startColumn = 4
 
-abbrev pub roundLowAt : ℕ
-roundLowAt = 5
+abbrev pub roundLowColumn : ℕ
+roundLowColumn = 5
 
-abbrev pub roundHighAt : ℕ
-roundHighAt = 6
+abbrev pub roundHighColumn : ℕ
+roundHighColumn = 6
 
-abbrev pub twinAt : ℕ
-twinAt = 7
+abbrev pub twinColumn : ℕ
+twinColumn = 7
 
-abbrev pub rankAt : ℕ
-rankAt = 8
+abbrev pub rankColumn : ℕ
+rankColumn = 8
 
 -- the corner count at the node v of the slot, on half-edge h
-unfoldable pub cornerOf : Edges → ℕ → ℕ → ℕ
-cornerOf w v h = cornerCountAt (w .count (slotEdge (slotOf h) 0)) (w .count (slotEdge (slotOf h) 1)) (w .count (slotEdge (slotOf h) 2)) v (rankOf h)
+unfoldable pub halfCorner : Edges → ℕ → ℕ → ℕ
+halfCorner w v h = cornerCountAt (w .count (slotEdge (halfSlot h) 0)) (w .count (slotEdge (halfSlot h) 1)) (w .count (slotEdge (halfSlot h) 2)) v (rankOf h)
 
 module _ (w : Edges) where
   -- the corner counts at the lower and the upper end; the edge's count, its first number in the cell and in the grid
   unfoldable pub front : ℕ → List ℕ
-  front h = cornerOf w (lower (rankOf h)) h ∷ cornerOf w (upper (rankOf h)) h ∷ w .count (edgeOf h) ∷ base w (edgeOf h) ∷ w .start (edgeOf h) ∷ []
+  front h = halfCorner w (lower (rankOf h)) h ∷ halfCorner w (upper (rankOf h)) h ∷ w .count (edgeOf h) ∷ base w (edgeOf h) ∷ w .start (edgeOf h) ∷ []
 
   -- t with these numbers for the three half-edges of slot s
   unfoldable pub fronts : ℕ → List ℕ → List ℕ
@@ -82,6 +82,6 @@ pub record SlotRuns (c : Cell) (s : ℕ) (ab ac bc : Run) : Type 0 where
 -- t has the routes of the cell: five numbers and four to each half-edge
 pub record Routed (c : Cell) (t : List ℕ) : Type 0 where
   pub counted : (h i : ℕ) → h < halfEdges → i < 5 → getD t (columns * h + i) 0 ≡ getD (front (edgesOf c) h) i 0
-  pub linked : (h i : ℕ) → h < halfEdges → i < 4 → getD t (columns * h + (roundLowAt + i)) 0 ≡ getD (links h) i 0
+  pub linked : (h i : ℕ) → h < halfEdges → i < 4 → getD t (columns * h + (roundLowColumn + i)) 0 ≡ getD (links h) i 0
   pub few : crossings (edgesOf c) ≤ mostInCell
   pub near : Near c

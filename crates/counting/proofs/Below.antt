@@ -1,4 +1,4 @@
--- Three numbers one by one; two numbers in order or equal; step by step; a function that rises tells its arguments.
+-- Three, four and six numbers one by one; two numbers in order or equal; step by step; a function that rises tells its arguments.
 use Prim.Native.Nat.{ℕ, zero, suc, _<_}
 use mathlib.Core.Path.{_≡_}
 use native.Mathlib.Decide.{decLt}
@@ -9,6 +9,15 @@ below-three P a b c zero h = a
 below-three P a b c (suc zero) h = b
 below-three P a b c (suc (suc zero)) h = c
 below-three P a b c (suc (suc (suc i))) h = absurd (omega arith)
+
+pub below-four : (P : ℕ → Type 0) → P 0 → P 1 → P 2 → P 3 → (n : ℕ) → n < 4 → P n
+below-four P a b c d zero h = a
+below-four P a b c d (suc n) h = below-three (λ n. P (suc n)) b c d n (omega arith)
+
+pub below-six : (P : ℕ → Type 0) → P 0 → P 1 → P 2 → P 3 → P 4 → P 5 → (n : ℕ) → n < 6 → P n
+below-six P a b c d e f zero h = a
+below-six P a b c d e f (suc zero) h = b
+below-six P a b c d e f (suc (suc n)) h = below-four (λ n. P (suc (suc n))) c d e f n (omega arith)
 
 pub trichotomy : {T : Type 0} (a b : ℕ) → (a < b → T) → (b < a → T) → (a ≡ b → T) → T
 trichotomy a b l g e = elim (decLt a b) [ yes h ↦ l h | no h ↦ elim (decLt b a) [ yes k ↦ g k | no k ↦ e (omega arith) ] ]

@@ -1,6 +1,6 @@
 -- Lists of equal length joined over a range, and their entries stored in another list one after the other.
 use Prim.Native.Nat.{ℕ, zero, suc, _+_, _-_, _*_, _≤_, _<_}
-use mathlib.Core.Path.{_≡_, refl, sym, ap, _∙_}
+use mathlib.Core.Path.{_≡_, refl, sym, ap, ap₂, _∙_}
 use mathlib.Core.Logic.{_⊎_, inl, inr}
 use mathlib.Core.List.{List, [], _∷_, _++_, append-assoc}
 use native.Mathlib.Nat.{zero-add, add-zero, mul-suc, mul-zero, mul-le-mul-left}
@@ -104,6 +104,18 @@ module _ {A : Type 0} (f : ℕ → List A) where
   over-shift m (suc n) p =
       let e : m + suc p ≡ suc (m + p) = omega arith in
       ap (λ l. f (m + p) ++ l) (over-shift m n (suc p) ∙ ap (over f n) e)
+
+-- a range in parts: part r is the places from s r up to s (r + 1)
+pub over-parts : {A : Type 0} (f : ℕ → List A) (s : ℕ → ℕ) (n : ℕ) → s 0 ≡ 0 → ((r : ℕ) → r < n → s r ≤ s (suc r)) → over (λ r. over f (s (suc r) - s r) (s r)) n 0 ≡ over f (s n) 0
+unfolding over
+over-parts f s zero z h = ap (λ k. over f k 0) (sym z)
+over-parts f s (suc n) z h =
+    let e : s n + (s (suc n) - s n) ≡ s (suc n) = omega (arith, h n (omega arith)) in
+    over-snoc (λ r. over f (s (suc r) - s r) (s r)) n 0
+    ∙ ap₂ (λ l k. l ++ over f (s (suc k) - s k) (s k)) (over-parts f s n z (λ r l. h r (omega arith))) (zero-add n)
+    ∙ ap (λ k. over f (s n) 0 ++ over f (s (suc n) - s n) k) (sym (zero-add (s n)))
+    ∙ sym (over-split f (s n) (s (suc n) - s n) 0)
+    ∙ ap (λ k. over f k 0) e
 
 -- list k and what stands before and after it
 pub over-at : {A : Type 0} (f : ℕ → List A) (n k : ℕ) → k < n → over f n 0 ≡ over f k 0 ++ (f k ++ over f (n - suc k) (suc k))

@@ -58,6 +58,10 @@ module _ (a b : ℕ) where
         let g = last both (suc (a + b)) - 1 in
         (divides-is g a (and-left (divides g a) (divides g b) e), divides-is g b (and-right (divides g a) (divides g b) e))
 
+-- a number that has a divisor above 1 with another is above 1
+pub gcd-above : (a b : ℕ) → 0 < b → 1 < gcd a b → 1 < b
+gcd-above a b h g = omega (arith, le-of-dvd h (gcd-both a b (omega arith) .1))
+
 -- the gcd either way round, with 0, and less one of the two
 pub gcd-swap : (a b : ℕ) → gcd a b ≡ gcd b a
 unfolding gcd
@@ -81,27 +85,6 @@ gcd-less a b h l =
     let (p, q) = gcd-both a b (omega arith) in
     gcd-is (a - b) b (gcd a b) (dvd-sub (gcd a b) p q) q (omega (arith, le-of-dvd l p))
     (λ e u v. gcd-most a b (omega arith) e (subst (λ n. e ∣ n) (omega arith) (dvd-add e u v)) v)
-
--- every common divisor divides it
-pub gcd-greatest : (e a b : ℕ) → e ∣ a → e ∣ b → e ∣ gcd a b
-gcd-greatest e a b = go (a + b) a b (omega arith)
-  where
-    with-zero : (a b : ℕ) → b ≡ 0 → e ∣ a → e ∣ gcd a b
-    with-zero a b z p = subst (λ g. e ∣ g) (sym (ap (gcd a) z ∙ gcd-zero a)) p
-
-    go : (n a b : ℕ) → a + b ≤ n → e ∣ a → e ∣ b → e ∣ gcd a b
-    go zero a b h p q = with-zero a b (omega arith) p
-    go (suc n) a b h p q =
-        elim (decLt 0 b) [
-          | no z ↦ with-zero a b (omega arith) p
-          | yes lb ↦ elim (decLt 0 a) [
-            | no z ↦ subst (λ g. e ∣ g) (gcd-swap b a) (with-zero b a (omega arith) q)
-            | yes la ↦ elim (decLt a b) [
-              | yes l ↦ subst (λ g. e ∣ g) (gcd-less b a (omega arith) lb ∙ gcd-swap b a) (go n (b - a) a (omega arith) (dvd-sub e q p) p)
-              | no l ↦ subst (λ g. e ∣ g) (gcd-less a b (omega arith) la) (go n (a - b) b (omega arith) (dvd-sub e p q) q)
-            ]
-          ]
-        ]
 
 -- o is the order of x modulo M
 pub record Order (x M o : ℕ) : Type 0 where

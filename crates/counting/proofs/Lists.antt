@@ -1,8 +1,8 @@
--- Laws of sums, tests and properties over a list.
+-- Laws of sums, tests, properties and joined lists over a list.
 use Prim.Native.Nat.{ℕ, zero, suc, _+_, _*_, _≤_, _<_}
 use mathlib.Core.Path.{_≡_, refl, sym, ap, ap₂, _∙_, subst}
 use mathlib.Core.Logic.{⊎-elim}
-use mathlib.Core.Bool.{Bool}
+use mathlib.Core.Bool.{Bool, true, false}
 use mathlib.Core.List.{List, [], _∷_, _++_, map, map-append, append-assoc}
 use native.Mathlib.Nat.{zero-add, add-comm, add-assoc, mul-zero, mul-suc, mul-add, not-suc-le-zero, eq-or-lt-of-le}
 use native.Mathlib.Omega.{arith}
@@ -10,10 +10,11 @@ use lib.Dec.{eqb}
 use lib.ListN.{length, getD, length-append, List·getD-append}
 use lib.Seq.{getD-append-add}
 use borrow.Author.Tests.{lt-ltb}
-use Rattle.counting.specs.Pick.{one}
+use Rattle.counting.specs.Pick.{pick, one}
 use Rattle.counting.specs.Range.{total, over, values}
 use Rattle.counting.specs.Lists.{weigh, tally, All, gather}
 use Rattle.counting.proofs.Range.{total-zero, total-at, total-add, total-le, total-shift, total-ext, over-ext}
+use Rattle.counting.proofs.Fronts.{over-shift}
 
 module _ {A : Type 0} (h : A → ℕ) where
   pub weigh-append : (l m : List A) → weigh h (l ++ m) ≡ weigh h l + weigh h m
@@ -184,3 +185,26 @@ module _ {A B : Type 0} (f : A → List B) where
   unfolding gather
   length-gather e [] = omega arith
   length-gather {k} e (x ∷ l) = length-append (f x) (gather f l) ∙ ap₂ _+_ (e x) (length-gather e l) ∙ add-comm k (k * length l) ∙ sym (mul-suc k (length l))
+
+-- the lists for the entries, joined, by place
+pub gather-places : {A B : Type 0} (d : A) (f : A → List B) (l : List A) → gather f l ≡ over (λ x. f (getD l x d)) (length l) 0
+unfolding gather over
+gather-places d f [] = refl
+gather-places d f (y ∷ l) =
+    ap (λ r. f y ++ r)
+    (gather-places d f l
+    ∙ over-ext (λ x. f (getD l x d)) (λ x. f (getD (y ∷ l) (1 + x) d)) (length l) 0 (λ q a b. ap f (next q))
+    ∙ over-shift (λ x. f (getD (y ∷ l) x d)) 1 (length l) 0)
+  where
+    next : (q : ℕ) → getD l q d ≡ getD (y ∷ l) (1 + q) d
+    next q = let e : suc q ≡ 1 + q = omega arith in ap (λ n. getD (y ∷ l) n d) e
+
+-- a list of one entry, or of none
+module _ {A : Type 0} where
+  pub one-long : (b : Bool) (x : A) → length (pick b (x ∷ []) []) ≡ one b
+  one-long true x = refl
+  one-long false x = refl
+
+  pub one-ext : (b : Bool) (x y : A) → (b ≡ true → x ≡ y) → pick b (x ∷ []) [] ≡ pick b (y ∷ []) []
+  one-ext true x y h = ap (λ (z : A). z ∷ []) (h refl)
+  one-ext false x y h = refl

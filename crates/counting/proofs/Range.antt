@@ -3,7 +3,7 @@ use Prim.Native.Nat.{ℕ, zero, suc, _+_, _*_, _-_, _≤_, _<_}
 use mathlib.Core.Path.{_≡_, refl, sym, ap, ap₂, _∙_}
 use mathlib.Core.Logic.{_⊎_, inl, inr, _≢_, ⊎-elim}
 use mathlib.Core.Bool.{Bool, true, false}
-use mathlib.Core.List.{List, _++_, append-assoc, append-nil}
+use mathlib.Core.List.{List, [], _++_, append-assoc, append-nil}
 use native.Mathlib.Nat.{not-suc-le-zero, zero-add, add-zero, mul-zero, mul-one, mul-add, zero-mul, suc-mul, eq-or-lt-of-le, eq-zero-or-pos}
 use native.Mathlib.Numerals.{add-one}
 use native.Mathlib.Omega.{arith}
@@ -94,6 +94,24 @@ total-split g (suc m) n p =
     let e : suc m + n ≡ suc (m + n) = omega arith in
     let f : suc p + m ≡ p + suc m = omega arith in
     rw e (omega (arith, total-split g m n (suc p), ap (λ k. total g n k) f))
+
+-- from another start on
+pub total-from : (g : ℕ → ℕ) (a n p : ℕ) → total (λ c. g (a + c)) n p ≡ total g n (a + p)
+unfolding total
+total-from g a zero p = refl
+total-from g a (suc n) p = let e : a + suc p ≡ suc (a + p) = omega arith in ap (λ m. g (a + p) + m) (total-from g a n (suc p) ∙ ap (total g n) e)
+
+-- a range in parts: part r is the places from s r up to s (r + 1)
+pub total-parts : (g : ℕ → ℕ) (s : ℕ → ℕ) (n : ℕ) → s 0 ≡ 0 → ((r : ℕ) → r < n → s r ≤ s (suc r)) → total (λ r. total g (s (suc r) - s r) (s r)) n 0 ≡ total g (s n) 0
+unfolding total
+total-parts g s zero z h = ap (λ k. total g k 0) (sym z)
+total-parts g s (suc n) z h =
+    let e : s n + (s (suc n) - s n) ≡ s (suc n) = omega (arith, h n (omega arith)) in
+    total-snoc (λ r. total g (s (suc r) - s r) (s r)) n 0
+    ∙ ap₂ (λ t k. t + total g (s (suc k) - s k) (s k)) (total-parts g s n z (λ r l. h r (omega arith))) (zero-add n)
+    ∙ ap (λ k. total g (s n) 0 + total g (s (suc n) - s n) k) (sym (zero-add (s n)))
+    ∙ sym (total-split g (s n) (s (suc n) - s n) 0)
+    ∙ ap (λ k. total g k 0) e
 
 pub total-le : (g : ℕ → ℕ) (n p : ℕ) → ((q : ℕ) → g q ≤ 1) → total g n p ≤ n
 unfolding total
@@ -273,6 +291,12 @@ unfolding over
 over-ext f g zero p e = refl
 over-ext f g (suc n) p e =
     ap₂ (λ a b. a ++ b) (e p (omega arith) (omega arith)) (over-ext f g n (suc p) (λ q a b. e q (omega arith) (omega arith)))
+
+-- lists that are all empty
+pub over-none : {A : Type 0} (f : ℕ → List A) (n p : ℕ) → ((q : ℕ) → p ≤ q → q < p + n → f q ≡ []) → over f n p ≡ []
+unfolding over
+over-none f zero p h = refl
+over-none f (suc n) p h = rw (h p (omega arith) (omega arith)) (over-none f n (suc p) (λ q a b. h q (omega arith) (omega arith)))
 
 -- the round: another place comes after each of two or more, no two places have one after them, and before goes back
 pub after-ne : (n k : ℕ) → k < n → n ≢ 1 → after n k ≢ k

@@ -1,23 +1,25 @@
 -- Laws of what is stored or summed so far, over the type of the entries, their number and their width.
-use Prim.Native.Nat.{ℕ, _+_, _*_, _≤_, _<_}
+use Prim.Native.Nat.{ℕ, _+_, _-_, _*_, _≤_, _<_}
 use mathlib.Core.Path.{_≡_, refl, sym, ap, ap₂, _∙_}
 use mathlib.Core.Logic.{inr}
 use mathlib.Core.Bool.{Bool, true, false}
-use mathlib.Core.List.{List, [], _∷_, _++_, append-nil}
+use mathlib.Core.List.{List, [], _∷_, _++_, append-nil, append-assoc}
 use native.Mathlib.Nat.{zero-add, add-zero, mul-suc}
 use native.Mathlib.Numerals.{add-one}
 use native.Mathlib.Omega.{arith}
+use native.Mathlib.Decide.{decLt}
 use lib.Dec.{leb}
-use lib.ListN.{length, getD, take, drop, set, length-append}
-use lib.Seq.{sets, length-sets, drop-at, drop-length, take-suc, take-all}
+use lib.ListN.{length, getD, take, drop, set, length-append, length-drop, take-append-drop}
+use lib.Seq.{sets, length-sets, sets-eq, drop-drop, drop-length, take-suc, take-all}
 use borrow.Author.Tests.{le-leb, lt-leb}
+use borrow.Rule.Slice.PartMut.{putMid, post-is}
 use Rattle.counting.specs.Pick.{pick}
 use Rattle.counting.specs.Range.{over, total, values}
 use Rattle.counting.specs.Stored.{Stored, Summed, filled, storedIn, nextIn}
 use Rattle.counting.proofs.Range.{total-next}
 use Rattle.counting.proofs.Lists.{length-singles, values-ext, values-at}
 use Rattle.counting.proofs.Fronts.{sets-append, sets-front, over-more, over-split, over-shift, over-within}
-use Rattle.counting.proofs.Stores.{getD-sets-in, getD-sets-out}
+use Rattle.counting.proofs.Stores.{getD-sets-in, getD-sets-out, sets-again}
 
 module _ {A : Type 0} where
   pub stored-none : (was : List A) (at : ℕ) → Stored was at [] was at
@@ -87,6 +89,24 @@ module _ {A : Type 0} where
       go true = length-sets was at vs
       go false = refl
 
+  -- what is stored at the front of the part of a list from a place on
+  pub part-stored : (l vs : List A) (at : ℕ) → at ≤ length l → take at l ++ storedIn (drop at l) 0 vs ≡ storedIn l at vs
+  part-stored l vs at h =
+      elim (decLt (length l) (at + length vs)) [
+        | yes k ↦ ap (λ (r : List A). take at l ++ r) (sym (stored-not (drop at l) 0 vs (omega (arith, length-drop at l)) .0)) ∙ take-append-drop at l ∙ stored-not l at vs k .0
+        | no k ↦ ap (λ (r : List A). take at l ++ r) (stored-room (drop at l) 0 vs (omega (arith, length-drop at l)) .area ∙ sets-front vs (drop at l) (omega (arith, length-drop at l)) ∙ ap (λ (r : List A). vs ++ r) (drop-drop (length vs) at l))
+            ∙ sym (append-assoc (take at l) vs (drop (at + length vs) l))
+            ∙ sym (sets-eq vs l at (omega arith))
+            ∙ sym (stored-room l at vs (omega arith) .area)
+      ]
+
+  -- and the part is put back
+  pub part-back : (l vs : List A) {ys : List A} (at : ℕ) → at ≤ length l → ys ≡ storedIn (take (length l - at) (drop at l)) 0 vs → putMid at (length l - at) l ys ≡ storedIn l at vs
+  part-back l vs {ys} at h e =
+      ap (λ (p : List A). take at l ++ (ys ++ p)) (post-is at (length l) l h ∙ drop-length l)
+      ∙ ap (λ (y : List A). take at l ++ y) (append-nil ys ∙ e ∙ ap (λ (p : List A). storedIn p 0 vs) (take-all (length l - at) (drop at l) (omega (arith, length-drop at l))))
+      ∙ part-stored l vs at h
+
   -- one value more, after k of them from the place a on
   pub sets-more : (f : ℕ → A) (a k : ℕ) (l m : List A) (i : ℕ) (x : A) → m ≡ sets l a (values f k) → i ≡ a + k → x ≡ f k → set m i x ≡ sets l a (values f (k + 1))
   sets-more f a k l m i x e p q =
@@ -150,11 +170,8 @@ module _ {A : Type 0} where
         ∙ append-nil (values f n)
 
   pub filled-again : (f g : ℕ → A) (n : ℕ) (l : List A) → n ≤ length l → filled f n (filled g n l) ≡ filled f n l
-  filled-again f g n l h =
-      filled-front f n (filled g n l) (omega (arith, length-filled g n l))
-      ∙ ap (λ (r : List A). values f n ++ drop n r) (filled-front g n l h)
-      ∙ ap (λ (r : List A). values f n ++ r) (drop-at (values g n) (drop n l) n (length-singles g n 0))
-      ∙ sym (filled-front f n l h)
+  unfolding filled
+  filled-again f g n l h = sets-again (values f n) (values g n) l 0 (length-singles f n 0 ∙ sym (length-singles g n 0)) (omega (arith, length-singles g n 0))
 
   pub filled-ext : (f g : ℕ → A) (n : ℕ) (l : List A) → ((i : ℕ) → i < n → f i ≡ g i) → filled f n l ≡ filled g n l
   unfolding filled

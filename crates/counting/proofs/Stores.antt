@@ -1,12 +1,12 @@
--- The entries of a list after a run of stores.
+-- The entries of a list after a run of stores, its front and its end.
 use Prim.Native.Nat.{ℕ, zero, suc, _+_, _≤_, _<_}
-use mathlib.Core.Path.{_≡_, refl, ap, _∙_}
+use mathlib.Core.Path.{_≡_, refl, sym, ap, ap₂, _∙_}
 use mathlib.Core.Logic.{_⊎_, inl, inr, ⊎-elim}
-use mathlib.Core.List.{List, [], _∷_}
+use mathlib.Core.List.{List, [], _∷_, _++_}
 use native.Mathlib.Nat.{add-zero, not-suc-le-zero}
 use native.Mathlib.Omega.{arith}
-use lib.ListN.{length, getD, set, length-set}
-use lib.Seq.{sets, getD-set-same, getD-set-other}
+use lib.ListN.{length, getD, take, drop, set, length-set}
+use lib.Seq.{sets, length-sets, sets-eq, getD-set-same, getD-set-other, take-set-le, drop-set-lt}
 
 module _ {A : Type 0} where
   -- outside the run
@@ -25,3 +25,19 @@ module _ {A : Type 0} where
   getD-sets-in (v ∷ vs) l i (suc k) d h b =
       let e : i + suc k ≡ suc i + k = omega arith in
       ap (λ n. getD (sets (set l i v) (suc i) vs) n d) e ∙ getD-sets-in vs (set l i v) (suc i) k d (omega arith) (omega (arith, length-set l i v))
+
+  -- before the run, and after it
+  pub take-sets : (vs l : List A) (i n : ℕ) → n ≤ i → take n (sets l i vs) ≡ take n l
+  take-sets [] l i n h = refl
+  take-sets (a ∷ vs) l i n h = take-sets vs (set l i a) (suc i) n (omega arith) ∙ take-set-le n l i a h
+
+  pub drop-sets : (vs l : List A) (i n : ℕ) → i + length vs ≤ n → drop n (sets l i vs) ≡ drop n l
+  drop-sets [] l i n h = refl
+  drop-sets (a ∷ vs) l i n h = drop-sets vs (set l i a) (suc i) n (omega arith) ∙ drop-set-lt n l i a (omega arith)
+
+  -- values stored over as many others
+  pub sets-again : (vs ws l : List A) (i : ℕ) → length vs ≡ length ws → i + length ws ≤ length l → sets (sets l i ws) i vs ≡ sets l i vs
+  sets-again vs ws l i e h =
+      sets-eq vs (sets l i ws) i (omega (arith, length-sets l i ws))
+      ∙ ap₂ (λ (x y : List A). x ++ vs ++ y) (take-sets ws l i i (omega arith)) (drop-sets ws l i (i + length vs) (omega arith))
+      ∙ sym (sets-eq vs l i (omega arith))

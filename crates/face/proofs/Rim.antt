@@ -5,7 +5,7 @@ use mathlib.Core.Logic.{inl, inr}
 use native.Mathlib.Omega.{arith}
 use Rattle.face.specs.Face.{lower, upper, other, cornerCount, countOn, kth, cornerCountAt}
 use Rattle.face.specs.Ends.{Edge, on-ab, on-ac, on-bc, End, low, high}
-use Rattle.face.specs.Rim.{rim, Segment, EndAt, Meets, Alternate}
+use Rattle.face.specs.Rim.{rim, Segment, EndAt, InTurn, Alternate}
 use Rattle.face.proofs.Ends.{edge-with}
 use Rattle.face.proofs.Gaps.{corner-node, corner-fits, corner-room}
 use Rattle.face.proofs.Links.{Link, about, up, down, link}
@@ -109,7 +109,7 @@ module _ (ab ac bc : ℕ) where
   two-ends j (inr a) (inl b) l = rw (a, b) (turned (span j))
   two-ends j (inr a) (inr b) l = absurd (omega arith)
 
-  never-meets : {e t e′ t′ u i u′ i′ : ℕ} → Link ab ac bc e t e′ t′ → Link ab ac bc u i u′ i′ → Meets (EndAt ab ac bc e t e′ t′) (EndAt ab ac bc u i u′ i′) → ⊥
+  never-meets : {e t e′ t′ u i u′ i′ : ℕ} → Link ab ac bc e t e′ t′ → Link ab ac bc u i u′ i′ → InTurn (EndAt ab ac bc e t e′ t′) (EndAt ab ac bc u i u′ i′) → ⊥
   never-meets j k m =
       nested (two-ends j (m .of-first) (m .of-first-again) (omega (arith, m .p-q, m .q-r)))
       (two-ends k (m .of-second) (m .of-second-again) (omega (arith, m .q-r, m .r-s))) rooms (m .p-q) (m .q-r) (m .r-s)

@@ -8,7 +8,7 @@ use Rattle.face.specs.Face.{joined, faceJoin}
 
 -- a walk meets ends of two segments in turn, at the places p < q < r < s: p and r are ends of the first, q and s of the second;
 -- a segment is given by the places of its ends
-pub record Meets (first second : ℕ → Type 0) : Type 0 where
+pub record InTurn (first second : ℕ → Type 0) : Type 0 where
   pub p : ℕ
   pub q : ℕ
   pub r : ℕ
@@ -37,4 +37,4 @@ module _ (ab ac bc : ℕ) where
   -- the segment from t on e to t′ on e′ and that from i on u to i′ on u′ alternate, whichever is called first
   abbrev pub Alternate : ℕ → ℕ → ℕ → ℕ → ℕ → ℕ → ℕ → ℕ → Type 0
   Alternate e t e′ t′ u i u′ i′ =
-      Meets (EndAt e t e′ t′) (EndAt u i u′ i′) ⊎ Meets (EndAt u i u′ i′) (EndAt e t e′ t′)
+      InTurn (EndAt e t e′ t′) (EndAt u i u′ i′) ⊎ InTurn (EndAt u i u′ i′) (EndAt e t e′ t′)

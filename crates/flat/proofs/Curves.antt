@@ -5,7 +5,7 @@ use mathlib.Core.Logic.{_⊎_, inl, inr}
 use mathlib.Core.Bool.{Bool, true, false}
 use native.Mathlib.Decide.{decLt, ℕ-discrete}
 use native.Mathlib.Omega.{arith}
-use lib.Dec.{eqb, ltb, leb}
+use lib.Dec.{ltb, leb}
 use borrow.Author.Tests.{eq-eqb, eqb-false, le-leb, leb-true, le-ltb, lt-ltb, ltb-true, ne-eqb}
 use Rattle.counting.specs.Search.{every}
 use Rattle.counting.proofs.Below.{trichotomy}

@@ -8,7 +8,7 @@ use native.Mathlib.Omega.{arith}
 use native.Mathlib.Decide.{decLt, ℕ-discrete}
 use lib.Dec.{eqb, ltb}
 use borrow.Author.Tests.{eq-eqb, ne-eqb, lt-ltb, le-ltb, le-leb, lt-leb}
-use Rattle.counting.specs.Pick.{pick, one}
+use Rattle.counting.specs.Pick.{pick}
 use Rattle.counting.proofs.Bools.{clash}
 use lib.ListN.{getD}
 use Rattle.face.specs.Face.{along, skipped, joinedBy, unjoinedBy, corners, joined, unjoined, noCrossing, bare, lower, upper, other, countOn, others, kth, partner, residual}

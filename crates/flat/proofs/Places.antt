@@ -6,13 +6,13 @@ use mathlib.Core.Bool.{Bool, true, false}
 use mathlib.Core.List.{List}
 use native.Mathlib.Decide.{decLt, ℕ-discrete}
 use native.Mathlib.Omega.{arith}
-use lib.Dec.{eqb, ltb}
+use lib.Dec.{eqb}
 use lib.ListN.{getD, length, length-set, set}
 use lib.Seq.{getD-set-other, getD-set-same}
 use borrow.Author.Tests.{eq-eqb, le-ltb, lt-ltb, ne-eqb}
 use Rattle.counting.specs.Pick.{pick}
 use Rattle.counting.specs.Search.{first, last}
-use Rattle.counting.proofs.Search.{first-at, first-below, first-is, first-le, last-hit, last-le, last-miss, last-none, none-first}
+use Rattle.counting.proofs.Search.{first-at, first-below, first-is, last-hit, last-le, last-miss, last-none, none-first}
 use Rattle.grid.specs.Work.{Table, foundAt, sameKey}
 use Rattle.flat.specs.Work.{firstPort, portAt, secondPort}
 

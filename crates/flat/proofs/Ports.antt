@@ -6,10 +6,10 @@ use mathlib.Core.Bool.{Bool, true, _&&_}
 use mathlib.Core.List.{List}
 use native.Mathlib.Decide.{decLt}
 use native.Mathlib.Omega.{arith}
-use lib.Dec.{eqb, ltb}
+use lib.Dec.{ltb}
 use lib.ListN.{List·getD-eq-default, getD, length}
 use borrow.Author.Tests.{le-ltb, ltb-true, lt-ltb, ne-eqb}
-use Rattle.counting.specs.Search.{first, some}
+use Rattle.counting.specs.Search.{first}
 use Rattle.counting.proofs.Below.{trichotomy}
 use Rattle.counting.proofs.Bools.{and-left, and-right, and-true, clash}
 use Rattle.counting.proofs.Pack.{col-lt, col-pack, pack-lt, row-lt, row-pack, unpack}
@@ -18,7 +18,7 @@ use Rattle.slots.specs.Slots.{lower, upper}
 use Rattle.face.specs.Face.{joined, unjoined, countOn}
 use Rattle.face.specs.Ends.{Edge, on-ab, on-ac, on-bc}
 use Rattle.face.proofs.Ends.{edge-lt, edge-of, edge-with}
-use Rattle.grid.specs.Grid.{countOf, crossing, crossings, high, low, start}
+use Rattle.grid.specs.Grid.{countOf, crossing, crossings, start}
 use Rattle.walk.specs.Darts.{half, rev, Darts}
 use Rattle.walk.specs.Step.{Ports}
 use Rattle.walk.specs.Step as walk

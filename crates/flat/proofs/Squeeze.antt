@@ -15,7 +15,7 @@ use Rattle.face.specs.declared.Why.{Why}
 use Rattle.face.specs.declared.Join.{Join}
 use Rattle.face.specs.declared.Join.the-variants.{Joined, Unjoined, NoCrossing}
 use Rattle.face.specs.Join.{howNumbers, whyNumber, joinNumbers}
-use Rattle.face.specs.Face.{round, left, joinedBy, unjoinedBy, noCrossing, lower, upper, other, corners, countOn, kth, cornerCountAt, partner, faceAnswer}
+use Rattle.face.specs.Face.{round, left, joinedBy, unjoinedBy, noCrossing, lower, other, corners, countOn, kth, cornerCountAt, partner, faceAnswer}
 use Rattle.face.specs.Ends.{Edge, on-ab, on-ac, on-bc, End, low, high}
 use Rattle.face.proofs.Ends.{edge-lt, edge-of, end-other, no-edge}
 use Rattle.face.proofs.Gaps.{kth-lower, kth-upper, corner-node, corner-other}

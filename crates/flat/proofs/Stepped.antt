@@ -9,20 +9,19 @@ use native.Mathlib.Omega.{arith}
 use lib.Dec.{eqb, ltb}
 use lib.ListN.{List·getD-eq-default, getD, length}
 use borrow.Author.Tests.{eq-eqb, eqb-true, le-ltb, ne-eqb}
-use Rattle.counting.specs.Pick.{pick, one}
+use Rattle.counting.specs.Pick.{pick}
 use Rattle.counting.specs.Search.{first, last, some}
 use Rattle.counting.specs.Pack.{pre, row}
-use Rattle.counting.proofs.Below.{below-three}
 use Rattle.counting.proofs.Bools.{bool-same, clash, not-clash}
 use Rattle.counting.proofs.Pack.{pre-le, pre-next}
 use Rattle.counting.proofs.Pigeon.{pigeonhole}
 use Rattle.counting.proofs.Search.{first-below, first-blocks, first-ext, first-is, last-above, last-is, last-le, none-first, some-ext, some-first, some-found}
 use Rattle.slots.specs.Slots.{lower, upper}
+use Rattle.slots.proofs.Slots.{face-ends}
 use Rattle.face.specs.Face.{joined, unjoined, noCrossing, countOn}
 use Rattle.face.proofs.Ends.{edge-lt, edge-of, edge-with}
-use Rattle.grid.specs.Grid.{countOf, crossing, crossings, high, low, start}
+use Rattle.grid.specs.Grid.{countOf, crossing, crossings, start}
 use Rattle.grid.specs.Work.{Table, sameKey}
-use Rattle.walk.specs.Darts.{half, rev}
 use Rattle.walk.specs.Step as walk
 use Rattle.walk.proofs.Step.{face-first, face-second, land-first, land-second}
 use Rattle.flat.specs.FlatGrid.{FlatGrid, edgeNumber, edgeRank, hasEdge, isEdge, trianglesIn}
@@ -35,10 +34,6 @@ use Rattle.flat.proofs.Triangle.{flatLaws}
 use Rattle.flat.proofs.Places.{found-some, port-first, port-second}
 use Rattle.flat.proofs.Ports.{count-in, edge-is, edge-there, either, first-there, grid-darts, has-at, has-rank, in-list, index-there, mated, number-there, numbers, rank-is, second-there}
 use Rattle.flat.proofs.Walked.{along-at, along-off}
-
-ends-rise : (k : ℕ) → k < 3 → (lower k < upper k) × (upper k < 3)
-unfolding lower upper
-ends-rise = below-three (λ k. (lower k < upper k) × (upper k < 3)) (omega arith, omega arith) (omega arith, omega arith) (omega arith, omega arith)
 
 no-count : (e : ℕ) → countOn 0 0 0 e ≡ 0
 unfolding countOn
@@ -330,7 +325,7 @@ module _ (G : FlatGrid) (A : Accepted G) (sides : List ℕ) (S : SidesKnown G si
     no-edge : (f k : ℕ) → f < trianglesIn (G .triangles) → k < 3 → EdgeIs G f k (length (G .counts)) → ⊥
     no-edge f k l lk is =
         let z : 2 * length (G .counts) + 0 ≡ 2 * length (G .counts) = omega arith in
-        omega (arith, rw z at (ends-off 0), ends-off 1, is .low-is, is .high-is, A .increasing f (lower k) (upper k) l (ends-rise k lk .0) (ends-rise k lk .1))
+        omega (arith, rw z at (ends-off 0), ends-off 1, is .low-is, is .high-is, A .increasing f (lower k) (upper k) l (face-ends k lk .0) (face-ends k lk .1))
 
     rank-off : (f : ℕ) → f < trianglesIn (G .triangles) → edgeRank G f (crossingEdge G x) ≡ 3
     unfolding edgeRank

@@ -4,11 +4,10 @@ use mathlib.Core.Path.{_≡_, refl, sym, ap, _∙_}
 use mathlib.Core.Logic.{_≢_}
 use mathlib.Core.List.{List}
 use native.Mathlib.Omega.{arith}
-use lib.Dec.{eqb}
 use lib.ListN.{getD, length, replicate, set}
 use lib.Seq.{sets}
 use borrow.Author.Tests.{eq-eqb, ne-eqb}
-use Rattle.counting.specs.Pack.{pre, row, col}
+use Rattle.counting.specs.Pack.{pre}
 use Rattle.counting.specs.Pick.{one}
 use Rattle.counting.specs.Range.{over, values}
 use Rattle.counting.specs.Stored.{filled}

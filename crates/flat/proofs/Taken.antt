@@ -105,15 +105,15 @@ module _ (N : ℕ) (s : ℕ → ℕ) (D : Darts (2 * N) N s rev half) where
       ap (λ x. s (rev x)) e ∙ D .back (it s i d) (l i (omega arith)) (subst (λ x. x < 2 * N) e (l (suc i) (omega arith))) in
       ap (it s i) b ∙ walk-back i d (λ j h. l j (omega arith))
 
-  part-back : (d n : ℕ) → Live (2 * N) s d n → (i : ℕ) → i ≤ n → it s (n - i) (rev (it s n d)) ≡ rev (it s i d)
-  part-back d n live i h =
+  path-back : (d n : ℕ) → Live (2 * N) s d n → (i : ℕ) → i ≤ n → it s (n - i) (rev (it s n d)) ≡ rev (it s i d)
+  path-back d n live i h =
       let e : it s n d ≡ it s (n - i) (it s i d) = ap (λ (n : ℕ). it s n d) (omega arith) ∙ it-add s i (n - i) d in
       ap (λ x. it s (n - i) (rev x)) e ∙ walk-back (n - i) (it s i d) (λ j m. subst (λ x. x < 2 * N) (it-add s i j d) (live (i + j) (omega arith)))
 
   module _ {d l : ℕ} (P : Path N s d l) where
     -- the way back
     pub path-rev : (i : ℕ) → i ≤ l → it s (l - i) (rev (it s l d)) ≡ rev (it s i d)
-    path-rev = part-back d l (P .live)
+    path-rev = path-back d l (P .live)
 
     pub path-turn : Path N s (rev (it s l d)) l
     unfolding it
@@ -215,7 +215,7 @@ module _ (N : ℕ) (s : ℕ → ℕ) (D : Darts (2 * N) N s rev half) where
       live i m = elim (decLt i (steps N s (rev e))) [
         | yes n ↦
             let q : steps N s (rev e) - (steps N s (rev e) - i) ≡ i = omega arith in
-            let r = part-back (rev e) (steps N s (rev e)) (steps-live (rev e) lr) (steps N s (rev e) - i) (omega arith) in
+            let r = path-back (rev e) (steps N s (rev e)) (steps-live (rev e) lr) (steps N s (rev e) - i) (omega arith) in
             subst (λ n. it s n start < 2 * N) q (rw r (D .rv-lt (it s (steps N s (rev e) - i) (rev e)) (steps-live (rev e) lr (steps N s (rev e) - i) (omega arith))))
         | no n ↦
             let q : steps N s (rev e) + (i - steps N s (rev e)) ≡ i = omega arith in

@@ -6,7 +6,7 @@ use mathlib.Core.Bool.{Bool, true, false}
 use mathlib.Core.List.{List, []}
 use native.Mathlib.Decide.{decLt, ℕ-discrete}
 use native.Mathlib.Omega.{arith}
-use lib.Dec.{eqb, ltb}
+use lib.Dec.{eqb}
 use lib.ListN.{getD, length, length-set, set}
 use lib.Seq.{getD-set-other, getD-set-same, length-sets, sets}
 use borrow.Author.Tests.{eq-eqb, lt-ltb, le-ltb, ne-eqb}
@@ -22,7 +22,7 @@ use Rattle.walk.specs.Darts.{half, rev, Darts, Loop, On}
 use Rattle.walk.proofs.Iterate.{it-suc}
 use Rattle.walk.proofs.Curve as curve
 use Rattle.flat.specs.Chain.{steps, closes, lastDart, pathSteps, pathStart, isPath, chainSize, chainStart, chainWords, allChainWords}
-use Rattle.flat.specs.Work.{Finds, Fresh, InChain, StepTable, MarkedOn, Ran, Runs, Swept, stepIn, sizeBy, startBy, wordsBy, wordsOf}
+use Rattle.flat.specs.Work.{Finds, Fresh, InChain, StepTable, MarkedOn, Ran, DartsFrom, Swept, stepIn, sizeBy, startBy, wordsBy, wordsOf}
 use Rattle.flat.proofs.Taken.{loop-steps, on-steps, taken-is}
 use Rattle.flat.proofs.Curves.{closed-loop, closed-start, found, held, open-none, open-size, open-start}
 use Rattle.flat.proofs.Once.{one-chain}
@@ -98,7 +98,7 @@ module _ (N : ℕ) (s : ℕ → ℕ) where
     marked = marked-zero marks refl;
   }
 
-  module _ {d m : ℕ} {was : List ℕ} {e i : ℕ} {marks : List ℕ} (R : Runs N s d m) (M : Marking d m was e i marks) (l : i < m) where
+  module _ {d m : ℕ} {was : List ℕ} {e i : ℕ} {marks : List ℕ} (R : DartsFrom N s d m) (M : Marking d m was e i marks) (l : i < m) where
     pub marking-lt : e < 2 * N
     marking-lt = rw (M .is) (R i l)
 
@@ -169,7 +169,7 @@ module _ (N : ℕ) (s : ℕ → ℕ) where
     pub listing-long : length area ≡ length was
     listing-long = ap length (M .area-is) ∙ length-sets was at (values (λ i. half (it s i d)) i)
 
-    pub listing-lt : Runs N s d m → i < m → e < 2 * N
+    pub listing-lt : DartsFrom N s d m → i < m → e < 2 * N
     listing-lt R l = rw (M .is) (R i l)
 
     pub listing-more : i < m → Listing d m at was (s e) (i + 1) (set area (at + i) (half e))
@@ -329,7 +329,7 @@ module _ (N : ℕ) (s : ℕ → ℕ) (D : Darts (2 * N) N s rev half) where
 
   -- WHAT IS FOUND
   module _ {p closed size start : ℕ} (h : p < N) (C : Finds N s p closed size start) where
-    pub finds-runs : Runs N s start size
+    pub finds-runs : DartsFrom N s start size
     finds-runs i l =
         let e = C .start-is (omega arith) in
         rw e (held N s D p h (omega (arith, C .size-is)) .darted .live i (omega (arith, C .size-is)))
@@ -460,7 +460,7 @@ module _ {N : ℕ} {next : List ℕ} (L : StepTable N next) where
   pub ran-entry : {d k e f : ℕ} → Ran N (stepIn N next) d k e → f ≡ getD next e 0 → stepIn N next e ≡ f
   ran-entry {d} {k} {e} R q = along-at N next e (ran-lt N (stepIn N next) R) ∙ sym q
 
-  module _ {d m : ℕ} {was : List ℕ} {e i : ℕ} {marks : List ℕ} (R : Runs N (stepIn N next) d m) (M : Marking N (stepIn N next) d m was e i marks) (l : i < m) where
+  module _ {d m : ℕ} {was : List ℕ} {e i : ℕ} {marks : List ℕ} (R : DartsFrom N (stepIn N next) d m) (M : Marking N (stepIn N next) d m was e i marks) (l : i < m) where
     pub mark-place : e / 2 < length marks
     mark-place = omega (arith, marking-lt N (stepIn N next) R M l, M .room, M .marked .same)
 
@@ -469,7 +469,7 @@ module _ {N : ℕ} {next : List ℕ} (L : StepTable N next) where
         let z : stepIn N next e ≡ f = along-at N next e (marking-lt N (stepIn N next) R M l) ∙ sym q in
         rw z at (marking-more N (stepIn N next) R M l)
 
-  module _ {d m at : ℕ} {was : List ℕ} {e i : ℕ} {area : List ℕ} (R : Runs N (stepIn N next) d m) (M : Listing N (stepIn N next) d m at was e i area) (l : i < m) where
+  module _ {d m at : ℕ} {was : List ℕ} {e i : ℕ} {area : List ℕ} (R : DartsFrom N (stepIn N next) d m) (M : Listing N (stepIn N next) d m at was e i area) (l : i < m) where
     pub list-read : e < length next
     list-read = omega (arith, listing-lt N (stepIn N next) M R l, L .room)
 

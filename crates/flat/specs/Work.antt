@@ -256,8 +256,8 @@ module _ (N : ℕ) (s : ℕ → ℕ) where
   wordsBy closed size start = pick (eqb size 0) [] (closed ∷ size ∷ values (λ i. half (it s i start)) size)
 
   -- size darts from start on
-  abbrev pub Runs : ℕ → ℕ → Type 0
-  Runs start size = (i : ℕ) → i < size → it s i start < 2 * N
+  abbrev pub DartsFrom : ℕ → ℕ → Type 0
+  DartsFrom start size = (i : ℕ) → i < size → it s i start < 2 * N
 
   -- the crossings of size darts from start on are marked, and no other
   pub record MarkedOn (start size : ℕ) (was marks : List ℕ) : Type 0 where

@@ -8,7 +8,7 @@ ghost use Rattle.counting.specs.Stored.{Stored, filled};
 ghost use Rattle.walk.specs.Iterate.{it};
 ghost use Rattle.walk.specs.Darts.{half};
 ghost use Rattle.flat.specs.Chain.{allChainWords};
-ghost use Rattle.flat.specs.Work.{stepIn, MarkedOn, StepTable, Runs, wordsBy};
+ghost use Rattle.flat.specs.Work.{stepIn, MarkedOn, StepTable, DartsFrom, wordsBy};
 use crate::CROSSING_MARKS;
 use crate::steps::size;
 use crate::walks::Chain;
@@ -25,7 +25,7 @@ fn put_crossings(
     marks: &mut [u8],
 )
     requires { ⌜ StepTable n (now next) ⌝ }
-    requires { ⌜ Runs n (stepIn n (now next)) d m ⌝ }
+    requires { ⌜ DartsFrom n (stepIn n (now next)) d m ⌝ }
     requires { ⌜ at + m ≤ length (now area) ⌝ }
     requires { ⌜ n ≤ length (now marks) ⌝ }
     ensures { λ _. ⌜ now (area .exit) ≡ sets (now (area .entry)) at (values (λ i. half (it (stepIn n (now (next .entry))) i d)) m) ⌝ }
@@ -51,7 +51,7 @@ fn put_chain(
     marks: &mut [u8],
 ) -> usize
     requires { ⌜ StepTable n (now next) ⌝ }
-    requires { ⌜ Runs n (stepIn n (now next)) (c .start) (c .size) ⌝ }
+    requires { ⌜ DartsFrom n (stepIn n (now next)) (c .start) (c .size) ⌝ }
     requires { ⌜ c .size ≤ n ⌝ }
     requires { ⌜ at + length (wordsBy n (stepIn n (now next)) (c .closed) (c .size) (c .start)) ≤ length (now area) ⌝ }
     requires { ⌜ n ≤ length (now marks) ⌝ }

@@ -15,7 +15,7 @@ use Rattle.answer.specs.Faults.{rowAt, since}
 use Rattle.answer.proofs.Rows.{row-passes, row-refuses, rows-end, whole-fault, whole-fine}
 use Rattle.grid.specs.Grid.{Grid, built, cellCount, crossings, mostCells}
 use Rattle.grid.specs.Rows.{badLength, badLists, gridAnswer, rows}
-use Rattle.grid.specs.Work.{Near, Table, WhereAccepted, Worked, answerFrom, answerWith, listedAt}
+use Rattle.grid.specs.Work.{Neighbours, Table, WhereAccepted, Worked, answerFrom, answerWith, listedAt}
 use Rattle.grid.specs.declared.Checked.{Checked}
 use Rattle.grid.specs.declared.Checked.the-variants.{Crossings, Refused}
 use Rattle.grid.proofs.Starts.{built-is, lists-fine}
@@ -85,7 +85,7 @@ pub where-accepted : {T : Type 0} (r : Checked) → T → WhereAccepted r T
 where-accepted (Crossings n) t = t
 where-accepted (Refused row place) t = tt
 
-pub worked : (G : Grid) (near sides : List ℕ) (r : Checked) → Near (G .cells) near
+pub worked : (G : Grid) (near sides : List ℕ) (r : Checked) → Neighbours (G .cells) near
     → WhereAccepted r (Table (listedAt G) (6 * cellCount (G .cells)) sides) → WhereAccepted r (Worked G near sides)
 worked G near sides (Crossings n) h t = record { near-is = h; sided = t }
 worked G near sides (Refused row place) h t = tt

@@ -12,7 +12,7 @@ use Rattle.counting.specs.Search.{count, first, some}
 use Rattle.counting.proofs.Search.{AtMostOne, count-blocks, count-ext, count-none, count-plus, first-blocks, first-ext, first-le, some-ext}
 use Rattle.grid.specs.Grid.{cellCount, hasFace, sameFace}
 use Rattle.grid.specs.Rows.{crowded}
-use Rattle.grid.specs.Work.{Across, Mates, Near, RisingCells, Pairing, Table, faceKey, sameKey, thirdAt}
+use Rattle.grid.specs.Work.{Across, Mates, Neighbours, RisingCells, Pairing, Table, faceKey, sameKey, thirdAt}
 use Rattle.grid.proofs.Packed.{face-eqb, one-slot}
 
 module _ (cells : List ℕ) (good : RisingCells cells) (keys : List ℕ) (w : Table (faceKey cells) (4 * cellCount cells) keys) where
@@ -54,7 +54,7 @@ module _ (cells : List ℕ) (good : RisingCells cells) (keys : List ℕ) (w : Ta
       first-blocks (thirdAt keys) 4 (cellCount cells) (omega arith)
       ∙ sym (first-ext (crowded cells) (λ c. some (λ s. thirdAt keys (4 * c + s)) 4) (cellCount cells) third-keys)
 
-  pub mates-near : (near : List ℕ) → 4 * cellCount cells ≤ length near → Mates keys (4 * cellCount cells) near → Near cells near
+  pub mates-near : (near : List ℕ) → 4 * cellCount cells ≤ length near → Mates keys (4 * cellCount cells) near → Neighbours cells near
   mates-near near room M = record { room = room; pair = across; all = both }
     where
       split-slot : (j : ℕ) → 4 * (j / 4) + j % 4 ≡ j
@@ -82,7 +82,7 @@ module _ (cells : List ℕ) (good : RisingCells cells) (keys : List ℕ) (w : Ta
           M .all (4 * c + s) (4 * d + t) (omega arith) (omega arith) (λ q. ne (omega arith)) (eqb-true _ _ (sym (keys-face d t c s hd ht hc hs) ∙ e))
 
   -- what `row_5` leaves
-  pub paired-near : (near : List ℕ) (r : ℕ) → 4 * cellCount cells ≤ length near → Pairing keys (4 * cellCount cells) r near → cellCount cells ≤ r / 4 → Near cells near
+  pub paired-near : (near : List ℕ) (r : ℕ) → 4 * cellCount cells ≤ length near → Pairing keys (4 * cellCount cells) r near → cellCount cells ≤ r / 4 → Neighbours cells near
   paired-near near r room p h =
       let e : r ≡ 4 * cellCount cells = omega (arith, p .is, first-le (thirdAt keys) (4 * cellCount cells)) in
       mates-near near room (rw e at (p .mates))

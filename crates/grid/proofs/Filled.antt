@@ -21,7 +21,7 @@ use Rattle.grid.specs.Check.{checkNumbers}
 use Rattle.grid.specs.Grid.{Grid, built, cellCount, edgeNumber, faceName, isEdge, mostEdges, mostSlots, sameFace}
 use Rattle.grid.specs.Rows.{gridAnswer}
 use Rattle.grid.specs.Tables.{Laid, accepts, nameAt, sideAt}
-use Rattle.grid.specs.Work.{Copying, Lowering, Near, RisingCells, WhereAccepted, Worked, listedAt, lowerPlace}
+use Rattle.grid.specs.Work.{Copying, Lowering, Neighbours, RisingCells, WhereAccepted, Worked, listedAt, lowerPlace}
 use Rattle.grid.specs.declared.Checked.{Checked}
 use Rattle.grid.specs.declared.Checked.the-variants.{Crossings, Refused}
 use Rattle.grid.proofs.Accepts.{acceptance-yields, ordered}
@@ -40,7 +40,7 @@ lower-other j x n l = rw (ne-eqb x 0 n, lt-ltb (x - 1) j l)
 pub lower-own : (j x : ℕ) → (x ≡ 0 → ⊥) → j ≤ x - 1 → j ≡ lowerPlace j x
 lower-own j x n l = rw (ne-eqb x 0 n, le-ltb (x - 1) j l)
 
-module _ (cells near : List ℕ) (good : RisingCells cells) (N : Near cells near) (j : ℕ) (h : j < 4 * cellCount cells) where
+module _ (cells near : List ℕ) (good : RisingCells cells) (N : Neighbours cells near) (j : ℕ) (h : j < 4 * cellCount cells) where
   whole : 4 * (j / 4) + j % 4 ≡ j
   whole = omega arith
 

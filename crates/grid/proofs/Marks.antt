@@ -19,7 +19,7 @@ use Rattle.counting.proofs.Search.{count-ext, down-hit, down-miss, last-is, las
 use Rattle.slots.specs.Slots.{contains, position, hi, lo, otherSlot, rankIn, secondSlot}
 use Rattle.slots.proofs.Slots.{Third, ends-sum, rank-of, third-of, two-slots}
 use Rattle.counting.proofs.Chains.{top-le}
-use Rattle.grid.specs.Work.{Closed, Reached, Grown, OnSlot, Open, Paired, KeySlot, Splitting, Spread, Spreadable, Spreading, Spreads, missing, rank, sameKey}
+use Rattle.grid.specs.Work.{PassesAcross, Reached, Grown, OnSlot, Open, Paired, KeySlot, Splitting, Spread, Spreadable, Spreading, Spreads, missing, rank, sameKey}
 
 -- how the other slot is found, from the sum of an edge's ends
 pub other-low : (k s : ℕ) → k < 3 → 5 - k - s ≡ otherSlot k s
@@ -139,7 +139,7 @@ module _ {keys near : List ℕ} {n key mark b : ℕ} {marks₀ marks : List ℕ}
           ]
         ]
 
-        inside : (P : ℕ → Bool) → Closed keys near n key P → ((c : ℕ) → getD marks₀ c 0 ≡ mark → P c ≡ true) → (c : ℕ) → getD (set marks ((p - 1) / 4) mark) c 0 ≡ mark → P c ≡ true
+        inside : (P : ℕ → Bool) → PassesAcross keys near n key P → ((c : ℕ) → getD marks₀ c 0 ≡ mark → P c ≡ true) → (c : ℕ) → getD (set marks ((p - 1) / 4) mark) c 0 ≡ mark → P c ≡ true
         inside P cl h c m = elim (ℕ-discrete c ((p - 1) / 4)) [
           | yes f ↦ rw (f, e) (cl j (g .slot) (g .side) there (g .grown .within P cl h (j / 4) (g .here)))
           | no f ↦ g .grown .within P cl h c (was c f m)
@@ -229,11 +229,11 @@ module _ {near : List ℕ} {n mark start q : ℕ} {marks₀ : List ℕ} (P : Spr
           }
 
 -- how many of n cells are not marked
-unfoldable pub unmarked : List ℕ → ℕ → ℕ → ℕ
-unmarked marks mark n = count (λ c. not (eqb (getD marks c 0) mark)) n
+unfoldable pub unmarkedCells : List ℕ → ℕ → ℕ → ℕ
+unmarkedCells marks mark n = count (λ c. not (eqb (getD marks c 0) mark)) n
 
-pub unmarked-less : (marks : List ℕ) (mark n c : ℕ) → c < n → c < length marks → (getD marks c 0 ≡ mark → ⊥) → unmarked (set marks c mark) mark n < unmarked marks mark n
-unfolding unmarked less
+pub unmarked-less : (marks : List ℕ) (mark n c : ℕ) → c < n → c < length marks → (getD marks c 0 ≡ mark → ⊥) → unmarkedCells (set marks c mark) mark n < unmarkedCells marks mark n
+unfolding unmarkedCells less
 unmarked-less marks mark n c h room ne =
     omega (arith, count-less free c n h (rw (ne-eqb (getD marks c 0) mark ne)), count-ext (λ x. not (eqb (getD (set marks c mark) x 0) mark)) (less free c) n (λ i l. at i (eqb i c) refl))
   where

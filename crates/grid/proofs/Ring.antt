@@ -20,7 +20,7 @@ use Rattle.slots.specs.Slots.{contains, hi, lo, lower, edgeRank, slotEdge, uppe
 use Rattle.slots.proofs.Slots.{edge-slot, face-ends, slot-edge, slot-rank}
 use Rattle.grid.specs.Grid.{Grid, cellCount, hasEdge, hasFace, isEdge, node, sameFace}
 use Rattle.grid.specs.Rows.{reached, linked, split}
-use Rattle.grid.specs.Work.{Closed, Linkable, Reached, Near, RisingCells, Paired, KeySlot, Table, edgeKey, join, missing, rank, sameKey, sideKey}
+use Rattle.grid.specs.Work.{PassesAcross, Linkable, Reached, Neighbours, RisingCells, Paired, KeySlot, Table, edgeKey, join, missing, rank, sameKey, sideKey}
 use Rattle.counting.proofs.Chains.{top-le}
 use Rattle.grid.proofs.Marks.{top-key}
 use Rattle.grid.proofs.Packed.{join-eqb, rises, same-true}
@@ -28,7 +28,7 @@ use Rattle.grid.proofs.Sides.{is-side, used-found}
 use Rattle.grid.proofs.Sorted.{before-same}
 use Rattle.grid.proofs.Sound.{ends-before}
 
-module _ (cells : List ℕ) (good : RisingCells cells) (keys near : List ℕ) (tk : Table (sideKey cells) (6 * cellCount cells) keys) (N : Near cells near) where
+module _ (cells : List ℕ) (good : RisingCells cells) (keys near : List ℕ) (tk : Table (sideKey cells) (6 * cellCount cells) keys) (N : Neighbours cells near) where
   side-at : (c k : ℕ) → c < cellCount cells → k < 6 → getD keys (6 * c + k) 0 ≡ join (node cells c (lo k)) (node cells c (hi k))
   unfolding sideKey
   side-at c k h l =
@@ -91,7 +91,7 @@ module _ (cells : List ℕ) (good : RisingCells cells) (keys near : List ℕ) (t
       }
 
 -- the cells of edge e of a grid
-module _ (G : Grid) (good : RisingCells (G .cells)) (keys near : List ℕ) (tk : Table (sideKey (G .cells)) (6 * cellCount (G .cells)) keys) (N : Near (G .cells) near)
+module _ (G : Grid) (good : RisingCells (G .cells)) (keys near : List ℕ) (tk : Table (sideKey (G .cells)) (6 * cellCount (G .cells)) keys) (N : Neighbours (G .cells) near)
     (small : (i : ℕ) → getD (G .edges) i 0 < 65536) (e : ℕ) where
   side : (c k : ℕ) → c < cellCount (G .cells) → k < 6 → isEdge G c k e ≡ eqb (getD keys (6 * c + k) 0) (edgeKey (G .edges) e)
   side c k h l = is-side G (good .small) small keys tk c k e h l
@@ -200,10 +200,10 @@ module _ (G : Grid) (good : RisingCells (G .cells)) (keys near : List ℕ) (tk :
     across-lt j l p = omega (arith, N .pair j l p .lt, p)
 
     -- what links lead to is closed, and so is the rest
-    in-closed : Closed keys near (cellCount (G .cells)) (edgeKey (G .edges) e) A
+    in-closed : PassesAcross keys near (cellCount (G .cells)) (edgeKey (G .edges) e) A
     in-closed j l s p r = on-link (j / 4) ((getD near j 0 - 1) / 4) (omega arith) (across-lt j l p) r (link-of j l s p)
 
-    out-closed : Closed keys near (cellCount (G .cells)) (edgeKey (G .edges) e) (λ c. not (A c))
+    out-closed : PassesAcross keys near (cellCount (G .cells)) (edgeKey (G .edges) e) (λ c. not (A c))
     out-closed j l s p r =
         ⊎-elim
         (λ (q : A ((getD near j 0 - 1) / 4) ≡ true).

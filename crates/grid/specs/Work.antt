@@ -16,7 +16,7 @@ pub use Rattle.counting.specs.Chains.{Table, Chained, Headed, Chainable, Walkab
 unfoldable pub use Rattle.counting.specs.Chains.{sameKey, inBucket}
 use Rattle.grid.specs.declared.Checked.{Checked}
 use Rattle.grid.specs.declared.Checked.the-variants.{Crossings, Refused}
-use Rattle.grid.specs.Grid.{Grid, highestNode, mostCells, mostCrossings, mostSlots, mostEdges, cellCount, node, faceNode, sameFace, low, high, isEdge, start, crossings, startsOf}
+use Rattle.grid.specs.Grid.{Grid, highestNode, mostCells, mostCrossings, mostSlots, mostEdges, cellCount, node, faceNode, sameFace, isEdge, start, crossings, startsOf}
 use Rattle.grid.specs.Rows.{badLength, rows, unused}
 use Rattle.grid.specs.Setting.{changeAnswer}
 use Rattle.grid.specs.Shared.{foundOr}
@@ -77,7 +77,7 @@ pub record Across (cells near : List ℕ) (j : ℕ) : Type 0 where
   pub back : getD near (getD near j 0 - 1) 0 ≡ j + 1
 
 -- near has the slots across the faces of the cells, one more than each; 0 for none
-pub record Near (cells near : List ℕ) : Type 0 where
+pub record Neighbours (cells near : List ℕ) : Type 0 where
   pub room : 4 * cellCount cells ≤ length near
   pub pair : (j : ℕ) → j < 4 * cellCount cells → 0 < getD near j 0 → Across cells near j
   pub all : (d t c s : ℕ) → d < cellCount cells → t < 4 → c < cellCount cells → s < 4 → d ≢ c → sameFace cells d t c s ≡ true
@@ -115,7 +115,7 @@ abbrev pub foundAt : ℕ → ℕ → ℕ
 foundAt m x = foundOr m x 0
 
 -- what `place_edges` starts from
-pub record Placeable (edges : List ℕ) (m : ℕ) (keys head next : List ℕ) (n : ℕ) (sides : List ℕ) : Type 0 where
+pub record EdgesPlaceable (edges : List ℕ) (m : ℕ) (keys head next : List ℕ) (n : ℕ) (sides : List ℕ) : Type 0 where
   pub ends : 2 * m ≤ length edges
   pub chained : Chained keys n next
   pub headed : Headed keys n head
@@ -159,8 +159,8 @@ pub record Paired (keys near : List ℕ) (n : ℕ) : Type 0 where
   pub one : (c k m : ℕ) → c < n → k < 6 → m < 6 → getD keys (6 * c + k) 0 ≡ getD keys (6 * c + m) 0 → k ≡ m
 
 -- a test that goes on across each face that contains the edge
-abbrev pub Closed : List ℕ → List ℕ → ℕ → ℕ → (ℕ → Bool) → Type 0
-Closed keys near n key P = (j : ℕ) → j < 4 * n → KeySlot keys key j → 0 < getD near j 0 → P (j / 4) ≡ true → P ((getD near j 0 - 1) / 4) ≡ true
+abbrev pub PassesAcross : List ℕ → List ℕ → ℕ → ℕ → (ℕ → Bool) → Type 0
+PassesAcross keys near n key P = (j : ℕ) → j < 4 * n → KeySlot keys key j → 0 < getD near j 0 → P (j / 4) ≡ true → P ((getD near j 0 - 1) / 4) ≡ true
 
 -- across each slot of a marked cell, but for slots a and b, there is no cell or a marked one
 pub record Open (keys near : List ℕ) (n key mark : ℕ) (marks : List ℕ) (a b : ℕ) : Type 0 where
@@ -172,7 +172,7 @@ pub record Grown (keys near : List ℕ) (n key mark : ℕ) (marks₀ marks : Lis
   pub same : length marks ≡ length marks₀
   pub keep : (c : ℕ) → getD marks₀ c 0 ≡ mark → getD marks c 0 ≡ mark
   pub only : (c : ℕ) → (getD marks c 0 ≡ getD marks₀ c 0) ⊎ (getD marks c 0 ≡ mark)
-  pub within : (P : ℕ → Bool) → Closed keys near n key P → ((c : ℕ) → getD marks₀ c 0 ≡ mark → P c ≡ true)
+  pub within : (P : ℕ → Bool) → PassesAcross keys near n key P → ((c : ℕ) → getD marks₀ c 0 ≡ mark → P c ≡ true)
       → (c : ℕ) → getD marks c 0 ≡ mark → P c ≡ true
 
 -- what `spread` starts from, and what it leaves of any edge that start and rank tell
@@ -216,7 +216,7 @@ pub record Reached (keys near : List ℕ) (n key mark c : ℕ) (marks₀ marks :
   pub only : (d : ℕ) → (getD marks d 0 ≡ getD marks₀ d 0) ⊎ (getD marks d 0 ≡ mark)
   pub closed : (j : ℕ) → j < 4 * n → KeySlot keys key j → 0 < getD near j 0 → getD marks (j / 4) 0 ≡ mark
       → getD marks ((getD near j 0 - 1) / 4) 0 ≡ mark
-  pub within : (P : ℕ → Bool) → Closed keys near n key P → P c ≡ true → (d : ℕ) → getD marks d 0 ≡ mark → P d ≡ true
+  pub within : (P : ℕ → Bool) → PassesAcross keys near n key P → P c ≡ true → (d : ℕ) → getD marks d 0 ≡ mark → P d ≡ true
 
 -- what `split_at` starts from: no cell has the mark
 pub record Splitting (keys next near : List ℕ) (n key mark top : ℕ) (marks : List ℕ) : Type 0 where
@@ -230,7 +230,7 @@ pub record Splitting (keys next near : List ℕ) (n key mark top : ℕ) (marks :
 -- what row 9 starts from: besides, each edge has a cell
 pub record Linkable (G : Grid) (near keys head next : List ℕ) : Type 0 where
   pub ordered : RisingCells (G .cells)
-  pub near-is : Near (G .cells) near
+  pub near-is : Neighbours (G .cells) near
   pub findable : Findable G keys head next
   pub used : (e : ℕ) → e < length (G .counts) → unused G e ≡ false
 
@@ -242,7 +242,7 @@ pub record Blank (near sides : List ℕ) : Type 0 where
   pub sides-is : sides ≡ replicate mostEdges 0
 
 pub record Worked (G : Grid) (near sides : List ℕ) : Type 0 where
-  pub near-is : Near (G .cells) near
+  pub near-is : Neighbours (G .cells) near
   pub sided : Table (listedAt G) (6 * cellCount (G .cells)) sides
 
 abbrev pub WhereAccepted : Checked → Type 0 → Type 0
@@ -267,7 +267,7 @@ pub record Celling (G : Grid) (near sides : List ℕ) : Type 0 where
 pub record Edging (G : Grid) (near sides : List ℕ) : Type 0 where
   pub ordered : RisingCells (G .cells)
   pub pairs : length (G .edges) ≡ 2 * length (G .counts)
-  pub near-is : Near (G .cells) near
+  pub near-is : Neighbours (G .cells) near
   pub sides-is : sides ≡ replicate mostEdges 0
 
 -- TABLES: what the writers of the lent tables start from

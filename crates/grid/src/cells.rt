@@ -8,7 +8,7 @@ ghost use Rattle.counting.specs.Search.{first};
 ghost use Rattle.counting.specs.Stored.{filled};
 ghost use Rattle.grid.specs.Grid.{mostCells, mostSlots, cellCount, node, faceNode};
 ghost use Rattle.grid.specs.Rows.{badLength, badCell, repeats, crowded};
-ghost use Rattle.grid.specs.Work.{cellKey, faceKey, RisingCells, Pairable, Pairing, Near};
+ghost use Rattle.grid.specs.Work.{cellKey, faceKey, RisingCells, Pairable, Pairing, Neighbours};
 use crate::HIGHEST_NODE;
 use crate::MOST_CELLS;
 use crate::MOST_SLOTS;
@@ -205,7 +205,7 @@ pub(crate) fn row_5(cells: &[u16], near: &mut [u16]) -> usize
     requires { ⌜ RisingCells (now cells) ⌝ }
     requires { ⌜ now near ≡ replicate mostSlots 0 ⌝ }
     ensures { λ r. ⌜ r ≡ first (crowded (now (cells .entry))) (cellCount (now (cells .entry))) ⌝ }
-    ensures { λ r. ⌜ (cellCount (now (cells .entry)) ≤ r → Near (now (cells .entry)) (now (near .exit))) ⌝ }
+    ensures { λ r. ⌜ (cellCount (now (cells .entry)) ≤ r → Neighbours (now (cells .entry)) (now (near .exit))) ⌝ }
 {
     let n = 4 * (cells.len() / 4);
     let mut keys = [0usize; MOST_SLOTS];

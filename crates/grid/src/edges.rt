@@ -9,7 +9,7 @@ ghost use Rattle.counting.specs.Stored.{filled};
 ghost use Rattle.grid.specs.Grid.{built, mostEdges, cellCount};
 ghost use Rattle.grid.specs.Rows.{badNumbers, badStart, badLists, badEdge, badCount, unused};
 ghost use Rattle.grid.specs.Shared.{keyless, placedAt};
-ghost use Rattle.grid.specs.Work.{Table, edgeKey, sideKey, Findable, Putting, Put, Placeable, listedAt, blankIn};
+ghost use Rattle.grid.specs.Work.{Table, edgeKey, sideKey, Findable, Putting, Put, EdgesPlaceable, listedAt, blankIn};
 use crate::MOST_COUNT;
 use crate::cells::node_at;
 use crate::keys::latest;
@@ -213,7 +213,7 @@ pub(crate) fn place_edges(
     n: usize,
     sides: &mut [usize],
 ) -> usize
-    requires { ⌜ Placeable (now edges) m (now keys) (now head) (now next) n (now sides) ⌝ }
+    requires { ⌜ EdgesPlaceable (now edges) m (now keys) (now head) (now next) n (now sides) ⌝ }
     ensures { λ r. ⌜ r ≡ first (keyless (now (edges .entry)) (now (keys .entry)) n) m ⌝ }
     ensures { λ _. ⌜ now (sides .exit) ≡ filled (placedAt (now (edges .entry)) m (now (keys .entry)) (now (sides .entry))) n (now (sides .entry)) ⌝ }
 {

@@ -31,7 +31,7 @@ use Rattle.cell.specs.Table.{drawnCells}
 use Rattle.booking.proofs.Totals.{all-few}
 use Rattle.split.specs.Table.{mostDrawn, tableDrawn, tableSplits}
 use Rattle.split.specs.Gains.{AreSums}
-use Rattle.split.proofs.Tables.{drawn-all}
+use Rattle.split.proofs.Tables.{drawn-long}
 use Rattle.mesh.specs.Mesh.{meshSplits}
 use Rattle.mesh.specs.Room.{roomAnswer}
 use Rattle.mesh.proofs.Rooms.{answer-short, answer-fits}
@@ -42,7 +42,7 @@ use Rattle.layers.specs.Runs.{runGrid, intoWhole, runTriangles, runRenam
 use Rattle.layers.specs.Cuts.{runCount, runStart, runSize, badCut, cutRow, runMesh, runSplits, joinedMesh, joinedSplits}
 use Rattle.layers.specs.Answer.{cutsAccepted, cutsAnswer, runAnswer, runArea, joinedAnswer, joinedArea}
 use Rattle.layers.specs.Done.{RunDone, JoinedDone}
-use Rattle.layers.specs.Work.{Cut, Tables, lackingIn, RunOf, RunDrawn, JoinableRun, Joinable}
+use Rattle.layers.specs.Work.{RunOfCuts, Tables, lackingIn, RunOf, RunDrawn, JoinableRun, Joinable}
 use Rattle.layers.proofs.Laying.{tabled}
 use Rattle.layers.proofs.Joined.{cutsCut, few-cuts, joined-triangles, joined-splits, joinedIsMesh}
 
@@ -101,7 +101,7 @@ lacks-none room len h = rw (le-ltb room (wordCount * len) h)
 pub few-drawn : (cells counts names sides starts : List ℕ) {crossings splits more : ℕ} → AreSums counts sides (drawnCells cells) crossings splits more
     → (length (tableDrawn cells counts names sides starts) ≤ crossings + more) × (crossings + more ≤ mostDrawn)
 few-drawn cells counts names sides starts S =
-    (omega (arith, S .crossings-are, S .more-is, drawn-all cells counts names sides starts, all-few cells counts names sides starts), omega (arith, S .few-crossings, S .few-more))
+    (omega (arith, S .crossings-are, S .more-is, drawn-long cells counts names sides starts, all-few cells counts names sides starts), omega (arith, S .few-crossings, S .few-more))
 
 -- THE CUTS
 
@@ -146,7 +146,7 @@ module _ {G : Grid} {names sides : List ℕ} (T : Tables G names sides) (cuts : 
     unfolding runAnswer runArea
     no-run run k area = record { answered = sym (passes _ ∙ rw (le-ltb run (runCount cuts) k)); area = rw (cuts-pass, le-ltb run (runCount cuts) k) }
 
-    pub cut-there : (run : ℕ) → run ≤ length cuts → Cut n cuts run
+    pub cut-there : (run : ℕ) → run ≤ length cuts → RunOfCuts n cuts run
     cut-there run k = record {
       there = k;
       rises = omega (arith, cutsCut G cuts (T .sound .some-cell) clear .some-cell run (omega arith));
@@ -240,7 +240,7 @@ module _ {G : Grid} {names sides cuts : List ℕ} {room : ℕ} (J : Joinable G n
   pub few-runs : length cuts < 2048
   few-runs = omega (arith, few-cuts (cellCount (G .cells)) cuts (J .tables .sound .some-cell) (J .clear), J .tables .sound .few-cells)
 
-  pub next-cut : (r : ℕ) → r ≤ length cuts → Cut (cellCount (G .cells)) cuts r
+  pub next-cut : (r : ℕ) → r ≤ length cuts → RunOfCuts (cellCount (G .cells)) cuts r
   next-cut r k = record { there = k; rises = omega (arith, cutsCut G cuts (J .tables .sound .some-cell) (J .clear) .some-cell r (omega arith)); few = few-runs }
 
   module _ (r : ℕ) (k : r ≤ length cuts) (from size : ℕ) (e : from ≡ runStart cuts r) (f : size ≡ runSize (cellCount (G .cells)) cuts r) where

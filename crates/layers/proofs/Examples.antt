@@ -24,7 +24,7 @@ use Rattle.booking.specs.Figures.{areSpiral, areSplit, figureIn, figure}
 use Rattle.split.specs.Labels.{remainsTo, labelled, label, spoke}
 use Rattle.split.specs.SubCell.{restStart, armStart, innerName, subAt, sub}
 use Rattle.split.specs.Parts.{parts, allParts, ownCorners, drawnTriangles, splitsOf}
-use Rattle.split.specs.Examples.{of, alone, oneSplit}
+use Rattle.split.specs.Examples.{of, loneCell, oneSplit}
 use Rattle.grid.specs.Grid.{faceNode, sameFace, hasFace, faceName, joins, isEdge, hasEdge, edgeNumber, start, startsOf}
 use Rattle.answer.specs.Rows as rows
 use Rattle.grid.specs.Rows.{badLength, badNumbers, badStart, badLists, badCell, sameCell, repeats, crowded, isAfter, badEdge, badCount, unlisted, unused, linked, reached, split, tooMany, rows, gridAnswer}
@@ -65,5 +65,5 @@ unfolding seek first last some every count rise total over kept tally gather pre
     faceNode sameFace hasFace faceName joins isEdge hasEdge edgeNumber start startsOf
     badLength badNumbers badStart badLists badCell sameCell repeats crowded isAfter badEdge badCount unlisted unused linked reached split tooMany rows rows.orRefuse rows.answerOf gridAnswer
     gridCell meshTriangles meshSplits roomAnswer inRun runNumbers runEdges runCounts runTriangles
-    badCut runMesh runSplits cutsAccepted cutsAnswer runAnswer runArea of alone oneSplit
+    badCut runMesh runSplits cutsAccepted cutsAnswer runAnswer runArea of loneCell oneSplit
 split-run = record { answer = refl; area = refl }

@@ -4,7 +4,6 @@ use mathlib.Core.Path.{_≡_, refl, sym, ap, ap₂, _∙_}
 use mathlib.Core.Logic.{_≢_, ⊎-elim}
 use mathlib.Core.Bool.{Bool, true, false, not, _&&_}
 use mathlib.Core.List.{List, [], _∷_, _++_, map}
-use native.Mathlib.Nat.{zero-add}
 use native.Mathlib.Omega.{arith}
 use lib.Dec.{ltb}
 use lib.ListN.{length, getD, List·getD-append}
@@ -19,10 +18,10 @@ use Rattle.counting.specs.Range.{total, over}
 use Rattle.counting.specs.Stored.{storedIn}
 use Rattle.counting.specs.Lists.{All, gather}
 use Rattle.counting.proofs.Bools.{or-none}
-use Rattle.counting.proofs.Fronts.{over-split, over-shift}
+use Rattle.counting.proofs.Fronts.{over-shift, over-parts}
 use Rattle.counting.proofs.Lists.{all-at, map-over, values-at, values-ext}
 use Rattle.counting.proofs.Pack.{pack-lt}
-use Rattle.counting.proofs.Range.{total-ext, total-snoc, total-split, over-ext, over-snoc}
+use Rattle.counting.proofs.Range.{total-ext, over-ext, total-from, total-parts}
 use Rattle.counting.proofs.Search.{below-or, none-first, none-some}
 use Rattle.cell.specs.declared.Cell.{Cell}
 use Rattle.cell.specs.declared.Triangle.{Triangle}
@@ -49,7 +48,7 @@ use Rattle.layers.specs.Runs.{runCounts, runGrid, intoWhole, crossingInW
 use Rattle.layers.specs.Cuts.{cutAt, runCount, runStart, runSize, badCut, cutRow, runMesh, runSplits, joinedMesh, joinedSplits}
 use Rattle.layers.specs.Words.{renamedWords, Named}
 use Rattle.layers.specs.Answer.{cutsAccepted, cutsAnswer, runAnswer, runArea, joinedAnswer, joinedArea}
-use Rattle.layers.specs.Claims.{Run, RunClear, RunsRenamed, CutLaws, CutsCut, JoinedIsMesh, RunsMeshed}
+use Rattle.layers.specs.Claims.{RunWithin, RunClear, RunsRenamed, CutLaws, CutsCut, JoinedIsMesh, RunsMeshed}
 use Rattle.layers.proofs.Parts.{drawnRenamed}
 use Rattle.layers.proofs.Worded.{wordsRenamed}
 use Rattle.layers.proofs.Named.{drawnNamed}
@@ -109,7 +108,7 @@ module _ (G : Grid) (S : Sound G) (c : ℕ) (l : c < cellCount (G .cells)) where
     under = λ s ls. omega (arith, name-of G c s ls, name-lt (G .cells) c s l ls, S .few-cells);
   }
 
-module _ (G : Grid) (from size : ℕ) (S : Sound G) (N : Run G from size) where
+module _ (G : Grid) (from size : ℕ) (S : Sound G) (N : RunWithin G from size) where
   abbrev RG : Grid
   RG = runGrid G from size
 
@@ -151,7 +150,7 @@ gather-words r [] h = refl
 gather-words r (t ∷ l) h = ap₂ (λ l m. l ++ m) (sym (wordsRenamed r t (h .0))) (gather-words r l (h .1))
 
 -- so it is word by word, under any names that lead from the run's cells to those of the whole
-pub words-over : (G : Grid) (from size : ℕ) (S : Sound G) (N : Run G from size) (r : Renaming) (c : ℕ) → c < size → RenamedCell r (gridCell (runGrid G from size) c) (gridCell G (from + c))
+pub words-over : (G : Grid) (from size : ℕ) (S : Sound G) (N : RunWithin G from size) (r : Renaming) (c : ℕ) → c < size → RenamedCell r (gridCell (runGrid G from size) c) (gridCell G (from + c))
     → gather (λ t. renamedWords (keepInner r) (words t)) (drawnTriangles (gridCell (runGrid G from size) c)) ≡ allWords (drawnTriangles (gridCell G (from + c)))
 words-over G from size S N r c l H =
     let a = gridCell (runGrid G from size) c in
@@ -176,12 +175,7 @@ splits-by : (a b : Cell) → a .counts ≡ b .counts → splitsOf a ≡ splitsOf
 unfolding splitsOf
 splits-by a b e = ap (λ l. pick (isSplit (λ e. min (getD l e 0) mostCount)) (splits (larger (λ e. min (getD l e 0) mostCount)) (smaller (λ e. min (getD l e 0) mostCount))) 0) e
 
-total-from : (g : ℕ → ℕ) (a n p : ℕ) → total (λ c. g (a + c)) n p ≡ total g n (a + p)
-unfolding total
-total-from g a zero p = refl
-total-from g a (suc n) p = let e : a + suc p ≡ suc (a + p) = omega arith in ap (λ m. g (a + p) + m) (total-from g a n (suc p) ∙ ap (total g n) e)
-
-run-splits : (G : Grid) (from size : ℕ) → Sound G → Run G from size → meshSplits (runGrid G from size) ≡ total (λ c. splitsOf (gridCell G c)) size from
+run-splits : (G : Grid) (from size : ℕ) → Sound G → RunWithin G from size → meshSplits (runGrid G from size) ≡ total (λ c. splitsOf (gridCell G c)) size from
 unfolding meshSplits
 run-splits G from size S N =
     let RG = runGrid G from size in
@@ -189,29 +183,6 @@ run-splits G from size S N =
     ∙ total-ext (λ c. splitsOf (gridCell RG c)) (λ c. splitsOf (gridCell G (from + c))) size 0 (λ c a h. splits-by (gridCell RG c) (gridCell G (from + c)) (cell-at G from size S N c (omega arith) .counts))
     ∙ total-from (λ c. splitsOf (gridCell G c)) from size 0
     ∙ (let z : from + 0 ≡ from = omega arith in ap (total (λ c. splitsOf (gridCell G c)) size) z)
-
--- a range in parts: part r is the places from s r up to s (r + 1)
-over-parts : {A : Type 0} (f : ℕ → List A) (s : ℕ → ℕ) (n : ℕ) → s 0 ≡ 0 → ((r : ℕ) → r < n → s r ≤ s (suc r)) → over (λ r. over f (s (suc r) - s r) (s r)) n 0 ≡ over f (s n) 0
-unfolding over
-over-parts f s zero z h = ap (λ k. over f k 0) (sym z)
-over-parts f s (suc n) z h =
-    let e : s n + (s (suc n) - s n) ≡ s (suc n) = omega (arith, h n (omega arith)) in
-    over-snoc (λ r. over f (s (suc r) - s r) (s r)) n 0
-    ∙ ap₂ (λ l k. l ++ over f (s (suc k) - s k) (s k)) (over-parts f s n z (λ r l. h r (omega arith))) (zero-add n)
-    ∙ ap (λ k. over f (s n) 0 ++ over f (s (suc n) - s n) k) (sym (zero-add (s n)))
-    ∙ sym (over-split f (s n) (s (suc n) - s n) 0)
-    ∙ ap (λ k. over f k 0) e
-
-total-parts : (g : ℕ → ℕ) (s : ℕ → ℕ) (n : ℕ) → s 0 ≡ 0 → ((r : ℕ) → r < n → s r ≤ s (suc r)) → total (λ r. total g (s (suc r) - s r) (s r)) n 0 ≡ total g (s n) 0
-unfolding total
-total-parts g s zero z h = ap (λ k. total g k 0) (sym z)
-total-parts g s (suc n) z h =
-    let e : s n + (s (suc n) - s n) ≡ s (suc n) = omega (arith, h n (omega arith)) in
-    total-snoc (λ r. total g (s (suc r) - s r) (s r)) n 0
-    ∙ ap₂ (λ t k. t + total g (s (suc k) - s k) (s k)) (total-parts g s n z (λ r l. h r (omega arith))) (zero-add n)
-    ∙ ap (λ k. total g (s n) 0 + total g (s (suc n) - s n) k) (sym (zero-add (s n)))
-    ∙ sym (total-split g (s n) (s (suc n) - s n) 0)
-    ∙ ap (λ k. total g k 0) e
 
 -- the bounds of the runs
 module _ (n : ℕ) (cuts : List ℕ) (some : 0 < n) (clear : (i : ℕ) → i < length cuts → badCut n cuts i ≡ false) where
@@ -283,7 +254,7 @@ module _ (G : Grid) (cuts : List ℕ) (S : Sound G) (clear : Clear (cutRow G cut
   abbrev s : ℕ → ℕ
   s = bound (cellCount (G .cells)) cuts (S .some-cell) clear
 
-  run-r : (r : ℕ) → r < runCount cuts → Run G (s r) (s (suc r) - s r)
+  run-r : (r : ℕ) → r < runCount cuts → RunWithin G (s r) (s (suc r) - s r)
   run-r r h =
       let up = bound-rises (cellCount (G .cells)) cuts (S .some-cell) clear r h in
       record { some-cell = omega (arith, up); within = omega (arith, up, end-within (cellCount (G .cells)) cuts (S .some-cell) clear r h) }

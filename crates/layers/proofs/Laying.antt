@@ -32,7 +32,7 @@ use Rattle.mesh.proofs.Tables.{Tabled}
 use Rattle.mesh.proofs.Complex.{start-of, name-of}
 use Rattle.layers.specs.Runs.{inRun, ownStart, ownName, runCells, runCounts, runGrid, crossingInWhole, faceInWhole, intoWhole, runTriangles}
 use Rattle.layers.specs.Tables.{RunTabled}
-use Rattle.layers.specs.Claims.{Run}
+use Rattle.layers.specs.Claims.{RunWithin}
 use Rattle.layers.specs.Work.{sideFrom, usedBy, Layable, RunLaid, ownAt, sideCount, mostNumbers, Leading, CrossingsNumbered, tableNames, Tables, RunOf, RunDrawn}
 use Rattle.layers.proofs.Runs.{run-count, run-sound, crossing-at, number-lt, number-at}
 use Rattle.layers.proofs.Own.{runsOwn}
@@ -54,7 +54,7 @@ module _ {G : Grid} {names sides : List ℕ} (T : Tables G names sides) where
   abbrev E : EdgeNumbers G
   E = edge-numbers G (T .sound)
 
-  module _ (from size : ℕ) (N : Run G from size) where
+  module _ (from size : ℕ) (N : RunWithin G from size) where
     abbrev RG : Grid
     RG = runGrid G from size
 

@@ -34,9 +34,10 @@ use Rattle.split.specs.Owned.{drawnParts}
 use Rattle.split.specs.Claims.{partCell}
 use Rattle.split.proofs.Parts.{in-order, stop, more}
 use Rattle.split.proofs.Grid.{drawn-whole, drawn-all}
+use Rattle.split.proofs.Owners.{drawn-gathered}
 use Rattle.mesh.specs.Mesh.{gridCell}
 use Rattle.layers.specs.Words.{FaceNamed, Named, DrawnNamed}
-use Rattle.layers.proofs.Parts.{last, drawn-by-parts}
+use Rattle.layers.proofs.Parts.{last}
 
 -- all face names of the cell are below that word
 abbrev Low : Cell → Type 0
@@ -153,7 +154,7 @@ gather-named (corners c ∷ l) h = all-append Named (ownCorners c) (gather partT
 
 pub drawnNamed : DrawnNamed
 unfolding gridCell over
-drawnNamed G c S l = subst (All Named) (sym (drawn-by-parts (gridCell G c))) (gather-named (drawnParts (gridCell G c)) (drawn-low (gridCell G c) low))
+drawnNamed G c S l = subst (All Named) (sym (drawn-gathered (gridCell G c))) (gather-named (drawnParts (gridCell G c)) (drawn-low (gridCell G c) low))
   where
     name : (s : ℕ) → s < 4 → faceName (G .cells) c s < noName
     name s h = omega (arith, name-lt (G .cells) c s l h, S .few-cells)

@@ -22,7 +22,7 @@ use Rattle.mesh.specs.Mesh.{gridCell, meshTriangles}
 use Rattle.layers.specs.Renaming.{keepInner}
 use Rattle.layers.specs.Runs.{runGrid, runTriangles, runRenamed}
 use Rattle.layers.specs.Words.{renamedWords}
-use Rattle.layers.specs.Claims.{Run}
+use Rattle.layers.specs.Claims.{RunWithin}
 use Rattle.layers.specs.Work.{wordOver, wordBefore, triangleOver, trianglesOver}
 use Rattle.layers.proofs.Runs.{run-count}
 use Rattle.layers.proofs.Joined.{runsRenamed, words-over}
@@ -71,7 +71,7 @@ module _ (r : Renaming) (area : List ℕ) where
       ap (λ i. getD area i 0) e ∙ h (wordCount + j) (omega arith) ∙ ap (λ i. getD (words t ++ allWords l) i 0) f ∙ getD-append-add (words t) (allWords l) j 0))
 
 -- so the mesh of a run becomes that of its cells in the whole, under any names that lead from the run's cells to those
-pub run-over : (G : Grid) (from size : ℕ) (S : Sound G) (N : Run G from size) (r : Renaming)
+pub run-over : (G : Grid) (from size : ℕ) (S : Sound G) (N : RunWithin G from size) (r : Renaming)
     → ((c : ℕ) → c < size → RenamedCell r (gridCell (runGrid G from size) c) (gridCell G (from + c)))
     → gather (λ t. renamedWords (keepInner r) (words t)) (runTriangles G from size) ≡ allWords (runRenamed G from size)
 unfolding runTriangles meshTriangles

@@ -22,7 +22,7 @@ use Rattle.grid.proofs.Accepts.{ordered}
 use Rattle.grid.proofs.Names.{name-lt, named}
 use Rattle.grid.proofs.Packed.{same-true, true-same, one-slot}
 use Rattle.layers.specs.Runs.{runCells, runCounts, runGrid, inRun, runNumbers, inWhole, ownStart, ownName}
-use Rattle.layers.specs.Claims.{Run, RunsOwn}
+use Rattle.layers.specs.Claims.{RunWithin, RunsOwn}
 use Rattle.layers.proofs.Runs.{many-counts, count-at, run-count, below, face-there, face-here, number-lt, number-at}
 
 -- the start of the run's edge e is the sum over the run's edges before it in the whole
@@ -34,7 +34,7 @@ start-at G from size e l =
     ∙ kept-total (inRun G from size) (countOf (G .counts)) (length (G .counts)) 0 e (omega (arith, many-counts G from size))
     ∙ ap (λ n. total (λ d. pick (inRun G from size d) (countOf (G .counts) d) 0) n 0) z
 
-module _ (G : Grid) (from size : ℕ) (S : Sound G) (N : Run G from size) (c s : ℕ) (l : c < size) (ls : s < 4) where
+module _ (G : Grid) (from size : ℕ) (S : Sound G) (N : RunWithin G from size) (c s : ℕ) (l : c < size) (ls : s < 4) where
   abbrev rc : List ℕ
   rc = runCells G from size
 

@@ -2,7 +2,7 @@
 use Prim.Native.Nat.{ℕ, zero, suc, _+_, _*_, _≤_, _<_}
 use mathlib.Core.Path.{_≡_, refl, sym, ap, ap₂, _∙_, subst}
 use mathlib.Core.Bool.{Bool, true, false, _&&_}
-use mathlib.Core.List.{List, [], _∷_, _++_, map, map-append, append-nil}
+use mathlib.Core.List.{List, [], _∷_, _++_, map, map-append}
 use native.Mathlib.Omega.{arith}
 use lib.Dec.{eqb}
 use Rattle.counting.specs.Pick.{pick}
@@ -27,12 +27,13 @@ use Rattle.cell.proofs.Renaming.{cells-renamed}
 use Rattle.booking.specs.Booking.{larger, smaller, isSpiral, isSplit}
 use Rattle.split.specs.Limits.{firstInnerCrossing, firstInnerFace, wordStep}
 use Rattle.split.specs.SubCell.{sub}
-use Rattle.split.specs.Parts.{Part, whole, corners, splitsWithin, parts, allParts, ownCorners, partTriangles, drawnTriangles}
+use Rattle.split.specs.Parts.{Part, whole, corners, splitsWithin, parts, allParts, ownCorners, partTriangles}
 use Rattle.split.specs.Owned.{drawnParts}
 use Rattle.split.proofs.Labels.{spiral-is}
 use Rattle.split.proofs.SubNumbers.{subCells}
 use Rattle.split.proofs.Parts.{stop, more}
 use Rattle.split.proofs.Grid.{drawn-whole, drawn-all}
+use Rattle.split.proofs.Owners.{drawn-gathered}
 use Rattle.layers.specs.Renaming.{keepInner, OuterNames, RenamedPart, RenamedParts, PartsRenamed, DrawnRenamed}
 use Rattle.layers.proofs.Renaming.{Below, outer-cell, sub-below, sub-renamed}
 
@@ -211,15 +212,6 @@ module _ (r : Renaming) where
   triangles [] (y ∷ m) h = absurd h
   triangles (x ∷ l) [] h = absurd h
 
--- what is drawn of a cell are the triangles of its parts
-pub drawn-by-parts : (c : Cell) → drawnTriangles c ≡ gather partTriangles (drawnParts c)
-unfolding drawnTriangles gather
-drawn-by-parts c = go (isSplit (countOf c)) refl
-  where
-    go : (x : Bool) → isSplit (countOf c) ≡ x → drawnTriangles c ≡ gather partTriangles (drawnParts c)
-    go true e = rw (drawn-all c e, e, drawnTriangles) refl
-    go false e = rw (drawn-whole c e, e, drawnTriangles) (sym (append-nil (cellTriangles c)))
-
 pub drawnRenamed : DrawnRenamed
 drawnRenamed r a b H A B =
-    ap (map (renamed (keepInner r))) (drawn-by-parts a) ∙ triangles (keepInner r) (drawnParts a) (drawnParts b) (partsRenamed r a b H A B) ∙ sym (drawn-by-parts b)
+    ap (map (renamed (keepInner r))) (drawn-gathered a) ∙ triangles (keepInner r) (drawnParts a) (drawnParts b) (partsRenamed r a b H A B) ∙ sym (drawn-gathered b)

@@ -10,7 +10,7 @@ use borrow.Author.Tests.{lt-ltb, le-ltb}
 use Rattle.counting.specs.Pick.{pick}
 use Rattle.counting.specs.Range.{total}
 use Rattle.counting.specs.Pack.{pre}
-use Rattle.counting.proofs.Below.{below-three}
+use Rattle.counting.proofs.Below.{below-three, below-four, below-six}
 use Rattle.counting.proofs.Pack.{pack-lt}
 use Rattle.slots.specs.Slots.{lo, position, slotEdge}
 use Rattle.slots.proofs.Slots.{slot-edge, corner-lt}
@@ -22,7 +22,6 @@ use Rattle.booking.specs.Booking.{leastCorner, larger, smaller}
 use Rattle.split.specs.Limits.{firstInnerCrossing, firstInnerFace, wordStep}
 use Rattle.split.specs.Labels.{labelled, label, spoke}
 use Rattle.split.specs.SubCell.{restStart, armStart, innerName, subAt, sub}
-use Rattle.split.proofs.Cases.{four, six}
 use Rattle.split.proofs.Labels.{labelled-lt, at-label}
 use Rattle.split.proofs.Rest.{rest-sum}
 use Rattle.split.proofs.SubCells.{sub-omits}
@@ -140,7 +139,7 @@ module _ (r : Renaming) (c : Cell) (starts names nodes : List ℕ) (at : ℕ) wh
           }
 
       kind : (k : ℕ) → k < 6 → New k ⊎ Old k
-      kind = six (λ k. New k ⊎ Old k) (inl (new 0 (omega arith))) (inl (new 1 (omega arith))) (inl (new 2 (omega arith)))
+      kind = below-six (λ k. New k ⊎ Old k) (inl (new 0 (omega arith))) (inl (new 1 (omega arith))) (inl (new 2 (omega arith)))
           (inr (old 0 (omega arith))) (inr (old 1 (omega arith))) (inr (old 2 (omega arith)))
 
       below-at : Below b c → Below top S
@@ -176,7 +175,7 @@ module _ (r : Renaming) (c : Cell) (starts names nodes : List ℕ) (at : ℕ) wh
         renamed-at i = record {
           counts = refl;
           index = i;
-          names = four (λ s. keepInner r .face (getD (S .names) s 0) ≡ getD (S′ .names) s 0) (H .names p lp) (sides (slotEdge p 2)) (sides (slotEdge p 1)) (sides (slotEdge p 0));
+          names = below-four (λ s. keepInner r .face (getD (S .names) s 0) ≡ getD (S′ .names) s 0) (H .names p lp) (sides (slotEdge p 2)) (sides (slotEdge p 1)) (sides (slotEdge p 0));
           starts = λ k i lk h. ⊎-elim (λ (q : New k). stays k i q ∙ ap (λ x. x + i) (q .same)) (λ (q : Old k). goes k i q h ∙ omega (arith, q .start′)) (kind k lk);
           order = λ j k s t lj lk. order j k s t (kind j lj) (kind k lk);
         }

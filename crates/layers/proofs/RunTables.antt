@@ -13,12 +13,12 @@ use Rattle.grid.specs.Grid.{Grid, mostCells, faceName, edgeNumber, countOf, sta
 use Rattle.grid.specs.Accepted.{Sound}
 use Rattle.mesh.specs.Mesh.{gridCell}
 use Rattle.layers.specs.Runs.{runCells, runCounts, runGrid}
-use Rattle.layers.specs.Claims.{Run}
+use Rattle.layers.specs.Claims.{RunWithin}
 use Rattle.layers.specs.Tables.{RunTabled, RunsTabled}
 use Rattle.layers.proofs.Runs.{run-sound, number-lt}
 use Rattle.layers.proofs.Own.{runsOwn}
 
-module _ (G : Grid) (from size : ℕ) (names sides starts : List ℕ) (S : Sound G) (N : Run G from size) (T : RunTabled G from size names sides starts) (c : ℕ) (l : c < size) where
+module _ (G : Grid) (from size : ℕ) (names sides starts : List ℕ) (S : Sound G) (N : RunWithin G from size) (T : RunTabled G from size names sides starts) (c : ℕ) (l : c < size) where
   abbrev RG : Grid
   RG = runGrid G from size
 

@@ -21,7 +21,7 @@ use Rattle.grid.proofs.Names.{name-lt, named, named-same, same-named}
 use Rattle.grid.proofs.Sound.{edge-true, true-edge, edge-numbers}
 use Rattle.mesh.proofs.Complex.{start-le}
 use Rattle.layers.specs.Runs.{runCells, inRun, runNumbers, inWhole, runEdges, runCounts, runGrid, crossingInWhole, faceInWhole}
-use Rattle.layers.specs.Claims.{Run, NamesLaws, RunSound, NamesKept}
+use Rattle.layers.specs.Claims.{RunWithin, NamesLaws, RunSound, NamesKept}
 
 module _ (G : Grid) (from size : ℕ) where
   abbrev rc : List ℕ
@@ -128,7 +128,7 @@ module _ (G : Grid) (from size : ℕ) where
       go zero e = omega arith
       go (suc n) e = omega (arith, crossing-le n (omega arith), crossing-lt n (omega arith))
 
-  module _ (S : Sound G) (N : Run G from size) where
+  module _ (S : Sound G) (N : RunWithin G from size) where
     run-length : length rc ≡ 4 * size
     run-length = length-take (4 * size) (drop (4 * from) (G .cells)) ∙ omega (arith, length-drop (4 * from) (G .cells), S .fours, N .within)
 

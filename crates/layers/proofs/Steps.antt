@@ -83,13 +83,13 @@ pub marked-none : (from m : ℕ) (sides used : List ℕ) → ((e : ℕ) → getD
 unfolding usedBy
 marked-none from m sides used z = record {
   same = refl;
-  mark = λ e l. unmarked e ∙ sym (some-zero (λ j. eqb (sideFrom sides from j) e));
-  block = λ e l q. clash q (unmarked e);
+  mark = λ e l. block-unmarked e ∙ sym (some-zero (λ j. eqb (sideFrom sides from j) e));
+  block = λ e l q. clash q (block-unmarked e);
   most = λ e. omega (arith, z e);
 }
   where
-    unmarked : (e : ℕ) → eqb (getD used e 0) m ≡ false
-    unmarked e = ne-eqb (getD used e 0) m (λ q. omega (arith, z e))
+    block-unmarked : (e : ℕ) → eqb (getD used e 0) m ≡ false
+    block-unmarked e = ne-eqb (getD used e 0) m (λ q. omega (arith, z e))
 
 -- one edge more, with its block
 module _ {from j m : ℕ} {sides before used : List ℕ} (M : EdgesMarked from j m sides before used) (e : ℕ) (q : e ≡ sideFrom sides from j) (l : e < mostEdges) (long : length used ≡ mostMarks) where
@@ -179,13 +179,13 @@ module _ (counts used : List ℕ) (m : ℕ) where
       not-clash (eqb (getD used d 0) m) (λ p. other (ap (λ x. getD used (mostEdges + x) 0) (sym q) ∙ S .block d (omega arith) p))
 
   -- no start yet
-  pub summed-none : (starts : List ℕ) → StartsSummed counts used m 0 starts starts
-  summed-none starts = record { same = refl; first = λ e l. absurd (not-suc-le-zero l) }
+  pub starts-none : (starts : List ℕ) → StartsSummed counts used m 0 starts starts
+  starts-none starts = record { same = refl; first = λ e l. absurd (not-suc-le-zero l) }
 
   -- the starts so far, after a block that is passed over and after one that is added
   module _ {at end : ℕ} {before starts : List ℕ} (S : StartsSummed counts used m at before starts) where
-    pub summed-skip : ((e : ℕ) → at ≤ e → e < end → eqb (getD used e 0) m ≡ false) → StartsSummed counts used m end before starts
-    summed-skip none = record {
+    pub starts-skip : ((e : ℕ) → at ≤ e → e < end → eqb (getD used e 0) m ≡ false) → StartsSummed counts used m end before starts
+    starts-skip none = record {
       same = S .same;
       first = λ e l q. elim (decLt e at) [
         | yes h ↦ S .first e h q
@@ -193,8 +193,8 @@ module _ (counts used : List ℕ) (m : ℕ) where
       ];
     }
 
-    pub summed-more : at ≤ end → end ≤ length starts → {after : List ℕ} → after ≡ sets starts at (values (λ i. markedStart counts used m (at + i)) (end - at)) → StartsSummed counts used m end before after
-    summed-more h k {after} w =
+    pub starts-more : at ≤ end → end ≤ length starts → {after : List ℕ} → after ≡ sets starts at (values (λ i. markedStart counts used m (at + i)) (end - at)) → StartsSummed counts used m end before after
+    starts-more h k {after} w =
         let vs = values (λ i. markedStart counts used m (at + i)) (end - at) in
         let lv = length-singles (λ i. markedStart counts used m (at + i)) (end - at) 0 in
         record {

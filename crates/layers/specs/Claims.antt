@@ -21,16 +21,16 @@ use Rattle.layers.specs.Answer.{runAnswer, runArea, joinedAnswer, joined
 use Rattle.layers.specs.Cuts.{runCount, runStart, runEnd, runSize, cutRow, joinedMesh, joinedSplits}
 
 -- the run's cells are some of the grid's, and there is one
-pub record Run (G : Grid) (from size : ℕ) : Type 0 where
+pub record RunWithin (G : Grid) (from size : ℕ) : Type 0 where
   pub some-cell : 0 < size
   pub within : from + size ≤ cellCount (G .cells)
 
 -- a run of a grid without a fault of the rows 1 to 8, 18 and 10 has none either: of an accepted grid's run only row 9 can be faulty
 abbrev pub RunSound : Type 0
-RunSound = (G : Grid) (from size : ℕ) → Sound G → Run G from size → Sound (runGrid G from size)
+RunSound = (G : Grid) (from size : ℕ) → Sound G → RunWithin G from size → Sound (runGrid G from size)
 
 abbrev pub RunClear : Type 0
-RunClear = (G : Grid) (from size : ℕ) (values : List ℕ) → gridAnswer G ≡ result values → Run G from size
+RunClear = (G : Grid) (from size : ℕ) (values : List ℕ) → gridAnswer G ≡ result values → RunWithin G from size
     → (i : ℕ) → i < length (rows (runGrid G from size)) → rowAt (rows (runGrid G from size)) i .number ≢ 9 → Clear (rowAt (rows (runGrid G from size)) i)
 
 -- the run's names put into those of the whole
@@ -52,7 +52,7 @@ pub record NamesLaws (G : Grid) (from size : ℕ) : Type 0 where
       → faceName (runCells G from size) c s ≡ faceName (runCells G from size) d t
 
 abbrev pub NamesKept : Type 0
-NamesKept = (G : Grid) (from size : ℕ) → Sound G → Run G from size → NamesLaws G from size
+NamesKept = (G : Grid) (from size : ℕ) → Sound G → RunWithin G from size → NamesLaws G from size
 
 -- the counts, starts and names of the run's cells from those of the whole: what a call needs that draws a run without its lists
 pub record OwnLaws (G : Grid) (from size : ℕ) : Type 0 where
@@ -61,11 +61,11 @@ pub record OwnLaws (G : Grid) (from size : ℕ) : Type 0 where
   pub name : (c s : ℕ) → c < size → s < 4 → faceName (runCells G from size) c s ≡ ownName G from size c s
 
 abbrev pub RunsOwn : Type 0
-RunsOwn = (G : Grid) (from size : ℕ) → Sound G → Run G from size → OwnLaws G from size
+RunsOwn = (G : Grid) (from size : ℕ) → Sound G → RunWithin G from size → OwnLaws G from size
 
 -- a run's mesh in the names of the whole is what is drawn of the run's cells in the whole
 abbrev pub RunsRenamed : Type 0
-RunsRenamed = (G : Grid) (from size : ℕ) → Sound G → Run G from size → runRenamed G from size ≡ over (λ c. drawnTriangles (gridCell G c)) size from
+RunsRenamed = (G : Grid) (from size : ℕ) → Sound G → RunWithin G from size → runRenamed G from size ≡ over (λ c. drawnTriangles (gridCell G c)) size from
 
 -- cuts that are not refused cut the cells into runs of one cell or more: the first from cell 0, each up to the next, the last to the end
 pub record CutLaws (n : ℕ) (cuts : List ℕ) : Type 0 where

@@ -9,7 +9,7 @@ use Rattle.grid.specs.Grid.{Grid, edgeNumber}
 use Rattle.grid.specs.Accepted.{Sound}
 use Rattle.mesh.specs.Mesh.{gridCell}
 use Rattle.layers.specs.Runs.{runCells, runGrid, ownStart, ownName}
-use Rattle.layers.specs.Claims.{Run}
+use Rattle.layers.specs.Claims.{RunWithin}
 
 pub record RunTabled (G : Grid) (from size : ℕ) (names sides starts : List ℕ) : Type 0 where
   pub name : (c s : ℕ) → c < size → s < 4 → getD names (4 * c + s) 0 ≡ ownName G from size c s
@@ -18,5 +18,5 @@ pub record RunTabled (G : Grid) (from size : ℕ) (names sides starts : List ℕ
 
 -- they give the run's cells
 abbrev pub RunsTabled : Type 0
-RunsTabled = (G : Grid) (from size : ℕ) (names sides starts : List ℕ) → Sound G → Run G from size → RunTabled G from size names sides starts
+RunsTabled = (G : Grid) (from size : ℕ) (names sides starts : List ℕ) → Sound G → RunWithin G from size → RunTabled G from size names sides starts
     → (c : ℕ) → c < size → tableCell (runCells G from size) (G .counts) names sides starts c ≡ gridCell (runGrid G from size) c

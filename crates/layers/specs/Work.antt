@@ -22,12 +22,12 @@ use Rattle.mesh.specs.Mesh.{meshSplits}
 use Rattle.layers.specs.Renaming.{keepInner}
 use Rattle.layers.specs.Runs.{runGrid, runTriangles}
 use Rattle.layers.specs.Cuts.{runStart, runEnd, cutRow, joinedMesh}
-use Rattle.layers.specs.Claims.{Run}
+use Rattle.layers.specs.Claims.{RunWithin}
 
 -- RUNS
 
 -- run r is one of those into which n cells are cut
-pub record Cut (n : ℕ) (cuts : List ℕ) (r : ℕ) : Type 0 where
+pub record RunOfCuts (n : ℕ) (cuts : List ℕ) (r : ℕ) : Type 0 where
   pub there : r ≤ length cuts
   pub rises : runStart cuts r ≤ runEnd n cuts r
   pub few : length cuts < mostCells
@@ -207,7 +207,7 @@ SomeTables cells counts starts names sides = (edges : List ℕ) × Tables (gridO
 -- a run of the grid
 pub record RunOf (G : Grid) (names sides : List ℕ) (from size : ℕ) : Type 0 where
   pub tables : Tables G names sides
-  pub run : Run G from size
+  pub run : RunWithin G from size
 
 -- what is drawn of it, in its own names
 pub record RunDrawn (G : Grid) (from size : ℕ) (before after : List ℕ) (triangles splits : ℕ) : Type 0 where

@@ -4,7 +4,7 @@ ghost use Prim.Native.Nat.{_+_, _≤_};
 ghost use lib.ListN.{length};
 ghost use Rattle.counting.specs.Search.{first};
 ghost use Rattle.layers.specs.Cuts.{runStart, runEnd, runSize, badCut};
-ghost use Rattle.layers.specs.Work.{Cut};
+ghost use Rattle.layers.specs.Work.{RunOfCuts};
 use super::Span;
 
 pub(crate) fn wide(x: u16) -> usize
@@ -56,7 +56,7 @@ fn end_of(cuts: &[u16], n: usize, r: usize) -> usize
 
 // Run r, of n cells that are cut as row 25 allows. Its mark is above those of the runs before it.
 pub(crate) fn span_of(cuts: &[u16], n: usize, r: usize) -> Span
-    requires { ⌜ Cut n (now cuts) r ⌝ }
+    requires { ⌜ RunOfCuts n (now cuts) r ⌝ }
     ensures { λ s. ⌜ (s .from ≡ runStart (now (cuts .entry)) r) × (s .size ≡ runSize n (now (cuts .entry)) r) × (s .mark ≡ r + 1) ⌝ }
 {
     let from = start_of(cuts, r);

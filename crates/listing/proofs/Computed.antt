@@ -30,7 +30,7 @@ use Rattle.mesh.specs.Answer.{meshAnswer}
 use Rattle.bundle.specs.Record as bytes
 use Rattle.bundle.specs.Bundle as bundle
 use Rattle.bundle.specs.Written.{kindFor, countBytes, cellBytes, edgeBytes, bundleBytes}
-use Rattle.listing.specs.Text.{digits, decimal, labelled, refusedLine, head, wordText, wordAt, line}
+use Rattle.listing.specs.Text.{digits, decimal, withLabel, refusedLine, head, wordText, wordAt, line}
 use Rattle.listing.specs.Listing.{orRefused, meshListing, gridListing, bundleListing, listing}
 use Rattle.listing.specs.Examples.{Examples}
 
@@ -40,15 +40,15 @@ unfolding seek first last some every count total over tally pre row col divides 
     face.other face.opposite face.halfAbove face.cornerCount face.residual face.countOn face.others face.kth face.cornerCountAt face.partner face.faceAnswer face.faceJoin isLevel
     it orbit step.face step.land step.step walk.status walk.turn walk.size walk.loopAt
     cell.ahead cell.base cell.holds cell.edge cell.index cell.answerAt cell.joinAt cell.joinedTo cell.mate cell.slot cell.step
-    loop.loopSize loop.dart loop.loopDarts loop.folded loop.normal loop.parity loop.nodeWith loop.typeBy loop.inGrid loop.typeOf loop.leasts loop.answerFrom loop.loopAnswer
+    loop.loopSize loop.dart loop.loopDarts loop.folded loop.normal loop.parity loop.nodeWith loop.typeBy loop.inGrid loop.typeOf loop.leasts loop.loopTold loop.loopAnswer
     faceNode sameFace hasFace faceName joins isEdge hasEdge edgeNumber start startsOf
     badLength badNumbers badStart badLists badCell sameCell repeats crowded isAfter badEdge badCount unlisted unused linked reached split tooMany rows orRefuse answerOf gridAnswer
     triangle.numberOf triangle.segmentOf triangle.point triangle.segment triangle.triangle triangle.loopTriangles triangle.cellTriangles
     joining cornerFrom isLevelCell median cornerOn leastCorner leftBetween larger smaller isSplit areSpiral areSplit drawnTriangles splitsOf
     cornerWords words gather gridCell meshTriangles meshSplits meshWords roomAnswer meshAnswer
     bytes.lengthOf bytes.kindAt bytes.nextRecord bytes.countAt bytes.mayHave bytes.isRecord bytes.bodyStart bytes.bodySize bytes.body
-    bundle.sectionOf bundle.isOf bundle.start bundle.run bundle.cells bundle.edgesFrom bundle.edges bundle.looksFrom bundle.looks bundle.stop bundle.samePair bundle.isFor bundle.isStray bundle.firstStray
+    bundle.sectionOf bundle.isOf bundle.recordStart bundle.run bundle.cells bundle.edgesFrom bundle.edges bundle.looksFrom bundle.looks bundle.stop bundle.samePair bundle.isFor bundle.isStray bundle.firstStray
     bundle.countFrom bundle.countAfter bundle.surviving bundle.bundleAnswer bundle.nodesOf bundle.endsOf bundle.countsOf
     kindFor countBytes cellBytes edgeBytes bundleBytes
-    digits decimal labelled refusedLine head wordText wordAt line orRefused meshListing gridListing bundleListing listing
+    digits decimal withLabel refusedLine head wordText wordAt line orRefused meshListing gridListing bundleListing listing
 computed = refl

@@ -26,8 +26,8 @@ abbrev pub longest : ℕ
 longest = 20
 
 -- a label and a number after it
-unfoldable pub labelled : List ℕ → ℕ → List ℕ
-labelled label n = label ++ decimal n
+unfoldable pub withLabel : List ℕ → ℕ → List ℕ
+withLabel label n = label ++ decimal n
 
 abbrev pub newline : List ℕ
 newline = 10 ∷ []
@@ -54,12 +54,12 @@ trianglesLabel = 32 ∷ 116 ∷ 114 ∷ 105 ∷ 97 ∷ 110 ∷ 103 ∷ 108 ∷ 1
 
 -- a refusal's line: refused N at P
 unfoldable pub refusedLine : ℕ → ℕ → List ℕ
-refusedLine number place = labelled refusedLabel number ++ labelled atLabel place ++ newline
+refusedLine number place = withLabel refusedLabel number ++ withLabel atLabel place ++ newline
 
 -- the first line of a mesh's listing
 unfoldable pub head : ℕ → ℕ → ℕ → ℕ → List ℕ
 head cells edges crossings triangles =
-    labelled cellsLabel cells ++ labelled edgesLabel edges ++ labelled crossingsLabel crossings ++ labelled trianglesLabel triangles ++ newline
+    withLabel cellsLabel cells ++ withLabel edgesLabel edges ++ withLabel crossingsLabel crossings ++ withLabel trianglesLabel triangles ++ newline
 
 -- a blank and a word: its digits, or a dash for the word that stands for no crossing and no face
 unfoldable pub wordText : ℕ → List ℕ

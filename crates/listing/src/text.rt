@@ -3,7 +3,7 @@ ghost use mathlib.Core.Path.{_≡_};
 ghost use Prim.Native.Nat.{_+_, _≤_};
 ghost use lib.ListN.{length};
 ghost use Rattle.counting.specs.Stored.{Stored};
-ghost use Rattle.listing.specs.Text.{longest, wordRoom, decimal, labelled, wordText};
+ghost use Rattle.listing.specs.Text.{longest, wordRoom, decimal, withLabel, wordText};
 use cell::NO_NAME;
 
 // The most digits of a number of 64 bits; and the most bytes of a word of 32 bits and the blank before it.
@@ -48,7 +48,7 @@ pub(crate) fn put_number(out: &mut [u8], at: usize, n: usize) -> usize
 // A label and a number.
 pub(crate) fn put_named(out: &mut [u8], at: usize, label: &[u8], n: usize) -> usize
     requires { ⌜ at + (length (now label) + longest) ≤ length (now out) ⌝ }
-    ensures stored { λ r. ⌜ Stored (now (out .entry)) at (labelled (now (label .entry)) n) (now (out .exit)) r ⌝ }
+    ensures stored { λ r. ⌜ Stored (now (out .entry)) at (withLabel (now (label .entry)) n) (now (out .exit)) r ⌝ }
     ensures few { λ r. ⌜ r ≤ at + (length (now (label .entry)) + longest) ⌝ }
 {
     let end = put(out, at, label);

@@ -11,7 +11,7 @@ use Rattle.counting.specs.Range.{after, before}
 use Rattle.counting.proofs.Range.{after-lt, after-ne, after-once, before-lt, after-before}
 use Rattle.manifold.specs.Triangle.{Corner, Side, prev}
 use Rattle.manifold.specs.Plain.{cornerOf, sideOf, nth, Passes, OneRing}
-use Rattle.manifold.specs.Polygon.{Polygon, Shape, single, double, fan, shape, corner, centre, segment, spoke, triangle, many, inners, triangles, Simple}
+use Rattle.manifold.specs.Polygon.{Polygon, Shape, single, double, fan, shape, corner, centre, segment, innerSide, triangleAt, many, inners, triangles, Simple}
 use Rattle.manifold.specs.Claims.{AtPoint}
 use Rattle.manifold.proofs.Triangle.{cross-middle}
 use Rattle.manifold.proofs.Sound.{Sound, forward, backward}
@@ -22,13 +22,13 @@ module _ (G : Polygon) where
   pub record Turns (sh : Shape) (k t j : ℕ) (σ τ : Side) : Type 0 where
     pub t-lt : t < many G sh
     pub j-lt : j < 3
-    pub here : cornerOf (triangle G sh t) j ≡ corner G k
-    pub enter : sideOf (triangle G sh t) (prev j) ≡ σ
-    pub leave : sideOf (triangle G sh t) j ≡ τ
+    pub here : cornerOf (triangleAt G sh t) j ≡ corner G k
+    pub enter : sideOf (triangleAt G sh t) (prev j) ≡ σ
+    pub leave : sideOf (triangleAt G sh t) j ≡ τ
 
   -- no triangle but t, or but t and u, has the corner k
   abbrev Only : Shape → ℕ → (ℕ → Type 0) → Type 0
-  Only sh k P = (t j : ℕ) → t < many G sh → j < 3 → cornerOf (triangle G sh t) j ≡ corner G k → P t
+  Only sh k P = (t j : ℕ) → t < many G sh → j < 3 → cornerOf (triangleAt G sh t) j ≡ corner G k → P t
 
   -- one triangle at point k, from segment k − 1 to segment k
   pub record One (sh : Shape) (k : ℕ) : Type 0 where
@@ -46,22 +46,22 @@ module _ (G : Polygon) where
     pub m : ℕ
     pub m-lt : m < inners G sh
     pub ne : t ≢ u
-    pub first : Turns sh k t i (segment G (before (G .n) k)) (spoke G m)
-    pub second : Turns sh k u j (spoke G m) (segment G k)
+    pub first : Turns sh k t i (segment G (before (G .n) k)) (innerSide G m)
+    pub second : Turns sh k u j (innerSide G m) (segment G k)
     pub only : Only sh k (λ s. (s ≡ t) ⊎ (s ≡ u))
 
   module _ (h : G .n ≢ 1) (D : Simple G) where
     away : {P : Type 0} (i j : ℕ) → i < G .n → j < G .n → i ≢ j → corner G i ≡ corner G j → P
     away i j a b ne e = absurd (point-apart G h D i j a b ne e)
 
-    one : (sh : Shape) (k t j : ℕ) → t < many G sh → j < 3 → cornerOf (triangle G sh t) j ≡ corner G k
-        → sideOf (triangle G sh t) (prev j) ≡ segment G (before (G .n) k) → sideOf (triangle G sh t) j ≡ segment G k → Only sh k (λ s. s ≡ t)
+    one : (sh : Shape) (k t j : ℕ) → t < many G sh → j < 3 → cornerOf (triangleAt G sh t) j ≡ corner G k
+        → sideOf (triangleAt G sh t) (prev j) ≡ segment G (before (G .n) k) → sideOf (triangleAt G sh t) j ≡ segment G k → Only sh k (λ s. s ≡ t)
         → One sh k ⊎ Two sh k
     one sh k t j lt lj here enter leave only =
         inl (record { t = t; j = j; turns = record { t-lt = lt; j-lt = lj; here = here; enter = enter; leave = leave }; only = only })
 
-    two : (sh : Shape) (k t i u j m : ℕ) → m < inners G sh → t ≢ u → Turns sh k t i (segment G (before (G .n) k)) (spoke G m)
-        → Turns sh k u j (spoke G m) (segment G k) → Only sh k (λ s. (s ≡ t) ⊎ (s ≡ u)) → One sh k ⊎ Two sh k
+    two : (sh : Shape) (k t i u j m : ℕ) → m < inners G sh → t ≢ u → Turns sh k t i (segment G (before (G .n) k)) (innerSide G m)
+        → Turns sh k u j (innerSide G m) (segment G k) → Only sh k (λ s. (s ≡ t) ⊎ (s ≡ u)) → One sh k ⊎ Two sh k
     two sh k t i u j m lm ne first second only =
         inr (record { t = t; i = i; u = u; j = j; m = m; m-lt = lm; ne = ne; first = first; second = second; only = only })
 
@@ -110,7 +110,7 @@ module _ (G : Polygon) where
     table fan f k l =
         let e = after-before (G .n) k l in
         two fan k (before (G .n) k) 1 k 0 k l (λ q. after-ne (G .n) k l h (ap (after (G .n)) (sym q) ∙ e))
-        (record { t-lt = before-lt (G .n) k l; j-lt = omega arith; here = ap (corner G) e; enter = refl; leave = ap (spoke G) e })
+        (record { t-lt = before-lt (G .n) k l; j-lt = omega arith; here = ap (corner G) e; enter = refl; leave = ap (innerSide G) e })
         (record { t-lt = l; j-lt = omega arith; here = refl; enter = refl; leave = refl })
         both
       where
@@ -132,12 +132,12 @@ module _ (G : Polygon) where
 
     pass : {k t j : ℕ} {σ τ : Side} → Turns (shape G) k t j σ τ → Passes (nth (triangles G) t) (corner G k) σ τ
     pass {k} {t} {j} {σ} {τ} w =
-        let v = triangle G (shape G) t in
+        let v = triangleAt G (shape G) t in
         subst (λ x. Passes x (corner G k) σ τ) (sym (triangles-nth G t (w .t-lt)))
         (subst (λ x. Passes v (corner G k) x τ) (w .enter) (subst (λ x. Passes v (corner G k) (sideOf v (prev j)) x) (w .leave)
         (forward S v j (triangles-member G t (w .t-lt)) (w .j-lt) (w .here))))
 
-    at-nth : {g : Corner} (t j : ℕ) → t < length (triangles G) → cornerOf (nth (triangles G) t) j ≡ g → cornerOf (triangle G (shape G) t) j ≡ g
+    at-nth : {g : Corner} (t j : ℕ) → t < length (triangles G) → cornerOf (nth (triangles G) t) j ≡ g → cornerOf (triangleAt G (shape G) t) j ≡ g
     at-nth t j l e = ap (λ v. cornerOf v j) (sym (triangles-nth G t (short l))) ∙ e
 
     -- the chain at a point
@@ -191,7 +191,7 @@ module _ (G : Polygon) where
 
         side : ℕ → Side
         side zero = segment G (before (G .n) k)
-        side (suc zero) = spoke G (w .m)
+        side (suc zero) = innerSide G (w .m)
         side (suc (suc i)) = segment G k
 
         within : (i : ℕ) → i < 2 → visit i < length (triangles G)
@@ -213,7 +213,7 @@ module _ (G : Polygon) where
         once (suc i) zero a b e = absurd (w .ne (sym e))
         once (suc i) (suc j) a b e = omega arith
 
-        through : (i : ℕ) → 1 ≤ i → i < 2 → (m : ℕ) × (m < inners G (shape G)) × (side i ≡ spoke G m)
+        through : (i : ℕ) → 1 ≤ i → i < 2 → (m : ℕ) × (m < inners G (shape G)) × (side i ≡ innerSide G m)
         through zero a b = absurd (omega arith)
         through (suc zero) a b = (w .m, w .m-lt, refl)
         through (suc (suc i)) a b = absurd (omega arith)
@@ -227,14 +227,14 @@ module _ (G : Polygon) where
       chain = record {
         n = G .n;
         visit = λ i. i;
-        side = λ i. spoke G (round i);
+        side = λ i. innerSide G (round i);
         within = λ i l. long (omega (arith, count));
         passes = passes;
         every = λ t j l lj e. (t, omega (arith, count, short l), refl);
         once = λ i j a b e. e;
       };
       more = two;
-      home = ap (spoke G) (round-n ∙ sym (round-lt 0 (omega arith)));
+      home = ap (innerSide G) (round-n ∙ sym (round-lt 0 (omega arith)));
     }
       where
         -- the number of the inner side after i − 1
@@ -250,12 +250,12 @@ module _ (G : Polygon) where
         round-n : round (G .n) ≡ 0
         round-n = rw (eq-eqb (G .n) (G .n) refl)
 
-        nth-fan : (i : ℕ) → i < G .n → nth (triangles G) i ≡ triangle G fan i
-        nth-fan i l = triangles-nth G i (omega (arith, count)) ∙ ap (λ s. triangle G s i) is
+        nth-fan : (i : ℕ) → i < G .n → nth (triangles G) i ≡ triangleAt G fan i
+        nth-fan i l = triangles-nth G i (omega (arith, count)) ∙ ap (λ s. triangleAt G s i) is
 
-        passes : (i : ℕ) → i < G .n → Passes (nth (triangles G) i) (centre G) (spoke G (round i)) (spoke G (round (suc i)))
+        passes : (i : ℕ) → i < G .n → Passes (nth (triangles G) i) (centre G) (innerSide G (round i)) (innerSide G (round (suc i)))
         passes i l =
-            let v = triangle G fan i in
-            subst (λ x. Passes (nth (triangles G) i) (centre G) (spoke G x) (spoke G (round (suc i)))) (sym (round-lt i l))
-            (subst (λ x. Passes x (centre G) (spoke G i) (spoke G (round (suc i)))) (sym (nth-fan i l))
+            let v = triangleAt G fan i in
+            subst (λ x. Passes (nth (triangles G) i) (centre G) (innerSide G x) (innerSide G (round (suc i)))) (sym (round-lt i l))
+            (subst (λ x. Passes x (centre G) (innerSide G i) (innerSide G (round (suc i)))) (sym (nth-fan i l))
             (backward S v 2 (record { at = i; lt = long (omega (arith, count)); is = nth-fan i l }) (omega arith) refl))

@@ -9,7 +9,7 @@ use Rattle.counting.specs.Lists.{tally, weigh}
 use Rattle.counting.proofs.Range.{total-zero, total-one}
 use Rattle.manifold.specs.Triangle.{Side, same}
 use Rattle.manifold.specs.Plain.{sideOf, hasSide, nth}
-use Rattle.manifold.specs.Polygon.{Polygon, shape, segment, spoke, inners, triangles, Simple}
+use Rattle.manifold.specs.Polygon.{Polygon, shape, segment, innerSide, inners, triangles, Simple}
 use Rattle.manifold.specs.Piece.{segmentOf}
 use Rattle.manifold.specs.Complex.{Complex, Lawful, mesh}
 use Rattle.manifold.specs.Claims.{PolygonLaws, Manifold}
@@ -36,12 +36,12 @@ polygonLaws G two D = record {
         total-zero (λ i. 0) (inners G (shape G)) 0 (λ i u v. refl),
       );
   two = λ k l.
-      count (spoke G k)
+      count (innerSide G k)
       ∙ omega (
         arith,
         total-zero (λ i. 0) (G .n) 0 (λ i u v. refl),
-        total-one (λ i. one (same (spoke G k) (spoke G i))) (inners G (shape G)) 0 k (omega arith) (omega arith) (ap one (eq-same (spoke G k) (spoke G k) refl))
-            (λ i u v w. ap one (ne-same (spoke G k) (spoke G i) (λ e. w (cc)))),
+        total-one (λ i. one (same (innerSide G k) (innerSide G i))) (inners G (shape G)) 0 k (omega arith) (omega arith) (ap one (eq-same (innerSide G k) (innerSide G k) refl))
+            (λ i u v w. ap one (ne-same (innerSide G k) (innerSide G i) (λ e. w (cc)))),
       );
   point = at-point G ne D;
   ring = λ is. fan-ring G ne D is two;
@@ -52,12 +52,12 @@ polygonLaws G two D = record {
     ne e = omega arith
 
     sides : (t i : ℕ) → Seen G (shape G) (nth (triangles G) t) i
-        → ((k : ℕ) × (k < G .n) × (sideOf (nth (triangles G) t) i ≡ segment G k)) ⊎ ((k : ℕ) × (k < inners G (shape G)) × (sideOf (nth (triangles G) t) i ≡ spoke G k))
+        → ((k : ℕ) × (k < G .n) × (sideOf (nth (triangles G) t) i ≡ segment G k)) ⊎ ((k : ℕ) × (k < inners G (shape G)) × (sideOf (nth (triangles G) t) i ≡ innerSide G k))
     sides t i (inl (k, s)) = inl (k, s .lt, s .is)
     sides t i (inr (k, s)) = inr (k, s .lt, s .is)
 
     count : (σ : Side) → tally (hasSide σ) (triangles G)
-        ≡ total (λ k. one (same σ (segment G k))) (G .n) 0 + 2 * total (λ k. one (same σ (spoke G k))) (inners G (shape G)) 0
+        ≡ total (λ k. one (same σ (segment G k))) (G .n) 0 + 2 * total (λ k. one (same σ (innerSide G k))) (inners G (shape G)) 0
     count σ = tally-exact (polygon-sound G ne D) σ ∙ polygon-sides G σ
 
 pub manifold : (K : Complex) → Lawful K → Manifold K

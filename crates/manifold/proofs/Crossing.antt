@@ -117,14 +117,14 @@ module _ (K : Complex) (W : Lawful K) where
                   (eb ∙ A .start ∙ ap (segment G) (before-after (G .n) (w .i) (w .on .lt)) ∙ name)
 
       -- over a shared segment
-      cross-over : (Q : Tri → ℕ → Type 0) (pass : Spreads (mesh K) (cross g) Q) (a b : ℕ) → Shares K g a b → Held Q pass a → Held Q pass b
+      cross-over : (Q : Tri → ℕ → Type 0) (pass : Spreads (mesh K) (cross g) Q) (a b : ℕ) → a < K .pieces → b < K .pieces → Shares (K .at a) (K .at b) g → Held Q pass a → Held Q pass b
       unfolding Held
-      cross-over Q pass a b h f =
-          let u = flag a (h .d) (h .a-lt) (h .d-on) (h .at-d) in
-          let w = flag b (h .e) (h .b-lt) (h .e-on) (h .at-e) in
-          spread Q pass b (w .p) (h .b-lt) (w .p-lt) (w .v) (w .i) (w .here)
-          (pass (u .v) (u .i) (w .v) (w .i) (in-mesh-here K a (u .p) (h .a-lt) (u .p-lt) (u .v) (u .i) (u .here)) (in-mesh-here K b (w .p) (h .b-lt) (w .p-lt) (w .v) (w .i) (w .here))
-          (u .b, w .b, u .by ∙ sym (h .same) ∙ sym (w .by)) (f (u .p) (u .p-lt) (u .v) (u .i) (u .here)))
+      cross-over Q pass a b la lb h f =
+          let u = flag a (h .d) la (h .d-on) (h .at-d) in
+          let w = flag b (h .e) lb (h .e-on) (h .at-e) in
+          spread Q pass b (w .p) lb (w .p-lt) (w .v) (w .i) (w .here)
+          (pass (u .v) (u .i) (w .v) (w .i) (in-mesh-here K a (u .p) la (u .p-lt) (u .v) (u .i) (u .here)) (in-mesh-here K b (w .p) lb (w .p-lt) (w .v) (w .i) (w .here))
+          (u .b, w .b, u .by ∙ h .same ∙ sym (w .by)) (f (u .p) (u .p-lt) (u .v) (u .i) (u .here)))
 
       together : LinkedAt K g → Together (mesh K) (cross g)
       unfolding Held

@@ -53,14 +53,12 @@ module _ (K : Complex) (W : Faced K) where
     pub faces-linked : (g : ℕ) → FacesLinked K g → LinkedAt K g
     faces-linked g link Q pass = link Q (λ a b h q.
         let m = W .agree a b (h .s) (h .d) (h .a-lt) (h .b-lt) (h .s-lt) (h .d-lt) (h .face) in
-        pass a b (record {
-          a-lt = h .a-lt;
-          b-lt = h .b-lt;
+        pass a b (h .a-lt) (h .b-lt) (record {
           d = h .d;
           e = m .e;
           d-on = record { lt = h .d-lt; joined = F .full a (h .d) (h .a-lt) (h .d-lt) };
           e-on = record { lt = m .lt; joined = m .mate (F .full a (h .d) (h .a-lt) (h .d-lt)) .0 };
           at-d = h .at-d;
           at-e = m .point ∙ h .at-d;
-          same = match-segment (K .at a) (K .at b) (h .s) (h .d) (F .full a (h .d) (h .a-lt) (h .d-lt)) (h .face) m;
+          same = sym (match-segment (K .at a) (K .at b) (h .s) (h .d) (F .full a (h .d) (h .a-lt) (h .d-lt)) (h .face) m);
         }) q)

@@ -46,8 +46,8 @@ abbrev pub Meet : (ℕ → ℕ) → (ℕ → Side) → ℕ → ℕ → Type 0
 Meet prv sd q r = (d : ℕ) × (e : ℕ) × (d / 2 ≡ q) × (e / 2 ≡ r) × (sd (exit prv d) ≡ sd (exit prv e))
 
 -- what holds of one corner at g, and passes on where two meet, holds of all
-abbrev pub Joined : ℕ → (ℕ → ℕ) → (ℕ → Side) → (ℕ → Corner) → Corner → Type 1
-Joined N prv sd cn g =
+abbrev pub CornersLinked : ℕ → (ℕ → ℕ) → (ℕ → Side) → (ℕ → Corner) → Corner → Type 1
+CornersLinked N prv sd cn g =
     (Q : ℕ → Type 0) → ((q r : ℕ) → q < N → r < N → cn q ≡ g → cn r ≡ g → Meet prv sd q r → Q q → Q r)
     → (q r : ℕ) → q < N → r < N → cn q ≡ g → cn r ≡ g → Q q → Q r
 
@@ -172,7 +172,7 @@ module _ (N : ℕ) (nxt prv : ℕ → ℕ) (sd : ℕ → Side) (cn : ℕ → Cor
         (G .only (exit prv a) (exit prv b) (exit-lt a la) (exit-lt b lb) (sym e))
 
     -- so where all corners at g are joined, the ring from any of them has all
-    pub ring-of : (g : Corner) → Joined N prv sd cn g → (d : ℕ) → d < 2 * N → cn (d / 2) ≡ g
+    pub ring-of : (g : Corner) → CornersLinked N prv sd cn g → (d : ℕ) → d < 2 * N → cn (d / 2) ≡ g
         → (k : ℕ) × Loop (2 * N) turn d k × ((r : ℕ) → r < N → cn r ≡ g → On turn half d k r)
     unfolding it
     ring-of g j d l at =

@@ -9,7 +9,7 @@ use Rattle.counting.proofs.Lists.{all-over, all-at, at-all, stands-over}
 use Rattle.walk.specs.Darts.{half}
 use Rattle.manifold.specs.Triangle.{Corner, cross, inner, next}
 use Rattle.manifold.specs.Plain.{Tri, cornerOf, sideOf, noTri, Chain}
-use Rattle.manifold.specs.Polygon.{Polygon, shape, corner, triangles, spoke, Simple}
+use Rattle.manifold.specs.Polygon.{Polygon, shape, corner, triangles, innerSide, Simple}
 use Rattle.manifold.specs.Piece.{mateOf, segmentOf, dart}
 use Rattle.manifold.specs.Complex.{Complex, Joins, Lawful, Shut, SameEnds, loopOf, mesh}
 use Rattle.manifold.proofs.Triangle.{hits, seg-inner}
@@ -126,7 +126,7 @@ module _ (K : Complex) where
             go (inl (k, s)) (inr (l, t)) = absurd (seg-inner (sym (s .is) ∙ e ∙ t .is))
             go (inr (k, s)) (inl (l, t)) = absurd (seg-inner (sym (t .is) ∙ sym e ∙ s .is))
             go (inr (k, s)) (inr (l, t)) =
-                let q : spoke G k ≡ spoke H l = sym (s .is) ∙ e ∙ t .is in
+                let q : innerSide G k ≡ innerSide H l = sym (s .is) ∙ e ∙ t .is in
                 loop-sound (a .c) (a .p) (a .c-lt) (a .p-lt) .ends v i w j (a .in-loop) (same-loop v w a b (W .tags (a .c) (b .c) (a .c-lt) (b .c-lt) (cc)) (cc)) li lj e
 
     -- a side of a triangle: a segment, or an inner side

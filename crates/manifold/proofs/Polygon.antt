@@ -13,7 +13,7 @@ use Rattle.counting.proofs.Range.{total-ext, total-add, total-round, after-on, 
 use Rattle.counting.proofs.Lists.{weigh-over}
 use Rattle.manifold.specs.Triangle.{Corner, cross, middle, Side, next, same}
 use Rattle.manifold.specs.Plain.{Tri, tri, cornerOf, sideOf, noTri, nth}
-use Rattle.manifold.specs.Polygon.{Polygon, Shape, single, double, fan, shape, corner, centre, segment, spoke, triangle, many, inners, triangles, Simple}
+use Rattle.manifold.specs.Polygon.{Polygon, Shape, single, double, fan, shape, corner, centre, segment, innerSide, triangleAt, many, inners, triangles, Simple}
 pub use Rattle.manifold.proofs.Shapes.{Fits}
 use Rattle.manifold.proofs.Shapes.{fits as shape-fits, length-triangles, getD-triangles}
 use Rattle.manifold.proofs.Triangle.{hits, cross-middle, seg-inner}
@@ -27,40 +27,40 @@ module _ (G : Polygon) where
   -- its triangles, as a list, by number
   pub triangles-length : length (triangles G) ≡ many G (shape G)
   unfolding triangles
-  triangles-length = length-triangles tri (corner G) (centre G) (segment G) (spoke G) (G .n) (shape G)
+  triangles-length = length-triangles tri (corner G) (centre G) (segment G) (innerSide G) (G .n) (shape G)
 
-  pub triangles-nth : (k : ℕ) → k < many G (shape G) → nth (triangles G) k ≡ triangle G (shape G) k
+  pub triangles-nth : (k : ℕ) → k < many G (shape G) → nth (triangles G) k ≡ triangleAt G (shape G) k
   unfolding triangles
-  triangles-nth k l = getD-triangles tri (corner G) (centre G) (segment G) (spoke G) (G .n) noTri (shape G) k l
+  triangles-nth k l = getD-triangles tri (corner G) (centre G) (segment G) (innerSide G) (G .n) noTri (shape G) k l
 
-  pub triangles-member : (k : ℕ) → k < many G (shape G) → Member (triangles G) (triangle G (shape G) k)
+  pub triangles-member : (k : ℕ) → k < many G (shape G) → Member (triangles G) (triangleAt G (shape G) k)
   triangles-member k l = record { at = k; lt = omega (arith, triangles-length); is = triangles-nth k l }
 
-  pub triangles-of : (v : Tri) → Member (triangles G) v → (k : ℕ) × (k < many G (shape G)) × (v ≡ triangle G (shape G) k)
+  pub triangles-of : (v : Tri) → Member (triangles G) v → (k : ℕ) × (k < many G (shape G)) × (v ≡ triangleAt G (shape G) k)
   triangles-of v m =
       let l : m .at < many G (shape G) = omega (arith, m .lt, triangles-length) in
       (m .at, l, sym (m .is) ∙ triangles-nth (m .at) l)
 
   -- each segment is a side once, and each inner side twice
   counted : (σ : Side) (sh : Shape) → Fits sh (G .n)
-      → weigh (hits σ) (over (λ k. triangle G sh k ∷ []) (many G sh) 0)
-      ≡ total (λ k. one (same σ (segment G k))) (G .n) 0 + 2 * total (λ k. one (same σ (spoke G k))) (inners G sh) 0
+      → weigh (hits σ) (over (λ k. triangleAt G sh k ∷ []) (many G sh) 0)
+      ≡ total (λ k. one (same σ (segment G k))) (G .n) 0 + 2 * total (λ k. one (same σ (innerSide G k))) (inners G sh) 0
   unfolding weigh total over
   counted σ single e = rw e (omega arith)
   counted σ double e = rw e (omega arith)
   counted σ fan e =
       let n = G .n in
       let f : ℕ → ℕ = (λ k. one (same σ (segment G k))) in
-      let g : ℕ → ℕ = (λ k. one (same σ (spoke G k))) in
+      let g : ℕ → ℕ = (λ k. one (same σ (innerSide G k))) in
       let a : total (λ k. f k + g (after n k) + g k) n 0 ≡ total (λ k. f k + g (after n k)) n 0 + total g n 0 = total-add (λ k. f k + g (after n k)) g n 0 in
       let b : total (λ k. f k + g (after n k)) n 0 ≡ total f n 0 + total (λ k. g (after n k)) n 0 = total-add f (λ k. g (after n k)) n 0 in
       let r : total (λ k. g (after n k)) n 0 ≡ total g n 0 = total-round g n in
-      weigh-over (hits σ) (λ k. triangle G fan k ∷ []) n 0
-      ∙ total-ext (λ k. weigh (hits σ) (triangle G fan k ∷ [])) (λ k. f k + g (after n k) + g k) n 0 (λ q u v. omega arith)
+      weigh-over (hits σ) (λ k. triangleAt G fan k ∷ []) n 0
+      ∙ total-ext (λ k. weigh (hits σ) (triangleAt G fan k ∷ [])) (λ k. f k + g (after n k) + g k) n 0 (λ q u v. omega arith)
       ∙ omega arith
 
   pub polygon-sides : (σ : Side)
-      → weigh (hits σ) (triangles G) ≡ total (λ k. one (same σ (segment G k))) (G .n) 0 + 2 * total (λ k. one (same σ (spoke G k))) (inners G (shape G)) 0
+      → weigh (hits σ) (triangles G) ≡ total (λ k. one (same σ (segment G k))) (G .n) 0 + 2 * total (λ k. one (same σ (innerSide G k))) (inners G (shape G)) 0
   unfolding triangles
   polygon-sides σ = counted σ (shape G) (fits G)
 
@@ -85,7 +85,7 @@ module _ (G : Polygon) where
   -- side i of v is inner side k
   pub record AtInner (sh : Shape) (v : Tri) (i k : ℕ) : Type 0 where
     pub lt : k < inners G sh
-    pub is : sideOf v i ≡ spoke G k
+    pub is : sideOf v i ≡ innerSide G k
     pub ends : Ends (cornerOf v i) (cornerOf v (next i)) (outer sh k) (far sh k)
 
   abbrev pub Seen : Shape → Tri → ℕ → Type 0
@@ -95,17 +95,17 @@ module _ (G : Polygon) where
   along : {sh : Shape} (v : Tri) (i k j : ℕ) → k < G .n → after (G .n) k ≡ j → sideOf v i ≡ segment G k → cornerOf v i ≡ corner G k → cornerOf v (next i) ≡ corner G j → Seen sh v i
   along v i k j l e a b d = inl (k, record { lt = l; is = a; from = b; to = d ∙ ap (corner G) (sym e) })
 
-  table : (sh : Shape) → Fits sh (G .n) → (k i : ℕ) → k < many G sh → i < 3 → Seen sh (triangle G sh k) i
-  table single f k zero l h = along (triangle G single k) 0 0 1 (omega arith) (after-on (G .n) 0 (omega arith)) refl refl refl
-  table single f k (suc zero) l h = along (triangle G single k) 1 1 2 (omega arith) (after-on (G .n) 1 (omega arith)) refl refl refl
-  table single f k (suc (suc zero)) l h = along (triangle G single k) 2 2 0 (omega arith) (after-last (G .n) 2 (omega arith)) refl refl refl
-  table double f zero zero l h = along (triangle G double 0) 0 0 1 (omega arith) (after-on (G .n) 0 (omega arith)) refl refl refl
-  table double f zero (suc zero) l h = along (triangle G double 0) 1 1 2 (omega arith) (after-on (G .n) 1 (omega arith)) refl refl refl
+  table : (sh : Shape) → Fits sh (G .n) → (k i : ℕ) → k < many G sh → i < 3 → Seen sh (triangleAt G sh k) i
+  table single f k zero l h = along (triangleAt G single k) 0 0 1 (omega arith) (after-on (G .n) 0 (omega arith)) refl refl refl
+  table single f k (suc zero) l h = along (triangleAt G single k) 1 1 2 (omega arith) (after-on (G .n) 1 (omega arith)) refl refl refl
+  table single f k (suc (suc zero)) l h = along (triangleAt G single k) 2 2 0 (omega arith) (after-last (G .n) 2 (omega arith)) refl refl refl
+  table double f zero zero l h = along (triangleAt G double 0) 0 0 1 (omega arith) (after-on (G .n) 0 (omega arith)) refl refl refl
+  table double f zero (suc zero) l h = along (triangleAt G double 0) 1 1 2 (omega arith) (after-on (G .n) 1 (omega arith)) refl refl refl
   table double f zero (suc (suc zero)) l h = inr (0, record { lt = omega arith; is = refl; ends = inr (refl, refl) })
   table double f (suc k) zero l h = inr (0, record { lt = omega arith; is = refl; ends = inl (refl, refl) })
-  table double f (suc k) (suc zero) l h = along (triangle G double (suc k)) 1 2 3 (omega arith) (after-on (G .n) 2 (omega arith)) refl refl refl
-  table double f (suc k) (suc (suc zero)) l h = along (triangle G double (suc k)) 2 3 0 (omega arith) (after-last (G .n) 3 (omega arith)) refl refl refl
-  table fan f k zero l h = along (triangle G fan k) 0 k (after (G .n) k) l refl refl refl refl
+  table double f (suc k) (suc zero) l h = along (triangleAt G double (suc k)) 1 2 3 (omega arith) (after-on (G .n) 2 (omega arith)) refl refl refl
+  table double f (suc k) (suc (suc zero)) l h = along (triangleAt G double (suc k)) 2 3 0 (omega arith) (after-last (G .n) 3 (omega arith)) refl refl refl
+  table fan f k zero l h = along (triangleAt G fan k) 0 k (after (G .n) k) l refl refl refl refl
   table fan f k (suc zero) l h = inr (after (G .n) k, record { lt = after-lt (G .n) k l; is = refl; ends = inl (refl, refl) })
   table fan f k (suc (suc zero)) l h = inr (k, record { lt = l; is = refl; ends = inr (refl, refl) })
   table sh f k (suc (suc (suc i))) l h = absurd (omega arith)
@@ -136,7 +136,7 @@ module _ (G : Polygon) where
   pub of-middle : (v : Tri) (i c p : ℕ) → Member (triangles G) v → i < 3 → cornerOf v i ≡ middle c p → (shape G ≡ fan) × (centre G ≡ middle c p)
   of-middle v i c p m l e = let (k, lk, q) = triangles-of v m in at (shape G) k i (ap (λ w. cornerOf w i) (sym q) ∙ e)
     where
-      at : (sh : Shape) (k i : ℕ) → cornerOf (triangle G sh k) i ≡ middle c p → (sh ≡ fan) × (centre G ≡ middle c p)
+      at : (sh : Shape) (k i : ℕ) → cornerOf (triangleAt G sh k) i ≡ middle c p → (sh ≡ fan) × (centre G ≡ middle c p)
       at single k zero e = absurd (cross-middle e)
       at single k (suc zero) e = absurd (cross-middle e)
       at single k (suc (suc i)) e = absurd (cross-middle e)
@@ -169,7 +169,7 @@ module _ (G : Polygon) where
         ends v i w j q (inl (k, s)) (inr (l, t)) = absurd (seg-inner (sym (s .is) ∙ q ∙ t .is))
         ends v i w j q (inr (k, s)) (inl (l, t)) = absurd (seg-inner (sym (t .is) ∙ sym q ∙ s .is))
         ends v i w j q (inr (k, s)) (inr (l, t)) =
-            let b : spoke G k ≡ spoke G l = sym (s .is) ∙ q ∙ t .is in
+            let b : innerSide G k ≡ innerSide G l = sym (s .is) ∙ q ∙ t .is in
             let e : k ≡ l = cc in
             via (cornerOf v i) (cornerOf v (next i)) (cornerOf w j) (cornerOf w (next j)) (outer (shape G) k) (far (shape G) k) (s .ends)
             (subst (λ x. Ends (cornerOf w j) (cornerOf w (next j)) (outer (shape G) x) (far (shape G) x)) (sym e) (t .ends))

@@ -22,7 +22,7 @@ use Rattle.manifold.specs.Plain.{Tri, cornerOf, sideOf, noTri, nth, Pass
 use Rattle.manifold.proofs.Triangle.{hits, hits-is}
 use Rattle.manifold.proofs.Sound.{Member, member, Sound, corner-once, forward, backward}
 use Rattle.manifold.proofs.Together.{port, Here, Spreads, Together}
-use Rattle.manifold.proofs.Glue.{Glued, exit, exit-even, exit-odd, Joined, turn, corner-darts, turn-side, point-on, ring-of}
+use Rattle.manifold.proofs.Glue.{Glued, exit, exit-even, exit-odd, CornersLinked, turn, corner-darts, turn-side, point-on, ring-of}
 use Rattle.manifold.proofs.Twin.{twin, twin-is, twin-only, twin-twice}
 
 -- each side of a triangle occurs twice
@@ -112,7 +112,7 @@ module _ (mesh : List Tri) where
         let e : prv (3 * t + i) ≡ 3 * t + prev i = omega arith in
         ap (sideAt mesh) (exit-odd prv (3 * t + i) ∙ e) ∙ side-at t (prev i) (omega arith)
 
-    joined : (g : Corner) → Together mesh g → Joined (3 * length mesh) prv (sideAt mesh) (cornerAt mesh) g
+    joined : (g : Corner) → Together mesh g → CornersLinked (3 * length mesh) prv (sideAt mesh) (cornerAt mesh) g
     joined g T Q close q r lq lr cq cr h =
         let e : 3 * (r / 3) + r % 3 ≡ r = omega arith in
         subst Q e (T Q′ pass (nth mesh (q / 3)) (q % 3) (nth mesh (r / 3)) (r % 3)

@@ -12,7 +12,7 @@ use Rattle.counting.proofs.Range.{total-zero, total-one, total-ext, total-pos, 
 use Rattle.counting.proofs.Lists.{weigh-over}
 use Rattle.manifold.specs.Triangle.{Side, seg, inner, same}
 use Rattle.manifold.specs.Plain.{hasSide}
-use Rattle.manifold.specs.Polygon.{shape, spoke, inners, triangles}
+use Rattle.manifold.specs.Polygon.{shape, innerSide, inners, triangles}
 use Rattle.manifold.specs.Piece.{slotOf, lowerOf, segmentOf, dart, sizeOf}
 use Rattle.manifold.specs.Complex.{Complex, Joins, Lawful, Whole, Shut, loopOf, mesh}
 use Rattle.manifold.proofs.Triangle.{hits, eq-same, ne-same, one-same, tally-hits}
@@ -39,7 +39,7 @@ module _ (K : Complex) where
 
   module _ (W : Lawful K) where
     loop-sides : (σ : Side) (c p : ℕ)
-        → inLoop σ c p ≡ counts (K .at c) σ p + 2 * total (λ k. one (same σ (spoke (loopOf K c p) k))) (spokes c p) 0
+        → inLoop σ c p ≡ counts (K .at c) σ p + 2 * total (λ k. one (same σ (innerSide (loopOf K c p) k))) (spokes c p) 0
     unfolding spokes
     loop-sides σ c p = polygon-sides (loopOf K c p) σ
 
@@ -74,15 +74,15 @@ module _ (K : Complex) where
       pub c-lt : c < K .pieces
       pub p-lt : p < K .at c .N
       pub k-lt : k < inners (loopOf K c p) (shape (loopOf K c p))
-      pub is : σ ≡ spoke (loopOf K c p) k
+      pub is : σ ≡ innerSide (loopOf K c p) k
 
-    none : (c g k c′ p′ : ℕ) → ((q : ℕ) → inner c g k ≢ spoke (loopOf K c′ p′) q) → inLoop (inner c g k) c′ p′ ≡ 0
+    none : (c g k c′ p′ : ℕ) → ((q : ℕ) → inner c g k ≢ innerSide (loopOf K c′ p′) q) → inLoop (inner c g k) c′ p′ ≡ 0
     none c g k c′ p′ ne =
         loop-sides (inner c g k) c′ p′
         ∙ omega (
           arith,
           total-zero (λ i. 0) (sizeOf (K .at c′) p′) 0 (λ q u v. refl),
-          total-zero (λ i. one (same (inner c g k) (spoke (loopOf K c′ p′) i))) (spokes c′ p′) 0 (λ q u v. ap one (ne-same (inner c g k) (spoke (loopOf K c′ p′) q) (ne q))),
+          total-zero (λ i. one (same (inner c g k) (innerSide (loopOf K c′ p′) i))) (spokes c′ p′) 0 (λ q u v. ap one (ne-same (inner c g k) (innerSide (loopOf K c′ p′) q) (ne q))),
         )
 
     pub inner-two : (σ : Side) (c p k : ℕ) → Inner σ c p k → weigh (hits σ) (mesh K) ≡ 2
@@ -117,13 +117,13 @@ module _ (K : Complex) where
         find h =
             let (c, u, lc, hc) = total-pos (inPiece σ) (K .pieces) 0 (subst (λ x. 0 < x) (whole σ) h) in
             let (p, v, lp, hp) = total-pos (inLoop σ c) (K .at c .N) 0 hc in
-            let (i, w, li, hi) = total-pos (λ i. one (same σ (spoke (loopOf K c p) i))) (spokes c p) 0
+            let (i, w, li, hi) = total-pos (λ i. one (same σ (innerSide (loopOf K c p) i))) (spokes c p) 0
             (omega (arith, hp, loop-sides σ c p, total-zero (λ i. 0) (sizeOf (K .at c) p) 0 (λ q x y. refl))) in
             le-of-eq (inner-two σ c p i (record {
               c-lt = omega arith;
               p-lt = omega arith;
               k-lt = omega arith;
-              is = one-same σ (spoke (loopOf K c p) i) hi;
+              is = one-same σ (innerSide (loopOf K c p) i) hi;
             }))
 
     side-le : (σ : Side) → weigh (hits σ) (mesh K) ≤ 2

@@ -7,7 +7,7 @@ use Rattle.counting.specs.Range.{over, before}
 use Rattle.counting.specs.Lists.{tally}
 use Rattle.manifold.specs.Triangle.{Side, cross, inner}
 use Rattle.manifold.specs.Plain.{sideOf, hasSide, nth, Chain, OneRing}
-use Rattle.manifold.specs.Polygon.{Polygon, shape, fan, corner, centre, segment, spoke, inners, triangles}
+use Rattle.manifold.specs.Polygon.{Polygon, shape, fan, corner, centre, segment, innerSide, inners, triangles}
 use Rattle.manifold.specs.Piece.{segmentOf, sizeOf}
 use Rattle.manifold.specs.Complex.{Complex, Joins, Whole, Shut, Has, LinkedAt, loopOf, mesh}
 
@@ -18,16 +18,16 @@ pub record AtPoint (G : Polygon) (k : ℕ) : Type 0 where
   pub few : chain .n ≤ 2
   pub start : chain .side 0 ≡ segment G (before (G .n) k)
   pub end : chain .side (chain .n) ≡ segment G k
-  pub through : (i : ℕ) → 1 ≤ i → i < chain .n → (m : ℕ) × (m < inners G (shape G)) × (chain .side i ≡ spoke G m)
+  pub through : (i : ℕ) → 1 ≤ i → i < chain .n → (m : ℕ) × (m < inners G (shape G)) × (chain .side i ≡ innerSide G m)
 
 pub record PolygonLaws (G : Polygon) : Type 0 where
   -- a side of a triangle is a segment of the loop or one of its inner sides
   pub sides : (t i : ℕ) → t < length (triangles G) → i < 3
       → ((k : ℕ) × (k < G .n) × (sideOf (nth (triangles G) t) i ≡ segment G k))
-      ⊎ ((k : ℕ) × (k < inners G (shape G)) × (sideOf (nth (triangles G) t) i ≡ spoke G k))
+      ⊎ ((k : ℕ) × (k < inners G (shape G)) × (sideOf (nth (triangles G) t) i ≡ innerSide G k))
   -- each segment is a side of exactly one triangle, and each inner side of exactly two
   pub one : (k : ℕ) → k < G .n → tally (hasSide (segment G k)) (triangles G) ≡ 1
-  pub two : (k : ℕ) → k < inners G (shape G) → tally (hasSide (spoke G k)) (triangles G) ≡ 2
+  pub two : (k : ℕ) → k < inners G (shape G) → tally (hasSide (innerSide G k)) (triangles G) ≡ 2
   -- the triangles at a point are a chain
   pub point : (k : ℕ) → k < G .n → AtPoint G k
   -- a fan is a ring round its middle

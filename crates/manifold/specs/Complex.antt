@@ -75,18 +75,17 @@ pub record Has (K : Complex) (g c : ℕ) : Type 0 where
   pub on : Joins (K .at c) d
   pub is : K .at c .number (half d) ≡ g
 
--- the pieces a and b share a segment that ends at g
-pub record Shares (K : Complex) (g a b : ℕ) : Type 0 where
-  pub a-lt : a < K .pieces
-  pub b-lt : b < K .pieces
+-- the pieces A and B share a segment that ends at g
+pub record Shares (A B : Local) (g : ℕ) : Type 0 where
   pub d : ℕ
   pub e : ℕ
-  pub d-on : Joins (K .at a) d
-  pub e-on : Joins (K .at b) e
-  pub at-d : K .at a .number (half d) ≡ g
-  pub at-e : K .at b .number (half e) ≡ g
-  pub same : segmentOf (K .at b) e ≡ segmentOf (K .at a) d
+  pub d-on : Joins A d
+  pub e-on : Joins B e
+  pub at-d : A .number (half d) ≡ g
+  pub at-e : B .number (half e) ≡ g
+  pub same : segmentOf A d ≡ segmentOf B e
 
 -- the pieces with g are all linked through segments that end there: what holds of one of them and passes over these segments holds of all
 abbrev pub LinkedAt : Complex → ℕ → Type 1
-LinkedAt K g = (Q : ℕ → Type 0) → ((a b : ℕ) → Shares K g a b → Q a → Q b) → (a b : ℕ) → Has K g a → Has K g b → Q a → Q b
+LinkedAt K g =
+    (Q : ℕ → Type 0) → ((a b : ℕ) → a < K .pieces → b < K .pieces → Shares (K .at a) (K .at b) g → Q a → Q b) → (a b : ℕ) → Has K g a → Has K g b → Q a → Q b

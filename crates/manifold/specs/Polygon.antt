@@ -34,12 +34,12 @@ module _ (G : Polygon) where
   abbrev pub segment : ℕ → Side
   segment k = seg (G .face k) (G .lower k)
 
-  abbrev pub spoke : ℕ → Side
-  spoke k = inner (G .cell) (G .p0) k
+  abbrev pub innerSide : ℕ → Side
+  innerSide k = inner (G .cell) (G .p0) k
 
   -- triangle k of each shape, how many there are, and how many inner sides
-  abbrev pub triangle : Shape → ℕ → Tri
-  triangle sh k = triangleOf tri corner centre segment spoke (G .n) sh k
+  abbrev pub triangleAt : Shape → ℕ → Tri
+  triangleAt sh k = triangleOf tri corner centre segment innerSide (G .n) sh k
 
   abbrev pub many : Shape → ℕ
   many sh = manyOf sh (G .n)
@@ -48,7 +48,7 @@ module _ (G : Polygon) where
   inners sh = innersOf sh (G .n)
 
   unfoldable pub triangles : List Tri
-  triangles = trianglesOf tri corner centre segment spoke (G .n) (shape G)
+  triangles = trianglesOf tri corner centre segment innerSide (G .n) (shape G)
 
 -- no point twice, and no segment twice
 pub record Simple (G : Polygon) : Type 0 where

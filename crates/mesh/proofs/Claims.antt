@@ -11,7 +11,7 @@ use Rattle.cell.specs.declared.Cell.{Cell}
 use Rattle.cell.specs.declared.Loop.{Loop}
 use Rattle.cell.specs.declared.Loop.the-variants.{Found, Nothing}
 use Rattle.cell.specs.Of.{edgesOf}
-use Rattle.cell.specs.Loop.{leasts, answerFrom, loopAnswer}
+use Rattle.cell.specs.Loop.{leasts, loopTold, loopAnswer}
 use Rattle.cell.specs.Answer.{typeNumbers, loopNumbers}
 use Rattle.cell.proofs.Claims.{oneToOne, ordered}
 use Rattle.cell.specs.declared.Triangle.{Triangle}
@@ -47,10 +47,10 @@ module _ (G : Grid) where
       mesh = meshTriangles G
 
   loop-some : (c : Cell) (k : ℕ) → [] ≡ cellLoop c k → ⊥
-  unfolding loopAnswer answerFrom
+  unfolding loopAnswer loopTold
   loop-some c k = go (drop k (leasts (edgesOf c)))
     where
-      go : (l : List ℕ) → [] ≡ answerFrom (edgesOf c) (c .nodes) l → ⊥
+      go : (l : List ℕ) → [] ≡ loopTold (edgesOf c) (c .nodes) l → ⊥
       go [] q = no-nil q
       go (p ∷ l) q = no-nil q
 

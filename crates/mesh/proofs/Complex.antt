@@ -23,7 +23,7 @@ use Rattle.cell.proofs.Lay.{lay}
 use Rattle.cell.proofs.Mates.{mate-joined}
 use Rattle.cell.proofs.Route.{count-listed}
 use Rattle.cell.proofs.Claims.{ordered, rising-separate}
-use Rattle.mesh.proofs.Joins.{three, On, index-in, num-lt, num-edge, num-index, num-place, is-num, Joined, joined-or, on-dart}
+use Rattle.mesh.proofs.Joins.{three, On, index-in, num-lt, num-edge, num-index, num-place, is-num, JoinFound, joined-or, on-dart}
 use Rattle.cell.specs.Triangles as triangles
 use Rattle.cell.specs.Triangles.{numberOf}
 use Rattle.cell.proofs.Polygons.{localOf, piece}
@@ -189,7 +189,7 @@ module _ (G : Grid) where
         y-mate : mate (w a) r x < crossings (w a) → (mate (w b) s y < crossings (w b)) × (at b .number (mate (w b) s y) ≡ at a .number (mate (w a) r x))
         y-mate l = go (joined-or (w a) o)
           where
-            go : Joined (w a) r x ⊎ ((joinAt (w a) r x ≡ unjoined) × (mate (w a) r x ≡ crossings (w a)))
+            go : JoinFound (w a) r x ⊎ ((joinAt (w a) r x ≡ unjoined) × (mate (w a) r x ≡ crossings (w a)))
                 → (mate (w b) s y < crossings (w b)) × (at b .number (mate (w b) s y) ≡ at a .number (mate (w a) r x))
             go (inr u) = absurd (omega (arith, u .1))
             go (inl g) =
@@ -200,8 +200,8 @@ module _ (G : Grid) where
         match : (d : ℕ) → half d ≡ x → slotOf (at a) d ≡ r → Match (at a) (at b) s d
         match d hx hr =
             ⊎-elim
-            (λ (u : firstSlot (slotEdge s j) ≡ s). make (2 * y) (omega arith) (omega (arith, y-lt)) (face-first (crossings (w b)) (cell.first (w b)) (cell.second (w b)) (mate (w b)) y ∙ ap firstSlot y-edge ∙ u))
-            (λ (u : secondSlot (slotEdge s j) ≡ s). make (2 * y + 1) (omega arith) (omega (arith, y-lt)) (face-second (crossings (w b)) (cell.first (w b)) (cell.second (w b)) (mate (w b)) y ∙ ap secondSlot y-edge ∙ u))
+            (λ (u : firstSlot (slotEdge s j) ≡ s). make (2 * y) (omega arith) (omega (arith, y-lt)) (face-first (crossings (w b)) (cell.firstSlotAt (w b)) (cell.secondSlotAt (w b)) (mate (w b)) y ∙ ap firstSlot y-edge ∙ u))
+            (λ (u : secondSlot (slotEdge s j) ≡ s). make (2 * y + 1) (omega arith) (omega (arith, y-lt)) (face-second (crossings (w b)) (cell.firstSlotAt (w b)) (cell.secondSlotAt (w b)) (mate (w b)) y ∙ ap secondSlot y-edge ∙ u))
             (slot-edge s j ls lj .on)
           where
             make : (e : ℕ) → half e ≡ y → e < 2 * crossings (w b) → slotOf (at b) e ≡ s → Match (at a) (at b) s d

@@ -31,7 +31,7 @@ use Rattle.manifold.proofs.Claims.{manifold}
 use Rattle.manifold.proofs.Faces.{faces-lawful, faces-shut, faces-linked}
 use Rattle.manifold.proofs.Named.{ring-named}
 use Rattle.cell.specs.declared.Triangle.{Triangle}
-use Rattle.cell.specs.Names.{sideAt}
+use Rattle.cell.specs.Names.{sideNameAt}
 use Rattle.cell.specs.Polygons.{named}
 use Rattle.grid.specs.Grid.{Grid, cellCount, countOf, start, crossings}
 use Rattle.grid.specs.Accepted.{Accepted}
@@ -183,9 +183,9 @@ module _ (G : Grid) where
       counted e = sym (tally-named (meshSide (getD (meshTriangles G) t none) i)) ∙ ap (λ σ. tally (names.hasSide σ) (complex.mesh K)) (sym side-at) ∙ e
 
     -- each inner side and each segment of an inner face is in two triangles, whatever the counts
-    pub twice : (t i : ℕ) → t < length (meshTriangles G) → i < 3 → IsInner (sideAt (getD (meshTriangles G) t none) i)
+    pub twice : (t i : ℕ) → t < length (meshTriangles G) → i < 3 → IsInner (sideNameAt (getD (meshTriangles G) t none) i)
         → tally (hasMeshSide (meshSide (getD (meshTriangles G) t none) i)) (meshTriangles G) ≡ 2
-    twice t i lt li h = counted t lt i (go (cellOf (getD (meshTriangles G) t none)) (sideAt (getD (meshTriangles G) t none) i) h (side-at t lt i) (claims .sides t i (here t lt i) li))
+    twice t i lt li h = counted t lt i (go (cellOf (getD (meshTriangles G) t none)) (sideNameAt (getD (meshTriangles G) t none) i) h (side-at t lt i) (claims .sides t i (here t lt i) li))
       where
         go : (c : ℕ) (σ : Side) → IsInner σ → names.sideOf (nth (complex.mesh K) t) i ≡ ownedSide c σ
             → ((x : ℕ) × (d : ℕ) × (x < K .pieces) × Joins (K .at x) d × (names.sideOf (nth (complex.mesh K) t) i ≡ segmentOf (K .at x) d))

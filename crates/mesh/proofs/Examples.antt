@@ -29,7 +29,7 @@ use Rattle.split.specs.Labels.{remainsTo, labelled, label, spoke}
 use Rattle.split.specs.SubCell.{restStart, armStart, innerName, subAt, sub}
 use Rattle.split.specs.Parts.{parts, allParts, ownCorners, drawnTriangles, splitsOf}
 use Rattle.split.specs.Owned.{owned}
-use Rattle.split.specs.Examples.{alone, of, oneSplit}
+use Rattle.split.specs.Examples.{loneCell, of, oneSplit}
 use Rattle.counting.specs.Stored.{storedIn}
 use Rattle.mesh.specs.Mesh.{gridCell, meshTriangles, meshSplits, meshWords}
 use Rattle.mesh.specs.Room.{roomAnswer}
@@ -43,12 +43,12 @@ unfolding seek first last some every count rise joinOf segments unjoinedCount is
     face.other face.opposite face.halfAbove face.cornerCount face.residual face.countOn face.others face.kth face.cornerCountAt face.partner face.faceAnswer face.faceJoin
     it orbit step.face step.land step.step walk.status walk.turn walk.size walk.loopAt
     cell.ahead cell.base cell.holds cell.edge cell.index cell.answerAt cell.joinAt cell.joinedTo cell.mate cell.slot cell.step
-    loop.loopSize loop.dart loop.loopDarts loop.folded loop.normal loop.parity loop.nodeWith loop.typeBy loop.inGrid loop.typeOf loop.leasts loop.answerFrom loop.loopAnswer
+    loop.loopSize loop.dart loop.loopDarts loop.folded loop.normal loop.parity loop.nodeWith loop.typeBy loop.inGrid loop.typeOf loop.leasts loop.loopTold loop.loopAnswer
     faceNode sameFace hasFace faceName joins isEdge hasEdge edgeNumber start startsOf
     badLength badNumbers badStart badLists badCell sameCell repeats crowded isAfter badEdge badCount unlisted unused linked reached split tooMany rows rows.orRefuse rows.answerOf gridAnswer
     triangle.numberOf triangle.segmentOf triangle.point triangle.segment triangle.triangle triangle.loopTriangles triangle.cellTriangles
     joining cornerFrom isLevelCell median cornerOn leastCorner leftBetween larger smaller isSpiral isSplit areSpiral areSplit figureIn figure
-    remainsTo labelled label spoke restStart armStart innerName subAt sub parts allParts ownCorners drawnTriangles splitsOf owned alone of oneSplit
+    remainsTo labelled label spoke restStart armStart innerName subAt sub parts allParts ownCorners drawnTriangles splitsOf owned loneCell of oneSplit
     cornerWords words gather nthAnswer gridCell meshTriangles meshSplits meshWords roomAnswer storedIn askedLoop meshAnswer meshArea loopsAnswer
     faceAnswers leastsOf gridLoops loopPoints gridPoints sidesOf different tallies computed examples
 examples-hold = refl

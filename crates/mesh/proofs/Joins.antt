@@ -8,7 +8,7 @@ use Rattle.slots.proofs.Slots.{slot-edge, EdgeSlot}
 use Rattle.face.specs.Face.{joined, unjoined}
 use Rattle.face.proofs.Claims.{faceLaws}
 use Rattle.walk.specs.Step as walk
-use Rattle.cell.specs.Cell.{Edges, crossings, edge, index, number, joinAt, mate, first, second, slot}
+use Rattle.cell.specs.Cell.{Edges, crossings, edge, index, number, joinAt, mate, firstSlotAt, secondSlotAt, slot}
 use Rattle.cell.proofs.Lay.{lay}
 use Rattle.cell.proofs.Mates.{mate-joined, mate-unjoined, mate-cases, joined-edge, joined-index, slot-has}
 
@@ -23,7 +23,7 @@ module _ (w : Edges) where
     pub slot : EdgeSlot (edge w x) s
 
   -- the crossing of a dart lies on the dart's slot
-  pub on-dart : (d : ℕ) → d < 2 * crossings w → On (walk.face (crossings w) (first w) (second w) (mate w) d) (d / 2)
+  pub on-dart : (d : ℕ) → d < 2 * crossings w → On (walk.face (crossings w) (firstSlotAt w) (secondSlotAt w) (mate w) d) (d / 2)
   unfolding slot
   on-dart d l = record { lt = omega arith; slot = slot-has w d l }
 
@@ -49,7 +49,7 @@ module _ (w : Edges) where
     num-place = ap (edgeRank s) num-edge ∙ slot-edge s j ls lj .place-is
 
   -- a crossing on a slot is joined there, to a crossing that is on the slot too; or has no mate
-  pub record Joined (s x : ℕ) : Type 0 where
+  pub record JoinFound (s x : ℕ) : Type 0 where
     pub j : ℕ
     pub i : ℕ
     pub j-lt : j < 3
@@ -57,10 +57,10 @@ module _ (w : Edges) where
     pub join : joinAt w s x ≡ joined j i
     pub is : mate w s x ≡ number w (slotEdge s j) i
 
-  pub joined-or : {s x : ℕ} → On s x → Joined s x ⊎ ((joinAt w s x ≡ unjoined) × (mate w s x ≡ crossings w))
+  pub joined-or : {s x : ℕ} → On s x → JoinFound s x ⊎ ((joinAt w s x ≡ unjoined) × (mate w s x ≡ crossings w))
   joined-or {s} {x} o = go (mate-cases w s x (o .lt) (o .slot))
     where
-      go : ((j : ℕ) × (i : ℕ) × (joinAt w s x ≡ joined j i)) ⊎ (joinAt w s x ≡ unjoined) → Joined s x ⊎ ((joinAt w s x ≡ unjoined) × (mate w s x ≡ crossings w))
+      go : ((j : ℕ) × (i : ℕ) × (joinAt w s x ≡ joined j i)) ⊎ (joinAt w s x ≡ unjoined) → JoinFound s x ⊎ ((joinAt w s x ≡ unjoined) × (mate w s x ≡ crossings w))
       go (inr e) = inr (e, mate-unjoined w s x e)
       go (inl (j, i, e)) = inl (record { j = j; i = i; j-lt = joined-edge w s x e; i-lt = joined-index w s x e; join = e; is = mate-joined w s x e })
 

@@ -12,7 +12,7 @@ use Rattle.cell.specs.declared.Corner.the-variants.{Crossing, Middle}
 use Rattle.cell.specs.declared.Side.{Side}
 use Rattle.cell.specs.declared.Side.the-variants.{Segment, Inner}
 use Rattle.cell.specs.declared.Triangle.{Triangle}
-use Rattle.cell.specs.Names.{cornerName, sideName, cornerAt, sideAt}
+use Rattle.cell.specs.Names.{cornerName, sideName, cornerNameAt, sideNameAt}
 use Rattle.split.specs.Limits.{firstInnerCrossing, firstInnerFace, wordStep}
 use Rattle.split.specs.Owned.{owned, ownedCorner, ownedSide}
 use Rattle.split.proofs.Grid.{owned-outer, owned-inner, owned-ge, owned-cell}
@@ -71,12 +71,12 @@ cell-lt t = low (t .cell)
     low n = omega arith
 
 -- each of the three corners, and each of the three sides, is one of the triangle
-at-corner : (t : Triangle) (i : ℕ) (P : names.Corner → Type 0) → ((k : Corner) → P (cornerName (t .cell) (t .p0) k)) → P (cornerAt t i)
+at-corner : (t : Triangle) (i : ℕ) (P : names.Corner → Type 0) → ((k : Corner) → P (cornerName (t .cell) (t .p0) k)) → P (cornerNameAt t i)
 at-corner t zero P f = f (t .corner0)
 at-corner t (suc zero) P f = f (t .corner1)
 at-corner t (suc (suc i)) P f = f (t .corner2)
 
-at-side : (t : Triangle) (i : ℕ) (P : names.Side → Type 0) → ((k : Side) → P (sideName (t .cell) (t .p0) k)) → P (sideAt t i)
+at-side : (t : Triangle) (i : ℕ) (P : names.Side → Type 0) → ((k : Side) → P (sideName (t .cell) (t .p0) k)) → P (sideNameAt t i)
 at-side t zero P f = f (t .side0)
 at-side t (suc zero) P f = f (t .side1)
 at-side t (suc (suc i)) P f = f (t .side2)
@@ -125,11 +125,11 @@ module _ (s t : Triangle) where
     λ o. ap₂ (λ w p. inner w (owned firstInnerCrossing (w % wordStep) p) k) (o .0) (o .1) ∙ ap (inner (t .cell) (owned firstInnerCrossing D (t .p0))) (o .2),
   )
 
-  corners-told : (i j : ℕ) → CornerTold (cornerAt s i) (cornerAt t j)
-  corners-told i j = at-corner s i (λ x. CornerTold x (cornerAt t j)) (λ k. at-corner t j (λ y. CornerTold (cornerName (s .cell) (s .p0) k) y) (corner-told k))
+  corners-told : (i j : ℕ) → CornerTold (cornerNameAt s i) (cornerNameAt t j)
+  corners-told i j = at-corner s i (λ x. CornerTold x (cornerNameAt t j)) (λ k. at-corner t j (λ y. CornerTold (cornerName (s .cell) (s .p0) k) y) (corner-told k))
 
-  sides-told : (i j : ℕ) → SideTold (sideAt s i) (sideAt t j)
-  sides-told i j = at-side s i (λ x. SideTold x (sideAt t j)) (λ k. at-side t j (λ y. SideTold (sideName (s .cell) (s .p0) k) y) (side-told k))
+  sides-told : (i j : ℕ) → SideTold (sideNameAt s i) (sideNameAt t j)
+  sides-told i j = at-side s i (λ x. SideTold x (sideNameAt t j)) (λ k. at-side t j (λ y. SideTold (sideName (s .cell) (s .p0) k) y) (side-told k))
 
 pub namesTold : NamesTold
 namesTold = record {

@@ -20,7 +20,7 @@ use Rattle.walk.proofs.Step.{face-first, face-second}
 use Rattle.cell.specs.Cell as cell
 use Rattle.cell.specs.Cell.{Edges, crossings, edge, index, number, mate, joinAt}
 use Rattle.cell.proofs.Lay.{lay}
-use Rattle.mesh.proofs.Joins.{three, On, index-in, num-lt, num-edge, num-index, Joined, joined-or, even-joined, on-dart}
+use Rattle.mesh.proofs.Joins.{three, On, index-in, num-lt, num-edge, num-index, JoinFound, joined-or, even-joined, on-dart}
 use Rattle.manifold.specs.Piece.{slotOf, mateOf}
 use Rattle.manifold.specs.Faces.{FacesShut, SharesFace, FacesLinked}
 use Rattle.grid.specs.Grid.{Grid, cellCount, SameFace, countOf, start, sameFace}
@@ -79,7 +79,7 @@ module _ (G : Grid) where
             o : On v s (d / 2)
             o = on-dart (w G c) d ld
 
-            go : Joined v s (d / 2) ⊎ ((joinAt v s (d / 2) ≡ unjoined) × (mate v s (d / 2) ≡ crossings v)) → mate v s (d / 2) < crossings v
+            go : JoinFound v s (d / 2) ⊎ ((joinAt v s (d / 2) ≡ unjoined) × (mate v s (d / 2) ≡ crossings v)) → mate v s (d / 2) < crossings v
             go (inl g) = rw (g .is) (num-lt v s (g .j) (g .i) (o .slot .lt) (g .j-lt) (g .i-lt))
             go (inr u) = absurd (none (u .0))
               where
@@ -133,8 +133,8 @@ module _ (G : Grid) where
             → SameFace (G .cells) a r b s → en G a (slotEdge r j) ≡ e → SharesFace (cellsOf G) g a b
         step i e li q a b r s j la lb lr ls lj h m =
             ⊎-elim
-            (λ (u : firstSlot (slotEdge r j) ≡ r). make (2 * x) (omega arith) (omega (arith, lx)) (face-first (crossings v) (cell.first v) (cell.second v) (mate v) x ∙ ap firstSlot ex ∙ u))
-            (λ (u : secondSlot (slotEdge r j) ≡ r). make (2 * x + 1) (omega arith) (omega (arith, lx)) (face-second (crossings v) (cell.first v) (cell.second v) (mate v) x ∙ ap secondSlot ex ∙ u))
+            (λ (u : firstSlot (slotEdge r j) ≡ r). make (2 * x) (omega arith) (omega (arith, lx)) (face-first (crossings v) (cell.firstSlotAt v) (cell.secondSlotAt v) (mate v) x ∙ ap firstSlot ex ∙ u))
+            (λ (u : secondSlot (slotEdge r j) ≡ r). make (2 * x + 1) (omega arith) (omega (arith, lx)) (face-second (crossings v) (cell.firstSlotAt v) (cell.secondSlotAt v) (mate v) x ∙ ap secondSlot ex ∙ u))
             (slot-edge r j lr lj .on)
           where
             v : Edges

@@ -14,7 +14,7 @@ use Rattle.manifold.specs.Complex.{Joins}
 use Rattle.cell.specs.Of.{countOf, edgesOf}
 use Rattle.cell.specs.Claims.{OrderLaws}
 use Rattle.cell.specs.declared.Triangle.{Triangle}
-use Rattle.cell.specs.Names.{cornerAt, sideAt}
+use Rattle.cell.specs.Names.{cornerNameAt, sideNameAt}
 use Rattle.grid.specs.Grid.{Grid, built, cellCount}
 use Rattle.grid.specs.Rows.{gridAnswer}
 use Rattle.booking.specs.Booking.{isSplit}
@@ -57,7 +57,7 @@ pieceOf G c x = ofCell c (partLocal (getD (partsOf G c) x noPart))
 -- left out: wherever a crossing is joined on one, two triangles have the segment
 pub record InsideLaws (G : Grid) : Type 0 where
   pub one : (c : ℕ) → c < cellCount (G .cells) → isSplit (countOf (gridCell G c)) ≡ true → SplitSides (gridCell G c)
-  pub two : (t i : ℕ) → t < length (meshTriangles G) → i < 3 → IsInner (sideAt (getD (meshTriangles G) t none) i)
+  pub two : (t i : ℕ) → t < length (meshTriangles G) → i < 3 → IsInner (sideNameAt (getD (meshTriangles G) t none) i)
       → tally (hasMeshSide (meshSide (getD (meshTriangles G) t none) i)) (meshTriangles G) ≡ 2
   pub each : (c x d : ℕ) → c < cellCount (G .cells) → x < length (partsOf G c) → Joins (pieceOf G c x) d → firstInnerFace ≤ pieceOf G c x .name (slotOf (pieceOf G c x) d)
       → tally (hasMeshSide (segmentOf (pieceOf G c x) d)) (meshTriangles G) ≡ 2
@@ -81,10 +81,10 @@ OneSide s t (inner w p k) (inner v q l) = (w ≡ v) × (p ≡ q) × (k ≡ l)
 
 -- the names in the mesh tell them apart in this way
 pub record NamesTold : Type 0 where
-  pub corner : (s t : Triangle) (i j : ℕ) → meshCorner s i ≡ meshCorner t j → OneCorner s t (cornerAt s i) (cornerAt t j)
-  pub same-corner : (s t : Triangle) (i j : ℕ) → OneCorner s t (cornerAt s i) (cornerAt t j) → meshCorner s i ≡ meshCorner t j
-  pub side : (s t : Triangle) (i j : ℕ) → meshSide s i ≡ meshSide t j → OneSide s t (sideAt s i) (sideAt t j)
-  pub same-side : (s t : Triangle) (i j : ℕ) → OneSide s t (sideAt s i) (sideAt t j) → meshSide s i ≡ meshSide t j
+  pub corner : (s t : Triangle) (i j : ℕ) → meshCorner s i ≡ meshCorner t j → OneCorner s t (cornerNameAt s i) (cornerNameAt t j)
+  pub same-corner : (s t : Triangle) (i j : ℕ) → OneCorner s t (cornerNameAt s i) (cornerNameAt t j) → meshCorner s i ≡ meshCorner t j
+  pub side : (s t : Triangle) (i j : ℕ) → meshSide s i ≡ meshSide t j → OneSide s t (sideNameAt s i) (sideNameAt t j)
+  pub same-side : (s t : Triangle) (i j : ℕ) → OneSide s t (sideNameAt s i) (sideNameAt t j) → meshSide s i ≡ meshSide t j
 
 -- the grid of these lists is accepted and meets both premises of the rings; it has so many crossings, triangles and splits
 pub record Ringed (cells edges counts : List ℕ) (crossings triangles splits : ℕ) : Type 0 where

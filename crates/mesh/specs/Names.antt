@@ -4,7 +4,7 @@ use Prim.Native.Nat.{ℕ, _%_, _≤_}
 use mathlib.Core.Bool.{Bool, _||_}
 use Rattle.manifold.specs.Triangle.{Corner, Side, seg, inner, same}
 use Rattle.cell.specs.declared.Triangle.{Triangle}
-use Rattle.cell.specs.Names.{cornerAt, sideAt}
+use Rattle.cell.specs.Names.{cornerNameAt, sideNameAt}
 use Rattle.split.specs.Limits.{firstInnerFace, wordStep}
 use Rattle.split.specs.Owned.{ownedCorner, ownedSide}
 
@@ -14,10 +14,10 @@ cellOf t = t .cell % wordStep
 
 -- corner i of a triangle by its name, and side i, which runs from corner i to the next
 abbrev pub meshCorner : Triangle → ℕ → Corner
-meshCorner t i = ownedCorner (cellOf t) (cornerAt t i)
+meshCorner t i = ownedCorner (cellOf t) (cornerNameAt t i)
 
 abbrev pub meshSide : Triangle → ℕ → Side
-meshSide t i = ownedSide (cellOf t) (sideAt t i)
+meshSide t i = ownedSide (cellOf t) (sideNameAt t i)
 
 -- the triangle has the side with this name
 unfoldable pub hasMeshSide : Side → Triangle → Bool

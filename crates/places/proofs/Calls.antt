@@ -33,10 +33,10 @@ use Rattle.cell.specs.Middles.{cellMiddles, numberedBelow}
 use Rattle.cell.specs.Nests.{nestMiddle}
 use Rattle.split.specs.Standing.{innerPlaces, drawnMiddles}
 use Rattle.places.specs.Nested.{nestedMiddle, placedMiddles}
-use Rattle.places.specs.Points.{crossingPlace, inners, middles, points}
+use Rattle.places.specs.Points.{crossingPlace, innerPoints, middles, points}
 use Rattle.places.specs.Answer.{rowsAnswer, placesAnswer, placed, placesArea}
 use Rattle.places.specs.Done.{Done}
-use Rattle.places.specs.Work.{tableInner, tableMiddles, tablePoints, Ready, PointsIn}
+use Rattle.places.specs.Work.{tableInner, tableMiddles, tablePoints, PlacesReady, PointsIn}
 use Rattle.grid.proofs.Nodes.{numbers-small}
 use Rattle.places.proofs.Fractions.{start-fits}
 use Rattle.places.proofs.ExactCase.{exact-case}
@@ -56,7 +56,7 @@ module _ {G : Grid} {names sides : List ℕ} (T : Tabled G names sides) where
         start-fits (G .counts) (e k) (edge-numbers G (T .sound) .listed c k l h),
       ))
 
-  pub ready : (n : ℕ) → n ≡ crossings (G .counts) → Ready (G .cells) (G .counts) names sides (G .starts) (G .edges) n
+  pub ready : (n : ℕ) → n ≡ crossings (G .counts) → PlacesReady (G .cells) (G .counts) names sides (G .starts) (G .edges) n
   ready n e = record {
     judged = record { fours = T .sound .fours; some = T .sound .some-cell; nodes = numbers-small G (T .sound); all = e };
     few = omega (arith, e, T .sound .few-crossings);
@@ -65,7 +65,7 @@ module _ {G : Grid} {names sides : List ℕ} (T : Tabled G names sides) where
   }
 
   pub points-are : (nodes fractions : List Float) → tablePoints (G .cells) (G .counts) names sides (G .starts) (G .edges) nodes fractions ≡ points G nodes fractions
-  unfolding tablePoints tableInner tableMiddles points inners middles
+  unfolding tablePoints tableInner tableMiddles points innerPoints middles
   points-are nodes fractions =
       let all : drawnCells (G .cells) ≡ cellCount (G .cells) = omega (arith, T .sound .few-cells) in
       let place = crossingPlace (G .edges) (G .counts) nodes fractions in
@@ -107,7 +107,7 @@ module _ (G : Grid) (nodes fractions : List Float) where
       tables : Tabled G names sides
       tables = tabled G names₀ sides₀ names sides (acceptance-yields G (n ∷ []) is-result .sound) accepted ln ls o
 
-      pub laid-ready : Ready (G .cells) (G .counts) names sides (G .starts) (G .edges) n
+      pub laid-ready : PlacesReady (G .cells) (G .counts) names sides (G .starts) (G .edges) n
       laid-ready = ready tables n number-is
 
       pub placed-done : (before after : List Float) (answer : List ℕ) → PointsIn (G .cells) (G .counts) names sides (G .starts) (G .edges) nodes fractions before after answer

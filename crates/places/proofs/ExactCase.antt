@@ -18,10 +18,10 @@ use Rattle.grid.specs.Grid.{Grid, low, high, start, countOf, crossings, hasNode
 use Rattle.place.specs.declared.Place.{Place}
 use Rattle.place.specs.Place.{within, interpolated, coordinates, placeAt, numbers}
 use Rattle.places.specs.Numbers.{properFraction}
-use Rattle.places.specs.Points.{edgeOfCrossing, crossingPlace, inners, middles, points}
+use Rattle.places.specs.Points.{edgeOfCrossing, crossingPlace, innerPoints, middles, points}
 use Rattle.places.specs.Rows.{badNumber, badFractionAt, badFraction}
 use Rattle.places.specs.Answer.{needed, placesAnswer, placesArea}
-use Rattle.places.specs.Exact.{Exactly, parts, ExactCase}
+use Rattle.places.specs.Exact.{Exactly, fractionParts, ExactCase}
 use Rattle.place.proofs.Numbers.{front-at, number-loaded, number-between}
 use Rattle.places.proofs.Exact.{interpolated-exact, within-whole, proper-part}
 use Rattle.places.proofs.Nodes.{End, low-end, high-end}
@@ -39,13 +39,13 @@ module _ (G : Grid) (nodes fractions : List Float) where
     pub point-at : (p : Place) → getD (points G nodes fractions) g p ≡ at g
     unfolding points
     point-at p =
-        List·getD-append (values at (crossings (G .counts))) (inners G nodes fractions ++ middles G nodes fractions) p g (omega (arith, front-long))
+        List·getD-append (values at (crossings (G .counts))) (innerPoints G nodes fractions ++ middles G nodes fractions) p g (omega (arith, front-long))
         ∙ getD-singles at p (crossings (G .counts)) 0 g h
         ∙ ap at (zero-add g)
 
     pub point-lt : g < needed G nodes fractions
     unfolding points
-    point-lt = omega (arith, front-long, length-append (values at (crossings (G .counts))) (inners G nodes fractions ++ middles G nodes fractions))
+    point-lt = omega (arith, front-long, length-append (values at (crossings (G .counts))) (innerPoints G nodes fractions ++ middles G nodes fractions))
 
     edge-lt : edgeOfCrossing (G .counts) g < length (G .counts)
     unfolding edgeOfCrossing start
@@ -91,6 +91,6 @@ module _ (G : Grid) (nodes fractions : List Float) where
       let c = edge-lt g h in
       let lw = within-at area values e (low (G .edges) (edgeOfCrossing (G .counts) g)) t (low-end G (a .grid) (edgeOfCrossing (G .counts) g) c) k in
       let hw = within-at area values e (high (G .edges) (edgeOfCrossing (G .counts) g)) t (high-end G (a .grid) (edgeOfCrossing (G .counts) g) c) k in
-      subst (λ x. Exactly parts x (pos parts *ℤ u +ℤ n *ℤ (v -ℤ u))) (sym (written area values e g t h k))
+      subst (λ x. Exactly fractionParts x (pos fractionParts *ℤ u +ℤ n *ℤ (v -ℤ u))) (sym (written area values e g t h k))
       (interpolated-exact _ _ _ u v n (w .lower) (w .upper) (w .part) (within-whole _ u (w .lower) lw) (within-whole _ v (w .upper) hw)
       (proper-part _ n (w .part) (proper-at area values e g h)))

@@ -53,9 +53,9 @@ unfolding add sub mul div neg lt le eq ofInt ofBits
     badLength badNumbers badStart badLists badCell sameCell repeats crowded isAfter badEdge badCount unlisted unused linked reached split tooMany rows orRefuse answerOf gridAnswer
     hasMiddle numberOf isFan loopPoint isLevel isLevelCell joining cornerFrom cornerOn leastCorner leftBetween
     divides gcd median larger smaller areSpiral areSplit isSplit standing.innerPlaces standing.drawnMiddles
-    nested.octagons nested.others nested.isNested nested.axisEdge nested.remaining nested.through nested.nestNumber nested.nestedMiddle nested.placedMiddle nested.placedMiddles
+    nested.octagons nested.otherLoops nested.isNested nested.axisEdge nested.remaining nested.through nested.nestNumber nested.nestedMiddle nested.placedMiddle nested.placedMiddles
     gridCell
-    sumTo middle gather within properFraction points.edgeOfCrossing points.indexOfCrossing points.crossingPlace points.inners points.middles points.points
+    sumTo middle gather within properFraction points.edgeOfCrossing points.indexOfCrossing points.crossingPlace points.innerPoints points.middles points.points
     hasNode highest badPlaceLists badNumber badFractionAt badFraction placeRows rowsAnswer placesAnswer placed placesArea examples
 examples-hold = refl
 
@@ -66,7 +66,7 @@ unfolding seek first last some every count total over kept tally pre gather
     it orbit step.face step.land step.step walk.status walk.turn walk.size walk.loopAt
     cell.ahead cell.base cell.holds cell.edge cell.index cell.answerAt cell.joinAt cell.joinedTo cell.mate cell.slot cell.step loop.loopSize loop.dart loop.leasts
     isLevel isLevelCell joining cornerFrom cornerOn leastCorner leftBetween
-    nested.octagons nested.others nested.isNested nested.axisEdge nested.remaining nested.through nested.nestNumber nests.examples
+    nested.octagons nested.otherLoops nested.isNested nested.axisEdge nested.remaining nested.through nested.nestNumber nests.examples
 nests-hold = refl
 
 pub splits-placed : SplitsPlaced
@@ -80,7 +80,7 @@ unfolding add sub mul div neg lt le eq ofInt ofBits
     hasMiddle isFan isLevel isLevelCell joining cornerFrom median cornerOn leastCorner leftBetween larger smaller
     figureIn figure areSpiral areSplit isSpiral isSplit remainsTo labelled label spoke
     sub-cell.restStart sub-cell.armStart sub-cell.innerName sub-cell.subAt sub-cell.sub
-    nested.octagons nested.others nested.isNested nested.axisEdge nested.remaining nested.through nested.nestNumber nested.nestedMiddle sumTo middle
+    nested.octagons nested.otherLoops nested.isNested nested.axisEdge nested.remaining nested.through nested.nestNumber nested.nestedMiddle sumTo middle
     standing.newPlace standing.subPlaces standing.armPlace standing.armPlaces standing.splitPlaces standing.standing standing.fansIn standing.allStanding
     standing.innerPlaces standing.drawnMiddles splits.examples
 splits-placed = refl

@@ -43,7 +43,7 @@ use Rattle.places.specs.Points as points
 use Rattle.places.specs.Rows.{highest, badPlaceLists, badNumber, badFractionAt, badFraction}
 use Rattle.places.specs.Answer.{placeRows, rowsAnswer, placesAnswer, placed, placesArea}
 use Rattle.places.specs.Exact.{WholeAt}
-use Rattle.places.specs.Claims.{Happens}
+use Rattle.places.specs.Claims.{ExactHappens}
 
 theCells : List ℕ
 theCells = 0 ∷ 1 ∷ 2 ∷ 3 ∷ []
@@ -78,9 +78,9 @@ unfolding add sub mul div neg lt le eq ofInt ofBits
     badLength badNumbers badStart badLists badCell sameCell repeats crowded isAfter badEdge badCount unlisted unused linked reached split tooMany rows orRefuse answerOf gridAnswer
     hasMiddle numberOf isFan loopPoint isLevel isLevelCell joining cornerFrom cornerOn leastCorner leftBetween
     divides gcd median larger smaller areSpiral areSplit isSplit standing.innerPlaces standing.drawnMiddles
-    nested.octagons nested.others nested.isNested nested.axisEdge nested.remaining nested.through nested.nestNumber nested.nestedMiddle nested.placedMiddle nested.placedMiddles
+    nested.octagons nested.otherLoops nested.isNested nested.axisEdge nested.remaining nested.through nested.nestNumber nested.nestedMiddle nested.placedMiddle nested.placedMiddles
     gridCell
-    sumTo middle gather within properFraction points.edgeOfCrossing points.indexOfCrossing points.crossingPlace points.inners points.middles points.points
+    sumTo middle gather within properFraction points.edgeOfCrossing points.indexOfCrossing points.crossingPlace points.innerPoints points.middles points.points
     hasNode highest badPlaceLists badNumber badFractionAt badFraction placeRows rowsAnswer placesAnswer placed placesArea
     theCells theEdges theCounts theNodes theFractions theArea
 answered = refl
@@ -122,7 +122,7 @@ module _ where
         },
       )
 
-pub happens : Happens
+pub happens : ExactHappens
 happens = record {
   grid = built theCells theEdges theCounts;
   nodes = theNodes;

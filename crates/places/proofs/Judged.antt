@@ -14,7 +14,7 @@ use Rattle.grid.specs.Grid.{highestNode, crossings}
 use Rattle.place.specs.Place.{coordinates}
 use Rattle.places.specs.Rows.{highest, nodeEnd, badPlaceLists, badNumber, badFraction}
 use Rattle.places.specs.Answer.{placeRows, rowsAnswer}
-use Rattle.places.specs.Work.{Marked, isMarked, badMarked, Reaching, Judgeable}
+use Rattle.places.specs.Work.{NodesMarked, isMarked, badMarked, Reaching, Judgeable}
 use Rattle.places.proofs.Nodes.{highest-small}
 use Rattle.places.proofs.Marks.{end-is, row-16-is}
 
@@ -64,7 +64,7 @@ module _ (cells counts : List ℕ) (nodes fractions : List Float) (needed room :
       no-row h = rows-end _ ∙ row-passes _ _ _ x f h ∙ row-passes _ _ _ i e a ∙ row-passes _ _ _ 1 (whole-fine _ g) (omega arith)
 
 -- the highest node, by the table
-module _ (cells counts : List ℕ) (n : ℕ) (J : Judgeable cells counts n) (used : List ℕ) (M : Marked cells used) (end : ℕ) (e : end ≡ last (isMarked used) (length used)) where
+module _ (cells counts : List ℕ) (n : ℕ) (J : Judgeable cells counts n) (used : List ℕ) (M : NodesMarked cells used) (end : ℕ) (e : end ≡ last (isMarked used) (length used)) where
   highest-fits : highest cells ≤ highestNode
   highest-fits = highest-small cells highestNode (J .nodes)
 

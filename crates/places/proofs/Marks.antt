@@ -17,17 +17,17 @@ use Rattle.place.specs.Place.{within, coordinates}
 use Rattle.places.specs.Rows.{highest, nodeEnd, badNumber}
 use Rattle.grid.proofs.Nodes.{Noted, noted-all}
 use Rattle.places.proofs.Nodes.{highest-has, has-highest}
-use Rattle.places.specs.Work.{Marked, isMarked, badMarked}
+use Rattle.places.specs.Work.{NodesMarked, isMarked, badMarked}
 
 module _ (cells used : List ℕ) where
-  pub marked : length cells ≡ 4 * cellCount cells → (j : ℕ) → j ≡ length cells → Noted cells (λ v. 1) 0 j used → Marked cells used
+  pub marked : length cells ≡ 4 * cellCount cells → (j : ℕ) → j ≡ length cells → Noted cells (λ v. 1) 0 j used → NodesMarked cells used
   marked f j e m = record { long = m .long; at = λ v h. noted-all cells (λ v. 1) 0 used f j e m v h ∙ pick-one (hasNode cells v) }
     where
       pick-one : (b : Bool) → pick b 1 0 ≡ one b
       pick-one true = refl
       pick-one false = refl
 
-  module _ (m : Marked cells used) where
+  module _ (m : NodesMarked cells used) where
     is-marked : (v : ℕ) → v ≤ highestNode → isMarked used v ≡ hasNode cells v
     unfolding isMarked
     is-marked v h = ap (λ n. eqb n 1) (m .at v h) ∙ same (hasNode cells v)

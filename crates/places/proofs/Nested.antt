@@ -36,7 +36,7 @@ use Rattle.booking.specs.Claims.{Other, LoopLaws}
 use Rattle.booking.proofs.Claims.{books}
 use Rattle.booking.proofs.Counts.{own}
 use Rattle.booking.proofs.Numbers.{long-times}
-use Rattle.places.specs.Nested.{octagons, others, isNested, axisEdge, remaining, through, nestNumber, pointOnward, nestedMiddle, placedMiddle, placedMiddles}
+use Rattle.places.specs.Nested.{octagons, otherLoops, isNested, axisEdge, remaining, through, nestNumber, pointOnward, nestedMiddle, placedMiddle, placedMiddles}
 use Rattle.places.specs.Claims.{NestedByCounts, EachOnce, NestsAgree}
 use Rattle.split.proofs.Axis.{NestAxis, nest-larger, nest-smaller, nest-left, nest-opposite, nest-ends, nest-first, counts-nest, nest-counts, nest-corner}
 use Rattle.places.proofs.Ranks.{passes, other-many, other-eight, the-loop, loop-lt, loop-passes, is-other, rank-first, rank-highest, other-passes, one-loop}
@@ -88,8 +88,8 @@ module _ (c : Cell) where
 
   -- a nest by counts is one of 02
   module _ {m e b d : ℕ} (N : NestAxis n m e b d) where
-    nest-others : others c ≡ m
-    unfolding others
+    nest-others : otherLoops c ≡ m
+    unfolding otherLoops
     nest-others = other-many w N
 
     nest-octagons : octagons c ≡ m
@@ -111,12 +111,12 @@ module _ (c : Cell) where
     nest-nested : isNested c ≡ true
     unfolding isNested
     nest-nested =
-        and-true (isLevelCell n) (eqb (others c) (octagons c) && ltb 1 (octagons c)) (N .level)
-        (and-true (eqb (others c) (octagons c)) (ltb 1 (octagons c)) (eq-eqb (others c) (octagons c) (nest-others ∙ sym nest-octagons))
+        and-true (isLevelCell n) (eqb (otherLoops c) (octagons c) && ltb 1 (octagons c)) (N .level)
+        (and-true (eqb (otherLoops c) (octagons c)) (ltb 1 (octagons c)) (eq-eqb (otherLoops c) (octagons c) (nest-others ∙ sym nest-octagons))
         (lt-ltb 1 (octagons c) (omega (arith, nest-octagons, N .many))))
 
   -- and a nest of 02 is one by counts: a loop of length 8 has d1 + d2 = 2 * gcd d1 d2
-  module _ (K : isLevelCell n ≡ true) (e : others c ≡ octagons c) (l : 1 < octagons c) where
+  module _ (K : isLevelCell n ≡ true) (e : otherLoops c ≡ octagons c) (l : 1 < octagons c) where
     laws : LoopLaws w
     laws = books w K .loops
 
@@ -124,7 +124,7 @@ module _ (c : Cell) where
     g = gcd (larger n) (smaller n)
 
     many : g ≡ octagons c
-    unfolding others
+    unfolding otherLoops
     many = sym (laws .others) ∙ e
 
     an-octagon : (p : ℕ) × (Other w p) × (loopSize w p ≡ 8)
@@ -159,10 +159,10 @@ module _ (c : Cell) where
   unfolding isNested
   same-test =
       bool-same (isNested c) (ltb (nestEdge n) 3)
-      (λ h. (let r = and-right (isLevelCell n) (eqb (others c) (octagons c) && ltb 1 (octagons c)) h in
-      lt-ltb (nestEdge n) 3 (counts-edge (and-left (isLevelCell n) (eqb (others c) (octagons c) && ltb 1 (octagons c)) h)
-      (eqb-true (others c) (octagons c) (and-left (eqb (others c) (octagons c)) (ltb 1 (octagons c)) r))
-      (ltb-true 1 (octagons c) (and-right (eqb (others c) (octagons c)) (ltb 1 (octagons c)) r)))))
+      (λ h. (let r = and-right (isLevelCell n) (eqb (otherLoops c) (octagons c) && ltb 1 (octagons c)) h in
+      lt-ltb (nestEdge n) 3 (counts-edge (and-left (isLevelCell n) (eqb (otherLoops c) (octagons c) && ltb 1 (octagons c)) h)
+      (eqb-true (otherLoops c) (octagons c) (and-left (eqb (otherLoops c) (octagons c)) (ltb 1 (octagons c)) r))
+      (ltb-true 1 (octagons c) (and-right (eqb (otherLoops c) (octagons c)) (ltb 1 (octagons c)) r)))))
       (λ h. (let (b, d, N) = counts-nest n (ltb-true (nestEdge n) 3 h) in nest-nested N))
 
   -- E, m and i in a nest

@@ -1,20 +1,19 @@
 -- The middles of a split cell's fans by counts are those of 02: every fan of its parts is one of a nest.
-use Prim.Native.Nat.{ℕ, zero, suc, _+_, _*_, _≤_, _<_}
+use Prim.Native.Nat.{ℕ, _+_, _*_, _<_}
 use mathlib.Core.Path.{_≡_, refl, sym, ap, ap₂, _∙_}
 use mathlib.Core.Bool.{Bool, true, false}
 use mathlib.Core.List.{List, [], _∷_, _++_}
 use native.Mathlib.Omega.{arith}
-use native.Mathlib.Nat.{le-of-dvd}
 use lib.Ieee.{Float}
 use borrow.Author.Tests.{lt-ltb}
 use Rattle.counting.specs.Gcd.{gcd}
-use Rattle.counting.specs.Pick.{pick, one}
+use Rattle.counting.specs.Pick.{one}
 use Rattle.counting.specs.Lists.{gather, All}
 use Rattle.counting.specs.Range.{over, values}
 use Rattle.counting.specs.Search.{count}
-use Rattle.counting.proofs.Gcd.{gcd-both}
-use Rattle.counting.proofs.Lists.{all-append}
-use Rattle.counting.proofs.Range.{over-ext, total-has}
+use Rattle.counting.proofs.Gcd.{gcd-above}
+use Rattle.counting.proofs.Lists.{all-append, one-ext}
+use Rattle.counting.proofs.Range.{over-ext, total-has, over-none}
 use Rattle.counting.proofs.Search.{count-total}
 use Rattle.grid.specs.Grid.{cellCount, crossings as gridCrossings}
 use Rattle.mesh.specs.Mesh.{gridCell}
@@ -32,7 +31,7 @@ use Rattle.booking.proofs.Figures.{gcd-next}
 use Rattle.split.specs.Limits.{firstInnerCrossing, firstInnerFace, wordStep}
 use Rattle.split.specs.SubCell.{sub}
 use Rattle.split.specs.Parts.{whole, splitsWithin}
-use Rattle.split.specs.Claims.{Numbered}
+use Rattle.split.specs.Claims.{NumbersAre}
 use Rattle.split.specs.Standing.{cornerIn, cornersOf, subPlaces, Standing, stand, fansIn, fansOf, allStanding, innerPlaces, drawnMiddles}
 use Rattle.split.proofs.Axis.{counts-nest}
 use Rattle.split.proofs.Labels.{spiral-is}
@@ -42,19 +41,9 @@ use Rattle.split.proofs.Stands.{firstOf, omitsL, omitsJ, omitsI, stands, stands
 use Rattle.split.proofs.Fanned.{fans-none, fans-flat, nest-numbered}
 use Rattle.split.proofs.Spotted.{split-divisor, inner-not, middles-not}
 use Rattle.places.specs.Nested.{nestedMiddle, placedMiddles}
-use Rattle.places.specs.Points.{crossingPlace, inners, middles, points}
+use Rattle.places.specs.Points.{crossingPlace, innerPoints, middles, points}
 use Rattle.places.specs.Claims.{FansNested, SplitNested, UnsplitPlaced}
 use Rattle.places.proofs.Nested.{not-three, same-test, middle-same, by-counts}
-
-one-same : (b : Bool) (p q : Place) → (b ≡ true → p ≡ q) → pick b (p ∷ []) [] ≡ pick b (q ∷ []) []
-one-same true p q h = ap (λ (x : Place). x ∷ []) (h refl)
-one-same false p q h = refl
-
--- lists that are all empty
-over-none : (f : ℕ → List Place) (n p : ℕ) → ((q : ℕ) → p ≤ q → q < p + n → f q ≡ []) → over f n p ≡ []
-unfolding over
-over-none f zero p h = refl
-over-none f (suc n) p h = rw (h p (omega arith) (omega arith)) (over-none f n (suc p) (λ q a b. h q (omega arith) (omega arith)))
 
 -- a test that a number passes
 count-pos : (t : ℕ → Bool) (n p : ℕ) → p < n → t p ≡ true → 0 < count t n
@@ -66,12 +55,9 @@ unfolding fansIn isFan
 nest-fans at c h =
     let (b, d, N) = counts-nest (countOf c) h in
     over-ext _ _ (crossings (edgesOf c)) 0
-    (λ p _ l. one-same (isFan c p) _ _
+    (λ p _ l. one-ext (isFan c p) _ _
     (λ f. middle-same c N (cornerIn at) p
     (record { start = omega arith; some = middle-fan (loopSize (edgesOf c) p) (normal (edgesOf c) p) f .0; no-three = not-three (loopSize (edgesOf c) p) (normal (edgesOf c) p) f })))
-
-divides : (x y : ℕ) → 0 < y → 1 < gcd x y → 1 < y
-divides x y h g = omega (arith, le-of-dvd h (gcd-both x y (omega arith) .1))
 
 four-same : {a b c d e f g h : List Place} → a ≡ b → c ≡ d → e ≡ f → g ≡ h → a ++ (c ++ (e ++ g)) ≡ b ++ (d ++ (f ++ h))
 four-same p q r s = rw (p, q, r, s) refl
@@ -82,7 +68,7 @@ spun-same cell =
     spin cell (λ n b f at c. 1 < gcd (larger (countOf c)) (smaller (countOf c)) → gather (fansOf nestMiddle) (stands cell n b f at c) ≡ gather (fansOf nestedMiddle) (stands cell n b f at c))
     (λ n b f at c K h e s g.
     fans-stop cell n b f at c nestMiddle s
-    ∙ nest-fans at c (nest-numbered c (record { level = K; corners = refl; first = e; second = refl }) (divides (larger (countOf c)) (smaller (countOf c)) h g))
+    ∙ nest-fans at c (nest-numbered c (record { level = K; corners = refl; first = e; second = refl }) (gcd-above (larger (countOf c)) (smaller (countOf c)) h g))
     ∙ sym (fans-stop cell n b f at c nestedMiddle s))
     (λ n b f at c K s i g.
     let (some, apart) = spiral-is (countOf c) s in
@@ -96,7 +82,7 @@ spun-same cell =
     let N0 = subCells c K some apart b f (cell + wordStep * (n + 4 + 4 * splitsWithin (countOf c))) .omits-i in
     let k : gcd (larger (countOf (inmost cell n b f at c))) (smaller (countOf (inmost cell n b f at c))) ≡ gcd x y = ap₂ gcd (N .first) (N .second) ∙ gcd-next x y some apart in
     fans-more cell n b f at c nestMiddle K s
-    ∙ four-same (nest-fans (subPlaces (countOf c) at 3) s3 (nest-numbered s3 (subCells c K some apart b f (cell + wordStep * (n + 1)) .omits-l) (divides x y some g)))
+    ∙ four-same (nest-fans (subPlaces (countOf c) at 3) s3 (nest-numbered s3 (subCells c K some apart b f (cell + wordStep * (n + 1)) .omits-l) (gcd-above x y some g)))
     (i (omega (arith, k, g)))
     (fans-flat nestMiddle (subPlaces (countOf c) at 1) s1 N1 ∙ sym (fans-flat nestedMiddle (subPlaces (countOf c) at 1) s1 N1))
     (fans-flat nestMiddle (subPlaces (countOf c) at 0) s0 N0 ∙ sym (fans-flat nestedMiddle (subPlaces (countOf c) at 0) s0 N0))
@@ -123,7 +109,7 @@ drawn-same nodes place c = go (isSplit (countOf c)) refl
 nested-part : (c : Cell) → nestEdge (countOf c) < 3 → FansNested (whole c)
 nested-part c h p l f = same-test c ∙ lt-ltb (nestEdge (countOf c)) 3 h
 
-flat-part : (c : Cell) {t m : ℕ} → Numbered (countOf c) t m 0 → FansNested (whole c)
+flat-part : (c : Cell) {t m : ℕ} → NumbersAre (countOf c) t m 0 → FansNested (whole c)
 unfolding fanCount
 flat-part c N p l f = absurd (omega (arith, count-pos (isFan c) (crossings (edgesOf c)) p l f, fans-none c (N .level) (N .second)))
 
@@ -141,7 +127,7 @@ spun-nested cell =
     spin cell (λ n b f at c. 1 < gcd (larger (countOf c)) (smaller (countOf c)) → All (λ s. FansNested (s .part)) (stands cell n b f at c))
     (λ n b f at c K h e s g.
     rw (stands-stop cell n b f at c s)
-    (all-more (stand at (whole c)) [] (nested-part c (nest-numbered c (record { level = K; corners = refl; first = e; second = refl }) (divides (larger (countOf c)) (smaller (countOf c)) h g))) all-none))
+    (all-more (stand at (whole c)) [] (nested-part c (nest-numbered c (record { level = K; corners = refl; first = e; second = refl }) (gcd-above (larger (countOf c)) (smaller (countOf c)) h g))) all-none))
     (λ n b f at c K s i g.
     let (some, apart) = spiral-is (countOf c) s in
     let x = larger (countOf c) in
@@ -153,7 +139,7 @@ spun-nested cell =
     let k : gcd (larger (countOf (inmost cell n b f at c))) (smaller (countOf (inmost cell n b f at c))) ≡ gcd x y = ap₂ gcd (N .first) (N .second) ∙ gcd-next x y some apart in
     rw (stands-more cell n b f at c K s)
     (all-more (firstOf cell n b f at c) _ tt
-    (all-more (omitsL cell n b f at c) _ (nested-part s3 (nest-numbered s3 (subCells c K some apart b f (cell + wordStep * (n + 1)) .omits-l) (divides x y some g)))
+    (all-more (omitsL cell n b f at c) _ (nested-part s3 (nest-numbered s3 (subCells c K some apart b f (cell + wordStep * (n + 1)) .omits-l) (gcd-above x y some g)))
     (all-append (λ (s : Standing). FansNested (s .part)) _ _ (i (omega (arith, k, g)))
     (all-more (omitsJ cell n b f at c) _ (flat-part s1 (subCells c K some apart b f (cell + wordStep * (n + 3 + 4 * splitsWithin (countOf c))) .omits-j))
     (all-more (omitsI cell n b f at c) _ (flat-part s0 (subCells c K some apart b f (cell + wordStep * (n + 4 + 4 * splitsWithin (countOf c))) .omits-i)) all-none))))))
@@ -166,7 +152,7 @@ splitNested nodes c e =
 
 -- a grid without split cells
 pub unsplitPlaced : UnsplitPlaced
-unfolding points inners middles
+unfolding points innerPoints middles
 unsplitPlaced G nodes fractions h =
     let place = crossingPlace (G .edges) (G .counts) nodes fractions in
     let n = cellCount (G .cells) in

@@ -24,7 +24,7 @@ use Rattle.cell.specs.Middles.{numberedBelow}
 use Rattle.cell.specs.Table.{tableCell, drawnCells, tableFans}
 use Rattle.cell.proofs.Fans.{below-more}
 use Rattle.split.specs.Spots.{cellsStored, innerIn, addedIn, innerAtCell, middlesAtCell}
-use Rattle.places.specs.Work.{Placeable, tableInner, tableMiddles, tablePoints, restWritten, Ready, PointsIn}
+use Rattle.places.specs.Work.{Placeable, tableInner, tableMiddles, tablePoints, restWritten, PlacesReady, PointsIn}
 use Rattle.place.proofs.Numbers.{length-numbers, front-place, points-then, place-kept}
 use Rattle.places.proofs.Middles.{length-inner, length-table, table-ext, inner-written, middles-written}
 use Rattle.places.proofs.Answers.{Fine, rows-fine, rows-some}
@@ -64,7 +64,7 @@ module _ (cells edges counts names sides starts : List ℕ) (nodes fractions : L
         length-table cells counts names sides starts nodes place,
       )
 
-  module _ (n : ℕ) (R : Ready cells counts names sides starts edges n) (before : List Float) (r : Placed) (m : ℕ)
+  module _ (n : ℕ) (R : PlacesReady cells counts names sides starts edges n) (before : List Float) (r : Placed) (m : ℕ)
       (long : m ≡ n + (innerSum + (tableFans cells counts names sides starts + addedSum)))
       (h : placesNumbers r ≡ rowsAnswer cells counts nodes fractions m (length before)) where
     many : m ≡ length all

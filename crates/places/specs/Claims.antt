@@ -37,7 +37,7 @@ PlacesTold = (G : Grid) (nodes fractions : List Float) (room : ℕ) (r s : Place
     → placesNumbers r ≡ placesAnswer G nodes fractions room → placesNumbers s ≡ placesAnswer G nodes fractions room → r ≡ s
 
 -- the exact case is not empty: an input that is not refused, with a crossing, and whole numbers for each crossing and number
-pub record Happens : Type 0 where
+pub record ExactHappens : Type 0 where
   pub grid : Grid
   pub nodes : List Float
   pub fractions : List Float

@@ -25,15 +25,15 @@ pub record Exactly (c : ℕ) (x : Float) (z : ℤ) : Type 0 where
   pub is : signed sign size ≡ z
 
 -- the fractions are whole numbers of these parts
-abbrev pub parts : ℕ
-parts = 1024
+abbrev pub fractionParts : ℕ
+fractionParts = 1024
 
 module _ (edges counts : List ℕ) (nodes fractions : List Float) where
   -- number t of the places of both ends of crossing g's edge is whole, u and v, and its fraction is k parts
   pub record WholeAt (g t : ℕ) (u v k : ℤ) : Type 0 where
     pub lower : Exactly 1 (getD nodes (coordinates * low edges (edgeOfCrossing counts g) + t) nan) u
     pub upper : Exactly 1 (getD nodes (coordinates * high edges (edgeOfCrossing counts g) + t) nan) v
-    pub part : Exactly parts (getD fractions g nan) k
+    pub part : Exactly fractionParts (getD fractions g nan) k
 
 module _ (edges counts : List ℕ) (nodes fractions : List Float) where
   -- where the call refuses nothing, number t of the place that it writes for crossing g is then (1,024 u + k (v − u)) / 1,024;
@@ -42,4 +42,4 @@ module _ (edges counts : List ℕ) (nodes fractions : List Float) where
   ExactCase answer after =
       (values : List ℕ) → answer ≡ result values
       → (g t : ℕ) → g < crossings counts → t < coordinates → (u v k : ℤ) → WholeAt edges counts nodes fractions g t u v k
-      → Exactly parts (getD after (coordinates * g + t) nan) (pos parts *ℤ u +ℤ k *ℤ (v -ℤ u))
+      → Exactly fractionParts (getD after (coordinates * g + t) nan) (pos fractionParts *ℤ u +ℤ k *ℤ (v -ℤ u))

@@ -9,7 +9,7 @@ use Rattle.counting.specs.Lists.{gather}
 use Rattle.cell.specs.declared.Cell.{Cell}
 use Rattle.cell.specs.Of.{edgesOf}
 use Rattle.cell.specs.Loop.{loopSize, leasts}
-use Rattle.places.specs.Nested.{octagons, others, isNested, axisEdge, nestNumber}
+use Rattle.places.specs.Nested.{octagons, otherLoops, isNested, axisEdge, nestNumber}
 
 pub record Example : Type 0 where
   pub counts : List ℕ
@@ -50,7 +50,7 @@ abbrev numbersOf : Cell → List ℕ
 numbersOf c = gather (λ p. pick (eqb (loopSize (edgesOf c) p) 3) [] (nestNumber c p ∷ [])) (leasts (edgesOf c))
 
 abbrev tell : Cell → List ℕ
-tell c = one (isNested c) ∷ octagons c ∷ others c ∷ pick (isNested c) (axisEdge c ∷ numbersOf c) []
+tell c = one (isNested c) ∷ octagons c ∷ otherLoops c ∷ pick (isNested c) (axisEdge c ∷ numbersOf c) []
 
 abbrev pub NestsHold : Type 0
 NestsHold = map (λ x. tell (cellOf x)) examples ≡ map (λ x. x .told) examples

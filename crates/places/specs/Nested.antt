@@ -25,12 +25,12 @@ module _ (c : Cell) where
   unfoldable pub octagons : ℕ
   octagons = tally (λ p. eqb (loopSize (edgesOf c) p) 8) (leasts (edgesOf c))
 
-  unfoldable pub others : ℕ
-  others = tally (λ p. not (eqb (loopSize (edgesOf c) p) 3)) (leasts (edgesOf c))
+  unfoldable pub otherLoops : ℕ
+  otherLoops = tally (λ p. not (eqb (loopSize (edgesOf c) p) 3)) (leasts (edgesOf c))
 
   -- rule 1 alone on the faces, and each loop that is no triangle has length 8; there are m > 1 of these
   unfoldable pub isNested : Bool
-  isNested = isLevelCell (countOf c) && (eqb others octagons && ltb 1 octagons)
+  isNested = isLevelCell (countOf c) && (eqb otherLoops octagons && ltb 1 octagons)
 
   -- E: the first edge that keeps 2 * m crossings beside those of the corner triangles
   unfoldable pub axisEdge : ℕ
@@ -49,11 +49,11 @@ module _ (c : Cell) where
   nestNumber p = first (λ i. through p (octagons + i)) octagons
 
 -- a + (b − a) × f
-abbrev pub onward : (a b f : Float) → Float
-onward a b f = add binary64 a (mul binary64 (sub binary64 b a) f)
+abbrev pub towards : (a b f : Float) → Float
+towards a b f = add binary64 a (mul binary64 (sub binary64 b a) f)
 
 abbrev pub pointOnward : (a b : Place) (f : Float) → Place
-pointOnward a b f = record { x = onward (a .x) (b .x) f; y = onward (a .y) (b .y) f; z = onward (a .z) (b .z) f }
+pointOnward a b f = record { x = towards (a .x) (b .x) f; y = towards (a .y) (b .y) f; z = towards (a .z) (b .z) f }
 
 -- A + (B − A) × ((i + 1) / (m + 1)), for the loop from p: A and B are half the sums of the end places of E and of its opposite, 5 - E
 unfoldable pub nestedMiddle : (corner : ℕ → Place) (c : Cell) → ℕ → Place

@@ -27,8 +27,8 @@ module _ (edges counts : List ℕ) (nodes fractions : List Float) where
   crossingPlace g = between (placeAt nodes (low edges (edgeOfCrossing counts g))) (placeAt nodes (high edges (edgeOfCrossing counts g))) (getD fractions g nan)
 
 module _ (G : Grid) (nodes fractions : List Float) where
-  unfoldable pub inners : List Place
-  inners = over (λ c. innerPlaces nodes (gridCell G c)) (cellCount (G .cells)) 0
+  unfoldable pub innerPoints : List Place
+  innerPoints = over (λ c. innerPlaces nodes (gridCell G c)) (cellCount (G .cells)) 0
 
   -- those of a cell that is split are all middles of nests (W3), by its parts
   unfoldable pub middles : List Place
@@ -36,4 +36,4 @@ module _ (G : Grid) (nodes fractions : List Float) where
       over (λ c. drawnMiddles nodes (gridCell G c) nestedMiddle (placedMiddles nodes (crossingPlace (G .edges) (G .counts) nodes fractions) (gridCell G c))) (cellCount (G .cells)) 0
 
   unfoldable pub points : List Place
-  points = values (crossingPlace (G .edges) (G .counts) nodes fractions) (crossings (G .counts)) ++ (inners ++ middles)
+  points = values (crossingPlace (G .edges) (G .counts) nodes fractions) (crossings (G .counts)) ++ (innerPoints ++ middles)

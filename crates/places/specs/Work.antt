@@ -28,7 +28,7 @@ pub record Markable (cells used : List ℕ) : Type 0 where
   pub blank : used ≡ replicate (suc highestNode) 0
 
 -- the table has a 1 for each node of a cell, and else 0
-pub record Marked (cells used : List ℕ) : Type 0 where
+pub record NodesMarked (cells used : List ℕ) : Type 0 where
   pub long : length used ≡ suc highestNode
   pub at : (v : ℕ) → v ≤ highestNode → getD used v 0 ≡ one (hasNode cells v)
 
@@ -96,7 +96,7 @@ module _ (cells counts names sides starts : List ℕ) where
       cellsStored (middlesAtCell cells counts names sides starts nodes) (w .0) (w .1) (drawnCells cells)
 
   -- the tables of an accepted grid with n crossings: four nodes to a cell, two ends to an edge, and crossing numbers below n
-  pub record Ready (edges : List ℕ) (n : ℕ) : Type 0 where
+  pub record PlacesReady (edges : List ℕ) (n : ℕ) : Type 0 where
     pub judged : Judgeable cells counts n
     pub few : n ≤ mostCrossings
     pub pairs : length edges ≡ 2 * length counts

@@ -7,7 +7,7 @@ ghost use Rattle.places.specs.Done.{Done};
 ghost use Rattle.cell.specs.Table.{drawnCells};
 ghost use Rattle.counting.specs.Range.{total};
 ghost use Rattle.split.specs.Spots.{innerIn};
-ghost use Rattle.places.specs.Work.{Ready, PointsIn, restWritten};
+ghost use Rattle.places.specs.Work.{PlacesReady, PointsIn, restWritten};
 use grid::Checked;
 use grid::MOST_EDGES;
 use grid::MOST_SLOTS;
@@ -48,7 +48,7 @@ fn place_rest(
         return cell::write_middles(cells, counts, names, sides, starts, nodes, area, at);
     }
     let i = split::write_inner(cells, counts, names, sides, starts, nodes, area, at);
-    split::write_middles(cells, counts, names, sides, starts, nodes, area, i)
+    split::write_drawn_middles(cells, counts, names, sides, starts, nodes, area, i)
 }
 
 // The points of a grid with n crossings, from its tables: the answer of rows 15 to 17, and where they refuse nothing, the points' places.
@@ -64,7 +64,7 @@ fn place_all(
     area: &mut [f64],
     n: usize,
 ) -> Placed
-    requires { ⌜ Ready (now cells) (now counts) (now names) (now sides) (now starts) (now edges) n ⌝ }
+    requires { ⌜ PlacesReady (now cells) (now counts) (now names) (now sides) (now starts) (now edges) n ⌝ }
     ensures { λ r. ⌜ PointsIn (now (cells .entry)) (now (counts .entry)) (now (names .entry)) (now (sides .entry)) (now (starts .entry)) (now (edges .entry)) (now (nodes .entry)) (now (fractions .entry)) (now (area .entry)) (now (area .exit)) (placesNumbers r) ⌝ }
 {
     let more = split::extra_of(cells, counts, names, sides, starts);

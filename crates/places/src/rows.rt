@@ -7,7 +7,7 @@ ghost use Rattle.grid.specs.Grid.{crossings};
 ghost use Rattle.place.specs.Place.{coordinates};
 ghost use Rattle.places.specs.Rows.{badFractionAt, badFraction};
 ghost use Rattle.places.specs.Answer.{placesNumbers, rowsAnswer};
-ghost use Rattle.places.specs.Work.{Markable, Marked, isMarked, badMarked, Reaching, Judgeable, mostPoints};
+ghost use Rattle.places.specs.Work.{Markable, NodesMarked, isMarked, badMarked, Reaching, Judgeable, mostPoints};
 use super::Placed;
 use super::is_proper;
 use grid::HIGHEST_NODE;
@@ -22,7 +22,7 @@ pub(crate) fn wide(x: u16) -> usize
 // Marks the nodes of the cells.
 pub(crate) fn mark(cells: &[u16], used: &mut [u8])
     requires { ⌜ Markable (now cells) (now used) ⌝ }
-    ensures { λ _. ⌜ Marked (now (cells .entry)) (now (used .exit)) ⌝ }
+    ensures { λ _. ⌜ NodesMarked (now (cells .entry)) (now (used .exit)) ⌝ }
 {
     let mut j = 0;
     while j < cells.len() {

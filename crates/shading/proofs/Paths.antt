@@ -4,10 +4,10 @@ use mathlib.Core.Path.{refl}
 use mathlib.Core.Logic.{inl, inr}
 use lib.ListN.{length}
 use Rattle.grid.specs.Grid.{Grid, low, high}
-use Rattle.shading.specs.Shading.{Leads, Connected, here, further}
+use Rattle.shading.specs.Shading.{EndsAre, Connected, here, further}
 
 module _ (G : Grid) where
-  back : (e x y : ℕ) → Leads G e x y → Leads G e y x
+  back : (e x y : ℕ) → EndsAre G e x y → EndsAre G e y x
   back e x y (inl (p, q)) = inr (q, p)
   back e x y (inr (p, q)) = inl (q, p)
 

@@ -17,7 +17,7 @@ use Rattle.grid.specs.Grid.{Grid, hasNode, low, high, countOf}
 use Rattle.grid.specs.Accepted.{Sound}
 use Rattle.grid.proofs.Nodes.{node-at, low-has, high-has}
 use Rattle.shading.specs.Marks.{mostNodes, finalMarks, agrees, byteOf, unshaded, sideBytes, unusedByte}
-use Rattle.shading.specs.Shading.{IsShading, NoShading, Leads, Connected, here, further, IsLowest, IsShadingArea}
+use Rattle.shading.specs.Shading.{IsShading, NoShading, EndsAre, Connected, here, further, IsLowest, IsShadingArea}
 use Rattle.shading.specs.Work.{across, Agrees}
 use Rattle.shading.proofs.Across.{across-odd, across-between}
 use Rattle.shading.proofs.Paths.{reverse}
@@ -106,7 +106,7 @@ module _ (G : Grid) (S : Sound G) where
   lacking e side I = clash e (labels-shade side (shading-agrees side I))
 
   -- edges lead from a node to others of its part alone, and to nodes of cells alone
-  part-leads : (e x y : ℕ) → e < n → Leads G e x y → mark x / 2 ≡ mark y / 2
+  part-leads : (e x y : ℕ) → e < n → EndsAre G e x y → mark x / 2 ≡ mark y / 2
   part-leads e x y h (inl (p, q)) = rw (← p, ← q) (marked-all .one e h)
   part-leads e x y h (inr (p, q)) = rw (← p, ← q) (sym (marked-all .one e h))
 
@@ -114,7 +114,7 @@ module _ (G : Grid) (S : Sound G) where
   part-connected here = refl
   part-connected (further {y} e z p h j) = part-connected p ∙ part-leads e y z h j
 
-  end-has : (e x y : ℕ) → e < n → Leads G e x y → hasNode (G .cells) y ≡ true
+  end-has : (e x y : ℕ) → e < n → EndsAre G e x y → hasNode (G .cells) y ≡ true
   end-has e x y h (inl (p, q)) = rw (← q) (high-has G S e h)
   end-has e x y h (inr (p, q)) = rw (← q) (low-has G S e h)
 

@@ -20,13 +20,13 @@ module _ (G : Grid) where
   NoShading = (side : ℕ → ℕ) → IsShading side → ⊥
 
   -- edge e leads from x to y: they are its ends
-  abbrev pub Leads : (e x y : ℕ) → Type 0
-  Leads e x y = ((low (G .edges) e ≡ x) × (high (G .edges) e ≡ y)) ⊎ ((high (G .edges) e ≡ x) × (low (G .edges) e ≡ y))
+  abbrev pub EndsAre : (e x y : ℕ) → Type 0
+  EndsAre e x y = ((low (G .edges) e ≡ x) × (high (G .edges) e ≡ y)) ⊎ ((high (G .edges) e ≡ x) × (low (G .edges) e ≡ y))
 
   -- listed edges lead from x to y
   pub data Connected (x : ℕ) : ℕ → Type 0 where
     here : Connected x x
-    further : {y : ℕ} (e z : ℕ) → Connected x y → e < length (G .counts) → Leads e y z → Connected x z
+    further : {y : ℕ} (e z : ℕ) → Connected x y → e < length (G .counts) → EndsAre e y z → Connected x z
 
   -- x is the lowest node of its connected part
   abbrev pub IsLowest : ℕ → Type 0

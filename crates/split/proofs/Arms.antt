@@ -23,7 +23,7 @@ use Rattle.split.specs.Limits.{wordStep}
 use Rattle.split.specs.Labels.{labelled, spoke}
 use Rattle.split.specs.SubCell.{sub}
 use Rattle.split.specs.Standing.{cornerIn, newPlace, subPlaces, armPlace, armPlaces, splitPlaces}
-use Rattle.split.specs.Working.{spokeBy, SpiralNumbers, Left}
+use Rattle.split.specs.Working.{spokeBy, SpiralNumbers, SplitsLeft}
 use Rattle.split.specs.Spots.{standingInner}
 use Rattle.split.proofs.Stands.{inner-stop, inner-more}
 use Rattle.split.proofs.Nested.{left-none, left-some}
@@ -101,7 +101,7 @@ unfolding spokeBy spoke
 spokes-told N m = rw (N .larger-is, N .smaller-is) refl
 
 -- no split is left
-module _ {c : Cell} {cell n b f left : ℕ} (L : Left c cell n b f left) (at : List Place) where
+module _ {c : Cell} {cell n b f left : ℕ} (L : SplitsLeft c cell n b f left) (at : List Place) where
   pub none-inner : left ≡ 0 → (area : List Float) (i : ℕ) → Stored area (coordinates * i) (allNumbers (standingInner cell n b f at c)) area (coordinates * i)
   unfolding gather
   none-inner z area i = stored-as (stored-none area (coordinates * i)) (ap allNumbers (sym (inner-stop cell n b f at c (left-none L z)))) refl

@@ -4,15 +4,14 @@ use mathlib.Core.Path.{_≡_, refl, sym, ap, ap₂, _∙_}
 use mathlib.Core.Bool.{Bool, true}
 use mathlib.Core.List.{List, [], _∷_, _++_, append-nil}
 use native.Mathlib.Omega.{arith}
-use native.Mathlib.Nat.{le-of-dvd}
 use lib.ListN.{length, getD, length-append}
 use lib.Ieee.{Float, nan}
 use borrow.Author.Tests.{lt-ltb}
 use Rattle.counting.specs.Gcd.{gcd}
 use Rattle.counting.specs.Pick.{pick}
 use Rattle.counting.specs.Stored.{Stored}
-use Rattle.counting.proofs.Below.{below-three}
-use Rattle.counting.proofs.Gcd.{gcd-both}
+use Rattle.counting.proofs.Below.{below-three, below-four}
+use Rattle.counting.proofs.Gcd.{gcd-above}
 use Rattle.counting.proofs.Range.{over-ext}
 use Rattle.counting.proofs.Stored.{stored-as, stored-long}
 use Rattle.slots.specs.Slots.{lo, hi}
@@ -33,9 +32,8 @@ use Rattle.split.specs.Limits.{wordStep}
 use Rattle.split.specs.SubCell.{sub}
 use Rattle.split.specs.Parts.{splitsWithin}
 use Rattle.split.specs.Standing.{nowhere, cornerIn, subPlaces, fansIn}
-use Rattle.split.specs.Working.{Left}
+use Rattle.split.specs.Working.{SplitsLeft}
 use Rattle.split.specs.Spots.{standingFans, Nesting, positioned, Spun}
-use Rattle.split.proofs.Cases.{four}
 use Rattle.split.proofs.Labels.{spiral-is}
 use Rattle.split.proofs.SubNumbers.{subCells}
 use Rattle.split.proofs.Parts.{not-spiral}
@@ -67,7 +65,7 @@ module _ (c : Cell) (at : List Place) (four-long : length at ≡ 4) where
   -- the nodes numbered by position, their places by number
   corner-same : (k : ℕ) → k < 4 → cornerPlace (allNumbers at) (positioned c) k ≡ cornerIn at k
   unfolding positioned
-  corner-same k h = ap (placeAt (allNumbers at)) (four (λ k. getD (0 ∷ 1 ∷ 2 ∷ 3 ∷ []) k 0 ≡ k) refl refl refl refl k h) ∙ place-in at k nowhere (omega arith)
+  corner-same k h = ap (placeAt (allNumbers at)) (below-four (λ k. getD (0 ∷ 1 ∷ 2 ∷ 3 ∷ []) k 0 ≡ k) refl refl refl refl k h) ∙ place-in at k nowhere (omega arith)
 
   rank-same : (p : ℕ) → nestRank (positioned c) p ≡ nestRank c p
   unfolding positioned nestRank nestLow
@@ -116,12 +114,8 @@ fans-stored {c} N at four-long was i room {v} e {l} {is} {r} f p q =
     let T = stored-as S (ap allNumbers (middles-same c at four-long (N .nest) (placeAt was))) refl in
     record { area = q′ ∙ T .area; after = ap (λ n. coordinates * n) p′ ∙ T .after }
 
--- a divisor above 1
-divides : (x y : ℕ) → 0 < y → 1 < gcd x y → 1 < y
-divides x y h g = omega (arith, le-of-dvd h (gcd-both x y (omega arith) .1))
-
 module _ {c : Cell} {cell n b f left : ℕ} (W : Spun c cell n b f left) (at : List Place) where
-  abbrev L : Left c cell n b f left
+  abbrev L : SplitsLeft c cell n b f left
   L = W .working
 
   -- no split is left: the cell is a nest
@@ -131,7 +125,7 @@ module _ {c : Cell} {cell n b f left : ℕ} (W : Spun c cell n b f left) (at : L
       record {
         near = L .sound .near;
         starts-six = L .sound .starts-six;
-        nest = nest-numbered c (record { level = L .sound .level; corners = refl; first = e; second = refl }) (divides (larger (countOf c)) (smaller (countOf c)) (L .some) (W .divisor));
+        nest = nest-numbered c (record { level = L .sound .level; corners = refl; first = e; second = refl }) (gcd-above (larger (countOf c)) (smaller (countOf c)) (L .some) (W .divisor));
       }
 
   pub none-fans : left ≡ 0 → standingFans cell n b f at c ≡ fansIn nestMiddle at c
@@ -163,7 +157,7 @@ module _ {c : Cell} {cell n b f left : ℕ} (W : Spun c cell n b f left) (at : L
           rw is-l (record {
             near = T .near;
             starts-six = T .starts-six;
-            nest = nest-numbered (sub c b f (cell + wordStep * (n + 1)) 3) N (divides (larger (countOf c)) (smaller (countOf c)) some (W .divisor));
+            nest = nest-numbered (sub c b f (cell + wordStep * (n + 1)) 3) N (gcd-above (larger (countOf c)) (smaller (countOf c)) some (W .divisor));
           })
 
       -- and so on in the nested one

@@ -5,7 +5,7 @@ pub use Rattle.split.proofs.Parts.{partsCounted, partsNumbered}
 pub use Rattle.split.proofs.Stands.{standingParts}
 pub use Rattle.split.proofs.Lengths.{drawnCounted, drawnBooked, splitsFew}
 pub use Rattle.split.proofs.Counted.{bookedByParts, drawnByParts}
-pub use Rattle.split.proofs.Answers.{answerByParts, answerRight}
+pub use Rattle.split.proofs.Answers.{answerByParts, bookingRight}
 pub use Rattle.split.proofs.Gained.{drawnGained, splitsTold}
 pub use Rattle.split.proofs.Whole.{partsRefine}
 pub use Rattle.split.proofs.Inner.{innerNumbered}
@@ -15,7 +15,7 @@ pub use Rattle.split.proofs.Grid.{cellsRefined}
 pub use Rattle.split.proofs.GridLaws.{gridSplit}
 pub use Rattle.split.proofs.GridMesh.{gridMeshed}
 pub use Rattle.split.proofs.Owners.{drawnOwned}
-pub use Rattle.split.proofs.Happens.{happens}
+pub use Rattle.split.proofs.Happens.{splitHappens}
 pub use Rattle.split.proofs.Examples.{examples-hold}
 use Rattle.split.specs.Claims.{LabelsFirst}
 use Rattle.split.proofs.Labels.{spiral-is, first-labelling}

@@ -8,6 +8,7 @@ use native.Mathlib.Decide.{ℕ-discrete}
 use lib.ListN.{getD}
 use Rattle.counting.specs.Range.{values}
 use Rattle.counting.specs.Pack.{pre}
+use Rattle.counting.proofs.Below.{below-four, below-six}
 use Rattle.slots.specs.Slots.{lo, hi, edgeBetween}
 use Rattle.slots.specs.Limits.{mostCount}
 use Rattle.cell.specs.declared.Cell.{Cell}
@@ -20,7 +21,6 @@ use Rattle.split.specs.declared.Spiral.{Spiral}
 use Rattle.split.specs.Labels.{labelled, label, spoke}
 use Rattle.split.specs.SubCell.{restCount, restStart, armCount, armStart, innerName}
 use Rattle.split.specs.Working.{AreOwn, labelBy, spokeBy, LevelSix, SpiralNumbers, Spiraling}
-use Rattle.split.proofs.Cases.{four, six}
 use Rattle.split.proofs.Labels.{spiral-is, at-i-is, labelled-lt, label-at, at-label, label-once}
 use Rattle.split.proofs.Spirals.{label-by}
 use Rattle.split.proofs.Rest.{rest-sum}
@@ -59,7 +59,7 @@ module _ {c : Cell} (S : LevelSix c) {l : List ℕ} (e : l ≡ values (countOf c
         larger-is = p;
         smaller-is = q;
         own-are = O′;
-        labels-are = λ n h t. four (λ n. 0 < n → getD (0 ∷ i ∷ j ∷ k ∷ []) n 0 ≡ labelBy (larger (countOf c)) (smaller (countOf c)) (leftBetween (countOf c) 0 n))
+        labels-are = λ n h t. below-four (λ n. 0 < n → getD (0 ∷ i ∷ j ∷ k ∷ []) n 0 ≡ labelBy (larger (countOf c)) (smaller (countOf c)) (leftBetween (countOf c) 0 n))
             (λ h. absurd (omega arith)) (λ h. ei ∙ rw (p, q, a) refl) (λ h. ej ∙ rw (p, q, b) refl) (λ h. ek ∙ rw (p, q, d) refl) n t h;
         label-first = refl;
       }
@@ -110,14 +110,14 @@ module _ {c : Cell} {s : Spiral} (W : Spiraling c s) where
 
   own-lo : (e : ℕ) → e < 6 → getD (s .own) (lo e) 0 ≡ leastCorner w (lo e)
   unfolding lo
-  own-lo = six (λ e. getD (s .own) (lo e) 0 ≡ leastCorner w (lo e)) (o 0 (omega arith)) (o 0 (omega arith)) (o 0 (omega arith)) (o 1 (omega arith)) (o 1 (omega arith)) (o 2 (omega arith))
+  own-lo = below-six (λ e. getD (s .own) (lo e) 0 ≡ leastCorner w (lo e)) (o 0 (omega arith)) (o 0 (omega arith)) (o 0 (omega arith)) (o 1 (omega arith)) (o 1 (omega arith)) (o 2 (omega arith))
     where
       o : (p : ℕ) → p < 4 → getD (s .own) p 0 ≡ leastCorner w p
       o = W .numbers .own-are
 
   own-hi : (e : ℕ) → e < 6 → getD (s .own) (hi e) 0 ≡ leastCorner w (hi e)
   unfolding hi
-  own-hi = six (λ e. getD (s .own) (hi e) 0 ≡ leastCorner w (hi e)) (o 1 (omega arith)) (o 2 (omega arith)) (o 3 (omega arith)) (o 2 (omega arith)) (o 3 (omega arith)) (o 3 (omega arith))
+  own-hi = below-six (λ e. getD (s .own) (hi e) 0 ≡ leastCorner w (hi e)) (o 1 (omega arith)) (o 2 (omega arith)) (o 3 (omega arith)) (o 2 (omega arith)) (o 3 (omega arith)) (o 3 (omega arith))
     where
       o : (p : ℕ) → p < 4 → getD (s .own) p 0 ≡ leastCorner w p
       o = W .numbers .own-are
@@ -134,15 +134,15 @@ module _ {c : Cell} {s : Spiral} (W : Spiraling c s) where
 
   lo-lt : (e : ℕ) → e < 6 → lo e < 4
   unfolding lo
-  lo-lt = six (λ e. lo e < 4) (omega arith) (omega arith) (omega arith) (omega arith) (omega arith) (omega arith)
+  lo-lt = below-six (λ e. lo e < 4) (omega arith) (omega arith) (omega arith) (omega arith) (omega arith) (omega arith)
 
   hi-lt : (e : ℕ) → e < 6 → hi e < 4
   unfolding hi
-  hi-lt = six (λ e. hi e < 4) (omega arith) (omega arith) (omega arith) (omega arith) (omega arith) (omega arith)
+  hi-lt = below-six (λ e. hi e < 4) (omega arith) (omega arith) (omega arith) (omega arith) (omega arith) (omega arith)
 
   ends-differ : (e : ℕ) → e < 6 → lo e < hi e
   unfolding lo hi
-  ends-differ = six (λ e. lo e < hi e) (omega arith) (omega arith) (omega arith) (omega arith) (omega arith) (omega arith)
+  ends-differ = below-six (λ e. lo e < hi e) (omega arith) (omega arith) (omega arith) (omega arith) (omega arith) (omega arith)
 
   pub labels-apart : (e : ℕ) → e < 6 → getD (s .label) (lo e) 0 ≡ getD (s .label) (hi e) 0 → ⊥
   labels-apart e le q =
@@ -160,7 +160,7 @@ module _ {c : Cell} {s : Spiral} (W : Spiraling c s) where
   place-at p m lp e = sym (at-label w K some more p lp .1) ∙ ap (labelled w) (sym (label-told p lp) ∙ e)
 
   pub place-left : (m : ℕ) → m < 4 → (getD (s .label) 1 0 ≡ m → ⊥) → (getD (s .label) 2 0 ≡ m → ⊥) → (getD (s .label) 3 0 ≡ m → ⊥) → 0 ≡ labelled w m
-  place-left m lm a b d = sym (four (λ p. label w p ≡ m → p ≡ 0) (λ e. refl) (λ e. absurd (a (at 1 (omega arith) e))) (λ e. absurd (b (at 2 (omega arith) e))) (λ e. absurd (d (at 3 (omega arith) e)))
+  place-left m lm a b d = sym (below-four (λ p. label w p ≡ m → p ≡ 0) (λ e. refl) (λ e. absurd (a (at 1 (omega arith) e))) (λ e. absurd (b (at 2 (omega arith) e))) (λ e. absurd (d (at 3 (omega arith) e)))
       (labelled w m) (labelled-lt w K some more m lm) (label-at w K some more m lm))
     where
       at : (p : ℕ) → p < 4 → label w p ≡ m → getD (s .label) p 0 ≡ m

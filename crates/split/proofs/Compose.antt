@@ -9,9 +9,9 @@ use Rattle.counting.proofs.Pack.{row-lt, col-lt, unpack, row-pack, col-pack, pa
 use Rattle.walk.specs.Darts.{half}
 use Rattle.manifold.specs.Triangle.{Side}
 use Rattle.manifold.specs.Piece.{Local, Piece, slotOf, mateOf, segmentOf}
-use Rattle.manifold.specs.Complex.{Joins, SameEnds, Whole}
+use Rattle.manifold.specs.Complex.{Joins, SameEnds, Whole, Shares}
 use Rattle.manifold.proofs.Piece.{segment-cases}
-use Rattle.split.specs.Family.{Family, Runs, Meets, Shares, Sound, Outer, Covered, Refines, fine, Refined}
+use Rattle.split.specs.Family.{Family, HasSegment, Meets, PiecesSound, Outer, Covered, Refines, fine, Refined}
 use Rattle.split.proofs.Family.{turn-ends, via-ends, faceOf, fine-sound, fine-linked, kind}
 
 -- darts of one segment in one piece have the same ends
@@ -24,8 +24,8 @@ own-ends A P d e jd je q = go (segment-cases A P d e jd je q)
 
 -- the same parts, told in another way
 module _ (A : Local) (m : ℕ) (B B′ : ℕ → Local) (Face Point : ℕ → Type 0) (same : (j : ℕ) → j < m → B j ≡ B′ j) (R : Refines A m B Face Point) where
-  back-runs : (j : ℕ) → j < m → (σ : Side) → Runs (B′ j) σ → Runs (B j) σ
-  back-runs j l σ r = subst (λ X. Runs X σ) (sym (same j l)) r
+  back-runs : (j : ℕ) → j < m → (σ : Side) → HasSegment (B′ j) σ → HasSegment (B j) σ
+  back-runs j l σ r = subst (λ X. HasSegment X σ) (sym (same j l)) r
 
   back-meets : (j g : ℕ) → j < m → Meets (B′ j) g → Meets (B j) g
   back-meets j g l v = subst (λ X. Meets X g) (sym (same j l)) v
@@ -40,10 +40,10 @@ module _ (A : Local) (m : ℕ) (B B′ : ℕ → Local) (Face Point : ℕ → Ty
       let (e, j, q, p) = subst (AlongIt d) (same (u .j) (u .j-lt)) (u .e, u .on, u .is, u .point) in
       record { j = u .j; j-lt = u .j-lt; e = e; on = j; is = q; point = p }
 
-  ext-paired : (j e : ℕ) → j < m → Joins (B′ j) e → Face (B′ j .name (slotOf (B′ j) e)) → (k : ℕ) × (k < m) × (k ≢ j) × Runs (B′ k) (segmentOf (B′ j) e)
+  ext-paired : (j e : ℕ) → j < m → Joins (B′ j) e → Face (B′ j .name (slotOf (B′ j) e)) → (k : ℕ) × (k < m) × (k ≢ j) × HasSegment (B′ k) (segmentOf (B′ j) e)
   ext-paired j e l =
-      subst (λ X. Joins X e → Face (X .name (slotOf X e)) → (k : ℕ) × (k < m) × (k ≢ j) × Runs (B′ k) (segmentOf X e)) (same j l)
-      (λ on f. let (k, lk, ne, r) = R .inner-paired j e l on f in (k, lk, ne, subst (λ X. Runs X (segmentOf (B j) e)) (same k lk) r))
+      subst (λ X. Joins X e → Face (X .name (slotOf X e)) → (k : ℕ) × (k < m) × (k ≢ j) × HasSegment (B′ k) (segmentOf X e)) (same j l)
+      (λ on f. let (k, lk, ne, r) = R .inner-paired j e l on f in (k, lk, ne, subst (λ X. HasSegment X (segmentOf (B j) e)) (same k lk) r))
 
   ext-ends : (j k d e : ℕ) → j < m → k < m → Joins (B′ j) d → Joins (B′ k) e → Face (B′ j .name (slotOf (B′ j) d)) → segmentOf (B′ j) d ≡ segmentOf (B′ k) e
       → SameEnds (B′ j) d (B′ k) e
@@ -60,7 +60,7 @@ module _ (A : Local) (m : ℕ) (B B′ : ℕ → Local) (Face Point : ℕ → Ty
     once = λ j k d lj lk ne on r s. R .once j k d lj lk ne on (back-runs j lj (segmentOf A d) r) (back-runs k lk (segmentOf A d) s);
     kind = λ j e l. subst (λ X. Joins X e → Outer A X e ⊎ Face (X .name (slotOf X e))) (same j l) (R .kind j e l);
     inner-few = λ j k l e lj lk ll.
-        subst (λ X. Joins X e → Face (X .name (slotOf X e)) → Runs (B′ k) (segmentOf X e) → Runs (B′ l) (segmentOf X e) → j ≢ k → j ≢ l → k ≢ l → ⊥) (same j lj)
+        subst (λ X. Joins X e → Face (X .name (slotOf X e)) → HasSegment (B′ k) (segmentOf X e) → HasSegment (B′ l) (segmentOf X e) → j ≢ k → j ≢ l → k ≢ l → ⊥) (same j lj)
         (λ on f r s. R .inner-few j k l e lj lk ll on f (back-runs k lk (segmentOf (B j) e) r) (back-runs l ll (segmentOf (B j) e) s));
     inner-ends = ext-ends;
     inner-paired = ext-paired;
@@ -120,7 +120,7 @@ module _ (A : Local) (m : ℕ) (B : ℕ → Local) (Face Point : ℕ → Type 0)
   outer-not B′ e o f = apart (slotOf A (o .d)) (P .slot (o .d) (o .on .lt)) (subst (λ s. Face (faceOf s)) (o .is) f)
 
   -- the parts of a piece are sound
-  pub parts-sound : Sound level
+  pub parts-sound : PiecesSound level
   unfolding faceOf
   parts-sound = record {
     piece = R .piece;
@@ -128,10 +128,10 @@ module _ (A : Local) (m : ℕ) (B : ℕ → Local) (Face Point : ℕ → Type 0)
     ends = λ a b d e la lb jd je q. ends a b d e la lb jd je q (R .kind a d la jd) (R .kind b e lb je);
   }
     where
-      to : {σ τ : Side} {B′ : Local} → Runs B′ σ → σ ≡ τ → Runs B′ τ
+      to : {σ τ : Side} {B′ : Local} → HasSegment B′ σ → σ ≡ τ → HasSegment B′ τ
       to r q = record { d = r .d; on = r .on; is = r .is ∙ q }
 
-      few : (σ : Side) (a b c : ℕ) → a < m → b < m → c < m → (u : Runs (B a) σ) → Runs (B b) σ → Runs (B c) σ
+      few : (σ : Side) (a b c : ℕ) → a < m → b < m → c < m → (u : HasSegment (B a) σ) → HasSegment (B b) σ → HasSegment (B c) σ
           → Outer A (B a) (u .d) ⊎ Face (B a .name (slotOf (B a) (u .d))) → a ≢ b → a ≢ c → b ≢ c → ⊥
       few σ a b c la lb lc u v w (inl o) x y z = R .once a b (o .d) la lb x (o .on) (to u (sym (u .is) ∙ o .is)) (to v (sym (u .is) ∙ o .is))
       few σ a b c la lb lc u v w (inr f) x y z = R .inner-few a b c (u .d) la lb lc (u .on) f (to v (sym (u .is))) (to w (sym (u .is))) x y z
@@ -157,11 +157,11 @@ module _ (A : Local) (m : ℕ) (B : ℕ → Local) (Face Point : ℕ → Type 0)
     abbrev AnyPoint : ℕ → Type 0
     AnyPoint g = Point g ⊎ ((j : ℕ) × (j < m) × H j g)
 
-    sound : Sound (fine level k C)
+    sound : PiecesSound (fine level k C)
     sound = fine-sound level k C G H Q parts-sound
 
     -- a segment of a part of a part: the part's, or on a new face
-    abbrev up : (j l : ℕ) → j < m → l < k j → (σ : Side) → Runs (C j l) σ → Runs (B j) σ ⊎ G j (faceOf σ)
+    abbrev up : (j l : ℕ) → j < m → l < k j → (σ : Side) → HasSegment (C j l) σ → HasSegment (B j) σ ⊎ G j (faceOf σ)
     up = kind level k C G H Q parts-sound
 
     -- a dart of B′ along the segment of the dart d of A
@@ -194,25 +194,25 @@ module _ (A : Local) (m : ℕ) (B : ℕ → Local) (Face Point : ℕ → Type 0)
     one-place : (x y : ℕ) → x < pre k m → y < pre k m → row k m x ≡ row k m y → col k m x ≡ col k m y → x ≡ y
     one-place x y lx ly p q = sym (unpack k m x lx) ∙ ap₂ (λ a b. pre k a + b) p q ∙ unpack k m y ly
 
-    to : {σ τ : Side} {B′ : Local} → Runs B′ σ → σ ≡ τ → Runs B′ τ
+    to : {σ τ : Side} {B′ : Local} → HasSegment B′ σ → σ ≡ τ → HasSegment B′ τ
     to v q = record { d = v .d; on = v .on; is = v .is ∙ q }
 
     -- a part of a part with a segment of A: its part has the segment
-    runs-up : (d : ℕ) → Joins A d → (j l : ℕ) → j < m → l < k j → Runs (C j l) (segmentOf A d) → Runs (B j) (segmentOf A d)
+    runs-up : (d : ℕ) → Joins A d → (j l : ℕ) → j < m → l < k j → HasSegment (C j l) (segmentOf A d) → HasSegment (B j) (segmentOf A d)
     unfolding faceOf
     runs-up d on j l lj ll v = ⊎-elim (λ u. u) (λ (g : G j (A .name (slotOf A d))). absurd (not-face j (slotOf A d) lj (P .slot d (on .lt)) g)) (up j l lj ll (segmentOf A d) v)
 
-    once : (x y d : ℕ) → x < pre k m → y < pre k m → x ≢ y → Joins A d → Runs (D x) (segmentOf A d) → Runs (D y) (segmentOf A d) → ⊥
+    once : (x y d : ℕ) → x < pre k m → y < pre k m → x ≢ y → Joins A d → HasSegment (D x) (segmentOf A d) → HasSegment (D y) (segmentOf A d) → ⊥
     once x y d lx ly ne on u v =
         elim (ℕ-discrete (row k m x) (row k m y)) [
           | no e ↦ R .once (row k m x) (row k m y) d (rl lx) (rl ly) e on (runs-up d on (row k m x) (col k m x) (rl lx) (il lx) u) (runs-up d on (row k m y) (col k m y) (rl ly) (il ly) v)
           | yes e ↦ same e (runs-up d on (row k m x) (col k m x) (rl lx) (il lx) u)
         ]
       where
-        same : row k m x ≡ row k m y → Runs (B (row k m x)) (segmentOf A d) → ⊥
+        same : row k m x ≡ row k m y → HasSegment (B (row k m x)) (segmentOf A d) → ⊥
         same e b =
             S (row k m x) (rl lx) .once (col k m x) (col k m y) (b .d) (il lx) (subst (λ j. col k m y < k j) (sym e) (il ly)) (λ q. ne (one-place x y lx ly e q)) (b .on)
-            (to u (sym (b .is))) (to (subst (λ j. Runs (C j (col k m y)) (segmentOf A d)) (sym e) v) (sym (b .is)))
+            (to u (sym (b .is))) (to (subst (λ j. HasSegment (C j (col k m y)) (segmentOf A d)) (sym e) v) (sym (b .is)))
 
     kind-at : (x e : ℕ) → x < pre k m → Joins (D x) e → Outer A (D x) e ⊎ AnyFace (D x .name (slotOf (D x) e))
     unfolding faceOf
@@ -230,20 +230,20 @@ module _ (A : Local) (m : ℕ) (B : ℕ → Local) (Face Point : ℕ → Type 0)
     found : (j l : ℕ) → j < m → l < k j → (x : ℕ) × (x < pre k m) × (row k m x ≡ j) × (col k m x ≡ l)
     found j l lj ll = (pre k j + l, pack-lt k m j l lj ll, row-pack k m j l lj ll, col-pack k m j l lj ll)
 
-    inner-paired : (x e : ℕ) → x < pre k m → Joins (D x) e → AnyFace (D x .name (slotOf (D x) e)) → (y : ℕ) × (y < pre k m) × (y ≢ x) × Runs (D y) (segmentOf (D x) e)
+    inner-paired : (x e : ℕ) → x < pre k m → Joins (D x) e → AnyFace (D x .name (slotOf (D x) e)) → (y : ℕ) × (y < pre k m) × (y ≢ x) × HasSegment (D y) (segmentOf (D x) e)
     unfolding faceOf
     inner-paired x e l on f = go f (S (row k m x) (rl l) .kind (col k m x) e (il l) on)
       where
         σ : Side
         σ = segmentOf (D x) e
 
-        put : (j a : ℕ) → j < m → a < k j → (row k m x ≡ j → col k m x ≡ a → ⊥) → Runs (C j a) (segmentOf (D x) e) → (y : ℕ) × (y < pre k m) × (y ≢ x) × Runs (D y) (segmentOf (D x) e)
+        put : (j a : ℕ) → j < m → a < k j → (row k m x ≡ j → col k m x ≡ a → ⊥) → HasSegment (C j a) (segmentOf (D x) e) → (y : ℕ) × (y < pre k m) × (y ≢ x) × HasSegment (D y) (segmentOf (D x) e)
         put j a lj la ne v =
             let (y, ly, p, q) = found j a lj la in
-            (y, ly, (λ z. ne (ap (row k m) (sym z) ∙ p) (ap (col k m) (sym z) ∙ q)), subst (λ B′. Runs B′ (segmentOf (D x) e)) (sym (ap₂ C p q)) v)
+            (y, ly, (λ z. ne (ap (row k m) (sym z) ∙ p) (ap (col k m) (sym z) ∙ q)), subst (λ B′. HasSegment B′ (segmentOf (D x) e)) (sym (ap₂ C p q)) v)
 
         go : AnyFace (D x .name (slotOf (D x) e)) → Outer (B (row k m x)) (D x) e ⊎ G (row k m x) (D x .name (slotOf (D x) e))
-            → (y : ℕ) × (y < pre k m) × (y ≢ x) × Runs (D y) (segmentOf (D x) e)
+            → (y : ℕ) × (y < pre k m) × (y ≢ x) × HasSegment (D y) (segmentOf (D x) e)
         go h (inr g) =
             let (a, la, ne, v) = S (row k m x) (rl l) .inner-paired (col k m x) e (il l) on g in
             put (row k m x) a (rl l) la (λ p q. ne (sym q)) v

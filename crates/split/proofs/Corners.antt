@@ -39,7 +39,7 @@ use Rattle.booking.proofs.Numbers.{not-three}
 use Rattle.booking.proofs.Closed as closed
 use Rattle.booking.proofs.Corners.{isIn, loop-of, same-corner, size-is}
 use Rattle.split.specs.Parts.{ownCorners}
-use Rattle.split.specs.Five.{goes, cut}
+use Rattle.split.specs.Five.{goes, ownPiece}
 use Rattle.split.specs.Claims.{loopIn}
 
 module _ (c : Cell) (K : isLevelCell (countOf c) ≡ true) where
@@ -53,7 +53,7 @@ module _ (c : Cell) (K : isLevelCell (countOf c) ≡ true) where
   s = step (edgesOf c)
 
   abbrev t : ℕ → ℕ
-  t = onward (cut c)
+  t = onward (ownPiece c)
 
   -- a crossing goes exactly if it is in a corner triangle
   pub goes-is : (x : ℕ) → goes c x ≡ isIn E x
@@ -119,14 +119,14 @@ module _ (c : Cell) (K : isLevelCell (countOf c) ≡ true) where
     first-goes h = subst (λ x. goes c x ≡ true) (sym at-p) h
 
     -- the loop from p: of length 3 where p goes and is its least crossing, else none
-    size-goes : goes c p ≡ true → sizeOf (cut c) p ≡ loopSize E p
+    size-goes : goes c p ≡ true → sizeOf (ownPiece c) p ≡ loopSize E p
     unfolding size loopSize
     size-goes h =
         let g = first-goes h in
         ap (turn t (status (2 * N) p) N 1) (step-goes (2 * p) g)
         ∙ turn-same p N 1 (s (2 * p)) (closed.goes E K (2 * p) (omega arith)) (goes-on (2 * p) (omega arith) g)
 
-    size-stays : goes c p ≡ false → sizeOf (cut c) p ≡ 0
+    size-stays : goes c p ≡ false → sizeOf (ownPiece c) p ≡ 0
     size-stays h =
         rest-start N t p (t (2 * p)) refl ∙ rest-end N t p 1 (t (2 * p)) (omega arith) (omega (arith, step-stays (2 * p) (subst (λ x. goes c x ≡ false) (sym at-p) h)))
 
@@ -134,13 +134,13 @@ module _ (c : Cell) (K : isLevelCell (countOf c) ≡ true) where
     unfolding it
     three-goes e = goes-is p ∙ sym (ap (isIn E) at-p) ∙ same-corner E K p l (omega arith) 0 (omega arith) ∙ eq-eqb (loopSize E p) 3 e
 
-    pub size-three : loopSize E p ≡ 3 → sizeOf (cut c) p ≡ 3
+    pub size-three : loopSize E p ≡ 3 → sizeOf (ownPiece c) p ≡ 3
     size-three e = size-goes (three-goes e) ∙ e
 
-    pub size-none : loopSize E p ≢ 3 → sizeOf (cut c) p ≡ 0
+    pub size-none : loopSize E p ≢ 3 → sizeOf (ownPiece c) p ≡ 0
     size-none ne = go (goes c p) refl
       where
-        go : (b : Bool) → goes c p ≡ b → sizeOf (cut c) p ≡ 0
+        go : (b : Bool) → goes c p ≡ b → sizeOf (ownPiece c) p ≡ 0
         go false e = size-stays e
         go true e =
             size-goes e
@@ -162,28 +162,28 @@ tri-same x y z x′ y′ z′ r q o r′ q′ o′ a b c d e f = cc
 
 module _ (c : Cell) (K : isLevelCell (countOf c) ≡ true) where
   abbrev drawnLoop : ℕ → Polygon
-  drawnLoop = loopIn (cut c) (c .index) (normal (edgesOf c))
+  drawnLoop = loopIn (ownPiece c) (c .index) (normal (edgesOf c))
 
   -- a loop of length 3 is drawn as in the cell
   module _ (p : ℕ) (l : p < crossings (edgesOf c)) (e : loopSize (edgesOf c) p ≡ 3) where
     at-dart : (k : ℕ) → Gone c K k (2 * p)
     at-dart k = gone c K k (2 * p) (omega arith) (first-goes c K p l (three-goes c K p l e))
 
-    dart-same : (k : ℕ) → pieces.dart (cut c) p k ≡ pieces.dart (localOf c) p k
+    dart-same : (k : ℕ) → pieces.dart (ownPiece c) p k ≡ pieces.dart (localOf c) p k
     unfolding step
     dart-same k = at-dart k .same
 
     point-same : (k : ℕ) → corner (drawnLoop p) k ≡ corner (polygonOf c p) k
     point-same k = ap (λ d. cross (numberOf c (d / 2))) (dart-same k)
 
-    mate-same : (k : ℕ) → mateOf (cut c) (pieces.dart (localOf c) p k) ≡ mateOf (localOf c) (pieces.dart (localOf c) p k)
+    mate-same : (k : ℕ) → mateOf (ownPiece c) (pieces.dart (localOf c) p k) ≡ mateOf (localOf c) (pieces.dart (localOf c) p k)
     unfolding step walk.face
     mate-same k = let h = at-dart k .goes-too in rw h
 
     side-same : (k : ℕ) → segment (drawnLoop p) k ≡ segment (polygonOf c p) k
     unfolding walk.face
     side-same k =
-        ap (λ d. seg (cut c .name (slotOf (cut c) d)) (lowerOf (cut c) d)) (dart-same k)
+        ap (λ d. seg (ownPiece c .name (slotOf (ownPiece c) d)) (lowerOf (ownPiece c) d)) (dart-same k)
         ∙ ap (λ x. seg (localOf c .name (slotOf (localOf c) (pieces.dart (localOf c) p k))) (min (numberOf c (pieces.dart (localOf c) p k / 2)) (numberOf c x))) (mate-same k)
 
     loop-same : triangles (polygonOf c p) ≡ triangles (drawnLoop p)

@@ -8,7 +8,7 @@ use Rattle.counting.specs.Range.{total}
 use Rattle.cell.specs.Of.{countOf, edgesOf}
 use Rattle.cell.specs.Level.{isLevelCell}
 use Rattle.cell.proofs.Taken.{cell-count}
-use Rattle.cases.specs.Cases.{alone}
+use Rattle.cases.specs.Cases.{loneEdges}
 use Rattle.cases.proofs.Claims.{laid-anyhow}
 use Rattle.booking.specs.Booking.{cornerTriangles, larger, smaller, booked, isSpiral, isSplit, bookedSplit}
 use Rattle.booking.specs.Figures.{besideSplit}
@@ -26,11 +26,11 @@ use Rattle.split.proofs.Lengths.{split-is, end-sum, five-sum, drawn-not
 module _ (w : ℕ → ℕ) (K : isLevelCell w ≡ true) where
   loops-are : loopsCount w ≡ booked w
   unfolding loopsCount
-  loops-are = loops-booked (alone w) K
+  loops-are = loops-booked (loneEdges w) K
 
   own-are : ownCount w ≡ cornerTriangles w
   unfolding ownCount
-  own-are = tally-threes (alone w) K
+  own-are = tally-threes (loneEdges w) K
 
 -- one step of the recursion
 stop : (fuel : ℕ) (w : ℕ → ℕ) → isSpiral w ≡ false → partsCount fuel w ≡ loopsCount w
@@ -91,4 +91,4 @@ drawnByParts c = go (isSplit (countOf c)) refl
   where
     go : (s : Bool) → isSplit (countOf c) ≡ s → length (drawnTriangles c) ≡ drawnCount (countOf c)
     go true e = drawnCounted c e ∙ sym (count-split (countOf c) e)
-    go false e = ap length (drawn-not c e) ∙ cell-count c ∙ laid-anyhow (edgesOf c) (alone (countOf c)) (λ k _. refl) .1 ∙ sym (count-whole (countOf c) e)
+    go false e = ap length (drawn-not c e) ∙ cell-count c ∙ laid-anyhow (edgesOf c) (loneEdges (countOf c)) (λ k _. refl) .1 ∙ sym (count-whole (countOf c) e)

@@ -9,11 +9,10 @@ use Rattle.counting.specs.Pick.{pick}
 use Rattle.counting.specs.Range.{total}
 use Rattle.counting.specs.Search.{seek, first}
 use Rattle.counting.specs.Pack.{pre}
-use Rattle.counting.proofs.Below.{below-three}
+use Rattle.counting.proofs.Below.{below-three, below-four, below-six}
 use Rattle.slots.specs.Slots.{lo, hi, position, lower, upper, edgeBetween, slotEdge}
 use Rattle.cell.specs.Nodes.{joining}
 use Rattle.split.specs.Working.{spokeBy}
-use Rattle.split.proofs.Cases.{four, six}
 
 -- the lower and the upper end of an edge
 pub low-first : (e : ℕ) → e < 3 → 0 ≡ lo e
@@ -22,7 +21,7 @@ low-first = below-three (λ e. 0 ≡ lo e) refl refl refl
 
 pub low-then : (e : ℕ) → 3 ≤ e → e < 5 → 1 ≡ lo e
 unfolding lo
-low-then e a b = six (λ e. 3 ≤ e → e < 5 → 1 ≡ lo e) (λ a b. absurd (omega arith)) (λ a b. absurd (omega arith)) (λ a b. absurd (omega arith)) (λ a b. refl) (λ a b. refl) (λ a b. absurd (omega arith)) e (omega arith) a b
+low-then e a b = below-six (λ e. 3 ≤ e → e < 5 → 1 ≡ lo e) (λ a b. absurd (omega arith)) (λ a b. absurd (omega arith)) (λ a b. absurd (omega arith)) (λ a b. refl) (λ a b. refl) (λ a b. absurd (omega arith)) e (omega arith) a b
 
 pub low-last : (e : ℕ) → 5 ≤ e → e < 6 → 2 ≡ lo e
 unfolding lo
@@ -38,7 +37,7 @@ high-then e z = rw z refl
 
 pub high-last : (e : ℕ) → 4 ≤ e → e < 6 → 3 ≡ hi e
 unfolding hi
-high-last e a b = six (λ e. 4 ≤ e → e < 6 → 3 ≡ hi e) (λ a b. absurd (omega arith)) (λ a b. absurd (omega arith)) (λ a b. absurd (omega arith)) (λ a b. absurd (omega arith)) (λ a b. refl) (λ a b. refl) e b a b
+high-last e a b = below-six (λ e. 4 ≤ e → e < 6 → 3 ≡ hi e) (λ a b. absurd (omega arith)) (λ a b. absurd (omega arith)) (λ a b. absurd (omega arith)) (λ a b. absurd (omega arith)) (λ a b. refl) (λ a b. refl) e b a b
 
 -- the edge that joins two positions, by the lower and the higher of them
 abbrev byEnds : ℕ → ℕ → ℕ
@@ -47,11 +46,11 @@ byEnds x y = pick (eqb x 0) (y - 1) (pick (eqb x 1) (y + 1) 5)
 joined : (a : ℕ) → a < 4 → (b : ℕ) → b < 4 → a ≢ b → joining a b ≡ byEnds (min a b) (max a b)
 unfolding joining edgeBetween first seek lo hi
 joined =
-    four (λ a. (b : ℕ) → b < 4 → a ≢ b → joining a b ≡ byEnds (min a b) (max a b))
-    (four (λ b. 0 ≢ b → joining 0 b ≡ byEnds (min 0 b) (max 0 b)) (λ n. absurd (n refl)) (λ n. refl) (λ n. refl) (λ n. refl))
-    (four (λ b. 1 ≢ b → joining 1 b ≡ byEnds (min 1 b) (max 1 b)) (λ n. refl) (λ n. absurd (n refl)) (λ n. refl) (λ n. refl))
-    (four (λ b. 2 ≢ b → joining 2 b ≡ byEnds (min 2 b) (max 2 b)) (λ n. refl) (λ n. refl) (λ n. absurd (n refl)) (λ n. refl))
-    (four (λ b. 3 ≢ b → joining 3 b ≡ byEnds (min 3 b) (max 3 b)) (λ n. refl) (λ n. refl) (λ n. refl) (λ n. absurd (n refl)))
+    below-four (λ a. (b : ℕ) → b < 4 → a ≢ b → joining a b ≡ byEnds (min a b) (max a b))
+    (below-four (λ b. 0 ≢ b → joining 0 b ≡ byEnds (min 0 b) (max 0 b)) (λ n. absurd (n refl)) (λ n. refl) (λ n. refl) (λ n. refl))
+    (below-four (λ b. 1 ≢ b → joining 1 b ≡ byEnds (min 1 b) (max 1 b)) (λ n. refl) (λ n. absurd (n refl)) (λ n. refl) (λ n. refl))
+    (below-four (λ b. 2 ≢ b → joining 2 b ≡ byEnds (min 2 b) (max 2 b)) (λ n. refl) (λ n. refl) (λ n. absurd (n refl)) (λ n. refl))
+    (below-four (λ b. 3 ≢ b → joining 3 b ≡ byEnds (min 3 b) (max 3 b)) (λ n. refl) (λ n. refl) (λ n. refl) (λ n. absurd (n refl)))
 
 module _ {a b x y : ℕ} (la : a < 4) (lb : b < 4) (ne : a ≢ b) (ex : x ≡ min a b) (ey : y ≡ max a b) where
   is : joining a b ≡ byEnds x y
@@ -70,7 +69,7 @@ module _ {a b x y : ℕ} (la : a < 4) (lb : b < 4) (ne : a ≢ b) (ex : x ≡ mi
 pub slot-joins : (p j : ℕ) → p < 4 → j < 3 → joining (position p (lower j)) (position p (upper j)) ≡ slotEdge p j
 unfolding joining slotEdge edgeBetween first seek lo hi position lower upper
 slot-joins p j lp lj =
-    four (λ p. (j : ℕ) → j < 3 → joining (position p (lower j)) (position p (upper j)) ≡ slotEdge p j)
+    below-four (λ p. (j : ℕ) → j < 3 → joining (position p (lower j)) (position p (upper j)) ≡ slotEdge p j)
     (below-three (λ j. joining (position 0 (lower j)) (position 0 (upper j)) ≡ slotEdge 0 j) refl refl refl)
     (below-three (λ j. joining (position 1 (lower j)) (position 1 (upper j)) ≡ slotEdge 1 j) refl refl refl)
     (below-three (λ j. joining (position 2 (lower j)) (position 2 (upper j)) ≡ slotEdge 2 j) refl refl refl)
@@ -80,7 +79,7 @@ slot-joins p j lp lj =
 pub slot-differs : (p j : ℕ) → p < 4 → j < 3 → position p (lower j) < position p (upper j)
 unfolding position lower upper
 slot-differs p j lp lj =
-    four (λ p. (j : ℕ) → j < 3 → position p (lower j) < position p (upper j))
+    below-four (λ p. (j : ℕ) → j < 3 → position p (lower j) < position p (upper j))
     (below-three (λ j. position 0 (lower j) < position 0 (upper j)) (omega arith) (omega arith) (omega arith))
     (below-three (λ j. position 1 (lower j) < position 1 (upper j)) (omega arith) (omega arith) (omega arith))
     (below-three (λ j. position 2 (lower j) < position 2 (upper j)) (omega arith) (omega arith) (omega arith))

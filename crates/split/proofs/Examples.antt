@@ -24,7 +24,7 @@ use Rattle.split.specs.Labels.{remainsTo, labelled, label, spoke}
 use Rattle.split.specs.SubCell.{restStart, armStart, innerName, subCounts, subAt, sub}
 use Rattle.split.specs.Parts.{parts, allParts, ownCorners, drawnTriangles, splitsOf}
 use Rattle.split.specs.Counted.{loopsCount, ownCount, partsCount, drawnCount}
-use Rattle.split.specs.Examples.{alone, of, computed, unsplit, unsplitComputed, counted, figures, examples, ExamplesHold, oneSplit, oneSplitTurned, twoSplits, twoSplitsTurned, threeSplits}
+use Rattle.split.specs.Examples.{loneCell, of, computed, unsplit, unsplitComputed, counted, figures, examples, ExamplesHold, oneSplit, oneSplitTurned, twoSplits, twoSplitsTurned, threeSplits}
 
 one-is : computed oneSplit ≡ oneSplit
 unfolding seek first last every total over tally gather pre divides gcd
@@ -36,7 +36,7 @@ unfolding seek first last every total over tally gather pre divides gcd
     joining cornerFrom isLevelCell median cornerOn leastCorner leftBetween larger smaller
     figureIn figure areSpiral areSplit isSpiral isSplit remainsTo labelled label spoke
     restStart armStart innerName subAt sub parts allParts ownCorners drawnTriangles splitsOf
-    alone of computed oneSplit
+    loneCell of computed oneSplit
 one-is = refl
 
 one-turned-is : computed oneSplitTurned ≡ oneSplitTurned
@@ -49,7 +49,7 @@ unfolding seek first last every total over tally gather pre divides gcd
     joining cornerFrom isLevelCell median cornerOn leastCorner leftBetween larger smaller
     figureIn figure areSpiral areSplit isSpiral isSplit remainsTo labelled label spoke
     restStart armStart innerName subAt sub parts allParts ownCorners drawnTriangles splitsOf
-    alone of computed oneSplitTurned
+    loneCell of computed oneSplitTurned
 one-turned-is = refl
 
 two-is : computed twoSplits ≡ twoSplits
@@ -62,7 +62,7 @@ unfolding seek first last every total over tally gather pre divides gcd
     joining cornerFrom isLevelCell median cornerOn leastCorner leftBetween larger smaller
     figureIn figure areSpiral areSplit isSpiral isSplit remainsTo labelled label spoke
     restStart armStart innerName subAt sub parts allParts ownCorners drawnTriangles splitsOf
-    alone of computed twoSplits
+    loneCell of computed twoSplits
 two-is = refl
 
 two-turned-is : computed twoSplitsTurned ≡ twoSplitsTurned
@@ -75,7 +75,7 @@ unfolding seek first last every total over tally gather pre divides gcd
     joining cornerFrom isLevelCell median cornerOn leastCorner leftBetween larger smaller
     figureIn figure areSpiral areSplit isSpiral isSplit remainsTo labelled label spoke
     restStart armStart innerName subAt sub parts allParts ownCorners drawnTriangles splitsOf
-    alone of computed twoSplitsTurned
+    loneCell of computed twoSplitsTurned
 two-turned-is = refl
 
 three-is : computed threeSplits ≡ threeSplits
@@ -88,7 +88,7 @@ unfolding seek first last every total over tally gather pre divides gcd
     joining cornerFrom isLevelCell median cornerOn leastCorner leftBetween larger smaller
     figureIn figure areSpiral areSplit isSpiral isSplit remainsTo labelled label spoke
     restStart armStart innerName subAt sub parts allParts ownCorners drawnTriangles splitsOf
-    alone of computed threeSplits
+    loneCell of computed threeSplits
 three-is = refl
 
 not-split : unsplitComputed ≡ unsplit
@@ -101,7 +101,7 @@ unfolding seek first last every total over tally gather pre divides gcd
     joining cornerFrom isLevelCell median cornerOn leastCorner leftBetween larger smaller
     figureIn figure areSpiral areSplit isSpiral isSplit remainsTo labelled label spoke
     restStart armStart innerName subAt sub parts allParts ownCorners drawnTriangles splitsOf
-    alone unsplit unsplitComputed
+    loneCell unsplit unsplitComputed
 not-split = refl
 
 by-counts : counted ≡ 52 ∷ 56 ∷ 8 ∷ []

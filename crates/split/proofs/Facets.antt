@@ -13,7 +13,7 @@ use Rattle.face.proofs.Level.{levelLaws}
 use Rattle.manifold.specs.Triangle.{Side, seg, inner}
 use Rattle.manifold.specs.Piece.{Local, slotOf, lowerOf, segmentOf}
 use Rattle.manifold.specs.Complex.{SameEnds}
-use Rattle.split.specs.Shown.{Facet, num, Segment, On, Plain, Along, Shows}
+use Rattle.split.specs.Shown.{Facet, num, Segment, OnFace, Plain, DartAlong, Shows}
 use Rattle.split.proofs.Family.{faceOf}
 
 lowOf : Side → ℕ
@@ -37,7 +37,7 @@ module _ (Φ : Facet) where
   count-size on-bc = (omega arith, refl)
 
   -- the ends of a segment are crossings of the face
-  pub seg-on : (j t j′ t′ : ℕ) → Segment Φ j t j′ t′ → On Φ j t
+  pub seg-on : (j t j′ t′ : ℕ) → Segment Φ j t j′ t′ → OnFace Φ j t
   seg-on j t j′ t′ s =
       let h = faceLaws (Φ .size 0) (Φ .size 1) (Φ .size 2) .there j t j′ t′ s .0 in
       let (l, c) = count-size (edge-with (Φ .size 0) (Φ .size 1) (Φ .size 2) j t h) in
@@ -74,7 +74,7 @@ module _ (Φ : Facet) where
         ]
 
     -- every crossing has a segment
-    pub some : (j t : ℕ) → On Φ j t → (j′ : ℕ) × (t′ : ℕ) × Segment Φ j t j′ t′
+    pub some : (j t : ℕ) → OnFace Φ j t → (j′ : ℕ) × (t′ : ℕ) × Segment Φ j t j′ t′
     some j t o = levelLaws (P .level) .joined j t (omega (arith, o .index, count-is j (o .edge)))
       where
         count-is : (j : ℕ) → j < 3 → countOn (Φ .size 0) (Φ .size 1) (Φ .size 2) j ≡ Φ .size j
@@ -84,7 +84,7 @@ module _ (Φ : Facet) where
         count-is (suc (suc (suc j))) h = absurd (omega arith)
 
     -- two darts along segments of one face, with one lower number
-    pub meet : (A : Local) (d : ℕ) (B : Local) (e : ℕ) (j t j′ t′ u v u′ v′ : ℕ) → Along Φ A d j t j′ t′ → Along Φ B e u v u′ v′ → lowerOf A d ≡ lowerOf B e → SameEnds A d B e
+    pub meet : (A : Local) (d : ℕ) (B : Local) (e : ℕ) (j t j′ t′ u v u′ v′ : ℕ) → DartAlong Φ A d j t j′ t′ → DartAlong Φ B e u v u′ v′ → lowerOf A d ≡ lowerOf B e → SameEnds A d B e
     meet A d B e j t j′ t′ u v u′ v′ a b q =
         go (two-ends j t j′ t′ u v u′ v′ (a .segment) (b .segment) (sym (ap₂ min (a .from-is) (a .to-is)) ∙ q ∙ ap₂ min (b .from-is) (b .to-is)))
       where
@@ -93,7 +93,7 @@ module _ (Φ : Facet) where
         go (inr (x, y)) = inr (a .from-is ∙ x ∙ sym (b .to-is), a .to-is ∙ y ∙ sym (b .from-is))
 
   -- two darts along one segment
-  pub alike : (A : Local) (d : ℕ) (B : Local) (e : ℕ) (j t j′ t′ : ℕ) → A .name (slotOf A d) ≡ Φ .name → B .name (slotOf B e) ≡ Φ .name → Along Φ A d j t j′ t′ → Along Φ B e j t j′ t′
+  pub alike : (A : Local) (d : ℕ) (B : Local) (e : ℕ) (j t j′ t′ : ℕ) → A .name (slotOf A d) ≡ Φ .name → B .name (slotOf B e) ≡ Φ .name → DartAlong Φ A d j t j′ t′ → DartAlong Φ B e j t j′ t′
       → segmentOf A d ≡ segmentOf B e
   alike A d B e j t j′ t′ p q a b = ap₂ seg (p ∙ sym q) (ap₂ min (a .from-is ∙ sym (b .from-is)) (a .to-is ∙ sym (b .to-is)))
 
@@ -118,7 +118,7 @@ shows-same Φ Ψ A s T sizes starts named S = record {
     same : (j t j′ t′ : ℕ) → Segment Φ j t j′ t′ → num Φ j t ≡ num Ψ j t
     same j t j′ t′ z = ap (λ n. n + t) (starts j (seg-on Φ j t j′ t′ z .edge))
 
-    along : (d j t j′ t′ : ℕ) → Along Φ A d j t j′ t′ → Along Ψ A d j t j′ t′
+    along : (d j t j′ t′ : ℕ) → DartAlong Φ A d j t j′ t′ → DartAlong Ψ A d j t j′ t′
     along d j t j′ t′ a = record {
       on = a .on;
       segment = segment-on j t j′ t′ (a .segment);

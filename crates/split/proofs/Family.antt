@@ -7,8 +7,8 @@ use Rattle.counting.proofs.Pack.{row-lt, col-lt, unpack, row-pack, col-pack, pa
 use Rattle.walk.specs.Darts.{half}
 use Rattle.manifold.specs.Triangle.{Side, seg, inner}
 use Rattle.manifold.specs.Piece.{Local, slotOf, segmentOf}
-use Rattle.manifold.specs.Complex.{Joins, SameEnds}
-use Rattle.split.specs.Family.{Family, Runs, Meets, Shares, Sound, Closed, Linked, Outer, fine, Refined}
+use Rattle.manifold.specs.Complex.{Joins, SameEnds, Shares}
+use Rattle.split.specs.Family.{Family, HasSegment, Meets, PiecesSound, Closed, PiecesLinked, Outer, fine, Refined}
 
 -- the name of a segment's face
 unfoldable pub faceOf : Side → ℕ
@@ -26,31 +26,31 @@ via-ends A d B e C f (inl (p, q)) (inr (r, s)) = inr (p ∙ r, q ∙ s)
 via-ends A d B e C f (inr (p, q)) (inl (r, s)) = inr (p ∙ s, q ∙ r)
 via-ends A d B e C f (inr (p, q)) (inr (r, s)) = inl (p ∙ s, q ∙ r)
 
-module _ (F : Family) (m : ℕ → ℕ) (B : ℕ → ℕ → Local) (Face Point : ℕ → ℕ → Type 0) (R : Refined F m B Face Point) (S : Sound F) where
+module _ (F : Family) (m : ℕ → ℕ) (B : ℕ → ℕ → Local) (Face Point : ℕ → ℕ → Type 0) (R : Refined F m B Face Point) (S : PiecesSound F) where
   -- a segment of a piece is on none of the inner faces
-  not-inner : (c b : ℕ) → c < F .size → b < F .size → (σ : Side) → Runs (F .at b) σ → Face c (faceOf σ) → ⊥
+  not-inner : (c b : ℕ) → c < F .size → b < F .size → (σ : Side) → HasSegment (F .at b) σ → Face c (faceOf σ) → ⊥
   unfolding faceOf
   not-inner c b lc lb σ r f = R .inner c b (slotOf (F .at b) (r .d)) lc lb (S .piece b lb .slot (r .d) (r .on .lt)) (subst (λ s. Face c (faceOf s)) (sym (r .is)) f)
 
   -- a segment of a part: one of its piece's, or on an inner face
-  pub kind : (c j : ℕ) → c < F .size → j < m c → (σ : Side) → Runs (B c j) σ → Runs (F .at c) σ ⊎ Face c (faceOf σ)
+  pub kind : (c j : ℕ) → c < F .size → j < m c → (σ : Side) → HasSegment (B c j) σ → HasSegment (F .at c) σ ⊎ Face c (faceOf σ)
   unfolding faceOf
   kind c j lc lj σ r = go (R .parts c lc .kind j (r .d) lj (r .on))
     where
-      go : Outer (F .at c) (B c j) (r .d) ⊎ Face c (B c j .name (slotOf (B c j) (r .d))) → Runs (F .at c) σ ⊎ Face c (faceOf σ)
+      go : Outer (F .at c) (B c j) (r .d) ⊎ Face c (B c j .name (slotOf (B c j) (r .d))) → HasSegment (F .at c) σ ⊎ Face c (faceOf σ)
       go (inl o) = inl (record { d = o .d; on = o .on; is = sym (o .is) ∙ r .is })
       go (inr f) = inr (subst (λ s. Face c (faceOf s)) (r .is) f)
 
   -- two parts of one piece with a segment of the piece are one
-  same-part : (σ : Side) (c b j k : ℕ) → c ≡ b → c < F .size → j < m c → k < m b → Runs (F .at c) σ → Runs (B c j) σ → Runs (B b k) σ → (c ≡ b → j ≡ k → ⊥) → ⊥
+  same-part : (σ : Side) (c b j k : ℕ) → c ≡ b → c < F .size → j < m c → k < m b → HasSegment (F .at c) σ → HasSegment (B c j) σ → HasSegment (B b k) σ → (c ≡ b → j ≡ k → ⊥) → ⊥
   same-part σ c b j k e lc lj lk r u v ne =
-      subst (λ b. k < m b → Runs (B b k) σ → ⊥) e
+      subst (λ b. k < m b → HasSegment (B b k) σ → ⊥) e
       (λ l w. R .parts c lc .once j k (r .d) lj l (λ q. ne e q) (r .on)
       (record { d = u .d; on = u .on; is = u .is ∙ sym (r .is) }) (record { d = w .d; on = w .on; is = w .is ∙ sym (r .is) }))
       lk v
 
   -- three parts of one piece with a segment on an inner face
-  three-parts : (σ : Side) (c b a j k l : ℕ) → c ≡ b → c ≡ a → c < F .size → j < m c → k < m b → l < m a → Face c (faceOf σ) → Runs (B c j) σ → Runs (B b k) σ → Runs (B a l) σ
+  three-parts : (σ : Side) (c b a j k l : ℕ) → c ≡ b → c ≡ a → c < F .size → j < m c → k < m b → l < m a → Face c (faceOf σ) → HasSegment (B c j) σ → HasSegment (B b k) σ → HasSegment (B a l) σ
       → (c ≡ b → j ≡ k → ⊥) → (c ≡ a → j ≡ l → ⊥) → (b ≡ a → k ≡ l → ⊥) → ⊥
   unfolding faceOf
   three-parts σ c b a j k l p q lc lj lk ll f u v w x y z =
@@ -58,20 +58,20 @@ module _ (F : Family) (m : ℕ → ℕ) (B : ℕ → ℕ → Local) (Face Point 
       (subst (λ s. Face c (faceOf s)) (sym (u .is)) f)
       (along v′) (along w′) (x p) (y q) (z (sym p ∙ q))
     where
-      v′ : Runs (B c k) σ
-      v′ = subst (λ b. Runs (B b k) σ) (sym p) v
+      v′ : HasSegment (B c k) σ
+      v′ = subst (λ b. HasSegment (B b k) σ) (sym p) v
 
-      w′ : Runs (B c l) σ
-      w′ = subst (λ a. Runs (B a l) σ) (sym q) w
+      w′ : HasSegment (B c l) σ
+      w′ = subst (λ a. HasSegment (B a l) σ) (sym q) w
 
-      along : {A : Local} → Runs A σ → Runs A (segmentOf (B c j) (u .d))
+      along : {A : Local} → HasSegment A σ → HasSegment A (segmentOf (B c j) (u .d))
       along r = record { d = r .d; on = r .on; is = r .is ∙ sym (u .is) }
 
-  few : (σ : Side) (c b a j k l : ℕ) → c < F .size → b < F .size → a < F .size → j < m c → k < m b → l < m a → Runs (B c j) σ → Runs (B b k) σ → Runs (B a l) σ
+  few : (σ : Side) (c b a j k l : ℕ) → c < F .size → b < F .size → a < F .size → j < m c → k < m b → l < m a → HasSegment (B c j) σ → HasSegment (B b k) σ → HasSegment (B a l) σ
       → (c ≡ b → j ≡ k → ⊥) → (c ≡ a → j ≡ l → ⊥) → (b ≡ a → k ≡ l → ⊥) → ⊥
   few σ c b a j k l lc lb la lj lk ll u v w x y z = go (kind c j lc lj σ u) (kind b k lb lk σ v) (kind a l la ll σ w)
     where
-      go : Runs (F .at c) σ ⊎ Face c (faceOf σ) → Runs (F .at b) σ ⊎ Face b (faceOf σ) → Runs (F .at a) σ ⊎ Face a (faceOf σ) → ⊥
+      go : HasSegment (F .at c) σ ⊎ Face c (faceOf σ) → HasSegment (F .at b) σ ⊎ Face b (faceOf σ) → HasSegment (F .at a) σ ⊎ Face a (faceOf σ) → ⊥
       go (inl r) (inl s) (inl t) =
           S .few σ c b a lc lb la r s t (λ e. same-part σ c b j k e lc lj lk r u v x) (λ e. same-part σ c a j l e lc lj ll r u w y) (λ e. same-part σ b a k l e lb lk ll s v w z)
       go (inl r) (inr g) t = not-inner b c lb lc σ r g
@@ -142,7 +142,7 @@ module _ (F : Family) (m : ℕ → ℕ) (B : ℕ → ℕ → Local) (Face Point 
     abbrev il : i x < m (r x)
     il = col-lt m (F .size) x l
 
-  pub fine-sound : Sound (fine F m B)
+  pub fine-sound : PiecesSound (fine F m B)
   unfolding fine
   fine-sound = record {
     piece = λ x l. R .parts (r x) (rl l) .piece (i x) (il l);
@@ -152,25 +152,25 @@ module _ (F : Family) (m : ℕ → ℕ) (B : ℕ → ℕ → Local) (Face Point 
   }
 
   module _ (C : Closed F) where
-    paired : (x : ℕ) → x < pre m (F .size) → (σ : Side) → Runs (B (r x) (i x)) σ → (y : ℕ) × (y < pre m (F .size)) × (y ≢ x) × Runs (B (r y) (i y)) σ
+    paired : (x : ℕ) → x < pre m (F .size) → (σ : Side) → HasSegment (B (r x) (i x)) σ → (y : ℕ) × (y < pre m (F .size)) × (y ≢ x) × HasSegment (B (r y) (i y)) σ
     unfolding faceOf
     paired x l σ u = go (kind (r x) (i x) (rl l) (il l) σ u)
       where
-        go : Runs (F .at (r x)) σ ⊎ Face (r x) (faceOf σ) → (y : ℕ) × (y < pre m (F .size)) × (y ≢ x) × Runs (B (r y) (i y)) σ
+        go : HasSegment (F .at (r x)) σ ⊎ Face (r x) (faceOf σ) → (y : ℕ) × (y < pre m (F .size)) × (y ≢ x) × HasSegment (B (r y) (i y)) σ
         go (inl v) =
             let (b, lb, ne, w) = C .paired (r x) (rl l) σ v in
             let k = R .parts b lb .cover (w .d) (w .on) in (
               place b (k .j),
               place-lt b (k .j) lb (k .j-lt),
               (λ e. ne (sym (row-place b (k .j) lb (k .j-lt)) ∙ ap r e)),
-              subst (λ A. Runs A σ) (sym (at-place b (k .j) lb (k .j-lt))) (record { d = k .e; on = k .on; is = k .is ∙ w .is }),
+              subst (λ A. HasSegment A σ) (sym (at-place b (k .j) lb (k .j-lt))) (record { d = k .e; on = k .on; is = k .is ∙ w .is }),
             )
         go (inr f) =
             let (k, lk, ne, w) = R .parts (r x) (rl l) .inner-paired (i x) (u .d) (il l) (u .on) (subst (λ s. Face (r x) (faceOf s)) (sym (u .is)) f) in (
               place (r x) k,
               place-lt (r x) k (rl l) lk,
               (λ e. ne (sym (col-place (r x) k (rl l) lk) ∙ ap i e)),
-              subst (λ A. Runs A σ) (sym (at-place (r x) k (rl l) lk)) (record { d = w .d; on = w .on; is = w .is ∙ u .is }),
+              subst (λ A. HasSegment A σ) (sym (at-place (r x) k (rl l) lk)) (record { d = w .d; on = w .on; is = w .is ∙ u .is }),
             )
 
     pub fine-closed : Closed (fine F m B)
@@ -178,7 +178,7 @@ module _ (F : Family) (m : ℕ → ℕ) (B : ℕ → ℕ → Local) (Face Point 
     fine-closed = record { whole = λ x l. R .parts (r x) (rl l) .whole (C .whole (r x) (rl l)) (i x) (il l); paired = paired }
 
   -- the parts at a crossing
-  module _ (g : ℕ) (L : Linked F g) (Q : ℕ → Type 0)
+  module _ (g : ℕ) (L : PiecesLinked F g) (Q : ℕ → Type 0)
       (pass : (x y : ℕ) → x < pre m (F .size) → y < pre m (F .size) → Shares (B (r x) (i x)) (B (r y) (i y)) g → Q x → Q y) where
     over : (c b j k : ℕ) → c < F .size → b < F .size → j < m c → k < m b → Shares (B c j) (B b k) g → Q (place c j) → Q (place b k)
     over c b j k lc lb lj lk s =
@@ -220,6 +220,6 @@ module _ (F : Family) (m : ℕ → ℕ) (B : ℕ → ℕ → Local) (Face Point 
     linked x y lx ly u v q =
         subst Q (is-place y ly) (all (r x) (r y) (i x) (i y) (rl lx) (rl ly) (il lx) (il ly) u v (subst Q (sym (is-place x lx)) q))
 
-  pub fine-linked : (g : ℕ) → Linked F g → Linked (fine F m B) g
+  pub fine-linked : (g : ℕ) → PiecesLinked F g → PiecesLinked (fine F m B) g
   unfolding fine
   fine-linked g L Q pass = linked g L Q pass

@@ -13,7 +13,7 @@ use Rattle.counting.specs.Pick.{pick, one}
 use Rattle.counting.specs.Range.{total}
 use Rattle.counting.specs.Lists.{gather}
 use Rattle.counting.proofs.Kept.{tally-kept}
-use Rattle.counting.proofs.Lists.{length-singles}
+use Rattle.counting.proofs.Lists.{length-singles, one-long}
 use Rattle.counting.proofs.Range.{total-ext, total-zero, length-over}
 use Rattle.counting.proofs.Search.{count-total}
 use Rattle.place.specs.declared.Place.{Place}
@@ -35,7 +35,7 @@ use Rattle.split.specs.Limits.{wordStep}
 use Rattle.split.specs.Labels.{spoke}
 use Rattle.split.specs.SubCell.{sub}
 use Rattle.split.specs.Parts.{splitsWithin}
-use Rattle.split.specs.Claims.{Numbered}
+use Rattle.split.specs.Claims.{NumbersAre}
 use Rattle.split.specs.Standing.{subPlaces, armPlace, armPlaces, splitPlaces, fansIn, fansOf}
 use Rattle.split.specs.Spots.{standingInner, addedFans}
 use Rattle.split.proofs.Axis.{nest-counts}
@@ -93,10 +93,6 @@ module _ (c : Cell) (K : isLevelCell (countOf c) ≡ true) where
       ]
 
 -- the middles of a cell's fans are as many
-one-long : (b : Bool) (p : Place) → length (pick b (p ∷ []) []) ≡ one b
-one-long true p = refl
-one-long false p = refl
-
 no-list : (l : List Place) → length l ≡ 0 → l ≡ []
 no-list [] e = refl
 no-list (x ∷ l) e = absurd (omega arith)
@@ -111,14 +107,14 @@ module _ (mid : (ℕ → Place) → Cell → ℕ → Place) (at : List Place) (c
 
   -- by its numbers: m and m, or m and 0
   module _ {t m : ℕ} where
-    pub fans-equal : Numbered (countOf c) t m m → 0 < m → length (fansIn mid at c) ≡ gcd m m
+    pub fans-equal : NumbersAre (countOf c) t m m → 0 < m → length (fansIn mid at c) ≡ gcd m m
     fans-equal N h = length-fans ∙ fans-some c (N .level) (omega (arith, N .second)) ∙ ap₂ gcd (N .first) (N .second)
 
-    pub fans-flat : Numbered (countOf c) t m 0 → fansIn mid at c ≡ []
+    pub fans-flat : NumbersAre (countOf c) t m 0 → fansIn mid at c ≡ []
     fans-flat N = no-list (fansIn mid at c) (length-fans ∙ fans-none c (N .level) (N .second))
 
 -- a nest by its numbers
-pub nest-numbered : (c : Cell) {t m : ℕ} → Numbered (countOf c) t m m → 1 < m → nestEdge (countOf c) < 3
+pub nest-numbered : (c : Cell) {t m : ℕ} → NumbersAre (countOf c) t m m → 1 < m → nestEdge (countOf c) < 3
 nest-numbered c N h = nest-counts (countOf c) (N .level) (N .first) (N .second) h
 
 -- the inner crossings of a split

@@ -17,8 +17,8 @@ use Rattle.cell.specs.Polygons.{localOf}
 use Rattle.booking.specs.Booking.{leastCorner, larger, smaller}
 use Rattle.split.specs.SubCell.{restCount, restStart, armCount, armStart, subAt}
 use Rattle.split.specs.Family.{Refines}
-use Rattle.split.specs.Shown.{Facet, num, Segment, On, Plain, Along, Shows, Any, Split, InnerFace, InnerPoint, five, Order}
-use Rattle.split.specs.Five.{facet, Firm, Ready, Went, Stays, cut, inside}
+use Rattle.split.specs.Shown.{Facet, num, Segment, OnFace, Plain, DartAlong, Shows, Any, Split, InnerFace, InnerPoint, five, Order}
+use Rattle.split.specs.Five.{facet, Firm, FirmBelow, Went, Stays, ownPiece, inside}
 use Rattle.split.proofs.Facets.{seg-on, shows-same}
 use Rattle.split.proofs.Shown.{split-refines}
 use Rattle.split.proofs.Labels.{inner-level}
@@ -30,7 +30,7 @@ use Rattle.split.proofs.Own.{part-piece, part-whole, part-shows}
 use Rattle.split.proofs.Sub as new
 use Rattle.split.proofs.Sub.{sub-firm, new-start, old-start, outer-name, inner-name}
 
-module _ (c : Cell) (b f : ℕ) (R : Ready c b f) (some : 0 < smaller (countOf c)) (more : smaller (countOf c) < larger (countOf c)) (word : ℕ → ℕ) where
+module _ (c : Cell) (b f : ℕ) (R : FirmBelow c b f) (some : 0 < smaller (countOf c)) (more : smaller (countOf c) < larger (countOf c)) (word : ℕ → ℕ) where
   abbrev H : Firm c
   H = R .firm
 
@@ -86,7 +86,7 @@ module _ (c : Cell) (b f : ℕ) (R : Ready c b f) (some : 0 < smaller (countOf c
       grow : (j t j′ t′ : ℕ) → Segment (left c H M) j t j′ t′ → Segment (Φ M) j (goesAt c H M (lower j) + t) j′ (goesAt c H M (lower j′) + t′)
       grow j t j′ t′ z = kept (w (slotEdge M 0)) (w (slotEdge M 1)) (w (slotEdge M 2)) (goesAt c H M) (off (countOf c) K M lM) j t j′ t′ z
 
-      room : (j t : ℕ) → On (left c H M) j t → t < restCount c (slotEdge M j)
+      room : (j t : ℕ) → OnFace (left c H M) j t → t < restCount c (slotEdge M j)
       room j t o = subst (λ n. t < n) (rest-less (countOf c) K M j lM (o .edge)) (o .index)
 
       there : (j t j′ t′ : ℕ) → Segment (left c H M) j t j′ t′ → Stays c (num (Φ M) j (goesAt c H M (lower j) + t))
@@ -97,11 +97,11 @@ module _ (c : Cell) (b f : ℕ) (R : Ready c b f) (some : 0 < smaller (countOf c
           let n = rest-sum (countOf c) K (slotEdge M j) (slot-edge M j lM (o .edge) .lt) in
           stays-at c H M j (goesAt c H M (lower j) + t) lM (seg-on (Φ M) j (goesAt c H M (lower j) + t) j′ (goesAt c H M (lower j′) + t′) (grow j t j′ t′ z)) (omega arith) (omega arith)
 
-      up : (d j t j′ t′ : ℕ) → Along (left c H M) (at M) d j t j′ t′ → Along (Φ M) (at M) d j (goesAt c H M (lower j) + t) j′ (goesAt c H M (lower j′) + t′)
+      up : (d j t j′ t′ : ℕ) → DartAlong (left c H M) (at M) d j t j′ t′ → DartAlong (Φ M) (at M) d j (goesAt c H M (lower j) + t) j′ (goesAt c H M (lower j′) + t′)
       up d j t j′ t′ a = record { on = a .on; segment = grow j t j′ t′ (a .segment); from-is = a .from-is ∙ omega arith; to-is = a .to-is ∙ omega arith }
 
       down : (j t j′ t′ : ℕ) → Segment (Φ M) j t j′ t′ → Rem c H M j′ t′ × Segment (left c H M) j (t - goesAt c H M (lower j)) j′ (t′ - goesAt c H M (lower j′)) → Rem c H M j t
-          → (d : ℕ) × (slotOf (at M) d ≡ 0) × Along (Φ M) (at M) d j t j′ t′
+          → (d : ℕ) × (slotOf (at M) d ≡ 0) × DartAlong (Φ M) (at M) d j t j′ t′
       down j t j′ t′ z (r, y) q =
           let (d, e, a) = Z .from j (t - goesAt c H M (lower j)) j′ (t′ - goesAt c H M (lower j′)) tt y in
           let b = r .low in
@@ -152,14 +152,14 @@ module _ (c : Cell) (b f : ℕ) (R : Ready c b f) (some : 0 < smaller (countOf c
 
   -- the crossings that stay, seen from the inner faces
   down : (M j v : ℕ) → M < 4 → j < 3 → v < Ψ (slotEdge M j) .size 2
-      → (t : ℕ) × On (Φ M) j t × Stays c (num (Φ M) j t) × (num (Φ M) j t ≡ num (Ψ (slotEdge M j)) 2 v)
+      → (t : ℕ) × OnFace (Φ M) j t × Stays c (num (Φ M) j t) × (num (Φ M) j t ≡ num (Ψ (slotEdge M j)) 2 v)
   unfolding restStart
   down M j v lM lj lv =
       let n = rest-sum (countOf c) K (slotEdge M j) (slot-edge M j lM lj .lt) in
-      let o : On (Φ M) j (own (lo (slotEdge M j)) + v) = record { edge = lj; index = omega arith } in
+      let o : OnFace (Φ M) j (own (lo (slotEdge M j)) + v) = record { edge = lj; index = omega arith } in
       (own (lo (slotEdge M j)) + v, o, stays-at c H M j (own (lo (slotEdge M j)) + v) lM o (omega arith) (omega arith), omega arith)
 
-  up : (M j t : ℕ) → M < 4 → On (Φ M) j t → Stays c (num (Φ M) j t) → (v : ℕ) × (v < Ψ (slotEdge M j) .size 2) × (num (Φ M) j t ≡ num (Ψ (slotEdge M j)) 2 v)
+  up : (M j t : ℕ) → M < 4 → OnFace (Φ M) j t → Stays c (num (Φ M) j t) → (v : ℕ) × (v < Ψ (slotEdge M j) .size 2) × (num (Φ M) j t ≡ num (Ψ (slotEdge M j)) 2 v)
   unfolding restStart
   up M j t lM o g =
       let (x, y) = stays-is c H M j t lM o g in
@@ -176,7 +176,7 @@ module _ (c : Cell) (b f : ℕ) (R : Ready c b f) (some : 0 < smaller (countOf c
   unfolding restStart
   arm-edge p e v u lp le lv lu q = new.arm-apart c b f R some more p v e (own (lo e) + u) lp lv le (rest-lt e u le lu) (q ∙ omega arith)
 
-  pub split : Split (localOf c) (cut c) at Φ Ψ (armStart c b) (armCount c) (Went c) (Stays c)
+  pub split : Split (localOf c) (ownPiece c) at Φ Ψ (armStart c b) (armCount c) (Went c) (Stays c)
   split = record {
     outer = cells.plain c H;
     inner = inner-plain;
@@ -211,5 +211,5 @@ module _ (c : Cell) (b f : ℕ) (R : Ready c b f) (some : 0 < smaller (countOf c
   }
 
   -- in whatever order the sub-cells stand
-  pub five-refines : (om : ℕ → ℕ) → Order om → Refines (localOf c) 5 (five (cut c) at om) (InnerFace Ψ) (InnerPoint (armStart c b) (armCount c))
-  five-refines om O = split-refines (localOf c) (cut c) at Φ Ψ (armStart c b) (armCount c) (Went c) (Stays c) om split O
+  pub five-refines : (om : ℕ → ℕ) → Order om → Refines (localOf c) 5 (five (ownPiece c) at om) (InnerFace Ψ) (InnerPoint (armStart c b) (armCount c))
+  five-refines om O = split-refines (localOf c) (ownPiece c) at Φ Ψ (armStart c b) (armCount c) (Went c) (Stays c) om split O

@@ -21,7 +21,7 @@ use Rattle.cell.proofs.Polygons as polygons
 use Rattle.booking.specs.Booking.{larger, smaller, isSplit}
 use Rattle.split.specs.Limits.{firstInnerCrossing, firstInnerFace}
 use Rattle.split.specs.Parts.{whole, allParts}
-use Rattle.split.specs.Five.{nameOf, Ready}
+use Rattle.split.specs.Five.{nameOf, FirmBelow}
 use Rattle.split.specs.Claims.{partLocal, noPart, RefinedBy}
 use Rattle.split.specs.Owned.{owned, drawnParts, Fit, CellsRefined}
 use Rattle.split.proofs.Lengths.{split-is}
@@ -79,7 +79,7 @@ module _ (c : Cell) (T : Fit c) where
     names = T .names;
   })
 
-  pub ready-of : isSplit (countOf c) ≡ true → Ready c firstInnerCrossing firstInnerFace
+  pub ready-of : isSplit (countOf c) ≡ true → FirmBelow c firstInnerCrossing firstInnerFace
   ready-of e = record { firm = record { level = split-is (countOf c) e .level; separate = T .separate; names = T .names }; below = T .below; under = T .under }
 
   -- the drawn parts of the cell refine it

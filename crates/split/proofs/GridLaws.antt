@@ -23,10 +23,10 @@ use Rattle.booking.specs.Booking.{larger, smaller, isSplit}
 use Rattle.split.specs.Limits.{firstInnerCrossing, firstInnerFace, wordStep}
 use Rattle.booking.specs.Figures.{innerCrossings}
 use Rattle.split.specs.Parts.{whole, allParts}
-use Rattle.split.specs.Family.{Family, Meets, Sound, Closed, Linked, fine}
+use Rattle.split.specs.Family.{Family, Meets, PiecesSound, Closed, PiecesLinked, fine}
 use Rattle.split.specs.Five.{nameOf}
 use Rattle.split.specs.Claims.{partLocal, noPart, partCell}
-use Rattle.split.specs.Owned.{owned, drawnParts, Fit, cellFamily, cellComplex, partCount, partOf, InnerFaces, InnerCrossings, gridComplex, GridLaws, GridSplit}
+use Rattle.split.specs.Owned.{owned, drawnParts, Fit, cellFamily, cellComplex, partCount, ownedPart, InnerFaces, InnerCrossings, gridComplex, GridLaws, GridSplit}
 use Rattle.split.proofs.Lengths.{split-is}
 use Rattle.split.proofs.Parts.{partsNumbered}
 use Rattle.split.proofs.Family.{fine-sound, fine-closed, fine-linked}
@@ -57,7 +57,7 @@ module _ (K : Complex) where
   abbrev pieces : Family
   pieces = record { size = K .pieces; at = K .at }
 
-  sound-of : Lawful K → Sound pieces
+  sound-of : Lawful K → PiecesSound pieces
   sound-of W = record {
     piece = W .piece;
     few = λ σ a b c la lb lc u v w. W .few a b c (u .d) (v .d) (w .d) la lb lc (u .on) (v .on) (w .on) (u .is ∙ sym (v .is)) (u .is ∙ sym (w .is));
@@ -70,11 +70,9 @@ module _ (K : Complex) where
     paired = λ a la σ u. let (b, lb, ne, e, on, q) = S .paired a (u .d) la (u .on) in (b, lb, ne, record { d = e; on = on; is = q ∙ u .is });
   }
 
-  linked-of : (g : ℕ) → LinkedAt K g → Linked pieces g
+  linked-of : (g : ℕ) → LinkedAt K g → PiecesLinked pieces g
   linked-of g L Q pass a b la lb u v q =
-      L Q
-      (λ x y s. pass x y (s .a-lt) (s .b-lt) (record { d = s .d; e = s .e; d-on = s .d-on; e-on = s .e-on; at-d = s .at-d; at-e = s .at-e; same = sym (s .same) }))
-      a b (record { lt = la; d = u .d; on = u .on; is = u .is }) (record { lt = lb; d = v .d; on = v .on; is = v .is }) q
+      L Q pass a b (record { lt = la; d = u .d; on = u .on; is = u .is }) (record { lt = lb; d = v .d; on = v .on; is = v .is }) q
 
 module _ (size : ℕ) (cells : ℕ → Cell) (few : size ≤ mostCells) (T : (k : ℕ) → k < size → Fit (cells k)) (I : (k : ℕ) → k < size → cells k .index ≡ k) where
   abbrev m : ℕ → ℕ
@@ -92,9 +90,9 @@ module _ (size : ℕ) (cells : ℕ → Cell) (few : size ≤ mostCells) (T : (k 
       split : (a b c d : ℕ) → a < mostCells → c < mostCells → a + wordStep * b ≡ c + wordStep * d → (a ≡ c) × (b ≡ d)
       split a b c d la lc e = (omega arith, omega arith)
 
-  module _ (S : Sound (cellFamily size cells)) where
-    sound : Sound (fine (cellFamily size cells) (partCount size cells) (partOf size cells))
-    sound = fine-sound (cellFamily size cells) (partCount size cells) (partOf size cells) (InnerFaces size cells) (InnerCrossings size cells) (cellsRefined size cells few T) S
+  module _ (S : PiecesSound (cellFamily size cells)) where
+    sound : PiecesSound (fine (cellFamily size cells) (partCount size cells) (ownedPart size cells))
+    sound = fine-sound (cellFamily size cells) (partCount size cells) (ownedPart size cells) (InnerFaces size cells) (InnerCrossings size cells) (cellsRefined size cells few T) S
 
     lawful : Lawful (gridComplex size cells)
     unfolding fine
@@ -109,7 +107,7 @@ module _ (size : ℕ) (cells : ℕ → Cell) (few : size ≤ mostCells) (T : (k 
     shut : Closed (cellFamily size cells) → Shut (gridComplex size cells)
     unfolding fine
     shut C =
-        let D = fine-closed (cellFamily size cells) (partCount size cells) (partOf size cells) (InnerFaces size cells) (InnerCrossings size cells) (cellsRefined size cells few T) S C in
+        let D = fine-closed (cellFamily size cells) (partCount size cells) (ownedPart size cells) (InnerFaces size cells) (InnerCrossings size cells) (cellsRefined size cells few T) S C in
         record {
           full = D .whole;
           paired = λ c d lc on.
@@ -117,16 +115,14 @@ module _ (size : ℕ) (cells : ℕ → Cell) (few : size ≤ mostCells) (T : (k 
               (b, lb, ne, r .d, r .on, r .is);
         }
 
-    linked : (g : ℕ) → Linked (cellFamily size cells) g → LinkedAt (gridComplex size cells) g
+    linked : (g : ℕ) → PiecesLinked (cellFamily size cells) g → LinkedAt (gridComplex size cells) g
     unfolding fine
     linked g L Q pass a b u v q =
-        fine-linked (cellFamily size cells) (partCount size cells) (partOf size cells) (InnerFaces size cells) (InnerCrossings size cells) (cellsRefined size cells few T) S g L Q
-        (λ x y lx ly s.
-        pass x y (record { a-lt = lx; b-lt = ly; d = s .d; e = s .e; d-on = s .d-on; e-on = s .e-on; at-d = s .at-d; at-e = s .at-e; same = sym (s .same) }))
-        a b (u .lt) (v .lt) (record { d = u .d; on = u .on; is = u .is }) (record { d = v .d; on = v .on; is = v .is }) q
+        fine-linked (cellFamily size cells) (partCount size cells) (ownedPart size cells) (InnerFaces size cells) (InnerCrossings size cells) (cellsRefined size cells few T) S g L Q
+        pass a b (u .lt) (v .lt) (record { d = u .d; on = u .on; is = u .is }) (record { d = v .d; on = v .on; is = v .is }) q
 
   -- no cell as it is has an inner crossing
-  no-cell : (g : ℕ) → firstInnerCrossing ≤ g → Linked (cellFamily size cells) g
+  no-cell : (g : ℕ) → firstInnerCrossing ≤ g → PiecesLinked (cellFamily size cells) g
   no-cell g h Q pass a b la lb u v q =
       let l = u .on .lt in
       absurd (omega (arith, h, u .is, number-below (cells a) (T a la) (half (u .d)) (omega arith)))
@@ -134,7 +130,7 @@ module _ (size : ℕ) (cells : ℕ → Cell) (few : size ≤ mostCells) (T : (k 
   -- an inner crossing of a split cell, in the complex
   inner-met : (k g : ℕ) (lk : k < size) → isSplit (countOf (cells k)) ≡ true → firstInnerCrossing ≤ g
       → g < firstInnerCrossing + innerCrossings (larger (countOf (cells k))) (smaller (countOf (cells k)))
-      → (j : ℕ) × (j < partCount size cells k) × Meets (partOf size cells k j) (owned firstInnerCrossing k g)
+      → (j : ℕ) × (j < partCount size cells k) × Meets (ownedPart size cells k j) (owned firstInnerCrossing k g)
   unfolding allParts
   inner-met k g lk e h l =
       let c = cells k in
@@ -149,10 +145,10 @@ module _ (size : ℕ) (cells : ℕ → Cell) (few : size ≤ mostCells) (T : (k 
       )
 
   -- what part j of cell k has, the complex has
-  at-place : (k j g : ℕ) → k < size → j < partCount size cells k → Meets (partOf size cells k j) g → (x : ℕ) × complex.Has (gridComplex size cells) g x
+  at-place : (k j g : ℕ) → k < size → j < partCount size cells k → Meets (ownedPart size cells k j) g → (x : ℕ) × complex.Has (gridComplex size cells) g x
   at-place k j g lk lj v =
       let u : Meets (gridComplex size cells .at (pre m k + j)) g =
-      subst (λ A. Meets A g) (sym (ap₂ (partOf size cells) (row-pack m size k j lk lj) (col-pack m size k j lk lj))) v in
+      subst (λ A. Meets A g) (sym (ap₂ (ownedPart size cells) (row-pack m size k j lk lj) (col-pack m size k j lk lj))) v in
       (pre m k + j, record { lt = pack-lt m size k j lk lj; d = u .d; on = u .on; is = u .is })
 
   inner-has : (k g : ℕ) → k < size → isSplit (countOf (cells k)) ≡ true → firstInnerCrossing ≤ g
@@ -163,12 +159,12 @@ module _ (size : ℕ) (cells : ℕ → Cell) (few : size ≤ mostCells) (T : (k 
   outer-has : (g k : ℕ) → complex.Has (cellComplex size cells) g k → (x : ℕ) × complex.Has (gridComplex size cells) g x
   outer-has g k h =
       let u = cellsRefined size cells few T .parts k (h .lt) .cover (h .d) (h .on) in
-      let v : Meets (partOf size cells k (u .j)) g = record { d = u .e; on = u .on; is = u .point ∙ h .is } in
+      let v : Meets (ownedPart size cells k (u .j)) g = record { d = u .e; on = u .on; is = u .point ∙ h .is } in
       at-place k (u .j) g (h .lt) (u .j-lt) v
 
   -- in a cell that is not split there is no inner face, and in one that is no curve ends
-  no-inner : (k j s : ℕ) → k < size → isSplit (countOf (cells k)) ≡ false → j < partCount size cells k → s < partOf size cells k j .slots
-      → firstInnerFace ≤ partOf size cells k j .name s → ⊥
+  no-inner : (k j s : ℕ) → k < size → isSplit (countOf (cells k)) ≡ false → j < partCount size cells k → s < ownedPart size cells k j .slots
+      → firstInnerFace ≤ ownedPart size cells k j .name s → ⊥
   no-inner k j s lk e =
       subst (λ l. j < length l → s < partLocal (getD l j noPart) .slots → firstInnerFace ≤ owned firstInnerFace k (partLocal (getD l j noPart) .name s) → ⊥)
       (sym (drawn-whole (cells k) e)) (first j)
@@ -178,7 +174,7 @@ module _ (size : ℕ) (cells : ℕ → Cell) (few : size ≤ mostCells) (T : (k 
       first zero l ls h = omega (arith, T k lk .under s ls, owned-outer firstInnerFace k (nameOf (cells k) s) (T k lk .under s ls))
       first (suc j) l ls h = absurd (omega arith)
 
-  no-end : (k j s : ℕ) (lk : k < size) → j < partCount size cells k → s < partOf size cells k j .slots → firstInnerFace ≤ partOf size cells k j .name s → Whole (localOf (cells k))
+  no-end : (k j s : ℕ) (lk : k < size) → j < partCount size cells k → s < ownedPart size cells k j .slots → firstInnerFace ≤ ownedPart size cells k j .name s → Whole (localOf (cells k))
   no-end k j s lk lj ls h = go (isSplit (countOf (cells k))) refl
     where
       go : (b : Bool) → isSplit (countOf (cells k)) ≡ b → Whole (localOf (cells k))
@@ -197,15 +193,15 @@ module _ (size : ℕ) (cells : ℕ → Cell) (few : size ≤ mostCells) (T : (k 
       let lk = row-lt m size x lx in
       let lj = col-lt m size x lx in
       let R = cellsRefined size cells few T .parts k lk in
-      let (i, li, ne, r) = R .inner-paired j d lj on (face-of k j (slotOf (partOf size cells k j) d) h) in
+      let (i, li, ne, r) = R .inner-paired j d lj on (face-of k j (slotOf (ownedPart size cells k j) d) h) in
       let y = pre m k + i in
       let u = col-pack m size k i lk li in
-      let q : partOf size cells (row m size y) (col m size y) ≡ partOf size cells k i = ap₂ (partOf size cells) (row-pack m size k i lk li) u in
-      let v = no-end k j (slotOf (partOf size cells k j) d) lk lj (L .piece x lx .slot d (on .lt)) h in
+      let q : ownedPart size cells (row m size y) (col m size y) ≡ ownedPart size cells k i = ap₂ (ownedPart size cells) (row-pack m size k i lk li) u in
+      let v = no-end k j (slotOf (ownedPart size cells k j) d) lk lj (L .piece x lx .slot d (on .lt)) h in
       manifold K L .shared x d y (r .d) lx (pack-lt m size k i lk li) (λ e. ne (sym u ∙ ap (col m size) e)) (R .whole v j lj) (subst Whole (sym q) (R .whole v i li)) on
-      (subst (λ A. Joins A (r .d)) (sym q) (r .on)) (subst (λ A. segmentOf A (r .d) ≡ segmentOf (partOf size cells k j) d) (sym q) (r .is))
+      (subst (λ A. Joins A (r .d)) (sym q) (r .on)) (subst (λ A. segmentOf A (r .d) ≡ segmentOf (ownedPart size cells k j) d) (sym q) (r .is))
     where
-      face-of : (k j s : ℕ) → firstInnerFace ≤ partOf size cells k j .name s → InnerFaces size cells k (partOf size cells k j .name s)
+      face-of : (k j s : ℕ) → firstInnerFace ≤ ownedPart size cells k j .name s → InnerFaces size cells k (ownedPart size cells k j .name s)
       face-of k j s h = (partLocal (getD (drawnParts (cells k)) j noPart) .name s, high (partLocal (getD (drawnParts (cells k)) j noPart) .name s) h, refl)
         where
           high : (f : ℕ) → firstInnerFace ≤ owned firstInnerFace k f → firstInnerFace ≤ f

@@ -1,21 +1,19 @@
 -- The mesh of the complex of all drawn parts is the triangles drawn of all cells.
-use Prim.Native.Nat.{ℕ, zero, suc, _+_, _≤_, _<_}
-use mathlib.Core.Path.{_≡_, refl, sym, ap, ap₂, _∙_}
+use Prim.Native.Nat.{ℕ, zero, suc, _+_, _<_}
+use mathlib.Core.Path.{_≡_, refl, sym, ap, _∙_}
 use mathlib.Core.Bool.{Bool, true, false}
-use mathlib.Core.List.{List, [], _∷_, _++_, map}
+use mathlib.Core.List.{List, [], _∷_, map}
 use native.Mathlib.Omega.{arith}
 use lib.ListN.{length, getD}
-use Rattle.counting.specs.Range.{total, over}
+use Rattle.counting.specs.Range.{over}
 use Rattle.counting.specs.Lists.{gather}
-use Rattle.counting.specs.Pack.{pre, row, col}
-use Rattle.counting.proofs.Range.{over-ext, over-snoc}
-use Rattle.counting.proofs.Fronts.{over-split, over-shift}
+use Rattle.counting.proofs.Range.{over-ext}
 use Rattle.counting.proofs.Lists.{map-over}
-use Rattle.counting.proofs.Pack.{pre-next, row-pack, col-pack}
+use Rattle.counting.proofs.Rows.{over-rows}
 use Rattle.walk.specs.Step.{face}
 use Rattle.manifold.specs.Triangle.{seg}
 use Rattle.manifold.specs.Plain.{Tri, tri}
-use Rattle.manifold.specs.Polygon.{shape, triangles, corner, centre, segment, spoke}
+use Rattle.manifold.specs.Polygon.{shape, triangles, corner, centre, segment, innerSide}
 use Rattle.manifold.specs.Piece.{Local, slotOf, mateOf, dart, sizeOf}
 use Rattle.manifold.specs.Complex.{loopOf, mesh}
 use Rattle.manifold.proofs.Polygon.{fits}
@@ -30,44 +28,21 @@ use Rattle.booking.specs.Booking.{larger, smaller, isSplit}
 use Rattle.split.specs.Limits.{firstInnerCrossing, firstInnerFace}
 use Rattle.split.specs.Parts.{whole, allParts, partTriangles, drawnTriangles}
 use Rattle.split.specs.Claims.{partLocal, noPart, partCell, partsComplex, loopIn, LevelCorners}
-use Rattle.split.specs.Owned.{owned, ownedCorner, ownedSide, ownedTri, ofCell, drawnParts, partCount, partOf, GridMeshed}
+use Rattle.split.specs.Owned.{owned, ownedCorner, ownedSide, ownedTri, ofCell, drawnParts, partCount, ownedPart, GridMeshed}
 use Rattle.split.proofs.Lengths.{split-is, drawn-not, whole-alone, drawn-is}
 use Rattle.split.proofs.Parts.{partsNumbered}
 use Rattle.split.proofs.Meshed.{level-corners, partsMeshed}
 use Rattle.split.proofs.Owned.{rises-min}
 use Rattle.split.proofs.Grid.{owned-rises, drawn-whole, drawn-all}
 
--- a range of rows laid end to end, row by row
-over-rows : {A : Type 0} (w : ℕ → ℕ) (n : ℕ) (F : ℕ → ℕ → List A) (r : ℕ) → r ≤ n
-    → over (λ x. F (row w n x) (col w n x)) (pre w r) 0 ≡ over (λ k. over (F k) (w k) 0) r 0
-unfolding pre total over
-over-rows w n F zero h = refl
-over-rows w n F (suc r) h =
-    ap (λ m. over (λ x. F (row w n x) (col w n x)) m 0) (pre-next w n r)
-    ∙ over-split (λ x. F (row w n x) (col w n x)) (pre w r) (w r) 0
-    ∙ ap₂ _++_ (over-rows w n F r (omega arith)) last
-    ∙ sym (over-snoc (λ k. over (F k) (w k) 0) r 0)
-  where
-    place : (q : ℕ) → q < w r → F (row w n (pre w r + q)) (col w n (pre w r + q)) ≡ F r q
-    place q l = ap₂ F (row-pack w n r q (omega arith) l) (col-pack w n r q (omega arith) l)
-
-    last : over (λ x. F (row w n x) (col w n x)) (w r) (0 + pre w r) ≡ over (F (0 + r)) (w (0 + r)) 0
-    last =
-        let e : 0 + pre w r ≡ pre w r + 0 = omega arith in
-        let z : 0 + r ≡ r = omega arith in
-        ap (over (λ x. F (row w n x) (col w n x)) (w r)) e
-        ∙ sym (over-shift (λ x. F (row w n x) (col w n x)) (pre w r) (w r) 0)
-        ∙ over-ext (λ q. F (row w n (pre w r + q)) (col w n (pre w r + q))) (F r) (w r) 0 (λ q a b. place q (omega arith))
-        ∙ sym (ap (λ k. over (F k) (w k) 0) z)
-
 -- the triangles of a loop with the names of its cell
 loop-owned : (k : ℕ) (A : Local) (tag : ℕ) (normal : ℕ → Bool) (p : ℕ) → map (ownedTri k) (triangles (loopIn A tag normal p)) ≡ triangles (loopIn (ofCell k A) tag normal p)
 unfolding triangles shape face
 loop-owned k A tag normal p =
-    map-triangles tri (corner (loopIn A tag normal p)) (centre (loopIn A tag normal p)) (segment (loopIn A tag normal p)) (spoke (loopIn A tag normal p)) (sizeOf A p)
+    map-triangles tri (corner (loopIn A tag normal p)) (centre (loopIn A tag normal p)) (segment (loopIn A tag normal p)) (innerSide (loopIn A tag normal p)) (sizeOf A p)
     (ownedTri k) (ownedCorner k) (ownedSide k) tri (λ a b c r s t. refl) (shape (loopIn A tag normal p))
     ∙ triangles-ext tri (λ i. ownedCorner k (corner (loopIn A tag normal p) i)) (ownedCorner k (centre (loopIn A tag normal p)))
-    (λ i. ownedSide k (segment (loopIn A tag normal p) i)) (λ i. ownedSide k (spoke (loopIn A tag normal p) i)) (sizeOf A p)
+    (λ i. ownedSide k (segment (loopIn A tag normal p) i)) (λ i. ownedSide k (innerSide (loopIn A tag normal p) i)) (sizeOf A p)
     tri (corner (loopIn (ofCell k A) tag normal p)) (segment (loopIn (ofCell k A) tag normal p)) (λ h. refl) (λ i l. refl)
     (λ i l. ap (seg (owned firstInnerFace k (A .name (slotOf A (dart A p i)))))
     (sym (rises-min (owned firstInnerCrossing k) (owned-rises firstInnerCrossing k) (A .number (half (dart A p i))) (A .number (mateOf A (dart A p i))))))
@@ -119,5 +94,5 @@ gridMeshed size cells =
   where
     F : ℕ → ℕ → List Tri
     F k j =
-        over (λ p. triangles (loopIn (partOf size cells k j) (partCell (getD (drawnParts (cells k)) j noPart) .index)
+        over (λ p. triangles (loopIn (ownedPart size cells k j) (partCell (getD (drawnParts (cells k)) j noPart) .index)
         (normal (edgesOf (partCell (getD (drawnParts (cells k)) j noPart)))) p)) (partLocal (getD (drawnParts (cells k)) j noPart) .N) 0

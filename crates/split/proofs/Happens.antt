@@ -8,7 +8,7 @@ use borrow.Author.Tests.{leb-true, lt-ltb}
 use Rattle.counting.specs.Pick.{pick}
 use Rattle.counting.specs.Search.{seek, first, last, every}
 use Rattle.counting.specs.Gcd.{divides, gcd}
-use Rattle.counting.proofs.Below.{trichotomy}
+use Rattle.counting.proofs.Below.{trichotomy, below-four}
 use Rattle.counting.proofs.Search.{every-is}
 use Rattle.slots.specs.Slots as slots
 use Rattle.face.specs.Face as face
@@ -20,19 +20,18 @@ use Rattle.cell.specs.Level.{isLevelCell}
 use Rattle.booking.specs.Booking.{median, cornerOn, leastCorner, leftBetween, larger, smaller, isSplit}
 use Rattle.booking.specs.Figures.{areSpiral, areSplit}
 use Rattle.split.specs.Five.{nameOf}
-use Rattle.split.specs.Examples.{alone}
-use Rattle.split.specs.Owned.{Fit, Happens}
-use Rattle.split.proofs.Cases.{four}
+use Rattle.split.specs.Examples.{loneCell}
+use Rattle.split.specs.Owned.{Fit, SplitHappens}
 
 abbrev spiral : Cell
-spiral = alone 4 2 6 6 2 4
+spiral = loneCell 4 2 6 6 2 4
 
 -- the numbers of an earlier edge are lower, and all are below 65,536
 before : ℕ → ℕ → Bool
 before k j = pick (ltb j k) (leb (startOf spiral j + countOf spiral j) (startOf spiral k)) true
 
 in-order : every (λ k. every (before k) 6) 6 ≡ true
-unfolding every before alone
+unfolding every before loneCell
 in-order = refl
 
 lower : (j k : ℕ) → j < k → k < 6 → startOf spiral j + countOf spiral j ≤ startOf spiral k
@@ -42,12 +41,12 @@ lower j k h l =
     (rw (lt-ltb j k h) at (every-is (before k) 6 (every-is (λ k. every (before k) 6) 6 in-order k l) j (omega arith)))
 
 all-low : every (λ k. leb (startOf spiral k + countOf spiral k) 65536) 6 ≡ true
-unfolding every alone
+unfolding every loneCell
 all-low = refl
 
 name-is : (s : ℕ) → s < 4 → nameOf spiral s ≡ s
-unfolding alone
-name-is = four (λ s. nameOf spiral s ≡ s) refl refl refl refl
+unfolding loneCell
+name-is = below-four (λ s. nameOf spiral s ≡ s) refl refl refl refl
 
 fit : Fit spiral
 fit = record {
@@ -61,8 +60,8 @@ fit = record {
 is-split : isSplit (countOf spiral) ≡ true
 unfolding seek first last every divides gcd
     slots.lo slots.hi slots.position slots.lower slots.upper slots.edgeBetween slots.slotEdge
-    face.halfAbove face.cornerCount isLevel joining cornerFrom isLevelCell median cornerOn leastCorner leftBetween larger smaller areSpiral areSplit isSplit alone
+    face.halfAbove face.cornerCount isLevel joining cornerFrom isLevelCell median cornerOn leastCorner leftBetween larger smaller areSpiral areSplit isSplit loneCell
 is-split = refl
 
-pub happens : Happens
-happens = (spiral, fit, is-split)
+pub splitHappens : SplitHappens
+splitHappens = (spiral, fit, is-split)

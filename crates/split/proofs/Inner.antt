@@ -26,7 +26,7 @@ use Rattle.split.specs.Labels.{labelled, label, spoke}
 use Rattle.split.specs.SubCell.{armStart, subAt, sub}
 use Rattle.split.specs.Parts.{Part, whole, corners, splitsWithin, parts}
 use Rattle.split.specs.Family.{Meets}
-use Rattle.split.specs.Five.{Firm, Ready}
+use Rattle.split.specs.Five.{Firm, FirmBelow}
 use Rattle.split.specs.Claims.{partLocal, noPart, InnerNumbered}
 use Rattle.booking.proofs.Figures.{figure-stop, figure-step}
 use Rattle.split.proofs.Labels.{spiral-is, labelled-lt, labelled-once, label-at}
@@ -50,7 +50,7 @@ meets-edge c H k t lk lt =
       is = ap (numberOf c) h ∙ ap₂ (λ k t. startOf c k + t) (lay (edgesOf c) .number-edge k t lk lt) (lay (edgesOf c) .number-index k t lk lt);
     }
 
-module _ (c : Cell) (b f : ℕ) (R : Ready c b f) (some : 0 < smaller (countOf c)) (apart : smaller (countOf c) < larger (countOf c)) where
+module _ (c : Cell) (b f : ℕ) (R : FirmBelow c b f) (some : 0 < smaller (countOf c)) (apart : smaller (countOf c) < larger (countOf c)) where
   -- crossing t of the new edge to the label n is in each sub-cell that has that node
   meets-arm : (word m n t : ℕ) → m < 4 → n < 4 → n ≢ m → t < spoke (countOf c) n → Meets (localOf (sub c b f word m)) (b + pre (spoke (countOf c)) n + t)
   unfolding sub armStart
@@ -112,14 +112,14 @@ module _ (cell : ℕ) where
     under : (x : ℕ) → x < length l → Below top (getD l x noPart)
     over : (g : ℕ) → b ≤ g → g < top → Some (Met g) l
 
-  alone : (c : Cell) (b f : ℕ) → Ready c b f → Gapless b b (whole c ∷ [])
+  alone : (c : Cell) (b f : ℕ) → FirmBelow c b f → Gapless b b (whole c ∷ [])
   alone c b f R = record { under = here; over = λ g h l. absurd (omega arith) }
     where
       here : (x : ℕ) → x < 1 → (g : ℕ) → Meets (partLocal (getD (whole c ∷ []) x noPart)) g → g < b
       here zero h g v = meets-below c b f g R v
       here (suc x) h g v = absurd (omega arith)
 
-  numbered : (fuel n b f : ℕ) (c : Cell) → Ready c b f → 0 < smaller (countOf c) → larger (countOf c) + smaller (countOf c) ≤ fuel
+  numbered : (fuel n b f : ℕ) (c : Cell) → FirmBelow c b f → 0 < smaller (countOf c) → larger (countOf c) + smaller (countOf c) ≤ fuel
       → Gapless b (b + innerCrossings (larger (countOf c)) (smaller (countOf c))) (parts fuel cell n b f c)
   numbered zero n b f c R p h = absurd (omega arith)
   numbered (suc fuel) n b f c R p h =
@@ -139,7 +139,7 @@ module _ (cell : ℕ) where
       inner = parts fuel cell (n + 2) (b + 2 * (larger (countOf c) + smaller (countOf c))) (f + 6) (sub c b f (cell + wordStep * (n + 2)) 2)
 
       go : (s : Bool) → isSpiral (countOf c) ≡ s
-          → (Ready N b′ (f + 6) → 0 < smaller (countOf N) → larger (countOf N) + smaller (countOf N) ≤ fuel → Gapless b′ (b′ + innerCrossings (larger (countOf N)) (smaller (countOf N))) inner)
+          → (FirmBelow N b′ (f + 6) → 0 < smaller (countOf N) → larger (countOf N) + smaller (countOf N) ≤ fuel → Gapless b′ (b′ + innerCrossings (larger (countOf N)) (smaller (countOf N))) inner)
           → Gapless b top (parts (suc fuel) cell n b f c)
       go false e i =
           let q = not-spiral (countOf c) e p in

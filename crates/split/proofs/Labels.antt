@@ -11,7 +11,7 @@ use lib.Dec.{eqb, ltb}
 use lib.ListN.{getD}
 use borrow.Author.Tests.{eqb-true, eq-eqb, ne-eqb, ltb-true, lt-ltb, le-ltb}
 use Rattle.counting.specs.Search.{seek, first}
-use Rattle.counting.proofs.Below.{trichotomy}
+use Rattle.counting.proofs.Below.{trichotomy, below-four, below-six}
 use Rattle.counting.proofs.Bools.{clash, and-left, and-right}
 use Rattle.counting.proofs.Search.{Sought, sought, first-at}
 use Rattle.slots.specs.Slots.{lo, hi, edgeBetween}
@@ -27,7 +27,6 @@ use Rattle.booking.proofs.Counts.{top-cases, left-sum, left-opposite, numbers}
 use Rattle.booking.specs.Figures.{areSpiral}
 use Rattle.split.specs.Labels.{remainsTo, labelled, label, spoke}
 use Rattle.split.specs.Claims.{Labelling, FirstLabelling}
-use Rattle.split.proofs.Cases.{four, six}
 use Rattle.split.proofs.Orders.{at-apart, place-of}
 
 -- the test as facts
@@ -104,7 +103,7 @@ module _ (w : ℕ → ℕ) (K : isLevelCell w ≡ true) (some : 0 < smaller w) (
     found : (p : ℕ) → p < 4 → Found p
     found p lp =
         let (n, ln, e) = place-of A p lp in
-        four (λ n. getD (0 ∷ j ∷ k ∷ l ∷ []) n 0 ≡ p → Found p)
+        below-four (λ n. getD (0 ∷ j ∷ k ∷ l ∷ []) n 0 ≡ p → Found p)
         (λ e. at-i (sym e))
         (λ e. at-j (sym e) (ap (leftBetween w 0) (sym e) ∙ G .ij))
         (λ e. at-k (sym e) (ap (leftBetween w 0) (sym e) ∙ G .ik))
@@ -155,7 +154,7 @@ module _ (w : ℕ → ℕ) (K : isLevelCell w ≡ true) (some : 0 < smaller w) (
 
     pub labelled-is : (n : ℕ) → n < 4 → labelled w n ≡ getD (0 ∷ j ∷ k ∷ l ∷ []) n 0
     unfolding labelled remainsTo
-    labelled-is = four (λ n. labelled w n ≡ getD (0 ∷ j ∷ k ∷ l ∷ []) n 0) refl
+    labelled-is = below-four (λ n. labelled w n ≡ getD (0 ∷ j ∷ k ∷ l ∷ []) n 0) refl
         (sought-at (larger w) j (A .b-lt) (A .ab) (G .ij) is-j)
         (sought-at (smaller w) k (A .c-lt) (A .ac) (G .ik) is-k)
         (sought-at (larger w + smaller w) l (A .d-lt) (A .ad) (G .il) is-l)
@@ -191,10 +190,10 @@ module _ (w : ℕ → ℕ) (K : isLevelCell w ≡ true) (some : 0 < smaller w) (
   at n = getD (labelled w 0 ∷ labelled w 1 ∷ labelled w 2 ∷ labelled w 3 ∷ []) n 0
 
   at-is : (n : ℕ) → n < 4 → at n ≡ labelled w n
-  at-is = four (λ n. at n ≡ labelled w n) refl refl refl refl
+  at-is = below-four (λ n. at n ≡ labelled w n) refl refl refl refl
 
   pub labelled-lt : (n : ℕ) → n < 4 → labelled w n < 4
-  labelled-lt = four (λ n. labelled w n < 4) (labelling .all .a-lt) (labelling .all .b-lt) (labelling .all .c-lt) (labelling .all .d-lt)
+  labelled-lt = below-four (λ n. labelled w n < 4) (labelling .all .a-lt) (labelling .all .b-lt) (labelling .all .c-lt) (labelling .all .d-lt)
 
   pub labelled-once : (n m : ℕ) → n < 4 → m < 4 → labelled w n ≡ labelled w m → n ≡ m
   labelled-once n m ln lm e =
@@ -226,7 +225,7 @@ module _ (w : ℕ → ℕ) (K : isLevelCell w ≡ true) (some : 0 < smaller w) (
   between =
       let G = labelling in
       let A = labelling .all in
-      six (λ e. leftBetween w (labelled w (lo e)) (labelled w (hi e)) ≡ getD (larger w ∷ smaller w ∷ (larger w + smaller w) ∷ (larger w + smaller w) ∷ smaller w ∷ larger w ∷ []) e 0)
+      below-six (λ e. leftBetween w (labelled w (lo e)) (labelled w (hi e)) ≡ getD (larger w ∷ smaller w ∷ (larger w + smaller w) ∷ (larger w + smaller w) ∷ smaller w ∷ larger w ∷ []) e 0)
       (labelling .ij) (labelling .ik) (labelling .il)
       (left-opposite w K (bcad (labelling .all)) ∙ labelling .il)
       (left-opposite w K (bdac (labelling .all)) ∙ labelling .ik)
@@ -246,7 +245,7 @@ module _ (w : ℕ → ℕ) (K : isLevelCell w ≡ true) (some : 0 < smaller w) (
       → Level (spoke w (lo e)) (spoke w (hi e)) (getD (larger w ∷ smaller w ∷ (larger w + smaller w) ∷ (larger w + smaller w) ∷ smaller w ∷ larger w ∷ []) e 0)
   unfolding spoke lo hi
   spokes-level =
-      six (λ e. Level (spoke w (lo e)) (spoke w (hi e)) (getD (larger w ∷ smaller w ∷ (larger w + smaller w) ∷ (larger w + smaller w) ∷ smaller w ∷ larger w ∷ []) e 0))
+      below-six (λ e. Level (spoke w (lo e)) (spoke w (hi e)) (getD (larger w ∷ smaller w ∷ (larger w + smaller w) ∷ (larger w + smaller w) ∷ smaller w ∷ larger w ∷ []) e 0))
       (two-equal (larger w) (smaller w) (omega arith))
       (sum-first (2 * smaller w) (smaller w) (smaller w) (omega arith))
       (sum-third (2 * smaller w) (larger w - smaller w) (larger w + smaller w) (omega arith))

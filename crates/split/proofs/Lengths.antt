@@ -6,7 +6,7 @@ use mathlib.Core.List.{List, [], _∷_, _++_, append-nil}
 use native.Mathlib.Omega.{arith}
 use lib.Dec.{eqb, ltb}
 use lib.ListN.{length, length-append}
-use borrow.Author.Tests.{eqb-true, ne-eqb}
+use borrow.Author.Tests.{eqb-true}
 use Rattle.counting.specs.Pick.{pick, one}
 use Rattle.counting.specs.Lists.{gather}
 use Rattle.counting.specs.Gcd.{gcd}
@@ -28,8 +28,9 @@ use Rattle.split.specs.Limits.{firstInnerCrossing, firstInnerFace, wordS
 use Rattle.booking.specs.Figures.{areSpiral, areSplit, nextLarger, nextSmaller, splits, besideSplit}
 use Rattle.split.specs.SubCell.{sub}
 use Rattle.split.specs.Parts.{Part, whole, corners, splitsWithin, parts, allParts, ownCorners, partTriangles, drawnTriangles, splitsOf}
-use Rattle.split.specs.Claims.{Numbered, DrawnCounted, DrawnBooked, mostSplits, SplitsFew}
+use Rattle.split.specs.Claims.{NumbersAre, DrawnCounted, DrawnBooked, mostSplits, SplitsFew}
 use Rattle.booking.proofs.Figures.{figure-stop, figure-step, figureLaws}
+use Rattle.booking.proofs.Drawn.{beside-more}
 use Rattle.split.proofs.Labels.{spiral-is}
 use Rattle.split.proofs.SubNumbers.{subCells}
 use Rattle.split.proofs.Parts.{in-order, not-spiral, stop, more}
@@ -52,10 +53,6 @@ beside-flat : (x : ℕ) → beside x 0 ≡ 2 * x
 unfolding beside
 beside-flat x = refl
 
-pub beside-more : (x y : ℕ) → 0 < y → beside x y ≡ 4 * (x + y)
-unfolding beside
-beside-more x y h = rw (ne-eqb y 0 (λ e. omega arith))
-
 -- at the end, where both numbers are equal, the figure has the fans
 pub end-sum : (w : ℕ → ℕ) → 0 < smaller w → larger w ≡ smaller w → booked w ≡ cornerTriangles w + besideSplit (larger w) (smaller w)
 unfolding booked
@@ -70,10 +67,10 @@ sum : (t x y a b c d e r : ℕ) → y < x → a ≡ t → b ≡ x - y + 4 * (y +
 sum t x y a b c d e r h p q u v z = omega arith
 
 module _ (w : ℕ → ℕ) (some : 0 < smaller w) (more : smaller w < larger w) {l k j i : ℕ → ℕ}
-    (L : Numbered l (larger w - smaller w) (smaller w) (smaller w))
-    (Q : Numbered k (smaller w) (nextLarger (larger w) (smaller w)) (nextSmaller (larger w) (smaller w)))
-    (J : Numbered j (larger w) (smaller w) 0) (I : Numbered i (2 * smaller w) (larger w - smaller w) 0) where
-  by-numbers : {v : ℕ → ℕ} {t x y : ℕ} → Numbered v t x y → booked v ≡ t + beside x y
+    (L : NumbersAre l (larger w - smaller w) (smaller w) (smaller w))
+    (Q : NumbersAre k (smaller w) (nextLarger (larger w) (smaller w)) (nextSmaller (larger w) (smaller w)))
+    (J : NumbersAre j (larger w) (smaller w) 0) (I : NumbersAre i (2 * smaller w) (larger w - smaller w) 0) where
+  by-numbers : {v : ℕ → ℕ} {t x y : ℕ} → NumbersAre v t x y → booked v ≡ t + beside x y
   unfolding booked
   by-numbers N = ap₂ _+_ (N .corners) (ap₂ beside (N .first) (N .second))
 

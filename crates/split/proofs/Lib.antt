@@ -1,4 +1,3 @@
-pub mod Cases
 pub mod Orders
 pub mod Labels
 pub mod Spirals

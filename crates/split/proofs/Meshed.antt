@@ -1,15 +1,13 @@
 -- The triangles of a list of parts are the mesh of the complex whose pieces they are; and where the parts refine a cell, this complex is lawful.
-use Prim.Native.Nat.{ℕ, suc, _+_, _*_, _≤_, _<_}
+use Prim.Native.Nat.{ℕ, _+_, _*_, _≤_, _<_}
 use mathlib.Core.Path.{_≡_, refl, sym, ap, _∙_}
 use mathlib.Core.Bool.{true}
-use mathlib.Core.List.{List, [], _∷_, _++_, map}
+use mathlib.Core.List.{List, map}
 use native.Mathlib.Omega.{arith}
 use lib.ListN.{length, getD}
 use Rattle.counting.specs.Range.{over}
-use Rattle.counting.specs.Lists.{gather}
 use Rattle.counting.proofs.Range.{over-ext}
-use Rattle.counting.proofs.Fronts.{over-shift}
-use Rattle.counting.proofs.Lists.{map-over}
+use Rattle.counting.proofs.Lists.{map-over, gather-places}
 use Rattle.manifold.specs.Polygon.{triangles}
 use Rattle.manifold.specs.Piece.{segmentOf}
 use Rattle.manifold.specs.Complex.{Lawful, loopOf, mesh}
@@ -20,26 +18,13 @@ use Rattle.cell.specs.Polygons.{localOf, named}
 use Rattle.cell.proofs.Polygons.{cell-named}
 use Rattle.split.specs.Limits.{wordStep}
 use Rattle.split.specs.Parts.{Part, whole, corners, parts, partTriangles}
-use Rattle.split.specs.Family.{Sound}
+use Rattle.split.specs.Family.{PiecesSound}
 use Rattle.split.specs.Claims.{partLocal, noPart, partCell, partsComplex, loopIn, LevelCorners, PartsMeshed, PartsLawful}
 use Rattle.split.proofs.Shows.{piece}
 use Rattle.split.proofs.Compose.{parts-sound}
 use Rattle.split.proofs.Corners.{own-named}
 use Rattle.split.proofs.Parts.{partsNumbered}
 use Rattle.split.proofs.Whole.{partsRefine}
-
--- the lists for the entries, joined, by place
-gather-places : {A B : Type 0} (d : A) (f : A → List B) (l : List A) → gather f l ≡ over (λ x. f (getD l x d)) (length l) 0
-unfolding gather over
-gather-places d f [] = refl
-gather-places d f (y ∷ l) =
-    ap (λ r. f y ++ r)
-    (gather-places d f l
-    ∙ over-ext (λ x. f (getD l x d)) (λ x. f (getD (y ∷ l) (1 + x) d)) (length l) 0 (λ q a b. ap f (next q))
-    ∙ over-shift (λ x. f (getD (y ∷ l) x d)) 1 (length l) 0)
-  where
-    next : (q : ℕ) → getD l q d ≡ getD (y ∷ l) (1 + q) d
-    next q = let e : suc q ≡ 1 + q = omega arith in ap (λ n. getD (y ∷ l) n d) e
 
 pub level-corners : (p : Part) → isLevelCell (countOf (partCell p)) ≡ true → LevelCorners p
 level-corners (whole c) K = tt
@@ -60,7 +45,7 @@ partsMeshed l K =
     (λ x a h. part-named (getD l x noPart) (K x (omega arith)))
 
 -- a sound family with its own tags is lawful
-lawful-of : (l : List Part) → Sound (record { size = length l; at = λ x. partLocal (getD l x noPart) })
+lawful-of : (l : List Part) → PiecesSound (record { size = length l; at = λ x. partLocal (getD l x noPart) })
     → ((a b : ℕ) → a < length l → b < length l → partsComplex l .tag a ≡ partsComplex l .tag b → a ≡ b) → Lawful (partsComplex l)
 lawful-of l S tags = record {
   piece = S .piece;

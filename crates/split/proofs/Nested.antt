@@ -7,6 +7,7 @@ use lib.ListN.{length}
 use Rattle.counting.specs.Range.{total}
 use Rattle.counting.specs.Pack.{pre}
 use Rattle.counting.proofs.Pack.{pre-le}
+use Rattle.counting.proofs.Below.{below-six}
 use Rattle.slots.specs.Slots.{position, slotEdge}
 use Rattle.slots.proofs.Slots.{slot-edge, corner-lt}
 use Rattle.cell.specs.declared.Cell.{Cell}
@@ -21,8 +22,7 @@ use Rattle.split.specs.Limits.{wordStep}
 use Rattle.split.specs.Labels.{labelled, label, spoke}
 use Rattle.split.specs.SubCell.{restCount, restStart, armCount, armStart, sub, subAt}
 use Rattle.split.specs.Parts.{splitsWithin}
-use Rattle.split.specs.Working.{LevelSix, SpiralNumbers, Working, Left}
-use Rattle.split.proofs.Cases.{six}
+use Rattle.split.specs.Working.{LevelSix, SpiralNumbers, Working, SplitsLeft}
 use Rattle.split.proofs.Labels.{spiral-is, labelled-lt, at-label}
 use Rattle.split.proofs.Rest.{rest-sum}
 use Rattle.split.proofs.SubNumbers.{subCells}
@@ -56,7 +56,7 @@ module _ (c : Cell) (K : isLevelCell (countOf c) ≡ true) (S : isSpiral (countO
   module _ (word p : ℕ) (lp : p < 4) where
     ends : (e : ℕ) → e < 6 → startOf (subAt c b f word p) e + countOf (subAt c b f word p) e < startLimit
     unfolding subAt
-    ends = six (λ e. startOf (subAt c b f word p) e + countOf (subAt c b f word p) e < startLimit) (new 0 (omega arith)) (new 1 (omega arith)) (new 2 (omega arith))
+    ends = below-six (λ e. startOf (subAt c b f word p) e + countOf (subAt c b f word p) e < startLimit) (new 0 (omega arith)) (new 1 (omega arith)) (new 2 (omega arith))
         (old 0 (omega arith)) (old 1 (omega arith)) (old 2 (omega arith))
       where
         new : (q : ℕ) → q < 3 → armStart c b (position p q) + min (armCount c (position p q)) 4095 < startLimit
@@ -83,7 +83,7 @@ module _ (c : Cell) (K : isLevelCell (countOf c) ≡ true) (S : isSpiral (countO
     sub-sound L = record { near = λ e l. omega (arith, sub-ends e l); counts-six = counts-six; starts-six = starts-six; level = L }
 
 -- what is left: none, where there is no spiral
-module _ {c : Cell} {cell n b f left : ℕ} (L : Left c cell n b f left) where
+module _ {c : Cell} {cell n b f left : ℕ} (L : SplitsLeft c cell n b f left) where
   splits-none : isSpiral (countOf c) ≡ false → left ≡ 0
   splits-none e = L .left-is ∙ ap (λ x. splits x (smaller (countOf c))) (not-spiral (countOf c) e (L .some)) ∙ figure-stop (λ n. 0) (λ x y. 1) (smaller (countOf c))
 
@@ -126,7 +126,7 @@ module _ {c : Cell} {cell n b f left : ℕ} (L : Left c cell n b f left) where
     }
 
     -- the nested sub-cell has one less
-    pub left-next : Left (sub c b f (cell + wordStep * (n + 2)) 2) cell (n + 2) (b + 2 * (larger (countOf c) + smaller (countOf c))) (f + 6) (left - 1)
+    pub left-next : SplitsLeft (sub c b f (cell + wordStep * (n + 2)) 2) cell (n + 2) (b + 2 * (larger (countOf c) + smaller (countOf c))) (f + 6) (left - 1)
     left-next =
         let (some, apart) = spiral-is (countOf c) S in
         let N = subCells c (L .sound .level) some apart b f (cell + wordStep * (n + 2)) .omits-k in

@@ -17,7 +17,7 @@ use Rattle.booking.specs.Booking.{larger, smaller, isSplit}
 use Rattle.booking.proofs.Figures.{figure-step, figureLaws}
 use Rattle.split.specs.Limits.{firstInnerCrossing, firstInnerFace}
 use Rattle.split.specs.Parts.{allParts, drawnTriangles, splitsOf}
-use Rattle.split.specs.Working.{StartsNear, Drawable, Left, partsWords}
+use Rattle.split.specs.Working.{StartsNear, Drawable, SplitsLeft, partsWords}
 use Rattle.split.proofs.SubCells.{most-sum}
 use Rattle.split.proofs.Lengths.{IsSplit, split-is, drawn-not, drawn-is}
 
@@ -37,8 +37,8 @@ module _ {c : Cell} {left : ℕ} (D : Drawable c left) where
       go true e = e
       go false e = absurd (omega (arith, splits-by false e))
 
-  pub drawn-whole : left ≡ 0 → allWords (trianglesWith c 0) ≡ allWords (drawnTriangles c)
-  drawn-whole z = go (isSplit (countOf c)) refl
+  pub words-whole : left ≡ 0 → allWords (trianglesWith c 0) ≡ allWords (drawnTriangles c)
+  words-whole z = go (isSplit (countOf c)) refl
     where
       go : (s : Bool) → isSplit (countOf c) ≡ s → allWords (trianglesWith c 0) ≡ allWords (drawnTriangles c)
       go false e = ap allWords (with-all c ∙ sym (drawn-not c e))
@@ -47,7 +47,7 @@ module _ {c : Cell} {left : ℕ} (D : Drawable c left) where
           absurd (omega (arith, splits-by true e, figure-step (λ n. 0) (λ x y. 1) (larger (countOf c)) (smaller (countOf c)) (S .some) (S .more)))
 
   pub whole-room : (at : ℕ) {size : ℕ} → left ≡ 0 → at + length (allWords (drawnTriangles c)) ≤ size → at + length (allWords (trianglesWith c 0)) ≤ size
-  whole-room at z h = omega (arith, ap length (drawn-whole z), h)
+  whole-room at z h = omega (arith, ap length (words-whole z), h)
 
   module _ (h : 0 < left) where
     S : IsSplit (countOf c)
@@ -57,7 +57,7 @@ module _ {c : Cell} {left : ℕ} (D : Drawable c left) where
     unfolding allParts
     drawn-parts = ap allWords (drawn-is c (drawn-split h))
 
-    pub drawn-left : Left c (c .index) 0 firstInnerCrossing firstInnerFace left
+    pub drawn-left : SplitsLeft c (c .index) 0 firstInnerCrossing firstInnerFace left
     drawn-left =
         let F = figureLaws (larger (countOf c)) (smaller (countOf c)) (S .some) (omega (arith, S .more)) in
         let m = most-sum c (S .level) (S .some) (S .more) in

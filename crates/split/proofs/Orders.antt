@@ -7,30 +7,30 @@ use native.Mathlib.Omega.{arith}
 use lib.ListN.{getD}
 use Rattle.counting.specs.Range.{total}
 use Rattle.counting.proofs.Onto.{onto, total-onto}
+use Rattle.counting.proofs.Below.{below-four}
 use Rattle.cell.specs.Nodes.{Arranged}
 use Rattle.booking.specs.Booking.{leastCorner, cornerTriangles}
 use Rattle.booking.specs.Left.{pairSum, Longest}
 use Rattle.booking.proofs.Counts.{pairs, top-cases}
-use Rattle.split.proofs.Cases.{four}
 
 module _ {a b c d : ℕ} (A : Arranged a b c d) where
   abbrev at : ℕ → ℕ
   at n = getD (a ∷ b ∷ c ∷ d ∷ []) n 0
 
   pub at-lt : (n : ℕ) → n < 4 → at n < 4
-  at-lt = four (λ n. at n < 4) (A .a-lt) (A .b-lt) (A .c-lt) (A .d-lt)
+  at-lt = below-four (λ n. at n < 4) (A .a-lt) (A .b-lt) (A .c-lt) (A .d-lt)
 
   pub at-apart : (n m : ℕ) → n < m → m < 4 → at n ≢ at m
-  at-apart n m h l = four (λ m. n < m → at n ≢ at m) (λ h. absurd (omega arith)) (below-one n) (below-two n) (below-last n) m l h
+  at-apart n m h l = below-four (λ m. n < m → at n ≢ at m) (λ h. absurd (omega arith)) (below-one n) (below-two n) (below-last n) m l h
     where
       below-one : (n : ℕ) → n < 1 → at n ≢ b
-      below-one = λ n h. four (λ n. n < 1 → at n ≢ b) (λ h. A .ab) (λ h. absurd (omega arith)) (λ h. absurd (omega arith)) (λ h. absurd (omega arith)) n (omega arith) h
+      below-one = λ n h. below-four (λ n. n < 1 → at n ≢ b) (λ h. A .ab) (λ h. absurd (omega arith)) (λ h. absurd (omega arith)) (λ h. absurd (omega arith)) n (omega arith) h
 
       below-two : (n : ℕ) → n < 2 → at n ≢ c
-      below-two = λ n h. four (λ n. n < 2 → at n ≢ c) (λ h. A .ac) (λ h. A .bc) (λ h. absurd (omega arith)) (λ h. absurd (omega arith)) n (omega arith) h
+      below-two = λ n h. below-four (λ n. n < 2 → at n ≢ c) (λ h. A .ac) (λ h. A .bc) (λ h. absurd (omega arith)) (λ h. absurd (omega arith)) n (omega arith) h
 
       below-last : (n : ℕ) → n < 3 → at n ≢ d
-      below-last = λ n h. four (λ n. n < 3 → at n ≢ d) (λ h. A .ad) (λ h. A .bd) (λ h. A .cd) (λ h. absurd (omega arith)) n (omega arith) h
+      below-last = λ n h. below-four (λ n. n < 3 → at n ≢ d) (λ h. A .ad) (λ h. A .bd) (λ h. A .cd) (λ h. absurd (omega arith)) n (omega arith) h
 
   -- every position stands at a place
   pub place-of : (p : ℕ) → p < 4 → (n : ℕ) × (n < 4) × (at n ≡ p)

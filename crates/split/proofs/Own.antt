@@ -20,8 +20,8 @@ use Rattle.cell.specs.Triangles.{numberOf}
 use Rattle.cell.specs.Polygons.{localOf}
 use Rattle.cell.proofs.Lay.{lay}
 use Rattle.booking.specs.Booking.{leastCorner}
-use Rattle.split.specs.Shown.{Facet, num, Along, Shows, Any}
-use Rattle.split.specs.Five.{facet, Firm, Went, goes, cut}
+use Rattle.split.specs.Shown.{Facet, num, DartAlong, Shows, Any}
+use Rattle.split.specs.Five.{facet, Firm, Went, goes, ownPiece}
 use Rattle.split.proofs.Shows.{once, all-joined, piece, shows}
 use Rattle.split.proofs.Remain.{went-on}
 
@@ -33,7 +33,7 @@ module _ (c : Cell) (H : Firm c) where
   A = localOf c
 
   abbrev part : Local
-  part = cut c
+  part = ownPiece c
 
   abbrev own : ℕ → ℕ
   own = leastCorner (countOf c)
@@ -95,7 +95,7 @@ module _ (c : Cell) (H : Firm c) where
       ls : slotOf A d < 4
       ls = piece c H .slot d l
 
-      go : ((j : ℕ) × (t : ℕ) × (j′ : ℕ) × (t′ : ℕ) × Any (num (Φ (slotOf A d)) j t) × Along (Φ (slotOf A d)) A d j t j′ t′) → goes c (mateOf A d) ≡ true
+      go : ((j : ℕ) × (t : ℕ) × (j′ : ℕ) × (t′ : ℕ) × Any (num (Φ (slotOf A d)) j t) × DartAlong (Φ (slotOf A d)) A d j t j′ t′) → goes c (mateOf A d) ≡ true
       go (j, t, j′, t′, x, a) =
           true-gone (mateOf A d) (all-joined c H d l .joined)
           (subst (Went c) (sym (a .to-is)) (went-on c H (slotOf A d) j t j′ t′ ls (a .segment) (subst (Went c) (a .from-is) (gone-true (d / 2) (omega arith) h))))
@@ -148,5 +148,5 @@ module _ (c : Cell) (H : Firm c) where
       S : Shows (Φ s) A s Any
       S = shows c H s ls
 
-      onto : (d j t j′ t′ : ℕ) → Joins part d → goes c (d / 2) ≡ true → Along (Φ s) A d j t j′ t′ → Along (Φ s) part d j t j′ t′
+      onto : (d j t j′ t′ : ℕ) → Joins part d → goes c (d / 2) ≡ true → DartAlong (Φ s) A d j t j′ t′ → DartAlong (Φ s) part d j t j′ t′
       onto d j t j′ t′ on g a = record { on = on; segment = a .segment; from-is = a .from-is; to-is = ap (A .number) (part-mate d g) ∙ a .to-is }

@@ -8,9 +8,9 @@ use Rattle.walk.specs.Step.{face}
 use Rattle.walk.specs.Darts.{half}
 use Rattle.manifold.specs.Triangle.{seg}
 use Rattle.manifold.specs.Piece.{Local, Piece, slotOf, mateOf, lowerOf, segmentOf}
-use Rattle.manifold.specs.Complex.{Joins, SameEnds, Whole}
-use Rattle.split.specs.Family.{Runs, Meets, Shares, Linked, Outer, Covered, Refines}
-use Rattle.split.specs.Owned.{renamed}
+use Rattle.manifold.specs.Complex.{Joins, SameEnds, Whole, Shares}
+use Rattle.split.specs.Family.{HasSegment, Meets, PiecesLinked, Outer, Covered, Refines}
+use Rattle.split.specs.Owned.{renamedPiece}
 
 -- numbers that keep their order
 abbrev pub Rises : (ℕ → ℕ) → Type 0
@@ -32,7 +32,7 @@ two-of q = (cc, cc)
 
 module _ (r n : ℕ → ℕ) (up : Rises r) (apart : Rises n) where
   abbrev R : Local → Local
-  R = renamed r n
+  R = renamedPiece r n
 
   -- the same darts, slots and mates
   joins-to : (B : Local) (d : ℕ) → Joins B d → Joins (R B) d
@@ -63,7 +63,7 @@ module _ (r n : ℕ → ℕ) (up : Rises r) (apart : Rises n) where
   ends-to B C d e (inl (p, q)) = inl (ap r p, ap r q)
   ends-to B C d e (inr (p, q)) = inr (ap r p, ap r q)
 
-  runs-from : (B C : Local) (d : ℕ) → Runs (R C) (segmentOf (R B) d) → Runs C (segmentOf B d)
+  runs-from : (B C : Local) (d : ℕ) → HasSegment (R C) (segmentOf (R B) d) → HasSegment C (segmentOf B d)
   runs-from B C d u = record { d = u .d; on = joins-from C (u .d) (u .on); is = segment-once C B (u .d) d (u .is) }
 
   piece-to : (B : Local) → Piece B → Piece (R B)
@@ -112,7 +112,7 @@ module _ (r n : ℕ → ℕ) (up : Rises r) (apart : Rises n) where
         let l = on .lt in
         ap₂ seg (name-kept (slotOf A d) (P .slot d (on .lt))) (ap₂ min (number-kept (half d) (omega arith)) (number-kept (mateOf A d) (on .joined)))
 
-    runs-a : (C : Local) (d : ℕ) → Joins A d → Runs (R C) (segmentOf A d) → Runs C (segmentOf A d)
+    runs-a : (C : Local) (d : ℕ) → Joins A d → HasSegment (R C) (segmentOf A d) → HasSegment C (segmentOf A d)
     runs-a C d on u = runs-from A C d (record { d = u .d; on = u .on; is = u .is ∙ sym (kept d on) })
 
     ends-a : (C : Local) (e d : ℕ) → Joins A d → SameEnds C e A d → SameEnds (R C) e A d
@@ -154,7 +154,7 @@ module _ (r n : ℕ → ℕ) (up : Rises r) (apart : Rises n) where
         (λ (p : Point x). inr (x, p, q))
         (F .points j x l u)
 
-    linked : (g : ℕ) → Linked (record { size = m; at = λ j. R (B j) }) g
+    linked : (g : ℕ) → PiecesLinked (record { size = m; at = λ j. R (B j) }) g
     linked g Q pass a b la lb u v =
         let (x, s, p) = meets-from (B a) g u in
         let (y, t, q) = meets-from (B b) g v in

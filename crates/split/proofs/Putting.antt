@@ -7,6 +7,7 @@ use native.Mathlib.Omega.{arith}
 use lib.ListN.{length, length-append}
 use Rattle.counting.specs.Stored.{storedIn, nextIn, Stored}
 use Rattle.counting.proofs.Stored.{stored-long, stored-as, stored-then, stored-room}
+use Rattle.counting.proofs.Below.{below-four}
 use Rattle.cell.specs.declared.Cell.{Cell}
 use Rattle.cell.specs.Of.{countOf, limited}
 use Rattle.cell.specs.Level.{isLevelCell}
@@ -18,8 +19,7 @@ use Rattle.split.specs.declared.Spiral.{Spiral}
 use Rattle.split.specs.Limits.{wordStep}
 use Rattle.split.specs.SubCell.{sub}
 use Rattle.split.specs.Parts.{splitsWithin}
-use Rattle.split.specs.Working.{StartsNear, LevelSix, Working, Left, partsWords, startWords, endWords}
-use Rattle.split.proofs.Cases.{four}
+use Rattle.split.specs.Working.{StartsNear, LevelSix, Working, SplitsLeft, partsWords, startWords, endWords}
 use Rattle.split.proofs.Labels.{spiral-is}
 use Rattle.split.proofs.SubNumbers.{subCells}
 use Rattle.split.proofs.Worded.{words-stop, words-more}
@@ -46,7 +46,7 @@ module _ {c : Cell} {s : Spiral} {cell n b f : ℕ} (W : Working c s cell n b f)
       let (some, apart) = spiral-is (countOf c) (W .is .spiral) in
       let N = subCells c (W .is .sound .level) some apart b f word in
       sub-sound c (W .is .sound .level) (W .is .spiral) b f (W .below) (W .b-few) word m lm
-      (four (λ m. isLevelCell (countOf (sub c b f word m)) ≡ true) (N .omits-i .level) (N .omits-j .level) (N .omits-k .level) (N .omits-l .level) m lm)
+      (below-four (λ m. isLevelCell (countOf (sub c b f word m)) ≡ true) (N .omits-i .level) (N .omits-j .level) (N .omits-k .level) (N .omits-l .level) m lm)
 
   sub-put : (k m : ℕ) {v : Cell} {word : ℕ} → m < 4 → v ≡ sub c b f word m → word ≡ cell + wordStep * k → LevelSix v
   sub-put k m {v} lm e g = subst LevelSix (sym (e ∙ ap (λ w. sub c b f w m) g)) (working-sub (cell + wordStep * k) m lm)
@@ -114,7 +114,7 @@ pub working-at : {c : Cell} {s : Spiral} {cell n b f : ℕ} → Working c s cell
 working-at W m h = record { is = W .is; below = W .below; cell-lt = W .cell-lt; n-few = h; b-few = W .b-few; f-few = W .f-few }
 
 -- where there is no split
-module _ {c : Cell} {cell n b f left : ℕ} (L : Left c cell n b f left) where
+module _ {c : Cell} {cell n b f left : ℕ} (L : SplitsLeft c cell n b f left) where
   pub none-left : left ≡ 0 → partsWords (larger (countOf c) + smaller (countOf c)) cell n b f c ≡ allWords (trianglesWith c 0)
   none-left z = words-stop (larger (countOf c) + smaller (countOf c)) cell n b f c (left-none L z)
 
@@ -126,7 +126,7 @@ module _ {c : Cell} {cell n b f left : ℕ} (L : Left c cell n b f left) where
     is : v ≡ sub c b f (cell + wordStep * (n + 2)) 2
     is = e ∙ ap (λ w. sub c b f w 2) g
 
-    pub inner-left : Left v cell (n + 2) b′ (f + 6) (left - 1)
+    pub inner-left : SplitsLeft v cell (n + 2) b′ (f + 6) (left - 1)
     inner-left = rw (is, k) (left-next L h)
 
     pub inner-less : larger (countOf v) + smaller (countOf v) < larger (countOf c) + smaller (countOf c)

@@ -12,7 +12,7 @@ use Rattle.face.proofs.Shift.{back}
 use Rattle.cell.specs.declared.Cell.{Cell}
 use Rattle.cell.specs.Of.{countOf, startOf}
 use Rattle.booking.specs.Booking.{leastCorner}
-use Rattle.split.specs.Shown.{Facet, num, Segment, On}
+use Rattle.split.specs.Shown.{Facet, num, Segment, OnFace}
 use Rattle.split.specs.Five.{nameOf, facet, Firm, Went, Stays}
 use Rattle.split.proofs.Facets.{seg-on, turned}
 use Rattle.split.proofs.Rest.{count-at, off}
@@ -47,10 +47,10 @@ module _ (c : Cell) (H : Firm c) where
   }
 
   -- a crossing of an outer face
-  edge-lt : (s j t : ℕ) → s < 4 → On (Φ s) j t → slotEdge s j < 6
+  edge-lt : (s j t : ℕ) → s < 4 → OnFace (Φ s) j t → slotEdge s j < 6
   edge-lt s j t ls o = slot-edge s j ls (o .edge) .lt
 
-  pub stays-is : (s j t : ℕ) → s < 4 → On (Φ s) j t → Stays c (num (Φ s) j t) → (own (lo (slotEdge s j)) ≤ t) × (t + own (hi (slotEdge s j)) < w (slotEdge s j))
+  pub stays-is : (s j t : ℕ) → s < 4 → OnFace (Φ s) j t → Stays c (num (Φ s) j t) → (own (lo (slotEdge s j)) ≤ t) × (t + own (hi (slotEdge s j)) < w (slotEdge s j))
   stays-is s j t ls o g =
       let (x, y) = once c H (g .k) (g .t) (slotEdge s j) t (g .k-lt) (omega (arith, g .high)) (edge-lt s j t ls o) (o .index) (sym (g .is)) in
       let a = ap (λ k. own (lo k)) x in
@@ -58,26 +58,26 @@ module _ (c : Cell) (H : Firm c) where
       let n = ap w x in
       (omega (arith, g .low, a, y), omega (arith, g .high, b, n, y))
 
-  pub went-at : (s j t : ℕ) → s < 4 → On (Φ s) j t → (t < own (lo (slotEdge s j))) ⊎ (w (slotEdge s j) ≤ t + own (hi (slotEdge s j))) → Went c (num (Φ s) j t)
+  pub went-at : (s j t : ℕ) → s < 4 → OnFace (Φ s) j t → (t < own (lo (slotEdge s j))) ⊎ (w (slotEdge s j) ≤ t + own (hi (slotEdge s j))) → Went c (num (Φ s) j t)
   went-at s j t ls o g = record { k = slotEdge s j; t = t; k-lt = edge-lt s j t ls o; t-lt = o .index; gone = g; is = refl }
 
-  pub stays-at : (s j t : ℕ) → s < 4 → On (Φ s) j t → own (lo (slotEdge s j)) ≤ t → t + own (hi (slotEdge s j)) < w (slotEdge s j) → Stays c (num (Φ s) j t)
+  pub stays-at : (s j t : ℕ) → s < 4 → OnFace (Φ s) j t → own (lo (slotEdge s j)) ≤ t → t + own (hi (slotEdge s j)) < w (slotEdge s j) → Stays c (num (Φ s) j t)
   stays-at s j t ls o a b = record { k = slotEdge s j; t = t; k-lt = edge-lt s j t ls o; low = a; high = b; is = refl }
 
   -- in the words of the shift law
   abbrev pub Rem : ℕ → ℕ → ℕ → Type 0
   Rem s j t = Remains (w (slotEdge s 0)) (w (slotEdge s 1)) (w (slotEdge s 2)) (goesAt s) j t
 
-  pub stays-rem : (s j t : ℕ) → s < 4 → On (Φ s) j t → Stays c (num (Φ s) j t) → Rem s j t
+  pub stays-rem : (s j t : ℕ) → s < 4 → OnFace (Φ s) j t → Stays c (num (Φ s) j t) → Rem s j t
   stays-rem s j t ls o g =
       let (a, b) = stays-is s j t ls o g in
       record { low = omega (arith, at-low s j ls (o .edge)); high = omega (arith, b, at-high s j ls (o .edge), count-at (countOf c) (H .level) s j (o .edge)) }
 
-  rem-stays : (s j t : ℕ) → s < 4 → On (Φ s) j t → Rem s j t → Stays c (num (Φ s) j t)
+  rem-stays : (s j t : ℕ) → s < 4 → OnFace (Φ s) j t → Rem s j t → Stays c (num (Φ s) j t)
   rem-stays s j t ls o r =
       stays-at s j t ls o (omega (arith, r .low, at-low s j ls (o .edge))) (omega (arith, r .high, at-high s j ls (o .edge), count-at (countOf c) (H .level) s j (o .edge)))
 
-  pub either : (s j t : ℕ) → s < 4 → On (Φ s) j t → Went c (num (Φ s) j t) ⊎ Stays c (num (Φ s) j t)
+  pub either : (s j t : ℕ) → s < 4 → OnFace (Φ s) j t → Went c (num (Φ s) j t) ⊎ Stays c (num (Φ s) j t)
   either s j t ls o =
       elim (decLt t (own (lo (slotEdge s j)))) [
         | yes h ↦ inl (went-at s j t ls o (inl h))

@@ -5,7 +5,7 @@ use mathlib.Core.Bool.{true}
 use native.Mathlib.Omega.{arith}
 use lib.ListN.{getD}
 use Rattle.counting.specs.Search.{seek, first}
-use Rattle.counting.proofs.Below.{below-three}
+use Rattle.counting.proofs.Below.{below-three, below-four}
 use Rattle.slots.specs.Slots.{lo, hi, position, lower, upper, edgeBetween, slotEdge}
 use Rattle.slots.specs.Limits.{mostCount}
 use Rattle.slots.proofs.Slots.{slot-edge, first-slot}
@@ -24,7 +24,6 @@ use Rattle.cell.proofs.Levels.{slot-level}
 use Rattle.booking.specs.Booking.{cornerOn, leastCorner, leftBetween}
 use Rattle.booking.proofs.Counts.{fits}
 use Rattle.split.specs.SubCell.{restOf, restCount}
-use Rattle.split.proofs.Cases.{four}
 
 module _ (w : ℕ → ℕ) (K : isLevelCell w ≡ true) where
   pub rest-sum : (e : ℕ) → e < 6 → restOf w e + leastCorner w (lo e) + leastCorner w (hi e) ≡ w e
@@ -37,7 +36,7 @@ module _ (w : ℕ → ℕ) (K : isLevelCell w ≡ true) where
   own-le : (s v : ℕ) → s < 4 → v < 3 → leastCorner w (position s v) ≤ getD (face.corners (w (slotEdge s 0)) (w (slotEdge s 1)) (w (slotEdge s 2))) v 0
   unfolding leastCorner cornerOn cornerFrom joining slotEdge edgeBetween first seek position lower upper lo hi
   own-le s v ls lv =
-      four (λ s. (v : ℕ) → v < 3 → leastCorner w (position s v) ≤ getD (face.corners (w (slotEdge s 0)) (w (slotEdge s 1)) (w (slotEdge s 2))) v 0)
+      below-four (λ s. (v : ℕ) → v < 3 → leastCorner w (position s v) ≤ getD (face.corners (w (slotEdge s 0)) (w (slotEdge s 1)) (w (slotEdge s 2))) v 0)
       (below-three (λ v. leastCorner w (position 0 v) ≤ getD (face.corners (w 3) (w 4) (w 5)) v 0) (omega arith) (omega arith) (omega arith))
       (below-three (λ v. leastCorner w (position 1 v) ≤ getD (face.corners (w 1) (w 2) (w 5)) v 0) (omega arith) (omega arith) (omega arith))
       (below-three (λ v. leastCorner w (position 2 v) ≤ getD (face.corners (w 0) (w 2) (w 4)) v 0) (omega arith) (omega arith) (omega arith))

@@ -8,9 +8,9 @@ use Rattle.slots.specs.Slots.{lo, hi, slotEdge}
 use Rattle.slots.proofs.Slots.{slot-edge, two-slots}
 use Rattle.walk.specs.Darts.{half}
 use Rattle.manifold.specs.Piece.{Local, Piece, slotOf, lowerOf, segmentOf}
-use Rattle.manifold.specs.Complex.{Joins, SameEnds, Whole}
-use Rattle.split.specs.Family.{Runs, Meets, Shares, Linked, Outer, Covered, Refines}
-use Rattle.split.specs.Shown.{Facet, num, Segment, On, Along, Any, Split, InnerFace, InnerPoint, five, Order}
+use Rattle.manifold.specs.Complex.{Joins, SameEnds, Whole, Shares}
+use Rattle.split.specs.Family.{HasSegment, Meets, PiecesLinked, Outer, Covered, Refines}
+use Rattle.split.specs.Shown.{Facet, num, Segment, OnFace, DartAlong, Any, Split, InnerFace, InnerPoint, five, Order}
 use Rattle.split.proofs.Facets.{same-name, same-lower, seg-on, two-ends, some, meet, alike}
 use Rattle.split.proofs.Sits.{Sits, sits-at, not-three, another, end-not, meets-at}
 
@@ -29,7 +29,7 @@ module _ (A own : Local) (sub : ℕ → Local) (Φ Ψ : ℕ → Facet) (arm long
   sub-slot M lM d j = subst (λ n. slotOf (sub M) d < n) (Z .sub-slots M lM) (Z .sub-piece M lM .slot d (j .lt))
 
   -- a segment of an outer face, shown by P, is one of A's
-  outer-of : (s : ℕ) → s < 4 → (P : Local) (e j t j′ t′ : ℕ) → P .name (slotOf P e) ≡ Φ s .name → Along (Φ s) P e j t j′ t′ → Outer A P e
+  outer-of : (s : ℕ) → s < 4 → (P : Local) (e j t j′ t′ : ℕ) → P .name (slotOf P e) ≡ Φ s .name → DartAlong (Φ s) P e j t j′ t′ → Outer A P e
   outer-of s ls P e j t j′ t′ named a =
       let (d, sd, b) = Z .shows s ls .from j t j′ t′ tt (a .segment) in
       record {
@@ -53,11 +53,11 @@ module _ (A own : Local) (sub : ℕ → Local) (Φ Ψ : ℕ → Facet) (arm long
 
   -- a segment of A that P has too, of the crossings T: so the ends are T
   keep : (s : ℕ) → s < 4 → (T : ℕ → Type 0) → ((j t j′ t′ : ℕ) → Segment (Φ s) j t j′ t′ → T (num (Φ s) j t) → T (num (Φ s) j′ t′))
-      → (P : Local) (e d : ℕ) → ((j : ℕ) × (t : ℕ) × (j′ : ℕ) × (t′ : ℕ) × T (num (Φ s) j t) × Along (Φ s) P e j t j′ t′) → Joins A d → slotOf A d ≡ s
+      → (P : Local) (e d : ℕ) → ((j : ℕ) × (t : ℕ) × (j′ : ℕ) × (t′ : ℕ) × T (num (Φ s) j t) × DartAlong (Φ s) P e j t j′ t′) → Joins A d → slotOf A d ≡ s
       → lowerOf P e ≡ lowerOf A d → T (A .number (half d))
   keep s ls T next P e d (j, t, j′, t′, w, a) on sd low = last (Z .shows s ls .to d on sd)
     where
-      last : ((u : ℕ) × (v : ℕ) × (u′ : ℕ) × (v′ : ℕ) × Any (num (Φ s) u v) × Along (Φ s) A d u v u′ v′) → T (A .number (half d))
+      last : ((u : ℕ) × (v : ℕ) × (u′ : ℕ) × (v′ : ℕ) × Any (num (Φ s) u v) × DartAlong (Φ s) A d u v u′ v′) → T (A .number (half d))
       last (u, v, u′, v′, z, b) =
           go (two-ends (Φ s) (Z .outer s ls) j t j′ t′ u v u′ v′ (a .segment) (b .segment) (sym (ap₂ min (a .from-is) (a .to-is)) ∙ low ∙ ap₂ min (b .from-is) (b .to-is)))
         where
@@ -66,7 +66,7 @@ module _ (A own : Local) (sub : ℕ → Local) (Φ Ψ : ℕ → Facet) (arm long
           go (inl (x, y)) = subst T (x ∙ sym (b .from-is)) w
           go (inr (x, y)) = subst T (y ∙ sym (b .from-is)) (next j t j′ t′ (a .segment) w)
 
-  own-went : (d : ℕ) → Joins A d → Runs own (segmentOf A d) → Went (A .number (half d))
+  own-went : (d : ℕ) → Joins A d → HasSegment own (segmentOf A d) → Went (A .number (half d))
   own-went d on r =
       let ls = slot-lt d on in
       let lr = own-slot (r .d) (r .on) in
@@ -89,7 +89,7 @@ module _ (A own : Local) (sub : ℕ → Local) (Φ Ψ : ℕ → Facet) (arm long
   inner-name : (M i : ℕ) → M < 4 → i < 3 → (d : ℕ) → slotOf (sub M) d ≡ 3 - i → sub M .name (slotOf (sub M) d) ≡ Ψ (slotEdge M i) .name
   inner-name M i lM li d z = ap (sub M .name) z ∙ Z .inner-shows M i lM li .named
 
-  sub-stays : (M : ℕ) → M < 4 → (d : ℕ) → Joins A d → Runs (sub M) (segmentOf A d) → (M ≡ slotOf A d) × Stays (A .number (half d))
+  sub-stays : (M : ℕ) → M < 4 → (d : ℕ) → Joins A d → HasSegment (sub M) (segmentOf A d) → (M ≡ slotOf A d) × Stays (A .number (half d))
   sub-stays M lM d on r = go (slot-is M lM (r .d) (r .on))
     where
       named : sub M .name (slotOf (sub M) (r .d)) ≡ Φ (slotOf A d) .name
@@ -115,7 +115,7 @@ module _ (A own : Local) (sub : ℕ → Local) (Φ Ψ : ℕ → Facet) (arm long
       named : A .name (slotOf A d) ≡ Φ (om q) .name
       named = ap (A .name) sd ∙ Z .shows (om q) lM .named
 
-      go : ((j : ℕ) × (t : ℕ) × (j′ : ℕ) × (t′ : ℕ) × Any (num (Φ (om q)) j t) × Along (Φ (om q)) A d j t j′ t′) → Covered A 5 B d
+      go : ((j : ℕ) × (t : ℕ) × (j′ : ℕ) × (t′ : ℕ) × Any (num (Φ (om q)) j t) × DartAlong (Φ (om q)) A d j t j′ t′) → Covered A 5 B d
       go (j, t, j′, t′, z, a) = part (Z .either (om q) j t lM (seg-on (Φ (om q)) j t j′ t′ (a .segment)))
         where
           part : Went (num (Φ (om q)) j t) ⊎ Stays (num (Φ (om q)) j t) → Covered A 5 B d
@@ -143,7 +143,7 @@ module _ (A own : Local) (sub : ℕ → Local) (Φ Ψ : ℕ → Facet) (arm long
   cover : (d : ℕ) → Joins A d → Covered A 5 B d
   cover d on = let (q, lq, e) = O .back (slotOf A d) (slot-lt d on) in cover-at q lq d on (sym e)
 
-  once : (j k d : ℕ) → j < 5 → k < 5 → j ≢ k → Joins A d → Runs (B j) (segmentOf A d) → Runs (B k) (segmentOf A d) → ⊥
+  once : (j k d : ℕ) → j < 5 → k < 5 → j ≢ k → Joins A d → HasSegment (B j) (segmentOf A d) → HasSegment (B k) (segmentOf A d) → ⊥
   once zero zero d lj lk ne on r s = ne refl
   once zero (suc q) d lj lk ne on r s = Z .never (A .number (half d)) (own-went d on r) (sub-stays (om q) (O .lt q (omega arith)) d on s .1)
   once (suc q) zero d lj lk ne on r s = Z .never (A .number (half d)) (own-went d on s) (sub-stays (om q) (O .lt q (omega arith)) d on r .1)
@@ -154,7 +154,7 @@ module _ (A own : Local) (sub : ℕ → Local) (Φ Ψ : ℕ → Facet) (arm long
   pub record InnerAt (M d e : ℕ) : Type 0 where
     pub i : ℕ
     pub sits : Sits M i e
-    pub along : (j : ℕ) × (t : ℕ) × (j′ : ℕ) × (t′ : ℕ) × Any (num (Ψ e) j t) × Along (Ψ e) (sub M) d j t j′ t′
+    pub along : (j : ℕ) × (t : ℕ) × (j′ : ℕ) × (t′ : ℕ) × Any (num (Ψ e) j t) × DartAlong (Ψ e) (sub M) d j t j′ t′
 
   inner-at : (M : ℕ) → M < 4 → (d e : ℕ) → Joins (sub M) d → e < 6 → sub M .name (slotOf (sub M) d) ≡ Ψ e .name → InnerAt M d e
   inner-at M lM d e on le named = go (slot-is M lM d on)
@@ -166,13 +166,13 @@ module _ (A own : Local) (sub : ℕ → Local) (Φ Ψ : ℕ → Facet) (arm long
           record {
             i = i;
             sits = record { M-lt = lM; i-lt = li; e-lt = le; is = q };
-            along = subst (λ e. (j : ℕ) × (t : ℕ) × (j′ : ℕ) × (t′ : ℕ) × Any (num (Ψ e) j t) × Along (Ψ e) (sub M) d j t j′ t′) q (Z .inner-shows M i lM li .to d on z);
+            along = subst (λ e. (j : ℕ) × (t : ℕ) × (j′ : ℕ) × (t′ : ℕ) × Any (num (Ψ e) j t) × DartAlong (Ψ e) (sub M) d j t j′ t′) q (Z .inner-shows M i lM li .to d on z);
           }
 
   -- the inner face over e, shown by the sub-cell M
-  inner-from : (M i e : ℕ) → Sits M i e → (j t j′ t′ : ℕ) → Segment (Ψ e) j t j′ t′ → (d : ℕ) × (sub M .name (slotOf (sub M) d) ≡ Ψ e .name) × Along (Ψ e) (sub M) d j t j′ t′
+  inner-from : (M i e : ℕ) → Sits M i e → (j t j′ t′ : ℕ) → Segment (Ψ e) j t j′ t′ → (d : ℕ) × (sub M .name (slotOf (sub M) d) ≡ Ψ e .name) × DartAlong (Ψ e) (sub M) d j t j′ t′
   inner-from M i e h j t j′ t′ =
-      subst (λ e. Segment (Ψ e) j t j′ t′ → (d : ℕ) × (sub M .name (slotOf (sub M) d) ≡ Ψ e .name) × Along (Ψ e) (sub M) d j t j′ t′) (h .is)
+      subst (λ e. Segment (Ψ e) j t j′ t′ → (d : ℕ) × (sub M .name (slotOf (sub M) d) ≡ Ψ e .name) × DartAlong (Ψ e) (sub M) d j t j′ t′) (h .is)
       (λ s. let (d, z, a) = Z .inner-shows M i (h .M-lt) (h .i-lt) .from j t j′ t′ tt s in (d, inner-name M i (h .M-lt) (h .i-lt) d z, a))
 
   -- the first part has no inner face
@@ -199,7 +199,7 @@ module _ (A own : Local) (sub : ℕ → Local) (Φ Ψ : ℕ → Facet) (arm long
   part-at zero d e lk on le named = absurd (own-not d e on le named)
   part-at (suc q) d e lk on le named = record { q = q; lt = omega arith; is = refl; at = inner-at (om q) (O .lt q (omega arith)) d e on le named }
 
-  inner-few : (j k l d : ℕ) → j < 5 → k < 5 → l < 5 → Joins (B j) d → InnerFace Ψ (B j .name (slotOf (B j) d)) → Runs (B k) (segmentOf (B j) d) → Runs (B l) (segmentOf (B j) d)
+  inner-few : (j k l d : ℕ) → j < 5 → k < 5 → l < 5 → Joins (B j) d → InnerFace Ψ (B j .name (slotOf (B j) d)) → HasSegment (B k) (segmentOf (B j) d) → HasSegment (B l) (segmentOf (B j) d)
       → j ≢ k → j ≢ l → k ≢ l → ⊥
   inner-few j k l d lj lk ll on f r s x y z =
       let e = f .e in
@@ -218,23 +218,23 @@ module _ (A own : Local) (sub : ℕ → Local) (Φ Ψ : ℕ → Facet) (arm long
       go (inner-at (om p) (O .lt p (omega arith)) d (f .e) jd (f .lt) (f .is) .along)
       (inner-at (om r) (O .lt r (omega arith)) e (f .e) je (f .lt) (sym (same-name (sub (om p)) d (sub (om r)) e q) ∙ f .is) .along)
     where
-      go : ((j : ℕ) × (t : ℕ) × (j′ : ℕ) × (t′ : ℕ) × Any (num (Ψ (f .e)) j t) × Along (Ψ (f .e)) (sub (om p)) d j t j′ t′)
-          → ((j : ℕ) × (t : ℕ) × (j′ : ℕ) × (t′ : ℕ) × Any (num (Ψ (f .e)) j t) × Along (Ψ (f .e)) (sub (om r)) e j t j′ t′) → SameEnds (sub (om p)) d (sub (om r)) e
+      go : ((j : ℕ) × (t : ℕ) × (j′ : ℕ) × (t′ : ℕ) × Any (num (Ψ (f .e)) j t) × DartAlong (Ψ (f .e)) (sub (om p)) d j t j′ t′)
+          → ((j : ℕ) × (t : ℕ) × (j′ : ℕ) × (t′ : ℕ) × Any (num (Ψ (f .e)) j t) × DartAlong (Ψ (f .e)) (sub (om r)) e j t j′ t′) → SameEnds (sub (om p)) d (sub (om r)) e
       go (j, t, j′, t′, x, a) (u, v, u′, v′, y, b) =
           meet (Ψ (f .e)) (Z .inner (f .e) (f .lt)) (sub (om p)) d (sub (om r)) e j t j′ t′ u v u′ v′ a b (same-lower (sub (om p)) d (sub (om r)) e q)
 
-  inner-paired : (j d : ℕ) → j < 5 → Joins (B j) d → InnerFace Ψ (B j .name (slotOf (B j) d)) → (k : ℕ) × (k < 5) × (k ≢ j) × Runs (B k) (segmentOf (B j) d)
+  inner-paired : (j d : ℕ) → j < 5 → Joins (B j) d → InnerFace Ψ (B j .name (slotOf (B j) d)) → (k : ℕ) × (k < 5) × (k ≢ j) × HasSegment (B k) (segmentOf (B j) d)
   inner-paired zero d lj on f = absurd (own-not d (f .e) on (f .lt) (f .is))
   inner-paired (suc q) d lj on f = go (inner-at (om q) (O .lt q (omega arith)) d (f .e) on (f .lt) (f .is))
     where
-      go : InnerAt (om q) d (f .e) → (k : ℕ) × (k < 5) × (k ≢ suc q) × Runs (B k) (segmentOf (sub (om q)) d)
+      go : InnerAt (om q) d (f .e) → (k : ℕ) × (k < 5) × (k ≢ suc q) × HasSegment (B k) (segmentOf (sub (om q)) d)
       go a = next (a .along) (another (a .sits))
         where
-          next : ((j : ℕ) × (t : ℕ) × (j′ : ℕ) × (t′ : ℕ) × Any (num (Ψ (f .e)) j t) × Along (Ψ (f .e)) (sub (om q)) d j t j′ t′)
-              → ((N : ℕ) × (N ≢ om q) × (i : ℕ) × Sits N i (f .e)) → (k : ℕ) × (k < 5) × (k ≢ suc q) × Runs (B k) (segmentOf (sub (om q)) d)
+          next : ((j : ℕ) × (t : ℕ) × (j′ : ℕ) × (t′ : ℕ) × Any (num (Ψ (f .e)) j t) × DartAlong (Ψ (f .e)) (sub (om q)) d j t j′ t′)
+              → ((N : ℕ) × (N ≢ om q) × (i : ℕ) × Sits N i (f .e)) → (k : ℕ) × (k < 5) × (k ≢ suc q) × HasSegment (B k) (segmentOf (sub (om q)) d)
           next (j, t, j′, t′, x, b) (N, ne, i, h) = last (O .back N (h .M-lt))
             where
-              last : ((p : ℕ) × (p < 4) × (om p ≡ N)) → (k : ℕ) × (k < 5) × (k ≢ suc q) × Runs (B k) (segmentOf (sub (om q)) d)
+              last : ((p : ℕ) × (p < 4) × (om p ≡ N)) → (k : ℕ) × (k < 5) × (k ≢ suc q) × HasSegment (B k) (segmentOf (sub (om q)) d)
               last (p, lp, ep) =
                   let (e, named, c) = inner-from (om p) i (f .e) (subst (λ N. Sits N i (f .e)) (sym ep) h) j t j′ t′ (b .segment) in
                   (suc p, omega arith, (λ z. ne (sym ep ∙ ap om (omega arith))), record { d = e; on = c .on; is = alike (Ψ (f .e)) (sub (om p)) e (sub (om q)) d j t j′ t′ named (f .is) c b })
@@ -244,7 +244,7 @@ module _ (A own : Local) (sub : ℕ → Local) (Φ Ψ : ℕ → Facet) (arm long
     on-edge : (i v : ℕ) → i < 3 → v < Ψ (slotEdge M i) .size 2 → g ≡ num (Ψ (slotEdge M i)) 2 v → Spot M g
     on-arm : (a v : ℕ) → a < 4 → a ≢ M → v < long a → g ≡ arm a + v → Spot M g
 
-  arm-spot : (M i g j t : ℕ) → Sits M i (slotEdge M i) → On (Ψ (slotEdge M i)) j t → g ≡ num (Ψ (slotEdge M i)) j t → Spot M g
+  arm-spot : (M i g j t : ℕ) → Sits M i (slotEdge M i) → OnFace (Ψ (slotEdge M i)) j t → g ≡ num (Ψ (slotEdge M i)) j t → Spot M g
   arm-spot M i g zero t h o q =
       let e = slotEdge M i in
       let (a, b) = Z .arm-lo (slotEdge M i) (h .e-lt) in
@@ -262,19 +262,19 @@ module _ (A own : Local) (sub : ℕ → Local) (Φ Ψ : ℕ → Facet) (arm long
       go : (slotOf (sub M) (m .d) ≡ 0) ⊎ ((i : ℕ) × (i < 3) × (slotOf (sub M) (m .d) ≡ 3 - i)) → Spot M g
       go (inl z) = rest (Z .rest-shows M lM .to (m .d) (m .on) z)
         where
-          rest : ((j : ℕ) × (t : ℕ) × (j′ : ℕ) × (t′ : ℕ) × Stays (num (Φ M) j t) × Along (Φ M) (sub M) (m .d) j t j′ t′) → Spot M g
+          rest : ((j : ℕ) × (t : ℕ) × (j′ : ℕ) × (t′ : ℕ) × Stays (num (Φ M) j t) × DartAlong (Φ M) (sub M) (m .d) j t j′ t′) → Spot M g
           rest (j, t, j′, t′, w, a) =
               let o = seg-on (Φ M) j t j′ t′ (a .segment) in
               let (v, lv, q) = Z .up M j t lM o w in
               on-edge j v (o .edge) lv (sym (m .is) ∙ a .from-is ∙ q)
       go (inr (i, li, z)) = face (Z .inner-shows M i lM li .to (m .d) (m .on) z)
         where
-          face : ((j : ℕ) × (t : ℕ) × (j′ : ℕ) × (t′ : ℕ) × Any (num (Ψ (slotEdge M i)) j t) × Along (Ψ (slotEdge M i)) (sub M) (m .d) j t j′ t′) → Spot M g
+          face : ((j : ℕ) × (t : ℕ) × (j′ : ℕ) × (t′ : ℕ) × Any (num (Ψ (slotEdge M i)) j t) × DartAlong (Ψ (slotEdge M i)) (sub M) (m .d) j t j′ t′) → Spot M g
           face (j, t, j′, t′, w, a) =
               arm-spot M i g j t (sits-at M i lM li) (seg-on (Ψ (slotEdge M i)) j t j′ t′ (a .segment)) (sym (m .is) ∙ a .from-is)
 
   -- a crossing of an outer face is one of A's
-  outer-meets : (s j t : ℕ) → s < 4 → On (Φ s) j t → Meets A (num (Φ s) j t)
+  outer-meets : (s j t : ℕ) → s < 4 → OnFace (Φ s) j t → Meets A (num (Φ s) j t)
   outer-meets s j t ls o =
       let (j′, t′, z) = some (Φ s) (Z .outer s ls) j t o in
       let (d, sd, a) = Z .shows s ls .from j t j′ t′ tt z in
@@ -286,7 +286,7 @@ module _ (A own : Local) (sub : ℕ → Local) (Φ Ψ : ℕ → Facet) (arm long
       s : ℕ
       s = slotOf own (m .d)
 
-      go : ((j : ℕ) × (t : ℕ) × (j′ : ℕ) × (t′ : ℕ) × Went (num (Φ s) j t) × Along (Φ s) own (m .d) j t j′ t′) → Meets A g × Went g
+      go : ((j : ℕ) × (t : ℕ) × (j′ : ℕ) × (t′ : ℕ) × Went (num (Φ s) j t) × DartAlong (Φ s) own (m .d) j t j′ t′) → Meets A g × Went g
       go (j, t, j′, t′, w, a) =
           let q : num (Φ s) j t ≡ g = sym (a .from-is) ∙ m .is in
           (subst (Meets A) q (outer-meets s j t (own-slot (m .d) (m .on)) (seg-on (Φ s) j t j′ t′ (a .segment))), subst Went q w)
@@ -302,7 +302,7 @@ module _ (A own : Local) (sub : ℕ → Local) (Φ Ψ : ℕ → Facet) (arm long
       go (on-arm a v la ne lv p) = inr (record { a = a; v = v; lt = la; v-lt = lv; is = p })
 
   -- two sub-cells with the edge e share a segment at each crossing of the inner face over it
-  share : (M N i k e j t g : ℕ) → Sits M i e → Sits N k e → On (Ψ e) j t → g ≡ num (Ψ e) j t → Shares (sub M) (sub N) g
+  share : (M N i k e j t g : ℕ) → Sits M i e → Sits N k e → OnFace (Ψ e) j t → g ≡ num (Ψ e) j t → Shares (sub M) (sub N) g
   share M N i k e j t g h l o q = go (some (Ψ e) (Z .inner e (h .e-lt)) j t o)
     where
       go : ((j′ : ℕ) × (t′ : ℕ) × Segment (Ψ e) j t j′ t′) → Shares (sub M) (sub N) g
@@ -346,7 +346,7 @@ module _ (A own : Local) (sub : ℕ → Local) (Φ Ψ : ℕ → Facet) (arm long
                   share M N i k e 1 v g h l (record { edge = omega arith; index = omega (arith, lv, c, ap long z) }) (p ∙ ap (λ n. n + v) (ap arm (sym z) ∙ sym s)))
                   (at a la am an)
 
-  linked : (g : ℕ) → Linked (record { size = 5; at = B }) g
+  linked : (g : ℕ) → PiecesLinked (record { size = 5; at = B }) g
   linked g Q pass zero zero la lb m n q = q
   linked g Q pass zero (suc r) la lb m n q = absurd (sub-stays-at (om r) g (O .lt r (omega arith)) n (own-meets g m .1))
   linked g Q pass (suc r) zero la lb m n q = absurd (sub-stays-at (om r) g (O .lt r (omega arith)) m (own-meets g n .1))

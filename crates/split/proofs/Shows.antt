@@ -21,7 +21,7 @@ use Rattle.cell.proofs.Levels.{slot-level}
 use Rattle.cell.proofs.Mates as mates
 use Rattle.cell.proofs.Mates.{slot-has}
 use Rattle.cell.proofs.Polygons as polygons
-use Rattle.split.specs.Shown.{Facet, num, Segment, On, Plain, Along, Shows, Any}
+use Rattle.split.specs.Shown.{Facet, num, Segment, OnFace, Plain, DartAlong, Shows, Any}
 use Rattle.split.specs.Five.{facet, Firm}
 use Rattle.split.proofs.Facets.{seg-on, turned, some}
 
@@ -52,7 +52,7 @@ module _ (c : Cell) (H : Firm c) where
 
   -- crossing x on slot s, which has its edge
   module _ (s x : ℕ) (l : x < crossings E) (S : EdgeSlot (edge E x) s) where
-    here : On (Φ s) (edgeRank s (edge E x)) (index E x)
+    here : OnFace (Φ s) (edgeRank s (edge E x)) (index E x)
     here = record { edge = S .place-lt; index = subst (λ k. index E x < countOf c k) (sym (S .edge-is)) (lay E .index-lt x l) }
 
     number-here : A .number x ≡ num (Φ s) (edgeRank s (edge E x)) (index E x)
@@ -64,7 +64,7 @@ module _ (c : Cell) (H : Firm c) where
     mate-is j′ t′ z = mates.mate-joined E s x z
 
   -- crossing t of edge j of the face in slot s
-  module _ (s j t : ℕ) (ls : s < 4) (o : On (Φ s) j t) where
+  module _ (s j t : ℕ) (ls : s < 4) (o : OnFace (Φ s) j t) where
     abbrev x : ℕ
     x = number E (slotEdge s j) t
 
@@ -102,7 +102,7 @@ module _ (c : Cell) (H : Firm c) where
   pub record Goes (d : ℕ) : Type 0 where
     pub j : ℕ
     pub t : ℕ
-    pub to : On (Φ (slotOf A d)) j t
+    pub to : OnFace (Φ (slotOf A d)) j t
     pub segment : Segment (Φ (slotOf A d)) (edgeRank (slotOf A d) (edge E (d / 2))) (index E (d / 2)) j t
     pub is : mateOf A d ≡ number E (slotEdge (slotOf A d) j) t
 
@@ -155,7 +155,7 @@ module _ (c : Cell) (H : Firm c) where
     pub slot : slotOf A d ≡ s
     pub is : d / 2 ≡ number E (slotEdge s j) t
 
-  dart-at : (s j t : ℕ) → s < 4 → On (Φ s) j t → DartAt s j t
+  dart-at : (s j t : ℕ) → s < 4 → OnFace (Φ s) j t → DartAt s j t
   dart-at s j t ls o =
       ⊎-elim
       (λ (u : firstSlot (slotEdge s j) ≡ s).
@@ -177,11 +177,11 @@ module _ (c : Cell) (H : Firm c) where
   pub shows : (s : ℕ) → s < 4 → Shows (Φ s) A s Any
   shows s ls = record {
     named = refl;
-    to = λ d on e. subst (λ s. (j : ℕ) × (t : ℕ) × (j′ : ℕ) × (t′ : ℕ) × Any (num (Φ s) j t) × Along (Φ s) A d j t j′ t′) e (along d (on .lt));
+    to = λ d on e. subst (λ s. (j : ℕ) × (t : ℕ) × (j′ : ℕ) × (t′ : ℕ) × Any (num (Φ s) j t) × DartAlong (Φ s) A d j t j′ t′) e (along d (on .lt));
     from = λ j t j′ t′ z q. back j t j′ t′ q (dart-at s j t ls (seg-on (Φ s) j t j′ t′ q));
   }
     where
-      along : (d : ℕ) → d < 2 * crossings E → (j : ℕ) × (t : ℕ) × (j′ : ℕ) × (t′ : ℕ) × Any (num (Φ (slotOf A d)) j t) × Along (Φ (slotOf A d)) A d j t j′ t′
+      along : (d : ℕ) → d < 2 * crossings E → (j : ℕ) × (t : ℕ) × (j′ : ℕ) × (t′ : ℕ) × Any (num (Φ (slotOf A d)) j t) × DartAlong (Φ (slotOf A d)) A d j t j′ t′
       along d l =
           let g = goes d l in (
             edgeRank (slotOf A d) (edge E (d / 2)),
@@ -192,7 +192,7 @@ module _ (c : Cell) (H : Firm c) where
             record { on = all-joined d l; segment = g .segment; from-is = number-here (slotOf A d) (d / 2) (omega arith) (has d l); to-is = number-goes d l },
           )
 
-      back : (j t j′ t′ : ℕ) → Segment (Φ s) j t j′ t′ → DartAt s j t → (d : ℕ) × (slotOf A d ≡ s) × Along (Φ s) A d j t j′ t′
+      back : (j t j′ t′ : ℕ) → Segment (Φ s) j t j′ t′ → DartAt s j t → (d : ℕ) × (slotOf A d ≡ s) × DartAlong (Φ s) A d j t j′ t′
       back j t j′ t′ q a =
           let o = seg-on (Φ s) j t j′ t′ q in
           let o′ = seg-on (Φ s) j′ t′ j t (turned (Φ s) j t j′ t′ q) in

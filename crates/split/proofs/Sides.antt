@@ -19,7 +19,7 @@ use Rattle.booking.specs.Booking.{larger, smaller, isSplit}
 use Rattle.split.specs.Limits.{firstInnerCrossing, firstInnerFace, wordStep}
 use Rattle.split.specs.Parts.{Part, parts, allParts, drawnTriangles}
 use Rattle.split.specs.Family.{Outer}
-use Rattle.split.specs.Five.{Ready}
+use Rattle.split.specs.Five.{FirmBelow}
 use Rattle.split.specs.Claims.{noPart, partsComplex, RefinedBy, SplitSides, SidesCounted}
 use Rattle.split.proofs.Shows.{all-joined, closed}
 use Rattle.split.proofs.Parts.{partsNumbered}
@@ -28,7 +28,7 @@ use Rattle.split.proofs.Meshed.{level-corners, partsMeshed, partsLawful
 use Rattle.split.proofs.Lengths.{drawn-is}
 
 -- the parts of a ready cell, whatever its numbers
-module _ (fuel cell n b f : ℕ) (c : Cell) (R : Ready c b f) (h : larger (countOf c) + smaller (countOf c) ≤ fuel) (i : c .index ≡ cell + wordStep * n) where
+module _ (fuel cell n b f : ℕ) (c : Cell) (R : FirmBelow c b f) (h : larger (countOf c) + smaller (countOf c) ≤ fuel) (i : c .index ≡ cell + wordStep * n) where
   abbrev l : List Part
   l = parts fuel cell n b f c
 
@@ -70,7 +70,7 @@ module _ (fuel cell n b f : ℕ) (c : Cell) (R : Ready c b f) (h : larger (count
           inr (u, manifold K W .shared j d k (r .d) lj lk ne (no-end j lj) (no-end k lk) on (r .on) (r .is))
 
 -- of a split cell
-module _ (c : Cell) (e : isSplit (countOf c) ≡ true) (R : Ready c firstInnerCrossing firstInnerFace) where
+module _ (c : Cell) (e : isSplit (countOf c) ≡ true) (R : FirmBelow c firstInnerCrossing firstInnerFace) where
   abbrev fuel : ℕ
   fuel = larger (countOf c) + smaller (countOf c)
 

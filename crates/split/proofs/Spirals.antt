@@ -6,6 +6,7 @@ use mathlib.Core.List.{[], _∷_}
 use native.Mathlib.Omega.{arith}
 use lib.ListN.{getD}
 use borrow.Author.Tests.{eq-eqb, ne-eqb}
+use Rattle.counting.proofs.Below.{below-four}
 use Rattle.slots.specs.Slots.{edgeBetween}
 use Rattle.cell.specs.Nodes.{Arranged, joining}
 use Rattle.cell.specs.Level.{isLevelCell}
@@ -15,7 +16,6 @@ use Rattle.booking.specs.Left.{largestPair}
 use Rattle.booking.proofs.Counts.{twice-least}
 use Rattle.split.specs.Labels.{labelled, label}
 use Rattle.split.specs.Working.{AreOwn, labelBy}
-use Rattle.split.proofs.Cases.{four}
 use Rattle.split.proofs.Labels.{at-i-is, from-lowest, at-label}
 
 module _ (w : ℕ → ℕ) (K : isLevelCell w ≡ true) where
@@ -31,7 +31,7 @@ module _ (w : ℕ → ℕ) (K : isLevelCell w ≡ true) where
   unfolding joining edgeBetween largestPair
   own-listed {x} {y} {z} {m} {o₀} {o₁} {o₂} {o₃} p q r e a b c d =
       let f : m ≡ largestPair w = e ∙ rw (p, q, r) refl in
-      four (λ k. getD (o₀ ∷ o₁ ∷ o₂ ∷ o₃ ∷ []) k 0 ≡ leastCorner w k)
+      below-four (λ k. getD (o₀ ∷ o₁ ∷ o₂ ∷ o₃ ∷ []) k 0 ≡ leastCorner w k)
       (half o₀ m (w 0 + w 1 + w 2) (leastCorner w 0) a (omega (arith, twice-least w K A, f)))
       (half o₁ m (w 0 + w 3 + w 4) (leastCorner w 1) b (omega (arith, twice-least w K (badc A), f)))
       (half o₂ m (w 1 + w 3 + w 5) (leastCorner w 2) c (omega (arith, twice-least w K (cdab A), f)))
@@ -54,7 +54,7 @@ module _ (w : ℕ → ℕ) (K : isLevelCell w ≡ true) where
     label-by p l h =
         let (n-lt, is) = at-label w K some more p h in
         let F = from-lowest w K some more in
-        four (λ n. labelled w n ≡ p → n ≡ labelBy (larger w) (smaller w) (leftBetween w 0 p))
+        below-four (λ n. labelled w n ≡ p → n ≡ labelBy (larger w) (smaller w) (leftBetween w 0 p))
         (λ e. absurd (omega (arith, at-i-is w K some more, e)))
         (λ e. by-one (leftBetween w 0 p) (ap (leftBetween w 0) (sym e) ∙ F .ij))
         (λ e. by-two (leftBetween w 0 p) (ap (leftBetween w 0) (sym e) ∙ F .ik))

@@ -17,7 +17,7 @@ use Rattle.cell.specs.Level.{isLevelCell}
 use Rattle.booking.specs.Booking.{leastCorner, larger, smaller}
 use Rattle.split.specs.Labels.{labelled, label, spoke}
 use Rattle.split.specs.SubCell.{restCount, restStart, armCount, armStart, innerName, subAt, sub}
-use Rattle.split.specs.Five.{nameOf, Firm, Ready}
+use Rattle.split.specs.Five.{nameOf, Firm, FirmBelow}
 use Rattle.split.proofs.Labels.{labelled-lt, at-label, label-once, edge-labels-lt, edge-labels-once}
 use Rattle.split.proofs.Rest.{rest-sum}
 use Rattle.split.proofs.SubCells.{sub-level, sub-omits}
@@ -27,7 +27,7 @@ position-once : (M i j : ℕ) → i < 3 → j < 3 → position M i ≡ position 
 position-once M i j li lj q =
     trichotomy i j (λ h. absurd (omega (arith, corners-rise M i j h, q))) (λ h. absurd (omega (arith, corners-rise M j i h, q))) (λ e. e)
 
-module _ (c : Cell) (b f : ℕ) (R : Ready c b f) (some : 0 < smaller (countOf c)) (more : smaller (countOf c) < larger (countOf c)) where
+module _ (c : Cell) (b f : ℕ) (R : FirmBelow c b f) (some : 0 < smaller (countOf c)) (more : smaller (countOf c) < larger (countOf c)) where
   abbrev K : isLevelCell (countOf c) ≡ true
   K = R .firm .level
 
@@ -172,9 +172,9 @@ module _ (c : Cell) (b f : ℕ) (R : Ready c b f) (some : 0 < smaller (countOf c
           | no z ↦ rw (other-name s ls z) (name-below (slotEdge M (3 - s)) (slot-edge M (3 - s) lM (omega (arith, z)) .lt))
         ]
 
-    pub ready-at : Ready S (b + 2 * (larger (countOf c) + smaller (countOf c))) (f + 6)
+    pub ready-at : FirmBelow S (b + 2 * (larger (countOf c) + smaller (countOf c))) (f + 6)
     ready-at = record { firm = sub-firm; below = sub-below; under = sub-under }
 
-  pub sub-ready : (word m : ℕ) → m < 4 → Ready (sub c b f word m) (b + 2 * (larger (countOf c) + smaller (countOf c))) (f + 6)
+  pub sub-ready : (word m : ℕ) → m < 4 → FirmBelow (sub c b f word m) (b + 2 * (larger (countOf c) + smaller (countOf c))) (f + 6)
   unfolding sub
   sub-ready word m lm = ready-at word (labelled (countOf c) m) (labelled-lt (countOf c) K some more m lm)

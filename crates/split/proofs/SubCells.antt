@@ -7,7 +7,7 @@ use mathlib.Core.Bool.{true}
 use native.Mathlib.Omega.{arith}
 use native.Mathlib.Decide.{decLt, ℕ-discrete}
 use Rattle.counting.specs.Search.{seek, first}
-use Rattle.counting.proofs.Below.{below-three}
+use Rattle.counting.proofs.Below.{below-three, below-four}
 use Rattle.counting.proofs.Search.{is-every}
 use Rattle.slots.specs.Slots.{lo, hi, position, rankIn, lower, upper, edgeBetween, slotEdge}
 use Rattle.slots.specs.Limits.{mostCount}
@@ -21,7 +21,6 @@ use Rattle.cell.specs.Level.{isLevelCell}
 use Rattle.booking.specs.Booking.{leftBetween, larger, smaller}
 use Rattle.split.specs.Labels.{labelled, label, spoke}
 use Rattle.split.specs.SubCell.{restOf, armOf, restCount, armCount, subCounts, subAt}
-use Rattle.split.proofs.Cases.{four}
 use Rattle.split.proofs.Labels.{joining-ways, left-ways, labelling, at-label, inner-level}
 use Rattle.split.proofs.Rest.{rest-level, rest-most}
 
@@ -152,7 +151,7 @@ module _ (c : Cell) (K : isLevelCell (countOf c) ≡ true) (some : 0 < smaller (
 
   spoke-le : (n : ℕ) → n < 4 → spoke (countOf c) n ≤ x + y
   unfolding spoke
-  spoke-le = four (λ n. spoke (countOf c) n ≤ x + y) (omega arith) (omega arith) (omega arith) (omega arith)
+  spoke-le = below-four (λ n. spoke (countOf c) n ≤ x + y) (omega arith) (omega arith) (omega arith) (omega arith)
 
   pub most-sum : x + y ≤ mostCount
   unfolding leftBetween

@@ -7,6 +7,7 @@ use native.Mathlib.Omega.{arith}
 use lib.Dec.{ltb}
 use borrow.Author.Tests.{le-ltb}
 use Rattle.counting.proofs.Bools.{and-false-left, and-false-right}
+use Rattle.counting.proofs.Below.{below-four}
 use Rattle.slots.specs.Slots.{lo, hi, rankIn}
 use Rattle.cell.specs.declared.Cell.{Cell}
 use Rattle.cell.specs.Of.{countOf}
@@ -19,8 +20,7 @@ use Rattle.booking.specs.Left.{largestPair, Longest}
 use Rattle.booking.proofs.Counts.{twice-least, twice-left, numbers, ways}
 use Rattle.split.specs.Labels.{labelled, spoke}
 use Rattle.split.specs.SubCell.{subCounts, sub}
-use Rattle.split.specs.Claims.{Numbered, SubCells, SubCountsNumbered, SubCellsNumbered}
-use Rattle.split.proofs.Cases.{four}
+use Rattle.split.specs.Claims.{NumbersAre, SubCells, SubCountsNumbered, SubCellsNumbered}
 use Rattle.split.proofs.Orders.{corners-any, longest}
 use Rattle.split.proofs.Labels.{spiral-is, left-ways, labelled-lt, labelled-once, label-at, between}
 use Rattle.split.proofs.SubCells.{Omits, seats, seat-new, seat-old, sub-level, counts-omit, sub-omits}
@@ -69,7 +69,7 @@ module _ (v : ℕ → ℕ) (K : isLevelCell v ≡ true) {s1 s2 s3 r23 r13 r12 : 
       (twice-least v K (dacb A) ∙ ap₂ _+_ (ap₂ _+_ (sym (W .ad) ∙ R .to-3) (sym (W .cd) ∙ R .between-23)) (sym (W .bd) ∙ R .between-13))
       top rest
 
-  pub numbered : Numbered v t (max a b) (min a b)
+  pub numbered : NumbersAre v t (max a b) (min a b)
   numbered =
       let N = numbers v K L in
       record { level = K; corners = corners-are; first = sym (N .most) ∙ ap₂ max left-1 left-2; second = sym (N .least) ∙ ap₂ min left-1 left-2 }
@@ -148,29 +148,29 @@ module _ (z : ℕ → ℕ) (K : isLevelCell z ≡ true) (some : 0 < smaller z) (
     keep 2 3 (larger z) (omega arith) (omega arith) (λ q. omega arith) (between z K some more 5 (omega arith)),
   )
 
-  read : {u : ℕ → ℕ} {t x y x′ y′ : ℕ} → Numbered u t x y → x ≡ x′ → y ≡ y′ → Numbered u t x′ y′
+  read : {u : ℕ → ℕ} {t x y x′ y′ : ℕ} → NumbersAre u t x y → x ≡ x′ → y ≡ y′ → NumbersAre u t x′ y′
   read N p q = record { level = N .level; corners = N .corners; first = N .first ∙ p; second = N .second ∙ q }
 
   by : (m n1 n2 n3 t a b′ : ℕ) → Arranged m n1 n2 n3
       → spoke z n3 + leftBetween z (labelled z n1) (labelled z n2) ≡ spoke z n2 + leftBetween z (labelled z n1) (labelled z n3) + 2 * a
       → spoke z n3 + leftBetween z (labelled z n1) (labelled z n2) ≡ spoke z n1 + leftBetween z (labelled z n2) (labelled z n3) + 2 * b′
       → t + (spoke z n3 + leftBetween z (labelled z n1) (labelled z n2)) ≡ spoke z n1 + leftBetween z (labelled z n2) (labelled z n3) + (spoke z n2 + leftBetween z (labelled z n1) (labelled z n3))
-      → Numbered (v m) t (max a b′) (min a b′)
+      → NumbersAre (v m) t (max a b′) (min a b′)
   by m n1 n2 n3 t a b′ B = numbered (v m) (level-of m (B .a-lt)) (around m n1 n2 n3 B) t a b′
 
   pub sub-cells : SubCells z v
   unfolding spoke
   sub-cells =
       let (ij, ik, il, jk, jl, kl) = remain in
-      let omits-l : Numbered (v 3) (larger z - smaller z) (smaller z) (smaller z) = read (by 3 1 2 0 (larger z - smaller z) (smaller z) (smaller z) (omega arith) (omega (arith, ij, jk)) (omega (arith, ik, jk)) (omega (arith, ij, ik, jk, more))) (omega arith) (omega arith) in
-      let omits-j : Numbered (v 1) (larger z) (smaller z) 0 = read (by 1 2 3 0 (larger z) (smaller z) 0 (omega arith) (omega (arith, kl, ik, more)) (omega (arith, kl, il)) (omega (arith, ik, il, kl, more))) (omega arith) (omega arith) in
-      let omits-i : Numbered (v 0) (2 * smaller z) (larger z - smaller z) 0 = read (by 0 3 2 1 (2 * smaller z) (larger z - smaller z) 0 (omega arith) (omega (arith, kl, jl, more)) (omega (arith, kl, jk, more)) (omega (arith, jk, jl, kl, more))) (omega arith) (omega arith) in
+      let omits-l : NumbersAre (v 3) (larger z - smaller z) (smaller z) (smaller z) = read (by 3 1 2 0 (larger z - smaller z) (smaller z) (smaller z) (omega arith) (omega (arith, ij, jk)) (omega (arith, ik, jk)) (omega (arith, ij, ik, jk, more))) (omega arith) (omega arith) in
+      let omits-j : NumbersAre (v 1) (larger z) (smaller z) 0 = read (by 1 2 3 0 (larger z) (smaller z) 0 (omega arith) (omega (arith, kl, ik, more)) (omega (arith, kl, il)) (omega (arith, ik, il, kl, more))) (omega arith) (omega arith) in
+      let omits-i : NumbersAre (v 0) (2 * smaller z) (larger z - smaller z) 0 = read (by 0 3 2 1 (2 * smaller z) (larger z - smaller z) 0 (omega arith) (omega (arith, kl, jl, more)) (omega (arith, kl, jk, more)) (omega (arith, jk, jl, kl, more))) (omega arith) (omega arith) in
       record {
         omits-l = omits-l;
         omits-k = by 2 3 0 1 (smaller z) (larger z - smaller z) (smaller z) (omega arith) (omega (arith, il, jl, more)) (omega (arith, il, ij, more)) (omega (arith, ij, il, jl, more));
         omits-j = omits-j;
         omits-i = omits-i;
-        others = λ m h ne. four (λ m. m ≢ 2 → isSpiral (v m) ≡ false)
+        others = λ m h ne. below-four (λ m. m ≢ 2 → isSpiral (v m) ≡ false)
             (λ _. no-spiral (v 0) (inl (omits-i .second))) (λ _. no-spiral (v 1) (inl (omits-j .second)))
             (λ n. absurd (n refl)) (λ _. no-spiral (v 3) (inr (omits-l .first ∙ sym (omits-l .second)))) m h ne;
       }

@@ -62,9 +62,9 @@ module _ (cells counts names sides starts : List ℕ) where
   unfolding tableSplits
   splits-all = total-ext (splitsAt counts sides) (λ c. splitsOf (at c)) (drawnCells cells) 0 (λ c _ _. splits-at c)
 
-  pub drawn-all : length (tableDrawn cells counts names sides starts) ≡ length (tableTriangles cells counts names sides starts) + total (moreAt counts sides) (drawnCells cells) 0
+  pub drawn-long : length (tableDrawn cells counts names sides starts) ≡ length (tableTriangles cells counts names sides starts) + total (moreAt counts sides) (drawnCells cells) 0
   unfolding tableDrawn tableTriangles
-  drawn-all =
+  drawn-long =
       length-over (λ c. drawnTriangles (at c)) (drawnCells cells) 0
       ∙ total-ext (λ c. length (drawnTriangles (at c))) (λ c. length (cellTriangles (at c)) + moreAt counts sides c) (drawnCells cells) 0 (λ c _ _. more-at c)
       ∙ total-add (λ c. length (cellTriangles (at c))) (moreAt counts sides) (drawnCells cells) 0

@@ -29,7 +29,7 @@ use Rattle.split.specs.Parts.{Part, whole, corners, splitsWithin, parts}
 use Rattle.split.specs.Family as family
 use Rattle.split.specs.Family.{Meets, Refines}
 use Rattle.split.specs.Shown.{InnerFace, InnerPoint, five, Order}
-use Rattle.split.specs.Five.{nameOf, Ready, cut, inside}
+use Rattle.split.specs.Five.{nameOf, FirmBelow, ownPiece, inside}
 use Rattle.split.specs.Claims.{partLocal, noPart, RefinedBy, PartsRefine}
 use Rattle.split.proofs.Shows.{piece}
 use Rattle.split.proofs.Compose.{refines-ext, refines-above, self, compose}
@@ -66,18 +66,18 @@ leaf c b f P under =
     here (suc x) h = absurd (omega arith)
 
 -- the numbers of a ready cell are below b
-number-below : (c : Cell) (b f x : ℕ) → Ready c b f → x < crossings (edgesOf c) → numberOf c x < b
+number-below : (c : Cell) (b f x : ℕ) → FirmBelow c b f → x < crossings (edgesOf c) → numberOf c x < b
 unfolding numberOf inGrid
 number-below c b f x R l = R .below (edge (edgesOf c) x) (index (edgesOf c) x) (lay (edgesOf c) .edge-lt x l) (lay (edgesOf c) .index-lt x l)
 
-pub meets-below : (c : Cell) (b f g : ℕ) → Ready c b f → Meets (localOf c) g → g < b
+pub meets-below : (c : Cell) (b f g : ℕ) → FirmBelow c b f → Meets (localOf c) g → g < b
 meets-below c b f g R v = let l = v .on .lt in subst (λ n. n < b) (v .is) (number-below c b f (half (v .d)) R (omega arith))
 
-pub own-below : (c : Cell) (b f g : ℕ) → Ready c b f → Meets (cut c) g → g < b
+pub own-below : (c : Cell) (b f g : ℕ) → FirmBelow c b f → Meets (ownPiece c) g → g < b
 own-below c b f g R v = let l = v .on .lt in subst (λ n. n < b) (v .is) (number-below c b f (half (v .d)) R (omega arith))
 
 -- one split, with the parts l of the sub-cell that omits k; wd m is word 0 of the sub-cell that omits the label m
-module _ (c : Cell) (b f : ℕ) (R : Ready c b f) (some : 0 < smaller (countOf c)) (more : smaller (countOf c) < larger (countOf c)) (wd : ℕ → ℕ) (l : List Part)
+module _ (c : Cell) (b f : ℕ) (R : FirmBelow c b f) (some : 0 < smaller (countOf c)) (more : smaller (countOf c) < larger (countOf c)) (wd : ℕ → ℕ) (l : List Part)
     (N : RefinedBy (sub c b f (wd 2) 2) (b + 2 * (larger (countOf c) + smaller (countOf c))) (f + 6) l) where
   abbrev b′ : ℕ
   b′ = b + 2 * (larger (countOf c) + smaller (countOf c))
@@ -111,7 +111,7 @@ module _ (c : Cell) (b f : ℕ) (R : Ready c b f) (some : 0 < smaller (countOf c
   at-position M = localOf (subAt c b f (wd (label (countOf c) M)) M)
 
   abbrev B : ℕ → Local
-  B = five (cut c) at-position order
+  B = five (ownPiece c) at-position order
 
   abbrev subPiece : ℕ → Cell
   subPiece m = sub c b f (wd m) m
@@ -121,7 +121,7 @@ module _ (c : Cell) (b f : ℕ) (R : Ready c b f) (some : 0 < smaller (countOf c
   unfolding sub
   part-is m lm = ap (λ v. localOf (subAt c b f v (labelled (countOf c) m))) (ap wd (label-at (countOf c) K some more m lm))
 
-  ready : (m : ℕ) → m < 4 → Ready (subPiece m) b′ (f + 6)
+  ready : (m : ℕ) → m < 4 → FirmBelow (subPiece m) b′ (f + 6)
   ready m lm = sub-ready c b f R some more (wd m) m lm
 
   refined : Refines A 5 B (InnerFace (inside c b f)) (InnerPoint (armStart c b) (armCount c))
@@ -275,7 +275,7 @@ partsRefine (suc fuel) cell n b f c R h =
     word m = getD ((cell + wordStep * (n + 4 + 4 * s)) ∷ (cell + wordStep * (n + 3 + 4 * s)) ∷ (cell + wordStep * (n + 2)) ∷ (cell + wordStep * (n + 1)) ∷ []) m 0
 
     go : (e : Bool) → isSpiral (countOf c) ≡ e
-        → (Ready (sub c b f (cell + wordStep * (n + 2)) 2) b′ (f + 6) → larger v + smaller v ≤ fuel
+        → (FirmBelow (sub c b f (cell + wordStep * (n + 2)) 2) b′ (f + 6) → larger v + smaller v ≤ fuel
         → RefinedBy (sub c b f (cell + wordStep * (n + 2)) 2) b′ (f + 6) (parts fuel cell (n + 2) b′ (f + 6) (sub c b f (cell + wordStep * (n + 2)) 2)))
         → RefinedBy c b f (parts (suc fuel) cell n b f c)
     go false e i = subst (RefinedBy c b f) (sym (stop fuel cell n b f c e)) (leaf c b f (piece c (R .firm)) (R .under))

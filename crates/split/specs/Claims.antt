@@ -33,7 +33,7 @@ use Rattle.split.specs.SubCell.{subCounts, sub}
 use Rattle.split.specs.Parts.{Part, whole, corners, parts, partTriangles, drawnTriangles, splitsOf}
 use Rattle.split.specs.Counted.{drawnCount}
 use Rattle.split.specs.Family.{Meets, Refines}
-use Rattle.split.specs.Five.{cut, Ready}
+use Rattle.split.specs.Five.{ownPiece, FirmBelow}
 
 -- i, j, k, l are the four positions, and what remains is ij d1, ik d2, il d1 + d2 (02, W12)
 pub record Labelling (w : ℕ → ℕ) (i j k l : ℕ) : Type 0 where
@@ -52,7 +52,7 @@ abbrev pub LabelsFirst : Type 0
 LabelsFirst = (w : ℕ → ℕ) → isLevelCell w ≡ true → isSpiral w ≡ true → FirstLabelling w
 
 -- a cell by its numbers: the corner triangles t, d1 and d2
-pub record Numbered (w : ℕ → ℕ) (t x y : ℕ) : Type 0 where
+pub record NumbersAre (w : ℕ → ℕ) (t x y : ℕ) : Type 0 where
   pub level : isLevelCell w ≡ true
   pub corners : cornerTriangles w ≡ t
   pub first : larger w ≡ x
@@ -61,10 +61,10 @@ pub record Numbered (w : ℕ → ℕ) (t x y : ℕ) : Type 0 where
 -- the sub-cells of a cell with the counts w: v m are the counts of the one that omits the node with the label m. Only the one that omits k can be split
 -- again
 pub record SubCells (w : ℕ → ℕ) (v : ℕ → ℕ → ℕ) : Type 0 where
-  pub omits-l : Numbered (v 3) (larger w - smaller w) (smaller w) (smaller w)
-  pub omits-k : Numbered (v 2) (smaller w) (nextLarger (larger w) (smaller w)) (nextSmaller (larger w) (smaller w))
-  pub omits-j : Numbered (v 1) (larger w) (smaller w) 0
-  pub omits-i : Numbered (v 0) (2 * smaller w) (larger w - smaller w) 0
+  pub omits-l : NumbersAre (v 3) (larger w - smaller w) (smaller w) (smaller w)
+  pub omits-k : NumbersAre (v 2) (smaller w) (nextLarger (larger w) (smaller w)) (nextSmaller (larger w) (smaller w))
+  pub omits-j : NumbersAre (v 1) (larger w) (smaller w) 0
+  pub omits-i : NumbersAre (v 0) (2 * smaller w) (larger w - smaller w) 0
   pub others : (m : ℕ) → m < 4 → m ≢ 2 → isSpiral (v m) ≡ false
 
 -- for all counts; and as cells, wherever the inner crossings and faces start and whatever word 0 is
@@ -101,8 +101,8 @@ abbrev pub DrawnBooked : Type 0
 DrawnBooked = (c : Cell) → isLevelCell (countOf c) ≡ true → length (drawnTriangles c) ≡ bookedSplit (countOf c)
 
 -- so what the booking answers for a cell's counts is the number of the triangles that are drawn of it
-abbrev pub AnswerRight : Type 0
-AnswerRight = (c : Cell) (t x y n : ℕ) → bookingNumbers (Booked t x y n) ≡ bookingAnswer (countOf c) → length (drawnTriangles c) ≡ n
+abbrev pub BookingRight : Type 0
+BookingRight = (c : Cell) (t x y n : ℕ) → bookingNumbers (Booked t x y n) ≡ bookingAnswer (countOf c) → length (drawnTriangles c) ≡ n
 
 -- and of any cell: those of its loops, and what splitting adds (row 12 goes by this, without a walk of what is split)
 abbrev pub DrawnGained : Type 0
@@ -123,7 +123,7 @@ pub record SplitsFew : Type 0 where
 -- a part as a piece of a complex, and what stands past the end of a list of parts
 abbrev pub partLocal : Part → Local
 partLocal (whole c) = localOf c
-partLocal (corners c) = cut c
+partLocal (corners c) = ownPiece c
 
 abbrev pub noPart : Part
 noPart = whole (record { counts = []; starts = []; names = []; nodes = []; index = 0 })
@@ -177,11 +177,11 @@ abbrev pub RefinedBy : Cell → (b f : ℕ) → List Part → Type 1
 RefinedBy c b f l = Refines (localOf c) (length l) (λ x. partLocal (getD l x noPart)) (λ x. f ≤ x) (λ g. b ≤ g)
 
 abbrev pub PartsRefine : Type 1
-PartsRefine = (fuel cell n b f : ℕ) (c : Cell) → Ready c b f → larger (countOf c) + smaller (countOf c) ≤ fuel → RefinedBy c b f (parts fuel cell n b f c)
+PartsRefine = (fuel cell n b f : ℕ) (c : Cell) → FirmBelow c b f → larger (countOf c) + smaller (countOf c) ≤ fuel → RefinedBy c b f (parts fuel cell n b f c)
 
 -- so the complex of the parts is lawful: its mesh has no side in more than two triangles (`Manifold`)
 abbrev pub PartsLawful : Type 0
-PartsLawful = (fuel cell n b f : ℕ) (c : Cell) → Ready c b f → larger (countOf c) + smaller (countOf c) ≤ fuel → c .index ≡ cell + wordStep * n
+PartsLawful = (fuel cell n b f : ℕ) (c : Cell) → FirmBelow c b f → larger (countOf c) + smaller (countOf c) ≤ fuel → c .index ≡ cell + wordStep * n
     → Lawful (partsComplex (parts fuel cell n b f c))
 
 -- the inner crossings are numbered from b on without a gap: no part has a higher number, and every lower one is at an end of a part's segment
@@ -192,7 +192,7 @@ pub record InnerLaws (fuel cell n b f : ℕ) (c : Cell) : Type 0 where
       → (x : ℕ) × (x < length (parts fuel cell n b f c)) × Meets (partLocal (getD (parts fuel cell n b f c) x noPart)) g
 
 abbrev pub InnerNumbered : Type 0
-InnerNumbered = (fuel cell n b f : ℕ) (c : Cell) → Ready c b f → 0 < smaller (countOf c) → larger (countOf c) + smaller (countOf c) ≤ fuel → InnerLaws fuel cell n b f c
+InnerNumbered = (fuel cell n b f : ℕ) (c : Cell) → FirmBelow c b f → 0 < smaller (countOf c) → larger (countOf c) + smaller (countOf c) ≤ fuel → InnerLaws fuel cell n b f c
 
 -- The sides of the triangles of a split cell (02, W12): all its curves close, and each segment of its faces is in exactly one of its triangles; every
 -- other side is a segment of an inner face or an inner side, and in exactly two
@@ -207,4 +207,4 @@ pub record SplitSides (c : Cell) : Type 0 where
       × (tally (hasSide (inner a p k)) (map named (drawnTriangles c)) ≡ 2)))
 
 abbrev pub SidesCounted : Type 0
-SidesCounted = (c : Cell) → isSplit (countOf c) ≡ true → Ready c firstInnerCrossing firstInnerFace → SplitSides c
+SidesCounted = (c : Cell) → isSplit (countOf c) ≡ true → FirmBelow c firstInnerCrossing firstInnerFace → SplitSides c

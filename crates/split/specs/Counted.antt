@@ -8,18 +8,18 @@ use Rattle.counting.specs.Range.{total}
 use Rattle.counting.specs.Lists.{tally}
 use Rattle.cell.specs.Loop.{loopSize, leasts}
 use Rattle.cell.specs.Triangles.{triangleCount}
-use Rattle.cases.specs.Cases.{alone}
+use Rattle.cases.specs.Cases.{loneEdges}
 use Rattle.booking.specs.Booking.{larger, smaller, isSpiral, isSplit}
 use Rattle.split.specs.SubCell.{subCounts}
 
 module _ (w : ℕ → ℕ) where
   -- the triangles of all its loops
   unfoldable pub loopsCount : ℕ
-  loopsCount = triangleCount (alone w)
+  loopsCount = triangleCount (loneEdges w)
 
   -- the own corner triangles: its loops of length 3
   unfoldable pub ownCount : ℕ
-  ownCount = tally (λ p. eqb (loopSize (alone w) p) 3) (leasts (alone w))
+  ownCount = tally (λ p. eqb (loopSize (loneEdges w) p) 3) (leasts (loneEdges w))
 
 -- those of a cell or sub-cell that is split where d1 > d2 > 0: its own corner triangles, and those of the four sub-cells, which omit i, j, k and l. The
 -- sum of d1 and d2 falls from split to split, so that it is enough as fuel

@@ -11,8 +11,8 @@ use Rattle.split.specs.Parts.{drawnTriangles, splitsOf}
 use Rattle.split.specs.Counted.{drawnCount}
 
 -- the only cell of a grid, 0 1 2 3
-unfoldable pub alone : (e01 e02 e03 e12 e13 e23 : ℕ) → Cell
-alone e01 e02 e03 e12 e13 e23 = record {
+unfoldable pub loneCell : (e01 e02 e03 e12 e13 e23 : ℕ) → Cell
+loneCell e01 e02 e03 e12 e13 e23 = record {
   counts = e01 ∷ e02 ∷ e03 ∷ e12 ∷ e13 ∷ e23 ∷ [];
   starts = 0 ∷ e01 ∷ (e01 + e02) ∷ (e01 + e02 + e03) ∷ (e01 + e02 + e03 + e12) ∷ (e01 + e02 + e03 + e12 + e13) ∷ [];
   names = 0 ∷ 1 ∷ 2 ∷ 3 ∷ [];
@@ -36,7 +36,7 @@ computed e = of (e .cell) (splitsOf (e .cell)) (length (drawnTriangles (e .cell)
 
 -- no splits: a spiral whose numbers have no common divisor, 7 and 3; two octagons; four quads; a cell with odd sums
 abbrev leftWhole : List (Cell × ℕ)
-leftWhole = (alone 7 10 3 3 10 7, 40) ∷ (alone 2 2 4 4 2 2, 16) ∷ (alone 4 4 0 0 4 4, 8) ∷ (alone 1 1 1 1 1 1, 0) ∷ []
+leftWhole = (loneCell 7 10 3 3 10 7, 40) ∷ (loneCell 2 2 4 4 2 2, 16) ∷ (loneCell 4 4 0 0 4 4, 8) ∷ (loneCell 1 1 1 1 1 1, 0) ∷ []
 
 unfoldable pub unsplit : List (ℕ × ℕ)
 unsplit = map (λ e. (0, e .1)) leftWhole
@@ -51,7 +51,7 @@ figures = splits 4092 2 ∷ innerCrossings 4092 2 ∷ besideSplit 4092 2 ∷ spl
 -- d1 4, d2 2: one split; j, k, l are at the positions 1, 2, 3; no own corner triangle
 unfoldable pub oneSplit : Example
 oneSplit =
-    of (alone 4 2 6 6 2 4) 1 52
+    of (loneCell 4 2 6 6 2 4) 1 52
     (2048 ∷ 0 ∷ 0 ∷ 65539 ∷ noName ∷ 8192 ∷ 0 ∷ noName ∷ 1 ∷ noName ∷ 0 ∷
     2048 ∷ 0 ∷ 65539 ∷ 4 ∷ noName ∷ 8193 ∷ 4 ∷ noName ∷ 2 ∷ noName ∷ 1 ∷
     2048 ∷ 0 ∷ 4 ∷ 16 ∷ noName ∷ 3 ∷ 4 ∷ noName ∷ 3 ∷ noName ∷ 2 ∷
@@ -108,7 +108,7 @@ oneSplit =
 -- d1 4, d2 2: one split; j, k, l are at the positions 3, 1, 2; 4 own corner triangles
 unfoldable pub oneSplitTurned : Example
 oneSplitTurned =
-    of (alone 3 9 6 6 7 5) 1 56
+    of (loneCell 3 9 6 6 7 5) 1 56
     (0 ∷ 0 ∷ 0 ∷ 3 ∷ 12 ∷ 3 ∷ 0 ∷ 1 ∷ 3 ∷ 2 ∷ 0 ∷
     0 ∷ 10 ∷ 10 ∷ 22 ∷ 32 ∷ 3 ∷ 10 ∷ 0 ∷ 22 ∷ 1 ∷ 10 ∷
     0 ∷ 11 ∷ 11 ∷ 23 ∷ 31 ∷ 3 ∷ 11 ∷ 0 ∷ 23 ∷ 1 ∷ 11 ∷
@@ -169,7 +169,7 @@ oneSplitTurned =
 -- d1 6, d2 2: two splits; j, k, l are at the positions 1, 2, 3; no own corner triangle
 unfoldable pub twoSplits : Example
 twoSplits =
-    of (alone 6 2 8 8 2 6) 2 96
+    of (loneCell 6 2 8 8 2 6) 2 96
     (2048 ∷ 0 ∷ 0 ∷ 65539 ∷ noName ∷ 8192 ∷ 0 ∷ noName ∷ 1 ∷ noName ∷ 0 ∷
     2048 ∷ 0 ∷ 65539 ∷ 6 ∷ noName ∷ 8193 ∷ 6 ∷ noName ∷ 2 ∷ noName ∷ 1 ∷
     2048 ∷ 0 ∷ 6 ∷ 22 ∷ noName ∷ 3 ∷ 6 ∷ noName ∷ 3 ∷ noName ∷ 2 ∷
@@ -270,7 +270,7 @@ twoSplits =
 -- d1 6, d2 4: two splits; j, k, l are at the positions 2, 3, 1; 1 own corner triangle
 unfoldable pub twoSplitsTurned : Example
 twoSplitsTurned =
-    of (alone 11 6 4 5 7 10) 2 117
+    of (loneCell 11 6 4 5 7 10) 2 117
     (0 ∷ 10 ∷ 10 ∷ 21 ∷ 26 ∷ 3 ∷ 10 ∷ 0 ∷ 21 ∷ 2 ∷ 10 ∷
     2048 ∷ 11 ∷ 11 ∷ 65543 ∷ noName ∷ 8192 ∷ 11 ∷ noName ∷ 1 ∷ noName ∷ 0 ∷
     2048 ∷ 11 ∷ 65543 ∷ 17 ∷ noName ∷ 8193 ∷ 17 ∷ noName ∷ 2 ∷ noName ∷ 1 ∷
@@ -392,7 +392,7 @@ twoSplitsTurned =
 -- d1 10, d2 4: three splits; j, k, l are at the positions 3, 2, 1; no own corner triangle
 unfoldable pub threeSplits : Example
 threeSplits =
-    of (alone 14 4 10 10 4 14) 3 196
+    of (loneCell 14 4 10 10 4 14) 3 196
     (2048 ∷ 14 ∷ 14 ∷ 65543 ∷ noName ∷ 8193 ∷ 14 ∷ noName ∷ 1 ∷ noName ∷ 0 ∷
     2048 ∷ 14 ∷ 65543 ∷ 18 ∷ noName ∷ 8192 ∷ 18 ∷ noName ∷ 2 ∷ noName ∷ 1 ∷
     2048 ∷ 14 ∷ 18 ∷ 46 ∷ noName ∷ 1 ∷ 18 ∷ noName ∷ 3 ∷ noName ∷ 2 ∷

@@ -6,14 +6,14 @@ use Rattle.counting.specs.Pack.{pre, row, col}
 use Rattle.walk.specs.Darts.{half}
 use Rattle.manifold.specs.Triangle.{Side}
 use Rattle.manifold.specs.Piece.{Local, Piece, slotOf, segmentOf}
-use Rattle.manifold.specs.Complex.{Joins, SameEnds, Whole}
+use Rattle.manifold.specs.Complex.{Joins, SameEnds, Whole, Shares}
 
 pub record Family : Type 0 where
   pub size : ℕ
   pub at : ℕ → Local
 
 -- the piece A has the segment σ; it has a segment that ends at the crossing g
-pub record Runs (A : Local) (σ : Side) : Type 0 where
+pub record HasSegment (A : Local) (σ : Side) : Type 0 where
   pub d : ℕ
   pub on : Joins A d
   pub is : segmentOf A d ≡ σ
@@ -23,21 +23,11 @@ pub record Meets (A : Local) (g : ℕ) : Type 0 where
   pub on : Joins A d
   pub is : A .number (half d) ≡ g
 
--- the pieces A and B share a segment that ends at g
-pub record Shares (A B : Local) (g : ℕ) : Type 0 where
-  pub d : ℕ
-  pub e : ℕ
-  pub d-on : Joins A d
-  pub e-on : Joins B e
-  pub at-d : A .number (half d) ≡ g
-  pub at-e : B .number (half e) ≡ g
-  pub same : segmentOf A d ≡ segmentOf B e
-
 module _ (F : Family) where
   -- a segment is in at most two pieces, and its name tells its ends
-  pub record Sound : Type 0 where
+  pub record PiecesSound : Type 0 where
     pub piece : (a : ℕ) → a < F .size → Piece (F .at a)
-    pub few : (σ : Side) (a b c : ℕ) → a < F .size → b < F .size → c < F .size → Runs (F .at a) σ → Runs (F .at b) σ → Runs (F .at c) σ
+    pub few : (σ : Side) (a b c : ℕ) → a < F .size → b < F .size → c < F .size → HasSegment (F .at a) σ → HasSegment (F .at b) σ → HasSegment (F .at c) σ
         → a ≢ b → a ≢ c → b ≢ c → ⊥
     pub ends : (a b d e : ℕ) → a < F .size → b < F .size → Joins (F .at a) d → Joins (F .at b) e → segmentOf (F .at a) d ≡ segmentOf (F .at b) e
         → SameEnds (F .at a) d (F .at b) e
@@ -45,11 +35,11 @@ module _ (F : Family) where
   -- no curve ends, and each segment is in a second piece
   pub record Closed : Type 0 where
     pub whole : (a : ℕ) → a < F .size → Whole (F .at a)
-    pub paired : (a : ℕ) → a < F .size → (σ : Side) → Runs (F .at a) σ → (b : ℕ) × (b < F .size) × (b ≢ a) × Runs (F .at b) σ
+    pub paired : (a : ℕ) → a < F .size → (σ : Side) → HasSegment (F .at a) σ → (b : ℕ) × (b < F .size) × (b ≢ a) × HasSegment (F .at b) σ
 
   -- the pieces at g are all linked through segments that end there
-  abbrev pub Linked : ℕ → Type 1
-  Linked g = (Q : ℕ → Type 0) → ((a b : ℕ) → a < F .size → b < F .size → Shares (F .at a) (F .at b) g → Q a → Q b)
+  abbrev pub PiecesLinked : ℕ → Type 1
+  PiecesLinked g = (Q : ℕ → Type 0) → ((a b : ℕ) → a < F .size → b < F .size → Shares (F .at a) (F .at b) g → Q a → Q b)
       → (a b : ℕ) → a < F .size → b < F .size → Meets (F .at a) g → Meets (F .at b) g → Q a → Q b
 
 -- the segment of the dart e of B is one of A's, with the same ends
@@ -74,17 +64,17 @@ pub record Refines (A : Local) (m : ℕ) (B : ℕ → Local) (Face Point : ℕ �
   pub whole : Whole A → (j : ℕ) → j < m → Whole (B j)
   -- each segment of A is in exactly one part
   pub cover : (d : ℕ) → Joins A d → Covered A m B d
-  pub once : (j k d : ℕ) → j < m → k < m → j ≢ k → Joins A d → Runs (B j) (segmentOf A d) → Runs (B k) (segmentOf A d) → ⊥
+  pub once : (j k d : ℕ) → j < m → k < m → j ≢ k → Joins A d → HasSegment (B j) (segmentOf A d) → HasSegment (B k) (segmentOf A d) → ⊥
   -- every other segment is on an inner face, and in exactly two parts
   pub kind : (j e : ℕ) → j < m → Joins (B j) e → Outer A (B j) e ⊎ Face (B j .name (slotOf (B j) e))
-  pub inner-few : (j k l e : ℕ) → j < m → k < m → l < m → Joins (B j) e → Face (B j .name (slotOf (B j) e)) → Runs (B k) (segmentOf (B j) e) → Runs (B l) (segmentOf (B j) e)
+  pub inner-few : (j k l e : ℕ) → j < m → k < m → l < m → Joins (B j) e → Face (B j .name (slotOf (B j) e)) → HasSegment (B k) (segmentOf (B j) e) → HasSegment (B l) (segmentOf (B j) e)
       → j ≢ k → j ≢ l → k ≢ l → ⊥
   pub inner-ends : (j k d e : ℕ) → j < m → k < m → Joins (B j) d → Joins (B k) e → Face (B j .name (slotOf (B j) d)) → segmentOf (B j) d ≡ segmentOf (B k) e
       → SameEnds (B j) d (B k) e
-  pub inner-paired : (j e : ℕ) → j < m → Joins (B j) e → Face (B j .name (slotOf (B j) e)) → (k : ℕ) × (k < m) × (k ≢ j) × Runs (B k) (segmentOf (B j) e)
+  pub inner-paired : (j e : ℕ) → j < m → Joins (B j) e → Face (B j .name (slotOf (B j) e)) → (k : ℕ) × (k < m) × (k ≢ j) × HasSegment (B k) (segmentOf (B j) e)
   -- a crossing of a part is one of A's or an inner one; the parts at a crossing are linked
   pub points : (j g : ℕ) → j < m → Meets (B j) g → Meets A g ⊎ Point g
-  pub linked : (g : ℕ) → Linked (record { size = m; at = B }) g
+  pub linked : (g : ℕ) → PiecesLinked (record { size = m; at = B }) g
 
 module _ (F : Family) (m : ℕ → ℕ) (B : ℕ → ℕ → Local) where
   -- the parts of all pieces, in order

@@ -34,7 +34,7 @@ module _ (c : Cell) where
     pub names : (s r : ℕ) → s < 4 → r < 4 → nameOf s ≡ nameOf r → s ≡ r
 
   -- besides, its numbers are below b and its names below f
-  pub record Ready (b f : ℕ) : Type 0 where
+  pub record FirmBelow (b f : ℕ) : Type 0 where
     pub firm : Firm
     pub below : (k t : ℕ) → k < 6 → t < countOf c k → startOf c k + t < b
     pub under : (s : ℕ) → s < 4 → nameOf s < f
@@ -62,8 +62,8 @@ module _ (c : Cell) where
       ltb (index (edgesOf c) x) (leastCorner (countOf c) (lo (edge (edgesOf c) x)))
       || leb (countOf c (edge (edgesOf c) x)) (index (edgesOf c) x + leastCorner (countOf c) (hi (edge (edgesOf c) x)))
 
-  abbrev pub cut : Local
-  cut = record {
+  abbrev pub ownPiece : Local
+  ownPiece = record {
     N = crossings (edgesOf c);
     fa = localOf c .fa;
     fb = localOf c .fb;

@@ -45,8 +45,8 @@ abbrev pub ownedTri : ℕ → Tri → Tri
 ownedTri cell (tri a b c r s t) = tri (ownedCorner cell a) (ownedCorner cell b) (ownedCorner cell c) (ownedSide cell r) (ownedSide cell s) (ownedSide cell t)
 
 -- a piece with other numbers and names
-abbrev pub renamed : (number name : ℕ → ℕ) → Local → Local
-renamed number name A = record {
+abbrev pub renamedPiece : (number name : ℕ → ℕ) → Local → Local
+renamedPiece number name A = record {
   N = A .N;
   fa = A .fa;
   fb = A .fb;
@@ -58,7 +58,7 @@ renamed number name A = record {
 
 -- a part of a cell as a piece of the complex of all cells
 abbrev pub ofCell : ℕ → Local → Local
-ofCell cell A = renamed (owned firstInnerCrossing cell) (owned firstInnerFace cell) A
+ofCell cell A = renamedPiece (owned firstInnerCrossing cell) (owned firstInnerFace cell) A
 
 -- the parts that are drawn of a cell of a grid: those of its split, or the cell whole
 unfoldable pub drawnParts : Cell → List Part
@@ -86,8 +86,8 @@ module _ (size : ℕ) (cells : ℕ → Cell) where
   abbrev pub partCount : ℕ → ℕ
   partCount k = length (drawnParts (cells k))
 
-  abbrev pub partOf : ℕ → ℕ → Local
-  partOf k j = ofCell k (partLocal (getD (drawnParts (cells k)) j noPart))
+  abbrev pub ownedPart : ℕ → ℕ → Local
+  ownedPart k j = ofCell k (partLocal (getD (drawnParts (cells k)) j noPart))
 
   -- inner faces and crossings of cell k, with their cell
   abbrev pub InnerFaces : ℕ → ℕ → Type 0
@@ -103,7 +103,7 @@ module _ (size : ℕ) (cells : ℕ → Cell) where
   abbrev pub gridComplex : Complex
   gridComplex = record {
     pieces = pre partCount size;
-    at = λ x. partOf (row partCount size x) (col partCount size x);
+    at = λ x. ownedPart (row partCount size x) (col partCount size x);
     tag = λ x. partCell (partAt x) .index;
     normal = λ x p. normal (edgesOf (partCell (partAt x))) p;
   }
@@ -111,7 +111,7 @@ module _ (size : ℕ) (cells : ℕ → Cell) where
 -- each cell of a grid is refined by its parts, and inner faces and crossings belong to their cell
 abbrev pub CellsRefined : Type 1
 CellsRefined = (size : ℕ) (cells : ℕ → Cell) → size ≤ mostCells → ((k : ℕ) → k < size → Fit (cells k))
-    → Refined (cellFamily size cells) (partCount size cells) (partOf size cells) (InnerFaces size cells) (InnerCrossings size cells)
+    → Refined (cellFamily size cells) (partCount size cells) (ownedPart size cells) (InnerFaces size cells) (InnerCrossings size cells)
 
 -- So the complex of all drawn parts is lawful, shut and linked at a crossing where that of the cells as they are is; it is always linked at an inner
 -- crossing, and has each inner crossing of each split cell
@@ -141,5 +141,5 @@ abbrev pub DrawnOwned : Type 0
 DrawnOwned = (c : Cell) → c .index < mostCells → All (λ t. t .cell % mostCells ≡ c .index) (drawnTriangles c)
 
 -- there are such cells that are split
-abbrev pub Happens : Type 0
-Happens = (c : Cell) × Fit c × (isSplit (countOf c) ≡ true)
+abbrev pub SplitHappens : Type 0
+SplitHappens = (c : Cell) × Fit c × (isSplit (countOf c) ≡ true)

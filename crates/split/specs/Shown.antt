@@ -24,17 +24,17 @@ module _ (Φ : Facet) where
   Segment j t j′ t′ = rim.Segment (Φ .size 0) (Φ .size 1) (Φ .size 2) j t j′ t′
 
   -- a crossing of the face
-  pub record On (j t : ℕ) : Type 0 where
+  pub record OnFace (j t : ℕ) : Type 0 where
     pub edge : j < 3
     pub index : t < Φ .size j
 
   -- rule 1; numbers tell its crossings apart
   pub record Plain : Type 0 where
     pub level : Level (Φ .size 0) (Φ .size 1) (Φ .size 2)
-    pub once : (j t j′ t′ : ℕ) → On j t → On j′ t′ → num j t ≡ num j′ t′ → (j ≡ j′) × (t ≡ t′)
+    pub once : (j t j′ t′ : ℕ) → OnFace j t → OnFace j′ t′ → num j t ≡ num j′ t′ → (j ≡ j′) × (t ≡ t′)
 
   -- the dart d of A runs along the segment from t on j to t′ on j′
-  pub record Along (A : Local) (d j t j′ t′ : ℕ) : Type 0 where
+  pub record DartAlong (A : Local) (d j t j′ t′ : ℕ) : Type 0 where
     pub on : Joins A d
     pub segment : Segment j t j′ t′
     pub from-is : A .number (half d) ≡ num j t
@@ -43,8 +43,8 @@ module _ (Φ : Facet) where
   -- slot s of A shows the face, of its crossings those whose numbers are T
   pub record Shows (A : Local) (s : ℕ) (T : ℕ → Type 0) : Type 0 where
     pub named : A .name s ≡ Φ .name
-    pub to : (d : ℕ) → Joins A d → slotOf A d ≡ s → (j : ℕ) × (t : ℕ) × (j′ : ℕ) × (t′ : ℕ) × T (num j t) × Along A d j t j′ t′
-    pub from : (j t j′ t′ : ℕ) → T (num j t) → Segment j t j′ t′ → (d : ℕ) × (slotOf A d ≡ s) × Along A d j t j′ t′
+    pub to : (d : ℕ) → Joins A d → slotOf A d ≡ s → (j : ℕ) × (t : ℕ) × (j′ : ℕ) × (t′ : ℕ) × T (num j t) × DartAlong A d j t j′ t′
+    pub from : (j t j′ t′ : ℕ) → T (num j t) → Segment j t j′ t′ → (d : ℕ) × (slotOf A d ≡ s) × DartAlong A d j t j′ t′
 
 -- every number
 abbrev pub Any : ℕ → Type 0
@@ -69,7 +69,7 @@ pub record Split (A own : Local) (sub : ℕ → Local) (Φ Ψ : ℕ → Facet) (
   pub rest-shows : (M : ℕ) → M < 4 → Shows (Φ M) (sub M) 0 Stays
   pub inner-shows : (M j : ℕ) → M < 4 → j < 3 → Shows (Ψ (slotEdge M j)) (sub M) (3 - j) Any
   -- a crossing of an outer face went or stays, and so does its partner
-  pub either : (s j t : ℕ) → s < 4 → On (Φ s) j t → Went (num (Φ s) j t) ⊎ Stays (num (Φ s) j t)
+  pub either : (s j t : ℕ) → s < 4 → OnFace (Φ s) j t → Went (num (Φ s) j t) ⊎ Stays (num (Φ s) j t)
   pub never : (g : ℕ) → Went g → Stays g → ⊥
   pub went-on : (s j t j′ t′ : ℕ) → s < 4 → Segment (Φ s) j t j′ t′ → Went (num (Φ s) j t) → Went (num (Φ s) j′ t′)
   pub stays-on : (s j t j′ t′ : ℕ) → s < 4 → Segment (Φ s) j t j′ t′ → Stays (num (Φ s) j t) → Stays (num (Φ s) j′ t′)
@@ -82,8 +82,8 @@ pub record Split (A own : Local) (sub : ℕ → Local) (Φ Ψ : ℕ → Facet) (
   pub arm-hi : (e : ℕ) → e < 6 → (Ψ e .start 1 ≡ arm (hi e)) × (Ψ e .size 1 ≡ long (hi e))
   -- edge j of the outer face M is edge e = slotEdge M j: its crossings that stay are those of the inner face over e
   pub down : (M j v : ℕ) → M < 4 → j < 3 → v < Ψ (slotEdge M j) .size 2
-      → (t : ℕ) × On (Φ M) j t × Stays (num (Φ M) j t) × (num (Φ M) j t ≡ num (Ψ (slotEdge M j)) 2 v)
-  pub up : (M j t : ℕ) → M < 4 → On (Φ M) j t → Stays (num (Φ M) j t) → (v : ℕ) × (v < Ψ (slotEdge M j) .size 2) × (num (Φ M) j t ≡ num (Ψ (slotEdge M j)) 2 v)
+      → (t : ℕ) × OnFace (Φ M) j t × Stays (num (Φ M) j t) × (num (Φ M) j t ≡ num (Ψ (slotEdge M j)) 2 v)
+  pub up : (M j t : ℕ) → M < 4 → OnFace (Φ M) j t → Stays (num (Φ M) j t) → (v : ℕ) × (v < Ψ (slotEdge M j) .size 2) × (num (Φ M) j t ≡ num (Ψ (slotEdge M j)) 2 v)
   -- numbers tell edges apart
   pub edge-once : (e f v w : ℕ) → e < 6 → f < 6 → v < Ψ e .size 2 → w < Ψ f .size 2 → num (Ψ e) 2 v ≡ num (Ψ f) 2 w → (e ≡ f) × (v ≡ w)
   pub arm-once : (a b v w : ℕ) → a < 4 → b < 4 → v < long a → w < long b → arm a + v ≡ arm b + w → (a ≡ b) × (v ≡ w)

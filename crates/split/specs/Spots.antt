@@ -22,7 +22,7 @@ use Rattle.cell.specs.Table.{tableCell, takenCounts}
 use Rattle.booking.specs.Figures.{figure, innerCrossings}
 use Rattle.booking.specs.Booking.{larger, smaller, isSplit}
 use Rattle.split.specs.Standing.{standing, innerOf, fansOf, innerPlaces, drawnMiddles}
-use Rattle.split.specs.Working.{Left}
+use Rattle.split.specs.Working.{SplitsLeft}
 
 -- of c, a cell or the sub-cell with the number n of the cell `cell`, whose nodes are at `at`: the inner crossings, and the middles of the fans
 module _ (cell n b f : ℕ) (at : List Place) (c : Cell) where
@@ -44,7 +44,7 @@ positioned c = record { counts = c .counts; starts = c .starts; names = c .names
 
 -- the splits that are left of a cell that is split: its numbers have a common divisor above 1
 pub record Spun (c : Cell) (cell n b f left : ℕ) : Type 0 where
-  pub working : Left c cell n b f left
+  pub working : SplitsLeft c cell n b f left
   pub divisor : 1 < gcd (larger (countOf c)) (smaller (countOf c))
 
 -- how many fans the splits add

@@ -69,7 +69,7 @@ pub record Working (c : Cell) (s : Spiral) (cell n b f : ℕ) : Type 0 where
   pub f-few : f + 6 ≤ shortLimit
 
 -- what is asked of all splits that are left, so many
-pub record Left (c : Cell) (cell n b f left : ℕ) : Type 0 where
+pub record SplitsLeft (c : Cell) (cell n b f left : ℕ) : Type 0 where
   pub sound : LevelSix c
   pub below : (e : ℕ) → e < 6 → startOf c e + countOf c e < startLimit
   pub some : 0 < smaller (countOf c)

@@ -10,7 +10,7 @@ ghost use Rattle.cell.specs.Triangles.{trianglesWith};
 ghost use Rattle.booking.specs.Booking.{larger, smaller};
 ghost use Rattle.split.specs.Limits.{wordStep};
 ghost use Rattle.split.specs.Parts.{drawnTriangles};
-ghost use Rattle.split.specs.Working.{StartsNear, Working, Left, Drawable, partsWords, startWords, endWords};
+ghost use Rattle.split.specs.Working.{StartsNear, Working, SplitsLeft, Drawable, partsWords, startWords, endWords};
 use cell::Cell;
 use grid::MOST_CELLS;
 use grid::MOST_CROSSINGS;
@@ -26,8 +26,8 @@ pub use drawing::draw;
 pub use drawing::sums_of;
 use numbers::spiral_of;
 pub use spots::extra_of;
+pub use spots::write_drawn_middles;
 pub use spots::write_inner;
-pub use spots::write_middles;
 use subs::sub_of;
 
 // Of a cell: d1 and d2; at each position the own corner triangles and the label.
@@ -134,7 +134,7 @@ fn split_in(
     area: &mut [u32],
     at: usize,
 ) -> usize
-    requires { ⌜ Left c cell n b f left ⌝ }
+    requires { ⌜ SplitsLeft c cell n b f left ⌝ }
     requires { ⌜ at + length (partsWords (larger (countOf c) + smaller (countOf c)) cell n b f c) ≤ length (now area) ⌝ }
     ensures { λ r. ⌜ Stored (now (area .entry)) at (partsWords (larger (countOf c) + smaller (countOf c)) cell n b f c) (now (area .exit)) r ⌝ }
 {

@@ -9,7 +9,7 @@ ghost use Rattle.cell.specs.Of.{countOf};
 ghost use Rattle.cell.specs.Nests.{partOf, nestMiddle};
 ghost use Rattle.split.specs.Labels.{labelled};
 ghost use Rattle.split.specs.Standing.{cornerIn, newPlace, subPlaces, splitPlaces, fansIn};
-ghost use Rattle.split.specs.Working.{Spiraling, Left};
+ghost use Rattle.split.specs.Working.{Spiraling, SplitsLeft};
 ghost use Rattle.split.specs.Spots.{Nesting, positioned, Spun, standingInner, standingFans};
 use super::Spiral;
 use super::numbers::spiral_of;
@@ -119,7 +119,7 @@ pub(crate) fn inner_in(
     area: &mut [f64],
     i: usize,
 ) -> usize
-    requires { ⌜ Left c cell n b f left ⌝ }
+    requires { ⌜ SplitsLeft c cell n b f left ⌝ }
     requires { ⌜ coordinates * (i + length (standingInner cell n b f at c)) ≤ length (now area) ⌝ }
     ensures { λ r. ⌜ Stored (now (area .entry)) (coordinates * i) (allNumbers (standingInner cell n b f at c)) (now (area .exit)) (coordinates * r) ⌝ }
 {

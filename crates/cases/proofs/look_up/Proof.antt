@@ -7,7 +7,7 @@ use lib.ListN.{getD}
 use borrow.Author.Needs.{needs}
 use Rattle.answer.specs.Answer.{result}
 use Rattle.cell.specs.Level.{byEdge}
-use Rattle.cases.specs.Cases.{entries, alone}
+use Rattle.cases.specs.Cases.{entries, loneEdges}
 use Rattle.cases.specs.Table.{table}
 use Rattle.cases.specs.Answer.{caseAnswer, findEntry}
 use Rattle.cases.proofs.Digits.{answered, unanswered}
@@ -23,7 +23,7 @@ inside : (w : ℕ → ℕ) (n l t : ℕ) → n ≡ findEntry w → n < entries �
 unfolding caseAnswer
 inside w n l t e h f g =
     let (C, q) = answered w n e h in
-    let E = every-entry (alone w) C in
+    let E = every-entry (loneEdges w) C in
     rw C (ap₂ (λ i j. result (i ∷ j ∷ [])) (f ∙ ap (λ i. getD table (2 * i) 0) q ∙ E .loops) (g ∙ ap (λ i. getD table (2 * i + 1) 0) q ∙ E .triangles))
 
 returns : tie.Need-returns

@@ -1,6 +1,6 @@
 -- `layers::draw_at` meets its contract.
 use borrow.Author.Needs.{needs}
-use Rattle.layers.proofs.Joining.{part-back}
+use Rattle.counting.proofs.Stored.{part-back}
 use Rattle.layers.proofs.draw_at.Statement.{statement}
 use Rattle.layers.proofs.draw_at.Tie as tie
 

@@ -19,7 +19,7 @@ returns-2 : tie.Need-returns-2
 unfolding restWritten
 returns-2 c =
     let A = c .before .before .before .before .before .before .before .before .before .before .before .before .before .before .args in
-    c .before .before .write-middles2 .ensures
+    c .before .before .write-drawn-middles .ensures
     ∙ ap (λ (w : List Float × ℕ). cellsStored (middlesAtCell (now (A .cells)) (now (A .counts)) (now (A .names)) (now (A .sides)) (now (A .starts)) (now (A .nodes))) (w .0) (w .1) (drawnCells (now (A .cells)))) (c .before .before .before .before .before .before .write-inner .ensures)
 
 pub place-rest-spec : {M : Type 1} → statement M

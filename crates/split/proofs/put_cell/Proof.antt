@@ -4,7 +4,7 @@ use mathlib.Core.Path.{refl, sym}
 use native.Mathlib.Omega.{arith}
 use borrow.Author.Needs.{needs}
 use Rattle.counting.proofs.Stored.{stored-as}
-use Rattle.split.proofs.OneCell.{drawn-placed, drawn-whole, whole-room, drawn-parts, drawn-left, parts-room}
+use Rattle.split.proofs.OneCell.{drawn-placed, words-whole, whole-room, drawn-parts, drawn-left, parts-room}
 use Rattle.split.proofs.put_cell.Statement.{statement}
 use Rattle.split.proofs.put_cell.Tie as tie
 
@@ -14,7 +14,7 @@ put-requires c κs =
     (drawn-placed (p .0), whole-room (p .0) (c .before .before .before .args .at) (c .before .if1 .taken) (p .1))
 
 returns : tie.Need-returns
-returns c = stored-as (c .before .before .put .ensures) (drawn-whole (c .before .before .before .before .before .before .pre .0) (c .before .before .before .before .if1 .taken)) refl
+returns c = stored-as (c .before .before .put .ensures) (words-whole (c .before .before .before .before .before .before .pre .0) (c .before .before .before .before .if1 .taken)) refl
 
 split-in-requires : tie.Need-split-in-requires
 split-in-requires c κs =

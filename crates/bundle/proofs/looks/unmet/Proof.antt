@@ -4,12 +4,12 @@ use borrow.Author.Needs.{needs}
 use borrow.Author.Tests.{eq-eqb, ne-eqb}
 use Rattle.counting.proofs.Search.{Seeking, seeking-none, seeking-hit, seeking-more, seeking-all}
 use Rattle.counting.proofs.Chains.{top-le}
-use Rattle.bundle.specs.Looked.{unmarked}
+use Rattle.bundle.specs.Looked.{keyUnmet}
 use Rattle.bundle.proofs.looks.unmet.Statement.{statement}
 use Rattle.bundle.proofs.looks.unmet.Tie as tie
 
 abbrev Inv-loop : tie.InvT-loop
-Inv-loop keys head next n met j₀ j = Seeking (unmarked keys met n) n j
+Inv-loop keys head next n met j₀ j = Seeking (keyUnmet keys met n) n j
 
 abbrev μ-loop : tie.MeasureT-loop
 μ-loop keys head next n met j₀ j = n - j
@@ -28,11 +28,11 @@ shared-slice-read-if1 c =
     omega (arith, c .before .before .before .before .before .before .before .before .before .pre .room, top-le _ _ _ _ (c .before .latest .ensures))
 
 returns : tie.Need-returns Inv-loop μ-loop
-unfolding unmarked
+unfolding keyUnmet
 returns c = seeking-hit _ (c .before .before .before .before .before .loop .inv) (omega arith) (rw (← c .before .before .latest .ensures) (eq-eqb _ _ (c .if1 .taken)))
 
 loop-again : tie.Need-loop-again Inv-loop μ-loop
-unfolding unmarked
+unfolding keyUnmet
 loop-again c = seeking-more _ (c .before .before .before .before .before .loop .inv) (omega arith) (rw (← c .before .before .latest .ensures) (ne-eqb _ _ (c .if1 .left)))
 
 returns-2 : tie.Need-returns-2 Inv-loop μ-loop

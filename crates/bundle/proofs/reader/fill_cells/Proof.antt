@@ -8,7 +8,7 @@ use Rattle.counting.specs.Range.{over}
 use Rattle.counting.specs.Stored.{Stored}
 use Rattle.counting.proofs.Stored.{stored-none, stored-long}
 use Rattle.bundle.specs.Record.{cellKind, wordSize, headBytes, body}
-use Rattle.bundle.specs.Bundle.{cellNodes, start, run, cells, edgesFrom, nodesIn, nodesOf}
+use Rattle.bundle.specs.Bundle.{cellNodes, recordStart, run, cells, edgesFrom, nodesIn, nodesOf}
 use Rattle.bundle.proofs.Runs.{Walked, walked, here, walked-fits, walked-on}
 use Rattle.bundle.proofs.Fills.{cell-body, nodesBy, turn, filled-all}
 use Rattle.bundle.proofs.reader.fill_cells.Statement.{statement}
@@ -87,7 +87,7 @@ returns c =
     let p = c .before .before .before .before .pre in
     let s = now (a .bytes) in
     let e : l .k ≡ cells s = all-done c in
-    (l .inv .0 .reached ∙ ap (start s 0) e, filled-all (nodesBy s 0) (l .k) (cells s) (l .inv .1) e (omega (arith, e, p .all, p .room)))
+    (l .inv .0 .reached ∙ ap (recordStart s 0) e, filled-all (nodesBy s 0) (l .k) (cells s) (l .inv .1) e (omega (arith, e, p .all, p .room)))
 
 pub fill-cells-spec : {M : Type 1} → statement M
 fill-cells-spec =

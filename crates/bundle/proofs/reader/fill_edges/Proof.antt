@@ -9,7 +9,7 @@ use Rattle.counting.specs.Range.{over}
 use Rattle.counting.specs.Stored.{Stored}
 use Rattle.counting.proofs.Stored.{stored-none, stored-long}
 use Rattle.bundle.specs.Record.{headBytes, countPlace, word, body}
-use Rattle.bundle.specs.Bundle.{edgeEnds, edgeSection, start, run, edges, looksFrom, endsIn, endsOf, writtenOver}
+use Rattle.bundle.specs.Bundle.{edgeEnds, edgeSection, recordStart, run, edges, looksFrom, endsIn, endsOf, writtenOver}
 use Rattle.bundle.proofs.Runs.{Walked, walked, here, walked-fits, walked-on}
 use Rattle.bundle.proofs.Fills.{edge-ge, endsBy, countBy, turn, count-turn, own-filled, filled-all}
 use Rattle.bundle.proofs.reader.fill_edges.Statement.{statement}
@@ -112,7 +112,7 @@ returns c =
     let p = c .before .before .before .before .before .pre in
     let s = now (a .bytes) in
     let e : l .k ≡ edges s = all-done c in (
-      l .inv .0 .reached ∙ ap (start s (a .from)) e ∙ ap (λ n. start s n (edges s)) (p .begin),
+      l .inv .0 .reached ∙ ap (recordStart s (a .from)) e ∙ ap (λ n. recordStart s n (edges s)) (p .begin),
       (
         filled-all (endsBy s (a .from)) (l .k) (edges s) (l .inv .1) e (omega (arith, e, p .all, p .endsRoom)) ∙ ap (λ n. writtenOver (over (endsBy s n) (edges s) 0) (now (a .ends))) (p .begin),
         own-filled s (a .from) (l .k) (p .begin) e (l .inv .2),

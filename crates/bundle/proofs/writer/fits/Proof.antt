@@ -7,20 +7,20 @@ use lib.Dec.{leb}
 use borrow.Author.Tests.{leb-true, le-leb, lt-leb}
 use Rattle.counting.proofs.Bools.{bool-same}
 use Rattle.bundle.specs.Record.{cellSize, edgeSize, endSize}
-use Rattle.bundle.specs.Needed.{sizeOf}
+use Rattle.bundle.specs.Needed.{bundleSize}
 use Rattle.bundle.proofs.writer.fits.Statement.{statement}
 use Rattle.bundle.proofs.writer.fits.Tie as tie
 
 returns : tie.Need-returns
 returns c =
     let a = c .before .args in
-    let h : a .room < sizeOf (a .cells) (a .edges) (a .wide) = omega arith in
+    let h : a .room < bundleSize (a .cells) (a .edges) (a .wide) = omega arith in
     sym (lt-leb _ _ h)
 
 returns-2 : tie.Need-returns-2
 returns-2 c =
     let a = c .before .before .args in
-    let h : a .room < sizeOf (a .cells) (a .edges) (a .wide) = omega arith in
+    let h : a .room < bundleSize (a .cells) (a .edges) (a .wide) = omega arith in
     sym (lt-leb _ _ h)
 
 mul-left : tie.Need-mul-left
@@ -32,7 +32,7 @@ sub-left c = search needs
 returns-3 : tie.Need-returns-3
 returns-3 c =
     let a = c .before .before .before .args in
-    let h : a .room < sizeOf (a .cells) (a .edges) (a .wide) = omega arith in
+    let h : a .room < bundleSize (a .cells) (a .edges) (a .wide) = omega arith in
     sym (lt-leb _ _ h)
 
 mul-result : tie.Need-mul-result
@@ -45,7 +45,7 @@ returns-4 : tie.Need-returns-4
 returns-4 c =
     let a = c .before .before .before .args in
     let left = a .room - endSize - cellSize * a .cells - edgeSize * a .edges in
-    let size = sizeOf (a .cells) (a .edges) (a .wide) in
+    let size = bundleSize (a .cells) (a .edges) (a .wide) in
     let more : leb (a .wide) left ≡ true → leb size (a .room) ≡ true = λ h. let e : size ≤ a .room = omega (arith, leb-true (a .wide) left h) in le-leb _ _ e in
     let back : leb size (a .room) ≡ true → leb (a .wide) left ≡ true = λ h. let e : a .wide ≤ left = omega (arith, leb-true size (a .room) h) in le-leb _ _ e in
     bool-same (leb (a .wide) left) (leb size (a .room)) more back

@@ -2,7 +2,7 @@
 use mathlib.Core.Path.{sym}
 use native.Mathlib.Omega.{arith}
 use borrow.Author.Needs.{needs}
-use Rattle.grid.proofs.Marks.{Walking, unmarked, unmarked-less, walking-end, walking-lt, walking-met, walking-more, walking-start}
+use Rattle.grid.proofs.Marks.{Walking, unmarkedCells, unmarked-less, walking-end, walking-lt, walking-met, walking-more, walking-start}
 use Rattle.grid.proofs.links.spread.Statement.{statement}
 use Rattle.grid.proofs.links.spread.Tie as tie
 
@@ -10,7 +10,7 @@ abbrev Inv-loop : tie.InvT-loop
 Inv-loop near n mark start rank marks₀ r₀ p₀ marks r p = Walking near n mark start rank marks₀ marks r p
 
 abbrev μ-loop : tie.MeasureT-loop
-μ-loop near n mark start rank marks₀ r₀ p₀ marks r p = unmarked marks mark n
+μ-loop near n mark start rank marks₀ r₀ p₀ marks r p = unmarkedCells marks mark n
 
 shared-slice-read-wide : tie.Need-shared-slice-read-wide Inv-loop μ-loop
 shared-slice-read-wide c =

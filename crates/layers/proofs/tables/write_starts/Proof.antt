@@ -5,7 +5,7 @@ use native.Mathlib.Omega.{arith}
 use lib.ListN.{length}
 use borrow.Author.Needs.{needs}
 use Rattle.layers.specs.Work.{markedStart, StartsSummed}
-use Rattle.layers.proofs.Steps.{sum-none, sum-skip, summed-none, summed-skip, summed-more, block-unmarked}
+use Rattle.layers.proofs.Steps.{sum-none, sum-skip, starts-none, starts-skip, starts-more, block-unmarked}
 use Rattle.layers.proofs.tables.write_starts.Statement.{statement}
 use Rattle.layers.proofs.tables.write_starts.Tie as tie
 
@@ -17,7 +17,7 @@ abbrev μ-loop : tie.MeasureT-loop
 μ-loop counts used m starts₀ n s₀ e₀ starts s e = n - e
 
 loop-holds : tie.Need-loop-holds Inv-loop μ-loop
-loop-holds c = (omega arith, refl, λ h. refl, sum-none _ _ _, omega arith, summed-none _ _ _ _)
+loop-holds c = (omega arith, refl, λ h. refl, sum-none _ _ _, omega arith, starts-none _ _ _ _)
 
 add-least : tie.Need-add-least Inv-loop μ-loop
 add-least c = omega (arith, c .before .before .before .before .before .pre .few, c .before .loop .inv .1)
@@ -45,7 +45,7 @@ loop-again c =
       λ h. omega (arith, m, L .inv .2 (omega arith)),
       L .inv .3 ∙ sum-skip (A .counts .now) (A .used .now) (A .m) (L .e) (c .before .before .least .result) (omega (arith, m)) none,
       omega (arith, m, L .inv .4),
-      summed-skip (A .counts .now) (A .used .now) (A .m) (L .inv .5) none,
+      starts-skip (A .counts .now) (A .used .now) (A .m) (L .inv .5) none,
     )
 
 add-block-requires : tie.Need-add-block-requires Inv-loop μ-loop
@@ -70,7 +70,7 @@ loop-again-2 c =
       λ h. omega (arith, m, L .inv .2 (omega arith)),
       D .0 .0,
       D .0 .1,
-      summed-more (A .counts .now) (A .used .now) (A .m) (L .inv .5) (omega (arith, m)) (omega (arith, m, L .inv .1, P .room, L .inv .5 .same)) (D .1),
+      starts-more (A .counts .now) (A .used .now) (A .m) (L .inv .5) (omega (arith, m)) (omega (arith, m, L .inv .1, P .room, L .inv .5 .same)) (D .1),
     )
 
 same-length : tie.Need-same-length Inv-loop μ-loop

@@ -3,7 +3,7 @@ use native.Mathlib.Omega.{arith}
 use denote.Ref.{now}
 use borrow.Author.Needs.{needs}
 use Rattle.booking.proofs.Totals.{all-most}
-use Rattle.split.proofs.Tables.{splits-all, drawn-all}
+use Rattle.split.proofs.Tables.{splits-all, drawn-long}
 use Rattle.split.proofs.drawing.draw.Statement.{statement}
 use Rattle.split.proofs.drawing.draw.Tie as tie
 
@@ -13,7 +13,7 @@ returns c =
     let G = c .before .before .before .before .before .sums-of .ensures in
     let d = c .before .before .before .draw-all .ensures in
     let s = splits-all (now (A .cells)) (now (A .counts)) (now (A .names)) (now (A .sides)) (now (A .starts)) in
-    let n = drawn-all (now (A .cells)) (now (A .counts)) (now (A .names)) (now (A .sides)) (now (A .starts)) in
+    let n = drawn-long (now (A .cells)) (now (A .counts)) (now (A .names)) (now (A .sides)) (now (A .starts)) in
     let most = all-most (now (A .cells)) (now (A .counts)) (now (A .names)) (now (A .sides)) (now (A .starts)) in
     ((d .0, omega (arith, G .splits-are, s), omega (arith, d .0, n, most, G .more-is, G .few-more)), d .1)
 

@@ -1,4 +1,4 @@
--- `split::spots::write_middles` meets its contract.
+-- `split::spots::write_drawn_middles` meets its contract.
 use Prim.Native.Nat.{_-_, _≤_}
 use mathlib.Core.Path.{_≡_, ap, _∙_}
 use native.Mathlib.Omega.{arith}
@@ -10,8 +10,8 @@ use Rattle.split.specs.Standing.{drawnMiddles}
 use Rattle.split.specs.Spots.{pointsStored, cellsStored, middlesAtCell}
 use Rattle.split.proofs.Tables.{table-drawable}
 use Rattle.split.proofs.Spotted.{cells-none, cells-more, cells-long, cells-all}
-use Rattle.split.proofs.spots.write_middles.Statement.{statement}
-use Rattle.split.proofs.spots.write_middles.Tie as tie
+use Rattle.split.proofs.spots.write_drawn_middles.Statement.{statement}
+use Rattle.split.proofs.spots.write_drawn_middles.Tie as tie
 
 abbrev Inv-loop : tie.InvT-loop
 Inv-loop cells counts names sides starts nodes area₀ at n i₀ c₀ area i c = (c ≤ n) × ((area, i) ≡ cellsStored (middlesAtCell cells counts names sides starts nodes) area₀ at c)
@@ -49,8 +49,8 @@ same-length c =
     let L = c .before .loop in
     cells-long (middlesAtCell (now (A .cells)) (now (A .counts)) (now (A .names)) (now (A .sides)) (now (A .starts)) (now (A .nodes))) (now (A .area)) (A .at) (L .c) (L .inv .1)
 
-pub write-middles-spec : {M : Type 1} → statement M
-write-middles-spec =
+pub write-drawn-middles-spec : {M : Type 1} → statement M
+write-drawn-middles-spec =
     tie.close
     (tie.spec
     Inv-loop
