@@ -322,18 +322,26 @@ module _ (c : Cell) (room at : ℕ) where
     unfolding fanCount
     fits-most e l = rw b (sym (le-leb (at + fanCount c) (room / coordinates) (omega (arith, count-le (isFan c) (crossings (edgesOf c))))))
 
--- the middles of all cells, cell by cell
-module _ (cells counts names sides starts : List ℕ) (nodes area : List Float) (at n : ℕ) {mid : List Float} {i : ℕ}
-    (e : (mid, i) ≡ middlesWritten cells counts names sides starts nodes area at n) where
-  pub written-more : {v : Cell} → v ≡ tableCell cells counts names sides starts n → {r : ℕ} {out : List Float}
-      → (r ≡ nextPoint nodes v mid i) × (out ≡ pointsThen nodes v mid i) → (out, r) ≡ middlesWritten cells counts names sides starts nodes area at (n + 1)
+-- the middles of cells, cell by cell
+module _ (cells counts names sides starts : List ℕ) (nodes : List Float) (first : ℕ) (area : List Float) (at : ℕ) where
+  -- those up to the first
+  pub written-none : (area, at) ≡ middlesWritten cells counts names sides starts nodes first area at (first - first)
   unfolding middlesWritten
-  written-more {v} q {r} {out} p = rw (add-one n, ← e, ← q, ← p .0, ← p .1)
+  written-none = let e : first - first ≡ 0 = omega arith in rw e refl
 
-  pub written-long : length mid ≡ length area
-  unfolding middlesWritten pointsThen
-  written-long = ap (λ (w : List Float × ℕ). length (w .0)) e ∙ long n
-    where
-      long : (n : ℕ) → length (middlesWritten cells counts names sides starts nodes area at n .0) ≡ length area
-      long zero = refl
-      long (suc n) = stored-same _ _ _ ∙ long n
+  module _ (k : ℕ) {mid : List Float} {i : ℕ} (e : (mid, i) ≡ middlesWritten cells counts names sides starts nodes first area at (k - first)) where
+    pub written-more : first ≤ k → {v : Cell} → v ≡ tableCell cells counts names sides starts k → {r : ℕ} {out : List Float}
+        → (r ≡ nextPoint nodes v mid i) × (out ≡ pointsThen nodes v mid i) → (out, r) ≡ middlesWritten cells counts names sides starts nodes first area at (k + 1 - first)
+    unfolding middlesWritten
+    written-more l {v} q {r} {out} p =
+        let s : k + 1 - first ≡ suc (k - first) = omega arith in
+        let f : first + (k - first) ≡ k = omega arith in
+        rw (s, f, ← e, ← q, ← p .0, ← p .1)
+
+    pub written-long : length mid ≡ length area
+    unfolding middlesWritten pointsThen
+    written-long = ap (λ (w : List Float × ℕ). length (w .0)) e ∙ long (k - first)
+      where
+        long : (n : ℕ) → length (middlesWritten cells counts names sides starts nodes first area at n .0) ≡ length area
+        long zero = refl
+        long (suc n) = stored-same _ _ _ ∙ long n

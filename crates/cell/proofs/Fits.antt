@@ -4,6 +4,7 @@ use mathlib.Core.Path.{_≡_, refl, sym, ap, ap₂, _∙_}
 use mathlib.Core.Bool.{Bool, true, false}
 use mathlib.Core.List.{List}
 use native.Mathlib.Omega.{arith}
+use native.Mathlib.Nat.{add-zero}
 use native.Mathlib.Numerals.{add-one}
 use native.Mathlib.Decide.{decLt}
 use lib.Dec.{leb}
@@ -13,15 +14,17 @@ use borrow.Author.Tests.{le-leb, lt-leb}
 use Rattle.counting.specs.Pick.{pick}
 use Rattle.counting.specs.Range.{over}
 use Rattle.counting.specs.Stored.{storedIn, nextIn, Stored}
+use Rattle.counting.proofs.Fronts.{over-shift}
+use Rattle.counting.proofs.Lists.{gather-over}
 use Rattle.counting.proofs.Range.{over-snoc}
-use Rattle.counting.proofs.Stored.{stored-none, stored-long, stored-room, stored-not}
+use Rattle.counting.proofs.Stored.{stored-none, stored-long, stored-as, stored-room, stored-not}
 use Rattle.cell.specs.declared.Cell.{Cell}
 use Rattle.cell.specs.declared.Triangle.{Triangle}
-use Rattle.cell.specs.Words.{wordCount, allWords}
+use Rattle.cell.specs.Words.{wordCount, words, allWords}
 use Rattle.cell.specs.Triangles.{cellTriangles, trianglesWith}
 use Rattle.cell.specs.Fits.{nextAt, areaThen, nextAfter, areaAfter}
 use Rattle.cell.proofs.Taken.{with-all}
-use Rattle.cell.proofs.Storing.{length-all, wordsOf, written-all, written-room, written-more}
+use Rattle.cell.proofs.Storing.{length-all, wordsOf, written-room, written-more}
 
 module _ (l : List Triangle) (area : List ℕ) (at : ℕ) where
   pub no-room : length area < at + wordCount * length l → (at ≡ nextIn area at (allWords l)) × (area ≡ storedIn area at (allWords l))
@@ -61,41 +64,48 @@ module _ (c : Cell) where
       go true = length-sets area at (allWords (cellTriangles c))
       go false = refl
 
-module _ (cell : ℕ → Cell) (was : List ℕ) where
+module _ (cell : ℕ → Cell) (first : ℕ) (was : List ℕ) (at : ℕ) where
   pub record Put (n : ℕ) (is : List ℕ) (i : ℕ) : Type 0 where
     pub long : length is ≡ length was
-    pub next : i ≡ nextAfter cell was n
-    pub area : is ≡ areaAfter cell was n
+    pub next : i ≡ nextAfter cell first was at n
+    pub area : is ≡ areaAfter cell first was at n
 
-  pub put-none : Put 0 was 0
+  -- those up to the first
+  pub put-none : Put (first - first) was at
   unfolding nextAfter areaAfter
-  put-none = record { long = refl; next = refl; area = refl }
+  put-none = let e : first - first ≡ 0 = omega arith in rw e (record { long = refl; next = refl; area = refl })
 
-  pub put-more : {n : ℕ} {is : List ℕ} {i : ℕ} → Put n is i → {c : Cell} {is′ : List ℕ} {j : ℕ} → c ≡ cell n → j ≡ nextAt c is i → is′ ≡ areaThen c is i → Put (n + 1) is′ j
+  pub put-more : {k : ℕ} {is : List ℕ} {i : ℕ} → first ≤ k → Put (k - first) is i → {c : Cell} {is′ : List ℕ} {j : ℕ} → c ≡ cell k → j ≡ nextAt c is i → is′ ≡ areaThen c is i
+      → Put (k + 1 - first) is′ j
   unfolding nextAfter areaAfter
-  put-more {n} {is} {i} P {c} e p q =
-      rw (add-one n) (record {
+  put-more {k} {is} {i} l P {c} e p q =
+      let s : k + 1 - first ≡ suc (k - first) = omega arith in
+      let f : c ≡ cell (first + (k - first)) = e ∙ ap cell (omega arith) in
+      rw s (record {
         long = ap length q ∙ area-long c is i ∙ P .long;
-        next = p ∙ next-same c is was i (P .long) ∙ ap (λ v. nextAt v was i) e ∙ ap (nextAt (cell n) was) (P .next);
-        area = q ∙ ap (λ v. areaThen v is i) e ∙ ap₂ (areaThen (cell n)) (P .area) (P .next);
+        next = p ∙ next-same c is was i (P .long) ∙ ap (λ v. nextAt v was i) f ∙ ap (nextAt (cell (first + (k - first))) was) (P .next);
+        area = q ∙ ap (λ v. areaThen v is i) f ∙ ap₂ (areaThen (cell (first + (k - first)))) (P .area) (P .next);
       })
 
-  -- where all have room together, all are stored
-  abbrev all : ℕ → List Triangle
-  all n = over (λ k. cellTriangles (cell k)) n 0
+  -- where n of them have room together, they are stored
+  abbrev each : ℕ → List Triangle
+  each k = cellTriangles (cell (first + k))
 
-  stored : (n : ℕ) → wordCount * length (all n) ≤ length was → Stored was 0 (over (wordsOf (λ k. cellTriangles (cell k))) n 0) (areaAfter cell was n) (nextAfter cell was n)
+  stored : (n : ℕ) → at + wordCount * length (over each n 0) ≤ length was → Stored was at (over (wordsOf each) n 0) (areaAfter cell first was at n) (nextAfter cell first was at n)
   unfolding nextAfter areaAfter nextAt areaThen over
-  stored zero h = stored-none was 0
+  stored zero h = stored-none was at
   stored (suc n) h =
-      let e = ap length (over-snoc f n 0) ∙ length-append (over f n 0) (f (0 + n)) in
+      let e = ap length (over-snoc each n 0) ∙ length-append (over each n 0) (each (0 + n)) in
       let S = stored n (omega (arith, e)) in
-      let r = written-room f n S (suc n) (omega arith) in
-      let R = has-room (f n) (areaAfter cell was n) (nextAfter cell was n) (omega (arith, r, stored-long S)) in
-      rw (add-one n) at (written-more f n S refl (next-same (cell n) was (areaAfter cell was n) (nextAfter cell was n) (sym (stored-long S)) ∙ sym (R .0)) refl (sym (R .1)))
-    where
-      f : ℕ → List Triangle
-      f k = cellTriangles (cell k)
+      let r = written-room each n S (suc n) (omega arith) in
+      let mid = areaAfter cell first was at n in
+      let i = nextAfter cell first was at n in
+      let R = has-room (each n) mid i (omega (arith, r, stored-long S)) in
+      rw (add-one n) at (written-more each n S refl (next-same (cell (first + n)) was mid i (sym (stored-long S)) ∙ sym (R .0)) refl (sym (R .1)))
 
-  pub all-put : (n : ℕ) → wordCount * length (all n) ≤ length was → (nextAfter cell was n ≡ wordCount * length (all n)) × (areaAfter cell was n ≡ storedIn was 0 (allWords (all n)))
-  all-put n h = let w = written-all (λ k. cellTriangles (cell k)) n (stored n h) n refl in (omega (arith, w .0), w .1 ∙ has-room (all n) was 0 (omega arith) .1)
+  pub all-put : (n : ℕ) → at + length (over (wordsOf (λ k. cellTriangles (cell k))) n first) ≤ length was
+      → Stored was at (over (wordsOf (λ k. cellTriangles (cell k))) n first) (areaAfter cell first was at n) (nextAfter cell first was at n)
+  all-put n h =
+      let f = wordsOf (λ k. cellTriangles (cell k)) in
+      let e : over (wordsOf each) n 0 ≡ over f n first = over-shift f first n 0 ∙ ap (over f n) (add-zero first) in
+      stored-as (stored n (omega (arith, h, ap length e, ap length (gather-over words each n 0), length-all (over each n 0)))) e refl

@@ -1,5 +1,5 @@
 -- What is left in an area where the words of a cell's triangles are written from index `at` on, and those of several cells.
-use Prim.Native.Nat.{ℕ, zero, suc}
+use Prim.Native.Nat.{ℕ, zero, suc, _+_}
 use mathlib.Core.List.{List}
 use Rattle.counting.specs.Stored.{storedIn, nextIn}
 use Rattle.cell.specs.declared.Cell.{Cell}
@@ -15,13 +15,13 @@ module _ (c : Cell) (area : List ℕ) (at : ℕ) where
   unfoldable pub areaThen : List ℕ
   areaThen = storedIn area at (allWords (cellTriangles c))
 
--- The same for cells one after the other, the first from the front on, each that has room from where the one before it left off: the next index and
--- the area after n of them. Writing keeps the area's length, by which alone the next index goes.
-module _ (cell : ℕ → Cell) (area : List ℕ) where
+-- The same for cells one after the other, from number `first` and index `at` on, each that has room from where the one before it left off: the next
+-- index and the area after n of them. Writing keeps the area's length, by which alone the next index goes.
+module _ (cell : ℕ → Cell) (first : ℕ) (area : List ℕ) (at : ℕ) where
   unfoldable pub nextAfter : ℕ → ℕ
-  nextAfter zero = 0
-  nextAfter (suc n) = nextAt (cell n) area (nextAfter n)
+  nextAfter zero = at
+  nextAfter (suc n) = nextAt (cell (first + n)) area (nextAfter n)
 
   unfoldable pub areaAfter : ℕ → List ℕ
   areaAfter zero = area
-  areaAfter (suc n) = areaThen (cell n) (areaAfter n) (nextAfter n)
+  areaAfter (suc n) = areaThen (cell (first + n)) (areaAfter n) (nextAfter n)

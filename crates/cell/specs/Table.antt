@@ -70,10 +70,10 @@ module _ (cells counts names sides starts : List ℕ) where
   unfoldable pub tableFans : ℕ
   tableFans = total (λ c. fanCount (tableCell cells counts names sides starts c)) (drawnCells cells) 0
 
-  -- the area and the next point, once the middles of the first n cells are written from point `at` on
-  unfoldable pub middlesWritten : (nodes area : List Float) (at n : ℕ) → List Float × ℕ
-  middlesWritten nodes area at zero = (area, at)
-  middlesWritten nodes area at (suc n) =
-      let v = tableCell cells counts names sides starts n in
-      let w = middlesWritten nodes area at n in
+  -- the area and the next point, once the middles of n cells from number `first` on are written from point `at` on
+  unfoldable pub middlesWritten : (nodes : List Float) (first : ℕ) (area : List Float) (at n : ℕ) → List Float × ℕ
+  middlesWritten nodes first area at zero = (area, at)
+  middlesWritten nodes first area at (suc n) =
+      let v = tableCell cells counts names sides starts (first + n) in
+      let w = middlesWritten nodes first area at n in
       (pointsThen nodes v (w .0) (w .1), nextPoint nodes v (w .0) (w .1))

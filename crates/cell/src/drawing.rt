@@ -1,6 +1,6 @@
 // The triangles of all cells of a grid's tables: those of the cells that have to be walked for it counted, and all written.
 ghost use mathlib.Core.Path.{_≡_};
-ghost use Prim.Native.Nat.{_≤_};
+ghost use Prim.Native.Nat.{_-_, _≤_};
 ghost use Rattle.counting.specs.Range.{total};
 ghost use Rattle.cell.specs.Fits.{nextAfter, areaAfter};
 ghost use Rattle.cell.specs.Table.{drawnCells, mostTriangles, tableCell, walkedAt};
@@ -100,30 +100,32 @@ pub fn count_walked(
     )
 }
 
-// Writes the words of the cells' triangles from the front of the area on, cell after cell, each cell's where they have room from where the last left off,
-// and answers the next index.
+// Writes the words of the triangles of the cells from c up to `end` from index `at` of the area on, cell after cell, each cell's where they have room
+// from where the last left off, and answers the next index.
 fn put_in_all(
     cells: &[u16],
     counts: &[u16],
     names: &[u16; MOST_SLOTS],
     sides: &[u16; MOST_EDGES],
     starts: &[u32],
+    c: usize,
+    end: usize,
     marks: &mut [u16],
     halves: &mut [u8],
     points: &mut [u32],
     area: &mut [u32],
+    at: usize,
 ) -> usize
     requires { ⌜ Spacious (now counts) (now sides) (now marks) (now halves) (now points) ⌝ }
-    ensures { λ r. ⌜ (r ≡ nextAfter (tableCell (now (cells .entry)) (now (counts .entry)) (now (names .entry)) (now (sides .entry)) (now (starts .entry))) (now (area .entry)) (drawnCells (now (cells .entry)))) × (now (area .exit) ≡ areaAfter (tableCell (now (cells .entry)) (now (counts .entry)) (now (names .entry)) (now (sides .entry)) (now (starts .entry))) (now (area .entry)) (drawnCells (now (cells .entry)))) ⌝ }
+    ensures { λ r. ⌜ (r ≡ nextAfter (tableCell (now (cells .entry)) (now (counts .entry)) (now (names .entry)) (now (sides .entry)) (now (starts .entry))) c (now (area .entry)) at (end - c)) × (now (area .exit) ≡ areaAfter (tableCell (now (cells .entry)) (now (counts .entry)) (now (names .entry)) (now (sides .entry)) (now (starts .entry))) c (now (area .entry)) at (end - c)) ⌝ }
     ensures { λ _. ⌜ Sized (now (marks .entry)) (now (halves .entry)) (now (points .entry)) (now (marks .exit)) (now (halves .exit)) (now (points .exit)) ⌝ }
 {
-    let n = drawn(cells);
-    let mut i: usize = 0;
-    let mut c: usize = 0;
-    while c < n {
-        let x = counted_at(cells, counts, names, sides, starts, c);
+    let mut i = at;
+    let mut k = c;
+    while k < end {
+        let x = counted_at(cells, counts, names, sides, starts, k);
         i = put_in(x.cell, x.crossings, marks, halves, points, area, i);
-        c += 1;
+        k += 1;
     }
     i
 }
@@ -135,10 +137,13 @@ fn put_few(
     names: &[u16; MOST_SLOTS],
     sides: &[u16; MOST_EDGES],
     starts: &[u32],
+    c: usize,
+    end: usize,
     area: &mut [u32],
+    at: usize,
 ) -> usize
     requires { ⌜ Few (now counts) ⌝ }
-    ensures { λ r. ⌜ (r ≡ nextAfter (tableCell (now (cells .entry)) (now (counts .entry)) (now (names .entry)) (now (sides .entry)) (now (starts .entry))) (now (area .entry)) (drawnCells (now (cells .entry)))) × (now (area .exit) ≡ areaAfter (tableCell (now (cells .entry)) (now (counts .entry)) (now (names .entry)) (now (sides .entry)) (now (starts .entry))) (now (area .entry)) (drawnCells (now (cells .entry)))) ⌝ }
+    ensures { λ r. ⌜ (r ≡ nextAfter (tableCell (now (cells .entry)) (now (counts .entry)) (now (names .entry)) (now (sides .entry)) (now (starts .entry))) c (now (area .entry)) at (end - c)) × (now (area .exit) ≡ areaAfter (tableCell (now (cells .entry)) (now (counts .entry)) (now (names .entry)) (now (sides .entry)) (now (starts .entry))) c (now (area .entry)) at (end - c)) ⌝ }
 {
     let mut marks = [0u16; FEW_IN_CELL];
     let mut halves = [0u8; FEW_IN_CELL];
@@ -149,10 +154,13 @@ fn put_few(
         names,
         sides,
         starts,
+        c,
+        end,
         &mut marks,
         &mut halves,
         &mut points,
         area,
+        at,
     )
 }
 
@@ -163,12 +171,15 @@ pub fn write_cells(
     names: &[u16; MOST_SLOTS],
     sides: &[u16; MOST_EDGES],
     starts: &[u32],
+    c: usize,
+    end: usize,
     area: &mut [u32],
+    at: usize,
 ) -> usize
-    ensures { λ r. ⌜ (r ≡ nextAfter (tableCell (now (cells .entry)) (now (counts .entry)) (now (names .entry)) (now (sides .entry)) (now (starts .entry))) (now (area .entry)) (drawnCells (now (cells .entry)))) × (now (area .exit) ≡ areaAfter (tableCell (now (cells .entry)) (now (counts .entry)) (now (names .entry)) (now (sides .entry)) (now (starts .entry))) (now (area .entry)) (drawnCells (now (cells .entry)))) ⌝ }
+    ensures { λ r. ⌜ (r ≡ nextAfter (tableCell (now (cells .entry)) (now (counts .entry)) (now (names .entry)) (now (sides .entry)) (now (starts .entry))) c (now (area .entry)) at (end - c)) × (now (area .exit) ≡ areaAfter (tableCell (now (cells .entry)) (now (counts .entry)) (now (names .entry)) (now (sides .entry)) (now (starts .entry))) c (now (area .entry)) at (end - c)) ⌝ }
 {
     if greatest(counts) <= FEW_COUNT {
-        return put_few(cells, counts, names, sides, starts, area);
+        return put_few(cells, counts, names, sides, starts, c, end, area, at);
     }
     let mut marks = [0u16; MOST_IN_CELL];
     let mut halves = [0u8; MOST_IN_CELL];
@@ -179,9 +190,12 @@ pub fn write_cells(
         names,
         sides,
         starts,
+        c,
+        end,
         &mut marks,
         &mut halves,
         &mut points,
         area,
+        at,
     )
 }

@@ -1,7 +1,7 @@
 // The fans of all cells, counted, and their middles written.
 ghost use mathlib.Core.Path.{_≡_};
-ghost use Prim.Native.Nat.{_≤_};
-ghost use Rattle.cell.specs.Table.{drawnCells, mostTriangles, tableFans, middlesWritten};
+ghost use Prim.Native.Nat.{_-_, _≤_};
+ghost use Rattle.cell.specs.Table.{mostTriangles, tableFans, middlesWritten};
 ghost use Rattle.cell.specs.Walked.{Few, Spacious, Sized};
 use super::FEW_COUNT;
 use super::FEW_IN_CELL;
@@ -80,14 +80,16 @@ pub fn count_fans(
     )
 }
 
-// Writes the middles of the fans cell by cell, from point `at` of the area on, and answers the next point. `nodes` has the nodes' places. Of a cell whose
-// middles have no room, or one of whose crossings has no place before the next point, nothing is written.
+// Writes the middles of the fans of the cells from c up to `end`, cell by cell, from point `at` of the area on, and answers the next point. `nodes` has the
+// nodes' places. Of a cell whose middles have no room, or one of whose crossings has no place before the next point, nothing is written.
 fn middles_in_all(
     cells: &[u16],
     counts: &[u16],
     names: &[u16; MOST_SLOTS],
     sides: &[u16; MOST_EDGES],
     starts: &[u32],
+    c: usize,
+    end: usize,
     marks: &mut [u16],
     halves: &mut [u8],
     points: &mut [u32],
@@ -96,16 +98,15 @@ fn middles_in_all(
     at: usize,
 ) -> usize
     requires { ⌜ Spacious (now counts) (now sides) (now marks) (now halves) (now points) ⌝ }
-    ensures { λ r. ⌜ (now (area .exit), r) ≡ middlesWritten (now (cells .entry)) (now (counts .entry)) (now (names .entry)) (now (sides .entry)) (now (starts .entry)) (now (nodes .entry)) (now (area .entry)) at (drawnCells (now (cells .entry))) ⌝ }
+    ensures { λ r. ⌜ (now (area .exit), r) ≡ middlesWritten (now (cells .entry)) (now (counts .entry)) (now (names .entry)) (now (sides .entry)) (now (starts .entry)) (now (nodes .entry)) c (now (area .entry)) at (end - c) ⌝ }
     ensures { λ _. ⌜ Sized (now (marks .entry)) (now (halves .entry)) (now (points .entry)) (now (marks .exit)) (now (halves .exit)) (now (points .exit)) ⌝ }
 {
-    let n = drawn(cells);
     let mut i = at;
-    let mut c: usize = 0;
-    while c < n {
-        let x = counted_at(cells, counts, names, sides, starts, c);
+    let mut k = c;
+    while k < end {
+        let x = counted_at(cells, counts, names, sides, starts, k);
         i = middles_in(x.cell, x.crossings, marks, halves, points, nodes, area, i);
-        c += 1;
+        k += 1;
     }
     i
 }
@@ -117,12 +118,14 @@ fn few_middles(
     names: &[u16; MOST_SLOTS],
     sides: &[u16; MOST_EDGES],
     starts: &[u32],
+    c: usize,
+    end: usize,
     nodes: &[f64],
     area: &mut [f64],
     at: usize,
 ) -> usize
     requires { ⌜ Few (now counts) ⌝ }
-    ensures { λ r. ⌜ (now (area .exit), r) ≡ middlesWritten (now (cells .entry)) (now (counts .entry)) (now (names .entry)) (now (sides .entry)) (now (starts .entry)) (now (nodes .entry)) (now (area .entry)) at (drawnCells (now (cells .entry))) ⌝ }
+    ensures { λ r. ⌜ (now (area .exit), r) ≡ middlesWritten (now (cells .entry)) (now (counts .entry)) (now (names .entry)) (now (sides .entry)) (now (starts .entry)) (now (nodes .entry)) c (now (area .entry)) at (end - c) ⌝ }
 {
     let mut marks = [0u16; FEW_IN_CELL];
     let mut halves = [0u8; FEW_IN_CELL];
@@ -133,6 +136,8 @@ fn few_middles(
         names,
         sides,
         starts,
+        c,
+        end,
         &mut marks,
         &mut halves,
         &mut points,
@@ -149,14 +154,16 @@ pub fn write_middles(
     names: &[u16; MOST_SLOTS],
     sides: &[u16; MOST_EDGES],
     starts: &[u32],
+    c: usize,
+    end: usize,
     nodes: &[f64],
     area: &mut [f64],
     at: usize,
 ) -> usize
-    ensures { λ r. ⌜ (now (area .exit), r) ≡ middlesWritten (now (cells .entry)) (now (counts .entry)) (now (names .entry)) (now (sides .entry)) (now (starts .entry)) (now (nodes .entry)) (now (area .entry)) at (drawnCells (now (cells .entry))) ⌝ }
+    ensures { λ r. ⌜ (now (area .exit), r) ≡ middlesWritten (now (cells .entry)) (now (counts .entry)) (now (names .entry)) (now (sides .entry)) (now (starts .entry)) (now (nodes .entry)) c (now (area .entry)) at (end - c) ⌝ }
 {
     if greatest(counts) <= FEW_COUNT {
-        return few_middles(cells, counts, names, sides, starts, nodes, area, at);
+        return few_middles(cells, counts, names, sides, starts, c, end, nodes, area, at);
     }
     let mut marks = [0u16; MOST_IN_CELL];
     let mut halves = [0u8; MOST_IN_CELL];
@@ -167,6 +174,8 @@ pub fn write_middles(
         names,
         sides,
         starts,
+        c,
+        end,
         &mut marks,
         &mut halves,
         &mut points,

@@ -3,6 +3,7 @@ use Prim.Native.Nat.{ℕ, zero, suc, _+_, _*_, _≤_, _<_}
 use mathlib.Core.Path.{_≡_, refl, sym, ap, _∙_}
 use mathlib.Core.Bool.{true, false}
 use mathlib.Core.List.{List}
+use native.Mathlib.Nat.{zero-add}
 use native.Mathlib.Omega.{arith}
 use lib.ListN.{length}
 use lib.Ieee.{Float}
@@ -17,14 +18,14 @@ use Rattle.place.proofs.Numbers.{length-numbers, place-kept}
 use Rattle.cell.specs.declared.Cell.{Cell}
 use Rattle.cell.specs.Of.{countOf}
 use Rattle.cell.specs.Nests.{nestMiddle}
-use Rattle.cell.specs.Middles.{fanCount, cellMiddles, numberedBelow, middlesAt, pointsThen, nextPoint}
+use Rattle.cell.specs.Middles.{fanCount, cellMiddles, numberedBelow, middlesAt}
 use Rattle.cell.specs.Table.{tableCell, drawnCells, tableFans, middlesWritten}
 use Rattle.cell.proofs.Fans.{length-cell, below-more, below-placeable, cell-ext}
 use Rattle.cell.proofs.Values.{taken-is}
 use Rattle.booking.specs.Booking.{isSplit}
 use Rattle.split.specs.Standing.{innerPlaces, drawnMiddles}
-use Rattle.split.specs.Spots.{innerBy, fansBy, pointsStored, cellsStored, innerIn, addedIn, innerAtCell, middlesAtCell}
-use Rattle.split.proofs.Spotted.{inner-by, fans-by, unsplit-by, inner-not, middles-not, stored-empty, cells-written}
+use Rattle.split.specs.Spots.{innerBy, fansBy, cellsStored, innerIn, addedIn, innerAtCell, middlesAtCell}
+use Rattle.split.proofs.Spotted.{inner-by, fans-by, unsplit-by, inner-not, stored-empty, cells-none, cells-stretch, cells-written}
 use Rattle.places.specs.Work.{tableInner, tableMiddlesOf, tableMiddles, restWritten}
 
 module _ (cells counts names sides starts : List ℕ) where
@@ -117,14 +118,11 @@ module _ (cells counts names sides starts : List ℕ) where
     inner-same (suc c) l =
         rw (← (inner-same c (omega arith)), inner-not nodes (cellAt c) (unsplit c (omega arith))) (stored-empty area at)
 
-    middles-same : (c : ℕ) → c ≤ many → middlesWritten cells counts names sides starts nodes area at c ≡ cellsStored (middlesAtCell cells counts names sides starts nodes) area at c
-    unfolding cellsStored middlesWritten pointsThen nextPoint
-    middles-same zero l = refl
-    middles-same (suc c) l =
-        let w = middlesWritten cells counts names sides starts nodes area at c in
-        ap (pointsStored (w .0) (w .1)) (sym (middles-not nodes (cellAt c) (unsplit c (omega arith)) nestMiddle (middlesAt nodes (cellAt c) (w .0) (w .1))))
-        ∙ ap (λ (w : List Float × ℕ). pointsStored (w .0) (w .1) (middlesAtCell cells counts names sides starts nodes c (w .0) (w .1))) (middles-same c (omega arith))
+    middles-same : middlesWritten cells counts names sides starts nodes 0 area at many ≡ cellsStored (middlesAtCell cells counts names sides starts nodes) area at many
+    middles-same =
+        cells-stretch cells counts names sides starts nodes area at 0 (cells-none (middlesAtCell cells counts names sides starts nodes) area at) many (λ c _ l. unsplit c (omega arith))
+        ∙ ap (cellsStored (middlesAtCell cells counts names sides starts nodes) area at) (zero-add many)
 
-    pub rest-same : middlesWritten cells counts names sides starts nodes area at many ≡ restWritten cells counts names sides starts nodes area at
+    pub rest-same : middlesWritten cells counts names sides starts nodes 0 area at many ≡ restWritten cells counts names sides starts nodes area at
     unfolding restWritten
-    rest-same = rw (← (inner-same many (omega arith))) (middles-same many (omega arith))
+    rest-same = rw (← (inner-same many (omega arith))) middles-same

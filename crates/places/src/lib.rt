@@ -45,7 +45,8 @@ fn place_rest(
     ensures { λ r. ⌜ (now (area .exit), r) ≡ restWritten (now (cells .entry)) (now (counts .entry)) (now (names .entry)) (now (sides .entry)) (now (starts .entry)) (now (nodes .entry)) (now (area .entry)) at ⌝ }
 {
     if inner == 0 {
-        return cell::write_middles(cells, counts, names, sides, starts, nodes, area, at);
+        let n = cell::drawn(cells);
+        return cell::write_middles(cells, counts, names, sides, starts, 0, n, nodes, area, at);
     }
     let i = split::write_inner(cells, counts, names, sides, starts, nodes, area, at);
     split::write_drawn_middles(cells, counts, names, sides, starts, nodes, area, i)

@@ -3,7 +3,7 @@ use Prim.Native.Nat.{ℕ, zero, suc, _+_, _-_, _*_, _/_, _≤_, _<_}
 use mathlib.Core.Path.{_≡_, refl, sym, ap, ap₂, _∙_}
 use mathlib.Core.Bool.{Bool, true, false}
 use mathlib.Core.List.{List, []}
-use native.Mathlib.Nat.{mul-le-mul, le-of-dvd}
+use native.Mathlib.Nat.{add-zero, mul-le-mul, le-of-dvd}
 use native.Mathlib.Numerals.{add-one}
 use native.Mathlib.Omega.{arith}
 use lib.Dec.{leb, ltb}
@@ -25,24 +25,25 @@ use Rattle.place.proofs.Numbers.{length-numbers}
 use Rattle.cell.specs.declared.Cell.{Cell}
 use Rattle.cell.specs.Of.{countOf, limited}
 use Rattle.cell.specs.Level.{byEdge, isLevelCell}
-use Rattle.cell.specs.Table.{tableCell, takenCounts}
+use Rattle.cell.specs.Table.{tableCell, takenCounts, middlesWritten}
 use Rattle.cell.proofs.Values.{taken-is}
 use Rattle.cell.specs.Nests.{nestMiddle}
 use Rattle.cell.specs.Middles.{fanCount, middlesAt, pointsThen, nextPoint}
 use Rattle.cell.proofs.Using.{limited-same}
 use Rattle.booking.specs.declared.SplitSums.{SplitSums}
-use Rattle.booking.specs.Figures.{areSpiral, areSplit, figure, innerCrossings, besideSplit, endNumber}
+use Rattle.booking.specs.Figures.{areSpiral, areSplit, innerCrossings, besideSplit, endNumber}
 use Rattle.booking.specs.Booking.{larger, smaller, isSplit}
 use Rattle.booking.specs.Sums.{AreFigures}
 use Rattle.booking.proofs.Figures.{figure-step, figureLaws}
 use Rattle.split.specs.declared.Spiral.{Spiral}
 use Rattle.split.specs.Limits.{firstInnerCrossing, firstInnerFace}
-use Rattle.split.specs.Parts.{splitsOf}
 use Rattle.split.specs.Standing.{cornersOf, allStanding, innerPlaces, drawnMiddles}
 use Rattle.split.specs.Working.{LevelSix, SpiralNumbers, Drawable}
-use Rattle.split.specs.Spots.{standingInner, standingFans, Spun, addedFans, innerBy, fansBy, mostInner, AreSpots, pointsStored, cellsStored, innerIn, addedIn}
+use Rattle.split.specs.Gains.{IsStretch}
+use Rattle.split.specs.Spots.{standingInner, standingFans, Spun, addedFans, innerBy, fansBy, mostInner, AreSpots, pointsStored, cellsStored, innerIn, addedIn, middlesAtCell}
 use Rattle.split.proofs.Lengths.{IsSplit, split-is}
 use Rattle.split.proofs.SubCells.{most-sum}
+use Rattle.split.proofs.Tables.{unsplit, unsplit-at}
 use Rattle.split.proofs.OneCell.{drawn-placed, drawn-split, drawn-left}
 use Rattle.split.proofs.Fanned.{fans-some, length-inner, length-spun, figures-tell}
 
@@ -87,14 +88,7 @@ module _ (nodes : List Float) (c : Cell) (e : isSplit (countOf c) ≡ false) whe
 -- the numbers as they are got
 module _ {c : Cell} {splits : ℕ} (D : Drawable c splits) where
   pub split-not : splits ≡ 0 → isSplit (countOf c) ≡ false
-  unfolding splitsOf
-  split-not z = go (isSplit (countOf c)) refl (sym (D .splits-are) ∙ z)
-    where
-      go : (s : Bool) → isSplit (countOf c) ≡ s → pick s (figure (λ n. 0) (λ x y. 1) (larger (countOf c)) (smaller (countOf c))) 0 ≡ 0 → isSplit (countOf c) ≡ false
-      go false e i = e
-      go true e i =
-          let S = split-is (countOf c) e in
-          absurd (omega (arith, i, figure-step (λ n. 0) (λ x y. 1) (larger (countOf c)) (smaller (countOf c)) (S .some) (S .more)))
+  split-not z = unsplit c (sym (D .splits-are) ∙ z)
 
   pub spots-none : splits ≡ 0 → AreSpots c 0 0 0
   unfolding innerBy fansBy
@@ -218,6 +212,29 @@ module _ (f : ℕ → List Float → ℕ → List Place) (area : List Float) (at
 
     pub cells-all : {k : ℕ} → n ≡ k → (mid, i) ≡ cellsStored f area at k
     cells-all q = e ∙ ap (cellsStored f area at) q
+
+-- a stretch of cells that are not split, k of them from n on: their middles as they are written from the tables
+module _ (cells counts names sides starts : List ℕ) (nodes area : List Float) (at n : ℕ) {mid : List Float} {i : ℕ}
+    (e : (mid, i) ≡ cellsStored (middlesAtCell cells counts names sides starts nodes) area at n) where
+  pub cells-stretch : (k : ℕ) → ((c : ℕ) → n ≤ c → c < n + k → isSplit (countOf (tableCell cells counts names sides starts c)) ≡ false)
+      → middlesWritten cells counts names sides starts nodes n mid i k ≡ cellsStored (middlesAtCell cells counts names sides starts nodes) area at (n + k)
+  unfolding cellsStored middlesWritten pointsThen nextPoint
+  cells-stretch zero none = rw (add-zero n) e
+  cells-stretch (suc k) none =
+      let v = tableCell cells counts names sides starts (n + k) in
+      let w = middlesWritten cells counts names sides starts nodes n mid i k in
+      let s : n + suc k ≡ suc (n + k) = omega arith in
+      rw s
+      (ap (pointsStored (w .0) (w .1)) (sym (middles-not nodes v (none (n + k) (omega arith) (omega arith)) nestMiddle (middlesAt nodes v (w .0) (w .1))))
+      ∙ ap (λ (w : List Float × ℕ). pointsStored (w .0) (w .1) (middlesAtCell cells counts names sides starts nodes (n + k) (w .0) (w .1)))
+      (cells-stretch k (λ c a b. none c a (omega arith))))
+
+  pub stretch-middles : {m last splits : ℕ} → IsStretch counts sides n m last splits → {out : List Float} {r : ℕ}
+      → (out, r) ≡ middlesWritten cells counts names sides starts nodes n mid i (last - n)
+      → (out, r) ≡ cellsStored (middlesAtCell cells counts names sides starts nodes) area at last
+  stretch-middles {m} {last} R q =
+      let s : n + (last - n) ≡ last = omega (arith, R .from) in
+      q ∙ cells-stretch (last - n) (λ c a b. unsplit-at cells counts names sides starts c (R .none c a (omega arith))) ∙ ap (cellsStored (middlesAtCell cells counts names sides starts nodes) area at) s
 
 -- what is written of a cell, in which so many splits are made
 module _ {c : Cell} {splits : ℕ} (D : Drawable c splits) (nodes area : List Float) (i : ℕ) where

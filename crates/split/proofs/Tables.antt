@@ -1,25 +1,29 @@
 -- What is drawn of the cells of a grid's tables: how much it is, and that each cell can be written.
-use Prim.Native.Nat.{ℕ, _+_, _*_, _%_, _≤_, _<_}
+use Prim.Native.Nat.{ℕ, suc, _+_, _-_, _*_, _%_, _≤_, _<_}
 use mathlib.Core.Path.{_≡_, refl, sym, ap, _∙_}
 use mathlib.Core.Bool.{Bool, true, false}
-use mathlib.Core.List.{List}
+use mathlib.Core.List.{List, _++_}
+use native.Mathlib.Decide.{decLt}
 use native.Mathlib.Omega.{arith}
-use lib.ListN.{length, getD}
+use lib.ListN.{length, getD, length-append}
 use Rattle.counting.specs.Pick.{pick}
 use Rattle.counting.specs.Range.{total, over}
 use Rattle.counting.specs.Stored.{Stored}
-use Rattle.counting.proofs.Lists.{length-singles, values-at}
-use Rattle.counting.proofs.Range.{total-ext, total-add, total-has, length-over, over-ext}
-use Rattle.counting.proofs.Stored.{stored-long}
+use Rattle.counting.proofs.Fronts.{over-split}
+use Rattle.counting.proofs.Lists.{length-singles, values-at, gather-over}
+use Rattle.counting.proofs.Range.{total-ext, total-add, total-has, length-over, over-ext, over-snoc}
+use Rattle.counting.proofs.Stored.{stored-none, stored-long, stored-as, stored-then}
 use Rattle.grid.specs.Grid.{mostCells}
 use Rattle.cell.specs.declared.Cell.{Cell}
 use Rattle.cell.specs.Limits.{shortLimit}
 use Rattle.cell.specs.Of.{countOf, startOf}
 use Rattle.cell.specs.Level.{byEdge}
 use Rattle.cell.specs.declared.Triangle.{Triangle}
-use Rattle.cell.specs.Words.{wordCount, allWords}
-use Rattle.cell.specs.Triangles.{cellTriangles}
+use Rattle.cell.specs.Words.{wordCount, words, allWords}
+use Rattle.cell.specs.Triangles.{cellTriangles, trianglesWith}
 use Rattle.cell.specs.Table.{side, tableCell, takenCounts, drawnCells, tableTriangles}
+use Rattle.cell.proofs.Taken.{with-all}
+use Rattle.cell.proofs.Using.{table-near}
 use Rattle.cell.proofs.Values.{taken-is}
 use Rattle.cell.proofs.Storing.{length-all, wordsOf, written-all, written-room}
 use Rattle.booking.specs.Figures.{splits}
@@ -29,18 +33,82 @@ use Rattle.booking.specs.Sums.{GainIn}
 use Rattle.booking.proofs.Figures.{figure-step}
 use Rattle.split.specs.Parts.{drawnTriangles, splitsOf}
 use Rattle.split.specs.Table.{tableDrawn, tableSplits}
-use Rattle.split.specs.Gains.{splitsAt, moreAt}
-use Rattle.split.specs.Working.{Drawable}
+use Rattle.split.specs.Gains.{splitsAt, moreAt, loopWords, IsStretch}
+use Rattle.split.specs.Working.{StartsNear, Drawable}
 use Rattle.split.proofs.Lengths.{split-is, drawn-not}
 use Rattle.split.proofs.Gained.{drawnGained, splitsTold}
+use Rattle.split.proofs.Few.{gain-at}
 
--- a cell without a split is drawn as it is
-pub drawn-unsplit : (c : Cell) → splitsOf c ≡ 0 → drawnTriangles c ≡ cellTriangles c
+-- the lists from p up to e are those up to k and those from k on
+module _ {A : Type 0} (f : ℕ → List A) (p k : ℕ) (l : p ≤ k) where
+  over-next : over f (k + 1 - p) p ≡ over f (k - p) p ++ f k
+  over-next =
+      let s : k + 1 - p ≡ suc (k - p) = omega arith in
+      let q : p + (k - p) ≡ k = omega arith in
+      ap (λ n. over f n p) s ∙ over-snoc f (k - p) p ∙ ap (λ n. over f (k - p) p ++ f n) q
+
+  module _ (e : ℕ) (m : k ≤ e) where
+    over-cut : over f (e - p) p ≡ over f (k - p) p ++ over f (e - k) k
+    over-cut =
+        let s : e - p ≡ (k - p) + (e - k) = omega arith in
+        let q : p + (k - p) ≡ k = omega arith in
+        ap (λ n. over f n p) s ∙ over-split f (k - p) (e - k) p ∙ ap (λ n. over f (k - p) p ++ over f (e - k) n) q
+
+    cut-long : length (over f (e - p) p) ≡ length (over f (k - p) p) + length (over f (e - k) k)
+    cut-long = ap length over-cut ∙ length-append (over f (k - p) p) (over f (e - k) k)
+
+-- the same from 0 on
+module _ {A : Type 0} (f : ℕ → List A) (k e : ℕ) (m : k ≤ e) where
+  over-up : over f e 0 ≡ over f k 0 ++ over f (e - k) k
+  over-up = let a : e - 0 ≡ e = omega arith in let b : k - 0 ≡ k = omega arith in rw (a, b) at (over-cut f 0 k (omega arith) e m)
+
+  up-long : length (over f e 0) ≡ length (over f k 0) + length (over f (e - k) k)
+  up-long = ap length over-up ∙ length-append (over f k 0) (over f (e - k) k)
+
+-- the words of the loops' triangles of the cells from c on, cell after cell: those up to k are stored
+module _ (cells counts names sides starts : List ℕ) (c : ℕ) where
+  abbrev loopsAt : ℕ → List ℕ
+  loopsAt k = allWords (cellTriangles (tableCell cells counts names sides starts k))
+
+  pub each-none : (was : List ℕ) (at : ℕ) → Stored was at (loopWords cells counts names sides starts c (c - c)) was at
+  unfolding over
+  each-none was at = let e : c - c ≡ 0 = omega arith in rw e (stored-none was at)
+
+  module _ {was : List ℕ} {at k : ℕ} {is : List ℕ} {i : ℕ} (l : c ≤ k) (S : Stored was at (loopWords cells counts names sides starts c (k - c)) is i)
+      {v : Cell} (q : v ≡ tableCell cells counts names sides starts k) where
+    loops-with : allWords (trianglesWith v 0) ≡ loopsAt k
+    loops-with = ap (λ v. allWords (trianglesWith v 0)) q ∙ ap allWords (with-all (tableCell cells counts names sides starts k))
+
+    pub each-room : {e : ℕ} → k < e → at + length (loopWords cells counts names sides starts c (e - c)) ≤ length was → i + length (allWords (trianglesWith v 0)) ≤ length is
+    each-room {e} h room =
+        omega (
+          arith,
+          room,
+          S .after,
+          stored-long S,
+          ap length loops-with,
+          cut-long loopsAt c (k + 1) (omega arith) e (omega arith),
+          ap length (over-next loopsAt c k l) ∙ length-append (over loopsAt (k - c) c) (loopsAt k),
+        )
+
+    pub each-more : {is′ : List ℕ} {j : ℕ} → Stored is i (allWords (trianglesWith v 0)) is′ j → Stored was at (loopWords cells counts names sides starts c (k + 1 - c)) is′ j
+    each-more T = stored-as (stored-then S (stored-as T loops-with refl)) (sym (over-next loopsAt c k l)) refl
+
+-- one cell more without splits
+pub none-more : (counts sides : List ℕ) {c e : ℕ} → ((k : ℕ) → c ≤ k → k < e → splitsAt counts sides k ≡ 0) → splitsAt counts sides e ≡ 0
+    → (k : ℕ) → c ≤ k → k < e + 1 → splitsAt counts sides k ≡ 0
+none-more counts sides {c} {e} none z k a b = elim (decLt k e) [
+  | yes l ↦ none k a l
+  | no l ↦ let q : k ≡ e = omega arith in ap (splitsAt counts sides) q ∙ z
+]
+
+-- a cell in which no splits are made is not split, and drawn as it is
+pub unsplit : (c : Cell) → splitsOf c ≡ 0 → isSplit (countOf c) ≡ false
 unfolding splitsOf
-drawn-unsplit c z = go (isSplit (countOf c)) refl z
+unsplit c z = go (isSplit (countOf c)) refl z
   where
-    go : (s : Bool) → isSplit (countOf c) ≡ s → pick s (splits (larger (countOf c)) (smaller (countOf c))) 0 ≡ 0 → drawnTriangles c ≡ cellTriangles c
-    go false e z = drawn-not c e
+    go : (s : Bool) → isSplit (countOf c) ≡ s → pick s (splits (larger (countOf c)) (smaller (countOf c))) 0 ≡ 0 → isSplit (countOf c) ≡ false
+    go false e z = e
     go true e z =
         let S = split-is (countOf c) e in
         absurd (omega (arith, z, figure-step (λ n. 0) (λ x y. 1) (larger (countOf c)) (smaller (countOf c)) (S .some) (S .more)))
@@ -56,6 +124,12 @@ module _ (cells counts names sides starts : List ℕ) where
   more-at : (c : ℕ) → length (drawnTriangles (at c)) ≡ length (cellTriangles (at c)) + moreAt counts sides c
   unfolding moreAt
   more-at c = drawnGained (at c) ∙ ap (λ w. length (cellTriangles (at c)) + moreIn w) (sym (taken-is cells counts names sides starts c))
+
+  pub unsplit-at : (c : ℕ) → splitsAt counts sides c ≡ 0 → isSplit (countOf (at c)) ≡ false
+  unsplit-at c z = unsplit (at c) (sym (splits-at c) ∙ z)
+
+  drawn-unsplit : (c : ℕ) → splitsAt counts sides c ≡ 0 → cellTriangles (at c) ≡ drawnTriangles (at c)
+  drawn-unsplit c z = sym (drawn-not (at c) (unsplit-at c z))
 
   -- all cells
   pub splits-all : total (splitsAt counts sides) (drawnCells cells) 0 ≡ tableSplits cells counts names sides starts
@@ -74,7 +148,7 @@ module _ (cells counts names sides starts : List ℕ) where
   unfolding tableDrawn tableTriangles
   drawn-none z =
       over-ext (λ c. cellTriangles (at c)) (λ c. drawnTriangles (at c)) (drawnCells cells) 0
-      (λ c a b. sym (drawn-unsplit (at c) (omega (arith, splits-at c, total-has (splitsAt counts sides) (drawnCells cells) 0 c a b, z))))
+      (λ c a b. drawn-unsplit c (omega (arith, total-has (splitsAt counts sides) (drawnCells cells) 0 c a b, z)))
 
   -- cell c can be written
   module _ (c : ℕ) where
@@ -94,15 +168,21 @@ module _ (cells counts names sides starts : List ℕ) where
     unfolding tableCell
     index-low = omega arith
 
-    pub table-drawable : {v : Cell} {six : List ℕ} {g : Gain} → v ≡ at c → six ≡ takenCounts counts sides c → GainIn (byEdge six) g → Drawable v (g .splits)
-    table-drawable e f G =
+    pub table-starts : {v : Cell} → v ≡ at c → StartsNear v
+    table-starts e = rw e (record { near = table-near cells counts names sides starts c; starts-six = starts-six })
+
+    pub splits-drawable : {v : Cell} {splits : ℕ} → v ≡ at c → splits ≡ splitsAt counts sides c → Drawable v splits
+    splits-drawable e f =
         rw e (record {
           counts-six = counts-six;
           starts-six = starts-six;
           below = λ k l. omega (arith, starts-low k l);
           index-lt = index-low;
-          splits-are = G .splits-are ∙ ap (λ l. splitsIn (byEdge l)) f ∙ ap splitsIn (taken-is cells counts names sides starts c) ∙ splitsTold (at c);
+          splits-are = f ∙ splits-at c;
         })
+
+    pub table-drawable : {v : Cell} {six : List ℕ} {g : Gain} → v ≡ at c → six ≡ takenCounts counts sides c → GainIn (byEdge six) g → Drawable v (g .splits)
+    table-drawable e f G = splits-drawable e (gain-at counts sides c f G .0)
 
   -- the words of the cells, one after the other: k are written, and the next goes to i
   abbrev pub drawnAt : ℕ → List Triangle
@@ -113,6 +193,29 @@ module _ (cells counts names sides starts : List ℕ) where
     pub next-room : k < drawnCells cells → i + length (allWords (drawnAt k)) ≤ length is
     unfolding tableDrawn
     next-room l = omega (arith, room, written-room drawnAt k S (drawnCells cells) l, length-all (drawnAt k), stored-long S)
+
+    -- a stretch of cells that are not split, up to e
+    module _ {n e splits : ℕ} (R : IsStretch counts sides k n e splits) (l : n ≤ drawnCells cells) where
+      stretch-is : loopWords cells counts names sides starts k (e - k) ≡ over (wordsOf drawnAt) (e - k) k
+      stretch-is = over-ext (loopsAt cells counts names sides starts k) (wordsOf drawnAt) (e - k) k (λ c a b. ap allWords (drawn-unsplit c (R .none c a (omega (arith, R .from)))))
+
+      pub stretch-room : i + length (loopWords cells counts names sides starts k (e - k)) ≤ length is
+      unfolding tableDrawn
+      stretch-room =
+          omega (
+            arith,
+            room,
+            S .after,
+            stored-long S,
+            ap length stretch-is,
+            up-long (wordsOf drawnAt) k e (R .from),
+            up-long (wordsOf drawnAt) e (drawnCells cells) (omega (arith, R .within)),
+            ap length (gather-over words drawnAt (drawnCells cells) 0),
+            length-all (over drawnAt (drawnCells cells) 0),
+          )
+
+      pub stretch-written : {out : List ℕ} {r : ℕ} → Stored is i (loopWords cells counts names sides starts k (e - k)) out r → Stored was 0 (over (wordsOf drawnAt) e 0) out r
+      stretch-written T = stored-as (stored-then S (stored-as T stretch-is refl)) (sym (over-up (wordsOf drawnAt) k e (R .from))) refl
 
     pub all-written : k ≡ drawnCells cells → Stored was 0 (allWords (tableDrawn cells counts names sides starts)) is i
     unfolding tableDrawn

@@ -1,14 +1,24 @@
 -- Only contracts of parts cite this file. What the splits of the cells of a grid's tables come to.
-use Prim.Native.Nat.{ℕ, _*_, _≤_}
+use Prim.Native.Nat.{ℕ, _*_, _≤_, _<_}
 use mathlib.Core.Path.{_≡_}
 use mathlib.Core.List.{List}
-use Rattle.counting.specs.Range.{total}
+use Rattle.counting.specs.Range.{total, over}
 use Rattle.slots.specs.Limits.{mostCount}
 use Rattle.grid.specs.Grid.{mostCells}
 use Rattle.cell.specs.Level.{byEdge}
-use Rattle.cell.specs.Table.{takenCounts, tableCrossings, mostTriangles}
+use Rattle.cell.specs.Words.{allWords}
+use Rattle.cell.specs.Triangles.{cellTriangles}
+use Rattle.cell.specs.Table.{tableCell, takenCounts, tableCrossings, mostTriangles}
 use Rattle.booking.specs.Booking.{splitsIn, moreIn}
 use Rattle.split.specs.Table.{mostMore}
+
+-- the words of the triangles of the loops of n cells of the tables, from cell c on
+abbrev pub loopWords : (cells counts names sides starts : List ℕ) (c n : ℕ) → List ℕ
+loopWords cells counts names sides starts c n = over (λ k. allWords (cellTriangles (tableCell cells counts names sides starts k))) n c
+
+-- a stretch of cells that are not split is not short from so many on
+abbrev pub shortestStretch : ℕ
+shortestStretch = 8
 
 module _ (counts sides : List ℕ) where
   -- the splits of cell c, and what they add
@@ -17,6 +27,14 @@ module _ (counts sides : List ℕ) where
 
   unfoldable pub moreAt : ℕ → ℕ
   moreAt c = moreIn (byEdge (takenCounts counts sides c))
+
+  -- the cells from c up to e are not split; e is the next that is, below n, and in it so many splits are made, or e is n and there are none
+  pub record IsStretch (c n e splits : ℕ) : Type 0 where
+    pub from : c ≤ e
+    pub within : e ≤ n
+    pub none : (k : ℕ) → c ≤ k → k < e → splitsAt k ≡ 0
+    pub last : splits ≡ 0 → e ≡ n
+    pub after : 0 < splits → (e < n) × (splits ≡ splitsAt e)
 
   -- of n cells, with their crossings
   pub record AreSums (n crossings splits more : ℕ) : Type 0 where

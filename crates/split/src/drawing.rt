@@ -1,6 +1,8 @@
 // What is drawn of all cells of a grid's tables.
 ghost use mathlib.Core.Path.{_≡_};
-ghost use Prim.Native.Nat.{_+_, _*_, _≤_};
+ghost use mathlib.Core.Bool.{_&&_};
+ghost use Prim.Native.Nat.{_+_, _-_, _*_, _≤_};
+ghost use lib.Dec.{ltb};
 ghost use lib.ListN.{length};
 ghost use Rattle.counting.specs.Range.{total};
 ghost use Rattle.counting.specs.Stored.{storedIn, Stored};
@@ -8,9 +10,11 @@ ghost use Rattle.cell.specs.Words.{wordCount, allWords};
 ghost use Rattle.cell.specs.Table.{drawnCells, tableCell};
 ghost use Rattle.split.specs.Parts.{drawnTriangles};
 ghost use Rattle.split.specs.Table.{mostDrawn, tableDrawn, tableSplits};
-ghost use Rattle.split.specs.Gains.{AreSums, splitsAt};
+ghost use Rattle.split.specs.Gains.{AreSums, IsStretch, loopWords, shortestStretch, splitsAt};
 use super::CellSums;
 use super::DrawnSums;
+use super::Stretch;
+use super::put;
 use super::put_cell;
 use cell::WORD_COUNT;
 use grid::MOST_EDGES;
@@ -40,7 +44,54 @@ pub fn sums_of(cells: &[u16], counts: &[u16], sides: &[u16; MOST_EDGES]) -> Cell
     }
 }
 
-// Writes the words of what is drawn of cell c, which have room from index `at` on, and answers the next index.
+// The stretch of cells from c on, below n.
+pub(crate) fn stretch_from(counts: &[u16], sides: &[u16; MOST_EDGES], c: usize, n: usize) -> Stretch
+    requires { ⌜ c ≤ n ⌝ }
+    ensures { λ r. ⌜ IsStretch (now (counts .entry)) (now (sides .entry)) c n (r .end) (r .splits) ⌝ }
+{
+    let mut e = c;
+    while e < n {
+        let splits = booking::gain_of(cell::counts_at(counts, sides, e)).splits;
+        if splits != 0 {
+            return Stretch { end: e, splits };
+        }
+        e += 1;
+    }
+    Stretch { end: e, splits: 0 }
+}
+
+// The same where n cells make so many splits, and at once where they make none.
+fn next_stretch(
+    counts: &[u16],
+    sides: &[u16; MOST_EDGES],
+    c: usize,
+    n: usize,
+    splits: u64,
+) -> Stretch
+    requires { ⌜ (c ≤ n) × (splits ≡ total (splitsAt (now counts) (now sides)) n 0) ⌝ }
+    ensures { λ r. ⌜ IsStretch (now (counts .entry)) (now (sides .entry)) c n (r .end) (r .splits) ⌝ }
+{
+    if splits == 0 {
+        return Stretch { end: n, splits: 0 };
+    }
+    stretch_from(counts, sides, c, n)
+}
+
+// A stretch of fewer cells with a split cell after it is written cell by cell: to write several cells at once arrays are made for their walks (SPEED.md).
+const SHORTEST_STRETCH: usize = 8;
+
+// Whether the stretch from cell c on is one of these.
+pub(crate) fn is_short(c: usize, s: Stretch) -> bool
+    requires { ⌜ c ≤ s .end ⌝ }
+    ensures { λ r. ⌜ r ≡ (ltb 0 (s .splits) && ltb (s .end - c) shortestStretch) ⌝ }
+{
+    if s.splits == 0 {
+        return false;
+    }
+    s.end - c < SHORTEST_STRETCH
+}
+
+// Writes the words of what is drawn of cell c, in which so many splits are made: they have room from index `at` on. Answers the next index.
 fn put_at(
     cells: &[u16],
     counts: &[u16],
@@ -48,26 +99,77 @@ fn put_at(
     sides: &[u16; MOST_EDGES],
     starts: &[u32],
     c: usize,
+    splits: u32,
     area: &mut [u32],
     at: usize,
 ) -> usize
+    requires { ⌜ splits ≡ splitsAt (now counts) (now sides) c ⌝ }
     requires { ⌜ at + length (allWords (drawnTriangles (tableCell (now cells) (now counts) (now names) (now sides) (now starts) c))) ≤ length (now area) ⌝ }
     ensures { λ r. ⌜ Stored (now (area .entry)) at (allWords (drawnTriangles (tableCell (now (cells .entry)) (now (counts .entry)) (now (names .entry)) (now (sides .entry)) (now (starts .entry)) c))) (now (area .exit)) r ⌝ }
 {
-    let g = booking::gain_of(cell::counts_at(counts, sides, c));
     let v = cell::cell_at(cells, counts, names, sides, starts, c);
-    put_cell(v, g.splits, area, at)
+    put_cell(v, splits, area, at)
 }
 
-// Writes the words of what is drawn of all cells, which have room in the area, from its front on, and answers the next index.
+// Writes the words of the triangles of the loops of the cells from c up to e, cell by cell by value: they have room from index `at` on. Answers the next
+// index.
+fn put_singly(
+    cells: &[u16],
+    counts: &[u16],
+    names: &[u16; MOST_SLOTS],
+    sides: &[u16; MOST_EDGES],
+    starts: &[u32],
+    c: usize,
+    e: usize,
+    area: &mut [u32],
+    at: usize,
+) -> usize
+    requires { ⌜ at + length (loopWords (now cells) (now counts) (now names) (now sides) (now starts) c (e - c)) ≤ length (now area) ⌝ }
+    ensures { λ r. ⌜ Stored (now (area .entry)) at (loopWords (now (cells .entry)) (now (counts .entry)) (now (names .entry)) (now (sides .entry)) (now (starts .entry)) c (e - c)) (now (area .exit)) r ⌝ }
+{
+    let mut i = at;
+    let mut k = c;
+    while k < e {
+        let v = cell::cell_at(cells, counts, names, sides, starts, k);
+        i = put(v, 0, area, i);
+        k += 1;
+    }
+    i
+}
+
+// The same for a stretch from cell c on: cell by cell where it is short, else from the tables.
+fn put_stretch(
+    cells: &[u16],
+    counts: &[u16],
+    names: &[u16; MOST_SLOTS],
+    sides: &[u16; MOST_EDGES],
+    starts: &[u32],
+    c: usize,
+    s: Stretch,
+    area: &mut [u32],
+    at: usize,
+) -> usize
+    requires { ⌜ c ≤ s .end ⌝ }
+    requires { ⌜ at + length (loopWords (now cells) (now counts) (now names) (now sides) (now starts) c (s .end - c)) ≤ length (now area) ⌝ }
+    ensures { λ r. ⌜ Stored (now (area .entry)) at (loopWords (now (cells .entry)) (now (counts .entry)) (now (names .entry)) (now (sides .entry)) (now (starts .entry)) c (s .end - c)) (now (area .exit)) r ⌝ }
+{
+    if is_short(c, s) {
+        return put_singly(cells, counts, names, sides, starts, c, s.end, area, at);
+    }
+    cell::write_cells(cells, counts, names, sides, starts, c, s.end, area, at)
+}
+
+// Writes the words of what is drawn of all cells, which have room in the area, from its front on, and answers the next index. The cells make so many splits.
 fn put_cells(
     cells: &[u16],
     counts: &[u16],
     names: &[u16; MOST_SLOTS],
     sides: &[u16; MOST_EDGES],
     starts: &[u32],
+    splits: u64,
     area: &mut [u32],
 ) -> usize
+    requires { ⌜ splits ≡ total (splitsAt (now counts) (now sides)) (drawnCells (now cells)) 0 ⌝ }
     requires { ⌜ wordCount * length (tableDrawn (now cells) (now counts) (now names) (now sides) (now starts)) ≤ length (now area) ⌝ }
     ensures { λ r. ⌜ Stored (now (area .entry)) 0 (allWords (tableDrawn (now (cells .entry)) (now (counts .entry)) (now (names .entry)) (now (sides .entry)) (now (starts .entry)))) (now (area .exit)) r ⌝ }
 {
@@ -75,14 +177,29 @@ fn put_cells(
     let mut i: usize = 0;
     let mut c: usize = 0;
     while c < n {
-        i = put_at(cells, counts, names, sides, starts, c, area, i);
-        c += 1;
+        let s = next_stretch(counts, sides, c, n, splits);
+        i = put_stretch(cells, counts, names, sides, starts, c, s, area, i);
+        if s.splits == 0 {
+            return i;
+        }
+        i = put_at(
+            cells,
+            counts,
+            names,
+            sides,
+            starts,
+            s.end,
+            s.splits,
+            area,
+            i,
+        );
+        c = s.end + 1;
     }
     i
 }
 
 // Writes the words of the triangles that are drawn of all cells, which have room in the area and make so many splits, from its front on, and answers how many
-// triangles there are. Where no cell is split, the walks' arrays serve all cells.
+// triangles there are.
 fn write_all(
     cells: &[u16],
     counts: &[u16],
@@ -96,10 +213,7 @@ fn write_all(
     requires { ⌜ wordCount * length (tableDrawn (now cells) (now counts) (now names) (now sides) (now starts)) ≤ length (now area) ⌝ }
     ensures { λ r. ⌜ (r ≡ length (tableDrawn (now (cells .entry)) (now (counts .entry)) (now (names .entry)) (now (sides .entry)) (now (starts .entry)))) × (now (area .exit) ≡ storedIn (now (area .entry)) 0 (allWords (tableDrawn (now (cells .entry)) (now (counts .entry)) (now (names .entry)) (now (sides .entry)) (now (starts .entry))))) ⌝ }
 {
-    if splits == 0 {
-        return cell::write_cells(cells, counts, names, sides, starts, area) / WORD_COUNT;
-    }
-    put_cells(cells, counts, names, sides, starts, area) / WORD_COUNT
+    put_cells(cells, counts, names, sides, starts, splits, area) / WORD_COUNT
 }
 
 // The same where they have room; else nothing is written. The cells come to `s`: no loops have more triangles than crossings, so that the triangles are

@@ -57,6 +57,12 @@ pub struct Extra {
     pub fans: u64,
 }
 
+// Cells that are not split, up to the cell `end`, and the splits that are made in that: none where there is no cell more.
+struct Stretch {
+    end: usize,
+    splits: u32,
+}
+
 // Of a cell that is split: how many inner crossings it has, how many fans the splits add, and how many it has without.
 struct PointSums {
     inner: u64,

@@ -1,18 +1,22 @@
 // The points of split cells, for all cells of a grid's tables: how many there are by numbers, and their places.
 ghost use mathlib.Core.Path.{_≡_};
-ghost use Prim.Native.Nat.{_+_, _*_, _<_};
+ghost use Prim.Native.Nat.{_+_, _-_, _*_, _≤_, _<_};
 ghost use lib.Dec.{leb};
 ghost use Rattle.place.specs.Place.{coordinates};
 ghost use Rattle.cell.specs.Nests.{nestMiddle};
-ghost use Rattle.cell.specs.Table.{drawnCells, tableCell};
+ghost use Rattle.cell.specs.Table.{drawnCells, tableCell, middlesWritten};
 ghost use Rattle.cell.specs.Middles.{middlesAt};
 ghost use Rattle.split.specs.Standing.{cornersOf, innerPlaces, drawnMiddles};
+ghost use Rattle.split.specs.Gains.{splitsAt};
 ghost use Rattle.split.specs.Working.{Drawable};
 ghost use Rattle.split.specs.Spots.{AreSpots, AreExtra, pointsStored, cellsStored, innerAtCell, middlesAtCell};
 use super::Extra;
 use super::FIRST_CROSSING;
 use super::FIRST_FACE;
 use super::PointSums;
+use super::Stretch;
+use super::drawing::is_short;
+use super::drawing::stretch_from;
 use super::numbers::spiral_of;
 use super::placing::centres_in;
 use super::placing::inner_in;
@@ -166,6 +170,74 @@ fn put_middles(c: Cell, splits: u32, nodes: &[f64], area: &mut [f64], i: usize) 
     i
 }
 
+// The same for cell c of the tables.
+fn middles_at(
+    cells: &[u16],
+    counts: &[u16],
+    names: &[u16; MOST_SLOTS],
+    sides: &[u16; MOST_EDGES],
+    starts: &[u32],
+    c: usize,
+    splits: u32,
+    nodes: &[f64],
+    area: &mut [f64],
+    i: usize,
+) -> usize
+    requires { ⌜ splits ≡ splitsAt (now counts) (now sides) c ⌝ }
+    ensures { λ r. ⌜ (now (area .exit), r) ≡ pointsStored (now (area .entry)) i (middlesAtCell (now (cells .entry)) (now (counts .entry)) (now (names .entry)) (now (sides .entry)) (now (starts .entry)) (now (nodes .entry)) c (now (area .entry)) i) ⌝ }
+{
+    let v = cell::cell_at(cells, counts, names, sides, starts, c);
+    put_middles(v, splits, nodes, area, i)
+}
+
+// As `cell::write_middles`, cell by cell by value: the middles of the fans of the loops of the cells from c up to e.
+fn middles_singly(
+    cells: &[u16],
+    counts: &[u16],
+    names: &[u16; MOST_SLOTS],
+    sides: &[u16; MOST_EDGES],
+    starts: &[u32],
+    c: usize,
+    e: usize,
+    nodes: &[f64],
+    area: &mut [f64],
+    at: usize,
+) -> usize
+    ensures { λ r. ⌜ (now (area .exit), r) ≡ middlesWritten (now (cells .entry)) (now (counts .entry)) (now (names .entry)) (now (sides .entry)) (now (starts .entry)) (now (nodes .entry)) c (now (area .entry)) at (e - c) ⌝ }
+{
+    let mut i = at;
+    let mut k = c;
+    while k < e {
+        let v = cell::cell_at(cells, counts, names, sides, starts, k);
+        i = cell::write_fans(v, nodes, area, i);
+        k += 1;
+    }
+    i
+}
+
+// The same for a stretch from cell c on: cell by cell where it is short, else from the tables.
+fn middles_stretch(
+    cells: &[u16],
+    counts: &[u16],
+    names: &[u16; MOST_SLOTS],
+    sides: &[u16; MOST_EDGES],
+    starts: &[u32],
+    c: usize,
+    s: Stretch,
+    nodes: &[f64],
+    area: &mut [f64],
+    at: usize,
+) -> usize
+    requires { ⌜ c ≤ s .end ⌝ }
+    ensures { λ r. ⌜ (now (area .exit), r) ≡ middlesWritten (now (cells .entry)) (now (counts .entry)) (now (names .entry)) (now (sides .entry)) (now (starts .entry)) (now (nodes .entry)) c (now (area .entry)) at (s .end - c) ⌝ }
+{
+    let e = s.end;
+    if is_short(c, s) {
+        return middles_singly(cells, counts, names, sides, starts, c, e, nodes, area, at);
+    }
+    cell::write_middles(cells, counts, names, sides, starts, c, e, nodes, area, at)
+}
+
 // Writes the places of the inner crossings of all cells, cell by cell, from point `at` of the area on, and answers the next point. Of a cell whose inner
 // crossings have no room nothing is written.
 pub fn write_inner(
@@ -211,10 +283,24 @@ pub fn write_drawn_middles(
     let mut i = at;
     let mut c: usize = 0;
     while c < n {
-        let splits = booking::gain_of(cell::counts_at(counts, sides, c)).splits;
-        let v = cell::cell_at(cells, counts, names, sides, starts, c);
-        i = put_middles(v, splits, nodes, area, i);
-        c += 1;
+        let s = stretch_from(counts, sides, c, n);
+        i = middles_stretch(cells, counts, names, sides, starts, c, s, nodes, area, i);
+        if s.splits == 0 {
+            return i;
+        }
+        i = middles_at(
+            cells,
+            counts,
+            names,
+            sides,
+            starts,
+            s.end,
+            s.splits,
+            nodes,
+            area,
+            i,
+        );
+        c = s.end + 1;
     }
     i
 }

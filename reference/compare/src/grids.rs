@@ -251,10 +251,10 @@ pub fn spiral(rng: &mut Rng, most: usize) -> Sample {
 }
 
 /// A grid with cells that are split: one cell, alone or with a neighbour, cells
-/// that share nothing, rows and circles of them, or a closed grid.
+/// that share nothing, few among others, rows and circles of them, or a closed grid.
 pub fn spirals(rng: &mut Rng) -> Sample {
     let most = [6, 8, 12, 20, 40][rng.below(5)];
-    match rng.below(6) {
+    match rng.below(7) {
         0 => spiral(rng, 4 * most),
         1 => {
             let cell = spiral(rng, most);
@@ -271,8 +271,32 @@ pub fn spirals(rng: &mut Rng) -> Sample {
             let chains = [(); 2].map(|()| any_chain(rng));
             spiral_join(rng, chains, 3, most).reordered(rng)
         }
+        4 => among_others(rng, most),
         _ => closed_spirals(rng, most),
     }
+}
+
+/// Cells that share nothing: before each that is split up to 20 with any counts,
+/// and in one grid of four a count above 255.
+fn among_others(rng: &mut Rng, most: usize) -> Sample {
+    let cells = rng.between(2, 60);
+    let mut grid = separate(cells as u16);
+    let mut before = rng.below(cells.min(21));
+    for counts in grid.counts.chunks_mut(6) {
+        if before == 0 {
+            counts.copy_from_slice(&spiral_cell(rng, 3, most));
+            before = rng.below(21);
+            continue;
+        }
+        before -= 1;
+        for count in counts {
+            *count = rng.between(0, most) as u16;
+        }
+    }
+    if rng.below(4) == 0 {
+        grid.counts[rng.below(6)] = rng.between(256, 600) as u16;
+    }
+    grid
 }
 
 /// A grid that meets the premises of the rings and has cells that are split: two

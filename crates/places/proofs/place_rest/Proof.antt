@@ -2,10 +2,11 @@
 use Prim.Native.Nat.{ℕ}
 use mathlib.Core.Path.{sym, ap, _∙_}
 use mathlib.Core.List.{List}
+use native.Mathlib.Omega.{arith}
 use lib.Ieee.{Float}
 use denote.Ref.{now}
 use borrow.Author.Needs.{needs}
-use Rattle.cell.specs.Table.{drawnCells}
+use Rattle.cell.specs.Table.{drawnCells, middlesWritten}
 use Rattle.split.specs.Spots.{cellsStored, middlesAtCell}
 use Rattle.places.specs.Work.{restWritten}
 use Rattle.places.proofs.Middles.{rest-same}
@@ -13,7 +14,11 @@ use Rattle.places.proofs.place_rest.Statement.{statement}
 use Rattle.places.proofs.place_rest.Tie as tie
 
 returns : tie.Need-returns
-returns c = let A = c .before .before .before .before .before .before .before .before .before .before .args in c .before .before .write-middles .ensures ∙ rest-same (now (A .cells)) (now (A .counts)) (now (A .names)) (now (A .sides)) (now (A .starts)) (sym (c .before .before .before .before .before .before .before .before .before .before .pre) ∙ c .before .before .before .before .if1 .taken) (now (A .nodes)) (now (A .area)) (A .at)
+returns c =
+    let A = c .before .before .before .before .before .before .before .before .before .before .before .args in
+    c .before .before .write-middles .ensures
+    ∙ ap (middlesWritten (now (A .cells)) (now (A .counts)) (now (A .names)) (now (A .sides)) (now (A .starts)) (now (A .nodes)) 0 (now (A .area)) (A .at)) (omega (arith, c .before .before .before .before .drawn .ensures))
+    ∙ rest-same (now (A .cells)) (now (A .counts)) (now (A .names)) (now (A .sides)) (now (A .starts)) (sym (c .before .before .before .before .before .before .before .before .before .before .before .pre) ∙ c .before .before .before .before .before .if1 .taken) (now (A .nodes)) (now (A .area)) (A .at)
 
 returns-2 : tie.Need-returns-2
 unfolding restWritten
@@ -26,6 +31,7 @@ pub place-rest-spec : {M : Type 1} → statement M
 place-rest-spec =
     tie.close
     (tie.spec
+    (λ c κs. tt)
     (λ c κs. tt)
     (λ c. search needs)
     returns

@@ -1,15 +1,10 @@
 -- `split::spots::write_drawn_middles` meets its contract.
 use Prim.Native.Nat.{_-_, _≤_}
-use mathlib.Core.Path.{_≡_, ap, _∙_}
+use mathlib.Core.Path.{_≡_, _∙_}
 use native.Mathlib.Omega.{arith}
 use denote.Ref.{now}
-use borrow.Author.Needs.{needs}
-use Rattle.cell.specs.Nests.{nestMiddle}
-use Rattle.cell.specs.Middles.{middlesAt}
-use Rattle.split.specs.Standing.{drawnMiddles}
-use Rattle.split.specs.Spots.{pointsStored, cellsStored, middlesAtCell}
-use Rattle.split.proofs.Tables.{table-drawable}
-use Rattle.split.proofs.Spotted.{cells-none, cells-more, cells-long, cells-all}
+use Rattle.split.specs.Spots.{cellsStored, middlesAtCell}
+use Rattle.split.proofs.Spotted.{cells-none, cells-more, cells-long, cells-all, stretch-middles}
 use Rattle.split.proofs.spots.write_drawn_middles.Statement.{statement}
 use Rattle.split.proofs.spots.write_drawn_middles.Tie as tie
 
@@ -22,32 +17,50 @@ abbrev μ-loop : tie.MeasureT-loop
 loop-holds : tie.Need-loop-holds Inv-loop μ-loop
 loop-holds c = let A = c .before .before .before .before .before .before .args in (omega arith, cells-none (middlesAtCell (now (A .cells)) (now (A .counts)) (now (A .names)) (now (A .sides)) (now (A .starts)) (now (A .nodes))) (now (A .area)) (A .at))
 
-put-middles-requires : tie.Need-put-middles-requires Inv-loop μ-loop
-put-middles-requires c κs =
-    let A = c .before .before .before .before .before .before .before .before .before .before .before .before .args in
-    table-drawable (now (A .cells)) (now (A .counts)) (now (A .names)) (now (A .sides)) (now (A .starts)) (c .before .before .before .before .before .loop .c) (c .before .cell-at .ensures) (c .before .before .before .counts-at .ensures) (c .before .before .gain-of .ensures)
+stretch-from-requires : tie.Need-stretch-from-requires Inv-loop μ-loop
+stretch-from-requires c κs = omega arith
 
-loop-again : tie.Need-loop-again Inv-loop μ-loop
-loop-again c =
-    let A = c .before .before .before .before .before .before .before .before .before .before .before .before .before .before .before .args in
-    let L = c .before .before .before .before .before .before .before .before .loop in
-    let nodes = now (A .nodes) in (
-      omega arith,
-      cells-more (middlesAtCell (now (A .cells)) (now (A .counts)) (now (A .names)) (now (A .sides)) (now (A .starts)) nodes) (now (A .area)) (A .at) (L .c) (L .inv .1)
-          (c .before .before .put-middles .ensures ∙ ap (λ v. pointsStored (L .area) (L .i) (drawnMiddles nodes v nestMiddle (middlesAt nodes v (L .area) (L .i)))) (c .before .before .before .before .cell-at .ensures)),
-    )
-
-returns : tie.Need-returns Inv-loop μ-loop
-returns c =
-    let A = c .before .before .before .before .before .before .before .before .args in
-    let L = c .before .loop in
-    cells-all (middlesAtCell (now (A .cells)) (now (A .counts)) (now (A .names)) (now (A .sides)) (now (A .starts)) (now (A .nodes))) (now (A .area)) (A .at) (L .c) (L .inv .1) (omega (arith, c .before .before .drawn .ensures))
+middles-stretch-requires : tie.Need-middles-stretch-requires Inv-loop μ-loop
+middles-stretch-requires c κs = c .before .stretch-from .ensures .from
 
 same-length : tie.Need-same-length Inv-loop μ-loop
 same-length c =
+    let A = c .before .before .before .before .before .before .before .before .before .before .before .before .before .before .before .args in
+    let S = stretch-middles (now (A .cells)) (now (A .counts)) (now (A .names)) (now (A .sides)) (now (A .starts)) (now (A .nodes)) (now (A .area)) (A .at) (c .before .before .before .before .before .before .before .before .loop .c) (c .before .before .before .before .before .before .before .before .loop .inv .1) (c .before .before .before .before .before .before .stretch-from .ensures) (c .before .before .before .before .middles-stretch .ensures) in
+    cells-long (middlesAtCell (now (A .cells)) (now (A .counts)) (now (A .names)) (now (A .sides)) (now (A .starts)) (now (A .nodes))) (now (A .area)) (A .at) _ S
+
+returns : tie.Need-returns Inv-loop μ-loop
+returns c =
+    let A = c .before .before .before .before .before .before .before .before .before .before .before .before .before .before .before .args in
+    let R = c .before .before .before .before .before .before .stretch-from .ensures in
+    let S = stretch-middles (now (A .cells)) (now (A .counts)) (now (A .names)) (now (A .sides)) (now (A .starts)) (now (A .nodes)) (now (A .area)) (A .at) (c .before .before .before .before .before .before .before .before .loop .c) (c .before .before .before .before .before .before .before .before .loop .inv .1) R (c .before .before .before .before .middles-stretch .ensures) in
+    cells-all (middlesAtCell (now (A .cells)) (now (A .counts)) (now (A .names)) (now (A .sides)) (now (A .starts)) (now (A .nodes))) (now (A .area)) (A .at) _ S (R .last (c .if1 .taken) ∙ c .before .before .before .before .before .before .before .before .before .drawn .ensures)
+
+middles-at-requires : tie.Need-middles-at-requires Inv-loop μ-loop
+middles-at-requires c κs = c .before .before .before .before .before .before .before .stretch-from .ensures .after (omega (arith, c .before .if1 .left)) .1
+
+add-c : tie.Need-add-c Inv-loop μ-loop
+add-c c = omega (arith, c .before .before .before .before .before .before .before .before .before .before .before .stretch-from .ensures .within, c .before .before .before .before .before .before .before .before .before .before .before .before .before .before .drawn .ensures)
+
+loop-less : tie.Need-loop-less Inv-loop μ-loop
+loop-less c = omega (arith, c .before .before .before .before .before .before .before .before .before .before .before .stretch-from .ensures .from)
+
+loop-again : tie.Need-loop-again Inv-loop μ-loop
+loop-again c =
+    let A = c .before .before .before .before .before .before .before .before .before .before .before .before .before .before .before .before .before .before .before .before .args in
+    let R = c .before .before .before .before .before .before .before .before .before .before .before .stretch-from .ensures in
+    let S = stretch-middles (now (A .cells)) (now (A .counts)) (now (A .names)) (now (A .sides)) (now (A .starts)) (now (A .nodes)) (now (A .area)) (A .at) (c .before .before .before .before .before .before .before .before .before .before .before .before .before .loop .c) (c .before .before .before .before .before .before .before .before .before .before .before .before .before .loop .inv .1) R (c .before .before .before .before .before .before .before .before .before .middles-stretch .ensures) in
+    (omega (arith, R .after (omega (arith, c .before .before .before .before .before .if1 .left)) .0), cells-more (middlesAtCell (now (A .cells)) (now (A .counts)) (now (A .names)) (now (A .sides)) (now (A .starts)) (now (A .nodes))) (now (A .area)) (A .at) _ S (c .before .before .before .middles-at .ensures))
+
+same-length-2 : tie.Need-same-length-2 Inv-loop μ-loop
+same-length-2 c =
     let A = c .before .before .before .before .before .before .before .before .args in
-    let L = c .before .loop in
-    cells-long (middlesAtCell (now (A .cells)) (now (A .counts)) (now (A .names)) (now (A .sides)) (now (A .starts)) (now (A .nodes))) (now (A .area)) (A .at) (L .c) (L .inv .1)
+    cells-long (middlesAtCell (now (A .cells)) (now (A .counts)) (now (A .names)) (now (A .sides)) (now (A .starts)) (now (A .nodes))) (now (A .area)) (A .at) (c .before .loop .c) (c .before .loop .inv .1)
+
+returns-2 : tie.Need-returns-2 Inv-loop μ-loop
+returns-2 c =
+    let A = c .before .before .before .before .before .before .before .before .args in
+    cells-all (middlesAtCell (now (A .cells)) (now (A .counts)) (now (A .names)) (now (A .sides)) (now (A .starts)) (now (A .nodes))) (now (A .area)) (A .at) (c .before .loop .c) (c .before .loop .inv .1) (omega (arith, c .before .before .drawn .ensures))
 
 pub write-drawn-middles-spec : {M : Type 1} → statement M
 write-drawn-middles-spec =
@@ -55,14 +68,15 @@ write-drawn-middles-spec =
     (tie.spec
     Inv-loop
     μ-loop
-    (λ c κs. search needs)
+    (λ c κs. tt)
     loop-holds
-    (λ c κs. search needs)
-    (λ c κs. search needs)
-    (λ c κs. search needs)
-    put-middles-requires
-    (λ c. omega (arith, c .before .before .before .before .before .before .before .before .loop .inv .0, c .before .before .before .before .before .before .before .before .before .drawn .ensures))
-    (λ c. omega arith)
-    loop-again
+    stretch-from-requires
+    middles-stretch-requires
     same-length
-    returns)
+    returns
+    middles-at-requires
+    add-c
+    loop-less
+    loop-again
+    same-length-2
+    returns-2)
