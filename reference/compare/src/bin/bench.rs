@@ -82,6 +82,15 @@ fn triangles(grid: &Sample) -> usize {
     }
 }
 
+/// How many triangles an area has room for: any that the grid's crossings allow, or
+/// those that there are.
+fn rooms(grid: &Sample, triangles: usize) -> [(&'static str, usize); 2] {
+    [
+        ("any mesh", grid.most_triangles()),
+        ("this mesh", triangles),
+    ]
+}
+
 /// Times of a grid's mesh in an area with room for so many triangles. Each way
 /// has an area of its own, which is written before the first round and not
 /// cleared between rounds.
@@ -392,11 +401,7 @@ impl Bench {
         }
         let triangles = triangles(grid);
         println!("{name}: {}, {triangles} triangles", size(grid));
-        let rooms = [
-            ("any mesh", grid.most_triangles()),
-            ("this mesh", triangles),
-        ];
-        for (text, room) in rooms {
+        for (text, room) in rooms(grid, triangles) {
             let [proved, kept, new] = mesh_times(grid, room, self.patience);
             let line = |[proved, kept, new]: [f64; WAYS]| {
                 let speed = |micros: f64| triangles as f64 / micros;
@@ -430,11 +435,7 @@ impl Bench {
         };
         let triangles = triangles(grid);
         println!("{name}: {}, {triangles} triangles", size(grid));
-        let rooms = [
-            ("any mesh", grid.most_triangles()),
-            ("this mesh", triangles),
-        ];
-        for (text, room) in rooms {
+        for (text, room) in rooms(grid, triangles) {
             let [mesh, joined, run, reference] = layers_times(&layered, room, self.patience);
             println!(
                 "  room for {text}: undivided {:8.1} us; joined {:8.1} us, ratio {:.2} (of medians \
@@ -833,8 +834,9 @@ fn main() {
          clear their tables, on the stack, in each call; the reference keeps its own from call to \
          call, uncleared, or makes new ones. Triangle areas are written before the first round \
          and not cleared between rounds. An area has room for any mesh with so many crossings in \
-         its cells, so that the proved call need not count first, or for this mesh alone. The \
-         nearest call and its reference keep nothing, nor does the reference's places call.",
+         its cells, so that the proved call need not count first where no cell is split, or for \
+         this mesh alone. The nearest call and its reference keep nothing, nor does the \
+         reference's places call.",
         bench.patience
     );
     meshes(&bench);
