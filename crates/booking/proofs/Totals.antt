@@ -15,7 +15,7 @@ use Rattle.counting.specs.Range.{total}
 use Rattle.counting.specs.Pack.{pre}
 use Rattle.counting.proofs.Range.{total-ext, total-add, total-mono, total-same, length-over}
 use Rattle.cell.specs.declared.Cell.{Cell}
-use Rattle.grid.specs.Grid.{mostCells}
+use Rattle.slots.specs.Limits.{mostCells}
 use Rattle.cell.specs.Limits.{mostInCell}
 use Rattle.cell.specs.Triangles.{cellTriangles}
 use Rattle.cell.specs.Level.{byEdge, isLevelCell}

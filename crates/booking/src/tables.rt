@@ -11,8 +11,8 @@ ghost use Rattle.booking.specs.Totals.{mostCounts, bookedTriangles, walk
 use super::Fans;
 use super::fans_of;
 use cases::ENTRIES;
-use grid::MOST_EDGES;
-use grid::MOST_SLOTS;
+use slots::MOST_EDGES;
+use slots::MOST_SLOTS;
 
 fn wide(x: u16) -> usize
     ensures { λ r. ⌜ (r ≡ x) × (r ≤ 65535) ⌝ }

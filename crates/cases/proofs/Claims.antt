@@ -28,8 +28,9 @@ use Rattle.cases.specs.Cases.{entries, entryOf, loneEdges}
 use Rattle.cases.specs.Table.{tableRows, table}
 use Rattle.cases.specs.Answer.{caseNumbers, caseAnswer, findEntry}
 use Rattle.cases.specs.Tally.{trianglesAt, findEntryAt, outsideAt}
-use Rattle.cases.specs.Claims.{OneToOne, TableLength, EveryEntry, LaidAnyhow, CellsRight, AnswerRight, TotalByEntry}
-use Rattle.cases.proofs.Digits.{entry-lt}
+use Rattle.cases.specs.Claims.{OneToOne, TableLength, EveryEntry, EntriesMet, LaidAnyhow, CellsRight, AnswerRight, TotalByEntry}
+use Rattle.cases.proofs.Quick.{digit}
+use Rattle.cases.proofs.Digits.{entry-lt, digits-common, digits-number}
 use Rattle.cases.proofs.Table.{loops-alone, triangles-alone}
 use Rattle.cases.proofs.Laid as laid
 
@@ -50,6 +51,9 @@ pub every-entry : EveryEntry
 every-entry w C =
     let S = laid-anyhow (loneEdges (byEdge (values (w .count) 6))) w (λ k l. values-at (w .count) 6 k 0 l) in
     record { within = entry-lt (w .count) C; loops = loops-alone (w .count) C ∙ S .0; triangles = triangles-alone (w .count) C ∙ S .1 }
+
+pub entries-met : EntriesMet
+entries-met e l = (loneEdges (digit e), digits-common e, digits-number e l)
 
 pub cells-right : CellsRight
 unfolding loopCount

@@ -5,11 +5,12 @@ use mathlib.Core.Bool.{Bool, true, false}
 use mathlib.Core.List.{[], _∷_}
 use native.Mathlib.Nat.{add-zero, add-suc}
 use native.Mathlib.Omega.{arith}
-use lib.Dec.{ltb}
-use borrow.Author.Tests.{ltb-true}
+use lib.Dec.{eqb, ltb}
+use borrow.Author.Tests.{eqb-true, ltb-true, lt-ltb}
 use Rattle.counting.specs.Pick.{pick}
 use Rattle.counting.specs.Range.{over, values}
-use Rattle.counting.proofs.Search.{every-is}
+use Rattle.counting.specs.Search.{every}
+use Rattle.counting.proofs.Search.{every-is, is-every}
 use Rattle.cell.specs.Common.{digitLimit, isCommon}
 use Rattle.cases.specs.Cases.{entries, fromDigits, entryOf}
 use Rattle.cases.specs.Answer.{findEntry}
@@ -43,6 +44,22 @@ module _ (w : ℕ → ℕ) (C : isCommon w ≡ true) where
           let e4 : n / 3 % 3 ≡ e = omega arith in
           let e5 : n / 1 % 3 ≡ f = omega arith in
           rw (e0, e1, e2, e3, e4, e5) refl
+
+-- and a number below 729 is that of its digits
+digit-lt : (n k : ℕ) → digit n k < digitLimit
+unfolding digit
+digit-lt n k = omega arith
+
+pub digits-common : (n : ℕ) → isCommon (digit n) ≡ true
+unfolding isCommon
+digits-common n = is-every (λ k. ltb (digit n k) digitLimit) 6 (λ k l. lt-ltb (digit n k) digitLimit (digit-lt n k))
+
+numbers-back : every (λ n. eqb (entryOf (digit n)) n) entries ≡ true
+unfolding every entryOf fromDigits digit
+numbers-back = refl
+
+pub digits-number : (n : ℕ) → n < entries → entryOf (digit n) ≡ n
+digits-number n l = eqb-true (entryOf (digit n)) n (every-is (λ n. eqb (entryOf (digit n)) n) entries numbers-back n l)
 
 -- no number of fewer of the digits is greater
 up : (w : ℕ → ℕ) (k j : ℕ) → fromDigits w k ≤ fromDigits w (k + j)

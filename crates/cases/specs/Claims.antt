@@ -38,6 +38,10 @@ pub record Entry (w : Edges) : Type 0 where
 abbrev pub EveryEntry : Type 0
 EveryEntry = (w : Edges) → isCommon (w .count) ≡ true → Entry w
 
+-- and each of the 729 is the entry of some common cell
+abbrev pub EntriesMet : Type 0
+EntriesMet = (e : ℕ) → e < entries → (w : Edges) × (isCommon (w .count) ≡ true) × (entryOf (w .count) ≡ e)
+
 -- how a cell's edges are laid has no part in how many loops and triangles it has: with the same counts they are the same
 abbrev pub LaidAnyhow : Type 0
 LaidAnyhow = (v w : Edges) → ((k : ℕ) → k < 6 → v .count k ≡ w .count k) → (loopCount v ≡ loopCount w) × (triangleCount v ≡ triangleCount w)

@@ -12,7 +12,7 @@ use Rattle.counting.specs.Stored.{filled}
 use Rattle.counting.proofs.Lists.{length-singles, values-at}
 use Rattle.counting.proofs.Stored.{filled-none, filled-more, filled-whole}
 use Rattle.slots.specs.Limits.{mostCount}
-use Rattle.grid.specs.Grid.{mostCells}
+use Rattle.slots.specs.Limits.{mostCells}
 use Rattle.cell.specs.declared.Cell.{Cell}
 use Rattle.cell.specs.Of.{countOf}
 use Rattle.cell.specs.Level.{byEdge}

@@ -1,5 +1,5 @@
 -- A cell of a grid from the grid's tables, whatever stands in them; and what is made of all cells.
-use Prim.Native.Nat.{ℕ, zero, suc, _+_, _*_, _%_, min}
+use Prim.Native.Nat.{ℕ, zero, suc, _+_, _*_, _/_, _%_, min}
 use mathlib.Core.List.{List, []}
 use lib.ListN.{getD, length}
 use lib.Ieee.{Float}
@@ -15,7 +15,7 @@ use Rattle.cell.specs.Triangles.{cellTriangles}
 use Rattle.cell.specs.Middles.{fanCount, pointsThen, nextPoint}
 use Rattle.cell.specs.Level.{byEdge}
 use Rattle.cell.specs.Common.{isKnown}
-use Rattle.grid.specs.Grid.{mostCells, cellCount}
+use Rattle.slots.specs.Limits.{mostCells}
 
 -- the edge k of cell c
 abbrev pub side : List ℕ → ℕ → ℕ → ℕ
@@ -51,7 +51,7 @@ tableCrossings counts sides c = crossings (edgesOf (tableCell [] counts [] sides
 
 -- so many cells are drawn: a grid has no more
 abbrev pub drawnCells : List ℕ → ℕ
-drawnCells cells = min (cellCount cells) mostCells
+drawnCells cells = min (length cells / 4) mostCells
 
 -- the triangles of all cells
 unfoldable pub tableTriangles : (cells counts names sides starts : List ℕ) → List Triangle

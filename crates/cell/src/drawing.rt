@@ -14,9 +14,9 @@ use super::entries::greatest;
 use super::level::is_known;
 use super::triangles::count_in;
 use super::triangles::put_in;
-use grid::MOST_CELLS;
-use grid::MOST_EDGES;
-use grid::MOST_SLOTS;
+use slots::MOST_CELLS;
+use slots::MOST_EDGES;
+use slots::MOST_SLOTS;
 
 // How many cells are drawn.
 pub fn drawn(cells: &[u16]) -> usize

@@ -6,16 +6,16 @@ ghost use Rattle.slots.specs.Limits.{mostCount};
 ghost use Rattle.cell.specs.Cell.{crossings};
 ghost use Rattle.cell.specs.Of.{edgesOf};
 ghost use Rattle.cell.specs.Limits.{mostInCell, shortLimit};
-ghost use Rattle.grid.specs.Grid.{mostCells};
+ghost use Rattle.slots.specs.Limits.{mostCells};
 ghost use Rattle.cell.specs.Table.{tableCounts, tableStarts, ofFour, tableCell, takenCounts};
 use super::Cell;
 use super::Counted;
 use super::routes::crossings_of;
 use super::routes::wide16;
-use grid::MOST_CELLS;
-use grid::MOST_COUNT;
-use grid::MOST_EDGES;
-use grid::MOST_SLOTS;
+use slots::MOST_CELLS;
+use slots::MOST_COUNT;
+use slots::MOST_EDGES;
+use slots::MOST_SLOTS;
 
 // Entry i of a list, 0 past its end.
 fn entry(list: &[u16], i: usize) -> u16

@@ -11,8 +11,8 @@ use super::entries::counted_at;
 use super::entries::greatest;
 use super::middles::fans_in;
 use super::middles::middles_in;
-use grid::MOST_EDGES;
-use grid::MOST_SLOTS;
+use slots::MOST_EDGES;
+use slots::MOST_SLOTS;
 
 // How many fans the cells of the tables have. The arrays are the walks', here and below.
 fn fans_in_all(

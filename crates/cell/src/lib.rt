@@ -4,7 +4,7 @@ ghost use Rattle.cell.specs.Of.{edgesOf, limited};
 ghost use Rattle.cell.specs.Loop.{loopAnswer};
 ghost use Rattle.cell.specs.Answer.{loopNumbers};
 ghost use Rattle.cell.specs.Walked.{Room, Used};
-use grid::MOST_COUNT;
+use slots::MOST_COUNT;
 
 mod answers;
 mod drawing;

@@ -12,7 +12,7 @@ ghost use Rattle.cell.specs.Route.{columns, fronts, Firsts, IsRun, SlotR
 ghost use Rattle.cell.specs.Limits.{mostInCell, shortLimit, longLimit, startLimit};
 use super::Cell;
 use super::Run;
-use grid::MOST_COUNT;
+use slots::MOST_COUNT;
 
 // The columns of the routes.
 pub(crate) const LOW: usize = 0;

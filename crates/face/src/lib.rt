@@ -99,13 +99,14 @@ pub fn corners_of(ab: u16, ac: u16, bc: u16) -> CornerCounts
     if x + y < z {
         return CornerCounts { a: 0, b: ab, c: ac };
     }
-    let above = x + y - z;
-    let a = above / 2;
-    let taken = above - a;
+    let less = (x + y + z) % 2;
+    let p = x - less;
+    let q = y - less;
+    let a = (p + y - z) / 2;
     CornerCounts {
         a: a as u16,
-        b: (x - taken) as u16,
-        c: (y - taken) as u16,
+        b: (p - a) as u16,
+        c: (q - a) as u16,
     }
 }
 

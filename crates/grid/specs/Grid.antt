@@ -9,6 +9,7 @@ use Rattle.counting.specs.Search.{first, some, every, count}
 use Rattle.counting.specs.Pack.{pre}
 use Rattle.counting.specs.Range.{values}
 use Rattle.slots.specs.Slots.{lo, hi, position, contains}
+pub use Rattle.slots.specs.Limits.{highestNode, mostCells, mostCrossings, mostSlots, mostEdges}
 
 -- the four lists: four numbers to a cell, two to an edge, one to a count, one to a start
 pub record Grid : Type 0 where
@@ -19,23 +20,6 @@ pub record Grid : Type 0 where
 
 abbrev pub gridOf : List ℕ → List ℕ → List ℕ → List ℕ → Grid
 gridOf cells edges counts starts = record { cells = cells; edges = edges; counts = counts; starts = starts }
-
--- the highest node, and the most cells and crossings that a grid may have. The greatest count of an edge is `mostCount` of the crate slots.
-abbrev pub highestNode : ℕ
-highestNode = 4095
-
-abbrev pub mostCells : ℕ
-mostCells = 2048
-
-abbrev pub mostCrossings : ℕ
-mostCrossings = 65535
-
--- so many slots the cells have at most, and so many edges
-abbrev pub mostSlots : ℕ
-mostSlots = 4 * mostCells
-
-abbrev pub mostEdges : ℕ
-mostEdges = 6 * mostCells
 
 module _ (cells : List ℕ) where
   abbrev pub cellCount : ℕ

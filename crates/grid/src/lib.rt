@@ -24,20 +24,12 @@ pub use edges::edge_order;
 pub use edges::row_18;
 pub use shared::earlier_places;
 pub use shared::edge_places;
-
-// The highest node, the greatest count of an edge, and the most cells and crossings that a grid may have.
-pub const HIGHEST_NODE: usize = 4095;
-
-pub const MOST_COUNT: u16 = 4095;
-
-pub const MOST_CELLS: usize = 2048;
-
-pub const MOST_CROSSINGS: u32 = 65535;
-
-// So many slots the cells have at most, and so many edges.
-pub const MOST_SLOTS: usize = 4 * MOST_CELLS;
-
-pub const MOST_EDGES: usize = 6 * MOST_CELLS;
+pub use slots::HIGHEST_NODE;
+pub use slots::MOST_CELLS;
+pub use slots::MOST_COUNT;
+pub use slots::MOST_CROSSINGS;
+pub use slots::MOST_EDGES;
+pub use slots::MOST_SLOTS;
 
 const TOO_MANY: u32 = MOST_CROSSINGS + 1;
 

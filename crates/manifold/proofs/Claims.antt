@@ -18,7 +18,7 @@ use Rattle.manifold.proofs.Sound.{member, tally-exact}
 use Rattle.manifold.proofs.Shapes.{many-le}
 use Rattle.manifold.proofs.Polygon.{fits, triangles-length, polygon-sides, Seen, seen, polygon-sound}
 use Rattle.manifold.proofs.Chain.{at-point, fan-ring}
-use Rattle.manifold.proofs.Sides.{at-most-two, segment-one, segment-both}
+use Rattle.manifold.proofs.Sides.{at-most-two, segment-one, segment-none, segment-both}
 use Rattle.manifold.proofs.Mesh.{mesh-sound, side-kind, closed}
 use Rattle.manifold.proofs.Few.{piece-few}
 use Rattle.manifold.proofs.Crossing.{crossing-ring}
@@ -65,8 +65,9 @@ manifold K W = record {
   few = piece-few K W;
   most = at-most-two K W;
   sides = λ t i lt li. ⊎-elim (λ u. inl u) (λ u. let (a, p, k, e, n) = u in inr (a, p, k, e, exact (sideOf (nth (mesh K) t) i) n)) (side-kind K W (nth (mesh K) t) i (member (mesh K) t lt) li);
-  alone = λ c d lc full on only. exact (segmentOf (K .at c) d) (segment-one K W c d lc full on only);
-  shared = λ c d b e lc lb ne full full′ on on′ q. exact (segmentOf (K .at c) d) (segment-both K W c d b e lc lb ne full full′ on on′ q);
+  alone = λ c d lc cl only. exact (segmentOf (K .at c) d) (segment-one K W c d lc only cl);
+  unclosed = λ c d lc on no-loop only. exact (segmentOf (K .at c) d) (segment-none K W c d lc only on no-loop);
+  shared = λ c d b e lc lb ne cl cl′ q. exact (segmentOf (K .at c) d) (segment-both K W c d b e lc lb ne cl cl′ q);
   two = λ S t i lt li. tally-exact (mesh-sound K W) (sideOf (nth (mesh K) t) i) ∙ closed K W S .twice (nth (mesh K) t) i (member (mesh K) t lt) li;
   ring = λ S g c h link. crossing-ring K W g S link c h;
   round = λ S c p lc lp some is. middle-ring K W c p lc lp some is S;

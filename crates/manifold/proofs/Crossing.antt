@@ -19,7 +19,7 @@ use Rattle.manifold.proofs.Together.{port, Here, Spreads, Together, ent
 use Rattle.manifold.proofs.Ring.{one-ring}
 use Rattle.manifold.proofs.Polygon.{of-cross}
 use Rattle.manifold.proofs.Chain.{at-point}
-use Rattle.manifold.proofs.Piece.{Covers, covers, covers-segment, joins}
+use Rattle.manifold.proofs.Piece.{Covers, whole-closes, covers, covers-segment, joins}
 use Rattle.manifold.proofs.Mesh.{Of, of, in-mesh-here, along, size-two, simple, on, point-once, goes-to, closed}
 
 -- corner i of v, a triangle of piece c, is at g, and has the side σ
@@ -71,7 +71,7 @@ module _ (K : Complex) (W : Lawful K) where
     module _ (S : Shut K) where
       -- a triangle at each end of a chain: it has the segment of a dart there
       flag : (c d : ℕ) → c < K .pieces → Joins (K .at c) d → K .at c .number (half d) ≡ g → Flag K g c (segmentOf (K .at c) d)
-      flag c d lc ld e = go (covers (K .at c) (W .piece c lc) (S .full c lc) d ld)
+      flag c d lc ld e = go (covers (K .at c) (W .piece c lc) d (whole-closes (K .at c) (W .piece c lc) (S .full c lc) d ld))
         where
           go : Covers (K .at c) d → Flag K g c (segmentOf (K .at c) d)
           go w = ⊎-elim same-way other-way (w .ends)

@@ -11,16 +11,16 @@ use Rattle.counting.specs.Pick.{pick, one}
 use Rattle.counting.specs.Range.{total, after, before}
 use Rattle.counting.proofs.Range.{total-zero, total-one, total-pos, after-last, after-lt, before-lt, after-before}
 use Rattle.walk.specs.Iterate.{it}
-use Rattle.walk.specs.Darts.{half, rev, Darts, Loop}
+use Rattle.walk.specs.Darts.{half, rev, Darts, Loop, On}
 use Rattle.walk.specs.Step.{step}
 use Rattle.walk.proofs.Iterate.{it-suc}
-use Rattle.walk.proofs.Curve.{loop-distinct, closes}
+use Rattle.walk.proofs.Curve.{loop-distinct, closes, Next, on-walk}
 use Rattle.walk.proofs.Found.{size-live}
 use Rattle.walk.proofs.Once.{listed, same-start, closed-in}
 use Rattle.walk.proofs.Step.{rev-first, rev-second, by-parity, same-half, darts, live, land-half, land-face, face-first, face-second}
 use Rattle.manifold.specs.Triangle.{Side, seg, same}
 use Rattle.manifold.specs.Piece.{Local, Piece, slotOf, mateOf, lowerOf, segmentOf, onward, dart, sizeOf}
-use Rattle.manifold.specs.Complex.{Joins, Whole}
+use Rattle.manifold.specs.Complex.{Joins, Closes, Whole}
 use Rattle.manifold.proofs.Triangle.{eq-same, ne-same, one-same}
 
 module _ (A : Local) where
@@ -191,7 +191,7 @@ module _ (A : Local) where
         let b : onward A (2 * p) ≡ 2 * p = sym (dart-after h) ∙ ap (dart A p) (after-last (sizeOf A p) 0 (sym e)) in
         K .ports .other (2 * p) (omega arith) (sym (step-mate (2 * p) (joins h .joined)) ∙ ap half b)
 
-    -- where no curve ends, the segment of each dart is on a listed loop
+    -- a curve that closes does not end, and where no curve ends each closes
     step-lt : (d : ℕ) → mateOf A d < A .N → onward A d < 2 * A .N
     step-lt d l = omega (arith, l, step-mate d l)
 
@@ -210,9 +210,27 @@ module _ (A : Local) where
         let l = step-lt e (j .joined) in
         steps full i (onward A e) (record { lt = l; joined = full (onward A e) (step-joined e j) l })
 
-    pub covers : Whole A → (e : ℕ) → Joins A e → Covers e
-    covers full e on =
-        let (k, le, L) = closes (2 * A .N) (A .N) (onward A) rev half cell-darts e (λ i h. steps full i e on) in
+    pub closes-joins : (e : ℕ) → Closes A e → Joins A e
+    unfolding it
+    closes-joins e (k, L) = record { lt = L .live 0 (omega arith); joined = live (A .N) (A .fa) (A .fb) (A .mate) (K .ports) e (L .live 1 (L .pos)) }
+
+    pub whole-closes : Whole A → (e : ℕ) → Joins A e → Closes A e
+    whole-closes full e on = let (k, le, L) = closes (2 * A .N) (A .N) (onward A) rev half cell-darts e (λ i h. steps full i e on) in (k, L)
+
+    -- the segments of the curves that close are those of the listed loops
+    pub passed-closes : (e : ℕ) → Joins A e → Passed (segmentOf A e) → Closes A e
+    unfolding Next
+    passed-closes e on w =
+        let (k, le, L) = closes (2 * A .N) (A .N) (onward A) rev half cell-darts e
+        (λ n h. on-walk (2 * A .N) (A .N) (onward A) rev half cell-darts (loop (w .on)) n e (on .lt) (met (segment-cases e (dart A (w .p) (w .i)) on (joins (w .on)) (w .is) .1)) .0) in
+        (k, L)
+      where
+        met : (half e ≡ half (dart A (w .p) (w .i))) ⊎ (half e ≡ mateOf A (dart A (w .p) (w .i))) → On (onward A) half (2 * w .p) (sizeOf A (w .p)) (half e)
+        met (inl q) = record { at = w .i; at-lt = w .on .lt; is = sym q }
+        met (inr q) = record { at = after (sizeOf A (w .p)) (w .i); at-lt = after-lt (sizeOf A (w .p)) (w .i) (w .on .lt); is = point-after (w .on) ∙ sym q }
+
+    pub covers : (e : ℕ) → Closes A e → Covers e
+    covers e (k, L) =
         let (p, lp, o) = closed-in (A .N) (onward A) rev cell-darts e k L in
         ⊎-elim (forth p (o .at) (record { start = lp; lt = o .at-lt }))
         (back p (o .at) (record { start = lp; lt = o .at-lt }))
@@ -227,6 +245,6 @@ module _ (A : Local) where
             let g : Listed p j = record { start = h .start; lt = before-lt (sizeOf A p) i (h .lt) } in
             let s : onward A (dart A p j) ≡ rev e = sym (dart-after g) ∙ ap (dart A p) (after-before (sizeOf A p) i (h .lt)) ∙ q in
             let f : slotOf A (dart A p j) ≡ slotOf A e =
-            sym (step-slot (dart A p j) (dart-lt g) (joins g .joined)) ∙ ap (λ x. slotOf A (rev x)) s ∙ ap (slotOf A) (cell-darts .rv-rv e (on .lt)) in
-            let t : mateOf A (dart A p j) ≡ half e = sym (step-mate (dart A p j) (joins g .joined)) ∙ ap half s ∙ cell-darts .cr-rv e (on .lt) in
+            sym (step-slot (dart A p j) (dart-lt g) (joins g .joined)) ∙ ap (λ x. slotOf A (rev x)) s ∙ ap (slotOf A) (cell-darts .rv-rv e (closes-joins e (k, L) .lt)) in
+            let t : mateOf A (dart A p j) ≡ half e = sym (step-mate (dart A p j) (joins g .joined)) ∙ ap half s ∙ cell-darts .cr-rv e (closes-joins e (k, L) .lt) in
             record { p = p; i = j; on = g; slot = f; ends = inr (sym (K .ports .both (dart A p j) (dart-lt g) (joins g .joined)) ∙ ap₂ (A .mate) f t, t) }

@@ -1,10 +1,12 @@
 -- Steps 4 and 5: how often a side occurs in the mesh. A segment has at most two pieces, and each gives it at most once; an inner side belongs to
--- one loop, which gives it twice. Where nothing is left open, a segment has two pieces, and each gives it once.
+-- one loop, which gives it twice. A piece gives a segment once if its curve closes there, and else not at all. Where nothing is left open, a segment has two
+-- pieces, and its curve closes in each.
 use Prim.Native.Nat.{ℕ, _+_, _*_, _≤_, _<_}
 use mathlib.Core.Path.{_≡_, refl, sym, ap, _∙_, subst}
 use mathlib.Core.Logic.{_≢_, ⊎-elim}
 use native.Mathlib.Nat.{eq-zero-or-pos, le-of-eq}
 use native.Mathlib.Omega.{arith}
+use native.Mathlib.Decide.{ℕ-discrete}
 use Rattle.counting.specs.Pick.{one}
 use Rattle.counting.specs.Range.{total, over}
 use Rattle.counting.specs.Lists.{tally, weigh}
@@ -14,10 +16,10 @@ use Rattle.manifold.specs.Triangle.{Side, seg, inner, same}
 use Rattle.manifold.specs.Plain.{hasSide}
 use Rattle.manifold.specs.Polygon.{shape, innerSide, inners, triangles}
 use Rattle.manifold.specs.Piece.{slotOf, lowerOf, segmentOf, dart, sizeOf}
-use Rattle.manifold.specs.Complex.{Complex, Joins, Lawful, Whole, Shut, loopOf, mesh}
+use Rattle.manifold.specs.Complex.{Complex, Joins, Closes, Lawful, Shut, loopOf, mesh}
 use Rattle.manifold.proofs.Triangle.{hits, eq-same, ne-same, one-same, tally-hits}
 use Rattle.manifold.proofs.Polygon.{polygon-sides}
-use Rattle.manifold.proofs.Piece.{Passed, counts, counted, count-one, count-le, joins, covers, covers-segment}
+use Rattle.manifold.proofs.Piece.{Passed, counts, counted, count-one, count-le, joins, whole-closes, passed-closes, covers, covers-segment}
 
 module _ (K : Complex) where
   -- how often σ is a side of a triangle of the loop from p; of piece c
@@ -134,38 +136,54 @@ module _ (K : Complex) where
     pub at-most-two : (σ : Side) → tally (hasSide σ) (mesh K) ≤ 2
     at-most-two σ = omega (arith, tally-hits σ (mesh K), side-le σ)
 
-    -- a piece in which no curve ends gives each of its segments once
-    once : (c d : ℕ) → c < K .pieces → Whole (K .at c) → Joins (K .at c) d → inPiece (segmentOf (K .at c) d) c ≡ 1
-    once c d lc full ld =
-        let w = covers (K .at c) (W .piece c lc) full d ld in
+    -- a piece gives each segment of a curve that closes in it once
+    once : (c d : ℕ) → c < K .pieces → Closes (K .at c) d → inPiece (segmentOf (K .at c) d) c ≡ 1
+    once c d lc cl =
+        let w = covers (K .at c) (W .piece c lc) d cl in
         segment-count (K .at c .name (slotOf (K .at c) d)) (lowerOf (K .at c) d) c
         ∙ count-one (K .at c) (W .piece c lc) (segmentOf (K .at c) d) (record { p = w .p; i = w .i; on = w .on; is = sym (covers-segment (K .at c) d w) })
 
     -- so a segment occurs once where no other piece has it, and twice where another has it
-    pub segment-one : (c d : ℕ) → c < K .pieces → Whole (K .at c) → Joins (K .at c) d
-        → ((b e : ℕ) → b < K .pieces → b ≢ c → Joins (K .at b) e → segmentOf (K .at b) e ≢ segmentOf (K .at c) d) → weigh (hits (segmentOf (K .at c) d)) (mesh K) ≡ 1
-    segment-one c d lc full ld only =
-        whole (segmentOf (K .at c) d)
-        ∙ total-one (inPiece (segmentOf (K .at c) d)) (K .pieces) 0 c (omega arith) (omega arith) (once c d lc full ld)
-        (λ a u v ne. ⊎-elim (λ z. z)
-        (λ (h : 0 < inPiece (segmentOf (K .at c) d) a).
-        let la : a < K .pieces = omega arith in
-        let w = segment-in (K .at c .name (slotOf (K .at c) d)) (lowerOf (K .at c) d) a la h in
-        absurd (only a (dart (K .at a) (w .p) (w .i)) la ne (joins (K .at a) (W .piece a la) (w .on)) (sym (w .is))))
-        (eq-zero-or-pos (inPiece (segmentOf (K .at c) d) a)))
+    module _ (c d : ℕ) (lc : c < K .pieces)
+        (only : (b e : ℕ) → b < K .pieces → b ≢ c → Joins (K .at b) e → segmentOf (K .at b) e ≢ segmentOf (K .at c) d) where
+      elsewhere : (a : ℕ) → a < K .pieces → a ≢ c → inPiece (segmentOf (K .at c) d) a ≡ 0
+      elsewhere a la ne = ⊎-elim (λ z. z)
+          (λ (h : 0 < inPiece (segmentOf (K .at c) d) a).
+          let w = segment-in (K .at c .name (slotOf (K .at c) d)) (lowerOf (K .at c) d) a la h in
+          absurd (only a (dart (K .at a) (w .p) (w .i)) la ne (joins (K .at a) (W .piece a la) (w .on)) (sym (w .is))))
+          (eq-zero-or-pos (inPiece (segmentOf (K .at c) d) a))
 
-    pub segment-both : (c d b e : ℕ) → c < K .pieces → b < K .pieces → b ≢ c → Whole (K .at c) → Whole (K .at b) → Joins (K .at c) d → Joins (K .at b) e
+      pub segment-one : Closes (K .at c) d → weigh (hits (segmentOf (K .at c) d)) (mesh K) ≡ 1
+      segment-one cl =
+          whole (segmentOf (K .at c) d)
+          ∙ total-one (inPiece (segmentOf (K .at c) d)) (K .pieces) 0 c (omega arith) (omega arith) (once c d lc cl) (λ a u v ne. elsewhere a (omega arith) ne)
+
+      -- and nowhere if its curve does not close
+      pub segment-none : Joins (K .at c) d → (Closes (K .at c) d → ⊥) → weigh (hits (segmentOf (K .at c) d)) (mesh K) ≡ 0
+      segment-none on no-loop =
+          whole (segmentOf (K .at c) d)
+          ∙ total-zero (inPiece (segmentOf (K .at c) d)) (K .pieces) 0 (λ a u v. elim (ℕ-discrete a c) [ yes e ↦ ap (inPiece (segmentOf (K .at c) d)) e ∙ here | no ne ↦ elsewhere a (omega arith) ne ])
+        where
+          here : inPiece (segmentOf (K .at c) d) c ≡ 0
+          here = ⊎-elim (λ z. z)
+              (λ (h : 0 < inPiece (segmentOf (K .at c) d) c).
+              absurd (no-loop (passed-closes (K .at c) (W .piece c lc) d on (segment-in (K .at c .name (slotOf (K .at c) d)) (lowerOf (K .at c) d) c lc h))))
+              (eq-zero-or-pos (inPiece (segmentOf (K .at c) d) c))
+
+    pub segment-both : (c d b e : ℕ) → c < K .pieces → b < K .pieces → b ≢ c → Closes (K .at c) d → Closes (K .at b) e
         → segmentOf (K .at b) e ≡ segmentOf (K .at c) d → weigh (hits (segmentOf (K .at c) d)) (mesh K) ≡ 2
-    segment-both c d b e lc lb ne full full′ ld le q =
-        let n : inPiece (segmentOf (K .at c) d) b ≡ 1 = subst (λ y. inPiece y b ≡ 1) q (once b e lb full′ le) in
+    segment-both c d b e lc lb ne cl cl′ q =
+        let n : inPiece (segmentOf (K .at c) d) b ≡ 1 = subst (λ y. inPiece y b ≡ 1) q (once b e lb cl′) in
         let f = K .at c .name (slotOf (K .at c) d) in
         let l = lowerOf (K .at c) d in
         whole (segmentOf (K .at c) d)
-        ∙ total-two (inPiece (segmentOf (K .at c) d)) (K .pieces) c b lc lb (λ w. ne (sym w)) (once c d lc full ld) n
+        ∙ total-two (inPiece (segmentOf (K .at c) d)) (K .pieces) c b lc lb (λ w. ne (sym w)) (once c d lc cl) n
         (λ a la ac ab. ⊎-elim (λ z. z)
         (λ (h : 0 < inPiece (segmentOf (K .at c) d) a). absurd (no-three f l c b a lc lb la (λ w. ne (sym w)) (λ w. ac (sym w)) (λ w. ab (sym w))
-        (omega (arith, once c d lc full ld)) (omega (arith, n)) h)) (eq-zero-or-pos (inPiece (segmentOf (K .at c) d) a)))
+        (omega (arith, once c d lc cl)) (omega (arith, n)) h)) (eq-zero-or-pos (inPiece (segmentOf (K .at c) d) a)))
 
     -- where nothing is left open, a segment of a piece occurs twice
     pub segment-two : Shut K → (c d : ℕ) → c < K .pieces → Joins (K .at c) d → weigh (hits (segmentOf (K .at c) d)) (mesh K) ≡ 2
-    segment-two S c d lc ld = let (b, lb, ne, e, le, q) = S .paired c d lc ld in segment-both c d b e lc lb ne (S .full c lc) (S .full b lb) ld le q
+    segment-two S c d lc ld =
+        let (b, lb, ne, e, le, q) = S .paired c d lc ld in
+        segment-both c d b e lc lb ne (whole-closes (K .at c) (W .piece c lc) (S .full c lc) d ld) (whole-closes (K .at b) (W .piece b lb) (S .full b lb) e le) q

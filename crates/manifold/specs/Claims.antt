@@ -9,7 +9,7 @@ use Rattle.manifold.specs.Triangle.{Side, cross, inner}
 use Rattle.manifold.specs.Plain.{sideOf, hasSide, nth, Chain, OneRing}
 use Rattle.manifold.specs.Polygon.{Polygon, shape, fan, corner, centre, segment, innerSide, inners, triangles}
 use Rattle.manifold.specs.Piece.{segmentOf, sizeOf}
-use Rattle.manifold.specs.Complex.{Complex, Joins, Whole, Shut, Has, LinkedAt, loopOf, mesh}
+use Rattle.manifold.specs.Complex.{Complex, Joins, Closes, Shut, Has, LinkedAt, loopOf, mesh}
 
 -- the triangles at point k: a chain of one or two from segment k − 1 to segment k through inner sides
 pub record AtPoint (G : Polygon) (k : ℕ) : Type 0 where
@@ -44,11 +44,15 @@ pub record Manifold (K : Complex) : Type 1 where
   pub sides : (t i : ℕ) → t < length (mesh K) → i < 3
       → ((c : ℕ) × (d : ℕ) × (c < K .pieces) × Joins (K .at c) d × (sideOf (nth (mesh K) t) i ≡ segmentOf (K .at c) d))
       ⊎ ((a : ℕ) × (p : ℕ) × (k : ℕ) × (sideOf (nth (mesh K) t) i ≡ inner a p k) × (tally (hasSide (sideOf (nth (mesh K) t) i)) (mesh K) ≡ 2))
-  -- where no curve ends in a piece, a segment that it alone has is in exactly one, and one that it shares with another such piece in exactly two
-  pub alone : (c d : ℕ) → c < K .pieces → Whole (K .at c) → Joins (K .at c) d
+  -- a segment that one piece alone has is in exactly one if its curve closes there, and in none if it does not, whatever other curves do
+  pub alone : (c d : ℕ) → c < K .pieces → Closes (K .at c) d
       → ((b e : ℕ) → b < K .pieces → b ≢ c → Joins (K .at b) e → segmentOf (K .at b) e ≢ segmentOf (K .at c) d)
       → tally (hasSide (segmentOf (K .at c) d)) (mesh K) ≡ 1
-  pub shared : (c d b e : ℕ) → c < K .pieces → b < K .pieces → b ≢ c → Whole (K .at c) → Whole (K .at b) → Joins (K .at c) d → Joins (K .at b) e
+  pub unclosed : (c d : ℕ) → c < K .pieces → Joins (K .at c) d → (Closes (K .at c) d → ⊥)
+      → ((b e : ℕ) → b < K .pieces → b ≢ c → Joins (K .at b) e → segmentOf (K .at b) e ≢ segmentOf (K .at c) d)
+      → tally (hasSide (segmentOf (K .at c) d)) (mesh K) ≡ 0
+  -- one whose curve closes in two pieces is in exactly two
+  pub shared : (c d b e : ℕ) → c < K .pieces → b < K .pieces → b ≢ c → Closes (K .at c) d → Closes (K .at b) e
       → segmentOf (K .at b) e ≡ segmentOf (K .at c) d → tally (hasSide (segmentOf (K .at c) d)) (mesh K) ≡ 2
   -- where nothing is left open, each side is in exactly two
   pub two : Shut K → (t i : ℕ) → t < length (mesh K) → i < 3 → tally (hasSide (sideOf (nth (mesh K) t) i)) (mesh K) ≡ 2

@@ -5,10 +5,10 @@ use mathlib.Core.Logic.{_⊎_, _≢_}
 use mathlib.Core.Bool.{Bool}
 use mathlib.Core.List.{List}
 use Rattle.counting.specs.Range.{over}
-use Rattle.walk.specs.Darts.{half, rev}
+use Rattle.walk.specs.Darts.{half, rev, Loop}
 use Rattle.manifold.specs.Plain.{Tri}
 use Rattle.manifold.specs.Polygon.{Polygon, triangles}
-use Rattle.manifold.specs.Piece.{Local, Piece, slotOf, mateOf, lowerOf, segmentOf, dart, sizeOf}
+use Rattle.manifold.specs.Piece.{Local, Piece, slotOf, mateOf, lowerOf, segmentOf, onward, dart, sizeOf}
 
 -- its pieces are numbered
 pub record Complex : Type 0 where
@@ -57,6 +57,10 @@ pub record Lawful (K : Complex) : Type 0 where
   -- and its name tells its ends
   pub ends : (a b d e : ℕ) → a < K .pieces → b < K .pieces → Joins (K .at a) d → Joins (K .at b) e
       → segmentOf (K .at a) d ≡ segmentOf (K .at b) e → SameEnds (K .at a) d (K .at b) e
+
+-- the curve of the dart d closes in the piece A: from d the walk comes back to d
+abbrev pub Closes : Local → ℕ → Type 0
+Closes A d = (k : ℕ) × Loop (2 * A .N) (onward A) d k
 
 -- no curve ends in the piece A: a crossing is joined on both of its faces, or on neither
 abbrev pub Whole : Local → Type 0

@@ -21,7 +21,7 @@ use Rattle.grid.specs.Tables.{accepts}
 use Rattle.grid.specs.Rows.{gridAnswer}
 use Rattle.grid.proofs.Accepts.{acceptance-yields}
 use Rattle.grid.proofs.Claims.{never-empty}
-use Rattle.split.proofs.Claims.{splitsFew}
+use Rattle.split.proofs.Claims.{splitsFew, drawnOrdered}
 use Rattle.mesh.specs.declared.Meshed.{Meshed}
 use Rattle.mesh.specs.declared.Meshed.the-variants.{Triangles, Refused}
 use Rattle.mesh.specs.declared.Looped.{Looped}
@@ -31,8 +31,8 @@ use Rattle.mesh.specs.Room.{roomAnswer}
 use Rattle.mesh.specs.Asked.{cellLoop, askedLoop}
 use Rattle.mesh.specs.Answer.{meshAnswer, loopsAnswer}
 use Rattle.mesh.specs.Numbers.{meshNumbers, loopsNumbers}
-use Rattle.mesh.specs.Claims.{MeshTold, LoopsTold, FewSplits, LoopsOrdered}
-use Rattle.mesh.proofs.Complex.{separate}
+use Rattle.mesh.specs.Claims.{MeshTold, LoopsTold, FewSplits, LoopsOrdered, PartsOrdered}
+use Rattle.mesh.proofs.Complex.{separate, fit}
 
 -- there is always an answer
 module _ (G : Grid) where
@@ -92,3 +92,6 @@ fewSplits G = splitsFew .sum (cellCount (G .cells)) (gridCell G)
 pub loopsOrdered : LoopsOrdered
 loopsOrdered G total e c l =
     ordered (edgesOf (gridCell G c)) (separate G (acceptance-yields G (total ∷ []) e .sound) c l)
+
+pub partsOrdered : PartsOrdered
+partsOrdered G total e c x lc lx = drawnOrdered (gridCell G c) (fit G (acceptance-yields G (total ∷ []) e .sound) c lc) x lx

@@ -45,7 +45,7 @@ use Rattle.split.specs.Parts.{Part, whole, drawnTriangles}
 use Rattle.split.specs.Claims.{partLocal, noPart, partCell}
 use Rattle.split.specs.Owned.{owned, ownedSide, ownedTri, ofCell, drawnParts, partCount, partAt, gridComplex, GridLaws}
 use Rattle.split.proofs.Grid.{owned-ge, ready-of}
-use Rattle.split.proofs.Claims.{sidesCounted, gridSplit, gridMeshed, drawnOwned}
+use Rattle.split.proofs.Claims.{sidesCounted, curvesCounted, gridSplit, gridMeshed, drawnOwned}
 use Rattle.mesh.specs.Mesh.{gridCell, meshTriangles}
 use Rattle.mesh.specs.Names.{cellOf, meshCorner, meshSide, hasMeshSide, IsInner}
 use Rattle.mesh.specs.Demand.{none, NoneAlternate, faceCount, innerCount, RingPremises, OneRing, InnerCrossing, MeshLaws, Demand3}
@@ -269,6 +269,7 @@ pub sidesInside : SidesInside
 sidesInside G total e =
     let A = acceptance-yields G (total ∷ []) e in
     record {
+      curves = λ c l. curvesCounted (gridCell G c) (fit G (A .sound) c l);
       one = λ c l q. sidesCounted (gridCell G c) q (ready-of (gridCell G c) (fit G (A .sound) c l) q);
       two = twice G A;
       each = λ c x d lc lx on h. none-out G A c x d lc lx on h;

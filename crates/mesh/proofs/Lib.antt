@@ -9,4 +9,5 @@ pub mod Demand
 pub mod Owning
 pub mod Examples
 pub mod Premises
+pub mod Entries
 pub mod Claims

@@ -1,24 +1,34 @@
 -- What holds of the calls and of the cells of an accepted grid.
-use Prim.Native.Nat.{ℕ, _≤_, _<_}
+use Prim.Native.Nat.{ℕ, _+_, _*_, _≤_, _<_}
 use mathlib.Core.Path.{_≡_}
 use mathlib.Core.Logic.{_⊎_}
 use mathlib.Core.Bool.{true}
 use mathlib.Core.List.{List, [], _∷_}
+use lib.Dec.{eqb}
 use lib.ListN.{length, getD}
 use Rattle.answer.specs.Answer.{result}
+use Rattle.counting.specs.Pick.{pick}
 use Rattle.counting.specs.Range.{total}
+use Rattle.counting.specs.Search.{count}
 use Rattle.counting.specs.Lists.{tally}
 use Rattle.manifold.specs.Triangle.{Corner, cross, middle, Side, seg, inner}
 use Rattle.manifold.specs.Piece.{Local, slotOf, segmentOf}
 use Rattle.manifold.specs.Complex.{Joins}
 use Rattle.cell.specs.Of.{countOf, edgesOf}
 use Rattle.cell.specs.Claims.{OrderLaws}
+use Rattle.cell.specs.declared.Cell.{Cell}
 use Rattle.cell.specs.declared.Triangle.{Triangle}
+use Rattle.cell.specs.Level.{isLevelCell}
+use Rattle.cell.specs.Common.{isCommon}
+use Rattle.cell.specs.Triangles.{triangleCount}
 use Rattle.cell.specs.Names.{cornerNameAt, sideNameAt}
 use Rattle.grid.specs.Grid.{Grid, built, cellCount}
 use Rattle.grid.specs.Rows.{gridAnswer}
-use Rattle.booking.specs.Booking.{isSplit}
-use Rattle.split.specs.Claims.{mostSplits, SplitSides, partLocal, noPart}
+use Rattle.cases.specs.Cases.{entries}
+use Rattle.cases.specs.Answer.{findEntry}
+use Rattle.cases.specs.Tally.{trianglesAt}
+use Rattle.booking.specs.Booking.{isSplit, bookedSplit}
+use Rattle.split.specs.Claims.{mostSplits, SplitSides, CurveSides, partLocal, noPart, partCell}
 use Rattle.split.specs.Owned.{ofCell}
 use Rattle.split.specs.Limits.{firstInnerCrossing, firstInnerFace}
 use Rattle.mesh.specs.declared.Meshed.{Meshed}
@@ -48,14 +58,30 @@ abbrev pub LoopsOrdered : Type 0
 LoopsOrdered = (G : Grid) (total : ℕ) → gridAnswer G ≡ result (total ∷ []) → (c : ℕ) → c < cellCount (G .cells)
     → OrderLaws (edgesOf (gridCell G c))
 
+-- and so it is in each part that is drawn of the cell: where it is split, in its own corner triangles and in each of its sub-cells
+abbrev pub PartsOrdered : Type 0
+PartsOrdered = (G : Grid) (total : ℕ) → gridAnswer G ≡ result (total ∷ []) → (c x : ℕ) → c < cellCount (G .cells) → x < length (partsOf G c)
+    → OrderLaws (edgesOf (partCell (getD (partsOf G c) x noPart)))
+
+-- what a cell outside the table of common cells comes to: what is booked for it, with the split result, or what its walk finds
+abbrev pub outsideTriangles : Cell → ℕ
+outsideTriangles c = pick (isCommon (countOf c)) 0 (pick (isLevelCell (countOf c)) (bookedSplit (countOf c)) (triangleCount (edgesOf c)))
+
+-- the triangles of the mesh by the table's entries (02, W6): the number of cells of an entry times its triangles, summed, and what the cells outside come to
+abbrev pub MeshByEntry : Type 0
+MeshByEntry = (G : Grid) → length (meshTriangles G)
+    ≡ total (λ e. count (λ c. eqb (findEntry (countOf (gridCell G c))) e) (cellCount (G .cells)) * trianglesAt e) entries 0
+    + total (λ c. outsideTriangles (gridCell G c)) (cellCount (G .cells)) 0
+
 -- part x of what is drawn of cell c, as a piece whose crossings and faces have their names in the mesh
 abbrev pub pieceOf : Grid → (c x : ℕ) → Local
 pieceOf G c x = ofCell c (partLocal (getD (partsOf G c) x noPart))
 
--- Of the mesh of an accepted grid, without the premises of the rings (02, W12). In a split cell all curves close, and each segment of its faces is in
--- exactly one of its triangles. A side of a triangle that lies within its cell is in exactly two triangles of the mesh; and no segment of an inner face is
--- left out: wherever a crossing is joined on one, two triangles have the segment
+-- Of the mesh of an accepted grid, without the premises of the rings (02, W12). Each segment of the four faces of a cell, split or not, is in exactly one of
+-- the cell's triangles if its curve closes there, and else in none. In a split cell all curves close. A side of a triangle that lies within its cell is in
+-- exactly two triangles of the mesh; and no segment of an inner face is left out: wherever a crossing is joined on one, two triangles have the segment
 pub record InsideLaws (G : Grid) : Type 0 where
+  pub curves : (c : ℕ) → c < cellCount (G .cells) → CurveSides (gridCell G c)
   pub one : (c : ℕ) → c < cellCount (G .cells) → isSplit (countOf (gridCell G c)) ≡ true → SplitSides (gridCell G c)
   pub two : (t i : ℕ) → t < length (meshTriangles G) → i < 3 → IsInner (sideNameAt (getD (meshTriangles G) t none) i)
       → tally (hasMeshSide (meshSide (getD (meshTriangles G) t none) i)) (meshTriangles G) ≡ 2

@@ -14,8 +14,10 @@ pub use Rattle.split.proofs.Sides.{sidesCounted}
 pub use Rattle.split.proofs.Grid.{cellsRefined}
 pub use Rattle.split.proofs.GridLaws.{gridSplit}
 pub use Rattle.split.proofs.GridMesh.{gridMeshed}
+pub use Rattle.split.proofs.Curves.{curvesCounted}
 pub use Rattle.split.proofs.Owners.{drawnOwned}
-pub use Rattle.split.proofs.Happens.{splitHappens}
+pub use Rattle.split.proofs.Ordered.{drawnOrdered}
+pub use Rattle.split.proofs.Happens.{splitHappens, curvesMix}
 pub use Rattle.split.proofs.Examples.{examples-hold}
 use Rattle.split.specs.Claims.{LabelsFirst}
 use Rattle.split.proofs.Labels.{spiral-is, first-labelling}

@@ -9,7 +9,7 @@ use lib.ListN.{length, getD}
 use borrow.Author.Tests.{lt-ltb, le-ltb}
 use Rattle.walk.specs.Darts.{half}
 use Rattle.manifold.specs.Piece.{Piece}
-use Rattle.grid.specs.Grid.{mostCells}
+use Rattle.slots.specs.Limits.{mostCells}
 use Rattle.cell.specs.declared.Cell.{Cell}
 use Rattle.cell.specs.Cell.{crossings, edge, index, number}
 use Rattle.cell.specs.Of.{countOf, startOf, edgesOf}
@@ -68,7 +68,7 @@ module _ (c : Cell) (T : Fit c) where
   unfolding numberOf inGrid
   number-below x l = T .below (edge (edgesOf c) x) (index (edgesOf c) x) (lay (edgesOf c) .edge-lt x l) (lay (edgesOf c) .index-lt x l)
 
-  piece-of : Piece (localOf c)
+  pub piece-of : Piece (localOf c)
   unfolding numberOf inGrid
   piece-of = polygons.piece c (record {
     numbers = λ x y lx ly q.

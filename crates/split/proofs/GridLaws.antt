@@ -14,8 +14,9 @@ use Rattle.manifold.specs.Plain.{hasSide}
 use Rattle.manifold.specs.Piece.{slotOf, segmentOf}
 use Rattle.manifold.specs.Complex as complex
 use Rattle.manifold.specs.Complex.{Complex, Joins, Whole, Lawful, Shut, LinkedAt}
+use Rattle.manifold.proofs.Piece.{whole-closes}
 use Rattle.manifold.proofs.Claims.{manifold}
-use Rattle.grid.specs.Grid.{mostCells}
+use Rattle.slots.specs.Limits.{mostCells}
 use Rattle.cell.specs.declared.Cell.{Cell}
 use Rattle.cell.specs.Of.{countOf}
 use Rattle.cell.specs.Polygons.{localOf}
@@ -198,8 +199,9 @@ module _ (size : ℕ) (cells : ℕ → Cell) (few : size ≤ mostCells) (T : (k 
       let u = col-pack m size k i lk li in
       let q : ownedPart size cells (row m size y) (col m size y) ≡ ownedPart size cells k i = ap₂ (ownedPart size cells) (row-pack m size k i lk li) u in
       let v = no-end k j (slotOf (ownedPart size cells k j) d) lk lj (L .piece x lx .slot d (on .lt)) h in
-      manifold K L .shared x d y (r .d) lx (pack-lt m size k i lk li) (λ e. ne (sym u ∙ ap (col m size) e)) (R .whole v j lj) (subst Whole (sym q) (R .whole v i li)) on
-      (subst (λ A. Joins A (r .d)) (sym q) (r .on)) (subst (λ A. segmentOf A (r .d) ≡ segmentOf (ownedPart size cells k j) d) (sym q) (r .is))
+      manifold K L .shared x d y (r .d) lx (pack-lt m size k i lk li) (λ e. ne (sym u ∙ ap (col m size) e)) (whole-closes (K .at x) (L .piece x lx) (R .whole v j lj) d on)
+      (whole-closes (K .at y) (L .piece y (pack-lt m size k i lk li)) (subst Whole (sym q) (R .whole v i li)) (r .d) (subst (λ A. Joins A (r .d)) (sym q) (r .on)))
+      (subst (λ A. segmentOf A (r .d) ≡ segmentOf (ownedPart size cells k j) d) (sym q) (r .is))
     where
       face-of : (k j s : ℕ) → firstInnerFace ≤ ownedPart size cells k j .name s → InnerFaces size cells k (ownedPart size cells k j .name s)
       face-of k j s h = (partLocal (getD (drawnParts (cells k)) j noPart) .name s, high (partLocal (getD (drawnParts (cells k)) j noPart) .name s) h, refl)

@@ -49,7 +49,7 @@ loop-owned k A tag normal p =
     (shape (loopIn A tag normal p)) (fits (loopIn A tag normal p))
 
 -- the triangles drawn of a cell are those of its parts
-drawn-mesh : (c : Cell) → map named (drawnTriangles c) ≡ mesh (partsComplex (drawnParts c))
+pub drawn-mesh : (c : Cell) → map named (drawnTriangles c) ≡ mesh (partsComplex (drawnParts c))
 unfolding allParts
 drawn-mesh c = go (isSplit (countOf c)) refl
   where

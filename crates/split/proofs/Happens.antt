@@ -1,5 +1,5 @@
--- What is asked of a cell can be met: the first example is a cell of a grid, and is split.
-use Prim.Native.Nat.{ℕ, _+_, _≤_, _<_}
+-- What is asked of a cell can be met: by one that is split, and by one in which some curves close and another does not.
+use Prim.Native.Nat.{ℕ, _+_, _*_, _≤_, _<_}
 use mathlib.Core.Path.{_≡_, refl, sym, _∙_}
 use mathlib.Core.Bool.{Bool, true}
 use native.Mathlib.Omega.{arith}
@@ -7,55 +7,63 @@ use lib.Dec.{ltb, leb}
 use borrow.Author.Tests.{leb-true, lt-ltb}
 use Rattle.counting.specs.Pick.{pick}
 use Rattle.counting.specs.Search.{seek, first, last, every}
+use Rattle.counting.specs.Range.{total}
+use Rattle.counting.specs.Pack.{pre}
 use Rattle.counting.specs.Gcd.{divides, gcd}
 use Rattle.counting.proofs.Below.{trichotomy, below-four}
 use Rattle.counting.proofs.Search.{every-is}
 use Rattle.slots.specs.Slots as slots
 use Rattle.face.specs.Face as face
 use Rattle.face.specs.Level.{isLevel}
+use Rattle.walk.specs.Iterate.{it}
+use Rattle.walk.specs.Darts.{half, rev, Darts}
+use Rattle.walk.specs.Step as steps
+use Rattle.walk.specs.Walk as walk
+use Rattle.walk.proofs.Curve.{Next, on-it, on-walk}
+use Rattle.walk.proofs.Once.{listed}
+use Rattle.manifold.specs.Piece.{Local, Piece, mateOf, onward, sizeOf}
+use Rattle.manifold.specs.Complex.{Closes}
+use Rattle.manifold.proofs.Piece.{cell-darts}
 use Rattle.cell.specs.declared.Cell.{Cell}
-use Rattle.cell.specs.Of.{countOf, startOf}
+use Rattle.cell.specs.Cell.{crossings, ahead, base, holds, edge, index, answerAt, joinAt, joinedTo, mate}
+use Rattle.cell.specs.Of.{countOf, startOf, edgesOf}
+use Rattle.cell.specs.Polygons.{localOf}
 use Rattle.cell.specs.Nodes.{joining, cornerFrom}
 use Rattle.cell.specs.Level.{isLevelCell}
 use Rattle.booking.specs.Booking.{median, cornerOn, leastCorner, leftBetween, larger, smaller, isSplit}
 use Rattle.booking.specs.Figures.{areSpiral, areSplit}
 use Rattle.split.specs.Five.{nameOf}
 use Rattle.split.specs.Examples.{loneCell}
-use Rattle.split.specs.Owned.{Fit, SplitHappens}
+use Rattle.split.specs.Owned.{Fit, SplitHappens, CurvesMix}
+use Rattle.split.proofs.Grid.{piece-of}
 
+-- A cell is as is asked where the numbers of an earlier edge are lower, all are below 65,536, and its faces go by their slots
+before : Cell → ℕ → ℕ → Bool
+before c k j = pick (ltb j k) (leb (startOf c j + countOf c j) (startOf c k)) true
+
+module _ (c : Cell) (in-order : every (λ k. every (before c k) 6) 6 ≡ true) (all-low : every (λ k. leb (startOf c k + countOf c k) 65536) 6 ≡ true)
+    (name-is : (s : ℕ) → s < 4 → nameOf c s ≡ s) where
+  lower : (j k : ℕ) → j < k → k < 6 → startOf c j + countOf c j ≤ startOf c k
+  unfolding before
+  lower j k h l =
+      leb-true (startOf c j + countOf c j) (startOf c k) (rw (lt-ltb j k h) at (every-is (before c k) 6 (every-is (λ k. every (before c k) 6) 6 in-order k l) j (omega arith)))
+
+  fit : Fit c
+  fit = record {
+    separate = λ j k t u lj lk lt lu q.
+        trichotomy j k (λ h. absurd (omega (arith, lower j k h lk, q, lt))) (λ h. absurd (omega (arith, lower k j h lj, q, lu))) (λ e. e);
+    names = λ s r ls lr q. sym (name-is s ls) ∙ q ∙ name-is r lr;
+    below = λ k t lk lt. omega (arith, leb-true (startOf c k + countOf c k) 65536 (every-is (λ k. leb (startOf c k + countOf c k) 65536) 6 all-low k lk));
+    under = λ s ls. omega (arith, name-is s ls);
+  }
+
+-- the first example is split
 abbrev spiral : Cell
 spiral = loneCell 4 2 6 6 2 4
 
--- the numbers of an earlier edge are lower, and all are below 65,536
-before : ℕ → ℕ → Bool
-before k j = pick (ltb j k) (leb (startOf spiral j + countOf spiral j) (startOf spiral k)) true
-
-in-order : every (λ k. every (before k) 6) 6 ≡ true
+spiral-fit : Fit spiral
 unfolding every before loneCell
-in-order = refl
-
-lower : (j k : ℕ) → j < k → k < 6 → startOf spiral j + countOf spiral j ≤ startOf spiral k
-unfolding before
-lower j k h l =
-    leb-true (startOf spiral j + countOf spiral j) (startOf spiral k)
-    (rw (lt-ltb j k h) at (every-is (before k) 6 (every-is (λ k. every (before k) 6) 6 in-order k l) j (omega arith)))
-
-all-low : every (λ k. leb (startOf spiral k + countOf spiral k) 65536) 6 ≡ true
-unfolding every loneCell
-all-low = refl
-
-name-is : (s : ℕ) → s < 4 → nameOf spiral s ≡ s
-unfolding loneCell
-name-is = below-four (λ s. nameOf spiral s ≡ s) refl refl refl refl
-
-fit : Fit spiral
-fit = record {
-  separate = λ j k t u lj lk lt lu q.
-      trichotomy j k (λ h. absurd (omega (arith, lower j k h lk, q, lt))) (λ h. absurd (omega (arith, lower k j h lj, q, lu))) (λ e. e);
-  names = λ s r ls lr q. sym (name-is s ls) ∙ q ∙ name-is r lr;
-  below = λ k t lk lt. omega (arith, leb-true (startOf spiral k + countOf spiral k) 65536 (every-is (λ k. leb (startOf spiral k + countOf spiral k) 65536) 6 all-low k lk));
-  under = λ s ls. omega (arith, name-is s ls);
-}
+spiral-fit = fit spiral refl refl (below-four (λ s. nameOf spiral s ≡ s) refl refl refl refl)
 
 is-split : isSplit (countOf spiral) ≡ true
 unfolding seek first last every divides gcd
@@ -64,4 +72,48 @@ unfolding seek first last every divides gcd
 is-split = refl
 
 pub splitHappens : SplitHappens
-splitHappens = (spiral, fit, is-split)
+splitHappens = (spiral, spiral-fit, is-split)
+
+-- a walk along a curve that closes does not end
+closes-live : (A : Local) (P : Piece A) (d n : ℕ) → Closes A d → it (onward A) n d < 2 * A .N
+unfolding Next it
+closes-live A P d n (k, L) =
+    on-walk (2 * A .N) (A .N) (onward A) rev half (cell-darts A P) L n d (L .live 0 (omega arith))
+    (on-it (2 * A .N) (A .N) (onward A) rev half (cell-darts A P) L 0 (omega arith)) .0
+
+-- two curves round node 0 close, and the third, which comes to the face with an odd sum, does not
+abbrev mixed : Cell
+mixed = loneCell 3 3 3 0 0 1
+
+mixed-fit : Fit mixed
+unfolding every before loneCell
+mixed-fit = fit mixed refl refl (below-four (λ s. nameOf mixed s ≡ s) refl refl refl refl)
+
+-- the loop from crossing 0, and the walk from crossing 2
+computed : (sizeOf (localOf mixed) 0 ≡ 3) × (mateOf (localOf mixed) 4 ≡ 5) × (it (onward (localOf mixed)) 2 4 ≡ 20)
+unfolding seek first last total pre
+    slots.lo slots.hi slots.position slots.lower slots.upper slots.edgeBetween slots.slotEdge slots.edgeRank slots.contains slots.firstSlot slots.secondSlot
+    face.other face.opposite face.halfAbove face.cornerCount face.residual face.countOn face.others face.kth face.cornerCountAt face.partner face.faceAnswer face.faceJoin
+    it steps.face steps.land steps.step walk.status walk.turn walk.size ahead base holds edge index answerAt joinAt joinedTo mate loneCell
+computed = (refl, refl, refl)
+
+many : crossings (edgesOf mixed) ≡ 10
+unfolding total pre loneCell
+many = refl
+
+pub curvesMix : CurvesMix
+curvesMix = (
+  mixed,
+  mixed-fit,
+  (0, (sizeOf A 0, listed (A .N) (onward A) rev D 0 (omega (arith, many)) (omega (arith, computed .0)) .0)),
+  (4, record { lt = omega (arith, many); joined = omega (arith, many, computed .1) }, λ u. omega (arith, many, computed .2, closes-live A P 4 2 u)),
+)
+  where
+    A : Local
+    A = localOf mixed
+
+    P : Piece A
+    P = piece-of mixed mixed-fit
+
+    D : Darts (2 * A .N) (A .N) (onward A) rev half
+    D = cell-darts A P

@@ -42,7 +42,9 @@ pub mod Owned
 pub mod Grid
 pub mod GridLaws
 pub mod GridMesh
+pub mod Curves
 pub mod Owners
+pub mod Ordered
 pub mod Happens
 pub mod Examples
 pub mod Claims

@@ -45,7 +45,7 @@ partsMeshed l K =
     (λ x a h. part-named (getD l x noPart) (K x (omega arith)))
 
 -- a sound family with its own tags is lawful
-lawful-of : (l : List Part) → PiecesSound (record { size = length l; at = λ x. partLocal (getD l x noPart) })
+pub lawful-of : (l : List Part) → PiecesSound (record { size = length l; at = λ x. partLocal (getD l x noPart) })
     → ((a b : ℕ) → a < length l → b < length l → partsComplex l .tag a ≡ partsComplex l .tag b → a ≡ b) → Lawful (partsComplex l)
 lawful-of l S tags = record {
   piece = S .piece;

@@ -10,7 +10,7 @@ use Rattle.counting.specs.Pick.{pick}
 use Rattle.counting.specs.Lists.{All, gather}
 use Rattle.counting.proofs.Lists.{all-append, all-over}
 use Rattle.manifold.specs.Shape.{Shape, single, double, fan, shapeOf, manyOf, triangleOf, trianglesOf}
-use Rattle.grid.specs.Grid.{mostCells}
+use Rattle.slots.specs.Limits.{mostCells}
 use Rattle.cell.specs.declared.Cell.{Cell}
 use Rattle.cell.specs.declared.Triangle.{Triangle}
 use Rattle.cell.specs.declared.Corner.the-variants.{Middle}

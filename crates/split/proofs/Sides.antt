@@ -10,7 +10,8 @@ use Rattle.counting.specs.Lists.{tally}
 use Rattle.manifold.specs.Triangle.{Side, seg, inner}
 use Rattle.manifold.specs.Plain.{Tri, sideOf, hasSide, nth}
 use Rattle.manifold.specs.Piece.{Local, slotOf, lowerOf, segmentOf}
-use Rattle.manifold.specs.Complex.{Complex, Joins, Whole, Lawful, mesh}
+use Rattle.manifold.specs.Complex.{Complex, Joins, Closes, Lawful, mesh}
+use Rattle.manifold.proofs.Piece.{whole-closes}
 use Rattle.manifold.proofs.Claims.{manifold}
 use Rattle.cell.specs.declared.Cell.{Cell}
 use Rattle.cell.specs.Of.{countOf}
@@ -44,14 +45,15 @@ module _ (fuel cell n b f : ℕ) (c : Cell) (R : FirmBelow c b f) (h : larger (c
   W : Lawful (partsComplex (parts fuel cell n b f c))
   W = partsLawful fuel cell n b f c R h i
 
-  no-end : (x : ℕ) → x < length (parts fuel cell n b f c) → Whole (K .at x)
-  no-end x lx = F .whole (closed c (R .firm)) x lx
+  -- every curve of a part closes
+  closes : (x d : ℕ) → x < length (parts fuel cell n b f c) → Joins (K .at x) d → Closes (K .at x) d
+  closes x d lx on = whole-closes (K .at x) (W .piece x lx) (F .whole (closed c (R .firm)) x lx) d on
 
   -- a segment of the cell is in one part
   outer-one : (d : ℕ) → Joins (localOf c) d → tally (hasSide (segmentOf (localOf c) d)) (mesh K) ≡ 1
   outer-one d on =
       let u = F .cover d on in
-      let m = manifold K W .alone (u .j) (u .e) (u .j-lt) (no-end (u .j) (u .j-lt)) (u .on)
+      let m = manifold K W .alone (u .j) (u .e) (u .j-lt) (closes (u .j) (u .e) (u .j-lt) (u .on))
       (λ k e lk ne on′ q. F .once k (u .j) d lk (u .j-lt) ne on (record { d = e; on = on′; is = q ∙ u .is }) (record { d = u .e; on = u .on; is = u .is })) in
       subst (λ σ. tally (hasSide σ) (mesh K) ≡ 1) (u .is) m
 
@@ -67,7 +69,7 @@ module _ (fuel cell n b f : ℕ) (c : Cell) (R : FirmBelow c b f) (h : larger (c
       go (inl o) = inl (o .d, o .on, o .is)
       go (inr u) =
           let (k, lk, ne, r) = F .inner-paired j d lj on u in
-          inr (u, manifold K W .shared j d k (r .d) lj lk ne (no-end j lj) (no-end k lk) on (r .on) (r .is))
+          inr (u, manifold K W .shared j d k (r .d) lj lk ne (closes j d lj on) (closes k (r .d) lk (r .on)) (r .is))
 
 -- of a split cell
 module _ (c : Cell) (e : isSplit (countOf c) ≡ true) (R : FirmBelow c firstInnerCrossing firstInnerFace) where

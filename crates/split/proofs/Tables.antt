@@ -13,7 +13,7 @@ use Rattle.counting.proofs.Fronts.{over-split}
 use Rattle.counting.proofs.Lists.{length-singles, values-at, gather-over}
 use Rattle.counting.proofs.Range.{total-ext, total-add, total-has, length-over, over-ext, over-snoc}
 use Rattle.counting.proofs.Stored.{stored-none, stored-long, stored-as, stored-then}
-use Rattle.grid.specs.Grid.{mostCells}
+use Rattle.slots.specs.Limits.{mostCells}
 use Rattle.cell.specs.declared.Cell.{Cell}
 use Rattle.cell.specs.Limits.{shortLimit}
 use Rattle.cell.specs.Of.{countOf, startOf}

@@ -14,7 +14,7 @@ use Rattle.manifold.specs.Triangle.{seg, inner}
 use Rattle.manifold.specs.Plain.{sideOf, hasSide, nth}
 use Rattle.manifold.specs.Polygon.{Polygon}
 use Rattle.manifold.specs.Piece.{Local, slotOf, lowerOf, segmentOf, dart, sizeOf}
-use Rattle.manifold.specs.Complex.{Complex, Joins, Lawful, mesh}
+use Rattle.manifold.specs.Complex.{Complex, Joins, Closes, Lawful, mesh}
 use Rattle.cell.specs.declared.Cell.{Cell}
 use Rattle.cell.specs.Cell.{crossings}
 use Rattle.cell.specs.Of.{countOf, edgesOf}
@@ -208,3 +208,9 @@ pub record SplitSides (c : Cell) : Type 0 where
 
 abbrev pub SidesCounted : Type 0
 SidesCounted = (c : Cell) → isSplit (countOf c) ≡ true → FirmBelow c firstInnerCrossing firstInnerFace → SplitSides c
+
+-- The segments of the four faces of any cell, split or not (02, W12): one whose curve closes in the cell is in exactly one of the triangles that are drawn of
+-- it, whatever other curves do there; one whose curve does not close there is in none. A segment goes by either of its two darts
+pub record CurveSides (c : Cell) : Type 0 where
+  pub closed : (d : ℕ) → Closes (localOf c) d → tally (hasSide (segmentOf (localOf c) d)) (map named (drawnTriangles c)) ≡ 1
+  pub unclosed : (d : ℕ) → Joins (localOf c) d → (Closes (localOf c) d → ⊥) → tally (hasSide (segmentOf (localOf c) d)) (map named (drawnTriangles c)) ≡ 0

@@ -4,7 +4,7 @@ use mathlib.Core.Path.{_≡_}
 use mathlib.Core.List.{List}
 use Rattle.counting.specs.Range.{total, over}
 use Rattle.slots.specs.Limits.{mostCount}
-use Rattle.grid.specs.Grid.{mostCells}
+use Rattle.slots.specs.Limits.{mostCells}
 use Rattle.cell.specs.Level.{byEdge}
 use Rattle.cell.specs.Words.{allWords}
 use Rattle.cell.specs.Triangles.{cellTriangles}

@@ -1,6 +1,6 @@
 -- Where the numbers and the names in a split cell start (02, W12).
 use Prim.Native.Nat.{ℕ, _+_}
-use Rattle.grid.specs.Grid.{mostCells, mostCrossings, mostSlots}
+use Rattle.slots.specs.Limits.{mostCells, mostCrossings, mostSlots}
 
 -- inner crossings are numbered from 65,536 on, after every crossing number of a grid
 abbrev pub firstInnerCrossing : ℕ

@@ -13,12 +13,12 @@ use Rattle.counting.specs.Pack.{pre, row, col}
 use Rattle.manifold.specs.Triangle.{Corner, cross, middle, Side, seg, inner}
 use Rattle.manifold.specs.Plain.{Tri, tri, hasSide}
 use Rattle.manifold.specs.Piece.{Local, slotOf, segmentOf}
-use Rattle.manifold.specs.Complex.{Complex, Joins, Lawful, Shut, Has, LinkedAt, mesh}
-use Rattle.grid.specs.Grid.{mostCells}
+use Rattle.manifold.specs.Complex.{Complex, Joins, Closes, Lawful, Shut, Has, LinkedAt, mesh}
+use Rattle.slots.specs.Limits.{mostCells}
 use Rattle.cell.specs.declared.Cell.{Cell}
 use Rattle.cell.specs.Of.{countOf, startOf, edgesOf}
 use Rattle.cell.specs.Loop.{normal}
-use Rattle.cell.specs.Claims.{Separate}
+use Rattle.cell.specs.Claims.{Separate, OrderLaws}
 use Rattle.cell.specs.Polygons.{localOf, named}
 use Rattle.booking.specs.Booking.{larger, smaller, isSplit}
 use Rattle.split.specs.Limits.{firstInnerCrossing, firstInnerFace}
@@ -26,7 +26,7 @@ use Rattle.booking.specs.Figures.{innerCrossings}
 use Rattle.split.specs.Parts.{Part, whole, allParts, drawnTriangles}
 use Rattle.split.specs.Family.{Family, Refined}
 use Rattle.split.specs.Five.{nameOf}
-use Rattle.split.specs.Claims.{partLocal, noPart, partCell}
+use Rattle.split.specs.Claims.{partLocal, noPart, partCell, CurveSides}
 
 -- of the cell with the number `cell`, where the inner ones start at `first`
 unfoldable pub owned : (first cell : ℕ) → ℕ → ℕ
@@ -136,10 +136,22 @@ GridSplit = (size : ℕ) (cells : ℕ → Cell) → size ≤ mostCells → ((k :
 abbrev pub GridMeshed : Type 0
 GridMeshed = (size : ℕ) (cells : ℕ → Cell) → over (λ k. map (ownedTri k) (map named (drawnTriangles (cells k)))) size 0 ≡ mesh (gridComplex size cells)
 
+-- what is drawn of a cell of a grid has the segments of its closed curves, each in one triangle, and no others of its four faces
+abbrev pub CurvesCounted : Type 0
+CurvesCounted = (c : Cell) → Fit c → CurveSides c
+
 -- word 0 of each triangle that is drawn of a cell tells the cell
 abbrev pub DrawnOwned : Type 0
 DrawnOwned = (c : Cell) → c .index < mostCells → All (λ t. t .cell % mostCells ≡ c .index) (drawnTriangles c)
 
+-- in each part that is drawn of a cell of a grid, sub-cells among them, p0 is the least crossing number of its loop, and the loops are ordered by p0
+abbrev pub DrawnOrdered : Type 0
+DrawnOrdered = (c : Cell) → Fit c → (x : ℕ) → x < length (drawnParts c) → OrderLaws (edgesOf (partCell (getD (drawnParts c) x noPart)))
+
 -- there are such cells that are split
 abbrev pub SplitHappens : Type 0
 SplitHappens = (c : Cell) × Fit c × (isSplit (countOf c) ≡ true)
+
+-- and such in which one curve closes and another does not
+abbrev pub CurvesMix : Type 0
+CurvesMix = (c : Cell) × Fit c × ((d : ℕ) × Closes (localOf c) d) × ((e : ℕ) × Joins (localOf c) e × (Closes (localOf c) e → ⊥))

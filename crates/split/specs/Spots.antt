@@ -10,7 +10,7 @@ use Rattle.counting.specs.Range.{total}
 use Rattle.counting.specs.Lists.{gather}
 use Rattle.counting.specs.Stored.{storedIn, nextIn}
 use Rattle.slots.specs.Limits.{mostCount}
-use Rattle.grid.specs.Grid.{mostCells}
+use Rattle.slots.specs.Limits.{mostCells}
 use Rattle.place.specs.declared.Place.{Place}
 use Rattle.place.specs.Place.{coordinates, allNumbers}
 use Rattle.cell.specs.declared.Cell.{Cell}

@@ -3,7 +3,7 @@ use Prim.Native.Nat.{ℕ, _+_, _*_}
 use mathlib.Core.List.{List}
 use Rattle.counting.specs.Range.{total, over}
 use Rattle.slots.specs.Limits.{mostCount}
-use Rattle.grid.specs.Grid.{mostCells}
+use Rattle.slots.specs.Limits.{mostCells}
 use Rattle.cell.specs.declared.Triangle.{Triangle}
 use Rattle.cell.specs.Table.{tableCell, drawnCells, mostTriangles}
 use Rattle.split.specs.Parts.{drawnTriangles, splitsOf}

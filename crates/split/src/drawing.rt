@@ -17,8 +17,8 @@ use super::Stretch;
 use super::put;
 use super::put_cell;
 use cell::WORD_COUNT;
-use grid::MOST_EDGES;
-use grid::MOST_SLOTS;
+use slots::MOST_EDGES;
+use slots::MOST_SLOTS;
 
 // What the cells come to. At most `crossings + more` triangles are drawn of them.
 pub fn sums_of(cells: &[u16], counts: &[u16], sides: &[u16; MOST_EDGES]) -> CellSums

@@ -12,9 +12,9 @@ ghost use Rattle.split.specs.Limits.{wordStep};
 ghost use Rattle.split.specs.Parts.{drawnTriangles};
 ghost use Rattle.split.specs.Working.{StartsNear, Working, SplitsLeft, Drawable, partsWords, startWords, endWords};
 use cell::Cell;
-use grid::MOST_CELLS;
-use grid::MOST_CROSSINGS;
-use grid::MOST_SLOTS;
+use slots::MOST_CELLS;
+use slots::MOST_CROSSINGS;
+use slots::MOST_SLOTS;
 
 mod drawing;
 mod numbers;

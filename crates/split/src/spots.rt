@@ -22,9 +22,9 @@ use super::placing::centres_in;
 use super::placing::inner_in;
 use super::placing::wider;
 use cell::Cell;
-use grid::MOST_EDGES;
-use grid::MOST_SLOTS;
 use place::Place;
+use slots::MOST_EDGES;
+use slots::MOST_SLOTS;
 
 // The points of a cell that is split, by numbers: a split with d1 and d2 has 2 (d1 + d2) inner crossings and 4 d1 + 10 d2 triangles, and adds d2 fans; at the
 // end are as many fans as the number there, 8 triangles each.

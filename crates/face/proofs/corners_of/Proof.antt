@@ -1,5 +1,5 @@
 use borrow.Author.Needs.{needs}
-use Prim.Native.Nat.{ℕ, _+_, _-_, _/_, _≤_}
+use Prim.Native.Nat.{ℕ, _+_, _-_, _/_, _%_, _≤_}
 use mathlib.Core.Path.{_≡_, sym, _∙_}
 use mathlib.Core.List.{[], _∷_}
 use native.Mathlib.Omega.{arith}
@@ -22,12 +22,23 @@ returns-2 c = sym (corners-ac _ _ _ (c .if2 .taken))
 returns-3 : tie.Need-returns-3
 returns-3 c = sym (corners-bc _ _ _ (c .if3 .taken))
 
+-- the half of the lessened counts, and what it leaves of two of them
+module _ (x y z : ℕ) (h : x ≤ y + z) (k : y ≤ x + z) (l : z ≤ x + y) where
+  half-a : (x - (x + y + z) % 2 + y - z) / 2 ≡ (x + y - z) / 2
+  half-a = omega arith
+
+  half-b : x - (x + y + z) % 2 - (x + y - z) / 2 ≡ (x + z - y) / 2
+  half-b = omega arith
+
+  half-c : y - (x + y + z) % 2 - (x + y - z) / 2 ≡ (y + z - x) / 2
+  half-c = omega arith
+
 returns-4 : tie.Need-returns-4
 returns-4 c =
     let ab = c .before .before .if1 .left in
     let ac = c .before .if2 .left in
     let bc = c .if3 .left in
-    sym (level _ _ _ _ _ _ ab ac bc (omega arith) (omega arith) (omega arith))
+    sym (level _ _ _ _ _ _ ab ac bc (half-a _ _ _ ab ac bc) (rw (half-a _ _ _ ab ac bc) (half-b _ _ _ ab ac bc)) (rw (half-a _ _ _ ab ac bc) (half-c _ _ _ ab ac bc)))
 
 pub corners-of-spec : {M : Type 1} → statement M
 corners-of-spec =
@@ -39,6 +50,9 @@ corners-of-spec =
     returns-2
     (λ c. search needs)
     returns-3
+    (λ c. search needs)
+    (λ c. search needs)
+    (λ c. search needs)
     (λ c. search needs)
     (λ c. search needs)
     (λ c. search needs)

@@ -32,404 +32,9 @@ abbrev split-in-below : ℕ → In 1 split-in-kinds.ps
 split-in-below t =
     and 1 split-in-kinds.ps (falls 1 split-in-kinds.ps _<_ μ-split-in t) split-in.Pre
 
-split-in-put-requires : (t : ℕ) → split-in-lts.Need-put-requires (
-  put-reads.Asked,
-  put-reads.Learnt,
-  spiral-of-reads.Asked,
-  spiral-of-reads.Learnt,
-  word-reads.Asked,
-  word-reads.Learnt,
-  sub-of-reads.Asked,
-  sub-of-reads.Learnt,
-  put-start-reads.Asked,
-  put-start-reads.Learnt,
-  split-in-below t,
-  split-in.Post,
-  put-end-reads.Asked,
-  put-end-reads.Learnt,
-) (split-in-at t) split-in.Post
-split-in-put-requires t c κs = (sound-placed (c .before .before .before .pre .1 .0 .sound), none-room (c .before .before .before .pre .1 .0) (c .before .before .before .args .at) (c .before .if1 .taken) (c .before .before .before .pre .1 .1))
-
-split-in-same-length : (t : ℕ) → split-in-lts.Need-same-length (
-  put-reads.Asked,
-  put-reads.Learnt,
-  spiral-of-reads.Asked,
-  spiral-of-reads.Learnt,
-  word-reads.Asked,
-  word-reads.Learnt,
-  sub-of-reads.Asked,
-  sub-of-reads.Learnt,
-  put-start-reads.Asked,
-  put-start-reads.Learnt,
-  split-in-below t,
-  split-in.Post,
-  put-end-reads.Asked,
-  put-end-reads.Learnt,
-) (split-in-at t) split-in.Post
-split-in-same-length t c = search needs
-
-split-in-returns : (t : ℕ) → split-in-lts.Need-returns (
-  put-reads.Asked,
-  put-reads.Learnt,
-  spiral-of-reads.Asked,
-  spiral-of-reads.Learnt,
-  word-reads.Asked,
-  word-reads.Learnt,
-  sub-of-reads.Asked,
-  sub-of-reads.Learnt,
-  put-start-reads.Asked,
-  put-start-reads.Learnt,
-  split-in-below t,
-  split-in.Post,
-  put-end-reads.Asked,
-  put-end-reads.Learnt,
-) (split-in-at t) split-in.Post
-split-in-returns t c = stored-as (c .before .before .put .ensures) (sym (none-left (c .before .before .before .before .before .before .pre .1 .0) (c .before .before .before .before .if1 .taken))) refl
-
-split-in-spiral-of-requires : (t : ℕ) → split-in-lts.Need-spiral-of-requires (
-  put-reads.Asked,
-  put-reads.Learnt,
-  spiral-of-reads.Asked,
-  spiral-of-reads.Learnt,
-  word-reads.Asked,
-  word-reads.Learnt,
-  sub-of-reads.Asked,
-  sub-of-reads.Learnt,
-  put-start-reads.Asked,
-  put-start-reads.Learnt,
-  split-in-below t,
-  split-in.Post,
-  put-end-reads.Asked,
-  put-end-reads.Learnt,
-) (split-in-at t) split-in.Post
-split-in-spiral-of-requires t c κs = c .before .before .pre .1 .0 .sound
-
-split-in-add-word : (t : ℕ) → split-in-lts.Need-add-word (
-  put-reads.Asked,
-  put-reads.Learnt,
-  spiral-of-reads.Asked,
-  spiral-of-reads.Learnt,
-  word-reads.Asked,
-  word-reads.Learnt,
-  sub-of-reads.Asked,
-  sub-of-reads.Learnt,
-  put-start-reads.Asked,
-  put-start-reads.Learnt,
-  split-in-below t,
-  split-in.Post,
-  put-end-reads.Asked,
-  put-end-reads.Learnt,
-) (split-in-at t) split-in.Post
-split-in-add-word t c = omega (arith, c .before .before .before .pre .1 .0 .n-few)
-
-split-in-word-requires : (t : ℕ) → split-in-lts.Need-word-requires (
-  put-reads.Asked,
-  put-reads.Learnt,
-  spiral-of-reads.Asked,
-  spiral-of-reads.Learnt,
-  word-reads.Asked,
-  word-reads.Learnt,
-  sub-of-reads.Asked,
-  sub-of-reads.Learnt,
-  put-start-reads.Asked,
-  put-start-reads.Learnt,
-  split-in-below t,
-  split-in.Post,
-  put-end-reads.Asked,
-  put-end-reads.Learnt,
-) (split-in-at t) split-in.Post
-split-in-word-requires t c κs = (c .before .before .before .pre .1 .0 .cell-lt, omega (arith, c .before .before .before .pre .1 .0 .n-few, c .before .if1 .left))
-
-split-in-sub-of-requires : (t : ℕ) → split-in-lts.Need-sub-of-requires (
-  put-reads.Asked,
-  put-reads.Learnt,
-  spiral-of-reads.Asked,
-  spiral-of-reads.Learnt,
-  word-reads.Asked,
-  word-reads.Learnt,
-  sub-of-reads.Asked,
-  sub-of-reads.Learnt,
-  put-start-reads.Asked,
-  put-start-reads.Learnt,
-  split-in-below t,
-  split-in.Post,
-  put-end-reads.Asked,
-  put-end-reads.Learnt,
-) (split-in-at t) split-in.Post
-split-in-sub-of-requires t c κs = let W = left-working (c .before .before .before .before .pre .1 .0) (omega (arith, c .before .before .if1 .left)) (c .before .spiral-of .ensures) in (W .is, (omega arith, omega (arith, W .b-few), W .f-few))
-
-split-in-put-start-requires : (t : ℕ) → split-in-lts.Need-put-start-requires (
-  put-reads.Asked,
-  put-reads.Learnt,
-  spiral-of-reads.Asked,
-  spiral-of-reads.Learnt,
-  word-reads.Asked,
-  word-reads.Learnt,
-  sub-of-reads.Asked,
-  sub-of-reads.Learnt,
-  put-start-reads.Asked,
-  put-start-reads.Learnt,
-  split-in-below t,
-  split-in.Post,
-  put-end-reads.Asked,
-  put-end-reads.Learnt,
-) (split-in-at t) split-in.Post
-split-in-put-start-requires t c κs = let h : 0 < c .before .before .before .before .before .before .args .left = omega (arith, c .before .before .before .before .if1 .left) in (left-working (c .before .before .before .before .before .before .pre .1 .0) h (c .before .before .before .spiral-of .ensures), room-start (c .before .before .before .before .before .before .pre .1 .0) h (c .before .sub-of .ensures) (c .before .before .word .ensures) (ap₂ (λ x y. c .before .before .before .before .before .before .args .b + 2 * (x + y)) (c .before .before .before .spiral-of .ensures .larger-is) (c .before .before .before .spiral-of .ensures .smaller-is)) (c .before .before .before .before .before .before .args .area .now) (c .before .before .before .before .before .before .args .at) (c .before .before .before .before .before .before .pre .1 .1))
-
-split-in-add-split-in : (t : ℕ) → split-in-lts.Need-add-split-in (
-  put-reads.Asked,
-  put-reads.Learnt,
-  spiral-of-reads.Asked,
-  spiral-of-reads.Learnt,
-  word-reads.Asked,
-  word-reads.Learnt,
-  sub-of-reads.Asked,
-  sub-of-reads.Learnt,
-  put-start-reads.Asked,
-  put-start-reads.Learnt,
-  split-in-below t,
-  split-in.Post,
-  put-end-reads.Asked,
-  put-end-reads.Learnt,
-) (split-in-at t) split-in.Post
-split-in-add-split-in t c = omega (arith, c .before .before .before .before .before .before .before .before .before .pre .1 .0 .n-few)
-
-split-in-add-split-in-2 : (t : ℕ) → split-in-lts.Need-add-split-in-2 (
-  put-reads.Asked,
-  put-reads.Learnt,
-  spiral-of-reads.Asked,
-  spiral-of-reads.Learnt,
-  word-reads.Asked,
-  word-reads.Learnt,
-  sub-of-reads.Asked,
-  sub-of-reads.Learnt,
-  put-start-reads.Asked,
-  put-start-reads.Learnt,
-  split-in-below t,
-  split-in.Post,
-  put-end-reads.Asked,
-  put-end-reads.Learnt,
-) (split-in-at t) split-in.Post
-split-in-add-split-in-2 t c = let W = left-working (c .before .before .before .before .before .before .before .before .before .before .pre .1 .0) (omega (arith, c .before .before .before .before .before .before .before .before .if1 .left)) (c .before .before .before .before .before .before .before .spiral-of .ensures) in omega (arith, W .b-few, W .f-few, W .is .numbers .larger-is, W .is .numbers .smaller-is)
-
-split-in-mul-split-in : (t : ℕ) → split-in-lts.Need-mul-split-in (
-  put-reads.Asked,
-  put-reads.Learnt,
-  spiral-of-reads.Asked,
-  spiral-of-reads.Learnt,
-  word-reads.Asked,
-  word-reads.Learnt,
-  sub-of-reads.Asked,
-  sub-of-reads.Learnt,
-  put-start-reads.Asked,
-  put-start-reads.Learnt,
-  split-in-below t,
-  split-in.Post,
-  put-end-reads.Asked,
-  put-end-reads.Learnt,
-) (split-in-at t) split-in.Post
-split-in-mul-split-in t c = let W = left-working (c .before .before .before .before .before .before .before .before .before .before .pre .1 .0) (omega (arith, c .before .before .before .before .before .before .before .before .if1 .left)) (c .before .before .before .before .before .before .before .spiral-of .ensures) in omega (arith, W .b-few, W .f-few, W .is .numbers .larger-is, W .is .numbers .smaller-is)
-
-split-in-add-split-in-3 : (t : ℕ) → split-in-lts.Need-add-split-in-3 (
-  put-reads.Asked,
-  put-reads.Learnt,
-  spiral-of-reads.Asked,
-  spiral-of-reads.Learnt,
-  word-reads.Asked,
-  word-reads.Learnt,
-  sub-of-reads.Asked,
-  sub-of-reads.Learnt,
-  put-start-reads.Asked,
-  put-start-reads.Learnt,
-  split-in-below t,
-  split-in.Post,
-  put-end-reads.Asked,
-  put-end-reads.Learnt,
-) (split-in-at t) split-in.Post
-split-in-add-split-in-3 t c = let W = left-working (c .before .before .before .before .before .before .before .before .before .before .pre .1 .0) (omega (arith, c .before .before .before .before .before .before .before .before .if1 .left)) (c .before .before .before .before .before .before .before .spiral-of .ensures) in omega (arith, W .b-few, W .f-few, W .is .numbers .larger-is, W .is .numbers .smaller-is)
-
-split-in-add-split-in-4 : (t : ℕ) → split-in-lts.Need-add-split-in-4 (
-  put-reads.Asked,
-  put-reads.Learnt,
-  spiral-of-reads.Asked,
-  spiral-of-reads.Learnt,
-  word-reads.Asked,
-  word-reads.Learnt,
-  sub-of-reads.Asked,
-  sub-of-reads.Learnt,
-  put-start-reads.Asked,
-  put-start-reads.Learnt,
-  split-in-below t,
-  split-in.Post,
-  put-end-reads.Asked,
-  put-end-reads.Learnt,
-) (split-in-at t) split-in.Post
-split-in-add-split-in-4 t c = let W = left-working (c .before .before .before .before .before .before .before .before .before .before .pre .1 .0) (omega (arith, c .before .before .before .before .before .before .before .before .if1 .left)) (c .before .before .before .before .before .before .before .spiral-of .ensures) in omega (arith, W .b-few, W .f-few, W .is .numbers .larger-is, W .is .numbers .smaller-is)
-
-split-in-sub-split-in : (t : ℕ) → split-in-lts.Need-sub-split-in (
-  put-reads.Asked,
-  put-reads.Learnt,
-  spiral-of-reads.Asked,
-  spiral-of-reads.Learnt,
-  word-reads.Asked,
-  word-reads.Learnt,
-  sub-of-reads.Asked,
-  sub-of-reads.Learnt,
-  put-start-reads.Asked,
-  put-start-reads.Learnt,
-  split-in-below t,
-  split-in.Post,
-  put-end-reads.Asked,
-  put-end-reads.Learnt,
-) (split-in-at t) split-in.Post
-split-in-sub-split-in t c = omega (arith, c .before .before .before .before .before .before .before .before .if1 .left)
-
-split-in-split-in-requires : (t : ℕ) → split-in-lts.Need-split-in-requires (
-  put-reads.Asked,
-  put-reads.Learnt,
-  spiral-of-reads.Asked,
-  spiral-of-reads.Learnt,
-  word-reads.Asked,
-  word-reads.Learnt,
-  sub-of-reads.Asked,
-  sub-of-reads.Learnt,
-  put-start-reads.Asked,
-  put-start-reads.Learnt,
-  split-in-below t,
-  split-in.Post,
-  put-end-reads.Asked,
-  put-end-reads.Learnt,
-) (split-in-at t) split-in.Post
-split-in-split-in-requires t c κs =
-    let L = c .before .before .before .before .before .before .before .before .before .before .before .pre .1 .0 in
-    let h : 0 < c .before .before .before .before .before .before .before .before .before .before .before .args .left = omega (arith, c .before .before .before .before .before .before .before .before .before .if1 .left) in
-    let e = c .before .before .before .before .before .before .sub-of .ensures in
-    let g = c .before .before .before .before .before .before .before .word .ensures in
-    let k = (ap₂ (λ x y. c .before .before .before .before .before .before .before .before .before .before .before .args .b + 2 * (x + y)) (c .before .before .before .before .before .before .before .before .spiral-of .ensures .larger-is) (c .before .before .before .before .before .before .before .before .spiral-of .ensures .smaller-is)) in
-    (subst (λ m. larger (countOf (c .before .before .before .before .before .before .sub-of .result)) + smaller (countOf (c .before .before .before .before .before .before .sub-of .result)) < m) (c .before .before .before .before .before .before .before .before .before .before .before .pre .0) (inner-less L h e g k), (inner-left L h e g k, room-nested L h e g k (c .before .before .before .before .before .before .before .before .before .before .before .args .area .now) (c .before .before .before .before .before .before .before .before .before .before .before .args .at) (c .before .before .before .before .before .before .before .before .before .before .before .pre .1 .1) (c .before .before .before .before .put-start .ensures)))
-
-split-in-mul-put-end : (t : ℕ) → split-in-lts.Need-mul-put-end (
-  put-reads.Asked,
-  put-reads.Learnt,
-  spiral-of-reads.Asked,
-  spiral-of-reads.Learnt,
-  word-reads.Asked,
-  word-reads.Learnt,
-  sub-of-reads.Asked,
-  sub-of-reads.Learnt,
-  put-start-reads.Asked,
-  put-start-reads.Learnt,
-  split-in-below t,
-  split-in.Post,
-  put-end-reads.Asked,
-  put-end-reads.Learnt,
-) (split-in-at t) split-in.Post
-split-in-mul-put-end t c = omega (arith, c .before .before .before .before .before .before .before .before .before .before .before .before .before .before .pre .1 .0 .n-few, c .before .before .before .before .before .before .before .before .before .before .before .before .if1 .left)
-
-split-in-add-put-end : (t : ℕ) → split-in-lts.Need-add-put-end (
-  put-reads.Asked,
-  put-reads.Learnt,
-  spiral-of-reads.Asked,
-  spiral-of-reads.Learnt,
-  word-reads.Asked,
-  word-reads.Learnt,
-  sub-of-reads.Asked,
-  sub-of-reads.Learnt,
-  put-start-reads.Asked,
-  put-start-reads.Learnt,
-  split-in-below t,
-  split-in.Post,
-  put-end-reads.Asked,
-  put-end-reads.Learnt,
-) (split-in-at t) split-in.Post
-split-in-add-put-end t c = omega (arith, c .before .before .before .before .before .before .before .before .before .before .before .before .before .before .pre .1 .0 .n-few, c .before .before .before .before .before .before .before .before .before .before .before .before .if1 .left)
-
-split-in-sub-put-end : (t : ℕ) → split-in-lts.Need-sub-put-end (
-  put-reads.Asked,
-  put-reads.Learnt,
-  spiral-of-reads.Asked,
-  spiral-of-reads.Learnt,
-  word-reads.Asked,
-  word-reads.Learnt,
-  sub-of-reads.Asked,
-  sub-of-reads.Learnt,
-  put-start-reads.Asked,
-  put-start-reads.Learnt,
-  split-in-below t,
-  split-in.Post,
-  put-end-reads.Asked,
-  put-end-reads.Learnt,
-) (split-in-at t) split-in.Post
-split-in-sub-put-end t c = omega (arith, c .before .before .before .before .before .before .before .before .before .before .before .before .before .before .pre .1 .0 .n-few, c .before .before .before .before .before .before .before .before .before .before .before .before .if1 .left)
-
-split-in-put-end-requires : (t : ℕ) → split-in-lts.Need-put-end-requires (
-  put-reads.Asked,
-  put-reads.Learnt,
-  spiral-of-reads.Asked,
-  spiral-of-reads.Learnt,
-  word-reads.Asked,
-  word-reads.Learnt,
-  sub-of-reads.Asked,
-  sub-of-reads.Learnt,
-  put-start-reads.Asked,
-  put-start-reads.Learnt,
-  split-in-below t,
-  split-in.Post,
-  put-end-reads.Asked,
-  put-end-reads.Learnt,
-) (split-in-at t) split-in.Post
-split-in-put-end-requires t c κs =
-    let L = c .before .before .before .before .before .before .before .before .before .before .before .before .before .before .before .pre .1 .0 in
-    let h : 0 < c .before .before .before .before .before .before .before .before .before .before .before .before .before .before .before .args .left = omega (arith, c .before .before .before .before .before .before .before .before .before .before .before .before .before .if1 .left) in
-    let e = c .before .before .before .before .before .before .before .before .before .before .sub-of .ensures in
-    let g = c .before .before .before .before .before .before .before .before .before .before .before .word .ensures in
-    let k = (ap₂ (λ x y. c .before .before .before .before .before .before .before .before .before .before .before .before .before .before .before .args .b + 2 * (x + y)) (c .before .before .before .before .before .before .before .before .before .before .before .before .spiral-of .ensures .larger-is) (c .before .before .before .before .before .before .before .before .before .before .before .before .spiral-of .ensures .smaller-is)) in
-    (working-at (left-working L h (c .before .before .before .before .before .before .before .before .before .before .before .before .spiral-of .ensures)) _ (omega (arith, L .n-few)), room-end L h e g k (c .before .before .before .before .before .before .before .before .before .before .before .before .before .before .before .args .area .now) (c .before .before .before .before .before .before .before .before .before .before .before .before .before .before .before .args .at) (c .before .before .before .before .before .before .before .before .before .before .before .before .before .before .before .pre .1 .1) (c .before .before .before .before .before .before .before .before .put-start .ensures) (c .before .before .before .split-in .ensures))
-
-split-in-same-length-2 : (t : ℕ) → split-in-lts.Need-same-length-2 (
-  put-reads.Asked,
-  put-reads.Learnt,
-  spiral-of-reads.Asked,
-  spiral-of-reads.Learnt,
-  word-reads.Asked,
-  word-reads.Learnt,
-  sub-of-reads.Asked,
-  sub-of-reads.Learnt,
-  put-start-reads.Asked,
-  put-start-reads.Learnt,
-  split-in-below t,
-  split-in.Post,
-  put-end-reads.Asked,
-  put-end-reads.Learnt,
-) (split-in-at t) split-in.Post
-split-in-same-length-2 t c = search needs
-
-split-in-returns-2 : (t : ℕ) → split-in-lts.Need-returns-2 (
-  put-reads.Asked,
-  put-reads.Learnt,
-  spiral-of-reads.Asked,
-  spiral-of-reads.Learnt,
-  word-reads.Asked,
-  word-reads.Learnt,
-  sub-of-reads.Asked,
-  sub-of-reads.Learnt,
-  put-start-reads.Asked,
-  put-start-reads.Learnt,
-  split-in-below t,
-  split-in.Post,
-  put-end-reads.Asked,
-  put-end-reads.Learnt,
-) (split-in-at t) split-in.Post
-split-in-returns-2 t c =
-    let L = c .before .before .before .before .before .before .before .before .before .before .before .before .before .before .before .before .before .before .pre .1 .0 in
-    let h : 0 < c .before .before .before .before .before .before .before .before .before .before .before .before .before .before .before .before .before .before .args .left = omega (arith, c .before .before .before .before .before .before .before .before .before .before .before .before .before .before .before .before .if1 .left) in
-    let e = c .before .before .before .before .before .before .before .before .before .before .before .before .before .sub-of .ensures in
-    let g = c .before .before .before .before .before .before .before .before .before .before .before .before .before .before .word .ensures in
-    let k = (ap₂ (λ x y. c .before .before .before .before .before .before .before .before .before .before .before .before .before .before .before .before .before .before .args .b + 2 * (x + y)) (c .before .before .before .before .before .before .before .before .before .before .before .before .before .before .before .spiral-of .ensures .larger-is) (c .before .before .before .before .before .before .before .before .before .before .before .before .before .before .before .spiral-of .ensures .smaller-is)) in
-    all-stored L h e g k (c .before .before .before .before .before .before .before .before .before .before .before .before .before .before .before .before .before .before .args .area .now) (c .before .before .before .before .before .before .before .before .before .before .before .before .before .before .before .before .before .before .args .at) (c .before .before .before .before .before .before .before .before .before .before .before .before .before .before .before .before .before .before .pre .1 .1) (c .before .before .before .before .before .before .before .before .before .before .before .put-start .ensures) (c .before .before .before .before .before .before .split-in .ensures) (c .before .before .put-end .ensures)
-
-pub +split-in-spec : {M : Type 1} → statement M
-+split-in-spec = close μ-split-in λ t. split-in-lts.spec (
+-- what is known of the calls that it makes, at the measure t
+abbrev calls : ℕ → split-in-lts.Claims
+calls t = (
   put-reads.Asked,
   put-reads.Learnt,
   spiral-of-reads.Asked,
@@ -445,6 +50,90 @@ pub +split-in-spec : {M : Type 1} → statement M
   put-end-reads.Asked,
   put-end-reads.Learnt,
 )
+
+split-in-put-requires : (t : ℕ) → split-in-lts.Need-put-requires (calls t) (split-in-at t) split-in.Post
+split-in-put-requires t c κs = (sound-placed (c .before .before .before .pre .1 .0 .sound), none-room (c .before .before .before .pre .1 .0) (c .before .before .before .args .at) (c .before .if1 .taken) (c .before .before .before .pre .1 .1))
+
+split-in-same-length : (t : ℕ) → split-in-lts.Need-same-length (calls t) (split-in-at t) split-in.Post
+split-in-same-length t c = search needs
+
+split-in-returns : (t : ℕ) → split-in-lts.Need-returns (calls t) (split-in-at t) split-in.Post
+split-in-returns t c = stored-as (c .before .before .put .ensures) (sym (none-left (c .before .before .before .before .before .before .pre .1 .0) (c .before .before .before .before .if1 .taken))) refl
+
+split-in-spiral-of-requires : (t : ℕ) → split-in-lts.Need-spiral-of-requires (calls t) (split-in-at t) split-in.Post
+split-in-spiral-of-requires t c κs = c .before .before .pre .1 .0 .sound
+
+split-in-add-word : (t : ℕ) → split-in-lts.Need-add-word (calls t) (split-in-at t) split-in.Post
+split-in-add-word t c = omega (arith, c .before .before .before .pre .1 .0 .n-few)
+
+split-in-word-requires : (t : ℕ) → split-in-lts.Need-word-requires (calls t) (split-in-at t) split-in.Post
+split-in-word-requires t c κs = (c .before .before .before .pre .1 .0 .cell-lt, omega (arith, c .before .before .before .pre .1 .0 .n-few, c .before .if1 .left))
+
+split-in-sub-of-requires : (t : ℕ) → split-in-lts.Need-sub-of-requires (calls t) (split-in-at t) split-in.Post
+split-in-sub-of-requires t c κs = let W = left-working (c .before .before .before .before .pre .1 .0) (omega (arith, c .before .before .if1 .left)) (c .before .spiral-of .ensures) in (W .is, (omega arith, omega (arith, W .b-few), W .f-few))
+
+split-in-put-start-requires : (t : ℕ) → split-in-lts.Need-put-start-requires (calls t) (split-in-at t) split-in.Post
+split-in-put-start-requires t c κs = let h : 0 < c .before .before .before .before .before .before .args .left = omega (arith, c .before .before .before .before .if1 .left) in (left-working (c .before .before .before .before .before .before .pre .1 .0) h (c .before .before .before .spiral-of .ensures), room-start (c .before .before .before .before .before .before .pre .1 .0) h (c .before .sub-of .ensures) (c .before .before .word .ensures) (ap₂ (λ x y. c .before .before .before .before .before .before .args .b + 2 * (x + y)) (c .before .before .before .spiral-of .ensures .larger-is) (c .before .before .before .spiral-of .ensures .smaller-is)) (c .before .before .before .before .before .before .args .area .now) (c .before .before .before .before .before .before .args .at) (c .before .before .before .before .before .before .pre .1 .1))
+
+split-in-add-split-in : (t : ℕ) → split-in-lts.Need-add-split-in (calls t) (split-in-at t) split-in.Post
+split-in-add-split-in t c = omega (arith, c .before .before .before .before .before .before .before .before .before .pre .1 .0 .n-few)
+
+split-in-add-split-in-2 : (t : ℕ) → split-in-lts.Need-add-split-in-2 (calls t) (split-in-at t) split-in.Post
+split-in-add-split-in-2 t c = let W = left-working (c .before .before .before .before .before .before .before .before .before .before .pre .1 .0) (omega (arith, c .before .before .before .before .before .before .before .before .if1 .left)) (c .before .before .before .before .before .before .before .spiral-of .ensures) in omega (arith, W .b-few, W .f-few, W .is .numbers .larger-is, W .is .numbers .smaller-is)
+
+split-in-mul-split-in : (t : ℕ) → split-in-lts.Need-mul-split-in (calls t) (split-in-at t) split-in.Post
+split-in-mul-split-in t c = let W = left-working (c .before .before .before .before .before .before .before .before .before .before .pre .1 .0) (omega (arith, c .before .before .before .before .before .before .before .before .if1 .left)) (c .before .before .before .before .before .before .before .spiral-of .ensures) in omega (arith, W .b-few, W .f-few, W .is .numbers .larger-is, W .is .numbers .smaller-is)
+
+split-in-add-split-in-3 : (t : ℕ) → split-in-lts.Need-add-split-in-3 (calls t) (split-in-at t) split-in.Post
+split-in-add-split-in-3 t c = let W = left-working (c .before .before .before .before .before .before .before .before .before .before .pre .1 .0) (omega (arith, c .before .before .before .before .before .before .before .before .if1 .left)) (c .before .before .before .before .before .before .before .spiral-of .ensures) in omega (arith, W .b-few, W .f-few, W .is .numbers .larger-is, W .is .numbers .smaller-is)
+
+split-in-add-split-in-4 : (t : ℕ) → split-in-lts.Need-add-split-in-4 (calls t) (split-in-at t) split-in.Post
+split-in-add-split-in-4 t c = let W = left-working (c .before .before .before .before .before .before .before .before .before .before .pre .1 .0) (omega (arith, c .before .before .before .before .before .before .before .before .if1 .left)) (c .before .before .before .before .before .before .before .spiral-of .ensures) in omega (arith, W .b-few, W .f-few, W .is .numbers .larger-is, W .is .numbers .smaller-is)
+
+split-in-sub-split-in : (t : ℕ) → split-in-lts.Need-sub-split-in (calls t) (split-in-at t) split-in.Post
+split-in-sub-split-in t c = omega (arith, c .before .before .before .before .before .before .before .before .if1 .left)
+
+split-in-split-in-requires : (t : ℕ) → split-in-lts.Need-split-in-requires (calls t) (split-in-at t) split-in.Post
+split-in-split-in-requires t c κs =
+    let L = c .before .before .before .before .before .before .before .before .before .before .before .pre .1 .0 in
+    let h : 0 < c .before .before .before .before .before .before .before .before .before .before .before .args .left = omega (arith, c .before .before .before .before .before .before .before .before .before .if1 .left) in
+    let e = c .before .before .before .before .before .before .sub-of .ensures in
+    let g = c .before .before .before .before .before .before .before .word .ensures in
+    let k = (ap₂ (λ x y. c .before .before .before .before .before .before .before .before .before .before .before .args .b + 2 * (x + y)) (c .before .before .before .before .before .before .before .before .spiral-of .ensures .larger-is) (c .before .before .before .before .before .before .before .before .spiral-of .ensures .smaller-is)) in
+    (subst (λ m. larger (countOf (c .before .before .before .before .before .before .sub-of .result)) + smaller (countOf (c .before .before .before .before .before .before .sub-of .result)) < m) (c .before .before .before .before .before .before .before .before .before .before .before .pre .0) (inner-less L h e g k), (inner-left L h e g k, room-nested L h e g k (c .before .before .before .before .before .before .before .before .before .before .before .args .area .now) (c .before .before .before .before .before .before .before .before .before .before .before .args .at) (c .before .before .before .before .before .before .before .before .before .before .before .pre .1 .1) (c .before .before .before .before .put-start .ensures)))
+
+split-in-mul-put-end : (t : ℕ) → split-in-lts.Need-mul-put-end (calls t) (split-in-at t) split-in.Post
+split-in-mul-put-end t c = omega (arith, c .before .before .before .before .before .before .before .before .before .before .before .before .before .before .pre .1 .0 .n-few, c .before .before .before .before .before .before .before .before .before .before .before .before .if1 .left)
+
+split-in-add-put-end : (t : ℕ) → split-in-lts.Need-add-put-end (calls t) (split-in-at t) split-in.Post
+split-in-add-put-end t c = omega (arith, c .before .before .before .before .before .before .before .before .before .before .before .before .before .before .pre .1 .0 .n-few, c .before .before .before .before .before .before .before .before .before .before .before .before .if1 .left)
+
+split-in-sub-put-end : (t : ℕ) → split-in-lts.Need-sub-put-end (calls t) (split-in-at t) split-in.Post
+split-in-sub-put-end t c = omega (arith, c .before .before .before .before .before .before .before .before .before .before .before .before .before .before .pre .1 .0 .n-few, c .before .before .before .before .before .before .before .before .before .before .before .before .if1 .left)
+
+split-in-put-end-requires : (t : ℕ) → split-in-lts.Need-put-end-requires (calls t) (split-in-at t) split-in.Post
+split-in-put-end-requires t c κs =
+    let L = c .before .before .before .before .before .before .before .before .before .before .before .before .before .before .before .pre .1 .0 in
+    let h : 0 < c .before .before .before .before .before .before .before .before .before .before .before .before .before .before .before .args .left = omega (arith, c .before .before .before .before .before .before .before .before .before .before .before .before .before .if1 .left) in
+    let e = c .before .before .before .before .before .before .before .before .before .before .sub-of .ensures in
+    let g = c .before .before .before .before .before .before .before .before .before .before .before .word .ensures in
+    let k = (ap₂ (λ x y. c .before .before .before .before .before .before .before .before .before .before .before .before .before .before .before .args .b + 2 * (x + y)) (c .before .before .before .before .before .before .before .before .before .before .before .before .spiral-of .ensures .larger-is) (c .before .before .before .before .before .before .before .before .before .before .before .before .spiral-of .ensures .smaller-is)) in
+    (working-at (left-working L h (c .before .before .before .before .before .before .before .before .before .before .before .before .spiral-of .ensures)) _ (omega (arith, L .n-few)), room-end L h e g k (c .before .before .before .before .before .before .before .before .before .before .before .before .before .before .before .args .area .now) (c .before .before .before .before .before .before .before .before .before .before .before .before .before .before .before .args .at) (c .before .before .before .before .before .before .before .before .before .before .before .before .before .before .before .pre .1 .1) (c .before .before .before .before .before .before .before .before .put-start .ensures) (c .before .before .before .split-in .ensures))
+
+split-in-same-length-2 : (t : ℕ) → split-in-lts.Need-same-length-2 (calls t) (split-in-at t) split-in.Post
+split-in-same-length-2 t c = search needs
+
+split-in-returns-2 : (t : ℕ) → split-in-lts.Need-returns-2 (calls t) (split-in-at t) split-in.Post
+split-in-returns-2 t c =
+    let L = c .before .before .before .before .before .before .before .before .before .before .before .before .before .before .before .before .before .before .pre .1 .0 in
+    let h : 0 < c .before .before .before .before .before .before .before .before .before .before .before .before .before .before .before .before .before .before .args .left = omega (arith, c .before .before .before .before .before .before .before .before .before .before .before .before .before .before .before .before .if1 .left) in
+    let e = c .before .before .before .before .before .before .before .before .before .before .before .before .before .sub-of .ensures in
+    let g = c .before .before .before .before .before .before .before .before .before .before .before .before .before .before .word .ensures in
+    let k = (ap₂ (λ x y. c .before .before .before .before .before .before .before .before .before .before .before .before .before .before .before .before .before .before .args .b + 2 * (x + y)) (c .before .before .before .before .before .before .before .before .before .before .before .before .before .before .before .spiral-of .ensures .larger-is) (c .before .before .before .before .before .before .before .before .before .before .before .before .before .before .before .spiral-of .ensures .smaller-is)) in
+    all-stored L h e g k (c .before .before .before .before .before .before .before .before .before .before .before .before .before .before .before .before .before .before .args .area .now) (c .before .before .before .before .before .before .before .before .before .before .before .before .before .before .before .before .before .before .args .at) (c .before .before .before .before .before .before .before .before .before .before .before .before .before .before .before .before .before .before .pre .1 .1) (c .before .before .before .before .before .before .before .before .before .before .before .put-start .ensures) (c .before .before .before .before .before .before .split-in .ensures) (c .before .before .put-end .ensures)
+
+pub +split-in-spec : {M : Type 1} → statement M
++split-in-spec = close μ-split-in λ t. split-in-lts.spec (calls t)
     (split-in-at t)
     split-in.Post
     (split-in-put-requires t)

@@ -4,7 +4,7 @@ use mathlib.Core.Path.{refl, ap, _∙_}
 use native.Mathlib.Omega.{arith}
 use lib.ListN.{getD}
 use Rattle.slots.specs.Limits.{mostCount}
-use Rattle.grid.specs.Grid.{mostCells}
+use Rattle.slots.specs.Limits.{mostCells}
 use Rattle.cell.specs.Table.{side}
 use Rattle.cell.proofs.Values.{Valued, valued-none, valued-more, valued-all}
 use Rattle.cell.proofs.entries.counts_at.Statement.{statement}

@@ -31,310 +31,9 @@ abbrev inner-in-below : ℕ → In 1 inner-in-kinds.ps
 inner-in-below t =
     and 1 inner-in-kinds.ps (falls 1 inner-in-kinds.ps _<_ μ-inner-in t) inner-in.Pre
 
-inner-in-returns : (t : ℕ) → inner-in-lts.Need-returns (
-  spiral-of-reads.Asked,
-  spiral-of-reads.Learnt,
-  put-split-reads.Asked,
-  put-split-reads.Learnt,
-  word-reads.Asked,
-  word-reads.Learnt,
-  sub-of-reads.Asked,
-  sub-of-reads.Learnt,
-  sub-places-reads.Asked,
-  sub-places-reads.Learnt,
-  inner-in-below t,
-  inner-in.Post,
-) (inner-in-at t) inner-in.Post
-inner-in-returns t c = let A = c .before .before .args in none-inner (c .before .before .pre .1 .0) (A .at) (c .if1 .taken) (A .area .now) (A .i)
-
-inner-in-spiral-of-requires : (t : ℕ) → inner-in-lts.Need-spiral-of-requires (
-  spiral-of-reads.Asked,
-  spiral-of-reads.Learnt,
-  put-split-reads.Asked,
-  put-split-reads.Learnt,
-  word-reads.Asked,
-  word-reads.Learnt,
-  sub-of-reads.Asked,
-  sub-of-reads.Learnt,
-  sub-places-reads.Asked,
-  sub-places-reads.Learnt,
-  inner-in-below t,
-  inner-in.Post,
-) (inner-in-at t) inner-in.Post
-inner-in-spiral-of-requires t c κs = c .before .before .pre .1 .0 .sound
-
-inner-in-put-split-requires : (t : ℕ) → inner-in-lts.Need-put-split-requires (
-  spiral-of-reads.Asked,
-  spiral-of-reads.Learnt,
-  put-split-reads.Asked,
-  put-split-reads.Learnt,
-  word-reads.Asked,
-  word-reads.Learnt,
-  sub-of-reads.Asked,
-  sub-of-reads.Learnt,
-  sub-places-reads.Asked,
-  sub-places-reads.Learnt,
-  inner-in-below t,
-  inner-in.Post,
-) (inner-in-at t) inner-in.Post
-inner-in-put-split-requires t c κs = let L = c .before .before .before .before .pre .1 .0 in
-    let A = c .before .before .before .before .args in
-    let h : 0 < A .left = omega (arith, c .before .before .if1 .left) in
-    let K = left-working L h (c .before .spiral-of .ensures) in
-    (K .is, split-room L (A .at) h (A .i) (c .before .before .before .before .pre .1 .1))
-
-inner-in-add-word : (t : ℕ) → inner-in-lts.Need-add-word (
-  spiral-of-reads.Asked,
-  spiral-of-reads.Learnt,
-  put-split-reads.Asked,
-  put-split-reads.Learnt,
-  word-reads.Asked,
-  word-reads.Learnt,
-  sub-of-reads.Asked,
-  sub-of-reads.Learnt,
-  sub-places-reads.Asked,
-  sub-places-reads.Learnt,
-  inner-in-below t,
-  inner-in.Post,
-) (inner-in-at t) inner-in.Post
-inner-in-add-word t c = omega (arith, c .before .before .before .before .before .before .before .pre .1 .0 .n-few)
-
-inner-in-word-requires : (t : ℕ) → inner-in-lts.Need-word-requires (
-  spiral-of-reads.Asked,
-  spiral-of-reads.Learnt,
-  put-split-reads.Asked,
-  put-split-reads.Learnt,
-  word-reads.Asked,
-  word-reads.Learnt,
-  sub-of-reads.Asked,
-  sub-of-reads.Learnt,
-  sub-places-reads.Asked,
-  sub-places-reads.Learnt,
-  inner-in-below t,
-  inner-in.Post,
-) (inner-in-at t) inner-in.Post
-inner-in-word-requires t c κs = (c .before .before .before .before .before .before .before .pre .1 .0 .cell-lt, omega (arith, c .before .before .before .before .before .before .before .pre .1 .0 .n-few, c .before .before .before .before .before .if1 .left))
-
-inner-in-sub-of-requires : (t : ℕ) → inner-in-lts.Need-sub-of-requires (
-  spiral-of-reads.Asked,
-  spiral-of-reads.Learnt,
-  put-split-reads.Asked,
-  put-split-reads.Learnt,
-  word-reads.Asked,
-  word-reads.Learnt,
-  sub-of-reads.Asked,
-  sub-of-reads.Learnt,
-  sub-places-reads.Asked,
-  sub-places-reads.Learnt,
-  inner-in-below t,
-  inner-in.Post,
-) (inner-in-at t) inner-in.Post
-inner-in-sub-of-requires t c κs = let L = c .before .before .before .before .before .before .before .before .pre .1 .0 in
-    let A = c .before .before .before .before .before .before .before .before .args in
-    let h : 0 < A .left = omega (arith, c .before .before .before .before .before .before .if1 .left) in
-    let K = left-working L h (c .before .before .before .before .before .spiral-of .ensures) in
-    (K .is, (omega arith, omega (arith, K .b-few), K .f-few))
-
-inner-in-sub-places-requires : (t : ℕ) → inner-in-lts.Need-sub-places-requires (
-  spiral-of-reads.Asked,
-  spiral-of-reads.Learnt,
-  put-split-reads.Asked,
-  put-split-reads.Learnt,
-  word-reads.Asked,
-  word-reads.Learnt,
-  sub-of-reads.Asked,
-  sub-of-reads.Learnt,
-  sub-places-reads.Asked,
-  sub-places-reads.Learnt,
-  inner-in-below t,
-  inner-in.Post,
-) (inner-in-at t) inner-in.Post
-inner-in-sub-places-requires t c κs = let L = c .before .before .before .before .before .before .before .before .before .pre .1 .0 in
-    let A = c .before .before .before .before .before .before .before .before .before .args in
-    let h : 0 < A .left = omega (arith, c .before .before .before .before .before .before .before .if1 .left) in
-    let K = left-working L h (c .before .before .before .before .before .before .spiral-of .ensures) in
-    (K .is, omega arith)
-
-inner-in-add-inner-in : (t : ℕ) → inner-in-lts.Need-add-inner-in (
-  spiral-of-reads.Asked,
-  spiral-of-reads.Learnt,
-  put-split-reads.Asked,
-  put-split-reads.Learnt,
-  word-reads.Asked,
-  word-reads.Learnt,
-  sub-of-reads.Asked,
-  sub-of-reads.Learnt,
-  sub-places-reads.Asked,
-  sub-places-reads.Learnt,
-  inner-in-below t,
-  inner-in.Post,
-) (inner-in-at t) inner-in.Post
-inner-in-add-inner-in t c = omega (arith, c .before .before .before .before .before .before .before .before .before .before .pre .1 .0 .n-few)
-
-inner-in-add-inner-in-2 : (t : ℕ) → inner-in-lts.Need-add-inner-in-2 (
-  spiral-of-reads.Asked,
-  spiral-of-reads.Learnt,
-  put-split-reads.Asked,
-  put-split-reads.Learnt,
-  word-reads.Asked,
-  word-reads.Learnt,
-  sub-of-reads.Asked,
-  sub-of-reads.Learnt,
-  sub-places-reads.Asked,
-  sub-places-reads.Learnt,
-  inner-in-below t,
-  inner-in.Post,
-) (inner-in-at t) inner-in.Post
-inner-in-add-inner-in-2 t c = let L = c .before .before .before .before .before .before .before .before .before .before .before .pre .1 .0 in
-    let A = c .before .before .before .before .before .before .before .before .before .before .before .args in
-    let h : 0 < A .left = omega (arith, c .before .before .before .before .before .before .before .before .before .if1 .left) in
-    let K = left-working L h (c .before .before .before .before .before .before .before .before .spiral-of .ensures) in
-    omega (arith, K .b-few, K .f-few, K .is .numbers .larger-is, K .is .numbers .smaller-is)
-
-inner-in-mul-inner-in : (t : ℕ) → inner-in-lts.Need-mul-inner-in (
-  spiral-of-reads.Asked,
-  spiral-of-reads.Learnt,
-  put-split-reads.Asked,
-  put-split-reads.Learnt,
-  word-reads.Asked,
-  word-reads.Learnt,
-  sub-of-reads.Asked,
-  sub-of-reads.Learnt,
-  sub-places-reads.Asked,
-  sub-places-reads.Learnt,
-  inner-in-below t,
-  inner-in.Post,
-) (inner-in-at t) inner-in.Post
-inner-in-mul-inner-in t c = let L = c .before .before .before .before .before .before .before .before .before .before .before .pre .1 .0 in
-    let A = c .before .before .before .before .before .before .before .before .before .before .before .args in
-    let h : 0 < A .left = omega (arith, c .before .before .before .before .before .before .before .before .before .if1 .left) in
-    let K = left-working L h (c .before .before .before .before .before .before .before .before .spiral-of .ensures) in
-    omega (arith, K .b-few, K .f-few, K .is .numbers .larger-is, K .is .numbers .smaller-is)
-
-inner-in-add-inner-in-3 : (t : ℕ) → inner-in-lts.Need-add-inner-in-3 (
-  spiral-of-reads.Asked,
-  spiral-of-reads.Learnt,
-  put-split-reads.Asked,
-  put-split-reads.Learnt,
-  word-reads.Asked,
-  word-reads.Learnt,
-  sub-of-reads.Asked,
-  sub-of-reads.Learnt,
-  sub-places-reads.Asked,
-  sub-places-reads.Learnt,
-  inner-in-below t,
-  inner-in.Post,
-) (inner-in-at t) inner-in.Post
-inner-in-add-inner-in-3 t c = let L = c .before .before .before .before .before .before .before .before .before .before .before .pre .1 .0 in
-    let A = c .before .before .before .before .before .before .before .before .before .before .before .args in
-    let h : 0 < A .left = omega (arith, c .before .before .before .before .before .before .before .before .before .if1 .left) in
-    let K = left-working L h (c .before .before .before .before .before .before .before .before .spiral-of .ensures) in
-    omega (arith, K .b-few, K .f-few, K .is .numbers .larger-is, K .is .numbers .smaller-is)
-
-inner-in-add-inner-in-4 : (t : ℕ) → inner-in-lts.Need-add-inner-in-4 (
-  spiral-of-reads.Asked,
-  spiral-of-reads.Learnt,
-  put-split-reads.Asked,
-  put-split-reads.Learnt,
-  word-reads.Asked,
-  word-reads.Learnt,
-  sub-of-reads.Asked,
-  sub-of-reads.Learnt,
-  sub-places-reads.Asked,
-  sub-places-reads.Learnt,
-  inner-in-below t,
-  inner-in.Post,
-) (inner-in-at t) inner-in.Post
-inner-in-add-inner-in-4 t c = let L = c .before .before .before .before .before .before .before .before .before .before .before .pre .1 .0 in
-    let A = c .before .before .before .before .before .before .before .before .before .before .before .args in
-    let h : 0 < A .left = omega (arith, c .before .before .before .before .before .before .before .before .before .if1 .left) in
-    let K = left-working L h (c .before .before .before .before .before .before .before .before .spiral-of .ensures) in
-    omega (arith, K .b-few, K .f-few, K .is .numbers .larger-is, K .is .numbers .smaller-is)
-
-inner-in-sub-inner-in : (t : ℕ) → inner-in-lts.Need-sub-inner-in (
-  spiral-of-reads.Asked,
-  spiral-of-reads.Learnt,
-  put-split-reads.Asked,
-  put-split-reads.Learnt,
-  word-reads.Asked,
-  word-reads.Learnt,
-  sub-of-reads.Asked,
-  sub-of-reads.Learnt,
-  sub-places-reads.Asked,
-  sub-places-reads.Learnt,
-  inner-in-below t,
-  inner-in.Post,
-) (inner-in-at t) inner-in.Post
-inner-in-sub-inner-in t c = omega (arith, c .before .before .before .before .before .before .before .before .before .if1 .left)
-
-inner-in-inner-in-requires : (t : ℕ) → inner-in-lts.Need-inner-in-requires (
-  spiral-of-reads.Asked,
-  spiral-of-reads.Learnt,
-  put-split-reads.Asked,
-  put-split-reads.Learnt,
-  word-reads.Asked,
-  word-reads.Learnt,
-  sub-of-reads.Asked,
-  sub-of-reads.Learnt,
-  sub-places-reads.Asked,
-  sub-places-reads.Learnt,
-  inner-in-below t,
-  inner-in.Post,
-) (inner-in-at t) inner-in.Post
-inner-in-inner-in-requires t c κs = let L = c .before .before .before .before .before .before .before .before .before .before .before .before .pre .1 .0 in
-    let A = c .before .before .before .before .before .before .before .before .before .before .before .before .args in
-    let h : 0 < A .left = omega (arith, c .before .before .before .before .before .before .before .before .before .before .if1 .left) in
-    let K = left-working L h (c .before .before .before .before .before .before .before .before .before .spiral-of .ensures) in
-    let d = c .before .before .before .sub-of .ensures in
-    let m = c .before .before .before .before .word .ensures in
-    let q = c .before .before .sub-places .ensures in
-    let k = ap₂ (λ x y. A .b + 2 * (x + y)) (K .is .numbers .larger-is) (K .is .numbers .smaller-is) in (
-      subst (λ n. larger (countOf (c .before .before .before .sub-of .result)) + smaller (countOf (c .before .before .before .sub-of .result)) < n) (c .before .before .before .before .before .before .before .before .before .before .before .before .pre .0) (inner-less L h d m k),
-      (inner-left L h d m k, inner-room L (A .at) h d m k q (A .area .now) (A .i) (c .before .before .before .before .before .before .before .before .before .before .before .before .pre .1 .1) (c .before .before .before .before .before .before .before .put-split .result) (c .before .before .before .before .before .before .before .put-split .ensures)),
-    )
-
-inner-in-same-length : (t : ℕ) → inner-in-lts.Need-same-length (
-  spiral-of-reads.Asked,
-  spiral-of-reads.Learnt,
-  put-split-reads.Asked,
-  put-split-reads.Learnt,
-  word-reads.Asked,
-  word-reads.Learnt,
-  sub-of-reads.Asked,
-  sub-of-reads.Learnt,
-  sub-places-reads.Asked,
-  sub-places-reads.Learnt,
-  inner-in-below t,
-  inner-in.Post,
-) (inner-in-at t) inner-in.Post
-inner-in-same-length t c = search needs
-
-inner-in-returns-2 : (t : ℕ) → inner-in-lts.Need-returns-2 (
-  spiral-of-reads.Asked,
-  spiral-of-reads.Learnt,
-  put-split-reads.Asked,
-  put-split-reads.Learnt,
-  word-reads.Asked,
-  word-reads.Learnt,
-  sub-of-reads.Asked,
-  sub-of-reads.Learnt,
-  sub-places-reads.Asked,
-  sub-places-reads.Learnt,
-  inner-in-below t,
-  inner-in.Post,
-) (inner-in-at t) inner-in.Post
-inner-in-returns-2 t c = let L = c .before .before .before .before .before .before .before .before .before .before .before .before .before .before .before .pre .1 .0 in
-    let A = c .before .before .before .before .before .before .before .before .before .before .before .before .before .before .before .args in
-    let h : 0 < A .left = omega (arith, c .before .before .before .before .before .before .before .before .before .before .before .before .before .if1 .left) in
-    let K = left-working L h (c .before .before .before .before .before .before .before .before .before .before .before .before .spiral-of .ensures) in
-    let d = c .before .before .before .before .before .before .sub-of .ensures in
-    let m = c .before .before .before .before .before .before .before .word .ensures in
-    let q = c .before .before .before .before .before .sub-places .ensures in
-    let k = ap₂ (λ x y. A .b + 2 * (x + y)) (K .is .numbers .larger-is) (K .is .numbers .smaller-is) in
-    inner-all L (A .at) h d m k q (A .area .now) (A .i) (c .before .before .before .before .before .before .before .before .before .before .before .before .before .before .before .pre .1 .1) (c .before .before .before .before .before .before .before .before .before .before .put-split .result) (c .before .before .before .before .before .before .before .before .before .before .put-split .ensures) (c .before .before .inner-in .ensures)
-
-pub +inner-in-spec : {M : Type 1} → statement M
-+inner-in-spec = close μ-inner-in λ t. inner-in-lts.spec (
+-- what is known of the calls that it makes, at the measure t
+abbrev calls : ℕ → inner-in-lts.Claims
+calls t = (
   spiral-of-reads.Asked,
   spiral-of-reads.Learnt,
   put-split-reads.Asked,
@@ -348,6 +47,103 @@ pub +inner-in-spec : {M : Type 1} → statement M
   inner-in-below t,
   inner-in.Post,
 )
+
+inner-in-returns : (t : ℕ) → inner-in-lts.Need-returns (calls t) (inner-in-at t) inner-in.Post
+inner-in-returns t c = let A = c .before .before .args in none-inner (c .before .before .pre .1 .0) (A .at) (c .if1 .taken) (A .area .now) (A .i)
+
+inner-in-spiral-of-requires : (t : ℕ) → inner-in-lts.Need-spiral-of-requires (calls t) (inner-in-at t) inner-in.Post
+inner-in-spiral-of-requires t c κs = c .before .before .pre .1 .0 .sound
+
+inner-in-put-split-requires : (t : ℕ) → inner-in-lts.Need-put-split-requires (calls t) (inner-in-at t) inner-in.Post
+inner-in-put-split-requires t c κs = let L = c .before .before .before .before .pre .1 .0 in
+    let A = c .before .before .before .before .args in
+    let h : 0 < A .left = omega (arith, c .before .before .if1 .left) in
+    let K = left-working L h (c .before .spiral-of .ensures) in
+    (K .is, split-room L (A .at) h (A .i) (c .before .before .before .before .pre .1 .1))
+
+inner-in-add-word : (t : ℕ) → inner-in-lts.Need-add-word (calls t) (inner-in-at t) inner-in.Post
+inner-in-add-word t c = omega (arith, c .before .before .before .before .before .before .before .pre .1 .0 .n-few)
+
+inner-in-word-requires : (t : ℕ) → inner-in-lts.Need-word-requires (calls t) (inner-in-at t) inner-in.Post
+inner-in-word-requires t c κs = (c .before .before .before .before .before .before .before .pre .1 .0 .cell-lt, omega (arith, c .before .before .before .before .before .before .before .pre .1 .0 .n-few, c .before .before .before .before .before .if1 .left))
+
+inner-in-sub-of-requires : (t : ℕ) → inner-in-lts.Need-sub-of-requires (calls t) (inner-in-at t) inner-in.Post
+inner-in-sub-of-requires t c κs = let L = c .before .before .before .before .before .before .before .before .pre .1 .0 in
+    let A = c .before .before .before .before .before .before .before .before .args in
+    let h : 0 < A .left = omega (arith, c .before .before .before .before .before .before .if1 .left) in
+    let K = left-working L h (c .before .before .before .before .before .spiral-of .ensures) in
+    (K .is, (omega arith, omega (arith, K .b-few), K .f-few))
+
+inner-in-sub-places-requires : (t : ℕ) → inner-in-lts.Need-sub-places-requires (calls t) (inner-in-at t) inner-in.Post
+inner-in-sub-places-requires t c κs = let L = c .before .before .before .before .before .before .before .before .before .pre .1 .0 in
+    let A = c .before .before .before .before .before .before .before .before .before .args in
+    let h : 0 < A .left = omega (arith, c .before .before .before .before .before .before .before .if1 .left) in
+    let K = left-working L h (c .before .before .before .before .before .before .spiral-of .ensures) in
+    (K .is, omega arith)
+
+inner-in-add-inner-in : (t : ℕ) → inner-in-lts.Need-add-inner-in (calls t) (inner-in-at t) inner-in.Post
+inner-in-add-inner-in t c = omega (arith, c .before .before .before .before .before .before .before .before .before .before .pre .1 .0 .n-few)
+
+inner-in-add-inner-in-2 : (t : ℕ) → inner-in-lts.Need-add-inner-in-2 (calls t) (inner-in-at t) inner-in.Post
+inner-in-add-inner-in-2 t c = let L = c .before .before .before .before .before .before .before .before .before .before .before .pre .1 .0 in
+    let A = c .before .before .before .before .before .before .before .before .before .before .before .args in
+    let h : 0 < A .left = omega (arith, c .before .before .before .before .before .before .before .before .before .if1 .left) in
+    let K = left-working L h (c .before .before .before .before .before .before .before .before .spiral-of .ensures) in
+    omega (arith, K .b-few, K .f-few, K .is .numbers .larger-is, K .is .numbers .smaller-is)
+
+inner-in-mul-inner-in : (t : ℕ) → inner-in-lts.Need-mul-inner-in (calls t) (inner-in-at t) inner-in.Post
+inner-in-mul-inner-in t c = let L = c .before .before .before .before .before .before .before .before .before .before .before .pre .1 .0 in
+    let A = c .before .before .before .before .before .before .before .before .before .before .before .args in
+    let h : 0 < A .left = omega (arith, c .before .before .before .before .before .before .before .before .before .if1 .left) in
+    let K = left-working L h (c .before .before .before .before .before .before .before .before .spiral-of .ensures) in
+    omega (arith, K .b-few, K .f-few, K .is .numbers .larger-is, K .is .numbers .smaller-is)
+
+inner-in-add-inner-in-3 : (t : ℕ) → inner-in-lts.Need-add-inner-in-3 (calls t) (inner-in-at t) inner-in.Post
+inner-in-add-inner-in-3 t c = let L = c .before .before .before .before .before .before .before .before .before .before .before .pre .1 .0 in
+    let A = c .before .before .before .before .before .before .before .before .before .before .before .args in
+    let h : 0 < A .left = omega (arith, c .before .before .before .before .before .before .before .before .before .if1 .left) in
+    let K = left-working L h (c .before .before .before .before .before .before .before .before .spiral-of .ensures) in
+    omega (arith, K .b-few, K .f-few, K .is .numbers .larger-is, K .is .numbers .smaller-is)
+
+inner-in-add-inner-in-4 : (t : ℕ) → inner-in-lts.Need-add-inner-in-4 (calls t) (inner-in-at t) inner-in.Post
+inner-in-add-inner-in-4 t c = let L = c .before .before .before .before .before .before .before .before .before .before .before .pre .1 .0 in
+    let A = c .before .before .before .before .before .before .before .before .before .before .before .args in
+    let h : 0 < A .left = omega (arith, c .before .before .before .before .before .before .before .before .before .if1 .left) in
+    let K = left-working L h (c .before .before .before .before .before .before .before .before .spiral-of .ensures) in
+    omega (arith, K .b-few, K .f-few, K .is .numbers .larger-is, K .is .numbers .smaller-is)
+
+inner-in-sub-inner-in : (t : ℕ) → inner-in-lts.Need-sub-inner-in (calls t) (inner-in-at t) inner-in.Post
+inner-in-sub-inner-in t c = omega (arith, c .before .before .before .before .before .before .before .before .before .if1 .left)
+
+inner-in-inner-in-requires : (t : ℕ) → inner-in-lts.Need-inner-in-requires (calls t) (inner-in-at t) inner-in.Post
+inner-in-inner-in-requires t c κs = let L = c .before .before .before .before .before .before .before .before .before .before .before .before .pre .1 .0 in
+    let A = c .before .before .before .before .before .before .before .before .before .before .before .before .args in
+    let h : 0 < A .left = omega (arith, c .before .before .before .before .before .before .before .before .before .before .if1 .left) in
+    let K = left-working L h (c .before .before .before .before .before .before .before .before .before .spiral-of .ensures) in
+    let d = c .before .before .before .sub-of .ensures in
+    let m = c .before .before .before .before .word .ensures in
+    let q = c .before .before .sub-places .ensures in
+    let k = ap₂ (λ x y. A .b + 2 * (x + y)) (K .is .numbers .larger-is) (K .is .numbers .smaller-is) in (
+      subst (λ n. larger (countOf (c .before .before .before .sub-of .result)) + smaller (countOf (c .before .before .before .sub-of .result)) < n) (c .before .before .before .before .before .before .before .before .before .before .before .before .pre .0) (inner-less L h d m k),
+      (inner-left L h d m k, inner-room L (A .at) h d m k q (A .area .now) (A .i) (c .before .before .before .before .before .before .before .before .before .before .before .before .pre .1 .1) (c .before .before .before .before .before .before .before .put-split .result) (c .before .before .before .before .before .before .before .put-split .ensures)),
+    )
+
+inner-in-same-length : (t : ℕ) → inner-in-lts.Need-same-length (calls t) (inner-in-at t) inner-in.Post
+inner-in-same-length t c = search needs
+
+inner-in-returns-2 : (t : ℕ) → inner-in-lts.Need-returns-2 (calls t) (inner-in-at t) inner-in.Post
+inner-in-returns-2 t c = let L = c .before .before .before .before .before .before .before .before .before .before .before .before .before .before .before .pre .1 .0 in
+    let A = c .before .before .before .before .before .before .before .before .before .before .before .before .before .before .before .args in
+    let h : 0 < A .left = omega (arith, c .before .before .before .before .before .before .before .before .before .before .before .before .before .if1 .left) in
+    let K = left-working L h (c .before .before .before .before .before .before .before .before .before .before .before .before .spiral-of .ensures) in
+    let d = c .before .before .before .before .before .before .sub-of .ensures in
+    let m = c .before .before .before .before .before .before .before .word .ensures in
+    let q = c .before .before .before .before .before .sub-places .ensures in
+    let k = ap₂ (λ x y. A .b + 2 * (x + y)) (K .is .numbers .larger-is) (K .is .numbers .smaller-is) in
+    inner-all L (A .at) h d m k q (A .area .now) (A .i) (c .before .before .before .before .before .before .before .before .before .before .before .before .before .before .before .pre .1 .1) (c .before .before .before .before .before .before .before .before .before .before .put-split .result) (c .before .before .before .before .before .before .before .before .before .before .put-split .ensures) (c .before .before .inner-in .ensures)
+
+pub +inner-in-spec : {M : Type 1} → statement M
++inner-in-spec = close μ-inner-in λ t. inner-in-lts.spec (calls t)
     (inner-in-at t)
     inner-in.Post
     (inner-in-returns t)
