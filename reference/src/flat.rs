@@ -335,7 +335,7 @@ impl Tracer {
                 break;
             }
             let [one, other] = self.segments[leaving as usize];
-            crossing = one ^ other ^ crossing;
+            crossing ^= one ^ other;
             if crossing == start {
                 closed = true;
                 break;

@@ -465,9 +465,10 @@ fn compare_edges(tables: &GridTables, grid: &Sample) {
         assert_eq!(listed, [[a, b], [a, c], [a, d], [b, c], [b, d], [c, d]]);
     }
     let starts = grid.starts();
-    for edge in 0..edges.len() {
+    assert_eq!(starts.len(), edges.len());
+    for (edge, &start) in starts.iter().enumerate() {
         let earlier = grid.counts[..edge].iter().map(|&count| u32::from(count));
-        assert_eq!(starts[edge], earlier.sum());
+        assert_eq!(start, earlier.sum());
     }
 }
 

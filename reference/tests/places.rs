@@ -411,7 +411,7 @@ fn nested_loops() {
         area: vec![UNTOUCHED; 54],
     };
     assert_eq!(call.run(), Ok(18));
-    let third = |part: f64| [1.0 + -1.0 * part, 6.0 * part, 3.0 * part];
+    let third = |part: f64| [1.0 - part, 6.0 * part, 3.0 * part];
     assert_eq!(call.area[48..51], third(2.0 / 3.0));
     assert_eq!(call.area[51..54], third(1.0 / 3.0));
 }

@@ -2,6 +2,7 @@
  * capi_test.out has what must be printed. A number that no call may touch is
  * printed as "-". */
 #define _POSIX_C_SOURCE 200112L
+#define _DEFAULT_SOURCE
 #include "citternblaze.h"
 
 #include <inttypes.h>
@@ -9,6 +10,7 @@
 #include <stdio.h>
 #include <stdlib.h>
 #include <string.h>
+#include <sys/mman.h>
 
 #define ROOM 8
 /* answer areas just long enough, and too short by one */
@@ -815,6 +817,26 @@ static void write_bundle(const char *call, size_t nodes_len, size_t ends_len,
                   answer_len);
 }
 
+/* Lists for which the bytes needed pass 32 bits. They are mapped and may not be
+ * touched, so the call goes by their lengths alone. */
+static void test_bundle_cap(void) {
+  const size_t most = 357913941; /* 12 * 357913941 + 4 is 2^32 */
+  const size_t size = most * 4 * sizeof(uint16_t);
+  uint16_t *nodes = mmap(NULL, size, PROT_NONE,
+                         MAP_PRIVATE | MAP_ANONYMOUS | MAP_NORESERVE, -1, 0);
+  if (nodes == MAP_FAILED) {
+    perror("capi_test: mmap");
+    exit(1);
+  }
+  show("write 357913940 cells into no area",
+       citternblaze_bundle_write(nodes, 4 * (most - 1), NULL, 0, NULL, 0, NULL, 0,
+                                 answer, ROOM));
+  show("write 357913941 cells into no area",
+       citternblaze_bundle_write(nodes, 4 * most, NULL, 0, NULL, 0, NULL, 0, answer,
+                                 ROOM));
+  munmap(nodes, size);
+}
+
 static void test_bundle_write(void) {
   static const uint16_t wide[] = {256, 255}, widest[] = {65535};
   write_bundle("write a cell and an edge", 4, 2, 1, 28, ROOM);
@@ -1139,6 +1161,7 @@ int main(void) {
   test_record();
   test_bundle_read();
   test_bundle_write();
+  test_bundle_cap();
   test_nearest();
   test_grid_refusals();
   test_other_refusals();

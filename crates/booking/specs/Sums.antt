@@ -1,4 +1,4 @@
--- Only contracts of parts cite this file. The booking from the sums of the counts of opposite edges.
+-- The booking from the sums of the counts of opposite edges.
 use Prim.Native.Nat.{ℕ, _+_, _*_, _-_, _/_, _≤_, max}
 use mathlib.Core.Path.{_≡_}
 use mathlib.Core.List.{List, [], _∷_}

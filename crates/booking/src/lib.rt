@@ -7,11 +7,11 @@ ghost use Rattle.booking.specs.Booking.{smallest, median, beside, beside
 ghost use Rattle.booking.specs.Fans.{fansNumbers, fansAnswer};
 ghost use Rattle.booking.specs.Answer.{bookingNumbers, bookingAnswer};
 ghost use Rattle.booking.specs.Sums.{mostNumber, mostBeside, FewFans, GainBy, GainIn, Three, ofThree, largest, Sums};
-use cell::higher;
-use cell::lower;
 use cell::sum_of;
-use splits::wide;
-use splits::wider;
+use counting::greatest32;
+use counting::least32;
+use counting::long32;
+use counting::word16;
 
 mod splits;
 mod tables;
@@ -72,8 +72,8 @@ fn from_sums(x: u32, y: u32, z: u32) -> Fans
     requires { ⌜ Sums x y z ⌝ }
     ensures { λ r. ⌜ (fansNumbers r ≡ ofThree (largest x y z) (median x y z) (smallest x y z)) × FewFans r ⌝ }
 {
-    let most = higher(higher(x, y), z);
-    let least = lower(lower(x, y), z);
+    let most = greatest32(greatest32(x, y), z);
+    let least = least32(least32(x, y), z);
     of_three(most, x + y + z - most - least, least)
 }
 
@@ -96,13 +96,13 @@ fn drawn_beside(d1: u32, d2: u32) -> u64
     ensures { λ r. ⌜ (r ≡ besideDrawn d1 d2) × (r ≤ mostBeside) ⌝ }
 {
     if d2 == 0 {
-        return wider(2 * d1);
+        return long32(2 * d1);
     }
     let f = figures_of(d1 as u16, d2 as u16);
     if 1 < f.end {
         return f.triangles;
     }
-    wider(4 * (d1 + d2))
+    long32(4 * (d1 + d2))
 }
 
 // The booking of a cell with these counts, of the edges 01, 02, 03, 12, 13, 23.
@@ -112,7 +112,7 @@ pub fn book(counts: [u16; 6]) -> Booking
     match fans_of(counts) {
         Fans::WalkIt => Booking::WalkIt,
         Fans::Counted(t, d1, d2, _) => {
-            Booking::Booked(t, d1, d2, wider(t) + drawn_beside(d1, d2))
+            Booking::Booked(t, d1, d2, long32(t) + drawn_beside(d1, d2))
         }
     }
 }
@@ -139,7 +139,7 @@ fn gain_by(d1: u32, d2: u32) -> Gain
     }
     Gain {
         splits: f.splits,
-        more: f.triangles - wider(4 * (d1 + d2)),
+        more: f.triangles - long32(4 * (d1 + d2)),
     }
 }
 
@@ -150,7 +150,7 @@ const FEWEST: u32 = 10;
 pub fn gain_of(counts: [u16; 6]) -> Gain
     ensures { λ r. ⌜ GainIn (byEdge counts) r ⌝ }
 {
-    if wide(counts[0]) + wide(counts[1]) + wide(counts[2]) < FEWEST {
+    if word16(counts[0]) + word16(counts[1]) + word16(counts[2]) < FEWEST {
         return no_gain();
     }
     match fans_of(counts) {

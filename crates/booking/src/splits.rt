@@ -1,23 +1,12 @@
 // What is summed over the splits of a cell (02, W12), from its two numbers alone.
-ghost use mathlib.Core.Path.{_≡_};
 ghost use Prim.Native.Nat.{_*_, _≤_};
 ghost use Rattle.booking.specs.Sums.{mostNumber, mostAdded, AreFigures, EndsAt};
 use super::SplitSums;
-use cell::higher;
-use cell::less;
-use cell::lower;
-
-pub(crate) fn wide(x: u16) -> u32
-    ensures { λ r. ⌜ (r ≡ x) × (r ≤ 65535) ⌝ }
-{
-    x as u32
-}
-
-pub(crate) fn wider(x: u32) -> u64
-    ensures { λ r. ⌜ r ≡ x ⌝ }
-{
-    x as u64
-}
+use counting::greatest32;
+use counting::least32;
+use counting::long32;
+use counting::minus32;
+use counting::word16;
 
 // The figures, where x is the number at the end.
 fn figures_at(splits: u32, inner: u64, triangles: u64, x: u32) -> SplitSums
@@ -27,7 +16,7 @@ fn figures_at(splits: u32, inner: u64, triangles: u64, x: u32) -> SplitSums
     SplitSums {
         splits,
         inner,
-        triangles: triangles + wider(8 * x),
+        triangles: triangles + long32(8 * x),
         end: x,
     }
 }
@@ -36,8 +25,8 @@ fn figures_at(splits: u32, inner: u64, triangles: u64, x: u32) -> SplitSums
 pub fn figures_of(d1: u16, d2: u16) -> SplitSums
     ensures { λ r. ⌜ AreFigures d1 d2 r ⌝ }
 {
-    let mut x = wide(d1);
-    let mut y = wide(d2);
+    let mut x = word16(d1);
+    let mut y = word16(d2);
     let mut left = x + y;
     let mut splits: u32 = 0;
     let mut inner: u64 = 0;
@@ -47,11 +36,11 @@ pub fn figures_of(d1: u16, d2: u16) -> SplitSums
             return figures_at(splits, inner, triangles, x);
         }
         splits += 1;
-        inner += wider(2 * (x + y));
-        triangles += wider(4 * x + 10 * y);
-        let d = less(x, y);
-        x = higher(d, y);
-        y = lower(d, y);
+        inner += long32(2 * (x + y));
+        triangles += long32(4 * x + 10 * y);
+        let d = minus32(x, y);
+        x = greatest32(d, y);
+        y = least32(d, y);
         left -= 1;
     }
     figures_at(splits, inner, triangles, x)

@@ -11,25 +11,20 @@ ghost use Rattle.booking.specs.Totals.{mostCounts, bookedTriangles, walk
 use super::Fans;
 use super::fans_of;
 use cases::ENTRIES;
+use counting::wide16;
 use slots::MOST_EDGES;
 use slots::MOST_SLOTS;
-
-fn wide(x: u16) -> usize
-    ensures { λ r. ⌜ (r ≡ x) × (r ≤ 65535) ⌝ }
-{
-    x as usize
-}
 
 // How many crossings a cell with these counts has.
 pub fn crossings_in(counts: [u16; 6]) -> usize
     ensures { λ r. ⌜ (r ≡ pre (byEdge counts) 6) × (r ≤ mostCounts) ⌝ }
 {
-    wide(counts[0])
-        + wide(counts[1])
-        + wide(counts[2])
-        + wide(counts[3])
-        + wide(counts[4])
-        + wide(counts[5])
+    wide16(counts[0])
+        + wide16(counts[1])
+        + wide16(counts[2])
+        + wide16(counts[3])
+        + wide16(counts[4])
+        + wide16(counts[5])
 }
 
 // What the cells come to: the triangles of those that are in the table of common cells or are booked, and the crossings of the others.

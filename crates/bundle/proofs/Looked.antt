@@ -12,12 +12,13 @@ use lib.Seq.{getD-set-same, getD-set-other}
 use borrow.Author.Tests.{eqb-true, eq-eqb, ne-eqb, lt-ltb}
 use Rattle.counting.specs.Pick.{one}
 use Rattle.counting.specs.Search.{last, some}
-use Rattle.counting.specs.Chains.{Table, sameKey}
 use Rattle.counting.proofs.Bools.{and-left, and-right, and-true, bool-same, eqb-comm}
-use Rattle.counting.proofs.Search.{last-plus, last-ext, last-is, last-le, last-above, some-zero, some-hit, some-miss, some-ext}
+use Rattle.counting.proofs.Search.{last-plus, last-ext, some-zero, some-hit, some-miss, some-ext}
 use Rattle.bundle.specs.Record.{byteValues, wordSize, headBytes, lookSize, countPlace, word, lengthOf, nextRecord, isRecord, body}
 use Rattle.bundle.specs.Bundle.{edgeSection, lookSection, isOf, recordStart, run, edgesFrom, edges, looksFrom, looks, edgeAt, lookAt, endIn, countIn, samePair, isFor, isStray, countFrom, countAfter}
-use Rattle.bundle.specs.Looked.{pairKey, keyAt, edgeKey, lookKey, EndsWithin, AllEdges, topOf, keyUnmet, KeysMarked, countOr}
+use Rattle.bundle.specs.Trees.{hasKey, topFor, Tops}
+use Rattle.bundle.specs.Looked.{pairKey, keyAt, edgeKey, lookKey, blockKey, EndsWithin, AllEdges, topOf, topUnmet, KeysMarked, countOr}
+use Rattle.bundle.proofs.Trees.{top-le, top-key, top-self}
 use Rattle.bundle.proofs.OneRecord.{stands, body-length}
 use Rattle.bundle.proofs.Runs.{Walked, here, walked-next, of-record, next-of, run-all}
 use Rattle.bundle.proofs.Fills.{body-word, look-kind, look-body, edge-ge}
@@ -46,6 +47,9 @@ module _ (s : List ℕ) where
   look-within k h =
       let r = of-record s lookSection _ (look-here k h) in
       omega (arith, look-place k (omega arith), look-body s _ (look-here k h), body-length s (lookAt s k) r, stands s (lookAt s k) r .fits)
+
+  pub look-few : (k : ℕ) → k < looks s → k < length s
+  look-few k h = omega (arith, look-within k h)
 
   edge-here : (n : ℕ) → n < edges s → isOf s edgeSection (edgeAt s n) ≡ true
   unfolding edges
@@ -83,20 +87,20 @@ module _ (s : List ℕ) where
         second : (at : ℕ) → isRecord s at ≡ true → countPlace ≤ length (body s at) → endIn (body s at) 1 < 65536
         second at r l = omega (arith, body-word s at r wordSize (omega arith), word-small (at + headBytes + wordSize))
 
-    -- the keys of n looks from look m on
-    module _ (keys : List ℕ) (m n : ℕ) (part : m + n ≤ looks s) (t : Table (λ i. lookKey s (m + i)) n keys) where
-      same-for : (e i : ℕ) → e < edges s → i < n → sameKey keys (edgeKey s e) i ≡ isFor s e (m + i)
-      unfolding sameKey
-      same-for e i he hi = ap (λ x. eqb x (edgeKey s e)) (t .at i hi) ∙ eqb-comm (lookKey s (m + i)) (edgeKey s e) ∙ sym (for-key e (m + i) he (omega arith))
+    -- n looks from look m on
+    module _ (m n : ℕ) (part : m + n ≤ looks s) where
+      same-for : (e i : ℕ) → e < edges s → i < n → hasKey (blockKey s m) (edgeKey s e) i ≡ isFor s e (m + i)
+      unfolding hasKey
+      same-for e i he hi = eqb-comm (lookKey s (m + i)) (edgeKey s e) ∙ sym (for-key e (m + i) he (omega arith))
 
       -- the last of them for an edge
-      pub top-for : (e : ℕ) → e < edges s → topOf s keys n e ≡ last (λ i. isFor s e (m + i)) n
+      pub top-for : (e : ℕ) → e < edges s → topOf s m n e ≡ last (λ i. isFor s e (m + i)) n
       top-for e he = last-ext _ _ n (λ i hi. same-for e i he hi)
 
       -- the count of an edge after them, from its count before
-      pub count-block : (e : ℕ) → e < edges s → countAfter s (m + n) e ≡ countOr s m (topOf s keys n e) (countAfter s m e)
+      pub count-block : (e : ℕ) → e < edges s → countAfter s (m + n) e ≡ countOr s m (topOf s m n e) (countAfter s m e)
       unfolding countAfter countOr countFrom
-      count-block e he = go (topOf s keys n e) (sym (top-for e he))
+      count-block e he = go (topOf s m n e) (sym (top-for e he))
         where
           go : (p : ℕ) → last (λ i. isFor s e (m + i)) n ≡ p → countFrom s e (last (isFor s e) (m + n)) ≡ countOr s m p (countAfter s m e)
           go zero q = let x : last (isFor s e) (m + n) ≡ last (isFor s e) m = last-plus (isFor s e) m n ∙ simp q in ap (countFrom s e) x
@@ -106,40 +110,27 @@ module _ (s : List ℕ) where
               ap (countFrom s e) x
 
       -- a place without mark is a stray look
-      module _ (met : List ℕ) (w : KeysMarked s keys n met) (j : ℕ) (hj : j < n) where
+      module _ (tops met : List ℕ) (t : Tops (blockKey s m) n 0 tops) (w : KeysMarked s m n met) (j : ℕ) (hj : j < n) where
         abbrev key : ℕ
-        key = getD keys j 0
+        key = lookKey s (m + j)
 
         abbrev top : ℕ
-        top = last (sameKey keys key) n
+        top = topFor (blockKey s m) n key
 
-        key-same : sameKey keys key j ≡ true
-        unfolding sameKey
-        key-same = eq-eqb key key refl
+        found : (k : ℕ) → topFor (blockKey s m) n k ≡ top → k ≡ blockKey s m (top - 1)
+        found k q = sym (rw q at (top-key (blockKey s m) n k (omega (arith, q, top-self (blockKey s m) n j hj))))
 
-        top-pos : 0 < top
-        top-pos = elim (ℕ-discrete top 0) [
-          | yes z ↦ absurd (differ (last-above (sameKey keys key) n j (omega arith) hj))
-          | no z ↦ omega arith
-        ]
-          where
-            differ : sameKey keys key j ≡ false → ⊥
-            differ f = let z : _≡_ {A = Bool} true false = sym key-same ∙ f in let y : _≡_ {A = ℕ} 0 1 = cc in omega arith
-
-        found : (k : ℕ) → last (sameKey keys k) n ≡ top → getD keys (top - 1) 0 ≡ k
-        unfolding sameKey
-        found k q = eqb-true _ _ (rw q at (last-is (sameKey keys k) n (omega (arith, q, top-pos))))
-
-        edge-met : (e : ℕ) → e < edges s → eqb (topOf s keys n e) top ≡ isFor s e (m + j)
+        edge-met : (e : ℕ) → e < edges s → eqb (topOf s m n e) top ≡ isFor s e (m + j)
         edge-met e he =
-            bool-same (eqb (topOf s keys n e) top) (isFor s e (m + j))
-            (λ h. let q = eqb-true (topOf s keys n e) top h in for-key e (m + j) he (omega arith) ∙ eq-eqb _ _ (sym (found (edgeKey s e) q) ∙ found key refl ∙ t .at j hj))
-            (λ h. let q = eqb-true _ _ (sym (for-key e (m + j) he (omega arith)) ∙ h) in eq-eqb _ _ (ap (λ k. last (sameKey keys k) n) (q ∙ sym (t .at j hj))))
+            bool-same (eqb (topOf s m n e) top) (isFor s e (m + j))
+            (λ h. let q = eqb-true (topOf s m n e) top h in for-key e (m + j) he (omega arith) ∙ eq-eqb _ _ (found (edgeKey s e) q ∙ sym (found key refl)))
+            (λ h. let q = eqb-true _ _ (sym (for-key e (m + j) he (omega arith)) ∙ h) in eq-eqb _ _ (ap (topFor (blockKey s m) n) q))
 
-        pub unmarked-stray : keyUnmet keys met n j ≡ isStray s (m + j)
-        unfolding keyUnmet isStray
+        pub unmarked-stray : topUnmet tops met j ≡ isStray s (m + j)
+        unfolding topUnmet isStray
         unmarked-stray =
-            ap (λ x. eqb x 0) (w .at top (last-le (sameKey keys key) n) ∙ ap one (some-ext _ _ (edges s) edge-met))
+            ap (λ x. eqb (getD met x 0) 0) (t .at j (omega arith) hj)
+            ∙ ap (λ x. eqb x 0) (w .at top (top-le (blockKey s m) n key) ∙ ap one (some-ext _ _ (edges s) edge-met))
             ∙ flip (some (λ e. isFor s e (m + j)) (edges s))
           where
             flip : (b : Bool) → eqb (one b) 0 ≡ not b
@@ -147,20 +138,20 @@ module _ (s : List ℕ) where
             flip false = refl
 
 -- the loop of `mark` has come to edge k
-pub record Marking (s keys : List ℕ) (n : ℕ) (met₀ met : List ℕ) (k : ℕ) : Type 0 where
+pub record Marking (s : List ℕ) (m n : ℕ) (met₀ met : List ℕ) (k : ℕ) : Type 0 where
   pub long : length met ≡ length met₀
-  pub marks : (i : ℕ) → i ≤ n → getD met i 0 ≡ one (some (λ e. eqb (topOf s keys n e) i) k)
+  pub marks : (i : ℕ) → i ≤ n → getD met i 0 ≡ one (some (λ e. eqb (topOf s m n e) i) k)
 
-module _ (s keys : List ℕ) (n : ℕ) (met₀ : List ℕ) where
-  pub marking-none : ((i : ℕ) → getD met₀ i 0 ≡ 0) → Marking s keys n met₀ met₀ 0
-  marking-none blank = record { long = refl; marks = λ i h. blank i ∙ sym (ap one (some-zero (λ e. eqb (topOf s keys n e) i))) }
+module _ (s : List ℕ) (m n : ℕ) (met₀ : List ℕ) where
+  pub marking-none : ((i : ℕ) → getD met₀ i 0 ≡ 0) → Marking s m n met₀ met₀ 0
+  marking-none blank = record { long = refl; marks = λ i h. blank i ∙ sym (ap one (some-zero (λ e. eqb (topOf s m n e) i))) }
 
-  pub marking-more : (met : List ℕ) (k p : ℕ) → n < length met₀ → p ≡ topOf s keys n k → Marking s keys n met₀ met k → Marking s keys n met₀ (set met p 1) (k + 1)
+  pub marking-more : (met : List ℕ) (k p : ℕ) → n < length met₀ → p ≡ topOf s m n k → Marking s m n met₀ met k → Marking s m n met₀ (set met p 1) (k + 1)
   marking-more met k p room e w =
       record {
         long = length-set met p 1 ∙ w .long;
         marks = λ i h. elim (ℕ-discrete p i) [
-          | yes q ↦ rw (← q, getD-set-same met p 1 0 (omega (arith, w .long, e, last-le (sameKey keys (edgeKey s k)) n))) (sym (ap one (some-hit _ k (eq-eqb _ _ (sym e)))))
+          | yes q ↦ rw (← q, getD-set-same met p 1 0 (omega (arith, w .long, e, top-le (blockKey s m) n (edgeKey s k)))) (sym (ap one (some-hit _ k (eq-eqb _ _ (sym e)))))
           | no q ↦ getD-set-other met p i 1 0 (λ x. q (sym x)) ∙ w .marks i h ∙ sym (ap one (some-miss _ k (ne-eqb _ _ (λ x. q (e ∙ x)))))
         ];
       }

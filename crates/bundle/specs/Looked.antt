@@ -6,10 +6,11 @@ use mathlib.Core.List.{List}
 use lib.Dec.{eqb}
 use lib.ListN.{length, getD}
 use Rattle.counting.specs.Pick.{one}
-use Rattle.counting.specs.Search.{last, some}
-use Rattle.counting.specs.Chains.{Table, Chained, Headed, sameKey}
+use Rattle.counting.specs.Search.{some}
+use Rattle.counting.specs.Chains.{Table}
 use Rattle.bundle.specs.Record.{wordSize, headBytes, countPlace, word, body}
 use Rattle.bundle.specs.Bundle.{edgesFrom, edges, looksFrom, looks, edgeAt, lookAt, countIn, countAfter}
+use Rattle.bundle.specs.Trees.{trees, branches, topFor, Tree}
 
 -- the looks of a block, at most
 abbrev pub blockLooks : ℕ
@@ -29,6 +30,10 @@ edgeKey s n = keyAt s (edgeAt s n)
 abbrev pub lookKey : List ℕ → ℕ → ℕ
 lookKey s k = keyAt s (lookAt s k)
 
+-- the key at place i of a block that starts at look m
+abbrev pub blockKey : List ℕ → ℕ → ℕ → ℕ
+blockKey s m i = lookKey s (m + i)
+
 -- a record's ends are within the bytes
 abbrev pub EndsWithin : List ℕ → ℕ → Type 0
 EndsWithin s at = at + headBytes + countPlace ≤ length s
@@ -38,44 +43,59 @@ pub record AllEdges (s : List ℕ) (from count : ℕ) : Type 0 where
   pub begin : from ≡ edgesFrom s
   pub all : count ≡ edges s
 
--- n of the looks, from look m on; and a list with room for their keys
+-- look k; and n of the looks, from look m on
+pub record LookIn (s : List ℕ) (from k : ℕ) : Type 0 where
+  pub begin : from ≡ looksFrom s
+  pub within : k < looks s
+
 pub record LooksFrom (s : List ℕ) (from m n : ℕ) : Type 0 where
   pub begin : from ≡ looksFrom s
   pub within : m + n ≤ looks s
 
-pub record KeysLent (s : List ℕ) (from m n : ℕ) (keys : List ℕ) : Type 0 where
+-- what follows a key's way: of n looks from look m on those from place low on are planted
+pub record Searched (s : List ℕ) (from m n low : ℕ) (links : List ℕ) : Type 0 where
   pub part : LooksFrom s from m n
-  pub room : n ≤ length keys
+  pub tree : Tree (blockKey s m) n low links
 
--- the first n keys, chained
-pub record HashChains (keys head next : List ℕ) (n : ℕ) : Type 0 where
-  pub chained : Chained keys n next
-  pub headed : Headed keys n head
+-- what plants place i of them, after all the later ones
+pub record Planting (s : List ℕ) (from m n i : ℕ) (links : List ℕ) : Type 0 where
+  pub part : LooksFrom s from m n
+  pub few : n ≤ blockLooks
+  pub one : i < n
+  pub tree : Tree (blockKey s m) n (i + 1) links
 
--- one more than the last of the n keys that is edge e's, or 0
-abbrev pub topOf : List ℕ → List ℕ → ℕ → ℕ → ℕ
-topOf s keys n e = last (sameKey keys (edgeKey s e)) n
+-- what plants them all: empty links, and room
+pub record Growing (s : List ℕ) (from m n : ℕ) (links tops : List ℕ) : Type 0 where
+  pub part : LooksFrom s from m n
+  pub few : n ≤ blockLooks
+  pub room : trees + branches * n ≤ length links
+  pub blank : (y : ℕ) → getD links y 0 ≡ 0
+  pub topsRoom : n ≤ length tops
 
--- what marks the keys that edges have: chained keys, and a list of as many zeros and one more
-pub record MarksLent (s : List ℕ) (from count : ℕ) (keys head next : List ℕ) (n : ℕ) (met : List ℕ) : Type 0 where
+-- one more than the last of the n looks from look m on that has edge e's key, or 0
+abbrev pub topOf : List ℕ → ℕ → ℕ → ℕ → ℕ
+topOf s m n e = topFor (blockKey s m) n (edgeKey s e)
+
+-- what marks the keys that edges have: planted looks, and a list of as many zeros and one more
+pub record MarksLent (s : List ℕ) (from count looksAt m n : ℕ) (links met : List ℕ) : Type 0 where
   pub listed : AllEdges s from count
-  pub linked : HashChains keys head next n
+  pub planted : Searched s looksAt m n 0 links
   pub room : n < length met
   pub blank : (i : ℕ) → getD met i 0 ≡ 0
 
 -- entry i is 1 where an edge's key stands last at i - 1, else 0
-pub record KeysMarked (s keys : List ℕ) (n : ℕ) (met : List ℕ) : Type 0 where
+pub record KeysMarked (s : List ℕ) (m n : ℕ) (met : List ℕ) : Type 0 where
   pub room : n < length met
-  pub at : (i : ℕ) → i ≤ n → getD met i 0 ≡ one (some (λ e. eqb (topOf s keys n e) i) (edges s))
+  pub at : (i : ℕ) → i ≤ n → getD met i 0 ≡ one (some (λ e. eqb (topOf s m n e) i) (edges s))
 
 -- what looks for a key without mark
-pub record MarksRead (keys head next : List ℕ) (n : ℕ) (met : List ℕ) : Type 0 where
-  pub linked : HashChains keys head next n
-  pub room : n < length met
+pub record MarksRead (tops : List ℕ) (n : ℕ) (met : List ℕ) : Type 0 where
+  pub all : n ≤ length tops
+  pub room : (i : ℕ) → i < n → getD tops i 0 < length met
 
--- place j of the keys has no mark at the last with its key
-unfoldable pub keyUnmet : (keys met : List ℕ) → ℕ → ℕ → Bool
-keyUnmet keys met n j = eqb (getD met (last (sameKey keys (getD keys j 0)) n) 0) 0
+-- the last place with the key of place j has no mark
+unfoldable pub topUnmet : (tops met : List ℕ) → ℕ → Bool
+topUnmet tops met j = eqb (getD met (getD tops j 0) 0) 0
 
 -- the edges, and a block of looks from look m on
 pub record BlockLent (s : List ℕ) (from count looksAt m n : ℕ) : Type 0 where
@@ -103,10 +123,8 @@ unfoldable pub countOr : List ℕ → ℕ → ℕ → ℕ → ℕ
 countOr s m zero given = given
 countOr s m (suc j) given = countIn (body s (lookAt s (m + j)))
 
--- what puts the counts of a block of looks into the list: its keys are chained
-pub record CountsLent (s : List ℕ) (from count looksAt m n : ℕ) (keys head next counts : List ℕ) : Type 0 where
+-- what puts the counts of a block of looks, which are planted, into the list
+pub record CountsLent (s : List ℕ) (from count looksAt m n : ℕ) (links counts : List ℕ) : Type 0 where
   pub listed : AllEdges s from count
-  pub part : LooksFrom s looksAt m n
-  pub keyed : Table (λ i. lookKey s (m + i)) n keys
-  pub linked : HashChains keys head next n
+  pub planted : Searched s looksAt m n 0 links
   pub counted : Counted s m counts

@@ -1,25 +1,31 @@
-// Later looks at edges: the lowest that is for no edge, and the counts that survive. Looks are taken in blocks; the pairs of a block are chained by
-// their remainder, so that an edge finds the last look of a block that is for it in a few steps.
+// Later looks at edges: the lowest that is for no edge, and the counts that survive. Looks are taken in blocks. Those of a block stand in trees, by
+// their pairs' keys: the remainder of a key chooses the tree, and at each look on the way down two more bits of the key choose one of four branches.
+// A key has 32 bits, so that an edge finds the last look of a block that is for it in 17 steps at most, whatever the pairs are.
 use crate::records::COUNT_PLACE;
 use crate::records::HEAD_BYTES;
 use crate::records::LOOK_BYTES;
 use crate::records::WORD_BYTES;
 use crate::records::word_at;
 ghost use mathlib.Core.Path.{_≡_};
-ghost use Prim.Native.Nat.{_+_, _-_, _<_, min};
+ghost use Prim.Native.Nat.{_+_, min};
 ghost use mathlib.Core.Bool.{true};
-ghost use Rattle.counting.specs.Search.{first, last};
+ghost use Rattle.counting.specs.Search.{first};
 ghost use Rattle.counting.specs.Stored.{filled};
-ghost use Rattle.counting.specs.Chains.{Chainable, Walkable, sameKey};
 ghost use Rattle.bundle.specs.Record.{nextRecord, isRecord};
 ghost use Rattle.bundle.specs.Bundle.{edges, looks, isStray, firstStray, countAfter};
-ghost use Rattle.bundle.specs.Looked.{blockLooks, keyAt, lookKey, EndsWithin, KeysLent, HashChains, MarksLent, KeysMarked, MarksRead, keyUnmet, BlockLent, LooksLent, Counted, PlaceIn, countOr, CountsLent};
+ghost use Rattle.bundle.specs.Trees.{Tree, Tops, topFor, Sought};
+ghost use Rattle.bundle.specs.Looked.{blockLooks, keyAt, lookKey, blockKey, EndsWithin, LookIn, Searched, Planting, Growing, MarksLent, KeysMarked, MarksRead, topUnmet, BlockLent, LooksLent, Counted, PlaceIn, countOr, CountsLent};
 
 // The looks of a block, at most.
 const BLOCK: usize = 12288;
 
-// A prime that shares no factor with 65,536, by which the keys are packed.
-const BUCKETS: usize = 7919;
+// The trees: a prime that shares no factor with 65,536, by which the keys are packed.
+const TREES: usize = 7919;
+
+// The branches of a look, and the links of a block: the trees' first looks, then the branches of each look. A link is one more than a place, or 0.
+const BRANCHES: usize = 4;
+
+const LINKS: usize = TREES + BRANCHES * BLOCK;
 
 fn wide(x: u16) -> usize
     ensures { λ r. ⌜ r ≡ x ⌝ }
@@ -45,92 +51,115 @@ fn next_at(bytes: &[u8], at: usize) -> usize
     at + WORD_BYTES + wide(word_at(bytes, at))
 }
 
-// One more than the last place before m with this key, or 0; start is the same for the key's remainder.
-fn walk(keys: &[usize], next: &[u16], n: usize, m: usize, start: usize, key: usize) -> usize
-    requires { ⌜ Walkable (now keys) (now next) n m start key ⌝ }
-    ensures { λ r. ⌜ r ≡ last (sameKey (now (keys .entry)) key) m ⌝ }
+// The key of look k; the looks start at base.
+fn look_key(bytes: &[u8], base: usize, k: usize) -> usize
+    requires { ⌜ LookIn (now bytes) base k ⌝ }
+    ensures { λ r. ⌜ r ≡ lookKey (now (bytes .entry)) k ⌝ }
 {
-    let mut j = start;
+    key_at(bytes, base + LOOK_BYTES * k)
+}
+
+// Where the way of a key ends among the n looks from look m on, of which those from place low on are planted: at the link to the last look with the
+// key, or at an empty one.
+fn seek(
+    bytes: &[u8],
+    base: usize,
+    m: usize,
+    n: usize,
+    low: usize,
+    links: &[u16],
+    key: usize,
+) -> usize
+    requires { ⌜ Searched (now bytes) base m n low (now links) ⌝ }
+    ensures { λ r. ⌜ Sought (blockKey (now (bytes .entry)) m) n low (now (links .entry)) key r ⌝ }
+{
+    let mut at = key % TREES;
+    let mut rest = key;
+    let mut j = wide(links[at]);
     while 0 < j {
-        let i = j - 1;
-        if keys[i] == key {
-            return j;
+        if look_key(bytes, base, m + (j - 1)) == key {
+            return at;
         }
-        j = wide(next[i]);
+        at = TREES + BRANCHES * (j - 1) + rest % BRANCHES;
+        rest = rest / BRANCHES;
+        j = wide(links[at]);
     }
-    0
+    at
 }
 
-// Chains the first n keys.
-fn chain(keys: &[usize], n: usize, head: &mut [u16], next: &mut [u16])
-    requires { ⌜ Chainable (now keys) n (now head) (now next) ⌝ }
-    ensures { λ _. ⌜ HashChains (now (keys .entry)) (now (head .exit)) (now (next .exit)) n ⌝ }
+// Plants look m + i, unless a later one of the block with its key stands; those after it are planted. Answers one more than the place of the last
+// look with its key.
+fn plant(bytes: &[u8], base: usize, m: usize, n: usize, i: usize, links: &mut [u16]) -> usize
+    requires { ⌜ Planting (now bytes) base m n i (now links) ⌝ }
+    ensures { λ r. ⌜ r ≡ topFor (blockKey (now (bytes .entry)) m) n (lookKey (now (bytes .entry)) (m + i)) ⌝ }
+    ensures { λ _. ⌜ Tree (blockKey (now (bytes .entry)) m) n i (now (links .exit)) ⌝ }
 {
-    let mut j = 0;
-    while j < n {
-        let h = keys[j] % BUCKETS;
-        next[j] = head[h];
-        j += 1;
-        head[h] = j as u16;
+    let key = look_key(bytes, base, m + i);
+    let at = seek(bytes, base, m, n, i + 1, links, key);
+    let p = wide(links[at]);
+    if 0 < p {
+        return p;
     }
+    links[at] = (i + 1) as u16;
+    i + 1
 }
 
-// One more than the last of the n places with this key, or 0.
-fn latest(keys: &[usize], head: &[u16], next: &[u16], n: usize, key: usize) -> usize
-    requires { ⌜ HashChains (now keys) (now head) (now next) n ⌝ }
-    ensures { λ r. ⌜ r ≡ last (sameKey (now (keys .entry)) key) n ⌝ }
+// Plants n looks from look m on, and fills in, for each, one more than the place of the last with its key.
+fn grow(bytes: &[u8], base: usize, m: usize, n: usize, links: &mut [u16], tops: &mut [u16])
+    requires { ⌜ Growing (now bytes) base m n (now links) (now tops) ⌝ }
+    ensures { λ _. ⌜ Tree (blockKey (now (bytes .entry)) m) n 0 (now (links .exit)) ⌝ }
+    ensures { λ _. ⌜ Tops (blockKey (now (bytes .entry)) m) n 0 (now (tops .exit)) ⌝ }
 {
-    let h = key % BUCKETS;
-    let start = wide(head[h]);
-    walk(keys, next, n, n, start, key)
-}
-
-// The keys of n looks from look m on; the looks start at base.
-fn look_keys(bytes: &[u8], base: usize, m: usize, n: usize, keys: &mut [usize])
-    requires { ⌜ KeysLent (now bytes) base m n (now keys) ⌝ }
-    ensures { λ _. ⌜ now (keys .exit) ≡ filled (λ i. lookKey (now (bytes .entry)) (m + i)) n (now (keys .entry)) ⌝ }
-{
-    let mut i: usize = 0;
-    while i < n {
-        keys[i] = key_at(bytes, base + LOOK_BYTES * (m + i));
-        i += 1;
+    let mut i = n;
+    while 0 < i {
+        i -= 1;
+        let p = plant(bytes, base, m, n, i, links);
+        tops[i] = p as u16;
     }
 }
 
-// Marks the last place of each key that an edge has; mark 0 stands for no place.
+// One more than the place of the last of n looks from look m on with this key, or 0.
+fn latest(bytes: &[u8], base: usize, m: usize, n: usize, links: &[u16], key: usize) -> usize
+    requires { ⌜ Searched (now bytes) base m n 0 (now links) ⌝ }
+    ensures { λ r. ⌜ r ≡ topFor (blockKey (now (bytes .entry)) m) n key ⌝ }
+{
+    let at = seek(bytes, base, m, n, 0, links, key);
+    wide(links[at])
+}
+
+// Marks the last look of each key that an edge has; mark 0 stands for no look.
 fn mark(
     bytes: &[u8],
     from: usize,
     count: usize,
-    keys: &[usize],
-    head: &[u16],
-    next: &[u16],
+    base: usize,
+    m: usize,
     n: usize,
+    links: &[u16],
     met: &mut [u8],
 )
-    requires { ⌜ MarksLent (now bytes) from count (now keys) (now head) (now next) n (now met) ⌝ }
-    ensures { λ _. ⌜ KeysMarked (now (bytes .entry)) (now (keys .entry)) n (now (met .exit)) ⌝ }
+    requires { ⌜ MarksLent (now bytes) from count base m n (now links) (now met) ⌝ }
+    ensures { λ _. ⌜ KeysMarked (now (bytes .entry)) m n (now (met .exit)) ⌝ }
 {
     let mut at = from;
     let mut k: usize = 0;
     while k < count {
         let key = key_at(bytes, at);
-        let p = latest(keys, head, next, n, key);
+        let p = latest(bytes, base, m, n, links, key);
         met[p] = 1;
         at = next_at(bytes, at);
         k += 1;
     }
 }
 
-// The lowest place whose key has no mark; n where there is none.
-fn unmet(keys: &[usize], head: &[u16], next: &[u16], n: usize, met: &[u8]) -> usize
-    requires { ⌜ MarksRead (now keys) (now head) (now next) n (now met) ⌝ }
-    ensures { λ r. ⌜ r ≡ first (keyUnmet (now (keys .entry)) (now (met .entry)) n) n ⌝ }
+// The lowest of n places whose last look with the same key has no mark; n where there is none.
+fn unmet(tops: &[u16], n: usize, met: &[u8]) -> usize
+    requires { ⌜ MarksRead (now tops) n (now met) ⌝ }
+    ensures { λ r. ⌜ r ≡ first (topUnmet (now (tops .entry)) (now (met .entry))) n ⌝ }
 {
     let mut j: usize = 0;
     while j < n {
-        let key = keys[j];
-        let p = latest(keys, head, next, n, key);
+        let p = wide(tops[j]);
         if met[p] == 0 {
             return j;
         }
@@ -145,14 +174,12 @@ fn stray_in(bytes: &[u8], from: usize, count: usize, base: usize, m: usize, n: u
     requires { ⌜ BlockLent (now bytes) from count base m n ⌝ }
     ensures { λ r. ⌜ r ≡ first (λ j. isStray (now (bytes .entry)) (m + j)) n ⌝ }
 {
-    let mut keys = [0usize; BLOCK];
-    let mut head = [0u16; BUCKETS];
-    let mut next = [0u16; BLOCK];
+    let mut links = [0u16; LINKS];
+    let mut tops = [0u16; BLOCK];
     let mut met = [0u8; BLOCK + 1];
-    look_keys(bytes, base, m, n, &mut keys);
-    chain(&keys, n, &mut head, &mut next);
-    mark(bytes, from, count, &keys, &head, &next, n, &mut met);
-    unmet(&keys, &head, &next, n, &met)
+    grow(bytes, base, m, n, &mut links, &mut tops);
+    mark(bytes, from, count, base, m, n, &links, &mut met);
+    unmet(&tops, n, &met)
 }
 
 // As many as are left, and at most a block.
@@ -196,7 +223,7 @@ fn count_from(bytes: &[u8], base: usize, m: usize, p: usize, given: u16) -> u16
     )
 }
 
-// Puts the counts of n looks from look m on into the list; their keys are chained.
+// Puts the counts of n looks from look m on, which are planted, into the list.
 fn put_counts(
     bytes: &[u8],
     from: usize,
@@ -204,19 +231,17 @@ fn put_counts(
     base: usize,
     m: usize,
     n: usize,
-    keys: &[usize],
-    head: &[u16],
-    next: &[u16],
+    links: &[u16],
     counts: &mut [u16],
 )
-    requires { ⌜ CountsLent (now bytes) from count base m n (now keys) (now head) (now next) (now counts) ⌝ }
+    requires { ⌜ CountsLent (now bytes) from count base m n (now links) (now counts) ⌝ }
     ensures { λ _. ⌜ now (counts .exit) ≡ filled (countAfter (now (bytes .entry)) (m + n)) (edges (now (bytes .entry))) (now (counts .entry)) ⌝ }
 {
     let mut at = from;
     let mut k: usize = 0;
     while k < count {
         let key = key_at(bytes, at);
-        let p = latest(keys, head, next, n, key);
+        let p = latest(bytes, base, m, n, links, key);
         let given = counts[k];
         counts[k] = count_from(bytes, base, m, p, given);
         at = next_at(bytes, at);
@@ -224,7 +249,7 @@ fn put_counts(
     }
 }
 
-// The same, with their keys. Keeps 139 KB on the stack.
+// The same, which plants them first. Keeps 139 KB on the stack.
 fn replace_in(
     bytes: &[u8],
     from: usize,
@@ -238,12 +263,10 @@ fn replace_in(
     requires { ⌜ Counted (now bytes) m (now counts) ⌝ }
     ensures { λ _. ⌜ now (counts .exit) ≡ filled (countAfter (now (bytes .entry)) (m + n)) (edges (now (bytes .entry))) (now (counts .entry)) ⌝ }
 {
-    let mut keys = [0usize; BLOCK];
-    let mut head = [0u16; BUCKETS];
-    let mut next = [0u16; BLOCK];
-    look_keys(bytes, base, m, n, &mut keys);
-    chain(&keys, n, &mut head, &mut next);
-    put_counts(bytes, from, count, base, m, n, &keys, &head, &next, counts);
+    let mut links = [0u16; LINKS];
+    let mut tops = [0u16; BLOCK];
+    grow(bytes, base, m, n, &mut links, &mut tops);
+    put_counts(bytes, from, count, base, m, n, &links, counts);
 }
 
 // Puts the surviving counts in place of the edges' own.

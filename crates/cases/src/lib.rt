@@ -5,6 +5,7 @@ ghost use Rattle.cell.specs.Level.{byEdge};
 ghost use Rattle.cases.specs.Cases.{entries};
 ghost use Rattle.cases.specs.Answer.{caseNumbers, caseAnswer, findEntry};
 use cell::DIGIT_LIMIT;
+use counting::wide16;
 
 mod numbers;
 
@@ -22,12 +23,6 @@ pub const ENTRIES: usize = 729;
 // An entry's number has the counts as its digits, to this base.
 const BASE: usize = DIGIT_LIMIT as usize;
 
-fn wide(x: u16) -> usize
-    ensures { λ r. ⌜ (r ≡ x) × (r ≤ 65535) ⌝ }
-{
-    x as usize
-}
-
 // The number of the entry of a cell with these counts, of the edges 01, 02, 03, 12, 13, 23; `ENTRIES` where it is outside.
 pub fn find_entry(counts: [u16; 6]) -> usize
     ensures { λ r. ⌜ (r ≡ findEntry (byEdge counts)) × (r ≤ entries) ⌝ }
@@ -38,7 +33,7 @@ pub fn find_entry(counts: [u16; 6]) -> usize
     let mut n: usize = 0;
     let mut k: usize = 0;
     while k < 6 {
-        n = BASE * n + wide(counts[k]);
+        n = BASE * n + wide16(counts[k]);
         k += 1;
     }
     n

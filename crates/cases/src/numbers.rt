@@ -8,7 +8,8 @@ ghost use Rattle.cases.specs.Table.{tableRows, table};
 ghost use Rattle.cases.specs.Cases.{entries};
 ghost use Rattle.cases.specs.Tally.{trianglesFor, mostFor};
 use super::ENTRIES;
-use super::wide;
+use counting::wide8;
+use counting::wide16;
 
 // So many entries to a row.
 const IN_ROW: usize = 9;
@@ -116,12 +117,6 @@ pub(crate) fn entry(n: usize) -> [u8; 2]
     ]
 }
 
-fn wide8(x: u8) -> usize
-    ensures { λ r. ⌜ (r ≡ x) × (r ≤ 255) ⌝ }
-{
-    x as usize
-}
-
 // How many triangles so many cells of each entry have: the number of cells times triangles, entry by entry.
 pub fn triangles_in(cells: &[u16; ENTRIES]) -> usize
     ensures { λ r. ⌜ (r ≡ total (trianglesFor (now (cells .entry))) entries 0) × (r ≤ mostFor * entries) ⌝ }
@@ -130,7 +125,7 @@ pub fn triangles_in(cells: &[u16; ENTRIES]) -> usize
     let mut t: usize = 0;
     let mut n: usize = 0;
     while n < ENTRIES {
-        t += wide(cells[n]) * wide8(rows[n / IN_ROW][2 * (n % IN_ROW) + 1]);
+        t += wide16(cells[n]) * wide8(rows[n / IN_ROW][2 * (n % IN_ROW) + 1]);
         n += 1;
     }
     t

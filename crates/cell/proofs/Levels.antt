@@ -1,11 +1,12 @@
 -- The cells in which only rule 1 is met: face by face, and by the sums of counts of opposite edges and at nodes.
-use Prim.Native.Nat.{ℕ, zero, suc, _+_, _%_, _<_, _≤_, min, max}
+use Prim.Native.Nat.{ℕ, _+_, _%_, _<_, _≤_, min, max}
 use mathlib.Core.Path.{_≡_, sym}
 use mathlib.Core.Bool.{true, false}
 use native.Mathlib.Omega.{arith}
 use lib.Dec.{leb}
 use borrow.Author.Tests.{leb-true, le-leb}
 use Rattle.counting.proofs.Bools.{not-clash, bool-same}
+use Rattle.counting.proofs.Below.{below-four}
 use Rattle.counting.proofs.Search.{every-is, is-every}
 use Rattle.slots.specs.Slots.{slotEdge}
 use Rattle.face.specs.Level.{isLevel, Level}
@@ -33,6 +34,11 @@ below-is x y z a b c d h = omega arith
 is-below : {x y z a b c d : ℕ} → Below x y z a b c d → max (max x y) z ≤ min (min a b) (min c d)
 is-below B = omega arith
 
+-- a face with the counts a, b, c, where x, y, z are those of the opposite edges: two opposite edges have no more than the three at a node of the face
+face : {a b c : ℕ} (x y z : ℕ) {p q r u v t : ℕ} → (a + b + c) % 2 ≡ 0 → p ≤ u → q ≤ v → r ≤ t
+    → (p ≡ a + x) × (q ≡ b + y) × (r ≡ c + z) × (u ≡ b + c + x) × (v ≡ a + c + y) × (t ≡ a + b + z) → Level a b c
+face x y z e h k l m = omega arith
+
 module _ (w : ℕ → ℕ) where
   abbrev On : ℕ → Type 0
   On s = Level (w (slotEdge s 0)) (w (slotEdge s 1)) (w (slotEdge s 2))
@@ -41,17 +47,6 @@ module _ (w : ℕ → ℕ) where
   unfolding isLevelCell
   slot-level K s l =
       level-is (w (slotEdge s 0)) (w (slotEdge s 1)) (w (slotEdge s 2)) (every-is (λ s. isLevel (w (slotEdge s 0)) (w (slotEdge s 1)) (w (slotEdge s 2))) 4 K s l)
-
-  level-slots : On 0 → On 1 → On 2 → On 3 → isLevelCell w ≡ true
-  unfolding isLevelCell
-  level-slots a b c d = is-every (λ s. isLevel (w (slotEdge s 0)) (w (slotEdge s 1)) (w (slotEdge s 2))) 4 each
-    where
-      each : (s : ℕ) → s < 4 → isLevel (w (slotEdge s 0)) (w (slotEdge s 1)) (w (slotEdge s 2)) ≡ true
-      each zero l = is-level a
-      each (suc zero) l = is-level b
-      each (suc (suc zero)) l = is-level c
-      each (suc (suc (suc zero))) l = is-level d
-      each (suc (suc (suc (suc s)))) l = absurd (omega arith)
 
   -- three sums are even
   abbrev Even : Type 0
@@ -71,22 +66,22 @@ module _ (w : ℕ → ℕ) where
   abbrev BySums : Type 0
   BySums = Below (w 0 + w 5) (w 1 + w 4) (w 2 + w 3) (w 0 + w 1 + w 2) (w 0 + w 3 + w 4) (w 1 + w 3 + w 5) (w 2 + w 4 + w 5)
 
-  -- each face from the three sums that it is about
-  face-0 : Even → w 2 + w 3 ≤ w 2 + w 4 + w 5 → w 1 + w 4 ≤ w 1 + w 3 + w 5 → w 0 + w 5 ≤ w 0 + w 3 + w 4 → Level (w 3) (w 4) (w 5)
-  face-0 v a b c = omega arith
-
-  face-1 : Even → w 1 + w 4 ≤ w 2 + w 4 + w 5 → w 2 + w 3 ≤ w 1 + w 3 + w 5 → w 0 + w 5 ≤ w 0 + w 1 + w 2 → Level (w 1) (w 2) (w 5)
-  face-1 v a b c = omega arith
-
-  face-2 : Even → w 0 + w 5 ≤ w 2 + w 4 + w 5 → w 2 + w 3 ≤ w 0 + w 3 + w 4 → w 1 + w 4 ≤ w 0 + w 1 + w 2 → Level (w 0) (w 2) (w 4)
-  face-2 v a b c = omega arith
-
-  face-3 : Even → w 0 + w 5 ≤ w 1 + w 3 + w 5 → w 1 + w 4 ≤ w 0 + w 3 + w 4 → w 2 + w 3 ≤ w 0 + w 1 + w 2 → Level (w 0) (w 1) (w 3)
-  face-3 v a b c = omega arith
+  even-face : Even → (s : ℕ) → s < 4 → (w (slotEdge s 0) + w (slotEdge s 1) + w (slotEdge s 2)) % 2 ≡ 0
+  unfolding slotEdge
+  even-face v = below-four (λ s. (w (slotEdge s 0) + w (slotEdge s 1) + w (slotEdge s 2)) % 2 ≡ 0) (omega arith) (omega arith) (omega arith) (omega arith)
 
   to-level : Even → BySums → isLevelCell w ≡ true
-  unfolding slotEdge
-  to-level v B = level-slots (face-0 v (B .zd) (B .yc) (B .xb)) (face-1 v (B .yd) (B .zc) (B .xa)) (face-2 v (B .xd) (B .zb) (B .ya)) (face-3 v (B .xc) (B .yb) (B .za))
+  unfolding isLevelCell slotEdge
+  to-level v B =
+      let even = even-face v in
+      is-every (λ s. isLevel (w (slotEdge s 0)) (w (slotEdge s 1)) (w (slotEdge s 2))) 4
+      (λ s l.
+      is-level (below-four On
+      (face (w 2) (w 1) (w 0) (even 0 (omega arith)) (B .zd) (B .yc) (B .xb) (omega arith))
+      (face (w 4) (w 3) (w 0) (even 1 (omega arith)) (B .yd) (B .zc) (B .xa) (omega arith))
+      (face (w 5) (w 3) (w 1) (even 2 (omega arith)) (B .xd) (B .zb) (B .ya) (omega arith))
+      (face (w 5) (w 4) (w 2) (even 3 (omega arith)) (B .xc) (B .yb) (B .za) (omega arith))
+      s l))
 
   from-level : isLevelCell w ≡ true → BySums
   unfolding slotEdge

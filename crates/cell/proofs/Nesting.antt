@@ -17,12 +17,11 @@ use Rattle.counting.specs.Pack.{pre}
 use Rattle.counting.specs.Search.{every}
 use Rattle.counting.proofs.Bools.{and-left, and-right, not-clash}
 use Rattle.counting.proofs.Lists.{values-at}
-use Rattle.counting.proofs.Search.{every-is}
-use Rattle.slots.specs.Slots.{lo, hi, slotEdge}
+use Rattle.slots.specs.Slots.{slotEdge}
 use Rattle.face.specs.Level.{Level}
 use Rattle.face.proofs.Level.{level-turn, level-swap}
 use Rattle.place.specs.declared.Place.{Place}
-use Rattle.place.specs.Place.{between, middle, placeAt}
+use Rattle.place.specs.Place.{partOf, between, middle, placeAt}
 use Rattle.cell.specs.declared.Cell.{Cell}
 use Rattle.cell.specs.declared.Nest.{Nest}
 use Rattle.cell.specs.Cell.{edge}
@@ -30,7 +29,7 @@ use Rattle.cell.specs.Of.{countOf, startOf, edgesOf}
 use Rattle.cell.specs.Half.{edgeOf}
 use Rattle.cell.specs.Level.{byEdge, isLevelCell}
 use Rattle.cell.specs.Loop.{loopSize, dart, inGrid}
-use Rattle.cell.specs.Nests.{greatestOf, exceeds, exceeding, pairAt, nestEdge, nestCount, nestCorner, halfSum, partOf, nestLow, nestRank, onAxis, nestMiddle}
+use Rattle.cell.specs.Nests.{greatestOf, exceeds, exceeding, pairAt, nestEdge, nestCount, nestCorner, halfSum, nestLow, nestRank, onAxis, nestMiddle}
 use Rattle.cell.specs.Middles.{cornerPlace}
 use Rattle.cell.specs.Centres.{highestOn, NestOn, IsNest, recordedNested, recordedPlace}
 use Rattle.cell.proofs.Levels.{slot-level}
@@ -158,15 +157,6 @@ module _ (n : ℕ → ℕ) (e : ℕ) where
 
   pub count-later : e ≢ 0 → {a b l : ℕ} → a ≡ pairAt n e → b ≡ pairAt n 0 → l ≡ a - b → l / 2 ≡ (pairAt n e - pairAt n (pick (eqb e 0) 1 0)) / 2
   count-later z p q r = rw (ne-eqb e 0 z, r, p, q)
-
--- the ends of the edges, as the code tells them
-pub lower-end : (k : ℕ) → k < 6 → pick (ltb k 3) 0 (pick (ltb k 5) 1 2) ≡ lo k
-unfolding lo every
-lower-end k l = eqb-true (pick (ltb k 3) 0 (pick (ltb k 5) 1 2)) (lo k) (every-is (λ k. eqb (pick (ltb k 3) 0 (pick (ltb k 5) 1 2)) (lo k)) 6 refl k l)
-
-pub upper-end : (k : ℕ) → k < 6 → pick (ltb k 3) (k + 1) (pick (eqb k 3) 2 3) ≡ hi k
-unfolding hi every
-upper-end k l = eqb-true (pick (ltb k 3) (k + 1) (pick (eqb k 3) 2 3)) (hi k) (every-is (λ k. eqb (pick (ltb k 3) (k + 1) (pick (eqb k 3) 2 3)) (hi k)) 6 refl k l)
 
 -- what the counts of six edges alone decide
 module _ (c : Cell) {six : List ℕ} (e : six ≡ values (countOf c) 6) where

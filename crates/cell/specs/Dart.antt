@@ -1,4 +1,4 @@
--- Only contracts of parts cite this file. Darts in parts: the crossing with index t on the edge of half-edge h, which is crossing x of the cell, left by h.
+-- Darts in parts: the crossing with index t on the edge of half-edge h, which is crossing x of the cell, left by h.
 use Prim.Native.Nat.{ℕ, _+_, _*_, _-_, _<_}
 use mathlib.Core.Path.{_≡_}
 use mathlib.Core.Bool.{Bool, true, false, not}

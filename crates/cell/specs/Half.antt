@@ -1,4 +1,4 @@
--- The half-edges of a cell: edge j, ab ac bc, of slot s is half-edge 3 * s + j. An edge has two, one in each of its slots.
+-- Only contracts of parts cite this file. The half-edges of a cell: edge j, ab ac bc, of slot s is half-edge 3 * s + j. An edge has two, one in each of its slots.
 use Prim.Native.Nat.{ℕ, _+_, _*_, _/_, _%_}
 use Rattle.slots.specs.Slots.{slotEdge, edgeRank, otherSlot}
 use Rattle.face.specs.Face.{other}

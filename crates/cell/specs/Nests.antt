@@ -4,11 +4,10 @@
 use Prim.Native.Nat.{ℕ, zero, suc, _+_, _-_, _/_, max}
 use mathlib.Core.Bool.{Bool, _&&_}
 use lib.Dec.{eqb, ltb}
-use lib.Ieee.{Float, binary64, div}
 use Rattle.counting.specs.Pick.{pick}
 use Rattle.slots.specs.Slots.{lo, hi}
 use Rattle.place.specs.declared.Place.{Place}
-use Rattle.place.specs.Place.{floatOf, between, added, divided}
+use Rattle.place.specs.Place.{floatOf, between, added, divided, partOf}
 use Rattle.cell.specs.declared.Cell.{Cell}
 use Rattle.cell.specs.Cell.{edge}
 use Rattle.cell.specs.Of.{countOf, startOf, edgesOf}
@@ -49,10 +48,6 @@ module _ (n : ℕ → ℕ) where
 -- for the places of a cell's nodes by position, half of the sum of the end places of edge e; its opposite edge is 5 - e
 abbrev pub halfSum : (corner : ℕ → Place) → ℕ → Place
 halfSum corner e = divided (added (corner (lo e)) (corner (hi e))) (floatOf 2)
-
--- (i + 1) / (m + 1)
-abbrev pub partOf : (i m : ℕ) → Float
-partOf i m = div binary64 (floatOf (i + 1)) (floatOf (m + 1))
 
 module _ (c : Cell) where
   -- the crossing number of the crossing m of E, of those that are left, from its lower node

@@ -12,8 +12,8 @@ ghost use Rattle.cell.specs.Answer.{typeNumbers, loopNumbers};
 use super::Cell;
 use super::Loop;
 use super::LoopType;
-use super::routes;
 use super::tables;
+use counting::wide8;
 
 fn same(a: usize, b: usize) -> usize
     ensures { λ r. ⌜ (r ≡ one (eqb a b)) × (r ≤ 1) ⌝ }
@@ -26,7 +26,7 @@ pub(crate) fn edge_at(halves: &[u8], k: usize) -> usize
     requires { ⌜ k < length (now halves) ⌝ }
     ensures { λ r. ⌜ r ≡ edgeOf (getD (now (halves .entry)) k 0) ⌝ }
 {
-    let h = routes::wide8(halves[k]);
+    let h = wide8(halves[k]);
     if h < 12 {
         return tables::edge_of(h);
     }

@@ -11,7 +11,7 @@ ghost use Rattle.cell.specs.Table.{tableCounts, tableStarts, ofFour, tab
 use super::Cell;
 use super::Counted;
 use super::routes::crossings_of;
-use super::routes::wide16;
+use counting::wide16;
 use slots::MOST_CELLS;
 use slots::MOST_COUNT;
 use slots::MOST_EDGES;

@@ -3,9 +3,9 @@ ghost use mathlib.Core.Path.{_≡_};
 ghost use Prim.Native.Nat.{_+_, _%_, _≤_, min, max};
 ghost use Rattle.cell.specs.Level.{byEdge, isLevelCell};
 ghost use Rattle.cell.specs.Common.{isCommon, isKnown};
-use super::numbers::higher;
-use super::numbers::lower;
 use super::numbers::sum_of;
+use counting::greatest32;
+use counting::least32;
 
 // One more than the greatest count of a common cell.
 pub const DIGIT_LIMIT: u16 = 3;
@@ -27,16 +27,19 @@ fn odd(a: u16, b: u16, c: u16) -> u32
 fn highest_pair(e01: u16, e02: u16, e03: u16, e12: u16, e13: u16, e23: u16) -> u32
     ensures { λ r. ⌜ r ≡ max (max (e01 + e23) (e02 + e13)) (e03 + e12) ⌝ }
 {
-    higher(higher(sum_of(e01, e23), sum_of(e02, e13)), sum_of(e03, e12))
+    greatest32(
+        greatest32(sum_of(e01, e23), sum_of(e02, e13)),
+        sum_of(e03, e12),
+    )
 }
 
 // The lowest sum of the counts at a node.
 fn lowest_node(e01: u16, e02: u16, e03: u16, e12: u16, e13: u16, e23: u16) -> u32
     ensures { λ r. ⌜ r ≡ min (min (e01 + e02 + e03) (e01 + e12 + e13)) (min (e02 + e12 + e23) (e03 + e13 + e23)) ⌝ }
 {
-    lower(
-        lower(sum_of_three(e01, e02, e03), sum_of_three(e01, e12, e13)),
-        lower(sum_of_three(e02, e12, e23), sum_of_three(e03, e13, e23)),
+    least32(
+        least32(sum_of_three(e01, e02, e03), sum_of_three(e01, e12, e13)),
+        least32(sum_of_three(e02, e12, e23), sum_of_three(e03, e13, e23)),
     )
 }
 

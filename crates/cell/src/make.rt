@@ -10,19 +10,9 @@ use super::Cell;
 use super::Corner;
 use super::Side;
 use super::Triangle;
-use super::numbers::lower;
-
-fn wide(x: u8) -> usize
-    ensures { λ r. ⌜ r ≡ x ⌝ }
-{
-    x as usize
-}
-
-fn word(x: u16) -> u32
-    ensures { λ r. ⌜ r ≡ x ⌝ }
-{
-    x as u32
-}
+use counting::least32;
+use counting::wide8;
+use counting::word16;
 
 // The place after k in a round of n.
 fn after_of(n: usize, k: usize) -> usize
@@ -38,9 +28,9 @@ fn segment_at(names: [u16; 4], halves: &[u8], points: &[u32], n: usize, k: usize
     requires { ⌜ k < n ⌝ }
     ensures { λ r. ⌜ r ≡ segmentAt names (now (halves .entry)) (now (points .entry)) n k ⌝ }
 {
-    let s = wide(halves[k]) / 3;
+    let s = wide8(halves[k]) / 3;
     let j = after_of(n, k);
-    Side::Segment(word(names[s]), lower(points[k], points[j]))
+    Side::Segment(word16(names[s]), least32(points[k], points[j]))
 }
 
 // The triangle of a loop of three.

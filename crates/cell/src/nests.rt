@@ -5,12 +5,11 @@ ghost use lib.Dec.{eqb};
 ghost use lib.ListN.{getD};
 ghost use Rattle.counting.specs.Pick.{pick};
 ghost use Rattle.counting.specs.Range.{values};
-ghost use Rattle.slots.specs.Slots.{lo, hi};
 ghost use Rattle.cell.specs.Limits.{mostSum};
 ghost use Rattle.cell.specs.Cell.{crossings};
 ghost use Rattle.cell.specs.Of.{countOf, edgesOf};
 ghost use Rattle.cell.specs.Level.{byEdge};
-ghost use Rattle.cell.specs.Nests.{exceeds, exceeding, pairAt, halfSum, partOf};
+ghost use Rattle.cell.specs.Nests.{exceeds, exceeding, pairAt, halfSum};
 ghost use Rattle.cell.specs.Middles.{cornerPlace};
 ghost use Rattle.cell.specs.Centres.{highestOn, NestOn, IsNest, recordedNested};
 use super::Cell;
@@ -20,16 +19,12 @@ use super::level::is_level;
 use super::numbers::sum_of;
 use super::routes::count_of;
 use super::routes::start_of;
-use super::routes::wide16;
-use super::routes::wide32;
+use counting::minus;
+use counting::wide16;
+use counting::wide32;
 use place::Place;
-
-// What is left of a, b taken off.
-fn minus(a: usize, b: usize) -> usize
-    ensures { λ r. ⌜ (r ≡ a - b) × (r ≤ a) ⌝ }
-{
-    if a < b { 0 } else { a - b }
-}
+use slots::high_end;
+use slots::low_end;
 
 // The counts of the cell's edges, none above the limit.
 pub fn taken_of(c: Cell) -> [u16; 6]
@@ -154,27 +149,6 @@ pub(crate) fn nest_in(c: Cell, n: usize) -> Nest
     nest_of(c)
 }
 
-// The positions that edge k joins.
-fn lower_end(k: usize) -> usize
-    requires { ⌜ k < 6 ⌝ }
-    ensures { λ r. ⌜ (r ≡ lo k) × (r < 4) ⌝ }
-{
-    if k < 3 {
-        return 0;
-    }
-    if k < 5 { 1 } else { 2 }
-}
-
-fn upper_end(k: usize) -> usize
-    requires { ⌜ k < 6 ⌝ }
-    ensures { λ r. ⌜ (r ≡ hi k) × (r < 4) ⌝ }
-{
-    if k < 3 {
-        return k + 1;
-    }
-    if k == 3 { 2 } else { 3 }
-}
-
 // The place of the cell's node at position k.
 fn corner_place(c: Cell, nodes: &[f64], k: usize) -> Place
     requires { ⌜ k < 4 ⌝ }
@@ -189,8 +163,8 @@ fn half_along(c: Cell, nodes: &[f64], k: usize) -> Place
     requires { ⌜ k < 6 ⌝ }
     ensures { λ r. ⌜ r ≡ halfSum (cornerPlace (now (nodes .entry)) c) k ⌝ }
 {
-    let p = corner_place(c, nodes, lower_end(k));
-    let q = corner_place(c, nodes, upper_end(k));
+    let p = corner_place(c, nodes, low_end(k));
+    let q = corner_place(c, nodes, high_end(k));
     place::over(place::plus(p, q), 2.0)
 }
 
@@ -227,14 +201,6 @@ fn highest_on(halves: &[u8], points: &[u32], e: usize) -> usize
     most
 }
 
-// (i + 1) / (m + 1)
-fn part_of(i: usize, m: usize) -> f64
-    requires { ⌜ (i < 4294967296) × (m < 4294967296) ⌝ }
-    ensures { λ r. ⌜ r ≡ partOf i m ⌝ }
-{
-    std::num::nearest_u64_to_f64((i + 1) as u64) / std::num::nearest_u64_to_f64((m + 1) as u64)
-}
-
 // The middle of a recorded loop of the nest q.
 pub(crate) fn nested_middle(c: Cell, q: Nest, nodes: &[f64], halves: &[u8], points: &[u32]) -> Place
     requires { ⌜ (q .edge < 3) × (q .count < 4294967296) ⌝ }
@@ -244,5 +210,5 @@ pub(crate) fn nested_middle(c: Cell, q: Nest, nodes: &[f64], halves: &[u8], poin
     let i = minus(highest_on(halves, points, e), q.low);
     let a = half_along(c, nodes, e);
     let b = half_along(c, nodes, 5 - e);
-    place::interpolate(a, b, part_of(i, q.count))
+    place::interpolate(a, b, place::part_of(i as u32, q.count as u32))
 }

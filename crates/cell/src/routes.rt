@@ -9,9 +9,11 @@ ghost use Rattle.cell.specs.Cell.{ahead, base, crossings};
 ghost use Rattle.cell.specs.Of.{countOf, startOf, edgesOf, limited, Near};
 ghost use Rattle.cell.specs.Half.{halfEdges};
 ghost use Rattle.cell.specs.Route.{columns, fronts, Firsts, IsRun, SlotRuns, Routed};
-ghost use Rattle.cell.specs.Limits.{mostInCell, shortLimit, longLimit, startLimit};
+ghost use Rattle.cell.specs.Limits.{mostInCell, startLimit};
 use super::Cell;
 use super::Run;
+use counting::wide16;
+use counting::wide32;
 use slots::MOST_COUNT;
 
 // The columns of the routes.
@@ -150,24 +152,6 @@ const LINKS: [usize; ROUTES] = [
     0,
     2,
 ];
-
-pub(crate) fn wide8(x: u8) -> usize
-    ensures { λ r. ⌜ (r ≡ x) × (r < 256) ⌝ }
-{
-    x as usize
-}
-
-pub(crate) fn wide16(x: u16) -> usize
-    ensures { λ r. ⌜ (r ≡ x) × (r < shortLimit) ⌝ }
-{
-    x as usize
-}
-
-pub(crate) fn wide32(x: u32) -> usize
-    ensures { λ r. ⌜ (r ≡ x) × (r < longLimit) ⌝ }
-{
-    x as usize
-}
 
 // The count of edge e, as the limit where it is above.
 pub(crate) fn count_of(c: Cell, e: usize) -> u16

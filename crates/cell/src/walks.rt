@@ -18,6 +18,7 @@ use super::routes;
 use super::routes::ROUTES;
 use super::steps;
 use super::tables;
+use counting::wide16;
 
 // The mark of a crossing that no walk has come to.
 const UNMARKED: u16 = 65535;
@@ -100,7 +101,7 @@ fn met(marks: &[u16], p: usize, x: usize) -> bool
     if x < p {
         return true;
     }
-    routes::wide16(marks[x]) < p
+    wide16(marks[x]) < p
 }
 
 // Records the loop whose least crossing is p, and answers its length and whether it is normal; where there is no such loop, length 0. What the

@@ -1,4 +1,4 @@
--- Only contracts and proofs of parts cite this file. A list's front as a function's values; and keys in a list, chained by their remainder, each with
+-- A list's front as a function's values; and keys in a list, chained by their remainder, each with
 -- the one before it that has the same.
 use Prim.Native.Nat.{ℕ, _%_, _≤_, _<_}
 use mathlib.Core.Path.{_≡_}

@@ -23,9 +23,6 @@ module _ (ab ac bc : ℕ) where
   abbrev lo : ℕ → ℕ
   lo e = cornerCountAt ab ac bc (lower e) e
 
-  abbrev hi : ℕ → ℕ
-  hi e = cornerCountAt ab ac bc (upper e) e
-
   without : (e t : ℕ) → faceJoin ab ac bc e t ≡ bare (faceAnswer ab ac bc e t)
   unfolding faceJoin
   without e t = refl

@@ -1,4 +1,4 @@
--- Only contracts of parts cite this file. Where a crossing stands on its edge, by where the corners at the edge's two ends stop: what the face call and the
+-- Where a crossing stands on its edge, by where the corners at the edge's two ends stop: what the face call and the
 -- walks of a cell decide by.
 use Prim.Native.Nat.{ℕ, _+_, _-_, _%_}
 use lib.Dec.{eqb, ltb, leb}

@@ -2,11 +2,13 @@
 ghost use mathlib.Core.Path.{_≡_};
 ghost use Prim.Native.Nat.{_+_, _≤_, _<_};
 ghost use lib.ListN.{getD};
-ghost use Rattle.face.specs.Face.{lower, upper, other, corners, countOn, kth, partner, faceAnswer};
+ghost use Rattle.face.specs.Face.{other, corners, countOn, kth, partner, faceAnswer};
 ghost use Rattle.face.specs.Join.{joinNumbers, whyNumber};
 ghost use Rattle.face.specs.Stand.{standNumber, standOn, whyOn};
 ghost use Rattle.face.specs.Corners.{cornerList};
 ghost use Rattle.face.specs.Ends.{End, AtCorner, OnEdge};
+use slots::lower_end;
+use slots::upper_end;
 
 // How a crossing is joined: round a corner, by its node (0 a, 1 b, 2 c), or along its edge.
 pub enum How {
@@ -49,18 +51,6 @@ pub struct CornerCounts {
     pub a: u16,
     pub b: u16,
     pub c: u16,
-}
-
-fn lower_end(edge: u32) -> u32
-    ensures { λ r. ⌜ r ≡ lower edge ⌝ }
-{
-    if edge == 2 { 1 } else { 0 }
-}
-
-fn upper_end(edge: u32) -> u32
-    ensures { λ r. ⌜ r ≡ upper edge ⌝ }
-{
-    if edge == 0 { 1 } else { 2 }
 }
 
 fn other_edge(node: u32, edge: u32) -> u32

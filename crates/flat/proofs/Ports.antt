@@ -39,9 +39,6 @@ module _ (G : FlatGrid) where
   abbrev N : ℕ
   N = crossings (G .counts)
 
-  abbrev F : ℕ
-  F = trianglesIn (G .triangles)
-
   pub edge-there : (x : ℕ) → x < N → crossingEdge G x < length (G .counts)
   unfolding crossingEdge start
   edge-there x h = row-lt (countOf (G .counts)) (length (G .counts)) x h

@@ -12,7 +12,7 @@ use Rattle.counting.specs.Pick.{one}
 use Rattle.counting.specs.Range.{over, values}
 use Rattle.counting.specs.Stored.{filled}
 use Rattle.counting.proofs.Chains.{filled-table, zeros}
-use Rattle.counting.proofs.Pack.{col-pack, pack-lt, pre-le, pre-next, row-pack}
+use Rattle.counting.proofs.Pack.{col-pack, pre-le, pre-next, row-pack}
 use Rattle.counting.proofs.Stored.{filled-block, filled-none, sets-more}
 use Rattle.grid.specs.Grid.{countOf, crossing, crossings, start}
 use Rattle.grid.specs.Work.{Table}
@@ -25,10 +25,6 @@ module _ (counts sides : List ℕ) (n : ℕ) where
   -- THE DARTS OF AN EDGE
 
   module _ (e t : ℕ) (le : e < length counts) (lt : t < countOf counts e) where
-    pub number-lt : start counts e + t < crossings counts
-    unfolding start
-    number-lt = pack-lt (countOf counts) (length counts) e t le lt
-
     dart-first : dartStep counts sides n (2 * start counts e + 2 * t) ≡ portStep counts sides n (portAt sides n (2 * e)) t
     unfolding dartStep start
     dart-first =

@@ -4,15 +4,16 @@ ghost use Prim.Native.Nat.{_+_, _*_, _<_, _≤_};
 ghost use lib.ListN.{length, getD};
 ghost use Rattle.face.specs.Corners.{cornerList};
 ghost use Rattle.face.specs.Ends.{End};
-ghost use Rattle.face.specs.Face.{lower, upper};
 ghost use Rattle.grid.specs.Grid.{crossings};
 ghost use Rattle.flat.specs.Work.{countAtPlace, landAt, Tabled, laneStep, LaneFits, guideStep, GuideFits, cornersAt, LaneOf, Guides, PortGuides};
 use crate::join::flat_corners;
-use crate::steps::size;
-use crate::triangles::wide;
+use counting::wide16;
+use counting::wide32;
 use face::CornerCounts;
 use face::Stand;
 use face::stand_of;
+use slots::lower_end;
+use slots::upper_end;
 
 // The crossings of an edge that go on round the corner at one of its ends: their number, whether the crossings that they come to are counted down from
 // the last of the other edge there or up from its first, and the dart of the one after that last, or of that first.
@@ -90,36 +91,24 @@ fn land(
     ensures { λ r. ⌜ r ≤ 2 * crossings (now (counts .entry)) + 1 ⌝ }
 {
     let e = sides[j];
-    let y = size(starts[e]) + t;
-    if wide(ports[2 * e]) == j + 1 {
+    let y = wide32(starts[e]) + t;
+    if wide16(ports[2 * e]) == j + 1 {
         return 2 * y + 1;
     }
     2 * y
 }
 
-fn lower_of(e: usize) -> usize
-    ensures { λ r. ⌜ r ≡ lower e ⌝ }
-{
-    if e == 2 { 1 } else { 0 }
-}
-
-fn upper_of(e: usize) -> usize
-    ensures { λ r. ⌜ r ≡ upper e ⌝ }
-{
-    if e == 0 { 1 } else { 2 }
-}
-
-fn corner_of(c: CornerCounts, w: usize) -> usize
+fn corner_of(c: CornerCounts, w: u32) -> usize
     requires { ⌜ w < 3 ⌝ }
     ensures { λ r. ⌜ r ≡ getD (cornerList c) w 0 ⌝ }
 {
     if w == 0 {
-        return wide(c.a);
+        return wide16(c.a);
     }
     if w == 1 {
-        return wide(c.b);
+        return wide16(c.b);
     }
-    wide(c.c)
+    wide16(c.c)
 }
 
 // The lane of edge e at its end w, in the triangle whose first place is b and whose corner counts are c.
@@ -131,8 +120,8 @@ fn lane_at(
     starts: &[u32],
     b: usize,
     c: CornerCounts,
-    w: usize,
-    e: usize,
+    w: u32,
+    e: u32,
 ) -> Lane
     requires { ⌜ Tabled (now counts) (now sides) n (now ports) (now starts) ⌝ }
     requires { ⌜ b + 2 < n ⌝ }
@@ -140,16 +129,16 @@ fn lane_at(
     requires { ⌜ End w e ⌝ }
     ensures { λ l. ⌜ LaneOf (now (counts .entry)) (now (sides .entry)) n b w e l ⌝ }
 {
-    let j = b + (w + 1 - e);
+    let j = b + wide32(w + 1 - e);
     let m = corner_of(c, w);
-    if w == lower_of(w + 1 - e) {
+    if w == lower_end(w + 1 - e) {
         return Lane {
             size: m,
             down: false,
             from: land(counts, sides, n, ports, starts, j, 0),
         };
     }
-    let last = wide(count_at(counts, sides, j));
+    let last = wide16(count_at(counts, sides, j));
     Lane {
         size: m,
         down: true,
@@ -171,14 +160,14 @@ fn guide_at(
     ensures { λ g. ⌜ Guides (now (counts .entry)) (now (sides .entry)) n j g ⌝ }
 {
     let b = 3 * (j / 3);
-    let e = j % 3;
+    let e = (j % 3) as u32;
     let ab = count_at(counts, sides, b);
     let ac = count_at(counts, sides, b + 1);
     let bc = count_at(counts, sides, b + 2);
     let c = flat_corners(ab, ac, bc);
-    let low = lane_at(counts, sides, n, ports, starts, b, c, lower_of(e), e);
-    let high = lane_at(counts, sides, n, ports, starts, b, c, upper_of(e), e);
-    let count = wide(count_at(counts, sides, j));
+    let low = lane_at(counts, sides, n, ports, starts, b, c, lower_end(e), e);
+    let high = lane_at(counts, sides, n, ports, starts, b, c, upper_end(e), e);
+    let count = wide16(count_at(counts, sides, j));
     let own = land(counts, sides, n, ports, starts, j, 0);
     Guide {
         low,

@@ -12,13 +12,8 @@ use crate::MOST_PORTS;
 use crate::MOST_SIDES;
 use crate::guides::guide_step;
 use crate::guides::port_guide;
-use crate::triangles::wide;
-
-pub(crate) fn size(x: u32) -> usize
-    ensures { λ r. ⌜ r ≡ x ⌝ }
-{
-    x as usize
-}
+use counting::wide16;
+use counting::wide32;
 
 // The ports of the edges: the first of edge e at 2 e, the second at 2 e + 1.
 fn put_ports(sides: &[usize], n: usize, ports: &mut [u16])
@@ -47,7 +42,7 @@ fn put_starts(counts: &[u16], starts: &mut [u32])
     let mut e = 0;
     while e < counts.len() {
         starts[e] = s as u32;
-        s += wide(counts[e]);
+        s += wide16(counts[e]);
         e += 1;
     }
 }
@@ -69,10 +64,10 @@ fn put_edge(
     requires { ⌜ darts ≤ length (now next) ⌝ }
     ensures { λ _. ⌜ now (next .exit) ≡ sets (now (next .entry)) (2 * start (now (counts .entry)) e) (values (λ i. dartStep (now (counts .entry)) (now (sides .entry)) n (2 * start (now (counts .entry)) e + i)) (2 * countOf (now (counts .entry)) e)) ⌝ }
 {
-    let a = 2 * size(starts[e]);
-    let p = port_guide(counts, sides, n, ports, starts, wide(ports[2 * e]));
-    let q = port_guide(counts, sides, n, ports, starts, wide(ports[2 * e + 1]));
-    let c = wide(counts[e]);
+    let a = 2 * wide32(starts[e]);
+    let p = port_guide(counts, sides, n, ports, starts, wide16(ports[2 * e]));
+    let q = port_guide(counts, sides, n, ports, starts, wide16(ports[2 * e + 1]));
+    let c = wide16(counts[e]);
     let mut t = 0;
     while t < c {
         next[a + 2 * t] = guide_step(p, darts, t) as u32;

@@ -13,13 +13,8 @@ ghost use Rattle.flat.specs.Rows.{badLength, badTriangle, repeats, crowd
 ghost use Rattle.flat.specs.Work.{triangleKey, sideKey, RisingTriangles, twice};
 use crate::MOST_FLAT_TRIANGLES;
 use crate::MOST_SIDES;
+use counting::wide16;
 use grid::HIGHEST_NODE;
-
-pub(crate) fn wide(x: u16) -> usize
-    ensures { λ r. ⌜ r ≡ x ⌝ }
-{
-    x as usize
-}
 
 pub(crate) fn row_1(triangles: &[u16]) -> bool
     ensures { λ r. ⌜ r ≡ badLength (now (triangles .entry)) ⌝ }
@@ -41,7 +36,7 @@ pub(crate) fn node_at(triangles: &[u16], f: usize, i: usize) -> usize
     ensures { λ r. ⌜ r ≡ node (now (triangles .entry)) f i ⌝ }
     ensures { λ r. ⌜ r < 65536 ⌝ }
 {
-    wide(triangles[3 * f + i])
+    wide16(triangles[3 * f + i])
 }
 
 fn bad_triangle(triangles: &[u16], f: usize) -> bool
@@ -158,7 +153,7 @@ fn first_third(prev: &[u16], n: usize) -> usize
 {
     let mut j = 0;
     while j < n {
-        let p = wide(prev[j]);
+        let p = wide16(prev[j]);
         if p == 0 {
             j += 1;
             continue;

@@ -3,7 +3,7 @@ ghost use mathlib.Core.Path.{_≡_};
 ghost use Prim.Native.Nat.{_+_, _*_, _<_};
 ghost use Rattle.walk.specs.Darts.{rev};
 ghost use Rattle.flat.specs.Work.{stepIn, StepTable, Ran, Fresh, Finds, sizeBy, startBy};
-use crate::steps::size;
+use counting::wide32;
 
 // A walk from a dart: its steps, and the dart after them.
 pub(crate) struct Walk {
@@ -27,7 +27,7 @@ fn run(next: &[u32], n: usize, d: usize) -> Walk
     let mut k = 0;
     let mut e = d;
     loop {
-        let f = size(next[e]);
+        let f = wide32(next[e]);
         if f == d {
             return Walk { steps: k, last: e };
         }
@@ -84,7 +84,7 @@ pub(crate) fn chain_at(next: &[u32], n: usize, p: usize) -> Chain
     let w = run(next, n, 2 * p);
     let k = w.steps;
     let a = w.last;
-    if size(next[a]) == 2 * p {
+    if wide32(next[a]) == 2 * p {
         return Chain {
             closed: 1,
             size: k + 1,

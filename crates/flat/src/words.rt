@@ -10,9 +10,10 @@ ghost use Rattle.walk.specs.Darts.{half};
 ghost use Rattle.flat.specs.Chain.{allChainWords};
 ghost use Rattle.flat.specs.Work.{stepIn, MarkedOn, StepTable, DartsFrom, wordsBy};
 use crate::CROSSING_MARKS;
-use crate::steps::size;
 use crate::walks::Chain;
 use crate::walks::chain_at;
+use counting::wide32;
+use counting::word16;
 
 // The crossings of m darts, from d on, written from the place at on, and marked.
 fn put_crossings(
@@ -36,7 +37,7 @@ fn put_crossings(
     while i < m {
         area[at + i] = (e / 2) as u16;
         marks[e / 2] = 1;
-        e = size(next[e]);
+        e = wide32(next[e]);
         i += 1;
     }
 }
@@ -90,12 +91,6 @@ pub(crate) fn put_words(next: &[u32], n: usize, area: &mut [u16]) -> usize
     at
 }
 
-fn word(x: u16) -> u32
-    ensures { λ r. ⌜ r ≡ x ⌝ }
-{
-    x as u32
-}
-
 // The first m words, copied to the front of the area.
 pub(crate) fn copy_words(words: &[u16], m: usize, area: &mut [u32])
     requires { ⌜ m ≤ length (now words) ⌝ }
@@ -104,7 +99,7 @@ pub(crate) fn copy_words(words: &[u16], m: usize, area: &mut [u32])
 {
     let mut i = 0;
     while i < m {
-        area[i] = word(words[i]);
+        area[i] = word16(words[i]);
         i += 1;
     }
 }

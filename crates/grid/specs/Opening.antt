@@ -13,7 +13,7 @@ module _ (G : Grid) where
   unfoldable pub opened : Grid
   opened = gridOf (G .cells) (G .edges) (G .counts) (filled (start (G .counts)) (length (G .counts)) (G .starts))
 
-  -- the opening call: rows 1 to 10; else the number of crossings
+  -- the opening call: rows 1 to 10 and 18; else the number of crossings
   unfoldable pub openAnswer : List ℕ
   openAnswer = gridAnswer opened
 

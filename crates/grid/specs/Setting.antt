@@ -20,7 +20,7 @@ changeAnswer counts edge count =
     (result (crossings (set counts edge count) ∷ []))))
 
 module _ (G : Grid) (edge count : ℕ) where
-  -- the setting call: rows 1 to 10 of the grid as it is lent; then those above
+  -- the setting call: rows 1 to 10 and 18 of the grid as it is lent; then those above
   unfoldable pub setAnswer : List ℕ
   setAnswer = pick (accepts G) (changeAnswer (G .counts) edge count) (gridAnswer G)
 

@@ -4,7 +4,7 @@ ghost use mathlib.Core.Logic.{_≢_};
 ghost use Prim.Native.Nat.{_-_, _*_, _/_, _<_};
 ghost use lib.ListN.{length};
 ghost use Rattle.counting.specs.Search.{first, some};
-ghost use Rattle.slots.specs.Slots.{position, rankIn, otherSlot, secondSlot};
+ghost use Rattle.slots.specs.Slots.{rankIn, otherSlot, secondSlot};
 ghost use Rattle.grid.specs.Grid.{built};
 ghost use Rattle.grid.specs.Rows.{split};
 ghost use Rattle.grid.specs.Work.{OnSlot, Spreadable, Spreads, missing, Leaving, Reached, Splitting, Linkable};
@@ -13,6 +13,7 @@ use crate::edges::edge_key;
 use crate::keys::earlier;
 use crate::keys::latest;
 use crate::keys::wide;
+use slots::position;
 
 // The lower of the two slots that contain edge k.
 fn lower_slot(k: usize) -> usize
@@ -38,19 +39,6 @@ fn other_side(k: usize, s: usize) -> usize
         return 5 - k - s;
     }
     6 - k - s
-}
-
-// The position of slot s's node of this rank, of three.
-fn position(s: usize, rank: usize) -> usize
-    requires { ⌜ rank < 3 ⌝ }
-    ensures { λ r. ⌜ r ≡ position s rank ⌝ }
-    ensures { λ r. ⌜ r < 4 ⌝ }
-    ensures { λ r. ⌜ r ≢ s ⌝ }
-{
-    if rank < s {
-        return rank;
-    }
-    rank + 1
 }
 
 // The rank in slot s of the node at position i.

@@ -1,4 +1,4 @@
--- The answers of the two calls on runs (02, W13), and the lent area after them: rows 1 to 10 of the whole, 25, 26 where one run is asked for, 12.
+-- The answers of the two calls on runs (02, W13), and the lent area after them: rows 1 to 10 and 18 of the whole, 25, 26 where one run is asked for, 12.
 use Prim.Native.Nat.{ℕ}
 use mathlib.Core.Bool.{Bool, not, _&&_}
 use mathlib.Core.List.{List}
@@ -21,7 +21,7 @@ module _ (G : Grid) (cuts : List ℕ) where
   unfoldable pub cutsAccepted : Bool
   cutsAccepted = accepts G && not (some (badCut (cellCount (G .cells)) cuts) (length cuts))
 
-  -- rows 1 to 10 and 25, then what follows
+  -- rows 1 to 10, 18 and 25, then what follows
   unfoldable pub cutsAnswer : List ℕ → List ℕ
   cutsAnswer rest = pick (accepts G) (orRefuse (cutRow G cuts) rest) (gridAnswer G)
 

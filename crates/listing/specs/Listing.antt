@@ -43,7 +43,7 @@ module _ (G : Grid) where
       head (cellCount (G .cells)) (length (G .counts)) (crossings (G .counts)) (length (meshTriangles G))
       ++ over (line (meshWords G)) (length (meshTriangles G)) 0
 
-  -- the mesh call's refusal (rows 1 to 10, 12), or the listing of the mesh
+  -- the mesh call's refusal (rows 1 to 10 and 18, 12), or the listing of the mesh
   unfoldable pub gridListing : List ℕ
   gridListing = orRefused (meshAnswer G (wordCount * areaTriangles)) meshListing
 

@@ -1,4 +1,4 @@
--- The numbers tell the answer; the splits are few; the loops of a cell are ordered by p0.
+-- The numbers tell the answer; segments could alternate; the splits are few; the loops of a cell are ordered by p0.
 use Prim.Native.Nat.{ℕ, _*_}
 use mathlib.Core.Path.{_≡_, sym, ap, _∙_}
 use mathlib.Core.List.{List, [], _∷_}
@@ -7,6 +7,7 @@ use lib.ListN.{length, drop}
 use Rattle.answer.specs.Answer.{result, refusal, refused}
 use Rattle.answer.proofs.Answer.{mixed, no-nil, pick-some, refusals}
 use Rattle.counting.specs.Pick.{one}
+use Rattle.face.proofs.Rim.{alternating}
 use Rattle.cell.specs.declared.Cell.{Cell}
 use Rattle.cell.specs.declared.Loop.{Loop}
 use Rattle.cell.specs.declared.Loop.the-variants.{Found, Nothing}
@@ -31,7 +32,7 @@ use Rattle.mesh.specs.Room.{roomAnswer}
 use Rattle.mesh.specs.Asked.{cellLoop, askedLoop}
 use Rattle.mesh.specs.Answer.{meshAnswer, loopsAnswer}
 use Rattle.mesh.specs.Numbers.{meshNumbers, loopsNumbers}
-use Rattle.mesh.specs.Claims.{MeshTold, LoopsTold, FewSplits, LoopsOrdered, PartsOrdered}
+use Rattle.mesh.specs.Claims.{MeshTold, LoopsTold, CanAlternate, FewSplits, LoopsOrdered, PartsOrdered}
 use Rattle.mesh.proofs.Complex.{separate, fit}
 
 -- there is always an answer
@@ -84,6 +85,9 @@ mesh-told G room = mesh-tells (meshAnswer G room) (mesh-some G room)
 
 pub loops-told : LoopsTold
 loops-told G c k = loops-tell (loopsAnswer G c k) (loops-some G c k)
+
+pub canAlternate : CanAlternate
+canAlternate = alternating
 
 pub fewSplits : FewSplits
 unfolding meshSplits

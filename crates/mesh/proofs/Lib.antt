@@ -10,4 +10,5 @@ pub mod Owning
 pub mod Examples
 pub mod Premises
 pub mod Entries
+pub mod Types
 pub mod Claims

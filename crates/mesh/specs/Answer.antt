@@ -11,7 +11,7 @@ use Rattle.mesh.specs.Room.{roomAnswer}
 use Rattle.mesh.specs.Asked.{askedLoop}
 
 module _ (G : Grid) where
-  -- the mesh call (01): rows 1 to 10; then 12 with the number of triangles needed; else the number of triangles and the number of splits (02, W12)
+  -- the mesh call (01): rows 1 to 10 and 18; then 12 with the number of triangles needed; else the number of triangles and the number of splits (02, W12)
   unfoldable pub meshAnswer : ℕ → List ℕ
   unfolding roomAnswer
   meshAnswer room = pick (accepts G) (roomAnswer (meshTriangles G) (meshSplits G) room) (gridAnswer G)
@@ -20,6 +20,6 @@ module _ (G : Grid) where
   unfoldable pub meshArea : List ℕ → List ℕ
   meshArea area = pick (accepts G) (storedIn area 0 (meshWords G)) area
 
-  -- the loops call (01): rows 1 to 10; then 11 with the cell asked for; else loop k of cell c
+  -- the loops call (01): rows 1 to 10 and 18; then 11 with the cell asked for; else loop k of cell c
   unfoldable pub loopsAnswer : ℕ → ℕ → List ℕ
   loopsAnswer c k = pick (accepts G) (askedLoop (gridCell G) (cellCount (G .cells)) c k) (gridAnswer G)

@@ -11,6 +11,7 @@ use Rattle.counting.specs.Pick.{pick}
 use Rattle.counting.specs.Range.{total}
 use Rattle.counting.specs.Search.{count}
 use Rattle.counting.specs.Lists.{tally}
+use Rattle.face.specs.Rim.{Alternate}
 use Rattle.manifold.specs.Triangle.{Corner, cross, middle, Side, seg, inner}
 use Rattle.manifold.specs.Piece.{Local, slotOf, segmentOf}
 use Rattle.manifold.specs.Complex.{Joins}
@@ -48,6 +49,11 @@ MeshTold = (G : Grid) (room : ℕ) (r s : Meshed)
 abbrev pub LoopsTold : Type 0
 LoopsTold = (G : Grid) (c k : ℕ) (r s : Looped)
     → loopsNumbers r ≡ loopsAnswer G c k → loopsNumbers s ≡ loopsAnswer G c k → r ≡ s
+
+-- Alternation can be met, so that it says something that no two segments alternate (01, demand 3): on a face with the counts 2, 0, 2, segments that joined
+-- crossing 0 of ab to 0 of bc and 1 of ab to 1 of bc would alternate
+abbrev pub CanAlternate : Type 0
+CanAlternate = Alternate 2 0 2 0 0 2 0 0 1 2 1
 
 -- the splits are at most the sum of d1 / gcd(d1, d2) − 1 over the cells that are split (02, W12)
 abbrev pub FewSplits : Type 0

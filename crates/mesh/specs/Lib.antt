@@ -8,4 +8,5 @@ pub mod Names
 pub mod Demand
 pub mod Done
 pub mod Examples
+pub mod Types
 pub mod Claims

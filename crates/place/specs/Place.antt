@@ -34,6 +34,10 @@ added p q = record { x = add binary64 (p .x) (q .x); y = add binary64 (p .y) (q 
 abbrev pub divided : Place → Float → Place
 divided p n = record { x = div binary64 (p .x) n; y = div binary64 (p .y) n; z = div binary64 (p .z) n }
 
+-- (i + 1) / (m + 1)
+abbrev pub partOf : (i m : ℕ) → Float
+partOf i m = div binary64 (floatOf (i + 1)) (floatOf (m + 1))
+
 -- the first of the points p, then those up to the k-th added in their order
 unfoldable pub sumTo : (ℕ → Place) → ℕ → Place
 sumTo p zero = p 0

@@ -4,7 +4,9 @@ ghost use Prim.Native.Nat.{_+_, _*_, _<_};
 ghost use lib.ListN.{length, getD};
 ghost use lib.Ieee.{nan};
 ghost use Rattle.counting.specs.Stored.{storedIn};
-ghost use Rattle.place.specs.Place.{within, between, added, divided, middle, coordinates, placeAt, numbers};
+ghost use Rattle.place.specs.Place.{within, between, added, divided, middle, coordinates, placeAt, numbers, partOf};
+use counting::long32;
+use counting::wide32;
 
 pub struct Place {
     pub x: f64,
@@ -54,6 +56,13 @@ pub fn over(p: Place, n: f64) -> Place
     }
 }
 
+// (i + 1) / (m + 1), rounded once.
+pub fn part_of(i: u32, m: u32) -> f64
+    ensures { λ r. ⌜ r ≡ partOf i m ⌝ }
+{
+    std::num::nearest_u64_to_f64(long32(i) + 1) / std::num::nearest_u64_to_f64(long32(m) + 1)
+}
+
 // Number t of point k of a list: a NaN past the list's end.
 fn number(list: &[f64], k: usize, t: usize) -> f64
     requires { ⌜ t < coordinates ⌝ }
@@ -101,12 +110,6 @@ pub fn store(area: &mut [f64], k: usize, p: Place)
     area[at + 2] = p.z;
 }
 
-fn wide(x: u32) -> usize
-    ensures { λ r. ⌜ r ≡ x ⌝ }
-{
-    x as usize
-}
-
 // The middle of the points of a list whose numbers are given; of none as the definition has it.
 pub fn middle_of(list: &[f64], points: &[u32]) -> Place
     ensures { λ r. ⌜ r ≡ middle (λ k. placeAt (now (list .entry)) (getD (now (points .entry)) k 0)) (length (now (points .entry))) ⌝ }
@@ -115,10 +118,10 @@ pub fn middle_of(list: &[f64], points: &[u32]) -> Place
     if n == 0 {
         return over(load(list, 0), 0.0);
     }
-    let mut p = load(list, wide(points[0]));
+    let mut p = load(list, wide32(points[0]));
     let mut i = 1;
     while i < n {
-        let q = load(list, wide(points[i]));
+        let q = load(list, wide32(points[i]));
         p = plus(p, q);
         i += 1;
     }

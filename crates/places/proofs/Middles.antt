@@ -23,6 +23,7 @@ use Rattle.cell.specs.Table.{tableCell, drawnCells, tableFans, middlesWritten}
 use Rattle.cell.proofs.Fans.{length-cell, below-more, below-placeable, cell-ext}
 use Rattle.cell.proofs.Values.{taken-is}
 use Rattle.booking.specs.Booking.{isSplit}
+use Rattle.direct.proofs.Over.{none-written}
 use Rattle.split.specs.Standing.{innerPlaces, drawnMiddles}
 use Rattle.split.specs.Spots.{innerBy, fansBy, cellsStored, innerIn, addedIn, innerAtCell, middlesAtCell}
 use Rattle.split.proofs.Spotted.{inner-by, fans-by, unsplit-by, inner-not, stored-empty, cells-none, cells-stretch, cells-written}
@@ -126,3 +127,10 @@ module _ (cells counts names sides starts : List ℕ) where
     pub rest-same : middlesWritten cells counts names sides starts nodes 0 area at many ≡ restWritten cells counts names sides starts nodes area at
     unfolding restWritten
     rest-same = rw (← (inner-same many (omega arith))) middles-same
+
+    -- and there is no fan, nothing is written
+    pub rest-none : tableFans cells counts names sides starts ≡ 0 → restWritten cells counts names sides starts nodes area at ≡ (area, at)
+    unfolding tableFans
+    rest-none z =
+        let f : ℕ → ℕ = λ c. fanCount (cellAt c) in
+        sym rest-same ∙ none-written cells counts names sides starts nodes 0 area at many (λ c a l. omega (arith, z, total-has f many 0 c (omega arith) (omega arith)))

@@ -40,7 +40,7 @@ module _ (G : Grid) (nodes fractions : List Float) where
   abbrev pub needed : ℕ
   needed = length (points G nodes fractions)
 
-  -- the places call (01): rows 1 to 10; then 15 to 17; else the number of points
+  -- the places call (01): rows 1 to 10 and 18; then 15 to 17; else the number of points
   unfoldable pub placesAnswer : ℕ → List ℕ
   placesAnswer room = pick (accepts G) (rowsAnswer (G .cells) (G .counts) nodes fractions needed room) (gridAnswer G)
 

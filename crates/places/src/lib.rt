@@ -4,7 +4,7 @@ ghost use Rattle.grid.specs.Grid.{gridOf};
 ghost use Rattle.places.specs.Numbers.{properFraction};
 ghost use Rattle.places.specs.Answer.{placesNumbers};
 ghost use Rattle.places.specs.Done.{Done};
-ghost use Rattle.cell.specs.Table.{drawnCells};
+ghost use Rattle.cell.specs.Table.{drawnCells, tableFans};
 ghost use Rattle.counting.specs.Range.{total};
 ghost use Rattle.split.specs.Spots.{innerIn};
 ghost use Rattle.places.specs.Work.{PlacesReady, PointsIn, restWritten};
@@ -29,7 +29,7 @@ fn is_proper(s: f64) -> bool
 }
 
 // Writes the places of the inner crossings, of which there are so many, and then those of the middles, from point `at` of the area on, and answers the
-// next point. Where no cell is split, the walks' arrays serve all cells.
+// next point. The loops of all cells have so many fans. Where no cell is split and there is no fan, nothing is left to write.
 fn place_rest(
     cells: &[u16],
     counts: &[u16],
@@ -40,13 +40,17 @@ fn place_rest(
     area: &mut [f64],
     at: usize,
     inner: u64,
+    fans: usize,
 ) -> usize
-    requires { ⌜ inner ≡ total (innerIn (now counts) (now sides)) (drawnCells (now cells)) 0 ⌝ }
+    requires { ⌜ (inner ≡ total (innerIn (now counts) (now sides)) (drawnCells (now cells)) 0) × (fans ≡ tableFans (now cells) (now counts) (now names) (now sides) (now starts)) ⌝ }
     ensures { λ r. ⌜ (now (area .exit), r) ≡ restWritten (now (cells .entry)) (now (counts .entry)) (now (names .entry)) (now (sides .entry)) (now (starts .entry)) (now (nodes .entry)) (now (area .entry)) at ⌝ }
 {
     if inner == 0 {
+        if fans == 0 {
+            return at;
+        }
         let n = cell::drawn(cells);
-        return cell::write_middles(cells, counts, names, sides, starts, 0, n, nodes, area, at);
+        return direct::write_middles(cells, counts, names, sides, starts, 0, n, nodes, area, at);
     }
     let i = split::write_inner(cells, counts, names, sides, starts, nodes, area, at);
     split::write_drawn_middles(cells, counts, names, sides, starts, nodes, area, i)
@@ -69,7 +73,8 @@ fn place_all(
     ensures { λ r. ⌜ PointsIn (now (cells .entry)) (now (counts .entry)) (now (names .entry)) (now (sides .entry)) (now (starts .entry)) (now (edges .entry)) (now (nodes .entry)) (now (fractions .entry)) (now (area .entry)) (now (area .exit)) (placesNumbers r) ⌝ }
 {
     let more = split::extra_of(cells, counts, names, sides, starts);
-    let fans = cell::count_fans(cells, counts, names, sides, starts) + more.fans as usize;
+    let own = direct::count_fans(cells, counts, names, sides, starts);
+    let fans = own + more.fans as usize;
     let all = n + more.inner as usize + fans;
     let r = rows::judge(cells, counts, nodes, fractions, n, all, area.len());
     if let Placed::Refused(_, _) = r {
@@ -86,6 +91,7 @@ fn place_all(
         area,
         n,
         more.inner,
+        own,
     );
     r
 }

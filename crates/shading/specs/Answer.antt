@@ -24,7 +24,7 @@ module _ (G : Grid) where
   unfoldable pub shadingRows : ℕ → List Row
   shadingRows room = whole 19 (not (eqb room mostNodes)) ∷ whole 20 (unshaded G) ∷ []
 
-  -- the shading call: rows 1 to 10 of the grid; then 19 and 20
+  -- the shading call: rows 1 to 10 and 18 of the grid; then 19 and 20
   unfoldable pub shadingAnswer : ℕ → List ℕ
   shadingAnswer room = pick (accepts G) (answerOf (shadingRows room) (result [])) (gridAnswer G)
 

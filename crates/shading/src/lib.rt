@@ -7,10 +7,11 @@ ghost use Rattle.shading.specs.Marks.{mostNodes};
 ghost use Rattle.shading.specs.Answer.{shadingNumbers};
 ghost use Rattle.shading.specs.Done.{Done};
 ghost use Rattle.shading.specs.Work.{Writable, byteBy, Sided, ShadedIn};
+use counting::wide8;
+use counting::wide16;
 use grid::Checked;
 use grid::HIGHEST_NODE;
 use links::NO_LINK;
-use links::wide;
 
 mod links;
 
@@ -26,14 +27,6 @@ pub enum Shaded {
     Refused(u8, usize),
 }
 
-// A byte of the area.
-fn size(x: u8) -> usize
-    ensures { λ r. ⌜ r ≡ x ⌝ }
-    ensures { λ r. ⌜ r < 256 ⌝ }
-{
-    x as usize
-}
-
 // The byte of node x, by its link and its parent's byte.
 fn byte_of(links: &[u16], area: &[u8], x: usize) -> u8
     requires { ⌜ Writable (now links) (now area) ⌝ }
@@ -43,12 +36,12 @@ fn byte_of(links: &[u16], area: &[u8], x: usize) -> u8
     if links[x] == NO_LINK {
         return UNUSED_BYTE;
     }
-    let l = wide(links[x]);
+    let l = wide16(links[x]);
     let p = l / 2;
     if p == x {
         return 0;
     }
-    ((size(area[p]) + l) % 2) as u8
+    ((wide8(area[p]) + l) % 2) as u8
 }
 
 // Writes the bytes of all nodes. A parent stands before its children.

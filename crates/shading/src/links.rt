@@ -1,19 +1,11 @@
 // The parts of a grid and the sides of their nodes, as a forest of links: a node's link is 2 * parent + side, where the parent is no higher than the
 // node, and the side is 0 where the node is on its parent's side. A root is its own parent. A node that no cell has has no link.
-ghost use mathlib.Core.Path.{_≡_};
 ghost use Prim.Native.Nat.{_<_};
 ghost use Rattle.shading.specs.Work.{Halvable, HalvedAt, Rooted, Found, Unitable, United, AllUnitable, UnitedAll, Rootable, Roots};
+use counting::wide16;
 
 // What a node that no cell has holds instead of a link.
 pub(crate) const NO_LINK: u16 = 65535;
-
-// A number of 16 bits: a node, a count or a link.
-pub(crate) fn wide(x: u16) -> usize
-    ensures { λ r. ⌜ r ≡ x ⌝ }
-    ensures { λ r. ⌜ r < 65536 ⌝ }
-{
-    x as usize
-}
 
 // Makes each node of the cells a root.
 pub(crate) fn make_roots(cells: &[u16], links: &mut [u16])
@@ -23,7 +15,7 @@ pub(crate) fn make_roots(cells: &[u16], links: &mut [u16])
     let mut j = 0;
     while j < cells.len() {
         let x = cells[j];
-        links[wide(x)] = 2 * x;
+        links[wide16(x)] = 2 * x;
         j += 1;
     }
 }
@@ -33,9 +25,9 @@ fn halve(links: &mut [u16], y: usize) -> usize
     requires { ⌜ Halvable (now links) y ⌝ }
     ensures { λ r. ⌜ HalvedAt (now (links .entry)) y (now (links .exit)) r ⌝ }
 {
-    let l = wide(links[y]);
+    let l = wide16(links[y]);
     let p = l / 2;
-    let m = wide(links[p]);
+    let m = wide16(links[p]);
     let z = 2 * (m / 2) + (m + l) % 2;
     links[y] = z as u16;
     z
@@ -48,12 +40,12 @@ fn find(links: &mut [u16], x: usize) -> usize
 {
     let mut y = x;
     let mut side = 0;
-    let mut p = wide(links[x]) / 2;
+    let mut p = wide16(links[x]) / 2;
     while p != y {
         let z = halve(links, y);
         side = (side + z) % 2;
         y = z / 2;
-        p = wide(links[y]) / 2;
+        p = wide16(links[y]) / 2;
     }
     2 * y + side
 }
@@ -88,9 +80,9 @@ pub(crate) fn unite_all(edges: &[u16], counts: &[u16], links: &mut [u16]) -> boo
 {
     let mut e = 0;
     while e < counts.len() {
-        let u = wide(edges[2 * e]);
-        let v = wide(edges[2 * e + 1]);
-        if !unite(links, u, v, wide(counts[e])) {
+        let u = wide16(edges[2 * e]);
+        let v = wide16(edges[2 * e + 1]);
+        if !unite(links, u, v, wide16(counts[e])) {
             return false;
         }
         e += 1;

@@ -3,10 +3,12 @@ use Prim.Native.Nat.{ℕ, _+_, _-_, _<_, _≤_}
 use mathlib.Core.Path.{_≡_, refl, sym, _∙_}
 use mathlib.Core.Logic.{_⊎_, inl, inr, ⊎-elim, _≢_}
 use mathlib.Core.Bool.{Bool, true, not, _&&_, _||_}
+use mathlib.Core.List.{[], _∷_}
 use native.Mathlib.Omega.{arith}
 use native.Mathlib.Decide.{decLt}
-use lib.Dec.{eqb, ltb}
-use borrow.Author.Tests.{eqb-true, eqb-false, ltb-true, eq-eqb, lt-ltb, le-ltb, not-true}
+use lib.Dec.{eqb, ltb, leb}
+use lib.ListN.{List·getD-eq-default}
+use borrow.Author.Tests.{eqb-true, eqb-false, ltb-true, eq-eqb, lt-ltb, le-ltb, le-leb, not-true}
 use Rattle.counting.specs.Pick.{pick}
 use Rattle.counting.specs.Search.{every}
 use Rattle.counting.proofs.Bools.{clash, and-left, and-right, or-cases, imply}
@@ -183,3 +185,28 @@ ends-sum k l = eqb-true _ _ (every-is (λ k. eqb (lo k + hi k) (pick (ltb k 3) (
 pub second-is : (k : ℕ) → k < 6 → pick (eqb k 0) 2 (pick (ltb k 3) 1 0) ≡ secondSlot k
 unfolding every secondSlot
 second-is k l = eqb-true _ _ (every-is (λ k. eqb (pick (eqb k 0) 2 (pick (ltb k 3) 1 0)) (secondSlot k)) 6 refl k l)
+
+-- the ends of an edge of a cell, case by case as code finds them
+pub low-first : (k : ℕ) → k < 3 → 0 ≡ lo k
+unfolding every lo
+low-first k l = sym (eqb-true (lo k) 0 (every-is (λ k. eqb (lo k) 0) 3 refl k l))
+
+pub low-then : (k : ℕ) → 3 ≤ k → k < 5 → 1 ≡ lo k
+unfolding every lo
+low-then k a b = sym (eqb-true (lo k) 1 (imply (leb 3 k) (eqb (lo k) 1) (le-leb 3 k a) (every-is (λ k. not (leb 3 k) || eqb (lo k) 1) 5 refl k b)))
+
+pub low-none : (k : ℕ) → 6 ≤ k → 0 ≡ lo k
+unfolding lo
+low-none k a = sym (List·getD-eq-default (0 ∷ 0 ∷ 0 ∷ 1 ∷ 1 ∷ 2 ∷ []) 0 a)
+
+pub high-first : (k : ℕ) → k < 3 → k + 1 ≡ hi k
+unfolding every hi
+high-first k l = sym (eqb-true (hi k) (k + 1) (every-is (λ k. eqb (hi k) (k + 1)) 3 refl k l))
+
+pub high-last : (k : ℕ) → 4 ≤ k → k < 6 → 3 ≡ hi k
+unfolding every hi
+high-last k a b = sym (eqb-true (hi k) 3 (imply (leb 4 k) (eqb (hi k) 3) (le-leb 4 k a) (every-is (λ k. not (leb 4 k) || eqb (hi k) 3) 6 refl k b)))
+
+pub high-none : (k : ℕ) → 6 ≤ k → 0 ≡ hi k
+unfolding hi
+high-none k a = sym (List·getD-eq-default (1 ∷ 2 ∷ 3 ∷ 2 ∷ 3 ∷ 3 ∷ []) 0 a)

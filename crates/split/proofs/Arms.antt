@@ -12,11 +12,10 @@ use Rattle.counting.proofs.Lists.{gather-over, length-singles}
 use Rattle.counting.proofs.Fronts.{over-more}
 use Rattle.counting.proofs.Stored.{stored-none, stored-as, stored-long, stored-more, stored-fits}
 use Rattle.place.specs.declared.Place.{Place}
-use Rattle.place.specs.Place.{between, coordinates, numbers, allNumbers}
+use Rattle.place.specs.Place.{partOf, between, coordinates, numbers, allNumbers}
 use Rattle.place.proofs.Numbers.{length-numbers, points-then, point-stored}
 use Rattle.cell.specs.declared.Cell.{Cell}
 use Rattle.cell.specs.Of.{countOf}
-use Rattle.cell.specs.Nests.{partOf}
 use Rattle.booking.specs.Booking.{larger, smaller}
 use Rattle.split.specs.declared.Spiral.{Spiral}
 use Rattle.split.specs.Limits.{wordStep}

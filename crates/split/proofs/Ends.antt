@@ -1,6 +1,6 @@
 -- The ends of edges, the edges of slots and the counts of the new edges, case by case as code finds them.
-use Prim.Native.Nat.{ℕ, _+_, _-_, _*_, _≤_, _<_, min, max}
-use mathlib.Core.Path.{_≡_, refl, sym, _∙_}
+use Prim.Native.Nat.{ℕ, _+_, _-_, _*_, _<_, min, max}
+use mathlib.Core.Path.{_≡_, refl, sym, ap, _∙_}
 use mathlib.Core.Logic.{_≢_}
 use native.Mathlib.Omega.{arith}
 use lib.Dec.{eqb}
@@ -9,35 +9,14 @@ use Rattle.counting.specs.Pick.{pick}
 use Rattle.counting.specs.Range.{total}
 use Rattle.counting.specs.Search.{seek, first}
 use Rattle.counting.specs.Pack.{pre}
-use Rattle.counting.proofs.Below.{below-three, below-four, below-six}
+use Rattle.counting.proofs.Below.{below-three, below-four}
 use Rattle.slots.specs.Slots.{lo, hi, position, lower, upper, edgeBetween, slotEdge}
 use Rattle.cell.specs.Nodes.{joining}
 use Rattle.split.specs.Working.{spokeBy}
 
--- the lower and the upper end of an edge
-pub low-first : (e : ℕ) → e < 3 → 0 ≡ lo e
-unfolding lo
-low-first = below-three (λ e. 0 ≡ lo e) refl refl refl
-
-pub low-then : (e : ℕ) → 3 ≤ e → e < 5 → 1 ≡ lo e
-unfolding lo
-low-then e a b = below-six (λ e. 3 ≤ e → e < 5 → 1 ≡ lo e) (λ a b. absurd (omega arith)) (λ a b. absurd (omega arith)) (λ a b. absurd (omega arith)) (λ a b. refl) (λ a b. refl) (λ a b. absurd (omega arith)) e (omega arith) a b
-
-pub low-last : (e : ℕ) → 5 ≤ e → e < 6 → 2 ≡ lo e
-unfolding lo
-low-last e a b = let z : e ≡ 5 = omega arith in rw z refl
-
-pub high-first : (e : ℕ) → e < 3 → e + 1 ≡ hi e
-unfolding hi
-high-first = below-three (λ e. e + 1 ≡ hi e) refl refl refl
-
-pub high-then : (e : ℕ) → e ≡ 3 → 2 ≡ hi e
-unfolding hi
-high-then e z = rw z refl
-
-pub high-last : (e : ℕ) → 4 ≤ e → e < 6 → 3 ≡ hi e
-unfolding hi
-high-last e a b = below-six (λ e. 4 ≤ e → e < 6 → 3 ≡ hi e) (λ a b. absurd (omega arith)) (λ a b. absurd (omega arith)) (λ a b. absurd (omega arith)) (λ a b. absurd (omega arith)) (λ a b. refl) (λ a b. refl) e b a b
+-- the position at a rank that is told to be k, of three
+pub at-rank : (p : ℕ) {r w l k : ℕ} → r ≡ position p (min w 2) → w ≡ l → (l ≡ k) × (l < 3) → r ≡ position p k
+at-rank p e w l = e ∙ ap (position p) (omega arith)
 
 -- the edge that joins two positions, by the lower and the higher of them
 abbrev byEnds : ℕ → ℕ → ℕ

@@ -9,7 +9,7 @@ use lib.ListN.{length, getD}
 use Rattle.counting.specs.Lists.{tally}
 use Rattle.manifold.specs.Triangle.{Side, seg, inner}
 use Rattle.manifold.specs.Plain.{Tri, sideOf, hasSide, nth}
-use Rattle.manifold.specs.Piece.{Local, slotOf, lowerOf, segmentOf}
+use Rattle.manifold.specs.Piece.{slotOf, lowerOf, segmentOf}
 use Rattle.manifold.specs.Complex.{Complex, Joins, Closes, Lawful, mesh}
 use Rattle.manifold.proofs.Piece.{whole-closes}
 use Rattle.manifold.proofs.Claims.{manifold}
@@ -35,9 +35,6 @@ module _ (fuel cell n b f : ℕ) (c : Cell) (R : FirmBelow c b f) (h : larger (c
 
   abbrev K : Complex
   K = partsComplex (parts fuel cell n b f c)
-
-  abbrev A : Local
-  A = localOf c
 
   F : RefinedBy c b f (parts fuel cell n b f c)
   F = partsRefine fuel cell n b f c R h

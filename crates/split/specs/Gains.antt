@@ -1,4 +1,4 @@
--- Only contracts of parts cite this file. What the splits of the cells of a grid's tables come to.
+-- What the splits of the cells of a grid's tables come to.
 use Prim.Native.Nat.{ℕ, _*_, _≤_, _<_}
 use mathlib.Core.Path.{_≡_}
 use mathlib.Core.List.{List}
@@ -15,10 +15,6 @@ use Rattle.split.specs.Table.{mostMore}
 -- the words of the triangles of the loops of n cells of the tables, from cell c on
 abbrev pub loopWords : (cells counts names sides starts : List ℕ) (c n : ℕ) → List ℕ
 loopWords cells counts names sides starts c n = over (λ k. allWords (cellTriangles (tableCell cells counts names sides starts k))) n c
-
--- a stretch of cells that are not split is not short from so many on
-abbrev pub shortestStretch : ℕ
-shortestStretch = 8
 
 module _ (counts sides : List ℕ) where
   -- the splits of cell c, and what they add

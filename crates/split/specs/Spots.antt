@@ -1,4 +1,4 @@
--- Only contracts of parts cite this file. The points of split cells: how many there are, and what is left where they are written to an area.
+-- The points of split cells: how many there are, and what is left where they are written to an area.
 use Prim.Native.Nat.{ℕ, zero, suc, _+_, _*_, _/_, _≤_, _<_}
 use mathlib.Core.Path.{_≡_}
 use mathlib.Core.List.{List, [], _∷_}

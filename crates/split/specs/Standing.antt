@@ -10,11 +10,10 @@ use Rattle.counting.specs.Range.{over, values}
 use Rattle.counting.specs.Lists.{gather}
 use Rattle.slots.specs.Slots.{position}
 use Rattle.place.specs.declared.Place.{Place}
-use Rattle.place.specs.Place.{between, middle}
+use Rattle.place.specs.Place.{partOf, between, middle}
 use Rattle.cell.specs.declared.Cell.{Cell}
 use Rattle.cell.specs.Cell.{crossings}
 use Rattle.cell.specs.Of.{countOf, edgesOf}
-use Rattle.cell.specs.Nests.{partOf}
 use Rattle.cell.specs.Middles.{isFan, cornerPlace}
 use Rattle.booking.specs.Booking.{larger, smaller, isSpiral, isSplit}
 use Rattle.split.specs.Limits.{firstInnerCrossing, firstInnerFace, wordStep}

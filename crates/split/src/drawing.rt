@@ -1,8 +1,6 @@
 // What is drawn of all cells of a grid's tables.
 ghost use mathlib.Core.Path.{_≡_};
-ghost use mathlib.Core.Bool.{_&&_};
 ghost use Prim.Native.Nat.{_+_, _-_, _*_, _≤_};
-ghost use lib.Dec.{ltb};
 ghost use lib.ListN.{length};
 ghost use Rattle.counting.specs.Range.{total};
 ghost use Rattle.counting.specs.Stored.{storedIn, Stored};
@@ -10,11 +8,10 @@ ghost use Rattle.cell.specs.Words.{wordCount, allWords};
 ghost use Rattle.cell.specs.Table.{drawnCells, tableCell};
 ghost use Rattle.split.specs.Parts.{drawnTriangles};
 ghost use Rattle.split.specs.Table.{mostDrawn, tableDrawn, tableSplits};
-ghost use Rattle.split.specs.Gains.{AreSums, IsStretch, loopWords, shortestStretch, splitsAt};
+ghost use Rattle.split.specs.Gains.{AreSums, IsStretch, loopWords, splitsAt};
 use super::CellSums;
 use super::DrawnSums;
 use super::Stretch;
-use super::put;
 use super::put_cell;
 use cell::WORD_COUNT;
 use slots::MOST_EDGES;
@@ -77,20 +74,6 @@ fn next_stretch(
     stretch_from(counts, sides, c, n)
 }
 
-// A stretch of fewer cells with a split cell after it is written cell by cell: to write several cells at once arrays are made for their walks (SPEED.md).
-const SHORTEST_STRETCH: usize = 8;
-
-// Whether the stretch from cell c on is one of these.
-pub(crate) fn is_short(c: usize, s: Stretch) -> bool
-    requires { ⌜ c ≤ s .end ⌝ }
-    ensures { λ r. ⌜ r ≡ (ltb 0 (s .splits) && ltb (s .end - c) shortestStretch) ⌝ }
-{
-    if s.splits == 0 {
-        return false;
-    }
-    s.end - c < SHORTEST_STRETCH
-}
-
 // Writes the words of what is drawn of cell c, in which so many splits are made: they have room from index `at` on. Answers the next index.
 fn put_at(
     cells: &[u16],
@@ -111,33 +94,7 @@ fn put_at(
     put_cell(v, splits, area, at)
 }
 
-// Writes the words of the triangles of the loops of the cells from c up to e, cell by cell by value: they have room from index `at` on. Answers the next
-// index.
-fn put_singly(
-    cells: &[u16],
-    counts: &[u16],
-    names: &[u16; MOST_SLOTS],
-    sides: &[u16; MOST_EDGES],
-    starts: &[u32],
-    c: usize,
-    e: usize,
-    area: &mut [u32],
-    at: usize,
-) -> usize
-    requires { ⌜ at + length (loopWords (now cells) (now counts) (now names) (now sides) (now starts) c (e - c)) ≤ length (now area) ⌝ }
-    ensures { λ r. ⌜ Stored (now (area .entry)) at (loopWords (now (cells .entry)) (now (counts .entry)) (now (names .entry)) (now (sides .entry)) (now (starts .entry)) c (e - c)) (now (area .exit)) r ⌝ }
-{
-    let mut i = at;
-    let mut k = c;
-    while k < e {
-        let v = cell::cell_at(cells, counts, names, sides, starts, k);
-        i = put(v, 0, area, i);
-        k += 1;
-    }
-    i
-}
-
-// The same for a stretch from cell c on: cell by cell where it is short, else from the tables.
+// Writes the words of the triangles of the loops of the cells of a stretch from cell c on: they have room from index `at` on. Answers the next index.
 fn put_stretch(
     cells: &[u16],
     counts: &[u16],
@@ -149,14 +106,10 @@ fn put_stretch(
     area: &mut [u32],
     at: usize,
 ) -> usize
-    requires { ⌜ c ≤ s .end ⌝ }
     requires { ⌜ at + length (loopWords (now cells) (now counts) (now names) (now sides) (now starts) c (s .end - c)) ≤ length (now area) ⌝ }
     ensures { λ r. ⌜ Stored (now (area .entry)) at (loopWords (now (cells .entry)) (now (counts .entry)) (now (names .entry)) (now (sides .entry)) (now (starts .entry)) c (s .end - c)) (now (area .exit)) r ⌝ }
 {
-    if is_short(c, s) {
-        return put_singly(cells, counts, names, sides, starts, c, s.end, area, at);
-    }
-    cell::write_cells(cells, counts, names, sides, starts, c, s.end, area, at)
+    direct::write_cells(cells, counts, names, sides, starts, c, s.end, area, at)
 }
 
 // Writes the words of what is drawn of all cells, which have room in the area, from its front on, and answers the next index. The cells make so many splits.

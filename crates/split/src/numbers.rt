@@ -7,22 +7,17 @@ ghost use Rattle.booking.specs.Booking.{smallest, median};
 ghost use Rattle.split.specs.Working.{AreOwn, labelBy, LevelSix, SpiralNumbers};
 use super::Spiral;
 use cell::Cell;
-use cell::higher;
-use cell::less;
-use cell::lower;
 use cell::sum_of;
-
-pub(crate) fn wide(x: u16) -> u32
-    ensures { λ r. ⌜ (r ≡ x) × (r ≤ 65535) ⌝ }
-{
-    x as u32
-}
+use counting::greatest32;
+use counting::least32;
+use counting::minus32;
+use counting::word16;
 
 // Half of what three counts have above the largest sum of a pair.
 fn own_at(most: u32, x: u16, y: u16, z: u16) -> u32
     ensures { λ r. ⌜ r ≡ (x + y + z - most) / 2 ⌝ }
 {
-    less(wide(x) + wide(y) + wide(z), most) / 2
+    minus32(word16(x) + word16(y) + word16(z), most) / 2
 }
 
 // The own corner triangles at each node of a cell with these counts, in which only rule 1 is met.
@@ -33,7 +28,7 @@ fn own_of(six: [u16; 6]) -> [u32; 4]
     let x = sum_of(six[0], six[5]);
     let y = sum_of(six[1], six[4]);
     let z = sum_of(six[2], six[3]);
-    let most = higher(higher(x, y), z);
+    let most = greatest32(greatest32(x, y), z);
     [
         own_at(most, six[0], six[1], six[2]),
         own_at(most, six[0], six[3], six[4]),
@@ -46,20 +41,20 @@ fn own_of(six: [u16; 6]) -> [u32; 4]
 fn left_of(n: u16, a: u32, b: u32) -> u32
     ensures { λ r. ⌜ (r ≡ n - a - b) × (r ≤ 65535) ⌝ }
 {
-    less(less(wide(n), a), b)
+    minus32(minus32(word16(n), a), b)
 }
 
 // Of three numbers the least, and the one between.
 fn smallest_of(x: u32, y: u32, z: u32) -> u32
     ensures { λ r. ⌜ r ≡ smallest x y z ⌝ }
 {
-    lower(lower(x, y), z)
+    least32(least32(x, y), z)
 }
 
 fn median_of(x: u32, y: u32, z: u32) -> u32
     ensures { λ r. ⌜ r ≡ median x y z ⌝ }
 {
-    higher(lower(x, y), lower(higher(x, y), z))
+    greatest32(least32(x, y), least32(greatest32(x, y), z))
 }
 
 // The label of a position where r remains between the lowest node and it, for d1 and d2.

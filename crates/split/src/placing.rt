@@ -4,9 +4,9 @@ ghost use Prim.Native.Nat.{_+_, _*_, _≤_, _<_};
 ghost use lib.ListN.{length};
 ghost use Rattle.counting.specs.Range.{values};
 ghost use Rattle.counting.specs.Stored.{Stored};
-ghost use Rattle.place.specs.Place.{between, coordinates, allNumbers};
+ghost use Rattle.place.specs.Place.{partOf, between, coordinates, allNumbers};
 ghost use Rattle.cell.specs.Of.{countOf};
-ghost use Rattle.cell.specs.Nests.{partOf, nestMiddle};
+ghost use Rattle.cell.specs.Nests.{nestMiddle};
 ghost use Rattle.split.specs.Labels.{labelled};
 ghost use Rattle.split.specs.Standing.{cornerIn, newPlace, subPlaces, splitPlaces, fansIn};
 ghost use Rattle.split.specs.Working.{Spiraling, SplitsLeft};
@@ -14,24 +14,13 @@ ghost use Rattle.split.specs.Spots.{Nesting, positioned, Spun, standingI
 use super::Spiral;
 use super::numbers::spiral_of;
 use super::subs::place_of;
-use super::subs::position_of;
 use super::subs::spoke_count;
 use super::subs::sub_of;
 use super::word;
 use cell::Cell;
+use counting::wide32;
 use place::Place;
-
-fn wide(x: u32) -> usize
-    ensures { λ r. ⌜ r ≡ x ⌝ }
-{
-    x as usize
-}
-
-pub(crate) fn wider(x: u32) -> u64
-    ensures { λ r. ⌜ r ≡ x ⌝ }
-{
-    x as u64
-}
+use slots::position;
 
 // Where the node with the label m is, of those at `at` by position.
 fn labelled_at(c: Cell, s: Spiral, at: [Place; 4], m: u32) -> Place
@@ -62,17 +51,10 @@ fn sub_places(c: Cell, s: Spiral, at: [Place; 4], m: u32) -> [Place; 4]
 {
     let a = new_place(c, s, at);
     let p = place_of(c, s, m);
-    let x = at[position_of(p, 0)];
-    let y = at[position_of(p, 1)];
-    let z = at[position_of(p, 2)];
+    let x = at[position(p, 0)];
+    let y = at[position(p, 1)];
+    let z = at[position(p, 2)];
     [a, x, y, z]
-}
-
-// (h + 1) / (n + 1)
-fn part_of(h: u32, n: u32) -> f64
-    ensures { λ r. ⌜ r ≡ partOf h n ⌝ }
-{
-    std::num::nearest_u64_to_f64(wider(h) + 1) / std::num::nearest_u64_to_f64(wider(n) + 1)
 }
 
 // Writes the places of the n inner crossings on the new edge from a to v, as points from `i` on, and answers the next point.
@@ -82,11 +64,11 @@ fn put_arm(a: Place, v: Place, n: u32, area: &mut [f64], i: usize) -> usize
 {
     let mut h: u32 = 0;
     while h < n {
-        let p = place::interpolate(a, v, part_of(h, n));
-        place::store(area, i + wide(h), p);
+        let p = place::interpolate(a, v, place::part_of(h, n));
+        place::store(area, i + wide32(h), p);
         h += 1;
     }
-    i + wide(n)
+    i + wide32(n)
 }
 
 // Writes the places of the inner crossings of a split, as points from `i` on, and answers the next point.

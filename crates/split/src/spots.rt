@@ -15,13 +15,12 @@ use super::FIRST_CROSSING;
 use super::FIRST_FACE;
 use super::PointSums;
 use super::Stretch;
-use super::drawing::is_short;
 use super::drawing::stretch_from;
 use super::numbers::spiral_of;
 use super::placing::centres_in;
 use super::placing::inner_in;
-use super::placing::wider;
 use cell::Cell;
+use counting::long32;
 use place::Place;
 use slots::MOST_EDGES;
 use slots::MOST_SLOTS;
@@ -35,7 +34,7 @@ fn spots_of(c: Cell, splits: u32) -> PointSums
 {
     let s = spiral_of(c);
     let g = booking::figures_of(s.larger as u16, s.smaller as u16);
-    let loops = wider(g.end);
+    let loops = long32(g.end);
     PointSums {
         inner: g.inner,
         more: (g.triangles - 8 * loops - 2 * g.inner) / 6,
@@ -190,32 +189,7 @@ fn middles_at(
     put_middles(v, splits, nodes, area, i)
 }
 
-// As `cell::write_middles`, cell by cell by value: the middles of the fans of the loops of the cells from c up to e.
-fn middles_singly(
-    cells: &[u16],
-    counts: &[u16],
-    names: &[u16; MOST_SLOTS],
-    sides: &[u16; MOST_EDGES],
-    starts: &[u32],
-    c: usize,
-    e: usize,
-    nodes: &[f64],
-    area: &mut [f64],
-    at: usize,
-) -> usize
-    ensures { λ r. ⌜ (now (area .exit), r) ≡ middlesWritten (now (cells .entry)) (now (counts .entry)) (now (names .entry)) (now (sides .entry)) (now (starts .entry)) (now (nodes .entry)) c (now (area .entry)) at (e - c) ⌝ }
-{
-    let mut i = at;
-    let mut k = c;
-    while k < e {
-        let v = cell::cell_at(cells, counts, names, sides, starts, k);
-        i = cell::write_fans(v, nodes, area, i);
-        k += 1;
-    }
-    i
-}
-
-// The same for a stretch from cell c on: cell by cell where it is short, else from the tables.
+// As `direct::write_middles`: the middles of the fans of the loops of the cells of a stretch from cell c on.
 fn middles_stretch(
     cells: &[u16],
     counts: &[u16],
@@ -228,14 +202,20 @@ fn middles_stretch(
     area: &mut [f64],
     at: usize,
 ) -> usize
-    requires { ⌜ c ≤ s .end ⌝ }
     ensures { λ r. ⌜ (now (area .exit), r) ≡ middlesWritten (now (cells .entry)) (now (counts .entry)) (now (names .entry)) (now (sides .entry)) (now (starts .entry)) (now (nodes .entry)) c (now (area .entry)) at (s .end - c) ⌝ }
 {
-    let e = s.end;
-    if is_short(c, s) {
-        return middles_singly(cells, counts, names, sides, starts, c, e, nodes, area, at);
-    }
-    cell::write_middles(cells, counts, names, sides, starts, c, e, nodes, area, at)
+    direct::write_middles(
+        cells,
+        counts,
+        names,
+        sides,
+        starts,
+        c,
+        s.end,
+        nodes,
+        area,
+        at,
+    )
 }
 
 // Writes the places of the inner crossings of all cells, cell by cell, from point `at` of the area on, and answers the next point. Of a cell whose inner

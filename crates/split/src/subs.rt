@@ -5,8 +5,7 @@ ghost use Prim.Native.Nat.{_+_, _≤_, _<_};
 ghost use lib.ListN.{getD};
 ghost use Rattle.counting.specs.Range.{values};
 ghost use Rattle.counting.specs.Pack.{pre};
-ghost use Rattle.slots.specs.Slots as slots;
-ghost use Rattle.slots.specs.Slots.{lo, hi, position, slotEdge};
+ghost use Rattle.slots.specs.Slots.{position, slotEdge};
 ghost use Rattle.cell.specs.Nodes.{joining};
 ghost use Rattle.cell.specs.Of.{countOf};
 ghost use Rattle.split.specs.Labels.{labelled};
@@ -14,75 +13,39 @@ ghost use Rattle.split.specs.SubCell.{armCount, armStart, restCount, res
 ghost use Rattle.cell.specs.Limits.{shortLimit, startLimit};
 ghost use Rattle.split.specs.Working.{Spiraling, spokeBy};
 use super::Spiral;
-use super::numbers::wide;
 use cell::Cell;
-use cell::higher;
-use cell::less;
-use cell::lower;
-
-// The i-th position, of three, of slot p.
-pub(crate) fn position_of(p: usize, i: usize) -> usize
-    requires { ⌜ (p < 4) × (i < 3) ⌝ }
-    ensures { λ r. ⌜ (r ≡ position p i) × (r < 4) ⌝ }
-{
-    if i < p { i } else { i + 1 }
-}
+use counting::greatest32;
+use counting::least32;
+use counting::minus32;
+use counting::wide32;
+use counting::word16;
+use slots::high_end;
+use slots::low_end;
+use slots::lower_end;
+use slots::position;
+use slots::upper_end;
 
 // The edge that joins two positions or labels.
 fn joining_of(a: u32, b: u32) -> u32
     requires { ⌜ (a < 4) × (b < 4) × (a ≡ b → ⊥) ⌝ }
     ensures { λ r. ⌜ (r ≡ joining a b) × (r < 6) ⌝ }
 {
-    let x = lower(a, b);
-    let y = higher(a, b);
+    let x = least32(a, b);
+    let y = greatest32(a, b);
     if x == 0 {
         return y - 1;
     }
     if x == 1 { y + 1 } else { 5 }
 }
 
-// The ends of edge j of a face.
-fn lower_of(j: usize) -> usize
-    ensures { λ r. ⌜ (r ≡ slots.lower j) × (r < 3) ⌝ }
-{
-    if j == 2 { 1 } else { 0 }
-}
-
-fn upper_of(j: usize) -> usize
-    ensures { λ r. ⌜ (r ≡ slots.upper j) × (r < 3) ⌝ }
-{
-    if j == 0 { 1 } else { 2 }
-}
-
 // The edge of the cell that is edge j of slot p.
-fn slot_edge(p: usize, j: usize) -> usize
+fn slot_edge(p: usize, j: u32) -> usize
     requires { ⌜ (p < 4) × (j < 3) ⌝ }
     ensures { λ r. ⌜ (r ≡ slotEdge p j) × (r < 6) ⌝ }
 {
-    let a = position_of(p, lower_of(j));
-    let b = position_of(p, upper_of(j));
+    let a = position(p, wide32(lower_end(j)));
+    let b = position(p, wide32(upper_end(j)));
     joining_of(a as u32, b as u32) as usize
-}
-
-// The ends of an edge.
-fn low_of(e: usize) -> usize
-    requires { ⌜ e < 6 ⌝ }
-    ensures { λ r. ⌜ (r ≡ lo e) × (r < 4) ⌝ }
-{
-    if e < 3 {
-        return 0;
-    }
-    if e < 5 { 1 } else { 2 }
-}
-
-fn high_of(e: usize) -> usize
-    requires { ⌜ e < 6 ⌝ }
-    ensures { λ r. ⌜ (r ≡ hi e) × (r < 4) ⌝ }
-{
-    if e < 3 {
-        return e + 1;
-    }
-    if e == 3 { 2 } else { 3 }
 }
 
 // The count of the new edge with the label l, and the inner crossings before it.
@@ -96,7 +59,7 @@ pub(crate) fn spoke_count(d1: u32, d2: u32, l: u32) -> u32
     if l == 1 {
         return d1;
     }
-    if l == 2 { d2 } else { less(d1, d2) }
+    if l == 2 { d2 } else { minus32(d1, d2) }
 }
 
 fn spokes_before(d1: u32, d2: u32, l: u32) -> u32
@@ -137,9 +100,9 @@ fn rest_count(c: Cell, s: Spiral, six: [u16; 6], e: usize) -> u16
     ensures { λ r. ⌜ r ≡ restCount c e ⌝ }
 {
     let n = six[e];
-    let a = s.own[low_of(e)];
-    let b = s.own[high_of(e)];
-    less(less(wide(n), a), b) as u16
+    let a = s.own[low_end(e)];
+    let b = s.own[high_end(e)];
+    minus32(minus32(word16(n), a), b) as u16
 }
 
 fn rest_start(c: Cell, s: Spiral, e: usize) -> u32
@@ -147,7 +110,7 @@ fn rest_start(c: Cell, s: Spiral, e: usize) -> u32
     requires { ⌜ e < 6 ⌝ }
     ensures { λ r. ⌜ r ≡ restStart c e ⌝ }
 {
-    let a = s.own[low_of(e)];
+    let a = s.own[low_end(e)];
     c.starts[e] + a
 }
 
@@ -157,8 +120,8 @@ fn inner_name(c: Cell, s: Spiral, f: u32, e: usize) -> u16
     requires { ⌜ (e < 6) × (f + 6 ≤ shortLimit) ⌝ }
     ensures { λ r. ⌜ r ≡ innerName c f e ⌝ }
 {
-    let x = s.label[low_of(e)];
-    let y = s.label[high_of(e)];
+    let x = s.label[low_end(e)];
+    let y = s.label[high_end(e)];
     (f + joining_of(x, y)) as u16
 }
 
@@ -184,9 +147,9 @@ fn counts_of(c: Cell, s: Spiral, p: usize) -> [u16; 6]
     ensures { λ r. ⌜ r ≡ armCount c (position p 0) ∷ armCount c (position p 1) ∷ armCount c (position p 2) ∷ restCount c (slotEdge p 0) ∷ restCount c (slotEdge p 1) ∷ restCount c (slotEdge p 2) ∷ [] ⌝ }
 {
     let six = cell::taken_of(c);
-    let x = arm_count(c, s, position_of(p, 0));
-    let y = arm_count(c, s, position_of(p, 1));
-    let z = arm_count(c, s, position_of(p, 2));
+    let x = arm_count(c, s, position(p, 0));
+    let y = arm_count(c, s, position(p, 1));
+    let z = arm_count(c, s, position(p, 2));
     let u = rest_count(c, s, six, slot_edge(p, 0));
     let v = rest_count(c, s, six, slot_edge(p, 1));
     let w = rest_count(c, s, six, slot_edge(p, 2));
@@ -198,9 +161,9 @@ fn starts_of(c: Cell, s: Spiral, b: u32, p: usize) -> [u32; 6]
     requires { ⌜ (p < 4) × (b < startLimit) ⌝ }
     ensures { λ r. ⌜ r ≡ armStart c b (position p 0) ∷ armStart c b (position p 1) ∷ armStart c b (position p 2) ∷ restStart c (slotEdge p 0) ∷ restStart c (slotEdge p 1) ∷ restStart c (slotEdge p 2) ∷ [] ⌝ }
 {
-    let x = arm_start(c, s, b, position_of(p, 0));
-    let y = arm_start(c, s, b, position_of(p, 1));
-    let z = arm_start(c, s, b, position_of(p, 2));
+    let x = arm_start(c, s, b, position(p, 0));
+    let y = arm_start(c, s, b, position(p, 1));
+    let z = arm_start(c, s, b, position(p, 2));
     let u = rest_start(c, s, slot_edge(p, 0));
     let v = rest_start(c, s, slot_edge(p, 1));
     let w = rest_start(c, s, slot_edge(p, 2));

@@ -37,10 +37,6 @@ lift-half : (f : ℕ → ℕ) (d : ℕ) → half (lift f d) ≡ f (half d)
 unfolding lift
 lift-half f d = omega arith
 
-lift-two : (f : ℕ → ℕ) (x : ℕ) → lift f (2 * x) ≡ 2 * f x
-unfolding lift
-lift-two f x = let e : 2 * x / 2 ≡ x = omega arith in rw e (omega arith)
-
 module _ (N : ℕ) (s t f g : ℕ → ℕ) (R : Relabels N s t f g) where
   lift-lt : (d : ℕ) → d < 2 * N → lift f d < 2 * N
   unfolding lift

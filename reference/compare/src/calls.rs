@@ -8,15 +8,8 @@ use reference::grid::Lists;
 mod c;
 
 /// Those of include/citternblaze_host.h.
-mod host {
-    extern "C" {
-        pub fn citternblaze_bundle_refusal(bytes: *const u8, length: usize) -> u32;
-
-        pub fn citternblaze_bundle_cells(bytes: *const u8, length: usize) -> u64;
-
-        pub fn citternblaze_bundle_edges(bytes: *const u8, length: usize) -> u64;
-    }
-}
+#[path = "../../../include/citternblaze_host.rs"]
+mod host;
 
 // SAFETY of the calls below: each pointer and the length after it are those of
 // one slice, which is lent for the length of the call. What is lent for writing

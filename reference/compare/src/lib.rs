@@ -5,6 +5,8 @@ pub mod bundles;
 
 pub mod calls;
 
+pub mod crowded;
+
 pub mod expected;
 
 pub mod grids;
@@ -12,6 +14,8 @@ pub mod grids;
 pub mod lent;
 
 pub mod placing;
+
+pub mod surfaces;
 
 use std::env;
 use std::str::FromStr;

@@ -6,6 +6,7 @@ use compare::bundles::{
     has_kind, random_bytes, random_lists, seen_again, size, small_bundles, AGAIN, CELL, EDGE, END,
     LOOK, NARROW, STRAY, WIDE,
 };
+use compare::crowded::{at_one_node, equal, high, in_one_tree};
 use compare::lent::{after, answers, answers_in_all, Lent, ANSWER_WORDS};
 use compare::{calls, expected, seed, setting};
 use reference::bundle;
@@ -277,6 +278,59 @@ fn many_looks() {
             assert!(!compare_read(&bytes, [0, 0, 0]));
         }
     }
+}
+
+/// The bundle of these edges, with looks at them from the last to the first, and
+/// where these start.
+fn looked_back(edges: &[[u16; 2]], looks: &[[u16; 2]]) -> (Vec<u8>, usize) {
+    let lists = Sample {
+        cells: Vec::new(),
+        edges: edges.iter().flatten().copied().collect(),
+        counts: (0..edges.len()).map(|edge| (edge % 400) as u16).collect(),
+    };
+    let mut bytes = bundle_of(&lists);
+    bytes.truncate(bytes.len() - END.len());
+    let looks_at = bytes.len();
+    for (count, [u, v]) in looks.iter().rev().enumerate() {
+        for word in [8, 5, *u, *v, count as u16] {
+            bytes.extend(word.to_le_bytes());
+        }
+    }
+    bytes.extend(END);
+    (bytes, looks_at)
+}
+
+/// Looks that are hard to find, in one block and in more: all for edges; one of
+/// them for a pair that is an edge's but for one bit; and one for a pair of the
+/// same list that no edge has.
+#[test]
+fn crowded_looks() {
+    let mut rng = Rng::new(seed("crowded"));
+    let mut refused = 0;
+    for many in [1, 300, 12_288, 13_000] {
+        let lists = [
+            in_one_tree(many + 1, 0),
+            in_one_tree(many + 1, 4),
+            at_one_node(many + 1),
+            equal(many + 1),
+            high(&mut rng, many + 1),
+        ];
+        for pairs in lists {
+            let room = [0, 2 * many, many];
+            let (bytes, looks_at) = looked_back(&pairs[..many], &pairs[..many]);
+            assert!(compare_read(&bytes, room));
+            for _ in 0..4 {
+                let mut bytes = bytes.clone();
+                let bit = rng.below(32);
+                bytes[looks_at + 10 * rng.below(many) + 4 + bit / 8] ^= 1 << (bit % 8);
+                refused += u32::from(!compare_read(&bytes, room));
+            }
+            let (bytes, _) = looked_back(&pairs[..many], &pairs);
+            assert_eq!(compare_read(&bytes, room), pairs[many] == pairs[0]);
+        }
+    }
+    println!("bundles, crowded looks: {refused} of 80 with another bit refused");
+    assert!(refused > 60);
 }
 
 /// What the headers say of the stack.

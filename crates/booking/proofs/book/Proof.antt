@@ -8,7 +8,7 @@ returns : tie.Need-returns
 returns c = walk-from _ (c .before .before .fans-of .ensures .0) (c .enum-told .given .1)
 
 returns-2 : tie.Need-returns-2
-returns-2 c = booked-from _ (c .before .before .before .before .before .fans-of .ensures .0) (c .before .before .before .t .given .1) (c .before .wider .ensures) (c .drawn-beside .ensures .0)
+returns-2 c = booked-from _ (c .before .before .before .before .before .fans-of .ensures .0) (c .before .before .before .t .given .1) (c .before .long32 .ensures .0) (c .drawn-beside .ensures .0)
 
 pub book-spec : {M : Type 1} → statement M
 book-spec =

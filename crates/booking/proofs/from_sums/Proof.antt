@@ -5,10 +5,10 @@ use Rattle.booking.proofs.from_sums.Statement.{statement}
 use Rattle.booking.proofs.from_sums.Tie as tie
 
 of-three-requires : tie.Need-of-three-requires
-of-three-requires c κs = rw (c .before .before .higher2 .ensures, c .before .before .before .higher .ensures, c .lower2 .ensures, c .before .lower .ensures) (in-order (c .before .before .before .before .pre))
+of-three-requires c κs = rw (c .before .before .greatest322 .ensures, c .before .before .before .greatest32 .ensures, c .least322 .ensures, c .before .least32 .ensures) (in-order (c .before .before .before .before .pre))
 
 returns : tie.Need-returns
-returns c = (rw (c .before .before .before .higher2 .ensures, c .before .before .before .before .higher .ensures, c .before .lower2 .ensures, c .before .before .lower .ensures, remains-median _ _ _) at (c .of-three .ensures .0), c .of-three .ensures .1)
+returns c = (rw (c .before .before .before .greatest322 .ensures, c .before .before .before .before .greatest32 .ensures, c .before .least322 .ensures, c .before .before .least32 .ensures, remains-median _ _ _) at (c .of-three .ensures .0), c .of-three .ensures .1)
 
 pub from-sums-spec : {M : Type 1} → statement M
 from-sums-spec =

@@ -27,7 +27,7 @@ sub-more c =
     let f = c .before .before .before .before .figures-of .ensures in
     let p : 0 < a .d2 = omega arith in
     let g = f .end-is ∙ figureLaws (a .d1) (a .d2) p (omega arith) .end in
-    omega (arith, f .triangles-are, c .before .wider .ensures, more-than (a .d1) (a .d2) p (omega arith) (omega (arith, g, gcd-pos (a .d1) (a .d2) (omega arith))))
+    omega (arith, f .triangles-are, c .before .long32 .ensures .0, more-than (a .d1) (a .d2) p (omega arith) (omega (arith, g, gcd-pos (a .d1) (a .d2) (omega arith))))
 
 returns-4 : tie.Need-returns-4
 returns-4 c =
@@ -35,7 +35,7 @@ returns-4 c =
     let f = c .before .before .before .before .figures-of .ensures in
     let p : 0 < a .d2 = omega arith in
     let g = f .end-is ∙ figureLaws (a .d1) (a .d2) p (omega arith) .end in
-    let s = gain-some (a .d1) (a .d2) p (omega arith) (omega (arith, g, gcd-pos (a .d1) (a .d2) (omega arith))) (f .splits-are) (f .triangles-are) (c .before .wider .ensures) in
+    let s = gain-some (a .d1) (a .d2) p (omega arith) (omega (arith, g, gcd-pos (a .d1) (a .d2) (omega arith))) (f .splits-are) (f .triangles-are) (c .before .long32 .ensures .0) in
     record { splits-are = s .0; more-is = s .1 }
 
 pub gain-by-spec : {M : Type 1} → statement M

@@ -31,10 +31,10 @@ mul-n : tie.Need-mul-n Inv-loop μ-loop
 mul-n c = omega (arith, bound (c .before .before .before .before .args .t1) (c .before .loop .n) (c .before .loop .k) (c .before .loop .inv))
 
 add-n : tie.Need-add-n Inv-loop μ-loop
-add-n c = omega (arith, bound (c .before .before .before .before .before .args .t1) (c .before .before .loop .n) (c .before .before .loop .k) (c .before .before .loop .inv), c .wide .ensures .1)
+add-n c = omega (arith, bound (c .before .before .before .before .before .args .t1) (c .before .before .loop .n) (c .before .before .loop .k) (c .before .before .loop .inv), c .wide16 .ensures .1)
 
 loop-again : tie.Need-loop-again Inv-loop μ-loop
-loop-again c = let l = c .before .before .before .before .before .args .t1 in let I = c .before .before .loop .inv in (omega arith, I .1, digits-more (byEdge l) (c .before .before .loop .k) (c .before .before .loop .n) (c .wide .result) (I .2) (c .wide .ensures .0))
+loop-again c = let l = c .before .before .before .before .before .args .t1 in let I = c .before .before .loop .inv in (omega arith, I .1, digits-more (byEdge l) (c .before .before .loop .k) (c .before .before .loop .n) (c .wide16 .result) (I .2) (c .wide16 .ensures .0))
 
 returns-2 : tie.Need-returns-2 Inv-loop μ-loop
 returns-2 c = let l = c .before .before .before .before .args .t1 in let I = c .before .loop .inv in (found-in (byEdge l) (I .1) (c .before .loop .n) (c .before .loop .k) (I .2) (omega (arith, I .0)), omega (arith, bound l (c .before .loop .n) (c .before .loop .k) I))

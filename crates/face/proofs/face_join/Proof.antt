@@ -19,8 +19,8 @@ join-on-requires c κs =
       corners = record {
         edge = d;
         own = c .before .before .before .before .before .before .count-of .ensures;
-        at-lower = corner-read _ _ _ (low d) r (c .before .before .before .lower-end .ensures) (c .before .before .corner-at .ensures);
-        at-upper = corner-read _ _ _ (high d) r (c .before .upper-end .ensures) (c .corner-at2 .ensures);
+        at-lower = corner-read _ _ _ (low d) r (c .before .before .before .lower-end .ensures .0) (c .before .before .corner-at .ensures);
+        at-upper = corner-read _ _ _ (high d) r (c .before .upper-end .ensures .0) (c .corner-at2 .ensures);
       };
       there = c .before .before .before .before .before .if1 .left;
     }

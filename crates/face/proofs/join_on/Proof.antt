@@ -11,7 +11,7 @@ sub-stand-of : tie.Need-sub-stand-of
 sub-stand-of c = upper-fits (c .pre)
 
 partner-of-requires : tie.Need-partner-of-requires
-partner-of-requires c κs = low-at (c .before .before .before .before .pre) (c .lower-end .ensures) (stands _ _ _ Low (c .before .before .before .stand-of .ensures) (c .before .enum-told .given .1))
+partner-of-requires c κs = low-at (c .before .before .before .before .pre) (c .lower-end .ensures .0) (stands _ _ _ Low (c .before .before .before .stand-of .ensures) (c .before .enum-told .given .1))
 
 sub-partner-of : tie.Need-sub-partner-of
 sub-partner-of c = omega (arith, c .before .before .before .before .pre .there)
@@ -20,7 +20,7 @@ sub-partner-of-2 : tie.Need-sub-partner-of-2
 sub-partner-of-2 c = omega (arith, c .before .before .before .before .pre .there)
 
 partner-of-requires-2 : tie.Need-partner-of-requires-2
-partner-of-requires-2 c κs = high-at (c .before .before .before .before .pre) (c .upper-end .ensures) (stands _ _ _ High (c .before .before .before .stand-of .ensures) (c .before .enum-told2 .given .1))
+partner-of-requires-2 c κs = high-at (c .before .before .before .before .pre) (c .upper-end .ensures .0) (stands _ _ _ High (c .before .before .before .stand-of .ensures) (c .before .enum-told2 .given .1))
 
 add-t17 : tie.Need-add-t17
 add-t17 c = omega (arith, c .before .before .before .pre .there)
@@ -32,10 +32,10 @@ why-of-requires : tie.Need-why-of-requires
 why-of-requires c κs = own-within (c .before .before .before .pre)
 
 returns : tie.Need-returns
-returns c = c .partner-of .ensures ∙ sym (low-join (c .before .before .before .before .before .pre) (c .before .lower-end .ensures) (stands _ _ _ Low (c .before .before .before .before .stand-of .ensures) (c .before .before .enum-told .given .1)))
+returns c = c .partner-of .ensures ∙ sym (low-join (c .before .before .before .before .before .pre) (c .before .lower-end .ensures .0) (stands _ _ _ Low (c .before .before .before .before .stand-of .ensures) (c .before .before .enum-told .given .1)))
 
 returns-2 : tie.Need-returns-2
-returns-2 c = c .partner-of2 .ensures ∙ sym (high-join (c .before .before .before .before .before .pre) (c .before .upper-end .ensures) (stands _ _ _ High (c .before .before .before .before .stand-of .ensures) (c .before .before .enum-told2 .given .1)))
+returns-2 c = c .partner-of2 .ensures ∙ sym (high-join (c .before .before .before .before .before .pre) (c .before .upper-end .ensures .0) (stands _ _ _ High (c .before .before .before .before .stand-of .ensures) (c .before .before .enum-told2 .given .1)))
 
 returns-3 : tie.Need-returns-3
 returns-3 c = let (W, z) = (stands _ _ _ Up (c .before .before .stand-of .ensures) (c .enum-told3 .given .1)) in sym (up-join (c .before .before .before .pre) W z)

@@ -6,10 +6,10 @@ use Rattle.face.proofs.kth_of.Statement.{statement}
 use Rattle.face.proofs.kth_of.Tie as tie
 
 returns : tie.Need-returns
-returns c = sym (kth-at _ _ _ _ _ _ (omega (arith, c .if1 .taken, c .before .lower-end .ensures)))
+returns c = sym (kth-at _ _ _ _ _ _ (omega (arith, c .if1 .taken, c .before .lower-end .ensures .0)))
 
 returns-2 : tie.Need-returns-2
-returns-2 c = rw (c .count-of .ensures) (sym (kth-off _ _ _ _ _ _ (λ z. c .before .if1 .left (z ∙ sym (c .before .before .lower-end .ensures)))))
+returns-2 c = rw (c .count-of .ensures) (sym (kth-off _ _ _ _ _ _ (λ z. c .before .if1 .left (z ∙ sym (c .before .before .lower-end .ensures .0)))))
 
 pub kth-of-spec : {M : Type 1} → statement M
 kth-of-spec =

@@ -22,10 +22,10 @@ unfolding middle sumTo ofBits ofInt
 returns c = let a = c .before .before .before .before .before .args in let z : length (now (a .points)) ≡ 0 = c .before .before .if1 .taken in c .over .ensures ∙ ap (λ (x : Place). divided x (floatOf 0)) (c .before .load .ensures ∙ ap (placeAt (now (a .list))) (sym (List·getD-eq-default (now (a .points)) 0 (omega (arith, z))))) ∙ ap (λ n. middle (λ k. placeAt (now (a .list)) (getD (now (a .points)) k 0)) n) (sym z)
 
 loop-holds : tie.Need-loop-holds Inv-loop μ-loop
-loop-holds c = let a = c .before .before .before .before .before .before .args in (omega arith, omega (arith, c .before .before .before .if1 .left), refl, c .load2 .ensures ∙ ap (placeAt (now (a .list))) (c .before .wide .ensures) ∙ sum-one (λ k. placeAt (now (a .list)) (getD (now (a .points)) k 0)))
+loop-holds c = let a = c .before .before .before .before .before .before .args in (omega arith, omega (arith, c .before .before .before .if1 .left), refl, c .load2 .ensures ∙ ap (placeAt (now (a .list))) (c .before .wide32 .ensures .0) ∙ sum-one (λ k. placeAt (now (a .list)) (getD (now (a .points)) k 0)))
 
 loop-again : tie.Need-loop-again Inv-loop μ-loop
-loop-again c = let a = c .before .before .before .before .before .before .before .before .before .before .before .before .args in let l = c .before .before .before .before .before .loop in (omega arith, omega arith, l .inv .2, c .plus .ensures ∙ sum-more (λ k. placeAt (now (a .list)) (getD (now (a .points)) k 0)) (l .i) (l .inv .0) (l .inv .3) (c .before .load3 .ensures ∙ ap (placeAt (now (a .list))) (c .before .before .wide2 .ensures)))
+loop-again c = let a = c .before .before .before .before .before .before .before .before .before .before .before .before .args in let l = c .before .before .before .before .before .loop in (omega arith, omega arith, l .inv .2, c .plus .ensures ∙ sum-more (λ k. placeAt (now (a .list)) (getD (now (a .points)) k 0)) (l .i) (l .inv .0) (l .inv .3) (c .before .load3 .ensures ∙ ap (placeAt (now (a .list))) (c .before .before .wide322 .ensures .0)))
 
 returns-2 : tie.Need-returns-2 Inv-loop μ-loop
 unfolding middle

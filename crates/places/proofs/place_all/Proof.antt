@@ -63,6 +63,6 @@ place-all-spec =
     returns
     (λ c. search needs)
     place-crossings-requires
-    (λ c κs. c .before .before .before .before .before .before .before .before .before .extra-of .ensures .inner-are)
+    (λ c κs. (c .before .before .before .before .before .before .before .before .before .extra-of .ensures .inner-are, c .before .before .before .before .before .before .before .before .count-fans .ensures .0))
     (λ c. search needs)
     returns-2)

@@ -11,17 +11,17 @@ returns c = let a = c .before .before .before .before .args in byte-free (now (a
 returns-2 : tie.Need-returns-2
 returns-2 c =
     let a = c .before .before .before .before .before .before .before .args in
-    root-read (now (a .links)) (now (a .area)) (a .x) (c .before .before .before .if1 .left) (c .before .wide .result) (c .before .wide .ensures .0) (c .if2 .taken)
+    root-read (now (a .links)) (now (a .area)) (a .x) (c .before .before .before .if1 .left) (c .before .wide16 .result) (c .before .wide16 .ensures .0) (c .if2 .taken)
 
-shared-slice-read-size : tie.Need-shared-slice-read-size
-shared-slice-read-size c =
+shared-slice-read-wide8 : tie.Need-shared-slice-read-wide8
+shared-slice-read-wide8 c =
     let P = c .before .before .before .before .before .before .before .before .pre in
-    omega (arith, P .0 .room, P .1, c .before .before .wide .ensures .0, P .0 .forest .low-parent (c .before .before .before .before .before .before .before .before .args .x) (P .1, c .before .before .before .before .if1 .left))
+    omega (arith, P .0 .room, P .1, c .before .before .wide16 .ensures .0, P .0 .forest .low-parent (c .before .before .before .before .before .before .before .before .args .x) (P .1, c .before .before .before .before .if1 .left))
 
 returns-3 : tie.Need-returns-3
 returns-3 c =
     let a = c .before .before .before .before .before .before .before .before .before .args in
-    child-read (now (a .links)) (now (a .area)) (a .x) (c .before .before .before .before .before .if1 .left) (c .before .before .before .wide .result) (c .before .before .before .wide .ensures .0) (c .before .before .if2 .left) (c .size .result) (c .size .ensures .0)
+    child-read (now (a .links)) (now (a .area)) (a .x) (c .before .before .before .before .before .if1 .left) (c .before .before .before .wide16 .result) (c .before .before .before .wide16 .ensures .0) (c .before .before .if2 .left) (c .wide8 .result) (c .wide8 .ensures .0)
 
 pub byte-of-spec : {M : Type 1} → statement M
 byte-of-spec =
@@ -34,7 +34,7 @@ byte-of-spec =
     (λ c. search needs)
     (λ c κs. search needs)
     returns-2
-    shared-slice-read-size
+    shared-slice-read-wide8
     (λ c κs. search needs)
     (λ c. search needs)
     (λ c. search needs)

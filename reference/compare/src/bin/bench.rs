@@ -8,6 +8,7 @@ use std::iter;
 use std::time::{Duration, Instant};
 
 use compare::bundles::{written, END};
+use compare::crowded;
 use compare::grids::{dealt, twisted, winding_cell};
 use compare::lent::ANSWER_WORDS;
 use compare::placing::{placing, Kind, Placing};
@@ -240,7 +241,7 @@ fn shading_times(grid: &Sample, patience: Duration) -> [Times; WAYS] {
     times
 }
 
-/// The lists' bundle, and the same with a look at each edge, in any order.
+/// The bundle of the lists, and the same with a look at each edge, in any order.
 fn with_looks(lists: &Sample, rng: &mut Rng) -> [Vec<u8>; 2] {
     let plain = written(lists).expect("formed lists");
     let mut looks: Vec<[u16; 3]> = lists
@@ -258,6 +259,32 @@ fn with_looks(lists: &Sample, rng: &mut Rng) -> [Vec<u8>; 2] {
     }
     looked.extend(END);
     [plain, looked]
+}
+
+/// Lists of edges alone, with small counts.
+fn edges_alone(pairs: &[[u16; 2]]) -> Sample {
+    Sample {
+        cells: Vec::new(),
+        edges: pairs.iter().flatten().copied().collect(),
+        counts: (0..pairs.len()).map(|edge| (edge % 300) as u16).collect(),
+    }
+}
+
+/// Times of the proved bundle reader on two bundles of as many edges.
+fn reader_times(edges: usize, bundles: [&[u8]; 2], patience: Duration) -> [Times; 2] {
+    let mut cells = vec![0; 4 * MAX_CELLS];
+    let (mut ends, mut counts) = (vec![0; 2 * edges], vec![0; edges]);
+    let mut answer = [1; ANSWER_WORDS];
+    times(patience, |way| {
+        calls::bundle_read(
+            bundles[way],
+            &mut cells,
+            &mut ends,
+            &mut counts,
+            &mut answer,
+        );
+        assert_eq!(answer[0], 0);
+    })
 }
 
 /// Times of the bundle reader on each of the two bundles: the proved call, then
@@ -449,6 +476,27 @@ impl Bench {
                 joined.best / reference.best,
             );
         }
+    }
+
+    /// The proved bundle reader on a bundle with a look at each edge, over an
+    /// ordinary one of as many edges and looks.
+    fn crowded(&self, name: &str, ordinary: &Sample, pairs: &[[u16; 2]], rng: &mut Rng) {
+        if !name.starts_with(&self.only) {
+            return;
+        }
+        let edges = pairs.len();
+        assert_eq!(ordinary.counts.len(), edges);
+        let [_, plain] = with_looks(ordinary, rng);
+        let [_, crowded] = with_looks(&edges_alone(pairs), rng);
+        let [a, b] = reader_times(edges, [&plain, &crowded], self.patience);
+        println!(
+            "{name}: {edges} edges and as many looks: {:8.1} us, an ordinary bundle {:8.1} us, \
+             ratio {:.2} (of medians {:.2})",
+            b.best,
+            a.best,
+            b.best / a.best,
+            b.median / a.median,
+        );
     }
 
     /// The bundle reader without and with looks.
@@ -746,6 +794,31 @@ fn bundles(bench: &Bench) {
     bench.looks("9 bundle, looks, box", &boxed, &mut rng);
 }
 
+/// Bundles whose looks are hard to find, over ordinary ones: a box, cells that
+/// share nothing, and any pairs, in more looks than a block has.
+fn crowded_bundles(bench: &Bench) {
+    let mut rng = Rng::new(12);
+    let boxed = part_of_box(MAX_CELLS).with_counts(&mut rng, 0, 20);
+    let apart = separate(MAX_CELLS as u16).with_counts(&mut rng, 0, 300);
+    let any = edges_alone(&crowded::low(&mut rng, 30_000));
+    for ordinary in [boxed, apart, any] {
+        let many = ordinary.counts.len();
+        let mut time = |what: &str, pairs: &[[u16; 2]]| {
+            let name = format!("worst bundle, {what}");
+            bench.crowded(&name, &ordinary, pairs, &mut rng);
+        };
+        for low in 0..8 {
+            let pairs = crowded::in_one_tree(many, low);
+            if pairs.len() == many {
+                time(&format!("one remainder, {low} equal bits"), &pairs);
+            }
+        }
+        time("equal edges", &crowded::equal(many));
+        time("edges at one node", &crowded::at_one_node(many));
+        time("nodes above 4,095", &crowded::high(&mut Rng::new(13), many));
+    }
+}
+
 /// Settings of as many cells as a grid may have, and of one.
 fn settings(bench: &Bench) {
     let mut rng = Rng::new(6);
@@ -846,6 +919,7 @@ fn main() {
     lists(&bench);
     shadings(&bench);
     bundles(&bench);
+    crowded_bundles(&bench);
     bookings(&bench);
     entries(&bench);
     settings(&bench);

@@ -16,8 +16,8 @@ abbrev μ-loop : tie.MeasureT-loop
 
 loop-holds : tie.Need-loop-holds Inv-loop μ-loop
 loop-holds c =
-    let a = c .before .wide .ensures in
-    let b = c .wide2 .ensures in
+    let a = c .before .word16 .ensures in
+    let b = c .word162 .ensures in
     (none-yet _ _ _ _ (a .0) (b .0) (omega arith) (omega arith), omega arith, omega arith)
 
 figures-at-requires : tie.Need-figures-at-requires Inv-loop μ-loop
@@ -31,9 +31,9 @@ returns c = all-added (c .before .before .before .loop .inv .0) (inr (c .before 
 loop-again : tie.Need-loop-again Inv-loop μ-loop
 loop-again c =
     let I = c .before .before .before .before .before .before .before .loop .inv in
-    let a = c .before .before .before .before .wider .ensures in
-    let b = c .before .before .before .wider2 .ensures in
-    (rw (a, b) (more-added (I .0) (omega arith) (λ e. c .before .before .before .before .before .if1 .left e) (c .before .before .less .ensures) (c .before .higher .ensures) (c .lower .ensures)), I .1, I .2)
+    let a = c .before .before .before .before .long32 .ensures .0 in
+    let b = c .before .before .before .long322 .ensures .0 in
+    (rw (a, b) (more-added (I .0) (omega arith) (λ e. c .before .before .before .before .before .if1 .left e) (c .before .before .minus32 .ensures) (c .before .greatest32 .ensures) (c .least32 .ensures)), I .1, I .2)
 
 figures-at-requires-2 : tie.Need-figures-at-requires-2 Inv-loop μ-loop
 figures-at-requires-2 c κs =
@@ -46,10 +46,10 @@ returns-2 c = all-added (c .before .before .loop .inv .0) (inl (omega arith)) (c
 -- what is added fits
 module _ where
   added : tie.Need-add-inner Inv-loop μ-loop
-  added c = let I = c .before .before .before .loop .inv in omega (arith, c .wider .ensures, I .0 .inner-few, I .0 .steps, I .0 .x-few, I .0 .y-few, I .1, I .2)
+  added c = let I = c .before .before .before .loop .inv in omega (arith, c .long32 .ensures .0, I .0 .inner-few, I .0 .steps, I .0 .x-few, I .0 .y-few, I .1, I .2)
 
   added-too : tie.Need-add-triangles Inv-loop μ-loop
-  added-too c = let I = c .before .before .before .before .loop .inv in omega (arith, c .wider2 .ensures, I .0 .triangles-few, I .0 .steps, I .0 .x-few, I .0 .y-few, I .1, I .2)
+  added-too c = let I = c .before .before .before .before .loop .inv in omega (arith, c .long322 .ensures .0, I .0 .triangles-few, I .0 .steps, I .0 .x-few, I .0 .y-few, I .1, I .2)
 
 pub figures-of-spec : {M : Type 1} → statement M
 figures-of-spec =
@@ -59,7 +59,7 @@ figures-of-spec =
     μ-loop
     (λ c κs. tt)
     (λ c κs. tt)
-    (λ c. omega (arith, c .wide2 .ensures, c .before .wide .ensures))
+    (λ c. omega (arith, c .word162 .ensures, c .before .word16 .ensures))
     loop-holds
     figures-at-requires
     returns

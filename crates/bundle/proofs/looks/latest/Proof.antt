@@ -1,14 +1,21 @@
 use mathlib.Core.Path.{_∙_}
-use native.Mathlib.Nat.{mod-lt}
-use native.Mathlib.Omega.{arith}
+use Rattle.bundle.proofs.Trees.{sought-all}
 use borrow.Author.Needs.{needs}
 use Rattle.bundle.proofs.looks.latest.Statement.{statement}
 use Rattle.bundle.proofs.looks.latest.Tie as tie
 
-walk-requires : tie.Need-walk-requires
-walk-requires c κs =
-    let p = c .before .before .before .before .before .pre in
-    record { chained = p .chained; within = omega arith; starts = c .wide .ensures ∙ p .headed .at _ (mod-lt _ (omega arith)) }
+shared-slice-read-wide : tie.Need-shared-slice-read-wide
+shared-slice-read-wide c = c .before .seek .ensures .within
+
+returns : tie.Need-returns
+returns c = c .wide .ensures ∙ sought-all _ _ _ _ _ (c .before .before .seek .ensures)
 
 pub latest-spec : {M : Type 1} → statement M
-latest-spec = tie.close (tie.spec (λ c. search needs) (λ c. search needs) (λ c κs. search needs) walk-requires (λ c. search needs))
+latest-spec =
+    tie.close
+    (tie.spec
+    (λ c κs. search needs)
+    (λ c. search needs)
+    shared-slice-read-wide
+    (λ c κs. search needs)
+    returns)

@@ -1,33 +1,21 @@
-use mathlib.Core.Path.{refl, ap}
+use Prim.Native.Nat.{_+_, _*_}
 use native.Mathlib.Omega.{arith}
-use lib.ListN.{length}
+use Rattle.counting.proofs.Chains.{zeros}
+use Rattle.bundle.specs.Trees.{trees, branches}
+use Rattle.bundle.specs.Looked.{blockLooks}
 use borrow.Author.Needs.{needs}
-use Rattle.counting.proofs.Stored.{length-filled}
-use Rattle.counting.proofs.Chains.{filled-table}
 use Rattle.bundle.proofs.looks.replace_in.Statement.{statement}
 use Rattle.bundle.proofs.looks.replace_in.Tie as tie
 
-look-keys-requires : tie.Need-look-keys-requires
-look-keys-requires c κs = let p = c .before .before .before .pre .0 in record { part = p .part; room = omega (arith, p .few) }
-
-chain-requires : tie.Need-chain-requires
-chain-requires c κs =
-    let p = c .before .before .before .before .before .before .before .before .pre .0 in
-    record { keyed = omega (arith, p .few, simp length-filled at (ap length (c .before .before .before .before .look-keys .ensures))); room = omega (arith, p .few); small = omega (arith, p .few); blank = refl }
+grow-requires : tie.Need-grow-requires
+grow-requires c κs =
+    let p = c .before .before .before .before .pre .0 in
+    record { part = p .part; few = p .few; room = omega (arith, p .few); blank = zeros (trees + branches * blockLooks); topsRoom = omega (arith, p .few) }
 
 put-counts-requires : tie.Need-put-counts-requires
 put-counts-requires c κs =
-    let p = c .before .before .before .before .before .before .before .before .before .before .before .before .before .before .before .pre .0 in
-    record {
-      listed = p .listed;
-      part = p .part;
-      keyed = filled-table _ _ _ _ (c .before .before .before .before .before .before .before .before .before .before .before .look-keys .ensures) (omega (arith, p .few));
-      linked = c .before .before .before .before .before .before .chain .ensures;
-      counted = c .before .before .before .before .before .before .before .before .before .before .before .before .before .before .before .pre .1;
-    }
-
-same-length : tie.Need-same-length
-same-length c = search needs
+    let p = c .before .before .before .before .before .before .before .before .before .pre .0 in
+    record { listed = p .listed; planted = record { part = p .part; tree = c .before .before .before .before .grow .ensures .0 }; counted = c .before .before .before .before .before .before .before .before .before .pre .1 }
 
 returns : tie.Need-returns
 returns c = c .before .before .put-counts .ensures
@@ -37,14 +25,9 @@ replace-in-spec =
     tie.close
     (tie.spec
     (λ c. search needs)
-    look-keys-requires
     (λ c. search needs)
-    (λ c. search needs)
-    (λ c. search needs)
-    chain-requires
-    (λ c. search needs)
-    (λ c. search needs)
+    grow-requires
     (λ c. search needs)
     put-counts-requires
-    same-length
+    (λ c. search needs)
     returns)

@@ -25,10 +25,10 @@ loop-holds : tie.Need-loop-holds Inv-loop μ-loop
 loop-holds c = (omega arith, summed-none _ _)
 
 mul-t : tie.Need-mul-t Inv-loop μ-loop
-mul-t c = omega (arith, product _ _ (c .before .before .wide .ensures .1) (c .wide8 .ensures .1))
+mul-t c = omega (arith, product _ _ (c .before .before .wide16 .ensures .1) (c .wide8 .ensures .1))
 
 add-t : tie.Need-add-t Inv-loop μ-loop
-add-t c = omega (arith, product _ _ (c .before .before .wide .ensures .1) (c .wide8 .ensures .1), c .before .before .before .before .before .loop .inv .1 .few)
+add-t c = omega (arith, product _ _ (c .before .before .wide16 .ensures .1) (c .wide8 .ensures .1), c .before .before .before .before .before .loop .inv .1 .few)
 
 loop-again : tie.Need-loop-again Inv-loop μ-loop
 unfolding trianglesAt trianglesFor
@@ -36,7 +36,7 @@ loop-again c =
     let L = c .before .before .before .before .before .loop in
     let e = c .before .before .before .before .before .before .table-rows .ensures in (
       omega arith,
-      summed-more _ _ (L .inv .1) _ (ap₂ (λ a b. a * b) (c .before .before .wide .ensures .0) (c .wide8 .ensures .0 ∙ ap (λ l. getD (getD l (L .n / 9) []) (2 * (L .n % 9) + 1) 0) e ∙ triangles-at (L .n) (omega arith))) (product _ _ (c .before .before .wide .ensures .1) (c .wide8 .ensures .1)),
+      summed-more _ _ (L .inv .1) _ (ap₂ (λ a b. a * b) (c .before .before .wide16 .ensures .0) (c .wide8 .ensures .0 ∙ ap (λ l. getD (getD l (L .n / 9) []) (2 * (L .n % 9) + 1) 0) e ∙ triangles-at (L .n) (omega arith))) (product _ _ (c .before .before .wide16 .ensures .1) (c .wide8 .ensures .1)),
     )
 
 returns : tie.Need-returns Inv-loop μ-loop

@@ -14,16 +14,16 @@ returns c =
     let a = c .before .before .before .before .before .before .before .args in
     c .over .ensures
     ∙ ap (λ (x : Place). divided x (floatOf 2)) (c .before .plus .ensures
-    ∙ ap₂ added (c .before .before .before .before .corner-place .ensures ∙ ap (cornerPlace (now (a .nodes)) (a .c)) (c .before .before .before .before .before .lower-end .ensures .0)) (c .before .before .corner-place2 .ensures ∙ ap (cornerPlace (now (a .nodes)) (a .c)) (c .before .before .before .upper-end .ensures .0)))
+    ∙ ap₂ added (c .before .before .before .before .corner-place .ensures ∙ ap (cornerPlace (now (a .nodes)) (a .c)) (c .before .before .before .before .before .low-end .ensures .0)) (c .before .before .corner-place2 .ensures ∙ ap (cornerPlace (now (a .nodes)) (a .c)) (c .before .before .before .high-end .ensures .0)))
 
 pub half-along-spec : {M : Type 1} → statement M
 half-along-spec =
     tie.close
     (tie.spec
     (λ c κs. search needs)
-    (λ c κs. c .lower-end .ensures .1)
+    (λ c κs. c .low-end .ensures .1)
     (λ c κs. search needs)
-    (λ c κs. c .upper-end .ensures .1)
+    (λ c κs. c .high-end .ensures .1)
     (λ c κs. search needs)
     (λ c κs. search needs)
     returns)

@@ -12,7 +12,7 @@ returns-3 : tie.Need-returns-3
 returns-3 c =
     let c-args = c .before .before .before .args in
     let c-pre = c .before .before .before .pre in
-    let z : c-args .w ≡ 2 = omega (arith, c-pre, c .before .before .if1 .left, c .before .if2 .left) in c .wide3 .ensures ∙ ap (λ (w : ℕ). getD (cornerList (c-args .c)) w 0) (sym z)
+    let z : c-args .w ≡ 2 = omega (arith, c-pre, c .before .before .if1 .left, c .before .if2 .left) in c .wide163 .ensures .0 ∙ ap (λ (w : ℕ). getD (cornerList (c-args .c)) w 0) (sym z)
 
 pub corner-of-spec : {M : Type 1} → statement M
 corner-of-spec =

@@ -37,7 +37,7 @@ lane-at-requires c κs =
     let c-count-at2 = c .before .before .before .count-at2 in
     let c-count-at = c .before .before .before .before .count-at in
     let c-pre = c .before .before .before .before .before .before .before .before .before .pre in
-    (c-pre .0, (place-in (c-pre .0) _ 2 (c-pre .1) (omega arith), (corners-with (c-pre .0) _ (c-count-at .ensures) (c-count-at2 .ensures) (c .before .before .count-at3 .ensures) (c .before .flat-corners .ensures), low-end (c .lower-of .ensures) (place-edge (c-pre .0) _ (c-pre .1)))))
+    (c-pre .0, (place-in (c-pre .0) _ 2 (c-pre .1) (omega arith), (corners-with (c-pre .0) _ (c-count-at .ensures) (c-count-at2 .ensures) (c .before .before .count-at3 .ensures) (c .before .flat-corners .ensures), low-end (c .lower-end .ensures .0) (place-edge (c-pre .0) _ (c-pre .1)))))
 
 lane-at-requires-2 : tie.Need-lane-at-requires-2
 lane-at-requires-2 c κs =
@@ -46,7 +46,7 @@ lane-at-requires-2 c κs =
     let c-count-at2 = c .before .before .before .before .before .count-at2 in
     let c-count-at = c .before .before .before .before .before .before .count-at in
     let c-pre = c .before .before .before .before .before .before .before .before .before .before .before .pre in
-    (c-pre .0, (place-in (c-pre .0) _ 2 (c-pre .1) (omega arith), (corners-with (c-pre .0) _ (c-count-at .ensures) (c-count-at2 .ensures) (c-count-at3 .ensures) (c-flat-corners .ensures), high-end (c .upper-of .ensures) (place-edge (c-pre .0) _ (c-pre .1)))))
+    (c-pre .0, (place-in (c-pre .0) _ 2 (c-pre .1) (omega arith), (corners-with (c-pre .0) _ (c-count-at .ensures) (c-count-at2 .ensures) (c-count-at3 .ensures) (c-flat-corners .ensures), high-end (c .upper-end .ensures .0) (place-edge (c-pre .0) _ (c-pre .1)))))
 
 count-at-requires-4 : tie.Need-count-at-requires-4
 count-at-requires-4 c κs =
@@ -60,20 +60,21 @@ land-requires c κs =
 
 returns : tie.Need-returns
 returns c =
-    let c-wide = c .before .wide in
+    let c-wide = c .before .wide16 in
     let c-count-at4 = c .before .before .count-at4 in
     let c-lane-at2 = c .before .before .before .lane-at2 in
-    let c-upper-of = c .before .before .before .before .upper-of in
+    let c-upper-end = c .before .before .before .before .upper-end in
     let c-lane-at = c .before .before .before .before .before .lane-at in
-    let c-lower-of = c .before .before .before .before .before .before .lower-of in
+    let c-lower-end = c .before .before .before .before .before .before .lower-end in
     let c-pre = c .before .before .before .before .before .before .before .before .before .before .before .before .before .before .before .pre in
-    guide-made (c-pre .0) _ (c-pre .1) _ (c-lower-of .ensures) (c-lane-at .ensures) (c-upper-of .ensures) (c-lane-at2 .ensures) (c-wide .ensures ∙ c-count-at4 .ensures) (c .land .ensures .0) (c .land .ensures .1)
+    guide-made (c-pre .0) _ (c-pre .1) _ (c-lower-end .ensures .0) (c-lane-at .ensures) (c-upper-end .ensures .0) (c-lane-at2 .ensures) (c-wide .ensures .0 ∙ c-count-at4 .ensures) (c .land .ensures .0) (c .land .ensures .1)
 
 pub guide-at-spec : {M : Type 1} → statement M
 guide-at-spec =
     tie.close
     (tie.spec
     mul-b
+    (λ c. search needs)
     count-at-requires
     add-count-at
     count-at-requires-2

@@ -39,13 +39,13 @@ add-s c =
     let c-loop = c .before .before .before .loop in
     let c-args = c .before .before .before .before .before .before .args in
     let c-pre = c .before .before .before .before .before .before .pre in
-    omega (arith, c-pre .1, c-loop .inv .1, c .wide .ensures, start-next (c-args .counts .now) (c-loop .e), start-mono (c-args .counts .now) (c-loop .e + 1) (length (c-args .counts .now)) (omega arith))
+    omega (arith, c-pre .1, c-loop .inv .1, c .wide16 .ensures .0, start-next (c-args .counts .now) (c-loop .e), start-mono (c-args .counts .now) (c-loop .e + 1) (length (c-args .counts .now)) (omega arith))
 
 loop-again : tie.Need-loop-again Inv-loop μ-loop
 loop-again c =
     let c-loop = c .before .before .before .loop in
     let c-args = c .before .before .before .before .before .before .args in
-    (omega arith, omega (arith, start-next (c-args .counts .now) (c-loop .e), c .wide .ensures, c-loop .inv .1), filled-more (start (c-args .counts .now)) _ _ _ _ (c-loop .inv .2) (c-loop .inv .1))
+    (omega arith, omega (arith, start-next (c-args .counts .now) (c-loop .e), c .wide16 .ensures .0, c-loop .inv .1), filled-more (start (c-args .counts .now)) _ _ _ _ (c-loop .inv .2) (c-loop .inv .1))
 
 same-length : tie.Need-same-length Inv-loop μ-loop
 same-length c =

@@ -8,7 +8,7 @@ use Rattle.flat.proofs.triangles.node_at.Tie as tie
 returns : tie.Need-returns
 returns c =
     let c-args = c .before .before .before .args in
-    (c .wide .ensures, omega (arith, c .wide .ensures, c .before .shared-slice-known2 .given (3 * c-args .f + c-args .i)))
+    (c .wide16 .ensures .0, omega (arith, c .wide16 .ensures .0, c .before .shared-slice-known2 .given (3 * c-args .f + c-args .i)))
 
 pub node-at-spec : {M : Type 1} → statement M
 node-at-spec =

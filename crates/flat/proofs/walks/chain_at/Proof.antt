@@ -12,11 +12,11 @@ mul-run c = omega (arith, c .before .pre .0 .few, c .before .pre .1 .0)
 run-requires : tie.Need-run-requires
 run-requires c κs = (c .before .pre .0, omega (arith, c .before .pre .1 .0))
 
-mul-size : tie.Need-mul-size
-mul-size c = omega (arith, ran-lt _ _ (c .run .ensures), c .before .before .pre .0 .few)
+mul-wide32 : tie.Need-mul-wide32
+mul-wide32 c = omega (arith, ran-lt _ _ (c .run .ensures), c .before .before .pre .0 .few)
 
-shared-slice-read-size : tie.Need-shared-slice-read-size
-shared-slice-read-size c = ran-read (c .before .before .before .pre .0) (c .before .run .ensures)
+shared-slice-read-wide32 : tie.Need-shared-slice-read-wide32
+shared-slice-read-wide32 c = ran-read (c .before .before .before .pre .0) (c .before .run .ensures)
 
 mul-if1 : tie.Need-mul-if1
 mul-if1 c = omega (arith, c .before .before .before .before .pre .0 .few, c .before .before .before .before .pre .1 .0)
@@ -34,7 +34,7 @@ returns : tie.Need-returns
 returns c =
     let c-run = c .before .before .before .run in
     let c-pre = c .before .before .before .before .before .pre in
-    closed-finds _ _ (c-pre .0 .turns) _ (c-pre .1 .0) (c-pre .1 .1) (c-run .ensures) (ran-entry (c-pre .0) (c-run .ensures) (c .before .size .ensures) ∙ c .if1 .taken)
+    closed-finds _ _ (c-pre .0 .turns) _ (c-pre .1 .0) (c-pre .1 .1) (c-run .ensures) (ran-entry (c-pre .0) (c-run .ensures) (c .before .wide32 .ensures .0) ∙ c .if1 .taken)
 
 mul-run-2 : tie.Need-mul-run-2
 mul-run-2 c = omega (arith, c .before .before .before .before .before .pre .0 .few, c .before .before .before .before .before .pre .1 .0)
@@ -60,10 +60,10 @@ lower-end-requires c κs =
 returns-2 : tie.Need-returns-2
 returns-2 c =
     let c-if1 = c .before .before .before .if1 in
-    let c-size = c .before .before .before .before .size in
+    let c-size = c .before .before .before .before .wide32 in
     let c-run = c .before .before .before .before .before .before .run in
     let c-pre = c .before .before .before .before .before .before .before .before .pre in
-    rw (c .before .path-size .ensures, c .lower-end .ensures) (open-finds _ _ (c-pre .0 .turns) _ (c-pre .1 .0) (c-pre .1 .1) (c-run .ensures) (c .before .before .run2 .ensures) (λ z. c-if1 .left (sym (ran-entry (c-pre .0) (c-run .ensures) (c-size .ensures)) ∙ z)))
+    rw (c .before .path-size .ensures, c .lower-end .ensures) (open-finds _ _ (c-pre .0 .turns) _ (c-pre .1 .0) (c-pre .1 .1) (c-run .ensures) (c .before .before .run2 .ensures) (λ z. c-if1 .left (sym (ran-entry (c-pre .0) (c-run .ensures) (c-size .ensures .0)) ∙ z)))
 
 pub chain-at-spec : {M : Type 1} → statement M
 chain-at-spec =
@@ -71,8 +71,8 @@ chain-at-spec =
     (tie.spec
     mul-run
     run-requires
-    mul-size
-    shared-slice-read-size
+    mul-wide32
+    shared-slice-read-wide32
     (λ c κs. search needs)
     mul-if1
     add-t18

@@ -16,17 +16,17 @@ abbrev μ-loop : tie.MeasureT-loop
 loop-holds : tie.Need-loop-holds Inv-loop μ-loop
 loop-holds c = running-none _ _ _ (c .before .pre .1)
 
-mul-size : tie.Need-mul-size Inv-loop μ-loop
-mul-size c = omega (arith, running-lt _ _ (c .loop .inv), c .before .before .pre .0 .few)
+mul-wide32 : tie.Need-mul-wide32 Inv-loop μ-loop
+mul-wide32 c = omega (arith, running-lt _ _ (c .loop .inv), c .before .before .pre .0 .few)
 
-shared-slice-read-size : tie.Need-shared-slice-read-size Inv-loop μ-loop
-shared-slice-read-size c = run-read (c .before .before .before .pre .0) (c .before .loop .inv)
+shared-slice-read-wide32 : tie.Need-shared-slice-read-wide32 Inv-loop μ-loop
+shared-slice-read-wide32 c = run-read (c .before .before .before .pre .0) (c .before .loop .inv)
 
 returns : tie.Need-returns Inv-loop μ-loop
 returns c =
     let c-loop = c .before .before .before .loop in
     let c-pre = c .before .before .before .before .before .pre in
-    run-home (c-pre .0) (c-loop .inv) _ (c .before .size .ensures) (c .if1 .taken)
+    run-home (c-pre .0) (c-loop .inv) _ (c .before .wide32 .ensures .0) (c .if1 .taken)
 
 mul-if2 : tie.Need-mul-if2 Inv-loop μ-loop
 mul-if2 c = omega (arith, c .before .before .before .before .before .pre .0 .few)
@@ -35,7 +35,7 @@ returns-2 : tie.Need-returns-2 Inv-loop μ-loop
 returns-2 c =
     let c-loop = c .before .before .before .before .loop in
     let c-pre = c .before .before .before .before .before .before .pre in
-    run-end (c-pre .0) (c-loop .inv) _ (c .before .before .size .ensures) (c .if2 .taken)
+    run-end (c-pre .0) (c-loop .inv) _ (c .before .before .wide32 .ensures .0) (c .if2 .taken)
 
 add-k : tie.Need-add-k Inv-loop μ-loop
 add-k c =
@@ -50,7 +50,7 @@ loop-again : tie.Need-loop-again Inv-loop μ-loop
 loop-again c =
     let c-loop = c .before .before .before .before .loop in
     let c-pre = c .before .before .before .before .before .before .pre in
-    run-more (c-pre .0) (c-loop .inv) _ (c .before .before .size .ensures) (c .before .if1 .left) (c .if2 .left)
+    run-more (c-pre .0) (c-loop .inv) _ (c .before .before .wide32 .ensures .0) (c .before .if1 .left) (c .if2 .left)
 
 pub run-spec : {M : Type 1} → statement M
 run-spec =
@@ -59,8 +59,8 @@ run-spec =
     Inv-loop
     μ-loop
     loop-holds
-    mul-size
-    shared-slice-read-size
+    mul-wide32
+    shared-slice-read-wide32
     (λ c κs. search needs)
     returns
     mul-if2

@@ -18,8 +18,8 @@ abbrev μ-loop : tie.MeasureT-loop
 loop-holds : tie.Need-loop-holds Inv-loop μ-loop
 loop-holds c = (omega arith, filled-none _ _)
 
-shared-slice-read-word : tie.Need-shared-slice-read-word Inv-loop μ-loop
-shared-slice-read-word c = omega (arith, c .before .before .before .before .before .pre .0)
+shared-slice-read-word16 : tie.Need-shared-slice-read-word16 Inv-loop μ-loop
+shared-slice-read-word16 c = omega (arith, c .before .before .before .before .before .pre .0)
 
 mul-area : tie.Need-mul-area Inv-loop μ-loop
 mul-area c = omega (arith, c .before .before .before .before .before .before .pre .1)
@@ -28,7 +28,7 @@ slice-write-area : tie.Need-slice-write-area Inv-loop μ-loop
 slice-write-area c = omega (arith, c .before .before .before .before .before .before .pre .1, simp length-filled at (ap length (c .before .before .before .loop .inv .1)))
 
 loop-again : tie.Need-loop-again Inv-loop μ-loop
-loop-again c = (omega arith, filled-more _ _ _ _ _ (c .before .before .before .loop .inv .1) (c .word .ensures))
+loop-again c = (omega arith, filled-more _ _ _ _ _ (c .before .before .before .loop .inv .1) (c .word16 .ensures .0))
 
 same-length : tie.Need-same-length Inv-loop μ-loop
 same-length c = simp length-filled at (ap length (c .before .loop .inv .1))
@@ -46,7 +46,7 @@ copy-words-spec =
     μ-loop
     loop-holds
     (λ c. search needs)
-    shared-slice-read-word
+    shared-slice-read-word16
     (λ c κs. search needs)
     mul-area
     slice-write-area

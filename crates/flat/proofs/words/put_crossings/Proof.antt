@@ -32,13 +32,13 @@ slice-write-marks c =
     let c-pre = c .before .before .before .before .before .pre in
     mark-place (c-pre .0) (c-pre .1 .0) (c .before .loop .inv .1) (omega arith)
 
-mul-size : tie.Need-mul-size Inv-loop μ-loop
-mul-size c =
+mul-wide32 : tie.Need-mul-wide32 Inv-loop μ-loop
+mul-wide32 c =
     let c-pre = c .before .before .before .before .before .pre in
     omega (arith, list-few (c-pre .0) (c-pre .1 .0) (c .before .loop .inv .0) (omega arith))
 
-shared-slice-read-size : tie.Need-shared-slice-read-size Inv-loop μ-loop
-shared-slice-read-size c =
+shared-slice-read-wide32 : tie.Need-shared-slice-read-wide32 Inv-loop μ-loop
+shared-slice-read-wide32 c =
     let c-pre = c .before .before .before .before .before .before .pre in
     list-read (c-pre .0) (c-pre .1 .0) (c .before .before .loop .inv .0) (omega arith)
 
@@ -46,7 +46,7 @@ loop-again : tie.Need-loop-again Inv-loop μ-loop
 loop-again c =
     let c-loop = c .before .before .before .loop in
     let c-pre = c .before .before .before .before .before .before .before .pre in
-    (list-more (c-pre .0) (c-pre .1 .0) (c-loop .inv .0) (omega arith) _ (c .size .ensures), mark-more (c-pre .0) (c-pre .1 .0) (c-loop .inv .1) (omega arith) _ (c .size .ensures))
+    (list-more (c-pre .0) (c-pre .1 .0) (c-loop .inv .0) (omega arith) _ (c .wide32 .ensures .0), mark-more (c-pre .0) (c-pre .1 .0) (c-loop .inv .1) (omega arith) _ (c .wide32 .ensures .0))
 
 same-length : tie.Need-same-length Inv-loop μ-loop
 same-length c = listing-long _ _ (c .before .loop .inv .0)
@@ -69,8 +69,8 @@ put-crossings-spec =
     (λ c. search needs)
     slice-write-area
     slice-write-marks
-    mul-size
-    shared-slice-read-size
+    mul-wide32
+    shared-slice-read-wide32
     (λ c κs. search needs)
     (λ c. search needs)
     (λ c. search needs)

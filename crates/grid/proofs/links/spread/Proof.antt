@@ -1,10 +1,16 @@
 -- `grid::links::spread` meets its contract.
-use mathlib.Core.Path.{sym}
+use Prim.Native.Nat.{ℕ, _<_, min}
+use mathlib.Core.Path.{_≡_, sym, ap, _∙_}
 use native.Mathlib.Omega.{arith}
 use borrow.Author.Needs.{needs}
+use Rattle.slots.specs.Slots.{position}
+use Rattle.slots.proofs.Slots.{omitted}
 use Rattle.grid.proofs.Marks.{Walking, unmarkedCells, unmarked-less, walking-end, walking-lt, walking-met, walking-more, walking-start}
 use Rattle.grid.proofs.links.spread.Statement.{statement}
 use Rattle.grid.proofs.links.spread.Tie as tie
+
+at-rank : (s : ℕ) {r i : ℕ} → i < 3 → r ≡ position s (min i 2) → r ≡ position s i
+at-rank s l e = e ∙ ap (position s) (omega arith)
 
 abbrev Inv-loop : tie.InvT-loop
 Inv-loop near n mark start rank marks₀ r₀ p₀ marks r p = Walking near n mark start rank marks₀ marks r p
@@ -51,31 +57,31 @@ slice-write-marks c =
     omega (arith, walking-lt P w, w .same, P .room)
 
 position-requires : tie.Need-position-requires Inv-loop μ-loop
-position-requires c κs = c .before .before .before .loop .inv .rank-lt
+position-requires c κs = search needs
 
 rank-of-requires : tie.Need-rank-of-requires Inv-loop μ-loop
-rank-of-requires c κs = (omega arith, (c .position .ensures .1 .0, λ e. c .position .ensures .1 .1 (sym e)))
+rank-of-requires c κs = (omega arith, (c .position .ensures .1, λ e. omitted _ _ (sym (c .position .ensures .0) ∙ sym e)))
 
 mul-wide-2 : tie.Need-mul-wide-2 Inv-loop μ-loop
 mul-wide-2 c =
     let P = c .before .before .before .before .before .before .before .before .before .before .pre in
-    omega (arith, walking-lt P (c .before .before .before .before .before .loop .inv), P .few, c .before .position .ensures .1 .0)
+    omega (arith, walking-lt P (c .before .before .before .before .before .loop .inv), P .few, c .before .position .ensures .1)
 
 add-wide : tie.Need-add-wide Inv-loop μ-loop
 add-wide c =
     let P = c .before .before .before .before .before .before .before .before .before .before .pre in
-    omega (arith, walking-lt P (c .before .before .before .before .before .loop .inv), P .few, c .before .position .ensures .1 .0)
+    omega (arith, walking-lt P (c .before .before .before .before .before .loop .inv), P .few, c .before .position .ensures .1)
 
 mul-wide-3 : tie.Need-mul-wide-3 Inv-loop μ-loop
 mul-wide-3 c =
     let P = c .before .before .before .before .before .before .before .before .before .before .pre in
-    omega (arith, walking-lt P (c .before .before .before .before .before .loop .inv), P .few, c .before .position .ensures .1 .0)
+    omega (arith, walking-lt P (c .before .before .before .before .before .loop .inv), P .few, c .before .position .ensures .1)
 
 shared-slice-read-wide-2 : tie.Need-shared-slice-read-wide-2 Inv-loop μ-loop
 shared-slice-read-wide-2 c =
     let P = c .before .before .before .before .before .before .before .before .before .before .before .pre in
     let w = c .before .before .before .before .before .before .loop .inv in
-    omega (arith, walking-lt P w, P .near-room, c .before .before .position .ensures .1 .0)
+    omega (arith, walking-lt P w, P .near-room, c .before .before .position .ensures .1)
 
 loop-less : tie.Need-loop-less Inv-loop μ-loop
 loop-less c =
@@ -90,7 +96,7 @@ loop-again c =
     let w = c .before .before .before .before .before .before .before .loop .inv in
     let s = c .before .before .before .position .ensures in
     let t = c .before .before .rank-of .ensures in
-    walking-more P w (omega arith) (c .before .before .before .before .if1 .left) _ _ _ (s .1 .0) (s .0) (t .1) (t .0) (c .wide2 .ensures)
+    walking-more P w (omega arith) (c .before .before .before .before .if1 .left) _ _ _ (s .1) (at-rank _ (w .rank-lt) (s .0)) (t .1) (t .0) (c .wide2 .ensures)
 
 same-length-2 : tie.Need-same-length-2 Inv-loop μ-loop
 same-length-2 c = c .before .loop .inv .same

@@ -14,21 +14,21 @@ Inv-loop links₀ x y₀ side₀ p₀ links y side p = Finding links₀ x links 
 abbrev μ-loop : tie.MeasureT-loop
 μ-loop links₀ x y₀ side₀ p₀ links y side p = y
 
-slice-read-wide : tie.Need-slice-read-wide Inv-loop μ-loop
-slice-read-wide c = omega (arith, c .before .before .pre .linked .0, c .before .before .pre .forest .long)
+slice-read-wide16 : tie.Need-slice-read-wide16 Inv-loop μ-loop
+slice-read-wide16 c = omega (arith, c .before .before .pre .linked .0, c .before .before .pre .forest .long)
 
 loop-holds : tie.Need-loop-holds Inv-loop μ-loop
 loop-holds c =
     let a = c .before .before .before .args in
-    (finding-none (now (a .links)) (a .x) (c .before .before .before .pre), ap (λ k. k / 2) (c .wide .ensures .0))
+    (finding-none (now (a .links)) (a .x) (c .before .before .before .pre), ap (λ k. k / 2) (c .wide16 .ensures .0))
 
 halve-requires : tie.Need-halve-requires Inv-loop μ-loop
 halve-requires c κs =
     let l = c .before .before .loop in
     record { forest = l .inv .0 .halved .forest; linked = l .inv .0 .linked; child = λ e. c .before .loop-test .taken (l .inv .1 ∙ e) }
 
-slice-read-wide-2 : tie.Need-slice-read-wide-2 Inv-loop μ-loop
-slice-read-wide-2 c =
+slice-read-wide16-2 : tie.Need-slice-read-wide16-2 Inv-loop μ-loop
+slice-read-wide16-2 c =
     let h = c .before .before .before .halve .ensures in
     omega (arith, h .lower, c .before .before .before .before .before .before .loop .inv .0 .linked .0, h .halved .forest .long)
 
@@ -40,7 +40,7 @@ loop-again c =
     let l = c .before .before .before .before .before .before .before .loop in
     let a = c .before .before .before .before .before .before .before .before .before .before .before .args in
     let h = c .before .before .before .before .halve in
-    (finding-more (now (a .links)) (a .x) (l .links) (l .y) (l .side) (l .inv .0) _ (h .result) (h .ensures), ap (λ k. k / 2) (c .wide2 .ensures .0))
+    (finding-more (now (a .links)) (a .x) (l .links) (l .y) (l .side) (l .inv .0) _ (h .result) (h .ensures), ap (λ k. k / 2) (c .wide162 .ensures .0))
 
 same-length : tie.Need-same-length Inv-loop μ-loop
 same-length c = c .before .loop .inv .0 .halved .forest .long ∙ sym (c .before .before .before .before .before .pre .forest .long)
@@ -55,13 +55,13 @@ find-spec =
     Inv-loop
     μ-loop
     (λ c. search needs)
-    slice-read-wide
+    slice-read-wide16
     (λ c κs. search needs)
     loop-holds
     halve-requires
     (λ c. search needs)
     (λ c. search needs)
-    slice-read-wide-2
+    slice-read-wide16-2
     (λ c κs. search needs)
     loop-less
     loop-again

@@ -20,15 +20,15 @@ mul-links c = omega (arith, c .before .before .before .before .before .pre .node
 
 slice-write-links : tie.Need-slice-write-links Inv-loop μ-loop
 slice-write-links c =
-    omega (arith, c .before .before .before .loop .inv .1 .long, c .wide .ensures .0, c .before .before .before .before .before .before .pre .nodes (c .before .before .before .loop .j) (omega arith))
+    omega (arith, c .before .before .before .loop .inv .1 .long, c .wide16 .ensures .0, c .before .before .before .before .before .before .pre .nodes (c .before .before .before .loop .j) (omega arith))
 
 loop-again : tie.Need-loop-again Inv-loop μ-loop
 loop-again c =
     let l = c .before .before .before .loop in
     let s = c .before .before .before .before .before .before in (
       omega arith,
-      noted-more (now (s .args .cells)) (λ x. 2 * x) noLink (l .links) (l .j) (c .wide .result) (l .inv .1) (c .wide .ensures .0)
-          (omega (arith, c .wide .ensures .0, s .pre .nodes (l .j) (omega arith))) _ (ap (λ k. 2 * k) (sym (c .wide .ensures .0))),
+      noted-more (now (s .args .cells)) (λ x. 2 * x) noLink (l .links) (l .j) (c .wide16 .result) (l .inv .1) (c .wide16 .ensures .0)
+          (omega (arith, c .wide16 .ensures .0, s .pre .nodes (l .j) (omega arith))) _ (ap (λ k. 2 * k) (sym (c .wide16 .ensures .0))),
     )
 
 same-length : tie.Need-same-length Inv-loop μ-loop

@@ -20,11 +20,11 @@ abbrev μ-loop : tie.MeasureT-loop
 loop-holds : tie.Need-loop-holds Inv-loop μ-loop
 loop-holds c = (omega arith, tied-none _ _ _ (c .before .before .before .pre))
 
-shared-slice-read-wide : tie.Need-shared-slice-read-wide Inv-loop μ-loop
-shared-slice-read-wide c = omega (arith, c .before .before .before .before .before .before .pre .pairs)
+shared-slice-read-wide16 : tie.Need-shared-slice-read-wide16 Inv-loop μ-loop
+shared-slice-read-wide16 c = omega (arith, c .before .before .before .before .before .before .pre .pairs)
 
-shared-slice-read-wide-2 : tie.Need-shared-slice-read-wide-2 Inv-loop μ-loop
-shared-slice-read-wide-2 c = omega (arith, c .before .before .before .before .before .before .before .before .pre .pairs)
+shared-slice-read-wide16-2 : tie.Need-shared-slice-read-wide16-2 Inv-loop μ-loop
+shared-slice-read-wide16-2 c = omega (arith, c .before .before .before .before .before .before .before .before .pre .pairs)
 
 unite-requires : tie.Need-unite-requires Inv-loop μ-loop
 unite-requires c κs =
@@ -33,10 +33,10 @@ unite-requires c κs =
     let N = l .inv .1 .nodes in (
       record {
         forest = l .inv .1 .forest;
-        low-linked = subst (HasLink (l .links)) (sym (c .before .before .before .before .before .wide .ensures .0)) (N .kept _ (P .low-linked (l .e) (omega arith)));
-        high-linked = subst (HasLink (l .links)) (sym (c .before .before .before .wide2 .ensures .0)) (N .kept _ (P .high-linked (l .e) (omega arith)));
+        low-linked = subst (HasLink (l .links)) (sym (c .before .before .before .before .before .wide16 .ensures .0)) (N .kept _ (P .low-linked (l .e) (omega arith)));
+        high-linked = subst (HasLink (l .links)) (sym (c .before .before .before .wide162 .ensures .0)) (N .kept _ (P .high-linked (l .e) (omega arith)));
       },
-      c .wide3 .ensures .1,
+      omega (arith, c .wide163 .ensures .1),
     )
 
 same-length : tie.Need-same-length Inv-loop μ-loop
@@ -49,7 +49,7 @@ returns c =
     record {
       tied = λ e. clash e refl;
       none = λ e. tied-not (now (a .edges)) (now (a .counts)) (now (a .links)) (l .e) (l .links) (l .inv .1) (omega arith) _ _ _
-          (c .before .before .before .before .before .before .before .before .before .wide .ensures .0) (c .before .before .before .before .before .before .before .wide2 .ensures .0) (c .before .before .before .before .wide3 .ensures .0) _ _ (c .before .before .before .unite .ensures) (not-true _ (c .if1 .taken));
+          (c .before .before .before .before .before .before .before .before .before .wide16 .ensures .0) (c .before .before .before .before .before .before .before .wide162 .ensures .0) (c .before .before .before .before .wide163 .ensures .0) _ _ (c .before .before .before .unite .ensures) (not-true _ (c .if1 .taken));
     }
 
 loop-again : tie.Need-loop-again Inv-loop μ-loop
@@ -58,7 +58,7 @@ loop-again c =
     let a = c .before .before .before .before .before .before .before .before .before .before .before .before .before .before .before .before .args in (
       omega arith,
       tied-more (now (a .edges)) (now (a .counts)) (now (a .links)) (l .e) (l .links) (l .inv .1) (omega arith) _ _ _
-          (c .before .before .before .before .before .before .before .before .before .wide .ensures .0) (c .before .before .before .before .before .before .before .wide2 .ensures .0) (c .before .before .before .before .wide3 .ensures .0) _ _ (c .before .before .before .unite .ensures) (not-false _ (c .if1 .left)),
+          (c .before .before .before .before .before .before .before .before .before .wide16 .ensures .0) (c .before .before .before .before .before .before .before .wide162 .ensures .0) (c .before .before .before .before .wide163 .ensures .0) _ _ (c .before .before .before .unite .ensures) (not-false _ (c .if1 .left)),
     )
 
 same-length-2 : tie.Need-same-length-2 Inv-loop μ-loop
@@ -80,12 +80,12 @@ unite-all-spec =
     loop-holds
     (λ c. search needs)
     (λ c. search needs)
-    shared-slice-read-wide
+    shared-slice-read-wide16
     (λ c κs. search needs)
     (λ c. search needs)
     (λ c. search needs)
     (λ c. search needs)
-    shared-slice-read-wide-2
+    shared-slice-read-wide16-2
     (λ c κs. search needs)
     (λ c. search needs)
     (λ c. search needs)

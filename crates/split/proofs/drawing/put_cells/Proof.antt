@@ -31,7 +31,7 @@ put-stretch-requires : tie.Need-put-stretch-requires Inv-loop μ-loop
 put-stretch-requires c κs =
     let A = c .before .before .before .before .before .before .before .before .before .args in
     let R = c .before .next-stretch .ensures in
-    (R .from, stretch-room (now (A .cells)) (now (A .counts)) (now (A .names)) (now (A .sides)) (now (A .starts)) (c .before .before .before .loop .inv .1) (c .before .before .before .before .before .before .before .before .before .pre .1) R (omega (arith, c .before .before .before .before .drawn .ensures)))
+    stretch-room (now (A .cells)) (now (A .counts)) (now (A .names)) (now (A .sides)) (now (A .starts)) (c .before .before .before .loop .inv .1) (c .before .before .before .before .before .before .before .before .before .pre .1) R (omega (arith, c .before .before .before .before .drawn .ensures))
 
 same-length : tie.Need-same-length Inv-loop μ-loop
 same-length c = stored-long (c .before .before .before .before .put-stretch .ensures) ∙ stored-long (c .before .before .before .before .before .before .before .before .loop .inv .1)

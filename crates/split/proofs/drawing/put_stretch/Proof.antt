@@ -7,20 +7,11 @@ use Rattle.cell.proofs.Fits.{all-put}
 use Rattle.split.proofs.drawing.put_stretch.Statement.{statement}
 use Rattle.split.proofs.drawing.put_stretch.Tie as tie
 
-returns-2 : tie.Need-returns-2
-returns-2 c =
-    let A = c .before .before .before .before .before .before .before .before .before .before .args in
+returns : tie.Need-returns
+returns c =
+    let A = c .before .before .before .before .before .before .before .before .args in
     let w = c .before .before .write-cells .ensures in
-    rw (w .0, w .1) (all-put (tableCell (now (A .cells)) (now (A .counts)) (now (A .names)) (now (A .sides)) (now (A .starts))) (A .c) (now (A .area)) (A .at) (A .s .end - A .c) (c .before .before .before .before .before .before .before .before .before .before .pre .1))
+    rw (w .0, w .1) (all-put (tableCell (now (A .cells)) (now (A .counts)) (now (A .names)) (now (A .sides)) (now (A .starts))) (A .c) (now (A .area)) (A .at) (A .s .end - A .c) (c .before .before .before .before .before .before .before .before .pre))
 
 pub put-stretch-spec : {M : Type 1} → statement M
-put-stretch-spec =
-    tie.close
-    (tie.spec
-    (λ c κs. search needs)
-    (λ c κs. search needs)
-    (λ c. search needs)
-    (λ c. search needs)
-    (λ c κs. search needs)
-    (λ c. search needs)
-    returns-2)
+put-stretch-spec = tie.close (tie.spec (λ c κs. search needs) (λ c. search needs) returns)

@@ -33,11 +33,11 @@ array-read-sum-of-6 c = search needs
 sum-of-requires-3 : tie.Need-sum-of-requires-3
 sum-of-requires-3 c κs = search needs
 
-higher-requires : tie.Need-higher-requires
-higher-requires c κs = search needs
+greatest32-requires : tie.Need-greatest32-requires
+greatest32-requires c κs = search needs
 
-higher-requires-2 : tie.Need-higher-requires-2
-higher-requires-2 c κs = search needs
+greatest32-requires-2 : tie.Need-greatest32-requires-2
+greatest32-requires-2 c κs = search needs
 
 array-read-own-at : tie.Need-array-read-own-at
 array-read-own-at c = search needs
@@ -88,7 +88,7 @@ own-at-requires-4 : tie.Need-own-at-requires-4
 own-at-requires-4 c κs = search needs
 
 returns : tie.Need-returns
-returns c = own-listed _ (c .before .before .before .before .before .before .before .before .before .pre) (c .before .before .before .before .before .before .before .before .sum-of .ensures .0) (c .before .before .before .before .before .before .before .sum-of2 .ensures .0) (c .before .before .before .before .before .before .sum-of3 .ensures .0) (c .before .before .before .before .higher2 .ensures ∙ ap (λ k. max k (c .before .before .before .before .before .before .sum-of3 .result)) (c .before .before .before .before .before .higher .ensures)) (c .before .before .before .own-at .ensures) (c .before .before .own-at2 .ensures) (c .before .own-at3 .ensures) (c .own-at4 .ensures)
+returns c = own-listed _ (c .before .before .before .before .before .before .before .before .before .pre) (c .before .before .before .before .before .before .before .before .sum-of .ensures .0) (c .before .before .before .before .before .before .before .sum-of2 .ensures .0) (c .before .before .before .before .before .before .sum-of3 .ensures .0) (c .before .before .before .before .greatest322 .ensures ∙ ap (λ k. max k (c .before .before .before .before .before .before .sum-of3 .result)) (c .before .before .before .before .before .greatest32 .ensures)) (c .before .before .before .own-at .ensures) (c .before .before .own-at2 .ensures) (c .before .own-at3 .ensures) (c .own-at4 .ensures)
 
 pub own-of-spec : {M : Type 1} → statement M
 own-of-spec =
@@ -103,8 +103,8 @@ own-of-spec =
     array-read-sum-of-5
     array-read-sum-of-6
     sum-of-requires-3
-    higher-requires
-    higher-requires-2
+    greatest32-requires
+    greatest32-requires-2
     array-read-own-at
     array-read-own-at-2
     array-read-own-at-3

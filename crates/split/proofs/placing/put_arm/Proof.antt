@@ -6,8 +6,7 @@ use denote.Ref.{now}
 use Rattle.counting.specs.Range.{values}
 use Rattle.counting.specs.Stored.{Stored, storedIn}
 use Rattle.counting.proofs.Stored.{stored-as, stored-long}
-use Rattle.place.specs.Place.{between, coordinates, numbers, allNumbers}
-use Rattle.cell.specs.Nests.{partOf}
+use Rattle.place.specs.Place.{partOf, between, coordinates, numbers, allNumbers}
 use Rattle.split.proofs.Arms.{points-none, points-more}
 use Rattle.split.proofs.placing.put_arm.Statement.{statement}
 use Rattle.split.proofs.placing.put_arm.Tie as tie
@@ -25,7 +24,7 @@ loop-again : tie.Need-loop-again Inv-loop μ-loop
 loop-again c =
     let A = c .before .before .before .before .before .before .before .before .before .before .args in
     let L = c .before .before .before .before .before .before .before .before .loop in
-    let k = c .before .before .before .wide .ensures in
+    let k = c .before .before .before .wide32 .ensures .0 in
     let p = c .before .before .before .before .before .interpolate .result in (
       omega arith,
       points-more (λ h. between (A .a) (A .v) (partOf h (A .n))) (A .i) (L .h) (L .inv .1) (omega (arith, c .before .before .before .before .before .before .before .before .before .before .pre, stored-long (L .inv .1)))
@@ -38,7 +37,7 @@ returns c =
     let A = c .before .before .before .before .args in
     let L = c .before .before .loop in
     let e : L .h ≡ A .n = omega arith in
-    stored-as (L .inv .1) (ap (λ k. allNumbers (values (λ h. between (A .a) (A .v) (partOf h (A .n))) k)) e) (omega (arith, e, c .wide2 .ensures))
+    stored-as (L .inv .1) (ap (λ k. allNumbers (values (λ h. between (A .a) (A .v) (partOf h (A .n))) k)) e) (omega (arith, e, c .wide322 .ensures .0))
 
 pub put-arm-spec : {M : Type 1} → statement M
 put-arm-spec =
@@ -50,12 +49,12 @@ put-arm-spec =
     (λ c κs. tt)
     (λ c κs. tt)
     (λ c κs. tt)
-    (λ c. omega (arith, c .before .before .before .before .before .before .before .pre, c .wide .ensures))
+    (λ c. omega (arith, c .before .before .before .before .before .before .before .pre, c .wide32 .ensures .0))
     (λ c κs. tt)
     (λ c. omega arith)
     (λ c. omega arith)
     loop-again
     (λ c κs. tt)
-    (λ c. omega (arith, c .before .before .before .before .pre, c .wide2 .ensures))
+    (λ c. omega (arith, c .before .before .before .before .pre, c .wide322 .ensures .0))
     (λ c. stored-long (c .before .before .loop .inv .1))
     returns)

@@ -13,9 +13,9 @@ returns c =
     let at = c .before .before .before .before .before .before .before .before .args .t3 in
     let e = c .before .before .before .before .before .before .place-of .ensures .0 in
     four-places (c .before .before .before .before .before .before .before .new-place .ensures)
-    (ap (cornerIn at) (c .before .before .before .before .before .position-of .ensures .0 ∙ ap (λ p. position p 0) e))
-    (ap (cornerIn at) (c .before .before .before .position-of2 .ensures .0 ∙ ap (λ p. position p 1) e))
-    (ap (cornerIn at) (c .before .position-of3 .ensures .0 ∙ ap (λ p. position p 2) e))
+    (ap (cornerIn at) (c .before .before .before .before .before .position .ensures .0 ∙ ap (λ p. position p 0) e))
+    (ap (cornerIn at) (c .before .before .before .position2 .ensures .0 ∙ ap (λ p. position p 1) e))
+    (ap (cornerIn at) (c .before .position3 .ensures .0 ∙ ap (λ p. position p 2) e))
 
 pub sub-places-spec : {M : Type 1} → statement M
 sub-places-spec =

@@ -13,16 +13,16 @@ cast-figures-of-2 : tie.Need-cast-figures-of-2
 cast-figures-of-2 c = let D = c .before .before .before .pre in omega (arith, numbers-most (D .0) (D .1) (c .before .before .spiral-of .ensures))
 
 sub-t9 : tie.Need-sub-t9
-sub-t9 c = let D = c .before .before .before .before .before .before .pre in omega (arith, c .before .wider .ensures, figures-fit (D .0) (D .1) (c .before .before .before .before .before .spiral-of .ensures) (c .before .before .figures-of .ensures))
+sub-t9 c = let D = c .before .before .before .before .before .before .pre in omega (arith, c .before .long32 .ensures .0, figures-fit (D .0) (D .1) (c .before .before .before .before .before .spiral-of .ensures) (c .before .before .figures-of .ensures))
 
 mul-t10 : tie.Need-mul-t10
 mul-t10 c = let D = c .before .before .before .before .before .before .before .pre in omega (arith, figures-few (D .0) (D .1) (c .before .before .before .before .before .before .spiral-of .ensures) (c .before .before .before .figures-of .ensures))
 
 sub-t11 : tie.Need-sub-t11
-sub-t11 c = let D = c .before .before .before .before .before .before .before .pre in omega (arith, c .before .before .wider .ensures, figures-fit (D .0) (D .1) (c .before .before .before .before .before .before .spiral-of .ensures) (c .before .before .before .figures-of .ensures))
+sub-t11 c = let D = c .before .before .before .before .before .before .before .pre in omega (arith, c .before .before .long32 .ensures .0, figures-fit (D .0) (D .1) (c .before .before .before .before .before .before .spiral-of .ensures) (c .before .before .before .figures-of .ensures))
 
 returns : tie.Need-returns
-returns c = let D = c .before .before .before .before .before .before .before .pre in spots-are (D .0) (D .1) (c .before .before .before .before .before .before .spiral-of .ensures) (c .before .before .before .figures-of .ensures) (c .before .before .wider .ensures) refl
+returns c = let D = c .before .before .before .before .before .before .before .pre in spots-are (D .0) (D .1) (c .before .before .before .before .before .before .spiral-of .ensures) (c .before .before .before .figures-of .ensures) (c .before .before .long32 .ensures .0) refl
 
 pub spots-of-spec : {M : Type 1} → statement M
 spots-of-spec =

@@ -20,9 +20,6 @@ loop-holds c = let A = c .before .before .before .before .before .before .args i
 stretch-from-requires : tie.Need-stretch-from-requires Inv-loop μ-loop
 stretch-from-requires c κs = omega arith
 
-middles-stretch-requires : tie.Need-middles-stretch-requires Inv-loop μ-loop
-middles-stretch-requires c κs = c .before .stretch-from .ensures .from
-
 same-length : tie.Need-same-length Inv-loop μ-loop
 same-length c =
     let A = c .before .before .before .before .before .before .before .before .before .before .before .before .before .before .before .args in
@@ -71,7 +68,7 @@ write-drawn-middles-spec =
     (λ c κs. tt)
     loop-holds
     stretch-from-requires
-    middles-stretch-requires
+    (λ c κs. tt)
     same-length
     returns
     middles-at-requires

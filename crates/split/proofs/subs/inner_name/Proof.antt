@@ -9,8 +9,8 @@ use borrow.Author.Needs.{needs}
 use Rattle.split.proofs.subs.inner_name.Statement.{statement}
 use Rattle.split.proofs.subs.inner_name.Tie as tie
 
-low-of-requires : tie.Need-low-of-requires
-low-of-requires c κs = search needs
+low-end-requires : tie.Need-low-end-requires
+low-end-requires c κs = search needs
 
 mul-x : tie.Need-mul-x
 mul-x c = search needs
@@ -18,8 +18,8 @@ mul-x c = search needs
 element-copy-out-x : tie.Need-element-copy-out-x
 element-copy-out-x c = search needs
 
-high-of-requires : tie.Need-high-of-requires
-high-of-requires c κs = search needs
+high-end-requires : tie.Need-high-end-requires
+high-end-requires c κs = search needs
 
 mul-y : tie.Need-mul-y
 mul-y c = search needs
@@ -31,8 +31,8 @@ joining-of-requires : tie.Need-joining-of-requires
 joining-of-requires c κs =
     let a = c .before .before .before .before .args in
     let p = c .before .before .before .before .pre in
-    let x = ap (λ k. getD (a .t2 .label) k 0) (c .before .before .before .low-of .ensures .0) in
-    let y = ap (λ k. getD (a .t2 .label) k 0) (c .before .high-of .ensures .0) in
+    let x = ap (λ k. getD (a .t2 .label) k 0) (c .before .before .before .low-end .ensures .0) in
+    let y = ap (λ k. getD (a .t2 .label) k 0) (c .before .high-end .ensures .0) in
     let l = ends-lt (p .0) (a .e) (p .1 .0) in
     (omega (arith, x, l), omega (arith, y, l), λ e. labels-apart (p .0) (a .e) (p .1 .0) (sym x ∙ e ∙ y))
 
@@ -46,18 +46,18 @@ returns : tie.Need-returns
 returns c =
     let a = c .before .before .before .before .before .args in
     let p = c .before .before .before .before .before .pre in
-    let x = ap (λ k. getD (a .t2 .label) k 0) (c .before .before .before .before .low-of .ensures .0) in
-    let y = ap (λ k. getD (a .t2 .label) k 0) (c .before .before .high-of .ensures .0) in
+    let x = ap (λ k. getD (a .t2 .label) k 0) (c .before .before .before .before .low-end .ensures .0) in
+    let y = ap (λ k. getD (a .t2 .label) k 0) (c .before .before .high-end .ensures .0) in
     ap (λ n. a .f + n) (c .joining-of .ensures .0 ∙ ap₂ joining x y) ∙ name-told (p .0) (a .f) (a .e) (p .1 .0)
 
 pub inner-name-spec : {M : Type 1} → statement M
 inner-name-spec =
     tie.close
     (tie.spec
-    low-of-requires
+    low-end-requires
     mul-x
     element-copy-out-x
-    high-of-requires
+    high-end-requires
     mul-y
     element-copy-out-y
     joining-of-requires

@@ -8,8 +8,8 @@ use borrow.Author.Needs.{needs}
 use Rattle.split.proofs.subs.rest_start.Statement.{statement}
 use Rattle.split.proofs.subs.rest_start.Tie as tie
 
-low-of-requires : tie.Need-low-of-requires
-low-of-requires c κs = search needs
+low-end-requires : tie.Need-low-end-requires
+low-end-requires c κs = search needs
 
 mul-a : tie.Need-mul-a
 mul-a c = search needs
@@ -27,19 +27,19 @@ add-result : tie.Need-add-result
 add-result c =
     let a = c .before .before .before .args in
     let p = c .before .before .before .pre in
-    omega (arith, ap (λ k. getD (a .t2 .own) k 0) (c .before .before .low-of .ensures .0), from-fits (p .0) (a .e) (p .1))
+    omega (arith, ap (λ k. getD (a .t2 .own) k 0) (c .before .before .low-end .ensures .0), from-fits (p .0) (a .e) (p .1))
 
 returns : tie.Need-returns
 returns c =
     let a = c .before .before .before .args in
     let p = c .before .before .before .pre in
-    ap (λ k. getD (a .t1 .starts) (a .e) 0 + getD (a .t2 .own) k 0) (c .before .before .low-of .ensures .0) ∙ from-told (p .0) (a .e) (p .1)
+    ap (λ k. getD (a .t1 .starts) (a .e) 0 + getD (a .t2 .own) k 0) (c .before .before .low-end .ensures .0) ∙ from-told (p .0) (a .e) (p .1)
 
 pub rest-start-spec : {M : Type 1} → statement M
 rest-start-spec =
     tie.close
     (tie.spec
-    low-of-requires
+    low-end-requires
     mul-a
     element-copy-out-a
     mul-result

@@ -5,20 +5,20 @@ use borrow.Author.Needs.{needs}
 use Rattle.split.proofs.subs.starts_of.Statement.{statement}
 use Rattle.split.proofs.subs.starts_of.Tie as tie
 
-position-of-requires : tie.Need-position-of-requires
-position-of-requires c κs = search needs
+position-requires : tie.Need-position-requires
+position-requires c κs = search needs
 
 arm-start-requires : tie.Need-arm-start-requires
 arm-start-requires c κs = search needs
 
-position-of-requires-2 : tie.Need-position-of-requires-2
-position-of-requires-2 c κs = search needs
+position-requires-2 : tie.Need-position-requires-2
+position-requires-2 c κs = search needs
 
 arm-start-requires-2 : tie.Need-arm-start-requires-2
 arm-start-requires-2 c κs = search needs
 
-position-of-requires-3 : tie.Need-position-of-requires-3
-position-of-requires-3 c κs = search needs
+position-requires-3 : tie.Need-position-requires-3
+position-requires-3 c κs = search needs
 
 arm-start-requires-3 : tie.Need-arm-start-requires-3
 arm-start-requires-3 c κs = search needs
@@ -49,20 +49,20 @@ returns c =
       c .rest-start3 .ensures ∙ ap (restStart C) (c .before .slot-edge3 .ensures .0),
       c .before .before .rest-start2 .ensures ∙ ap (restStart C) (c .before .before .before .slot-edge2 .ensures .0),
       c .before .before .before .before .rest-start .ensures ∙ ap (restStart C) (c .before .before .before .before .before .slot-edge .ensures .0),
-      c .before .before .before .before .before .before .arm-start3 .ensures ∙ ap (armStart C b) (c .before .before .before .before .before .before .before .position-of3 .ensures .0),
-      c .before .before .before .before .before .before .before .before .arm-start2 .ensures ∙ ap (armStart C b) (c .before .before .before .before .before .before .before .before .before .position-of2 .ensures .0),
-      c .before .before .before .before .before .before .before .before .before .before .arm-start .ensures ∙ ap (armStart C b) (c .before .before .before .before .before .before .before .before .before .before .before .position-of .ensures .0),
+      c .before .before .before .before .before .before .arm-start3 .ensures ∙ ap (armStart C b) (c .before .before .before .before .before .before .before .position3 .ensures .0),
+      c .before .before .before .before .before .before .before .before .arm-start2 .ensures ∙ ap (armStart C b) (c .before .before .before .before .before .before .before .before .before .position2 .ensures .0),
+      c .before .before .before .before .before .before .before .before .before .before .arm-start .ensures ∙ ap (armStart C b) (c .before .before .before .before .before .before .before .before .before .before .before .position .ensures .0),
     ) refl
 
 pub starts-of-spec : {M : Type 1} → statement M
 starts-of-spec =
     tie.close
     (tie.spec
-    position-of-requires
+    position-requires
     arm-start-requires
-    position-of-requires-2
+    position-requires-2
     arm-start-requires-2
-    position-of-requires-3
+    position-requires-3
     arm-start-requires-3
     slot-edge-requires
     rest-start-requires

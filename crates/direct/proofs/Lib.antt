@@ -1,0 +1,14 @@
+pub mod Numbers
+pub mod Putting
+pub mod Cycle
+pub mod Read
+pub mod Corner
+pub mod Quad
+pub mod Rows
+pub mod Edge
+pub mod Whole
+pub mod Fans
+pub mod Families
+pub mod Sorted
+pub mod Cells
+pub mod Over

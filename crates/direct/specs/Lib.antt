@@ -1,0 +1,4 @@
+pub mod Direct
+pub mod Rows
+pub mod Claims
+pub mod Cells
