@@ -1,6 +1,6 @@
-//! Links the proved calls: libcapi.a in the folder that CITTERNBLAZE_LIB names,
-//! or else in target/staticlib of the repository, where `rt staticlib capi`
-//! writes it.
+//! Links the proved calls: libcapi.a and libhost.a in the folder that
+//! CITTERNBLAZE_LIB names, or else in target/staticlib of the repository, where
+//! `rt staticlib capi` and `rt staticlib host` write them.
 
 use std::env;
 use std::path::{Path, PathBuf};
@@ -11,14 +11,16 @@ fn main() {
         Some(folder) => PathBuf::from(folder),
         None => Path::new(&package).join("../target/staticlib"),
     };
-    let library = folder.join("libcapi.a");
-    assert!(
-        library.is_file(),
-        "{} is missing: run `rt staticlib capi`",
-        library.display()
-    );
     println!("cargo:rerun-if-env-changed=CITTERNBLAZE_LIB");
-    println!("cargo:rerun-if-changed={}", library.display());
     println!("cargo:rustc-link-search=native={}", folder.display());
-    println!("cargo:rustc-link-lib=static=capi");
+    for name in ["capi", "host"] {
+        let library = folder.join(format!("lib{name}.a"));
+        assert!(
+            library.is_file(),
+            "{} is missing: run `rt staticlib {name}`",
+            library.display()
+        );
+        println!("cargo:rerun-if-changed={}", library.display());
+        println!("cargo:rustc-link-lib=static={name}");
+    }
 }

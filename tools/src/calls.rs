@@ -1,8 +1,15 @@
-//! The proved calls of include/citternblaze.h, safe and total. No other module
-//! calls a function of the library.
+//! The proved calls of include/citternblaze.h and include/citternblaze_host.h, safe
+//! and total. No other module calls a function of the library.
 
 #[path = "../../include/citternblaze.rs"]
 mod c;
+
+pub mod counts;
+pub mod flat;
+pub mod host;
+pub mod points;
+mod runs;
+mod setting;
 
 // SAFETY of the calls below: each pointer and the length after it are those of
 // one slice, which is lent for the length of the call. What is lent for writing
@@ -35,6 +42,14 @@ const DONE: u64 = 0;
 
 /// The refusal of an area that is too short for the mesh.
 pub const REFUSED_MESH_AREA: u64 = 12;
+
+/// The refusal of a grid that has no shading.
+pub const REFUSED_NO_SHADING: u64 = 20;
+
+/// CITTERNBLAZE_SHADING_BYTES and CITTERNBLAZE_UNUSED: a byte for each node that there
+/// may be, and that of a node that no cell has.
+pub const SHADING_BYTES: usize = 4_096;
+pub const UNUSED: u8 = 255;
 
 /// A refusal: its number and its place (docs/FORMAT.md, "Refusals").
 #[derive(Clone, Copy, Debug, PartialEq, Eq)]
@@ -90,14 +105,19 @@ pub fn face(counts: [u16; 3], edge: usize, index: usize) -> Join {
         (Ok(edge), Ok(index)) => (edge, index),
         _ => return Join::NoCrossing,
     };
-    let numbers =
-        answer(|area, len| unsafe { c::citternblaze_face(ab, ac, bc, asked, at, area, len) });
+    join(&answer(|area, len| unsafe {
+        c::citternblaze_face(ab, ac, bc, asked, at, area, len)
+    }))
+}
+
+/// What the numbers of a face call say.
+fn join(numbers: &[u64]) -> Join {
     let to = |edge: u64, index: u64, how| Join::Joined {
         edge: edge as usize,
         index: index as usize,
         how,
     };
-    match numbers[..] {
+    match *numbers {
         [0, edge, index, 0, corner] => to(edge, index, How::Round(corner as usize)),
         [0, edge, index, 1] => to(edge, index, How::Along),
         [1, 0] => Join::Unjoined(Why::Left),
@@ -196,6 +216,16 @@ impl Grid {
         self.starts[edge] as usize
     }
 
+    /// The edge of a crossing and its index there.
+    pub fn edge_of(&self, crossing: usize) -> Option<(usize, usize)> {
+        // edges without a crossing have the start of the next
+        let passed = self
+            .starts
+            .partition_point(|&start| start as usize <= crossing);
+        let edge = passed.checked_sub(1)?;
+        (crossing < self.crossings).then(|| (edge, crossing - self.start(edge)))
+    }
+
     /// The words of the mesh, if it has no more triangles than `most`.
     pub fn mesh_within(&self, most: usize) -> Result<Vec<u32>, Refusal> {
         match self.mesh_into(&mut []) {
@@ -274,6 +304,32 @@ impl Grid {
             normal: normal == 1,
             kind,
         }))
+    }
+
+    /// The shading call: the side of each node, 0 or 1, and `UNUSED` for a node that
+    /// no cell has. Refused with `REFUSED_NO_SHADING` where there is none.
+    pub fn shading(&self) -> Result<Vec<u8>, Refusal> {
+        let mut sides = vec![0; SHADING_BYTES];
+        let numbers = answer(|area, len| unsafe {
+            c::citternblaze_shading(
+                self.lists.cells.as_ptr(),
+                self.lists.cells.len(),
+                self.lists.edges.as_ptr(),
+                self.lists.edges.len(),
+                self.lists.counts.as_ptr(),
+                self.lists.counts.len(),
+                self.starts.as_ptr(),
+                self.starts.len(),
+                sides.as_mut_ptr(),
+                sides.len(),
+                area,
+                len,
+            )
+        });
+        match numbers[..] {
+            [DONE, ..] => Ok(sides),
+            _ => Err(refusal(&numbers)),
+        }
     }
 
     /// The places call: three numbers for each point, in an area with room for so

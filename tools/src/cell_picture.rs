@@ -7,7 +7,7 @@ use crate::calls::{Grid, Loop, Refusal};
 use crate::cells::{loops_of, Ways};
 use crate::face_curves::PlacedFace;
 use crate::face_picture::{
-    draw_joining, placed_edges, unjoined_entries, Crossings, PlacedEdge, EDGE, OPEN,
+    draw_joining, placed_edges, side_for, unjoined_entries, Crossings, PlacedEdge, EDGE, OPEN,
 };
 use crate::faces::{faces_of_cell, Face, Joining, Segment};
 use crate::legend::{self, Entry, Mark};
@@ -16,7 +16,7 @@ use crate::marks::{draw_head, draw_node};
 use crate::plane::Point;
 use crate::svg::{Label, Stroke, Svg, BLUE, GREEN, ORANGE, PURPLE, SKY, VERMILION};
 
-/// The side of a face, and the space round the four.
+/// The least side of a face, and the space round the four.
 const SIDE: f64 = 310.0;
 const MARGIN: f64 = 70.0;
 const HEAD: f64 = 64.0;
@@ -36,10 +36,10 @@ fn loop_stroke(index: usize) -> Stroke {
 
 /// Where the faces of slots 0 to 3 stand: that of slot 3 in the middle, head down,
 /// the others on its sides, so that the highest node has the three tips.
-fn net() -> [[Point; 3]; 4] {
-    let height = SIDE * 0.75_f64.sqrt();
+fn net(side: f64) -> [[Point; 3]; 4] {
+    let height = side * 0.75_f64.sqrt();
     let top = HEAD + MARGIN;
-    let at = |sides: f64, heights: f64| Point::new(MARGIN + sides * SIDE, top + heights * height);
+    let at = |sides: f64, heights: f64| Point::new(MARGIN + sides * side, top + heights * height);
     let [a, b, c] = [at(0.5, 1.0), at(1.5, 1.0), at(1.0, 2.0)];
     let [tip, left, right] = [at(1.0, 0.0), at(0.0, 2.0), at(2.0, 2.0)];
     [[b, c, right], [a, c, left], [a, b, tip], [a, b, c]]
@@ -53,11 +53,13 @@ pub fn picture(
     fractions: &[f64],
 ) -> Result<String, Refusal> {
     let own = faces_of_cell(all, cell);
+    let counts = own.iter().flat_map(|face| face.counts);
+    let side = side_for(usize::from(counts.max().unwrap_or(0)), SIDE);
     let joinings: Vec<Joining> = own.iter().map(|face| face.joining(grid)).collect();
     let placed: Vec<PlacedFace<'_>> = own
         .iter()
         .zip(&joinings)
-        .zip(net())
+        .zip(net(side))
         .map(|((face, joining), corners)| PlacedFace::new(face, joining, corners, fractions))
         .collect();
     let loops = loops_of(grid, cell)?;
@@ -67,13 +69,13 @@ pub fn picture(
     let crossings = Crossings::among(&edges);
     let mut entries = vec![crossings.entry()];
     entries.extend(loop_entries(&placed, &loops, &strokes, nodes[0]));
-    let below = HEAD + 2.0 * MARGIN + 2.0 * SIDE * 0.75_f64.sqrt();
+    let below = HEAD + 2.0 * MARGIN + 2.0 * side * 0.75_f64.sqrt();
     let names: Vec<String> = nodes.iter().map(u16::to_string).collect();
     let title = format!(
         "Cell {cell}, nodes {}: its four faces unfolded",
         names.join(" ")
     );
-    let width = 2.0 * (SIDE + MARGIN);
+    let width = 2.0 * (side + MARGIN);
     let mut svg = Svg::new(width, below + legend::height(&entries), &title);
     draw_head(&mut svg, &title, &faces_in_words(&own));
     draw_faces(&mut svg, &placed, crossings, &strokes);

@@ -48,7 +48,7 @@ impl Alone {
 }
 
 /// The number of the edge with these ends, in an accepted grid.
-fn edge_number(lists: &Lists, ends: [u16; 2]) -> Option<usize> {
+pub fn edge_number(lists: &Lists, ends: [u16; 2]) -> Option<usize> {
     let mut found = 0..lists.counts.len();
     while !found.is_empty() {
         let middle = found.start + found.len() / 2;
@@ -74,6 +74,24 @@ pub fn loops_of(grid: &Grid, cell: usize) -> Result<Vec<Loop>, Refusal> {
         loops.push(Loop { p0, ..found });
     }
     Ok(loops)
+}
+
+/// The counts of a cell's edges 01, 02, 03, 12, 13, 23, where there is such a cell.
+pub fn counts_of(grid: &Grid, cell: usize) -> [u16; 6] {
+    let mut counts = [0; 6];
+    if let Some(alone) = Alone::of(grid, cell) {
+        counts.copy_from_slice(&alone.grid.lists().counts);
+    }
+    counts
+}
+
+/// How many triangles a cell has, by the mesh call.
+pub fn triangles_of(grid: &Grid, cell: usize) -> Result<u64, Refusal> {
+    match Alone::of(grid, cell) {
+        Some(alone) => alone.grid.triangles(),
+        // the loops call refuses a cell that there is not
+        None => grid.loop_at(cell, 0).map(|_| 0),
+    }
 }
 
 /// A segment as it is met at one of its ends: its face, and the crossing there.

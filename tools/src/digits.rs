@@ -16,3 +16,16 @@ pub fn significant(number: f64) -> String {
         _ => scientific,
     }
 }
+
+/// A whole number with commas between groups of three digits.
+pub fn grouped(number: impl ToString) -> String {
+    let digits = number.to_string();
+    let mut out = String::new();
+    for (at, digit) in digits.chars().enumerate() {
+        if at > 0 && (digits.len() - at) % 3 == 0 {
+            out.push(',');
+        }
+        out.push(digit);
+    }
+    out
+}

@@ -18,19 +18,14 @@ const ALONG: Stroke = Stroke {
     dashes: "8 5",
 };
 
-/// The side of the triangle, and the space round it.
+/// The least side of the triangle, and the space round it.
 const SIDE: f64 = 460.0;
 const MARGIN: f64 = 92.0;
-const ABOVE: f64 = 52.0;
+const ABOVE: f64 = 62.0;
 const HEAD: f64 = 64.0;
 
-/// The room that a number beside its crossing takes along the edge, and that the
-/// name of a node takes from its corner.
-const NUMBER: f64 = 34.0;
-const NAME: f64 = 46.0;
-
-/// How crossings are drawn: as discs with their numbers, or as dots with some
-/// numbers beside them where discs would overlap.
+/// How crossings are drawn: as discs with their numbers, or where discs would overlap
+/// as dots, with their numbers aside at the ends of leader lines.
 #[derive(Clone, Copy, Debug, PartialEq)]
 pub struct Crossings {
     pub radius: f64,
@@ -54,7 +49,7 @@ impl Crossings {
             }
         } else {
             Crossings {
-                radius: Crossings::DOT.min(0.3 * least),
+                radius: Crossings::DOT.min((0.3 * least).max(0.6)),
                 numbered: false,
             }
         }
@@ -77,11 +72,52 @@ impl Crossings {
         } else {
             (
                 Mark::Dot(2.5),
-                "crossing, at its fraction of the edge; some have their numbers beside them",
+                "crossing, at its fraction of the edge; a line leads to its number",
             )
         };
         Entry::new(mark, words)
     }
+}
+
+/// The size of a number that stands aside, the room that it takes along its edge, and
+/// how far from the edge and from its ends it stands.
+const ASIDE: f64 = 9.0;
+const ASIDE_ROOM: f64 = 10.5;
+const ASIDE_AWAY: f64 = 17.0;
+const ASIDE_ENDS: f64 = 20.0;
+const LEADER: Stroke = Stroke::solid(GREY, 0.6);
+
+/// The side that a face is drawn with, at least this one: each of so many numbers on
+/// an edge has its room there.
+pub fn side_for(most_on_an_edge: usize, least: f64) -> f64 {
+    least.max(ASIDE_ROOM * most_on_an_edge as f64 + 2.0 * ASIDE_ENDS)
+}
+
+/// Numbers along a line as near to where they belong as they can be, so far apart, and
+/// within a range that has room for them.
+pub fn spread(wanted: &[f64], apart: f64, [low, high]: [f64; 2]) -> Vec<f64> {
+    // runs of neighbours that touch each other: how many, and their mean less the steps
+    let mut runs: Vec<(usize, f64)> = Vec::new();
+    for (at, &place) in wanted.iter().enumerate() {
+        let mut run = (1, place - apart * at as f64);
+        while let Some(&(number, mean)) = runs.last().filter(|last| last.1 > run.1) {
+            let both = number + run.0;
+            run = (
+                both,
+                (mean * number as f64 + run.1 * run.0 as f64) / both as f64,
+            );
+            runs.pop();
+        }
+        runs.push(run);
+    }
+    let last = (high - apart * wanted.len().saturating_sub(1) as f64).max(low);
+    let starts = runs
+        .into_iter()
+        .flat_map(|(number, mean)| std::iter::repeat(mean.clamp(low, last)).take(number));
+    let places = starts.enumerate();
+    places
+        .map(|(at, start)| start + apart * at as f64)
+        .collect()
 }
 
 /// An edge in the plane of a picture, with its first crossing number and the
@@ -112,20 +148,30 @@ impl PlacedEdge<'_> {
     }
 
     pub fn draw(&self, svg: &mut Svg, crossings: Crossings) {
-        let mut labelled: Option<Point> = None;
-        for (number, at) in (self.start..).zip(self.places()) {
-            if crossings.numbered {
+        if crossings.numbered {
+            for (number, at) in (self.start..).zip(self.places()) {
                 draw_number(svg, at, number, crossings.radius);
-                continue;
             }
+            return;
+        }
+        self.draw_numbers_aside(svg);
+        for at in self.places() {
             svg.disc(at, crossings.radius, BLACK, Stroke::solid(BLACK, 0.0));
-            let clear = |other: Point, least: f64| (at - other).length() >= least;
-            let beside_names = self.ends.iter().any(|&end| !clear(end, NAME));
-            if !beside_names && labelled.map_or(true, |last| clear(last, NUMBER)) {
-                labelled = Some(at);
-                let text = number.to_string();
-                svg.text_on_white(at + self.outward * 18.0, Label::middle(&text, 10.0));
-            }
+        }
+    }
+
+    /// Each number outside the edge, across it, with a line that leads to it.
+    fn draw_numbers_aside(&self, svg: &mut Svg) {
+        let [u, v] = self.ends;
+        let (length, along) = ((v - u).length(), (v - u).unit());
+        let wanted: Vec<f64> = self.fractions.iter().map(|of| of * length).collect();
+        let range = [ASIDE_ENDS, length - ASIDE_ENDS];
+        let stands = spread(&wanted, ASIDE_ROOM, range);
+        for (number, (at, stand)) in (self.start..).zip(self.places().zip(stands)) {
+            let foot = u + along * stand + self.outward * ASIDE_AWAY;
+            svg.line([at, foot], LEADER);
+            let text = number.to_string();
+            svg.text_turned(foot, self.outward, Label::start(&text, ASIDE));
         }
     }
 }
@@ -159,13 +205,14 @@ pub fn draw_joining(
 /// The picture of a face. `fractions` are those of all crossings of the grid.
 pub fn picture(grid: &Grid, face: &Face, fractions: &[f64]) -> String {
     let joining = face.joining(grid);
-    let height = SIDE * 0.75_f64.sqrt();
+    let most = face.counts.iter().copied().max().unwrap_or(0);
+    let side = side_for(usize::from(most), SIDE);
     let top = HEAD + ABOVE;
-    let bottom = top + height;
+    let bottom = top + side * 0.75_f64.sqrt();
     let corners = [
         Point::new(MARGIN, bottom),
-        Point::new(MARGIN + SIDE, bottom),
-        Point::new(MARGIN + SIDE / 2.0, top),
+        Point::new(MARGIN + side, bottom),
+        Point::new(MARGIN + side / 2.0, top),
     ];
     let placed = PlacedFace::new(face, &joining, corners, fractions);
     let edges = placed_edges(grid, &placed, fractions);
@@ -176,7 +223,7 @@ pub fn picture(grid: &Grid, face: &Face, fractions: &[f64]) -> String {
     let [a, b, c] = face.nodes;
     let title = format!("Face {}, nodes {a} {b} {c}", face.name);
     let mut svg = Svg::new(
-        SIDE + 2.0 * MARGIN,
+        side + 2.0 * MARGIN,
         below + legend::height(&entries),
         &title,
     );

@@ -1,12 +1,21 @@
 //! Input from a file or standard input; output to standard output, or to a file
 //! that is written beside and then renamed, so that it is never half written.
 
+use std::ffi::OsStr;
 use std::fs::{self, File, OpenOptions};
 use std::io::{self, Read, Write};
 use std::path::{Path, PathBuf};
 use std::process;
 
-use crate::fault::Fault;
+use crate::digits::grouped;
+use crate::fault::{file_name, Fault};
+
+/// A grid is read from so many bytes at most, as a bundle or as a text: what an
+/// accepted grid can state takes a twentieth of it.
+pub const GRID_BYTES: usize = 64 << 20;
+
+/// A mesh is read from so many bytes at most: the words of 24 million triangles.
+pub const MESH_BYTES: usize = 1 << 30;
 
 /// Bytes that were read, and what to call them in a message.
 pub struct Input {
@@ -14,35 +23,69 @@ pub struct Input {
     pub bytes: Vec<u8>,
 }
 
-/// Reads a file, or standard input where none is named or its name is `-`.
-pub fn read(file: Option<&str>) -> Result<Input, Fault> {
-    let (name, read) = match file {
-        None | Some("-") => ("standard input", read_standard_input()),
-        Some(file) => (file, fs::read(file)),
+/// An input that is open, with the bytes read so far.
+pub struct Opened {
+    pub input: Input,
+    rest: Box<dyn Read>,
+}
+
+/// Opens a file, or standard input where none is named or its name is `-`.
+pub fn open(file: Option<&OsStr>) -> Result<Opened, Fault> {
+    let name = match file {
+        Some(file) if file != "-" => file_name(file),
+        _ => "standard input".to_string(),
     };
-    match read {
-        Ok(bytes) => Ok(Input {
-            name: name.to_string(),
-            bytes,
-        }),
-        Err(error) => Err(Fault::new(error.to_string()).of(name)),
+    let rest: Box<dyn Read> = match file {
+        Some(file) if file != "-" => Box::new(File::open(file).map_err(|e| failed(e, &name))?),
+        _ => Box::new(io::stdin()),
+    };
+    let bytes = Vec::new();
+    let input = Input { name, bytes };
+    Ok(Opened { input, rest })
+}
+
+fn failed(error: io::Error, name: &str) -> Fault {
+    Fault::usage(error.to_string()).of(name)
+}
+
+impl Opened {
+    /// Reads on until there are so many bytes, or no more.
+    pub fn read_to(&mut self, most: usize) -> Result<(), Fault> {
+        let more = most.saturating_sub(self.input.bytes.len()) as u64;
+        let read = (&mut self.rest)
+            .take(more)
+            .read_to_end(&mut self.input.bytes);
+        read.map_err(|error| failed(error, &self.input.name))?;
+        Ok(())
+    }
+
+    /// All that is left, where it is no more than so many bytes together.
+    pub fn all_within(mut self, most: usize) -> Result<Input, Fault> {
+        self.read_to(most + 1)?;
+        if self.input.bytes.len() > most {
+            let what = format!("more than {} bytes, which is too long", grouped(most));
+            return Err(Fault::new(what).of(&self.input.name));
+        }
+        Ok(self.input)
     }
 }
 
-fn read_standard_input() -> io::Result<Vec<u8>> {
-    let mut bytes = Vec::new();
-    io::stdin().read_to_end(&mut bytes)?;
-    Ok(bytes)
+/// Reads a grid from a file, or from standard input where none is named or its name
+/// is `-`.
+pub fn read(file: Option<&OsStr>) -> Result<Input, Fault> {
+    open(file)?.all_within(GRID_BYTES)
 }
 
 /// Writes all bytes to a file, or to standard output where none is named or its
 /// name is `-`.
-pub fn write(file: Option<&str>, bytes: &[u8]) -> Result<(), Fault> {
-    let (name, written) = match file {
-        None | Some("-") => ("standard output", write_standard_output(bytes)),
-        Some(file) => (file, write_file(Path::new(file), bytes)),
-    };
-    written.map_err(|error| Fault::new(error.to_string()).of(name))
+pub fn write(file: Option<&OsStr>, bytes: &[u8]) -> Result<(), Fault> {
+    match file {
+        Some(file) if file != "-" => {
+            let written = write_file(Path::new(file), bytes);
+            written.map_err(|error| failed(error, &file_name(file)))
+        }
+        _ => write_standard_output(bytes).map_err(|error| failed(error, "standard output")),
+    }
 }
 
 /// A reader that closes the pipe has what it wants: that is no fault.

@@ -4,8 +4,11 @@
 use std::fmt::Write;
 
 use crate::calls::{self, Grid, Refusal, NO_NUMBER, REFUSED_MESH_AREA, TRIANGLE_WORDS};
+use crate::digits::grouped;
+use crate::files::GRID_BYTES;
 use crate::progress::Progress;
 use crate::refusals;
+use crate::text::Text;
 
 /// What a listing takes at most: bytes of a bundle, and triangles.
 #[derive(Clone, Copy)]
@@ -20,8 +23,9 @@ pub const MESHLIST: Limits = Limits {
     triangles: 1_489,
 };
 
-pub const NO_LIMITS: Limits = Limits {
-    bytes: usize::MAX,
+/// Those of any other grid: what is read at all.
+pub const ANY_SIZE: Limits = Limits {
+    bytes: GRID_BYTES,
     triangles: usize::MAX,
 };
 
@@ -31,10 +35,11 @@ pub struct Refused {
     pub words: String,
 }
 
-/// The listing of a bundle's bytes.
-pub fn listing(bytes: &[u8], limits: Limits) -> Result<String, Refused> {
+/// The listing of a bundle's bytes, and of the text that they were packed from, if
+/// there is one.
+pub fn listing(bytes: &[u8], text: Option<&Text>, limits: Limits) -> Result<String, Refused> {
     if bytes.len() > limits.bytes {
-        return Err(too_long(bytes.len(), limits.bytes));
+        return Err(too_long(limits.bytes));
     }
     let of_bytes = |refusal| Refused {
         refusal,
@@ -43,7 +48,10 @@ pub fn listing(bytes: &[u8], limits: Limits) -> Result<String, Refused> {
     let lists = calls::bundle_read(bytes).map_err(of_bytes)?;
     let of_lists = |refusal| Refused {
         refusal,
-        words: refusals::of_lists(refusal, &lists),
+        words: match text {
+            Some(text) => refusals::of_text(refusal, &lists, text).to_string(),
+            None => refusals::of_lists(refusal, &lists),
+        },
     };
     let grid = Grid::open(lists.clone()).map_err(of_lists)?;
     let words = grid.mesh_within(limits.triangles);
@@ -51,21 +59,27 @@ pub fn listing(bytes: &[u8], limits: Limits) -> Result<String, Refused> {
         REFUSED_MESH_AREA => too_large(refusal, limits.triangles),
         _ => of_lists(refusal),
     })?;
-    Ok(lines(&grid, &words))
+    Ok(of_grid(&grid, &words))
 }
 
-fn too_long(bytes: usize, most: usize) -> Refused {
+/// More bytes than a listing takes.
+pub fn too_long(most: usize) -> Refused {
+    let unless = match most {
+        GRID_BYTES => "",
+        _ => ", unless --any-size is given",
+    };
+    let bytes = grouped(most);
     Refused {
         refusal: Refusal {
             number: 13,
             place: most as u64,
         },
-        words: format!("{bytes} bytes: a listing is of {most} at most, unless --any-size is given"),
+        words: format!("more than {bytes} bytes: a listing is of so many at most{unless}"),
     }
 }
 
 fn too_large(refusal: Refusal, most: usize) -> Refused {
-    let triangles = refusal.place;
+    let (triangles, most) = (refusal.place, grouped(most));
     Refused {
         refusal,
         words: format!(
@@ -74,9 +88,16 @@ fn too_large(refusal: Refusal, most: usize) -> Refused {
     }
 }
 
-fn lines(grid: &Grid, words: &[u32]) -> String {
+/// The listing of a grid's mesh.
+fn of_grid(grid: &Grid, words: &[u32]) -> String {
     let (cells, edges) = (grid.lists().cells.len() / 4, grid.lists().counts.len());
-    let (crossings, triangles) = (grid.crossings(), words.len() / TRIANGLE_WORDS);
+    lines([cells, edges, grid.crossings()], words)
+}
+
+/// The line of totals, with the numbers of cells, edges and crossings, and a line for
+/// each triangle.
+pub fn lines([cells, edges, crossings]: [usize; 3], words: &[u32]) -> String {
+    let triangles = words.len() / TRIANGLE_WORDS;
     let mut out =
         format!("cells {cells} edges {edges} crossings {crossings} triangles {triangles}\n");
     let mut progress = Progress::new("triangles listed:", triangles);

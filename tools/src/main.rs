@@ -1,9 +1,11 @@
 use std::env;
+use std::ffi::OsString;
 use std::io::{self, Write};
 use std::process::ExitCode;
 use std::thread;
 
 use citternblaze::calls::STACK_BYTES;
+use citternblaze::fault::Fault;
 
 /// What the program's own functions have of the stack.
 const OWN_STACK_BYTES: usize = 1_024 * 1_024;
@@ -15,22 +17,20 @@ fn main() -> ExitCode {
     match thread.spawn(run).map(thread::JoinHandle::join) {
         Ok(Ok(code)) => code,
         Ok(Err(_)) => ExitCode::from(101),
-        Err(error) => told(format_args!("no thread: {error}")),
+        Err(error) => told(&Fault::usage(format!("no thread: {error}"))),
     }
 }
 
 fn run() -> ExitCode {
-    let arguments = env::args_os()
-        .skip(1)
-        .map(|argument| argument.to_string_lossy().into_owned());
-    match citternblaze::commands::run(arguments.collect()) {
+    let arguments: Vec<OsString> = env::args_os().skip(1).collect();
+    match citternblaze::commands::run(&arguments) {
         Ok(()) => ExitCode::SUCCESS,
-        Err(fault) => told(format_args!("{fault}")),
+        Err(fault) => told(&fault),
     }
 }
 
-fn told(fault: std::fmt::Arguments<'_>) -> ExitCode {
+fn told(fault: &Fault) -> ExitCode {
     // a standard error that takes nothing leaves the exit status
     let _ = writeln!(io::stderr(), "citternblaze: {fault}");
-    ExitCode::FAILURE
+    ExitCode::from(fault.ending().status())
 }

@@ -9,19 +9,24 @@ use crate::svg::{Label, Stroke, Svg, BLACK, VERMILION};
 pub fn draw_number(svg: &mut Svg, at: Point, number: usize, radius: f64) {
     let text = number.to_string();
     let size = (1.15 * radius).min(2.5 * radius / text.len() as f64);
-    svg.disc(at, radius, "#ffffff", Stroke::solid(BLACK, 1.2));
+    svg.disc(
+        at,
+        radius,
+        "#ffffff",
+        Stroke::solid(BLACK, 1.2_f64.min(0.15 * radius)),
+    );
     svg.text(at, Label::middle(&text, size));
 }
 
 /// A crossing without a number.
 pub fn draw_ring(svg: &mut Svg, at: Point, radius: f64) {
-    svg.disc(at, radius, "#ffffff", Stroke::solid(BLACK, 1.0));
+    svg.disc(at, radius, "#ffffff", Stroke::solid(BLACK, 0.4 * radius));
 }
 
 /// The mark of an unjoined crossing: a cross where rule 2 left it, a square where
 /// rule 3 skipped it.
 pub fn draw_unjoined(svg: &mut Svg, at: Point, why: Why, half: f64) {
-    let stroke = Stroke::solid(VERMILION, 2.2);
+    let stroke = Stroke::solid(VERMILION, 0.44 * half);
     let corner = |x, y| at + Point::new(half * x, half * y);
     let [a, b, c, d] = [
         corner(-1.0, -1.0),

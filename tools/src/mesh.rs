@@ -108,6 +108,14 @@ pub struct Mesh {
     middles: HashMap<(Part, u32), usize>,
 }
 
+/// What a point is.
+#[derive(Clone, Copy, Debug, PartialEq, Eq)]
+pub enum PointKind {
+    Crossing,
+    InnerCrossing,
+    Middle,
+}
+
 /// The inner crossings of all cells, by cell and number.
 #[derive(Default)]
 struct InnerCrossings {
@@ -130,7 +138,11 @@ impl InnerCrossings {
 
 impl Mesh {
     pub fn of(grid: &Grid) -> Result<Mesh, Refusal> {
-        let words = grid.mesh()?;
+        Ok(Mesh::of_words(grid.mesh()?, grid.crossings()))
+    }
+
+    /// The mesh of these words, of a grid with so many crossings.
+    pub fn of_words(words: Vec<u32>, crossings: usize) -> Mesh {
         let mut counts = BTreeMap::new();
         let mut middles = HashMap::new();
         for corner in triangles(&words).flat_map(|triangle| triangle.corners) {
@@ -148,12 +160,50 @@ impl Mesh {
                 }
             }
         }
-        Ok(Mesh {
+        Mesh {
             words,
-            crossings: grid.crossings(),
+            crossings,
             inner: InnerCrossings::of(counts),
             middles,
-        })
+        }
+    }
+
+    /// The same words, of a grid with so many crossings.
+    pub fn with_crossings(self, crossings: usize) -> Mesh {
+        Mesh { crossings, ..self }
+    }
+
+    /// Other words of the same grid, with the points of this mesh, if it has those of
+    /// all their corners.
+    pub fn with_words(self, words: Vec<u32>) -> Option<Mesh> {
+        let has = |triangle: Triangle| triangle.corners.iter().all(|&of| self.has(of));
+        let all = triangles(&words).all(has);
+        all.then_some(Mesh { words, ..self })
+    }
+
+    /// Whether one of its triangles may have this corner.
+    fn has(&self, corner: Corner) -> bool {
+        match corner {
+            Corner::Crossing(crossing) => (crossing as usize) < self.crossings,
+            Corner::InnerCrossing { cell, crossing } => {
+                let own = crossing.checked_sub(INNER_CROSSING);
+                let first = self.inner.before.get(&cell);
+                let next = self.inner.before.range(cell + 1..).next();
+                let end = next.map_or(self.inner.all, |of| *of.1);
+                matches!((own, first), (Some(own), Some(first)) if first + (own as usize) < end)
+            }
+            Corner::Middle { part, p0 } => self.middles.contains_key(&(part, p0)),
+        }
+    }
+
+    /// One of its triangles.
+    pub fn triangle(&self, at: usize) -> Triangle {
+        let words = self.words[TRIANGLE_WORDS * at..].iter().copied();
+        let mut own = [0; TRIANGLE_WORDS];
+        own.iter_mut()
+            .zip(words)
+            .for_each(|(own, word)| *own = word);
+        triangle(own)
     }
 
     pub fn triangles(&self) -> impl Iterator<Item = Triangle> + '_ {
@@ -163,6 +213,11 @@ impl Mesh {
     /// How many triangles it has.
     pub fn size(&self) -> usize {
         self.words.len() / TRIANGLE_WORDS
+    }
+
+    /// How many crossings its grid has.
+    pub fn crossings(&self) -> usize {
+        self.crossings
     }
 
     /// How many inner crossings its split cells have.
@@ -178,6 +233,17 @@ impl Mesh {
     /// How many points the places call places.
     pub fn points(&self) -> usize {
         self.crossings + self.inner_crossings() + self.fans()
+    }
+
+    /// What the point with this number is.
+    pub fn kind(&self, point: usize) -> PointKind {
+        if point < self.crossings {
+            PointKind::Crossing
+        } else if point < self.crossings + self.inner.all {
+            PointKind::InnerCrossing
+        } else {
+            PointKind::Middle
+        }
     }
 
     /// The number of the point of one of its corners: crossings stand first, then

@@ -69,7 +69,10 @@ pub fn fractions(grid: &Grid, text: &Text) -> Result<Vec<f64>, Fault> {
     let room = Mesh::of(grid).map_err(in_words)?.points();
     let highest = grid.lists().cells.iter().copied().max().unwrap_or(0);
     let nodes = vec![0.0; 3 * (usize::from(highest) + 1)];
-    grid.points(&nodes, &list, room).map_err(in_words)?;
+    grid.points(&nodes, &list, room).map_err(|refused| {
+        let lists = [&nodes[..], &list[..]];
+        refusals::of_places(refused, grid.lists(), text, lists)
+    })?;
     Ok(list)
 }
 
@@ -105,7 +108,10 @@ pub fn points(grid: &Grid, text: &Text, mesh: &Mesh) -> Result<Vec<[f64; 3]>, Fa
     let fractions = stated_fractions(grid, text)?;
     let numbers = grid
         .points(&nodes, &fractions, mesh.points())
-        .map_err(|refused| Fault::new(refusals::of_lists(refused, grid.lists())))?;
+        .map_err(|refused| {
+            let lists = [&nodes[..], &fractions[..]];
+            refusals::of_places(refused, grid.lists(), text, lists)
+        })?;
     Ok(numbers
         .chunks_exact(3)
         .map(|at| [at[0], at[1], at[2]])

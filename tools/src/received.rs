@@ -5,9 +5,23 @@ use std::collections::{BTreeMap, BTreeSet};
 use std::fmt;
 
 use crate::calls::{NO_NUMBER, TRIANGLE_WORDS};
-use crate::fault::Fault;
+use crate::fault::{shown, Fault};
 use crate::mesh::{triangles, Corner, Part, Side, Triangle};
 use crate::progress::Progress;
+
+/// Words that were received, and what the line of totals says, if there is one.
+#[derive(Clone, Debug, Default, PartialEq, Eq)]
+pub struct Words {
+    pub words: Vec<u32>,
+    pub stated: Option<Totals>,
+}
+
+/// What a line of totals says.
+#[derive(Clone, Copy, Debug, PartialEq, Eq)]
+pub struct Totals {
+    pub crossings: Option<usize>,
+    pub triangles: usize,
+}
 
 /// What was received.
 #[derive(Clone, Debug, PartialEq, Eq)]
@@ -25,44 +39,79 @@ impl Received {
             stated: None,
         }
     }
+
+    pub fn of_words(read: &Words) -> Received {
+        Received {
+            triangles: triangles(&read.words).collect(),
+            stated: read.stated.map(|totals| totals.triangles),
+        }
+    }
 }
 
-/// The triangles of a listing: lines with `T` and eleven words, where `-` is
-/// 4294967295, and at most one line of totals. Comments and empty lines are passed
-/// over.
+/// The triangles of a listing.
 pub fn read_listing(bytes: &[u8]) -> Result<Received, Fault> {
-    let mut words = Vec::new();
-    let mut stated = None;
-    for (at, line) in bytes.split(|&byte| byte == b'\n').enumerate() {
-        let text = std::str::from_utf8(line).map_err(|_| {
-            Fault::at_line(
-                at + 1,
-                "no text in UTF-8 (--binary reads words of four bytes)",
-            )
-        })?;
+    Ok(Received::of_words(&listed_words(bytes)?))
+}
+
+/// The triangles of words of four bytes, low byte first.
+pub fn read_binary(bytes: &[u8]) -> Result<Received, Fault> {
+    Ok(Received::of_words(&binary_words(bytes)?))
+}
+
+/// The words of a listing: lines with `T` and eleven words, where `-` is 4294967295,
+/// and at most one line of totals. Comments and empty lines are passed over.
+pub fn listed_words(bytes: &[u8]) -> Result<Words, Fault> {
+    let text = as_text(bytes)?;
+    let mut read = Words::default();
+    for (at, text) in text.split('\n').enumerate() {
         let text = text.split('#').next().unwrap_or_default();
         let mut line = text.split_whitespace();
         match line.next() {
             None => {}
-            Some("cells") if stated.is_none() => stated = Some(total(line, at + 1)?),
-            Some("T") => words.extend(eleven(line, at + 1)?),
+            Some("cells") if read.stated.is_none() => read.stated = Some(total(line, at + 1)?),
+            Some("T") => read.words.extend(eleven(line, at + 1)?),
             Some(other) => {
+                let other = shown(other);
                 let what = format!("a triangle's line starts with T, and this one with '{other}'");
                 return Err(Fault::at_line(at + 1, what));
             }
         }
     }
-    Ok(Received {
-        triangles: triangles(&words).collect(),
-        stated,
-    })
+    Ok(read)
 }
 
-/// The number of triangles in the line of totals.
-fn total<'a>(mut line: impl Iterator<Item = &'a str>, at: usize) -> Result<usize, Fault> {
-    let found = line.find(|&word| word == "triangles");
-    let number = found.and_then(|_| line.next()?.parse().ok());
-    number.ok_or_else(|| Fault::at_line(at, "the line of totals has no number of triangles"))
+/// Bytes as lines of text. Words that are no text are told before any line is read:
+/// nearly all have a byte 0.
+fn as_text(bytes: &[u8]) -> Result<&str, Fault> {
+    no_zero(bytes)?;
+    std::str::from_utf8(bytes).map_err(|_| no_text())
+}
+
+/// Refuses bytes with a byte 0.
+pub fn no_zero(bytes: &[u8]) -> Result<(), Fault> {
+    match bytes.contains(&0) {
+        true => Err(no_text()),
+        false => Ok(()),
+    }
+}
+
+fn no_text() -> Fault {
+    Fault::new("no lines of text (--binary reads words of four bytes)")
+}
+
+/// The numbers of the line of totals.
+fn total<'a>(line: impl Iterator<Item = &'a str>, at: usize) -> Result<Totals, Fault> {
+    let words: Vec<&str> = line.collect();
+    let after = |name: &str| {
+        let at = words.iter().position(|&word| word == name)?;
+        words.get(at + 1)?.parse().ok()
+    };
+    let triangles = after("triangles");
+    let none = || Fault::at_line(at, "the line of totals has no number of triangles");
+    Ok(Totals {
+        crossings: after("crossings"),
+        triangles: triangles.ok_or_else(none)?,
+    })
 }
 
 /// The eleven words of a line.
@@ -71,7 +120,7 @@ fn eleven<'a>(line: impl Iterator<Item = &'a str>, at: usize) -> Result<Vec<u32>
         "-" => Ok(NO_NUMBER),
         _ => text
             .parse()
-            .map_err(|_| Fault::at_line(at, format!("'{text}' is no word of 32 bits"))),
+            .map_err(|_| Fault::at_line(at, format!("'{}' is no word of 32 bits", shown(text)))),
     };
     let words: Vec<u32> = line.map(word).collect::<Result<_, _>>()?;
     match words.len() {
@@ -83,8 +132,8 @@ fn eleven<'a>(line: impl Iterator<Item = &'a str>, at: usize) -> Result<Vec<u32>
     }
 }
 
-/// The triangles of words of four bytes, low byte first.
-pub fn read_binary(bytes: &[u8]) -> Result<Received, Fault> {
+/// Words of four bytes, low byte first.
+pub fn binary_words(bytes: &[u8]) -> Result<Words, Fault> {
     let whole = 4 * TRIANGLE_WORDS;
     if bytes.len() % whole != 0 {
         let start = bytes.len() / whole * whole;
@@ -98,8 +147,10 @@ pub fn read_binary(bytes: &[u8]) -> Result<Received, Fault> {
             .rev()
             .fold(0, |sum, &byte| sum << 8 | u32::from(byte))
     };
-    let words: Vec<u32> = bytes.chunks_exact(4).map(word).collect();
-    Ok(Received::of(triangles(&words).collect()))
+    Ok(Words {
+        words: bytes.chunks_exact(4).map(word).collect(),
+        stated: None,
+    })
 }
 
 /// The numbers of the triangles that have a thing, by this thing.
@@ -298,7 +349,7 @@ impl fmt::Display for Report {
     }
 }
 
-fn list_sides(out: &mut fmt::Formatter<'_>, sides: &Having<Side>) -> fmt::Result {
+pub fn list_sides(out: &mut fmt::Formatter<'_>, sides: &Having<Side>) -> fmt::Result {
     for (side, at) in sides.iter().take(TOLD) {
         let at: Vec<String> = at.iter().map(usize::to_string).collect();
         let name = SideName(*side);
@@ -314,7 +365,7 @@ fn and_more(out: &mut fmt::Formatter<'_>, number: usize) -> fmt::Result {
     }
 }
 
-struct SideName(Side);
+pub struct SideName(pub Side);
 
 impl fmt::Display for SideName {
     fn fmt(&self, out: &mut fmt::Formatter<'_>) -> fmt::Result {

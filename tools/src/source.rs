@@ -4,7 +4,7 @@
 use crate::arguments::{Arguments, Flag};
 use crate::bundle;
 use crate::calls::{self, Grid, Refusal};
-use crate::fault::Fault;
+use crate::fault::{file_name, Fault};
 use crate::files::{self, Input};
 use crate::refusals;
 use crate::text::{self, Text};
@@ -39,21 +39,31 @@ impl Source {
 
 /// Reads the input and opens its grid.
 pub fn open(arguments: &Arguments) -> Result<Source, Fault> {
-    let input = files::read(arguments.file())?;
+    open_after(arguments, 0)
+}
+
+/// The same for a command that has so many operands before its file.
+pub fn open_after(arguments: &Arguments, words: usize) -> Result<Source, Fault> {
+    let input = files::read(arguments.file_after(words)?)?;
     let mut text = read_text(&input)?;
     add_places(&mut text, arguments)?;
-    let bytes = bundle::pack(&text).map_err(|fault| fault.of(&input.name))?;
+    let grid = grid_of(&text, &input.name)?;
+    let places_name = arguments.path(PLACES.name).map(file_name);
+    Ok(Source {
+        text,
+        grid,
+        places_name: places_name.unwrap_or_else(|| input.name.clone()),
+        name: input.name,
+    })
+}
+
+/// The grid of a text, of the input with this name.
+pub fn grid_of(text: &Text, name: &str) -> Result<Grid, Fault> {
+    let bytes = bundle::pack(text).map_err(|fault| fault.of(name))?;
     let lists = calls::bundle_read(&bytes)
-        .map_err(|refused| Fault::new(refusals::of_bytes(refused, &bytes)).of(&input.name))?;
-    match Grid::open(lists.clone()) {
-        Ok(grid) => Ok(Source {
-            text,
-            grid,
-            places_name: arguments.value(PLACES.name).unwrap_or(&input.name).into(),
-            name: input.name,
-        }),
-        Err(refused) => Err(Fault::new(refusals::of_lists(refused, &lists)).of(&input.name)),
-    }
+        .map_err(|refused| Fault::new(refusals::of_bytes(refused, &bytes)).of(name))?;
+    let grid = Grid::open(lists.clone());
+    grid.map_err(|refused| refusals::of_text(refused, &lists, text).of(name))
 }
 
 /// The statements of a text or of a bundle.
@@ -68,7 +78,7 @@ pub fn read_text(input: &Input) -> Result<Text, Fault> {
 
 /// Adds the places and fractions of the file that `--places` names.
 pub fn add_places(text: &mut Text, arguments: &Arguments) -> Result<(), Fault> {
-    let file = match arguments.value(PLACES.name) {
+    let file = match arguments.path(PLACES.name) {
         None => return Ok(()),
         Some(file) => file,
     };
@@ -76,10 +86,12 @@ pub fn add_places(text: &mut Text, arguments: &Arguments) -> Result<(), Fault> {
     let places = text::read(&input.bytes).map_err(|fault| fault.of(&input.name))?;
     let grid = [places.cells.len(), places.edges.len(), places.looks.len()];
     if grid != [0; 3] {
-        return Err(Fault::new("a text of places has only node and fractions lines").of(file));
+        let what = "a text of places has only node and fractions lines";
+        return Err(Fault::new(what).of(&input.name));
     }
     if !(text.nodes.is_empty() && text.fractions.is_empty()) {
-        return Err(Fault::new("the grid's own text has places already").of(file));
+        let what = "the grid's own text has places already";
+        return Err(Fault::new(what).of(&input.name));
     }
     text.nodes = places.nodes;
     text.fractions = places.fractions;

@@ -67,11 +67,22 @@ impl fmt::Display for At {
     }
 }
 
+/// A point to the thousandth, for sheets in millimetres.
+struct Fine(Point);
+
+impl fmt::Display for Fine {
+    fn fmt(&self, out: &mut fmt::Formatter<'_>) -> fmt::Result {
+        let [x, y] = [self.0.x, self.0.y].map(|of| (of * 1e3).round() / 1e3 + 0.0);
+        write!(out, "{x} {y}")
+    }
+}
+
 /// Where a text stands at its point.
 #[derive(Clone, Copy, Debug, PartialEq, Eq)]
 enum Anchor {
     Start,
     Middle,
+    End,
 }
 
 /// A line of text.
@@ -102,6 +113,14 @@ impl<'a> Label<'a> {
         }
     }
 
+    /// A text that ends at its point, centred in height.
+    pub fn end(text: &'a str, size: f64) -> Label<'a> {
+        Label {
+            anchor: Anchor::End,
+            ..Label::start(text, size)
+        }
+    }
+
     /// About how wide it is.
     pub fn width(&self) -> f64 {
         let letter = if self.bold { 0.66 } else { 0.6 };
@@ -117,6 +136,8 @@ impl<'a> Label<'a> {
 pub struct Svg {
     width: f64,
     height: f64,
+    /// The unit of the picture's size: none is a pixel.
+    unit: &'static str,
     title: String,
     body: String,
 }
@@ -126,8 +147,17 @@ impl Svg {
         Svg {
             width,
             height,
+            unit: "",
             title: title.to_string(),
             body: String::new(),
+        }
+    }
+
+    /// A sheet, in millimetres.
+    pub fn sheet(width: f64, height: f64, title: &str) -> Svg {
+        Svg {
+            unit: "mm",
+            ..Svg::new(width, height, title)
         }
     }
 
@@ -140,6 +170,24 @@ impl Svg {
             r#"<path d="M {} L {}" fill="none" {stroke}/>"#,
             At(from),
             At(to)
+        ));
+    }
+
+    /// A line through points to the thousandth, closed or not.
+    pub fn curve(&mut self, points: &[Point], closed: bool, stroke: Stroke) {
+        let (path, end) = (path(points), if closed { " Z" } else { "" });
+        self.add(format_args!(
+            r#"<path d="{path}{end}" fill="none" {stroke}/>"#
+        ));
+    }
+
+    /// What an odd number of rings surrounds.
+    pub fn area(&mut self, rings: &[Vec<Point>], fill: &str, opacity: f64) {
+        let rings: String = rings.iter().map(|ring| path(ring) + " Z ").collect();
+        let opacity = Short(opacity);
+        self.add(format_args!(
+            r#"<path d="{}" fill="{fill}" fill-opacity="{opacity}" fill-rule="evenodd" stroke="none"/>"#,
+            rings.trim_end()
         ));
     }
 
@@ -170,6 +218,19 @@ impl Svg {
         ));
     }
 
+    /// Rings of points, filled where an odd number of them surrounds a place.
+    pub fn facet(&mut self, rings: &[Vec<Point>], fill: &str, opacity: f64, stroke: Stroke) {
+        let ring = |ring: &Vec<Point>| {
+            let points: Vec<String> = ring.iter().map(|&at| At(at).to_string()).collect();
+            format!("M {} Z", points.join(" "))
+        };
+        let rings: Vec<String> = rings.iter().map(ring).collect();
+        let (rings, opacity) = (rings.join(" "), Short(opacity));
+        self.add(format_args!(
+            r#"<path d="{rings}" fill="{fill}" fill-opacity="{opacity}" fill-rule="evenodd" {stroke}/>"#
+        ));
+    }
+
     pub fn disc(&mut self, at: Point, radius: f64, fill: &str, stroke: Stroke) {
         let (x, y, radius) = (Short(at.x), Short(at.y), Short(radius));
         self.add(format_args!(
@@ -182,6 +243,7 @@ impl Svg {
         let (anchor, drop) = match label.anchor {
             Anchor::Start => ("start", 0.0),
             Anchor::Middle => ("middle", 0.36 * label.size),
+            Anchor::End => ("end", 0.36 * label.size),
         };
         let weight = if label.bold {
             r#" font-weight="bold""#
@@ -196,7 +258,8 @@ impl Svg {
 
     /// A text with its middle at a point, where curves pass behind it.
     pub fn text_on_white(&mut self, at: Point, label: Label<'_>) {
-        let half = Point::new(0.5 * label.width() + 1.0, 0.5 * label.size + 1.0);
+        let half = Point::new(0.5, 0.5) * (0.2 * label.size)
+            + Point::new(0.5 * label.width(), 0.5 * label.size);
         let corner = |x: f64, y: f64| at + Point::new(x * half.x, y * half.y);
         let corners = [
             corner(-1.0, -1.0),
@@ -206,6 +269,28 @@ impl Svg {
         ];
         self.polygon(&corners, "#ffffff", 0.85, Stroke::solid("none", 0.0));
         self.text(at, label);
+    }
+
+    /// A text that starts at a point and runs in this direction, or where it would
+    /// stand on its head, runs to the point from there.
+    pub fn text_turned(&mut self, at: Point, along: Point, label: Label<'_>) {
+        let back = along.x < -1e-9;
+        let along = if back { along * -1.0 } else { along };
+        let turn = along.y.atan2(along.x).to_degrees();
+        let (x, y, size) = (Short(at.x), Short(at.y), Short(label.size));
+        let (anchor, text) = (if back { "end" } else { "start" }, escaped(label.text));
+        let drop = Short(0.36 * label.size);
+        self.add(format_args!(
+            r#"<text transform="translate({x} {y}) rotate({})" x="0" y="{drop}" font-size="{size}" text-anchor="{anchor}">{text}</text>"#,
+            Short(turn)
+        ));
+    }
+
+    /// A text whose nearest rim is at a point, in this direction from it.
+    pub fn text_away(&mut self, at: Point, away: Point, label: Label<'_>) {
+        let away = away.unit();
+        let half = Point::new(0.5 * label.width(), 0.5 * label.size);
+        self.text(at + Point::new(away.x * half.x, away.y * half.y), label);
     }
 
     /// A text beside a point, in this direction from it.
@@ -219,10 +304,10 @@ impl Svg {
     /// The whole picture.
     pub fn finish(self) -> String {
         let (width, height) = (Short(self.width), Short(self.height));
-        let (title, body) = (escaped(&self.title), self.body);
+        let (unit, title, body) = (self.unit, escaped(&self.title), self.body);
         format!(
             "<?xml version=\"1.0\" encoding=\"UTF-8\"?>\n\
-             <svg xmlns=\"http://www.w3.org/2000/svg\" width=\"{width}\" height=\"{height}\" \
+             <svg xmlns=\"http://www.w3.org/2000/svg\" width=\"{width}{unit}\" height=\"{height}{unit}\" \
              viewBox=\"0 0 {width} {height}\" font-family=\"DejaVu Sans, Arial, sans-serif\" \
              stroke-linecap=\"round\" stroke-linejoin=\"round\">\n\
              <title>{title}</title>\n\
@@ -230,6 +315,15 @@ impl Svg {
              {body}</svg>\n"
         )
     }
+}
+
+/// The path through points.
+fn path(points: &[Point]) -> String {
+    let points: Vec<String> = points
+        .iter()
+        .map(|&point| Fine(point).to_string())
+        .collect();
+    format!("M {}", points.join(" L "))
 }
 
 fn escaped(text: &str) -> String {

@@ -5,7 +5,7 @@ use std::collections::HashMap;
 use std::fmt::Write;
 use std::str::SplitWhitespace;
 
-use crate::fault::Fault;
+use crate::fault::{shown, Fault};
 
 /// The first line of the text form, by which it is told from a bundle.
 pub const FIRST_LINE: &str = "citternblaze grid";
@@ -63,18 +63,38 @@ pub fn is_text(bytes: &[u8]) -> bool {
 /// Reads the text form.
 pub fn read(bytes: &[u8]) -> Result<Text, Fault> {
     let mut text = Text::default();
+    each_statement(bytes, FIRST_LINE, |kind, words| {
+        read_statement(&mut text, kind, words)
+    })?;
+    no_repeats(&text)?;
+    Ok(text)
+}
+
+/// Goes over the statements of a text with this first line: the word that each starts
+/// with, and the rest of its words.
+pub fn each_statement(
+    bytes: &[u8],
+    first_line: &str,
+    mut read: impl FnMut(&str, &mut Words<'_>) -> Result<(), Fault>,
+) -> Result<(), Fault> {
     let lines = without_mark(bytes).split(|&byte| byte == b'\n');
-    let mut lines = lines.enumerate();
+    let mut lines = (1..).zip(lines);
     let first = lines.next().map_or(&[][..], |(_, line)| line);
-    if without_comment(first, 1)?.trim() != FIRST_LINE {
-        let want = format!("the first line of a grid's text is '{FIRST_LINE}'");
+    if without_comment(first, 1)?.trim() != first_line {
+        let thing = first_line.rsplit(' ').next().unwrap_or_default();
+        let want = format!("the first line of a {thing}'s text is '{first_line}'");
         return Err(Fault::at_line(1, want));
     }
     for (at, line) in lines {
-        read_line(&mut text, at + 1, without_comment(line, at + 1)?)?;
+        let mut words = Words {
+            line: at,
+            rest: without_comment(line, at)?.split_whitespace(),
+        };
+        if let Some(kind) = words.rest.next() {
+            read(kind, &mut words)?;
+        }
     }
-    no_repeats(&text)?;
-    Ok(text)
+    Ok(())
 }
 
 /// A line up to its comment.
@@ -85,28 +105,20 @@ fn without_comment(line: &[u8], at: usize) -> Result<&str, Fault> {
     }
 }
 
-fn read_line(text: &mut Text, line: usize, stated: &str) -> Result<(), Fault> {
-    let mut words = Words {
-        line,
-        rest: stated.split_whitespace(),
-    };
-    match words.rest.next() {
-        None => {}
-        Some("cell") => text.cells.push(words.four_nodes()?),
-        Some("edge") => text.edges.push(words.edge("an edge")?),
-        Some("look") => text.looks.push(words.edge("a look")?),
-        Some("node") => text.nodes.push(words.node_place()?),
-        Some("fractions") => text.fractions.push(words.fractions()?),
-        Some(other) => {
-            let known = "cell, edge, look, node, fractions";
-            return Err(words.fault(format!("'{other}' is none of {known}")));
-        }
+fn read_statement(text: &mut Text, kind: &str, words: &mut Words<'_>) -> Result<(), Fault> {
+    match kind {
+        "cell" => text.cells.push(words.nodes("a cell has four nodes")?),
+        "edge" => text.edges.push(words.edge("an edge")?),
+        "look" => text.looks.push(words.edge("a look")?),
+        "node" => text.nodes.push(words.node_place()?),
+        "fractions" => text.fractions.push(words.fractions()?),
+        other => return Err(words.unknown(other, "cell, edge, look, node, fractions")),
     }
     Ok(())
 }
 
 /// The words of a line that are still to be read.
-struct Words<'a> {
+pub struct Words<'a> {
     line: usize,
     rest: SplitWhitespace<'a>,
 }
@@ -116,7 +128,12 @@ impl<'a> Words<'a> {
         Fault::at_line(self.line, what)
     }
 
-    fn at<T>(&self, it: T) -> At<T> {
+    /// A statement of a kind that there is not.
+    pub fn unknown(&self, kind: &str, known: &str) -> Fault {
+        self.fault(format!("'{}' is none of {known}", shown(kind)))
+    }
+
+    pub fn at<T>(&self, it: T) -> At<T> {
         At {
             line: self.line,
             it,
@@ -132,27 +149,33 @@ impl<'a> Words<'a> {
     fn decimal(&self, word: &str) -> Result<f64, Fault> {
         match word.parse() {
             Ok(number) if f64::is_finite(number) => Ok(number),
-            Ok(_) => Err(self.fault(format!("'{word}' is no finite number"))),
-            Err(_) => Err(self.fault(format!("'{word}' is no number"))),
+            Ok(_) => Err(self.fault(format!("'{}' is no finite number", shown(word)))),
+            Err(_) => Err(self.fault(format!("'{}' is no number", shown(word)))),
         }
     }
 
     fn short(&mut self, whole: &str) -> Result<u16, Fault> {
         let word = self.word(whole)?;
         let number = word.parse();
-        number.map_err(|_| self.fault(format!("'{word}' is no whole number from 0 to 65535")))
+        number.map_err(|_| {
+            let word = shown(word);
+            self.fault(format!("'{word}' is no whole number from 0 to 65535"))
+        })
     }
 
     fn end(&mut self, whole: &str) -> Result<(), Fault> {
         match self.rest.next() {
             None => Ok(()),
-            Some(word) => Err(self.fault(format!("{whole}, and here is more: '{word}'"))),
+            Some(word) => {
+                let word = shown(word);
+                Err(self.fault(format!("{whole}, and here is more: '{word}'")))
+            }
         }
     }
 
-    fn four_nodes(&mut self) -> Result<At<[u16; 4]>, Fault> {
-        let whole = "a cell has four nodes";
-        let mut nodes = [0; 4];
+    /// So many nodes.
+    pub fn nodes<const N: usize>(&mut self, whole: &str) -> Result<At<[u16; N]>, Fault> {
+        let mut nodes = [0; N];
         for node in &mut nodes {
             *node = self.short(whole)?;
         }
@@ -160,7 +183,7 @@ impl<'a> Words<'a> {
         Ok(self.at(nodes))
     }
 
-    fn edge(&mut self, what: &str) -> Result<At<Edge>, Fault> {
+    pub fn edge(&mut self, what: &str) -> Result<At<Edge>, Fault> {
         let whole = format!("{what} has two nodes and a count");
         let ends = [self.short(&whole)?, self.short(&whole)?];
         let count = self.short(&whole)?;
@@ -169,18 +192,23 @@ impl<'a> Words<'a> {
     }
 
     fn node_place(&mut self) -> Result<At<NodePlace>, Fault> {
-        let whole = "a node's place has the node and three numbers";
+        let (node, place) = self.place("a node's place has the node and three numbers")?;
+        Ok(self.at(NodePlace { node, place }))
+    }
+
+    /// A node and so many numbers.
+    pub fn place<const N: usize>(&mut self, whole: &str) -> Result<(u16, [f64; N]), Fault> {
         let node = self.short(whole)?;
-        let mut place = [0.0; 3];
+        let mut place = [0.0; N];
         for number in &mut place {
             let word = self.word(whole)?;
             *number = self.decimal(word)?;
         }
         self.end(whole)?;
-        Ok(self.at(NodePlace { node, place }))
+        Ok((node, place))
     }
 
-    fn fractions(&mut self) -> Result<At<Fractions>, Fault> {
+    pub fn fractions(&mut self) -> Result<At<Fractions>, Fault> {
         let whole = "fractions have the edge's two nodes before them";
         let ends = [self.short(whole)?, self.short(whole)?];
         let mut fractions = Vec::new();
@@ -192,16 +220,27 @@ impl<'a> Words<'a> {
 }
 
 /// A node has one place, and an edge one list of fractions.
-fn no_repeats(text: &Text) -> Result<(), Fault> {
+pub fn no_repeats(text: &Text) -> Result<(), Fault> {
+    one_place(text.nodes.iter().map(|of| (of.line, of.it.node)))?;
+    one_list(&text.fractions)
+}
+
+/// No node has two places.
+pub fn one_place(places: impl Iterator<Item = (usize, u16)>) -> Result<(), Fault> {
     let mut nodes = HashMap::new();
-    for &At { line, it } in &text.nodes {
-        if let Some(before) = nodes.insert(it.node, line) {
-            let what = format!("node {} has a place on line {before} already", it.node);
+    for (line, node) in places {
+        if let Some(before) = nodes.insert(node, line) {
+            let what = format!("node {node} has a place on line {before} already");
             return Err(Fault::at_line(line, what));
         }
     }
+    Ok(())
+}
+
+/// No edge has two lists of fractions.
+pub fn one_list(fractions: &[At<Fractions>]) -> Result<(), Fault> {
     let mut edges = HashMap::new();
-    for At { line, it } in &text.fractions {
+    for At { line, it } in fractions {
         let [u, v] = it.ends;
         if let Some(before) = edges.insert(it.ends, line) {
             let what = format!("edge {u} {v} has fractions on line {before} already");

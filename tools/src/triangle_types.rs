@@ -52,4 +52,15 @@ impl Loops {
             false => TriangleType::Loop(self.0[&(of.part.cell, of.p0)].kind),
         }
     }
+
+    /// The same of a triangle that may be of no grid, or of another.
+    pub fn known_type(&self, of: &Triangle) -> Option<TriangleType> {
+        match of.part.is_sub_cell() {
+            true => Some(TriangleType::SubCell),
+            false => {
+                let found = self.0.get(&(of.part.cell, of.p0));
+                found.map(|found| TriangleType::Loop(found.kind))
+            }
+        }
+    }
 }

@@ -1,14 +1,19 @@
 //! What the pictures of a split cell show: its own loops on its faces, and its mesh
 //! by what each triangle belongs to.
 
+mod boxes;
+
 use citternblaze::bundle::pack;
 use citternblaze::calls::{bundle_read, Grid};
 use citternblaze::faces::faces;
-use citternblaze::mesh::Mesh;
-use citternblaze::mesh_picture::{self, Scene, View};
+use citternblaze::film::Unit;
+use citternblaze::mesh_picture::{self, Colour, MeshLook, Scene};
+use citternblaze::placed_mesh::PlacedMesh;
+use citternblaze::section_picture::{GridLines, Whole};
 use citternblaze::svg::{BLUE, PURPLE, SKY, VERMILION, YELLOW};
 use citternblaze::text::{self, Text};
 use citternblaze::triangle_types::Loops;
+use citternblaze::view::View;
 use citternblaze::{cell_picture, placed};
 
 /// Two loops of length 12, as in split-cell.txt, and a corner triangle at node 3.
@@ -39,20 +44,30 @@ fn a_split_cell_shows_its_loops() {
     assert!(!picture.contains("does not close"));
 }
 
+fn look(colour: Colour) -> MeshLook {
+    MeshLook {
+        view: View::default(),
+        colour,
+        grid: GridLines::UpTo(60),
+        unit: Unit::named("cm").expect("a unit"),
+        only: None,
+        clip: None,
+    }
+}
+
 #[test]
 fn triangles_of_sub_cells_have_their_colour() {
-    let (grid, text) = opened();
-    let mesh = Mesh::of(&grid).expect("a mesh");
+    let read = boxes::source(CELL);
+    let placed = PlacedMesh::of(&read, false).expect("a placed mesh");
+    let types = Loops::of(&read.grid).expect("loops");
     let scene = Scene {
-        grid: &grid,
-        mesh: &mesh,
-        loops: &Loops::of(&grid).expect("loops"),
-        nodes: &placed::node_places(&grid, &text).expect("places"),
-        points: &placed::points(&grid, &text, &mesh).expect("points"),
+        whole: Whole {
+            placed: &placed,
+            grid: Some(&read.grid),
+        },
+        types: Some(&types),
     };
-    let picture = mesh_picture::picture(&scene, View::default());
-    assert_eq!([PURPLE, SKY].map(|colour| times(&picture, colour)), [52, 1]);
-    assert!(!picture.contains(BLUE) && !picture.contains(YELLOW));
+    let picture = mesh_picture::picture(&scene, &look(Colour::Type));
     let words = [
         "triangle of a split cell, in one of its sub-cells",
         "triangle of a loop that cuts off a corner",
@@ -61,4 +76,11 @@ fn triangles_of_sub_cells_have_their_colour() {
     for words in words {
         assert!(picture.contains(words), "{words}");
     }
+    assert!(!picture.contains(BLUE) && !picture.contains(YELLOW));
+    assert!(picture.contains(PURPLE) && picture.contains(SKY));
+    let by_surface = mesh_picture::picture(&scene, &look(Colour::Surface));
+    assert_eq!(
+        by_surface.matches("surface ").count(),
+        placed.surfaces.list.len()
+    );
 }

@@ -3,95 +3,30 @@
 //! not ours.
 
 mod random;
+mod random_texts;
 
-use std::collections::BTreeSet;
-use std::fmt::Write;
 use std::fs;
 use std::path::Path;
 
 use citternblaze::bundle::{pack, unpack};
 use citternblaze::calls::{bundle_read, Grid, Refusal};
 use citternblaze::cells::loops_of;
+use citternblaze::cut_plane::CutPlane;
+use citternblaze::exported::Exported;
 use citternblaze::faces::faces;
+use citternblaze::film::{Sheet, Unit};
 use citternblaze::mesh::Mesh;
-use citternblaze::mesh_picture::{self, Scene, View};
+use citternblaze::mesh_picture::{self, Colour, MeshLook, Scene};
+use citternblaze::placed_mesh::PlacedMesh;
 use citternblaze::received::{report, Received};
+use citternblaze::section_picture::{self, GridLines, Look, Whole};
+use citternblaze::source::Source;
 use citternblaze::text::{self, Text};
 use citternblaze::triangle_types::Loops;
+use citternblaze::view::View;
 use citternblaze::{cell_picture, face_picture, loops, placed, ply};
 use random::Random;
-
-/// The numbers below a limit in random order.
-fn shuffled(random: &mut Random, limit: u16) -> Vec<u16> {
-    let mut numbers: Vec<u16> = (0..limit).collect();
-    for at in 1..numbers.len() {
-        numbers.swap(at, random.below(at + 1));
-    }
-    numbers
-}
-
-/// The text of these cells, with a count for each edge, and random places and
-/// fractions.
-fn text_of(
-    random: &mut Random,
-    cells: &[[u16; 4]],
-    mut count: impl FnMut(&mut Random, [u16; 2]) -> usize,
-) -> String {
-    let mut out = format!("{}\n", text::FIRST_LINE);
-    let mut edges = BTreeSet::new();
-    for &[a, b, c, d] in cells {
-        writeln!(out, "cell {a} {b} {c} {d}").expect("text");
-        edges.extend([[a, b], [a, c], [a, d], [b, c], [b, d], [c, d]]);
-    }
-    for [u, v] in edges {
-        let count = count(random, [u, v]);
-        writeln!(out, "edge {u} {v} {count}").expect("text");
-        let fractions: String = random
-            .rising(count)
-            .iter()
-            .map(|fraction| format!(" {fraction:?}"))
-            .collect();
-        writeln!(out, "fractions {u} {v}{fractions}").expect("text");
-    }
-    let nodes: BTreeSet<u16> = cells.iter().flatten().copied().collect();
-    for node in nodes {
-        let [x, y, z] = [0; 3].map(|_| 100.0 * random.fraction() + f64::from(node));
-        writeln!(out, "node {node} {x:?} {y:?} {z:?}").expect("text");
-    }
-    out
-}
-
-/// Cells in a row, each with a face of the one before it, with nodes in random
-/// order and random counts.
-fn row_of_cells(random: &mut Random, cells: u16, most: usize) -> String {
-    let nodes = shuffled(random, cells + 3);
-    let cells = nodes.windows(4).map(|nodes| {
-        let mut nodes = [nodes[0], nodes[1], nodes[2], nodes[3]];
-        nodes.sort_unstable();
-        nodes
-    });
-    let cells: Vec<[u16; 4]> = cells.collect();
-    text_of(random, &cells, |random, _| random.below(most + 1))
-}
-
-/// Two cells on one face that are split alike: opposite edges have d1, d2 or their
-/// sum, and each node has corner triangles.
-fn split_cells(random: &mut Random) -> String {
-    let common = 2 + random.below(3);
-    let d2 = common * (1 + random.below(3));
-    let d1 = d2 + common * (1 + random.below(3));
-    let order = shuffled(random, 3);
-    let ways = order.iter().map(|&at| [d1, d2, d1 + d2][usize::from(at)]);
-    let ways: Vec<usize> = ways.collect();
-    let corners = [0; 4].map(|_| random.below(3));
-    text_of(random, &[[0, 1, 2, 3], [0, 1, 2, 4]], |_, [u, v]| {
-        // node 4 is as node 3
-        let [u, v] = [u, v].map(|node| usize::from(node.min(3)));
-        // 01 and 23, 02 and 13, 03 and 12
-        let pair = if u == 0 { v - 1 } else { 5 - u - v };
-        ways[pair] + corners[u] + corners[v]
-    })
-}
+use random_texts::{row_of_cells, split_cells};
 
 /// The grid of a text, by way of its bundle.
 fn grid_of(stated: &Text) -> Grid {
@@ -141,23 +76,66 @@ fn draw_faces(grid: &Grid, stated: &Text) {
     cell_picture::picture(grid, &all, last, &fractions).expect("a picture");
 }
 
+/// The mesh in every look, and sections through it.
+fn draw_mesh(grid: &Grid, stated: &Text, loops: &Loops) {
+    let source = Source {
+        text: stated.clone(),
+        grid: grid.clone(),
+        name: "random".into(),
+        places_name: "random".into(),
+    };
+    let placed = PlacedMesh::of(&source, false).expect("a placed mesh");
+    let whole = Whole {
+        placed: &placed,
+        grid: Some(grid),
+    };
+    let scene = Scene {
+        whole,
+        types: Some(loops),
+    };
+    let first = placed::node_places(grid, stated).expect("places");
+    let through = CutPlane::free([first[0], first[1], first[2]], [1.0, 2.0, 3.0]);
+    let unit = Unit::named("m").expect("a unit");
+    for (colour, lines) in [
+        (Colour::Surface, GridLines::All),
+        (Colour::Type, GridLines::Outer),
+        (Colour::Side, GridLines::UpTo(10)),
+    ] {
+        let look = MeshLook {
+            view: View::default(),
+            colour,
+            grid: lines,
+            unit,
+            only: None,
+            clip: through.clone().filter(|_| colour == Colour::Side),
+        };
+        mesh_picture::picture(&scene, &look);
+        let look = Look {
+            sheet: Sheet::named("a4").expect("a sheet"),
+            scale: None,
+            unit,
+            grid: lines,
+            crossings: true,
+            water: Some(1),
+            name: "random".into(),
+        };
+        let plane = through.as_ref().expect("a plane");
+        let sheet = section_picture::picture(&whole, plane, &look).expect("a sheet");
+        assert!(sheet.contains("mm"));
+    }
+}
+
 /// The mesh as a file and as a picture. Answers whether a cell is split.
 fn export_mesh(grid: &Grid, stated: &Text) -> bool {
     let mesh = Mesh::of(grid).expect("a mesh");
     let loops = Loops::of(grid).expect("loops");
     let points = placed::points(grid, stated, &mesh).expect("points");
     assert_eq!(points.len(), mesh.points());
-    let exported = ply::ply(&mesh, &points, &loops);
+    let placed = PlacedMesh::of_words(Mesh::of(grid).expect("a mesh"), points.clone(), false);
+    let exported = ply::ply(&Exported::of(&placed, Some((grid, &loops))));
     let body = exported.split("end_header\n").nth(1).expect("a body");
     assert_eq!(body.lines().count(), points.len() + mesh.size());
-    let scene = Scene {
-        grid,
-        mesh: &mesh,
-        loops: &loops,
-        nodes: &placed::node_places(grid, stated).expect("places"),
-        points: &points,
-    };
-    mesh_picture::picture(&scene, View::default());
+    draw_mesh(grid, stated, &loops);
     let found = report(&Received::of(mesh.triangles().collect()));
     assert_eq!(found.fault(), None);
     found.split_cells > 0

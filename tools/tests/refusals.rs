@@ -6,10 +6,6 @@ use std::path::Path;
 use citternblaze::calls::{Lists, Refusal};
 use citternblaze::refusals::{meaning, of_bytes, of_lists};
 
-/// Refusals of calls that the program does not make: setting a count, shading,
-/// nearest, flat sections, runs of cells.
-const NOT_CALLED: [u64; 7] = [19, 20, 21, 23, 24, 25, 26];
-
 #[test]
 fn each_has_a_meaning() {
     let path = Path::new(env!("CARGO_MANIFEST_DIR")).join("../include/citternblaze.h");
@@ -22,10 +18,7 @@ fn each_has_a_meaning() {
         .map(|number| number.parse().expect("a whole number"))
         .collect();
     assert!(numbers.len() >= 20);
-    for number in numbers
-        .into_iter()
-        .filter(|number| !NOT_CALLED.contains(number))
-    {
+    for number in numbers {
         assert_ne!(meaning(number), meaning(999), "{number}");
     }
 }
@@ -41,7 +34,7 @@ fn places_are_told_with_what_stands_there() {
     assert!(told(3, 1).starts_with("cell 1 with the nodes 4 6 5 7: "));
     assert!(told(18, 1).starts_with("edge 1 with the ends 0 2 and the count 4096: "));
     assert!(told(17, 3).starts_with("crossing 3, index 1 of the edge 0 2: "));
-    assert!(told(16, 4).starts_with("number 1 of the place of node 1: "));
+    assert!(told(16, 4).starts_with("y of the place of node 1: "));
     // a place that is not there has words too
     assert!(told(3, 9).starts_with("cell 9: "));
     assert!(told(6, u64::MAX).starts_with("edge "));

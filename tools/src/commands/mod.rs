@@ -1,17 +1,29 @@
 //! The subcommands, each with its options and its help.
 
+mod book;
+mod chains;
+mod check;
 mod check_mesh;
 mod draw;
+mod draw_mesh;
+mod draw_section;
 mod export;
 mod list;
 mod loops;
+mod nearest;
 mod pack;
+mod runs;
+mod scan;
+mod set_count;
+mod shading;
+mod surfaces;
 mod unpack;
 
+use std::ffi::{OsStr, OsString};
 use std::fmt::Write;
 
 use crate::arguments::{Arguments, Flag};
-use crate::fault::Fault;
+use crate::fault::{file_name, shown, Fault};
 use crate::files;
 
 /// A subcommand.
@@ -25,14 +37,23 @@ pub struct Command {
     run: fn(&Arguments) -> Result<(), Fault>,
 }
 
-const COMMANDS: [&Command; 7] = [
+const COMMANDS: &[&Command] = &[
     &pack::COMMAND,
     &unpack::COMMAND,
+    &check::COMMAND,
     &list::COMMAND,
+    &runs::COMMAND,
     &loops::COMMAND,
+    &book::COMMAND,
+    &shading::COMMAND,
+    &nearest::COMMAND,
+    &set_count::COMMAND,
+    &surfaces::COMMAND,
     &draw::COMMAND,
     &export::COMMAND,
     &check_mesh::COMMAND,
+    &chains::COMMAND,
+    &scan::COMMAND,
 ];
 
 /// The option that names the file to write.
@@ -43,31 +64,54 @@ const OUTPUT: Flag = Flag {
 };
 
 /// Runs the subcommand that the arguments name.
-pub fn run(arguments: Vec<String>) -> Result<(), Fault> {
+pub fn run(arguments: &[OsString]) -> Result<(), Fault> {
     let (name, given) = match arguments.split_first() {
-        Some((name, given)) => (name.as_str(), given),
-        None => return Err(Fault::new("which command? (see --help)")),
+        Some((name, given)) => (name.as_os_str(), given),
+        None => return Err(Fault::usage("which command? (see --help)")),
     };
-    if name == "--help" || name == "-h" {
-        return files::write(None, overview().as_bytes());
+    match name.to_str() {
+        Some("--help" | "-h") => files::write(None, overview().as_bytes()),
+        Some("--version" | "-V") => files::write(None, version().as_bytes()),
+        Some("help") => run_help(given),
+        _ => run_command(command_named(name)?, given),
     }
-    let command = COMMANDS
-        .into_iter()
-        .find(|command| command.name == name)
-        .ok_or_else(|| Fault::new(format!("no such command: {name} (see --help)")))?;
-    if given
-        .iter()
-        .any(|argument| argument == "--help" || argument == "-h")
-    {
+}
+
+/// `help`, alone or with the name of a command.
+fn run_help(given: &[OsString]) -> Result<(), Fault> {
+    let words = match given {
+        [] => overview(),
+        [name] => help(command_named(name)?),
+        _ => return Err(Fault::usage("help: one command at a time")),
+    };
+    files::write(None, words.as_bytes())
+}
+
+fn command_named(name: &OsStr) -> Result<&'static Command, Fault> {
+    let known = COMMANDS.iter().find(|command| command.name == name);
+    known.copied().ok_or_else(|| {
+        let name = shown(&file_name(name));
+        Fault::usage(format!("no such command: {name} (see --help)"))
+    })
+}
+
+fn run_command(command: &Command, given: &[OsString]) -> Result<(), Fault> {
+    let mut options = given.iter().take_while(|argument| *argument != "--");
+    if options.any(|argument| argument == "--help" || argument == "-h") {
         return files::write(None, help(command).as_bytes());
     }
-    let arguments = Arguments::parse(command.flags, given).map_err(|fault| fault.of(name))?;
-    (command.run)(&arguments)
+    let arguments = Arguments::parse(command.flags, given);
+    (command.run)(&arguments.map_err(|fault| fault.of(command.name))?)
+}
+
+fn version() -> String {
+    format!("citternblaze {}\n", env!("CARGO_PKG_VERSION"))
 }
 
 fn overview() -> String {
     let mut out = "citternblaze COMMAND [OPTION..] [FILE]\n\n\
-                   Without a FILE, or with -, a command reads standard input.\n\n"
+                   Without a FILE, or with -, a command reads standard input. After -- no\n\
+                   argument is an option.\n\n"
         .to_string();
     for command in COMMANDS {
         line(
@@ -76,7 +120,9 @@ fn overview() -> String {
         );
     }
     out.push_str(
-        "\ncitternblaze COMMAND --help tells more.\n\
+        "\ncitternblaze COMMAND --help, or help COMMAND, tells more; --version the version.\n\
+         Exit status: 0; 1 where something is refused or not whole; 2 for a wrong command\n\
+         line, or a file that cannot be read or written.\n\
          docs/FORMAT.md says what grids, bundles and meshes are.\n",
     );
     out
@@ -93,9 +139,10 @@ fn help(command: &Command) -> String {
             Some(value) => format!("{} {value}", flag.name),
             None => flag.name.to_string(),
         };
-        line(&mut out, format_args!("  {option:<18}{}", flag.help));
+        let help = flag.help.replace('\n', "\n                        ");
+        line(&mut out, format_args!("  {option:<22}{help}"));
     }
-    line(&mut out, format_args!("  {:<18}print this", "--help"));
+    line(&mut out, format_args!("  {:<22}print this", "--help"));
     out
 }
 
@@ -105,5 +152,5 @@ fn line(out: &mut String, text: std::fmt::Arguments<'_>) {
 
 /// Writes what a command made.
 fn write_output(arguments: &Arguments, bytes: &[u8]) -> Result<(), Fault> {
-    files::write(arguments.value(OUTPUT.name), bytes)
+    files::write(arguments.path(OUTPUT.name), bytes)
 }

@@ -19,7 +19,7 @@ pub const COMMAND: Command = Command {
 };
 
 fn run(arguments: &Arguments) -> Result<(), Fault> {
-    let input = files::read(arguments.file())?;
+    let input = files::read(arguments.file()?)?;
     let mut text = source::read_text(&input)?;
     source::add_places(&mut text, arguments)?;
     write_output(arguments, text::write(&text).as_bytes())
