@@ -1,6 +1,7 @@
 /* Citternblaze: a tetrahedral mesher whose every call is proved. The calls are
- * in libcapi.a (`rt staticlib capi`). docs/FORMAT.md says what a grid, a mesh, a
- * bundle and each refusal are; examples/ has a program.
+ * in libcitternblaze.a and libcitternblaze.so (`make`, `make install`; of the
+ * checkout alone also libcapi.a, by `rt staticlib capi`). docs/FORMAT.md says what a
+ * grid, a mesh, a bundle and each refusal are; examples/ has programs.
  *
  * Lists and areas. A list or an area is a pointer and the number of its
  * elements. The caller lends it for the length of the call: no call keeps a
@@ -35,12 +36,27 @@
  *   flush to zero), no exception trapped. The other calls do not compute with it.
  * - Nothing of threads: there is no state between calls, and any number of
  *   threads may call at once, where no area that one of them writes is lent to
- *   another. */
+ *   another.
+ *
+ * Time. On grids and bundles as scans give them a call takes time in proportion to
+ * what it is lent and what it writes; docs/SPEED.md has figures. Not so:
+ * - The checks of grids and of flat grids, with which every call on one starts,
+ *   find equal faces and edges by hash chains. Node numbers that are chosen, or
+ *   fall, so that many hashes are equal make the chains long: an accepted grid of
+ *   2048 cells can take 50 ms, and a refused one with hundreds of thousands of
+ *   listed edges seconds.
+ * - With more than 12288 edges and more than 12288 later looks the bundle reader
+ *   goes over the edges once more for every 12288 looks.
+ * - A split cell has as many triangles as citternblaze_book answers, which may be
+ *   far more than its crossings. */
 #ifndef CITTERNBLAZE_H
 #define CITTERNBLAZE_H
 
 #include <stddef.h>
 #include <stdint.h>
+
+/* The version, as the file VERSION has it. */
+#define CITTERNBLAZE_VERSION "0.2.0"
 
 /* The elements that an answer area must have; no answer has more numbers. */
 #define CITTERNBLAZE_ANSWER_WORDS 6
@@ -151,6 +167,44 @@
 #define CITTERNBLAZE_REFUSED_CHAIN_AREA 24   /* area too short for the chains */
 #define CITTERNBLAZE_REFUSED_CUTS 25         /* cuts: order, or no cell's number */
 #define CITTERNBLAZE_REFUSED_NO_RUN 26       /* no such run */
+
+/* Where the numbers of an answer stand, call by call. The first number of an answer
+ * is CITTERNBLAZE_DONE or a refusal, but for citternblaze_face,
+ * citternblaze_flat_face and citternblaze_record_body; the second number of a
+ * refusal is its place. */
+#define CITTERNBLAZE_AT_REFUSAL 0
+#define CITTERNBLAZE_AT_PLACE 1
+#define CITTERNBLAZE_AT_CROSSINGS 1      /* check, open, set_count, flat_check */
+#define CITTERNBLAZE_AT_TRIANGLES 1      /* mesh, mesh_run, mesh_joined */
+#define CITTERNBLAZE_AT_SPLITS 2         /* mesh, mesh_run, mesh_joined */
+#define CITTERNBLAZE_AT_POINTS 1         /* places */
+#define CITTERNBLAZE_AT_WORDS 1          /* flat_chains */
+#define CITTERNBLAZE_AT_BYTES 1          /* bundle_write */
+#define CITTERNBLAZE_AT_CELLS 1          /* bundle_read */
+#define CITTERNBLAZE_AT_EDGES 2          /* bundle_read */
+#define CITTERNBLAZE_AT_KIND 1           /* record */
+#define CITTERNBLAZE_AT_NEXT 2           /* record */
+#define CITTERNBLAZE_AT_BODY 0           /* record_body */
+#define CITTERNBLAZE_AT_BODY_BYTES 1     /* record_body */
+#define CITTERNBLAZE_AT_POINT 1          /* nearest */
+#define CITTERNBLAZE_AT_DISTANCE 2       /* nearest: the bits of a double */
+#define CITTERNBLAZE_AT_P0 1             /* loops */
+#define CITTERNBLAZE_AT_LENGTH 2         /* loops */
+#define CITTERNBLAZE_AT_NORMAL 3         /* loops */
+#define CITTERNBLAZE_AT_TYPE 4           /* loops */
+#define CITTERNBLAZE_AT_NODE 5           /* loops, but of a contractible one */
+#define CITTERNBLAZE_AT_CASE_LOOPS 1     /* case */
+#define CITTERNBLAZE_AT_CASE_TRIANGLES 2 /* case */
+#define CITTERNBLAZE_AT_CORNERS 1        /* book: t */
+#define CITTERNBLAZE_AT_D1 2             /* book */
+#define CITTERNBLAZE_AT_D2 3             /* book */
+#define CITTERNBLAZE_AT_BOOKED 4         /* book: the triangles */
+#define CITTERNBLAZE_AT_JOIN 0           /* face, flat_face: joined or not */
+#define CITTERNBLAZE_AT_EDGE 1           /* face, flat_face: the partner's */
+#define CITTERNBLAZE_AT_INDEX 2          /* face, flat_face: the partner's */
+#define CITTERNBLAZE_AT_HOW 3            /* face, flat_face */
+#define CITTERNBLAZE_AT_CORNER 4         /* face, flat_face: where round one */
+#define CITTERNBLAZE_AT_WHY 1            /* face, flat_face: where unjoined */
 
 #ifdef __cplusplus
 extern "C" {
@@ -474,7 +528,13 @@ size_t citternblaze_record_body(const uint8_t *bytes, size_t bytes_len,
  * Answers 0 and the numbers of cells and edges; or 13 and the place of a fault
  * of the records; or 22 and the start of the lowest look whose pair no edge has;
  * or 14 and 0 where a list is too short. A refusal keeps every value of the
- * lists. Takes up to 192 KB of the stack. */
+ * lists.
+ *
+ * Its time goes by the number of records, whatever they hold: an edge finds its
+ * look, and a look its place, in 17 steps at most, also at nodes that no grid
+ * has. It goes over the edges twice for every 12,288 looks, so that beyond these
+ * the time goes by edges times looks: 250,000 of each take 42 passes over the
+ * edges. Takes up to 192 KB of the stack. */
 size_t citternblaze_bundle_read(const uint8_t *bytes, size_t bytes_len,
                                 uint16_t *nodes, size_t nodes_len,
                                 uint16_t *ends, size_t ends_len,
@@ -512,6 +572,260 @@ size_t citternblaze_bundle_write(const uint16_t *nodes, size_t nodes_len,
 size_t citternblaze_nearest(const double *points, size_t points_len,
                             double x, double y, double z,
                             uint64_t *answer, size_t answer_len);
+
+/* What follows is plain C over the calls above, compiled into the program that
+ * includes it: it is tested, not proved.
+ *
+ * The words of a refusal, one line for each number, without its place; "no such
+ * refusal" for any other number. */
+static inline const char *citternblaze_refusal_text(uint64_t number) {
+  static const char *const text[] = {
+      "nothing is refused",
+      "the cells are not four numbers each, or none, or more than 2,048",
+      "the edges are not two ends and one start to a count, or a start is not the "
+      "sum of the earlier counts",
+      "a cell has a node over 4,095, or its nodes do not increase",
+      "a cell has the nodes of an earlier one",
+      "a face is in three cells",
+      "an edge is not a lower and a higher node, or not after the one before it",
+      "an edge of a cell is not listed",
+      "a listed edge is in no cell",
+      "the cells of an edge do not hang together through faces that contain it",
+      "there are more than 65,535 crossings",
+      "there is no such cell",
+      "the area is too short for the mesh",
+      "the bytes are not the records of a bundle, or the lists to write are not "
+      "four nodes to a cell and two ends to a count",
+      "a lent list, or the writer's area, is too short for the bundle",
+      "places, fractions or the area are not as many as there must be",
+      "a number of a node's place is not from -1,000,000 to 1,000,000",
+      "a fraction is not above 0 and below 1, or not above the one before it on "
+      "its edge",
+      "the count of an edge is over 4,095",
+      "the area for the sides of the nodes has not 4,096 bytes",
+      "the grid has no shading",
+      "there is no such edge",
+      "a later look has a pair that no edge of the bundle has",
+      "the points are not three numbers each, or a number is not from -1,000,000 "
+      "to 1,000,000",
+      "the area is too short for the chains",
+      "the cuts do not rise, or one is not above 0 and below the number of cells",
+      "there is no such run"};
+  return number < sizeof text / sizeof *text ? text[number] : "no such refusal";
+}
+
+/* An answer by value: how many numbers it has, and these. */
+typedef struct citternblaze_answer {
+  size_t len;
+  uint64_t number[CITTERNBLAZE_ANSWER_WORDS];
+} citternblaze_answer;
+
+/* A grid as one argument: its lists and their lengths. The calls over it answer by
+ * value, and else as those that take the lists one by one. */
+typedef struct citternblaze_grid {
+  const uint16_t *cells;
+  size_t cells_len;
+  const uint16_t *edges;
+  size_t edges_len;
+  uint16_t *counts;
+  size_t counts_len;
+  uint32_t *starts;
+  size_t starts_len;
+} citternblaze_grid;
+
+/* The four lists of a grid, in the order in which every call takes them. */
+#define CITTERNBLAZE_LISTS_(grid)                                              \
+  (grid)->cells, (grid)->cells_len, (grid)->edges, (grid)->edges_len,          \
+      (grid)->counts, (grid)->counts_len, (grid)->starts, (grid)->starts_len
+
+static inline citternblaze_answer
+citternblaze_grid_check(const citternblaze_grid *grid) {
+  citternblaze_answer a;
+  a.len = citternblaze_check(CITTERNBLAZE_LISTS_(grid), a.number,
+                             CITTERNBLAZE_ANSWER_WORDS);
+  return a;
+}
+
+static inline citternblaze_answer
+citternblaze_grid_open(const citternblaze_grid *grid) {
+  citternblaze_answer a;
+  a.len = citternblaze_open(CITTERNBLAZE_LISTS_(grid), a.number,
+                            CITTERNBLAZE_ANSWER_WORDS);
+  return a;
+}
+
+static inline citternblaze_answer
+citternblaze_grid_set_count(const citternblaze_grid *grid, size_t edge,
+                            uint16_t count) {
+  citternblaze_answer a;
+  a.len = citternblaze_set_count(CITTERNBLAZE_LISTS_(grid), edge, count,
+                                 a.number, CITTERNBLAZE_ANSWER_WORDS);
+  return a;
+}
+
+static inline citternblaze_answer
+citternblaze_grid_mesh(const citternblaze_grid *grid, uint32_t *area,
+                       size_t area_len) {
+  citternblaze_answer a;
+  a.len = citternblaze_mesh(CITTERNBLAZE_LISTS_(grid), area, area_len, a.number,
+                            CITTERNBLAZE_ANSWER_WORDS);
+  return a;
+}
+
+/* How many triangles the mesh has, at CITTERNBLAZE_AT_TRIANGLES; or what refuses
+ * the grid. The mesh call without an area tells it. */
+static inline citternblaze_answer
+citternblaze_grid_triangles(const citternblaze_grid *grid) {
+  citternblaze_answer a = citternblaze_grid_mesh(grid, NULL, 0);
+  a.len = 2;
+  if (a.number[CITTERNBLAZE_AT_REFUSAL] == CITTERNBLAZE_REFUSED_MESH_AREA)
+    a.number[CITTERNBLAZE_AT_REFUSAL] = CITTERNBLAZE_DONE;
+  return a;
+}
+
+static inline citternblaze_answer
+citternblaze_grid_mesh_run(const citternblaze_grid *grid, const uint16_t *cuts,
+                           size_t cuts_len, size_t run, uint32_t *area,
+                           size_t area_len) {
+  citternblaze_answer a;
+  a.len =
+      citternblaze_mesh_run(CITTERNBLAZE_LISTS_(grid), cuts, cuts_len, run, area,
+                            area_len, a.number, CITTERNBLAZE_ANSWER_WORDS);
+  return a;
+}
+
+static inline citternblaze_answer
+citternblaze_grid_mesh_joined(const citternblaze_grid *grid,
+                              const uint16_t *cuts, size_t cuts_len,
+                              uint32_t *area, size_t area_len) {
+  citternblaze_answer a;
+  a.len =
+      citternblaze_mesh_joined(CITTERNBLAZE_LISTS_(grid), cuts, cuts_len, area,
+                               area_len, a.number, CITTERNBLAZE_ANSWER_WORDS);
+  return a;
+}
+
+static inline citternblaze_answer
+citternblaze_grid_loops(const citternblaze_grid *grid, size_t cell,
+                        size_t index) {
+  citternblaze_answer a;
+  a.len = citternblaze_loops(CITTERNBLAZE_LISTS_(grid), cell, index, a.number,
+                             CITTERNBLAZE_ANSWER_WORDS);
+  return a;
+}
+
+static inline citternblaze_answer
+citternblaze_grid_places(const citternblaze_grid *grid, const double *nodes,
+                         size_t nodes_len, const double *fractions,
+                         size_t fractions_len, double *area, size_t area_len) {
+  citternblaze_answer a;
+  a.len = citternblaze_places(CITTERNBLAZE_LISTS_(grid), nodes, nodes_len,
+                              fractions, fractions_len, area, area_len,
+                              a.number, CITTERNBLAZE_ANSWER_WORDS);
+  return a;
+}
+
+static inline citternblaze_answer
+citternblaze_grid_shading(const citternblaze_grid *grid, uint8_t *area,
+                          size_t area_len) {
+  citternblaze_answer a;
+  a.len = citternblaze_shading(CITTERNBLAZE_LISTS_(grid), area, area_len,
+                               a.number, CITTERNBLAZE_ANSWER_WORDS);
+  return a;
+}
+
+/* Reads a bundle into lists that are lent, and makes the grid of what it fills of
+ * them: a grid of no cells where the bundle is refused. The starts are those of no
+ * grid yet: citternblaze_grid_open fills them in. There are as many as counts. */
+static inline citternblaze_answer citternblaze_grid_read(
+    citternblaze_grid *grid, const uint8_t *bytes, size_t bytes_len,
+    uint16_t *cells, size_t cells_len, uint16_t *edges, size_t edges_len,
+    uint16_t *counts, uint32_t *starts, size_t counts_len) {
+  citternblaze_answer a;
+  a.len = citternblaze_bundle_read(bytes, bytes_len, cells, cells_len, edges,
+                                   edges_len, counts, counts_len, a.number,
+                                   CITTERNBLAZE_ANSWER_WORDS);
+  const int read = a.number[CITTERNBLAZE_AT_REFUSAL] == CITTERNBLAZE_DONE;
+  grid->cells = cells;
+  grid->cells_len = read ? 4 * (size_t)a.number[CITTERNBLAZE_AT_CELLS] : 0;
+  grid->counts = counts;
+  grid->counts_len = read ? (size_t)a.number[CITTERNBLAZE_AT_EDGES] : 0;
+  grid->edges = edges;
+  grid->edges_len = 2 * grid->counts_len;
+  grid->starts = starts;
+  grid->starts_len = grid->counts_len;
+  return a;
+}
+
+/* The cell of a triangle, and its sub-cell: 0 where the cell is not split, and for
+ * the corner triangles of one that is. */
+static inline uint32_t citternblaze_cell_of(const uint32_t *triangle) {
+  return triangle[CITTERNBLAZE_TRIANGLE_CELL] % CITTERNBLAZE_MOST_CELLS;
+}
+static inline uint32_t citternblaze_part_of(const uint32_t *triangle) {
+  return triangle[CITTERNBLAZE_TRIANGLE_CELL] / CITTERNBLAZE_MOST_CELLS;
+}
+
+/* Goes over the triangles of a mesh in their order and tells which of the points
+ * that citternblaze_places writes its corners are. Start with
+ * citternblaze_points_from, and call citternblaze_points_next for each triangle. */
+typedef struct citternblaze_points {
+  size_t inner;       /* the point of the first inner crossing of the cell */
+  size_t behind;      /* the point behind its last */
+  size_t middles;     /* the points before the first middle */
+  size_t fans;        /* the fans begun */
+  uint64_t cell, fan; /* the cell, and words 0 and 1 of the fan, gone over last */
+  size_t corner[3];   /* the points of the corners of the triangle gone over last */
+} citternblaze_points;
+
+/* One triangle more. Inner crossings stand by cell, and a cell's triangles have all
+ * of them; middles stand by fan, whose triangles share words 0 and 1 and have the
+ * middle as their last corner. */
+static inline void citternblaze_points_next(citternblaze_points *at,
+                                            const uint32_t *triangle) {
+  const uint32_t *corner = triangle + CITTERNBLAZE_TRIANGLE_CORNERS;
+  const uint64_t fan = (uint64_t)triangle[CITTERNBLAZE_TRIANGLE_CELL] << 32 |
+                       triangle[CITTERNBLAZE_TRIANGLE_P0];
+  int k;
+  if (citternblaze_cell_of(triangle) != at->cell) {
+    at->cell = citternblaze_cell_of(triangle);
+    at->inner = at->behind;
+  }
+  if (corner[2] == CITTERNBLAZE_MIDDLE && fan != at->fan) {
+    at->fan = fan;
+    at->fans++;
+  }
+  for (k = 0; k < 3; k++) {
+    at->corner[k] = corner[k];
+    if (corner[k] == CITTERNBLAZE_MIDDLE) {
+      at->corner[k] = at->middles + at->fans - 1;
+    } else if (corner[k] >= CITTERNBLAZE_INNER_CROSSING) {
+      at->corner[k] = at->inner + (corner[k] - CITTERNBLAZE_INNER_CROSSING);
+      if (at->behind <= at->corner[k])
+        at->behind = at->corner[k] + 1;
+    }
+  }
+}
+
+/* Before the first triangle of a mesh with so many triangles, of a grid with so
+ * many crossings: counts its inner crossings, behind which the middles stand. */
+static inline citternblaze_points
+citternblaze_points_from(const uint32_t *words, size_t triangles,
+                         size_t crossings) {
+  citternblaze_points at;
+  size_t t;
+  at.inner = at.behind = at.middles = crossings;
+  at.fans = 0;
+  at.cell = at.fan = UINT64_MAX;
+  at.corner[0] = at.corner[1] = at.corner[2] = 0;
+  for (t = 0; t < triangles; t++)
+    citternblaze_points_next(&at, words + CITTERNBLAZE_TRIANGLE_WORDS * t);
+  at.middles = at.behind;
+  at.inner = at.behind = crossings;
+  at.fans = 0;
+  at.cell = at.fan = UINT64_MAX;
+  return at;
+}
 
 #ifdef __cplusplus
 }

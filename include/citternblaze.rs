@@ -1,6 +1,6 @@
 //! The declarations of citternblaze.h for Rust, for every program here that calls
-//! the library. A list or an area is a pointer and a length. A test of tools/
-//! compares them with the header.
+//! the library. A list or an area is a pointer and a length. scripts/headers.py
+//! compares them with the functions' source, as it does the header.
 
 // not every program calls every function
 #![allow(dead_code)]

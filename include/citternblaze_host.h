@@ -3,7 +3,9 @@
  *
  * Each function takes the bytes and their number. It reads nothing outside of them, writes nothing that is the caller's, and keeps no pointer.
  * `bytes` may be NULL where `length` is 0. An input may have any length. A call goes over the records once, and over the edges
- * once more for every 12,288 later looks.
+ * once more for every 12,288 later looks. So its time goes by the number of records, and beyond 12,288 looks by edges times
+ * looks: 250,000 of each take 21 passes over the edges. In a pass an edge finds its look in 17 steps at most, whatever the
+ * nodes are.
  *
  * The functions need a processor of the kind x86-64 and the System V calling convention, as Linux has it; up to 192 KB
  * of stack; of C's functions memset, at most.

@@ -8,7 +8,7 @@ flags=(-Wall -Wextra -Wpedantic -Werror -O2 -Iinclude)
 
 mkdir -p target/c
 cc -std=c99 "${flags[@]}" -o target/c/triangles examples/triangles.c "$library"
-c++ -std=c++98 -Wno-long-long "${flags[@]}" -x c++ -o target/c/triangles_cpp examples/triangles.c -x none "$library"
+c++ -std=c++11 "${flags[@]}" -x c++ -o target/c/triangles_cpp examples/triangles.c -x none "$library"
 
 count=0
 for expected in examples/*.out; do
