@@ -24,13 +24,14 @@
  * - A processor of the kind x86-64, with no extension beyond SSE2, and the
  *   System V calling convention, as Linux has it.
  * - Of C's functions memcpy and memset, at most.
- * - Stack: CITTERNBLAZE_STACK_BYTES suffice for any call. As measured, the nine
- *   calls on a grid take 264 to 620 KB where no split is inside another; with the
- *   2,045 splits of d1 4092 and d2 2, one inside the other, the mesh call takes
- *   1,242 KB, the run call 1,355 KB, the joined call 1,483 KB and the places call
- *   2,150 KB. The chains call of a flat grid takes 916 KB, its check 148 KB, the
- *   bundle reader 148 KB, citternblaze_case 2 KB, each other call under 1 KB. What a
- *   call's text below says it takes is tested on a thread with exactly that stack.
+ * - Stack: CITTERNBLAZE_STACK_BYTES suffice for any call. A KB here has 1,024
+ *   bytes. As measured, the nine calls on a grid take 233 to 620 KB where no split
+ *   is inside another; with the 2,045 splits of d1 4092 and d2 2, one inside the
+ *   other, the mesh call takes 1,242 KB, the run call 1,355 KB, the joined call
+ *   1,483 KB and the places call 2,150 KB. The chains call of a flat grid takes
+ *   940 KB, its check 172 KB, the bundle reader 148 KB, citternblaze_case 2 KB,
+ *   each other call under 1 KB. What a call's text below says it takes is tested
+ *   on a thread with exactly that stack.
  * - For citternblaze_places and citternblaze_nearest, 64-bit floating point as a C
  *   program finds it at its start: rounding to nearest, subnormal numbers on (no
  *   flush to zero), no exception trapped. The other calls do not compute with it.
@@ -38,13 +39,9 @@
  *   threads may call at once, where no area that one of them writes is lent to
  *   another.
  *
- * Time. On grids and bundles as scans give them a call takes time in proportion to
- * what it is lent and what it writes; docs/SPEED.md has figures. Not so:
- * - The checks of grids and of flat grids, with which every call on one starts,
- *   find equal faces and edges by hash chains. Node numbers that are chosen, or
- *   fall, so that many hashes are equal make the chains long: an accepted grid of
- *   2048 cells can take 50 ms, and a refused one with hundreds of thousands of
- *   listed edges seconds.
+ * Time. Under "Cost" each call's text says what its time is in proportion to, for
+ * every input; a call on a grid takes that of citternblaze_check before.
+ * docs/SPEED.md has figures, the worst input found of each call among them. But:
  * - With more than 12288 edges and more than 12288 later looks the bundle reader
  *   goes over the edges once more for every 12288 looks.
  * - A split cell has as many triangles as citternblaze_book answers, which may be
@@ -221,7 +218,9 @@ extern "C" {
  * count above the other two, so that each edge leaves one; or 1, where the edge's
  * count is above the other two and the crossings between its corners are odd in
  * number, so that the first is skipped. Or 2, where there is no such crossing: the
- * edge is over 2, or the index not below its count. */
+ * edge is over 2, or the index not below its count.
+ *
+ * Cost: a fixed time. */
 size_t citternblaze_face(uint16_t ab, uint16_t ac, uint16_t bc,
                          uint32_t edge, uint32_t index,
                          uint64_t *answer, size_t answer_len);
@@ -233,7 +232,9 @@ size_t citternblaze_face(uint16_t ab, uint16_t ac, uint16_t bc,
  * bits.
  *
  * Answers 0, the number of loops and the number of triangles; or 0 alone, where
- * a count is above 2: the cell is outside the table. */
+ * a count is above 2: the cell is outside the table.
+ *
+ * Cost: a fixed time. */
 size_t citternblaze_case(uint16_t e01, uint16_t e02, uint16_t e03,
                          uint16_t e12, uint16_t e13, uint16_t e23,
                          uint64_t *answer, size_t answer_len);
@@ -250,7 +251,10 @@ size_t citternblaze_case(uint16_t e01, uint16_t e02, uint16_t e03,
  * the parts into which citternblaze_mesh splits the cell, which pass 32 bits for
  * large counts; else t and 4 (d1 + d2). Or 0 alone, "walk it", where a face has an
  * odd sum or a count above the other two: such a cell's loops have to be walked, as
- * citternblaze_mesh does. */
+ * citternblaze_mesh does.
+ *
+ * Cost: a fixed time, but of a split cell the divisions that lead to the greatest
+ * common divisor of d1 and d2. */
 size_t citternblaze_book(uint16_t e01, uint16_t e02, uint16_t e03,
                          uint16_t e12, uint16_t e13, uint16_t e23,
                          uint64_t *answer, size_t answer_len);
@@ -263,7 +267,10 @@ size_t citternblaze_book(uint16_t e01, uint16_t e02, uint16_t e03,
  *
  * Answers 0 and the number of crossings, where the grid is accepted; or the
  * number and the place of a refusal, 1 to 10 or 18. Takes up to 512 KB of the
- * stack. */
+ * stack.
+ *
+ * Cost: cells and listed edges, whatever they are. A refusal by 4 or 5 is told after
+ * all cells are looked at. */
 size_t citternblaze_check(const uint16_t *cells, size_t cells_len,
                           const uint16_t *edges, size_t edges_len,
                           const uint16_t *counts, size_t counts_len,
@@ -277,7 +284,9 @@ size_t citternblaze_check(const uint16_t *cells, size_t cells_len,
  *
  * Answers 0 and the number of crossings; or the number and the place of a
  * refusal, 1 to 10 or 18, which keeps every start. Takes up to 512 KB of the
- * stack. */
+ * stack.
+ *
+ * Cost: that of citternblaze_check. */
 size_t citternblaze_open(const uint16_t *cells, size_t cells_len,
                          const uint16_t *edges, size_t edges_len,
                          const uint16_t *counts, size_t counts_len,
@@ -296,7 +305,9 @@ size_t citternblaze_open(const uint16_t *cells, size_t cells_len,
  * place of a refusal: 1 to 10 and 18 as citternblaze_check has them for the grid
  * as it is lent; 21 and the edge, where there is no such edge; 18 and the edge,
  * where the count is over 4095; 10 and 0, where there would be too many crossings.
- * A refusal keeps every count and every start. Takes up to 512 KB of the stack. */
+ * A refusal keeps every count and every start. Takes up to 512 KB of the stack.
+ *
+ * Cost: that of citternblaze_check, whichever edge is set. */
 size_t citternblaze_set_count(const uint16_t *cells, size_t cells_len,
                               const uint16_t *edges, size_t edges_len,
                               uint16_t *counts, size_t counts_len,
@@ -333,7 +344,10 @@ size_t citternblaze_set_count(const uint16_t *cells, size_t cells_len,
  * room for as many triangles as the cells have crossings together and those that
  * splitting adds, no cell is walked to count. Else the cells that are outside the
  * table of citternblaze_case and that citternblaze_book answers "walk it" for are
- * walked twice, first to count. */
+ * walked twice, first to count.
+ *
+ * Cost: the crossings of the cells, an edge's counted in each of its cells, and the
+ * triangles. A split cell has as many triangles as citternblaze_book answers. */
 size_t citternblaze_mesh(const uint16_t *cells, size_t cells_len,
                          const uint16_t *edges, size_t edges_len,
                          const uint16_t *counts, size_t counts_len,
@@ -360,7 +374,9 @@ size_t citternblaze_mesh(const uint16_t *cells, size_t cells_len,
  * not above 0, or not below the number of cells; 26 and the run, where there are no
  * more runs than its number; 12 and the triangles of the run, where the area is too
  * short. A refusal keeps every word of the area. Takes up to 1536 KB of the stack,
- * and up to 640 KB where no split is inside another. */
+ * and up to 640 KB where no split is inside another.
+ *
+ * Cost: that of the check of the whole, and of citternblaze_mesh for the run. */
 size_t citternblaze_mesh_run(const uint16_t *cells, size_t cells_len,
                              const uint16_t *edges, size_t edges_len,
                              const uint16_t *counts, size_t counts_len,
@@ -381,7 +397,9 @@ size_t citternblaze_mesh_run(const uint16_t *cells, size_t cells_len,
  * the place of a refusal: 1 to 10, 18 and 25 as citternblaze_mesh_run has them, or 12
  * and the triangles of all runs, where the area is too short. A refusal keeps every
  * word of the area. Takes up to 1792 KB of the stack, and up to 768 KB where no
- * split is inside another. */
+ * split is inside another.
+ *
+ * Cost: that of citternblaze_mesh, and runs. */
 size_t citternblaze_mesh_joined(const uint16_t *cells, size_t cells_len,
                                 const uint16_t *edges, size_t edges_len,
                                 const uint16_t *counts, size_t counts_len,
@@ -402,7 +420,9 @@ size_t citternblaze_mesh_joined(const uint16_t *cells, size_t cells_len,
  * cell's lowest node, the corner that it cuts off. Or 0 alone, where the cell
  * has no such loop. Or the number and the place of a refusal: 1 to 10 and 18 as
  * citternblaze_check has them, or 11 and the cell asked for, where there is no
- * such cell. Takes up to 640 KB of the stack. */
+ * such cell. Takes up to 640 KB of the stack.
+ *
+ * Cost: the crossings of the cell, whichever loop is asked for. */
 size_t citternblaze_loops(const uint16_t *cells, size_t cells_len,
                           const uint16_t *edges, size_t edges_len,
                           const uint16_t *counts, size_t counts_len,
@@ -430,7 +450,9 @@ size_t citternblaze_loops(const uint16_t *cells, size_t cells_len,
  * -1000000 to 1000000; 17 and a crossing whose fraction is not above 0 and below
  * 1, or not above the one before it on its edge. A refusal keeps every number of
  * the area. Takes up to 2560 KB of the stack, and up to 640 KB where no split is
- * inside another. */
+ * inside another.
+ *
+ * Cost: the points, and the crossings of the cells that have fans or are walked. */
 size_t citternblaze_places(const uint16_t *cells, size_t cells_len,
                            const uint16_t *edges, size_t edges_len,
                            const uint16_t *counts, size_t counts_len,
@@ -452,7 +474,10 @@ size_t citternblaze_places(const uint16_t *cells, size_t cells_len,
  * citternblaze_check has them; 19 and 0 where the area is not 4096 bytes; 20 and
  * 0 where there is no shading, as where a closed way along edges has an odd number
  * of crossings. A refusal keeps every byte of the area. Takes up to 512 KB of the
- * stack. */
+ * stack.
+ *
+ * Cost: that of citternblaze_check, and a pass over the edges in which each takes a
+ * logarithm of the nodes at most, on average. */
 size_t citternblaze_shading(const uint16_t *cells, size_t cells_len,
                             const uint16_t *edges, size_t edges_len,
                             const uint16_t *counts, size_t counts_len,
@@ -463,7 +488,7 @@ size_t citternblaze_shading(const uint16_t *cells, size_t cells_len,
 /* The face call for a triangle of a flat grid: as citternblaze_face, but where the
  * sum of the counts is odd and none is above the other two, the largest alone is
  * lessened by 1, the first of ab, ac, bc on a tie, so that one crossing of the
- * triangle is left, on that edge. */
+ * triangle is left, on that edge. Cost: a fixed time. */
 size_t citternblaze_flat_face(uint16_t ab, uint16_t ac, uint16_t bc,
                               uint32_t edge, uint32_t index,
                               uint64_t *answer, size_t answer_len);
@@ -475,7 +500,9 @@ size_t citternblaze_flat_face(uint16_t ab, uint16_t ac, uint16_t bc,
  *
  * Answers 0 and the number of crossings, where the flat grid is accepted; or the
  * number and the place of a refusal, 1 to 8, 10 or 18, with triangles for cells and
- * edges for faces. Takes up to 192 KB of the stack. */
+ * edges for faces. Takes up to 192 KB of the stack.
+ *
+ * Cost: triangles and listed edges, with what stands above under "Time". */
 size_t citternblaze_flat_check(const uint16_t *triangles, size_t triangles_len,
                                const uint16_t *edges, size_t edges_len,
                                const uint16_t *counts, size_t counts_len,
@@ -496,7 +523,9 @@ size_t citternblaze_flat_check(const uint16_t *triangles, size_t triangles_len,
  * to 8, 10 and 18 as citternblaze_flat_check has them, or 24 and the number of
  * words needed, where the area is too short; twice as many words as there are
  * crossings suffice. A refusal keeps every word of the area. Takes up to 1,024 KB
- * of the stack. */
+ * of the stack.
+ *
+ * Cost: that of citternblaze_flat_check, and crossings. */
 size_t citternblaze_flat_chains(const uint16_t *triangles, size_t triangles_len,
                                 const uint16_t *edges, size_t edges_len,
                                 const uint16_t *counts, size_t counts_len,
@@ -507,7 +536,9 @@ size_t citternblaze_flat_chains(const uint16_t *triangles, size_t triangles_len,
  *
  * Answers 0, the record's kind (1 cell, 2 or 4 edge, 3 end, 5 look) and the start
  * of the next record; or 13 and the start, or 13 and bytes_len where the start is
- * not below it. A record of kind 4 with a count of 255 or less is refused. */
+ * not below it. A record of kind 4 with a count of 255 or less is refused.
+ *
+ * Cost: a fixed time, as citternblaze_record_body's is. */
 size_t citternblaze_record(const uint8_t *bytes, size_t bytes_len, size_t start,
                            uint64_t *answer, size_t answer_len);
 
@@ -548,7 +579,9 @@ size_t citternblaze_bundle_read(const uint8_t *bytes, size_t bytes_len,
  * Answers 0 and the number of bytes written; or 13 and 0 where the lists are not
  * 4 nodes to a cell or 2 ends to a count; or 14 and the number of bytes needed,
  * 4294967295 if more, where the area is too short. A refusal keeps every value
- * of the area. */
+ * of the area.
+ *
+ * Cost: the bytes written. */
 size_t citternblaze_bundle_write(const uint16_t *nodes, size_t nodes_len,
                                  const uint16_t *ends, size_t ends_len,
                                  const uint16_t *counts, size_t counts_len,
@@ -568,7 +601,9 @@ size_t citternblaze_bundle_write(const uint16_t *nodes, size_t nodes_len,
  * &answer[2], sizeof distance). Or 0 alone, where the list is empty. Or 23 and a
  * place: 0 where the list is not three numbers to a point, and else the lowest
  * index of a number that is not from -1000000 to 1000000, where x, y and z have
- * the indices points_len, points_len + 1 and points_len + 2. */
+ * the indices points_len, points_len + 1 and points_len + 2.
+ *
+ * Cost: two passes over the points. */
 size_t citternblaze_nearest(const double *points, size_t points_len,
                             double x, double y, double z,
                             uint64_t *answer, size_t answer_len);

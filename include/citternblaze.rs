@@ -1,11 +1,9 @@
-//! The declarations of citternblaze.h for Rust, for every program here that calls
-//! the library. A list or an area is a pointer and a length. scripts/headers.py
-//! compares them with the functions' source, as it does the header.
+//! The declarations of citternblaze.h for Rust. A list or an area is a pointer and a
+//! length. scripts/headers.py compares them with the functions' source, as it does the
+//! header. `functions` is a macro of whoever takes this file in: of
+//! bindings/src/library.rs it makes what is linked, and a table for what is loaded.
 
-// not every program calls every function
-#![allow(dead_code)]
-
-extern "C" {
+functions! {
     pub fn citternblaze_face(
         ab: u16,
         ac: u16,

@@ -8,7 +8,7 @@
  * nodes are.
  *
  * The functions need a processor of the kind x86-64 and the System V calling convention, as Linux has it; up to 192 KB
- * of stack; of C's functions memset, at most.
+ * of stack, a KB being 1,024 bytes; of C's functions memset, at most.
  * There is no state between calls: any number of threads may call at once.
  */
 #ifndef CITTERNBLAZE_HOST_H

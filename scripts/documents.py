@@ -6,7 +6,7 @@
   as a link, [`name`](file), as "`name` in `file`", "`name` (`file`)", or as "`file` (`name`, `name`)".
 - The table of crates in docs/ARCHITECTURE.md agrees with crates.txt and with crates/.
 - README.md has at most 9,000 bytes, and its commands name programs and files that are there.
-- The version in VERSION is that of the header, the tools and CHANGELOG.md.
+- The version in VERSION is that of the header, bindings, the tools and CHANGELOG.md.
 - Every closed statement of a crate's specs/ is linked in docs/CLAIMS.md, and every must-fail edit is named in docs/CONTRACTS.md.
 - Entries of docs/DECISIONS.md are numbered in turn within their sections, as its contents say.
 
@@ -25,7 +25,7 @@ ROOT = pathlib.Path(__file__).resolve().parent.parent
 NAMED = ["README.md", "docs/CLAIMS.md", "docs/ARCHITECTURE.md", "docs/CONTRACTS.md", "docs/DEMAND3.md", "docs/DECISIONS.md"]
 OTHERS = ["CONTRIBUTING.md", "CHANGELOG.md", "docs/changes/README.md", "samples/README.md"]
 OTHERS += sorted(f"docs/{path.name}" for path in (ROOT / "docs").glob("*.md") if f"docs/{path.name}" not in NAMED)
-TEXTS = ["crates.txt", "VERSION", "include/citternblaze.h", "tools/Cargo.toml"]
+TEXTS = ["crates.txt", "VERSION", "include/citternblaze.h", "bindings/Cargo.toml", "tools/Cargo.toml"]
 # what has a version too, where it is there
 MAYBE = ["python/citternblaze/_version.py"]
 MOST_BYTES = 9000
@@ -34,7 +34,7 @@ PROGRAMS = {"rt", "cargo", "cc", "citternblaze", "make", "export"}
 # what is built, and so is not in the repository
 BUILT = ("target/", "tools/target/", "reference/target/")
 SOURCES = ("*.rt", "*.antt", "*.edit", "*.rs", "*.h", "*.c", "*.sh", "*.py", "*.toml", "*.out", "*.expected")
-FOLDERS = ("crates", "include", "tools", "reference", "tests", "examples", "scripts", "samples", ".ci")
+FOLDERS = ("crates", "include", "bindings", "tools", "reference", "tests", "examples", "scripts", "samples", ".ci")
 WORD = r"[^\s(){}\[\],;:.`\"\\|→λ⌜⌝∷]+"
 
 
@@ -207,7 +207,7 @@ def check_crates(texts, repository):
 def statements(file, text):
     """The closed statements of a file of specs/: types without a parameter, and such records in files of claims."""
     yield from re.findall(r"(?m)^abbrev pub ([A-Z]\w*) : Type \d", text)
-    if "claims" in file.lower():
+    if pathlib.PurePath(file).stem.endswith("Claims"):
         yield from re.findall(r"(?m)^pub record ([A-Z]\w*) : Type \d", text)
 
 
@@ -248,6 +248,7 @@ def check_version(texts):
         return [f"VERSION: {version} is no version"]
     asked = {
         "include/citternblaze.h": f'#define CITTERNBLAZE_VERSION "{version}"\n',
+        "bindings/Cargo.toml": f'\nversion = "{version}"\n',
         "tools/Cargo.toml": f'\nversion = "{version}"\n',
         "CHANGELOG.md": f"\n## {version}\n",
         "README.md": version,
@@ -314,6 +315,7 @@ CHANGES = [
     ("docs/DECISIONS.md", "- **2.2 ", "- **2.3 "),
     ("VERSION", ".", ".1"),
     ("tools/Cargo.toml", 'version = "', 'version = "1'),
+    ("bindings/Cargo.toml", 'version = "', 'version = "1'),
 ]
 
 

@@ -124,7 +124,7 @@ def c_slot(part, where):
 
 def of_rust(text):
     found = {}
-    for block in re.findall(r'extern\s+"C"\s*\{(.*?)\n\}', no_comments(text), flags=re.S):
+    for block in re.findall(r'(?:extern\s+"C"|functions!)\s*\{(.*?)\n\}', no_comments(text), flags=re.S):
         for name, parameters, result in re.findall(r"\bfn\s+(\w+)\s*\(([^)]*)\)\s*->\s*(\w+)\s*;", block):
             listed = [tuple(word.strip() for word in part.split(":", 1)) for part in parts(parameters)]
             found[name] = (listed, width(result, name))

@@ -57,7 +57,7 @@ def statements(lines):
     """The `use` statements of a file, each as one line, and the numbers of their lines."""
     found, taken, at = [], set(), 0
     while at < len(lines):
-        if re.match(r"\s*(pub )?(ghost )?use ", lines[at]):
+        if re.match(r"\s*(unfoldable )?(pub )?(ghost )?use ", lines[at]):
             text, end = lines[at].strip(), at
             while "{" in text and "}" not in text:
                 end += 1
@@ -74,7 +74,7 @@ def imports(lines):
     names, modules = {}, {}
     found, taken = statements(lines)
     for text in found:
-        m = re.match(r"^(?:pub )?(?:ghost )?use ([^ ;{]+?)(?:\.\{(.*)\}|(?: as ([^ ;]+)))?;?$", text)
+        m = re.match(r"^(?:unfoldable )?(?:pub )?(?:ghost )?use ([^ ;{]+?)(?:\.\{(.*)\}|(?: as ([^ ;]+)))?;?$", text)
         path = PATH.match(m.group(1)) if m else None
         if not path:
             continue
@@ -126,6 +126,18 @@ def definitions(lines, taken):
     return found
 
 
+def constructors(lines, found):
+    """For each constructor of a data type of these definitions the type's name."""
+    made = {}
+    for name, at, end in found:
+        if re.match(r"\s*(pub )?data ", lines[at]):
+            for line in lines[at + 1 : end]:
+                m = re.match(r"\s+([^(){}:]+) : ", line)
+                if m and indent(line) == indent(lines[at]) + 2:
+                    made.update((one, name) for one in m.group(1).split())
+    return made
+
+
 class House:
     """All definitions of the crates under a root."""
 
@@ -134,6 +146,7 @@ class House:
         self.lines = {}
         self.imported = {}
         self.defined = {}
+        self.made = {}
         for file in sorted(root.glob("crates/*/specs/**/*.antt")):
             self.read_specs(file)
         self.types = {}
@@ -145,7 +158,9 @@ class House:
         lines = file.read_text(encoding="utf8").split("\n")
         names, modules, taken = imports(lines)
         self.lines[key], self.imported[key] = lines, (names, modules)
-        self.defined[key] = {name: (at, end) for name, at, end in definitions(lines, taken)}
+        found = definitions(lines, taken)
+        self.defined[key] = {name: (at, end) for name, at, end in found}
+        self.made[key] = constructors(lines, found)
 
     def read_types(self, file):
         key, crate = str(file.relative_to(self.root)), file.relative_to(self.root).parts[1]
@@ -172,6 +187,7 @@ class House:
 
     def known(self, key, name, depth=0):
         """The file and the name of what a file calls by this name, if it is of a crate."""
+        name = self.made.get(key, {}).get(name, name)
         if name in self.defined[key]:
             return key, name
         if name in self.imported[key][0] and depth < 9:
@@ -184,7 +200,8 @@ class House:
         for line in lines:
             if line.strip().startswith("--"):
                 continue
-            for word in WORD.findall(line):
+            # a projection `.field` names no definition
+            for word in WORD.findall(re.sub(r"(?<=[\s(])\.[^\s(){}\[\];,]+", " ", line)):
                 found.add(self.known(key, word))
             for other, (crate, module) in self.imported[key][1].items():
                 for name in re.findall(r"(?<![\w.·-])" + re.escape(other) + r"\.([^\s(){}\[\];,.]+)", line):
@@ -210,9 +227,20 @@ class House:
             for at, line in enumerate(lines):
                 if re.match(rf'pub (extern "C" )?fn {function}\b', line):
                     end = next(e for e in range(at, len(lines)) if lines[e] == "{" or lines[e].endswith(" {"))
-                    said = [line for line in lines[at:end] if "⌜" in line or "ensures" in line]
-                    return key, at + 1, self.named(key, said)
+                    first = next((e for e in range(at, end) if "⌜" in lines[e] or "ensures" in lines[e]), end)
+                    return key, at + 1, self.named(key, lines[first:end])
         raise SystemExit(f"reading: {crate} has no public function {function}")
+
+    def functions(self, crate):
+        """The public functions of a crate."""
+        for key, lines in self.lines.items():
+            if key.startswith(f"crates/{crate}/src/"):
+                yield from (m.group(2) for m in (re.match(r'pub (extern "C" )?fn (\w+)', line) for line in lines) if m)
+
+    def behind_calls(self):
+        """All that a call or a C function rests on."""
+        calls = [(crate, function) for _, crate, function in CALLS] + [("capi", function) for function in self.functions("capi")]
+        return self.closure(set().union(*(self.contract(*call)[2] for call in calls)))
 
     def closure(self, roots):
         items, left = {}, list(roots)
@@ -259,12 +287,30 @@ def link(text, file, line):
     return f"[{text}](../{file}#L{line})"
 
 
+def size(items):
+    """How many definitions, lines and files."""
+    return len(items), sum(item.lines for item in items), len({item.file for item in items})
+
+
+def anchor(title):
+    return re.sub(r"[^a-z0-9 -]", "", title.lower()).replace(" ", "-")
+
+
+def overview(house):
+    """A row for each call, and one for all with the C functions."""
+    out = ["| call | definitions | lines | files |", "|---|---|---|---|"]
+    for title, crate, function in CALLS:
+        many = size(house.closure(house.contract(crate, function)[2]).values())
+        out.append(f"| [{title}](#{anchor(title)}) | {many[0]} | {many[1]} | {many[2]} |")
+    many = size(house.behind_calls().values())
+    return out + [f"| all of them, with the C functions | {many[0]} | {many[1]} | {many[2]} |", ""]
+
+
 def page(house, crates, title, crate, function):
     key, line, roots = house.contract(crate, function)
     order = in_order(house.closure(roots), crates)
-    files = len({item.file for item in order})
     out = [f"## {title}", ""]
-    out.append(f"Contract of {link(f'`{function}`', key, line)}: {len(order)} definitions of {sum(i.lines for i in order)} lines in {files} files.")
+    out.append(f"Contract of {link(f'`{function}`', key, line)}: {{}} definitions of {{}} lines in {{}} files.".format(*size(order)))
     out.append("")
     file = None
     for item in order:
@@ -287,6 +333,7 @@ def made(root):
         "checked by machine. Lines are counted without comments and empty lines. `scripts/reading.py` makes this page, and the gate compares.",
         "",
     ]
+    out += overview(house)
     for call in CALLS:
         out += page(house, crates, *call)
     return "\n".join(out).rstrip("\n") + "\n"

@@ -18,7 +18,7 @@ if command -v shellcheck >/dev/null 2>&1; then
 fi
 
 if cargo fmt --version >/dev/null 2>&1; then
-  for manifest in reference/Cargo.toml reference/compare/Cargo.toml tools/Cargo.toml; do
+  for manifest in bindings/Cargo.toml reference/Cargo.toml reference/compare/Cargo.toml tools/Cargo.toml; do
     cargo fmt --check --manifest-path "$manifest"
   done
   echo "texts: Rust sources are formatted"

@@ -1,5 +1,5 @@
 #!/usr/bin/env bash
-# Builds and tests the program citternblaze of tools/, runs it on all samples and on random grids, and takes what it writes to readers that are not
+# Tests the calls for Rust of bindings/, builds and tests the program citternblaze of tools/, runs it on all samples and on random grids, and takes what it writes to readers that are not
 # ours: meshio and assimp for meshes, xmllint and rsvg-convert for pictures. Wants libcapi.a and libhost.a in target/staticlib (`rt staticlib capi`,
 # `rt staticlib host`), or in the folder that CITTERNBLAZE_LIB names.
 set -euo pipefail
@@ -9,7 +9,7 @@ tool=tools/target/release/citternblaze
 
 within() { timeout --kill-after=10 "$@"; }
 within 900 cargo build --quiet --release --jobs 1 --manifest-path "$manifest"
-within 900 cargo test --quiet --release --jobs 1 --manifest-path "$manifest"
+within 900 cargo test --quiet --release --jobs 1 --manifest-path "$manifest" --workspace
 
 work=$(mktemp -d)
 trap 'rm -rf "$work"' EXIT

@@ -61,7 +61,7 @@ struct Layers<'a> {
 }
 
 impl<'a> Layers<'a> {
-    /// Rows 1 to 10 of the whole, and 25.
+    /// Rows 1 to 10 and 18 of the whole, and 25.
     fn check(whole: Lists<'a>, cuts: &'a [u16]) -> Result<Layers<'a>, Refusal> {
         let mut tables = GridTables::default();
         tables.check(whole)?;

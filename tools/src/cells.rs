@@ -67,9 +67,9 @@ pub fn loops_of(grid: &Grid, cell: usize) -> Result<Vec<Loop>, Refusal> {
     let alone = match Alone::of(grid, cell) {
         Some(alone) => alone,
         // the loops call refuses a cell that there is not
-        None => return grid.loop_at(cell, 0).map(|_| loops),
+        None => return grid.loops(cell, 0).map(|_| loops),
     };
-    while let Some(found) = alone.grid.loop_at(0, loops.len())? {
+    while let Some(found) = alone.grid.loops(0, loops.len())? {
         let p0 = alone.number(grid, found.p0);
         loops.push(Loop { p0, ..found });
     }
@@ -90,7 +90,7 @@ pub fn triangles_of(grid: &Grid, cell: usize) -> Result<u64, Refusal> {
     match Alone::of(grid, cell) {
         Some(alone) => alone.grid.triangles(),
         // the loops call refuses a cell that there is not
-        None => grid.loop_at(cell, 0).map(|_| 0),
+        None => grid.loops(cell, 0).map(|_| 0),
     }
 }
 

@@ -179,25 +179,38 @@ pub struct Film {
     page: Sheet,
 }
 
+impl Setup {
+    /// Leaves as many lines of the legend as there is room for, the last saying how many
+    /// more there are.
+    fn shorten_legend(&mut self) {
+        if self.entries.len() > MOST_ENTRIES {
+            let more = self.entries.len() - MOST_ENTRIES + 1;
+            self.entries.truncate(MOST_ENTRIES - 1);
+            let words = format!("and {more} more lines");
+            self.entries.push(Entry::new(legend::Mark::Nothing, words));
+        }
+    }
+
+    /// The scale given, or else the largest that fits, and the sheet upright or else across;
+    /// none where there is no room.
+    fn fitting(&self) -> Option<(Scale, Sheet)> {
+        let pages = [self.sheet, self.sheet.landscape()];
+        let fitting = |scale: Scale| {
+            let fits = |page: &&Sheet| Window::of(self, scale).fits(self, **page);
+            pages.iter().find(fits).map(|&page| (scale, page))
+        };
+        match self.scale {
+            Some(scale) => fitting(scale),
+            None => Scale::all().find_map(fitting),
+        }
+    }
+}
+
 impl Film {
     /// An empty film. Refused where the scale given leaves no room on the sheet.
     pub fn new(mut setup: Setup) -> Result<Film, Fault> {
-        if setup.entries.len() > MOST_ENTRIES {
-            let more = setup.entries.len() - MOST_ENTRIES + 1;
-            setup.entries.truncate(MOST_ENTRIES - 1);
-            let words = format!("and {more} more lines");
-            setup.entries.push(Entry::new(legend::Mark::Nothing, words));
-        }
-        let pages = [setup.sheet, setup.sheet.landscape()];
-        let fitting = |scale: Scale| {
-            let fits = |page: &&Sheet| Window::of(&setup, scale).fits(&setup, **page);
-            pages.iter().find(fits).map(|&page| (scale, page))
-        };
-        let found = match setup.scale {
-            Some(scale) => fitting(scale),
-            None => Scale::all().find_map(fitting),
-        };
-        let (scale, page) = found.ok_or_else(|| no_room(&setup))?;
+        setup.shorten_legend();
+        let (scale, page) = setup.fitting().ok_or_else(|| no_room(&setup))?;
         let window = Window::of(&setup, scale);
         let mut svg = Svg::sheet(page.width, page.height, &setup.title);
         let room = page.width - 2.0 * MARGIN - LEFT;

@@ -6,7 +6,6 @@
 pub mod arguments;
 pub mod box_axes;
 pub mod bundle;
-pub mod calls;
 pub mod cell_picture;
 pub mod cells;
 pub mod chains;
@@ -63,3 +62,5 @@ pub mod tidy;
 pub mod triangle_types;
 pub mod view;
 pub mod vtu;
+
+pub use citternblaze_calls as calls;

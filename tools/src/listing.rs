@@ -3,7 +3,9 @@
 
 use std::fmt::Write;
 
-use crate::calls::{self, Grid, Refusal, NO_NUMBER, REFUSED_MESH_AREA, TRIANGLE_WORDS};
+use crate::calls::{
+    self, Grid, Refusal, MIDDLE, REFUSED_MESH_AREA, REFUSED_RECORDS, TRIANGLE_WORDS,
+};
 use crate::digits::grouped;
 use crate::files::GRID_BYTES;
 use crate::progress::Progress;
@@ -28,6 +30,10 @@ pub const ANY_SIZE: Limits = Limits {
     bytes: GRID_BYTES,
     triangles: usize::MAX,
 };
+
+/// The word that a listing has `-` for: that of a middle, and the first of an inner
+/// side.
+pub const NO_NUMBER: u32 = MIDDLE;
 
 /// A refusal, and what it means in words.
 pub struct Refused {
@@ -71,7 +77,7 @@ pub fn too_long(most: usize) -> Refused {
     let bytes = grouped(most);
     Refused {
         refusal: Refusal {
-            number: 13,
+            number: REFUSED_RECORDS,
             place: most as u64,
         },
         words: format!("more than {bytes} bytes: a listing is of so many at most{unless}"),

@@ -4,7 +4,7 @@
 use std::collections::{BTreeMap, HashMap};
 
 use crate::calls::{
-    Grid, Refusal, INNER_CROSSING, INNER_FACE, MOST_CELLS, NO_NUMBER, TRIANGLE_WORDS,
+    Grid, Refusal, INNER, INNER_CROSSING, INNER_FACE, MIDDLE, MOST_CELLS, TRIANGLE_WORDS,
 };
 
 /// What word 0 tells: a cell, or a sub-cell of a split cell.
@@ -70,12 +70,12 @@ pub fn triangle(words: [u32; TRIANGLE_WORDS]) -> Triangle {
     let part = Part::of(word);
     let cell = part.cell;
     let corner = |at: usize| match words[2 + at] {
-        NO_NUMBER => Corner::Middle { part, p0 },
+        MIDDLE => Corner::Middle { part, p0 },
         crossing if crossing < INNER_CROSSING => Corner::Crossing(crossing),
         crossing => Corner::InnerCrossing { cell, crossing },
     };
     let side = |at: usize| match [words[5 + 2 * at], words[6 + 2 * at]] {
-        [NO_NUMBER, number] => Side::Inner { part, p0, number },
+        [INNER, number] => Side::Inner { part, p0, number },
         [face, crossing] if face < INNER_FACE => Side::Segment { face, crossing },
         [face, crossing] => Side::InnerSegment {
             cell,

@@ -69,7 +69,7 @@ pub fn fractions(grid: &Grid, text: &Text) -> Result<Vec<f64>, Fault> {
     let room = Mesh::of(grid).map_err(in_words)?.points();
     let highest = grid.lists().cells.iter().copied().max().unwrap_or(0);
     let nodes = vec![0.0; 3 * (usize::from(highest) + 1)];
-    grid.points(&nodes, &list, room).map_err(|refused| {
+    grid.places(&nodes, &list, room).map_err(|refused| {
         let lists = [&nodes[..], &list[..]];
         refusals::of_places(refused, grid.lists(), text, lists)
     })?;
@@ -107,7 +107,7 @@ pub fn points(grid: &Grid, text: &Text, mesh: &Mesh) -> Result<Vec<[f64; 3]>, Fa
     let nodes = node_places(grid, text)?;
     let fractions = stated_fractions(grid, text)?;
     let numbers = grid
-        .points(&nodes, &fractions, mesh.points())
+        .places(&nodes, &fractions, mesh.points())
         .map_err(|refused| {
             let lists = [&nodes[..], &fractions[..]];
             refusals::of_places(refused, grid.lists(), text, lists)

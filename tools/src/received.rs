@@ -4,8 +4,9 @@
 use std::collections::{BTreeMap, BTreeSet};
 use std::fmt;
 
-use crate::calls::{NO_NUMBER, TRIANGLE_WORDS};
+use crate::calls::TRIANGLE_WORDS;
 use crate::fault::{shown, Fault};
+use crate::listing::NO_NUMBER;
 use crate::mesh::{triangles, Corner, Part, Side, Triangle};
 use crate::progress::Progress;
 

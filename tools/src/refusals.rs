@@ -1,51 +1,81 @@
 //! Refusals in words: what the number means, and what stands at the place.
 
 use crate::bundle::numbers;
-use crate::calls::{self, Kind, Lists, Refusal};
+use crate::calls::{
+    self, Kind, Lists, Refusal, HIGHEST_NODE, REFUSED_BUNDLE_AREA, REFUSED_CELL_LIST,
+    REFUSED_CELL_NODES, REFUSED_CELL_REPEATED, REFUSED_CHAIN_AREA, REFUSED_COUNT,
+    REFUSED_CROSSINGS, REFUSED_CUTS, REFUSED_EDGE_LIST, REFUSED_EDGE_MISSING, REFUSED_EDGE_ORDER,
+    REFUSED_EDGE_STRAY, REFUSED_EDGE_UNLINKED, REFUSED_FACE_CROWDED, REFUSED_FRACTION,
+    REFUSED_LOOK, REFUSED_MESH_AREA, REFUSED_NODE_PLACE, REFUSED_NO_CELL, REFUSED_NO_EDGE,
+    REFUSED_NO_RUN, REFUSED_NO_SHADING, REFUSED_PLACE_LISTS, REFUSED_POINTS, REFUSED_RECORDS,
+    REFUSED_SHADING_AREA,
+};
 use crate::fault::Fault;
 use crate::text::{Text, FIRST_LINE};
 
 /// What a refusal's number means (docs/FORMAT.md, "Refusals").
 pub fn meaning(number: u64) -> &'static str {
     match number {
-        1 => "there is none, or there are more than 2,048",
-        2 => "the edges have not two ends and one start to a count, or a start is not the sum",
-        3 => "a node is over 4,095, or the nodes do not increase",
-        4 => "an earlier cell has the same nodes",
-        5 => "a face of it is in two earlier cells already",
-        6 => "not a lower and a higher node, or not after the edge before it",
-        7 => "one of its six edges is not listed",
-        8 => "no cell has this edge",
-        9 => "the cells that have it do not hang together through faces that contain it",
-        10 => "there are more than 65,535 crossings",
-        11 => "there is no such cell",
-        12 => "the mesh has more triangles than there is room for",
-        13 => "no record that may stand here",
-        14 => "the lists are too short for the bundle",
-        15 => "places or fractions are not as many as there must be",
-        16 => "not a number from -1,000,000 to 1,000,000",
-        17 => "a fraction is not above 0 and below 1, or not above the one before it",
-        18 => "the count is over 4,095",
-        19 => "the area of a shading has not 4,096 bytes",
-        20 => "it has no shading: on a closed way along edges the crossings are odd in number",
-        21 => "there is no such edge",
-        22 => "a later look at an edge that the bundle has not",
-        23 => "not a number from -1,000,000 to 1,000,000",
-        24 => "the chains have more words than there is room for",
-        25 => "cuts rise from above 0 and stay below the number of cells",
-        26 => "there is no such run",
+        REFUSED_CELL_LIST => "there is none, or there are more than 2,048",
+        REFUSED_EDGE_LIST => {
+            "the edges have not two ends and one start to a count, or a start is not the sum"
+        }
+        REFUSED_CELL_NODES => "a node is over 4,095, or the nodes do not increase",
+        REFUSED_CELL_REPEATED => "an earlier cell has the same nodes",
+        REFUSED_FACE_CROWDED => "a face of it is in two earlier cells already",
+        REFUSED_EDGE_ORDER => "not a lower and a higher node, or not after the edge before it",
+        REFUSED_EDGE_MISSING => "one of its six edges is not listed",
+        REFUSED_EDGE_STRAY => "no cell has this edge",
+        REFUSED_EDGE_UNLINKED => {
+            "the cells that have it do not hang together through faces that contain it"
+        }
+        REFUSED_CROSSINGS => "there are more than 65,535 crossings",
+        REFUSED_NO_CELL => "there is no such cell",
+        REFUSED_MESH_AREA => "the mesh has more triangles than there is room for",
+        REFUSED_RECORDS => "no record that may stand here",
+        REFUSED_BUNDLE_AREA => "the lists are too short for the bundle",
+        REFUSED_PLACE_LISTS => "places or fractions are not as many as there must be",
+        REFUSED_NODE_PLACE => "not a number from -1,000,000 to 1,000,000",
+        REFUSED_FRACTION => "a fraction is not above 0 and below 1, or not above the one before it",
+        REFUSED_COUNT => "the count is over 4,095",
+        REFUSED_SHADING_AREA => "the area of a shading has not 4,096 bytes",
+        REFUSED_NO_SHADING => {
+            "it has no shading: on a closed way along edges the crossings are odd in number"
+        }
+        REFUSED_NO_EDGE => "there is no such edge",
+        REFUSED_LOOK => "a later look at an edge that the bundle has not",
+        REFUSED_POINTS => "not a number from -1,000,000 to 1,000,000",
+        REFUSED_CHAIN_AREA => "the chains have more words than there is room for",
+        REFUSED_CUTS => "cuts rise from above 0 and stay below the number of cells",
+        REFUSED_NO_RUN => "there is no such run",
         _ => "docs/FORMAT.md has no such refusal",
     }
+}
+
+/// Whether a refusal's place is the number of a cell, or of a flat grid's triangle.
+pub fn is_of_piece(number: u64) -> bool {
+    matches!(
+        number,
+        REFUSED_CELL_NODES | REFUSED_CELL_REPEATED | REFUSED_FACE_CROWDED | REFUSED_EDGE_MISSING
+    )
+}
+
+/// Whether a refusal's place is the number of an edge.
+pub fn is_of_edge(number: u64) -> bool {
+    matches!(
+        number,
+        REFUSED_EDGE_ORDER | REFUSED_EDGE_STRAY | REFUSED_EDGE_UNLINKED | REFUSED_COUNT
+    )
 }
 
 /// A refusal of a bundle's bytes.
 pub fn of_bytes(refused: Refusal, bytes: &[u8]) -> String {
     let stands = match refused.number {
-        13 | 22 => at_byte(bytes, refused.place),
+        REFUSED_RECORDS | REFUSED_LOOK => at_byte(bytes, refused.place),
         _ => format!("place {}", refused.place),
     };
     let meaning = match refused.number {
-        13 => no_record(bytes, refused.place),
+        REFUSED_RECORDS => no_record(bytes, refused.place),
         other => meaning(other),
     };
     match bytes {
@@ -56,7 +86,7 @@ pub fn of_bytes(refused: Refusal, bytes: &[u8]) -> String {
     }
 }
 
-/// What 13 means, by what the record reader says of the place.
+/// What `REFUSED_RECORDS` means, by what the record reader says of the place.
 fn no_record(bytes: &[u8], place: u64) -> &'static str {
     let start = place as usize;
     match calls::record(bytes, start) {
@@ -106,19 +136,19 @@ fn in_words(refused: Refusal, lists: &Lists, kinds: &Kinds) -> String {
     let Refusal { number, place } = refused;
     let pieces = lists.cells.len() / kinds.nodes;
     let stands = match number {
-        1 => format!("{pieces} {}s", kinds.piece),
-        3 | 4 | 5 | 7 => piece(lists, place, kinds),
-        6 | 8 | 9 | 18 => edge(lists, place),
-        10 => format!("{} crossings", sum(&lists.counts)),
-        11 => format!("cell {place} of {pieces}"),
-        12 => format!("{place} triangles"),
-        16 => format!("{} of the place of node {}", axis(place), place / 3),
-        17 => crossing(lists, place),
-        20 => "the grid".to_string(),
-        21 => format!("edge {place} of {}", lists.counts.len()),
-        24 => format!("{place} words"),
-        25 => format!("cut {place}, counted from 0"),
-        26 => format!("run {place}"),
+        REFUSED_CELL_LIST => format!("{pieces} {}s", kinds.piece),
+        number if is_of_piece(number) => piece(lists, place, kinds),
+        number if is_of_edge(number) => edge(lists, place),
+        REFUSED_CROSSINGS => format!("{} crossings", sum(&lists.counts)),
+        REFUSED_NO_CELL => format!("cell {place} of {pieces}"),
+        REFUSED_MESH_AREA => format!("{place} triangles"),
+        REFUSED_NODE_PLACE => format!("{} of the place of node {}", axis(place), place / 3),
+        REFUSED_FRACTION => crossing(lists, place),
+        REFUSED_NO_SHADING => "the grid".to_string(),
+        REFUSED_NO_EDGE => format!("edge {place} of {}", lists.counts.len()),
+        REFUSED_CHAIN_AREA => format!("{place} words"),
+        REFUSED_CUTS => format!("cut {place}, counted from 0"),
+        REFUSED_NO_RUN => format!("run {place}"),
         _ => format!("place {place}"),
     };
     match which(refused, lists, kinds) {
@@ -131,14 +161,16 @@ fn in_words(refused: Refusal, lists: &Lists, kinds: &Kinds) -> String {
 fn which(refused: Refusal, lists: &Lists, kinds: &Kinds) -> Option<String> {
     let place = usize::try_from(refused.place).ok()?;
     match refused.number {
-        1 if lists.cells.is_empty() => Some(format!("there is no {}", kinds.piece)),
-        1 => Some("there are more than 2,048".to_string()),
-        3 => wrong_nodes(nodes_of(lists, place, kinds)?),
-        4 => same_nodes(lists, place, kinds),
-        5 => crowded(lists, place, kinds),
-        6 => wrong_order(lists, place),
-        7 => missing_edges(lists, nodes_of(lists, place, kinds)?),
-        8 | 9 if kinds.nodes == 3 => Some("no triangle has this edge".to_string()),
+        REFUSED_CELL_LIST if lists.cells.is_empty() => Some(format!("there is no {}", kinds.piece)),
+        REFUSED_CELL_LIST => Some("there are more than 2,048".to_string()),
+        REFUSED_CELL_NODES => wrong_nodes(nodes_of(lists, place, kinds)?),
+        REFUSED_CELL_REPEATED => same_nodes(lists, place, kinds),
+        REFUSED_FACE_CROWDED => crowded(lists, place, kinds),
+        REFUSED_EDGE_ORDER => wrong_order(lists, place),
+        REFUSED_EDGE_MISSING => missing_edges(lists, nodes_of(lists, place, kinds)?),
+        REFUSED_EDGE_STRAY | REFUSED_EDGE_UNLINKED if kinds.nodes == 3 => {
+            Some("no triangle has this edge".to_string())
+        }
         _ => None,
     }
 }
@@ -146,9 +178,6 @@ fn which(refused: Refusal, lists: &Lists, kinds: &Kinds) -> Option<String> {
 fn nodes_of<'a>(lists: &'a Lists, place: usize, kinds: &Kinds) -> Option<&'a [u16]> {
     lists.cells.chunks_exact(kinds.nodes).nth(place)
 }
-
-/// The highest number of a node.
-const HIGHEST_NODE: u16 = 4_095;
 
 fn wrong_nodes(nodes: &[u16]) -> Option<String> {
     if let Some(node) = nodes.iter().find(|&&node| node > HIGHEST_NODE) {
@@ -249,14 +278,14 @@ pub fn of_text(refused: Refusal, lists: &Lists, text: &Text) -> Fault {
 fn line_of(refused: Refusal, text: &Text) -> Option<usize> {
     let place = usize::try_from(refused.place).ok()?;
     match refused.number {
-        3 | 4 | 5 | 7 => Some(text.cells.get(place)?.line),
-        6 | 8 | 9 => Some(text.edges.get(place)?.line),
-        18 => {
+        number if is_of_piece(number) => Some(text.cells.get(place)?.line),
+        REFUSED_COUNT => {
             let edge = text.edges.get(place)?;
             let looks = || text.looks.iter().rev();
             let look = looks().find(|look| look.it.ends == edge.it.ends);
             Some(look.map_or(edge.line, |look| look.line))
         }
+        number if is_of_edge(number) => Some(text.edges.get(place)?.line),
         _ => None,
     }
 }
@@ -271,7 +300,7 @@ pub fn of_places(
     let words = of_lists(refused, lists);
     let at = refused.place as usize;
     let told = match (refused.number, nodes.get(at), fractions.get(at)) {
-        (16, Some(number), _) => {
+        (REFUSED_NODE_PLACE, Some(number), _) => {
             let node = at / 3;
             let mut stated = text.nodes.iter();
             let stated = stated.find(|of| usize::from(of.it.node) == node);
@@ -280,7 +309,7 @@ pub fn of_places(
                 format!("{words}, and this is {number:?}"),
             )
         }
-        (17, _, Some(fraction)) => {
+        (REFUSED_FRACTION, _, Some(fraction)) => {
             let ends = ends_of(lists, refused.place);
             let mut stated = text.fractions.iter();
             let stated = stated.find(|of| Some(&of.it.ends[..]) == ends);

@@ -8,7 +8,7 @@ use crate::calls::{Lists, Refusal};
 use crate::fault::Fault;
 use crate::loops::counted;
 use crate::plane::Point;
-use crate::refusals;
+use crate::refusals::{self, is_of_edge, is_of_piece};
 use crate::text::{each_statement, one_list, one_place, At, Edge, Fractions};
 
 /// The first line of the text form.
@@ -61,8 +61,8 @@ impl SheetText {
     fn refused(&self, refused: Refusal, lists: &Lists) -> Fault {
         let at = refused.place as usize;
         let line = match refused.number {
-            3 | 4 | 5 | 7 => self.triangles.get(at).map(|of| of.line),
-            6 | 8 | 18 => self.edges.get(at).map(|of| of.line),
+            number if is_of_piece(number) => self.triangles.get(at).map(|of| of.line),
+            number if is_of_edge(number) => self.edges.get(at).map(|of| of.line),
             _ => None,
         };
         let words = refusals::of_sheet(refused, lists);

@@ -22,10 +22,10 @@ fn compare(grid: &Grid, cell: usize) -> usize {
     let last = loops.len().saturating_sub(1);
     for (index, found) in loops.iter().enumerate() {
         if index < ALL || index == last {
-            assert_eq!(grid.loop_at(cell, index), Ok(Some(*found)));
+            assert_eq!(grid.loops(cell, index), Ok(Some(*found)));
         }
     }
-    assert_eq!(grid.loop_at(cell, loops.len()), Ok(None));
+    assert_eq!(grid.loops(cell, loops.len()), Ok(None));
     loops.len()
 }
 

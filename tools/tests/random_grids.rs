@@ -44,9 +44,9 @@ fn tell(grid: &Grid) {
     for cell in 0..cells {
         let loops = loops_of(grid, cell).expect("loops");
         for (index, found) in loops.iter().enumerate() {
-            assert_eq!(grid.loop_at(cell, index), Ok(Some(*found)));
+            assert_eq!(grid.loops(cell, index), Ok(Some(*found)));
         }
-        assert_eq!(grid.loop_at(cell, loops.len()), Ok(None));
+        assert_eq!(grid.loops(cell, loops.len()), Ok(None));
         walked += loops.len();
     }
     assert_eq!(told.count(), walked);

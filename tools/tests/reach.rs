@@ -11,7 +11,7 @@ use std::path::Path;
 use std::process::{Command, Output, Stdio};
 
 use citternblaze::bundle::pack;
-use citternblaze::calls::counts::{book, entry};
+use citternblaze::calls::counts::{book, case};
 use citternblaze::calls::flat::Sheet;
 use citternblaze::calls::points::nearest;
 use citternblaze::calls::{bundle_read, Grid, How, Lists, Refusal, UNUSED};
@@ -92,7 +92,7 @@ fn bookings_add_up() {
             } else {
                 walked += 1;
             }
-            if let Some(of) = entry(counts) {
+            if let Some(of) = case(counts) {
                 assert_eq!(of.triangles, own);
             }
             sum += own;
@@ -565,30 +565,26 @@ fn functions(read: impl Fn(&str) -> String) -> BTreeSet<String> {
 }
 
 /// Each function of the headers has a command in FORMAT's table, which the program
-/// knows, and is called in src/calls.
+/// knows, and is called in bindings/ where answers are made enums and structs.
 #[test]
 fn each_function_has_a_command() {
     let root = Path::new(env!("CARGO_MANIFEST_DIR")).join("..");
     let read = |file: &str| fs::read_to_string(root.join(file)).expect("a file");
     let functions = functions(read);
     assert_eq!(functions.len(), 23, "{functions:?}");
-    let calls: String = [
-        "calls.rs",
-        "calls/counts.rs",
-        "calls/flat.rs",
-        "calls/host.rs",
-    ]
-    .into_iter()
-    .chain(["calls/points.rs", "calls/runs.rs", "calls/setting.rs"])
-    .map(|file| read(&format!("tools/src/{file}")))
-    .collect();
+    let files = [
+        "bundle", "counts", "face", "flat", "grid", "host", "points", "runs",
+    ];
+    let calls = files.map(|file| read(&format!("bindings/src/{file}.rs")));
+    let calls = calls.concat();
     let format = read("docs/FORMAT.md");
     let help = printed(&["--help"], "");
     for name in functions {
-        assert!(
-            calls.contains(&format!("c::citternblaze_{name}(")),
-            "{name}"
-        );
+        let ways = [
+            format!("LINKED.{name}("),
+            format!("declared::citternblaze_{name}("),
+        ];
+        assert!(ways.iter().any(|way| calls.contains(way)), "{name}");
         let row = format
             .lines()
             .find(|line| line.starts_with(&format!("| `citternblaze_{name}` | `citternblaze ")));

@@ -1,5 +1,5 @@
--- Only contracts of parts cite this file. What is summed over the cells of a grid's tables: the triangles of the cells that have an entry in the table or
--- are booked, and the crossings of the others.
+-- Only contracts of parts cite this file, and `crossings_in` its limit. What is summed over the cells of a grid's tables: the triangles of the cells that
+-- have an entry in the table or are booked, and the crossings of the others.
 use Prim.Native.Nat.{ℕ, _+_, _≤_}
 use mathlib.Core.Path.{_≡_}
 use mathlib.Core.List.{List}

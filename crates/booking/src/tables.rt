@@ -97,7 +97,7 @@ fn count_others(
     cell::count_walked(cells, counts, names, sides, starts)
 }
 
-// How many triangles the loops of all cells of the tables have. About 183 KB of stack.
+// How many triangles the loops of all cells of the tables have. About 178 KB of stack.
 pub fn count_all(
     cells: &[u16],
     counts: &[u16],

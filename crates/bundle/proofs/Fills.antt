@@ -14,7 +14,7 @@ use Rattle.counting.proofs.Fronts.{length-blocks}
 use Rattle.counting.proofs.Search.{last-none}
 use Rattle.counting.proofs.Stored.{stored-one, stored-more, stored-front}
 use Rattle.bundle.specs.Record.{cellKind, edgeKind, endKind, wideKind, lookKind, wordSize, headBytes, cellSize, edgeSize, endSize, lookSize, countPlace, word, lengthOf, kindAt, countAt, isWide, mayHave, nextRecord, isRecord, body}
-use Rattle.bundle.specs.Bundle.{cellSection, edgeSection, lookSection, endSection, isOf, recordStart, cells, edgesFrom, edges, looksFrom, looks, edgeAt, stop, isFor, countFrom, countAfter, isBundle, cellNodes, edgeEnds, leadingWords, nodesIn, endsIn, countIn, surviving, nodesOf, endsOf, countsOf, writtenOver}
+use Rattle.bundle.specs.Bundle.{cellSection, edgeSection, lookSection, endSection, isOf, recordStart, cells, edgesFrom, edges, looksFrom, looks, edgeAt, stop, isFor, countFrom, countAfter, isBundle, cellNodes, edgeEnds, leadingWords, countIn, surviving, nodesOf, endsOf, countsOf, writtenOver}
 use Rattle.bundle.proofs.OneRecord.{Kind, cell, edge, wide, look, end, kind-cases, stands, body-whole, body-length}
 use Rattle.bundle.proofs.Runs.{body-of, of-record, of-section, run-apart}
 use Rattle.bundle.proofs.Answers.{bundled}
@@ -90,10 +90,10 @@ length-words n b = let e : 1 * n ≡ n = omega arith in length-blocks (λ i. wor
 
 -- what a list has of record k from a place on
 abbrev pub nodesBy : List ℕ → ℕ → ℕ → List ℕ
-nodesBy s from k = nodesIn (body s (recordStart s from k))
+nodesBy s from k = leadingWords cellNodes (body s (recordStart s from k))
 
 abbrev pub endsBy : List ℕ → ℕ → ℕ → List ℕ
-endsBy s from k = endsIn (body s (recordStart s from k))
+endsBy s from k = leadingWords edgeEnds (body s (recordStart s from k))
 
 abbrev pub countBy : List ℕ → ℕ → ℕ → List ℕ
 countBy s from k = countIn (body s (recordStart s from k)) ∷ []

@@ -2,7 +2,6 @@ pub mod OneRecord
 pub mod Runs
 pub mod Answers
 pub mod Fills
-pub mod Trees
 pub mod Looked
 pub mod Writes
 pub mod Faults

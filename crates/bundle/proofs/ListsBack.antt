@@ -18,7 +18,7 @@ use Rattle.counting.proofs.Bools.{and-left, and-right, and-true}
 use Rattle.counting.proofs.Range.{over-ext}
 use Rattle.counting.proofs.Fronts.{getD-blocks, over-more, over-at, in-parts, singles}
 use Rattle.bundle.specs.Record.{byteValues, brokenRow, cellKind, endKind, wordSize, lengthBytes, headBytes, countPlace, word, lengthOf, kindAt, countAt, isWide, mayHave, nextRecord, isRecord, body}
-use Rattle.bundle.specs.Bundle.{cellNodes, edgeEnds, cellSection, edgeSection, lookSection, endSection, sectionOf, sectionAt, isOf, recordStart, run, cells, edgesFrom, edges, looksFrom, looks, stop, surviving, isBundle, leadingWords, nodesIn, endsIn, countIn, nodesOf, endsOf, countsOf, shortRow, writtenOver}
+use Rattle.bundle.specs.Bundle.{cellNodes, edgeEnds, cellSection, edgeSection, lookSection, endSection, sectionOf, sectionAt, isOf, recordStart, run, cells, edgesFrom, edges, looksFrom, looks, stop, surviving, isBundle, leadingWords, countIn, nodesOf, endsOf, countsOf, shortRow, writtenOver}
 use Rattle.bundle.specs.Written.{wordBytes, recordBytes, listBytes, kindFor, countBytes, endRecord, cellBytes, edgeBytes, bundleBytes, isFormed, fitsArea, isWritten, mostNamed, writeAnswer}
 use Rattle.bundle.specs.Claims.{ListsBack, WrittenRead, ReadAgain}
 use Rattle.bundle.proofs.OneRecord.{standing, body-whole}
@@ -270,11 +270,11 @@ module _ (nodes ends counts : List ℕ) where
 
     nodes-are : nodesOf s ≡ nodes
     unfolding nodesOf
-    nodes-are = listed _ cellNodes c (cells s) nodes cells-are fours (λ k l. ap nodesIn (bodies cells-laid k l ∙ sym (append-nil (cellBody k))) ∙ words-of nodes [] (cellNodes * k) cellNodes (omega (arith, fours)))
+    nodes-are = listed _ cellNodes c (cells s) nodes cells-are fours (λ k l. ap (leadingWords cellNodes) (bodies cells-laid k l ∙ sym (append-nil (cellBody k))) ∙ words-of nodes [] (cellNodes * k) cellNodes (omega (arith, fours)))
 
     ends-are : endsOf s ≡ ends
     unfolding endsOf
-    ends-are = listed _ edgeEnds e (edges s) ends edges-are h2 (λ k l. ap endsIn (edge-of k l) ∙ words-of ends (countBytes (getD counts k 0)) (edgeEnds * k) edgeEnds (omega (arith, h2)))
+    ends-are = listed _ edgeEnds e (edges s) ends edges-are h2 (λ k l. ap (leadingWords edgeEnds) (edge-of k l) ∙ words-of ends (countBytes (getD counts k 0)) (edgeEnds * k) edgeEnds (omega (arith, h2)))
 
     counts-are : countsOf s ≡ counts
     unfolding countsOf

@@ -16,9 +16,9 @@ use Rattle.counting.proofs.Bools.{and-left, and-right, and-true, bool-same, eqb
 use Rattle.counting.proofs.Search.{last-plus, last-ext, some-zero, some-hit, some-miss, some-ext}
 use Rattle.bundle.specs.Record.{byteValues, wordSize, headBytes, lookSize, countPlace, word, lengthOf, nextRecord, isRecord, body}
 use Rattle.bundle.specs.Bundle.{edgeSection, lookSection, isOf, recordStart, run, edgesFrom, edges, looksFrom, looks, edgeAt, lookAt, endIn, countIn, samePair, isFor, isStray, countFrom, countAfter}
-use Rattle.bundle.specs.Trees.{hasKey, topFor, Tops}
+use Rattle.trees.specs.Trees.{hasKey, topFor, Tops}
 use Rattle.bundle.specs.Looked.{pairKey, keyAt, edgeKey, lookKey, blockKey, EndsWithin, AllEdges, topOf, topUnmet, KeysMarked, countOr}
-use Rattle.bundle.proofs.Trees.{top-le, top-key, top-self}
+use Rattle.trees.proofs.Trees.{top-le, top-key, top-self}
 use Rattle.bundle.proofs.OneRecord.{stands, body-length}
 use Rattle.bundle.proofs.Runs.{Walked, here, walked-next, of-record, next-of, run-all}
 use Rattle.bundle.proofs.Fills.{body-word, look-kind, look-body, edge-ge}

@@ -126,16 +126,9 @@ cellNodes = 4
 abbrev pub edgeEnds : ℕ
 edgeEnds = 2
 
--- the first n numbers of 16 bits in a body
+-- the first n numbers of 16 bits in a body: the nodes of a cell, the ends of an edge
 abbrev pub leadingWords : ℕ → List ℕ → List ℕ
 leadingWords n b = over (λ i. word b (wordSize * i) ∷ []) n 0
-
--- what a body means: the nodes of a cell, the ends of an edge
-abbrev pub nodesIn : List ℕ → List ℕ
-nodesIn b = leadingWords cellNodes b
-
-abbrev pub endsIn : List ℕ → List ℕ
-endsIn b = leadingWords edgeEnds b
 
 -- the count of edge n from look k, where p is k + 1; its own where p is 0
 unfoldable pub countFrom : List ℕ → ℕ → ℕ → ℕ
@@ -151,10 +144,10 @@ surviving s n = countAfter s (looks s) n
 
 -- the three lists
 unfoldable pub nodesOf : List ℕ → List ℕ
-nodesOf s = over (λ k. nodesIn (body s (recordStart s 0 k))) (cells s) 0
+nodesOf s = over (λ k. leadingWords cellNodes (body s (recordStart s 0 k))) (cells s) 0
 
 unfoldable pub endsOf : List ℕ → List ℕ
-endsOf s = over (λ k. endsIn (body s (edgeAt s k))) (edges s) 0
+endsOf s = over (λ k. leadingWords edgeEnds (body s (edgeAt s k))) (edges s) 0
 
 unfoldable pub countsOf : List ℕ → List ℕ
 countsOf s = values (surviving s) (edges s)

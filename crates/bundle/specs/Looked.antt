@@ -7,14 +7,18 @@ use lib.Dec.{eqb}
 use lib.ListN.{length, getD}
 use Rattle.counting.specs.Pick.{one}
 use Rattle.counting.specs.Search.{some}
-use Rattle.counting.specs.Chains.{Table}
+use Rattle.counting.specs.Tables.{Table}
+use Rattle.trees.specs.Trees.{trees, topFor, Tree}
 use Rattle.bundle.specs.Record.{wordSize, headBytes, countPlace, word, body}
 use Rattle.bundle.specs.Bundle.{edgesFrom, edges, looksFrom, looks, edgeAt, lookAt, countIn, countAfter}
-use Rattle.bundle.specs.Trees.{trees, branches, topFor, Tree}
 
 -- the looks of a block, at most
 abbrev pub blockLooks : ℕ
 blockLooks = 12288
+
+-- the branches of a look
+abbrev pub lookBranches : ℕ
+lookBranches = 4
 
 -- a pair in one number: equal numbers are equal pairs
 abbrev pub pairKey : ℕ → ℕ → ℕ
@@ -55,20 +59,20 @@ pub record LooksFrom (s : List ℕ) (from m n : ℕ) : Type 0 where
 -- what follows a key's way: of n looks from look m on those from place low on are planted
 pub record Searched (s : List ℕ) (from m n low : ℕ) (links : List ℕ) : Type 0 where
   pub part : LooksFrom s from m n
-  pub tree : Tree (blockKey s m) n low links
+  pub tree : Tree lookBranches (blockKey s m) n low links
 
 -- what plants place i of them, after all the later ones
 pub record Planting (s : List ℕ) (from m n i : ℕ) (links : List ℕ) : Type 0 where
   pub part : LooksFrom s from m n
   pub few : n ≤ blockLooks
   pub one : i < n
-  pub tree : Tree (blockKey s m) n (i + 1) links
+  pub tree : Tree lookBranches (blockKey s m) n (i + 1) links
 
 -- what plants them all: empty links, and room
 pub record Growing (s : List ℕ) (from m n : ℕ) (links tops : List ℕ) : Type 0 where
   pub part : LooksFrom s from m n
   pub few : n ≤ blockLooks
-  pub room : trees + branches * n ≤ length links
+  pub room : trees + lookBranches * n ≤ length links
   pub blank : (y : ℕ) → getD links y 0 ≡ 0
   pub topsRoom : n ≤ length tops
 

@@ -6,6 +6,7 @@ use crate::records::HEAD_BYTES;
 use crate::records::LOOK_BYTES;
 use crate::records::WORD_BYTES;
 use crate::records::word_at;
+use trees::TREES;
 ghost use mathlib.Core.Path.{_≡_};
 ghost use Prim.Native.Nat.{_+_, min};
 ghost use mathlib.Core.Bool.{true};
@@ -13,14 +14,11 @@ ghost use Rattle.counting.specs.Search.{first};
 ghost use Rattle.counting.specs.Stored.{filled};
 ghost use Rattle.bundle.specs.Record.{nextRecord, isRecord};
 ghost use Rattle.bundle.specs.Bundle.{edges, looks, isStray, firstStray, countAfter};
-ghost use Rattle.bundle.specs.Trees.{Tree, Tops, topFor, Sought};
-ghost use Rattle.bundle.specs.Looked.{blockLooks, keyAt, lookKey, blockKey, EndsWithin, LookIn, Searched, Planting, Growing, MarksLent, KeysMarked, MarksRead, topUnmet, BlockLent, LooksLent, Counted, PlaceIn, countOr, CountsLent};
+ghost use Rattle.trees.specs.Trees.{Tree, Tops, topFor, Sought};
+ghost use Rattle.bundle.specs.Looked.{blockLooks, lookBranches, keyAt, lookKey, blockKey, EndsWithin, LookIn, Searched, Planting, Growing, MarksLent, KeysMarked, MarksRead, topUnmet, BlockLent, LooksLent, Counted, PlaceIn, countOr, CountsLent};
 
 // The looks of a block, at most.
 const BLOCK: usize = 12288;
-
-// The trees: a prime that shares no factor with 65,536, by which the keys are packed.
-const TREES: usize = 7919;
 
 // The branches of a look, and the links of a block: the trees' first looks, then the branches of each look. A link is one more than a place, or 0.
 const BRANCHES: usize = 4;
@@ -71,7 +69,7 @@ fn seek(
     key: usize,
 ) -> usize
     requires { ⌜ Searched (now bytes) base m n low (now links) ⌝ }
-    ensures { λ r. ⌜ Sought (blockKey (now (bytes .entry)) m) n low (now (links .entry)) key r ⌝ }
+    ensures { λ r. ⌜ Sought lookBranches (blockKey (now (bytes .entry)) m) n low (now (links .entry)) key r ⌝ }
 {
     let mut at = key % TREES;
     let mut rest = key;
@@ -92,7 +90,7 @@ fn seek(
 fn plant(bytes: &[u8], base: usize, m: usize, n: usize, i: usize, links: &mut [u16]) -> usize
     requires { ⌜ Planting (now bytes) base m n i (now links) ⌝ }
     ensures { λ r. ⌜ r ≡ topFor (blockKey (now (bytes .entry)) m) n (lookKey (now (bytes .entry)) (m + i)) ⌝ }
-    ensures { λ _. ⌜ Tree (blockKey (now (bytes .entry)) m) n i (now (links .exit)) ⌝ }
+    ensures { λ _. ⌜ Tree lookBranches (blockKey (now (bytes .entry)) m) n i (now (links .exit)) ⌝ }
 {
     let key = look_key(bytes, base, m + i);
     let at = seek(bytes, base, m, n, i + 1, links, key);
@@ -107,7 +105,7 @@ fn plant(bytes: &[u8], base: usize, m: usize, n: usize, i: usize, links: &mut [u
 // Plants n looks from look m on, and fills in, for each, one more than the place of the last with its key.
 fn grow(bytes: &[u8], base: usize, m: usize, n: usize, links: &mut [u16], tops: &mut [u16])
     requires { ⌜ Growing (now bytes) base m n (now links) (now tops) ⌝ }
-    ensures { λ _. ⌜ Tree (blockKey (now (bytes .entry)) m) n 0 (now (links .exit)) ⌝ }
+    ensures { λ _. ⌜ Tree lookBranches (blockKey (now (bytes .entry)) m) n 0 (now (links .exit)) ⌝ }
     ensures { λ _. ⌜ Tops (blockKey (now (bytes .entry)) m) n 0 (now (tops .exit)) ⌝ }
 {
     let mut i = n;
@@ -169,7 +167,7 @@ fn unmet(tops: &[u16], n: usize, met: &[u8]) -> usize
 }
 
 // The lowest of n looks from look m on that is for no edge, counted from m; n where there is none. The edges start at from, the looks at base.
-// Keeps 151 KB on the stack.
+// Keeps 148 KB on the stack.
 fn stray_in(bytes: &[u8], from: usize, count: usize, base: usize, m: usize, n: usize) -> usize
     requires { ⌜ BlockLent (now bytes) from count base m n ⌝ }
     ensures { λ r. ⌜ r ≡ first (λ j. isStray (now (bytes .entry)) (m + j)) n ⌝ }
@@ -249,7 +247,7 @@ fn put_counts(
     }
 }
 
-// The same, which plants them first. Keeps 139 KB on the stack.
+// The same, which plants them first. Keeps 136 KB on the stack.
 fn replace_in(
     bytes: &[u8],
     from: usize,

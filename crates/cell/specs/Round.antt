@@ -1,4 +1,4 @@
--- Only contracts of parts cite this file. What is counted of a recorded loop: a list of half-edges, taken as a round.
+-- Only contracts of parts and the table of examples cite this file. What is counted of a recorded loop: a list of half-edges, taken as a round.
 use Prim.Native.Nat.{ℕ, _%_}
 use mathlib.Core.Bool.{Bool}
 use mathlib.Core.List.{List, _∷_}

@@ -1,4 +1,4 @@
--- Only contracts of parts cite this file. The routes of a cell: nine numbers to each half-edge, from which a step over it is found. They are worked out once a cell.
+-- Only contracts of parts and the table of examples cite this file. The routes of a cell: nine numbers to each half-edge, from which a step over it is found. They are worked out once a cell.
 use Prim.Native.Nat.{ℕ, _+_, _*_, _<_, _≤_}
 use mathlib.Core.Path.{_≡_}
 use mathlib.Core.List.{List, [], _∷_}

@@ -60,7 +60,8 @@ fn walked_in_all(
     t
 }
 
-// The same, with arrays of its own: smaller ones where no count needs more. About 183 KB of stack.
+// How many triangles those cells have that neither the table of common cells nor the booking knows. The walks' arrays are smaller ones where no count
+// needs more. About 178 KB of stack.
 pub fn count_walked(
     cells: &[u16],
     counts: &[u16],
@@ -130,7 +131,7 @@ fn put_in_all(
     i
 }
 
-// The same, with arrays of its own, which suffice where no count is above `FEW_COUNT`. About 11 KB of stack.
+// The same, with arrays of its own, which suffice where no count is above `FEW_COUNT`. About 10 KB of stack.
 fn put_few(
     cells: &[u16],
     counts: &[u16],
@@ -164,7 +165,8 @@ fn put_few(
     )
 }
 
-// The same for any counts. About 183 KB of stack.
+// Writes the words of the triangles of the cells from c up to `end` from index `at` of the area on, each cell's where they have room, and answers the next
+// index; for any counts. About 178 KB of stack.
 pub fn write_cells(
     cells: &[u16],
     counts: &[u16],

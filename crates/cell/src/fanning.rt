@@ -40,7 +40,7 @@ fn fans_in_all(
     t
 }
 
-// The same, with arrays of its own: smaller ones where no count needs more. About 183 KB of stack.
+// How many fans all cells have. The walks' arrays are smaller ones where no count needs more. About 178 KB of stack.
 pub fn count_fans(
     cells: &[u16],
     counts: &[u16],
@@ -111,7 +111,7 @@ fn middles_in_all(
     i
 }
 
-// The same, with arrays of its own, which suffice where no count is above `FEW_COUNT`. About 11 KB of stack.
+// The same, with arrays of its own, which suffice where no count is above `FEW_COUNT`. About 10 KB of stack.
 fn few_middles(
     cells: &[u16],
     counts: &[u16],
@@ -147,7 +147,8 @@ fn few_middles(
     )
 }
 
-// The same for any counts. About 183 KB of stack.
+// Writes the middles of the fans of the cells from c up to `end` from point `at` of the area on, each cell's where they have room and all its crossings a
+// place, and answers the next point; for any counts. About 178 KB of stack.
 pub fn write_middles(
     cells: &[u16],
     counts: &[u16],

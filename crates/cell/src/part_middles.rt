@@ -79,7 +79,8 @@ fn put_each(
     at
 }
 
-// The same with arrays of its own, the smallest of three sizes that suffice. About 183 KB of stack.
+// Writes the middles of a cell's fans from point `at` of the area on where they have room, and the places of crossings that they go by stand before that
+// point, and answers the next point; else it writes nothing and answers `at`. The walks' arrays are the smallest of three sizes. About 178 KB of stack.
 pub fn write_fans(c: Cell, nodes: &[f64], area: &mut [f64], at: usize) -> usize
     ensures { λ r. ⌜ (r ≡ nextPoint (now (nodes .entry)) (limited c) (now (area .entry)) at) × (now (area .exit) ≡ pointsThen (now (nodes .entry)) (limited c) (now (area .entry)) at) ⌝ }
 {

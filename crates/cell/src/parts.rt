@@ -139,7 +139,7 @@ pub(crate) const SOME_IN_CELL: usize = 192;
 const MANY_IN_CELL: usize = 6144;
 
 // Writes the words of the triangles of the cell's loops of length `only`, or of all where that is 0, from index `at` on and answers the next index. Where
-// they have no room there, it writes nothing and answers `at`. About 183 KB of stack.
+// they have no room there, it writes nothing and answers `at`. About 178 KB of stack.
 pub fn write_loops(c: Cell, only: usize, area: &mut [u32], at: usize) -> usize
     ensures { λ r. ⌜ (r ≡ nextIn (now (area .entry)) at (allWords (trianglesWith (limited c) only))) × (now (area .exit) ≡ storedIn (now (area .entry)) at (allWords (trianglesWith (limited c) only))) ⌝ }
 {

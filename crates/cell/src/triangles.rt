@@ -134,7 +134,7 @@ fn write_in(
     write(c, n, marks, halves, points, area, at)
 }
 
-// How many triangles the cell has. About 172 KB of stack.
+// How many triangles the cell has. About 168 KB of stack.
 pub fn triangle_count(c: Cell) -> usize
     ensures { λ r. ⌜ (r ≡ length (cellTriangles (limited c))) × (r ≤ mostInCell) ⌝ }
 {
@@ -146,7 +146,7 @@ pub fn triangle_count(c: Cell) -> usize
     count_in(v, n, 0, &mut marks, &mut halves, &mut points)
 }
 
-// Triangle t of the cell. About 172 KB of stack.
+// Triangle t of the cell. About 168 KB of stack.
 pub fn triangle_at(c: Cell, t: usize) -> Nth
     ensures { λ r. ⌜ (r ≡ nthOf (cellTriangles (limited c)) t) × (nthNumbers r ≡ nthAnswer (cellTriangles (limited c)) t) ⌝ }
 {

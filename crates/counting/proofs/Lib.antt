@@ -14,4 +14,4 @@ pub mod Gcd
 pub mod Fronts
 pub mod Stores
 pub mod Stored
-pub mod Chains
+pub mod Tables

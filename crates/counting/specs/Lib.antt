@@ -6,4 +6,4 @@ pub mod Pack
 pub mod Reach
 pub mod Stored
 pub mod Gcd
-pub mod Chains
+pub mod Tables

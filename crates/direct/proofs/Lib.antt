@@ -12,3 +12,4 @@ pub mod Families
 pub mod Sorted
 pub mod Cells
 pub mod Over
+pub mod Laying

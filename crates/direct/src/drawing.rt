@@ -22,7 +22,7 @@ use slots::MOST_EDGES;
 use slots::MOST_SLOTS;
 
 // Whether n triangles have room from index `at` on in an area of `room` words.
-fn fits(room: usize, at: usize, n: usize) -> bool
+pub(crate) fn fits(room: usize, at: usize, n: usize) -> bool
     requires { ⌜ n ≤ mostInCell ⌝ }
     ensures { λ r. ⌜ r ≡ leb (at + wordCount * n) room ⌝ }
 {
@@ -169,7 +169,7 @@ pub(crate) fn block_end(c: usize, b: usize, end: usize) -> usize
 }
 
 // Writes the words of the triangles of the cells from c up to `end` from index `at` of the area on, cell after cell, each cell's where they have room from
-// where the last left off, and answers the next index. About 183 KB of stack.
+// where the last left off, and answers the next index. About 178 KB of stack.
 pub fn write_cells(
     cells: &[u16],
     counts: &[u16],

@@ -32,10 +32,12 @@ use counting::word16;
 use words::put;
 
 mod drawing;
+mod laid;
 mod placing;
 mod words;
 
 pub use drawing::write_cells;
+pub use laid::write_part;
 pub use placing::count_fans;
 pub use placing::write_middles;
 
@@ -59,7 +61,7 @@ struct Row {
 }
 
 // The edge that joins two positions.
-fn joining_of(a: u32, b: u32) -> usize
+pub(crate) fn joining_of(a: u32, b: u32) -> usize
     requires { ⌜ (a < 4) × (b < 4) × (a ≢ b) ⌝ }
     ensures { λ r. ⌜ (r ≡ joining a b) × (r < 6) ⌝ }
 {
@@ -85,7 +87,7 @@ fn number_at(c: Cell, six: [u16; 6], a: u32, b: u32, k: u32) -> u32
 }
 
 // The row of the crossings from the k-th on, which is the next ones or those before.
-fn row_of(c: Cell, six: [u16; 6], a: u32, b: u32, k: u32, up: bool) -> Row
+pub(crate) fn row_of(c: Cell, six: [u16; 6], a: u32, b: u32, k: u32, up: bool) -> Row
     requires { ⌜ Listed c six ⌝ }
     requires { ⌜ Crosses c a b k ⌝ }
     ensures { λ r. ⌜ RowOf c a b k up r ⌝ }
@@ -233,7 +235,7 @@ fn put_threes(
 }
 
 // The same of n loops of four.
-fn put_fours(
+pub(crate) fn put_fours(
     c: Cell,
     n: u32,
     x: Row,
@@ -299,7 +301,7 @@ fn put_some(
 }
 
 // The same, where there may be none.
-fn put_round(
+pub(crate) fn put_round(
     c: Cell,
     six: [u16; 6],
     n: u32,
@@ -436,7 +438,7 @@ fn own_at(most: u32, x: u16, y: u16, z: u16) -> u32
 }
 
 // The corner triangles at each node of a cell with these counts, in which only rule 1 is met.
-fn own_of(six: [u16; 6]) -> [u32; 4]
+pub(crate) fn own_of(six: [u16; 6]) -> [u32; 4]
     requires { ⌜ isLevelCell (byEdge six) ≡ true ⌝ }
     ensures { λ r. ⌜ AreOwn (byEdge six) r ⌝ }
 {
@@ -453,7 +455,7 @@ fn own_of(six: [u16; 6]) -> [u32; 4]
 }
 
 // What the corner triangles at both ends leave of a count.
-fn left_of(n: u16, a: u32, b: u32) -> u32
+pub(crate) fn left_of(n: u16, a: u32, b: u32) -> u32
     ensures { λ r. ⌜ r ≡ n - a - b ⌝ }
 {
     minus32(minus32(word16(n), a), b)
@@ -539,7 +541,7 @@ fn all_of(own: [u32; 4], d1: u32) -> usize
     wide32(own[0]) + wide32(own[1]) + wide32(own[2]) + wide32(own[3]) + 2 * wide32(d1)
 }
 
-fn walked() -> Kind
+pub(crate) fn walked() -> Kind
     ensures { λ r. ⌜ r .plain ≡ false ⌝ }
 {
     Kind {

@@ -35,7 +35,7 @@ fn pass_over(counts: &[u16], sides: &[u16; MOST_EDGES], c: usize, end: usize) ->
     k
 }
 
-// How many fans all cells have: none is walked where all are level cells with d2 = 0. About 183 KB of stack.
+// How many fans all cells have: none is walked where all are level cells with d2 = 0. About 178 KB of stack.
 pub fn count_fans(
     cells: &[u16],
     counts: &[u16],
@@ -53,7 +53,7 @@ pub fn count_fans(
 }
 
 // Writes the middles of the fans of the cells from c up to `end`, cell by cell, from point `at` of the area on, and answers the next point, as
-// `cell::write_middles` does. About 183 KB of stack.
+// `cell::write_middles` does. About 178 KB of stack.
 pub fn write_middles(
     cells: &[u16],
     counts: &[u16],

@@ -1,4 +1,4 @@
--- Only contracts of parts cite this file. The three edges of a face and their ends, and what the parts of the face call are told of a crossing.
+-- Only contracts of parts and claims cite this file. The three edges of a face and their ends, and what the parts of the face call are told of a crossing.
 use Prim.Native.Nat.{ℕ, _<_}
 use mathlib.Core.Path.{_≡_}
 use Rattle.face.specs.Face.{lower, upper, countOn, cornerCountAt}

@@ -72,8 +72,8 @@ fn count_of(f: Face, edge: u32) -> u16
     if edge == 2 { f.bc } else { 0 }
 }
 
-// The corner counts of the face with these counts: rule 3 with ab, ac or bc above the other two; else rules 1 and 2, with one half, rounded down. What is
-// taken from ab and ac for the other two is that half, and in rule 2 the 1 besides by which it lessens the counts.
+// The corner counts of the face with these counts: rule 3 with ab, ac or bc above the other two; else rules 1 and 2, which lessen each count by the remainder
+// of their sum by 2. One half gives the corner count at a, and those at b and c are what it leaves of the lessened ab and ac.
 pub fn corners_of(ab: u16, ac: u16, bc: u16) -> CornerCounts
     ensures { λ r. ⌜ cornerList r ≡ corners ab ac bc ⌝ }
 {

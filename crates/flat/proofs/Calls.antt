@@ -13,7 +13,7 @@ use Rattle.answer.specs.Answer.{refusal, refused, result}
 use Rattle.answer.proofs.Answer.{mixed, no-nil, pick-some, refusals, refused-not}
 use Rattle.counting.specs.Range.{values}
 use Rattle.counting.specs.Stored.{filled}
-use Rattle.counting.proofs.Chains.{filled-table}
+use Rattle.counting.proofs.Tables.{filled-table}
 use Rattle.counting.proofs.Lists.{length-singles, values-at}
 use Rattle.counting.proofs.Stored.{stored-not, stored-room}
 use Rattle.counting.proofs.Stores.{getD-sets-in}

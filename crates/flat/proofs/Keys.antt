@@ -23,7 +23,7 @@ use Rattle.face.proofs.Ends.{edge-of}
 use Rattle.grid.specs.Grid.{highestNode, mostEdges}
 use Rattle.grid.specs.Shared.{earlierAt, keyRoom}
 use Rattle.grid.specs.Work.{Table, join, sameKey, thirdAt}
-use Rattle.counting.proofs.Chains.{filled-table}
+use Rattle.counting.proofs.Tables.{filled-table}
 use Rattle.grid.proofs.Packed.{join-eqb}
 use Rattle.flat.specs.FlatGrid.{mostFlatTriangles, node, sameEdge, shares, trianglesIn}
 use Rattle.flat.specs.Accepted.{SameEdge}

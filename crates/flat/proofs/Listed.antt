@@ -10,7 +10,7 @@ use borrow.Author.Tests.{eqb-false}
 use Rattle.counting.specs.Search.{first, some}
 use Rattle.counting.specs.Stored.{filled}
 use Rattle.counting.proofs.Bools.{eqb-comm}
-use Rattle.counting.proofs.Chains.{filled-table, zeros}
+use Rattle.counting.proofs.Tables.{filled-table, zeros}
 use Rattle.counting.proofs.Search.{first-blocks, first-ext, first-le, first-none, some-blocks, some-ext}
 use Rattle.counting.proofs.Stored.{filled-at, length-filled}
 use Rattle.slots.specs.Slots.{lower, upper}

@@ -11,7 +11,7 @@ use Rattle.counting.specs.Pack.{pre}
 use Rattle.counting.specs.Pick.{one}
 use Rattle.counting.specs.Range.{over, values}
 use Rattle.counting.specs.Stored.{filled}
-use Rattle.counting.proofs.Chains.{filled-table, zeros}
+use Rattle.counting.proofs.Tables.{filled-table, zeros}
 use Rattle.counting.proofs.Pack.{col-pack, pre-le, pre-next, row-pack}
 use Rattle.counting.proofs.Stored.{filled-block, filled-none, sets-more}
 use Rattle.grid.specs.Grid.{countOf, crossing, crossings, start}

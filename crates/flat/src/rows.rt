@@ -55,7 +55,7 @@ fn lower_entries(sides: &mut [usize], n: usize) -> usize
     n
 }
 
-// Rows 7 and 8, and the one after them. Keeps 48 KB on the stack, and `edge_places` 40.
+// Rows 7 and 8, and the one after them. Keeps 48 KB on the stack, and `edge_places` 52.
 fn side_rows(triangles: &[u16], edges: &[u16], counts: &[u16], sides: &mut [usize]) -> Checked
     requires { ⌜ PastRow3 (flatOf (now triangles) (now edges) (now counts)) (now sides) ⌝ }
     ensures { λ r. ⌜ checkNumbers r ≡ answerFrom 7 (flatOf (now (triangles .entry)) (now (edges .entry)) (now (counts .entry))) ⌝ }
@@ -134,7 +134,7 @@ pub(crate) fn all_rows(
     triangle_rows(triangles, edges, counts, sides)
 }
 
-// The check of a flat grid. Keeps 150 KB on the stack, with what its functions keep.
+// The check of a flat grid. Keeps 172 KB on the stack, with what its functions keep.
 pub fn check(triangles: &[u16], edges: &[u16], counts: &[u16]) -> Checked
     ensures { λ r. ⌜ checkNumbers r ≡ flatAnswer (flatOf (now (triangles .entry)) (now (edges .entry)) (now (counts .entry))) ⌝ }
 {

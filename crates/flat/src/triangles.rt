@@ -107,7 +107,7 @@ fn first_entry(prev: &[u16], n: usize) -> usize
     n
 }
 
-// The lowest triangle that equals an earlier one; the number of triangles where there is none. Keeps 20 KB on the stack, and `earlier_places` 40.
+// The lowest triangle that equals an earlier one; the number of triangles where there is none. Keeps 20 KB on the stack, and `earlier_places` 64.
 pub(crate) fn row_4(triangles: &[u16]) -> usize
     requires { ⌜ trianglesIn (now triangles) ≤ mostFlatTriangles ⌝ }
     ensures { λ r. ⌜ r ≡ first (repeats (now (triangles .entry))) (trianglesIn (now (triangles .entry))) ⌝ }
@@ -166,7 +166,7 @@ fn first_third(prev: &[u16], n: usize) -> usize
     n
 }
 
-// The lowest triangle with an edge of two earlier ones; the number of triangles where there is none. Keeps 60 KB on the stack, and `earlier_places` 40.
+// The lowest triangle with an edge of two earlier ones; the number of triangles where there is none. Keeps 60 KB on the stack, and `earlier_places` 64.
 pub(crate) fn row_5(triangles: &[u16]) -> usize
     requires { ⌜ RisingTriangles (now triangles) ⌝ }
     ensures { λ r. ⌜ r ≡ first (crowded (now (triangles .entry))) (trianglesIn (now (triangles .entry))) ⌝ }

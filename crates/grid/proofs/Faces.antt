@@ -12,14 +12,15 @@ use Rattle.counting.specs.Search.{count, first, some}
 use Rattle.counting.proofs.Search.{AtMostOne, count-blocks, count-ext, count-none, count-plus, first-blocks, first-ext, first-le, some-ext}
 use Rattle.grid.specs.Grid.{cellCount, hasFace, sameFace}
 use Rattle.grid.specs.Rows.{crowded}
-use Rattle.grid.specs.Work.{Across, Mates, Neighbours, RisingCells, Pairing, Table, faceKey, sameKey, thirdAt}
+use Rattle.grid.specs.Work.{Across, Mates, Neighbours, RisingCells, Pairing, sameKey, thirdAt}
+use Rattle.grid.specs.Walks.{SameFrom, Slots}
 use Rattle.grid.proofs.Packed.{face-eqb, one-slot}
 
-module _ (cells : List ℕ) (good : RisingCells cells) (keys : List ℕ) (w : Table (faceKey cells) (4 * cellCount cells) keys) where
+module _ (cells : List ℕ) (good : RisingCells cells) (keys : List ℕ) (w : Slots (cellCount cells) (SameFrom 0 cells) keys) where
   -- equal keys are one face
   pub keys-face : (d t c s : ℕ) → d < cellCount cells → t < 4 → c < cellCount cells → s < 4
       → sameFace cells d t c s ≡ eqb (getD keys (4 * d + t) 0) (getD keys (4 * c + s) 0)
-  keys-face d t c s hd ht hc hs = face-eqb cells (good .small) d t c s ht hs ∙ rw (w .at (4 * d + t) (omega arith), w .at (4 * c + s) (omega arith))
+  keys-face = face-eqb cells keys (cellCount cells) w
 
   -- two slots of a cell have different keys
   apart : (c t s : ℕ) → c < cellCount cells → t < 4 → s < 4 → getD keys (4 * c + t) 0 ≡ getD keys (4 * c + s) 0 → t ≡ s

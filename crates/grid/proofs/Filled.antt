@@ -139,8 +139,7 @@ module _ (G : Grid) where
             room = omega (arith, told-sound .few-cells);
             entries = λ j h. (
                 let e = W .sided .at j h ∙ listed-side G E j h in
-                let l = E .listed (j / 6) (j % 6) (omega arith) (omega arith) in
-                (omega (arith, e), omega (arith, e, l, E .few, told-sound .few-cells)));
+                omega (arith, e));
           }
 
       pub laid-filled : (names₀ sides₀ names sides : List ℕ)

@@ -2,7 +2,7 @@
 use Prim.Native.Nat.{ℕ, zero-le, _%_, _*_, _+_, _-_, _/_, _<_, _≤_}
 use mathlib.Core.Path.{_∙_, _≡_, ap, refl, sym}
 use mathlib.Core.Logic.{_≢_, _⊎_, inl, inr, ⊎-elim}
-use mathlib.Core.Bool.{Bool, false, not, true}
+use mathlib.Core.Bool.{Bool, _&&_, false, not, true}
 use mathlib.Core.List.{List}
 use native.Mathlib.Nat.{eq-or-lt-of-le, le-refl}
 use native.Mathlib.Decide.{decLt, ℕ-discrete}
@@ -10,16 +10,17 @@ use native.Mathlib.Omega.{arith}
 use lib.Dec.{eqb}
 use lib.ListN.{getD, length, length-set, set}
 use lib.Seq.{getD-set-other, getD-set-same}
-use borrow.Author.Tests.{eq-eqb, eqb-false, eqb-true, le-ltb, lt-ltb, ne-eqb}
+use borrow.Author.Tests.{eq-eqb, eqb-false, eqb-true, le-ltb, lt-ltb, ne-eqb, not-false, not-true}
 use Rattle.counting.specs.Pick.{pick}
 use Rattle.counting.specs.Search.{count, last, some}
-use Rattle.counting.proofs.Bools.{and-false-left}
+use Rattle.counting.proofs.Bools.{and-left, and-right, bool-same, clash, holds-or}
 use Rattle.counting.proofs.Involution.{count-less, less}
-use Rattle.counting.proofs.Search.{count-ext, down-hit, down-miss, last-is, last-le, some-through, some-zero}
+use Rattle.counting.proofs.Search.{count-blocks, count-ext, count-le, count-none, count-same, last-is, some-and, some-blocks, some-ext, some-found, some-is, some-none}
 use Rattle.slots.specs.Slots.{contains, position, hi, lo, otherSlot, rankIn, secondSlot}
 use Rattle.slots.proofs.Slots.{Third, ends-sum, rank-of, third-of, two-slots}
-use Rattle.counting.proofs.Chains.{top-le}
-use Rattle.grid.specs.Work.{PassesAcross, Reached, Grown, OnSlot, Open, Paired, KeySlot, Splitting, Spread, Spreadable, Spreading, Spreads, missing, rank, sameKey}
+use Rattle.counting.proofs.Tables.{top-le}
+use Rattle.grid.specs.Work.{PassesAcross, Reached, Grown, OnSlot, Open, Paired, KeySlot, Splitting, Spread, Spreadable, Spreading, Spreads, markedCells, missing, rank, sameKey}
+use Rattle.grid.proofs.Turns.{count-one-more}
 
 -- how the other slot is found, from the sum of an edge's ends
 pub other-low : (k s : ℕ) → k < 3 → 5 - k - s ≡ otherSlot k s
@@ -175,17 +176,30 @@ module _ {keys near : List ℕ} {n key mark b : ℕ} {marks₀ marks : List ℕ}
             → Going keys near n key mark b marks₀ (set marks ((p - 1) / 4) mark) (4 * ((p - 1) / 4) + s) q
         going-more s q es eq = rw (eq, es, o-is) on-edge
 
+-- one more cell is marked
+pub marked-more : (marks : List ℕ) (mark n c : ℕ) → c < n → c < length marks → getD marks c 0 ≢ mark → markedCells (set marks c mark) mark n ≡ markedCells marks mark n + 1
+unfolding markedCells
+marked-more marks mark n c h room ne =
+    count-one-more (λ d. eqb (getD marks d 0) mark) (λ d. eqb (getD (set marks c mark) d 0) mark) c (ne-eqb (getD marks c 0) mark ne)
+    (eq-eqb _ _ (getD-set-same marks c mark 0 room)) (λ d q. rw (getD-set-other marks c d mark 0 q)) n h
+
+-- no more than all
+pub marked-le : (marks : List ℕ) (mark n : ℕ) → markedCells marks mark n ≤ n
+unfolding markedCells
+marked-le marks mark n = count-le (λ d. eqb (getD marks d 0) mark) n
+
 -- the loop of `spread`: p is what near has at the slot to be crossed
-pub record Walking (near : List ℕ) (n mark start q : ℕ) (marks₀ marks : List ℕ) (r p : ℕ) : Type 0 where
+pub record Walking (near : List ℕ) (n mark start q : ℕ) (marks₀ : List ℕ) (met : ℕ) (marks : List ℕ) (r p : ℕ) : Type 0 where
   pub j : ℕ
   pub slot : j < 4 * n
   pub p-is : p ≡ getD near j 0
   pub rank-lt : r < 3
   pub same : length marks ≡ length marks₀
+  pub counted : markedCells marks₀ mark n + met ≡ markedCells marks mark n
   pub over : (keys : List ℕ) (key b : ℕ) → Spreading keys near n key mark start q b marks₀ → Going keys near n key mark b marks₀ marks j r
 
 module _ {near : List ℕ} {n mark start q : ℕ} {marks₀ : List ℕ} (P : Spreadable near n start q marks₀) where
-  pub walking-start : (p : ℕ) → p ≡ getD near start 0 → Walking near n mark start q marks₀ marks₀ q p
+  pub walking-start : (p : ℕ) → p ≡ getD near start 0 → Walking near n mark start q marks₀ 0 marks₀ q p
   walking-start p e =
       record {
         j = start;
@@ -193,31 +207,34 @@ module _ {near : List ℕ} {n mark start q : ℕ} {marks₀ : List ℕ} (P : Spr
         p-is = e;
         rank-lt = P .rank-lt;
         same = refl;
+        counted = omega arith;
         over = λ keys key b w.
             record { slot = P .slot; side = w .side; rank-is = w .rank-is; here = w .here; opens = w .opens; grown = grown-none keys near n key mark marks₀ };
       }
 
-  module _ {marks : List ℕ} {r p : ℕ} (w : Walking near n mark start q marks₀ marks r p) where
+  module _ {met : ℕ} {marks : List ℕ} {r p : ℕ} (w : Walking near n mark start q marks₀ met marks r p) where
     pub walking-lt : p ≤ 4 * n
     walking-lt = omega (arith, w .p-is, P .within (w .j) (w .slot))
 
-    pub walking-end : p ≤ 0 → Spreads near n mark start q marks₀ marks
+    pub walking-end : p ≤ 0 → Spreads near n mark start q marks₀ met marks
     walking-end h =
         record {
           same = w .same;
+          counted = w .counted;
           over = λ keys key b s. (let g = w .over keys key b s in record { grown = g .grown; opens = going-end (s .paired) g p (w .p-is) h });
         }
 
     module _ (pos : 0 < p) where
-      pub walking-met : getD marks ((p - 1) / 4) 0 ≡ mark → Spreads near n mark start q marks₀ marks
+      pub walking-met : getD marks ((p - 1) / 4) 0 ≡ mark → Spreads near n mark start q marks₀ met marks
       walking-met h =
           record {
             same = w .same;
+            counted = w .counted;
             over = λ keys key b s. (let g = w .over keys key b s in record { grown = g .grown; opens = going-met (s .paired) g p (w .p-is) pos h });
           }
 
       pub walking-more : getD marks ((p - 1) / 4) 0 ≢ mark → (s t x : ℕ) → s < 4 → s ≡ position ((p - 1) % 4) r → t < 3 → t ≡ rankIn s ((p - 1) % 4)
-          → x ≡ getD near (4 * ((p - 1) / 4) + s) 0 → Walking near n mark start q marks₀ (set marks ((p - 1) / 4) mark) t x
+          → x ≡ getD near (4 * ((p - 1) / 4) + s) 0 → Walking near n mark start q marks₀ (met + 1) (set marks ((p - 1) / 4) mark) t x
       walking-more new s t x hs es ht et ex =
           record {
             j = 4 * ((p - 1) / 4) + s;
@@ -225,6 +242,7 @@ module _ {near : List ℕ} {n mark start q : ℕ} {marks₀ : List ℕ} (P : Spr
             p-is = ex;
             rank-lt = ht;
             same = length-set marks ((p - 1) / 4) mark ∙ w .same;
+            counted = omega (arith, w .counted, marked-more marks mark n ((p - 1) / 4) (omega (arith, walking-lt)) (omega (arith, walking-lt, w .same, P .room)) new);
             over = λ keys key b v. going-more (v .paired) (w .over keys key b v) p (w .p-is) pos new (omega (arith, w .same, P .room)) s t es et;
           }
 
@@ -244,41 +262,6 @@ unmarked-less marks mark n c h room ne =
     at i true q = let f : i ≡ c = eqb-true i c q in rw (q, f, getD-set-same marks c mark 0 room, eq-eqb mark mark refl)
     at i false q = rw (q, getD-set-other marks c i mark 0 (eqb-false i c q))
 
--- the loop of `left_out` stands at j
-pub record Looking (keys : List ℕ) (key : ℕ) (marks : List ℕ) (mark m j : ℕ) : Type 0 where
-  pub within : j ≤ m
-  pub at : 0 < j → getD keys (j - 1) 0 ≡ key
-  pub is : some (missing keys key marks mark) m ≡ some (missing keys key marks mark) j
-
-pub looking-start : (keys : List ℕ) (key : ℕ) (marks : List ℕ) (mark m j : ℕ) → j ≡ last (sameKey keys key) m → Looking keys key marks mark m j
-unfolding missing sameKey
-looking-start keys key marks mark m j e =
-    rw e (record {
-      within = last-le (sameKey keys key) m;
-      at = λ h. eqb-true (getD keys (last (sameKey keys key) m - 1) 0) key (last-is (sameKey keys key) m h);
-      is = some-through (missing keys key marks mark) (sameKey keys key) (λ x f. and-false-left (sameKey keys key x) (not (eqb (getD marks (x / 6) 0) mark)) f) m;
-    })
-
-module _ {keys : List ℕ} {key : ℕ} {marks : List ℕ} {mark m j : ℕ} (w : Looking keys key marks mark m j) where
-  pub looking-end : j ≤ 0 → some (missing keys key marks mark) m ≡ false
-  looking-end h = let e : j ≡ 0 = omega arith in w .is ∙ rw (e, some-zero)
-
-  module _ (pos : 0 < j) where
-    pub looking-hit : (getD marks ((j - 1) / 6) 0 ≡ mark → ⊥) → some (missing keys key marks mark) m ≡ true
-    unfolding missing sameKey
-    looking-hit ne = w .is ∙ down-hit (missing keys key marks mark) j pos (rw (eq-eqb _ _ (w .at pos), ne-eqb _ _ ne))
-
-    pub looking-more : getD marks ((j - 1) / 6) 0 ≡ mark → (i : ℕ) → i ≡ last (sameKey keys (getD keys (j - 1) 0)) (j - 1) → Looking keys key marks mark m i
-    unfolding missing sameKey
-    looking-more q i e =
-        let k : getD keys (j - 1) 0 ≡ key = w .at pos in
-        let v = looking-start keys key marks mark (j - 1) i (rw (← k) e) in
-        record {
-          within = omega (arith, v .within, w .within);
-          at = v .at;
-          is = w .is ∙ down-miss (missing keys key marks mark) j pos (rw (eq-eqb _ _ k, eq-eqb _ _ q)) ∙ v .is;
-        }
-
 -- the lower slot contains its edge
 pub lower-on : (k s : ℕ) → k < 6 → s ≡ secondSlot k → OnSlot k s
 lower-on k s l e = let t = two-slots k l in record { edge-lt = l; slot-lt = rw e (t .second-lt); holds = rw e (t .second-has) }
@@ -297,7 +280,7 @@ pub grown-at : {keys near : List ℕ} {n key mark : ℕ} {marks₀ marks : List 
 grown-at g c x e m = rw e (g .keep c m)
 
 -- the steps of `split_at`
-module _ {keys next near : List ℕ} {n key mark top : ℕ} {marks : List ℕ} (S : Splitting keys next near n key mark top marks) where
+module _ {keys near : List ℕ} {n key top degree : ℕ} {marks : List ℕ} (S : Splitting keys near n key top degree marks) where
   pub top-within : top ≤ 6 * n
   top-within = top-le keys key (6 * n) top (S .top-is)
 
@@ -311,11 +294,11 @@ module _ {keys next near : List ℕ} {n key mark top : ℕ} {marks : List ℕ} (
   edge-lt = omega arith
 
   -- the first cell, marked alone
-  marked : getD (set marks ((top - 1) / 6) mark) ((top - 1) / 6) 0 ≡ mark
-  marked = getD-set-same marks ((top - 1) / 6) mark 0 (omega (arith, cell-lt, S .room))
+  marked : getD (set marks ((top - 1) / 6) key) ((top - 1) / 6) 0 ≡ key
+  marked = getD-set-same marks ((top - 1) / 6) key 0 (omega (arith, cell-lt, S .room))
 
-  alone : (d : ℕ) → getD (set marks ((top - 1) / 6) mark) d 0 ≡ mark → d ≡ (top - 1) / 6
-  alone d m = elim (ℕ-discrete d ((top - 1) / 6)) [ yes e ↦ e | no e ↦ absurd (S .fresh d (sym (getD-set-other marks ((top - 1) / 6) d mark 0 e) ∙ m)) ]
+  alone : (d : ℕ) → getD (set marks ((top - 1) / 6) key) d 0 ≡ key → d ≡ (top - 1) / 6
+  alone d m = elim (ℕ-discrete d ((top - 1) / 6)) [ yes e ↦ e | no e ↦ absurd (S .fresh d (sym (getD-set-other marks ((top - 1) / 6) d key 0 e) ∙ m)) ]
 
   slot-side : (s : ℕ) → s < 4 → contains ((top - 1) % 6) s ≡ true → KeySlot keys key (4 * ((top - 1) / 6) + s)
   slot-side s l h =
@@ -323,7 +306,7 @@ module _ {keys next near : List ℕ} {n key mark top : ℕ} {marks : List ℕ} (
       let b : (4 * ((top - 1) / 6) + s) % 4 ≡ s = omega arith in
       record { k = (top - 1) % 6; lt = edge-lt; is = rw a at-top; holds = rw b h }
 
-  start-open : (s : ℕ) → OnSlot ((top - 1) % 6) s → Open keys near n key mark (set marks ((top - 1) / 6) mark) (4 * ((top - 1) / 6) + s) (4 * ((top - 1) / 6) + otherSlot ((top - 1) % 6) s)
+  start-open : (s : ℕ) → OnSlot ((top - 1) % 6) s → Open keys near n key key (set marks ((top - 1) / 6) key) (4 * ((top - 1) / 6) + s) (4 * ((top - 1) / 6) + otherSlot ((top - 1) % 6) s)
   start-open s on = record { at = λ j l t m p q. absurd (go j t (alone (j / 4) m) p q) }
     where
       go : (j : ℕ) → KeySlot keys key j → j / 4 ≡ ((top - 1) / 6) → j ≢ 4 * ((top - 1) / 6) + s → j ≢ 4 * ((top - 1) / 6) + otherSlot ((top - 1) % 6) s → ⊥
@@ -333,21 +316,21 @@ module _ {keys next near : List ℕ} {n key mark top : ℕ} {marks : List ℕ} (
           ⊎-elim (λ (u : j % 4 ≡ s). p (omega arith)) (λ (u : j % 4 ≡ otherSlot ((top - 1) % 6) s). q (omega arith))
           (third-of ((top - 1) % 6) s edge-lt (on .slot-lt) (on .holds) .only (j % 4) (omega arith) h)
 
+  first-mark : (marks₂ : List ℕ) (d : ℕ) → getD marks₂ d 0 ≡ getD (set marks ((top - 1) / 6) key) d 0 → (getD marks₂ d 0 ≡ getD marks d 0) ⊎ (getD marks₂ d 0 ≡ key)
+  first-mark marks₂ d e = elim (ℕ-discrete d ((top - 1) / 6)) [ yes f ↦ inr (e ∙ rw f marked) | no f ↦ inl (e ∙ getD-set-other marks ((top - 1) / 6) d key 0 f) ]
+
   -- after the two spreads
-  both-spread : (b : ℕ) → 4 * n ≤ b → (marks₁ marks₂ : List ℕ) → Grown keys near n key mark (set marks ((top - 1) / 6) mark) marks₁ → Grown keys near n key mark marks₁ marks₂
-      → Open keys near n key mark marks₂ b b → Reached keys near n key mark ((top - 1) / 6) marks marks₂
+  both-spread : (b : ℕ) → 4 * n ≤ b → (marks₁ marks₂ : List ℕ) → Grown keys near n key key (set marks ((top - 1) / 6) key) marks₁ → Grown keys near n key key marks₁ marks₂
+      → Open keys near n key key marks₂ b b → Reached keys near n key key ((top - 1) / 6) marks marks₂
   both-spread b hb marks₁ marks₂ g₁ g₂ o =
       record {
-        same = g₂ .same ∙ g₁ .same ∙ length-set marks ((top - 1) / 6) mark;
+        same = g₂ .same ∙ g₁ .same ∙ length-set marks ((top - 1) / 6) key;
         has = g₂ .keep ((top - 1) / 6) (g₁ .keep ((top - 1) / 6) marked);
-        only = λ d. ⊎-elim (λ (e : getD marks₂ d 0 ≡ getD marks₁ d 0). ⊎-elim (λ (f : getD marks₁ d 0 ≡ getD (set marks ((top - 1) / 6) mark) d 0). first d (e ∙ f))
-            (λ (f : getD marks₁ d 0 ≡ mark). inr (e ∙ f)) (g₁ .only d)) (λ (e : getD marks₂ d 0 ≡ mark). inr e) (g₂ .only d);
+        only = λ d. ⊎-elim (λ (e : getD marks₂ d 0 ≡ getD marks₁ d 0). ⊎-elim (λ (f : getD marks₁ d 0 ≡ getD (set marks ((top - 1) / 6) key) d 0). first-mark marks₂ d (e ∙ f))
+            (λ (f : getD marks₁ d 0 ≡ key). inr (e ∙ f)) (g₁ .only d)) (λ (e : getD marks₂ d 0 ≡ key). inr e) (g₂ .only d);
         closed = λ j l s p m. ⊎-elim (λ (z : getD near j 0 ≡ 0). absurd (omega arith)) (λ z. z) (o .at j l s m (λ q. omega arith) (λ q. omega arith));
         within = λ P cl h d m. g₂ .within P cl (g₁ .within P cl (λ x y. rw (alone x y) h)) d m;
       }
-    where
-      first : (d : ℕ) → getD marks₂ d 0 ≡ getD (set marks ((top - 1) / 6) mark) d 0 → (getD marks₂ d 0 ≡ getD marks d 0) ⊎ (getD marks₂ d 0 ≡ mark)
-      first d e = elim (ℕ-discrete d ((top - 1) / 6)) [ yes f ↦ inr (e ∙ rw f marked) | no f ↦ inl (e ∙ getD-set-other marks ((top - 1) / 6) d mark 0 f) ]
 
   -- near leads to slots of the cells
   near-within : (j : ℕ) → j < 4 * n → getD near j 0 ≤ 4 * n
@@ -358,10 +341,10 @@ module _ {keys next near : List ℕ} {n key mark top : ℕ} {marks : List ℕ} (
   may-spread t r l lr marks₁ e =
       record { near-room = S .paired .room; few = S .paired .few; within = near-within; room = omega (arith, e, S .room); slot = omega (arith, cell-lt); rank-lt = lr }
 
-  pub first-same : {x y : ℕ} {marks₁ : List ℕ} → Spreads near n mark x y (set marks ((top - 1) / 6) mark) marks₁ → length marks₁ ≡ length marks
-  first-same g = g .same ∙ length-set marks ((top - 1) / 6) mark
+  pub first-same : {x y a : ℕ} {marks₁ : List ℕ} → Spreads near n key x y (set marks ((top - 1) / 6) key) a marks₁ → length marks₁ ≡ length marks
+  first-same g = g .same ∙ length-set marks ((top - 1) / 6) key
 
-  pub both-same : {x y z w : ℕ} {marks₁ marks₂ : List ℕ} → Spreads near n mark x y (set marks ((top - 1) / 6) mark) marks₁ → Spreads near n mark z w marks₁ marks₂
+  pub both-same : {x y z w a b : ℕ} {marks₁ marks₂ : List ℕ} → Spreads near n key x y (set marks ((top - 1) / 6) key) a marks₁ → Spreads near n key z w marks₁ b marks₂
       → length marks₂ ≡ length marks
   both-same g h = h .same ∙ first-same g
 
@@ -373,11 +356,11 @@ module _ {keys next near : List ℕ} {n key mark top : ℕ} {marks : List ℕ} (
     pub other-apart : (o : ℕ) → o ≡ otherSlot ((top - 1) % 6) s → o ≢ s
     other-apart o e = rw e (third .not-omitted)
 
-    pub may-spread-first : (r : ℕ) → r < 3 → Spreadable near n (4 * ((top - 1) / 6) + s) r (set marks ((top - 1) / 6) mark)
-    may-spread-first r l = may-spread s r (on .slot-lt) l (set marks ((top - 1) / 6) mark) (length-set marks ((top - 1) / 6) mark)
+    pub may-spread-first : (r : ℕ) → r < 3 → Spreadable near n (4 * ((top - 1) / 6) + s) r (set marks ((top - 1) / 6) key)
+    may-spread-first r l = may-spread s r (on .slot-lt) l (set marks ((top - 1) / 6) key) (length-set marks ((top - 1) / 6) key)
 
     pub spread-first : (o r : ℕ) → o ≡ otherSlot ((top - 1) % 6) s → r ≡ rankIn s o
-        → Spreading keys near n key mark (4 * ((top - 1) / 6) + s) r (4 * ((top - 1) / 6) + o) (set marks ((top - 1) / 6) mark)
+        → Spreading keys near n key key (4 * ((top - 1) / 6) + s) r (4 * ((top - 1) / 6) + o) (set marks ((top - 1) / 6) key)
     unfolding lo slot-side
     spread-first o r e f =
         let d : (4 * ((top - 1) / 6) + s) / 4 ≡ (top - 1) / 6 = omega (arith, (on .slot-lt)) in
@@ -391,7 +374,7 @@ module _ {keys next near : List ℕ} {n key mark top : ℕ} {marks : List ℕ} (
         }
 
     pub spread-second : (o r b : ℕ) → o ≡ otherSlot ((top - 1) % 6) s → o < 4 → r ≡ rankIn o s → (marks₁ : List ℕ)
-        → Spread keys near n key mark (4 * ((top - 1) / 6) + o) (set marks ((top - 1) / 6) mark) marks₁ → Spreading keys near n key mark (4 * ((top - 1) / 6) + o) r b marks₁
+        → Spread keys near n key key (4 * ((top - 1) / 6) + o) (set marks ((top - 1) / 6) key) marks₁ → Spreading keys near n key key (4 * ((top - 1) / 6) + o) r b marks₁
     unfolding lo slot-side
     spread-second o r b e l f marks₁ g =
         let m : (4 * ((top - 1) / 6) + o) % 4 ≡ o = omega arith in
@@ -406,9 +389,125 @@ module _ {keys next near : List ℕ} {n key mark top : ℕ} {marks : List ℕ} (
 
     -- after both: no slot has the number 4 n
     pub spread-both : (o r q : ℕ) → o ≡ otherSlot ((top - 1) % 6) s → o < 4 → r ≡ rankIn s o → q ≡ rankIn o s
-        → (marks₁ marks₂ : List ℕ) → Spreads near n mark (4 * ((top - 1) / 6) + s) r (set marks ((top - 1) / 6) mark) marks₁
-        → Spreads near n mark (4 * ((top - 1) / 6) + o) q marks₁ marks₂ → Reached keys near n key mark ((top - 1) / 6) marks marks₂
-    spread-both o r q e l f h marks₁ marks₂ g₁ g₂ =
+        → (x y : ℕ) (marks₁ marks₂ : List ℕ) → Spreads near n key (4 * ((top - 1) / 6) + s) r (set marks ((top - 1) / 6) key) x marks₁
+        → Spreads near n key (4 * ((top - 1) / 6) + o) q marks₁ y marks₂ → Reached keys near n key key ((top - 1) / 6) marks marks₂
+    spread-both o r q e l f h x y marks₁ marks₂ g₁ g₂ =
         let a = g₁ .over keys key (4 * ((top - 1) / 6) + o) (spread-first o r e f) in
         let b = g₂ .over keys key (4 * n) (spread-second o q (4 * n) e l h marks₁ a) in
         both-spread (4 * n) (le-refl (4 * n)) marks₁ marks₂ (a .grown) (b .grown) (b .opens)
+
+  -- the cells of the edge, and those that are marked
+  has : ℕ → Bool
+  has c = some (λ i. sameKey keys key (6 * c + i)) 6
+
+  is-marked : List ℕ → ℕ → Bool
+  is-marked l c = eqb (getD l c 0) key
+
+  degree-cells : degree ≡ count has n
+  unfolding has sameKey
+  degree-cells = S .degree-is ∙ count-blocks (sameKey keys key) 6 n
+      (λ d h i j l b p q. (let z = S .paired .one d i j h (omega arith) b (eqb-true _ key p ∙ sym (eqb-true _ key q)) in omega arith))
+
+  -- none was marked before the first, then all that a spread met, then all that both met
+  one-marked : markedCells (set marks ((top - 1) / 6) key) key n ≡ 1
+  unfolding markedCells
+  one-marked =
+      let none : markedCells marks key n ≡ 0 = count-none (λ d. eqb (getD marks d 0) key) n (λ i l. ne-eqb (getD marks i 0) key (S .fresh i)) in
+      omega (arith, marked-more marks key n ((top - 1) / 6) cell-lt (omega (arith, cell-lt, S .room)) (S .fresh ((top - 1) / 6)))
+
+  met-first : {x y a : ℕ} {marks₁ : List ℕ} → Spreads near n key x y (set marks ((top - 1) / 6) key) a marks₁ → 1 + a ≡ markedCells marks₁ key n
+  met-first g = omega (arith, g .counted, one-marked)
+
+  pub met-all : {x y z w a b : ℕ} {marks₁ marks₂ : List ℕ} → Spreads near n key x y (set marks ((top - 1) / 6) key) a marks₁ → Spreads near n key z w marks₁ b marks₂
+      → 1 + a + b ≡ markedCells marks₂ key n
+  met-all g h = omega (arith, met-first g, h .counted)
+
+  pub met-le : {x y z w a b : ℕ} {marks₁ marks₂ : List ℕ} → Spreads near n key x y (set marks ((top - 1) / 6) key) a marks₁ → Spreads near n key z w marks₁ b marks₂ → 1 + a + b ≤ n
+  met-le {marks₂ = marks₂} g h = omega (arith, met-all g h, marked-le marks₂ key n)
+
+  pub met-first-le : {x y a : ℕ} {marks₁ : List ℕ} → Spreads near n key x y (set marks ((top - 1) / 6) key) a marks₁ → 1 + a ≤ n
+  met-first-le {marks₁ = marks₁} g = omega (arith, met-first g, marked-le marks₁ key n)
+
+  -- marks lead to cells of the edge alone
+  abbrev Leads : List ℕ → Type 0
+  Leads marks₂ = (P : ℕ → Bool) → PassesAcross keys near n key P → P ((top - 1) / 6) ≡ true → (d : ℕ) → getD marks₂ d 0 ≡ key → P d ≡ true
+
+  marked-has : (marks₂ : List ℕ) → Leads marks₂ → (c : ℕ) → is-marked marks₂ c ≡ true → has c ≡ true
+  unfolding has sameKey is-marked
+  marked-has marks₂ R c p = R has across
+      (some-found (λ i. sameKey keys key (6 * ((top - 1) / 6) + i)) 6 ((top - 1) % 6) edge-lt (eq-eqb _ key at-top)) c (eqb-true (getD marks₂ c 0) key p)
+    where
+      across : PassesAcross keys near n key has
+      across j l s p h = (let t = S .paired .side key j l p s .0 in some-found (λ i. sameKey keys key (6 * ((getD near j 0 - 1) / 4) + i)) 6 (t .k) (t .lt) (eq-eqb _ key (t .is)))
+
+  -- what `split_at` answers
+  pub split-counted : {marks₂ : List ℕ} (met : ℕ) → met ≡ markedCells marks₂ key n → Reached keys near n key key ((top - 1) / 6) marks marks₂ → (r : Bool) → r ≡ not (eqb met degree)
+      → r ≡ some (missing keys key marks₂ key) (6 * n)
+  unfolding missing markedCells has is-marked
+  split-counted {marks₂} met em R r er =
+      er ∙ ap (λ (x : ℕ). not (eqb x degree)) em ∙ ap (λ (x : ℕ). not (eqb (count (is-marked marks₂) n) x)) degree-cells
+      ∙ bool-same (not (eqb (count (is-marked marks₂) n) (count has n))) (some left n) lost whole ∙ blocks
+    where
+      left : ℕ → Bool
+      left c = has c && not (is-marked marks₂ c)
+
+      lost : not (eqb (count (is-marked marks₂) n) (count has n)) ≡ true → some left n ≡ true
+      lost q = ⊎-elim (λ u. u)
+          (λ (u : some left n ≡ false).
+          let all = count-ext (is-marked marks₂) has n (λ c l. bool-same (is-marked marks₂ c) (has c) (marked-has marks₂ (R .within) c)
+          (λ h. not-false (is-marked marks₂ c) (sym (ap (λ (x : Bool). x && not (is-marked marks₂ c)) h) ∙ some-none left n u c l))) in
+          clash (eq-eqb _ _ all) (not-true _ q)) (holds-or (some left n))
+
+      whole : some left n ≡ true → not (eqb (count (is-marked marks₂) n) (count has n)) ≡ true
+      whole q =
+          let w = some-is left n q in
+          let h = and-left (has (w .0)) (not (is-marked marks₂ (w .0))) (w .2) in
+          let k = not-true _ (and-right (has (w .0)) (not (is-marked marks₂ (w .0))) (w .2)) in
+          ap not (ne-eqb _ _ (λ e. clash (count-same (is-marked marks₂) has (marked-has marks₂ (R .within)) n e (w .0) (w .1) ∙ h) k))
+
+      blocks : some left n ≡ some (λ j. sameKey keys key j && not (eqb (getD marks₂ (j / 6) 0) key)) (6 * n)
+      blocks =
+          some-ext left (λ c. some (λ i. sameKey keys key (6 * c + i) && not (eqb (getD marks₂ ((6 * c + i) / 6) 0) key)) 6) n
+          (λ c h. sym (some-and (λ i. sameKey keys key (6 * c + i)) (not (eqb (getD marks₂ c 0) key)) 6)
+          ∙ some-ext (λ i. sameKey keys key (6 * c + i) && not (eqb (getD marks₂ c 0) key)) (λ i. sameKey keys key (6 * c + i) && not (eqb (getD marks₂ ((6 * c + i) / 6) 0) key)) 6
+          (λ i l. (let q : (6 * c + i) / 6 ≡ c = omega arith in rw q)))
+          ∙ sym (some-blocks (λ j. sameKey keys key j && not (eqb (getD marks₂ (j / 6) 0) key)) 6 n)
+
+  -- where as many cells are marked as have the edge, none is left
+  all-met : {marks₁ : List ℕ} → Grown keys near n key key (set marks ((top - 1) / 6) key) marks₁ → (met : ℕ) → met ≡ markedCells marks₁ key n → met ≡ degree
+      → Reached keys near n key key ((top - 1) / 6) marks marks₁ × (false ≡ some (missing keys key marks₁ key) (6 * n))
+  unfolding markedCells is-marked has sameKey
+  all-met {marks₁} g met em ed = (R, split-counted met em R false (sym (ap not (eq-eqb met degree ed))))
+    where
+      leads : Leads marks₁
+      leads P cl h d m = g .within P cl (λ x y. rw (alone x y) h) d m
+
+      counts : count (is-marked marks₁) n ≡ count has n
+      counts = sym em ∙ ed ∙ degree-cells
+
+      across : (j : ℕ) → j < 4 * n → KeySlot keys key j → 0 < getD near j 0 → getD marks₁ ((getD near j 0 - 1) / 4) 0 ≡ key
+      across j l s p =
+          let t = S .paired .side key j l p s .0 in
+          let d = (getD near j 0 - 1) / 4 in
+          eqb-true (getD marks₁ d 0) key
+          (count-same (is-marked marks₁) has (marked-has marks₁ leads) n counts d (omega (arith, S .paired .back j l p .0))
+          ∙ some-found (λ i. sameKey keys key (6 * d + i)) 6 (t .k) (t .lt) (eq-eqb _ key (t .is)))
+
+      R : Reached keys near n key key ((top - 1) / 6) marks marks₁
+      R = record {
+        same = g .same ∙ length-set marks ((top - 1) / 6) key;
+        has = g .keep ((top - 1) / 6) marked;
+        only = λ d. ⊎-elim (λ (e : getD marks₁ d 0 ≡ getD (set marks ((top - 1) / 6) key) d 0). first-mark marks₁ d e) (λ (e : getD marks₁ d 0 ≡ key). inr e) (g .only d);
+        closed = λ j l s p m. across j l s p;
+        within = leads;
+      }
+
+  -- after the first spread, and where there is one cell alone
+  pub spread-whole : {s : ℕ} → OnSlot ((top - 1) % 6) s → (o r : ℕ) → o ≡ otherSlot ((top - 1) % 6) s → r ≡ rankIn s o → (x : ℕ) (marks₁ : List ℕ)
+      → Spreads near n key (4 * ((top - 1) / 6) + s) r (set marks ((top - 1) / 6) key) x marks₁ → 1 + x ≡ degree
+      → Reached keys near n key key ((top - 1) / 6) marks marks₁ × (false ≡ some (missing keys key marks₁ key) (6 * n))
+  spread-whole on o r e f x marks₁ g ed = all-met (g .over keys key (4 * ((top - 1) / 6) + o) (spread-first on o r e f) .grown) (1 + x) (met-first g) ed
+
+  pub single-split : degree ≡ 1
+      → Reached keys near n key key ((top - 1) / 6) marks (set marks ((top - 1) / 6) key) × (false ≡ some (missing keys key (set marks ((top - 1) / 6) key) key) (6 * n))
+  single-split e = all-met (grown-none keys near n key key (set marks ((top - 1) / 6) key)) 1 (sym one-marked) (sym e)

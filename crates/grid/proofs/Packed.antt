@@ -1,9 +1,11 @@
 -- Keys: equal exactly where the nodes are.
 use Prim.Native.Nat.{ℕ, _%_, _*_, _+_, _/_, _<_, _≤_}
-use mathlib.Core.Path.{_∙_, _≡_, refl}
+use mathlib.Core.Path.{_∙_, _≡_, refl, sym}
+use mathlib.Core.Logic.{⊎-elim}
 use mathlib.Core.Bool.{Bool, _&&_, _||_, false, not, true}
 use mathlib.Core.List.{List}
 use native.Mathlib.Numerals.{add-one}
+use native.Mathlib.Decide.{ℕ-discrete}
 use native.Mathlib.Omega.{arith}
 use lib.Dec.{eqb, leb, ltb}
 use lib.ListN.{getD, length}
@@ -11,13 +13,14 @@ use borrow.Author.Tests.{eq-eqb, eqb-false, eqb-true, le-leb, le-ltb, leb-false,
 use Rattle.counting.specs.Pick.{pick}
 use Rattle.counting.specs.Search.{every, first, last, some}
 use Rattle.counting.proofs.Below.{rising, rising-once}
-use Rattle.counting.proofs.Bools.{or-none, or-right}
+use Rattle.counting.proofs.Bools.{holds-or, or-none, or-right}
 use Rattle.counting.proofs.Search.{every-is, first-none, is-every, none-some, some-ext, some-found, some-last, some-none}
 use Rattle.slots.specs.Slots.{position}
 use Rattle.slots.proofs.Slots.{corner-lt, same-slot}
 use Rattle.grid.specs.Grid.{SameFace, cellCount, faceNode, highestNode, mostCells, node, sameFace}
 use Rattle.grid.specs.Rows.{badCell, badLength, repeats, sameCell}
-use Rattle.grid.specs.Work.{RisingCells, Table, cellKey, faceKey, join, sameKey}
+use Rattle.grid.specs.Work.{RisingCells, join}
+use Rattle.grid.specs.Walks.{Cells, SameFrom, SameNodes, Slots, cellNumber, corner, labelled}
 
 -- row 1
 pub length-odd : (cells : List ℕ) → (length cells % 4 ≡ 0 → ⊥) → badLength cells ≡ true
@@ -85,45 +88,25 @@ join-eqb a b c d h l = go (eqb a c) (eqb b d) refl refl
     go true false e f = ne-eqb (join a b) (join c d) (λ q. eqb-false b d f (omega (arith, eqb-true a c e, q)))
     go false y e f = ne-eqb (join a b) (join c d) (λ q. eqb-false a c e (omega (arith, q)))
 
-module _ (cells : List ℕ) (small : (i : ℕ) → getD cells i 0 < 65536) where
-  pub cell-eqb : (d c : ℕ) → sameCell cells d c ≡ eqb (cellKey cells d) (cellKey cells c)
-  unfolding sameCell every cellKey
-  cell-eqb d c =
-      rw (
-        join-eqb (join (join (node cells d 0) (node cells d 1)) (node cells d 2)) (node cells d 3) (join (join (node cells c 0) (node cells c 1)) (node cells c 2))
-            (node cells c 3) (small (4 * d + 3)) (small (4 * c + 3)),
-        join-eqb (join (node cells d 0) (node cells d 1)) (node cells d 2) (join (node cells c 0) (node cells c 1)) (node cells c 2) (small (4 * d + 2)) (small (4 * c + 2)),
-        join-eqb (node cells d 0) (node cells d 1) (node cells c 0) (node cells c 1) (small (4 * d + 1)) (small (4 * c + 1)),
-      )
+-- numbers that tell the nodes: row 4
+module _ (cells same : List ℕ) (n : ℕ) (w : Cells n (SameNodes cells) same) where
+  pub cell-eqb : (d c : ℕ) → d < n → c < n → sameCell cells d c ≡ eqb (cellNumber same d) (cellNumber same c)
+  unfolding sameCell
+  cell-eqb d c h l = elim (ℕ-discrete (cellNumber same d) (cellNumber same c)) [
+    | yes e ↦ is-every (λ i. eqb (node cells d i) (node cells c i)) 4 (λ i b. eq-eqb (node cells d i) (node cells c i) (w .tells .told d c h l e i b)) ∙ sym (eq-eqb (cellNumber same d) (cellNumber same c) e)
+    | no e ↦ ⊎-elim
+        (λ (q : every (λ i. eqb (node cells d i) (node cells c i)) 4 ≡ true).
+        absurd (e (w .tells .same d c h l (λ i b. eqb-true (node cells d i) (node cells c i) (every-is (λ i. eqb (node cells d i) (node cells c i)) 4 q i b)))))
+        (λ (q : every (λ i. eqb (node cells d i) (node cells c i)) 4 ≡ false). q ∙ sym (ne-eqb (cellNumber same d) (cellNumber same c) e))
+        (holds-or (every (λ i. eqb (node cells d i) (node cells c i)) 4))
+  ]
 
   -- what the loop of `row_4` asks of a cell
-  pub repeats-last : (n : ℕ) (keys : List ℕ) → Table (cellKey cells) n keys → (c : ℕ) → c < n
-      → repeats cells c ≡ ltb 0 (last (sameKey keys (getD keys c 0)) c)
-  unfolding repeats sameKey
-  repeats-last n keys w c h =
-      some-ext (λ d. sameCell cells d c) (λ d. eqb (getD keys d 0) (getD keys c 0)) c (λ d l. cell-eqb d c ∙ rw (w .at d (omega arith), w .at c h))
-      ∙ some-last (λ d. eqb (getD keys d 0) (getD keys c 0)) c
-
-  face-small : (c s i : ℕ) → faceNode cells c s i < 65536
-  unfolding faceNode
-  face-small c s i = small (4 * c + position s i)
-
-  pub face-eqb : (d t c s : ℕ) → t < 4 → s < 4 → sameFace cells d t c s ≡ eqb (faceKey cells (4 * d + t)) (faceKey cells (4 * c + s))
-  unfolding sameFace every faceKey
-  face-eqb d t c s ht hs =
-      let a : (4 * d + t) / 4 ≡ d = omega arith in
-      let b : (4 * d + t) % 4 ≡ t = omega arith in
-      let e : (4 * c + s) / 4 ≡ c = omega arith in
-      let f : (4 * c + s) % 4 ≡ s = omega arith in
-      rw (
-        a,
-        b,
-        e,
-        f,
-        join-eqb (join (faceNode cells d t 0) (faceNode cells d t 1)) (faceNode cells d t 2) (join (faceNode cells c s 0) (faceNode cells c s 1)) (faceNode cells c s 2)
-            (face-small d t 2) (face-small c s 2),
-        join-eqb (faceNode cells d t 0) (faceNode cells d t 1) (faceNode cells c s 0) (faceNode cells c s 1) (face-small d t 1) (face-small c s 1),
-      )
+  pub repeats-last : (c : ℕ) → c < n → repeats cells c ≡ ltb 0 (last (labelled (cellNumber same) (cellNumber same c)) c)
+  unfolding repeats labelled
+  repeats-last c h =
+      some-ext (λ d. sameCell cells d c) (λ d. eqb (cellNumber same d) (cellNumber same c)) c (λ d l. cell-eqb d c (omega arith) h)
+      ∙ some-last (λ d. eqb (cellNumber same d) (cellNumber same c)) c
 
 -- the same face, as a test and as equations of nodes
 module _ (cells : List ℕ) where
@@ -136,6 +119,25 @@ module _ (cells : List ℕ) where
   unfolding sameFace faceNode
   true-same d t c s h =
       is-every (λ i. eqb (faceNode cells d t i) (faceNode cells c s i)) 3 (λ i l. eq-eqb (faceNode cells d t i) (faceNode cells c s i) (h i l))
+
+-- and faces
+module _ (cells keys : List ℕ) (n : ℕ) (w : Slots n (SameFrom 0 cells) keys) where
+  corner-node : (d t r : ℕ) → t < 4 → corner cells r (4 * d + t) ≡ node cells d (position t r)
+  corner-node d t r h =
+      let a : (4 * d + t) / 4 ≡ d = omega arith in
+      let b : (4 * d + t) % 4 ≡ t = omega arith in
+      rw (a, b)
+
+  pub face-eqb : (d t c s : ℕ) → d < n → t < 4 → c < n → s < 4 → sameFace cells d t c s ≡ eqb (getD keys (4 * d + t) 0) (getD keys (4 * c + s) 0)
+  face-eqb d t c s hd ht hc hs = elim (ℕ-discrete (getD keys (4 * d + t) 0) (getD keys (4 * c + s) 0)) [
+    | yes e ↦ true-same cells d t c s (λ r b. sym (corner-node d t r ht) ∙ w .tells .told (4 * d + t) (4 * c + s) (omega arith) (omega arith) e r (omega arith) b ∙ corner-node c s r hs)
+        ∙ sym (eq-eqb (getD keys (4 * d + t) 0) (getD keys (4 * c + s) 0) e)
+    | no e ↦ ⊎-elim
+        (λ (q : sameFace cells d t c s ≡ true).
+        absurd (e (w .tells .same (4 * d + t) (4 * c + s) (omega arith) (omega arith) (λ r a b. corner-node d t r ht ∙ same-true cells d t c s q r b ∙ sym (corner-node c s r hs)))))
+        (λ (q : sameFace cells d t c s ≡ false). q ∙ sym (ne-eqb (getD keys (4 * d + t) 0) (getD keys (4 * c + s) 0) e))
+        (holds-or (sameFace cells d t c s))
+  ]
 
 module _ (cells : List ℕ) (good : RisingCells cells) where
   -- a cell's nodes rise

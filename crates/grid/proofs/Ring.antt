@@ -8,54 +8,70 @@ use native.Mathlib.Decide.{ℕ-discrete}
 use native.Mathlib.Omega.{arith}
 use lib.Dec.{eqb}
 use lib.ListN.{getD, length}
-use borrow.Author.Tests.{eq-eqb, eqb-true, not-false, not-true}
+use borrow.Author.Tests.{eq-eqb, eqb-true, ltb-true, not-false, not-true}
 use Rattle.counting.specs.Pick.{one}
 use Rattle.counting.specs.Search.{first, last, some}
 use Rattle.counting.proofs.Below.{trichotomy}
 use Rattle.counting.proofs.Bools.{and-left, and-right, and-true, bool-same, clash, holds-or}
 use Rattle.counting.proofs.Range.{mark}
 use Rattle.counting.proofs.Reach.{reach-closed, reach-holds, reach-start}
-use Rattle.counting.proofs.Search.{first-is, some-and, some-blocks, some-ext, some-first, some-found, some-is, some-none}
+use Rattle.counting.proofs.Search.{first-is, last-ext, last-is, some-and, some-blocks, some-ext, some-first, some-found, some-is, some-last, some-none}
 use Rattle.slots.specs.Slots.{contains, hi, lo, lower, edgeRank, slotEdge, upper}
 use Rattle.slots.proofs.Slots.{edge-slot, face-ends, slot-edge, slot-rank}
 use Rattle.grid.specs.Grid.{Grid, cellCount, hasEdge, hasFace, isEdge, node, sameFace}
-use Rattle.grid.specs.Rows.{reached, linked, split}
-use Rattle.grid.specs.Work.{PassesAcross, Linkable, Reached, Neighbours, RisingCells, Paired, KeySlot, Table, edgeKey, join, missing, rank, sameKey, sideKey}
-use Rattle.counting.proofs.Chains.{top-le}
-use Rattle.grid.proofs.Marks.{top-key}
-use Rattle.grid.proofs.Packed.{join-eqb, rises, same-true}
-use Rattle.grid.proofs.Sides.{is-side, used-found}
+use Rattle.grid.specs.Rows.{reached, linked, split, unused}
+use Rattle.grid.specs.Work.{PassesAcross, Linkable, OneEach, Reached, Neighbours, RisingCells, Paired, KeySlot, Splitting, Table, listedAt, missing, rank, sameKey}
+use Rattle.counting.proofs.Tables.{top-le}
+use Rattle.grid.proofs.Marks.{single-split, top-key}
+use Rattle.grid.proofs.Laying.{joined-high, joined-low}
+use Rattle.grid.proofs.Packed.{rises, same-true}
+use Rattle.grid.proofs.Sides.{is-place, listed-last}
 use Rattle.grid.proofs.Sorted.{before-same}
 use Rattle.grid.proofs.Sound.{ends-before}
 
-module _ (cells : List ℕ) (good : RisingCells cells) (keys near : List ℕ) (tk : Table (sideKey cells) (6 * cellCount cells) keys) (N : Neighbours cells near) where
-  side-at : (c k : ℕ) → c < cellCount cells → k < 6 → getD keys (6 * c + k) 0 ≡ join (node cells c (lo k)) (node cells c (hi k))
-  unfolding sideKey
+-- each edge of a cell has the number of its place in the list, one more
+module _ (G : Grid) (good : RisingCells (G .cells)) (sides near : List ℕ) (ts : Table (listedAt G) (6 * cellCount (G .cells)) sides)
+    (full : (j : ℕ) → j < 6 * cellCount (G .cells) → 0 < getD sides j 0) (one : OneEach G) (N : Neighbours (G .cells) near) where
+  abbrev cells : List ℕ
+  cells = G .cells
+
+  side-at : (c k : ℕ) → c < cellCount cells → k < 6 → getD sides (6 * c + k) 0 ≡ last (isEdge G c k) (length (G .counts))
+  unfolding listedAt
   side-at c k h l =
       let a : (6 * c + k) / 6 ≡ c = omega arith in
       let b : (6 * c + k) % 6 ≡ k = omega arith in
-      tk .at (6 * c + k) (omega arith) ∙ rw (a, b)
+      ts .at (6 * c + k) (omega arith) ∙ rw (a, b) (listed-last G one c k)
+
+  -- the listed edge of a cell's edge
+  listed-is : (c k : ℕ) → c < cellCount cells → k < 6 → isEdge G c k (getD sides (6 * c + k) 0 - 1) ≡ true
+  listed-is c k h l = (let q = side-at c k h l in rw q (last-is (isEdge G c k) (length (G .counts)) (rw (← q) (full (6 * c + k) (omega arith)))))
 
   -- two edges of a cell are two edges
-  one-edge : (c k m : ℕ) → c < cellCount cells → k < 6 → m < 6 → getD keys (6 * c + k) 0 ≡ getD keys (6 * c + m) 0 → k ≡ m
+  one-edge : (c k m : ℕ) → c < cellCount cells → k < 6 → m < 6 → getD sides (6 * c + k) 0 ≡ getD sides (6 * c + m) 0 → k ≡ m
+  unfolding isEdge
   one-edge c k m h lk lm e =
       trichotomy k m (λ l. absurd (before-same _ _ _ _ lows highs (ends-before (node cells c) (rises cells good c h) k m l lm)))
       (λ l. absurd (before-same _ _ _ _ (sym lows) (sym highs) (ends-before (node cells c) (rises cells good c h) m k l lk))) (λ q. q)
     where
-      both : (eqb (node cells c (lo k)) (node cells c (lo m)) && eqb (node cells c (hi k)) (node cells c (hi m))) ≡ true
-      both =
-          sym (join-eqb (node cells c (lo k)) (node cells c (hi k)) (node cells c (lo m)) (node cells c (hi m)) (good .small _) (good .small _))
-          ∙ eq-eqb _ _ (sym (side-at c k h lk) ∙ e ∙ side-at c m h lm)
+      x : ℕ
+      x = getD sides (6 * c + m) 0 - 1
+
+      at-k : isEdge G c k x ≡ true
+      at-k = rw (← e) (listed-is c k h lk)
+
+      at-m : isEdge G c m x ≡ true
+      at-m = listed-is c m h lm
 
       lows : node cells c (lo k) ≡ node cells c (lo m)
-      lows = eqb-true _ _ (and-left (eqb (node cells c (lo k)) (node cells c (lo m))) (eqb (node cells c (hi k)) (node cells c (hi m))) both)
+      lows = sym (joined-low (G .edges) _ _ x at-k) ∙ joined-low (G .edges) _ _ x at-m
 
       highs : node cells c (hi k) ≡ node cells c (hi m)
-      highs = eqb-true _ _ (and-right (eqb (node cells c (lo k)) (node cells c (lo m))) (eqb (node cells c (hi k)) (node cells c (hi m))) both)
+      highs = sym (joined-high (G .edges) _ _ x at-k) ∙ joined-high (G .edges) _ _ x at-m
 
   -- an edge of a face is an edge of both its cells
   carried : (key d t c s k : ℕ) → d < cellCount cells → t < 4 → c < cellCount cells → s < 4 → k < 6 → sameFace cells d t c s ≡ true
-      → getD keys (6 * c + k) 0 ≡ key → contains k s ≡ true → (m : ℕ) × (m < 6) × (getD keys (6 * d + m) 0 ≡ key) × (contains m t ≡ true) × (rank m t ≡ rank k s)
+      → getD sides (6 * c + k) 0 ≡ key → contains k s ≡ true → (m : ℕ) × (m < 6) × (getD sides (6 * d + m) 0 ≡ key) × (contains m t ≡ true) × (rank m t ≡ rank k s)
+  unfolding isEdge
   carried key d t c s k hd ht hc hs hk e is h =
       let g = edge-slot k s hk hs h in
       let j = edgeRank s k in
@@ -69,15 +85,15 @@ module _ (cells : List ℕ) (good : RisingCells cells) (keys near : List ℕ) (t
       ap (node cells d) (v .hi-is) ∙ same (upper j) b ∙ ap (node cells c) (sym (u .hi-is) ∙ ap hi (g .edge-is)) in (
         slotEdge t j,
         v .lt,
-        side-at d (slotEdge t j) hd (v .lt) ∙ rw (f, q) (sym (side-at c k hc hk) ∙ is),
+        side-at d (slotEdge t j) hd (v .lt) ∙ last-ext (isEdge G d (slotEdge t j)) (isEdge G c k) (length (G .counts)) (λ i l. rw (f, q)) ∙ sym (side-at c k hc hk) ∙ is,
         v .within,
         slot-rank t j ht (g .place-lt) ∙ sym (rw (g .edge-is) at (slot-rank s j hs (g .place-lt))),
       )
 
-  pub paired : Paired keys near (cellCount cells)
+  pub paired : Paired sides near (cellCount cells)
   paired =
       record {
-        keyed = tk .room;
+        keyed = ts .room;
         room = N .room;
         few = good .few;
         back = λ j l p. (N .pair j l p .lt, N .pair j l p .back);
@@ -91,17 +107,18 @@ module _ (cells : List ℕ) (good : RisingCells cells) (keys near : List ℕ) (t
       }
 
 -- the cells of edge e of a grid
-module _ (G : Grid) (good : RisingCells (G .cells)) (keys near : List ℕ) (tk : Table (sideKey (G .cells)) (6 * cellCount (G .cells)) keys) (N : Neighbours (G .cells) near)
-    (small : (i : ℕ) → getD (G .edges) i 0 < 65536) (e : ℕ) where
-  side : (c k : ℕ) → c < cellCount (G .cells) → k < 6 → isEdge G c k e ≡ eqb (getD keys (6 * c + k) 0) (edgeKey (G .edges) e)
-  side c k h l = is-side G (good .small) small keys tk c k e h l
+module _ (G : Grid) (good : RisingCells (G .cells)) (sides near : List ℕ) (ts : Table (listedAt G) (6 * cellCount (G .cells)) sides)
+    (full : (j : ℕ) → j < 6 * cellCount (G .cells) → 0 < getD sides j 0) (one : OneEach G) (N : Neighbours (G .cells) near)
+    (e : ℕ) (e-lt : e < length (G .counts)) where
+  side : (c k : ℕ) → c < cellCount (G .cells) → k < 6 → isEdge G c k e ≡ eqb (getD sides (6 * c + k) 0) (e + 1)
+  side c k h l = is-place G one c k e e-lt ∙ rw (side-at G good sides near ts full one N c k h l)
 
-  has-side : (c : ℕ) → c < cellCount (G .cells) → hasEdge G e c ≡ some (λ k. eqb (getD keys (6 * c + k) 0) (edgeKey (G .edges) e)) 6
+  has-side : (c : ℕ) → c < cellCount (G .cells) → hasEdge G e c ≡ some (λ k. eqb (getD sides (6 * c + k) 0) (e + 1)) 6
   unfolding hasEdge
-  has-side c h = some-ext (λ k. isEdge G c k e) (λ k. eqb (getD keys (6 * c + k) 0) (edgeKey (G .edges) e)) 6 (λ k l. side c k h l)
+  has-side c h = some-ext (λ k. isEdge G c k e) (λ k. eqb (getD sides (6 * c + k) 0) (e + 1)) 6 (λ k l. side c k h l)
 
   -- a cell across a slot of the edge is linked
-  link-of : (j : ℕ) → j < 4 * cellCount (G .cells) → KeySlot keys (edgeKey (G .edges) e) j → 0 < getD near j 0 → linked G e (j / 4) ((getD near j 0 - 1) / 4) ≡ true
+  link-of : (j : ℕ) → j < 4 * cellCount (G .cells) → KeySlot sides (e + 1) j → 0 < getD near j 0 → linked G e (j / 4) ((getD near j 0 - 1) / 4) ≡ true
   unfolding linked hasFace
   link-of j l s p =
       let x = getD near j 0 - 1 in
@@ -111,19 +128,19 @@ module _ (G : Grid) (good : RisingCells (G .cells)) (keys near : List ℕ) (tk :
       (and-true _ _ (s .holds) (some-found (λ t. sameFace (G .cells) (x / 4) t (j / 4) (j % 4)) 4 (x % 4) (omega arith) (N .pair j l p .same)))))
 
   -- and so is the cell that it is across from
-  link-back : (j : ℕ) → j < 4 * cellCount (G .cells) → KeySlot keys (edgeKey (G .edges) e) j → 0 < getD near j 0 → linked G e ((getD near j 0 - 1) / 4) (j / 4) ≡ true
+  link-back : (j : ℕ) → j < 4 * cellCount (G .cells) → KeySlot sides (e + 1) j → 0 < getD near j 0 → linked G e ((getD near j 0 - 1) / 4) (j / 4) ≡ true
   link-back j l s p =
       let g = N .pair j l p in
       let x = getD near j 0 - 1 in
       let q : j + 1 - 1 ≡ j = omega arith in
-      rw (g .back, q) at (link-of x (omega (arith, g .lt, p)) (paired (G .cells) good keys near tk N .side (edgeKey (G .edges) e) j l p s .0) (omega (arith, g .back)))
+      rw (g .back, q) at (link-of x (omega (arith, g .lt, p)) (paired G good sides near ts full one N .side (e + 1) j l p s .0) (omega (arith, g .back)))
 
   -- the slot of cell d across which cell c is
   pub record Crossed (d c : ℕ) : Type 0 where
     pub j : ℕ
     pub lt : j < 4 * cellCount (G .cells)
     pub cell : j / 4 ≡ d
-    pub sided : KeySlot keys (edgeKey (G .edges) e) j
+    pub sided : KeySlot sides (e + 1) j
     pub there : 0 < getD near j 0
     pub ends : (getD near j 0 - 1) / 4 ≡ c
 
@@ -145,7 +162,7 @@ module _ (G : Grid) (good : RisingCells (G .cells)) (keys near : List ℕ) (tk :
       let hs = u .1 in
       let a : (4 * d + s) / 4 ≡ d = omega arith in
       let b : (4 * d + s) % 4 ≡ s = omega arith in
-      let sd : KeySlot keys (edgeKey (G .edges) e) (4 * d + s) =
+      let sd : KeySlot sides (e + 1) (4 * d + s) =
       record { k = k; lt = w .1; is = rw a (eqb-true _ _ (sym (side d k hd (w .1)) ∙ v1)); holds = rw b y1 } in
       elim (ℕ-discrete c d) [
         | yes q ↦ inl q
@@ -154,20 +171,20 @@ module _ (G : Grid) (good : RisingCells (G .cells)) (keys near : List ℕ) (tk :
             inr (record { j = 4 * d + s; lt = omega arith; cell = omega arith; sided = sd; there = omega arith; ends = omega arith })
       ]
 
-  module _ (top : ℕ) (et : top ≡ last (sameKey keys (edgeKey (G .edges) e)) (6 * cellCount (G .cells))) (pos-top : 0 < top)
-      (mark : ℕ) (marks₀ marks : List ℕ) (F : Reached keys near (cellCount (G .cells)) (edgeKey (G .edges) e) mark ((top - 1) / 6) marks₀ marks) where
+  module _ (top : ℕ) (et : top ≡ last (sameKey sides (e + 1)) (6 * cellCount (G .cells))) (pos-top : 0 < top)
+      (mark : ℕ) (marks₀ marks : List ℕ) (F : Reached sides near (cellCount (G .cells)) (e + 1) mark ((top - 1) / 6) marks₀ marks) where
     n : ℕ
     n = cellCount (G .cells)
 
     tl : top ≤ 6 * cellCount (G .cells)
-    tl = top-le keys (edgeKey (G .edges) e) (6 * cellCount (G .cells)) top et
+    tl = top-le sides (e + 1) (6 * cellCount (G .cells)) top et
 
     -- the cell where the marks start has the edge
     top-has : hasEdge G e ((top - 1) / 6) ≡ true
     top-has =
         has-side ((top - 1) / 6) (omega (arith, tl))
-        ∙ some-found (λ k. eqb (getD keys (6 * ((top - 1) / 6) + k) 0) (edgeKey (G .edges) e)) 6 ((top - 1) % 6) (omega arith)
-        (eq-eqb _ _ (top-key keys (edgeKey (G .edges) e) (6 * cellCount (G .cells)) top et pos-top))
+        ∙ some-found (λ k. eqb (getD sides (6 * ((top - 1) / 6) + k) 0) (e + 1)) 6 ((top - 1) % 6) (omega arith)
+        (eq-eqb _ _ (top-key sides (e + 1) (6 * cellCount (G .cells)) top et pos-top))
 
     marked : ℕ → Bool
     marked c = eqb (getD marks c 0) mark
@@ -200,10 +217,10 @@ module _ (G : Grid) (good : RisingCells (G .cells)) (keys near : List ℕ) (tk :
     across-lt j l p = omega (arith, N .pair j l p .lt, p)
 
     -- what links lead to is closed, and so is the rest
-    in-closed : PassesAcross keys near (cellCount (G .cells)) (edgeKey (G .edges) e) A
+    in-closed : PassesAcross sides near (cellCount (G .cells)) (e + 1) A
     in-closed j l s p r = on-link (j / 4) ((getD near j 0 - 1) / 4) (omega arith) (across-lt j l p) r (link-of j l s p)
 
-    out-closed : PassesAcross keys near (cellCount (G .cells)) (edgeKey (G .edges) e) (λ c. not (A c))
+    out-closed : PassesAcross sides near (cellCount (G .cells)) (e + 1) (λ c. not (A c))
     out-closed j l s p r =
         ⊎-elim
         (λ (q : A ((getD near j 0 - 1) / 4) ≡ true).
@@ -279,34 +296,22 @@ module _ (G : Grid) (good : RisingCells (G .cells)) (keys near : List ℕ) (tk :
         (λ q. (let w = some-is unmarked (cellCount (G .cells)) q in to-unlinked (w .0) (w .1) (w .2)))
 
     -- what `split_at` answers
-    pub split-missing : split G e ≡ some (missing keys (edgeKey (G .edges) e) marks mark) (6 * cellCount (G .cells))
+    pub split-missing : split G e ≡ some (missing sides (e + 1) marks mark) (6 * cellCount (G .cells))
     unfolding split missing sameKey unlinked unmarked marked A
     split-missing =
         same-split
         ∙ some-ext (λ c. hasEdge G e c && not (eqb (getD marks c 0) mark))
-        (λ c. some (λ k. eqb (getD keys (6 * c + k) 0) (edgeKey (G .edges) e) && not (eqb (getD marks ((6 * c + k) / 6) 0) mark)) 6) (cellCount (G .cells)) each
-        ∙ sym (some-blocks (λ j. eqb (getD keys j 0) (edgeKey (G .edges) e) && not (eqb (getD marks (j / 6) 0) mark)) 6 (cellCount (G .cells)))
+        (λ c. some (λ k. eqb (getD sides (6 * c + k) 0) (e + 1) && not (eqb (getD marks ((6 * c + k) / 6) 0) mark)) 6) (cellCount (G .cells)) each
+        ∙ sym (some-blocks (λ j. eqb (getD sides j 0) (e + 1) && not (eqb (getD marks (j / 6) 0) mark)) 6 (cellCount (G .cells)))
       where
         each : (c : ℕ) → c < cellCount (G .cells) → (hasEdge G e c && not (eqb (getD marks c 0) mark))
-            ≡ some (λ k. eqb (getD keys (6 * c + k) 0) (edgeKey (G .edges) e) && not (eqb (getD marks ((6 * c + k) / 6) 0) mark)) 6
+            ≡ some (λ k. eqb (getD sides (6 * c + k) 0) (e + 1) && not (eqb (getD marks ((6 * c + k) / 6) 0) mark)) 6
         each c h =
             rw (has-side c h)
-            (sym (some-and (λ k. eqb (getD keys (6 * c + k) 0) (edgeKey (G .edges) e)) (not (eqb (getD marks c 0) mark)) 6)
-            ∙ some-ext (λ k. eqb (getD keys (6 * c + k) 0) (edgeKey (G .edges) e) && not (eqb (getD marks c 0) mark))
-            (λ k. eqb (getD keys (6 * c + k) 0) (edgeKey (G .edges) e) && not (eqb (getD marks ((6 * c + k) / 6) 0) mark)) 6
+            (sym (some-and (λ k. eqb (getD sides (6 * c + k) 0) (e + 1)) (not (eqb (getD marks c 0) mark)) 6)
+            ∙ some-ext (λ k. eqb (getD sides (6 * c + k) 0) (e + 1) && not (eqb (getD marks c 0) mark))
+            (λ k. eqb (getD sides (6 * c + k) 0) (e + 1) && not (eqb (getD marks ((6 * c + k) / 6) 0) mark)) 6
             (λ k l. (let q : (6 * c + k) / 6 ≡ c = omega arith in rw q)))
-
--- an edge by its key, in what row 9 starts from
-module _ {G : Grid} {near keys head next : List ℕ} (L : Linkable G near keys head next) {e key top : ℕ} (h : e < length (G .counts)) (ek : key ≡ edgeKey (G .edges) e)
-    (et : top ≡ last (sameKey keys key) (6 * cellCount (G .cells))) where
-  pub edge-found : 0 < top
-  edge-found = rw (et, ek) (used-found G (L .findable .small) (L .findable .small-ends) keys (L .findable .table) e (L .used e h))
-
-  pub split-told : {mark : ℕ} {marks₀ marks : List ℕ} {r : Bool} → Reached keys near (cellCount (G .cells)) key mark ((top - 1) / 6) marks₀ marks
-      → r ≡ some (missing keys key marks mark) (6 * cellCount (G .cells)) → split G e ≡ r
-  split-told {mark} {marks₀} {marks} R a =
-      split-missing G (L .ordered) keys near (L .findable .table) (L .near-is) (L .findable .small-ends) e top (rw ek at et) edge-found mark marks₀ marks (rw ek at R)
-      ∙ sym (rw ek at a)
 
 -- all marks are at most e
 pub record Under (marks : List ℕ) (e : ℕ) : Type 0 where
@@ -318,3 +323,38 @@ under-fresh {marks} {e} u d q = omega (arith, u .at d, q)
 pub under-more : {keys near : List ℕ} {n key e c : ℕ} {marks₀ marks : List ℕ} → Under marks₀ e → Reached keys near n key (e + 1) c marks₀ marks → Under marks (e + 1)
 under-more {keys} {near} {n} {key} {e} {c} {marks₀} {marks} u f =
     record { at = λ d. ⊎-elim (λ (q : getD marks d 0 ≡ getD marks₀ d 0). omega (arith, u .at d, q)) (λ (q : getD marks d 0 ≡ e + 1). omega (arith, q)) (f .only d) }
+
+-- an edge by its number, in what row 9 starts from
+module _ {G : Grid} {near sides top degree marks : List ℕ} (L : Linkable G near sides top degree marks) {e t : ℕ} (h : e < length (G .counts)) (et : t ≡ getD top (e + 1) 0) where
+  pub top-last : t ≡ last (sameKey sides (e + 1)) (6 * cellCount (G .cells))
+  top-last = et ∙ L .tallied .tops (e + 1) (omega (arith, L .within))
+
+  pub edge-found : 0 < t
+  unfolding unused hasEdge sameKey
+  edge-found = rw top-last (ltb-true 0 _ (sym (some-last (sameKey sides (e + 1)) (6 * cellCount (G .cells))) ∙ found))
+    where
+      found : some (sameKey sides (e + 1)) (6 * cellCount (G .cells)) ≡ true
+      found =
+          some-blocks (λ j. eqb (getD sides j 0) (e + 1)) 6 (cellCount (G .cells))
+          ∙ sym (some-ext (hasEdge G e) (λ c. some (λ k. eqb (getD sides (6 * c + k) 0) (e + 1)) 6) (cellCount (G .cells))
+          (λ c l. has-side G (L .ordered) sides near (L .sided) (L .full) (L .one) (L .near-is) e h c l))
+          ∙ not-false (some (hasEdge G e) (cellCount (G .cells))) (L .used e h)
+
+  pub split-told : {marks₀ marks₁ : List ℕ} {r : Bool} → Reached sides near (cellCount (G .cells)) (e + 1) (e + 1) ((t - 1) / 6) marks₀ marks₁
+      → r ≡ some (missing sides (e + 1) marks₁ (e + 1)) (6 * cellCount (G .cells)) → split G e ≡ r
+  split-told {marks₀} {marks₁} R a =
+      split-missing G (L .ordered) sides near (L .sided) (L .full) (L .one) (L .near-is) e h t top-last edge-found (e + 1) marks₀ marks₁ R ∙ sym a
+
+  pub may-split : (d : ℕ) → d ≡ getD degree (e + 1) 0 → (marks₁ : List ℕ) → length marks₁ ≡ length marks → Under marks₁ e
+      → Splitting sides near (cellCount (G .cells)) (e + 1) t d marks₁
+  may-split d ed marks₁ el u = record {
+    paired = paired G (L .ordered) sides near (L .sided) (L .full) (L .one) (L .near-is);
+    room = omega (arith, el, L .marks-new .room);
+    top-is = top-last;
+    degree-is = ed ∙ L .tallied .degrees (e + 1) (omega (arith, L .within));
+    found = edge-found;
+    fresh = under-fresh u;
+  }
+
+  pub split-single : (d : ℕ) → d ≡ getD degree (e + 1) 0 → d ≡ 1 → (marks₁ : List ℕ) → length marks₁ ≡ length marks → Under marks₁ e → split G e ≡ false
+  split-single d ed one marks₁ el u = let s = single-split (may-split d ed marks₁ el u) one in split-told (s .0) (s .1)

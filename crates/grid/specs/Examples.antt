@@ -110,6 +110,11 @@ examples =
     -- 5: the face 0 1 2 with 3, 4, 5; the fourth cell of it is no lower fault
     ∷ example (0 ∷ 1 ∷ 2 ∷ 3 ∷ 0 ∷ 1 ∷ 2 ∷ 4 ∷ 0 ∷ 1 ∷ 2 ∷ 5 ∷ []) six zeros (refusal 5 2)
     ∷ example (0 ∷ 1 ∷ 2 ∷ 3 ∷ 0 ∷ 1 ∷ 2 ∷ 4 ∷ 0 ∷ 1 ∷ 2 ∷ 5 ∷ 0 ∷ 1 ∷ 2 ∷ 6 ∷ []) six zeros (refusal 5 2)
+    -- 4 at its lowest place, whatever cells are met again, and before 5 wherever they stand; of two faces in three cells the one whose third comes first
+    ∷ example (0 ∷ 1 ∷ 2 ∷ 3 ∷ 0 ∷ 1 ∷ 4 ∷ 5 ∷ 0 ∷ 1 ∷ 4 ∷ 5 ∷ 0 ∷ 1 ∷ 2 ∷ 3 ∷ []) six zeros (refusal 4 2)
+    ∷ example (0 ∷ 1 ∷ 2 ∷ 3 ∷ 0 ∷ 1 ∷ 2 ∷ 4 ∷ 0 ∷ 1 ∷ 2 ∷ 5 ∷ 0 ∷ 1 ∷ 2 ∷ 4 ∷ []) six zeros (refusal 4 3)
+    ∷ example (0 ∷ 1 ∷ 2 ∷ 3 ∷ 0 ∷ 1 ∷ 2 ∷ 4 ∷ 0 ∷ 1 ∷ 3 ∷ 5 ∷ 0 ∷ 1 ∷ 2 ∷ 6 ∷ 0 ∷ 1 ∷ 3 ∷ 7 ∷ []) six zeros (refusal 5 3)
+    ∷ example (0 ∷ 1 ∷ 2 ∷ 3 ∷ 0 ∷ 1 ∷ 2 ∷ 4 ∷ 0 ∷ 1 ∷ 3 ∷ 5 ∷ 0 ∷ 1 ∷ 3 ∷ 7 ∷ 0 ∷ 1 ∷ 2 ∷ 6 ∷ []) six zeros (refusal 5 3)
     -- 6: 1 1, an edge twice, two edges in the wrong order by the lower end and by the higher
     ∷ example cell (1 ∷ 1 ∷ 0 ∷ 2 ∷ 0 ∷ 3 ∷ 1 ∷ 2 ∷ 1 ∷ 3 ∷ 2 ∷ 3 ∷ []) zeros (refusal 6 0)
     ∷ example cell (0 ∷ 1 ∷ 0 ∷ 1 ∷ 0 ∷ 3 ∷ 1 ∷ 2 ∷ 1 ∷ 3 ∷ 2 ∷ 3 ∷ []) zeros (refusal 6 1)
@@ -124,13 +129,19 @@ examples =
     ∷ example cell (0 ∷ 1 ∷ 0 ∷ 2 ∷ 0 ∷ 3 ∷ 1 ∷ 2 ∷ 1 ∷ 3 ∷ []) (0 ∷ 0 ∷ 0 ∷ 0 ∷ 0 ∷ []) (refusal 7 0)
     ∷ example cell [] [] (refusal 7 0)
     ∷ example apart (0 ∷ 1 ∷ 0 ∷ 2 ∷ 0 ∷ 3 ∷ 1 ∷ 2 ∷ 1 ∷ 3 ∷ 2 ∷ 3 ∷ []) zeros (refusal 7 1)
+    -- 0 3 is not listed, though 0 4099 is
+    ∷ example cell (0 ∷ 1 ∷ 0 ∷ 2 ∷ 0 ∷ 4099 ∷ 1 ∷ 2 ∷ 1 ∷ 3 ∷ 2 ∷ 3 ∷ []) zeros (refusal 7 0)
     -- 8: 7 8 added, 0 4 among the others and 7 8, and the highest 16-bit nodes
     ∷ example cell (0 ∷ 1 ∷ 0 ∷ 2 ∷ 0 ∷ 3 ∷ 1 ∷ 2 ∷ 1 ∷ 3 ∷ 2 ∷ 3 ∷ 7 ∷ 8 ∷ []) (0 ∷ 0 ∷ 0 ∷ 0 ∷ 0 ∷ 0 ∷ 0 ∷ []) (refusal 8 6)
     ∷ example cell (0 ∷ 1 ∷ 0 ∷ 2 ∷ 0 ∷ 3 ∷ 0 ∷ 4 ∷ 1 ∷ 2 ∷ 1 ∷ 3 ∷ 2 ∷ 3 ∷ 7 ∷ 8 ∷ []) (0 ∷ 0 ∷ 0 ∷ 0 ∷ 0 ∷ 0 ∷ 0 ∷ 0 ∷ []) (refusal 8 3)
     ∷ example cell (0 ∷ 1 ∷ 0 ∷ 2 ∷ 0 ∷ 3 ∷ 1 ∷ 2 ∷ 1 ∷ 3 ∷ 2 ∷ 3 ∷ 65534 ∷ 65535 ∷ []) (0 ∷ 0 ∷ 0 ∷ 0 ∷ 0 ∷ 0 ∷ 0 ∷ []) (refusal 8 6)
+    -- six edges that no cell has, before the six of the cell
+    ∷ example (6 ∷ 7 ∷ 8 ∷ 9 ∷ []) (0 ∷ 1 ∷ 0 ∷ 2 ∷ 0 ∷ 3 ∷ 1 ∷ 2 ∷ 1 ∷ 3 ∷ 2 ∷ 3 ∷ 6 ∷ 7 ∷ 6 ∷ 8 ∷ 6 ∷ 9 ∷ 7 ∷ 8 ∷ 7 ∷ 9 ∷ 8 ∷ 9 ∷ []) twelve (refusal 8 0)
     -- 9: 0123 and 0145 share an edge and no face; a chain of three cells about an edge is linked
     ∷ example apart apartEdges eleven (refusal 9 0)
     ∷ example chain chainEdges twelve (result (0 ∷ []))
+    -- the faces 0 2 3 and 1 2 3 have two nodes in common and are two
+    ∷ example (0 ∷ 2 ∷ 3 ∷ 4 ∷ 1 ∷ 2 ∷ 3 ∷ 5 ∷ []) (0 ∷ 2 ∷ 0 ∷ 3 ∷ 0 ∷ 4 ∷ 1 ∷ 2 ∷ 1 ∷ 3 ∷ 1 ∷ 5 ∷ 2 ∷ 3 ∷ 2 ∷ 4 ∷ 2 ∷ 5 ∷ 3 ∷ 4 ∷ 3 ∷ 5 ∷ []) eleven (refusal 9 6)
     -- 10: 65,535 crossings are allowed, one more is not
     ∷ example loose looseEdges (sixteen (15 ∷ 0 ∷ [])) (result (65535 ∷ []))
     ∷ example loose looseEdges (sixteen (15 ∷ 1 ∷ [])) (refusal 10 0)

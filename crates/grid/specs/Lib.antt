@@ -8,4 +8,8 @@ pub mod Setting
 pub mod Accepted
 pub mod Claims
 pub mod Shared
+pub mod Numbered
+pub mod Walks
+pub mod Seen
+pub mod Runs
 pub mod Work

@@ -6,7 +6,7 @@ use lib.ListN.{getD}
 use lib.Dec.{eqb, ltb}
 use Rattle.counting.specs.Pick.{pick}
 use Rattle.counting.specs.Search.{first, last, some}
-use Rattle.counting.specs.Chains.{sameKey}
+use Rattle.counting.specs.Tables.{sameKey}
 use Rattle.grid.specs.Grid.{mostCrossings, mostEdges, low, high, crossings}
 
 -- the number of crossings, or 65,536 where it is more than 65,535

@@ -4,33 +4,26 @@ use mathlib.Core.Path.{_≡_}
 use mathlib.Core.Logic.{_⊎_, _≢_}
 use mathlib.Core.Bool.{Bool, true, false, not, _&&_}
 use mathlib.Core.List.{List, [], _∷_}
-use lib.ListN.{length, getD, replicate, set}
+use lib.ListN.{length, getD, set}
 use lib.Dec.{eqb, ltb}
 use Rattle.answer.specs.Answer.{result, isResult}
 use Rattle.answer.specs.Rows.{whole, answerOf}
 use Rattle.answer.specs.Faults.{since}
 use Rattle.counting.specs.Pick.{pick}
 use Rattle.counting.specs.Search.{first, last, some, count}
-use Rattle.slots.specs.Slots.{lo, hi, rankIn, contains, thirdPosition}
-pub use Rattle.counting.specs.Chains.{Table, Chained, Headed, Chainable, Walkable, buckets, chainAt}
-unfoldable pub use Rattle.counting.specs.Chains.{sameKey, inBucket}
+use Rattle.slots.specs.Slots.{rankIn, contains, thirdPosition}
+pub use Rattle.counting.specs.Tables.{Table}
+unfoldable pub use Rattle.counting.specs.Tables.{sameKey}
 use Rattle.grid.specs.declared.Checked.{Checked}
 use Rattle.grid.specs.declared.Checked.the-variants.{Crossings, Refused}
-use Rattle.grid.specs.Grid.{Grid, highestNode, mostCells, mostCrossings, mostSlots, mostEdges, cellCount, node, faceNode, sameFace, isEdge, start, crossings, startsOf}
-use Rattle.grid.specs.Rows.{badLength, rows, unused}
+use Rattle.grid.specs.Grid.{Grid, highestNode, mostCells, mostCrossings, mostSlots, mostEdges, cellCount, node, sameFace, isEdge, low, high, start, crossings, startsOf}
+use Rattle.grid.specs.Rows.{badEdge, badLength, crowded, repeats, rows, unused}
 use Rattle.grid.specs.Setting.{changeAnswer}
 use Rattle.grid.specs.Shared.{foundOr}
+use Rattle.grid.specs.Walks.{Fresh}
+use Rattle.grid.specs.Runs.{NodeChains, SidesPlaced, Tallied}
 pub use Rattle.grid.specs.Shared.{join}
 unfoldable pub use Rattle.grid.specs.Shared.{edgeKey}
-
--- KEYS: nodes packed into one number, so that equal keys are equal nodes
-
-unfoldable pub cellKey : List ℕ → ℕ → ℕ
-cellKey cells c = join (join (join (node cells c 0) (node cells c 1)) (node cells c 2)) (node cells c 3)
-
-unfoldable pub faceKey : List ℕ → ℕ → ℕ
-faceKey cells j =
-    join (join (faceNode cells (j / 4) (j % 4) 0) (faceNode cells (j / 4) (j % 4) 1)) (faceNode cells (j / 4) (j % 4) 2)
 
 -- CELLS: what rows 1 and 3 leave of the cells
 
@@ -58,8 +51,10 @@ pub record Mates (keys : List ℕ) (m : ℕ) (near : List ℕ) : Type 0 where
   pub rest : (i : ℕ) → m ≤ i → getD near i 0 ≡ 0
 
 -- what `pair` starts from
-pub record Pairable (keys next : List ℕ) (n : ℕ) (near : List ℕ) : Type 0 where
-  pub chained : Chained keys n next
+pub record Pairable (keys : List ℕ) (n : ℕ) (seen near : List ℕ) : Type 0 where
+  pub keyed : n ≤ length keys
+  pub known : (j : ℕ) → j < n → getD keys j 0 < length seen
+  pub unseen : (k : ℕ) → getD seen k 0 ≡ 0
   pub room : n ≤ length near
   pub small : n < 65535
   pub blank : Mates keys 0 near
@@ -83,47 +78,38 @@ pub record Neighbours (cells near : List ℕ) : Type 0 where
   pub all : (d t c s : ℕ) → d < cellCount cells → t < 4 → c < cellCount cells → s < 4 → d ≢ c → sameFace cells d t c s ≡ true
       → getD near (4 * c + s) 0 ≡ 4 * d + t + 1
 
+-- the cell across slot 0 of cell c is earlier, meets it with its own slot 0, and has the same lowest node
+unfoldable pub againAt : (cells near : List ℕ) → ℕ → Bool
+againAt cells near c =
+    eqb (getD near (4 * c) 0 % 4) 1 && (ltb (getD near (4 * c) 0 / 4) c && eqb (node cells (getD near (4 * c) 0 / 4) 0) (node cells c 0))
+
+-- what `early_rows` answers and leaves: rows 4 and 5 as one number
+pub record Early (cells : List ℕ) (r : ℕ) (near : List ℕ) : Type 0 where
+  pub row4 : r < cellCount cells → r ≡ first (repeats cells) (cellCount cells)
+  pub row5 : cellCount cells ≤ r → (cellCount cells ≡ first (repeats cells) (cellCount cells)) × (r ≡ cellCount cells + first (crowded cells) (cellCount cells))
+  pub near-is : 2 * cellCount cells ≤ r → Neighbours cells near
+
 -- EDGES: the edges of the cells by their ends, and their places in the list
-
-unfoldable pub sideKey : List ℕ → ℕ → ℕ
-sideKey cells j = join (node cells (j / 6) (lo (j % 6))) (node cells (j / 6) (hi (j % 6)))
-
--- what rows 8 and 9 start from: the keys of the cells' edges, chained
-pub record Findable (G : Grid) (keys head next : List ℕ) : Type 0 where
-  pub few : cellCount (G .cells) ≤ mostCells
-  pub small : (i : ℕ) → getD (G .cells) i 0 < 65536
-  pub small-ends : (i : ℕ) → getD (G .edges) i 0 < 65536
-  pub pairs : length (G .edges) ≡ 2 * length (G .counts)
-  pub table : Table (sideKey (G .cells)) (6 * cellCount (G .cells)) keys
-  pub chained : Chained keys (6 * cellCount (G .cells)) next
-  pub headed : Headed keys (6 * cellCount (G .cells)) head
-
--- what `put` starts from, and what it leaves: x at each of the first n places with the key
-pub record Putting (keys next : List ℕ) (n key top : ℕ) (sides : List ℕ) : Type 0 where
-  pub chained : Chained keys n next
-  pub room : n ≤ length sides
-  pub top-is : top ≡ last (sameKey keys key) n
-
-pub record Put (keys : List ℕ) (n key x : ℕ) (sides₀ sides : List ℕ) : Type 0 where
-  pub same : length sides ≡ length sides₀
-  pub hit : (j : ℕ) → j < n → getD keys j 0 ≡ key → getD sides j 0 ≡ x
-  pub miss : (j : ℕ) → getD keys j 0 ≢ key → getD sides j 0 ≡ getD sides₀ j 0
-  pub rest : (j : ℕ) → n ≤ j → getD sides j 0 ≡ getD sides₀ j 0
 
 -- one more than x where x is below m, else 0
 abbrev pub foundAt : ℕ → ℕ → ℕ
 foundAt m x = foundOr m x 0
 
--- what `place_edges` starts from
-pub record EdgesPlaceable (edges : List ℕ) (m : ℕ) (keys head next : List ℕ) (n : ℕ) (sides : List ℕ) : Type 0 where
-  pub ends : 2 * m ≤ length edges
-  pub chained : Chained keys n next
-  pub headed : Headed keys n head
-  pub room : n ≤ length sides
-
 -- one more than the place in the list of edge j % 6 of cell j / 6; 0 where it is not listed
 unfoldable pub listedAt : Grid → ℕ → ℕ
 listedAt G j = foundAt (length (G .counts)) (first (isEdge G (j / 6) (j % 6)) (length (G .counts)))
+
+-- no two edges of the list have the same ends
+abbrev pub OneEach : Grid → Type 0
+OneEach G = (d e : ℕ) → d < length (G .counts) → e < length (G .counts) → low (G .edges) d ≡ low (G .edges) e → high (G .edges) d ≡ high (G .edges) e → d ≡ e
+
+-- what row 8 starts from: the places of the cells' edges, and for each the last edge of a cell that has it
+pub record Usable (G : Grid) (sides top : List ℕ) : Type 0 where
+  pub few : cellCount (G .cells) ≤ mostCells
+  pub placed : SidesPlaced (G .cells) (G .edges) (length (G .counts)) sides
+  pub one : OneEach G
+  pub room : 6 * cellCount (G .cells) < length top
+  pub tops : (t : ℕ) → t ≤ 6 * cellCount (G .cells) → getD top t 0 ≡ last (sameKey sides t) (6 * cellCount (G .cells))
 
 -- one of the six entries of cell c is 0
 unfoldable pub blankIn : List ℕ → ℕ → Bool
@@ -195,19 +181,19 @@ pub record Spread (keys near : List ℕ) (n key mark b : ℕ) (marks₀ marks : 
   pub grown : Grown keys near n key mark marks₀ marks
   pub opens : Open keys near n key mark marks b b
 
-pub record Spreads (near : List ℕ) (n mark start r : ℕ) (marks₀ marks : List ℕ) : Type 0 where
+-- how many of n cells have the mark
+unfoldable pub markedCells : List ℕ → ℕ → ℕ → ℕ
+markedCells marks mark n = count (λ c. eqb (getD marks c 0) mark) n
+
+-- met: how many cells got the mark
+pub record Spreads (near : List ℕ) (n mark start r : ℕ) (marks₀ : List ℕ) (met : ℕ) (marks : List ℕ) : Type 0 where
   pub same : length marks ≡ length marks₀
+  pub counted : markedCells marks₀ mark n + met ≡ markedCells marks mark n
   pub over : (keys : List ℕ) (key b : ℕ) → Spreading keys near n key mark start r b marks₀ → Spread keys near n key mark b marks₀ marks
 
 -- place j has the key, and its cell is not marked
 unfoldable pub missing : List ℕ → ℕ → List ℕ → ℕ → ℕ → Bool
 missing keys key marks mark j = sameKey keys key j && not (eqb (getD marks (j / 6) 0) mark)
-
--- what `left_out` starts from
-pub record Leaving (keys next : List ℕ) (n key top : ℕ) (marks : List ℕ) : Type 0 where
-  pub chained : Chained keys (6 * n) next
-  pub room : n ≤ length marks
-  pub top-is : top ≡ last (sameKey keys key) (6 * n)
 
 -- what the marks of an edge are, from cell c on: closed, and within all that is closed
 pub record Reached (keys near : List ℕ) (n key mark c : ℕ) (marks₀ marks : List ℕ) : Type 0 where
@@ -218,28 +204,35 @@ pub record Reached (keys near : List ℕ) (n key mark c : ℕ) (marks₀ marks :
       → getD marks ((getD near j 0 - 1) / 4) 0 ≡ mark
   pub within : (P : ℕ → Bool) → PassesAcross keys near n key P → P c ≡ true → (d : ℕ) → getD marks d 0 ≡ mark → P d ≡ true
 
--- what `split_at` starts from: no cell has the mark
-pub record Splitting (keys next near : List ℕ) (n key mark top : ℕ) (marks : List ℕ) : Type 0 where
-  pub chained : Chained keys (6 * n) next
+-- what `split_at` starts from: no cell has the mark, and degree places have the key
+pub record Splitting (keys near : List ℕ) (n key top degree : ℕ) (marks : List ℕ) : Type 0 where
   pub paired : Paired keys near n
   pub room : n ≤ length marks
   pub top-is : top ≡ last (sameKey keys key) (6 * n)
+  pub degree-is : degree ≡ count (sameKey keys key) (6 * n)
   pub found : 0 < top
-  pub fresh : (d : ℕ) → getD marks d 0 ≢ mark
+  pub fresh : (d : ℕ) → getD marks d 0 ≢ key
 
--- what row 9 starts from: besides, each edge has a cell
-pub record Linkable (G : Grid) (near keys head next : List ℕ) : Type 0 where
+-- what row 9 starts from: each edge of a cell is listed, and each edge has a cell
+pub record Linkable (G : Grid) (near sides top degree marks : List ℕ) : Type 0 where
   pub ordered : RisingCells (G .cells)
   pub near-is : Neighbours (G .cells) near
-  pub findable : Findable G keys head next
+  pub sided : Table (listedAt G) (6 * cellCount (G .cells)) sides
+  pub full : (j : ℕ) → j < 6 * cellCount (G .cells) → 0 < getD sides j 0
+  pub one : OneEach G
+  pub few : length (G .counts) ≤ 6 * cellCount (G .cells)
+  pub T : ℕ
+  pub within : length (G .counts) < T
+  pub tallied : Tallied sides T (6 * cellCount (G .cells)) top degree
   pub used : (e : ℕ) → e < length (G .counts) → unused G e ≡ false
+  pub marks-new : Fresh (cellCount (G .cells)) marks
 
 -- THE WHOLE
 
--- what the check starts from, and what it leaves in its two tables where it accepts
-pub record Blank (near sides : List ℕ) : Type 0 where
-  pub near-is : near ≡ replicate mostSlots 0
-  pub sides-is : sides ≡ replicate mostEdges 0
+-- what the check of n cells starts from, and what it leaves in its two tables where it accepts
+pub record Blank (n : ℕ) (near sides : List ℕ) : Type 0 where
+  pub near-new : Fresh (4 * n) near
+  pub sides-new : Fresh (6 * n) sides
 
 pub record Worked (G : Grid) (near sides : List ℕ) : Type 0 where
   pub near-is : Neighbours (G .cells) near
@@ -261,14 +254,56 @@ answerWith wrong G = answerOf (whole 1 (badLength (G .cells)) ∷ whole 2 wrong 
 pub record Celling (G : Grid) (near sides : List ℕ) : Type 0 where
   pub few : cellCount (G .cells) ≤ mostCells
   pub pairs : length (G .edges) ≡ 2 * length (G .counts)
-  pub blank : Blank near sides
+  pub blank : Blank (cellCount (G .cells)) near sides
+
+-- what row 4 and those after it start from, but for the tables
+pub record Numbering (G : Grid) (near sides : List ℕ) : Type 0 where
+  pub ordered : RisingCells (G .cells)
+  pub pairs : length (G .edges) ≡ 2 * length (G .counts)
+  pub blank : Blank (cellCount (G .cells)) near sides
+
+-- the tables of n cells' edges, which are new
+pub record EdgeTables (n : ℕ) (tab top degree marks : List ℕ) : Type 0 where
+  pub tab-new : Fresh (highestNode + 1) tab
+  pub top-new : Fresh (6 * n + 2) top
+  pub degree-new : Fresh (6 * n + 2) degree
+  pub long : length top ≤ length degree
+  pub marks-new : Fresh n marks
+
+-- the tables of n cells' numbers, which are new
+pub record CellTables (n : ℕ) (labels ranks at faces same : List ℕ) : Type 0 where
+  pub labels-new : Fresh (4 * n) labels
+  pub ranks-new : Fresh (highestNode + 1) ranks
+  pub faces-new : Fresh (4 * n) faces
+  pub same-new : Fresh (4 * n) same
+  pub at-new : Fresh (4 * n + 1) at
 
 -- what row 6 and those after it start from
-pub record Edging (G : Grid) (near sides : List ℕ) : Type 0 where
+pub record Edging (G : Grid) (near ranks h0 x0 h1 x1 h2 x2 tab top degree marks sides : List ℕ) : Type 0 where
   pub ordered : RisingCells (G .cells)
   pub pairs : length (G .edges) ≡ 2 * length (G .counts)
   pub near-is : Neighbours (G .cells) near
-  pub sides-is : sides ≡ replicate mostEdges 0
+  pub chained : NodeChains (G .cells) ranks h0 x0 h1 x1 h2 x2
+  pub tables : EdgeTables (cellCount (G .cells)) tab top degree marks
+  pub sides-new : Fresh (6 * cellCount (G .cells)) sides
+
+-- what row 7 and those after it start from: besides, the edges are sorted
+pub record Siding (G : Grid) (near ranks h0 x0 h1 x1 h2 x2 tab top degree marks sides : List ℕ) : Type 0 where
+  pub edging : Edging G near ranks h0 x0 h1 x1 h2 x2 tab top degree marks sides
+  pub fine : (e : ℕ) → e < length (G .counts) → badEdge (G .edges) e ≡ false
+
+-- what row 8 and those after it start from: the cells' edges have their places, and these are counted
+pub record Using (G : Grid) (near sides top degree marks : List ℕ) : Type 0 where
+  pub ordered : RisingCells (G .cells)
+  pub near-is : Neighbours (G .cells) near
+  pub room : 6 * cellCount (G .cells) ≤ length sides
+  pub placed : SidesPlaced (G .cells) (G .edges) (length (G .counts)) sides
+  pub full : (j : ℕ) → j < 6 * cellCount (G .cells) → 0 < getD sides j 0
+  pub one : OneEach G
+  pub T : ℕ
+  pub within : 6 * cellCount (G .cells) < T
+  pub tallied : Tallied sides T (6 * cellCount (G .cells)) top degree
+  pub marks-new : Fresh (cellCount (G .cells)) marks
 
 -- TABLES: what the writers of the lent tables start from
 
@@ -285,7 +320,7 @@ pub record Lowering (n : ℕ) (listed table : List ℕ) : Type 0 where
   pub few : n ≤ mostEdges
   pub listed-room : n ≤ length listed
   pub room : n ≤ length table
-  pub entries : (j : ℕ) → j < n → (1 ≤ getD listed j 0) × (getD listed j 0 ≤ 65536)
+  pub entries : (j : ℕ) → j < n → 1 ≤ getD listed j 0
 
 -- the starts of the edges before one are there, and s is its own
 pub record Starting (counts : List ℕ) (from s : ℕ) (starts : List ℕ) : Type 0 where

@@ -1,25 +1,15 @@
 // Rows 2, 6, 18, 7 and 8: the edges.
 ghost use mathlib.Core.Path.{_≡_};
 ghost use Prim.Native.Nat.{_+_, _*_, _/_, _<_, _≤_};
-ghost use lib.ListN.{length, getD, set, replicate};
-ghost use lib.Seq.{sets};
-ghost use Rattle.counting.specs.Range.{values};
+ghost use lib.ListN.{length, getD};
 ghost use Rattle.counting.specs.Search.{first, some};
-ghost use Rattle.counting.specs.Stored.{filled};
-ghost use Rattle.grid.specs.Grid.{built, mostEdges, cellCount};
+ghost use Rattle.grid.specs.Grid.{built, cellCount};
 ghost use Rattle.grid.specs.Rows.{badNumbers, badStart, badLists, badEdge, badCount, unused};
-ghost use Rattle.grid.specs.Shared.{keyless, placedAt};
-ghost use Rattle.grid.specs.Work.{Table, edgeKey, sideKey, Findable, Putting, Put, EdgesPlaceable, listedAt, blankIn};
+ghost use Rattle.grid.specs.Runs.{Talliable, Tallied};
+ghost use Rattle.grid.specs.Work.{edgeKey, Usable, blankIn};
 use crate::MOST_COUNT;
-use crate::cells::node_at;
-use crate::keys::latest;
-use crate::keys::walk;
-use crate::keys::wide;
-
-// The positions that a cell's edges join.
-const LO: [usize; 6] = [0, 0, 0, 1, 1, 2];
-
-const HI: [usize; 6] = [1, 2, 3, 2, 3, 3];
+use crate::numbering::wide;
+use counting::least;
 
 // Whether the lists do not have two ends and one start to a count.
 pub(crate) fn bad_numbers(edges: &[u16], counts: &[u16], starts: &[u32]) -> bool
@@ -134,143 +124,47 @@ pub fn row_18(counts: &[u16]) -> usize
     n
 }
 
-// The ends of edge k of cell c as one number.
-fn side_key(cells: &[u16], c: usize, k: usize) -> usize
-    requires { ⌜ c < cellCount (now cells) ⌝ }
-    requires { ⌜ k < 6 ⌝ }
-    ensures { λ r. ⌜ r ≡ sideKey (now (cells .entry)) (6 * c + k) ⌝ }
-{
-    let u = node_at(cells, c, LO[k]);
-    let v = node_at(cells, c, HI[k]);
-    u * 65536 + v
-}
-
-fn put_side(cells: &[u16], c: usize, k: usize, keys: &mut [usize])
-    requires { ⌜ c < cellCount (now cells) ⌝ }
-    requires { ⌜ k < 6 ⌝ }
-    requires { ⌜ 6 * cellCount (now cells) ≤ length (now keys) ⌝ }
-    ensures { λ _. ⌜ now (keys .exit) ≡ set (now (keys .entry)) (6 * c + k) (sideKey (now (cells .entry)) (6 * c + k)) ⌝ }
-{
-    keys[6 * c + k] = side_key(cells, c, k);
-}
-
-// The keys of cell c's edges. Each is named here, so that the compiler works its nodes out.
-fn put_sides(cells: &[u16], c: usize, keys: &mut [usize])
-    requires { ⌜ c < cellCount (now cells) ⌝ }
-    requires { ⌜ 6 * cellCount (now cells) ≤ length (now keys) ⌝ }
-    ensures { λ _. ⌜ now (keys .exit) ≡ sets (now (keys .entry)) (6 * c) (values (λ k. sideKey (now (cells .entry)) (6 * c + k)) 6) ⌝ }
-{
-    put_side(cells, c, 0, keys);
-    put_side(cells, c, 1, keys);
-    put_side(cells, c, 2, keys);
-    put_side(cells, c, 3, keys);
-    put_side(cells, c, 4, keys);
-    put_side(cells, c, 5, keys);
-}
-
-pub(crate) fn side_keys(cells: &[u16], keys: &mut [usize])
-    requires { ⌜ 6 * cellCount (now cells) ≤ length (now keys) ⌝ }
-    ensures { λ _. ⌜ now (keys .exit) ≡ filled (sideKey (now (cells .entry))) (6 * cellCount (now (cells .entry))) (now (keys .entry)) ⌝ }
-{
-    let n = cells.len() / 4;
-    let mut c = 0;
-    while c < n {
-        put_sides(cells, c, keys);
-        c += 1;
-    }
-}
-
-// Puts x at each of the first n places with this key, of which top - 1 is the last.
-fn put(
-    keys: &[usize],
-    next: &[u16],
-    n: usize,
-    key: usize,
-    top: usize,
-    x: usize,
-    sides: &mut [usize],
-)
-    requires { ⌜ Putting (now keys) (now next) n key top (now sides) ⌝ }
-    ensures { λ _. ⌜ Put (now (keys .entry)) n key x (now (sides .entry)) (now (sides .exit)) ⌝ }
-{
-    let mut j = top;
-    while 0 < j {
-        let i = j - 1;
-        sides[i] = x;
-        let start = wide(next[i]);
-        j = walk(keys, next, n, i, start, key);
-    }
-}
-
-// The lowest of the first m edges that has none of the first n keys; m where there is none. Each of these keys that an edge has gets one more than the
-// place of the lowest such edge; the other entries stay.
-pub(crate) fn place_edges(
-    edges: &[u16],
-    m: usize,
-    keys: &[usize],
-    head: &[u16],
-    next: &[u16],
-    n: usize,
-    sides: &mut [usize],
-) -> usize
-    requires { ⌜ EdgesPlaceable (now edges) m (now keys) (now head) (now next) n (now sides) ⌝ }
-    ensures { λ r. ⌜ r ≡ first (keyless (now (edges .entry)) (now (keys .entry)) n) m ⌝ }
-    ensures { λ _. ⌜ now (sides .exit) ≡ filled (placedAt (now (edges .entry)) m (now (keys .entry)) (now (sides .entry))) n (now (sides .entry)) ⌝ }
-{
-    let mut lowest = m;
-    let mut e = m;
-    while 0 < e {
-        e -= 1;
-        let key = edge_key(edges, e);
-        let top = latest(keys, head, next, n, key);
-        if top == 0 {
-            lowest = e;
-            continue;
-        }
-        put(keys, next, n, key, top, e + 1, sides);
-    }
-    lowest
-}
-
-// The lowest listed edge that no cell has; the number of edges where there is none. For row 7, each edge of each cell gets
-// one more than its place in the list, and keeps 0 where it is not listed.
+// The lowest listed edge that no cell has; the number of edges where there is none. Of more edges than the cells have, one of the first ones is in no
+// cell, and there the search ends.
 pub(crate) fn row_8(
     cells: &[u16],
     edges: &[u16],
     counts: &[u16],
-    keys: &[usize],
-    head: &[u16],
-    next: &[u16],
-    sides: &mut [usize],
+    sides: &[u16],
+    top: &[u16],
 ) -> usize
-    requires { ⌜ Findable (built (now cells) (now edges) (now counts)) (now keys) (now head) (now next) ⌝ }
-    requires { ⌜ now sides ≡ replicate mostEdges 0 ⌝ }
+    requires { ⌜ Usable (built (now cells) (now edges) (now counts)) (now sides) (now top) ⌝ }
     ensures { λ r. ⌜ r ≡ first (unused (built (now (cells .entry)) (now (edges .entry)) (now (counts .entry)))) (length (now (counts .entry))) ⌝ }
-    ensures { λ _. ⌜ Table (listedAt (built (now (cells .entry)) (now (edges .entry)) (now (counts .entry)))) (6 * cellCount (now (cells .entry))) (now (sides .exit)) ⌝ }
+    ensures { λ r. ⌜ r ≤ 6 * cellCount (now (cells .entry)) ⌝ }
 {
-    place_edges(
-        edges,
-        counts.len(),
-        keys,
-        head,
-        next,
-        6 * (cells.len() / 4),
-        sides,
-    )
+    let m = least(counts.len(), 6 * (cells.len() / 4));
+    let mut e = 0;
+    while e < m {
+        if top[e + 1] == 0 {
+            return e;
+        }
+        e += 1;
+    }
+    m
 }
 
-// The lowest cell with an entry of 0 among its six; the number of cells where there is none.
-pub(crate) fn row_7(cells: &[u16], sides: &[usize]) -> usize
-    requires { ⌜ 6 * cellCount (now cells) ≤ length (now sides) ⌝ }
+// The lowest cell with an entry of 0 among its six; the number of cells where there is none. Then top has for each number one more than the last of the
+// places that have it, and degree how many have it.
+pub(crate) fn row_7(cells: &[u16], sides: &[u16], top: &mut [u16], degree: &mut [u16]) -> usize
+    requires { ⌜ Talliable (now sides) (6 * cellCount (now cells)) (now top) (now degree) ⌝ }
     ensures { λ r. ⌜ r ≡ first (blankIn (now (sides .entry))) (cellCount (now (cells .entry))) ⌝ }
+    ensures { λ r. ⌜ (cellCount (now (cells .entry)) ≤ r → Tallied (now (sides .entry)) (length (now (top .entry))) (6 * cellCount (now (cells .entry))) (now (top .exit)) (now (degree .exit))) ⌝ }
 {
     let n = 6 * (cells.len() / 4);
     let mut j = 0;
     while j < n {
-        if sides[j] == 0 {
+        let t = wide(sides[j]);
+        if t == 0 {
             return j / 6;
         }
+        degree[t] += 1;
         j += 1;
+        top[t] = j as u16;
     }
     n / 6
 }

@@ -1,22 +1,24 @@
 // The grid check: cells, edges, counts and starts of a grid; the calls that open a grid and set a count.
 ghost use mathlib.Core.Path.{_≡_};
 ghost use mathlib.Core.Bool.{false};
-ghost use Prim.Native.Nat.{_*_, _<_};
+ghost use Prim.Native.Nat.{_*_, _<_, _≤_};
 ghost use lib.ListN.{length};
-ghost use Rattle.grid.specs.Grid.{gridOf, cellCount, built};
-ghost use Rattle.grid.specs.Rows.{gridAnswer};
+ghost use Rattle.grid.specs.Grid.{gridOf, mostCells, cellCount, built};
+ghost use Rattle.grid.specs.Rows.{gridAnswer, repeats};
+ghost use Rattle.counting.specs.Search.{first};
 ghost use Rattle.grid.specs.Check.{checkNumbers};
 ghost use Rattle.grid.specs.Shared.{capped};
 ghost use Rattle.grid.specs.Tables.{Laid};
 ghost use Rattle.grid.specs.Opening.{openAnswer, openStarts};
 ghost use Rattle.grid.specs.Setting.{setAnswer, setCounts, setStarts};
-ghost use Rattle.grid.specs.Work.{Table, listedAt, answerFrom, answerWith, Celling, Edging, Linkable, Blank, Worked, WhereAccepted, Changeable, Changed};
-use keys::BUCKETS;
+ghost use Rattle.grid.specs.Work.{RisingCells, Early, Table, listedAt, answerFrom, answerWith, Celling, Numbering, CellTables, EdgeTables, Edging, Siding, Using, Linkable, Blank, Worked, WhereAccepted, Changeable, Changed};
+ghost use Rattle.grid.specs.Walks.{ChainTables, LowChains, Comparable, Fresh};
 
 mod cells;
 mod edges;
-mod keys;
 mod links;
+mod numbering;
+mod runs;
 mod shared;
 mod tables;
 
@@ -32,6 +34,15 @@ pub use slots::MOST_EDGES;
 pub use slots::MOST_SLOTS;
 
 const TOO_MANY: u32 = MOST_CROSSINGS + 1;
+
+const NODES: usize = HIGHEST_NODE + 1;
+
+// So many cells have small tables, with so many slots and edges.
+const FEW_CELLS: usize = 64;
+
+const FEW_SLOTS: usize = 4 * FEW_CELLS;
+
+const FEW_EDGES: usize = 6 * FEW_CELLS;
 
 // The number of crossings, or the number and the place of a refusal.
 pub enum Checked {
@@ -68,14 +79,15 @@ fn last_rows(
     edges: &[u16],
     counts: &[u16],
     near: &[u16],
-    keys: &[usize],
-    head: &[u16],
-    next: &[u16],
+    sides: &[u16],
+    top: &[u16],
+    degree: &[u16],
+    marks: &mut [u16],
 ) -> Checked
-    requires { ⌜ Linkable (built (now cells) (now edges) (now counts)) (now near) (now keys) (now head) (now next) ⌝ }
+    requires { ⌜ Linkable (built (now cells) (now edges) (now counts)) (now near) (now sides) (now top) (now degree) (now marks) ⌝ }
     ensures { λ r. ⌜ checkNumbers r ≡ answerFrom 9 (built (now (cells .entry)) (now (edges .entry)) (now (counts .entry))) ⌝ }
 {
-    let p9 = links::row_9(cells, edges, counts, near, keys, head, next);
+    let p9 = links::row_9(cells, edges, counts, near, sides, top, degree, marks);
     if p9 < counts.len() {
         return Checked::Refused(9, p9);
     }
@@ -86,33 +98,58 @@ fn last_rows(
     Checked::Crossings(s)
 }
 
-// Rows 7 and 8, and those after them. Keeps 136 KB on the stack.
+// Row 8, and those after it, where every edge of a cell is listed.
+fn used_rows(
+    cells: &[u16],
+    edges: &[u16],
+    counts: &[u16],
+    near: &[u16],
+    sides: &[u16],
+    top: &[u16],
+    degree: &[u16],
+    marks: &mut [u16],
+) -> Checked
+    requires { ⌜ Using (built (now cells) (now edges) (now counts)) (now near) (now sides) (now top) (now degree) (now marks) ⌝ }
+    ensures { λ r. ⌜ checkNumbers r ≡ answerFrom 8 (built (now (cells .entry)) (now (edges .entry)) (now (counts .entry))) ⌝ }
+    ensures { λ r. ⌜ WhereAccepted r (Table (listedAt (built (now (cells .entry)) (now (edges .entry)) (now (counts .entry)))) (6 * cellCount (now (cells .entry))) (now (sides .entry))) ⌝ }
+{
+    let p8 = edges::row_8(cells, edges, counts, sides, top);
+    if p8 < counts.len() {
+        return Checked::Refused(8, p8);
+    }
+    last_rows(cells, edges, counts, near, sides, top, degree, marks)
+}
+
+// Rows 7 and 8, and those after them.
 fn side_rows(
     cells: &[u16],
     edges: &[u16],
     counts: &[u16],
     near: &[u16],
-    sides: &mut [usize],
+    ranks: &[u16],
+    h0: &[u16],
+    x0: &[u16],
+    h1: &[u16],
+    x1: &[u16],
+    h2: &[u16],
+    x2: &[u16],
+    tab: &mut [u16],
+    top: &mut [u16],
+    degree: &mut [u16],
+    marks: &mut [u16],
+    sides: &mut [u16],
 ) -> Checked
-    requires { ⌜ Edging (built (now cells) (now edges) (now counts)) (now near) (now sides) ⌝ }
+    requires { ⌜ Siding (built (now cells) (now edges) (now counts)) (now near) (now ranks) (now h0) (now x0) (now h1) (now x1) (now h2) (now x2) (now tab) (now top) (now degree) (now marks) (now sides) ⌝ }
     ensures { λ r. ⌜ checkNumbers r ≡ answerFrom 7 (built (now (cells .entry)) (now (edges .entry)) (now (counts .entry))) ⌝ }
     ensures { λ r. ⌜ WhereAccepted r (Table (listedAt (built (now (cells .entry)) (now (edges .entry)) (now (counts .entry)))) (6 * cellCount (now (cells .entry))) (now (sides .exit))) ⌝ }
 {
-    let n = cells.len() / 4;
-    let mut keys = [0usize; MOST_EDGES];
-    let mut head = [0u16; BUCKETS];
-    let mut next = [0u16; MOST_EDGES];
-    edges::side_keys(cells, &mut keys);
-    keys::chain(&keys, 6 * n, &mut head, &mut next);
-    let p8 = edges::row_8(cells, edges, counts, &keys, &head, &next, sides);
-    let p7 = edges::row_7(cells, sides);
-    if p7 < n {
+    let m = counts.len();
+    runs::place_sides(cells, edges, m, ranks, h0, x0, h1, x1, h2, x2, tab, sides);
+    let p7 = edges::row_7(cells, sides, top, degree);
+    if p7 < cells.len() / 4 {
         return Checked::Refused(7, p7);
     }
-    if p8 < counts.len() {
-        return Checked::Refused(8, p8);
-    }
-    last_rows(cells, edges, counts, near, &keys, &head, &next)
+    used_rows(cells, edges, counts, near, sides, top, degree, marks)
 }
 
 // Rows 6 and 18, and those after them.
@@ -121,9 +158,20 @@ fn edge_rows(
     edges: &[u16],
     counts: &[u16],
     near: &[u16],
-    sides: &mut [usize],
+    ranks: &[u16],
+    h0: &[u16],
+    x0: &[u16],
+    h1: &[u16],
+    x1: &[u16],
+    h2: &[u16],
+    x2: &[u16],
+    tab: &mut [u16],
+    top: &mut [u16],
+    degree: &mut [u16],
+    marks: &mut [u16],
+    sides: &mut [u16],
 ) -> Checked
-    requires { ⌜ Edging (built (now cells) (now edges) (now counts)) (now near) (now sides) ⌝ }
+    requires { ⌜ Edging (built (now cells) (now edges) (now counts)) (now near) (now ranks) (now h0) (now x0) (now h1) (now x1) (now h2) (now x2) (now tab) (now top) (now degree) (now marks) (now sides) ⌝ }
     ensures { λ r. ⌜ checkNumbers r ≡ answerFrom 6 (built (now (cells .entry)) (now (edges .entry)) (now (counts .entry))) ⌝ }
     ensures { λ r. ⌜ WhereAccepted r (Table (listedAt (built (now (cells .entry)) (now (edges .entry)) (now (counts .entry)))) (6 * cellCount (now (cells .entry))) (now (sides .exit))) ⌝ }
 {
@@ -135,16 +183,262 @@ fn edge_rows(
     if p18 < counts.len() {
         return Checked::Refused(18, p18);
     }
-    side_rows(cells, edges, counts, near, sides)
+    side_rows(
+        cells,
+        edges,
+        counts,
+        near,
+        ranks,
+        h0,
+        x0,
+        h1,
+        x1,
+        h2,
+        x2,
+        tab,
+        top,
+        degree,
+        marks,
+        sides,
+    )
 }
 
-// Rows 3, 4 and 5, and those after them.
+// Row 4 by the cells' numbers.
+fn crowded_row_4(
+    cells: &[u16],
+    many: usize,
+    h0: &[u16],
+    x0: &[u16],
+    faces: &[u16],
+    at: &mut [u16],
+    same: &mut [u16],
+) -> usize
+    requires { ⌜ LowChains (now cells) many (now h0) (now x0) ⌝ }
+    requires { ⌜ Comparable (now cells) (now faces) (now at) (now same) ⌝ }
+    ensures { λ r. ⌜ r ≡ first (repeats (now (cells .entry))) (cellCount (now (cells .entry))) ⌝ }
+{
+    numbering::number_cells(cells, many, h0, x0, faces, at, same);
+    numbering::clear(at);
+    cells::first_same(cells, same, at)
+}
+
+// Rows 4 and 5: row 4's place; the number of cells more than row 5's, where row 4 has none; twice the number of cells where both have none, and then near
+// has the neighbours. Only where row 5 has a place, the cells are numbered for row 4.
+fn early_rows(
+    cells: &[u16],
+    many: usize,
+    h0: &[u16],
+    x0: &[u16],
+    faces: &[u16],
+    at: &mut [u16],
+    same: &mut [u16],
+    near: &mut [u16],
+) -> usize
+    requires { ⌜ RisingCells (now cells) ⌝ }
+    requires { ⌜ LowChains (now cells) many (now h0) (now x0) ⌝ }
+    requires { ⌜ Comparable (now cells) (now faces) (now at) (now same) ⌝ }
+    requires { ⌜ Fresh (4 * cellCount (now cells)) (now near) ⌝ }
+    ensures { λ r. ⌜ Early (now (cells .entry)) r (now (near .exit)) ⌝ }
+{
+    let n = cells.len() / 4;
+    numbering::clear(at);
+    let p5 = cells::row_5(cells, faces, at, near);
+    if n <= p5 {
+        let p4 = cells::row_4(cells, near);
+        if p4 < n {
+            return p4;
+        }
+        return 2 * n;
+    }
+    let q4 = crowded_row_4(cells, many, h0, x0, faces, at, same);
+    if q4 < n {
+        return q4;
+    }
+    n + p5
+}
+
+// Rows 4 and 5, and those after them. The tables are new and have room for the cells.
+fn table_rows(
+    cells: &[u16],
+    edges: &[u16],
+    counts: &[u16],
+    near: &mut [u16],
+    sides: &mut [u16],
+    labels: &mut [u16],
+    ranks: &mut [u16],
+    h0: &mut [u16],
+    x0: &mut [u16],
+    h1: &mut [u16],
+    x1: &mut [u16],
+    h2: &mut [u16],
+    x2: &mut [u16],
+    at: &mut [u16],
+    faces: &mut [u16],
+    same: &mut [u16],
+    tab: &mut [u16],
+    top: &mut [u16],
+    degree: &mut [u16],
+    marks: &mut [u16],
+) -> Checked
+    requires { ⌜ Numbering (built (now cells) (now edges) (now counts)) (now near) (now sides) ⌝ }
+    requires { ⌜ CellTables (cellCount (now cells)) (now labels) (now ranks) (now at) (now faces) (now same) ⌝ }
+    requires { ⌜ ChainTables (cellCount (now cells)) (now h0) (now x0) (now h1) (now x1) (now h2) (now x2) ⌝ }
+    requires { ⌜ EdgeTables (cellCount (now cells)) (now tab) (now top) (now degree) (now marks) ⌝ }
+    ensures { λ r. ⌜ checkNumbers r ≡ answerFrom 4 (built (now (cells .entry)) (now (edges .entry)) (now (counts .entry))) ⌝ }
+    ensures { λ r. ⌜ WhereAccepted r (Worked (built (now (cells .entry)) (now (edges .entry)) (now (counts .entry))) (now (near .exit)) (now (sides .exit))) ⌝ }
+{
+    let n = cells.len() / 4;
+    let many = numbering::number_faces(
+        cells,
+        labels,
+        ranks,
+        h0,
+        x0,
+        h1,
+        x1,
+        h2,
+        x2,
+        at,
+        faces,
+        same,
+    );
+    let p = early_rows(cells, many, h0, x0, faces, at, same, near);
+    if p < n {
+        return Checked::Refused(4, p);
+    }
+    if p < 2 * n {
+        return Checked::Refused(5, p - n);
+    }
+    edge_rows(
+        cells,
+        edges,
+        counts,
+        near,
+        ranks,
+        h0,
+        x0,
+        h1,
+        x1,
+        h2,
+        x2,
+        tab,
+        top,
+        degree,
+        marks,
+        sides,
+    )
+}
+
+// The same with tables for 64 cells.
+fn few_rows(
+    cells: &[u16],
+    edges: &[u16],
+    counts: &[u16],
+    near: &mut [u16],
+    sides: &mut [u16],
+) -> Checked
+    requires { ⌜ cellCount (now cells) ≤ 64 ⌝ }
+    requires { ⌜ Numbering (built (now cells) (now edges) (now counts)) (now near) (now sides) ⌝ }
+    ensures { λ r. ⌜ checkNumbers r ≡ answerFrom 4 (built (now (cells .entry)) (now (edges .entry)) (now (counts .entry))) ⌝ }
+    ensures { λ r. ⌜ WhereAccepted r (Worked (built (now (cells .entry)) (now (edges .entry)) (now (counts .entry))) (now (near .exit)) (now (sides .exit))) ⌝ }
+{
+    let mut labels = [0u16; FEW_SLOTS];
+    let mut ranks = [0u16; NODES];
+    let mut h0 = [0u16; FEW_SLOTS + 1];
+    let mut x0 = [0u16; FEW_CELLS];
+    let mut h1 = [0u16; FEW_SLOTS + 1];
+    let mut x1 = [0u16; FEW_CELLS];
+    let mut h2 = [0u16; FEW_SLOTS + 1];
+    let mut x2 = [0u16; FEW_CELLS];
+    let mut at = [0u16; FEW_SLOTS + 1];
+    let mut faces = [0u16; FEW_SLOTS];
+    let mut same = [0u16; FEW_SLOTS];
+    let mut tab = [0u16; NODES];
+    let mut top = [0u16; FEW_EDGES + 2];
+    let mut degree = [0u16; FEW_EDGES + 2];
+    let mut marks = [0u16; FEW_CELLS];
+    table_rows(
+        cells,
+        edges,
+        counts,
+        near,
+        sides,
+        &mut labels,
+        &mut ranks,
+        &mut h0,
+        &mut x0,
+        &mut h1,
+        &mut x1,
+        &mut h2,
+        &mut x2,
+        &mut at,
+        &mut faces,
+        &mut same,
+        &mut tab,
+        &mut top,
+        &mut degree,
+        &mut marks,
+    )
+}
+
+// The same with tables for 2,048 cells.
+fn many_rows(
+    cells: &[u16],
+    edges: &[u16],
+    counts: &[u16],
+    near: &mut [u16],
+    sides: &mut [u16],
+) -> Checked
+    requires { ⌜ Numbering (built (now cells) (now edges) (now counts)) (now near) (now sides) ⌝ }
+    ensures { λ r. ⌜ checkNumbers r ≡ answerFrom 4 (built (now (cells .entry)) (now (edges .entry)) (now (counts .entry))) ⌝ }
+    ensures { λ r. ⌜ WhereAccepted r (Worked (built (now (cells .entry)) (now (edges .entry)) (now (counts .entry))) (now (near .exit)) (now (sides .exit))) ⌝ }
+{
+    let mut labels = [0u16; MOST_SLOTS];
+    let mut ranks = [0u16; NODES];
+    let mut h0 = [0u16; MOST_SLOTS + 1];
+    let mut x0 = [0u16; MOST_CELLS];
+    let mut h1 = [0u16; MOST_SLOTS + 1];
+    let mut x1 = [0u16; MOST_CELLS];
+    let mut h2 = [0u16; MOST_SLOTS + 1];
+    let mut x2 = [0u16; MOST_CELLS];
+    let mut at = [0u16; MOST_SLOTS + 1];
+    let mut faces = [0u16; MOST_SLOTS];
+    let mut same = [0u16; MOST_SLOTS];
+    let mut tab = [0u16; NODES];
+    let mut top = [0u16; MOST_EDGES + 2];
+    let mut degree = [0u16; MOST_EDGES + 2];
+    let mut marks = [0u16; MOST_CELLS];
+    table_rows(
+        cells,
+        edges,
+        counts,
+        near,
+        sides,
+        &mut labels,
+        &mut ranks,
+        &mut h0,
+        &mut x0,
+        &mut h1,
+        &mut x1,
+        &mut h2,
+        &mut x2,
+        &mut at,
+        &mut faces,
+        &mut same,
+        &mut tab,
+        &mut top,
+        &mut degree,
+        &mut marks,
+    )
+}
+
+// Row 3, and those after it.
 fn cell_rows(
     cells: &[u16],
     edges: &[u16],
     counts: &[u16],
     near: &mut [u16],
-    sides: &mut [usize],
+    sides: &mut [u16],
 ) -> Checked
     requires { ⌜ Celling (built (now cells) (now edges) (now counts)) (now near) (now sides) ⌝ }
     ensures { λ r. ⌜ checkNumbers r ≡ answerFrom 3 (built (now (cells .entry)) (now (edges .entry)) (now (counts .entry))) ⌝ }
@@ -155,15 +449,10 @@ fn cell_rows(
     if p3 < n {
         return Checked::Refused(3, p3);
     }
-    let p4 = cells::row_4(cells);
-    if p4 < n {
-        return Checked::Refused(4, p4);
+    if n <= FEW_CELLS {
+        return few_rows(cells, edges, counts, near, sides);
     }
-    let p5 = cells::row_5(cells, near);
-    if p5 < n {
-        return Checked::Refused(5, p5);
-    }
-    edge_rows(cells, edges, counts, near, sides)
+    many_rows(cells, edges, counts, near, sides)
 }
 
 // All rows, where `wrong` is row 2's verdict. Where the grid is accepted, near has the neighbours and sides the edges of the cells.
@@ -173,10 +462,10 @@ fn all_rows(
     counts: &[u16],
     wrong: bool,
     near: &mut [u16],
-    sides: &mut [usize],
+    sides: &mut [u16],
 ) -> Checked
     requires { ⌜ (wrong ≡ false → length (now edges) ≡ 2 * length (now counts)) ⌝ }
-    requires { ⌜ Blank (now near) (now sides) ⌝ }
+    requires { ⌜ (cellCount (now cells) ≤ mostCells → Blank (cellCount (now cells)) (now near) (now sides)) ⌝ }
     ensures { λ r. ⌜ checkNumbers r ≡ answerWith wrong (built (now (cells .entry)) (now (edges .entry)) (now (counts .entry))) ⌝ }
     ensures { λ r. ⌜ WhereAccepted r (Worked (built (now (cells .entry)) (now (edges .entry)) (now (counts .entry))) (now (near .exit)) (now (sides .exit))) ⌝ }
 {
@@ -189,14 +478,27 @@ fn all_rows(
     cell_rows(cells, edges, counts, near, sides)
 }
 
-// The grid check. Keeps 264 KB on the stack, with what its functions keep.
+// All rows, with tables of their own: few for few cells.
+fn judge(cells: &[u16], edges: &[u16], counts: &[u16], wrong: bool) -> Checked
+    requires { ⌜ (wrong ≡ false → length (now edges) ≡ 2 * length (now counts)) ⌝ }
+    ensures { λ r. ⌜ checkNumbers r ≡ answerWith wrong (built (now (cells .entry)) (now (edges .entry)) (now (counts .entry))) ⌝ }
+{
+    if cells.len() / 4 <= FEW_CELLS {
+        let mut near = [0u16; FEW_SLOTS];
+        let mut sides = [0u16; FEW_EDGES];
+        return all_rows(cells, edges, counts, wrong, &mut near, &mut sides);
+    }
+    let mut near = [0u16; MOST_SLOTS];
+    let mut sides = [0u16; MOST_EDGES];
+    all_rows(cells, edges, counts, wrong, &mut near, &mut sides)
+}
+
+// The grid check, in time linear in the cells and the listed edges. Keeps 233 KB on the stack, with what its functions keep.
 pub fn check(cells: &[u16], edges: &[u16], counts: &[u16], starts: &[u32]) -> Checked
     ensures { λ r. ⌜ checkNumbers r ≡ gridAnswer (gridOf (now (cells .entry)) (now (edges .entry)) (now (counts .entry)) (now (starts .entry))) ⌝ }
 {
     let wrong = edges::row_2(edges, counts, starts);
-    let mut near = [0u16; MOST_SLOTS];
-    let mut sides = [0usize; MOST_EDGES];
-    all_rows(cells, edges, counts, wrong, &mut near, &mut sides)
+    judge(cells, edges, counts, wrong)
 }
 
 // The grid check, and where it accepts, the tables of the grid: the name of face 4 c + s of the cells, and the place in the list of edge k of cell c
@@ -215,7 +517,7 @@ pub fn lay(
     let n = cells.len() / 4;
     let wrong = edges::row_2(edges, counts, starts);
     let mut across = [0u16; MOST_SLOTS];
-    let mut listed = [0usize; MOST_EDGES];
+    let mut listed = [0u16; MOST_EDGES];
     let r = all_rows(cells, edges, counts, wrong, &mut across, &mut listed);
     if let Checked::Refused(_, _) = r {
         return r;
@@ -231,9 +533,7 @@ pub fn open(cells: &[u16], edges: &[u16], counts: &[u16], starts: &mut [u32]) ->
     ensures { λ _. ⌜ now (starts .exit) ≡ openStarts (gridOf (now (cells .entry)) (now (edges .entry)) (now (counts .entry)) (now (starts .entry))) ⌝ }
 {
     let wrong = edges::bad_numbers(edges, counts, starts);
-    let mut near = [0u16; MOST_SLOTS];
-    let mut sides = [0usize; MOST_EDGES];
-    let r = all_rows(cells, edges, counts, wrong, &mut near, &mut sides);
+    let r = judge(cells, edges, counts, wrong);
     if let Checked::Refused(_, _) = r {
         return r;
     }

@@ -7,12 +7,8 @@ ghost use Rattle.counting.specs.Search.{first, some};
 ghost use Rattle.slots.specs.Slots.{rankIn, otherSlot, secondSlot};
 ghost use Rattle.grid.specs.Grid.{built};
 ghost use Rattle.grid.specs.Rows.{split};
-ghost use Rattle.grid.specs.Work.{OnSlot, Spreadable, Spreads, missing, Leaving, Reached, Splitting, Linkable};
-use crate::MOST_CELLS;
-use crate::edges::edge_key;
-use crate::keys::earlier;
-use crate::keys::latest;
-use crate::keys::wide;
+ghost use Rattle.grid.specs.Work.{OnSlot, Spreadable, Spreads, missing, Reached, Splitting, Linkable};
+use crate::numbering::wide;
 use slots::position;
 
 // The lower of the two slots that contain edge k.
@@ -55,12 +51,13 @@ fn rank_of(s: usize, i: usize) -> usize
     i - 1
 }
 
-// Marks the cells of an edge that are met across slot `start`, and across the other side of each cell met, until there is none or a marked one.
-// The edge is told by the rank in the slot of the node that is no end of it: a face has its nodes in the same order in both its cells.
-fn spread(near: &[u16], n: usize, mark: usize, start: usize, rank: usize, marks: &mut [usize])
+// Marks the cells of an edge that are met across slot `start`, and across the other side of each cell met, until there is none or a marked one. Answers how
+// many. The edge is told by the rank in the slot of the node that is no end of it: a face has its nodes in the same order in both its cells.
+fn spread(near: &[u16], n: usize, mark: u16, start: usize, rank: usize, marks: &mut [u16]) -> usize
     requires { ⌜ Spreadable (now near) n start rank (now marks) ⌝ }
-    ensures { λ _. ⌜ Spreads (now (near .entry)) n mark start rank (now (marks .entry)) (now (marks .exit)) ⌝ }
+    ensures { λ r. ⌜ Spreads (now (near .entry)) n mark start rank (now (marks .entry)) r (now (marks .exit)) ⌝ }
 {
+    let mut met = 0;
     let mut r = rank;
     let mut p = wide(near[start]);
     while 0 < p {
@@ -68,86 +65,72 @@ fn spread(near: &[u16], n: usize, mark: usize, start: usize, rank: usize, marks:
         let c = x / 4;
         let t = x % 4;
         if marks[c] == mark {
-            return;
+            return met;
         }
         marks[c] = mark;
+        met += 1;
         let s = position(t, r);
         r = rank_of(s, t);
         p = wide(near[4 * c + s]);
     }
+    met
 }
 
-// Whether a place with this key, of which top - 1 is the last, has its cell unmarked.
-fn left_out(
-    keys: &[usize],
-    next: &[u16],
-    n: usize,
-    key: usize,
-    mark: usize,
-    top: usize,
-    marks: &[usize],
-) -> bool
-    requires { ⌜ Leaving (now keys) (now next) n key top (now marks) ⌝ }
-    ensures { λ r. ⌜ r ≡ some (missing (now (keys .entry)) key (now (marks .entry)) mark) (6 * n) ⌝ }
-{
-    let mut j = top;
-    while 0 < j {
-        let x = j - 1;
-        if marks[x / 6] != mark {
-            return true;
-        }
-        j = earlier(keys, next, 6 * n, x);
-    }
-    false
-}
-
-// Whether a cell of the edge with this key is not linked to its last, whose place is top - 1. No cell has the mark before.
+// Whether a cell of the edge with this number in sides is not linked to its last, whose place is top - 1; degree cells have it. The number is the mark, and
+// no cell has it before.
 fn split_at(
-    keys: &[usize],
-    next: &[u16],
+    sides: &[u16],
     near: &[u16],
     n: usize,
-    key: usize,
-    mark: usize,
+    key: u16,
     top: usize,
-    marks: &mut [usize],
+    degree: usize,
+    marks: &mut [u16],
 ) -> bool
-    requires { ⌜ Splitting (now keys) (now next) (now near) n key mark top (now marks) ⌝ }
-    ensures { λ _. ⌜ Reached (now (keys .entry)) (now (near .entry)) n key mark ((top - 1) / 6) (now (marks .entry)) (now (marks .exit)) ⌝ }
-    ensures { λ r. ⌜ r ≡ some (missing (now (keys .entry)) key (now (marks .exit)) mark) (6 * n) ⌝ }
+    requires { ⌜ Splitting (now sides) (now near) n key top degree (now marks) ⌝ }
+    ensures { λ _. ⌜ Reached (now (sides .entry)) (now (near .entry)) n key key ((top - 1) / 6) (now (marks .entry)) (now (marks .exit)) ⌝ }
+    ensures { λ r. ⌜ r ≡ some (missing (now (sides .entry)) key (now (marks .exit)) key) (6 * n) ⌝ }
 {
     let x = top - 1;
     let c = x / 6;
     let k = x % 6;
-    marks[c] = mark;
+    marks[c] = key;
     let s = lower_slot(k);
     let t = other_side(k, s);
-    spread(near, n, mark, 4 * c + s, rank_of(s, t), marks);
-    spread(near, n, mark, 4 * c + t, rank_of(t, s), marks);
-    left_out(keys, next, n, key, mark, top, marks)
+    let a = spread(near, n, key, 4 * c + s, rank_of(s, t), marks);
+    if 1 + a == degree {
+        return false;
+    }
+    let b = spread(near, n, key, 4 * c + t, rank_of(t, s), marks);
+    1 + a + b != degree
 }
 
-// The lowest edge whose cells are not all linked; the number of edges where there is none. Keeps 16 KB on the stack.
+// The lowest edge whose cells are not all linked; the number of edges where there is none.
 pub(crate) fn row_9(
     cells: &[u16],
     edges: &[u16],
     counts: &[u16],
     near: &[u16],
-    keys: &[usize],
-    head: &[u16],
-    next: &[u16],
+    sides: &[u16],
+    top: &[u16],
+    degree: &[u16],
+    marks: &mut [u16],
 ) -> usize
-    requires { ⌜ Linkable (built (now cells) (now edges) (now counts)) (now near) (now keys) (now head) (now next) ⌝ }
+    requires { ⌜ Linkable (built (now cells) (now edges) (now counts)) (now near) (now sides) (now top) (now degree) (now marks) ⌝ }
     ensures { λ r. ⌜ r ≡ first (split (built (now (cells .entry)) (now (edges .entry)) (now (counts .entry)))) (length (now (counts .entry))) ⌝ }
 {
     let n = cells.len() / 4;
     let m = counts.len();
-    let mut marks = [0usize; MOST_CELLS];
     let mut e = 0;
     while e < m {
-        let key = edge_key(edges, e);
-        let top = latest(keys, head, next, 6 * n, key);
-        if split_at(keys, next, near, n, key, e + 1, top, &mut marks) {
+        let key = e + 1;
+        let t = wide(top[key]);
+        let d = wide(degree[key]);
+        if d == 1 {
+            e += 1;
+            continue;
+        }
+        if split_at(sides, near, n, key as u16, t, d, marks) {
             return e;
         }
         e += 1;

@@ -5,7 +5,7 @@ ghost use lib.ListN.{length, getD};
 ghost use Rattle.counting.specs.Stored.{filled};
 ghost use Rattle.grid.specs.Grid.{start};
 ghost use Rattle.grid.specs.Work.{Copying, Lowering, Starting, lowerPlace};
-use crate::keys::wide;
+use crate::numbering::wide;
 use crate::size;
 
 // The lower of place j and the place that x is one more than; j where x is 0.
@@ -34,14 +34,14 @@ pub(crate) fn write_names(n: usize, across: &[u16], names: &mut [u16])
     }
 }
 
-pub(crate) fn write_sides(n: usize, listed: &[usize], sides: &mut [u16])
+pub(crate) fn write_sides(n: usize, listed: &[u16], sides: &mut [u16])
     requires { ⌜ Lowering n (now listed) (now sides) ⌝ }
     ensures { λ _. ⌜ now (sides .exit) ≡ filled (λ j. getD (now (listed .entry)) j 0 - 1) n (now (sides .entry)) ⌝ }
 {
     let mut j = 0;
     while j < n {
         let x = listed[j];
-        sides[j] = (x - 1) as u16;
+        sides[j] = x - 1;
         j += 1;
     }
 }

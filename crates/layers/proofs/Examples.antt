@@ -23,7 +23,7 @@ use Rattle.booking.specs.Booking.{median, cornerOn, leastCorner, leftBetween, l
 use Rattle.booking.specs.Figures.{areSpiral, areSplit, figureIn, figure}
 use Rattle.split.specs.Labels.{remainsTo, labelled, label, spoke}
 use Rattle.split.specs.SubCell.{restStart, armStart, innerName, subAt, sub}
-use Rattle.split.specs.Parts.{parts, allParts, ownCorners, drawnTriangles, splitsOf}
+use Rattle.split.specs.Parts.{parts, allParts, ownCorners, drawnParts, drawnTriangles, splitsOf}
 use Rattle.split.specs.Examples.{of, loneCell, oneSplit}
 use Rattle.grid.specs.Grid.{faceNode, sameFace, hasFace, faceName, joins, isEdge, hasEdge, edgeNumber, start, startsOf}
 use Rattle.answer.specs.Rows as rows
@@ -44,7 +44,7 @@ unfolding seek first last some every count rise total over kept tally gather pre
     cell.ahead cell.base cell.holds cell.edge cell.index cell.answerAt cell.joinAt cell.joinedTo cell.mate cell.slot cell.step
     loop.loopSize loop.dart loop.loopDarts loop.folded loop.normal loop.inGrid
     triangle.numberOf triangle.segmentOf triangle.point triangle.segment triangle.triangle triangle.loopTriangles triangle.cellTriangles
-    cornerWords words joining cornerFrom isLevelCell median cornerOn leastCorner leftBetween larger smaller isSpiral isSplit areSpiral areSplit figureIn figure drawnTriangles splitsOf
+    cornerWords words joining cornerFrom isLevelCell median cornerOn leastCorner leftBetween larger smaller isSpiral isSplit areSpiral areSplit figureIn figure drawnParts drawnTriangles splitsOf
     faceNode sameFace hasFace faceName joins isEdge hasEdge edgeNumber start startsOf
     badLength badNumbers badStart badLists badCell sameCell repeats crowded isAfter badEdge badCount unlisted unused linked reached split tooMany rows rows.orRefuse rows.answerOf gridAnswer
     gridCell meshTriangles meshSplits roomAnswer keepInner inRun runNumbers runEdges runCounts crossingInWhole faceInWhole intoWhole runTriangles runRenamed
@@ -61,7 +61,7 @@ unfolding seek first last some every count rise total over kept tally gather pre
     triangle.numberOf triangle.segmentOf triangle.point triangle.segment triangle.triangle triangle.loopTriangles triangle.cellTriangles
     cornerWords words joining cornerFrom isLevelCell median cornerOn leastCorner leftBetween larger smaller
     figureIn figure areSpiral areSplit isSpiral isSplit remainsTo labelled label spoke
-    restStart armStart innerName subAt sub parts allParts ownCorners drawnTriangles splitsOf
+    restStart armStart innerName subAt sub parts allParts ownCorners triangle.trianglesWith triangle.askedTriangles drawnParts drawnTriangles splitsOf
     faceNode sameFace hasFace faceName joins isEdge hasEdge edgeNumber start startsOf
     badLength badNumbers badStart badLists badCell sameCell repeats crowded isAfter badEdge badCount unlisted unused linked reached split tooMany rows rows.orRefuse rows.answerOf gridAnswer
     gridCell meshTriangles meshSplits roomAnswer inRun runNumbers runEdges runCounts runTriangles

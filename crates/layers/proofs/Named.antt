@@ -21,7 +21,7 @@ use Rattle.cell.specs.Cell.{crossings, slot}
 use Rattle.cell.specs.Of.{countOf, edgesOf}
 use Rattle.cell.specs.Loop.{loopSize, dart, normal}
 use Rattle.cell.specs.Nodes.{joining}
-use Rattle.cell.specs.Triangles.{triangle, numberOf, segmentOf, point, segment, loopTriangles, cellTriangles}
+use Rattle.cell.specs.Triangles.{triangle, numberOf, segmentOf, point, segment, loopTriangles, cellTriangles, askedTriangles, trianglesWith}
 use Rattle.cell.specs.Words.{noName}
 use Rattle.booking.specs.Booking.{median, leftBetween, larger, smaller, isSpiral, isSplit}
 use Rattle.grid.specs.Grid.{faceName}
@@ -29,11 +29,8 @@ use Rattle.grid.proofs.Names.{name-lt}
 use Rattle.split.specs.Limits.{firstInnerCrossing, firstInnerFace, wordStep}
 use Rattle.split.specs.Labels.{label, labelled}
 use Rattle.split.specs.SubCell.{innerName, subAt, sub}
-use Rattle.split.specs.Parts.{Part, whole, corners, splitsWithin, parts, allParts, ownCorners, partTriangles}
-use Rattle.split.specs.Owned.{drawnParts}
-use Rattle.split.specs.Claims.{partCell}
-use Rattle.split.proofs.Parts.{in-order, stop, more}
-use Rattle.split.proofs.Grid.{drawn-whole, drawn-all}
+use Rattle.split.specs.Parts.{Part, whole, corners, splitsWithin, parts, allParts, ownCorners, partTriangles, partCell, drawnParts}
+use Rattle.split.proofs.Parts.{in-order, stop, more, drawn-whole, drawn-all}
 use Rattle.split.proofs.Owners.{drawn-gathered}
 use Rattle.mesh.specs.Mesh.{gridCell}
 use Rattle.layers.specs.Words.{FaceNamed, Named, DrawnNamed}
@@ -67,7 +64,7 @@ module _ (c : Cell) (L : Low c) where
   cell-named = all-over Named (loopTriangles c) (crossings (edgesOf c)) 0 (λ p _ _. loop-named p)
 
   corners-named : All Named (ownCorners c)
-  unfolding ownCorners All
+  unfolding ownCorners trianglesWith askedTriangles All
   corners-named = all-over Named (λ p. pick (eqb (loopSize (edgesOf c) p) 3) (loopTriangles c p) []) (crossings (edgesOf c)) 0 (λ p _ _. go p (eqb (loopSize (edgesOf c) p) 3))
     where
       go : (p : ℕ) (x : Bool) → All Named (pick x (loopTriangles c p) [])

@@ -21,18 +21,16 @@ use Rattle.cell.specs.Cell.{crossings}
 use Rattle.cell.specs.Of.{countOf, edgesOf}
 use Rattle.cell.specs.Level.{isLevelCell}
 use Rattle.cell.specs.Loop.{loopSize, normal}
-use Rattle.cell.specs.Triangles.{triangle, numberOf, segmentOf, point, segment, loopTriangles, cellTriangles}
+use Rattle.cell.specs.Triangles.{triangle, numberOf, segmentOf, point, segment, loopTriangles, cellTriangles, askedTriangles, trianglesWith}
 use Rattle.cell.specs.Renaming.{Renaming, RenamedCell, renamedSide, renamed}
 use Rattle.cell.proofs.Renaming.{cells-renamed}
 use Rattle.booking.specs.Booking.{larger, smaller, isSpiral, isSplit}
 use Rattle.split.specs.Limits.{firstInnerCrossing, firstInnerFace, wordStep}
 use Rattle.split.specs.SubCell.{sub}
-use Rattle.split.specs.Parts.{Part, whole, corners, splitsWithin, parts, allParts, ownCorners, partTriangles}
-use Rattle.split.specs.Owned.{drawnParts}
+use Rattle.split.specs.Parts.{Part, whole, corners, splitsWithin, parts, allParts, ownCorners, partTriangles, drawnParts}
 use Rattle.split.proofs.Labels.{spiral-is}
 use Rattle.split.proofs.SubNumbers.{subCells}
-use Rattle.split.proofs.Parts.{stop, more}
-use Rattle.split.proofs.Grid.{drawn-whole, drawn-all}
+use Rattle.split.proofs.Parts.{stop, more, drawn-whole, drawn-all}
 use Rattle.split.proofs.Owners.{drawn-gathered}
 use Rattle.layers.specs.Renaming.{keepInner, OuterNames, RenamedPart, RenamedParts, PartsRenamed, DrawnRenamed}
 use Rattle.layers.proofs.Renaming.{Below, outer-cell, sub-below, sub-renamed}
@@ -173,7 +171,7 @@ module _ (c : Cell) where
       go false false q = fanned (loopSize (edgesOf c) p) (triangleOf (triangle (c .index) (numberOf c p)) (point c p) Middle (segment c p) Inner (loopSize (edgesOf c) p) fan) (λ k. refl)
 
   own-plain : ownCorners c ≡ gather plain (cellTriangles c)
-  unfolding ownCorners cellTriangles
+  unfolding ownCorners trianglesWith askedTriangles cellTriangles
   own-plain =
       sym (gather-over plain (loopTriangles c) (crossings (edgesOf c)) 0
       ∙ over-ext (λ p. gather plain (loopTriangles c p)) (λ p. pick (eqb (loopSize (edgesOf c) p) 3) (loopTriangles c p) []) (crossings (edgesOf c)) 0 (λ p _ _. loop-plain p))

@@ -9,8 +9,7 @@ use Rattle.cell.specs.declared.Cell.{Cell}
 use Rattle.cell.specs.Of.{countOf, startOf}
 use Rattle.cell.specs.Renaming.{Renaming, RenamedCell, renamed}
 use Rattle.split.specs.Limits.{firstInnerCrossing, firstInnerFace, wordStep}
-use Rattle.split.specs.Parts.{Part, whole, corners, drawnTriangles}
-use Rattle.split.specs.Owned.{drawnParts}
+use Rattle.split.specs.Parts.{Part, whole, corners, drawnTriangles, drawnParts}
 
 -- r for outer crossings and faces; inner ones keep their numbers and names. Word 0 changes in the number of its cell, not in that of the sub-cell
 unfoldable pub keepInner : Renaming → Renaming

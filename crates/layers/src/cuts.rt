@@ -6,12 +6,7 @@ ghost use Rattle.counting.specs.Search.{first};
 ghost use Rattle.layers.specs.Cuts.{runStart, runEnd, runSize, badCut};
 ghost use Rattle.layers.specs.Work.{RunOfCuts};
 use super::Span;
-
-pub(crate) fn wide(x: u16) -> usize
-    ensures { λ r. ⌜ r ≡ x ⌝ }
-{
-    x as usize
-}
+use counting::wide16;
 
 // The lowest cut that row 25 refuses for a grid of n cells; how many cuts there are where it refuses none.
 pub(crate) fn first_bad(cuts: &[u16], n: usize) -> usize
@@ -20,7 +15,7 @@ pub(crate) fn first_bad(cuts: &[u16], n: usize) -> usize
     let mut before: usize = 0;
     let mut i: usize = 0;
     while i < cuts.len() {
-        let cut = wide(cuts[i]);
+        let cut = wide16(cuts[i]);
         if cut <= before {
             return i;
         }
@@ -41,7 +36,7 @@ fn start_of(cuts: &[u16], r: usize) -> usize
     if r == 0 {
         return 0;
     }
-    wide(cuts[r - 1])
+    wide16(cuts[r - 1])
 }
 
 fn end_of(cuts: &[u16], n: usize, r: usize) -> usize
@@ -49,7 +44,7 @@ fn end_of(cuts: &[u16], n: usize, r: usize) -> usize
     ensures { λ s. ⌜ s ≡ runEnd n (now (cuts .entry)) r ⌝ }
 {
     if r < cuts.len() {
-        return wide(cuts[r]);
+        return wide16(cuts[r]);
     }
     n
 }

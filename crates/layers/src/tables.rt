@@ -1,6 +1,6 @@
 // The tables of a run of cells, from those of the whole grid.
 ghost use mathlib.Core.Path.{_≡_};
-ghost use Prim.Native.Nat.{_+_, _*_, _-_, _≤_, min};
+ghost use Prim.Native.Nat.{_+_, _*_, _-_, _≤_};
 ghost use lib.Dec.{eqb, leb};
 ghost use lib.ListN.{length};
 ghost use Rattle.counting.specs.Pick.{pick};
@@ -10,7 +10,8 @@ ghost use Rattle.counting.specs.Stored.{filled};
 ghost use Rattle.layers.specs.Work.{nameFrom, sideFrom, Moving, EdgesMarking, EdgesMarked, Adding, StartsSumming, StartsSummed, markedStart, Layable, Copied, Started};
 ghost use Rattle.grid.specs.Grid.{mostCells};
 use super::Span;
-use super::cuts::wide;
+use counting::least;
+use counting::wide16;
 use grid::MOST_EDGES;
 use grid::MOST_SLOTS;
 
@@ -31,7 +32,7 @@ fn write_names(names: &[u16], from: usize, n: usize, own: &mut [u16])
 {
     let mut j: usize = 0;
     while j < n {
-        let x = wide(names[4 * from + j]);
+        let x = wide16(names[4 * from + j]);
         own[j] = from_base(4 * from, x, j) as u16;
         j += 1;
     }
@@ -61,7 +62,7 @@ fn mark(sides: &[u16], from: usize, n: usize, m: u16, used: &mut [u16])
 {
     let mut j: usize = 0;
     while j < n {
-        let e = wide(sides[6 * from + j]);
+        let e = wide16(sides[6 * from + j]);
         used[e] = m;
         used[MOST_EDGES + e / BLOCK] = m;
         j += 1;
@@ -100,12 +101,6 @@ fn add_block(
         e += 1;
     }
     sum
-}
-
-fn least(x: usize, y: usize) -> usize
-    ensures { λ r. ⌜ r ≡ min x y ⌝ }
-{
-    if x < y { x } else { y }
 }
 
 // The starts of the edges that are marked with m, among themselves. Blocks without such an edge are passed over.

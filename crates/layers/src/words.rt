@@ -8,9 +8,11 @@ ghost use Rattle.cell.specs.Words.{wordCount};
 ghost use Rattle.grid.specs.Grid.{mostCells};
 ghost use Rattle.layers.specs.Work.{Leading, CrossingsNumbered, mostNumbers, crossingOver, faceOver, cellOver, tableOver, wordOver, triangleOver, trianglesOver};
 use super::Span;
-use super::cuts::wide;
 use cell::NO_NAME;
 use cell::WORD_COUNT;
+use counting::wide16;
+use counting::wide32;
+use counting::word16;
 use grid::MOST_CELLS;
 use grid::MOST_EDGES;
 use grid::MOST_SLOTS;
@@ -19,12 +21,6 @@ use split::FIRST_FACE;
 
 // The numbers that crossings of a grid may have: inner ones start there.
 pub(crate) const CROSSINGS: usize = FIRST_CROSSING as usize;
-
-fn index(x: u32) -> usize
-    ensures { λ r. ⌜ r ≡ x ⌝ }
-{
-    x as usize
-}
 
 // The crossings of an edge that has n: those that the run numbers from `own` on are the whole's from `first` on.
 fn number_edge(own: usize, first: usize, n: usize, over: &mut [u16])
@@ -54,21 +50,15 @@ pub(crate) fn number_sides(
     let n = 6 * run.size;
     let mut j: usize = 0;
     while j < n {
-        let e = wide(sides[6 * run.from + j]);
+        let e = wide16(sides[6 * run.from + j]);
         number_edge(
-            index(own_starts[e]),
-            index(starts[e]),
-            wide(counts[e]),
+            wide32(own_starts[e]),
+            wide32(starts[e]),
+            wide16(counts[e]),
             over,
         );
         j += 1;
     }
-}
-
-fn word(x: u16) -> u32
-    ensures { λ r. ⌜ (r ≡ x) × (r ≤ 65535) ⌝ }
-{
-    x as u32
 }
 
 // A crossing, a face and word 0 of a run, whose first cell is `from`, in the names of the whole. Inner ones stay.
@@ -78,7 +68,7 @@ fn crossing_over(over: &[u16; CROSSINGS], g: u32) -> u32
     if FIRST_CROSSING <= g {
         return g;
     }
-    word(over[g as usize])
+    word16(over[g as usize])
 }
 
 fn face_over(names: &[u16; MOST_SLOTS], from: usize, f: u32) -> u32
@@ -88,14 +78,14 @@ fn face_over(names: &[u16; MOST_SLOTS], from: usize, f: u32) -> u32
     if FIRST_FACE <= f {
         return f;
     }
-    word(names[(4 * from + index(f)) % MOST_SLOTS])
+    word16(names[(4 * from + wide32(f)) % MOST_SLOTS])
 }
 
 fn cell_over(from: usize, w: u32) -> u32
     requires { ⌜ from ≤ mostCells ⌝ }
     ensures { λ r. ⌜ r ≡ cellOver from w ⌝ }
 {
-    let c = index(w);
+    let c = wide32(w);
     ((from + c % MOST_CELLS) % MOST_CELLS + c / MOST_CELLS * MOST_CELLS) as u32
 }
 

@@ -23,7 +23,7 @@ use Rattle.cell.specs.Nodes.{joining, cornerFrom}
 use Rattle.cell.specs.Level.{isLevelCell}
 use Rattle.booking.specs.Booking.{median, cornerOn, leastCorner, leftBetween, larger, smaller, isSplit}
 use Rattle.booking.specs.Figures.{areSpiral, areSplit}
-use Rattle.split.specs.Parts.{drawnTriangles, splitsOf}
+use Rattle.split.specs.Parts.{drawnParts, drawnTriangles, splitsOf}
 use Rattle.mesh.specs.Mesh.{gridCell, meshTriangles, meshSplits, meshWords}
 use Rattle.mesh.specs.Room.{roomAnswer}
 use Rattle.mesh.specs.Answer.{meshAnswer}
@@ -44,7 +44,7 @@ unfolding seek first last some every count total over tally pre row col divides 
     faceNode sameFace hasFace faceName joins isEdge hasEdge edgeNumber start startsOf
     badLength badNumbers badStart badLists badCell sameCell repeats crowded isAfter badEdge badCount unlisted unused linked reached split tooMany rows orRefuse answerOf gridAnswer
     triangle.numberOf triangle.segmentOf triangle.point triangle.segment triangle.triangle triangle.loopTriangles triangle.cellTriangles
-    joining cornerFrom isLevelCell median cornerOn leastCorner leftBetween larger smaller isSplit areSpiral areSplit drawnTriangles splitsOf
+    joining cornerFrom isLevelCell median cornerOn leastCorner leftBetween larger smaller isSplit areSpiral areSplit drawnParts drawnTriangles splitsOf
     cornerWords words gather gridCell meshTriangles meshSplits meshWords roomAnswer meshAnswer
     bytes.lengthOf bytes.kindAt bytes.nextRecord bytes.countAt bytes.mayHave bytes.isRecord bytes.bodyStart bytes.bodySize bytes.body
     bundle.sectionOf bundle.isOf bundle.recordStart bundle.run bundle.cells bundle.edgesFrom bundle.edges bundle.looksFrom bundle.looks bundle.stop bundle.samePair bundle.isFor bundle.isStray bundle.firstStray

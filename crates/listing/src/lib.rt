@@ -82,7 +82,7 @@ fn list_grid(
     }
 }
 
-// Puts the listing of any bytes at the front of the area, and answers how many bytes it has. Keeps 58 KB on the stack, besides what `list_grid` keeps.
+// Puts the listing of any bytes at the front of the area, and answers how many bytes it has. Keeps 57 KB on the stack, besides what `list_grid` keeps.
 pub fn list(bytes: &[u8], out: &mut [u8; ROOM]) -> usize
     ensures { λ r. ⌜ Listed (now (bytes .entry)) (now (out .entry)) (now (out .exit)) r ⌝ }
 {

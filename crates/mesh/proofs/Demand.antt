@@ -41,9 +41,9 @@ use Rattle.grid.proofs.Claims.{accepted-is}
 use Rattle.grid.proofs.Sound.{edge-numbers}
 use Rattle.grid.proofs.Accepts.{acceptance-yields}
 use Rattle.split.specs.Limits.{firstInnerCrossing, firstInnerFace}
-use Rattle.split.specs.Parts.{Part, whole, drawnTriangles}
-use Rattle.split.specs.Claims.{partLocal, noPart, partCell}
-use Rattle.split.specs.Owned.{owned, ownedSide, ownedTri, ofCell, drawnParts, partCount, partAt, gridComplex, GridLaws}
+use Rattle.split.specs.Parts.{Part, whole, drawnTriangles, noPart, partCell, drawnParts}
+use Rattle.split.specs.Claims.{partLocal}
+use Rattle.split.specs.Owned.{owned, ownedSide, ownedTri, ofCell, partCount, partAt, gridComplex, GridLaws}
 use Rattle.split.proofs.Grid.{owned-ge, ready-of}
 use Rattle.split.proofs.Claims.{sidesCounted, curvesCounted, gridSplit, gridMeshed, drawnOwned}
 use Rattle.mesh.specs.Mesh.{gridCell, meshTriangles}

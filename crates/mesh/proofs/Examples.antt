@@ -27,7 +27,7 @@ use Rattle.booking.specs.Booking.{median, cornerOn, leastCorner, leftBetween, l
 use Rattle.booking.specs.Figures.{areSpiral, areSplit, figureIn, figure}
 use Rattle.split.specs.Labels.{remainsTo, labelled, label, spoke}
 use Rattle.split.specs.SubCell.{restStart, armStart, innerName, subAt, sub}
-use Rattle.split.specs.Parts.{parts, allParts, ownCorners, drawnTriangles, splitsOf}
+use Rattle.split.specs.Parts.{parts, allParts, ownCorners, drawnParts, drawnTriangles, splitsOf}
 use Rattle.split.specs.Owned.{owned}
 use Rattle.split.specs.Examples.{loneCell, of, oneSplit}
 use Rattle.counting.specs.Stored.{storedIn}
@@ -48,7 +48,7 @@ unfolding seek first last some every count rise joinOf segments unjoinedCount is
     badLength badNumbers badStart badLists badCell sameCell repeats crowded isAfter badEdge badCount unlisted unused linked reached split tooMany rows rows.orRefuse rows.answerOf gridAnswer
     triangle.numberOf triangle.segmentOf triangle.point triangle.segment triangle.triangle triangle.loopTriangles triangle.cellTriangles
     joining cornerFrom isLevelCell median cornerOn leastCorner leftBetween larger smaller isSpiral isSplit areSpiral areSplit figureIn figure
-    remainsTo labelled label spoke restStart armStart innerName subAt sub parts allParts ownCorners drawnTriangles splitsOf owned loneCell of oneSplit
+    remainsTo labelled label spoke restStart armStart innerName subAt sub parts allParts ownCorners triangle.trianglesWith triangle.askedTriangles drawnParts drawnTriangles splitsOf owned loneCell of oneSplit
     cornerWords words gather nthAnswer gridCell meshTriangles meshSplits meshWords roomAnswer storedIn askedLoop meshAnswer meshArea loopsAnswer
     faceAnswers leastsOf gridLoops loopPoints gridPoints sidesOf different tallies computed examples
 examples-hold = refl

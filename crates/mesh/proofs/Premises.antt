@@ -34,7 +34,7 @@ use Rattle.booking.specs.Booking.{median, cornerOn, leastCorner, leftBetween, l
 use Rattle.booking.specs.Figures.{areSpiral, areSplit, figureIn, figure}
 use Rattle.split.specs.Labels.{remainsTo, labelled, label, spoke}
 use Rattle.split.specs.SubCell.{restStart, armStart, innerName, subAt, sub}
-use Rattle.split.specs.Parts.{parts, allParts, ownCorners, drawnTriangles, splitsOf}
+use Rattle.split.specs.Parts.{parts, allParts, ownCorners, drawnParts, drawnTriangles, splitsOf}
 use Rattle.mesh.specs.Mesh.{gridCell, meshTriangles, meshSplits}
 use Rattle.mesh.specs.Demand.{faceCount, RingPremises}
 use Rattle.mesh.specs.Claims.{RingsHappen}
@@ -87,7 +87,7 @@ unfolding every some count seek first last isLevel total over tally gather pre r
     faceNode sameFace faceName joins isEdge edgeNumber start
     triangle.numberOf triangle.segmentOf triangle.point triangle.segment triangle.triangle triangle.loopTriangles triangle.cellTriangles
     joining cornerFrom isLevelCell median cornerOn leastCorner leftBetween larger smaller isSpiral isSplit areSpiral areSplit figureIn figure
-    remainsTo labelled label spoke restStart armStart innerName subAt sub parts allParts ownCorners drawnTriangles splitsOf
+    remainsTo labelled label spoke restStart armStart innerName subAt sub parts allParts ownCorners triangle.trianglesWith triangle.askedTriangles drawnParts drawnTriangles splitsOf
     gridCell meshTriangles meshSplits
 drawn = (refl, refl)
 

@@ -29,7 +29,8 @@ use Rattle.cases.specs.Cases.{entries}
 use Rattle.cases.specs.Answer.{findEntry}
 use Rattle.cases.specs.Tally.{trianglesAt}
 use Rattle.booking.specs.Booking.{isSplit, bookedSplit}
-use Rattle.split.specs.Claims.{mostSplits, SplitSides, CurveSides, partLocal, noPart, partCell}
+use Rattle.split.specs.Parts.{noPart, partCell}
+use Rattle.split.specs.Claims.{mostSplits, SplitSides, CurveSides, partLocal}
 use Rattle.split.specs.Owned.{ofCell}
 use Rattle.split.specs.Limits.{firstInnerCrossing, firstInnerFace}
 use Rattle.mesh.specs.declared.Meshed.{Meshed}
@@ -84,8 +85,9 @@ abbrev pub pieceOf : Grid → (c x : ℕ) → Local
 pieceOf G c x = ofCell c (partLocal (getD (partsOf G c) x noPart))
 
 -- Of the mesh of an accepted grid, without the premises of the rings (02, W12). Each segment of the four faces of a cell, split or not, is in exactly one of
--- the cell's triangles if its curve closes there, and else in none. In a split cell all curves close. A side of a triangle that lies within its cell is in
--- exactly two triangles of the mesh; and no segment of an inner face is left out: wherever a crossing is joined on one, two triangles have the segment
+-- the cell's triangles if its curve closes there, and else in none; the walk along it tells which. In a split cell all curves close. A side of a triangle
+-- that lies within its cell is in exactly two triangles of the mesh; and no segment of an inner face is left out: wherever a crossing is joined on one, two
+-- triangles have the segment
 pub record InsideLaws (G : Grid) : Type 0 where
   pub curves : (c : ℕ) → c < cellCount (G .cells) → CurveSides (gridCell G c)
   pub one : (c : ℕ) → c < cellCount (G .cells) → isSplit (countOf (gridCell G c)) ≡ true → SplitSides (gridCell G c)

@@ -25,9 +25,8 @@ use Rattle.grid.specs.Rows.{gridAnswer}
 use Rattle.booking.specs.Booking.{larger, smaller, isSplit}
 use Rattle.booking.specs.Figures.{innerCrossings}
 use Rattle.split.specs.Limits.{firstInnerCrossing}
-use Rattle.split.specs.Parts.{Part, whole}
-use Rattle.split.specs.Claims.{noPart, partCell}
-use Rattle.split.specs.Owned.{ownedCorner, drawnParts}
+use Rattle.split.specs.Parts.{Part, whole, noPart, partCell, drawnParts}
+use Rattle.split.specs.Owned.{ownedCorner}
 use Rattle.mesh.specs.Mesh.{gridCell, meshTriangles}
 use Rattle.mesh.specs.Names.{meshCorner, meshSide, hasMeshSide}
 

@@ -8,7 +8,7 @@ ghost use Rattle.grid.specs.Grid.{crossings};
 ghost use Rattle.place.specs.Place.{coordinates, allNumbers};
 ghost use Rattle.places.specs.Points.{crossingPlace};
 ghost use Rattle.places.specs.Work.{onEdge, Fitting, Placeable};
-use super::rows::wide;
+use counting::wide16;
 use place::Place;
 
 // Writes the places of n crossings between u and v, the first of which has the number g.
@@ -39,9 +39,9 @@ pub(crate) fn place_crossings(
     let mut g = 0;
     let mut e = 0;
     while e < counts.len() {
-        let u = place::load(nodes, wide(edges[2 * e]));
-        let v = place::load(nodes, wide(edges[2 * e + 1]));
-        let n = wide(counts[e]);
+        let u = place::load(nodes, wide16(edges[2 * e]));
+        let v = place::load(nodes, wide16(edges[2 * e + 1]));
+        let n = wide16(counts[e]);
         place_edge(u, v, fractions, area, n, g);
         g += n;
         e += 1;

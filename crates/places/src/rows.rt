@@ -10,14 +10,8 @@ ghost use Rattle.places.specs.Answer.{placesNumbers, rowsAnswer};
 ghost use Rattle.places.specs.Work.{Markable, NodesMarked, isMarked, badMarked, Reaching, Judgeable, mostPoints};
 use super::Placed;
 use super::is_proper;
+use counting::wide16;
 use grid::HIGHEST_NODE;
-
-// A node's number, or the count of an edge.
-pub(crate) fn wide(x: u16) -> usize
-    ensures { λ r. ⌜ r ≡ x ⌝ }
-{
-    x as usize
-}
 
 // Marks the nodes of the cells.
 pub(crate) fn mark(cells: &[u16], used: &mut [u8])
@@ -26,7 +20,7 @@ pub(crate) fn mark(cells: &[u16], used: &mut [u8])
 {
     let mut j = 0;
     while j < cells.len() {
-        let v = wide(cells[j]);
+        let v = wide16(cells[j]);
         used[v] = 1;
         j += 1;
     }
@@ -112,7 +106,7 @@ pub(crate) fn row_17(counts: &[u16], fractions: &[f64]) -> usize
     let mut g = 0;
     let mut e = 0;
     while e < counts.len() {
-        let n = wide(counts[e]);
+        let n = wide16(counts[e]);
         let i = bad_on_edge(fractions, g, n);
         if i < n {
             return g + i;

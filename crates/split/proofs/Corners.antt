@@ -29,7 +29,7 @@ use Rattle.cell.specs.declared.Cell.{Cell}
 use Rattle.cell.specs.Cell.{Edges, crossings, step}
 use Rattle.cell.specs.Of.{countOf, edgesOf}
 use Rattle.cell.specs.Loop.{loopSize, dart, normal}
-use Rattle.cell.specs.Triangles.{numberOf, loopTriangles}
+use Rattle.cell.specs.Triangles.{numberOf, loopTriangles, askedTriangles, trianglesWith}
 use Rattle.cell.specs.Level.{isLevelCell}
 use Rattle.cell.specs.Polygons.{localOf, polygonOf, named}
 use Rattle.cell.proofs.Mates.{darts}
@@ -201,7 +201,7 @@ module _ (c : Cell) (K : isLevelCell (countOf c) ≡ true) where
       go false e = sym (none-triangle (drawnLoop p) (size-none c K p l (eqb-false (loopSize (edgesOf c) p) 3 e)))
 
   pub own-named : map named (ownCorners c) ≡ over (λ p. triangles (drawnLoop p)) (crossings (edgesOf c)) 0
-  unfolding ownCorners
+  unfolding ownCorners trianglesWith askedTriangles
   own-named =
       map-over named (λ p. pick (eqb (loopSize (edgesOf c) p) 3) (loopTriangles c p) []) (crossings (edgesOf c)) 0
       ∙ over-ext (λ p. map named (pick (eqb (loopSize (edgesOf c) p) 3) (loopTriangles c p) [])) (λ p. triangles (drawnLoop p)) (crossings (edgesOf c)) 0 (λ p a h. loop-drawn p (omega arith))

@@ -14,7 +14,7 @@ use Rattle.walk.specs.Step as steps
 use Rattle.walk.specs.Walk as walk
 use Rattle.cell.specs.Cell.{ahead, base, holds, edge, index, answerAt, joinAt, joinedTo, mate, slot, step}
 use Rattle.cell.specs.Loop.{loopSize, dart, loopDarts, folded, normal, inGrid, leasts}
-use Rattle.cell.specs.Triangles.{triangle, numberOf, segmentOf, point, segment, loopTriangles, cellTriangles, manyFrom, triangleCount}
+use Rattle.cell.specs.Triangles.{triangle, numberOf, segmentOf, point, segment, loopTriangles, cellTriangles, manyFrom, triangleCount, askedTriangles, trianglesWith}
 use Rattle.cell.specs.Words.{cornerWords, words}
 use Rattle.cell.specs.Nodes.{joining, cornerFrom}
 use Rattle.cell.specs.Level.{isLevelCell}
@@ -22,7 +22,7 @@ use Rattle.booking.specs.Booking.{median, cornerOn, leastCorner, leftBetween, l
 use Rattle.booking.specs.Figures.{areSpiral, areSplit, figureIn, figure}
 use Rattle.split.specs.Labels.{remainsTo, labelled, label, spoke}
 use Rattle.split.specs.SubCell.{restStart, armStart, innerName, subCounts, subAt, sub}
-use Rattle.split.specs.Parts.{parts, allParts, ownCorners, drawnTriangles, splitsOf}
+use Rattle.split.specs.Parts.{parts, allParts, ownCorners, drawnParts, drawnTriangles, splitsOf}
 use Rattle.split.specs.Counted.{loopsCount, ownCount, partsCount, drawnCount}
 use Rattle.split.specs.Examples.{loneCell, of, computed, unsplit, unsplitComputed, counted, figures, examples, ExamplesHold, oneSplit, oneSplitTurned, twoSplits, twoSplitsTurned, threeSplits}
 
@@ -35,7 +35,7 @@ unfolding seek first last every total over tally gather pre divides gcd
     triangle numberOf segmentOf point segment loopTriangles cellTriangles cornerWords words
     joining cornerFrom isLevelCell median cornerOn leastCorner leftBetween larger smaller
     figureIn figure areSpiral areSplit isSpiral isSplit remainsTo labelled label spoke
-    restStart armStart innerName subAt sub parts allParts ownCorners drawnTriangles splitsOf
+    restStart armStart innerName subAt sub parts allParts ownCorners trianglesWith askedTriangles drawnParts drawnTriangles splitsOf
     loneCell of computed oneSplit
 one-is = refl
 
@@ -48,7 +48,7 @@ unfolding seek first last every total over tally gather pre divides gcd
     triangle numberOf segmentOf point segment loopTriangles cellTriangles cornerWords words
     joining cornerFrom isLevelCell median cornerOn leastCorner leftBetween larger smaller
     figureIn figure areSpiral areSplit isSpiral isSplit remainsTo labelled label spoke
-    restStart armStart innerName subAt sub parts allParts ownCorners drawnTriangles splitsOf
+    restStart armStart innerName subAt sub parts allParts ownCorners trianglesWith askedTriangles drawnParts drawnTriangles splitsOf
     loneCell of computed oneSplitTurned
 one-turned-is = refl
 
@@ -61,7 +61,7 @@ unfolding seek first last every total over tally gather pre divides gcd
     triangle numberOf segmentOf point segment loopTriangles cellTriangles cornerWords words
     joining cornerFrom isLevelCell median cornerOn leastCorner leftBetween larger smaller
     figureIn figure areSpiral areSplit isSpiral isSplit remainsTo labelled label spoke
-    restStart armStart innerName subAt sub parts allParts ownCorners drawnTriangles splitsOf
+    restStart armStart innerName subAt sub parts allParts ownCorners trianglesWith askedTriangles drawnParts drawnTriangles splitsOf
     loneCell of computed twoSplits
 two-is = refl
 
@@ -74,7 +74,7 @@ unfolding seek first last every total over tally gather pre divides gcd
     triangle numberOf segmentOf point segment loopTriangles cellTriangles cornerWords words
     joining cornerFrom isLevelCell median cornerOn leastCorner leftBetween larger smaller
     figureIn figure areSpiral areSplit isSpiral isSplit remainsTo labelled label spoke
-    restStart armStart innerName subAt sub parts allParts ownCorners drawnTriangles splitsOf
+    restStart armStart innerName subAt sub parts allParts ownCorners trianglesWith askedTriangles drawnParts drawnTriangles splitsOf
     loneCell of computed twoSplitsTurned
 two-turned-is = refl
 
@@ -87,7 +87,7 @@ unfolding seek first last every total over tally gather pre divides gcd
     triangle numberOf segmentOf point segment loopTriangles cellTriangles cornerWords words
     joining cornerFrom isLevelCell median cornerOn leastCorner leftBetween larger smaller
     figureIn figure areSpiral areSplit isSpiral isSplit remainsTo labelled label spoke
-    restStart armStart innerName subAt sub parts allParts ownCorners drawnTriangles splitsOf
+    restStart armStart innerName subAt sub parts allParts ownCorners trianglesWith askedTriangles drawnParts drawnTriangles splitsOf
     loneCell of computed threeSplits
 three-is = refl
 
@@ -100,7 +100,7 @@ unfolding seek first last every total over tally gather pre divides gcd
     triangle numberOf segmentOf point segment loopTriangles cellTriangles cornerWords words
     joining cornerFrom isLevelCell median cornerOn leastCorner leftBetween larger smaller
     figureIn figure areSpiral areSplit isSpiral isSplit remainsTo labelled label spoke
-    restStart armStart innerName subAt sub parts allParts ownCorners drawnTriangles splitsOf
+    restStart armStart innerName subAt sub parts allParts ownCorners trianglesWith askedTriangles drawnParts drawnTriangles splitsOf
     loneCell unsplit unsplitComputed
 not-split = refl
 

@@ -2,7 +2,6 @@
 use Prim.Native.Nat.{ℕ, _+_, _-_, _*_, _≤_, _<_}
 use mathlib.Core.Path.{_≡_, refl, sym, ap, ap₂, _∙_, subst}
 use mathlib.Core.Bool.{Bool, true, false}
-use mathlib.Core.List.{[], _∷_}
 use native.Mathlib.Omega.{arith}
 use native.Mathlib.Decide.{decLt}
 use lib.ListN.{length, getD}
@@ -20,11 +19,12 @@ use Rattle.cell.proofs.Lay.{lay}
 use Rattle.cell.proofs.Polygons as polygons
 use Rattle.booking.specs.Booking.{larger, smaller, isSplit}
 use Rattle.split.specs.Limits.{firstInnerCrossing, firstInnerFace}
-use Rattle.split.specs.Parts.{whole, allParts}
+use Rattle.split.specs.Parts.{allParts, noPart, drawnParts}
 use Rattle.split.specs.Five.{nameOf, FirmBelow}
-use Rattle.split.specs.Claims.{partLocal, noPart, RefinedBy}
-use Rattle.split.specs.Owned.{owned, drawnParts, Fit, CellsRefined}
+use Rattle.split.specs.Claims.{partLocal, RefinedBy}
+use Rattle.split.specs.Owned.{owned, Fit, CellsRefined}
 use Rattle.split.proofs.Lengths.{split-is}
+use Rattle.split.proofs.Parts.{drawn-whole, drawn-all}
 use Rattle.split.proofs.Whole.{leaf, partsRefine}
 use Rattle.split.proofs.Owned.{Rises, refines-renamed}
 
@@ -53,15 +53,6 @@ module _ (first : ℕ) where
 
   pub owned-cell : (c b x y : ℕ) → c < mostCells → b < mostCells → first ≤ x → first ≤ y → owned first c x ≡ owned first b y → c ≡ b
   owned-cell c b x y lc lb hx hy e = omega (arith, owned-inner c x hx, owned-inner b y hy, e)
-
--- the drawn parts by the test
-pub drawn-whole : (c : Cell) → isSplit (countOf c) ≡ false → drawnParts c ≡ whole c ∷ []
-unfolding drawnParts
-drawn-whole c e = rw (e, drawnParts)
-
-pub drawn-all : (c : Cell) → isSplit (countOf c) ≡ true → drawnParts c ≡ allParts c
-unfolding drawnParts
-drawn-all c e = rw (e, drawnParts)
 
 module _ (c : Cell) (T : Fit c) where
   pub number-below : (x : ℕ) → x < crossings (edgesOf c) → numberOf c x < firstInnerCrossing

@@ -23,16 +23,16 @@ use Rattle.cell.specs.Polygons.{localOf}
 use Rattle.booking.specs.Booking.{larger, smaller, isSplit}
 use Rattle.split.specs.Limits.{firstInnerCrossing, firstInnerFace, wordStep}
 use Rattle.booking.specs.Figures.{innerCrossings}
-use Rattle.split.specs.Parts.{whole, allParts}
+use Rattle.split.specs.Parts.{whole, allParts, noPart, partCell, drawnParts}
 use Rattle.split.specs.Family.{Family, Meets, PiecesSound, Closed, PiecesLinked, fine}
 use Rattle.split.specs.Five.{nameOf}
-use Rattle.split.specs.Claims.{partLocal, noPart, partCell}
-use Rattle.split.specs.Owned.{owned, drawnParts, Fit, cellFamily, cellComplex, partCount, ownedPart, InnerFaces, InnerCrossings, gridComplex, GridLaws, GridSplit}
+use Rattle.split.specs.Claims.{partLocal}
+use Rattle.split.specs.Owned.{owned, Fit, cellFamily, cellComplex, partCount, ownedPart, InnerFaces, InnerCrossings, gridComplex, GridLaws, GridSplit}
 use Rattle.split.proofs.Lengths.{split-is}
-use Rattle.split.proofs.Parts.{partsNumbered}
+use Rattle.split.proofs.Parts.{partsNumbered, drawn-whole, drawn-all}
 use Rattle.split.proofs.Family.{fine-sound, fine-closed, fine-linked}
 use Rattle.split.proofs.Shows.{closed}
-use Rattle.split.proofs.Grid.{owned-outer, owned-rises, number-below, ready-of, drawn-whole, drawn-all, cellsRefined}
+use Rattle.split.proofs.Grid.{owned-outer, owned-rises, number-below, ready-of, cellsRefined}
 use Rattle.split.proofs.Owned.{meets-to}
 use Rattle.split.proofs.Inner.{innerNumbered}
 

@@ -26,14 +26,14 @@ use Rattle.cell.specs.Triangles.{cellTriangles}
 use Rattle.cell.specs.Polygons.{named}
 use Rattle.booking.specs.Booking.{larger, smaller, isSplit}
 use Rattle.split.specs.Limits.{firstInnerCrossing, firstInnerFace}
-use Rattle.split.specs.Parts.{whole, allParts, partTriangles, drawnTriangles}
-use Rattle.split.specs.Claims.{partLocal, noPart, partCell, partsComplex, loopIn, LevelCorners}
-use Rattle.split.specs.Owned.{owned, ownedCorner, ownedSide, ownedTri, ofCell, drawnParts, partCount, ownedPart, GridMeshed}
+use Rattle.split.specs.Parts.{whole, allParts, partTriangles, drawnTriangles, noPart, partCell, drawnParts}
+use Rattle.split.specs.Claims.{partLocal, partsComplex, loopIn, LevelCorners}
+use Rattle.split.specs.Owned.{owned, ownedCorner, ownedSide, ownedTri, ofCell, partCount, ownedPart, GridMeshed}
 use Rattle.split.proofs.Lengths.{split-is, drawn-not, whole-alone, drawn-is}
-use Rattle.split.proofs.Parts.{partsNumbered}
+use Rattle.split.proofs.Parts.{partsNumbered, drawn-whole, drawn-all}
 use Rattle.split.proofs.Meshed.{level-corners, partsMeshed}
 use Rattle.split.proofs.Owned.{rises-min}
-use Rattle.split.proofs.Grid.{owned-rises, drawn-whole, drawn-all}
+use Rattle.split.proofs.Grid.{owned-rises}
 
 -- the triangles of a loop with the names of its cell
 loop-owned : (k : ℕ) (A : Local) (tag : ℕ) (normal : ℕ → Bool) (p : ℕ) → map (ownedTri k) (triangles (loopIn A tag normal p)) ≡ triangles (loopIn (ofCell k A) tag normal p)

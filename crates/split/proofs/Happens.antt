@@ -19,10 +19,8 @@ use Rattle.walk.specs.Iterate.{it}
 use Rattle.walk.specs.Darts.{half, rev, Darts}
 use Rattle.walk.specs.Step as steps
 use Rattle.walk.specs.Walk as walk
-use Rattle.walk.proofs.Curve.{Next, on-it, on-walk}
 use Rattle.walk.proofs.Once.{listed}
 use Rattle.manifold.specs.Piece.{Local, Piece, mateOf, onward, sizeOf}
-use Rattle.manifold.specs.Complex.{Closes}
 use Rattle.manifold.proofs.Piece.{cell-darts}
 use Rattle.cell.specs.declared.Cell.{Cell}
 use Rattle.cell.specs.Cell.{crossings, ahead, base, holds, edge, index, answerAt, joinAt, joinedTo, mate}
@@ -36,6 +34,7 @@ use Rattle.split.specs.Five.{nameOf}
 use Rattle.split.specs.Examples.{loneCell}
 use Rattle.split.specs.Owned.{Fit, SplitHappens, CurvesMix}
 use Rattle.split.proofs.Grid.{piece-of}
+use Rattle.split.proofs.Curves.{closes-live}
 
 -- A cell is as is asked where the numbers of an earlier edge are lower, all are below 65,536, and its faces go by their slots
 before : Cell → ℕ → ℕ → Bool
@@ -73,13 +72,6 @@ is-split = refl
 
 pub splitHappens : SplitHappens
 splitHappens = (spiral, spiral-fit, is-split)
-
--- a walk along a curve that closes does not end
-closes-live : (A : Local) (P : Piece A) (d n : ℕ) → Closes A d → it (onward A) n d < 2 * A .N
-unfolding Next it
-closes-live A P d n (k, L) =
-    on-walk (2 * A .N) (A .N) (onward A) rev half (cell-darts A P) L n d (L .live 0 (omega arith))
-    (on-it (2 * A .N) (A .N) (onward A) rev half (cell-darts A P) L 0 (omega arith)) .0
 
 -- two curves round node 0 close, and the third, which comes to the face with an odd sum, does not
 abbrev mixed : Cell

@@ -24,10 +24,10 @@ use Rattle.split.specs.Limits.{wordStep}
 use Rattle.booking.specs.Figures.{innerCrossings}
 use Rattle.split.specs.Labels.{labelled, label, spoke}
 use Rattle.split.specs.SubCell.{armStart, subAt, sub}
-use Rattle.split.specs.Parts.{Part, whole, corners, splitsWithin, parts}
+use Rattle.split.specs.Parts.{Part, whole, corners, splitsWithin, parts, noPart}
 use Rattle.split.specs.Family.{Meets}
 use Rattle.split.specs.Five.{Firm, FirmBelow}
-use Rattle.split.specs.Claims.{partLocal, noPart, InnerNumbered}
+use Rattle.split.specs.Claims.{partLocal, InnerNumbered}
 use Rattle.booking.proofs.Figures.{figure-stop, figure-step}
 use Rattle.split.proofs.Labels.{spiral-is, labelled-lt, labelled-once, label-at}
 use Rattle.split.proofs.SubCells.{sub-omits}

@@ -18,7 +18,7 @@ use Rattle.cell.specs.declared.Cell.{Cell}
 use Rattle.cell.specs.Cell.{crossings}
 use Rattle.cell.specs.Of.{countOf, edgesOf}
 use Rattle.cell.specs.Loop.{loopSize, normal}
-use Rattle.cell.specs.Triangles.{loopTriangles, cellTriangles}
+use Rattle.cell.specs.Triangles.{loopTriangles, cellTriangles, askedTriangles, trianglesWith}
 use Rattle.cell.specs.Level.{isLevelCell}
 use Rattle.cell.proofs.Taken.{length-loop}
 use Rattle.booking.specs.Booking.{cornerTriangles, larger, smaller, beside, besideDrawn, booked, isSpiral, isSplit, bookedSplit}
@@ -33,11 +33,11 @@ use Rattle.booking.proofs.Figures.{figure-stop, figure-step, figureLaws}
 use Rattle.booking.proofs.Drawn.{beside-more}
 use Rattle.split.proofs.Labels.{spiral-is}
 use Rattle.split.proofs.SubNumbers.{subCells}
-use Rattle.split.proofs.Parts.{in-order, not-spiral, stop, more}
+use Rattle.split.proofs.Parts.{in-order, not-spiral, stop, more, drawn-whole, drawn-all}
 
 -- the own corner triangles are as many as the booking says
 pub own-count : (c : Cell) → isLevelCell (countOf c) ≡ true → length (ownCorners c) ≡ cornerTriangles (countOf c)
-unfolding ownCorners
+unfolding ownCorners trianglesWith askedTriangles
 own-count c K =
     length-over (λ p. pick (eqb (loopSize (edgesOf c) p) 3) (loopTriangles c p) []) (crossings (edgesOf c)) 0
     ∙ total-ext (λ p. length (pick (eqb (loopSize (edgesOf c) p) 3) (loopTriangles c p) [])) (λ p. one (eqb (loopSize (edgesOf c) p) 3)) (crossings (edgesOf c)) 0
@@ -150,17 +150,17 @@ split-is w e =
     let (a, b) = spiral-is w (and-left (areSpiral (larger w) (smaller w)) (ltb 1 (gcd (larger w) (smaller w))) r) in
     record { level = and-left (isLevelCell w) (areSplit (larger w) (smaller w)) e; some = a; more = b }
 
-pub drawn-not : (c : Cell) → isSplit (countOf c) ≡ false → drawnTriangles c ≡ cellTriangles c
-unfolding drawnTriangles
-drawn-not c e = rw (e, drawnTriangles)
-
 pub whole-alone : (c : Cell) → gather partTriangles (whole c ∷ []) ≡ cellTriangles c
 unfolding gather
 whole-alone c = append-nil (cellTriangles c)
 
+pub drawn-not : (c : Cell) → isSplit (countOf c) ≡ false → drawnTriangles c ≡ cellTriangles c
+unfolding drawnTriangles
+drawn-not c e = ap (gather partTriangles) (drawn-whole c e) ∙ whole-alone c
+
 pub drawn-is : (c : Cell) → isSplit (countOf c) ≡ true → drawnTriangles c ≡ gather partTriangles (allParts c)
 unfolding drawnTriangles
-drawn-is c e = rw (e, drawnTriangles)
+drawn-is c e = ap (gather partTriangles) (drawn-all c e)
 
 pub drawnCounted : DrawnCounted
 unfolding allParts

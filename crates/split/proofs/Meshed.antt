@@ -17,9 +17,9 @@ use Rattle.cell.specs.Level.{isLevelCell}
 use Rattle.cell.specs.Polygons.{localOf, named}
 use Rattle.cell.proofs.Polygons.{cell-named}
 use Rattle.split.specs.Limits.{wordStep}
-use Rattle.split.specs.Parts.{Part, whole, corners, parts, partTriangles}
+use Rattle.split.specs.Parts.{Part, whole, corners, parts, partTriangles, noPart, partCell}
 use Rattle.split.specs.Family.{PiecesSound}
-use Rattle.split.specs.Claims.{partLocal, noPart, partCell, partsComplex, loopIn, LevelCorners, PartsMeshed, PartsLawful}
+use Rattle.split.specs.Claims.{partLocal, partsComplex, loopIn, LevelCorners, PartsMeshed, PartsLawful}
 use Rattle.split.proofs.Shows.{piece}
 use Rattle.split.proofs.Compose.{parts-sound}
 use Rattle.split.proofs.Corners.{own-named}

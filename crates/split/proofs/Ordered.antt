@@ -13,14 +13,13 @@ use Rattle.cell.proofs.Claims.{ordered}
 use Rattle.booking.specs.Booking.{larger, smaller, isSpiral, isSplit}
 use Rattle.split.specs.Limits.{firstInnerCrossing, firstInnerFace, wordStep}
 use Rattle.split.specs.SubCell.{sub}
-use Rattle.split.specs.Parts.{Part, whole, splitsWithin, parts, allParts}
+use Rattle.split.specs.Parts.{Part, whole, splitsWithin, parts, allParts, noPart, partCell, drawnParts}
 use Rattle.split.specs.Five.{FirmBelow}
-use Rattle.split.specs.Claims.{noPart, partCell}
-use Rattle.split.specs.Owned.{drawnParts, Fit, DrawnOrdered}
+use Rattle.split.specs.Owned.{Fit, DrawnOrdered}
 use Rattle.split.proofs.Labels.{spiral-is}
-use Rattle.split.proofs.Parts.{stop, more as recurse}
+use Rattle.split.proofs.Parts.{stop, more as recurse, drawn-whole, drawn-all}
 use Rattle.split.proofs.Sub.{sub-ready}
-use Rattle.split.proofs.Grid.{drawn-whole, drawn-all, ready-of}
+use Rattle.split.proofs.Grid.{ready-of}
 
 -- no crossing number of a part belongs to two edges
 abbrev Apart : Part → Type 0

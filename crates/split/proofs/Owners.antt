@@ -1,6 +1,6 @@
 -- Word 0 of a drawn triangle tells its cell.
 use Prim.Native.Nat.{ℕ, zero, suc, _+_, _*_, _%_, _<_}
-use mathlib.Core.Path.{_≡_, refl, sym, ap, _∙_, subst}
+use mathlib.Core.Path.{_≡_, refl, sym, _∙_, subst}
 use mathlib.Core.Bool.{Bool, true, false}
 use mathlib.Core.List.{List, [], _∷_}
 use native.Mathlib.Omega.{arith}
@@ -16,16 +16,12 @@ use Rattle.cell.specs.declared.Triangle.{Triangle}
 use Rattle.cell.specs.declared.Corner.the-variants.{Middle}
 use Rattle.cell.specs.declared.Side.the-variants.{Inner}
 use Rattle.cell.specs.Cell.{crossings}
-use Rattle.cell.specs.Of.{countOf, edgesOf}
+use Rattle.cell.specs.Of.{edgesOf}
 use Rattle.cell.specs.Loop.{loopSize, normal}
-use Rattle.cell.specs.Triangles.{triangle, numberOf, point, segment, loopTriangles, cellTriangles}
-use Rattle.booking.specs.Booking.{isSplit}
+use Rattle.cell.specs.Triangles.{triangle, numberOf, point, segment, loopTriangles, cellTriangles, askedTriangles, trianglesWith}
 use Rattle.split.specs.Limits.{wordStep}
-use Rattle.split.specs.Parts.{Part, whole, corners, ownCorners, partTriangles, drawnTriangles}
-use Rattle.split.specs.Claims.{noPart, partCell}
-use Rattle.split.specs.Owned.{drawnParts, DrawnOwned}
-use Rattle.split.proofs.Lengths.{drawn-not, whole-alone, drawn-is}
-use Rattle.split.proofs.Grid.{drawn-whole, drawn-all}
+use Rattle.split.specs.Parts.{Part, whole, corners, ownCorners, partTriangles, drawnTriangles, noPart, partCell, drawnParts}
+use Rattle.split.specs.Owned.{DrawnOwned}
 use Rattle.split.proofs.GridLaws.{word-is}
 
 -- what holds of each entry, from what does; and of each entry of joined lists
@@ -63,7 +59,7 @@ loop-words c p =
     (shapeOf (loopSize (edgesOf c) p) (normal (edgesOf c) p))
 
 part-words : (p : Part) → All (Of (partCell p .index)) (partTriangles p)
-unfolding cellTriangles ownCorners All
+unfolding cellTriangles ownCorners trianglesWith askedTriangles All
 part-words (whole c) = all-over (Of (c .index)) (loopTriangles c) (crossings (edgesOf c)) 0 (λ p a b. loop-words c p)
 part-words (corners c) =
     all-over (Of (c .index)) (λ p. pick (eqb (loopSize (edgesOf c) p) 3) (loopTriangles c p) []) (crossings (edgesOf c)) 0 (λ p a b. go (eqb (loopSize (edgesOf c) p) 3) p)
@@ -74,11 +70,8 @@ part-words (corners c) =
 
 -- the triangles drawn of a cell are those of its drawn parts
 pub drawn-gathered : (c : Cell) → drawnTriangles c ≡ gather partTriangles (drawnParts c)
-drawn-gathered c = go (isSplit (countOf c)) refl
-  where
-    go : (s : Bool) → isSplit (countOf c) ≡ s → drawnTriangles c ≡ gather partTriangles (drawnParts c)
-    go true e = drawn-is c e ∙ ap (gather partTriangles) (sym (drawn-all c e))
-    go false e = drawn-not c e ∙ sym (whole-alone c) ∙ ap (gather partTriangles) (sym (drawn-whole c e))
+unfolding drawnTriangles
+drawn-gathered c = refl
 
 pub drawnOwned : DrawnOwned
 drawnOwned c l =

@@ -11,13 +11,13 @@ use borrow.Author.Tests.{lt-ltb, ltb-false}
 use Rattle.cell.specs.declared.Cell.{Cell}
 use Rattle.cell.specs.Of.{countOf}
 use Rattle.cell.specs.Level.{isLevelCell}
-use Rattle.booking.specs.Booking.{larger, smaller, isSpiral}
+use Rattle.booking.specs.Booking.{larger, smaller, isSpiral, isSplit}
 use Rattle.booking.proofs.Counts.{own}
 use Rattle.split.specs.Limits.{wordStep}
 use Rattle.booking.specs.Figures.{areSpiral, splits}
 use Rattle.split.specs.SubCell.{subAt, sub}
-use Rattle.split.specs.Parts.{Part, whole, corners, splitsWithin, parts}
-use Rattle.split.specs.Claims.{PartsCounted, noPart, partCell, PartsNumbered}
+use Rattle.split.specs.Parts.{Part, whole, corners, splitsWithin, parts, allParts, noPart, partCell, drawnParts}
+use Rattle.split.specs.Claims.{PartsCounted, PartsNumbered}
 use Rattle.booking.proofs.Figures.{figure-stop, figure-step}
 use Rattle.split.proofs.Labels.{spiral-is}
 use Rattle.split.proofs.SubNumbers.{subCells}
@@ -49,6 +49,15 @@ module _ (fuel cell n b f : ℕ) (c : Cell) where
       ∷ []))
   unfolding parts
   more e = rw (e, parts)
+
+-- the parts that are drawn of a cell that is not split, and of one that is
+pub drawn-whole : (c : Cell) → isSplit (countOf c) ≡ false → drawnParts c ≡ whole c ∷ []
+unfolding drawnParts
+drawn-whole c e = rw (e, drawnParts)
+
+pub drawn-all : (c : Cell) → isSplit (countOf c) ≡ true → drawnParts c ≡ allParts c
+unfolding drawnParts
+drawn-all c e = rw (e, drawnParts)
 
 pub partsCounted : PartsCounted
 partsCounted zero cell n b f c K p h = absurd (omega arith)

@@ -18,10 +18,10 @@ use Rattle.cell.specs.Of.{countOf}
 use Rattle.cell.specs.Polygons.{localOf, named}
 use Rattle.booking.specs.Booking.{larger, smaller, isSplit}
 use Rattle.split.specs.Limits.{firstInnerCrossing, firstInnerFace, wordStep}
-use Rattle.split.specs.Parts.{Part, parts, allParts, drawnTriangles}
+use Rattle.split.specs.Parts.{Part, parts, allParts, drawnTriangles, noPart}
 use Rattle.split.specs.Family.{Outer}
 use Rattle.split.specs.Five.{FirmBelow}
-use Rattle.split.specs.Claims.{noPart, partsComplex, RefinedBy, SplitSides, SidesCounted}
+use Rattle.split.specs.Claims.{partsComplex, RefinedBy, SplitSides, SidesCounted}
 use Rattle.split.proofs.Shows.{all-joined, closed}
 use Rattle.split.proofs.Parts.{partsNumbered}
 use Rattle.split.proofs.Whole.{partsRefine}

@@ -25,12 +25,12 @@ use Rattle.booking.specs.Booking.{larger, smaller, isSpiral}
 use Rattle.split.specs.Limits.{wordStep}
 use Rattle.split.specs.Labels.{labelled, label}
 use Rattle.split.specs.SubCell.{armCount, armStart, innerName, subAt, sub}
-use Rattle.split.specs.Parts.{Part, whole, corners, splitsWithin, parts}
+use Rattle.split.specs.Parts.{Part, whole, corners, splitsWithin, parts, noPart}
 use Rattle.split.specs.Family as family
 use Rattle.split.specs.Family.{Meets, Refines}
 use Rattle.split.specs.Shown.{InnerFace, InnerPoint, five, Order}
 use Rattle.split.specs.Five.{nameOf, FirmBelow, ownPiece, inside}
-use Rattle.split.specs.Claims.{partLocal, noPart, RefinedBy, PartsRefine}
+use Rattle.split.specs.Claims.{partLocal, RefinedBy, PartsRefine}
 use Rattle.split.proofs.Shows.{piece}
 use Rattle.split.proofs.Compose.{refines-ext, refines-above, self, compose}
 use Rattle.split.proofs.Labels.{spiral-is, labelled-lt, label-at, at-label}

@@ -10,7 +10,7 @@ use Rattle.cell.specs.declared.Cell.{Cell}
 use Rattle.cell.specs.Of.{countOf}
 use Rattle.cell.specs.Level.{isLevelCell}
 use Rattle.cell.specs.Words.{words, allWords}
-use Rattle.cell.specs.Triangles.{cellTriangles, askedTriangles, trianglesWith}
+use Rattle.cell.specs.Triangles.{cellTriangles, trianglesWith}
 use Rattle.cell.proofs.Taken.{with-all}
 use Rattle.booking.specs.Booking.{larger, smaller, isSpiral}
 use Rattle.split.specs.Limits.{wordStep}
@@ -23,7 +23,7 @@ use Rattle.split.proofs.Parts.{stop, more}
 
 -- the own corner triangles are those of the loops of length 3
 pub own-with : (c : Cell) → trianglesWith c 3 ≡ ownCorners c
-unfolding trianglesWith askedTriangles ownCorners
+unfolding ownCorners
 own-with c = refl
 
 -- more than enough is enough

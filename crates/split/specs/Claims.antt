@@ -3,17 +3,18 @@ use Prim.Native.Nat.{ℕ, _+_, _-_, _*_, _/_, _≤_, _<_}
 use mathlib.Core.Path.{_≡_}
 use mathlib.Core.Logic.{_⊎_, _≢_}
 use mathlib.Core.Bool.{Bool, true, false}
-use mathlib.Core.List.{List, [], map}
+use mathlib.Core.List.{List, map}
 use lib.ListN.{length, getD}
 use Rattle.counting.specs.Pick.{pick}
 use Rattle.counting.specs.Range.{total}
 use Rattle.counting.specs.Lists.{tally, gather}
 use Rattle.counting.specs.Gcd.{gcd}
+use Rattle.walk.specs.Iterate.{it}
 use Rattle.walk.specs.Darts.{half}
 use Rattle.manifold.specs.Triangle.{seg, inner}
 use Rattle.manifold.specs.Plain.{sideOf, hasSide, nth}
 use Rattle.manifold.specs.Polygon.{Polygon}
-use Rattle.manifold.specs.Piece.{Local, slotOf, lowerOf, segmentOf, dart, sizeOf}
+use Rattle.manifold.specs.Piece.{Local, slotOf, lowerOf, segmentOf, onward, dart, sizeOf}
 use Rattle.manifold.specs.Complex.{Complex, Joins, Closes, Lawful, mesh}
 use Rattle.cell.specs.declared.Cell.{Cell}
 use Rattle.cell.specs.Cell.{crossings}
@@ -30,7 +31,7 @@ use Rattle.split.specs.Limits.{firstInnerCrossing, firstInnerFace, wordS
 use Rattle.booking.specs.Figures.{nextLarger, nextSmaller, splits, innerCrossings, besideSplit}
 use Rattle.split.specs.Labels.{labelled}
 use Rattle.split.specs.SubCell.{subCounts, sub}
-use Rattle.split.specs.Parts.{Part, whole, corners, parts, partTriangles, drawnTriangles, splitsOf}
+use Rattle.split.specs.Parts.{Part, whole, corners, parts, partTriangles, drawnTriangles, splitsOf, noPart, partCell}
 use Rattle.split.specs.Counted.{drawnCount}
 use Rattle.split.specs.Family.{Meets, Refines}
 use Rattle.split.specs.Five.{ownPiece, FirmBelow}
@@ -120,18 +121,10 @@ pub record SplitsFew : Type 0 where
   pub one : (c : Cell) → splitsOf c ≤ mostSplits (countOf c)
   pub sum : (size : ℕ) (cells : ℕ → Cell) → total (λ k. splitsOf (cells k)) size 0 ≤ total (λ k. mostSplits (countOf (cells k))) size 0
 
--- a part as a piece of a complex, and what stands past the end of a list of parts
+-- a part as a piece of a complex
 abbrev pub partLocal : Part → Local
 partLocal (whole c) = localOf c
 partLocal (corners c) = ownPiece c
-
-abbrev pub noPart : Part
-noPart = whole (record { counts = []; starts = []; names = []; nodes = []; index = 0 })
-
--- the cell or sub-cell of a part
-abbrev pub partCell : Part → Cell
-partCell (whole c) = c
-partCell (corners c) = c
 
 -- Of all parts of c, the sub-cell with the number n of the cell `cell`, or the cell itself with n = 0: word 0 of part x is told by its place, so that
 -- sub-cells are numbered in the order of working and own corner triangles have the number of their cell; and only rule 1 is met in each
@@ -209,8 +202,15 @@ pub record SplitSides (c : Cell) : Type 0 where
 abbrev pub SidesCounted : Type 0
 SidesCounted = (c : Cell) → isSplit (countOf c) ≡ true → FirmBelow c firstInnerCrossing firstInnerFace → SplitSides c
 
+-- the walk from the dart d of the piece A ends, within as many steps as there are crossings
+abbrev pub WalkEnds : Local → ℕ → Type 0
+WalkEnds A d = (i : ℕ) × (i ≤ A .N) × (2 * A .N ≤ it (onward A) i d)
+
 -- The segments of the four faces of any cell, split or not (02, W12): one whose curve closes in the cell is in exactly one of the triangles that are drawn of
 -- it, whatever other curves do there; one whose curve does not close there is in none. A segment goes by either of its two darts
 pub record CurveSides (c : Cell) : Type 0 where
   pub closed : (d : ℕ) → Closes (localOf c) d → tally (hasSide (segmentOf (localOf c) d)) (map named (drawnTriangles c)) ≡ 1
   pub unclosed : (d : ℕ) → Joins (localOf c) d → (Closes (localOf c) d → ⊥) → tally (hasSide (segmentOf (localOf c) d)) (map named (drawnTriangles c)) ≡ 0
+  -- which of the two is so is decided by the walk: it comes back or it ends, and where it ends the curve does not close
+  pub decided : (d : ℕ) → Joins (localOf c) d → Closes (localOf c) d ⊎ WalkEnds (localOf c) d
+  pub ended : (d : ℕ) → WalkEnds (localOf c) d → Closes (localOf c) d → ⊥

@@ -2,8 +2,8 @@
 -- cell. Outer ones keep their numbers and names. So two are told apart as 02 says, by numbers alone.
 use Prim.Native.Nat.{ℕ, _+_, _-_, _*_, _%_, _≤_, _<_}
 use mathlib.Core.Path.{_≡_}
-use mathlib.Core.Bool.{true, false}
-use mathlib.Core.List.{List, [], _∷_, map}
+use mathlib.Core.Bool.{true}
+use mathlib.Core.List.{map}
 use lib.Dec.{ltb}
 use lib.ListN.{length, getD}
 use Rattle.counting.specs.Pick.{pick}
@@ -23,10 +23,10 @@ use Rattle.cell.specs.Polygons.{localOf, named}
 use Rattle.booking.specs.Booking.{larger, smaller, isSplit}
 use Rattle.split.specs.Limits.{firstInnerCrossing, firstInnerFace}
 use Rattle.booking.specs.Figures.{innerCrossings}
-use Rattle.split.specs.Parts.{Part, whole, allParts, drawnTriangles}
+use Rattle.split.specs.Parts.{Part, drawnTriangles, noPart, partCell, drawnParts}
 use Rattle.split.specs.Family.{Family, Refined}
 use Rattle.split.specs.Five.{nameOf}
-use Rattle.split.specs.Claims.{partLocal, noPart, partCell, CurveSides}
+use Rattle.split.specs.Claims.{partLocal, CurveSides}
 
 -- of the cell with the number `cell`, where the inner ones start at `first`
 unfoldable pub owned : (first cell : ℕ) → ℕ → ℕ
@@ -59,14 +59,6 @@ renamedPiece number name A = record {
 -- a part of a cell as a piece of the complex of all cells
 abbrev pub ofCell : ℕ → Local → Local
 ofCell cell A = renamedPiece (owned firstInnerCrossing cell) (owned firstInnerFace cell) A
-
--- the parts that are drawn of a cell of a grid: those of its split, or the cell whole
-unfoldable pub drawnParts : Cell → List Part
-drawnParts c =
-    elim (isSplit (countOf c)) [
-      | true ↦ allParts c
-      | false ↦ whole c ∷ []
-    ]
 
 -- what is asked of a cell of a grid: numbers and names tell its crossings and faces apart, and are below those of inner ones
 pub record Fit (c : Cell) : Type 0 where

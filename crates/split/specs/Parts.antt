@@ -2,16 +2,12 @@
 use Prim.Native.Nat.{ℕ, zero, suc, _+_, _*_}
 use mathlib.Core.Bool.{true, false}
 use mathlib.Core.List.{List, [], _∷_, _++_}
-use lib.Dec.{eqb}
 use Rattle.counting.specs.Pick.{pick}
-use Rattle.counting.specs.Range.{over}
 use Rattle.counting.specs.Lists.{gather}
 use Rattle.cell.specs.declared.Cell.{Cell}
 use Rattle.cell.specs.declared.Triangle.{Triangle}
-use Rattle.cell.specs.Cell.{crossings}
-use Rattle.cell.specs.Of.{countOf, edgesOf}
-use Rattle.cell.specs.Loop.{loopSize}
-use Rattle.cell.specs.Triangles.{loopTriangles, cellTriangles}
+use Rattle.cell.specs.Of.{countOf}
+use Rattle.cell.specs.Triangles.{cellTriangles, trianglesWith}
 use Rattle.booking.specs.Booking.{larger, smaller, isSpiral, isSplit}
 use Rattle.split.specs.Limits.{firstInnerCrossing, firstInnerFace, wordStep}
 use Rattle.booking.specs.Figures.{nextLarger, nextSmaller, splits}
@@ -49,19 +45,30 @@ allParts c = parts (larger (countOf c) + smaller (countOf c)) (c .index) 0 first
 
 -- the own corner triangles: those of the loops of length 3
 unfoldable pub ownCorners : Cell → List Triangle
-ownCorners c = over (λ p. pick (eqb (loopSize (edgesOf c) p) 3) (loopTriangles c p) []) (crossings (edgesOf c)) 0
+ownCorners c = trianglesWith c 3
 
 abbrev pub partTriangles : Part → List Triangle
 partTriangles (whole c) = cellTriangles c
 partTriangles (corners c) = ownCorners c
 
--- the triangles that are drawn of a cell of a grid, and the splits that are made in it
-unfoldable pub drawnTriangles : Cell → List Triangle
-drawnTriangles c =
+-- the cell or sub-cell of a part; and what is read past the end of a list of parts
+abbrev pub partCell : Part → Cell
+partCell (whole c) = c
+partCell (corners c) = c
+
+abbrev pub noPart : Part
+noPart = whole (record { counts = []; starts = []; names = []; nodes = []; index = 0 })
+
+-- the parts that are drawn of a cell of a grid: those of its split, or the cell whole; their triangles; and the splits that are made in it
+unfoldable pub drawnParts : Cell → List Part
+drawnParts c =
     elim (isSplit (countOf c)) [
-      | true ↦ gather partTriangles (allParts c)
-      | false ↦ cellTriangles c
+      | true ↦ allParts c
+      | false ↦ whole c ∷ []
     ]
+
+unfoldable pub drawnTriangles : Cell → List Triangle
+drawnTriangles c = gather partTriangles (drawnParts c)
 
 unfoldable pub splitsOf : Cell → ℕ
 splitsOf c = pick (isSplit (countOf c)) (splits (larger (countOf c)) (smaller (countOf c))) 0

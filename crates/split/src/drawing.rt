@@ -194,7 +194,7 @@ fn draw_all(
 }
 
 // Writes the words of the triangles that are drawn of all cells of the tables from the front of the area on, where they have room there, and answers how
-// many triangles and how many splits there are. No cell that is split is walked to be counted. About 183 KB of stack, and about 430 bytes for each split
+// many triangles and how many splits there are. No cell that is split is walked to be counted. About 178 KB of stack, and about 430 bytes for each split
 // that is nested in another, of which there are at most 2,044.
 pub fn draw(
     cells: &[u16],

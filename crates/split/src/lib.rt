@@ -79,7 +79,11 @@ fn put(c: Cell, only: usize, area: &mut [u32], at: usize) -> usize
     requires { ⌜ at + length (allWords (trianglesWith c only)) ≤ length (now area) ⌝ }
     ensures { λ r. ⌜ Stored (now (area .entry)) at (allWords (trianglesWith c only)) (now (area .exit)) r ⌝ }
 {
-    cell::write_loops(c, only, area, at)
+    let counts = c.counts;
+    let starts = c.starts;
+    let names = c.names;
+    let nodes = c.nodes;
+    direct::write_part(counts, starts, names, nodes, c.index, only, area, at)
 }
 
 // Word 0 of the sub-cell with the number n.

@@ -244,8 +244,8 @@ pub fn write_inner(
     i
 }
 
-// The same with the middles of all fans that are drawn, by cell, then part, then loop. Of a cell whose middles have no room, or that is not split and has
-// a middle that goes by a point not before the next, nothing is written. About 183 KB of stack, and some 880 bytes for each split that is nested in
+// Writes the middles of all fans that are drawn, by cell, then part, then loop, from point `at` of the area on, and answers the next point. Of a cell whose middles have no room, or that is not split and has
+// a middle that goes by a point not before the next, nothing is written. About 178 KB of stack, and some 880 bytes for each split that is nested in
 // another.
 pub fn write_drawn_middles(
     cells: &[u16],

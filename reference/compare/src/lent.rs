@@ -1,5 +1,7 @@
 //! Areas lent to a call, with guards on both sides.
 
+pub use citternblaze_calls::ANSWER_WORDS;
+
 /// How many guards stand on each side of an area.
 const GUARDS: usize = 4;
 
@@ -40,9 +42,6 @@ fn filler(place: usize) -> u64 {
 fn untouched(len: usize) -> Vec<u64> {
     (0..len).map(filler).collect()
 }
-
-/// What an answer area must have: CITTERNBLAZE_ANSWER_WORDS of the header.
-pub const ANSWER_WORDS: usize = 6;
 
 /// What has to stand in a lent area after a call with this answer area: what the
 /// call makes of it, or, where the answer area is too short, what was there.

@@ -1,9 +1,13 @@
 //! Comparison of the proved calls, as a C program has them, with the second
 //! implementation.
 
+pub mod areas;
+
 pub mod bundles;
 
 pub mod calls;
+
+pub mod colliding;
 
 pub mod crowded;
 
@@ -21,15 +25,7 @@ use std::env;
 use std::str::FromStr;
 use std::thread;
 
-/// The bytes of stack that suffice for any call: CITTERNBLAZE_STACK_BYTES of the
-/// header.
-fn stack_bytes() -> usize {
-    let header = include_str!("../../../include/citternblaze.h");
-    let defined = header.split_once("CITTERNBLAZE_STACK_BYTES (");
-    let (_, value) = defined.expect("its definition");
-    let (kilobytes, _) = value.split_once(" * 1024)").expect("kilobytes");
-    1024 * kilobytes.parse::<usize>().expect("a number")
-}
+use citternblaze_calls::STACK_BYTES;
 
 /// What is answered on a thread with a stack of exactly so many bytes.
 pub fn on_stack<T: Send + 'static>(bytes: usize, call: impl FnOnce() -> T + Send + 'static) -> T {
@@ -39,7 +35,7 @@ pub fn on_stack<T: Send + 'static>(bytes: usize, call: impl FnOnce() -> T + Send
 
 /// What is answered on a thread with exactly the stack that suffices for any call.
 pub fn on_header_stack<T: Send + 'static>(call: impl FnOnce() -> T + Send + 'static) -> T {
-    on_stack(stack_bytes(), call)
+    on_stack(STACK_BYTES, call)
 }
 
 /// The number that an environment variable gives, or else this one.

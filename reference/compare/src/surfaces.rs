@@ -65,6 +65,15 @@ pub fn surfaces() -> Vec<Surface> {
     ]
 }
 
+/// A stack of so many levels of the bent layers.
+pub fn stack(many: usize) -> Surface {
+    Surface {
+        name: "levels",
+        height: layers,
+        levels: evenly(many, [-0.4, 6.9]),
+    }
+}
+
 /// Where a node of the box is.
 fn place(node: usize) -> Point {
     let [nx, ny] = [SIZE[0] + 1, SIZE[1] + 1];
@@ -82,18 +91,28 @@ impl Surface {
         at
     }
 
+    /// At which heights the surfaces are.
+    pub fn levels(&self) -> &[f64] {
+        &self.levels
+    }
+
+    /// The heights of the nodes.
+    pub fn heights(&self) -> Vec<f64> {
+        let many = SIZE.iter().map(|cubes| cubes + 1).product();
+        (0..many).map(|node| (self.height)(place(node))).collect()
+    }
+
     /// The grid, with the places of its nodes and the fractions of its crossings.
     pub fn placing(&self) -> Placing {
         let mut grid = box_of_six(SIZE);
-        let many = SIZE.iter().map(|cubes| cubes + 1).product();
-        let heights: Vec<f64> = (0..many).map(|node| (self.height)(place(node))).collect();
+        let heights = self.heights();
         let mut fractions = Vec::new();
         for (ends, count) in grid.edge_list().into_iter().zip(&mut grid.counts) {
             let met = self.met(ends.map(|node| heights[usize::from(node)]));
             *count = met.len() as u16;
             fractions.extend(met);
         }
-        let nodes = (0..many).flat_map(place).collect();
+        let nodes = (0..heights.len()).flat_map(place).collect();
         Placing {
             grid,
             nodes,

@@ -216,19 +216,29 @@ fn examples() {
     assert_eq!(area[3 * 1_023..3 * 1_024], [0.75, 1.75, 2.75]);
     compare_with([15, 0], &of(wide, &parts[1..]), 3 * 6_142);
     compare_with([18, 3], &of([1, 1, 1, 4_096, 0, 0], &parts), 9);
+}
+
+/// Each number of the nodes' places in turn: none, odd ones, and the last allowed.
+#[test]
+fn examples_of_nodes() {
+    let whole = Placing {
+        grid: one_cell([2, 0, 0, 0, 0, 0]),
+        nodes: (0..12).map(f64::from).collect(),
+        fractions: vec![0.25, 0.75],
+    };
+    let beyond = f64::from_bits(1_000_000f64.to_bits() + 1);
     for at in 0..12 {
-        let beyond = f64::from_bits(1_000_000f64.to_bits() + 1);
         for odd in [f64::NAN, f64::INFINITY, -f64::INFINITY, beyond, -beyond] {
-            let mut spoiled = of(two, &[0.25, 0.75]);
+            let mut spoiled = whole.clone();
             spoiled.nodes[at] = odd;
             compare_with([16, at as u64], &spoiled, 9);
         }
         for end in [1_000_000.0, -1_000_000.0, -0.0] {
-            let mut allowed = of(two, &[0.25, 0.75]);
+            let mut allowed = whole.clone();
             allowed.nodes[at] = end;
             compare_with([0, 3], &allowed, 9);
         }
-        let mut short = of(two, &[0.25, 0.75]);
+        let mut short = whole.clone();
         short.nodes.truncate(at);
         compare_with([15, 0], &short, 9);
     }

@@ -295,8 +295,8 @@ fn settings_of_faulty_grids() {
     println!("settings of faulty grids: answered with each number: {refused:?}");
 }
 
-#[test]
-fn settings_at_the_limits() {
+/// Grids, an edge and its new count, and what is answered.
+fn at_the_limits() -> Vec<(Sample, (usize, u16), [u64; 2])> {
     let full = |last| {
         let mut grid = separate(3);
         grid.counts.fill(4_095);
@@ -304,7 +304,7 @@ fn settings_at_the_limits() {
         grid
     };
     let cell = || one_cell([1, 2, 3, 4, 5, 6]);
-    let cases = [
+    vec![
         // 21 before 18, 18 before 10
         (cell(), (6, 0), [21, 6]),
         (cell(), (6, 4_096), [21, 6]),
@@ -324,8 +324,12 @@ fn settings_at_the_limits() {
         // the grid as it is lent comes first
         (full(1), (17, 0), [10, 0]),
         (full(1), (18, 0), [10, 0]),
-    ];
-    for (grid, (edge, count), numbers) in cases {
+    ]
+}
+
+#[test]
+fn settings_at_the_limits() {
+    for (grid, (edge, count), numbers) in at_the_limits() {
         let before = grid.starts();
         let (mut counts, mut starts) = (grid.clone(), before.clone());
         assert_eq!(

@@ -4,7 +4,7 @@ use std::fmt::Write;
 
 use super::{write_output, Command, OUTPUT};
 use crate::arguments::Arguments;
-use crate::calls::counts::{book, entry, Booked, Counts};
+use crate::calls::counts::{book, case, Booked, Counts};
 use crate::calls::{Refusal, TRIANGLE_WORDS};
 use crate::cells::{counts_of, triangles_of};
 use crate::fault::{shown, Fault};
@@ -57,7 +57,7 @@ fn of_counts(counts: Counts) -> String {
         Some(booked) => in_words(booked),
         None => "to be walked: a face has an odd sum, or a count above the other two".to_string(),
     };
-    let table = match entry(counts) {
+    let table = match case(counts) {
         Some(entry) => format!(
             "table of common cells: {}, {}",
             counted(entry.loops as usize, "loop"),

@@ -231,7 +231,7 @@ fn draw_face(source: &Source, named: &Named) -> Result<String, Fault> {
 fn draw_cell(source: &Source, cell: usize) -> Result<String, Fault> {
     let refused = |refused| source.refused(refused);
     // the loops call refuses a cell that there is not
-    source.grid.loop_at(cell, 0).map_err(refused)?;
+    source.grid.loops(cell, 0).map_err(refused)?;
     let fractions = fractions(source)?;
     let all = faces(&source.grid);
     cell_picture::picture(&source.grid, &all, cell, &fractions).map_err(refused)

@@ -37,7 +37,7 @@ fn in_words(grid: &Grid, only: Option<usize>) -> Result<String, Refusal> {
         None => 0..grid.lists().cells.len() / 4,
         Some(cell) => {
             // the loops call refuses a cell that there is not
-            grid.loop_at(cell, 0)?;
+            grid.loops(cell, 0)?;
             cell..cell + 1
         }
     };

@@ -4,7 +4,7 @@ use std::collections::BTreeSet;
 
 use super::{write_output, Command, OUTPUT};
 use crate::arguments::{Arguments, Flag};
-use crate::calls::{Grid, Refusal};
+use crate::calls::{Grid, Refusal, REFUSED_CUTS, REFUSED_NO_RUN};
 use crate::fault::{shown, Fault};
 use crate::listing;
 use crate::loops::counted;
@@ -42,7 +42,9 @@ fn run(arguments: &Arguments) -> Result<(), Fault> {
         None => joined(&source.grid, &cuts),
     };
     let lines = told.map_err(|refused| match refused.number {
-        25 | 26 => Fault::new(in_words(refused, &cuts, &source.grid)).of(&source.name),
+        REFUSED_CUTS | REFUSED_NO_RUN => {
+            Fault::new(in_words(refused, &cuts, &source.grid)).of(&source.name)
+        }
         _ => source.refused(refused),
     })?;
     write_output(arguments, lines.as_bytes())
@@ -67,7 +69,7 @@ fn cuts(arguments: &Arguments) -> Result<Vec<u16>, Fault> {
 fn in_words(refused: Refusal, cuts: &[u16], grid: &Grid) -> String {
     let cells = counted(grid.lists().cells.len() / 4, "cell");
     match (refused.number, cuts.get(refused.place as usize)) {
-        (25, Some(cut)) => format!(
+        (REFUSED_CUTS, Some(cut)) => format!(
             "cut {cut}, the one with index {}: cuts rise from above 0, and stay below the {cells}",
             refused.place
         ),
@@ -81,7 +83,7 @@ fn in_words(refused: Refusal, cuts: &[u16], grid: &Grid) -> String {
 }
 
 fn joined(grid: &Grid, cuts: &[u16]) -> Result<String, Refusal> {
-    let words = grid.joined_mesh(cuts)?;
+    let words = grid.mesh_joined(cuts)?;
     let lists = grid.lists();
     let totals = [lists.cells.len() / 4, lists.counts.len(), grid.crossings()];
     let runs = counted(cuts.len() + 1, "run");
@@ -92,7 +94,7 @@ fn joined(grid: &Grid, cuts: &[u16]) -> Result<String, Refusal> {
 }
 
 fn of_run(grid: &Grid, cuts: &[u16], run: usize) -> Result<String, Refusal> {
-    let words = grid.run_mesh(cuts, run)?;
+    let words = grid.mesh_run(cuts, run)?;
     let cells = grid.lists().cells.len() / 4;
     // the call accepted the cuts and the run
     let bound = |at: usize| cuts.get(at).map_or(cells, |&cut| usize::from(cut));

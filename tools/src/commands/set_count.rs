@@ -2,7 +2,7 @@
 
 use super::{write_output, Command, OUTPUT};
 use crate::arguments::{Arguments, Flag};
-use crate::calls::Grid;
+use crate::calls::{Grid, REFUSED_COUNT};
 use crate::cells::edge_number;
 use crate::fault::{note, shown, Fault};
 use crate::loops::counted;
@@ -40,7 +40,7 @@ fn run(arguments: &Arguments) -> Result<(), Fault> {
     let set = source.grid.set_count(edge, count);
     set.map_err(|refused| {
         let what = match refused.number {
-            18 => format!("edge {u} {v}: the count {count} is over 4,095"),
+            REFUSED_COUNT => format!("edge {u} {v}: the count {count} is over 4,095"),
             _ => format!(
                 "edge {u} {v} with the count {count}: there would be more than 65,535 crossings"
             ),

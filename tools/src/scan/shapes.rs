@@ -85,6 +85,18 @@ fn gyroid_angles([x, y, z]: Place) -> [f64; 6] {
     [x + y, x - y, y + z, y - z, z + x, z - x]
 }
 
+/// The sines of a gyroid along an edge, from the edge's start and step.
+fn gyroid_sines(edge: [Place; 2], period: f64) -> Vec<Sine> {
+    let turns = |of: Place| times(of, 2.0 * PI / period);
+    let [phases, steps] = edge.map(turns).map(gyroid_angles);
+    let sine = |(&phase, &turns)| Sine {
+        height: 0.5,
+        turns,
+        phase,
+    };
+    phases.iter().zip(&steps).map(sine).collect()
+}
+
 impl Form {
     /// Positive on one side of the surface, negative on the other.
     fn value(&self, at: Place) -> f64 {
@@ -156,21 +168,11 @@ impl Form {
                 centre,
                 period,
                 level,
-            } => {
-                let turns = |of: Place| times(of, 2.0 * PI / period);
-                let [phases, steps] = [less(from, centre), step].map(turns).map(gyroid_angles);
-                let sine = |(&phase, &turns)| Sine {
-                    height: 0.5,
-                    turns,
-                    phase,
-                };
-                let sines = phases.iter().zip(&steps).map(sine).collect();
-                Sines {
-                    start: -level,
-                    slope: 0.0,
-                    sines,
-                }
-            }
+            } => Sines {
+                start: -level,
+                slope: 0.0,
+                sines: gyroid_sines([less(from, centre), step], period),
+            },
             _ => Sines {
                 start: self.value(from),
                 slope: 0.0,

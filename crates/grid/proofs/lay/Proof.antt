@@ -1,5 +1,5 @@
 -- `grid::lay` meets its contract.
-use mathlib.Core.Path.{_∙_, ap, refl, sym}
+use mathlib.Core.Path.{_∙_, ap, sym}
 use native.Mathlib.Omega.{arith}
 use borrow.Author.Needs.{needs}
 use Rattle.grid.specs.Check.{checkNumbers}
@@ -7,11 +7,12 @@ use Rattle.grid.specs.Grid.{gridOf}
 use Rattle.grid.proofs.Answers.{verdict}
 use Rattle.grid.proofs.Filled.{copying, laid-filled, laid-kept, lowering, refused-keeps}
 use Rattle.grid.proofs.Starts.{lists-fine}
+use Rattle.grid.proofs.Working.{blank-tables}
 use Rattle.grid.proofs.lay.Statement.{statement}
 use Rattle.grid.proofs.lay.Tie as tie
 
 all-rows-requires : tie.Need-all-rows-requires
-all-rows-requires c κs = (λ e. lists-fine _ _ _ (sym (c .before .before .row-2 .ensures) ∙ e) .0, record { near-is = refl; sides-is = refl })
+all-rows-requires c κs = (λ e. lists-fine _ _ _ (sym (c .before .before .row-2 .ensures) ∙ e) .0, λ h. blank-tables _ 2048 h)
 
 returns : tie.Need-returns
 returns c =

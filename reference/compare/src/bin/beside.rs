@@ -3,178 +3,23 @@
 //! scripts/beside.sh makes the two shared objects of two libcapi.a.
 
 use std::env;
-use std::ffi::CString;
-use std::mem;
-use std::os::raw::{c_char, c_int, c_void};
 use std::time::{Duration, Instant};
 
+use citternblaze_calls::library::{of_bits, Library};
+use compare::areas::any_room;
+use compare::calls::lists;
 use compare::grids::dealt;
 use compare::lent::ANSWER_WORDS;
 use compare::placing::{placing, Kind, Placing};
 use compare::surfaces::surfaces;
 use reference::cell::TRIANGLE_WORDS;
 use reference::gen::{box_of_six, joined, separate, spiral_cell, Chain, Rng, Sample};
-use reference::grid::Lists;
 
-#[link(name = "dl")]
-extern "C" {
-    fn dlopen(file: *const c_char, flags: c_int) -> *mut c_void;
-
-    fn dlsym(library: *mut c_void, name: *const c_char) -> *mut c_void;
-}
-
-/// Every symbol at once, and none for other libraries.
-const NOW: c_int = 2;
-
-/// A list of 16 bits, and its length, as the calls take them.
-type Shorts = *const u16;
-
-type MeshCall = unsafe extern "C" fn(
-    Shorts,
-    usize,
-    Shorts,
-    usize,
-    Shorts,
-    usize,
-    *const u32,
-    usize,
-    *mut u32,
-    usize,
-    *mut u64,
-    usize,
-) -> usize;
-
-type PlacesCall = unsafe extern "C" fn(
-    Shorts,
-    usize,
-    Shorts,
-    usize,
-    Shorts,
-    usize,
-    *const u32,
-    usize,
-    *const f64,
-    usize,
-    *const f64,
-    usize,
-    *mut u64,
-    usize,
-    *mut u64,
-    usize,
-) -> usize;
-
-type CheckCall = unsafe extern "C" fn(
-    Shorts,
-    usize,
-    Shorts,
-    usize,
-    Shorts,
-    usize,
-    *const u32,
-    usize,
-    *mut u64,
-    usize,
-) -> usize;
-
-/// The calls of one build of the library.
-struct Library {
-    mesh: MeshCall,
-    places: PlacesCall,
-    check: CheckCall,
-}
-
-/// A function of a library, by its name.
-fn symbol(library: *mut c_void, name: &str) -> *mut c_void {
-    let text = CString::new(name).expect("a name");
-    // SAFETY: `library` is what dlopen gave, and `text` a string of C
-    let found = unsafe { dlsym(library, text.as_ptr()) };
-    assert!(!found.is_null(), "the library has no {name}");
-    found
-}
-
-impl Library {
-    fn open(path: &str) -> Library {
-        let text = CString::new(path).expect("a path");
-        // SAFETY: `text` is a string of C, and the library has no initializers
-        let library = unsafe { dlopen(text.as_ptr(), NOW) };
-        assert!(!library.is_null(), "{path} is no shared object");
-        // SAFETY: the functions have the types that include/citternblaze.h gives them
-        unsafe {
-            Library {
-                mesh: mem::transmute::<*mut c_void, MeshCall>(symbol(library, "citternblaze_mesh")),
-                places: mem::transmute::<*mut c_void, PlacesCall>(symbol(
-                    library,
-                    "citternblaze_places",
-                )),
-                check: mem::transmute::<*mut c_void, CheckCall>(symbol(
-                    library,
-                    "citternblaze_check",
-                )),
-            }
-        }
-    }
-
-    fn mesh(&self, grid: Lists, area: &mut [u32], answer: &mut [u64]) -> usize {
-        // SAFETY: each pointer and the length after it are those of one slice
-        unsafe {
-            (self.mesh)(
-                grid.cells.as_ptr(),
-                grid.cells.len(),
-                grid.edges.as_ptr(),
-                grid.edges.len(),
-                grid.counts.as_ptr(),
-                grid.counts.len(),
-                grid.starts.as_ptr(),
-                grid.starts.len(),
-                area.as_mut_ptr(),
-                area.len(),
-                answer.as_mut_ptr(),
-                answer.len(),
-            )
-        }
-    }
-
-    fn check(&self, grid: Lists, answer: &mut [u64]) -> usize {
-        // SAFETY: as above
-        unsafe {
-            (self.check)(
-                grid.cells.as_ptr(),
-                grid.cells.len(),
-                grid.edges.as_ptr(),
-                grid.edges.len(),
-                grid.counts.as_ptr(),
-                grid.counts.len(),
-                grid.starts.as_ptr(),
-                grid.starts.len(),
-                answer.as_mut_ptr(),
-                answer.len(),
-            )
-        }
-    }
-
-    fn places(&self, at: &Placing, grid: Lists, area: &mut [u64], answer: &mut [u64]) -> usize {
-        // SAFETY: as above
-        unsafe {
-            (self.places)(
-                grid.cells.as_ptr(),
-                grid.cells.len(),
-                grid.edges.as_ptr(),
-                grid.edges.len(),
-                grid.counts.as_ptr(),
-                grid.counts.len(),
-                grid.starts.as_ptr(),
-                grid.starts.len(),
-                at.nodes.as_ptr(),
-                at.nodes.len(),
-                at.fractions.as_ptr(),
-                at.fractions.len(),
-                area.as_mut_ptr(),
-                area.len(),
-                answer.as_mut_ptr(),
-                answer.len(),
-            )
-        }
-    }
+/// The library of a shared object that scripts/beside.sh made.
+fn load(file: &str) -> Library {
+    // SAFETY: the script makes it of a libcapi.a
+    let library = unsafe { Library::load(file) };
+    library.unwrap_or_else(|| panic!("{file} is no shared object"))
 }
 
 /// Least rounds on one grid, however long they take.
@@ -231,11 +76,11 @@ impl Beside {
     /// The mesh in an area with room for so many triangles, which both write alike.
     fn mesh(&self, name: &str, text: &str, grid: &Sample, room: usize) {
         let starts = grid.starts();
-        let lists = grid.lists(&starts);
+        let grid = lists(grid.lists(&starts));
         let mut areas = [(); 2].map(|()| vec![1; room * TRIANGLE_WORDS]);
         let mut answers = [[1; ANSWER_WORDS]; 2];
         let times = times(self.patience, |way| {
-            self.libraries[way].mesh(lists, &mut areas[way], &mut answers[way]);
+            self.libraries[way].mesh(grid, &mut areas[way], &mut answers[way]);
         });
         assert!(areas[0] == areas[1] && answers[0] == answers[1]);
         self.line(name, text, times);
@@ -246,17 +91,17 @@ impl Beside {
         let starts = grid.starts();
         let mut answer = [1; ANSWER_WORDS];
         let mut area = vec![0; grid.most_triangles() * TRIANGLE_WORDS];
-        self.libraries[0].mesh(grid.lists(&starts), &mut area, &mut answer);
+        self.libraries[0].mesh(lists(grid.lists(&starts)), &mut area, &mut answer);
         assert_eq!(answer[0], 0, "the grid is refused");
         answer[1] as usize
     }
 
     fn check(&self, name: &str, grid: &Sample) {
         let starts = grid.starts();
-        let lists = grid.lists(&starts);
+        let grid = lists(grid.lists(&starts));
         let mut answers = [[1; ANSWER_WORDS]; 2];
         let times = times(self.patience, |way| {
-            self.libraries[way].check(lists, &mut answers[way]);
+            self.libraries[way].check(grid, &mut answers[way]);
         });
         assert_eq!(answers[0], answers[1]);
         self.line(name, "check", times);
@@ -264,12 +109,16 @@ impl Beside {
 
     fn places(&self, name: &str, placing: &Placing) {
         let starts = placing.grid.starts();
-        let lists = placing.grid.lists(&starts);
-        let points = placing.fractions.len() + placing.grid.most_triangles();
+        let grid = lists(placing.grid.lists(&starts));
+        let Placing {
+            nodes, fractions, ..
+        } = placing;
+        let points = fractions.len() + placing.grid.most_triangles();
         let mut areas = [(); 2].map(|()| vec![1; 3 * points]);
         let mut answers = [[1; ANSWER_WORDS]; 2];
         let times = times(self.patience, |way| {
-            self.libraries[way].places(placing, lists, &mut areas[way], &mut answers[way]);
+            let area = of_bits(&mut areas[way]);
+            self.libraries[way].places(grid, nodes, fractions, area, &mut answers[way]);
         });
         assert!(areas[0] == areas[1] && answers[0] == answers[1] && answers[0][0] == 0);
         self.line(name, "places", times);
@@ -296,7 +145,7 @@ impl Beside {
             placing.fractions.len()
         );
         self.check(name, grid);
-        self.mesh(name, "mesh, any room", grid, grid.most_triangles());
+        self.mesh(name, "mesh, any room", grid, any_room(grid));
         self.mesh(name, "mesh, exact room", grid, triangles);
         self.places(name, placing);
         self.copy(name, triangles);
@@ -352,7 +201,7 @@ fn main() {
         .get(2)
         .map_or(400, |text| text.parse().expect("milliseconds"));
     let beside = Beside {
-        libraries: [Library::open(old), Library::open(new)],
+        libraries: [load(old), load(new)],
         patience: Duration::from_millis(millis),
         only: words.get(3).cloned().unwrap_or_default(),
     };

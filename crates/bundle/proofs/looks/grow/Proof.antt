@@ -3,21 +3,21 @@ use mathlib.Core.Path.{_≡_, refl}
 use native.Mathlib.Omega.{arith}
 use lib.ListN.{length, length-set}
 use denote.Ref.{now}
-use Rattle.bundle.specs.Trees.{Tree, Tops}
-use Rattle.bundle.specs.Looked.{lookKey, blockKey}
-use Rattle.bundle.proofs.Trees.{grown-none, tops-none, tops-more, top-le}
+use Rattle.trees.specs.Trees.{Tree, Tops}
+use Rattle.bundle.specs.Looked.{lookKey, blockKey, lookBranches}
+use Rattle.trees.proofs.Trees.{grown-none, tops-none, tops-more, top-le}
 use borrow.Author.Needs.{needs}
 use Rattle.bundle.proofs.looks.grow.Statement.{statement}
 use Rattle.bundle.proofs.looks.grow.Tie as tie
 
 abbrev Inv-loop : tie.InvT-loop
-Inv-loop bytes base m n links₀ tops₀ i₀ links tops i = (i ≤ n) × (length links ≡ length links₀) × (length tops ≡ length tops₀) × Tree (blockKey bytes m) n i links × Tops (blockKey bytes m) n i tops
+Inv-loop bytes base m n links₀ tops₀ i₀ links tops i = (i ≤ n) × (length links ≡ length links₀) × (length tops ≡ length tops₀) × Tree lookBranches (blockKey bytes m) n i links × Tops (blockKey bytes m) n i tops
 
 abbrev μ-loop : tie.MeasureT-loop
 μ-loop bytes base m n links₀ tops₀ i₀ links tops i = i
 
 loop-holds : tie.Need-loop-holds Inv-loop μ-loop
-loop-holds c = (omega arith, refl, refl, grown-none _ _ _ (c .before .before .before .pre .room) (c .before .before .before .pre .blank), tops-none _ _ _ (c .before .before .before .pre .topsRoom))
+loop-holds c = (omega arith, refl, refl, grown-none _ _ _ _ (c .before .before .before .pre .room) (c .before .before .before .pre .blank), tops-none _ _ _ (c .before .before .before .pre .topsRoom))
 
 -- the place before i is the next
 up : (i : ℕ) → 0 < i → i ≡ i - 1 + 1

@@ -1,5 +1,6 @@
 use mathlib.Core.Path.{_∙_}
-use Rattle.bundle.proofs.Trees.{sought-all}
+use Rattle.trees.proofs.Trees.{sought-all}
+use Rattle.bundle.specs.Looked.{lookBranches}
 use borrow.Author.Needs.{needs}
 use Rattle.bundle.proofs.looks.latest.Statement.{statement}
 use Rattle.bundle.proofs.looks.latest.Tie as tie
@@ -8,7 +9,7 @@ shared-slice-read-wide : tie.Need-shared-slice-read-wide
 shared-slice-read-wide c = c .before .seek .ensures .within
 
 returns : tie.Need-returns
-returns c = c .wide .ensures ∙ sought-all _ _ _ _ _ (c .before .before .seek .ensures)
+returns c = c .wide .ensures ∙ sought-all _ _ lookBranches _ _ _ (c .before .before .seek .ensures)
 
 pub latest-spec : {M : Type 1} → statement M
 latest-spec =

@@ -3,10 +3,10 @@ use mathlib.Core.Path.{ap, _∙_}
 use native.Mathlib.Omega.{arith}
 use denote.Ref.{now}
 use Rattle.bundle.specs.Bundle.{edgeSection}
-use Rattle.bundle.specs.Trees.{topFor}
+use Rattle.trees.specs.Trees.{topFor}
 use Rattle.bundle.specs.Looked.{blockKey}
 use Rattle.bundle.proofs.Runs.{Walked, walked}
-use Rattle.bundle.proofs.Trees.{top-le}
+use Rattle.trees.proofs.Trees.{top-le}
 use Rattle.bundle.proofs.Looked.{Marking, marking-none, marking-more, edge-all, edge-whole, edge-ends, edge-next, edge-key}
 use borrow.Author.Needs.{needs}
 use Rattle.bundle.proofs.looks.mark.Statement.{statement}

@@ -4,7 +4,7 @@ use native.Mathlib.Omega.{arith}
 use lib.ListN.{getD}
 use denote.Ref.{now}
 use Rattle.bundle.proofs.Looked.{look-few}
-use Rattle.bundle.proofs.Trees.{plant-top, plant-hit, plant-own, plant-new}
+use Rattle.trees.proofs.Trees.{plant-top, plant-hit, plant-own, plant-new}
 use borrow.Author.Needs.{needs}
 use Rattle.bundle.proofs.looks.plant.Statement.{statement}
 use Rattle.bundle.proofs.looks.plant.Tie as tie
@@ -26,7 +26,7 @@ returns c =
     let p = c .before .before .before .before .before .before .before .before .pre in
     let f = rw (c .before .before .before .before .before .look-key .ensures) at (c .before .before .before .seek .ensures) in
     let h : 0 < getD (now (c .before .before .before .before .before .before .before .before .args .links)) (c .before .before .before .seek .result) 0 = omega (arith, c .before .wide .ensures, c .if1 .taken) in
-    (c .before .wide .ensures ∙ plant-top _ _ _ _ (p .one) (p .tree) _ f h, plant-hit _ _ _ _ (p .one) (p .tree) _ f h)
+    (c .before .wide .ensures ∙ plant-top _ _ _ _ _ (p .one) (p .tree) _ f h, plant-hit _ _ _ _ _ (p .one) (p .tree) _ f h)
 
 cast-links : tie.Need-cast-links
 cast-links c = omega (arith, c .before .before .before .before .before .before .before .before .pre .one, c .before .before .before .before .before .before .before .before .pre .few)
@@ -39,7 +39,7 @@ returns-2 c =
     let p = c .before .before .before .before .before .before .before .before .pre in
     let f = rw (c .before .before .before .before .before .look-key .ensures) at (c .before .before .before .seek .ensures) in
     let z : getD (now (c .before .before .before .before .before .before .before .before .args .links)) (c .before .before .before .seek .result) 0 ≡ 0 = omega (arith, c .before .wide .ensures, c .if1 .left) in
-    (plant-own _ _ _ _ (p .one) (p .tree) _ f z, plant-new _ _ _ _ (p .one) (p .tree) _ f z)
+    (plant-own _ _ _ _ _ (p .one) (p .tree) _ f z, plant-new _ _ _ _ _ (p .one) (p .tree) _ f z)
 
 pub plant-spec : {M : Type 1} → statement M
 plant-spec =

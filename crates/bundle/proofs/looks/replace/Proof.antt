@@ -6,7 +6,7 @@ use borrow.Author.Needs.{needs}
 use denote.Ref.{now}
 use Rattle.counting.specs.Stored.{filled}
 use Rattle.counting.proofs.Stored.{filled-again, length-filled}
-use Rattle.counting.proofs.Chains.{filled-table, table-filled}
+use Rattle.counting.proofs.Tables.{filled-table, table-filled}
 use Rattle.bundle.specs.Bundle.{edges, looks, countAfter}
 use Rattle.bundle.proofs.looks.replace.Statement.{statement}
 use Rattle.bundle.proofs.looks.replace.Tie as tie

@@ -1,8 +1,8 @@
 use Prim.Native.Nat.{_+_, _*_}
 use native.Mathlib.Omega.{arith}
-use Rattle.counting.proofs.Chains.{zeros}
-use Rattle.bundle.specs.Trees.{trees, branches}
-use Rattle.bundle.specs.Looked.{blockLooks}
+use Rattle.counting.proofs.Tables.{zeros}
+use Rattle.trees.specs.Trees.{trees}
+use Rattle.bundle.specs.Looked.{blockLooks, lookBranches}
 use borrow.Author.Needs.{needs}
 use Rattle.bundle.proofs.looks.replace_in.Statement.{statement}
 use Rattle.bundle.proofs.looks.replace_in.Tie as tie
@@ -10,7 +10,7 @@ use Rattle.bundle.proofs.looks.replace_in.Tie as tie
 grow-requires : tie.Need-grow-requires
 grow-requires c κs =
     let p = c .before .before .before .before .pre .0 in
-    record { part = p .part; few = p .few; room = omega (arith, p .few); blank = zeros (trees + branches * blockLooks); topsRoom = omega (arith, p .few) }
+    record { part = p .part; few = p .few; room = omega (arith, p .few); blank = zeros (trees + lookBranches * blockLooks); topsRoom = omega (arith, p .few) }
 
 put-counts-requires : tie.Need-put-counts-requires
 put-counts-requires c κs =

@@ -4,10 +4,10 @@ use native.Mathlib.Omega.{arith}
 use lib.ListN.{getD}
 use denote.Ref.{now}
 use Rattle.counting.proofs.Search.{first-ext}
-use Rattle.counting.proofs.Chains.{zeros}
-use Rattle.bundle.specs.Trees.{trees, branches}
-use Rattle.bundle.specs.Looked.{blockLooks, lookKey, blockKey}
-use Rattle.bundle.proofs.Trees.{top-le}
+use Rattle.counting.proofs.Tables.{zeros}
+use Rattle.trees.specs.Trees.{trees}
+use Rattle.bundle.specs.Looked.{blockLooks, lookBranches, lookKey, blockKey}
+use Rattle.trees.proofs.Trees.{top-le}
 use Rattle.bundle.proofs.Looked.{unmarked-stray}
 use borrow.Author.Needs.{needs}
 use Rattle.bundle.proofs.looks.stray_in.Statement.{statement}
@@ -16,7 +16,7 @@ use Rattle.bundle.proofs.looks.stray_in.Tie as tie
 grow-requires : tie.Need-grow-requires
 grow-requires c κs =
     let p = c .before .before .before .pre in
-    record { part = p .part; few = p .few; room = omega (arith, p .few); blank = zeros (trees + branches * blockLooks); topsRoom = omega (arith, p .few) }
+    record { part = p .part; few = p .few; room = omega (arith, p .few); blank = zeros (trees + lookBranches * blockLooks); topsRoom = omega (arith, p .few) }
 
 mark-requires : tie.Need-mark-requires
 mark-requires c κs =

@@ -8,7 +8,7 @@ use Rattle.counting.specs.Range.{over}
 use Rattle.counting.specs.Stored.{Stored}
 use Rattle.counting.proofs.Stored.{stored-none, stored-long}
 use Rattle.bundle.specs.Record.{cellKind, wordSize, headBytes, body}
-use Rattle.bundle.specs.Bundle.{cellNodes, recordStart, run, cells, edgesFrom, nodesIn, nodesOf}
+use Rattle.bundle.specs.Bundle.{cellNodes, recordStart, run, cells, edgesFrom, nodesOf, leadingWords}
 use Rattle.bundle.proofs.Runs.{Walked, walked, here, walked-fits, walked-on}
 use Rattle.bundle.proofs.Fills.{cell-body, nodesBy, turn, filled-all}
 use Rattle.bundle.proofs.reader.fill_cells.Statement.{statement}
@@ -70,7 +70,7 @@ loop-again c =
     let l = t .before .loop in
     let e = c .before .before .before .before .body-at .ensures .0 in
     let n : cellNodes * (l .k + 1) ≡ cellNodes * l .k + cellNodes = omega arith in
-    (rw e (walked-on _ 0 cellKind _ _ (l .inv .0) (below t)), rw n (turn _ 0 _ _ (l .inv .0 .reached) nodesIn (l .inv .1) (rw e at (c .before .before .fill-words .ensures))))
+    (rw e (walked-on _ 0 cellKind _ _ (l .inv .0) (below t)), rw n (turn _ 0 _ _ (l .inv .0 .reached) (leadingWords cellNodes) (l .inv .1) (rw e at (c .before .before .fill-words .ensures))))
 
 same-length : tie.Need-same-length Inv-loop μ-loop
 same-length c = stored-long (c .before .loop .inv .1)

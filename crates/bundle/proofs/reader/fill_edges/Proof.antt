@@ -9,7 +9,7 @@ use Rattle.counting.specs.Range.{over}
 use Rattle.counting.specs.Stored.{Stored}
 use Rattle.counting.proofs.Stored.{stored-none, stored-long}
 use Rattle.bundle.specs.Record.{headBytes, countPlace, word, body}
-use Rattle.bundle.specs.Bundle.{edgeEnds, edgeSection, recordStart, run, edges, looksFrom, endsIn, endsOf, writtenOver}
+use Rattle.bundle.specs.Bundle.{edgeEnds, edgeSection, recordStart, run, edges, looksFrom, endsOf, writtenOver, leadingWords}
 use Rattle.bundle.proofs.Runs.{Walked, walked, here, walked-fits, walked-on}
 use Rattle.bundle.proofs.Fills.{edge-ge, endsBy, countBy, turn, count-turn, own-filled, filled-all}
 use Rattle.bundle.proofs.reader.fill_edges.Statement.{statement}
@@ -87,7 +87,7 @@ loop-again c =
     let e = c .before .before .before .before .before .body-at .ensures .0 in
     let n : edgeEnds * (l .k + 1) ≡ edgeEnds * l .k + edgeEnds = omega arith in (
       rw e (walked-on _ _ edgeSection _ _ (l .inv .0) (below t)),
-      rw n (turn _ _ _ _ (l .inv .0 .reached) endsIn (l .inv .1) (rw e at (c .before .before .before .fill-words .ensures))),
+      rw n (turn _ _ _ _ (l .inv .0 .reached) (leadingWords edgeEnds) (l .inv .1) (rw e at (c .before .before .before .fill-words .ensures))),
       count-turn _ _ _ _ (l .inv .0 .reached) _ (c .count-in .ensures ∙ ap (λ (b : List ℕ). word b countPlace) e) (l .inv .2),
     )
 

@@ -8,7 +8,7 @@ use denote.Ref.{now}
 use Rattle.answer.specs.Answer.{result}
 use Rattle.counting.specs.Stored.{filled}
 use Rattle.counting.proofs.Stored.{filled-again, filled-front}
-use Rattle.counting.proofs.Chains.{filled-table}
+use Rattle.counting.proofs.Tables.{filled-table}
 use Rattle.bundle.specs.Bundle.{cellNodes, edgeEnds, lookSection, run, cells, edges, looks, countAfter, surviving, countsOf, isBundle, bundleAnswer, writtenOver, contentsNumbers}
 use Rattle.bundle.specs.Looked.{LooksLent}
 use Rattle.bundle.specs.declared.Contents.the-variants.{Lists, Refused}

@@ -3,7 +3,7 @@ use Prim.Native.Nat.{ℕ, _/_, _<_}
 use mathlib.Core.Path.{_∙_, ap, refl}
 use native.Mathlib.Omega.{arith}
 use lib.ListN.{getD, length, length-replicate}
-use Rattle.counting.proofs.Chains.{filled-table}
+use Rattle.counting.proofs.Tables.{filled-table}
 use Rattle.counting.proofs.Stored.{length-filled}
 use Rattle.answer.specs.Faults.{since}
 use Rattle.grid.proofs.Answers.{where-accepted}

@@ -4,7 +4,7 @@ use mathlib.Core.Path.{_∙_, ap}
 use native.Mathlib.Omega.{arith}
 use lib.ListN.{length}
 use Rattle.flat.specs.FlatGrid.{mostSides}
-use Rattle.counting.proofs.Chains.{filled-table}
+use Rattle.counting.proofs.Tables.{filled-table}
 use Rattle.flat.proofs.Keys.{earlier-table, entry-le, third-first, twice-first}
 use borrow.Author.Needs.{needs}
 use Rattle.flat.proofs.triangles.row_5.Statement.{statement}

@@ -3,7 +3,7 @@ use Prim.Native.Nat.{ℕ, _-_}
 use mathlib.Core.Path.{_∙_, _≡_, sym}
 use native.Mathlib.Omega.{arith}
 use lib.ListN.{length, length-replicate}
-use Rattle.counting.proofs.Chains.{zeros}
+use Rattle.counting.proofs.Tables.{zeros}
 use Rattle.counting.proofs.Stored.{stored-long}
 use Rattle.flat.specs.Chain.{allChainWords}
 use Rattle.flat.specs.Work.{stepIn}

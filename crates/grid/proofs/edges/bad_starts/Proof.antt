@@ -24,16 +24,10 @@ abbrev μ-loop : tie.MeasureT-loop
 loop-holds : tie.Need-loop-holds Inv-loop μ-loop
 loop-holds c = (omega arith, sym (start-zero _), some-zero _)
 
-shared-slice-read-wide-start : tie.Need-shared-slice-read-wide-start Inv-loop μ-loop
-shared-slice-read-wide-start c = search needs
-
 returns : tie.Need-returns Inv-loop μ-loop
 returns c =
     let l = c .before .before .before .before .loop in
     sym (some-found _ _ (l .e) (omega arith) (bad-start _ _ _ (λ q. c .if1 .taken (c .before .wide-start .ensures .0 ∙ q ∙ sym (l .inv .1)))))
-
-add-s : tie.Need-add-s Inv-loop μ-loop
-add-s c = omega (arith, c .before .before .before .wide-start .ensures .1, c .before .before .if1 .left, c .wide .ensures, c .before .shared-slice-known4 .given (c .before .before .before .before .before .before .loop .e))
 
 loop-again : tie.Need-loop-again Inv-loop μ-loop
 loop-again c =
@@ -55,13 +49,13 @@ bad-starts-spec =
     μ-loop
     loop-holds
     (λ c. search needs)
-    shared-slice-read-wide-start
+    (λ c. search needs)
     (λ c κs. search needs)
     returns
     (λ c. search needs)
     (λ c. search needs)
     (λ c κs. search needs)
-    add-s
+    (λ c. omega (arith, c .before .before .before .wide-start .ensures .1, c .before .before .if1 .left, c .wide .ensures, c .before .shared-slice-known4 .given (c .before .before .before .before .before .before .loop .e)))
     (λ c. search needs)
     (λ c. search needs)
     loop-again

@@ -19,12 +19,6 @@ abbrev μ-loop : tie.MeasureT-loop
 loop-holds : tie.Need-loop-holds Inv-loop μ-loop
 loop-holds c = (omega arith, filled-none _ _)
 
-shared-slice-read-wide : tie.Need-shared-slice-read-wide Inv-loop μ-loop
-shared-slice-read-wide c = omega (arith, c .before .before .before .before .before .pre .across-room)
-
-cast-names : tie.Need-cast-names Inv-loop μ-loop
-cast-names c = omega (arith, c .lower .ensures .1, c .before .before .before .before .before .before .before .pre .few)
-
 slice-write-names : tie.Need-slice-write-names Inv-loop μ-loop
 slice-write-names c =
     let c-pre = c .before .before .before .before .before .before .before .pre in
@@ -57,10 +51,10 @@ write-names-spec =
     μ-loop
     loop-holds
     (λ c. search needs)
-    shared-slice-read-wide
+    (λ c. omega (arith, c .before .before .before .before .before .pre .across-room))
     (λ c κs. search needs)
     (λ c κs. search needs)
-    cast-names
+    (λ c. omega (arith, c .lower .ensures .1, c .before .before .before .before .before .before .before .pre .few))
     (λ c. search needs)
     slice-write-names
     (λ c. search needs)

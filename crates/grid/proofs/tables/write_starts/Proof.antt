@@ -5,7 +5,7 @@ use native.Mathlib.Omega.{arith}
 use lib.ListN.{length}
 use borrow.Author.Needs.{needs}
 use Rattle.counting.specs.Stored.{filled}
-use Rattle.counting.proofs.Chains.{table-filled}
+use Rattle.counting.proofs.Tables.{table-filled}
 use Rattle.counting.proofs.Stored.{filled-more, length-filled}
 use Rattle.grid.specs.Grid.{start}
 use Rattle.grid.proofs.Crossings.{start-mono, start-next}

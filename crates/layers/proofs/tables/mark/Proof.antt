@@ -18,38 +18,38 @@ abbrev μ-loop : tie.MeasureT-loop
 loop-holds : tie.Need-loop-holds Inv-loop μ-loop
 loop-holds c = (omega arith, marked-none _ _ _ _ (c .before .before .pre .below))
 
-mul-wide : tie.Need-mul-wide Inv-loop μ-loop
-mul-wide c = omega (arith, c .before .before .before .before .pre .few)
+mul-wide16 : tie.Need-mul-wide16 Inv-loop μ-loop
+mul-wide16 c = omega (arith, c .before .before .before .before .pre .few)
 
-add-wide : tie.Need-add-wide Inv-loop μ-loop
-add-wide c = omega (arith, c .before .before .before .before .pre .few)
+add-wide16 : tie.Need-add-wide16 Inv-loop μ-loop
+add-wide16 c = omega (arith, c .before .before .before .before .pre .few)
 
-mul-wide-2 : tie.Need-mul-wide-2 Inv-loop μ-loop
-mul-wide-2 c = omega (arith, c .before .before .before .before .pre .few)
+mul-wide16-2 : tie.Need-mul-wide16-2 Inv-loop μ-loop
+mul-wide16-2 c = omega (arith, c .before .before .before .before .pre .few)
 
-shared-slice-read-wide : tie.Need-shared-slice-read-wide Inv-loop μ-loop
-shared-slice-read-wide c = omega (arith, c .before .before .before .before .before .pre .fits)
+shared-slice-read-wide16 : tie.Need-shared-slice-read-wide16 Inv-loop μ-loop
+shared-slice-read-wide16 c = omega (arith, c .before .before .before .before .before .pre .fits)
 
 mul-used : tie.Need-mul-used Inv-loop μ-loop
-mul-used c = omega (arith, c .wide .ensures, c .before .before .before .before .before .before .pre .edge (c .before .before .before .loop .j) (omega arith))
+mul-used c = omega (arith, c .wide16 .ensures .0, c .before .before .before .before .before .before .pre .edge (c .before .before .before .loop .j) (omega arith))
 
 slice-write-used : tie.Need-slice-write-used Inv-loop μ-loop
-slice-write-used c = omega (arith, c .wide .ensures, c .before .before .before .before .before .before .pre .edge (c .before .before .before .loop .j) (omega arith), c .before .before .before .loop .inv .1 .same, c .before .before .before .before .before .before .pre .long)
+slice-write-used c = omega (arith, c .wide16 .ensures .0, c .before .before .before .before .before .before .pre .edge (c .before .before .before .loop .j) (omega arith), c .before .before .before .loop .inv .1 .same, c .before .before .before .before .before .before .pre .long)
 
 add-used : tie.Need-add-used Inv-loop μ-loop
-add-used c = omega (arith, c .wide .ensures, c .before .before .before .before .before .before .pre .edge (c .before .before .before .loop .j) (omega arith))
+add-used c = omega (arith, c .wide16 .ensures .0, c .before .before .before .before .before .before .pre .edge (c .before .before .before .loop .j) (omega arith))
 
 mul-used-2 : tie.Need-mul-used-2 Inv-loop μ-loop
-mul-used-2 c = omega (arith, c .wide .ensures, c .before .before .before .before .before .before .pre .edge (c .before .before .before .loop .j) (omega arith))
+mul-used-2 c = omega (arith, c .wide16 .ensures .0, c .before .before .before .before .before .before .pre .edge (c .before .before .before .loop .j) (omega arith))
 
 slice-write-used-2 : tie.Need-slice-write-used-2 Inv-loop μ-loop
 slice-write-used-2 c =
-    omega (arith, c .wide .ensures, c .before .before .before .before .before .before .pre .edge (c .before .before .before .loop .j) (omega arith), c .before .before .before .loop .inv .1 .same, c .before .before .before .before .before .before .pre .long, length-set (c .before .before .before .loop .used) (c .wide .result) (c .before .before .before .before .before .before .args .m))
+    omega (arith, c .wide16 .ensures .0, c .before .before .before .before .before .before .pre .edge (c .before .before .before .loop .j) (omega arith), c .before .before .before .loop .inv .1 .same, c .before .before .before .before .before .before .pre .long, length-set (c .before .before .before .loop .used) (c .wide16 .result) (c .before .before .before .before .before .before .args .m))
 
 loop-again : tie.Need-loop-again Inv-loop μ-loop
 loop-again c =
     let I = c .before .before .before .loop .inv .1 in
-    (omega arith, marked-more I _ (c .wide .ensures) (omega (arith, c .wide .ensures, c .before .before .before .before .before .before .pre .edge (c .before .before .before .loop .j) (omega arith))) (I .same ∙ c .before .before .before .before .before .before .pre .long))
+    (omega arith, marked-more I _ (c .wide16 .ensures .0) (omega (arith, c .wide16 .ensures .0, c .before .before .before .before .before .before .pre .edge (c .before .before .before .loop .j) (omega arith))) (I .same ∙ c .before .before .before .before .before .before .pre .long))
 
 same-length : tie.Need-same-length Inv-loop μ-loop
 same-length c = c .before .loop .inv .1 .same
@@ -67,10 +67,10 @@ mark-spec =
     Inv-loop
     μ-loop
     loop-holds
-    mul-wide
-    add-wide
-    mul-wide-2
-    shared-slice-read-wide
+    mul-wide16
+    add-wide16
+    mul-wide16-2
+    shared-slice-read-wide16
     (λ c κs. search needs)
     mul-used
     slice-write-used

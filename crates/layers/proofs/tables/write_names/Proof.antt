@@ -22,20 +22,20 @@ abbrev μ-loop : tie.MeasureT-loop
 loop-holds : tie.Need-loop-holds Inv-loop μ-loop
 loop-holds c = (omega arith, filled-none _ _)
 
-mul-wide : tie.Need-mul-wide Inv-loop μ-loop
-mul-wide c = omega (arith, c .before .before .before .before .pre .few)
+mul-wide16 : tie.Need-mul-wide16 Inv-loop μ-loop
+mul-wide16 c = omega (arith, c .before .before .before .before .pre .few)
 
-add-wide : tie.Need-add-wide Inv-loop μ-loop
-add-wide c = omega (arith, c .before .before .before .before .pre .few)
+add-wide16 : tie.Need-add-wide16 Inv-loop μ-loop
+add-wide16 c = omega (arith, c .before .before .before .before .pre .few)
 
-mul-wide-2 : tie.Need-mul-wide-2 Inv-loop μ-loop
-mul-wide-2 c = omega (arith, c .before .before .before .before .pre .few)
+mul-wide16-2 : tie.Need-mul-wide16-2 Inv-loop μ-loop
+mul-wide16-2 c = omega (arith, c .before .before .before .before .pre .few)
 
-shared-slice-read-wide : tie.Need-shared-slice-read-wide Inv-loop μ-loop
-shared-slice-read-wide c = omega (arith, c .before .before .before .before .before .pre .fits)
+shared-slice-read-wide16 : tie.Need-shared-slice-read-wide16 Inv-loop μ-loop
+shared-slice-read-wide16 c = omega (arith, c .before .before .before .before .before .pre .fits)
 
-wide-requires : tie.Need-wide-requires Inv-loop μ-loop
-wide-requires c κs = search needs
+wide16-requires : tie.Need-wide16-requires Inv-loop μ-loop
+wide16-requires c κs = search needs
 
 mul-from-base : tie.Need-mul-from-base Inv-loop μ-loop
 mul-from-base c = omega (arith, c .before .before .before .before .before .before .pre .few)
@@ -45,8 +45,8 @@ from-base-requires c κs = search needs
 
 cast-own : tie.Need-cast-own Inv-loop μ-loop
 cast-own c =
-    let x = c .before .wide .ensures in
-    let s = base-small (4 * c .before .before .before .before .before .before .before .args .from) (c .before .wide .result) (c .before .before .before .before .loop .j) 65536 (omega (arith, x, c .before .before .shared-slice-known2 .given (4 * c .before .before .before .before .before .before .before .args .from + c .before .before .before .before .loop .j))) (omega (arith, c .before .before .before .before .before .before .before .pre .few)) in
+    let x = c .before .wide16 .ensures .0 in
+    let s = base-small (4 * c .before .before .before .before .before .before .before .args .from) (c .before .wide16 .result) (c .before .before .before .before .loop .j) 65536 (omega (arith, x, c .before .before .shared-slice-known2 .given (4 * c .before .before .before .before .before .before .before .args .from + c .before .before .before .before .loop .j))) (omega (arith, c .before .before .before .before .before .before .before .pre .few)) in
     omega (arith, s, c .from-base .ensures)
 
 mul-own : tie.Need-mul-own Inv-loop μ-loop
@@ -62,7 +62,7 @@ loop-less : tie.Need-loop-less Inv-loop μ-loop
 loop-less c = search needs
 
 loop-again : tie.Need-loop-again Inv-loop μ-loop
-loop-again c = (omega arith, filled-more (nameFrom (c .before .before .before .before .before .before .before .args .names .now) (c .before .before .before .before .before .before .before .args .from)) _ _ _ _ (c .before .before .before .before .loop .inv .1) (c .from-base .ensures ∙ ap (λ x. pick (leb (4 * c .before .before .before .before .before .before .before .args .from) x) (x - 4 * c .before .before .before .before .before .before .before .args .from) (c .before .before .before .before .loop .j)) (c .before .wide .ensures)))
+loop-again c = (omega arith, filled-more (nameFrom (c .before .before .before .before .before .before .before .args .names .now) (c .before .before .before .before .before .before .before .args .from)) _ _ _ _ (c .before .before .before .before .loop .inv .1) (c .from-base .ensures ∙ ap (λ x. pick (leb (4 * c .before .before .before .before .before .before .before .args .from) x) (x - 4 * c .before .before .before .before .before .before .before .args .from) (c .before .before .before .before .loop .j)) (c .before .wide16 .ensures .0)))
 
 same-length : tie.Need-same-length Inv-loop μ-loop
 same-length c = ap length (c .before .loop .inv .1) ∙ length-filled (nameFrom (c .before .before .before .before .args .names .now) (c .before .before .before .before .args .from)) (c .before .loop .j) (c .before .before .before .before .args .own .now)
@@ -79,11 +79,11 @@ write-names-spec =
     Inv-loop
     μ-loop
     loop-holds
-    mul-wide
-    add-wide
-    mul-wide-2
-    shared-slice-read-wide
-    wide-requires
+    mul-wide16
+    add-wide16
+    mul-wide16-2
+    shared-slice-read-wide16
+    wide16-requires
     mul-from-base
     from-base-requires
     cast-own

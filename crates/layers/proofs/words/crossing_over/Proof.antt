@@ -11,7 +11,7 @@ returns : tie.Need-returns
 returns c = rw (le-ltb (c .before .args .g) firstInnerCrossing (omega arith))
 
 returns-2 : tie.Need-returns-2
-returns-2 c = c .word .ensures .0 ∙ rw (lt-ltb (c .before .before .before .args .g) firstInnerCrossing (omega arith))
+returns-2 c = c .word16 .ensures .0 ∙ rw (lt-ltb (c .before .before .before .args .g) firstInnerCrossing (omega arith))
 
 pub crossing-over-spec : {M : Type 1} → statement M
 crossing-over-spec = tie.close (tie.spec returns (λ c. search needs) (λ c. search needs) (λ c κs. search needs) returns-2)

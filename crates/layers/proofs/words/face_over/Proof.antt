@@ -16,7 +16,7 @@ returns c = rw (le-ltb (c .before .args .f) firstInnerFace (omega arith))
 returns-2 : tie.Need-returns-2
 returns-2 c =
     let A = c .before .before .before .before .args in
-    c .word .ensures .0 ∙ ap (λ n. getD (A .names .now) ((4 * A .from + n) % mostSlots) 0) (c .before .before .index .ensures) ∙ rw (lt-ltb (A .f) firstInnerFace (omega arith))
+    c .word16 .ensures .0 ∙ ap (λ n. getD (A .names .now) ((4 * A .from + n) % mostSlots) 0) (c .before .before .wide32 .ensures .0) ∙ rw (lt-ltb (A .f) firstInnerFace (omega arith))
 
 pub face-over-spec : {M : Type 1} → statement M
 face-over-spec =

@@ -25,10 +25,10 @@ loop-holds c = (omega arith, refl, c .before .before .before .before .pre .1, λ
 number-edge-requires : tie.Need-number-edge-requires Inv-loop μ-loop
 number-edge-requires c κs =
     let A = c .before .before .before .before .before .before .before .before .before .before .before .before .before .before .before .before .args in
-    let e = c .before .before .before .before .before .before .before .wide .ensures in
-    let x = c .before .before .before .before .before .index .ensures ∙ ap (λ e. getD (A .own-starts .now) e 0) e in
-    let y = c .before .before .before .index2 .ensures ∙ ap (λ e. getD (A .starts .now) e 0) e in
-    let z = c .before .wide2 .ensures ∙ ap (λ e. getD (A .counts .now) e 0) e in
+    let e = c .before .before .before .before .before .before .before .wide16 .ensures .0 in
+    let x = c .before .before .before .before .before .wide32 .ensures .0 ∙ ap (λ e. getD (A .own-starts .now) e 0) e in
+    let y = c .before .before .before .wide322 .ensures .0 ∙ ap (λ e. getD (A .starts .now) e 0) e in
+    let z = c .before .wide162 .ensures .0 ∙ ap (λ e. getD (A .counts .now) e 0) e in
     let I = c .before .before .before .before .before .before .before .before .before .before .before .loop .inv in
     let L = c .before .before .before .before .before .before .before .before .before .before .before .before .before .before .before .before .pre .0 .1 in
     let l : c .before .before .before .before .before .before .before .before .before .before .before .loop .j < 6 * A .run .size = omega (arith, I .1) in
@@ -37,13 +37,13 @@ number-edge-requires c κs =
 loop-again : tie.Need-loop-again Inv-loop μ-loop
 loop-again c =
     let A = c .before .before .before .before .before .before .before .before .before .before .before .before .before .before .before .before .before .before .before .args in
-    let e = c .before .before .before .before .before .before .before .before .before .before .wide .ensures in
-    let x = c .before .before .before .before .before .before .before .before .index .ensures ∙ ap (λ e. getD (A .own-starts .now) e 0) e in
-    let y = c .before .before .before .before .before .before .index2 .ensures ∙ ap (λ e. getD (A .starts .now) e 0) e in
-    let z = c .before .before .before .before .wide2 .ensures ∙ ap (λ e. getD (A .counts .now) e 0) e in
+    let e = c .before .before .before .before .before .before .before .before .before .before .wide16 .ensures .0 in
+    let x = c .before .before .before .before .before .before .before .before .wide32 .ensures .0 ∙ ap (λ e. getD (A .own-starts .now) e 0) e in
+    let y = c .before .before .before .before .before .before .wide322 .ensures .0 ∙ ap (λ e. getD (A .starts .now) e 0) e in
+    let z = c .before .before .before .before .wide162 .ensures .0 ∙ ap (λ e. getD (A .counts .now) e 0) e in
     let J = c .before .before .before .before .before .before .before .before .before .before .before .before .before .before .loop in
     let q =
-    c .before .before .number-edge .ensures ∙ ap (λ a. sets (J .over) a (values (λ i. c .before .before .before .before .before .before .index2 .result + i) (c .before .before .before .before .wide2 .result))) x
+    c .before .before .number-edge .ensures ∙ ap (λ a. sets (J .over) a (values (λ i. c .before .before .before .before .before .before .wide322 .result + i) (c .before .before .before .before .wide162 .result))) x
     ∙ ap₂ (λ s n. sets (J .over) (ownAt (A .sides .now) (A .run .from) (A .own-starts .now) (J .j)) (values (λ i. s + i) n)) y z in
     (omega arith, J .inv .1, ap length q ∙ length-sets (J .over) (ownAt (A .sides .now) (A .run .from) (A .own-starts .now) (J .j)) (values (λ i. getD (A .starts .now) (sideFrom (A .sides .now) (A .run .from) (J .j)) 0 + i) (sideCount (A .counts .now) (A .sides .now) (A .run .from) (J .j))) ∙ J .inv .2, λ f L. numbered-more L (J .inv .3 f L) (omega (arith, J .inv .1)) (J .inv .2) q)
 
@@ -69,14 +69,14 @@ number-sides-spec =
     (λ c. omega (arith, c .before .before .before .before .before .before .before .pre .0 .1 .few, c .before .before .loop .inv .1))
     (λ c. omega (arith, c .before .before .before .before .before .before .before .pre .0 .1 .few, c .before .before .loop .inv .1))
     (λ c κs. search needs)
-    (λ c. let L = c .before .before .before .before .before .before .before .before .before .pre .0 .1 in omega (arith, L .few-counts, c .wide .ensures, L .edge (c .before .before .before .before .loop .j) (omega (arith, c .before .before .before .before .loop .inv .1))))
-    (λ c. let L = c .before .before .before .before .before .before .before .before .before .pre .0 .1 in omega (arith, L .few-counts, c .wide .ensures, L .edge (c .before .before .before .before .loop .j) (omega (arith, c .before .before .before .before .loop .inv .1))))
+    (λ c. let L = c .before .before .before .before .before .before .before .before .before .pre .0 .1 in omega (arith, L .few-counts, c .wide16 .ensures .0, L .edge (c .before .before .before .before .loop .j) (omega (arith, c .before .before .before .before .loop .inv .1))))
+    (λ c. let L = c .before .before .before .before .before .before .before .before .before .pre .0 .1 in omega (arith, L .few-counts, c .wide16 .ensures .0, L .edge (c .before .before .before .before .loop .j) (omega (arith, c .before .before .before .before .loop .inv .1))))
     (λ c κs. search needs)
-    (λ c. let L = c .before .before .before .before .before .before .before .before .before .before .before .pre .0 .1 in omega (arith, L .few-counts, L .starts-long, c .before .before .wide .ensures, L .edge (c .before .before .before .before .before .before .loop .j) (omega (arith, c .before .before .before .before .before .before .loop .inv .1))))
-    (λ c. let L = c .before .before .before .before .before .before .before .before .before .before .before .before .pre .0 .1 in omega (arith, L .few-counts, L .starts-long, c .before .before .before .wide .ensures, L .edge (c .before .before .before .before .before .before .before .loop .j) (omega (arith, c .before .before .before .before .before .before .before .loop .inv .1))))
+    (λ c. let L = c .before .before .before .before .before .before .before .before .before .before .before .pre .0 .1 in omega (arith, L .few-counts, L .starts-long, c .before .before .wide16 .ensures .0, L .edge (c .before .before .before .before .before .before .loop .j) (omega (arith, c .before .before .before .before .before .before .loop .inv .1))))
+    (λ c. let L = c .before .before .before .before .before .before .before .before .before .before .before .before .pre .0 .1 in omega (arith, L .few-counts, L .starts-long, c .before .before .before .wide16 .ensures .0, L .edge (c .before .before .before .before .before .before .before .loop .j) (omega (arith, c .before .before .before .before .before .before .before .loop .inv .1))))
     (λ c κs. search needs)
-    (λ c. let L = c .before .before .before .before .before .before .before .before .before .before .before .before .before .pre .0 .1 in omega (arith, L .few-counts, c .before .before .before .before .wide .ensures, L .edge (c .before .before .before .before .before .before .before .before .loop .j) (omega (arith, c .before .before .before .before .before .before .before .before .loop .inv .1))))
-    (λ c. let L = c .before .before .before .before .before .before .before .before .before .before .before .before .before .before .pre .0 .1 in omega (arith, L .few-counts, c .before .before .before .before .before .wide .ensures, L .edge (c .before .before .before .before .before .before .before .before .before .loop .j) (omega (arith, c .before .before .before .before .before .before .before .before .before .loop .inv .1))))
+    (λ c. let L = c .before .before .before .before .before .before .before .before .before .before .before .before .before .pre .0 .1 in omega (arith, L .few-counts, c .before .before .before .before .wide16 .ensures .0, L .edge (c .before .before .before .before .before .before .before .before .loop .j) (omega (arith, c .before .before .before .before .before .before .before .before .loop .inv .1))))
+    (λ c. let L = c .before .before .before .before .before .before .before .before .before .before .before .before .before .before .pre .0 .1 in omega (arith, L .few-counts, c .before .before .before .before .before .wide16 .ensures .0, L .edge (c .before .before .before .before .before .before .before .before .before .loop .j) (omega (arith, c .before .before .before .before .before .before .before .before .before .loop .inv .1))))
     (λ c κs. search needs)
     number-edge-requires
     (λ c. search needs)

@@ -25,26 +25,26 @@ abbrev μ-loop : tie.MeasureT-loop
 loop-holds : tie.Need-loop-holds Inv-loop μ-loop
 loop-holds c = (omega arith, sym (start-zero _), all-none (now (c .before .before .before .before .before .args .edges)) (now (c .before .before .before .before .before .args .counts)) (now (c .before .before .before .before .before .args .nodes)) (now (c .before .before .before .before .before .args .fractions)) (now (c .before .before .before .before .before .args .area)))
 
-mul-wide-3 : tie.Need-mul-wide-3 Inv-loop μ-loop
-mul-wide-3 c = omega (arith, c .before .before .before .before .before .before .before .before .before .before .pre .pairs)
+mul-wide16-3 : tie.Need-mul-wide16-3 Inv-loop μ-loop
+mul-wide16-3 c = omega (arith, c .before .before .before .before .before .before .before .before .before .before .pre .pairs)
 
-add-wide : tie.Need-add-wide Inv-loop μ-loop
-add-wide c = omega (arith, c .before .before .before .before .before .before .before .before .before .before .pre .pairs)
+add-wide16 : tie.Need-add-wide16 Inv-loop μ-loop
+add-wide16 c = omega (arith, c .before .before .before .before .before .before .before .before .before .before .pre .pairs)
 
-mul-wide-4 : tie.Need-mul-wide-4 Inv-loop μ-loop
-mul-wide-4 c = omega (arith, c .before .before .before .before .before .before .before .before .before .before .pre .pairs)
+mul-wide16-4 : tie.Need-mul-wide16-4 Inv-loop μ-loop
+mul-wide16-4 c = omega (arith, c .before .before .before .before .before .before .before .before .before .before .pre .pairs)
 
-shared-slice-read-wide-2 : tie.Need-shared-slice-read-wide-2 Inv-loop μ-loop
-shared-slice-read-wide-2 c = omega (arith, c .before .before .before .before .before .before .before .before .before .before .before .pre .pairs)
+shared-slice-read-wide16-2 : tie.Need-shared-slice-read-wide16-2 Inv-loop μ-loop
+shared-slice-read-wide16-2 c = omega (arith, c .before .before .before .before .before .before .before .before .before .before .before .pre .pairs)
 
 place-edge-requires : tie.Need-place-edge-requires Inv-loop μ-loop
-place-edge-requires c κs = let f = start-fits (now (c .before .before .before .before .before .before .before .before .before .before .before .before .before .before .before .before .args .counts)) (c .before .before .before .before .before .before .before .before .before .before .loop .e) (omega arith) in record { given = omega (arith, c .before .before .before .before .before .before .before .before .before .before .loop .inv .1, c .before .wide3 .ensures, c .before .before .before .before .before .before .before .before .before .before .before .before .before .before .before .before .pre .given, f); room = omega (arith, c .before .before .before .before .before .before .before .before .before .before .loop .inv .1, stored-long (c .before .before .before .before .before .before .before .before .before .before .loop .inv .2), c .before .wide3 .ensures, c .before .before .before .before .before .before .before .before .before .before .before .before .before .before .before .before .pre .room, f) }
+place-edge-requires c κs = let f = start-fits (now (c .before .before .before .before .before .before .before .before .before .before .before .before .before .before .before .before .args .counts)) (c .before .before .before .before .before .before .before .before .before .before .loop .e) (omega arith) in record { given = omega (arith, c .before .before .before .before .before .before .before .before .before .before .loop .inv .1, c .before .wide163 .ensures .0, c .before .before .before .before .before .before .before .before .before .before .before .before .before .before .before .before .pre .given, f); room = omega (arith, c .before .before .before .before .before .before .before .before .before .before .loop .inv .1, stored-long (c .before .before .before .before .before .before .before .before .before .before .loop .inv .2), c .before .wide163 .ensures .0, c .before .before .before .before .before .before .before .before .before .before .before .before .before .before .before .before .pre .room, f) }
 
 add-g : tie.Need-add-g Inv-loop μ-loop
-add-g c = let a = c .before .before .before .before .before .before .before .before .before .before .before .before .before .before .before .before .before .before .before .args in let l = c .before .before .before .before .before .before .before .before .before .before .before .before .before .loop in omega (arith, l .inv .1, c .before .before .before .before .wide3 .ensures, c .before .before .before .before .before .before .before .before .before .before .before .before .before .before .before .before .before .before .before .pre .given, c .before .before .before .before .before .before .before .before .before .before .before .before .before .before .before .before .before .before .before .good .1 .1 .1 .0 .0, start-fits (now (a .counts)) (l .e) (omega arith))
+add-g c = let a = c .before .before .before .before .before .before .before .before .before .before .before .before .before .before .before .before .before .before .before .args in let l = c .before .before .before .before .before .before .before .before .before .before .before .before .before .loop in omega (arith, l .inv .1, c .before .before .before .before .wide163 .ensures .0, c .before .before .before .before .before .before .before .before .before .before .before .before .before .before .before .before .before .before .before .pre .given, c .before .before .before .before .before .before .before .before .before .before .before .before .before .before .before .before .before .before .before .good .1 .1 .1 .0 .0, start-fits (now (a .counts)) (l .e) (omega arith))
 
 loop-again : tie.Need-loop-again Inv-loop μ-loop
-loop-again c = let l = c .before .before .before .before .before .before .before .before .before .before .before .before .before .loop in (omega arith, omega (arith, l .inv .1, c .before .before .before .before .wide3 .ensures, start-next (now (c .before .before .before .before .before .before .before .before .before .before .before .before .before .before .before .before .before .before .before .args .counts)) (l .e)), all-more (now (c .before .before .before .before .before .before .before .before .before .before .before .before .before .before .before .before .before .before .before .args .edges)) (now (c .before .before .before .before .before .before .before .before .before .before .before .before .before .before .before .before .before .before .before .args .counts)) (now (c .before .before .before .before .before .before .before .before .before .before .before .before .before .before .before .before .before .before .before .args .nodes)) (now (c .before .before .before .before .before .before .before .before .before .before .before .before .before .before .before .before .before .before .before .args .fractions)) (l .e) (l .g) (c .before .before .before .before .wide3 .result) (l .inv .2) (omega arith) (l .inv .1) (c .before .before .before .before .wide3 .ensures) (c .before .before .before .before .before .before .before .before .before .load .ensures ∙ ap (placeAt (now (c .before .before .before .before .before .before .before .before .before .before .before .before .before .before .before .before .before .before .before .args .nodes))) (c .before .before .before .before .before .before .before .before .before .before .wide .ensures)) (c .before .before .before .before .before .before .load2 .ensures ∙ ap (placeAt (now (c .before .before .before .before .before .before .before .before .before .before .before .before .before .before .before .before .before .before .before .args .nodes))) (c .before .before .before .before .before .before .before .wide2 .ensures)) (c .before .before .place-edge .ensures))
+loop-again c = let l = c .before .before .before .before .before .before .before .before .before .before .before .before .before .loop in (omega arith, omega (arith, l .inv .1, c .before .before .before .before .wide163 .ensures .0, start-next (now (c .before .before .before .before .before .before .before .before .before .before .before .before .before .before .before .before .before .before .before .args .counts)) (l .e)), all-more (now (c .before .before .before .before .before .before .before .before .before .before .before .before .before .before .before .before .before .before .before .args .edges)) (now (c .before .before .before .before .before .before .before .before .before .before .before .before .before .before .before .before .before .before .before .args .counts)) (now (c .before .before .before .before .before .before .before .before .before .before .before .before .before .before .before .before .before .before .before .args .nodes)) (now (c .before .before .before .before .before .before .before .before .before .before .before .before .before .before .before .before .before .before .before .args .fractions)) (l .e) (l .g) (c .before .before .before .before .wide163 .result) (l .inv .2) (omega arith) (l .inv .1) (c .before .before .before .before .wide163 .ensures .0) (c .before .before .before .before .before .before .before .before .before .load .ensures ∙ ap (placeAt (now (c .before .before .before .before .before .before .before .before .before .before .before .before .before .before .before .before .before .before .before .args .nodes))) (c .before .before .before .before .before .before .before .before .before .before .wide16 .ensures .0)) (c .before .before .before .before .before .before .load2 .ensures ∙ ap (placeAt (now (c .before .before .before .before .before .before .before .before .before .before .before .before .before .before .before .before .before .before .before .args .nodes))) (c .before .before .before .before .before .before .before .wide162 .ensures .0)) (c .before .before .place-edge .ensures))
 
 returns : tie.Need-returns Inv-loop μ-loop
 returns c = let l = c .before .loop in let z : l .e ≡ length (now (c .before .before .before .before .before .before .before .args .counts)) = omega arith in l .inv .2 .area ∙ ap (λ n. sets (now (c .before .before .before .before .before .before .before .args .area)) 0 (allNumbers (values (crossingPlace (now (c .before .before .before .before .before .before .before .args .edges)) (now (c .before .before .before .before .before .before .before .args .counts)) (now (c .before .before .before .before .before .before .before .args .nodes)) (now (c .before .before .before .before .before .before .before .args .fractions))) n))) (l .inv .1 ∙ ap (start (now (c .before .before .before .before .before .before .before .args .counts))) z)
@@ -61,10 +61,10 @@ place-crossings-spec =
     (λ c. omega (arith, c .before .before .before .before .before .before .before .before .pre .pairs))
     (λ c κs. tt)
     (λ c κs. tt)
-    mul-wide-3
-    add-wide
-    mul-wide-4
-    shared-slice-read-wide-2
+    mul-wide16-3
+    add-wide16
+    mul-wide16-4
+    shared-slice-read-wide16-2
     (λ c κs. tt)
     (λ c κs. tt)
     (λ c. omega arith)

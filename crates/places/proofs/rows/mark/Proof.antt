@@ -16,10 +16,10 @@ abbrev μ-loop : tie.MeasureT-loop
 μ-loop cells used₀ j₀ used j = length cells - j
 
 slice-write-used : tie.Need-slice-write-used Inv-loop μ-loop
-slice-write-used c = omega (arith, c .before .before .before .loop .inv .1 .long, c .wide .ensures, c .before .before .before .before .before .before .pre .nodes (c .before .before .before .loop .j) (omega arith))
+slice-write-used c = omega (arith, c .before .before .before .loop .inv .1 .long, c .wide16 .ensures .0, c .before .before .before .before .before .before .pre .nodes (c .before .before .before .loop .j) (omega arith))
 
 loop-again : tie.Need-loop-again Inv-loop μ-loop
-loop-again c = let l = c .before .before .before .loop in (omega arith, noted-more (now (c .before .before .before .before .before .before .args .cells)) (λ v. 1) 0 (l .used) (l .j) (c .wide .result) (l .inv .1) (c .wide .ensures) (omega (arith, c .wide .ensures, c .before .before .before .before .before .before .pre .nodes (l .j) (omega arith))) 1 refl)
+loop-again c = let l = c .before .before .before .loop in (omega arith, noted-more (now (c .before .before .before .before .before .before .args .cells)) (λ v. 1) 0 (l .used) (l .j) (c .wide16 .result) (l .inv .1) (c .wide16 .ensures .0) (omega (arith, c .wide16 .ensures .0, c .before .before .before .before .before .before .pre .nodes (l .j) (omega arith))) 1 refl)
 
 returns : tie.Need-returns Inv-loop μ-loop
 returns c = let l = c .before .loop in let e : l .j ≡ length (now (c .before .before .before .before .args .cells)) = omega arith in marked (now (c .before .before .before .before .args .cells)) (l .used) (c .before .before .before .before .pre .fours) (l .j) e (l .inv .1)

@@ -17,19 +17,19 @@ abbrev μ-loop : tie.MeasureT-loop
 μ-loop counts fractions g₀ e₀ g e = length counts - e
 
 bad-on-edge-requires : tie.Need-bad-on-edge-requires Inv-loop μ-loop
-bad-on-edge-requires c κs = let a = c .before .before .before .before .before .before .args in let l = c .before .before .before .loop in omega (arith, l .inv .1, c .wide .ensures, c .before .before .before .before .before .before .pre, start-fits (now (a .counts)) (l .e) (omega arith))
+bad-on-edge-requires c κs = let a = c .before .before .before .before .before .before .args in let l = c .before .before .before .loop in omega (arith, l .inv .1, c .wide16 .ensures .0, c .before .before .before .before .before .before .pre, start-fits (now (a .counts)) (l .e) (omega arith))
 
 add-result : tie.Need-add-result Inv-loop μ-loop
-add-result c = let a = c .before .before .before .before .before .before .before .before .args in let l = c .before .before .before .before .before .loop in omega (arith, l .inv .1, c .before .before .wide .ensures, c .before .before .before .before .before .before .before .before .pre, start-fits (now (a .counts)) (l .e) (omega arith))
+add-result c = let a = c .before .before .before .before .before .before .before .before .args in let l = c .before .before .before .before .before .loop in omega (arith, l .inv .1, c .before .before .wide16 .ensures .0, c .before .before .before .before .before .before .before .before .pre, start-fits (now (a .counts)) (l .e) (omega arith))
 
 returns : tie.Need-returns Inv-loop μ-loop
-returns c = let a = c .before .before .before .before .before .before .before .before .args in let l = c .before .before .before .before .before .loop in fault-found (now (a .counts)) (now (a .fractions)) (l .e) (omega arith) (l .g) (c .before .before .wide .result) (c .before .bad-on-edge .result) (l .inv .1) (c .before .before .wide .ensures) (c .before .bad-on-edge .ensures) (l .inv .2) (c .if1 .taken)
+returns c = let a = c .before .before .before .before .before .before .before .before .args in let l = c .before .before .before .before .before .loop in fault-found (now (a .counts)) (now (a .fractions)) (l .e) (omega arith) (l .g) (c .before .before .wide16 .result) (c .before .bad-on-edge .result) (l .inv .1) (c .before .before .wide16 .ensures .0) (c .before .bad-on-edge .ensures) (l .inv .2) (c .if1 .taken)
 
 add-g : tie.Need-add-g Inv-loop μ-loop
-add-g c = let a = c .before .before .before .before .before .before .before .before .args in let l = c .before .before .before .before .before .loop in omega (arith, l .inv .1, c .before .before .wide .ensures, c .before .before .before .before .before .before .before .before .pre, start-fits (now (a .counts)) (l .e) (omega arith))
+add-g c = let a = c .before .before .before .before .before .before .before .before .args in let l = c .before .before .before .before .before .loop in omega (arith, l .inv .1, c .before .before .wide16 .ensures .0, c .before .before .before .before .before .before .before .before .pre, start-fits (now (a .counts)) (l .e) (omega arith))
 
 loop-again : tie.Need-loop-again Inv-loop μ-loop
-loop-again c = let a = c .before .before .before .before .before .before .before .before .args in let l = c .before .before .before .before .before .loop in (omega arith, omega (arith, l .inv .1, c .before .before .wide .ensures, start-next (now (a .counts)) (l .e)), fine-on (now (a .counts)) (now (a .fractions)) (l .e) (omega arith) (l .g) (c .before .before .wide .result) (c .before .bad-on-edge .result) (l .inv .1) (c .before .before .wide .ensures) (c .before .bad-on-edge .ensures) (l .inv .2) (c .if1 .left))
+loop-again c = let a = c .before .before .before .before .before .before .before .before .args in let l = c .before .before .before .before .before .loop in (omega arith, omega (arith, l .inv .1, c .before .before .wide16 .ensures .0, start-next (now (a .counts)) (l .e)), fine-on (now (a .counts)) (now (a .fractions)) (l .e) (omega arith) (l .g) (c .before .before .wide16 .result) (c .before .bad-on-edge .result) (l .inv .1) (c .before .before .wide16 .ensures .0) (c .before .bad-on-edge .ensures) (l .inv .2) (c .if1 .left))
 
 returns-2 : tie.Need-returns-2 Inv-loop μ-loop
 returns-2 c = let a = c .before .before .before .before .args in let l = c .before .loop in let z : l .e ≡ length (now (a .counts)) = omega arith in fine-end (now (a .counts)) (now (a .fractions)) (l .g) (l .inv .1 ∙ ap (start (now (a .counts))) z) (l .inv .2)
