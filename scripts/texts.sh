@@ -8,8 +8,11 @@ for check in scripts/documents.py scripts/headers.py scripts/proof/contracts.py;
   "$check" --test
   "$check"
 done
-scripts/reading.py --test
+for check in scripts/reading.py scripts/rooms.py; do
+  "$check" --test
+done
 scripts/reading.py --check
+scripts/rooms.py
 
 mapfile -t shells < <(grep -lE '^#!/(usr/bin/env bash|bin/(ba)?sh)' .ci/run scripts/* tests/c/* 2>/dev/null || true)
 if command -v shellcheck >/dev/null 2>&1; then

@@ -10,12 +10,14 @@ use lib.Dec.{eqb}
 use lib.ListN.{length}
 use borrow.Author.Tests.{eqb-true, eqb-false, le-ltb, lt-ltb, not-true}
 use Rattle.counting.specs.Pick.{pick}
-use Rattle.counting.specs.Search.{first, seek, some}
+use Rattle.counting.specs.Search.{first, some}
+use Rattle.counting.specs.Lists.{seek}
 use Rattle.counting.proofs.Bools.{and-left, and-right}
 use Rattle.counting.proofs.Search.{first-at, first-below, first-is, none-first, some-first, some-none}
 use Rattle.answer.specs.Answer.{refusal, result, isResult}
-use Rattle.answer.specs.Rows.{Row, orRefuse, answerOf}
-use Rattle.answer.specs.Faults.{since, numbered, rowAt, Clear, AllClear, Refusal}
+use Rattle.answer.specs.Rows.{Row, orRefuse, answerOf, Clear}
+use Rattle.answer.specs.work.Faults.{since, numbered}
+use Rattle.answer.specs.claims.Faults.{rowAt, AllClear, Refusal}
 use Rattle.answer.proofs.Answer.{no-nil}
 
 module _ (row : Row) (more : List Row) (rest : List ℕ) (p : ℕ) (e : p ≡ first (row .fault) (row .places)) where

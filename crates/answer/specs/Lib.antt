@@ -1,3 +1,4 @@
 pub mod Answer
 pub mod Rows
-pub mod Faults
+pub mod claims
+pub mod work

@@ -1,7 +1,8 @@
 -- Rows of the table of refusals (01): each is a test of its places. A call refuses by the first of its rows that has a fault, at the lowest place.
-use Prim.Native.Nat.{ℕ}
-use mathlib.Core.Bool.{Bool}
+use Prim.Native.Nat.{ℕ, _<_}
+use mathlib.Core.Bool.{Bool, false}
 use mathlib.Core.List.{List, [], _∷_}
+use mathlib.Core.Path.{_≡_}
 use lib.Dec.{ltb}
 use Rattle.counting.specs.Pick.{pick}
 use Rattle.counting.specs.Search.{first}
@@ -29,3 +30,7 @@ orRefuse row rest =
 unfoldable pub answerOf : List Row → List ℕ → List ℕ
 answerOf [] rest = rest
 answerOf (row ∷ more) rest = orRefuse row (answerOf more rest)
+
+-- a row without a fault
+abbrev pub Clear : Row → Type 0
+Clear row = (p : ℕ) → p < row .places → row .fault p ≡ false

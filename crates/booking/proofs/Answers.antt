@@ -14,10 +14,11 @@ use Rattle.booking.specs.declared.Gain.{Gain}
 use Rattle.booking.specs.declared.Fans.{Fans}
 use Rattle.booking.specs.declared.Fans.the-variants.{Counted, WalkIt}
 use Rattle.booking.specs.Figures.{areSplit}
-use Rattle.booking.specs.Booking.{smallest, median, leftBetween, besideDrawn, cornerTriangles, larger, smaller, booked, bookedSplit, splitsBy, moreBy, splitsIn, moreIn}
-use Rattle.booking.specs.Fans.{fansNumbers, fansAnswer}
+use Rattle.booking.specs.Booking.{smallest, median, leftBetween, besideDrawn, cornerTriangles, larger, smaller, bookedSplit}
+use Rattle.booking.specs.claims.Booking.{booked, splitsBy, moreBy, splitsIn, moreIn}
+use Rattle.booking.specs.work.Fans.{fansNumbers, fansAnswer}
 use Rattle.booking.specs.Answer.{bookingAnswer}
-use Rattle.booking.specs.Sums.{mostNumber, FewFans, GainBy, GainIn}
+use Rattle.booking.specs.work.Sums.{mostNumber, FewFans, GainBy, GainIn}
 use Rattle.booking.proofs.Drawn.{split-least}
 
 -- three numbers of which the least is 2 or more, and the one between 4 or more

@@ -7,13 +7,13 @@ use native.Mathlib.Omega.{arith}
 use Rattle.answer.proofs.Answer.{no-nil}
 use Rattle.cell.specs.Cell.{Edges}
 use Rattle.cell.specs.Loop.{loopSize}
-use Rattle.cell.specs.Nodes.{Arranged}
+use Rattle.cell.specs.claims.Nodes.{Arranged}
 use Rattle.cell.specs.Level.{isLevelCell}
 use Rattle.cell.proofs.Mates.{laws}
 use Rattle.cell.proofs.Turn.{turn}
 use Rattle.booking.specs.declared.Booking.the-variants.{Booked, WalkIt}
-use Rattle.booking.specs.Booking.{otherLength}
-use Rattle.booking.specs.Claims.{OneToOne, Other, LoopLaws, CountLaws, StepLaws, Books, TrianglesBooked}
+use Rattle.booking.specs.claims.Booking.{otherLength}
+use Rattle.booking.specs.claims.Claims.{OneToOne, Other, LoopLaws, CountLaws, StepLaws, Books, TrianglesBooked}
 use Rattle.booking.proofs.Counts.{twice-corner, twice-least, fits, left-opposite, left-sum, numbers}
 use Rattle.booking.proofs.Numbers.{gcd-none, long-four, long-more}
 use Rattle.booking.proofs.Closed.{goes}

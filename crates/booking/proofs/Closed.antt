@@ -7,9 +7,9 @@ use native.Mathlib.Omega.{arith}
 use Rattle.slots.specs.Slots.{slotEdge, edgeRank}
 use Rattle.slots.proofs.Slots.{EdgeSlot, slot-edge}
 use Rattle.face.specs.Face.{joined, countOn}
-use Rattle.face.specs.Level.{LevelLaws}
+use Rattle.face.specs.claims.Level.{LevelLaws}
 use Rattle.face.proofs.Level.{levelLaws}
-use Rattle.walk.specs.Iterate.{it}
+use Rattle.counting.specs.Lists.{it}
 use Rattle.cell.specs.Cell.{Edges, crossings, edge, index, joinAt, slot, step}
 use Rattle.cell.specs.Level.{isLevelCell}
 use Rattle.cell.proofs.Levels.{slot-level}

@@ -10,21 +10,23 @@ use Rattle.counting.specs.Pick.{pick}
 use Rattle.counting.proofs.Bools.{or-cases, or-none, or-left, or-right}
 use Rattle.slots.specs.Slots.{lo, hi}
 use Rattle.slots.proofs.Slots.{first-slot}
-use Rattle.walk.specs.Iterate.{it}
+use Rattle.counting.specs.Lists.{it}
 use Rattle.walk.specs.Darts.{Loop, half, rev}
 use Rattle.walk.proofs.Curve.{loop-length, loop-later}
 use Rattle.walk.proofs.Once.{closed-in}
 use Rattle.cell.specs.Cell.{Edges, crossings, edge, index, step}
 use Rattle.cell.specs.Loop.{loopSize, dart}
-use Rattle.cell.specs.Nodes.{Arranged, countBetween, kthFrom, dartAt}
+use Rattle.cell.specs.claims.Nodes.{Arranged, kthFrom, dartAt}
+use Rattle.cell.specs.Nodes.{countBetween}
 use Rattle.cell.specs.Level.{isLevelCell}
 use Rattle.cell.proofs.Nodes.{bacd, joining-ends, arranged, lo-is, hi-is}
 use Rattle.cell.proofs.Turn.{dart-flip, crossing-flip, crossing-edge, crossing-index, crossing-is, dart-is}
 use Rattle.cell.proofs.Lay.{lay}
 use Rattle.cell.proofs.Mates.{slot-has, darts}
 use Rattle.cell.proofs.Loops.{the-loop}
-use Rattle.booking.specs.Booking.{leastCorner, otherLength}
-use Rattle.booking.specs.Claims.{OnLoop, InCorner}
+use Rattle.booking.specs.Booking.{leastCorner}
+use Rattle.booking.specs.claims.Booking.{otherLength}
+use Rattle.booking.specs.claims.Claims.{OnLoop, InCorner}
 use Rattle.booking.proofs.Counts.{fits}
 use Rattle.booking.proofs.Numbers.{not-three}
 use Rattle.booking.proofs.Lengths.{corner-loop, left-loop}

@@ -7,28 +7,27 @@ use native.Mathlib.Omega.{arith}
 use native.Mathlib.Nat.{mul-zero, mul-one, eq-of-mul-eq-mul-left, eq-zero-or-pos}
 use lib.Dec.{eqb}
 use borrow.Author.Tests.{eqb-true, eqb-false}
-use Rattle.counting.specs.Pick.{pick, one}
-use Rattle.counting.specs.Range.{total}
+use Rattle.counting.specs.Pick.{pick}
+use Rattle.counting.specs.Lists.{one, total, pre, it}
 use Rattle.counting.specs.Search.{count}
-use Rattle.counting.specs.Pack.{pre}
 use Rattle.counting.specs.Gcd.{gcd}
 use Rattle.counting.proofs.Range.{total-ext, total-zero, total-add, total-same, total-times}
 use Rattle.counting.proofs.Search.{count-total, count-ext}
 use Rattle.counting.proofs.Rows.{count-ends}
 use Rattle.slots.specs.Slots.{lo, hi}
-use Rattle.walk.specs.Iterate.{it}
 use Rattle.walk.specs.Darts.{half, rev}
 use Rattle.walk.proofs.Once.{sum-loops}
 use Rattle.cell.specs.Cell.{Edges, crossings, number, step}
 use Rattle.cell.specs.Loop.{loopSize}
-use Rattle.cell.specs.Nodes.{Arranged}
+use Rattle.cell.specs.claims.Nodes.{Arranged}
 use Rattle.cell.specs.Level.{isLevelCell}
 use Rattle.cell.proofs.Nodes.{abdc, acbd, acdb, adbc, joining-ends}
 use Rattle.cell.proofs.Lay.{count-edges}
 use Rattle.cell.proofs.Step.{edge-number, index-number}
 use Rattle.cell.proofs.Mates.{darts}
-use Rattle.booking.specs.Booking.{leastCorner, cornerTriangles, leftBetween, larger, smaller, otherLength}
-use Rattle.booking.specs.Left.{pairSum, largestPair, Longest}
+use Rattle.booking.specs.Booking.{leastCorner, cornerTriangles, leftBetween, larger, smaller}
+use Rattle.booking.specs.claims.Booking.{otherLength}
+use Rattle.booking.specs.claims.Left.{pairSum, largestPair, Longest}
 use Rattle.booking.proofs.Counts.{top-cases, left-opposite, left-sum, numbers}
 use Rattle.booking.proofs.Numbers.{long-times, no-long}
 use Rattle.booking.proofs.Closed.{goes}

@@ -8,19 +8,20 @@ use native.Mathlib.Omega.{arith}
 use native.Mathlib.Decide.{decLt}
 use lib.Dec.{ltb}
 use Rattle.counting.specs.Pick.{pick}
-use Rattle.slots.specs.Slots.{edgeBetween, edgeRank}
-use Rattle.face.specs.Face.{lower, upper, other, opposite}
-use Rattle.face.specs.Ends.{End, low, high, on-ab, on-ac, on-bc}
-use Rattle.face.specs.Level.{Level}
+use Rattle.slots.specs.Slots.{edgeBetween, edgeRank, lower, upper}
+use Rattle.face.specs.Face.{other, opposite}
+use Rattle.face.specs.claims.Ends.{End, low, high, on-ab, on-ac, on-bc}
+use Rattle.face.specs.claims.Level.{Level}
 use Rattle.face.proofs.Level.{level-corner, level-end}
 use Rattle.cell.specs.Cell.{Edges}
-use Rattle.cell.specs.Nodes.{Arranged, joining, countBetween, cornerFrom}
+use Rattle.cell.specs.claims.Nodes.{Arranged}
+use Rattle.cell.specs.Nodes.{joining, countBetween, cornerFrom}
 use Rattle.cell.specs.Level.{isLevelCell}
 use Rattle.cell.proofs.Levels.{slot-level}
 use Rattle.cell.proofs.Nodes.{sum-six, lowest-of, dcba, abdc, acbd, acdb, adbc, bacd, badc, bcad, bcda, bdac, cdab, other-is, opposite-is, lower-is, upper-is}
 use Rattle.cell.proofs.Turn.{flip-count, corner-flip, count-is, ends}
 use Rattle.booking.specs.Booking.{smallest, median, cornerOn, leastCorner, leftBetween, larger, smaller}
-use Rattle.booking.specs.Left.{pairSum, largestPair, Longest, Numbers}
+use Rattle.booking.specs.claims.Left.{pairSum, largestPair, Longest, Numbers}
 
 -- the three faces at a node from any of them
 smallest-end : (f : ℕ → ℕ) {v e : ℕ} → End v e → smallest (f 0) (f 1) (f 2) ≡ smallest (f e) (f (other v e)) (f (opposite v))

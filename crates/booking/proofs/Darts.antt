@@ -9,12 +9,13 @@ use native.Mathlib.Decide.{decLt}
 use native.Mathlib.Nat.{mod-eq-of-lt, mod-eq-sub-mod}
 use borrow.Author.Tests.{lt-ltb, le-ltb}
 use Rattle.cell.specs.Cell.{Edges, crossings, edge, slot, step}
-use Rattle.cell.specs.Nodes.{Arranged, joining, countBetween, cornerFrom, dartAt}
+use Rattle.cell.specs.claims.Nodes.{Arranged, dartAt}
+use Rattle.cell.specs.Nodes.{joining, countBetween, cornerFrom}
 use Rattle.cell.specs.Level.{isLevelCell}
 use Rattle.cell.proofs.Nodes.{dcab, acdb, acbd, adbc, adcb, bcad, cabd, cbad, cbda, cdab, cdba, dacb, dcba, both-ways, beside-edge}
 use Rattle.cell.proofs.Turn.{dart-flip, turn, dart-lt, dart-edge, dart-slot}
 use Rattle.booking.specs.Booking.{leastCorner, leftBetween}
-use Rattle.booking.specs.Left.{further, largestPair, Longest, leftDart, roundDart, TwoSteps}
+use Rattle.booking.specs.claims.Left.{further, largestPair, Longest, leftDart, roundDart, TwoSteps}
 use Rattle.booking.proofs.Counts.{ways, fits, twice-left, corner-beyond, left-opposite, left-flip, longest-swap, left-sum}
 
 module _ (w : Edges) (a b c d q : ℕ) where

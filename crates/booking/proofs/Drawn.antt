@@ -13,8 +13,9 @@ use Rattle.counting.proofs.Bools.{and-left, and-right}
 use Rattle.counting.proofs.Gcd.{gcd-both}
 use Rattle.booking.specs.declared.Gain.{Gain}
 use Rattle.booking.specs.Figures.{areSpiral, areSplit, splits, besideSplit}
-use Rattle.booking.specs.Booking.{beside, besideDrawn, splitsBy, moreBy}
-use Rattle.booking.specs.Sums.{mostNumber, mostBeside, GainBy}
+use Rattle.booking.specs.Booking.{beside, besideDrawn}
+use Rattle.booking.specs.claims.Booking.{splitsBy, moreBy}
+use Rattle.booking.specs.work.Sums.{mostNumber, mostBeside, GainBy}
 use Rattle.booking.proofs.Figures.{figure-stop, figure-step, figureLaws}
 
 pub beside-more : (x y : ℕ) → 0 < y → beside x y ≡ 4 * (x + y)

@@ -7,7 +7,8 @@ use native.Mathlib.Decide.{decLt, ℕ-discrete}
 use borrow.Author.Tests.{eq-eqb, ne-eqb}
 use Rattle.counting.specs.Gcd.{gcd}
 use Rattle.counting.proofs.Gcd.{gcd-pos, gcd-both, gcd-swap, gcd-zero, gcd-less}
-use Rattle.booking.specs.Figures.{nextLarger, nextSmaller, figureIn, figure, splits, FigureLaws}
+use Rattle.booking.specs.Figures.{nextLarger, nextSmaller, figureIn, figure, splits}
+use Rattle.booking.specs.claims.Figures.{FigureLaws}
 
 module _ (stop : ℕ → ℕ) (add : ℕ → ℕ → ℕ) where
   pub stop-in : (n x : ℕ) → figureIn stop add n x x ≡ stop x

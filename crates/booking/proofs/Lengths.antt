@@ -6,17 +6,19 @@ use mathlib.Core.Bool.{true}
 use native.Mathlib.Omega.{arith}
 use native.Mathlib.Decide.{decLt}
 use Rattle.counting.proofs.Gcd.{order}
-use Rattle.walk.specs.Iterate.{it}
+use Rattle.counting.specs.Lists.{it}
 use Rattle.walk.specs.Darts.{Loop, half, rev}
 use Rattle.walk.proofs.Curve.{all-close, loop-length, loop-next}
 use Rattle.cell.specs.Cell.{Edges, crossings, edge, step}
-use Rattle.cell.specs.Nodes.{Arranged, countBetween, cornerFrom, dartAt}
+use Rattle.cell.specs.claims.Nodes.{Arranged, dartAt}
+use Rattle.cell.specs.Nodes.{countBetween, cornerFrom}
 use Rattle.cell.specs.Level.{isLevelCell}
 use Rattle.cell.proofs.Nodes.{abdc, acbd, acdb, adbc, bacd, cabd, beside-edge}
 use Rattle.cell.proofs.Turn.{corner-flip, dart-flip, turn, dart-lt, dart-edge}
 use Rattle.cell.proofs.Mates.{darts}
-use Rattle.booking.specs.Booking.{leastCorner, leftBetween, otherLength}
-use Rattle.booking.specs.Left.{pairSum, largestPair, leftDart, roundDart, Longest}
+use Rattle.booking.specs.Booking.{leastCorner, leftBetween}
+use Rattle.booking.specs.claims.Booking.{otherLength}
+use Rattle.booking.specs.claims.Left.{pairSum, largestPair, leftDart, roundDart, Longest}
 use Rattle.booking.proofs.Counts.{least-is, two-corners, top-cases, corner-beyond, left-sum, numbers}
 use Rattle.booking.proofs.Numbers.{four-orders}
 use Rattle.booking.proofs.Darts.{round-up, round-down}

@@ -7,8 +7,9 @@ use native.Mathlib.Decide.{decLt}
 use native.Mathlib.Nat.{mul-comm, mul-assoc, zero-mul, div-eq-of-eq-mul-left, div-le-self, mul-div-cancel', dvd-add, le-of-dvd, eq-zero-or-pos, eq-of-mul-eq-mul-left}
 use Rattle.counting.specs.Gcd.{gcd}
 use Rattle.counting.proofs.Gcd.{Order, order-gcd, gcd-swap, gcd-zero, gcd-pos, gcd-both}
-use Rattle.booking.specs.Booking.{larger, smaller, otherLength}
-use Rattle.booking.specs.Left.{Numbers}
+use Rattle.booking.specs.Booking.{larger, smaller}
+use Rattle.booking.specs.claims.Booking.{otherLength}
+use Rattle.booking.specs.claims.Left.{Numbers}
 use Rattle.booking.proofs.Counts.{own}
 
 module _ (w : ℕ → ℕ) where

@@ -3,8 +3,8 @@ use Prim.Native.Nat.{ℕ, zero, suc, _+_, _*_, _/_, _%_, _<_, _∣_}
 use mathlib.Core.Path.{_≡_, sym, ap, _∙_, subst}
 use native.Mathlib.Omega.{arith}
 use native.Mathlib.Nat.{mul-suc, mul-zero, mul-assoc, mul-left-comm, mod-lt, mod-eq-of-lt, mod-add-mod, div-add-mod, add-mul-mod-self-left, mul-div-cancel', dvd-mul-right}
-use Rattle.walk.specs.Iterate.{it}
-use Rattle.booking.specs.Left.{further}
+use Rattle.counting.specs.Lists.{it}
+use Rattle.booking.specs.claims.Left.{further}
 
 module _ (n x : ℕ) where
   pub further-lt : (q : ℕ) → q < n → further n x q < n

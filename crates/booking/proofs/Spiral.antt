@@ -6,16 +6,17 @@ use mathlib.Core.Bool.{true}
 use native.Mathlib.Omega.{arith}
 use native.Mathlib.Decide.{decLt}
 use Rattle.counting.proofs.Gcd.{Order}
-use Rattle.walk.specs.Iterate.{it}
+use Rattle.counting.specs.Lists.{it}
 use Rattle.walk.specs.Darts.{Loop}
 use Rattle.walk.proofs.Iterate.{it-add}
 use Rattle.cell.specs.Cell.{Edges, crossings, edge, index, slot, step}
-use Rattle.cell.specs.Nodes.{Arranged, joining}
+use Rattle.cell.specs.claims.Nodes.{Arranged}
+use Rattle.cell.specs.Nodes.{joining}
 use Rattle.cell.specs.Level.{isLevelCell}
 use Rattle.cell.proofs.Nodes.{adcb, adbc, across-edge}
 use Rattle.cell.proofs.Turn.{kth-once, dart-index}
 use Rattle.booking.specs.Booking.{leastCorner, leftBetween}
-use Rattle.booking.specs.Left.{leftDart, roundDart, further, Longest, TwoSteps}
+use Rattle.booking.specs.claims.Left.{leftDart, roundDart, further, Longest, TwoSteps}
 use Rattle.booking.proofs.Counts.{longest-second, left-sum}
 use Rattle.booking.proofs.Darts.{left-lt, left-edge, left-slot, room, round-up, round-down, two-steps, left-ba, left-bd}
 use Rattle.booking.proofs.Rounds.{furthers-lt, further-lt, back-if, if-back}

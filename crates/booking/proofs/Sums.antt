@@ -6,17 +6,19 @@ use mathlib.Core.Logic.{⊎-elim}
 use mathlib.Core.Bool.{true, false}
 use mathlib.Core.List.{List, []}
 use native.Mathlib.Omega.{arith}
-use Rattle.counting.specs.Range.{total}
+use Rattle.counting.specs.Lists.{total}
 use Rattle.slots.specs.Slots.{edgeBetween}
 use Rattle.answer.specs.Answer.{result}
-use Rattle.cell.specs.Limits.{mostSum}
-use Rattle.cell.specs.Nodes.{Arranged, joining}
+use Rattle.cell.specs.work.Limits.{mostSum}
+use Rattle.cell.specs.claims.Nodes.{Arranged}
+use Rattle.cell.specs.Nodes.{joining}
 use Rattle.cell.specs.Level.{byEdge, isLevelCell}
 use Rattle.cell.proofs.Nodes.{abdc, acbd, acdb, badc, cdab, dcba}
-use Rattle.booking.specs.Booking.{smallest, median, cornerTriangles, leftBetween, larger, smaller, booked}
-use Rattle.booking.specs.Left.{pairSum, largestPair, Longest}
-use Rattle.booking.specs.Fans.{fansAnswer}
-use Rattle.booking.specs.Sums.{Three, ofThree, largest, Sums}
+use Rattle.booking.specs.Booking.{smallest, median, cornerTriangles, leftBetween, larger, smaller}
+use Rattle.booking.specs.claims.Booking.{booked}
+use Rattle.booking.specs.claims.Left.{pairSum, largestPair, Longest}
+use Rattle.booking.specs.work.Fans.{fansAnswer}
+use Rattle.booking.specs.work.Sums.{Three, ofThree, largest, Sums}
 use Rattle.booking.proofs.Counts.{ways, Pairs, pairs, top-cases, twice-least, twice-left, numbers}
 
 -- what the largest and the least of three numbers leave of their sum is the one between

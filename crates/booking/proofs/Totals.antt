@@ -11,28 +11,29 @@ use lib.Dec.{ltb}
 use lib.ListN.{length}
 use borrow.Author.Tests.{eq-eqb, ne-eqb}
 use Rattle.counting.specs.Pick.{pick}
-use Rattle.counting.specs.Range.{total}
-use Rattle.counting.specs.Pack.{pre}
+use Rattle.counting.specs.Lists.{total, pre}
 use Rattle.counting.proofs.Range.{total-ext, total-add, total-mono, total-same, length-over}
 use Rattle.cell.specs.declared.Cell.{Cell}
 use Rattle.slots.specs.Limits.{mostCells}
-use Rattle.cell.specs.Limits.{mostInCell}
+use Rattle.cell.specs.work.Limits.{mostInCell}
 use Rattle.cell.specs.Triangles.{cellTriangles}
 use Rattle.cell.specs.Level.{byEdge, isLevelCell}
-use Rattle.cell.specs.Common.{isCommon, isKnown}
-use Rattle.cell.specs.Table.{tableCell, takenCounts, tableCrossings, drawnCells, mostTriangles, tableTriangles, walkedAt}
+use Rattle.cell.specs.Common.{isCommon}
+use Rattle.cell.specs.work.Table.{isKnown, tableCrossings, mostTriangles, walkedAt}
+use Rattle.cell.specs.claims.Table.{tableCell, takenCounts, drawnCells, tableTriangles}
 use Rattle.cell.proofs.Taken.{cell-few}
 use Rattle.cell.proofs.Using.{table-most}
 use Rattle.cell.proofs.Values.{taken-is, taken-crossings}
-use Rattle.cases.specs.Cases.{entries, entryOf}
-use Rattle.cases.specs.Tally.{trianglesAt, findEntryAt}
+use Rattle.cases.specs.claims.Cases.{entries, entryOf}
+use Rattle.cases.specs.claims.Tally.{trianglesAt, findEntryAt}
 use Rattle.cases.proofs.Claims.{by-place, common-triangles}
 use Rattle.answer.specs.Answer.{result}
 use Rattle.booking.specs.declared.Fans.{Fans}
 use Rattle.booking.specs.declared.Fans.the-variants.{Counted, WalkIt}
-use Rattle.booking.specs.Booking.{cornerTriangles, larger, smaller, beside, booked}
-use Rattle.booking.specs.Fans.{fansNumbers, fansAnswer}
-use Rattle.booking.specs.Totals.{bookedTriangles, walkedCrossings, commonAt, bookedAt, knownAt, crossingsAt}
+use Rattle.booking.specs.Booking.{cornerTriangles, larger, smaller, beside}
+use Rattle.booking.specs.claims.Booking.{booked}
+use Rattle.booking.specs.work.Fans.{fansNumbers, fansAnswer}
+use Rattle.booking.specs.work.Totals.{bookedTriangles, walkedCrossings, commonAt, bookedAt, knownAt, crossingsAt}
 use Rattle.booking.proofs.Counts.{plain}
 use Rattle.booking.proofs.Count.{crossings-are}
 use Rattle.booking.proofs.Triangles.{triangles-booked}

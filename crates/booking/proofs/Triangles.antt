@@ -8,9 +8,8 @@ use native.Mathlib.Nat.{mul-zero, mul-one, eq-zero-or-pos}
 use lib.Dec.{eqb, ltb}
 use lib.ListN.{length}
 use borrow.Author.Tests.{eq-eqb, ne-eqb, lt-ltb}
-use Rattle.counting.specs.Pick.{pick, one}
-use Rattle.counting.specs.Range.{total}
-use Rattle.counting.specs.Lists.{tally}
+use Rattle.counting.specs.Pick.{pick}
+use Rattle.counting.specs.Lists.{one, total, tally}
 use Rattle.counting.specs.Gcd.{gcd}
 use Rattle.counting.proofs.Range.{total-ext, total-zero, total-add, total-times}
 use Rattle.counting.proofs.Kept.{tally-kept}
@@ -25,7 +24,8 @@ use Rattle.cell.specs.Level.{isLevelCell}
 use Rattle.cell.proofs.Folds.{folded-ends}
 use Rattle.cell.proofs.Loops.{dart-live, tally-darts}
 use Rattle.cell.proofs.Taken.{cell-count}
-use Rattle.booking.specs.Booking.{cornerTriangles, larger, smaller, otherLength, beside, booked}
+use Rattle.booking.specs.Booking.{cornerTriangles, larger, smaller, beside}
+use Rattle.booking.specs.claims.Booking.{otherLength, booked}
 use Rattle.booking.proofs.Numbers.{not-three, long-times, gcd-none, long-four, long-more}
 use Rattle.booking.proofs.Closed.{goes, moves}
 use Rattle.booking.proofs.Count.{other, by-size, threes-are, others-are}

@@ -6,7 +6,7 @@ use native.Mathlib.Omega.{arith}
 use borrow.Author.Tests.{ne-eqb}
 use Rattle.booking.specs.declared.SplitSums.{SplitSums}
 use Rattle.booking.specs.Figures.{nextLarger, nextSmaller, figureIn, figure}
-use Rattle.booking.specs.Sums.{mostNumber, AreFigures, EndsAt, UnderWay}
+use Rattle.booking.specs.work.Sums.{mostNumber, AreFigures, EndsAt, UnderWay}
 use Rattle.booking.proofs.Figures.{stop-in}
 
 module _ (stop : ℕ → ℕ) (add : ℕ → ℕ → ℕ) where

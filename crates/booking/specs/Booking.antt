@@ -1,15 +1,14 @@
 -- The booking of a cell (02, W9): how many triangles it has, from the counts of its six edges, w k for edge k, and without a walk. The cells that are
 -- booked are those of `isLevelCell`: no face has an odd sum or a count above the other two.
-use Prim.Native.Nat.{ℕ, _+_, _-_, _*_, _/_, min, max}
+use Prim.Native.Nat.{ℕ, _+_, _-_, _*_, min, max}
 use mathlib.Core.Bool.{Bool, _&&_}
 use lib.Dec.{eqb}
 use Rattle.counting.specs.Pick.{pick}
-use Rattle.counting.specs.Range.{total}
-use Rattle.counting.specs.Gcd.{gcd}
+use Rattle.counting.specs.Lists.{total}
 use Rattle.slots.specs.Slots.{position, lower, upper}
 use Rattle.cell.specs.Nodes.{countBetween, cornerFrom}
 use Rattle.cell.specs.Level.{isLevelCell}
-use Rattle.booking.specs.Figures.{areSpiral, areSplit, splits, besideSplit}
+use Rattle.booking.specs.Figures.{areSpiral, areSplit, besideSplit}
 
 -- of three numbers the least, and the one between
 abbrev pub smallest : ℕ → ℕ → ℕ → ℕ
@@ -25,13 +24,6 @@ beside x y = pick (eqb y 0) (2 * x) (4 * (x + y))
 -- the same with the split result (02, W12) in place of the fans of a cell that is split
 unfoldable pub besideDrawn : ℕ → ℕ → ℕ
 besideDrawn x y = pick (areSplit x y) (besideSplit x y) (beside x y)
-
--- the splits that are made, and how many triangles there are more by them
-unfoldable pub splitsBy : ℕ → ℕ → ℕ
-splitsBy x y = pick (areSplit x y) (splits x y) 0
-
-unfoldable pub moreBy : ℕ → ℕ → ℕ
-moreBy x y = pick (areSplit x y) (besideSplit x y - beside x y) 0
 
 module _ (w : ℕ → ℕ) where
   -- the corner count (01) at the node at position a, of its face with the two ends of edge j, ab ac bc, of slot a; the least of these three
@@ -56,14 +48,6 @@ module _ (w : ℕ → ℕ) where
   unfoldable pub smaller : ℕ
   smaller = smallest (leftBetween 0 1) (leftBetween 0 2) (leftBetween 0 3)
 
-  -- the length of the loops that are no corner triangles
-  unfoldable pub otherLength : ℕ
-  otherLength = 4 * (larger + smaller) / gcd larger smaller
-
-  -- the triangles in all of the cell's loops
-  unfoldable pub booked : ℕ
-  booked = cornerTriangles + beside larger smaller
-
   -- d1 > d2 > 0
   unfoldable pub isSpiral : Bool
   isSpiral = areSpiral larger smaller
@@ -71,13 +55,6 @@ module _ (w : ℕ → ℕ) where
   -- a cell is split (02, W12) if it is one that is booked, with d1 > d2 > 0 and a common divisor above 1; of a sub-cell only d1 > d2 > 0 is asked
   unfoldable pub isSplit : Bool
   isSplit = isLevelCell w && areSplit larger smaller
-
-  -- the splits that are made in the cell, and how many triangles it has more by them; none where a cell is to be walked
-  unfoldable pub splitsIn : ℕ
-  splitsIn = pick (isLevelCell w) (splitsBy larger smaller) 0
-
-  unfoldable pub moreIn : ℕ
-  moreIn = pick (isLevelCell w) (moreBy larger smaller) 0
 
   -- the triangles in all that are drawn of the cell
   unfoldable pub bookedSplit : ℕ

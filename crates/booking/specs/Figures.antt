@@ -1,7 +1,6 @@
 -- Splitting again and again, by the two numbers alone (02, W12): x is d1 and y is d2, with x ≥ y > 0. Where they differ there is a split. Of its four
 -- sub-cells one can have two numbers that differ again: x − y and y. So the numbers go as in Euclid's algorithm by subtraction, until they are equal.
-use Prim.Native.Nat.{ℕ, zero, suc, _+_, _-_, _*_, _/_, _≤_, _<_, min, max}
-use mathlib.Core.Path.{_≡_}
+use Prim.Native.Nat.{ℕ, zero, suc, _+_, _-_, _*_, min, max}
 use mathlib.Core.Bool.{Bool, true, false, _&&_}
 use lib.Dec.{eqb, ltb}
 use Rattle.counting.specs.Gcd.{gcd}
@@ -40,26 +39,3 @@ innerCrossings x y = figure (λ n. 0) (λ x y. 2 * (x + y)) x y
 -- how many triangles there are beside the own corner triangles of the cell
 abbrev pub besideSplit : ℕ → ℕ → ℕ
 besideSplit x y = figure (λ n. 8 * n) (λ x y. 4 * x + 10 * y) x y
-
--- the number at the end, where both are equal
-abbrev pub endNumber : ℕ → ℕ → ℕ
-endNumber x y = figure (λ n. n) (λ x y. 0) x y
-
--- Of x and y with x ≥ y > 0.
-pub record FigureLaws (x y : ℕ) : Type 0 where
-  -- a figure by one split, and at the end
-  pub step : (stop : ℕ → ℕ) (add : ℕ → ℕ → ℕ) → y < x → figure stop add x y ≡ add x y + figure stop add (nextLarger x y) (nextSmaller x y)
-  pub stop : (stop : ℕ → ℕ) (add : ℕ → ℕ → ℕ) → figure stop add x x ≡ stop x
-  -- what is split again has two positive numbers, the larger first, whose sum is x, and the same greatest common divisor
-  pub positive : y < x → 0 < nextSmaller x y
-  pub order : nextSmaller x y ≤ nextLarger x y
-  pub falls : y < x → nextLarger x y + nextSmaller x y ≡ x
-  pub kept : y < x → gcd (nextLarger x y) (nextSmaller x y) ≡ gcd x y
-  -- it is the number at the end
-  pub end : endNumber x y ≡ gcd x y
-  -- there are at most x / gcd x y − 1 splits (02, W12)
-  pub few : splits x y + 1 ≤ x / gcd x y
-  -- sizes
-  pub splits-fit : splits x y < x
-  pub inner-fit : innerCrossings x y ≤ 2 * (x * x)
-  pub triangles-fit : besideSplit x y ≤ 8 * (x * x)

@@ -1,9 +1,6 @@
 pub mod Figures
 pub mod Booking
-pub mod Left
-pub mod Fans
 pub mod Answer
-pub mod Sums
-pub mod Totals
-pub mod Claims
-pub mod Examples
+pub mod claims
+pub mod examples
+pub mod work

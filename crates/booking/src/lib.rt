@@ -1,12 +1,12 @@
 // The booking of a cell: how many triangles it has, from its six counts and without a walk; and the triangles of the loops of all cells, counted by it.
 ghost use mathlib.Core.Path.{_≡_};
 ghost use Prim.Native.Nat.{_+_, _≤_};
-ghost use Rattle.cell.specs.Limits.{mostSum};
+ghost use Rattle.cell.specs.work.Limits.{mostSum};
 ghost use Rattle.cell.specs.Level.{byEdge};
 ghost use Rattle.booking.specs.Booking.{smallest, median, beside, besideDrawn};
-ghost use Rattle.booking.specs.Fans.{fansNumbers, fansAnswer};
+ghost use Rattle.booking.specs.work.Fans.{fansNumbers, fansAnswer};
 ghost use Rattle.booking.specs.Answer.{bookingNumbers, bookingAnswer};
-ghost use Rattle.booking.specs.Sums.{mostNumber, mostBeside, FewFans, GainBy, GainIn, Three, ofThree, largest, Sums};
+ghost use Rattle.booking.specs.work.Sums.{mostNumber, mostBeside, FewFans, GainBy, GainIn, Three, ofThree, largest, Sums};
 use cell::sum_of;
 use counting::greatest32;
 use counting::least32;

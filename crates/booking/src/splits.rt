@@ -1,6 +1,6 @@
 // What is summed over the splits of a cell (02, W12), from its two numbers alone.
 ghost use Prim.Native.Nat.{_*_, _≤_};
-ghost use Rattle.booking.specs.Sums.{mostNumber, mostAdded, AreFigures, EndsAt};
+ghost use Rattle.booking.specs.work.Sums.{mostNumber, mostAdded, AreFigures, EndsAt};
 use super::SplitSums;
 use counting::greatest32;
 use counting::least32;

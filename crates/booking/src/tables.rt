@@ -3,11 +3,11 @@
 ghost use mathlib.Core.Path.{_≡_};
 ghost use Prim.Native.Nat.{_≤_};
 ghost use lib.ListN.{length};
-ghost use Rattle.counting.specs.Range.{total};
-ghost use Rattle.counting.specs.Pack.{pre};
+ghost use Rattle.counting.specs.Lists.{total, pre};
 ghost use Rattle.cell.specs.Level.{byEdge};
-ghost use Rattle.cell.specs.Table.{drawnCells, mostTriangles, tableTriangles, walkedAt};
-ghost use Rattle.booking.specs.Totals.{mostCounts, bookedTriangles, walkedCrossings, crossingsAt, AreTotals};
+ghost use Rattle.cell.specs.claims.Table.{drawnCells, tableTriangles};
+ghost use Rattle.cell.specs.work.Table.{mostTriangles, walkedAt};
+ghost use Rattle.booking.specs.work.Totals.{mostCounts, bookedTriangles, walkedCrossings, crossingsAt, AreTotals};
 use super::Fans;
 use super::fans_of;
 use cases::ENTRIES;

@@ -14,7 +14,7 @@ use Rattle.counting.specs.Pick.{pick}
 use Rattle.counting.proofs.Bools.{clash, not-clash, and-true, and-left, and-right}
 use Rattle.bundle.specs.Record.{brokenRow, nextRecord}
 use Rattle.bundle.specs.Bundle.{cellSection, edgeSection, lookSection, endSection, isOf, recordStart, run, cells, edgesFrom, edges, looksFrom, looks, stop, lookAt, firstStray, bundleAnswer, isLaid, isBundle, hasRoom, isTaken, readAnswer, nodesOf, endsOf, countsOf, cellNodes, edgeEnds, writtenOver, leaves, nodesLeft, endsLeft, countsLeft, shortRow, strayRow}
-use Rattle.bundle.specs.Needed.{LaidOut}
+use Rattle.bundle.specs.work.Needed.{LaidOut}
 use Rattle.bundle.proofs.OneRecord.{apart}
 
 module _ (s : List ℕ) where

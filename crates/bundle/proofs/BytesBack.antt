@@ -9,15 +9,15 @@ use lib.ListN.{length, getD, take, drop, take-append-drop, length-take, length-d
 use lib.Seq.{take-all, take-add, getD-take, getD-drop, drop-cons, drop-drop, drop-length}
 use borrow.Author.Tests.{lt-leb}
 use Rattle.answer.specs.Answer.{result}
-use Rattle.counting.specs.Range.{over}
-use Rattle.counting.specs.Lists.{All}
+use Rattle.counting.specs.Lists.{over}
+use Rattle.counting.specs.claims.Lists.{All}
 use Rattle.counting.proofs.Lists.{all-at}
 use Rattle.counting.proofs.Range.{over-ext}
 use Rattle.counting.proofs.Fronts.{over-more, getD-blocks, first-parts}
 use Rattle.bundle.specs.Record.{byteValues, wordSize, lengthBytes, headBytes, countPlace, word, kindAt, isWide, nextRecord, isRecord, bodyStart, bodySize, body}
 use Rattle.bundle.specs.Bundle.{cellNodes, edgeEnds, cellSection, edgeSection, endSection, isOf, recordStart, cells, edgesFrom, edges, looksFrom, looks, stop, surviving, isBundle, leadingWords, nodesOf, endsOf, countsOf, writtenOver}
 use Rattle.bundle.specs.Written.{wordBytes, headOf, recordBytes, listBytes, kindFor, countBytes, endRecord, cellBytes, edgeBytes, bundleBytes}
-use Rattle.bundle.specs.Claims.{BytesBack, ReadWritten}
+use Rattle.bundle.specs.claims.Claims.{BytesBack, ReadWritten}
 use Rattle.bundle.proofs.OneRecord.{stands, next-ge, body-whole}
 use Rattle.bundle.proofs.Runs.{of-record, run-all}
 use Rattle.bundle.proofs.Fills.{cell-kind, end-kind, cell-body, end-body, Edge, oneByte, twoBytes, edge-body, edge-ge, length-words, count-kept, length-nodes, length-ends, length-counts}

@@ -13,8 +13,8 @@ use Rattle.counting.proofs.Bools.{clash}
 use Rattle.counting.proofs.Search.{some-none, none-some, first-is, first-below}
 use Rattle.bundle.specs.Record.{headBytes, brokenRow, kindAt, nextRecord, isRecord, body}
 use Rattle.bundle.specs.Bundle.{cellSection, edgeSection, lookSection, endSection, sectionAt, isOf, recordStart, run, cells, edgesFrom, edges, looksFrom, looks, edgeAt, lookAt, stop, samePair, isFor, isStray, firstStray, strayRow, bundleAnswer}
-use Rattle.bundle.specs.Fault.{AllWhole, sectionBy, Fault, broken, disordered, trailing, endless, Stray}
-use Rattle.bundle.specs.Claims.{LowestFault, NoFault, LowestStray, NoStray, StrayRefused}
+use Rattle.bundle.specs.claims.Fault.{AllWhole, sectionBy, Fault, broken, disordered, trailing, endless, Stray}
+use Rattle.bundle.specs.claims.Claims.{LowestFault, NoFault, LowestStray, NoStray, StrayRefused}
 use Rattle.bundle.proofs.OneRecord.{Kind, cell, edge, wide, look, end, kind-cases, apart, stands, next-ge}
 use Rattle.bundle.proofs.Runs.{of-record, of-section, is-of, run-all, run-stop, run-inside}
 use Rattle.bundle.proofs.Answers.{Case, unended, more, stray, whole, case-of, bundled, answer-open, answer-after, answer-stray, answer-lists, accepted}

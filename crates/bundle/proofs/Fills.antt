@@ -7,13 +7,15 @@ use native.Mathlib.Nat.{le-refl}
 use native.Mathlib.Omega.{arith}
 use lib.ListN.{length, getD, drop, set}
 use lib.Seq.{getD-take, getD-drop, sets}
-use Rattle.counting.specs.Range.{over}
-use Rattle.counting.specs.Stored.{Stored, filled}
+use Rattle.counting.specs.Lists.{over}
+use Rattle.counting.specs.work.Stored.{Stored}
+use Rattle.counting.specs.Stored.{filled}
 use Rattle.counting.proofs.Range.{over-ext}
 use Rattle.counting.proofs.Fronts.{length-blocks}
 use Rattle.counting.proofs.Search.{last-none}
 use Rattle.counting.proofs.Stored.{stored-one, stored-more, stored-front}
-use Rattle.bundle.specs.Record.{cellKind, edgeKind, endKind, wideKind, lookKind, wordSize, headBytes, cellSize, edgeSize, endSize, lookSize, countPlace, word, lengthOf, kindAt, countAt, isWide, mayHave, nextRecord, isRecord, body}
+use Rattle.bundle.specs.Record.{cellKind, edgeKind, endKind, wideKind, lookKind, wordSize, headBytes, countPlace, word, lengthOf, kindAt, countAt, isWide, mayHave, nextRecord, isRecord, body}
+use Rattle.bundle.specs.work.Record.{cellSize, edgeSize, endSize, lookSize}
 use Rattle.bundle.specs.Bundle.{cellSection, edgeSection, lookSection, endSection, isOf, recordStart, cells, edgesFrom, edges, looksFrom, looks, edgeAt, stop, isFor, countFrom, countAfter, isBundle, cellNodes, edgeEnds, leadingWords, countIn, surviving, nodesOf, endsOf, countsOf, writtenOver}
 use Rattle.bundle.proofs.OneRecord.{Kind, cell, edge, wide, look, end, kind-cases, stands, body-whole, body-length}
 use Rattle.bundle.proofs.Runs.{body-of, of-record, of-section, run-apart}

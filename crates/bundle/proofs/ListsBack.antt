@@ -13,14 +13,14 @@ use lib.Seq.{getD-append-add, take-at, drop-append-add, drop-cons}
 use borrow.Author.Tests.{eqb-true}
 use Rattle.answer.specs.Answer.{result, refusal}
 use Rattle.counting.specs.Pick.{pick}
-use Rattle.counting.specs.Range.{over}
+use Rattle.counting.specs.Lists.{over}
 use Rattle.counting.proofs.Bools.{and-left, and-right, and-true}
 use Rattle.counting.proofs.Range.{over-ext}
 use Rattle.counting.proofs.Fronts.{getD-blocks, over-more, over-at, in-parts, singles}
 use Rattle.bundle.specs.Record.{byteValues, brokenRow, cellKind, endKind, wordSize, lengthBytes, headBytes, countPlace, word, lengthOf, kindAt, countAt, isWide, mayHave, nextRecord, isRecord, body}
 use Rattle.bundle.specs.Bundle.{cellNodes, edgeEnds, cellSection, edgeSection, lookSection, endSection, sectionOf, sectionAt, isOf, recordStart, run, cells, edgesFrom, edges, looksFrom, looks, stop, surviving, isBundle, leadingWords, countIn, nodesOf, endsOf, countsOf, shortRow, writtenOver}
 use Rattle.bundle.specs.Written.{wordBytes, recordBytes, listBytes, kindFor, countBytes, endRecord, cellBytes, edgeBytes, bundleBytes, isFormed, fitsArea, isWritten, mostNamed, writeAnswer}
-use Rattle.bundle.specs.Claims.{ListsBack, WrittenRead, ReadAgain}
+use Rattle.bundle.specs.claims.Claims.{ListsBack, WrittenRead, ReadAgain}
 use Rattle.bundle.proofs.OneRecord.{standing, body-whole}
 use Rattle.bundle.proofs.Runs.{Going, going, on, arrived, of-record, is-of, of-section, other-of, next-of}
 use Rattle.bundle.proofs.Fills.{end-kind, length-nodes, length-ends, length-counts, count-kept}

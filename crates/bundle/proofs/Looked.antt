@@ -10,14 +10,15 @@ use lib.Dec.{eqb}
 use lib.ListN.{length, getD, set, length-set}
 use lib.Seq.{getD-set-same, getD-set-other}
 use borrow.Author.Tests.{eqb-true, eq-eqb, ne-eqb, lt-ltb}
-use Rattle.counting.specs.Pick.{one}
+use Rattle.counting.specs.Lists.{one}
 use Rattle.counting.specs.Search.{last, some}
 use Rattle.counting.proofs.Bools.{and-left, and-right, and-true, bool-same, eqb-comm}
 use Rattle.counting.proofs.Search.{last-plus, last-ext, some-zero, some-hit, some-miss, some-ext}
-use Rattle.bundle.specs.Record.{byteValues, wordSize, headBytes, lookSize, countPlace, word, lengthOf, nextRecord, isRecord, body}
+use Rattle.bundle.specs.Record.{byteValues, wordSize, headBytes, countPlace, word, lengthOf, nextRecord, isRecord, body}
+use Rattle.bundle.specs.work.Record.{lookSize}
 use Rattle.bundle.specs.Bundle.{edgeSection, lookSection, isOf, recordStart, run, edgesFrom, edges, looksFrom, looks, edgeAt, lookAt, endIn, countIn, samePair, isFor, isStray, countFrom, countAfter}
-use Rattle.trees.specs.Trees.{hasKey, topFor, Tops}
-use Rattle.bundle.specs.Looked.{pairKey, keyAt, edgeKey, lookKey, blockKey, EndsWithin, AllEdges, topOf, topUnmet, KeysMarked, countOr}
+use Rattle.trees.specs.work.Trees.{hasKey, topFor, Tops}
+use Rattle.bundle.specs.work.Looked.{pairKey, keyAt, edgeKey, lookKey, blockKey, EndsWithin, AllEdges, topOf, topUnmet, KeysMarked, countOr}
 use Rattle.trees.proofs.Trees.{top-le, top-key, top-self}
 use Rattle.bundle.proofs.OneRecord.{stands, body-length}
 use Rattle.bundle.proofs.Runs.{Walked, here, walked-next, of-record, next-of, run-all}

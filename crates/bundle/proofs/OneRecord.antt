@@ -13,7 +13,7 @@ use Rattle.counting.specs.Pick.{pick}
 use Rattle.counting.proofs.Bools.{clash, and-left, and-right, not-clash}
 use Rattle.bundle.specs.Record.{cellKind, edgeKind, endKind, wideKind, lookKind, wordSize, lengthBytes, headBytes, cellLength, edgeLength, endLength, wideLength, lookLength, word, lengthOf, kindAt, nextRecord, countAt, mayHave, isRecord, recordAnswer, brokenRow, body, bodySize, bodyStart}
 use Rattle.bundle.specs.Bundle.{cellSection, edgeSection, lookSection, endSection, sectionOf}
-use Rattle.bundle.specs.Needed.{WideLent}
+use Rattle.bundle.specs.work.Needed.{WideLent}
 
 -- a kind with a length is one of five, each in its section
 pub data Kind (k : ℕ) : ℕ → Type 0 where

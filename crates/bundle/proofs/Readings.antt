@@ -9,7 +9,7 @@ use Rattle.bundle.specs.declared.Contents.{Contents}
 use Rattle.bundle.specs.declared.Contents.the-variants.{Lists, Refused as Broken}
 use Rattle.bundle.specs.declared.Written.{Written}
 use Rattle.bundle.specs.declared.Written.the-variants.{Bytes, Unformed, Short}
-use Rattle.bundle.specs.Claims.{OneToOne}
+use Rattle.bundle.specs.claims.Claims.{OneToOne}
 
 record-one : (x y : Record) → recordNumbers x ≡ recordNumbers y → x ≡ y
 record-one (Whole a b) (Whole c d) h = cc

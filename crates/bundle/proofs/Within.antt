@@ -6,7 +6,7 @@ use native.Mathlib.Omega.{arith}
 use lib.ListN.{length}
 use Rattle.counting.specs.Pick.{pick}
 use Rattle.bundle.specs.Record.{headBytes, nextRecord, isRecord, bodyStart, bodySize}
-use Rattle.bundle.specs.Claims.{RecordWithin, BodyWithin}
+use Rattle.bundle.specs.claims.Claims.{RecordWithin, BodyWithin}
 use Rattle.bundle.proofs.OneRecord.{found, stands, next-ge}
 
 pub record-within : RecordWithin

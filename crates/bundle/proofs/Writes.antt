@@ -9,18 +9,19 @@ use lib.Dec.{eqb}
 use lib.ListN.{length, getD, replicate, length-append}
 use borrow.Author.Tests.{eq-eqb, ne-eqb, le-leb, lt-leb}
 use Rattle.answer.specs.Answer.{result, refusal}
-use Rattle.counting.specs.Pick.{pick, one}
-use Rattle.counting.specs.Range.{total, over}
-use Rattle.counting.specs.Stored.{Stored}
+use Rattle.counting.specs.Pick.{pick}
+use Rattle.counting.specs.Lists.{one, total, over}
+use Rattle.counting.specs.work.Stored.{Stored}
 use Rattle.counting.proofs.Bools.{and-false-left, and-false-right}
 use Rattle.counting.proofs.Range.{total-ext, total-add, length-over}
 use Rattle.counting.proofs.Search.{count-total}
 use Rattle.counting.proofs.Fronts.{length-blocks}
 use Rattle.counting.proofs.Stored.{stored-then, stored-front}
-use Rattle.bundle.specs.Record.{byteValues, brokenRow, wordSize, headBytes, countPlace, cellSize, edgeSize, isWide}
+use Rattle.bundle.specs.Record.{byteValues, brokenRow, wordSize, headBytes, countPlace, isWide}
+use Rattle.bundle.specs.work.Record.{cellSize, edgeSize}
 use Rattle.bundle.specs.Bundle.{cellNodes, edgeEnds, shortRow}
 use Rattle.bundle.specs.Written.{mostNamed, wordBytes, listBytes, countBytes, endRecord, cellBytes, edgeBytes, bundleBytes, isFormed, fitsArea, isWritten, writeAnswer, areaLeft}
-use Rattle.bundle.specs.Needed.{wides, bundleSize}
+use Rattle.bundle.specs.work.Needed.{wides, bundleSize}
 
 pub length-list : (l : List ℕ) (from n : ℕ) → length (listBytes l from n) ≡ wordSize * n
 length-list l from n = length-blocks (λ i. wordBytes (getD l (from + i) 0)) wordSize n (λ _ _. refl)

@@ -6,7 +6,7 @@ use lib.Dec.{ltb, leb, eqb}
 use lib.ListN.{length, drop}
 use Rattle.answer.specs.Answer.{result, refusal}
 use Rattle.counting.specs.Pick.{pick}
-use Rattle.counting.specs.Range.{over, values}
+use Rattle.counting.specs.Lists.{over, values}
 use Rattle.counting.specs.Search.{first, last, some}
 use Rattle.bundle.specs.Record.{cellKind, edgeKind, endKind, wideKind, lookKind, brokenRow, wordSize, countPlace, word, kindAt, nextRecord, isRecord, body}
 use Rattle.bundle.specs.declared.Contents.{Contents}

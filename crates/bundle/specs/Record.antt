@@ -60,19 +60,6 @@ wideLength = 8
 abbrev pub lookLength : ℕ
 lookLength = 8
 
--- the bytes of a whole record of each kind but 4, which has a byte more than kind 2
-abbrev pub cellSize : ℕ
-cellSize = lengthBytes + cellLength
-
-abbrev pub edgeSize : ℕ
-edgeSize = lengthBytes + edgeLength
-
-abbrev pub endSize : ℕ
-endSize = lengthBytes + endLength
-
-abbrev pub lookSize : ℕ
-lookSize = lengthBytes + lookLength
-
 -- the length that a record of a kind has; 0 where the number is no kind
 unfoldable pub lengthOf : ℕ → ℕ
 lengthOf kind = pick (eqb kind cellKind) cellLength (pick (eqb kind edgeKind) edgeLength (pick (eqb kind endKind) endLength (pick (eqb kind wideKind) wideLength (pick (eqb kind lookKind) lookLength 0))))

@@ -6,7 +6,7 @@ use lib.Dec.{leb, eqb}
 use lib.ListN.{length, getD}
 use Rattle.answer.specs.Answer.{result, refusal}
 use Rattle.counting.specs.Pick.{pick}
-use Rattle.counting.specs.Range.{over}
+use Rattle.counting.specs.Lists.{over}
 use Rattle.bundle.specs.Record.{byteValues, cellKind, edgeKind, endKind, wideKind, lengthOf, isWide, brokenRow}
 use Rattle.bundle.specs.Bundle.{cellNodes, edgeEnds, shortRow, leaves}
 use Rattle.bundle.specs.declared.Written.{Written}

@@ -14,8 +14,8 @@ ghost use Rattle.counting.specs.Search.{first};
 ghost use Rattle.counting.specs.Stored.{filled};
 ghost use Rattle.bundle.specs.Record.{nextRecord, isRecord};
 ghost use Rattle.bundle.specs.Bundle.{edges, looks, isStray, firstStray, countAfter};
-ghost use Rattle.trees.specs.Trees.{Tree, Tops, topFor, Sought};
-ghost use Rattle.bundle.specs.Looked.{blockLooks, lookBranches, keyAt, lookKey, blockKey, EndsWithin, LookIn, Searched, Planting, Growing, MarksLent, KeysMarked, MarksRead, topUnmet, BlockLent, LooksLent, Counted, PlaceIn, countOr, CountsLent};
+ghost use Rattle.trees.specs.work.Trees.{Tree, Tops, topFor, Sought};
+ghost use Rattle.bundle.specs.work.Looked.{blockLooks, lookBranches, keyAt, lookKey, blockKey, EndsWithin, LookIn, Searched, Planting, Growing, MarksLent, KeysMarked, MarksRead, topUnmet, BlockLent, LooksLent, Counted, PlaceIn, countOr, CountsLent};
 
 // The looks of a block, at most.
 const BLOCK: usize = 12288;

@@ -21,10 +21,11 @@ use crate::records::word_at;
 ghost use mathlib.Core.Path.{_≡_};
 ghost use Prim.Native.Nat.{_+_, _<_};
 ghost use lib.ListN.{length};
-ghost use Rattle.counting.specs.Stored.{Stored, filled};
+ghost use Rattle.counting.specs.work.Stored.{Stored};
+ghost use Rattle.counting.specs.Stored.{filled};
 ghost use Rattle.bundle.specs.Record.{countPlace, word};
 ghost use Rattle.bundle.specs.Bundle.{sectionOf, recordStart, run, leadingWords, edgesFrom, edges, looksFrom, bundleAnswer, readAnswer, nodesOf, endsOf, countAfter, writtenOver, nodesLeft, endsLeft, countsLeft, contentsNumbers};
-ghost use Rattle.bundle.specs.Needed.{WordsLent, CellsLent, EdgesLent, LaidOut};
+ghost use Rattle.bundle.specs.work.Needed.{WordsLent, CellsLent, EdgesLent, LaidOut};
 
 // The rows of refusals that speak of short lists, and of looks for no edge.
 pub const SHORT_ROW: u8 = 14;

@@ -4,7 +4,7 @@ ghost use mathlib.Core.Path.{_≡_};
 ghost use Prim.Native.Nat.{_+_, _<_};
 ghost use lib.ListN.{length};
 ghost use Rattle.bundle.specs.Record.{word, lengthOf, mayHave, countAt, recordAnswer, recordNumbers, body, bodyStart};
-ghost use Rattle.bundle.specs.Needed.{WideLent};
+ghost use Rattle.bundle.specs.work.Needed.{WideLent};
 
 pub(crate) const CELL: u16 = 1;
 

@@ -16,13 +16,12 @@ ghost use mathlib.Core.Path.{_≡_};
 ghost use Prim.Native.Nat.{_+_, _*_, _/_, _%_, _≤_, min};
 ghost use lib.Dec.{leb};
 ghost use lib.ListN.{length};
-ghost use Rattle.counting.specs.Pick.{one};
-ghost use Rattle.counting.specs.Range.{over};
-ghost use Rattle.counting.specs.Stored.{Stored};
+ghost use Rattle.counting.specs.Lists.{one, over};
+ghost use Rattle.counting.specs.work.Stored.{Stored};
 ghost use Rattle.bundle.specs.Record.{byteValues, wordSize, headBytes, isWide};
 ghost use Rattle.bundle.specs.Bundle.{cellNodes};
 ghost use Rattle.bundle.specs.Written.{mostNamed, wordBytes, headOf, listBytes, kindFor, countBytes, cellBytes, edgeBytes, writeAnswer, areaLeft, writtenNumbers};
-ghost use Rattle.bundle.specs.Needed.{wides, bundleSize, ListFits, CellFits, EdgeFits, CellsFit, EdgesFit};
+ghost use Rattle.bundle.specs.work.Needed.{wides, bundleSize, ListFits, CellFits, EdgeFits, CellsFit, EdgesFit};
 
 // The greatest number of bytes that a refusal names.
 const MOST: usize = 4294967295;

@@ -1,9 +1,9 @@
 -- After a list of settings the grid is the one that is opened afresh, so the calls agree.
 use mathlib.Core.Path.{refl, subst}
 use Rattle.grid.specs.Grid.{Grid}
-use Rattle.grid.specs.Setting.{setAll}
+use Rattle.grid.specs.claims.Setting.{setAll}
 use Rattle.grid.proofs.Settings.{settings-right}
-use Rattle.capi.specs.Claims.{CallsAgree, SettingsFresh}
+use Rattle.capi.specs.claims.Claims.{CallsAgree, SettingsFresh}
 
 agree-self : (G : Grid) → CallsAgree G G
 agree-self G = record {

@@ -6,7 +6,7 @@ use native.Mathlib.Nat.{zero-add}
 use native.Mathlib.Omega.{arith}
 use lib.ListN.{length}
 use borrow.Author.Tests.{le-leb, lt-leb}
-use Rattle.counting.specs.Stored.{Stored}
+use Rattle.counting.specs.work.Stored.{Stored}
 use Rattle.capi.specs.Written.{answerWords, ifRoom, Answers}
 
 -- what is chosen with too little room, and with enough

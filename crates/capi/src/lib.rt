@@ -18,7 +18,7 @@ ghost use Rattle.grid.specs.Grid.{gridOf};
 ghost use Rattle.grid.specs.Rows.{gridAnswer};
 ghost use Rattle.grid.specs.Opening.{openAnswer, openStarts};
 ghost use Rattle.grid.specs.Setting.{setAnswer, setCounts, setStarts};
-ghost use Rattle.counting.specs.Pick.{one};
+ghost use Rattle.counting.specs.Lists.{one};
 ghost use Rattle.answer.specs.Answer.{result};
 ghost use Rattle.cell.specs.Answer.{typeNumbers, loopNumbers};
 ghost use Rattle.cell.specs.Level.{byEdge};

@@ -9,15 +9,13 @@ use native.Mathlib.Decide.{decLt}
 use lib.Dec.{eqb, ltb}
 use lib.ListN.{getD, length}
 use borrow.Author.Tests.{le-ltb}
-use Rattle.counting.specs.Pick.{pick, one}
-use Rattle.counting.specs.Range.{total, values, kept, after}
-use Rattle.counting.specs.Lists.{tally}
+use Rattle.counting.specs.Pick.{pick}
+use Rattle.counting.specs.Lists.{one, total, values, kept, after, tally, it}
 use Rattle.counting.proofs.Range.{total-ext, length-over, after-lt}
 use Rattle.counting.proofs.Lists.{tally-over, values-at}
 use Rattle.slots.specs.Slots.{slotEdge, firstSlot, secondSlot}
-use Rattle.slots.specs.Claims.{EdgeSlot}
+use Rattle.slots.specs.claims.Claims.{EdgeSlot}
 use Rattle.slots.proofs.Slots.{slot-edge}
-use Rattle.walk.specs.Iterate.{it}
 use Rattle.walk.specs.Step as walks
 use Rattle.walk.specs.Walk as walk
 use Rattle.walk.proofs.Iterate.{tally-orbit}

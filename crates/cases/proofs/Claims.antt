@@ -8,7 +8,7 @@ use lib.Dec.{ltb}
 use lib.ListN.{length}
 use borrow.Author.Tests.{lt-ltb}
 use Rattle.counting.specs.Pick.{pick}
-use Rattle.counting.specs.Range.{total, over, values}
+use Rattle.counting.specs.Lists.{total, over, values}
 use Rattle.counting.proofs.Lists.{values-at}
 use Rattle.counting.proofs.Range.{total-ext, total-add, length-over}
 use Rattle.counting.proofs.Search.{count-sorted}
@@ -20,15 +20,15 @@ use Rattle.cell.specs.Level.{byEdge}
 use Rattle.cell.specs.Common.{isCommon}
 use Rattle.cell.specs.Loop.{leasts}
 use Rattle.cell.specs.Triangles.{loopCount, triangleCount, cellTriangles}
-use Rattle.cell.specs.Table.{takenCounts, tableCell, drawnCells, tableTriangles}
+use Rattle.cell.specs.claims.Table.{takenCounts, tableCell, drawnCells, tableTriangles}
 use Rattle.cell.proofs.Taken.{cell-count}
 use Rattle.cell.proofs.Values.{taken-is}
 use Rattle.cases.specs.declared.Case.the-variants.{Common, Outside}
-use Rattle.cases.specs.Cases.{entries, entryOf, loneEdges}
-use Rattle.cases.specs.Table.{tableRows, table}
-use Rattle.cases.specs.Answer.{caseNumbers, caseAnswer, findEntry}
-use Rattle.cases.specs.Tally.{trianglesAt, findEntryAt, outsideAt}
-use Rattle.cases.specs.Claims.{OneToOne, TableLength, EveryEntry, EntriesMet, LaidAnyhow, CellsRight, AnswerRight, TotalByEntry}
+use Rattle.cases.specs.claims.Cases.{entries, entryOf}
+use Rattle.cases.specs.Answer.{loneEdges, caseNumbers, caseAnswer}
+use Rattle.cases.specs.claims.Table.{tableRows, table}
+use Rattle.cases.specs.claims.Tally.{findEntry, trianglesAt, findEntryAt, outsideAt}
+use Rattle.cases.specs.claims.Claims.{OneToOne, TableLength, EveryEntry, EntriesMet, LaidAnyhow, CellsRight, AnswerRight, TotalByEntry}
 use Rattle.cases.proofs.Quick.{digit}
 use Rattle.cases.proofs.Digits.{entry-lt, digits-common, digits-number}
 use Rattle.cases.proofs.Table.{loops-alone, triangles-alone}

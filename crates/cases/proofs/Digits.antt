@@ -8,12 +8,12 @@ use native.Mathlib.Omega.{arith}
 use lib.Dec.{eqb, ltb}
 use borrow.Author.Tests.{eqb-true, ltb-true, lt-ltb}
 use Rattle.counting.specs.Pick.{pick}
-use Rattle.counting.specs.Range.{over, values}
+use Rattle.counting.specs.Lists.{over, values}
 use Rattle.counting.specs.Search.{every}
 use Rattle.counting.proofs.Search.{every-is, is-every}
 use Rattle.cell.specs.Common.{digitLimit, isCommon}
-use Rattle.cases.specs.Cases.{entries, fromDigits, entryOf}
-use Rattle.cases.specs.Answer.{findEntry}
+use Rattle.cases.specs.claims.Cases.{entries, fromDigits, entryOf}
+use Rattle.cases.specs.claims.Tally.{findEntry}
 use Rattle.cases.proofs.Quick.{digit}
 
 module _ (w : ℕ → ℕ) (C : isCommon w ≡ true) where

@@ -1,21 +1,20 @@
 -- The examples, by computation.
 use mathlib.Core.Path.{refl}
-use Rattle.counting.specs.Range.{total, over, kept}
-use Rattle.counting.specs.Search.{seek, first, last, every}
-use Rattle.counting.specs.Lists.{tally}
-use Rattle.counting.specs.Pack.{pre}
+use Rattle.counting.specs.Lists.{total, over, kept, seek, tally, pre}
+use Rattle.counting.specs.Search.{first, last, every}
 use Rattle.slots.specs.Slots as slots
 use Rattle.face.specs.Face as face
-use Rattle.walk.specs.Iterate.{orbit}
+use Rattle.walk.specs.Walk.{orbit}
 use Rattle.walk.specs.Step as steps
 use Rattle.walk.specs.Walk as walk
 use Rattle.cell.specs.Cell.{ahead, base, holds, edge, index, answerAt, joinAt, joinedTo, mate, slot, step}
 use Rattle.cell.specs.Loop.{loopSize, loopDarts, folded, normal, leasts}
 use Rattle.cell.specs.Common.{isCommon}
 use Rattle.cell.specs.Triangles.{loopCount, manyFrom, triangleCount}
-use Rattle.cases.specs.Cases.{fromDigits, entryOf}
-use Rattle.cases.specs.Answer.{caseAnswer, findEntry}
-use Rattle.cases.specs.Examples.{ExamplesHold, of, examples}
+use Rattle.cases.specs.claims.Cases.{fromDigits, entryOf}
+use Rattle.cases.specs.Answer.{caseAnswer}
+use Rattle.cases.specs.claims.Tally.{findEntry}
+use Rattle.cases.specs.examples.Examples.{ExamplesHold, of, examples}
 
 pub examples-hold : ExamplesHold
 unfolding total over kept seek first last every tally pre

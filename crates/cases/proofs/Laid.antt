@@ -9,16 +9,15 @@ use native.Mathlib.Omega.{arith}
 use lib.Dec.{eqb, ltb}
 use lib.ListN.{length}
 use borrow.Author.Tests.{lt-ltb}
-use Rattle.counting.specs.Pick.{pick, one}
-use Rattle.counting.specs.Range.{total, kept, after}
-use Rattle.counting.specs.Lists.{tally}
-use Rattle.counting.specs.Pack.{pre}
+use Rattle.counting.specs.Pick.{pick}
+use Rattle.counting.specs.Lists.{one, total, kept, after, tally, pre}
 use Rattle.counting.proofs.Bools.{eqb-comm}
 use Rattle.counting.proofs.Range.{total-ext, total-add, total-round, length-over, after-lt}
 use Rattle.slots.specs.Slots.{slotEdge, firstSlot}
-use Rattle.slots.specs.Claims.{EdgeSlot}
+use Rattle.slots.specs.claims.Claims.{EdgeSlot}
 use Rattle.slots.proofs.Slots.{slot-edge}
-use Rattle.walk.specs.Darts.{half, rev, Darts}
+use Rattle.walk.specs.Darts.{half, rev}
+use Rattle.walk.specs.claims.Claims.{Darts}
 use Rattle.walk.specs.Step as walks
 use Rattle.walk.specs.Walk as walk
 use Rattle.walk.proofs.Step.{live, by-parity, rev-first, rev-second, rev-lt, half-rev}
@@ -33,7 +32,7 @@ use Rattle.cell.proofs.Step.{step-is}
 use Rattle.cell.proofs.Mates.{mate-joined, mate-unjoined, joined-edge, joined-index, mate-cases, slot-has, ports, darts}
 use Rattle.cell.proofs.Loops.{dart-live, dart-after, tally-darts}
 use Rattle.cell.proofs.Folds.{folded-ends}
-use Rattle.cases.specs.Claims.{LaidAnyhow}
+use Rattle.cases.specs.claims.Claims.{LaidAnyhow}
 
 -- two cells with the same counts: the crossing x of the one as it is numbered in the other
 abbrev moved : Edges → Edges → ℕ → ℕ

@@ -7,17 +7,16 @@ use mathlib.Core.List.{List, [], _∷_}
 use lib.Dec.{eqb, ltb}
 use lib.ListN.{getD}
 use Rattle.counting.specs.Pick.{pick}
-use Rattle.counting.specs.Range.{total, values}
-use Rattle.counting.specs.Lists.{tally}
+use Rattle.counting.specs.Lists.{total, values, tally}
 use Rattle.slots.specs.Slots.{slotEdge, edgeRank, firstSlot, secondSlot}
 use Rattle.face.specs.Face.{faceJoin}
-use Rattle.walk.specs.Iterate.{orbit}
+use Rattle.walk.specs.Walk.{orbit}
 use Rattle.walk.specs.Step as walks
 use Rattle.walk.specs.Walk as walk
 use Rattle.manifold.specs.Shape.{shapeOf, manyOf}
 use Rattle.cell.specs.Cell.{Edges, crossings, base, edge}
 use Rattle.cell.specs.Level.{byEdge}
-use Rattle.cases.specs.Cases.{loneEdges}
+use Rattle.cases.specs.Answer.{loneEdges}
 
 -- the step of a dart, as `cell` defines it, with N crossings and the lists of counts, of what is laid before each edge, and of the crossings' edges
 module _ (N : ℕ) (counts bases edges : List ℕ) where

@@ -5,11 +5,11 @@ use mathlib.Core.List.{[]}
 use native.Mathlib.Nat.{add-zero}
 use native.Mathlib.Omega.{arith}
 use lib.ListN.{getD, length, replicate, getD-replicate}
-use Rattle.counting.specs.Range.{over, values}
+use Rattle.counting.specs.Lists.{over, values}
 use Rattle.counting.proofs.Lists.{values-at}
 use Rattle.counting.proofs.Fronts.{getD-blocks}
-use Rattle.cases.specs.Cases.{entries}
-use Rattle.cases.specs.Table.{rowCount, tableRows, table}
+use Rattle.cases.specs.claims.Cases.{entries}
+use Rattle.cases.specs.claims.Table.{rowCount, tableRows, table}
 
 lengths : values (λ k. length (getD tableRows k [])) rowCount ≡ replicate rowCount 18
 unfolding tableRows over

@@ -6,13 +6,14 @@ use mathlib.Core.List.{[], _∷_}
 use native.Mathlib.Nat.{add-zero}
 use native.Mathlib.Omega.{arith}
 use lib.ListN.{getD, length}
-use Rattle.counting.specs.Range.{values}
+use Rattle.counting.specs.Lists.{values}
 use Rattle.counting.proofs.Fronts.{getD-blocks}
 use Rattle.cell.specs.Level.{byEdge}
 use Rattle.cell.specs.Common.{isCommon}
 use Rattle.cell.specs.Triangles.{loopCount, triangleCount}
-use Rattle.cases.specs.Cases.{entries, entryOf, loneEdges}
-use Rattle.cases.specs.Table.{table}
+use Rattle.cases.specs.claims.Cases.{entries, entryOf}
+use Rattle.cases.specs.Answer.{loneEdges}
+use Rattle.cases.specs.claims.Table.{table}
 use Rattle.cases.proofs.Quick as quick
 use Rattle.cases.proofs.Both.{both-are}
 use Rattle.cases.proofs.Test.{test}

@@ -8,13 +8,14 @@ use lib.Dec.{eqb, ltb}
 use lib.ListN.{getD, getD-replicate, length-replicate, length-set, replicate, set}
 use lib.Seq.{getD-set-same, getD-set-other}
 use borrow.Author.Tests.{eq-eqb, ne-eqb}
-use Rattle.counting.specs.Pick.{pick, one}
-use Rattle.counting.specs.Range.{total}
+use Rattle.counting.specs.Pick.{pick}
+use Rattle.counting.specs.Lists.{one, total}
 use Rattle.counting.specs.Search.{count}
 use Rattle.counting.proofs.Range.{total-ext}
 use Rattle.counting.proofs.Search.{count-le, count-sorted}
-use Rattle.cases.specs.Cases.{entries}
-use Rattle.cases.specs.Tally.{trianglesAt, trianglesFor, Tallied}
+use Rattle.cases.specs.claims.Cases.{entries}
+use Rattle.cases.specs.claims.Tally.{trianglesAt}
+use Rattle.cases.specs.work.Tally.{trianglesFor, Tallied}
 
 module _ (place : ℕ → ℕ) {n : ℕ} {l : List ℕ} (T : Tallied place n l) where
   pub tallied-sum : total (trianglesFor l) entries 0 ≡ total (λ c. pick (ltb (place c) entries) (trianglesAt (place c)) 0) n 0

@@ -1,17 +1,15 @@
 -- The one test over the table, by computation.
 use mathlib.Core.Path.{_≡_, refl}
-use Rattle.counting.specs.Range.{total, over}
-use Rattle.counting.specs.Search.{seek, first, last}
-use Rattle.counting.specs.Lists.{tally}
-use Rattle.counting.specs.Pack.{pre}
+use Rattle.counting.specs.Lists.{total, over, seek, tally, pre}
+use Rattle.counting.specs.Search.{first, last}
 use Rattle.slots.specs.Slots as slots
 use Rattle.face.specs.Face as face
-use Rattle.walk.specs.Iterate.{orbit}
+use Rattle.walk.specs.Walk.{orbit}
 use Rattle.walk.specs.Step as steps
 use Rattle.walk.specs.Walk as walk
 use Rattle.cell.specs.Cell.{ahead, base, holds, edge}
-use Rattle.cases.specs.Cases.{entries}
-use Rattle.cases.specs.Table.{tableRows, table}
+use Rattle.cases.specs.claims.Cases.{entries}
+use Rattle.cases.specs.claims.Table.{tableRows, table}
 use Rattle.cases.proofs.Quick as quick
 
 -- what is worked out for the entries, one after the other, is the table

@@ -1,6 +1,4 @@
-pub mod Cases
-pub mod Table
 pub mod Answer
-pub mod Tally
-pub mod Claims
-pub mod Examples
+pub mod claims
+pub mod examples
+pub mod work

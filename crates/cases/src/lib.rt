@@ -2,8 +2,9 @@
 ghost use mathlib.Core.Path.{_≡_};
 ghost use Prim.Native.Nat.{_≤_};
 ghost use Rattle.cell.specs.Level.{byEdge};
-ghost use Rattle.cases.specs.Cases.{entries};
-ghost use Rattle.cases.specs.Answer.{caseNumbers, caseAnswer, findEntry};
+ghost use Rattle.cases.specs.claims.Cases.{entries};
+ghost use Rattle.cases.specs.Answer.{caseNumbers, caseAnswer};
+ghost use Rattle.cases.specs.claims.Tally.{findEntry};
 use cell::DIGIT_LIMIT;
 use counting::wide16;
 

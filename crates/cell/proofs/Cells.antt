@@ -11,19 +11,20 @@ use lib.Seq.{drop-append-le, drop-append-add}
 use borrow.Author.Tests.{lt-ltb, le-ltb}
 use Rattle.answer.specs.Answer.{result}
 use Rattle.counting.specs.Pick.{pick}
-use Rattle.counting.specs.Range.{over, kept}
-use Rattle.counting.specs.Stored.{Summed}
+use Rattle.counting.specs.Lists.{over, kept}
+use Rattle.counting.specs.work.Stored.{Summed}
 use Rattle.counting.proofs.Fronts.{over-more, over-at}
 use Rattle.counting.proofs.Stored.{summed-more}
 use Rattle.cell.specs.declared.Cell.{Cell}
 use Rattle.cell.specs.Cell.{Edges, crossings}
 use Rattle.cell.specs.Loop.{loopSize, leasts, loopTold, loopAnswer}
-use Rattle.cell.specs.Limits.{mostInCell}
-use Rattle.cell.specs.Round.{roundAnswer}
+use Rattle.cell.specs.work.Limits.{mostInCell}
+use Rattle.cell.specs.work.Round.{roundAnswer}
 use Rattle.cell.specs.declared.Triangle.{Triangle}
 use Rattle.cell.specs.declared.Nth.the-variants.{Found, Nothing}
-use Rattle.cell.specs.Triangles.{edgesOf, loopTriangles, cellTriangles, askedTriangles, trianglesWith}
-use Rattle.cell.specs.Nth.{nthOf, nthNumbers, nthAnswer}
+use Rattle.cell.specs.Of.{edgesOf}
+use Rattle.cell.specs.Triangles.{loopTriangles, cellTriangles, askedTriangles, trianglesWith}
+use Rattle.cell.specs.work.Nth.{nthOf, nthNumbers, nthAnswer}
 use Rattle.cell.proofs.LoopTriangles.{Entry}
 use Rattle.cell.proofs.Loops.{answer-is}
 use Rattle.cell.proofs.Going.{Looped}

@@ -10,7 +10,8 @@ use native.Mathlib.Decide.{decLt, ℕ-discrete}
 use lib.Dec.{eqb, ltb}
 use lib.ListN.{getD}
 use borrow.Author.Tests.{ltb-true, lt-ltb}
-use Rattle.counting.specs.Pick.{pick, one}
+use Rattle.counting.specs.Pick.{pick}
+use Rattle.counting.specs.Lists.{one}
 use Rattle.answer.proofs.Answer.{no-nil}
 use Rattle.cell.specs.declared.LoopType.{LoopType}
 use Rattle.cell.specs.declared.LoopType.the-variants.{Contractible, Corner, Diagonal, LowestCorner}
@@ -19,7 +20,7 @@ use Rattle.cell.specs.declared.Loop.the-variants.{Found, Nothing}
 use Rattle.cell.specs.Cell.{Edges, base, crossings, edge}
 use Rattle.cell.specs.Loop.{loopSize, dart, inGrid, leasts}
 use Rattle.cell.specs.Answer.{typeNumbers, loopNumbers}
-use Rattle.cell.specs.Claims.{OneToOne, CellLaws, Separate, Ordered}
+use Rattle.cell.specs.claims.Claims.{OneToOne, CellLaws, Separate, Ordered}
 use Rattle.cell.proofs.Lay.{lay, lower-numbers}
 use Rattle.cell.proofs.Mates.{ports, darts, laws}
 use Rattle.cell.proofs.Loops.{the-loop, dart-live, size-le, size-two}

@@ -1,20 +1,19 @@
 -- The examples, by computation.
 use mathlib.Core.Path.{refl}
-use Rattle.counting.specs.Range.{total, over, kept}
-use Rattle.counting.specs.Search.{seek, first, last}
-use Rattle.counting.specs.Lists.{tally}
-use Rattle.counting.specs.Pack.{pre}
+use Rattle.counting.specs.Lists.{total, over, kept, seek, tally, pre, it}
+use Rattle.counting.specs.Search.{first, last}
 use Rattle.slots.specs.Slots as slots
 use Rattle.face.specs.Face as face
-use Rattle.walk.specs.Iterate.{it, orbit}
+use Rattle.walk.specs.Walk.{orbit}
 use Rattle.walk.specs.Step as steps
 use Rattle.walk.specs.Walk as walk
 use Rattle.cell.specs.Cell.{ahead, base, holds, edge, index, answerAt, joinAt, joinedTo, mate, slot, step}
 use Rattle.cell.specs.Loop.{loopSize, dart, loopDarts, folded, normal, parity, nodeWith, typeBy, typeOf, inGrid, leasts, loopTold, loopAnswer}
-use Rattle.cell.specs.Half.{edgeOf, halfOf, twin, around}
-use Rattle.cell.specs.Route.{halfCorner, front, links}
-use Rattle.cell.specs.Round.{crossesIn}
-use Rattle.cell.specs.Examples.{ExamplesHold, alone, among, examples, loopsOf, pointsOf, allPoints, computed, listed, partsComputed, partsListed}
+use Rattle.cell.specs.claims.Half.{edgeOf}
+use Rattle.cell.specs.work.Half.{halfOf, twin, around}
+use Rattle.cell.specs.work.Route.{halfCorner, front, links}
+use Rattle.cell.specs.work.Round.{crossesIn}
+use Rattle.cell.specs.examples.Examples.{ExamplesHold, alone, among, examples, loopsOf, pointsOf, allPoints, computed, listed, partsComputed, partsListed}
 
 pub examples-hold : ExamplesHold
 unfolding total over kept seek first last tally pre

@@ -11,11 +11,12 @@ use lib.Dec.{ltb, leb}
 use lib.ListN.{length, getD}
 use lib.Ieee.{Float}
 use borrow.Author.Tests.{le-leb, leb-true, lt-leb, leb-false, ltb-true, lt-ltb}
-use Rattle.counting.specs.Lists.{gather}
-use Rattle.counting.specs.Pick.{pick, one}
-use Rattle.counting.specs.Range.{over}
+use Rattle.counting.specs.Lists.{gather, one, over}
+use Rattle.counting.specs.Pick.{pick}
 use Rattle.counting.specs.Search.{count}
-use Rattle.counting.specs.Stored.{Stored, storedIn, nextIn}
+use Rattle.counting.specs.work.Stored.{Stored}
+use Rattle.counting.specs.Stored.{storedIn}
+use Rattle.counting.specs.claims.Lists.{nextIn}
 use Rattle.counting.proofs.Bools.{clash, and-left, and-right, and-false-right, or-right, or-cases}
 use Rattle.counting.proofs.Lists.{gather-over, one-long, one-ext}
 use Rattle.counting.proofs.Range.{length-over, total-ext, over-ext}
@@ -31,13 +32,15 @@ use Rattle.cell.specs.declared.Cell.{Cell}
 use Rattle.cell.specs.Cell.{crossings, edge}
 use Rattle.cell.specs.Of.{countOf, startOf, edgesOf}
 use Rattle.cell.specs.Loop.{loopSize, dart, normal, inGrid}
-use Rattle.cell.specs.Limits.{mostInCell}
+use Rattle.cell.specs.work.Limits.{mostInCell}
 use Rattle.cell.specs.Triangles.{numberOf}
 use Rattle.cell.specs.declared.Nest.{Nest}
-use Rattle.cell.specs.Nests.{nestEdge, nestMiddle}
-use Rattle.cell.specs.Middles.{isFan, loopPoint, fanCount, cornerPlace, fanMiddle, loopMiddle, cellMiddles, numberedBelow, isPlaceable, middlesAt, pointsThen, nextPoint}
-use Rattle.cell.specs.Table.{tableCell, middlesWritten}
-use Rattle.cell.specs.Centres.{IsNest, recordedPlace, recordedMiddle, MiddlesRoom}
+use Rattle.cell.specs.claims.Nests.{nestEdge, nestMiddle}
+use Rattle.cell.specs.Middles.{isFan, loopPoint, cornerPlace}
+use Rattle.cell.specs.claims.Middles.{fanCount, fanMiddle, loopMiddle, cellMiddles, numberedBelow, isPlaceable, middlesAt, pointsThen, nextPoint}
+use Rattle.cell.specs.claims.Table.{tableCell}
+use Rattle.cell.specs.work.Table.{middlesWritten}
+use Rattle.cell.specs.work.Centres.{IsNest, recordedPlace, recordedMiddle, MiddlesRoom}
 use Rattle.cell.proofs.Lay.{lay}
 use Rattle.cell.proofs.Loops.{from-point, dart-live}
 use Rattle.cell.proofs.Fits.{room-left}

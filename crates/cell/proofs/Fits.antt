@@ -12,8 +12,10 @@ use lib.ListN.{length, length-append}
 use lib.Seq.{sets, length-sets}
 use borrow.Author.Tests.{le-leb, lt-leb}
 use Rattle.counting.specs.Pick.{pick}
-use Rattle.counting.specs.Range.{over}
-use Rattle.counting.specs.Stored.{storedIn, nextIn, Stored}
+use Rattle.counting.specs.Lists.{over}
+use Rattle.counting.specs.Stored.{storedIn}
+use Rattle.counting.specs.claims.Lists.{nextIn}
+use Rattle.counting.specs.work.Stored.{Stored}
 use Rattle.counting.proofs.Fronts.{over-shift}
 use Rattle.counting.proofs.Lists.{gather-over}
 use Rattle.counting.proofs.Range.{over-snoc}
@@ -22,7 +24,7 @@ use Rattle.cell.specs.declared.Cell.{Cell}
 use Rattle.cell.specs.declared.Triangle.{Triangle}
 use Rattle.cell.specs.Words.{wordCount, words, allWords}
 use Rattle.cell.specs.Triangles.{cellTriangles, trianglesWith}
-use Rattle.cell.specs.Fits.{nextAt, areaThen, nextAfter, areaAfter}
+use Rattle.cell.specs.work.Fits.{nextAt, areaThen, nextAfter, areaAfter}
 use Rattle.cell.proofs.Taken.{with-all}
 use Rattle.cell.proofs.Storing.{length-all, wordsOf, written-room, written-more}
 

@@ -7,9 +7,7 @@ use native.Mathlib.Omega.{arith}
 use native.Mathlib.Decide.{ℕ-discrete}
 use lib.Dec.{eqb}
 use borrow.Author.Tests.{eq-eqb, ne-eqb}
-use Rattle.counting.specs.Pick.{one}
-use Rattle.counting.specs.Range.{after}
-use Rattle.counting.specs.Lists.{tally}
+use Rattle.counting.specs.Lists.{one, after, tally}
 use Rattle.counting.proofs.Range.{total-ext, after-lt}
 use Rattle.slots.specs.Slots.{slotEdge, edgeRank}
 use Rattle.slots.proofs.Slots.{EdgeSlot, slot-edge}

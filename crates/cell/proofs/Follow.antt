@@ -10,10 +10,10 @@ use Rattle.counting.specs.Lists.{tally}
 use Rattle.slots.specs.Slots.{edgeRank, contains, firstSlot, secondSlot}
 use Rattle.slots.proofs.Slots.{EdgeSlot, edge-slot, one-of-two, two-slots, slot-edge}
 use Rattle.walk.specs.Darts.{half, rev}
-use Rattle.walk.specs.Walk.{flat}
+use Rattle.walk.specs.claims.Claims.{flat}
 use Rattle.walk.proofs.Step as walks
 use Rattle.cell.specs.Cell.{Edges, crossings, edge, mate, firstSlotAt, secondSlotAt, slot, step}
-use Rattle.cell.specs.Claims.{Lies, Joined, AllJoined, runsAlong, StepOf}
+use Rattle.cell.specs.claims.Claims.{Lies, Joined, AllJoined, runsAlong, StepOf}
 use Rattle.cell.proofs.Lay.{lay}
 use Rattle.cell.proofs.Step.{step-is, slot-first, slot-second}
 use Rattle.cell.proofs.Mates.{slot-has, ports, darts, mate-cases, mate-unjoined, joined-lt}

@@ -11,10 +11,10 @@ use Rattle.cell.specs.declared.Cell.{Cell}
 use Rattle.cell.specs.Cell.{crossings}
 use Rattle.cell.specs.Loop.{loopSize, normal}
 use Rattle.cell.specs.Of.{edgesOf}
-use Rattle.cell.specs.Route.{Routed}
-use Rattle.cell.specs.Limits.{mostInCell}
-use Rattle.cell.specs.Scratch.{unmarked, halvesFrom, pointsFrom}
-use Rattle.cell.specs.Walked.{Marked, Long, Used, Lent, Walked}
+use Rattle.cell.specs.work.Route.{Routed}
+use Rattle.cell.specs.work.Limits.{mostInCell}
+use Rattle.cell.specs.work.Scratch.{unmarked, halvesFrom, pointsFrom}
+use Rattle.cell.specs.work.Walked.{Marked, Long, Used, Lent, Walked}
 use Rattle.cell.proofs.Using.{kept-then, filled-same, kept-filled, used-none, used-then}
 use Rattle.cell.proofs.Walking.{cleared}
 use Rattle.cell.proofs.Loops.{size-le, length-halves, length-points}

@@ -12,7 +12,8 @@ use Rattle.counting.proofs.Bools.{and-left, and-right}
 use Rattle.counting.proofs.Search.{every-is}
 use Rattle.slots.specs.Slots.{slotEdge, edgeRank, contains, firstSlot}
 use Rattle.slots.proofs.Slots.{slot-edge, first-slot}
-use Rattle.cell.specs.Half.{halfEdges, halfSlot, rankOf, edgeOf, halfOf, twin}
+use Rattle.cell.specs.work.Half.{halfEdges, halfOf, twin}
+use Rattle.cell.specs.claims.Half.{halfSlot, rankOf, edgeOf}
 
 -- the half-edge that follows lies in the other slot of the same edge: the first if this one lies in the second
 twinTest : ℕ → Bool

@@ -7,9 +7,8 @@ use native.Mathlib.Omega.{arith}
 use lib.Dec.{eqb}
 use lib.ListN.{length, getD}
 use borrow.Author.Tests.{not-true, not-false}
-use Rattle.counting.specs.Range.{over, after}
-use Rattle.counting.specs.Lists.{gather}
-use Rattle.counting.specs.Stored.{Stored}
+use Rattle.counting.specs.Lists.{over, after, gather}
+use Rattle.counting.specs.work.Stored.{Stored}
 use Rattle.counting.proofs.Stored.{stored-none}
 use Rattle.manifold.specs.Shape.{shapeOf, manyOf}
 use Rattle.cell.specs.declared.Cell.{Cell}
@@ -17,8 +16,9 @@ use Rattle.cell.specs.Cell.{mate, slot}
 use Rattle.cell.specs.Loop.{dart}
 use Rattle.cell.proofs.Loops.{from-lt, from-slot, from-point}
 use Rattle.cell.proofs.Going.{Looped, looped-halves, looped-points}
-use Rattle.cell.specs.Triangles.{edgesOf, numberOf, loopTriangles, askedTriangles}
-use Rattle.cell.specs.Traced.{RecordedLoop, tracedTriangles}
+use Rattle.cell.specs.Of.{edgesOf}
+use Rattle.cell.specs.Triangles.{numberOf, loopTriangles, askedTriangles}
+use Rattle.cell.specs.work.Traced.{RecordedLoop, tracedTriangles}
 use Rattle.cell.proofs.LoopTriangles.{length-traced}
 use Rattle.cell.proofs.Taken.{two-four, dart-leads, traced-loop, asked-is, asked-not}
 use Rattle.cell.proofs.Storing.{wordsOf, written-more}

@@ -7,10 +7,10 @@ use native.Mathlib.Omega.{arith}
 use native.Mathlib.Decide.{decLt, ℕ-discrete}
 use lib.Dec.{eqb, ltb, leb}
 use borrow.Author.Tests.{ltb-true, lt-ltb, le-ltb, leb-true, le-leb, eqb-true, eq-eqb, ne-eqb}
-use Rattle.counting.specs.Pick.{pick, one}
-use Rattle.counting.specs.Range.{total}
+use Rattle.counting.specs.Pick.{pick}
+use Rattle.counting.specs.Lists.{one, total, pre}
 use Rattle.counting.specs.Search as search
-use Rattle.counting.specs.Pack.{pre, row, col}
+use Rattle.counting.specs.Pack.{row, col}
 use Rattle.counting.proofs.Bools.{and-left, and-right, and-true, or-left, or-right, or-cases, not-clash}
 use Rattle.counting.proofs.Range.{total-mono, total-add, total-single, total-ext, total-split, total-zero}
 use Rattle.counting.proofs.Search.{first-at, count-total, count-ext}
@@ -18,7 +18,7 @@ use Rattle.counting.proofs.Onto.{onto, total-onto}
 use Rattle.counting.proofs.Rows.{count-rows}
 use Rattle.counting.proofs.Pack.{row-lt, col-lt, unpack, row-pack, col-pack}
 use Rattle.cell.specs.Cell.{Edges, ahead, base, crossings, number, holds, edge, index}
-use Rattle.cell.specs.Claims.{Lay, Separate, LaidSame}
+use Rattle.cell.specs.claims.Claims.{Lay, Separate, LaidSame}
 
 module _ (w : Edges) where
   -- edge j is laid before edge k

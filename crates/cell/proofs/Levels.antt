@@ -9,7 +9,8 @@ use Rattle.counting.proofs.Bools.{not-clash, bool-same}
 use Rattle.counting.proofs.Below.{below-four}
 use Rattle.counting.proofs.Search.{every-is, is-every}
 use Rattle.slots.specs.Slots.{slotEdge}
-use Rattle.face.specs.Level.{isLevel, Level}
+use Rattle.face.specs.Face.{isLevel}
+use Rattle.face.specs.claims.Level.{Level}
 use Rattle.face.proofs.Level.{level-is, is-level}
 use Rattle.cell.specs.Level.{isLevelCell}
 

@@ -14,7 +14,7 @@ use Rattle.cell.specs.declared.Corner.the-variants.{Middle}
 use Rattle.cell.specs.declared.Side.the-variants.{Inner}
 use Rattle.cell.specs.declared.Triangle.{Triangle}
 use Rattle.cell.specs.Triangles.{triangle}
-use Rattle.cell.specs.Traced.{RecordedLoop, pointAt, segmentAt, tracedTriangle, tracedTriangles}
+use Rattle.cell.specs.work.Traced.{RecordedLoop, pointAt, segmentAt, tracedTriangle, tracedTriangles}
 
 pub traced-as : {halves points : List ℕ} {n m : ℕ} → n ≡ m → RecordedLoop halves points n → RecordedLoop halves points m
 traced-as {halves} {points} e R = subst (λ k. RecordedLoop halves points k) e R

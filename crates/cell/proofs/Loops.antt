@@ -8,14 +8,12 @@ use native.Mathlib.Nat.{eq-or-lt-of-le, eq-zero-or-pos}
 use native.Mathlib.Omega.{arith}
 use lib.Dec.{eqb}
 use lib.ListN.{getD, length}
-use Rattle.counting.specs.Pick.{one}
-use Rattle.counting.specs.Range.{total, after}
-use Rattle.counting.specs.Lists.{tally}
+use Rattle.counting.specs.Lists.{one, total, after, tally, it}
 use Rattle.counting.proofs.Range.{total-ext, after-last, after-on, length-over}
 use Rattle.slots.specs.Slots.{edgeRank}
-use Rattle.walk.specs.Iterate.{it}
 use Rattle.walk.specs.Darts.{Loop, half, rev}
 use Rattle.walk.specs.Walk as walk
+use Rattle.walk.specs.claims.Claims as walk-claims
 use Rattle.walk.proofs.Step as walks
 use Rattle.walk.proofs.Curve.{loop-short}
 use Rattle.walk.proofs.Once.{flat-room}
@@ -24,9 +22,10 @@ use Rattle.cell.specs.declared.Cell.{Cell}
 use Rattle.cell.specs.Cell.{Edges, crossings, edge, slot, firstSlotAt, secondSlotAt, mate, step}
 use Rattle.cell.specs.Loop.{loopSize, dart, loopDarts, normal, parity, inGrid, typeOf, loopTold}
 use Rattle.cell.specs.Of.{edgesOf}
-use Rattle.cell.specs.Half.{halfEdges, edgeOf, halfOf, halfEdge}
-use Rattle.cell.specs.Scratch.{halvesFrom, pointsFrom}
-use Rattle.cell.specs.Round.{crossesIn, roundAnswer}
+use Rattle.cell.specs.work.Half.{halfEdges, halfOf, halfEdge}
+use Rattle.cell.specs.claims.Half.{edgeOf}
+use Rattle.cell.specs.work.Scratch.{halvesFrom, pointsFrom}
+use Rattle.cell.specs.work.Round.{crossesIn, roundAnswer}
 use Rattle.cell.proofs.Half as halves
 use Rattle.cell.proofs.Step.{step-is}
 use Rattle.cell.proofs.Mates.{slot-has, ports, darts, laws}
@@ -108,7 +107,7 @@ module _ (w : Edges) where
 
 -- no crossing is on two loops, so that all loops together have no more than there are
 pub sizes : (w : Edges) → total (loopSize w) (crossings w) 0 ≤ crossings w
-unfolding loopSize step walk.flat walk.loopAt
+unfolding loopSize step walk-claims.flat walk.loopAt
 sizes w =
     let s = step w in
     omega (

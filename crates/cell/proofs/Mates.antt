@@ -5,12 +5,13 @@ use mathlib.Core.Logic.{_⊎_, _≢_, ⊎-elim}
 use native.Mathlib.Omega.{arith}
 use Rattle.slots.specs.Slots.{slotEdge, edgeRank, firstSlot, secondSlot}
 use Rattle.slots.proofs.Slots.{EdgeSlot, first-slot, second-slot, slot-edge, two-slots}
-use Rattle.face.specs.Face.{joined, unjoined, countOn}
+use Rattle.face.specs.Face.{joined, countOn}
+use Rattle.face.specs.claims.Claims.{unjoined}
 use Rattle.face.proofs.Ends.{edge-lt as face-edge-lt, edge-with}
 use Rattle.face.proofs.Claims.{faceLaws}
-use Rattle.walk.specs.Darts.{Darts, half, rev}
-use Rattle.walk.specs.Claims.{WalkLaws}
-use Rattle.walk.specs.Step as walk
+use Rattle.walk.specs.claims.Claims.{Darts, WalkLaws}
+use Rattle.walk.specs.Darts.{half, rev}
+use Rattle.walk.specs.claims.Step as walk
 use Rattle.walk.proofs.Step as walks
 use Rattle.walk.proofs.Claims.{walkLaws}
 use Rattle.cell.specs.Cell.{Edges, crossings, edge, index, number, joinAt, joinedTo, mate, firstSlotAt, secondSlotAt, slot, step}

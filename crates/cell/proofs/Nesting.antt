@@ -12,13 +12,12 @@ use lib.ListN.{length, getD}
 use lib.Ieee.{Float}
 use borrow.Author.Tests.{eqb-true, ltb-true, eq-eqb, ne-eqb, lt-ltb, le-ltb}
 use Rattle.counting.specs.Pick.{pick}
-use Rattle.counting.specs.Range.{total, values}
-use Rattle.counting.specs.Pack.{pre}
+use Rattle.counting.specs.Lists.{total, values, pre}
 use Rattle.counting.specs.Search.{every}
 use Rattle.counting.proofs.Bools.{and-left, and-right, not-clash}
 use Rattle.counting.proofs.Lists.{values-at}
 use Rattle.slots.specs.Slots.{slotEdge}
-use Rattle.face.specs.Level.{Level}
+use Rattle.face.specs.claims.Level.{Level}
 use Rattle.face.proofs.Level.{level-turn, level-swap}
 use Rattle.place.specs.declared.Place.{Place}
 use Rattle.place.specs.Place.{partOf, between, middle, placeAt}
@@ -26,12 +25,12 @@ use Rattle.cell.specs.declared.Cell.{Cell}
 use Rattle.cell.specs.declared.Nest.{Nest}
 use Rattle.cell.specs.Cell.{edge}
 use Rattle.cell.specs.Of.{countOf, startOf, edgesOf}
-use Rattle.cell.specs.Half.{edgeOf}
+use Rattle.cell.specs.claims.Half.{edgeOf}
 use Rattle.cell.specs.Level.{byEdge, isLevelCell}
 use Rattle.cell.specs.Loop.{loopSize, dart, inGrid}
-use Rattle.cell.specs.Nests.{greatestOf, exceeds, exceeding, pairAt, nestEdge, nestCount, nestCorner, halfSum, nestLow, nestRank, onAxis, nestMiddle}
-use Rattle.cell.specs.Middles.{cornerPlace}
-use Rattle.cell.specs.Centres.{highestOn, NestOn, IsNest, recordedNested, recordedPlace}
+use Rattle.cell.specs.claims.Nests.{greatestOf, exceeds, exceeding, pairAt, nestEdge, nestCount, nestCorner, nestLow, nestRank, onAxis, nestMiddle}
+use Rattle.cell.specs.Middles.{halfSum, cornerPlace}
+use Rattle.cell.specs.work.Centres.{highestOn, NestOn, IsNest, recordedNested, recordedPlace}
 use Rattle.cell.proofs.Levels.{slot-level}
 use Rattle.cell.proofs.Loops.{from-point, from-edge}
 use Rattle.cell.proofs.Going.{Looped, looped-halves}

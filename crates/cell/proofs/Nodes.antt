@@ -10,12 +10,14 @@ use Rattle.counting.specs.Pick.{pick}
 use Rattle.counting.specs.Search.{every, first}
 use Rattle.counting.proofs.Bools.{imply, or-cases, and-left, and-right}
 use Rattle.counting.proofs.Search.{every-is}
-use Rattle.slots.specs.Slots.{lo, hi, position, edgeBetween, slotEdge, edgeRank, contains, thirdPosition}
+use Rattle.slots.specs.Slots.{lo, hi, position, edgeBetween, slotEdge, edgeRank, contains, lower, upper}
+use Rattle.slots.specs.claims.Slots.{thirdPosition}
 use Rattle.slots.proofs.Slots.{EdgeSlot, two-slots}
 use Rattle.slots.proofs.Claims.{slotLaws}
-use Rattle.face.specs.Face.{lower, upper, other, opposite}
-use Rattle.cell.specs.Half.{twin}
-use Rattle.cell.specs.Nodes.{Arranged, joining}
+use Rattle.face.specs.Face.{other, opposite}
+use Rattle.cell.specs.work.Half.{twin}
+use Rattle.cell.specs.claims.Nodes.{Arranged}
+use Rattle.cell.specs.Nodes.{joining}
 use Rattle.cell.proofs.Follow.{contained}
 
 -- the place of position a in slot d

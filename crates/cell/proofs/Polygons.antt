@@ -5,7 +5,7 @@ use mathlib.Core.Logic.{_≢_}
 use mathlib.Core.List.{map}
 use native.Mathlib.Omega.{arith}
 use native.Mathlib.Decide.{decLt}
-use Rattle.counting.specs.Range.{over}
+use Rattle.counting.specs.Lists.{over}
 use Rattle.counting.proofs.Range.{over-ext}
 use Rattle.counting.proofs.Lists.{map-over}
 use Rattle.walk.specs.Darts.{half}
@@ -14,20 +14,21 @@ use Rattle.cell.specs.Cell.{crossings, slot, step}
 use Rattle.cell.specs.Loop.{loopSize, dart, normal}
 use Rattle.cell.proofs.Mates.{slot-has, ports}
 use Rattle.manifold.specs.Shape.{shapeOf}
-use Rattle.manifold.specs.Plain.{tri}
-use Rattle.manifold.specs.Polygon as manifold
-use Rattle.manifold.specs.Polygon.{Simple}
-use Rattle.manifold.specs.Piece.{Piece, dart as dartOf, sizeOf}
-use Rattle.manifold.specs.Claims.{PolygonLaws}
+use Rattle.manifold.specs.claims.Plain.{tri}
+use Rattle.manifold.specs.claims.Polygon as manifold
+use Rattle.manifold.specs.work.Polygon.{Simple}
+use Rattle.manifold.specs.claims.Piece.{Piece, dart as dartOf, sizeOf}
+use Rattle.manifold.specs.claims.Claims.{PolygonLaws}
 use Rattle.manifold.proofs.Shapes.{map-triangles}
 use Rattle.manifold.proofs.Piece.{Listed, dart-once, dart-lt, segment-once, size-ne}
 use Rattle.manifold.proofs.Claims.{polygonLaws}
 use Rattle.cell.specs.declared.Corner.the-variants.{Middle}
 use Rattle.cell.specs.declared.Side.the-variants.{Inner}
 use Rattle.cell.specs.Names.{cornerName, sideName}
-use Rattle.cell.specs.Triangles.{edgesOf, numberOf, segmentOf, point, segment, triangle, loopTriangles, cellTriangles}
-pub use Rattle.cell.specs.Polygons.{localOf, polygonOf, named}
-use Rattle.cell.specs.Polygons.{Apart}
+use Rattle.cell.specs.Of.{edgesOf}
+use Rattle.cell.specs.Triangles.{numberOf, segmentOf, point, segment, triangle, loopTriangles, cellTriangles}
+pub use Rattle.cell.specs.claims.Polygons.{localOf, polygonOf, named}
+use Rattle.cell.specs.claims.Polygons.{Apart}
 
 pub loop-named : (c : Cell) (p : ℕ) → map named (loopTriangles c p) ≡ manifold.triangles (polygonOf c p)
 unfolding loopTriangles triangle point segment segmentOf slot step dart loopSize manifold.triangles manifold.shape

@@ -5,17 +5,19 @@ use mathlib.Core.Bool.{Bool, true, false}
 use native.Mathlib.Omega.{arith}
 use lib.Dec.{eqb, ltb}
 use Rattle.counting.specs.Pick.{pick}
-use Rattle.slots.specs.Slots.{slotEdge}
-use Rattle.face.specs.Face.{along, joinedBy, joined, isAlong, lower, upper, other, countOn, kth, partner, faceAnswer, faceJoin}
-use Rattle.face.specs.Ends.{Edge, on-ab, on-ac, on-bc, End, low, high, Corners}
+use Rattle.slots.specs.Slots.{slotEdge, lower, upper}
+use Rattle.face.specs.Face.{along, joinedBy, joined, isAlong, other, countOn, kth, partner, faceAnswer, faceJoin}
+use Rattle.face.specs.claims.Ends.{Edge, on-ab, on-ac, on-bc, End, low, high}
+use Rattle.face.specs.work.Ends.{Corners}
 use Rattle.face.proofs.Ends.{edge-of, edge-lt as face-edge-lt, on, end-other}
 use Rattle.face.proofs.Gaps.{corner-fits}
 use Rattle.face.proofs.Branches.{answer-low, answer-high, answer-up, answer-down, face-low, face-high, face-skip, face-up, face-down}
 use Rattle.cell.specs.Cell.{Edges, number, crossings, step}
 use Rattle.cell.specs.Loop.{folded}
-use Rattle.cell.specs.Half.{halfEdges, halfSlot, rankOf, edgeOf, twin, around}
-use Rattle.cell.specs.Route.{halfCorner}
-use Rattle.cell.specs.Dart.{Parts, dartNumber}
+use Rattle.cell.specs.work.Half.{halfEdges, twin, around}
+use Rattle.cell.specs.claims.Half.{halfSlot, rankOf, edgeOf, dartNumber}
+use Rattle.cell.specs.work.Route.{halfCorner}
+use Rattle.cell.specs.work.Dart.{Parts}
 use Rattle.cell.proofs.Half.{place-lt, twin-lt, twin-edge, half-edge}
 use Rattle.cell.proofs.Step.{joinOn, answerOn, fold-is, step-joined, step-unjoined}
 

@@ -8,7 +8,7 @@ use lib.Dec.{eqb, ltb}
 use lib.ListN.{getD}
 use Rattle.counting.specs.Pick.{pick}
 use Rattle.face.specs.declared.Stand.the-variants.{Low, High}
-use Rattle.face.specs.Face.{lower, upper}
+use Rattle.slots.specs.Slots.{lower, upper}
 use Rattle.face.proofs.Stands.{Stands, Within}
 use Rattle.cell.specs.declared.Cell.{Cell}
 use Rattle.cell.specs.declared.Dart.{Dart}
@@ -17,10 +17,11 @@ use Rattle.cell.specs.declared.Next.the-variants.{On, End}
 use Rattle.cell.specs.Cell.{Edges, crossings, number, step}
 use Rattle.cell.specs.Loop.{folded}
 use Rattle.cell.specs.Of.{edgesOf}
-use Rattle.cell.specs.Half.{halfEdges, rankOf, edgeOf, twin}
-use Rattle.cell.specs.Route.{halfCorner, columns, lowColumn, highColumn, countColumn, roundLowColumn, roundHighColumn, twinColumn, rankColumn, Routed}
-use Rattle.cell.specs.Limits.{mostInCell}
-use Rattle.cell.specs.Dart.{Spot, IsDartAt, Ready, AtLow, AtHigh, Turns, Beside, Leads, Onward, dartNumber, dartOf}
+use Rattle.cell.specs.work.Half.{halfEdges, twin}
+use Rattle.cell.specs.claims.Half.{rankOf, edgeOf, dartNumber}
+use Rattle.cell.specs.work.Route.{halfCorner, columns, lowColumn, highColumn, countColumn, roundLowColumn, roundHighColumn, twinColumn, rankColumn, Routed}
+use Rattle.cell.specs.work.Limits.{mostInCell}
+use Rattle.cell.specs.work.Dart.{Spot, IsDartAt, Ready, AtLow, AtHigh, Turns, Beside, Leads, Onward, dartOf}
 use Rattle.cell.proofs.Reach.{Reach, high-own, low-lt, high-lt, low-fits, high-fits, turn-low, turn-high, between-end, between-up, between-down, low-told, high-told, up-told, down-told}
 use Rattle.cell.proofs.Route.{low-at, high-at, count-at, low-next-at, high-next-at, twin-at, place-at, fits}
 

@@ -12,10 +12,9 @@ use lib.Dec.{eqb, ltb}
 use lib.ListN.{getD, set, take, length, length-map}
 use lib.Seq.{take-suc-set}
 use borrow.Author.Tests.{ltb-true, lt-ltb, le-ltb, ne-eqb}
-use Rattle.counting.specs.Pick.{one}
-use Rattle.counting.specs.Lists.{tally}
+use Rattle.counting.specs.Lists.{one, tally, it}
 use Rattle.counting.proofs.Lists.{getD-map, tally-append}
-use Rattle.walk.specs.Iterate.{it, orbit}
+use Rattle.walk.specs.Walk.{orbit}
 use Rattle.walk.specs.Walk as walk
 use Rattle.walk.proofs.Iterate.{orbit-snoc, length-orbit}
 use Rattle.cell.specs.declared.Cell.{Cell}
@@ -23,12 +22,13 @@ use Rattle.cell.specs.declared.Dart.{Dart}
 use Rattle.cell.specs.Cell.{Edges, crossings, index, step}
 use Rattle.cell.specs.Loop.{loopSize, dart, loopDarts, folded, normal, inGrid}
 use Rattle.cell.specs.Of.{edgesOf}
-use Rattle.cell.specs.Half.{edgeOf, halfOf, halfEdge}
-use Rattle.cell.specs.Route.{Routed}
-use Rattle.cell.specs.Limits.{mostInCell, startLimit}
-use Rattle.cell.specs.Dart.{Parts, IsDart, Ready, Leads, dartNumber, dartOf}
-use Rattle.cell.specs.Scratch.{halvesFrom, pointsFrom}
-use Rattle.cell.specs.Walked.{Starts, Marked, isMet, Kept, Used, Lent, Walked}
+use Rattle.cell.specs.claims.Half.{edgeOf, dartNumber}
+use Rattle.cell.specs.work.Half.{halfOf, halfEdge}
+use Rattle.cell.specs.work.Route.{Routed}
+use Rattle.cell.specs.work.Limits.{mostInCell, startLimit}
+use Rattle.cell.specs.work.Dart.{Parts, IsDart, Ready, Leads, dartOf}
+use Rattle.cell.specs.work.Scratch.{halvesFrom, pointsFrom}
+use Rattle.cell.specs.work.Walked.{Starts, Marked, isMet, Kept, Used, Lent, Walked}
 use Rattle.cell.proofs.Half.{place-is}
 use Rattle.cell.proofs.Step.{number-half, parts-number, parts-edge, parts-index, parts-slot}
 use Rattle.cell.proofs.Route.{start-at, start-near, fits}

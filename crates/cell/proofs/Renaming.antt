@@ -10,12 +10,12 @@ use native.Mathlib.Decide.{decLt}
 use lib.Dec.{eqb, ltb}
 use lib.ListN.{getD}
 use borrow.Author.Tests.{lt-ltb, le-ltb, eq-eqb, ne-eqb}
-use Rattle.counting.specs.Pick.{pick, one}
-use Rattle.counting.specs.Range.{total, after}
+use Rattle.counting.specs.Pick.{pick}
+use Rattle.counting.specs.Lists.{one, total, after}
 use Rattle.counting.proofs.Range.{total-ext, over-ext, after-lt}
 use Rattle.counting.proofs.Lists.{map-over}
 use Rattle.slots.specs.Slots.{slotEdge}
-use Rattle.slots.specs.Claims.{EdgeSlot}
+use Rattle.slots.specs.claims.Claims.{EdgeSlot}
 use Rattle.slots.proofs.Slots.{slot-edge}
 use Rattle.walk.specs.Step as walk
 use Rattle.walk.proofs.Found.{it-ext, size-ext}
@@ -27,9 +27,10 @@ use Rattle.cell.specs.declared.Side.the-variants.{Segment, Inner}
 use Rattle.face.specs.Face.{isAlong}
 use Rattle.cell.specs.Cell.{Edges, ahead, base, crossings, edge, index, number, answerAt, joinAt, mate, firstSlotAt, secondSlotAt, slot, step}
 use Rattle.cell.specs.Loop.{loopSize, dart, folded, normal, inGrid}
-use Rattle.cell.specs.Of.{countOf, startOf}
-use Rattle.cell.specs.Triangles.{edgesOf, triangle, numberOf, segmentOf, point, segment, loopTriangles, cellTriangles}
-use Rattle.cell.specs.Renaming.{Renaming, renamedCorner, renamedSide, renamed, RenamedCell, CellsRenamed}
+use Rattle.cell.specs.Of.{countOf, startOf, edgesOf}
+use Rattle.cell.specs.Triangles.{triangle, numberOf, segmentOf, point, segment, loopTriangles, cellTriangles}
+use Rattle.cell.specs.Renaming.{Renaming, renamedCorner, renamedSide, renamed}
+use Rattle.cell.specs.claims.Renaming.{RenamedCell, CellsRenamed}
 use Rattle.cell.proofs.Lay.{lay}
 use Rattle.cell.proofs.Step.{step-is}
 use Rattle.cell.proofs.Mates.{mate-joined, mate-unjoined, joined-edge, joined-index, mate-cases, slot-has}

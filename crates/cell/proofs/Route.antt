@@ -13,26 +13,27 @@ use lib.Seq.{sets, length-sets, getD-set-same, getD-set-other}
 use native.Mathlib.Numerals.{add-one}
 use borrow.Author.Tests.{eqb-true, eq-eqb, ne-eqb, le-ltb}
 use Rattle.counting.specs.Pick.{pick}
-use Rattle.counting.specs.Range.{total}
+use Rattle.counting.specs.Lists.{total, pre}
 use Rattle.counting.specs.Search.{every}
-use Rattle.counting.specs.Pack.{pre}
 use Rattle.counting.proofs.Range.{total-next}
 use Rattle.counting.proofs.Search.{every-is}
 use Rattle.counting.proofs.Stores.{getD-sets-in, getD-sets-out}
 use Rattle.counting.proofs.Pack.{pre-next, pre-most}
 use Rattle.slots.specs.Limits.{mostCount}
-use Rattle.slots.specs.Slots.{slotEdge, firstSlot}
-use Rattle.face.specs.Face.{lower, upper, other, corners}
-use Rattle.face.specs.Ends.{low, high}
+use Rattle.slots.specs.Slots.{slotEdge, firstSlot, lower, upper}
+use Rattle.face.specs.Face.{other}
+use Rattle.face.specs.work.Corners.{corners}
+use Rattle.face.specs.claims.Ends.{low, high}
 use Rattle.face.proofs.Ends.{edge-of}
 use Rattle.face.proofs.Gaps.{corner-node}
 use Rattle.cell.specs.declared.Cell.{Cell}
 use Rattle.cell.specs.declared.Run.{Run}
 use Rattle.cell.specs.Cell.{Edges, ahead, base, number}
 use Rattle.cell.specs.Of.{countOf, startOf, edgesOf}
-use Rattle.cell.specs.Half.{halfEdges, rankOf, edgeOf, halfOf, twin, around}
-use Rattle.cell.specs.Route.{columns, lowColumn, highColumn, countColumn, firstColumn, startColumn, roundLowColumn, roundHighColumn, twinColumn, rankColumn, halfCorner, front, fronts, links, IsRun, SlotRuns, Routed}
-use Rattle.cell.specs.Limits.{mostInCell, startLimit}
+use Rattle.cell.specs.work.Half.{halfEdges, halfOf, twin, around}
+use Rattle.cell.specs.claims.Half.{rankOf, edgeOf}
+use Rattle.cell.specs.work.Route.{columns, lowColumn, highColumn, countColumn, firstColumn, startColumn, roundLowColumn, roundHighColumn, twinColumn, rankColumn, halfCorner, front, fronts, links, IsRun, SlotRuns, Routed}
+use Rattle.cell.specs.work.Limits.{mostInCell, startLimit}
 use Rattle.cell.proofs.Lay.{base-all, laid-same}
 use Rattle.cell.proofs.Half.{edge-lt, half-slot, half-place, half-edge, first-half}
 

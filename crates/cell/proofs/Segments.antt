@@ -8,16 +8,13 @@ use native.Mathlib.Nat.{not-suc-le-zero, eq-or-lt-of-le, eq-zero-or-pos}
 use native.Mathlib.Omega.{arith}
 use lib.Dec.{eqb}
 use borrow.Author.Tests.{eqb-true, eqb-false, eq-eqb, ne-eqb}
-use Rattle.counting.specs.Pick.{one}
-use Rattle.counting.specs.Range.{total}
-use Rattle.counting.specs.Lists.{tally}
+use Rattle.counting.specs.Lists.{one, total, tally, it}
 use Rattle.counting.proofs.Bools.{clash}
 use Rattle.counting.proofs.Range.{total-pos, total-has}
 use Rattle.counting.proofs.Lists.{tally-over}
-use Rattle.walk.specs.Iterate.{it}
-use Rattle.walk.specs.Darts.{Darts, Loop, half, rev}
-use Rattle.walk.specs.Walk.{size, loopAt, flat}
-use Rattle.walk.specs.Claims.{ofCrossing}
+use Rattle.walk.specs.claims.Claims.{Darts, flat}
+use Rattle.walk.specs.Darts.{Loop, half, rev, ofCrossing}
+use Rattle.walk.specs.Walk.{size, loopAt}
 use Rattle.walk.proofs.Step.{same-half, half-rev}
 use Rattle.walk.proofs.Iterate.{it-suc, tally-orbit}
 use Rattle.walk.proofs.Curve.{inj}

@@ -6,13 +6,13 @@ use mathlib.Core.Bool.{Bool, true, false}
 use mathlib.Core.List.{List}
 use native.Mathlib.Omega.{arith}
 use lib.Seq.{sets}
-use Rattle.counting.specs.Range.{values}
+use Rattle.counting.specs.Lists.{values}
 use Rattle.manifold.specs.Shape.{single, double, fan, shapeOf, manyOf}
 use Rattle.manifold.proofs.Shapes.{shape-three, shape-four, shape-else}
 use Rattle.cell.specs.declared.Cell.{Cell}
 use Rattle.cell.specs.declared.Triangle.{Triangle}
 use Rattle.cell.specs.Words.{wordCount, words, allWords}
-use Rattle.cell.specs.Traced.{tracedTriangle, tracedTriangles}
+use Rattle.cell.specs.work.Traced.{tracedTriangle, tracedTriangles}
 use Rattle.cell.proofs.LoopTriangles.{this-single, this-first, this-second}
 use Rattle.cell.proofs.Storing.{Run, run-none, run-more, run-all}
 

@@ -15,9 +15,9 @@ use Rattle.cell.specs.declared.Cell.{Cell}
 use Rattle.cell.specs.declared.Dart.{Dart}
 use Rattle.cell.specs.Cell.{Edges, base, crossings, holds, edge, index}
 use Rattle.cell.specs.Of.{edgesOf}
-use Rattle.cell.specs.Half.{halfEdges, halfOf}
-use Rattle.cell.specs.Route.{columns, countColumn, firstColumn, Routed}
-use Rattle.cell.specs.Walked.{Located, Starts}
+use Rattle.cell.specs.work.Half.{halfEdges, halfOf}
+use Rattle.cell.specs.work.Route.{columns, countColumn, firstColumn, Routed}
+use Rattle.cell.specs.work.Walked.{Located, Starts}
 use Rattle.cell.proofs.Lay.{lay}
 use Rattle.cell.proofs.Half.{first-half}
 use Rattle.cell.proofs.Step.{number-first}

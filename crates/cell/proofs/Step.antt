@@ -7,16 +7,18 @@ use mathlib.Core.List.{List}
 use native.Mathlib.Omega.{arith}
 use lib.Dec.{eqb}
 use borrow.Author.Tests.{eqb-true, eqb-false, eq-eqb, ne-eqb, le-ltb}
-use Rattle.counting.specs.Pick.{one}
+use Rattle.counting.specs.Lists.{one}
 use Rattle.slots.specs.Slots.{slotEdge, firstSlot, secondSlot}
 use Rattle.slots.proofs.Slots.{one-of-two}
-use Rattle.face.specs.Face.{joined, unjoined, isAlong, faceAnswer, faceJoin}
+use Rattle.face.specs.Face.{joined, isAlong, faceAnswer, faceJoin}
+use Rattle.face.specs.claims.Claims.{unjoined}
 use Rattle.walk.specs.Step as walk
 use Rattle.walk.proofs.Step.{face-first, face-second, land-first, land-second}
 use Rattle.cell.specs.Cell.{Edges, crossings, edge, index, number, answerAt, joinAt, joinedTo, mate, firstSlotAt, secondSlotAt, slot, step}
 use Rattle.cell.specs.Loop.{folded}
-use Rattle.cell.specs.Half.{halfEdges, halfSlot, rankOf, edgeOf, twin}
-use Rattle.cell.specs.Dart.{Parts, dartNumber}
+use Rattle.cell.specs.work.Half.{halfEdges, twin}
+use Rattle.cell.specs.claims.Half.{halfSlot, rankOf, edgeOf, dartNumber}
+use Rattle.cell.specs.work.Dart.{Parts}
 use Rattle.cell.proofs.Lay.{lay}
 use Rattle.cell.proofs.Half.{slot-lt, edge-lt, place-is, within, twin-edge, twin-second, twin-first, half-slot, half-edge}
 

@@ -5,9 +5,8 @@ use mathlib.Core.List.{List, [], _∷_, append-nil}
 use native.Mathlib.Omega.{arith}
 use lib.ListN.{length, getD, length-append}
 use lib.Seq.{sets}
-use Rattle.counting.specs.Lists.{gather}
-use Rattle.counting.specs.Range.{over, values}
-use Rattle.counting.specs.Stored.{Stored}
+use Rattle.counting.specs.Lists.{gather, over, values}
+use Rattle.counting.specs.work.Stored.{Stored}
 use Rattle.counting.proofs.Fronts.{over-within}
 use Rattle.counting.proofs.Lists.{length-singles, gather-over, length-gather}
 use Rattle.counting.proofs.Stored.{stored-none, stored-then, stored-more}

@@ -7,12 +7,11 @@ use native.Mathlib.Omega.{arith}
 use lib.Dec.{eqb}
 use lib.ListN.{length, getD}
 use borrow.Author.Tests.{eqb-true}
-use Rattle.counting.specs.Range.{total, after}
+use Rattle.counting.specs.Lists.{total, after, it}
 use Rattle.counting.proofs.Bools.{and-left}
 use Rattle.counting.proofs.Range.{after-lt, length-over, total-ext, total-mono}
 use Rattle.manifold.specs.Shape.{Shape, shapeOf, manyOf, trianglesOf}
 use Rattle.manifold.proofs.Shapes.{shape-two, fits, many-le, length-triangles, triangles-ext}
-use Rattle.walk.specs.Iterate.{it}
 use Rattle.walk.specs.Step as steps
 use Rattle.walk.proofs.Step.{live, land-half}
 use Rattle.cell.specs.declared.Cell.{Cell}
@@ -22,8 +21,9 @@ use Rattle.cell.proofs.Loops.{sizes, dart-live, dart-after}
 use Rattle.cell.specs.Loop.{loopSize, dart, normal}
 use Rattle.cell.specs.declared.Corner.the-variants.{Crossing, Middle}
 use Rattle.cell.specs.declared.Side.the-variants.{Inner}
-use Rattle.cell.specs.Triangles.{manyFrom, triangleCount, triangle, edgesOf, numberOf, segmentOf, point, segment, loopTriangles, cellTriangles, askedTriangles, trianglesWith}
-use Rattle.cell.specs.Traced.{pointAt, segmentAt, tracedTriangles}
+use Rattle.cell.specs.Triangles.{manyFrom, triangleCount, triangle, numberOf, segmentOf, point, segment, loopTriangles, cellTriangles, askedTriangles, trianglesWith}
+use Rattle.cell.specs.Of.{edgesOf}
+use Rattle.cell.specs.work.Traced.{pointAt, segmentAt, tracedTriangles}
 
 -- n is 4 where the code says that a loop is in two triangles
 pub two-four : (n : ℕ) (two b : Bool) → two ≡ (eqb n 4 && b) → two ≡ true → n ≡ 4

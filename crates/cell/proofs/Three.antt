@@ -8,14 +8,11 @@ use native.Mathlib.Omega.{arith}
 use lib.Dec.{eqb}
 use lib.ListN.{getD}
 use borrow.Author.Tests.{eqb-true, eq-eqb, ne-eqb, not-true}
-use Rattle.counting.specs.Pick.{one}
-use Rattle.counting.specs.Range.{total}
+use Rattle.counting.specs.Lists.{one, total, tally, it}
 use Rattle.counting.specs.Search.{first as least, every}
-use Rattle.counting.specs.Lists.{tally}
 use Rattle.counting.proofs.Bools.{and-left, and-right, or-cases}
 use Rattle.counting.proofs.Search.{every-is}
 use Rattle.slots.specs.Slots.{contains}
-use Rattle.walk.specs.Iterate.{it}
 use Rattle.cell.specs.Cell.{Edges, crossings, edge, slot, step}
 use Rattle.cell.specs.Loop.{loopSize, dart, loopDarts, folded, normal, parity, typeBy, typeOf}
 use Rattle.cell.proofs.Lay.{lay}

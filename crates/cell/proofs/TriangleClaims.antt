@@ -1,7 +1,7 @@
 -- The laws of a cell's triangles, together.
 use Rattle.cell.specs.declared.Cell.{Cell}
 use Rattle.cell.specs.Triangles.{cellTriangles}
-use Rattle.cell.specs.TriangleClaims.{TriangleLaws}
+use Rattle.cell.specs.claims.TriangleClaims.{TriangleLaws}
 use Rattle.cell.proofs.Storing.{length-all}
 use Rattle.cell.proofs.Taken.{length-loop, loop-few, length-cell, cell-count, cell-few}
 use Rattle.cell.proofs.Polygons.{loop-named, polygon-laws}

@@ -7,23 +7,24 @@ use native.Mathlib.Omega.{arith}
 use lib.Dec.{ltb}
 use borrow.Author.Tests.{ltb-true, ltb-false, lt-ltb}
 use Rattle.counting.specs.Pick.{pick}
-use Rattle.slots.specs.Slots.{lo, hi, slotEdge, edgeRank, firstSlot, secondSlot}
+use Rattle.slots.specs.Slots.{lo, hi, slotEdge, edgeRank, firstSlot, secondSlot, lower, upper}
 use Rattle.slots.proofs.Slots.{EdgeSlot, two-slots, first-slot, second-slot}
 use Rattle.walk.proofs.Step.{by-parity}
-use Rattle.face.specs.Face.{joined, lower, upper, countOn, kth, cornerCountAt}
-use Rattle.face.specs.Ends.{End, low, high}
+use Rattle.face.specs.Face.{joined, countOn, kth, cornerCountAt}
+use Rattle.face.specs.claims.Ends.{End, low, high}
 use Rattle.face.proofs.Ends.{edge-of}
 use Rattle.face.proofs.Gaps.{kth-lower, kth-upper}
 use Rattle.face.proofs.Corner.{corner-le, corner-swap}
 use Rattle.face.proofs.Claims.{faceLaws}
 use Rattle.cell.specs.Cell.{Edges, crossings, edge, index, slot, step}
-use Rattle.cell.specs.Half.{halfSlot, edgeOf}
-use Rattle.cell.specs.Dart.{Parts, dartNumber}
+use Rattle.cell.specs.claims.Half.{halfSlot, edgeOf, dartNumber}
+use Rattle.cell.specs.work.Dart.{Parts}
 use Rattle.cell.proofs.Lay.{lay}
 use Rattle.cell.proofs.Half.{half-slot, half-place, half-edge}
 use Rattle.cell.proofs.Reach.{slot-count}
 use Rattle.cell.proofs.Step.{joinOn, number-first, number-second, number-half, slot-first, slot-second, step-joined, parts-number, parts-edge, parts-index, parts-slot}
-use Rattle.cell.specs.Nodes.{Arranged, joining, countBetween, kthFrom, crossingAt, dartAt, cornerFrom}
+use Rattle.cell.specs.claims.Nodes.{Arranged, kthFrom, crossingAt, dartAt}
+use Rattle.cell.specs.Nodes.{joining, countBetween, cornerFrom}
 use Rattle.cell.proofs.Nodes.{pos, acbd, bcad, both-ways, place-lt, edge-is, end-is, other-is, opposite-is, twin-is, joining-ends}
 
 -- counts and corner counts either way round

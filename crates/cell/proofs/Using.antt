@@ -6,20 +6,21 @@ use native.Mathlib.Decide.{decLt}
 use native.Mathlib.Omega.{arith}
 use lib.ListN.{length, getD, drop, set, length-set}
 use lib.Seq.{drop-set-lt, drop-at, ext-getD}
-use Rattle.counting.specs.Range.{values}
+use Rattle.counting.specs.Lists.{values}
 use Rattle.counting.specs.Stored.{filled}
 use Rattle.counting.proofs.Fronts.{sets-front}
 use Rattle.counting.proofs.Lists.{length-singles, values-at}
 use Rattle.counting.proofs.Stored.{filled-none, filled-more, length-filled}
 use Rattle.counting.proofs.Pack.{pre-most}
-use Rattle.slots.specs.Limits.{mostCount}
-use Rattle.slots.specs.Limits.{mostCells}
+use Rattle.slots.specs.Limits.{mostCount, mostCells}
 use Rattle.cell.specs.declared.Cell.{Cell}
 use Rattle.cell.specs.Cell.{crossings}
-use Rattle.cell.specs.Of.{countOf, startOf, edgesOf, limited, Near}
-use Rattle.cell.specs.Limits.{mostInCell, fewCount, fewInCell, shortLimit, startLimit}
-use Rattle.cell.specs.Table.{side, tableCounts, tableCell, tableCrossings}
-use Rattle.cell.specs.Walked.{Kept, Long, Few, Spacious, Sized, Used, Room}
+use Rattle.cell.specs.Of.{countOf, startOf, edgesOf}
+use Rattle.cell.specs.work.Route.{limited, Near}
+use Rattle.cell.specs.work.Limits.{mostInCell, fewCount, fewInCell, startLimit}
+use Rattle.cell.specs.claims.Table.{shortLimit, side, tableCounts, tableCell}
+use Rattle.cell.specs.work.Table.{tableCrossings}
+use Rattle.cell.specs.work.Walked.{Kept, Long, Few, Spacious, Sized, Used, Room}
 use Rattle.cell.proofs.Values.{past-end}
 
 pub kept-none : (n : ℕ) (l : List ℕ) → Kept n l l

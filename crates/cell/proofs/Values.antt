@@ -6,17 +6,16 @@ use mathlib.Core.List.{List, []}
 use native.Mathlib.Omega.{arith}
 use native.Mathlib.Decide.{decLt}
 use lib.ListN.{length, getD, set, List·getD-eq-default}
-use Rattle.counting.specs.Range.{values}
-use Rattle.counting.specs.Pack.{pre}
+use Rattle.counting.specs.Lists.{values, pre}
 use Rattle.counting.specs.Stored.{filled}
 use Rattle.counting.proofs.Lists.{length-singles, values-at}
 use Rattle.counting.proofs.Stored.{filled-none, filled-more, filled-whole}
-use Rattle.slots.specs.Limits.{mostCount}
-use Rattle.slots.specs.Limits.{mostCells}
+use Rattle.slots.specs.Limits.{mostCount, mostCells}
 use Rattle.cell.specs.declared.Cell.{Cell}
 use Rattle.cell.specs.Of.{countOf}
 use Rattle.cell.specs.Level.{byEdge}
-use Rattle.cell.specs.Table.{side, tableCell, takenCounts, tableCrossings}
+use Rattle.cell.specs.claims.Table.{side, tableCell, takenCounts}
+use Rattle.cell.specs.work.Table.{tableCrossings}
 
 -- a place past the end of a list reads as 0
 pub past-end : (l : List ℕ) (n : ℕ) → length l ≤ n → 0 ≡ getD l n 0

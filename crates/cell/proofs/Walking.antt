@@ -10,7 +10,7 @@ use native.Mathlib.Decide.{decLt}
 use lib.ListN.{getD, set, length}
 use Rattle.counting.specs.Stored.{filled}
 use Rattle.counting.proofs.Stored.{length-filled, filled-at}
-use Rattle.walk.specs.Iterate.{it}
+use Rattle.counting.specs.Lists.{it}
 use Rattle.walk.specs.Darts.{half, rev}
 use Rattle.walk.proofs.Iterate.{it-suc}
 use Rattle.walk.proofs.Curve.{closes}
@@ -20,9 +20,9 @@ use Rattle.cell.specs.declared.Cell.{Cell}
 use Rattle.cell.specs.Cell.{Edges, crossings, step}
 use Rattle.cell.specs.Loop.{loopSize, dart}
 use Rattle.cell.specs.Of.{edgesOf}
-use Rattle.cell.specs.Limits.{mostInCell}
-use Rattle.cell.specs.Scratch.{unmarked}
-use Rattle.cell.specs.Walked.{Marked}
+use Rattle.cell.specs.work.Limits.{mostInCell}
+use Rattle.cell.specs.work.Scratch.{unmarked}
+use Rattle.cell.specs.work.Walked.{Marked}
 use Rattle.cell.proofs.Mates.{darts}
 
 -- marks that are cleared say nothing

@@ -1,7 +1,7 @@
 -- The answer of the loop call in numbers, for each case of its enums. The readings are one to one.
 use Prim.Native.Nat.{ℕ}
 use mathlib.Core.List.{List, [], _∷_}
-use Rattle.counting.specs.Pick.{one}
+use Rattle.counting.specs.Lists.{one}
 use Rattle.answer.specs.Answer.{result}
 use Rattle.cell.specs.declared.LoopType.{LoopType}
 use Rattle.cell.specs.declared.LoopType.the-variants.{Contractible, Corner, Diagonal, LowestCorner}

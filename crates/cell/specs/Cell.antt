@@ -7,9 +7,8 @@ use mathlib.Core.List.{List}
 use lib.Dec.{eqb, ltb, leb}
 use lib.ListN.{getD}
 use Rattle.counting.specs.Pick.{pick}
-use Rattle.counting.specs.Range.{total}
+use Rattle.counting.specs.Lists.{total, pre}
 use Rattle.counting.specs.Search as search
-use Rattle.counting.specs.Pack.{pre}
 use Rattle.slots.specs.Slots.{slotEdge, edgeRank, firstSlot, secondSlot}
 use Rattle.face.specs.Face.{faceAnswer, faceJoin}
 use Rattle.walk.specs.Step as walk

@@ -5,7 +5,7 @@ use mathlib.Core.List.{List}
 use lib.ListN.{getD}
 use Rattle.counting.specs.Search.{every}
 use Rattle.slots.specs.Slots.{slotEdge}
-use Rattle.face.specs.Level.{isLevel}
+use Rattle.face.specs.Face.{isLevel}
 
 -- listed counts by edge
 abbrev pub byEdge : List ℕ → (ℕ → ℕ)

@@ -4,11 +4,9 @@ use mathlib.Core.Bool.{Bool}
 use mathlib.Core.List.{List, [], _∷_}
 use lib.Dec.{eqb, ltb}
 use lib.ListN.{getD, drop}
-use Rattle.counting.specs.Pick.{pick, one}
-use Rattle.counting.specs.Range.{kept}
-use Rattle.counting.specs.Lists.{tally}
+use Rattle.counting.specs.Pick.{pick}
+use Rattle.counting.specs.Lists.{one, kept, tally, it}
 use Rattle.face.specs.Face.{isAlong}
-use Rattle.walk.specs.Iterate.{it}
 use Rattle.walk.specs.Walk as walk
 use Rattle.answer.specs.Answer.{result}
 use Rattle.cell.specs.Cell.{Edges, crossings, edge, index, answerAt, slot, step}

@@ -1,25 +1,9 @@
--- The edges, crossings and darts of a cell by the positions of its nodes, in any order; of these only laws cite crossings and darts.
-use Prim.Native.Nat.{ℕ, _+_, _*_, _-_, _<_}
-use mathlib.Core.Logic.{_≢_}
+-- The edges of a cell, their counts and the corners between them by the positions of its nodes, in any order.
+use Prim.Native.Nat.{ℕ}
 use lib.Dec.{ltb}
 use Rattle.counting.specs.Pick.{pick}
-use Rattle.slots.specs.Slots.{edgeBetween, edgeRank}
+use Rattle.slots.specs.Slots.{edgeBetween}
 use Rattle.face.specs.Face.{cornerCount}
-use Rattle.cell.specs.Cell.{Edges, number}
-use Rattle.cell.specs.Dart.{dartNumber}
-
--- a, b, c, d are the four positions
-pub record Arranged (a b c d : ℕ) : Type 0 where
-  pub a-lt : a < 4
-  pub b-lt : b < 4
-  pub c-lt : c < 4
-  pub d-lt : d < 4
-  pub ab : a ≢ b
-  pub ac : a ≢ c
-  pub ad : a ≢ d
-  pub bc : b ≢ c
-  pub bd : b ≢ d
-  pub cd : c ≢ d
 
 -- the edge that joins the positions a and b
 unfoldable pub joining : ℕ → ℕ → ℕ
@@ -31,18 +15,6 @@ module _ (n : ℕ → ℕ) where
   abbrev pub countBetween : ℕ → ℕ → ℕ
   countBetween a b = n (joining a b)
 
-  -- the index of the k-th crossing from a on it (01)
-  unfoldable pub kthFrom : ℕ → ℕ → ℕ → ℕ
-  kthFrom a b k = pick (ltb a b) k (countBetween a b - 1 - k)
-
   -- the corner count (01) at position a of the face abc
   unfoldable pub cornerFrom : ℕ → ℕ → ℕ → ℕ
   cornerFrom a b c = cornerCount (countBetween a b) (countBetween a c) (countBetween b c)
-
-module _ (w : Edges) where
-  -- the k-th crossing from a on that edge, and its dart by slot d
-  unfoldable pub crossingAt : ℕ → ℕ → ℕ → ℕ
-  crossingAt a b k = number w (joining a b) (kthFrom (w .count) a b k)
-
-  unfoldable pub dartAt : ℕ → ℕ → ℕ → ℕ → ℕ
-  dartAt a b d k = dartNumber (3 * d + edgeRank d (joining a b)) (crossingAt a b k)

@@ -5,11 +5,11 @@ use mathlib.Core.List.{List, []}
 use lib.Dec.{eqb}
 use lib.ListN.{length, getD}
 use Rattle.counting.specs.Pick.{pick}
-use Rattle.counting.specs.Range.{total, over}
+use Rattle.counting.specs.Lists.{total, over}
 use Rattle.manifold.specs.Shape.{shapeOf, manyOf, trianglesOf}
 use Rattle.cell.specs.declared.Cell.{Cell}
 use Rattle.cell.specs.Cell.{Edges, crossings, mate, slot}
-pub use Rattle.cell.specs.Of.{edgesOf}
+use Rattle.cell.specs.Of.{edgesOf}
 use Rattle.cell.specs.Loop.{loopSize, dart, normal, inGrid, leasts}
 use Rattle.cell.specs.declared.Corner.{Corner}
 use Rattle.cell.specs.declared.Corner.the-variants.{Crossing, Middle}

@@ -1,10 +1,11 @@
 // The triangles of all cells of a grid's tables: those of the cells that have to be walked for it counted, and all written.
 ghost use mathlib.Core.Path.{_≡_};
 ghost use Prim.Native.Nat.{_-_, _≤_};
-ghost use Rattle.counting.specs.Range.{total};
-ghost use Rattle.cell.specs.Fits.{nextAfter, areaAfter};
-ghost use Rattle.cell.specs.Table.{drawnCells, mostTriangles, tableCell, walkedAt};
-ghost use Rattle.cell.specs.Walked.{Few, Spacious, Sized};
+ghost use Rattle.counting.specs.Lists.{total};
+ghost use Rattle.cell.specs.work.Fits.{nextAfter, areaAfter};
+ghost use Rattle.cell.specs.claims.Table.{drawnCells, tableCell};
+ghost use Rattle.cell.specs.work.Table.{mostTriangles, walkedAt};
+ghost use Rattle.cell.specs.work.Walked.{Few, Spacious, Sized};
 use super::FEW_COUNT;
 use super::FEW_IN_CELL;
 use super::MOST_IN_CELL;

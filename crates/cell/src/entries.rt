@@ -2,12 +2,11 @@
 ghost use mathlib.Core.Path.{_≡_};
 ghost use Prim.Native.Nat.{ℕ, _+_, _%_, _≤_, _<_, min};
 ghost use lib.ListN.{getD};
-ghost use Rattle.slots.specs.Limits.{mostCount};
+ghost use Rattle.slots.specs.Limits.{mostCount, mostCells};
 ghost use Rattle.cell.specs.Cell.{crossings};
 ghost use Rattle.cell.specs.Of.{edgesOf};
-ghost use Rattle.cell.specs.Limits.{mostInCell, shortLimit};
-ghost use Rattle.slots.specs.Limits.{mostCells};
-ghost use Rattle.cell.specs.Table.{tableCounts, tableStarts, ofFour, tableCell, takenCounts};
+ghost use Rattle.cell.specs.work.Limits.{mostInCell};
+ghost use Rattle.cell.specs.claims.Table.{shortLimit, tableCounts, tableStarts, ofFour, tableCell, takenCounts};
 use super::Cell;
 use super::Counted;
 use super::routes::crossings_of;

@@ -1,8 +1,8 @@
 // The fans of all cells, counted, and their middles written.
 ghost use mathlib.Core.Path.{_≡_};
 ghost use Prim.Native.Nat.{_-_, _≤_};
-ghost use Rattle.cell.specs.Table.{mostTriangles, tableFans, middlesWritten};
-ghost use Rattle.cell.specs.Walked.{Few, Spacious, Sized};
+ghost use Rattle.cell.specs.work.Table.{mostTriangles, tableFans, middlesWritten};
+ghost use Rattle.cell.specs.work.Walked.{Few, Spacious, Sized};
 use super::FEW_COUNT;
 use super::FEW_IN_CELL;
 use super::MOST_IN_CELL;

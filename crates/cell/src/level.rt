@@ -2,7 +2,8 @@
 ghost use mathlib.Core.Path.{_≡_};
 ghost use Prim.Native.Nat.{_+_, _%_, _≤_, min, max};
 ghost use Rattle.cell.specs.Level.{byEdge, isLevelCell};
-ghost use Rattle.cell.specs.Common.{isCommon, isKnown};
+ghost use Rattle.cell.specs.Common.{isCommon};
+ghost use Rattle.cell.specs.work.Table.{isKnown};
 use super::numbers::sum_of;
 use counting::greatest32;
 use counting::least32;

@@ -1,9 +1,10 @@
 // The loops of a cell and their triangles, from the counts and first crossing numbers of its six edges.
 ghost use mathlib.Core.Path.{_≡_};
-ghost use Rattle.cell.specs.Of.{edgesOf, limited};
+ghost use Rattle.cell.specs.Of.{edgesOf};
+ghost use Rattle.cell.specs.work.Route.{limited};
 ghost use Rattle.cell.specs.Loop.{loopAnswer};
 ghost use Rattle.cell.specs.Answer.{loopNumbers};
-ghost use Rattle.cell.specs.Walked.{Room, Used};
+ghost use Rattle.cell.specs.work.Walked.{Room, Used};
 use slots::MOST_COUNT;
 
 mod answers;

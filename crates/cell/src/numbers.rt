@@ -1,7 +1,7 @@
 // Counts added.
 ghost use mathlib.Core.Path.{_≡_};
 ghost use Prim.Native.Nat.{_+_, _≤_};
-ghost use Rattle.cell.specs.Limits.{mostSum};
+ghost use Rattle.cell.specs.work.Limits.{mostSum};
 
 // The sum of two counts.
 pub fn sum_of(a: u16, b: u16) -> u32

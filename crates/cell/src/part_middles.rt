@@ -2,12 +2,12 @@
 // `middles`, whose functions have one caller each, for the compiler to make one of them (SPEED.md).
 ghost use mathlib.Core.Path.{_≡_};
 ghost use Prim.Native.Nat.{_*_};
-ghost use Rattle.counting.specs.Stored.{Stored};
+ghost use Rattle.counting.specs.work.Stored.{Stored};
 ghost use Rattle.place.specs.Place.{coordinates, placeAt, allNumbers};
-ghost use Rattle.cell.specs.Of.{limited};
-ghost use Rattle.cell.specs.Walked.{Room, Used};
-ghost use Rattle.cell.specs.Middles.{cellMiddles, pointsThen, nextPoint};
-ghost use Rattle.cell.specs.Centres.{MiddlesRoom};
+ghost use Rattle.cell.specs.work.Route.{limited};
+ghost use Rattle.cell.specs.work.Walked.{Room, Used};
+ghost use Rattle.cell.specs.claims.Middles.{cellMiddles, pointsThen, nextPoint};
+ghost use Rattle.cell.specs.work.Centres.{MiddlesRoom};
 use super::Cell;
 use super::FEW_IN_CELL;
 use super::MOST_IN_CELL;

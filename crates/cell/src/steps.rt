@@ -1,8 +1,8 @@
 // The step from dart to dart, by the routes of a cell.
 ghost use mathlib.Core.Bool.{true, false};
 ghost use Rattle.cell.specs.Of.{edgesOf};
-ghost use Rattle.cell.specs.Route.{Routed};
-ghost use Rattle.cell.specs.Dart.{IsDartAt, Spot, Ready, AtLow, AtHigh, Turns, Beside, Leads, Onward};
+ghost use Rattle.cell.specs.work.Route.{Routed};
+ghost use Rattle.cell.specs.work.Dart.{IsDartAt, Spot, Ready, AtLow, AtHigh, Turns, Beside, Leads, Onward};
 use super::Cell;
 use super::Dart;
 use super::Next;

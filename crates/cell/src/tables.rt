@@ -2,7 +2,8 @@
 ghost use mathlib.Core.Path.{_≡_};
 ghost use Prim.Native.Nat.{_<_};
 ghost use Rattle.slots.specs.Slots.{firstSlot};
-ghost use Rattle.cell.specs.Half.{halfEdges, edgeOf, halfOf};
+ghost use Rattle.cell.specs.work.Half.{halfEdges, halfOf};
+ghost use Rattle.cell.specs.claims.Half.{edgeOf};
 
 // The edge of a half-edge.
 pub(crate) fn edge_of(h: usize) -> usize

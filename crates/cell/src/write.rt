@@ -6,7 +6,7 @@ ghost use lib.ListN.{length};
 ghost use lib.Seq.{sets};
 ghost use Rattle.cell.specs.Words.{wordCount, allWords};
 ghost use Rattle.manifold.specs.Shape.{shapeOf, manyOf};
-ghost use Rattle.cell.specs.Traced.{RecordedLoop, tracedTriangles};
+ghost use Rattle.cell.specs.work.Traced.{RecordedLoop, tracedTriangles};
 use super::Cell;
 use super::make::many;
 use super::make::triangle_of;

@@ -6,7 +6,7 @@ use mathlib.Core.Bool.{Bool, true, false, not, _&&_, _||_}
 use native.Mathlib.Omega.{arith}
 use lib.Dec.{eqb}
 use borrow.Author.Tests.{eqb-true, eqb-false, eq-eqb, ne-eqb}
-use Rattle.counting.specs.Pick.{one}
+use Rattle.counting.specs.Lists.{one}
 
 -- a test does not both hold and fail
 pub clash : {A : Type 0} {b : Bool} → b ≡ true → b ≡ false → A

@@ -7,7 +7,7 @@ use native.Mathlib.Nat.{zero-add, add-zero, mul-suc, mul-zero, mul-le-mul-left}
 use native.Mathlib.Omega.{arith}
 use lib.ListN.{length, getD, take, drop, set, length-append, length-drop, List·getD-append}
 use lib.Seq.{take-suc, take-add, take-all, getD-drop, sets, sets-eq, getD-append-add}
-use Rattle.counting.specs.Range.{over}
+use Rattle.counting.specs.Lists.{over}
 use Rattle.counting.proofs.Search.{below-or}
 use Rattle.counting.proofs.Range.{over-snoc}
 

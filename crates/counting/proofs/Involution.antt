@@ -6,8 +6,10 @@ use native.Mathlib.Omega.{arith}
 use native.Mathlib.Decide.{decLt, ℕ-discrete}
 use lib.Dec.{eqb, ltb}
 use borrow.Author.Tests.{eq-eqb, ne-eqb, lt-ltb, le-ltb}
-use Rattle.counting.specs.Pick.{pick, one}
-use Rattle.counting.specs.Search.{count, rise}
+use Rattle.counting.specs.Pick.{pick}
+use Rattle.counting.specs.Lists.{one}
+use Rattle.counting.specs.Search.{count}
+use Rattle.counting.specs.claims.Lists.{rise}
 use Rattle.counting.proofs.Bools.{clash}
 use Rattle.counting.proofs.Search.{count-sum}
 

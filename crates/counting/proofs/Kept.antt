@@ -7,9 +7,8 @@ use mathlib.Core.List.{[], _∷_, _++_}
 use native.Mathlib.Nat.{not-suc-le-zero, eq-or-lt-of-le}
 use native.Mathlib.Omega.{arith}
 use lib.ListN.{length, getD}
-use Rattle.counting.specs.Pick.{pick, one}
-use Rattle.counting.specs.Range.{total, over, kept}
-use Rattle.counting.specs.Lists.{tally}
+use Rattle.counting.specs.Pick.{pick}
+use Rattle.counting.specs.Lists.{one, total, over, kept, tally}
 use Rattle.counting.proofs.Bools.{clash}
 use Rattle.counting.proofs.Lists.{tally-over}
 use Rattle.counting.proofs.Range.{total-ext, total-shift}

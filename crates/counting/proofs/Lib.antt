@@ -15,3 +15,4 @@ pub mod Fronts
 pub mod Stores
 pub mod Stored
 pub mod Tables
+pub mod Examples

@@ -10,9 +10,10 @@ use lib.Dec.{eqb}
 use lib.ListN.{length, getD, length-append, List·getD-append}
 use lib.Seq.{getD-append-add}
 use borrow.Author.Tests.{lt-ltb}
-use Rattle.counting.specs.Pick.{pick, one}
-use Rattle.counting.specs.Range.{total, over, values}
-use Rattle.counting.specs.Lists.{weigh, tally, All, gather}
+use Rattle.counting.specs.Pick.{pick}
+use Rattle.counting.specs.Lists.{one, total, over, values, tally, gather}
+use Rattle.counting.specs.work.Stored.{weigh}
+use Rattle.counting.specs.claims.Lists.{All}
 use Rattle.counting.proofs.Range.{total-zero, total-at, total-add, total-le, total-shift, total-ext, over-ext}
 use Rattle.counting.proofs.Fronts.{over-shift}
 

@@ -8,9 +8,10 @@ use native.Mathlib.Nat.{add-zero, mul-one}
 use native.Mathlib.Omega.{arith}
 use lib.Dec.{eqb, ltb}
 use borrow.Author.Tests.{eqb-true, eqb-false, ltb-true, ltb-false, eq-eqb, ne-eqb}
-use Rattle.counting.specs.Pick.{pick, one}
-use Rattle.counting.specs.Range.{total, values}
-use Rattle.counting.specs.Lists.{weigh, tally, All}
+use Rattle.counting.specs.Pick.{pick}
+use Rattle.counting.specs.Lists.{one, total, values, tally}
+use Rattle.counting.specs.work.Stored.{weigh}
+use Rattle.counting.specs.claims.Lists.{All}
 use Rattle.counting.proofs.Below.{trichotomy}
 use Rattle.counting.proofs.Range.{total-ext, total-one}
 use Rattle.counting.proofs.Lists.{weigh-over, tally-over, all-over, weigh-numbers}

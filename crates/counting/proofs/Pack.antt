@@ -8,8 +8,8 @@ use native.Mathlib.Nat.{not-suc-le-zero, zero-add, mul-zero, mul-suc, eq-or-lt-o
 use native.Mathlib.Omega.{arith}
 use lib.Dec.{ltb}
 use borrow.Author.Tests.{ltb-true, ltb-false, lt-ltb, le-ltb}
-use Rattle.counting.specs.Range.{total}
-use Rattle.counting.specs.Pack.{pre, row, col}
+use Rattle.counting.specs.Lists.{total, pre}
+use Rattle.counting.specs.Pack.{row, col}
 use Rattle.counting.proofs.Bools.{clash}
 use Rattle.counting.proofs.Range.{total-snoc}
 use Rattle.counting.proofs.Search.{first-is, first-below, first-none, first-at}

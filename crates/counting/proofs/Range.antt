@@ -11,8 +11,9 @@ use native.Mathlib.Decide.{decLt}
 use lib.Dec.{eqb, ltb}
 use lib.ListN.{length, length-append}
 use borrow.Author.Tests.{eq-eqb, ne-eqb, eqb-true, eqb-false, lt-ltb, le-ltb}
-use Rattle.counting.specs.Pick.{pick, one}
-use Rattle.counting.specs.Range.{total, over, after, before}
+use Rattle.counting.specs.Pick.{pick}
+use Rattle.counting.specs.Lists.{one, total, over, after}
+use Rattle.counting.specs.claims.Lists.{before}
 
 -- values that agree place by place, or are compared so
 pub total-ext : (g h : ℕ → ℕ) (n p : ℕ) → ((q : ℕ) → p ≤ q → q < p + n → g q ≡ h q) → total g n p ≡ total h n p

@@ -7,10 +7,9 @@ use native.Mathlib.Omega.{arith}
 use native.Mathlib.Nat.{zero-add}
 use lib.Dec.{ltb, leb}
 use borrow.Author.Tests.{lt-ltb, le-ltb, le-leb, lt-leb}
-use Rattle.counting.specs.Pick.{one}
-use Rattle.counting.specs.Range.{total, over}
+use Rattle.counting.specs.Lists.{one, total, over, pre}
 use Rattle.counting.specs.Search.{count}
-use Rattle.counting.specs.Pack.{pre, row, col}
+use Rattle.counting.specs.Pack.{row, col}
 use Rattle.counting.proofs.Bools.{or-left, or-right, or-false}
 use Rattle.counting.proofs.Range.{total-snoc, over-snoc, over-ext}
 use Rattle.counting.proofs.Search.{some-found, count-none, count-all, count-one, count-plus}

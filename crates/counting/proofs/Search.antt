@@ -8,9 +8,9 @@ use native.Mathlib.Numerals.{add-one}
 use native.Mathlib.Nat.{add-zero, mul-zero, mul-suc, mul-comm, mul-le-mul-left, mod-lt, div-add-mod, mul-div-cancel-left, div-lt-iff-lt-mul, not-suc-le-zero, eq-or-lt-of-le, le-of-suc-le-suc}
 use lib.Dec.{eqb, ltb}
 use borrow.Author.Tests.{lt-ltb, ltb-true}
-use Rattle.counting.specs.Pick.{pick, one}
-use Rattle.counting.specs.Range.{total}
-use Rattle.counting.specs.Search.{seek, first, last, some, every, count}
+use Rattle.counting.specs.Pick.{pick}
+use Rattle.counting.specs.Lists.{one, total, seek}
+use Rattle.counting.specs.Search.{first, last, some, every, count}
 use Rattle.counting.proofs.Below.{trichotomy}
 use Rattle.counting.proofs.Bools.{not-clash, clash, and-true, and-left, and-right, holds-or, one-le}
 use Rattle.counting.proofs.Range.{total-ext, total-le, total-mono, total-snoc, total-swap, total-times, total-at}

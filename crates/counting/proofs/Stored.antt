@@ -14,8 +14,10 @@ use lib.Seq.{sets, length-sets, sets-eq, drop-drop, drop-length, take-suc, take-
 use borrow.Author.Tests.{le-leb, lt-leb}
 use borrow.Rule.Slice.PartMut.{putMid, post-is}
 use Rattle.counting.specs.Pick.{pick}
-use Rattle.counting.specs.Range.{over, total, values}
-use Rattle.counting.specs.Stored.{Stored, Summed, filled, storedIn, nextIn}
+use Rattle.counting.specs.Lists.{over, total, values}
+use Rattle.counting.specs.work.Stored.{Stored, Summed}
+use Rattle.counting.specs.Stored.{filled, storedIn}
+use Rattle.counting.specs.claims.Lists.{nextIn}
 use Rattle.counting.proofs.Range.{total-next}
 use Rattle.counting.proofs.Lists.{length-singles, values-ext, values-at}
 use Rattle.counting.proofs.Fronts.{sets-append, sets-front, over-more, over-split, over-shift, over-within}

@@ -10,7 +10,7 @@ use Rattle.counting.specs.Search.{last}
 use Rattle.counting.specs.Stored.{filled}
 use Rattle.counting.proofs.Search.{last-le}
 use Rattle.counting.proofs.Stored.{filled-at, filled-beyond, length-filled}
-use Rattle.counting.specs.Tables.{Table, sameKey}
+use Rattle.counting.specs.work.Tables.{Table, sameKey}
 
 -- a filled front
 pub filled-table : (f : ℕ → ℕ) (n : ℕ) (l m : List ℕ) → m ≡ filled f n l → n ≤ length l → Table f n m

@@ -1,9 +1,10 @@
 pub mod Pick
-pub mod Range
 pub mod Search
 pub mod Lists
 pub mod Pack
 pub mod Reach
 pub mod Stored
 pub mod Gcd
-pub mod Tables
+pub mod claims
+pub mod examples
+pub mod work

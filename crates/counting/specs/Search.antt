@@ -1,19 +1,14 @@
 -- Numbers that pass a test: the least, the last, whether some or every one does, how many do.
 use Prim.Native.Nat.{ℕ, zero, suc, _+_}
 use mathlib.Core.Bool.{Bool, true, false, _&&_}
-use lib.Dec.{ltb}
-use Rattle.counting.specs.Pick.{pick, one}
+use Rattle.counting.specs.Pick.{pick}
+use Rattle.counting.specs.Lists.{one, seek}
 
 module _ (t : ℕ → Bool) where
-  -- the least of the n numbers from k on that passes; k + n where none does
-  unfoldable pub seek : ℕ → ℕ → ℕ
-  seek zero k = k
-  seek (suc n) k = pick (t k) k (seek n (suc k))
-
   -- the least number below n that passes; n where none does
   unfoldable pub first : ℕ → ℕ
   unfolding seek
-  first n = seek n 0
+  first n = seek t n 0
 
   -- one more than the greatest number below n that passes; 0 where none does
   unfoldable pub last : ℕ → ℕ
@@ -34,7 +29,3 @@ module _ (t : ℕ → Bool) where
   unfoldable pub count : ℕ → ℕ
   count zero = 0
   count (suc n) = count n + one (t n)
-
--- i passes, and is below its partner p i: of each pair of partners the lower one
-unfoldable pub rise : (ℕ → Bool) → (ℕ → ℕ) → ℕ → Bool
-rise t p i = pick (t i) (ltb i (p i)) false

@@ -9,10 +9,10 @@ use lib.Dec.{leb}
 use lib.ListN.{length, getD}
 use borrow.Author.Tests.{leb-true, eq-eqb}
 use Rattle.counting.specs.Pick.{pick}
-use Rattle.counting.specs.Lists.{gather}
-use Rattle.counting.specs.Range.{total, values}
-use Rattle.counting.specs.Pack.{pre}
-use Rattle.counting.specs.Stored.{Stored, storedIn, nextIn}
+use Rattle.counting.specs.Lists.{gather, total, values, pre}
+use Rattle.counting.specs.work.Stored.{Stored}
+use Rattle.counting.specs.Stored.{storedIn}
+use Rattle.counting.specs.claims.Lists.{nextIn}
 use Rattle.counting.proofs.Lists.{length-singles, values-at, values-ext}
 use Rattle.counting.proofs.Pack.{pre-most}
 use Rattle.counting.proofs.Range.{total-ext}
@@ -21,26 +21,28 @@ use Rattle.slots.specs.Slots.{edgeBetween}
 use Rattle.slots.specs.Limits.{mostCells, mostCount}
 use Rattle.cell.specs.declared.Cell.{Cell}
 use Rattle.cell.specs.declared.Triangle.{Triangle}
-use Rattle.cell.specs.Of.{countOf, edgesOf, limited}
+use Rattle.cell.specs.Of.{countOf, edgesOf}
+use Rattle.cell.specs.work.Route.{limited}
 use Rattle.cell.specs.Cell.{crossings}
-use Rattle.cell.specs.Claims.{Rising}
-use Rattle.cell.specs.Limits.{mostInCell}
+use Rattle.cell.specs.claims.Claims.{Rising}
+use Rattle.cell.specs.work.Limits.{mostInCell}
 use Rattle.cell.specs.Nodes.{joining}
 use Rattle.cell.specs.Level.{byEdge, isLevelCell}
 use Rattle.cell.specs.Triangles.{cellTriangles, trianglesWith}
 use Rattle.cell.specs.Words.{wordCount, allWords}
-use Rattle.cell.specs.Fits.{nextAt, areaThen, nextAfter, areaAfter}
-use Rattle.cell.specs.Table.{side, tableCell, takenCounts}
+use Rattle.cell.specs.work.Fits.{nextAt, areaThen, nextAfter, areaAfter}
+use Rattle.cell.specs.claims.Table.{side, tableCell, takenCounts}
 use Rattle.cell.proofs.Fits.{Put, put-none, put-more, next-all, area-all}
 use Rattle.cell.proofs.Storing.{length-all}
 use Rattle.cell.proofs.Taken.{cell-few}
 use Rattle.cell.proofs.Using.{table-near, limited-same}
 use Rattle.cell.proofs.Values.{taken-is, taken-crossings}
-use Rattle.booking.specs.Booking.{median, beside, cornerTriangles, leastCorner, leftBetween, larger, smaller, booked}
+use Rattle.booking.specs.Booking.{median, beside, cornerTriangles, leastCorner, leftBetween, larger, smaller}
+use Rattle.booking.specs.claims.Booking.{booked}
 use Rattle.booking.proofs.Claims.{trianglesBooked}
-use Rattle.direct.specs.Direct.{Plain}
-use Rattle.direct.specs.Rows.{AreOwn, Listed, PlainNumbers, Ready}
-use Rattle.direct.specs.Cells.{Came}
+use Rattle.direct.specs.claims.Direct.{Plain}
+use Rattle.direct.specs.work.Rows.{AreOwn, Listed, PlainNumbers, Ready}
+use Rattle.direct.specs.work.Cells.{Came}
 use Rattle.direct.proofs.Families.{smaller-is}
 
 -- how many triangles a cell of these numbers has

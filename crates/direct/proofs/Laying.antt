@@ -11,28 +11,30 @@ use lib.Dec.{eqb, leb}
 use lib.ListN.{length, getD}
 use borrow.Author.Tests.{eq-eqb, ne-eqb, leb-true}
 use Rattle.counting.specs.Pick.{pick}
-use Rattle.counting.specs.Range.{over, values}
-use Rattle.counting.specs.Pack.{pre}
+use Rattle.counting.specs.Lists.{over, values, pre, gather}
 use Rattle.counting.specs.Search.{some}
-use Rattle.counting.specs.Lists.{gather}
-use Rattle.counting.specs.Stored.{Stored, storedIn, nextIn}
+use Rattle.counting.specs.work.Stored.{Stored}
+use Rattle.counting.specs.Stored.{storedIn}
+use Rattle.counting.specs.claims.Lists.{nextIn}
 use Rattle.counting.proofs.Below.{below-six}
 use Rattle.counting.proofs.Bools.{clash}
 use Rattle.counting.proofs.Fronts.{over-split, over-shift}
 use Rattle.counting.proofs.Pack.{pre-most}
 use Rattle.counting.proofs.Range.{total-ext}
 use Rattle.counting.proofs.Stored.{stored-none, stored-as, stored-room}
-use Rattle.slots.specs.Slots.{lo, hi, thirdPosition, firstSlot}
+use Rattle.slots.specs.Slots.{lo, hi, firstSlot}
+use Rattle.slots.specs.claims.Slots.{thirdPosition}
 use Rattle.slots.specs.Limits.{mostCount}
 use Rattle.slots.proofs.Slots.{first-slot}
 use Rattle.cell.specs.declared.Cell.{Cell}
 use Rattle.cell.specs.declared.Triangle.{Triangle}
 use Rattle.cell.specs.Cell.{Edges, ahead, base, crossings, edge, index, number}
-use Rattle.cell.specs.Of.{countOf, startOf, edgesOf, limited, Near}
-use Rattle.cell.specs.Limits.{mostInCell, startLimit}
+use Rattle.cell.specs.Of.{countOf, startOf, edgesOf}
+use Rattle.cell.specs.work.Route.{limited, Near, Firsts}
+use Rattle.cell.specs.work.Limits.{mostInCell, startLimit}
 use Rattle.cell.specs.Level.{byEdge, isLevelCell}
-use Rattle.cell.specs.Nodes.{Arranged, joining}
-use Rattle.cell.specs.Route.{Firsts}
+use Rattle.cell.specs.claims.Nodes.{Arranged}
+use Rattle.cell.specs.Nodes.{joining}
 use Rattle.cell.specs.Triangles.{askedTriangles, trianglesWith}
 use Rattle.cell.specs.Words.{wordCount, allWords}
 use Rattle.cell.proofs.Lay.{lay, base-all}
@@ -42,9 +44,9 @@ use Rattle.cell.proofs.Taken.{with-few}
 use Rattle.cell.proofs.Using.{limited-same}
 use Rattle.cell.proofs.Values.{six-taken}
 use Rattle.booking.specs.Booking.{leastCorner, leftBetween, smaller}
-use Rattle.direct.specs.Direct.{Plain, passed, outwards, inwards, acrosses, rounds}
-use Rattle.direct.specs.Rows.{AreOwn, Listed, Parting, PlainNumbers, Round}
-use Rattle.direct.specs.Laid.{ringOn, partingOn, quadsOn, laidOn, lengthAsked, Laying, Laid, AtStart}
+use Rattle.direct.specs.claims.Direct.{Plain, passed, outwards, inwards, acrosses, rounds}
+use Rattle.direct.specs.work.Rows.{AreOwn, Listed, Parting, PlainNumbers, Round}
+use Rattle.direct.specs.work.Laid.{ringOn, partingOn, quadsOn, laidOn, lengthAsked, Laying, Laid, AtStart}
 use Rattle.direct.proofs.Numbers.{count-is}
 use Rattle.direct.proofs.Rows.{across-words, rounds-words}
 use Rattle.direct.proofs.Edge.{one-none, laid-edge}

@@ -9,11 +9,12 @@ use lib.Ieee.{Float}
 use Rattle.counting.proofs.Range.{total-zero}
 use Rattle.cell.specs.declared.Cell.{Cell}
 use Rattle.cell.specs.Level.{byEdge}
-use Rattle.cell.specs.Middles.{fanCount, pointsThen, nextPoint}
-use Rattle.cell.specs.Table.{tableCell, takenCounts, drawnCells, tableFans, middlesWritten}
+use Rattle.cell.specs.claims.Middles.{fanCount, pointsThen, nextPoint}
+use Rattle.cell.specs.claims.Table.{tableCell, takenCounts, drawnCells}
+use Rattle.cell.specs.work.Table.{tableFans, middlesWritten}
 use Rattle.cell.proofs.Values.{taken-is}
-use Rattle.direct.specs.Direct.{Plain}
-use Rattle.direct.specs.Cells.{PassedOver}
+use Rattle.direct.specs.claims.Direct.{Plain}
+use Rattle.direct.specs.work.Cells.{PassedOver}
 use Rattle.direct.proofs.Fans.{noFans, noMiddles}
 
 module _ (counts sides : List ℕ) (c end : ℕ) where

@@ -1,5 +1,2 @@
-pub mod Direct
-pub mod Rows
-pub mod Claims
-pub mod Cells
-pub mod Laid
+pub mod claims
+pub mod work

@@ -8,9 +8,9 @@ use Rattle.face.specs.declared.How.the-variants.{Round, Along}
 use Rattle.face.specs.declared.Why.{Why}
 use Rattle.face.specs.declared.Why.the-variants.{Left, Skipped}
 use Rattle.face.specs.declared.Join.the-variants.{Joined, Unjoined, NoCrossing}
-use Rattle.face.specs.Face.{joined, unjoined, noCrossing}
+use Rattle.face.specs.Face.{joined, noCrossing}
+use Rattle.face.specs.claims.Claims.{unjoined, OneToOne}
 use Rattle.face.specs.Join.{howNumbers, whyNumber}
-use Rattle.face.specs.Claims.{OneToOne}
 
 -- the numbers tell the cases apart, and give the partner
 pub joined-same : {e t e′ t′ : ℕ} → joined e t ≡ joined e′ t′ → (e ≡ e′) × (t ≡ t′)

@@ -7,8 +7,11 @@ use native.Mathlib.Decide.{decLt}
 use lib.Dec.{ltb}
 use borrow.Author.Tests.{lt-ltb, le-ltb, le-leb, lt-leb, eq-eqb, ne-eqb}
 use Rattle.counting.specs.Pick.{pick}
-use Rattle.face.specs.Face.{along, left, skipped, joinedBy, unjoinedBy, noCrossing, joined, unjoined, bare, lower, upper, other, residual, countOn, others, kth, cornerCountAt, partner, faceAnswer, faceJoin}
-use Rattle.face.specs.Ends.{Edge, Corners}
+use Rattle.face.specs.Face.{along, left, skipped, joinedBy, unjoinedBy, noCrossing, joined, bare, other, residual, countOn, others, kth, cornerCountAt, partner, faceAnswer, faceJoin}
+use Rattle.face.specs.claims.Claims.{unjoined}
+use Rattle.slots.specs.Slots.{lower, upper}
+use Rattle.face.specs.claims.Ends.{Edge}
+use Rattle.face.specs.work.Ends.{Corners}
 use Rattle.face.proofs.Gaps.{corner-fits, corner-room, gap-excess, gap-level}
 
 -- the residual rule

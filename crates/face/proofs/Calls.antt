@@ -6,9 +6,10 @@ use native.Mathlib.Omega.{arith}
 use native.Mathlib.Decide.{decLt}
 use borrow.Author.Tests.{lt-ltb, le-ltb, eq-eqb, ne-eqb}
 use Rattle.face.specs.declared.Stand.the-variants.{Low, High}
-use Rattle.face.specs.Face.{left, skipped, along, joinedBy, unjoinedBy, lower, upper, other, countOn, others, kth, partner, faceAnswer}
-use Rattle.face.specs.Stand.{whyOn}
-use Rattle.face.specs.Ends.{AtCorner, OnEdge}
+use Rattle.face.specs.Face.{left, skipped, along, joinedBy, unjoinedBy, other, countOn, others, kth, partner, faceAnswer}
+use Rattle.slots.specs.Slots.{lower, upper}
+use Rattle.face.specs.work.Stand.{whyOn}
+use Rattle.face.specs.work.Ends.{AtCorner, OnEdge}
 use Rattle.face.proofs.Ends.{all-three, low-end, high-end}
 use Rattle.face.proofs.Gaps.{corner-fits}
 use Rattle.face.proofs.Stands.{Stands, Within}

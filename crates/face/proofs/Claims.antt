@@ -1,6 +1,6 @@
 -- The laws of a face, together.
 use Prim.Native.Nat.{ℕ}
-use Rattle.face.specs.Claims.{FaceLaws}
+use Rattle.face.specs.claims.Claims.{FaceLaws}
 use Rattle.face.proofs.Answers.{joined-unjoined}
 use Rattle.face.proofs.Links.{at-corner}
 use Rattle.face.proofs.Laws.{there-joined, partner-there, partner-differs, symmetric, is-off, off-only, joined-or, even-joined}

@@ -9,7 +9,8 @@ use native.Mathlib.Decide.{decLt}
 use lib.Dec.{eqb}
 use borrow.Author.Tests.{lt-ltb, le-ltb, eqb-false}
 use Rattle.counting.specs.Pick.{pick}
-use Rattle.face.specs.Face.{halfAbove, cornerCount, corners}
+use Rattle.face.specs.Face.{halfAbove, cornerCount}
+use Rattle.face.specs.work.Corners.{corners}
 
 module _ (p q o : ℕ) where
   pub corner-first : q + o < p → cornerCount p q o ≡ q

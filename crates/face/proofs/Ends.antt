@@ -4,8 +4,9 @@ use mathlib.Core.Path.{_≡_, refl}
 use native.Mathlib.Omega.{arith}
 use native.Mathlib.Decide.{decLt}
 use borrow.Author.Tests.{ne-eqb}
-use Rattle.face.specs.Face.{lower, upper, other, opposite, countOn, others}
-use Rattle.face.specs.Ends.{Edge, on-ab, on-ac, on-bc, End, low, high}
+use Rattle.slots.specs.Slots.{lower, upper}
+use Rattle.face.specs.Face.{other, opposite, countOn, others}
+use Rattle.face.specs.claims.Ends.{Edge, on-ab, on-ac, on-bc, End, low, high}
 
 pub edge-of : (e : ℕ) → e < 3 → Edge e
 edge-of zero h = on-ab

@@ -7,8 +7,10 @@ use native.Mathlib.Omega.{arith}
 use native.Mathlib.Decide.{decLt, ℕ-discrete}
 use lib.ListN.{getD}
 use borrow.Author.Tests.{eq-eqb, ne-eqb}
-use Rattle.face.specs.Face.{lower, upper, other, opposite, cornerCount, corners, countOn, others, kth, cornerCountAt}
-use Rattle.face.specs.Ends.{Edge, on-ab, on-ac, on-bc, End, low, high}
+use Rattle.slots.specs.Slots.{lower, upper}
+use Rattle.face.specs.Face.{other, opposite, cornerCount, countOn, others, kth, cornerCountAt}
+use Rattle.face.specs.work.Corners.{corners}
+use Rattle.face.specs.claims.Ends.{Edge, on-ab, on-ac, on-bc, End, low, high}
 use Rattle.face.proofs.Corner.{first, second, third, level, rule, corner-swap, corner-le, left-long, left-short, left-even, left-odd}
 use Rattle.face.proofs.Ends.{ends-differ, opposite-lower, opposite-upper, other-other, all-three}
 

@@ -4,8 +4,9 @@ use mathlib.Core.Path.{_≡_, sym, _∙_}
 use mathlib.Core.Logic.{_⊎_, inl, inr}
 use native.Mathlib.Omega.{arith}
 use native.Mathlib.Decide.{decLt}
-use Rattle.face.specs.Face.{unjoined, noCrossing, countOn, others, faceJoin}
-use Rattle.face.specs.Ends.{Edge}
+use Rattle.face.specs.claims.Claims.{unjoined}
+use Rattle.face.specs.Face.{noCrossing, countOn, others, faceJoin}
+use Rattle.face.specs.claims.Ends.{Edge}
 use Rattle.face.specs.Rim.{Segment}
 use Rattle.face.proofs.Ends.{edge-with, no-edge, other-differs, all-three}
 use Rattle.face.proofs.Gaps.{gap, gap-long, gap-level}

@@ -7,9 +7,10 @@ use native.Mathlib.Omega.{arith}
 use lib.Dec.{eqb, leb}
 use borrow.Author.Tests.{eqb-true, leb-true, eq-eqb, le-leb}
 use Rattle.counting.proofs.Bools.{and-left, and-right, and-true}
-use Rattle.face.specs.Face.{lower, upper, other, opposite, cornerCount, countOn, cornerCountAt}
-use Rattle.face.specs.Ends.{Edge, End, low, high, on-ab, on-ac, on-bc}
-use Rattle.face.specs.Level.{isLevel, Level, LevelLaws}
+use Rattle.slots.specs.Slots.{lower, upper}
+use Rattle.face.specs.Face.{other, opposite, cornerCount, countOn, cornerCountAt, isLevel}
+use Rattle.face.specs.claims.Ends.{Edge, End, low, high, on-ab, on-ac, on-bc}
+use Rattle.face.specs.claims.Level.{Level, LevelLaws}
 use Rattle.face.proofs.Corner.{corner-half}
 use Rattle.face.proofs.Ends.{other-differs}
 use Rattle.face.proofs.Gaps.{gap-even}

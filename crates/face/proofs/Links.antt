@@ -4,8 +4,10 @@ use mathlib.Core.Path.{_≡_, refl, sym, _∙_, ap}
 use mathlib.Core.Logic.{_⊎_, inl, inr}
 use native.Mathlib.Omega.{arith}
 use native.Mathlib.Decide.{decLt, ℕ-discrete}
-use Rattle.face.specs.Face.{joined, unjoined, lower, upper, other, countOn, kth, cornerCountAt, faceJoin}
-use Rattle.face.specs.Ends.{Edge, End, low, high}
+use Rattle.face.specs.Face.{joined, other, countOn, kth, cornerCountAt, faceJoin}
+use Rattle.face.specs.claims.Claims.{unjoined}
+use Rattle.slots.specs.Slots.{lower, upper}
+use Rattle.face.specs.claims.Ends.{Edge, End, low, high}
 use Rattle.face.specs.Rim.{Segment}
 use Rattle.face.proofs.Ends.{edge-with, end-other, other-other}
 use Rattle.face.proofs.Gaps.{gap, kth-lower, kth-upper, corner-other, corner-fits, corner-room}

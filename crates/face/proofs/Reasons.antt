@@ -5,10 +5,11 @@ use mathlib.Core.List.{List}
 use mathlib.Core.Logic.{_⊎_, inl, inr}
 use native.Mathlib.Omega.{arith}
 use native.Mathlib.Decide.{decLt, ℕ-discrete}
-use Rattle.face.specs.Face.{round, along, left, skipped, joinedBy, unjoinedBy, unjoined, bare, lower, upper, other, countOn, others, kth, cornerCountAt, partner, faceAnswer, faceJoin}
-use Rattle.face.specs.Ends.{Edge, on-ab, on-ac, on-bc, End, low, high}
+use Rattle.face.specs.Face.{round, along, left, skipped, joinedBy, unjoinedBy, bare, other, countOn, others, kth, cornerCountAt, partner, faceAnswer, faceJoin}
+use Rattle.face.specs.claims.Claims.{unjoined, ReasonLaws}
+use Rattle.slots.specs.Slots.{lower, upper}
+use Rattle.face.specs.claims.Ends.{Edge, on-ab, on-ac, on-bc, End, low, high}
 use Rattle.face.specs.Rim.{Segment}
-use Rattle.face.specs.Claims.{ReasonLaws}
 use Rattle.face.proofs.Corner.{Rule, first, second, third, level, rule}
 use Rattle.face.proofs.Ends.{edge-of, edge-with, no-edge, end-other, other-other, other-differs}
 use Rattle.face.proofs.Gaps.{gap, kth-lower, kth-upper, corner-fits, corner-other, gap-long, gap-excess, gap-short, gap-even, gap-odd}

@@ -3,8 +3,9 @@ use Prim.Native.Nat.{ℕ, _+_, _*_, _<_, _≤_, min}
 use mathlib.Core.Path.{_≡_, refl}
 use mathlib.Core.Logic.{inl, inr}
 use native.Mathlib.Omega.{arith}
-use Rattle.face.specs.Face.{lower, upper, other, cornerCount, countOn, kth, cornerCountAt}
-use Rattle.face.specs.Ends.{Edge, on-ab, on-ac, on-bc, End, low, high}
+use Rattle.slots.specs.Slots.{lower, upper}
+use Rattle.face.specs.Face.{other, cornerCount, countOn, kth, cornerCountAt}
+use Rattle.face.specs.claims.Ends.{Edge, on-ab, on-ac, on-bc, End, low, high}
 use Rattle.face.specs.Rim.{rim, Segment, EndAt, InTurn, Alternate}
 use Rattle.face.proofs.Ends.{edge-with}
 use Rattle.face.proofs.Gaps.{corner-node, corner-fits, corner-room}

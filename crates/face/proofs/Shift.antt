@@ -3,10 +3,13 @@ use Prim.Native.Nat.{ℕ, _+_, _-_, _%_, _<_, _≤_}
 use mathlib.Core.Path.{_≡_, refl, sym, ap, ap₂, _∙_, subst}
 use native.Mathlib.Omega.{arith}
 use lib.ListN.{getD}
-use Rattle.face.specs.Face.{joined, lower, upper, other, opposite, cornerCount, corners, countOn, kth, cornerCountAt, faceJoin}
-use Rattle.face.specs.Ends.{Edge, on-ab, on-ac, on-bc, End, low, high}
+use Rattle.face.specs.Face.{joined, other, opposite, cornerCount, countOn, kth, cornerCountAt, faceJoin}
+use Rattle.slots.specs.Slots.{lower, upper}
+use Rattle.face.specs.work.Corners.{corners}
+use Rattle.face.specs.claims.Ends.{Edge, on-ab, on-ac, on-bc, End, low, high}
 use Rattle.face.specs.Rim.{Segment}
-use Rattle.face.specs.Level.{Level, less, Off, Remains, ShiftLaws}
+use Rattle.face.specs.claims.Level.{Level, less, Remains, ShiftLaws}
+use Rattle.face.specs.work.Ends.{Off}
 use Rattle.face.proofs.Corner.{corner-swap}
 use Rattle.face.proofs.Gaps.{kth-lower, kth-upper, corner-node, corner-fits}
 use Rattle.face.proofs.Answers.{joined-same}

@@ -6,7 +6,7 @@ use native.Mathlib.Decide.{decLt, ℕ-discrete}
 use borrow.Author.Tests.{lt-ltb, le-ltb, le-leb, lt-leb, eq-eqb, ne-eqb}
 use Rattle.face.specs.declared.Stand.{Stand}
 use Rattle.face.specs.declared.Stand.the-variants.{Low, High, Up, Down, Alone}
-use Rattle.face.specs.Stand.{standNumber, standOn}
+use Rattle.face.specs.work.Stand.{standNumber, standOn}
 
 module _ (p end t : ℕ) where
   pub stand-low : t < p → standOn p end t ≡ 0

@@ -8,19 +8,20 @@ use native.Mathlib.Omega.{arith}
 use native.Mathlib.Decide.{ℕ-discrete}
 use lib.Dec.{eqb}
 use lib.ListN.{getD}
-use Rattle.counting.specs.Pick.{one}
-use Rattle.counting.specs.Range.{total}
+use Rattle.counting.specs.Lists.{one, total, pre}
 use Rattle.counting.specs.Search.{count as passing}
-use Rattle.counting.specs.Pack.{pre, row, col}
+use Rattle.counting.specs.Pack.{row, col}
 use Rattle.counting.proofs.Bools.{clash, not-clash}
 use Rattle.counting.proofs.Search.{count-ext, count-none, count-all, count-sum}
 use Rattle.counting.proofs.Pack.{col-lt, unpack, row-pack, col-pack, pack-lt}
 use Rattle.counting.proofs.Involution.{paired}
 use Rattle.counting.proofs.Rows.{count-rows, count-only}
-use Rattle.face.specs.Face.{joined, unjoined, lower, upper, other, countOn, others, cornerCountAt, faceJoin}
-use Rattle.face.specs.Ends.{Edge, on-ab, on-ac, on-bc}
+use Rattle.face.specs.Face.{joined, other, countOn, others, cornerCountAt, faceJoin}
+use Rattle.face.specs.claims.Claims.{unjoined}
+use Rattle.slots.specs.Slots.{lower, upper}
+use Rattle.face.specs.claims.Ends.{Edge, on-ab, on-ac, on-bc}
 use Rattle.face.specs.Rim.{Segment}
-use Rattle.face.specs.Tally.{faceEdges, joinOf, isJoined, isUnjoined, partnerOf, segments, unjoinedCount}
+use Rattle.face.specs.claims.Tally.{faceEdges, joinOf, isJoined, isUnjoined, partnerOf, segments, unjoinedCount}
 use Rattle.face.proofs.Ends.{edge-of, edge-lt, edge-with}
 use Rattle.face.proofs.Gaps.{gap, gap-excess, gap-short, gap-odd}
 use Rattle.face.proofs.Links.{alone-unjoined}

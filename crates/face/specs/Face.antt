@@ -6,7 +6,7 @@ use mathlib.Core.List.{List, [], _∷_}
 use lib.Dec.{eqb, ltb, leb}
 use lib.ListN.{getD, take}
 use Rattle.counting.specs.Pick.{pick}
-unfoldable pub use Rattle.slots.specs.Slots.{lower, upper}
+use Rattle.slots.specs.Slots.{lower, upper}
 
 -- how a crossing is joined (02, W10): round a corner, with the node; along its edge
 abbrev pub round : ℕ → List ℕ
@@ -37,9 +37,6 @@ noCrossing = 2 ∷ []
 abbrev pub joined : ℕ → ℕ → List ℕ
 joined e t = 0 ∷ e ∷ t ∷ []
 
-abbrev pub unjoined : List ℕ
-unjoined = 1 ∷ []
-
 -- an answer says: joined along its edge
 abbrev pub isAlong : List ℕ → Bool
 isAlong l = eqb (getD l 0 0) 0 && eqb (getD l 3 0) 1
@@ -69,10 +66,6 @@ cornerCount p q o =
     (pick (ltb (p + q) o) 0
     (pick (eqb ((p + q + o) % 2) 0) (halfAbove p q o)
     (halfAbove (p - 1) (q - 1) (o - 1)))))
-
--- the corner counts at the nodes a, b, c of a face
-abbrev pub corners : ℕ → ℕ → ℕ → List ℕ
-corners ab ac bc = cornerCount ab ac bc ∷ cornerCount ab bc ac ∷ cornerCount ac bc ab ∷ []
 
 -- residual (01) s of r, at the index t of the edge e: neighbours in pairs from the lower node, the first skipped if r is odd
 unfoldable pub residual : ℕ → ℕ → ℕ → ℕ → List ℕ
@@ -111,3 +104,7 @@ module _ (ab ac bc : ℕ) where
   -- what the crossing is joined to: the face call's answer without how and why
   unfoldable pub faceJoin : ℕ → ℕ → List ℕ
   faceJoin e t = bare (faceAnswer e t)
+
+-- three counts, in any order: an even sum, and none above the other two
+unfoldable pub isLevel : ℕ → ℕ → ℕ → Bool
+isLevel p q o = eqb ((p + q + o) % 2) 0 && (leb p (q + o) && (leb q (p + o) && leb o (p + q)))

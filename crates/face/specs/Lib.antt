@@ -1,9 +1,5 @@
 pub mod Face
 pub mod Join
-pub mod Stand
-pub mod Corners
-pub mod Ends
 pub mod Rim
-pub mod Tally
-pub mod Level
-pub mod Claims
+pub mod claims
+pub mod work

@@ -2,11 +2,12 @@
 ghost use mathlib.Core.Path.{_≡_};
 ghost use Prim.Native.Nat.{_+_, _≤_, _<_};
 ghost use lib.ListN.{getD};
-ghost use Rattle.face.specs.Face.{other, corners, countOn, kth, partner, faceAnswer};
+ghost use Rattle.face.specs.Face.{other, countOn, kth, partner, faceAnswer};
+ghost use Rattle.face.specs.work.Corners.{corners, cornerList};
 ghost use Rattle.face.specs.Join.{joinNumbers, whyNumber};
-ghost use Rattle.face.specs.Stand.{standNumber, standOn, whyOn};
-ghost use Rattle.face.specs.Corners.{cornerList};
-ghost use Rattle.face.specs.Ends.{End, AtCorner, OnEdge};
+ghost use Rattle.face.specs.work.Stand.{standNumber, standOn, whyOn};
+ghost use Rattle.face.specs.claims.Ends.{End};
+ghost use Rattle.face.specs.work.Ends.{AtCorner, OnEdge};
 use slots::lower_end;
 use slots::upper_end;
 

@@ -8,21 +8,21 @@ use native.Mathlib.Omega.{arith}
 use lib.Dec.{eqb, leb, ltb}
 use lib.ListN.{length}
 use borrow.Author.Tests.{eq-eqb, eqb-false, eqb-true, le-ltb, leb-false, lt-leb, ltb-false, ne-eqb, not-false}
-use Rattle.counting.specs.Lists.{All}
+use Rattle.counting.specs.claims.Lists.{All}
 use Rattle.counting.specs.Search.{count, first, some}
 use Rattle.counting.proofs.Below.{climb, trichotomy}
 use Rattle.counting.proofs.Bools.{and-left, and-right, and-true, clash, not-clash, or-false, or-none}
 use Rattle.counting.proofs.Lists.{all-at}
 use Rattle.counting.proofs.Search.{count-two-of, every-is, first-is, is-every, none-some, some-first, some-found, some-is, some-none, two-counted}
 use Rattle.answer.specs.Answer.{isResult, result}
-use Rattle.answer.specs.Rows.{whole}
-use Rattle.answer.specs.Faults.{AllClear, Clear, numbered, rowAt, since}
+use Rattle.answer.specs.Rows.{whole, Clear}
+use Rattle.answer.specs.claims.Faults.{AllClear, rowAt}
+use Rattle.answer.specs.work.Faults.{numbered, since}
 use Rattle.answer.proofs.Answer.{mixed, refusals}
 use Rattle.answer.proofs.Rows.{answer-some, clear-answer, clear-or-refusal, clear-since, refusal-answer, refused-by, result-clear, result-is}
-use Rattle.slots.specs.Limits.{mostCount}
+use Rattle.slots.specs.Limits.{mostCount, highestNode, mostCrossings}
 use Rattle.slots.specs.Slots.{lower, upper}
-use Rattle.grid.specs.Accepted.{Before}
-use Rattle.grid.specs.Grid.{countOf, crossings, high, highestNode, joins, low, mostCrossings}
+use Rattle.grid.specs.Grid.{Before, countOf, crossings, high, joins, low}
 use Rattle.grid.specs.Rows.{badCount, badEdge, tooMany}
 use Rattle.grid.specs.Check.{checkNumbers}
 use Rattle.grid.specs.declared.Checked.{Checked}
@@ -30,8 +30,8 @@ use Rattle.grid.specs.declared.Checked.the-variants.{Crossings, Refused}
 use Rattle.grid.proofs.Sorted.{before-not, before-same, clear-edge, edge-ends, same-edge, sorted-edges}
 use Rattle.flat.specs.FlatGrid.{FlatGrid, edgeNumber, hasEdge, isEdge, mostFlatTriangles, node, sameEdge, shares, trianglesIn}
 use Rattle.flat.specs.Rows.{accepts, badLength, badPairs, badTriangle, crowded, flatAnswer, repeats, rows, sameTriangle, unlisted, unused}
-use Rattle.flat.specs.Accepted.{Accepted, EdgeIs, EdgeNumbers, SameEdge}
-use Rattle.flat.specs.Claims.{AcceptanceYields, AcceptedAnswer, AcceptsOrRefuses, AnswerTold, FaultRefused, NumbersOfAccepted, RefusesFault}
+use Rattle.flat.specs.Accepted.{Accepted, EdgeIs, SameEdge}
+use Rattle.flat.specs.claims.Claims.{EdgeNumbers, AcceptanceYields, AcceptedAnswer, AcceptsOrRefuses, AnswerTold, FaultRefused, NumbersOfAccepted, RefusesFault}
 
 -- the same edge: as a test and as equations, either way round, and from one to the next
 module _ (triangles : List ℕ) (g j f k : ℕ) where

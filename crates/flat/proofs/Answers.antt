@@ -8,13 +8,14 @@ use lib.ListN.{length}
 use Rattle.counting.specs.Search.{first}
 use Rattle.answer.specs.Answer.{refusal, result}
 use Rattle.answer.specs.Rows.{answerOf, whole}
-use Rattle.answer.specs.Faults.{rowAt, since}
+use Rattle.answer.specs.claims.Faults.{rowAt}
+use Rattle.answer.specs.work.Faults.{since}
 use Rattle.answer.proofs.Rows.{row-passes, row-refuses}
 use Rattle.grid.specs.Grid.{crossings}
 use Rattle.grid.specs.Rows.{badEdge, tooMany}
 use Rattle.flat.specs.FlatGrid.{FlatGrid}
 use Rattle.flat.specs.Rows.{badPairs, flatAnswer, rows}
-use Rattle.flat.specs.Work.{answerFrom}
+use Rattle.flat.specs.work.Work.{answerFrom}
 use Rattle.flat.proofs.Accepts.{pairs-fine}
 
 -- row n, and row m which follows it

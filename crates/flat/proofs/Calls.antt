@@ -11,7 +11,7 @@ use lib.Seq.{ext-getD, sets}
 use borrow.Author.Tests.{le-leb, lt-leb}
 use Rattle.answer.specs.Answer.{refusal, refused, result}
 use Rattle.answer.proofs.Answer.{mixed, no-nil, pick-some, refusals, refused-not}
-use Rattle.counting.specs.Range.{values}
+use Rattle.counting.specs.Lists.{values}
 use Rattle.counting.specs.Stored.{filled}
 use Rattle.counting.proofs.Tables.{filled-table}
 use Rattle.counting.proofs.Lists.{length-singles, values-at}
@@ -19,7 +19,8 @@ use Rattle.counting.proofs.Stored.{stored-not, stored-room}
 use Rattle.counting.proofs.Stores.{getD-sets-in}
 use Rattle.grid.specs.Check.{checkNumbers}
 use Rattle.grid.specs.Grid.{crossings}
-use Rattle.grid.specs.Work.{Table, WhereAccepted}
+use Rattle.counting.specs.work.Tables.{Table}
+use Rattle.grid.specs.work.Work.{WhereAccepted}
 use Rattle.grid.specs.declared.Checked.{Checked}
 use Rattle.grid.specs.declared.Checked.the-variants.{Crossings, Refused}
 use Rattle.flat.specs.FlatGrid.{FlatGrid, trianglesIn}
@@ -28,12 +29,12 @@ use Rattle.flat.specs.Accepted.{Accepted}
 use Rattle.flat.specs.Answer.{chainsAnswer, chainsArea, wordsAnswer}
 use Rattle.flat.specs.Chain.{allChainWords}
 use Rattle.flat.specs.Chains.{chainsWords, step}
-use Rattle.flat.specs.Claims.{ChainsTold}
+use Rattle.flat.specs.claims.Claims.{ChainsTold}
 use Rattle.flat.specs.Done.{Done}
 use Rattle.flat.specs.Numbers.{tracedNumbers}
 use Rattle.flat.specs.declared.Traced.{Traced}
 use Rattle.flat.specs.declared.Traced.the-variants as traced
-use Rattle.flat.specs.Work.{StepTable, SidesKnown, TracedIn, stepIn, dartStep}
+use Rattle.flat.specs.work.Work.{StepTable, SidesKnown, TracedIn, stepIn, dartStep}
 use Rattle.flat.proofs.Accepts.{acceptance-yields, accepted-answer, never-empty}
 use Rattle.flat.proofs.Ports.{grid-darts, segments-hold, step-moves}
 use Rattle.flat.proofs.Room.{words-room}

@@ -11,8 +11,9 @@ use Rattle.counting.specs.Search.{every}
 use Rattle.counting.proofs.Below.{trichotomy}
 use Rattle.counting.proofs.Bools.{and-left, and-right}
 use Rattle.counting.proofs.Search.{every-is, is-every}
-use Rattle.walk.specs.Iterate.{it}
-use Rattle.walk.specs.Darts.{half, rev, Darts, Loop, On, Lowest}
+use Rattle.counting.specs.Lists.{it}
+use Rattle.walk.specs.Darts.{half, rev, Loop, On}
+use Rattle.walk.specs.claims.Claims.{Darts, Lowest}
 use Rattle.walk.specs.Walk.{size}
 use Rattle.walk.proofs.Iterate.{it-suc}
 use Rattle.walk.proofs.Curve as curve

@@ -1,12 +1,11 @@
 -- Every example's answer, segments and words are the definition's: computed equations of lists.
 use mathlib.Core.Path.{refl}
 use Rattle.answer.specs.Rows.{orRefuse, answerOf}
-use Rattle.counting.specs.Search.{seek, first, some, every, count}
-use Rattle.counting.specs.Range.{total, over}
-use Rattle.counting.specs.Pack.{pre, row, col}
+use Rattle.counting.specs.Lists.{seek, total, over, pre, it}
+use Rattle.counting.specs.Search.{first, some, every, count}
+use Rattle.counting.specs.Pack.{row, col}
 use Rattle.slots.specs.Slots.{lower, upper}
 use Rattle.face.specs.Face.{other, opposite, halfAbove, cornerCount, residual, countOn, others, kth, cornerCountAt, partner}
-use Rattle.walk.specs.Iterate.{it}
 use Rattle.walk.specs.Darts.{rev}
 use Rattle.walk.specs.Step as walk
 use Rattle.walk.specs.Walk.{status, turn, size}
@@ -18,7 +17,7 @@ use Rattle.flat.specs.Join.{ruleTwo, largestEdge, lessened, flatCornerAt
 use Rattle.flat.specs.Chain.{taken, steps, closes, lastDart, pathSteps, pathStart, isPath, chainSize, chainStart, chainWords, allChainWords}
 use Rattle.flat.specs.Chains.{crossingEdge, crossingIndex, countOfSide, joinAt, joinedTo, mate, firstTriangle, secondTriangle, step, chainsWords}
 use Rattle.flat.specs.Answer.{wordsAnswer, chainsAnswer}
-use Rattle.flat.specs.Examples.{examples, joinsFound, joinsExpected, wordsFound, wordsExpected, answersFound, answersExpected, ExamplesHold, JoinsHold, WordsHold, AnswersHold}
+use Rattle.flat.specs.examples.Examples.{examples, joinsFound, joinsExpected, wordsFound, wordsExpected, answersFound, answersExpected, ExamplesHold, JoinsHold, WordsHold, AnswersHold}
 
 pub examples-hold : ExamplesHold
 unfolding examples seek first some every count total over pre lower upper joins isEdge hasEdge sameEdge shares start

@@ -11,15 +11,18 @@ use borrow.Author.Tests.{eq-eqb, ne-eqb, lt-ltb, le-ltb, le-leb, lt-leb}
 use Rattle.counting.specs.Pick.{pick}
 use Rattle.counting.proofs.Bools.{clash}
 use lib.ListN.{getD}
-use Rattle.face.specs.Face.{along, skipped, joinedBy, unjoinedBy, corners, joined, unjoined, noCrossing, bare, lower, upper, other, countOn, others, kth, partner, residual}
-use Rattle.face.specs.Ends.{Edge, on-ab, on-ac, on-bc, End, low, high}
+use Rattle.face.specs.Face.{along, skipped, joinedBy, unjoinedBy, joined, noCrossing, bare, other, countOn, others, kth, partner, residual}
+use Rattle.face.specs.work.Corners.{corners}
+use Rattle.face.specs.claims.Claims.{unjoined}
+use Rattle.slots.specs.Slots.{lower, upper}
+use Rattle.face.specs.claims.Ends.{Edge, on-ab, on-ac, on-bc, End, low, high}
 use Rattle.face.proofs.Ends.{edge-lt, edge-of, end-other, near, on}
 use Rattle.face.proofs.Gaps.{corner-fits, corner-read}
 use Rattle.grid.specs.Grid.{crossings}
 use Rattle.flat.specs.Join.{lessened, flatCornerAt, flatJoin}
 use Rattle.flat.specs.declared.guides.Guide.{Guide}
 use Rattle.flat.specs.declared.guides.Lane.{Lane}
-use Rattle.flat.specs.Work.{GuideFits, Guides, LaneOf, PortGuides, Tabled, arriveBy, cornersAt, countAtPlace, guideStep, landAt, laneStep, leaveBy, portStep}
+use Rattle.flat.specs.work.Work.{GuideFits, Guides, LaneOf, PortGuides, Tabled, arriveBy, cornersAt, countAtPlace, guideStep, landAt, laneStep, leaveBy, portStep}
 use Rattle.flat.proofs.Rule.{apart, count-lessened, lessened-le}
 use Rattle.flat.proofs.Left.{above-corner, below-corner, between-long, between-short, corners-most, corners-others, flat-is, flat-off}
 use Rattle.flat.proofs.Tables.{count-few}

@@ -11,24 +11,26 @@ use lib.ListN.{getD, length, length-replicate, replicate, set}
 use lib.Seq.{sets}
 use borrow.Author.Tests.{eq-eqb, eqb-true, le-leb, le-ltb, lt-leb, lt-ltb, ltb-false, ne-eqb}
 use Rattle.counting.specs.Pick.{pick}
-use Rattle.counting.specs.Range.{over, values}
+use Rattle.counting.specs.Lists.{over, values}
 use Rattle.counting.specs.Stored.{filled}
 use Rattle.counting.specs.Search.{count, every, first, last, some}
 use Rattle.counting.proofs.Bools.{or-right}
 use Rattle.counting.proofs.Search.{AtMostOne, count-blocks, count-ext, count-none, count-plus, count-two, count-zero, first-blocks, first-ext, first-none, last-is, last-le, some-ext, some-found, some-last}
 use Rattle.counting.proofs.Stored.{sets-more}
 use Rattle.slots.specs.Slots.{lower, upper}
-use Rattle.face.specs.Ends.{Edge, on-ab, on-ac, on-bc}
+use Rattle.face.specs.claims.Ends.{Edge, on-ab, on-ac, on-bc}
 use Rattle.face.proofs.Ends.{edge-of}
-use Rattle.grid.specs.Grid.{highestNode, mostEdges}
-use Rattle.grid.specs.Shared.{earlierAt, keyRoom}
-use Rattle.grid.specs.Work.{Table, join, sameKey, thirdAt}
+use Rattle.slots.specs.Limits.{highestNode}
+use Rattle.slots.specs.work.Limits.{mostEdges}
+use Rattle.grid.specs.work.Shared.{earlierAt, keyRoom, join}
+use Rattle.counting.specs.work.Tables.{Table, sameKey}
+use Rattle.grid.specs.work.Work.{thirdAt}
 use Rattle.counting.proofs.Tables.{filled-table}
 use Rattle.grid.proofs.Packed.{join-eqb}
 use Rattle.flat.specs.FlatGrid.{mostFlatTriangles, node, sameEdge, shares, trianglesIn}
 use Rattle.flat.specs.Accepted.{SameEdge}
 use Rattle.flat.specs.Rows.{badLength, badTriangle, crowded, repeats, sameTriangle}
-use Rattle.flat.specs.Work.{RisingTriangles, sideKey, triangleKey, twice}
+use Rattle.flat.specs.work.Work.{RisingTriangles, sideKey, triangleKey, twice}
 use Rattle.flat.proofs.Accepts.{nodes-rise, same-true, triangle-fine}
 
 -- row 1

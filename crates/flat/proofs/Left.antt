@@ -7,12 +7,15 @@ use mathlib.Core.List.{List}
 use native.Mathlib.Omega.{arith}
 use native.Mathlib.Decide.{decLt, ℕ-discrete}
 use borrow.Author.Tests.{lt-ltb, le-ltb, le-leb, lt-leb}
-use Rattle.face.specs.Face.{left, unjoinedBy, unjoined, noCrossing, bare, lower, upper, other, countOn, others, kth, partner, residual}
-use Rattle.face.specs.Ends.{Edge, on-ab, on-ac, on-bc, End, low, high}
+use Rattle.face.specs.Face.{left, unjoinedBy, noCrossing, bare, other, countOn, others, kth, partner, residual}
+use Rattle.face.specs.claims.Claims.{unjoined}
+use Rattle.slots.specs.Slots.{lower, upper}
+use Rattle.face.specs.claims.Ends.{Edge, on-ab, on-ac, on-bc, End, low, high}
 use Rattle.face.proofs.Ends.{edge-with, end-other, other-other, other-differs}
 use Rattle.face.proofs.Gaps.{kth-lower, kth-upper, corner-other, corner-room, gap-excess, gap-level}
 use Rattle.face.proofs.Answers.{joined-unjoined, joined-none}
-use Rattle.flat.specs.Join.{ruleTwo, largestEdge, lessened, flatCornerAt, triangleAnswer, flatJoin, FlatSegment}
+use Rattle.flat.specs.Join.{ruleTwo, largestEdge, lessened, flatCornerAt, triangleAnswer, flatJoin}
+use Rattle.flat.specs.claims.JoinClaims.{FlatSegment}
 use Rattle.flat.proofs.Rule.{two-is, apart, corner-none, less, less-full}
 
 -- THE ANSWER, by where the crossing stands

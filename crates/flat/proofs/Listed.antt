@@ -15,13 +15,14 @@ use Rattle.counting.proofs.Search.{first-blocks, first-ext, first-le, first-non
 use Rattle.counting.proofs.Stored.{filled-at, length-filled}
 use Rattle.slots.specs.Slots.{lower, upper}
 use Rattle.grid.specs.Grid.{high, joins, low}
-use Rattle.grid.specs.Shared.{keyRoom, keyless, placedAt, withKey}
-use Rattle.grid.specs.Work.{Table, edgeKey, foundAt, sameKey}
+use Rattle.grid.specs.work.Shared.{keyRoom, keyless, placedAt, withKey, edgeKey}
+use Rattle.counting.specs.work.Tables.{Table, sameKey}
+use Rattle.grid.specs.work.Work.{foundAt}
 use Rattle.grid.proofs.Packed.{join-eqb}
 use Rattle.grid.proofs.Sides.{found-more, found-zero}
-use Rattle.flat.specs.FlatGrid.{FlatGrid, edgeNumber, hasEdge, isEdge, mostSides, node, trianglesIn}
+use Rattle.flat.specs.FlatGrid.{FlatGrid, edgeNumber, hasEdge, isEdge, node, trianglesIn}
+use Rattle.flat.specs.work.Work.{mostSides, PastRow3, RisingTriangles, SidesKnown, sideKey}
 use Rattle.flat.specs.Rows.{unlisted, unused}
-use Rattle.flat.specs.Work.{PastRow3, RisingTriangles, SidesKnown, sideKey}
 use Rattle.flat.proofs.Accepts.{pairs-fine}
 use Rattle.flat.proofs.Keys.{side-at}
 

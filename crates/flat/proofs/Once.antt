@@ -9,14 +9,11 @@ use native.Mathlib.Decide.{ℕ-discrete}
 use native.Mathlib.Omega.{arith}
 use lib.Dec.{eqb}
 use borrow.Author.Tests.{eq-eqb, eqb-true, ne-eqb}
-use Rattle.counting.specs.Pick.{one}
-use Rattle.counting.specs.Range.{total}
-use Rattle.counting.specs.Lists.{tally}
+use Rattle.counting.specs.Lists.{one, total, tally, it}
 use Rattle.counting.proofs.Range.{total-has, total-one, total-pos, total-zero}
 use Rattle.counting.proofs.Lists.{tally-over}
-use Rattle.walk.specs.Iterate.{it}
-use Rattle.walk.specs.Darts.{half, rev, Darts, On}
-use Rattle.walk.specs.Claims.{ofCrossing}
+use Rattle.walk.specs.Darts.{half, rev, On, ofCrossing}
+use Rattle.walk.specs.claims.Claims.{Darts}
 use Rattle.walk.proofs.Iterate.{it-suc, tally-orbit}
 use Rattle.walk.proofs.Step.{half-rev, rev-rev, same-half}
 use Rattle.flat.specs.Chain.{closes, chainSize, chainStart, dartsAt, chainDarts}

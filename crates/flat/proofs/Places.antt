@@ -13,8 +13,9 @@ use borrow.Author.Tests.{eq-eqb, le-ltb, lt-ltb, ne-eqb}
 use Rattle.counting.specs.Pick.{pick}
 use Rattle.counting.specs.Search.{first, last}
 use Rattle.counting.proofs.Search.{first-at, first-below, first-is, last-hit, last-le, last-miss, last-none, none-first}
-use Rattle.grid.specs.Work.{Table, foundAt, sameKey}
-use Rattle.flat.specs.Work.{firstPort, portAt, secondPort}
+use Rattle.counting.specs.work.Tables.{Table, sameKey}
+use Rattle.grid.specs.work.Work.{foundAt}
+use Rattle.flat.specs.work.Work.{firstPort, portAt, secondPort}
 
 -- a search, as one more than what it finds
 module _ (t : ℕ → Bool) (n : ℕ) where

@@ -15,18 +15,21 @@ use Rattle.counting.proofs.Bools.{and-left, and-right, and-true, clash}
 use Rattle.counting.proofs.Pack.{col-lt, col-pack, pack-lt, row-lt, row-pack, unpack}
 use Rattle.counting.proofs.Search.{first-below, first-is, some-first, some-found, some-is}
 use Rattle.slots.specs.Slots.{lower, upper}
-use Rattle.face.specs.Face.{joined, unjoined, countOn}
-use Rattle.face.specs.Ends.{Edge, on-ab, on-ac, on-bc}
+use Rattle.face.specs.Face.{joined, countOn}
+use Rattle.face.specs.claims.Claims.{unjoined}
+use Rattle.face.specs.claims.Ends.{Edge, on-ab, on-ac, on-bc}
 use Rattle.face.proofs.Ends.{edge-lt, edge-of, edge-with}
 use Rattle.grid.specs.Grid.{countOf, crossing, crossings, start}
-use Rattle.walk.specs.Darts.{half, rev, Darts}
-use Rattle.walk.specs.Step.{Ports}
+use Rattle.walk.specs.Darts.{half, rev}
+use Rattle.walk.specs.claims.Claims.{Darts}
+use Rattle.walk.specs.claims.Step.{Ports}
 use Rattle.walk.specs.Step as walk
 use Rattle.walk.proofs.Step.{darts, face-first, face-second, land-half}
 use Rattle.flat.specs.FlatGrid.{FlatGrid, edgeNumber, edgeRank, hasEdge, isEdge, node, trianglesIn}
-use Rattle.flat.specs.Accepted.{Accepted, EdgeIs, EdgeNumbers}
-use Rattle.flat.specs.Join.{flatJoin, FlatSegment}
-use Rattle.flat.specs.JoinClaims.{FlatLaws}
+use Rattle.flat.specs.Accepted.{Accepted, EdgeIs}
+use Rattle.flat.specs.claims.Claims.{EdgeNumbers}
+use Rattle.flat.specs.Join.{flatJoin}
+use Rattle.flat.specs.claims.JoinClaims.{FlatSegment, FlatLaws}
 use Rattle.flat.specs.Chains.{countOfSide, crossingEdge, firstTriangle, crossingIndex, joinAt, joinedTo, mate, secondTriangle, step}
 use Rattle.flat.specs.GridClaims.{LeadsOver, SegmentsHold}
 use Rattle.flat.proofs.Accepts.{edge-numbers, edge-true, true-edge}

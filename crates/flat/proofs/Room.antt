@@ -8,11 +8,11 @@ use native.Mathlib.Decide.{ℕ-discrete}
 use native.Mathlib.Omega.{arith}
 use lib.ListN.{length, length-append}
 use borrow.Author.Tests.{eq-eqb, ne-eqb}
-use Rattle.counting.specs.Lists.{All}
-use Rattle.counting.specs.Range.{over}
+use Rattle.counting.specs.claims.Lists.{All}
+use Rattle.counting.specs.Lists.{over, it}
 use Rattle.counting.proofs.Lists.{all-over, length-singles, room}
-use Rattle.walk.specs.Iterate.{it}
-use Rattle.walk.specs.Darts.{half, rev, Darts}
+use Rattle.walk.specs.Darts.{half, rev}
+use Rattle.walk.specs.claims.Claims.{Darts}
 use Rattle.walk.proofs.Iterate.{all-orbit, length-orbit}
 use Rattle.flat.specs.Chain.{closes, chainSize, chainStart, dartsAt, chainDarts, chainWords, allChainWords}
 use Rattle.flat.proofs.Once.{chainLaws, most}

@@ -7,12 +7,13 @@ use native.Mathlib.Omega.{arith}
 use native.Mathlib.Decide.{decLt}
 use lib.Dec.{eqb, leb}
 use borrow.Author.Tests.{eq-eqb, eqb-true, ne-eqb, le-leb, leb-true, lt-leb}
-use Rattle.counting.specs.Pick.{one}
-use Rattle.counting.specs.Search.{seek, first, every}
+use Rattle.counting.specs.Lists.{one, seek}
+use Rattle.counting.specs.Search.{first, every}
 use Rattle.counting.proofs.Bools.{and-left, and-right, not-clash}
-use Rattle.face.specs.Face.{lower, upper, other, countOn, others, cornerCountAt}
-use Rattle.face.specs.Ends.{Edge, on-ab, on-ac, on-bc}
-use Rattle.face.specs.Level.{Level}
+use Rattle.slots.specs.Slots.{lower, upper}
+use Rattle.face.specs.Face.{other, countOn, others, cornerCountAt}
+use Rattle.face.specs.claims.Ends.{Edge, on-ab, on-ac, on-bc}
+use Rattle.face.specs.claims.Level.{Level}
 use Rattle.face.proofs.Gaps.{corner-room}
 use Rattle.face.proofs.Level.{level-full}
 use Rattle.flat.specs.Join.{ruleTwo, largestEdge, lessened, flatCornerAt}

@@ -9,21 +9,24 @@ use lib.Dec.{eqb}
 use lib.ListN.{getD}
 use mathlib.Core.List.{List}
 use borrow.Author.Tests.{eq-eqb, ne-eqb, lt-ltb, le-ltb, le-leb, lt-leb}
-use Rattle.counting.specs.Pick.{pick, one}
+use Rattle.counting.specs.Pick.{pick}
+use Rattle.counting.specs.Lists.{one}
 use Rattle.face.specs.declared.How.{How}
 use Rattle.face.specs.declared.Why.{Why}
 use Rattle.face.specs.declared.Join.{Join}
 use Rattle.face.specs.declared.Join.the-variants.{Joined, Unjoined, NoCrossing}
 use Rattle.face.specs.Join.{howNumbers, whyNumber, joinNumbers}
-use Rattle.face.specs.Face.{round, left, joinedBy, unjoinedBy, noCrossing, lower, other, corners, countOn, kth, cornerCountAt, partner, faceAnswer}
-use Rattle.face.specs.Ends.{Edge, on-ab, on-ac, on-bc, End, low, high}
+use Rattle.face.specs.Face.{round, left, joinedBy, unjoinedBy, noCrossing, other, countOn, kth, cornerCountAt, partner, faceAnswer}
+use Rattle.slots.specs.Slots.{lower}
+use Rattle.face.specs.work.Corners.{corners}
+use Rattle.face.specs.claims.Ends.{Edge, on-ab, on-ac, on-bc, End, low, high}
 use Rattle.face.proofs.Ends.{edge-lt, edge-of, end-other, no-edge}
 use Rattle.face.proofs.Gaps.{kth-lower, kth-upper, corner-node, corner-other}
 use Rattle.face.proofs.Branches.{answer-off}
 use Rattle.face.proofs.Laws.{joined-or, partner-there}
 use Rattle.face.proofs.Reasons.{corner-answer, reasonLaws}
 use Rattle.flat.specs.Join.{ruleTwo, largestEdge, lessened, flatCornerAt, triangleAnswer}
-use Rattle.flat.specs.Work.{lessenedEdge, squeezed, stretchedTo, stretched, LessenedAt}
+use Rattle.flat.specs.work.Work.{lessenedEdge, squeezed, stretchedTo, stretched, LessenedAt}
 use Rattle.flat.proofs.Rule.{Two, two-is, is-two, not-two, less, less-full, count-lessened}
 use Rattle.flat.proofs.Left.{told-off, full-at, full-else, told-gap, around, alone, Case, case-of, told-corner}
 

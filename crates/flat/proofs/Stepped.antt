@@ -11,24 +11,26 @@ use lib.ListN.{List·getD-eq-default, getD, length}
 use borrow.Author.Tests.{eq-eqb, eqb-true, le-ltb, ne-eqb}
 use Rattle.counting.specs.Pick.{pick}
 use Rattle.counting.specs.Search.{first, last, some}
-use Rattle.counting.specs.Pack.{pre, row}
+use Rattle.counting.specs.Lists.{pre}
+use Rattle.counting.specs.Pack.{row}
 use Rattle.counting.proofs.Bools.{bool-same, clash, not-clash}
 use Rattle.counting.proofs.Pack.{pre-le, pre-next}
 use Rattle.counting.proofs.Pigeon.{pigeonhole}
 use Rattle.counting.proofs.Search.{first-below, first-blocks, first-ext, first-is, last-above, last-is, last-le, none-first, some-ext, some-first, some-found}
 use Rattle.slots.specs.Slots.{lower, upper}
 use Rattle.slots.proofs.Slots.{face-ends}
-use Rattle.face.specs.Face.{joined, unjoined, noCrossing, countOn}
+use Rattle.face.specs.Face.{joined, noCrossing, countOn}
+use Rattle.face.specs.claims.Claims.{unjoined}
 use Rattle.face.proofs.Ends.{edge-lt, edge-of, edge-with}
 use Rattle.grid.specs.Grid.{countOf, crossing, crossings, start}
-use Rattle.grid.specs.Work.{Table, sameKey}
+use Rattle.counting.specs.work.Tables.{Table, sameKey}
 use Rattle.walk.specs.Step as walk
 use Rattle.walk.proofs.Step.{face-first, face-second, land-first, land-second}
 use Rattle.flat.specs.FlatGrid.{FlatGrid, edgeNumber, edgeRank, hasEdge, isEdge, trianglesIn}
 use Rattle.flat.specs.Accepted.{Accepted, EdgeIs}
 use Rattle.flat.specs.Join.{flatJoin}
 use Rattle.flat.specs.Chains.{countOfSide, crossingEdge, firstTriangle, crossingIndex, joinAt, joinedTo, mate, secondTriangle, step}
-use Rattle.flat.specs.Work.{StepTable, SidesKnown, Sides, stepIn, arriveBy, countAtPlace, dartStep, firstPort, landAt, leaveBy, portStep, secondPort}
+use Rattle.flat.specs.work.Work.{StepTable, SidesKnown, Sides, stepIn, arriveBy, countAtPlace, dartStep, firstPort, landAt, leaveBy, portStep, secondPort}
 use Rattle.flat.proofs.Accepts.{edge-true, true-edge}
 use Rattle.flat.proofs.Triangle.{flatLaws}
 use Rattle.flat.proofs.Places.{found-some, port-first, port-second}

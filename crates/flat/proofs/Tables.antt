@@ -7,18 +7,15 @@ use native.Mathlib.Omega.{arith}
 use lib.ListN.{getD, length, replicate, set}
 use lib.Seq.{sets}
 use borrow.Author.Tests.{eq-eqb, ne-eqb}
-use Rattle.counting.specs.Pack.{pre}
-use Rattle.counting.specs.Pick.{one}
-use Rattle.counting.specs.Range.{over, values}
+use Rattle.counting.specs.Lists.{pre, one, over, values}
 use Rattle.counting.specs.Stored.{filled}
 use Rattle.counting.proofs.Tables.{filled-table, zeros}
 use Rattle.counting.proofs.Pack.{col-pack, pre-le, pre-next, row-pack}
 use Rattle.counting.proofs.Stored.{filled-block, filled-none, sets-more}
 use Rattle.grid.specs.Grid.{countOf, crossing, crossings, start}
-use Rattle.grid.specs.Work.{Table}
+use Rattle.counting.specs.work.Tables.{Table}
 use Rattle.grid.proofs.Crossings.{start-zero}
-use Rattle.flat.specs.FlatGrid.{mostSides}
-use Rattle.flat.specs.Work.{Porting, Sides, Tabled, countAtPlace, dartStep, firstPort, landAt, portAt, portStep}
+use Rattle.flat.specs.work.Work.{mostSides, Porting, Sides, Tabled, countAtPlace, dartStep, firstPort, landAt, portAt, portStep}
 use Rattle.flat.proofs.Places.{port-first, port-le}
 
 module _ (counts sides : List ℕ) (n : ℕ) where

@@ -5,8 +5,9 @@ use mathlib.Core.Logic.{_≢_}
 use native.Mathlib.Decide.{decLt}
 use native.Mathlib.Omega.{arith}
 use borrow.Author.Tests.{lt-ltb, le-ltb}
-use Rattle.walk.specs.Iterate.{it}
-use Rattle.walk.specs.Darts.{half, rev, Darts, Live, Loop, On}
+use Rattle.counting.specs.Lists.{it}
+use Rattle.walk.specs.Darts.{half, rev, Live, Loop, On}
+use Rattle.walk.specs.claims.Claims.{Darts}
 use Rattle.walk.proofs.Iterate.{it-suc, it-add}
 use Rattle.walk.proofs.Curve as curve
 use Rattle.walk.proofs.Step.{rev-rev}

@@ -5,8 +5,10 @@ use mathlib.Core.Logic.{_⊎_, inl, inr}
 use mathlib.Core.Bool.{Bool, true, false}
 use native.Mathlib.Omega.{arith}
 use native.Mathlib.Decide.{decLt, ℕ-discrete}
-use Rattle.face.specs.Face.{round, left, joinedBy, unjoinedBy, unjoined, noCrossing, bare, lower, upper, other, countOn, others, kth, cornerCountAt, partner, faceAnswer, faceJoin}
-use Rattle.face.specs.Ends.{Edge, on-ab, on-ac, on-bc, End}
+use Rattle.face.specs.Face.{round, left, joinedBy, unjoinedBy, noCrossing, bare, other, countOn, others, kth, cornerCountAt, partner, faceAnswer, faceJoin}
+use Rattle.face.specs.claims.Claims.{unjoined}
+use Rattle.slots.specs.Slots.{lower, upper}
+use Rattle.face.specs.claims.Ends.{Edge, on-ab, on-ac, on-bc, End}
 use Rattle.counting.proofs.Bools.{clash}
 use Rattle.face.proofs.Corner.{first, second, third, level, rule}
 use Rattle.face.proofs.Ends.{edge-with, no-edge, all-three}
@@ -16,8 +18,8 @@ use Rattle.face.proofs.Links.{alone-unjoined}
 use Rattle.face.proofs.Laws.{unjoined-alone, there-unjoined}
 use Rattle.face.proofs.Claims.{faceLaws}
 use Rattle.face.proofs.Reasons.{reasonLaws}
-use Rattle.flat.specs.Join.{ruleTwo, largestEdge, flatCornerAt, triangleAnswer, flatJoin, FlatSegment}
-use Rattle.flat.specs.JoinClaims.{FlatLaws, FlatReasons}
+use Rattle.flat.specs.Join.{ruleTwo, largestEdge, flatCornerAt, triangleAnswer, flatJoin}
+use Rattle.flat.specs.claims.JoinClaims.{FlatSegment, FlatLaws, FlatReasons}
 use Rattle.flat.proofs.Rule.{Two, two-is, is-two, corner-none, less}
 use Rattle.flat.proofs.Left.{flat-is, flat-off, told-corner, at-corner, told-gap, at-gap, there-joined, left-back, left-another, left-cases, left-only}
 

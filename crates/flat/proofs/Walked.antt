@@ -10,19 +10,19 @@ use lib.Dec.{eqb}
 use lib.ListN.{getD, length, length-set, set}
 use lib.Seq.{getD-set-other, getD-set-same, length-sets, sets}
 use borrow.Author.Tests.{eq-eqb, lt-ltb, le-ltb, ne-eqb}
-use Rattle.counting.specs.Pick.{pick, one}
-use Rattle.counting.specs.Range.{over, values}
-use Rattle.counting.specs.Stored.{Stored}
+use Rattle.counting.specs.Pick.{pick}
+use Rattle.counting.specs.Lists.{one, over, values, it}
+use Rattle.counting.specs.work.Stored.{Stored}
 use Rattle.counting.proofs.Below.{trichotomy}
 use Rattle.counting.proofs.Lists.{length-singles}
 use Rattle.counting.proofs.Pigeon.{pigeonhole}
 use Rattle.counting.proofs.Stored.{sets-more, stored-fits, stored-more, stored-none}
-use Rattle.walk.specs.Iterate.{it}
-use Rattle.walk.specs.Darts.{half, rev, Darts, Loop, On}
+use Rattle.walk.specs.Darts.{half, rev, Loop, On}
+use Rattle.walk.specs.claims.Claims.{Darts}
 use Rattle.walk.proofs.Iterate.{it-suc}
 use Rattle.walk.proofs.Curve as curve
 use Rattle.flat.specs.Chain.{steps, closes, lastDart, pathSteps, pathStart, isPath, chainSize, chainStart, chainWords, allChainWords}
-use Rattle.flat.specs.Work.{Finds, Fresh, InChain, StepTable, MarkedOn, Ran, DartsFrom, Swept, stepIn, sizeBy, startBy, wordsBy, wordsOf}
+use Rattle.flat.specs.work.Work.{Finds, Fresh, InChain, StepTable, MarkedOn, Ran, DartsFrom, Swept, stepIn, sizeBy, startBy, wordsBy, wordsOf}
 use Rattle.flat.proofs.Taken.{loop-steps, on-steps, taken-is}
 use Rattle.flat.proofs.Curves.{closed-loop, closed-start, found, held, open-none, open-size, open-start}
 use Rattle.flat.proofs.Once.{one-chain}

@@ -4,11 +4,10 @@ use mathlib.Core.Path.{_≡_}
 use mathlib.Core.Logic.{_≢_}
 use mathlib.Core.List.{List}
 use lib.ListN.{length}
-use Rattle.slots.specs.Limits.{mostCount}
+use Rattle.slots.specs.Limits.{mostCount, highestNode, mostCrossings}
 use Rattle.slots.specs.Slots.{lower, upper}
-use Rattle.grid.specs.Grid.{highestNode, mostCrossings, low, high, countOf, crossings}
-use Rattle.grid.specs.Accepted.{Before}
-use Rattle.flat.specs.FlatGrid.{FlatGrid, mostFlatTriangles, trianglesIn, node, edgeNumber}
+use Rattle.grid.specs.Grid.{low, high, countOf, crossings, Before}
+use Rattle.flat.specs.FlatGrid.{FlatGrid, mostFlatTriangles, trianglesIn, node}
 
 -- edge j of triangle g and edge k of triangle f have the same ends
 pub record SameEdge (triangles : List ℕ) (g j f k : ℕ) : Type 0 where
@@ -44,13 +43,3 @@ module _ (G : FlatGrid) where
     pub used : (e : ℕ) → e < length (G .counts) → (f : ℕ) × (k : ℕ) × (f < trianglesIn (G .triangles)) × (k < 3) × EdgeIs G f k e
     -- 10: the crossings are few enough
     pub few-crossings : crossings (G .counts) ≤ mostCrossings
-
-  -- the numbers of the triangles' edges in an accepted flat grid
-  pub record EdgeNumbers : Type 0 where
-    -- each triangle's edge has one, and no two edges have the same ends
-    pub listed : (f k : ℕ) → f < trianglesIn (G .triangles) → k < 3 → edgeNumber G f k < length (G .counts)
-    pub is : (f k : ℕ) → f < trianglesIn (G .triangles) → k < 3 → EdgeIs G f k (edgeNumber G f k)
-    pub only : (f k e : ℕ) → f < trianglesIn (G .triangles) → k < 3 → e < length (G .counts) → EdgeIs G f k e → edgeNumber G f k ≡ e
-    pub used : (e : ℕ) → e < length (G .counts) → (f : ℕ) × (k : ℕ) × (f < trianglesIn (G .triangles)) × (k < 3) × (edgeNumber G f k ≡ e)
-    -- in a triangle an earlier edge has the lower number
-    pub rising : (f k l : ℕ) → f < trianglesIn (G .triangles) → k < l → l < 3 → edgeNumber G f k < edgeNumber G f l

@@ -3,12 +3,11 @@ use Prim.Native.Nat.{ℕ, zero, suc, _+_, _*_}
 use mathlib.Core.Bool.{Bool, true, false, _&&_}
 use mathlib.Core.List.{List, [], _∷_}
 use lib.Dec.{eqb, ltb, leb}
-use Rattle.counting.specs.Pick.{pick, one}
-use Rattle.counting.specs.Range.{over, values}
+use Rattle.counting.specs.Pick.{pick}
+use Rattle.counting.specs.Lists.{one, over, values, it}
 use Rattle.counting.specs.Search.{every}
-use Rattle.walk.specs.Iterate.{it, orbit}
+use Rattle.walk.specs.Walk.{orbit, size}
 use Rattle.walk.specs.Darts.{half, rev}
-use Rattle.walk.specs.Walk.{size}
 
 module _ (N : ℕ) (s : ℕ → ℕ) where
   -- how many of n steps can be taken from dart d on before the curve ends

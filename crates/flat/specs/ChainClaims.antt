@@ -3,10 +3,8 @@ use Prim.Native.Nat.{ℕ, suc, _*_, _≤_, _<_}
 use mathlib.Core.Path.{_≡_}
 use mathlib.Core.Bool.{Bool, true, false, _||_}
 use lib.Dec.{eqb}
-use Rattle.counting.specs.Lists.{tally}
-use Rattle.walk.specs.Iterate.{it}
-use Rattle.walk.specs.Darts.{half, rev, Loop, On}
-use Rattle.walk.specs.Claims.{ofCrossing}
+use Rattle.counting.specs.Lists.{tally, it}
+use Rattle.walk.specs.Darts.{half, rev, Loop, On, ofCrossing}
 use Rattle.flat.specs.Chain.{closes, chainSize, chainStart, chainDarts}
 
 module _ (N : ℕ) (s : ℕ → ℕ) where

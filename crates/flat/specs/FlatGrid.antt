@@ -22,9 +22,6 @@ flatOf triangles edges counts = record { triangles = triangles; edges = edges; c
 abbrev pub mostFlatTriangles : ℕ
 mostFlatTriangles = 2048
 
-abbrev pub mostSides : ℕ
-mostSides = 3 * mostFlatTriangles
-
 module _ (triangles : List ℕ) where
   abbrev pub trianglesIn : ℕ
   trianglesIn = length triangles / 3

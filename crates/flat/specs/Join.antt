@@ -1,14 +1,14 @@
 -- The segments of a triangle of a flat grid (02, W11), told as the face call tells them (02, W10). Rules 1 and 3 are those of 01; in rule 2 the corner counts come from counts of which the largest
 -- alone is less by 1. Crossings are counted over the whole counts in every rule.
 use Prim.Native.Nat.{ℕ, _+_, _-_, _%_}
-use mathlib.Core.Path.{_≡_}
 use mathlib.Core.Bool.{Bool, _&&_}
 use mathlib.Core.List.{List}
 use lib.Dec.{eqb, ltb, leb}
-use Rattle.counting.specs.Pick.{pick, one}
+use Rattle.counting.specs.Pick.{pick}
+use Rattle.counting.specs.Lists.{one}
 use Rattle.counting.specs.Search.{first, every}
 use Rattle.slots.specs.Slots.{lower, upper}
-use Rattle.face.specs.Face.{left, unjoinedBy, noCrossing, joined, bare, countOn, others, cornerCountAt, partner, residual}
+use Rattle.face.specs.Face.{left, unjoinedBy, noCrossing, bare, countOn, others, cornerCountAt, partner, residual}
 
 module _ (ab ac bc : ℕ) where
   -- rule 2: the sum is odd, and no count is above the other two
@@ -40,7 +40,3 @@ module _ (ab ac bc : ℕ) where
   -- what it is joined to: the answer without how and why
   unfoldable pub flatJoin : ℕ → ℕ → List ℕ
   flatJoin e t = bare (triangleAnswer e t)
-
-  -- crossing t of edge e is joined to crossing t′ of edge e′
-  abbrev pub FlatSegment : ℕ → ℕ → ℕ → ℕ → Type 0
-  FlatSegment e t e′ t′ = flatJoin e t ≡ joined e′ t′

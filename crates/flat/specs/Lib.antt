@@ -2,7 +2,6 @@ pub mod FlatGrid
 pub mod Rows
 pub mod Accepted
 pub mod Join
-pub mod JoinClaims
 pub mod Chain
 pub mod ChainClaims
 pub mod Chains
@@ -10,6 +9,6 @@ pub mod GridClaims
 pub mod Answer
 pub mod Numbers
 pub mod Done
-pub mod Claims
-pub mod Work
-pub mod Examples
+pub mod claims
+pub mod examples
+pub mod work

@@ -8,7 +8,8 @@ use lib.Dec.{eqb, leb, ltb}
 use Rattle.answer.specs.Answer.{result, isResult}
 use Rattle.answer.specs.Rows.{Row, whole, each, answerOf}
 use Rattle.counting.specs.Search.{some, every, count}
-use Rattle.grid.specs.Grid.{highestNode, crossings}
+use Rattle.slots.specs.Limits.{highestNode}
+use Rattle.grid.specs.Grid.{crossings}
 use Rattle.grid.specs.Rows.{badEdge, badCount, tooMany}
 use Rattle.flat.specs.FlatGrid.{FlatGrid, mostFlatTriangles, trianglesIn, node, shares, isEdge, hasEdge}
 

@@ -2,10 +2,10 @@
 ghost use mathlib.Core.Path.{_≡_};
 ghost use Prim.Native.Nat.{_+_, _*_, _<_, _≤_};
 ghost use lib.ListN.{length, getD};
-ghost use Rattle.face.specs.Corners.{cornerList};
-ghost use Rattle.face.specs.Ends.{End};
+ghost use Rattle.face.specs.work.Corners.{cornerList};
+ghost use Rattle.face.specs.claims.Ends.{End};
 ghost use Rattle.grid.specs.Grid.{crossings};
-ghost use Rattle.flat.specs.Work.{countAtPlace, landAt, Tabled, laneStep, LaneFits, guideStep, GuideFits, cornersAt, LaneOf, Guides, PortGuides};
+ghost use Rattle.flat.specs.work.Work.{countAtPlace, landAt, Tabled, laneStep, LaneFits, guideStep, GuideFits, cornersAt, LaneOf, Guides, PortGuides};
 use crate::join::flat_corners;
 use counting::wide16;
 use counting::wide32;

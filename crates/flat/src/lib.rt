@@ -7,7 +7,7 @@ ghost use Rattle.flat.specs.FlatGrid.{flatOf};
 ghost use Rattle.flat.specs.Accepted.{Accepted};
 ghost use Rattle.flat.specs.Numbers.{tracedNumbers};
 ghost use Rattle.flat.specs.Done.{Done};
-ghost use Rattle.flat.specs.Work.{SidesKnown, TracedIn};
+ghost use Rattle.flat.specs.work.Work.{SidesKnown, TracedIn};
 use grid::Checked;
 use grid::MOST_CROSSINGS;
 

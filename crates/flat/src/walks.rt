@@ -2,7 +2,7 @@
 ghost use mathlib.Core.Path.{_≡_};
 ghost use Prim.Native.Nat.{_+_, _*_, _<_};
 ghost use Rattle.walk.specs.Darts.{rev};
-ghost use Rattle.flat.specs.Work.{stepIn, StepTable, Ran, Fresh, Finds, sizeBy, startBy};
+ghost use Rattle.flat.specs.work.Work.{stepIn, StepTable, Ran, Fresh, Finds, sizeBy, startBy};
 use counting::wide32;
 
 // A walk from a dart: its steps, and the dart after them.

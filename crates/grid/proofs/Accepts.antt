@@ -5,16 +5,17 @@ use mathlib.Core.Bool.{false}
 use native.Mathlib.Decide.{decLt}
 use native.Mathlib.Omega.{arith}
 use lib.ListN.{List·getD-eq-default, getD, length}
-use Rattle.counting.specs.Lists.{All}
-use Rattle.answer.specs.Rows.{whole}
-use Rattle.answer.specs.Faults.{AllClear, Clear, rowAt, since}
+use Rattle.counting.specs.claims.Lists.{All}
+use Rattle.answer.specs.Rows.{whole, Clear}
+use Rattle.answer.specs.claims.Faults.{AllClear, rowAt}
+use Rattle.answer.specs.work.Faults.{since}
 use Rattle.answer.proofs.Rows.{clear-since}
 use Rattle.counting.proofs.Lists.{all-at}
-use Rattle.grid.specs.Accepted.{Accepted, Sound}
-use Rattle.grid.specs.Claims.{AcceptanceYields, AcceptedAnswer, NumbersOfSound}
+use Rattle.grid.specs.claims.Accepted.{Accepted, Sound}
+use Rattle.grid.specs.claims.Claims.{AcceptanceYields, AcceptedAnswer, NumbersOfSound}
 use Rattle.grid.specs.Grid.{Grid}
 use Rattle.grid.specs.Rows.{rows}
-use Rattle.grid.specs.Work.{RisingCells}
+use Rattle.grid.specs.work.Work.{RisingCells}
 use Rattle.grid.proofs.Claims.{accepts-clear, clear-accepted}
 use Rattle.grid.proofs.Linking.{clear-links, links-clear}
 use Rattle.grid.proofs.Sound.{Faultless, edge-numbers, faultless, sound}

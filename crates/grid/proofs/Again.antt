@@ -15,7 +15,7 @@ use Rattle.counting.proofs.Search.{every-is, is-every, some-found, some-is}
 use Rattle.slots.specs.Slots.{position}
 use Rattle.grid.specs.Grid.{cellCount, node, sameFace}
 use Rattle.grid.specs.Rows.{repeats, sameCell}
-use Rattle.grid.specs.Work.{Neighbours, againAt}
+use Rattle.grid.specs.work.Work.{Neighbours, againAt}
 use Rattle.grid.proofs.Packed.{same-true, true-same}
 use Rattle.grid.proofs.Tellings.{position-above, position-lt}
 

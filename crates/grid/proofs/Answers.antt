@@ -11,11 +11,14 @@ use Rattle.counting.specs.Search.{first}
 use Rattle.counting.proofs.Bools.{or-none}
 use Rattle.answer.specs.Answer.{refusal, result}
 use Rattle.answer.specs.Rows.{answerOf, whole}
-use Rattle.answer.specs.Faults.{rowAt, since}
+use Rattle.answer.specs.claims.Faults.{rowAt}
+use Rattle.answer.specs.work.Faults.{since}
 use Rattle.answer.proofs.Rows.{row-passes, row-refuses, rows-end, whole-fault, whole-fine}
-use Rattle.grid.specs.Grid.{Grid, built, cellCount, crossings, mostCells}
+use Rattle.grid.specs.Grid.{Grid, built, cellCount, crossings}
+use Rattle.slots.specs.Limits.{mostCells}
 use Rattle.grid.specs.Rows.{badLength, badLists, gridAnswer, rows}
-use Rattle.grid.specs.Work.{Neighbours, Table, WhereAccepted, Worked, answerFrom, answerWith, listedAt}
+use Rattle.grid.specs.work.Work.{Neighbours, WhereAccepted, Worked, answerFrom, answerWith, listedAt}
+use Rattle.counting.specs.work.Tables.{Table}
 use Rattle.grid.specs.declared.Checked.{Checked}
 use Rattle.grid.specs.declared.Checked.the-variants.{Crossings, Refused}
 use Rattle.grid.proofs.Starts.{built-is, lists-fine}

@@ -9,15 +9,15 @@ use lib.ListN.{length}
 use Rattle.counting.specs.Pack.{col}
 use Rattle.counting.proofs.Pack.{col-lt, col-pack, pack-lt, pre-le, row-lt, row-pack, unpack}
 use Rattle.answer.specs.Answer.{isResult, result}
-use Rattle.answer.specs.Faults.{AllClear, numbered}
+use Rattle.answer.specs.claims.Faults.{AllClear}
+use Rattle.answer.specs.work.Faults.{numbered}
 use Rattle.answer.proofs.Answer.{mixed, refusals}
 use Rattle.answer.proofs.Rows.{answer-some, clear-answer, clear-or-refusal, refusal-answer, refused-by, result-clear, result-is}
 use Rattle.grid.specs.Check.{checkNumbers}
-use Rattle.grid.specs.Claims.{AcceptsClear, AcceptsOrRefuses, AnswerTold, ClearAccepted, CrossingNumbers, FaultRefused, OpenTold, RefusesFault}
+use Rattle.grid.specs.claims.Claims.{AcceptsClear, AcceptsOrRefuses, AnswerTold, ClearAccepted, CrossingNumbers, FaultRefused, OpenTold, RefusesFault}
 use Rattle.grid.specs.Grid.{Grid, countOf, crossings, start}
 use Rattle.grid.specs.Opening.{openAnswer, opened}
-use Rattle.grid.specs.Rows.{gridAnswer, rows}
-use Rattle.grid.specs.Tables.{accepts}
+use Rattle.grid.specs.Rows.{gridAnswer, rows, accepts}
 use Rattle.grid.specs.declared.Checked.{Checked}
 use Rattle.grid.specs.declared.Checked.the-variants.{Crossings, Refused}
 

@@ -11,13 +11,13 @@ use lib.Dec.{ltb}
 use lib.ListN.{length, set}
 use lib.Seq.{getD-set-other, getD-set-same}
 use borrow.Author.Tests.{le-ltb, lt-ltb, ltb-false}
-use Rattle.counting.specs.Pack.{pre}
+use Rattle.counting.specs.Lists.{pre, total}
 use Rattle.counting.specs.Pick.{pick}
-use Rattle.counting.specs.Range.{total}
 use Rattle.counting.proofs.Pack.{pre-changed, pre-kept, pre-le, pre-next}
-use Rattle.grid.specs.Grid.{countOf, crossings, mostCrossings, start}
+use Rattle.grid.specs.Grid.{countOf, crossings, start}
+use Rattle.slots.specs.Limits.{mostCrossings}
 use Rattle.grid.specs.Rows.{tooMany}
-use Rattle.grid.specs.Shared.{capped}
+use Rattle.grid.specs.work.Shared.{capped}
 
 module _ (counts : List ℕ) where
   pub start-zero : start counts 0 ≡ 0

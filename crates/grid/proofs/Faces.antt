@@ -12,8 +12,9 @@ use Rattle.counting.specs.Search.{count, first, some}
 use Rattle.counting.proofs.Search.{AtMostOne, count-blocks, count-ext, count-none, count-plus, first-blocks, first-ext, first-le, some-ext}
 use Rattle.grid.specs.Grid.{cellCount, hasFace, sameFace}
 use Rattle.grid.specs.Rows.{crowded}
-use Rattle.grid.specs.Work.{Across, Mates, Neighbours, RisingCells, Pairing, sameKey, thirdAt}
-use Rattle.grid.specs.Walks.{SameFrom, Slots}
+use Rattle.grid.specs.work.Work.{Across, Mates, Neighbours, RisingCells, Pairing, thirdAt}
+use Rattle.counting.specs.work.Tables.{sameKey}
+use Rattle.grid.specs.work.Walks.{SameFrom, Slots}
 use Rattle.grid.proofs.Packed.{face-eqb, one-slot}
 
 module _ (cells : List ℕ) (good : RisingCells cells) (keys : List ℕ) (w : Slots (cellCount cells) (SameFrom 0 cells) keys) where

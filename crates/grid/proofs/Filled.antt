@@ -16,12 +16,14 @@ use Rattle.counting.proofs.Search.{first-at}
 use Rattle.counting.proofs.Stored.{filled-ext}
 use Rattle.answer.specs.Answer.{result}
 use Rattle.answer.proofs.Answer.{refused-not}
-use Rattle.grid.specs.Accepted.{EdgeNumbers, Sound}
+use Rattle.grid.specs.claims.Accepted.{EdgeNumbers, Sound}
 use Rattle.grid.specs.Check.{checkNumbers}
-use Rattle.grid.specs.Grid.{Grid, built, cellCount, edgeNumber, faceName, isEdge, mostEdges, mostSlots, sameFace}
-use Rattle.grid.specs.Rows.{gridAnswer}
-use Rattle.grid.specs.Tables.{Laid, accepts, nameAt, sideAt}
-use Rattle.grid.specs.Work.{Copying, Lowering, Neighbours, RisingCells, WhereAccepted, Worked, listedAt, lowerPlace}
+use Rattle.grid.specs.Grid.{Grid, built, cellCount, edgeNumber, faceName, isEdge, sameFace}
+use Rattle.slots.specs.work.Limits.{mostEdges}
+use Rattle.slots.specs.Limits.{mostSlots}
+use Rattle.grid.specs.Rows.{gridAnswer, accepts}
+use Rattle.grid.specs.work.Tables.{Laid, nameAt, sideAt}
+use Rattle.grid.specs.work.Work.{Copying, Lowering, Neighbours, RisingCells, WhereAccepted, Worked, listedAt, lowerPlace}
 use Rattle.grid.specs.declared.Checked.{Checked}
 use Rattle.grid.specs.declared.Checked.the-variants.{Crossings, Refused}
 use Rattle.grid.proofs.Accepts.{acceptance-yields, ordered}

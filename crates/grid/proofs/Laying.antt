@@ -11,14 +11,15 @@ use lib.ListN.{getD, length, length-set, set, List·getD-eq-default}
 use lib.Seq.{ext-getD, getD-set-other, getD-set-same}
 use borrow.Author.Tests.{eq-eqb, eqb-true, lt-ltb, ne-eqb}
 use Rattle.counting.specs.Search.{count, every, last}
-use Rattle.counting.specs.Tables.{sameKey}
+use Rattle.counting.specs.work.Tables.{sameKey}
 use Rattle.counting.proofs.Bools.{and-false-right, and-left, and-right, imply}
 use Rattle.counting.proofs.Search.{count-none, count-le, every-is, last-hit, last-is, last-le, last-miss, last-none}
 use Rattle.slots.specs.Slots.{hi, lo}
 use Rattle.slots.proofs.Slots.{two-slots}
-use Rattle.grid.specs.Grid.{cellCount, high, highestNode, joins, low, node}
-use Rattle.grid.specs.Runs.{Blanked, Clearable, EndIn, Fillable, FromNode, InCell, InChain, Layable, Lays, NodeChains, OneLow, RunFilled, SidesPlaceable, SidesPlaced, SidesPuttable, SidesWalkable, SidesWalked, Tabled, Tallied, Talliable, Turnable, placeBelow}
-use Rattle.grid.specs.Walks.{Linked, labelled}
+use Rattle.grid.specs.Grid.{cellCount, high, joins, low, node}
+use Rattle.slots.specs.Limits.{highestNode}
+use Rattle.grid.specs.work.Runs.{Blanked, Clearable, EndIn, Fillable, FromNode, InCell, InChain, Layable, Lays, NodeChains, OneLow, RunFilled, SidesPlaceable, SidesPlaced, SidesPuttable, SidesWalkable, SidesWalked, Tabled, Tallied, Talliable, Turnable, placeBelow}
+use Rattle.grid.specs.work.Walks.{Linked, labelled}
 use Rattle.grid.proofs.Places.{entry-above, entry-is, entry-le}
 
 pub set-beyond : (l : List ℕ) (i x : ℕ) → length l ≤ i → set l i x ≡ l

@@ -12,8 +12,8 @@ use Rattle.counting.proofs.Reach.{reach-closed, reach-holds, reach-start}
 use Rattle.counting.proofs.Search.{first-is, none-some, some-first, some-found, some-is, some-none}
 use Rattle.slots.specs.Slots.{contains, lower, edgeRank, slotEdge, upper}
 use Rattle.slots.proofs.Slots.{edge-slot, face-ends, slot-edge}
-use Rattle.grid.specs.Accepted.{EdgeIs, Linked}
-use Rattle.grid.specs.Grid.{Grid, SameFace, cellCount, hasEdge, hasFace, isEdge, node, sameFace}
+use Rattle.grid.specs.claims.Accepted.{EdgeIs, Linked, SameFace}
+use Rattle.grid.specs.Grid.{Grid, cellCount, hasEdge, hasFace, isEdge, node, sameFace}
 use Rattle.grid.specs.Rows.{reached, linked, split}
 use Rattle.grid.proofs.Packed.{same-true, true-same}
 use Rattle.grid.proofs.Sound.{edge-true, flip, true-edge}

@@ -16,10 +16,12 @@ use Rattle.counting.specs.Search.{count, last, some}
 use Rattle.counting.proofs.Bools.{and-left, and-right, bool-same, clash, holds-or}
 use Rattle.counting.proofs.Involution.{count-less, less}
 use Rattle.counting.proofs.Search.{count-blocks, count-ext, count-le, count-none, count-same, last-is, some-and, some-blocks, some-ext, some-found, some-is, some-none}
-use Rattle.slots.specs.Slots.{contains, position, hi, lo, otherSlot, rankIn, secondSlot}
+use Rattle.slots.specs.Slots.{contains, position, hi, lo, secondSlot}
+use Rattle.slots.specs.claims.Slots.{otherSlot, rankIn}
 use Rattle.slots.proofs.Slots.{Third, ends-sum, rank-of, third-of, two-slots}
 use Rattle.counting.proofs.Tables.{top-le}
-use Rattle.grid.specs.Work.{PassesAcross, Reached, Grown, OnSlot, Open, Paired, KeySlot, Splitting, Spread, Spreadable, Spreading, Spreads, markedCells, missing, rank, sameKey}
+use Rattle.grid.specs.work.Work.{PassesAcross, Reached, Grown, OnSlot, Open, Paired, KeySlot, Splitting, Spread, Spreadable, Spreading, Spreads, markedCells, missing, rank}
+use Rattle.counting.specs.work.Tables.{sameKey}
 use Rattle.grid.proofs.Turns.{count-one-more}
 
 -- how the other slot is found, from the sum of an edge's ends

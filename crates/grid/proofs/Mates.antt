@@ -13,7 +13,8 @@ use borrow.Author.Tests.{eq-eqb, eqb-false, eqb-true, le-ltb, lt-ltb}
 use Rattle.counting.specs.Search.{count, last, some}
 use Rattle.counting.proofs.Bools.{one-le}
 use Rattle.counting.proofs.Search.{AtMostOne, count-one, count-two-of, count-zero, last-above, last-is, last-le}
-use Rattle.grid.specs.Work.{Mate, Mates, sameKey, thirdAt}
+use Rattle.grid.specs.work.Work.{Mate, Mates, thirdAt}
+use Rattle.counting.specs.work.Tables.{sameKey}
 
 pub mates-none : (keys near : List ℕ) → ((i : ℕ) → getD near i 0 ≡ 0) → Mates keys 0 near
 mates-none keys near z = record { pair = λ i h. absurd (not-suc-le-zero h); all = λ i x h. absurd (not-suc-le-zero h); rest = λ i h. z i }

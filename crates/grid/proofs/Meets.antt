@@ -5,11 +5,12 @@ use mathlib.Core.List.{List}
 use native.Mathlib.Omega.{arith}
 use lib.ListN.{getD, length, length-set, set}
 use Rattle.counting.specs.Search.{last}
-use Rattle.grid.specs.Seen.{Seen}
+use Rattle.grid.specs.work.Seen.{Seen}
 use Rattle.slots.specs.Limits.{highestNode}
-use Rattle.grid.specs.Walks.{Fresh, Numerable, entry, labelled}
+use Rattle.grid.specs.work.Walks.{Fresh, Numerable, entry, labelled}
 use Rattle.grid.proofs.Seen.{seen-more, seen-none}
-use Rattle.grid.specs.Work.{RisingCells, sameKey}
+use Rattle.grid.specs.work.Work.{RisingCells}
+use Rattle.counting.specs.work.Tables.{sameKey}
 
 -- the loops of `row_4` and `pair` have met the first j numbers
 pub record Meets (f : ℕ → ℕ) (long : ℕ) (seen : List ℕ) (j : ℕ) : Type 0 where

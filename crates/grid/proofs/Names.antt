@@ -12,8 +12,8 @@ use Rattle.counting.proofs.Bools.{and-true, bool-same}
 use Rattle.counting.proofs.Search.{count-one, first-ext, first-is, some-first, some-found, some-is}
 use Rattle.slots.specs.Slots.{contains, position, slotEdge}
 use Rattle.slots.proofs.Slots.{SlotEdge, slot-edge}
-use Rattle.grid.specs.Accepted.{EdgeNumbers}
-use Rattle.grid.specs.Grid.{Grid, SameFace, cellCount, edgeNumber, faceName, hasFace, isEdge, node, outer, sameFace}
+use Rattle.grid.specs.claims.Accepted.{EdgeNumbers, SameFace}
+use Rattle.grid.specs.Grid.{Grid, cellCount, edgeNumber, faceName, hasFace, isEdge, node, outer, sameFace}
 use Rattle.grid.proofs.Packed.{same-true, true-same}
 
 module _ (cells : List ℕ) where

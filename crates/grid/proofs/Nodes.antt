@@ -13,8 +13,9 @@ use Rattle.counting.specs.Search.{some}
 use Rattle.counting.proofs.Search.{some-found, some-is, some-blocks, some-zero, some-hit, some-miss}
 use Rattle.slots.specs.Slots.{lo, hi}
 use Rattle.slots.proofs.Slots.{two-slots}
-use Rattle.grid.specs.Grid.{Grid, highestNode, cellCount, node, hasNode, low, high}
-use Rattle.grid.specs.Accepted.{Sound}
+use Rattle.grid.specs.Grid.{Grid, cellCount, node, hasNode, low, high}
+use Rattle.slots.specs.Limits.{highestNode}
+use Rattle.grid.specs.claims.Accepted.{Sound}
 
 module _ (cells : List ℕ) where
   pub node-of : (c i v : ℕ) → c < cellCount cells → i < 4 → node cells c i ≡ v → hasNode cells v ≡ true

@@ -10,11 +10,11 @@ use Rattle.answer.specs.Answer.{isResult}
 use Rattle.counting.specs.Stored.{filled}
 use Rattle.counting.proofs.Stored.{length-filled}
 use Rattle.grid.specs.Check.{checkNumbers}
-use Rattle.grid.specs.Claims.{OpensBuilt}
+use Rattle.grid.specs.claims.Claims.{OpensBuilt}
 use Rattle.grid.specs.Grid.{Grid, built, gridOf, start}
 use Rattle.grid.specs.Opening.{openAnswer, openStarts, opened}
 use Rattle.grid.specs.Rows.{badNumbers, gridAnswer}
-use Rattle.grid.specs.Work.{Starting, answerWith}
+use Rattle.grid.specs.work.Work.{Starting, answerWith}
 use Rattle.grid.specs.declared.Checked.{Checked}
 use Rattle.grid.specs.declared.Checked.the-variants.{Crossings, Refused}
 use Rattle.grid.proofs.Answers.{verdict}

@@ -17,10 +17,13 @@ use Rattle.counting.proofs.Bools.{holds-or, or-none, or-right}
 use Rattle.counting.proofs.Search.{every-is, first-none, is-every, none-some, some-ext, some-found, some-last, some-none}
 use Rattle.slots.specs.Slots.{position}
 use Rattle.slots.proofs.Slots.{corner-lt, same-slot}
-use Rattle.grid.specs.Grid.{SameFace, cellCount, faceNode, highestNode, mostCells, node, sameFace}
+use Rattle.grid.specs.claims.Accepted.{SameFace}
+use Rattle.grid.specs.Grid.{cellCount, faceNode, node, sameFace}
+use Rattle.slots.specs.Limits.{highestNode, mostCells}
 use Rattle.grid.specs.Rows.{badCell, badLength, repeats, sameCell}
-use Rattle.grid.specs.Work.{RisingCells, join}
-use Rattle.grid.specs.Walks.{Cells, SameFrom, SameNodes, Slots, cellNumber, corner, labelled}
+use Rattle.grid.specs.work.Work.{RisingCells}
+use Rattle.grid.specs.work.Shared.{join}
+use Rattle.grid.specs.work.Walks.{Cells, SameFrom, SameNodes, Slots, cellNumber, corner, labelled}
 
 -- row 1
 pub length-odd : (cells : List ℕ) → (length cells % 4 ≡ 0 → ⊥) → badLength cells ≡ true

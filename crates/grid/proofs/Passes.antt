@@ -11,10 +11,10 @@ use lib.ListN.{getD, length, length-set, set}
 use lib.Seq.{getD-set-other, getD-set-same}
 use borrow.Author.Tests.{eq-eqb, ne-eqb}
 use Rattle.counting.specs.Search.{count, last}
-use Rattle.counting.specs.Tables.{Table}
+use Rattle.counting.specs.work.Tables.{Table}
 use Rattle.counting.proofs.Search.{count-le, last-hit, last-miss, last-none}
-use Rattle.grid.specs.Numbered.{Does, Has, Numberable, Numbered, Ready, Told, has}
-use Rattle.grid.specs.Walks.{Along, Course, Coursed, Labelling, Labels, Linkable, Linked, Passable, Passed, Walkable, Walks, labelAt, labelled}
+use Rattle.grid.specs.work.Numbered.{Does, Has, Numberable, Numbered, Ready, Told, has}
+use Rattle.grid.specs.work.Walks.{Along, Course, Coursed, Labelling, Labels, Linkable, Linked, Passable, Passed, Walkable, Walks, labelAt, labelled}
 use Rattle.grid.proofs.Turns.{does-as, does-none, does-then, ready-after, ready-one}
 
 -- the loop of `link` has put the first c cells

@@ -9,10 +9,10 @@ use native.Mathlib.Omega.{arith}
 use lib.ListN.{getD, length}
 use borrow.Author.Tests.{eq-eqb, eqb-false, eqb-true, le-ltb, lt-ltb, ne-eqb}
 use Rattle.counting.specs.Search.{last}
-use Rattle.counting.specs.Tables.{Table}
+use Rattle.counting.specs.work.Tables.{Table}
 use Rattle.counting.proofs.Search.{last-above, last-is, last-le}
-use Rattle.grid.specs.Numbered.{Does, Numberable, Ready}
-use Rattle.grid.specs.Walks.{Along, InSlots, Linked, Walkable, Walks, labelled}
+use Rattle.grid.specs.work.Numbered.{Does, Numberable, Ready}
+use Rattle.grid.specs.work.Walks.{Along, InSlots, Linked, Walkable, Walks, labelled}
 use Rattle.grid.proofs.Turns.{does-as, does-none, does-then, ready-after, ready-one}
 
 pub slot-in : (c a b s : ℕ) → a ≤ s → s < b → b ≤ 4 → InSlots c a b (4 * c + s)

@@ -9,7 +9,7 @@ use native.Mathlib.Omega.{arith}
 use lib.Dec.{eqb}
 use lib.ListN.{getD, length}
 use borrow.Author.Tests.{eq-eqb, eqb-true, ltb-true, not-false, not-true}
-use Rattle.counting.specs.Pick.{one}
+use Rattle.counting.specs.Lists.{one}
 use Rattle.counting.specs.Search.{first, last, some}
 use Rattle.counting.proofs.Below.{trichotomy}
 use Rattle.counting.proofs.Bools.{and-left, and-right, and-true, bool-same, clash, holds-or}
@@ -20,7 +20,8 @@ use Rattle.slots.specs.Slots.{contains, hi, lo, lower, edgeRank, slotEdge, uppe
 use Rattle.slots.proofs.Slots.{edge-slot, face-ends, slot-edge, slot-rank}
 use Rattle.grid.specs.Grid.{Grid, cellCount, hasEdge, hasFace, isEdge, node, sameFace}
 use Rattle.grid.specs.Rows.{reached, linked, split, unused}
-use Rattle.grid.specs.Work.{PassesAcross, Linkable, OneEach, Reached, Neighbours, RisingCells, Paired, KeySlot, Splitting, Table, listedAt, missing, rank, sameKey}
+use Rattle.grid.specs.work.Work.{PassesAcross, Linkable, OneEach, Reached, Neighbours, RisingCells, Paired, KeySlot, Splitting, listedAt, missing, rank}
+use Rattle.counting.specs.work.Tables.{Table, sameKey}
 use Rattle.counting.proofs.Tables.{top-le}
 use Rattle.grid.proofs.Marks.{single-split, top-key}
 use Rattle.grid.proofs.Laying.{joined-high, joined-low}

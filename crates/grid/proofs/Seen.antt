@@ -9,8 +9,8 @@ use lib.Seq.{getD-set-other, getD-set-same}
 use borrow.Author.Tests.{eq-eqb, ne-eqb}
 use Rattle.counting.specs.Search.{last}
 use Rattle.counting.proofs.Search.{last-hit, last-miss, last-none}
-use Rattle.grid.specs.Walks.{labelled}
-use Rattle.grid.specs.Seen.{Seen}
+use Rattle.grid.specs.work.Walks.{labelled}
+use Rattle.grid.specs.work.Seen.{Seen}
 
 pub seen-none : (f : ℕ → ℕ) (seen : List ℕ) → ((k : ℕ) → getD seen k 0 ≡ 0) → Seen f 0 seen
 seen-none f seen z = record { at = λ k h. z k ∙ sym (last-none (labelled f k)) }

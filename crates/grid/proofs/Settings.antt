@@ -14,16 +14,15 @@ use Rattle.answer.proofs.Answer.{no-nil, pick-some}
 use Rattle.counting.specs.Pick.{pick}
 use Rattle.counting.specs.Stored.{filled}
 use Rattle.counting.proofs.Bools.{clash}
-use Rattle.slots.specs.Limits.{mostCount}
-use Rattle.grid.specs.Accepted.{Accepted, EdgeIs, Linked, Sound}
+use Rattle.slots.specs.Limits.{mostCount, mostCrossings}
+use Rattle.grid.specs.claims.Accepted.{Accepted, EdgeIs, Linked, Sound}
 use Rattle.grid.specs.Check.{checkNumbers}
-use Rattle.grid.specs.Claims.{SetTold, SettingsRight}
-use Rattle.grid.specs.Grid.{Grid, built, countOf, crossings, gridOf, mostCrossings, start, startsOf}
-use Rattle.grid.specs.Opening.{openedAfresh}
-use Rattle.grid.specs.Rows.{gridAnswer, tooMany}
-use Rattle.grid.specs.Setting.{Setting, changeAnswer, setAll, setAnswer, setCounts, setGrid, setStarts}
-use Rattle.grid.specs.Tables.{accepts}
-use Rattle.grid.specs.Work.{Changeable, Changed, Starting}
+use Rattle.grid.specs.claims.Claims.{SetTold, SettingsRight, openedAfresh}
+use Rattle.grid.specs.Grid.{Grid, built, countOf, crossings, gridOf, start, startsOf}
+use Rattle.grid.specs.Rows.{gridAnswer, tooMany, accepts}
+use Rattle.grid.specs.claims.Setting.{Setting, setAll, setGrid}
+use Rattle.grid.specs.Setting.{changeAnswer, setAnswer, setCounts, setStarts}
+use Rattle.grid.specs.work.Work.{Changeable, Changed, Starting}
 use Rattle.grid.specs.declared.Checked.{Checked}
 use Rattle.grid.specs.declared.Checked.the-variants.{Crossings, Refused}
 use Rattle.grid.proofs.Accepts.{acceptance-yields, accepted-answer}

@@ -15,8 +15,10 @@ use Rattle.counting.proofs.Bools.{bool-same, holds-or, not-clash}
 use Rattle.counting.proofs.Search.{first-at, first-below, first-blocks, first-ext, first-is, first-le, first-none, last-above, last-at, last-is, last-le, none-first, some-blocks, some-ext, some-first, some-found, some-last, some-none}
 use Rattle.grid.specs.Grid.{Grid, cellCount, hasEdge, high, isEdge, low}
 use Rattle.grid.specs.Rows.{isAfter, unlisted, unused}
-use Rattle.grid.specs.Runs.{SidesPlaced}
-use Rattle.grid.specs.Work.{OneEach, Table, Usable, blankIn, edgeKey, foundAt, join, listedAt, sameKey}
+use Rattle.grid.specs.work.Runs.{SidesPlaced}
+use Rattle.grid.specs.work.Work.{OneEach, Usable, blankIn, foundAt, listedAt}
+use Rattle.counting.specs.work.Tables.{Table, sameKey}
+use Rattle.grid.specs.work.Shared.{edgeKey, join}
 use Rattle.counting.proofs.Pigeon.{pigeonhole}
 use Rattle.grid.proofs.Laying.{joined-high, joined-low}
 

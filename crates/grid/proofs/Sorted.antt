@@ -10,8 +10,7 @@ use borrow.Author.Tests.{eq-eqb, eqb-true, lt-ltb, ltb-true, ne-eqb, not-false}
 use Rattle.counting.specs.Pick.{pick}
 use Rattle.counting.proofs.Below.{climb, trichotomy}
 use Rattle.counting.proofs.Bools.{or-false, or-none}
-use Rattle.grid.specs.Accepted.{Before}
-use Rattle.grid.specs.Grid.{high, low}
+use Rattle.grid.specs.Grid.{Before, high, low}
 use Rattle.grid.specs.Rows.{badEdge, isAfter}
 
 -- earlier and later ends

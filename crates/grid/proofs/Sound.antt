@@ -14,11 +14,11 @@ use Rattle.counting.proofs.Below.{trichotomy}
 use Rattle.counting.proofs.Bools.{and-left, and-right, and-true, clash, not-clash, or-false}
 use Rattle.counting.proofs.Pigeon.{pigeonhole}
 use Rattle.counting.proofs.Search.{count-two-of, every-is, first-is, is-every, none-some, some-first, some-found, some-is, some-none, two-counted}
-use Rattle.slots.specs.Limits.{mostCount}
+use Rattle.slots.specs.Limits.{mostCount, highestNode, mostCells, mostCrossings}
 use Rattle.slots.specs.Slots.{hi, lo}
 use Rattle.slots.proofs.Slots.{edge-order, two-slots}
-use Rattle.grid.specs.Accepted.{Before, EdgeIs, EdgeNumbers, Sound}
-use Rattle.grid.specs.Grid.{Grid, SameFace, cellCount, countOf, crossings, edgeNumber, hasEdge, hasFace, high, highestNode, isEdge, joins, low, mostCells, mostCrossings, node, sameFace}
+use Rattle.grid.specs.Grid.{Before, Grid, cellCount, countOf, crossings, edgeNumber, hasEdge, hasFace, high, isEdge, joins, low, node, sameFace}
+use Rattle.grid.specs.claims.Accepted.{EdgeIs, EdgeNumbers, Sound, SameFace}
 use Rattle.grid.specs.Rows.{badCell, badCount, badEdge, badLength, badLists, repeats, sameCell, crowded, tooMany, unlisted, unused}
 use Rattle.grid.proofs.Answers.{length-fine}
 use Rattle.grid.proofs.Sorted.{before-not, before-same, clear-edge, edge-ends, same-edge, sorted-edges}

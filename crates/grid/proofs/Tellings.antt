@@ -10,14 +10,14 @@ use native.Mathlib.Numerals.{add-one}
 use native.Mathlib.Omega.{arith}
 use lib.ListN.{getD, length, set}
 use borrow.Author.Tests.{le-ltb, lt-ltb}
-use Rattle.counting.specs.Tables.{Table}
+use Rattle.counting.specs.work.Tables.{Table}
 use Rattle.counting.specs.Stored.{filled}
 use Rattle.counting.proofs.Stored.{filled-more}
 use Rattle.slots.specs.Limits.{mostCells}
 use Rattle.slots.specs.Slots.{position}
-use Rattle.grid.specs.Numbered.{Has, Told}
-use Rattle.grid.specs.Walks.{Cells, ChainTables, Comparable, Course, Coursed, Fresh, LabelChains, LowChains, Linkable, Linked, Labelling, Labels, Numerable, Pairable, Passable, Passed, SameEntry, SameFrom, SameNodes, Slots, Slotted, Tells, corner, entry, labelAt}
-use Rattle.grid.specs.Runs.{NodeChains}
+use Rattle.grid.specs.work.Numbered.{Has, Told}
+use Rattle.grid.specs.work.Walks.{Cells, ChainTables, Comparable, Course, Coursed, Fresh, LabelChains, LowChains, Linkable, Linked, Labelling, Labels, Numerable, Pairable, Passable, Passed, SameEntry, SameFrom, SameNodes, Slots, Slotted, Tells, corner, entry, labelAt}
+use Rattle.grid.specs.work.Runs.{NodeChains}
 
 pub position-below : (s r : ℕ) → r < s → position s r ≡ r
 unfolding position

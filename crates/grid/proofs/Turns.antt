@@ -10,10 +10,11 @@ use lib.Dec.{ltb}
 use lib.ListN.{getD, length, length-set, set}
 use lib.Seq.{getD-set-other, getD-set-same}
 use borrow.Author.Tests.{le-ltb, lt-ltb}
-use Rattle.counting.specs.Pick.{one, pick}
+use Rattle.counting.specs.Lists.{one}
+use Rattle.counting.specs.Pick.{pick}
 use Rattle.counting.specs.Search.{count}
 use Rattle.counting.proofs.Search.{below-or, count-ext, count-le}
-use Rattle.grid.specs.Numbered.{Does, Has, Numberable, Numbered, Ready, Told, atAfter, has, idsAfter, markOf, numberOf}
+use Rattle.grid.specs.work.Numbered.{Does, Has, Numberable, Numbered, Ready, Told, atAfter, has, idsAfter, markOf, numberOf}
 
 -- two tests that differ at i only, which the second passes
 pub count-one-more : (t u : ℕ → Bool) (i : ℕ) → t i ≡ false → u i ≡ true → ((j : ℕ) → j ≢ i → t j ≡ u j) → (N : ℕ) → i < N → count u N ≡ count t N + 1

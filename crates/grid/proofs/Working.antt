@@ -11,12 +11,13 @@ use borrow.Author.Tests.{eqb-false}
 use Rattle.counting.specs.Search.{first}
 use Rattle.counting.proofs.Tables.{zeros}
 use Rattle.counting.proofs.Search.{first-none, some-none}
-use Rattle.grid.specs.Accepted.{Before}
-use Rattle.grid.specs.Grid.{Grid, cellCount, high, highestNode, low}
+use Rattle.grid.specs.Grid.{Before, Grid, cellCount, high, low}
+use Rattle.slots.specs.Limits.{highestNode}
 use Rattle.grid.specs.Rows.{badEdge, unlisted, unused}
-use Rattle.grid.specs.Runs.{Blanked, SidesPlaceable, SidesPlaced, Tallied, Talliable}
-use Rattle.grid.specs.Walks.{ChainTables, Fresh}
-use Rattle.grid.specs.Work.{Blank, CellTables, EdgeTables, Edging, Linkable, OneEach, Siding, Table, Usable, Using, blankIn, listedAt}
+use Rattle.grid.specs.work.Runs.{Blanked, SidesPlaceable, SidesPlaced, Tallied, Talliable}
+use Rattle.grid.specs.work.Walks.{ChainTables, Fresh}
+use Rattle.grid.specs.work.Work.{Blank, CellTables, EdgeTables, Edging, Linkable, OneEach, Siding, Usable, Using, blankIn, listedAt}
+use Rattle.counting.specs.work.Tables.{Table}
 use Rattle.grid.proofs.Sides.{listed-table, placed-below, unlisted-blank}
 use Rattle.grid.proofs.Sorted.{same-edge, sorted-edges}
 

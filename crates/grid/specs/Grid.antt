@@ -1,15 +1,14 @@
 -- A grid (01): a list of cells, four nodes each; a list of edges, two nodes each; a count for each edge, and beside it its start (02, W5).
 use Prim.Native.Nat.{ℕ, _+_, _*_, _/_, _%_, _<_}
-use mathlib.Core.Path.{_≡_}
 use mathlib.Core.Bool.{Bool, _&&_}
 use mathlib.Core.List.{List}
+use mathlib.Core.Path.{_≡_}
+use mathlib.Core.Logic.{_⊎_}
 use lib.ListN.{length, getD}
 use lib.Dec.{eqb}
 use Rattle.counting.specs.Search.{first, some, every, count}
-use Rattle.counting.specs.Pack.{pre}
-use Rattle.counting.specs.Range.{values}
+use Rattle.counting.specs.Lists.{pre, values}
 use Rattle.slots.specs.Slots.{lo, hi, position, contains}
-pub use Rattle.slots.specs.Limits.{highestNode, mostCells, mostCrossings, mostSlots, mostEdges}
 
 -- the four lists: four numbers to a cell, two to an edge, one to a count, one to a start
 pub record Grid : Type 0 where
@@ -40,10 +39,6 @@ module _ (cells : List ℕ) where
   -- slot t of cell d and slot s of cell c are one face: the same three nodes. A cell's nodes increase, so they are compared in order.
   unfoldable pub sameFace : ℕ → ℕ → ℕ → ℕ → Bool
   sameFace d t c s = every (λ i. eqb (faceNode d t i) (faceNode c s i)) 3
-
-  -- the same as equations of nodes
-  abbrev pub SameFace : ℕ → ℕ → ℕ → ℕ → Type 0
-  SameFace d t c s = (i : ℕ) → i < 3 → node d (position t i) ≡ node c (position s i)
 
   -- cell d has the face at slot s of cell c
   unfoldable pub hasFace : ℕ → ℕ → ℕ → Bool
@@ -107,3 +102,7 @@ module _ (counts : List ℕ) where
 -- a grid built afresh with these counts: each start is the sum of the counts before its edge
 abbrev pub built : List ℕ → List ℕ → List ℕ → Grid
 built cells edges counts = gridOf cells edges counts (startsOf counts)
+
+-- by the lower end and then the higher
+abbrev pub Before : ℕ → ℕ → ℕ → ℕ → Type 0
+Before u v w x = (u < w) ⊎ ((u ≡ w) × (v < x))

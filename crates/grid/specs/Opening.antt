@@ -5,8 +5,7 @@ use lib.ListN.{length}
 use Rattle.counting.specs.Pick.{pick}
 use Rattle.counting.specs.Stored.{filled}
 use Rattle.grid.specs.Grid.{Grid, gridOf, start}
-use Rattle.grid.specs.Rows.{gridAnswer}
-use Rattle.grid.specs.Tables.{accepts}
+use Rattle.grid.specs.Rows.{gridAnswer, accepts}
 
 module _ (G : Grid) where
   -- the grid with its starts filled in. There are as many of them as were lent, so that row 2 minds their number alone.
@@ -20,7 +19,3 @@ module _ (G : Grid) where
   -- the lent starts afterwards: filled in, or all as they were where the call refuses
   unfoldable pub openStarts : List ℕ
   openStarts = pick (accepts opened) (opened .starts) (G .starts)
-
--- the grid of three lists after the opening call, which is lent these starts
-unfoldable pub openedAfresh : (cells edges counts starts : List ℕ) → Grid
-openedAfresh cells edges counts starts = gridOf cells edges counts (openStarts (gridOf cells edges counts starts))

@@ -4,14 +4,14 @@ use mathlib.Core.Bool.{Bool, not, _&&_, _||_}
 use mathlib.Core.List.{List, [], _∷_}
 use lib.ListN.{length, getD}
 use lib.Dec.{eqb, leb, ltb}
-use Rattle.answer.specs.Answer.{result}
+use Rattle.answer.specs.Answer.{result, isResult}
 use Rattle.answer.specs.Rows.{Row, whole, each, answerOf}
 use Rattle.counting.specs.Pick.{pick}
 use Rattle.counting.specs.Search.{first, some, every, count}
 use Rattle.counting.specs.Reach.{reach}
-use Rattle.slots.specs.Limits.{mostCount}
+use Rattle.slots.specs.Limits.{mostCount, highestNode, mostCells, mostCrossings}
 use Rattle.slots.specs.Slots.{contains}
-use Rattle.grid.specs.Grid.{Grid, highestNode, mostCells, mostCrossings, cellCount, node, hasFace, low, high, isEdge, hasEdge, countOf, start, crossings}
+use Rattle.grid.specs.Grid.{Grid, cellCount, node, hasFace, low, high, isEdge, hasEdge, countOf, start, crossings}
 
 -- 1: the list of nodes is not one of whole cells, or has no cell or more than 2,048
 unfoldable pub badLength : List ℕ → Bool
@@ -102,3 +102,7 @@ module _ (G : Grid) where
   -- the grid check's answer: the first row with a fault and its lowest place, or the number of crossings
   unfoldable pub gridAnswer : List ℕ
   gridAnswer = answerOf rows (result (crossings (G .counts) ∷ []))
+
+-- the check's answer is a result
+abbrev pub accepts : Grid → Bool
+accepts G = isResult (gridAnswer G)

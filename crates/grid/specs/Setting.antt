@@ -6,9 +6,8 @@ use lib.Dec.{leb, ltb}
 use Rattle.answer.specs.Answer.{result, refusal, isResult}
 use Rattle.counting.specs.Pick.{pick}
 use Rattle.slots.specs.Limits.{mostCount}
-use Rattle.grid.specs.Grid.{Grid, gridOf, crossings, startsOf}
-use Rattle.grid.specs.Rows.{tooMany, gridAnswer}
-use Rattle.grid.specs.Tables.{accepts}
+use Rattle.grid.specs.Grid.{Grid, crossings, startsOf}
+use Rattle.grid.specs.Rows.{tooMany, gridAnswer, accepts}
 
 -- for an accepted grid: 21, no such edge, with the edge given; 18, the count is above 4,095, with the edge; 10, with the new count there are more than
 -- 65,535 crossings; else the number of crossings with it
@@ -31,16 +30,3 @@ module _ (G : Grid) (edge count : ℕ) where
   -- the lent starts afterwards: those of the counts with the new one, or all as they were
   unfoldable pub setStarts : List ℕ
   setStarts = pick (isResult setAnswer) (startsOf (set (G .counts) edge count)) (G .starts)
-
-  -- the grid afterwards
-  unfoldable pub setGrid : Grid
-  setGrid = gridOf (G .cells) (G .edges) setCounts setStarts
-
--- a setting, and the grid after a list of them in turn, refused ones among them
-pub record Setting : Type 0 where
-  pub edge : ℕ
-  pub count : ℕ
-
-unfoldable pub setAll : List Setting → Grid → Grid
-setAll [] G = G
-setAll (s ∷ l) G = setAll l (setGrid G (s .edge) (s .count))

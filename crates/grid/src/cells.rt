@@ -2,10 +2,11 @@
 ghost use mathlib.Core.Path.{_≡_};
 ghost use Prim.Native.Nat.{_+_, _*_, _/_, _%_, _<_, _≤_};
 ghost use Rattle.counting.specs.Search.{first};
-ghost use Rattle.grid.specs.Grid.{mostCells, cellCount, node};
+ghost use Rattle.slots.specs.Limits.{mostCells};
+ghost use Rattle.grid.specs.Grid.{cellCount, node};
 ghost use Rattle.grid.specs.Rows.{badLength, badCell, repeats, crowded};
-ghost use Rattle.grid.specs.Work.{RisingCells, Pairable, Pairing, Neighbours, againAt};
-ghost use Rattle.grid.specs.Walks.{Cells, Fresh, Slots, SameFrom, SameNodes};
+ghost use Rattle.grid.specs.work.Work.{RisingCells, Pairable, Pairing, Neighbours, againAt};
+ghost use Rattle.grid.specs.work.Walks.{Cells, Fresh, Slots, SameFrom, SameNodes};
 use crate::HIGHEST_NODE;
 use crate::MOST_CELLS;
 use crate::numbering::earlier;

@@ -4,10 +4,11 @@ ghost use mathlib.Core.Logic.{_≢_};
 ghost use Prim.Native.Nat.{_-_, _*_, _/_, _<_};
 ghost use lib.ListN.{length};
 ghost use Rattle.counting.specs.Search.{first, some};
-ghost use Rattle.slots.specs.Slots.{rankIn, otherSlot, secondSlot};
+ghost use Rattle.slots.specs.claims.Slots.{rankIn, otherSlot};
+ghost use Rattle.slots.specs.Slots.{secondSlot};
 ghost use Rattle.grid.specs.Grid.{built};
 ghost use Rattle.grid.specs.Rows.{split};
-ghost use Rattle.grid.specs.Work.{OnSlot, Spreadable, Spreads, missing, Reached, Splitting, Linkable};
+ghost use Rattle.grid.specs.work.Work.{OnSlot, Spreadable, Spreads, missing, Reached, Splitting, Linkable};
 use crate::numbering::wide;
 use slots::position;
 

@@ -2,9 +2,9 @@
 ghost use mathlib.Core.Path.{_≡_};
 ghost use Prim.Native.Nat.{_*_, _+_, _/_, _<_, _≤_};
 ghost use lib.ListN.{length, getD, set};
-ghost use Rattle.grid.specs.Numbered.{Numberable, Ready, Does, numberOf, idsAfter, atAfter, markOf};
-ghost use Rattle.grid.specs.Walks.{Linked, Linkable, labelAt, InSlots, Walkable, Walks, Passable, Passed, Labelling, Labels, corner, SameFrom, SameNodes, Pairable, Slots, Cells, Slotted, LabelChains, LowChains, Numerable, Comparable, ChainTables, Fresh};
-ghost use Rattle.grid.specs.Runs.{Blanked, NodeChains};
+ghost use Rattle.grid.specs.work.Numbered.{Numberable, Ready, Does, numberOf, idsAfter, atAfter, markOf};
+ghost use Rattle.grid.specs.work.Walks.{Linked, Linkable, labelAt, InSlots, Walkable, Walks, Passable, Passed, Labelling, Labels, corner, SameFrom, SameNodes, Pairable, Slots, Cells, Slotted, LabelChains, LowChains, Numerable, Comparable, ChainTables, Fresh};
+ghost use Rattle.grid.specs.work.Runs.{Blanked, NodeChains};
 ghost use Rattle.counting.specs.Stored.{filled};
 
 pub(crate) fn wide(x: u16) -> usize

@@ -3,7 +3,7 @@ ghost use mathlib.Core.Path.{_≡_};
 ghost use Prim.Native.Nat.{_+_, _*_, _<_, _≤_};
 ghost use lib.ListN.{getD, set};
 ghost use Rattle.grid.specs.Grid.{cellCount};
-ghost use Rattle.grid.specs.Runs.{Fillable, RunFilled, Clearable, Blanked, Lays, InCell, FromNode, SidesPuttable, SidesWalkable, SidesWalked, Turnable, SidesPlaceable, SidesPlaced};
+ghost use Rattle.grid.specs.work.Runs.{Fillable, RunFilled, Clearable, Blanked, Lays, InCell, FromNode, SidesPuttable, SidesWalkable, SidesWalked, Turnable, SidesPlaceable, SidesPlaced};
 use crate::HIGHEST_NODE;
 use crate::cells::node_at;
 use crate::numbering::wide;

@@ -5,7 +5,7 @@ ghost use Prim.Native.Nat.{_/_, min};
 ghost use lib.ListN.{length};
 ghost use Rattle.counting.specs.Search.{first};
 ghost use Rattle.counting.specs.Stored.{filled};
-ghost use Rattle.grid.specs.Shared.{earlierAt, keyRoom, keyless, placedAt};
+ghost use Rattle.grid.specs.work.Shared.{earlierAt, keyRoom, keyless, placedAt};
 
 // For each key, up to the end of either list and no more than 12,288: one more than the last place before it with the same key, or 0.
 // Keeps 64 KB on the stack.

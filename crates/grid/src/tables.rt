@@ -4,7 +4,7 @@ ghost use Prim.Native.Nat.{_-_, _≤_};
 ghost use lib.ListN.{length, getD};
 ghost use Rattle.counting.specs.Stored.{filled};
 ghost use Rattle.grid.specs.Grid.{start};
-ghost use Rattle.grid.specs.Work.{Copying, Lowering, Starting, lowerPlace};
+ghost use Rattle.grid.specs.work.Work.{Copying, Lowering, Starting, lowerPlace};
 use crate::numbering::wide;
 use crate::size;
 

@@ -8,41 +8,42 @@ use lib.ListN.{length, getD, length-map}
 use lib.Dec.{ltb}
 use borrow.Author.Tests.{lt-ltb, le-ltb, ltb-true, ltb-false}
 use Rattle.answer.specs.Answer.{result, refusal, refused}
-use Rattle.answer.specs.Rows.{orRefuse}
-use Rattle.answer.specs.Faults.{Clear}
+use Rattle.answer.specs.Rows.{orRefuse, Clear}
 use Rattle.counting.specs.Pick.{pick}
 use Rattle.counting.specs.Search.{first, some}
-use Rattle.counting.specs.Range.{over}
-use Rattle.counting.specs.Stored.{storedIn, Stored}
+use Rattle.counting.specs.Lists.{over}
+use Rattle.counting.specs.Stored.{storedIn}
+use Rattle.counting.specs.work.Stored.{Stored}
 use Rattle.counting.proofs.Search.{first-is, first-none, some-found, none-some}
 use Rattle.counting.proofs.Lists.{gather-over}
 use Rattle.counting.proofs.Stored.{stored-as, stored-fits, stored-not, stored-room}
 use Rattle.cell.specs.Words.{wordCount, words, allWords}
 use Rattle.cell.proofs.Storing.{length-all}
-use Rattle.grid.specs.Grid.{Grid, cellCount, mostSlots, mostEdges}
+use Rattle.grid.specs.Grid.{Grid, cellCount}
+use Rattle.slots.specs.Limits.{mostSlots}
+use Rattle.slots.specs.work.Limits.{mostEdges}
 use Rattle.grid.specs.declared.Checked.{Checked}
 use Rattle.grid.specs.declared.Checked.the-variants.{Crossings, Refused}
 use Rattle.grid.specs.Check.{checkNumbers}
-use Rattle.grid.specs.Rows.{gridAnswer}
-use Rattle.grid.specs.Tables.{accepts, Laid}
+use Rattle.grid.specs.Rows.{gridAnswer, accepts}
+use Rattle.grid.specs.work.Tables.{Laid}
 use Rattle.grid.proofs.Filled.{refused-keeps, told-accepts, told-sound}
 use Rattle.cell.specs.Renaming.{renamed}
-use Rattle.cell.specs.Table.{drawnCells}
+use Rattle.cell.specs.claims.Table.{drawnCells}
 use Rattle.booking.proofs.Totals.{all-few}
-use Rattle.split.specs.Table.{mostDrawn, tableDrawn, tableSplits}
-use Rattle.split.specs.Gains.{AreSums}
+use Rattle.split.specs.work.Table.{mostDrawn, tableDrawn, tableSplits}
+use Rattle.split.specs.work.Gains.{AreSums}
 use Rattle.split.proofs.Tables.{drawn-long}
 use Rattle.mesh.specs.Mesh.{meshSplits}
 use Rattle.mesh.specs.Room.{roomAnswer}
 use Rattle.mesh.proofs.Rooms.{answer-short, answer-fits}
 use Rattle.mesh.proofs.Tables as mesh
 use Rattle.mesh.proofs.Demand.{demand3}
-use Rattle.layers.specs.Renaming.{keepInner}
-use Rattle.layers.specs.Runs.{runGrid, intoWhole, runTriangles, runRenamed}
+use Rattle.layers.specs.Runs.{keepInner, runGrid, intoWhole, runTriangles, runRenamed}
 use Rattle.layers.specs.Cuts.{runCount, runStart, runSize, badCut, cutRow, runMesh, runSplits, joinedMesh, joinedSplits}
 use Rattle.layers.specs.Answer.{cutsAccepted, cutsAnswer, runAnswer, runArea, joinedAnswer, joinedArea}
 use Rattle.layers.specs.Done.{RunDone, JoinedDone}
-use Rattle.layers.specs.Work.{RunOfCuts, Tables, lackingIn, RunOf, RunDrawn, JoinableRun, Joinable}
+use Rattle.layers.specs.work.Work.{RunOfCuts, Tables, lackingIn, RunOf, RunDrawn, JoinableRun, Joinable}
 use Rattle.layers.proofs.Laying.{tabled}
 use Rattle.layers.proofs.Joined.{cutsCut, few-cuts, joined-triangles, joined-splits, joinedIsMesh}
 

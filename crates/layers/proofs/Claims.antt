@@ -12,14 +12,13 @@ use Rattle.counting.specs.Search.{first}
 use Rattle.cell.specs.declared.Triangle.{Triangle}
 use Rattle.cell.specs.Words.{wordCount}
 use Rattle.grid.specs.Grid.{Grid, cellCount}
-use Rattle.grid.specs.Rows.{gridAnswer}
-use Rattle.grid.specs.Tables.{accepts}
+use Rattle.grid.specs.Rows.{gridAnswer, accepts}
 use Rattle.grid.proofs.Claims.{never-empty}
 use Rattle.mesh.specs.Room.{roomAnswer}
 use Rattle.mesh.proofs.Claims.{mesh-tells}
 use Rattle.layers.specs.Cuts.{runCount, badCut, cutRow, runMesh, runSplits, joinedMesh, joinedSplits}
 use Rattle.layers.specs.Answer.{cutsAnswer, runAnswer, joinedAnswer}
-use Rattle.layers.specs.Claims.{RunTold, JoinedTold}
+use Rattle.layers.specs.claims.Claims.{RunTold, JoinedTold}
 
 -- there is always an answer
 room-some : (mesh : List Triangle) (splits room : ℕ) → [] ≡ roomAnswer mesh splits room → ⊥

@@ -1,16 +1,16 @@
 -- The examples, by computation.
 use mathlib.Core.Path.{refl}
-use Rattle.counting.specs.Search.{seek, first, last, some, every, count, rise}
-use Rattle.counting.specs.Range.{total, over, kept}
-use Rattle.counting.specs.Lists.{tally, gather}
-use Rattle.counting.specs.Pack.{pre, row, col}
+use Rattle.counting.specs.Lists.{seek, total, over, kept, tally, gather, pre, it}
+use Rattle.counting.specs.Search.{first, last, some, every, count}
+use Rattle.counting.specs.claims.Lists.{rise}
+use Rattle.counting.specs.Pack.{row, col}
 use Rattle.counting.specs.Reach.{reach}
 use Rattle.counting.specs.Gcd.{divides, gcd}
 use Rattle.counting.specs.Stored.{storedIn}
 use Rattle.slots.specs.Slots as slots
 use Rattle.face.specs.Face as face
-use Rattle.face.specs.Level.{isLevel}
-use Rattle.walk.specs.Iterate.{it, orbit}
+use Rattle.face.specs.Face.{isLevel}
+use Rattle.walk.specs.Walk.{orbit}
 use Rattle.walk.specs.Step as step
 use Rattle.walk.specs.Walk as walk
 use Rattle.cell.specs.Cell as cell
@@ -24,17 +24,16 @@ use Rattle.booking.specs.Figures.{areSpiral, areSplit, figureIn, figure}
 use Rattle.split.specs.Labels.{remainsTo, labelled, label, spoke}
 use Rattle.split.specs.SubCell.{restStart, armStart, innerName, subAt, sub}
 use Rattle.split.specs.Parts.{parts, allParts, ownCorners, drawnParts, drawnTriangles, splitsOf}
-use Rattle.split.specs.Examples.{of, loneCell, oneSplit}
+use Rattle.split.specs.examples.Examples.{of, loneCell, oneSplit}
 use Rattle.grid.specs.Grid.{faceNode, sameFace, hasFace, faceName, joins, isEdge, hasEdge, edgeNumber, start, startsOf}
 use Rattle.answer.specs.Rows as rows
 use Rattle.grid.specs.Rows.{badLength, badNumbers, badStart, badLists, badCell, sameCell, repeats, crowded, isAfter, badEdge, badCount, unlisted, unused, linked, reached, split, tooMany, rows, gridAnswer}
 use Rattle.mesh.specs.Mesh.{gridCell, meshTriangles, meshSplits}
 use Rattle.mesh.specs.Room.{roomAnswer}
-use Rattle.layers.specs.Renaming.{keepInner}
-use Rattle.layers.specs.Runs.{inRun, runNumbers, runEdges, runCounts, crossingInWhole, faceInWhole, intoWhole, runTriangles, runRenamed}
+use Rattle.layers.specs.Runs.{keepInner, inRun, runNumbers, runEdges, runCounts, crossingInWhole, faceInWhole, intoWhole, runTriangles, runRenamed}
 use Rattle.layers.specs.Cuts.{badCut, runMesh, runSplits, joinedMesh, joinedSplits}
 use Rattle.layers.specs.Answer.{cutsAccepted, cutsAnswer, runAnswer, runArea, joinedAnswer, joinedArea}
-use Rattle.layers.specs.Examples.{computed, examples, ExamplesHold, SplitRun}
+use Rattle.layers.specs.examples.Examples.{computed, examples, ExamplesHold, SplitRun}
 
 pub examples-hold : ExamplesHold
 unfolding seek first last some every count rise total over kept tally gather pre row col reach divides gcd storedIn

@@ -9,14 +9,13 @@ use lib.Dec.{ltb}
 use lib.ListN.{length, getD, List·getD-append}
 use lib.Seq.{getD-append-seam}
 use borrow.Author.Tests.{le-ltb, lt-ltb, ltb-true, not-false}
-use Rattle.answer.specs.Rows.{Row, whole, orRefuse}
+use Rattle.answer.specs.Rows.{Row, whole, orRefuse, Clear}
 use Rattle.answer.specs.Answer.{isResult}
-use Rattle.answer.specs.Faults.{Clear}
 use Rattle.counting.specs.Pick.{pick}
 use Rattle.counting.specs.Search.{some}
-use Rattle.counting.specs.Range.{total, over}
+use Rattle.counting.specs.Lists.{total, over, gather}
 use Rattle.counting.specs.Stored.{storedIn}
-use Rattle.counting.specs.Lists.{All, gather}
+use Rattle.counting.specs.claims.Lists.{All}
 use Rattle.counting.proofs.Bools.{or-none}
 use Rattle.counting.proofs.Fronts.{over-shift, over-parts}
 use Rattle.counting.proofs.Lists.{all-at, map-over, values-at, values-ext}
@@ -27,15 +26,15 @@ use Rattle.cell.specs.declared.Cell.{Cell}
 use Rattle.cell.specs.declared.Triangle.{Triangle}
 use Rattle.cell.specs.Of as of
 use Rattle.cell.specs.Words.{words, allWords}
-use Rattle.cell.specs.Renaming.{Renaming, RenamedCell, renamed}
+use Rattle.cell.specs.Renaming.{Renaming, renamed}
+use Rattle.cell.specs.claims.Renaming.{RenamedCell}
 use Rattle.slots.specs.Limits.{mostCount}
 use Rattle.booking.specs.Figures.{splits}
 use Rattle.booking.specs.Booking.{larger, smaller, isSplit}
 use Rattle.split.specs.Parts.{drawnTriangles, splitsOf}
 use Rattle.grid.specs.Grid.{Grid, cellCount, countOf, start, crossings, edgeNumber}
-use Rattle.grid.specs.Rows.{rows, gridAnswer}
-use Rattle.grid.specs.Tables.{accepts}
-use Rattle.grid.specs.Accepted.{Sound}
+use Rattle.grid.specs.Rows.{rows, gridAnswer, accepts}
+use Rattle.grid.specs.claims.Accepted.{Sound}
 use Rattle.grid.proofs.Accepts.{acceptance-yields}
 use Rattle.grid.proofs.Names.{name-lt}
 use Rattle.grid.proofs.Sound.{edge-numbers, faultless}
@@ -43,12 +42,13 @@ use Rattle.mesh.specs.Mesh.{gridCell, meshTriangles, meshSplits, meshWords}
 use Rattle.mesh.specs.Answer.{meshAnswer, meshArea}
 use Rattle.mesh.specs.Room.{roomAnswer}
 use Rattle.mesh.proofs.Complex.{start-of, name-of}
-use Rattle.layers.specs.Renaming.{keepInner, OuterNames}
-use Rattle.layers.specs.Runs.{runCounts, runGrid, intoWhole, crossingInWhole, faceInWhole, runTriangles, runRenamed}
+use Rattle.layers.specs.Runs.{keepInner, runCounts, runGrid, intoWhole, crossingInWhole, faceInWhole, runTriangles, runRenamed}
+use Rattle.layers.specs.claims.Renaming.{OuterNames}
 use Rattle.layers.specs.Cuts.{cutAt, runCount, runStart, runSize, badCut, cutRow, runMesh, runSplits, joinedMesh, joinedSplits}
-use Rattle.layers.specs.Words.{renamedWords, Named}
+use Rattle.layers.specs.claims.Words.{renamedWords, Named}
 use Rattle.layers.specs.Answer.{cutsAccepted, cutsAnswer, runAnswer, runArea, joinedAnswer, joinedArea}
-use Rattle.layers.specs.Claims.{RunWithin, RunClear, RunsRenamed, CutLaws, CutsCut, JoinedIsMesh, RunsMeshed}
+use Rattle.layers.specs.claims.Claims.{RunWithin, RunClear, RunsRenamed, CutLaws, CutsCut, RunsMeshed}
+use Rattle.layers.specs.Joined.{JoinedIsMesh}
 use Rattle.layers.proofs.Parts.{drawnRenamed}
 use Rattle.layers.proofs.Worded.{wordsRenamed}
 use Rattle.layers.proofs.Named.{drawnNamed}

@@ -5,17 +5,17 @@ use mathlib.Core.List.{List}
 use native.Mathlib.Omega.{arith}
 use lib.ListN.{length, getD, take, drop, length-map}
 use lib.Seq.{sets, length-sets}
-use Rattle.counting.specs.Stored.{storedIn, Stored}
+use Rattle.counting.specs.Stored.{storedIn}
+use Rattle.counting.specs.work.Stored.{Stored}
 use Rattle.counting.proofs.Stored.{stored-room}
 use Rattle.counting.proofs.Stores.{getD-sets-in, sets-again}
 use Rattle.cell.specs.Renaming.{Renaming, renamed}
 use Rattle.cell.specs.Words.{wordCount, allWords}
 use Rattle.cell.proofs.Storing.{length-all}
 use Rattle.grid.specs.Grid.{Grid}
-use Rattle.split.specs.Table.{tableDrawn}
-use Rattle.layers.specs.Renaming.{keepInner}
-use Rattle.layers.specs.Runs.{intoWhole, crossingInWhole, runTriangles, runRenamed}
-use Rattle.layers.specs.Work.{RunLaid, CrossingsNumbered, trianglesOver, tableNames, tableOver, JoinableRun}
+use Rattle.split.specs.work.Table.{tableDrawn}
+use Rattle.layers.specs.Runs.{keepInner, intoWhole, crossingInWhole, runTriangles, runRenamed}
+use Rattle.layers.specs.work.Work.{RunLaid, CrossingsNumbered, trianglesOver, tableNames, tableOver, JoinableRun}
 use Rattle.layers.proofs.Laying.{table-renamed, part-triangles}
 use Rattle.layers.proofs.Over.{list-over, run-over}
 

@@ -10,7 +10,7 @@ use lib.ListN.{length, getD, take, drop, replicate, length-replicate, getD-repli
 use borrow.Author.Tests.{eq-eqb, eqb-true}
 use Rattle.counting.specs.Pick.{pick}
 use Rattle.counting.specs.Search.{some}
-use Rattle.counting.specs.Pack.{pre}
+use Rattle.counting.specs.Lists.{pre}
 use Rattle.counting.proofs.Bools.{bool-same}
 use Rattle.counting.proofs.Search.{some-ext, some-blocks, some-found}
 use Rattle.counting.proofs.Range.{total-ext, over-ext}
@@ -19,21 +19,22 @@ use Rattle.cell.specs.declared.Cell.{Cell}
 use Rattle.cell.specs.Of as of
 use Rattle.cell.specs.Words.{allWords}
 use Rattle.counting.specs.Stored.{storedIn}
-use Rattle.cell.specs.Renaming.{RenamedCell}
-use Rattle.cell.specs.Table.{tableCell, drawnCells}
-use Rattle.grid.specs.Grid.{Grid, cellCount, mostCells, mostSlots, faceName, edgeNumber, isEdge, hasEdge, countOf, start}
-use Rattle.grid.specs.Accepted.{EdgeNumbers}
+use Rattle.cell.specs.claims.Renaming.{RenamedCell}
+use Rattle.cell.specs.claims.Table.{tableCell, drawnCells}
+use Rattle.grid.specs.Grid.{Grid, cellCount, faceName, edgeNumber, isEdge, hasEdge, countOf, start}
+use Rattle.slots.specs.Limits.{mostCells, mostSlots}
+use Rattle.grid.specs.claims.Accepted.{EdgeNumbers}
 use Rattle.grid.proofs.Names.{name-lt}
 use Rattle.grid.proofs.Sound.{edge-true, true-edge, edge-numbers}
 use Rattle.split.specs.Parts.{drawnTriangles, splitsOf}
-use Rattle.split.specs.Table.{mostDrawn, tableDrawn, tableSplits}
+use Rattle.split.specs.work.Table.{mostDrawn, tableDrawn, tableSplits}
 use Rattle.mesh.specs.Mesh.{gridCell, meshTriangles, meshSplits}
 use Rattle.mesh.proofs.Tables.{Tabled}
 use Rattle.mesh.proofs.Complex.{start-of, name-of}
-use Rattle.layers.specs.Runs.{inRun, ownStart, ownName, runCells, runCounts, runGrid, crossingInWhole, faceInWhole, intoWhole, runTriangles}
-use Rattle.layers.specs.Tables.{RunTabled}
-use Rattle.layers.specs.Claims.{RunWithin}
-use Rattle.layers.specs.Work.{sideFrom, usedBy, Layable, RunLaid, ownAt, sideCount, mostNumbers, Leading, CrossingsNumbered, tableNames, Tables, RunOf, RunDrawn}
+use Rattle.layers.specs.Runs.{inRun, runCells, runCounts, runGrid, crossingInWhole, faceInWhole, intoWhole, runTriangles}
+use Rattle.layers.specs.claims.Claims.{ownStart, ownName, RunWithin}
+use Rattle.layers.specs.claims.Tables.{RunTabled}
+use Rattle.layers.specs.work.Work.{sideFrom, usedBy, Layable, RunLaid, ownAt, sideCount, mostNumbers, Leading, CrossingsNumbered, tableNames, Tables, RunOf, RunDrawn}
 use Rattle.layers.proofs.Runs.{run-count, run-sound, crossing-at, number-lt, number-at}
 use Rattle.layers.proofs.Own.{runsOwn}
 use Rattle.layers.proofs.RunTables.{runsTabled}

@@ -7,8 +7,8 @@ use native.Mathlib.Omega.{arith}
 use lib.Dec.{eqb, ltb}
 use lib.ListN.{getD}
 use Rattle.counting.specs.Pick.{pick}
-use Rattle.counting.specs.Range.{over}
-use Rattle.counting.specs.Lists.{All, gather}
+use Rattle.counting.specs.Lists.{over, gather}
+use Rattle.counting.specs.claims.Lists.{All}
 use Rattle.counting.proofs.Lists.{all-append, all-over}
 use Rattle.counting.proofs.Search.{first-le}
 use Rattle.slots.specs.Limits.{mostCount}
@@ -33,7 +33,7 @@ use Rattle.split.specs.Parts.{Part, whole, corners, splitsWithin, parts, allPar
 use Rattle.split.proofs.Parts.{in-order, stop, more, drawn-whole, drawn-all}
 use Rattle.split.proofs.Owners.{drawn-gathered}
 use Rattle.mesh.specs.Mesh.{gridCell}
-use Rattle.layers.specs.Words.{FaceNamed, Named, DrawnNamed}
+use Rattle.layers.specs.claims.Words.{FaceNamed, Named, DrawnNamed}
 use Rattle.layers.proofs.Parts.{last}
 
 -- all face names of the cell are below that word

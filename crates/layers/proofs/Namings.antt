@@ -10,15 +10,15 @@ use native.Mathlib.Decide.{decLt}
 use lib.ListN.{length, getD}
 use lib.Seq.{sets}
 use borrow.Author.Tests.{eq-eqb, ne-eqb, lt-ltb, le-ltb}
-use Rattle.counting.specs.Range.{over, values}
-use Rattle.counting.specs.Stored.{Stored}
+use Rattle.counting.specs.Lists.{over, values}
+use Rattle.counting.specs.work.Stored.{Stored}
 use Rattle.counting.proofs.Lists.{length-singles, values-at}
 use Rattle.counting.proofs.Fronts.{length-blocks}
 use Rattle.counting.proofs.Stored.{stored-more}
 use Rattle.counting.proofs.Stores.{getD-sets-in, getD-sets-out}
 use Rattle.cell.specs.Renaming.{Renaming}
 use Rattle.cell.specs.Words.{wordCount, noName}
-use Rattle.layers.specs.Work.{sideFrom, ownAt, sideCount, mostNumbers, Leading, CrossingsNumbered, wordOver, wordBefore, triangleOver, trianglesOver}
+use Rattle.layers.specs.work.Work.{sideFrom, ownAt, sideCount, mostNumbers, Leading, CrossingsNumbered, wordOver, wordBefore, triangleOver, trianglesOver}
 use Rattle.layers.proofs.Over.{over-there}
 
 -- CROSSINGS

@@ -6,24 +6,23 @@ use native.Mathlib.Nat.{zero-add}
 use native.Mathlib.Omega.{arith}
 use lib.ListN.{length, getD, List·getD-append}
 use lib.Seq.{getD-append-add}
-use Rattle.counting.specs.Range.{over}
-use Rattle.counting.specs.Lists.{gather}
+use Rattle.counting.specs.Lists.{over, gather}
 use Rattle.counting.proofs.Fronts.{over-shift}
 use Rattle.counting.proofs.Lists.{values-ext, gather-over}
 use Rattle.counting.proofs.Range.{over-ext}
 use Rattle.grid.specs.Grid.{Grid, cellCount}
-use Rattle.grid.specs.Accepted.{Sound}
+use Rattle.grid.specs.claims.Accepted.{Sound}
 use Rattle.cell.specs.declared.Triangle.{Triangle}
-use Rattle.cell.specs.Renaming.{Renaming, RenamedCell}
+use Rattle.cell.specs.Renaming.{Renaming}
+use Rattle.cell.specs.claims.Renaming.{RenamedCell}
 use Rattle.cell.specs.Words.{wordCount, words, allWords}
 use Rattle.cell.proofs.Storing.{length-words}
 use Rattle.split.specs.Parts.{drawnTriangles}
 use Rattle.mesh.specs.Mesh.{gridCell, meshTriangles}
-use Rattle.layers.specs.Renaming.{keepInner}
-use Rattle.layers.specs.Runs.{runGrid, runTriangles, runRenamed}
-use Rattle.layers.specs.Words.{renamedWords}
-use Rattle.layers.specs.Claims.{RunWithin}
-use Rattle.layers.specs.Work.{wordOver, wordBefore, triangleOver, trianglesOver}
+use Rattle.layers.specs.Runs.{keepInner, runGrid, runTriangles, runRenamed}
+use Rattle.layers.specs.claims.Words.{renamedWords}
+use Rattle.layers.specs.claims.Claims.{RunWithin}
+use Rattle.layers.specs.work.Work.{wordOver, wordBefore, triangleOver, trianglesOver}
 use Rattle.layers.proofs.Runs.{run-count}
 use Rattle.layers.proofs.Joined.{runsRenamed, words-over}
 

@@ -10,19 +10,18 @@ use lib.ListN.{length, getD}
 use borrow.Author.Tests.{leb-true, leb-false}
 use Rattle.counting.specs.Pick.{pick}
 use Rattle.counting.specs.Search.{first}
-use Rattle.counting.specs.Range.{total, kept}
-use Rattle.counting.specs.Pack.{pre}
+use Rattle.counting.specs.Lists.{total, kept, pre}
 use Rattle.counting.proofs.Bools.{clash, not-clash}
 use Rattle.counting.proofs.Kept.{kept-total}
 use Rattle.counting.proofs.Range.{total-ext}
 use Rattle.counting.proofs.Search.{first-at, first-below}
-use Rattle.grid.specs.Grid.{Grid, cellCount, SameFace, sameFace, faceName, edgeNumber, countOf, start}
-use Rattle.grid.specs.Accepted.{Sound}
+use Rattle.grid.specs.Grid.{Grid, cellCount, sameFace, faceName, edgeNumber, countOf, start}
+use Rattle.grid.specs.claims.Accepted.{SameFace, Sound}
 use Rattle.grid.proofs.Accepts.{ordered}
 use Rattle.grid.proofs.Names.{name-lt, named}
 use Rattle.grid.proofs.Packed.{same-true, true-same, one-slot}
-use Rattle.layers.specs.Runs.{runCells, runCounts, runGrid, inRun, runNumbers, inWhole, ownStart, ownName}
-use Rattle.layers.specs.Claims.{RunWithin, RunsOwn}
+use Rattle.layers.specs.Runs.{runCells, runCounts, runGrid, inRun, runNumbers, inWhole}
+use Rattle.layers.specs.claims.Claims.{ownStart, ownName, RunWithin, RunsOwn}
 use Rattle.layers.proofs.Runs.{many-counts, count-at, run-count, below, face-there, face-here, number-lt, number-at}
 
 -- the start of the run's edge e is the sum over the run's edges before it in the whole

@@ -6,8 +6,7 @@ use mathlib.Core.List.{List, [], _∷_, _++_, map, map-append}
 use native.Mathlib.Omega.{arith}
 use lib.Dec.{eqb}
 use Rattle.counting.specs.Pick.{pick}
-use Rattle.counting.specs.Range.{over}
-use Rattle.counting.specs.Lists.{gather}
+use Rattle.counting.specs.Lists.{over, gather}
 use Rattle.counting.proofs.Bools.{and-left}
 use Rattle.counting.proofs.Lists.{gather-over}
 use Rattle.counting.proofs.Range.{over-ext}
@@ -22,7 +21,8 @@ use Rattle.cell.specs.Of.{countOf, edgesOf}
 use Rattle.cell.specs.Level.{isLevelCell}
 use Rattle.cell.specs.Loop.{loopSize, normal}
 use Rattle.cell.specs.Triangles.{triangle, numberOf, segmentOf, point, segment, loopTriangles, cellTriangles, askedTriangles, trianglesWith}
-use Rattle.cell.specs.Renaming.{Renaming, RenamedCell, renamedSide, renamed}
+use Rattle.cell.specs.Renaming.{Renaming, renamedSide, renamed}
+use Rattle.cell.specs.claims.Renaming.{RenamedCell}
 use Rattle.cell.proofs.Renaming.{cells-renamed}
 use Rattle.booking.specs.Booking.{larger, smaller, isSpiral, isSplit}
 use Rattle.split.specs.Limits.{firstInnerCrossing, firstInnerFace, wordStep}
@@ -32,7 +32,8 @@ use Rattle.split.proofs.Labels.{spiral-is}
 use Rattle.split.proofs.SubNumbers.{subCells}
 use Rattle.split.proofs.Parts.{stop, more, drawn-whole, drawn-all}
 use Rattle.split.proofs.Owners.{drawn-gathered}
-use Rattle.layers.specs.Renaming.{keepInner, OuterNames, RenamedPart, RenamedParts, PartsRenamed, DrawnRenamed}
+use Rattle.layers.specs.Runs.{keepInner}
+use Rattle.layers.specs.claims.Renaming.{OuterNames, RenamedPart, RenamedParts, PartsRenamed, DrawnRenamed}
 use Rattle.layers.proofs.Renaming.{Below, outer-cell, sub-below, sub-renamed}
 
 renamed-append : (r : Renaming) (l m l′ m′ : List Part) → RenamedParts r l m → RenamedParts r l′ m′ → RenamedParts r (l ++ l′) (m ++ m′)

@@ -8,8 +8,7 @@ use native.Mathlib.Omega.{arith}
 use lib.ListN.{getD}
 use borrow.Author.Tests.{lt-ltb, le-ltb}
 use Rattle.counting.specs.Pick.{pick}
-use Rattle.counting.specs.Range.{total}
-use Rattle.counting.specs.Pack.{pre}
+use Rattle.counting.specs.Lists.{total, pre}
 use Rattle.counting.proofs.Below.{below-three, below-four, below-six}
 use Rattle.counting.proofs.Pack.{pack-lt}
 use Rattle.slots.specs.Slots.{lo, position, slotEdge}
@@ -17,7 +16,8 @@ use Rattle.slots.proofs.Slots.{slot-edge, corner-lt}
 use Rattle.cell.specs.declared.Cell.{Cell}
 use Rattle.cell.specs.Of.{countOf, startOf}
 use Rattle.cell.specs.Level.{isLevelCell}
-use Rattle.cell.specs.Renaming.{Renaming, RenamedCell}
+use Rattle.cell.specs.Renaming.{Renaming}
+use Rattle.cell.specs.claims.Renaming.{RenamedCell}
 use Rattle.booking.specs.Booking.{leastCorner, larger, smaller}
 use Rattle.split.specs.Limits.{firstInnerCrossing, firstInnerFace, wordStep}
 use Rattle.split.specs.Labels.{labelled, label, spoke}
@@ -25,7 +25,8 @@ use Rattle.split.specs.SubCell.{restStart, armStart, innerName, subAt, sub}
 use Rattle.split.proofs.Labels.{labelled-lt, at-label}
 use Rattle.split.proofs.Rest.{rest-sum}
 use Rattle.split.proofs.SubCells.{sub-omits}
-use Rattle.layers.specs.Renaming.{keepInner, OuterNames}
+use Rattle.layers.specs.Runs.{keepInner}
+use Rattle.layers.specs.claims.Renaming.{OuterNames}
 
 -- what stays and what goes over
 module _ (r : Renaming) where

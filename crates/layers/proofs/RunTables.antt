@@ -4,17 +4,17 @@ use mathlib.Core.Path.{_≡_, sym, ap, ap₂, _∙_}
 use mathlib.Core.List.{List}
 use native.Mathlib.Omega.{arith}
 use lib.ListN.{length, getD}
-use Rattle.counting.specs.Range.{values}
+use Rattle.counting.specs.Lists.{values}
 use Rattle.counting.proofs.Lists.{values-ext}
 use Rattle.counting.proofs.Pack.{pre-le}
-use Rattle.cell.specs.Limits.{shortLimit}
-use Rattle.cell.specs.Table.{side, tableCounts, tableStarts, ofFour, tableCell}
-use Rattle.grid.specs.Grid.{Grid, mostCells, faceName, edgeNumber, countOf, start}
-use Rattle.grid.specs.Accepted.{Sound}
+use Rattle.cell.specs.claims.Table.{shortLimit, side, tableCounts, tableStarts, ofFour, tableCell}
+use Rattle.grid.specs.Grid.{Grid, faceName, edgeNumber, countOf, start}
+use Rattle.slots.specs.Limits.{mostCells}
+use Rattle.grid.specs.claims.Accepted.{Sound}
 use Rattle.mesh.specs.Mesh.{gridCell}
 use Rattle.layers.specs.Runs.{runCells, runCounts, runGrid}
-use Rattle.layers.specs.Claims.{RunWithin}
-use Rattle.layers.specs.Tables.{RunTabled, RunsTabled}
+use Rattle.layers.specs.claims.Claims.{RunWithin}
+use Rattle.layers.specs.claims.Tables.{RunTabled, RunsTabled}
 use Rattle.layers.proofs.Runs.{run-sound, number-lt}
 use Rattle.layers.proofs.Own.{runsOwn}
 

@@ -15,13 +15,13 @@ use Rattle.counting.proofs.Pack.{row-lt, col-lt, row-pack, col-pack, pack-lt, p
 use Rattle.counting.proofs.Search.{some-found, some-is}
 use Rattle.slots.specs.Slots.{lo, hi, position}
 use Rattle.slots.proofs.Slots.{two-slots, corner-lt}
-use Rattle.grid.specs.Grid.{Grid, cellCount, node, SameFace, faceName, low, high, isEdge, hasEdge, edgeNumber, countOf, start, startsOf, crossings}
-use Rattle.grid.specs.Accepted.{EdgeIs, Sound}
+use Rattle.grid.specs.Grid.{Grid, cellCount, node, faceName, low, high, isEdge, hasEdge, edgeNumber, countOf, start, startsOf, crossings}
+use Rattle.grid.specs.claims.Accepted.{SameFace, EdgeIs, Sound}
 use Rattle.grid.proofs.Names.{name-lt, named, named-same, same-named}
 use Rattle.grid.proofs.Sound.{edge-true, true-edge, edge-numbers}
 use Rattle.mesh.proofs.Complex.{start-le}
 use Rattle.layers.specs.Runs.{runCells, inRun, runNumbers, inWhole, runEdges, runCounts, runGrid, crossingInWhole, faceInWhole}
-use Rattle.layers.specs.Claims.{RunWithin, NamesLaws, RunSound, NamesKept}
+use Rattle.layers.specs.claims.Claims.{RunWithin, NamesLaws, RunSound, NamesKept}
 
 module _ (G : Grid) (from size : ℕ) where
   abbrev rc : List ℕ

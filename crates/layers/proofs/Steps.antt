@@ -14,8 +14,7 @@ use lib.Seq.{sets, length-sets, getD-append-seam, getD-set-same, getD-set-other}
 use borrow.Author.Tests.{eq-eqb, ne-eqb, le-leb, lt-leb, lt-ltb, le-ltb}
 use Rattle.counting.specs.Pick.{pick}
 use Rattle.counting.specs.Search.{some}
-use Rattle.counting.specs.Pack.{pre}
-use Rattle.counting.specs.Range.{total, over, values}
+use Rattle.counting.specs.Lists.{pre, total, over, values}
 use Rattle.counting.proofs.Bools.{or-left, or-right, or-false, clash, not-clash}
 use Rattle.counting.specs.Stored.{filled}
 use Rattle.counting.proofs.Pack.{pre-next}
@@ -23,10 +22,11 @@ use Rattle.counting.proofs.Range.{total-ext, total-zero, total-split}
 use Rattle.counting.proofs.Lists.{length-singles, values-at}
 use Rattle.counting.proofs.Stored.{filled-at, sets-more}
 use Rattle.counting.proofs.Stores.{getD-sets-in, getD-sets-out}
-use Rattle.grid.specs.Grid.{mostCells, mostSlots, mostEdges}
+use Rattle.slots.specs.Limits.{mostCells, mostSlots}
+use Rattle.slots.specs.work.Limits.{mostEdges}
 use Rattle.counting.proofs.Search.{some-zero, some-hit, some-miss}
 use Rattle.layers.specs.Cuts.{cutAt, runStart, runEnd, badCut}
-use Rattle.layers.specs.Work.{nameFrom, sideFrom, usedBy, blockSize, blockOf, mostMarks, EdgesMarked, markedStart, StartsSumming, StartsSummed, Layable, Copied, Started}
+use Rattle.layers.specs.work.Work.{nameFrom, sideFrom, usedBy, blockSize, blockOf, mostMarks, EdgesMarked, markedStart, StartsSumming, StartsSummed, Layable, Copied, Started}
 
 -- CUTS
 

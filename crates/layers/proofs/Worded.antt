@@ -14,8 +14,8 @@ use Rattle.cell.specs.declared.Side.the-variants.{Segment, Inner}
 use Rattle.cell.specs.declared.Triangle.{Triangle}
 use Rattle.cell.specs.Renaming.{Renaming, renamedCorner, renamedSide, renamed}
 use Rattle.cell.specs.Words.{noName, cornerWord, cornerWords, sideWords, words}
-use Rattle.layers.specs.Renaming.{keepInner}
-use Rattle.layers.specs.Words.{renamedWords, FaceNamed, Named, WordsRenamed}
+use Rattle.layers.specs.Runs.{keepInner}
+use Rattle.layers.specs.claims.Words.{renamedWords, FaceNamed, Named, WordsRenamed}
 use Rattle.layers.proofs.Renaming.{inner-crossing, inner-face}
 
 -- the two words of a side

@@ -11,8 +11,7 @@ use Rattle.counting.specs.Search.{some}
 use Rattle.counting.specs.Stored.{storedIn}
 use Rattle.cell.specs.Words.{allWords}
 use Rattle.grid.specs.Grid.{Grid, cellCount}
-use Rattle.grid.specs.Rows.{gridAnswer}
-use Rattle.grid.specs.Tables.{accepts}
+use Rattle.grid.specs.Rows.{gridAnswer, accepts}
 use Rattle.mesh.specs.Room.{roomAnswer}
 use Rattle.layers.specs.Cuts.{runCount, badCut, cutRow, runMesh, runSplits, joinedMesh, joinedSplits}
 

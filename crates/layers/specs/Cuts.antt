@@ -5,7 +5,7 @@ use mathlib.Core.List.{List, [], _∷_, _++_}
 use lib.Dec.{ltb}
 use lib.ListN.{length, getD}
 use Rattle.answer.specs.Rows.{Row, each}
-use Rattle.counting.specs.Range.{total, over}
+use Rattle.counting.specs.Lists.{total, over}
 use Rattle.grid.specs.Grid.{Grid, cellCount}
 use Rattle.cell.specs.declared.Triangle.{Triangle}
 use Rattle.mesh.specs.Mesh.{meshSplits}

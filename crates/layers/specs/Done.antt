@@ -6,7 +6,7 @@ use lib.ListN.{length}
 use Rattle.grid.specs.Grid.{Grid}
 use Rattle.mesh.specs.Demand.{Demand3}
 use Rattle.layers.specs.Answer.{runAnswer, runArea, joinedAnswer, joinedArea}
-use Rattle.layers.specs.Claims.{JoinedIsMesh}
+use Rattle.layers.specs.Joined.{JoinedIsMesh}
 
 -- `answer` are the numbers answered, `before` and `after` the lent area
 pub record RunDone (G : Grid) (cuts : List ℕ) (run : ℕ) (before after answer : List ℕ) : Type 0 where

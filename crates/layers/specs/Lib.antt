@@ -1,10 +1,8 @@
-pub mod Renaming
 pub mod Runs
 pub mod Cuts
-pub mod Words
 pub mod Answer
-pub mod Examples
-pub mod Claims
-pub mod Tables
+pub mod Joined
 pub mod Done
-pub mod Work
+pub mod claims
+pub mod examples
+pub mod work

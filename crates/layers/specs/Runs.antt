@@ -1,18 +1,26 @@
 -- A run of cells of a grid as a grid of its own (02, W13): `size` cells from the cell `from` on.
-use Prim.Native.Nat.{ℕ, _+_, _-_, _*_, _/_, _%_}
+use Prim.Native.Nat.{_+_, _*_, _/_, _%_, ℕ}
 use mathlib.Core.Bool.{Bool}
 use mathlib.Core.List.{List, [], _∷_, map}
-use lib.Dec.{leb}
+use lib.Dec.{ltb}
 use lib.ListN.{length, getD, take, drop}
 use Rattle.counting.specs.Pick.{pick}
+use Rattle.cell.specs.Renaming.{Renaming, renamed}
+use Rattle.split.specs.Limits.{firstInnerCrossing, firstInnerFace, wordStep}
 use Rattle.counting.specs.Search.{some}
-use Rattle.counting.specs.Range.{over, values, kept}
-use Rattle.counting.specs.Pack.{pre, row, col}
+use Rattle.counting.specs.Lists.{over, values, kept}
+use Rattle.counting.specs.Pack.{row, col}
 use Rattle.grid.specs.Grid.{Grid, built, low, high, hasEdge, countOf, crossing, faceName}
 use Rattle.cell.specs.declared.Triangle.{Triangle}
-use Rattle.cell.specs.Renaming.{Renaming, renamed}
 use Rattle.mesh.specs.Mesh.{meshTriangles}
-use Rattle.layers.specs.Renaming.{keepInner}
+
+-- r for outer crossings and faces; inner ones keep their numbers and names. Word 0 changes in the number of its cell, not in that of the sub-cell
+unfoldable pub keepInner : Renaming → Renaming
+keepInner r = record {
+  cell = λ w. r .cell (w % wordStep) + wordStep * (w / wordStep);
+  crossing = λ g. pick (ltb g firstInnerCrossing) (r .crossing g) g;
+  face = λ f. pick (ltb f firstInnerFace) (r .face f) f;
+}
 
 module _ (G : Grid) (from size : ℕ) where
   abbrev pub runCells : List ℕ
@@ -38,16 +46,6 @@ module _ (G : Grid) (from size : ℕ) where
   -- the run: its crossing numbers, starts and face names are those of this grid
   abbrev pub runGrid : Grid
   runGrid = built runCells runEdges runCounts
-
-  -- The run's starts and face names from those of the whole, without its lists: the sum of the counts of the run's edges before edge e of the whole;
-  unfoldable pub ownStart : ℕ → ℕ
-  ownStart e = pre (λ d. pick (inRun d) (countOf (G .counts) d) 0) e
-
-  -- and the name in the run of the face at slot s of its cell c. If the whole names the face by a slot of the run, it is that slot there; if by an
-  -- earlier one, no other cell of the run has the face
-  unfoldable pub ownName : ℕ → ℕ → ℕ
-  ownName c s =
-      pick (leb (4 * from) (faceName (G .cells) (from + c) s)) (faceName (G .cells) (from + c) s - 4 * from) (4 * c + s)
 
   -- the whole's number of the run's crossing x: that with the same index on the same edge
   unfoldable pub crossingInWhole : ℕ → ℕ

@@ -4,7 +4,7 @@ ghost use Prim.Native.Nat.{_+_, _≤_};
 ghost use lib.ListN.{length};
 ghost use Rattle.counting.specs.Search.{first};
 ghost use Rattle.layers.specs.Cuts.{runStart, runEnd, runSize, badCut};
-ghost use Rattle.layers.specs.Work.{RunOfCuts};
+ghost use Rattle.layers.specs.work.Work.{RunOfCuts};
 use super::Span;
 use counting::wide16;
 

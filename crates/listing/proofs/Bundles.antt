@@ -7,15 +7,17 @@ use native.Mathlib.Omega.{arith}
 use lib.ListN.{length, take}
 use borrow.Author.Tests.{lt-ltb, le-ltb}
 use Rattle.answer.specs.Answer.{result, refusal}
-use Rattle.counting.specs.Stored.{Stored}
+use Rattle.counting.specs.work.Stored.{Stored}
 use Rattle.counting.proofs.Stored.{stored-long, stored-front}
-use Rattle.bundle.specs.Record.{cellSize, edgeSize, brokenRow}
+use Rattle.bundle.specs.work.Record.{cellSize, edgeSize}
+use Rattle.bundle.specs.Record.{brokenRow}
 use Rattle.bundle.specs.Bundle.{cellNodes, edgeEnds, bundleAnswer, isBundle, isTaken, readAnswer, nodesOf, endsOf, countsOf, writtenOver, leaves}
 use Rattle.bundle.proofs.Fills.{length-nodes, length-ends, length-counts, bundle-size}
 use Rattle.bundle.proofs.Answers.{bundle-answer, accepted, accepted-cells, accepted-edges, refused, rejected, read-taken, read-lists, left-front}
 use Rattle.grid.specs.Grid.{built}
 use Rattle.listing.specs.Text.{refusedLine}
-use Rattle.listing.specs.Listing.{mostBytes, cellsInBundle, edgesInBundle, roomBytes, gridListing, bundleListing, listing, Listed}
+use Rattle.listing.specs.Listing.{mostBytes, gridListing, bundleListing, listing, Listed}
+use Rattle.listing.specs.work.Listing.{cellsInBundle, edgesInBundle, roomBytes}
 use Rattle.listing.proofs.Meshes.{or-result, or-refusal}
 
 module _ (s : List ℕ) where

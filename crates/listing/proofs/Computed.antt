@@ -1,15 +1,14 @@
 -- The examples, by computation. Assumes nothing.
 use mathlib.Core.Path.{refl}
-use Rattle.counting.specs.Search.{seek, first, last, some, every, count}
-use Rattle.counting.specs.Range.{total, over}
-use Rattle.counting.specs.Lists.{tally, gather}
-use Rattle.counting.specs.Pack.{pre, row, col}
+use Rattle.counting.specs.Lists.{seek, total, over, tally, gather, pre, it}
+use Rattle.counting.specs.Search.{first, last, some, every, count}
+use Rattle.counting.specs.Pack.{row, col}
 use Rattle.counting.specs.Gcd.{divides, gcd}
 use Rattle.counting.specs.Reach.{reach}
 use Rattle.slots.specs.Slots.{lo, hi, position, lower, upper, edgeBetween, slotEdge, edgeRank, contains, firstSlot, secondSlot}
 use Rattle.face.specs.Face as face
-use Rattle.face.specs.Level.{isLevel}
-use Rattle.walk.specs.Iterate.{it, orbit}
+use Rattle.face.specs.Face.{isLevel}
+use Rattle.walk.specs.Walk.{orbit}
 use Rattle.walk.specs.Step as step
 use Rattle.walk.specs.Walk as walk
 use Rattle.cell.specs.Cell as cell
@@ -32,7 +31,7 @@ use Rattle.bundle.specs.Bundle as bundle
 use Rattle.bundle.specs.Written.{kindFor, countBytes, cellBytes, edgeBytes, bundleBytes}
 use Rattle.listing.specs.Text.{digits, decimal, withLabel, refusedLine, head, wordText, wordAt, line}
 use Rattle.listing.specs.Listing.{orRefused, meshListing, gridListing, bundleListing, listing}
-use Rattle.listing.specs.Examples.{Examples}
+use Rattle.listing.specs.examples.Examples.{Examples}
 
 pub computed : Examples
 unfolding seek first last some every count total over tally pre row col divides gcd reach

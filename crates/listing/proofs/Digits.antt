@@ -7,7 +7,8 @@ use native.Mathlib.Omega.{arith}
 use native.Mathlib.Decide.{decLt}
 use lib.ListN.{length, length-append}
 use borrow.Author.Tests.{lt-ltb, le-ltb}
-use Rattle.listing.specs.Text.{digit, digits, decimal, longest}
+use Rattle.listing.specs.Text.{digit, digits, decimal}
+use Rattle.listing.specs.work.Text.{longest}
 
 digits-one : (k n : ℕ) → n < 10 → digits (suc k) n ≡ digit n ∷ []
 unfolding digits

@@ -11,12 +11,11 @@ use borrow.Author.Tests.{leb-true, ne-eqb}
 use Rattle.answer.specs.Answer.{result, refusal, refused}
 use Rattle.answer.proofs.Answer.{refused-not, refused-numbers}
 use Rattle.counting.specs.Pick.{pick}
-use Rattle.counting.specs.Range.{over}
+use Rattle.counting.specs.Lists.{over}
 use Rattle.counting.proofs.Range.{over-ext}
 use Rattle.counting.proofs.Fronts.{sets-front}
 use Rattle.grid.specs.Grid.{Grid, gridOf, built, cellCount, crossings}
-use Rattle.grid.specs.Rows.{gridAnswer}
-use Rattle.grid.specs.Tables.{accepts}
+use Rattle.grid.specs.Rows.{gridAnswer, accepts}
 use Rattle.grid.specs.Opening.{openAnswer, openStarts}
 use Rattle.grid.proofs.Openings.{opens-built}
 use Rattle.grid.proofs.Claims.{accepted-is, never-empty}

@@ -4,7 +4,7 @@ use mathlib.Core.Path.{_≡_, refl, sym, ap, _∙_}
 use mathlib.Core.List.{List, [], _∷_, _++_}
 use lib.ListN.{length, set, length-append}
 use borrow.Author.Tests.{eq-eqb, ne-eqb}
-use Rattle.counting.specs.Stored.{Stored}
+use Rattle.counting.specs.work.Stored.{Stored}
 use Rattle.counting.proofs.Stored.{stored-one, stored-as, stored-then}
 use Rattle.cell.specs.Words.{noName}
 use Rattle.listing.specs.Text.{digit, decimal, wordText}

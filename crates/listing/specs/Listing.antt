@@ -1,36 +1,26 @@
 -- The listing of a bundle (01): what meshlist prints for the bytes that it reads.
-use Prim.Native.Nat.{ℕ, _+_, _-_, _*_, _/_, _≤_}
+use Prim.Native.Nat.{ℕ, _+_, _*_, _≤_}
 use mathlib.Core.Path.{_≡_}
 use mathlib.Core.List.{List, _++_}
 use lib.Dec.{ltb}
 use lib.ListN.{length, getD}
 use Rattle.answer.specs.Answer.{isResult}
 use Rattle.counting.specs.Pick.{pick}
-use Rattle.counting.specs.Range.{over}
-use Rattle.bundle.specs.Record.{brokenRow, cellSize, edgeSize, endSize}
+use Rattle.counting.specs.Lists.{over}
+use Rattle.bundle.specs.Record.{brokenRow}
 use Rattle.bundle.specs.Bundle.{bundleAnswer, nodesOf, endsOf, countsOf, writtenOver}
 use Rattle.grid.specs.Grid.{Grid, built, cellCount, crossings}
 use Rattle.cell.specs.Words.{wordCount}
 use Rattle.mesh.specs.Mesh.{meshTriangles, meshWords}
 use Rattle.mesh.specs.Answer.{meshAnswer}
-use Rattle.listing.specs.Text.{refusedLine, head, line, headRoom, lineRoom}
+use Rattle.listing.specs.Text.{refusedLine, head, line}
 
 -- the most bytes that are read, the most cells and edges that so many bytes hold besides the end, and the triangles that the area holds
 abbrev pub mostBytes : ℕ
 mostBytes = 32768
 
-abbrev pub cellsInBundle : ℕ
-cellsInBundle = (mostBytes - endSize) / cellSize
-
-abbrev pub edgesInBundle : ℕ
-edgesInBundle = (mostBytes - endSize) / edgeSize
-
 abbrev pub areaTriangles : ℕ
 areaTriangles = 1489
-
--- the most bytes of a listing
-abbrev pub roomBytes : ℕ
-roomBytes = headRoom + lineRoom * areaTriangles
 
 -- the line of the refusal where an answer is one; else what follows
 unfoldable pub orRefused : List ℕ → List ℕ → List ℕ

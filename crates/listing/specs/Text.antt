@@ -5,7 +5,7 @@ use mathlib.Core.List.{List, [], _∷_, _++_}
 use lib.Dec.{ltb, eqb}
 use lib.ListN.{getD}
 use Rattle.counting.specs.Pick.{pick}
-use Rattle.counting.specs.Range.{over}
+use Rattle.counting.specs.Lists.{over}
 use Rattle.cell.specs.Words.{noName, wordCount}
 
 -- the digit d: 0 is 48
@@ -20,10 +20,6 @@ digits (suc k) n = elim (ltb n 10) [ true ↦ digit n ∷ [] | false ↦ digits 
 -- the digits of n, of which there are at most n + 1
 unfoldable pub decimal : ℕ → List ℕ
 decimal n = digits (suc n) n
-
--- the most digits of a number of 64 bits
-abbrev pub longest : ℕ
-longest = 20
 
 -- a label and a number after it
 unfoldable pub withLabel : List ℕ → ℕ → List ℕ
@@ -72,13 +68,3 @@ wordAt words t j = wordText (getD words (wordCount * t + j) 0)
 -- the line of triangle t: T and its eleven words
 unfoldable pub line : List ℕ → ℕ → List ℕ
 line words t = (84 ∷ []) ++ over (wordAt words t) wordCount 0 ++ newline
-
--- the most bytes of a word of 32 bits and the blank before it; of the first line, with 35 of labels; and of a triangle's line
-abbrev pub wordRoom : ℕ
-wordRoom = 11
-
-abbrev pub headRoom : ℕ
-headRoom = 35 + 4 * longest + 1
-
-abbrev pub lineRoom : ℕ
-lineRoom = 1 + wordCount * wordRoom + 1

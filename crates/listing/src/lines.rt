@@ -1,10 +1,11 @@
 // The lines of a listing.
 ghost use Prim.Native.Nat.{_+_, _*_, _≤_};
 ghost use lib.ListN.{length};
-ghost use Rattle.counting.specs.Range.{over};
-ghost use Rattle.counting.specs.Stored.{Stored};
+ghost use Rattle.counting.specs.Lists.{over};
+ghost use Rattle.counting.specs.work.Stored.{Stored};
 ghost use Rattle.cell.specs.Words.{wordCount};
-ghost use Rattle.listing.specs.Text.{wordRoom, headRoom, lineRoom, refusedLine, head, wordAt, line};
+ghost use Rattle.listing.specs.work.Text.{wordRoom, headRoom, lineRoom};
+ghost use Rattle.listing.specs.Text.{refusedLine, head, wordAt, line};
 use crate::text::LONGEST;
 use crate::text::WORD_ROOM;
 use crate::text::put;

@@ -2,8 +2,9 @@
 ghost use mathlib.Core.Path.{_≡_};
 ghost use Prim.Native.Nat.{_+_, _≤_};
 ghost use lib.ListN.{length};
-ghost use Rattle.counting.specs.Stored.{Stored};
-ghost use Rattle.listing.specs.Text.{longest, wordRoom, decimal, withLabel, wordText};
+ghost use Rattle.counting.specs.work.Stored.{Stored};
+ghost use Rattle.listing.specs.work.Text.{longest, wordRoom};
+ghost use Rattle.listing.specs.Text.{decimal, withLabel, wordText};
 use cell::NO_NAME;
 
 // The most digits of a number of 64 bits; and the most bytes of a word of 32 bits and the blank before it.

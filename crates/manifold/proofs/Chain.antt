@@ -7,12 +7,16 @@ use lib.Dec.{eqb}
 use lib.ListN.{length}
 use borrow.Author.Tests.{eq-eqb, ne-eqb}
 use Rattle.counting.specs.Pick.{pick}
-use Rattle.counting.specs.Range.{after, before}
+use Rattle.counting.specs.Lists.{after}
+use Rattle.counting.specs.claims.Lists.{before}
 use Rattle.counting.proofs.Range.{after-lt, after-ne, after-once, before-lt, after-before}
 use Rattle.manifold.specs.Triangle.{Corner, Side, prev}
-use Rattle.manifold.specs.Plain.{cornerOf, sideOf, nth, Passes, OneRing}
-use Rattle.manifold.specs.Polygon.{Polygon, Shape, single, double, fan, shape, corner, centre, segment, innerSide, triangleAt, many, inners, triangles, Simple}
-use Rattle.manifold.specs.Claims.{AtPoint}
+use Rattle.manifold.specs.claims.Plain.{cornerOf, sideOf, nth, OneRing}
+use Rattle.manifold.specs.work.Plain.{Passes}
+use Rattle.manifold.specs.claims.Polygon.{Polygon, shape, corner, centre, segment, innerSide, inners, triangles}
+use Rattle.manifold.specs.Shape.{Shape, single, double, fan}
+use Rattle.manifold.specs.work.Polygon.{triangleAt, many, Simple}
+use Rattle.manifold.specs.claims.Claims.{AtPoint}
 use Rattle.manifold.proofs.Triangle.{cross-middle}
 use Rattle.manifold.proofs.Sound.{Sound, forward, backward}
 use Rattle.manifold.proofs.Polygon.{Fits, fits, triangles-length, triangles-nth, triangles-member, point-apart, polygon-sound}

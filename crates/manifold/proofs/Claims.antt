@@ -3,16 +3,16 @@ use Prim.Native.Nat.{ℕ, _+_, _*_, _≤_, _<_}
 use mathlib.Core.Path.{_≡_, refl, sym, ap, _∙_}
 use mathlib.Core.Logic.{_⊎_, inl, inr, _≢_, ⊎-elim}
 use native.Mathlib.Omega.{arith}
-use Rattle.counting.specs.Pick.{one}
-use Rattle.counting.specs.Range.{total}
-use Rattle.counting.specs.Lists.{tally, weigh}
+use Rattle.counting.specs.Lists.{one, total, tally}
+use Rattle.counting.specs.work.Stored.{weigh}
 use Rattle.counting.proofs.Range.{total-zero, total-one}
 use Rattle.manifold.specs.Triangle.{Side, same}
-use Rattle.manifold.specs.Plain.{sideOf, hasSide, nth}
-use Rattle.manifold.specs.Polygon.{Polygon, shape, segment, innerSide, inners, triangles, Simple}
-use Rattle.manifold.specs.Piece.{segmentOf}
-use Rattle.manifold.specs.Complex.{Complex, Lawful, mesh}
-use Rattle.manifold.specs.Claims.{PolygonLaws, Manifold}
+use Rattle.manifold.specs.claims.Plain.{sideOf, hasSide, nth}
+use Rattle.manifold.specs.claims.Polygon.{Polygon, shape, segment, innerSide, inners, triangles}
+use Rattle.manifold.specs.work.Polygon.{Simple}
+use Rattle.manifold.specs.claims.Piece.{segmentOf}
+use Rattle.manifold.specs.claims.Complex.{Complex, Lawful, mesh}
+use Rattle.manifold.specs.claims.Claims.{PolygonLaws, Manifold}
 use Rattle.manifold.proofs.Triangle.{hits, eq-same, ne-same}
 use Rattle.manifold.proofs.Sound.{member, tally-exact}
 use Rattle.manifold.proofs.Shapes.{many-le}

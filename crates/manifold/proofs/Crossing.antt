@@ -5,15 +5,15 @@ use mathlib.Core.Path.{_≡_, sym, ap, _∙_, subst}
 use mathlib.Core.Logic.{⊎-elim}
 use mathlib.Core.Bool.{Bool}
 use native.Mathlib.Omega.{arith}
-use Rattle.counting.specs.Range.{after}
+use Rattle.counting.specs.Lists.{after}
 use Rattle.counting.proofs.Range.{after-lt, before-after}
 use Rattle.walk.specs.Darts.{half}
 use Rattle.manifold.specs.Triangle.{cross, Side}
-use Rattle.manifold.specs.Plain.{Tri, cornerOf, nth, Chain, OneRing}
-use Rattle.manifold.specs.Polygon.{Polygon, corner, segment, triangles}
-use Rattle.manifold.specs.Piece.{mateOf, segmentOf, dart}
-use Rattle.manifold.specs.Complex.{Complex, Joins, Lawful, Shut, Has, Shares, LinkedAt, loopOf, mesh}
-use Rattle.manifold.specs.Claims.{AtPoint}
+use Rattle.manifold.specs.claims.Plain.{Tri, cornerOf, nth, Chain, OneRing}
+use Rattle.manifold.specs.claims.Polygon.{Polygon, corner, segment, triangles}
+use Rattle.manifold.specs.claims.Piece.{mateOf, segmentOf, dart}
+use Rattle.manifold.specs.claims.Complex.{Complex, Joins, Lawful, Shut, Has, Shares, LinkedAt, loopOf, mesh}
+use Rattle.manifold.specs.claims.Claims.{AtPoint}
 use Rattle.manifold.proofs.Sound.{member}
 use Rattle.manifold.proofs.Together.{port, Here, Spreads, Together, entered, left}
 use Rattle.manifold.proofs.Ring.{one-ring}

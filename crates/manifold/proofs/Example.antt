@@ -9,19 +9,18 @@ use native.Mathlib.Omega.{arith}
 use lib.Dec.{eqb, ltb}
 use lib.ListN.{getD}
 use borrow.Author.Tests.{eqb-true, eqb-false, ltb-true, not-true}
-use Rattle.counting.specs.Range.{over}
+use Rattle.counting.specs.Lists.{over, it}
 use Rattle.counting.specs.Search.{every}
 use Rattle.counting.proofs.Bools.{and-left, and-right, or-cases}
 use Rattle.counting.proofs.Search.{every-is}
-use Rattle.walk.specs.Iterate.{it}
 use Rattle.walk.specs.Step.{face, step}
 use Rattle.walk.specs.Walk.{size}
 use Rattle.manifold.specs.Triangle.{cross, seg}
-use Rattle.manifold.specs.Plain.{tri, OneRing}
-use Rattle.manifold.specs.Polygon.{shape, triangles}
-use Rattle.manifold.specs.Piece.{Local, Piece, slotOf, mateOf}
-use Rattle.manifold.specs.Complex.{Complex, mesh}
-use Rattle.manifold.specs.Faces.{Faced, FacesShut, FacesLinked}
+use Rattle.manifold.specs.claims.Plain.{tri, OneRing}
+use Rattle.manifold.specs.claims.Polygon.{shape, triangles}
+use Rattle.manifold.specs.claims.Piece.{Local, Piece, slotOf, mateOf}
+use Rattle.manifold.specs.claims.Complex.{Complex, mesh}
+use Rattle.manifold.specs.work.Faces.{Faced, FacesShut, FacesLinked}
 use Rattle.manifold.proofs.Faces.{faces-lawful, faces-shut, faces-linked}
 use Rattle.manifold.proofs.Claims.{manifold}
 

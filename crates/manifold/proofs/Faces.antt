@@ -4,9 +4,9 @@ use mathlib.Core.Path.{_≡_, sym, ap, ap₂, _∙_}
 use mathlib.Core.Logic.{inl, inr, ⊎-elim}
 use Rattle.walk.specs.Darts.{half}
 use Rattle.manifold.specs.Triangle.{seg}
-use Rattle.manifold.specs.Piece.{Local, slotOf, mateOf, segmentOf}
-use Rattle.manifold.specs.Complex.{Complex, Lawful, Joins, SameEnds, Shut, LinkedAt}
-use Rattle.manifold.specs.Faces.{Match, Faced, FacesShut, FacesLinked}
+use Rattle.manifold.specs.claims.Piece.{Local, slotOf, mateOf, segmentOf}
+use Rattle.manifold.specs.claims.Complex.{Complex, Lawful, Joins, SameEnds, Shut, LinkedAt}
+use Rattle.manifold.specs.work.Faces.{Match, Faced, FacesShut, FacesLinked}
 use Rattle.manifold.proofs.Piece.{segment-cases}
 
 match-segment : (A B : Local) (s d : ℕ) → mateOf A d < A .N → A .name (slotOf A d) ≡ B .name s → (m : Match A B s d) → segmentOf B (m .e) ≡ segmentOf A d

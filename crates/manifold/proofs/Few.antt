@@ -3,15 +3,16 @@ use Prim.Native.Nat.{ℕ, _*_, _≤_, _<_}
 use mathlib.Core.Path.{_≡_, sym, _∙_}
 use native.Mathlib.Omega.{arith}
 use lib.ListN.{length}
-use Rattle.counting.specs.Range.{total, over}
+use Rattle.counting.specs.Lists.{total, over}
 use Rattle.counting.proofs.Range.{total-ext, total-mono, length-over}
 use Rattle.walk.specs.Darts.{rev}
-use Rattle.walk.specs.Walk.{loopAt, flat}
+use Rattle.walk.specs.Walk.{loopAt}
+use Rattle.walk.specs.claims.Claims.{flat}
 use Rattle.walk.proofs.Iterate.{length-orbit}
 use Rattle.walk.proofs.Once.{flat-room}
-use Rattle.manifold.specs.Polygon.{shape, triangles}
-use Rattle.manifold.specs.Piece.{onward, sizeOf}
-use Rattle.manifold.specs.Complex.{Complex, Lawful, loopOf}
+use Rattle.manifold.specs.claims.Polygon.{shape, triangles}
+use Rattle.manifold.specs.claims.Piece.{onward, sizeOf}
+use Rattle.manifold.specs.claims.Complex.{Complex, Lawful, loopOf}
 use Rattle.manifold.proofs.Shapes.{many-le}
 use Rattle.manifold.proofs.Polygon.{fits, triangles-length}
 use Rattle.manifold.proofs.Piece.{cell-darts}

@@ -9,11 +9,13 @@ use native.Mathlib.Omega.{arith}
 use lib.Dec.{eqb}
 use borrow.Author.Tests.{eq-eqb, ne-eqb}
 use Rattle.counting.specs.Pick.{pick}
-use Rattle.walk.specs.Iterate.{it}
-use Rattle.walk.specs.Darts.{half, rev, Darts, Loop, On}
+use Rattle.counting.specs.Lists.{it}
+use Rattle.walk.specs.Darts.{half, rev, Loop, On}
+use Rattle.walk.specs.claims.Claims.{Darts}
 use Rattle.walk.proofs.Curve.{all-close, on-step}
 use Rattle.walk.proofs.Step.{by-parity, rev-rev, rev-lt, half-rev, rev-darts}
-use Rattle.manifold.specs.Triangle.{Corner, Side, alike}
+use Rattle.manifold.specs.Triangle.{Corner, Side}
+use Rattle.manifold.specs.work.Triangle.{alike}
 use Rattle.manifold.proofs.Triangle.{alike-true, alike-false}
 
 pub record Glued (N : ℕ) (nxt prv : ℕ → ℕ) (sd : ℕ → Side) (cn : ℕ → Corner) (tw : ℕ → ℕ) : Type 0 where

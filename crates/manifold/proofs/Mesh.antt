@@ -3,15 +3,18 @@ use Prim.Native.Nat.{ℕ, _<_}
 use mathlib.Core.Path.{_≡_, sym, ap, _∙_, subst}
 use mathlib.Core.Logic.{_⊎_, inl, inr, _≢_}
 use native.Mathlib.Omega.{arith}
-use Rattle.counting.specs.Range.{over, after}
-use Rattle.counting.specs.Lists.{weigh, All}
+use Rattle.counting.specs.Lists.{over, after}
+use Rattle.counting.specs.work.Stored.{weigh}
+use Rattle.counting.specs.claims.Lists.{All}
 use Rattle.counting.proofs.Lists.{all-over, all-at, at-all, stands-over}
 use Rattle.walk.specs.Darts.{half}
-use Rattle.manifold.specs.Triangle.{Corner, cross, inner, next}
-use Rattle.manifold.specs.Plain.{Tri, cornerOf, sideOf, noTri, Chain}
-use Rattle.manifold.specs.Polygon.{Polygon, shape, corner, triangles, innerSide, Simple}
-use Rattle.manifold.specs.Piece.{mateOf, segmentOf, dart}
-use Rattle.manifold.specs.Complex.{Complex, Joins, Lawful, Shut, SameEnds, loopOf, mesh}
+use Rattle.manifold.specs.Triangle.{Corner, cross, inner}
+use Rattle.manifold.specs.work.Triangle.{next}
+use Rattle.manifold.specs.claims.Plain.{Tri, cornerOf, sideOf, noTri, Chain}
+use Rattle.manifold.specs.claims.Polygon.{Polygon, shape, corner, triangles, innerSide}
+use Rattle.manifold.specs.work.Polygon.{Simple}
+use Rattle.manifold.specs.claims.Piece.{mateOf, segmentOf, dart}
+use Rattle.manifold.specs.claims.Complex.{Complex, Joins, Lawful, Shut, SameEnds, loopOf, mesh}
 use Rattle.manifold.proofs.Triangle.{hits, seg-inner}
 use Rattle.manifold.proofs.Sound.{Member, member, Ends, Sound}
 use Rattle.manifold.proofs.Together.{Here, Spreads, chain-together}

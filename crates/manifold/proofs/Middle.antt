@@ -2,9 +2,10 @@
 use Prim.Native.Nat.{ℕ, _<_}
 use mathlib.Core.Path.{_≡_}
 use native.Mathlib.Omega.{arith}
-use Rattle.manifold.specs.Plain.{Tri, nth, OneRing}
-use Rattle.manifold.specs.Polygon.{shape, fan, centre, triangles}
-use Rattle.manifold.specs.Complex.{Complex, Lawful, Shut, loopOf, mesh}
+use Rattle.manifold.specs.claims.Plain.{Tri, nth, OneRing}
+use Rattle.manifold.specs.claims.Polygon.{shape, centre, triangles}
+use Rattle.manifold.specs.Shape.{fan}
+use Rattle.manifold.specs.claims.Complex.{Complex, Lawful, Shut, loopOf, mesh}
 use Rattle.manifold.proofs.Sound.{Member, member}
 use Rattle.manifold.proofs.Together.{Here, Together}
 use Rattle.manifold.proofs.Ring.{one-ring}

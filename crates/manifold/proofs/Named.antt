@@ -6,7 +6,8 @@ use native.Mathlib.Omega.{arith}
 use lib.ListN.{length, getD, length-map}
 use Rattle.counting.proofs.Lists.{getD-map}
 use Rattle.manifold.specs.Triangle.{Corner, Side}
-use Rattle.manifold.specs.Plain.{Tri, noTri, cornerOf, sideOf, nth, Passes, Chain, OneRing}
+use Rattle.manifold.specs.claims.Plain.{Tri, noTri, cornerOf, sideOf, nth, Chain, OneRing}
+use Rattle.manifold.specs.work.Plain.{Passes}
 use Rattle.manifold.specs.Ring.{PassesIn, ChainIn, RingIn}
 
 module _ {T : Type 0} (none : T) (f : T → Tri) where

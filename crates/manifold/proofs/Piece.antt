@@ -7,11 +7,12 @@ use native.Mathlib.Nat.{eq-zero-or-pos, min-comm, le-of-eq}
 use native.Mathlib.Omega.{arith}
 use lib.Dec.{eqb, leb}
 use borrow.Author.Tests.{eqb-true, leb-true, leb-false}
-use Rattle.counting.specs.Pick.{pick, one}
-use Rattle.counting.specs.Range.{total, after, before}
+use Rattle.counting.specs.Pick.{pick}
+use Rattle.counting.specs.Lists.{one, total, after, it}
+use Rattle.counting.specs.claims.Lists.{before}
 use Rattle.counting.proofs.Range.{total-zero, total-one, total-pos, after-last, after-lt, before-lt, after-before}
-use Rattle.walk.specs.Iterate.{it}
-use Rattle.walk.specs.Darts.{half, rev, Darts, Loop, On}
+use Rattle.walk.specs.Darts.{half, rev, Loop, On}
+use Rattle.walk.specs.claims.Claims.{Darts}
 use Rattle.walk.specs.Step.{step}
 use Rattle.walk.proofs.Iterate.{it-suc}
 use Rattle.walk.proofs.Curve.{loop-distinct, closes, Next, on-walk}
@@ -19,8 +20,8 @@ use Rattle.walk.proofs.Found.{size-live}
 use Rattle.walk.proofs.Once.{listed, same-start, closed-in}
 use Rattle.walk.proofs.Step.{rev-first, rev-second, by-parity, same-half, darts, live, land-half, land-face, face-first, face-second}
 use Rattle.manifold.specs.Triangle.{Side, seg, same}
-use Rattle.manifold.specs.Piece.{Local, Piece, slotOf, mateOf, lowerOf, segmentOf, onward, dart, sizeOf}
-use Rattle.manifold.specs.Complex.{Joins, Closes, Whole}
+use Rattle.manifold.specs.claims.Piece.{Local, Piece, slotOf, mateOf, lowerOf, segmentOf, onward, dart, sizeOf}
+use Rattle.manifold.specs.claims.Complex.{Joins, Closes, Whole}
 use Rattle.manifold.proofs.Triangle.{eq-same, ne-same, one-same}
 
 module _ (A : Local) where

@@ -6,14 +6,16 @@ use mathlib.Core.List.{[], _∷_}
 use native.Mathlib.Nat.{not-suc-le-zero}
 use native.Mathlib.Omega.{arith}
 use lib.ListN.{length}
-use Rattle.counting.specs.Pick.{one}
-use Rattle.counting.specs.Range.{total, over, after}
-use Rattle.counting.specs.Lists.{weigh}
+use Rattle.counting.specs.Lists.{one, total, over, after}
+use Rattle.counting.specs.work.Stored.{weigh}
 use Rattle.counting.proofs.Range.{total-ext, total-add, total-round, after-on, after-last, after-lt, after-ne}
 use Rattle.counting.proofs.Lists.{weigh-over}
-use Rattle.manifold.specs.Triangle.{Corner, cross, middle, Side, next, same}
-use Rattle.manifold.specs.Plain.{Tri, tri, cornerOf, sideOf, noTri, nth}
-use Rattle.manifold.specs.Polygon.{Polygon, Shape, single, double, fan, shape, corner, centre, segment, innerSide, triangleAt, many, inners, triangles, Simple}
+use Rattle.manifold.specs.Triangle.{Corner, cross, middle, Side, same}
+use Rattle.manifold.specs.work.Triangle.{next}
+use Rattle.manifold.specs.claims.Plain.{Tri, tri, cornerOf, sideOf, noTri, nth}
+use Rattle.manifold.specs.claims.Polygon.{Polygon, shape, corner, centre, segment, innerSide, inners, triangles}
+use Rattle.manifold.specs.Shape.{Shape, single, double, fan}
+use Rattle.manifold.specs.work.Polygon.{triangleAt, many, Simple}
 pub use Rattle.manifold.proofs.Shapes.{Fits}
 use Rattle.manifold.proofs.Shapes.{fits as shape-fits, length-triangles, getD-triangles}
 use Rattle.manifold.proofs.Triangle.{hits, cross-middle, seg-inner}

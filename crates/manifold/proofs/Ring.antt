@@ -7,18 +7,18 @@ use native.Mathlib.Omega.{arith}
 use lib.Dec.{eqb}
 use lib.ListN.{length}
 use borrow.Author.Tests.{eqb-true, eqb-false}
-use Rattle.counting.specs.Pick.{one}
-use Rattle.counting.specs.Range.{total}
-use Rattle.counting.specs.Lists.{weigh}
+use Rattle.counting.specs.Lists.{one, total, it}
+use Rattle.counting.specs.work.Stored.{weigh}
 use Rattle.counting.proofs.Range.{total-ext, total-three}
 use Rattle.counting.proofs.Lists.{weigh-getD}
-use Rattle.walk.specs.Iterate.{it}
 use Rattle.walk.specs.Darts.{half, rev, Loop}
 use Rattle.walk.proofs.Iterate.{it-suc}
 use Rattle.walk.proofs.Curve.{loop-distinct}
 use Rattle.walk.proofs.Step.{rev-first, rev-second, by-parity}
-use Rattle.manifold.specs.Triangle.{Corner, Side, next, prev, same}
-use Rattle.manifold.specs.Plain.{Tri, cornerOf, sideOf, noTri, nth, Passes, OneRing}
+use Rattle.manifold.specs.Triangle.{Corner, Side, prev, same}
+use Rattle.manifold.specs.work.Triangle.{next}
+use Rattle.manifold.specs.claims.Plain.{Tri, cornerOf, sideOf, noTri, nth, OneRing}
+use Rattle.manifold.specs.work.Plain.{Passes}
 use Rattle.manifold.proofs.Triangle.{hits, hits-is}
 use Rattle.manifold.proofs.Sound.{Member, member, Sound, corner-once, forward, backward}
 use Rattle.manifold.proofs.Together.{port, Here, Spreads, Together}

@@ -9,7 +9,7 @@ use native.Mathlib.Omega.{arith}
 use lib.Dec.{eqb}
 use lib.ListN.{length, getD}
 use borrow.Author.Tests.{eq-eqb, ne-eqb, eqb-true}
-use Rattle.counting.specs.Range.{after}
+use Rattle.counting.specs.Lists.{after}
 use Rattle.counting.proofs.Bools.{clash}
 use Rattle.counting.proofs.Range.{after-lt, over-ext}
 use Rattle.counting.proofs.Lists.{length-singles, getD-singles, map-over}

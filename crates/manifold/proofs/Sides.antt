@@ -7,16 +7,15 @@ use mathlib.Core.Logic.{_≢_, ⊎-elim}
 use native.Mathlib.Nat.{eq-zero-or-pos, le-of-eq}
 use native.Mathlib.Omega.{arith}
 use native.Mathlib.Decide.{ℕ-discrete}
-use Rattle.counting.specs.Pick.{one}
-use Rattle.counting.specs.Range.{total, over}
-use Rattle.counting.specs.Lists.{tally, weigh}
+use Rattle.counting.specs.Lists.{one, total, over, tally}
+use Rattle.counting.specs.work.Stored.{weigh}
 use Rattle.counting.proofs.Range.{total-zero, total-one, total-ext, total-pos, total-single, total-two, total-le-two}
 use Rattle.counting.proofs.Lists.{weigh-over}
 use Rattle.manifold.specs.Triangle.{Side, seg, inner, same}
-use Rattle.manifold.specs.Plain.{hasSide}
-use Rattle.manifold.specs.Polygon.{shape, innerSide, inners, triangles}
-use Rattle.manifold.specs.Piece.{slotOf, lowerOf, segmentOf, dart, sizeOf}
-use Rattle.manifold.specs.Complex.{Complex, Joins, Closes, Lawful, Shut, loopOf, mesh}
+use Rattle.manifold.specs.claims.Plain.{hasSide}
+use Rattle.manifold.specs.claims.Polygon.{shape, innerSide, inners, triangles}
+use Rattle.manifold.specs.claims.Piece.{slotOf, lowerOf, segmentOf, dart, sizeOf}
+use Rattle.manifold.specs.claims.Complex.{Complex, Joins, Closes, Lawful, Shut, loopOf, mesh}
 use Rattle.manifold.proofs.Triangle.{hits, eq-same, ne-same, one-same, tally-hits}
 use Rattle.manifold.proofs.Polygon.{polygon-sides}
 use Rattle.manifold.proofs.Piece.{Passed, counts, counted, count-one, count-le, joins, whole-closes, passed-closes, covers, covers-segment}

@@ -8,11 +8,13 @@ use native.Mathlib.Omega.{arith}
 use lib.Dec.{eqb}
 use lib.ListN.{length}
 use borrow.Author.Tests.{eqb-true, eqb-false}
-use Rattle.counting.specs.Pick.{one}
-use Rattle.counting.specs.Lists.{tally, weigh}
+use Rattle.counting.specs.Lists.{one, tally}
+use Rattle.counting.specs.work.Stored.{weigh}
 use Rattle.counting.proofs.Lists.{Stands, tally-weigh, weigh-ext}
-use Rattle.manifold.specs.Triangle.{Corner, Side, next, prev}
-use Rattle.manifold.specs.Plain.{Tri, cornerOf, sideOf, hasSide, noTri, nth, Passes}
+use Rattle.manifold.specs.Triangle.{Corner, Side, prev}
+use Rattle.manifold.specs.work.Triangle.{next}
+use Rattle.manifold.specs.claims.Plain.{Tri, cornerOf, sideOf, hasSide, noTri, nth}
+use Rattle.manifold.specs.work.Plain.{Passes}
 use Rattle.manifold.proofs.Triangle.{hits, hits-one}
 
 -- v is a triangle of the list

@@ -6,7 +6,8 @@ use mathlib.Core.Bool.{Bool, true, false}
 use mathlib.Core.List.{List}
 use native.Mathlib.Omega.{arith}
 use Rattle.manifold.specs.Triangle.{Corner, Side, prev}
-use Rattle.manifold.specs.Plain.{Tri, cornerOf, sideOf, nth, Passes, Chain}
+use Rattle.manifold.specs.claims.Plain.{Tri, cornerOf, sideOf, nth, Chain}
+use Rattle.manifold.specs.work.Plain.{Passes}
 use Rattle.manifold.proofs.Sound.{Member, member, turned}
 
 -- the two sides at corner j

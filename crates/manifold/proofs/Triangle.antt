@@ -8,12 +8,13 @@ use native.Mathlib.Nat.{not-suc-le-zero}
 use native.Mathlib.Omega.{arith}
 use lib.Dec.{eqb}
 use borrow.Author.Tests.{eq-eqb, eqb-true}
-use Rattle.counting.specs.Pick.{one}
-use Rattle.counting.specs.Lists.{tally, weigh}
+use Rattle.counting.specs.Lists.{one, tally}
+use Rattle.counting.specs.work.Stored.{weigh}
 use Rattle.counting.proofs.Bools.{and-left, and-right, clash, not-clash}
 use Rattle.counting.proofs.Lists.{tally-weigh, weigh-mono}
-use Rattle.manifold.specs.Triangle.{Corner, cross, middle, Side, seg, inner, next, alike, same}
-use Rattle.manifold.specs.Plain.{Tri, tri, sideOf, hasSide}
+use Rattle.manifold.specs.Triangle.{Corner, cross, middle, Side, seg, inner, same}
+use Rattle.manifold.specs.work.Triangle.{next, alike}
+use Rattle.manifold.specs.claims.Plain.{Tri, tri, sideOf, hasSide}
 
 pub cross-middle : {x c p : ℕ} → cross x ≢ middle c p
 cross-middle e = let z : _≡_ {A = ℕ} 0 1 = cc in omega arith

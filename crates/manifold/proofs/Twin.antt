@@ -6,8 +6,7 @@ use mathlib.Core.Bool.{Bool, true, false, not, _&&_}
 use native.Mathlib.Omega.{arith}
 use lib.Dec.{eqb, ltb}
 use borrow.Author.Tests.{eqb-true, eqb-false, ltb-true, ltb-false, not-true}
-use Rattle.counting.specs.Pick.{one}
-use Rattle.counting.specs.Range.{total}
+use Rattle.counting.specs.Lists.{one, total}
 use Rattle.counting.specs.Search.{first}
 use Rattle.counting.proofs.Bools.{and-left, and-right, clash}
 use Rattle.counting.proofs.Range.{total-one, no-third}

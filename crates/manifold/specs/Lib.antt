@@ -1,9 +1,5 @@
 pub mod Triangle
 pub mod Ring
-pub mod Plain
 pub mod Shape
-pub mod Polygon
-pub mod Piece
-pub mod Complex
-pub mod Faces
-pub mod Claims
+pub mod claims
+pub mod work

@@ -3,7 +3,7 @@ use Prim.Native.Nat.{ℕ, zero, suc}
 use mathlib.Core.Bool.{Bool, true, false}
 use mathlib.Core.List.{List, [], _∷_}
 use lib.Dec.{eqb}
-use Rattle.counting.specs.Range.{over, after}
+use Rattle.counting.specs.Lists.{over, after}
 
 pub data Shape : Type 0 where
   single double fan : Shape
@@ -23,11 +23,6 @@ abbrev pub manyOf : Shape → ℕ → ℕ
 manyOf single n = 1
 manyOf double n = 2
 manyOf fan n = n
-
-abbrev pub innersOf : Shape → ℕ → ℕ
-innersOf single n = 0
-innersOf double n = 1
-innersOf fan n = n
 
 -- a loop of n points has a middle: it is drawn as a fan, and without points there is no loop
 abbrev pub middleBy : Shape → ℕ → Bool

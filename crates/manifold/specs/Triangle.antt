@@ -13,19 +13,8 @@ pub data Side : Type 0 where
   seg : ℕ → ℕ → Side
   inner : ℕ → ℕ → ℕ → Side
 
--- the next of three positions, and the one before: corner j is an end of side j and of side prev j
-abbrev pub next : ℕ → ℕ
-next j = (j + 1) % 3
-
 abbrev pub prev : ℕ → ℕ
 prev j = (j + 2) % 3
-
--- two corners, or two sides, are one
-abbrev pub alike : Corner → Corner → Bool
-alike (cross g) (cross h) = eqb g h
-alike (cross g) (middle c p) = false
-alike (middle c p) (cross h) = false
-alike (middle c p) (middle d q) = eqb c d && eqb p q
 
 abbrev pub same : Side → Side → Bool
 same (seg f a) (seg g b) = eqb f g && eqb a b

@@ -8,12 +8,12 @@ use lib.ListN.{length, getD}
 use borrow.Author.Tests.{lt-ltb, le-ltb}
 use Rattle.counting.proofs.Lists.{length-singles}
 use Rattle.answer.specs.Answer.{refusal}
-use Rattle.grid.specs.Grid.{mostCells}
+use Rattle.slots.specs.Limits.{mostCells}
 use Rattle.cell.specs.declared.Cell.{Cell}
-use Rattle.cell.specs.Limits.{shortLimit}
-use Rattle.cell.specs.Of.{edgesOf, limited}
+use Rattle.cell.specs.claims.Table.{shortLimit, side, tableCell}
+use Rattle.cell.specs.Of.{edgesOf}
+use Rattle.cell.specs.work.Route.{limited}
 use Rattle.cell.specs.Loop.{loopAnswer}
-use Rattle.cell.specs.Table.{side, tableCell}
 use Rattle.cell.proofs.Using.{table-near, limited-same}
 use Rattle.mesh.specs.Asked.{cellLoop, askedLoop}
 

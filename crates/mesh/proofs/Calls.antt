@@ -7,17 +7,18 @@ use lib.ListN.{length}
 use Rattle.answer.specs.Answer.{refused}
 use Rattle.counting.specs.Stored.{storedIn}
 use Rattle.cell.specs.Words.{allWords}
-use Rattle.grid.specs.Grid.{Grid, mostSlots, mostEdges}
+use Rattle.grid.specs.Grid.{Grid}
+use Rattle.slots.specs.Limits.{mostSlots}
+use Rattle.slots.specs.work.Limits.{mostEdges}
 use Rattle.grid.specs.declared.Checked.{Checked}
 use Rattle.grid.specs.declared.Checked.the-variants.{Crossings, Refused}
 use Rattle.grid.specs.Check.{checkNumbers}
-use Rattle.grid.specs.Rows.{gridAnswer}
-use Rattle.grid.specs.Tables.{accepts, Laid}
+use Rattle.grid.specs.Rows.{gridAnswer, accepts}
+use Rattle.grid.specs.work.Tables.{Laid}
 use Rattle.grid.proofs.Filled.{refused-keeps, told-accepts, told-sound}
 use Rattle.mesh.specs.Mesh.{meshWords}
-use Rattle.mesh.specs.Asked.{tableLoop}
+use Rattle.mesh.specs.work.Drawn.{tableLoop, Drawn}
 use Rattle.mesh.specs.Room.{roomAnswer}
-use Rattle.mesh.specs.Drawn.{Drawn}
 use Rattle.mesh.specs.Answer.{meshAnswer, meshArea, loopsAnswer}
 use Rattle.mesh.specs.Done.{Done}
 use Rattle.mesh.proofs.Demand.{demand3}

@@ -6,7 +6,7 @@ use lib.Dec.{ltb, leb}
 use lib.ListN.{length, drop}
 use Rattle.answer.specs.Answer.{result, refusal, refused}
 use Rattle.answer.proofs.Answer.{mixed, no-nil, pick-some, refusals}
-use Rattle.counting.specs.Pick.{one}
+use Rattle.counting.specs.Lists.{one}
 use Rattle.face.proofs.Rim.{alternating}
 use Rattle.cell.specs.declared.Cell.{Cell}
 use Rattle.cell.specs.declared.Loop.{Loop}
@@ -18,8 +18,7 @@ use Rattle.cell.proofs.Claims.{oneToOne, ordered}
 use Rattle.cell.specs.declared.Triangle.{Triangle}
 use Rattle.cell.specs.Words.{wordCount}
 use Rattle.grid.specs.Grid.{Grid, cellCount}
-use Rattle.grid.specs.Tables.{accepts}
-use Rattle.grid.specs.Rows.{gridAnswer}
+use Rattle.grid.specs.Rows.{accepts, gridAnswer}
 use Rattle.grid.proofs.Accepts.{acceptance-yields}
 use Rattle.grid.proofs.Claims.{never-empty}
 use Rattle.split.proofs.Claims.{splitsFew, drawnOrdered}
@@ -32,7 +31,7 @@ use Rattle.mesh.specs.Room.{roomAnswer}
 use Rattle.mesh.specs.Asked.{cellLoop, askedLoop}
 use Rattle.mesh.specs.Answer.{meshAnswer, loopsAnswer}
 use Rattle.mesh.specs.Numbers.{meshNumbers, loopsNumbers}
-use Rattle.mesh.specs.Claims.{MeshTold, LoopsTold, CanAlternate, FewSplits, LoopsOrdered, PartsOrdered}
+use Rattle.mesh.specs.claims.Claims.{MeshTold, LoopsTold, CanAlternate, FewSplits, LoopsOrdered, PartsOrdered}
 use Rattle.mesh.proofs.Complex.{separate, fit}
 
 -- there is always an answer

@@ -12,31 +12,32 @@ use Rattle.counting.proofs.Search.{first-ext}
 use Rattle.slots.specs.Limits.{mostCount}
 use Rattle.slots.specs.Slots.{lo, hi, position, lower, upper, slotEdge, edgeRank, firstSlot, secondSlot}
 use Rattle.slots.proofs.Slots.{slot-edge, face-ends, same-slot, corner-lt}
-use Rattle.face.specs.Face.{unjoined, faceJoin}
+use Rattle.face.specs.claims.Claims.{unjoined}
+use Rattle.face.specs.Face.{faceJoin}
 use Rattle.walk.specs.Darts.{half}
 use Rattle.walk.proofs.Step.{face-first, face-second}
 use Rattle.cell.specs.Cell as cell
 use Rattle.cell.specs.Cell.{Edges, crossings, edge, index, number, mate, joinAt}
-use Rattle.cell.specs.Claims.{Separate}
+use Rattle.cell.specs.claims.Claims.{Separate}
 use Rattle.cell.specs.Loop.{inGrid}
 use Rattle.cell.proofs.Lay.{lay}
 use Rattle.cell.proofs.Mates.{mate-joined}
 use Rattle.cell.proofs.Route.{count-listed}
 use Rattle.cell.proofs.Claims.{ordered, rising-separate}
 use Rattle.mesh.proofs.Joins.{three, On, index-in, num-lt, num-edge, num-index, num-place, is-num, JoinFound, joined-or, on-dart}
-use Rattle.cell.specs.Triangles as triangles
+use Rattle.cell.specs.Of as triangles
 use Rattle.cell.specs.Triangles.{numberOf}
 use Rattle.cell.proofs.Polygons.{localOf, piece}
-use Rattle.manifold.specs.Piece.{Local, Piece, slotOf, mateOf}
-use Rattle.manifold.specs.Complex.{Complex}
-use Rattle.manifold.specs.Faces.{Match, Faced}
-use Rattle.grid.specs.Grid.{Grid, cellCount, node, SameFace, faceName, joins, isEdge, edgeNumber, countOf, start}
-use Rattle.grid.specs.Accepted.{Sound}
+use Rattle.manifold.specs.claims.Piece.{Local, Piece, slotOf, mateOf}
+use Rattle.manifold.specs.claims.Complex.{Complex}
+use Rattle.manifold.specs.work.Faces.{Match, Faced}
+use Rattle.grid.specs.Grid.{Grid, cellCount, node, faceName, joins, isEdge, edgeNumber, countOf, start}
+use Rattle.grid.specs.claims.Accepted.{SameFace, Sound}
 use Rattle.grid.proofs.Sound.{edge-numbers}
 use Rattle.grid.proofs.Names.{name-lt, same-named}
 use Rattle.mesh.specs.Mesh.{gridCell}
 use Rattle.cell.proofs.Values.{past-end}
-use Rattle.split.specs.Owned.{cellComplex, Fit}
+use Rattle.split.specs.claims.Owned.{cellComplex, Fit}
 
 module _ (G : Grid) where
   -- the number of edge k of cell c, and the edges of the cell

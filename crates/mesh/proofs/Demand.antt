@@ -7,8 +7,9 @@ use mathlib.Core.Bool.{Bool, true, false, _||_}
 use native.Mathlib.Omega.{arith}
 use mathlib.Core.List.{List, [], _∷_, map}
 use lib.ListN.{length, getD, length-map}
-use Rattle.counting.specs.Lists.{tally, All}
-use Rattle.counting.specs.Pack.{pre, row, col}
+use Rattle.counting.specs.Lists.{tally, pre}
+use Rattle.counting.specs.claims.Lists.{All}
+use Rattle.counting.specs.Pack.{row, col}
 use Rattle.counting.proofs.Lists.{getD-map, tally-map, map-over}
 use Rattle.counting.proofs.Range.{over-ext}
 use Rattle.counting.proofs.Pack.{row-lt, col-lt, unpack, pack-lt, row-pack, col-pack}
@@ -17,24 +18,24 @@ use Rattle.cell.specs.Cell as cell
 use Rattle.cell.specs.Of.{edgesOf}
 use Rattle.cell.specs.Loop.{loopSize, normal}
 use Rattle.cell.proofs.Lay.{lay}
-use Rattle.manifold.specs.Plain as names
+use Rattle.manifold.specs.claims.Plain as names
 use Rattle.manifold.specs.Triangle.{Corner, Side, cross, middle, seg, inner, same}
-use Rattle.manifold.specs.Plain.{Tri, noTri, nth}
-use Rattle.manifold.specs.Piece.{slotOf, segmentOf, sizeOf}
+use Rattle.manifold.specs.claims.Plain.{Tri, noTri, nth}
+use Rattle.manifold.specs.claims.Piece.{slotOf, segmentOf, sizeOf}
 use Rattle.manifold.specs.Shape.{fan, shapeOf}
-use Rattle.manifold.specs.Polygon.{shape}
-use Rattle.manifold.specs.Complex as complex
-use Rattle.manifold.specs.Complex.{Complex, Joins, Lawful, Shut, Has}
+use Rattle.manifold.specs.claims.Polygon.{shape}
+use Rattle.manifold.specs.claims.Complex as complex
+use Rattle.manifold.specs.claims.Complex.{Complex, Joins, Lawful, Shut, Has}
 use Rattle.manifold.specs.Ring.{RingIn}
-use Rattle.manifold.specs.Claims.{Manifold}
+use Rattle.manifold.specs.claims.Claims.{Manifold}
 use Rattle.manifold.proofs.Claims.{manifold}
 use Rattle.manifold.proofs.Faces.{faces-lawful, faces-shut, faces-linked}
 use Rattle.manifold.proofs.Named.{ring-named}
 use Rattle.cell.specs.declared.Triangle.{Triangle}
 use Rattle.cell.specs.Names.{sideNameAt}
-use Rattle.cell.specs.Polygons.{named}
+use Rattle.cell.specs.claims.Polygons.{named}
 use Rattle.grid.specs.Grid.{Grid, cellCount, countOf, start, crossings}
-use Rattle.grid.specs.Accepted.{Accepted}
+use Rattle.grid.specs.claims.Accepted.{Accepted}
 use Rattle.answer.specs.Answer.{isResult, result}
 use Rattle.grid.specs.Rows.{gridAnswer}
 use Rattle.grid.proofs.Claims.{accepted-is}
@@ -42,14 +43,15 @@ use Rattle.grid.proofs.Sound.{edge-numbers}
 use Rattle.grid.proofs.Accepts.{acceptance-yields}
 use Rattle.split.specs.Limits.{firstInnerCrossing, firstInnerFace}
 use Rattle.split.specs.Parts.{Part, whole, drawnTriangles, noPart, partCell, drawnParts}
-use Rattle.split.specs.Claims.{partLocal}
-use Rattle.split.specs.Owned.{owned, ownedSide, ownedTri, ofCell, partCount, partAt, gridComplex, GridLaws}
+use Rattle.split.specs.claims.Claims.{partLocal}
+use Rattle.split.specs.Owned.{owned, ownedSide}
+use Rattle.split.specs.claims.Owned.{ownedTri, ofCell, partCount, partAt, gridComplex, GridLaws}
 use Rattle.split.proofs.Grid.{owned-ge, ready-of}
 use Rattle.split.proofs.Claims.{sidesCounted, curvesCounted, gridSplit, gridMeshed, drawnOwned}
 use Rattle.mesh.specs.Mesh.{gridCell, meshTriangles}
-use Rattle.mesh.specs.Names.{cellOf, meshCorner, meshSide, hasMeshSide, IsInner}
+use Rattle.mesh.specs.Names.{cellOf, meshCorner, meshSide, hasMeshSide}
+use Rattle.mesh.specs.claims.Claims.{IsInner, SidesInside}
 use Rattle.mesh.specs.Demand.{none, NoneAlternate, faceCount, innerCount, RingPremises, OneRing, InnerCrossing, MeshLaws, Demand3}
-use Rattle.mesh.specs.Claims.{SidesInside}
 use Rattle.mesh.proofs.Complex.{w, en, cellsOf, count-of, number-of, fit, faced}
 use Rattle.mesh.proofs.Shut.{facesShut, facesLinked}
 

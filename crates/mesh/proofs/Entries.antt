@@ -7,7 +7,7 @@ use lib.Dec.{ltb}
 use lib.ListN.{length}
 use borrow.Author.Tests.{ltb-true}
 use Rattle.counting.specs.Pick.{pick}
-use Rattle.counting.specs.Range.{total}
+use Rattle.counting.specs.Lists.{total}
 use Rattle.counting.specs.Gcd.{gcd}
 use Rattle.counting.proofs.Bools.{and-right, not-clash}
 use Rattle.counting.proofs.Range.{total-ext, total-add, length-over}
@@ -21,9 +21,8 @@ use Rattle.cell.specs.Level.{isLevelCell}
 use Rattle.cell.specs.Common.{isCommon}
 use Rattle.cell.specs.Triangles.{triangleCount}
 use Rattle.cell.proofs.Taken.{cell-count}
-use Rattle.cases.specs.Cases.{entries, entryOf}
-use Rattle.cases.specs.Answer.{findEntry}
-use Rattle.cases.specs.Tally.{trianglesAt}
+use Rattle.cases.specs.claims.Cases.{entries, entryOf}
+use Rattle.cases.specs.claims.Tally.{findEntry, trianglesAt}
 use Rattle.cases.proofs.Digits.{few}
 use Rattle.cases.proofs.Claims.{entry-triangles, by-place}
 use Rattle.grid.specs.Grid.{cellCount}
@@ -33,7 +32,7 @@ use Rattle.split.specs.Parts.{drawnTriangles}
 use Rattle.split.proofs.Lengths.{split-is, drawn-not}
 use Rattle.split.proofs.Claims.{drawnBooked}
 use Rattle.mesh.specs.Mesh.{gridCell, meshTriangles}
-use Rattle.mesh.specs.Claims.{outsideTriangles, MeshByEntry}
+use Rattle.mesh.specs.claims.Claims.{outsideTriangles, MeshByEntry}
 
 median-le : (p q r n : ℕ) → p ≤ n → q ≤ n → median p q r ≤ n
 unfolding median

@@ -1,16 +1,16 @@
 -- The examples, by computation.
 use mathlib.Core.Path.{refl}
-use Rattle.counting.specs.Search.{seek, first, last, some, every, count, rise}
-use Rattle.counting.specs.Range.{total, over, kept}
-use Rattle.counting.specs.Lists.{tally, gather}
-use Rattle.counting.specs.Pack.{pre, row, col}
+use Rattle.counting.specs.Lists.{seek, total, over, kept, tally, gather, pre, it}
+use Rattle.counting.specs.Search.{first, last, some, every, count}
+use Rattle.counting.specs.claims.Lists.{rise}
+use Rattle.counting.specs.Pack.{row, col}
 use Rattle.counting.specs.Gcd.{divides, gcd}
 use Rattle.counting.specs.Reach.{reach}
 use Rattle.slots.specs.Slots.{lo, hi, position, lower, upper, edgeBetween, slotEdge, edgeRank, contains, firstSlot, secondSlot}
 use Rattle.face.specs.Face as face
-use Rattle.face.specs.Tally.{joinOf, segments, unjoinedCount}
-use Rattle.face.specs.Level.{isLevel}
-use Rattle.walk.specs.Iterate.{it, orbit}
+use Rattle.face.specs.claims.Tally.{joinOf, segments, unjoinedCount}
+use Rattle.face.specs.Face.{isLevel}
+use Rattle.walk.specs.Walk.{orbit}
 use Rattle.walk.specs.Step as step
 use Rattle.walk.specs.Walk as walk
 use Rattle.cell.specs.Cell as cell
@@ -20,7 +20,7 @@ use Rattle.answer.specs.Rows as rows
 use Rattle.grid.specs.Rows.{badLength, badNumbers, badStart, badLists, badCell, sameCell, repeats, crowded, isAfter, badEdge, badCount, unlisted, unused, linked, reached, split, tooMany, rows, gridAnswer}
 use Rattle.cell.specs.Triangles as triangle
 use Rattle.cell.specs.Words.{cornerWords, words}
-use Rattle.cell.specs.Nth.{nthAnswer}
+use Rattle.cell.specs.work.Nth.{nthAnswer}
 use Rattle.cell.specs.Nodes.{joining, cornerFrom}
 use Rattle.cell.specs.Level.{isLevelCell}
 use Rattle.booking.specs.Booking.{median, cornerOn, leastCorner, leftBetween, larger, smaller, isSpiral, isSplit}
@@ -29,13 +29,13 @@ use Rattle.split.specs.Labels.{remainsTo, labelled, label, spoke}
 use Rattle.split.specs.SubCell.{restStart, armStart, innerName, subAt, sub}
 use Rattle.split.specs.Parts.{parts, allParts, ownCorners, drawnParts, drawnTriangles, splitsOf}
 use Rattle.split.specs.Owned.{owned}
-use Rattle.split.specs.Examples.{loneCell, of, oneSplit}
+use Rattle.split.specs.examples.Examples.{loneCell, of, oneSplit}
 use Rattle.counting.specs.Stored.{storedIn}
 use Rattle.mesh.specs.Mesh.{gridCell, meshTriangles, meshSplits, meshWords}
 use Rattle.mesh.specs.Room.{roomAnswer}
 use Rattle.mesh.specs.Asked.{askedLoop}
 use Rattle.mesh.specs.Answer.{meshAnswer, meshArea, loopsAnswer}
-use Rattle.mesh.specs.Examples.{faceAnswers, leastsOf, gridLoops, loopPoints, gridPoints, sidesOf, different, tallies, computed, examples, ExamplesHold}
+use Rattle.mesh.specs.examples.Examples.{faceAnswers, leastsOf, gridLoops, loopPoints, gridPoints, sidesOf, different, tallies, computed, examples, ExamplesHold}
 
 pub examples-hold : ExamplesHold
 unfolding seek first last some every count rise joinOf segments unjoinedCount isLevel total over kept tally pre row col divides gcd reach

@@ -5,7 +5,8 @@ use mathlib.Core.Logic.{_⊎_, inl, inr}
 use native.Mathlib.Omega.{arith}
 use Rattle.slots.specs.Slots.{slotEdge, edgeRank}
 use Rattle.slots.proofs.Slots.{slot-edge, EdgeSlot}
-use Rattle.face.specs.Face.{joined, unjoined}
+use Rattle.face.specs.Face.{joined}
+use Rattle.face.specs.claims.Claims.{unjoined}
 use Rattle.face.proofs.Claims.{faceLaws}
 use Rattle.walk.specs.Step as walk
 use Rattle.cell.specs.Cell.{Edges, crossings, edge, index, number, joinAt, mate, firstSlotAt, secondSlotAt, slot}

@@ -6,7 +6,7 @@ use native.Mathlib.Omega.{arith}
 use native.Mathlib.Decide.{decLt}
 use Rattle.manifold.specs.Triangle as names
 use Rattle.manifold.specs.Triangle.{cross, middle, seg, inner}
-use Rattle.grid.specs.Grid.{mostCells}
+use Rattle.slots.specs.Limits.{mostCells}
 use Rattle.cell.specs.declared.Corner.{Corner}
 use Rattle.cell.specs.declared.Corner.the-variants.{Crossing, Middle}
 use Rattle.cell.specs.declared.Side.{Side}
@@ -17,7 +17,7 @@ use Rattle.split.specs.Limits.{firstInnerCrossing, firstInnerFace, wordStep}
 use Rattle.split.specs.Owned.{owned, ownedCorner, ownedSide}
 use Rattle.split.proofs.Grid.{owned-outer, owned-inner, owned-ge, owned-cell}
 use Rattle.mesh.specs.Names.{cellOf}
-use Rattle.mesh.specs.Claims.{OneCorner, OneSide, NamesTold}
+use Rattle.mesh.specs.claims.Claims.{OneCorner, OneSide, NamesTold}
 
 -- numbers of two cells, where inner ones start at `first`
 module _ (first c d g h : ℕ) (lc : c < mostCells) (ld : d < mostCells) where

@@ -7,10 +7,9 @@ use mathlib.Core.List.{[], _∷_}
 use lib.Dec.{eqb}
 use lib.ListN.{length}
 use borrow.Author.Tests.{eqb-true, not-true}
-use Rattle.counting.specs.Search.{seek, first, last, some, every, count}
-use Rattle.counting.specs.Range.{total, over}
-use Rattle.counting.specs.Lists.{tally, gather}
-use Rattle.counting.specs.Pack.{pre, row, col}
+use Rattle.counting.specs.Lists.{seek, total, over, tally, gather, pre, it}
+use Rattle.counting.specs.Search.{first, last, some, every, count}
+use Rattle.counting.specs.Pack.{row, col}
 use Rattle.counting.specs.Reach.{reach}
 use Rattle.counting.specs.Gcd.{divides, gcd}
 use Rattle.counting.proofs.Bools.{clash, and-left, and-right, or-cases}
@@ -18,8 +17,8 @@ use Rattle.counting.proofs.Search.{every-is}
 use Rattle.answer.specs.Answer.{result}
 use Rattle.slots.specs.Slots.{lo, hi, position, lower, upper, edgeBetween, slotEdge, edgeRank, contains, firstSlot, secondSlot}
 use Rattle.face.specs.Face as face
-use Rattle.face.specs.Level.{isLevel}
-use Rattle.walk.specs.Iterate.{it, orbit}
+use Rattle.face.specs.Face.{isLevel}
+use Rattle.walk.specs.Walk.{orbit}
 use Rattle.walk.specs.Step as step
 use Rattle.walk.specs.Walk as walk
 use Rattle.cell.specs.Cell as cell
@@ -37,8 +36,8 @@ use Rattle.split.specs.SubCell.{restStart, armStart, innerName, subAt, sub}
 use Rattle.split.specs.Parts.{parts, allParts, ownCorners, drawnParts, drawnTriangles, splitsOf}
 use Rattle.mesh.specs.Mesh.{gridCell, meshTriangles, meshSplits}
 use Rattle.mesh.specs.Demand.{faceCount, RingPremises}
-use Rattle.mesh.specs.Claims.{RingsHappen}
-use Rattle.mesh.specs.Examples.{threeCells, threeEdges, threeCounts, fiveCells, fiveCounts}
+use Rattle.mesh.specs.claims.Claims.{RingsHappen}
+use Rattle.mesh.specs.examples.Examples.{threeCells, threeEdges, threeCounts, fiveCells, fiveCounts}
 
 module _ (G : Grid) where
   unfoldable pub zeroTest : ℕ → Bool

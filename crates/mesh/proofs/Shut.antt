@@ -14,17 +14,17 @@ use Rattle.counting.proofs.Pack.{row-pack}
 use Rattle.counting.proofs.Search.{Least, least, some-is, some-found}
 use Rattle.slots.specs.Slots.{slotEdge, edgeRank, firstSlot, secondSlot}
 use Rattle.slots.proofs.Slots.{slot-edge}
-use Rattle.face.specs.Face.{unjoined}
+use Rattle.face.specs.claims.Claims.{unjoined}
 use Rattle.walk.specs.Darts.{half}
 use Rattle.walk.proofs.Step.{face-first, face-second}
 use Rattle.cell.specs.Cell as cell
 use Rattle.cell.specs.Cell.{Edges, crossings, edge, index, number, mate, joinAt}
 use Rattle.cell.proofs.Lay.{lay}
 use Rattle.mesh.proofs.Joins.{three, On, index-in, num-lt, num-edge, num-index, JoinFound, joined-or, even-joined, on-dart}
-use Rattle.manifold.specs.Piece.{slotOf, mateOf}
-use Rattle.manifold.specs.Faces.{FacesShut, SharesFace, FacesLinked}
-use Rattle.grid.specs.Grid.{Grid, cellCount, SameFace, countOf, start, sameFace}
-use Rattle.grid.specs.Accepted.{Linked, Sound}
+use Rattle.manifold.specs.claims.Piece.{slotOf, mateOf}
+use Rattle.manifold.specs.work.Faces.{FacesShut, SharesFace, FacesLinked}
+use Rattle.grid.specs.Grid.{Grid, cellCount, countOf, start, sameFace}
+use Rattle.grid.specs.claims.Accepted.{SameFace, Linked, Sound}
 use Rattle.grid.proofs.Sound.{edge-numbers}
 use Rattle.grid.proofs.Packed.{same-true, true-same}
 use Rattle.grid.proofs.Names.{named-same, outer-edge}

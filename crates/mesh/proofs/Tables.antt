@@ -6,22 +6,25 @@ use mathlib.Core.List.{List}
 use native.Mathlib.Omega.{arith}
 use lib.ListN.{length, getD}
 use Rattle.counting.specs.Pick.{pick}
-use Rattle.counting.specs.Range.{values}
+use Rattle.counting.specs.Lists.{values}
 use Rattle.counting.specs.Stored.{filled}
 use Rattle.counting.proofs.Lists.{values-ext}
 use Rattle.counting.proofs.Stored.{filled-at}
 use Rattle.counting.proofs.Range.{total-ext, over-ext}
 use Rattle.counting.proofs.Pack.{pre-le}
-use Rattle.cell.specs.Limits.{shortLimit}
-use Rattle.grid.specs.Grid.{Grid, mostCells, cellCount, faceName, edgeNumber, countOf, start, mostSlots, mostEdges}
-use Rattle.grid.specs.Accepted.{Sound}
+use Rattle.cell.specs.claims.Table.{shortLimit, tableCounts, tableStarts, ofFour, side, drawnCells, tableCell}
+use Rattle.grid.specs.Grid.{Grid, cellCount, faceName, edgeNumber, countOf, start}
+use Rattle.slots.specs.Limits.{mostCells, mostSlots}
+use Rattle.slots.specs.work.Limits.{mostEdges}
+use Rattle.grid.specs.claims.Accepted.{Sound}
 use Rattle.grid.proofs.Sound.{edge-numbers}
-use Rattle.grid.specs.Tables.{accepts, Laid, nameAt, sideAt}
-use Rattle.cell.specs.Table.{tableCounts, tableStarts, ofFour, side, drawnCells, tableCell}
+use Rattle.grid.specs.Rows.{accepts}
+use Rattle.grid.specs.work.Tables.{Laid, nameAt, sideAt}
 use Rattle.split.specs.Parts.{drawnTriangles, splitsOf}
-use Rattle.split.specs.Table.{tableDrawn, tableSplits}
+use Rattle.split.specs.work.Table.{tableDrawn, tableSplits}
 use Rattle.mesh.specs.Mesh.{gridCell, meshTriangles, meshSplits}
-use Rattle.mesh.specs.Asked.{askedLoop, tableLoop}
+use Rattle.mesh.specs.Asked.{askedLoop}
+use Rattle.mesh.specs.work.Drawn.{tableLoop}
 use Rattle.mesh.proofs.Askings.{asked-ext}
 
 -- the tables of an accepted grid, in arrays that are long enough

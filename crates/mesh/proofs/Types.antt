@@ -8,22 +8,22 @@ use native.Mathlib.Omega.{arith}
 use lib.Dec.{eqb, ltb}
 use lib.ListN.{getD}
 use borrow.Author.Tests.{eqb-true, ltb-true}
-use Rattle.counting.specs.Pick.{one}
-use Rattle.counting.specs.Range.{total, after}
-use Rattle.counting.specs.Search.{every, seek, first}
+use Rattle.counting.specs.Lists.{one, total, after, seek}
+use Rattle.counting.specs.Search.{every, first}
 use Rattle.counting.proofs.Bools.{imply}
 use Rattle.counting.proofs.Search.{every-is}
 use Rattle.counting.proofs.Below.{below-six}
 use Rattle.counting.proofs.Range.{total-ext, total-add, total-round, after-lt}
-use Rattle.slots.specs.Slots.{lo, hi, position, lower, upper, edgeBetween, slotEdge, contains, otherSlot}
+use Rattle.slots.specs.Slots.{lo, hi, position, lower, upper, edgeBetween, slotEdge, contains}
+use Rattle.slots.specs.claims.Slots.{otherSlot}
 use Rattle.slots.proofs.Slots.{third-of}
 use Rattle.cell.specs.Cell.{Edges, crossings, edge, slot}
 use Rattle.cell.specs.Loop.{loopSize, dart, parity, nodeWith, typeBy, typeOf}
 use Rattle.cell.specs.Nodes.{joining}
-use Rattle.cell.specs.Claims.{StepOf}
+use Rattle.cell.specs.claims.Claims.{StepOf}
 use Rattle.cell.proofs.Claims.{cellLaws}
 use Rattle.cell.proofs.Loops.{dart-live, dart-after, tally-darts}
-use Rattle.mesh.specs.Types.{typeFrom, apart, crossingsOn, TypeLaws, TypesTold, TypeExamples}
+use Rattle.mesh.specs.claims.Types.{typeFrom, apart, crossingsOn, TypeLaws, TypesTold, TypeExamples}
 
 -- THE CROSSINGS ON A FACE
 

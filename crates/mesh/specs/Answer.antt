@@ -4,8 +4,7 @@ use mathlib.Core.List.{List}
 use Rattle.counting.specs.Pick.{pick}
 use Rattle.counting.specs.Stored.{storedIn}
 use Rattle.grid.specs.Grid.{Grid, cellCount}
-use Rattle.grid.specs.Rows.{gridAnswer}
-use Rattle.grid.specs.Tables.{accepts}
+use Rattle.grid.specs.Rows.{gridAnswer, accepts}
 use Rattle.mesh.specs.Mesh.{gridCell, meshTriangles, meshSplits, meshWords}
 use Rattle.mesh.specs.Room.{roomAnswer}
 use Rattle.mesh.specs.Asked.{askedLoop}

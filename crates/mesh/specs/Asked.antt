@@ -7,8 +7,6 @@ use Rattle.counting.specs.Pick.{pick}
 use Rattle.cell.specs.declared.Cell.{Cell}
 use Rattle.cell.specs.Of.{edgesOf}
 use Rattle.cell.specs.Loop.{loopAnswer}
-use Rattle.cell.specs.Table.{tableCell}
-use Rattle.grid.specs.Grid.{cellCount}
 
 -- loop k of a cell (01); none if there are k or fewer
 abbrev pub cellLoop : Cell → ℕ → List ℕ
@@ -17,7 +15,3 @@ cellLoop c k = loopAnswer (edgesOf c) (c .nodes) k
 -- the numbers answered for loop k of cell c of n cells: row 11 with the cell asked for, or the loop
 unfoldable pub askedLoop : (ℕ → Cell) → (n c k : ℕ) → List ℕ
 askedLoop cell n c k = pick (ltb c n) (cellLoop (cell c) k) (refusal 11 c)
-
--- the same by the tables of a grid
-unfoldable pub tableLoop : (cells counts names sides starts : List ℕ) → ℕ → ℕ → List ℕ
-tableLoop cells counts names sides starts c k = askedLoop (tableCell cells counts names sides starts) (cellCount cells) c k

@@ -1,12 +1,11 @@
 pub mod Mesh
 pub mod Room
 pub mod Asked
-pub mod Drawn
 pub mod Answer
 pub mod Numbers
 pub mod Names
 pub mod Demand
 pub mod Done
-pub mod Examples
-pub mod Types
-pub mod Claims
+pub mod claims
+pub mod examples
+pub mod work

@@ -1,7 +1,7 @@
 -- The mesh of a grid (01; with splits, 02, W12): the triangles that are drawn of all its cells, with the face names and crossing numbers of the whole grid.
 use Prim.Native.Nat.{ℕ}
 use mathlib.Core.List.{List}
-use Rattle.counting.specs.Range.{total, over, values}
+use Rattle.counting.specs.Lists.{total, over, values}
 use Rattle.grid.specs.Grid.{Grid, cellCount, node, faceName, edgeNumber, countOf, start}
 use Rattle.cell.specs.declared.Cell.{Cell}
 use Rattle.cell.specs.declared.Triangle.{Triangle}

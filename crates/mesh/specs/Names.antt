@@ -1,11 +1,11 @@
 -- Names that tell the corners and the sides of a mesh's triangles apart. What lies on the faces of the grid has its name of 01. What is inside a split cell
 -- (02, W12) has the cell in its name too; a middle and an inner side have word 0 there, from which the cell is known.
-use Prim.Native.Nat.{ℕ, _%_, _≤_}
+use Prim.Native.Nat.{ℕ, _%_}
 use mathlib.Core.Bool.{Bool, _||_}
-use Rattle.manifold.specs.Triangle.{Corner, Side, seg, inner, same}
+use Rattle.manifold.specs.Triangle.{Corner, Side, same}
 use Rattle.cell.specs.declared.Triangle.{Triangle}
 use Rattle.cell.specs.Names.{cornerNameAt, sideNameAt}
-use Rattle.split.specs.Limits.{firstInnerFace, wordStep}
+use Rattle.split.specs.Limits.{wordStep}
 use Rattle.split.specs.Owned.{ownedCorner, ownedSide}
 
 -- the cell of a triangle: word 0 is its number and 2,048 times that of the sub-cell
@@ -22,8 +22,3 @@ meshSide t i = ownedSide (cellOf t) (sideNameAt t i)
 -- the triangle has the side with this name
 unfoldable pub hasMeshSide : Side → Triangle → Bool
 hasMeshSide σ t = same σ (meshSide t 0) || (same σ (meshSide t 1) || same σ (meshSide t 2))
-
--- a side within its cell: a segment of an inner face, or an inner side
-abbrev pub IsInner : Side → Type 0
-IsInner (seg f g) = firstInnerFace ≤ f
-IsInner (inner w p k) = Unit {0}

@@ -2,9 +2,8 @@
 ghost use mathlib.Core.Path.{_≡_};
 ghost use Rattle.grid.specs.Grid.{gridOf};
 ghost use Rattle.mesh.specs.Numbers.{meshNumbers, loopsNumbers};
-ghost use Rattle.mesh.specs.Asked.{tableLoop};
+ghost use Rattle.mesh.specs.work.Drawn.{tableLoop, Drawn};
 ghost use Rattle.mesh.specs.Answer.{loopsAnswer};
-ghost use Rattle.mesh.specs.Drawn.{Drawn};
 ghost use Rattle.mesh.specs.Done.{Done};
 use cell::Loop;
 use cell::WORD_COUNT;

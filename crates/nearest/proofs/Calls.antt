@@ -19,7 +19,7 @@ use Rattle.place.specs.Place.{within, coordinates, numbers}
 use Rattle.nearest.specs.declared.Nearest.the-variants.{NoPoint, At}
 use Rattle.nearest.specs.Distance.{pointCount, distanceOf}
 use Rattle.nearest.specs.Answer.{nearestNumbers, beyond, nearestNumber, nearestValues, nearestAnswer}
-use Rattle.nearest.specs.Fault.{Fault, uneven, listed, asked, Faultless}
+use Rattle.nearest.specs.claims.Fault.{Fault, uneven, listed, asked, Faultless}
 use Rattle.nearest.proofs.Faults.{lowest-refused, faultless-answered}
 use Rattle.nearest.proofs.Order.{Counted}
 use Rattle.nearest.proofs.Least.{LeastAt, least-at}

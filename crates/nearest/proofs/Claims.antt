@@ -22,8 +22,8 @@ use Rattle.nearest.specs.declared.Measured.{Measured}
 use Rattle.nearest.specs.declared.Measured.the-variants.{Told, Refused}
 use Rattle.nearest.specs.Distance.{pointCount, distanceOf}
 use Rattle.nearest.specs.Answer.{hasBits, nearestNumbers, measuredNumbers, nearestRows, nearestNumber, nearestValues, nearestAnswer}
-use Rattle.nearest.specs.Fault.{Faultless, LowestAt}
-use Rattle.nearest.specs.Claims.{IsNearest, Says, CallSays, MeasuredTold}
+use Rattle.nearest.specs.claims.Fault.{Faultless, LowestAt}
+use Rattle.nearest.specs.claims.Claims.{IsNearest, Says, CallSays, MeasuredTold}
 use Rattle.nearest.proofs.Faults.{lowest-refused, faults}
 use Rattle.nearest.proofs.Least.{none-smaller, lowest-equal, not-above}
 use Rattle.nearest.proofs.Distances.{distance-between}

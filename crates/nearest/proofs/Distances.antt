@@ -16,8 +16,8 @@ use Rattle.place.specs.Place.{floatOf, farthest, within, coordinates, numbers, 
 use Rattle.place.proofs.Numbers.{number-loaded}
 use Rattle.nearest.specs.Distance.{square, squaredDistance, pointCount, distanceOf}
 use Rattle.nearest.specs.Answer.{hasBits}
-use Rattle.nearest.specs.Fault.{listed, asked, Faultless}
-use Rattle.nearest.specs.Claims.{greatestDistance}
+use Rattle.nearest.specs.claims.Fault.{listed, asked, Faultless}
+use Rattle.nearest.specs.claims.Claims.{greatestDistance}
 use Rattle.nearest.proofs.Sizes.{Most, within-bounded, sub-most, square-most, add-most, most-between}
 use Rattle.nearest.proofs.Order.{Counted}
 

@@ -20,7 +20,7 @@ use Rattle.counting.proofs.Search.{first-at, none-first, least}
 use Rattle.place.specs.declared.Place.{Place}
 use Rattle.place.specs.Place.{within, coordinates, numbers}
 use Rattle.nearest.specs.Answer.{beyond, judged, badPoints, nearestRows, nearestValues, nearestAnswer}
-use Rattle.nearest.specs.Fault.{Fault, uneven, listed, asked, Faultless, LowestAt}
+use Rattle.nearest.specs.claims.Fault.{Fault, uneven, listed, asked, Faultless, LowestAt}
 
 module _ (points : List Float) (query : Place) where
   long : length (judged points query) ≡ length points + coordinates

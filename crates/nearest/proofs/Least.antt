@@ -9,12 +9,13 @@ use native.Mathlib.Nat.{not-suc-le-zero}
 use native.Mathlib.Omega.{arith}
 use lib.Ieee.{Float, lt, le, eq}
 use Rattle.counting.specs.Pick.{pick}
-use Rattle.counting.specs.Search.{seek}
+use Rattle.counting.specs.Lists.{seek}
 use Rattle.counting.proofs.Below.{trichotomy}
 use Rattle.counting.proofs.Search.{sought, below-or}
 use Rattle.place.specs.declared.Place.{Place}
 use Rattle.place.specs.Place.{placeAt}
-use Rattle.nearest.specs.Distance.{squaredDistance, leastTo, distanceOf, nearerThan}
+use Rattle.nearest.specs.Distance.{squaredDistance, leastTo, distanceOf}
+use Rattle.nearest.specs.work.Distance.{nearerThan}
 use Rattle.nearest.proofs.Order.{Counted, not-greater, not-equal, at-most, not-self, smaller}
 
 -- b is the lowest of the first i numbers with the least of their floats, which is x

@@ -1,6 +1,5 @@
 -- The squared distance of a point from the query (02), and the number of the nearest point. Each operation on floats rounds once.
 use Prim.Native.Nat.{ℕ, zero, suc, _/_}
-use mathlib.Core.Bool.{Bool}
 use mathlib.Core.List.{List}
 use lib.ListN.{length}
 use lib.Ieee.{Float, binary64, add, sub, mul, lt}
@@ -28,7 +27,3 @@ pointCount points = length points / coordinates
 -- the squared distance of point k
 unfoldable pub distanceOf : (points : List Float) (query : Place) → ℕ → Float
 distanceOf points query k = squaredDistance (placeAt points k) query
-
--- point k has a smaller squared distance than x
-abbrev pub nearerThan : (points : List Float) (query : Place) → Float → ℕ → Bool
-nearerThan points query x k = lt (distanceOf points query k) x

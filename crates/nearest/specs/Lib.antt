@@ -1,5 +1,5 @@
 pub mod Distance
 pub mod Answer
-pub mod Fault
-pub mod Claims
-pub mod Examples
+pub mod claims
+pub mod examples
+pub mod work

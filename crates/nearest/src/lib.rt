@@ -2,9 +2,11 @@
 ghost use mathlib.Core.Path.{_≡_};
 ghost use Prim.Native.Nat.{_-_};
 ghost use lib.ListN.{length};
-ghost use Rattle.counting.specs.Search.{seek, first};
+ghost use Rattle.counting.specs.Lists.{seek};
+ghost use Rattle.counting.specs.Search.{first};
 ghost use Rattle.place.specs.Place.{coordinates, numbers};
-ghost use Rattle.nearest.specs.Distance.{squaredDistance, pointCount, nearerThan};
+ghost use Rattle.nearest.specs.Distance.{squaredDistance, pointCount};
+ghost use Rattle.nearest.specs.work.Distance.{nearerThan};
 ghost use Rattle.nearest.specs.Answer.{measuredNumbers, beyond, nearestNumber, nearestAnswer};
 use place::Place;
 

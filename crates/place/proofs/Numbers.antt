@@ -9,7 +9,8 @@ use lib.ListN.{length, getD, set, drop, List·getD-append}
 use lib.Seq.{sets, getD-append-add}
 use lib.Ieee.{Float, nan}
 use Rattle.counting.specs.Lists.{gather}
-use Rattle.counting.specs.Stored.{Stored, storedIn}
+use Rattle.counting.specs.work.Stored.{Stored}
+use Rattle.counting.specs.Stored.{storedIn}
 use Rattle.counting.proofs.Below.{below-three}
 use Rattle.counting.proofs.Fronts.{sets-two, sets-front}
 use Rattle.counting.proofs.Lists.{gather-append, length-gather}

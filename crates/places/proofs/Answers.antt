@@ -9,14 +9,13 @@ use lib.ListN.{length}
 use lib.Ieee.{Float}
 use borrow.Author.Tests.{ltb-false, eqb-true, not-false}
 use Rattle.answer.specs.Answer.{result, isResult}
-use Rattle.answer.specs.Faults.{numbered, since}
+use Rattle.answer.specs.work.Faults.{numbered, since}
 use Rattle.answer.proofs.Rows.{answer-some, clear-since, result-clear}
 use Rattle.counting.specs.Pick.{pick}
 use Rattle.counting.proofs.Bools.{clash, or-none}
 use Rattle.grid.specs.Grid.{Grid, crossings}
-use Rattle.grid.specs.Rows.{gridAnswer}
-use Rattle.grid.specs.Tables.{accepts}
-use Rattle.grid.specs.Accepted.{Sound}
+use Rattle.grid.specs.Rows.{gridAnswer, accepts}
+use Rattle.grid.specs.claims.Accepted.{Sound}
 use Rattle.grid.proofs.Claims.{accepted-is}
 use Rattle.grid.proofs.Accepts.{acceptance-yields}
 use Rattle.place.specs.Place.{coordinates}

@@ -10,33 +10,35 @@ use lib.Seq.{sets}
 use lib.Ieee.{Float}
 use Rattle.answer.specs.Answer.{result, isResult, refused}
 use Rattle.counting.specs.Pick.{pick}
-use Rattle.counting.specs.Range.{over, values}
+use Rattle.counting.specs.Lists.{over, values}
 use Rattle.counting.proofs.Range.{over-ext}
 use Rattle.counting.proofs.Lists.{getD-singles}
 use Rattle.cell.proofs.Fans.{below-all}
 use Rattle.grid.specs.declared.Checked.{Checked}
 use Rattle.grid.specs.declared.Checked.the-variants.{Crossings, Refused}
 use Rattle.grid.specs.Check.{checkNumbers}
-use Rattle.grid.specs.Grid.{Grid, mostSlots, mostEdges, cellCount, edgeNumber, countOf, start, crossings}
-use Rattle.grid.specs.Rows.{gridAnswer}
-use Rattle.grid.specs.Tables.{accepts, Laid}
+use Rattle.grid.specs.Grid.{Grid, cellCount, edgeNumber, countOf, start, crossings}
+use Rattle.slots.specs.Limits.{mostSlots}
+use Rattle.slots.specs.work.Limits.{mostEdges}
+use Rattle.grid.specs.Rows.{gridAnswer, accepts}
+use Rattle.grid.specs.work.Tables.{Laid}
 use Rattle.grid.proofs.Sound.{edge-numbers}
 use Rattle.grid.proofs.Accepts.{acceptance-yields}
 use Rattle.grid.proofs.Claims.{accepted-is}
 use Rattle.grid.proofs.Filled.{refused-keeps, crossings-accept}
 use Rattle.mesh.specs.Mesh.{gridCell}
-use Rattle.cell.specs.Table.{tableCell, drawnCells}
+use Rattle.cell.specs.claims.Table.{tableCell, drawnCells}
 use Rattle.mesh.proofs.Tables.{Tabled, tabled, cell-is}
 use Rattle.place.specs.declared.Place.{Place}
 use Rattle.place.specs.Place.{allNumbers}
-use Rattle.cell.specs.Middles.{cellMiddles, numberedBelow}
-use Rattle.cell.specs.Nests.{nestMiddle}
+use Rattle.cell.specs.claims.Middles.{cellMiddles, numberedBelow}
+use Rattle.cell.specs.claims.Nests.{nestMiddle}
 use Rattle.split.specs.Standing.{innerPlaces, drawnMiddles}
 use Rattle.places.specs.Nested.{nestedMiddle, placedMiddles}
 use Rattle.places.specs.Points.{crossingPlace, innerPoints, middles, points}
 use Rattle.places.specs.Answer.{rowsAnswer, placesAnswer, placed, placesArea}
 use Rattle.places.specs.Done.{Done}
-use Rattle.places.specs.Work.{tableInner, tableMiddles, tablePoints, PlacesReady, PointsIn}
+use Rattle.places.specs.work.Work.{tableInner, tableMiddles, tablePoints, PlacesReady, PointsIn}
 use Rattle.grid.proofs.Nodes.{numbers-small}
 use Rattle.places.proofs.Fractions.{start-fits}
 use Rattle.places.proofs.ExactCase.{exact-case}

@@ -7,13 +7,12 @@ use lib.Ieee.{Float}
 use Rattle.answer.proofs.Answer.{mixed, refusals}
 use Rattle.counting.specs.Pick.{pick}
 use Rattle.grid.specs.Grid.{Grid}
-use Rattle.grid.specs.Rows.{gridAnswer}
-use Rattle.grid.specs.Tables.{accepts}
+use Rattle.grid.specs.Rows.{gridAnswer, accepts}
 use Rattle.grid.proofs.Claims.{never-empty}
 use Rattle.places.specs.declared.Placed.{Placed}
 use Rattle.places.specs.declared.Placed.the-variants.{Points, Refused}
 use Rattle.places.specs.Answer.{placesNumbers, needed, rowsAnswer, placesAnswer}
-use Rattle.places.specs.Claims.{PlacesTold}
+use Rattle.places.specs.claims.Claims.{PlacesTold}
 use Rattle.places.proofs.Answers.{rows-some}
 
 module _ (G : Grid) (nodes fractions : List Float) (room : ℕ) where

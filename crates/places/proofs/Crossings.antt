@@ -7,9 +7,9 @@ use native.Mathlib.Numerals.{add-one}
 use native.Mathlib.Omega.{arith}
 use lib.ListN.{length, getD}
 use lib.Ieee.{Float, nan}
-use Rattle.counting.specs.Lists.{gather}
-use Rattle.counting.specs.Range.{over, values}
-use Rattle.counting.specs.Stored.{Stored, storedIn}
+use Rattle.counting.specs.Lists.{gather, over, values}
+use Rattle.counting.specs.work.Stored.{Stored}
+use Rattle.counting.specs.Stored.{storedIn}
 use Rattle.counting.proofs.Range.{over-snoc, over-ext}
 use Rattle.counting.proofs.Fronts.{over-split}
 use Rattle.counting.proofs.Pack.{row-pack}
@@ -19,7 +19,7 @@ use Rattle.place.specs.Place.{between, coordinates, placeAt, numbers, allNumber
 use Rattle.place.proofs.Numbers.{points-then, point-stored}
 use Rattle.grid.specs.Grid.{low, high, countOf, start}
 use Rattle.places.specs.Points.{edgeOfCrossing, crossingPlace}
-use Rattle.places.specs.Work.{onEdge}
+use Rattle.places.specs.work.Work.{onEdge}
 
 module _ (u v : Place) (fractions : List Float) (g : ℕ) where
   pub edge-none : (l : List Float) → Stored l (coordinates * g) (allNumbers (onEdge u v fractions 0 g)) l (coordinates * (g + 0))

@@ -9,7 +9,7 @@ use lib.IntN.{pos, _+ℤ_, _-ℤ_, _*ℤ_}
 use lib.Ieee.{Float, nan}
 use borrow.Author.Tests.{not-false}
 use Rattle.answer.specs.Answer.{result}
-use Rattle.counting.specs.Range.{values}
+use Rattle.counting.specs.Lists.{values}
 use Rattle.counting.proofs.Bools.{or-none}
 use Rattle.counting.proofs.Lists.{length-singles, getD-singles}
 use Rattle.counting.proofs.Pack.{row-lt}

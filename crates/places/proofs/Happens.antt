@@ -10,14 +10,13 @@ use lib.Ieee.{Float, nan, fin}
 use Rattle.counting.proofs.Below.{below-three}
 use Rattle.answer.specs.Answer.{result}
 use lib.Ieee.{add, sub, mul, div, neg, lt, le, eq, ofInt, ofBits}
-use Rattle.counting.specs.Search.{seek, first, last, some, every, count}
-use Rattle.counting.specs.Range.{total, over, kept}
-use Rattle.counting.specs.Lists.{tally, gather}
-use Rattle.counting.specs.Pack.{pre, row, col}
+use Rattle.counting.specs.Lists.{seek, total, over, kept, tally, gather, pre, it}
+use Rattle.counting.specs.Search.{first, last, some, every, count}
+use Rattle.counting.specs.Pack.{row, col}
 use Rattle.counting.specs.Reach.{reach}
 use Rattle.slots.specs.Slots.{lo, hi, position, lower, upper, edgeBetween, slotEdge, edgeRank, contains, firstSlot, secondSlot}
 use Rattle.face.specs.Face as face
-use Rattle.walk.specs.Iterate.{it, orbit}
+use Rattle.walk.specs.Walk.{orbit}
 use Rattle.walk.specs.Step as step
 use Rattle.walk.specs.Walk as walk
 use Rattle.cell.specs.Cell as cell
@@ -28,7 +27,7 @@ use Rattle.grid.specs.Rows.{badLength, badNumbers, badStart, badLists, badCell,
 use Rattle.manifold.specs.Shape.{hasMiddle}
 use Rattle.cell.specs.Triangles.{numberOf}
 use Rattle.cell.specs.Middles.{isFan, loopPoint}
-use Rattle.face.specs.Level.{isLevel}
+use Rattle.face.specs.Face.{isLevel}
 use Rattle.cell.specs.Level.{isLevelCell}
 use Rattle.cell.specs.Nodes.{joining, cornerFrom}
 use Rattle.counting.specs.Gcd.{divides, gcd}
@@ -43,7 +42,7 @@ use Rattle.places.specs.Points as points
 use Rattle.places.specs.Rows.{highest, badPlaceLists, badNumber, badFractionAt, badFraction}
 use Rattle.places.specs.Answer.{placeRows, rowsAnswer, placesAnswer, placed, placesArea}
 use Rattle.places.specs.Exact.{WholeAt}
-use Rattle.places.specs.Claims.{ExactHappens}
+use Rattle.places.specs.claims.Claims.{ExactHappens}
 
 theCells : List ℕ
 theCells = 0 ∷ 1 ∷ 2 ∷ 3 ∷ []

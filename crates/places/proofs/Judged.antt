@@ -10,11 +10,12 @@ use borrow.Author.Tests.{lt-ltb, le-ltb, eq-eqb, ne-eqb}
 use Rattle.answer.specs.Answer.{result, refusal}
 use Rattle.answer.proofs.Rows.{row-passes, row-refuses, rows-end, whole-fault, whole-fine}
 use Rattle.counting.specs.Search.{first, last}
-use Rattle.grid.specs.Grid.{highestNode, crossings}
+use Rattle.slots.specs.Limits.{highestNode}
+use Rattle.grid.specs.Grid.{crossings}
 use Rattle.place.specs.Place.{coordinates}
 use Rattle.places.specs.Rows.{highest, nodeEnd, badPlaceLists, badNumber, badFraction}
 use Rattle.places.specs.Answer.{placeRows, rowsAnswer}
-use Rattle.places.specs.Work.{NodesMarked, isMarked, badMarked, Reaching, Judgeable}
+use Rattle.places.specs.work.Work.{NodesMarked, isMarked, badMarked, Reaching, Judgeable}
 use Rattle.places.proofs.Nodes.{highest-small}
 use Rattle.places.proofs.Marks.{end-is, row-16-is}
 

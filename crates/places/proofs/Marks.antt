@@ -8,16 +8,18 @@ use lib.Dec.{eqb}
 use lib.ListN.{length, getD}
 use lib.Ieee.{Float, nan}
 use borrow.Author.Tests.{eq-eqb, ne-eqb}
-use Rattle.counting.specs.Pick.{pick, one}
+use Rattle.counting.specs.Pick.{pick}
+use Rattle.counting.specs.Lists.{one}
 use Rattle.counting.proofs.Bools.{not-clash}
 use Rattle.counting.specs.Search.{first, last}
 use Rattle.counting.proofs.Search.{first-ext, last-at, last-hit, last-miss}
-use Rattle.grid.specs.Grid.{highestNode, cellCount, hasNode}
+use Rattle.slots.specs.Limits.{highestNode}
+use Rattle.grid.specs.Grid.{cellCount, hasNode}
 use Rattle.place.specs.Place.{within, coordinates}
 use Rattle.places.specs.Rows.{highest, nodeEnd, badNumber}
 use Rattle.grid.proofs.Nodes.{Noted, noted-all}
 use Rattle.places.proofs.Nodes.{highest-has, has-highest}
-use Rattle.places.specs.Work.{NodesMarked, isMarked, badMarked}
+use Rattle.places.specs.work.Work.{NodesMarked, isMarked, badMarked}
 
 module _ (cells used : List ℕ) where
   pub marked : length cells ≡ 4 * cellCount cells → (j : ℕ) → j ≡ length cells → Noted cells (λ v. 1) 0 j used → NodesMarked cells used

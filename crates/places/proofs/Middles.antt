@@ -7,8 +7,8 @@ use native.Mathlib.Nat.{zero-add}
 use native.Mathlib.Omega.{arith}
 use lib.ListN.{length}
 use lib.Ieee.{Float}
-use Rattle.counting.specs.Range.{total, over}
-use Rattle.counting.specs.Stored.{Stored}
+use Rattle.counting.specs.Lists.{total, over}
+use Rattle.counting.specs.work.Stored.{Stored}
 use Rattle.counting.proofs.Lists.{gather-over}
 use Rattle.counting.proofs.Range.{length-over, total-ext, total-add, total-has, over-ext}
 use Rattle.counting.proofs.Stored.{stored-as}
@@ -17,17 +17,18 @@ use Rattle.place.specs.Place.{coordinates, placeAt, numbers, allNumbers}
 use Rattle.place.proofs.Numbers.{length-numbers, place-kept}
 use Rattle.cell.specs.declared.Cell.{Cell}
 use Rattle.cell.specs.Of.{countOf}
-use Rattle.cell.specs.Nests.{nestMiddle}
-use Rattle.cell.specs.Middles.{fanCount, cellMiddles, numberedBelow, middlesAt}
-use Rattle.cell.specs.Table.{tableCell, drawnCells, tableFans, middlesWritten}
+use Rattle.cell.specs.claims.Nests.{nestMiddle}
+use Rattle.cell.specs.claims.Middles.{fanCount, cellMiddles, numberedBelow, middlesAt}
+use Rattle.cell.specs.claims.Table.{tableCell, drawnCells}
+use Rattle.cell.specs.work.Table.{tableFans, middlesWritten}
 use Rattle.cell.proofs.Fans.{length-cell, below-more, below-placeable, cell-ext}
 use Rattle.cell.proofs.Values.{taken-is}
 use Rattle.booking.specs.Booking.{isSplit}
 use Rattle.direct.proofs.Over.{none-written}
 use Rattle.split.specs.Standing.{innerPlaces, drawnMiddles}
-use Rattle.split.specs.Spots.{innerBy, fansBy, cellsStored, innerIn, addedIn, innerAtCell, middlesAtCell}
+use Rattle.split.specs.work.Spots.{innerBy, fansBy, cellsStored, innerIn, addedIn, innerAtCell, middlesAtCell}
 use Rattle.split.proofs.Spotted.{inner-by, fans-by, unsplit-by, inner-not, stored-empty, cells-none, cells-stretch, cells-written}
-use Rattle.places.specs.Work.{tableInner, tableMiddlesOf, tableMiddles, restWritten}
+use Rattle.places.specs.work.Work.{tableInner, tableMiddlesOf, tableMiddles, restWritten}
 
 module _ (cells counts names sides starts : List ℕ) where
   abbrev pub cellAt : ℕ → Cell

@@ -9,9 +9,8 @@ use native.Mathlib.Nat.{mul-comm, eq-zero-or-pos, le-of-dvd}
 use lib.Dec.{eqb, ltb}
 use lib.Ieee.{Float, nan, inf, fin, Format, binary64, up, down, unlike, mul}
 use borrow.Author.Tests.{eqb-true, eqb-false, eq-eqb, ne-eqb, ltb-true, lt-ltb}
-use Rattle.counting.specs.Pick.{pick, one}
-use Rattle.counting.specs.Lists.{tally}
-use Rattle.counting.specs.Range.{total}
+use Rattle.counting.specs.Pick.{pick}
+use Rattle.counting.specs.Lists.{one, tally, total}
 use Rattle.counting.specs.Search.{first, some}
 use Rattle.counting.specs.Gcd.{gcd}
 use Rattle.counting.proofs.Bools.{clash, bool-same, and-true, and-left, and-right}
@@ -29,15 +28,17 @@ use Rattle.cell.specs.Cell.{Edges, crossings}
 use Rattle.cell.specs.Of.{countOf, edgesOf}
 use Rattle.cell.specs.Loop.{loopSize, normal, leasts}
 use Rattle.cell.specs.Level.{isLevelCell}
-use Rattle.cell.specs.Nests.{nestEdge, nestCount, nestLow, nestRank, onAxis, nestMiddle}
-use Rattle.cell.specs.Middles.{isFan, loopPoint, cornerPlace, fanMiddle, loopMiddle, cellMiddles}
-use Rattle.booking.specs.Booking.{leastCorner, larger, smaller, otherLength}
-use Rattle.booking.specs.Claims.{Other, LoopLaws}
+use Rattle.cell.specs.claims.Nests.{nestEdge, nestCount, nestLow, nestRank, onAxis, nestMiddle}
+use Rattle.cell.specs.Middles.{isFan, loopPoint, cornerPlace}
+use Rattle.cell.specs.claims.Middles.{fanMiddle, loopMiddle, cellMiddles}
+use Rattle.booking.specs.Booking.{leastCorner, larger, smaller}
+use Rattle.booking.specs.claims.Booking.{otherLength}
+use Rattle.booking.specs.claims.Claims.{Other, LoopLaws}
 use Rattle.booking.proofs.Claims.{books}
 use Rattle.booking.proofs.Counts.{own}
 use Rattle.booking.proofs.Numbers.{long-times}
 use Rattle.places.specs.Nested.{octagons, otherLoops, isNested, axisEdge, remaining, through, nestNumber, pointOnward, nestedMiddle, placedMiddle, placedMiddles}
-use Rattle.places.specs.Claims.{NestedByCounts, EachOnce, NestsAgree}
+use Rattle.places.specs.claims.Claims.{NestedByCounts, EachOnce, NestsAgree}
 use Rattle.split.proofs.Axis.{NestAxis, nest-larger, nest-smaller, nest-left, nest-opposite, nest-ends, nest-first, counts-nest, nest-counts, nest-corner}
 use Rattle.places.proofs.Ranks.{passes, other-many, other-eight, the-loop, loop-lt, loop-passes, is-other, rank-first, rank-highest, other-passes, one-loop}
 

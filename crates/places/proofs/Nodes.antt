@@ -11,7 +11,7 @@ use lib.ListN.{length, getD}
 use borrow.Author.Tests.{eq-eqb}
 use Rattle.counting.proofs.Search.{some-found}
 use Rattle.grid.specs.Grid.{Grid, cellCount, hasNode, low, high}
-use Rattle.grid.specs.Accepted.{Sound}
+use Rattle.grid.specs.claims.Accepted.{Sound}
 use Rattle.grid.proofs.Nodes.{node-at, in-cells, low-has, high-has}
 use Rattle.places.specs.Rows.{highest, nodeEnd}
 

@@ -7,8 +7,8 @@ use native.Mathlib.Omega.{arith}
 use native.Mathlib.Nat.{div-eq-of-eq-mul-left}
 use lib.Dec.{eqb, ltb, leb}
 use borrow.Author.Tests.{eqb-true, eq-eqb, ne-eqb, lt-ltb, le-ltb, lt-leb}
-use Rattle.counting.specs.Pick.{pick, one}
-use Rattle.counting.specs.Lists.{tally}
+use Rattle.counting.specs.Pick.{pick}
+use Rattle.counting.specs.Lists.{one, tally}
 use Rattle.counting.specs.Search.{first, some, count}
 use Rattle.counting.specs.Gcd.{gcd}
 use Rattle.counting.proofs.Bools.{clash, not-clash, and-true, and-left, and-right, or-false}
@@ -22,12 +22,12 @@ use Rattle.walk.proofs.Once.{same-start}
 use Rattle.cell.specs.Cell.{Edges, crossings, edge, index, number, step}
 use Rattle.cell.specs.Loop.{loopSize, dart, inGrid, leasts}
 use Rattle.cell.specs.Nodes.{countBetween}
-use Rattle.cell.specs.Nests.{greatestOf}
+use Rattle.cell.specs.claims.Nests.{greatestOf}
 use Rattle.cell.proofs.Lay.{lay}
 use Rattle.cell.proofs.Mates.{darts}
 use Rattle.cell.proofs.Nesting.{greatest-is}
 use Rattle.booking.specs.Booking.{leastCorner, leftBetween}
-use Rattle.booking.specs.Claims.{OnLoop, Other, LoopLaws}
+use Rattle.booking.specs.claims.Claims.{OnLoop, Other, LoopLaws}
 use Rattle.booking.proofs.Claims.{books}
 use Rattle.booking.proofs.Corners.{isIn, in-corner}
 use Rattle.split.proofs.Axis.{NestAxis, nest-larger, nest-smaller, nest-left, nest-ends}

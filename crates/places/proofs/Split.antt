@@ -7,9 +7,8 @@ use native.Mathlib.Omega.{arith}
 use lib.Ieee.{Float}
 use borrow.Author.Tests.{lt-ltb}
 use Rattle.counting.specs.Gcd.{gcd}
-use Rattle.counting.specs.Pick.{one}
-use Rattle.counting.specs.Lists.{gather, All}
-use Rattle.counting.specs.Range.{over, values}
+use Rattle.counting.specs.Lists.{one, gather, over, values}
+use Rattle.counting.specs.claims.Lists.{All}
 use Rattle.counting.specs.Search.{count}
 use Rattle.counting.proofs.Gcd.{gcd-above}
 use Rattle.counting.proofs.Lists.{all-append, one-ext}
@@ -24,14 +23,15 @@ use Rattle.cell.specs.Cell.{crossings}
 use Rattle.cell.specs.Of.{countOf, edgesOf}
 use Rattle.cell.specs.Loop.{loopSize, normal}
 use Rattle.cell.specs.Level.{isLevelCell}
-use Rattle.cell.specs.Nests.{nestEdge, nestMiddle}
-use Rattle.cell.specs.Middles.{isFan, fanCount, cellMiddles}
+use Rattle.cell.specs.claims.Nests.{nestEdge, nestMiddle}
+use Rattle.cell.specs.Middles.{isFan}
+use Rattle.cell.specs.claims.Middles.{fanCount, cellMiddles}
 use Rattle.booking.specs.Booking.{larger, smaller, isSplit}
 use Rattle.booking.proofs.Figures.{gcd-next}
 use Rattle.split.specs.Limits.{firstInnerCrossing, firstInnerFace, wordStep}
 use Rattle.split.specs.SubCell.{sub}
 use Rattle.split.specs.Parts.{whole, splitsWithin}
-use Rattle.split.specs.Claims.{NumbersAre}
+use Rattle.split.specs.claims.Claims.{NumbersAre}
 use Rattle.split.specs.Standing.{cornerIn, cornersOf, subPlaces, Standing, stand, fansIn, fansOf, allStanding, innerPlaces, drawnMiddles}
 use Rattle.split.proofs.Axis.{counts-nest}
 use Rattle.split.proofs.Labels.{spiral-is}
@@ -42,7 +42,7 @@ use Rattle.split.proofs.Fanned.{fans-none, fans-flat, nest-numbered}
 use Rattle.split.proofs.Spotted.{split-divisor, inner-not, middles-not}
 use Rattle.places.specs.Nested.{nestedMiddle, placedMiddles}
 use Rattle.places.specs.Points.{crossingPlace, innerPoints, middles, points}
-use Rattle.places.specs.Claims.{FansNested, SplitNested, UnsplitPlaced}
+use Rattle.places.specs.claims.Claims.{FansNested, SplitNested, UnsplitPlaced}
 use Rattle.places.proofs.Nested.{not-three, same-test, middle-same, by-counts}
 
 -- a test that a number passes

@@ -7,11 +7,12 @@ use native.Mathlib.Omega.{arith}
 use native.Mathlib.Decide.{decLt, ℕ-discrete}
 use native.Mathlib.Nat.{mod-eq-of-lt}
 use borrow.Author.Tests.{lt-ltb}
-use Rattle.walk.specs.Iterate.{it}
+use Rattle.counting.specs.Lists.{it}
 use Rattle.walk.proofs.Iterate.{it-add}
 use Rattle.cell.specs.Cell.{Edges, crossings, edge, index, step}
 use Rattle.cell.specs.Loop.{loopSize, dart}
-use Rattle.cell.specs.Nodes.{Arranged, joining, kthFrom}
+use Rattle.cell.specs.claims.Nodes.{Arranged, kthFrom}
+use Rattle.cell.specs.Nodes.{joining}
 use Rattle.cell.specs.Level.{isLevelCell}
 use Rattle.cell.proofs.Nodes.{adcb, arranged}
 use Rattle.cell.proofs.Turn.{dart-index, dart-is}
@@ -19,7 +20,7 @@ use Rattle.cell.proofs.Lay.{lay}
 use Rattle.cell.proofs.Loops.{the-loop, dart-live}
 use Rattle.cell.proofs.Mates.{slot-has}
 use Rattle.booking.specs.Booking.{leastCorner, leftBetween}
-use Rattle.booking.specs.Left.{Longest, leftDart, roundDart, further}
+use Rattle.booking.specs.claims.Left.{Longest, leftDart, roundDart, further}
 use Rattle.booking.proofs.Counts.{left-sum, longest-swap}
 use Rattle.booking.proofs.Darts.{room, round-up, round-down}
 use Rattle.booking.proofs.Rounds.{furthers-is}

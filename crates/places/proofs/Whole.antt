@@ -9,8 +9,8 @@ use lib.ListN.{length, length-append}
 use lib.Seq.{sets, length-sets}
 use lib.Ieee.{Float}
 use Rattle.answer.proofs.Answer.{refused-not}
-use Rattle.counting.specs.Range.{total, values}
-use Rattle.counting.specs.Stored.{Stored}
+use Rattle.counting.specs.Lists.{total, values}
+use Rattle.counting.specs.work.Stored.{Stored}
 use Rattle.counting.proofs.Lists.{length-singles, getD-singles}
 use Rattle.counting.proofs.Stored.{stored-as, stored-long}
 use Rattle.grid.specs.Grid.{crossings}
@@ -20,11 +20,12 @@ use Rattle.places.specs.declared.Placed.the-variants.{Points, Refused}
 use Rattle.place.specs.Place.{coordinates, placeAt, allNumbers}
 use Rattle.places.specs.Points.{crossingPlace}
 use Rattle.places.specs.Answer.{placesNumbers, rowsAnswer}
-use Rattle.cell.specs.Middles.{numberedBelow}
-use Rattle.cell.specs.Table.{tableCell, drawnCells, tableFans}
+use Rattle.cell.specs.claims.Middles.{numberedBelow}
+use Rattle.cell.specs.claims.Table.{tableCell, drawnCells}
+use Rattle.cell.specs.work.Table.{tableFans}
 use Rattle.cell.proofs.Fans.{below-more}
-use Rattle.split.specs.Spots.{cellsStored, innerIn, addedIn, innerAtCell, middlesAtCell}
-use Rattle.places.specs.Work.{Placeable, tableInner, tableMiddles, tablePoints, restWritten, PlacesReady, PointsIn}
+use Rattle.split.specs.work.Spots.{cellsStored, innerIn, addedIn, innerAtCell, middlesAtCell}
+use Rattle.places.specs.work.Work.{Placeable, tableInner, tableMiddles, tablePoints, restWritten, PlacesReady, PointsIn}
 use Rattle.place.proofs.Numbers.{length-numbers, front-place, points-then, place-kept}
 use Rattle.places.proofs.Middles.{length-inner, length-table, table-ext, inner-written, middles-written}
 use Rattle.places.proofs.Answers.{Fine, rows-fine, rows-some}

@@ -9,8 +9,7 @@ use Rattle.answer.specs.Answer.{result, isResult, refused}
 use Rattle.answer.specs.Rows.{Row, whole, each, answerOf}
 use Rattle.counting.specs.Pick.{pick}
 use Rattle.grid.specs.Grid.{Grid, crossings}
-use Rattle.grid.specs.Rows.{gridAnswer}
-use Rattle.grid.specs.Tables.{accepts}
+use Rattle.grid.specs.Rows.{gridAnswer, accepts}
 use Rattle.places.specs.declared.Placed.{Placed}
 use Rattle.places.specs.declared.Placed.the-variants.{Points, Refused}
 use Rattle.place.specs.Place.{coordinates, allNumbers}

@@ -5,8 +5,6 @@ pub mod Rows
 pub mod Answer
 pub mod Exact
 pub mod Done
-pub mod Work
-pub mod Examples
-pub mod NestExamples
-pub mod SplitExamples
-pub mod Claims
+pub mod claims
+pub mod examples
+pub mod work

@@ -5,8 +5,7 @@ use mathlib.Core.List.{List, [], _∷_}
 use lib.Dec.{eqb, ltb}
 use lib.Ieee.{Float, binary64, add, sub, mul, div}
 use Rattle.counting.specs.Pick.{pick}
-use Rattle.counting.specs.Lists.{tally}
-use Rattle.counting.specs.Range.{over}
+use Rattle.counting.specs.Lists.{tally, over}
 use Rattle.counting.specs.Search.{first, some}
 use Rattle.slots.specs.Slots.{lo, hi}
 use Rattle.place.specs.declared.Place.{Place}
@@ -16,8 +15,7 @@ use Rattle.cell.specs.Cell.{crossings, number}
 use Rattle.cell.specs.Of.{countOf, edgesOf}
 use Rattle.cell.specs.Loop.{loopSize, dart, leasts}
 use Rattle.cell.specs.Level.{isLevelCell}
-use Rattle.cell.specs.Nests.{halfSum}
-use Rattle.cell.specs.Middles.{isFan, loopPoint, cornerPlace}
+use Rattle.cell.specs.Middles.{halfSum, isFan, loopPoint, cornerPlace}
 use Rattle.booking.specs.Booking.{leastCorner, leftBetween}
 
 module _ (c : Cell) where

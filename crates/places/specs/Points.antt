@@ -4,7 +4,7 @@ use Prim.Native.Nat.{ℕ}
 use mathlib.Core.List.{List, _++_}
 use lib.ListN.{length, getD}
 use lib.Ieee.{Float, nan}
-use Rattle.counting.specs.Range.{over, values}
+use Rattle.counting.specs.Lists.{over, values}
 use Rattle.counting.specs.Pack.{row, col}
 use Rattle.place.specs.declared.Place.{Place}
 use Rattle.place.specs.Place.{between, placeAt}

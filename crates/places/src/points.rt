@@ -2,12 +2,12 @@
 ghost use mathlib.Core.Path.{_≡_};
 ghost use Prim.Native.Nat.{_+_, _*_};
 ghost use lib.Seq.{sets};
-ghost use Rattle.counting.specs.Range.{values};
-ghost use Rattle.counting.specs.Stored.{Stored};
+ghost use Rattle.counting.specs.Lists.{values};
+ghost use Rattle.counting.specs.work.Stored.{Stored};
 ghost use Rattle.grid.specs.Grid.{crossings};
 ghost use Rattle.place.specs.Place.{coordinates, allNumbers};
 ghost use Rattle.places.specs.Points.{crossingPlace};
-ghost use Rattle.places.specs.Work.{onEdge, Fitting, Placeable};
+ghost use Rattle.places.specs.work.Work.{onEdge, Fitting, Placeable};
 use counting::wide16;
 use place::Place;
 

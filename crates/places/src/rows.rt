@@ -7,7 +7,7 @@ ghost use Rattle.grid.specs.Grid.{crossings};
 ghost use Rattle.place.specs.Place.{coordinates};
 ghost use Rattle.places.specs.Rows.{badFractionAt, badFraction};
 ghost use Rattle.places.specs.Answer.{placesNumbers, rowsAnswer};
-ghost use Rattle.places.specs.Work.{Markable, NodesMarked, isMarked, badMarked, Reaching, Judgeable, mostPoints};
+ghost use Rattle.places.specs.work.Work.{Markable, NodesMarked, isMarked, badMarked, Reaching, Judgeable, mostPoints};
 use super::Placed;
 use super::is_proper;
 use counting::wide16;

@@ -2,7 +2,7 @@
 use Prim.Native.Nat.{ℕ, _+_, _%_}
 use mathlib.Core.Path.{_≡_, sym, ap, _∙_}
 use native.Mathlib.Omega.{arith}
-use Rattle.shading.specs.Work.{across}
+use Rattle.shading.specs.work.Work.{across}
 
 pub across-twice : (s t h : ℕ) → across s (across t h) ≡ across (s + t) h
 across-twice s t h = omega arith

@@ -10,7 +10,7 @@ use borrow.Author.Tests.{eq-eqb, ne-eqb}
 use Rattle.counting.specs.Stored.{filled}
 use Rattle.counting.proofs.Stored.{filled-none, filled-more, filled-at}
 use Rattle.shading.specs.Marks.{mostNodes, unusedByte}
-use Rattle.shading.specs.Work.{noLink, Forest, Writable, byteBy, BytesBy, Sided}
+use Rattle.shading.specs.work.Work.{noLink, Forest, Writable, byteBy, BytesBy, Sided}
 
 module _ (links area : List ℕ) (x : ℕ) where
   pub byte-free : getD links x 0 ≡ noLink → unusedByte ≡ byteBy links area x

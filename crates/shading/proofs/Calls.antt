@@ -18,17 +18,16 @@ use Rattle.grid.specs.declared.Checked.{Checked}
 use Rattle.grid.specs.declared.Checked.the-variants as checked
 use Rattle.grid.specs.declared.Checked.the-variants.{Crossings}
 use Rattle.grid.specs.Grid.{Grid, hasNode, low, high, built}
-use Rattle.grid.specs.Rows.{gridAnswer}
+use Rattle.grid.specs.Rows.{gridAnswer, accepts}
 use Rattle.grid.specs.Check.{checkNumbers}
-use Rattle.grid.specs.Tables.{accepts}
-use Rattle.grid.specs.Accepted.{Sound}
+use Rattle.grid.specs.claims.Accepted.{Sound}
 use Rattle.grid.proofs.Filled.{refused-keeps, crossings-accept, told-built}
 use Rattle.grid.proofs.Nodes.{low-has, high-has}
 use Rattle.shading.specs.Marks.{mostNodes, unusedByte, finalMarks, byteOf, unshaded, sideBytes}
 use Rattle.shading.specs.declared.Shaded.the-variants.{Refused}
 use Rattle.shading.specs.Answer.{shadingNumbers, shadingRows, shadingAnswer, shadingArea}
 use Rattle.shading.specs.Done.{Done}
-use Rattle.shading.specs.Work.{across, Agrees, noLink, HasLink, Forest, Fits, AllUnitable, TiedAll, UnitedAll, Roots, BytesBy, Sided, ShadedIn}
+use Rattle.shading.specs.work.Work.{across, Agrees, noLink, HasLink, Forest, Fits, AllUnitable, TiedAll, UnitedAll, Roots, BytesBy, Sided, ShadedIn}
 use Rattle.shading.proofs.Across.{across-even}
 use Rattle.shading.proofs.Shadings.{node-within, mark, marked-all, labels-shade, marks-agree, part-has}
 use Rattle.shading.proofs.Climbs.{top, top-fits, top-root, top-low}

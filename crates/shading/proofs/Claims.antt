@@ -11,7 +11,7 @@ use lib.ListN.{length, getD}
 use borrow.Author.Tests.{ltb-true}
 use Rattle.answer.specs.Answer.{result, refusal, isResult, refused}
 use Rattle.answer.specs.Rows.{answerOf}
-use Rattle.answer.specs.Faults.{rowAt}
+use Rattle.answer.specs.claims.Faults.{rowAt}
 use Rattle.answer.proofs.Answer.{pick-some, refused-not, mixed, refusals}
 use Rattle.answer.proofs.Rows.{answer-some}
 use Rattle.counting.specs.Pick.{pick}
@@ -20,20 +20,19 @@ use Rattle.counting.proofs.Bools.{holds-or, clash}
 use Rattle.counting.proofs.Search.{every-is}
 use Rattle.grid.specs.declared.Checked.the-variants as checked
 use Rattle.grid.specs.Grid.{Grid, crossings}
-use Rattle.grid.specs.Rows.{rows, gridAnswer}
+use Rattle.grid.specs.Rows.{rows, gridAnswer, accepts}
 use Rattle.grid.specs.Check.{checkNumbers}
-use Rattle.grid.specs.Tables.{accepts}
-use Rattle.grid.specs.Accepted.{Accepted, Sound}
+use Rattle.grid.specs.claims.Accepted.{Accepted, Sound}
 use Rattle.grid.proofs.Claims.{never-empty, accepted-is, fault-refused}
 use Rattle.grid.proofs.Accepts.{acceptance-yields, accepted-answer}
 use Rattle.grid.proofs.Filled.{refused-keeps}
 use Rattle.shading.specs.declared.Shaded.{Shaded}
 use Rattle.shading.specs.declared.Shaded.the-variants.{Written, Refused}
 use Rattle.shading.specs.Marks.{mostNodes, unshaded, sideBytes}
-use Rattle.shading.specs.Shading.{IsShading, NoShading, IsShadingArea}
+use Rattle.shading.specs.claims.Shading.{IsShading, NoShading, IsShadingArea}
 use Rattle.shading.specs.Answer.{shadingNumbers, shadingRows, shadingAnswer}
 use Rattle.shading.specs.Done.{Done}
-use Rattle.shading.specs.Claims.{Says, CallSays, ShadingTold}
+use Rattle.shading.specs.claims.Claims.{Says, CallSays, ShadingTold}
 use Rattle.shading.proofs.Shadings.{shading-agrees, labels-shade, lacking, sides-shade, sides-are, only-sides}
 use Rattle.shading.proofs.Calls.{answers-19, answers-20, answers-result, kept-answer, rows-answer, area-by}
 

@@ -6,7 +6,7 @@ use native.Mathlib.Decide.{ℕ-discrete}
 use native.Mathlib.Omega.{arith}
 use lib.ListN.{getD}
 use Rattle.shading.specs.Marks.{mostNodes}
-use Rattle.shading.specs.Work.{across, HasLink, Forest, Fits}
+use Rattle.shading.specs.work.Work.{across, HasLink, Forest, Fits}
 use Rattle.shading.proofs.Across.{across-even}
 
 -- n links upwards from x

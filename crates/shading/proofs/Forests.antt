@@ -8,7 +8,7 @@ use native.Mathlib.Omega.{arith}
 use lib.ListN.{getD, set, length-set}
 use lib.Seq.{getD-set-same, getD-set-other}
 use Rattle.shading.specs.Marks.{mostNodes}
-use Rattle.shading.specs.Work.{across, noLink, HasLink, Forest, Fits, SameNodes, Halved, Halvable, HalvedAt, Rooted, Found}
+use Rattle.shading.specs.work.Work.{across, noLink, HasLink, Forest, Fits, SameNodes, Halved, Halvable, HalvedAt, Rooted, Found}
 use Rattle.shading.proofs.Across.{across-twice, across-like, bit-odd, across-even}
 
 -- one link is set

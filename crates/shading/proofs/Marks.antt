@@ -11,13 +11,13 @@ use lib.Dec.{eqb}
 use lib.ListN.{length, getD, length-map}
 use borrow.Author.Tests.{eqb-true, eqb-false}
 use Rattle.counting.specs.Pick.{pick}
-use Rattle.counting.specs.Range.{values}
+use Rattle.counting.specs.Lists.{values}
 use Rattle.counting.proofs.Lists.{length-singles, values-at, getD-map}
 use Rattle.counting.proofs.Search.{below-or}
 use Rattle.grid.specs.Grid.{Grid, low, high, countOf}
 use Rattle.shading.specs.Marks.{mostNodes, moved, united, marksAfter}
-use Rattle.shading.specs.Shading.{Connected, here}
-use Rattle.shading.specs.Work.{across, Agrees}
+use Rattle.shading.specs.claims.Shading.{Connected, here}
+use Rattle.shading.specs.work.Work.{across, Agrees}
 use Rattle.shading.proofs.Across.{across-twice, across-like, across-back, across-between}
 use Rattle.shading.proofs.Paths.{through, reverse, edge-path}
 

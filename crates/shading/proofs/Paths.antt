@@ -4,7 +4,7 @@ use mathlib.Core.Path.{refl}
 use mathlib.Core.Logic.{inl, inr}
 use lib.ListN.{length}
 use Rattle.grid.specs.Grid.{Grid, low, high}
-use Rattle.shading.specs.Shading.{EndsAre, Connected, here, further}
+use Rattle.shading.specs.claims.Shading.{EndsAre, Connected, here, further}
 
 module _ (G : Grid) where
   back : (e x y : ℕ) → EndsAre G e x y → EndsAre G e y x

@@ -7,9 +7,8 @@ use lib.Dec.{eqb}
 use borrow.Author.Tests.{eqb-true}
 use Rattle.answer.specs.Answer.{result, refusal}
 use Rattle.answer.specs.Rows.{orRefuse, answerOf}
-use Rattle.counting.specs.Search.{seek, first, last, some, every, count}
-use Rattle.counting.specs.Range.{total, over}
-use Rattle.counting.specs.Pack.{pre}
+use Rattle.counting.specs.Lists.{seek, total, over, pre}
+use Rattle.counting.specs.Search.{first, last, some, every, count}
 use Rattle.counting.specs.Reach.{reach}
 use Rattle.counting.proofs.Search.{every-is}
 use Rattle.slots.specs.Slots.{lo, hi, position, lower, upper, edgeBetween, slotEdge, contains}
@@ -18,8 +17,8 @@ use Rattle.grid.specs.Rows.{badLength, badNumbers, badStart, badLists, badCell,
 use Rattle.grid.proofs.Accepts.{acceptance-yields}
 use Rattle.shading.specs.Marks.{mostNodes, moved, united, marksAfter, finalMarks, agrees, unshaded}
 use Rattle.shading.specs.Answer.{shadingRows, shadingAnswer}
-use Rattle.shading.specs.Examples.{ring, ringCounts}
-use Rattle.shading.specs.Claims.{RingLacks}
+use Rattle.shading.specs.examples.Examples.{ring, ringCounts}
+use Rattle.shading.specs.claims.Claims.{RingLacks}
 use Rattle.shading.proofs.Shadings.{lacking}
 
 abbrev R : Grid

@@ -14,11 +14,11 @@ use Rattle.counting.proofs.Bools.{holds-or, clash}
 use Rattle.counting.proofs.Lists.{length-singles, values-at}
 use Rattle.counting.proofs.Search.{every-is, is-every}
 use Rattle.grid.specs.Grid.{Grid, hasNode, low, high, countOf}
-use Rattle.grid.specs.Accepted.{Sound}
+use Rattle.grid.specs.claims.Accepted.{Sound}
 use Rattle.grid.proofs.Nodes.{node-at, low-has, high-has}
 use Rattle.shading.specs.Marks.{mostNodes, finalMarks, agrees, byteOf, unshaded, sideBytes, unusedByte}
-use Rattle.shading.specs.Shading.{IsShading, NoShading, EndsAre, Connected, here, further, IsLowest, IsShadingArea}
-use Rattle.shading.specs.Work.{across, Agrees}
+use Rattle.shading.specs.claims.Shading.{IsShading, NoShading, EndsAre, Connected, here, further, IsLowest, IsShadingArea}
+use Rattle.shading.specs.work.Work.{across, Agrees}
 use Rattle.shading.proofs.Across.{across-odd, across-between}
 use Rattle.shading.proofs.Paths.{reverse}
 use Rattle.shading.proofs.Marks.{Marked, EndsWithin, marked}

@@ -12,7 +12,7 @@ use borrow.Author.Tests.{eqb-true, eqb-false}
 use Rattle.counting.proofs.Bools.{clash}
 use Rattle.counting.proofs.Search.{below-or}
 use Rattle.grid.specs.Grid.{low, high, countOf}
-use Rattle.shading.specs.Work.{across, HasLink, Forest, Fits, SameNodes, Agrees, Found, Tied, United, AllUnitable, TiedAll}
+use Rattle.shading.specs.work.Work.{across, HasLink, Forest, Fits, SameNodes, Agrees, Found, Tied, United, AllUnitable, TiedAll}
 use Rattle.shading.proofs.Across.{across-twice, across-like, bit-odd, across-back, across-even, across-odd, across-between}
 use Rattle.shading.proofs.Forests.{same-then, halved-then, tie-nodes, tie-forest, tie-fits, tie-back}
 

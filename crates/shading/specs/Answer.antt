@@ -8,8 +8,7 @@ use Rattle.answer.specs.Answer.{result, isResult, refused}
 use Rattle.answer.specs.Rows.{Row, whole, answerOf}
 use Rattle.counting.specs.Pick.{pick}
 use Rattle.grid.specs.Grid.{Grid}
-use Rattle.grid.specs.Rows.{gridAnswer}
-use Rattle.grid.specs.Tables.{accepts}
+use Rattle.grid.specs.Rows.{gridAnswer, accepts}
 use Rattle.shading.specs.declared.Shaded.{Shaded}
 use Rattle.shading.specs.declared.Shaded.the-variants.{Written, Refused}
 use Rattle.shading.specs.Marks.{mostNodes, unshaded, sideBytes}

@@ -1,7 +1,6 @@
 pub mod Marks
-pub mod Shading
 pub mod Answer
 pub mod Done
-pub mod Examples
-pub mod Claims
-pub mod Work
+pub mod claims
+pub mod examples
+pub mod work

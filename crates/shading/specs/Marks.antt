@@ -6,9 +6,10 @@ use mathlib.Core.List.{List, map}
 use lib.Dec.{eqb}
 use lib.ListN.{length, getD}
 use Rattle.counting.specs.Pick.{pick}
-use Rattle.counting.specs.Range.{values}
+use Rattle.counting.specs.Lists.{values}
 use Rattle.counting.specs.Search.{every}
-use Rattle.grid.specs.Grid.{Grid, highestNode, hasNode, low, high, countOf}
+use Rattle.grid.specs.Grid.{Grid, hasNode, low, high, countOf}
+use Rattle.slots.specs.Limits.{highestNode}
 
 -- so many nodes there may be, and so many bytes the area has
 abbrev pub mostNodes : ℕ

@@ -2,11 +2,11 @@
 ghost use mathlib.Core.Path.{_≡_};
 ghost use Prim.Native.Nat.{_<_};
 ghost use Rattle.grid.specs.Grid.{gridOf, built};
-ghost use Rattle.grid.specs.Accepted.{Sound};
+ghost use Rattle.grid.specs.claims.Accepted.{Sound};
 ghost use Rattle.shading.specs.Marks.{mostNodes};
 ghost use Rattle.shading.specs.Answer.{shadingNumbers};
 ghost use Rattle.shading.specs.Done.{Done};
-ghost use Rattle.shading.specs.Work.{Writable, byteBy, Sided, ShadedIn};
+ghost use Rattle.shading.specs.work.Work.{Writable, byteBy, Sided, ShadedIn};
 use counting::wide8;
 use counting::wide16;
 use grid::Checked;

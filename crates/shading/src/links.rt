@@ -1,7 +1,7 @@
 // The parts of a grid and the sides of their nodes, as a forest of links: a node's link is 2 * parent + side, where the parent is no higher than the
 // node, and the side is 0 where the node is on its parent's side. A root is its own parent. A node that no cell has has no link.
 ghost use Prim.Native.Nat.{_<_};
-ghost use Rattle.shading.specs.Work.{Halvable, HalvedAt, Rooted, Found, Unitable, United, AllUnitable, UnitedAll, Rootable, Roots};
+ghost use Rattle.shading.specs.work.Work.{Halvable, HalvedAt, Rooted, Found, Unitable, United, AllUnitable, UnitedAll, Rootable, Roots};
 use counting::wide16;
 
 // What a node that no cell has holds instead of a link.

@@ -1,5 +1,5 @@
 -- The laws of the tables, together.
-use Rattle.slots.specs.Claims.{SlotLaws}
+use Rattle.slots.specs.claims.Claims.{SlotLaws}
 use Rattle.slots.proofs.Slots.{slot-edge, edge-slot, one-of-two, third-of, two-slots, corner-lt, omitted, corners-rise, rank-of, edge-pair, edge-order}
 
 pub slotLaws : SlotLaws

@@ -13,8 +13,9 @@ use Rattle.counting.specs.Pick.{pick}
 use Rattle.counting.specs.Search.{every}
 use Rattle.counting.proofs.Bools.{clash, and-left, and-right, or-cases, imply}
 use Rattle.counting.proofs.Search.{every-is, is-every}
-pub use Rattle.slots.specs.Claims.{SlotEdge, EdgeSlot, TwoSlots, Third}
-use Rattle.slots.specs.Slots.{lo, hi, position, rankIn, lower, upper, edgeBetween, slotEdge, edgeRank, contains, thirdPosition, otherSlot, firstSlot, secondSlot}
+pub use Rattle.slots.specs.claims.Claims.{SlotEdge, EdgeSlot, TwoSlots, Third}
+use Rattle.slots.specs.Slots.{lo, hi, position, lower, upper, edgeBetween, slotEdge, edgeRank, contains, firstSlot, secondSlot}
+use Rattle.slots.specs.claims.Slots.{rankIn, thirdPosition, otherSlot}
 
 -- a test of two numbers, for any of them
 module _ (m n : ℕ) (t : ℕ → ℕ → Bool) (passes : every (λ a. every (t a) n) m ≡ true) where

@@ -18,6 +18,3 @@ mostCrossings = 65535
 -- so many slots the cells have at most, and so many edges
 abbrev pub mostSlots : ℕ
 mostSlots = 4 * mostCells
-
-abbrev pub mostEdges : ℕ
-mostEdges = 6 * mostCells

@@ -19,10 +19,6 @@ hi k = getD (1 ∷ 2 ∷ 3 ∷ 2 ∷ 3 ∷ 3 ∷ []) k 0
 unfoldable pub position : ℕ → ℕ → ℕ
 position s i = pick (ltb i s) i (suc i)
 
--- the rank of position i among the three of slot s
-abbrev pub rankIn : ℕ → ℕ → ℕ
-rankIn s i = pick (ltb i s) i (i - 1)
-
 -- a face's nodes a < b < c are 0, 1, 2, and its edges ab, ac, bc are 0, 1, 2: the ends of edge j
 unfoldable pub lower : ℕ → ℕ
 lower j = pick (eqb j 2) 1 0
@@ -49,14 +45,6 @@ edgeRank s k = first (λ j. eqb (slotEdge s j) k) 3
 unfoldable pub contains : ℕ → ℕ → Bool
 unfolding lo hi
 contains k s = not (eqb s (lo k)) && not (eqb s (hi k))
-
--- the third position of slot s, which contains edge k: no end of k, and not omitted. The four positions add up to 6
-abbrev pub thirdPosition : ℕ → ℕ → ℕ
-thirdPosition k s = 6 - lo k - hi k - s
-
--- the slot other than s that contains edge k: the one that omits that position
-abbrev pub otherSlot : ℕ → ℕ → ℕ
-otherSlot k s = thirdPosition k s
 
 -- the two slots that contain edge k. The first is the face whose third node is lower: the one that omits the higher of the two other positions
 unfoldable pub firstSlot : ℕ → ℕ

@@ -11,7 +11,7 @@ use Rattle.cell.specs.Level.{isLevelCell}
 use Rattle.booking.specs.declared.Booking.the-variants.{Booked}
 use Rattle.booking.specs.Booking.{cornerTriangles, larger, smaller, bookedSplit}
 use Rattle.booking.specs.Answer.{bookingNumbers, bookingAnswer}
-use Rattle.split.specs.Claims.{AnswerByParts, BookingRight}
+use Rattle.split.specs.claims.Claims.{AnswerByParts, BookingRight}
 use Rattle.split.proofs.Lengths.{drawnBooked}
 use Rattle.split.proofs.Counted.{bookedByParts}
 

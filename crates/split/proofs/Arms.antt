@@ -5,9 +5,9 @@ use mathlib.Core.List.{List, [], _∷_, _++_}
 use native.Mathlib.Omega.{arith}
 use lib.ListN.{length, length-append}
 use lib.Ieee.{Float}
-use Rattle.counting.specs.Lists.{gather}
-use Rattle.counting.specs.Range.{over, values}
-use Rattle.counting.specs.Stored.{Stored, storedIn}
+use Rattle.counting.specs.Lists.{gather, over, values}
+use Rattle.counting.specs.work.Stored.{Stored}
+use Rattle.counting.specs.Stored.{storedIn}
 use Rattle.counting.proofs.Lists.{gather-over, length-singles}
 use Rattle.counting.proofs.Fronts.{over-more}
 use Rattle.counting.proofs.Stored.{stored-none, stored-as, stored-long, stored-more, stored-fits}
@@ -22,8 +22,8 @@ use Rattle.split.specs.Limits.{wordStep}
 use Rattle.split.specs.Labels.{labelled, spoke}
 use Rattle.split.specs.SubCell.{sub}
 use Rattle.split.specs.Standing.{cornerIn, newPlace, subPlaces, armPlace, armPlaces, splitPlaces}
-use Rattle.split.specs.Working.{spokeBy, SpiralNumbers, SplitsLeft}
-use Rattle.split.specs.Spots.{standingInner}
+use Rattle.split.specs.work.Working.{spokeBy, SpiralNumbers, SplitsLeft}
+use Rattle.split.specs.work.Spots.{standingInner}
 use Rattle.split.proofs.Stands.{inner-stop, inner-more}
 use Rattle.split.proofs.Nested.{left-none, left-some}
 

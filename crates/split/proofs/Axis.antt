@@ -12,12 +12,13 @@ use Rattle.counting.specs.Search.{first}
 use Rattle.counting.proofs.Bools.{clash, and-true, and-left, and-right}
 use Rattle.counting.proofs.Search.{first-at}
 use Rattle.slots.specs.Slots.{lo, hi, edgeBetween}
-use Rattle.cell.specs.Nodes.{Arranged, joining}
+use Rattle.cell.specs.claims.Nodes.{Arranged}
+use Rattle.cell.specs.Nodes.{joining}
 use Rattle.cell.specs.Level.{isLevelCell}
-use Rattle.cell.specs.Nests.{exceeds, exceeding, pairAt, nestEdge, nestCount, nestCorner}
+use Rattle.cell.specs.claims.Nests.{exceeds, exceeding, pairAt, nestEdge, nestCount, nestCorner}
 use Rattle.cell.proofs.Nodes.{abdc, acbd, acdb, adbc, sum-six}
 use Rattle.booking.specs.Booking.{leastCorner, leftBetween, larger, smaller}
-use Rattle.booking.specs.Left.{pairSum, largestPair, Longest}
+use Rattle.booking.specs.claims.Left.{pairSum, largestPair, Longest}
 use Rattle.booking.proofs.Counts.{ways, top-cases, twice-least, twice-left, left-opposite, left-sum, numbers}
 
 -- edge e from the lowest node to position e + 1, and the other two positions; its ends

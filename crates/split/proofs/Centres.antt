@@ -9,7 +9,7 @@ use lib.Ieee.{Float, nan}
 use borrow.Author.Tests.{lt-ltb}
 use Rattle.counting.specs.Gcd.{gcd}
 use Rattle.counting.specs.Pick.{pick}
-use Rattle.counting.specs.Stored.{Stored}
+use Rattle.counting.specs.work.Stored.{Stored}
 use Rattle.counting.proofs.Below.{below-three, below-four}
 use Rattle.counting.proofs.Gcd.{gcd-above}
 use Rattle.counting.proofs.Range.{over-ext}
@@ -20,10 +20,12 @@ use Rattle.place.specs.Place.{coordinates, placeAt, allNumbers}
 use Rattle.place.proofs.Numbers.{numbers-at, length-numbers, points-then}
 use Rattle.cell.specs.declared.Cell.{Cell}
 use Rattle.cell.specs.Cell.{crossings}
-use Rattle.cell.specs.Of.{countOf, edgesOf, limited}
-use Rattle.cell.specs.Nests.{nestEdge, nestRank, nestLow, onAxis, nestMiddle}
-use Rattle.cell.specs.Middles.{isFan, fanCount, cornerPlace, fanMiddle, loopMiddle, cellMiddles, pointsThen, nextPoint}
-use Rattle.cell.specs.Centres.{MiddlesRoom}
+use Rattle.cell.specs.Of.{countOf, edgesOf}
+use Rattle.cell.specs.work.Route.{limited}
+use Rattle.cell.specs.claims.Nests.{nestEdge, nestRank, nestLow, onAxis, nestMiddle}
+use Rattle.cell.specs.Middles.{isFan, cornerPlace}
+use Rattle.cell.specs.claims.Middles.{fanCount, fanMiddle, loopMiddle, cellMiddles, pointsThen, nextPoint}
+use Rattle.cell.specs.work.Centres.{MiddlesRoom}
 use Rattle.cell.proofs.Using.{limited-same}
 use Rattle.cell.proofs.Fans.{nest-placeable, middles-stored}
 use Rattle.booking.specs.Booking.{larger, smaller, isSpiral}
@@ -32,8 +34,8 @@ use Rattle.split.specs.Limits.{wordStep}
 use Rattle.split.specs.SubCell.{sub}
 use Rattle.split.specs.Parts.{splitsWithin}
 use Rattle.split.specs.Standing.{nowhere, cornerIn, subPlaces, fansIn}
-use Rattle.split.specs.Working.{SplitsLeft}
-use Rattle.split.specs.Spots.{standingFans, Nesting, positioned, Spun}
+use Rattle.split.specs.work.Working.{SplitsLeft}
+use Rattle.split.specs.work.Spots.{standingFans, Nesting, positioned, Spun}
 use Rattle.split.proofs.Labels.{spiral-is}
 use Rattle.split.proofs.SubNumbers.{subCells}
 use Rattle.split.proofs.Parts.{not-spiral}

@@ -19,7 +19,7 @@ pub use Rattle.split.proofs.Owners.{drawnOwned}
 pub use Rattle.split.proofs.Ordered.{drawnOrdered}
 pub use Rattle.split.proofs.Happens.{splitHappens, curvesMix}
 pub use Rattle.split.proofs.Examples.{examples-hold}
-use Rattle.split.specs.Claims.{LabelsFirst}
+use Rattle.split.specs.claims.Claims.{LabelsFirst}
 use Rattle.split.proofs.Labels.{spiral-is, first-labelling}
 
 pub labelsFirst : LabelsFirst

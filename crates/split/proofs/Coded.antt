@@ -6,8 +6,7 @@ use mathlib.Core.List.{List, [], _∷_}
 use native.Mathlib.Omega.{arith}
 use native.Mathlib.Decide.{ℕ-discrete}
 use lib.ListN.{getD}
-use Rattle.counting.specs.Range.{values}
-use Rattle.counting.specs.Pack.{pre}
+use Rattle.counting.specs.Lists.{values, pre}
 use Rattle.counting.proofs.Below.{below-four, below-six}
 use Rattle.slots.specs.Slots.{lo, hi, edgeBetween}
 use Rattle.slots.specs.Limits.{mostCount}
@@ -19,8 +18,9 @@ use Rattle.cell.proofs.Values.{six-taken}
 use Rattle.booking.specs.Booking.{smallest, median, leastCorner, leftBetween, larger, smaller}
 use Rattle.split.specs.declared.Spiral.{Spiral}
 use Rattle.split.specs.Labels.{labelled, label, spoke}
-use Rattle.split.specs.SubCell.{restCount, restStart, armCount, armStart, innerName}
-use Rattle.split.specs.Working.{AreOwn, labelBy, spokeBy, LevelSix, SpiralNumbers, Spiraling}
+use Rattle.split.specs.work.Five.{restCount, armCount}
+use Rattle.split.specs.SubCell.{restStart, armStart, innerName}
+use Rattle.split.specs.work.Working.{AreOwn, labelBy, spokeBy, LevelSix, SpiralNumbers, Spiraling}
 use Rattle.split.proofs.Labels.{spiral-is, at-i-is, labelled-lt, label-at, at-label, label-once}
 use Rattle.split.proofs.Spirals.{label-by}
 use Rattle.split.proofs.Rest.{rest-sum}

@@ -4,14 +4,16 @@ use mathlib.Core.Path.{_≡_, refl, sym, ap, ap₂, _∙_, subst}
 use mathlib.Core.Logic.{_⊎_, inl, inr, _≢_, ⊎-elim}
 use native.Mathlib.Omega.{arith}
 use native.Mathlib.Decide.{ℕ-discrete}
-use Rattle.counting.specs.Pack.{pre, row, col}
+use Rattle.counting.specs.Lists.{pre}
+use Rattle.counting.specs.Pack.{row, col}
 use Rattle.counting.proofs.Pack.{row-lt, col-lt, unpack, row-pack, col-pack, pack-lt}
 use Rattle.walk.specs.Darts.{half}
 use Rattle.manifold.specs.Triangle.{Side}
-use Rattle.manifold.specs.Piece.{Local, Piece, slotOf, mateOf, segmentOf}
-use Rattle.manifold.specs.Complex.{Joins, SameEnds, Whole, Shares}
+use Rattle.manifold.specs.claims.Piece.{Local, Piece, slotOf, mateOf, segmentOf}
+use Rattle.manifold.specs.claims.Complex.{Joins, SameEnds, Whole, Shares}
 use Rattle.manifold.proofs.Piece.{segment-cases}
-use Rattle.split.specs.Family.{Family, HasSegment, Meets, PiecesSound, Outer, Covered, Refines, fine, Refined}
+use Rattle.split.specs.claims.Family.{Family, HasSegment, Meets, Outer, Covered, Refines, Refined}
+use Rattle.split.specs.work.Family.{PiecesSound, fine}
 use Rattle.split.proofs.Family.{turn-ends, via-ends, faceOf, fine-sound, fine-linked, kind}
 
 -- darts of one segment in one piece have the same ends

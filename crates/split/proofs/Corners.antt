@@ -9,10 +9,9 @@ use native.Mathlib.Nat.{eq-zero-or-pos}
 use lib.Dec.{eqb}
 use borrow.Author.Tests.{eqb-true, eqb-false, eq-eqb, le-ltb}
 use Rattle.counting.specs.Pick.{pick}
-use Rattle.counting.specs.Range.{over}
+use Rattle.counting.specs.Lists.{over, it}
 use Rattle.counting.proofs.Range.{over-ext}
 use Rattle.counting.proofs.Lists.{map-over}
-use Rattle.walk.specs.Iterate.{it}
 use Rattle.walk.specs.Darts.{Loop, half, rev}
 use Rattle.walk.specs.Step as walk
 use Rattle.walk.specs.Walk.{Status, home, off, on, status, turn, size}
@@ -21,26 +20,26 @@ use Rattle.walk.proofs.Curve.{loop-length, loop-next}
 use Rattle.walk.proofs.Found.{turn-home, turn-off, turn-on}
 use Rattle.walk.proofs.Rest.{rest-start, rest-end}
 use Rattle.manifold.specs.Triangle.{Corner, cross, Side, seg}
-use Rattle.manifold.specs.Plain.{tri}
-use Rattle.manifold.specs.Polygon.{Polygon, shape, corner, segment, triangles}
-use Rattle.manifold.specs.Piece as pieces
-use Rattle.manifold.specs.Piece.{slotOf, mateOf, lowerOf, onward, sizeOf}
+use Rattle.manifold.specs.claims.Plain.{tri}
+use Rattle.manifold.specs.claims.Polygon.{Polygon, shape, corner, segment, triangles}
+use Rattle.manifold.specs.claims.Piece as pieces
+use Rattle.manifold.specs.claims.Piece.{slotOf, mateOf, lowerOf, onward, sizeOf}
 use Rattle.cell.specs.declared.Cell.{Cell}
 use Rattle.cell.specs.Cell.{Edges, crossings, step}
 use Rattle.cell.specs.Of.{countOf, edgesOf}
 use Rattle.cell.specs.Loop.{loopSize, dart, normal}
 use Rattle.cell.specs.Triangles.{numberOf, loopTriangles, askedTriangles, trianglesWith}
 use Rattle.cell.specs.Level.{isLevelCell}
-use Rattle.cell.specs.Polygons.{localOf, polygonOf, named}
+use Rattle.cell.specs.claims.Polygons.{localOf, polygonOf, named}
 use Rattle.cell.proofs.Mates.{darts}
 use Rattle.cell.proofs.Polygons.{loop-named}
-use Rattle.booking.specs.Booking.{otherLength}
+use Rattle.booking.specs.claims.Booking.{otherLength}
 use Rattle.booking.proofs.Numbers.{not-three}
 use Rattle.booking.proofs.Closed as closed
 use Rattle.booking.proofs.Corners.{isIn, loop-of, same-corner, size-is}
 use Rattle.split.specs.Parts.{ownCorners}
-use Rattle.split.specs.Five.{goes, ownPiece}
-use Rattle.split.specs.Claims.{loopIn}
+use Rattle.split.specs.claims.Five.{goes, ownPiece}
+use Rattle.split.specs.claims.Claims.{loopIn}
 
 module _ (c : Cell) (K : isLevelCell (countOf c) ≡ true) where
   abbrev E : Edges

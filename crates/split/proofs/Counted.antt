@@ -4,19 +4,19 @@ use mathlib.Core.Path.{_≡_, refl, sym, ap, _∙_}
 use mathlib.Core.Bool.{Bool, true, false}
 use native.Mathlib.Omega.{arith}
 use lib.ListN.{length}
-use Rattle.counting.specs.Range.{total}
+use Rattle.counting.specs.Lists.{total}
 use Rattle.cell.specs.Of.{countOf, edgesOf}
 use Rattle.cell.specs.Level.{isLevelCell}
 use Rattle.cell.proofs.Taken.{cell-count}
-use Rattle.cases.specs.Cases.{loneEdges}
+use Rattle.cases.specs.Answer.{loneEdges}
 use Rattle.cases.proofs.Claims.{laid-anyhow}
-use Rattle.booking.specs.Booking.{cornerTriangles, larger, smaller, booked, isSpiral, isSplit, bookedSplit}
+use Rattle.booking.specs.Booking.{cornerTriangles, larger, smaller, isSpiral, isSplit, bookedSplit}
+use Rattle.booking.specs.claims.Booking.{booked}
 use Rattle.booking.specs.Figures.{besideSplit}
 use Rattle.booking.proofs.Triangles.{tally-threes, loops-booked}
-use Rattle.split.specs.SubCell.{subCounts}
+use Rattle.split.specs.claims.Counted.{subCounts, loopsCount, ownCount, partsCount, drawnCount}
 use Rattle.split.specs.Parts.{drawnTriangles}
-use Rattle.split.specs.Counted.{loopsCount, ownCount, partsCount, drawnCount}
-use Rattle.split.specs.Claims.{BookedByParts, DrawnByParts}
+use Rattle.split.specs.claims.Claims.{BookedByParts, DrawnByParts}
 use Rattle.split.proofs.Labels.{spiral-is}
 use Rattle.split.proofs.SubNumbers.{subCounted}
 use Rattle.split.proofs.Parts.{not-spiral}

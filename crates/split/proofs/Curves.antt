@@ -8,24 +8,23 @@ use native.Mathlib.Omega.{arith}
 use lib.Dec.{leb}
 use lib.ListN.{getD}
 use borrow.Author.Tests.{leb-true, leb-false}
-use Rattle.counting.specs.Lists.{tally}
+use Rattle.counting.specs.Lists.{tally, it}
 use Rattle.counting.proofs.Search.{Least, least}
-use Rattle.walk.specs.Iterate.{it}
 use Rattle.walk.specs.Darts.{half, rev}
 use Rattle.walk.proofs.Curve.{Next, closes, on-it, on-walk}
-use Rattle.manifold.specs.Plain.{Tri, hasSide}
-use Rattle.manifold.specs.Piece.{Local, Piece, segmentOf, onward}
-use Rattle.manifold.specs.Complex.{Complex, Joins, Closes, Lawful, mesh}
+use Rattle.manifold.specs.claims.Plain.{Tri, hasSide}
+use Rattle.manifold.specs.claims.Piece.{Local, Piece, segmentOf, onward}
+use Rattle.manifold.specs.claims.Complex.{Complex, Joins, Closes, Lawful, mesh}
 use Rattle.manifold.proofs.Piece.{cell-darts, closes-joins, whole-closes}
 use Rattle.manifold.proofs.Claims.{manifold}
 use Rattle.cell.specs.declared.Cell.{Cell}
 use Rattle.cell.specs.Of.{countOf}
-use Rattle.cell.specs.Polygons.{localOf}
+use Rattle.cell.specs.claims.Polygons.{localOf}
 use Rattle.booking.specs.Booking.{isSplit}
 use Rattle.split.specs.Limits.{firstInnerCrossing, firstInnerFace}
 use Rattle.split.specs.Parts.{whole, noPart}
-use Rattle.split.specs.Claims.{partLocal, partsComplex, WalkEnds, CurveSides}
-use Rattle.split.specs.Owned.{Fit, CurvesCounted}
+use Rattle.split.specs.claims.Claims.{partLocal, partsComplex, WalkEnds, CurveSides}
+use Rattle.split.specs.claims.Owned.{Fit, CurvesCounted}
 use Rattle.split.proofs.Shows.{closed}
 use Rattle.split.proofs.Compose.{parts-sound}
 use Rattle.split.proofs.Whole.{leaf}

@@ -6,13 +6,12 @@ use native.Mathlib.Omega.{arith}
 use lib.Dec.{eqb}
 use borrow.Author.Tests.{eq-eqb, ne-eqb}
 use Rattle.counting.specs.Pick.{pick}
-use Rattle.counting.specs.Range.{total}
-use Rattle.counting.specs.Search.{seek, first}
-use Rattle.counting.specs.Pack.{pre}
+use Rattle.counting.specs.Lists.{total, seek, pre}
+use Rattle.counting.specs.Search.{first}
 use Rattle.counting.proofs.Below.{below-three, below-four}
 use Rattle.slots.specs.Slots.{lo, hi, position, lower, upper, edgeBetween, slotEdge}
 use Rattle.cell.specs.Nodes.{joining}
-use Rattle.split.specs.Working.{spokeBy}
+use Rattle.split.specs.work.Working.{spokeBy}
 
 -- the position at a rank that is told to be k, of three
 pub at-rank : (p : ℕ) {r w l k : ℕ} → r ≡ position p (min w 2) → w ≡ l → (l ≡ k) × (l < 3) → r ≡ position p k

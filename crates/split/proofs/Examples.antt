@@ -1,15 +1,13 @@
 -- The examples, by computation.
 use mathlib.Core.Path.{_≡_, refl, ap₂}
 use mathlib.Core.List.{[], _∷_}
-use Rattle.counting.specs.Search.{seek, first, last, every}
-use Rattle.counting.specs.Range.{total, over, kept}
-use Rattle.counting.specs.Lists.{tally, gather}
-use Rattle.counting.specs.Pack.{pre}
+use Rattle.counting.specs.Lists.{seek, total, over, kept, tally, gather, pre, it}
+use Rattle.counting.specs.Search.{first, last, every}
 use Rattle.counting.specs.Gcd.{divides, gcd}
 use Rattle.slots.specs.Slots as slots
 use Rattle.face.specs.Face as face
-use Rattle.face.specs.Level.{isLevel}
-use Rattle.walk.specs.Iterate.{it, orbit}
+use Rattle.face.specs.Face.{isLevel}
+use Rattle.walk.specs.Walk.{orbit}
 use Rattle.walk.specs.Step as steps
 use Rattle.walk.specs.Walk as walk
 use Rattle.cell.specs.Cell.{ahead, base, holds, edge, index, answerAt, joinAt, joinedTo, mate, slot, step}
@@ -21,10 +19,10 @@ use Rattle.cell.specs.Level.{isLevelCell}
 use Rattle.booking.specs.Booking.{median, cornerOn, leastCorner, leftBetween, larger, smaller, isSpiral, isSplit}
 use Rattle.booking.specs.Figures.{areSpiral, areSplit, figureIn, figure}
 use Rattle.split.specs.Labels.{remainsTo, labelled, label, spoke}
-use Rattle.split.specs.SubCell.{restStart, armStart, innerName, subCounts, subAt, sub}
+use Rattle.split.specs.SubCell.{restStart, armStart, innerName, subAt, sub}
+use Rattle.split.specs.claims.Counted.{subCounts, loopsCount, ownCount, partsCount, drawnCount}
 use Rattle.split.specs.Parts.{parts, allParts, ownCorners, drawnParts, drawnTriangles, splitsOf}
-use Rattle.split.specs.Counted.{loopsCount, ownCount, partsCount, drawnCount}
-use Rattle.split.specs.Examples.{loneCell, of, computed, unsplit, unsplitComputed, counted, figures, examples, ExamplesHold, oneSplit, oneSplitTurned, twoSplits, twoSplitsTurned, threeSplits}
+use Rattle.split.specs.examples.Examples.{loneCell, of, computed, unsplit, unsplitComputed, counted, figures, examples, ExamplesHold, oneSplit, oneSplitTurned, twoSplits, twoSplitsTurned, threeSplits}
 
 one-is : computed oneSplit ≡ oneSplit
 unfolding seek first last every total over tally gather pre divides gcd

@@ -5,15 +5,15 @@ use mathlib.Core.Logic.{_⊎_, inl, inr}
 use native.Mathlib.Omega.{arith}
 use native.Mathlib.Decide.{decLt}
 use Rattle.face.specs.Face.{countOn, faceJoin}
-use Rattle.face.specs.Ends.{Edge, on-ab, on-ac, on-bc}
+use Rattle.face.specs.claims.Ends.{Edge, on-ab, on-ac, on-bc}
 use Rattle.face.proofs.Claims.{faceLaws}
 use Rattle.face.proofs.Ends.{edge-with}
 use Rattle.face.proofs.Answers.{joined-same}
 use Rattle.face.proofs.Level.{levelLaws}
 use Rattle.manifold.specs.Triangle.{Side, seg, inner}
-use Rattle.manifold.specs.Piece.{Local, slotOf, lowerOf, segmentOf}
-use Rattle.manifold.specs.Complex.{SameEnds}
-use Rattle.split.specs.Shown.{Facet, num, Segment, OnFace, Plain, DartAlong, Shows}
+use Rattle.manifold.specs.claims.Piece.{Local, slotOf, lowerOf, segmentOf}
+use Rattle.manifold.specs.claims.Complex.{SameEnds}
+use Rattle.split.specs.work.Shown.{Facet, num, Segment, OnFace, Plain, DartAlong, Shows}
 use Rattle.split.proofs.Family.{faceOf}
 
 lowOf : Side → ℕ

@@ -2,13 +2,15 @@
 use Prim.Native.Nat.{ℕ, _+_, _<_}
 use mathlib.Core.Path.{_≡_, refl, sym, ap, ap₂, _∙_, subst}
 use mathlib.Core.Logic.{_⊎_, inl, inr, _≢_}
-use Rattle.counting.specs.Pack.{pre, row, col}
+use Rattle.counting.specs.Lists.{pre}
+use Rattle.counting.specs.Pack.{row, col}
 use Rattle.counting.proofs.Pack.{row-lt, col-lt, unpack, row-pack, col-pack, pack-lt}
 use Rattle.walk.specs.Darts.{half}
 use Rattle.manifold.specs.Triangle.{Side, seg, inner}
-use Rattle.manifold.specs.Piece.{Local, slotOf, segmentOf}
-use Rattle.manifold.specs.Complex.{Joins, SameEnds, Shares}
-use Rattle.split.specs.Family.{Family, HasSegment, Meets, PiecesSound, Closed, PiecesLinked, Outer, fine, Refined}
+use Rattle.manifold.specs.claims.Piece.{Local, slotOf, segmentOf}
+use Rattle.manifold.specs.claims.Complex.{Joins, SameEnds, Shares}
+use Rattle.split.specs.claims.Family.{Family, HasSegment, Meets, PiecesLinked, Outer, Refined}
+use Rattle.split.specs.work.Family.{PiecesSound, Closed, fine}
 
 -- the name of a segment's face
 unfoldable pub faceOf : Side → ℕ

@@ -9,9 +9,8 @@ use lib.Dec.{eqb, ltb}
 use lib.ListN.{length, length-append}
 use borrow.Author.Tests.{eqb-true, eqb-false, ltb-true, ltb-false}
 use Rattle.counting.specs.Gcd.{gcd}
-use Rattle.counting.specs.Pick.{pick, one}
-use Rattle.counting.specs.Range.{total}
-use Rattle.counting.specs.Lists.{gather}
+use Rattle.counting.specs.Pick.{pick}
+use Rattle.counting.specs.Lists.{one, total, gather}
 use Rattle.counting.proofs.Kept.{tally-kept}
 use Rattle.counting.proofs.Lists.{length-singles, one-long}
 use Rattle.counting.proofs.Range.{total-ext, total-zero, length-over}
@@ -23,21 +22,23 @@ use Rattle.cell.specs.Cell.{Edges, crossings}
 use Rattle.cell.specs.Of.{countOf, edgesOf}
 use Rattle.cell.specs.Loop.{loopSize, normal, leasts}
 use Rattle.cell.specs.Level.{isLevelCell}
-use Rattle.cell.specs.Nests.{nestEdge}
-use Rattle.cell.specs.Middles.{isFan, fanCount}
+use Rattle.cell.specs.claims.Nests.{nestEdge}
+use Rattle.cell.specs.Middles.{isFan}
+use Rattle.cell.specs.claims.Middles.{fanCount}
 use Rattle.cell.proofs.Fans.{fan-none, fan-three, fan-normal, fan-else}
-use Rattle.booking.specs.Figures.{innerCrossings, besideSplit, endNumber}
+use Rattle.booking.specs.Figures.{innerCrossings, besideSplit}
+use Rattle.booking.specs.claims.Figures.{endNumber}
 use Rattle.booking.specs.Booking.{larger, smaller, isSpiral}
-use Rattle.booking.specs.Claims.{LoopLaws}
+use Rattle.booking.specs.claims.Claims.{LoopLaws}
 use Rattle.booking.proofs.Figures.{figure-stop, figure-step, induct, gcd-next, figureLaws}
 use Rattle.booking.proofs.Claims.{books}
 use Rattle.split.specs.Limits.{wordStep}
 use Rattle.split.specs.Labels.{spoke}
 use Rattle.split.specs.SubCell.{sub}
 use Rattle.split.specs.Parts.{splitsWithin}
-use Rattle.split.specs.Claims.{NumbersAre}
+use Rattle.split.specs.claims.Claims.{NumbersAre}
 use Rattle.split.specs.Standing.{subPlaces, armPlace, armPlaces, splitPlaces, fansIn, fansOf}
-use Rattle.split.specs.Spots.{standingInner, addedFans}
+use Rattle.split.specs.work.Spots.{standingInner, addedFans}
 use Rattle.split.proofs.Axis.{nest-counts}
 use Rattle.split.proofs.Labels.{spiral-is}
 use Rattle.split.proofs.SubNumbers.{subCells}

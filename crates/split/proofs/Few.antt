@@ -8,18 +8,20 @@ use native.Mathlib.Omega.{arith}
 use Rattle.counting.specs.Pick.{pick}
 use Rattle.slots.specs.Limits.{mostCount}
 use Rattle.cell.specs.Level.{byEdge, isLevelCell}
-use Rattle.counting.specs.Pack.{pre}
-use Rattle.cell.specs.Table.{takenCounts, tableCrossings}
+use Rattle.counting.specs.Lists.{pre}
+use Rattle.cell.specs.claims.Table.{takenCounts}
+use Rattle.cell.specs.work.Table.{tableCrossings}
 use Rattle.cell.proofs.Values.{taken-is, taken-crossings}
 use Rattle.booking.specs.Figures.{areSplit, splits, besideSplit}
-use Rattle.booking.specs.Booking.{leftBetween, larger, smaller, beside, splitsBy, moreBy, splitsIn, moreIn}
+use Rattle.booking.specs.Booking.{leftBetween, larger, smaller, beside}
+use Rattle.booking.specs.claims.Booking.{splitsBy, moreBy, splitsIn, moreIn}
 use Rattle.booking.specs.declared.Gain.{Gain}
-use Rattle.booking.specs.Sums.{GainIn}
+use Rattle.booking.specs.work.Sums.{GainIn}
 use Rattle.booking.proofs.Figures.{figureLaws}
 use Rattle.cell.specs.Nodes.{joining}
 use Rattle.split.specs.Labels.{labelled}
-use Rattle.split.specs.Table.{mostMore}
-use Rattle.split.specs.Gains.{splitsAt, moreAt}
+use Rattle.split.specs.work.Table.{mostMore}
+use Rattle.split.specs.work.Gains.{splitsAt, moreAt}
 use Rattle.split.proofs.Labels.{labelling}
 use Rattle.split.proofs.Lengths.{IsSplit, split-is, split-by}
 

@@ -7,18 +7,19 @@ use native.Mathlib.Omega.{arith}
 use Rattle.counting.proofs.Below.{below-three}
 use Rattle.slots.specs.Slots.{lo, hi, lower, upper, slotEdge}
 use Rattle.slots.proofs.Slots.{slot-edge, two-slots, face-ends}
-use Rattle.face.specs.Level.{Level}
+use Rattle.face.specs.claims.Level.{Level}
 use Rattle.face.proofs.Shift.{kept}
-use Rattle.manifold.specs.Piece.{Local, slotOf}
+use Rattle.manifold.specs.claims.Piece.{Local, slotOf}
 use Rattle.cell.specs.declared.Cell.{Cell}
 use Rattle.cell.specs.Of.{countOf, startOf}
 use Rattle.cell.specs.Level.{isLevelCell}
-use Rattle.cell.specs.Polygons.{localOf}
+use Rattle.cell.specs.claims.Polygons.{localOf}
 use Rattle.booking.specs.Booking.{leastCorner, larger, smaller}
-use Rattle.split.specs.SubCell.{restCount, restStart, armCount, armStart, subAt}
-use Rattle.split.specs.Family.{Refines}
-use Rattle.split.specs.Shown.{Facet, num, Segment, OnFace, Plain, DartAlong, Shows, Any, Split, InnerFace, InnerPoint, five, Order}
-use Rattle.split.specs.Five.{facet, Firm, FirmBelow, Went, Stays, ownPiece, inside}
+use Rattle.split.specs.work.Five.{restCount, armCount, facet, Went, Stays, inside}
+use Rattle.split.specs.SubCell.{restStart, armStart, subAt}
+use Rattle.split.specs.claims.Family.{Refines}
+use Rattle.split.specs.work.Shown.{Facet, num, Segment, OnFace, Plain, DartAlong, Shows, Any, Split, InnerFace, InnerPoint, five, Order}
+use Rattle.split.specs.claims.Five.{Firm, FirmBelow, ownPiece}
 use Rattle.split.proofs.Facets.{seg-on, shows-same}
 use Rattle.split.proofs.Shown.{split-refines}
 use Rattle.split.proofs.Labels.{inner-level}

@@ -10,12 +10,13 @@ use Rattle.cell.specs.Of.{countOf}
 use Rattle.cell.specs.Level.{isLevelCell}
 use Rattle.cell.specs.Triangles.{cellTriangles}
 use Rattle.booking.specs.Figures.{areSplit, splits, besideSplit}
-use Rattle.booking.specs.Booking.{larger, smaller, beside, besideDrawn, booked, isSplit, bookedSplit, splitsBy, moreBy, splitsIn, moreIn}
+use Rattle.booking.specs.Booking.{larger, smaller, beside, besideDrawn, isSplit, bookedSplit}
+use Rattle.booking.specs.claims.Booking.{booked, splitsBy, moreBy, splitsIn, moreIn}
 use Rattle.booking.proofs.Figures.{figure-step}
 use Rattle.booking.proofs.Claims.{trianglesBooked}
 use Rattle.booking.proofs.Drawn.{beside-more}
 use Rattle.split.specs.Parts.{drawnTriangles, splitsOf}
-use Rattle.split.specs.Claims.{DrawnGained, SplitsTold}
+use Rattle.split.specs.claims.Claims.{DrawnGained, SplitsTold}
 use Rattle.split.proofs.Lengths.{split-is, split-by, drawn-not, drawnBooked}
 
 both : (a b : Bool) (n : ℕ) → pick a (pick b n 0) 0 ≡ pick (a && b) n 0

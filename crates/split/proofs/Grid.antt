@@ -7,22 +7,23 @@ use native.Mathlib.Decide.{decLt}
 use lib.ListN.{length, getD}
 use borrow.Author.Tests.{lt-ltb, le-ltb}
 use Rattle.walk.specs.Darts.{half}
-use Rattle.manifold.specs.Piece.{Piece}
+use Rattle.manifold.specs.claims.Piece.{Piece}
 use Rattle.slots.specs.Limits.{mostCells}
 use Rattle.cell.specs.declared.Cell.{Cell}
 use Rattle.cell.specs.Cell.{crossings, edge, index, number}
 use Rattle.cell.specs.Of.{countOf, startOf, edgesOf}
 use Rattle.cell.specs.Loop.{inGrid}
 use Rattle.cell.specs.Triangles.{numberOf}
-use Rattle.cell.specs.Polygons.{localOf}
+use Rattle.cell.specs.claims.Polygons.{localOf}
 use Rattle.cell.proofs.Lay.{lay}
 use Rattle.cell.proofs.Polygons as polygons
 use Rattle.booking.specs.Booking.{larger, smaller, isSplit}
 use Rattle.split.specs.Limits.{firstInnerCrossing, firstInnerFace}
 use Rattle.split.specs.Parts.{allParts, noPart, drawnParts}
-use Rattle.split.specs.Five.{nameOf, FirmBelow}
-use Rattle.split.specs.Claims.{partLocal, RefinedBy}
-use Rattle.split.specs.Owned.{owned, Fit, CellsRefined}
+use Rattle.split.specs.claims.Five.{nameOf, FirmBelow}
+use Rattle.split.specs.claims.Claims.{partLocal, RefinedBy}
+use Rattle.split.specs.Owned.{owned}
+use Rattle.split.specs.claims.Owned.{Fit, CellsRefined}
 use Rattle.split.proofs.Lengths.{split-is}
 use Rattle.split.proofs.Parts.{drawn-whole, drawn-all}
 use Rattle.split.proofs.Whole.{leaf, partsRefine}

@@ -6,28 +6,30 @@ use mathlib.Core.List.{[], _∷_}
 use native.Mathlib.Omega.{arith}
 use native.Mathlib.Decide.{decLt}
 use lib.ListN.{length, getD}
-use Rattle.counting.specs.Lists.{tally}
-use Rattle.counting.specs.Pack.{pre, row, col}
+use Rattle.counting.specs.Lists.{tally, pre}
+use Rattle.counting.specs.Pack.{row, col}
 use Rattle.counting.proofs.Pack.{row-lt, col-lt, unpack, row-pack, col-pack, pack-lt}
 use Rattle.walk.specs.Darts.{half}
-use Rattle.manifold.specs.Plain.{hasSide}
-use Rattle.manifold.specs.Piece.{slotOf, segmentOf}
-use Rattle.manifold.specs.Complex as complex
-use Rattle.manifold.specs.Complex.{Complex, Joins, Whole, Lawful, Shut, LinkedAt}
+use Rattle.manifold.specs.claims.Plain.{hasSide}
+use Rattle.manifold.specs.claims.Piece.{slotOf, segmentOf}
+use Rattle.manifold.specs.claims.Complex as complex
+use Rattle.manifold.specs.claims.Complex.{Complex, Joins, Whole, Lawful, Shut, LinkedAt}
 use Rattle.manifold.proofs.Piece.{whole-closes}
 use Rattle.manifold.proofs.Claims.{manifold}
 use Rattle.slots.specs.Limits.{mostCells}
 use Rattle.cell.specs.declared.Cell.{Cell}
 use Rattle.cell.specs.Of.{countOf}
-use Rattle.cell.specs.Polygons.{localOf}
+use Rattle.cell.specs.claims.Polygons.{localOf}
 use Rattle.booking.specs.Booking.{larger, smaller, isSplit}
 use Rattle.split.specs.Limits.{firstInnerCrossing, firstInnerFace, wordStep}
 use Rattle.booking.specs.Figures.{innerCrossings}
 use Rattle.split.specs.Parts.{whole, allParts, noPart, partCell, drawnParts}
-use Rattle.split.specs.Family.{Family, Meets, PiecesSound, Closed, PiecesLinked, fine}
-use Rattle.split.specs.Five.{nameOf}
-use Rattle.split.specs.Claims.{partLocal}
-use Rattle.split.specs.Owned.{owned, Fit, cellFamily, cellComplex, partCount, ownedPart, InnerFaces, InnerCrossings, gridComplex, GridLaws, GridSplit}
+use Rattle.split.specs.claims.Family.{Family, Meets, PiecesLinked}
+use Rattle.split.specs.work.Family.{PiecesSound, Closed, fine}
+use Rattle.split.specs.claims.Five.{nameOf}
+use Rattle.split.specs.claims.Claims.{partLocal}
+use Rattle.split.specs.Owned.{owned}
+use Rattle.split.specs.claims.Owned.{Fit, cellFamily, cellComplex, partCount, ownedPart, InnerFaces, InnerCrossings, gridComplex, GridLaws, GridSplit}
 use Rattle.split.proofs.Lengths.{split-is}
 use Rattle.split.proofs.Parts.{partsNumbered, drawn-whole, drawn-all}
 use Rattle.split.proofs.Family.{fine-sound, fine-closed, fine-linked}

@@ -5,17 +5,16 @@ use mathlib.Core.Bool.{Bool, true, false}
 use mathlib.Core.List.{List, [], _∷_, map}
 use native.Mathlib.Omega.{arith}
 use lib.ListN.{length, getD}
-use Rattle.counting.specs.Range.{over}
-use Rattle.counting.specs.Lists.{gather}
+use Rattle.counting.specs.Lists.{over, gather}
 use Rattle.counting.proofs.Range.{over-ext}
 use Rattle.counting.proofs.Lists.{map-over}
 use Rattle.counting.proofs.Rows.{over-rows}
 use Rattle.walk.specs.Step.{face}
 use Rattle.manifold.specs.Triangle.{seg}
-use Rattle.manifold.specs.Plain.{Tri, tri}
-use Rattle.manifold.specs.Polygon.{shape, triangles, corner, centre, segment, innerSide}
-use Rattle.manifold.specs.Piece.{Local, slotOf, mateOf, dart, sizeOf}
-use Rattle.manifold.specs.Complex.{loopOf, mesh}
+use Rattle.manifold.specs.claims.Plain.{Tri, tri}
+use Rattle.manifold.specs.claims.Polygon.{shape, triangles, corner, centre, segment, innerSide}
+use Rattle.manifold.specs.claims.Piece.{Local, slotOf, mateOf, dart, sizeOf}
+use Rattle.manifold.specs.claims.Complex.{loopOf, mesh}
 use Rattle.manifold.proofs.Polygon.{fits}
 use Rattle.manifold.proofs.Shapes.{map-triangles, triangles-ext}
 use Rattle.walk.specs.Darts.{half}
@@ -23,12 +22,13 @@ use Rattle.cell.specs.declared.Cell.{Cell}
 use Rattle.cell.specs.Of.{countOf, edgesOf}
 use Rattle.cell.specs.Loop.{normal}
 use Rattle.cell.specs.Triangles.{cellTriangles}
-use Rattle.cell.specs.Polygons.{named}
+use Rattle.cell.specs.claims.Polygons.{named}
 use Rattle.booking.specs.Booking.{larger, smaller, isSplit}
 use Rattle.split.specs.Limits.{firstInnerCrossing, firstInnerFace}
 use Rattle.split.specs.Parts.{whole, allParts, partTriangles, drawnTriangles, noPart, partCell, drawnParts}
-use Rattle.split.specs.Claims.{partLocal, partsComplex, loopIn, LevelCorners}
-use Rattle.split.specs.Owned.{owned, ownedCorner, ownedSide, ownedTri, ofCell, partCount, ownedPart, GridMeshed}
+use Rattle.split.specs.claims.Claims.{partLocal, partsComplex, loopIn, LevelCorners}
+use Rattle.split.specs.Owned.{owned, ownedCorner, ownedSide}
+use Rattle.split.specs.claims.Owned.{ownedTri, ofCell, partCount, ownedPart, GridMeshed}
 use Rattle.split.proofs.Lengths.{split-is, drawn-not, whole-alone, drawn-is}
 use Rattle.split.proofs.Parts.{partsNumbered, drawn-whole, drawn-all}
 use Rattle.split.proofs.Meshed.{level-corners, partsMeshed}

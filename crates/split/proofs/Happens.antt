@@ -6,33 +6,32 @@ use native.Mathlib.Omega.{arith}
 use lib.Dec.{ltb, leb}
 use borrow.Author.Tests.{leb-true, lt-ltb}
 use Rattle.counting.specs.Pick.{pick}
-use Rattle.counting.specs.Search.{seek, first, last, every}
-use Rattle.counting.specs.Range.{total}
-use Rattle.counting.specs.Pack.{pre}
+use Rattle.counting.specs.Lists.{seek, total, pre, it}
+use Rattle.counting.specs.Search.{first, last, every}
 use Rattle.counting.specs.Gcd.{divides, gcd}
 use Rattle.counting.proofs.Below.{trichotomy, below-four}
 use Rattle.counting.proofs.Search.{every-is}
 use Rattle.slots.specs.Slots as slots
 use Rattle.face.specs.Face as face
-use Rattle.face.specs.Level.{isLevel}
-use Rattle.walk.specs.Iterate.{it}
-use Rattle.walk.specs.Darts.{half, rev, Darts}
+use Rattle.face.specs.Face.{isLevel}
+use Rattle.walk.specs.Darts.{half, rev}
+use Rattle.walk.specs.claims.Claims.{Darts}
 use Rattle.walk.specs.Step as steps
 use Rattle.walk.specs.Walk as walk
 use Rattle.walk.proofs.Once.{listed}
-use Rattle.manifold.specs.Piece.{Local, Piece, mateOf, onward, sizeOf}
+use Rattle.manifold.specs.claims.Piece.{Local, Piece, mateOf, onward, sizeOf}
 use Rattle.manifold.proofs.Piece.{cell-darts}
 use Rattle.cell.specs.declared.Cell.{Cell}
 use Rattle.cell.specs.Cell.{crossings, ahead, base, holds, edge, index, answerAt, joinAt, joinedTo, mate}
 use Rattle.cell.specs.Of.{countOf, startOf, edgesOf}
-use Rattle.cell.specs.Polygons.{localOf}
+use Rattle.cell.specs.claims.Polygons.{localOf}
 use Rattle.cell.specs.Nodes.{joining, cornerFrom}
 use Rattle.cell.specs.Level.{isLevelCell}
 use Rattle.booking.specs.Booking.{median, cornerOn, leastCorner, leftBetween, larger, smaller, isSplit}
 use Rattle.booking.specs.Figures.{areSpiral, areSplit}
-use Rattle.split.specs.Five.{nameOf}
-use Rattle.split.specs.Examples.{loneCell}
-use Rattle.split.specs.Owned.{Fit, SplitHappens, CurvesMix}
+use Rattle.split.specs.claims.Five.{nameOf}
+use Rattle.split.specs.examples.Examples.{loneCell}
+use Rattle.split.specs.claims.Owned.{Fit, SplitHappens, CurvesMix}
 use Rattle.split.proofs.Grid.{piece-of}
 use Rattle.split.proofs.Curves.{closes-live}
 

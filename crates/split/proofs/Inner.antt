@@ -8,16 +8,18 @@ use native.Mathlib.Omega.{arith}
 use native.Mathlib.Decide.{decLt, ℕ-discrete}
 use lib.ListN.{length, getD, length-append, List·getD-append}
 use lib.Seq.{getD-append-add}
-use Rattle.counting.specs.Pack.{pre, row, col}
+use Rattle.counting.specs.Lists.{pre}
+use Rattle.counting.specs.Pack.{row, col}
 use Rattle.counting.proofs.Pack.{row-lt, col-lt, unpack}
-use Rattle.slots.specs.Slots.{position, rankIn}
+use Rattle.slots.specs.Slots.{position}
+use Rattle.slots.specs.claims.Slots.{rankIn}
 use Rattle.slots.proofs.Slots.{rank-of}
 use Rattle.cell.specs.declared.Cell.{Cell}
 use Rattle.cell.specs.Cell.{number}
 use Rattle.cell.specs.Of.{countOf, startOf, edgesOf}
 use Rattle.cell.specs.Loop.{inGrid}
 use Rattle.cell.specs.Triangles.{numberOf}
-use Rattle.cell.specs.Polygons.{localOf}
+use Rattle.cell.specs.claims.Polygons.{localOf}
 use Rattle.cell.proofs.Lay.{lay}
 use Rattle.booking.specs.Booking.{larger, smaller, isSpiral}
 use Rattle.split.specs.Limits.{wordStep}
@@ -25,9 +27,9 @@ use Rattle.booking.specs.Figures.{innerCrossings}
 use Rattle.split.specs.Labels.{labelled, label, spoke}
 use Rattle.split.specs.SubCell.{armStart, subAt, sub}
 use Rattle.split.specs.Parts.{Part, whole, corners, splitsWithin, parts, noPart}
-use Rattle.split.specs.Family.{Meets}
-use Rattle.split.specs.Five.{Firm, FirmBelow}
-use Rattle.split.specs.Claims.{partLocal, InnerNumbered}
+use Rattle.split.specs.claims.Family.{Meets}
+use Rattle.split.specs.claims.Five.{Firm, FirmBelow}
+use Rattle.split.specs.claims.Claims.{partLocal, InnerNumbered}
 use Rattle.booking.proofs.Figures.{figure-stop, figure-step}
 use Rattle.split.proofs.Labels.{spiral-is, labelled-lt, labelled-once, label-at}
 use Rattle.split.proofs.SubCells.{sub-omits}

@@ -10,23 +10,25 @@ use native.Mathlib.Decide.{decLt}
 use lib.Dec.{eqb, ltb}
 use lib.ListN.{getD}
 use borrow.Author.Tests.{eqb-true, eq-eqb, ne-eqb, ltb-true, lt-ltb, le-ltb}
-use Rattle.counting.specs.Search.{seek, first}
+use Rattle.counting.specs.Lists.{seek}
+use Rattle.counting.specs.Search.{first}
 use Rattle.counting.proofs.Below.{trichotomy, below-four, below-six}
 use Rattle.counting.proofs.Bools.{clash, and-left, and-right}
 use Rattle.counting.proofs.Search.{Sought, sought, first-at}
 use Rattle.slots.specs.Slots.{lo, hi, edgeBetween}
 use Rattle.slots.proofs.Slots.{edge-pair, two-slots}
-use Rattle.face.specs.Level.{Level}
+use Rattle.face.specs.claims.Level.{Level}
 use Rattle.face.proofs.Level.{level-swap}
-use Rattle.cell.specs.Nodes.{Arranged, joining}
+use Rattle.cell.specs.claims.Nodes.{Arranged}
+use Rattle.cell.specs.Nodes.{joining}
 use Rattle.cell.specs.Level.{isLevelCell}
 use Rattle.cell.proofs.Nodes.{acbd, acdb, abdc, bcad, bdac, cdab, joining-ends}
 use Rattle.booking.specs.Booking.{leftBetween, larger, smaller, isSpiral}
-use Rattle.booking.specs.Left.{pairSum, largestPair, Longest}
+use Rattle.booking.specs.claims.Left.{pairSum, largestPair, Longest}
 use Rattle.booking.proofs.Counts.{top-cases, left-sum, left-opposite, numbers}
 use Rattle.booking.specs.Figures.{areSpiral}
 use Rattle.split.specs.Labels.{remainsTo, labelled, label, spoke}
-use Rattle.split.specs.Claims.{Labelling, FirstLabelling}
+use Rattle.split.specs.claims.Claims.{Labelling, FirstLabelling}
 use Rattle.split.proofs.Orders.{at-apart, place-of}
 
 -- the test as facts

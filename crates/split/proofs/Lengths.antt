@@ -7,8 +7,8 @@ use native.Mathlib.Omega.{arith}
 use lib.Dec.{eqb, ltb}
 use lib.ListN.{length, length-append}
 use borrow.Author.Tests.{eqb-true}
-use Rattle.counting.specs.Pick.{pick, one}
-use Rattle.counting.specs.Lists.{gather}
+use Rattle.counting.specs.Pick.{pick}
+use Rattle.counting.specs.Lists.{one, gather}
 use Rattle.counting.specs.Gcd.{gcd}
 use Rattle.counting.proofs.Bools.{and-left, and-right}
 use Rattle.counting.proofs.Range.{length-over, total-ext, total-mono}
@@ -21,14 +21,15 @@ use Rattle.cell.specs.Loop.{loopSize, normal}
 use Rattle.cell.specs.Triangles.{loopTriangles, cellTriangles, askedTriangles, trianglesWith}
 use Rattle.cell.specs.Level.{isLevelCell}
 use Rattle.cell.proofs.Taken.{length-loop}
-use Rattle.booking.specs.Booking.{cornerTriangles, larger, smaller, beside, besideDrawn, booked, isSpiral, isSplit, bookedSplit}
+use Rattle.booking.specs.Booking.{cornerTriangles, larger, smaller, beside, besideDrawn, isSpiral, isSplit, bookedSplit}
+use Rattle.booking.specs.claims.Booking.{booked}
 use Rattle.booking.proofs.Count.{threes-are}
 use Rattle.booking.proofs.Claims.{trianglesBooked}
 use Rattle.split.specs.Limits.{firstInnerCrossing, firstInnerFace, wordStep}
 use Rattle.booking.specs.Figures.{areSpiral, areSplit, nextLarger, nextSmaller, splits, besideSplit}
 use Rattle.split.specs.SubCell.{sub}
 use Rattle.split.specs.Parts.{Part, whole, corners, splitsWithin, parts, allParts, ownCorners, partTriangles, drawnTriangles, splitsOf}
-use Rattle.split.specs.Claims.{NumbersAre, DrawnCounted, DrawnBooked, mostSplits, SplitsFew}
+use Rattle.split.specs.claims.Claims.{NumbersAre, DrawnCounted, DrawnBooked, mostSplits, SplitsFew}
 use Rattle.booking.proofs.Figures.{figure-stop, figure-step, figureLaws}
 use Rattle.booking.proofs.Drawn.{beside-more}
 use Rattle.split.proofs.Labels.{spiral-is}

@@ -5,21 +5,21 @@ use mathlib.Core.Bool.{true}
 use mathlib.Core.List.{List, map}
 use native.Mathlib.Omega.{arith}
 use lib.ListN.{length, getD}
-use Rattle.counting.specs.Range.{over}
+use Rattle.counting.specs.Lists.{over}
 use Rattle.counting.proofs.Range.{over-ext}
 use Rattle.counting.proofs.Lists.{map-over, gather-places}
-use Rattle.manifold.specs.Polygon.{triangles}
-use Rattle.manifold.specs.Piece.{segmentOf}
-use Rattle.manifold.specs.Complex.{Lawful, loopOf, mesh}
+use Rattle.manifold.specs.claims.Polygon.{triangles}
+use Rattle.manifold.specs.claims.Piece.{segmentOf}
+use Rattle.manifold.specs.claims.Complex.{Lawful, loopOf, mesh}
 use Rattle.cell.specs.Of.{countOf, edgesOf}
 use Rattle.cell.specs.Loop.{normal}
 use Rattle.cell.specs.Level.{isLevelCell}
-use Rattle.cell.specs.Polygons.{localOf, named}
+use Rattle.cell.specs.claims.Polygons.{localOf, named}
 use Rattle.cell.proofs.Polygons.{cell-named}
 use Rattle.split.specs.Limits.{wordStep}
 use Rattle.split.specs.Parts.{Part, whole, corners, parts, partTriangles, noPart, partCell}
-use Rattle.split.specs.Family.{PiecesSound}
-use Rattle.split.specs.Claims.{partLocal, partsComplex, loopIn, LevelCorners, PartsMeshed, PartsLawful}
+use Rattle.split.specs.work.Family.{PiecesSound}
+use Rattle.split.specs.claims.Claims.{partLocal, partsComplex, loopIn, LevelCorners, PartsMeshed, PartsLawful}
 use Rattle.split.proofs.Shows.{piece}
 use Rattle.split.proofs.Compose.{parts-sound}
 use Rattle.split.proofs.Corners.{own-named}

@@ -4,14 +4,13 @@ use mathlib.Core.Path.{_≡_, refl, ap, ap₂, _∙_}
 use mathlib.Core.Bool.{Bool, true, false}
 use native.Mathlib.Omega.{arith}
 use lib.ListN.{length}
-use Rattle.counting.specs.Range.{total}
-use Rattle.counting.specs.Pack.{pre}
+use Rattle.counting.specs.Lists.{total, pre}
 use Rattle.counting.proofs.Pack.{pre-le}
 use Rattle.counting.proofs.Below.{below-six}
 use Rattle.slots.specs.Slots.{position, slotEdge}
 use Rattle.slots.proofs.Slots.{slot-edge, corner-lt}
 use Rattle.cell.specs.declared.Cell.{Cell}
-use Rattle.cell.specs.Limits.{startLimit}
+use Rattle.cell.specs.work.Limits.{startLimit}
 use Rattle.cell.specs.Of.{countOf, startOf}
 use Rattle.cell.specs.Level.{isLevelCell}
 use Rattle.booking.specs.Figures.{nextLarger, nextSmaller, splits, innerCrossings}
@@ -20,9 +19,10 @@ use Rattle.booking.proofs.Figures.{figure-stop, figure-step}
 use Rattle.split.specs.declared.Spiral.{Spiral}
 use Rattle.split.specs.Limits.{wordStep}
 use Rattle.split.specs.Labels.{labelled, label, spoke}
-use Rattle.split.specs.SubCell.{restCount, restStart, armCount, armStart, sub, subAt}
+use Rattle.split.specs.work.Five.{restCount, armCount}
+use Rattle.split.specs.SubCell.{restStart, armStart, sub, subAt}
 use Rattle.split.specs.Parts.{splitsWithin}
-use Rattle.split.specs.Working.{LevelSix, SpiralNumbers, Working, SplitsLeft}
+use Rattle.split.specs.work.Working.{LevelSix, SpiralNumbers, Working, SplitsLeft}
 use Rattle.split.proofs.Labels.{spiral-is, labelled-lt, at-label}
 use Rattle.split.proofs.Rest.{rest-sum}
 use Rattle.split.proofs.SubNumbers.{subCells}

@@ -17,7 +17,7 @@ use Rattle.booking.specs.Booking.{larger, smaller, isSplit}
 use Rattle.booking.proofs.Figures.{figure-step, figureLaws}
 use Rattle.split.specs.Limits.{firstInnerCrossing, firstInnerFace}
 use Rattle.split.specs.Parts.{allParts, drawnTriangles, splitsOf}
-use Rattle.split.specs.Working.{StartsNear, Drawable, SplitsLeft, partsWords}
+use Rattle.split.specs.work.Working.{StartsNear, Drawable, SplitsLeft, partsWords}
 use Rattle.split.proofs.SubCells.{most-sum}
 use Rattle.split.proofs.Lengths.{IsSplit, split-is, drawn-not, drawn-is}
 

@@ -4,18 +4,18 @@ use mathlib.Core.Path.{_≡_, refl, sym, subst}
 use mathlib.Core.Bool.{Bool, true, false}
 use mathlib.Core.List.{List, [], _∷_}
 use native.Mathlib.Omega.{arith}
-use Rattle.counting.specs.Lists.{All}
+use Rattle.counting.specs.claims.Lists.{All}
 use Rattle.counting.proofs.Lists.{all-append, all-at}
 use Rattle.cell.specs.declared.Cell.{Cell}
 use Rattle.cell.specs.Of.{countOf, edgesOf}
-use Rattle.cell.specs.Claims.{Separate}
+use Rattle.cell.specs.claims.Claims.{Separate}
 use Rattle.cell.proofs.Claims.{ordered}
 use Rattle.booking.specs.Booking.{larger, smaller, isSpiral, isSplit}
 use Rattle.split.specs.Limits.{firstInnerCrossing, firstInnerFace, wordStep}
 use Rattle.split.specs.SubCell.{sub}
 use Rattle.split.specs.Parts.{Part, whole, splitsWithin, parts, allParts, noPart, partCell, drawnParts}
-use Rattle.split.specs.Five.{FirmBelow}
-use Rattle.split.specs.Owned.{Fit, DrawnOrdered}
+use Rattle.split.specs.claims.Five.{FirmBelow}
+use Rattle.split.specs.claims.Owned.{Fit, DrawnOrdered}
 use Rattle.split.proofs.Labels.{spiral-is}
 use Rattle.split.proofs.Parts.{stop, more as recurse, drawn-whole, drawn-all}
 use Rattle.split.proofs.Sub.{sub-ready}

@@ -5,12 +5,12 @@ use mathlib.Core.Logic.{_≢_, ⊎-elim}
 use mathlib.Core.List.{[], _∷_}
 use native.Mathlib.Omega.{arith}
 use lib.ListN.{getD}
-use Rattle.counting.specs.Range.{total}
+use Rattle.counting.specs.Lists.{total}
 use Rattle.counting.proofs.Onto.{onto, total-onto}
 use Rattle.counting.proofs.Below.{below-four}
-use Rattle.cell.specs.Nodes.{Arranged}
+use Rattle.cell.specs.claims.Nodes.{Arranged}
 use Rattle.booking.specs.Booking.{leastCorner, cornerTriangles}
-use Rattle.booking.specs.Left.{pairSum, Longest}
+use Rattle.booking.specs.claims.Left.{pairSum, Longest}
 use Rattle.booking.proofs.Counts.{pairs, top-cases}
 
 module _ {a b c d : ℕ} (A : Arranged a b c d) where

@@ -8,20 +8,22 @@ use lib.Dec.{ltb, leb}
 use borrow.Author.Tests.{lt-ltb, le-leb, ltb-true, leb-true}
 use Rattle.counting.proofs.Bools.{or-cases, or-right}
 use Rattle.slots.specs.Slots.{lo, hi}
-use Rattle.walk.specs.Step.{face, Ports}
+use Rattle.walk.specs.Step.{face}
+use Rattle.walk.specs.claims.Step.{Ports}
 use Rattle.walk.specs.Darts.{rev}
-use Rattle.manifold.specs.Piece.{Local, Piece, slotOf, mateOf}
-use Rattle.manifold.specs.Complex.{Joins, Whole}
+use Rattle.manifold.specs.claims.Piece.{Local, Piece, slotOf, mateOf}
+use Rattle.manifold.specs.claims.Complex.{Joins, Whole}
 use Rattle.cell.specs.declared.Cell.{Cell}
 use Rattle.cell.specs.Cell.{Edges, crossings, edge, index}
 use Rattle.cell.specs.Of.{countOf, edgesOf}
 use Rattle.cell.specs.Loop.{inGrid}
 use Rattle.cell.specs.Triangles.{numberOf}
-use Rattle.cell.specs.Polygons.{localOf}
+use Rattle.cell.specs.claims.Polygons.{localOf}
 use Rattle.cell.proofs.Lay.{lay}
 use Rattle.booking.specs.Booking.{leastCorner}
-use Rattle.split.specs.Shown.{Facet, num, DartAlong, Shows, Any}
-use Rattle.split.specs.Five.{facet, Firm, Went, goes, ownPiece}
+use Rattle.split.specs.work.Shown.{Facet, num, DartAlong, Shows, Any}
+use Rattle.split.specs.work.Five.{facet, Went}
+use Rattle.split.specs.claims.Five.{Firm, goes, ownPiece}
 use Rattle.split.proofs.Shows.{once, all-joined, piece, shows}
 use Rattle.split.proofs.Remain.{went-on}
 

@@ -7,10 +7,10 @@ use Rattle.counting.proofs.Below.{trichotomy}
 use Rattle.walk.specs.Step.{face}
 use Rattle.walk.specs.Darts.{half}
 use Rattle.manifold.specs.Triangle.{seg}
-use Rattle.manifold.specs.Piece.{Local, Piece, slotOf, mateOf, lowerOf, segmentOf}
-use Rattle.manifold.specs.Complex.{Joins, SameEnds, Whole, Shares}
-use Rattle.split.specs.Family.{HasSegment, Meets, PiecesLinked, Outer, Covered, Refines}
-use Rattle.split.specs.Owned.{renamedPiece}
+use Rattle.manifold.specs.claims.Piece.{Local, Piece, slotOf, mateOf, lowerOf, segmentOf}
+use Rattle.manifold.specs.claims.Complex.{Joins, SameEnds, Whole, Shares}
+use Rattle.split.specs.claims.Family.{HasSegment, Meets, PiecesLinked, Outer, Covered, Refines}
+use Rattle.split.specs.claims.Owned.{renamedPiece}
 
 -- numbers that keep their order
 abbrev pub Rises : (ℕ → ℕ) → Type 0

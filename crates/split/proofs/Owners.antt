@@ -7,7 +7,8 @@ use native.Mathlib.Omega.{arith}
 use lib.Dec.{eqb}
 use lib.ListN.{length, getD}
 use Rattle.counting.specs.Pick.{pick}
-use Rattle.counting.specs.Lists.{All, gather}
+use Rattle.counting.specs.claims.Lists.{All}
+use Rattle.counting.specs.Lists.{gather}
 use Rattle.counting.proofs.Lists.{all-append, all-over}
 use Rattle.manifold.specs.Shape.{Shape, single, double, fan, shapeOf, manyOf, triangleOf, trianglesOf}
 use Rattle.slots.specs.Limits.{mostCells}
@@ -21,7 +22,7 @@ use Rattle.cell.specs.Loop.{loopSize, normal}
 use Rattle.cell.specs.Triangles.{triangle, numberOf, point, segment, loopTriangles, cellTriangles, askedTriangles, trianglesWith}
 use Rattle.split.specs.Limits.{wordStep}
 use Rattle.split.specs.Parts.{Part, whole, corners, ownCorners, partTriangles, drawnTriangles, noPart, partCell, drawnParts}
-use Rattle.split.specs.Owned.{DrawnOwned}
+use Rattle.split.specs.claims.Owned.{DrawnOwned}
 use Rattle.split.proofs.GridLaws.{word-is}
 
 -- what holds of each entry, from what does; and of each entry of joined lists

@@ -17,7 +17,7 @@ use Rattle.split.specs.Limits.{wordStep}
 use Rattle.booking.specs.Figures.{areSpiral, splits}
 use Rattle.split.specs.SubCell.{subAt, sub}
 use Rattle.split.specs.Parts.{Part, whole, corners, splitsWithin, parts, allParts, noPart, partCell, drawnParts}
-use Rattle.split.specs.Claims.{PartsCounted, PartsNumbered}
+use Rattle.split.specs.claims.Claims.{PartsCounted, PartsNumbered}
 use Rattle.booking.proofs.Figures.{figure-stop, figure-step}
 use Rattle.split.proofs.Labels.{spiral-is}
 use Rattle.split.proofs.SubNumbers.{subCells}

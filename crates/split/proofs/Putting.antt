@@ -5,11 +5,14 @@ use mathlib.Core.Bool.{true}
 use mathlib.Core.List.{List, _++_}
 use native.Mathlib.Omega.{arith}
 use lib.ListN.{length, length-append}
-use Rattle.counting.specs.Stored.{storedIn, nextIn, Stored}
+use Rattle.counting.specs.Stored.{storedIn}
+use Rattle.counting.specs.claims.Lists.{nextIn}
+use Rattle.counting.specs.work.Stored.{Stored}
 use Rattle.counting.proofs.Stored.{stored-long, stored-as, stored-then, stored-room}
 use Rattle.counting.proofs.Below.{below-four}
 use Rattle.cell.specs.declared.Cell.{Cell}
-use Rattle.cell.specs.Of.{countOf, limited}
+use Rattle.cell.specs.Of.{countOf}
+use Rattle.cell.specs.work.Route.{limited}
 use Rattle.cell.specs.Level.{isLevelCell}
 use Rattle.cell.specs.Words.{allWords}
 use Rattle.cell.specs.Triangles.{trianglesWith}
@@ -19,7 +22,7 @@ use Rattle.split.specs.declared.Spiral.{Spiral}
 use Rattle.split.specs.Limits.{wordStep}
 use Rattle.split.specs.SubCell.{sub}
 use Rattle.split.specs.Parts.{splitsWithin}
-use Rattle.split.specs.Working.{StartsNear, LevelSix, Working, SplitsLeft, partsWords, startWords, endWords}
+use Rattle.split.specs.work.Working.{StartsNear, LevelSix, Working, SplitsLeft, partsWords, startWords, endWords}
 use Rattle.split.proofs.Labels.{spiral-is}
 use Rattle.split.proofs.SubNumbers.{subCells}
 use Rattle.split.proofs.Worded.{words-stop, words-more}

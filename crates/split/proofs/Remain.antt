@@ -4,16 +4,16 @@ use mathlib.Core.Path.{_≡_, refl, sym, ap, _∙_}
 use mathlib.Core.Logic.{_⊎_, inl, inr, ⊎-elim}
 use native.Mathlib.Omega.{arith}
 use native.Mathlib.Decide.{decLt}
-use Rattle.slots.specs.Slots.{lo, hi, position, slotEdge}
+use Rattle.slots.specs.Slots.{lo, hi, position, slotEdge, lower, upper}
 use Rattle.slots.proofs.Slots.{slot-edge}
-use Rattle.face.specs.Face.{lower, upper}
-use Rattle.face.specs.Level.{less, Remains}
+use Rattle.face.specs.claims.Level.{less, Remains}
 use Rattle.face.proofs.Shift.{back}
 use Rattle.cell.specs.declared.Cell.{Cell}
 use Rattle.cell.specs.Of.{countOf, startOf}
 use Rattle.booking.specs.Booking.{leastCorner}
-use Rattle.split.specs.Shown.{Facet, num, Segment, OnFace}
-use Rattle.split.specs.Five.{nameOf, facet, Firm, Went, Stays}
+use Rattle.split.specs.work.Shown.{Facet, num, Segment, OnFace}
+use Rattle.split.specs.claims.Five.{nameOf, Firm}
+use Rattle.split.specs.work.Five.{facet, Went, Stays}
 use Rattle.split.proofs.Facets.{seg-on, turned}
 use Rattle.split.proofs.Rest.{count-at, off}
 use Rattle.split.proofs.Shows.{once}

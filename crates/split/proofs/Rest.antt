@@ -4,15 +4,17 @@ use mathlib.Core.Path.{_≡_, refl, sym, ap}
 use mathlib.Core.Bool.{true}
 use native.Mathlib.Omega.{arith}
 use lib.ListN.{getD}
-use Rattle.counting.specs.Search.{seek, first}
+use Rattle.counting.specs.Lists.{seek}
+use Rattle.counting.specs.Search.{first}
 use Rattle.counting.proofs.Below.{below-three, below-four}
 use Rattle.slots.specs.Slots.{lo, hi, position, lower, upper, edgeBetween, slotEdge}
 use Rattle.slots.specs.Limits.{mostCount}
 use Rattle.slots.proofs.Slots.{slot-edge, first-slot}
-use Rattle.face.specs.Face as face
+use Rattle.face.specs.work.Corners as face
 use Rattle.face.specs.Face.{countOn}
-use Rattle.face.specs.Ends.{End, low, high, on-ab, on-ac, on-bc}
-use Rattle.face.specs.Level.{Level, less, Off}
+use Rattle.face.specs.claims.Ends.{End, low, high, on-ab, on-ac, on-bc}
+use Rattle.face.specs.claims.Level.{Level, less}
+use Rattle.face.specs.work.Ends.{Off}
 use Rattle.face.proofs.Gaps.{corner-node}
 use Rattle.face.proofs.Shift.{level-less}
 use Rattle.cell.specs.declared.Cell.{Cell}
@@ -23,7 +25,8 @@ use Rattle.cell.proofs.Nodes.{joining-ends, arranged}
 use Rattle.cell.proofs.Levels.{slot-level}
 use Rattle.booking.specs.Booking.{cornerOn, leastCorner, leftBetween}
 use Rattle.booking.proofs.Counts.{fits}
-use Rattle.split.specs.SubCell.{restOf, restCount}
+use Rattle.split.specs.SubCell.{restOf}
+use Rattle.split.specs.work.Five.{restCount}
 
 module _ (w : ℕ → ℕ) (K : isLevelCell w ≡ true) where
   pub rest-sum : (e : ℕ) → e < 6 → restOf w e + leastCorner w (lo e) + leastCorner w (hi e) ≡ w e

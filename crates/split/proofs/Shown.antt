@@ -7,10 +7,10 @@ use native.Mathlib.Decide.{ℕ-discrete}
 use Rattle.slots.specs.Slots.{lo, hi, slotEdge}
 use Rattle.slots.proofs.Slots.{slot-edge, two-slots}
 use Rattle.walk.specs.Darts.{half}
-use Rattle.manifold.specs.Piece.{Local, Piece, slotOf, lowerOf, segmentOf}
-use Rattle.manifold.specs.Complex.{Joins, SameEnds, Whole, Shares}
-use Rattle.split.specs.Family.{HasSegment, Meets, PiecesLinked, Outer, Covered, Refines}
-use Rattle.split.specs.Shown.{Facet, num, Segment, OnFace, DartAlong, Any, Split, InnerFace, InnerPoint, five, Order}
+use Rattle.manifold.specs.claims.Piece.{Local, Piece, slotOf, lowerOf, segmentOf}
+use Rattle.manifold.specs.claims.Complex.{Joins, SameEnds, Whole, Shares}
+use Rattle.split.specs.claims.Family.{HasSegment, Meets, PiecesLinked, Outer, Covered, Refines}
+use Rattle.split.specs.work.Shown.{Facet, num, Segment, OnFace, DartAlong, Any, Split, InnerFace, InnerPoint, five, Order}
 use Rattle.split.proofs.Facets.{same-name, same-lower, seg-on, two-ends, some, meet, alike}
 use Rattle.split.proofs.Sits.{Sits, sits-at, not-three, another, end-not, meets-at}
 

@@ -4,25 +4,26 @@ use mathlib.Core.Path.{_≡_, refl, sym, ap, ap₂, _∙_, subst}
 use mathlib.Core.Logic.{⊎-elim}
 use native.Mathlib.Omega.{arith}
 use Rattle.slots.specs.Slots.{slotEdge, edgeRank, firstSlot, secondSlot}
-use Rattle.slots.specs.Claims.{EdgeSlot}
+use Rattle.slots.specs.claims.Claims.{EdgeSlot}
 use Rattle.slots.proofs.Slots.{slot-edge}
 use Rattle.face.specs.Face.{joined, faceJoin}
 use Rattle.walk.proofs.Step.{face-first, face-second}
-use Rattle.manifold.specs.Piece.{Local, Piece, slotOf, mateOf}
-use Rattle.manifold.specs.Complex.{Joins, Whole}
+use Rattle.manifold.specs.claims.Piece.{Local, Piece, slotOf, mateOf}
+use Rattle.manifold.specs.claims.Complex.{Joins, Whole}
 use Rattle.cell.specs.declared.Cell.{Cell}
 use Rattle.cell.specs.Cell.{Edges, crossings, edge, index, number, joinAt, mate, slot}
 use Rattle.cell.specs.Of.{countOf, startOf, edgesOf}
 use Rattle.cell.specs.Loop.{inGrid}
 use Rattle.cell.specs.Triangles.{numberOf}
-use Rattle.cell.specs.Polygons.{localOf, Apart}
+use Rattle.cell.specs.claims.Polygons.{localOf, Apart}
 use Rattle.cell.proofs.Lay.{lay}
 use Rattle.cell.proofs.Levels.{slot-level}
 use Rattle.cell.proofs.Mates as mates
 use Rattle.cell.proofs.Mates.{slot-has}
 use Rattle.cell.proofs.Polygons as polygons
-use Rattle.split.specs.Shown.{Facet, num, Segment, OnFace, Plain, DartAlong, Shows, Any}
-use Rattle.split.specs.Five.{facet, Firm}
+use Rattle.split.specs.work.Shown.{Facet, num, Segment, OnFace, Plain, DartAlong, Shows, Any}
+use Rattle.split.specs.work.Five.{facet}
+use Rattle.split.specs.claims.Five.{Firm}
 use Rattle.split.proofs.Facets.{seg-on, turned, some}
 
 module _ (c : Cell) (H : Firm c) where

@@ -8,20 +8,20 @@ use native.Mathlib.Omega.{arith}
 use lib.ListN.{length, getD}
 use Rattle.counting.specs.Lists.{tally}
 use Rattle.manifold.specs.Triangle.{Side, seg, inner}
-use Rattle.manifold.specs.Plain.{Tri, sideOf, hasSide, nth}
-use Rattle.manifold.specs.Piece.{slotOf, lowerOf, segmentOf}
-use Rattle.manifold.specs.Complex.{Complex, Joins, Closes, Lawful, mesh}
+use Rattle.manifold.specs.claims.Plain.{Tri, sideOf, hasSide, nth}
+use Rattle.manifold.specs.claims.Piece.{slotOf, lowerOf, segmentOf}
+use Rattle.manifold.specs.claims.Complex.{Complex, Joins, Closes, Lawful, mesh}
 use Rattle.manifold.proofs.Piece.{whole-closes}
 use Rattle.manifold.proofs.Claims.{manifold}
 use Rattle.cell.specs.declared.Cell.{Cell}
 use Rattle.cell.specs.Of.{countOf}
-use Rattle.cell.specs.Polygons.{localOf, named}
+use Rattle.cell.specs.claims.Polygons.{localOf, named}
 use Rattle.booking.specs.Booking.{larger, smaller, isSplit}
 use Rattle.split.specs.Limits.{firstInnerCrossing, firstInnerFace, wordStep}
 use Rattle.split.specs.Parts.{Part, parts, allParts, drawnTriangles, noPart}
-use Rattle.split.specs.Family.{Outer}
-use Rattle.split.specs.Five.{FirmBelow}
-use Rattle.split.specs.Claims.{partsComplex, RefinedBy, SplitSides, SidesCounted}
+use Rattle.split.specs.claims.Family.{Outer}
+use Rattle.split.specs.claims.Five.{FirmBelow}
+use Rattle.split.specs.claims.Claims.{partsComplex, RefinedBy, SplitSides, SidesCounted}
 use Rattle.split.proofs.Shows.{all-joined, closed}
 use Rattle.split.proofs.Parts.{partsNumbered}
 use Rattle.split.proofs.Whole.{partsRefine}

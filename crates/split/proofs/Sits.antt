@@ -10,7 +10,7 @@ use Rattle.counting.specs.Search.{first, every}
 use Rattle.counting.proofs.Search.{every-is}
 use Rattle.counting.proofs.Bools.{and-left, and-right, or-cases}
 use Rattle.slots.specs.Slots.{lo, hi, lower, upper, slotEdge, edgeRank, contains, firstSlot, secondSlot}
-use Rattle.slots.specs.Claims.{SlotEdge}
+use Rattle.slots.specs.claims.Claims.{SlotEdge}
 use Rattle.slots.proofs.Slots.{slot-edge, two-slots, face-ends}
 use Rattle.slots.proofs.Claims.{slotLaws}
 

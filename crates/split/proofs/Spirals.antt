@@ -8,14 +8,15 @@ use lib.ListN.{getD}
 use borrow.Author.Tests.{eq-eqb, ne-eqb}
 use Rattle.counting.proofs.Below.{below-four}
 use Rattle.slots.specs.Slots.{edgeBetween}
-use Rattle.cell.specs.Nodes.{Arranged, joining}
+use Rattle.cell.specs.claims.Nodes.{Arranged}
+use Rattle.cell.specs.Nodes.{joining}
 use Rattle.cell.specs.Level.{isLevelCell}
 use Rattle.cell.proofs.Nodes.{badc, cdab, dcba}
 use Rattle.booking.specs.Booking.{leastCorner, leftBetween, larger, smaller}
-use Rattle.booking.specs.Left.{largestPair}
+use Rattle.booking.specs.claims.Left.{largestPair}
 use Rattle.booking.proofs.Counts.{twice-least}
 use Rattle.split.specs.Labels.{labelled, label}
-use Rattle.split.specs.Working.{AreOwn, labelBy}
+use Rattle.split.specs.work.Working.{AreOwn, labelBy}
 use Rattle.split.proofs.Labels.{at-i-is, from-lowest, at-label}
 
 module _ (w : ℕ → ℕ) (K : isLevelCell w ≡ true) where

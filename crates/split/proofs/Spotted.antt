@@ -12,9 +12,9 @@ use lib.Ieee.{Float}
 use borrow.Author.Tests.{le-leb, leb-true, leb-false, ltb-true}
 use Rattle.counting.specs.Gcd.{gcd}
 use Rattle.counting.specs.Pick.{pick}
-use Rattle.counting.specs.Lists.{gather}
-use Rattle.counting.specs.Range.{over}
-use Rattle.counting.specs.Stored.{Stored, nextIn}
+use Rattle.counting.specs.Lists.{gather, over}
+use Rattle.counting.specs.work.Stored.{Stored}
+use Rattle.counting.specs.claims.Lists.{nextIn}
 use Rattle.counting.proofs.Bools.{bool-same, and-right}
 use Rattle.counting.proofs.Gcd.{gcd-both}
 use Rattle.counting.proofs.Stored.{stored-none, stored-as, stored-more, stored-fits, stored-room, stored-not, stored-nothing, stored-same}
@@ -23,24 +23,27 @@ use Rattle.place.specs.declared.Place.{Place}
 use Rattle.place.specs.Place.{coordinates, allNumbers}
 use Rattle.place.proofs.Numbers.{length-numbers}
 use Rattle.cell.specs.declared.Cell.{Cell}
-use Rattle.cell.specs.Of.{countOf, limited}
+use Rattle.cell.specs.Of.{countOf}
+use Rattle.cell.specs.work.Route.{limited}
 use Rattle.cell.specs.Level.{byEdge, isLevelCell}
-use Rattle.cell.specs.Table.{tableCell, takenCounts, middlesWritten}
+use Rattle.cell.specs.claims.Table.{tableCell, takenCounts}
+use Rattle.cell.specs.work.Table.{middlesWritten}
 use Rattle.cell.proofs.Values.{taken-is}
-use Rattle.cell.specs.Nests.{nestMiddle}
-use Rattle.cell.specs.Middles.{fanCount, middlesAt, pointsThen, nextPoint}
+use Rattle.cell.specs.claims.Nests.{nestMiddle}
+use Rattle.cell.specs.claims.Middles.{fanCount, middlesAt, pointsThen, nextPoint}
 use Rattle.cell.proofs.Using.{limited-same}
 use Rattle.booking.specs.declared.SplitSums.{SplitSums}
-use Rattle.booking.specs.Figures.{areSpiral, areSplit, innerCrossings, besideSplit, endNumber}
+use Rattle.booking.specs.Figures.{areSpiral, areSplit, innerCrossings, besideSplit}
+use Rattle.booking.specs.claims.Figures.{endNumber}
 use Rattle.booking.specs.Booking.{larger, smaller, isSplit}
-use Rattle.booking.specs.Sums.{AreFigures}
+use Rattle.booking.specs.work.Sums.{AreFigures}
 use Rattle.booking.proofs.Figures.{figure-step, figureLaws}
 use Rattle.split.specs.declared.Spiral.{Spiral}
 use Rattle.split.specs.Limits.{firstInnerCrossing, firstInnerFace}
 use Rattle.split.specs.Standing.{cornersOf, allStanding, innerPlaces, drawnMiddles}
-use Rattle.split.specs.Working.{LevelSix, SpiralNumbers, Drawable}
-use Rattle.split.specs.Gains.{IsStretch}
-use Rattle.split.specs.Spots.{standingInner, standingFans, Spun, addedFans, innerBy, fansBy, mostInner, AreSpots, pointsStored, cellsStored, innerIn, addedIn, middlesAtCell}
+use Rattle.split.specs.work.Working.{LevelSix, SpiralNumbers, Drawable}
+use Rattle.split.specs.work.Gains.{IsStretch}
+use Rattle.split.specs.work.Spots.{standingInner, standingFans, Spun, addedFans, innerBy, fansBy, mostInner, AreSpots, pointsStored, cellsStored, innerIn, addedIn, middlesAtCell}
 use Rattle.split.proofs.Lengths.{IsSplit, split-is}
 use Rattle.split.proofs.SubCells.{most-sum}
 use Rattle.split.proofs.Tables.{unsplit, unsplit-at}

@@ -14,8 +14,9 @@ use Rattle.booking.specs.Booking.{larger, smaller, isSpiral}
 use Rattle.split.specs.Limits.{wordStep}
 use Rattle.split.specs.SubCell.{sub}
 use Rattle.split.specs.Parts.{Part, whole, corners, splitsWithin, parts}
-use Rattle.split.specs.Standing.{subPlaces, Standing, stand, standing, StandingParts, splitPlaces, innerOf, fansIn, fansOf}
-use Rattle.split.specs.Spots.{standingInner}
+use Rattle.split.specs.Standing.{subPlaces, Standing, stand, standing, splitPlaces, innerOf, fansIn, fansOf}
+use Rattle.split.specs.claims.Claims.{StandingParts}
+use Rattle.split.specs.work.Spots.{standingInner}
 use Rattle.split.proofs.Labels.{spiral-is}
 use Rattle.split.proofs.SubNumbers.{subCells}
 use Rattle.split.proofs.Parts.{not-spiral, stop}

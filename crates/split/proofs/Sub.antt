@@ -5,8 +5,8 @@ use mathlib.Core.Logic.{_≢_}
 use mathlib.Core.Bool.{true}
 use native.Mathlib.Omega.{arith}
 use native.Mathlib.Decide.{decLt, ℕ-discrete}
-use Rattle.counting.specs.Range.{total}
-use Rattle.counting.specs.Pack.{pre, row, col}
+use Rattle.counting.specs.Lists.{total, pre}
+use Rattle.counting.specs.Pack.{row, col}
 use Rattle.counting.proofs.Below.{below-three, trichotomy}
 use Rattle.counting.proofs.Pack.{row-pack, col-pack, pack-lt}
 use Rattle.slots.specs.Slots.{lo, position, slotEdge, edgeRank}
@@ -16,8 +16,9 @@ use Rattle.cell.specs.Of.{countOf, startOf}
 use Rattle.cell.specs.Level.{isLevelCell}
 use Rattle.booking.specs.Booking.{leastCorner, larger, smaller}
 use Rattle.split.specs.Labels.{labelled, label, spoke}
-use Rattle.split.specs.SubCell.{restCount, restStart, armCount, armStart, innerName, subAt, sub}
-use Rattle.split.specs.Five.{nameOf, Firm, FirmBelow}
+use Rattle.split.specs.work.Five.{restCount, armCount}
+use Rattle.split.specs.SubCell.{restStart, armStart, innerName, subAt, sub}
+use Rattle.split.specs.claims.Five.{nameOf, Firm, FirmBelow}
 use Rattle.split.proofs.Labels.{labelled-lt, at-label, label-once, edge-labels-lt, edge-labels-once}
 use Rattle.split.proofs.Rest.{rest-sum}
 use Rattle.split.proofs.SubCells.{sub-level, sub-omits}

@@ -6,21 +6,27 @@ use mathlib.Core.Logic.{_≢_}
 use mathlib.Core.Bool.{true}
 use native.Mathlib.Omega.{arith}
 use native.Mathlib.Decide.{decLt, ℕ-discrete}
-use Rattle.counting.specs.Search.{seek, first}
+use Rattle.counting.specs.Lists.{seek}
+use Rattle.counting.specs.Search.{first}
 use Rattle.counting.proofs.Below.{below-three, below-four}
 use Rattle.counting.proofs.Search.{is-every}
-use Rattle.slots.specs.Slots.{lo, hi, position, rankIn, lower, upper, edgeBetween, slotEdge}
+use Rattle.slots.specs.Slots.{lo, hi, position, lower, upper, edgeBetween, slotEdge}
+use Rattle.slots.specs.claims.Slots.{rankIn}
 use Rattle.slots.specs.Limits.{mostCount}
 use Rattle.slots.proofs.Slots.{slot-edge, corner-lt, rank-of, face-ends}
-use Rattle.face.specs.Level.{isLevel, Level}
+use Rattle.face.specs.Face.{isLevel}
+use Rattle.face.specs.claims.Level.{Level}
 use Rattle.face.proofs.Level.{is-level}
 use Rattle.cell.specs.declared.Cell.{Cell}
 use Rattle.cell.specs.Of.{countOf}
-use Rattle.cell.specs.Nodes.{Arranged, joining, countBetween}
+use Rattle.cell.specs.claims.Nodes.{Arranged}
+use Rattle.cell.specs.Nodes.{joining, countBetween}
 use Rattle.cell.specs.Level.{isLevelCell}
 use Rattle.booking.specs.Booking.{leftBetween, larger, smaller}
 use Rattle.split.specs.Labels.{labelled, label, spoke}
-use Rattle.split.specs.SubCell.{restOf, armOf, restCount, armCount, subCounts, subAt}
+use Rattle.split.specs.SubCell.{restOf, armOf, subAt}
+use Rattle.split.specs.work.Five.{restCount, armCount}
+use Rattle.split.specs.claims.Counted.{subCounts}
 use Rattle.split.proofs.Labels.{joining-ways, left-ways, labelling, at-label, inner-level}
 use Rattle.split.proofs.Rest.{rest-level, rest-most}
 

@@ -8,19 +8,22 @@ use lib.Dec.{ltb}
 use borrow.Author.Tests.{le-ltb}
 use Rattle.counting.proofs.Bools.{and-false-left, and-false-right}
 use Rattle.counting.proofs.Below.{below-four}
-use Rattle.slots.specs.Slots.{lo, hi, rankIn}
+use Rattle.slots.specs.Slots.{lo, hi}
+use Rattle.slots.specs.claims.Slots.{rankIn}
 use Rattle.cell.specs.declared.Cell.{Cell}
 use Rattle.cell.specs.Of.{countOf}
-use Rattle.cell.specs.Nodes.{Arranged, countBetween}
+use Rattle.cell.specs.claims.Nodes.{Arranged}
+use Rattle.cell.specs.Nodes.{countBetween}
 use Rattle.cell.specs.Level.{isLevelCell}
 use Rattle.cell.proofs.Nodes.{acbd, bacd, cabd, dacb}
 use Rattle.booking.specs.Booking.{leastCorner, cornerTriangles, leftBetween, larger, smaller, isSpiral}
 use Rattle.booking.specs.Figures.{areSpiral}
-use Rattle.booking.specs.Left.{largestPair, Longest}
+use Rattle.booking.specs.claims.Left.{largestPair, Longest}
 use Rattle.booking.proofs.Counts.{twice-least, twice-left, numbers, ways}
 use Rattle.split.specs.Labels.{labelled, spoke}
-use Rattle.split.specs.SubCell.{subCounts, sub}
-use Rattle.split.specs.Claims.{NumbersAre, SubCells, SubCountsNumbered, SubCellsNumbered}
+use Rattle.split.specs.claims.Counted.{subCounts}
+use Rattle.split.specs.SubCell.{sub}
+use Rattle.split.specs.claims.Claims.{NumbersAre, SubCells, SubCountsNumbered, SubCellsNumbered}
 use Rattle.split.proofs.Orders.{corners-any, longest}
 use Rattle.split.proofs.Labels.{spiral-is, left-ways, labelled-lt, labelled-once, label-at, between}
 use Rattle.split.proofs.SubCells.{Omits, seats, seat-new, seat-old, sub-level, counts-omit, sub-omits}

@@ -7,34 +7,34 @@ use native.Mathlib.Decide.{decLt}
 use native.Mathlib.Omega.{arith}
 use lib.ListN.{length, getD, length-append}
 use Rattle.counting.specs.Pick.{pick}
-use Rattle.counting.specs.Range.{total, over}
-use Rattle.counting.specs.Stored.{Stored}
+use Rattle.counting.specs.Lists.{total, over}
+use Rattle.counting.specs.work.Stored.{Stored}
 use Rattle.counting.proofs.Fronts.{over-split}
 use Rattle.counting.proofs.Lists.{length-singles, values-at, gather-over}
 use Rattle.counting.proofs.Range.{total-ext, total-add, total-has, length-over, over-ext, over-snoc}
 use Rattle.counting.proofs.Stored.{stored-none, stored-long, stored-as, stored-then}
 use Rattle.slots.specs.Limits.{mostCells}
 use Rattle.cell.specs.declared.Cell.{Cell}
-use Rattle.cell.specs.Limits.{shortLimit}
+use Rattle.cell.specs.claims.Table.{shortLimit, side, tableCell, takenCounts, drawnCells, tableTriangles}
 use Rattle.cell.specs.Of.{countOf, startOf}
 use Rattle.cell.specs.Level.{byEdge}
 use Rattle.cell.specs.declared.Triangle.{Triangle}
 use Rattle.cell.specs.Words.{wordCount, words, allWords}
 use Rattle.cell.specs.Triangles.{cellTriangles, trianglesWith}
-use Rattle.cell.specs.Table.{side, tableCell, takenCounts, drawnCells, tableTriangles}
 use Rattle.cell.proofs.Taken.{with-all}
 use Rattle.cell.proofs.Using.{table-near}
 use Rattle.cell.proofs.Values.{taken-is}
 use Rattle.cell.proofs.Storing.{length-all, wordsOf, written-all, written-room}
 use Rattle.booking.specs.Figures.{splits}
-use Rattle.booking.specs.Booking.{larger, smaller, isSplit, splitsIn, moreIn}
+use Rattle.booking.specs.Booking.{larger, smaller, isSplit}
+use Rattle.booking.specs.claims.Booking.{splitsIn, moreIn}
 use Rattle.booking.specs.declared.Gain.{Gain}
-use Rattle.booking.specs.Sums.{GainIn}
+use Rattle.booking.specs.work.Sums.{GainIn}
 use Rattle.booking.proofs.Figures.{figure-step}
 use Rattle.split.specs.Parts.{drawnTriangles, splitsOf}
-use Rattle.split.specs.Table.{tableDrawn, tableSplits}
-use Rattle.split.specs.Gains.{splitsAt, moreAt, loopWords, IsStretch}
-use Rattle.split.specs.Working.{StartsNear, Drawable}
+use Rattle.split.specs.work.Table.{tableDrawn, tableSplits}
+use Rattle.split.specs.work.Gains.{splitsAt, moreAt, loopWords, IsStretch}
+use Rattle.split.specs.work.Working.{StartsNear, Drawable}
 use Rattle.split.proofs.Lengths.{split-is, drawn-not}
 use Rattle.split.proofs.Gained.{drawnGained, splitsTold}
 use Rattle.split.proofs.Few.{gain-at}

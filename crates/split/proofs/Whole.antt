@@ -8,29 +8,30 @@ use native.Mathlib.Omega.{arith}
 use native.Mathlib.Decide.{decLt, ℕ-discrete}
 use lib.ListN.{length, getD, length-append, List·getD-append}
 use lib.Seq.{getD-append-add}
-use Rattle.counting.specs.Range.{total}
-use Rattle.counting.specs.Pack.{pre, row, col}
+use Rattle.counting.specs.Lists.{total, pre}
+use Rattle.counting.specs.Pack.{row, col}
 use Rattle.counting.proofs.Pack.{row-pack, col-pack}
 use Rattle.walk.specs.Darts.{half}
-use Rattle.manifold.specs.Piece.{Local, Piece, slotOf}
+use Rattle.manifold.specs.claims.Piece.{Local, Piece, slotOf}
 use Rattle.cell.specs.declared.Cell.{Cell}
 use Rattle.cell.specs.Cell.{crossings, edge, index}
 use Rattle.cell.specs.Of.{countOf, edgesOf}
 use Rattle.cell.specs.Loop.{inGrid}
 use Rattle.cell.specs.Triangles.{numberOf}
 use Rattle.cell.specs.Level.{isLevelCell}
-use Rattle.cell.specs.Polygons.{localOf}
+use Rattle.cell.specs.claims.Polygons.{localOf}
 use Rattle.cell.proofs.Lay.{lay}
 use Rattle.booking.specs.Booking.{larger, smaller, isSpiral}
 use Rattle.split.specs.Limits.{wordStep}
 use Rattle.split.specs.Labels.{labelled, label}
-use Rattle.split.specs.SubCell.{armCount, armStart, innerName, subAt, sub}
+use Rattle.split.specs.work.Five.{armCount, inside}
+use Rattle.split.specs.SubCell.{armStart, innerName, subAt, sub}
 use Rattle.split.specs.Parts.{Part, whole, corners, splitsWithin, parts, noPart}
-use Rattle.split.specs.Family as family
-use Rattle.split.specs.Family.{Meets, Refines}
-use Rattle.split.specs.Shown.{InnerFace, InnerPoint, five, Order}
-use Rattle.split.specs.Five.{nameOf, FirmBelow, ownPiece, inside}
-use Rattle.split.specs.Claims.{partLocal, RefinedBy, PartsRefine}
+use Rattle.split.specs.claims.Family as family
+use Rattle.split.specs.claims.Family.{Meets, Refines}
+use Rattle.split.specs.work.Shown.{InnerFace, InnerPoint, five, Order}
+use Rattle.split.specs.claims.Five.{nameOf, FirmBelow, ownPiece}
+use Rattle.split.specs.claims.Claims.{partLocal, RefinedBy, PartsRefine}
 use Rattle.split.proofs.Shows.{piece}
 use Rattle.split.proofs.Compose.{refines-ext, refines-above, self, compose}
 use Rattle.split.proofs.Labels.{spiral-is, labelled-lt, label-at, at-label}

@@ -16,7 +16,7 @@ use Rattle.booking.specs.Booking.{larger, smaller, isSpiral}
 use Rattle.split.specs.Limits.{wordStep}
 use Rattle.split.specs.SubCell.{sub}
 use Rattle.split.specs.Parts.{Part, whole, corners, splitsWithin, parts, ownCorners, partTriangles}
-use Rattle.split.specs.Working.{partsWords, startWords, endWords}
+use Rattle.split.specs.work.Working.{partsWords, startWords, endWords}
 use Rattle.split.proofs.Labels.{spiral-is}
 use Rattle.split.proofs.SubNumbers.{subCells}
 use Rattle.split.proofs.Parts.{stop, more}

@@ -5,7 +5,8 @@ use mathlib.Core.List.{[], _∷_}
 use lib.Dec.{eqb}
 use lib.ListN.{getD}
 use Rattle.counting.specs.Pick.{pick}
-use Rattle.counting.specs.Search.{seek, first}
+use Rattle.counting.specs.Lists.{seek}
+use Rattle.counting.specs.Search.{first}
 use Rattle.booking.specs.Booking.{leftBetween, larger, smaller}
 
 module _ (w : ℕ → ℕ) where

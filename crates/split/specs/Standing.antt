@@ -1,13 +1,11 @@
 -- Where what is drawn of a split cell stands (02, W12): its parts with the places of their nodes, its inner crossings, and the middles of its fans.
 use Prim.Native.Nat.{ℕ, zero, suc, _+_, _*_}
 use mathlib.Core.Bool.{true, false}
-use mathlib.Core.Path.{_≡_}
-use mathlib.Core.List.{List, [], _∷_, _++_, map}
+use mathlib.Core.List.{List, [], _∷_, _++_}
 use lib.ListN.{getD}
 use lib.Ieee.{Float, nan}
 use Rattle.counting.specs.Pick.{pick}
-use Rattle.counting.specs.Range.{over, values}
-use Rattle.counting.specs.Lists.{gather}
+use Rattle.counting.specs.Lists.{over, values, gather}
 use Rattle.slots.specs.Slots.{position}
 use Rattle.place.specs.declared.Place.{Place}
 use Rattle.place.specs.Place.{partOf, between, middle}
@@ -19,7 +17,7 @@ use Rattle.booking.specs.Booking.{larger, smaller, isSpiral, isSplit}
 use Rattle.split.specs.Limits.{firstInnerCrossing, firstInnerFace, wordStep}
 use Rattle.split.specs.Labels.{labelled, spoke}
 use Rattle.split.specs.SubCell.{sub}
-use Rattle.split.specs.Parts.{Part, whole, corners, splitsWithin, parts}
+use Rattle.split.specs.Parts.{Part, whole, corners, splitsWithin}
 
 -- the places of four nodes are listed by position: that of the node at position p
 abbrev pub nowhere : Place
@@ -76,10 +74,6 @@ standing (suc fuel) cell n b f at c =
           ∷ stand (subPlaces (countOf c) at 0) (whole (sub c b f (cell + wordStep * (n + 4 + 4 * splitsWithin (countOf c))) 0))
           ∷ []))
     ]
-
--- they are the parts of the mesh
-abbrev pub StandingParts : Type 0
-StandingParts = (fuel cell n b f : ℕ) (at : List Place) (c : Cell) → map (λ s. s .part) (standing fuel cell n b f at c) ≡ parts fuel cell n b f c
 
 -- a part that is split again has the inner crossings of its split
 abbrev pub innerAt : List Place → Part → List Place

@@ -3,12 +3,11 @@
 use Prim.Native.Nat.{ℕ, _+_}
 use mathlib.Core.List.{List, [], _∷_}
 use lib.ListN.{getD}
-use Rattle.counting.specs.Pack.{pre}
+use Rattle.counting.specs.Lists.{pre}
 use Rattle.slots.specs.Slots.{lo, hi, position, slotEdge}
 use Rattle.cell.specs.declared.Cell.{Cell}
 use Rattle.cell.specs.Of.{countOf, startOf}
 use Rattle.cell.specs.Nodes.{joining}
-use Rattle.cell.specs.Level.{byEdge}
 use Rattle.booking.specs.Booking.{leastCorner, leftBetween}
 use Rattle.split.specs.Labels.{labelled, label, spoke}
 
@@ -26,21 +25,9 @@ module _ (w : ℕ → ℕ) where
   abbrev pub subList : ℕ → List ℕ
   subList p = armOf (position p 0) ∷ armOf (position p 1) ∷ armOf (position p 2) ∷ restOf (slotEdge p 0) ∷ restOf (slotEdge p 1) ∷ restOf (slotEdge p 2) ∷ []
 
-  -- and the one that omits the node with the label m: its counts by edge
-  unfoldable pub subCounts : ℕ → ℕ → ℕ
-  subCounts m = byEdge (subList (labelled w m))
-
 module _ (c : Cell) where
-  -- what remains of edge e: so many crossings, from this number on
-  abbrev pub restCount : ℕ → ℕ
-  restCount e = restOf (countOf c) e
-
   unfoldable pub restStart : ℕ → ℕ
   restStart e = startOf c e + leastCorner (countOf c) (lo e)
-
-  -- the count of the new edge to the node at position p
-  abbrev pub armCount : ℕ → ℕ
-  armCount p = armOf (countOf c) p
 
   -- the number of the crossing of that new edge which is next to a: the four new edges are laid end to end from b on, in the order of labels
   unfoldable pub armStart : ℕ → ℕ → ℕ

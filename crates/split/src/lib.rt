@@ -2,15 +2,15 @@
 ghost use mathlib.Core.Path.{_≡_};
 ghost use Prim.Native.Nat.{_+_, _*_, _≤_, _<_};
 ghost use lib.ListN.{length};
-ghost use Rattle.counting.specs.Stored.{Stored};
-ghost use Rattle.cell.specs.Limits.{shortLimit};
+ghost use Rattle.counting.specs.work.Stored.{Stored};
+ghost use Rattle.cell.specs.claims.Table.{shortLimit};
 ghost use Rattle.cell.specs.Of.{countOf};
 ghost use Rattle.cell.specs.Words.{allWords};
 ghost use Rattle.cell.specs.Triangles.{trianglesWith};
 ghost use Rattle.booking.specs.Booking.{larger, smaller};
 ghost use Rattle.split.specs.Limits.{wordStep};
 ghost use Rattle.split.specs.Parts.{drawnTriangles};
-ghost use Rattle.split.specs.Working.{StartsNear, Working, SplitsLeft, Drawable, partsWords, startWords, endWords};
+ghost use Rattle.split.specs.work.Working.{StartsNear, Working, SplitsLeft, Drawable, partsWords, startWords, endWords};
 use cell::Cell;
 use slots::MOST_CELLS;
 use slots::MOST_CROSSINGS;

@@ -4,7 +4,7 @@ ghost use mathlib.Core.Bool.{true};
 ghost use Prim.Native.Nat.{_+_, _-_, _/_, _≤_};
 ghost use Rattle.cell.specs.Level.{byEdge, isLevelCell};
 ghost use Rattle.booking.specs.Booking.{smallest, median};
-ghost use Rattle.split.specs.Working.{AreOwn, labelBy, LevelSix, SpiralNumbers};
+ghost use Rattle.split.specs.work.Working.{AreOwn, labelBy, LevelSix, SpiralNumbers};
 use super::Spiral;
 use cell::Cell;
 use cell::sum_of;

@@ -11,13 +11,14 @@ use lib.ListN.{length, getD, set, length-set}
 use lib.Seq.{ext-getD, getD-set-same, getD-set-other}
 use borrow.Author.Tests.{eq-eqb, ne-eqb, lt-ltb, le-ltb}
 use Rattle.counting.specs.Pick.{pick}
-use Rattle.counting.specs.Search.{first, last, seek, some}
+use Rattle.counting.specs.Search.{first, last, some}
+use Rattle.counting.specs.Lists.{seek}
 use Rattle.counting.specs.Stored.{filled}
 use Rattle.counting.proofs.Search.{last-none, last-hit, last-miss, last-le, seek-end, seek-hit, seek-miss, seek-start, some-last}
 use Rattle.counting.proofs.Stored.{filled-at, filled-beyond, length-filled}
-use Rattle.trees.specs.Trees.{hasKey, topFor, Tops}
-use Rattle.trees.specs.Keys.{mostPlaces, keyIn, earlierIn, pairIn, pairHas, pairLacks, belowOr, pairedAt}
-use Rattle.trees.specs.Planted.{topAt, KeyTops, Stepping, met, pairFrom, PairsMarked, Topped, sourceAt, spreadAt}
+use Rattle.trees.specs.work.Trees.{hasKey, topFor, Tops}
+use Rattle.trees.specs.work.Keys.{mostPlaces, keyIn, earlierIn, pairIn, pairHas, pairLacks, belowOr, pairedAt}
+use Rattle.trees.specs.work.Planted.{topAt, KeyTops, Stepping, met, pairFrom, PairsMarked, Topped, sourceAt, spreadAt}
 use Rattle.trees.proofs.Trees.{top-le, top-key, top-self, tops-none, tops-more}
 
 -- the loop of `grow`

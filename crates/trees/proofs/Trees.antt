@@ -13,7 +13,7 @@ use Rattle.counting.specs.Pick.{pick}
 use Rattle.counting.proofs.Bools.{clash}
 use Rattle.counting.proofs.Below.{trichotomy}
 use Rattle.counting.proofs.Search.{last-is, last-le, last-above}
-use Rattle.trees.specs.Trees.{trees, rootOf, branchOf, hasKey, topFor, Comes, Leads, Tree, Tops, Keeps, Sought}
+use Rattle.trees.specs.work.Trees.{trees, rootOf, branchOf, hasKey, topFor, Comes, Leads, Tree, Tops, Keeps, Sought}
 
 -- the branches of a place stand side by side
 branch-in : (b i n r : ℕ) → i < n → r < b → b * i + r < b * n

@@ -1,3 +1,1 @@
-pub mod Trees
-pub mod Keys
-pub mod Planted
+pub mod work

@@ -5,8 +5,8 @@ ghost use mathlib.Core.Path.{_≡_};
 ghost use Prim.Native.Nat.{_+_, _≤_};
 ghost use lib.ListN.{length};
 ghost use Rattle.counting.specs.Stored.{filled};
-ghost use Rattle.trees.specs.Keys.{earlierIn};
-ghost use Rattle.trees.specs.Planted.{KeysGrowing, Stepping};
+ghost use Rattle.trees.specs.work.Keys.{earlierIn};
+ghost use Rattle.trees.specs.work.Planted.{KeysGrowing, Stepping};
 
 // Puts zeros at the front.
 fn clear(list: &mut [u16], n: usize)

@@ -5,7 +5,7 @@ ghost use Prim.Native.Nat.{_/_, _≤_, min};
 ghost use lib.ListN.{length};
 ghost use Rattle.counting.specs.Search.{first};
 ghost use Rattle.counting.specs.Stored.{filled};
-ghost use Rattle.trees.specs.Keys.{mostPlaces, fewPlaces, placeRoom, earlierIn, pairLacks, pairedAt};
+ghost use Rattle.trees.specs.work.Keys.{mostPlaces, fewPlaces, placeRoom, earlierIn, pairLacks, pairedAt};
 use counting::least;
 use planting::BRANCHES;
 

@@ -7,8 +7,8 @@ ghost use Prim.Native.Nat.{_+_, _*_, _/_, _<_, _≤_};
 ghost use lib.ListN.{length};
 ghost use Rattle.counting.specs.Search.{first};
 ghost use Rattle.counting.specs.Stored.{filled};
-ghost use Rattle.trees.specs.Keys.{pairIn, pairLacks, pairedAt};
-ghost use Rattle.trees.specs.Planted.{KeysGrowing, PairsLent, PairsMarked, Topped, sourceAt, spreadAt};
+ghost use Rattle.trees.specs.work.Keys.{pairIn, pairLacks, pairedAt};
+ghost use Rattle.trees.specs.work.Planted.{KeysGrowing, PairsLent, PairsMarked, Topped, sourceAt, spreadAt};
 
 // The mark of a last place whose key a pair has, on top of what stands there.
 const MET: usize = 32768;

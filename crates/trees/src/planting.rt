@@ -6,9 +6,9 @@ ghost use mathlib.Core.Path.{_≡_};
 ghost use Prim.Native.Nat.{_≤_};
 ghost use lib.ListN.{length};
 ghost use Rattle.counting.specs.Stored.{filled};
-ghost use Rattle.trees.specs.Trees.{Tree, topFor, Sought};
-ghost use Rattle.trees.specs.Keys.{keyIn};
-ghost use Rattle.trees.specs.Planted.{keyBranches, topAt, KeysSearched, KeyPlanting, KeysGrowing, KeyTops};
+ghost use Rattle.trees.specs.work.Trees.{Tree, topFor, Sought};
+ghost use Rattle.trees.specs.work.Keys.{keyIn};
+ghost use Rattle.trees.specs.work.Planted.{keyBranches, topAt, KeysSearched, KeyPlanting, KeysGrowing, KeyTops};
 
 // The branches of a place. A link is one more than a place, or 0.
 pub(crate) const BRANCHES: usize = 2;

@@ -2,8 +2,9 @@
 use Prim.Native.Nat.{ℕ, _<_}
 use native.Mathlib.Omega.{arith}
 use Rattle.counting.proofs.Onto.{onto}
-use Rattle.walk.specs.Iterate.{it}
-use Rattle.walk.specs.Darts.{Darts, Loop, On}
+use Rattle.counting.specs.Lists.{it}
+use Rattle.walk.specs.claims.Claims.{Darts}
+use Rattle.walk.specs.Darts.{Loop, On}
 use Rattle.walk.proofs.Curve.{loop-distinct}
 
 pub ring-all : (M N : ℕ) (s rv cr : ℕ → ℕ) → Darts M N s rv cr → {p : ℕ} → Loop M s p N → (x : ℕ) → x < N → On s cr p N x

@@ -1,7 +1,7 @@
 -- The laws of the loops, together.
 use Prim.Native.Nat.{ℕ, _*_}
-use Rattle.walk.specs.Darts.{Darts, half}
-use Rattle.walk.specs.Claims.{WalkLaws}
+use Rattle.walk.specs.claims.Claims.{Darts, WalkLaws}
+use Rattle.walk.specs.Darts.{half}
 use Rattle.walk.proofs.Curve.{closes, loop-distinct, loop-length, loop-later, loop-short}
 use Rattle.walk.proofs.Found.{finds}
 use Rattle.walk.proofs.Once.{listed, at-most-once, closed-once, each-once}

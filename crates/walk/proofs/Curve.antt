@@ -11,8 +11,9 @@ use borrow.Author.Tests.{eqb-true, eqb-false, leb-true, leb-false, ltb-true, ltb
 use Rattle.counting.proofs.Below.{trichotomy}
 use Rattle.counting.proofs.Pigeon.{pigeonhole}
 use Rattle.counting.proofs.Search.{Least, least}
-use Rattle.walk.specs.Iterate.{it}
-use Rattle.walk.specs.Darts.{Darts, Live, Loop, On, Lowest}
+use Rattle.counting.specs.Lists.{it}
+use Rattle.walk.specs.claims.Claims.{Darts, Lowest}
+use Rattle.walk.specs.Darts.{Live, Loop, On}
 use Rattle.walk.proofs.Iterate.{it-suc, it-sub}
 
 -- what holds of each i + 1 with i < n holds from 1 to n

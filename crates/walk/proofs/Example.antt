@@ -3,7 +3,7 @@ use Prim.Native.Nat.{ℕ, _/_}
 use mathlib.Core.Path.{_≡_, refl}
 use mathlib.Core.List.{List, [], _∷_, map}
 use lib.ListN.{getD}
-use Rattle.walk.specs.Walk.{loops}
+use Rattle.walk.specs.work.Walk.{loops}
 use Rattle.walk.specs.Step.{step}
 
 firsts : List ℕ

@@ -7,8 +7,9 @@ use native.Mathlib.Nat.{not-suc-le-zero, eq-or-lt-of-le, zero-add}
 use native.Mathlib.Omega.{arith}
 use lib.Dec.{eqb, ltb}
 use borrow.Author.Tests.{eqb-true, eqb-false, ltb-true, ltb-false, lt-ltb, le-ltb, eq-eqb, ne-eqb}
-use Rattle.walk.specs.Iterate.{it}
-use Rattle.walk.specs.Darts.{half, Darts, Loop, Lowest}
+use Rattle.counting.specs.Lists.{it}
+use Rattle.walk.specs.Darts.{half, Loop}
+use Rattle.walk.specs.claims.Claims.{Darts, Lowest}
 use Rattle.walk.specs.Walk.{Status, home, off, on, status, judge, turn, size}
 use Rattle.walk.proofs.Iterate.{it-suc}
 use Rattle.walk.proofs.Curve.{no-return, distinct}

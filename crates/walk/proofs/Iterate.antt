@@ -6,12 +6,12 @@ use mathlib.Core.List.{List, [], _∷_, _++_}
 use native.Mathlib.Nat.{zero-add, suc-add}
 use native.Mathlib.Omega.{arith}
 use lib.ListN.{length}
-use Rattle.counting.specs.Pick.{one}
-use Rattle.counting.specs.Range.{total}
-use Rattle.counting.specs.Lists.{weigh, tally, All}
+use Rattle.counting.specs.Lists.{one, total, tally, it}
+use Rattle.counting.specs.work.Stored.{weigh}
+use Rattle.counting.specs.claims.Lists.{All}
 use Rattle.counting.proofs.Range.{total-shift}
 use Rattle.counting.proofs.Lists.{tally-weigh}
-use Rattle.walk.specs.Iterate.{it, orbit}
+use Rattle.walk.specs.Walk.{orbit}
 
 module _ (s : ℕ → ℕ) where
   pub it-suc : (k d : ℕ) → it s (suc k) d ≡ s (it s k d)

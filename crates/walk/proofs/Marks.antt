@@ -8,10 +8,11 @@ use lib.Dec.{eqb}
 use borrow.Author.Tests.{eqb-true, eqb-false}
 use lib.ListN.{getD, set, length-set}
 use lib.Seq.{getD-set-same, getD-set-other}
-use Rattle.walk.specs.Iterate.{it}
-use Rattle.walk.specs.Darts.{half, Darts, Loop, On, Lowest, Live}
+use Rattle.counting.specs.Lists.{it}
+use Rattle.walk.specs.Darts.{half, Loop, On, Live}
+use Rattle.walk.specs.claims.Claims.{Darts, Lowest}
 use Rattle.walk.specs.Walk.{size}
-pub use Rattle.walk.specs.Marks.{Passed, Marks}
+pub use Rattle.walk.specs.work.Marks.{Passed, Marks}
 use Rattle.walk.proofs.Iterate.{it-suc}
 use Rattle.walk.proofs.Curve.{Next, on-walk, on-it}
 use Rattle.walk.proofs.Found.{found}

@@ -7,15 +7,14 @@ use native.Mathlib.Nat.{not-suc-le-zero, eq-zero-or-pos, le-of-eq, mul-one}
 use native.Mathlib.Omega.{arith}
 use lib.ListN.{length}
 use borrow.Author.Tests.{eq-eqb, ne-eqb, eqb-true}
-use Rattle.counting.specs.Pick.{one}
-use Rattle.counting.specs.Range.{total}
-use Rattle.counting.specs.Lists.{weigh, tally, All}
+use Rattle.counting.specs.Lists.{one, total, tally, it}
+use Rattle.counting.specs.work.Stored.{weigh}
+use Rattle.counting.specs.claims.Lists.{All}
 use Rattle.counting.proofs.Range.{total-ext, total-zero, total-one, total-pos}
 use Rattle.counting.proofs.Lists.{weigh-over, weigh-numbers, tally-over, all-over, room}
-use Rattle.walk.specs.Iterate.{it}
-use Rattle.walk.specs.Darts.{half, Darts, Loop, On, Lowest}
-use Rattle.walk.specs.Walk.{size, loopAt, flat}
-use Rattle.walk.specs.Claims.{ofCrossing}
+use Rattle.walk.specs.Darts.{half, Loop, On, ofCrossing}
+use Rattle.walk.specs.claims.Claims.{Darts, Lowest, flat}
+use Rattle.walk.specs.Walk.{size, loopAt}
 use Rattle.walk.proofs.Iterate.{weigh-orbit, tally-orbit, all-orbit}
 use Rattle.walk.proofs.Curve.{loop-distinct, loop-later, one-loop, covered, all-close}
 use Rattle.walk.proofs.Found.{found, finds, size-live}

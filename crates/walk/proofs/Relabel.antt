@@ -9,15 +9,13 @@ use native.Mathlib.Omega.{arith}
 use lib.Dec.{ltb}
 use borrow.Author.Tests.{lt-ltb, ltb-true, ltb-false}
 use Rattle.counting.specs.Pick.{pick}
-use Rattle.counting.specs.Range.{total}
-use Rattle.counting.specs.Lists.{tally}
+use Rattle.counting.specs.Lists.{total, tally, it}
 use Rattle.counting.proofs.Range.{total-ext, total-zero, total-same, total-single, total-swap, total-times}
 use Rattle.counting.proofs.Lists.{weigh-numbers, tally-over}
 use Rattle.counting.proofs.Onto.{total-onto}
-use Rattle.walk.specs.Iterate.{it}
-use Rattle.walk.specs.Darts.{half, rev, Darts, Live, Loop, On}
-use Rattle.walk.specs.Walk.{size, loopAt, flat}
-use Rattle.walk.specs.Claims.{ofCrossing}
+use Rattle.walk.specs.Darts.{half, rev, Live, Loop, On, ofCrossing}
+use Rattle.walk.specs.claims.Claims.{Darts, flat}
+use Rattle.walk.specs.Walk.{size, loopAt}
 use Rattle.walk.proofs.Iterate.{it-suc, weigh-orbit, all-orbit}
 use Rattle.walk.proofs.Curve.{Next, on-walk, on-start}
 use Rattle.walk.proofs.Found.{size-live}

@@ -6,8 +6,10 @@ use mathlib.Core.Bool.{Bool, true, false}
 use native.Mathlib.Omega.{arith}
 use lib.Dec.{eqb, ltb}
 use borrow.Author.Tests.{eqb-true, eqb-false, ltb-true, ltb-false, lt-ltb, le-ltb, eq-eqb, ne-eqb}
-use Rattle.walk.specs.Darts.{half, rev, Darts}
-use Rattle.walk.specs.Step.{face, land, step, Ports}
+use Rattle.walk.specs.Darts.{half, rev}
+use Rattle.walk.specs.claims.Claims.{Darts}
+use Rattle.walk.specs.Step.{face, land, step}
+use Rattle.walk.specs.claims.Step.{Ports}
 
 pub rev-first : (c : ℕ) → rev (2 * c) ≡ 2 * c + 1
 unfolding rev

@@ -2,8 +2,10 @@
 -- curve ends.
 use Prim.Native.Nat.{ℕ, _+_, _*_, _-_, _/_, _%_, _≤_, _<_}
 use mathlib.Core.Path.{_≡_}
-use mathlib.Core.Logic.{_⊎_, _≢_}
-use Rattle.walk.specs.Iterate.{it}
+use mathlib.Core.Logic.{_≢_}
+use mathlib.Core.Bool.{Bool}
+use lib.Dec.{eqb}
+use Rattle.counting.specs.Lists.{it}
 
 -- a dart's crossing
 abbrev pub half : ℕ → ℕ
@@ -12,18 +14,6 @@ half d = d / 2
 -- the other dart of its crossing
 unfoldable pub rev : ℕ → ℕ
 rev d = 2 * (d / 2) + (1 - d % 2)
-
--- What is asked of a step `s` on the darts below M, with `rv` the other dart of a dart's crossing and `cr` the crossing, one of N:
--- a step is undone by turning round, and no step ends at the crossing that it left.
-pub record Darts (M N : ℕ) (s rv cr : ℕ → ℕ) : Type 0 where
-  pub rv-lt : (d : ℕ) → d < M → rv d < M
-  pub rv-rv : (d : ℕ) → d < M → rv (rv d) ≡ d
-  pub rv-ne : (d : ℕ) → d < M → rv d ≢ d
-  pub back : (d : ℕ) → d < M → s d < M → s (rv (s d)) ≡ rv d
-  pub s-ne : (d : ℕ) → d < M → s d ≢ rv d
-  pub cr-lt : (d : ℕ) → d < M → cr d < N
-  pub cr-rv : (d : ℕ) → d < M → cr (rv d) ≡ cr d
-  pub same : (d e : ℕ) → d < M → e < M → cr d ≡ cr e → (d ≡ e) ⊎ (d ≡ rv e)
 
 -- the walk from p does not end within n steps
 abbrev pub Live : ℕ → (ℕ → ℕ) → ℕ → ℕ → Type 0
@@ -42,6 +32,6 @@ pub record On (s cr : ℕ → ℕ) (p k x : ℕ) : Type 0 where
   pub at-lt : at < k
   pub is : cr (it s at p) ≡ x
 
--- the start is the least of those crossings
-abbrev pub Lowest : (s cr : ℕ → ℕ) → ℕ → ℕ → Type 0
-Lowest s cr p k = (x : ℕ) → On s cr p k x → cr p ≤ x
+-- the test for a dart of the crossing x
+abbrev pub ofCrossing : ℕ → ℕ → Bool
+ofCrossing x d = eqb (half d) x

@@ -1,6 +1,5 @@
-pub mod Iterate
 pub mod Darts
 pub mod Step
 pub mod Walk
-pub mod Marks
-pub mod Claims
+pub mod claims
+pub mod work

@@ -1,7 +1,5 @@
 -- The step of a cell of N crossings. Each crossing lies on two faces, its first and its second, and on each it has at most one mate.
-use Prim.Native.Nat.{ℕ, _+_, _*_, _/_, _%_, _<_}
-use mathlib.Core.Path.{_≡_}
-use mathlib.Core.Logic.{_⊎_, _≢_}
+use Prim.Native.Nat.{ℕ, _+_, _*_, _/_, _%_}
 use lib.Dec.{eqb, ltb}
 use Rattle.counting.specs.Pick.{pick}
 
@@ -19,11 +17,3 @@ module _ (N : ℕ) (fa fb : ℕ → ℕ) (mate : ℕ → ℕ → ℕ) where
   unfoldable pub step : ℕ → ℕ
   unfolding face land
   step d = land (face d) (mate (face d) (d / 2))
-
-  -- what is asked of faces and mates: two different faces; the mate lies on the face, is another crossing, and has the first as its mate
-  pub record Ports : Type 0 where
-    pub apart : (x : ℕ) → x < N → fa x ≢ fb x
-    pub both : (d : ℕ) → d < 2 * N → mate (face d) (d / 2) < N → mate (face d) (mate (face d) (d / 2)) ≡ d / 2
-    pub other : (d : ℕ) → d < 2 * N → mate (face d) (d / 2) ≢ d / 2
-    pub lies : (d : ℕ) → d < 2 * N → mate (face d) (d / 2) < N
-        → (fa (mate (face d) (d / 2)) ≡ face d) ⊎ (fb (mate (face d) (d / 2)) ≡ face d)

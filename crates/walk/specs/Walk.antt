@@ -1,10 +1,14 @@
 -- The loops of N crossings under a step on their darts, each found from its least crossing by a walk that leaves it by its first dart.
 use Prim.Native.Nat.{ℕ, zero, suc, _*_, _/_}
-use mathlib.Core.Bool.{Bool, true, false}
 use mathlib.Core.List.{List, [], _∷_}
+use mathlib.Core.Bool.{Bool, true, false}
 use lib.Dec.{eqb, ltb}
-use Rattle.counting.specs.Range.{over}
-use Rattle.walk.specs.Iterate.{orbit}
+
+module _ (s : ℕ → ℕ) where
+  -- d and what follows it, k in all
+  unfoldable pub orbit : ℕ → ℕ → List ℕ
+  orbit zero d = []
+  orbit (suc k) d = d ∷ orbit k (s d)
 
 -- where a walk from the crossing p stands: back at p; at an end, or below p; neither
 pub data Status : Type 0 where
@@ -36,18 +40,3 @@ module _ (N : ℕ) (s : ℕ → ℕ) where
   unfoldable pub loopAt : ℕ → List ℕ
   unfolding size orbit
   loopAt p = orbit s (size p) (2 * p)
-
-  -- the darts of all loops, by least crossing
-  unfoldable pub flat : List ℕ
-  unfolding loopAt over
-  flat = over loopAt N 0
-
--- a list alone, if it is not empty
-unfoldable pub nonEmpty : List ℕ → List (List ℕ)
-nonEmpty [] = []
-nonEmpty (x ∷ l) = (x ∷ l) ∷ []
-
--- the loops, by least crossing
-unfoldable pub loops : ℕ → (ℕ → ℕ) → List (List ℕ)
-unfolding nonEmpty loopAt over
-loops N s = over (λ p. nonEmpty (loopAt N s p)) N 0

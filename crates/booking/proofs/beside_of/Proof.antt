@@ -1,4 +1,3 @@
--- `booking::beside_of` meets its contract.
 use borrow.Author.Needs.{needs}
 use borrow.Author.Tests.{eq-eqb, ne-eqb}
 use Rattle.booking.specs.Booking.{beside}

@@ -1,4 +1,3 @@
--- `booking::book` meets its contract.
 use borrow.Author.Needs.{needs}
 use Rattle.booking.proofs.Answers.{few-from, walk-from, booked-from}
 use Rattle.booking.proofs.book.Statement.{statement}

@@ -1,4 +1,3 @@
--- `booking::from_sums` meets its contract.
 use borrow.Author.Needs.{needs}
 use Rattle.booking.proofs.Sums.{remains-median, in-order}
 use Rattle.booking.proofs.from_sums.Statement.{statement}

@@ -1,4 +1,3 @@
--- `booking::gain_by` meets its contract.
 use Prim.Native.Nat.{_<_}
 use mathlib.Core.Path.{sym, _∙_}
 use native.Mathlib.Omega.{arith}

@@ -1,4 +1,3 @@
--- `booking::gain_of` meets its contract.
 use native.Mathlib.Omega.{arith}
 use borrow.Author.Needs.{needs}
 use Rattle.booking.proofs.Answers.{few-from, gain-low, gain-walk, gain-counted}

@@ -1,8 +1,7 @@
--- `booking::of_three` meets its contract.
 use Prim.Native.Nat.{_-_, _/_}
 use native.Mathlib.Omega.{arith}
 use borrow.Author.Needs.{needs}
-use Rattle.booking.specs.Sums.{ofThree}
+use Rattle.booking.specs.work.Sums.{ofThree}
 use Rattle.booking.proofs.Totals.{beside-few}
 use Rattle.booking.proofs.of_three.Statement.{statement}
 use Rattle.booking.proofs.of_three.Tie as tie

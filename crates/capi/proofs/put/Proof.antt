@@ -2,7 +2,7 @@ use borrow.Author.Needs.{needs}
 use Prim.Native.Nat.{_-_, _≤_}
 use mathlib.Core.Path.{_≡_}
 use lib.ListN.{length, take}
-use Rattle.counting.specs.Stored.{Stored}
+use Rattle.counting.specs.work.Stored.{Stored}
 use Rattle.counting.proofs.Stored.{stored-none, stored-entry, stored-all}
 use Rattle.capi.proofs.Putting.{answers-short, answers-put}
 use Rattle.capi.proofs.put.Statement.{statement}

@@ -1,4 +1,3 @@
--- `cases::find_entry` meets its contract.
 use Prim.Native.Nat.{ℕ, _-_, _≤_, _<_}
 use mathlib.Core.Path.{_≡_, sym, _∙_}
 use mathlib.Core.Bool.{true}
@@ -7,7 +6,7 @@ use native.Mathlib.Omega.{arith}
 use borrow.Author.Tests.{not-true, not-false}
 use Rattle.cell.specs.Level.{byEdge}
 use Rattle.cell.specs.Common.{isCommon}
-use Rattle.cases.specs.Cases.{entries, fromDigits}
+use Rattle.cases.specs.claims.Cases.{entries, fromDigits}
 use Rattle.cases.proofs.Digits.{digits-none, digits-more, digits-lt, found-in, found-out}
 use Rattle.cases.proofs.find_entry.Statement.{statement}
 use Rattle.cases.proofs.find_entry.Tie as tie

@@ -1,4 +1,3 @@
--- `cases::look_up` meets its contract.
 use Prim.Native.Nat.{ℕ, _+_, _*_, _<_, _≤_}
 use mathlib.Core.Path.{_≡_, refl, ap, ap₂, _∙_}
 use mathlib.Core.List.{[], _∷_}
@@ -7,9 +6,10 @@ use lib.ListN.{getD}
 use borrow.Author.Needs.{needs}
 use Rattle.answer.specs.Answer.{result}
 use Rattle.cell.specs.Level.{byEdge}
-use Rattle.cases.specs.Cases.{entries, loneEdges}
-use Rattle.cases.specs.Table.{table}
-use Rattle.cases.specs.Answer.{caseAnswer, findEntry}
+use Rattle.cases.specs.claims.Cases.{entries}
+use Rattle.cases.specs.Answer.{loneEdges, caseAnswer}
+use Rattle.cases.specs.claims.Table.{table}
+use Rattle.cases.specs.claims.Tally.{findEntry}
 use Rattle.cases.proofs.Digits.{answered, unanswered}
 use Rattle.cases.proofs.Claims.{every-entry}
 use Rattle.cases.proofs.look_up.Statement.{statement}

@@ -1,6 +1,6 @@
--- `cell::loop_at` meets its contract.
 use mathlib.Core.Path.{sym, ap, _∙_, subst}
-use Rattle.cell.specs.Of.{edgesOf, limited, Near}
+use Rattle.cell.specs.Of.{edgesOf}
+use Rattle.cell.specs.work.Route.{limited, Near}
 use Rattle.cell.specs.Loop.{loopAnswer}
 use Rattle.cell.proofs.Using.{limited-near}
 use borrow.Author.Needs.{needs}

@@ -1,6 +1,5 @@
--- `direct::all_of` meets its contract.
 use native.Mathlib.Omega.{arith}
-use Rattle.counting.specs.Range.{total}
+use Rattle.counting.specs.Lists.{total}
 use borrow.Author.Needs.{needs}
 use Rattle.direct.proofs.all_of.Statement.{statement}
 use Rattle.direct.proofs.all_of.Tie as tie

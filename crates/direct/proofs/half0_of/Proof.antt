@@ -1,5 +1,4 @@
--- `direct::half0_of` meets its contract.
-use Rattle.direct.specs.Direct.{half0}
+use Rattle.direct.specs.claims.Direct.{half0}
 use Rattle.cell.specs.Triangles.{triangle}
 use borrow.Author.Needs.{needs}
 use Rattle.direct.proofs.half0_of.Statement.{statement}

@@ -1,5 +1,4 @@
--- `direct::half1_of` meets its contract.
-use Rattle.direct.specs.Direct.{half1}
+use Rattle.direct.specs.claims.Direct.{half1}
 use Rattle.cell.specs.Triangles.{triangle}
 use borrow.Author.Needs.{needs}
 use Rattle.direct.proofs.half1_of.Statement.{statement}

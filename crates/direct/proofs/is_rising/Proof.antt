@@ -1,4 +1,3 @@
--- `direct::is_rising` meets its contract.
 use Rattle.direct.proofs.Families.{all-up, one-down, up-more}
 use Rattle.cell.specs.Level.{byEdge}
 use Prim.Native.Nat.{ℕ, suc, _-_, _≤_, _<_}

@@ -1,4 +1,3 @@
--- `direct::joining_of` meets its contract.
 use Rattle.direct.proofs.Numbers.{joined-first, joined-then, joined-last}
 use borrow.Author.Needs.{needs}
 use Rattle.direct.proofs.joining_of.Statement.{statement}

@@ -1,4 +1,3 @@
--- `direct::kind_of` meets its contract.
 use mathlib.Core.Path.{sym, _∙_}
 use Rattle.counting.proofs.Bools.{clash}
 use borrow.Author.Needs.{needs}

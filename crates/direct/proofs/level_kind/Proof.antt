@@ -1,4 +1,3 @@
--- `direct::level_kind` meets its contract.
 use Rattle.counting.proofs.Bools.{clash}
 use Rattle.direct.proofs.Cells.{plain-numbers}
 use borrow.Author.Needs.{needs}

@@ -1,4 +1,3 @@
--- `direct::median_of` meets its contract.
 use mathlib.Core.Path.{refl, _∙_}
 use Rattle.booking.specs.Booking.{median}
 use borrow.Author.Needs.{needs}

@@ -1,4 +1,3 @@
--- `direct::number_at` meets its contract.
 use Rattle.direct.proofs.Numbers.{up-fits, up-is, down-room, down-fits, down-is}
 use native.Mathlib.Omega.{arith}
 use borrow.Author.Needs.{needs}

@@ -1,4 +1,3 @@
--- `direct::number_in` meets its contract.
 use Rattle.direct.proofs.Numbers.{in-falls, in-rises}
 use native.Mathlib.Omega.{arith}
 use Rattle.direct.proofs.number_in.Statement.{statement}

@@ -1,4 +1,3 @@
--- `direct::own_of` meets its contract.
 use Rattle.direct.proofs.Families.{own-listed}
 use mathlib.Core.Path.{ap, _∙_}
 use Prim.Native.Nat.{max}

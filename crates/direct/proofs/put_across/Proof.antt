@@ -1,4 +1,3 @@
--- `direct::put_across` meets its contract.
 use Rattle.direct.proofs.Rows.{crosses-au, crosses-av, crosses-mu, crosses-mv, across-long, across-are, across-none, across-words, none-stored}
 use Rattle.cell.specs.Words.{allWords}
 use Rattle.counting.proofs.Stored.{stored-as}

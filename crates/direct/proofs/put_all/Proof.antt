@@ -1,6 +1,5 @@
--- `direct::put_all` meets its contract.
 use Rattle.direct.proofs.Families.{room-first, room-next, both-stored, round3, direct-is}
-use Rattle.direct.specs.Direct.{inwards, onFirst, onSecond}
+use Rattle.direct.specs.claims.Direct.{inwards, onFirst, onSecond}
 use Rattle.cell.specs.Words.{allWords}
 use Rattle.counting.proofs.Stored.{stored-as}
 use mathlib.Core.List.{_++_}

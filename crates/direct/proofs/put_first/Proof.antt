@@ -1,6 +1,5 @@
--- `direct::put_first` meets its contract.
 use Rattle.direct.proofs.Families.{room-first, room-next, both-stored, round0, round1}
-use Rattle.direct.specs.Direct.{outwards, inwards, quadsOnFirst, onFirst}
+use Rattle.direct.specs.claims.Direct.{outwards, inwards, quadsOnFirst, onFirst}
 use mathlib.Core.List.{_++_}
 use borrow.Author.Needs.{needs}
 use Rattle.direct.proofs.put_first.Statement.{statement}

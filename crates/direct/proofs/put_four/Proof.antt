@@ -1,4 +1,3 @@
--- `direct::put_four` meets its contract.
 use Rattle.direct.proofs.Putting.{two-stored}
 use native.Mathlib.Omega.{arith}
 use borrow.Author.Needs.{needs}

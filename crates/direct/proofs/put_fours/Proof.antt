@@ -1,4 +1,3 @@
--- `direct::put_fours` meets its contract.
 use borrow.Author.Needs.{needs}
 use Rattle.direct.proofs.Putting.{Under, under-none, under-place, under-long, under-more, under-all, fours}
 use Prim.Native.Nat.{_+_, _*_, _-_, _≤_}

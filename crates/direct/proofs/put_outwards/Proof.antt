@@ -1,4 +1,3 @@
--- `direct::put_outwards` meets its contract.
 use Rattle.direct.proofs.Rows.{round-crosses, round-long, round-are, round-none, round-words, none-stored}
 use Rattle.cell.proofs.Nodes.{acdb, adbc}
 use Rattle.cell.specs.Words.{allWords}

@@ -1,4 +1,3 @@
--- `direct::put_quads` meets its contract.
 use Rattle.direct.proofs.Families.{some-second, left-first, left-second, with2, with3, quads-none, quads-across, quads-round}
 use Rattle.direct.proofs.Rows.{none-stored}
 use Rattle.cell.specs.Words.{allWords}

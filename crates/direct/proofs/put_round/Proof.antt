@@ -1,4 +1,3 @@
--- `direct::put_round` meets its contract.
 use native.Mathlib.Omega.{arith}
 use Rattle.direct.proofs.Rows.{round-none, none-stored}
 use borrow.Author.Needs.{needs}

@@ -1,4 +1,3 @@
--- `direct::put_rounds` meets its contract.
 use Rattle.direct.proofs.Rows.{crosses-au, crosses-av, crosses-mu, crosses-mv, rounds-long, rounds-are, rounds-none, rounds-words, none-stored}
 use Rattle.cell.specs.Words.{allWords}
 use Rattle.counting.proofs.Stored.{stored-as}

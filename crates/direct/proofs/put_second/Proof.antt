@@ -1,6 +1,5 @@
--- `direct::put_second` meets its contract.
 use Rattle.direct.proofs.Families.{some-first, room-first, room-next, both-stored, left-first, left-second, with1, second-quads, second-none, round2}
-use Rattle.direct.specs.Direct.{acrosses, inwards}
+use Rattle.direct.specs.claims.Direct.{acrosses, inwards}
 use Rattle.cell.specs.Words.{allWords}
 use Rattle.counting.proofs.Stored.{stored-as}
 use mathlib.Core.Path.{refl, sym, ap, _∙_}

@@ -1,4 +1,3 @@
--- `direct::put_some` meets its contract.
 use Rattle.direct.proofs.Rows.{round-crosses, round-long, round-are, round-words}
 use Rattle.cell.proofs.Nodes.{acdb, adbc}
 use Rattle.cell.specs.Words.{allWords}

@@ -1,6 +1,5 @@
--- `direct::put_threes` meets its contract.
 use Rattle.direct.proofs.Putting.{Under, under-none, under-place, under-long, under-more, under-all, threes, one-words}
-use Rattle.direct.specs.Direct.{whole}
+use Rattle.direct.specs.claims.Direct.{whole}
 use mathlib.Core.List.{[], _∷_}
 use Prim.Native.Nat.{_+_, _*_, _-_, _≤_}
 use mathlib.Core.Path.{_≡_, refl, ap, ap₂, _∙_}

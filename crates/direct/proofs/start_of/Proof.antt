@@ -1,4 +1,3 @@
--- `direct::start_of` meets its contract.
 use native.Mathlib.Omega.{arith}
 use borrow.Author.Needs.{needs}
 use Rattle.direct.proofs.start_of.Statement.{statement}

@@ -1,5 +1,4 @@
--- `direct::whole_of` meets its contract.
-use Rattle.direct.specs.Direct.{whole}
+use Rattle.direct.specs.claims.Direct.{whole}
 use Rattle.cell.specs.Triangles.{triangle}
 use borrow.Author.Needs.{needs}
 use Rattle.direct.proofs.whole_of.Statement.{statement}

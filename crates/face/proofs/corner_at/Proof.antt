@@ -2,7 +2,7 @@ use borrow.Author.Needs.{needs}
 use mathlib.Core.Path.{sym}
 use native.Mathlib.Omega.{arith}
 use lib.ListN.{List·getD-eq-default}
-use Rattle.face.specs.Corners.{cornerList}
+use Rattle.face.specs.work.Corners.{cornerList}
 use Rattle.face.proofs.corner_at.Statement.{statement}
 use Rattle.face.proofs.corner_at.Tie as tie
 

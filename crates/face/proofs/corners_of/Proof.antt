@@ -3,7 +3,7 @@ use Prim.Native.Nat.{ℕ, _+_, _-_, _/_, _%_, _≤_}
 use mathlib.Core.Path.{_≡_, sym, _∙_}
 use mathlib.Core.List.{[], _∷_}
 use native.Mathlib.Omega.{arith}
-use Rattle.face.specs.Face.{corners}
+use Rattle.face.specs.work.Corners.{corners}
 use Rattle.face.proofs.Corner.{corner-half, corners-ab, corners-ac, corners-bc}
 use Rattle.face.proofs.corners_of.Statement.{statement}
 use Rattle.face.proofs.corners_of.Tie as tie

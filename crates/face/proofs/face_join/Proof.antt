@@ -1,7 +1,7 @@
 use borrow.Author.Needs.{needs}
 use mathlib.Core.Path.{sym}
 use native.Mathlib.Omega.{arith}
-use Rattle.face.specs.Ends.{low, high}
+use Rattle.face.specs.claims.Ends.{low, high}
 use Rattle.face.proofs.Ends.{edge-counted}
 use Rattle.face.proofs.Gaps.{corner-read}
 use Rattle.face.proofs.Branches.{answer-off}

@@ -1,4 +1,3 @@
--- `flat::chains` meets its contract.
 use mathlib.Core.Path.{refl}
 use Rattle.flat.specs.FlatGrid.{flatOf}
 use Rattle.flat.proofs.Calls.{refused-done, told-accepted, told-number, told-sides, traced-done}

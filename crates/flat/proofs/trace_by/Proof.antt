@@ -1,4 +1,3 @@
--- `flat::trace_by` meets its contract.
 use mathlib.Core.Path.{_∙_, ap}
 use native.Mathlib.Omega.{arith}
 use lib.ListN.{length}

@@ -1,4 +1,3 @@
--- `grid::all_rows` meets its contract.
 use mathlib.Core.Path.{_∙_, sym}
 use Rattle.grid.proofs.Answers.{length-fine, with-1, with-2, with-3}
 use borrow.Author.Needs.{needs}

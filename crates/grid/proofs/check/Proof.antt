@@ -1,4 +1,3 @@
--- `grid::check` meets its contract.
 use mathlib.Core.Path.{_∙_, sym}
 use Rattle.grid.specs.Grid.{gridOf}
 use Rattle.grid.proofs.Answers.{verdict}

@@ -1,4 +1,3 @@
--- `grid::crowded_row_4` meets its contract.
 use mathlib.Core.Path.{_∙_}
 use native.Mathlib.Omega.{arith}
 use Rattle.grid.proofs.Working.{fresh-again}

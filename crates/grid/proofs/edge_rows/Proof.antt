@@ -1,7 +1,6 @@
--- `grid::edge_rows` meets its contract.
 use mathlib.Core.Path.{_∙_, refl}
 use native.Mathlib.Omega.{arith}
-use Rattle.answer.specs.Faults.{since}
+use Rattle.answer.specs.work.Faults.{since}
 use Rattle.grid.specs.Rows.{rows}
 use Rattle.grid.proofs.Answers.{answer-passes, answer-refuses}
 use Rattle.grid.proofs.Working.{edging-siding}

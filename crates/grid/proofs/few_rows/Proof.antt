@@ -1,4 +1,3 @@
--- `grid::few_rows` meets its contract.
 use Rattle.grid.proofs.Working.{cell-tables, chain-tables, edge-tables}
 use borrow.Author.Needs.{needs}
 use Rattle.grid.proofs.few_rows.Statement.{statement}

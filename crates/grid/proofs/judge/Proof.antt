@@ -1,4 +1,3 @@
--- `grid::judge` meets its contract.
 use Rattle.grid.proofs.Working.{blank-tables}
 use borrow.Author.Needs.{needs}
 use Rattle.grid.proofs.judge.Statement.{statement}

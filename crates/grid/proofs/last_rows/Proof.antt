@@ -1,7 +1,6 @@
--- `grid::last_rows` meets its contract.
 use mathlib.Core.Path.{_∙_, refl}
 use native.Mathlib.Omega.{arith}
-use Rattle.answer.specs.Faults.{since}
+use Rattle.answer.specs.work.Faults.{since}
 use Rattle.answer.proofs.Rows.{whole-fault, whole-fine}
 use Rattle.grid.specs.Rows.{rows}
 use Rattle.grid.proofs.Answers.{answer-end, answer-passes, answer-refuses}

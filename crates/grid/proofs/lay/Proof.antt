@@ -1,4 +1,3 @@
--- `grid::lay` meets its contract.
 use mathlib.Core.Path.{_∙_, ap, sym}
 use native.Mathlib.Omega.{arith}
 use borrow.Author.Needs.{needs}

@@ -1,4 +1,3 @@
--- `grid::many_rows` meets its contract.
 use Rattle.grid.proofs.Working.{cell-tables, chain-tables, edge-tables}
 use borrow.Author.Needs.{needs}
 use Rattle.grid.proofs.many_rows.Statement.{statement}

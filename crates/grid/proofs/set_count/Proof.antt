@@ -1,4 +1,3 @@
--- `grid::set_count` meets its contract.
 use borrow.Author.Needs.{needs}
 use Rattle.grid.specs.Grid.{gridOf}
 use Rattle.grid.proofs.Settings.{set-changeable, set-done, set-refused}

@@ -1,9 +1,8 @@
--- `grid::table_rows` meets its contract.
 use Prim.Native.Nat.{_-_, _≤_}
 use mathlib.Core.Path.{_∙_, _≡_, refl}
 use native.Mathlib.Nat.{le-refl}
 use native.Mathlib.Omega.{arith}
-use Rattle.answer.specs.Faults.{since}
+use Rattle.answer.specs.work.Faults.{since}
 use Rattle.counting.specs.Search.{first}
 use Rattle.grid.specs.Grid.{cellCount}
 use Rattle.grid.specs.Rows.{crowded, rows}

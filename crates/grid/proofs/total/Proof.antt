@@ -1,10 +1,10 @@
--- `grid::total` meets its contract.
 use Prim.Native.Nat.{_+_, _-_, _≤_}
 use mathlib.Core.Path.{_∙_, _≡_, ap, sym}
 use native.Mathlib.Omega.{arith}
 use lib.ListN.{length}
 use borrow.Author.Needs.{needs}
-use Rattle.grid.specs.Grid.{crossings, mostCrossings, start}
+use Rattle.grid.specs.Grid.{crossings, start}
+use Rattle.slots.specs.Limits.{mostCrossings}
 use Rattle.grid.proofs.Crossings.{capped-is, capped-over, start-mono, start-next, start-zero}
 use Rattle.grid.proofs.total.Statement.{statement}
 use Rattle.grid.proofs.total.Tie as tie

@@ -1,4 +1,3 @@
--- `layers::cut_joined` meets its contract.
 use native.Mathlib.Omega.{arith}
 use Rattle.split.proofs.Tables.{splits-all}
 use Rattle.layers.proofs.Calls.{few-drawn, bad-joined, joined-short, joinable, joined-fits}

@@ -1,4 +1,3 @@
--- `layers::cut_run` meets its contract.
 use native.Mathlib.Omega.{arith}
 use Rattle.layers.proofs.Calls.{bad-run, no-run, cut-there, run-of, run-short, run-fits}
 use borrow.Author.Needs.{needs}

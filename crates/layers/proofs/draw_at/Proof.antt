@@ -1,4 +1,3 @@
--- `layers::draw_at` meets its contract.
 use borrow.Author.Needs.{needs}
 use Rattle.counting.proofs.Stored.{part-back}
 use Rattle.layers.proofs.draw_at.Statement.{statement}

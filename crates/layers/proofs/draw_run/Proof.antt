@@ -1,4 +1,3 @@
--- `layers::draw_run` meets its contract.
 use mathlib.Core.Path.{sym}
 use native.Mathlib.Omega.{arith}
 use Rattle.layers.proofs.Laying.{layable, zero-below, run-drawn}

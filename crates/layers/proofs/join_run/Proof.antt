@@ -1,4 +1,3 @@
--- `layers::join_run` meets its contract.
 use native.Mathlib.Omega.{arith}
 use mathlib.Core.Path.{refl}
 use Rattle.layers.specs.Runs.{crossingInWhole}

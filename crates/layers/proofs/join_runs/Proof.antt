@@ -1,14 +1,13 @@
--- `layers::join_runs` meets its contract.
 use Prim.Native.Nat.{ℕ, suc, _-_, _≤_}
 use mathlib.Core.Path.{_≡_, refl, _∙_}
 use mathlib.Core.List.{List}
 use native.Mathlib.Omega.{arith}
 use lib.ListN.{length, getD}
-use Rattle.counting.specs.Range.{over}
-use Rattle.counting.specs.Stored.{Stored}
+use Rattle.counting.specs.Lists.{over}
+use Rattle.counting.specs.work.Stored.{Stored}
 use Rattle.counting.proofs.Stored.{stored-none, stored-long, stored-as, stored-more}
 use Rattle.grid.specs.Grid.{gridOf}
-use Rattle.layers.specs.Work.{Joinable}
+use Rattle.layers.specs.work.Work.{Joinable}
 use Rattle.layers.proofs.Laying.{zero-below}
 use Rattle.layers.proofs.Calls.{runWords, few-runs, next-cut, next-words, next-joinable, all-joined}
 use borrow.Author.Needs.{needs}

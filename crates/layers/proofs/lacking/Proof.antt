@@ -1,7 +1,6 @@
--- `layers::lacking` meets its contract.
 use mathlib.Core.Path.{_∙_, ap}
 use native.Mathlib.Omega.{arith}
-use Rattle.layers.specs.Work.{lackingIn}
+use Rattle.layers.specs.work.Work.{lackingIn}
 use Rattle.layers.proofs.Calls.{lacks, lacks-none}
 use borrow.Author.Needs.{needs}
 use Rattle.layers.proofs.lacking.Statement.{statement}

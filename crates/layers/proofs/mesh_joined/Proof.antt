@@ -1,4 +1,3 @@
--- `layers::mesh_joined` meets its contract.
 use mathlib.Core.Path.{refl}
 use borrow.Author.Needs.{needs}
 use Rattle.grid.specs.Grid.{gridOf}

@@ -5,9 +5,10 @@ use native.Mathlib.Omega.{arith}
 use lib.ListN.{length-take}
 use lib.Seq.{length-take-le}
 use Rattle.answer.specs.Answer.{result}
-use Rattle.bundle.specs.Record.{cellSize, edgeSize}
+use Rattle.bundle.specs.work.Record.{cellSize, edgeSize}
 use Rattle.bundle.specs.Bundle.{cellNodes, edgeEnds, readAnswer, contentsNumbers}
-use Rattle.listing.specs.Listing.{mostBytes, cellsInBundle, edgesInBundle}
+use Rattle.listing.specs.Listing.{mostBytes}
+use Rattle.listing.specs.work.Listing.{cellsInBundle, edgesInBundle}
 use Rattle.listing.proofs.Bundles.{read-refused, few-read, read-listed, too-long, all-listed}
 use borrow.Author.Needs.{needs}
 use Rattle.listing.proofs.list.Statement.{statement}

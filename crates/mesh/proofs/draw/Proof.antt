@@ -1,8 +1,7 @@
--- `mesh::draw` meets its contract.
 use native.Mathlib.Omega.{arith}
 use lib.ListN.{length}
 use borrow.Author.Needs.{needs}
-use Rattle.split.specs.Table.{tableDrawn, tableSplits}
+use Rattle.split.specs.work.Table.{tableDrawn, tableSplits}
 use Rattle.mesh.proofs.Rooms.{answer-short, answer-fits}
 use Rattle.mesh.proofs.draw.Statement.{statement}
 use Rattle.mesh.proofs.draw.Tie as tie

@@ -1,7 +1,7 @@
 use mathlib.Core.Path.{_∙_}
 use native.Mathlib.Omega.{arith}
 use denote.Ref.{now}
-use Rattle.mesh.specs.Asked.{tableLoop}
+use Rattle.mesh.specs.work.Drawn.{tableLoop}
 use Rattle.mesh.proofs.Askings.{asked-there, asked-beyond, loop-limited}
 use borrow.Author.Needs.{needs}
 use Rattle.mesh.proofs.loop_of.Statement.{statement}

@@ -1,7 +1,8 @@
 use mathlib.Core.Path.{sym, ap, _∙_}
 use mathlib.Core.Bool.{not}
 use borrow.Author.Needs.{needs}
-use Rattle.counting.specs.Search.{first, seek}
+use Rattle.counting.specs.Search.{first}
+use Rattle.counting.specs.Lists.{seek}
 use Rattle.nearest.proofs.bad_in_query.Statement.{statement}
 use Rattle.nearest.proofs.bad_in_query.Tie as tie
 

@@ -4,9 +4,9 @@ use mathlib.Core.Bool.{true, false}
 use native.Mathlib.Omega.{arith}
 use denote.Ref.{now}
 use borrow.Author.Needs.{needs}
-use Rattle.counting.specs.Search.{seek}
+use Rattle.counting.specs.Lists.{seek}
 use Rattle.counting.proofs.Search.{seek-hit, seek-miss, seek-end}
-use Rattle.nearest.specs.Distance.{nearerThan}
+use Rattle.nearest.specs.work.Distance.{nearerThan}
 use Rattle.nearest.proofs.Least.{nearer-is}
 use Rattle.nearest.proofs.nearer_from.Statement.{statement}
 use Rattle.nearest.proofs.nearer_from.Tie as tie

@@ -3,7 +3,8 @@ use native.Mathlib.Omega.{arith}
 use denote.Ref.{now}
 use borrow.Author.Needs.{needs}
 use Rattle.counting.proofs.Search.{sought}
-use Rattle.nearest.specs.Distance.{pointCount, distanceOf, nearerThan}
+use Rattle.nearest.specs.Distance.{pointCount, distanceOf}
+use Rattle.nearest.specs.work.Distance.{nearerThan}
 use Rattle.nearest.specs.Answer.{nearestNumber}
 use Rattle.nearest.proofs.Least.{Searched, run-one, run-more, run-end, distance-is}
 use Rattle.nearest.proofs.nearest_of.Statement.{statement}

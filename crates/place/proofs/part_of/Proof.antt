@@ -1,4 +1,3 @@
--- `place::part_of` meets its contract.
 use Prim.Native.Nat.{_+_}
 use mathlib.Core.Path.{ap, ap₂, _∙_}
 use lib.Ieee.{binary64, div}

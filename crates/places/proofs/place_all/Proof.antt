@@ -1,4 +1,3 @@
--- `places::place_all` meets its contract.
 use Prim.Native.Nat.{_+_}
 use denote.Ref.{now}
 use native.Mathlib.Omega.{arith}

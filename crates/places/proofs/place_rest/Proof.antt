@@ -1,4 +1,3 @@
--- `places::place_rest` meets its contract.
 use Prim.Native.Nat.{ℕ}
 use mathlib.Core.Path.{sym, ap, _∙_}
 use mathlib.Core.List.{List}
@@ -6,9 +5,10 @@ use native.Mathlib.Omega.{arith}
 use lib.Ieee.{Float}
 use denote.Ref.{now}
 use borrow.Author.Needs.{needs}
-use Rattle.cell.specs.Table.{drawnCells, middlesWritten}
-use Rattle.split.specs.Spots.{cellsStored, middlesAtCell}
-use Rattle.places.specs.Work.{restWritten}
+use Rattle.cell.specs.claims.Table.{drawnCells}
+use Rattle.cell.specs.work.Table.{middlesWritten}
+use Rattle.split.specs.work.Spots.{cellsStored, middlesAtCell}
+use Rattle.places.specs.work.Work.{restWritten}
 use Rattle.places.proofs.Middles.{rest-same, rest-none}
 use Rattle.places.proofs.place_rest.Statement.{statement}
 use Rattle.places.proofs.place_rest.Tie as tie

@@ -1,4 +1,3 @@
--- `slots::low_end` meets its contract.
 use native.Mathlib.Omega.{arith}
 use mathlib.Core.Path.{refl}
 use Rattle.slots.specs.Slots.{lo}

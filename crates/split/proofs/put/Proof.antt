@@ -1,4 +1,3 @@
--- `split::put` meets its contract.
 use borrow.Author.Needs.{needs}
 use Rattle.split.proofs.Putting.{put-stored}
 use Rattle.split.proofs.put.Statement.{statement}

@@ -1,4 +1,3 @@
--- `split::put_cell` meets its contract.
 use Prim.Native.Nat.{_<_}
 use mathlib.Core.Path.{refl, sym}
 use native.Mathlib.Omega.{arith}

@@ -1,4 +1,3 @@
--- `split::put_end` meets its contract.
 use native.Mathlib.Omega.{arith}
 use borrow.Author.Needs.{needs}
 use Rattle.split.proofs.Putting.{end-sound, end-first, last-sound, end-second, end-stored}

@@ -1,4 +1,3 @@
--- `split::put_start` meets its contract.
 use native.Mathlib.Omega.{arith}
 use borrow.Author.Needs.{needs}
 use Rattle.split.proofs.Putting.{sound-placed, start-first, start-sound, start-second, start-stored}

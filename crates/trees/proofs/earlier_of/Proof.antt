@@ -6,9 +6,9 @@ use denote.Ref.{now}
 use borrow.Author.Needs.{needs}
 use Rattle.counting.specs.Stored.{filled}
 use Rattle.counting.proofs.Tables.{zeros}
-use Rattle.trees.specs.Trees.{trees}
-use Rattle.trees.specs.Keys.{mostPlaces, placeRoom, earlierIn}
-use Rattle.trees.specs.Planted.{keyBranches}
+use Rattle.trees.specs.work.Trees.{trees}
+use Rattle.trees.specs.work.Keys.{mostPlaces, placeRoom, earlierIn}
+use Rattle.trees.specs.work.Planted.{keyBranches}
 use Rattle.trees.proofs.earlier_of.Statement.{statement}
 use Rattle.trees.proofs.earlier_of.Tie as tie
 

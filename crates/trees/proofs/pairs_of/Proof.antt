@@ -6,7 +6,7 @@ use denote.Ref.{now}
 use borrow.Author.Needs.{needs}
 use Rattle.counting.specs.Search.{first}
 use Rattle.counting.specs.Stored.{filled}
-use Rattle.trees.specs.Keys.{placeRoom, pairLacks, pairedAt}
+use Rattle.trees.specs.work.Keys.{placeRoom, pairLacks, pairedAt}
 use Rattle.trees.proofs.pairs_of.Statement.{statement}
 use Rattle.trees.proofs.pairs_of.Tie as tie
 

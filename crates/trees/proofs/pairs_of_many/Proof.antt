@@ -2,9 +2,9 @@ use Prim.Native.Nat.{_+_, _*_}
 use native.Mathlib.Omega.{arith}
 use borrow.Author.Needs.{needs}
 use Rattle.counting.proofs.Tables.{zeros}
-use Rattle.trees.specs.Trees.{trees}
-use Rattle.trees.specs.Keys.{mostPlaces}
-use Rattle.trees.specs.Planted.{keyBranches}
+use Rattle.trees.specs.work.Trees.{trees}
+use Rattle.trees.specs.work.Keys.{mostPlaces}
+use Rattle.trees.specs.work.Planted.{keyBranches}
 use Rattle.trees.proofs.pairs_of_many.Statement.{statement}
 use Rattle.trees.proofs.pairs_of_many.Tie as tie
 

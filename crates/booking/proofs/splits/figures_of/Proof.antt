@@ -2,7 +2,7 @@
 use Prim.Native.Nat.{_≤_}
 use mathlib.Core.Logic.{inl, inr}
 use native.Mathlib.Omega.{arith}
-use Rattle.booking.specs.Sums.{UnderWay}
+use Rattle.booking.specs.work.Sums.{UnderWay}
 use Rattle.booking.proofs.UnderWay.{none-yet, more-added, all-added}
 use Rattle.booking.proofs.splits.figures_of.Statement.{statement}
 use Rattle.booking.proofs.splits.figures_of.Tie as tie

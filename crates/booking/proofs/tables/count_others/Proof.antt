@@ -1,4 +1,3 @@
--- `booking::tables::count_others` meets its contract.
 use native.Mathlib.Omega.{arith}
 use borrow.Author.Needs.{needs}
 use Rattle.booking.proofs.Totals.{others-few}

@@ -1,8 +1,6 @@
--- `booking::tables::crossings_in` meets its contract.
 use native.Mathlib.Omega.{arith}
 use borrow.Author.Needs.{needs}
-use Rattle.counting.specs.Range.{total}
-use Rattle.counting.specs.Pack.{pre}
+use Rattle.counting.specs.Lists.{total, pre}
 use Rattle.booking.proofs.tables.crossings_in.Statement.{statement}
 use Rattle.booking.proofs.tables.crossings_in.Tie as tie
 

@@ -1,4 +1,3 @@
--- `booking::tables::totals_of` meets its contract.
 use Prim.Native.Nat.{ℕ, _+_, _-_, _≤_, _<_}
 use mathlib.Core.Path.{_≡_, ap, _∙_}
 use mathlib.Core.Bool.{true, false}
@@ -9,25 +8,24 @@ use denote.Ref.{now}
 use lib.Dec.{ltb}
 use lib.ListN.{getD, set}
 use Rattle.counting.specs.Pick.{pick}
-use Rattle.counting.specs.Pack.{pre}
-use Rattle.counting.specs.Range.{total}
-use Rattle.counting.specs.Stored.{Summed}
+use Rattle.counting.specs.Lists.{pre, total}
+use Rattle.counting.specs.work.Stored.{Summed}
 use Rattle.counting.proofs.Range.{total-ext, total-add}
 use Rattle.counting.proofs.Stored.{summed-none, summed-more, summed-all}
-use Rattle.cell.specs.Limits.{mostInCell}
+use Rattle.cell.specs.work.Limits.{mostInCell}
 use Rattle.cell.specs.Level.{byEdge, isLevelCell}
 use Rattle.cell.specs.Common.{isCommon}
-use Rattle.cell.specs.Table.{takenCounts, drawnCells}
+use Rattle.cell.specs.claims.Table.{takenCounts, drawnCells}
 use Rattle.cell.proofs.Values.{taken-crossings}
-use Rattle.cases.specs.Cases.{entries}
-use Rattle.cases.specs.Answer.{findEntry}
-use Rattle.cases.specs.Tally.{trianglesAt, trianglesFor, Tallied, findEntryAt}
+use Rattle.cases.specs.claims.Cases.{entries}
+use Rattle.cases.specs.claims.Tally.{findEntry, trianglesAt, findEntryAt}
+use Rattle.cases.specs.work.Tally.{trianglesFor, Tallied}
 use Rattle.cases.proofs.Digits.{answered, unanswered}
 use Rattle.cases.proofs.Tally.{tallied-none, tallied-more, tallied-past, tallied-few, tallied-sum}
 use Rattle.booking.specs.declared.Fans.{Fans}
-use Rattle.booking.specs.Booking.{booked}
-use Rattle.booking.specs.Fans.{fansNumbers, fansAnswer}
-use Rattle.booking.specs.Totals.{bookedTriangles, walkedCrossings, commonAt, bookedAt, knownAt, crossingsAt}
+use Rattle.booking.specs.claims.Booking.{booked}
+use Rattle.booking.specs.work.Fans.{fansNumbers, fansAnswer}
+use Rattle.booking.specs.work.Totals.{bookedTriangles, walkedCrossings, commonAt, bookedAt, knownAt, crossingsAt}
 use Rattle.booking.proofs.Totals.{triangles-told, crossings-told, booked-most, crossings-most, none-booked, none-walked, all-booked, all-walked, placed, known-few}
 use Rattle.booking.proofs.tables.totals_of.Statement.{statement}
 use Rattle.booking.proofs.tables.totals_of.Tie as tie

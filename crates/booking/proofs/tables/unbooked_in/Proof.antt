@@ -1,8 +1,7 @@
--- `booking::tables::unbooked_in` meets its contract.
 use mathlib.Core.Path.{sym, ap, _∙_}
 use borrow.Author.Needs.{needs}
 use Rattle.cell.specs.Level.{byEdge}
-use Rattle.booking.specs.Totals.{walkedCrossings}
+use Rattle.booking.specs.work.Totals.{walkedCrossings}
 use Rattle.booking.proofs.tables.unbooked_in.Statement.{statement}
 use Rattle.booking.proofs.tables.unbooked_in.Tie as tie
 

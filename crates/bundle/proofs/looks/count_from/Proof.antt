@@ -5,9 +5,10 @@ use native.Mathlib.Omega.{arith}
 use lib.ListN.{length}
 use borrow.Author.Needs.{needs}
 use denote.Ref.{now}
-use Rattle.bundle.specs.Record.{headBytes, lookSize, countPlace, word}
+use Rattle.bundle.specs.Record.{headBytes, countPlace, word}
+use Rattle.bundle.specs.work.Record.{lookSize}
 use Rattle.bundle.specs.Bundle.{looksFrom}
-use Rattle.bundle.specs.Looked.{PlaceIn, countOr}
+use Rattle.bundle.specs.work.Looked.{PlaceIn, countOr}
 use Rattle.bundle.proofs.Looked.{look-within, look-count}
 use Rattle.bundle.proofs.looks.count_from.Statement.{statement}
 use Rattle.bundle.proofs.looks.count_from.Tie as tie

@@ -3,8 +3,8 @@ use mathlib.Core.Path.{_≡_, refl}
 use native.Mathlib.Omega.{arith}
 use lib.ListN.{length, length-set}
 use denote.Ref.{now}
-use Rattle.trees.specs.Trees.{Tree, Tops}
-use Rattle.bundle.specs.Looked.{lookKey, blockKey, lookBranches}
+use Rattle.trees.specs.work.Trees.{Tree, Tops}
+use Rattle.bundle.specs.work.Looked.{lookKey, blockKey, lookBranches}
 use Rattle.trees.proofs.Trees.{grown-none, tops-none, tops-more, top-le}
 use borrow.Author.Needs.{needs}
 use Rattle.bundle.proofs.looks.grow.Statement.{statement}

@@ -1,6 +1,6 @@
 use native.Mathlib.Omega.{arith}
 use borrow.Author.Needs.{needs}
-use Rattle.bundle.specs.Looked.{keyAt}
+use Rattle.bundle.specs.work.Looked.{keyAt}
 use Rattle.bundle.proofs.looks.key_at.Statement.{statement}
 use Rattle.bundle.proofs.looks.key_at.Tie as tie
 

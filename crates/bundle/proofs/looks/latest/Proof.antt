@@ -1,6 +1,6 @@
 use mathlib.Core.Path.{_∙_}
 use Rattle.trees.proofs.Trees.{sought-all}
-use Rattle.bundle.specs.Looked.{lookBranches}
+use Rattle.bundle.specs.work.Looked.{lookBranches}
 use borrow.Author.Needs.{needs}
 use Rattle.bundle.proofs.looks.latest.Statement.{statement}
 use Rattle.bundle.proofs.looks.latest.Tie as tie

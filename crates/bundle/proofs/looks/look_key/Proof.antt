@@ -3,8 +3,8 @@ use mathlib.Core.Path.{_≡_, ap, sym, _∙_}
 use native.Mathlib.Omega.{arith}
 use lib.ListN.{length}
 use denote.Ref.{now}
-use Rattle.bundle.specs.Record.{lookSize}
-use Rattle.bundle.specs.Looked.{keyAt}
+use Rattle.bundle.specs.work.Record.{lookSize}
+use Rattle.bundle.specs.work.Looked.{keyAt}
 use Rattle.bundle.proofs.Looked.{look-place, look-within}
 use Rattle.bundle.proofs.looks.look_key.Statement.{statement}
 use Rattle.bundle.proofs.looks.look_key.Tie as tie

@@ -3,8 +3,8 @@ use mathlib.Core.Path.{ap, _∙_}
 use native.Mathlib.Omega.{arith}
 use denote.Ref.{now}
 use Rattle.bundle.specs.Bundle.{edgeSection}
-use Rattle.trees.specs.Trees.{topFor}
-use Rattle.bundle.specs.Looked.{blockKey}
+use Rattle.trees.specs.work.Trees.{topFor}
+use Rattle.bundle.specs.work.Looked.{blockKey}
 use Rattle.bundle.proofs.Runs.{Walked, walked}
 use Rattle.trees.proofs.Trees.{top-le}
 use Rattle.bundle.proofs.Looked.{Marking, marking-none, marking-more, edge-all, edge-whole, edge-ends, edge-next, edge-key}

@@ -8,8 +8,8 @@ use denote.Ref.{now}
 use Rattle.counting.specs.Stored.{filled}
 use Rattle.counting.proofs.Stored.{filled-none, filled-more, filled-beyond, length-filled}
 use Rattle.bundle.specs.Bundle.{edgeSection, countAfter}
-use Rattle.trees.specs.Trees.{topFor}
-use Rattle.bundle.specs.Looked.{blockKey, topOf, countOr}
+use Rattle.trees.specs.work.Trees.{topFor}
+use Rattle.bundle.specs.work.Looked.{blockKey, topOf, countOr}
 use Rattle.bundle.proofs.Runs.{Walked, walked}
 use Rattle.trees.proofs.Trees.{top-le}
 use Rattle.bundle.proofs.Looked.{count-block, edge-all, edge-whole, edge-ends, edge-next, edge-key, edge-number}

@@ -1,8 +1,8 @@
 use Prim.Native.Nat.{_+_, _*_}
 use native.Mathlib.Omega.{arith}
 use Rattle.counting.proofs.Tables.{zeros}
-use Rattle.trees.specs.Trees.{trees}
-use Rattle.bundle.specs.Looked.{blockLooks, lookBranches}
+use Rattle.trees.specs.work.Trees.{trees}
+use Rattle.bundle.specs.work.Looked.{blockLooks, lookBranches}
 use borrow.Author.Needs.{needs}
 use Rattle.bundle.proofs.looks.replace_in.Statement.{statement}
 use Rattle.bundle.proofs.looks.replace_in.Tie as tie

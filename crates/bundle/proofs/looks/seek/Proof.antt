@@ -4,8 +4,8 @@ use native.Mathlib.Nat.{mod-lt}
 use native.Mathlib.Omega.{arith}
 use lib.ListN.{length}
 use denote.Ref.{now}
-use Rattle.trees.specs.Trees.{trees}
-use Rattle.bundle.specs.Looked.{blockKey, lookBranches}
+use Rattle.trees.specs.work.Trees.{trees}
+use Rattle.bundle.specs.work.Looked.{blockKey, lookBranches}
 use Rattle.bundle.proofs.Looked.{look-few}
 use Rattle.trees.proofs.Trees.{Descending, descending-start, descending-end, descending-le, descending-hit, descending-less, descending-room, descending-more}
 use borrow.Author.Needs.{needs}

@@ -5,8 +5,8 @@ use lib.ListN.{getD}
 use denote.Ref.{now}
 use Rattle.counting.proofs.Search.{first-ext}
 use Rattle.counting.proofs.Tables.{zeros}
-use Rattle.trees.specs.Trees.{trees}
-use Rattle.bundle.specs.Looked.{blockLooks, lookBranches, lookKey, blockKey}
+use Rattle.trees.specs.work.Trees.{trees}
+use Rattle.bundle.specs.work.Looked.{blockLooks, lookBranches, lookKey, blockKey}
 use Rattle.trees.proofs.Trees.{top-le}
 use Rattle.bundle.proofs.Looked.{unmarked-stray}
 use borrow.Author.Needs.{needs}

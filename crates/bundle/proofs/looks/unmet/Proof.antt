@@ -2,7 +2,7 @@ use Prim.Native.Nat.{_-_}
 use native.Mathlib.Omega.{arith}
 use borrow.Author.Tests.{eq-eqb, ne-eqb}
 use Rattle.counting.proofs.Search.{Seeking, seeking-none, seeking-hit, seeking-more, seeking-all}
-use Rattle.bundle.specs.Looked.{topUnmet}
+use Rattle.bundle.specs.work.Looked.{topUnmet}
 use borrow.Author.Needs.{needs}
 use Rattle.bundle.proofs.looks.unmet.Statement.{statement}
 use Rattle.bundle.proofs.looks.unmet.Tie as tie

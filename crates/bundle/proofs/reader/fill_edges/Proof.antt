@@ -5,8 +5,8 @@ use native.Mathlib.Omega.{arith}
 use lib.ListN.{length}
 use denote.Ref.{now}
 use borrow.Author.Needs.{needs}
-use Rattle.counting.specs.Range.{over}
-use Rattle.counting.specs.Stored.{Stored}
+use Rattle.counting.specs.Lists.{over}
+use Rattle.counting.specs.work.Stored.{Stored}
 use Rattle.counting.proofs.Stored.{stored-none, stored-long}
 use Rattle.bundle.specs.Record.{headBytes, countPlace, word, body}
 use Rattle.bundle.specs.Bundle.{edgeEnds, edgeSection, recordStart, run, edges, looksFrom, endsOf, writtenOver, leadingWords}

@@ -10,7 +10,7 @@ use Rattle.counting.specs.Stored.{filled}
 use Rattle.counting.proofs.Stored.{filled-again, filled-front}
 use Rattle.counting.proofs.Tables.{filled-table}
 use Rattle.bundle.specs.Bundle.{cellNodes, edgeEnds, lookSection, run, cells, edges, looks, countAfter, surviving, countsOf, isBundle, bundleAnswer, writtenOver, contentsNumbers}
-use Rattle.bundle.specs.Looked.{LooksLent}
+use Rattle.bundle.specs.work.Looked.{LooksLent}
 use Rattle.bundle.specs.declared.Contents.the-variants.{Lists, Refused}
 use Rattle.bundle.proofs.Answers.{accepted, accepted-cells, accepted-edges, rejected, room, no-room, leaves-broken, leaves-short, leaves-lists}
 use Rattle.bundle.proofs.Fills.{length-counts}

@@ -6,7 +6,8 @@ use native.Mathlib.Omega.{arith}
 use lib.ListN.{length}
 use denote.Ref.{now}
 use Rattle.answer.specs.Answer.{result, refusal}
-use Rattle.bundle.specs.Record.{brokenRow, lookSize, nextRecord, recordNumbers}
+use Rattle.bundle.specs.Record.{brokenRow, nextRecord, recordNumbers}
+use Rattle.bundle.specs.work.Record.{lookSize}
 use Rattle.bundle.specs.Bundle.{endSection, sectionOf, sectionAt, isOf, cells, edges, looks, lookAt, stop, firstStray, strayRow}
 use Rattle.bundle.specs.declared.Record.the-variants.{Whole, Refused}
 use Rattle.bundle.proofs.OneRecord.{Found, found, not-found}

@@ -6,8 +6,8 @@ use borrow.Author.Needs.{needs}
 use lib.Dec.{leb}
 use borrow.Author.Tests.{leb-true, le-leb, lt-leb}
 use Rattle.counting.proofs.Bools.{bool-same}
-use Rattle.bundle.specs.Record.{cellSize, edgeSize, endSize}
-use Rattle.bundle.specs.Needed.{bundleSize}
+use Rattle.bundle.specs.work.Record.{cellSize, edgeSize, endSize}
+use Rattle.bundle.specs.work.Needed.{bundleSize}
 use Rattle.bundle.proofs.writer.fits.Statement.{statement}
 use Rattle.bundle.proofs.writer.fits.Tie as tie
 

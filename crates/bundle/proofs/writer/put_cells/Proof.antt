@@ -3,8 +3,8 @@ use mathlib.Core.Path.{_≡_}
 use native.Mathlib.Omega.{arith}
 use lib.ListN.{length}
 use denote.Ref.{now}
-use Rattle.counting.specs.Range.{over}
-use Rattle.counting.specs.Stored.{Stored}
+use Rattle.counting.specs.Lists.{over}
+use Rattle.counting.specs.work.Stored.{Stored}
 use Rattle.counting.proofs.Fronts.{over-within}
 use Rattle.counting.proofs.Stored.{stored-none, stored-more, stored-long}
 use Rattle.bundle.specs.Bundle.{cellNodes}

@@ -9,7 +9,7 @@ use borrow.Author.Needs.{needs}
 use Rattle.counting.specs.Search.{count}
 use Rattle.counting.proofs.Search.{count-le}
 use Rattle.bundle.specs.Record.{isWide}
-use Rattle.bundle.specs.Needed.{wides}
+use Rattle.bundle.specs.work.Needed.{wides}
 use Rattle.bundle.proofs.writer.wides_in.Statement.{statement}
 use Rattle.bundle.proofs.writer.wides_in.Tie as tie
 

@@ -1,4 +1,3 @@
--- `cases::numbers::entry` meets its contract.
 use Prim.Native.Nat.{_+_, _*_, _/_, _%_}
 use mathlib.Core.Path.{ap, ap₂, _∙_}
 use mathlib.Core.List.{[], _∷_}

@@ -1,6 +1,5 @@
--- `cases::numbers::table_rows` meets its contract.
 use mathlib.Core.Path.{refl}
-use Rattle.cases.specs.Table.{tableRows}
+use Rattle.cases.specs.claims.Table.{tableRows}
 use Rattle.cases.proofs.numbers.table_rows.Statement.{statement}
 use Rattle.cases.proofs.numbers.table_rows.Tie as tie
 

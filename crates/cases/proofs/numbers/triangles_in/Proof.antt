@@ -1,13 +1,13 @@
--- `cases::triangles_in` meets its contract.
 use Prim.Native.Nat.{ℕ, _+_, _*_, _/_, _%_, _-_, _≤_}
 use mathlib.Core.Path.{ap, ap₂, _∙_}
 use mathlib.Core.List.{[]}
 use native.Mathlib.Nat.{mul-le-mul}
 use native.Mathlib.Omega.{arith}
 use lib.ListN.{getD}
-use Rattle.counting.specs.Stored.{Summed}
+use Rattle.counting.specs.work.Stored.{Summed}
 use Rattle.counting.proofs.Stored.{summed-none, summed-more, summed-all}
-use Rattle.cases.specs.Tally.{trianglesAt, trianglesFor, mostFor}
+use Rattle.cases.specs.claims.Tally.{trianglesAt}
+use Rattle.cases.specs.work.Tally.{trianglesFor, mostFor}
 use Rattle.cases.proofs.Rows.{triangles-at}
 use Rattle.cases.proofs.numbers.triangles_in.Statement.{statement}
 use Rattle.cases.proofs.numbers.triangles_in.Tie as tie

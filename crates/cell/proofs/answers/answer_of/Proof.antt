@@ -1,5 +1,5 @@
 use mathlib.Core.Path.{refl}
-use Rattle.cell.specs.Round.{roundAnswer}
+use Rattle.cell.specs.work.Round.{roundAnswer}
 use borrow.Author.Needs.{needs}
 use Rattle.cell.proofs.answers.answer_of.Statement.{statement}
 use Rattle.cell.proofs.answers.answer_of.Tie as tie

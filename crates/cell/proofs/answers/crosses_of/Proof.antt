@@ -2,12 +2,11 @@ use native.Mathlib.Omega.{arith}
 use Prim.Native.Nat.{_≤_, _-_}
 use lib.Dec.{eqb}
 use lib.ListN.{length}
-use Rattle.counting.specs.Pick.{one}
-use Rattle.counting.specs.Range.{total}
+use Rattle.counting.specs.Lists.{one, total}
 use denote.Ref.{now}
 use mathlib.Core.Path.{_≡_, ap, _∙_}
-use Rattle.cell.specs.Round.{crossesIn}
-use Rattle.counting.specs.Stored.{Summed}
+use Rattle.cell.specs.work.Round.{crossesIn}
+use Rattle.counting.specs.work.Stored.{Summed}
 use Rattle.counting.proofs.Stored.{summed-none, summed-more}
 use Rattle.cell.proofs.Loops.{crossAt}
 use Rattle.cell.proofs.answers.crosses_of.Statement.{statement}

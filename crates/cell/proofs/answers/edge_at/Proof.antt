@@ -1,6 +1,6 @@
 use native.Mathlib.Omega.{arith}
 use mathlib.Core.Path.{ap, _∙_}
-use Rattle.cell.specs.Half.{edgeOf}
+use Rattle.cell.specs.claims.Half.{edgeOf}
 use Rattle.cell.proofs.Half.{edge-past}
 use borrow.Author.Needs.{needs}
 use Rattle.cell.proofs.answers.edge_at.Statement.{statement}

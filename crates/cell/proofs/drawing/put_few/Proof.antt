@@ -1,4 +1,3 @@
--- `cell::drawing::put_few` meets its contract.
 use borrow.Author.Needs.{needs}
 use denote.Ref.{now}
 use Rattle.cell.proofs.Using.{table-few}

@@ -1,11 +1,10 @@
--- `cell::drawing::put_in_all` meets its contract.
 use Prim.Native.Nat.{_-_, _≤_}
 use mathlib.Core.Path.{ap, _∙_}
 use native.Mathlib.Omega.{arith}
 use denote.Ref.{now}
-use Rattle.cell.specs.Fits.{nextAfter, areaAfter}
-use Rattle.cell.specs.Table.{tableCell}
-use Rattle.cell.specs.Walked.{Sized}
+use Rattle.cell.specs.work.Fits.{nextAfter, areaAfter}
+use Rattle.cell.specs.claims.Table.{tableCell}
+use Rattle.cell.specs.work.Walked.{Sized}
 use Rattle.cell.proofs.Fits.{next-all, area-all, Put, put-none, put-more}
 use Rattle.cell.proofs.Using.{used-sized, sized-none, sized-on, sized-room}
 use Rattle.cell.proofs.drawing.put_in_all.Statement.{statement}

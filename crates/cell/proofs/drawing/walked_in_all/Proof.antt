@@ -1,4 +1,3 @@
--- `cell::drawing::walked_in_all` meets its contract.
 use Prim.Native.Nat.{ℕ, _+_, _-_, _≤_}
 use mathlib.Core.Path.{_≡_, sym, ap, _∙_}
 use mathlib.Core.Bool.{true, false}
@@ -7,14 +6,14 @@ use native.Mathlib.Nat.{add-zero}
 use native.Mathlib.Omega.{arith}
 use denote.Ref.{now}
 use lib.ListN.{length}
-use Rattle.counting.specs.Stored.{Summed}
+use Rattle.counting.specs.work.Stored.{Summed}
 use Rattle.counting.proofs.Stored.{summed-none, summed-more, summed-all}
-use Rattle.cell.specs.Limits.{mostInCell}
+use Rattle.cell.specs.work.Limits.{mostInCell}
 use Rattle.cell.specs.Triangles.{cellTriangles}
 use Rattle.cell.specs.Level.{byEdge}
-use Rattle.cell.specs.Common.{isKnown}
-use Rattle.cell.specs.Table.{tableCell, takenCounts, walkedAt}
-use Rattle.cell.specs.Walked.{Sized}
+use Rattle.cell.specs.work.Table.{isKnown, walkedAt}
+use Rattle.cell.specs.claims.Table.{tableCell, takenCounts}
+use Rattle.cell.specs.work.Walked.{Sized}
 use Rattle.cell.proofs.Taken.{with-all}
 use Rattle.cell.proofs.Using.{used-sized, sized-none, sized-on, sized-room}
 use Rattle.cell.proofs.drawing.walked_in_all.Statement.{statement}

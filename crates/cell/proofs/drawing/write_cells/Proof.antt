@@ -1,4 +1,3 @@
--- `cell::write_cells` meets its contract.
 use borrow.Author.Needs.{needs}
 use denote.Ref.{now}
 use native.Mathlib.Omega.{arith}

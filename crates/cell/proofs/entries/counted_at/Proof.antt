@@ -1,5 +1,5 @@
 use borrow.Author.Needs.{needs}
-use Rattle.cell.specs.Table.{tableCell}
+use Rattle.cell.specs.claims.Table.{tableCell}
 use Rattle.cell.proofs.entries.counted_at.Statement.{statement}
 use Rattle.cell.proofs.entries.counted_at.Tie as tie
 

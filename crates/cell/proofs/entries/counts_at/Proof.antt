@@ -1,11 +1,9 @@
--- `cell::counts_at` meets its contract.
 use Prim.Native.Nat.{_-_, _%_, min}
 use mathlib.Core.Path.{refl, ap, _∙_}
 use native.Mathlib.Omega.{arith}
 use lib.ListN.{getD}
-use Rattle.slots.specs.Limits.{mostCount}
-use Rattle.slots.specs.Limits.{mostCells}
-use Rattle.cell.specs.Table.{side}
+use Rattle.slots.specs.Limits.{mostCount, mostCells}
+use Rattle.cell.specs.claims.Table.{side}
 use Rattle.cell.proofs.Values.{Valued, valued-none, valued-more, valued-all}
 use Rattle.cell.proofs.entries.counts_at.Statement.{statement}
 use Rattle.cell.proofs.entries.counts_at.Tie as tie

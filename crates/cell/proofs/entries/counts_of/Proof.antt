@@ -2,7 +2,7 @@ use Prim.Native.Nat.{_-_}
 use mathlib.Core.Path.{refl, ap, _∙_}
 use native.Mathlib.Omega.{arith}
 use lib.ListN.{getD}
-use Rattle.cell.specs.Table.{side}
+use Rattle.cell.specs.claims.Table.{side}
 use Rattle.cell.proofs.Values.{Valued, valued-none, valued-more, valued-all}
 use Rattle.cell.proofs.entries.counts_of.Statement.{statement}
 use Rattle.cell.proofs.entries.counts_of.Tie as tie

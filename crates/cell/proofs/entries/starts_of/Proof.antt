@@ -2,8 +2,7 @@ use Prim.Native.Nat.{_-_, _%_}
 use mathlib.Core.Path.{refl, ap, _∙_}
 use native.Mathlib.Omega.{arith}
 use lib.ListN.{getD}
-use Rattle.cell.specs.Limits.{shortLimit}
-use Rattle.cell.specs.Table.{side}
+use Rattle.cell.specs.claims.Table.{shortLimit, side}
 use Rattle.cell.proofs.Values.{Valued, valued-none, valued-more, valued-all}
 use Rattle.cell.proofs.entries.starts_of.Statement.{statement}
 use Rattle.cell.proofs.entries.starts_of.Tie as tie

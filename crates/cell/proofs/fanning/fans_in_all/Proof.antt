@@ -2,12 +2,13 @@ use Prim.Native.Nat.{_-_, _≤_}
 use mathlib.Core.Path.{ap, _∙_}
 use denote.Ref.{now}
 use native.Mathlib.Omega.{arith}
-use Rattle.counting.specs.Stored.{Summed}
+use Rattle.counting.specs.work.Stored.{Summed}
 use Rattle.counting.proofs.Stored.{summed-none, summed-more, summed-all}
-use Rattle.cell.specs.Limits.{mostInCell}
-use Rattle.cell.specs.Middles.{fanCount}
-use Rattle.cell.specs.Table.{tableCell, tableFans}
-use Rattle.cell.specs.Walked.{Sized}
+use Rattle.cell.specs.work.Limits.{mostInCell}
+use Rattle.cell.specs.claims.Middles.{fanCount}
+use Rattle.cell.specs.claims.Table.{tableCell}
+use Rattle.cell.specs.work.Table.{tableFans}
+use Rattle.cell.specs.work.Walked.{Sized}
 use Rattle.cell.proofs.Using.{used-sized, sized-none, sized-on, sized-room}
 use Rattle.cell.proofs.fanning.fans_in_all.Statement.{statement}
 use Rattle.cell.proofs.fanning.fans_in_all.Tie as tie

@@ -2,8 +2,8 @@ use Prim.Native.Nat.{_-_, _≤_}
 use mathlib.Core.Path.{_≡_, ap, _∙_}
 use denote.Ref.{now}
 use native.Mathlib.Omega.{arith}
-use Rattle.cell.specs.Table.{middlesWritten}
-use Rattle.cell.specs.Walked.{Sized}
+use Rattle.cell.specs.work.Table.{middlesWritten}
+use Rattle.cell.specs.work.Walked.{Sized}
 use Rattle.cell.proofs.Fans.{written-none, written-more, written-long}
 use Rattle.cell.proofs.Using.{used-sized, sized-none, sized-on, sized-room}
 use Rattle.cell.proofs.fanning.middles_in_all.Statement.{statement}

@@ -1,10 +1,10 @@
--- `cell::level::is_known` meets its contract.
 use Prim.Native.Nat.{ℕ}
 use mathlib.Core.Path.{_≡_, refl, sym, ap₂, _∙_}
 use mathlib.Core.Bool.{Bool, true, false, _||_}
 use borrow.Author.Needs.{needs}
 use Rattle.cell.specs.Level.{byEdge, isLevelCell}
-use Rattle.cell.specs.Common.{isCommon, isKnown}
+use Rattle.cell.specs.Common.{isCommon}
+use Rattle.cell.specs.work.Table.{isKnown}
 use Rattle.cell.proofs.level.is_known.Statement.{statement}
 use Rattle.cell.proofs.level.is_known.Tie as tie
 

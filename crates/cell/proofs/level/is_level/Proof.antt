@@ -1,4 +1,3 @@
--- `cell::is_level` meets its contract.
 use native.Mathlib.Omega.{arith}
 use borrow.Author.Needs.{needs}
 use Rattle.cell.specs.Level.{byEdge}

@@ -4,7 +4,7 @@ use mathlib.Core.Path.{ap, ap₂, _∙_}
 use lib.ListN.{getD}
 use denote.Ref.{now}
 use Rattle.cell.specs.declared.Side.the-variants.{Segment}
-use Rattle.cell.specs.Traced.{segmentAt}
+use Rattle.cell.specs.work.Traced.{segmentAt}
 use borrow.Author.Needs.{needs}
 use Rattle.cell.proofs.make.segment_at.Statement.{statement}
 use Rattle.cell.proofs.make.segment_at.Tie as tie

@@ -1,6 +1,5 @@
--- `cell::make::whole_of` meets its contract.
 use Rattle.cell.specs.Triangles.{triangle}
-use Rattle.cell.specs.Traced.{tracedTriangle}
+use Rattle.cell.specs.work.Traced.{tracedTriangle}
 use borrow.Author.Needs.{needs}
 use Rattle.cell.proofs.make.whole_of.Statement.{statement}
 use Rattle.cell.proofs.make.whole_of.Tie as tie

@@ -1,4 +1,3 @@
--- `cell::middles::is_placeable` meets its contract.
 use mathlib.Core.Path.{sym, _∙_}
 use borrow.Author.Needs.{needs}
 use Rattle.cell.proofs.Fans.{below-placeable, placeable-is}

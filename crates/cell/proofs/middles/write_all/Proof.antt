@@ -1,8 +1,8 @@
 use native.Mathlib.Omega.{arith}
 use Prim.Native.Nat.{_-_, _*_}
 use denote.Ref.{now}
-use Rattle.counting.specs.Range.{over}
-use Rattle.counting.specs.Stored.{Stored}
+use Rattle.counting.specs.Lists.{over}
+use Rattle.counting.specs.work.Stored.{Stored}
 use Rattle.counting.proofs.Stored.{stored-none, stored-long}
 use Rattle.place.specs.Place.{coordinates}
 use Rattle.cell.proofs.Going.{Going, going-start, going-lent, going-more, going-looped, going-part, going-used}

@@ -5,9 +5,9 @@ use native.Mathlib.Omega.{arith}
 use lib.Dec.{eqb}
 use lib.ListN.{length, getD}
 use Rattle.counting.specs.Pick.{pick}
-use Rattle.cell.specs.Half.{edgeOf}
-use Rattle.cell.specs.Nests.{greatestOf}
-use Rattle.cell.specs.Centres.{highestOn}
+use Rattle.cell.specs.claims.Half.{edgeOf}
+use Rattle.cell.specs.claims.Nests.{greatestOf}
+use Rattle.cell.specs.work.Centres.{highestOn}
 use Rattle.cell.proofs.Nesting.{greatest-none, greatest-more, risen-few}
 use Rattle.cell.proofs.nests.highest_on.Statement.{statement}
 use Rattle.cell.proofs.nests.highest_on.Tie as tie

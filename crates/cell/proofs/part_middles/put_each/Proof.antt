@@ -1,4 +1,3 @@
--- `cell::part_middles::put_each` meets its contract.
 use borrow.Author.Needs.{needs}
 use mathlib.Core.Path.{sym, _∙_}
 use denote.Ref.{now}

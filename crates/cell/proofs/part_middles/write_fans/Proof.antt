@@ -1,4 +1,3 @@
--- `cell::part_middles::write_fans` meets its contract.
 use Prim.Native.Nat.{ℕ}
 use mathlib.Core.Path.{_≡_, sym, subst}
 use mathlib.Core.List.{List}
@@ -6,8 +5,8 @@ use lib.Ieee.{Float}
 use denote.Ref.{now}
 use borrow.Author.Needs.{needs}
 use Rattle.cell.specs.declared.Cell.{Cell}
-use Rattle.cell.specs.Of.{Near}
-use Rattle.cell.specs.Middles.{pointsThen, nextPoint}
+use Rattle.cell.specs.work.Route.{Near}
+use Rattle.cell.specs.claims.Middles.{pointsThen, nextPoint}
 use Rattle.cell.proofs.Using.{limited-near}
 use Rattle.cell.proofs.part_middles.write_fans.Statement.{statement}
 use Rattle.cell.proofs.part_middles.write_fans.Tie as tie

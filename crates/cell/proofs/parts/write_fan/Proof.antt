@@ -1,9 +1,8 @@
--- `cell::parts::write_fan` meets its contract.
 use Prim.Native.Nat.{_-_, _≤_}
 use native.Mathlib.Omega.{arith}
 use Rattle.counting.proofs.Stored.{stored-long}
 use Rattle.manifold.specs.Shape.{fan}
-use Rattle.cell.specs.Traced.{tracedTriangle}
+use Rattle.cell.specs.work.Traced.{tracedTriangle}
 use Rattle.cell.proofs.Storing.{Run, run-none, run-place, run-more, run-all}
 use Rattle.cell.proofs.parts.write_fan.Statement.{statement}
 use Rattle.cell.proofs.parts.write_fan.Tie as tie

@@ -1,12 +1,12 @@
--- `cell::parts::write_loops` meets its contract.
 use Prim.Native.Nat.{ℕ}
 use mathlib.Core.Path.{_≡_, sym, ap, _∙_, subst}
 use mathlib.Core.List.{List}
 use denote.Ref.{now}
 use borrow.Author.Needs.{needs}
-use Rattle.counting.specs.Stored.{storedIn, nextIn}
+use Rattle.counting.specs.Stored.{storedIn}
+use Rattle.counting.specs.claims.Lists.{nextIn}
 use Rattle.cell.specs.declared.Cell.{Cell}
-use Rattle.cell.specs.Of.{Near, limited}
+use Rattle.cell.specs.work.Route.{Near, limited}
 use Rattle.cell.specs.Words.{allWords}
 use Rattle.cell.specs.Triangles.{trianglesWith}
 use Rattle.cell.proofs.Using.{limited-near}

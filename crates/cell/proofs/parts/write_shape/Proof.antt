@@ -1,4 +1,3 @@
--- `cell::parts::write_shape` meets its contract.
 use mathlib.Core.Path.{ap}
 use native.Mathlib.Omega.{arith}
 use denote.Ref.{now}

@@ -1,7 +1,7 @@
 use Prim.Native.Nat.{_-_, _≤_}
 use native.Mathlib.Omega.{arith}
 use mathlib.Core.Path.{_≡_, _∙_, ap}
-use Rattle.counting.specs.Pack.{pre}
+use Rattle.counting.specs.Lists.{pre}
 use Rattle.cell.specs.Of.{countOf, edgesOf}
 use Rattle.cell.proofs.Route.{Sum, sum-none, sum-more}
 use Rattle.cell.proofs.routes.crossings_of.Statement.{statement}

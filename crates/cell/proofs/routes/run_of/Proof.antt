@@ -2,7 +2,7 @@ use native.Mathlib.Omega.{arith}
 use Prim.Native.Nat.{_<_}
 use mathlib.Core.Path.{sym, _∙_, subst}
 use borrow.Author.Needs.{needs}
-use Rattle.cell.specs.Limits.{startLimit}
+use Rattle.cell.specs.work.Limits.{startLimit}
 use Rattle.cell.proofs.routes.run_of.Statement.{statement}
 use Rattle.cell.proofs.routes.run_of.Tie as tie
 

@@ -1,9 +1,9 @@
--- `cell::routes::within` meets its contract.
 use Prim.Native.Nat.{_-_, min}
 use mathlib.Core.Path.{refl, ap, _∙_}
 use native.Mathlib.Omega.{arith}
-use Rattle.cell.specs.Limits.{startLimit}
-use Rattle.cell.specs.Of.{startOf, limited}
+use Rattle.cell.specs.work.Limits.{startLimit}
+use Rattle.cell.specs.Of.{startOf}
+use Rattle.cell.specs.work.Route.{limited}
 use Rattle.cell.proofs.Values.{Valued, valued-none, valued-more, valued-all}
 use Rattle.cell.proofs.routes.within.Statement.{statement}
 use Rattle.cell.proofs.routes.within.Tie as tie

@@ -3,7 +3,7 @@ use native.Mathlib.Omega.{arith}
 use native.Mathlib.Decide.{decLt}
 use mathlib.Core.Path.{_≡_, refl, sym, ap, _∙_}
 use mathlib.Core.Logic.{_⊎_, inl, inr, ⊎-elim, _≢_}
-use Rattle.cell.specs.Half.{edgeOf}
+use Rattle.cell.specs.claims.Half.{edgeOf}
 use Rattle.cell.proofs.tables.edge_of.Statement.{statement}
 use Rattle.cell.proofs.tables.edge_of.Tie as tie
 

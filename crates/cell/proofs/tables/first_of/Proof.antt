@@ -2,7 +2,7 @@ use Prim.Native.Nat.{ℕ, _<_}
 use native.Mathlib.Omega.{arith}
 use mathlib.Core.Path.{_≡_, refl, sym, ap, _∙_}
 use Rattle.slots.specs.Slots.{firstSlot}
-use Rattle.cell.specs.Half.{halfEdges, halfOf}
+use Rattle.cell.specs.work.Half.{halfEdges, halfOf}
 use Rattle.cell.proofs.tables.first_of.Statement.{statement}
 use Rattle.cell.proofs.tables.first_of.Tie as tie
 

@@ -1,9 +1,9 @@
 use native.Mathlib.Omega.{arith}
 use Prim.Native.Nat.{_-_}
 use mathlib.Core.Path.{_∙_}
-use Rattle.counting.specs.Stored.{Summed}
+use Rattle.counting.specs.work.Stored.{Summed}
 use Rattle.counting.proofs.Stored.{summed-none}
-use Rattle.cell.specs.Limits.{mostInCell}
+use Rattle.cell.specs.work.Limits.{mostInCell}
 use Rattle.cell.proofs.Going.{Going, going-start, going-lent, going-more, going-looped, going-used}
 use Rattle.cell.proofs.Taken.{two-four}
 use Rattle.cell.proofs.Holding.{looped-many, is-out, is-in}

@@ -1,4 +1,3 @@
--- `cell::triangles::has_room` meets its contract.
 use Prim.Native.Nat.{_+_, _*_}
 use mathlib.Core.Path.{sym}
 use native.Mathlib.Omega.{arith}

@@ -1,4 +1,3 @@
--- `cell::triangles::leaves_out` meets its contract.
 use borrow.Author.Tests.{eq-eqb, ne-eqb}
 use Rattle.cell.proofs.triangles.leaves_out.Statement.{statement}
 use Rattle.cell.proofs.triangles.leaves_out.Tie as tie

@@ -3,8 +3,8 @@ use Prim.Native.Nat.{ℕ, _-_}
 use mathlib.Core.Path.{_≡_, refl, sym, _∙_, subst}
 use Rattle.cell.specs.declared.Cell.{Cell}
 use Rattle.cell.specs.declared.Nth.{Nth}
-use Rattle.cell.specs.Of.{Near}
-use Rattle.cell.specs.Nth.{nthOf, nthNumbers, nthAnswer}
+use Rattle.cell.specs.work.Route.{Near}
+use Rattle.cell.specs.work.Nth.{nthOf, nthNumbers, nthAnswer}
 use Rattle.cell.specs.Triangles.{loopTriangles, cellTriangles}
 use Rattle.cell.proofs.Using.{filled-same, limited-near}
 use Rattle.cell.proofs.Going.{Going, going-start, going-in, going-lent, going-more, going-looped, going-part}

@@ -1,7 +1,6 @@
--- `cell::triangles::triangle_count` meets its contract.
 use mathlib.Core.Path.{sym, ap, _∙_, subst}
 use lib.ListN.{length}
-use Rattle.cell.specs.Of.{Near}
+use Rattle.cell.specs.work.Route.{Near}
 use Rattle.cell.specs.Triangles.{cellTriangles}
 use Rattle.cell.proofs.Taken.{with-all}
 use Rattle.cell.proofs.Using.{limited-near}

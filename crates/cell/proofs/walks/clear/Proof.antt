@@ -1,6 +1,6 @@
 use native.Mathlib.Omega.{arith}
 use Prim.Native.Nat.{_-_}
-use Rattle.cell.specs.Scratch.{unmarked}
+use Rattle.cell.specs.work.Scratch.{unmarked}
 use Rattle.cell.proofs.Using.{Filling, filling-none, filling-long, filling-more, filling-all}
 use Rattle.cell.proofs.walks.clear.Statement.{statement}
 use Rattle.cell.proofs.walks.clear.Tie as tie

@@ -1,6 +1,6 @@
 use native.Mathlib.Omega.{arith}
 use Rattle.counting.proofs.Stored.{stored-long}
-use Rattle.cell.specs.Traced.{tracedTriangle, tracedTriangles}
+use Rattle.cell.specs.work.Traced.{tracedTriangle, tracedTriangles}
 use Rattle.cell.proofs.Storing.{Run, run-none, run-place, run-more, run-all}
 use Rattle.manifold.specs.Shape.{shapeOf, manyOf}
 use mathlib.Core.Path.{_≡_}

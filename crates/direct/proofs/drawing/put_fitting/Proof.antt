@@ -1,4 +1,3 @@
--- `direct::drawing::put_fitting` meets its contract.
 use Prim.Native.Nat.{_+_, _*_}
 use mathlib.Core.Path.{sym, _∙_}
 use denote.Ref.{now}

@@ -1,13 +1,12 @@
--- `direct::drawing::put_plain` meets its contract.
 use Prim.Native.Nat.{_-_, _≤_}
 use mathlib.Core.Path.{refl, sym, ap, _∙_}
 use native.Mathlib.Omega.{arith}
 use denote.Ref.{now}
 use borrow.Author.Tests.{not-true, not-false}
 use Rattle.cell.specs.Level.{byEdge}
-use Rattle.cell.specs.Table.{tableCell}
+use Rattle.cell.specs.claims.Table.{tableCell}
 use Rattle.cell.proofs.Fits.{Put, put-none, put-more}
-use Rattle.direct.specs.Rows.{isRising}
+use Rattle.direct.specs.work.Rows.{isRising}
 use Rattle.direct.proofs.Cells.{no-crossings, nothing-put, table-ready, table-booked, put-came}
 use Rattle.direct.proofs.Families.{rising-is}
 use Rattle.direct.proofs.drawing.put_plain.Statement.{statement}

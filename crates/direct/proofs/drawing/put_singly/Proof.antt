@@ -1,11 +1,11 @@
--- `direct::drawing::put_singly` meets its contract.
 use Prim.Native.Nat.{_-_, _≤_}
 use mathlib.Core.Path.{ap, _∙_}
 use native.Mathlib.Omega.{arith}
 use denote.Ref.{now}
-use Rattle.counting.specs.Stored.{storedIn, nextIn}
-use Rattle.cell.specs.Fits.{nextAfter, areaAfter}
-use Rattle.cell.specs.Table.{tableCell}
+use Rattle.counting.specs.Stored.{storedIn}
+use Rattle.counting.specs.claims.Lists.{nextIn}
+use Rattle.cell.specs.work.Fits.{nextAfter, areaAfter}
+use Rattle.cell.specs.claims.Table.{tableCell}
 use Rattle.cell.specs.Triangles.{trianglesWith}
 use Rattle.cell.specs.Words.{allWords}
 use Rattle.cell.proofs.Fits.{next-all, area-all, Put, put-none, put-more}

@@ -1,12 +1,11 @@
--- `direct::write_cells` meets its contract.
 use Prim.Native.Nat.{_-_, _≤_}
 use mathlib.Core.Path.{_≡_, ap, _∙_}
 use native.Mathlib.Omega.{arith}
 use denote.Ref.{now}
-use Rattle.cell.specs.Fits.{nextAfter, areaAfter}
-use Rattle.cell.specs.Table.{tableCell}
+use Rattle.cell.specs.work.Fits.{nextAfter, areaAfter}
+use Rattle.cell.specs.claims.Table.{tableCell}
 use Rattle.cell.proofs.Fits.{Put, put-none}
-use Rattle.direct.specs.Cells.{longestBlock}
+use Rattle.direct.specs.work.Cells.{longestBlock}
 use Rattle.direct.proofs.Cells.{came-on, put-block}
 use Rattle.direct.proofs.drawing.write_cells.Statement.{statement}
 use Rattle.direct.proofs.drawing.write_cells.Tie as tie

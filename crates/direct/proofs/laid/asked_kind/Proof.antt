@@ -1,4 +1,3 @@
--- `direct::laid::asked_kind` meets its contract.
 use Rattle.counting.proofs.Bools.{clash}
 use Rattle.direct.proofs.Laying.{asked-all, asked-three}
 use borrow.Author.Needs.{needs}

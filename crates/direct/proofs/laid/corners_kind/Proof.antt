@@ -1,4 +1,3 @@
--- `direct::laid::corners_kind` meets its contract.
 use mathlib.Core.Path.{sym, _∙_}
 use Rattle.counting.proofs.Bools.{clash}
 use Rattle.direct.proofs.Laying.{false-true}

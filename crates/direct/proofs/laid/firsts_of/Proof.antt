@@ -1,4 +1,3 @@
--- `direct::laid::firsts_of` meets its contract.
 use Prim.Native.Nat.{ℕ, _-_, _≤_, _<_}
 use native.Mathlib.Omega.{arith}
 use mathlib.Core.Path.{_≡_, refl}

@@ -1,4 +1,3 @@
--- `direct::laid::is_before` meets its contract.
 use Rattle.cell.proofs.Route.{ahead-same, ahead-other}
 use borrow.Author.Needs.{needs}
 use Rattle.direct.proofs.laid.is_before.Statement.{statement}

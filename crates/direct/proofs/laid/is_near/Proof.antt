@@ -1,7 +1,6 @@
--- `direct::laid::is_near` meets its contract.
 use Prim.Native.Nat.{ℕ, _-_, _≤_, _<_}
 use native.Mathlib.Omega.{arith}
-use Rattle.cell.specs.Limits.{startLimit}
+use Rattle.cell.specs.work.Limits.{startLimit}
 use Rattle.cell.specs.Of.{startOf}
 use Rattle.direct.proofs.Laying.{near-more, false-true}
 use borrow.Author.Needs.{needs}

@@ -1,4 +1,3 @@
--- `direct::laid::passes_three` meets its contract.
 use mathlib.Core.Path.{sym, _∙_}
 use Rattle.cell.specs.Cell.{ahead}
 use Rattle.cell.specs.Of.{edgesOf}

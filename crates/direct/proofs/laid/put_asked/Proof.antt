@@ -1,4 +1,3 @@
--- `direct::laid::put_asked` meets its contract.
 use mathlib.Core.Path.{sym, _∙_}
 use denote.Ref.{now}
 use Rattle.direct.proofs.Laying.{part-laid, part-room, part-stored, part-few}

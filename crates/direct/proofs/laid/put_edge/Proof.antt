@@ -1,4 +1,3 @@
--- `direct::laid::put_edge` meets its contract.
 use native.Mathlib.Omega.{arith}
 use denote.Ref.{now}
 use Rattle.direct.proofs.Laying.{positions, at-ends, own-edge, low-ring, high-ring, low-room, middle-room, high-room, on-stored}

@@ -1,4 +1,3 @@
--- `direct::laid::put_laid` meets its contract.
 use Prim.Native.Nat.{_-_}
 use mathlib.Core.Path.{_∙_}
 use native.Mathlib.Omega.{arith}

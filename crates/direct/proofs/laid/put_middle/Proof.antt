@@ -1,4 +1,3 @@
--- `direct::laid::put_middle` meets its contract.
 use native.Mathlib.Omega.{arith}
 use mathlib.Core.Path.{refl, sym, ap, _∙_}
 use Rattle.cell.specs.Words.{allWords}
@@ -7,7 +6,7 @@ use borrow.Author.Tests.{not-true, not-false}
 use mathlib.Core.Logic.{_≢_}
 use Rattle.cell.specs.Of.{countOf}
 use Rattle.booking.specs.Booking.{leftBetween}
-use Rattle.direct.specs.Laid.{quadsOn}
+use Rattle.direct.specs.work.Laid.{quadsOn}
 use Rattle.direct.proofs.Rows.{none-stored}
 use Rattle.direct.proofs.Laying.{left-at, across-parting, round-parting, quads-across, quads-round, quads-none, quads-not}
 use borrow.Author.Needs.{needs}

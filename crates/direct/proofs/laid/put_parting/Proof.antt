@@ -1,10 +1,9 @@
--- `direct::laid::put_parting` meets its contract.
 use native.Mathlib.Omega.{arith}
 use mathlib.Core.Path.{refl, sym, ap, _∙_}
 use Rattle.cell.specs.Words.{allWords}
 use Rattle.counting.specs.Pick.{pick}
 use Rattle.counting.proofs.Stored.{stored-as}
-use Rattle.direct.specs.Direct.{acrosses, rounds}
+use Rattle.direct.specs.claims.Direct.{acrosses, rounds}
 use Rattle.direct.proofs.Rows.{crosses-au, crosses-av, crosses-mu, crosses-mv, across-long, across-are, rounds-long, rounds-are}
 use Rattle.direct.proofs.Laying.{parting-words}
 use borrow.Author.Needs.{needs}

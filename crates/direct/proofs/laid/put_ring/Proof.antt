@@ -1,4 +1,3 @@
--- `direct::laid::put_ring` meets its contract.
 use mathlib.Core.Path.{refl, sym, ap}
 use Rattle.cell.specs.Words.{allWords}
 use Rattle.counting.proofs.Stored.{stored-as}

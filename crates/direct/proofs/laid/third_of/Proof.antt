@@ -1,4 +1,3 @@
--- `direct::laid::third_of` meets its contract.
 use native.Mathlib.Omega.{arith}
 use Rattle.direct.proofs.Laying.{third-first, third-low, third-high}
 use borrow.Author.Needs.{needs}

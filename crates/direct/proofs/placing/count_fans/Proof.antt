@@ -1,4 +1,3 @@
--- `direct::placing::count_fans` meets its contract.
 use native.Mathlib.Omega.{arith}
 use denote.Ref.{now}
 use Rattle.direct.proofs.Over.{fans-over}

@@ -1,4 +1,3 @@
--- `direct::placing::is_plain` meets its contract.
 use borrow.Author.Needs.{needs}
 use Rattle.direct.proofs.placing.is_plain.Statement.{statement}
 use Rattle.direct.proofs.placing.is_plain.Tie as tie

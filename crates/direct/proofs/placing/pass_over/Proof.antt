@@ -1,12 +1,11 @@
--- `direct::placing::pass_over` meets its contract.
 use Prim.Native.Nat.{ℕ, _-_}
 use mathlib.Core.Path.{subst}
 use mathlib.Core.List.{List}
 use native.Mathlib.Omega.{arith}
 use denote.Ref.{now}
 use Rattle.cell.specs.Level.{byEdge}
-use Rattle.direct.specs.Direct.{Plain}
-use Rattle.direct.specs.Cells.{PassedOver}
+use Rattle.direct.specs.claims.Direct.{Plain}
+use Rattle.direct.specs.work.Cells.{PassedOver}
 use Rattle.direct.proofs.Over.{over-none, over-one}
 use Rattle.direct.proofs.placing.pass_over.Statement.{statement}
 use Rattle.direct.proofs.placing.pass_over.Tie as tie

@@ -1,11 +1,10 @@
--- `direct::placing::write_middles` meets its contract.
 use Prim.Native.Nat.{_-_, _≤_}
 use mathlib.Core.Path.{_≡_, ap, _∙_}
 use native.Mathlib.Omega.{arith}
 use denote.Ref.{now}
-use Rattle.cell.specs.Table.{middlesWritten}
+use Rattle.cell.specs.work.Table.{middlesWritten}
 use Rattle.cell.proofs.Fans.{written-none, written-long}
-use Rattle.direct.specs.Cells.{longestBlock}
+use Rattle.direct.specs.work.Cells.{longestBlock}
 use Rattle.direct.proofs.Over.{written-on, written-over}
 use Rattle.direct.proofs.placing.write_middles.Statement.{statement}
 use Rattle.direct.proofs.placing.write_middles.Tie as tie

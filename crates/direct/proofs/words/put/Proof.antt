@@ -1,4 +1,3 @@
--- `direct::words::put` meets its contract.
 use Rattle.cell.proofs.Storing.{put-all}
 use borrow.Author.Needs.{needs}
 use Rattle.direct.proofs.words.put.Statement.{statement}

@@ -1,4 +1,3 @@
--- `direct::words::put_corners` meets its contract.
 use Rattle.cell.specs.Words.{cornerWords}
 use native.Mathlib.Omega.{arith}
 use mathlib.Core.Path.{_≡_}

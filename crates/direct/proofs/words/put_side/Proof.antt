@@ -1,4 +1,3 @@
--- `direct::words::put_side` meets its contract.
 use Rattle.cell.proofs.Storing.{side-stored}
 use borrow.Author.Needs.{needs}
 use Rattle.direct.proofs.words.put_side.Statement.{statement}

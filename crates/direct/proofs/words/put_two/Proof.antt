@@ -1,4 +1,3 @@
--- `direct::words::put_two` meets its contract.
 use Rattle.counting.proofs.Fronts.{sets-two}
 use lib.ListN.{length-set}
 use native.Mathlib.Omega.{arith}

@@ -1,9 +1,8 @@
--- `flat::guides::corner_of` meets its contract.
 use native.Mathlib.Omega.{arith}
 use mathlib.Core.Path.{_≡_, _∙_, sym, ap}
 use Prim.Native.Nat.{ℕ}
 use lib.ListN.{getD}
-use Rattle.face.specs.Corners.{cornerList}
+use Rattle.face.specs.work.Corners.{cornerList}
 use borrow.Author.Needs.{needs}
 use Rattle.flat.proofs.guides.corner_of.Statement.{statement}
 use Rattle.flat.proofs.guides.corner_of.Tie as tie

@@ -1,4 +1,3 @@
--- `flat::guides::guide_at` meets its contract.
 use native.Mathlib.Omega.{arith}
 use mathlib.Core.Path.{_∙_}
 use Rattle.face.proofs.Ends.{high-end, low-end}

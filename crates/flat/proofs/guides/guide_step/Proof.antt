@@ -1,4 +1,3 @@
--- `flat::guides::guide_step` meets its contract.
 use native.Mathlib.Omega.{arith}
 use mathlib.Core.Path.{_∙_}
 use Rattle.face.specs.declared.Stand.the-variants.{Low, High, Up, Down, Alone}

@@ -1,4 +1,3 @@
--- `flat::guides::land` meets its contract.
 use native.Mathlib.Omega.{arith}
 use Rattle.flat.proofs.Tables.{land-edge, land-number, land-other, land-own}
 use borrow.Author.Needs.{needs}

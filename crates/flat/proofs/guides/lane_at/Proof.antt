@@ -1,9 +1,8 @@
--- `flat::guides::lane_at` meets its contract.
 use Prim.Native.Nat.{_+_}
 use native.Mathlib.Omega.{arith}
 use mathlib.Core.Path.{refl, ap, _∙_}
 use Rattle.face.proofs.Ends.{near}
-use Rattle.flat.specs.Work.{countAtPlace, landAt}
+use Rattle.flat.specs.work.Work.{countAtPlace, landAt}
 use Rattle.flat.proofs.Tables.{place-read}
 use Rattle.flat.proofs.Guided.{made-down, made-up, other-lt}
 use borrow.Author.Needs.{needs}

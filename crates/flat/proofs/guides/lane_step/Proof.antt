@@ -1,4 +1,3 @@
--- `flat::guides::lane_step` meets its contract.
 use native.Mathlib.Omega.{arith}
 use Rattle.flat.proofs.Guided.{lane-down, lane-up}
 use borrow.Author.Needs.{needs}

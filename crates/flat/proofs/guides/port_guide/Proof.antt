@@ -1,4 +1,3 @@
--- `flat::guides::port_guide` meets its contract.
 use native.Mathlib.Omega.{arith}
 use mathlib.Core.Path.{refl}
 use Rattle.flat.proofs.Guided.{port-none, port-some}

@@ -1,4 +1,3 @@
--- `flat::join::flat_corners` meets its contract.
 use native.Mathlib.Omega.{arith}
 use Rattle.face.specs.Face.{countOn}
 use Rattle.flat.proofs.Squeeze.{some-less, corners-less}

@@ -1,4 +1,3 @@
--- `flat::join::flat_join` meets its contract.
 use mathlib.Core.Path.{_∙_, sym}
 use Rattle.flat.proofs.Triangle.{told-before}
 use Rattle.flat.proofs.Squeeze.{three-rule, lessened-few}

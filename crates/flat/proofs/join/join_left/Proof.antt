@@ -1,8 +1,7 @@
--- `flat::join::join_left` meets its contract.
 use mathlib.Core.Path.{_∙_, ap}
 use native.Mathlib.Omega.{arith}
 use Rattle.face.specs.Face.{countOn, faceAnswer}
-use Rattle.flat.specs.Work.{stretched}
+use Rattle.flat.specs.work.Work.{stretched}
 use Rattle.flat.proofs.Squeeze.{some-at, else-join, at-join, gap-join, index-low}
 use borrow.Author.Needs.{needs}
 use Rattle.flat.proofs.join.join_left.Statement.{statement}

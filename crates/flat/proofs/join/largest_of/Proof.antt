@@ -1,4 +1,3 @@
--- `flat::join::largest_of` meets its contract.
 use mathlib.Core.Path.{sym}
 use native.Mathlib.Omega.{arith}
 use Rattle.flat.proofs.Rule.{largest-ab, largest-ac, largest-bc}

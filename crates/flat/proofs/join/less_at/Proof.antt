@@ -1,4 +1,3 @@
--- `flat::join::less_at` meets its contract.
 use native.Mathlib.Omega.{arith}
 use Rattle.flat.proofs.Squeeze.{less-here, less-else}
 use Rattle.flat.proofs.join.less_at.Statement.{statement}

@@ -1,4 +1,3 @@
--- `flat::join::lessened_edge` meets its contract.
 use mathlib.Core.Path.{_∙_, sym}
 use native.Mathlib.Omega.{arith}
 use Rattle.flat.proofs.Squeeze.{lessened-three, lessened-largest}

@@ -1,4 +1,3 @@
--- `flat::join::lower_corner` meets its contract.
 use native.Mathlib.Omega.{arith}
 use Rattle.flat.proofs.Squeeze.{lower-bc, lower-a}
 use borrow.Author.Needs.{needs}

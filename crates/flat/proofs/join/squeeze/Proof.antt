@@ -1,4 +1,3 @@
--- `flat::join::squeeze` meets its contract.
 use mathlib.Core.Path.{sym}
 use native.Mathlib.Omega.{arith}
 use Rattle.flat.proofs.Squeeze.{squeezed-after, squeezed-before}

@@ -1,4 +1,3 @@
--- `flat::join::stretch` meets its contract.
 use Rattle.flat.proofs.Squeeze.{stretch-low, stretch-joined, stretch-unjoined, stretch-none}
 use borrow.Author.Needs.{needs}
 use Rattle.flat.proofs.join.stretch.Statement.{statement}

@@ -1,4 +1,3 @@
--- `flat::join::stretch_to` meets its contract.
 use native.Mathlib.Omega.{arith}
 use Rattle.flat.proofs.Squeeze.{to-else, to-before, to-after}
 use borrow.Author.Needs.{needs}

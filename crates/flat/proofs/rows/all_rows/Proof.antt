@@ -1,8 +1,7 @@
--- `flat::rows::all_rows` meets its contract.
 use mathlib.Core.Path.{_∙_, refl, sym}
 use native.Mathlib.Omega.{arith}
 use Rattle.answer.proofs.Rows.{whole-fault, whole-fine}
-use Rattle.answer.specs.Faults.{since}
+use Rattle.answer.specs.work.Faults.{since}
 use Rattle.flat.specs.Rows.{rows}
 use Rattle.flat.proofs.Accepts.{length-fine}
 use Rattle.flat.proofs.Answers.{answer-passes, answer-refuses, answer-start}

@@ -1,6 +1,5 @@
--- `flat::rows::edge_rows` meets its contract.
 use mathlib.Core.Path.{_∙_, refl}
-use Rattle.answer.specs.Faults.{since}
+use Rattle.answer.specs.work.Faults.{since}
 use Rattle.flat.specs.Rows.{rows}
 use Rattle.flat.proofs.Answers.{answer-passes, answer-refuses, order-is}
 use borrow.Author.Needs.{needs}

@@ -1,4 +1,3 @@
--- `flat::rows::last_row` meets its contract.
 use mathlib.Core.Path.{_∙_}
 use native.Mathlib.Omega.{arith}
 use Rattle.answer.proofs.Rows.{row-passes, row-refuses, rows-end, whole-fault, whole-fine}

@@ -1,4 +1,3 @@
--- `flat::rows::row_2` meets its contract.
 use mathlib.Core.Path.{refl}
 use borrow.Author.Needs.{needs}
 use Rattle.flat.specs.Rows.{badPairs}

@@ -1,13 +1,12 @@
--- `flat::rows::side_rows` meets its contract.
 use Prim.Native.Nat.{ℕ, _/_, _<_}
 use mathlib.Core.Path.{_∙_, ap, refl}
 use native.Mathlib.Omega.{arith}
 use lib.ListN.{getD, length, length-replicate}
 use Rattle.counting.proofs.Tables.{filled-table}
 use Rattle.counting.proofs.Stored.{length-filled}
-use Rattle.answer.specs.Faults.{since}
+use Rattle.answer.specs.work.Faults.{since}
 use Rattle.grid.proofs.Answers.{where-accepted}
-use Rattle.flat.specs.FlatGrid.{mostSides}
+use Rattle.flat.specs.work.Work.{mostSides}
 use Rattle.flat.specs.Rows.{rows}
 use Rattle.flat.proofs.Answers.{answer-last, answer-passes, answer-refuses}
 use Rattle.flat.proofs.Listed.{placed-table, row-8-is, sided, unlisted-first}

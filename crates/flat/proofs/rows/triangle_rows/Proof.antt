@@ -1,7 +1,6 @@
--- `flat::rows::triangle_rows` meets its contract.
 use mathlib.Core.Path.{_∙_, refl}
 use native.Mathlib.Omega.{arith}
-use Rattle.answer.specs.Faults.{since}
+use Rattle.answer.specs.work.Faults.{since}
 use Rattle.flat.specs.Rows.{rows}
 use Rattle.flat.proofs.Answers.{answer-passes, answer-refuses}
 use Rattle.flat.proofs.Keys.{rising-triangles}

@@ -1,4 +1,3 @@
--- `flat::steps::put_all` meets its contract.
 use Prim.Native.Nat.{ℕ, _-_, _*_, _≤_}
 use mathlib.Core.Path.{_∙_, _≡_, ap}
 use native.Mathlib.Omega.{arith}
@@ -6,7 +5,7 @@ use lib.ListN.{length}
 use Rattle.counting.specs.Stored.{filled}
 use Rattle.counting.proofs.Stored.{length-filled}
 use Rattle.grid.specs.Grid.{start}
-use Rattle.flat.specs.Work.{dartStep}
+use Rattle.flat.specs.work.Work.{dartStep}
 use Rattle.flat.proofs.Tables.{all-more, all-none, all-skip}
 use borrow.Author.Needs.{needs}
 use Rattle.flat.proofs.steps.put_all.Statement.{statement}

@@ -1,12 +1,11 @@
--- `flat::steps::put_edge` meets its contract.
 use Prim.Native.Nat.{ℕ, _+_, _-_, _*_, _≤_}
 use mathlib.Core.Path.{_∙_, _≡_, ap}
 use native.Mathlib.Omega.{arith}
 use lib.ListN.{length, length-set}
 use lib.Seq.{length-sets, sets}
-use Rattle.counting.specs.Range.{values}
+use Rattle.counting.specs.Lists.{values}
 use Rattle.grid.specs.Grid.{countOf, start}
-use Rattle.flat.specs.Work.{dartStep}
+use Rattle.flat.specs.work.Work.{dartStep}
 use Rattle.flat.proofs.Tables.{edge-darts, edge-more, edge-none, edge-within, first-at, first-within, second-at, second-within, start-at}
 use Rattle.flat.proofs.Guided.{port-led}
 use borrow.Author.Needs.{needs}

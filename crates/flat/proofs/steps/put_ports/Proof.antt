@@ -1,4 +1,3 @@
--- `flat::steps::put_ports` meets its contract.
 use Prim.Native.Nat.{_-_, _≤_}
 use mathlib.Core.Path.{refl}
 use native.Mathlib.Omega.{arith}

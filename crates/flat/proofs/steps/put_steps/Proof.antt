@@ -1,11 +1,9 @@
--- `flat::steps::put_steps` meets its contract.
 use Prim.Native.Nat.{ℕ, _*_}
 use mathlib.Core.Path.{_∙_, ap, refl}
 use native.Mathlib.Omega.{arith}
 use lib.ListN.{length, length-replicate, replicate}
 use Rattle.counting.proofs.Stored.{length-filled}
-use Rattle.flat.specs.FlatGrid.{mostSides}
-use Rattle.flat.specs.Work.{dartStep}
+use Rattle.flat.specs.work.Work.{mostSides, dartStep}
 use Rattle.flat.proofs.Tables.{porting, tabled}
 use borrow.Author.Needs.{needs}
 use Rattle.flat.proofs.steps.put_steps.Statement.{statement}

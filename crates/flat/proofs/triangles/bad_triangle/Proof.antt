@@ -1,4 +1,3 @@
--- `flat::triangles::bad_triangle` meets its contract.
 use mathlib.Core.Path.{sym}
 use native.Mathlib.Omega.{arith}
 use Rattle.flat.proofs.Keys.{triangle-drops, triangle-rises}

@@ -1,4 +1,3 @@
--- `flat::triangles::first_entry` meets its contract.
 use Prim.Native.Nat.{_-_}
 use mathlib.Core.Path.{ap}
 use mathlib.Core.Bool.{not}

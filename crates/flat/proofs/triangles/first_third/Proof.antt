@@ -1,8 +1,7 @@
--- `flat::triangles::first_third` meets its contract.
 use Prim.Native.Nat.{_-_}
 use native.Mathlib.Omega.{arith}
 use Rattle.counting.proofs.Search.{Seeking, seeking-all, seeking-hit, seeking-more, seeking-none}
-use Rattle.flat.specs.Work.{twice}
+use Rattle.flat.specs.work.Work.{twice}
 use Rattle.flat.proofs.Keys.{twice-hit, twice-miss, twice-none}
 use borrow.Author.Needs.{needs}
 use Rattle.flat.proofs.triangles.first_third.Statement.{statement}

@@ -1,4 +1,3 @@
--- `flat::triangles::node_at` meets its contract.
 use Prim.Native.Nat.{_*_, _+_}
 use native.Mathlib.Omega.{arith}
 use borrow.Author.Needs.{needs}

@@ -1,4 +1,3 @@
--- `flat::triangles::put_sides` meets its contract.
 use native.Mathlib.Omega.{arith}
 use lib.ListN.{length-set}
 use Rattle.flat.proofs.Keys.{sides-put}

@@ -1,4 +1,3 @@
--- `flat::triangles::row_1` meets its contract.
 use mathlib.Core.Path.{sym}
 use Rattle.flat.proofs.Keys.{length-many, length-none, length-odd}
 use Rattle.flat.proofs.triangles.row_1.Statement.{statement}

@@ -1,4 +1,3 @@
--- `flat::triangles::row_3` meets its contract.
 use Prim.Native.Nat.{_-_}
 use mathlib.Core.Path.{_∙_, sym}
 use native.Mathlib.Omega.{arith}

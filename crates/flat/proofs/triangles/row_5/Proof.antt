@@ -1,9 +1,8 @@
--- `flat::triangles::row_5` meets its contract.
 use Prim.Native.Nat.{_*_, _/_}
 use mathlib.Core.Path.{_∙_, ap}
 use native.Mathlib.Omega.{arith}
 use lib.ListN.{length}
-use Rattle.flat.specs.FlatGrid.{mostSides}
+use Rattle.flat.specs.work.Work.{mostSides}
 use Rattle.counting.proofs.Tables.{filled-table}
 use Rattle.flat.proofs.Keys.{earlier-table, entry-le, third-first, twice-first}
 use borrow.Author.Needs.{needs}

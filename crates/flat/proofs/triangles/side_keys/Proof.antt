@@ -1,11 +1,10 @@
--- `flat::triangles::side_keys` meets its contract.
 use Prim.Native.Nat.{_*_, _+_, _-_, _/_, _≤_}
 use mathlib.Core.Path.{_∙_, _≡_, ap}
 use native.Mathlib.Omega.{arith}
 use lib.ListN.{length}
 use Rattle.counting.specs.Stored.{filled}
 use Rattle.counting.proofs.Stored.{filled-block, filled-none, length-filled}
-use Rattle.flat.specs.Work.{sideKey}
+use Rattle.flat.specs.work.Work.{sideKey}
 use borrow.Author.Needs.{needs}
 use Rattle.flat.proofs.triangles.side_keys.Statement.{statement}
 use Rattle.flat.proofs.triangles.side_keys.Tie as tie

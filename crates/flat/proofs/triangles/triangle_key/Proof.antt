@@ -1,5 +1,4 @@
--- `flat::triangles::triangle_key` meets its contract.
-use Rattle.flat.specs.Work.{triangleKey}
+use Rattle.flat.specs.work.Work.{triangleKey}
 use borrow.Author.Needs.{needs}
 use Rattle.flat.proofs.triangles.triangle_key.Statement.{statement}
 use Rattle.flat.proofs.triangles.triangle_key.Tie as tie

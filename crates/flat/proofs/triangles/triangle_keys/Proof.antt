@@ -1,11 +1,10 @@
--- `flat::triangles::triangle_keys` meets its contract.
 use Prim.Native.Nat.{_-_, _/_, _≤_}
 use mathlib.Core.Path.{_≡_, ap}
 use native.Mathlib.Omega.{arith}
 use lib.ListN.{length}
 use Rattle.counting.specs.Stored.{filled}
 use Rattle.counting.proofs.Stored.{filled-more, filled-none, length-filled}
-use Rattle.flat.specs.Work.{triangleKey}
+use Rattle.flat.specs.work.Work.{triangleKey}
 use borrow.Author.Needs.{needs}
 use Rattle.flat.proofs.triangles.triangle_keys.Statement.{statement}
 use Rattle.flat.proofs.triangles.triangle_keys.Tie as tie

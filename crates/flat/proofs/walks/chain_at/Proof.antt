@@ -1,4 +1,3 @@
--- `flat::walks::chain_at` meets its contract.
 use mathlib.Core.Path.{_∙_, sym}
 use native.Mathlib.Omega.{arith}
 use Rattle.flat.proofs.Walked.{closed-finds, open-finds, ran-entry, ran-lt, ran-read, ran-short}

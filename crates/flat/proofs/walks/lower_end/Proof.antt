@@ -1,4 +1,3 @@
--- `flat::walks::lower_end` meets its contract.
 use mathlib.Core.Path.{_∙_}
 use Rattle.flat.proofs.Walked.{start-first, start-second}
 use borrow.Author.Needs.{needs}

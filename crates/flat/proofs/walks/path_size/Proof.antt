@@ -1,4 +1,3 @@
--- `flat::walks::path_size` meets its contract.
 use Rattle.flat.proofs.Walked.{size-none, size-some}
 use borrow.Author.Needs.{needs}
 use Rattle.flat.proofs.walks.path_size.Statement.{statement}

@@ -1,7 +1,6 @@
--- `flat::walks::run` meets its contract.
 use Prim.Native.Nat.{_-_}
 use native.Mathlib.Omega.{arith}
-use Rattle.flat.specs.Work.{stepIn}
+use Rattle.flat.specs.work.Work.{stepIn}
 use Rattle.flat.proofs.Walked.{Running, run-end, run-home, run-more, run-read, run-short, running-lt, running-none}
 use borrow.Author.Needs.{needs}
 use Rattle.flat.proofs.walks.run.Statement.{statement}

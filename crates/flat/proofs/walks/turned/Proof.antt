@@ -1,4 +1,3 @@
--- `flat::walks::turned` meets its contract.
 use native.Mathlib.Omega.{arith}
 use Rattle.walk.specs.Darts.{rev}
 use borrow.Author.Needs.{needs}

@@ -1,9 +1,8 @@
--- `flat::words::put_chain` meets its contract.
 use mathlib.Core.Path.{_∙_, ap}
 use native.Mathlib.Omega.{arith}
 use lib.ListN.{length, length-set}
 use lib.Seq.{length-sets}
-use Rattle.flat.specs.Work.{stepIn}
+use Rattle.flat.specs.work.Work.{stepIn}
 use Rattle.flat.proofs.Walked.{chain-none, chain-room, chain-stored, marked-zero}
 use Rattle.flat.proofs.words.put_chain.Statement.{statement}
 use Rattle.flat.proofs.words.put_chain.Tie as tie

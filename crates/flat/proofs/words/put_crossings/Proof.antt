@@ -1,7 +1,6 @@
--- `flat::words::put_crossings` meets its contract.
 use Prim.Native.Nat.{_-_}
 use native.Mathlib.Omega.{arith}
-use Rattle.flat.specs.Work.{stepIn}
+use Rattle.flat.specs.work.Work.{stepIn}
 use Rattle.flat.proofs.Walked.{Listing, Marking, list-few, list-more, list-read, listing-all, listing-long, listing-none, mark-more, mark-place, marking-all, marking-none}
 use borrow.Author.Needs.{needs}
 use Rattle.flat.proofs.words.put_crossings.Statement.{statement}

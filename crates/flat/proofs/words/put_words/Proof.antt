@@ -1,4 +1,3 @@
--- `flat::words::put_words` meets its contract.
 use Prim.Native.Nat.{ℕ, _-_}
 use mathlib.Core.Path.{_∙_, _≡_, sym}
 use native.Mathlib.Omega.{arith}
@@ -6,7 +5,7 @@ use lib.ListN.{length, length-replicate}
 use Rattle.counting.proofs.Tables.{zeros}
 use Rattle.counting.proofs.Stored.{stored-long}
 use Rattle.flat.specs.Chain.{allChainWords}
-use Rattle.flat.specs.Work.{stepIn}
+use Rattle.flat.specs.work.Work.{stepIn}
 use Rattle.flat.proofs.Walked.{Writing, finds-runs, finds-short, swept-fresh, swept-none, writing-all, writing-at, writing-marked, writing-more, writing-none, writing-room}
 use borrow.Author.Needs.{needs}
 use Rattle.flat.proofs.words.put_words.Statement.{statement}

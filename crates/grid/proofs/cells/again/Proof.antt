@@ -1,4 +1,3 @@
--- `grid::cells::again` meets its contract.
 use native.Mathlib.Omega.{arith}
 use Rattle.grid.proofs.Again.{again-across, again-later, again-other}
 use borrow.Author.Needs.{needs}

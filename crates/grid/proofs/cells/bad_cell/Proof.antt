@@ -1,4 +1,3 @@
--- `grid::cells::bad_cell` meets its contract.
 use Prim.Native.Nat.{ℕ, _+_, _<_}
 use mathlib.Core.Path.{sym}
 use native.Mathlib.Omega.{arith}

@@ -1,4 +1,3 @@
--- `grid::cells::first_same` meets its contract.
 use Prim.Native.Nat.{_-_, _+_, _*_, _<_, _≤_}
 use mathlib.Core.Path.{_∙_, _≡_}
 use native.Mathlib.Omega.{arith}
@@ -7,7 +6,7 @@ use borrow.Author.Tests.{le-ltb, lt-ltb}
 use Rattle.counting.proofs.Search.{Seeking, seeking-all, seeking-hit, seeking-more, seeking-none}
 use Rattle.grid.proofs.Meets.{Meets, meets-last, meets-more, meets-none}
 use Rattle.grid.specs.Rows.{repeats}
-use Rattle.grid.specs.Walks.{cellNumber}
+use Rattle.grid.specs.work.Walks.{cellNumber}
 use Rattle.grid.proofs.Packed.{repeats-last}
 use borrow.Author.Needs.{needs}
 use Rattle.grid.proofs.cells.first_same.Statement.{statement}

@@ -7,8 +7,8 @@ use borrow.Author.Tests.{le-ltb, lt-ltb}
 use Rattle.counting.proofs.Search.{Seeking, seeking-all, seeking-hit, seeking-more, seeking-none}
 use Rattle.counting.proofs.Tables.{top-le, zeros}
 use Rattle.grid.proofs.Meets.{Meets, last-key, meets-last, meets-more, meets-none}
-use Rattle.grid.specs.Work.{Mates, thirdAt}
-use Rattle.grid.specs.Walks.{entry}
+use Rattle.grid.specs.work.Work.{Mates, thirdAt}
+use Rattle.grid.specs.work.Walks.{entry}
 use Rattle.grid.proofs.Mates.{mates-alone, mates-two, third-none, third-not, third-there}
 use Rattle.grid.proofs.cells.pair.Statement.{statement}
 use Rattle.grid.proofs.cells.pair.Tie as tie

@@ -1,4 +1,3 @@
--- `grid::cells::row_1` meets its contract.
 use mathlib.Core.Path.{sym}
 use Rattle.grid.proofs.Packed.{length-many, length-none, length-odd}
 use Rattle.grid.proofs.cells.row_1.Statement.{statement}

@@ -1,4 +1,3 @@
--- `grid::cells::row_5` meets its contract.
 use native.Mathlib.Omega.{arith}
 use Rattle.grid.proofs.Faces.{paired-near, third-first}
 use Rattle.grid.proofs.Mates.{mates-none}

@@ -1,4 +1,3 @@
--- `grid::edges::bad_edge` meets its contract.
 use Prim.Native.Nat.{_-_}
 use native.Mathlib.Omega.{arith}
 use borrow.Author.Needs.{needs}

@@ -1,4 +1,3 @@
--- `grid::edges::bad_numbers` meets its contract.
 use borrow.Author.Needs.{needs}
 use Rattle.grid.proofs.Starts.{ends-bad, ends-fine}
 use Rattle.grid.proofs.edges.bad_numbers.Statement.{statement}

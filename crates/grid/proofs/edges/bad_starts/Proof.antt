@@ -1,4 +1,3 @@
--- `grid::edges::bad_starts` meets its contract.
 use Prim.Native.Nat.{_-_, _≤_}
 use mathlib.Core.Path.{_∙_, _≡_, ap, sym}
 use mathlib.Core.Bool.{false}

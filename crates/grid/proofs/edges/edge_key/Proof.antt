@@ -1,6 +1,5 @@
--- `grid::edges::edge_key` meets its contract.
 use borrow.Author.Needs.{needs}
-use Rattle.grid.specs.Work.{edgeKey}
+use Rattle.grid.specs.work.Shared.{edgeKey}
 use Rattle.grid.proofs.edges.edge_key.Statement.{statement}
 use Rattle.grid.proofs.edges.edge_key.Tie as tie
 

@@ -1,4 +1,3 @@
--- `grid::edges::edge_order` meets its contract.
 use Prim.Native.Nat.{_-_}
 use mathlib.Core.Path.{_∙_, sym}
 use native.Mathlib.Omega.{arith}

@@ -1,4 +1,3 @@
--- `grid::edges::end_at` meets its contract.
 use native.Mathlib.Omega.{arith}
 use borrow.Author.Needs.{needs}
 use Rattle.grid.proofs.edges.end_at.Statement.{statement}

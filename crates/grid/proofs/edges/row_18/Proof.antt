@@ -1,4 +1,3 @@
--- `grid::edges::row_18` meets its contract.
 use Prim.Native.Nat.{_-_}
 use native.Mathlib.Omega.{arith}
 use borrow.Author.Needs.{needs}

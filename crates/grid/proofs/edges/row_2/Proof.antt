@@ -1,4 +1,3 @@
--- `grid::edges::row_2` meets its contract.
 use mathlib.Core.Path.{_∙_, sym}
 use borrow.Author.Needs.{needs}
 use Rattle.grid.proofs.Starts.{numbers-bad, numbers-fine, starts-left}

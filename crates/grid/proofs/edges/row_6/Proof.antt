@@ -1,4 +1,3 @@
--- `grid::edges::row_6` meets its contract.
 use Prim.Native.Nat.{_/_}
 use mathlib.Core.Path.{_∙_, _≡_, ap}
 use native.Mathlib.Omega.{arith}

@@ -1,4 +1,3 @@
--- `grid::edges::row_7` meets its contract.
 use Prim.Native.Nat.{ℕ, _-_, _/_}
 use mathlib.Core.Path.{_∙_, ap, sym}
 use native.Mathlib.Omega.{arith}

@@ -1,4 +1,3 @@
--- `grid::edges::row_8` meets its contract.
 use Prim.Native.Nat.{_*_, _+_, _-_}
 use native.Mathlib.Omega.{arith}
 use lib.Dec.{eqb}

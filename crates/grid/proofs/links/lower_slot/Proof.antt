@@ -1,4 +1,3 @@
--- `grid::links::lower_slot` meets its contract.
 use native.Mathlib.Omega.{arith}
 use borrow.Author.Tests.{eq-eqb, le-ltb, lt-ltb, ne-eqb}
 use Rattle.slots.proofs.Slots.{second-is}

@@ -1,4 +1,3 @@
--- `grid::links::other_side` meets its contract.
 use native.Mathlib.Omega.{arith}
 use borrow.Author.Needs.{needs}
 use Rattle.slots.proofs.Slots.{third-of}

@@ -1,4 +1,3 @@
--- `grid::links::rank_of` meets its contract.
 use native.Mathlib.Omega.{arith}
 use borrow.Author.Needs.{needs}
 use Rattle.slots.proofs.Slots.{rank-high, rank-low}

@@ -1,4 +1,3 @@
--- `grid::links::split_at` meets its contract.
 use mathlib.Core.Path.{_∙_, refl, sym}
 use native.Mathlib.Omega.{arith}
 use Rattle.grid.proofs.Marks.{both-same, first-same, lower-on, may-spread, may-spread-first, met-all, met-first-le, met-le, other-apart, split-counted, spread-both, spread-whole, top-within}

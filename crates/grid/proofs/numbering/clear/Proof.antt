@@ -1,4 +1,3 @@
--- `grid::numbering::clear` meets its contract.
 use Prim.Native.Nat.{_-_}
 use native.Mathlib.Omega.{arith}
 use lib.ListN.{length}

@@ -3,7 +3,7 @@ use mathlib.Core.Path.{_≡_, refl, _∙_}
 use native.Mathlib.Omega.{arith}
 use lib.ListN.{length, length-set}
 use borrow.Author.Needs.{needs}
-use Rattle.grid.specs.Numbered.{Does}
+use Rattle.grid.specs.work.Numbered.{Does}
 use Rattle.grid.proofs.Turns.{does-none, does-number}
 use Rattle.grid.proofs.Passes.{label-end, label-more, label-one}
 use Rattle.grid.proofs.numbering.label.Statement.{statement}

@@ -3,7 +3,7 @@ use mathlib.Core.Path.{_≡_, refl, _∙_}
 use native.Mathlib.Omega.{arith}
 use lib.ListN.{length, length-set}
 use borrow.Author.Needs.{needs}
-use Rattle.grid.specs.Walks.{labelAt}
+use Rattle.grid.specs.work.Walks.{labelAt}
 use Rattle.grid.proofs.Passes.{Linking, linking-end, linking-more, linking-none}
 use Rattle.grid.proofs.numbering.link.Statement.{statement}
 use Rattle.grid.proofs.numbering.link.Tie as tie

@@ -1,4 +1,3 @@
--- `grid::numbering::number_cells` meets its contract.
 use mathlib.Core.Path.{_∙_}
 use native.Mathlib.Omega.{arith}
 use Rattle.grid.proofs.Tellings.{cells-passable, cells-tell}

@@ -1,4 +1,3 @@
--- `grid::numbering::number_faces` meets its contract.
 use native.Mathlib.Omega.{arith}
 use Rattle.grid.proofs.Tellings.{cells-labelling, cells-slotted, faces-told, label-chains, low-chains, node-chains, slots-linkable}
 use borrow.Author.Needs.{needs}

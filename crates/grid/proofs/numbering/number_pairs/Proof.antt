@@ -1,4 +1,3 @@
--- `grid::numbering::number_pairs` meets its contract.
 use mathlib.Core.Path.{refl}
 use native.Mathlib.Omega.{arith}
 use Rattle.counting.proofs.Tables.{filled-table}

@@ -1,4 +1,3 @@
--- `grid::numbering::number_slots` meets its contract.
 use mathlib.Core.Path.{_∙_}
 use native.Mathlib.Omega.{arith}
 use Rattle.grid.proofs.Tellings.{faces-passable, faces-tell, slots-pairable, slotted-faces}

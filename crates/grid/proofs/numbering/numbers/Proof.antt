@@ -2,8 +2,8 @@ use Prim.Native.Nat.{_-_, _≤_}
 use mathlib.Core.Path.{_≡_}
 use native.Mathlib.Omega.{arith}
 use borrow.Author.Needs.{needs}
-use Rattle.grid.specs.Numbered.{Does}
-use Rattle.grid.specs.Walks.{InSlots}
+use Rattle.grid.specs.work.Numbered.{Does}
+use Rattle.grid.specs.work.Walks.{InSlots}
 use Rattle.grid.proofs.Turns.{does-number}
 use Rattle.grid.proofs.Places.{slot-in, slots-more, slots-none, slots-ready}
 use Rattle.grid.proofs.numbering.numbers.Statement.{statement}

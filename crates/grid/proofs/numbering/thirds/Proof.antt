@@ -1,11 +1,10 @@
--- `grid::numbering::thirds` meets its contract.
 use Prim.Native.Nat.{_-_, _≤_, _*_}
 use mathlib.Core.Path.{_≡_, ap}
 use native.Mathlib.Omega.{arith}
 use lib.ListN.{length, length-set}
 use Rattle.counting.specs.Stored.{filled}
 use Rattle.counting.proofs.Stored.{filled-none, length-filled}
-use Rattle.grid.specs.Walks.{corner}
+use Rattle.grid.specs.work.Walks.{corner}
 use Rattle.grid.proofs.Tellings.{thirds-more}
 use borrow.Author.Needs.{needs}
 use Rattle.grid.proofs.numbering.thirds.Statement.{statement}

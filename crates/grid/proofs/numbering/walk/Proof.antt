@@ -1,4 +1,3 @@
--- `grid::numbering::walk` meets its contract.
 use native.Mathlib.Omega.{arith}
 use Rattle.grid.proofs.Places.{Walking, walking-empty, walking-end, walking-less, walking-lt, walking-more, walking-ready, walking-start}
 use borrow.Author.Needs.{needs}

@@ -1,4 +1,3 @@
--- `grid::runs::fill_run` meets its contract.
 use Prim.Native.Nat.{_-_}
 use native.Mathlib.Omega.{arith}
 use Rattle.grid.proofs.Laying.{Filling, filling-end, filling-more, filling-start, filling-stop}

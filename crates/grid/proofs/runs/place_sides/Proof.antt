@@ -1,4 +1,3 @@
--- `grid::runs::place_sides` meets its contract.
 use Prim.Native.Nat.{_-_}
 use mathlib.Core.Path.{_∙_, refl}
 use native.Mathlib.Omega.{arith}

@@ -1,4 +1,3 @@
--- `grid::runs::put_at` meets its contract.
 use mathlib.Core.Path.{sym}
 use Rattle.grid.proofs.Laying.{set-beyond}
 use borrow.Author.Needs.{needs}

@@ -1,9 +1,8 @@
--- `grid::runs::put_sides` meets its contract.
 use Prim.Native.Nat.{_-_, _≤_}
 use mathlib.Core.Path.{_∙_, _≡_, ap, refl}
 use native.Mathlib.Omega.{arith}
 use lib.ListN.{length}
-use Rattle.grid.specs.Runs.{InCell, Lays}
+use Rattle.grid.specs.work.Runs.{InCell, Lays}
 use Rattle.grid.proofs.Laying.{lays-none, lays-one, putting-end, putting-more}
 use borrow.Author.Needs.{needs}
 use Rattle.grid.proofs.runs.put_sides.Statement.{statement}

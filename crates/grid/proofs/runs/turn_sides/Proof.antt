@@ -1,4 +1,3 @@
--- `grid::runs::turn_sides` meets its contract.
 use native.Mathlib.Omega.{arith}
 use mathlib.Core.Path.{_∙_, refl}
 use Rattle.grid.proofs.Laying.{turn-lays, turn-walkable}

@@ -1,4 +1,3 @@
--- `grid::runs::walk_sides` meets its contract.
 use native.Mathlib.Omega.{arith}
 use Rattle.grid.proofs.Laying.{WalkingSides, along-end, along-less, along-lt, along-more, along-puttable, along-start}
 use borrow.Author.Needs.{needs}

@@ -1,9 +1,8 @@
--- `grid::shared::earlier_places` meets its contract.
 use borrow.Author.Needs.{needs}
-use Rattle.counting.specs.Tables.{sameKey}
-use Rattle.trees.specs.Trees.{hasKey}
-use Rattle.trees.specs.Keys.{earlierIn, placeRoom}
-use Rattle.grid.specs.Shared.{earlierAt, keyRoom}
+use Rattle.counting.specs.work.Tables.{sameKey}
+use Rattle.trees.specs.work.Trees.{hasKey}
+use Rattle.trees.specs.work.Keys.{earlierIn, placeRoom}
+use Rattle.grid.specs.work.Shared.{earlierAt, keyRoom}
 use Rattle.grid.proofs.shared.earlier_places.Statement.{statement}
 use Rattle.grid.proofs.shared.earlier_places.Tie as tie
 

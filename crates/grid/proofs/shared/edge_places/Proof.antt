@@ -1,9 +1,8 @@
--- `grid::shared::edge_places` meets its contract.
 use borrow.Author.Needs.{needs}
-use Rattle.counting.specs.Tables.{sameKey}
-use Rattle.trees.specs.Trees.{hasKey}
-use Rattle.trees.specs.Keys.{pairHas, pairLacks, pairedAt, placeRoom}
-use Rattle.grid.specs.Shared.{edgeKey, keyRoom, keyless, placedAt, withKey}
+use Rattle.counting.specs.work.Tables.{sameKey}
+use Rattle.trees.specs.work.Trees.{hasKey}
+use Rattle.trees.specs.work.Keys.{pairHas, pairLacks, pairedAt, placeRoom}
+use Rattle.grid.specs.work.Shared.{edgeKey, keyRoom, keyless, placedAt, withKey}
 use Rattle.grid.proofs.shared.edge_places.Statement.{statement}
 use Rattle.grid.proofs.shared.edge_places.Tie as tie
 

@@ -1,4 +1,3 @@
--- `grid::tables::lower` meets its contract.
 use native.Mathlib.Omega.{arith}
 use borrow.Author.Needs.{needs}
 use Rattle.grid.proofs.Filled.{lower-none, lower-other, lower-own}

@@ -1,4 +1,3 @@
--- `grid::tables::write_names` meets its contract.
 use Prim.Native.Nat.{ℕ, _-_, _≤_}
 use mathlib.Core.Path.{_∙_, _≡_, ap}
 use native.Mathlib.Omega.{arith}
@@ -6,7 +5,7 @@ use lib.ListN.{getD, length}
 use borrow.Author.Needs.{needs}
 use Rattle.counting.specs.Stored.{filled}
 use Rattle.counting.proofs.Stored.{filled-more, filled-none, length-filled}
-use Rattle.grid.specs.Work.{lowerPlace}
+use Rattle.grid.specs.work.Work.{lowerPlace}
 use Rattle.grid.proofs.tables.write_names.Statement.{statement}
 use Rattle.grid.proofs.tables.write_names.Tie as tie
 

@@ -1,12 +1,11 @@
--- `layers::tables::add_block` meets its contract.
 use Prim.Native.Nat.{ℕ, _+_, _*_, _-_, _≤_}
 use mathlib.Core.Path.{_≡_, ap, ap₂, _∙_}
 use native.Mathlib.Omega.{arith}
 use lib.ListN.{length}
 use lib.Seq.{sets, length-sets}
 use borrow.Author.Needs.{needs}
-use Rattle.counting.specs.Range.{values}
-use Rattle.layers.specs.Work.{markedStart}
+use Rattle.counting.specs.Lists.{values}
+use Rattle.layers.specs.work.Work.{markedStart}
 use Rattle.layers.proofs.Steps.{sum-more, block-none, block-more}
 use Rattle.layers.proofs.tables.add_block.Statement.{statement}
 use Rattle.layers.proofs.tables.add_block.Tie as tie

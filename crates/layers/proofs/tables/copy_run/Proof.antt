@@ -1,4 +1,3 @@
--- `layers::tables::copy_run` meets its contract.
 use native.Mathlib.Omega.{arith}
 use Rattle.layers.proofs.Steps.{copied-run}
 use borrow.Author.Needs.{needs}

@@ -1,4 +1,3 @@
--- `layers::tables::counted` meets its contract.
 use native.Mathlib.Omega.{arith}
 use Rattle.layers.proofs.Steps.{counted-in, counted-out}
 use borrow.Author.Needs.{needs}

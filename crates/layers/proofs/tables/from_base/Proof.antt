@@ -1,4 +1,3 @@
--- `layers::tables::from_base` meets its contract.
 use native.Mathlib.Omega.{arith}
 use Rattle.layers.proofs.Steps.{base-in, base-out}
 use Rattle.layers.proofs.tables.from_base.Statement.{statement}

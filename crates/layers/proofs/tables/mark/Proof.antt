@@ -1,10 +1,9 @@
--- `layers::tables::mark` meets its contract.
 use Prim.Native.Nat.{_-_, _≤_}
 use mathlib.Core.Path.{_≡_, _∙_, subst}
 use native.Mathlib.Omega.{arith}
 use lib.ListN.{length-set}
 use borrow.Author.Needs.{needs}
-use Rattle.layers.specs.Work.{EdgesMarked}
+use Rattle.layers.specs.work.Work.{EdgesMarked}
 use Rattle.layers.proofs.Steps.{marked-none, marked-more}
 use Rattle.layers.proofs.tables.mark.Statement.{statement}
 use Rattle.layers.proofs.tables.mark.Tie as tie

@@ -1,4 +1,3 @@
--- `layers::tables::start_run` meets its contract.
 use native.Mathlib.Omega.{arith}
 use Rattle.layers.proofs.Steps.{started-run}
 use borrow.Author.Needs.{needs}

@@ -1,4 +1,3 @@
--- `layers::tables::write_names` meets its contract.
 use Prim.Native.Nat.{ℕ, _+_, _*_, _-_, _≤_}
 use lib.Dec.{leb}
 use Rattle.counting.specs.Pick.{pick}
@@ -7,7 +6,7 @@ use native.Mathlib.Omega.{arith}
 use lib.ListN.{length}
 use Rattle.counting.specs.Stored.{filled}
 use Rattle.counting.proofs.Stored.{filled-more, filled-none, length-filled}
-use Rattle.layers.specs.Work.{nameFrom}
+use Rattle.layers.specs.work.Work.{nameFrom}
 use borrow.Author.Needs.{needs}
 use Rattle.layers.proofs.Steps.{base-small}
 use Rattle.layers.proofs.tables.write_names.Statement.{statement}

@@ -1,11 +1,10 @@
--- `layers::tables::write_sides` meets its contract.
 use Prim.Native.Nat.{ℕ, _-_, _≤_}
 use mathlib.Core.Path.{_∙_, _≡_, ap, refl}
 use native.Mathlib.Omega.{arith}
 use lib.ListN.{length}
 use Rattle.counting.specs.Stored.{filled}
 use Rattle.counting.proofs.Stored.{filled-more, filled-none, length-filled}
-use Rattle.layers.specs.Work.{sideFrom}
+use Rattle.layers.specs.work.Work.{sideFrom}
 use borrow.Author.Needs.{needs}
 use Rattle.layers.proofs.tables.write_sides.Statement.{statement}
 use Rattle.layers.proofs.tables.write_sides.Tie as tie

@@ -1,10 +1,9 @@
--- `layers::tables::write_starts` meets its contract.
 use Prim.Native.Nat.{_*_, _-_, _%_, _≤_, _<_}
 use mathlib.Core.Path.{_≡_, refl, _∙_, subst}
 use native.Mathlib.Omega.{arith}
 use lib.ListN.{length}
 use borrow.Author.Needs.{needs}
-use Rattle.layers.specs.Work.{markedStart, StartsSummed}
+use Rattle.layers.specs.work.Work.{markedStart, StartsSummed}
 use Rattle.layers.proofs.Steps.{sum-none, sum-skip, starts-none, starts-skip, starts-more, block-unmarked}
 use Rattle.layers.proofs.tables.write_starts.Statement.{statement}
 use Rattle.layers.proofs.tables.write_starts.Tie as tie

@@ -1,4 +1,3 @@
--- `layers::words::cell_over` meets its contract.
 use native.Mathlib.Omega.{arith}
 use borrow.Author.Needs.{needs}
 use Rattle.layers.proofs.words.cell_over.Statement.{statement}

@@ -1,10 +1,9 @@
--- `layers::words::face_over` meets its contract.
 use Prim.Native.Nat.{_+_, _*_, _%_}
 use mathlib.Core.Path.{_∙_, ap}
 use native.Mathlib.Omega.{arith}
 use lib.ListN.{getD}
 use borrow.Author.Tests.{lt-ltb, le-ltb}
-use Rattle.grid.specs.Grid.{mostSlots}
+use Rattle.slots.specs.Limits.{mostSlots}
 use Rattle.split.specs.Limits.{firstInnerFace}
 use borrow.Author.Needs.{needs}
 use Rattle.layers.proofs.words.face_over.Statement.{statement}

@@ -1,10 +1,9 @@
--- `layers::words::number_edge` meets its contract.
 use Prim.Native.Nat.{ℕ, _+_, _-_, _≤_}
 use mathlib.Core.Path.{_≡_, refl, ap, _∙_}
 use native.Mathlib.Omega.{arith}
 use lib.ListN.{length}
 use lib.Seq.{sets, length-sets}
-use Rattle.counting.specs.Range.{values}
+use Rattle.counting.specs.Lists.{values}
 use Rattle.counting.proofs.Stored.{sets-more}
 use Rattle.layers.proofs.Namings.{sets-none}
 use borrow.Author.Needs.{needs}

@@ -1,11 +1,10 @@
--- `layers::words::number_sides` meets its contract.
 use Prim.Native.Nat.{ℕ, _+_, _*_, _-_, _≤_, _<_}
 use mathlib.Core.Path.{_≡_, refl, sym, ap, ap₂, _∙_}
 use native.Mathlib.Omega.{arith}
 use lib.ListN.{length, getD}
 use lib.Seq.{sets, length-sets}
-use Rattle.counting.specs.Range.{values}
-use Rattle.layers.specs.Work.{sideFrom, ownAt, sideCount, mostNumbers, Leading, CrossingsNumbered}
+use Rattle.counting.specs.Lists.{values}
+use Rattle.layers.specs.work.Work.{sideFrom, ownAt, sideCount, mostNumbers, Leading, CrossingsNumbered}
 use Rattle.layers.proofs.Namings.{numbered-none, numbered-more}
 use borrow.Author.Needs.{needs}
 use Rattle.layers.proofs.words.number_sides.Statement.{statement}

@@ -1,12 +1,11 @@
--- `layers::words::put_over` meets its contract.
 use Prim.Native.Nat.{ℕ, _-_, _≤_}
 use mathlib.Core.Path.{_≡_, ap, _∙_}
 use native.Mathlib.Omega.{arith}
 use lib.Seq.{sets}
-use Rattle.counting.specs.Range.{over}
-use Rattle.counting.specs.Stored.{Stored}
+use Rattle.counting.specs.Lists.{over}
+use Rattle.counting.specs.work.Stored.{Stored}
 use Rattle.counting.proofs.Stored.{stored-none, stored-long}
-use Rattle.layers.specs.Work.{trianglesOver, tableOver}
+use Rattle.layers.specs.work.Work.{trianglesOver, tableOver}
 use Rattle.layers.proofs.Namings.{at-is, triangle-more}
 use borrow.Author.Needs.{needs}
 use Rattle.layers.proofs.words.put_over.Statement.{statement}

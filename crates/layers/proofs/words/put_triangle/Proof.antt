@@ -1,13 +1,12 @@
--- `layers::words::put_triangle` meets its contract.
 use Prim.Native.Nat.{ℕ, _+_, _-_, _≤_}
 use mathlib.Core.Path.{_≡_, refl, ap, ap₂, _∙_}
 use native.Mathlib.Omega.{arith}
 use lib.ListN.{length}
 use lib.Seq.{sets, length-sets}
-use Rattle.counting.specs.Range.{values}
+use Rattle.counting.specs.Lists.{values}
 use Rattle.counting.proofs.Stored.{sets-more}
 use Rattle.cell.specs.Words.{wordCount}
-use Rattle.layers.specs.Work.{tableOver, wordBefore, wordOver}
+use Rattle.layers.specs.work.Work.{tableOver, wordBefore, wordOver}
 use Rattle.layers.proofs.Namings.{put, word-there, before-next, sets-none}
 use borrow.Author.Needs.{needs}
 use Rattle.layers.proofs.words.put_triangle.Statement.{statement}

@@ -1,7 +1,6 @@
--- `layers::words::word_over` meets its contract.
 use mathlib.Core.Path.{_∙_}
 use native.Mathlib.Omega.{arith}
-use Rattle.layers.specs.Renaming.{keepInner}
+use Rattle.layers.specs.Runs.{keepInner}
 use Rattle.layers.proofs.Namings.{word-cell, word-crossing, word-face, word-inner, word-lower}
 use borrow.Author.Needs.{needs}
 use Rattle.layers.proofs.words.word_over.Statement.{statement}

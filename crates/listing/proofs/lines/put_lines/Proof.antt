@@ -3,10 +3,11 @@ use native.Mathlib.Omega.{arith}
 use Prim.Native.Nat.{_+_, _-_, _*_, _≤_}
 use mathlib.Core.Path.{_≡_, refl, ap}
 use lib.ListN.{length}
-use Rattle.counting.specs.Range.{over}
-use Rattle.counting.specs.Stored.{Stored}
+use Rattle.counting.specs.Lists.{over}
+use Rattle.counting.specs.work.Stored.{Stored}
 use Rattle.counting.proofs.Stored.{stored-none, stored-as, stored-more}
-use Rattle.listing.specs.Text.{lineRoom, line}
+use Rattle.listing.specs.work.Text.{lineRoom}
+use Rattle.listing.specs.Text.{line}
 use Rattle.listing.proofs.lines.put_lines.Statement.{statement}
 use Rattle.listing.proofs.lines.put_lines.Tie as tie
 

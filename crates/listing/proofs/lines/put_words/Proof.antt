@@ -3,11 +3,12 @@ use native.Mathlib.Omega.{arith}
 use Prim.Native.Nat.{_+_, _-_, _*_, _≤_}
 use mathlib.Core.Path.{_≡_, refl, ap}
 use lib.ListN.{length}
-use Rattle.counting.specs.Range.{over}
-use Rattle.counting.specs.Stored.{Stored}
+use Rattle.counting.specs.Lists.{over}
+use Rattle.counting.specs.work.Stored.{Stored}
 use Rattle.counting.proofs.Stored.{stored-none, stored-as, stored-more}
 use Rattle.cell.specs.Words.{wordCount}
-use Rattle.listing.specs.Text.{wordRoom, wordAt}
+use Rattle.listing.specs.work.Text.{wordRoom}
+use Rattle.listing.specs.Text.{wordAt}
 use Rattle.listing.proofs.lines.put_words.Statement.{statement}
 use Rattle.listing.proofs.lines.put_words.Tie as tie
 

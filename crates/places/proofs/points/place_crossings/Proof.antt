@@ -4,8 +4,8 @@ use mathlib.Core.Path.{_≡_, sym, ap, _∙_}
 use lib.ListN.{length}
 use lib.Seq.{sets}
 use denote.Ref.{now}
-use Rattle.counting.specs.Range.{values}
-use Rattle.counting.specs.Stored.{Stored}
+use Rattle.counting.specs.Lists.{values}
+use Rattle.counting.specs.work.Stored.{Stored}
 use Rattle.counting.proofs.Stored.{stored-long}
 use Rattle.place.specs.Place.{coordinates, placeAt, allNumbers}
 use Rattle.grid.specs.Grid.{start}

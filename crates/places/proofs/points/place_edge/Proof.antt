@@ -2,10 +2,10 @@ use native.Mathlib.Omega.{arith}
 use Prim.Native.Nat.{_+_, _-_, _*_, _≤_}
 use mathlib.Core.Path.{_≡_}
 use denote.Ref.{now}
-use Rattle.counting.specs.Stored.{Stored}
+use Rattle.counting.specs.work.Stored.{Stored}
 use Rattle.counting.proofs.Stored.{stored-long}
 use Rattle.place.specs.Place.{coordinates, allNumbers}
-use Rattle.places.specs.Work.{onEdge}
+use Rattle.places.specs.work.Work.{onEdge}
 use Rattle.places.proofs.Crossings.{edge-none, edge-more}
 use Rattle.places.proofs.points.place_edge.Statement.{statement}
 use Rattle.places.proofs.points.place_edge.Tie as tie

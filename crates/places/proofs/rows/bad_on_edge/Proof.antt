@@ -1,7 +1,8 @@
 use Prim.Native.Nat.{_+_, _-_, _≤_}
 use mathlib.Core.Path.{_∙_, _≡_, sym}
 use native.Mathlib.Omega.{arith}
-use Rattle.counting.specs.Search.{first, seek}
+use Rattle.counting.specs.Search.{first}
+use Rattle.counting.specs.Lists.{seek}
 use Rattle.counting.proofs.Search.{seek-end, seek-hit, seek-miss, seek-start}
 use Rattle.places.specs.Rows.{badFractionAt}
 use borrow.Author.Needs.{needs}

@@ -5,7 +5,7 @@ use lib.ListN.{length}
 use denote.Ref.{now}
 use Rattle.counting.specs.Search.{last}
 use Rattle.counting.proofs.Search.{last-none}
-use Rattle.places.specs.Work.{isMarked}
+use Rattle.places.specs.work.Work.{isMarked}
 use Rattle.places.proofs.Marks.{end-here, end-below}
 use borrow.Author.Needs.{needs}
 use Rattle.places.proofs.rows.marked_end.Statement.{statement}

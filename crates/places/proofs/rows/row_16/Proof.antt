@@ -1,10 +1,11 @@
 use Prim.Native.Nat.{_-_, _*_, _≤_}
 use mathlib.Core.Path.{_∙_, _≡_, sym}
 use native.Mathlib.Omega.{arith}
-use Rattle.counting.specs.Search.{first, seek}
+use Rattle.counting.specs.Search.{first}
+use Rattle.counting.specs.Lists.{seek}
 use Rattle.counting.proofs.Search.{seek-end, seek-hit, seek-miss, seek-start}
 use Rattle.place.specs.Place.{coordinates}
-use Rattle.places.specs.Work.{badMarked}
+use Rattle.places.specs.work.Work.{badMarked}
 use borrow.Author.Needs.{needs}
 use Rattle.places.proofs.rows.row_16.Statement.{statement}
 use Rattle.places.proofs.rows.row_16.Tie as tie

@@ -5,7 +5,7 @@ use native.Mathlib.Omega.{arith}
 use lib.ListN.{length}
 use borrow.Author.Needs.{needs}
 use Rattle.grid.proofs.Nodes.{Noted, noted-none, noted-more, noted-all}
-use Rattle.shading.specs.Work.{noLink}
+use Rattle.shading.specs.work.Work.{noLink}
 use Rattle.shading.proofs.links.make_roots.Statement.{statement}
 use Rattle.shading.proofs.links.make_roots.Tie as tie
 

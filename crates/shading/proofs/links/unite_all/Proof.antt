@@ -6,7 +6,7 @@ use lib.ListN.{length}
 use borrow.Author.Tests.{not-true, not-false}
 use borrow.Author.Needs.{needs}
 use Rattle.counting.proofs.Bools.{clash}
-use Rattle.shading.specs.Work.{HasLink, TiedAll}
+use Rattle.shading.specs.work.Work.{HasLink, TiedAll}
 use Rattle.shading.proofs.Ties.{tied-none, tied-more, tied-not}
 use Rattle.shading.proofs.links.unite_all.Statement.{statement}
 use Rattle.shading.proofs.links.unite_all.Tie as tie

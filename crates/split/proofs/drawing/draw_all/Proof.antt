@@ -1,11 +1,10 @@
--- `split::drawing::draw_all` meets its contract.
 use mathlib.Core.Logic.{⊎-elim}
 use native.Mathlib.Omega.{arith}
 use denote.Ref.{now}
 use borrow.Author.Needs.{needs}
 use Rattle.cell.proofs.Fits.{no-room}
 use Rattle.booking.proofs.Totals.{all-few}
-use Rattle.split.specs.Table.{tableDrawn}
+use Rattle.split.specs.work.Table.{tableDrawn}
 use Rattle.split.proofs.Tables.{drawn-long}
 use Rattle.split.proofs.drawing.draw_all.Statement.{statement}
 use Rattle.split.proofs.drawing.draw_all.Tie as tie

@@ -1,8 +1,7 @@
--- `split::drawing::next_stretch` meets its contract.
 use native.Mathlib.Omega.{arith}
 use denote.Ref.{now}
 use Rattle.counting.proofs.Range.{total-has}
-use Rattle.split.specs.Gains.{splitsAt}
+use Rattle.split.specs.work.Gains.{splitsAt}
 use Rattle.split.proofs.drawing.next_stretch.Statement.{statement}
 use Rattle.split.proofs.drawing.next_stretch.Tie as tie
 

@@ -1,4 +1,3 @@
--- `split::drawing::put_at` meets its contract.
 use mathlib.Core.Path.{refl, ap}
 use denote.Ref.{now}
 use borrow.Author.Needs.{needs}

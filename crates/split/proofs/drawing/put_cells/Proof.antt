@@ -1,13 +1,12 @@
--- `split::drawing::put_cells` meets its contract.
 use Prim.Native.Nat.{_-_, _≤_}
 use mathlib.Core.Path.{sym, ap, _∙_}
 use native.Mathlib.Omega.{arith}
 use denote.Ref.{now}
-use Rattle.counting.specs.Range.{total, over}
-use Rattle.counting.specs.Stored.{Stored}
+use Rattle.counting.specs.Lists.{total, over}
+use Rattle.counting.specs.work.Stored.{Stored}
 use Rattle.counting.proofs.Stored.{stored-none, stored-long, stored-more}
 use Rattle.cell.proofs.Storing.{wordsOf}
-use Rattle.split.specs.Gains.{splitsAt}
+use Rattle.split.specs.work.Gains.{splitsAt}
 use Rattle.split.proofs.Tables.{drawnAt, next-room, stretch-room, stretch-written, all-written}
 use Rattle.split.proofs.drawing.put_cells.Statement.{statement}
 use Rattle.split.proofs.drawing.put_cells.Tie as tie

@@ -1,8 +1,7 @@
--- `split::drawing::put_stretch` meets its contract.
 use Prim.Native.Nat.{_-_}
 use denote.Ref.{now}
 use borrow.Author.Needs.{needs}
-use Rattle.cell.specs.Table.{tableCell}
+use Rattle.cell.specs.claims.Table.{tableCell}
 use Rattle.cell.proofs.Fits.{all-put}
 use Rattle.split.proofs.drawing.put_stretch.Statement.{statement}
 use Rattle.split.proofs.drawing.put_stretch.Tie as tie

@@ -1,9 +1,8 @@
--- `split::drawing::stretch_from` meets its contract.
 use Prim.Native.Nat.{ℕ, _-_, _≤_, _<_}
 use mathlib.Core.Path.{_≡_}
 use native.Mathlib.Omega.{arith}
 use denote.Ref.{now}
-use Rattle.split.specs.Gains.{splitsAt}
+use Rattle.split.specs.work.Gains.{splitsAt}
 use Rattle.split.proofs.Few.{gain-at}
 use Rattle.split.proofs.Tables.{none-more}
 use Rattle.split.proofs.drawing.stretch_from.Statement.{statement}

@@ -1,16 +1,15 @@
--- `split::drawing::sums_of` meets its contract.
 use Prim.Native.Nat.{_-_, _≤_}
 use native.Mathlib.Omega.{arith}
 use denote.Ref.{now}
 use borrow.Author.Needs.{needs}
-use Rattle.counting.specs.Stored.{Summed}
+use Rattle.counting.specs.work.Stored.{Summed}
 use Rattle.counting.proofs.Stored.{summed-none, summed-more, summed-all}
 use Rattle.slots.specs.Limits.{mostCount}
-use Rattle.cell.specs.Limits.{mostInCell}
-use Rattle.cell.specs.Table.{tableCrossings}
+use Rattle.cell.specs.work.Limits.{mostInCell}
+use Rattle.cell.specs.work.Table.{tableCrossings}
 use Rattle.cell.proofs.Using.{table-most}
-use Rattle.split.specs.Table.{mostMore}
-use Rattle.split.specs.Gains.{splitsAt, moreAt}
+use Rattle.split.specs.work.Table.{mostMore}
+use Rattle.split.specs.work.Gains.{splitsAt, moreAt}
 use Rattle.split.proofs.Few.{at-few, at-more, gain-at, crossings-at}
 use Rattle.split.proofs.drawing.sums_of.Statement.{statement}
 use Rattle.split.proofs.drawing.sums_of.Tie as tie

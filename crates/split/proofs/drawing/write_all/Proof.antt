@@ -1,11 +1,10 @@
--- `split::drawing::write_all` meets its contract.
 use mathlib.Core.Path.{_∙_}
 use native.Mathlib.Omega.{arith}
 use denote.Ref.{now}
 use borrow.Author.Needs.{needs}
 use Rattle.cell.proofs.Storing.{length-all}
 use Rattle.cell.proofs.Fits.{has-room}
-use Rattle.split.specs.Table.{tableDrawn}
+use Rattle.split.specs.work.Table.{tableDrawn}
 use Rattle.split.proofs.drawing.write_all.Statement.{statement}
 use Rattle.split.proofs.drawing.write_all.Tie as tie
 

@@ -1,6 +1,5 @@
--- `split::numbers::label_of` meets its contract.
 use borrow.Author.Tests.{eq-eqb, ne-eqb}
-use Rattle.split.specs.Working.{labelBy}
+use Rattle.split.specs.work.Working.{labelBy}
 use Rattle.split.proofs.numbers.label_of.Statement.{statement}
 use Rattle.split.proofs.numbers.label_of.Tie as tie
 

@@ -1,4 +1,3 @@
--- `split::numbers::median_of` meets its contract.
 use Rattle.booking.specs.Booking.{median}
 use borrow.Author.Needs.{needs}
 use Rattle.split.proofs.numbers.median_of.Statement.{statement}

@@ -1,4 +1,3 @@
--- `split::numbers::own_of` meets its contract.
 use Prim.Native.Nat.{max}
 use mathlib.Core.Path.{ap, _∙_}
 use Rattle.split.proofs.Spirals.{own-listed}

@@ -1,4 +1,3 @@
--- `split::numbers::spiral_of` meets its contract.
 use Rattle.split.proofs.Coded.{level-listed, numbers-are}
 use borrow.Author.Needs.{needs}
 use Rattle.split.proofs.numbers.spiral_of.Statement.{statement}

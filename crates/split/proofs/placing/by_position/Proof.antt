@@ -1,6 +1,5 @@
--- `split::placing::by_position` meets its contract.
 use mathlib.Core.Path.{refl}
-use Rattle.split.specs.Spots.{positioned}
+use Rattle.split.specs.work.Spots.{positioned}
 use Rattle.split.proofs.placing.by_position.Statement.{statement}
 use Rattle.split.proofs.placing.by_position.Tie as tie
 

@@ -1,4 +1,3 @@
--- `split::placing::labelled_at` meets its contract.
 use mathlib.Core.Path.{ap}
 use borrow.Author.Needs.{needs}
 use Rattle.split.specs.Standing.{cornerIn}

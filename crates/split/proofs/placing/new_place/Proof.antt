@@ -1,4 +1,3 @@
--- `split::placing::new_place` meets its contract.
 use mathlib.Core.Path.{ap, ap₂, _∙_}
 use borrow.Author.Needs.{needs}
 use lib.Ieee.{ofBits, ofInt}

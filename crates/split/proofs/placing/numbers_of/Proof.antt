@@ -1,4 +1,3 @@
--- `split::placing::numbers_of` meets its contract.
 use native.Mathlib.Omega.{arith}
 use borrow.Author.Needs.{needs}
 use Rattle.split.proofs.Arms.{numbers-four}

@@ -1,10 +1,10 @@
--- `split::placing::put_arm` meets its contract.
 use Prim.Native.Nat.{_+_, _-_, _*_, _≤_}
 use mathlib.Core.Path.{_≡_, ap, _∙_}
 use native.Mathlib.Omega.{arith}
 use denote.Ref.{now}
-use Rattle.counting.specs.Range.{values}
-use Rattle.counting.specs.Stored.{Stored, storedIn}
+use Rattle.counting.specs.Lists.{values}
+use Rattle.counting.specs.work.Stored.{Stored}
+use Rattle.counting.specs.Stored.{storedIn}
 use Rattle.counting.proofs.Stored.{stored-as, stored-long}
 use Rattle.place.specs.Place.{partOf, between, coordinates, numbers, allNumbers}
 use Rattle.split.proofs.Arms.{points-none, points-more}

@@ -1,4 +1,3 @@
--- `split::placing::put_fans` meets its contract.
 use native.Mathlib.Omega.{arith}
 use denote.Ref.{now}
 use borrow.Author.Needs.{needs}

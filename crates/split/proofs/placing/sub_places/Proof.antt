@@ -1,4 +1,3 @@
--- `split::placing::sub_places` meets its contract.
 use mathlib.Core.Path.{ap, _∙_}
 use borrow.Author.Needs.{needs}
 use Rattle.slots.specs.Slots.{position}

@@ -1,6 +1,5 @@
--- `split::spots::corners_of` meets its contract.
 use borrow.Author.Needs.{needs}
-use Rattle.counting.specs.Range.{over}
+use Rattle.counting.specs.Lists.{over}
 use Rattle.split.proofs.Arms.{four-places}
 use Rattle.split.proofs.spots.corners_of.Statement.{statement}
 use Rattle.split.proofs.spots.corners_of.Tie as tie

@@ -1,12 +1,11 @@
--- `split::spots::extra_of` meets its contract.
 use Prim.Native.Nat.{_-_, _≤_}
 use mathlib.Core.Path.{refl}
 use native.Mathlib.Omega.{arith}
 use denote.Ref.{now}
 use borrow.Author.Needs.{needs}
-use Rattle.counting.specs.Stored.{Summed}
+use Rattle.counting.specs.work.Stored.{Summed}
 use Rattle.counting.proofs.Stored.{summed-none, summed-more, summed-all}
-use Rattle.split.specs.Spots.{mostInner, innerIn, addedIn}
+use Rattle.split.specs.work.Spots.{mostInner, innerIn, addedIn}
 use Rattle.split.proofs.Spotted.{spots-at}
 use Rattle.split.proofs.spots.extra_of.Statement.{statement}
 use Rattle.split.proofs.spots.extra_of.Tie as tie

@@ -1,11 +1,10 @@
--- `split::spots::middles_at` meets its contract.
 use mathlib.Core.Path.{ap, _∙_}
 use denote.Ref.{now}
 use borrow.Author.Needs.{needs}
-use Rattle.cell.specs.Nests.{nestMiddle}
-use Rattle.cell.specs.Middles.{middlesAt}
+use Rattle.cell.specs.claims.Nests.{nestMiddle}
+use Rattle.cell.specs.claims.Middles.{middlesAt}
 use Rattle.split.specs.Standing.{drawnMiddles}
-use Rattle.split.specs.Spots.{pointsStored}
+use Rattle.split.specs.work.Spots.{pointsStored}
 use Rattle.split.proofs.Tables.{splits-drawable}
 use Rattle.split.proofs.spots.middles_at.Statement.{statement}
 use Rattle.split.proofs.spots.middles_at.Tie as tie

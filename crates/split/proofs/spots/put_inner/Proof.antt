@@ -1,4 +1,3 @@
--- `split::spots::put_inner` meets its contract.
 use Prim.Native.Nat.{_<_}
 use mathlib.Core.Path.{sym, _∙_}
 use native.Mathlib.Omega.{arith}

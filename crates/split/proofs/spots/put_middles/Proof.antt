@@ -1,10 +1,9 @@
--- `split::spots::put_middles` meets its contract.
 use Prim.Native.Nat.{_<_}
 use mathlib.Core.Path.{refl, sym, _∙_}
 use native.Mathlib.Omega.{arith}
 use denote.Ref.{now}
 use borrow.Author.Needs.{needs}
-use Rattle.cell.specs.Middles.{middlesAt}
+use Rattle.cell.specs.claims.Middles.{middlesAt}
 use Rattle.split.proofs.Spotted.{drawn-spun, fans-fit, fans-done, fans-short, fans-whole}
 use Rattle.split.proofs.spots.put_middles.Statement.{statement}
 use Rattle.split.proofs.spots.put_middles.Tie as tie

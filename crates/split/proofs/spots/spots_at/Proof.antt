@@ -1,4 +1,3 @@
--- `split::spots::spots_at` meets its contract.
 use mathlib.Core.Path.{refl}
 use native.Mathlib.Omega.{arith}
 use denote.Ref.{now}

@@ -1,9 +1,8 @@
--- `split::spots::write_drawn_middles` meets its contract.
 use Prim.Native.Nat.{_-_, _≤_}
 use mathlib.Core.Path.{_≡_, _∙_}
 use native.Mathlib.Omega.{arith}
 use denote.Ref.{now}
-use Rattle.split.specs.Spots.{cellsStored, middlesAtCell}
+use Rattle.split.specs.work.Spots.{cellsStored, middlesAtCell}
 use Rattle.split.proofs.Spotted.{cells-none, cells-more, cells-long, cells-all, stretch-middles}
 use Rattle.split.proofs.spots.write_drawn_middles.Statement.{statement}
 use Rattle.split.proofs.spots.write_drawn_middles.Tie as tie

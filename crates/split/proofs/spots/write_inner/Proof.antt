@@ -1,11 +1,10 @@
--- `split::spots::write_inner` meets its contract.
 use Prim.Native.Nat.{_-_, _≤_}
 use mathlib.Core.Path.{_≡_, ap, _∙_}
 use native.Mathlib.Omega.{arith}
 use denote.Ref.{now}
 use borrow.Author.Needs.{needs}
 use Rattle.split.specs.Standing.{innerPlaces}
-use Rattle.split.specs.Spots.{pointsStored, cellsStored, innerAtCell}
+use Rattle.split.specs.work.Spots.{pointsStored, cellsStored, innerAtCell}
 use Rattle.split.proofs.Tables.{table-drawable}
 use Rattle.split.proofs.Spotted.{cells-none, cells-more, cells-long, cells-all}
 use Rattle.split.proofs.spots.write_inner.Statement.{statement}

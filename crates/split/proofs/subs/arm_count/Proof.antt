@@ -1,4 +1,3 @@
--- `split::subs::arm_count` meets its contract.
 use native.Mathlib.Omega.{arith}
 use mathlib.Core.Path.{_∙_}
 use Rattle.split.proofs.Coded.{told-lt, sum-few, arm-told, arm-fits}

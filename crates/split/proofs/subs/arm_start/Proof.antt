@@ -1,4 +1,3 @@
--- `split::subs::arm_start` meets its contract.
 use native.Mathlib.Omega.{arith}
 use Prim.Native.Nat.{_+_}
 use mathlib.Core.Path.{ap, _∙_}

@@ -1,6 +1,5 @@
--- `split::subs::counts_of` meets its contract.
 use mathlib.Core.Path.{refl, ap, _∙_}
-use Rattle.split.specs.SubCell.{armCount, restCount}
+use Rattle.split.specs.work.Five.{armCount, restCount}
 use borrow.Author.Needs.{needs}
 use Rattle.split.proofs.subs.counts_of.Statement.{statement}
 use Rattle.split.proofs.subs.counts_of.Tie as tie

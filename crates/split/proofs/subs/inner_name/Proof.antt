@@ -1,4 +1,3 @@
--- `split::subs::inner_name` meets its contract.
 use native.Mathlib.Omega.{arith}
 use Prim.Native.Nat.{_+_}
 use mathlib.Core.Path.{sym, ap, ap₂, _∙_}

@@ -1,4 +1,3 @@
--- `split::subs::joining_of` meets its contract.
 use Rattle.split.proofs.Ends.{joined-first, joined-then, joined-last}
 use borrow.Author.Needs.{needs}
 use Rattle.split.proofs.subs.joining_of.Statement.{statement}

@@ -1,4 +1,3 @@
--- `split::subs::names_of` meets its contract.
 use mathlib.Core.Path.{refl, ap, _∙_}
 use Rattle.split.specs.SubCell.{innerName}
 use borrow.Author.Needs.{needs}

@@ -1,4 +1,3 @@
--- `split::subs::place_of` meets its contract.
 use native.Mathlib.Omega.{arith}
 use Rattle.split.proofs.Coded.{place-at, place-left}
 use borrow.Author.Needs.{needs}

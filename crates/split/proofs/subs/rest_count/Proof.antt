@@ -1,4 +1,3 @@
--- `split::subs::rest_count` meets its contract.
 use Prim.Native.Nat.{_-_}
 use mathlib.Core.Path.{ap, ap₂, _∙_}
 use lib.ListN.{getD}

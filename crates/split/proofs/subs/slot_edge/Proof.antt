@@ -1,4 +1,3 @@
--- `split::subs::slot_edge` meets its contract.
 use native.Mathlib.Omega.{arith}
 use mathlib.Core.Path.{ap₂, _∙_}
 use Rattle.cell.specs.Nodes.{joining}

@@ -1,4 +1,3 @@
--- `split::subs::spoke_count` meets its contract.
 use native.Mathlib.Omega.{arith}
 use mathlib.Core.Path.{_∙_}
 use Rattle.split.proofs.Ends.{spoke-at, spokes-are}

@@ -1,4 +1,3 @@
--- `split::subs::spokes_before` meets its contract.
 use native.Mathlib.Omega.{arith}
 use mathlib.Core.Path.{_∙_}
 use Rattle.split.proofs.Ends.{before-at, befores-are}

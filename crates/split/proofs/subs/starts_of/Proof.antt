@@ -1,4 +1,3 @@
--- `split::subs::starts_of` meets its contract.
 use mathlib.Core.Path.{refl, ap, _∙_}
 use Rattle.split.specs.SubCell.{armStart, restStart}
 use borrow.Author.Needs.{needs}

@@ -1,4 +1,3 @@
--- `split::subs::sub_of` meets its contract.
 use mathlib.Core.Path.{refl}
 use Rattle.split.specs.SubCell.{sub, subAt}
 use borrow.Author.Needs.{needs}

@@ -6,7 +6,7 @@ use lib.ListN.{getD, length}
 use denote.Ref.{now}
 use borrow.Author.Needs.{needs}
 use Rattle.counting.proofs.Stored.{filled-at, length-filled}
-use Rattle.trees.specs.Keys.{earlierIn}
+use Rattle.trees.specs.work.Keys.{earlierIn}
 use Rattle.trees.proofs.Planted.{filled-over}
 use Rattle.trees.proofs.earlier.put_earlier.Statement.{statement}
 use Rattle.trees.proofs.earlier.put_earlier.Tie as tie

@@ -4,11 +4,11 @@ use native.Mathlib.Omega.{arith}
 use lib.ListN.{length, length-set}
 use denote.Ref.{now}
 use borrow.Author.Needs.{needs}
-use Rattle.counting.specs.Search.{seek}
+use Rattle.counting.specs.Lists.{seek}
 use Rattle.counting.proofs.Search.{seek-end, seek-hit, seek-miss, seek-start}
-use Rattle.trees.specs.Trees.{topFor}
-use Rattle.trees.specs.Keys.{keyIn, pairIn, pairLacks}
-use Rattle.trees.specs.Planted.{PairsMarked}
+use Rattle.trees.specs.work.Trees.{topFor}
+use Rattle.trees.specs.work.Keys.{keyIn, pairIn, pairLacks}
+use Rattle.trees.specs.work.Planted.{PairsMarked}
 use Rattle.trees.proofs.Trees.{top-le}
 use Rattle.trees.proofs.Planted.{marked-none, marked-skip, marked-more, lacks, lacks-not}
 use Rattle.trees.proofs.pairs.mark.Statement.{statement}

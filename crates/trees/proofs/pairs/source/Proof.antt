@@ -6,7 +6,7 @@ use lib.ListN.{getD}
 use denote.Ref.{now}
 use borrow.Author.Needs.{needs}
 use borrow.Author.Tests.{lt-ltb, le-ltb}
-use Rattle.trees.specs.Planted.{met, sourceAt}
+use Rattle.trees.specs.work.Planted.{met, sourceAt}
 use Rattle.trees.proofs.pairs.source.Statement.{statement}
 use Rattle.trees.proofs.pairs.source.Tie as tie
 

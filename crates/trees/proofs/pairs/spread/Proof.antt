@@ -7,7 +7,7 @@ use denote.Ref.{now}
 use borrow.Author.Needs.{needs}
 use Rattle.counting.specs.Stored.{filled}
 use Rattle.counting.proofs.Stored.{filled-none, filled-more, filled-beyond, length-filled}
-use Rattle.trees.specs.Planted.{sourceAt, spreadAt}
+use Rattle.trees.specs.work.Planted.{sourceAt, spreadAt}
 use Rattle.trees.proofs.Planted.{source-up, source-in}
 use Rattle.trees.proofs.pairs.spread.Statement.{statement}
 use Rattle.trees.proofs.pairs.spread.Tie as tie

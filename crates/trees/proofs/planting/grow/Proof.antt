@@ -4,9 +4,9 @@ use native.Mathlib.Omega.{arith}
 use lib.ListN.{length}
 use denote.Ref.{now}
 use borrow.Author.Needs.{needs}
-use Rattle.trees.specs.Trees.{Tree}
-use Rattle.trees.specs.Keys.{keyIn}
-use Rattle.trees.specs.Planted.{keyBranches, KeyTops}
+use Rattle.trees.specs.work.Trees.{Tree}
+use Rattle.trees.specs.work.Keys.{keyIn}
+use Rattle.trees.specs.work.Planted.{keyBranches, KeyTops}
 use Rattle.trees.proofs.Trees.{grown-none, top-le}
 use Rattle.trees.proofs.Planted.{key-tops-none, key-tops-more}
 use Rattle.trees.proofs.planting.grow.Statement.{statement}

@@ -1,6 +1,6 @@
 use mathlib.Core.Path.{_∙_}
 use borrow.Author.Needs.{needs}
-use Rattle.trees.specs.Planted.{keyBranches}
+use Rattle.trees.specs.work.Planted.{keyBranches}
 use Rattle.trees.proofs.Trees.{sought-all}
 use Rattle.trees.proofs.planting.latest.Statement.{statement}
 use Rattle.trees.proofs.planting.latest.Tie as tie

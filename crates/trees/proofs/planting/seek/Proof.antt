@@ -4,9 +4,9 @@ use native.Mathlib.Omega.{arith}
 use lib.ListN.{length}
 use denote.Ref.{now}
 use borrow.Author.Needs.{needs}
-use Rattle.trees.specs.Trees.{trees}
-use Rattle.trees.specs.Keys.{keyIn}
-use Rattle.trees.specs.Planted.{keyBranches}
+use Rattle.trees.specs.work.Trees.{trees}
+use Rattle.trees.specs.work.Keys.{keyIn}
+use Rattle.trees.specs.work.Planted.{keyBranches}
 use Rattle.trees.proofs.Trees.{Descending, descending-start, descending-end, descending-le, descending-hit, descending-less, descending-room, descending-more}
 use Rattle.trees.proofs.planting.seek.Statement.{statement}
 use Rattle.trees.proofs.planting.seek.Tie as tie

@@ -1,0 +1,4 @@
+-- What only contracts of parts and proofs cite.
+pub mod Fans
+pub mod Sums
+pub mod Totals

@@ -1,0 +1,4 @@
+-- What only contracts of parts and proofs cite.
+pub mod Record
+pub mod Needed
+pub mod Looked

@@ -1,0 +1,2 @@
+-- Statements of theorems, and what only they rest on.
+pub mod Claims

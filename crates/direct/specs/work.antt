@@ -1,0 +1,4 @@
+-- What only contracts of parts and proofs cite.
+pub mod Rows
+pub mod Cells
+pub mod Laid

@@ -1,0 +1,5 @@
+-- Statements of theorems, and what only they rest on.
+pub mod Claims
+pub mod Ends
+pub mod Tally
+pub mod Level

@@ -1,0 +1,4 @@
+-- What only contracts of parts and proofs cite.
+pub mod Corners
+pub mod Stand
+pub mod Ends

@@ -1,0 +1,3 @@
+-- Statements of theorems, and what only they rest on.
+pub mod Claims
+pub mod JoinClaims

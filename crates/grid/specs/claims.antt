@@ -1,0 +1,4 @@
+-- Statements of theorems, and what only they rest on.
+pub mod Accepted
+pub mod Claims
+pub mod Setting

@@ -1,0 +1,6 @@
+-- Statements of theorems, and what only they rest on.
+pub mod Plain
+pub mod Polygon
+pub mod Piece
+pub mod Complex
+pub mod Claims

@@ -1,0 +1,2 @@
+-- Examples, proved by computation.
+pub mod Examples
