@@ -20,14 +20,14 @@ pub use tables::{count_all, crossings_in};
 
 // What is booked: the corner triangles t, the two smaller numbers d1 and d2 left at the lowest node, and the triangles in all that are drawn of the cell. A
 // cell with a face that has an odd sum or a count above the other two is to be walked.
-#[derive(Drop)]
+#[derive(Clone, Copy)]
 pub enum Booking {
     Booked(u32, u32, u32, u64),
     WalkIt,
 }
 
 // The same with the triangles of the cell's loops, whether it is split or not.
-#[derive(Drop)]
+#[derive(Clone, Copy)]
 enum Fans {
     Counted(u32, u32, u32, u32),
     WalkIt,
@@ -35,7 +35,7 @@ enum Fans {
 
 // For two numbers d1 and d2: how many splits there are, how many inner crossings and how many triangles beside the own corner triangles they have, and the
 // number at the end, which is the greatest common divisor.
-#[derive(Drop)]
+#[derive(Clone, Copy)]
 pub struct SplitSums {
     pub splits: u32,
     pub inner: u64,
@@ -44,7 +44,7 @@ pub struct SplitSums {
 }
 
 // The splits that are made in a cell, and how many triangles it has more by them.
-#[derive(Drop)]
+#[derive(Clone, Copy)]
 pub struct Gain {
     pub splits: u32,
     pub more: u64,

@@ -25,7 +25,7 @@ pub fn crossings_in(counts: [u16; 6]) -> usize
 }
 
 // What the cells come to: the triangles of those that are in the table of common cells or are booked, and the crossings of the others.
-#[derive(Drop)]
+#[derive(Clone, Copy)]
 struct Totals {
     known: usize,
     crossings: usize,

@@ -14,21 +14,21 @@ pub use records::{
 pub use writer::write;
 
 // What stands at a start: a whole record's kind and the next start, or a refusal's number and place.
-#[derive(Drop)]
+#[derive(Clone, Copy)]
 pub enum Record {
     Whole(u16, usize),
     Refused(u8, usize),
 }
 
 // What a bundle holds: the numbers of cells and edges, or a refusal's number and place.
-#[derive(Drop)]
+#[derive(Clone, Copy)]
 pub enum Contents {
     Lists(usize, usize),
     Refused(u8, usize),
 }
 
 // What was written: the number of bytes; or lists that are not 4 to a cell or 2 to a count; or an area too short, with the bytes needed.
-#[derive(Drop)]
+#[derive(Clone, Copy)]
 pub enum Written {
     Bytes(usize),
     Unformed,

@@ -50,7 +50,7 @@ fn section_of(kind: u16) -> usize
 }
 
 // Records of one section in a row: how many, and where they stop.
-#[derive(Drop)]
+#[derive(Clone, Copy)]
 struct Run {
     count: usize,
     stop: usize,
@@ -79,7 +79,7 @@ fn run_from(bytes: &[u8], from: usize, section: usize) -> Run
 }
 
 // The cells, the edges and the looks of the bytes; each section starts where the one before it stops.
-#[derive(Drop)]
+#[derive(Clone, Copy)]
 struct Layout {
     cells: Run,
     edges: Run,

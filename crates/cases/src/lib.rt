@@ -15,7 +15,7 @@ mod numbers;
 pub use numbers::triangles_in;
 
 // How many loops and how many triangles a common cell has; a cell with a count above 2 is outside the table.
-#[derive(Drop)]
+#[derive(Clone, Copy)]
 pub enum Case {
     Common(u32, u32),
     Outside,

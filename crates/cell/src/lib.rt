@@ -51,7 +51,7 @@ const FEW_IN_CELL: usize = 6 * FEW_COUNT as usize;
 
 // A cell, or a sub-cell of one: the counts of its edges 01, 02, 03, 12, 13, 23 and the crossing number at index 0 of each, the names of the faces in its
 // slots, its nodes' numbers, and word 0 of its triangles: its own number, if it is a cell.
-#[derive(Drop)]
+#[derive(Clone, Copy)]
 pub struct Cell {
     pub counts: [u16; 6],
     pub starts: [u32; 6],
@@ -61,7 +61,7 @@ pub struct Cell {
 }
 
 // A cell, and how many crossings it has.
-#[derive(Drop)]
+#[derive(Clone, Copy)]
 struct Counted {
     cell: Cell,
     crossings: usize,
@@ -69,7 +69,7 @@ struct Counted {
 
 // The type of a loop: a case for each of document 01's numbers 0 to 3. With it the number of a node: the corner's, where it is not the cell's
 // lowest node; that of the node paired with the lowest; the lowest node's.
-#[derive(Drop)]
+#[derive(Clone, Copy)]
 pub enum LoopType {
     Contractible,
     Corner(u16),
@@ -78,28 +78,28 @@ pub enum LoopType {
 }
 
 // A loop of a cell: its least crossing in the grid, its length, normal or not, and its type; or that there is none.
-#[derive(Drop)]
+#[derive(Clone, Copy)]
 pub enum Loop {
     Found(u32, u32, bool, LoopType),
     Nothing,
 }
 
 // A corner of a triangle: a crossing by its number, or the middle point of the triangle's loop.
-#[derive(Drop)]
+#[derive(Clone, Copy)]
 pub enum Corner {
     Crossing(u32),
     Middle,
 }
 
 // A side of a triangle: a segment by its face's name and its lower crossing, or an inner side of the triangle's loop by its number.
-#[derive(Drop)]
+#[derive(Clone, Copy)]
 pub enum Side {
     Segment(u32, u32),
     Inner(u32),
 }
 
 // A triangle of the loop of cell `cell` whose least crossing is p0. Side t runs from corner t to the next.
-#[derive(Drop)]
+#[derive(Clone, Copy)]
 pub struct Triangle {
     pub cell: u32,
     pub p0: u32,
@@ -112,14 +112,14 @@ pub struct Triangle {
 }
 
 // Triangle t of a cell, or none where there are t or fewer.
-#[derive(Drop)]
+#[derive(Clone, Copy)]
 pub enum Nth {
     Found(Triangle),
     Nothing,
 }
 
 // The crossings of an edge: how many they are, and the number of the first in the cell and in the grid.
-#[derive(Drop)]
+#[derive(Clone, Copy)]
 struct Run {
     count: u16,
     first: usize,
@@ -127,7 +127,7 @@ struct Run {
 }
 
 // A dart: the crossing with an index on the edge of a half-edge, by its number in the cell, left by that half-edge.
-#[derive(Drop)]
+#[derive(Clone, Copy)]
 struct Dart {
     half: usize,
     index: usize,
@@ -135,7 +135,7 @@ struct Dart {
 }
 
 // The nest of a cell: its edge E, or 3 for none; how many loops it has, m, and the crossing number of the crossing m of E, of those that are left.
-#[derive(Drop)]
+#[derive(Clone, Copy)]
 struct Nest {
     edge: usize,
     count: usize,
@@ -143,14 +143,14 @@ struct Nest {
 }
 
 // What follows a dart: another, and whether the segment to it goes along its edge; or the end of its curve.
-#[derive(Drop)]
+#[derive(Clone, Copy)]
 enum Next {
     On(Dart, bool),
     End,
 }
 
 // What a walk found: the length of the loop, 0 where there is none, and whether it is normal.
-#[derive(Drop)]
+#[derive(Clone, Copy)]
 struct Trip {
     length: usize,
     normal: bool,

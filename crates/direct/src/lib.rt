@@ -30,7 +30,7 @@ pub use laid::write_part;
 pub use placing::{count_fans, write_middles};
 
 // Of a cell: whether it is a level cell with d2 = 0; of such a cell the corner triangles at each node, and how many triangles there are.
-#[derive(Drop)]
+#[derive(Clone, Copy)]
 struct Kind {
     plain: bool,
     own: [u32; 4],
@@ -38,14 +38,14 @@ struct Kind {
 }
 
 // Where cells were written up to a cell: that cell, and the next index.
-#[derive(Drop)]
+#[derive(Clone, Copy)]
 struct Reached {
     cell: usize,
     at: usize,
 }
 
 // Crossing numbers one after the other: the first, and whether they fall.
-#[derive(Drop)]
+#[derive(Clone, Copy)]
 struct Row {
     first: u32,
     falls: bool,

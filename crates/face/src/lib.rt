@@ -12,21 +12,21 @@ ghost use Rattle.face.specs.work.Ends.{AtCorner, OnEdge};
 use slots::{lower_end, upper_end};
 
 // How a crossing is joined: round a corner, by its node (0 a, 1 b, 2 c), or along its edge.
-#[derive(Drop)]
+#[derive(Clone, Copy)]
 pub enum How {
     Round(u32),
     Along,
 }
 
 // Why a crossing is unjoined: rule 2 left it, or rule 3 skipped it.
-#[derive(Drop)]
+#[derive(Clone, Copy)]
 pub enum Why {
     Left,
     Skipped,
 }
 
 // Where a crossing goes: to the partner's edge and index, and how; nowhere, and why; or there is no such crossing.
-#[derive(Drop)]
+#[derive(Clone, Copy)]
 pub enum Join {
     Joined(u32, u32, How),
     Unjoined(Why),
@@ -35,7 +35,7 @@ pub enum Join {
 
 // Where a crossing stands on its edge: at the lower corner, or at the upper; between them and joined to the next one up, or to the next one down; or
 // between them and alone.
-#[derive(Drop)]
+#[derive(Clone, Copy)]
 pub enum Stand {
     Low,
     High,
@@ -45,7 +45,7 @@ pub enum Stand {
 }
 
 // The counts of the edges of a face. The edges ab, ac, bc are 0, 1, 2, and the nodes a, b, c are 0, 1, 2.
-#[derive(Drop)]
+#[derive(Clone, Copy)]
 struct Face {
     ab: u16,
     ac: u16,
@@ -53,7 +53,7 @@ struct Face {
 }
 
 // The corner counts of a face, at its nodes a, b, c.
-#[derive(Drop)]
+#[derive(Clone, Copy)]
 pub struct CornerCounts {
     pub a: u16,
     pub b: u16,

@@ -12,7 +12,7 @@ use slots::{lower_end, upper_end};
 
 // The crossings of an edge that go on round the corner at one of its ends: their number, whether the crossings that they come to are counted down from
 // the last of the other edge there or up from its first, and the dart of the one after that last, or of that first.
-#[derive(Drop)]
+#[derive(Clone, Copy)]
 pub(crate) struct Lane {
     pub(crate) size: usize,
     pub(crate) down: bool,
@@ -21,7 +21,7 @@ pub(crate) struct Lane {
 
 // The crossings of an edge in a triangle: those round the corners at its lower and its upper end, their number, and the dart of the first that is come
 // to from a crossing of the same edge.
-#[derive(Drop)]
+#[derive(Clone, Copy)]
 pub(crate) struct Guide {
     pub(crate) low: Lane,
     pub(crate) high: Lane,

@@ -44,7 +44,7 @@ const FEW_DARTS: usize = 2 * FEW_CROSSINGS;
 const FEW_WORDS: usize = 2 * FEW_CROSSINGS;
 
 // The number of words, or the number and the place of a refusal.
-#[derive(Drop)]
+#[derive(Clone, Copy)]
 pub enum Traced {
     Words(u32),
     Refused(u8, usize),

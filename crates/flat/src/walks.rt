@@ -6,14 +6,14 @@ ghost use Rattle.flat.specs.work.Work.{step_in, StepTable, Ran, Fresh, Finds, si
 use counting::wide32;
 
 // A walk from a dart: its steps, and the dart after them.
-#[derive(Drop)]
+#[derive(Clone, Copy)]
 pub(crate) struct Walk {
     pub(crate) steps: usize,
     pub(crate) last: usize,
 }
 
 // A chain: 1 for a closed one or 0 for an open one, its number of crossings (0 for no chain), and its first dart.
-#[derive(Drop)]
+#[derive(Clone, Copy)]
 pub(crate) struct Chain {
     pub(crate) closed: u16,
     pub(crate) size: usize,

@@ -39,7 +39,7 @@ const FEW_SLOTS: usize = 4 * FEW_CELLS;
 const FEW_EDGES: usize = 6 * FEW_CELLS;
 
 // The number of crossings, or the number and the place of a refusal.
-#[derive(Drop)]
+#[derive(Clone, Copy)]
 pub enum Checked {
     Crossings(u32),
     Refused(u8, usize),

@@ -7,7 +7,7 @@ ghost use Rattle.host.specs.Host.{refusal_of, bundle_cells, bundle_edges};
 use bundle::Contents;
 
 // What the host is told: the number of the refusal or 0, the cells and the edges.
-#[derive(Drop)]
+#[derive(Clone, Copy)]
 struct Numbers {
     refusal: u32,
     cells: u64,

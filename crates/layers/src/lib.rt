@@ -26,7 +26,7 @@ use tables::MARKS;
 use words::CROSSINGS;
 
 // A run of cells: the first of them, how many they are, and what their edges are marked with.
-#[derive(Drop)]
+#[derive(Clone, Copy)]
 struct Span {
     from: usize,
     size: usize,

@@ -12,14 +12,14 @@ use cell::{Loop, WORD_COUNT};
 use grid::{Checked, MOST_EDGES, MOST_SLOTS};
 
 // The number of triangles and the number of splits (02, W12), or the number and the place of a refusal.
-#[derive(Drop)]
+#[derive(Clone, Copy)]
 pub enum Meshed {
     Triangles(u64, u32),
     Refused(u8, usize),
 }
 
 // What is told of loop k of a cell, or the number and the place of a refusal.
-#[derive(Drop)]
+#[derive(Clone, Copy)]
 pub enum Looped {
     Told(Loop),
     Refused(u8, usize),

@@ -12,14 +12,14 @@ ghost use Rattle.nearest.specs.Answer.{measured_numbers, beyond, nearest_number,
 use place::Place;
 
 // No point, or the number of the nearest one and its squared distance.
-#[derive(Drop)]
+#[derive(Clone, Copy)]
 pub enum Nearest {
     NoPoint,
     At(usize, f64),
 }
 
 // That, or the number and the place of a refusal.
-#[derive(Drop)]
+#[derive(Clone, Copy)]
 pub enum Measured {
     Told(Nearest),
     Refused(u8, usize),

@@ -8,7 +8,7 @@ ghost use Rattle.place.specs.Place.{within, between, added, divided, middle, coo
 
 use counting::{long32, wide32};
 
-#[derive(Drop)]
+#[derive(Clone, Copy)]
 pub struct Place {
     pub x: f64,
     pub y: f64,

@@ -18,7 +18,7 @@ mod points;
 mod rows;
 
 // The number of points, or the number and the place of a refusal.
-#[derive(Drop)]
+#[derive(Clone, Copy)]
 pub enum Placed {
     Points(u64),
     Refused(u8, usize),

@@ -22,7 +22,7 @@ const MOST_NODES: usize = HIGHEST_NODE + 1;
 const UNUSED_BYTE: u8 = 255;
 
 // The area is written, or the number and the place of a refusal.
-#[derive(Drop)]
+#[derive(Clone, Copy)]
 pub enum Shaded {
     Written,
     Refused(u8, usize),

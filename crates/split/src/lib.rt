@@ -27,7 +27,7 @@ pub use spots::{extra_of, write_drawn_middles, write_inner};
 use subs::sub_of;
 
 // Of a cell: d1 and d2; at each position the own corner triangles and the label.
-#[derive(Drop)]
+#[derive(Clone, Copy)]
 struct Spiral {
     larger: u32,
     smaller: u32,
@@ -36,14 +36,14 @@ struct Spiral {
 }
 
 // How many triangles are drawn of the cells of a grid, and how many splits are made in them.
-#[derive(Drop)]
+#[derive(Clone, Copy)]
 pub struct DrawnSums {
     pub triangles: usize,
     pub splits: u32,
 }
 
 // How many crossings the cells of a grid have, how many splits are made in them, and how many triangles they have more by these.
-#[derive(Drop)]
+#[derive(Clone, Copy)]
 pub struct CellSums {
     pub crossings: usize,
     pub splits: u64,
@@ -51,21 +51,21 @@ pub struct CellSums {
 }
 
 // How many inner crossings the cells of a grid have, and how many fans these have more by their splits.
-#[derive(Drop)]
+#[derive(Clone, Copy)]
 pub struct Extra {
     pub inner: u64,
     pub fans: u64,
 }
 
 // Cells that are not split, up to the cell `end`, and the splits that are made in that: none where there is no cell more.
-#[derive(Drop)]
+#[derive(Clone, Copy)]
 struct Stretch {
     end: usize,
     splits: u32,
 }
 
 // Of a cell that is split: how many inner crossings it has, how many fans the splits add, and how many it has without.
-#[derive(Drop)]
+#[derive(Clone, Copy)]
 struct PointSums {
     inner: u64,
     more: u64,
