@@ -1,0 +1,8 @@
+use native.Mathlib.Omega.{arith}
+use borrow.Author.Rules.{rules}
+use Rattle.counting.specs.Lists.{total, pre}
+use Rattle.booking.proofs.tables.crossings_in.Goals as goal
+
+pub returns : goal.returns
+unfolding pre total
+returns c = (omega arith, omega arith)

@@ -1,0 +1,16 @@
+use Prim.Native.Nat.{◌+◌, ◌-◌, ◌≤◌}
+use mathlib.Core.Path.{◌≡◌}
+use native.Mathlib.Omega.{arith}
+use lib.ListN.{get_or}
+use Rattle.counting.specs.Lists.{over}
+use Rattle.counting.specs.work.Stored.{Stored}
+use Rattle.counting.proofs.Stored.{stored_none, stored_more, stored_long}
+use Rattle.bundle.specs.Written.{word_bytes, list_bytes}
+use Rattle.bundle.proofs.Writes.{length-list}
+use Rattle.bundle.proofs.writer.put_words.Given as goal
+
+abbrev pub invariant-loop-i : goal.invariant-loop-i
+invariant-loop-i l = (l.i ≤ l.n) × Stored l.initial.area l.at (list_bytes l.list l.from l.i) l.area l.next
+
+abbrev pub decreases-loop-i : goal.decreases-loop-i
+decreases-loop-i l = l.n - l.i

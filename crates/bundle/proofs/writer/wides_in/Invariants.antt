@@ -1,0 +1,22 @@
+use Prim.Native.Nat.{ℕ, ◌+◌, ◌-◌, ◌≤◌}
+use mathlib.Core.Path.{◌≡◌, refl, sym, ap, ◌∙◌}
+use mathlib.Core.List.{List}
+use native.Mathlib.Numerals.{add-one}
+use native.Mathlib.Omega.{arith}
+use lib.ListN.{length, get_or}
+use borrow.Author.Rules.{rules}
+use Rattle.counting.specs.Search.{count}
+use Rattle.counting.proofs.Search.{count_le}
+use Rattle.bundle.specs.Record.{is_wide}
+use Rattle.bundle.specs.work.Needed.{wides}
+use Rattle.bundle.proofs.writer.wides_in.Given as goal
+
+-- how many of the first k counts a byte does not hold
+abbrev pub among : List ℕ → ℕ → ℕ
+among counts k = count (λ i. is_wide (get_or counts i 0)) k
+
+abbrev pub invariant-loop-k : goal.invariant-loop-k
+invariant-loop-k l = (l.k ≤ length l.counts) × (l.n ≡ among l.counts l.k)
+
+abbrev pub decreases-loop-k : goal.decreases-loop-k
+decreases-loop-k l = length l.counts - l.k

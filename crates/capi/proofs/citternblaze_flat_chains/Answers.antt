@@ -1,0 +1,20 @@
+use borrow.Author.Rules.{rules}
+use Rattle.flat.specs.Numbers.{traced_numbers}
+use Rattle.flat.proofs.Calls.{chains-some}
+use Rattle.capi.proofs.Answers.{told-reads, answers-are, answers-told}
+use Rattle.capi.proofs.Putting.{room-short, room_enough, answers_short}
+use Rattle.answer.proofs.Answer.{refused-numbers}
+use Rattle.capi.proofs.citternblaze_flat_chains.Goals as goal
+
+pub returns-then-answer-lt-ANSWER_WORDS : goal.returns-then-answer-lt-ANSWER_WORDS
+returns-then-answer-lt-ANSWER_WORDS c = record { answer = answers_short (search rules); area = room-short _ _ _ (search rules) }
+
+pub returns-in-Words : goal.returns-in-Words
+returns-in-Words c = let c-n = c.n-1 in
+    let c-chains = c.chains in
+    record { answer = answers-told traced_numbers c-n.given.1 c-chains.ensures.answered c.put.ensures; area = room_enough _ _ _ (search rules) c-chains.ensures.area }
+
+pub returns-in-Refused : goal.returns-in-Refused
+returns-in-Refused c = let c-row = c.row-1 in
+    let c-chains = c.chains in
+    record { answer = answers-are (refused-numbers _ (chains-some _ _) _ _ (told-reads traced_numbers c-row.given.1 c-chains.ensures.answered)) c.put-in-Refused.ensures; area = room_enough _ _ _ (search rules) c-chains.ensures.area }

@@ -1,0 +1,34 @@
+use Prim.Native.Nat.{ℕ, ◌+◌, ◌*◌, ◌<◌, ◌≤◌}
+use mathlib.Core.Path.{◌≡◌, refl, ap, ap₂, ◌∙◌}
+use mathlib.Core.List.{[], ◌∷◌}
+use native.Mathlib.Omega.{arith}
+use lib.ListN.{get_or}
+use borrow.Author.Rules.{rules}
+use Rattle.answer.specs.Answer.{result_of}
+use Rattle.cell.specs.Level.{by_edge}
+use Rattle.cases.specs.claims.Cases.{entries}
+use Rattle.cases.specs.Answer.{lone_edges, case_answer}
+use Rattle.cases.specs.claims.Table.{table}
+use Rattle.cases.specs.claims.Tally.{find_entry}
+use Rattle.cases.proofs.Digits.{answered, unanswered}
+use Rattle.cases.proofs.Claims.{every-entry}
+use Rattle.cases.proofs.look_up.Goals as goal
+
+outside : (w : ℕ → ℕ) (n : ℕ) → n ≡ find_entry w → entries ≤ n → result_of [] ≡ case_answer w
+unfolding case_answer
+outside w n e h = rw (unanswered w n e h) refl
+
+inside : (w : ℕ → ℕ) (n l t : ℕ) → n ≡ find_entry w → n < entries → l ≡ get_or table (2 * n) 0 → t ≡ get_or table (2 * n + 1) 0 → result_of (l ∷ t ∷ []) ≡ case_answer w
+unfolding case_answer
+inside w n l t e h f g =
+    let (C, q) = answered w n e h in
+    let E = every-entry (lone_edges w) C in
+    rw C (ap₂ (λ i j. result_of (i ∷ j ∷ [])) (f ∙ ap (λ i. get_or table (2 * i) 0) q ∙ E.loops) (g ∙ ap (λ i. get_or table (2 * i + 1) 0) q ∙ E.triangles))
+
+pub returns-then-n-ge-ENTRIES : goal.returns-then-n-ge-ENTRIES
+returns-then-n-ge-ENTRIES c = outside (by_edge c.args.counts) c.find_entry-n.result c.find_entry-n.ensures.0 (omega arith)
+
+pub returns : goal.returns
+returns c = let e = c.entry-e.ensures in
+    inside (by_edge c.args.counts) c.find_entry-n.result _ _ c.find_entry-n.ensures.0 (omega arith)
+    (ap (λ l. get_or l 0 0) e) (ap (λ l. get_or l 1 0) e)

@@ -1,0 +1,17 @@
+use native.Mathlib.Omega.{arith}
+use Prim.Native.Nat.{◌≤◌, ◌-◌}
+use lib.Dec.{eqb}
+use lib.ListN.{length}
+use Rattle.counting.specs.Lists.{one, total}
+use mathlib.Core.Path.{◌≡◌, ap, ◌∙◌}
+use Rattle.cell.specs.work.Round.{crosses_in}
+use Rattle.counting.specs.work.Stored.{Summed}
+use Rattle.counting.proofs.Stored.{summed_none, summed_more}
+use Rattle.cell.proofs.Loops.{cross_at}
+use Rattle.cell.proofs.answers.crosses_of.Given as goal
+
+abbrev pub invariant-loop-k : goal.invariant-loop-k
+invariant-loop-k l = (l.k ≤ length l.halves) × Summed (cross_at l.halves l.e) 1 l.k l.x
+
+abbrev pub decreases-loop-k : goal.decreases-loop-k
+decreases-loop-k l = length l.halves - l.k

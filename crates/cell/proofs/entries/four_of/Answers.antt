@@ -1,0 +1,18 @@
+use Prim.Native.Nat.{◌+◌, ◌*◌, ◌-◌}
+use mathlib.Core.Path.{refl}
+use native.Mathlib.Omega.{arith}
+use lib.ListN.{get_or}
+use Rattle.cell.proofs.Values.{Valued, valued_none, valued_more, valued_all}
+use Rattle.cell.proofs.entries.four_of.Goals as goal
+
+pub loop-i-init : goal.loop-i-init
+loop-i-init c = valued_none _ _ refl
+
+pub entry-requires : goal.entry-requires
+entry-requires c = tt
+
+pub loop-i-preserved : goal.loop-i-preserved
+loop-i-preserved c = valued_more _ _ c.loop-i.invariant (omega arith) _ c.entry.ensures
+
+pub returns : goal.returns
+returns c = valued_all _ _ c.loop-i.invariant (omega arith)

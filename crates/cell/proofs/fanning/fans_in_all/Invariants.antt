@@ -1,0 +1,18 @@
+use Prim.Native.Nat.{◌-◌, ◌≤◌}
+use mathlib.Core.Path.{ap, ◌∙◌}
+use native.Mathlib.Omega.{arith}
+use Rattle.counting.specs.work.Stored.{Summed}
+use Rattle.counting.proofs.Stored.{summed_none, summed_more, summed_all}
+use Rattle.cell.specs.work.Limits.{most_in_cell}
+use Rattle.cell.specs.claims.Middles.{fan_count}
+use Rattle.cell.specs.claims.Table.{table_cell}
+use Rattle.cell.specs.work.Table.{table_fans}
+use Rattle.cell.specs.work.Walked.{Sized}
+use Rattle.cell.proofs.Using.{used_sized, sized_none, sized_on, sized_room}
+use Rattle.cell.proofs.fanning.fans_in_all.Given as goal
+
+abbrev pub invariant-loop-c : goal.invariant-loop-c
+invariant-loop-c l = (l.c ≤ l.n) × Sized l.initial.marks l.initial.halves l.initial.points l.marks l.halves l.points × Summed (λ k. fan_count (table_cell l.cells l.counts l.names l.sides l.starts k)) most_in_cell l.c l.t
+
+abbrev pub decreases-loop-c : goal.decreases-loop-c
+decreases-loop-c l = l.n - l.c

@@ -1,0 +1,46 @@
+use Prim.Native.Nat.{◌-◌, ◌≤◌}
+use mathlib.Core.Path.{◌≡◌, ap, ◌∙◌}
+use native.Mathlib.Omega.{arith}
+use Rattle.cell.specs.work.Table.{middles_written}
+use Rattle.cell.specs.work.Walked.{Sized}
+use Rattle.cell.proofs.Fans.{written_none, written-more, written-long}
+use Rattle.cell.proofs.Using.{used_sized, sized_none, sized_on, sized_room}
+use Rattle.cell.proofs.fanning.middles_in_all.Goals as goal
+
+pub loop-k-init : goal.loop-k-init
+loop-k-init c = let A = c.args in
+    ((omega arith, omega arith), sized_none _ _ _, written_none A.cells.now A.counts.now A.names.now A.sides.now A.starts.now A.nodes.now A.c A.area.now A.at)
+
+pub counted_at-x-requires : goal.counted_at-x-requires
+counted_at-x-requires c = tt
+
+pub middles_in-i-requires : goal.middles_in-i-requires
+middles_in-i-requires c = let A = c.args in
+    let L = c.loop-k in
+    let x = c.counted_at-x.ensures in
+    sized_room L.invariant.1 A.cells.now A.counts.now A.names.now A.sides.now A.starts.now L.k c.requires x.0 x.1 x.2
+
+pub overflow_add-k : goal.overflow_add-k
+overflow_add-k c = omega (arith, c.ranges)
+
+pub loop-k-preserved : goal.loop-k-preserved
+loop-k-preserved c = let A = c.args in
+    let L = c.loop-k in
+    let w = c.middles_in-i.ensures in
+    ((omega (arith, L.invariant.0), omega (arith, L.invariant.0)), sized_on L.invariant.1 (used_sized w.1), written-more A.cells.now A.counts.now A.names.now A.sides.now A.starts.now A.nodes.now A.c A.area.now A.at L.k L.invariant.2 L.invariant.0.0 c.counted_at-x.ensures.0 w.0)
+
+pub shape_of-marks : goal.shape_of-marks
+shape_of-marks c = c.loop-k.invariant.1.marks-same
+
+pub shape_of-halves : goal.shape_of-halves
+shape_of-halves c = c.loop-k.invariant.1.halves_same
+
+pub shape_of-points : goal.shape_of-points
+shape_of-points c = c.loop-k.invariant.1.points-same
+
+pub shape_of-area : goal.shape_of-area
+shape_of-area c = let A = c.args in
+    written-long A.cells.now A.counts.now A.names.now A.sides.now A.starts.now A.nodes.now A.c A.area.now A.at c.loop-k.k c.loop-k.invariant.2
+
+pub returns : goal.returns
+returns c = let A = c.args in record { result_after = c.loop-k.invariant.2 ∙ ap (middles_written A.cells.now A.counts.now A.names.now A.sides.now A.starts.now A.nodes.now A.c A.area.now A.at) (omega (arith, c.loop-k.invariant.0)); sized = c.loop-k.invariant.1 }

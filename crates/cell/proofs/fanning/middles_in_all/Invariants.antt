@@ -1,0 +1,14 @@
+use Prim.Native.Nat.{◌-◌, ◌≤◌}
+use mathlib.Core.Path.{◌≡◌, ap, ◌∙◌}
+use native.Mathlib.Omega.{arith}
+use Rattle.cell.specs.work.Table.{middles_written}
+use Rattle.cell.specs.work.Walked.{Sized}
+use Rattle.cell.proofs.Fans.{written_none, written-more, written-long}
+use Rattle.cell.proofs.Using.{used_sized, sized_none, sized_on, sized_room}
+use Rattle.cell.proofs.fanning.middles_in_all.Given as goal
+
+abbrev pub invariant-loop-k : goal.invariant-loop-k
+invariant-loop-k l = ((l.c ≤ l.k) × (l.k - l.c ≤ l.end - l.c)) × Sized l.initial.marks l.initial.halves l.initial.points l.marks l.halves l.points × ((l.area, l.i) ≡ middles_written l.cells l.counts l.names l.sides l.starts l.nodes l.c l.initial.area l.at (l.k - l.c))
+
+abbrev pub decreases-loop-k : goal.decreases-loop-k
+decreases-loop-k l = l.end - l.k

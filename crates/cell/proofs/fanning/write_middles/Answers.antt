@@ -1,0 +1,12 @@
+use borrow.Author.Rules.{rules}
+use native.Mathlib.Omega.{arith}
+use Rattle.cell.proofs.Using.{table-most}
+use Rattle.cell.proofs.fanning.write_middles.Goals as goal
+
+pub few_middles-requires : goal.few_middles-requires
+few_middles-requires c = omega (arith, c.greatest.ensures i, c.if-greatest-le-FEW_COUNT.true)
+
+pub middles_in_all-requires : goal.middles_in_all-requires
+middles_in_all-requires c = let A = c.args in
+    let h = table-most A.counts.now A.sides.now k in
+    record { marks-long = h; halves_long = h; points-long = h }

@@ -1,0 +1,13 @@
+use native.Mathlib.Omega.{arith}
+use Prim.Native.Nat.{◌-◌}
+use mathlib.Core.Path.{◌∙◌}
+use Rattle.cell.specs.Of.{edges_of}
+use Rattle.cell.proofs.Going.{Going, looped_halves, looped_points, going_start, going_in, going_lent, going_more, going_looped, going_part, going_used}
+use Rattle.cell.proofs.Cells.{least_at, Seeking, seeking_none, loop-off, loop_skip, loop_pass, loop-here}
+use Rattle.cell.proofs.loop_in.Given as goal
+
+abbrev pub invariant-loop-p : goal.invariant-loop-p
+invariant-loop-p l = Going l.c l.n l.routes l.initial.marks l.initial.halves l.initial.points l.marks l.halves l.points l.p × Seeking (least_at (edges_of l.c)) l.k l.p l.left
+
+abbrev pub decreases-loop-p : goal.decreases-loop-p
+decreases-loop-p l = l.n - l.p

@@ -1,0 +1,8 @@
+use Rattle.cell.specs.Triangles.{triangle}
+use Rattle.cell.specs.work.Traced.{traced_triangle}
+use borrow.Author.Rules.{rules}
+use Rattle.cell.proofs.make.whole_of.Goals as goal
+
+pub returns : goal.returns
+unfolding traced_triangle triangle
+returns c = cc

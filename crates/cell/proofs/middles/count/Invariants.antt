@@ -1,0 +1,15 @@
+use native.Mathlib.Omega.{arith}
+use Prim.Native.Nat.{◌+◌, ◌-◌}
+use mathlib.Core.Path.{◌≡◌, refl}
+use Rattle.counting.specs.Search.{count}
+use Rattle.counting.proofs.Search.{count_le}
+use Rattle.cell.specs.Middles.{is_fan}
+use Rattle.cell.proofs.Going.{Going, going_start, going_lent, going_more, going_looped, going_used}
+use Rattle.cell.proofs.Fans.{fans_more, fans_all}
+use Rattle.cell.proofs.middles.count.Given as goal
+
+abbrev pub invariant-loop-p : goal.invariant-loop-p
+invariant-loop-p l = Going l.c l.n l.routes l.initial.marks l.initial.halves l.initial.points l.marks l.halves l.points l.p × (l.t ≡ count (is_fan l.c) l.p)
+
+abbrev pub decreases-loop-p : goal.decreases-loop-p
+decreases-loop-p l = l.n - l.p

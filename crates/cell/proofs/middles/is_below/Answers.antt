@@ -1,0 +1,16 @@
+use native.Mathlib.Omega.{arith}
+use Prim.Native.Nat.{◌-◌, ◌≤◌}
+use mathlib.Core.Logic.{⊎_elim, inl, inr}
+use Rattle.cell.proofs.Fans.{Highest, highest-none, highest-more, highest-all}
+use Rattle.cell.proofs.middles.is_below.Goals as goal
+
+pub loop-e-init : goal.loop-e-init
+loop-e-init c = (omega arith, highest-none _)
+
+pub loop-e-preserved : goal.loop-e-preserved
+loop-e-preserved c = let H = c.loop-e.invariant.1 in
+    let e = c.end_of-end.ensures in
+    (omega arith, ⊎_elim (λ w. highest-more H (omega arith) (omega arith) (omega (arith, e)) (inr (omega (arith, e)))) (λ w. highest-more H (omega arith) (omega arith) (omega (arith, e)) (inl (omega arith))) c.if-last-end.branch)
+
+pub returns : goal.returns
+returns c = highest-all c.loop-e.invariant.1 (omega arith) _

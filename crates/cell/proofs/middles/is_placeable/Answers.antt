@@ -1,0 +1,10 @@
+use mathlib.Core.Path.{sym, ◌∙◌}
+use borrow.Author.Rules.{rules}
+use Rattle.cell.proofs.Fans.{below_placeable, placeable_is}
+use Rattle.cell.proofs.middles.is_placeable.Goals as goal
+
+pub returns-then-is_below : goal.returns-then-is_below
+returns-then-is_below c = let A = c.args in sym (below_placeable A.c A.at (sym c.is_below.ensures ∙ c.if-is_below.true))
+
+pub returns : goal.returns
+returns c = let A = c.args in placeable_is A.c A.at c.nest_in.ensures.edge-is (sym c.is_below.ensures ∙ c.if-is_below.false)

@@ -1,0 +1,15 @@
+use Prim.Native.Nat.{◌-◌}
+use mathlib.Core.Path.{refl}
+use native.Mathlib.Omega.{arith}
+use Rattle.cell.specs.Of.{count_of}
+use Rattle.cell.proofs.Values.{Valued, valued_none, valued_more, valued_all}
+use Rattle.cell.proofs.nests.taken_of.Goals as goal
+
+pub loop-k-init : goal.loop-k-init
+loop-k-init c = valued_none _ _ refl
+
+pub loop-k-preserved : goal.loop-k-preserved
+loop-k-preserved c = valued_more _ _ c.loop-k.invariant (omega arith) _ c.count_of.ensures
+
+pub returns : goal.returns
+returns c = valued_all _ _ c.loop-k.invariant (omega arith)

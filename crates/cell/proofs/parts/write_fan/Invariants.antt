@@ -1,0 +1,13 @@
+use Prim.Native.Nat.{◌-◌, ◌≤◌}
+use native.Mathlib.Omega.{arith}
+use Rattle.counting.proofs.Stored.{stored_long}
+use Rattle.manifold.specs.Shape.{fan}
+use Rattle.cell.specs.work.Traced.{traced_triangle}
+use Rattle.cell.proofs.Storing.{Run, run_none, run-place, run_more, run-all}
+use Rattle.cell.proofs.parts.write_fan.Given as goal
+
+abbrev pub invariant-loop-k : goal.invariant-loop-k
+invariant-loop-k l = (l.k ≤ l.n) × Run (traced_triangle l.c l.halves l.points l.n fan) l.k l.initial.area l.at l.area l.i
+
+abbrev pub decreases-loop-k : goal.decreases-loop-k
+decreases-loop-k l = l.n - l.k

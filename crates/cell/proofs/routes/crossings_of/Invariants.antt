@@ -1,0 +1,13 @@
+use Prim.Native.Nat.{◌-◌, ◌≤◌}
+use native.Mathlib.Omega.{arith}
+use mathlib.Core.Path.{◌≡◌, ◌∙◌, ap}
+use Rattle.counting.specs.Lists.{pre}
+use Rattle.cell.specs.Of.{count_of, edges_of}
+use Rattle.cell.proofs.Route.{Sum, sum-none, sum_more}
+use Rattle.cell.proofs.routes.crossings_of.Given as goal
+
+abbrev pub invariant-loop-k : goal.invariant-loop-k
+invariant-loop-k l = (l.k ≤ 6) × Sum (edges_of l.c) l.k l.n
+
+abbrev pub decreases-loop-k : goal.decreases-loop-k
+decreases-loop-k l = 6 - l.k

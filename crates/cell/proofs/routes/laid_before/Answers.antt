@@ -1,0 +1,24 @@
+use Prim.Native.Nat.{◌-◌, ◌≤◌}
+use native.Mathlib.Omega.{arith}
+use mathlib.Core.Path.{sym, ◌∙◌}
+use Rattle.cell.specs.Of.{edges_of}
+use Rattle.cell.proofs.Route.{SumBefore, before-none, before_more, before_skip, before-all}
+use Rattle.cell.proofs.routes.laid_before.Goals as goal
+
+pub loop-j-init : goal.loop-j-init
+loop-j-init c = (omega arith, before-none _)
+
+pub is_ahead-requires : goal.is_ahead-requires
+is_ahead-requires c = record { k_bound = c.requires; j_bound = omega arith }
+
+pub overflow_add-n : goal.overflow_add-n
+overflow_add-n c = omega (arith, c.loop-j.invariant.1.few, c.count_at-n.ensures.1)
+
+pub loop-j-preserved-then-is_ahead : goal.loop-j-preserved-then-is_ahead
+loop-j-preserved-then-is_ahead c = (omega arith, before_more c.loop-j.invariant.1 (sym c.is_ahead.ensures ∙ c.if-is_ahead.true) _ c.count_at-n.ensures)
+
+pub loop-j-preserved : goal.loop-j-preserved
+loop-j-preserved c = (omega arith, before_skip c.loop-j.invariant.1 (sym c.is_ahead.ensures ∙ c.if-is_ahead.false))
+
+pub returns : goal.returns
+returns c = before-all c.loop-j.invariant.1 (omega arith) (omega arith)

@@ -1,0 +1,14 @@
+use Prim.Native.Nat.{◌-◌, min}
+use mathlib.Core.Path.{refl, ap, ◌∙◌}
+use native.Mathlib.Omega.{arith}
+use Rattle.cell.specs.work.Limits.{start_limit}
+use Rattle.cell.specs.Of.{start_of}
+use Rattle.cell.specs.work.Route.{limited}
+use Rattle.cell.proofs.Values.{Valued, valued_none, valued_more, valued_all}
+use Rattle.cell.proofs.routes.within.Given as goal
+
+abbrev pub invariant-loop-k : goal.invariant-loop-k
+invariant-loop-k l = Valued (λ e. min (start_of l.c e) (start_limit - 1)) 6 l.initial.starts l.k l.starts
+
+abbrev pub decreases-loop-k : goal.decreases-loop-k
+decreases-loop-k l = 6 - l.k

@@ -1,0 +1,15 @@
+use Prim.Native.Nat.{ℕ, ◌-◌, ◌≤◌, ◌<◌}
+use native.Mathlib.Omega.{arith}
+use mathlib.Core.Path.{◌≡◌, sym, ◌∙◌}
+use mathlib.Core.Bool.{false}
+use borrow.Author.Count.{below_more}
+use Rattle.cell.specs.Cell.{holds}
+use Rattle.cell.specs.Of.{edges_of}
+use Rattle.cell.proofs.Start.{on-edge, on-last}
+use Rattle.cell.proofs.walks.start_at.Given as goal
+
+abbrev pub invariant-loop-e : goal.invariant-loop-e
+invariant-loop-e l = (l.e ≤ 5) × ((i : ℕ) → i < l.e → holds (edges_of l.c) l.p i ≡ false)
+
+abbrev pub decreases-loop-e : goal.decreases-loop-e
+decreases-loop-e l = 5 - l.e

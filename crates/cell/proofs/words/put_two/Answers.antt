@@ -1,0 +1,11 @@
+use Rattle.counting.proofs.Fronts.{sets-two}
+use lib.ListN.{length-set}
+use native.Mathlib.Omega.{arith}
+use borrow.Author.Rules.{rules}
+use Rattle.cell.proofs.words.put_two.Goals as goal
+
+pub bounds-area-at-2 : goal.bounds-area-at-2
+bounds-area-at-2 c = simp length-set (omega arith)
+
+pub returns : goal.returns
+returns c = sets-two c.args.area.now c.args.at c.args.x c.args.y

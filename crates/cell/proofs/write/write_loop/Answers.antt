@@ -1,0 +1,36 @@
+use native.Mathlib.Omega.{arith}
+use Rattle.counting.proofs.Stored.{stored_long}
+use Rattle.cell.specs.work.Traced.{traced_triangle, traced_triangles}
+use Rattle.cell.proofs.Storing.{Run, run_none, run-place, run_more, run-all}
+use Rattle.manifold.specs.Shape.{shape_of, many_of}
+use mathlib.Core.Path.{◌≡◌}
+use Prim.Native.Nat.{◌-◌, ◌≤◌}
+use Rattle.cell.proofs.write.write_loop.Goals as goal
+
+pub many-m-requires : goal.many-m-requires
+many-m-requires c = c.requires.n_value.0
+
+pub loop-k-init : goal.loop-k-init
+loop-k-init c = (c.many-m.ensures, omega arith, run_none _ _ _)
+
+pub triangle_of-t-requires : goal.triangle_of-t-requires
+triangle_of-t-requires c = record { recorded_loop = ((c.requires.recorded_loop, (c.requires.n_value.0, omega arith))).0; n_value = ((c.requires.recorded_loop, (c.requires.n_value.0, omega arith))).1; k_bound = ((c.requires.recorded_loop, (c.requires.n_value.0, omega arith))).2 }
+
+pub put-requires : goal.put-requires
+put-requires c = omega (arith, run-place c.loop-k.invariant.2, stored_long c.loop-k.invariant.2.stored, c.loop-k.invariant.0, c.requires.n_value.1)
+
+pub overflow_add-i : goal.overflow_add-i
+overflow_add-i c = omega (arith, run-place c.loop-k.invariant.2, c.loop-k.invariant.0, c.requires.n_value.1)
+
+pub overflow_add-k : goal.overflow_add-k
+overflow_add-k c = omega (arith, c.many-m.type-inv)
+
+pub loop-k-preserved : goal.loop-k-preserved
+loop-k-preserved c = (c.loop-k.invariant.0, omega arith, run_more c.loop-k.invariant.2 c.triangle_of-t.ensures c.put.ensures)
+
+pub shape_of-area : goal.shape_of-area
+shape_of-area c = stored_long c.loop-k.invariant.2.stored
+
+pub returns : goal.returns
+unfolding traced_triangles traced_triangle
+returns c = (omega (arith, run-place c.loop-k.invariant.2), run-all c.loop-k.invariant.2 _ (omega arith))

@@ -1,0 +1,15 @@
+use Prim.Native.Nat.{◌-◌, ◌≤◌}
+use mathlib.Core.Path.{◌≡◌, ap, ◌∙◌}
+use native.Mathlib.Omega.{arith}
+use Rattle.cell.specs.work.Fits.{next_after, area_after}
+use Rattle.cell.specs.claims.Table.{table_cell}
+use Rattle.cell.proofs.Fits.{Put, put-none}
+use Rattle.direct.specs.work.Cells.{longest_block}
+use Rattle.direct.proofs.Cells.{came_on, put-block}
+use Rattle.direct.proofs.drawing.write_cells.Given as goal
+
+abbrev pub invariant-loop-k : goal.invariant-loop-k
+invariant-loop-k l = ((l.c ≤ l.k) × (l.k - l.c ≤ l.end - l.c)) × (l.b ≤ longest_block) × Put (table_cell l.cells l.counts l.names l.sides l.starts) l.c l.initial.area l.at (l.k - l.c) l.area l.i
+
+abbrev pub decreases-loop-k : goal.decreases-loop-k
+decreases-loop-k l = l.end - l.k

@@ -1,0 +1,10 @@
+use mathlib.Core.Path.{sym, ◌∙◌}
+use Rattle.counting.proofs.Bools.{clash}
+use borrow.Author.Rules.{rules}
+use Rattle.direct.proofs.kind_of.Goals as goal
+
+pub level_kind-requires : goal.level_kind-requires
+level_kind-requires c = sym c.is_level.ensures ∙ c.if-is_level.true
+
+pub returns : goal.returns
+returns c = clash h c.walked.ensures

@@ -1,0 +1,24 @@
+use Prim.Native.Nat.{ℕ, ◌-◌, ◌≤◌, ◌<◌}
+use native.Mathlib.Omega.{arith}
+use mathlib.Core.Path.{◌≡◌, refl}
+use lib.ListN.{length, get_or, length-set}
+use Rattle.cell.specs.Cell.{base}
+use Rattle.cell.specs.Of.{edges_of}
+use Rattle.cell.proofs.Route.{stored}
+use borrow.Author.Rules.{rules}
+use Rattle.direct.proofs.laid.firsts_of.Goals as goal
+
+pub loop-k-init : goal.loop-k-init
+loop-k-init c = (omega arith, refl, λ i l. absurd (omega arith))
+
+pub laid_before-requires : goal.laid_before-requires
+laid_before-requires c = (c.requires, omega arith)
+
+pub bounds-f-k : goal.bounds-f-k
+bounds-f-k c = omega (arith, c.loop-k.invariant.1)
+
+pub loop-k-preserved : goal.loop-k-preserved
+loop-k-preserved c = (omega arith, simp length-set c.loop-k.invariant.1, stored (base (edges_of c.args.c)) c.loop-k.f c.loop-k.k c.laid_before.result (omega (arith, c.loop-k.invariant.1)) c.loop-k.invariant.2 c.laid_before.ensures)
+
+pub returns : goal.returns
+returns c = λ k l. c.loop-k.invariant.2 k (omega arith)

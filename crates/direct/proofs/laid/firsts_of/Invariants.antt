@@ -1,0 +1,15 @@
+use Prim.Native.Nat.{ℕ, ◌-◌, ◌≤◌, ◌<◌}
+use native.Mathlib.Omega.{arith}
+use mathlib.Core.Path.{◌≡◌, refl}
+use lib.ListN.{length, get_or, length-set}
+use Rattle.cell.specs.Cell.{base}
+use Rattle.cell.specs.Of.{edges_of}
+use Rattle.cell.proofs.Route.{stored}
+use borrow.Author.Rules.{rules}
+use Rattle.direct.proofs.laid.firsts_of.Given as goal
+
+abbrev pub invariant-loop-k : goal.invariant-loop-k
+invariant-loop-k l = (l.k ≤ 6) × (length l.f ≡ 6) × ((i : ℕ) → i < l.k → get_or l.f i 0 ≡ base (edges_of l.c) i)
+
+abbrev pub decreases-loop-k : goal.decreases-loop-k
+decreases-loop-k l = 6 - l.k

@@ -1,0 +1,14 @@
+use Prim.Native.Nat.{◌-◌, ◌≤◌}
+use native.Mathlib.Omega.{arith}
+use mathlib.Core.Path.{sym, ◌∙◌}
+use Rattle.cell.specs.Of.{edges_of}
+use Rattle.cell.proofs.Route.{SumBefore, before-none, before_more, before_skip, before-all}
+use Rattle.direct.proofs.Laying.{counted}
+use borrow.Author.Rules.{rules}
+use Rattle.direct.proofs.laid.laid_before.Given as goal
+
+abbrev pub invariant-loop-j : goal.invariant-loop-j
+invariant-loop-j l = (l.j ≤ 6) × SumBefore (edges_of l.c) l.k l.j l.n
+
+abbrev pub decreases-loop-j : goal.decreases-loop-j
+decreases-loop-j l = 6 - l.j

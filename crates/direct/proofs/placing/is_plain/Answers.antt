@@ -1,0 +1,5 @@
+use borrow.Author.Rules.{rules}
+use Rattle.direct.proofs.placing.is_plain.Goals as goal
+
+pub returns : goal.returns
+returns c = (c.kind_of.ensures h).plain

@@ -1,0 +1,14 @@
+use Prim.Native.Nat.{◌-◌, ◌≤◌}
+use mathlib.Core.Path.{◌≡◌, ap, ◌∙◌}
+use native.Mathlib.Omega.{arith}
+use Rattle.cell.specs.work.Table.{middles_written}
+use Rattle.cell.proofs.Fans.{written_none, written-long}
+use Rattle.direct.specs.work.Cells.{longest_block}
+use Rattle.direct.proofs.Over.{written_on, written-over}
+use Rattle.direct.proofs.placing.write_middles.Given as goal
+
+abbrev pub invariant-loop-k : goal.invariant-loop-k
+invariant-loop-k l = ((l.c ≤ l.k) × (l.k - l.c ≤ l.end - l.c)) × (l.b ≤ longest_block) × ((l.area, l.i) ≡ middles_written l.cells l.counts l.names l.sides l.starts l.nodes l.c l.initial.area l.at (l.k - l.c))
+
+abbrev pub decreases-loop-k : goal.decreases-loop-k
+decreases-loop-k l = l.end - l.k

@@ -1,0 +1,12 @@
+use borrow.Author.Rules.{rules}
+use Rattle.direct.proofs.Putting.{Under, under_none, under-place, under-long, under_more, under_all, fours}
+use Prim.Native.Nat.{◌+◌, ◌*◌, ◌-◌, ◌≤◌}
+use mathlib.Core.Path.{◌≡◌, refl, ap, ap₂, ◌∙◌}
+use native.Mathlib.Omega.{arith}
+use Rattle.direct.proofs.put_fours.Given as goal
+
+abbrev pub invariant-loop-i : goal.invariant-loop-i
+invariant-loop-i l = (l.i ≤ l.n) × Under (fours l.c l.x l.y l.z l.u l.s0 l.s1 l.s2 l.s3) l.initial.area l.at l.i l.area l.j
+
+abbrev pub decreases-loop-i : goal.decreases-loop-i
+decreases-loop-i l = l.n - l.i

@@ -1,0 +1,40 @@
+use Rattle.direct.proofs.Putting.{Under, under_none, under-place, under-long, under_more, under_all, threes, one-words}
+use Rattle.direct.specs.claims.Direct.{whole}
+use mathlib.Core.List.{[], ◌∷◌}
+use Prim.Native.Nat.{◌+◌, ◌*◌, ◌-◌, ◌≤◌}
+use mathlib.Core.Path.{◌≡◌, refl, ap, ap₂, ◌∙◌}
+use native.Mathlib.Omega.{arith}
+use Rattle.direct.proofs.put_threes.Goals as goal
+
+pub loop-i-init : goal.loop-i-init
+loop-i-init c = (omega arith, under_none _ _ _)
+
+pub number_in-g0-requires : goal.number_in-g0-requires
+number_in-g0-requires c = c.requires.long.0 _ (omega (arith, c.loop-i-test))
+
+pub number_in-g1-requires : goal.number_in-g1-requires
+number_in-g1-requires c = c.requires.long.1 _ (omega (arith, c.loop-i-test))
+
+pub number_in-g2-requires : goal.number_in-g2-requires
+number_in-g2-requires c = c.requires.long.2 _ (omega (arith, c.loop-i-test))
+
+pub whole_of-t-requires : goal.whole_of-t-requires
+whole_of-t-requires c = c.requires.s0_bound.0
+
+pub put-requires : goal.put-requires
+put-requires c = omega (arith, under-place c.loop-i.invariant.1 1 (λ i. refl), under-long c.loop-i.invariant.1, c.requires.s0_bound.1, c.loop-i-test)
+
+pub overflow_add-j : goal.overflow_add-j
+overflow_add-j c = omega (arith, c.before.before.before.before.before.before.before.before.before.before.before.well-formed, under-place c.loop-i.invariant.1 1 (λ i. refl), c.requires.s0_bound.1, c.loop-i-test)
+
+pub overflow_add-i : goal.overflow_add-i
+overflow_add-i c = omega (arith, c.loop-i-test)
+
+pub loop-i-preserved : goal.loop-i-preserved
+loop-i-preserved c = (omega (arith, c.loop-i-test), under_more c.loop-i.invariant.1 refl (one-words _ _ _ c.put.ensures (c.whole_of-t.ensures ∙ rw (c.number_in-g0.ensures, c.number_in-g1.ensures, c.number_in-g2.ensures) refl)) (omega arith))
+
+pub shape_of-area : goal.shape_of-area
+shape_of-area c = under-long c.loop-i.invariant.1
+
+pub returns : goal.returns
+returns c = under_all c.loop-i.invariant.1 _ (omega arith)

@@ -1,0 +1,13 @@
+use Rattle.direct.proofs.Putting.{Under, under_none, under-place, under-long, under_more, under_all, threes, one-words}
+use Rattle.direct.specs.claims.Direct.{whole}
+use mathlib.Core.List.{[], ◌∷◌}
+use Prim.Native.Nat.{◌+◌, ◌*◌, ◌-◌, ◌≤◌}
+use mathlib.Core.Path.{◌≡◌, refl, ap, ap₂, ◌∙◌}
+use native.Mathlib.Omega.{arith}
+use Rattle.direct.proofs.put_threes.Given as goal
+
+abbrev pub invariant-loop-i : goal.invariant-loop-i
+invariant-loop-i l = (l.i ≤ l.n) × Under (threes l.c l.x l.y l.z l.s0 l.s1 l.s2) l.initial.area l.at l.i l.area l.j
+
+abbrev pub decreases-loop-i : goal.decreases-loop-i
+decreases-loop-i l = l.n - l.i

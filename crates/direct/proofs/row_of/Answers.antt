@@ -1,0 +1,10 @@
+use native.Mathlib.Omega.{arith}
+use borrow.Author.Tests.{lt-ltb, le-ltb}
+use borrow.Author.Rules.{rules}
+use Rattle.direct.proofs.row_of.Goals as goal
+
+pub returns-then-a-b : goal.returns-then-a-b
+returns-then-a-b c = record { first-is = c.number_at-first.ensures; falls-is = rw (lt-ltb c.args.a c.args.b c.if-a-b.true) }
+
+pub returns : goal.returns
+returns c = record { first-is = c.number_at-first.ensures; falls-is = rw (le-ltb c.args.a c.args.b (omega (arith, c.if-a-b.false))) }

@@ -1,0 +1,25 @@
+use mathlib.Core.Path.{refl}
+use Rattle.flat.specs.FlatGrid.{flat_of}
+use Rattle.flat.proofs.Calls.{refused-done, told-accepted, told-number, told-sides, traced_done}
+use borrow.Author.Rules.{rules}
+use Rattle.flat.proofs.chains.Goals as goal
+
+pub all_rows-requires : goal.all_rows-requires
+all_rows-requires c = refl
+
+pub trace-requires : goal.trace-requires
+trace-requires c = let c-n = c.n-1 in
+    let c-all-rows = c.all_rows in
+    let c-args = c.args in
+    record { accepted = ((told-accepted (flat_of c-args.triangles.now c-args.edges.now c-args.counts.now) c-all-rows.result _ c-n.given.1 c-all-rows.ensures.0, (told-sides (flat_of c-args.triangles.now c-args.edges.now c-args.counts.now) c-all-rows.result _ c-n.given.1 c-all-rows.ensures.0 _ c-all-rows.ensures.1, told-number (flat_of c-args.triangles.now c-args.edges.now c-args.counts.now) c-all-rows.result _ c-n.given.1 c-all-rows.ensures.0))).0; sides_known = ((told-accepted (flat_of c-args.triangles.now c-args.edges.now c-args.counts.now) c-all-rows.result _ c-n.given.1 c-all-rows.ensures.0, (told-sides (flat_of c-args.triangles.now c-args.edges.now c-args.counts.now) c-all-rows.result _ c-n.given.1 c-all-rows.ensures.0 _ c-all-rows.ensures.1, told-number (flat_of c-args.triangles.now c-args.edges.now c-args.counts.now) c-all-rows.result _ c-n.given.1 c-all-rows.ensures.0))).1; n_value = ((told-accepted (flat_of c-args.triangles.now c-args.edges.now c-args.counts.now) c-all-rows.result _ c-n.given.1 c-all-rows.ensures.0, (told-sides (flat_of c-args.triangles.now c-args.edges.now c-args.counts.now) c-all-rows.result _ c-n.given.1 c-all-rows.ensures.0 _ c-all-rows.ensures.1, told-number (flat_of c-args.triangles.now c-args.edges.now c-args.counts.now) c-all-rows.result _ c-n.given.1 c-all-rows.ensures.0))).2 }
+
+pub returns-in-Refused : goal.returns-in-Refused
+returns-in-Refused c = let c-all-rows = c.all_rows in
+    let c-args = c.args in
+    refused-done (flat_of c-args.triangles.now c-args.edges.now c-args.counts.now) c-all-rows.result _ _ c.in-Refused.is c-all-rows.ensures.0 _
+
+pub returns-in-Crossings : goal.returns-in-Crossings
+returns-in-Crossings c = let c-n = c.n-1 in
+    let c-all-rows = c.all_rows in
+    let c-args = c.args in
+    traced_done (flat_of c-args.triangles.now c-args.edges.now c-args.counts.now) c-all-rows.result _ c-n.given.1 c-all-rows.ensures.0 c.trace.ensures

@@ -1,0 +1,56 @@
+use native.Mathlib.Omega.{arith}
+use mathlib.Core.Path.{◌∙◌}
+use Rattle.face.proofs.Ends.{high_end, low_end}
+use Rattle.flat.proofs.Tables.{place_in, place_read}
+use Rattle.flat.proofs.Guided.{corners-with, guide_made, place-edge}
+use borrow.Author.Rules.{rules}
+use Rattle.flat.proofs.guides.guide_at.Goals as goal
+
+pub overflow_mul-b : goal.overflow_mul-b
+overflow_mul-b c = omega (arith, c.requires.j_lt_n, c.requires.tabled.places.few)
+
+pub count_at-ab-requires : goal.count_at-ab-requires
+count_at-ab-requires c = record { j_in_bounds = (place_read c.requires.tabled _ (omega (arith, c.requires.j_lt_n))).0; j_in_bounds_2 = (place_read c.requires.tabled _ (omega (arith, c.requires.j_lt_n))).1 }
+
+pub overflow_add-b : goal.overflow_add-b
+overflow_add-b c = omega (arith, c.requires.j_lt_n, c.requires.tabled.places.few)
+
+pub count_at-ac-requires : goal.count_at-ac-requires
+count_at-ac-requires c = let c-pre = c.requires in record { j_in_bounds = (place_read c-pre.0 _ (place_in c-pre.0 _ 1 c-pre.1 (omega arith))).0; j_in_bounds_2 = (place_read c-pre.0 _ (place_in c-pre.0 _ 1 c-pre.1 (omega arith))).1 }
+
+pub overflow_add-b-2 : goal.overflow_add-b-2
+overflow_add-b-2 c = let c-pre = c.requires in
+    omega (arith, c-pre.1, c-pre.0.places.few)
+
+pub count_at-bc-requires : goal.count_at-bc-requires
+count_at-bc-requires c = let c-pre = c.requires in record { j_in_bounds = (place_read c-pre.0 _ (place_in c-pre.0 _ 2 c-pre.1 (omega arith))).0; j_in_bounds_2 = (place_read c-pre.0 _ (place_in c-pre.0 _ 2 c-pre.1 (omega arith))).1 }
+
+pub lane_at-low-requires : goal.lane_at-low-requires
+lane_at-low-requires c = let c-count-at2 = c.count_at-ac in
+    let c-count-at = c.count_at-ab in
+    let c-pre = c.requires in
+    record { tabled = ((c-pre.0, (place_in c-pre.0 _ 2 c-pre.1 (omega arith), (corners-with c-pre.0 _ c-count-at.ensures c-count-at2.ensures c.count_at-bc.ensures c.flat_corners-c.ensures, low_end c.lower_end.ensures.0 (place-edge c-pre.0 _ c-pre.1))))).0; b_bound = ((c-pre.0, (place_in c-pre.0 _ 2 c-pre.1 (omega arith), (corners-with c-pre.0 _ c-count-at.ensures c-count-at2.ensures c.count_at-bc.ensures c.flat_corners-c.ensures, low_end c.lower_end.ensures.0 (place-edge c-pre.0 _ c-pre.1))))).1; c_value = ((c-pre.0, (place_in c-pre.0 _ 2 c-pre.1 (omega arith), (corners-with c-pre.0 _ c-count-at.ensures c-count-at2.ensures c.count_at-bc.ensures c.flat_corners-c.ensures, low_end c.lower_end.ensures.0 (place-edge c-pre.0 _ c-pre.1))))).2; end = ((c-pre.0, (place_in c-pre.0 _ 2 c-pre.1 (omega arith), (corners-with c-pre.0 _ c-count-at.ensures c-count-at2.ensures c.count_at-bc.ensures c.flat_corners-c.ensures, low_end c.lower_end.ensures.0 (place-edge c-pre.0 _ c-pre.1))))).3 }
+
+pub lane_at-high-requires : goal.lane_at-high-requires
+lane_at-high-requires c = let c-flat-corners = c.flat_corners-c in
+    let c-count-at3 = c.count_at-bc in
+    let c-count-at2 = c.count_at-ac in
+    let c-count-at = c.count_at-ab in
+    let c-pre = c.requires in
+    record { tabled = ((c-pre.0, (place_in c-pre.0 _ 2 c-pre.1 (omega arith), (corners-with c-pre.0 _ c-count-at.ensures c-count-at2.ensures c-count-at3.ensures c-flat-corners.ensures, high_end c.upper_end.ensures.0 (place-edge c-pre.0 _ c-pre.1))))).0; b_bound = ((c-pre.0, (place_in c-pre.0 _ 2 c-pre.1 (omega arith), (corners-with c-pre.0 _ c-count-at.ensures c-count-at2.ensures c-count-at3.ensures c-flat-corners.ensures, high_end c.upper_end.ensures.0 (place-edge c-pre.0 _ c-pre.1))))).1; c_value = ((c-pre.0, (place_in c-pre.0 _ 2 c-pre.1 (omega arith), (corners-with c-pre.0 _ c-count-at.ensures c-count-at2.ensures c-count-at3.ensures c-flat-corners.ensures, high_end c.upper_end.ensures.0 (place-edge c-pre.0 _ c-pre.1))))).2; end = ((c-pre.0, (place_in c-pre.0 _ 2 c-pre.1 (omega arith), (corners-with c-pre.0 _ c-count-at.ensures c-count-at2.ensures c-count-at3.ensures c-flat-corners.ensures, high_end c.upper_end.ensures.0 (place-edge c-pre.0 _ c-pre.1))))).3 }
+
+pub count_at-requires : goal.count_at-requires
+count_at-requires c = let c-pre = c.requires in record { j_in_bounds = (place_read c-pre.0 _ c-pre.1).0; j_in_bounds_2 = (place_read c-pre.0 _ c-pre.1).1 }
+
+pub land-own-requires : goal.land-own-requires
+land-own-requires c = let c-pre = c.requires in record { tabled = ((c-pre.0, (c-pre.1, omega arith))).0; j_lt_n = ((c-pre.0, (c-pre.1, omega arith))).1; t_bound = ((c-pre.0, (c-pre.1, omega arith))).2 }
+
+pub returns : goal.returns
+returns c = let c-wide = c.wide16-count in
+    let c-count-at4 = c.count_at in
+    let c-lane-at2 = c.lane_at-high in
+    let c-upper-end = c.upper_end in
+    let c-lane-at = c.lane_at-low in
+    let c-lower-end = c.lower_end in
+    let c-pre = c.requires in
+    guide_made c-pre.0 _ c-pre.1 _ c-lower-end.ensures.0 c-lane-at.ensures c-upper-end.ensures.0 c-lane-at2.ensures (c-wide.ensures.0 ∙ c-count-at4.ensures) c.land-own.ensures.value c.land-own.ensures.upper_bound

@@ -1,0 +1,80 @@
+use Prim.Native.Nat.{ℕ, ◌-◌, ◌*◌, ◌≤◌}
+use mathlib.Core.Path.{◌∙◌, ◌≡◌, ap}
+use native.Mathlib.Omega.{arith}
+use lib.ListN.{length}
+use Rattle.counting.specs.Stored.{filled}
+use Rattle.counting.proofs.Stored.{length-filled}
+use Rattle.grid.specs.Grid.{start}
+use Rattle.flat.specs.work.Work.{dart_step}
+use Rattle.flat.proofs.Tables.{all_more, all_none, all_skip}
+use borrow.Author.Rules.{rules}
+use Rattle.flat.proofs.steps.put_all.Goals as goal
+
+pub loop-e-init : goal.loop-e-init
+loop-e-init c = (omega arith, all_none _ _ _ _)
+
+pub loop-e-preserved-then-counts-e-eq0 : goal.loop-e-preserved-then-counts-e-eq0
+loop-e-preserved-then-counts-e-eq0 c = (omega arith, all_skip _ _ _ _ _ _ c.loop-e.invariant.1 c.if-counts-e-eq0.true)
+
+pub put_edge-requires : goal.put_edge-requires
+put_edge-requires c = let P = c.requires in
+    let A = c.args in
+    let L = c.loop-e in
+    record {
+      tabled = ((
+        P.0,
+        (
+          P.1.0,
+          (
+            omega arith,
+            omega (arith, P.1.1, ap length L.invariant.1, length-filled (dart_step A.counts.now A.sides.now A.n) (2 * start A.counts.now L.e) A.next.now),
+          ),
+        ),
+      )).0;
+      darts_value = ((
+        P.0,
+        (
+          P.1.0,
+          (
+            omega arith,
+            omega (arith, P.1.1, ap length L.invariant.1, length-filled (dart_step A.counts.now A.sides.now A.n) (2 * start A.counts.now L.e) A.next.now),
+          ),
+        ),
+      )).1;
+      e_in_bounds = ((
+        P.0,
+        (
+          P.1.0,
+          (
+            omega arith,
+            omega (arith, P.1.1, ap length L.invariant.1, length-filled (dart_step A.counts.now A.sides.now A.n) (2 * start A.counts.now L.e) A.next.now),
+          ),
+        ),
+      )).2;
+      darts_in_bounds = ((
+        P.0,
+        (
+          P.1.0,
+          (
+            omega arith,
+            omega (arith, P.1.1, ap length L.invariant.1, length-filled (dart_step A.counts.now A.sides.now A.n) (2 * start A.counts.now L.e) A.next.now),
+          ),
+        ),
+      )).3;
+    }
+
+pub loop-e-preserved : goal.loop-e-preserved
+loop-e-preserved c = let c-loop = c.loop-e in
+    (omega arith, all_more _ _ _ _ _ _ _ c-loop.invariant.1 c.put_edge.ensures)
+
+pub shape_of-next : goal.shape_of-next
+shape_of-next c = let A = c.args in
+    let L = c.loop-e in
+    ap length L.invariant.1 ∙ length-filled (dart_step A.counts.now A.sides.now A.n) (2 * start A.counts.now L.e) A.next.now
+
+pub returns : goal.returns
+returns c = let A = c.args in
+    let L = c.loop-e in
+    let q : L.e ≡ length A.counts.now = omega arith in
+    let z : 2 * start A.counts.now L.e ≡ A.darts = omega (arith, ap (start A.counts.now) q, c.requires.darts_value.0) in
+    L.invariant.1 ∙ ap (λ (k : ℕ). filled (dart_step A.counts.now A.sides.now A.n) k A.next.now) z

@@ -1,0 +1,16 @@
+use Prim.Native.Nat.{ℕ, ◌+◌, ◌-◌, ◌≤◌}
+use mathlib.Core.Path.{◌∙◌, ◌≡◌, ap, sym}
+use native.Mathlib.Omega.{arith}
+use lib.ListN.{length}
+use Rattle.counting.specs.Stored.{filled}
+use Rattle.counting.proofs.Stored.{filled_more, filled_none, length-filled}
+use Rattle.grid.specs.Grid.{start}
+use Rattle.grid.proofs.Crossings.{start_mono, start-next, start-zero}
+use borrow.Author.Rules.{rules}
+use Rattle.flat.proofs.steps.put_starts.Given as goal
+
+abbrev pub invariant-loop-e : goal.invariant-loop-e
+invariant-loop-e l = (l.e ≤ length l.counts) × (l.s ≡ start l.counts l.e) × (l.starts ≡ filled (start l.counts) l.e l.initial.starts)
+
+abbrev pub decreases-loop-e : goal.decreases-loop-e
+decreases-loop-e l = length l.counts - l.e

@@ -1,0 +1,13 @@
+use Prim.Native.Nat.{◌-◌}
+use native.Mathlib.Omega.{arith}
+use Rattle.counting.proofs.Search.{Seeking, seeking_all, seeking_hit, seeking_more, seeking_none}
+use Rattle.flat.specs.work.Work.{twice}
+use Rattle.flat.proofs.Keys.{twice-hit, twice_miss, twice-none}
+use borrow.Author.Rules.{rules}
+use Rattle.flat.proofs.triangles.first_third.Given as goal
+
+abbrev pub invariant-loop-j : goal.invariant-loop-j
+invariant-loop-j l = Seeking (twice l.prev) l.n l.j
+
+abbrev pub decreases-loop-j : goal.decreases-loop-j
+decreases-loop-j l = l.n - l.j

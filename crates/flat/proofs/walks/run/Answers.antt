@@ -1,0 +1,41 @@
+use Prim.Native.Nat.{◌-◌}
+use native.Mathlib.Omega.{arith}
+use Rattle.flat.specs.work.Work.{step_in}
+use Rattle.flat.proofs.Walked.{Running, run-end, run_home, run_more, run_read, run_short, running_lt, running_none}
+use borrow.Author.Rules.{rules}
+use Rattle.flat.proofs.walks.run.Goals as goal
+
+pub loop-n-init : goal.loop-n-init
+loop-n-init c = running_none _ _ _ c.requires.d_bound
+
+pub offset_bounds-next-e : goal.offset_bounds-next-e
+offset_bounds-next-e c = omega (arith, running_lt _ _ c.loop-n.invariant, c.requires.step_table.few)
+
+pub bounds-next-e : goal.bounds-next-e
+bounds-next-e c = run_read c.requires.step_table c.loop-n.invariant
+
+pub returns-then-f-d : goal.returns-then-f-d
+returns-then-f-d c = let c-loop = c.loop-n in
+    let c-pre = c.requires in
+    run_home c-pre.0 c-loop.invariant _ c.wide32-f.ensures.0 c.if-f-d.true
+
+pub overflow_mul-n : goal.overflow_mul-n
+overflow_mul-n c = omega (arith, c.requires.step_table.few)
+
+pub returns-then-n-f : goal.returns-then-n-f
+returns-then-n-f c = let c-loop = c.loop-n in
+    let c-pre = c.requires in
+    run-end c-pre.0 c-loop.invariant _ c.wide32-f.ensures.0 c.if-n-f.true
+
+pub overflow_add-k : goal.overflow_add-k
+overflow_add-k c = let c-loop = c.loop-n in
+    let c-pre = c.requires in
+    omega (arith, run_short c-pre.0 c-loop.invariant, c-pre.0.few)
+
+pub loop-n-smaller : goal.loop-n-smaller
+loop-n-smaller c = omega (arith, run_short c.requires.step_table c.loop-n.invariant)
+
+pub loop-n-preserved : goal.loop-n-preserved
+loop-n-preserved c = let c-loop = c.loop-n in
+    let c-pre = c.requires in
+    run_more c-pre.0 c-loop.invariant _ c.wide32-f.ensures.0 c.if-f-d.false c.if-n-f.false

@@ -1,0 +1,45 @@
+use Prim.Native.Nat.{◌-◌}
+use native.Mathlib.Omega.{arith}
+use Rattle.flat.specs.work.Work.{step_in}
+use Rattle.flat.proofs.Walked.{Listing, Marking, list-few, list-more, list_read, listing-all, listing-long, listing_none, mark-more, mark-place, marking_all, marking_none}
+use borrow.Author.Rules.{rules}
+use Rattle.flat.proofs.words.put_crossings.Goals as goal
+
+pub loop-i-init : goal.loop-i-init
+loop-i-init c = (listing_none _ _ _ _ _ _, marking_none _ _ _ _ _ c.requires.darts_from.1.1)
+
+pub overflow_cast-area : goal.overflow_cast-area
+overflow_cast-area c = let c-pre = c.requires in
+    omega (arith, list-few c-pre.0 c-pre.1.0 c.loop-i.invariant.0 (omega arith))
+
+pub overflow_add-area : goal.overflow_add-area
+overflow_add-area c = omega (arith, c.requires.darts_from.1.0)
+
+pub bounds-area-at : goal.bounds-area-at
+bounds-area-at c = omega (arith, c.requires.darts_from.1.0, listing-long _ _ c.loop-i.invariant.0)
+
+pub bounds-marks-e : goal.bounds-marks-e
+bounds-marks-e c = let c-pre = c.requires in
+    mark-place c-pre.0 c-pre.1.0 c.loop-i.invariant.1 (omega arith)
+
+pub offset_bounds-next-e : goal.offset_bounds-next-e
+offset_bounds-next-e c = let c-pre = c.requires in
+    omega (arith, list-few c-pre.0 c-pre.1.0 c.loop-i.invariant.0 (omega arith))
+
+pub bounds-next-e : goal.bounds-next-e
+bounds-next-e c = let c-pre = c.requires in
+    list_read c-pre.0 c-pre.1.0 c.loop-i.invariant.0 (omega arith)
+
+pub loop-i-preserved : goal.loop-i-preserved
+loop-i-preserved c = let c-loop = c.loop-i in
+    let c-pre = c.requires in
+    (list-more c-pre.0 c-pre.1.0 c-loop.invariant.0 (omega arith) _ c.wide32-e.ensures.0, mark-more c-pre.0 c-pre.1.0 c-loop.invariant.1 (omega arith) _ c.wide32-e.ensures.0)
+
+pub shape_of-area : goal.shape_of-area
+shape_of-area c = listing-long _ _ c.loop-i.invariant.0
+
+pub shape_of-marks : goal.shape_of-marks
+shape_of-marks c = c.loop-i.invariant.1.marked.same
+
+pub returns : goal.returns
+returns c = record { area_after = listing-all _ _ c.loop-i.invariant.0 (omega arith); marked_on = marking_all _ _ c.loop-i.invariant.1 (omega arith) }

@@ -1,0 +1,12 @@
+use Prim.Native.Nat.{◌-◌}
+use native.Mathlib.Omega.{arith}
+use Rattle.flat.specs.work.Work.{step_in}
+use Rattle.flat.proofs.Walked.{Listing, Marking, list-few, list-more, list_read, listing-all, listing-long, listing_none, mark-more, mark-place, marking_all, marking_none}
+use borrow.Author.Rules.{rules}
+use Rattle.flat.proofs.words.put_crossings.Given as goal
+
+abbrev pub invariant-loop-i : goal.invariant-loop-i
+invariant-loop-i l = Listing l.n (step_in l.n l.next) l.d l.m l.at l.initial.area l.e l.i l.area × Marking l.n (step_in l.n l.next) l.d l.m l.initial.marks l.e l.i l.marks
+
+abbrev pub decreases-loop-i : goal.decreases-loop-i
+decreases-loop-i l = l.m - l.i

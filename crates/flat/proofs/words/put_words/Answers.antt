@@ -1,0 +1,57 @@
+use Prim.Native.Nat.{ℕ, ◌-◌}
+use mathlib.Core.Path.{◌∙◌, ◌≡◌, sym}
+use native.Mathlib.Omega.{arith}
+use lib.ListN.{length, length-replicate}
+use Rattle.counting.proofs.Tables.{zeros}
+use Rattle.counting.proofs.Stored.{stored_long}
+use Rattle.flat.specs.Chain.{all_chain_words}
+use Rattle.flat.specs.work.Work.{step_in}
+use Rattle.flat.proofs.Walked.{Writing, finds_runs, finds-short, swept_fresh, swept_none, writing_all, writing_at, writing_marked, writing_more, writing_none, writing_room}
+use borrow.Author.Rules.{rules}
+use Rattle.flat.proofs.words.put_words.Goals as goal
+
+pub loop-p-init : goal.loop-p-init
+unfolding all_chain_words
+loop-p-init c = let c-pre = c.requires in
+    (length-replicate {A = ℕ} 65535 0, writing_none _ _ _ _ c-pre.1 (swept_none _ _ _ (omega (arith, length-replicate {A = ℕ} 65535 0, c-pre.0.few)) (zeros 65535)))
+
+pub bounds-marks-p : goal.bounds-marks-p
+bounds-marks-p c = omega (arith, c.requires.step_table.few)
+
+pub overflow_add-p : goal.overflow_add-p
+overflow_add-p c = omega (arith, c.requires.step_table.few)
+
+pub loop-p-preserved-then-marks-p-ne0 : goal.loop-p-preserved-then-marks-p-ne0
+loop-p-preserved-then-marks-p-ne0 c = let c-loop = c.loop-p in
+    let c-pre = c.requires in
+    (c-loop.invariant.0, writing_marked _ _ c-pre.0.turns c-loop.invariant.1 (omega arith) c.if-marks-p-ne0.true)
+
+pub chain_at-c-requires : goal.chain_at-c-requires
+chain_at-c-requires c = let c-pre = c.requires in record { step_table = ((c-pre.0, (omega arith, swept_fresh _ _ c-pre.0.turns (omega arith) c.loop-p.invariant.1.swept c.if-marks-p-ne0.false))).0; p_lt_n = ((c-pre.0, (omega arith, swept_fresh _ _ c-pre.0.turns (omega arith) c.loop-p.invariant.1.swept c.if-marks-p-ne0.false))).1; fresh = ((c-pre.0, (omega arith, swept_fresh _ _ c-pre.0.turns (omega arith) c.loop-p.invariant.1.swept c.if-marks-p-ne0.false))).2 }
+
+pub slice_bounds-put_chain-end : goal.slice_bounds-put_chain-end
+slice_bounds-put_chain-end c = sym c.loop-p.invariant.0
+
+pub put_chain-at-requires : goal.put_chain-at-requires
+put_chain-at-requires c = let c-chain-at = c.chain_at-c in
+    let c-loop = c.loop-p in
+    let c-pre = c.requires in
+    record { step_table = ((c-pre.0, (finds_runs _ _ c-pre.0.turns (omega arith) c-chain-at.ensures, (finds-short _ _ c-pre.0.turns (omega arith) c-chain-at.ensures, (writing_room _ _ c-pre.0.turns c-loop.invariant.1 (omega arith) c-chain-at.ensures, c-loop.invariant.1.swept.room))))).0; darts_from = ((c-pre.0, (finds_runs _ _ c-pre.0.turns (omega arith) c-chain-at.ensures, (finds-short _ _ c-pre.0.turns (omega arith) c-chain-at.ensures, (writing_room _ _ c-pre.0.turns c-loop.invariant.1 (omega arith) c-chain-at.ensures, c-loop.invariant.1.swept.room))))).1; size_le_n = ((c-pre.0, (finds_runs _ _ c-pre.0.turns (omega arith) c-chain-at.ensures, (finds-short _ _ c-pre.0.turns (omega arith) c-chain-at.ensures, (writing_room _ _ c-pre.0.turns c-loop.invariant.1 (omega arith) c-chain-at.ensures, c-loop.invariant.1.swept.room))))).2; start_in_bounds = ((c-pre.0, (finds_runs _ _ c-pre.0.turns (omega arith) c-chain-at.ensures, (finds-short _ _ c-pre.0.turns (omega arith) c-chain-at.ensures, (writing_room _ _ c-pre.0.turns c-loop.invariant.1 (omega arith) c-chain-at.ensures, c-loop.invariant.1.swept.room))))).3; n_in_bounds = ((c-pre.0, (finds_runs _ _ c-pre.0.turns (omega arith) c-chain-at.ensures, (finds-short _ _ c-pre.0.turns (omega arith) c-chain-at.ensures, (writing_room _ _ c-pre.0.turns c-loop.invariant.1 (omega arith) c-chain-at.ensures, c-loop.invariant.1.swept.room))))).4 }
+
+pub overflow_add-p-in-loop-p : goal.overflow_add-p-in-loop-p
+overflow_add-p-in-loop-p c = omega (arith, c.requires.step_table.few)
+
+pub loop-p-preserved : goal.loop-p-preserved
+loop-p-preserved c = let c-put-chain = c.put_chain-at in
+    let c-chain-at = c.chain_at-c in
+    let c-loop = c.loop-p in
+    let c-pre = c.requires in
+    (c-put-chain.ensures.1.same ∙ c-loop.invariant.0, writing_more _ _ c-pre.0.turns c-loop.invariant.1 (omega arith) c-chain-at.ensures c-put-chain.ensures.1 c-put-chain.ensures.0)
+
+pub shape_of-area : goal.shape_of-area
+shape_of-area c = stored_long c.loop-p.invariant.1.stored
+
+pub returns : goal.returns
+returns c = let c-loop = c.loop-p in
+    let c-pre = c.requires in
+    record { area_after = writing_all _ _ c-pre.0.turns c-loop.invariant.1 (omega arith); value = writing_at _ _ c-pre.0.turns c-loop.invariant.1 (omega arith) }

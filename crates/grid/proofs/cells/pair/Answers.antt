@@ -1,0 +1,148 @@
+use Prim.Native.Nat.{◌-◌, ◌+◌, ◌*◌, ◌<◌, ◌≤◌}
+use mathlib.Core.Path.{◌∙◌, ◌≡◌, ap, refl}
+use native.Mathlib.Omega.{arith}
+use lib.ListN.{get_or, length, length-set}
+use borrow.Author.Rules.{rules}
+use borrow.Author.Tests.{le-ltb, lt-ltb}
+use Rattle.counting.proofs.Search.{Seeking, seeking_all, seeking_hit, seeking_more, seeking_none}
+use Rattle.counting.proofs.Tables.{top_le, zeros}
+use Rattle.grid.proofs.Meets.{Meets, last-key, meets_last, meets_more, meets_none}
+use Rattle.grid.specs.work.Work.{Mates, third_at}
+use Rattle.grid.specs.work.Walks.{entry}
+use Rattle.grid.proofs.Mates.{mates_alone, mates_two, third-none, third-not, third-there}
+use Rattle.grid.proofs.cells.pair.Goals as goal
+
+pub loop-j-init : goal.loop-j-init
+loop-j-init c = let p = c.requires in
+    (seeking_none _ _, refl, p.blank, meets_none _ _ p.unseen)
+
+pub bounds-keys-j : goal.bounds-keys-j
+bounds-keys-j c = omega (arith, c.requires.keyed)
+
+pub earlier-p-requires : goal.earlier-p-requires
+earlier-p-requires c = let w = c.loop-j.invariant in
+    let p = c.requires in
+    record { key_in_bounds = omega (arith, w.3.room, c.wide.ensures, p.known c.loop-j.j (omega arith)); j_bound = omega (arith, p.small) }
+
+pub loop-j-preserved-then-p-eq0 : goal.loop-j-preserved-then-p-eq0
+loop-j-preserved-then-p-eq0 c = let L = c.loop-j in
+    let w = L.invariant in
+    let p = c.requires in
+    let e = c.earlier-p in
+    let k = c.wide.ensures in
+    let kl = p.known L.j (omega arith) in
+    let r = last-key c.args.keys.now L.j _ (meets_last w.3 _ k (omega (arith, k, kl)) _ e.ensures.0) in
+    (seeking_more _ w.0 (omega arith) (third-none w.2 _ r c.if-p-eq0.true), w.1, mates_alone w.2 _ r c.if-p-eq0.true, meets_more w.3 _ k (omega (arith, k, kl)) _ e.ensures.1)
+
+pub offset_bounds-near-p : goal.offset_bounds-near-p
+offset_bounds-near-p c = let L = c.loop-j in
+    let w = L.invariant in
+    let p = c.requires in
+    let e = c.earlier-p in
+    let k = c.wide.ensures in
+    let kl = p.known L.j (omega arith) in
+    let r = last-key c.args.keys.now L.j _ (meets_last w.3 _ k (omega (arith, k, kl)) _ e.ensures.0) in
+    let b = top_le _ _ _ _ r in
+    omega (arith, p.small)
+
+pub bounds-near-p : goal.bounds-near-p
+bounds-near-p c = let L = c.loop-j in
+    let w = L.invariant in
+    let p = c.requires in
+    let e = c.earlier-p in
+    let k = c.wide.ensures in
+    let kl = p.known L.j (omega arith) in
+    let r = last-key c.args.keys.now L.j _ (meets_last w.3 _ k (omega (arith, k, kl)) _ e.ensures.0) in
+    let b = top_le _ _ _ _ r in
+    omega (arith, w.1, p.room)
+
+pub shape_of-seen-then-near-p-ne0 : goal.shape_of-seen-then-near-p-ne0
+shape_of-seen-then-near-p-ne0 c = let L = c.loop-j in
+    let w = L.invariant in
+    let p = c.requires in
+    let e = c.earlier-p in
+    let k = c.wide.ensures in
+    let kl = p.known L.j (omega arith) in
+    let r = last-key c.args.keys.now L.j _ (meets_last w.3 _ k (omega (arith, k, kl)) _ e.ensures.0) in
+    let b = top_le _ _ _ _ r in
+    (meets_more w.3 _ k (omega (arith, k, kl)) _ e.ensures.1).room
+
+pub shape_of-near-then-near-p-ne0 : goal.shape_of-near-then-near-p-ne0
+shape_of-near-then-near-p-ne0 c = c.loop-j.invariant.1
+
+pub returns-then-near-p-ne0 : goal.returns-then-near-p-ne0
+returns-then-near-p-ne0 c = let L = c.loop-j in
+    let w = L.invariant in
+    let p = c.requires in
+    let e = c.earlier-p in
+    let k = c.wide.ensures in
+    let kl = p.known L.j (omega arith) in
+    let r = last-key c.args.keys.now L.j _ (meets_last w.3 _ k (omega (arith, k, kl)) _ e.ensures.0) in
+    let t = third-there w.2 _ r (omega (arith, c.if-p-eq0.false)) (omega (arith, c.if-near-p-ne0.true)) in
+    record { is = seeking_hit _ w.0 (omega arith) t; mates = w.2 }
+
+pub overflow_cast-near : goal.overflow_cast-near
+overflow_cast-near c = let L = c.loop-j in
+    let w = L.invariant in
+    let p = c.requires in
+    let e = c.earlier-p in
+    let k = c.wide.ensures in
+    let kl = p.known L.j (omega arith) in
+    let r = last-key c.args.keys.now L.j _ (meets_last w.3 _ k (omega (arith, k, kl)) _ e.ensures.0) in
+    let b = top_le _ _ _ _ r in
+    omega (arith, p.small)
+
+pub offset_bounds-near-j : goal.offset_bounds-near-j
+offset_bounds-near-j c = omega (arith, c.requires.small)
+
+pub bounds-near-j : goal.bounds-near-j
+bounds-near-j c = omega (arith, c.loop-j.invariant.1, c.requires.room)
+
+pub overflow_cast-near-in-loop-j : goal.overflow_cast-near-in-loop-j
+overflow_cast-near-in-loop-j c = omega (arith, c.requires.small)
+
+pub offset_bounds-near-p-in-loop-j : goal.offset_bounds-near-p-in-loop-j
+offset_bounds-near-p-in-loop-j c = let L = c.loop-j in
+    let w = L.invariant in
+    let p = c.requires in
+    let e = c.earlier-p in
+    let k = c.wide.ensures in
+    let kl = p.known L.j (omega arith) in
+    let r = last-key c.args.keys.now L.j _ (meets_last w.3 _ k (omega (arith, k, kl)) _ e.ensures.0) in
+    let b = top_le _ _ _ _ r in
+    omega (arith, p.small)
+
+pub bounds-near-p-in-loop-j : goal.bounds-near-p-in-loop-j
+bounds-near-p-in-loop-j c = let L = c.loop-j in
+    let w = L.invariant in
+    let p = c.requires in
+    let e = c.earlier-p in
+    let k = c.wide.ensures in
+    let kl = p.known L.j (omega arith) in
+    let r = last-key c.args.keys.now L.j _ (meets_last w.3 _ k (omega (arith, k, kl)) _ e.ensures.0) in
+    let b = top_le _ _ _ _ r in
+    simp length-set (omega (arith, w.1, p.room))
+
+pub loop-j-preserved : goal.loop-j-preserved
+loop-j-preserved c = let L = c.loop-j in
+    let w = L.invariant in
+    let p = c.requires in
+    let e = c.earlier-p in
+    let k = c.wide.ensures in
+    let kl = p.known L.j (omega arith) in
+    let r = last-key c.args.keys.now L.j _ (meets_last w.3 _ k (omega (arith, k, kl)) _ e.ensures.0) in
+    let q : 0 < e.result = omega (arith, c.if-p-eq0.false) in
+    let z = c.if-near-p-ne0.false in
+    let h : L.j < length L.near = omega (arith, w.1, p.room) in
+    (seeking_more _ w.0 (omega arith) (third-not w.2 _ r q z h), simp length-set w.1, mates_two w.2 _ r q z h, meets_more w.3 _ k (omega (arith, k, kl)) _ e.ensures.1)
+
+pub shape_of-seen : goal.shape_of-seen
+shape_of-seen c = c.loop-j.invariant.3.room
+
+pub shape_of-near : goal.shape_of-near
+shape_of-near c = c.loop-j.invariant.1
+
+pub returns : goal.returns
+returns c = let w = c.loop-j.invariant in
+    let e : c.loop-j.j ≡ c.args.n = omega (arith, w.0.within) in
+    record { is = seeking_all _ w.0 (omega arith); mates = rw (← e) w.2 }

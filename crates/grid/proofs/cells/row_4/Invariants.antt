@@ -1,0 +1,14 @@
+use Prim.Native.Nat.{◌-◌}
+use mathlib.Core.Path.{◌∙◌, sym}
+use native.Mathlib.Omega.{arith}
+use Rattle.counting.proofs.Search.{Seeking, seeking_all, seeking_hit, seeking_more, seeking_none}
+use Rattle.grid.specs.Rows.{repeats}
+use Rattle.grid.proofs.Again.{repeats-again}
+use borrow.Author.Rules.{rules}
+use Rattle.grid.proofs.cells.row_4.Given as goal
+
+abbrev pub invariant-loop-c : goal.invariant-loop-c
+invariant-loop-c l = Seeking (repeats l.cells) l.n l.c
+
+abbrev pub decreases-loop-c : goal.decreases-loop-c
+decreases-loop-c l = l.n - l.c

@@ -1,0 +1,35 @@
+use Prim.Native.Nat.{◌-◌}
+use native.Mathlib.Omega.{arith}
+use borrow.Author.Rules.{rules}
+use borrow.Author.Tests.{le-ltb, lt-ltb}
+use Rattle.grid.specs.Rows.{bad_edge}
+use Rattle.grid.proofs.Sides.{after-key, leb-not}
+use Rattle.grid.proofs.edges.bad_edge.Goals as goal
+
+pub returns-then-v-u : goal.returns-then-v-u
+unfolding bad_edge
+returns-then-v-u c = let c-end-at = c.end_at-u in
+    rw (← c-end-at.ensures.0, ← c.end_at-v.ensures.value, le-ltb _ _ c.if-v-u.true)
+
+pub returns-then-e-eq0 : goal.returns-then-e-eq0
+unfolding bad_edge
+returns-then-e-eq0 c = let c-args = c.args in
+    let c-end-at = c.end_at-u in
+    rw (← c-end-at.ensures.0, ← c.end_at-v.ensures.value, lt-ltb _ _ c.if-v-u.false, le-ltb 0 c-args.e (omega arith))
+
+pub returns : goal.returns
+unfolding bad_edge
+returns c = let c-args = c.args in
+    let c-shared-slice-known = c.shared_slice_known-1 in
+    let c-end-at = c.end_at-u in
+    let c-end-at2 = c.end_at-v in
+    rw (
+      ← c-end-at.ensures.0,
+      ← c-end-at2.ensures.0,
+      lt-ltb _ _ c.if-v-u.false,
+      lt-ltb 0 c-args.e (omega (arith, c.if-e-eq0.false)),
+      after-key c-args.edges.now (λ i. omega (arith, c-shared-slice-known.given i)) (c-args.e - 1) c-args.e,
+      ← c.edge_key.ensures,
+      ← c.edge_key-2.ensures,
+    )
+    (leb-not c.edge_key.result c.edge_key-2.result)

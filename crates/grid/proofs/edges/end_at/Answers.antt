@@ -1,0 +1,6 @@
+use native.Mathlib.Omega.{arith}
+use borrow.Author.Rules.{rules}
+use Rattle.grid.proofs.edges.end_at.Goals as goal
+
+pub returns : goal.returns
+returns c = record { value = c.wide.ensures; upper_bound = omega (arith, c.wide.ensures, c.shared_slice_known-2-1.given c.args.i) }

@@ -1,0 +1,15 @@
+use Prim.Native.Nat.{◌*◌, ◌+◌, ◌-◌}
+use native.Mathlib.Omega.{arith}
+use lib.Dec.{eqb}
+use lib.ListN.{get_or}
+use borrow.Author.Tests.{eq-eqb, ne_eqb}
+use Rattle.counting.proofs.Search.{Seeking, seeking_all, seeking_hit, seeking_more, seeking_none}
+use Rattle.grid.proofs.Sides.{row_8_told}
+use borrow.Author.Rules.{rules}
+use Rattle.grid.proofs.edges.row_8.Given as goal
+
+abbrev pub invariant-loop-e : goal.invariant-loop-e
+invariant-loop-e l = Seeking (λ l.e. eqb (get_or l.top (l.e + 1) 0) 0) l.m l.e
+
+abbrev pub decreases-loop-e : goal.decreases-loop-e
+decreases-loop-e l = l.m - l.e

@@ -1,0 +1,42 @@
+use mathlib.Core.Path.{◌∙◌, ap, sym}
+use native.Mathlib.Omega.{arith}
+use borrow.Author.Rules.{rules}
+use Rattle.grid.specs.Check.{check_numbers}
+use Rattle.grid.specs.Grid.{grid_of}
+use Rattle.grid.proofs.Answers.{verdict}
+use Rattle.grid.proofs.Filled.{copying, laid_filled, laid_kept, lowering, refused-keeps}
+use Rattle.grid.proofs.Starts.{lists_fine}
+use Rattle.grid.proofs.Working.{blank-tables}
+use Rattle.grid.proofs.lay.Goals as goal
+
+pub all_rows-r-requires : goal.all_rows-r-requires
+all_rows-r-requires c = record { edges_len = λ e. (lists_fine _ _ _ (sym c.row_2-wrong.ensures ∙ e)).0; blank = λ h. blank-tables _ 2048 h }
+
+pub returns-in-Refused : goal.returns-in-Refused
+returns-in-Refused c = let a = c.args in
+    let t = c.all_rows-r in
+    let h = t.ensures.0 ∙ verdict (grid_of a.cells.now a.edges.now a.counts.now a.starts.now) _ c.row_2-wrong.ensures in
+    let w = c.enum_told-1.given in
+    record { result_value = h; laid = laid_kept (grid_of a.cells.now a.edges.now a.counts.now a.starts.now) (refused-keeps _ w.0.0 w.0.1.0 (ap check_numbers (sym w.1) ∙ h)) _ _ }
+
+pub write_names-requires : goal.write_names-requires
+write_names-requires c = let a = c.args in
+    let t = c.all_rows-r in
+    let h = t.ensures.0 ∙ verdict (grid_of a.cells.now a.edges.now a.counts.now a.starts.now) _ c.row_2-wrong.ensures in
+    copying (grid_of a.cells.now a.edges.now a.counts.now a.starts.now) t.result _ c.in_default.is h t.new.1.1.1.1.0 t.new.1.1.1.1.1.0 t.ensures.1 _ (omega (arith, c.before.before.before.before.before.before.before.before.before.before.before.before.before.before.well-formed))
+
+pub write_sides-requires : goal.write_sides-requires
+write_sides-requires c = let a = c.args in
+    let t = c.all_rows-r in
+    let h = t.ensures.0 ∙ verdict (grid_of a.cells.now a.edges.now a.counts.now a.starts.now) _ c.row_2-wrong.ensures in
+    lowering (grid_of a.cells.now a.edges.now a.counts.now a.starts.now) t.result _ c.in_default.is h t.new.1.1.1.1.0 t.new.1.1.1.1.1.0 t.ensures.1 _ (omega (arith, c.before.before.before.before.before.before.before.before.before.before.before.before.before.before.before.before.before.well-formed))
+
+pub returns : goal.returns
+returns c = let a = c.args in
+    let t = c.all_rows-r in
+    let h = t.ensures.0 ∙ verdict (grid_of a.cells.now a.edges.now a.counts.now a.starts.now) _ c.row_2-wrong.ensures in
+    record {
+      result_value = h;
+      laid = laid_filled (grid_of a.cells.now a.edges.now a.counts.now a.starts.now) t.result _ c.in_default.is h t.new.1.1.1.1.0 t.new.1.1.1.1.1.0 t.ensures.1 _ _ _ _
+          c.write_names.ensures c.write_sides.ensures;
+    }

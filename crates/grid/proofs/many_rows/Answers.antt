@@ -1,0 +1,15 @@
+use Rattle.grid.proofs.Working.{cell-tables, chain-tables, edge-tables}
+use borrow.Author.Rules.{rules}
+use Rattle.grid.proofs.many_rows.Goals as goal
+
+pub table_rows-requires : goal.table_rows-requires
+table_rows-requires c = record { numbering = ((c.requires, (cell-tables _ 2048 c.requires.ordered.few, (chain-tables _ 2048 c.requires.ordered.few, edge-tables _ 2048 c.requires.ordered.few)))).0; cell_tables = ((c.requires, (cell-tables _ 2048 c.requires.ordered.few, (chain-tables _ 2048 c.requires.ordered.few, edge-tables _ 2048 c.requires.ordered.few)))).1; chain_tables = ((c.requires, (cell-tables _ 2048 c.requires.ordered.few, (chain-tables _ 2048 c.requires.ordered.few, edge-tables _ 2048 c.requires.ordered.few)))).2; edge_tables = ((c.requires, (cell-tables _ 2048 c.requires.ordered.few, (chain-tables _ 2048 c.requires.ordered.few, edge-tables _ 2048 c.requires.ordered.few)))).3 }
+
+pub shape_of-near : goal.shape_of-near
+shape_of-near c = c.table_rows.auto.1.1.1.0
+
+pub shape_of-sides : goal.shape_of-sides
+shape_of-sides c = c.table_rows.auto.1.1.1.1.0
+
+pub returns : goal.returns
+returns c = record { result_value = c.table_rows.ensures.result_value; where_accepted = c.table_rows.ensures.where_accepted }

@@ -1,0 +1,15 @@
+use Prim.Native.Nat.{◌-◌, ◌≤◌, ◌<◌}
+use mathlib.Core.Path.{◌≡◌, refl, ◌∙◌}
+use native.Mathlib.Omega.{arith}
+use lib.ListN.{length, length-set}
+use borrow.Author.Rules.{rules}
+use Rattle.grid.specs.work.Numbered.{Does}
+use Rattle.grid.proofs.Turns.{does_none, does_number}
+use Rattle.grid.proofs.Passes.{label-end, label-more, label-one}
+use Rattle.grid.proofs.numbering.label.Given as goal
+
+abbrev pub invariant-loop-j : goal.invariant-loop-j
+invariant-loop-j l = (l.j ≤ l.n) × Does (λ i. i < l.j) l.cells 0 0 l.initial.at l.initial.out l.m l.at l.out
+
+abbrev pub decreases-loop-j : goal.decreases-loop-j
+decreases-loop-j l = l.n - l.j

@@ -1,0 +1,14 @@
+use Prim.Native.Nat.{◌-◌, ◌≤◌, ◌<◌}
+use mathlib.Core.Path.{◌≡◌, refl, ◌∙◌}
+use native.Mathlib.Omega.{arith}
+use lib.ListN.{length, length-set}
+use borrow.Author.Rules.{rules}
+use Rattle.grid.specs.work.Walks.{label_at}
+use Rattle.grid.proofs.Passes.{Linking, linking_end, linking_more, linking_none}
+use Rattle.grid.proofs.numbering.link.Given as goal
+
+abbrev pub invariant-loop-c : goal.invariant-loop-c
+invariant-loop-c l = (l.c ≤ l.n) × (length l.head ≡ length l.initial.head) × (length l.next ≡ length l.initial.next) × Linking (label_at l.labels l.i) l.head l.next l.c
+
+abbrev pub decreases-loop-c : goal.decreases-loop-c
+decreases-loop-c l = l.n - l.c

@@ -1,0 +1,17 @@
+use mathlib.Core.Path.{◌∙◌}
+use native.Mathlib.Omega.{arith}
+use Rattle.grid.proofs.Tellings.{cells_passable, cells-tell}
+use borrow.Author.Rules.{rules}
+use Rattle.grid.proofs.numbering.number_cells.Goals as goal
+
+pub pass-requires : goal.pass-requires
+pass-requires c = cells_passable c.requires.low_chains c.requires.comparable c.clear-2.auto.0 c.clear-2.ensures c.clear.auto.0 c.clear.ensures
+
+pub shape_of-at : goal.shape_of-at
+shape_of-at c = c.pass.auto.1.1.1.1.1.1.1.1.1.1.0 ∙ c.clear-2.auto.0
+
+pub shape_of-same : goal.shape_of-same
+shape_of-same c = c.pass.ensures.out_long ∙ c.clear.auto.0
+
+pub returns : goal.returns
+returns c = cells-tell c.requires.low_chains c.requires.comparable c.clear-2.auto.0 c.clear-2.ensures c.clear.auto.0 c.clear.ensures _ _ c.pass.ensures

@@ -1,0 +1,63 @@
+use native.Mathlib.Omega.{arith}
+use Rattle.grid.proofs.Tellings.{cells_labelling, cells_slotted, faces-told, label-chains, low-chains, node-chains, slots_linkable}
+use borrow.Author.Rules.{rules}
+use Rattle.grid.proofs.numbering.number_faces.Goals as goal
+
+pub label-m-requires : goal.label-m-requires
+label-m-requires c = cells_labelling c.requires.numerable
+
+pub chains-requires : goal.chains-requires
+chains-requires c = let S = cells_slotted c.requires.numerable c.label-m.ensures in
+    let T = c.requires.chain_tables.0 in
+    record { linkable = ((slots_linkable S 0 (omega arith) _ _ T.h0_new T.x0_room, (slots_linkable S 1 (omega arith) _ _ T.h1_new T.x1_room, slots_linkable S 2 (omega arith) _ _ T.h2_new T.x2_room))).0; linkable_2 = ((slots_linkable S 0 (omega arith) _ _ T.h0_new T.x0_room, (slots_linkable S 1 (omega arith) _ _ T.h1_new T.x1_room, slots_linkable S 2 (omega arith) _ _ T.h2_new T.x2_room))).1; linkable_3 = ((slots_linkable S 0 (omega arith) _ _ T.h0_new T.x0_room, (slots_linkable S 1 (omega arith) _ _ T.h1_new T.x1_room, slots_linkable S 2 (omega arith) _ _ T.h2_new T.x2_room))).2 }
+
+pub overflow_add-m : goal.overflow_add-m
+overflow_add-m c = omega (arith, c.label-m.ensures.bound, c.requires.numerable.few)
+
+pub number_slots-requires : goal.number_slots-requires
+number_slots-requires c = let S = cells_slotted c.requires.numerable c.label-m.ensures in
+    let e = c.chains.ensures in
+    record { slotted = ((S, (label-chains S c.requires.chain_tables.0 e.0 e.1.0 e.1.1, c.requires.chain_tables.1))).0; label_chains = ((S, (label-chains S c.requires.chain_tables.0 e.0 e.1.0 e.1.1, c.requires.chain_tables.1))).1; fresh = ((S, (label-chains S c.requires.chain_tables.0 e.0 e.1.0 e.1.1, c.requires.chain_tables.1))).2 }
+
+pub overflow_add-result : goal.overflow_add-result
+overflow_add-result c = omega (arith, c.label-m.ensures.bound, c.requires.numerable.few)
+
+pub shape_of-labels : goal.shape_of-labels
+shape_of-labels c = c.label-m.auto.1.1.1.0
+
+pub shape_of-ranks : goal.shape_of-ranks
+shape_of-ranks c = c.label-m.auto.1.1.0
+
+pub shape_of-h0 : goal.shape_of-h0
+shape_of-h0 c = c.chains.auto.1.1.0
+
+pub shape_of-x0 : goal.shape_of-x0
+shape_of-x0 c = c.chains.auto.1.1.1.0
+
+pub shape_of-h1 : goal.shape_of-h1
+shape_of-h1 c = c.chains.auto.1.1.1.1.0
+
+pub shape_of-x1 : goal.shape_of-x1
+shape_of-x1 c = c.chains.auto.1.1.1.1.1.0
+
+pub shape_of-h2 : goal.shape_of-h2
+shape_of-h2 c = c.chains.auto.1.1.1.1.1.1.0
+
+pub shape_of-x2 : goal.shape_of-x2
+shape_of-x2 c = c.chains.auto.1.1.1.1.1.1.1.0
+
+pub shape_of-at : goal.shape_of-at
+shape_of-at c = c.number_slots.auto.1.1.1.1.1.1.1.1.1.0
+
+pub shape_of-faces : goal.shape_of-faces
+shape_of-faces c = c.number_slots.auto.1.1.1.1.1.1.1.1.1.1.0
+
+pub shape_of-same : goal.shape_of-same
+shape_of-same c = c.number_slots.auto.1.1.1.1.1.1.1.1.1.1.1.0
+
+pub returns : goal.returns
+returns c = let L = c.label-m.ensures in
+    let S = cells_slotted c.requires.numerable L in
+    let e = c.chains.ensures in
+    let C = label-chains S c.requires.chain_tables.0 e.0 e.1.0 e.1.1 in
+    record { slots = ((faces-told _ _ _ _ _ _ L c.number_slots.ensures, (node-chains c.requires.numerable L C, low-chains c.requires.numerable L C))).0; node_chains = ((faces-told _ _ _ _ _ _ L c.number_slots.ensures, (node-chains c.requires.numerable L C, low-chains c.requires.numerable L C))).1; low_chains = ((faces-told _ _ _ _ _ _ L c.number_slots.ensures, (node-chains c.requires.numerable L C, low-chains c.requires.numerable L C))).2 }

@@ -1,0 +1,31 @@
+use mathlib.Core.Path.{◌∙◌}
+use native.Mathlib.Omega.{arith}
+use Rattle.grid.proofs.Tellings.{faces_passable, faces-tell, slots_pairable, slotted_faces}
+use Rattle.grid.proofs.Working.{fresh-again}
+use borrow.Author.Rules.{rules}
+use Rattle.grid.proofs.numbering.number_slots.Goals as goal
+
+pub number_pairs-requires : goal.number_pairs-requires
+number_pairs-requires c = let S = c.requires.slotted in
+    let C = c.requires.label_chains.0 in
+    slots_pairable S _ _ _ _ _ _ _ C.by1 C.by2 S.faces-room c.requires.label_chains.1 (record { room = S.same-room; blank = S.same-blank })
+
+pub pass-requires : goal.pass-requires
+pass-requires c = let C = c.requires.label_chains.0 in
+    let S = slotted_faces c.requires.slotted (c.clear.auto.0 ∙ c.number_pairs.auto.1.1.1.1.1.1.1.0) c.clear.ensures in
+    faces_passable S _ _ _ _ _ _ C.by0 C.by1 c.number_pairs.ensures (fresh-again c.requires.label_chains.1.room (c.clear-2.auto.0 ∙ c.number_pairs.auto.1.1.1.1.1.1.1.1.0) c.clear-2.ensures)
+
+pub shape_of-at : goal.shape_of-at
+shape_of-at c = c.pass.auto.1.1.1.1.1.1.1.1.1.1.0 ∙ c.clear-2.auto.0 ∙ c.number_pairs.auto.1.1.1.1.1.1.1.1.0
+
+pub shape_of-faces : goal.shape_of-faces
+shape_of-faces c = c.pass.ensures.out_long ∙ c.clear.auto.0 ∙ c.number_pairs.auto.1.1.1.1.1.1.1.0
+
+pub shape_of-same : goal.shape_of-same
+shape_of-same c = c.number_pairs.auto.1.1.1.1.1.1.1.1.1.0
+
+pub returns : goal.returns
+returns c = let C = c.requires.label_chains.0 in
+    let S = slotted_faces c.requires.slotted (c.clear.auto.0 ∙ c.number_pairs.auto.1.1.1.1.1.1.1.0) c.clear.ensures in
+    let A = fresh-again c.requires.label_chains.1.room (c.clear-2.auto.0 ∙ c.number_pairs.auto.1.1.1.1.1.1.1.1.0) c.clear-2.ensures in
+    faces-tell S _ _ _ _ _ _ C.by0 C.by1 c.number_pairs.ensures A _ _ c.pass.ensures

@@ -1,0 +1,48 @@
+use Prim.Native.Nat.{◌-◌, ◌≤◌}
+use mathlib.Core.Path.{◌≡◌}
+use native.Mathlib.Omega.{arith}
+use borrow.Author.Rules.{rules}
+use Rattle.grid.specs.work.Numbered.{Does}
+use Rattle.grid.specs.work.Walks.{InSlots}
+use Rattle.grid.proofs.Turns.{does_number}
+use Rattle.grid.proofs.Places.{slot_in, slots-more, slots-none, slots-ready}
+use Rattle.grid.proofs.numbering.numbers.Goals as goal
+
+pub loop-s-init : goal.loop-s-init
+loop-s-init c = let p = c.requires in
+    (omega arith, omega (arith, p.0), slots-none _ _ _ p.1.0)
+
+pub overflow_mul-c : goal.overflow_mul-c
+overflow_mul-c c = let p = c.requires in
+    let w = c.loop-s.invariant in
+    let f = p.1.1.fits _ (slot_in _ _ _ _ w.0 (omega arith) p.1.0) in
+    omega (arith, f.1, p.1.1.small)
+
+pub overflow_add-c : goal.overflow_add-c
+overflow_add-c c = let p = c.requires in
+    let w = c.loop-s.invariant in
+    let f = p.1.1.fits _ (slot_in _ _ _ _ w.0 (omega arith) p.1.0) in
+    omega (arith, f.1, p.1.1.small)
+
+pub number-m-requires : goal.number-m-requires
+number-m-requires c = let p = c.requires in
+    let w = c.loop-s.invariant in
+    slots-ready _ _ _ p.1.0 w.0 (omega arith) w.2 p.1.1
+
+pub loop-s-preserved : goal.loop-s-preserved
+loop-s-preserved c = let p = c.requires in
+    let w = c.loop-s.invariant in
+    let e = c.number-m.ensures in
+    let r = slots-ready _ _ _ p.1.0 w.0 (omega arith) w.2 p.1.1 in
+    (omega arith, omega arith, slots-more _ _ _ p.1.0 w.0 (omega arith) w.2 (does_number _ _ _ _ _ _ r _ _ _ e.0 e.1.0 e.1.1))
+
+pub shape_of-at : goal.shape_of-at
+shape_of-at c = c.loop-s.invariant.2.at_long
+
+pub shape_of-out : goal.shape_of-out
+shape_of-out c = c.loop-s.invariant.2.out_long
+
+pub returns : goal.returns
+returns c = let w = c.loop-s.invariant in
+    let e : c.loop-s.s ≡ c.args.to = omega (arith, w.1) in
+    rw (← e) w.2

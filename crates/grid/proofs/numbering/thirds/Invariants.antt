@@ -1,0 +1,16 @@
+use Prim.Native.Nat.{◌-◌, ◌≤◌, ◌*◌}
+use mathlib.Core.Path.{◌≡◌, ap}
+use native.Mathlib.Omega.{arith}
+use lib.ListN.{length, length-set}
+use Rattle.counting.specs.Stored.{filled}
+use Rattle.counting.proofs.Stored.{filled_none, length-filled}
+use Rattle.grid.specs.work.Walks.{corner}
+use Rattle.grid.proofs.Tellings.{thirds-more}
+use borrow.Author.Rules.{rules}
+use Rattle.grid.proofs.numbering.thirds.Given as goal
+
+abbrev pub invariant-loop-c : goal.invariant-loop-c
+invariant-loop-c l = (l.c ≤ l.n) × (l.out ≡ filled (corner l.labels 2) (4 * l.c) l.initial.out)
+
+abbrev pub decreases-loop-c : goal.decreases-loop-c
+decreases-loop-c l = l.n - l.c

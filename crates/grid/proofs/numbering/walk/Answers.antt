@@ -1,0 +1,37 @@
+use native.Mathlib.Omega.{arith}
+use Rattle.grid.proofs.Places.{Walking, walking_empty, walking_end, walking_less, walking_lt, walking_more, walking_ready, walking_start}
+use borrow.Author.Rules.{rules}
+use Rattle.grid.proofs.numbering.walk.Goals as goal
+
+pub returns-then-to-from : goal.returns-then-to-from
+returns-then-to-from c = walking_empty c.if-to-from.true
+
+pub bounds-head-r : goal.bounds-head-r
+bounds-head-r c = omega (arith, c.requires.within, c.requires.linked.heads.room)
+
+pub loop-j-init : goal.loop-j-init
+loop-j-init c = walking_start _ c.wide-j.ensures
+
+pub numbers-m-requires : goal.numbers-m-requires
+numbers-m-requires c = let p = c.requires in record { from_le_to = ((p.ordered, (p.slots, walking_ready c.loop-j.invariant (omega arith) p))).0; to_bound = ((p.ordered, (p.slots, walking_ready c.loop-j.invariant (omega arith) p))).1; ready = ((p.ordered, (p.slots, walking_ready c.loop-j.invariant (omega arith) p))).2 }
+
+pub offset_bounds-next-c : goal.offset_bounds-next-c
+offset_bounds-next-c c = omega (arith, walking_lt c.loop-j.invariant (omega arith) c.requires)
+
+pub bounds-next-c : goal.bounds-next-c
+bounds-next-c c = walking_lt c.loop-j.invariant (omega arith) c.requires
+
+pub loop-j-smaller : goal.loop-j-smaller
+loop-j-smaller c = omega (arith, c.wide-j-in-loop-j.ensures, walking_less c.loop-j.invariant (omega arith) c.requires)
+
+pub loop-j-preserved : goal.loop-j-preserved
+loop-j-preserved c = walking_more c.loop-j.invariant (omega arith) c.numbers-m.ensures _ c.wide-j-in-loop-j.ensures
+
+pub shape_of-at : goal.shape_of-at
+shape_of-at c = c.loop-j.invariant.at_long
+
+pub shape_of-out : goal.shape_of-out
+shape_of-out c = c.loop-j.invariant.out_long
+
+pub returns : goal.returns
+returns c = walking_end c.loop-j.invariant (omega arith)

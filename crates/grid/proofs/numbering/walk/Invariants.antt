@@ -1,0 +1,10 @@
+use native.Mathlib.Omega.{arith}
+use Rattle.grid.proofs.Places.{Walking, walking_empty, walking_end, walking_less, walking_lt, walking_more, walking_ready, walking_start}
+use borrow.Author.Rules.{rules}
+use Rattle.grid.proofs.numbering.walk.Given as goal
+
+abbrev pub invariant-loop-j : goal.invariant-loop-j
+invariant-loop-j l = Walking l.head l.next l.r l.from l.to l.keys l.base l.ids l.initial.at l.initial.out l.m l.at l.out l.j
+
+abbrev pub decreases-loop-j : goal.decreases-loop-j
+decreases-loop-j l = l.j

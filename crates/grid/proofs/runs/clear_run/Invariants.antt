@@ -1,0 +1,13 @@
+use Prim.Native.Nat.{◌-◌}
+use mathlib.Core.Path.{◌∙◌, ◌≡◌, ap, refl}
+use native.Mathlib.Omega.{arith}
+use lib.ListN.{length, length-set}
+use Rattle.grid.proofs.Laying.{Clearing, clearing_end, clearing_more}
+use borrow.Author.Rules.{rules}
+use Rattle.grid.proofs.runs.clear_run.Given as goal
+
+abbrev pub invariant-loop-e : goal.invariant-loop-e
+invariant-loop-e l = Clearing l.edges l.f l.e l.tab × (length l.tab ≡ length l.initial.tab)
+
+abbrev pub decreases-loop-e : goal.decreases-loop-e
+decreases-loop-e l = l.f - l.e

@@ -1,0 +1,54 @@
+use Prim.Native.Nat.{◌-◌}
+use mathlib.Core.Path.{◌∙◌, refl}
+use native.Mathlib.Omega.{arith}
+use Rattle.grid.proofs.Laying.{PlacingSides, placing_clearable, placing_end, placing_fillable, placing_more, placing_start, placing_stop, placing_turnable}
+use borrow.Author.Rules.{rules}
+use Rattle.grid.proofs.runs.place_sides.Goals as goal
+
+pub overflow_mul-cap : goal.overflow_mul-cap
+overflow_mul-cap c = omega (arith, c.requires.few)
+
+pub loop-e-init : goal.loop-e-init
+loop-e-init c = placing_start c.requires
+
+pub overflow_mul-e : goal.overflow_mul-e
+overflow_mul-e c = omega (arith, c.requires.ends)
+
+pub offset_bounds-edges-e : goal.offset_bounds-edges-e
+offset_bounds-edges-e c = omega (arith, c.requires.ends)
+
+pub bounds-edges-e : goal.bounds-edges-e
+bounds-edges-e c = omega (arith, c.requires.ends)
+
+pub shape_of-tab-then-u-gt-HIGHEST_NODE : goal.shape_of-tab-then-u-gt-HIGHEST_NODE
+shape_of-tab-then-u-gt-HIGHEST_NODE c = c.loop-e.invariant.tab_same
+
+pub shape_of-sides-then-u-gt-HIGHEST_NODE : goal.shape_of-sides-then-u-gt-HIGHEST_NODE
+shape_of-sides-then-u-gt-HIGHEST_NODE c = c.loop-e.invariant.same
+
+pub returns-then-u-gt-HIGHEST_NODE : goal.returns-then-u-gt-HIGHEST_NODE
+returns-then-u-gt-HIGHEST_NODE c = placing_stop c.requires c.loop-e.invariant (omega arith) (omega (arith, c.wide-u.ensures, c.if-u-gt-HIGHEST_NODE.true))
+
+pub fill_run-f-requires : goal.fill_run-f-requires
+fill_run-f-requires c = placing_fillable c.requires c.loop-e.invariant (omega arith) _ refl
+
+pub turn_sides-requires : goal.turn_sides-requires
+turn_sides-requires c = placing_turnable c.requires c.loop-e.invariant (omega arith) _ (omega (arith, c.if-u-gt-HIGHEST_NODE.false)) _ c.fill_run-f.ensures.same
+
+pub clear_run-requires : goal.clear_run-requires
+clear_run-requires c = placing_clearable c.requires c.loop-e.invariant (omega arith) refl c.fill_run-f.ensures
+
+pub loop-e-smaller : goal.loop-e-smaller
+loop-e-smaller c = omega (arith, c.fill_run-f.ensures.more, c.fill_run-f.ensures.within)
+
+pub loop-e-preserved : goal.loop-e-preserved
+loop-e-preserved c = placing_more c.requires c.loop-e.invariant (omega arith) refl c.fill_run-f.ensures _ c.wide-u.ensures _ _ c.clear_run.ensures (c.clear_run.auto.1.1.1.0 ∙ c.fill_run-f.ensures.same) c.turn_sides.ensures
+
+pub shape_of-tab : goal.shape_of-tab
+shape_of-tab c = c.loop-e.invariant.tab_same
+
+pub shape_of-sides : goal.shape_of-sides
+shape_of-sides c = c.loop-e.invariant.same
+
+pub returns : goal.returns
+returns c = placing_end c.requires c.loop-e.invariant (omega arith)

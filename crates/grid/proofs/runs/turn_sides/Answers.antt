@@ -1,0 +1,26 @@
+use native.Mathlib.Omega.{arith}
+use mathlib.Core.Path.{◌∙◌, refl}
+use Rattle.grid.proofs.Laying.{turn_lays, turn_walkable}
+use borrow.Author.Rules.{rules}
+use Rattle.grid.proofs.runs.turn_sides.Goals as goal
+
+pub offset_bounds-ranks-u : goal.offset_bounds-ranks-u
+offset_bounds-ranks-u c = omega (arith, c.requires.node-lt, c.requires.chained.ranks-room)
+
+pub bounds-ranks-u : goal.bounds-ranks-u
+bounds-ranks-u c = omega (arith, c.requires.node-lt, c.requires.chained.ranks-room)
+
+pub walk_sides-requires : goal.walk_sides-requires
+walk_sides-requires c = turn_walkable c.requires _ c.wide-r.ensures 0 0 3 _ _ c.requires.chained.by0 (omega arith) (omega arith) _ refl
+
+pub walk_sides-requires-2 : goal.walk_sides-requires-2
+walk_sides-requires-2 c = turn_walkable c.requires _ c.wide-r.ensures 1 3 5 _ _ c.requires.chained.by1 (omega arith) (omega arith) _ c.walk_sides.ensures.same
+
+pub walk_sides-requires-3 : goal.walk_sides-requires-3
+walk_sides-requires-3 c = turn_walkable c.requires _ c.wide-r.ensures 2 5 6 _ _ c.requires.chained.by2 (omega arith) (omega arith) _ (c.walk_sides-2.ensures.same ∙ c.walk_sides.ensures.same)
+
+pub shape_of-sides : goal.shape_of-sides
+shape_of-sides c = c.walk_sides-3.ensures.same ∙ c.walk_sides-2.ensures.same ∙ c.walk_sides.ensures.same
+
+pub returns : goal.returns
+returns c = turn_lays c.requires _ c.wide-r.ensures c.walk_sides.ensures c.walk_sides-2.ensures c.walk_sides-3.ensures

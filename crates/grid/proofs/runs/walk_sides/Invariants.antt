@@ -1,0 +1,10 @@
+use native.Mathlib.Omega.{arith}
+use Rattle.grid.proofs.Laying.{WalkingSides, along-end, along-less, along-lt, along-more, along_puttable, along-start}
+use borrow.Author.Rules.{rules}
+use Rattle.grid.proofs.runs.walk_sides.Given as goal
+
+abbrev pub invariant-loop-j : goal.invariant-loop-j
+invariant-loop-j l = WalkingSides l.cells l.head l.next l.r l.from l.to l.tab l.initial.sides l.sides l.j
+
+abbrev pub decreases-loop-j : goal.decreases-loop-j
+decreases-loop-j l = l.j

@@ -1,0 +1,15 @@
+use Prim.Native.Nat.{ℕ, ◌-◌, ◌≤◌}
+use mathlib.Core.Path.{◌∙◌, ◌≡◌, ap}
+use native.Mathlib.Omega.{arith}
+use lib.ListN.{get_or, length}
+use borrow.Author.Rules.{rules}
+use Rattle.counting.specs.Stored.{filled}
+use Rattle.counting.proofs.Stored.{filled_more, filled_none, length-filled}
+use Rattle.grid.specs.work.Work.{lower_place}
+use Rattle.grid.proofs.tables.write_names.Given as goal
+
+abbrev pub invariant-loop-j : goal.invariant-loop-j
+invariant-loop-j l = (l.j ≤ l.n) × (l.names ≡ filled (λ l.j. lower_place l.j (get_or l.across l.j 0)) l.j l.initial.names)
+
+abbrev pub decreases-loop-j : goal.decreases-loop-j
+decreases-loop-j l = l.n - l.j

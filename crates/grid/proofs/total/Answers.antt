@@ -1,0 +1,30 @@
+use Prim.Native.Nat.{◌+◌, ◌-◌, ◌≤◌}
+use mathlib.Core.Path.{◌∙◌, ◌≡◌, ap, sym}
+use native.Mathlib.Omega.{arith}
+use lib.ListN.{length}
+use borrow.Author.Rules.{rules}
+use Rattle.grid.specs.Grid.{crossings, start}
+use Rattle.slots.specs.Limits.{most_crossings}
+use Rattle.grid.proofs.Crossings.{capped_is, capped-over, start_mono, start-next, start-zero}
+use Rattle.grid.proofs.total.Goals as goal
+
+pub loop-e-init : goal.loop-e-init
+loop-e-init c = (omega arith, omega arith, sym (start-zero _))
+
+pub returns-then-s-gt-MOST_CROSSINGS : goal.returns-then-s-gt-MOST_CROSSINGS
+returns-then-s-gt-MOST_CROSSINGS c = let c-loop = c.loop-e in
+    let l = c.args.counts.now in
+    let i = c-loop.e in
+    capped-over l (omega (arith, start-next l i, start_mono l (i + 1) (length l) (omega arith), c.size-s.ensures.value, c.if-s-gt-MOST_CROSSINGS.true, c-loop.invariant.2))
+
+pub loop-e-preserved : goal.loop-e-preserved
+loop-e-preserved c = let c-loop = c.loop-e in
+    let l = c.args.counts.now in
+    let i = c-loop.e in
+    (omega arith, omega (arith, c.if-s-gt-MOST_CROSSINGS.false), omega (arith, start-next l i, c.size-s.ensures.value, c-loop.invariant.2))
+
+pub returns : goal.returns
+returns c = let l = c.args.counts.now in
+    let e : c.loop-e.e ≡ length l = omega arith in
+    let f : c.loop-e.s ≡ crossings l = c.loop-e.invariant.2 ∙ ap (start l) e in
+    f ∙ capped_is l (omega (arith, c.loop-e.invariant.1))

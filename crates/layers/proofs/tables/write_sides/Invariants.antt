@@ -1,0 +1,15 @@
+use Prim.Native.Nat.{ℕ, ◌-◌, ◌≤◌}
+use mathlib.Core.Path.{◌∙◌, ◌≡◌, ap, refl}
+use native.Mathlib.Omega.{arith}
+use lib.ListN.{length}
+use Rattle.counting.specs.Stored.{filled}
+use Rattle.counting.proofs.Stored.{filled_more, filled_none, length-filled}
+use Rattle.layers.specs.work.Work.{side_from}
+use borrow.Author.Rules.{rules}
+use Rattle.layers.proofs.tables.write_sides.Given as goal
+
+abbrev pub invariant-loop-j : goal.invariant-loop-j
+invariant-loop-j l = (l.j ≤ l.n) × (l.own ≡ filled (side_from l.sides l.from) l.j l.initial.own)
+
+abbrev pub decreases-loop-j : goal.decreases-loop-j
+decreases-loop-j l = l.n - l.j

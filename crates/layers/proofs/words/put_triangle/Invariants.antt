@@ -1,0 +1,18 @@
+use Prim.Native.Nat.{ℕ, ◌+◌, ◌-◌, ◌≤◌}
+use mathlib.Core.Path.{◌≡◌, refl, ap, ap₂, ◌∙◌}
+use native.Mathlib.Omega.{arith}
+use lib.ListN.{length}
+use lib.Seq.{sets, length-sets}
+use Rattle.counting.specs.Lists.{values}
+use Rattle.counting.proofs.Stored.{sets_more}
+use Rattle.cell.specs.Words.{word_count}
+use Rattle.layers.specs.work.Work.{table_over, word_before, word_over}
+use Rattle.layers.proofs.Namings.{put, word-there, before-next, sets-none}
+use borrow.Author.Rules.{rules}
+use Rattle.layers.proofs.words.put_triangle.Given as goal
+
+abbrev pub invariant-loop-j : goal.invariant-loop-j
+invariant-loop-j l = (l.j ≤ word_count) × (l.f ≡ word_before l.initial.area l.at l.j) × (l.area ≡ sets l.initial.area l.at (values (put (table_over l.names l.over l.from) l.initial.area l.at) l.j))
+
+abbrev pub decreases-loop-j : goal.decreases-loop-j
+decreases-loop-j l = word_count - l.j

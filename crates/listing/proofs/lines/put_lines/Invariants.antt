@@ -1,0 +1,17 @@
+use borrow.Author.Rules.{rules}
+use native.Mathlib.Omega.{arith}
+use Prim.Native.Nat.{◌+◌, ◌-◌, ◌*◌, ◌≤◌}
+use mathlib.Core.Path.{◌≡◌, refl, ap}
+use lib.ListN.{length}
+use Rattle.counting.specs.Lists.{over}
+use Rattle.counting.specs.work.Stored.{Stored}
+use Rattle.counting.proofs.Stored.{stored_none, stored_as, stored_more}
+use Rattle.listing.specs.work.Text.{line_room}
+use Rattle.listing.specs.Text.{line}
+use Rattle.listing.proofs.lines.put_lines.Given as goal
+
+abbrev pub invariant-loop-t : goal.invariant-loop-t
+invariant-loop-t l = (l.t ≤ l.last) × (l.last ≡ l.n) × (length l.out ≡ length l.initial.out) × (l.end ≤ l.at + line_room * l.t) × Stored l.initial.out l.at (over (line l.area) l.t 0) l.out l.end
+
+abbrev pub decreases-loop-t : goal.decreases-loop-t
+decreases-loop-t l = l.last - l.t

@@ -1,0 +1,16 @@
+use Prim.Native.Nat.{◌-◌}
+use mathlib.Core.Path.{◌≡◌, refl, sym, ◌∙◌}
+use mathlib.Core.Bool.{true, false}
+use native.Mathlib.Omega.{arith}
+use borrow.Author.Rules.{rules}
+use Rattle.counting.specs.Lists.{seek}
+use Rattle.counting.proofs.Search.{seek_hit, seek_miss, seek-end}
+use Rattle.nearest.specs.work.Distance.{nearer_than}
+use Rattle.nearest.proofs.Least.{nearer_is}
+use Rattle.nearest.proofs.nearer_from.Given as goal
+
+abbrev pub invariant-loop-k : goal.invariant-loop-k
+invariant-loop-k l = seek (nearer_than l.points l.query l.least) (l.n - l.i) l.i ≡ seek (nearer_than l.points l.query l.least) (l.n - l.k) l.k
+
+abbrev pub decreases-loop-k : goal.decreases-loop-k
+decreases-loop-k l = l.n - l.k

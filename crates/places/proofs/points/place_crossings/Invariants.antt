@@ -1,0 +1,21 @@
+use native.Mathlib.Omega.{arith}
+use Prim.Native.Nat.{◌-◌, ◌*◌, ◌≤◌}
+use mathlib.Core.Path.{◌≡◌, sym, ap, ◌∙◌}
+use lib.ListN.{length}
+use lib.Seq.{sets}
+use Rattle.counting.specs.Lists.{values}
+use Rattle.counting.specs.work.Stored.{Stored}
+use Rattle.counting.proofs.Stored.{stored_long}
+use Rattle.place.specs.Place.{coordinates, place_at, all_numbers}
+use Rattle.grid.specs.Grid.{start}
+use Rattle.grid.proofs.Crossings.{start-next, start-zero}
+use Rattle.places.specs.Points.{crossing_place}
+use Rattle.places.proofs.Fractions.{start_fits}
+use Rattle.places.proofs.Crossings.{all_none, all_more}
+use Rattle.places.proofs.points.place_crossings.Given as goal
+
+abbrev pub invariant-loop-e : goal.invariant-loop-e
+invariant-loop-e l = (l.e ≤ length l.counts) × (l.g ≡ start l.counts l.e) × Stored l.initial.area 0 (all_numbers (values (crossing_place l.edges l.counts l.nodes l.fractions) l.g)) l.area (coordinates * l.g)
+
+abbrev pub decreases-loop-e : goal.decreases-loop-e
+decreases-loop-e l = length l.counts - l.e

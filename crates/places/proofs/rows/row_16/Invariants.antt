@@ -1,0 +1,16 @@
+use Prim.Native.Nat.{◌-◌, ◌*◌, ◌≤◌}
+use mathlib.Core.Path.{◌∙◌, ◌≡◌, sym}
+use native.Mathlib.Omega.{arith}
+use Rattle.counting.specs.Search.{first}
+use Rattle.counting.specs.Lists.{seek}
+use Rattle.counting.proofs.Search.{seek-end, seek_hit, seek_miss, seek-start}
+use Rattle.place.specs.Place.{coordinates}
+use Rattle.places.specs.work.Work.{bad_marked}
+use borrow.Author.Rules.{rules}
+use Rattle.places.proofs.rows.row_16.Given as goal
+
+abbrev pub invariant-loop-i : goal.invariant-loop-i
+invariant-loop-i l = (l.i ≤ l.m) × (first (bad_marked l.used l.nodes) l.m ≡ seek (bad_marked l.used l.nodes) (l.m - l.i) l.i)
+
+abbrev pub decreases-loop-i : goal.decreases-loop-i
+decreases-loop-i l = l.m - l.i

@@ -1,0 +1,19 @@
+use native.Mathlib.Omega.{arith}
+use borrow.Author.Rules.{rules}
+use Rattle.shading.proofs.Bytes.{byte-free, root_read, child_read}
+use Rattle.shading.proofs.byte_of.Goals as goal
+
+pub returns-then-links-x : goal.returns-then-links-x
+returns-then-links-x c = let a = c.args in byte-free a.links.now a.area.now a.x c.if-links-x.true
+
+pub returns-then-p-x : goal.returns-then-p-x
+returns-then-p-x c = let a = c.args in
+    root_read a.links.now a.area.now a.x c.if-links-x.false c.wide16-l.result c.wide16-l.ensures.0 c.if-p-x.true
+
+pub bounds-area-p : goal.bounds-area-p
+bounds-area-p c = let P = c.requires in
+    omega (arith, P.0.room, P.1, c.wide16-l.ensures.0, P.0.forest.low_parent c.args.x (P.1, c.if-links-x.false))
+
+pub returns : goal.returns
+returns c = let a = c.args in
+    child_read a.links.now a.area.now a.x c.if-links-x.false c.wide16-l.result c.wide16-l.ensures.0 c.if-p-x.false c.wide8.result c.wide8.ensures.0

@@ -1,0 +1,58 @@
+use Prim.Native.Nat.{◌-◌, ◌≤◌}
+use mathlib.Core.Path.{◌≡◌, refl, sym, ◌∙◌, subst}
+use native.Mathlib.Omega.{arith}
+use lib.ListN.{length}
+use borrow.Author.Tests.{not-true, not-false}
+use borrow.Author.Rules.{rules}
+use Rattle.counting.proofs.Bools.{clash}
+use Rattle.shading.specs.work.Work.{HasLink, TiedAll}
+use Rattle.shading.proofs.Ties.{tied-none, tied-more, tied-not}
+use Rattle.shading.proofs.links.unite_all.Goals as goal
+
+pub loop-e-init : goal.loop-e-init
+loop-e-init c = (omega arith, tied-none _ _ _ c.requires)
+
+pub bounds-edges-e : goal.bounds-edges-e
+bounds-edges-e c = omega (arith, c.requires.pairs)
+
+pub bounds-edges-e-in-loop-e : goal.bounds-edges-e-in-loop-e
+bounds-edges-e-in-loop-e c = omega (arith, c.requires.pairs)
+
+pub unite-requires : goal.unite-requires
+unite-requires c = let l = c.loop-e in
+    let P = c.requires in
+    let N = l.invariant.1.nodes in
+    record {
+      unitable = record {
+        forest = l.invariant.1.forest;
+        low-linked = subst (HasLink l.links) (sym c.wide16-u.ensures.0) (N.kept _ (P.low-linked l.e (omega arith)));
+        high-linked = subst (HasLink l.links) (sym c.wide16-v.ensures.0) (N.kept _ (P.high-linked l.e (omega arith)));
+      };
+      count_bound = omega (arith, c.wide16.ensures.1);
+    }
+
+pub returns-then-not-unite : goal.returns-then-not-unite
+returns-then-not-unite c = let l = c.loop-e in
+    let a = c.args in
+    record {
+      tied = λ e. clash e refl;
+      none = λ e. tied-not a.edges.now a.counts.now a.links.now l.e l.links l.invariant.1 (omega arith) _ _ _
+          c.wide16-u.ensures.0 c.wide16-v.ensures.0 c.wide16.ensures.0 _ _ c.unite.ensures (not-true _ c.if-not-unite.true);
+    }
+
+pub loop-e-preserved : goal.loop-e-preserved
+loop-e-preserved c = let l = c.loop-e in
+    let a = c.args in (
+      omega arith,
+      tied-more a.edges.now a.counts.now a.links.now l.e l.links l.invariant.1 (omega arith) _ _ _
+          c.wide16-u.ensures.0 c.wide16-v.ensures.0 c.wide16.ensures.0 _ _ c.unite.ensures (not-false _ c.if-not-unite.false),
+    )
+
+pub shape_of-links : goal.shape_of-links
+shape_of-links c = c.loop-e.invariant.1.forest.long ∙ sym c.requires.forest.long
+
+pub returns : goal.returns
+returns c = let l = c.loop-e in
+    let a = c.args in
+    let e : l.e ≡ length a.counts.now = omega arith in
+    record { tied = λ r. subst (λ k. TiedAll a.edges.now a.counts.now a.links.now k l.links) e l.invariant.1; none = λ r. clash refl r }

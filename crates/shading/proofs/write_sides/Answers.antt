@@ -1,0 +1,30 @@
+use Prim.Native.Nat.{◌-◌, ◌≤◌}
+use mathlib.Core.Path.{refl, sym, ◌∙◌}
+use native.Mathlib.Omega.{arith}
+use borrow.Author.Rules.{rules}
+use Rattle.shading.specs.Marks.{most_nodes}
+use Rattle.shading.proofs.Bytes.{Writing, writing_none, still_writable, writing_more, writing_all}
+use Rattle.shading.proofs.write_sides.Goals as goal
+
+pub loop-x-init : goal.loop-x-init
+loop-x-init c = (omega arith, writing_none _ _ c.requires)
+
+pub byte_of-requires : goal.byte_of-requires
+byte_of-requires c = let l = c.loop-x in
+    let s = c.before.before.before.before.before in
+    record { writable = still_writable c.args.links.now c.args.area.now l.x l.area c.requires l.invariant.1; x_lt_most_nodes = omega arith }
+
+pub bounds-area-x : goal.bounds-area-x
+bounds-area-x c = omega (arith, c.loop-x.invariant.1.long)
+
+pub loop-x-preserved : goal.loop-x-preserved
+loop-x-preserved c = let l = c.loop-x in
+    let s = c.before.before.before.before.before.before in
+    (omega arith, writing_more c.args.links.now c.args.area.now l.x l.area c.requires l.invariant.1 c.byte_of.result c.byte_of.ensures (omega arith) _ refl)
+
+pub shape_of-area : goal.shape_of-area
+shape_of-area c = c.loop-x.invariant.1.long ∙ sym c.requires.room
+
+pub returns : goal.returns
+returns c = let l = c.loop-x in
+    writing_all c.args.links.now c.args.area.now l.x l.area c.requires l.invariant.1 (omega arith) l.invariant.0

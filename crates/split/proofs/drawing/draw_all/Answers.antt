@@ -1,0 +1,28 @@
+use mathlib.Core.Logic.{⊎_elim}
+use native.Mathlib.Omega.{arith}
+use borrow.Author.Rules.{rules}
+use Rattle.cell.proofs.Fits.{no_room}
+use Rattle.booking.proofs.Totals.{all-few}
+use Rattle.split.specs.work.Table.{table_drawn}
+use Rattle.split.proofs.Tables.{drawn-long}
+use Rattle.split.proofs.drawing.draw_all.Goals as goal
+
+pub count_all-requires : goal.count_all-requires
+count_all-requires c = tt
+
+pub returns-then-area-t : goal.returns-then-area-t
+returns-then-area-t c = let A = c.args in
+    let G = c.requires in
+    let n = c.count_all.ensures in
+    let d = drawn-long A.cells.now A.counts.now A.names.now A.sides.now A.starts.now in
+    (omega (arith, n, G, d), (no_room (table_drawn A.cells.now A.counts.now A.names.now A.sides.now A.starts.now) A.area.now 0 (omega (arith, n, G, d, c.if-area-t.true))).1)
+
+pub write_all-requires : goal.write_all-requires
+write_all-requires c = let A = c.args in
+    let G = c.requires in
+    let d = drawn-long A.cells.now A.counts.now A.names.now A.sides.now A.starts.now in
+    let few = all-few A.cells.now A.counts.now A.names.now A.sides.now A.starts.now in
+    record { splits_value = G.splits_are; starts_in_bounds = ⊎_elim (λ v. omega (arith, v.1.ensures, v.2.left, G, d)) (λ v. omega (arith, few, G, d, v.left)) c.if-area-s.branch }
+
+pub returns : goal.returns
+returns c = c.write_all.ensures

@@ -1,0 +1,19 @@
+use mathlib.Core.Path.{refl, ap}
+use borrow.Author.Rules.{rules}
+use Rattle.counting.proofs.Stored.{stored_as}
+use Rattle.cell.specs.Words.{all_words}
+use Rattle.split.specs.Parts.{drawn_triangles}
+use Rattle.split.proofs.Tables.{splits_drawable}
+use Rattle.split.proofs.drawing.put_at.Goals as goal
+
+pub cell_at-v-requires : goal.cell_at-v-requires
+cell_at-v-requires c = tt
+
+pub put_cell-requires : goal.put_cell-requires
+put_cell-requires c = let A = c.args in
+    let P = c.requires in
+    let e = c.cell_at-v.ensures in
+    record { drawable = splits_drawable A.cells.now A.counts.now A.names.now A.sides.now A.starts.now A.c e P.0; c_in_bounds = rw e P.1 }
+
+pub returns : goal.returns
+returns c = stored_as c.put_cell.ensures (ap (λ v. all_words (drawn_triangles v)) c.cell_at-v.ensures) refl

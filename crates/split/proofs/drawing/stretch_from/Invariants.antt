@@ -1,0 +1,13 @@
+use Prim.Native.Nat.{ℕ, ◌-◌, ◌≤◌, ◌<◌}
+use mathlib.Core.Path.{◌≡◌}
+use native.Mathlib.Omega.{arith}
+use Rattle.split.specs.work.Gains.{splits_at}
+use Rattle.split.proofs.Few.{gain_at}
+use Rattle.split.proofs.Tables.{none_more}
+use Rattle.split.proofs.drawing.stretch_from.Given as goal
+
+abbrev pub invariant-loop-e : goal.invariant-loop-e
+invariant-loop-e l = (l.c ≤ l.e) × (l.e ≤ l.n) × ((k : ℕ) → l.c ≤ k → k < l.e → splits_at l.counts l.sides k ≡ 0)
+
+abbrev pub decreases-loop-e : goal.decreases-loop-e
+decreases-loop-e l = l.n - l.e

@@ -1,0 +1,61 @@
+use Prim.Native.Nat.{◌-◌, ◌≤◌}
+use native.Mathlib.Omega.{arith}
+use borrow.Author.Rules.{rules}
+use Rattle.counting.specs.work.Stored.{Summed}
+use Rattle.counting.proofs.Stored.{summed_none, summed_more, summed_all}
+use Rattle.slots.specs.Limits.{most_count}
+use Rattle.cell.specs.work.Limits.{most_in_cell}
+use Rattle.cell.specs.work.Table.{table_crossings}
+use Rattle.cell.proofs.Using.{table-most}
+use Rattle.split.specs.work.Table.{most_more}
+use Rattle.split.specs.work.Gains.{splits_at, more_at}
+use Rattle.split.proofs.Few.{at-few, at_more, gain_at, crossings-at}
+use Rattle.split.proofs.drawing.sums_of.Goals as goal
+
+pub loop-c-init : goal.loop-c-init
+loop-c-init c = (omega arith, summed_none _ _, summed_none _ _, summed_none _ _)
+
+pub overflow_add-crossings : goal.overflow_add-crossings
+overflow_add-crossings c = let A = c.args in
+    let L = c.loop-c in
+    let x = crossings-at A.counts.now A.sides.now L.c c.counts_at-six.ensures c.crossings_in-crossings.ensures.0 in
+    omega (arith, x, table-most A.counts.now A.sides.now L.c, L.invariant.1.few, c.drawn-n.ensures)
+
+pub overflow_add-splits : goal.overflow_add-splits
+overflow_add-splits c = let A = c.args in
+    let L = c.loop-c in
+    let g = gain_at A.counts.now A.sides.now L.c c.counts_at-six.ensures c.gain_of-g.ensures in
+    omega (arith, g, at-few A.counts.now A.sides.now L.c, L.invariant.2.few, c.drawn-n.ensures)
+
+pub overflow_add-more : goal.overflow_add-more
+overflow_add-more c = let A = c.args in
+    let L = c.loop-c in
+    let g = gain_at A.counts.now A.sides.now L.c c.counts_at-six.ensures c.gain_of-g.ensures in
+    omega (arith, g, at_more A.counts.now A.sides.now L.c, L.invariant.3.few, c.drawn-n.ensures)
+
+pub overflow_add-c : goal.overflow_add-c
+overflow_add-c c = omega (arith, c.loop-c.invariant.0, c.drawn-n.ensures)
+
+pub loop-c-preserved : goal.loop-c-preserved
+loop-c-preserved c = let A = c.args in
+    let L = c.loop-c in
+    let e = c.counts_at-six.ensures in
+    let g = gain_at A.counts.now A.sides.now L.c e c.gain_of-g.ensures in
+    let x = crossings-at A.counts.now A.sides.now L.c e c.crossings_in-crossings.ensures.0 in (
+      omega arith,
+      summed_more _ _ L.invariant.1 _ x (omega (arith, x, table-most A.counts.now A.sides.now L.c)),
+      summed_more _ _ L.invariant.2 _ g.0 (omega (arith, g, at-few A.counts.now A.sides.now L.c)),
+      summed_more _ _ L.invariant.3 _ g.1 (omega (arith, g, at_more A.counts.now A.sides.now L.c)),
+    )
+
+pub returns : goal.returns
+returns c = let I = c.loop-c.invariant in
+    let d = c.drawn-n.ensures in
+    record {
+      crossings_are = summed_all _ _ I.1 (omega (arith, d));
+      splits_are = summed_all _ _ I.2 (omega (arith, d));
+      more-is = summed_all _ _ I.3 (omega (arith, d));
+      few-crossings = omega (arith, I.1.few, d);
+      few-splits = omega (arith, I.2.few, d);
+      few-more = omega (arith, I.3.few, d);
+    }

@@ -1,0 +1,19 @@
+use Prim.Native.Nat.{◌-◌, ◌≤◌}
+use native.Mathlib.Omega.{arith}
+use borrow.Author.Rules.{rules}
+use Rattle.counting.specs.work.Stored.{Summed}
+use Rattle.counting.proofs.Stored.{summed_none, summed_more, summed_all}
+use Rattle.slots.specs.Limits.{most_count}
+use Rattle.cell.specs.work.Limits.{most_in_cell}
+use Rattle.cell.specs.work.Table.{table_crossings}
+use Rattle.cell.proofs.Using.{table-most}
+use Rattle.split.specs.work.Table.{most_more}
+use Rattle.split.specs.work.Gains.{splits_at, more_at}
+use Rattle.split.proofs.Few.{at-few, at_more, gain_at, crossings-at}
+use Rattle.split.proofs.drawing.sums_of.Given as goal
+
+abbrev pub invariant-loop-c : goal.invariant-loop-c
+invariant-loop-c l = (l.c ≤ l.n) × Summed (table_crossings l.counts l.sides) most_in_cell l.c l.crossings × Summed (splits_at l.counts l.sides) most_count l.c l.splits × Summed (more_at l.counts l.sides) most_more l.c l.more
+
+abbrev pub decreases-loop-c : goal.decreases-loop-c
+decreases-loop-c l = l.n - l.c

@@ -1,0 +1,7 @@
+use Rattle.booking.specs.Booking.{median}
+use borrow.Author.Rules.{rules}
+use Rattle.split.proofs.numbers.median_of.Goals as goal
+
+pub returns : goal.returns
+unfolding median
+returns c = cc

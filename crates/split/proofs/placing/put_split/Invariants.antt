@@ -1,0 +1,14 @@
+use Prim.Native.Nat.{◌-◌, ◌≤◌}
+use mathlib.Core.Path.{◌∙◌}
+use native.Mathlib.Omega.{arith}
+use Rattle.counting.proofs.Stored.{stored_long}
+use Rattle.cell.specs.Of.{count_of}
+use Rattle.split.proofs.Coded.{sum-few}
+use Rattle.split.proofs.Arms.{Arms, arms_none, arms_room, arms_more, arms_all, spokes_told}
+use Rattle.split.proofs.placing.put_split.Given as goal
+
+abbrev pub invariant-loop-m : goal.invariant-loop-m
+invariant-loop-m l = (l.m ≤ 4) × Arms (count_of l.c) l.at l.initial.area l.i l.m l.area l.k
+
+abbrev pub decreases-loop-m : goal.decreases-loop-m
+decreases-loop-m l = 4 - l.m

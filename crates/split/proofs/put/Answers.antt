@@ -1,0 +1,9 @@
+use borrow.Author.Rules.{rules}
+use Rattle.split.proofs.Putting.{put_stored}
+use Rattle.split.proofs.put.Goals as goal
+
+pub returns : goal.returns
+returns c = let a = c.args in
+    let p = c.requires in
+    let W = c.write_part.ensures in
+    put_stored p.0 a.only a.at p.1 W.0 W.1

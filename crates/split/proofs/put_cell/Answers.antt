@@ -1,0 +1,22 @@
+use Prim.Native.Nat.{◌<◌}
+use mathlib.Core.Path.{refl, sym}
+use native.Mathlib.Omega.{arith}
+use borrow.Author.Rules.{rules}
+use Rattle.counting.proofs.Stored.{stored_as}
+use Rattle.split.proofs.OneCell.{drawn-placed, words-whole, whole_room, drawn-parts, drawn-left, parts-room}
+use Rattle.split.proofs.put_cell.Goals as goal
+
+pub put-requires : goal.put-requires
+put-requires c = let p = c.requires in record { starts_near = drawn-placed p.0; only_in_bounds = whole_room p.0 c.args.at c.if-splits-eq0.true p.1 }
+
+pub returns-then-splits-eq0 : goal.returns-then-splits-eq0
+returns-then-splits-eq0 c = stored_as c.put.ensures (words-whole c.requires.drawable c.if-splits-eq0.true) refl
+
+pub split_in-requires : goal.split_in-requires
+split_in-requires c = let p = c.requires in
+    let h : 0 < c.args.splits = omega (arith, c.if-splits-eq0.false) in
+    record { splits_left = drawn-left p.0 h; c_in_bounds = parts-room p.0 h c.args.at p.1 }
+
+pub returns : goal.returns
+returns c = let h : 0 < c.args.splits = omega (arith, c.if-splits-eq0.false) in
+    stored_as c.split_in.ensures (sym (drawn-parts c.requires.drawable h)) refl

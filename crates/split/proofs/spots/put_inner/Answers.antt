@@ -1,0 +1,34 @@
+use Prim.Native.Nat.{◌<◌}
+use mathlib.Core.Path.{sym, ◌∙◌}
+use native.Mathlib.Omega.{arith}
+use borrow.Author.Rules.{rules}
+use Rattle.split.proofs.OneCell.{drawn-left}
+use Rattle.split.proofs.Spotted.{inner-none, inner_room, inner-done, inner-short}
+use Rattle.split.proofs.spots.put_inner.Goals as goal
+
+pub returns-then-splits-eq0 : goal.returns-then-splits-eq0
+returns-then-splits-eq0 c = let A = c.args in inner-none c.requires A.nodes.now A.area.now A.i c.if-splits-eq0.true
+
+pub spots_of-requires : goal.spots_of-requires
+spots_of-requires c = record { drawable = c.requires; splits_nonzero = omega (arith, c.if-splits-eq0.false) }
+
+pub inner_in-requires : goal.inner_in-requires
+inner_in-requires c = let A = c.args in
+    let D = c.requires in
+    let h : 0 < A.splits = omega (arith, c.if-splits-eq0.false) in
+    let t = sym c.before.before.before.fits2.ensures ∙ c.if-fits.true in
+    let e = c.corners_of-at.ensures in
+    record { splits_left = drawn-left D h; c_in_bounds = rw e (inner_room D A.nodes.now A.area.now A.i h c.spots_of.ensures t) }
+
+pub returns-then-fits : goal.returns-then-fits
+returns-then-fits c = let A = c.args in
+    let D = c.requires in
+    let h : 0 < A.splits = omega (arith, c.if-splits-eq0.false) in
+    let t = sym c.before.before.before.before.before.before.fits2.ensures ∙ c.if-fits.true in
+    let e = c.corners_of-at.ensures in
+    inner-done D A.nodes.now A.area.now A.i h c.spots_of.ensures t (rw e at c.inner_in.ensures)
+
+pub returns : goal.returns
+returns c = let A = c.args in
+    let h : 0 < A.splits = omega (arith, c.if-splits-eq0.false) in
+    inner-short c.requires A.nodes.now A.area.now A.i h c.spots_of.ensures (sym c.before.fits2.ensures ∙ c.if-fits.false)

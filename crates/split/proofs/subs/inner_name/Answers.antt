@@ -1,0 +1,23 @@
+use native.Mathlib.Omega.{arith}
+use Prim.Native.Nat.{◌+◌}
+use mathlib.Core.Path.{sym, ap, ap₂, ◌∙◌}
+use lib.ListN.{get_or}
+use Rattle.cell.specs.Nodes.{joining}
+use Rattle.split.proofs.Coded.{ends-lt, labels_apart, name-told}
+use borrow.Author.Rules.{rules}
+use Rattle.split.proofs.subs.inner_name.Goals as goal
+
+pub joining_of-requires : goal.joining_of-requires
+joining_of-requires c = let a = c.args in
+    let p = c.requires in
+    let x = ap (λ k. get_or a.t2.label k 0) c.low_end.ensures.0 in
+    let y = ap (λ k. get_or a.t2.label k 0) c.high_end.ensures.0 in
+    let l = ends-lt p.0 a.e p.1.0 in
+    (omega (arith, x, l), omega (arith, y, l), λ e. labels_apart p.0 a.e p.1.0 (sym x ∙ e ∙ y))
+
+pub returns : goal.returns
+returns c = let a = c.args in
+    let p = c.requires in
+    let x = ap (λ k. get_or a.t2.label k 0) c.low_end.ensures.0 in
+    let y = ap (λ k. get_or a.t2.label k 0) c.high_end.ensures.0 in
+    ap (λ n. a.f + n) (c.joining_of.ensures.0 ∙ ap₂ joining x y) ∙ name-told p.0 a.f a.e p.1.0

@@ -1,0 +1,11 @@
+use Prim.Native.Nat.{◌+◌, ◌*◌}
+use native.Mathlib.Omega.{arith}
+use borrow.Author.Rules.{rules}
+use Rattle.counting.proofs.Tables.{zeros}
+use Rattle.trees.specs.work.Trees.{trees}
+use Rattle.trees.specs.work.Keys.{most_places}
+use Rattle.trees.specs.work.Planted.{key_branches}
+use Rattle.trees.proofs.pairs_of_many.Goals as goal
+
+pub put_pairs-requires : goal.put_pairs-requires
+put_pairs-requires c = let p = c.requires in record { keys_growing = record { keyed = p.1.0; few = omega (arith, p.0); room = omega (arith, p.0); blank = zeros (trees + key_branches * most_places); tops_room = omega (arith, p.0) }; n_in_bounds = p.1.1 }

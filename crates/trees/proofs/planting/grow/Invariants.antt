@@ -1,0 +1,17 @@
+use Prim.Native.Nat.{ℕ, ◌+◌, ◌-◌, ◌≤◌, ◌<◌}
+use mathlib.Core.Path.{◌≡◌, refl}
+use native.Mathlib.Omega.{arith}
+use lib.ListN.{length}
+use borrow.Author.Rules.{rules}
+use Rattle.trees.specs.work.Trees.{Tree}
+use Rattle.trees.specs.work.Keys.{key_in}
+use Rattle.trees.specs.work.Planted.{key_branches, KeyTops}
+use Rattle.trees.proofs.Trees.{grown-none, top_le}
+use Rattle.trees.proofs.Planted.{key_tops_none, key_tops_more}
+use Rattle.trees.proofs.planting.grow.Given as goal
+
+abbrev pub invariant-loop-i : goal.invariant-loop-i
+invariant-loop-i l = (l.i ≤ l.n) × (length l.links ≡ length l.initial.links) × Tree key_branches (key_in l.keys) l.n l.i l.links × KeyTops l.keys l.n l.i l.initial.tops l.tops
+
+abbrev pub decreases-loop-i : goal.decreases-loop-i
+decreases-loop-i l = l.i
