@@ -148,6 +148,23 @@ class Function:
         for m in re.finditer(r"let (\w+) = " + re.escape(var) + r"((?:\.before)+) in", text):
             bases[m[1]] = m[2].count(".before")
 
+        # a let of a whole contract: its clauses have names now
+        for m in re.finditer(r"let (\w+) = " + re.escape(var) + r"((?:\.before)*)\.([\w'-]+?)(\.ensures)? in", text):
+            depth, fields = m[2].count(".before"), None
+            if m[3] == "requires" and not m[4] and self.of["pre"]:
+                fields = self.of["pre"]["fields"]
+            elif m[4]:
+                for k in sorted(range(len(chain)), key=lambda it: abs(it - depth)):
+                    if plain(self.of["places"][chain[k]][2][0]) == plain(m[3]) and self.of["places"][chain[k]][1]:
+                        fields = (self.of["clauses"][chain[k]] or {}).get("fields")
+                        break
+            if fields and len(fields) > 1:
+                text = re.sub(
+                    rf"(?<![\w.'-]){m[1]}\.(\d+)(?![\w])",
+                    lambda w: f"{m[1]}.{fields[int(w[1])]}" if int(w[1]) < len(fields) else w[0],
+                    text,
+                )
+
         def one(m):
             base, befores, rest = m[1], m[2].count(".before"), m[3]
             depth = bases[base] + befores

@@ -49,4 +49,4 @@ shape_of-sides c = c.place_sides.auto.1.1.1.1.1.1.1.1.1.1.1.0
 
 pub returns : goal.returns
 unfolding since rows
-returns c = let U = c.used_rows.ensures in record { result_value = U.0 ∙ answer-passes _ 7 8 refl _ (c.row_7-p7.ensures.value ∙ sym (siding_blank c.requires c.place_sides.ensures)) c.if-p7-cells.false; where_accepted = U.1 }
+returns c = let U = c.used_rows.ensures in record { result_value = U.result_value ∙ answer-passes _ 7 8 refl _ (c.row_7-p7.ensures.value ∙ sym (siding_blank c.requires c.place_sides.ensures)) c.if-p7-cells.false; where_accepted = U.where_accepted }

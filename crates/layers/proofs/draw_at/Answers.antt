@@ -5,4 +5,4 @@ use Rattle.layers.proofs.draw_at.Goals as goal
 pub returns : goal.returns
 returns c = let A = c.args in
     let D = c.draw.ensures in
-    record { triangles_value = D.0; area_after = part-back A.area.now _ A.at c.requires D.1 }
+    record { triangles_value = D.triangles_value; area_after = part-back A.area.now _ A.at c.requires D.area_after }

@@ -40,4 +40,4 @@ pub returns : goal.returns
 returns c =
     λ edges R.
     let D = c.draw.ensures in
-    run-drawn R (record { copied = c.copy_run.ensures; started = c.start_run.ensures }) D.0.0 D.0.1 D.0.2 D.1
+    run-drawn R (record { copied = c.copy_run.ensures; started = c.start_run.ensures }) D.triangles_value.0 D.triangles_value.1 D.triangles_value.2 D.area_after

@@ -46,23 +46,23 @@ number_sides-requires c = let A = c.args in
 pub put_over-requires : goal.put_over-requires
 put_over-requires c = let J = c.requires.1 in
     let D = c.draw_at-d.ensures in
-    (put-room J (record { copied = c.copy_run.ensures; started = c.start_run.ensures }) c.args.area.now refl D.0.0 D.1, omega (arith, J.run_of.run.within, J.run_of.tables.sound.few-cells))
+    (put-room J (record { copied = c.copy_run.ensures; started = c.start_run.ensures }) c.args.area.now refl D.triangles_value.0 D.area_after, omega (arith, J.run_of.run.within, J.run_of.tables.sound.few-cells))
 
 pub overflow_mul-result : goal.overflow_mul-result
 overflow_mul-result c = let J = c.requires.1 in
     let D = c.draw_at-d.ensures in
-    omega (arith, J.fits, many J (record { copied = c.copy_run.ensures; started = c.start_run.ensures }) c.args.area.now refl D.0.0 D.1, c.before.before.before.before.before.before.before.before.before.before.before.before.before.before.before.before.before.before.before.before.before.before.before.before.before.before.before.before.before.before.well-formed.1.1.1.1.1.1.1.1.1.1.1.0)
+    omega (arith, J.fits, many J (record { copied = c.copy_run.ensures; started = c.start_run.ensures }) c.args.area.now refl D.triangles_value.0 D.area_after, c.before.before.before.before.before.before.before.before.before.before.before.before.before.before.before.before.before.before.before.before.before.before.before.before.before.before.before.before.before.before.well-formed.1.1.1.1.1.1.1.1.1.1.1.0)
 
 pub overflow_add-result : goal.overflow_add-result
 overflow_add-result c = let J = c.requires.1 in
     let D = c.draw_at-d.ensures in
-    omega (arith, J.fits, many J (record { copied = c.copy_run.ensures; started = c.start_run.ensures }) c.args.area.now refl D.0.0 D.1, c.before.before.before.before.before.before.before.before.before.before.before.before.before.before.before.before.before.before.before.before.before.before.before.before.before.before.before.before.before.before.well-formed.1.1.1.1.1.1.1.1.1.1.1.0)
+    omega (arith, J.fits, many J (record { copied = c.copy_run.ensures; started = c.start_run.ensures }) c.args.area.now refl D.triangles_value.0 D.area_after, c.before.before.before.before.before.before.before.before.before.before.before.before.before.before.before.before.before.before.before.before.before.before.before.before.before.before.before.before.before.before.well-formed.1.1.1.1.1.1.1.1.1.1.1.0)
 
 pub returns : goal.returns
 returns c = let D = c.draw_at-d.ensures in record {
   by_index = c.start_run.ensures.most;
   by_index_2 = λ edges J.
       let A = c.args in
-      run-joined J (record { copied = c.copy_run.ensures; started = c.start_run.ensures }) A.area.now refl D.0.0 D.1
+      run-joined J (record { copied = c.copy_run.ensures; started = c.start_run.ensures }) A.area.now refl D.triangles_value.0 D.area_after
       (c.number_sides.ensures _ (leading J.run_of.tables A.run.from A.run.size J.run_of.run (record { copied = c.copy_run.ensures; started = c.start_run.ensures }))) c.put_over.ensures;
 }

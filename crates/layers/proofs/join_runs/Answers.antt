@@ -33,10 +33,10 @@ loop-r-preserved c = let L = c.loop-r in
     let P = c.requires in
     let E = c.join_run-i.ensures in (
       omega arith,
-      λ e. omega (arith, E.0 e, c.span_of.ensures.2),
-      stored_long (E.1 P.0 (next_joinable P.1 L.r (omega arith) _ _ c.span_of.ensures.0 c.span_of.ensures.1 (L.invariant.3 P.0 P.1) refl L.used (λ e. omega (arith, L.invariant.1 e, c.span_of.ensures.2)))) ∙ L.invariant.2,
+      λ e. omega (arith, E.by_index e, c.span_of.ensures.2),
+      stored_long (E.by_index_2 P.0 (next_joinable P.1 L.r (omega arith) _ _ c.span_of.ensures.0 c.span_of.ensures.1 (L.invariant.3 P.0 P.1) refl L.used (λ e. omega (arith, L.invariant.1 e, c.span_of.ensures.2)))) ∙ L.invariant.2,
       λ edges J. stored_more (run_words J) L.r (L.invariant.3 edges J)
-          (stored_as (E.1 edges (next_joinable J L.r (omega arith) _ _ c.span_of.ensures.0 c.span_of.ensures.1 (L.invariant.3 edges J) refl L.used (λ e. omega (arith, L.invariant.1 e, c.span_of.ensures.2))))
+          (stored_as (E.by_index_2 edges (next_joinable J L.r (omega arith) _ _ c.span_of.ensures.0 c.span_of.ensures.1 (L.invariant.3 edges J) refl L.used (λ e. omega (arith, L.invariant.1 e, c.span_of.ensures.2))))
           (next-words J L.r (omega arith) _ _ c.span_of.ensures.0 c.span_of.ensures.1) refl),
     )
 

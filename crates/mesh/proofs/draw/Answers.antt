@@ -10,11 +10,11 @@ returns-then-area-d c = let d = c.draw-d.ensures in
     let A = c.args in
     let m = table_drawn A.cells.now A.counts.now A.names.now A.sides.now A.starts.now in
     let s = table_splits A.cells.now A.counts.now A.names.now A.sides.now A.starts.now in
-    record { answered = rw d.0.0 (answer-short m s (length A.area.now) (omega (arith, d.0.0))); area = d.1 }
+    record { answered = rw d.triangles_value.0 (answer-short m s (length A.area.now) (omega (arith, d.triangles_value.0))); area = d.area_after }
 
 pub returns : goal.returns
 returns c = let d = c.draw-d.ensures in
     let A = c.args in
     let m = table_drawn A.cells.now A.counts.now A.names.now A.sides.now A.starts.now in
     let s = table_splits A.cells.now A.counts.now A.names.now A.sides.now A.starts.now in
-    record { answered = rw (d.0.0, d.0.1) (answer-fits m s (length A.area.now) (omega (arith, d.0.0))); area = d.1 }
+    record { answered = rw (d.triangles_value.0, d.triangles_value.1) (answer-fits m s (length A.area.now) (omega (arith, d.triangles_value.0))); area = d.area_after }

@@ -12,7 +12,7 @@ returns-then-p-x c = let a = c.args in
 
 pub bounds-area-p : goal.bounds-area-p
 bounds-area-p c = let P = c.requires in
-    omega (arith, P.0.room, P.1, c.wide16-l.ensures.0, P.0.forest.low_parent c.args.x (P.1, c.if-links-x.false))
+    omega (arith, P.writable.room, P.x_lt_most_nodes, c.wide16-l.ensures.0, P.writable.forest.low_parent c.args.x (P.x_lt_most_nodes, c.if-links-x.false))
 
 pub returns : goal.returns
 returns c = let a = c.args in

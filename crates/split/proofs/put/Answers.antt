@@ -6,4 +6,4 @@ pub returns : goal.returns
 returns c = let a = c.args in
     let p = c.requires in
     let W = c.write_part.ensures in
-    put_stored p.0 a.only a.at p.1 W.0 W.1
+    put_stored p.starts_near a.only a.at p.only_in_bounds W.0 W.1

@@ -7,7 +7,7 @@ use Rattle.split.proofs.OneCell.{drawn-placed, words-whole, whole_room, drawn-pa
 use Rattle.split.proofs.put_cell.Goals as goal
 
 pub put-requires : goal.put-requires
-put-requires c = let p = c.requires in record { starts_near = drawn-placed p.0; only_in_bounds = whole_room p.0 c.args.at c.if-splits-eq0.true p.1 }
+put-requires c = let p = c.requires in record { starts_near = drawn-placed p.drawable; only_in_bounds = whole_room p.drawable c.args.at c.if-splits-eq0.true p.c_in_bounds }
 
 pub returns-then-splits-eq0 : goal.returns-then-splits-eq0
 returns-then-splits-eq0 c = stored_as c.put.ensures (words-whole c.requires.drawable c.if-splits-eq0.true) refl
@@ -15,7 +15,7 @@ returns-then-splits-eq0 c = stored_as c.put.ensures (words-whole c.requires.draw
 pub split_in-requires : goal.split_in-requires
 split_in-requires c = let p = c.requires in
     let h : 0 < c.args.splits = omega (arith, c.if-splits-eq0.false) in
-    record { splits_left = drawn-left p.0 h; c_in_bounds = parts-room p.0 h c.args.at p.1 }
+    record { splits_left = drawn-left p.drawable h; c_in_bounds = parts-room p.drawable h c.args.at p.c_in_bounds }
 
 pub returns : goal.returns
 returns c = let h : 0 < c.args.splits = omega (arith, c.if-splits-eq0.false) in

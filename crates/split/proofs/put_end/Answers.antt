@@ -13,7 +13,7 @@ pub put-i-requires : goal.put-i-requires
 put-i-requires c = let p = c.requires in
     let e = c.sub_of.ensures in
     let g = c.word.ensures in
-    record { starts_near = end-sound p.0 e g; only_in_bounds = end-first p.0 e g c.args.at p.1 }
+    record { starts_near = end-sound p.working e g; only_in_bounds = end-first p.working e g c.args.at p.f_in_bounds }
 
 pub overflow_add-n : goal.overflow_add-n
 overflow_add-n c = omega (arith, c.requires.working.n-few)
@@ -30,7 +30,7 @@ put-requires c = let p = c.requires in
     let g = c.word.ensures in
     let d = c.sub_of-2.ensures in
     let k = c.word-2.ensures in
-    record { starts_near = last-sound p.0 e g d k; only_in_bounds = end-second p.0 e g d k c.put-i.ensures p.1 }
+    record { starts_near = last-sound p.working e g d k; only_in_bounds = end-second p.working e g d k c.put-i.ensures p.f_in_bounds }
 
 pub returns : goal.returns
 returns c = end_stored c.requires.working c.sub_of.ensures c.word.ensures c.sub_of-2.ensures c.word-2.ensures c.put-i.ensures c.put.ensures

@@ -19,7 +19,7 @@ pub put-requires : goal.put-requires
 put-requires c = let p = c.requires in
     let e = c.sub_of.ensures in
     let g = c.word.ensures in
-    record { starts_near = start-sound p.0 e g; only_in_bounds = start-second p.0 e g c.put-i.ensures p.1 }
+    record { starts_near = start-sound p.working e g; only_in_bounds = start-second p.working e g c.put-i.ensures p.f_in_bounds }
 
 pub returns : goal.returns
 returns c = start_stored c.requires.working c.sub_of.ensures c.word.ensures c.put-i.ensures c.put.ensures

@@ -13,11 +13,11 @@ unfolding place_room
 returns-then-k-le-FEW_PLACES c = let a = c.args in
     let E = c.pairs_of_few.ensures in
     let e : c.least-k.result ≡ place_room (min a.n (length a.keys.now)) (length a.places.now) = omega arith in
-    record { value = E.0 ∙ ap (λ (k : ℕ). first (pair_lacks a.pairs.now a.keys.now k) (length a.pairs.now / 2)) e; places_after = E.1 ∙ ap (λ (k : ℕ). filled (paired_at a.pairs.now (length a.pairs.now / 2) a.keys.now a.places.now) k a.places.now) e }
+    record { value = E.value ∙ ap (λ (k : ℕ). first (pair_lacks a.pairs.now a.keys.now k) (length a.pairs.now / 2)) e; places_after = E.places_after ∙ ap (λ (k : ℕ). filled (paired_at a.pairs.now (length a.pairs.now / 2) a.keys.now a.places.now) k a.places.now) e }
 
 pub returns : goal.returns
 unfolding place_room
 returns c = let a = c.args in
     let E = c.pairs_of_many.ensures in
     let e : c.least-k.result ≡ place_room (min a.n (length a.keys.now)) (length a.places.now) = omega arith in
-    record { value = E.0 ∙ ap (λ (k : ℕ). first (pair_lacks a.pairs.now a.keys.now k) (length a.pairs.now / 2)) e; places_after = E.1 ∙ ap (λ (k : ℕ). filled (paired_at a.pairs.now (length a.pairs.now / 2) a.keys.now a.places.now) k a.places.now) e }
+    record { value = E.value ∙ ap (λ (k : ℕ). first (pair_lacks a.pairs.now a.keys.now k) (length a.pairs.now / 2)) e; places_after = E.places_after ∙ ap (λ (k : ℕ). filled (paired_at a.pairs.now (length a.pairs.now / 2) a.keys.now a.places.now) k a.places.now) e }

@@ -112,4 +112,4 @@ returns-else-counts-edges c = let g = (goal.at.returns-else-counts-edges c).In-L
     let k : edges (bytes g) ≤ length (counts g) = omega (arith, edges-are g, c.if-counts-edges.false) in
     let l = leaves-lists (bytes g) (nodes g) (ends g) (counts g) (good g) (room (bytes g) _ _ _ n m k) in
     let e = c.fill_edges-base.ensures in
-    record { answer = ((told g ∙ l.0, (c.fill_cells-from.ensures.nodes_after ∙ l.1.0, (e.1.0 ∙ l.1.1.0, survive (bytes g) (counts g) k e.1.1 c.replace.ensures ∙ l.1.1.1)))).0; nodes = ((told g ∙ l.0, (c.fill_cells-from.ensures.nodes_after ∙ l.1.0, (e.1.0 ∙ l.1.1.0, survive (bytes g) (counts g) k e.1.1 c.replace.ensures ∙ l.1.1.1)))).1; ends = ((told g ∙ l.0, (c.fill_cells-from.ensures.nodes_after ∙ l.1.0, (e.1.0 ∙ l.1.1.0, survive (bytes g) (counts g) k e.1.1 c.replace.ensures ∙ l.1.1.1)))).2; counts = ((told g ∙ l.0, (c.fill_cells-from.ensures.nodes_after ∙ l.1.0, (e.1.0 ∙ l.1.1.0, survive (bytes g) (counts g) k e.1.1 c.replace.ensures ∙ l.1.1.1)))).3 }
+    record { answer = ((told g ∙ l.0, (c.fill_cells-from.ensures.nodes_after ∙ l.1.0, (e.ends_after.0 ∙ l.1.1.0, survive (bytes g) (counts g) k e.ends_after.1 c.replace.ensures ∙ l.1.1.1)))).0; nodes = ((told g ∙ l.0, (c.fill_cells-from.ensures.nodes_after ∙ l.1.0, (e.ends_after.0 ∙ l.1.1.0, survive (bytes g) (counts g) k e.ends_after.1 c.replace.ensures ∙ l.1.1.1)))).1; ends = ((told g ∙ l.0, (c.fill_cells-from.ensures.nodes_after ∙ l.1.0, (e.ends_after.0 ∙ l.1.1.0, survive (bytes g) (counts g) k e.ends_after.1 c.replace.ensures ∙ l.1.1.1)))).2; counts = ((told g ∙ l.0, (c.fill_cells-from.ensures.nodes_after ∙ l.1.0, (e.ends_after.0 ∙ l.1.1.0, survive (bytes g) (counts g) k e.ends_after.1 c.replace.ensures ∙ l.1.1.1)))).3 }

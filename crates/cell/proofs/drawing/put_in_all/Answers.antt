@@ -26,7 +26,7 @@ overflow_add-k c = omega (arith, c.ranges)
 pub loop-k-preserved : goal.loop-k-preserved
 loop-k-preserved c = let I = c.loop-k.invariant in
     let w = c.put_in-i.ensures in
-    ((omega (arith, I.0), omega (arith, I.0)), sized_on I.1 (used_sized w.1), put-more _ _ _ _ I.0.0 I.2 c.counted_at-x.ensures.0 (w.0.0 ∙ next-all _ _ _) (w.0.1 ∙ area-all _ _ _))
+    ((omega (arith, I.0), omega (arith, I.0)), sized_on I.1 (used_sized w.used), put-more _ _ _ _ I.0.0 I.2 c.counted_at-x.ensures.0 (w.value.0 ∙ next-all _ _ _) (w.value.1 ∙ area-all _ _ _))
 
 pub shape_of-marks : goal.shape_of-marks
 shape_of-marks c = c.loop-k.invariant.1.marks-same

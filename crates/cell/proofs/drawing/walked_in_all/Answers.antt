@@ -66,10 +66,10 @@ loop-c-preserved c = let A = c.args in
     let I = c.loop-c.invariant in
     let N = c.count_in-t.ensures in (
       omega arith,
-      sized_on I.1 (used_sized N.1),
+      sized_on I.1 (used_sized N.used),
       walked A.cells.now A.counts.now A.names.now A.sides.now A.starts.now I.2
           (ap (λ l. is_known (by_edge l)) (sym c.counts_at.ensures) ∙ sym c.is_known.ensures ∙ c.if-is_known.false)
-          _ (N.0.0 ∙ ap length (with_all _) ∙ ap (λ v. length (cell_triangles v)) c.counted_at-x.ensures.0) N.0.1,
+          _ (N.value.0 ∙ ap length (with_all _) ∙ ap (λ v. length (cell_triangles v)) c.counted_at-x.ensures.0) N.value.1,
     )
 
 pub shape_of-marks : goal.shape_of-marks

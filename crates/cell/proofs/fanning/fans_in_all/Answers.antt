@@ -32,7 +32,7 @@ overflow_add-t c = omega (arith, c.fans_in-t.ensures.value.1, c.loop-c.invariant
 pub loop-c-preserved : goal.loop-c-preserved
 loop-c-preserved c = let L = c.loop-c in
     let N = c.fans_in-t.ensures in
-    (omega arith, sized_on L.invariant.1 (used_sized N.1), summed_more _ _ L.invariant.2 _ (N.0.0 ∙ ap fan_count c.counted_at-x.ensures.0) N.0.1)
+    (omega arith, sized_on L.invariant.1 (used_sized N.used), summed_more _ _ L.invariant.2 _ (N.value.0 ∙ ap fan_count c.counted_at-x.ensures.0) N.value.1)
 
 pub shape_of-marks : goal.shape_of-marks
 shape_of-marks c = c.loop-c.invariant.1.marks-same

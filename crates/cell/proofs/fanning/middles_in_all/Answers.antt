@@ -27,7 +27,7 @@ pub loop-k-preserved : goal.loop-k-preserved
 loop-k-preserved c = let A = c.args in
     let L = c.loop-k in
     let w = c.middles_in-i.ensures in
-    ((omega (arith, L.invariant.0), omega (arith, L.invariant.0)), sized_on L.invariant.1 (used_sized w.1), written-more A.cells.now A.counts.now A.names.now A.sides.now A.starts.now A.nodes.now A.c A.area.now A.at L.k L.invariant.2 L.invariant.0.0 c.counted_at-x.ensures.0 w.0)
+    ((omega (arith, L.invariant.0), omega (arith, L.invariant.0)), sized_on L.invariant.1 (used_sized w.used), written-more A.cells.now A.counts.now A.names.now A.sides.now A.starts.now A.nodes.now A.c A.area.now A.at L.k L.invariant.2 L.invariant.0.0 c.counted_at-x.ensures.0 w.value)
 
 pub shape_of-marks : goal.shape_of-marks
 shape_of-marks c = c.loop-k.invariant.1.marks-same

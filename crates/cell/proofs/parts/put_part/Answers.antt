@@ -6,13 +6,13 @@ use Rattle.cell.proofs.Using.{used_sized, used_then, sized_given}
 use Rattle.cell.proofs.parts.put_part.Goals as goal
 
 pub write_part-requires : goal.write_part-requires
-write_part-requires c = let h = c.has_room.ensures in record { room = sized_given (used_sized h.1) c.requires; only_in_bounds = leb-true _ _ (sym h.0 ∙ c.if-has_room.true) }
+write_part-requires c = let h = c.has_room.ensures in record { room = sized_given (used_sized h.used) c.requires; only_in_bounds = leb-true _ _ (sym h.value ∙ c.if-has_room.true) }
 
 pub returns-then-has_room : goal.returns-then-has_room
 returns-then-has_room c = let h = c.has_room.ensures in
-    let R = has-room _ _ _ (leb-true _ _ (sym h.0 ∙ c.if-has_room.true)) in
+    let R = has-room _ _ _ (leb-true _ _ (sym h.value ∙ c.if-has_room.true)) in
     let W = c.write_part.ensures in
-    record { value = (W.0.0 ∙ R.0, W.0.1 ∙ R.1); used = used_then h.1 W.1 }
+    record { value = (W.value.0 ∙ R.0, W.value.1 ∙ R.1); used = used_then h.used W.used }
 
 pub returns : goal.returns
-returns c = let h = c.has_room.ensures in record { value = no_room _ _ _ (leb-false _ _ (sym h.0 ∙ c.if-has_room.false)); used = h.1 }
+returns c = let h = c.has_room.ensures in record { value = no_room _ _ _ (leb-false _ _ (sym h.value ∙ c.if-has_room.false)); used = h.used }

@@ -20,4 +20,4 @@ returns-then-n-room c = let A = c.args in record { value = sym (le-leb (A.at + w
 pub returns : goal.returns
 returns c = let A = c.args in
     let n = c.count_in.ensures in
-    record { value = rw n.0.0 (room-left _ A.at A.room (omega arith)); used = n.1 }
+    record { value = rw n.value.0 (room-left _ A.at A.room (omega arith)); used = n.used }

@@ -18,7 +18,7 @@ edge_at-k-requires c = let L = c.requires.laid.listed in
     (L, c.firsts_of-firsts.ensures, at-start _ _ _ _ c.loop-p.invariant (omega (arith, c.loop-p-test, crossings_are L c.crossings_in-n.ensures.0)))
 
 pub put_edge-i-requires : goal.put_edge-i-requires
-put_edge-i-requires c = let P = c.requires in record { laid = (P.0, c.edge_at-k.ensures.1); k_in_bounds = edge-room _ _ _ _ c.loop-p.invariant (omega (arith, c.loop-p-test, crossings_are P.0.listed c.crossings_in-n.ensures.0)) c.edge_at-k.ensures.0 P.0.laying.level P.0.laying.none P.1 }
+put_edge-i-requires c = let P = c.requires in record { laid = (P.laid, c.edge_at-k.ensures.1); k_in_bounds = edge-room _ _ _ _ c.loop-p.invariant (omega (arith, c.loop-p-test, crossings_are P.laid.listed c.crossings_in-n.ensures.0)) c.edge_at-k.ensures.0 P.laid.laying.level P.laid.laying.none P.quads_in_bounds }
 
 pub offset_bounds-six-k : goal.offset_bounds-six-k
 offset_bounds-six-k c = omega (arith, c.edge_at-k.ensures.1)
@@ -32,13 +32,13 @@ overflow_add-p c = omega (arith, c.wide16-p.ensures.1, c.loop-p-test, c.crossing
 pub loop-p-smaller : goal.loop-p-smaller
 loop-p-smaller c = let P = c.requires in
     let E = c.edge_at-k.ensures in
-    omega (arith, c.loop-p-test, c.wide16-p.ensures.0, count-is P.0.listed _ E.1, some-on _ _ _ _ c.loop-p.invariant (omega (arith, c.loop-p-test, crossings_are P.0.listed c.crossings_in-n.ensures.0)) E.0)
+    omega (arith, c.loop-p-test, c.wide16-p.ensures.0, count-is P.laid.listed _ E.1, some-on _ _ _ _ c.loop-p.invariant (omega (arith, c.loop-p-test, crossings_are P.laid.listed c.crossings_in-n.ensures.0)) E.0)
 
 pub loop-p-preserved : goal.loop-p-preserved
 loop-p-preserved c = let P = c.requires in
     let E = c.edge_at-k.ensures in
-    reached-more _ _ _ _ c.loop-p.invariant (omega (arith, c.loop-p-test, crossings_are P.0.listed c.crossings_in-n.ensures.0)) E.0 P.0.laying.level P.0.laying.none
-    (c.wide16-p.ensures.0 ∙ count-is P.0.listed _ E.1) c.put_edge-i.ensures
+    reached-more _ _ _ _ c.loop-p.invariant (omega (arith, c.loop-p-test, crossings_are P.laid.listed c.crossings_in-n.ensures.0)) E.0 P.laid.laying.level P.laid.laying.none
+    (c.wide16-p.ensures.0 ∙ count-is P.laid.listed _ E.1) c.put_edge-i.ensures
 
 pub shape_of-area : goal.shape_of-area
 shape_of-area c = stored_long c.loop-p.invariant.stored

@@ -17,7 +17,7 @@ returns-then-passes c = let A = c.args in
 pub put_round-requires : goal.put_round-requires
 put_round-requires c = let A = c.args in
     let P = c.requires in
-    record { listed = (P.0.0, P.0.1); d_in_bounds = rw (ring-kept A.c A.k A.up A.a A.b A.x A.d c.joining_of.ensures.0 c.joining_of-2.ensures.0 c.passes.ensures c.if-passes.false) at P.1 }
+    record { listed = (P.listed.0, P.listed.1); d_in_bounds = rw (ring-kept A.c A.k A.up A.a A.b A.x A.d c.joining_of.ensures.0 c.joining_of-2.ensures.0 c.passes.ensures c.if-passes.false) at P.d_in_bounds }
 
 pub returns : goal.returns
 returns c = let A = c.args in

@@ -13,7 +13,7 @@ returns-then-passes_three c = let A = c.args in
 pub put_parting-requires : goal.put_parting-requires
 put_parting-requires c = let A = c.args in
     let P = c.requires in
-    record { listed = (P.0.0, P.0.1, P.0.2); v_in_bounds = rw (parting_kept A.c A.k A.over A.a A.m A.u A.v c.joining_of-h.ensures.0 c.joining_of-i.ensures.0 c.joining_of-j.ensures.0 c.passes_three.ensures c.if-passes_three.false) at P.1 }
+    record { listed = (P.listed.0, P.listed.1, P.listed.2); v_in_bounds = rw (parting_kept A.c A.k A.over A.a A.m A.u A.v c.joining_of-h.ensures.0 c.joining_of-i.ensures.0 c.joining_of-j.ensures.0 c.passes_three.ensures c.if-passes_three.false) at P.v_in_bounds }
 
 pub returns : goal.returns
 returns c = let A = c.args in

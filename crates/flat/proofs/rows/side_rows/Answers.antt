@@ -41,8 +41,8 @@ returns-then-p7-f c = let P = c.requires in
     let small : (i : ℕ) → get_or c.args.edges.now i 0 < 65536 = λ i. omega (arith, c.shared_slice_known-2-1.given i) in
     let E = c.edge_places-p8.ensures in
     let L = c.lower_entries-p7.ensures in
-    let v = placed-table _ P small _ w long E.1 in
-    let r = ap (λ (x : ℕ). x / 3) L.0 ∙ unlisted-first _ P.rising small _ w _ v in
+    let v = placed-table _ P small _ w long E.places_after in
+    let r = ap (λ (x : ℕ). x / 3) L.r_value ∙ unlisted-first _ P.rising small _ w _ v in
     record { r_value = answer-refuses _ 7 8 refl _ r c.if-p7-f.true; fact = tt }
 
 pub shape_of-sides-then-p8-counts : goal.shape_of-sides-then-p8-counts
@@ -59,9 +59,9 @@ returns-then-p8-counts c = let P = c.requires in
     let small : (i : ℕ) → get_or c.args.edges.now i 0 < 65536 = λ i. omega (arith, c.shared_slice_known-2-1.given i) in
     let E = c.edge_places-p8.ensures in
     let L = c.lower_entries-p7.ensures in
-    let v = placed-table _ P small _ w long E.1 in
-    let r = ap (λ (x : ℕ). x / 3) L.0 ∙ unlisted-first _ P.rising small _ w _ v in
-    record { r_value = answer-refuses _ 8 10 refl _ (row_8_is _ P small _ w long E.0) c.if-p8-counts.true ∙ answer-passes _ 7 8 refl _ r c.if-p7-f.false; fact = tt }
+    let v = placed-table _ P small _ w long E.places_after in
+    let r = ap (λ (x : ℕ). x / 3) L.r_value ∙ unlisted-first _ P.rising small _ w _ v in
+    record { r_value = answer-refuses _ 8 10 refl _ (row_8_is _ P small _ w long E.value) c.if-p8-counts.true ∙ answer-passes _ 7 8 refl _ r c.if-p7-f.false; fact = tt }
 
 pub shape_of-sides : goal.shape_of-sides
 shape_of-sides c = let c-lower-entries = c.lower_entries-p7 in
@@ -77,11 +77,11 @@ returns c = let P = c.requires in
     let small : (i : ℕ) → get_or c.args.edges.now i 0 < 65536 = λ i. omega (arith, c.shared_slice_known-2-1.given i) in
     let E = c.edge_places-p8.ensures in
     let L = c.lower_entries-p7.ensures in
-    let v = placed-table _ P small _ w long E.1 in
-    let r = ap (λ (x : ℕ). x / 3) L.0 ∙ unlisted-first _ P.rising small _ w _ v in
+    let v = placed-table _ P small _ w long E.places_after in
+    let r = ap (λ (x : ℕ). x / 3) L.r_value ∙ unlisted-first _ P.rising small _ w _ v in
     record {
       r_value = c.last_row.ensures ∙ answer-last _
-          ∙ answer-passes _ 8 10 refl _ (row_8_is _ P small _ w long E.0) c.if-p8-counts.false
+          ∙ answer-passes _ 8 10 refl _ (row_8_is _ P small _ w long E.value) c.if-p8-counts.false
           ∙ answer-passes _ 7 8 refl _ r c.if-p7-f.false;
-      fact = where-accepted c.last_row.result (sided _ P.rising small _ w _ v _ L.0 c.if-p7-f.false L.1);
+      fact = where-accepted c.last_row.result (sided _ P.rising small _ w _ v _ L.r_value c.if-p7-f.false L.sides_after);
     }

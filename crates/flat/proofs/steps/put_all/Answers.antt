@@ -22,42 +22,42 @@ put_edge-requires c = let P = c.requires in
     let L = c.loop-e in
     record {
       tabled = ((
-        P.0,
+        P.tabled,
         (
-          P.1.0,
+          P.darts_value.0,
           (
             omega arith,
-            omega (arith, P.1.1, ap length L.invariant.1, length-filled (dart_step A.counts.now A.sides.now A.n) (2 * start A.counts.now L.e) A.next.now),
+            omega (arith, P.darts_value.1, ap length L.invariant.1, length-filled (dart_step A.counts.now A.sides.now A.n) (2 * start A.counts.now L.e) A.next.now),
           ),
         ),
       )).0;
       darts_value = ((
-        P.0,
+        P.tabled,
         (
-          P.1.0,
+          P.darts_value.0,
           (
             omega arith,
-            omega (arith, P.1.1, ap length L.invariant.1, length-filled (dart_step A.counts.now A.sides.now A.n) (2 * start A.counts.now L.e) A.next.now),
+            omega (arith, P.darts_value.1, ap length L.invariant.1, length-filled (dart_step A.counts.now A.sides.now A.n) (2 * start A.counts.now L.e) A.next.now),
           ),
         ),
       )).1;
       e_in_bounds = ((
-        P.0,
+        P.tabled,
         (
-          P.1.0,
+          P.darts_value.0,
           (
             omega arith,
-            omega (arith, P.1.1, ap length L.invariant.1, length-filled (dart_step A.counts.now A.sides.now A.n) (2 * start A.counts.now L.e) A.next.now),
+            omega (arith, P.darts_value.1, ap length L.invariant.1, length-filled (dart_step A.counts.now A.sides.now A.n) (2 * start A.counts.now L.e) A.next.now),
           ),
         ),
       )).2;
       darts_in_bounds = ((
-        P.0,
+        P.tabled,
         (
-          P.1.0,
+          P.darts_value.0,
           (
             omega arith,
-            omega (arith, P.1.1, ap length L.invariant.1, length-filled (dart_step A.counts.now A.sides.now A.n) (2 * start A.counts.now L.e) A.next.now),
+            omega (arith, P.darts_value.1, ap length L.invariant.1, length-filled (dart_step A.counts.now A.sides.now A.n) (2 * start A.counts.now L.e) A.next.now),
           ),
         ),
       )).3;

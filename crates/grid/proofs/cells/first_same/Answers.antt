@@ -26,9 +26,9 @@ returns-then-earlier-gt0 c = let L = c.loop-c in
     let p = c.requires in
     let e = c.earlier in
     let k = c.wide.ensures in
-    let kl : c.wide.result < length c.args.seen.now = omega (arith, k, p.1.0.few (4 * L.c), p.1.1.room) in
+    let kl : c.wide.result < length c.args.seen.now = omega (arith, k, p.cells.0.few (4 * L.c), p.cells.1.room) in
     let r = meets_last w.1 _ k kl _ e.ensures.0 in
-    let t = repeats-last _ _ _ p.1.0 L.c (omega arith) in
+    let t = repeats-last _ _ _ p.cells.0 L.c (omega arith) in
     seeking_hit _ w.0 (omega arith) (t ∙ rw (← r) (lt-ltb _ _ c.if-earlier-gt0.true))
 
 pub loop-c-preserved : goal.loop-c-preserved
@@ -37,9 +37,9 @@ loop-c-preserved c = let L = c.loop-c in
     let p = c.requires in
     let e = c.earlier in
     let k = c.wide.ensures in
-    let kl : c.wide.result < length c.args.seen.now = omega (arith, k, p.1.0.few (4 * L.c), p.1.1.room) in
+    let kl : c.wide.result < length c.args.seen.now = omega (arith, k, p.cells.0.few (4 * L.c), p.cells.1.room) in
     let r = meets_last w.1 _ k kl _ e.ensures.0 in
-    let t = repeats-last _ _ _ p.1.0 L.c (omega arith) in
+    let t = repeats-last _ _ _ p.cells.0 L.c (omega arith) in
     (seeking_more _ w.0 (omega arith) (t ∙ rw (← r) (le-ltb _ _ c.if-earlier-gt0.false)), meets_more w.1 _ k kl _ e.ensures.1)
 
 pub returns : goal.returns

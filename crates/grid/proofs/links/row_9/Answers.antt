@@ -44,7 +44,7 @@ returns-then-split_at c = seeking_hit _ c.loop-e.invariant.0 (omega arith) (spli
 
 pub loop-e-preserved : goal.loop-e-preserved
 loop-e-preserved c = let a = c.split_at.ensures in
-    (seeking_more _ c.loop-e.invariant.0 (omega arith) (split-told c.requires (omega arith) c.wide-t.ensures a.0 a.1 ∙ c.if-split_at.false), a.0.same ∙ c.loop-e.invariant.1, under_more c.loop-e.invariant.2 a.0)
+    (seeking_more _ c.loop-e.invariant.0 (omega arith) (split-told c.requires (omega arith) c.wide-t.ensures a.reached a.value ∙ c.if-split_at.false), a.reached.same ∙ c.loop-e.invariant.1, under_more c.loop-e.invariant.2 a.reached)
 
 pub shape_of-marks : goal.shape_of-marks
 shape_of-marks c = c.loop-e.invariant.1

@@ -64,7 +64,7 @@ loop-p-smaller c = let P = c.requires in
 pub loop-p-preserved : goal.loop-p-preserved
 loop-p-preserved c = let s = c.position-s.ensures in
     let t = c.rank_of-r.ensures in
-    walking_more c.requires c.loop-p.invariant (omega arith) c.if-marks-c.false _ _ _ s.1 (at-rank _ c.loop-p.invariant.rank_lt s.0) t.1 t.0 c.wide-p-in-loop-p.ensures
+    walking_more c.requires c.loop-p.invariant (omega arith) c.if-marks-c.false _ _ _ s.1 (at-rank _ c.loop-p.invariant.rank_lt s.0) t.upper_bound t.value c.wide-p-in-loop-p.ensures
 
 pub shape_of-marks : goal.shape_of-marks
 shape_of-marks c = c.loop-p.invariant.same

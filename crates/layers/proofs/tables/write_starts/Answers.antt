@@ -56,9 +56,9 @@ loop-e-preserved c = let A = c.args in
       omega (arith, m),
       L.invariant.1,
       λ h. omega (arith, m, L.invariant.2 (omega arith)),
-      D.0.0,
-      D.0.1,
-      starts_more A.counts.now A.used.now A.m L.invariant.5 (omega (arith, m)) (omega (arith, m, L.invariant.1, P.room, L.invariant.5.same)) D.1,
+      D.value.0,
+      D.value.1,
+      starts_more A.counts.now A.used.now A.m L.invariant.5 (omega (arith, m)) (omega (arith, m, L.invariant.1, P.room, L.invariant.5.same)) D.starts_after,
     )
 
 pub shape_of-starts : goal.shape_of-starts

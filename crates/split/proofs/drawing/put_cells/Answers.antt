@@ -32,16 +32,16 @@ pub returns-then-s-eq0 : goal.returns-then-s-eq0
 returns-then-s-eq0 c = let A = c.args in
     let P = c.requires in
     let R = c.next_stretch-s.ensures in
-    let S = stretch_written A.cells.now A.counts.now A.names.now A.sides.now A.starts.now c.loop-c.invariant.1 P.1 R (omega (arith, c.drawn-n.ensures)) c.put_stretch-i.ensures in
-    all-written A.cells.now A.counts.now A.names.now A.sides.now A.starts.now S P.1 (R.last c.if-s-eq0.true ∙ c.drawn-n.ensures)
+    let S = stretch_written A.cells.now A.counts.now A.names.now A.sides.now A.starts.now c.loop-c.invariant.1 P.starts_in_bounds R (omega (arith, c.drawn-n.ensures)) c.put_stretch-i.ensures in
+    all-written A.cells.now A.counts.now A.names.now A.sides.now A.starts.now S P.starts_in_bounds (R.last c.if-s-eq0.true ∙ c.drawn-n.ensures)
 
 pub put_at-i-requires : goal.put_at-i-requires
 put_at-i-requires c = let A = c.args in
     let P = c.requires in
     let R = c.next_stretch-s.ensures in
     let h = R.after (omega (arith, c.if-s-eq0.false)) in
-    let S = stretch_written A.cells.now A.counts.now A.names.now A.sides.now A.starts.now c.loop-c.invariant.1 P.1 R (omega (arith, c.drawn-n.ensures)) c.put_stretch-i.ensures in
-    record { splits_value = h.1; c_in_bounds = next-room A.cells.now A.counts.now A.names.now A.sides.now A.starts.now S P.1 (omega (arith, h.0, c.drawn-n.ensures)) }
+    let S = stretch_written A.cells.now A.counts.now A.names.now A.sides.now A.starts.now c.loop-c.invariant.1 P.starts_in_bounds R (omega (arith, c.drawn-n.ensures)) c.put_stretch-i.ensures in
+    record { splits_value = h.1; c_in_bounds = next-room A.cells.now A.counts.now A.names.now A.sides.now A.starts.now S P.starts_in_bounds (omega (arith, h.0, c.drawn-n.ensures)) }
 
 pub overflow_add-c : goal.overflow_add-c
 overflow_add-c c = omega (arith, c.next_stretch-s.ensures.within, c.drawn-n.ensures)
@@ -53,7 +53,7 @@ pub loop-c-preserved : goal.loop-c-preserved
 loop-c-preserved c = let A = c.args in
     let P = c.requires in
     let R = c.next_stretch-s.ensures in
-    let S = stretch_written A.cells.now A.counts.now A.names.now A.sides.now A.starts.now c.loop-c.invariant.1 P.1 R (omega (arith, c.drawn-n.ensures)) c.put_stretch-i.ensures in
+    let S = stretch_written A.cells.now A.counts.now A.names.now A.sides.now A.starts.now c.loop-c.invariant.1 P.starts_in_bounds R (omega (arith, c.drawn-n.ensures)) c.put_stretch-i.ensures in
     (omega (arith, (R.after (omega (arith, c.if-s-eq0.false))).0), stored_more (words_of (drawn_at A.cells.now A.counts.now A.names.now A.sides.now A.starts.now)) _ S c.put_at-i.ensures)
 
 pub shape_of-area : goal.shape_of-area

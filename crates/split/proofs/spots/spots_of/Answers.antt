@@ -8,19 +8,19 @@ pub spiral_of-s-requires : goal.spiral_of-s-requires
 spiral_of-s-requires c = drawn-sound c.requires.drawable c.requires.splits_nonzero
 
 pub overflow_cast-s : goal.overflow_cast-s
-overflow_cast-s c = let D = c.requires in omega (arith, numbers-most D.0 D.1 c.spiral_of-s.ensures)
+overflow_cast-s c = let D = c.requires in omega (arith, numbers-most D.drawable D.splits_nonzero c.spiral_of-s.ensures)
 
 pub overflow_cast-s-2 : goal.overflow_cast-s-2
-overflow_cast-s-2 c = let D = c.requires in omega (arith, numbers-most D.0 D.1 c.spiral_of-s.ensures)
+overflow_cast-s-2 c = let D = c.requires in omega (arith, numbers-most D.drawable D.splits_nonzero c.spiral_of-s.ensures)
 
 pub overflow_sub-result : goal.overflow_sub-result
-overflow_sub-result c = let D = c.requires in omega (arith, c.long32-loops.ensures.0, figures-fit D.0 D.1 c.spiral_of-s.ensures c.figures_of-g.ensures)
+overflow_sub-result c = let D = c.requires in omega (arith, c.long32-loops.ensures.0, figures-fit D.drawable D.splits_nonzero c.spiral_of-s.ensures c.figures_of-g.ensures)
 
 pub overflow_mul-result-2 : goal.overflow_mul-result-2
-overflow_mul-result-2 c = let D = c.requires in omega (arith, figures-few D.0 D.1 c.spiral_of-s.ensures c.figures_of-g.ensures)
+overflow_mul-result-2 c = let D = c.requires in omega (arith, figures-few D.drawable D.splits_nonzero c.spiral_of-s.ensures c.figures_of-g.ensures)
 
 pub overflow_sub-result-2 : goal.overflow_sub-result-2
-overflow_sub-result-2 c = let D = c.requires in omega (arith, c.long32-loops.ensures.0, figures-fit D.0 D.1 c.spiral_of-s.ensures c.figures_of-g.ensures)
+overflow_sub-result-2 c = let D = c.requires in omega (arith, c.long32-loops.ensures.0, figures-fit D.drawable D.splits_nonzero c.spiral_of-s.ensures c.figures_of-g.ensures)
 
 pub returns : goal.returns
-returns c = let D = c.requires in spots_are D.0 D.1 c.spiral_of-s.ensures c.figures_of-g.ensures c.long32-loops.ensures.0 refl
+returns c = let D = c.requires in spots_are D.drawable D.splits_nonzero c.spiral_of-s.ensures c.figures_of-g.ensures c.long32-loops.ensures.0 refl

@@ -7,14 +7,14 @@ use Rattle.trees.proofs.pairs.put_pairs.Goals as goal
 pub mark-lowest-requires : goal.mark-lowest-requires
 mark-lowest-requires c = let p = c.requires in
     let g = c.grow.ensures in
-    record { searched = record { keyed = p.0.keyed; tree = g.0 }; few = p.0.few; tops_are = g.1.tops_are; room = p.1 }
+    record { searched = record { keyed = p.keys_growing.keyed; tree = g.tree }; few = p.keys_growing.few; tops_are = g.key_tops.tops_are; room = p.n_in_bounds }
 
 pub spread-requires : goal.spread-requires
 spread-requires c = let p = c.requires in
     let m = c.mark-lowest.ensures.pairs_marked in
-    record { topped = topped _ _ _ _ _ _ _ p.0.few p.1 m; n_in_bounds = omega (arith, p.1, m.same) }
+    record { topped = topped _ _ _ _ _ _ _ p.keys_growing.few p.n_in_bounds m; n_in_bounds = omega (arith, p.n_in_bounds, m.same) }
 
 pub returns : goal.returns
 returns c = let p = c.requires in
     let m = c.mark-lowest.ensures in
-    record { value = m.0; places_after = c.spread.ensures ∙ spread_all _ _ _ _ _ _ _ p.0.few p.1 m.1 }
+    record { value = m.value; places_after = c.spread.ensures ∙ spread_all _ _ _ _ _ _ _ p.keys_growing.few p.n_in_bounds m.pairs_marked }

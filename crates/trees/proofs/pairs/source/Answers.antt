@@ -25,7 +25,7 @@ offset_bounds-tops-t c = omega (arith, c.wide16.ensures.0, c.wide16.ensures.1)
 pub bounds-tops-t : goal.bounds-tops-t
 bounds-tops-t c = let j = c.args.j in
     let p = c.requires in
-    omega (arith, c.wide16.ensures.0, p.0.room, p.0.up j p.1, p.0.within j p.1)
+    omega (arith, c.wide16.ensures.0, p.topped.room, p.topped.up j p.j_lt_n, p.topped.within j p.j_lt_n)
 
 pub returns-then-wide16-lt-MET : goal.returns-then-wide16-lt-MET
 returns-then-wide16-lt-MET c = by-own _ _ _ _ c.wide16.ensures.0 c.wide16-2.ensures.0 c.if-wide16-lt-MET.true
