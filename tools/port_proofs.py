@@ -89,6 +89,31 @@ def tail_of(body):
     return at
 
 
+def clause(parts, fields):
+    """Returns the field of what clauses were pairs within pairs, and what is behind it; or None where it is a pair still."""
+    at, k = 0, 0
+    while k < len(fields) - 1:
+        if at >= len(parts) or parts[at] not in ("0", "1"):
+            return None
+        at += 1
+        if parts[at - 1] == "0":
+            return [fields[k], *parts[at:]]
+        k += 1
+    return [fields[k], *parts[at:]]
+
+
+def pairs(tail, n):
+    """Returns n terms of a term that is pairs within pairs."""
+    tail = tail.strip()
+    if n == 1:
+        return [tail]
+    if tail.startswith("(") and match(tail, 0) == len(tail):
+        parts = commas(tail[1:-1])
+        if len(parts) == 2:
+            return [parts[0], *pairs(parts[1], n - 1)]
+    return [f"({tail}).0", *([f"({tail}).1"] if n == 2 else pairs(f"({tail}).1", n - 1))]
+
+
 class Function:
     def __init__(self, key, of, crate):
         self.of, self.crate = of, crate
@@ -113,12 +138,11 @@ class Function:
     def field(self, k, step, rest):
         """Returns what `.step.rest` of the place k is behind c."""
         name, parent, (old, new), callee, renames = self.of["places"][k]
-        arm, clause = self.of["arms"][k], self.of["clauses"][k]
+        arm, clauses = self.of["arms"][k], self.of["clauses"][k]
         parts = [it for it in rest.split(".") if it]
         if parent is None:
             if step == "requires" and self.of["pre"] and parts and parts[0].isdigit():
-                fields = self.of["pre"]["fields"]
-                parts[0] = fields[int(parts[0])] if int(parts[0]) < len(fields) else parts[0]
+                parts = clause(parts, self.of["pre"]["fields"]) or parts
             if step == "args":
                 for row in self.of["args"]:
                     for o, n in [row]:
@@ -134,10 +158,8 @@ class Function:
             if best:
                 return ".".join([arm[0], best[0], *parts[len(best[1]) :]])
         if plain(old) == plain(step):
-            if parts and parts[0] == "ensures" and clause and len(parts) > 1 and parts[1].isdigit() and clause.get("fields"):
-                fields = clause["fields"]
-                if int(parts[1]) < len(fields):
-                    parts[1] = fields[int(parts[1])]
+            if parts and parts[0] == "ensures" and clauses and len(parts) > 1 and parts[1].isdigit() and clauses.get("fields"):
+                parts = ["ensures", *(clause(parts[1:], clauses["fields"]) or parts[1:])]
             return ".".join([new, *parts])
         return None
 
@@ -160,8 +182,8 @@ class Function:
                         break
             if fields and len(fields) > 1:
                 text = re.sub(
-                    rf"(?<![\w.'-]){m[1]}\.(\d+)(?![\w])",
-                    lambda w: f"{m[1]}.{fields[int(w[1])]}" if int(w[1]) < len(fields) else w[0],
+                    rf"(?<![\w.'-]){m[1]}((?:\.\d+)+)(?![\w])",
+                    lambda w: ".".join([m[1], *(clause(w[1][1:].split("."), fields) or [w[1][1:]])]),
                     text,
                 )
 
@@ -364,21 +386,12 @@ def convert(folder, fn, crate):
             at = tail_of(body)
             tail = body[at:].strip()
             lead = body[:at]
-            parts = None
-            if tail.startswith("(") and match(tail, 0) == len(tail):
-                parts = commas(tail[1:-1])
             if tail.startswith("record {"):
-                parts = None
-            elif parts and len(parts) == len(fields):
-                tail = "record { " + "; ".join(f"{f} = {p}" for f, p in zip(fields, parts)) + " }"
-            elif parts and len(parts) > len(fields):
-                last = "(" + ", ".join(parts[len(fields) - 1 :]) + ")"
-                parts = [*parts[: len(fields) - 1], last]
-                tail = "record { " + "; ".join(f"{f} = {p}" for f, p in zip(fields, parts)) + " }"
-            elif tail in SETTLED or tail == "search rules":
+                pass
+            elif tail in SETTLED:
                 continue
             else:
-                tail = "record { " + "; ".join(f"{f} = ({tail}).{n}" for n, f in enumerate(fields)) + " }"
+                tail = "record { " + "; ".join(f"{f} = {p}" for f, p in zip(fields, pairs(tail, len(fields)))) + " }"
             body = lead + ("\n    " if "\n" in lead else " " if lead else "") + tail
         sep = "\n    " if "\n" in body and not body.startswith(("record", "elim", "let", "(")) else " "
         answers.append("\n".join([*comments, f"pub {new} : goal.{new}", *unfolding, f"{new} {var} ={sep}{body}"]))

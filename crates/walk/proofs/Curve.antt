@@ -113,8 +113,8 @@ module _ (M N : ℕ) (s rv cr : ℕ → ℕ) (D : Darts M N s rv cr) where
 
   pub loop-later : {p k : ℕ} → Loop M s p k → (i : ℕ) → Loop M s (it s i p) k
   unfolding it
-  loop-later K zero = K
-  loop-later K (suc i) = loop-later (loop-next K) i
+  loop-later {p = p} {k = k} K zero = K
+  loop-later {p = p} {k = k} K (suc i) = loop-later {p = s p} (loop-next K) i
 
   -- a curve that does not end within N steps comes back within N
   pub closes : (p : ℕ) → Live M s p N → (k : ℕ) × (k ≤ N) × Loop M s p k

@@ -5,10 +5,10 @@ use Rattle.capi.proofs.Putting.{room-short, room_enough, answers_short}
 use Rattle.capi.proofs.citternblaze_bundle_read.Goals as goal
 
 pub returns-then-answer-lt-ANSWER_WORDS : goal.returns-then-answer-lt-ANSWER_WORDS
-returns-then-answer-lt-ANSWER_WORDS c = record { answer = ((answers_short (search rules), (room-short _ _ _ (search rules), (room-short _ _ _ (search rules), room-short _ _ _ (search rules))))).0; nodes = ((answers_short (search rules), (room-short _ _ _ (search rules), (room-short _ _ _ (search rules), room-short _ _ _ (search rules))))).1; ends = ((answers_short (search rules), (room-short _ _ _ (search rules), (room-short _ _ _ (search rules), room-short _ _ _ (search rules))))).2; counts = ((answers_short (search rules), (room-short _ _ _ (search rules), (room-short _ _ _ (search rules), room-short _ _ _ (search rules))))).3 }
+returns-then-answer-lt-ANSWER_WORDS c = record { answer = answers_short (search rules); nodes = room-short _ _ _ (search rules); ends = room-short _ _ _ (search rules); counts = room-short _ _ _ (search rules) }
 
 pub returns-in-Lists : goal.returns-in-Lists
-returns-in-Lists c = record { answer = ((answers-told contents_numbers c.in-Lists.is c.read.ensures.answer c.put.ensures, (room_enough _ _ _ (search rules) c.read.ensures.nodes.0, (room_enough _ _ _ (search rules) c.read.ensures.nodes.1.0, room_enough _ _ _ (search rules) c.read.ensures.nodes.1.1)))).0; nodes = ((answers-told contents_numbers c.in-Lists.is c.read.ensures.answer c.put.ensures, (room_enough _ _ _ (search rules) c.read.ensures.nodes.0, (room_enough _ _ _ (search rules) c.read.ensures.nodes.1.0, room_enough _ _ _ (search rules) c.read.ensures.nodes.1.1)))).1; ends = ((answers-told contents_numbers c.in-Lists.is c.read.ensures.answer c.put.ensures, (room_enough _ _ _ (search rules) c.read.ensures.nodes.0, (room_enough _ _ _ (search rules) c.read.ensures.nodes.1.0, room_enough _ _ _ (search rules) c.read.ensures.nodes.1.1)))).2; counts = ((answers-told contents_numbers c.in-Lists.is c.read.ensures.answer c.put.ensures, (room_enough _ _ _ (search rules) c.read.ensures.nodes.0, (room_enough _ _ _ (search rules) c.read.ensures.nodes.1.0, room_enough _ _ _ (search rules) c.read.ensures.nodes.1.1)))).3 }
+returns-in-Lists c = record { answer = answers-told contents_numbers c.in-Lists.is c.read.ensures.answer c.put.ensures; nodes = room_enough _ _ _ (search rules) c.read.ensures.nodes; ends = room_enough _ _ _ (search rules) c.read.ensures.ends; counts = room_enough _ _ _ (search rules) c.read.ensures.counts }
 
 pub returns-in-Refused : goal.returns-in-Refused
-returns-in-Refused c = record { answer = ((answers-told contents_numbers c.in-Refused.is c.read.ensures.answer c.put-in-Refused.ensures, (room_enough _ _ _ (search rules) c.read.ensures.nodes.0, (room_enough _ _ _ (search rules) c.read.ensures.nodes.1.0, room_enough _ _ _ (search rules) c.read.ensures.nodes.1.1)))).0; nodes = ((answers-told contents_numbers c.in-Refused.is c.read.ensures.answer c.put-in-Refused.ensures, (room_enough _ _ _ (search rules) c.read.ensures.nodes.0, (room_enough _ _ _ (search rules) c.read.ensures.nodes.1.0, room_enough _ _ _ (search rules) c.read.ensures.nodes.1.1)))).1; ends = ((answers-told contents_numbers c.in-Refused.is c.read.ensures.answer c.put-in-Refused.ensures, (room_enough _ _ _ (search rules) c.read.ensures.nodes.0, (room_enough _ _ _ (search rules) c.read.ensures.nodes.1.0, room_enough _ _ _ (search rules) c.read.ensures.nodes.1.1)))).2; counts = ((answers-told contents_numbers c.in-Refused.is c.read.ensures.answer c.put-in-Refused.ensures, (room_enough _ _ _ (search rules) c.read.ensures.nodes.0, (room_enough _ _ _ (search rules) c.read.ensures.nodes.1.0, room_enough _ _ _ (search rules) c.read.ensures.nodes.1.1)))).3 }
+returns-in-Refused c = record { answer = answers-told contents_numbers c.in-Refused.is c.read.ensures.answer c.put-in-Refused.ensures; nodes = room_enough _ _ _ (search rules) c.read.ensures.nodes; ends = room_enough _ _ _ (search rules) c.read.ensures.ends; counts = room_enough _ _ _ (search rules) c.read.ensures.counts }

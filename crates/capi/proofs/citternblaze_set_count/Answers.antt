@@ -7,10 +7,10 @@ use Rattle.answer.proofs.Answer.{refused-numbers}
 use Rattle.capi.proofs.citternblaze_set_count.Goals as goal
 
 pub returns-then-answer-lt-ANSWER_WORDS : goal.returns-then-answer-lt-ANSWER_WORDS
-returns-then-answer-lt-ANSWER_WORDS c = record { answer = ((answers_short (search rules), (room-short _ _ _ (search rules), room-short _ _ _ (search rules)))).0; counts = ((answers_short (search rules), (room-short _ _ _ (search rules), room-short _ _ _ (search rules)))).1; starts = ((answers_short (search rules), (room-short _ _ _ (search rules), room-short _ _ _ (search rules)))).2 }
+returns-then-answer-lt-ANSWER_WORDS c = record { answer = answers_short (search rules); counts = room-short _ _ _ (search rules); starts = room-short _ _ _ (search rules) }
 
 pub returns-in-Crossings : goal.returns-in-Crossings
-returns-in-Crossings c = let s = c.set_count in record { answer = ((answers-told check_numbers c.in-Crossings.is s.ensures.0 c.put.ensures, (room_enough _ _ _ (search rules) s.ensures.1.0, room_enough _ _ _ (search rules) s.ensures.1.1))).0; counts = ((answers-told check_numbers c.in-Crossings.is s.ensures.0 c.put.ensures, (room_enough _ _ _ (search rules) s.ensures.1.0, room_enough _ _ _ (search rules) s.ensures.1.1))).1; starts = ((answers-told check_numbers c.in-Crossings.is s.ensures.0 c.put.ensures, (room_enough _ _ _ (search rules) s.ensures.1.0, room_enough _ _ _ (search rules) s.ensures.1.1))).2 }
+returns-in-Crossings c = let s = c.set_count in record { answer = answers-told check_numbers c.in-Crossings.is s.ensures.0 c.put.ensures; counts = room_enough _ _ _ (search rules) s.ensures.1.0; starts = room_enough _ _ _ (search rules) s.ensures.1.1 }
 
 pub returns-in-Refused : goal.returns-in-Refused
-returns-in-Refused c = let s = c.set_count in record { answer = ((answers-are (refused-numbers _ (set-some _ _ _) _ _ (told-reads check_numbers c.in-Refused.is s.ensures.0)) c.put-in-Refused.ensures, (room_enough _ _ _ (search rules) s.ensures.1.0, room_enough _ _ _ (search rules) s.ensures.1.1))).0; counts = ((answers-are (refused-numbers _ (set-some _ _ _) _ _ (told-reads check_numbers c.in-Refused.is s.ensures.0)) c.put-in-Refused.ensures, (room_enough _ _ _ (search rules) s.ensures.1.0, room_enough _ _ _ (search rules) s.ensures.1.1))).1; starts = ((answers-are (refused-numbers _ (set-some _ _ _) _ _ (told-reads check_numbers c.in-Refused.is s.ensures.0)) c.put-in-Refused.ensures, (room_enough _ _ _ (search rules) s.ensures.1.0, room_enough _ _ _ (search rules) s.ensures.1.1))).2 }
+returns-in-Refused c = let s = c.set_count in record { answer = answers-are (refused-numbers _ (set-some _ _ _) _ _ (told-reads check_numbers c.in-Refused.is s.ensures.0)) c.put-in-Refused.ensures; counts = room_enough _ _ _ (search rules) s.ensures.1.0; starts = room_enough _ _ _ (search rules) s.ensures.1.1 }

@@ -22,7 +22,7 @@ pub row_of-w-requires : goal.row_of-w-requires
 row_of-w-requires c = record { listed = c.requires.listed.0; crosses = crosses_av c.requires.listed.0 c.requires.listed.1 (omega (arith, c.if-n-eq0.false)) }
 
 pub put_fours-requires : goal.put_fours-requires
-put_fours-requires c = record { long = ((across-long c.requires.listed.0 c.requires.listed.1 c.row_of-p.ensures c.row_of-w.ensures c.row_of-q.ensures c.row_of-r.ensures, ((c.requires.listed.1.all.d-lt, c.requires.listed.1.all.a_lt, c.requires.listed.1.all.c_lt, c.requires.listed.1.all.b_lt), omega (arith, across-words c.requires.listed.0 c.requires.listed.1, c.requires.v_in_bounds)))).0; s0_bound = ((across-long c.requires.listed.0 c.requires.listed.1 c.row_of-p.ensures c.row_of-w.ensures c.row_of-q.ensures c.row_of-r.ensures, ((c.requires.listed.1.all.d-lt, c.requires.listed.1.all.a_lt, c.requires.listed.1.all.c_lt, c.requires.listed.1.all.b_lt), omega (arith, across-words c.requires.listed.0 c.requires.listed.1, c.requires.v_in_bounds)))).1; n_in_bounds = ((across-long c.requires.listed.0 c.requires.listed.1 c.row_of-p.ensures c.row_of-w.ensures c.row_of-q.ensures c.row_of-r.ensures, ((c.requires.listed.1.all.d-lt, c.requires.listed.1.all.a_lt, c.requires.listed.1.all.c_lt, c.requires.listed.1.all.b_lt), omega (arith, across-words c.requires.listed.0 c.requires.listed.1, c.requires.v_in_bounds)))).2 }
+put_fours-requires c = record { long = across-long c.requires.listed.0 c.requires.listed.1 c.row_of-p.ensures c.row_of-w.ensures c.row_of-q.ensures c.row_of-r.ensures; s0_bound = (c.requires.listed.1.all.d-lt, c.requires.listed.1.all.a_lt, c.requires.listed.1.all.c_lt, c.requires.listed.1.all.b_lt); n_in_bounds = omega (arith, across-words c.requires.listed.0 c.requires.listed.1, c.requires.v_in_bounds) }
 
 pub returns : goal.returns
 returns c = stored_as c.put_fours.ensures (ap all_words (across_are c.requires.listed.0 c.requires.listed.1 c.row_of-p.ensures c.row_of-w.ensures c.row_of-q.ensures c.row_of-r.ensures)) refl

@@ -21,10 +21,10 @@ pub number_in-g3-requires : goal.number_in-g3-requires
 number_in-g3-requires c = c.requires.long.3 _ (omega (arith, c.loop-i-test))
 
 pub put_four-requires : goal.put_four-requires
-put_four-requires c = record { s0_bound = c.requires.s0_bound.0; word_count_in_bounds = omega (arith, under-place c.loop-i.invariant.1 2 (λ i. refl), under-long c.loop-i.invariant.1, c.requires.s0_bound.1, c.loop-i-test) }
+put_four-requires c = record { s0_bound = c.requires.s0_bound; word_count_in_bounds = omega (arith, under-place c.loop-i.invariant.1 2 (λ i. refl), under-long c.loop-i.invariant.1, c.requires.n_in_bounds, c.loop-i-test) }
 
 pub overflow_add-j : goal.overflow_add-j
-overflow_add-j c = omega (arith, c.before.before.before.before.before.before.before.before.before.before.before.well-formed, under-place c.loop-i.invariant.1 2 (λ i. refl), c.requires.s0_bound.1, c.loop-i-test)
+overflow_add-j c = omega (arith, c.before.before.before.before.before.before.before.before.before.before.before.well-formed, under-place c.loop-i.invariant.1 2 (λ i. refl), c.requires.n_in_bounds, c.loop-i-test)
 
 pub overflow_add-i : goal.overflow_add-i
 overflow_add-i c = omega (arith, c.loop-i-test)

@@ -19,13 +19,13 @@ pub number_in-g2-requires : goal.number_in-g2-requires
 number_in-g2-requires c = c.requires.long.2 _ (omega (arith, c.loop-i-test))
 
 pub whole_of-t-requires : goal.whole_of-t-requires
-whole_of-t-requires c = c.requires.s0_bound.0
+whole_of-t-requires c = c.requires.s0_bound
 
 pub put-requires : goal.put-requires
-put-requires c = omega (arith, under-place c.loop-i.invariant.1 1 (λ i. refl), under-long c.loop-i.invariant.1, c.requires.s0_bound.1, c.loop-i-test)
+put-requires c = omega (arith, under-place c.loop-i.invariant.1 1 (λ i. refl), under-long c.loop-i.invariant.1, c.requires.n_in_bounds, c.loop-i-test)
 
 pub overflow_add-j : goal.overflow_add-j
-overflow_add-j c = omega (arith, c.before.before.before.before.before.before.before.before.before.before.before.well-formed, under-place c.loop-i.invariant.1 1 (λ i. refl), c.requires.s0_bound.1, c.loop-i-test)
+overflow_add-j c = omega (arith, c.before.before.before.before.before.before.before.before.before.before.before.well-formed, under-place c.loop-i.invariant.1 1 (λ i. refl), c.requires.n_in_bounds, c.loop-i-test)
 
 pub overflow_add-i : goal.overflow_add-i
 overflow_add-i c = omega (arith, c.loop-i-test)

@@ -11,7 +11,7 @@ pub trace-requires : goal.trace-requires
 trace-requires c = let c-n = c.n-1 in
     let c-all-rows = c.all_rows in
     let c-args = c.args in
-    record { accepted = ((told-accepted (flat_of c-args.triangles.now c-args.edges.now c-args.counts.now) c-all-rows.result _ c-n.given.1 c-all-rows.ensures.0, (told-sides (flat_of c-args.triangles.now c-args.edges.now c-args.counts.now) c-all-rows.result _ c-n.given.1 c-all-rows.ensures.0 _ c-all-rows.ensures.1, told-number (flat_of c-args.triangles.now c-args.edges.now c-args.counts.now) c-all-rows.result _ c-n.given.1 c-all-rows.ensures.0))).0; sides_known = ((told-accepted (flat_of c-args.triangles.now c-args.edges.now c-args.counts.now) c-all-rows.result _ c-n.given.1 c-all-rows.ensures.0, (told-sides (flat_of c-args.triangles.now c-args.edges.now c-args.counts.now) c-all-rows.result _ c-n.given.1 c-all-rows.ensures.0 _ c-all-rows.ensures.1, told-number (flat_of c-args.triangles.now c-args.edges.now c-args.counts.now) c-all-rows.result _ c-n.given.1 c-all-rows.ensures.0))).1; n_value = ((told-accepted (flat_of c-args.triangles.now c-args.edges.now c-args.counts.now) c-all-rows.result _ c-n.given.1 c-all-rows.ensures.0, (told-sides (flat_of c-args.triangles.now c-args.edges.now c-args.counts.now) c-all-rows.result _ c-n.given.1 c-all-rows.ensures.0 _ c-all-rows.ensures.1, told-number (flat_of c-args.triangles.now c-args.edges.now c-args.counts.now) c-all-rows.result _ c-n.given.1 c-all-rows.ensures.0))).2 }
+    record { accepted = told-accepted (flat_of c-args.triangles.now c-args.edges.now c-args.counts.now) c-all-rows.result _ c-n.given.1 c-all-rows.ensures.0; sides_known = told-sides (flat_of c-args.triangles.now c-args.edges.now c-args.counts.now) c-all-rows.result _ c-n.given.1 c-all-rows.ensures.0 _ c-all-rows.ensures.1; n_value = told-number (flat_of c-args.triangles.now c-args.edges.now c-args.counts.now) c-all-rows.result _ c-n.given.1 c-all-rows.ensures.0 }
 
 pub returns-in-Refused : goal.returns-in-Refused
 returns-in-Refused c = let c-all-rows = c.all_rows in

@@ -18,7 +18,7 @@ overflow_mul-n c = let c-pre = c.requires in
 pub put_steps-requires : goal.put_steps-requires
 put_steps-requires c = let c-args = c.args in
     let c-pre = c.requires in
-    record { sides = ((sides_are (flat_of c-args.triangles.now c-args.edges.now c-args.counts.now) c-pre.0 _ c-pre.1.0, (omega (arith, c-pre.1.1.0), c-pre.1.1.1.0))).0; darts_value = ((sides_are (flat_of c-args.triangles.now c-args.edges.now c-args.counts.now) c-pre.0 _ c-pre.1.0, (omega (arith, c-pre.1.1.0), c-pre.1.1.1.0))).1; darts_in_bounds = ((sides_are (flat_of c-args.triangles.now c-args.edges.now c-args.counts.now) c-pre.0 _ c-pre.1.0, (omega (arith, c-pre.1.1.0), c-pre.1.1.1.0))).2 }
+    record { sides = sides_are (flat_of c-args.triangles.now c-args.edges.now c-args.counts.now) c-pre.0 _ c-pre.1.0; darts_value = omega (arith, c-pre.1.1.0); darts_in_bounds = c-pre.1.1.1.0 }
 
 pub put_words-m-requires : goal.put_words-m-requires
 put_words-m-requires c = let c-put-steps = c.put_steps in

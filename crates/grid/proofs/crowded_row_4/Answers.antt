@@ -8,7 +8,7 @@ pub number_cells-requires : goal.number_cells-requires
 number_cells-requires c = record { low_chains = c.requires.low_chains; comparable = c.requires.comparable }
 
 pub first_same-requires : goal.first_same-requires
-first_same-requires c = record { cells_bound = ((c.requires.comparable.few, (c.number_cells.ensures, fresh-again c.requires.comparable.at_room (c.clear.auto.0 ∙ c.number_cells.auto.1.1.1.1.1.0) c.clear.ensures))).0; cells = ((c.requires.comparable.few, (c.number_cells.ensures, fresh-again c.requires.comparable.at_room (c.clear.auto.0 ∙ c.number_cells.auto.1.1.1.1.1.0) c.clear.ensures))).1; fresh = ((c.requires.comparable.few, (c.number_cells.ensures, fresh-again c.requires.comparable.at_room (c.clear.auto.0 ∙ c.number_cells.auto.1.1.1.1.1.0) c.clear.ensures))).2 }
+first_same-requires c = record { cells_bound = c.requires.comparable.few; cells = c.number_cells.ensures; fresh = fresh-again c.requires.comparable.at_room (c.clear.auto.0 ∙ c.number_cells.auto.1.1.1.1.1.0) c.clear.ensures }
 
 pub shape_of-at : goal.shape_of-at
 shape_of-at c = c.first_same.auto.1.1.0 ∙ c.clear.auto.0 ∙ c.number_cells.auto.1.1.1.1.1.0

@@ -10,7 +10,7 @@ use borrow.Author.Rules.{rules}
 use Rattle.grid.proofs.early_rows.Goals as goal
 
 pub row_5-p5-requires : goal.row_5-p5-requires
-row_5-p5-requires c = record { rising_cells = ((c.requires.rising_cells, (c.requires.low_chains.1.0.told, (fresh-again c.requires.low_chains.1.0.at_room c.clear.auto.0 c.clear.ensures, c.requires.low_chains.1.1)))).0; slots = ((c.requires.rising_cells, (c.requires.low_chains.1.0.told, (fresh-again c.requires.low_chains.1.0.at_room c.clear.auto.0 c.clear.ensures, c.requires.low_chains.1.1)))).1; fresh = ((c.requires.rising_cells, (c.requires.low_chains.1.0.told, (fresh-again c.requires.low_chains.1.0.at_room c.clear.auto.0 c.clear.ensures, c.requires.low_chains.1.1)))).2; fresh_2 = ((c.requires.rising_cells, (c.requires.low_chains.1.0.told, (fresh-again c.requires.low_chains.1.0.at_room c.clear.auto.0 c.clear.ensures, c.requires.low_chains.1.1)))).3 }
+row_5-p5-requires c = record { rising_cells = c.requires.rising_cells; slots = c.requires.comparable.told; fresh = fresh-again c.requires.comparable.at_room c.clear.auto.0 c.clear.ensures; fresh_2 = c.requires.fresh }
 
 pub row_4-p4-requires : goal.row_4-p4-requires
 row_4-p4-requires c = c.row_5-p5.ensures.neighbours c.if-n-p5.true
@@ -42,7 +42,7 @@ returns-then-n-p5 c = let cells = c.args.cells.now in
     }
 
 pub crowded_row_4-q4-requires : goal.crowded_row_4-q4-requires
-crowded_row_4-q4-requires c = let C = c.requires.low_chains.1.0 in record { low_chains = c.requires.low_chains.0; comparable = record { few = C.few; told = C.told; at_room = omega (arith, C.at_room, c.row_5-p5.auto.1.1.0, c.clear.auto.0); same-room = C.same-room } }
+crowded_row_4-q4-requires c = let C = c.requires.comparable in record { low_chains = c.requires.low_chains; comparable = record { few = C.few; told = C.told; at_room = omega (arith, C.at_room, c.row_5-p5.auto.1.1.0, c.clear.auto.0); same-room = C.same-room } }
 
 pub shape_of-at-then-q4-n : goal.shape_of-at-then-q4-n
 shape_of-at-then-q4-n c = c.crowded_row_4-q4.auto.1.1.1.1.1.0 ∙ c.row_5-p5.auto.1.1.0 ∙ c.clear.auto.0

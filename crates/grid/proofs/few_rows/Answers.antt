@@ -3,7 +3,7 @@ use borrow.Author.Rules.{rules}
 use Rattle.grid.proofs.few_rows.Goals as goal
 
 pub table_rows-requires : goal.table_rows-requires
-table_rows-requires c = record { numbering = ((c.requires.numbering, (cell-tables _ 64 c.requires.cells_bound, (chain-tables _ 64 c.requires.cells_bound, edge-tables _ 64 c.requires.cells_bound)))).0; cell_tables = ((c.requires.numbering, (cell-tables _ 64 c.requires.cells_bound, (chain-tables _ 64 c.requires.cells_bound, edge-tables _ 64 c.requires.cells_bound)))).1; chain_tables = ((c.requires.numbering, (cell-tables _ 64 c.requires.cells_bound, (chain-tables _ 64 c.requires.cells_bound, edge-tables _ 64 c.requires.cells_bound)))).2; edge_tables = ((c.requires.numbering, (cell-tables _ 64 c.requires.cells_bound, (chain-tables _ 64 c.requires.cells_bound, edge-tables _ 64 c.requires.cells_bound)))).3 }
+table_rows-requires c = record { numbering = c.requires.numbering; cell_tables = cell-tables _ 64 c.requires.cells_bound; chain_tables = chain-tables _ 64 c.requires.cells_bound; edge_tables = edge-tables _ 64 c.requires.cells_bound }
 
 pub shape_of-near : goal.shape_of-near
 shape_of-near c = c.table_rows.auto.1.1.1.0

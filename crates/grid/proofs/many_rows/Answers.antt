@@ -3,7 +3,7 @@ use borrow.Author.Rules.{rules}
 use Rattle.grid.proofs.many_rows.Goals as goal
 
 pub table_rows-requires : goal.table_rows-requires
-table_rows-requires c = record { numbering = ((c.requires, (cell-tables _ 2048 c.requires.ordered.few, (chain-tables _ 2048 c.requires.ordered.few, edge-tables _ 2048 c.requires.ordered.few)))).0; cell_tables = ((c.requires, (cell-tables _ 2048 c.requires.ordered.few, (chain-tables _ 2048 c.requires.ordered.few, edge-tables _ 2048 c.requires.ordered.few)))).1; chain_tables = ((c.requires, (cell-tables _ 2048 c.requires.ordered.few, (chain-tables _ 2048 c.requires.ordered.few, edge-tables _ 2048 c.requires.ordered.few)))).2; edge_tables = ((c.requires, (cell-tables _ 2048 c.requires.ordered.few, (chain-tables _ 2048 c.requires.ordered.few, edge-tables _ 2048 c.requires.ordered.few)))).3 }
+table_rows-requires c = record { numbering = c.requires; cell_tables = cell-tables _ 2048 c.requires.ordered.few; chain_tables = chain-tables _ 2048 c.requires.ordered.few; edge_tables = edge-tables _ 2048 c.requires.ordered.few }
 
 pub shape_of-near : goal.shape_of-near
 shape_of-near c = c.table_rows.auto.1.1.1.0

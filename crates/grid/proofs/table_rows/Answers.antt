@@ -12,12 +12,12 @@ use borrow.Author.Rules.{rules}
 use Rattle.grid.proofs.table_rows.Goals as goal
 
 pub number_faces-many-requires : goal.number_faces-many-requires
-number_faces-many-requires c = let p = c.requires in record { numerable = ((rising_numerable p.numbering.ordered p.cell_tables.0.labels_new p.cell_tables.0.ranks-new p.cell_tables.0.faces-new p.cell_tables.0.same_new, (p.cell_tables.1.0, p.cell_tables.0.at_new))).0; chain_tables = ((rising_numerable p.numbering.ordered p.cell_tables.0.labels_new p.cell_tables.0.ranks-new p.cell_tables.0.faces-new p.cell_tables.0.same_new, (p.cell_tables.1.0, p.cell_tables.0.at_new))).1; fresh = ((rising_numerable p.numbering.ordered p.cell_tables.0.labels_new p.cell_tables.0.ranks-new p.cell_tables.0.faces-new p.cell_tables.0.same_new, (p.cell_tables.1.0, p.cell_tables.0.at_new))).2 }
+number_faces-many-requires c = let p = c.requires in record { numerable = rising_numerable p.numbering.ordered p.cell_tables.labels_new p.cell_tables.ranks-new p.cell_tables.faces-new p.cell_tables.same_new; chain_tables = p.chain_tables; fresh = p.cell_tables.at_new }
 
 pub early_rows-p-requires : goal.early_rows-p-requires
 early_rows-p-requires c = let p = c.requires in
     let F = c.number_faces-many in
-    record { rising_cells = ((p.numbering.ordered, (F.ensures.1.1, (record { few = p.numbering.ordered.few; told = F.ensures.0; at_room = omega (arith, p.cell_tables.0.at_new.room, F.auto.1.1.1.1.1.1.1.1.1.0); same-room = omega (arith, p.cell_tables.0.same_new.room, F.auto.1.1.1.1.1.1.1.1.1.1.1.0) }, p.numbering.blank.near_new)))).0; low_chains = ((p.numbering.ordered, (F.ensures.1.1, (record { few = p.numbering.ordered.few; told = F.ensures.0; at_room = omega (arith, p.cell_tables.0.at_new.room, F.auto.1.1.1.1.1.1.1.1.1.0); same-room = omega (arith, p.cell_tables.0.same_new.room, F.auto.1.1.1.1.1.1.1.1.1.1.1.0) }, p.numbering.blank.near_new)))).1; comparable = ((p.numbering.ordered, (F.ensures.1.1, (record { few = p.numbering.ordered.few; told = F.ensures.0; at_room = omega (arith, p.cell_tables.0.at_new.room, F.auto.1.1.1.1.1.1.1.1.1.0); same-room = omega (arith, p.cell_tables.0.same_new.room, F.auto.1.1.1.1.1.1.1.1.1.1.1.0) }, p.numbering.blank.near_new)))).2; fresh = ((p.numbering.ordered, (F.ensures.1.1, (record { few = p.numbering.ordered.few; told = F.ensures.0; at_room = omega (arith, p.cell_tables.0.at_new.room, F.auto.1.1.1.1.1.1.1.1.1.0); same-room = omega (arith, p.cell_tables.0.same_new.room, F.auto.1.1.1.1.1.1.1.1.1.1.1.0) }, p.numbering.blank.near_new)))).3 }
+    record { rising_cells = p.numbering.ordered; low_chains = F.ensures.1.1; comparable = record { few = p.numbering.ordered.few; told = F.ensures.0; at_room = omega (arith, p.cell_tables.at_new.room, F.auto.1.1.1.1.1.1.1.1.1.0); same-room = omega (arith, p.cell_tables.same_new.room, F.auto.1.1.1.1.1.1.1.1.1.1.1.0) }; fresh = p.numbering.blank.near_new }
 
 pub shape_of-near-then-p-n : goal.shape_of-near-then-p-n
 shape_of-near-then-p-n c = c.early_rows-p.auto.1.1.1.1.1.1.1.0
@@ -107,7 +107,7 @@ returns-then-p-n-2 c = let cells = c.args.cells.now in
 
 pub edge_rows-requires : goal.edge_rows-requires
 edge_rows-requires c = let p = c.requires in
-    record { ordered = p.numbering.ordered; pairs = p.numbering.pairs; near-is = c.early_rows-p.ensures.near-is c.if-p-n-2.false; chained = c.number_faces-many.ensures.node_chains.0; tables = p.cell_tables.1.1; sides-new = p.numbering.blank.sides-new }
+    record { ordered = p.numbering.ordered; pairs = p.numbering.pairs; near-is = c.early_rows-p.ensures.near-is c.if-p-n-2.false; chained = c.number_faces-many.ensures.node_chains; tables = p.edge_tables; sides-new = p.numbering.blank.sides-new }
 
 pub shape_of-near : goal.shape_of-near
 shape_of-near c = c.early_rows-p.auto.1.1.1.1.1.1.1.0

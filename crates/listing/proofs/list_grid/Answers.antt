@@ -17,21 +17,10 @@ returns-in-Refused c = let a = c.args in
     let p = c.requires in
     let o = (goal.at.returns-in-Refused c).After-open.«open» in
     record {
-      stored = ((
-        stored_as c.put_refused.ensures.stored
-            (check-refused (built a.nodes.now a.ends.now a.counts.now) _ _ (sym (ap check_numbers c.in-Refused.is) ∙ o.ensures.0 ∙ opened-answer a.nodes.now a.ends.now a.counts.now a.starts.now p.0)) refl,
-        (search rules, o.ensures.1),
-      )).0;
-      few = ((
-        stored_as c.put_refused.ensures.stored
-            (check-refused (built a.nodes.now a.ends.now a.counts.now) _ _ (sym (ap check_numbers c.in-Refused.is) ∙ o.ensures.0 ∙ opened-answer a.nodes.now a.ends.now a.counts.now a.starts.now p.0)) refl,
-        (search rules, o.ensures.1),
-      )).1;
-      starts = ((
-        stored_as c.put_refused.ensures.stored
-            (check-refused (built a.nodes.now a.ends.now a.counts.now) _ _ (sym (ap check_numbers c.in-Refused.is) ∙ o.ensures.0 ∙ opened-answer a.nodes.now a.ends.now a.counts.now a.starts.now p.0)) refl,
-        (search rules, o.ensures.1),
-      )).2;
+      stored = stored_as c.put_refused.ensures.stored
+          (check-refused (built a.nodes.now a.ends.now a.counts.now) _ _ (sym (ap check_numbers c.in-Refused.is) ∙ o.ensures.0 ∙ opened-answer a.nodes.now a.ends.now a.counts.now a.starts.now p.0)) refl;
+      few = search rules;
+      starts = o.ensures.1;
     }
 
 pub returns-in-Crossings : goal.returns-in-Crossings
@@ -39,19 +28,8 @@ returns-in-Crossings c = let a = c.args in
     let p = c.requires in
     let o = (goal.at.returns-in-Crossings c).After-open-arg-1.«open» in
     record {
-      stored = ((
-        stored_as c.list_mesh.ensures.stored
-            (opened-listing a.nodes.now a.ends.now a.counts.now a.starts.now p.0 _ _ (sym (ap check_numbers c.in-Crossings.is) ∙ o.ensures.0) o.ensures.1) refl,
-        (search rules, o.ensures.1),
-      )).0;
-      few = ((
-        stored_as c.list_mesh.ensures.stored
-            (opened-listing a.nodes.now a.ends.now a.counts.now a.starts.now p.0 _ _ (sym (ap check_numbers c.in-Crossings.is) ∙ o.ensures.0) o.ensures.1) refl,
-        (search rules, o.ensures.1),
-      )).1;
-      starts = ((
-        stored_as c.list_mesh.ensures.stored
-            (opened-listing a.nodes.now a.ends.now a.counts.now a.starts.now p.0 _ _ (sym (ap check_numbers c.in-Crossings.is) ∙ o.ensures.0) o.ensures.1) refl,
-        (search rules, o.ensures.1),
-      )).2;
+      stored = stored_as c.list_mesh.ensures.stored
+          (opened-listing a.nodes.now a.ends.now a.counts.now a.starts.now p.0 _ _ (sym (ap check_numbers c.in-Crossings.is) ∙ o.ensures.0) o.ensures.1) refl;
+      few = search rules;
+      starts = o.ensures.1;
     }

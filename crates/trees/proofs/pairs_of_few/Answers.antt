@@ -8,4 +8,4 @@ use Rattle.trees.specs.work.Planted.{key_branches}
 use Rattle.trees.proofs.pairs_of_few.Goals as goal
 
 pub put_pairs-requires : goal.put_pairs-requires
-put_pairs-requires c = let p = c.requires in record { keys_growing = record { keyed = p.n_in_bounds.0; few = omega (arith, p.n_le_few_places); room = omega (arith, p.n_le_few_places); blank = zeros (trees + key_branches * few_places); tops_room = omega (arith, p.n_le_few_places) }; n_in_bounds = p.n_in_bounds.1 }
+put_pairs-requires c = let p = c.requires in record { keys_growing = record { keyed = p.n_in_bounds; few = omega (arith, p.n_le_few_places); room = omega (arith, p.n_le_few_places); blank = zeros (trees + key_branches * few_places); tops_room = omega (arith, p.n_le_few_places) }; n_in_bounds = p.n_in_bounds_2 }

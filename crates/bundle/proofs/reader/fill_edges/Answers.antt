@@ -96,26 +96,4 @@ returns c = let l = c.loop-k in
     let p = c.requires in
     let s = a.bytes.now in
     let e : l.k ≡ edges s = all_done (goal.at.returns c).After-loop-k in
-    record {
-      value = ((
-        l.invariant.0.reached ∙ ap (record_start s a.from) e ∙ ap (λ n. record_start s n (edges s)) p.begin,
-        (
-          filled-all (ends_by s a.from) l.k (edges s) l.invariant.1 e (omega (arith, e, p.all, p.ends_room)) ∙ ap (λ n. written_over (over (ends_by s n) (edges s) 0) a.ends.now) p.begin,
-          own-filled s a.from l.k p.begin e l.invariant.2,
-        ),
-      )).0;
-      ends_after = ((
-        l.invariant.0.reached ∙ ap (record_start s a.from) e ∙ ap (λ n. record_start s n (edges s)) p.begin,
-        (
-          filled-all (ends_by s a.from) l.k (edges s) l.invariant.1 e (omega (arith, e, p.all, p.ends_room)) ∙ ap (λ n. written_over (over (ends_by s n) (edges s) 0) a.ends.now) p.begin,
-          own-filled s a.from l.k p.begin e l.invariant.2,
-        ),
-      )).1;
-      counts_after = ((
-        l.invariant.0.reached ∙ ap (record_start s a.from) e ∙ ap (λ n. record_start s n (edges s)) p.begin,
-        (
-          filled-all (ends_by s a.from) l.k (edges s) l.invariant.1 e (omega (arith, e, p.all, p.ends_room)) ∙ ap (λ n. written_over (over (ends_by s n) (edges s) 0) a.ends.now) p.begin,
-          own-filled s a.from l.k p.begin e l.invariant.2,
-        ),
-      )).2;
-    }
+    record { value = l.invariant.0.reached ∙ ap (record_start s a.from) e ∙ ap (λ n. record_start s n (edges s)) p.begin; ends_after = filled-all (ends_by s a.from) l.k (edges s) l.invariant.1 e (omega (arith, e, p.all, p.ends_room)) ∙ ap (λ n. written_over (over (ends_by s n) (edges s) 0) a.ends.now) p.begin; counts_after = own-filled s a.from l.k p.begin e l.invariant.2 }

@@ -74,13 +74,13 @@ survive s old {mid} {new} r p q =
     ∙ ap (λ n. counts_of s ++ drop n old) (sym (length-counts s))
 
 pub returns-then-nodes-cells : goal.returns-then-nodes-cells
-returns-then-nodes-cells c = let g = (goal.at.returns-then-nodes-cells c).In-Lists in record { answer = (leaves-short (bytes g) (nodes g) (ends g) (counts g) (good g) (no_room (bytes g) _ _ _ (λ x y z. omega (arith, c.if-nodes-cells.true, cells-are g, edges-are g)))).0; nodes = (leaves-short (bytes g) (nodes g) (ends g) (counts g) (good g) (no_room (bytes g) _ _ _ (λ x y z. omega (arith, c.if-nodes-cells.true, cells-are g, edges-are g)))).1; ends = (leaves-short (bytes g) (nodes g) (ends g) (counts g) (good g) (no_room (bytes g) _ _ _ (λ x y z. omega (arith, c.if-nodes-cells.true, cells-are g, edges-are g)))).2; counts = (leaves-short (bytes g) (nodes g) (ends g) (counts g) (good g) (no_room (bytes g) _ _ _ (λ x y z. omega (arith, c.if-nodes-cells.true, cells-are g, edges-are g)))).3 }
+returns-then-nodes-cells c = let g = (goal.at.returns-then-nodes-cells c).In-Lists in record { answer = (leaves-short (bytes g) (nodes g) (ends g) (counts g) (good g) (no_room (bytes g) _ _ _ (λ x y z. omega (arith, c.if-nodes-cells.true, cells-are g, edges-are g)))).0; nodes = ((leaves-short (bytes g) (nodes g) (ends g) (counts g) (good g) (no_room (bytes g) _ _ _ (λ x y z. omega (arith, c.if-nodes-cells.true, cells-are g, edges-are g)))).1).0; ends = (((leaves-short (bytes g) (nodes g) (ends g) (counts g) (good g) (no_room (bytes g) _ _ _ (λ x y z. omega (arith, c.if-nodes-cells.true, cells-are g, edges-are g)))).1).1).0; counts = (((leaves-short (bytes g) (nodes g) (ends g) (counts g) (good g) (no_room (bytes g) _ _ _ (λ x y z. omega (arith, c.if-nodes-cells.true, cells-are g, edges-are g)))).1).1).1 }
 
 pub returns-then-ends-edges : goal.returns-then-ends-edges
-returns-then-ends-edges c = let g = (goal.at.returns-then-ends-edges c).In-Lists in record { answer = (leaves-short (bytes g) (nodes g) (ends g) (counts g) (good g) (no_room (bytes g) _ _ _ (λ x y z. omega (arith, c.if-ends-edges.true, cells-are g, edges-are g)))).0; nodes = (leaves-short (bytes g) (nodes g) (ends g) (counts g) (good g) (no_room (bytes g) _ _ _ (λ x y z. omega (arith, c.if-ends-edges.true, cells-are g, edges-are g)))).1; ends = (leaves-short (bytes g) (nodes g) (ends g) (counts g) (good g) (no_room (bytes g) _ _ _ (λ x y z. omega (arith, c.if-ends-edges.true, cells-are g, edges-are g)))).2; counts = (leaves-short (bytes g) (nodes g) (ends g) (counts g) (good g) (no_room (bytes g) _ _ _ (λ x y z. omega (arith, c.if-ends-edges.true, cells-are g, edges-are g)))).3 }
+returns-then-ends-edges c = let g = (goal.at.returns-then-ends-edges c).In-Lists in record { answer = (leaves-short (bytes g) (nodes g) (ends g) (counts g) (good g) (no_room (bytes g) _ _ _ (λ x y z. omega (arith, c.if-ends-edges.true, cells-are g, edges-are g)))).0; nodes = ((leaves-short (bytes g) (nodes g) (ends g) (counts g) (good g) (no_room (bytes g) _ _ _ (λ x y z. omega (arith, c.if-ends-edges.true, cells-are g, edges-are g)))).1).0; ends = (((leaves-short (bytes g) (nodes g) (ends g) (counts g) (good g) (no_room (bytes g) _ _ _ (λ x y z. omega (arith, c.if-ends-edges.true, cells-are g, edges-are g)))).1).1).0; counts = (((leaves-short (bytes g) (nodes g) (ends g) (counts g) (good g) (no_room (bytes g) _ _ _ (λ x y z. omega (arith, c.if-ends-edges.true, cells-are g, edges-are g)))).1).1).1 }
 
 pub returns-then-counts-edges : goal.returns-then-counts-edges
-returns-then-counts-edges c = let g = (goal.at.returns-then-counts-edges c).In-Lists in record { answer = (leaves-short (bytes g) (nodes g) (ends g) (counts g) (good g) (no_room (bytes g) _ _ _ (λ x y z. omega (arith, c.if-counts-edges.true, cells-are g, edges-are g)))).0; nodes = (leaves-short (bytes g) (nodes g) (ends g) (counts g) (good g) (no_room (bytes g) _ _ _ (λ x y z. omega (arith, c.if-counts-edges.true, cells-are g, edges-are g)))).1; ends = (leaves-short (bytes g) (nodes g) (ends g) (counts g) (good g) (no_room (bytes g) _ _ _ (λ x y z. omega (arith, c.if-counts-edges.true, cells-are g, edges-are g)))).2; counts = (leaves-short (bytes g) (nodes g) (ends g) (counts g) (good g) (no_room (bytes g) _ _ _ (λ x y z. omega (arith, c.if-counts-edges.true, cells-are g, edges-are g)))).3 }
+returns-then-counts-edges c = let g = (goal.at.returns-then-counts-edges c).In-Lists in record { answer = (leaves-short (bytes g) (nodes g) (ends g) (counts g) (good g) (no_room (bytes g) _ _ _ (λ x y z. omega (arith, c.if-counts-edges.true, cells-are g, edges-are g)))).0; nodes = ((leaves-short (bytes g) (nodes g) (ends g) (counts g) (good g) (no_room (bytes g) _ _ _ (λ x y z. omega (arith, c.if-counts-edges.true, cells-are g, edges-are g)))).1).0; ends = (((leaves-short (bytes g) (nodes g) (ends g) (counts g) (good g) (no_room (bytes g) _ _ _ (λ x y z. omega (arith, c.if-counts-edges.true, cells-are g, edges-are g)))).1).1).0; counts = (((leaves-short (bytes g) (nodes g) (ends g) (counts g) (good g) (no_room (bytes g) _ _ _ (λ x y z. omega (arith, c.if-counts-edges.true, cells-are g, edges-are g)))).1).1).1 }
 
 pub fill_cells-from-requires : goal.fill_cells-from-requires
 fill_cells-from-requires c = let g = (goal.at.fill_cells-from-requires c).In-Lists in
@@ -96,14 +96,14 @@ fill_edges-base-requires c = let g = (goal.at.fill_edges-base-requires c).In-Lis
     }
 
 pub replace-requires : goal.replace-requires
-replace-requires c = record { looks_lent = listed (goal.at.replace-requires c).After-run_from-looks; counted = filled-table _ _ _ _ c.fill_edges-base.ensures.ends_after.1 (room_of (goal.at.replace-requires c).After-run_from-looks) }
+replace-requires c = record { looks_lent = listed (goal.at.replace-requires c).After-run_from-looks; counted = filled-table _ _ _ _ c.fill_edges-base.ensures.counts_after (room_of (goal.at.replace-requires c).After-run_from-looks) }
 
 pub returns-in-Refused : goal.returns-in-Refused
 returns-in-Refused c = let a = c.args in
     let e : Refused c.in-Refused.number c.in-Refused.place ≡ c.scan.result = cc in
     let t = ap contents_numbers e ∙ c.scan.ensures in
     let l = leaves-broken a.bytes.now a.nodes.now a.ends.now a.counts.now (rejected a.bytes.now _ _ t) in
-    record { answer = ((t ∙ l.0, l.1)).0; nodes = ((t ∙ l.0, l.1)).1; ends = ((t ∙ l.0, l.1)).2; counts = ((t ∙ l.0, l.1)).3 }
+    record { answer = t ∙ l.0; nodes = (l.1).0; ends = ((l.1).1).0; counts = ((l.1).1).1 }
 
 pub returns-else-counts-edges : goal.returns-else-counts-edges
 returns-else-counts-edges c = let g = (goal.at.returns-else-counts-edges c).In-Lists in
@@ -112,4 +112,4 @@ returns-else-counts-edges c = let g = (goal.at.returns-else-counts-edges c).In-L
     let k : edges (bytes g) ≤ length (counts g) = omega (arith, edges-are g, c.if-counts-edges.false) in
     let l = leaves-lists (bytes g) (nodes g) (ends g) (counts g) (good g) (room (bytes g) _ _ _ n m k) in
     let e = c.fill_edges-base.ensures in
-    record { answer = ((told g ∙ l.0, (c.fill_cells-from.ensures.nodes_after ∙ l.1.0, (e.ends_after.0 ∙ l.1.1.0, survive (bytes g) (counts g) k e.ends_after.1 c.replace.ensures ∙ l.1.1.1)))).0; nodes = ((told g ∙ l.0, (c.fill_cells-from.ensures.nodes_after ∙ l.1.0, (e.ends_after.0 ∙ l.1.1.0, survive (bytes g) (counts g) k e.ends_after.1 c.replace.ensures ∙ l.1.1.1)))).1; ends = ((told g ∙ l.0, (c.fill_cells-from.ensures.nodes_after ∙ l.1.0, (e.ends_after.0 ∙ l.1.1.0, survive (bytes g) (counts g) k e.ends_after.1 c.replace.ensures ∙ l.1.1.1)))).2; counts = ((told g ∙ l.0, (c.fill_cells-from.ensures.nodes_after ∙ l.1.0, (e.ends_after.0 ∙ l.1.1.0, survive (bytes g) (counts g) k e.ends_after.1 c.replace.ensures ∙ l.1.1.1)))).3 }
+    record { answer = told g ∙ l.0; nodes = c.fill_cells-from.ensures.nodes_after ∙ l.1.0; ends = e.ends_after ∙ l.1.1.0; counts = survive (bytes g) (counts g) k e.counts_after c.replace.ensures ∙ l.1.1.1 }

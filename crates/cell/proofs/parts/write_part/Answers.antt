@@ -48,7 +48,7 @@ slice_bounds-write_shape-end-in-loop-p c = (going_part c.loop-p.invariant.0 (ome
 
 pub write_shape-i-requires : goal.write_shape-i-requires
 unfolding triangles_with
-write_shape-i-requires c = let L = going_looped c.loop-p.invariant.0 (omega arith) c.walk-w.ensures in let a = in-loop c.args.only L c.leaves_out.ensures c.if-leaves_out.false in record { recorded_loop = ((looped_traced L, (looped_four L c.in_two-two.ensures, omega (arith, ap length a, looped_many L c.in_two-two.ensures, written-room _ _ c.loop-p.invariant.1 _ (going_in c.loop-p.invariant.0 (omega arith)), stored_long c.loop-p.invariant.1, c.requires.only_in_bounds)))).0; n_value = ((looped_traced L, (looped_four L c.in_two-two.ensures, omega (arith, ap length a, looped_many L c.in_two-two.ensures, written-room _ _ c.loop-p.invariant.1 _ (going_in c.loop-p.invariant.0 (omega arith)), stored_long c.loop-p.invariant.1, c.requires.only_in_bounds)))).1; n_in_bounds = ((looped_traced L, (looped_four L c.in_two-two.ensures, omega (arith, ap length a, looped_many L c.in_two-two.ensures, written-room _ _ c.loop-p.invariant.1 _ (going_in c.loop-p.invariant.0 (omega arith)), stored_long c.loop-p.invariant.1, c.requires.only_in_bounds)))).2 }
+write_shape-i-requires c = let L = going_looped c.loop-p.invariant.0 (omega arith) c.walk-w.ensures in let a = in-loop c.args.only L c.leaves_out.ensures c.if-leaves_out.false in record { recorded_loop = looped_traced L; n_value = looped_four L c.in_two-two.ensures; n_in_bounds = omega (arith, ap length a, looped_many L c.in_two-two.ensures, written-room _ _ c.loop-p.invariant.1 _ (going_in c.loop-p.invariant.0 (omega arith)), stored_long c.loop-p.invariant.1, c.requires.only_in_bounds) }
 
 pub overflow_add-p-in-loop-p : goal.overflow_add-p-in-loop-p
 overflow_add-p-in-loop-p c = omega (arith, c.loop-p.invariant.0.few)

@@ -62,7 +62,7 @@ pub slice_bounds-triangle_of-end-then-left-k : goal.slice_bounds-triangle_of-end
 slice_bounds-triangle_of-end-then-left-k c = (going_part c.loop-p.invariant.0 (omega arith) c.walk-w.ensures).1
 
 pub triangle_of-requires : goal.triangle_of-requires
-triangle_of-requires c = let L = going_looped c.loop-p.invariant.0 (omega arith) c.walk-w.ensures in record { recorded_loop = ((looped_traced L, (looped_four L c.in_two-two.ensures, omega (arith, c.many-k.ensures)))).0; n_value = ((looped_traced L, (looped_four L c.in_two-two.ensures, omega (arith, c.many-k.ensures)))).1; k_bound = ((looped_traced L, (looped_four L c.in_two-two.ensures, omega (arith, c.many-k.ensures)))).2 }
+triangle_of-requires c = let L = going_looped c.loop-p.invariant.0 (omega arith) c.walk-w.ensures in record { recorded_loop = looped_traced L; n_value = looped_four L c.in_two-two.ensures; k_bound = omega (arith, c.many-k.ensures) }
 
 pub returns-then-left-k : goal.returns-then-left-k
 returns-then-left-k c = let L = going_looped c.loop-p.invariant.0 (omega arith) c.walk-w.ensures in as-limited c.args.t c.within-v.ensures (triangle-here _ c.loop-p.invariant.1 (going_in c.loop-p.invariant.0 (omega arith)) _ (looped_loop L c.in_two-two.ensures) (omega (arith, looped_many L c.in_two-two.ensures, c.many-k.ensures)) (traced_entry _ _ _ _ _ _ (omega (arith, c.many-k.ensures)) c.triangle_of.ensures))

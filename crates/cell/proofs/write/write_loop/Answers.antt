@@ -8,19 +8,19 @@ use Prim.Native.Nat.{◌-◌, ◌≤◌}
 use Rattle.cell.proofs.write.write_loop.Goals as goal
 
 pub many-m-requires : goal.many-m-requires
-many-m-requires c = c.requires.n_value.0
+many-m-requires c = c.requires.n_value
 
 pub loop-k-init : goal.loop-k-init
 loop-k-init c = (c.many-m.ensures, omega arith, run_none _ _ _)
 
 pub triangle_of-t-requires : goal.triangle_of-t-requires
-triangle_of-t-requires c = record { recorded_loop = ((c.requires.recorded_loop, (c.requires.n_value.0, omega arith))).0; n_value = ((c.requires.recorded_loop, (c.requires.n_value.0, omega arith))).1; k_bound = ((c.requires.recorded_loop, (c.requires.n_value.0, omega arith))).2 }
+triangle_of-t-requires c = record { recorded_loop = c.requires.recorded_loop; n_value = c.requires.n_value; k_bound = omega arith }
 
 pub put-requires : goal.put-requires
-put-requires c = omega (arith, run-place c.loop-k.invariant.2, stored_long c.loop-k.invariant.2.stored, c.loop-k.invariant.0, c.requires.n_value.1)
+put-requires c = omega (arith, run-place c.loop-k.invariant.2, stored_long c.loop-k.invariant.2.stored, c.loop-k.invariant.0, c.requires.n_in_bounds)
 
 pub overflow_add-i : goal.overflow_add-i
-overflow_add-i c = omega (arith, run-place c.loop-k.invariant.2, c.loop-k.invariant.0, c.requires.n_value.1)
+overflow_add-i c = omega (arith, run-place c.loop-k.invariant.2, c.loop-k.invariant.0, c.requires.n_in_bounds)
 
 pub overflow_add-k : goal.overflow_add-k
 overflow_add-k c = omega (arith, c.many-m.type-inv)

@@ -29,7 +29,7 @@ pub lane_at-low-requires : goal.lane_at-low-requires
 lane_at-low-requires c = let c-count-at2 = c.count_at-ac in
     let c-count-at = c.count_at-ab in
     let c-pre = c.requires in
-    record { tabled = ((c-pre.0, (place_in c-pre.0 _ 2 c-pre.1 (omega arith), (corners-with c-pre.0 _ c-count-at.ensures c-count-at2.ensures c.count_at-bc.ensures c.flat_corners-c.ensures, low_end c.lower_end.ensures.0 (place-edge c-pre.0 _ c-pre.1))))).0; b_bound = ((c-pre.0, (place_in c-pre.0 _ 2 c-pre.1 (omega arith), (corners-with c-pre.0 _ c-count-at.ensures c-count-at2.ensures c.count_at-bc.ensures c.flat_corners-c.ensures, low_end c.lower_end.ensures.0 (place-edge c-pre.0 _ c-pre.1))))).1; c_value = ((c-pre.0, (place_in c-pre.0 _ 2 c-pre.1 (omega arith), (corners-with c-pre.0 _ c-count-at.ensures c-count-at2.ensures c.count_at-bc.ensures c.flat_corners-c.ensures, low_end c.lower_end.ensures.0 (place-edge c-pre.0 _ c-pre.1))))).2; end = ((c-pre.0, (place_in c-pre.0 _ 2 c-pre.1 (omega arith), (corners-with c-pre.0 _ c-count-at.ensures c-count-at2.ensures c.count_at-bc.ensures c.flat_corners-c.ensures, low_end c.lower_end.ensures.0 (place-edge c-pre.0 _ c-pre.1))))).3 }
+    record { tabled = c-pre.0; b_bound = place_in c-pre.0 _ 2 c-pre.1 (omega arith); c_value = corners-with c-pre.0 _ c-count-at.ensures c-count-at2.ensures c.count_at-bc.ensures c.flat_corners-c.ensures; end = low_end c.lower_end.ensures.0 (place-edge c-pre.0 _ c-pre.1) }
 
 pub lane_at-high-requires : goal.lane_at-high-requires
 lane_at-high-requires c = let c-flat-corners = c.flat_corners-c in
@@ -37,13 +37,13 @@ lane_at-high-requires c = let c-flat-corners = c.flat_corners-c in
     let c-count-at2 = c.count_at-ac in
     let c-count-at = c.count_at-ab in
     let c-pre = c.requires in
-    record { tabled = ((c-pre.0, (place_in c-pre.0 _ 2 c-pre.1 (omega arith), (corners-with c-pre.0 _ c-count-at.ensures c-count-at2.ensures c-count-at3.ensures c-flat-corners.ensures, high_end c.upper_end.ensures.0 (place-edge c-pre.0 _ c-pre.1))))).0; b_bound = ((c-pre.0, (place_in c-pre.0 _ 2 c-pre.1 (omega arith), (corners-with c-pre.0 _ c-count-at.ensures c-count-at2.ensures c-count-at3.ensures c-flat-corners.ensures, high_end c.upper_end.ensures.0 (place-edge c-pre.0 _ c-pre.1))))).1; c_value = ((c-pre.0, (place_in c-pre.0 _ 2 c-pre.1 (omega arith), (corners-with c-pre.0 _ c-count-at.ensures c-count-at2.ensures c-count-at3.ensures c-flat-corners.ensures, high_end c.upper_end.ensures.0 (place-edge c-pre.0 _ c-pre.1))))).2; end = ((c-pre.0, (place_in c-pre.0 _ 2 c-pre.1 (omega arith), (corners-with c-pre.0 _ c-count-at.ensures c-count-at2.ensures c-count-at3.ensures c-flat-corners.ensures, high_end c.upper_end.ensures.0 (place-edge c-pre.0 _ c-pre.1))))).3 }
+    record { tabled = c-pre.0; b_bound = place_in c-pre.0 _ 2 c-pre.1 (omega arith); c_value = corners-with c-pre.0 _ c-count-at.ensures c-count-at2.ensures c-count-at3.ensures c-flat-corners.ensures; end = high_end c.upper_end.ensures.0 (place-edge c-pre.0 _ c-pre.1) }
 
 pub count_at-requires : goal.count_at-requires
 count_at-requires c = let c-pre = c.requires in record { j_in_bounds = (place_read c-pre.0 _ c-pre.1).0; j_in_bounds_2 = (place_read c-pre.0 _ c-pre.1).1 }
 
 pub land-own-requires : goal.land-own-requires
-land-own-requires c = let c-pre = c.requires in record { tabled = ((c-pre.0, (c-pre.1, omega arith))).0; j_lt_n = ((c-pre.0, (c-pre.1, omega arith))).1; t_bound = ((c-pre.0, (c-pre.1, omega arith))).2 }
+land-own-requires c = let c-pre = c.requires in record { tabled = c-pre.0; j_lt_n = c-pre.1; t_bound = omega arith }
 
 pub returns : goal.returns
 returns c = let c-wide = c.wide16-count in

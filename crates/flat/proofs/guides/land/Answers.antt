@@ -4,7 +4,7 @@ use borrow.Author.Rules.{rules}
 use Rattle.flat.proofs.guides.land.Goals as goal
 
 pub offset_bounds-sides-j : goal.offset_bounds-sides-j
-offset_bounds-sides-j c = omega (arith, c.requires.tabled.places.few, c.requires.j_lt_n.0)
+offset_bounds-sides-j c = omega (arith, c.requires.tabled.places.few, c.requires.j_lt_n)
 
 pub bounds-sides-j : goal.bounds-sides-j
 bounds-sides-j c = let c-pre = c.requires in

@@ -19,7 +19,7 @@ overflow_add-j c = let c-pre = c.requires in
     omega (arith, near c-pre.1.1.1, c.wide32.ensures.0, c-pre.1.0, c-pre.0.places.few)
 
 pub corner_of-m-requires : goal.corner_of-m-requires
-corner_of-m-requires c = (near c.requires.b_bound.1.1).1
+corner_of-m-requires c = (near c.requires.end).1
 
 pub overflow_add-w-2 : goal.overflow_add-w-2
 overflow_add-w-2 c = let c-pre = c.requires in omega (arith, near c-pre.1.1.1)
@@ -28,7 +28,7 @@ pub overflow_sub-w-2 : goal.overflow_sub-w-2
 overflow_sub-w-2 c = let c-pre = c.requires in omega (arith, near c-pre.1.1.1)
 
 pub land-requires : goal.land-requires
-land-requires c = let c-pre = c.requires in record { tabled = ((c-pre.0, (omega (arith, other-lt c-pre.1.1.1, c.wide32.ensures.0, c-pre.1.0), omega arith))).0; j_lt_n = ((c-pre.0, (omega (arith, other-lt c-pre.1.1.1, c.wide32.ensures.0, c-pre.1.0), omega arith))).1; t_bound = ((c-pre.0, (omega (arith, other-lt c-pre.1.1.1, c.wide32.ensures.0, c-pre.1.0), omega arith))).2 }
+land-requires c = let c-pre = c.requires in record { tabled = c-pre.0; j_lt_n = omega (arith, other-lt c-pre.1.1.1, c.wide32.ensures.0, c-pre.1.0); t_bound = omega arith }
 
 pub returns-then-w-lower_end : goal.returns-then-w-lower_end
 returns-then-w-lower_end c = let c-corner-of = c.corner_of-m in
@@ -44,7 +44,7 @@ count_at-requires c = let c-pre = c.requires in record { j_in_bounds = (place_re
 pub land-requires-2 : goal.land-requires-2
 land-requires-2 c = let c-wide32 = c.wide32 in
     let c-pre = c.requires in
-    record { tabled = ((c-pre.0, (omega (arith, other-lt c-pre.1.1.1, c-wide32.ensures.0, c-pre.1.0), omega (arith, c.wide16-last.ensures.0, c.count_at.ensures)))).0; j_lt_n = ((c-pre.0, (omega (arith, other-lt c-pre.1.1.1, c-wide32.ensures.0, c-pre.1.0), omega (arith, c.wide16-last.ensures.0, c.count_at.ensures)))).1; t_bound = ((c-pre.0, (omega (arith, other-lt c-pre.1.1.1, c-wide32.ensures.0, c-pre.1.0), omega (arith, c.wide16-last.ensures.0, c.count_at.ensures)))).2 }
+    record { tabled = c-pre.0; j_lt_n = omega (arith, other-lt c-pre.1.1.1, c-wide32.ensures.0, c-pre.1.0); t_bound = omega (arith, c.wide16-last.ensures.0, c.count_at.ensures) }
 
 pub returns : goal.returns
 returns c = let c-if1 = c.if-w-lower_end in

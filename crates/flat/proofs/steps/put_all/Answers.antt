@@ -20,48 +20,7 @@ pub put_edge-requires : goal.put_edge-requires
 put_edge-requires c = let P = c.requires in
     let A = c.args in
     let L = c.loop-e in
-    record {
-      tabled = ((
-        P.tabled,
-        (
-          P.darts_value.0,
-          (
-            omega arith,
-            omega (arith, P.darts_value.1, ap length L.invariant.1, length-filled (dart_step A.counts.now A.sides.now A.n) (2 * start A.counts.now L.e) A.next.now),
-          ),
-        ),
-      )).0;
-      darts_value = ((
-        P.tabled,
-        (
-          P.darts_value.0,
-          (
-            omega arith,
-            omega (arith, P.darts_value.1, ap length L.invariant.1, length-filled (dart_step A.counts.now A.sides.now A.n) (2 * start A.counts.now L.e) A.next.now),
-          ),
-        ),
-      )).1;
-      e_in_bounds = ((
-        P.tabled,
-        (
-          P.darts_value.0,
-          (
-            omega arith,
-            omega (arith, P.darts_value.1, ap length L.invariant.1, length-filled (dart_step A.counts.now A.sides.now A.n) (2 * start A.counts.now L.e) A.next.now),
-          ),
-        ),
-      )).2;
-      darts_in_bounds = ((
-        P.tabled,
-        (
-          P.darts_value.0,
-          (
-            omega arith,
-            omega (arith, P.darts_value.1, ap length L.invariant.1, length-filled (dart_step A.counts.now A.sides.now A.n) (2 * start A.counts.now L.e) A.next.now),
-          ),
-        ),
-      )).3;
-    }
+    record { tabled = P.tabled; darts_value = P.darts_value; e_in_bounds = omega arith; darts_in_bounds = omega (arith, P.darts_in_bounds, ap length L.invariant.1, length-filled (dart_step A.counts.now A.sides.now A.n) (2 * start A.counts.now L.e) A.next.now) }
 
 pub loop-e-preserved : goal.loop-e-preserved
 loop-e-preserved c = let c-loop = c.loop-e in
@@ -76,5 +35,5 @@ pub returns : goal.returns
 returns c = let A = c.args in
     let L = c.loop-e in
     let q : L.e ≡ length A.counts.now = omega arith in
-    let z : 2 * start A.counts.now L.e ≡ A.darts = omega (arith, ap (start A.counts.now) q, c.requires.darts_value.0) in
+    let z : 2 * start A.counts.now L.e ≡ A.darts = omega (arith, ap (start A.counts.now) q, c.requires.darts_value) in
     L.invariant.1 ∙ ap (λ (k : ℕ). filled (dart_step A.counts.now A.sides.now A.n) k A.next.now) z

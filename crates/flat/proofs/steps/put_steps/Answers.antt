@@ -18,7 +18,7 @@ pub put_all-requires : goal.put_all-requires
 put_all-requires c = let c-put-starts = c.put_starts in
     let c-put-ports = c.put_ports in
     let c-pre = c.requires in
-    record { tabled = ((tabled c-pre.0 (replicate (2 * most_sides) 0) _ (replicate most_sides 0) _ (length-replicate {A = ℕ} (2 * most_sides) 0) c-put-ports.ensures c-put-starts.ensures (length-replicate {A = ℕ} most_sides 0), (c-pre.1.0, c-pre.1.1))).0; darts_value = ((tabled c-pre.0 (replicate (2 * most_sides) 0) _ (replicate most_sides 0) _ (length-replicate {A = ℕ} (2 * most_sides) 0) c-put-ports.ensures c-put-starts.ensures (length-replicate {A = ℕ} most_sides 0), (c-pre.1.0, c-pre.1.1))).1; darts_in_bounds = ((tabled c-pre.0 (replicate (2 * most_sides) 0) _ (replicate most_sides 0) _ (length-replicate {A = ℕ} (2 * most_sides) 0) c-put-ports.ensures c-put-starts.ensures (length-replicate {A = ℕ} most_sides 0), (c-pre.1.0, c-pre.1.1))).2 }
+    record { tabled = tabled c-pre.0 (replicate (2 * most_sides) 0) _ (replicate most_sides 0) _ (length-replicate {A = ℕ} (2 * most_sides) 0) c-put-ports.ensures c-put-starts.ensures (length-replicate {A = ℕ} most_sides 0); darts_value = c-pre.1.0; darts_in_bounds = c-pre.1.1 }
 
 pub shape_of-next : goal.shape_of-next
 shape_of-next c = let c-args = c.args in

@@ -5,10 +5,10 @@ use borrow.Author.Rules.{rules}
 use Rattle.flat.proofs.walks.chain_at.Goals as goal
 
 pub overflow_mul-p : goal.overflow_mul-p
-overflow_mul-p c = omega (arith, c.requires.step_table.few, c.requires.p_lt_n.0)
+overflow_mul-p c = omega (arith, c.requires.step_table.few, c.requires.p_lt_n)
 
 pub run-w-requires : goal.run-w-requires
-run-w-requires c = record { step_table = c.requires.step_table; d_bound = omega (arith, c.requires.p_lt_n.0) }
+run-w-requires c = record { step_table = c.requires.step_table; d_bound = omega (arith, c.requires.p_lt_n) }
 
 pub offset_bounds-next-a : goal.offset_bounds-next-a
 offset_bounds-next-a c = omega (arith, ran_lt _ _ c.run-w.ensures, c.requires.step_table.few)
@@ -17,7 +17,7 @@ pub bounds-next-a : goal.bounds-next-a
 bounds-next-a c = ran_read c.requires.step_table c.run-w.ensures
 
 pub overflow_mul-p-2 : goal.overflow_mul-p-2
-overflow_mul-p-2 c = omega (arith, c.requires.step_table.few, c.requires.p_lt_n.0)
+overflow_mul-p-2 c = omega (arith, c.requires.step_table.few, c.requires.p_lt_n)
 
 pub overflow_add-result : goal.overflow_add-result
 overflow_add-result c = let c-run = c.run-w in
@@ -25,7 +25,7 @@ overflow_add-result c = let c-run = c.run-w in
     omega (arith, ran_short _ _ c-pre.0.turns c-run.ensures, c-pre.0.few)
 
 pub overflow_mul-result : goal.overflow_mul-result
-overflow_mul-result c = omega (arith, c.requires.step_table.few, c.requires.p_lt_n.0)
+overflow_mul-result c = omega (arith, c.requires.step_table.few, c.requires.p_lt_n)
 
 pub returns-then-wide32-p : goal.returns-then-wide32-p
 returns-then-wide32-p c = let c-run = c.run-w in
@@ -33,13 +33,13 @@ returns-then-wide32-p c = let c-run = c.run-w in
     closed-finds _ _ c-pre.0.turns _ c-pre.1.0 c-pre.1.1 c-run.ensures (ran_entry c-pre.0 c-run.ensures c.wide32.ensures.0 ∙ c.if-wide32-p.true)
 
 pub overflow_mul-p-3 : goal.overflow_mul-p-3
-overflow_mul-p-3 c = omega (arith, c.requires.step_table.few, c.requires.p_lt_n.0)
+overflow_mul-p-3 c = omega (arith, c.requires.step_table.few, c.requires.p_lt_n)
 
 pub overflow_add-p : goal.overflow_add-p
-overflow_add-p c = omega (arith, c.requires.step_table.few, c.requires.p_lt_n.0)
+overflow_add-p c = omega (arith, c.requires.step_table.few, c.requires.p_lt_n)
 
 pub run-v-requires : goal.run-v-requires
-run-v-requires c = record { step_table = c.requires.step_table; d_bound = omega (arith, c.requires.p_lt_n.0) }
+run-v-requires c = record { step_table = c.requires.step_table; d_bound = omega (arith, c.requires.p_lt_n) }
 
 pub path_size-count-requires : goal.path_size-count-requires
 path_size-count-requires c = let c-run = c.run-w in

@@ -20,7 +20,7 @@ bounds-area-at c = let c-args = c.args in
     omega (arith, chain-room c-args.n (step_in c-args.n c-args.next.now) c-args.c.closed c-args.c.size c-args.c.start c-args.at _ c.if-m-eq0.false c-pre.1.1.1.0)
 
 pub overflow_cast-area : goal.overflow_cast-area
-overflow_cast-area c = omega (arith, c.requires.darts_from.1.0, c.requires.step_table.few)
+overflow_cast-area c = omega (arith, c.requires.size_le_n, c.requires.step_table.few)
 
 pub overflow_add-area : goal.overflow_add-area
 overflow_add-area c = let c-args = c.args in
@@ -45,7 +45,7 @@ overflow_add-at c = let c-args = c.args in
 pub put_crossings-requires : goal.put_crossings-requires
 put_crossings-requires c = let c-args = c.args in
     let c-pre = c.requires in
-    record { step_table = ((c-pre.0, (c-pre.1.0, (simp length-set (omega (arith, chain-room c-args.n (step_in c-args.n c-args.next.now) c-args.c.closed c-args.c.size c-args.c.start c-args.at _ c.if-m-eq0.false c-pre.1.1.1.0)), c-pre.1.1.1.1)))).0; darts_from = ((c-pre.0, (c-pre.1.0, (simp length-set (omega (arith, chain-room c-args.n (step_in c-args.n c-args.next.now) c-args.c.closed c-args.c.size c-args.c.start c-args.at _ c.if-m-eq0.false c-pre.1.1.1.0)), c-pre.1.1.1.1)))).1; m_in_bounds = ((c-pre.0, (c-pre.1.0, (simp length-set (omega (arith, chain-room c-args.n (step_in c-args.n c-args.next.now) c-args.c.closed c-args.c.size c-args.c.start c-args.at _ c.if-m-eq0.false c-pre.1.1.1.0)), c-pre.1.1.1.1)))).2; n_in_bounds = ((c-pre.0, (c-pre.1.0, (simp length-set (omega (arith, chain-room c-args.n (step_in c-args.n c-args.next.now) c-args.c.closed c-args.c.size c-args.c.start c-args.at _ c.if-m-eq0.false c-pre.1.1.1.0)), c-pre.1.1.1.1)))).3 }
+    record { step_table = c-pre.0; darts_from = c-pre.1.0; m_in_bounds = simp length-set (omega (arith, chain-room c-args.n (step_in c-args.n c-args.next.now) c-args.c.closed c-args.c.size c-args.c.start c-args.at _ c.if-m-eq0.false c-pre.1.1.1.0)); n_in_bounds = c-pre.1.1.1.1 }
 
 pub overflow_add-result : goal.overflow_add-result
 overflow_add-result c = let c-if1 = c.if-m-eq0 in

@@ -6,17 +6,17 @@ use borrow.Author.Rules.{rules}
 use Rattle.flat.proofs.words.put_crossings.Goals as goal
 
 pub loop-i-init : goal.loop-i-init
-loop-i-init c = (listing_none _ _ _ _ _ _, marking_none _ _ _ _ _ c.requires.darts_from.1.1)
+loop-i-init c = (listing_none _ _ _ _ _ _, marking_none _ _ _ _ _ c.requires.n_in_bounds)
 
 pub overflow_cast-area : goal.overflow_cast-area
 overflow_cast-area c = let c-pre = c.requires in
     omega (arith, list-few c-pre.0 c-pre.1.0 c.loop-i.invariant.0 (omega arith))
 
 pub overflow_add-area : goal.overflow_add-area
-overflow_add-area c = omega (arith, c.requires.darts_from.1.0)
+overflow_add-area c = omega (arith, c.requires.m_in_bounds)
 
 pub bounds-area-at : goal.bounds-area-at
-bounds-area-at c = omega (arith, c.requires.darts_from.1.0, listing-long _ _ c.loop-i.invariant.0)
+bounds-area-at c = omega (arith, c.requires.m_in_bounds, listing-long _ _ c.loop-i.invariant.0)
 
 pub bounds-marks-e : goal.bounds-marks-e
 bounds-marks-e c = let c-pre = c.requires in

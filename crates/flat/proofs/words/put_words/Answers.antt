@@ -27,7 +27,7 @@ loop-p-preserved-then-marks-p-ne0 c = let c-loop = c.loop-p in
     (c-loop.invariant.0, writing_marked _ _ c-pre.0.turns c-loop.invariant.1 (omega arith) c.if-marks-p-ne0.true)
 
 pub chain_at-c-requires : goal.chain_at-c-requires
-chain_at-c-requires c = let c-pre = c.requires in record { step_table = ((c-pre.0, (omega arith, swept_fresh _ _ c-pre.0.turns (omega arith) c.loop-p.invariant.1.swept c.if-marks-p-ne0.false))).0; p_lt_n = ((c-pre.0, (omega arith, swept_fresh _ _ c-pre.0.turns (omega arith) c.loop-p.invariant.1.swept c.if-marks-p-ne0.false))).1; fresh = ((c-pre.0, (omega arith, swept_fresh _ _ c-pre.0.turns (omega arith) c.loop-p.invariant.1.swept c.if-marks-p-ne0.false))).2 }
+chain_at-c-requires c = let c-pre = c.requires in record { step_table = c-pre.0; p_lt_n = omega arith; fresh = swept_fresh _ _ c-pre.0.turns (omega arith) c.loop-p.invariant.1.swept c.if-marks-p-ne0.false }
 
 pub slice_bounds-put_chain-end : goal.slice_bounds-put_chain-end
 slice_bounds-put_chain-end c = sym c.loop-p.invariant.0
@@ -36,7 +36,7 @@ pub put_chain-at-requires : goal.put_chain-at-requires
 put_chain-at-requires c = let c-chain-at = c.chain_at-c in
     let c-loop = c.loop-p in
     let c-pre = c.requires in
-    record { step_table = ((c-pre.0, (finds_runs _ _ c-pre.0.turns (omega arith) c-chain-at.ensures, (finds-short _ _ c-pre.0.turns (omega arith) c-chain-at.ensures, (writing_room _ _ c-pre.0.turns c-loop.invariant.1 (omega arith) c-chain-at.ensures, c-loop.invariant.1.swept.room))))).0; darts_from = ((c-pre.0, (finds_runs _ _ c-pre.0.turns (omega arith) c-chain-at.ensures, (finds-short _ _ c-pre.0.turns (omega arith) c-chain-at.ensures, (writing_room _ _ c-pre.0.turns c-loop.invariant.1 (omega arith) c-chain-at.ensures, c-loop.invariant.1.swept.room))))).1; size_le_n = ((c-pre.0, (finds_runs _ _ c-pre.0.turns (omega arith) c-chain-at.ensures, (finds-short _ _ c-pre.0.turns (omega arith) c-chain-at.ensures, (writing_room _ _ c-pre.0.turns c-loop.invariant.1 (omega arith) c-chain-at.ensures, c-loop.invariant.1.swept.room))))).2; start_in_bounds = ((c-pre.0, (finds_runs _ _ c-pre.0.turns (omega arith) c-chain-at.ensures, (finds-short _ _ c-pre.0.turns (omega arith) c-chain-at.ensures, (writing_room _ _ c-pre.0.turns c-loop.invariant.1 (omega arith) c-chain-at.ensures, c-loop.invariant.1.swept.room))))).3; n_in_bounds = ((c-pre.0, (finds_runs _ _ c-pre.0.turns (omega arith) c-chain-at.ensures, (finds-short _ _ c-pre.0.turns (omega arith) c-chain-at.ensures, (writing_room _ _ c-pre.0.turns c-loop.invariant.1 (omega arith) c-chain-at.ensures, c-loop.invariant.1.swept.room))))).4 }
+    record { step_table = c-pre.0; darts_from = finds_runs _ _ c-pre.0.turns (omega arith) c-chain-at.ensures; size_le_n = finds-short _ _ c-pre.0.turns (omega arith) c-chain-at.ensures; start_in_bounds = writing_room _ _ c-pre.0.turns c-loop.invariant.1 (omega arith) c-chain-at.ensures; n_in_bounds = c-loop.invariant.1.swept.room }
 
 pub overflow_add-p-in-loop-p : goal.overflow_add-p-in-loop-p
 overflow_add-p-in-loop-p c = omega (arith, c.requires.step_table.few)

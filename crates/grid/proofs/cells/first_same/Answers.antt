@@ -12,13 +12,13 @@ use borrow.Author.Rules.{rules}
 use Rattle.grid.proofs.cells.first_same.Goals as goal
 
 pub loop-c-init : goal.loop-c-init
-loop-c-init c = (seeking_none _ _, meets_none _ _ c.requires.cells.1.blank)
+loop-c-init c = (seeking_none _ _, meets_none _ _ c.requires.fresh.blank)
 
 pub bounds-same-c : goal.bounds-same-c
-bounds-same-c c = omega (arith, c.requires.cells.0.room)
+bounds-same-c c = omega (arith, c.requires.cells.room)
 
 pub earlier-requires : goal.earlier-requires
-earlier-requires c = record { key_in_bounds = omega (arith, c.loop-c.invariant.1.room, c.wide.ensures, c.requires.cells.0.few (4 * c.loop-c.c), c.requires.cells.1.room); j_bound = omega (arith, c.requires.cells_bound) }
+earlier-requires c = record { key_in_bounds = omega (arith, c.loop-c.invariant.1.room, c.wide.ensures, c.requires.cells.few (4 * c.loop-c.c), c.requires.fresh.room); j_bound = omega (arith, c.requires.cells_bound) }
 
 pub returns-then-earlier-gt0 : goal.returns-then-earlier-gt0
 returns-then-earlier-gt0 c = let L = c.loop-c in
@@ -26,9 +26,9 @@ returns-then-earlier-gt0 c = let L = c.loop-c in
     let p = c.requires in
     let e = c.earlier in
     let k = c.wide.ensures in
-    let kl : c.wide.result < length c.args.seen.now = omega (arith, k, p.cells.0.few (4 * L.c), p.cells.1.room) in
+    let kl : c.wide.result < length c.args.seen.now = omega (arith, k, p.cells.few (4 * L.c), p.fresh.room) in
     let r = meets_last w.1 _ k kl _ e.ensures.0 in
-    let t = repeats-last _ _ _ p.cells.0 L.c (omega arith) in
+    let t = repeats-last _ _ _ p.cells L.c (omega arith) in
     seeking_hit _ w.0 (omega arith) (t ∙ rw (← r) (lt-ltb _ _ c.if-earlier-gt0.true))
 
 pub loop-c-preserved : goal.loop-c-preserved
@@ -37,9 +37,9 @@ loop-c-preserved c = let L = c.loop-c in
     let p = c.requires in
     let e = c.earlier in
     let k = c.wide.ensures in
-    let kl : c.wide.result < length c.args.seen.now = omega (arith, k, p.cells.0.few (4 * L.c), p.cells.1.room) in
+    let kl : c.wide.result < length c.args.seen.now = omega (arith, k, p.cells.few (4 * L.c), p.fresh.room) in
     let r = meets_last w.1 _ k kl _ e.ensures.0 in
-    let t = repeats-last _ _ _ p.cells.0 L.c (omega arith) in
+    let t = repeats-last _ _ _ p.cells L.c (omega arith) in
     (seeking_more _ w.0 (omega arith) (t ∙ rw (← r) (le-ltb _ _ c.if-earlier-gt0.false)), meets_more w.1 _ k kl _ e.ensures.1)
 
 pub returns : goal.returns

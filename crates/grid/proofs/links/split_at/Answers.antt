@@ -26,7 +26,7 @@ overflow_add-c c = let on = lower-on _ _ (omega arith) c.lower_slot-s.ensures in
 pub rank_of-requires : goal.rank_of-requires
 rank_of-requires c = let on = lower-on _ _ (omega arith) c.lower_slot-s.ensures in
     let o = c.other_side-t.ensures in
-    record { i_bound = ((o.upper_bound, (on.slot_lt, other-apart c.requires on _ o.value))).0; s_bound = ((o.upper_bound, (on.slot_lt, other-apart c.requires on _ o.value))).1; i_nonzero = ((o.upper_bound, (on.slot_lt, other-apart c.requires on _ o.value))).2 }
+    record { i_bound = o.upper_bound; s_bound = on.slot_lt; i_nonzero = other-apart c.requires on _ o.value }
 
 pub spread-a-requires : goal.spread-a-requires
 spread-a-requires c = may_spread_first c.requires (lower-on _ _ (omega arith) c.lower_slot-s.ensures) _ c.rank_of.ensures.upper_bound
@@ -49,7 +49,7 @@ overflow_add-c-2 c = omega (arith, top_within c.requires, c.requires.paired.few,
 pub rank_of-requires-2 : goal.rank_of-requires-2
 rank_of-requires-2 c = let on = lower-on _ _ (omega arith) c.lower_slot-s.ensures in
     let o = c.other_side-t.ensures in
-    record { i_bound = ((on.slot_lt, (o.upper_bound, λ e. other-apart c.requires on _ o.value (sym e)))).0; s_bound = ((on.slot_lt, (o.upper_bound, λ e. other-apart c.requires on _ o.value (sym e)))).1; i_nonzero = ((on.slot_lt, (o.upper_bound, λ e. other-apart c.requires on _ o.value (sym e)))).2 }
+    record { i_bound = on.slot_lt; s_bound = o.upper_bound; i_nonzero = λ e. other-apart c.requires on _ o.value (sym e) }
 
 pub spread-b-requires : goal.spread-b-requires
 spread-b-requires c = may_spread c.requires _ _ c.other_side-t.ensures.upper_bound c.rank_of-2.ensures.upper_bound _ (first-same c.requires c.spread-a.ensures)

@@ -41,7 +41,7 @@ pub overflow_add-met : goal.overflow_add-met
 overflow_add-met c = omega (arith, c.loop-p.invariant.counted, marked_le c.loop-p.marks c.args.mark c.args.n, c.requires.few)
 
 pub rank_of-r-requires : goal.rank_of-r-requires
-rank_of-r-requires c = record { i_bound = ((omega arith, (c.position-s.ensures.1, λ e. omitted _ _ (sym c.position-s.ensures.0 ∙ sym e)))).0; s_bound = ((omega arith, (c.position-s.ensures.1, λ e. omitted _ _ (sym c.position-s.ensures.0 ∙ sym e)))).1; i_nonzero = ((omega arith, (c.position-s.ensures.1, λ e. omitted _ _ (sym c.position-s.ensures.0 ∙ sym e)))).2 }
+rank_of-r-requires c = record { i_bound = omega arith; s_bound = c.position-s.ensures.1; i_nonzero = λ e. omitted _ _ (sym c.position-s.ensures.0 ∙ sym e) }
 
 pub overflow_mul-c : goal.overflow_mul-c
 overflow_mul-c c = omega (arith, walking_lt c.requires c.loop-p.invariant, c.requires.few, c.position-s.ensures.1)

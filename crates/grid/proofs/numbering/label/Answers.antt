@@ -17,7 +17,7 @@ number-m-requires c = label-one c.requires c.loop-j.invariant.1 (omega arith)
 pub loop-j-preserved : goal.loop-j-preserved
 loop-j-preserved c = let w = c.loop-j.invariant in
     let e = c.number-m.ensures in
-    (omega arith, label-more c.requires w.1 (does_number _ _ _ _ _ _ (label-one c.requires w.1 (omega arith)) _ _ _ e.value e.at_after.0 e.at_after.1))
+    (omega arith, label-more c.requires w.1 (does_number _ _ _ _ _ _ (label-one c.requires w.1 (omega arith)) _ _ _ e.value e.at_after e.out_after))
 
 pub shape_of-at : goal.shape_of-at
 shape_of-at c = c.loop-j.invariant.1.at_long

@@ -8,8 +8,8 @@ label-m-requires c = cells_labelling c.requires.numerable
 
 pub chains-requires : goal.chains-requires
 chains-requires c = let S = cells_slotted c.requires.numerable c.label-m.ensures in
-    let T = c.requires.chain_tables.0 in
-    record { linkable = ((slots_linkable S 0 (omega arith) _ _ T.h0_new T.x0_room, (slots_linkable S 1 (omega arith) _ _ T.h1_new T.x1_room, slots_linkable S 2 (omega arith) _ _ T.h2_new T.x2_room))).0; linkable_2 = ((slots_linkable S 0 (omega arith) _ _ T.h0_new T.x0_room, (slots_linkable S 1 (omega arith) _ _ T.h1_new T.x1_room, slots_linkable S 2 (omega arith) _ _ T.h2_new T.x2_room))).1; linkable_3 = ((slots_linkable S 0 (omega arith) _ _ T.h0_new T.x0_room, (slots_linkable S 1 (omega arith) _ _ T.h1_new T.x1_room, slots_linkable S 2 (omega arith) _ _ T.h2_new T.x2_room))).2 }
+    let T = c.requires.chain_tables in
+    record { linkable = slots_linkable S 0 (omega arith) _ _ T.h0_new T.x0_room; linkable_2 = slots_linkable S 1 (omega arith) _ _ T.h1_new T.x1_room; linkable_3 = slots_linkable S 2 (omega arith) _ _ T.h2_new T.x2_room }
 
 pub overflow_add-m : goal.overflow_add-m
 overflow_add-m c = omega (arith, c.label-m.ensures.bound, c.requires.numerable.few)
@@ -17,7 +17,7 @@ overflow_add-m c = omega (arith, c.label-m.ensures.bound, c.requires.numerable.f
 pub number_slots-requires : goal.number_slots-requires
 number_slots-requires c = let S = cells_slotted c.requires.numerable c.label-m.ensures in
     let e = c.chains.ensures in
-    record { slotted = ((S, (label-chains S c.requires.chain_tables.0 e.linked e.linked_2.0 e.linked_2.1, c.requires.chain_tables.1))).0; label_chains = ((S, (label-chains S c.requires.chain_tables.0 e.linked e.linked_2.0 e.linked_2.1, c.requires.chain_tables.1))).1; fresh = ((S, (label-chains S c.requires.chain_tables.0 e.linked e.linked_2.0 e.linked_2.1, c.requires.chain_tables.1))).2 }
+    record { slotted = S; label_chains = label-chains S c.requires.chain_tables e.linked e.linked_2 e.linked_3; fresh = c.requires.fresh }
 
 pub overflow_add-result : goal.overflow_add-result
 overflow_add-result c = omega (arith, c.label-m.ensures.bound, c.requires.numerable.few)
@@ -59,5 +59,5 @@ pub returns : goal.returns
 returns c = let L = c.label-m.ensures in
     let S = cells_slotted c.requires.numerable L in
     let e = c.chains.ensures in
-    let C = label-chains S c.requires.chain_tables.0 e.linked e.linked_2.0 e.linked_2.1 in
-    record { slots = ((faces-told _ _ _ _ _ _ L c.number_slots.ensures, (node-chains c.requires.numerable L C, low-chains c.requires.numerable L C))).0; node_chains = ((faces-told _ _ _ _ _ _ L c.number_slots.ensures, (node-chains c.requires.numerable L C, low-chains c.requires.numerable L C))).1; low_chains = ((faces-told _ _ _ _ _ _ L c.number_slots.ensures, (node-chains c.requires.numerable L C, low-chains c.requires.numerable L C))).2 }
+    let C = label-chains S c.requires.chain_tables e.linked e.linked_2 e.linked_3 in
+    record { slots = faces-told _ _ _ _ _ _ L c.number_slots.ensures; node_chains = node-chains c.requires.numerable L C; low_chains = low-chains c.requires.numerable L C }

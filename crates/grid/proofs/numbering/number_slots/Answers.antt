@@ -7,13 +7,13 @@ use Rattle.grid.proofs.numbering.number_slots.Goals as goal
 
 pub number_pairs-requires : goal.number_pairs-requires
 number_pairs-requires c = let S = c.requires.slotted in
-    let C = c.requires.label_chains.0 in
-    slots_pairable S _ _ _ _ _ _ _ C.by1 C.by2 S.faces-room c.requires.label_chains.1 (record { room = S.same-room; blank = S.same-blank })
+    let C = c.requires.label_chains in
+    slots_pairable S _ _ _ _ _ _ _ C.by1 C.by2 S.faces-room c.requires.fresh (record { room = S.same-room; blank = S.same-blank })
 
 pub pass-requires : goal.pass-requires
-pass-requires c = let C = c.requires.label_chains.0 in
+pass-requires c = let C = c.requires.label_chains in
     let S = slotted_faces c.requires.slotted (c.clear.auto.0 ∙ c.number_pairs.auto.1.1.1.1.1.1.1.0) c.clear.ensures in
-    faces_passable S _ _ _ _ _ _ C.by0 C.by1 c.number_pairs.ensures (fresh-again c.requires.label_chains.1.room (c.clear-2.auto.0 ∙ c.number_pairs.auto.1.1.1.1.1.1.1.1.0) c.clear-2.ensures)
+    faces_passable S _ _ _ _ _ _ C.by0 C.by1 c.number_pairs.ensures (fresh-again c.requires.fresh.room (c.clear-2.auto.0 ∙ c.number_pairs.auto.1.1.1.1.1.1.1.1.0) c.clear-2.ensures)
 
 pub shape_of-at : goal.shape_of-at
 shape_of-at c = c.pass.auto.1.1.1.1.1.1.1.1.1.1.0 ∙ c.clear-2.auto.0 ∙ c.number_pairs.auto.1.1.1.1.1.1.1.1.0
@@ -25,7 +25,7 @@ pub shape_of-same : goal.shape_of-same
 shape_of-same c = c.number_pairs.auto.1.1.1.1.1.1.1.1.1.0
 
 pub returns : goal.returns
-returns c = let C = c.requires.label_chains.0 in
+returns c = let C = c.requires.label_chains in
     let S = slotted_faces c.requires.slotted (c.clear.auto.0 ∙ c.number_pairs.auto.1.1.1.1.1.1.1.0) c.clear.ensures in
-    let A = fresh-again c.requires.label_chains.1.room (c.clear-2.auto.0 ∙ c.number_pairs.auto.1.1.1.1.1.1.1.1.0) c.clear-2.ensures in
+    let A = fresh-again c.requires.fresh.room (c.clear-2.auto.0 ∙ c.number_pairs.auto.1.1.1.1.1.1.1.1.0) c.clear-2.ensures in
     faces-tell S _ _ _ _ _ _ C.by0 C.by1 c.number_pairs.ensures A _ _ c.pass.ensures

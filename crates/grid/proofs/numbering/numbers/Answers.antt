@@ -10,31 +10,31 @@ use Rattle.grid.proofs.numbering.numbers.Goals as goal
 
 pub loop-s-init : goal.loop-s-init
 loop-s-init c = let p = c.requires in
-    (omega arith, omega (arith, p.from_le_to), slots-none _ _ _ p.to_bound.0)
+    (omega arith, omega (arith, p.from_le_to), slots-none _ _ _ p.to_bound)
 
 pub overflow_mul-c : goal.overflow_mul-c
 overflow_mul-c c = let p = c.requires in
     let w = c.loop-s.invariant in
-    let f = p.to_bound.1.fits _ (slot_in _ _ _ _ w.0 (omega arith) p.to_bound.0) in
-    omega (arith, f.1, p.to_bound.1.small)
+    let f = p.ready.fits _ (slot_in _ _ _ _ w.0 (omega arith) p.to_bound) in
+    omega (arith, f.1, p.ready.small)
 
 pub overflow_add-c : goal.overflow_add-c
 overflow_add-c c = let p = c.requires in
     let w = c.loop-s.invariant in
-    let f = p.to_bound.1.fits _ (slot_in _ _ _ _ w.0 (omega arith) p.to_bound.0) in
-    omega (arith, f.1, p.to_bound.1.small)
+    let f = p.ready.fits _ (slot_in _ _ _ _ w.0 (omega arith) p.to_bound) in
+    omega (arith, f.1, p.ready.small)
 
 pub number-m-requires : goal.number-m-requires
 number-m-requires c = let p = c.requires in
     let w = c.loop-s.invariant in
-    slots-ready _ _ _ p.to_bound.0 w.0 (omega arith) w.2 p.to_bound.1
+    slots-ready _ _ _ p.to_bound w.0 (omega arith) w.2 p.ready
 
 pub loop-s-preserved : goal.loop-s-preserved
 loop-s-preserved c = let p = c.requires in
     let w = c.loop-s.invariant in
     let e = c.number-m.ensures in
-    let r = slots-ready _ _ _ p.to_bound.0 w.0 (omega arith) w.2 p.to_bound.1 in
-    (omega arith, omega arith, slots-more _ _ _ p.to_bound.0 w.0 (omega arith) w.2 (does_number _ _ _ _ _ _ r _ _ _ e.value e.at_after.0 e.at_after.1))
+    let r = slots-ready _ _ _ p.to_bound w.0 (omega arith) w.2 p.ready in
+    (omega arith, omega arith, slots-more _ _ _ p.to_bound w.0 (omega arith) w.2 (does_number _ _ _ _ _ _ r _ _ _ e.value e.at_after e.out_after))
 
 pub shape_of-at : goal.shape_of-at
 shape_of-at c = c.loop-s.invariant.2.at_long

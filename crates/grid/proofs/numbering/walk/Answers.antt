@@ -13,7 +13,7 @@ pub loop-j-init : goal.loop-j-init
 loop-j-init c = walking_start _ c.wide-j.ensures
 
 pub numbers-m-requires : goal.numbers-m-requires
-numbers-m-requires c = let p = c.requires in record { from_le_to = ((p.ordered, (p.slots, walking_ready c.loop-j.invariant (omega arith) p))).0; to_bound = ((p.ordered, (p.slots, walking_ready c.loop-j.invariant (omega arith) p))).1; ready = ((p.ordered, (p.slots, walking_ready c.loop-j.invariant (omega arith) p))).2 }
+numbers-m-requires c = let p = c.requires in record { from_le_to = p.ordered; to_bound = p.slots; ready = walking_ready c.loop-j.invariant (omega arith) p }
 
 pub offset_bounds-next-c : goal.offset_bounds-next-c
 offset_bounds-next-c c = omega (arith, walking_lt c.loop-j.invariant (omega arith) c.requires)
