@@ -89,6 +89,37 @@ def tail_of(body):
     return at
 
 
+def free(body, to):
+    """Writes for each word of `to` that no binder binds what stands there."""
+    out, scopes, i = [], [set()], 0
+    token = re.compile(rf"λ ([^.]*?)\.(?=\s)|\(((?:{WORD} )+): |[(\[{{]|[)\]}}]|{WORD}|.", re.S)
+    while i < len(body):
+        m = token.match(body, i)
+        word = m[0]
+        behind = body[i - 1] if i else " "
+        if m[1] is not None:
+            scopes[-1] |= set(re.findall(WORD, m[1]))
+            out.append(word)
+        elif m[2] is not None:
+            # a binder's words are bound behind its bracket, and so in the scope around
+            scopes[-1] |= set(m[2].split())
+            scopes.append(set(scopes[-1]))
+            out.append(word)
+        elif word in "([{":
+            scopes.append(set(scopes[-1]))
+            out.append(word)
+        elif word in ")]}":
+            if len(scopes) > 1:
+                scopes.pop()
+            out.append(word)
+        elif word in to and word not in scopes[-1] and behind != ".":
+            out.append(to[word])
+        else:
+            out.append(word)
+        i = m.end()
+    return "".join(out)
+
+
 def clause(parts, fields):
     """Returns the field of what clauses were pairs within pairs, and what is behind it; or None where it is a pair still."""
     at, k = 0, 0
@@ -144,10 +175,7 @@ class Function:
             if step == "requires" and self.of["pre"] and parts and parts[0].isdigit():
                 parts = clause(parts, self.of["pre"]["fields"]) or parts
             if step == "args":
-                for row in self.of["args"]:
-                    for o, n in [row]:
-                        if o.startswith(".args .") and parts and parts[0] == o[7:]:
-                            parts[0] = n[7:]
+                parts = [next((n[7:] for o, n in self.of["args"] if o == f".args .{parts[0]}"), parts[0]), *parts[1:]] if parts else parts
             return ".".join([step, *parts])
         if arm:
             best = None
@@ -158,6 +186,18 @@ class Function:
             if best:
                 return ".".join([arm[0], best[0], *parts[len(best[1]) :]])
         if plain(old) == plain(step):
+            if parts:
+                for o, n in renames:
+                    if plain(parts[0]) == plain(o):
+                        parts[0] = n
+                        break
+                parts = [it.replace("type-inv", "type_inv") for it in parts]
+            if len(parts) > 1 and parts[0] == "auto" and callee in self.of["params"]:
+                m = re.match(r"((?:1\.)*)0(?:\.|$)", ".".join(parts[1:]))
+                names = self.of["params"][callee]
+                if m and m[1].count("1") < len(names):
+                    k = m[1].count("1")
+                    parts = ["auto", names[k], *parts[k + 2 :]]
             if parts and parts[0] == "ensures" and clauses and len(parts) > 1 and parts[1].isdigit() and clauses.get("fields"):
                 parts = ["ensures", *(clause(parts[1:], clauses["fields"]) or parts[1:])]
             return ".".join([new, *parts])
@@ -186,6 +226,11 @@ class Function:
                     lambda w: ".".join([m[1], *(clause(w[1][1:].split("."), fields) or [w[1][1:]])]),
                     text,
                 )
+
+        for m in re.finditer(r"let (\w+) = " + re.escape(var) + r"(?:\.before)*\.args in", text):
+            for o, n in self.of["args"]:
+                if o.startswith(".args ."):
+                    text = re.sub(rf"(?<![\w.'-]){m[1]}\.{re.escape(o[7:])}(?![\w'-])", f"{m[1]}.{n[7:]}", text)
 
         def one(m):
             base, befores, rest = m[1], m[2].count(".before"), m[3]
@@ -292,7 +337,7 @@ def convert(folder, fn, crate):
                 to[name] = f"l.{v}"
             to.pop("_", None)
             body = block[m.end() :]
-            body = re.sub(rf"(?<![^\s(){{}};,])({WORD})", lambda w: to.get(w[1], w[1]), body)
+            body = free(body, to)
             head = [it for it in block[: m.start()].split("\n") if it.startswith("--") or it.startswith("unfolding")]
             comments = [it for it in head if it.startswith("--")]
             unfolding = [it for it in head if it.startswith("unfolding")]
@@ -394,7 +439,7 @@ def convert(folder, fn, crate):
                 tail = "record { " + "; ".join(f"{f} = {p}" for f, p in zip(fields, pairs(tail, len(fields)))) + " }"
             body = lead + ("\n    " if "\n" in lead else " " if lead else "") + tail
         sep = "\n    " if "\n" in body and not body.startswith(("record", "elim", "let", "(")) else " "
-        answers.append("\n".join([*comments, f"pub {new} : goal.{new}", *unfolding, f"{new} {var} ={sep}{body}"]))
+        answers.append("\n".join([*comments, f"pub {new} : goal.{new}", *unfolding, f"{' '.join([new, var, *[it for it in params[1:] if it != 'κs']])} ={sep}{body}"]))
 
     out = {}
     if given:

@@ -106,7 +106,7 @@ fn used_rows(
 ) -> Checked
     requires { Using (built cells.now edges.now counts.now) near.now sides.now top.now degree.now marks.old }
     ensures result_value { check_numbers result ≡ answer_from 8 (built cells.now edges.now counts.now) }
-    ensures where_accepted { WhereAccepted result_of (Table (listed_at (built cells.now edges.now counts.now)) (6 * cell_count cells.now) sides.now) }
+    ensures where_accepted { WhereAccepted result (Table (listed_at (built cells.now edges.now counts.now)) (6 * cell_count cells.now) sides.now) }
 {
     let p8 = edges::row_8(cells, edges, counts, sides, top);
     if p8 < counts.len() {
@@ -136,7 +136,7 @@ fn side_rows(
 ) -> Checked
     requires { Siding (built cells.now edges.now counts.now) near.now ranks.now h0.now x0.now h1.now x1.now h2.now x2.now tab.old top.old degree.old marks.old sides.old }
     ensures result_value { check_numbers result ≡ answer_from 7 (built cells.now edges.now counts.now) }
-    ensures where_accepted { WhereAccepted result_of (Table (listed_at (built cells.now edges.now counts.now)) (6 * cell_count cells.now) sides.new) }
+    ensures where_accepted { WhereAccepted result (Table (listed_at (built cells.now edges.now counts.now)) (6 * cell_count cells.now) sides.new) }
 {
     let m = counts.len();
     runs::place_sides(cells, edges, m, ranks, h0, x0, h1, x1, h2, x2, tab, sides);
@@ -168,7 +168,7 @@ fn edge_rows(
 ) -> Checked
     requires { Edging (built cells.now edges.now counts.now) near.now ranks.now h0.now x0.now h1.now x1.now h2.now x2.now tab.old top.old degree.old marks.old sides.old }
     ensures result_value { check_numbers result ≡ answer_from 6 (built cells.now edges.now counts.now) }
-    ensures where_accepted { WhereAccepted result_of (Table (listed_at (built cells.now edges.now counts.now)) (6 * cell_count cells.now) sides.new) }
+    ensures where_accepted { WhereAccepted result (Table (listed_at (built cells.now edges.now counts.now)) (6 * cell_count cells.now) sides.new) }
 {
     let p6 = edges::row_6(edges, counts);
     if p6 < counts.len() {
@@ -265,7 +265,7 @@ fn table_rows(
     requires chain_tables { ChainTables (cell_count cells.now) h0.old x0.old h1.old x1.old h2.old x2.old }
     requires edge_tables { EdgeTables (cell_count cells.now) tab.old top.old degree.old marks.old }
     ensures result_value { check_numbers result ≡ answer_from 4 (built cells.now edges.now counts.now) }
-    ensures where_accepted { WhereAccepted result_of (Worked (built cells.now edges.now counts.now) near.new sides.new) }
+    ensures where_accepted { WhereAccepted result (Worked (built cells.now edges.now counts.now) near.new sides.new) }
 {
     let n = cells.len() / 4;
     let many = numbering::number_faces(
@@ -294,7 +294,7 @@ fn few_rows(
     requires cells_bound { cell_count cells.now ≤ 64 }
     requires numbering { Numbering (built cells.now edges.now counts.now) near.old sides.old }
     ensures result_value { check_numbers result ≡ answer_from 4 (built cells.now edges.now counts.now) }
-    ensures where_accepted { WhereAccepted result_of (Worked (built cells.now edges.now counts.now) near.new sides.new) }
+    ensures where_accepted { WhereAccepted result (Worked (built cells.now edges.now counts.now) near.new sides.new) }
 {
     let mut labels = [0u16; FEW_SLOTS];
     let mut ranks = [0u16; NODES];
@@ -345,7 +345,7 @@ fn many_rows(
 ) -> Checked
     requires { Numbering (built cells.now edges.now counts.now) near.old sides.old }
     ensures result_value { check_numbers result ≡ answer_from 4 (built cells.now edges.now counts.now) }
-    ensures where_accepted { WhereAccepted result_of (Worked (built cells.now edges.now counts.now) near.new sides.new) }
+    ensures where_accepted { WhereAccepted result (Worked (built cells.now edges.now counts.now) near.new sides.new) }
 {
     let mut labels = [0u16; MOST_SLOTS];
     let mut ranks = [0u16; NODES];
@@ -396,7 +396,7 @@ fn cell_rows(
 ) -> Checked
     requires { Celling (built cells.now edges.now counts.now) near.old sides.old }
     ensures result_value { check_numbers result ≡ answer_from 3 (built cells.now edges.now counts.now) }
-    ensures where_accepted { WhereAccepted result_of (Worked (built cells.now edges.now counts.now) near.new sides.new) }
+    ensures where_accepted { WhereAccepted result (Worked (built cells.now edges.now counts.now) near.new sides.new) }
 {
     let n = cells.len() / 4;
     let p3 = cells::row_3(cells);
@@ -421,7 +421,7 @@ fn all_rows(
     requires edges_len { wrong ≡ false → length edges.now ≡ 2 * length counts.now }
     requires blank { cell_count cells.now ≤ most_cells → Blank (cell_count cells.now) near.old sides.old }
     ensures result_value { check_numbers result ≡ answer_with wrong (built cells.now edges.now counts.now) }
-    ensures where_accepted { WhereAccepted result_of (Worked (built cells.now edges.now counts.now) near.new sides.new) }
+    ensures where_accepted { WhereAccepted result (Worked (built cells.now edges.now counts.now) near.new sides.new) }
 {
     if cells::row_1(cells) {
         return Checked::Refused(1, 0);

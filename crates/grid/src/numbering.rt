@@ -129,7 +129,7 @@ fn pass(
 // Numbers the first n nodes: the labels of the cells' nodes, from 1 on. Answers how many there are.
 fn label(cells: &[u16], n: usize, at: &mut [u16], out: &mut [u16]) -> usize
     requires { Labelling cells.now n at.old out.old }
-    ensures { Labels cells.now n result_of (length at.old) at.new out.new }
+    ensures { Labels cells.now n result (length at.old) at.new out.new }
 {
     let mut m = 0;
     let mut j = 0;

@@ -17,10 +17,10 @@ pub is_common-requires : goal.is_common-requires
 is_common-requires c = tt
 
 pub returns-then-not-is_common : goal.returns-then-not-is_common
-returns-then-not-is_common c = (found_out (by_edge c.args.counts) (sym c.is_common.ensures ∙ not-true _ c.if-not-is_common.true), omega arith)
+returns-then-not-is_common c = (found_out (by_edge c.args.counts) (sym c.is_common.ensures ∙ not-true _ c.if-not-is_common.true-raw), omega arith)
 
 pub loop-k-init : goal.loop-k-init
-loop-k-init c = (omega arith, sym c.is_common.ensures ∙ not-false _ c.if-not-is_common.false, digits-none (by_edge c.args.counts))
+loop-k-init c = (omega arith, sym c.is_common.ensures ∙ not-false _ c.if-not-is_common.false-raw, digits-none (by_edge c.args.counts))
 
 pub overflow_mul-n : goal.overflow_mul-n
 overflow_mul-n c = omega (arith, bound c.args.counts c.loop-k.n c.loop-k.k c.loop-k.invariant)

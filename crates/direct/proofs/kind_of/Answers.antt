@@ -7,4 +7,4 @@ pub level_kind-requires : goal.level_kind-requires
 level_kind-requires c = sym c.is_level.ensures ∙ c.if-is_level.true
 
 pub returns : goal.returns
-returns c = clash h c.walked.ensures
+returns c h = clash h c.walked.ensures

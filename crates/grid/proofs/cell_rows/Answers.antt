@@ -15,10 +15,10 @@ pub few_rows-requires : goal.few_rows-requires
 few_rows-requires c = let p = c.requires in record { cells_bound = c.if-n-le-FEW_CELLS.true; numbering = record { ordered = ordered-cells _ (λ i. omega (arith, c.shared_slice_known-1.given i)) p.few (rw c.row_3-p3.ensures at c.if-p3-n.false); pairs = p.pairs; blank = p.blank } }
 
 pub shape_of-near-then-n-le-FEW_CELLS : goal.shape_of-near-then-n-le-FEW_CELLS
-shape_of-near-then-n-le-FEW_CELLS c = c.few_rows.auto.1.1.1.0
+shape_of-near-then-n-le-FEW_CELLS c = c.few_rows.auto.near
 
 pub shape_of-sides-then-n-le-FEW_CELLS : goal.shape_of-sides-then-n-le-FEW_CELLS
-shape_of-sides-then-n-le-FEW_CELLS c = c.few_rows.auto.1.1.1.1.0
+shape_of-sides-then-n-le-FEW_CELLS c = c.few_rows.auto.sides
 
 pub returns-then-n-le-FEW_CELLS : goal.returns-then-n-le-FEW_CELLS
 unfolding since rows
@@ -29,10 +29,10 @@ many_rows-requires c = let p = c.requires in
     record { ordered = ordered-cells _ (λ i. omega (arith, c.shared_slice_known-1.given i)) p.few (rw c.row_3-p3.ensures at c.if-p3-n.false); pairs = p.pairs; blank = p.blank }
 
 pub shape_of-near : goal.shape_of-near
-shape_of-near c = c.many_rows.auto.1.1.1.0
+shape_of-near c = c.many_rows.auto.near
 
 pub shape_of-sides : goal.shape_of-sides
-shape_of-sides c = c.many_rows.auto.1.1.1.1.0
+shape_of-sides c = c.many_rows.auto.sides
 
 pub returns : goal.returns
 unfolding since rows

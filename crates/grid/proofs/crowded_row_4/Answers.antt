@@ -8,13 +8,13 @@ pub number_cells-requires : goal.number_cells-requires
 number_cells-requires c = record { low_chains = c.requires.low_chains; comparable = c.requires.comparable }
 
 pub first_same-requires : goal.first_same-requires
-first_same-requires c = record { cells_bound = c.requires.comparable.few; cells = c.number_cells.ensures; fresh = fresh-again c.requires.comparable.at_room (c.clear.auto.0 ∙ c.number_cells.auto.1.1.1.1.1.0) c.clear.ensures }
+first_same-requires c = record { cells_bound = c.requires.comparable.few; cells = c.number_cells.ensures; fresh = fresh-again c.requires.comparable.at_room (c.clear.auto.table ∙ c.number_cells.auto.at) c.clear.ensures }
 
 pub shape_of-at : goal.shape_of-at
-shape_of-at c = c.first_same.auto.1.1.0 ∙ c.clear.auto.0 ∙ c.number_cells.auto.1.1.1.1.1.0
+shape_of-at c = c.first_same.auto.seen ∙ c.clear.auto.table ∙ c.number_cells.auto.at
 
 pub shape_of-same : goal.shape_of-same
-shape_of-same c = c.number_cells.auto.1.1.1.1.1.1.0
+shape_of-same c = c.number_cells.auto.same
 
 pub returns : goal.returns
 returns c = c.first_same.ensures

@@ -22,19 +22,19 @@ pub side_rows-requires : goal.side_rows-requires
 side_rows-requires c = edging_siding c.requires (rw c.row_6-p6.ensures at c.if-p6-counts.false)
 
 pub shape_of-tab : goal.shape_of-tab
-shape_of-tab c = c.side_rows.auto.1.1.1.1.1.1.1.1.1.1.1.0
+shape_of-tab c = c.side_rows.auto.tab
 
 pub shape_of-top : goal.shape_of-top
-shape_of-top c = c.side_rows.auto.1.1.1.1.1.1.1.1.1.1.1.1.0
+shape_of-top c = c.side_rows.auto.top
 
 pub shape_of-degree : goal.shape_of-degree
-shape_of-degree c = c.side_rows.auto.1.1.1.1.1.1.1.1.1.1.1.1.1.0
+shape_of-degree c = c.side_rows.auto.degree
 
 pub shape_of-marks : goal.shape_of-marks
-shape_of-marks c = c.side_rows.auto.1.1.1.1.1.1.1.1.1.1.1.1.1.1.0
+shape_of-marks c = c.side_rows.auto.marks
 
 pub shape_of-sides : goal.shape_of-sides
-shape_of-sides c = c.side_rows.auto.1.1.1.1.1.1.1.1.1.1.1.1.1.1.1.0
+shape_of-sides c = c.side_rows.auto.sides
 
 pub returns : goal.returns
 unfolding since rows

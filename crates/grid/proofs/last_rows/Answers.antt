@@ -12,14 +12,14 @@ pub row_9-p9-requires : goal.row_9-p9-requires
 row_9-p9-requires c = c.requires
 
 pub shape_of-marks-then-p9-counts : goal.shape_of-marks-then-p9-counts
-shape_of-marks-then-p9-counts c = c.row_9-p9.auto.1.1.1.1.1.1.1.0
+shape_of-marks-then-p9-counts c = c.row_9-p9.auto.marks
 
 pub returns-then-p9-counts : goal.returns-then-p9-counts
 unfolding since rows
 returns-then-p9-counts c = answer-refuses _ 9 10 refl _ c.row_9-p9.ensures c.if-p9-counts.true
 
 pub shape_of-marks-then-s-gt-MOST_CROSSINGS : goal.shape_of-marks-then-s-gt-MOST_CROSSINGS
-shape_of-marks-then-s-gt-MOST_CROSSINGS c = c.row_9-p9.auto.1.1.1.1.1.1.1.0
+shape_of-marks-then-s-gt-MOST_CROSSINGS c = c.row_9-p9.auto.marks
 
 pub returns-then-s-gt-MOST_CROSSINGS : goal.returns-then-s-gt-MOST_CROSSINGS
 unfolding since rows
@@ -28,7 +28,7 @@ returns-then-s-gt-MOST_CROSSINGS c = let t = over-capped c.args.counts.now (rw (
     ∙ answer-passes _ 9 10 refl _ c.row_9-p9.ensures c.if-p9-counts.false
 
 pub shape_of-marks : goal.shape_of-marks
-shape_of-marks c = c.row_9-p9.auto.1.1.1.1.1.1.1.0
+shape_of-marks c = c.row_9-p9.auto.marks
 
 pub returns : goal.returns
 unfolding since rows

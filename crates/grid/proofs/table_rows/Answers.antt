@@ -20,40 +20,40 @@ early_rows-p-requires c = let p = c.requires in
     record { rising_cells = p.numbering.ordered; low_chains = F.ensures.1.1; comparable = record { few = p.numbering.ordered.few; told = F.ensures.0; at_room = omega (arith, p.cell_tables.at_new.room, F.auto.1.1.1.1.1.1.1.1.1.0); same-room = omega (arith, p.cell_tables.same_new.room, F.auto.1.1.1.1.1.1.1.1.1.1.1.0) }; fresh = p.numbering.blank.near_new }
 
 pub shape_of-near-then-p-n : goal.shape_of-near-then-p-n
-shape_of-near-then-p-n c = c.early_rows-p.auto.1.1.1.1.1.1.1.0
+shape_of-near-then-p-n c = c.early_rows-p.auto.near
 
 pub shape_of-labels-then-p-n : goal.shape_of-labels-then-p-n
-shape_of-labels-then-p-n c = c.number_faces-many.auto.1.0
+shape_of-labels-then-p-n c = c.number_faces-many.auto.labels
 
 pub shape_of-ranks-then-p-n : goal.shape_of-ranks-then-p-n
-shape_of-ranks-then-p-n c = c.number_faces-many.auto.1.1.0
+shape_of-ranks-then-p-n c = c.number_faces-many.auto.ranks
 
 pub shape_of-h0-then-p-n : goal.shape_of-h0-then-p-n
-shape_of-h0-then-p-n c = c.number_faces-many.auto.1.1.1.0
+shape_of-h0-then-p-n c = c.number_faces-many.auto.h0
 
 pub shape_of-x0-then-p-n : goal.shape_of-x0-then-p-n
-shape_of-x0-then-p-n c = c.number_faces-many.auto.1.1.1.1.0
+shape_of-x0-then-p-n c = c.number_faces-many.auto.x0
 
 pub shape_of-h1-then-p-n : goal.shape_of-h1-then-p-n
-shape_of-h1-then-p-n c = c.number_faces-many.auto.1.1.1.1.1.0
+shape_of-h1-then-p-n c = c.number_faces-many.auto.h1
 
 pub shape_of-x1-then-p-n : goal.shape_of-x1-then-p-n
-shape_of-x1-then-p-n c = c.number_faces-many.auto.1.1.1.1.1.1.0
+shape_of-x1-then-p-n c = c.number_faces-many.auto.x1
 
 pub shape_of-h2-then-p-n : goal.shape_of-h2-then-p-n
-shape_of-h2-then-p-n c = c.number_faces-many.auto.1.1.1.1.1.1.1.0
+shape_of-h2-then-p-n c = c.number_faces-many.auto.h2
 
 pub shape_of-x2-then-p-n : goal.shape_of-x2-then-p-n
-shape_of-x2-then-p-n c = c.number_faces-many.auto.1.1.1.1.1.1.1.1.0
+shape_of-x2-then-p-n c = c.number_faces-many.auto.x2
 
 pub shape_of-at-then-p-n : goal.shape_of-at-then-p-n
-shape_of-at-then-p-n c = c.early_rows-p.auto.1.1.1.1.1.0 ∙ c.number_faces-many.auto.1.1.1.1.1.1.1.1.1.0
+shape_of-at-then-p-n c = c.early_rows-p.auto.at ∙ c.number_faces-many.auto.at
 
 pub shape_of-faces-then-p-n : goal.shape_of-faces-then-p-n
-shape_of-faces-then-p-n c = c.number_faces-many.auto.1.1.1.1.1.1.1.1.1.1.0
+shape_of-faces-then-p-n c = c.number_faces-many.auto.faces
 
 pub shape_of-same-then-p-n : goal.shape_of-same-then-p-n
-shape_of-same-then-p-n c = c.early_rows-p.auto.1.1.1.1.1.1.0 ∙ c.number_faces-many.auto.1.1.1.1.1.1.1.1.1.1.1.0
+shape_of-same-then-p-n c = c.early_rows-p.auto.same ∙ c.number_faces-many.auto.same
 
 pub returns-then-p-n : goal.returns-then-p-n
 unfolding since rows
@@ -63,40 +63,40 @@ pub overflow_mul-n : goal.overflow_mul-n
 overflow_mul-n c = omega (arith, c.requires.numbering.ordered.few)
 
 pub shape_of-near-then-p-n-2 : goal.shape_of-near-then-p-n-2
-shape_of-near-then-p-n-2 c = c.early_rows-p.auto.1.1.1.1.1.1.1.0
+shape_of-near-then-p-n-2 c = c.early_rows-p.auto.near
 
 pub shape_of-labels-then-p-n-2 : goal.shape_of-labels-then-p-n-2
-shape_of-labels-then-p-n-2 c = c.number_faces-many.auto.1.0
+shape_of-labels-then-p-n-2 c = c.number_faces-many.auto.labels
 
 pub shape_of-ranks-then-p-n-2 : goal.shape_of-ranks-then-p-n-2
-shape_of-ranks-then-p-n-2 c = c.number_faces-many.auto.1.1.0
+shape_of-ranks-then-p-n-2 c = c.number_faces-many.auto.ranks
 
 pub shape_of-h0-then-p-n-2 : goal.shape_of-h0-then-p-n-2
-shape_of-h0-then-p-n-2 c = c.number_faces-many.auto.1.1.1.0
+shape_of-h0-then-p-n-2 c = c.number_faces-many.auto.h0
 
 pub shape_of-x0-then-p-n-2 : goal.shape_of-x0-then-p-n-2
-shape_of-x0-then-p-n-2 c = c.number_faces-many.auto.1.1.1.1.0
+shape_of-x0-then-p-n-2 c = c.number_faces-many.auto.x0
 
 pub shape_of-h1-then-p-n-2 : goal.shape_of-h1-then-p-n-2
-shape_of-h1-then-p-n-2 c = c.number_faces-many.auto.1.1.1.1.1.0
+shape_of-h1-then-p-n-2 c = c.number_faces-many.auto.h1
 
 pub shape_of-x1-then-p-n-2 : goal.shape_of-x1-then-p-n-2
-shape_of-x1-then-p-n-2 c = c.number_faces-many.auto.1.1.1.1.1.1.0
+shape_of-x1-then-p-n-2 c = c.number_faces-many.auto.x1
 
 pub shape_of-h2-then-p-n-2 : goal.shape_of-h2-then-p-n-2
-shape_of-h2-then-p-n-2 c = c.number_faces-many.auto.1.1.1.1.1.1.1.0
+shape_of-h2-then-p-n-2 c = c.number_faces-many.auto.h2
 
 pub shape_of-x2-then-p-n-2 : goal.shape_of-x2-then-p-n-2
-shape_of-x2-then-p-n-2 c = c.number_faces-many.auto.1.1.1.1.1.1.1.1.0
+shape_of-x2-then-p-n-2 c = c.number_faces-many.auto.x2
 
 pub shape_of-at-then-p-n-2 : goal.shape_of-at-then-p-n-2
-shape_of-at-then-p-n-2 c = c.early_rows-p.auto.1.1.1.1.1.0 ∙ c.number_faces-many.auto.1.1.1.1.1.1.1.1.1.0
+shape_of-at-then-p-n-2 c = c.early_rows-p.auto.at ∙ c.number_faces-many.auto.at
 
 pub shape_of-faces-then-p-n-2 : goal.shape_of-faces-then-p-n-2
-shape_of-faces-then-p-n-2 c = c.number_faces-many.auto.1.1.1.1.1.1.1.1.1.1.0
+shape_of-faces-then-p-n-2 c = c.number_faces-many.auto.faces
 
 pub shape_of-same-then-p-n-2 : goal.shape_of-same-then-p-n-2
-shape_of-same-then-p-n-2 c = c.early_rows-p.auto.1.1.1.1.1.1.0 ∙ c.number_faces-many.auto.1.1.1.1.1.1.1.1.1.1.1.0
+shape_of-same-then-p-n-2 c = c.early_rows-p.auto.same ∙ c.number_faces-many.auto.same
 
 pub returns-then-p-n-2 : goal.returns-then-p-n-2
 unfolding since rows
@@ -110,55 +110,55 @@ edge_rows-requires c = let p = c.requires in
     record { ordered = p.numbering.ordered; pairs = p.numbering.pairs; near-is = c.early_rows-p.ensures.near-is c.if-p-n-2.false; chained = c.number_faces-many.ensures.node_chains; tables = p.edge_tables; sides-new = p.numbering.blank.sides-new }
 
 pub shape_of-near : goal.shape_of-near
-shape_of-near c = c.early_rows-p.auto.1.1.1.1.1.1.1.0
+shape_of-near c = c.early_rows-p.auto.near
 
 pub shape_of-sides : goal.shape_of-sides
-shape_of-sides c = c.edge_rows.auto.1.1.1.1.1.1.1.1.1.1.1.1.1.1.1.0
+shape_of-sides c = c.edge_rows.auto.sides
 
 pub shape_of-labels : goal.shape_of-labels
-shape_of-labels c = c.number_faces-many.auto.1.0
+shape_of-labels c = c.number_faces-many.auto.labels
 
 pub shape_of-ranks : goal.shape_of-ranks
-shape_of-ranks c = c.number_faces-many.auto.1.1.0
+shape_of-ranks c = c.number_faces-many.auto.ranks
 
 pub shape_of-h0 : goal.shape_of-h0
-shape_of-h0 c = c.number_faces-many.auto.1.1.1.0
+shape_of-h0 c = c.number_faces-many.auto.h0
 
 pub shape_of-x0 : goal.shape_of-x0
-shape_of-x0 c = c.number_faces-many.auto.1.1.1.1.0
+shape_of-x0 c = c.number_faces-many.auto.x0
 
 pub shape_of-h1 : goal.shape_of-h1
-shape_of-h1 c = c.number_faces-many.auto.1.1.1.1.1.0
+shape_of-h1 c = c.number_faces-many.auto.h1
 
 pub shape_of-x1 : goal.shape_of-x1
-shape_of-x1 c = c.number_faces-many.auto.1.1.1.1.1.1.0
+shape_of-x1 c = c.number_faces-many.auto.x1
 
 pub shape_of-h2 : goal.shape_of-h2
-shape_of-h2 c = c.number_faces-many.auto.1.1.1.1.1.1.1.0
+shape_of-h2 c = c.number_faces-many.auto.h2
 
 pub shape_of-x2 : goal.shape_of-x2
-shape_of-x2 c = c.number_faces-many.auto.1.1.1.1.1.1.1.1.0
+shape_of-x2 c = c.number_faces-many.auto.x2
 
 pub shape_of-at : goal.shape_of-at
-shape_of-at c = c.early_rows-p.auto.1.1.1.1.1.0 ∙ c.number_faces-many.auto.1.1.1.1.1.1.1.1.1.0
+shape_of-at c = c.early_rows-p.auto.at ∙ c.number_faces-many.auto.at
 
 pub shape_of-faces : goal.shape_of-faces
-shape_of-faces c = c.number_faces-many.auto.1.1.1.1.1.1.1.1.1.1.0
+shape_of-faces c = c.number_faces-many.auto.faces
 
 pub shape_of-same : goal.shape_of-same
-shape_of-same c = c.early_rows-p.auto.1.1.1.1.1.1.0 ∙ c.number_faces-many.auto.1.1.1.1.1.1.1.1.1.1.1.0
+shape_of-same c = c.early_rows-p.auto.same ∙ c.number_faces-many.auto.same
 
 pub shape_of-tab : goal.shape_of-tab
-shape_of-tab c = c.edge_rows.auto.1.1.1.1.1.1.1.1.1.1.1.0
+shape_of-tab c = c.edge_rows.auto.tab
 
 pub shape_of-top : goal.shape_of-top
-shape_of-top c = c.edge_rows.auto.1.1.1.1.1.1.1.1.1.1.1.1.0
+shape_of-top c = c.edge_rows.auto.top
 
 pub shape_of-degree : goal.shape_of-degree
-shape_of-degree c = c.edge_rows.auto.1.1.1.1.1.1.1.1.1.1.1.1.1.0
+shape_of-degree c = c.edge_rows.auto.degree
 
 pub shape_of-marks : goal.shape_of-marks
-shape_of-marks c = c.edge_rows.auto.1.1.1.1.1.1.1.1.1.1.1.1.1.1.0
+shape_of-marks c = c.edge_rows.auto.marks
 
 pub returns : goal.returns
 unfolding since rows

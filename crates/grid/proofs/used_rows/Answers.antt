@@ -18,7 +18,7 @@ pub last_rows-requires : goal.last_rows-requires
 last_rows-requires c = using_linkable c.requires c.row_8-p8.ensures.value c.row_8-p8.ensures.upper_bound c.if-p8-counts.false
 
 pub shape_of-marks : goal.shape_of-marks
-shape_of-marks c = c.last_rows.auto.1.1.1.1.1.1.1.0
+shape_of-marks c = c.last_rows.auto.marks
 
 pub returns : goal.returns
 unfolding since rows

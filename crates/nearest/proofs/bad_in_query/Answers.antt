@@ -7,16 +7,16 @@ use Rattle.nearest.proofs.bad_in_query.Goals as goal
 
 pub returns-then-not-is_within : goal.returns-then-not-is_within
 unfolding first seek
-returns-then-not-is_within c = rw (sym (ap not c.is_within.ensures) ∙ c.if-not-is_within.true)
+returns-then-not-is_within c = rw (sym (ap not c.is_within.ensures) ∙ c.if-not-is_within.true-raw)
 
 pub returns-then-not-is_within-2 : goal.returns-then-not-is_within-2
 unfolding first seek
-returns-then-not-is_within-2 c = rw (sym (ap not c.is_within.ensures) ∙ c.if-not-is_within.false, sym (ap not c.is_within-2.ensures) ∙ c.if-not-is_within-2.true)
+returns-then-not-is_within-2 c = rw (sym (ap not c.is_within.ensures) ∙ c.if-not-is_within.false-raw, sym (ap not c.is_within-2.ensures) ∙ c.if-not-is_within-2.true-raw)
 
 pub returns-then-not-is_within-3 : goal.returns-then-not-is_within-3
 unfolding first seek
-returns-then-not-is_within-3 c = rw (sym (ap not c.is_within.ensures) ∙ c.if-not-is_within.false, sym (ap not c.is_within-2.ensures) ∙ c.if-not-is_within-2.false, sym (ap not c.is_within-3.ensures) ∙ c.if-not-is_within-3.true)
+returns-then-not-is_within-3 c = rw (sym (ap not c.is_within.ensures) ∙ c.if-not-is_within.false-raw, sym (ap not c.is_within-2.ensures) ∙ c.if-not-is_within-2.false-raw, sym (ap not c.is_within-3.ensures) ∙ c.if-not-is_within-3.true-raw)
 
 pub returns : goal.returns
 unfolding first seek
-returns c = rw (sym (ap not c.is_within.ensures) ∙ c.if-not-is_within.false, sym (ap not c.is_within-2.ensures) ∙ c.if-not-is_within-2.false, sym (ap not c.is_within-3.ensures) ∙ c.if-not-is_within-3.false)
+returns c = rw (sym (ap not c.is_within.ensures) ∙ c.if-not-is_within.false-raw, sym (ap not c.is_within-2.ensures) ∙ c.if-not-is_within-2.false-raw, sym (ap not c.is_within-3.ensures) ∙ c.if-not-is_within-3.false-raw)

@@ -26,8 +26,8 @@ may_have-requires c = let e : c.word_at-length.result ≡ c.length_of-right.resu
     wide-inside a.bytes.now a.start c.if-bytes-start.false _ _ _ c.word_at-length.ensures c.word_at-kind.ensures c.length_of-right.ensures e c.if-bytes-start-2.false
 
 pub returns-then-not-may_have : goal.returns-then-not-may_have
-returns-then-not-may_have c = case_small _ _ c.if-bytes-start.false _ _ _ c.word_at-length.ensures c.word_at-kind.ensures c.length_of-right.ensures _ c.may_have.ensures (not-true _ c.if-not-may_have.true)
+returns-then-not-may_have c = case_small _ _ c.if-bytes-start.false _ _ _ c.word_at-length.ensures c.word_at-kind.ensures c.length_of-right.ensures _ c.may_have.ensures (not-true _ c.if-not-may_have.true-raw)
 
 pub returns : goal.returns
 returns c = let e : c.word_at-length.result ≡ c.length_of-right.result = omega (arith, c.if-length-right.false) in
-    case_whole _ _ c.if-bytes-start.false _ _ _ c.word_at-length.ensures c.word_at-kind.ensures c.length_of-right.ensures _ c.may_have.ensures c.if-bytes-start-lt-HEAD_BYTES.false c.if-right-eq0.false e c.if-bytes-start-2.false (not-false _ c.if-not-may_have.false)
+    case_whole _ _ c.if-bytes-start.false _ _ _ c.word_at-length.ensures c.word_at-kind.ensures c.length_of-right.ensures _ c.may_have.ensures c.if-bytes-start-lt-HEAD_BYTES.false c.if-right-eq0.false e c.if-bytes-start-2.false (not-false _ c.if-not-may_have.false-raw)

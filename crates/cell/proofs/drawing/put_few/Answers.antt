@@ -3,6 +3,6 @@ use Rattle.cell.proofs.Using.{table-few}
 use Rattle.cell.proofs.drawing.put_few.Goals as goal
 
 pub put_in_all-requires : goal.put_in_all-requires
-put_in_all-requires c = let A = c.args in
+put_in_all-requires c k = let A = c.args in
     let h = table-few A.counts.now A.sides.now k c.requires in
     record { marks-long = h; halves_long = h; points-long = h }

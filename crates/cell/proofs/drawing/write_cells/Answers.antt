@@ -4,9 +4,9 @@ use Rattle.cell.proofs.Using.{table-most}
 use Rattle.cell.proofs.drawing.write_cells.Goals as goal
 
 pub put_few-requires : goal.put_few-requires
-put_few-requires c = omega (arith, c.greatest.ensures i, c.if-greatest-le-FEW_COUNT.true)
+put_few-requires c i = omega (arith, c.greatest.ensures i, c.if-greatest-le-FEW_COUNT.true)
 
 pub put_in_all-requires : goal.put_in_all-requires
-put_in_all-requires c = let A = c.args in
+put_in_all-requires c k = let A = c.args in
     let h = table-most A.counts.now A.sides.now k in
     record { marks-long = h; halves_long = h; points-long = h }

@@ -26,7 +26,7 @@ loop-i-preserved c = (
 )
 
 pub returns : goal.returns
-returns c = elim (dec_lt i (length c.args.counts.now)) [
+returns c i = elim (dec_lt i (length c.args.counts.now)) [
   | yes l ↦ c.loop-i.invariant.1 i (omega arith)
   | no n ↦ omega (arith, past_end c.args.counts.now i (omega arith))
 ]

@@ -4,9 +4,9 @@ use Rattle.cell.proofs.Using.{table-most}
 use Rattle.cell.proofs.fanning.write_middles.Goals as goal
 
 pub few_middles-requires : goal.few_middles-requires
-few_middles-requires c = omega (arith, c.greatest.ensures i, c.if-greatest-le-FEW_COUNT.true)
+few_middles-requires c i = omega (arith, c.greatest.ensures i, c.if-greatest-le-FEW_COUNT.true)
 
 pub middles_in_all-requires : goal.middles_in_all-requires
-middles_in_all-requires c = let A = c.args in
+middles_in_all-requires c k = let A = c.args in
     let h = table-most A.counts.now A.sides.now k in
     record { marks-long = h; halves_long = h; points-long = h }

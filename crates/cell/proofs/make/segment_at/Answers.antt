@@ -13,6 +13,6 @@ bounds-names-s c = omega (arith, c.wide8-s.ensures.0, c.requires.recorded_loop.h
 pub returns : goal.returns
 unfolding segment_at
 returns c = let A = c.args in
-    let face = c.word16.ensures.0 ∙ ap (λ h. get_or A.t1 (h / 3) 0) c.wide8-s.ensures.0 in
+    let face = c.word16.ensures.0 ∙ ap (λ h. get_or A.names (h / 3) 0) c.wide8-s.ensures.0 in
     let low = c.least32.ensures ∙ ap (λ j. min (get_or A.points.now A.k 0) (get_or A.points.now j 0)) c.after_of-j.ensures.0 in
     ap₂ Segment face low

@@ -23,7 +23,7 @@ pub overflow_add-i : goal.overflow_add-i
 overflow_add-i c = omega (arith, run-place c.loop-k.invariant.2, c.loop-k.invariant.0, c.requires.n_in_bounds)
 
 pub overflow_add-k : goal.overflow_add-k
-overflow_add-k c = omega (arith, c.many-m.type-inv)
+overflow_add-k c = omega (arith, c.many-m.type_inv)
 
 pub loop-k-preserved : goal.loop-k-preserved
 loop-k-preserved c = (c.loop-k.invariant.0, omega arith, run_more c.loop-k.invariant.2 c.triangle_of-t.ensures c.put.ensures)

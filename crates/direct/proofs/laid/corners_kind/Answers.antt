@@ -11,4 +11,4 @@ pub returns-then-is_level : goal.returns-then-is_level
 returns-then-is_level c = λ _. record { level = sym c.is_level.ensures ∙ c.if-is_level.true; own_are = c.own_of_lem.ensures; none = λ e. absurd (false-true e) }
 
 pub returns : goal.returns
-returns c = clash h c.walked.ensures
+returns c h = clash h c.walked.ensures

@@ -10,7 +10,7 @@ pub loop-k-init : goal.loop-k-init
 loop-k-init c = (omega arith, λ i h. absurd (omega arith))
 
 pub returns-then-c-k-ge-START_LIMIT : goal.returns-then-c-k-ge-START_LIMIT
-returns-then-c-k-ge-START_LIMIT c = absurd (false-true e)
+returns-then-c-k-ge-START_LIMIT c e = absurd (false-true e)
 
 pub loop-k-preserved : goal.loop-k-preserved
 loop-k-preserved c = (omega arith, near-more c.args.c c.loop-k.k c.loop-k.invariant.1 (omega (arith, c.if-c-k-ge-START_LIMIT.false)))

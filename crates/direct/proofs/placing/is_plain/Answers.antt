@@ -2,4 +2,4 @@ use borrow.Author.Rules.{rules}
 use Rattle.direct.proofs.placing.is_plain.Goals as goal
 
 pub returns : goal.returns
-returns c = (c.kind_of.ensures h).plain
+returns c h = (c.kind_of.ensures h).plain

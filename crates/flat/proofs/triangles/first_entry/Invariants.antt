@@ -10,7 +10,7 @@ use borrow.Author.Rules.{rules}
 use Rattle.flat.proofs.triangles.first_entry.Given as goal
 
 abbrev pub invariant-loop-j : goal.invariant-loop-j
-invariant-loop-j l = Seeking (λ l.j. not (eqb (get_or l.prev l.j 0) 0)) l.n l.j
+invariant-loop-j l = Seeking (λ j. not (eqb (get_or l.prev j 0) 0)) l.n l.j
 
 abbrev pub decreases-loop-j : goal.decreases-loop-j
 decreases-loop-j l = l.n - l.j

@@ -8,7 +8,7 @@ use borrow.Author.Rules.{rules}
 use Rattle.flat.proofs.words.copy_words.Given as goal
 
 abbrev pub invariant-loop-i : goal.invariant-loop-i
-invariant-loop-i l = (l.i ≤ l.m) × (l.area ≡ filled (λ l.i. get_or l.words l.i 0) l.i l.initial.area)
+invariant-loop-i l = (l.i ≤ l.m) × (l.area ≡ filled (λ i. get_or l.words i 0) l.i l.initial.area)
 
 abbrev pub decreases-loop-i : goal.decreases-loop-i
 decreases-loop-i l = l.m - l.i

@@ -18,4 +18,4 @@ pair-requires c = let p = c.requires in
 pub returns : goal.returns
 returns c = let p = c.requires in
     let q = c.pair.ensures in
-    record { value = rw q.is (third-first _ p.rising_cells _ p.slots); neighbours = λ h. paired-near _ p.rising_cells _ p.slots _ _ (omega (arith, c.pair.auto.1.1.1.0, p.fresh_2.room)) q h }
+    record { value = rw q.is (third-first _ p.rising_cells _ p.slots); neighbours = λ h. paired-near _ p.rising_cells _ p.slots _ _ (omega (arith, c.pair.auto.near, p.fresh_2.room)) q h }

@@ -12,7 +12,7 @@ use borrow.Author.Rules.{rules}
 use Rattle.grid.proofs.edges.row_7.Given as goal
 
 abbrev pub invariant-loop-j : goal.invariant-loop-j
-invariant-loop-j l = Seeking (λ l.j. eqb (get_or l.sides l.j 0) 0) l.n l.j × Tallying l.sides l.j l.initial.top l.initial.degree l.top l.degree
+invariant-loop-j l = Seeking (λ j. eqb (get_or l.sides j 0) 0) l.n l.j × Tallying l.sides l.j l.initial.top l.initial.degree l.top l.degree
 
 abbrev pub decreases-loop-j : goal.decreases-loop-j
 decreases-loop-j l = l.n - l.j

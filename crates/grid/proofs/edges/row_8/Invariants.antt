@@ -9,7 +9,7 @@ use borrow.Author.Rules.{rules}
 use Rattle.grid.proofs.edges.row_8.Given as goal
 
 abbrev pub invariant-loop-e : goal.invariant-loop-e
-invariant-loop-e l = Seeking (λ l.e. eqb (get_or l.top (l.e + 1) 0) 0) l.m l.e
+invariant-loop-e l = Seeking (λ e. eqb (get_or l.top (e + 1) 0) 0) l.m l.e
 
 abbrev pub decreases-loop-e : goal.decreases-loop-e
 decreases-loop-e l = l.m - l.e

@@ -12,20 +12,20 @@ number_pairs-requires c = let S = c.requires.slotted in
 
 pub pass-requires : goal.pass-requires
 pass-requires c = let C = c.requires.label_chains in
-    let S = slotted_faces c.requires.slotted (c.clear.auto.0 ∙ c.number_pairs.auto.1.1.1.1.1.1.1.0) c.clear.ensures in
-    faces_passable S _ _ _ _ _ _ C.by0 C.by1 c.number_pairs.ensures (fresh-again c.requires.fresh.room (c.clear-2.auto.0 ∙ c.number_pairs.auto.1.1.1.1.1.1.1.1.0) c.clear-2.ensures)
+    let S = slotted_faces c.requires.slotted (c.clear.auto.table ∙ c.number_pairs.auto.keys) c.clear.ensures in
+    faces_passable S _ _ _ _ _ _ C.by0 C.by1 c.number_pairs.ensures (fresh-again c.requires.fresh.room (c.clear-2.auto.table ∙ c.number_pairs.auto.at) c.clear-2.ensures)
 
 pub shape_of-at : goal.shape_of-at
-shape_of-at c = c.pass.auto.1.1.1.1.1.1.1.1.1.1.0 ∙ c.clear-2.auto.0 ∙ c.number_pairs.auto.1.1.1.1.1.1.1.1.0
+shape_of-at c = c.pass.auto.at ∙ c.clear-2.auto.table ∙ c.number_pairs.auto.at
 
 pub shape_of-faces : goal.shape_of-faces
-shape_of-faces c = c.pass.ensures.out_long ∙ c.clear.auto.0 ∙ c.number_pairs.auto.1.1.1.1.1.1.1.0
+shape_of-faces c = c.pass.ensures.out_long ∙ c.clear.auto.table ∙ c.number_pairs.auto.keys
 
 pub shape_of-same : goal.shape_of-same
-shape_of-same c = c.number_pairs.auto.1.1.1.1.1.1.1.1.1.0
+shape_of-same c = c.number_pairs.auto.out
 
 pub returns : goal.returns
 returns c = let C = c.requires.label_chains in
-    let S = slotted_faces c.requires.slotted (c.clear.auto.0 ∙ c.number_pairs.auto.1.1.1.1.1.1.1.0) c.clear.ensures in
-    let A = fresh-again c.requires.fresh.room (c.clear-2.auto.0 ∙ c.number_pairs.auto.1.1.1.1.1.1.1.1.0) c.clear-2.ensures in
+    let S = slotted_faces c.requires.slotted (c.clear.auto.table ∙ c.number_pairs.auto.keys) c.clear.ensures in
+    let A = fresh-again c.requires.fresh.room (c.clear-2.auto.table ∙ c.number_pairs.auto.at) c.clear-2.ensures in
     faces-tell S _ _ _ _ _ _ C.by0 C.by1 c.number_pairs.ensures A _ _ c.pass.ensures

@@ -42,7 +42,7 @@ pub loop-e-smaller : goal.loop-e-smaller
 loop-e-smaller c = omega (arith, c.fill_run-f.ensures.more, c.fill_run-f.ensures.within)
 
 pub loop-e-preserved : goal.loop-e-preserved
-loop-e-preserved c = placing_more c.requires c.loop-e.invariant (omega arith) refl c.fill_run-f.ensures _ c.wide-u.ensures _ _ c.clear_run.ensures (c.clear_run.auto.1.1.1.0 ∙ c.fill_run-f.ensures.same) c.turn_sides.ensures
+loop-e-preserved c = placing_more c.requires c.loop-e.invariant (omega arith) refl c.fill_run-f.ensures _ c.wide-u.ensures _ _ c.clear_run.ensures (c.clear_run.auto.tab ∙ c.fill_run-f.ensures.same) c.turn_sides.ensures
 
 pub shape_of-tab : goal.shape_of-tab
 shape_of-tab c = c.loop-e.invariant.tab_same

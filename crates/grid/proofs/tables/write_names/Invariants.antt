@@ -9,7 +9,7 @@ use Rattle.grid.specs.work.Work.{lower_place}
 use Rattle.grid.proofs.tables.write_names.Given as goal
 
 abbrev pub invariant-loop-j : goal.invariant-loop-j
-invariant-loop-j l = (l.j ≤ l.n) × (l.names ≡ filled (λ l.j. lower_place l.j (get_or l.across l.j 0)) l.j l.initial.names)
+invariant-loop-j l = (l.j ≤ l.n) × (l.names ≡ filled (λ j. lower_place j (get_or l.across j 0)) l.j l.initial.names)
 
 abbrev pub decreases-loop-j : goal.decreases-loop-j
 decreases-loop-j l = l.n - l.j

@@ -8,7 +8,7 @@ use borrow.Author.Rules.{rules}
 use Rattle.grid.proofs.tables.write_sides.Given as goal
 
 abbrev pub invariant-loop-j : goal.invariant-loop-j
-invariant-loop-j l = (l.j ≤ l.n) × (l.sides ≡ filled (λ l.j. get_or l.listed l.j 0 - 1) l.j l.initial.sides)
+invariant-loop-j l = (l.j ≤ l.n) × (l.sides ≡ filled (λ j. get_or l.listed j 0 - 1) l.j l.initial.sides)
 
 abbrev pub decreases-loop-j : goal.decreases-loop-j
 decreases-loop-j l = l.n - l.j

@@ -37,7 +37,7 @@ returns-then-not-unite c = let l = c.loop-e in
     record {
       tied = λ e. clash e refl;
       none = λ e. tied-not a.edges.now a.counts.now a.links.now l.e l.links l.invariant.1 (omega arith) _ _ _
-          c.wide16-u.ensures.0 c.wide16-v.ensures.0 c.wide16.ensures.0 _ _ c.unite.ensures (not-true _ c.if-not-unite.true);
+          c.wide16-u.ensures.0 c.wide16-v.ensures.0 c.wide16.ensures.0 _ _ c.unite.ensures (not-true _ c.if-not-unite.true-raw);
     }
 
 pub loop-e-preserved : goal.loop-e-preserved
@@ -45,7 +45,7 @@ loop-e-preserved c = let l = c.loop-e in
     let a = c.args in (
       omega arith,
       tied-more a.edges.now a.counts.now a.links.now l.e l.links l.invariant.1 (omega arith) _ _ _
-          c.wide16-u.ensures.0 c.wide16-v.ensures.0 c.wide16.ensures.0 _ _ c.unite.ensures (not-false _ c.if-not-unite.false),
+          c.wide16-u.ensures.0 c.wide16-v.ensures.0 c.wide16.ensures.0 _ _ c.unite.ensures (not-false _ c.if-not-unite.false-raw),
     )
 
 pub shape_of-links : goal.shape_of-links

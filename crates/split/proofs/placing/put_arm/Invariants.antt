@@ -10,7 +10,7 @@ use Rattle.split.proofs.Arms.{points_none, points-more}
 use Rattle.split.proofs.placing.put_arm.Given as goal
 
 abbrev pub invariant-loop-h : goal.invariant-loop-h
-invariant-loop-h l = (l.h ≤ l.n) × Stored l.initial.area (coordinates * l.i) (all_numbers (values (λ l.h. between l.a l.v (part_of l.h l.n)) l.h)) l.area (coordinates * (l.i + l.h))
+invariant-loop-h l = (l.h ≤ l.n) × Stored l.initial.area (coordinates * l.i) (all_numbers (values (λ h. between l.a l.v (part_of h l.n)) l.h)) l.area (coordinates * (l.i + l.h))
 
 abbrev pub decreases-loop-h : goal.decreases-loop-h
 decreases-loop-h l = l.n - l.h
