@@ -176,7 +176,7 @@ class Function:
                 parts = clause(parts, self.of["pre"]["fields"]) or parts
             if step == "args":
                 parts = [next((n[7:] for o, n in self.of["args"] if o == f".args .{parts[0]}"), parts[0]), *parts[1:]] if parts else parts
-            return ".".join([step, *parts])
+            return ".".join([step.replace("-", "_"), *parts])
         if arm:
             best = None
             for field, of_step, path in arm[2]:
@@ -227,6 +227,21 @@ class Function:
                     text,
                 )
 
+        # a let of a step
+        for m in re.finditer(r"let ([\w-]+) = " + re.escape(var) + r"((?:\.before)*)\.([\w'-]+) in", text):
+            depth = m[2].count(".before")
+            for k in sorted(range(len(chain)), key=lambda it: abs(it - depth)):
+                if plain(self.of["places"][chain[k]][2][0]) == plain(m[3]) and self.of["places"][chain[k]][1]:
+
+                    def behind(w, k=k):
+                        found = self.field(chain[k], m[3], w[1][1:])
+                        if found is None:
+                            return w[0]
+                        head, new = found.split(".", 1)[0], self.of["places"][chain[k]][2][1]
+                        return f"{m[1]}.{found[len(new) + 1:]}" if head == new else f"{var}.{found}"
+
+                    text = re.sub(rf"(?<![\w.'-]){re.escape(m[1])}((?:\.[\w'-]+)+)(?![\w'-])", behind, text)
+                    break
         for m in re.finditer(r"let (\w+) = " + re.escape(var) + r"(?:\.before)*\.args in", text):
             for o, n in self.of["args"]:
                 if o.startswith(".args ."):
@@ -252,7 +267,7 @@ class Function:
             # where a step came or went, the nearest place that has the name
             found = None
             for k in sorted(range(len(chain)), key=lambda it: abs(it - depth)):
-                if k == len(chain) - 1 and parts[0] not in ("args", "requires", "lifetimes", "ranges", "utf8"):
+                if k == len(chain) - 1 and parts[0] not in ("args", "requires", "lifetimes", "ranges", "utf8", "well-formed"):
                     continue
                 found = self.field(chain[k], parts[0], ".".join(parts[1:]))
                 if found:

@@ -12,9 +12,9 @@ returns-then-answer-lt-ANSWER_WORDS c = record { answer = answers_short (search 
 pub returns-in-Words : goal.returns-in-Words
 returns-in-Words c = let c-n = c.n-1 in
     let c-chains = c.chains in
-    record { answer = answers-told traced_numbers c-n.given.1 c-chains.ensures.answered c.put.ensures; area = room_enough _ _ _ (search rules) c-chains.ensures.area }
+    record { answer = answers-told traced_numbers c.in-Words.is c-chains.ensures.answered c.put.ensures; area = room_enough _ _ _ (search rules) c-chains.ensures.area }
 
 pub returns-in-Refused : goal.returns-in-Refused
 returns-in-Refused c = let c-row = c.row-1 in
     let c-chains = c.chains in
-    record { answer = answers-are (refused-numbers _ (chains-some _ _) _ _ (told-reads traced_numbers c-row.given.1 c-chains.ensures.answered)) c.put-in-Refused.ensures; area = room_enough _ _ _ (search rules) c-chains.ensures.area }
+    record { answer = answers-are (refused-numbers _ (chains-some _ _) _ _ (told-reads traced_numbers c.in-Refused.is c-chains.ensures.answered)) c.put-in-Refused.ensures; area = room_enough _ _ _ (search rules) c-chains.ensures.area }

@@ -10,7 +10,7 @@ pub returns-then-answer-lt-ANSWER_WORDS : goal.returns-then-answer-lt-ANSWER_WOR
 returns-then-answer-lt-ANSWER_WORDS c = record { answer = answers_short (search rules); counts = room-short _ _ _ (search rules); starts = room-short _ _ _ (search rules) }
 
 pub returns-in-Crossings : goal.returns-in-Crossings
-returns-in-Crossings c = let s = c.set_count in record { answer = answers-told check_numbers c.in-Crossings.is s.ensures.0 c.put.ensures; counts = room_enough _ _ _ (search rules) s.ensures.1.0; starts = room_enough _ _ _ (search rules) s.ensures.1.1 }
+returns-in-Crossings c = let s = c.set_count in record { answer = answers-told check_numbers c.in-Crossings.is s.ensures.result_value c.put.ensures; counts = room_enough _ _ _ (search rules) s.ensures.counts_after; starts = room_enough _ _ _ (search rules) s.ensures.starts_after }
 
 pub returns-in-Refused : goal.returns-in-Refused
-returns-in-Refused c = let s = c.set_count in record { answer = answers-are (refused-numbers _ (set-some _ _ _) _ _ (told-reads check_numbers c.in-Refused.is s.ensures.0)) c.put-in-Refused.ensures; counts = room_enough _ _ _ (search rules) s.ensures.1.0; starts = room_enough _ _ _ (search rules) s.ensures.1.1 }
+returns-in-Refused c = let s = c.set_count in record { answer = answers-are (refused-numbers _ (set-some _ _ _) _ _ (told-reads check_numbers c.in-Refused.is s.ensures.result_value)) c.put-in-Refused.ensures; counts = room_enough _ _ _ (search rules) s.ensures.counts_after; starts = room_enough _ _ _ (search rules) s.ensures.starts_after }

@@ -24,7 +24,7 @@ pub put_four-requires : goal.put_four-requires
 put_four-requires c = record { s0_bound = c.requires.s0_bound; word_count_in_bounds = omega (arith, under-place c.loop-i.invariant.1 2 (λ i. refl), under-long c.loop-i.invariant.1, c.requires.n_in_bounds, c.loop-i-test) }
 
 pub overflow_add-j : goal.overflow_add-j
-overflow_add-j c = omega (arith, c.before.before.before.before.before.before.before.before.before.before.before.well-formed, under-place c.loop-i.invariant.1 2 (λ i. refl), c.requires.n_in_bounds, c.loop-i-test)
+overflow_add-j c = omega (arith, c.well_formed, under-place c.loop-i.invariant.1 2 (λ i. refl), c.requires.n_in_bounds, c.loop-i-test)
 
 pub overflow_add-i : goal.overflow_add-i
 overflow_add-i c = omega (arith, c.loop-i-test)

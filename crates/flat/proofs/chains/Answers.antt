@@ -11,15 +11,15 @@ pub trace-requires : goal.trace-requires
 trace-requires c = let c-n = c.n-1 in
     let c-all-rows = c.all_rows in
     let c-args = c.args in
-    record { accepted = told-accepted (flat_of c-args.triangles.now c-args.edges.now c-args.counts.now) c-all-rows.result _ c-n.given.1 c-all-rows.ensures.0; sides_known = told-sides (flat_of c-args.triangles.now c-args.edges.now c-args.counts.now) c-all-rows.result _ c-n.given.1 c-all-rows.ensures.0 _ c-all-rows.ensures.1; n_value = told-number (flat_of c-args.triangles.now c-args.edges.now c-args.counts.now) c-all-rows.result _ c-n.given.1 c-all-rows.ensures.0 }
+    record { accepted = told-accepted (flat_of c-args.triangles.now c-args.edges.now c-args.counts.now) c-all-rows.result _ c.in-Crossings.is c-all-rows.ensures.r_value; sides_known = told-sides (flat_of c-args.triangles.now c-args.edges.now c-args.counts.now) c-all-rows.result _ c.in-Crossings.is c-all-rows.ensures.r_value _ c-all-rows.ensures.fact; n_value = told-number (flat_of c-args.triangles.now c-args.edges.now c-args.counts.now) c-all-rows.result _ c.in-Crossings.is c-all-rows.ensures.r_value }
 
 pub returns-in-Refused : goal.returns-in-Refused
 returns-in-Refused c = let c-all-rows = c.all_rows in
     let c-args = c.args in
-    refused-done (flat_of c-args.triangles.now c-args.edges.now c-args.counts.now) c-all-rows.result _ _ c.in-Refused.is c-all-rows.ensures.0 _
+    refused-done (flat_of c-args.triangles.now c-args.edges.now c-args.counts.now) c-all-rows.result _ _ c.in-Refused.is c-all-rows.ensures.r_value _
 
 pub returns-in-Crossings : goal.returns-in-Crossings
 returns-in-Crossings c = let c-n = c.n-1 in
     let c-all-rows = c.all_rows in
     let c-args = c.args in
-    traced_done (flat_of c-args.triangles.now c-args.edges.now c-args.counts.now) c-all-rows.result _ c-n.given.1 c-all-rows.ensures.0 c.trace.ensures
+    traced_done (flat_of c-args.triangles.now c-args.edges.now c-args.counts.now) c-all-rows.result _ c.in-Crossings.is c-all-rows.ensures.r_value c.trace.ensures

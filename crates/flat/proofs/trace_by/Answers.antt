@@ -37,22 +37,22 @@ returns-then-area-m c = let c-put-words = c.put_words-m in
     let c-put-steps = c.put_steps in
     let c-args = c.args in
     let c-pre = c.requires in
-    made-short (flat_of c-args.triangles.now c-args.edges.now c-args.counts.now) c-pre.0 c-args.sides.now c-pre.1.0 _ _ _ c-pre.1.1.0 c-pre.1.1.1.0 c-put-steps.ensures _ _ _ c-pre.1.1.1.1 c-put-words.ensures.0 c-put-words.ensures.1 _ c.if-area-m.true
+    made-short (flat_of c-args.triangles.now c-args.edges.now c-args.counts.now) c-pre.0 c-args.sides.now c-pre.1.0 _ _ _ c-pre.1.1.0 c-pre.1.1.1.0 c-put-steps.ensures _ _ _ c-pre.1.1.1.1 c-put-words.ensures.area_after c-put-words.ensures.value _ c.if-area-m.true
 
 pub copy_words-requires : goal.copy_words-requires
 copy_words-requires c = let c-put-words = c.put_words-m in
     let c-put-steps = c.put_steps in
     let c-args = c.args in
     let c-pre = c.requires in
-    let l = simp length-sets at (ap length c-put-words.ensures.0) in
-    record { m_in_bounds = omega (arith, made-few (flat_of c-args.triangles.now c-args.edges.now c-args.counts.now) c-pre.0 c-args.sides.now c-pre.1.0 _ _ _ c-pre.1.1.0 c-pre.1.1.1.0 c-put-steps.ensures _ _ _ c-pre.1.1.1.1 c-put-words.ensures.0 c-put-words.ensures.1, c-pre.1.1.1.1, l); m_in_bounds_2 = omega (arith, c.if-area-m.false) }
+    let l = simp length-sets at (ap length c-put-words.ensures.area_after) in
+    record { m_in_bounds = omega (arith, made-few (flat_of c-args.triangles.now c-args.edges.now c-args.counts.now) c-pre.0 c-args.sides.now c-pre.1.0 _ _ _ c-pre.1.1.0 c-pre.1.1.1.0 c-put-steps.ensures _ _ _ c-pre.1.1.1.1 c-put-words.ensures.area_after c-put-words.ensures.value, c-pre.1.1.1.1, l); m_in_bounds_2 = omega (arith, c.if-area-m.false) }
 
 pub overflow_cast-result : goal.overflow_cast-result
 overflow_cast-result c = let c-put-words = c.put_words-m in
     let c-put-steps = c.put_steps in
     let c-args = c.args in
     let c-pre = c.requires in
-    omega (arith, made-few (flat_of c-args.triangles.now c-args.edges.now c-args.counts.now) c-pre.0 c-args.sides.now c-pre.1.0 _ _ _ c-pre.1.1.0 c-pre.1.1.1.0 c-put-steps.ensures _ _ _ c-pre.1.1.1.1 c-put-words.ensures.0 c-put-words.ensures.1, c-pre.1.1.0, c-pre.0.few-crossings)
+    omega (arith, made-few (flat_of c-args.triangles.now c-args.edges.now c-args.counts.now) c-pre.0 c-args.sides.now c-pre.1.0 _ _ _ c-pre.1.1.0 c-pre.1.1.1.0 c-put-steps.ensures _ _ _ c-pre.1.1.1.1 c-put-words.ensures.area_after c-put-words.ensures.value, c-pre.1.1.0, c-pre.0.few-crossings)
 
 pub shape_of-next : goal.shape_of-next
 shape_of-next c = simp length-filled at (ap length c.put_steps.ensures)
@@ -68,4 +68,4 @@ returns c = let c-put-words = c.put_words-m in
     let c-put-steps = c.put_steps in
     let c-args = c.args in
     let c-pre = c.requires in
-    made-fits (flat_of c-args.triangles.now c-args.edges.now c-args.counts.now) c-pre.0 c-args.sides.now c-pre.1.0 _ _ _ c-pre.1.1.0 c-pre.1.1.1.0 c-put-steps.ensures _ _ _ c-pre.1.1.1.1 c-put-words.ensures.0 c-put-words.ensures.1 _ (omega (arith, c.if-area-m.false)) c.copy_words.ensures
+    made-fits (flat_of c-args.triangles.now c-args.edges.now c-args.counts.now) c-pre.0 c-args.sides.now c-pre.1.0 _ _ _ c-pre.1.1.0 c-pre.1.1.1.0 c-put-steps.ensures _ _ _ c-pre.1.1.1.1 c-put-words.ensures.area_after c-put-words.ensures.value _ (omega (arith, c.if-area-m.false)) c.copy_words.ensures

@@ -15,28 +15,28 @@ all_rows-r-requires c = record { edges_len = λ e. (lists_fine _ _ _ (sym c.row_
 pub returns-in-Refused : goal.returns-in-Refused
 returns-in-Refused c = let a = c.args in
     let t = c.all_rows-r in
-    let h = t.ensures.0 ∙ verdict (grid_of a.cells.now a.edges.now a.counts.now a.starts.now) _ c.row_2-wrong.ensures in
+    let h = t.ensures.result_value ∙ verdict (grid_of a.cells.now a.edges.now a.counts.now a.starts.now) _ c.row_2-wrong.ensures in
     let w = c.enum_told-1.given in
     record { result_value = h; laid = laid_kept (grid_of a.cells.now a.edges.now a.counts.now a.starts.now) (refused-keeps _ w.0.0 w.0.1.0 (ap check_numbers (sym w.1) ∙ h)) _ _ }
 
 pub write_names-requires : goal.write_names-requires
 write_names-requires c = let a = c.args in
     let t = c.all_rows-r in
-    let h = t.ensures.0 ∙ verdict (grid_of a.cells.now a.edges.now a.counts.now a.starts.now) _ c.row_2-wrong.ensures in
-    copying (grid_of a.cells.now a.edges.now a.counts.now a.starts.now) t.result _ c.in_default.is h t.new.1.1.1.1.0 t.new.1.1.1.1.1.0 t.ensures.1 _ (omega (arith, c.before.before.before.before.before.before.before.before.before.before.before.before.before.before.well-formed))
+    let h = t.ensures.result_value ∙ verdict (grid_of a.cells.now a.edges.now a.counts.now a.starts.now) _ c.row_2-wrong.ensures in
+    copying (grid_of a.cells.now a.edges.now a.counts.now a.starts.now) t.result _ c.in_default.is h t.new.1.1.1.1.0 t.new.1.1.1.1.1.0 t.ensures.where_accepted _ (omega (arith, c.well_formed))
 
 pub write_sides-requires : goal.write_sides-requires
 write_sides-requires c = let a = c.args in
     let t = c.all_rows-r in
-    let h = t.ensures.0 ∙ verdict (grid_of a.cells.now a.edges.now a.counts.now a.starts.now) _ c.row_2-wrong.ensures in
-    lowering (grid_of a.cells.now a.edges.now a.counts.now a.starts.now) t.result _ c.in_default.is h t.new.1.1.1.1.0 t.new.1.1.1.1.1.0 t.ensures.1 _ (omega (arith, c.before.before.before.before.before.before.before.before.before.before.before.before.before.before.before.before.before.well-formed))
+    let h = t.ensures.result_value ∙ verdict (grid_of a.cells.now a.edges.now a.counts.now a.starts.now) _ c.row_2-wrong.ensures in
+    lowering (grid_of a.cells.now a.edges.now a.counts.now a.starts.now) t.result _ c.in_default.is h t.new.1.1.1.1.0 t.new.1.1.1.1.1.0 t.ensures.where_accepted _ (omega (arith, c.well_formed))
 
 pub returns : goal.returns
 returns c = let a = c.args in
     let t = c.all_rows-r in
-    let h = t.ensures.0 ∙ verdict (grid_of a.cells.now a.edges.now a.counts.now a.starts.now) _ c.row_2-wrong.ensures in
+    let h = t.ensures.result_value ∙ verdict (grid_of a.cells.now a.edges.now a.counts.now a.starts.now) _ c.row_2-wrong.ensures in
     record {
       result_value = h;
-      laid = laid_filled (grid_of a.cells.now a.edges.now a.counts.now a.starts.now) t.result _ c.in_default.is h t.new.1.1.1.1.0 t.new.1.1.1.1.1.0 t.ensures.1 _ _ _ _
+      laid = laid_filled (grid_of a.cells.now a.edges.now a.counts.now a.starts.now) t.result _ c.in_default.is h t.new.1.1.1.1.0 t.new.1.1.1.1.1.0 t.ensures.where_accepted _ _ _ _
           c.write_names.ensures c.write_sides.ensures;
     }

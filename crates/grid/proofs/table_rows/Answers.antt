@@ -17,7 +17,7 @@ number_faces-many-requires c = let p = c.requires in record { numerable = rising
 pub early_rows-p-requires : goal.early_rows-p-requires
 early_rows-p-requires c = let p = c.requires in
     let F = c.number_faces-many in
-    record { rising_cells = p.numbering.ordered; low_chains = F.ensures.1.1; comparable = record { few = p.numbering.ordered.few; told = F.ensures.0; at_room = omega (arith, p.cell_tables.at_new.room, F.auto.1.1.1.1.1.1.1.1.1.0); same-room = omega (arith, p.cell_tables.same_new.room, F.auto.1.1.1.1.1.1.1.1.1.1.1.0) }; fresh = p.numbering.blank.near_new }
+    record { rising_cells = p.numbering.ordered; low_chains = F.ensures.low_chains; comparable = record { few = p.numbering.ordered.few; told = F.ensures.slots; at_room = omega (arith, p.cell_tables.at_new.room, F.auto.at); same-room = omega (arith, p.cell_tables.same_new.room, F.auto.same) }; fresh = p.numbering.blank.near_new }
 
 pub shape_of-near-then-p-n : goal.shape_of-near-then-p-n
 shape_of-near-then-p-n c = c.early_rows-p.auto.near
@@ -166,4 +166,4 @@ returns c = let cells = c.args.cells.now in
     let E = c.edge_rows in
     let w = c.early_rows-p.ensures.row5 c.if-p-n.false in
     let l : cell_count cells ≤ first (crowded cells) (cell_count cells) = omega (arith, w.1, c.if-p-n-2.false) in
-    record { result_value = E.ensures.0 ∙ answer-passes _ 5 6 refl _ refl l ∙ answer-passes _ 4 5 refl _ w.0 (le_refl _); where_accepted = worked _ _ _ E.result (c.early_rows-p.ensures.near-is c.if-p-n-2.false) E.ensures.1 }
+    record { result_value = E.ensures.result_value ∙ answer-passes _ 5 6 refl _ refl l ∙ answer-passes _ 4 5 refl _ w.0 (le_refl _); where_accepted = worked _ _ _ E.result (c.early_rows-p.ensures.near-is c.if-p-n-2.false) E.ensures.where_accepted }

@@ -51,12 +51,12 @@ put_over-requires c = let J = c.requires.1 in
 pub overflow_mul-result : goal.overflow_mul-result
 overflow_mul-result c = let J = c.requires.1 in
     let D = c.draw_at-d.ensures in
-    omega (arith, J.fits, many J (record { copied = c.copy_run.ensures; started = c.start_run.ensures }) c.args.area.now refl D.triangles_value.0 D.area_after, c.before.before.before.before.before.before.before.before.before.before.before.before.before.before.before.before.before.before.before.before.before.before.before.before.before.before.before.before.before.before.well-formed.1.1.1.1.1.1.1.1.1.1.1.0)
+    omega (arith, J.fits, many J (record { copied = c.copy_run.ensures; started = c.start_run.ensures }) c.args.area.now refl D.triangles_value.0 D.area_after, c.well_formed.1.1.1.1.1.1.1.1.1.1.1.0)
 
 pub overflow_add-result : goal.overflow_add-result
 overflow_add-result c = let J = c.requires.1 in
     let D = c.draw_at-d.ensures in
-    omega (arith, J.fits, many J (record { copied = c.copy_run.ensures; started = c.start_run.ensures }) c.args.area.now refl D.triangles_value.0 D.area_after, c.before.before.before.before.before.before.before.before.before.before.before.before.before.before.before.before.before.before.before.before.before.before.before.before.before.before.before.before.before.before.well-formed.1.1.1.1.1.1.1.1.1.1.1.0)
+    omega (arith, J.fits, many J (record { copied = c.copy_run.ensures; started = c.start_run.ensures }) c.args.area.now refl D.triangles_value.0 D.area_after, c.well_formed.1.1.1.1.1.1.1.1.1.1.1.0)
 
 pub returns : goal.returns
 returns c = let D = c.draw_at-d.ensures in record {

@@ -66,4 +66,4 @@ returns-in-Refused c = all_listed c.args.bytes.now c.put_refused-in-Refused.ensu
 pub returns-in-Lists : goal.returns-in-Lists
 returns-in-Lists c = let r = c.read in
     all_listed _ c.list_grid.ensures.stored c.list_grid.ensures.few
-    (read_listed c.args.bytes.now c.if-bytes-gt-MOST_BYTES.false _ _ (told (goal.at.returns-in-Lists c).In-Lists) _ _ _ r.ensures.1.0 r.ensures.1.1.0 r.ensures.1.1.1) (search rules)
+    (read_listed c.args.bytes.now c.if-bytes-gt-MOST_BYTES.false _ _ (told (goal.at.returns-in-Lists c).In-Lists) _ _ _ r.ensures.nodes r.ensures.ends r.ensures.counts) (search rules)

@@ -52,7 +52,7 @@ pub overflow_add-i : goal.overflow_add-i
 overflow_add-i c = let A = c.args in
     let L = c.loop-p in
     let K = going_looped L.invariant.0 (omega (arith, c.loop-p-test)) c.walk-w.ensures in
-    omega (arith, middle-room A.nodes.now A.c A.area.now A.at c.requires.middles_room L.i L.invariant.1 K, stored_long L.invariant.1, c.before.before.before.before.before.before.before.before.before.before.before.before.before.before.before.before.before.before.before.before.before.before.before.before.before.before.before.before.before.before.before.before.before.before.before.before.well-formed)
+    omega (arith, middle-room A.nodes.now A.c A.area.now A.at c.requires.middles_room L.i L.invariant.1 K, stored_long L.invariant.1, c.well_formed)
 
 pub overflow_add-p-in-loop-p : goal.overflow_add-p-in-loop-p
 overflow_add-p-in-loop-p c = omega (arith, c.loop-p.invariant.0.few)

@@ -29,4 +29,4 @@ returns c = let c-triangle-rows = c.triangle_rows in
     let c-row-2 = c.row_2 in
     let c-if1 = c.if-row_1 in
     let c-row-1 = c.row_1 in
-    record { r_value = c-triangle-rows.ensures.0 ∙ answer-passes _ 2 3 refl 1 (whole-fine _ (sym c-row-2.ensures ∙ c-if2.false)) (omega arith) ∙ answer-passes _ 1 2 refl 1 (whole-fine _ (sym c-row-1.ensures ∙ c-if1.false)) (omega arith) ∙ answer-start _; fact = c-triangle-rows.ensures.1 }
+    record { r_value = c-triangle-rows.ensures.r_value ∙ answer-passes _ 2 3 refl 1 (whole-fine _ (sym c-row-2.ensures ∙ c-if2.false)) (omega arith) ∙ answer-passes _ 1 2 refl 1 (whole-fine _ (sym c-row-1.ensures ∙ c-if1.false)) (omega arith) ∙ answer-start _; fact = c-triangle-rows.ensures.fact }

@@ -26,4 +26,4 @@ returns c = let c-side-rows = c.side_rows in
     let c-if1 = c.if-p6-counts in
     let c-edge-order = c.edge_order-p6 in
     let c-pre = c.requires in
-    record { r_value = c-side-rows.ensures.0 ∙ answer-passes _ 18 7 refl _ c-row-18.ensures c-if2.false ∙ answer-passes _ 6 18 refl _ (c-edge-order.ensures ∙ order_is _ _ c-pre.pairs) c-if1.false; fact = c-side-rows.ensures.1 }
+    record { r_value = c-side-rows.ensures.r_value ∙ answer-passes _ 18 7 refl _ c-row-18.ensures c-if2.false ∙ answer-passes _ 6 18 refl _ (c-edge-order.ensures ∙ order_is _ _ c-pre.pairs) c-if1.false; fact = c-side-rows.ensures.fact }

@@ -30,7 +30,7 @@ lower_entries-p7-requires c = let P = c.requires in
 pub shape_of-sides-then-p7-f : goal.shape_of-sides-then-p7-f
 shape_of-sides-then-p7-f c = let c-lower-entries = c.lower_entries-p7 in
     let c-edge-places = c.edge_places-p8 in
-    simp length-filled at (ap length c-lower-entries.ensures.1) ∙ simp length-filled at (ap length c-edge-places.ensures.1)
+    simp length-filled at (ap length c-lower-entries.ensures.sides_after) ∙ simp length-filled at (ap length c-edge-places.ensures.places_after)
 
 pub returns-then-p7-f : goal.returns-then-p7-f
 unfolding since rows
@@ -48,7 +48,7 @@ returns-then-p7-f c = let P = c.requires in
 pub shape_of-sides-then-p8-counts : goal.shape_of-sides-then-p8-counts
 shape_of-sides-then-p8-counts c = let c-lower-entries = c.lower_entries-p7 in
     let c-edge-places = c.edge_places-p8 in
-    simp length-filled at (ap length c-lower-entries.ensures.1) ∙ simp length-filled at (ap length c-edge-places.ensures.1)
+    simp length-filled at (ap length c-lower-entries.ensures.sides_after) ∙ simp length-filled at (ap length c-edge-places.ensures.places_after)
 
 pub returns-then-p8-counts : goal.returns-then-p8-counts
 unfolding since rows
@@ -66,7 +66,7 @@ returns-then-p8-counts c = let P = c.requires in
 pub shape_of-sides : goal.shape_of-sides
 shape_of-sides c = let c-lower-entries = c.lower_entries-p7 in
     let c-edge-places = c.edge_places-p8 in
-    simp length-filled at (ap length c-lower-entries.ensures.1) ∙ simp length-filled at (ap length c-edge-places.ensures.1)
+    simp length-filled at (ap length c-lower-entries.ensures.sides_after) ∙ simp length-filled at (ap length c-edge-places.ensures.places_after)
 
 pub returns : goal.returns
 unfolding since rows

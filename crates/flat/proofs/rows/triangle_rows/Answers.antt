@@ -47,4 +47,4 @@ returns c = let c-edge-rows = c.edge_rows in
     let c-row-4 = c.row_4-p4 in
     let c-if1 = c.if-p3-n in
     let c-row-3 = c.row_3-p3 in
-    record { r_value = c-edge-rows.ensures.0 ∙ answer-passes _ 5 6 refl _ c-row-5.ensures c-if3.false ∙ answer-passes _ 4 5 refl _ c-row-4.ensures c-if2.false ∙ answer-passes _ 3 4 refl _ c-row-3.ensures c-if1.false; fact = c-edge-rows.ensures.1 }
+    record { r_value = c-edge-rows.ensures.r_value ∙ answer-passes _ 5 6 refl _ c-row-5.ensures c-if3.false ∙ answer-passes _ 4 5 refl _ c-row-4.ensures c-if2.false ∙ answer-passes _ 3 4 refl _ c-row-3.ensures c-if1.false; fact = c-edge-rows.ensures.fact }

@@ -46,7 +46,7 @@ loop-p-preserved c = let c-put-chain = c.put_chain-at in
     let c-chain-at = c.chain_at-c in
     let c-loop = c.loop-p in
     let c-pre = c.requires in
-    (c-put-chain.ensures.1.same ∙ c-loop.invariant.0, writing_more _ _ c-pre.0.turns c-loop.invariant.1 (omega arith) c-chain-at.ensures c-put-chain.ensures.1 c-put-chain.ensures.0)
+    (c-put-chain.ensures.marked_on.same ∙ c-loop.invariant.0, writing_more _ _ c-pre.0.turns c-loop.invariant.1 (omega arith) c-chain-at.ensures c-put-chain.ensures.marked_on c-put-chain.ensures.stored)
 
 pub shape_of-area : goal.shape_of-area
 shape_of-area c = stored_long c.loop-p.invariant.1.stored

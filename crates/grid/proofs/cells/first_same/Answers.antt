@@ -27,7 +27,7 @@ returns-then-earlier-gt0 c = let L = c.loop-c in
     let e = c.earlier in
     let k = c.wide.ensures in
     let kl : c.wide.result < length c.args.seen.now = omega (arith, k, p.cells.few (4 * L.c), p.fresh.room) in
-    let r = meets_last w.1 _ k kl _ e.ensures.0 in
+    let r = meets_last w.1 _ k kl _ e.ensures.value in
     let t = repeats-last _ _ _ p.cells L.c (omega arith) in
     seeking_hit _ w.0 (omega arith) (t ∙ rw (← r) (lt-ltb _ _ c.if-earlier-gt0.true))
 
@@ -38,9 +38,9 @@ loop-c-preserved c = let L = c.loop-c in
     let e = c.earlier in
     let k = c.wide.ensures in
     let kl : c.wide.result < length c.args.seen.now = omega (arith, k, p.cells.few (4 * L.c), p.fresh.room) in
-    let r = meets_last w.1 _ k kl _ e.ensures.0 in
+    let r = meets_last w.1 _ k kl _ e.ensures.value in
     let t = repeats-last _ _ _ p.cells L.c (omega arith) in
-    (seeking_more _ w.0 (omega arith) (t ∙ rw (← r) (le-ltb _ _ c.if-earlier-gt0.false)), meets_more w.1 _ k kl _ e.ensures.1)
+    (seeking_more _ w.0 (omega arith) (t ∙ rw (← r) (le-ltb _ _ c.if-earlier-gt0.false)), meets_more w.1 _ k kl _ e.ensures.seen_after)
 
 pub returns : goal.returns
 returns c = seeking_all _ c.loop-c.invariant.0 (omega arith)

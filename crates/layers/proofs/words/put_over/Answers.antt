@@ -22,10 +22,10 @@ put_triangle-requires c = let A = c.args in
 pub overflow_add-i : goal.overflow_add-i
 overflow_add-i c = let A = c.args in
     let L = c.loop-t in
-    omega (arith, c.requires.0, at-is (table_over A.names.now A.over.now A.from) A.area.now A.at L.t L.invariant.1, stored_long L.invariant.1, c.before.before.before.before.before.before.before.well-formed.1.1.1.0)
+    omega (arith, c.requires.0, at-is (table_over A.names.now A.over.now A.from) A.area.now A.at L.t L.invariant.1, stored_long L.invariant.1, c.well_formed.1.1.1.0)
 
 pub overflow_add-t : goal.overflow_add-t
-overflow_add-t c = omega (arith, c.requires.0, c.before.before.before.before.before.before.before.well-formed.1.1.1.0)
+overflow_add-t c = omega (arith, c.requires.0, c.well_formed.1.1.1.0)
 
 pub loop-t-preserved : goal.loop-t-preserved
 loop-t-preserved c = let A = c.args in

@@ -57,7 +57,7 @@ pub place_edge-requires : goal.place_edge-requires
 place_edge-requires c = let f = start_fits c.args.counts.now c.loop-e.e (omega arith) in record { given = omega (arith, c.loop-e.invariant.1, c.wide16-n.ensures.0, c.requires.given, f); room = omega (arith, c.loop-e.invariant.1, stored_long c.loop-e.invariant.2, c.wide16-n.ensures.0, c.requires.room, f) }
 
 pub overflow_add-g : goal.overflow_add-g
-overflow_add-g c = let a = c.args in let l = c.loop-e in omega (arith, l.invariant.1, c.wide16-n.ensures.0, c.requires.given, c.before.before.before.before.before.before.before.before.before.before.before.before.before.before.before.before.before.before.before.well-formed.1.1.1.0.0, start_fits a.counts.now l.e (omega arith))
+overflow_add-g c = let a = c.args in let l = c.loop-e in omega (arith, l.invariant.1, c.wide16-n.ensures.0, c.requires.given, c.well_formed.1.1.1.0.0, start_fits a.counts.now l.e (omega arith))
 
 pub loop-e-preserved : goal.loop-e-preserved
 loop-e-preserved c = let l = c.loop-e in (omega arith, omega (arith, l.invariant.1, c.wide16-n.ensures.0, start-next c.args.counts.now l.e), all_more c.args.edges.now c.args.counts.now c.args.nodes.now c.args.fractions.now l.e l.g c.wide16-n.result l.invariant.2 (omega arith) l.invariant.1 c.wide16-n.ensures.0 (c.load-u.ensures ∙ ap (place_at c.args.nodes.now) c.wide16.ensures.0) (c.load-v.ensures ∙ ap (place_at c.args.nodes.now) c.wide16-in-loop-e.ensures.0) c.place_edge.ensures)
