@@ -16,20 +16,19 @@ pub returns-in-Refused : goal.returns-in-Refused
 returns-in-Refused c = let a = c.args in
     let t = c.all_rows-r in
     let h = t.ensures.result_value ∙ verdict (grid_of a.cells.now a.edges.now a.counts.now a.starts.now) _ c.row_2-wrong.ensures in
-    let w = c.enum_told-1.given in
-    record { result_value = h; laid = laid_kept (grid_of a.cells.now a.edges.now a.counts.now a.starts.now) (refused-keeps _ w.0.0 w.0.1.0 (ap check_numbers (sym w.1) ∙ h)) _ _ }
+    record { result_value = h; laid = laid_kept (grid_of a.cells.now a.edges.now a.counts.now a.starts.now) (refused-keeps _ c.in-Refused.field-0 c.in-Refused.field-1 (ap check_numbers (sym c.in-Refused.is) ∙ h)) _ _ }
 
 pub write_names-requires : goal.write_names-requires
 write_names-requires c = let a = c.args in
     let t = c.all_rows-r in
     let h = t.ensures.result_value ∙ verdict (grid_of a.cells.now a.edges.now a.counts.now a.starts.now) _ c.row_2-wrong.ensures in
-    copying (grid_of a.cells.now a.edges.now a.counts.now a.starts.now) t.result _ c.in_default.is h t.new.1.1.1.1.0 t.new.1.1.1.1.1.0 t.ensures.where_accepted _ (omega (arith, c.well_formed))
+    copying (grid_of a.cells.now a.edges.now a.counts.now a.starts.now) t.result _ c.in_default.is h t.new.near t.new.sides t.ensures.where_accepted _ (omega (arith, c.well_formed))
 
 pub write_sides-requires : goal.write_sides-requires
 write_sides-requires c = let a = c.args in
     let t = c.all_rows-r in
     let h = t.ensures.result_value ∙ verdict (grid_of a.cells.now a.edges.now a.counts.now a.starts.now) _ c.row_2-wrong.ensures in
-    lowering (grid_of a.cells.now a.edges.now a.counts.now a.starts.now) t.result _ c.in_default.is h t.new.1.1.1.1.0 t.new.1.1.1.1.1.0 t.ensures.where_accepted _ (omega (arith, c.well_formed))
+    lowering (grid_of a.cells.now a.edges.now a.counts.now a.starts.now) t.result _ c.in_default.is h t.new.near t.new.sides t.ensures.where_accepted _ (omega (arith, c.well_formed))
 
 pub returns : goal.returns
 returns c = let a = c.args in
@@ -37,6 +36,6 @@ returns c = let a = c.args in
     let h = t.ensures.result_value ∙ verdict (grid_of a.cells.now a.edges.now a.counts.now a.starts.now) _ c.row_2-wrong.ensures in
     record {
       result_value = h;
-      laid = laid_filled (grid_of a.cells.now a.edges.now a.counts.now a.starts.now) t.result _ c.in_default.is h t.new.1.1.1.1.0 t.new.1.1.1.1.1.0 t.ensures.where_accepted _ _ _ _
+      laid = laid_filled (grid_of a.cells.now a.edges.now a.counts.now a.starts.now) t.result _ c.in_default.is h t.new.near t.new.sides t.ensures.where_accepted _ _ _ _
           c.write_names.ensures c.write_sides.ensures;
     }

@@ -8,6 +8,7 @@ use lib.ListN.{length, get_or}
 use Rattle.counting.proofs.Search.{below-or}
 use Rattle.cell.proofs.Values.{past_end}
 use Rattle.cell.proofs.entries.greatest.Goals as goal
+use Rattle.cell.proofs.entries.greatest.Goals.{then-most-n, else-most-n}
 
 -- one more count that is not above
 more : (counts : List ℕ) {i most next : ℕ} → ((j : ℕ) → j < i → get_or counts j 0 ≤ most) → most ≤ next → get_or counts i 0 ≤ next → (j : ℕ) → j < i + 1 → get_or counts j 0 ≤ next
@@ -21,8 +22,8 @@ loop-i-preserved c = (
   omega arith,
   more c.args.counts.now
       c.loop-i.invariant.1
-      (⊎_elim (λ w. omega arith) (λ w. omega arith) c.if-most-n.branch)
-      (⊎_elim (λ w. omega arith) (λ w. omega arith) c.if-most-n.branch),
+      (elim c.if-most-n.branch [ then-most-n w ↦ omega arith | else-most-n w ↦ omega arith ])
+      (elim c.if-most-n.branch [ then-most-n w ↦ omega arith | else-most-n w ↦ omega arith ]),
 )
 
 pub returns : goal.returns

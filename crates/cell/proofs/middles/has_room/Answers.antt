@@ -27,7 +27,7 @@ pub shape_of-halves : goal.shape_of-halves
 shape_of-halves c = c.count-t.ensures.used.halves_kept.long
 
 pub shape_of-points : goal.shape_of-points
-shape_of-points c = c.count-t.ensures.used.Points-kept.long
+shape_of-points c = c.count-t.ensures.used.points_kept.long
 
 pub returns : goal.returns
 returns c = record { value = fits_count c.args.c c.args.room c.args.at (sym c.is_placeable.ensures ∙ not-false _ c.if-not-is_placeable.false-raw) (omega arith) c.count-t.ensures.value.0; used = c.count-t.ensures.used }

@@ -7,4 +7,4 @@ use Rattle.grid.proofs.shared.edge_places.Goals as goal
 
 pub returns : goal.returns
 unfolding edge_key key_room keyless placed_at with_key pair_has pair_lacks paired_at place_room same_key has_key
-returns c = record { value = (c.pairs_of.ensures).0; places_after = (c.pairs_of.ensures).1 }
+returns c = record { value = c.pairs_of.ensures.value; places_after = c.pairs_of.ensures.places_after }
