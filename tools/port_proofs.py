@@ -211,7 +211,7 @@ class Function:
             bases[m[1]] = m[2].count(".before")
 
         # a let of a whole contract: its clauses have names now
-        for m in re.finditer(r"let (\w+) = " + re.escape(var) + r"((?:\.before)*)\.([\w'-]+?)(\.ensures)? in", text):
+        for m in re.finditer(r"let ([\w-]+) = " + re.escape(var) + r"((?:\.before)*)\.([\w'-]+?)(\.ensures)? in", text):
             depth, fields = m[2].count(".before"), None
             if m[3] == "requires" and not m[4] and self.of["pre"]:
                 fields = self.of["pre"]["fields"]
@@ -222,7 +222,7 @@ class Function:
                         break
             if fields and len(fields) > 1:
                 text = re.sub(
-                    rf"(?<![\w.'-]){m[1]}((?:\.\d+)+)(?![\w])",
+                    rf"(?<![\w.'-]){re.escape(m[1])}((?:\.\d+)+)(?![\w])",
                     lambda w: ".".join([m[1], *(clause(w[1][1:].split("."), fields) or [w[1][1:]])]),
                     text,
                 )
@@ -242,10 +242,10 @@ class Function:
 
                     text = re.sub(rf"(?<![\w.'-]){re.escape(m[1])}((?:\.[\w'-]+)+)(?![\w'-])", behind, text)
                     break
-        for m in re.finditer(r"let (\w+) = " + re.escape(var) + r"(?:\.before)*\.args in", text):
+        for m in re.finditer(r"let ([\w-]+) = " + re.escape(var) + r"(?:\.before)*\.args in", text):
             for o, n in self.of["args"]:
                 if o.startswith(".args ."):
-                    text = re.sub(rf"(?<![\w.'-]){m[1]}\.{re.escape(o[7:])}(?![\w'-])", f"{m[1]}.{n[7:]}", text)
+                    text = re.sub(rf"(?<![\w.'-]){re.escape(m[1])}\.{re.escape(o[7:])}(?![\w'-])", f"{m[1]}.{n[7:]}", text)
 
         def one(m):
             base, befores, rest = m[1], m[2].count(".before"), m[3]
@@ -283,7 +283,10 @@ class Function:
         for name in bases:
             if name != var and not re.search(rf"(?<![\w.'-]){name}(?![\w'-])", re.sub(rf"let {name} = [^\n]*? in", "", text)):
                 text = re.sub(rf"let {name} = \(goal\.at\.\S+ {var}\)\.\S+ in\s*", "", text)
-        # a bare record that a tactic is not asked for
+        # a let that nothing names any more
+        for m in list(re.finditer(r"let ([\w-]+) = " + re.escape(var) + r"\.[\w'.-]+ in\s*", text)):
+            if len(re.findall(rf"(?<![\w.'-]){re.escape(m[1])}(?![\w'-])", text)) == 1:
+                text = text.replace(m[0], "")
         return text
 
 
@@ -293,10 +296,10 @@ def blocks(text):
     for line in lines:
         starts = line and not line[0].isspace() and not line.startswith(("unfolding", ")", "]", "}"))
         if starts and cur and not (cur[-1].startswith("--")):
-            name = re.match(rf"(?:abbrev |unfoldable |pub )*({WORD})", line)[1]
+            name = re.match(rf"(?:abbrev |unfoldable |pub |record |data )*({WORD})", line)[1]
             head = next((it for it in cur if not it.startswith("--")), "")
-            its = re.match(rf"(?:abbrev |unfoldable |pub )*({WORD})", head)
-            if not (its and its[1] == name and not re.match(rf"(?:abbrev |unfoldable |pub )*{re.escape(name)} *:", line)):
+            its = re.match(rf"(?:abbrev |unfoldable |pub |record |data )*({WORD})", head)
+            if not (its and its[1] == name and name != "module" and not re.match(rf"(?:abbrev |unfoldable |pub )*{re.escape(name)} *:", line)):
                 out.append("\n".join(cur).rstrip())
                 cur = []
         cur.append(line)
@@ -314,9 +317,10 @@ def convert(folder, fn, crate):
     order = []
     for block in blocks(rest):
         bare = "\n".join(it for it in block.split("\n") if not it.startswith("--"))
-        m = re.match(rf"(?:abbrev |unfoldable |pub )*({WORD})", bare)
-        items[m[1]] = block
-        order.append(m[1])
+        m = re.match(rf"(?:abbrev |unfoldable |pub |record |data )*({WORD})", bare)
+        name = f"module#{len(order)}" if m[1] == "module" else m[1]
+        items[name] = block
+        order.append(name)
     spec = next((it for it in order if "statement M" in items[it] and "tie.close" in items[it]), None)
     if spec is None:
         return "no tie"
@@ -462,6 +466,9 @@ def convert(folder, fn, crate):
         for it in lifted:
             b = items[it]
             b = re.sub(rf"(?m)^(abbrev |unfoldable )?(pub )?(?={re.escape(it)} *:)", lambda m: (m[1] or "") + "pub ", b, count=1)
+            if re.search(rf"(?m)^record {re.escape(it)}", b):
+                b = re.sub(rf"(?m)^record (?={re.escape(it)})", "pub record ", b)
+                b = re.sub(rf"(?m)^(  )(?=[^\s(){{}}:-]+ : )", r"\1pub ", b)
             blocks_of.append(b)
         out["Invariants.antt"] = "\n".join([*keep, f"use {module}.Given as goal"]) + "\n\n" + "\n\n".join([*blocks_of, *given]) + "\n"
     if answers:

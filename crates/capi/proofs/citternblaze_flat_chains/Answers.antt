@@ -10,11 +10,7 @@ pub returns-then-answer-lt-ANSWER_WORDS : goal.returns-then-answer-lt-ANSWER_WOR
 returns-then-answer-lt-ANSWER_WORDS c = record { answer = answers_short (search rules); area = room-short _ _ _ (search rules) }
 
 pub returns-in-Words : goal.returns-in-Words
-returns-in-Words c = let c-n = c.n-1 in
-    let c-chains = c.chains in
-    record { answer = answers-told traced_numbers c.in-Words.is c-chains.ensures.answered c.put.ensures; area = room_enough _ _ _ (search rules) c-chains.ensures.area }
+returns-in-Words c = let c-chains = c.chains in record { answer = answers-told traced_numbers c.in-Words.is c-chains.ensures.answered c.put.ensures; area = room_enough _ _ _ (search rules) c-chains.ensures.area }
 
 pub returns-in-Refused : goal.returns-in-Refused
-returns-in-Refused c = let c-row = c.row-1 in
-    let c-chains = c.chains in
-    record { answer = answers-are (refused-numbers _ (chains-some _ _) _ _ (told-reads traced_numbers c.in-Refused.is c-chains.ensures.answered)) c.put-in-Refused.ensures; area = room_enough _ _ _ (search rules) c-chains.ensures.area }
+returns-in-Refused c = let c-chains = c.chains in record { answer = answers-are (refused-numbers _ (chains-some _ _) _ _ (told-reads traced_numbers c.in-Refused.is c-chains.ensures.answered)) c.put-in-Refused.ensures; area = room_enough _ _ _ (search rules) c-chains.ensures.area }

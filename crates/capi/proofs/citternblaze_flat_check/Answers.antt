@@ -6,11 +6,9 @@ use Rattle.answer.proofs.Answer.{refused-numbers}
 use Rattle.capi.proofs.citternblaze_flat_check.Goals as goal
 
 pub returns-in-Crossings : goal.returns-in-Crossings
-returns-in-Crossings c = let c-n = c.n-1 in
-    let c-check = c.check in
+returns-in-Crossings c = let c-check = c.check in
     answers-told check_numbers c.in-Crossings.is c-check.ensures c.put.ensures
 
 pub returns-in-Refused : goal.returns-in-Refused
-returns-in-Refused c = let c-row = c.row-1 in
-    let c-check = c.check in
+returns-in-Refused c = let c-check = c.check in
     answers-are (refused-numbers _ (never-empty _) _ _ (told-reads check_numbers c.in-Refused.is c-check.ensures)) c.put-in-Refused.ensures

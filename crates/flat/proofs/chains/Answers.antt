@@ -8,8 +8,7 @@ pub all_rows-requires : goal.all_rows-requires
 all_rows-requires c = refl
 
 pub trace-requires : goal.trace-requires
-trace-requires c = let c-n = c.n-1 in
-    let c-all-rows = c.all_rows in
+trace-requires c = let c-all-rows = c.all_rows in
     let c-args = c.args in
     record { accepted = told-accepted (flat_of c-args.triangles.now c-args.edges.now c-args.counts.now) c-all-rows.result _ c.in-Crossings.is c-all-rows.ensures.r_value; sides_known = told-sides (flat_of c-args.triangles.now c-args.edges.now c-args.counts.now) c-all-rows.result _ c.in-Crossings.is c-all-rows.ensures.r_value _ c-all-rows.ensures.fact; n_value = told-number (flat_of c-args.triangles.now c-args.edges.now c-args.counts.now) c-all-rows.result _ c.in-Crossings.is c-all-rows.ensures.r_value }
 
@@ -19,7 +18,6 @@ returns-in-Refused c = let c-all-rows = c.all_rows in
     refused-done (flat_of c-args.triangles.now c-args.edges.now c-args.counts.now) c-all-rows.result _ _ c.in-Refused.is c-all-rows.ensures.r_value _
 
 pub returns-in-Crossings : goal.returns-in-Crossings
-returns-in-Crossings c = let c-n = c.n-1 in
-    let c-all-rows = c.all_rows in
+returns-in-Crossings c = let c-all-rows = c.all_rows in
     let c-args = c.args in
     traced_done (flat_of c-args.triangles.now c-args.edges.now c-args.counts.now) c-all-rows.result _ c.in-Crossings.is c-all-rows.ensures.r_value c.trace.ensures

@@ -13,18 +13,18 @@ overflow_mul-triangles c = omega (arith, c.requires.accepted.few-triangles)
 
 pub overflow_mul-n : goal.overflow_mul-n
 overflow_mul-n c = let c-pre = c.requires in
-    omega (arith, c-pre.1.1.0, c-pre.0.few-crossings)
+    omega (arith, c-pre.n_value, c-pre.accepted.few-crossings)
 
 pub put_steps-requires : goal.put_steps-requires
 put_steps-requires c = let c-args = c.args in
     let c-pre = c.requires in
-    record { sides = sides_are (flat_of c-args.triangles.now c-args.edges.now c-args.counts.now) c-pre.0 _ c-pre.1.0; darts_value = omega (arith, c-pre.1.1.0); darts_in_bounds = c-pre.1.1.1.0 }
+    record { sides = sides_are (flat_of c-args.triangles.now c-args.edges.now c-args.counts.now) c-pre.accepted _ c-pre.sides_known; darts_value = omega (arith, c-pre.n_value); darts_in_bounds = c-pre.n_in_bounds }
 
 pub put_words-m-requires : goal.put_words-m-requires
 put_words-m-requires c = let c-put-steps = c.put_steps in
     let c-args = c.args in
     let c-pre = c.requires in
-    record { step_table = is-linked (flat_of c-args.triangles.now c-args.edges.now c-args.counts.now) c-pre.0 c-args.sides.now c-pre.1.0 _ _ _ c-pre.1.1.0 c-pre.1.1.1.0 c-put-steps.ensures; next_in_bounds = omega (arith, words-few (flat_of c-args.triangles.now c-args.edges.now c-args.counts.now) c-pre.0 c-args.sides.now c-pre.1.0 _ _ _ c-pre.1.1.0 c-pre.1.1.1.0 c-put-steps.ensures, c-pre.1.1.1.1) }
+    record { step_table = is-linked (flat_of c-args.triangles.now c-args.edges.now c-args.counts.now) c-pre.accepted c-args.sides.now c-pre.sides_known _ _ _ c-pre.n_value c-pre.n_in_bounds c-put-steps.ensures; next_in_bounds = omega (arith, words-few (flat_of c-args.triangles.now c-args.edges.now c-args.counts.now) c-pre.accepted c-args.sides.now c-pre.sides_known _ _ _ c-pre.n_value c-pre.n_in_bounds c-put-steps.ensures, c-pre.n_in_bounds_2) }
 
 pub shape_of-next-then-area-m : goal.shape_of-next-then-area-m
 shape_of-next-then-area-m c = simp length-filled at (ap length c.put_steps.ensures)
@@ -37,7 +37,7 @@ returns-then-area-m c = let c-put-words = c.put_words-m in
     let c-put-steps = c.put_steps in
     let c-args = c.args in
     let c-pre = c.requires in
-    made-short (flat_of c-args.triangles.now c-args.edges.now c-args.counts.now) c-pre.0 c-args.sides.now c-pre.1.0 _ _ _ c-pre.1.1.0 c-pre.1.1.1.0 c-put-steps.ensures _ _ _ c-pre.1.1.1.1 c-put-words.ensures.area_after c-put-words.ensures.value _ c.if-area-m.true
+    made-short (flat_of c-args.triangles.now c-args.edges.now c-args.counts.now) c-pre.accepted c-args.sides.now c-pre.sides_known _ _ _ c-pre.n_value c-pre.n_in_bounds c-put-steps.ensures _ _ _ c-pre.n_in_bounds_2 c-put-words.ensures.area_after c-put-words.ensures.value _ c.if-area-m.true
 
 pub copy_words-requires : goal.copy_words-requires
 copy_words-requires c = let c-put-words = c.put_words-m in
@@ -45,14 +45,14 @@ copy_words-requires c = let c-put-words = c.put_words-m in
     let c-args = c.args in
     let c-pre = c.requires in
     let l = simp length-sets at (ap length c-put-words.ensures.area_after) in
-    record { m_in_bounds = omega (arith, made-few (flat_of c-args.triangles.now c-args.edges.now c-args.counts.now) c-pre.0 c-args.sides.now c-pre.1.0 _ _ _ c-pre.1.1.0 c-pre.1.1.1.0 c-put-steps.ensures _ _ _ c-pre.1.1.1.1 c-put-words.ensures.area_after c-put-words.ensures.value, c-pre.1.1.1.1, l); m_in_bounds_2 = omega (arith, c.if-area-m.false) }
+    record { m_in_bounds = omega (arith, made-few (flat_of c-args.triangles.now c-args.edges.now c-args.counts.now) c-pre.accepted c-args.sides.now c-pre.sides_known _ _ _ c-pre.n_value c-pre.n_in_bounds c-put-steps.ensures _ _ _ c-pre.n_in_bounds_2 c-put-words.ensures.area_after c-put-words.ensures.value, c-pre.n_in_bounds_2, l); m_in_bounds_2 = omega (arith, c.if-area-m.false) }
 
 pub overflow_cast-result : goal.overflow_cast-result
 overflow_cast-result c = let c-put-words = c.put_words-m in
     let c-put-steps = c.put_steps in
     let c-args = c.args in
     let c-pre = c.requires in
-    omega (arith, made-few (flat_of c-args.triangles.now c-args.edges.now c-args.counts.now) c-pre.0 c-args.sides.now c-pre.1.0 _ _ _ c-pre.1.1.0 c-pre.1.1.1.0 c-put-steps.ensures _ _ _ c-pre.1.1.1.1 c-put-words.ensures.area_after c-put-words.ensures.value, c-pre.1.1.0, c-pre.0.few-crossings)
+    omega (arith, made-few (flat_of c-args.triangles.now c-args.edges.now c-args.counts.now) c-pre.accepted c-args.sides.now c-pre.sides_known _ _ _ c-pre.n_value c-pre.n_in_bounds c-put-steps.ensures _ _ _ c-pre.n_in_bounds_2 c-put-words.ensures.area_after c-put-words.ensures.value, c-pre.n_value, c-pre.accepted.few-crossings)
 
 pub shape_of-next : goal.shape_of-next
 shape_of-next c = simp length-filled at (ap length c.put_steps.ensures)
@@ -68,4 +68,4 @@ returns c = let c-put-words = c.put_words-m in
     let c-put-steps = c.put_steps in
     let c-args = c.args in
     let c-pre = c.requires in
-    made-fits (flat_of c-args.triangles.now c-args.edges.now c-args.counts.now) c-pre.0 c-args.sides.now c-pre.1.0 _ _ _ c-pre.1.1.0 c-pre.1.1.1.0 c-put-steps.ensures _ _ _ c-pre.1.1.1.1 c-put-words.ensures.area_after c-put-words.ensures.value _ (omega (arith, c.if-area-m.false)) c.copy_words.ensures
+    made-fits (flat_of c-args.triangles.now c-args.edges.now c-args.counts.now) c-pre.accepted c-args.sides.now c-pre.sides_known _ _ _ c-pre.n_value c-pre.n_in_bounds c-put-steps.ensures _ _ _ c-pre.n_in_bounds_2 c-put-words.ensures.area_after c-put-words.ensures.value _ (omega (arith, c.if-area-m.false)) c.copy_words.ensures

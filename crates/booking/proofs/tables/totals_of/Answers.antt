@@ -26,32 +26,31 @@ use Rattle.booking.specs.claims.Booking.{booked}
 use Rattle.booking.specs.work.Fans.{fans_numbers, fans_answer}
 use Rattle.booking.specs.work.Totals.{booked_triangles, walked_crossings, common_at, booked_at, known_at, crossings_at}
 use Rattle.booking.proofs.Totals.{triangles-told, crossings-told, booked-most, crossings-most, none-booked, none-walked, all-booked, all-walked, placed, known-few}
+use Rattle.booking.proofs.tables.totals_of.Invariants.{Had}
 use Rattle.booking.proofs.tables.totals_of.Goals as goal
 
--- what is had of the first c cells
-record Had (counts sides : List ℕ) (c : ℕ) (tally : List ℕ) (booked crossings : ℕ) : Type 0 where
-  tallied : Tallied (find_entry_at counts sides) c tally
-  summed : Summed (booked_at counts sides) most_in_cell c booked
-  crossed : Summed (crossings_at counts sides) most_in_cell c crossings
+-- a cell
+module _ (counts sides : List ℕ) (c : ℕ) {six : List ℕ} (e : six ≡ taken_counts counts sides c) where
+  is-place : (k : ℕ) → k ≡ find_entry (by_edge six) → k ≡ find_entry_at counts sides c
+  unfolding find_entry_at
+  is-place k f = f ∙ ap (λ l. find_entry (by_edge l)) e
 
--- one cell more: one that has an entry, and one that has none
-module _ (counts sides : List ℕ) {c : ℕ} {tally : List ℕ} {x y : ℕ} (H : Had counts sides c tally x y) {six : List ℕ} (e : six ≡ taken_counts counts sides c)
-    (k : ℕ) (f : k ≡ find_entry (by_edge six)) where
-  one-common : k < entries → Had counts sides (c + 1) (set tally k (get_or tally k 0 + 1)) x y
-  one-common h =
-      let C = is-common counts sides c e k f h in
-      record {
-        tallied = tallied-more (find_entry_at counts sides) H.tallied k (is-place counts sides c e k f) h;
-        summed = rw (add-zero x) at (summed_more _ _ H.summed 0 (none-booked counts sides c C) (omega arith));
-        crossed = rw (add-zero y) at (summed_more _ _ H.crossed 0 (none-walked counts sides c C) (omega arith));
-      }
+  is-common : (k : ℕ) → k ≡ find_entry (by_edge six) → k < entries → is_common (by_edge (taken_counts counts sides c)) ≡ true
+  unfolding find_entry_at
+  is-common k f h = (answered (by_edge (taken_counts counts sides c)) k (is-place k f) h).0
 
-  one_outside : entries ≤ k → (i j : ℕ) → i ≡ booked_at counts sides c → j ≡ crossings_at counts sides c → Had counts sides (c + 1) tally (x + i) (y + j)
-  one_outside h i j p q = record {
-    tallied = tallied_past (find_entry_at counts sides) H.tallied (omega (arith, is-place counts sides c e k f));
-    summed = summed_more _ _ H.summed i p (omega (arith, p, booked-most counts sides c));
-    crossed = summed_more _ _ H.crossed j q (omega (arith, q, crossings-most counts sides c));
-  }
+  is-outside : (k : ℕ) → k ≡ find_entry (by_edge six) → entries ≤ k → is_common (by_edge (taken_counts counts sides c)) ≡ false
+  unfolding find_entry_at
+  is-outside k f h = unanswered (by_edge (taken_counts counts sides c)) k (is-place k f) h
+
+  module _ (j : Fans) (told : fans_numbers j ≡ fans_answer (by_edge six)) (out : is_common (by_edge (taken_counts counts sides c)) ≡ false) where
+    is-booked : {x : ℕ} → x ≡ booked_triangles j → x ≡ booked_at counts sides c
+    is-booked f = f ∙ triangles-told (by_edge six) j told ∙ ap (λ l. pick (is_level_cell (by_edge l)) (booked (by_edge l)) 0) e ∙ all-booked counts sides c out
+
+    is-walked : {x : ℕ} → x ≡ walked_crossings j (by_edge six) → x ≡ crossings_at counts sides c
+    is-walked f =
+        f ∙ crossings-told (by_edge six) j told ∙ ap (λ l. pick (is_level_cell (by_edge l)) 0 (pre (by_edge l) 6)) e
+        ∙ ap (pick (is_level_cell (by_edge (taken_counts counts sides c))) 0) (taken-crossings counts sides c) ∙ all-walked counts sides c out
 
 -- one cell more: one that has an entry, and one that has none
 module _ (counts sides : List ℕ) {c : ℕ} {tally : List ℕ} {x y : ℕ} (H : Had counts sides c tally x y) {six : List ℕ} (e : six ≡ taken_counts counts sides c)

@@ -28,6 +28,12 @@ use Rattle.booking.specs.work.Totals.{booked_triangles, walked_crossings, common
 use Rattle.booking.proofs.Totals.{triangles-told, crossings-told, booked-most, crossings-most, none-booked, none-walked, all-booked, all-walked, placed, known-few}
 use Rattle.booking.proofs.tables.totals_of.Given as goal
 
+-- what is had of the first c cells
+pub record Had (counts sides : List ℕ) (c : ℕ) (tally : List ℕ) (booked crossings : ℕ) : Type 0 where
+  pub tallied : Tallied (find_entry_at counts sides) c tally
+  pub summed : Summed (booked_at counts sides) most_in_cell c booked
+  pub crossed : Summed (crossings_at counts sides) most_in_cell c crossings
+
 abbrev pub invariant-loop-c : goal.invariant-loop-c
 invariant-loop-c l = (l.c ≤ l.n) × Had l.counts l.sides l.c l.tally l.booked l.crossings
 

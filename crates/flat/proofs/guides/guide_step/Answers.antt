@@ -19,7 +19,7 @@ pub lane_step-requires-in-High : goal.lane_step-requires-in-High
 lane_step-requires-in-High c = let c-if1 = c.if-g-t in
     let c-pre = c.requires in
     let h = stands _ _ _ High c.stand_of.ensures c.in-High.is in
-    record { lane_fits = c-pre.0.high; k_lt_size = omega (arith, h, c-if1.false, c-pre.0.upper) }
+    record { lane_fits = c-pre.guide_fits.high; k_lt_size = omega (arith, h, c-if1.false, c-pre.guide_fits.upper) }
 
 pub overflow_sub-result : goal.overflow_sub-result
 overflow_sub-result c = omega (arith, (stands _ _ _ Down c.stand_of.ensures c.in-Down.is).2)
@@ -38,16 +38,16 @@ pub returns-in-Up : goal.returns-in-Up
 returns-in-Up c = let c-if1 = c.if-g-t in
     let c-pre = c.requires in
     let (W, z) = stands _ _ _ Up c.stand_of.ensures c.in-Up.is in
-    record { value = step-up _ _ _ (omega (arith, c-if1.false)) W.low W.high z; upper_bound = omega (arith, c-pre.0.near, c-pre.0.few, c-if1.false) }
+    record { value = step-up _ _ _ (omega (arith, c-if1.false)) W.low W.high z; upper_bound = omega (arith, c-pre.guide_fits.near, c-pre.guide_fits.few, c-if1.false) }
 
 pub returns-in-Down : goal.returns-in-Down
 returns-in-Down c = let c-if1 = c.if-g-t in
     let c-pre = c.requires in
     let (W, z, h) = stands _ _ _ Down c.stand_of.ensures c.in-Down.is in
-    record { value = step_down _ _ _ (omega (arith, c-if1.false)) W.low W.high z h; upper_bound = omega (arith, c-pre.0.near, c-pre.0.few, c-if1.false) }
+    record { value = step_down _ _ _ (omega (arith, c-if1.false)) W.low W.high z h; upper_bound = omega (arith, c-pre.guide_fits.near, c-pre.guide_fits.few, c-if1.false) }
 
 pub returns-in-Alone : goal.returns-in-Alone
 returns-in-Alone c = let c-if1 = c.if-g-t in
     let c-pre = c.requires in
     let (W, z, h) = stands _ _ _ Alone c.stand_of.ensures c.in-Alone.is in
-    record { value = step-alone _ _ _ (omega (arith, c-if1.false)) W.low W.high z h; upper_bound = c-pre.1 }
+    record { value = step-alone _ _ _ (omega (arith, c-if1.false)) W.low W.high z h; upper_bound = c-pre.darts_bound }

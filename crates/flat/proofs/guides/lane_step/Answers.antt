@@ -10,4 +10,4 @@ pub returns-then-l : goal.returns-then-l
 returns-then-l c = record { value = lane_down _ _ c.if-l.true; upper_bound = omega (arith, c.requires.lane_fits.near) }
 
 pub returns : goal.returns
-returns c = let c-pre = c.requires in record { value = lane_up _ _ c.if-l.false; upper_bound = omega (arith, c-pre.0.near, c-pre.0.few, c-pre.1) }
+returns c = let c-pre = c.requires in record { value = lane_up _ _ c.if-l.false; upper_bound = omega (arith, c-pre.lane_fits.near, c-pre.lane_fits.few, c-pre.k_lt_size) }

@@ -16,19 +16,19 @@ pub overflow_cast-starts : goal.overflow_cast-starts
 overflow_cast-starts c = let c-loop = c.loop-e in
     let c-args = c.args in
     let c-pre = c.requires in
-    omega (arith, c-pre.1, c-loop.invariant.1, start_mono c-args.counts.now c-loop.e (length c-args.counts.now) (omega arith))
+    omega (arith, c-pre.counts_bound, c-loop.invariant.1, start_mono c-args.counts.now c-loop.e (length c-args.counts.now) (omega arith))
 
 pub bounds-starts-e : goal.bounds-starts-e
 bounds-starts-e c = let c-loop = c.loop-e in
     let c-args = c.args in
     let c-pre = c.requires in
-    omega (arith, c-pre.0, ap length c-loop.invariant.2, length-filled (start c-args.counts.now) c-loop.e c-args.starts.now)
+    omega (arith, c-pre.counts_in_bounds, ap length c-loop.invariant.2, length-filled (start c-args.counts.now) c-loop.e c-args.starts.now)
 
 pub overflow_add-s : goal.overflow_add-s
 overflow_add-s c = let c-loop = c.loop-e in
     let c-args = c.args in
     let c-pre = c.requires in
-    omega (arith, c-pre.1, c-loop.invariant.1, c.wide16-s.ensures.0, start-next c-args.counts.now c-loop.e, start_mono c-args.counts.now (c-loop.e + 1) (length c-args.counts.now) (omega arith))
+    omega (arith, c-pre.counts_bound, c-loop.invariant.1, c.wide16-s.ensures.0, start-next c-args.counts.now c-loop.e, start_mono c-args.counts.now (c-loop.e + 1) (length c-args.counts.now) (omega arith))
 
 pub loop-e-preserved : goal.loop-e-preserved
 loop-e-preserved c = let c-loop = c.loop-e in

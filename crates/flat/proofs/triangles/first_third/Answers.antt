@@ -16,12 +16,12 @@ loop-j-preserved-then-p-eq0 c = let c-loop = c.loop-j in
 pub offset_bounds-prev-p : goal.offset_bounds-prev-p
 offset_bounds-prev-p c = let c-loop = c.loop-j in
     let c-pre = c.requires in
-    omega (arith, c.wide16-p.ensures.0, c-pre.1 c-loop.j (omega arith))
+    omega (arith, c.wide16-p.ensures.0, c-pre.by_index c-loop.j (omega arith))
 
 pub bounds-prev-p : goal.bounds-prev-p
 bounds-prev-p c = let c-loop = c.loop-j in
     let c-pre = c.requires in
-    omega (arith, c.wide16-p.ensures.0, c-pre.1 c-loop.j (omega arith))
+    omega (arith, c.wide16-p.ensures.0, c-pre.by_index c-loop.j (omega arith))
 
 pub returns-then-prev-p-ne0 : goal.returns-then-prev-p-ne0
 returns-then-prev-p-ne0 c = let c-wide = c.wide16-p in

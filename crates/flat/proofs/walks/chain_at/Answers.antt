@@ -22,7 +22,7 @@ overflow_mul-p-2 c = omega (arith, c.requires.step_table.few, c.requires.p_lt_n)
 pub overflow_add-result : goal.overflow_add-result
 overflow_add-result c = let c-run = c.run-w in
     let c-pre = c.requires in
-    omega (arith, ran_short _ _ c-pre.0.turns c-run.ensures, c-pre.0.few)
+    omega (arith, ran_short _ _ c-pre.step_table.turns c-run.ensures, c-pre.step_table.few)
 
 pub overflow_mul-result : goal.overflow_mul-result
 overflow_mul-result c = omega (arith, c.requires.step_table.few, c.requires.p_lt_n)
@@ -30,7 +30,7 @@ overflow_mul-result c = omega (arith, c.requires.step_table.few, c.requires.p_lt
 pub returns-then-wide32-p : goal.returns-then-wide32-p
 returns-then-wide32-p c = let c-run = c.run-w in
     let c-pre = c.requires in
-    closed-finds _ _ c-pre.0.turns _ c-pre.1.0 c-pre.1.1 c-run.ensures (ran_entry c-pre.0 c-run.ensures c.wide32.ensures.0 ∙ c.if-wide32-p.true)
+    closed-finds _ _ c-pre.step_table.turns _ c-pre.p_lt_n c-pre.fresh c-run.ensures (ran_entry c-pre.step_table c-run.ensures c.wide32.ensures.0 ∙ c.if-wide32-p.true)
 
 pub overflow_mul-p-3 : goal.overflow_mul-p-3
 overflow_mul-p-3 c = omega (arith, c.requires.step_table.few, c.requires.p_lt_n)
@@ -44,16 +44,16 @@ run-v-requires c = record { step_table = c.requires.step_table; d_bound = omega 
 pub path_size-count-requires : goal.path_size-count-requires
 path_size-count-requires c = let c-run = c.run-w in
     let c-pre = c.requires in
-    record { k_bound = omega (arith, ran_short _ _ c-pre.0.turns c-run.ensures, c-pre.0.few); l_bound = omega (arith, ran_short _ _ c-pre.0.turns c.run-v.ensures, c-pre.0.few) }
+    record { k_bound = omega (arith, ran_short _ _ c-pre.step_table.turns c-run.ensures, c-pre.step_table.few); l_bound = omega (arith, ran_short _ _ c-pre.step_table.turns c.run-v.ensures, c-pre.step_table.few) }
 
 pub lower_end-start-requires : goal.lower_end-start-requires
 lower_end-start-requires c = let c-run = c.run-w in
     let c-pre = c.requires in
-    record { a_bound = omega (arith, ran_lt _ _ c-run.ensures, c-pre.0.few); b_bound = omega (arith, ran_lt _ _ c.run-v.ensures, c-pre.0.few) }
+    record { a_bound = omega (arith, ran_lt _ _ c-run.ensures, c-pre.step_table.few); b_bound = omega (arith, ran_lt _ _ c.run-v.ensures, c-pre.step_table.few) }
 
 pub returns : goal.returns
 returns c = let c-if1 = c.if-wide32-p in
     let c-size = c.wide32 in
     let c-run = c.run-w in
     let c-pre = c.requires in
-    rw (c.path_size-count.ensures, c.lower_end-start.ensures) (open_finds _ _ c-pre.0.turns _ c-pre.1.0 c-pre.1.1 c-run.ensures c.run-v.ensures (λ z. c-if1.false (sym (ran_entry c-pre.0 c-run.ensures c-size.ensures.0) ∙ z)))
+    rw (c.path_size-count.ensures, c.lower_end-start.ensures) (open_finds _ _ c-pre.step_table.turns _ c-pre.p_lt_n c-pre.fresh c-run.ensures c.run-v.ensures (λ z. c-if1.false (sym (ran_entry c-pre.step_table c-run.ensures c-size.ensures.0) ∙ z)))

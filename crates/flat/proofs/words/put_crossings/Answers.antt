@@ -10,7 +10,7 @@ loop-i-init c = (listing_none _ _ _ _ _ _, marking_none _ _ _ _ _ c.requires.n_i
 
 pub overflow_cast-area : goal.overflow_cast-area
 overflow_cast-area c = let c-pre = c.requires in
-    omega (arith, list-few c-pre.0 c-pre.1.0 c.loop-i.invariant.0 (omega arith))
+    omega (arith, list-few c-pre.step_table c-pre.darts_from c.loop-i.invariant.0 (omega arith))
 
 pub overflow_add-area : goal.overflow_add-area
 overflow_add-area c = omega (arith, c.requires.m_in_bounds)
@@ -20,20 +20,20 @@ bounds-area-at c = omega (arith, c.requires.m_in_bounds, listing-long _ _ c.loop
 
 pub bounds-marks-e : goal.bounds-marks-e
 bounds-marks-e c = let c-pre = c.requires in
-    mark-place c-pre.0 c-pre.1.0 c.loop-i.invariant.1 (omega arith)
+    mark-place c-pre.step_table c-pre.darts_from c.loop-i.invariant.1 (omega arith)
 
 pub offset_bounds-next-e : goal.offset_bounds-next-e
 offset_bounds-next-e c = let c-pre = c.requires in
-    omega (arith, list-few c-pre.0 c-pre.1.0 c.loop-i.invariant.0 (omega arith))
+    omega (arith, list-few c-pre.step_table c-pre.darts_from c.loop-i.invariant.0 (omega arith))
 
 pub bounds-next-e : goal.bounds-next-e
 bounds-next-e c = let c-pre = c.requires in
-    list_read c-pre.0 c-pre.1.0 c.loop-i.invariant.0 (omega arith)
+    list_read c-pre.step_table c-pre.darts_from c.loop-i.invariant.0 (omega arith)
 
 pub loop-i-preserved : goal.loop-i-preserved
 loop-i-preserved c = let c-loop = c.loop-i in
     let c-pre = c.requires in
-    (list-more c-pre.0 c-pre.1.0 c-loop.invariant.0 (omega arith) _ c.wide32-e.ensures.0, mark-more c-pre.0 c-pre.1.0 c-loop.invariant.1 (omega arith) _ c.wide32-e.ensures.0)
+    (list-more c-pre.step_table c-pre.darts_from c-loop.invariant.0 (omega arith) _ c.wide32-e.ensures.0, mark-more c-pre.step_table c-pre.darts_from c-loop.invariant.1 (omega arith) _ c.wide32-e.ensures.0)
 
 pub shape_of-area : goal.shape_of-area
 shape_of-area c = listing-long _ _ c.loop-i.invariant.0

@@ -13,7 +13,7 @@ use Rattle.flat.proofs.words.put_words.Goals as goal
 pub loop-p-init : goal.loop-p-init
 unfolding all_chain_words
 loop-p-init c = let c-pre = c.requires in
-    (length-replicate {A = ℕ} 65535 0, writing_none _ _ _ _ c-pre.1 (swept_none _ _ _ (omega (arith, length-replicate {A = ℕ} 65535 0, c-pre.0.few)) (zeros 65535)))
+    (length-replicate {A = ℕ} 65535 0, writing_none _ _ _ _ c-pre.next_in_bounds (swept_none _ _ _ (omega (arith, length-replicate {A = ℕ} 65535 0, c-pre.step_table.few)) (zeros 65535)))
 
 pub bounds-marks-p : goal.bounds-marks-p
 bounds-marks-p c = omega (arith, c.requires.step_table.few)
@@ -24,10 +24,10 @@ overflow_add-p c = omega (arith, c.requires.step_table.few)
 pub loop-p-preserved-then-marks-p-ne0 : goal.loop-p-preserved-then-marks-p-ne0
 loop-p-preserved-then-marks-p-ne0 c = let c-loop = c.loop-p in
     let c-pre = c.requires in
-    (c-loop.invariant.0, writing_marked _ _ c-pre.0.turns c-loop.invariant.1 (omega arith) c.if-marks-p-ne0.true)
+    (c-loop.invariant.0, writing_marked _ _ c-pre.step_table.turns c-loop.invariant.1 (omega arith) c.if-marks-p-ne0.true)
 
 pub chain_at-c-requires : goal.chain_at-c-requires
-chain_at-c-requires c = let c-pre = c.requires in record { step_table = c-pre.0; p_lt_n = omega arith; fresh = swept_fresh _ _ c-pre.0.turns (omega arith) c.loop-p.invariant.1.swept c.if-marks-p-ne0.false }
+chain_at-c-requires c = let c-pre = c.requires in record { step_table = c-pre.step_table; p_lt_n = omega arith; fresh = swept_fresh _ _ c-pre.step_table.turns (omega arith) c.loop-p.invariant.1.swept c.if-marks-p-ne0.false }
 
 pub slice_bounds-put_chain-end : goal.slice_bounds-put_chain-end
 slice_bounds-put_chain-end c = sym c.loop-p.invariant.0
@@ -36,7 +36,7 @@ pub put_chain-at-requires : goal.put_chain-at-requires
 put_chain-at-requires c = let c-chain-at = c.chain_at-c in
     let c-loop = c.loop-p in
     let c-pre = c.requires in
-    record { step_table = c-pre.0; darts_from = finds_runs _ _ c-pre.0.turns (omega arith) c-chain-at.ensures; size_le_n = finds-short _ _ c-pre.0.turns (omega arith) c-chain-at.ensures; start_in_bounds = writing_room _ _ c-pre.0.turns c-loop.invariant.1 (omega arith) c-chain-at.ensures; n_in_bounds = c-loop.invariant.1.swept.room }
+    record { step_table = c-pre.step_table; darts_from = finds_runs _ _ c-pre.step_table.turns (omega arith) c-chain-at.ensures; size_le_n = finds-short _ _ c-pre.step_table.turns (omega arith) c-chain-at.ensures; start_in_bounds = writing_room _ _ c-pre.step_table.turns c-loop.invariant.1 (omega arith) c-chain-at.ensures; n_in_bounds = c-loop.invariant.1.swept.room }
 
 pub overflow_add-p-in-loop-p : goal.overflow_add-p-in-loop-p
 overflow_add-p-in-loop-p c = omega (arith, c.requires.step_table.few)
@@ -46,7 +46,7 @@ loop-p-preserved c = let c-put-chain = c.put_chain-at in
     let c-chain-at = c.chain_at-c in
     let c-loop = c.loop-p in
     let c-pre = c.requires in
-    (c-put-chain.ensures.marked_on.same ∙ c-loop.invariant.0, writing_more _ _ c-pre.0.turns c-loop.invariant.1 (omega arith) c-chain-at.ensures c-put-chain.ensures.marked_on c-put-chain.ensures.stored)
+    (c-put-chain.ensures.marked_on.same ∙ c-loop.invariant.0, writing_more _ _ c-pre.step_table.turns c-loop.invariant.1 (omega arith) c-chain-at.ensures c-put-chain.ensures.marked_on c-put-chain.ensures.stored)
 
 pub shape_of-area : goal.shape_of-area
 shape_of-area c = stored_long c.loop-p.invariant.1.stored
@@ -54,4 +54,4 @@ shape_of-area c = stored_long c.loop-p.invariant.1.stored
 pub returns : goal.returns
 returns c = let c-loop = c.loop-p in
     let c-pre = c.requires in
-    record { area_after = writing_all _ _ c-pre.0.turns c-loop.invariant.1 (omega arith); value = writing_at _ _ c-pre.0.turns c-loop.invariant.1 (omega arith) }
+    record { area_after = writing_all _ _ c-pre.step_table.turns c-loop.invariant.1 (omega arith); value = writing_at _ _ c-pre.step_table.turns c-loop.invariant.1 (omega arith) }
