@@ -9,8 +9,10 @@ What it cannot turn it leaves as it is and says so, in a line that begins 'left:
 import json
 import os
 import re
+import subprocess
 import sys
 
+LANDED = "90a7a4f46926ec290df66ccb8d3bae50b49644b6"
 WORD = r"[^\s(){}.;,@\"«»]+"
 TRIVIAL = re.compile(r"^\(λ c( κs)?\. search rules\)$")
 SETTLED = ("search rules", "omega arith")
@@ -317,7 +319,9 @@ def convert(folder, fn, crate):
     order = []
     for block in blocks(rest):
         bare = "\n".join(it for it in block.split("\n") if not it.startswith("--"))
-        m = re.match(rf"(?:abbrev |unfoldable |pub |record |data )*({WORD})", bare)
+        m = re.match(rf"(?:abbrev |unfoldable |pub |record |data )*({WORD})", bare.strip())
+        if not m:
+            continue
         name = f"module#{len(order)}" if m[1] == "module" else m[1]
         items[name] = block
         order.append(name)
@@ -329,7 +333,19 @@ def convert(folder, fn, crate):
     args = atoms(items[spec][m.end() : match(items[spec], start) - 1])
     loops, needs = fn.of["loops"], fn.of["needs"]
     if len(args) != 2 * len(loops) + len(needs):
-        return f"{len(args)} answers to {len(loops)} loops and {len(needs)} needs"
+        # goals came or went: those that have a name of their own go by it, as it was before any script
+        if loops:
+            return f"{len(args)} answers to {len(loops)} loops and {len(needs)} needs"
+        old = subprocess.run(["git", "show", f"{LANDED}:{folder}/Proof.antt"], capture_output=True, text=True).stdout
+        by_need = {}
+        for lhs, need in re.findall(rf"(?m)^({WORD}) : tie\.Need-({WORD})", old):
+            item = next((it for it in items if plain(it) == plain(lhs)), None)
+            if item:
+                by_need[plain(need)] = item
+        for it in args:
+            if it not in items and not TRIVIAL.match(it):
+                fn.looks.append(f"an answer by its place is dropped: {it[:120]}")
+        args = [by_need.get(plain(o), "(λ c. search rules)") for o, n in needs]
     used = set(a for a in args if a in items) | {spec}
     module = f"Rattle.{crate}.proofs.{fn.path}"
     keep = [it for it in uses if not it.endswith((f"{module}.Statement.{{statement}}", f"{module}.Tie as tie"))]
