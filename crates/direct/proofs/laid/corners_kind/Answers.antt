@@ -8,7 +8,7 @@ pub own_of-own-requires : goal.own_of-own-requires
 own_of-own-requires c = sym c.is_level.ensures ∙ c.if-is_level.true
 
 pub returns-then-is_level : goal.returns-then-is_level
-returns-then-is_level c = λ _. record { level = sym c.is_level.ensures ∙ c.if-is_level.true; own_are = c.own_of_lem.ensures; none = λ e. absurd (false-true e) }
+returns-then-is_level c = λ _. record { level = sym c.is_level.ensures ∙ c.if-is_level.true; own_are = c.own_of-own.ensures; none = λ e. absurd (false-true e) }
 
 pub returns : goal.returns
 returns c h = clash h c.walked.ensures

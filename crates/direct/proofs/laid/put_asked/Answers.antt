@@ -12,7 +12,7 @@ put_laid-requires c = let A = c.args in
     let e = c.taken_of-six.ensures in
     let K = c.asked_kind-d.ensures c.if-d.true in
     let N = c.is_near.ensures c.if-is_near.true in
-    let h = sym c.before.before.before.fits2.ensures ∙ c.if-fits.true in
+    let h = sym c.fits.ensures ∙ c.if-fits.true in
     record { laid = part-laid A.c e S.starts-six S.counts-six N K; quads_in_bounds = part_room A.c e S.starts-six S.counts-six N K A.area.now A.at c.crossings_in.ensures.0 h }
 
 pub returns-then-fits : goal.returns-then-fits
@@ -21,5 +21,5 @@ returns-then-fits c = let A = c.args in
     let e = c.taken_of-six.ensures in
     let K = c.asked_kind-d.ensures c.if-d.true in
     let N = c.is_near.ensures c.if-is_near.true in
-    let h = sym c.before.before.before.before.before.before.fits2.ensures ∙ c.if-fits.true in
+    let h = sym c.fits.ensures ∙ c.if-fits.true in
     part_stored A.c e S.starts-six S.counts-six N K A.area.now A.at c.crossings_in.ensures.0 h c.put_laid.ensures

@@ -6,4 +6,4 @@ pub own_of-own-requires : goal.own_of-own-requires
 own_of-own-requires c = level-listed c.requires c.taken_of-six.ensures
 
 pub returns : goal.returns
-returns c = numbers_are c.requires c.taken_of-six.ensures c.before.before.before.before.before.before.before.before.own_of_lem.ensures c.left_of-x.ensures.0 c.left_of-y.ensures.0 c.left_of-z.ensures.0 c.median_of-larger.ensures c.smallest_of-smaller.ensures c.label_of-first.ensures c.label_of-second.ensures c.label_of-third.ensures
+returns c = numbers_are c.requires c.taken_of-six.ensures c.own_of-own.ensures c.left_of-x.ensures.0 c.left_of-y.ensures.0 c.left_of-z.ensures.0 c.median_of-larger.ensures c.smallest_of-smaller.ensures c.label_of-first.ensures c.label_of-second.ensures c.label_of-third.ensures

@@ -16,7 +16,7 @@ pub inner_in-requires : goal.inner_in-requires
 inner_in-requires c = let A = c.args in
     let D = c.requires in
     let h : 0 < A.splits = omega (arith, c.if-splits-eq0.false) in
-    let t = sym c.before.before.before.fits2.ensures ∙ c.if-fits.true in
+    let t = sym c.fits.ensures ∙ c.if-fits.true in
     let e = c.corners_of-at.ensures in
     record { splits_left = drawn-left D h; c_in_bounds = rw e (inner_room D A.nodes.now A.area.now A.i h c.spots_of.ensures t) }
 
@@ -24,11 +24,11 @@ pub returns-then-fits : goal.returns-then-fits
 returns-then-fits c = let A = c.args in
     let D = c.requires in
     let h : 0 < A.splits = omega (arith, c.if-splits-eq0.false) in
-    let t = sym c.before.before.before.before.before.before.fits2.ensures ∙ c.if-fits.true in
+    let t = sym c.fits.ensures ∙ c.if-fits.true in
     let e = c.corners_of-at.ensures in
     inner-done D A.nodes.now A.area.now A.i h c.spots_of.ensures t (rw e at c.inner_in.ensures)
 
 pub returns : goal.returns
 returns c = let A = c.args in
     let h : 0 < A.splits = omega (arith, c.if-splits-eq0.false) in
-    inner-short c.requires A.nodes.now A.area.now A.i h c.spots_of.ensures (sym c.before.fits2.ensures ∙ c.if-fits.false)
+    inner-short c.requires A.nodes.now A.area.now A.i h c.spots_of.ensures (sym c.fits.ensures ∙ c.if-fits.false)
