@@ -1,7 +1,6 @@
 use mathlib.Core.Path.{◌≡◌}
 use Rattle.bundle.specs.declared.Contents.TheVariants.{Lists, Refused}
 use Rattle.host.proofs.Told.{whole, broken}
-use borrow.Author.Rules.{rules}
 use Rattle.host.proofs.numbers_of.Goals as goal
 
 pub returns-in-Lists : goal.returns-in-Lists

@@ -3,7 +3,6 @@ use mathlib.Core.Path.{◌≡◌, refl, ap, ◌∙◌}
 use mathlib.Core.List.{List}
 use native.Mathlib.Omega.{arith}
 use lib.ListN.{length}
-use borrow.Author.Rules.{rules}
 use Rattle.bundle.specs.Record.{head_bytes, count_place, word}
 use Rattle.bundle.specs.work.Record.{look_size}
 use Rattle.bundle.specs.Bundle.{looks_from}

@@ -3,10 +3,9 @@ use mathlib.Core.Path.{◌≡◌, sym, ap, ◌∙◌}
 use mathlib.Core.Bool.{Bool, false}
 use native.Mathlib.Decide.{dec_lt}
 use native.Mathlib.Omega.{arith}
-use borrow.Author.Rules.{rules}
 use Rattle.counting.specs.Search.{first}
 use Rattle.counting.proofs.Search.{first-is, first_below, first-at, none_first}
-use Rattle.bundle.specs.Bundle.{is_stray, first_stray}
+use Rattle.bundle.specs.Bundle.{first_stray}
 use Rattle.bundle.proofs.looks.first_stray.Goals as goal
 
 -- none of the first m passes, and j is the first of the n after them

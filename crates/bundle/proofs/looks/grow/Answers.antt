@@ -1,11 +1,9 @@
-use Prim.Native.Nat.{ℕ, ◌+◌, ◌-◌, ◌≤◌, ◌<◌}
+use Prim.Native.Nat.{ℕ, ◌+◌, ◌-◌, ◌<◌}
 use mathlib.Core.Path.{◌≡◌, refl}
 use native.Mathlib.Omega.{arith}
-use lib.ListN.{length, length-set}
-use Rattle.trees.specs.work.Trees.{Tree, Tops}
-use Rattle.bundle.specs.work.Looked.{look_key, block_key, look_branches}
+use lib.ListN.{length-set}
+use Rattle.bundle.specs.work.Looked.{look_key, block_key}
 use Rattle.trees.proofs.Trees.{grown-none, tops-none, tops-more, top_le}
-use borrow.Author.Rules.{rules}
 use Rattle.bundle.proofs.looks.grow.Goals as goal
 
 -- the place before i is the next

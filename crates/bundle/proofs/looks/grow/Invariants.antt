@@ -1,11 +1,8 @@
-use Prim.Native.Nat.{ℕ, ◌+◌, ◌-◌, ◌≤◌, ◌<◌}
-use mathlib.Core.Path.{◌≡◌, refl}
-use native.Mathlib.Omega.{arith}
-use lib.ListN.{length, length-set}
+use Prim.Native.Nat.{◌≤◌}
+use mathlib.Core.Path.{◌≡◌}
+use lib.ListN.{length}
 use Rattle.trees.specs.work.Trees.{Tree, Tops}
-use Rattle.bundle.specs.work.Looked.{look_key, block_key, look_branches}
-use Rattle.trees.proofs.Trees.{grown-none, tops-none, tops-more, top_le}
-use borrow.Author.Rules.{rules}
+use Rattle.bundle.specs.work.Looked.{block_key, look_branches}
 use Rattle.bundle.proofs.looks.grow.Given as goal
 
 abbrev pub invariant-loop-i : goal.invariant-loop-i

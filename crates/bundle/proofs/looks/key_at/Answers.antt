@@ -1,5 +1,4 @@
 use native.Mathlib.Omega.{arith}
-use borrow.Author.Rules.{rules}
 use Rattle.bundle.specs.work.Looked.{key_at}
 use Rattle.bundle.proofs.looks.key_at.Goals as goal
 

@@ -1,7 +1,6 @@
 use mathlib.Core.Path.{◌∙◌}
 use Rattle.trees.proofs.Trees.{sought_all}
 use Rattle.bundle.specs.work.Looked.{look_branches}
-use borrow.Author.Rules.{rules}
 use Rattle.bundle.proofs.looks.latest.Goals as goal
 
 pub bounds-links-at : goal.bounds-links-at

@@ -1,13 +1,11 @@
-use Prim.Native.Nat.{◌-◌}
 use mathlib.Core.Path.{ap, ◌∙◌}
 use native.Mathlib.Omega.{arith}
 use Rattle.bundle.specs.Bundle.{edge_section}
 use Rattle.trees.specs.work.Trees.{top_for}
 use Rattle.bundle.specs.work.Looked.{block_key}
-use Rattle.bundle.proofs.Runs.{Walked, walked}
+use Rattle.bundle.proofs.Runs.{walked}
 use Rattle.trees.proofs.Trees.{top_le}
-use Rattle.bundle.proofs.Looked.{Marking, marking_none, marking_more, edge-all, edge-whole, edge-ends, edge-next, edge-key}
-use borrow.Author.Rules.{rules}
+use Rattle.bundle.proofs.Looked.{marking_none, marking_more, edge-all, edge-whole, edge-ends, edge-next, edge-key}
 use Rattle.bundle.proofs.looks.mark.Goals as goal
 
 pub loop-k-init : goal.loop-k-init

@@ -1,5 +1,4 @@
 use native.Mathlib.Omega.{arith}
-use borrow.Author.Rules.{rules}
 use Rattle.bundle.specs.Record.{next_record}
 use Rattle.bundle.proofs.OneRecord.{stands}
 use Rattle.bundle.proofs.looks.next_at.Goals as goal

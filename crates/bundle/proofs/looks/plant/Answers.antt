@@ -4,7 +4,6 @@ use native.Mathlib.Omega.{arith}
 use lib.ListN.{get_or}
 use Rattle.bundle.proofs.Looked.{look-few}
 use Rattle.trees.proofs.Trees.{plant_top, plant_hit, plant_own, plant_new}
-use borrow.Author.Rules.{rules}
 use Rattle.bundle.proofs.looks.plant.Goals as goal
 
 pub overflow_add-m : goal.overflow_add-m

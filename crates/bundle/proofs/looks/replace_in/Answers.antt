@@ -3,7 +3,6 @@ use native.Mathlib.Omega.{arith}
 use Rattle.counting.proofs.Tables.{zeros}
 use Rattle.trees.specs.work.Trees.{trees}
 use Rattle.bundle.specs.work.Looked.{block_looks, look_branches}
-use borrow.Author.Rules.{rules}
 use Rattle.bundle.proofs.looks.replace_in.Goals as goal
 
 pub grow-requires : goal.grow-requires

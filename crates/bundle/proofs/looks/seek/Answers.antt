@@ -4,10 +4,9 @@ use native.Mathlib.Nat.{mod-lt}
 use native.Mathlib.Omega.{arith}
 use lib.ListN.{length}
 use Rattle.trees.specs.work.Trees.{trees}
-use Rattle.bundle.specs.work.Looked.{block_key, look_branches}
+use Rattle.bundle.specs.work.Looked.{look_branches}
 use Rattle.bundle.proofs.Looked.{look-few}
-use Rattle.trees.proofs.Trees.{Descending, descending_start, descending_end, descending_le, descending_hit, descending_less, descending_room, descending_more}
-use borrow.Author.Rules.{rules}
+use Rattle.trees.proofs.Trees.{descending_start, descending_end, descending_le, descending_hit, descending_less, descending_room, descending_more}
 use Rattle.bundle.proofs.looks.seek.Goals as goal
 use Rattle.bundle.proofs.looks.seek.Goals.{Else-look_key-key}
 

@@ -8,7 +8,6 @@ use Rattle.trees.specs.work.Trees.{trees}
 use Rattle.bundle.specs.work.Looked.{block_looks, look_branches, look_key, block_key}
 use Rattle.trees.proofs.Trees.{top_le}
 use Rattle.bundle.proofs.Looked.{unmarked_stray}
-use borrow.Author.Rules.{rules}
 use Rattle.bundle.proofs.looks.stray_in.Goals as goal
 
 pub grow-requires : goal.grow-requires

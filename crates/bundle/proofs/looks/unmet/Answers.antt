@@ -1,9 +1,7 @@
-use Prim.Native.Nat.{◌-◌}
 use native.Mathlib.Omega.{arith}
 use borrow.Author.Tests.{eq-eqb, ne_eqb}
-use Rattle.counting.proofs.Search.{Seeking, seeking_none, seeking_hit, seeking_more, seeking_all}
+use Rattle.counting.proofs.Search.{seeking_none, seeking_hit, seeking_more, seeking_all}
 use Rattle.bundle.specs.work.Looked.{top_unmet}
-use borrow.Author.Rules.{rules}
 use Rattle.bundle.proofs.looks.unmet.Goals as goal
 
 pub loop-j-init : goal.loop-j-init

@@ -1,11 +1,5 @@
-use Prim.Native.Nat.{◌+◌, ◌*◌, ◌-◌, ◌≤◌}
-use mathlib.Core.Path.{◌≡◌, refl}
-use mathlib.Core.List.{[], ◌∷◌}
-use native.Mathlib.Omega.{arith}
-use Rattle.counting.specs.Lists.{over}
+use Prim.Native.Nat.{◌+◌, ◌-◌, ◌≤◌}
 use Rattle.counting.specs.work.Stored.{Stored}
-use Rattle.counting.proofs.Stored.{stored_one, stored_more, stored_long}
-use Rattle.bundle.specs.Record.{word_size, word}
 use Rattle.bundle.specs.Bundle.{leading_words}
 use Rattle.bundle.proofs.reader.fill_words.Given as goal
 

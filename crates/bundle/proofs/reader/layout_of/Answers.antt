@@ -1,4 +1,3 @@
-use borrow.Author.Rules.{rules}
 use Rattle.bundle.proofs.Answers.{laid}
 use Rattle.bundle.proofs.reader.layout_of.Goals as goal
 

@@ -8,14 +8,11 @@ use Rattle.answer.specs.Answer.{result_of}
 use Rattle.counting.specs.Stored.{filled}
 use Rattle.counting.proofs.Stored.{filled-again, filled-front}
 use Rattle.counting.proofs.Tables.{filled-table}
-use Rattle.bundle.specs.Bundle.{cell_nodes, edge_ends, look_section, run, cells, edges, looks, count_after, surviving, counts_of, is_bundle, bundle_answer, written_over, contents_numbers}
-use Rattle.bundle.specs.work.Looked.{LooksLent}
-use Rattle.bundle.specs.declared.Contents.TheVariants.{Lists, Refused}
+use Rattle.bundle.specs.Bundle.{cell_nodes, edge_ends, look_section, run, cells, edges, looks, count_after, surviving, counts_of, is_bundle, bundle_answer, written_over}
 use Rattle.bundle.proofs.Answers.{accepted, accepted-cells, accepted-edges, rejected, room, no_room, leaves-broken, leaves-short, leaves-lists}
 use Rattle.bundle.proofs.Fills.{length-counts}
-use borrow.Author.Rules.{rules}
 use Rattle.bundle.proofs.reader.read.Goals as goal
-use Rattle.bundle.proofs.reader.read.Goals.{After-run_from-looks, In-Lists}
+use Rattle.bundle.proofs.reader.read.Goals.{In-Lists}
 
 -- the bytes are a bundle
 abbrev Good : Type 0
@@ -34,9 +31,7 @@ abbrev counts : Good → List ℕ
 counts c = c.args.counts.now
 
 told : (c : Good) → result_of (c.in-Lists.cells ∷ c.in-Lists.edges ∷ []) ≡ bundle_answer (bytes c)
-told c =
-    let e : Lists c.in-Lists.cells c.in-Lists.edges ≡ c.scan.result = cc in
-    ap contents_numbers e ∙ c.scan.ensures
+told c = c.in-Lists.ensures
 
 good : (c : Good) → is_bundle (bytes c) ≡ true
 good c = accepted (bytes c) _ _ (told c)
@@ -46,21 +41,6 @@ cells-are c = accepted-cells (bytes c) _ _ (told c)
 
 edges-are : (c : Good) → c.in-Lists.edges ≡ edges (bytes c)
 edges-are c = accepted-edges (bytes c) _ _ (told c)
-
--- the edges and the looks, and where the looks start
-listed : (c : After-run_from-looks) → LooksLent (bytes c.before.before.before.before.before.before.before.before.before.before.before.before.before.before.before) c.fill_cells-from.result c.in-Lists.edges c.fill_edges-base.result c.run_from-looks.result.count
-unfolding looks
-listed c =
-    let s = bytes c.before.before.before.before.before.before.before.before.before.before.before.before.before.before.before in
-    let b = c.fill_edges-base.ensures.value in
-    record {
-      listed = record { begin = c.fill_cells-from.ensures.value; all = edges-are c.before.before.before.before.before.before.before.before.before.before.before.before.before.before.before };
-      begin = b;
-      all = c.run_from-looks.ensures.0 ∙ ap (run s look_section) b;
-    }
-
-room_of : (c : After-run_from-looks) → edges (bytes c.before.before.before.before.before.before.before.before.before.before.before.before.before.before.before) ≤ length (counts c.before.before.before.before.before.before.before.before.before.before.before.before.before.before.before)
-room_of c = omega (arith, edges-are c.before.before.before.before.before.before.before.before.before.before.before.before.before.before.before, c.if-counts-edges.false)
 
 -- the counts that are left
 survive : (s old : List ℕ) {mid new : List ℕ} → edges s ≤ length old → mid ≡ filled (count_after s 0) (edges s) old → new ≡ filled (count_after s (looks s)) (edges s) mid
@@ -74,13 +54,19 @@ survive s old {mid} {new} r p q =
     ∙ ap (λ n. counts_of s ++ drop n old) (sym (length-counts s))
 
 pub returns-then-nodes-cells : goal.returns-then-nodes-cells
-returns-then-nodes-cells c = let g = (goal.at.returns-then-nodes-cells c).In-Lists in record { answer = (leaves-short (bytes g) (nodes g) (ends g) (counts g) (good g) (no_room (bytes g) _ _ _ (λ x y z. omega (arith, c.if-nodes-cells.true, cells-are g, edges-are g)))).0; nodes = ((leaves-short (bytes g) (nodes g) (ends g) (counts g) (good g) (no_room (bytes g) _ _ _ (λ x y z. omega (arith, c.if-nodes-cells.true, cells-are g, edges-are g)))).1).0; ends = (((leaves-short (bytes g) (nodes g) (ends g) (counts g) (good g) (no_room (bytes g) _ _ _ (λ x y z. omega (arith, c.if-nodes-cells.true, cells-are g, edges-are g)))).1).1).0; counts = (((leaves-short (bytes g) (nodes g) (ends g) (counts g) (good g) (no_room (bytes g) _ _ _ (λ x y z. omega (arith, c.if-nodes-cells.true, cells-are g, edges-are g)))).1).1).1 }
+returns-then-nodes-cells c = let g = (goal.at.returns-then-nodes-cells c).In-Lists in
+    let l = leaves-short (bytes g) (nodes g) (ends g) (counts g) (good g) (no_room (bytes g) _ _ _ (λ x y z. omega (arith, c.if-nodes-cells.true, cells-are g, edges-are g))) in
+    record { answer = l.0; nodes = l.1.0; ends = l.1.1.0; counts = l.1.1.1 }
 
 pub returns-then-ends-edges : goal.returns-then-ends-edges
-returns-then-ends-edges c = let g = (goal.at.returns-then-ends-edges c).In-Lists in record { answer = (leaves-short (bytes g) (nodes g) (ends g) (counts g) (good g) (no_room (bytes g) _ _ _ (λ x y z. omega (arith, c.if-ends-edges.true, cells-are g, edges-are g)))).0; nodes = ((leaves-short (bytes g) (nodes g) (ends g) (counts g) (good g) (no_room (bytes g) _ _ _ (λ x y z. omega (arith, c.if-ends-edges.true, cells-are g, edges-are g)))).1).0; ends = (((leaves-short (bytes g) (nodes g) (ends g) (counts g) (good g) (no_room (bytes g) _ _ _ (λ x y z. omega (arith, c.if-ends-edges.true, cells-are g, edges-are g)))).1).1).0; counts = (((leaves-short (bytes g) (nodes g) (ends g) (counts g) (good g) (no_room (bytes g) _ _ _ (λ x y z. omega (arith, c.if-ends-edges.true, cells-are g, edges-are g)))).1).1).1 }
+returns-then-ends-edges c = let g = (goal.at.returns-then-ends-edges c).In-Lists in
+    let l = leaves-short (bytes g) (nodes g) (ends g) (counts g) (good g) (no_room (bytes g) _ _ _ (λ x y z. omega (arith, c.if-ends-edges.true, cells-are g, edges-are g))) in
+    record { answer = l.0; nodes = l.1.0; ends = l.1.1.0; counts = l.1.1.1 }
 
 pub returns-then-counts-edges : goal.returns-then-counts-edges
-returns-then-counts-edges c = let g = (goal.at.returns-then-counts-edges c).In-Lists in record { answer = (leaves-short (bytes g) (nodes g) (ends g) (counts g) (good g) (no_room (bytes g) _ _ _ (λ x y z. omega (arith, c.if-counts-edges.true, cells-are g, edges-are g)))).0; nodes = ((leaves-short (bytes g) (nodes g) (ends g) (counts g) (good g) (no_room (bytes g) _ _ _ (λ x y z. omega (arith, c.if-counts-edges.true, cells-are g, edges-are g)))).1).0; ends = (((leaves-short (bytes g) (nodes g) (ends g) (counts g) (good g) (no_room (bytes g) _ _ _ (λ x y z. omega (arith, c.if-counts-edges.true, cells-are g, edges-are g)))).1).1).0; counts = (((leaves-short (bytes g) (nodes g) (ends g) (counts g) (good g) (no_room (bytes g) _ _ _ (λ x y z. omega (arith, c.if-counts-edges.true, cells-are g, edges-are g)))).1).1).1 }
+returns-then-counts-edges c = let g = (goal.at.returns-then-counts-edges c).In-Lists in
+    let l = leaves-short (bytes g) (nodes g) (ends g) (counts g) (good g) (no_room (bytes g) _ _ _ (λ x y z. omega (arith, c.if-counts-edges.true, cells-are g, edges-are g))) in
+    record { answer = l.0; nodes = l.1.0; ends = l.1.1.0; counts = l.1.1.1 }
 
 pub fill_cells-from-requires : goal.fill_cells-from-requires
 fill_cells-from-requires c = let g = (goal.at.fill_cells-from-requires c).In-Lists in
@@ -96,14 +82,23 @@ fill_edges-base-requires c = let g = (goal.at.fill_edges-base-requires c).In-Lis
     }
 
 pub replace-requires : goal.replace-requires
-replace-requires c = record { looks_lent = listed (goal.at.replace-requires c).After-run_from-looks; counted = filled-table _ _ _ _ c.fill_edges-base.ensures.counts_after (room_of (goal.at.replace-requires c).After-run_from-looks) }
+unfolding looks
+replace-requires c = let g = (goal.at.replace-requires c).In-Lists in
+    let b = c.fill_edges-base.ensures.value in
+    record {
+      looks_lent = record {
+        listed = record { begin = c.fill_cells-from.ensures.value; all = edges-are g };
+        begin = b;
+        all = c.run_from-looks.ensures.0 ∙ ap (run (bytes g) look_section) b;
+      };
+      counted = filled-table _ _ _ _ c.fill_edges-base.ensures.counts_after (omega (arith, edges-are g, c.if-counts-edges.false));
+    }
 
 pub returns-in-Refused : goal.returns-in-Refused
 returns-in-Refused c = let a = c.args in
-    let e : Refused c.in-Refused.number c.in-Refused.place ≡ c.scan.result = cc in
-    let t = ap contents_numbers e ∙ c.scan.ensures in
+    let t = c.in-Refused.ensures in
     let l = leaves-broken a.bytes.now a.nodes.now a.ends.now a.counts.now (rejected a.bytes.now _ _ t) in
-    record { answer = t ∙ l.0; nodes = (l.1).0; ends = ((l.1).1).0; counts = ((l.1).1).1 }
+    record { answer = t ∙ l.0; nodes = l.1.0; ends = l.1.1.0; counts = l.1.1.1 }
 
 pub returns-else-counts-edges : goal.returns-else-counts-edges
 returns-else-counts-edges c = let g = (goal.at.returns-else-counts-edges c).In-Lists in

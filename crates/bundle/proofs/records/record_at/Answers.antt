@@ -2,7 +2,6 @@ use mathlib.Core.Path.{◌≡◌, sym}
 use native.Mathlib.Omega.{arith}
 use borrow.Author.Tests.{not-true, not-false}
 use Rattle.bundle.proofs.OneRecord.{answer-outside, case_short, case_unknown, case_wrong, case_cut, wide-inside, case_small, case_whole}
-use borrow.Author.Rules.{rules}
 use Rattle.bundle.proofs.records.record_at.Goals as goal
 
 pub returns-then-bytes-start : goal.returns-then-bytes-start

@@ -1,6 +1,5 @@
 use Rattle.counting.proofs.Stored.{stored_then}
 use Rattle.bundle.specs.Written.{cell_bytes}
-use borrow.Author.Rules.{rules}
 use Rattle.bundle.proofs.writer.put_cell.Goals as goal
 
 pub returns : goal.returns

@@ -1,14 +1,9 @@
 use Prim.Native.Nat.{◌-◌, ◌/◌, ◌≤◌}
-use mathlib.Core.Path.{◌≡◌}
-use native.Mathlib.Omega.{arith}
 use lib.ListN.{length}
 use Rattle.counting.specs.Lists.{over}
 use Rattle.counting.specs.work.Stored.{Stored}
-use Rattle.counting.proofs.Fronts.{over-within}
-use Rattle.counting.proofs.Stored.{stored_none, stored_more, stored_long}
 use Rattle.bundle.specs.Bundle.{cell_nodes}
 use Rattle.bundle.specs.Written.{cell_bytes}
-use Rattle.bundle.proofs.Writes.{length-cell}
 use Rattle.bundle.proofs.writer.put_cells.Given as goal
 
 abbrev pub invariant-loop-k : goal.invariant-loop-k

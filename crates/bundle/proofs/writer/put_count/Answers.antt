@@ -1,7 +1,6 @@
 use mathlib.Core.Path.{◌≡◌, ap}
 use native.Mathlib.Omega.{arith}
 use lib.ListN.{length}
-use borrow.Author.Rules.{rules}
 use Rattle.counting.proofs.Stored.{stored_one}
 use Rattle.bundle.proofs.Writes.{bytes-wide, bytes_narrow}
 use Rattle.bundle.proofs.writer.put_count.Goals as goal

@@ -1,7 +1,6 @@
 use Prim.Native.Nat.{◌+◌, ◌*◌, ◌≤◌}
 use native.Mathlib.Omega.{arith}
 use lib.ListN.{length, get_or}
-use borrow.Author.Rules.{rules}
 use Rattle.counting.proofs.Stored.{stored_then, stored_long}
 use Rattle.bundle.specs.Record.{head_bytes, count_place}
 use Rattle.bundle.specs.Bundle.{edge_ends}

@@ -1,5 +1,4 @@
 use Rattle.counting.proofs.Stored.{stored_then}
-use borrow.Author.Rules.{rules}
 use Rattle.bundle.proofs.writer.put_head.Goals as goal
 
 pub returns : goal.returns

@@ -2,7 +2,6 @@ use mathlib.Core.Path.{refl}
 use lib.ListN.{length-set}
 use native.Mathlib.Omega.{arith}
 use Rattle.counting.proofs.Fronts.{sets-two}
-use borrow.Author.Rules.{rules}
 use Rattle.bundle.proofs.writer.put_word.Goals as goal
 
 pub bounds-area-at-2 : goal.bounds-area-at-2

@@ -1,11 +1,10 @@
-use Prim.Native.Nat.{◌+◌, ◌-◌, ◌≤◌}
+use Prim.Native.Nat.{◌+◌}
 use mathlib.Core.Path.{◌≡◌}
 use native.Mathlib.Omega.{arith}
 use lib.ListN.{get_or}
 use Rattle.counting.specs.Lists.{over}
-use Rattle.counting.specs.work.Stored.{Stored}
 use Rattle.counting.proofs.Stored.{stored_none, stored_more, stored_long}
-use Rattle.bundle.specs.Written.{word_bytes, list_bytes}
+use Rattle.bundle.specs.Written.{word_bytes}
 use Rattle.bundle.proofs.Writes.{length-list}
 use Rattle.bundle.proofs.writer.put_words.Goals as goal
 

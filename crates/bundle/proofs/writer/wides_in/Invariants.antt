@@ -1,14 +1,9 @@
-use Prim.Native.Nat.{ℕ, ◌+◌, ◌-◌, ◌≤◌}
-use mathlib.Core.Path.{◌≡◌, refl, sym, ap, ◌∙◌}
+use Prim.Native.Nat.{ℕ, ◌-◌, ◌≤◌}
+use mathlib.Core.Path.{◌≡◌}
 use mathlib.Core.List.{List}
-use native.Mathlib.Numerals.{add-one}
-use native.Mathlib.Omega.{arith}
 use lib.ListN.{length, get_or}
-use borrow.Author.Rules.{rules}
 use Rattle.counting.specs.Search.{count}
-use Rattle.counting.proofs.Search.{count_le}
 use Rattle.bundle.specs.Record.{is_wide}
-use Rattle.bundle.specs.work.Needed.{wides}
 use Rattle.bundle.proofs.writer.wides_in.Given as goal
 
 -- how many of the first k counts a byte does not hold
