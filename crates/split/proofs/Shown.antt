@@ -98,7 +98,7 @@ module _ (A own : Local) (sub : ℕ → Local) (Φ Ψ : ℕ → Facet) (arm long
       go : (slot_of (sub M) r.d ≡ 0) ⊎ ((i : ℕ) × (i < 3) × (slot_of (sub M) r.d ≡ 3 - i)) → (M ≡ slot_of A d) × Stays (A.number (half d))
       go (inl z) =
           let e : M ≡ slot_of A d = Z.outer-names M (slot_of A d) l_m (slot_lt d on) (sym (rest-name M l_m r.d z) ∙ named) in
-          (e, keep M l_m Stays (λ j t j' t'. Z.Stays-on M j t j' t' l_m) (sub M) r.d d ((Z.rest-shows M l_m).to r.d r.on z) on (sym e) (same-lower (sub M) r.d A d r.is))
+          (e, keep M l_m Stays (λ j t j' t'. Z.stays_on M j t j' t' l_m) (sub M) r.d d ((Z.rest-shows M l_m).to r.d r.on z) on (sym e) (same-lower (sub M) r.d A d r.is))
       go (inr (i, li, z)) =
           absurd (Z.apart-names (slot_of A d) (slot_edge M i) (slot_lt d on) (slot-edge M i l_m li).lt (sym named ∙ inner-name M i l_m li r.d z))
 

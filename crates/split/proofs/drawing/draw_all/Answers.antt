@@ -6,6 +6,7 @@ use Rattle.booking.proofs.Totals.{all-few}
 use Rattle.split.specs.work.Table.{table_drawn}
 use Rattle.split.proofs.Tables.{drawn-long}
 use Rattle.split.proofs.drawing.draw_all.Goals as goal
+use Rattle.split.proofs.drawing.draw_all.Goals.{then-area-s+else-area-t, else-area-s}
 
 pub count_all-requires : goal.count_all-requires
 count_all-requires c = tt
@@ -22,7 +23,7 @@ write_all-requires c = let A = c.args in
     let G = c.requires in
     let d = drawn-long A.cells.now A.counts.now A.names.now A.sides.now A.starts.now in
     let few = all-few A.cells.now A.counts.now A.names.now A.sides.now A.starts.now in
-    record { splits_value = G.splits_are; starts_in_bounds = ⊎_elim (λ v. omega (arith, v.1.ensures, v.2.left, G, d)) (λ v. omega (arith, few, G, d, v.left)) c.if-area-s.branch }
+    record { splits_value = G.splits_are; starts_in_bounds = elim c.if-area-s.branch [ then-area-s+else-area-t w ↦ omega (arith, w.count_all.ensures, w.if-area-t.false, G, d) | else-area-s w ↦ omega (arith, few, G, d, w.if-area-s.false) ] }
 
 pub returns : goal.returns
 returns c = c.write_all.ensures

@@ -1,0 +1,7 @@
+use Prim.Native.Nat.{ℕ, ◌+◌, ◌*◌, ◌<◌}
+use Rattle.cell.specs.Of.{count_of}
+use Rattle.booking.specs.Booking.{larger, smaller}
+use Rattle.split.proofs.+split_in.Given as goal
+
+abbrev pub decreases-split_in : goal.decreases-split_in
+decreases-split_in l = larger (count_of l.c) + smaller (count_of l.c)

@@ -1,0 +1,8 @@
+use Prim.Native.Nat.{ℕ, ◌+◌, ◌*◌, ◌<◌}
+use Rattle.place.specs.Place.{all_numbers}
+use Rattle.cell.specs.Of.{count_of}
+use Rattle.booking.specs.Booking.{larger, smaller}
+use Rattle.split.proofs.placing.+centres_in.Given as goal
+
+abbrev pub decreases-centres_in : goal.decreases-centres_in
+decreases-centres_in l = larger (count_of l.c) + smaller (count_of l.c)

@@ -1,0 +1,7 @@
+use Prim.Native.Nat.{ℕ, ◌+◌, ◌*◌, ◌<◌}
+use Rattle.cell.specs.Of.{count_of}
+use Rattle.booking.specs.Booking.{larger, smaller}
+use Rattle.split.proofs.placing.+inner_in.Given as goal
+
+abbrev pub decreases-inner_in : goal.decreases-inner_in
+decreases-inner_in l = larger (count_of l.c) + smaller (count_of l.c)
