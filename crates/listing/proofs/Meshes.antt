@@ -104,7 +104,7 @@ module _ (G : Grid) where
 
       stored : after ≡ sets before 0 (mesh_words G)
       unfolding mesh_area mesh_words
-      stored = area ∙ simp accepted (sym (writes.has_room (mesh_triangles G) before 0 (omega (arith, (has-room (mesh_triangles G) (mesh_splits G) t s before answered).1))).1)
+      stored = area ∙ simp accepted (sym (writes.has-room (mesh_triangles G) before 0 (omega (arith, (has-room (mesh_triangles G) (mesh_splits G) t s before answered).1))).1)
 
       long : length (mesh_words G) ≡ word_count * t
       unfolding mesh_words

@@ -128,8 +128,8 @@ abbrev pub most_numbers : ℕ
 most_numbers = first_inner_crossing
 
 -- the run's first number on its side j, and how many crossings it has there
-abbrev pub field_own : (sides : List ℕ) → (from : ℕ) → (own : List ℕ) → ℕ → ℕ
-field_own sides from own j = get_or own (side_from sides from j) 0
+abbrev pub own_at : (sides : List ℕ) → (from : ℕ) → (own : List ℕ) → ℕ → ℕ
+own_at sides from own j = get_or own (side_from sides from j) 0
 
 abbrev pub side_count : (counts sides : List ℕ) → (from j : ℕ) → ℕ
 side_count counts sides from j = get_or counts (side_from sides from j) 0
@@ -140,13 +140,13 @@ pub record Leading (f : ℕ → ℕ) (counts starts sides : List ℕ) (from n : 
   pub edge : (j : ℕ) → j < n → side_from sides from j < length counts
   pub few-counts : length counts ≤ most_edges
   pub starts-long : length starts ≡ length counts
-  pub leads : (j i : ℕ) → j < n → i < side_count counts sides from j → f (field_own sides from own j + i) ≡ get_or starts (side_from sides from j) 0 + i
-  pub below : (j : ℕ) → j < n → field_own sides from own j + side_count counts sides from j ≤ most_numbers
+  pub leads : (j i : ℕ) → j < n → i < side_count counts sides from j → f (own_at sides from own j + i) ≡ get_or starts (side_from sides from j) 0 + i
+  pub below : (j : ℕ) → j < n → own_at sides from own j + side_count counts sides from j ≤ most_numbers
   pub small : (j : ℕ) → j < n → get_or starts (side_from sides from j) 0 + side_count counts sides from j ≤ most_numbers
 
 -- the crossings of these sides have the whole's numbers in a table
 pub record CrossingsNumbered (f : ℕ → ℕ) (counts sides : List ℕ) (from n : ℕ) (own table : List ℕ) : Type 0 where
-  pub number : (j i : ℕ) → j < n → i < side_count counts sides from j → get_or table (field_own sides from own j + i) 0 ≡ f (field_own sides from own j + i)
+  pub number : (j i : ℕ) → j < n → i < side_count counts sides from j → get_or table (own_at sides from own j + i) 0 ≡ f (own_at sides from own j + i)
 
 -- WORDS PUT OVER
 

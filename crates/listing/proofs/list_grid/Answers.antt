@@ -9,27 +9,27 @@ use Rattle.listing.proofs.list_grid.Goals as goal
 pub list_mesh-requires : goal.list_mesh-requires
 list_mesh-requires c = let a = c.args in
     let p = c.requires in
-    let o = (goal.at.list_mesh-requires c).After-open-arg-1.«open» in
-    (opened-accepted a.nodes.now a.ends.now a.counts.now a.starts.now p.0 _ _ (sym (ap check_numbers c.in-Crossings.is) ∙ o.ensures.0) o.ensures.1, p.1)
+    let o = c.«open» in
+    (opened-accepted a.nodes.now a.ends.now a.counts.now a.starts.now p.0 _ _ (sym (ap check_numbers c.in-Crossings.is) ∙ o.ensures.result_value) o.ensures.starts_after, p.1)
 
 pub returns-in-Refused : goal.returns-in-Refused
 returns-in-Refused c = let a = c.args in
     let p = c.requires in
-    let o = (goal.at.returns-in-Refused c).After-open.«open» in
+    let o = c.«open» in
     record {
       stored = stored_as c.put_refused.ensures.stored
-          (check-refused (built a.nodes.now a.ends.now a.counts.now) _ _ (sym (ap check_numbers c.in-Refused.is) ∙ o.ensures.0 ∙ opened-answer a.nodes.now a.ends.now a.counts.now a.starts.now p.0)) refl;
+          (check-refused (built a.nodes.now a.ends.now a.counts.now) _ _ (sym (ap check_numbers c.in-Refused.is) ∙ o.ensures.result_value ∙ opened-answer a.nodes.now a.ends.now a.counts.now a.starts.now p.0)) refl;
       few = search rules;
-      starts = o.ensures.1;
+      starts = o.ensures.starts_after;
     }
 
 pub returns-in-Crossings : goal.returns-in-Crossings
 returns-in-Crossings c = let a = c.args in
     let p = c.requires in
-    let o = (goal.at.returns-in-Crossings c).After-open-arg-1.«open» in
+    let o = c.«open» in
     record {
       stored = stored_as c.list_mesh.ensures.stored
-          (opened-listing a.nodes.now a.ends.now a.counts.now a.starts.now p.0 _ _ (sym (ap check_numbers c.in-Crossings.is) ∙ o.ensures.0) o.ensures.1) refl;
+          (opened-listing a.nodes.now a.ends.now a.counts.now a.starts.now p.0 _ _ (sym (ap check_numbers c.in-Crossings.is) ∙ o.ensures.result_value) o.ensures.starts_after) refl;
       few = search rules;
-      starts = o.ensures.1;
+      starts = o.ensures.starts_after;
     }

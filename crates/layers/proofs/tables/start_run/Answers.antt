@@ -14,4 +14,4 @@ write_starts-requires c = let P = c.requires in
 
 pub returns : goal.returns
 returns c = let A = c.args in
-    started-run A.counts.now A.sides.now A.own-starts.now A.used.now A.run.from A.run.size A.run.mark c.requires (omega arith) c.mark.ensures c.write_starts.ensures
+    started-run A.counts.now A.sides.now A.own_starts.now A.used.now A.run.from A.run.size A.run.mark c.requires (omega arith) c.mark.ensures c.write_starts.ensures

@@ -48,7 +48,7 @@ bounds-counts-e c = let L = c.requires.by_index.1 in omega (arith, L.few-counts,
 pub number_edge-requires : goal.number_edge-requires
 number_edge-requires c = let A = c.args in
     let e = c.wide16-e.ensures.0 in
-    let x = c.wide32.ensures.0 ∙ ap (λ e. get_or A.own-starts.now e 0) e in
+    let x = c.wide32.ensures.0 ∙ ap (λ e. get_or A.own_starts.now e 0) e in
     let y = c.wide32-in-loop-j.ensures.0 ∙ ap (λ e. get_or A.starts.now e 0) e in
     let z = c.wide16.ensures.0 ∙ ap (λ e. get_or A.counts.now e 0) e in
     let I = c.loop-j.invariant in
@@ -59,14 +59,14 @@ number_edge-requires c = let A = c.args in
 pub loop-j-preserved : goal.loop-j-preserved
 loop-j-preserved c = let A = c.args in
     let e = c.wide16-e.ensures.0 in
-    let x = c.wide32.ensures.0 ∙ ap (λ e. get_or A.own-starts.now e 0) e in
+    let x = c.wide32.ensures.0 ∙ ap (λ e. get_or A.own_starts.now e 0) e in
     let y = c.wide32-in-loop-j.ensures.0 ∙ ap (λ e. get_or A.starts.now e 0) e in
     let z = c.wide16.ensures.0 ∙ ap (λ e. get_or A.counts.now e 0) e in
     let J = c.loop-j in
     let q =
     c.number_edge.ensures ∙ ap (λ a. sets J.over a (values (λ i. c.wide32-in-loop-j.result + i) c.wide16.result)) x
-    ∙ ap₂ (λ s n. sets J.over (own_at A.sides.now A.run.from A.own-starts.now J.j) (values (λ i. s + i) n)) y z in
-    (omega arith, J.invariant.1, ap length q ∙ length-sets J.over (own_at A.sides.now A.run.from A.own-starts.now J.j) (values (λ i. get_or A.starts.now (side_from A.sides.now A.run.from J.j) 0 + i) (side_count A.counts.now A.sides.now A.run.from J.j)) ∙ J.invariant.2, λ f L. numbered_more L (J.invariant.3 f L) (omega (arith, J.invariant.1)) J.invariant.2 q)
+    ∙ ap₂ (λ s n. sets J.over (own_at A.sides.now A.run.from A.own_starts.now J.j) (values (λ i. s + i) n)) y z in
+    (omega arith, J.invariant.1, ap length q ∙ length-sets J.over (own_at A.sides.now A.run.from A.own_starts.now J.j) (values (λ i. get_or A.starts.now (side_from A.sides.now A.run.from J.j) 0 + i) (side_count A.counts.now A.sides.now A.run.from J.j)) ∙ J.invariant.2, λ f L. numbered_more L (J.invariant.3 f L) (omega (arith, J.invariant.1)) J.invariant.2 q)
 
 pub shape_of-over : goal.shape_of-over
 shape_of-over c = c.loop-j.invariant.2 ∙ sym c.requires.over_len
