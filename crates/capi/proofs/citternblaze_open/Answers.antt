@@ -9,7 +9,7 @@ pub returns-then-answer-lt-ANSWER_WORDS : goal.returns-then-answer-lt-ANSWER_WOR
 returns-then-answer-lt-ANSWER_WORDS c = record { answer = answers_short (search rules); starts = room-short _ _ _ (search rules) }
 
 pub returns-in-Crossings : goal.returns-in-Crossings
-returns-in-Crossings c = record { answer = answers-told check_numbers c.in-Crossings.is (goal.at.returns-in-Crossings c).After-open.«open».ensures.0 c.put.ensures; starts = room_enough _ _ _ (search rules) (goal.at.returns-in-Crossings c).After-open.«open».ensures.1 }
+returns-in-Crossings c = record { answer = answers-told check_numbers c.in-Crossings.is c.«open».ensures.result_value c.put.ensures; starts = room_enough _ _ _ (search rules) c.«open».ensures.starts_after }
 
 pub returns-in-Refused : goal.returns-in-Refused
-returns-in-Refused c = record { answer = answers-are (refused-numbers _ (open-some _) _ _ (told-reads check_numbers c.in-Refused.is (goal.at.returns-in-Refused c).After-open.«open».ensures.0)) c.put-in-Refused.ensures; starts = room_enough _ _ _ (search rules) (goal.at.returns-in-Refused c).After-open.«open».ensures.1 }
+returns-in-Refused c = record { answer = answers-are (refused-numbers _ (open-some _) _ _ (told-reads check_numbers c.in-Refused.is c.«open».ensures.result_value)) c.put-in-Refused.ensures; starts = room_enough _ _ _ (search rules) c.«open».ensures.starts_after }
