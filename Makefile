@@ -3,7 +3,7 @@
 #   make check                        installs into an empty prefix, and builds and runs examples/ and python/ from there
 #   make install PREFIX=.. DESTDIR=.. the libraries, the two headers, citternblaze.pc
 #   make uninstall PREFIX=.. DESTDIR=..
-# STATICLIBS=DIR takes libcapi.a and libhost.a from there, in place of proving and building them with `rt staticlib`.
+# STATICLIBS=DIR takes libcapi.a and libhost.a from there, in place of proving and building them with scripts/libraries.sh.
 
 PREFIX ?= /usr/local
 LIBDIR ?= $(PREFIX)/lib

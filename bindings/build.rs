@@ -1,6 +1,6 @@
 //! Links the proved calls: libcapi.a and libhost.a in the folder that
 //! CITTERNBLAZE_LIB names, or else in target/staticlib of the repository, where
-//! `rt staticlib capi` and `rt staticlib host` write them.
+//! `scripts/libraries.sh capi host` puts them.
 
 use std::env;
 use std::path::{Path, PathBuf};
@@ -18,7 +18,7 @@ fn main() {
         let library = folder.join(format!("lib{name}.a"));
         assert!(
             library.is_file(),
-            "{} is missing: run `rt staticlib {name}`",
+            "{} is missing: run `scripts/libraries.sh {name}`",
             library.display()
         );
         println!("cargo:rerun-if-changed={}", library.display());

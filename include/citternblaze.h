@@ -1,7 +1,8 @@
 /* Citternblaze: a tetrahedral mesher whose every call is proved. The calls are
  * in libcitternblaze.a and libcitternblaze.so (`make`, `make install`; of the
- * checkout alone also libcapi.a, by `rt staticlib capi`). docs/FORMAT.md says what a
- * grid, a mesh, a bundle and each refusal are; examples/ has programs.
+ * checkout alone also libcapi.a, by `scripts/libraries.sh capi`).
+ * docs/FORMAT.md says what a grid, a mesh, a bundle and each refusal are;
+ * examples/ has programs.
  *
  * Lists and areas. A list or an area is a pointer and the number of its
  * elements. The caller lends it for the length of the call: no call keeps a

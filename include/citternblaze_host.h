@@ -1,5 +1,5 @@
-/* What a C program can ask about the bytes of a bundle: the crate `host`, built by `rt staticlib host` into libhost.a. docs/FORMAT.md says what a
- * bundle is. The calls that read and write bundles and mesh grids are in citternblaze.h.
+/* What a C program can ask about the bytes of a bundle: the crate `host`, built by `scripts/libraries.sh host` into libhost.a. docs/FORMAT.md says
+ * what a bundle is. The calls that read and write bundles and mesh grids are in citternblaze.h.
  *
  * Each function takes the bytes and their number. It reads nothing outside of them, writes nothing that is the caller's, and keeps no pointer.
  * `bytes` may be NULL where `length` is 0. An input may have any length. A call goes over the records once, and over the edges

@@ -1,7 +1,7 @@
 #!/usr/bin/env bash
 # Times the library of this tree beside another build of it, whose libcapi.a is in the folder that the first argument names, in one run
 # (docs/SPEED.md). The others are the benchmark's: milliseconds for each measure, and the front of the names of the only grids to take.
-# Wants target/staticlib/libcapi.a and libhost.a (`rt staticlib capi`, `rt staticlib host`).
+# Wants target/staticlib/libcapi.a and libhost.a (`scripts/libraries.sh capi host`).
 set -euo pipefail
 cd "$(dirname "$0")/.."
 

@@ -1,6 +1,6 @@
 #!/usr/bin/env bash
 # Builds the C program that calls every function of include/citternblaze.h, and compares what it prints with what it must. Wants
-# target/staticlib/libcapi.a (`rt staticlib capi`).
+# target/staticlib/libcapi.a (`scripts/libraries.sh capi`).
 set -euo pipefail
 cd "$(dirname "$0")/.."
 library=target/staticlib/libcapi.a

@@ -1,11 +1,12 @@
 #!/usr/bin/env bash
-# Builds the proved calls as static libraries, calls them from C, and compares them and the program meshlist with the second implementation in
-# reference/. Wants target/bin/meshlist (`rt check meshlist`).
-# CITTERNBLAZE_SEED sets the seed of random input, CITTERNBLAZE_GRIDS the number of random grids; RT names the kit's command, else rt.
+# Builds the proved calls as static libraries and the program meshlist, calls the libraries from C, and compares all with the second implementation in
+# reference/.
+# CITTERNBLAZE_SEED sets the seed of random input, CITTERNBLAZE_GRIDS the number of random grids; RT names the kit's command, else rt; with
+# RT=true nothing is built, and what stands in target/ is taken.
 set -euo pipefail
 cd "$(dirname "$0")/.."
 
-"${RT:-rt}" staticlib capi
+scripts/libraries.sh capi meshlist
 scripts/c_test.sh
 scripts/examples.sh
 tests/c/run_host.sh

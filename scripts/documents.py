@@ -24,7 +24,8 @@ ROOT = pathlib.Path(__file__).resolve().parent.parent
 # documents whose names are checked; in all others, and in whatever else stands in docs/, only paths are. Notes in docs/changes are of their day
 NAMED = ["README.md", "docs/CLAIMS.md", "docs/ARCHITECTURE.md", "docs/CONTRACTS.md", "docs/DEMAND3.md", "docs/DECISIONS.md"]
 OTHERS = ["CONTRIBUTING.md", "CHANGELOG.md", "docs/changes/README.md", "samples/README.md"]
-OTHERS += sorted(f"docs/{path.name}" for path in (ROOT / "docs").glob("*.md") if f"docs/{path.name}" not in NAMED)
+# docs/PORT.md tells of files that were there too
+OTHERS += sorted(f"docs/{path.name}" for path in (ROOT / "docs").glob("*.md") if f"docs/{path.name}" not in [*NAMED, "docs/PORT.md"])
 TEXTS = ["crates.txt", "VERSION", "include/citternblaze.h", "bindings/Cargo.toml", "tools/Cargo.toml"]
 # what has a version too, where it is there
 MAYBE = ["python/citternblaze/_version.py"]
@@ -173,7 +174,7 @@ def plain_names(line):
 def dependencies(text):
     """What each crate rests on, by crates.txt."""
     lines = [line.split("#")[0].strip() for line in text.split("\n")]
-    return {line.split(":")[0].strip(): line.split(":")[1].split() for line in lines if ":" in line}
+    return {line.split(":")[0].split()[0]: line.split(":")[1].split() for line in lines if ":" in line}
 
 
 def nearest(all_of):
@@ -311,7 +312,7 @@ CHANGES = [
     ("docs/DEMAND3.md", "`RingsHappen`", "`RingsHappened`"),
     ("docs/CONTRACTS.md", "`face_join`", "`face_joined`"),
     ("docs/ARCHITECTURE.md", "| `host` |", "| `hosts` |"),
-    ("crates.txt", "host: bundle", "host: bundle grid"),
+    ("crates.txt", "host staticlib: bundle", "host staticlib: bundle grid"),
     ("docs/DECISIONS.md", "- **2.2 ", "- **2.3 "),
     ("VERSION", ".", ".1"),
     ("tools/Cargo.toml", 'version = "', 'version = "1'),

@@ -1,6 +1,6 @@
 #!/usr/bin/env bash
 # Builds examples/triangles.c as C and as C++, runs both on samples, and compares what they print with examples/*.out. Wants
-# target/staticlib/libcapi.a (`rt staticlib capi`).
+# target/staticlib/libcapi.a (`scripts/libraries.sh capi`).
 set -euo pipefail
 cd "$(dirname "$0")/.."
 library=target/staticlib/libcapi.a

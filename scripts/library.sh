@@ -1,7 +1,7 @@
 #!/usr/bin/env bash
 # Makes libcitternblaze.a and libcitternblaze.so of the calls and the host's three functions, in a folder.
 #   library.sh DIR
-# STATICLIBS names a folder that has libcapi.a and libhost.a, else `rt staticlib` proves and builds them. CC names the compiler that links.
+# STATICLIBS names a folder that has libcapi.a and libhost.a, else scripts/libraries.sh proves and builds them. CC names the compiler that links.
 set -euo pipefail
 cd "$(dirname "$0")/.."
 folder=${1:?library.sh wants a folder}
@@ -10,8 +10,7 @@ major=${version%%.*}
 
 built=${STATICLIBS:-}
 if [ -z "$built" ]; then
-  "${RT:-rt}" staticlib capi
-  "${RT:-rt}" staticlib host
+  scripts/libraries.sh capi host
   built=target/staticlib
 fi
 

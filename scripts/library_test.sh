@@ -1,7 +1,7 @@
 #!/usr/bin/env bash
 # Installs the library into an empty prefix, and builds and runs from there what a user would: examples/ in C and C++, static and shared, by gcc and
 # clang; the package of python/ from the checkout, installed by pip, and once under valgrind. Wants target/staticlib/libcapi.a and libhost.a
-# (`rt staticlib`) and reference/target/release/meshlist_ref (scripts/samples.sh).
+# (scripts/libraries.sh) and reference/target/release/meshlist_ref (scripts/samples.sh).
 set -euo pipefail
 cd "$(dirname "$0")/.."
 python=/usr/bin/python3

@@ -1,6 +1,6 @@
 #!/usr/bin/env bash
 # Makes docs/QUALITY.md and its pictures anew, or with --check compares them with what they must be. Wants target/staticlib/libcapi.a
-# (`rt staticlib capi`).
+# (`scripts/libraries.sh capi`).
 set -euo pipefail
 cd "$(dirname "$0")/.."
 

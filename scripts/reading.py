@@ -17,7 +17,7 @@ from collections import namedtuple
 
 ROOT = pathlib.Path(__file__).resolve().parent.parent
 WORD = re.compile(r"[^\s(){}\[\];,.\\λ⌜⌝«»:]+")
-PATH = re.compile(r"Rattle·(\w+)(?:·\w+)?\.(.+)$")
+PATH = re.compile(r"Rattle\.(\w+)\.(specs\..+)$")
 HEAD = re.compile(r"^(\s*)(?:unfoldable |abbrev )?(?:pub )?(abbrev |record |data |opaque )?([^\s(){}\[\];,.:=]+)(.*)$")
 NO_NAMES = {"unfoldable", "module", "where", "unfolding", "use", "pub", "let", "in", "|", "record", "data", "abbrev", "--"}
 
@@ -178,7 +178,7 @@ class House:
 
     def find(self, crate, module, name, depth=0):
         """The file and the name of what a module of a crate calls by this name."""
-        declared = re.match(r"specs\.declared\.(\w+)", module)
+        declared = re.match(r"specs\.declared\.(?:[a-z_]\w*\.)*([A-Z]\w*)", module)
         if declared:
             key = self.types.get((crate, declared.group(1)))
             return (key, declared.group(1)) if key else None
@@ -200,8 +200,8 @@ class House:
         for line in lines:
             if line.strip().startswith("--"):
                 continue
-            # a projection `.field` names no definition
-            for word in WORD.findall(re.sub(r"(?<=[\s(])\.[^\s(){}\[\];,]+", " ", line)):
+            # a projection `x.field` names no definition but x
+            for word in WORD.findall(re.sub(r"\.[^\s(){}\[\];,.]+", " ", line)):
                 found.add(self.known(key, word))
             for other, (crate, module) in self.imported[key][1].items():
                 for name in re.findall(r"(?<![\w.·-])" + re.escape(other) + r"\.([^\s(){}\[\];,.]+)", line):
@@ -227,7 +227,7 @@ class House:
             for at, line in enumerate(lines):
                 if re.match(rf'pub (extern "C" )?fn {function}\b', line):
                     end = next(e for e in range(at, len(lines)) if lines[e] == "{" or lines[e].endswith(" {"))
-                    first = next((e for e in range(at, end) if "⌜" in lines[e] or "ensures" in lines[e]), end)
+                    first = next((e for e in range(at, end) if re.match(r"\s*(requires|ensures)\b", lines[e])), end)
                     return key, at + 1, self.named(key, lines[first:end])
         raise SystemExit(f"reading: {crate} has no public function {function}")
 
@@ -324,7 +324,7 @@ def page(house, crates, title, crate, function):
 
 def made(root):
     house = House(root)
-    crates = [line.split(":")[0] for line in (root / "crates.txt").read_text().split("\n") if re.match(r"\w+:", line)]
+    crates = [re.split(r"[ :]", line)[0] for line in (root / "crates.txt").read_text().split("\n") if re.match(r"\w+( staticlib)?:", line)]
     out = [
         "# What a reader has to believe",
         "",
@@ -350,7 +350,7 @@ def test():
         face = specs / "Face.antt"
         face.write_text("abbrev pub two : ℕ\ntwo = 2\n\nabbrev pub answer : ℕ\nanswer = 3\n")
         (src / "lib.rt").write_text(
-            "ghost use Rattle·face·specs.specs.Face.{answer};\npub fn face_join() -> u32\n    ensures { λ r. ⌜ r ≡ answer ⌝ }\n{\n    3\n}\n"
+            "ghost use Rattle.face.specs.Face.{answer};\npub fn face_join() -> u32\n    ensures { result ≡ answer }\n{\n    3\n}\n"
         )
         house = House(root)
         pages = ["\n".join(page(house, ["face"], *CALLS[0]))]

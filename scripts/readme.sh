@@ -1,7 +1,7 @@
 #!/usr/bin/env bash
 # Runs README's commands as they stand, and compares what they print with what README says: the program proved and unproved, the programs in C and
-# Python, and the tool's installation, the last into a folder of its own. The tool's other lines are run by scripts/tools.sh. Wants the crates proved
-# (`rt check`) and the libraries built (`rt staticlib`), so that nothing is proved again, and tools/target/release/citternblaze.
+# Python, and the tool's installation, the last into a folder of its own. The tool's other lines are run by scripts/tools.sh. Wants the libraries
+# and the program built (scripts/libraries.sh), so that nothing is proved again, and tools/target/release/citternblaze.
 set -euo pipefail
 cd "$(dirname "$0")/.."
 work=$(mktemp -d)
@@ -15,24 +15,17 @@ command_of() {
   cat "$work/lines"
 }
 
-# `rt staticlib` proves its crate each time: a library that is built already is taken as it is
-mkdir -p "$work/path"
-cat >"$work/path/rt" <<END
-#!/bin/sh
-if [ "\$1" = staticlib ] && [ -s "target/staticlib/lib\$2.a" ]; then exit 0; fi
-exec "$(command -v rt)" "\$@"
-END
-chmod +x "$work/path/rt"
-PATH=$work/path:$PATH
-
 mkdir -p target
 sed -n '/^    cells /,/^$/s/^    //p' README.md >"$work/listing"
 [ "$(wc -l <"$work/listing")" -eq 3 ] || fail "README has no listing"
-for start in "rt try meshlist" "rt check meshlist"; do
+for start in "rt try" "scripts/libraries.sh meshlist"; do
   line=$(command_of "$start")
   bash -c "$line" >"$work/printed" || fail "ends with a fault: $line"
   tail -n 3 "$work/printed" | diff "$work/listing" - || fail "prints another listing: $line"
 done
+
+# the libraries are taken as they are built
+export RT=true
 
 sed -n '/^```c$/,/^```$/p' README.md | sed '1d;$d' >target/ten.c
 sed -n '/^```python$/,/^```$/p' README.md | sed '1d;$d' >target/ten.py

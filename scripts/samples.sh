@@ -1,6 +1,6 @@
 #!/usr/bin/env bash
 # Runs the program meshlist, and that of the second implementation, on every bundle of samples/, and compares what each prints with the bundle's
-# listing, byte for byte. Fails where a bundle has no listing or a listing no bundle. Wants target/bin/meshlist (`rt check meshlist`).
+# listing, byte for byte. Fails where a bundle has no listing or a listing no bundle. Wants target/bin/meshlist (`scripts/libraries.sh meshlist`).
 set -euo pipefail
 cd "$(dirname "$0")/.."
 

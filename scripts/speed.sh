@@ -1,6 +1,6 @@
 #!/usr/bin/env bash
 # Times every call of the library in one run, and prints the tables of docs/SPEED.md in Markdown. Takes about five minutes on an idle machine.
-# Wants target/staticlib/libcapi.a and libhost.a (`rt staticlib capi`, `rt staticlib host`), or the folder of both in CITTERNBLAZE_LIB.
+# Wants target/staticlib/libcapi.a and libhost.a (`scripts/libraries.sh capi host`), or the folder of both in CITTERNBLAZE_LIB.
 #
 #     scripts/speed.sh [--write] [--instructions] [MILLISECONDS]
 #

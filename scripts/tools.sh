@@ -1,7 +1,7 @@
 #!/usr/bin/env bash
 # Tests the calls for Rust of bindings/, builds and tests the program citternblaze of tools/, runs it on all samples and on random grids, and takes what it writes to readers that are not
-# ours: meshio and assimp for meshes, xmllint and rsvg-convert for pictures. Wants libcapi.a and libhost.a in target/staticlib (`rt staticlib capi`,
-# `rt staticlib host`), or in the folder that CITTERNBLAZE_LIB names.
+# ours: meshio and assimp for meshes, xmllint and rsvg-convert for pictures. Wants libcapi.a and libhost.a in target/staticlib (`scripts/libraries.sh capi
+# host`), or in the folder that CITTERNBLAZE_LIB names.
 set -euo pipefail
 cd "$(dirname "$0")/.."
 manifest=tools/Cargo.toml

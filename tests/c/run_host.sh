@@ -8,7 +8,7 @@ if [ -z "$cc" ]; then
     echo "run_host: no C compiler found" >&2
     exit 1
 fi
-"${RT:-rt}" staticlib host
+scripts/libraries.sh host
 library=target/staticlib/libhost.a
 if [ ! -s "$library" ]; then
     echo "run_host: $library is missing" >&2

@@ -1,6 +1,6 @@
 //! The program meshlist, run on bundles, against the listing of the second
 //! implementation. It is the file that CITTERNBLAZE_MESHLIST names, or else
-//! target/bin/meshlist of the repository, where `rt check meshlist` writes it.
+//! target/bin/meshlist of the repository, where `scripts/libraries.sh meshlist` puts it.
 
 use std::env;
 use std::fs::File;
@@ -27,7 +27,7 @@ fn program() -> PathBuf {
 /// What the program prints where its input comes from this.
 fn prints(input: Stdio) -> Vec<u8> {
     let output = Command::new(program()).stdin(input).output();
-    let output = output.expect("the program runs: `rt check meshlist` builds it");
+    let output = output.expect("the program runs: `scripts/libraries.sh meshlist` builds it");
     assert!(output.status.success() && output.stderr.is_empty());
     output.stdout
 }
@@ -38,7 +38,7 @@ fn prints_for(bytes: &[u8], first: usize) -> Vec<u8> {
         .stdin(Stdio::piped())
         .stdout(Stdio::piped())
         .spawn();
-    let mut child = child.expect("the program runs: `rt check meshlist` builds it");
+    let mut child = child.expect("the program runs: `scripts/libraries.sh meshlist` builds it");
     let mut input = child.stdin.take().expect("its input");
     // a program that has read all that it takes leaves the rest without a reader
     let _ = input.write_all(&bytes[..first]);
