@@ -31,7 +31,7 @@ TEXTS = ["crates.txt", "VERSION", "include/citternblaze.h", "bindings/Cargo.toml
 MAYBE = ["python/citternblaze/_version.py"]
 MOST_BYTES = 9000
 # programs that README's commands may start with
-PROGRAMS = {"rt", "cargo", "cc", "citternblaze", "make", "export"}
+PROGRAMS = {"rt", "cd", "cargo", "cc", "citternblaze", "make", "export"}
 # what is built, and so is not in the repository
 BUILT = ("target/", "tools/target/", "reference/target/")
 SOURCES = ("*.rt", "*.antt", "*.edit", "*.rs", "*.h", "*.c", "*.sh", "*.py", "*.toml", "*.out", "*.expected")
@@ -232,7 +232,7 @@ def check_readme(text, repository):
     fenced = False
     for number, line in enumerate(text.split("\n"), 1):
         fenced ^= line.startswith("```")
-        command = line.strip()
+        command = line.strip().lstrip("(")
         if fenced or not line.startswith("    ") or not re.match(r"[a-z.]", command):
             continue
         if command.split()[0] not in PROGRAMS and not repository.exists(command.split()[0]) and not re.match(r"cells \d", command):
@@ -304,7 +304,7 @@ CHANGES = [
     ("README.md", "docs/pictures/", "docs/picture/"),
     ("README.md", "samples/two-on-01.bundle", "samples/three-on-01.bundle"),
     ("README.md", "# Citternblaze\n", "# Citternblaze\n" + "x" * MOST_BYTES + "\n"),
-    ("docs/CLAIMS.md", "[`faceLaws`](", "[`faceLawes`]("),
+    ("docs/CLAIMS.md", "[`face_laws`](", "[`face_lawes`]("),
     ("docs/CLAIMS.md", "[`FaceLaws`](../crates/face/specs/claims/Claims.antt)", "[`FaceLaws`](../crates/face/specs/Face.antt)"),
     ("docs/CLAIMS.md", ", [`TableLength`](../crates/cases/specs/claims/Claims.antt)", ""),
     ("docs/CLAIMS.md", "crates/face/proofs/Claims.antt", "crates/face/proofs/Claim.antt"),

@@ -2,8 +2,8 @@
 """A quick look at the contracts of all functions under crates/, before anything is proved.
 
 Found are a public function with a `requires`, a function that gives or writes something and has no `ensures`, and a public one that may write to lent
-memory of which its `ensures` says nothing; a private one may leave open what a lent work array holds. `main` is left out: no contract can say what a
-program reads and writes.
+memory of which its `ensures` does not say what it becomes (`x.new`); a private one may leave open what a lent work array holds. `main` is left out:
+no contract can say what a program reads and writes.
 
     contracts.py [ROOT]    a line for each; exit status 1 where there is one. ROOT holds crates/, else it is this repository
     contracts.py --test    show that each kind is found
@@ -20,7 +20,7 @@ def head_of(rest):
         if rest[i] == ";" and not square:    # not the one of an array's type
             return rest[:i]
         if rest[i] == "{":
-            if not re.search(r"(requires|ensures)(\s+\w+)?$", rest[:i].rstrip()):
+            if not re.search(r"(requires|ensures)\*?(\s+\w+)?$", rest[:i].rstrip()):
                 return rest[:i]
             depth, i = 1, i + 1
             while depth and i < len(rest):
@@ -42,7 +42,7 @@ def faults(head, name, public):
     if ("->" in signature or lent) and not promises:
         told.append(f"fn {name} has no `ensures`")
     elif public:
-        told += [f"fn {name} says nothing of `{one}`, which it may write" for one in lent if not re.search(rf"\b{one}\b", promises)]
+        told += [f"fn {name} says nothing of `{one}`, which it may write" for one in lent if not re.search(rf"\b{one}\.new\b", promises)]
     return told
 
 
@@ -55,11 +55,12 @@ def look(text):
     return told
 
 
-GOOD = 'pub fn a(x: &mut [u8; 4]) -> u8\n    ensures { λ r. ⌜ x ≡ r ⌝ }\n{\n    1\n}\n'
+GOOD = 'pub fn a(x: &mut [u8; 4]) -> u8\n    ensures { get_or x.new 0 0 ≡ result }\n{\n    1\n}\n'
 BAD = {
-    "a public requires": GOOD.replace("    ensures", "    requires { ⌜ x ⌝ }\n    ensures"),
+    "a public requires": GOOD.replace("    ensures", "    requires { length x.old ≡ 4 }\n    ensures"),
     "no ensures": "fn a(x: u8) -> u8 {\n    x\n}\n",
-    "lent memory left open": GOOD.replace("x ≡ r", "r ≡ r"),
+    "lent memory left open": GOOD.replace("get_or x.new 0 0 ≡ ", "0 ≡ "),
+    "of lent memory only what it was": GOOD.replace("x.new", "x.old"),
     "lent memory without a contract": "fn a(x: &mut [u8]) {\n}\n",
 }
 
