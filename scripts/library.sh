@@ -35,5 +35,6 @@ ar crsD "$work/libcitternblaze.a" "$work/capi.o" "$work/host.o"
 chmod 644 "$work/libcitternblaze.so.$version"
 
 mv "$work/libcitternblaze.a" "$work/libcitternblaze.so.$version" "$folder"
-ln -sf "libcitternblaze.so.$version" "$folder/libcitternblaze.so.$major"
-ln -sf "libcitternblaze.so.$major" "$folder/libcitternblaze.so"
+# no symbolic links: `rt ci` refuses any in the checkout
+ln -f "$folder/libcitternblaze.so.$version" "$folder/libcitternblaze.so.$major"
+ln -f "$folder/libcitternblaze.so.$version" "$folder/libcitternblaze.so"
