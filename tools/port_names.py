@@ -3,9 +3,8 @@
 
 usage: tools/port_names.py [--table FILE]      at the top; once, with everything of port.py in place. FILE gets the table of names, old, tab, new
 
-A word in camel case or with dashes becomes snake case: mostCells, third-is -> most_cells, third_is. A dash stays where it joins two names, that
-is where what stands on either side is itself a definition of this repository or a word of the library (tally-append, pick-true), and where the
-word without it is another name already. Types, modules, functions of src/, exported names, strings and files keep their names.
+A word in camel case or with dashes becomes snake case: mostCells, third-is -> most_cells, third_is. A dash stays where the word without it is
+another name already: slot-edge is a lemma, slot_edge the definition that it is about. What Rattle makes of the source keeps its dashes: names of goals and steps. A second run changes nothing. Types, modules, functions of src/, exported names, strings and files keep their names.
 
 `result` means what a function returns, and nothing else: the definition of that name is result_of. The clauses that kept a λ for its sake are plain.
 Definitions that a contract names and whose new name a parameter of Rust has already get another, by the table TAKEN.
@@ -17,15 +16,15 @@ import re
 import sys
 
 WORD = re.compile(r'[^\s(){}.;,@"«»]+')
+CHAIN = re.compile(WORD.pattern + r"(?:\." + WORD.pattern + r")*")
 DECLARED = re.compile(
     r"(?m)^ *(abbrev |unfoldable )?(?:pub )?(?:pub )?(record |data )?"
     r'([^\s(){}.;,@"«»]+)((?: *[({][^\n]*?[)}])*) *: '
 )
-# words of the library that a dash may join to a name of ours
-LIBRARY = set(
-    "length append take drop map set sets get_or sum min max suc zero cons nil true false eqb ltb leb not replicate reverse filter ap".split()
-)
 TAKEN = {"result": "result_of"}
+PROOFS = ("Proof.antt", "Invariants.antt", "Answers.antt")
+# what a proof knows: behind these a name is one of a step or a goal
+KNOWN = ("c", "w", "l", "goal", "tie")
 SPELLED = re.compile(r"^[a-z0-9][A-Za-z0-9'_-]*$")
 
 
@@ -51,21 +50,21 @@ def snake(word):
 def main(argv):
     crates = {os.path.basename(p) for p in glob.glob("crates/*")}
     antt = below("crates/*/specs/**/*.antt") + below("crates/*/proofs/**/*.antt")
-    of_functions = [p for p in antt if os.path.basename(p) in ("Proof.antt", "Invariants.antt", "Answers.antt")]
-    rooms = [p for p in antt if p not in of_functions]
+    of_functions = {p for p in antt if os.path.basename(p) in PROOFS and os.path.basename(os.path.dirname(p)) != "proofs"}
     texts = {p: read(p) for p in antt}
     sources = {p: read(p) for p in below("crates/*/src/**/*.rt")}
 
-    own, definitions = set(), set(LIBRARY)
-    for p in rooms:
-        for kind, record, name, _ in DECLARED.findall(texts[p]):
+    own, made = set(), set()
+    for p in antt:
+        for _, _, name, _ in DECLARED.findall(texts[p]):
+            if p in of_functions and re.search(rf"(?m)^(?:abbrev )?(?:pub )?{re.escape(name)} : (?:goal|tie)\.|^(?:pub )?{re.escape(name)} : .*statement M", texts[p]):
+                made.add(name)
+                continue
             own.add(name)
-            if kind or record or "/specs/" in p:
-                definitions.add(name)
         for group in re.findall(r"(?m)^ *(?:pub )?data [^\n]* where\n((?: +[^\n]*\n)+)", texts[p]):
             for line in group.splitlines():
                 own.add(line.split()[0])
-                definitions.add(line.split()[0])
+    own -= made
 
     imported = set()
     for text in [*texts.values(), *sources.values()]:
@@ -90,12 +89,7 @@ def main(argv):
             continue
         if name in imported or not SPELLED.match(name):
             continue
-        parts = name.split("-")
-        out = snake(parts[0])
-        for k in range(1, len(parts)):
-            left, right = "-".join(parts[:k]), "-".join(parts[k:])
-            joins = left in definitions and right in definitions
-            out += ("-" if joins else "_") + snake(parts[k])
+        out = "_".join(snake(it) for it in name.split("-"))
         if out == name:
             continue
         held[name] = out
@@ -107,7 +101,6 @@ def main(argv):
             back[out] = out.replace("_", "-")
             new_of[name] = out
             continue
-        # only a dash that is needed stays
         if out in words or out in new_of.values():
             out = "-".join(snake(it) for it in parts)
         if out in words or out in new_of.values():
@@ -123,15 +116,25 @@ def main(argv):
     for word in sorted(back):
         print(f"look: the lemma {word} is {back[word]}")
 
-    def turn(text):
+    def turn(text, of_function):
         def one(m):
-            if m[0] == "result" and m.string[: m.start()].endswith("."):
-                return m[0]
-            # behind a dot the word may be what a call of the function gave, and in a path it is the function's folder
-            of_function = m[0] in functions and (m.string[: m.start()].endswith(".") or m.string[m.end() :].startswith("."))
-            return back[m[0]] if m[0] in back and not of_function else new_of.get(m[0], m[0])
+            parts = m[0].split(".")
+            keep = 0
+            if of_function and parts[0] in KNOWN:
+                keep = 1
+                while keep < len(parts) and parts[keep] == "before":
+                    keep += 1
+                keep += 1
+            for k in range(keep, len(parts)):
+                word = parts[k]
+                if word == "result" and k:
+                    continue
+                # behind a dot the word may be what a call of the function gave, and in a path it is the function's folder
+                of_function_of_ours = word in functions and (k or len(parts) > 1)
+                parts[k] = back[word] if word in back and not of_function_of_ours else new_of.get(word, word)
+            return ".".join(parts)
 
-        return WORD.sub(one, text)
+        return CHAIN.sub(one, text)
 
     camel = {o: n for o, n in new_of.items() if re.search(r"[a-z][A-Z]", o) and "-" not in o}
 
@@ -146,7 +149,7 @@ def main(argv):
             at = re.search(r"(?:^|\s)--\s", line + " ")
             if at:
                 code, comment = line[: at.start()], line[at.start() :]
-            out.append(turn(code) + in_prose(comment))
+            out.append(turn(code, p in of_functions) + in_prose(comment))
         text = "\n".join(out)
         if text != texts[p]:
             write(p, text)
@@ -163,10 +166,11 @@ def main(argv):
                 inside = True
             if inside:
                 lambdas = re.search(r"ensures\* (\w+ )?\{ λ (\w+)\. ⌜ (.*) ⌝ \}", line)
-                line = re.sub(r"(?<![\w.])result(?= \()", "result_of", line) if not lambdas else line
+                line = re.sub(r"(?<=[({≡∙∷] )result(?= \()|(?<=[({])result(?= \()", "result_of", line) if not lambdas else line
                 if lambdas:
                     fact = lambdas[3]
-                    fact = re.sub(r"(?<![\w.])result(?= [(\[])", "result_of", fact)
+                    # as the definition it stands first in its term, as an argument behind a word
+                    fact = re.sub(r"(?<=[({≡∙∷] )result(?= [(\[])|(?<=[({])result(?= [(\[])|^result(?= [(\[])", "result_of", fact)
                     if lambdas[2] != "_":
                         fact = re.sub(r"(?<![\w.-])" + lambdas[2] + r"(?![\w-])", "result", fact)
                     line = line[: lambdas.start()] + f"ensures {lambdas[1] or ''}{{ {fact} }}" + line[lambdas.end() :]
@@ -181,6 +185,12 @@ def main(argv):
         if root and "#![tactic(" not in turned:
             # the line that each crate has near its head
             turned = re.sub(r"(?m)^(?!//)", "#![tactic(auto)]\n\n", turned, count=1)
+        if turned != text:
+            write(p, turned)
+            changed += 1
+    for p in below("crates/*/must-fail/*.edit"):
+        text = read(p)
+        turned = "\n".join(turn(it, False) if it.startswith(("old: ", "new: ")) else it for it in text.split("\n"))
         if turned != text:
             write(p, turned)
             changed += 1

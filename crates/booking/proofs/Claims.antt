@@ -4,7 +4,7 @@ use mathlib.Core.Path.{◌≡◌, refl, ◌∙◌}
 use mathlib.Core.Bool.{true}
 use mathlib.Core.List.{[], ◌∷◌}
 use native.Mathlib.Omega.{arith}
-use Rattle.answer.proofs.Answer.{no-nil}
+use Rattle.answer.proofs.Answer.{no_nil}
 use Rattle.cell.specs.Cell.{Edges}
 use Rattle.cell.specs.Loop.{loop_size}
 use Rattle.cell.specs.claims.Nodes.{Arranged}
@@ -14,22 +14,22 @@ use Rattle.cell.proofs.Turn.{turn}
 use Rattle.booking.specs.declared.Booking.TheVariants.{Booked, WalkIt}
 use Rattle.booking.specs.claims.Booking.{other_length}
 use Rattle.booking.specs.claims.Claims.{OneToOne, Other, LoopLaws, CountLaws, StepLaws, Books, TrianglesBooked}
-use Rattle.booking.proofs.Counts.{twice-corner, twice-least, fits, left-opposite, left-sum, numbers}
-use Rattle.booking.proofs.Numbers.{gcd-none, long-four, long-more}
+use Rattle.booking.proofs.Counts.{twice_corner, twice_least, fits, left_opposite, left_sum, numbers}
+use Rattle.booking.proofs.Numbers.{gcd_none, long_four, long_more}
 use Rattle.booking.proofs.Closed.{goes}
 use Rattle.booking.proofs.Darts.{two_steps}
-use Rattle.booking.proofs.Lengths.{corner-loop, left-loop}
-use Rattle.booking.proofs.Corners.{on-loop, in_three, three_in}
-use Rattle.booking.proofs.Count.{long-one}
-use Rattle.booking.proofs.Triangles.{normal-all, tally-threes, tally-others, loops-booked, triangles-booked}
+use Rattle.booking.proofs.Lengths.{corner_loop, left_loop}
+use Rattle.booking.proofs.Corners.{on_loop, in_three, three_in}
+use Rattle.booking.proofs.Count.{long_one}
+use Rattle.booking.proofs.Triangles.{normal_all, tally_threes, tally_others, loops_booked, triangles-booked}
 
 count_laws : (w : ℕ → ℕ) → is_level_cell w ≡ true → {a b c d : ℕ} → Arranged a b c d → CountLaws w a b c d
 count_laws w K A = record {
-  corner = omega (arith, twice-corner w K A);
-  least-is = twice-least w K A;
+  corner = omega (arith, twice_corner w K A);
+  least_is = twice_least w K A;
   fit = fits w K A;
-  opposite = left-opposite w K A;
-  sum = left-sum w K;
+  opposite = left_opposite w K A;
+  sum = left_sum w K;
   numbers = numbers w K;
 }
 
@@ -37,29 +37,29 @@ module _ (w : Edges) (K : is_level_cell w.count ≡ true) where
   step_laws : {a b c d : ℕ} → Arranged a b c d → StepLaws w a b c d
   step_laws A = record {
     turn = turn w A;
-    three = corner-loop w K A;
+    three = corner_loop w K A;
     two = λ L q l. two_steps w K L q l;
-    other = left-loop w K A;
+    other = left_loop w K A;
   }
 
   long : (p : ℕ) → Other w p → loop_size w p ≡ other_length w.count
-  long p O = long-one w K p O.start (omega (arith, O.some)) O.no-three
+  long p O = long_one w K p O.start (omega (arith, O.some)) O.no_three
 
   loop_laws : LoopLaws w
   unfolding other_length
   loop_laws = record {
-    on = on-loop w K;
+    on = on_loop w K;
     once = λ x l. (laws w).exactly (goes w K) x l;
     in_three = in_three w K;
     three_in = three_in w K;
-    threes = tally-threes w K;
-    all-normal = normal-all w K;
-    others = tally-others w K;
+    threes = tally_threes w K;
+    all_normal = normal_all w K;
+    others = tally_others w K;
     other-length = long;
-    quads = λ e. tally-others w K ∙ gcd-none w.count e;
-    quad = λ e p O. (let f = long p O in f ∙ long-four w.count e (omega (arith, f, O.some)));
-    longer = λ h p O. omega (arith, long p O, long-more w.count h);
-    triangles = loops-booked w K;
+    quads = λ e. tally_others w K ∙ gcd_none w.count e;
+    quad = λ e p O. (let f = long p O in f ∙ long_four w.count e (omega (arith, f, O.some)));
+    longer = λ h p O. omega (arith, long p O, long_more w.count h);
+    triangles = loops_booked w K;
   }
 
 pub books : Books
@@ -70,6 +70,6 @@ triangles_booked c K = triangles-booked c K
 
 pub one_to_one : OneToOne
 one_to_one (Booked t x y n) (Booked u z v m) e = cc
-one_to_one (Booked t x y n) WalkIt e = absurd (no-nil {a = t} {l = x ∷ y ∷ n ∷ []} (cc))
-one_to_one WalkIt (Booked t x y n) e = absurd (no-nil {a = t} {l = x ∷ y ∷ n ∷ []} (cc))
+one_to_one (Booked t x y n) WalkIt e = absurd (no_nil {a = t} {l = x ∷ y ∷ n ∷ []} (cc))
+one_to_one WalkIt (Booked t x y n) e = absurd (no_nil {a = t} {l = x ∷ y ∷ n ∷ []} (cc))
 one_to_one WalkIt WalkIt e = refl

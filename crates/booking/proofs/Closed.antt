@@ -12,11 +12,11 @@ use Rattle.face.proofs.Level.{level_laws}
 use Rattle.counting.specs.Lists.{it}
 use Rattle.cell.specs.Cell.{Edges, crossings, edge, index, join_at, slot, step}
 use Rattle.cell.specs.Level.{is_level_cell}
-use Rattle.cell.proofs.Levels.{slot-level}
+use Rattle.cell.proofs.Levels.{slot_level}
 use Rattle.cell.proofs.Lay.{lay}
 use Rattle.cell.proofs.Step.{edge-number}
 use Rattle.cell.proofs.Reach.{slot-count}
-use Rattle.cell.proofs.Mates.{slot_has, mate-joined, joined-edge, joined-index}
+use Rattle.cell.proofs.Mates.{slot_has, mate_joined, joined_edge, joined_index}
 use Rattle.cell.proofs.Follow.{step_of, goes_on}
 
 module _ (w : Edges) (K : is_level_cell w.count ≡ true) where
@@ -34,10 +34,10 @@ module _ (w : Edges) (K : is_level_cell w.count ≡ true) where
     S = slot_has w d l
 
     level : LevelLaws (w.count (slot_edge s 0)) (w.count (slot_edge s 1)) (w.count (slot_edge s 2))
-    level = level_laws (slot-level w.count K s S.lt)
+    level = level_laws (slot_level w.count K s S.lt)
 
     within : index w x < count_on (w.count (slot_edge s 0)) (w.count (slot_edge s 1)) (w.count (slot_edge s 2)) j
-    within = rw (slot-count w s j S.place-lt, S.edge-is) ((lay w).index-lt x (omega arith))
+    within = rw (slot-count w s j S.place_lt, S.edge_is) ((lay w).index_lt x (omega arith))
 
     -- the segment along the dart
     record Segment : Type 0 where
@@ -57,10 +57,10 @@ module _ (w : Edges) (K : is_level_cell w.count ≡ true) where
     pub moves : edge w x ≢ edge w (step w d / 2)
     moves q =
         let G = segment in
-        let il = joined-edge w s x G.is in
+        let il = joined_edge w s x G.is in
         let E = slot-edge s G.i S.lt il in
         let e : edge w (step w d / 2) ≡ slot_edge s G.i =
-        ap (edge w) ((step_of w d l goes).to ∙ mate-joined w s x G.is) ∙ edge-number w (slot_edge s G.i) G.u E.lt (joined-index w s x G.is) in
+        ap (edge w) ((step_of w d l goes).to ∙ mate_joined w s x G.is) ∙ edge-number w (slot_edge s G.i) G.u E.lt (joined_index w s x G.is) in
         G.turns (ap (edge_rank s) (q ∙ e) ∙ E.place_is)
 
   pub lives : (i d : ℕ) → d < 2 * crossings w → it (step w) i d < 2 * crossings w

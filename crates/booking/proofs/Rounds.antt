@@ -7,20 +7,20 @@ use Rattle.counting.specs.Lists.{it}
 use Rattle.booking.specs.claims.Left.{further}
 
 module _ (n x : ℕ) where
-  pub further-lt : (q : ℕ) → q < n → further n x q < n
+  pub further_lt : (q : ℕ) → q < n → further n x q < n
   unfolding further
-  further-lt q l = mod-lt (q + x) (omega arith)
+  further_lt q l = mod-lt (q + x) (omega arith)
 
   pub furthers_lt : (j q : ℕ) → q < n → it (further n x) j q < n
   unfolding it
   furthers_lt zero q l = l
-  furthers_lt (suc j) q l = furthers_lt j (further n x q) (further-lt q l)
+  furthers_lt (suc j) q l = furthers_lt j (further n x q) (further_lt q l)
 
   pub furthers_is : (j q : ℕ) → q < n → it (further n x) j q ≡ (q + x * j) % n
   unfolding it further
   furthers_is zero q l = sym (ap (λ m. m % n) (omega (arith, mul-zero x)) ∙ mod-eq_of_lt l)
   furthers_is (suc j) q l =
-      furthers_is j (further n x q) (further-lt q l) ∙ mod-add-mod (q + x) n (x * j)
+      furthers_is j (further n x q) (further_lt q l) ∙ mod-add-mod (q + x) n (x * j)
       ∙ ap (λ m. m % n) (omega (arith, mul-suc x j))
 
 module _ (x y j q : ℕ) (l : q < 2 * (x + y)) where

@@ -19,15 +19,15 @@ use Rattle.booking.specs.claims.Booking.{booked}
 use Rattle.booking.specs.claims.Left.{pair_sum, largest_pair, Longest}
 use Rattle.booking.specs.work.Fans.{fans_answer}
 use Rattle.booking.specs.work.Sums.{Three, of_three, largest, Sums}
-use Rattle.booking.proofs.Counts.{ways, Pairs, pairs, top-cases, twice-least, twice-left, numbers}
+use Rattle.booking.proofs.Counts.{ways, Pairs, pairs, top_cases, twice_least, twice_left, numbers}
 
 -- what the largest and the least of three numbers leave of their sum is the one between
 abbrev remains : (x y z : ℕ) → ℕ
 remains x y z = x + y + z - largest x y z - smallest x y z
 
-pub remains-median : (x y z : ℕ) → remains x y z ≡ median x y z
+pub remains_median : (x y z : ℕ) → remains x y z ≡ median x y z
 unfolding median
-remains-median x y z = left (largest x y z) (smallest x y z) (median x y z) (x + y + z) (all x y z)
+remains_median x y z = left (largest x y z) (smallest x y z) (median x y z) (x + y + z) (all x y z)
   where
     all : (x y z : ℕ) → largest x y z + smallest x y z + median x y z ≡ x + y + z
     all x y z = omega arith
@@ -53,14 +53,14 @@ halves u v m p q e f = (omega arith, omega arith)
 abbrev Others : (u v m x y z : ℕ) → Type 0
 Others u v m x y z = (smallest x y z ≡ min u v) × (x + y + z ≡ m + (min u v + max u v))
 
-others-first : (u v m : ℕ) → u ≤ m → v ≤ m → Others u v m m u v
-others-first u v m a b = (omega arith, omega arith)
+others_first : (u v m : ℕ) → u ≤ m → v ≤ m → Others u v m m u v
+others_first u v m a b = (omega arith, omega arith)
 
-others-second : (u v m : ℕ) → u ≤ m → v ≤ m → Others u v m u m v
-others-second u v m a b = (omega arith, omega arith)
+others_second : (u v m : ℕ) → u ≤ m → v ≤ m → Others u v m u m v
+others_second u v m a b = (omega arith, omega arith)
 
-others-third : (u v m : ℕ) → u ≤ m → v ≤ m → Others u v m u v m
-others-third u v m a b = (omega arith, omega arith)
+others_third : (u v m : ℕ) → u ≤ m → v ≤ m → Others u v m u v m
+others_third u v m a b = (omega arith, omega arith)
 
 module _ (w : ℕ → ℕ) (K : is_level_cell w ≡ true) where
   abbrev A : Arranged 0 1 2 3
@@ -76,9 +76,9 @@ module _ (w : ℕ → ℕ) (K : is_level_cell w ≡ true) where
   z = pair_sum w 0 3 1 2
 
   -- at each node twice its corner triangles and the largest sum are its counts
-  corners-sum : corner_triangles w + 2 * largest_pair w ≡ x + y + z
+  corners_sum : corner_triangles w + 2 * largest_pair w ≡ x + y + z
   unfolding corner_triangles total
-  corners-sum = omega (arith, ways w A, twice-least w K A, twice-least w K (badc A), twice-least w K (cdab A), twice-least w K (dcba A))
+  corners_sum = omega (arith, ways w A, twice_least w K A, twice_least w K (badc A), twice_least w K (cdab A), twice_least w K (dcba A))
 
   -- d1 and d2, with the pair ad, bc the largest
   abbrev Found : Type 0
@@ -91,40 +91,40 @@ module _ (w : ℕ → ℕ) (K : is_level_cell w ≡ true) where
       let u = pair_sum w a b c d in
       let v = pair_sum w a c b d in
       let H = halves u v (largest_pair w) (left_between w a b) (left_between w a c)
-      (omega (arith, L.sum, twice-left w K B)) (omega (arith, L.sum, twice-left w K (acbd B), ways w B)) in
+      (omega (arith, L.sum, twice_left w K B)) (omega (arith, L.sum, twice_left w K (acbd B), ways w B)) in
       (sym N.most ∙ rw e H.0, sym N.least ∙ H.1 ∙ ap (λ n. (largest_pair w - n) / 2) (rest (largest_pair w) (x + y + z) (smallest x y z) (min u v) (max u v) e f))
     where
       rest : (m s l p q : ℕ) → l ≡ p → s ≡ m + (p + q) → q ≡ s - m - l
       rest m s l p q g h = omega arith
 
-  numbers-by : Found
-  numbers-by =
+  numbers_by : Found
+  numbers_by =
       ⊎_elim
       (λ (t : x ≡ largest_pair w).
       (let e : pair_sum w 0 2 3 1 ≡ y = omega (arith, ways w A) in
       let f : pair_sum w 0 3 2 1 ≡ z = omega (arith, ways w A) in
-      by (record { all = acdb A; sum = t }) (rw (e, f, ← t) (others-first y z x (omega (arith, P, t)) (omega (arith, P, t))))))
+      by (record { all = acdb A; sum = t }) (rw (e, f, ← t) (others_first y z x (omega (arith, P, t)) (omega (arith, P, t))))))
       (⊎_elim
       (λ (t : y ≡ largest_pair w).
       (let e : pair_sum w 0 1 3 2 ≡ x = omega (arith, ways w A) in
-      by (record { all = abdc A; sum = t }) (rw (e, ← t) (others-second x z y (omega (arith, P, t)) (omega (arith, P, t))))))
-      (λ (t : z ≡ largest_pair w). by (record { all = A; sum = t }) (rw (← t) (others-third x y z (omega (arith, P, t)) (omega (arith, P, t))))))
-      (top-cases w A)
+      by (record { all = abdc A; sum = t }) (rw (e, ← t) (others_second x z y (omega (arith, P, t)) (omega (arith, P, t))))))
+      (λ (t : z ≡ largest_pair w). by (record { all = A; sum = t }) (rw (← t) (others_third x y z (omega (arith, P, t)) (omega (arith, P, t))))))
+      (top_cases w A)
     where
       P : Pairs w 0 1 2 3
       P = pairs w A
 
-  pub sums-fit : 2 * largest x y z ≤ x + y + z
+  pub sums_fit : 2 * largest x y z ≤ x + y + z
   unfolding largest_pair
-  sums-fit = omega (arith, corners-sum)
+  sums_fit = omega (arith, corners_sum)
 
   -- the answer
-  pub sums-answer : of_three (largest x y z) (median x y z) (smallest x y z) ≡ fans_answer w
+  pub sums_answer : of_three (largest x y z) (median x y z) (smallest x y z) ≡ fans_answer w
   unfolding of_three fans_answer booked largest_pair
-  sums-answer =
-      let t : smallest x y z + remains x y z - largest x y z ≡ corner_triangles w = three (largest x y z) (x + y + z) (smallest x y z) (corner_triangles w) (in_order_low x y z) corners-sum in
-      let (p, q) = numbers-by in
-      rw (← remains-median x y z, K, t, ← p, ← q)
+  sums_answer =
+      let t : smallest x y z + remains x y z - largest x y z ≡ corner_triangles w = three (largest x y z) (x + y + z) (smallest x y z) (corner_triangles w) (in_order_low x y z) corners_sum in
+      let (p, q) = numbers_by in
+      rw (← remains_median x y z, K, t, ← p, ← q)
     where
       in_order_low : (x y z : ℕ) → smallest x y z + largest x y z ≤ x + y + z
       in_order_low x y z = omega arith
@@ -143,8 +143,8 @@ module _ (l : List ℕ) where
 
   pub book_sums : is_level_cell w ≡ true → (x y z : ℕ) → x ≡ w 0 + w 5 → y ≡ w 1 + w 4 → z ≡ w 2 + w 3 → (x ≤ most_sum) → (y ≤ most_sum) → (z ≤ most_sum) → Sums x y z
   unfolding joining edge_between
-  book_sums K x y z e f g a b c = record { fit = rw (e, f, g) (sums-fit w K); few = omega arith }
+  book_sums K x y z e f g a b c = record { fit = rw (e, f, g) (sums_fit w K); few = omega arith }
 
   pub book_it : is_level_cell w ≡ true → (x y z : ℕ) → x ≡ w 0 + w 5 → y ≡ w 1 + w 4 → z ≡ w 2 + w 3 → of_three (largest x y z) (median x y z) (smallest x y z) ≡ fans_answer w
   unfolding joining edge_between
-  book_it K x y z e f g = rw (e, f, g) (sums-answer w K)
+  book_it K x y z e f g = rw (e, f, g) (sums_answer w K)

@@ -12,7 +12,7 @@ use lib.ListN.{length}
 use borrow.Author.Tests.{eq-eqb, ne_eqb}
 use Rattle.counting.specs.Pick.{pick}
 use Rattle.counting.specs.Lists.{total, pre}
-use Rattle.counting.proofs.Range.{total_ext, total_add, total_mono, total-same, length_over}
+use Rattle.counting.proofs.Range.{total_ext, total_add, total_mono, total_same, length_over}
 use Rattle.cell.specs.declared.Cell.{Cell}
 use Rattle.slots.specs.Limits.{most_cells}
 use Rattle.cell.specs.work.Limits.{most_in_cell}
@@ -21,9 +21,9 @@ use Rattle.cell.specs.Level.{by_edge, is_level_cell}
 use Rattle.cell.specs.Common.{is_common}
 use Rattle.cell.specs.work.Table.{is_known, table_crossings, most_triangles, walked_at}
 use Rattle.cell.specs.claims.Table.{table_cell, taken_counts, drawn_cells, table_triangles}
-use Rattle.cell.proofs.Taken.{cell-few}
-use Rattle.cell.proofs.Using.{table-most}
-use Rattle.cell.proofs.Values.{taken_is, taken-crossings}
+use Rattle.cell.proofs.Taken.{cell_few}
+use Rattle.cell.proofs.Using.{table_most}
+use Rattle.cell.proofs.Values.{taken_is, taken_crossings}
 use Rattle.cases.specs.claims.Cases.{entries, entry_of}
 use Rattle.cases.specs.claims.Tally.{triangles_at, find_entry_at}
 use Rattle.cases.proofs.Claims.{by_place, common_triangles}
@@ -39,40 +39,40 @@ use Rattle.booking.proofs.Count.{crossings_are}
 use Rattle.booking.proofs.Triangles.{triangles-booked}
 
 -- no more is booked than there are crossings
-pub beside-few : (x y : ℕ) → beside x y ≤ 4 * (x + y)
+pub beside_few : (x y : ℕ) → beside x y ≤ 4 * (x + y)
 unfolding beside
-beside-few x y = ⊎_elim (λ (e : y ≡ 0). rw (eq-eqb y 0 e) (omega arith)) (λ h. rw (ne_eqb y 0 (omega arith)) (omega arith)) (eq-zero-or-pos y)
+beside_few x y = ⊎_elim (λ (e : y ≡ 0). rw (eq-eqb y 0 e) (omega arith)) (λ h. rw (ne_eqb y 0 (omega arith)) (omega arith)) (eq-zero-or-pos y)
 
-pub booked-few : (w : ℕ → ℕ) → is_level_cell w ≡ true → booked w ≤ pre w 6
+pub booked_few : (w : ℕ → ℕ) → is_level_cell w ≡ true → booked w ≤ pre w 6
 unfolding booked
-booked-few w K = omega (arith, crossings_are (plain w) K, beside-few (larger w) (smaller w))
+booked_few w K = omega (arith, crossings_are (plain w) K, beside_few (larger w) (smaller w))
 
 -- what is summed by a booking's answer
 module _ (w : ℕ → ℕ) where
   abbrev Told : Bool → List ℕ
   Told b = pick b (result_of (corner_triangles w ∷ larger w ∷ smaller w ∷ booked w ∷ [])) (result_of [])
 
-  pub triangles-told : (j : Fans) → fans_numbers j ≡ fans_answer w → booked_triangles j ≡ pick (is_level_cell w) (booked w) 0
+  pub triangles_told : (j : Fans) → fans_numbers j ≡ fans_answer w → booked_triangles j ≡ pick (is_level_cell w) (booked w) 0
   unfolding fans_answer
-  triangles-told (Counted t x y n) e = go (is_level_cell w) e
+  triangles_told (Counted t x y n) e = go (is_level_cell w) e
     where
       go : (b : Bool) → fans_numbers (Counted t x y n) ≡ Told b → n ≡ pick b (booked w) 0
       go true e = cc
       go false e = let z : ◌≡◌ {A = ℕ} 0 1 = cc in absurd (omega arith)
-  triangles-told WalkIt e = go (is_level_cell w) e
+  triangles_told WalkIt e = go (is_level_cell w) e
     where
       go : (b : Bool) → fans_numbers WalkIt ≡ Told b → 0 ≡ pick b (booked w) 0
       go true e = let z : ◌≡◌ {A = ℕ} 0 1 = cc in absurd (omega arith)
       go false e = refl
 
-  pub crossings-told : (j : Fans) → fans_numbers j ≡ fans_answer w → walked_crossings j w ≡ pick (is_level_cell w) 0 (pre w 6)
+  pub crossings_told : (j : Fans) → fans_numbers j ≡ fans_answer w → walked_crossings j w ≡ pick (is_level_cell w) 0 (pre w 6)
   unfolding fans_answer
-  crossings-told (Counted t x y n) e = go (is_level_cell w) e
+  crossings_told (Counted t x y n) e = go (is_level_cell w) e
     where
       go : (b : Bool) → fans_numbers (Counted t x y n) ≡ Told b → 0 ≡ pick b 0 (pre w 6)
       go true e = refl
       go false e = let z : ◌≡◌ {A = ℕ} 0 1 = cc in absurd (omega arith)
-  crossings-told WalkIt e = go (is_level_cell w) e
+  crossings_told WalkIt e = go (is_level_cell w) e
     where
       go : (b : Bool) → fans_numbers WalkIt ≡ Told b → pre w 6 ≡ pick b 0 (pre w 6)
       go true e = let z : ◌≡◌ {A = ℕ} 0 1 = cc in absurd (omega arith)
@@ -83,39 +83,39 @@ module _ (counts sides : List ℕ) (c : ℕ) where
   abbrev pub taken : ℕ → ℕ
   taken = by_edge (taken_counts counts sides c)
 
-  pub booked-most : booked_at counts sides c ≤ most_in_cell
+  pub booked_most : booked_at counts sides c ≤ most_in_cell
   unfolding booked_at
-  booked-most = go (is_common taken) (is_level_cell taken) refl
+  booked_most = go (is_common taken) (is_level_cell taken) refl
     where
       go : (a b : Bool) → is_level_cell taken ≡ b → pick a 0 (pick b (booked taken) 0) ≤ most_in_cell
       go true b k = omega arith
-      go false true k = omega (arith, booked-few taken k, taken-crossings counts sides c, table-most counts sides c)
+      go false true k = omega (arith, booked_few taken k, taken_crossings counts sides c, table_most counts sides c)
       go false false k = omega arith
 
-  pub crossings-most : crossings_at counts sides c ≤ most_in_cell
+  pub crossings_most : crossings_at counts sides c ≤ most_in_cell
   unfolding crossings_at
-  crossings-most = go (is_known taken)
+  crossings_most = go (is_known taken)
     where
       go : (b : Bool) → pick b 0 (table_crossings counts sides c) ≤ most_in_cell
       go true = omega arith
-      go false = table-most counts sides c
+      go false = table_most counts sides c
 
   -- a cell with an entry adds to the tally alone, and one without to the booking and the crossings
-  pub none-booked : is_common taken ≡ true → 0 ≡ booked_at counts sides c
+  pub none_booked : is_common taken ≡ true → 0 ≡ booked_at counts sides c
   unfolding booked_at
-  none-booked C = rw C refl
+  none_booked C = rw C refl
 
-  pub none-walked : is_common taken ≡ true → 0 ≡ crossings_at counts sides c
+  pub none_walked : is_common taken ≡ true → 0 ≡ crossings_at counts sides c
   unfolding crossings_at is_known
-  none-walked C = rw C refl
+  none_walked C = rw C refl
 
-  pub all-booked : is_common taken ≡ false → pick (is_level_cell taken) (booked taken) 0 ≡ booked_at counts sides c
+  pub all_booked : is_common taken ≡ false → pick (is_level_cell taken) (booked taken) 0 ≡ booked_at counts sides c
   unfolding booked_at
-  all-booked C = rw C refl
+  all_booked C = rw C refl
 
-  pub all-walked : is_common taken ≡ false → pick (is_level_cell taken) 0 (table_crossings counts sides c) ≡ crossings_at counts sides c
+  pub all_walked : is_common taken ≡ false → pick (is_level_cell taken) 0 (table_crossings counts sides c) ≡ crossings_at counts sides c
   unfolding crossings_at is_known
-  all-walked C = rw C refl
+  all_walked C = rw C refl
 
   -- its triangles by its place in the table
   pub placed : pick (ltb (find_entry_at counts sides c) entries) (triangles_at (find_entry_at counts sides c)) 0 ≡ common_at counts sides c
@@ -144,30 +144,30 @@ module _ (cells counts names sides starts : List ℕ) where
       go false false k j = omega arith
 
   few : (c : ℕ) → length (cell_triangles (at c)) ≤ table_crossings counts sides c
-  few c = omega (arith, cell-few (at c), ap (λ w. pre w 6) (taken_is cells counts names sides starts c), taken-crossings counts sides c)
+  few c = omega (arith, cell_few (at c), ap (λ w. pre w 6) (taken_is cells counts names sides starts c), taken_crossings counts sides c)
 
-  walked-few : (c : ℕ) → walked c ≤ crossings_at counts sides c
+  walked_few : (c : ℕ) → walked c ≤ crossings_at counts sides c
   unfolding walked_at crossings_at
-  walked-few c = go (is_known (taken counts sides c))
+  walked_few c = go (is_known (taken counts sides c))
     where
       go : (b : Bool) → pick b 0 (length (cell_triangles (at c))) ≤ pick b 0 (table_crossings counts sides c)
       go true = omega arith
       go false = few c
 
   -- all cells
-  pub all-counted : length (table_triangles cells counts names sides starts) ≡ total (known_at counts sides) (drawn_cells cells) 0 + total walked (drawn_cells cells) 0
+  pub all_counted : length (table_triangles cells counts names sides starts) ≡ total (known_at counts sides) (drawn_cells cells) 0 + total walked (drawn_cells cells) 0
   unfolding table_triangles
-  all-counted =
+  all_counted =
       length_over (λ c. cell_triangles (at c)) (drawn_cells cells) 0
       ∙ total_ext (λ c. length (cell_triangles (at c))) (λ c. known_at counts sides c + walked c) (drawn_cells cells) 0 (λ c a b. both c)
       ∙ total_add (known_at counts sides) walked (drawn_cells cells) 0
 
-  pub others-few : total walked (drawn_cells cells) 0 ≤ total (crossings_at counts sides) (drawn_cells cells) 0
-  others-few = total_mono walked (crossings_at counts sides) (drawn_cells cells) 0 (λ c a b. walked-few c)
+  pub others_few : total walked (drawn_cells cells) 0 ≤ total (crossings_at counts sides) (drawn_cells cells) 0
+  others_few = total_mono walked (crossings_at counts sides) (drawn_cells cells) 0 (λ c a b. walked_few c)
 
-  pub all-few : length (table_triangles cells counts names sides starts) ≤ total (table_crossings counts sides) (drawn_cells cells) 0
+  pub all_few : length (table_triangles cells counts names sides starts) ≤ total (table_crossings counts sides) (drawn_cells cells) 0
   unfolding table_triangles
-  all-few =
+  all_few =
       rw (length_over (λ c. cell_triangles (at c)) (drawn_cells cells) 0)
       (total_mono (λ c. length (cell_triangles (at c))) (table_crossings counts sides) (drawn_cells cells) 0 (λ c a b. few c))
 
@@ -176,19 +176,19 @@ pub all_most : (cells counts names sides starts : List ℕ) → length (table_tr
 all_most cells counts names sides starts =
     omega (
       arith,
-      all-few cells counts names sides starts,
-      total_mono (table_crossings counts sides) (λ c. most_in_cell) (drawn_cells cells) 0 (λ c _ _. table-most counts sides c),
-      total-same (λ c. most_in_cell) most_in_cell (drawn_cells cells) 0 (λ c _ _. refl),
+      all_few cells counts names sides starts,
+      total_mono (table_crossings counts sides) (λ c. most_in_cell) (drawn_cells cells) 0 (λ c _ _. table_most counts sides c),
+      total_same (λ c. most_in_cell) most_in_cell (drawn_cells cells) 0 (λ c _ _. refl),
     )
 
 -- no more are known than there are crossings
-known-most : (counts sides : List ℕ) (c : ℕ) → known_at counts sides c ≤ most_in_cell
-known-most counts sides c = omega (arith, both [] counts [] sides [] c, few [] counts [] sides [] c, table-most counts sides c)
+known_most : (counts sides : List ℕ) (c : ℕ) → known_at counts sides c ≤ most_in_cell
+known_most counts sides c = omega (arith, both [] counts [] sides [] c, few [] counts [] sides [] c, table_most counts sides c)
 
-pub known-few : (counts sides : List ℕ) (n : ℕ) → n ≤ most_cells → total (known_at counts sides) n 0 ≤ most_triangles
-known-few counts sides n h =
+pub known_few : (counts sides : List ℕ) (n : ℕ) → n ≤ most_cells → total (known_at counts sides) n 0 ≤ most_triangles
+known_few counts sides n h =
     omega (
       arith,
-      total_mono (known_at counts sides) (λ c. most_in_cell) n 0 (λ c _ _. known-most counts sides c),
-      total-same (λ c. most_in_cell) most_in_cell n 0 (λ c _ _. refl),
+      total_mono (known_at counts sides) (λ c. most_in_cell) n 0 (λ c _ _. known_most counts sides c),
+      total_same (λ c. most_in_cell) most_in_cell n 0 (λ c _ _. refl),
     )

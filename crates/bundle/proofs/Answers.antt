@@ -38,22 +38,22 @@ module _ (s : List ℕ) where
         }
 
   -- row 13
-  pub answer-open : is_of s end_section (stop s) ≡ false → bundle_answer s ≡ refusal broken_row (stop s)
+  pub answer_open : is_of s end_section (stop s) ≡ false → bundle_answer s ≡ refusal broken_row (stop s)
   unfolding bundle_answer
-  answer-open h = simp h
+  answer_open h = simp h
 
-  pub answer-after : is_of s end_section (stop s) ≡ true → (next_record s (stop s) ≡ length s → ⊥) → bundle_answer s ≡ refusal broken_row (next_record s (stop s))
+  pub answer_after : is_of s end_section (stop s) ≡ true → (next_record s (stop s) ≡ length s → ⊥) → bundle_answer s ≡ refusal broken_row (next_record s (stop s))
   unfolding bundle_answer
-  answer-after h l = simp (h, ne_eqb _ _ l)
+  answer_after h l = simp (h, ne_eqb _ _ l)
 
   -- row 22
-  pub answer-stray : is_of s end_section (stop s) ≡ true → next_record s (stop s) ≡ length s → first_stray s < looks s → bundle_answer s ≡ refusal stray_row (look_at s (first_stray s))
+  pub answer_stray : is_of s end_section (stop s) ≡ true → next_record s (stop s) ≡ length s → first_stray s < looks s → bundle_answer s ≡ refusal stray_row (look_at s (first_stray s))
   unfolding bundle_answer
-  answer-stray h l k = simp (h, eq-eqb _ _ l, lt-ltb _ _ k)
+  answer_stray h l k = simp (h, eq-eqb _ _ l, lt-ltb _ _ k)
 
-  pub answer-lists : is_of s end_section (stop s) ≡ true → next_record s (stop s) ≡ length s → looks s ≤ first_stray s → bundle_answer s ≡ result_of (cells s ∷ edges s ∷ [])
+  pub answer_lists : is_of s end_section (stop s) ≡ true → next_record s (stop s) ≡ length s → looks s ≤ first_stray s → bundle_answer s ≡ result_of (cells s ∷ edges s ∷ [])
   unfolding bundle_answer
-  answer-lists h l k = simp (h, eq-eqb _ _ l, le-ltb _ _ k)
+  answer_lists h l k = simp (h, eq-eqb _ _ l, le-ltb _ _ k)
 
   -- which of the four cases the bytes are
   pub data Case : Type 0 where
@@ -98,7 +98,7 @@ module _ (s : List ℕ) where
       record { ended = and_left a b g; nothing = eqb-true _ _ (and_right a b g); met = leb-true _ _ (and_right (a && b) c h) }
 
   pub bundle-answer : is_bundle s ≡ true → bundle_answer s ≡ result_of (cells s ∷ edges s ∷ [])
-  bundle-answer h = let w = bundled h in answer-lists w.ended w.nothing w.met
+  bundle-answer h = let w = bundled h in answer_lists w.ended w.nothing w.met
 
   -- a refusal has a row's number
   pub record Refusing : Type 0 where
@@ -111,9 +111,9 @@ module _ (s : List ℕ) where
   refused h = go case_of
     where
       go : Case → Refusing
-      go (unended e) = record { row = broken_row; place = stop s; some = omega arith; is = answer-open e }
-      go (more e n) = record { row = broken_row; place = next_record s (stop s); some = omega arith; is = answer-after e n }
-      go (stray e n l) = record { row = stray_row; place = look_at s (first_stray s); some = omega arith; is = answer-stray e n l }
+      go (unended e) = record { row = broken_row; place = stop s; some = omega arith; is = answer_open e }
+      go (more e n) = record { row = broken_row; place = next_record s (stop s); some = omega arith; is = answer_after e n }
+      go (stray e n l) = record { row = stray_row; place = look_at s (first_stray s); some = omega arith; is = answer_stray e n l }
       go (whole e n l) = clash (is-bundle e n l) h
 
   -- what an answer says of the bytes
@@ -124,11 +124,11 @@ module _ (s : List ℕ) where
       go true q = refl
       go false q = apart _ _ _ _ (h ∙ (refused q).is)
 
-  pub accepted-cells : (c e : ℕ) → result_of (c ∷ e ∷ []) ≡ bundle_answer s → c ≡ cells s
-  accepted-cells c e h = let q = bundle-answer (accepted c e h) in cc
+  pub accepted_cells : (c e : ℕ) → result_of (c ∷ e ∷ []) ≡ bundle_answer s → c ≡ cells s
+  accepted_cells c e h = let q = bundle-answer (accepted c e h) in cc
 
-  pub accepted-edges : (c e : ℕ) → result_of (c ∷ e ∷ []) ≡ bundle_answer s → e ≡ edges s
-  accepted-edges c e h = let q = bundle-answer (accepted c e h) in cc
+  pub accepted_edges : (c e : ℕ) → result_of (c ∷ e ∷ []) ≡ bundle_answer s → e ≡ edges s
+  accepted_edges c e h = let q = bundle-answer (accepted c e h) in cc
 
   pub rejected : (number place : ℕ) → refusal number place ≡ bundle_answer s → is_bundle s ≡ false
   rejected number place h = not_clash (is_bundle s) (λ q. apart _ _ _ _ (sym (h ∙ bundle-answer q)))
@@ -157,12 +157,12 @@ module _ (s : List ℕ) where
       go true q = apart _ _ _ _ (sym q)
       go false q = (q, refl)
 
-  pub read-bundle : (n m l c e : ℕ) → read_answer s n m l ≡ result_of (c ∷ e ∷ []) → bundle_answer s ≡ result_of (c ∷ e ∷ [])
-  read-bundle n m l c e h = (read_result n m l c e h).0
+  pub read_bundle : (n m l c e : ℕ) → read_answer s n m l ≡ result_of (c ∷ e ∷ []) → bundle_answer s ≡ result_of (c ∷ e ∷ [])
+  read_bundle n m l c e h = (read_result n m l c e h).0
 
   pub read_taken : (n m l c e : ℕ) → read_answer s n m l ≡ result_of (c ∷ e ∷ []) → is_taken s n m l ≡ true
   unfolding is_taken
-  read_taken n m l c e h = go (is_bundle s) (has_room s n m l) (accepted c e (sym (read-bundle n m l c e h))) (read_result n m l c e h).1
+  read_taken n m l c e h = go (is_bundle s) (has_room s n m l) (accepted c e (sym (read_bundle n m l c e h))) (read_result n m l c e h).1
     where
       go : (a b : Bool) → a ≡ true → (a && not b) ≡ false → (a && b) ≡ true
       go true true p q = refl
@@ -170,14 +170,14 @@ module _ (s : List ℕ) where
       go false b p q = p
 
   -- and lists with room have it
-  pub read-lists : (n m l : ℕ) → is_bundle s ≡ true → cell_nodes * cells s ≤ n → edge_ends * edges s ≤ m → edges s ≤ l
+  pub read_lists : (n m l : ℕ) → is_bundle s ≡ true → cell_nodes * cells s ≤ n → edge_ends * edges s ≤ m → edges s ≤ l
       → (read_answer s n m l ≡ result_of (cells s ∷ edges s ∷ [])) × (is_taken s n m l ≡ true)
   unfolding read_answer is_taken
-  read-lists n m l h a b c = (simp (h, room n m l a b c) (bundle-answer h), simp (h, room n m l a b c))
+  read_lists n m l h a b c = (simp (h, room n m l a b c) (bundle-answer h), simp (h, room n m l a b c))
 
 -- the front of a lent list after a call that accepts
-pub left-front : {b : Bool} → b ≡ true → (new old : List ℕ) (n : ℕ) → length new ≡ n → take n (leaves b new old) ≡ new
-left-front h new old n l = simp h (take_at new _ n l)
+pub left_front : {b : Bool} → b ≡ true → (new old : List ℕ) (n : ℕ) → length new ≡ n → take n (leaves b new old) ≡ new
+left_front h new old n l = simp h (take_at new _ n l)
 
 -- what the reader answers and leaves in the lists that it was lent
 abbrev pub Leaves : (s ns es cs answer ns' es' cs' : List ℕ) → Type 0
@@ -186,16 +186,16 @@ Leaves s ns es cs answer ns' es' cs' =
     × ((ns' ≡ nodes_left s ns es cs) × ((es' ≡ ends_left s ns es cs) × (cs' ≡ counts_left s ns es cs)))
 
 module _ (s ns es cs : List ℕ) where
-  pub leaves-broken : is_bundle s ≡ false → Leaves s ns es cs (bundle_answer s) ns es cs
+  pub leaves_broken : is_bundle s ≡ false → Leaves s ns es cs (bundle_answer s) ns es cs
   unfolding read_answer is_taken
-  leaves-broken h = (simp h, (simp h, (simp h, simp h)))
+  leaves_broken h = (simp h, (simp h, (simp h, simp h)))
 
   module _ (h : is_bundle s ≡ true) where
-    pub leaves-short : has_room s (length ns) (length es) (length cs) ≡ false → Leaves s ns es cs (refusal short_row 0) ns es cs
+    pub leaves_short : has_room s (length ns) (length es) (length cs) ≡ false → Leaves s ns es cs (refusal short_row 0) ns es cs
     unfolding read_answer is_taken
-    leaves-short r = (simp (h, r), (simp (h, r), (simp (h, r), simp (h, r))))
+    leaves_short r = (simp (h, r), (simp (h, r), (simp (h, r), simp (h, r))))
 
-    pub leaves-lists : has_room s (length ns) (length es) (length cs) ≡ true
+    pub leaves_lists : has_room s (length ns) (length es) (length cs) ≡ true
         → Leaves s ns es cs (bundle_answer s) (written_over (nodes_of s) ns) (written_over (ends_of s) es) (written_over (counts_of s) cs)
     unfolding read_answer is_taken
-    leaves-lists r = (simp (h, r), (simp (h, r), (simp (h, r), simp (h, r))))
+    leaves_lists r = (simp (h, r), (simp (h, r), (simp (h, r), simp (h, r))))

@@ -10,14 +10,14 @@ use lib.ListN.{length}
 use borrow.Author.Tests.{not-true}
 use Rattle.answer.specs.Answer.{refusal}
 use Rattle.counting.proofs.Bools.{clash}
-use Rattle.counting.proofs.Search.{some-none, none-some, first-is, first_below}
+use Rattle.counting.proofs.Search.{some_none, none_some, first_is, first_below}
 use Rattle.bundle.specs.Record.{head_bytes, broken_row, kind_at, next_record, is_record, body}
 use Rattle.bundle.specs.Bundle.{cell_section, edge_section, look_section, end_section, section_at, is_of, record_start, run, cells, edges_from, edges, looks_from, looks, edge_at, look_at, stop, same_pair, is_for, is_stray, first_stray, stray_row, bundle_answer}
 use Rattle.bundle.specs.claims.Fault.{AllWhole, section_by, Fault, broken, disordered, trailing, endless, Stray}
 use Rattle.bundle.specs.claims.Claims.{LowestFault, NoFault, LowestStray, NoStray, StrayRefused}
-use Rattle.bundle.proofs.OneRecord.{Kind, cell, edge, wide, look, end, kind-cases, apart, stands, next_ge}
-use Rattle.bundle.proofs.Runs.{of_record, of_section, is-of, run-all, run-stop, run_inside}
-use Rattle.bundle.proofs.Answers.{Case, unended, more, stray, whole, case_of, bundled, answer-open, answer-after, answer-stray, answer-lists, accepted}
+use Rattle.bundle.proofs.OneRecord.{Kind, cell, edge, wide, look, end, kind_cases, apart, stands, next_ge}
+use Rattle.bundle.proofs.Runs.{of_record, of_section, is-of, run_all, run_stop, run_inside}
+use Rattle.bundle.proofs.Answers.{Case, unended, more, stray, whole, case_of, bundled, answer_open, answer_after, answer_stray, answer_lists, accepted}
 
 start_add : (s : List ℕ) (p k j : ℕ) → record_start s (record_start s p k) j ≡ record_start s p (k + j)
 unfolding record_start
@@ -68,11 +68,11 @@ module _ (s : List ℕ) where
   section_record : (section from n first : ℕ) → n ≡ run s section from → from ≡ record_start s 0 first → (j : ℕ) → first ≤ j → j < first + n → is_of s section (record_start s 0 j) ≡ true
   section_record section from n first r b j l h =
       let e : first + (j - first) ≡ j = omega arith in
-      sym (ap (is_of s section) (ap (λ p. record_start s p (j - first)) b ∙ start_add s 0 first (j - first) ∙ ap (record_start s 0) e)) ∙ run-all s from section (j - first) (omega (arith, r))
+      sym (ap (is_of s section) (ap (λ p. record_start s p (j - first)) b ∙ start_add s 0 first (j - first) ∙ ap (record_start s 0) e)) ∙ run_all s from section (j - first) (omega (arith, r))
 
-  looks-start : looks_from s ≡ record_start s 0 (cells s + edges s)
+  looks_start : looks_from s ≡ record_start s 0 (cells s + edges s)
   unfolding looks_from edges_from
-  looks-start = start_add s 0 (cells s) (edges s)
+  looks_start = start_add s 0 (cells s) (edges s)
 
   cell_record : (j : ℕ) → j < cells s → is_of s cell_section (record_start s 0 j) ≡ true
   unfolding cells record_start
@@ -84,23 +84,23 @@ module _ (s : List ℕ) where
 
   look_record : (j : ℕ) → cells s + edges s ≤ j → j < records s → is_of s look_section (record_start s 0 j) ≡ true
   unfolding looks
-  look_record j l h = section_record look_section (looks_from s) (looks s) (cells s + edges s) refl looks-start j l h
+  look_record j l h = section_record look_section (looks_from s) (looks s) (cells s + edges s) refl looks_start j l h
 
-  pub stop-start : stop s ≡ record_start s 0 (records s)
+  pub stop_start : stop s ≡ record_start s 0 (records s)
   unfolding stop
-  stop-start = ap (λ p. record_start s p (looks s)) looks-start ∙ start_add s 0 (cells s + edges s) (looks s)
+  stop_start = ap (λ p. record_start s p (looks s)) looks_start ∙ start_add s 0 (cells s + edges s) (looks s)
 
-  edges-inside : edges_from s ≤ length s
+  edges_inside : edges_from s ≤ length s
   unfolding edges_from cells
-  edges-inside = run_inside s 0 cell_section (cells s) (omega arith) (le_refl (cells s))
+  edges_inside = run_inside s 0 cell_section (cells s) (omega arith) (le_refl (cells s))
 
-  looks-inside : looks_from s ≤ length s
+  looks_inside : looks_from s ≤ length s
   unfolding looks_from edges
-  looks-inside = run_inside s (edges_from s) edge_section (edges s) edges-inside (le_refl (edges s))
+  looks_inside = run_inside s (edges_from s) edge_section (edges s) edges_inside (le_refl (edges s))
 
-  pub stop-inside : stop s ≤ length s
+  pub stop_inside : stop s ≤ length s
   unfolding stop looks
-  stop-inside = run_inside s (looks_from s) look_section (looks s) looks-inside (le_refl (looks s))
+  stop_inside = run_inside s (looks_from s) look_section (looks s) looks_inside (le_refl (looks s))
 
   -- before the stop a record is whole, and its section goes by its number
   record Before (j : ℕ) : Type 0 where
@@ -158,7 +158,7 @@ module _ (s : List ℕ) where
 
   module _ (h : is_of s end_section (stop s) ≡ true) where
     end-record : is_of s end_section (record_start s 0 (records s)) ≡ true
-    end-record = ap (is_of s end_section) (sym stop-start) ∙ h
+    end-record = ap (is_of s end_section) (sym stop_start) ∙ h
 
     clean_end : Clean (suc (records s))
     clean_end =
@@ -179,17 +179,17 @@ module _ (s : List ℕ) where
     tail_fault : (next_record s (stop s) ≡ length s → ⊥) → Fault s (next_record s (stop s)) × ((q : ℕ) → q < next_record s (stop s) → Fault s q → ⊥)
     unfolding record_start
     tail_fault n =
-        let e : next_record s (stop s) ≡ record_start s 0 (suc (records s)) = ap (next_record s) stop-start in
+        let e : next_record s (stop s) ≡ record_start s 0 (suc (records s)) = ap (next_record s) stop_start in
         let f = (stands s (stop s) (of_record s end_section (stop s) h)).fits in
         let l : next_record s (stop s) < length s = omega (arith, f, n) in
         (trailing (records s) e clean_end.whole (of_section s end_section _ end-record) l, λ q b. none_below (suc (records s)) clean_end q (omega arith))
 
-    no-fault : next_record s (stop s) ≡ length s → (q : ℕ) → Fault s q → ⊥
+    no_fault : next_record s (stop s) ≡ length s → (q : ℕ) → Fault s q → ⊥
     unfolding record_start
-    no-fault n q x = go x
+    no_fault n q x = go x
       where
         e : record_start s 0 (suc (records s)) ≡ length s
-        e = ap (next_record s) (sym stop-start) ∙ n
+        e = ap (next_record s) (sym stop_start) ∙ n
 
         below : q < length s → Fault s q → ⊥
         below l y = none_below (suc (records s)) clean_end q (omega (arith, e, l)) y
@@ -206,19 +206,19 @@ module _ (s : List ℕ) where
 
   no_more_cells : is_of s cell_section (edges_from s) ≡ false
   unfolding edges_from cells
-  no_more_cells = run-stop s 0 cell_section
+  no_more_cells = run_stop s 0 cell_section
 
   no_more_edges : is_of s edge_section (looks_from s) ≡ false
   unfolding looks_from edges
-  no_more_edges = run-stop s (edges_from s) edge_section
+  no_more_edges = run_stop s (edges_from s) edge_section
 
   no_more_looks : is_of s look_section (stop s) ≡ false
   unfolding stop looks
-  no_more_looks = run-stop s (looks_from s) look_section
+  no_more_looks = run_stop s (looks_from s) look_section
 
-  no-looks : looks s ≡ 0 → stop s ≡ looks_from s
+  no_looks : looks s ≡ 0 → stop s ≡ looks_from s
   unfolding stop record_start
-  no-looks e = ap (record_start s (looks_from s)) e
+  no_looks e = ap (record_start s (looks_from s)) e
 
   no_edges : edges s ≡ 0 → looks_from s ≡ edges_from s
   unfolding looks_from record_start
@@ -229,41 +229,41 @@ module _ (s : List ℕ) where
     late_fault : (j : ℕ) → records s ≡ suc j → section_at s (stop s) < section_by s j → Fault s (stop s)
     late_fault j q l =
         let n = records s in
-        let g : section_by s n ≡ section_at s (stop s) = ap (section_at s) (sym stop-start) in
-        let last : is_record s (record_start s 0 n) ≡ true = ap (is_record s) (sym stop-start) ∙ w in
-        disordered j n stop-start
+        let g : section_by s n ≡ section_at s (stop s) = ap (section_at s) (sym stop_start) in
+        let last : is_record s (record_start s 0 n) ≡ true = ap (is_record s) (sym stop_start) ∙ w in
+        disordered j n stop_start
         (λ i h. elim (dec_lt i n) [ yes r ↦ (kind i r).is | no r ↦ let e : i ≡ n = omega arith in ap (λ k. is_record s (record_start s 0 k)) e ∙ last ]) (omega arith) (omega (arith, l, g))
 
-    cell-fault : section_at s (stop s) ≡ cell_section → Fault s (stop s)
-    cell-fault k =
+    cell_fault : section_at s (stop s) ≡ cell_section → Fault s (stop s)
+    cell_fault k =
         elim (dec_lt 0 (edges s + looks s)) [
           | yes l ↦ let j = records s - 1 in late_fault j (omega arith) (omega (arith, k, (kind j (omega arith)).edge_low (omega arith)))
-          | no l ↦ clash (is-of s cell_section (stop s) w k) (ap (is_of s cell_section) (no-looks (omega arith) ∙ no_edges (omega arith)) ∙ no_more_cells)
+          | no l ↦ clash (is-of s cell_section (stop s) w k) (ap (is_of s cell_section) (no_looks (omega arith) ∙ no_edges (omega arith)) ∙ no_more_cells)
         ]
 
-    edge-fault : section_at s (stop s) ≡ edge_section → Fault s (stop s)
-    edge-fault k =
+    edge_fault : section_at s (stop s) ≡ edge_section → Fault s (stop s)
+    edge_fault k =
         elim (dec_lt 0 (looks s)) [
           | yes l ↦ let j = records s - 1 in late_fault j (omega arith) (omega (arith, k, (kind j (omega arith)).look_low (omega arith)))
-          | no l ↦ clash (is-of s edge_section (stop s) w k) (ap (is_of s edge_section) (no-looks (omega arith)) ∙ no_more_edges)
+          | no l ↦ clash (is-of s edge_section (stop s) w k) (ap (is_of s edge_section) (no_looks (omega arith)) ∙ no_more_edges)
         ]
 
-  stop-fault : is_of s end_section (stop s) ≡ false → Fault s (stop s)
-  stop-fault h = go (is_record s (stop s)) refl
+  stop_fault : is_of s end_section (stop s) ≡ false → Fault s (stop s)
+  stop_fault h = go (is_record s (stop s)) refl
     where
       go : (b : Bool) → is_record s (stop s) ≡ b → Fault s (stop s)
-      go true w = known (section_at s (stop s)) refl (kind-cases _ (stands s (stop s) w).known)
+      go true w = known (section_at s (stop s)) refl (kind_cases _ (stands s (stop s) w).known)
         where
           known : (section : ℕ) → section_at s (stop s) ≡ section → Kind (kind_at s (stop s)) section → Fault s (stop s)
-          known _ e (cell _) = cell-fault w e
-          known _ e (edge _) = edge-fault w e
-          known _ e (wide _) = edge-fault w e
+          known _ e (cell _) = cell_fault w e
+          known _ e (edge _) = edge_fault w e
+          known _ e (wide _) = edge_fault w e
           known _ e (look _) = clash (is-of s look_section (stop s) w e) no_more_looks
           known _ e (end _) = clash (is-of s end_section (stop s) w e) h
       go false w =
           elim (dec_lt (stop s) (length s)) [
-            | yes l ↦ broken (records s) stop-start clean.whole l w
-            | no l ↦ let i = stop-inside in endless (records s) stop-start clean.whole (omega arith) (λ j b e. not_end j b e)
+            | yes l ↦ broken (records s) stop_start clean.whole l w
+            | no l ↦ let i = stop_inside in endless (records s) stop_start clean.whole (omega arith) (λ j b e. not_end j b e)
           ]
 
   abbrev Low : ℕ → Type 0
@@ -280,25 +280,25 @@ module _ (s : List ℕ) where
     where
       go : Case s → Low place
       go (unended h) =
-          let e = stop-start in
-          subst Low (same_place place (stop s) a (answer-open s h)) (stop-fault h, λ q l. none_below (records s) clean q (omega (arith, e, l)))
-      go (more h n) = subst Low (same_place place (next_record s (stop s)) a (answer-after s h n)) (tail_fault h n)
-      go (stray h n l) = other_row _ _ a (answer-stray s h n l)
-      go (whole h n l) = apart _ _ _ _ (sym (answer-lists s h n l) ∙ a)
+          let e = stop_start in
+          subst Low (same_place place (stop s) a (answer_open s h)) (stop_fault h, λ q l. none_below (records s) clean q (omega (arith, e, l)))
+      go (more h n) = subst Low (same_place place (next_record s (stop s)) a (answer_after s h n)) (tail_fault h n)
+      go (stray h n l) = other_row _ _ a (answer_stray s h n l)
+      go (whole h n l) = apart _ _ _ _ (sym (answer_lists s h n l) ∙ a)
 
   -- row 22
   stray_at : (k : ℕ) → k < looks s → is_stray s k ≡ true → Stray s (look_at s k)
   unfolding is_stray is_for
-  stray_at k l h = record { look = k; listed = l; begins = refl; unmet = λ n b. some-none _ (edges s) (not-true _ h) n b }
+  stray_at k l h = record { look = k; listed = l; begins = refl; unmet = λ n b. some_none _ (edges s) (not-true _ h) n b }
 
   stray_is : (q : ℕ) (x : Stray s q) → is_stray s x.look ≡ true
   unfolding is_stray is_for
-  stray_is q x = ap not (none-some _ (edges s) (λ n b. ap (λ p. same_pair (body s (edge_at s n)) (body s p)) (sym x.begins) ∙ x.unmet n b))
+  stray_is q x = ap not (none_some _ (edges s) (λ n b. ap (λ p. same_pair (body s (edge_at s n)) (body s p)) (sym x.begins) ∙ x.unmet n b))
 
-  looks-rise : (m k : ℕ) → m ≤ k → k < looks s → look_at s m ≤ look_at s k
+  looks_rise : (m k : ℕ) → m ≤ k → k < looks s → look_at s m ≤ look_at s k
   unfolding looks
-  looks-rise m k h l =
-      let at : (i : ℕ) → look_at s i ≡ record_start s 0 (cells s + edges s + i) = λ i. ap (λ p. record_start s p i) looks-start ∙ start_add s 0 (cells s + edges s) i in
+  looks_rise m k h l =
+      let at : (i : ℕ) → look_at s i ≡ record_start s 0 (cells s + edges s + i) = λ i. ap (λ p. record_start s p i) looks_start ∙ start_add s 0 (cells s + edges s) i in
       omega (arith, at m, at k, later (cells s + edges s + m) (cells s + edges s + k) (omega arith) (λ j b. clean.whole j (omega arith)))
 
   abbrev LowStray : ℕ → Type 0
@@ -307,24 +307,24 @@ module _ (s : List ℕ) where
   stray_low : first_stray s < looks s → LowStray (look_at s (first_stray s))
   unfolding first_stray
   stray_low l = (
-    stray_at _ l (first-is (is_stray s) (looks s) l),
+    stray_at _ l (first_is (is_stray s) (looks s) l),
     λ q b x. elim (dec_lt x.look (first_stray s)) [
       | yes r ↦ clash (stray_is q x) (first_below (is_stray s) (looks s) x.look r)
-      | no r ↦ omega (arith, looks-rise (first_stray s) x.look (omega arith) x.listed, x.begins, b)
+      | no r ↦ omega (arith, looks_rise (first_stray s) x.look (omega arith) x.listed, x.begins, b)
     ],
   )
 
   same_stray : (p q : ℕ) → bundle_answer s ≡ refusal stray_row p → bundle_answer s ≡ refusal stray_row q → q ≡ p
   same_stray p q a b = cc
 
-  lowest-look : (place : ℕ) → bundle_answer s ≡ refusal stray_row place → ((q : ℕ) → Fault s q → ⊥) × LowStray place
-  lowest-look place a = go (case_of s)
+  lowest_look : (place : ℕ) → bundle_answer s ≡ refusal stray_row place → ((q : ℕ) → Fault s q → ⊥) × LowStray place
+  lowest_look place a = go (case_of s)
     where
       go : Case s → ((q : ℕ) → Fault s q → ⊥) × LowStray place
-      go (unended h) = other_row _ _ (answer-open s h) a
-      go (more h n) = other_row _ _ (answer-after s h n) a
-      go (stray h n l) = (no-fault h n, subst LowStray (same_stray place (look_at s (first_stray s)) a (answer-stray s h n l)) (stray_low l))
-      go (whole h n l) = apart _ _ _ _ (sym (answer-lists s h n l) ∙ a)
+      go (unended h) = other_row _ _ (answer_open s h) a
+      go (more h n) = other_row _ _ (answer_after s h n) a
+      go (stray h n l) = (no_fault h n, subst LowStray (same_stray place (look_at s (first_stray s)) a (answer_stray s h n l)) (stray_low l))
+      go (whole h n l) = apart _ _ _ _ (sym (answer_lists s h n l) ∙ a)
 
   none_stray : looks s ≤ first_stray s → (q : ℕ) → Stray s q → ⊥
   unfolding first_stray
@@ -334,19 +334,19 @@ module _ (s : List ℕ) where
   refused_stray q x none = go (case_of s)
     where
       go : Case s → (place : ℕ) × (bundle_answer s ≡ refusal stray_row place)
-      go (unended h) = absurd (none _ (stop-fault h))
+      go (unended h) = absurd (none _ (stop_fault h))
       go (more h n) = absurd (none _ (tail_fault h n).0)
-      go (stray h n l) = (look_at s (first_stray s), answer-stray s h n l)
+      go (stray h n l) = (look_at s (first_stray s), answer_stray s h n l)
       go (whole h n l) = absurd (none_stray l q x)
 
-pub lowest-fault : LowestFault
-lowest-fault s place h = lowest s place h
+pub lowest_fault : LowestFault
+lowest_fault s place h = lowest s place h
 
 pub no_fault_accepted : NoFault
-no_fault_accepted s c e h q x = let w = bundled s (accepted s c e (sym h)) in no-fault s w.ended w.nothing q x
+no_fault_accepted s c e h q x = let w = bundled s (accepted s c e (sym h)) in no_fault s w.ended w.nothing q x
 
 pub lowest_stray : LowestStray
-lowest_stray s place h = lowest-look s place h
+lowest_stray s place h = lowest_look s place h
 
 pub no_stray_accepted : NoStray
 no_stray_accepted s c e h q x = none_stray s (bundled s (accepted s c e (sym h))).met q x

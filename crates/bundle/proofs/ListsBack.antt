@@ -16,16 +16,16 @@ use Rattle.counting.specs.Pick.{pick}
 use Rattle.counting.specs.Lists.{over}
 use Rattle.counting.proofs.Bools.{and_left, and_right, and_true}
 use Rattle.counting.proofs.Range.{over_ext}
-use Rattle.counting.proofs.Fronts.{get_d_blocks, over-more, over-at, in_parts, singles}
+use Rattle.counting.proofs.Fronts.{get_d_blocks, over_more, over_at, in_parts, singles}
 use Rattle.bundle.specs.Record.{byte_values, broken_row, cell_kind, end_kind, word_size, length_bytes, head_bytes, count_place, word, length_of, kind_at, count_at, is_wide, may_have, next_record, is_record, body}
 use Rattle.bundle.specs.Bundle.{cell_nodes, edge_ends, cell_section, edge_section, look_section, end_section, section_of, section_at, is_of, record_start, run, cells, edges_from, edges, looks_from, looks, stop, surviving, is_bundle, leading_words, count_in, nodes_of, ends_of, counts_of, short_row, written_over}
 use Rattle.bundle.specs.Written.{word_bytes, record_bytes, list_bytes, kind_for, count_bytes, end_record, cell_bytes, edge_bytes, bundle_bytes, is_formed, fits_area, is_written, most_named, write_answer}
 use Rattle.bundle.specs.claims.Claims.{ListsBack, WrittenRead, ReadAgain}
-use Rattle.bundle.proofs.OneRecord.{standing, body-whole}
-use Rattle.bundle.proofs.Runs.{Going, going, on, arrived, of_record, is-of, of_section, other-of, next_of}
-use Rattle.bundle.proofs.Fills.{end-kind, length-nodes, length-ends, length-counts, count_kept}
-use Rattle.bundle.proofs.Answers.{accepted-cells, accepted-edges, read-bundle, read_taken, read-lists, left-front, is-bundle as bundle-is}
-use Rattle.bundle.proofs.Writes.{length-list, answer-written}
+use Rattle.bundle.proofs.OneRecord.{standing, body_whole}
+use Rattle.bundle.proofs.Runs.{Going, going, on, arrived, of_record, is-of, of_section, other_of, next_of}
+use Rattle.bundle.proofs.Fills.{end-kind, length_nodes, length_ends, length_counts, count_kept}
+use Rattle.bundle.proofs.Answers.{accepted_cells, accepted_edges, read_bundle, read_taken, read_lists, left_front, is-bundle as bundle-is}
+use Rattle.bundle.proofs.Writes.{length_list, answer_written}
 
 -- a word after a front of the bytes
 word_in : (p t : List ℕ) (j : ℕ) → word (p ++ t) (length p + j) ≡ word t j
@@ -42,16 +42,16 @@ module _ (p r b : List ℕ) (kind : ℕ) (size : word_size + length b ≡ length
   abbrev bytes : List ℕ
   bytes = p ++ (record_bytes kind b ++ r)
 
-  kind-put : kind_at bytes (length p) ≡ kind
+  kind_put : kind_at bytes (length p) ≡ kind
   unfolding kind_at
-  kind-put = word_in p (record_bytes kind b ++ r) word_size ∙ halves kind
+  kind_put = word_in p (record_bytes kind b ++ r) word_size ∙ halves kind
 
   record_put : is_record bytes (length p) ≡ true
   unfolding next_record count_at
   record_put =
       let t = record_bytes kind b ++ r in
       let e : word bytes (length p) ≡ length_of kind = ap (word bytes) (sym (add-zero (length p))) ∙ word_in p t 0 ∙ halves (length_of kind) in
-      let k = kind-put in
+      let k = kind_put in
       let n = length-append p t in
       let m = length-append b r in
       let q : length p + head_bytes + count_place ≡ length p + (head_bytes + count_place) = omega arith in
@@ -65,10 +65,10 @@ module _ (p r b : List ℕ) (kind : ℕ) (size : word_size + length b ≡ length
         proper = cc (c, k) ∙ proper;
       })
 
-  body-put : body bytes (length p) ≡ b
-  body-put =
-      let n : next_record bytes (length p) - (length p + head_bytes) ≡ length b = omega (arith, next_of bytes (length p) record_put, ap length_of kind-put, size) in
-      sym (body-whole bytes (length p) record_put).0
+  body_put : body bytes (length p) ≡ b
+  body_put =
+      let n : next_record bytes (length p) - (length p + head_bytes) ≡ length b = omega (arith, next_of bytes (length p) record_put, ap length_of kind_put, size) in
+      sym (body_whole bytes (length p) record_put).0
       ∙ ap (λ k. take k (drop (length p + head_bytes) bytes)) n
       ∙ ap (take (length b)) (drop-append-add p (record_bytes kind b ++ r) head_bytes)
       ∙ take_at b r (length b) refl
@@ -86,35 +86,35 @@ module _ {s p r : List ℕ} {section n : ℕ} {kind : ℕ → ℕ} {g b : ℕ �
   abbrev place : ℕ → ℕ
   place k = length p + length (over g k 0)
 
-  place-zero : place 0 ≡ length p
+  place_zero : place 0 ≡ length p
   unfolding over
-  place-zero = add-zero (length p)
+  place_zero = add-zero (length p)
 
-  place-more : (k : ℕ) → place (k + 1) ≡ place k + (length_bytes + length_of (kind k))
-  place-more k = omega (arith, ap length (over-more g k), length-append (over g k 0) (g k), ap length (l.each k), l.size k)
+  place_more : (k : ℕ) → place (k + 1) ≡ place k + (length_bytes + length_of (kind k))
+  place_more k = omega (arith, ap length (over_more g k), length-append (over g k 0) (g k), ap length (l.each k), l.size k)
 
   split : (k : ℕ) → k < n → s ≡ (p ++ over g k 0) ++ (record_bytes (kind k) (b k) ++ (over g (n - suc k) (suc k) ++ r))
   split k h =
       let x = over g k 0 in
       let y = over g (n - suc k) (suc k) in
       let e : p ++ ((x ++ (g k ++ y)) ++ r) ≡ (p ++ x) ++ (g k ++ (y ++ r)) = simp append_assoc in
-      l.whole ∙ ap (λ (z : List ℕ). p ++ (z ++ r)) (over-at g n k h) ∙ e ∙ ap (λ (z : List ℕ). (p ++ x) ++ (z ++ (y ++ r))) (l.each k)
+      l.whole ∙ ap (λ (z : List ℕ). p ++ (z ++ r)) (over_at g n k h) ∙ e ∙ ap (λ (z : List ℕ). (p ++ x) ++ (z ++ (y ++ r))) (l.each k)
 
   -- what is so of a record after any front is so there
   there : {A : Type 0} (f : List ℕ → ℕ → A) (v : A) (k : ℕ) → k < n → ((q t : List ℕ) → f (q ++ (record_bytes (kind k) (b k) ++ t)) (length q) ≡ v) → f s (place k) ≡ v
   there f v k h e = ap (λ x. f x (place k)) (split k h) ∙ ap (f _) (sym (length-append p (over g k 0))) ∙ e (p ++ over g k 0) _
 
   kind-is : (k : ℕ) → k < n → kind_at s (place k) ≡ kind k
-  kind-is k h = there kind_at (kind k) k h (λ q t. kind-put q t (b k) (kind k) (l.size k) (l.proper k t))
+  kind-is k h = there kind_at (kind k) k h (λ q t. kind_put q t (b k) (kind k) (l.size k) (l.proper k t))
 
   is_at : (k : ℕ) → k < n → is_of s section (place k) ≡ true
   is_at k h = is-of s section (place k) (there is_record true k h (λ q t. record_put q t (b k) (kind k) (l.size k) (l.proper k t))) (ap section_of (kind-is k h) ∙ l.within k)
 
   goes : (k : ℕ) → k ≤ n → Going s (length p) section (place k) k
-  goes zero h = rw place-zero (going s (length p) section)
+  goes zero h = rw place_zero (going s (length p) section)
   goes (suc k) h =
       let o = is_at k h in
-      let q : place (k + 1) ≡ next_record s (place k) = omega (arith, place-more k, next_of s (place k) (of_record s section (place k) o), ap length_of (kind-is k h)) in
+      let q : place (k + 1) ≡ next_record s (place k) = omega (arith, place_more k, next_of s (place k) (of_record s section (place k) o), ap length_of (kind-is k h)) in
       rw (← add-one k, q) (on s (length p) section (place k) k (goes k (omega arith)) o)
 
   -- none after them: they are a run
@@ -125,7 +125,7 @@ module _ {s p r : List ℕ} {section n : ℕ} {kind : ℕ → ℕ} {g b : ℕ �
   starts k h = sym (goes k h).reached
 
   bodies : (k : ℕ) → k < n → body s (record_start s (length p) k) ≡ b k
-  bodies k h = ap (body s) (starts k (omega arith)) ∙ there body (b k) k h (λ q t. body-put q t (b k) (kind k) (l.size k) (l.proper k t))
+  bodies k h = ap (body s) (starts k (omega arith)) ∙ there body (b k) k h (λ q t. body_put q t (b k) (kind k) (l.size k) (l.proper k t))
 
 -- the words of bytes that begin with those of a list
 words_of : (l t : List ℕ) (from n : ℕ) → from + n ≤ length l → leading_words n (list_bytes l from n ++ t) ≡ take n (drop from l)
@@ -136,7 +136,7 @@ words_of l t from n h = over_ext _ _ n 0 (λ i _ q. ap (λ x. x ∷ []) (entry i
 
     half : (i j : ℕ) → i < n → j < word_size → get_or (list_bytes l from n ++ t) (word_size * i + j) 0 ≡ get_or (f i) j 0
     half i j a b =
-        get_or-append (list_bytes l from n) t 0 (word_size * i + j) (omega (arith, length-list l from n))
+        get_or-append (list_bytes l from n) t 0 (word_size * i + j) (omega (arith, length_list l from n))
         ∙ get_d_blocks f word_size n (λ _ _. refl) i j 0 a b
 
     entry : (i : ℕ) → i < n → word (list_bytes l from n ++ t) (word_size * i) ≡ get_or l (from + i) 0
@@ -170,9 +170,9 @@ module _ (nodes ends counts : List ℕ) where
   abbrev edge_kinds : ℕ → ℕ
   edge_kinds k = kind_for (get_or counts k 0)
 
-  cells-laid : Laid s [] (es ++ end_record) cell_section c (λ _. cell_kind) (cell_bytes nodes) cell_body
+  cells_laid : Laid s [] (es ++ end_record) cell_section c (λ _. cell_kind) (cell_bytes nodes) cell_body
   unfolding bundle_bytes cell_bytes length_of section_of may_have over
-  cells-laid = record { whole = append_assoc cs es end_record; each = λ k. refl; within = λ k. refl; size = λ k. refl; proper = λ k t. refl }
+  cells_laid = record { whole = append_assoc cs es end_record; each = λ k. refl; within = λ k. refl; size = λ k. refl; proper = λ k t. refl }
 
   -- an edge's record, by its count
   record EdgeLaid (k : ℕ) : Type 0 where
@@ -181,9 +181,9 @@ module _ (nodes ends counts : List ℕ) where
     proper : (t : List ℕ) → may_have (edge_kinds k) (word (edge_body k ++ t) count_place) ≡ true
     back : word (edge_body k) count_place ≡ get_or counts k 0
 
-  edge-laid : (k : ℕ) → EdgeLaid k
+  edge_laid : (k : ℕ) → EdgeLaid k
   unfolding kind_for count_bytes length_of section_of may_have over
-  edge-laid k = go (is_wide x) refl
+  edge_laid k = go (is_wide x) refl
     where
       x : ℕ
       x = get_or counts k 0
@@ -192,73 +192,73 @@ module _ (nodes ends counts : List ℕ) where
       go true h = record { within = simp h; size = simp h; proper = λ t. simp h (ap is_wide (halves x) ∙ h); back = simp h (halves x) }
       go false h = record { within = simp h; size = simp h; proper = λ t. simp h; back = simp h (add-zero x) }
 
-  edges-laid : Laid s cs end_record edge_section e edge_kinds (edge_bytes ends counts) edge_body
+  edges_laid : Laid s cs end_record edge_section e edge_kinds (edge_bytes ends counts) edge_body
   unfolding bundle_bytes edge_bytes
-  edges-laid =
+  edges_laid =
       record {
         whole = append_assoc cs es end_record;
         each = λ k. refl;
-        within = λ k. (edge-laid k).within;
-        size = λ k. (edge-laid k).size;
-        proper = λ k. (edge-laid k).proper;
+        within = λ k. (edge_laid k).within;
+        size = λ k. (edge_laid k).size;
+        proper = λ k. (edge_laid k).proper;
       }
 
-  end-at : is_of s end_section (length (cs ++ es)) ≡ true
+  end_at : is_of s end_section (length (cs ++ es)) ≡ true
   unfolding bundle_bytes length_of section_of may_have
-  end-at = is-of s end_section (length (cs ++ es)) (record_put (cs ++ es) [] [] end_kind refl refl) (ap section_of (kind-put (cs ++ es) [] [] end_kind refl refl))
+  end_at = is-of s end_section (length (cs ++ es)) (record_put (cs ++ es) [] [] end_kind refl refl) (ap section_of (kind_put (cs ++ es) [] [] end_kind refl refl))
 
   -- no cell after the cells, and neither edge nor look after the edges
   no_cell : is_of s cell_section (length cs) ≡ false
   unfolding over
-  no_cell = elim (dec_lt 0 e) [ yes l ↦ other edge_section _ (is_at edges-laid 0 l) (place-zero edges-laid) (omega arith) | no l ↦ other end_section _ end-at (omega (arith, length-append cs es, none (omega arith))) (omega arith) ]
+  no_cell = elim (dec_lt 0 e) [ yes l ↦ other edge_section _ (is_at edges_laid 0 l) (place_zero edges_laid) (omega arith) | no l ↦ other end_section _ end_at (omega (arith, length-append cs es, none (omega arith))) (omega arith) ]
     where
       none : e ≡ 0 → length es ≡ 0
       none h = ap (λ n. length (over (edge_bytes ends counts) n 0)) h
 
       other : (section at : ℕ) → is_of s section at ≡ true → at ≡ length cs → cell_section < section → is_of s cell_section (length cs) ≡ false
-      other section at h p l = other-of s cell_section (length cs) (λ q. let k = of_section s section at h in let f = ap (section_at s) p in omega (arith, k, f, q, l))
+      other section at h p l = other_of s cell_section (length cs) (λ q. let k = of_section s section at h in let f = ap (section_at s) p in omega (arith, k, f, q, l))
 
   no_more : (section : ℕ) → section < end_section → (at : ℕ) → at ≡ length (cs ++ es) → is_of s section at ≡ false
-  no_more section l at e = other-of s section at (λ q. let k = of_section s end_section _ end-at in omega (arith, k, q, l, ap (section_at s) e))
+  no_more section l at e = other_of s section at (λ q. let k = of_section s end_section _ end_at in omega (arith, k, q, l, ap (section_at s) e))
 
   -- so the reader finds them all
   cells-are : cells s ≡ c
   unfolding cells
-  cells-are = run_is cells-laid (ap (is_of s cell_section) (zero-add (length cs)) ∙ no_cell)
+  cells-are = run_is cells_laid (ap (is_of s cell_section) (zero-add (length cs)) ∙ no_cell)
 
   from_is : edges_from s ≡ length cs
   unfolding edges_from
-  from_is = ap (record_start s 0) cells-are ∙ starts cells-laid c (le_refl c) ∙ zero-add (length cs)
+  from_is = ap (record_start s 0) cells-are ∙ starts cells_laid c (le_refl c) ∙ zero-add (length cs)
 
   edges-are : edges s ≡ e
   unfolding edges
-  edges-are = ap (run s edge_section) from_is ∙ run_is edges-laid (no_more edge_section (omega arith) _ (sym (length-append cs es)))
+  edges-are = ap (run s edge_section) from_is ∙ run_is edges_laid (no_more edge_section (omega arith) _ (sym (length-append cs es)))
 
-  base-is : looks_from s ≡ length (cs ++ es)
+  base_is : looks_from s ≡ length (cs ++ es)
   unfolding looks_from
-  base-is = ap (record_start s (edges_from s)) edges-are ∙ ap (λ n. record_start s n e) from_is ∙ starts edges-laid e (le_refl e) ∙ sym (length-append cs es)
+  base_is = ap (record_start s (edges_from s)) edges-are ∙ ap (λ n. record_start s n e) from_is ∙ starts edges_laid e (le_refl e) ∙ sym (length-append cs es)
 
   looks-are : looks s ≡ 0
   unfolding looks
-  looks-are = sym (arrived s (looks_from s) look_section (looks_from s) 0 (going s (looks_from s) look_section) (no_more look_section (omega arith) _ base-is))
+  looks-are = sym (arrived s (looks_from s) look_section (looks_from s) 0 (going s (looks_from s) look_section) (no_more look_section (omega arith) _ base_is))
 
   stop_is : stop s ≡ length (cs ++ es)
   unfolding stop record_start
-  stop_is = ap (record_start s (looks_from s)) looks-are ∙ base-is
+  stop_is = ap (record_start s (looks_from s)) looks-are ∙ base_is
 
   next-is : next_record s (stop s) ≡ length s
   unfolding bundle_bytes length_of
   next-is =
       ap (next_record s) stop_is
-      ∙ next_of s (length (cs ++ es)) (of_record s end_section _ end-at)
-      ∙ ap (λ k. length (cs ++ es) + (length_bytes + length_of k)) (end-kind s (length (cs ++ es)) end-at)
+      ∙ next_of s (length (cs ++ es)) (of_record s end_section _ end_at)
+      ∙ ap (λ k. length (cs ++ es) + (length_bytes + length_of k)) (end-kind s (length (cs ++ es)) end_at)
       ∙ sym (length-append (cs ++ es) end_record)
 
   is-bundle : is_bundle s ≡ true
-  is-bundle = bundle-is s (ap (is_of s end_section) stop_is ∙ end-at) next-is (omega (arith, looks-are))
+  is-bundle = bundle-is s (ap (is_of s end_section) stop_is ∙ end_at) next-is (omega (arith, looks-are))
 
   edge-of : (k : ℕ) → k < e → body s (record_start s (edges_from s) k) ≡ edge_body k
-  edge-of k h = ap (λ n. body s (record_start s n k)) from_is ∙ bodies edges-laid k h
+  edge-of k h = ap (λ n. body s (record_start s n k)) from_is ∙ bodies edges_laid k h
 
   -- a list of what the bodies mean, w entries each, is the list that was written
   listed : (f : ℕ → List ℕ) (w n m : ℕ) (l : List ℕ) → m ≡ n → length l ≡ w * n → ((k : ℕ) → k < n → f k ≡ take w (drop (w * k) l)) → over f m 0 ≡ l
@@ -270,7 +270,7 @@ module _ (nodes ends counts : List ℕ) where
 
     nodes_are : nodes_of s ≡ nodes
     unfolding nodes_of
-    nodes_are = listed _ cell_nodes c (cells s) nodes cells-are fours (λ k l. ap (leading_words cell_nodes) (bodies cells-laid k l ∙ sym (append-nil (cell_body k))) ∙ words_of nodes [] (cell_nodes * k) cell_nodes (omega (arith, fours)))
+    nodes_are = listed _ cell_nodes c (cells s) nodes cells-are fours (λ k l. ap (leading_words cell_nodes) (bodies cells_laid k l ∙ sym (append-nil (cell_body k))) ∙ words_of nodes [] (cell_nodes * k) cell_nodes (omega (arith, fours)))
 
     ends_are : ends_of s ≡ ends
     unfolding ends_of
@@ -283,14 +283,14 @@ module _ (nodes ends counts : List ℕ) where
         one_of : (k : ℕ) → k < e → surviving s k ∷ [] ≡ take 1 (drop (1 * k) counts)
         one_of k l =
             let z : k ≡ 1 * k = omega arith in
-            ap (λ x. x ∷ []) (count_kept s looks-are k ∙ ap count_in (edge-of k l) ∙ (edge-laid k).back)
+            ap (λ x. x ∷ []) (count_kept s looks-are k ∙ ap count_in (edge-of k l) ∙ (edge_laid k).back)
             ∙ ap (take 1) (sym (drop-cons counts k 0 l))
             ∙ ap (λ n. take 1 (drop n counts)) z
 
     module _ (ns es' cs' : List ℕ) (hn : length nodes ≤ length ns) (he : length ends ≤ length es') (hc : length counts ≤ length cs') where
       back : ListsBack nodes ends counts s ns es' cs'
       back =
-          let r = read-lists s (length ns) (length es') (length cs') is-bundle (omega (arith, cells-are, fours, hn)) (omega (arith, edges-are, h2, he)) (omega (arith, edges-are, hc)) in
+          let r = read_lists s (length ns) (length es') (length cs') is-bundle (omega (arith, cells-are, fours, hn)) (omega (arith, edges-are, h2, he)) (omega (arith, edges-are, hc)) in
           record {
             answer = r.0 ∙ cc (cells-are, edges-are);
             nodes_back = simp r.1 (ap (λ x. written_over x ns) nodes_are);
@@ -325,18 +325,18 @@ formed nodes ends counts area n h = go (is_formed nodes ends counts) (fits_area 
 pub written_read : WrittenRead
 written_read nodes ends counts area n h ns es cs hn he hc =
     let f = formed nodes ends counts (length area) n h in
-    rw (left-front f.written (bundle_bytes nodes ends counts) area n (sym f.all)) (back nodes ends counts f.fours f.pairs ns es cs hn he hc)
+    rw (left_front f.written (bundle_bytes nodes ends counts) area n (sym f.all)) (back nodes ends counts f.fours f.pairs ns es cs hn he hc)
 
 pub read_again : ReadAgain
 read_again s nodes ends counts c e h area l =
-    let g = sym (read-bundle s _ _ _ c e h) in
+    let g = sym (read_bundle s _ _ _ c e h) in
     let t = read_taken s _ _ _ c e h in
-    let n : take (cell_nodes * c) _ ≡ nodes_of s = left-front t (nodes_of s) nodes _ (length-nodes s ∙ ap (λ k. cell_nodes * k) (sym (accepted-cells s c e g))) in
-    let m : take (edge_ends * e) _ ≡ ends_of s = left-front t (ends_of s) ends _ (length-ends s ∙ ap (λ k. edge_ends * k) (sym (accepted-edges s c e g))) in
-    let k : take e _ ≡ counts_of s = left-front t (counts_of s) counts _ (length-counts s ∙ sym (accepted-edges s c e g)) in
-    let fours : length (nodes_of s) % cell_nodes ≡ 0 = omega (arith, length-nodes s) in
-    let pairs : length (ends_of s) ≡ edge_ends * length (counts_of s) = length-ends s ∙ ap (λ i. edge_ends * i) (sym (length-counts s)) in
-    let w = answer-written (nodes_of s) (ends_of s) (counts_of s) (length area) fours pairs l in
+    let n : take (cell_nodes * c) _ ≡ nodes_of s = left_front t (nodes_of s) nodes _ (length_nodes s ∙ ap (λ k. cell_nodes * k) (sym (accepted_cells s c e g))) in
+    let m : take (edge_ends * e) _ ≡ ends_of s = left_front t (ends_of s) ends _ (length_ends s ∙ ap (λ k. edge_ends * k) (sym (accepted_edges s c e g))) in
+    let k : take e _ ≡ counts_of s = left_front t (counts_of s) counts _ (length_counts s ∙ sym (accepted_edges s c e g)) in
+    let fours : length (nodes_of s) % cell_nodes ≡ 0 = omega (arith, length_nodes s) in
+    let pairs : length (ends_of s) ≡ edge_ends * length (counts_of s) = length_ends s ∙ ap (λ i. edge_ends * i) (sym (length_counts s)) in
+    let w = answer_written (nodes_of s) (ends_of s) (counts_of s) (length area) fours pairs l in
     rw (n, m, k)
     (record {
       back = record { answer = w.0; bytes = simp w.1 };

@@ -13,62 +13,62 @@ use borrow.Author.Tests.{eqb-true, eq-eqb, ne_eqb, lt-ltb}
 use Rattle.counting.specs.Lists.{one}
 use Rattle.counting.specs.Search.{last, some}
 use Rattle.counting.proofs.Bools.{and_left, and_right, and_true, bool_same, eqb_comm}
-use Rattle.counting.proofs.Search.{last_plus, last_ext, some-zero, some-hit, some_miss, some_ext}
+use Rattle.counting.proofs.Search.{last_plus, last_ext, some_zero, some_hit, some_miss, some_ext}
 use Rattle.bundle.specs.Record.{byte_values, word_size, head_bytes, count_place, word, length_of, next_record, is_record, body}
 use Rattle.bundle.specs.work.Record.{look_size}
 use Rattle.bundle.specs.Bundle.{edge_section, look_section, is_of, record_start, run, edges_from, edges, looks_from, looks, edge_at, look_at, end_in, count_in, same_pair, is_for, is_stray, count_from, count_after}
 use Rattle.trees.specs.work.Trees.{has_key, top_for, Tops}
 use Rattle.bundle.specs.work.Looked.{pair_key, key_at, edge_key, look_key, block_key, EndsWithin, AllEdges, top_of, top_unmet, KeysMarked, count_or}
 use Rattle.trees.proofs.Trees.{top_le, top_key, top_self}
-use Rattle.bundle.proofs.OneRecord.{stands, body-length}
-use Rattle.bundle.proofs.Runs.{Walked, here, walked_next, of_record, next_of, run-all}
-use Rattle.bundle.proofs.Fills.{body-word, look-kind, look-body, edge_ge}
+use Rattle.bundle.proofs.OneRecord.{stands, body_length}
+use Rattle.bundle.proofs.Runs.{Walked, here, walked_next, of_record, next_of, run_all}
+use Rattle.bundle.proofs.Fills.{body_word, look-kind, look_body, edge_ge}
 
 -- equal keys are equal pairs
-key-pair : (a b c d : ℕ) → b < 65536 → d < 65536 → (eqb a c && eqb b d) ≡ eqb (pair_key a b) (pair_key c d)
-key-pair a b c d hb hd =
+key_pair : (a b c d : ℕ) → b < 65536 → d < 65536 → (eqb a c && eqb b d) ≡ eqb (pair_key a b) (pair_key c d)
+key_pair a b c d hb hd =
     bool_same (eqb a c && eqb b d) (eqb (pair_key a b) (pair_key c d))
     (λ h. let p = eqb-true a c (and_left (eqb a c) (eqb b d) h) in let q = eqb-true b d (and_right (eqb a c) (eqb b d) h) in eq-eqb (pair_key a b) (pair_key c d) (omega arith))
     (λ h. let e = eqb-true (pair_key a b) (pair_key c d) h in and_true _ _ (eq-eqb a c (omega arith)) (eq-eqb b d (omega arith)))
 
 module _ (s : List ℕ) where
   -- looks are all as long
-  look-here : (k : ℕ) → k < looks s → is_of s look_section (look_at s k) ≡ true
+  look_here : (k : ℕ) → k < looks s → is_of s look_section (look_at s k) ≡ true
   unfolding looks
-  look-here k h = run-all s (looks_from s) look_section k h
+  look_here k h = run_all s (looks_from s) look_section k h
 
-  pub look-place : (k : ℕ) → k ≤ looks s → look_at s k ≡ looks_from s + look_size * k
+  pub look_place : (k : ℕ) → k ≤ looks s → look_at s k ≡ looks_from s + look_size * k
   unfolding record_start length_of
-  look-place zero h = omega (arith, mul-zero look_size)
-  look-place (suc k) h =
-      let o = look-here k h in
-      omega (arith, look-place k (omega arith), next_of s (look_at s k) (of_record s look_section _ o), ap length_of (look-kind s (look_at s k) o))
+  look_place zero h = omega (arith, mul-zero look_size)
+  look_place (suc k) h =
+      let o = look_here k h in
+      omega (arith, look_place k (omega arith), next_of s (look_at s k) (of_record s look_section _ o), ap length_of (look-kind s (look_at s k) o))
 
-  pub look-within : (k : ℕ) → k < looks s → looks_from s + look_size * k + look_size ≤ length s
-  look-within k h =
-      let r = of_record s look_section _ (look-here k h) in
-      omega (arith, look-place k (omega arith), look-body s _ (look-here k h), body-length s (look_at s k) r, (stands s (look_at s k) r).fits)
+  pub look_within : (k : ℕ) → k < looks s → looks_from s + look_size * k + look_size ≤ length s
+  look_within k h =
+      let r = of_record s look_section _ (look_here k h) in
+      omega (arith, look_place k (omega arith), look_body s _ (look_here k h), body_length s (look_at s k) r, (stands s (look_at s k) r).fits)
 
-  pub look-few : (k : ℕ) → k < looks s → k < length s
-  look-few k h = omega (arith, look-within k h)
+  pub look_few : (k : ℕ) → k < looks s → k < length s
+  look_few k h = omega (arith, look_within k h)
 
   edge_here : (n : ℕ) → n < edges s → is_of s edge_section (edge_at s n) ≡ true
   unfolding edges
-  edge_here n h = run-all s (edges_from s) edge_section n h
+  edge_here n h = run_all s (edges_from s) edge_section n h
 
   -- the key of a record is that of its body
-  key-body : (at : ℕ) → is_record s at ≡ true → count_place ≤ length (body s at) → key_at s at ≡ pair_key (end_in (body s at) 0) (end_in (body s at) 1)
+  key_body : (at : ℕ) → is_record s at ≡ true → count_place ≤ length (body s at) → key_at s at ≡ pair_key (end_in (body s at) 0) (end_in (body s at) 1)
   unfolding key_at
-  key-body at r l =
+  key_body at r l =
       let z : at + head_bytes + 0 ≡ at + head_bytes = omega arith in
-      sym (cc (body-word s at r 0 (omega arith), body-word s at r word_size (omega arith), ap (word s) z))
+      sym (cc (body_word s at r 0 (omega arith), body_word s at r word_size (omega arith), ap (word s) z))
 
   -- the count of a look
-  pub look-count : (k : ℕ) → k < looks s → word s (looks_from s + look_size * k + head_bytes + count_place) ≡ count_in (body s (look_at s k))
-  look-count k h =
-      let o = look-here k h in
-      ap (λ n. word s (n + head_bytes + count_place)) (sym (look-place k (omega arith)))
-      ∙ sym (body-word s (look_at s k) (of_record s look_section _ o) count_place (omega (arith, look-body s (look_at s k) o)))
+  pub look_count : (k : ℕ) → k < looks s → word s (looks_from s + look_size * k + head_bytes + count_place) ≡ count_in (body s (look_at s k))
+  look_count k h =
+      let o = look_here k h in
+      ap (λ n. word s (n + head_bytes + count_place)) (sym (look_place k (omega arith)))
+      ∙ sym (body_word s (look_at s k) (of_record s look_section _ o) count_place (omega (arith, look_body s (look_at s k) o)))
 
   module _ (bytes : (i : ℕ) → get_or s i 0 < byte_values) where
     word_small : (at : ℕ) → word s at < 65536
@@ -79,14 +79,14 @@ module _ (s : List ℕ) where
     unfolding is_for same_pair
     for_key n k hn hk =
         let e = of_record s edge_section _ (edge_here n hn) in
-        let l = of_record s look_section _ (look-here k hk) in
+        let l = of_record s look_section _ (look_here k hk) in
         let le : count_place ≤ length (body s (edge_at s n)) = omega (arith, edge_ge s (edge_at s n) (edge_here n hn)) in
-        let ll : count_place ≤ length (body s (look_at s k)) = omega (arith, look-body s (look_at s k) (look-here k hk)) in
-        key-pair (end_in (body s (edge_at s n)) 0) (end_in (body s (edge_at s n)) 1) (end_in (body s (look_at s k)) 0) (end_in (body s (look_at s k)) 1) (second (edge_at s n) e le) (second (look_at s k) l ll)
-        ∙ cc (key-body (edge_at s n) e le, key-body (look_at s k) l ll)
+        let ll : count_place ≤ length (body s (look_at s k)) = omega (arith, look_body s (look_at s k) (look_here k hk)) in
+        key_pair (end_in (body s (edge_at s n)) 0) (end_in (body s (edge_at s n)) 1) (end_in (body s (look_at s k)) 0) (end_in (body s (look_at s k)) 1) (second (edge_at s n) e le) (second (look_at s k) l ll)
+        ∙ cc (key_body (edge_at s n) e le, key_body (look_at s k) l ll)
       where
         second : (at : ℕ) → is_record s at ≡ true → count_place ≤ length (body s at) → end_in (body s at) 1 < 65536
-        second at r l = omega (arith, body-word s at r word_size (omega arith), word_small (at + head_bytes + word_size))
+        second at r l = omega (arith, body_word s at r word_size (omega arith), word_small (at + head_bytes + word_size))
 
     -- n looks from look m on
     module _ (m n : ℕ) (part : m + n ≤ looks s) where
@@ -99,9 +99,9 @@ module _ (s : List ℕ) where
       top-for e he = last_ext _ _ n (λ i hi. same_for e i he hi)
 
       -- the count of an edge after them, from its count before
-      pub count-block : (e : ℕ) → e < edges s → count_after s (m + n) e ≡ count_or s m (top_of s m n e) (count_after s m e)
+      pub count_block : (e : ℕ) → e < edges s → count_after s (m + n) e ≡ count_or s m (top_of s m n e) (count_after s m e)
       unfolding count_after count_or count_from
-      count-block e he = go (top_of s m n e) (sym (top-for e he))
+      count_block e he = go (top_of s m n e) (sym (top-for e he))
         where
           go : (p : ℕ) → last (λ i. is_for s e (m + i)) n ≡ p → count_from s e (last (is_for s e) (m + n)) ≡ count_or s m p (count_after s m e)
           go zero q = let x : last (is_for s e) (m + n) ≡ last (is_for s e) m = last_plus (is_for s e) m n ∙ simp q in ap (count_from s e) x
@@ -121,8 +121,8 @@ module _ (s : List ℕ) where
         found : (k : ℕ) → top_for (block_key s m) n k ≡ top → k ≡ block_key s m (top - 1)
         found k q = sym (rw q at (top_key (block_key s m) n k (omega (arith, q, top_self (block_key s m) n j hj))))
 
-        edge-met : (e : ℕ) → e < edges s → eqb (top_of s m n e) top ≡ is_for s e (m + j)
-        edge-met e he =
+        edge_met : (e : ℕ) → e < edges s → eqb (top_of s m n e) top ≡ is_for s e (m + j)
+        edge_met e he =
             bool_same (eqb (top_of s m n e) top) (is_for s e (m + j))
             (λ h. let q = eqb-true (top_of s m n e) top h in for_key e (m + j) he (omega arith) ∙ eq-eqb _ _ (found (edge_key s e) q ∙ sym (found key refl)))
             (λ h. let q = eqb-true _ _ (sym (for_key e (m + j) he (omega arith)) ∙ h) in eq-eqb _ _ (ap (top_for (block_key s m) n) q))
@@ -131,7 +131,7 @@ module _ (s : List ℕ) where
         unfolding top_unmet is_stray
         unmarked_stray =
             ap (λ x. eqb (get_or met x 0) 0) (t.at j (omega arith) hj)
-            ∙ ap (λ x. eqb x 0) (w.at top (top_le (block_key s m) n key) ∙ ap one (some_ext _ _ (edges s) edge-met))
+            ∙ ap (λ x. eqb x 0) (w.at top (top_le (block_key s m) n key) ∙ ap one (some_ext _ _ (edges s) edge_met))
             ∙ flip (some (λ e. is_for s e (m + j)) (edges s))
           where
             flip : (b : Bool) → eqb (one b) 0 ≡ not b
@@ -145,14 +145,14 @@ pub record Marking (s : List ℕ) (m n : ℕ) (met₀ met : List ℕ) (k : ℕ) 
 
 module _ (s : List ℕ) (m n : ℕ) (met₀ : List ℕ) where
   pub marking_none : ((i : ℕ) → get_or met₀ i 0 ≡ 0) → Marking s m n met₀ met₀ 0
-  marking_none blank = record { long = refl; marks = λ i h. blank i ∙ sym (ap one (some-zero (λ e. eqb (top_of s m n e) i))) }
+  marking_none blank = record { long = refl; marks = λ i h. blank i ∙ sym (ap one (some_zero (λ e. eqb (top_of s m n e) i))) }
 
   pub marking_more : (met : List ℕ) (k p : ℕ) → n < length met₀ → p ≡ top_of s m n k → Marking s m n met₀ met k → Marking s m n met₀ (set met p 1) (k + 1)
   marking_more met k p room e w =
       record {
         long = length-set met p 1 ∙ w.long;
         marks = λ i h. elim (ℕ_discrete p i) [
-          | yes q ↦ rw (← q, get_or-set_same met p 1 0 (omega (arith, w.long, e, top_le (block_key s m) n (edge_key s k)))) (sym (ap one (some-hit _ k (eq-eqb _ _ (sym e)))))
+          | yes q ↦ rw (← q, get_or-set_same met p 1 0 (omega (arith, w.long, e, top_le (block_key s m) n (edge_key s k)))) (sym (ap one (some_hit _ k (eq-eqb _ _ (sym e)))))
           | no q ↦ get_or-set_other met p i 1 0 (λ x. q (sym x)) ∙ w.marks i h ∙ sym (ap one (some_miss _ k (ne_eqb _ _ (λ x. q (e ∙ x)))))
         ];
       }
@@ -164,21 +164,21 @@ module _ (s : List ℕ) (from count at k : ℕ) (l : AllEdges s from count) (g :
   run_of = ap (run s edge_section) l.begin ∙ sym l.all
 
   -- it has come to all
-  pub edge-all : count ≤ k → k ≡ edges s
-  edge-all h = omega (arith, h, g.upto, run_of, l.all)
+  pub edge_all : count ≤ k → k ≡ edges s
+  edge_all h = omega (arith, h, g.upto, run_of, l.all)
 
   module _ (h : k < count) where
     edge-of : is_of s edge_section at ≡ true
     edge-of = here s from edge_section at k g (omega (arith, h, run_of))
 
-    pub edge-whole : is_record s at ≡ true
-    edge-whole = of_record s edge_section at edge-of
+    pub edge_whole : is_record s at ≡ true
+    edge_whole = of_record s edge_section at edge-of
 
     pub edge-ends : EndsWithin s at
-    edge-ends = omega (arith, edge_ge s at edge-of, body-length s at edge-whole, (stands s at edge-whole).fits)
+    edge-ends = omega (arith, edge_ge s at edge-of, body_length s at edge_whole, (stands s at edge_whole).fits)
 
-    pub edge-next : (next : ℕ) → next ≡ next_record s at → Walked s from edge_section next (k + 1)
-    edge-next next e = rw e (walked_next s from edge_section at k g (omega (arith, h, run_of)))
+    pub edge_next : (next : ℕ) → next ≡ next_record s at → Walked s from edge_section next (k + 1)
+    edge_next next e = rw e (walked_next s from edge_section at k g (omega (arith, h, run_of)))
 
     pub edge-key : key_at s at ≡ edge_key s k
     edge-key = ap (key_at s) (g.reached ∙ ap (λ p. record_start s p k) l.begin)

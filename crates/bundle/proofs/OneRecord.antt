@@ -23,24 +23,24 @@ pub data Kind (k : ℕ) : ℕ → Type 0 where
   look : k ≡ look_kind → Kind k look_section
   end : k ≡ end_kind → Kind k end_section
 
-kind-pick : (k : ℕ) (a b c d e : Bool) → eqb k cell_kind ≡ a → eqb k edge_kind ≡ b → eqb k end_kind ≡ c → eqb k wide_kind ≡ d → eqb k look_kind ≡ e
+kind_pick : (k : ℕ) (a b c d e : Bool) → eqb k cell_kind ≡ a → eqb k edge_kind ≡ b → eqb k end_kind ≡ c → eqb k wide_kind ≡ d → eqb k look_kind ≡ e
     → 0 < pick a cell_length (pick b edge_length (pick c end_length (pick d wide_length (pick e look_length 0))))
     → Kind k (pick a cell_section (pick b edge_section (pick d edge_section (pick e look_section (pick c end_section 0)))))
-kind-pick k true b c d e ea eb ec ed ee h = cell (eqb-true _ _ ea)
-kind-pick k false true c d e ea eb ec ed ee h = edge (eqb-true _ _ eb)
-kind-pick k false false c true e ea eb ec ed ee h = wide (eqb-true _ _ ed)
-kind-pick k false false c false true ea eb ec ed ee h = look (eqb-true _ _ ee)
-kind-pick k false false true false false ea eb ec ed ee h = end (eqb-true _ _ ec)
-kind-pick k false false false false false ea eb ec ed ee h = absurd (omega (arith, h))
+kind_pick k true b c d e ea eb ec ed ee h = cell (eqb-true _ _ ea)
+kind_pick k false true c d e ea eb ec ed ee h = edge (eqb-true _ _ eb)
+kind_pick k false false c true e ea eb ec ed ee h = wide (eqb-true _ _ ed)
+kind_pick k false false c false true ea eb ec ed ee h = look (eqb-true _ _ ee)
+kind_pick k false false true false false ea eb ec ed ee h = end (eqb-true _ _ ec)
+kind_pick k false false false false false ea eb ec ed ee h = absurd (omega (arith, h))
 
-pub kind-cases : (k : ℕ) → 0 < length_of k → Kind k (section_of k)
+pub kind_cases : (k : ℕ) → 0 < length_of k → Kind k (section_of k)
 unfolding length_of section_of
-kind-cases k h = kind-pick k (eqb k cell_kind) (eqb k edge_kind) (eqb k end_kind) (eqb k wide_kind) (eqb k look_kind) refl refl refl refl refl h
+kind_cases k h = kind_pick k (eqb k cell_kind) (eqb k edge_kind) (eqb k end_kind) (eqb k wide_kind) (eqb k look_kind) refl refl refl refl refl h
 
 -- whose record has at least the two bytes of the kind
 pub length_ge : (kind : ℕ) → 0 < length_of kind → word_size ≤ length_of kind
 unfolding length_of
-length_ge kind h = go (section_of kind) (kind-cases kind h)
+length_ge kind h = go (section_of kind) (kind_cases kind h)
   where
     go : (section : ℕ) → Kind kind section → word_size ≤ length_of kind
     go _ (cell e) = omega (arith, ap length_of e)
@@ -92,17 +92,17 @@ module _ (s : List ℕ) (at : ℕ) where
   next_ge h = let w = stands h in let l = length_ge _ w.known in let r = w.right in omega arith
 
   -- the three answers
-  pub answer-whole : is_record s at ≡ true → record_answer s at ≡ result_of (kind_at s at ∷ next_record s at ∷ [])
+  pub answer_whole : is_record s at ≡ true → record_answer s at ≡ result_of (kind_at s at ∷ next_record s at ∷ [])
   unfolding record_answer
-  answer-whole h = let w = stands h in let l : at < length s = omega (arith, w.inside) in simp (lt-ltb _ _ l, h)
+  answer_whole h = let w = stands h in let l : at < length s = omega (arith, w.inside) in simp (lt-ltb _ _ l, h)
 
-  pub answer-refused : at < length s → is_record s at ≡ false → record_answer s at ≡ refusal broken_row at
+  pub answer_refused : at < length s → is_record s at ≡ false → record_answer s at ≡ refusal broken_row at
   unfolding record_answer
-  answer-refused l h = simp (lt-ltb _ _ l, h)
+  answer_refused l h = simp (lt-ltb _ _ l, h)
 
-  pub answer-outside : length s ≤ at → record_answer s at ≡ refusal broken_row (length s)
+  pub answer_outside : length s ≤ at → record_answer s at ≡ refusal broken_row (length s)
   unfolding record_answer
-  answer-outside l = simp (le-ltb _ _ l)
+  answer_outside l = simp (le-ltb _ _ l)
 
   -- what an answer says of the bytes
   pub record Found (kind next : ℕ) : Type 0 where
@@ -114,32 +114,32 @@ module _ (s : List ℕ) (at : ℕ) where
   found kind next h = go (is_record s at) refl
     where
       go : (b : Bool) → is_record s at ≡ b → Found kind next
-      go true e = let q = answer-whole e in record { whole = e; kind_is = cc; next_is = cc }
-      go false e = elim (dec_lt at (length s)) [ yes l ↦ apart _ _ _ _ (h ∙ answer-refused l e) | no l ↦ apart _ _ _ _ (h ∙ answer-outside (omega arith)) ]
+      go true e = let q = answer_whole e in record { whole = e; kind_is = cc; next_is = cc }
+      go false e = elim (dec_lt at (length s)) [ yes l ↦ apart _ _ _ _ (h ∙ answer_refused l e) | no l ↦ apart _ _ _ _ (h ∙ answer_outside (omega arith)) ]
 
   pub not_found : (number place : ℕ) → refusal number place ≡ record_answer s at → is_record s at ≡ false
-  not_found number place h = not_clash (is_record s at) (λ e. apart _ _ _ _ (sym (h ∙ answer-whole e)))
+  not_found number place h = not_clash (is_record s at) (λ e. apart _ _ _ _ (sym (h ∙ answer_whole e)))
 
   -- the body, and where it starts
-  pub body-whole : is_record s at ≡ true → (take (next_record s at - (at + head_bytes)) (drop (at + head_bytes) s) ≡ body s at) × (at + head_bytes ≡ body_start s at)
+  pub body_whole : is_record s at ≡ true → (take (next_record s at - (at + head_bytes)) (drop (at + head_bytes) s) ≡ body s at) × (at + head_bytes ≡ body_start s at)
   unfolding body body_size body_start
-  body-whole h = (simp h, simp h)
+  body_whole h = (simp h, simp h)
 
   -- its bytes reach to the next record
-  pub body-length : is_record s at ≡ true → at + (head_bytes + length (body s at)) ≡ next_record s at
-  body-length h =
-      let e : length (body s at) ≡ next_record s at - (at + head_bytes) = sym (ap length (body-whole h).0) ∙ simp (length-take, length-drop) (omega (arith, next_ge h, (stands h).fits)) in
+  pub body_length : is_record s at ≡ true → at + (head_bytes + length (body s at)) ≡ next_record s at
+  body_length h =
+      let e : length (body s at) ≡ next_record s at - (at + head_bytes) = sym (ap length (body_whole h).0) ∙ simp (length-take, length-drop) (omega (arith, next_ge h, (stands h).fits)) in
       omega (arith, e, next_ge h)
 
-  pub body-none : is_record s at ≡ false → ([] ≡ body s at) × (0 ≡ body_start s at)
+  pub body_none : is_record s at ≡ false → ([] ≡ body s at) × (0 ≡ body_start s at)
   unfolding body body_size body_start
-  body-none h = (simp h, simp h)
+  body_none h = (simp h, simp h)
 
 -- the cases of the record reader: a length, a kind, that kind's length and whether the count is one that it may have were read at a place within
 -- the bytes
 module _ (s : List ℕ) (at : ℕ) (l : at < length s) where
   pub case_short : length s - at < head_bytes → refusal broken_row at ≡ record_answer s at
-  case_short h = sym (answer-refused s at l (absent s at (λ w. omega (arith, w.inside, h))))
+  case_short h = sym (answer_refused s at l (absent s at (λ w. omega (arith, w.inside, h))))
 
   module _ (len kind right : ℕ) (el : len ≡ word s at) (ek : kind ≡ word s (at + length_bytes)) (er : right ≡ length_of kind) where
     len_of : right ≡ length_of (kind_at s at)
@@ -147,19 +147,19 @@ module _ (s : List ℕ) (at : ℕ) (l : at < length s) where
     len_of = er ∙ ap length_of ek
 
     pub case_unknown : right ≡ 0 → refusal broken_row at ≡ record_answer s at
-    case_unknown h = sym (answer-refused s at l (absent s at (λ w. omega (arith, w.known, h, len_of))))
+    case_unknown h = sym (answer_refused s at l (absent s at (λ w. omega (arith, w.known, h, len_of))))
 
     pub case_wrong : (len ≡ right → ⊥) → refusal broken_row at ≡ record_answer s at
-    case_wrong h = sym (answer-refused s at l (absent s at (λ w. h (el ∙ w.right ∙ sym len_of))))
+    case_wrong h = sym (answer_refused s at l (absent s at (λ w. h (el ∙ w.right ∙ sym len_of))))
 
     pub case_cut : length s - at < length_bytes + len → refusal broken_row at ≡ record_answer s at
     unfolding next_record
-    case_cut h = sym (answer-refused s at l (absent s at (λ w. omega (arith, w.fits, h, el, l))))
+    case_cut h = sym (answer_refused s at l (absent s at (λ w. omega (arith, w.fits, h, el, l))))
 
     -- all bytes of a record of kind 4 with its length are there, the count too
-    pub wide-inside : len ≡ right → length_bytes + len ≤ length s - at → WideLent s at kind
+    pub wide_inside : len ≡ right → length_bytes + len ≤ length s - at → WideLent s at kind
     unfolding length_of
-    wide-inside h1 h2 e = omega (arith, h1, h2, er, ap length_of e)
+    wide_inside h1 h2 e = omega (arith, h1, h2, er, ap length_of e)
 
     module _ (may : Bool) (em : may ≡ may_have kind (count_at s at)) where
       proper_of : may ≡ may_have (kind_at s at) (count_at s at)
@@ -167,7 +167,7 @@ module _ (s : List ℕ) (at : ℕ) (l : at < length s) where
       proper_of = em ∙ ap (λ k. may_have k (count_at s at)) ek
 
       pub case_small : may ≡ false → refusal broken_row at ≡ record_answer s at
-      case_small h = sym (answer-refused s at l (absent s at (λ w. clash (proper_of ∙ w.proper) h)))
+      case_small h = sym (answer_refused s at l (absent s at (λ w. clash (proper_of ∙ w.proper) h)))
 
       pub case_whole : head_bytes ≤ length s - at → (right ≡ 0 → ⊥) → len ≡ right → length_bytes + len ≤ length s - at → may ≡ true
           → result_of (kind ∷ (at + (length_bytes + len)) ∷ []) ≡ record_answer s at
@@ -181,4 +181,4 @@ module _ (s : List ℕ) (at : ℕ) (l : at < length s) where
             proper = sym proper_of ∙ hm;
           } in
           let e : at + (length_bytes + len) ≡ at + length_bytes + word s at = omega arith in
-          cc (answer-whole s at (standing s at w))
+          cc (answer_whole s at (standing s at w))

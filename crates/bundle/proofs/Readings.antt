@@ -17,11 +17,11 @@ record_one (Whole a b) (Refused c d) h = cc
 record_one (Refused a b) (Whole c d) h = cc
 record_one (Refused a b) (Refused c d) h = cc
 
-contents-one : (x y : Contents) → contents_numbers x ≡ contents_numbers y → x ≡ y
-contents-one (Lists a b) (Lists c d) h = cc
-contents-one (Lists a b) (Broken c d) h = cc
-contents-one (Broken a b) (Lists c d) h = cc
-contents-one (Broken a b) (Broken c d) h = cc
+contents_one : (x y : Contents) → contents_numbers x ≡ contents_numbers y → x ≡ y
+contents_one (Lists a b) (Lists c d) h = cc
+contents_one (Lists a b) (Broken c d) h = cc
+contents_one (Broken a b) (Lists c d) h = cc
+contents_one (Broken a b) (Broken c d) h = cc
 
 written_one : (x y : Written) → written_numbers x ≡ written_numbers y → x ≡ y
 written_one (Bytes a) (Bytes b) h = cc
@@ -35,4 +35,4 @@ written_one (Short a) Unformed h = cc
 written_one (Short a) (Short b) h = cc
 
 pub one-to-one : OneToOne
-one-to-one = record { records = record_one; contents = contents-one; written = written_one }
+one-to-one = record { records = record_one; contents = contents_one; written = written_one }

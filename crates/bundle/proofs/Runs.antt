@@ -11,10 +11,10 @@ use lib.Dec.{eqb}
 use lib.ListN.{length}
 use borrow.Author.Tests.{eqb-true, eq-eqb, ne_eqb, not-true, not-false}
 use Rattle.counting.proofs.Bools.{and_left, and_right, and_true, and_false_left, and_false_right}
-use Rattle.counting.proofs.Search.{first-at, first-is, first_below, below-or}
+use Rattle.counting.proofs.Search.{first_at, first_is, first_below, below-or}
 use Rattle.bundle.specs.Record.{word_size, length_bytes, head_bytes, length_of, kind_at, next_record, is_record, body}
 use Rattle.bundle.specs.Bundle.{section_at, is_of, record_start, run}
-use Rattle.bundle.proofs.OneRecord.{stands, next_ge, body-length}
+use Rattle.bundle.proofs.OneRecord.{stands, next_ge, body_length}
 
 module _ (s : List ℕ) (at : ℕ) (h : is_record s at ≡ true) where
   -- the next record comes straight after a record's bytes
@@ -24,7 +24,7 @@ module _ (s : List ℕ) (at : ℕ) (h : is_record s at ≡ true) where
 
   -- its body is what its length counts besides the kind
   pub body_of : word_size + length (body s at) ≡ length_of (kind_at s at)
-  body_of = omega (arith, body-length s at h, next_of)
+  body_of = omega (arith, body_length s at h, next_of)
 
 -- a record of a section at a place
 module _ (s : List ℕ) (section at : ℕ) where
@@ -44,9 +44,9 @@ module _ (s : List ℕ) (section at : ℕ) where
   unfolding is_of
   none_of h = and_false_left (is_record s at) (eqb (section_at s at) section) h
 
-  pub other-of : (section_at s at ≡ section → ⊥) → is_of s section at ≡ false
+  pub other_of : (section_at s at ≡ section → ⊥) → is_of s section at ≡ false
   unfolding is_of
-  other-of h = and_false_right (is_record s at) (eqb (section_at s at) section) (ne_eqb _ _ h)
+  other_of h = and_false_right (is_record s at) (eqb (section_at s at) section) (ne_eqb _ _ h)
 
 -- a walk over records of a section, which came to a place after some of them
 pub record Going (s : List ℕ) (from section at count : ℕ) : Type 0 where
@@ -60,9 +60,9 @@ module _ (s : List ℕ) (from section : ℕ) where
   unfolding record_start
   going = record { reached = refl; all = λ j h. absurd (omega (arith, h)); few = omega arith; inside = omega arith }
 
-  pub start-more : (k : ℕ) → record_start s from (k + 1) ≡ next_record s (record_start s from k)
+  pub start_more : (k : ℕ) → record_start s from (k + 1) ≡ next_record s (record_start s from k)
   unfolding record_start
-  start-more k = ap (record_start s from) (add-one k)
+  start_more k = ap (record_start s from) (add-one k)
 
   module _ (at count : ℕ) (g : Going s from section at count) where
     pub on : is_of s section at ≡ true → Going s from section (next_record s at) (count + 1)
@@ -70,7 +70,7 @@ module _ (s : List ℕ) (from section : ℕ) where
         let n = next_ge s at (of_record s section at h) in
         let w = stands s at (of_record s section at h) in
         record {
-          reached = ap (next_record s) g.reached ∙ sym (start-more count);
+          reached = ap (next_record s) g.reached ∙ sym (start_more count);
           all = λ j l. ⊎_elim (λ (e : j ≡ count). ap (λ i. is_of s section (record_start s from i)) e ∙ ap (is_of s section) (sym g.reached) ∙ h) (λ (b : j < count). g.all j b) (below-or j count (omega arith));
           few = omega (arith, g.few, n);
           inside = omega (arith, g.few, n, w.fits);
@@ -80,37 +80,37 @@ module _ (s : List ℕ) (from section : ℕ) where
     unfolding run
     arrived h =
         sym
-        (first-at (λ k. not (is_of s section (record_start s from k))) (suc (length s)) count (omega (arith, g.inside))
+        (first_at (λ k. not (is_of s section (record_start s from k))) (suc (length s)) count (omega (arith, g.inside))
         (ap not (ap (is_of s section) (sym g.reached) ∙ h))
         (λ j b. ap not (g.all j b)))
 
   -- the records of a run
-  pub run-all : (j : ℕ) → j < run s section from → is_of s section (record_start s from j) ≡ true
+  pub run_all : (j : ℕ) → j < run s section from → is_of s section (record_start s from j) ≡ true
   unfolding run
-  run-all j h = not-false _ (first_below (λ k. not (is_of s section (record_start s from k))) (suc (length s)) j h)
+  run_all j h = not-false _ (first_below (λ k. not (is_of s section (record_start s from k))) (suc (length s)) j h)
 
   pub run_going : (k : ℕ) → k ≤ run s section from → Going s from section (record_start s from k) k
   unfolding record_start
   run_going zero h = going
-  run_going (suc k) h = rw (← add-one k) (on (record_start s from k) k (run_going k (omega arith)) (run-all k h))
+  run_going (suc k) h = rw (← add-one k) (on (record_start s from k) k (run_going k (omega arith)) (run_all k h))
 
-  pub run-few : run s section from ≤ length s
-  run-few = (run_going (run s section from) (le_refl (run s section from))).inside
+  pub run_few : run s section from ≤ length s
+  run_few = (run_going (run s section from) (le_refl (run s section from))).inside
 
   pub run_inside : (k : ℕ) → from ≤ length s → k ≤ run s section from → record_start s from k ≤ length s
   unfolding record_start
   run_inside zero l h = l
-  run_inside (suc k) l h = (stands s (record_start s from k) (of_record s section (record_start s from k) (run-all k h))).fits
+  run_inside (suc k) l h = (stands s (record_start s from k) (of_record s section (record_start s from k) (run_all k h))).fits
 
-  pub run-stop : is_of s section (record_start s from (run s section from)) ≡ false
+  pub run_stop : is_of s section (record_start s from (run s section from)) ≡ false
   unfolding run
-  run-stop = not-true _ (first-is (λ k. not (is_of s section (record_start s from k))) (suc (length s)) (omega (arith, run-few)))
+  run_stop = not-true _ (first_is (λ k. not (is_of s section (record_start s from k))) (suc (length s)) (omega (arith, run_few)))
 
   -- they start at least as far apart as the least of them is long
-  pub run-apart : (n : ℕ) → ((at : ℕ) → is_of s section at ≡ true → at + n ≤ next_record s at) → (k : ℕ) → k ≤ run s section from → from + n * k ≤ record_start s from k
+  pub run_apart : (n : ℕ) → ((at : ℕ) → is_of s section at ≡ true → at + n ≤ next_record s at) → (k : ℕ) → k ≤ run s section from → from + n * k ≤ record_start s from k
   unfolding record_start
-  run-apart n least zero h = omega (arith, mul-zero n)
-  run-apart n least (suc k) h = omega (arith, least (record_start s from k) (run-all k h), run-apart n least k (omega arith), mul-suc n k)
+  run_apart n least zero h = omega (arith, mul-zero n)
+  run_apart n least (suc k) h = omega (arith, least (record_start s from k) (run_all k h), run_apart n least k (omega arith), mul-suc n k)
 
 -- a second walk over the records of a run, body by body
 pub record Walked (s : List ℕ) (from section at k : ℕ) : Type 0 where
@@ -124,13 +124,13 @@ module _ (s : List ℕ) (from section : ℕ) where
 
   module _ (at k : ℕ) (g : Walked s from section at k) (l : k < run s section from) where
     pub here : is_of s section at ≡ true
-    here = ap (is_of s section) g.reached ∙ run-all s from section k l
+    here = ap (is_of s section) g.reached ∙ run_all s from section k l
 
-    pub walked-fits : at + (head_bytes + length (body s at)) ≤ length s
-    walked-fits = let r = of_record s section at here in omega (arith, body-length s at r, (stands s at r).fits)
+    pub walked_fits : at + (head_bytes + length (body s at)) ≤ length s
+    walked_fits = let r = of_record s section at here in omega (arith, body_length s at r, (stands s at r).fits)
 
     pub walked_next : Walked s from section (next_record s at) (k + 1)
-    walked_next = record { upto = omega arith; reached = ap (next_record s) g.reached ∙ sym (start-more s from section k) }
+    walked_next = record { upto = omega arith; reached = ap (next_record s) g.reached ∙ sym (start_more s from section k) }
 
     pub walked_on : Walked s from section (at + (head_bytes + length (body s at))) (k + 1)
-    walked_on = rw (body-length s at (of_record s section at here)) walked_next
+    walked_on = rw (body_length s at (of_record s section at here)) walked_next

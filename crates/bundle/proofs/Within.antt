@@ -15,9 +15,9 @@ record_within s at kind next h =
     let e = f.next_is in
     (omega (arith, e, next_ge s at f.whole), omega (arith, e, (stands s at f.whole).fits))
 
-pub body-within : BodyWithin
+pub body_within : BodyWithin
 unfolding body_start body_size
-body-within s at = go (is_record s at) refl
+body_within s at = go (is_record s at) refl
   where
     go : (b : Bool) → is_record s at ≡ b → pick b (at + head_bytes) 0 + pick b (next_record s at - (at + head_bytes)) 0 ≤ length s
     go true h = omega (arith, next_ge s at h, (stands s at h).fits)

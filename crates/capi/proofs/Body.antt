@@ -8,9 +8,9 @@ use Rattle.bundle.proofs.OneRecord.{found, not_found}
 use Rattle.capi.specs.Written.{body_numbers}
 
 module _ (s : List ℕ) (at : ℕ) where
-  pub body-found : (kind next : ℕ) → result_of (kind ∷ next ∷ []) ≡ record_answer s at → (at + head_bytes) ∷ (next - (at + head_bytes)) ∷ [] ≡ body_numbers s at
+  pub body_found : (kind next : ℕ) → result_of (kind ∷ next ∷ []) ≡ record_answer s at → (at + head_bytes) ∷ (next - (at + head_bytes)) ∷ [] ≡ body_numbers s at
   unfolding body_start body_size
-  body-found kind next h = let f = found s at kind next h in simp (f.whole, f.next_is)
+  body_found kind next h = let f = found s at kind next h in simp (f.whole, f.next_is)
 
   pub body_refused : (number place : ℕ) → refusal number place ≡ record_answer s at → 0 ∷ 0 ∷ [] ≡ body_numbers s at
   unfolding body_start body_size

@@ -11,9 +11,9 @@ use Rattle.capi.specs.Written.{answer_words, if_room, Answers}
 
 -- what is chosen with too little room, and with enough
 module _ {A : Type 0} (answer : List ℕ) (made kept : A) where
-  pub room-short : length answer < answer_words → kept ≡ if_room answer made kept
+  pub room_short : length answer < answer_words → kept ≡ if_room answer made kept
   unfolding if_room
-  room-short h = simp (lt-leb _ _ h)
+  room_short h = simp (lt-leb _ _ h)
 
   pub room_enough : answer_words ≤ length answer → {is : A} → is ≡ made → is ≡ if_room answer made kept
   unfolding if_room
@@ -21,7 +21,7 @@ module _ {A : Type 0} (answer : List ℕ) (made kept : A) where
 
 -- a call that is lent an answer area of too few words leaves it as it was
 pub answers_short : {numbers area : List ℕ} → length area < answer_words → Answers numbers area area answer_words
-answers_short h = record { many = room-short _ _ _ h; most = omega arith; area = room-short _ _ _ h }
+answers_short h = record { many = room_short _ _ _ h; most = omega arith; area = room_short _ _ _ h }
 
 -- one that has put all the numbers answers them
 pub answers_put : {numbers was is : List ℕ} {next : ℕ} → Stored was 0 numbers is next → length numbers ≤ answer_words → answer_words ≤ length was

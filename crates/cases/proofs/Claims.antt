@@ -9,11 +9,11 @@ use lib.ListN.{length}
 use borrow.Author.Tests.{lt-ltb}
 use Rattle.counting.specs.Pick.{pick}
 use Rattle.counting.specs.Lists.{total, over, values}
-use Rattle.counting.proofs.Lists.{values-at}
+use Rattle.counting.proofs.Lists.{values_at}
 use Rattle.counting.proofs.Range.{total_ext, total_add, length_over}
-use Rattle.counting.proofs.Search.{count-sorted}
+use Rattle.counting.proofs.Search.{count_sorted}
 use Rattle.answer.specs.Answer.{result_of}
-use Rattle.answer.proofs.Answer.{no-nil}
+use Rattle.answer.proofs.Answer.{no_nil}
 use Rattle.cell.specs.declared.Cell.{Cell}
 use Rattle.cell.specs.Of.{count_of, edges_of}
 use Rattle.cell.specs.Level.{by_edge}
@@ -31,37 +31,37 @@ use Rattle.cases.specs.claims.Tally.{find_entry, triangles_at, find_entry_at, ou
 use Rattle.cases.specs.claims.Claims.{OneToOne, TableLength, EveryEntry, EntriesMet, LaidAnyhow, CellsRight, AnswerRight, TotalByEntry}
 use Rattle.cases.proofs.Quick.{digit}
 use Rattle.cases.proofs.Digits.{entry_lt, digits_common, digits_number}
-use Rattle.cases.proofs.Table.{loops-alone, triangles-alone}
+use Rattle.cases.proofs.Table.{loops_alone, triangles_alone}
 use Rattle.cases.proofs.Laid as laid
 
 pub one-to-one : OneToOne
 one-to-one (Common l t) (Common m u) e = cc
-one-to-one (Common l t) Outside e = absurd (no-nil {a = l} {l = t ∷ []} (cc))
-one-to-one Outside (Common m u) e = absurd (no-nil {a = m} {l = u ∷ []} (cc))
+one-to-one (Common l t) Outside e = absurd (no_nil {a = l} {l = t ∷ []} (cc))
+one-to-one Outside (Common m u) e = absurd (no_nil {a = m} {l = u ∷ []} (cc))
 one-to-one Outside Outside e = refl
 
-pub table-length : TableLength
+pub table_length : TableLength
 unfolding over table_rows table
-table-length = refl
+table_length = refl
 
 pub laid_anyhow : LaidAnyhow
 laid_anyhow = laid.laid_anyhow
 
-pub every-entry : EveryEntry
-every-entry w C =
-    let S = laid_anyhow (lone_edges (by_edge (values w.count 6))) w (λ k l. values-at w.count 6 k 0 l) in
-    record { within = entry_lt w.count C; loops = loops-alone w.count C ∙ S.0; triangles = triangles-alone w.count C ∙ S.1 }
+pub every_entry : EveryEntry
+every_entry w C =
+    let S = laid_anyhow (lone_edges (by_edge (values w.count 6))) w (λ k l. values_at w.count 6 k 0 l) in
+    record { within = entry_lt w.count C; loops = loops_alone w.count C ∙ S.0; triangles = triangles_alone w.count C ∙ S.1 }
 
-pub entries-met : EntriesMet
-entries-met e l = (lone_edges (digit e), digits_common e, digits_number e l)
+pub entries_met : EntriesMet
+entries_met e l = (lone_edges (digit e), digits_common e, digits_number e l)
 
 pub cells_right : CellsRight
 unfolding loop_count
-cells_right c C = let E = every-entry (edges_of c) C in (E.loops, E.triangles ∙ sym (cell-count c))
+cells_right c C = let E = every_entry (edges_of c) C in (E.loops, E.triangles ∙ sym (cell-count c))
 
-pub entry-triangles : (c : Cell) → is_common (count_of c) ≡ true → triangles_at (entry_of (count_of c)) ≡ length (cell_triangles c)
+pub entry_triangles : (c : Cell) → is_common (count_of c) ≡ true → triangles_at (entry_of (count_of c)) ≡ length (cell_triangles c)
 unfolding triangles_at
-entry-triangles c C = (cells_right c C).1
+entry_triangles c C = (cells_right c C).1
 
 -- the triangles of a cell by the place of its entry
 pub by_place : (w : ℕ → ℕ) → pick (ltb (find_entry w) entries) (triangles_at (find_entry w)) 0 ≡ pick (is_common w) (triangles_at (entry_of w)) 0
@@ -83,11 +83,11 @@ module _ (cells counts names sides starts : List ℕ) where
   pub common_triangles : (c : ℕ) → is_common (taken c) ≡ true → length (cell_triangles (at c)) ≡ triangles_at (entry_of (taken c))
   common_triangles c C =
       let e = taken_is cells counts names sides starts c in
-      sym (entry-triangles (at c) (sym (ap is_common e) ∙ C)) ∙ sym (ap (λ w. triangles_at (entry_of w)) e)
+      sym (entry_triangles (at c) (sym (ap is_common e) ∙ C)) ∙ sym (ap (λ w. triangles_at (entry_of w)) e)
 
-  by-entry : (c : ℕ) → length (cell_triangles (at c)) ≡ pick (ltb (find_entry_at counts sides c) entries) (triangles_at (find_entry_at counts sides c)) 0 + outside_at cells counts names sides starts c
+  by_entry : (c : ℕ) → length (cell_triangles (at c)) ≡ pick (ltb (find_entry_at counts sides c) entries) (triangles_at (find_entry_at counts sides c)) 0 + outside_at cells counts names sides starts c
   unfolding find_entry_at outside_at
-  by-entry c = rw (by_place (taken c)) (go (is_common (taken c)) refl)
+  by_entry c = rw (by_place (taken c)) (go (is_common (taken c)) refl)
     where
       go : (b : Bool) → is_common (taken c) ≡ b → length (cell_triangles (at c)) ≡ pick b (triangles_at (entry_of (taken c))) 0 + pick b 0 (length (cell_triangles (at c)))
       go true C = common_triangles c C ∙ omega arith
@@ -97,9 +97,9 @@ pub total_by_entry : TotalByEntry
 unfolding table_triangles
 total_by_entry cells counts names sides starts =
     length_over (λ c. cell_triangles (at cells counts names sides starts c)) n 0
-    ∙ total_ext (λ c. length (cell_triangles (at cells counts names sides starts c))) (λ c. own c + outside_at cells counts names sides starts c) n 0 (λ c _ _. by-entry cells counts names sides starts c)
+    ∙ total_ext (λ c. length (cell_triangles (at cells counts names sides starts c))) (λ c. own c + outside_at cells counts names sides starts c) n 0 (λ c _ _. by_entry cells counts names sides starts c)
     ∙ total_add own (outside_at cells counts names sides starts) n 0
-    ∙ ap (λ t. t + total (outside_at cells counts names sides starts) n 0) (sym (count-sorted (find_entry_at counts sides) triangles_at entries n))
+    ∙ ap (λ t. t + total (outside_at cells counts names sides starts) n 0) (sym (count_sorted (find_entry_at counts sides) triangles_at entries n))
   where
     n : ℕ
     n = drawn_cells cells
@@ -119,4 +119,4 @@ answer_right c l t e = go (is_common w) e
 
     go : (b : Bool) → case_numbers (Common l t) ≡ pick b (result_of (loop_count (lone_edges w) ∷ triangle_count (lone_edges w) ∷ [])) (result_of []) → (length (leasts (edges_of c)) ≡ l) × (length (cell_triangles c) ≡ t)
     go true f = (same.0 ∙ cc, cell-count c ∙ same.1 ∙ cc)
-    go false f = absurd (no-nil {a = l} {l = t ∷ []} (cc))
+    go false f = absurd (no_nil {a = l} {l = t ∷ []} (cc))

@@ -10,7 +10,7 @@ use borrow.Author.Tests.{eqb-true, ltb-true, lt-ltb}
 use Rattle.counting.specs.Pick.{pick}
 use Rattle.counting.specs.Lists.{over, values}
 use Rattle.counting.specs.Search.{every}
-use Rattle.counting.proofs.Search.{every-is, is-every}
+use Rattle.counting.proofs.Search.{every_is, is_every}
 use Rattle.cell.specs.Common.{digit_limit, is_common}
 use Rattle.cases.specs.claims.Cases.{entries, from_digits, entry_of}
 use Rattle.cases.specs.claims.Tally.{find_entry}
@@ -19,7 +19,7 @@ use Rattle.cases.proofs.Quick.{digit}
 module _ (w : ℕ → ℕ) (C : is_common w ≡ true) where
   pub few : (k : ℕ) → k < 6 → w k < digit_limit
   unfolding is_common
-  few k l = ltb-true (w k) digit_limit (every-is (λ k. ltb (w k) digit_limit) 6 C k l)
+  few k l = ltb-true (w k) digit_limit (every_is (λ k. ltb (w k) digit_limit) 6 C k l)
 
   pub entry_lt : entry_of w < entries
   unfolding entry_of from_digits
@@ -30,9 +30,9 @@ module _ (w : ℕ → ℕ) (C : is_common w ≡ true) where
   number = omega arith
 
   -- the digits of the number are the counts again
-  pub digits-back : values (digit (entry_of w)) 6 ≡ values w 6
+  pub digits_back : values (digit (entry_of w)) 6 ≡ values w 6
   unfolding over digit
-  digits-back = back (w 0) (w 1) (w 2) (w 3) (w 4) (w 5) (few 0 (omega arith)) (few 1 (omega arith)) (few 2 (omega arith)) (few 3 (omega arith)) (few 4 (omega arith)) (few 5 (omega arith)) (entry_of w) number
+  digits_back = back (w 0) (w 1) (w 2) (w 3) (w 4) (w 5) (few 0 (omega arith)) (few 1 (omega arith)) (few 2 (omega arith)) (few 3 (omega arith)) (few 4 (omega arith)) (few 5 (omega arith)) (entry_of w) number
     where
       back : (a b c d e f : ℕ) → a < 3 → b < 3 → c < 3 → d < 3 → e < 3 → f < 3 → (n : ℕ) → n ≡ 243 * a + 81 * b + 27 * c + 9 * d + 3 * e + f
           → (n / 243 % 3 ∷ n / 81 % 3 ∷ n / 27 % 3 ∷ n / 9 % 3 ∷ n / 3 % 3 ∷ n / 1 % 3 ∷ []) ≡ (a ∷ b ∷ c ∷ d ∷ e ∷ f ∷ [])
@@ -52,14 +52,14 @@ digit_lt n k = omega arith
 
 pub digits_common : (n : ℕ) → is_common (digit n) ≡ true
 unfolding is_common
-digits_common n = is-every (λ k. ltb (digit n k) digit_limit) 6 (λ k l. lt-ltb (digit n k) digit_limit (digit_lt n k))
+digits_common n = is_every (λ k. ltb (digit n k) digit_limit) 6 (λ k l. lt-ltb (digit n k) digit_limit (digit_lt n k))
 
-numbers-back : every (λ n. eqb (entry_of (digit n)) n) entries ≡ true
+numbers_back : every (λ n. eqb (entry_of (digit n)) n) entries ≡ true
 unfolding every entry_of from_digits digit
-numbers-back = refl
+numbers_back = refl
 
 pub digits_number : (n : ℕ) → n < entries → entry_of (digit n) ≡ n
-digits_number n l = eqb-true (entry_of (digit n)) n (every-is (λ n. eqb (entry_of (digit n)) n) entries numbers-back n l)
+digits_number n l = eqb-true (entry_of (digit n)) n (every_is (λ n. eqb (entry_of (digit n)) n) entries numbers_back n l)
 
 -- no number of fewer of the digits is greater
 up : (w : ℕ → ℕ) (k j : ℕ) → from_digits w k ≤ from_digits w (k + j)
@@ -72,9 +72,9 @@ unfolding entry_of
 digits_lt w C k h = let e : k + (6 - k) ≡ 6 = omega arith in omega (arith, up w k (6 - k), ap (from_digits w) e, entry_lt w C)
 
 -- the digits one by one
-pub digits-none : (w : ℕ → ℕ) → 0 ≡ from_digits w 0
+pub digits_none : (w : ℕ → ℕ) → 0 ≡ from_digits w 0
 unfolding from_digits
-digits-none w = refl
+digits_none w = refl
 
 pub digits_more : (w : ℕ → ℕ) (k n x : ℕ) → n ≡ from_digits w k → x ≡ w k → digit_limit * n + x ≡ from_digits w (k + 1)
 unfolding from_digits

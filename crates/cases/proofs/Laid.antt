@@ -12,7 +12,7 @@ use borrow.Author.Tests.{lt-ltb}
 use Rattle.counting.specs.Pick.{pick}
 use Rattle.counting.specs.Lists.{one, total, kept, after, tally, pre}
 use Rattle.counting.proofs.Bools.{eqb_comm}
-use Rattle.counting.proofs.Range.{total_ext, total_add, total-round, length_over, after-lt}
+use Rattle.counting.proofs.Range.{total_ext, total_add, total_round, length_over, after_lt}
 use Rattle.slots.specs.Slots.{slot_edge, first_slot}
 use Rattle.slots.specs.claims.Claims.{EdgeSlot}
 use Rattle.slots.proofs.Slots.{slot-edge}
@@ -20,18 +20,18 @@ use Rattle.walk.specs.Darts.{half, rev}
 use Rattle.walk.specs.claims.Claims.{Darts}
 use Rattle.walk.specs.Step as walks
 use Rattle.walk.specs.Walk as walk
-use Rattle.walk.proofs.Step.{live, by-parity, rev-first, rev-second, rev-lt, half-rev}
+use Rattle.walk.proofs.Step.{live, by_parity, rev_first, rev_second, rev_lt, half_rev}
 use Rattle.walk.proofs.Once.{In}
-use Rattle.walk.proofs.Relabel.{lift, Relabels, size_same, sum_same, loops-same}
+use Rattle.walk.proofs.Relabel.{lift, Relabels, size_same, sum_same, loops_same}
 use Rattle.manifold.specs.Shape.{shape_of, many_of}
 use Rattle.cell.specs.Cell.{Edges, crossings, edge, index, number, join_at, mate, first_slot_at, second_slot_at, slot, step}
 use Rattle.cell.specs.Loop.{loop_size, dart, loop_darts, folded, normal, leasts}
 use Rattle.cell.specs.Triangles.{loop_count, many_from, triangle_count}
 use Rattle.cell.proofs.Lay.{lay}
 use Rattle.cell.proofs.Step.{step_is}
-use Rattle.cell.proofs.Mates.{mate-joined, mate-unjoined, joined-edge, joined-index, mate-cases, slot_has, ports, darts}
-use Rattle.cell.proofs.Loops.{dart-live, dart-after, tally-darts}
-use Rattle.cell.proofs.Folds.{folded-ends}
+use Rattle.cell.proofs.Mates.{mate_joined, mate_unjoined, joined_edge, joined_index, mate_cases, slot_has, ports, darts}
+use Rattle.cell.proofs.Loops.{dart_live, dart_after, tally_darts}
+use Rattle.cell.proofs.Folds.{folded_ends}
 use Rattle.cases.specs.claims.Claims.{LaidAnyhow}
 
 -- two cells with the same counts: the crossing x of the one as it is numbered in the other
@@ -50,92 +50,92 @@ module _ (v w : Edges) (same : (k : ℕ) → k < 6 → v.count k ≡ w.count k) 
   abbrev to : ℕ → ℕ
   to = moved v w
 
-  many-same : crossings w ≡ N
+  many_same : crossings w ≡ N
   unfolding pre
-  many-same = sym (total_ext v.count w.count 6 0 (λ k _ l. same k (omega arith)))
+  many_same = sym (total_ext v.count w.count 6 0 (λ k _ l. same k (omega arith)))
 
   module _ (x : ℕ) (l : x < N) where
     within : index v x < w.count (edge v x)
-    within = rw (← same (edge v x) ((lay v).edge-lt x l)) ((lay v).index-lt x l)
+    within = rw (← same (edge v x) ((lay v).edge_lt x l)) ((lay v).index_lt x l)
 
-    to-lt : to x < N
-    to-lt = rw (← many-same) ((lay w).number_lt (edge v x) (index v x) ((lay v).edge-lt x l) within)
+    to_lt : to x < N
+    to_lt = rw (← many_same) ((lay w).number_lt (edge v x) (index v x) ((lay v).edge_lt x l) within)
 
     edge_to : edge w (to x) ≡ edge v x
-    edge_to = (lay w).number-edge (edge v x) (index v x) ((lay v).edge-lt x l) within
+    edge_to = (lay w).number_edge (edge v x) (index v x) ((lay v).edge_lt x l) within
 
-    index-to : index w (to x) ≡ index v x
-    index-to = (lay w).number-index (edge v x) (index v x) ((lay v).edge-lt x l) within
+    index_to : index w (to x) ≡ index v x
+    index_to = (lay w).number_index (edge v x) (index v x) ((lay v).edge_lt x l) within
 
     back_to : moved w v (to x) ≡ x
-    back_to = rw (edge_to, index-to) ((lay v).back x l)
+    back_to = rw (edge_to, index_to) ((lay v).back x l)
 
     module _ (f : ℕ) (S : EdgeSlot (edge v x) f) where
-      join-to : join_at w f (to x) ≡ join_at v f x
+      join_to : join_at w f (to x) ≡ join_at v f x
       unfolding join_at
-      join-to = rw (edge_to, index-to, count 0 (omega arith), count 1 (omega arith), count 2 (omega arith)) refl
+      join_to = rw (edge_to, index_to, count 0 (omega arith), count 1 (omega arith), count 2 (omega arith)) refl
         where
           count : (j : ℕ) → j < 3 → v.count (slot_edge f j) ≡ w.count (slot_edge f j)
           count j h = same (slot_edge f j) (slot-edge f j S.lt h).lt
 
-      mate-to : mate v f x < N → mate w f (to x) ≡ to (mate v f x)
-      mate-to h =
+      mate_to : mate v f x < N → mate w f (to x) ≡ to (mate v f x)
+      mate_to h =
           ⊎_elim
-          (λ q. let k = (slot-edge f q.0 S.lt (joined-edge v f x q.2)).lt in
-          let i = joined-index v f x q.2 in
-          mate-joined w f (to x) (join-to ∙ q.2)
-          ∙ sym (ap to (mate-joined v f x q.2) ∙ ap₂ (number w) ((lay v).number-edge (slot_edge f q.0) q.1 k i) ((lay v).number-index (slot_edge f q.0) q.1 k i)))
-          (λ q. absurd (omega (arith, mate-unjoined v f x q)))
-          (mate-cases v f x l S)
+          (λ q. let k = (slot-edge f q.0 S.lt (joined_edge v f x q.2)).lt in
+          let i = joined_index v f x q.2 in
+          mate_joined w f (to x) (join_to ∙ q.2)
+          ∙ sym (ap to (mate_joined v f x q.2) ∙ ap₂ (number w) ((lay v).number_edge (slot_edge f q.0) q.1 k i) ((lay v).number_index (slot_edge f q.0) q.1 k i)))
+          (λ q. absurd (omega (arith, mate_unjoined v f x q)))
+          (mate_cases v f x l S)
 
   module _ (d : ℕ) (l : d < 2 * N) where
     abbrev x : ℕ
     x = d / 2
 
-    half-lift : lift to d / 2 ≡ to x
+    half_lift : lift to d / 2 ≡ to x
     unfolding lift
-    half-lift = omega arith
+    half_lift = omega arith
 
-    part-lift : lift to d % 2 ≡ d % 2
+    part_lift : lift to d % 2 ≡ d % 2
     unfolding lift
-    part-lift = omega arith
+    part_lift = omega arith
 
-    slot-to : slot w (lift to d) ≡ slot v d
+    slot_to : slot w (lift to d) ≡ slot v d
     unfolding slot walks.face
-    slot-to = rw (half-lift, part-lift, edge_to x (omega arith)) refl
+    slot_to = rw (half_lift, part_lift, edge_to x (omega arith)) refl
 
     -- a step that does not end
     module _ (h : step v d < 2 * N) where
       abbrev y : ℕ
       y = mate v (slot v d) x
 
-      y-lt : y < N
+      y_lt : y < N
       unfolding step slot
-      y-lt = live N (first_slot_at v) (second_slot_at v) (mate v) (ports v) d h
+      y_lt = live N (first_slot_at v) (second_slot_at v) (mate v) (ports v) d h
 
       lands : mate w (slot w (lift to d)) (lift to d / 2) ≡ to y
-      lands = rw (slot-to, half-lift) (mate-to x (omega arith) (slot v d) (slot_has v d l) y-lt)
+      lands = rw (slot_to, half_lift) (mate_to x (omega arith) (slot v d) (slot_has v d l) y_lt)
 
-      step-to : step w (lift to d) ≡ lift to (step v d)
+      step_to : step w (lift to d) ≡ lift to (step v d)
       unfolding walks.land
-      step-to =
+      step_to =
           step_is w (lift to d)
-          ∙ rw (lands, slot-to, many-same, lt-ltb (to y) N (to-lt y y-lt), edge_to y y-lt)
-          (sym (ap (lift to) (step_is v d ∙ rw (lt-ltb y N y-lt) refl) ∙ turned to (eqb (first_slot (edge v y)) (slot v d)) y))
+          ∙ rw (lands, slot_to, many_same, lt-ltb (to y) N (to_lt y y_lt), edge_to y y_lt)
+          (sym (ap (lift to) (step_is v d ∙ rw (lt-ltb y N y_lt) refl) ∙ turned to (eqb (first_slot (edge v y)) (slot v d)) y))
 
   relabels : Relabels N (step v) (step w) to (moved w v)
-  relabels = record { below = to-lt; back = back_to; steps = step-to }
+  relabels = record { below = to_lt; back = back_to; steps = step_to }
 
 -- the folded segments at a crossing: those along its two darts
 unfoldable bent : Edges → ℕ → ℕ
 bent u x = one (folded u (2 * x)) + one (folded u (2 * x + 1))
 
-bent-half : (u : Edges) (d : ℕ) → d < 2 * crossings u → bent u (half d) ≡ one (folded u d) + one (folded u (rev d))
+bent_half : (u : Edges) (d : ℕ) → d < 2 * crossings u → bent u (half d) ≡ one (folded u d) + one (folded u (rev d))
 unfolding bent
-bent-half u =
-    by-parity (crossings u) (λ d. bent u (half d) ≡ one (folded u d) + one (folded u (rev d)))
-    (λ c _. let e : 2 * c / 2 ≡ c = omega arith in rw (e, rev-first c) refl)
-    (λ c _. let e : (2 * c + 1) / 2 ≡ c = omega arith in rw (e, rev-second c) (omega arith))
+bent_half u =
+    by_parity (crossings u) (λ d. bent u (half d) ≡ one (folded u d) + one (folded u (rev d)))
+    (λ c _. let e : 2 * c / 2 ≡ c = omega arith in rw (e, rev_first c) refl)
+    (λ c _. let e : (2 * c + 1) / 2 ≡ c = omega arith in rw (e, rev_second c) (omega arith))
 
 -- over a loop each is met twice, from its two ends
 module _ (u : Edges) (p : ℕ) (l : p < crossings u) where
@@ -149,31 +149,31 @@ module _ (u : Edges) (p : ℕ) (l : p < crossings u) where
   at k = dart u p k
 
   at_lt : (k : ℕ) → k < n → at k < 2 * M
-  at_lt k h = dart-live u p l k h
+  at_lt k h = dart_live u p l k h
 
   -- from the point after k back to k
-  turn-back : (k : ℕ) → k < n → step u (rev (at (after n k))) ≡ rev (at k)
-  turn-back k h =
-      ap (λ d. step u (rev d)) (dart-after u p l k h) ∙ (darts u).back (at k) (at_lt k h) (rw (← dart-after u p l k h) (at_lt (after n k) (after-lt n k h)))
+  turn_back : (k : ℕ) → k < n → step u (rev (at (after n k))) ≡ rev (at k)
+  turn_back k h =
+      ap (λ d. step u (rev d)) (dart_after u p l k h) ∙ (darts u).back (at k) (at_lt k h) (rw (← dart_after u p l k h) (at_lt (after n k) (after_lt n k h)))
 
   folded_back : (k : ℕ) → k < n → folded u (rev (at (after n k))) ≡ folded u (at k)
   folded_back k h =
-      let la = at_lt (after n k) (after-lt n k h) in
-      folded-ends u (rev (at (after n k))) (rev-lt M (at (after n k)) la) (rw (turn-back k h) (rev-lt M (at k) (at_lt k h)))
-      ∙ ap₂ (λ i j. eqb (edge u i) (edge u j)) (half-rev (at (after n k))) (ap half (turn-back k h) ∙ half-rev (at k))
+      let la = at_lt (after n k) (after_lt n k h) in
+      folded_ends u (rev (at (after n k))) (rev_lt M (at (after n k)) la) (rw (turn_back k h) (rev_lt M (at k) (at_lt k h)))
+      ∙ ap₂ (λ i j. eqb (edge u i) (edge u j)) (half_rev (at (after n k))) (ap half (turn_back k h) ∙ half_rev (at k))
       ∙ eqb_comm (edge u (half (at (after n k)))) (edge u (half (at k)))
-      ∙ ap (λ d. eqb (edge u (half (at k))) (edge u (half d))) (dart-after u p l k h)
-      ∙ sym (folded-ends u (at k) (at_lt k h) (rw (← dart-after u p l k h) la))
+      ∙ ap (λ d. eqb (edge u (half (at k))) (edge u (half d))) (dart_after u p l k h)
+      ∙ sym (folded_ends u (at k) (at_lt k h) (rw (← dart_after u p l k h) la))
 
   twice : total (λ k. bent u (half (at k))) n 0 ≡ 2 * tally (folded u) (loop_darts u p)
   twice =
       omega (
         arith,
-        total_ext (λ k. bent u (half (at k))) (λ k. one (folded u (at k)) + one (folded u (rev (at k)))) n 0 (λ k _ h. bent-half u (at k) (at_lt k (omega arith))),
+        total_ext (λ k. bent u (half (at k))) (λ k. one (folded u (at k)) + one (folded u (rev (at k)))) n 0 (λ k _ h. bent_half u (at k) (at_lt k (omega arith))),
         total_add (λ k. one (folded u (at k))) (λ k. one (folded u (rev (at k)))) n 0,
-        total-round (λ k. one (folded u (rev (at k)))) n,
+        total_round (λ k. one (folded u (rev (at k)))) n,
         total_ext (λ k. one (folded u (rev (at (after n k))))) (λ k. one (folded u (at k))) n 0 (λ k _ h. ap one (folded_back k (omega arith))),
-        tally-darts u p l (folded u),
+        tally_darts u p l (folded u),
       )
 
 -- how many loops there are, and triangles, summed over the loops
@@ -194,9 +194,9 @@ triangle-count u = total_ext (many_from u) (λ p. pick (ltb 0 (loop_size u p)) (
     some : (n : ℕ) (b : Bool) → many_of (shape_of n b) n ≡ pick (ltb 0 n) (many_of (shape_of n b) n) 0
     some n b = ⊎_elim (λ (e : n ≡ 0). rw e refl) (λ (h : 0 < n). rw (lt-ltb 0 n h) refl) (eq-zero-or-pos n)
 
-rev-lift : (f : ℕ → ℕ) (d : ℕ) → rev (lift f d) ≡ lift f (rev d)
+rev_lift : (f : ℕ → ℕ) (d : ℕ) → rev (lift f d) ≡ lift f (rev d)
 unfolding rev lift
-rev-lift f d =
+rev_lift f d =
     let a : (2 * f (d / 2) + d % 2) / 2 ≡ f (d / 2) = omega arith in
     let b : (2 * (d / 2) + (1 - d % 2)) / 2 ≡ d / 2 = omega arith in
     rw (a, b) (omega arith)
@@ -215,24 +215,24 @@ module _ (v w : Edges) (same : (k : ℕ) → k < 6 → v.count k ≡ w.count k) 
   there = relabels v w same
 
   here : Relabels K (step w) (step v) g f
-  here = subst (λ m. Relabels m (step w) (step v) g f) (many-same v w same) (relabels w v (λ k l. sym (same k l)))
+  here = subst (λ m. Relabels m (step w) (step v) g f) (many_same v w same) (relabels w v (λ k l. sym (same k l)))
 
   dw : Darts (2 * K) K (step w) rev half
-  dw = subst (λ m. Darts (2 * m) m (step w) rev half) (many-same v w same) (darts w)
+  dw = subst (λ m. Darts (2 * m) m (step w) rev half) (many_same v w same) (darts w)
 
-  size-w : (q : ℕ) → walk.size K (step w) q ≡ loop_size w q
+  size_w : (q : ℕ) → walk.size K (step w) q ≡ loop_size w q
   unfolding loop_size
-  size-w q = ap (λ m. walk.size m (step w) q) (sym (many-same v w same))
+  size_w q = ap (λ m. walk.size m (step w) q) (sym (many_same v w same))
 
-  lift-below : (d : ℕ) → d < 2 * K → lift f d < 2 * crossings w
-  lift-below d l = rw (many-same v w same) (omega (arith, to-lt v w same (d / 2) (omega arith), half-lift v w same d l))
+  lift_below : (d : ℕ) → d < 2 * K → lift f d < 2 * crossings w
+  lift_below d l = rw (many_same v w same) (omega (arith, to_lt v w same (d / 2) (omega arith), half_lift v w same d l))
 
-  folded-to : (d : ℕ) → d < 2 * K → step v d < 2 * K → folded w (lift f d) ≡ folded v d
-  folded-to d l h =
-      folded-ends w (lift f d) (lift-below d l) (rw (step-to v w same d l h) (lift-below (step v d) h))
-      ∙ ap₂ eqb (ap (edge w) (half-lift v w same d l) ∙ edge_to v w same (d / 2) (omega arith))
-      (ap (λ e. edge w (e / 2)) (step-to v w same d l h) ∙ ap (edge w) (half-lift v w same (step v d) h) ∙ edge_to v w same (step v d / 2) (omega arith))
-      ∙ sym (folded-ends v d l h)
+  folded_to : (d : ℕ) → d < 2 * K → step v d < 2 * K → folded w (lift f d) ≡ folded v d
+  folded_to d l h =
+      folded_ends w (lift f d) (lift_below d l) (rw (step_to v w same d l h) (lift_below (step v d) h))
+      ∙ ap₂ eqb (ap (edge w) (half_lift v w same d l) ∙ edge_to v w same (d / 2) (omega arith))
+      (ap (λ e. edge w (e / 2)) (step_to v w same d l h) ∙ ap (edge w) (half_lift v w same (step v d) h) ∙ edge_to v w same (step v d / 2) (omega arith))
+      ∙ sym (folded_ends v d l h)
 
   module _ (p q : ℕ) (lp : p < K) (lq : q < K) (h : 0 < walk.size K (step v) p) (o : In K (step w) rev dw q (f p)) where
     abbrev m : ℕ
@@ -243,20 +243,20 @@ module _ (v w : Edges) (same : (k : ℕ) → k < 6 → v.count k ≡ w.count k) 
 
     lengths : m ≡ loop_size w q
     unfolding loop_size
-    lengths = size_same K (step v) (step w) f g (darts v) dw there here p q lp lq h o ∙ size-w q
+    lengths = size_same K (step v) (step w) f g (darts v) dw there here p q lp lq h o ∙ size_w q
 
-    bent-to : (k : ℕ) → k < m → bent w (f (half (dv (after m k)))) ≡ bent v (half (dv (after m k)))
-    bent-to k l =
+    bent_to : (k : ℕ) → k < m → bent w (f (half (dv (after m k)))) ≡ bent v (half (dv (after m k)))
+    bent_to k l =
         let d = dv (after m k) in
-        let la = after-lt m k l in
-        let ld = dart-live v p lp (after m k) la in
-        let sd : step v d < 2 * K = rw (← dart-after v p lp (after m k) la) (dart-live v p lp (after m (after m k)) (after-lt m (after m k) la)) in
-        let lr = rev-lt K d ld in
-        let sr : step v (rev d) < 2 * K = rw (turn-back v p lp k l) (rev-lt K (dv k) (dart-live v p lp k l)) in
-        ap (bent w) (sym (half-lift v w same d ld))
-        ∙ bent-half w (lift f d) (lift-below d ld)
-        ∙ ap₂ (λ a b. one a + one b) (folded-to d ld sd) (ap (folded w) (rev-lift f d) ∙ folded-to (rev d) lr sr)
-        ∙ sym (bent-half v d ld)
+        let la = after_lt m k l in
+        let ld = dart_live v p lp (after m k) la in
+        let sd : step v d < 2 * K = rw (← dart_after v p lp (after m k) la) (dart_live v p lp (after m (after m k)) (after_lt m (after m k) la)) in
+        let lr = rev_lt K d ld in
+        let sr : step v (rev d) < 2 * K = rw (turn_back v p lp k l) (rev_lt K (dv k) (dart_live v p lp k l)) in
+        ap (bent w) (sym (half_lift v w same d ld))
+        ∙ bent_half w (lift f d) (lift_below d ld)
+        ∙ ap₂ (λ a b. one a + one b) (folded_to d ld sd) (ap (folded w) (rev_lift f d) ∙ folded_to (rev d) lr sr)
+        ∙ sym (bent_half v d ld)
 
     folds : tally (folded v) (loop_darts v p) ≡ tally (folded w) (loop_darts w q)
     unfolding dart loop_size
@@ -264,27 +264,27 @@ module _ (v w : Edges) (same : (k : ℕ) → k < 6 → v.count k ≡ w.count k) 
         omega (
           arith,
           twice v p lp,
-          total-round (λ k. bent v (half (dv k))) m,
-          total_ext (λ k. bent w (f (half (dv (after m k))))) (λ k. bent v (half (dv (after m k)))) m 0 (λ k _ l. bent-to k (omega arith)),
-          total-round (λ k. bent w (f (half (dv k)))) m,
+          total_round (λ k. bent v (half (dv k))) m,
+          total_ext (λ k. bent w (f (half (dv (after m k))))) (λ k. bent v (half (dv (after m k)))) m 0 (λ k _ l. bent_to k (omega arith)),
+          total_round (λ k. bent w (f (half (dv k)))) m,
           sum_same K (step v) (step w) f g (darts v) dw there here p q lp lq h o (bent w),
-          ap (λ i. total (λ k. bent w (half (dart w q k))) i 0) (size-w q),
-          twice w q (rw (many-same v w same) lq),
+          ap (λ i. total (λ k. bent w (half (dart w q k))) i 0) (size_w q),
+          twice w q (rw (many_same v w same) lq),
         )
 
     many_are : many_from v p ≡ many_from w q
     unfolding many_from normal
     many_are = ap₂ (λ i j. many_of (shape_of i (eqb j 0)) i) lengths folds
 
-  over-same : (G H : ℕ → ℕ) → ((p q : ℕ) → p < K → q < K → 0 < walk.size K (step v) p → In K (step w) rev dw q (f p) → G p ≡ H q)
+  over_same : (G H : ℕ → ℕ) → ((p q : ℕ) → p < K → q < K → 0 < walk.size K (step v) p → In K (step w) rev dw q (f p) → G p ≡ H q)
       → total (λ p. pick (ltb 0 (loop_size v p)) (G p) 0) K 0 ≡ total (λ q. pick (ltb 0 (loop_size w q)) (H q) 0) (crossings w) 0
   unfolding loop_size
-  over-same G H s =
-      loops-same K (step v) (step w) f g (darts v) dw there here G H s
-      ∙ ap (λ i. total (λ q. pick (ltb 0 (walk.size i (step w) q)) (H q) 0) i 0) (sym (many-same v w same))
+  over_same G H s =
+      loops_same K (step v) (step w) f g (darts v) dw there here G H s
+      ∙ ap (λ i. total (λ q. pick (ltb 0 (walk.size i (step w) q)) (H q) 0) i 0) (sym (many_same v w same))
 
 pub laid_anyhow : LaidAnyhow
 laid_anyhow v w same = (
-  loop-count v ∙ over-same v w same (λ p. 1) (λ q. 1) (λ p q _ _ _ _. refl) ∙ sym (loop-count w),
-  triangle-count v ∙ over-same v w same (many_from v) (many_from w) (many_are v w same) ∙ sym (triangle-count w),
+  loop-count v ∙ over_same v w same (λ p. 1) (λ q. 1) (λ p q _ _ _ _. refl) ∙ sym (loop-count w),
+  triangle-count v ∙ over_same v w same (many_from v) (many_from w) (many_are v w same) ∙ sym (triangle-count w),
 )

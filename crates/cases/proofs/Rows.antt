@@ -6,7 +6,7 @@ use native.Mathlib.Nat.{add-zero}
 use native.Mathlib.Omega.{arith}
 use lib.ListN.{get_or, length, replicate, get_or-replicate}
 use Rattle.counting.specs.Lists.{over, values}
-use Rattle.counting.proofs.Lists.{values-at}
+use Rattle.counting.proofs.Lists.{values_at}
 use Rattle.counting.proofs.Fronts.{get_d_blocks}
 use Rattle.cases.specs.claims.Cases.{entries}
 use Rattle.cases.specs.claims.Table.{row_count, table_rows, table}
@@ -16,7 +16,7 @@ unfolding table_rows over
 lengths = refl
 
 long : (k : ℕ) → k < row_count → length (get_or table_rows k []) ≡ 18
-long k h = sym (values-at (λ k. length (get_or table_rows k [])) row_count k 0 h) ∙ ap (λ l. get_or l k 0) lengths ∙ get_or-replicate row_count k 18 0 h
+long k h = sym (values_at (λ k. length (get_or table_rows k [])) row_count k 0 h) ∙ ap (λ l. get_or l k 0) lengths ∙ get_or-replicate row_count k 18 0 h
 
 number_at : (n i : ℕ) → n < entries → i < 2 → get_or (get_or table_rows (n / 9) []) (2 * (n % 9) + i) 0 ≡ get_or table (2 * n + i) 0
 unfolding table

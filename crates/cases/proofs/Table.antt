@@ -17,7 +17,7 @@ use Rattle.cases.specs.claims.Table.{table}
 use Rattle.cases.proofs.Quick as quick
 use Rattle.cases.proofs.Both.{both_are}
 use Rattle.cases.proofs.Test.{test}
-use Rattle.cases.proofs.Digits.{entry_lt, digits-back}
+use Rattle.cases.proofs.Digits.{entry_lt, digits_back}
 
 -- an entry has two numbers: those of a cell alone with its digits as counts
 two : (n : ℕ) → length (quick.entry_at n) ≡ 2
@@ -31,13 +31,13 @@ module _ (w : ℕ → ℕ) (C : is_common w ≡ true) where
   abbrev same : ℕ → ℕ
   same = by_edge (values w 6)
 
-  entry-is : (i : ℕ) → i < 2 → get_or table (2 * entry_of w + i) 0 ≡ get_or (loop_count (lone_edges same) ∷ triangle_count (lone_edges same) ∷ []) i 0
+  entry_is : (i : ℕ) → i < 2 → get_or table (2 * entry_of w + i) 0 ≡ get_or (loop_count (lone_edges same) ∷ triangle_count (lone_edges same) ∷ []) i 0
   unfolding quick.entry_at quick.both_for
-  entry-is i h =
-      entry-at (entry_of w) i (entry_lt w C) h ∙ ap (λ l. get_or (quick.both (lone_edges (by_edge l))) i 0) (digits-back w C) ∙ ap (λ l. get_or l i 0) (both_are (lone_edges same))
+  entry_is i h =
+      entry-at (entry_of w) i (entry_lt w C) h ∙ ap (λ l. get_or (quick.both (lone_edges (by_edge l))) i 0) (digits_back w C) ∙ ap (λ l. get_or l i 0) (both_are (lone_edges same))
 
-  pub loops-alone : get_or table (2 * entry_of w) 0 ≡ loop_count (lone_edges same)
-  loops-alone = sym (ap (λ n. get_or table n 0) (add-zero (2 * entry_of w))) ∙ entry-is 0 (omega arith)
+  pub loops_alone : get_or table (2 * entry_of w) 0 ≡ loop_count (lone_edges same)
+  loops_alone = sym (ap (λ n. get_or table n 0) (add-zero (2 * entry_of w))) ∙ entry_is 0 (omega arith)
 
-  pub triangles-alone : get_or table (2 * entry_of w + 1) 0 ≡ triangle_count (lone_edges same)
-  triangles-alone = entry-is 1 (omega arith)
+  pub triangles_alone : get_or table (2 * entry_of w + 1) 0 ≡ triangle_count (lone_edges same)
+  triangles_alone = entry_is 1 (omega arith)

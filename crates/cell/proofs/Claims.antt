@@ -12,7 +12,7 @@ use lib.ListN.{get_or}
 use borrow.Author.Tests.{ltb-true, lt-ltb}
 use Rattle.counting.specs.Pick.{pick}
 use Rattle.counting.specs.Lists.{one}
-use Rattle.answer.proofs.Answer.{no-nil}
+use Rattle.answer.proofs.Answer.{no_nil}
 use Rattle.cell.specs.declared.LoopType.{LoopType}
 use Rattle.cell.specs.declared.LoopType.TheVariants.{Contractible, Corner, Diagonal, LowestCorner}
 use Rattle.cell.specs.declared.Loop.{Loop}
@@ -21,13 +21,13 @@ use Rattle.cell.specs.Cell.{Edges, base, crossings, edge}
 use Rattle.cell.specs.Loop.{loop_size, dart, in_grid, leasts}
 use Rattle.cell.specs.Answer.{type_numbers, loop_numbers}
 use Rattle.cell.specs.claims.Claims.{OneToOne, CellLaws, Separate, Ordered}
-use Rattle.cell.proofs.Lay.{lay, lower-numbers}
+use Rattle.cell.proofs.Lay.{lay, lower_numbers}
 use Rattle.cell.proofs.Mates.{ports, darts, laws}
-use Rattle.cell.proofs.Loops.{the_loop, dart-live, size_le, size-two}
-use Rattle.cell.proofs.Follow.{step_of, goes_on, along-most, along_once}
-use Rattle.cell.proofs.Folds.{normal-ends}
-use Rattle.counting.proofs.Kept.{kept-is, kept-rise, kept-all}
-use Rattle.cell.proofs.Three.{three-normal, three-corner}
+use Rattle.cell.proofs.Loops.{the_loop, dart_live, size_le, size_two}
+use Rattle.cell.proofs.Follow.{step_of, goes_on, along_most, along_once}
+use Rattle.cell.proofs.Folds.{normal_ends}
+use Rattle.counting.proofs.Kept.{kept_is, kept_rise, kept_all}
+use Rattle.cell.proofs.Three.{three_normal, three_corner}
 
 pub cell_laws : (w : Edges) (v : List ℕ) → CellLaws w v
 unfolding dart leasts
@@ -36,19 +36,19 @@ cell_laws w v = record {
   ports = ports w;
   darts = darts w;
   walks = laws w;
-  longer = size-two w;
+  longer = size_two w;
   shorter = size_le w;
   distinct = λ p i j l a b e. (laws w).distinct (2 * p) (loop_size w p) (the_loop w p l (omega arith)) i j a b e;
   follows = step_of w;
   goes = goes_on w;
-  most = along-most w;
+  most = along_most w;
   exactly = λ all s x L. along_once w s x L (all s x L) all;
-  normal-ends = normal-ends w;
-  three-normal = three-normal w;
-  three-corner = λ p l e. three-corner w p l e v;
-  rising = kept-rise some (crossings w) 0;
-  listed = λ i l. let K = kept-is some (crossings w) 0 i l in (omega (arith, K.high), ltb-true 0 (loop_size w (get_or (leasts w) i 0)) K.passes);
-  all = λ p l h. kept-all some (crossings w) 0 p (omega arith) (omega arith) (lt-ltb 0 (loop_size w p) h);
+  normal_ends = normal_ends w;
+  three_normal = three_normal w;
+  three_corner = λ p l e. three_corner w p l e v;
+  rising = kept_rise some (crossings w) 0;
+  listed = λ i l. let K = kept_is some (crossings w) 0 i l in (omega (arith, K.high), ltb-true 0 (loop_size w (get_or (leasts w) i 0)) K.passes);
+  all = λ p l h. kept_all some (crossings w) 0 p (omega arith) (omega arith) (lt-ltb 0 (loop_size w p) h);
 }
   where
     some : ℕ → Bool
@@ -60,12 +60,12 @@ module _ (w : Edges) (S : Separate w) where
   unfolding in_grid
   numbers x y h ly =
       let lx : x < crossings w = omega arith in
-      let ix = (lay w).index-lt x lx in
-      let iy = (lay w).index-lt y ly in
+      let ix = (lay w).index_lt x lx in
+      let iy = (lay w).index_lt y ly in
       elim (ℕ_discrete (edge w x) (edge w y)) [
         | yes e ↦ omega (arith, (lay w).back x lx, (lay w).back y ly, ap (base w) e, ap w.start e)
         | no n ↦ ⊎_elim
-            (λ a. omega (arith, ix, lower-numbers w S (edge w x) (edge w y) ((lay w).edge-lt x lx) ((lay w).edge-lt y ly) n (omega (arith, ix)) (omega (arith, iy)) a))
+            (λ a. omega (arith, ix, lower_numbers w S (edge w x) (edge w y) ((lay w).edge_lt x lx) ((lay w).edge_lt y ly) n (omega (arith, ix)) (omega (arith, iy)) a))
             (λ r. absurd (n r.0)) ((lay w).later x y h ly)
       ]
 
@@ -79,13 +79,13 @@ lowest w p k l h = omega (arith, ((laws w).found p l (omega arith)).1 (dart w p 
 pub ordered : Ordered
 ordered w S = record {
   numbers = numbers w S;
-  least = λ p k l h. numbers_le w S p (dart w p k / 2) (lowest w p k l h) (omega (arith, dart-live w p l k h));
+  least = λ p k l h. numbers_le w S p (dart w p k / 2) (lowest w p k l h) (omega (arith, dart_live w p l k h));
   ordered = λ i j l h. numbers w S (get_or (leasts w) i 0) (get_or (leasts w) j 0) ((cell_laws w []).rising i j l h) ((cell_laws w []).listed j h).0;
 }
 
 -- where the numbers of an edge are below those of each later one
-pub rising-separate : (w : Edges) → ((j k : ℕ) → j < k → k < 6 → w.start j + w.count j ≤ w.start k) → Separate w
-rising-separate w R j k t u lj lk lt lu e =
+pub rising_separate : (w : Edges) → ((j k : ℕ) → j < k → k < 6 → w.start j + w.count j ≤ w.start k) → Separate w
+rising_separate w R j k t u lj lk lt lu e =
     elim (ℕ_discrete j k) [
       | yes q ↦ q
       | no n ↦ elim (dec_lt j k) [
@@ -123,8 +123,8 @@ loops (Found p n a s) (Found q m b t) e =
     let f : a ≡ b = flags a b (cc) in
     let g : s ≡ t = types s t (cc) in
     cc
-loops (Found p n a s) Nothing e = absurd (no-nil {a = p} {l = n ∷ one a ∷ type_numbers s} (cc))
-loops Nothing (Found p n a s) e = absurd (no-nil {a = p} {l = n ∷ one a ∷ type_numbers s} (cc))
+loops (Found p n a s) Nothing e = absurd (no_nil {a = p} {l = n ∷ one a ∷ type_numbers s} (cc))
+loops Nothing (Found p n a s) e = absurd (no_nil {a = p} {l = n ∷ one a ∷ type_numbers s} (cc))
 loops Nothing Nothing e = refl
 
 pub one_to_one : OneToOne

@@ -18,13 +18,13 @@ use Rattle.counting.specs.work.Stored.{Stored}
 use Rattle.counting.specs.Stored.{stored_in}
 use Rattle.counting.specs.claims.Lists.{next_in}
 use Rattle.counting.proofs.Bools.{clash, and_left, and_right, and_false_right, or_right, or_cases}
-use Rattle.counting.proofs.Lists.{gather-over, one-long, one_ext}
+use Rattle.counting.proofs.Lists.{gather_over, one_long, one_ext}
 use Rattle.counting.proofs.Range.{length_over, total_ext, over_ext}
-use Rattle.counting.proofs.Search.{below-or, every-is, is-every, every-not, count-total, count_le}
+use Rattle.counting.proofs.Search.{below-or, every_is, is_every, every_not, count_total, count_le}
 use Rattle.counting.proofs.Stored.{stored_none, stored_as, stored_more, stored_fits, stored_room, stored_not, stored_nothing, stored_same}
 use Rattle.place.specs.declared.Place.{Place}
 use Rattle.place.specs.Place.{middle, coordinates, place_at, numbers, all_numbers}
-use Rattle.place.proofs.Numbers.{length-numbers, point_stored, place_kept}
+use Rattle.place.proofs.Numbers.{length_numbers, point_stored, place_kept}
 use Rattle.place.proofs.Sums.{middle_ext}
 use Rattle.manifold.specs.Shape.{has_middle}
 use Rattle.manifold.proofs.Shapes.{middle_fan, fan-middle, shape_else}
@@ -42,8 +42,8 @@ use Rattle.cell.specs.claims.Table.{table_cell}
 use Rattle.cell.specs.work.Table.{middles_written}
 use Rattle.cell.specs.work.Centres.{IsNest, recorded_place, recorded_middle, MiddlesRoom}
 use Rattle.cell.proofs.Lay.{lay}
-use Rattle.cell.proofs.Loops.{from-point, dart-live}
-use Rattle.cell.proofs.Fits.{room-left}
+use Rattle.cell.proofs.Loops.{from_point, dart_live}
+use Rattle.cell.proofs.Fits.{room_left}
 use Rattle.cell.proofs.Going.{Looped, looped_points}
 use Rattle.cell.proofs.Nesting.{looped_nested}
 
@@ -76,30 +76,30 @@ second false p q r h = h refl
 
 -- how many middles there are
 module _ (nodes : List Float) (place : ℕ → Place) (c : Cell) where
-  pub length-loop : (p : ℕ) → length (loop_middle nodes place c p) ≡ one (is_fan c p)
+  pub length_loop : (p : ℕ) → length (loop_middle nodes place c p) ≡ one (is_fan c p)
   unfolding loop_middle
-  length-loop p = one-long (is_fan c p) (fan_middle nodes place c p)
+  length_loop p = one_long (is_fan c p) (fan_middle nodes place c p)
 
-  pub length-cell : length (cell_middles nodes place c) ≡ fan_count c
+  pub length_cell : length (cell_middles nodes place c) ≡ fan_count c
   unfolding cell_middles fan_count
-  length-cell =
+  length_cell =
       length_over (loop_middle nodes place c) (crossings (edges_of c)) 0
-      ∙ total_ext (λ p. length (loop_middle nodes place c p)) (λ p. one (is_fan c p)) (crossings (edges_of c)) 0 (λ p a b. length-loop p)
-      ∙ sym (count-total (is_fan c) (crossings (edges_of c)))
+      ∙ total_ext (λ p. length (loop_middle nodes place c p)) (λ p. one (is_fan c p)) (crossings (edges_of c)) 0 (λ p a b. length_loop p)
+      ∙ sym (count_total (is_fan c) (crossings (edges_of c)))
 
 -- numbers below n
 module _ (c : Cell) (n : ℕ) where
   pub below_all : ((e : ℕ) → e < 6 → start_of c e + count_of c e ≤ n) → numbered_below c n ≡ true
   unfolding numbered_below
-  below_all h = is-every (λ e. leb (start_of c e + count_of c e) n) 6 (λ e l. le-leb (start_of c e + count_of c e) n (h e l))
+  below_all h = is_every (λ e. leb (start_of c e + count_of c e) n) 6 (λ e l. le-leb (start_of c e + count_of c e) n (h e l))
 
-  pub below-not : (e : ℕ) → e < 6 → n < start_of c e + count_of c e → numbered_below c n ≡ false
+  pub below_not : (e : ℕ) → e < 6 → n < start_of c e + count_of c e → numbered_below c n ≡ false
   unfolding numbered_below
-  below-not e l h = every-not (λ e. leb (start_of c e + count_of c e) n) 6 e l (lt-leb (start_of c e + count_of c e) n h)
+  below_not e l h = every_not (λ e. leb (start_of c e + count_of c e) n) 6 e l (lt-leb (start_of c e + count_of c e) n h)
 
   pub below_at : numbered_below c n ≡ true → (e : ℕ) → e < 6 → start_of c e + count_of c e ≤ n
   unfolding numbered_below
-  below_at h e l = leb-true (start_of c e + count_of c e) n (every-is (λ e. leb (start_of c e + count_of c e) n) 6 h e l)
+  below_at h e l = leb-true (start_of c e + count_of c e) n (every_is (λ e. leb (start_of c e + count_of c e) n) 6 h e l)
 
 pub below_more : (c : Cell) {n m : ℕ} → numbered_below c n ≡ true → n ≤ m → numbered_below c m ≡ true
 below_more c {n} {m} h l = below_all c m (λ e k. omega (arith, below_at c n h e k))
@@ -109,19 +109,19 @@ pub record Highest (c : Cell) (e last : ℕ) : Type 0 where
   pub above : (k : ℕ) → k < e → start_of c k + count_of c k ≤ last
   pub reached : (n : ℕ) → n < last → (k : ℕ) × (k < 6) × (n < start_of c k + count_of c k)
 
-pub highest-none : (c : Cell) → Highest c 0 0
-highest-none c = record { above = λ k l. absurd (omega arith); reached = λ n l. absurd (omega arith) }
+pub highest_none : (c : Cell) → Highest c 0 0
+highest_none c = record { above = λ k l. absurd (omega arith); reached = λ n l. absurd (omega arith) }
 
 module _ {c : Cell} {e last : ℕ} (H : Highest c e last) where
-  pub highest-more : {next : ℕ} → e < 6 → last ≤ next → start_of c e + count_of c e ≤ next → (next ≡ last) ⊎ (next ≡ start_of c e + count_of c e) → Highest c (e + 1) next
-  highest-more {next} l up end is = record {
+  pub highest_more : {next : ℕ} → e < 6 → last ≤ next → start_of c e + count_of c e ≤ next → (next ≡ last) ⊎ (next ≡ start_of c e + count_of c e) → Highest c (e + 1) next
+  highest_more {next} l up end is = record {
     above = λ k h. ⊎_elim (λ (q : k ≡ e). rw q end) (λ (g : k < e). omega (arith, H.above k g)) (below-or k e (omega arith));
     reached = λ n h. ⊎_elim (λ (q : next ≡ last). H.reached n (omega arith)) (λ (q : next ≡ start_of c e + count_of c e). (e, l, omega arith)) is;
   }
 
-  pub highest-all : 6 ≤ e → (n : ℕ) → leb last n ≡ numbered_below c n
-  highest-all l n = elim (dec_lt n last) [
-    | yes h ↦ let w = H.reached n h in lt-leb last n h ∙ sym (below-not c n w.0 w.1 w.2)
+  pub highest_all : 6 ≤ e → (n : ℕ) → leb last n ≡ numbered_below c n
+  highest_all l n = elim (dec_lt n last) [
+    | yes h ↦ let w = H.reached n h in lt-leb last n h ∙ sym (below_not c n w.0 w.1 w.2)
     | no h ↦ le-leb last n (omega arith) ∙ sym (below_all c n (λ k g. omega (arith, H.above k (omega arith))))
   ]
 
@@ -144,13 +144,13 @@ placeable_below c n e f = ⊎_elim (λ (h : numbered_below c n ≡ true). h) (λ
 
 -- the middles are determined by the nodes' places and, but for a nest, those of the cell's crossings
 module _ (nodes : List Float) (c : Cell) (n : ℕ) (a : is_placeable c n ≡ true) (place other : ℕ → Place) (same : (g : ℕ) → g < n → place g ≡ other g) where
-  point-below : (p k : ℕ) → numbered_below c n ≡ true → p < crossings (edges_of c) → k < loop_size (edges_of c) p → loop_point c p k < n
+  point_below : (p k : ℕ) → numbered_below c n ≡ true → p < crossings (edges_of c) → k < loop_size (edges_of c) p → loop_point c p k < n
   unfolding loop_point number_of in_grid
-  point-below p k b l h =
+  point_below p k b l h =
       let w = edges_of c in
       let x = dart w p k / 2 in
-      let d : x < crossings w = omega (arith, dart-live w p l k h) in
-      omega (arith, below_at c n b (edge w x) ((lay w).edge-lt x d), (lay w).index-lt x d)
+      let d : x < crossings w = omega (arith, dart_live w p l k h) in
+      omega (arith, below_at c n b (edge w x) ((lay w).edge_lt x d), (lay w).index_lt x d)
 
   pub loop_ext : (p : ℕ) → p < crossings (edges_of c) → loop_middle nodes place c p ≡ loop_middle nodes other c p
   unfolding loop_middle fan_middle is_fan
@@ -159,7 +159,7 @@ module _ (nodes : List Float) (c : Cell) (n : ℕ) (a : is_placeable c n ≡ tru
       one_ext (is_fan c p) (fan_middle nodes place c p) (fan_middle nodes other c p)
       (λ e. (second (ltb (nest_edge (count_of c)) 3) (nest_middle (corner_place nodes c) c p) (middle (λ k. place (loop_point c p k)) n) (middle (λ k. other (loop_point c p k)) n) (λ f.
       middle_ext (λ k. place (loop_point c p k)) (λ k. other (loop_point c p k)) n (middle_fan n (normal (edges_of c) p) e).0
-      (λ k h. same (loop_point c p k) (point-below p k (placeable_below c _ a f) l h)))))
+      (λ k h. same (loop_point c p k) (point_below p k (placeable_below c _ a f) l h)))))
 
   pub cell_ext : cell_middles nodes place c ≡ cell_middles nodes other c
   unfolding cell_middles
@@ -184,9 +184,9 @@ module _ {c : Cell} {p n : ℕ} {b : Bool} {halves points : List ℕ} (L : Loope
     looped_place f =
         let m = length points in
         let e = looped_points L ∙ L.size in
-        choice (ltb q.edge 3) (ap (λ k. ltb k 3) Q.edge-is) (λ t. looped_nested L Q nodes (ltb-true q.edge 3 t))
+        choice (ltb q.edge 3) (ap (λ k. ltb k 3) Q.edge_is) (λ t. looped_nested L Q nodes (ltb-true q.edge 3 t))
         (middle_ext (λ k. place_at area (get_or points k 0)) (λ k. place_at area (loop_point c p k)) m (middle_fan m b f).0
-        (λ k h. ap (place_at area) (ap (λ l. get_or l k 0) L.points_are ∙ from-point c p k (omega (arith, e))))
+        (λ k h. ap (place_at area) (ap (λ l. get_or l k 0) L.points_are ∙ from_point c p k (omega (arith, e))))
         ∙ ap (middle (λ k. place_at area (loop_point c p k))) e)
 
     pub looped_middle : recorded_middle c q nodes halves points b area ≡ loop_middle nodes (place_at area) c p
@@ -215,9 +215,9 @@ module _ (c : Cell) (n : Nest) (nodes : List Float) (halves points : List ℕ) (
   is-fan true e = (λ z. absurd (omega arith), λ z. refl)
   is-fan false e = (λ z. refl, λ z. absurd (z (sym e)))
 
-  pub put-none : r ≡ 0 → Stored area (coordinates * at) (all_numbers (recorded_middle c n nodes halves points normal area)) area (coordinates * at)
+  pub put_none : r ≡ 0 → Stored area (coordinates * at) (all_numbers (recorded_middle c n nodes halves points normal area)) area (coordinates * at)
   unfolding recorded_middle gather
-  put-none z = rw ((is-fan (has_middle (length points) normal) (sym q)).0 z) (stored_none area (coordinates * at))
+  put_none z = rw ((is-fan (has_middle (length points) normal) (sym q)).0 z) (stored_none area (coordinates * at))
 
   pub put_one : r ≢ 0 → coordinates * (at + one (has_middle (length points) normal)) ≤ length area → {p : Place} {out : List Float}
       → p ≡ recorded_place c n nodes halves points area → out ≡ stored_in area (coordinates * at) (numbers p)
@@ -235,53 +235,53 @@ middle_of nodes c area p = all_numbers (loop_middle nodes (place_at area) c p)
 module _ (nodes : List Float) (c : Cell) (area : List Float) (at : ℕ) where
   all_are : all_numbers (cell_middles nodes (place_at area) c) ≡ over (middle_of nodes c area) (crossings (edges_of c)) 0
   unfolding cell_middles
-  all_are = gather-over numbers (loop_middle nodes (place_at area) c) (crossings (edges_of c)) 0
+  all_are = gather_over numbers (loop_middle nodes (place_at area) c) (crossings (edges_of c)) 0
 
-  all-long : length (all_numbers (cell_middles nodes (place_at area) c)) ≡ coordinates * fan_count c
-  all-long = length-numbers (cell_middles nodes (place_at area) c) ∙ ap (λ k. coordinates * k) (length-cell nodes (place_at area) c)
+  all_long : length (all_numbers (cell_middles nodes (place_at area) c)) ≡ coordinates * fan_count c
+  all_long = length_numbers (cell_middles nodes (place_at area) c) ∙ ap (λ k. coordinates * k) (length_cell nodes (place_at area) c)
 
   module _ (R : MiddlesRoom c area at) where
     module _ {p : ℕ} (i : ℕ) {mid : List Float} (S : Stored area (coordinates * at) (over (middle_of nodes c area) p 0) mid (coordinates * i))
         {n : ℕ} {b : Bool} {halves points : List ℕ} (L : Looped c p n b halves points) where
-      pub middle-room : coordinates * (i + one (has_middle (length points) b)) ≤ length mid
-      middle-room =
+      pub middle_room : coordinates * (i + one (has_middle (length points) b)) ≤ length mid
+      middle_room =
           omega (
             arith,
-            stored_fits (middle_of nodes c area) (crossings (edges_of c)) p S L.inside (omega (arith, R.room, all-long, ap length all_are)),
-            length-numbers (loop_middle nodes (place_at area) c p),
-            length-loop nodes (place_at area) c p,
+            stored_fits (middle_of nodes c area) (crossings (edges_of c)) p S L.inside (omega (arith, R.room, all_long, ap length all_are)),
+            length_numbers (loop_middle nodes (place_at area) c p),
+            length_loop nodes (place_at area) c p,
             ap one (points_fan L),
           )
 
-      pub middle-next : {q : Nest} → IsNest c q → {out : List Float} {m : ℕ} → Stored mid (coordinates * i) (all_numbers (recorded_middle c q nodes halves points b mid)) out m
+      pub middle_next : {q : Nest} → IsNest c q → {out : List Float} {m : ℕ} → Stored mid (coordinates * i) (all_numbers (recorded_middle c q nodes halves points b mid)) out m
           → Stored area (coordinates * at) (over (middle_of nodes c area) (p + 1) 0) out m
-      middle-next Q T =
+      middle_next Q T =
           stored_more (middle_of nodes c area) p S
           (stored_as T (ap all_numbers (looped_middle L Q nodes mid ∙ loop_ext nodes c at R.below (place_at mid) (place_at area) (place_kept S) p L.inside)) refl)
 
-    pub middles-all : {p m : ℕ} {out : List Float} → Stored area (coordinates * at) (over (middle_of nodes c area) p 0) out m → p ≡ crossings (edges_of c)
+    pub middles_all : {p m : ℕ} {out : List Float} → Stored area (coordinates * at) (over (middle_of nodes c area) p 0) out m → p ≡ crossings (edges_of c)
         → Stored area (coordinates * at) (all_numbers (cell_middles nodes (place_at area) c)) out m
-    middles-all S e = stored_as S (ap (λ k. over (middle_of nodes c area) k 0) e ∙ sym all_are) refl
+    middles_all S e = stored_as S (ap (λ k. over (middle_of nodes c area) k 0) e ∙ sym all_are) refl
 
     -- as the call answers
     pub middles_stored : Stored area (coordinates * at) (all_numbers (cell_middles nodes (place_at area) c)) (points_then nodes c area at) (coordinates * next_point nodes c area at)
     unfolding next_point points_then middles_at
     middles_stored =
-        let S = stored_room area (coordinates * at) (all_numbers (cell_middles nodes (place_at area) c)) (omega (arith, R.room, all-long)) in
-        rw R.below (stored_as S refl (omega (arith, S.after, all-long)))
+        let S = stored_room area (coordinates * at) (all_numbers (cell_middles nodes (place_at area) c)) (omega (arith, R.room, all_long)) in
+        rw R.below (stored_as S refl (omega (arith, S.after, all_long)))
 
-    pub middles-done : {out : List Float} {r : ℕ} → Stored area (coordinates * at) (all_numbers (cell_middles nodes (place_at area) c)) out (coordinates * r)
+    pub middles_done : {out : List Float} {r : ℕ} → Stored area (coordinates * at) (all_numbers (cell_middles nodes (place_at area) c)) out (coordinates * r)
         → (r ≡ next_point nodes c area at) × (out ≡ points_then nodes c area at)
-    middles-done S = (omega (arith, S.after, middles_stored.after), S.area ∙ sym middles_stored.area)
+    middles_done S = (omega (arith, S.after, middles_stored.after), S.area ∙ sym middles_stored.area)
 
 -- whether the middles can be written from point `at` on, and have room
 abbrev pub fits : Cell → (room at : ℕ) → Bool
 fits c room at = is_placeable c at && leb (at + fan_count c) (room / coordinates)
 
 -- where they have none, nothing is written
-pub middles-not : (nodes : List Float) (c : Cell) (area : List Float) (at : ℕ) → fits c (length area) at ≡ false → (at ≡ next_point nodes c area at) × (area ≡ points_then nodes c area at)
+pub middles_not : (nodes : List Float) (c : Cell) (area : List Float) (at : ℕ) → fits c (length area) at ≡ false → (at ≡ next_point nodes c area at) × (area ≡ points_then nodes c area at)
 unfolding next_point points_then middles_at gather
-middles-not nodes c area at = go (is_placeable c at)
+middles_not nodes c area at = go (is_placeable c at)
   where
     go : (b : Bool) → (b && leb (at + fan_count c) (length area / coordinates)) ≡ false
         → (at ≡ next_in area (coordinates * at) (all_numbers (pick b (cell_middles nodes (place_at area) c) [])) / coordinates)
@@ -290,7 +290,7 @@ middles-not nodes c area at = go (is_placeable c at)
     go true e =
         let n =
         stored_not area (coordinates * at) (all_numbers (cell_middles nodes (place_at area) c))
-        (omega (arith, leb-false (at + fan_count c) (length area / coordinates) e, all-long nodes c area at)) in
+        (omega (arith, leb-false (at + fan_count c) (length area / coordinates) e, all_long nodes c area at)) in
         (omega (arith, n.1), n.0)
 
 -- nor are there any in a cell without crossings
@@ -304,26 +304,26 @@ no-middles nodes c area at e = rw e (go (is_placeable c at))
     go false = let n = stored_nothing area (coordinates * at) in (omega (arith, n.1), n.0)
     go true = let n = stored_nothing area (coordinates * at) in (omega (arith, n.1), n.0)
 
-pub fits-room : (c : Cell) (area : List Float) (at : ℕ) → fits c (length area) at ≡ true → MiddlesRoom c area at
-fits-room c area at e =
+pub fits_room : (c : Cell) (area : List Float) (at : ℕ) → fits c (length area) at ≡ true → MiddlesRoom c area at
+fits_room c area at e =
     let t = leb (at + fan_count c) (length area / coordinates) in
     record { below = and_left (is_placeable c at) t e; room = omega (arith, leb-true (at + fan_count c) (length area / coordinates) (and_right (is_placeable c at) t e)) }
 
 -- as the code asks
 module _ (c : Cell) (room at : ℕ) where
-  pub fits-short : room / coordinates < at → false ≡ fits c room at
-  fits-short h = sym (and_false_right (is_placeable c at) _ (lt-leb (at + fan_count c) (room / coordinates) (omega arith)))
+  pub fits_short : room / coordinates < at → false ≡ fits c room at
+  fits_short h = sym (and_false_right (is_placeable c at) _ (lt-leb (at + fan_count c) (room / coordinates) (omega arith)))
 
   pub fits_not : is_placeable c at ≡ false → false ≡ fits c room at
   fits_not e = rw e
 
   module _ (b : is_placeable c at ≡ true) (h : at ≤ room / coordinates) where
     pub fits_count : {t : ℕ} → t ≡ fan_count c → leb t (room / coordinates - at) ≡ fits c room at
-    fits_count e = rw (b, e) (room-left (fan_count c) at (room / coordinates) h)
+    fits_count e = rw (b, e) (room_left (fan_count c) at (room / coordinates) h)
 
-    pub fits-most : {n : ℕ} → n ≡ crossings (edges_of c) → n ≤ room / coordinates - at → true ≡ fits c room at
+    pub fits_most : {n : ℕ} → n ≡ crossings (edges_of c) → n ≤ room / coordinates - at → true ≡ fits c room at
     unfolding fan_count
-    fits-most e l = rw b (sym (le-leb (at + fan_count c) (room / coordinates) (omega (arith, count_le (is_fan c) (crossings (edges_of c))))))
+    fits_most e l = rw b (sym (le-leb (at + fan_count c) (room / coordinates) (omega (arith, count_le (is_fan c) (crossings (edges_of c))))))
 
 -- the middles of cells, cell by cell
 module _ (cells counts names sides starts : List ℕ) (nodes : List Float) (first : ℕ) (area : List Float) (at : ℕ) where
@@ -333,17 +333,17 @@ module _ (cells counts names sides starts : List ℕ) (nodes : List Float) (firs
   written_none = let e : first - first ≡ 0 = omega arith in rw e refl
 
   module _ (k : ℕ) {mid : List Float} {i : ℕ} (e : (mid, i) ≡ middles_written cells counts names sides starts nodes first area at (k - first)) where
-    pub written-more : first ≤ k → {v : Cell} → v ≡ table_cell cells counts names sides starts k → {r : ℕ} {out : List Float}
+    pub written_more : first ≤ k → {v : Cell} → v ≡ table_cell cells counts names sides starts k → {r : ℕ} {out : List Float}
         → (r ≡ next_point nodes v mid i) × (out ≡ points_then nodes v mid i) → (out, r) ≡ middles_written cells counts names sides starts nodes first area at (k + 1 - first)
     unfolding middles_written
-    written-more l {v} q {r} {out} p =
+    written_more l {v} q {r} {out} p =
         let s : k + 1 - first ≡ suc (k - first) = omega arith in
         let f : first + (k - first) ≡ k = omega arith in
         rw (s, f, ← e, ← q, ← p.0, ← p.1)
 
-    pub written-long : length mid ≡ length area
+    pub written_long : length mid ≡ length area
     unfolding middles_written points_then
-    written-long = ap (λ (w : List Float × ℕ). length w.0) e ∙ long (k - first)
+    written_long = ap (λ (w : List Float × ℕ). length w.0) e ∙ long (k - first)
       where
         long : (n : ℕ) → length (middles_written cells counts names sides starts nodes first area at n).0 ≡ length area
         long zero = refl

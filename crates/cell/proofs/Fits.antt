@@ -17,7 +17,7 @@ use Rattle.counting.specs.Stored.{stored_in}
 use Rattle.counting.specs.claims.Lists.{next_in}
 use Rattle.counting.specs.work.Stored.{Stored}
 use Rattle.counting.proofs.Fronts.{over_shift}
-use Rattle.counting.proofs.Lists.{gather-over}
+use Rattle.counting.proofs.Lists.{gather_over}
 use Rattle.counting.proofs.Range.{over_snoc}
 use Rattle.counting.proofs.Stored.{stored_none, stored_long, stored_as, stored_room, stored_not}
 use Rattle.cell.specs.declared.Cell.{Cell}
@@ -26,41 +26,41 @@ use Rattle.cell.specs.Words.{word_count, words, all_words}
 use Rattle.cell.specs.Triangles.{cell_triangles, triangles_with}
 use Rattle.cell.specs.work.Fits.{next_at, area_then, next_after, area_after}
 use Rattle.cell.proofs.Taken.{with_all}
-use Rattle.cell.proofs.Storing.{length-all, words_of, written-room, written-more}
+use Rattle.cell.proofs.Storing.{length_all, words_of, written_room, written_more}
 
 module _ (l : List Triangle) (area : List ℕ) (at : ℕ) where
   pub no_room : length area < at + word_count * length l → (at ≡ next_in area at (all_words l)) × (area ≡ stored_in area at (all_words l))
-  no_room h = let n = stored_not area at (all_words l) (omega (arith, h, length-all l)) in (n.1, n.0)
+  no_room h = let n = stored_not area at (all_words l) (omega (arith, h, length_all l)) in (n.1, n.0)
 
   pub has-room : at + word_count * length l ≤ length area → (at + word_count * length l ≡ next_in area at (all_words l)) × (sets area at (all_words l) ≡ stored_in area at (all_words l))
-  has-room h = let S = stored_room area at (all_words l) (omega (arith, h, length-all l)) in (omega (arith, S.after, length-all l), sym S.area)
+  has-room h = let S = stored_room area at (all_words l) (omega (arith, h, length_all l)) in (omega (arith, S.after, length_all l), sym S.area)
 
 -- k more than `at` are no more than `room`
-pub room-left : (k at room : ℕ) → at ≤ room → leb k (room - at) ≡ leb (at + k) room
-room-left k at room h =
+pub room_left : (k at room : ℕ) → at ≤ room → leb k (room - at) ≡ leb (at + k) room
+room_left k at room h =
     elim (dec_lt room (at + k)) [
       | yes l ↦ lt-leb k (room - at) (omega arith) ∙ sym (lt-leb (at + k) room l)
       | no l ↦ le-leb k (room - at) (omega arith) ∙ sym (le-leb (at + k) room (omega arith))
     ]
 
 -- all loops of a cell
-pub next-all : (c : Cell) (area : List ℕ) (at : ℕ) → next_in area at (all_words (triangles_with c 0)) ≡ next_at c area at
+pub next_all : (c : Cell) (area : List ℕ) (at : ℕ) → next_in area at (all_words (triangles_with c 0)) ≡ next_at c area at
 unfolding next_at
-next-all c area at = ap (λ l. next_in area at (all_words l)) (with_all c)
+next_all c area at = ap (λ l. next_in area at (all_words l)) (with_all c)
 
-pub area-all : (c : Cell) (area : List ℕ) (at : ℕ) → stored_in area at (all_words (triangles_with c 0)) ≡ area_then c area at
+pub area_all : (c : Cell) (area : List ℕ) (at : ℕ) → stored_in area at (all_words (triangles_with c 0)) ≡ area_then c area at
 unfolding area_then
-area-all c area at = ap (λ l. stored_in area at (all_words l)) (with_all c)
+area_all c area at = ap (λ l. stored_in area at (all_words l)) (with_all c)
 
 -- cells one after the other: n are done
 module _ (c : Cell) where
-  next-same : (a b : List ℕ) (at : ℕ) → length a ≡ length b → next_at c a at ≡ next_at c b at
+  next_same : (a b : List ℕ) (at : ℕ) → length a ≡ length b → next_at c a at ≡ next_at c b at
   unfolding next_at next_in
-  next-same a b at e = rw e
+  next_same a b at e = rw e
 
-  area-long : (area : List ℕ) (at : ℕ) → length (area_then c area at) ≡ length area
+  area_long : (area : List ℕ) (at : ℕ) → length (area_then c area at) ≡ length area
   unfolding area_then stored_in
-  area-long area at = go (leb (at + length (all_words (cell_triangles c))) (length area))
+  area_long area at = go (leb (at + length (all_words (cell_triangles c))) (length area))
     where
       go : (b : Bool) → length (pick b (sets area at (all_words (cell_triangles c))) area) ≡ length area
       go true = length-sets area at (all_words (cell_triangles c))
@@ -73,19 +73,19 @@ module _ (cell : ℕ → Cell) (first : ℕ) (was : List ℕ) (at : ℕ) where
     pub area : is ≡ area_after cell first was at n
 
   -- those up to the first
-  pub put-none : Put (first - first) was at
+  pub put_none : Put (first - first) was at
   unfolding next_after area_after
-  put-none = let e : first - first ≡ 0 = omega arith in rw e (record { long = refl; next = refl; area = refl })
+  put_none = let e : first - first ≡ 0 = omega arith in rw e (record { long = refl; next = refl; area = refl })
 
-  pub put-more : {k : ℕ} {is : List ℕ} {i : ℕ} → first ≤ k → Put (k - first) is i → {c : Cell} {is' : List ℕ} {j : ℕ} → c ≡ cell k → j ≡ next_at c is i → is' ≡ area_then c is i
+  pub put_more : {k : ℕ} {is : List ℕ} {i : ℕ} → first ≤ k → Put (k - first) is i → {c : Cell} {is' : List ℕ} {j : ℕ} → c ≡ cell k → j ≡ next_at c is i → is' ≡ area_then c is i
       → Put (k + 1 - first) is' j
   unfolding next_after area_after
-  put-more {k} {is} {i} l P {c} e p q =
+  put_more {k} {is} {i} l P {c} e p q =
       let s : k + 1 - first ≡ suc (k - first) = omega arith in
       let f : c ≡ cell (first + (k - first)) = e ∙ ap cell (omega arith) in
       rw s (record {
-        long = ap length q ∙ area-long c is i ∙ P.long;
-        next = p ∙ next-same c is was i P.long ∙ ap (λ v. next_at v was i) f ∙ ap (next_at (cell (first + (k - first))) was) P.next;
+        long = ap length q ∙ area_long c is i ∙ P.long;
+        next = p ∙ next_same c is was i P.long ∙ ap (λ v. next_at v was i) f ∙ ap (next_at (cell (first + (k - first))) was) P.next;
         area = q ∙ ap (λ v. area_then v is i) f ∙ ap₂ (area_then (cell (first + (k - first)))) P.area P.next;
       })
 
@@ -99,15 +99,15 @@ module _ (cell : ℕ → Cell) (first : ℕ) (was : List ℕ) (at : ℕ) where
   stored (suc n) h =
       let e = ap length (over_snoc each n 0) ∙ length-append (over each n 0) (each (0 + n)) in
       let S = stored n (omega (arith, e)) in
-      let r = written-room each n S (suc n) (omega arith) in
+      let r = written_room each n S (suc n) (omega arith) in
       let mid = area_after cell first was at n in
       let i = next_after cell first was at n in
       let R = has-room (each n) mid i (omega (arith, r, stored_long S)) in
-      rw (add-one n) at (written-more each n S refl (next-same (cell (first + n)) was mid i (sym (stored_long S)) ∙ sym R.0) refl (sym R.1))
+      rw (add-one n) at (written_more each n S refl (next_same (cell (first + n)) was mid i (sym (stored_long S)) ∙ sym R.0) refl (sym R.1))
 
-  pub all-put : (n : ℕ) → at + length (over (words_of (λ k. cell_triangles (cell k))) n first) ≤ length was
+  pub all_put : (n : ℕ) → at + length (over (words_of (λ k. cell_triangles (cell k))) n first) ≤ length was
       → Stored was at (over (words_of (λ k. cell_triangles (cell k))) n first) (area_after cell first was at n) (next_after cell first was at n)
-  all-put n h =
+  all_put n h =
       let f = words_of (λ k. cell_triangles (cell k)) in
       let e : over (words_of each) n 0 ≡ over f n first = over_shift f first n 0 ∙ ap (over f n) (add-zero first) in
-      stored_as (stored n (omega (arith, h, ap length e, ap length (gather-over words each n 0), length-all (over each n 0)))) e refl
+      stored_as (stored n (omega (arith, h, ap length e, ap length (gather_over words each n 0), length_all (over each n 0)))) e refl

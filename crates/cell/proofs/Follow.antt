@@ -8,19 +8,19 @@ use lib.Dec.{eqb}
 use borrow.Author.Tests.{eqb-true, eqb-false, eq-eqb}
 use Rattle.counting.specs.Lists.{tally}
 use Rattle.slots.specs.Slots.{edge_rank, contains, first_slot, second_slot}
-use Rattle.slots.proofs.Slots.{EdgeSlot, edge-slot, one_of_two, two-slots, slot-edge}
+use Rattle.slots.proofs.Slots.{EdgeSlot, edge_slot, one_of_two, two_slots, slot-edge}
 use Rattle.walk.specs.Darts.{half, rev}
 use Rattle.walk.specs.claims.Claims.{flat}
 use Rattle.walk.proofs.Step as walks
 use Rattle.cell.specs.Cell.{Edges, crossings, edge, mate, first_slot_at, second_slot_at, slot, step}
 use Rattle.cell.specs.claims.Claims.{Lies, Joined, AllJoined, runs_along, StepOf}
 use Rattle.cell.proofs.Lay.{lay}
-use Rattle.cell.proofs.Step.{step_is, slot-first, slot-second}
-use Rattle.cell.proofs.Mates.{slot_has, ports, darts, mate-cases, mate-unjoined, joined-lt}
-use Rattle.cell.proofs.Segments.{tally_ext, segment-most, segment-once}
+use Rattle.cell.proofs.Step.{step_is, slot_first, slot_second}
+use Rattle.cell.proofs.Mates.{slot_has, ports, darts, mate_cases, mate_unjoined, joined_lt}
+use Rattle.cell.proofs.Segments.{tally_ext, segment_most, segment_once}
 
 pub contained : {k s : ℕ} → EdgeSlot k s → contains k s ≡ true
-contained {k} {s} S = rw S.edge-is at (slot-edge s (edge_rank s k) S.lt S.place-lt).within
+contained {k} {s} S = rw S.edge_is at (slot-edge s (edge_rank s k) S.lt S.place_lt).within
 
 module _ (w : Edges) where
   abbrev N : ℕ
@@ -28,9 +28,9 @@ module _ (w : Edges) where
 
   -- the two darts of a crossing leave by its two slots
   slots_apart : (d : ℕ) → d < 2 * N → slot w (rev d) ≢ slot w d
-  slots_apart = walks.by-parity N (λ d. slot w (rev d) ≢ slot w d)
-      (λ x l e. omega (arith, (two-slots (edge w x) ((lay w).edge-lt x l)).apart, rw (walks.rev-first x, slot-second w x, slot-first w x) at e))
-      (λ x l e. omega (arith, (two-slots (edge w x) ((lay w).edge-lt x l)).apart, rw (walks.rev-second x, slot-second w x, slot-first w x) at e))
+  slots_apart = walks.by_parity N (λ d. slot w (rev d) ≢ slot w d)
+      (λ x l e. omega (arith, (two_slots (edge w x) ((lay w).edge_lt x l)).apart, rw (walks.rev_first x, slot_second w x, slot_first w x) at e))
+      (λ x l e. omega (arith, (two_slots (edge w x) ((lay w).edge_lt x l)).apart, rw (walks.rev_second x, slot_second w x, slot_first w x) at e))
 
   lies_at : (d : ℕ) → d < 2 * N → Lies w (slot w d) (d / 2)
   lies_at d l = record { slot_lt = (slot_has w d l).lt; inside = omega arith; on = contained (slot_has w d l) }
@@ -40,53 +40,53 @@ module _ (w : Edges) where
     unfolding step slot
     goes = walks.live N (first_slot_at w) (second_slot_at w) (mate w) (ports w) d on
 
-    back-slot : slot w (rev (step w d)) ≡ slot w d
+    back_slot : slot w (rev (step w d)) ≡ slot w d
     unfolding slot
-    back-slot =
+    back_slot =
         ap (λ x. slot w (rev x)) (step_is w d)
-        ∙ walks.land-face N (first_slot_at w) (second_slot_at w) (mate w) (slot w d) (mate w (slot w d) (d / 2)) goes ((ports w).lies d l goes)
+        ∙ walks.land_face N (first_slot_at w) (second_slot_at w) (mate w) (slot w d) (mate w (slot w d) (d / 2)) goes ((ports w).lies d l goes)
 
-    step-half : step w d / 2 ≡ mate w (slot w d) (d / 2)
-    step-half = ap half (step_is w d) ∙ walks.land-half N (first_slot_at w) (second_slot_at w) (mate w) (slot w d) (mate w (slot w d) (d / 2)) goes
+    step_half : step w d / 2 ≡ mate w (slot w d) (d / 2)
+    step_half = ap half (step_is w d) ∙ walks.land_half N (first_slot_at w) (second_slot_at w) (mate w) (slot w d) (mate w (slot w d) (d / 2)) goes
 
-    back-lt : rev (step w d) < 2 * N
-    back-lt = walks.rev-lt N (step w d) on
+    back_lt : rev (step w d) < 2 * N
+    back_lt = walks.rev_lt N (step w d) on
 
     -- the next dart's edge is on the slot, and the next dart leaves by its other
-    pub next-on : contains (edge w (step w d / 2)) (slot w d) ≡ true
-    next-on = rw (back-slot, walks.half-rev (step w d)) at (contained (slot_has w (rev (step w d)) back-lt))
+    pub next_on : contains (edge w (step w d / 2)) (slot w d) ≡ true
+    next_on = rw (back_slot, walks.half_rev (step w d)) at (contained (slot_has w (rev (step w d)) back_lt))
 
-    pub next-apart : slot w d ≢ slot w (step w d)
-    next-apart e = slots_apart (step w d) on (back-slot ∙ e)
+    pub next_apart : slot w d ≢ slot w (step w d)
+    next_apart e = slots_apart (step w d) on (back_slot ∙ e)
 
     joined-on : Joined w (slot w d) (d / 2)
     joined-on =
-        ⊎_elim (λ q. rw q.2) (λ q. absurd (omega (arith, mate-unjoined w (slot w d) (d / 2) q, goes)))
-        (mate-cases w (slot w d) (d / 2) (omega arith) (slot_has w d l))
+        ⊎_elim (λ q. rw q.2) (λ q. absurd (omega (arith, mate_unjoined w (slot w d) (d / 2) q, goes)))
+        (mate_cases w (slot w d) (d / 2) (omega arith) (slot_has w d l))
 
     pub step_of : StepOf w d
     step_of = record {
       lies = lies_at d l;
       joined = joined-on;
-      there = record { slot_lt = (slot_has w d l).lt; inside = omega arith; on = next-on };
-      to = step-half;
-      turned = next-apart;
+      there = record { slot_lt = (slot_has w d l).lt; inside = omega arith; on = next_on };
+      to = step_half;
+      turned = next_apart;
     }
 
   -- a crossing that lies on a slot and is joined there goes on
   module _ (s x : ℕ) (L : Lies w s x) where
-    edge-lt : edge w x < 6
-    edge-lt = (lay w).edge-lt x L.inside
+    edge_lt : edge w x < 6
+    edge_lt = (lay w).edge_lt x L.inside
 
     here : EdgeSlot (edge w x) s
-    here = edge-slot (edge w x) s edge-lt L.slot_lt L.on
+    here = edge_slot (edge w x) s edge_lt L.slot_lt L.on
 
-    mate-lt : Joined w s x → mate w s x < N
-    mate-lt j =
-        ⊎_elim (λ q. joined-lt w L.inside here q.2) (λ q. absurd (not-joined (rw q at j))) (mate-cases w s x L.inside here)
+    mate_lt : Joined w s x → mate w s x < N
+    mate_lt j =
+        ⊎_elim (λ q. joined_lt w L.inside here q.2) (λ q. absurd (not_joined (rw q at j))) (mate_cases w s x L.inside here)
       where
-        not-joined : ◌≡◌ {A = ℕ} 1 0 → ⊥
-        not-joined e = omega (arith, e)
+        not_joined : ◌≡◌ {A = ℕ} 1 0 → ⊥
+        not_joined e = omega (arith, e)
 
     -- the dart of x by slot s
     record From : Type 0 where
@@ -98,15 +98,15 @@ module _ (w : Edges) where
     from : From
     from =
         ⊎_elim
-        (λ (e : first_slot (edge w x) ≡ s). record { d = 2 * x; lt = omega (arith, L.inside); of = omega arith; by = slot-first w x ∙ e })
-        (λ (e : second_slot (edge w x) ≡ s). record { d = 2 * x + 1; lt = omega (arith, L.inside); of = omega arith; by = slot-second w x ∙ e })
-        (one_of_two (edge w x) s edge-lt L.slot_lt L.on)
+        (λ (e : first_slot (edge w x) ≡ s). record { d = 2 * x; lt = omega (arith, L.inside); of = omega arith; by = slot_first w x ∙ e })
+        (λ (e : second_slot (edge w x) ≡ s). record { d = 2 * x + 1; lt = omega (arith, L.inside); of = omega arith; by = slot_second w x ∙ e })
+        (one_of_two (edge w x) s edge_lt L.slot_lt L.on)
 
   pub goes_on : (d : ℕ) → d < 2 * N → Joined w (slot w d) (d / 2) → step w d < 2 * N
   goes_on d l j =
-      let m = mate-lt (slot w d) (d / 2) (lies_at d l) j in
+      let m = mate_lt (slot w d) (d / 2) (lies_at d l) j in
       let h : step w d / 2 ≡ mate w (slot w d) (d / 2) =
-      ap half (step_is w d) ∙ walks.land-half N (first_slot_at w) (second_slot_at w) (mate w) (slot w d) (mate w (slot w d) (d / 2)) m in
+      ap half (step_is w d) ∙ walks.land_half N (first_slot_at w) (second_slot_at w) (mate w) (slot w d) (mate w (slot w d) (d / 2)) m in
       omega (arith, h, m)
 
   -- the darts along a segment are that of its one end, and the one back
@@ -123,11 +123,11 @@ module _ (w : Edges) where
     abbrev b : ℕ
     b = rev (step w d)
 
-    b-slot : slot w b ≡ s
-    b-slot = back-slot d F.lt on ∙ F.by
+    b_slot : slot w b ≡ s
+    b_slot = back_slot d F.lt on ∙ F.by
 
-    b-half : b / 2 ≡ mate w s x
-    b-half = walks.half-rev (step w d) ∙ step-half d F.lt on ∙ rw (F.by, F.of) refl
+    b_half : b / 2 ≡ mate w s x
+    b_half = walks.half_rev (step w d) ∙ step_half d F.lt on ∙ rw (F.by, F.of) refl
 
     same : (e : ℕ) → runs_along w s x e ≡ (eqb e d || eqb e b)
     unfolding runs_along
@@ -138,7 +138,7 @@ module _ (w : Edges) where
 
         go : (p q : Bool) → eqb e d ≡ p → eqb e b ≡ q → (eqb (slot w e) s && (eqb (e / 2) x || eqb (e / 2) (mate w s x))) ≡ (p || q)
         go true q ep eq = rw (eqb-true e d ep, eq-eqb (slot w d) s F.by, eq-eqb (d / 2) x F.of) refl
-        go false true ep eq = rw (eqb-true e b eq, eq-eqb (slot w b) s b-slot, eq-eqb (b / 2) (mate w s x) b-half) (or_true (eqb (b / 2) x))
+        go false true ep eq = rw (eqb-true e b eq, eq-eqb (slot w b) s b_slot, eq-eqb (b / 2) (mate w s x) b_half) (or_true (eqb (b / 2) x))
           where
             or_true : (c : Bool) → (c || true) ≡ true
             or_true true = refl
@@ -148,13 +148,13 @@ module _ (w : Edges) where
             none : (a c f : Bool) → eqb (slot w e) s ≡ a → eqb (e / 2) x ≡ c → eqb (e / 2) (mate w s x) ≡ f → (a && (c || f)) ≡ false
             none false c f ea ec ef = refl
             none true true f ea ec ef = absurd (at d F.lt F.by ep (eqb-true (slot w e) s ea) (eqb-true (e / 2) x ec ∙ sym F.of))
-            none true false true ea ec ef = absurd (at b (back-lt d F.lt on) b-slot eq (eqb-true (slot w e) s ea) (eqb-true (e / 2) (mate w s x) ef ∙ sym b-half))
+            none true false true ea ec ef = absurd (at b (back_lt d F.lt on) b_slot eq (eqb-true (slot w e) s ea) (eqb-true (e / 2) (mate w s x) ef ∙ sym b_half))
             none true false false ea ec ef = refl
 
-    pub along-most : tally (runs_along w s x) (flat N (step w)) ≤ 1
-    along-most = rw (tally_ext (runs_along w s x) (λ e. eqb e d || eqb e b) same (flat N (step w))) (segment-most N (step w) (darts w) d F.lt on)
+    pub along_most : tally (runs_along w s x) (flat N (step w)) ≤ 1
+    along_most = rw (tally_ext (runs_along w s x) (λ e. eqb e d || eqb e b) same (flat N (step w))) (segment_most N (step w) (darts w) d F.lt on)
 
     pub along_once : AllJoined w → tally (runs_along w s x) (flat N (step w)) ≡ 1
     along_once all =
         tally_ext (runs_along w s x) (λ e. eqb e d || eqb e b) same (flat N (step w))
-        ∙ segment-once N (step w) (darts w) d F.lt on (λ e l. goes_on e l (all (slot w e) (e / 2) (lies_at e l)))
+        ∙ segment_once N (step w) (darts w) d F.lt on (λ e l. goes_on e l (all (slot w e) (e / 2) (lies_at e l)))

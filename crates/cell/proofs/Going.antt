@@ -15,9 +15,9 @@ use Rattle.cell.specs.work.Route.{Routed}
 use Rattle.cell.specs.work.Limits.{most_in_cell}
 use Rattle.cell.specs.work.Scratch.{unmarked, halves_from, points_from}
 use Rattle.cell.specs.work.Walked.{Marked, Long, Used, Lent, Walked}
-use Rattle.cell.proofs.Using.{kept_then, filled-same, kept-filled, used-none, used_then}
+use Rattle.cell.proofs.Using.{kept_then, filled_same, kept_filled, used_none, used_then}
 use Rattle.cell.proofs.Walking.{cleared}
-use Rattle.cell.proofs.Loops.{size_le, length_halves, length-points}
+use Rattle.cell.proofs.Loops.{size_le, length_halves, length_points}
 
 -- hs and ps are the record of the loop from p, of m darts, and b tells whether it is normal
 pub record Looped (c : Cell) (p m : ℕ) (b : Bool) (hs ps : List ℕ) : Type 0 where
@@ -33,7 +33,7 @@ module _ {c : Cell} {p m : ℕ} {b : Bool} {hs ps : List ℕ} (L : Looped c p m 
   looped_halves = ap length L.halves_are ∙ length_halves c p ∙ sym L.size
 
   pub looped_points : length ps ≡ m
-  looped_points = ap length L.points_are ∙ length-points c p ∙ sym L.size
+  looped_points = ap length L.points_are ∙ length_points c p ∙ sym L.size
 
 -- the arrays were ms₀, hs₀, ps₀ and are ms, hs, ps; the cell has n crossings
 pub record Going (c : Cell) (n : ℕ) (routes ms₀ hs₀ ps₀ ms hs ps : List ℕ) (p : ℕ) : Type 0 where
@@ -52,24 +52,24 @@ going_start {c} {n} {routes} {ms} {hs} {ps} was e R L q = record {
   all = e.0;
   few = e.1;
   up = omega arith;
-  long = record { marks-long = omega (arith, L.marks-long, filled-same (λ i. unmarked) n was q); halves_long = L.halves_long; points-long = L.points-long };
+  long = record { marks_long = omega (arith, L.marks_long, filled_same (λ i. unmarked) n was q); halves_long = L.halves_long; points_long = L.points_long };
   routed = R;
-  marked = rw q (cleared c n was e.0 e.1 L.marks-long);
-  used = used-none n ms hs ps;
+  marked = rw q (cleared c n was e.0 e.1 L.marks_long);
+  used = used_none n ms hs ps;
 }
 
 module _ {c : Cell} {n : ℕ} {routes ms₀ hs₀ ps₀ ms hs ps : List ℕ} {p : ℕ} (G : Going c n routes ms₀ hs₀ ps₀ ms hs ps p) where
   pub going_long : Long n ms hs ps
   going_long = record {
-    marks-long = omega (arith, G.long.marks-long, G.used.marks-kept.long);
+    marks_long = omega (arith, G.long.marks_long, G.used.marks_kept.long);
     halves_long = omega (arith, G.long.halves_long, G.used.halves_kept.long);
-    points-long = omega (arith, G.long.points-long, G.used.points_kept.long);
+    points_long = omega (arith, G.long.points_long, G.used.points_kept.long);
   }
 
   -- what is kept of the arrays; the marks were cleared before the walks
   pub going_used : {was : List ℕ} → n ≤ length was → ms₀ ≡ filled (λ i. unmarked) n was → Used n was hs₀ ps₀ ms hs ps
   going_used {was} h q = record {
-    marks-kept = kept_then (rw q (kept-filled (λ i. unmarked) n was h)) G.used.marks-kept;
+    marks_kept = kept_then (rw q (kept_filled (λ i. unmarked) n was h)) G.used.marks_kept;
     halves_kept = G.used.halves_kept;
     points_kept = G.used.points_kept;
   }
@@ -86,7 +86,7 @@ module _ {c : Cell} {n : ℕ} {routes ms₀ hs₀ ps₀ ms hs ps : List ℕ} {p 
       inside = l;
       marked = G.marked;
       halves_long = going_long.halves_long;
-      points-long = going_long.points-long;
+      points_long = going_long.points_long;
     }
 
     module _ {m : ℕ} {b : Bool} {ms' hs' ps' : List ℕ} (W : Walked c n p ms hs ps m b ms' hs' ps') where
@@ -98,7 +98,7 @@ module _ {c : Cell} {n : ℕ} {routes ms₀ hs₀ ps₀ ms hs ps : List ℕ} {p 
         long = G.long;
         routed = G.routed;
         marked = W.marked;
-        used = used_then G.used (record { marks-kept = W.marks-kept; halves_kept = W.halves_kept; points_kept = W.points_kept });
+        used = used_then G.used (record { marks_kept = W.marks_kept; halves_kept = W.halves_kept; points_kept = W.points_kept });
       }
 
       -- in the slices from 0 to m
@@ -116,4 +116,4 @@ module _ {c : Cell} {n : ℕ} {routes ms₀ hs₀ ps₀ ms hs ps : List ℕ} {p 
       pub going_part : (m ≤ length hs') × (m ≤ length ps')
       going_part =
           let s = size_le (edges_of c) p going_in in
-          (omega (arith, W.size, s, G.all, W.halves_kept.long, going_long.halves_long), omega (arith, W.size, s, G.all, W.points_kept.long, going_long.points-long))
+          (omega (arith, W.size, s, G.all, W.halves_kept.long, going_long.halves_long), omega (arith, W.size, s, G.all, W.points_kept.long, going_long.points_long))

@@ -9,7 +9,7 @@ use borrow.Author.Tests.{eqb-true, ltb-true, eq-eqb, ne_eqb, le-ltb}
 use Rattle.counting.specs.Pick.{pick}
 use Rattle.counting.specs.Search.{every}
 use Rattle.counting.proofs.Bools.{and_left, and_right}
-use Rattle.counting.proofs.Search.{every-is}
+use Rattle.counting.proofs.Search.{every_is}
 use Rattle.slots.specs.Slots.{slot_edge, edge_rank, contains, first_slot}
 use Rattle.slots.proofs.Slots.{slot-edge, first-slot}
 use Rattle.cell.specs.work.Half.{half_edges, half_of, twin}
@@ -30,43 +30,43 @@ module _ (h : ℕ) (l : h < half_edges) where
   pub slot_lt : half_slot h < 4
   slot_lt = omega arith
 
-  pub place-lt : rank_of h < 3
-  place-lt = omega arith
+  pub place_lt : rank_of h < 3
+  place_lt = omega arith
 
-  pub edge-lt : edge_of h < 6
+  pub edge_lt : edge_of h < 6
   unfolding edge_of
-  edge-lt = (slot-edge (half_slot h) (rank_of h) slot_lt place-lt).lt
+  edge_lt = (slot-edge (half_slot h) (rank_of h) slot_lt place_lt).lt
 
   pub place_is : edge_rank (half_slot h) (edge_of h) ≡ rank_of h
   unfolding edge_of
-  place_is = (slot-edge (half_slot h) (rank_of h) slot_lt place-lt).place_is
+  place_is = (slot-edge (half_slot h) (rank_of h) slot_lt place_lt).place_is
 
   pub within : contains (edge_of h) (half_slot h) ≡ true
   unfolding edge_of
-  within = (slot-edge (half_slot h) (rank_of h) slot_lt place-lt).within
+  within = (slot-edge (half_slot h) (rank_of h) slot_lt place_lt).within
 
-  twin-passes : twin_test h ≡ true
-  twin-passes = every-is twin_test half_edges twins_pass h l
+  twin_passes : twin_test h ≡ true
+  twin_passes = every_is twin_test half_edges twins_pass h l
 
-  pub twin-lt : twin h < half_edges
+  pub twin_lt : twin h < half_edges
   unfolding twin_test
-  twin-lt = ltb-true (twin h) half_edges (and_left (ltb (twin h) half_edges) _ twin-passes)
+  twin_lt = ltb-true (twin h) half_edges (and_left (ltb (twin h) half_edges) _ twin_passes)
 
-  pub twin-edge : edge_of (twin h) ≡ edge_of h
+  pub twin_edge : edge_of (twin h) ≡ edge_of h
   unfolding twin_test
-  twin-edge =
-      eqb-true (edge_of (twin h)) (edge_of h) (and_left (eqb (edge_of (twin h)) (edge_of h)) _ (and_right (ltb (twin h) half_edges) _ twin-passes))
+  twin_edge =
+      eqb-true (edge_of (twin h)) (edge_of h) (and_left (eqb (edge_of (twin h)) (edge_of h)) _ (and_right (ltb (twin h) half_edges) _ twin_passes))
 
-  twin-slot : pick (eqb (first_slot (edge_of h)) (half_slot h)) (not (eqb (first_slot (edge_of h)) (half_slot (twin h)))) (eqb (first_slot (edge_of h)) (half_slot (twin h))) ≡ true
+  twin_slot : pick (eqb (first_slot (edge_of h)) (half_slot h)) (not (eqb (first_slot (edge_of h)) (half_slot (twin h)))) (eqb (first_slot (edge_of h)) (half_slot (twin h))) ≡ true
   unfolding twin_test
-  twin-slot = and_right (eqb (edge_of (twin h)) (edge_of h)) _ (and_right (ltb (twin h) half_edges) _ twin-passes)
+  twin_slot = and_right (eqb (edge_of (twin h)) (edge_of h)) _ (and_right (ltb (twin h) half_edges) _ twin_passes)
 
   -- the one half-edge of an edge lies in its first slot, the other in its second
-  pub twin-second : first_slot (edge_of h) ≡ half_slot h → eqb (first_slot (edge_of h)) (half_slot (twin h)) ≡ false
-  twin-second e = borrow.Author.Tests.not-true (eqb (first_slot (edge_of h)) (half_slot (twin h))) (rw (eq-eqb (first_slot (edge_of h)) (half_slot h) e) at twin-slot)
+  pub twin_second : first_slot (edge_of h) ≡ half_slot h → eqb (first_slot (edge_of h)) (half_slot (twin h)) ≡ false
+  twin_second e = borrow.Author.Tests.not-true (eqb (first_slot (edge_of h)) (half_slot (twin h))) (rw (eq-eqb (first_slot (edge_of h)) (half_slot h) e) at twin_slot)
 
-  pub twin-first : first_slot (edge_of h) ≢ half_slot h → eqb (first_slot (edge_of h)) (half_slot (twin h)) ≡ true
-  twin-first e = rw (ne_eqb (first_slot (edge_of h)) (half_slot h) e) at twin-slot
+  pub twin_first : first_slot (edge_of h) ≢ half_slot h → eqb (first_slot (edge_of h)) (half_slot (twin h)) ≡ true
+  twin_first e = rw (ne_eqb (first_slot (edge_of h)) (half_slot h) e) at twin_slot
 
 -- the half-edge of edge j in slot s
 pub half-slot : (s j : ℕ) → j < 3 → half_slot (3 * s + j) ≡ s
@@ -80,11 +80,11 @@ unfolding edge_of
 half-edge s j l = rw (half-slot s j l, half_place s j l)
 
 -- the half-edge of edge e in its first slot
-pub first-half : {e h : ℕ} → e < 6 → h ≡ half_of (first_slot e) e → (edge_of h ≡ e) × (half_slot h ≡ first_slot e) × (h < half_edges)
+pub first_half : {e h : ℕ} → e < 6 → h ≡ half_of (first_slot e) e → (edge_of h ≡ e) × (half_slot h ≡ first_slot e) × (h < half_edges)
 unfolding half_of
-first-half {e} {h} le q =
+first_half {e} {h} le q =
     let S = first-slot e le in
-    (rw q (half-edge (first_slot e) (edge_rank (first_slot e) e) S.place-lt ∙ S.edge-is), rw q (half-slot (first_slot e) (edge_rank (first_slot e) e) S.place-lt), omega (arith, q, S.place-lt, S.lt))
+    (rw q (half-edge (first_slot e) (edge_rank (first_slot e) e) S.place_lt ∙ S.edge_is), rw q (half-slot (first_slot e) (edge_rank (first_slot e) e) S.place_lt), omega (arith, q, S.place_lt, S.lt))
 
 -- the edge of a byte that is no half-edge is that of one of the last slot
 past_test : ℕ → Bool
@@ -96,4 +96,4 @@ past_passes = refl
 
 pub edge_past : (h : ℕ) → h < 256 → half_edges ≤ h → edge_of (9 + h % 3) ≡ edge_of h
 unfolding past_test
-edge_past h l g = eqb-true (edge_of (9 + h % 3)) (edge_of h) (rw (le-ltb h half_edges g) at (every-is past_test 256 past_passes h l))
+edge_past h l g = eqb-true (edge_of (9 + h % 3)) (edge_of h) (rw (le-ltb h half_edges g) at (every_is past_test 256 past_passes h l))

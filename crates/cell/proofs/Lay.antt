@@ -12,11 +12,11 @@ use Rattle.counting.specs.Lists.{one, total, pre}
 use Rattle.counting.specs.Search as search
 use Rattle.counting.specs.Pack.{row, col}
 use Rattle.counting.proofs.Bools.{and_left, and_right, and_true, or_left, or_right, or_cases, not_clash}
-use Rattle.counting.proofs.Range.{total_mono, total_add, total-single, total_ext, total-split, total-zero}
-use Rattle.counting.proofs.Search.{first-at, count-total, count_ext}
+use Rattle.counting.proofs.Range.{total_mono, total_add, total_single, total_ext, total_split, total_zero}
+use Rattle.counting.proofs.Search.{first_at, count_total, count_ext}
 use Rattle.counting.proofs.Onto.{onto, total_onto}
-use Rattle.counting.proofs.Rows.{count-rows}
-use Rattle.counting.proofs.Pack.{row_lt, col-lt, unpack, row_pack, col_pack}
+use Rattle.counting.proofs.Rows.{count_rows}
+use Rattle.counting.proofs.Pack.{row_lt, col_lt, unpack, row_pack, col_pack}
 use Rattle.cell.specs.Cell.{Edges, ahead, base, crossings, number, holds, edge, index}
 use Rattle.cell.specs.claims.Claims.{Lay, Separate, LaidSame}
 
@@ -25,22 +25,22 @@ module _ (w : Edges) where
   Before : ℕ → ℕ → Type 0
   Before j k = (w.start j < w.start k) ⊎ ((w.start j ≡ w.start k) × (j < k))
 
-  ahead-is : (j k : ℕ) → ahead w k j ≡ true → Before j k
+  ahead_is : (j k : ℕ) → ahead w k j ≡ true → Before j k
   unfolding ahead Before
-  ahead-is j k h =
+  ahead_is j k h =
       ⊎_elim (λ e. inl (ltb-true (w.start j) (w.start k) e))
       (λ e. inr (eqb-true (w.start j) (w.start k) (and_left (eqb (w.start j) (w.start k)) (ltb j k) e), ltb-true j k (and_right (eqb (w.start j) (w.start k)) (ltb j k) e)))
       (or_cases (ltb (w.start j) (w.start k)) (eqb (w.start j) (w.start k) && ltb j k) h)
 
-  is-ahead : (j k : ℕ) → Before j k → ahead w k j ≡ true
+  is_ahead : (j k : ℕ) → Before j k → ahead w k j ≡ true
   unfolding ahead Before
-  is-ahead j k (inl h) = or_left (ltb (w.start j) (w.start k)) (eqb (w.start j) (w.start k) && ltb j k) (lt-ltb (w.start j) (w.start k) h)
-  is-ahead j k (inr (e, h)) =
+  is_ahead j k (inl h) = or_left (ltb (w.start j) (w.start k)) (eqb (w.start j) (w.start k) && ltb j k) (lt-ltb (w.start j) (w.start k) h)
+  is_ahead j k (inr (e, h)) =
       or_right (ltb (w.start j) (w.start k)) (eqb (w.start j) (w.start k) && ltb j k)
       (and_true (eqb (w.start j) (w.start k)) (ltb j k) (eq-eqb (w.start j) (w.start k) e) (lt-ltb j k h))
 
-  not-ahead : (j k : ℕ) → (Before j k → ⊥) → ahead w k j ≡ false
-  not-ahead j k n = not_clash (ahead w k j) (λ e. n (ahead-is j k e))
+  not_ahead : (j k : ℕ) → (Before j k → ⊥) → ahead w k j ≡ false
+  not_ahead j k n = not_clash (ahead w k j) (λ e. n (ahead_is j k e))
 
   not_self : (k : ℕ) → Before k k → ⊥
   unfolding Before
@@ -79,21 +79,21 @@ module _ (w : Edges) where
       omega (
         arith,
         total_add (adds k) at 6 0,
-        total-single at 6 0 k (omega arith) (omega arith) (λ q a b n. rw (ne_eqb q k n)),
+        total_single at 6 0 k (omega arith) (omega arith) (λ q a b n. rw (ne_eqb q k n)),
         total_mono (λ i. adds k i + at i) f 6 0 (λ i a b. below i (omega arith)),
-        at-k,
+        at_k,
       )
     where
       at : ℕ → ℕ
       at i = pick (eqb i k) (w.count i) 0
 
-      at-k : at k ≡ w.count k
-      at-k = rw (eq-eqb k k refl)
+      at_k : at k ≡ w.count k
+      at_k = rw (eq-eqb k k refl)
 
       below : (i : ℕ) → i < 6 → adds k i + at i ≤ f i
       below i li =
           elim (ℕ_discrete i k) [
-            | yes e ↦ rw (e, eq-eqb k k refl, not-ahead k k (not_self k)) (omega arith)
+            | yes e ↦ rw (e, eq-eqb k k refl, not_ahead k k (not_self k)) (omega arith)
             | no n ↦ rw (ne_eqb i k n) (omega (arith, others i li n))
           ]
 
@@ -104,16 +104,16 @@ module _ (w : Edges) where
       go true = omega arith
       go false = omega arith
 
-  pub base-all : (k : ℕ) → k < 6 → base w k + w.count k ≤ crossings w
+  pub base_all : (k : ℕ) → k < 6 → base w k + w.count k ≤ crossings w
   unfolding pre
-  base-all k l = room w.count k l (omega arith) (λ i li n. adds_le k i)
+  base_all k l = room w.count k l (omega arith) (λ i li n. adds_le k i)
 
   base_le : (j k : ℕ) → j < 6 → Before j k → base w j + w.count j ≤ base w k
   unfolding base
-  base_le j k l b = room (adds k) j l (rw (is-ahead j k b) (omega arith)) (λ i li n. go i (ahead w j i) refl)
+  base_le j k l b = room (adds k) j l (rw (is_ahead j k b) (omega arith)) (λ i li n. go i (ahead w j i) refl)
     where
       go : (i : ℕ) (a : Bool) → ahead w j i ≡ a → pick a (w.count i) 0 ≤ adds k i
-      go i true e = rw (is-ahead i k (via i j k (ahead-is i j e) b)) (omega arith)
+      go i true e = rw (is_ahead i k (via i j k (ahead_is i j e) b)) (omega arith)
       go i false e = omega arith
 
   -- a crossing is one of one edge only
@@ -133,10 +133,10 @@ module _ (w : Edges) where
     unfolding In
     here = (omega arith, omega arith)
 
-    number-edge : edge w (number w k t) ≡ k
+    number_edge : edge w (number w k t) ≡ k
     unfolding edge holds In
-    number-edge =
-        first-at (holds w (number w k t)) 6 k l
+    number_edge =
+        first_at (holds w (number w k t)) 6 k l
         (and_true (leb (base w k) (number w k t)) (ltb (number w k t) (base w k + w.count k)) (le-leb (base w k) (number w k t) (omega arith)) (lt-ltb (number w k t) (base w k + w.count k) (omega arith)))
         (λ j h. not_clash (holds w (number w k t) j) (λ e. omega (
           arith,
@@ -147,12 +147,12 @@ module _ (w : Edges) where
               here,
         )))
 
-    number-index : index w (number w k t) ≡ t
+    number_index : index w (number w k t) ≡ t
     unfolding index
-    number-index = rw number-edge (omega arith)
+    number_index = rw number_edge (omega arith)
 
     number_lt : number w k t < crossings w
-    number_lt = omega (arith, base-all k l)
+    number_lt = omega (arith, base_all k l)
 
   -- each number below the cell's crossings is that of a crossing
   record Of (x : ℕ) : Type 0 where
@@ -172,75 +172,75 @@ module _ (w : Edges) where
   abbrev laid : ℕ → ℕ
   laid y = number w (r y) (c y)
 
-  r-lt : (y : ℕ) → y < crossings w → r y < 6
-  r-lt y l = row_lt w.count 6 y l
+  r_lt : (y : ℕ) → y < crossings w → r y < 6
+  r_lt y l = row_lt w.count 6 y l
 
   c_lt : (y : ℕ) → y < crossings w → c y < w.count (r y)
-  c_lt y l = col-lt w.count 6 y l
+  c_lt y l = col_lt w.count 6 y l
 
-  laid-lt : (y : ℕ) → y < crossings w → laid y < crossings w
-  laid-lt y l = number_lt (r y) (c y) (r-lt y l) (c_lt y l)
+  laid_lt : (y : ℕ) → y < crossings w → laid y < crossings w
+  laid_lt y l = number_lt (r y) (c y) (r_lt y l) (c_lt y l)
 
-  laid-apart : (i j : ℕ) → i < j → j < crossings w → laid i ≢ laid j
+  laid_apart : (i j : ℕ) → i < j → j < crossings w → laid i ≢ laid j
   unfolding In
-  laid-apart i j h lj e =
+  laid_apart i j h lj e =
       let li : i < crossings w = omega arith in
-      let q : r i ≡ r j = once (laid i) (r i) (r j) (r-lt i li) (r-lt j lj) (here (r i) (c i) (r-lt i li) (c_lt i li)) (rw e (here (r j) (c j) (r-lt j lj) (c_lt j lj))) in
+      let q : r i ≡ r j = once (laid i) (r i) (r j) (r_lt i li) (r_lt j lj) (here (r i) (c i) (r_lt i li) (c_lt i li)) (rw e (here (r j) (c j) (r_lt j lj) (c_lt j lj))) in
       omega (arith, ap (base w) q, ap (pre w.count) q, unpack w.count 6 i li, unpack w.count 6 j lj, e)
 
   of : (x : ℕ) → x < crossings w → Of x
   of x l =
-      let (y, ly, e) = onto (crossings w) laid laid-lt laid-apart x l in
-      record { k = r y; t = c y; lt = r-lt y ly; within = c_lt y ly; is = e }
+      let (y, ly, e) = onto (crossings w) laid laid_lt laid_apart x l in
+      record { k = r y; t = c y; lt = r_lt y ly; within = c_lt y ly; is = e }
 
   module _ (x : ℕ) (l : x < crossings w) where
     o : Of x
     o = of x l
 
-    edge-is : edge w x ≡ o.k
-    edge-is = ap (edge w) (sym o.is) ∙ number-edge o.k o.t o.lt o.within
+    edge_is : edge w x ≡ o.k
+    edge_is = ap (edge w) (sym o.is) ∙ number_edge o.k o.t o.lt o.within
 
     index_is : index w x ≡ o.t
-    index_is = ap (index w) (sym o.is) ∙ number-index o.k o.t o.lt o.within
+    index_is = ap (index w) (sym o.is) ∙ number_index o.k o.t o.lt o.within
 
-    edge-lt : edge w x < 6
-    edge-lt = rw edge-is o.lt
+    edge_lt : edge w x < 6
+    edge_lt = rw edge_is o.lt
 
-    index-lt : index w x < w.count (edge w x)
-    index-lt = rw (edge-is, index_is) o.within
+    index_lt : index w x < w.count (edge w x)
+    index_lt = rw (edge_is, index_is) o.within
 
     back : number w (edge w x) (index w x) ≡ x
-    back = rw (edge-is, index_is) o.is
+    back = rw (edge_is, index_is) o.is
 
   later : (x y : ℕ) → x < y → y < crossings w → (ahead w (edge w y) (edge w x) ≡ true) ⊎ ((edge w x ≡ edge w y) × (index w x < index w y))
   later x y h ly =
       let lx : x < crossings w = omega arith in
       elim (ℕ_discrete (edge w x) (edge w y)) [
         | yes e ↦ inr (e, omega (arith, back x lx, back y ly, ap (base w) e))
-        | no n ↦ ⊎_elim (λ b. inl (is-ahead (edge w x) (edge w y) b))
-            (λ b. absurd (omega (arith, back x lx, back y ly, index-lt y ly, base_le (edge w y) (edge w x) (edge-lt y ly) b)))
+        | no n ↦ ⊎_elim (λ b. inl (is_ahead (edge w x) (edge w y) b))
+            (λ b. absurd (omega (arith, back x lx, back y ly, index_lt y ly, base_le (edge w y) (edge w x) (edge_lt y ly) b)))
             (either (edge w x) (edge w y) n)
       ]
 
   pub lay : Lay w
-  lay = record { edge-lt = edge-lt; index-lt = index-lt; back = back; number_lt = number_lt; number-edge = number-edge; number-index = number-index; later = later }
+  lay = record { edge_lt = edge_lt; index_lt = index_lt; back = back; number_lt = number_lt; number_edge = number_edge; number_index = number_index; later = later }
 
   -- how many of the cell's crossings pass a test, edge by edge
-  pub count-edges : (t : ℕ → Bool) → search.count t (crossings w) ≡ total (λ k. search.count (λ i. t (number w k i)) (w.count k)) 6 0
-  count-edges t =
-      count-total t (crossings w) ∙ sym (total_onto (crossings w) laid laid-lt laid-apart (λ x. one (t x))) ∙ sym (count-total (λ y. t (laid y)) (crossings w))
-      ∙ count-rows w.count (λ y. t (laid y)) 6
+  pub count_edges : (t : ℕ → Bool) → search.count t (crossings w) ≡ total (λ k. search.count (λ i. t (number w k i)) (w.count k)) 6 0
+  count_edges t =
+      count_total t (crossings w) ∙ sym (total_onto (crossings w) laid laid_lt laid_apart (λ x. one (t x))) ∙ sym (count_total (λ y. t (laid y)) (crossings w))
+      ∙ count_rows w.count (λ y. t (laid y)) 6
       ∙ total_ext (λ r. search.count (λ i. t (laid (pre w.count r + i))) (w.count r)) (λ k. search.count (λ i. t (number w k i)) (w.count k)) 6 0
       (λ k a l. count_ext (λ i. t (laid (pre w.count k + i))) (λ i. t (number w k i)) (w.count k)
       (λ i h. ap t (ap₂ (number w) (row_pack w.count 6 k i (omega arith) h) (col_pack w.count 6 k i (omega arith) h))))
 
   -- an edge that is laid before another, both with crossings, has the lower numbers
-  pub lower-numbers : Separate w → (j k : ℕ) → j < 6 → k < 6 → j ≢ k → 0 < w.count j → 0 < w.count k → ahead w k j ≡ true → w.start j + w.count j ≤ w.start k
+  pub lower_numbers : Separate w → (j k : ℕ) → j < 6 → k < 6 → j ≢ k → 0 < w.count j → 0 < w.count k → ahead w k j ≡ true → w.start j + w.count j ≤ w.start k
   unfolding Before
-  lower-numbers S j k lj lk n pj pk a =
+  lower_numbers S j k lj lk n pj pk a =
       elim (dec_lt (w.start k) (w.start j + w.count j)) [
-        | yes h ↦ absurd (n (S j k (w.start k - w.start j) 0 lj lk (⊎_elim (λ b. omega arith) (λ b. omega (arith, b)) (ahead-is j k a)) pk
-            (⊎_elim (λ b. omega arith) (λ b. omega (arith, b)) (ahead-is j k a))))
+        | yes h ↦ absurd (n (S j k (w.start k - w.start j) 0 lj lk (⊎_elim (λ b. omega arith) (λ b. omega (arith, b)) (ahead_is j k a)) pk
+            (⊎_elim (λ b. omega arith) (λ b. omega (arith, b)) (ahead_is j k a))))
         | no h ↦ omega arith
       ]
 
@@ -248,11 +248,11 @@ pub laid_same : LaidSame
 unfolding base pre Before
 laid_same w R k l =
     total_ext (adds w k) (λ i. pick (ltb i k) (w.count i) 0) 6 0 (λ i a b. ap (λ t. pick t (w.count i) 0) (same i (omega arith)))
-    ∙ ap (λ n. total (λ i. pick (ltb i k) (w.count i) 0) n 0) six ∙ total-split (λ i. pick (ltb i k) (w.count i) 0) k (6 - k) 0
+    ∙ ap (λ n. total (λ i. pick (ltb i k) (w.count i) 0) n 0) six ∙ total_split (λ i. pick (ltb i k) (w.count i) 0) k (6 - k) 0
     ∙ omega (
       arith,
       total_ext (λ i. pick (ltb i k) (w.count i) 0) w.count k 0 (λ i a b. rw (lt-ltb i k (omega arith))),
-      total-zero (λ i. pick (ltb i k) (w.count i) 0) (6 - k) (0 + k) (λ i a b. rw (le-ltb i k (omega arith))),
+      total_zero (λ i. pick (ltb i k) (w.count i) 0) (6 - k) (0 + k) (λ i a b. rw (le-ltb i k (omega arith))),
     )
   where
     six : 6 ≡ k + (6 - k)
@@ -261,11 +261,11 @@ laid_same w R k l =
     same : (i : ℕ) → i < 6 → ahead w k i ≡ ltb i k
     same i li =
         elim (dec_lt i k) [
-          | yes h ↦ is-ahead w i k (elim (dec_lt (w.start i) (w.start k)) [
+          | yes h ↦ is_ahead w i k (elim (dec_lt (w.start i) (w.start k)) [
             | yes q ↦ inl q
             | no q ↦ inr (omega (arith, R i k h l), h)
           ]) ∙ sym (lt-ltb i k h)
-          | no h ↦ not-ahead w i k (λ b. ⊎_elim (λ (q : w.start i < w.start k). below i li (omega arith) q) (λ (q : (w.start i ≡ w.start k) × (i < k)). omega (arith, q)) b) ∙ sym (le-ltb i k (omega arith))
+          | no h ↦ not_ahead w i k (λ b. ⊎_elim (λ (q : w.start i < w.start k). below i li (omega arith) q) (λ (q : (w.start i ≡ w.start k) × (i < k)). omega (arith, q)) b) ∙ sym (le-ltb i k (omega arith))
         ]
       where
         below : (i : ℕ) → i < 6 → k ≤ i → w.start i < w.start k → ⊥

@@ -8,7 +8,7 @@ use native.Mathlib.Omega.{arith}
 use lib.ListN.{length, get_or, drop}
 use lib.Seq.{drop-cons}
 use Rattle.manifold.specs.Shape.{single, double, fan, shape_of, many_of}
-use Rattle.manifold.proofs.Shapes.{shape_else, length-triangles, get_d_triangles}
+use Rattle.manifold.proofs.Shapes.{shape_else, length_triangles, get_d_triangles}
 use Rattle.cell.specs.declared.Cell.{Cell}
 use Rattle.cell.specs.declared.Corner.TheVariants.{Middle}
 use Rattle.cell.specs.declared.Side.TheVariants.{Inner}
@@ -26,7 +26,7 @@ Entry l k t = drop k l ≡ t ∷ drop (suc k) l
 module _ (c : Cell) (halves points : List ℕ) (n : ℕ) (two : Bool) where
   pub length_traced : length (traced_triangles c halves points n two) ≡ many_of (shape_of n two) n
   unfolding traced_triangles
-  length_traced = length-triangles (triangle c.index (get_or points 0 0)) (point_at points) Middle (segment_at c.names halves points n) Inner n (shape_of n two)
+  length_traced = length_triangles (triangle c.index (get_or points 0 0)) (point_at points) Middle (segment_at c.names halves points n) Inner n (shape_of n two)
 
   module _ (k : ℕ) where
     abbrev this : Triangle
@@ -39,16 +39,16 @@ module _ (c : Cell) (halves points : List ℕ) (n : ℕ) (two : Bool) where
         ∙ ap (λ t. t ∷ drop (suc k) (traced_triangles c halves points n two))
         (get_d_triangles (triangle c.index (get_or points 0 0)) (point_at points) Middle (segment_at c.names halves points n) Inner n this (shape_of n two) k l ∙ sym e)
 
-    pub this-single : n ≡ 3 → traced_triangle c halves points 3 single 0 ≡ this
+    pub this_single : n ≡ 3 → traced_triangle c halves points 3 single 0 ≡ this
     unfolding traced_triangle
-    this-single e = rw e
+    this_single e = rw e
 
-    pub this-first : n ≡ 4 → two ≡ true → k ≡ 0 → traced_triangle c halves points 4 double 0 ≡ this
-    this-first e t z = rw (e, t, z)
+    pub this_first : n ≡ 4 → two ≡ true → k ≡ 0 → traced_triangle c halves points 4 double 0 ≡ this
+    this_first e t z = rw (e, t, z)
 
-    pub this-second : n ≡ 4 → two ≡ true → k ≢ 0 → traced_triangle c halves points 4 double 1 ≡ this
+    pub this_second : n ≡ 4 → two ≡ true → k ≢ 0 → traced_triangle c halves points 4 double 1 ≡ this
     unfolding traced_triangle
-    this-second e t z = rw (e, t) (go k z)
+    this_second e t z = rw (e, t) (go k z)
       where
         go : (k : ℕ) → k ≢ 0 → traced_triangle c halves points 4 double 1 ≡ traced_triangle c halves points 4 double k
         go zero h = absurd (h refl)

@@ -15,10 +15,10 @@ use Rattle.counting.specs.Pick.{pick}
 use Rattle.counting.specs.Lists.{total, values, pre}
 use Rattle.counting.specs.Search.{every}
 use Rattle.counting.proofs.Bools.{and_left, and_right, not_clash}
-use Rattle.counting.proofs.Lists.{values-at}
+use Rattle.counting.proofs.Lists.{values_at}
 use Rattle.slots.specs.Slots.{slot_edge}
 use Rattle.face.specs.claims.Level.{Level}
-use Rattle.face.proofs.Level.{level-turn, level_swap}
+use Rattle.face.proofs.Level.{level_turn, level_swap}
 use Rattle.place.specs.declared.Place.{Place}
 use Rattle.place.specs.Place.{part_of, between, middle, place_at}
 use Rattle.cell.specs.declared.Cell.{Cell}
@@ -31,8 +31,8 @@ use Rattle.cell.specs.Loop.{loop_size, dart, in_grid}
 use Rattle.cell.specs.claims.Nests.{greatest_of, exceeds, exceeding, pair_at, nest_edge, nest_count, nest_corner, nest_low, nest_rank, on_axis, nest_middle}
 use Rattle.cell.specs.Middles.{half_sum, corner_place}
 use Rattle.cell.specs.work.Centres.{highest_on, NestOn, IsNest, recorded_nested, recorded_place}
-use Rattle.cell.proofs.Levels.{slot-level}
-use Rattle.cell.proofs.Loops.{from-point, from-edge}
+use Rattle.cell.proofs.Levels.{slot_level}
+use Rattle.cell.proofs.Loops.{from_point, from_edge}
 use Rattle.cell.proofs.Going.{Looped, looped_halves}
 
 -- the greatest of values
@@ -73,33 +73,33 @@ module _ (x y z : ℕ) where
   unfolding exceeds
   above_same e = rw (eq-eqb y z e)
 
-  pub above-not : y ≢ z → false ≡ exceeds x y z
+  pub above_not : y ≢ z → false ≡ exceeds x y z
   unfolding exceeds
-  above-not n = rw (ne_eqb y z n)
+  above_not n = rw (ne_eqb y z n)
 
-  pub above-first : exceeds x y z ≡ true → 0 ≡ exceeding x y z
+  pub above_first : exceeds x y z ≡ true → 0 ≡ exceeding x y z
   unfolding exceeding
-  above-first e = rw e
+  above_first e = rw e
 
-  pub above-second : exceeds x y z ≡ false → exceeds y z x ≡ true → 1 ≡ exceeding x y z
+  pub above_second : exceeds x y z ≡ false → exceeds y z x ≡ true → 1 ≡ exceeding x y z
   unfolding exceeding
-  above-second e f = rw (e, f)
+  above_second e f = rw (e, f)
 
-  pub above-third : exceeds x y z ≡ false → exceeds y z x ≡ false → exceeds z x y ≡ true → 2 ≡ exceeding x y z
+  pub above_third : exceeds x y z ≡ false → exceeds y z x ≡ false → exceeds z x y ≡ true → 2 ≡ exceeding x y z
   unfolding exceeding
-  above-third e f g = rw (e, f, g)
+  above_third e f g = rw (e, f, g)
 
-  pub above-none : exceeds x y z ≡ false → exceeds y z x ≡ false → exceeds z x y ≡ false → 3 ≡ exceeding x y z
+  pub above_none : exceeds x y z ≡ false → exceeds y z x ≡ false → exceeds z x y ≡ false → 3 ≡ exceeding x y z
   unfolding exceeding
-  above-none e f g = rw (e, f, g)
+  above_none e f g = rw (e, f, g)
 
 -- A nest has 16 crossings or more. The edges with the counts a and b are opposite, as are those with p and s and those with q and r; three counts are
 -- a face's where rule 1 is said of them.
 twice_beside : (a b p q r s : ℕ) → a ≤ p + r → a ≤ q + s → b ≤ p + q → b ≤ r + s → p + s ≡ q + r → a + b ≤ 2 * (p + s)
 twice_beside a b p q r s h i j k e = omega arith
 
-even-both : (a b p r s : ℕ) → (a + p + r) % 2 ≡ 0 → (b + r + s) % 2 ≡ 0 → (a + b + (p + s)) % 2 ≡ 0
-even-both a b p r s h i = omega arith
+even_both : (a b p r s : ℕ) → (a + p + r) % 2 ≡ 0 → (b + r + s) % 2 ≡ 0 → (a + b + (p + s)) % 2 ≡ 0
+even_both a b p r s h i = omega arith
 
 by_two_sums : {x y z : ℕ} → y ≡ z → y + 2 < x → (x + y) % 2 ≡ 0 → x ≤ 2 * y → 16 ≤ x + y + z
 by_two_sums e h i j = omega arith
@@ -108,35 +108,35 @@ sixteen : {a b p q r s : ℕ} → Level a p r → Level a q s → Level b p q �
 unfolding exceeds
 sixteen {a} {b} {p} {q} {r} {s} A B C D e =
     let f = eqb-true (p + s) (q + r) (and_left (eqb (p + s) (q + r)) (ltb (p + s + 2) (a + b)) e) in
-    by_two_sums f (ltb-true (p + s + 2) (a + b) (and_right (eqb (p + s) (q + r)) (ltb (p + s + 2) (a + b)) e)) (even-both a b p r s A.even D.even)
+    by_two_sums f (ltb-true (p + s + 2) (a + b) (and_right (eqb (p + s) (q + r)) (ltb (p + s + 2) (a + b)) e)) (even_both a b p r s A.even D.even)
     (twice_beside a b p q r s A.first B.first C.first D.first f)
 
 module _ (w : ℕ → ℕ) where
   abbrev sums : ℕ
   sums = pair_at w 0 + pair_at w 1 + pair_at w 2
 
-  six-sum : pre w 6 ≡ sums
+  six_sum : pre w 6 ≡ sums
   unfolding pre total
-  six-sum = omega arith
+  six_sum = omega arith
 
   module _ (K : is_level_cell w ≡ true) where
-    last-first : {p q o : ℕ} → Level p q o → Level o p q
-    last-first L = level_swap (level-turn L)
+    last_first : {p q o : ℕ} → Level p q o → Level o p q
+    last_first L = level_swap (level_turn L)
 
     on-first : exceeds (pair_at w 0) (pair_at w 1) (pair_at w 2) ≡ true → 16 ≤ sums
     unfolding slot_edge
     on-first e =
-        omega (arith, sixteen (slot-level w K 3 (omega arith)) (slot-level w K 2 (omega arith)) (last-first (slot-level w K 1 (omega arith))) (last-first (slot-level w K 0 (omega arith))) e)
+        omega (arith, sixteen (slot_level w K 3 (omega arith)) (slot_level w K 2 (omega arith)) (last_first (slot_level w K 1 (omega arith))) (last_first (slot_level w K 0 (omega arith))) e)
 
     on-second : exceeds (pair_at w 1) (pair_at w 2) (pair_at w 0) ≡ true → 16 ≤ sums
     unfolding slot_edge
     on-second e =
-        omega (arith, sixteen (slot-level w K 1 (omega arith)) (level_swap (slot-level w K 3 (omega arith))) (level-turn (last-first (slot-level w K 2 (omega arith)))) (level-turn (level_swap (slot-level w K 0 (omega arith)))) e)
+        omega (arith, sixteen (slot_level w K 1 (omega arith)) (level_swap (slot_level w K 3 (omega arith))) (level_turn (last_first (slot_level w K 2 (omega arith)))) (level_turn (level_swap (slot_level w K 0 (omega arith)))) e)
 
-    on-third : exceeds (pair_at w 2) (pair_at w 0) (pair_at w 1) ≡ true → 16 ≤ sums
+    on_third : exceeds (pair_at w 2) (pair_at w 0) (pair_at w 1) ≡ true → 16 ≤ sums
     unfolding slot_edge
-    on-third e =
-        omega (arith, sixteen (level_swap (slot-level w K 2 (omega arith))) (level_swap (slot-level w K 1 (omega arith))) (last-first (slot-level w K 3 (omega arith))) (slot-level w K 0 (omega arith)) e)
+    on_third e =
+        omega (arith, sixteen (level_swap (slot_level w K 2 (omega arith))) (level_swap (slot_level w K 1 (omega arith))) (last_first (slot_level w K 3 (omega arith))) (slot_level w K 0 (omega arith)) e)
 
   pub none_by_few : pre w 6 < 16 → 3 ≡ nest_edge w
   unfolding nest_edge
@@ -145,39 +145,39 @@ module _ (w : ℕ → ℕ) where
       go : (b : Bool) → is_level_cell w ≡ b → 3 ≡ pick b (exceeding (pair_at w 0) (pair_at w 1) (pair_at w 2)) 3
       go false K = refl
       go true K =
-          above-none (pair_at w 0) (pair_at w 1) (pair_at w 2) (not_clash (exceeds (pair_at w 0) (pair_at w 1) (pair_at w 2)) (λ e. omega (arith, six-sum, on-first K e)))
-          (not_clash (exceeds (pair_at w 1) (pair_at w 2) (pair_at w 0)) (λ e. omega (arith, six-sum, on-second K e)))
-          (not_clash (exceeds (pair_at w 2) (pair_at w 0) (pair_at w 1)) (λ e. omega (arith, six-sum, on-third K e)))
+          above_none (pair_at w 0) (pair_at w 1) (pair_at w 2) (not_clash (exceeds (pair_at w 0) (pair_at w 1) (pair_at w 2)) (λ e. omega (arith, six_sum, on-first K e)))
+          (not_clash (exceeds (pair_at w 1) (pair_at w 2) (pair_at w 0)) (λ e. omega (arith, six_sum, on-second K e)))
+          (not_clash (exceeds (pair_at w 2) (pair_at w 0) (pair_at w 1)) (λ e. omega (arith, six_sum, on_third K e)))
 
 -- half of what the pair of edge e has above another
 module _ (n : ℕ → ℕ) (e : ℕ) where
-  pub count-first : e ≡ 0 → {a b l : ℕ} → a ≡ pair_at n e → b ≡ pair_at n 1 → l ≡ a - b → l / 2 ≡ (pair_at n e - pair_at n (pick (eqb e 0) 1 0)) / 2
-  count-first z p q r = rw (eq-eqb e 0 z, r, p, q)
+  pub count_first : e ≡ 0 → {a b l : ℕ} → a ≡ pair_at n e → b ≡ pair_at n 1 → l ≡ a - b → l / 2 ≡ (pair_at n e - pair_at n (pick (eqb e 0) 1 0)) / 2
+  count_first z p q r = rw (eq-eqb e 0 z, r, p, q)
 
-  pub count-later : e ≢ 0 → {a b l : ℕ} → a ≡ pair_at n e → b ≡ pair_at n 0 → l ≡ a - b → l / 2 ≡ (pair_at n e - pair_at n (pick (eqb e 0) 1 0)) / 2
-  count-later z p q r = rw (ne_eqb e 0 z, r, p, q)
+  pub count_later : e ≢ 0 → {a b l : ℕ} → a ≡ pair_at n e → b ≡ pair_at n 0 → l ≡ a - b → l / 2 ≡ (pair_at n e - pair_at n (pick (eqb e 0) 1 0)) / 2
+  count_later z p q r = rw (ne_eqb e 0 z, r, p, q)
 
 -- what the counts of six edges alone decide
 module _ (c : Cell) {six : List ℕ} (e : six ≡ values (count_of c) 6) where
-  pub six-at : (k : ℕ) → k < 6 → by_edge six k ≡ count_of c k
-  six-at k l = ap (λ (x : List ℕ). get_or x k 0) e ∙ values-at (count_of c) 6 k 0 l
+  pub six_at : (k : ℕ) → k < 6 → by_edge six k ≡ count_of c k
+  six_at k l = ap (λ (x : List ℕ). get_or x k 0) e ∙ values_at (count_of c) 6 k 0 l
 
-  pub six-level : is_level_cell (by_edge six) ≡ is_level_cell (count_of c)
+  pub six_level : is_level_cell (by_edge six) ≡ is_level_cell (count_of c)
   unfolding is_level_cell every slot_edge
-  six-level = rw (six-at 0 (omega arith), six-at 1 (omega arith), six-at 2 (omega arith), six-at 3 (omega arith), six-at 4 (omega arith), six-at 5 (omega arith))
+  six_level = rw (six_at 0 (omega arith), six_at 1 (omega arith), six_at 2 (omega arith), six_at 3 (omega arith), six_at 4 (omega arith), six_at 5 (omega arith))
 
 -- the nest as the code finds it
 module _ (c : Cell) {six : List ℕ} (e : six ≡ values (count_of c) 6) where
-  six-pair : (k : ℕ) → k < 6 → pair_at (by_edge six) k ≡ pair_at (count_of c) k
-  six-pair k l = ap₂ (λ a b. a + b) (six-at c e k l) (six-at c e (5 - k) (omega arith))
+  six_pair : (k : ℕ) → k < 6 → pair_at (by_edge six) k ≡ pair_at (count_of c) k
+  six_pair k l = ap₂ (λ a b. a + b) (six_at c e k l) (six_at c e (5 - k) (omega arith))
 
   module _ {x y z k : ℕ} (p : x ≡ pair_at (by_edge six) 0) (q : y ≡ pair_at (by_edge six) 1) (r : z ≡ pair_at (by_edge six) 2) (s : k ≡ exceeding x y z) where
-    by-sums : k ≡ exceeding (pair_at (count_of c) 0) (pair_at (count_of c) 1) (pair_at (count_of c) 2)
-    by-sums = rw (s, p, q, r, six-pair 0 (omega arith), six-pair 1 (omega arith), six-pair 2 (omega arith))
+    by_sums : k ≡ exceeding (pair_at (count_of c) 0) (pair_at (count_of c) 1) (pair_at (count_of c) 2)
+    by_sums = rw (s, p, q, r, six_pair 0 (omega arith), six_pair 1 (omega arith), six_pair 2 (omega arith))
 
     pub none_by_sums : k ≡ 3 → 3 ≡ nest_edge (count_of c)
     unfolding nest_edge
-    none_by_sums t = go (is_level_cell (count_of c)) (sym t ∙ by-sums)
+    none_by_sums t = go (is_level_cell (count_of c)) (sym t ∙ by_sums)
       where
         go : (b : Bool) {m : ℕ} → 3 ≡ m → 3 ≡ pick b m 3
         go true f = f
@@ -185,38 +185,38 @@ module _ (c : Cell) {six : List ℕ} (e : six ≡ values (count_of c) 6) where
 
     pub none_by_level : is_level_cell (by_edge six) ≡ false → 3 ≡ nest_edge (count_of c)
     unfolding nest_edge
-    none_by_level t = rw (sym (six-level c e) ∙ t)
+    none_by_level t = rw (sym (six_level c e) ∙ t)
 
     pub edge_by : is_level_cell (by_edge six) ≡ true → k ≡ nest_edge (count_of c)
     unfolding nest_edge
-    edge_by t = rw (sym (six-level c e) ∙ t) by-sums
+    edge_by t = rw (sym (six_level c e) ∙ t) by_sums
 
 pub none_is : (c : Cell) {q : Nest} → (q.edge ≡ 3) × (q.count ≡ 0) → 3 ≡ nest_edge (count_of c) → IsNest c q
-none_is c n e = record { edge-is = n.0 ∙ e; count-is = λ l. absurd (omega (arith, n.0)); low-is = λ l. absurd (omega (arith, n.0)); few = omega (arith, n.1) }
+none_is c n e = record { edge_is = n.0 ∙ e; count_is = λ l. absurd (omega (arith, n.0)); low_is = λ l. absurd (omega (arith, n.0)); few = omega (arith, n.1) }
 
 module _ {c : Cell} {six : List ℕ} {e : ℕ} (N : NestOn c six e) where
-  beside-lt : pick (eqb e 0) 1 0 < 6
-  beside-lt = go (eqb e 0)
+  beside_lt : pick (eqb e 0) 1 0 < 6
+  beside_lt = go (eqb e 0)
     where
       go : (b : Bool) → pick b 1 0 < 6
       go true = omega arith
       go false = omega arith
 
-  pub on-count : {m : ℕ} → m ≡ (pair_at (by_edge six) e - pair_at (by_edge six) (pick (eqb e 0) 1 0)) / 2 → m ≡ nest_count (count_of c)
+  pub on_count : {m : ℕ} → m ≡ (pair_at (by_edge six) e - pair_at (by_edge six) (pick (eqb e 0) 1 0)) / 2 → m ≡ nest_count (count_of c)
   unfolding nest_count
-  on-count q =
-      q ∙ ap₂ (λ a b. (a - b) / 2) (six-pair c N.six_are e (omega (arith, N.edge-lt))) (six-pair c N.six_are (pick (eqb e 0) 1 0) beside-lt)
-      ∙ ap (λ k. (pair_at (count_of c) k - pair_at (count_of c) (pick (eqb k 0) 1 0)) / 2) N.edge-is
+  on_count q =
+      q ∙ ap₂ (λ a b. (a - b) / 2) (six_pair c N.six_are e (omega (arith, N.edge_lt))) (six_pair c N.six_are (pick (eqb e 0) 1 0) beside_lt)
+      ∙ ap (λ k. (pair_at (count_of c) k - pair_at (count_of c) (pick (eqb k 0) 1 0)) / 2) N.edge_is
 
-  pub on-low : {s k m : ℕ} → s ≡ start_of c e → k ≡ (by_edge six 0 + by_edge six 1 + by_edge six 2 - pair_at (by_edge six) e) / 2
+  pub on_low : {s k m : ℕ} → s ≡ start_of c e → k ≡ (by_edge six 0 + by_edge six 1 + by_edge six 2 - pair_at (by_edge six) e) / 2
       → m ≡ (pair_at (by_edge six) e - pair_at (by_edge six) (pick (eqb e 0) 1 0)) / 2 → s + k + m ≡ nest_low c
   unfolding nest_low nest_corner
-  on-low {s} {k} {m} p q r =
-      let at = six-at c N.six_are in
+  on_low {s} {k} {m} p q r =
+      let at = six_at c N.six_are in
       let o : k ≡ (count_of c 0 + count_of c 1 + count_of c 2 - pair_at (count_of c) (nest_edge (count_of c))) / 2 =
-      q ∙ rw (at 0 (omega arith), at 1 (omega arith), at 2 (omega arith), six-pair c N.six_are e (omega (arith, N.edge-lt)), N.edge-is) in
-      let t : s ≡ start_of c (nest_edge (count_of c)) = p ∙ ap (start_of c) N.edge-is in
-      omega (arith, t, o, on-count r)
+      q ∙ rw (at 0 (omega arith), at 1 (omega arith), at 2 (omega arith), six_pair c N.six_are e (omega (arith, N.edge_lt)), N.edge_is) in
+      let t : s ≡ start_of c (nest_edge (count_of c)) = p ∙ ap (start_of c) N.edge_is in
+      omega (arith, t, o, on_count r)
 
 -- the greatest so far is small
 pub risen_few : (d e : ℕ) {m g x : ℕ} → m < 4294967296 → g < 4294967296 → x ≡ max m (pick (eqb d e) g 0) → x < 4294967296
@@ -228,16 +228,16 @@ risen_few d e {m} {g} {x} a b = go (eqb d e)
 
 -- the middle of a recorded loop
 module _ (c : Cell) (q : Nest) (nodes : List Float) (halves points : List ℕ) where
-  pub nested-by : {a b r : Place} {s : Float} {i h : ℕ} → r ≡ between a b s
+  pub nested_by : {a b r : Place} {s : Float} {i h : ℕ} → r ≡ between a b s
       → a ≡ half_sum (corner_place nodes c) q.edge → b ≡ half_sum (corner_place nodes c) (5 - q.edge)
       → s ≡ part_of i q.count → i ≡ h - q.low → h ≡ highest_on halves points q.edge → r ≡ recorded_nested c q nodes halves points
   unfolding recorded_nested on_axis
-  nested-by e a b s i h = rw (e, a, b, s, i, h)
+  nested_by e a b s i h = rw (e, a, b, s, i, h)
 
   module _ (area : List Float) where
-    pub place-nested : q.edge < 3 → {r : Place} → r ≡ recorded_nested c q nodes halves points → r ≡ recorded_place c q nodes halves points area
+    pub place_nested : q.edge < 3 → {r : Place} → r ≡ recorded_nested c q nodes halves points → r ≡ recorded_place c q nodes halves points area
     unfolding recorded_place
-    place-nested l e = rw (lt-ltb q.edge 3 l) e
+    place_nested l e = rw (lt-ltb q.edge 3 l) e
 
     pub place_mean : 3 ≤ q.edge → {r : Place} → r ≡ middle (λ k. place_at area (get_or points k 0)) (length points) → r ≡ recorded_place c q nodes halves points area
     unfolding recorded_place
@@ -252,10 +252,10 @@ module _ {c : Cell} {p n : ℕ} {b : Bool} {halves points : List ℕ} (L : Loope
       let f = looped_halves L ∙ L.size in
       greatest_ext (λ k. pick (eqb (edge_of (get_or halves k 0)) e) (get_or points k 0) 0)
       (λ k. pick (eqb (edge (edges_of c) (dart (edges_of c) p k / 2)) e) (in_grid (edges_of c) (dart (edges_of c) p k / 2)) 0) (length halves)
-      (λ k l. rw (L.halves_are, L.points_are, from-edge c p L.inside k (omega (arith, f)), from-point c p k (omega (arith, f))))
+      (λ k l. rw (L.halves_are, L.points_are, from_edge c p L.inside k (omega (arith, f)), from_point c p k (omega (arith, f))))
       ∙ ap (greatest_of _) f
 
   pub looped_nested : {q : Nest} → IsNest c q → (nodes : List Float) → q.edge < 3 → recorded_nested c q nodes halves points ≡ nest_middle (corner_place nodes c) c p
   unfolding recorded_nested nest_middle nest_rank
   looped_nested {q} Q nodes l =
-      rw (Q.count-is l, Q.low-is l, Q.edge-is, looped_highest (nest_edge (count_of c)))
+      rw (Q.count_is l, Q.low_is l, Q.edge_is, looped_highest (nest_edge (count_of c)))

@@ -9,10 +9,10 @@ use borrow.Author.Tests.{eqb-true, eqb-false, ltb-true, ne_eqb, not-true}
 use Rattle.counting.specs.Pick.{pick}
 use Rattle.counting.specs.Search.{every, first}
 use Rattle.counting.proofs.Bools.{imply, or_cases, and_left, and_right}
-use Rattle.counting.proofs.Search.{every-is}
+use Rattle.counting.proofs.Search.{every_is}
 use Rattle.slots.specs.Slots.{lo, hi, position, edge_between, slot_edge, edge_rank, contains, lower, upper}
 use Rattle.slots.specs.claims.Slots.{third_position}
-use Rattle.slots.proofs.Slots.{EdgeSlot, two-slots}
+use Rattle.slots.proofs.Slots.{EdgeSlot, two_slots}
 use Rattle.slots.proofs.Claims.{slot_laws}
 use Rattle.face.specs.Face.{other, opposite}
 use Rattle.cell.specs.work.Half.{twin}
@@ -96,10 +96,10 @@ module _ {a b c d : ℕ} (A : Arranged a b c d) where
   unfolding Passes
   passed t p =
       imply (differ a b c d) (t a b c d) apart
-      (every-is (λ d. not (differ a b c d) || t a b c d) 4
-      (every-is (λ c. every (λ d. not (differ a b c d) || t a b c d) 4) 4
-      (every-is (λ b. every (λ c. every (λ d. not (differ a b c d) || t a b c d) 4) 4) 4
-      (every-is (λ a. every (λ b. every (λ c. every (λ d. not (differ a b c d) || t a b c d) 4) 4) 4) 4 p a A.a_lt) b A.b_lt) c A.c_lt) d A.d-lt)
+      (every_is (λ d. not (differ a b c d) || t a b c d) 4
+      (every_is (λ c. every (λ d. not (differ a b c d) || t a b c d) 4) 4
+      (every_is (λ b. every (λ c. every (λ d. not (differ a b c d) || t a b c d) 4) 4) 4
+      (every_is (λ a. every (λ b. every (λ c. every (λ d. not (differ a b c d) || t a b c d) 4) 4) 4) 4 p a A.a_lt) b A.b_lt) c A.c_lt) d A.d_lt)
 
   same : (f g : ℕ → ℕ → ℕ → ℕ → ℕ) → Passes (λ a b c d. eqb (f a b c d) (g a b c d)) → f a b c d ≡ g a b c d
   same f g p = eqb-true (f a b c d) (g a b c d) (passed (λ a b c d. eqb (f a b c d) (g a b c d)) p)
@@ -111,13 +111,13 @@ module _ {a b c d : ℕ} (A : Arranged a b c d) where
   other_than f g p = eqb-false (f a b c d) (g a b c d) (not-true (eqb (f a b c d) (g a b c d)) (passed (λ a b c d. not (eqb (f a b c d) (g a b c d))) p))
 
   -- their sum, and that one of them is the lowest
-  pub sum-six : a + b + c + d ≡ 6
+  pub sum_six : a + b + c + d ≡ 6
   unfolding Passes every differ
-  sum-six = same (λ a b c d. a + b + c + d) (λ a b c d. 6) refl
+  sum_six = same (λ a b c d. a + b + c + d) (λ a b c d. 6) refl
 
-  pub lowest-of : (a ≡ 0) ⊎ ((b ≡ 0) ⊎ ((c ≡ 0) ⊎ (d ≡ 0)))
+  pub lowest_of : (a ≡ 0) ⊎ ((b ≡ 0) ⊎ ((c ≡ 0) ⊎ (d ≡ 0)))
   unfolding Passes every differ
-  lowest-of =
+  lowest_of =
       either (eqb-true a 0) (either (eqb-true b 0) (either (eqb-true c 0) (eqb-true d 0)))
       (passed (λ a b c d. eqb a 0 || (eqb b 0 || (eqb c 0 || eqb d 0))) refl)
     where
@@ -129,52 +129,52 @@ module _ {a b c d : ℕ} (A : Arranged a b c d) where
   unfolding Passes every differ joining edge_between
   both_ways = same (λ a b c d. joining a b) (λ a b c d. joining b a) refl
 
-  pub lo-is : lo (joining a b) ≡ pick (ltb a b) a b
+  pub lo_is : lo (joining a b) ≡ pick (ltb a b) a b
   unfolding Passes every differ joining edge_between lo
-  lo-is = same (λ a b c d. lo (joining a b)) (λ a b c d. pick (ltb a b) a b) refl
+  lo_is = same (λ a b c d. lo (joining a b)) (λ a b c d. pick (ltb a b) a b) refl
 
-  pub hi-is : hi (joining a b) ≡ pick (ltb a b) b a
+  pub hi_is : hi (joining a b) ≡ pick (ltb a b) b a
   unfolding Passes every differ joining edge_between hi
-  hi-is = same (λ a b c d. hi (joining a b)) (λ a b c d. pick (ltb a b) b a) refl
+  hi_is = same (λ a b c d. hi (joining a b)) (λ a b c d. pick (ltb a b) b a) refl
 
-  pub beside-edge : joining a b ≢ joining a c
+  pub beside_edge : joining a b ≢ joining a c
   unfolding Passes every differ joining edge_between
-  beside-edge = other_than (λ a b c d. joining a b) (λ a b c d. joining a c) refl
+  beside_edge = other_than (λ a b c d. joining a b) (λ a b c d. joining a c) refl
 
-  pub across-edge : joining a b ≢ joining c d
+  pub across_edge : joining a b ≢ joining c d
   unfolding Passes every differ joining edge_between
-  across-edge = other_than (λ a b c d. joining a b) (λ a b c d. joining c d) refl
+  across_edge = other_than (λ a b c d. joining a b) (λ a b c d. joining c d) refl
 
   -- its place in slot d, of which a is the lower or the upper end, ac the other edge at a, and bc the opposite edge
-  pub place-lt : edge_rank d (joining a b) < 3
+  pub place_lt : edge_rank d (joining a b) < 3
   unfolding Passes every differ joining edge_rank
-  place-lt = below (λ a b c d. edge_rank d (joining a b)) 3 refl
+  place_lt = below (λ a b c d. edge_rank d (joining a b)) 3 refl
 
-  pub edge-is : slot_edge d (edge_rank d (joining a b)) ≡ joining a b
+  pub edge_is : slot_edge d (edge_rank d (joining a b)) ≡ joining a b
   unfolding Passes every differ joining edge_rank slot_edge
-  edge-is = same (λ a b c d. slot_edge d (edge_rank d (joining a b))) (λ a b c d. joining a b) refl
+  edge_is = same (λ a b c d. slot_edge d (edge_rank d (joining a b))) (λ a b c d. joining a b) refl
 
   pub end_is : pos d a ≡ pick (ltb a b) (lower (edge_rank d (joining a b))) (upper (edge_rank d (joining a b)))
   unfolding Passes every differ joining edge_rank pos first position lower upper
   end_is = same (λ a b c d. pos d a) (λ a b c d. pick (ltb a b) (lower (edge_rank d (joining a b))) (upper (edge_rank d (joining a b)))) refl
 
-  pub other-is : other (pos d a) (edge_rank d (joining a b)) ≡ edge_rank d (joining a c)
+  pub other_is : other (pos d a) (edge_rank d (joining a b)) ≡ edge_rank d (joining a c)
   unfolding Passes every differ joining edge_rank pos first position other
-  other-is = same (λ a b c d. other (pos d a) (edge_rank d (joining a b))) (λ a b c d. edge_rank d (joining a c)) refl
+  other_is = same (λ a b c d. other (pos d a) (edge_rank d (joining a b))) (λ a b c d. edge_rank d (joining a c)) refl
 
-  pub opposite-is : opposite (pos d a) ≡ edge_rank d (joining b c)
+  pub opposite_is : opposite (pos d a) ≡ edge_rank d (joining b c)
   unfolding Passes every differ joining edge_rank pos first position opposite
-  opposite-is = same (λ a b c d. opposite (pos d a)) (λ a b c d. edge_rank d (joining b c)) refl
+  opposite_is = same (λ a b c d. opposite (pos d a)) (λ a b c d. edge_rank d (joining b c)) refl
 
   -- the half-edge of ac in slot d has its twin in slot b
-  pub twin-is : twin (3 * d + edge_rank d (joining a c)) ≡ 3 * b + edge_rank b (joining a c)
+  pub twin_is : twin (3 * d + edge_rank d (joining a c)) ≡ 3 * b + edge_rank b (joining a c)
   unfolding Passes every differ joining edge_rank twin
-  twin-is = same (λ a b c d. twin (3 * d + edge_rank d (joining a c))) (λ a b c d. 3 * b + edge_rank b (joining a c)) refl
+  twin_is = same (λ a b c d. twin (3 * d + edge_rank d (joining a c))) (λ a b c d. 3 * b + edge_rank b (joining a c)) refl
 
   -- the positions of its ends in that slot
-  pub lower-is : position d (lower (edge_rank d (joining a b))) ≡ pick (ltb a b) a b
+  pub lower_is : position d (lower (edge_rank d (joining a b))) ≡ pick (ltb a b) a b
   unfolding Passes every differ joining edge_rank position lower
-  lower-is = same (λ a b c d. position d (lower (edge_rank d (joining a b)))) (λ a b c d. pick (ltb a b) a b) refl
+  lower_is = same (λ a b c d. position d (lower (edge_rank d (joining a b)))) (λ a b c d. pick (ltb a b) a b) refl
 
   pub upper_is : position d (upper (edge_rank d (joining a b))) ≡ pick (ltb a b) b a
   unfolding Passes every differ joining edge_rank position upper
@@ -185,8 +185,8 @@ ends_pass : every (λ k. eqb (joining (lo k) (hi k)) k) 6 ≡ true
 unfolding every joining edge_between lo hi
 ends_pass = refl
 
-pub joining-ends : (k : ℕ) → k < 6 → joining (lo k) (hi k) ≡ k
-joining-ends k l = eqb-true (joining (lo k) (hi k)) k (every-is (λ k. eqb (joining (lo k) (hi k)) k) 6 ends_pass k l)
+pub joining_ends : (k : ℕ) → k < 6 → joining (lo k) (hi k) ≡ k
+joining_ends k l = eqb-true (joining (lo k) (hi k)) k (every_is (λ k. eqb (joining (lo k) (hi k)) k) 6 ends_pass k l)
 
 -- the ends of an edge, the third position of a slot that contains it, and the omitted one
 pub arranged : {k s : ℕ} → k < 6 → EdgeSlot k s → Arranged (lo k) (hi k) (third_position k s) s
@@ -194,18 +194,18 @@ unfolding contains
 arranged {k} {s} l S =
     let c = contained S in
     let T = slot_laws.third_of k s l S.lt c in
-    let E = two-slots k l in
+    let E = two_slots k l in
     let a = eqb-false s (lo k) (not-true (eqb s (lo k)) (and_left (not (eqb s (lo k))) (not (eqb s (hi k))) c)) in
     let b = eqb-false s (hi k) (not-true (eqb s (hi k)) (and_right (not (eqb s (lo k))) (not (eqb s (hi k))) c)) in
     record {
       a_lt = omega (arith, E.rising, E.within);
       b_lt = E.within;
       c_lt = T.lt;
-      d-lt = S.lt;
+      d_lt = S.lt;
       ab = omega (arith, E.rising);
-      ac = λ e. T.not-lo (sym e);
+      ac = λ e. T.not_lo (sym e);
       ad = λ e. a (sym e);
-      bc = λ e. T.not-hi (sym e);
+      bc = λ e. T.not_hi (sym e);
       bd = λ e. b (sym e);
       cd = T.not_omitted;
     }

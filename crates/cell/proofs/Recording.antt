@@ -13,10 +13,10 @@ use lib.ListN.{get_or, set, take, length, length-map}
 use lib.Seq.{take-suc-set}
 use borrow.Author.Tests.{ltb-true, lt-ltb, le-ltb, ne_eqb}
 use Rattle.counting.specs.Lists.{one, tally, it}
-use Rattle.counting.proofs.Lists.{get_d_map, tally-append}
+use Rattle.counting.proofs.Lists.{get_d_map, tally_append}
 use Rattle.walk.specs.Walk.{orbit}
 use Rattle.walk.specs.Walk as walk
-use Rattle.walk.proofs.Iterate.{orbit_snoc, length-orbit}
+use Rattle.walk.proofs.Iterate.{orbit_snoc, length_orbit}
 use Rattle.cell.specs.declared.Cell.{Cell}
 use Rattle.cell.specs.declared.Dart.{Dart}
 use Rattle.cell.specs.Cell.{Edges, crossings, index, step}
@@ -30,23 +30,23 @@ use Rattle.cell.specs.work.Dart.{Parts, IsDart, Ready, Leads, dart_of}
 use Rattle.cell.specs.work.Scratch.{halves_from, points_from}
 use Rattle.cell.specs.work.Walked.{Starts, Marked, is_met, Kept, Used, Lent, Walked}
 use Rattle.cell.proofs.Half.{place_is}
-use Rattle.cell.proofs.Step.{number-half, parts-number, parts-edge, parts-index, parts-slot}
-use Rattle.cell.proofs.Route.{start-at, start-near, fits}
-use Rattle.cell.proofs.Using.{kept_set, used-none}
-use Rattle.cell.proofs.Walking.{Walking, dart-next, walking_start, walking_room, walking_end, walking_low, walking_home, walking_on, walking_mark, walking_met, start-met}
+use Rattle.cell.proofs.Step.{number_half, parts_number, parts_edge, parts_index, parts_slot}
+use Rattle.cell.proofs.Route.{start_at, start_near, fits}
+use Rattle.cell.proofs.Using.{kept_set, used_none}
+use Rattle.cell.proofs.Walking.{Walking, dart_next, walking_start, walking_room, walking_end, walking_low, walking_home, walking_on, walking_mark, walking_met, start_met}
 
 -- a dart in parts leaves by its half-edge, from its point
 module _ {w : Edges} {h t x : ℕ} (P : Parts w h t x) where
-  pub parts-half : half_edge w (dart_number h x) ≡ h
+  pub parts_half : half_edge w (dart_number h x) ≡ h
   unfolding half_edge half_of
-  parts-half = rw (parts-slot w P, parts-edge w P, place_is h P.half_lt) (omega arith)
+  parts_half = rw (parts_slot w P, parts_edge w P, place_is h P.half_lt) (omega arith)
 
-  pub parts-point : in_grid w (dart_number h x / 2) ≡ w.start (edge_of h) + t
+  pub parts_point : in_grid w (dart_number h x / 2) ≡ w.start (edge_of h) + t
   unfolding in_grid
-  parts-point = rw (parts-edge w P, parts-index w P) refl
+  parts_point = rw (parts_edge w P, parts_index w P) refl
 
-  pub parts-lt : dart_number h x < 2 * crossings w
-  parts-lt = let l = parts-number w P in omega (arith, number-half h x)
+  pub parts_lt : dart_number h x < 2 * crossings w
+  parts_lt = let l = parts_number w P in omega (arith, number_half h x)
 
 get_d_orbit : (s : ℕ → ℕ) (n k d : ℕ) → k < n → get_or (orbit s n d) k 0 ≡ it s k d
 unfolding orbit it
@@ -67,42 +67,42 @@ module _ (w : Edges) (f : ℕ → ℕ) (p : ℕ) where
   unfolding run dart
   run_more k = ap (map f) (orbit_snoc (step w) k (2 * p)) ∙ map-append f (orbit (step w) k (2 * p)) (it (step w) k (2 * p) ∷ [])
 
-  pub run-loop : (k : ℕ) → loop_size w p ≡ k → map f (loop_darts w p) ≡ run k
+  pub run_loop : (k : ℕ) → loop_size w p ≡ k → map f (loop_darts w p) ≡ run k
   unfolding run loop_darts loop_size walk.loop_at
-  run-loop k e = ap (λ n. map f (orbit (step w) n (2 * p))) e
+  run_loop k e = ap (λ n. map f (orbit (step w) n (2 * p))) e
 
   pub run_at : (n k : ℕ) → k < n → get_or (run n) k 0 ≡ f (dart w p k)
   unfolding run dart
-  run_at n k h = get_d_map f 0 0 (orbit (step w) n (2 * p)) k (rw (length-orbit (step w) n (2 * p)) h) ∙ ap f (get_d_orbit (step w) n k (2 * p) h)
+  run_at n k h = get_d_map f 0 0 (orbit (step w) n (2 * p)) k (rw (length_orbit (step w) n (2 * p)) h) ∙ ap f (get_d_orbit (step w) n k (2 * p) h)
 
   pub run_long : (n : ℕ) → length (run n) ≡ n
   unfolding run
-  run_long n = length-map (orbit (step w) n (2 * p)) f ∙ length-orbit (step w) n (2 * p)
+  run_long n = length-map (orbit (step w) n (2 * p)) f ∙ length_orbit (step w) n (2 * p)
 
 abbrev pub point_of : Cell → ℕ → ℕ
 point_of c d = in_grid (edges_of c) (d / 2)
 
 -- a walk from p is met at crossing x, or not
 module _ (ms : List ℕ) (p x : ℕ) where
-  pub met-low : x < p → is_met ms p x ≡ true
+  pub met_low : x < p → is_met ms p x ≡ true
   unfolding is_met
-  met-low h = simp (lt-ltb x p h)
+  met_low h = simp (lt-ltb x p h)
 
-  pub met-mark : p ≤ x → is_met ms p x ≡ ltb (get_or ms x 0) p
+  pub met_mark : p ≤ x → is_met ms p x ≡ ltb (get_or ms x 0) p
   unfolding is_met
-  met-mark h = simp (le-ltb x p h)
+  met_mark h = simp (le-ltb x p h)
 
-  met-cases : is_met ms p x ≡ true → (x < p) ⊎ (get_or ms x 0 < p)
-  met-cases e =
+  met_cases : is_met ms p x ≡ true → (x < p) ⊎ (get_or ms x 0 < p)
+  met_cases e =
       elim (dec_lt x p) [
         | yes h ↦ inl h
-        | no h ↦ inr (ltb-true (get_or ms x 0) p (sym (met-mark (omega arith)) ∙ e))
+        | no h ↦ inr (ltb-true (get_or ms x 0) p (sym (met_mark (omega arith)) ∙ e))
       ]
 
-  pub met-above : is_met ms p x ≡ false → p ≤ x
-  met-above e =
+  pub met_above : is_met ms p x ≡ false → p ≤ x
+  met_above e =
       elim (dec_lt x p) [
-        | yes h ↦ absurd (true≢false (sym (met-low h) ∙ e))
+        | yes h ↦ absurd (true≢false (sym (met_low h) ∙ e))
         | no h ↦ omega arith
       ]
 
@@ -111,24 +111,24 @@ module _ (w : Edges) (p : ℕ) where
   unfoldable pub clean : ℕ → Bool
   clean k = eqb (tally (folded w) (orbit (step w) k (2 * p))) 0
 
-  pub clean-none : clean 0 ≡ true
+  pub clean_none : clean 0 ≡ true
   unfolding clean orbit tally
-  clean-none = refl
+  clean_none = refl
 
-  pub clean-more : (k : ℕ) → clean (k + 1) ≡ (not (folded w (dart w p k)) && clean k)
+  pub clean_more : (k : ℕ) → clean (k + 1) ≡ (not (folded w (dart w p k)) && clean k)
   unfolding clean dart tally
-  clean-more k =
+  clean_more k =
       ap (λ l. eqb (tally (folded w) l) 0) (orbit_snoc (step w) k (2 * p))
-      ∙ ap (λ n. eqb n 0) (tally-append (folded w) (orbit (step w) k (2 * p)) (it (step w) k (2 * p) ∷ []))
+      ∙ ap (λ n. eqb n 0) (tally_append (folded w) (orbit (step w) k (2 * p)) (it (step w) k (2 * p) ∷ []))
       ∙ go (folded w (it (step w) k (2 * p))) (tally (folded w) (orbit (step w) k (2 * p)))
     where
       go : (b : Bool) (n : ℕ) → eqb (n + (one b + 0)) 0 ≡ (not b && eqb n 0)
       go true n = ne_eqb (n + (1 + 0)) 0 (λ e. omega arith)
       go false n = ap (λ m. eqb m 0) (let z : n + (0 + 0) ≡ n = omega arith in z)
 
-  pub clean-loop : (k : ℕ) → loop_size w p ≡ k → normal w p ≡ clean k
+  pub clean_loop : (k : ℕ) → loop_size w p ≡ k → normal w p ≡ clean k
   unfolding clean normal loop_darts loop_size walk.loop_at
-  clean-loop k e = ap (λ n. eqb (tally (folded w) (orbit (step w) n (2 * p))) 0) e
+  clean_loop k e = ap (λ n. eqb (tally (folded w) (orbit (step w) n (2 * p))) 0) e
 
 -- one more at the front
 take_more : (l : List ℕ) (k x : ℕ) → k < length l → {v : List ℕ} → take k l ≡ v → take (k + 1) (set l k x) ≡ v ++ (x ∷ [])
@@ -140,13 +140,13 @@ walked_none : {c : Cell} {n p : ℕ} {ms hs ps ms' hs' ps' : List ℕ} → loop_
 unfolding halves_from points_from
 walked_none {c} {n} {p} z M U = record {
   marked = M;
-  marks-kept = U.marks-kept;
+  marks_kept = U.marks_kept;
   halves_kept = U.halves_kept;
   points_kept = U.points_kept;
   size = sym z;
-  told = sym (clean-loop (edges_of c) p 0 z ∙ clean-none (edges_of c) p);
-  halves_are = rw (run-loop (edges_of c) (half_edge (edges_of c)) p 0 z, run_none (edges_of c) (half_edge (edges_of c)) p) refl;
-  points_are = rw (run-loop (edges_of c) (point_of c) p 0 z, run_none (edges_of c) (point_of c) p) refl;
+  told = sym (clean_loop (edges_of c) p 0 z ∙ clean_none (edges_of c) p);
+  halves_are = rw (run_loop (edges_of c) (half_edge (edges_of c)) p 0 z, run_none (edges_of c) (half_edge (edges_of c)) p) refl;
+  points_are = rw (run_loop (edges_of c) (point_of c) p 0 z, run_none (edges_of c) (point_of c) p) refl;
 }
 
 -- at dart k, with those before it recorded
@@ -170,8 +170,8 @@ module _ {c : Cell} {t : List ℕ} {n p : ℕ} {ms₀ hs₀ ps₀ : List ℕ} (L
   pub lent_met : is_met ms₀ p p ≡ true → Walked c n p ms₀ hs₀ ps₀ 0 true ms₀ hs₀ ps₀
   lent_met e =
       ⊎_elim (λ h. absurd (omega arith))
-      (λ h. walked_none (start-met w ms₀ p inside L.marked h) L.marked (used-none n ms₀ hs₀ ps₀))
-      (met-cases ms₀ p p e)
+      (λ h. walked_none (start_met w ms₀ p inside L.marked h) L.marked (used_none n ms₀ hs₀ ps₀))
+      (met_cases ms₀ p p e)
 
   pub recording_start : {d : Dart} → Starts w p d → Recording c n p ms₀ hs₀ ps₀ ms₀ hs₀ ps₀ d 0 true
   unfolding dart it
@@ -179,9 +179,9 @@ module _ {c : Cell} {t : List ℕ} {n p : ℕ} {ms₀ hs₀ ps₀ : List ℕ} (L
     walking = walking_start w p inside;
     is_dart = D.dart;
     is = D.is;
-    told = sym (clean-none w p);
+    told = sym (clean_none w p);
     marked = L.marked;
-    used = used-none n ms₀ hs₀ ps₀;
+    used = used_none n ms₀ hs₀ ps₀;
     halves_are = sym (run_none w (half_edge w) p);
     points_are = sym (run_none w (point_of c) p);
   }
@@ -198,7 +198,7 @@ module _ {c : Cell} {t : List ℕ} {n p : ℕ} {ms₀ hs₀ ps₀ : List ℕ} (L
     point = get_or t (9 * h + 4) 0 + d.index
 
     pub recording_point : point < 2 * start_limit
-    recording_point = omega (arith, start-at R h G.is_dart.half_lt, start-near R h G.is_dart.half_lt, fits R h G.is_dart.half_lt d.index G.is_dart.index-lt)
+    recording_point = omega (arith, start_at R h G.is_dart.half_lt, start_near R h G.is_dart.half_lt, fits R h G.is_dart.half_lt d.index G.is_dart.index_lt)
 
     pub recording_ready : Ready c t d
     recording_ready = record { routed = R; dart = G.is_dart }
@@ -207,21 +207,21 @@ module _ {c : Cell} {t : List ℕ} {n p : ℕ} {ms₀ hs₀ ps₀ : List ℕ} (L
     room = omega (arith, walking_room G.walking, L.all)
 
     pub recording_long : (k < n) × (k < length hs) × (k < length ps)
-    recording_long = (room, omega (arith, room, G.used.halves_kept.long, L.halves_long), omega (arith, room, G.used.points_kept.long, L.points-long))
+    recording_long = (room, omega (arith, room, G.used.halves_kept.long, L.halves_long), omega (arith, room, G.used.points_kept.long, L.points_long))
 
-    used-more : {ms' : List ℕ} → Kept n ms₀ ms' → Used n ms₀ hs₀ ps₀ ms' (set hs k h) (set ps k point)
-    used-more K = record { marks-kept = K; halves_kept = kept_set G.used.halves_kept k h room; points_kept = kept_set G.used.points_kept k point room }
+    used_more : {ms' : List ℕ} → Kept n ms₀ ms' → Used n ms₀ hs₀ ps₀ ms' (set hs k h) (set ps k point)
+    used_more K = record { marks_kept = K; halves_kept = kept_set G.used.halves_kept k h room; points_kept = kept_set G.used.points_kept k point room }
 
     halves_more : take (k + 1) (set hs k h) ≡ run w (half_edge w) p (k + 1)
-    halves_more = rw (run_more w (half_edge w) p k, ← G.is, parts-half G.is_dart) (take_more hs k h recording_long.1 G.halves_are)
+    halves_more = rw (run_more w (half_edge w) p k, ← G.is, parts_half G.is_dart) (take_more hs k h recording_long.1 G.halves_are)
 
-    points-more : take (k + 1) (set ps k point) ≡ run w (point_of c) p (k + 1)
-    points-more =
-        rw (run_more w (point_of c) p k, ← G.is, parts-point G.is_dart, ← start-at R h G.is_dart.half_lt)
+    points_more : take (k + 1) (set ps k point) ≡ run w (point_of c) p (k + 1)
+    points_more =
+        rw (run_more w (point_of c) p k, ← G.is, parts_point G.is_dart, ← start_at R h G.is_dart.half_lt)
         (take_more ps k point recording_long.2 G.points_are)
 
     none : loop_size w p ≡ 0 → Walked c n p ms₀ hs₀ ps₀ 0 true ms (set hs k h) (set ps k point)
-    none z = walked_none z G.marked (used-more G.used.marks-kept)
+    none z = walked_none z G.marked (used_more G.used.marks_kept)
 
     -- the curve ends
     pub recording_end : step w (dart_of d) ≡ 2 * crossings w → Walked c n p ms₀ hs₀ ps₀ 0 true ms (set hs k h) (set ps k point)
@@ -230,7 +230,7 @@ module _ {c : Cell} {t : List ℕ} {n p : ℕ} {ms₀ hs₀ ps₀ : List ℕ} (L
     -- or goes on at dart e
     module _ {e : Dart} {a : Bool} (S : Leads w d e a) where
       told_more : {r : Bool} → r ≡ (not a && b) → r ≡ clean w p (k + 1)
-      told_more q = q ∙ ap₂ (λ x y. not x && y) (sym S.told ∙ ap (folded w) G.is) G.told ∙ sym (clean-more w p k)
+      told_more q = q ∙ ap₂ (λ x y. not x && y) (sym S.told ∙ ap (folded w) G.is) G.told ∙ sym (clean_more w p k)
 
       abbrev y : ℕ
       y = step w (dart w p k)
@@ -239,43 +239,43 @@ module _ {c : Cell} {t : List ℕ} {n p : ℕ} {ms₀ hs₀ ps₀ : List ℕ} (L
       here = ap (step w) (sym G.is) ∙ S.is
 
       on : y < 2 * crossings w
-      on = rw here (parts-lt S.to)
+      on = rw here (parts_lt S.to)
 
       half_is : y / 2 ≡ e.number
-      half_is = ap (λ n. n / 2) here ∙ number-half e.half e.number
+      half_is = ap (λ n. n / 2) here ∙ number_half e.half e.number
 
       pub recording_lt : (e.number < length ms) × (e.number < most_in_cell)
-      recording_lt = (omega (arith, parts-number w S.to, G.marked.long), omega (arith, parts-number w S.to, R.few))
+      recording_lt = (omega (arith, parts_number w S.to, G.marked.long), omega (arith, parts_number w S.to, R.few))
 
       pub recording_home : {r : Bool} → r ≡ (not a && b) → e.number ≡ p → Walked c n p ms₀ hs₀ ps₀ (k + 1) r ms (set hs k h) (set ps k point)
       unfolding halves_from points_from
       recording_home q f =
           let z = walking_home G.walking on (half_is ∙ f) in
-          let U = used-more G.used.marks-kept in
+          let U = used_more G.used.marks_kept in
           record {
             marked = G.marked;
-            marks-kept = U.marks-kept;
+            marks_kept = U.marks_kept;
             halves_kept = U.halves_kept;
             points_kept = U.points_kept;
             size = sym z;
-            told = told_more q ∙ sym (clean-loop w p (k + 1) z);
-            halves_are = halves_more ∙ sym (run-loop w (half_edge w) p (k + 1) z);
-            points_are = points-more ∙ sym (run-loop w (point_of c) p (k + 1) z);
+            told = told_more q ∙ sym (clean_loop w p (k + 1) z);
+            halves_are = halves_more ∙ sym (run_loop w (half_edge w) p (k + 1) z);
+            points_are = points_more ∙ sym (run_loop w (point_of c) p (k + 1) z);
           }
 
       pub recording_met : is_met ms p e.number ≡ true → Walked c n p ms₀ hs₀ ps₀ 0 true ms (set hs k h) (set ps k point)
       recording_met f =
           ⊎_elim (λ f. none (walking_low G.walking on (rw half_is f))) (λ f. none (walking_met G.walking on G.marked (rw half_is f)))
-          (met-cases ms p e.number f)
+          (met_cases ms p e.number f)
 
       pub recording_on : {r : Bool} → r ≡ (not a && b) → p < e.number → Recording c n p ms₀ hs₀ ps₀ (set ms e.number p) (set hs k h) (set ps k point) e (k + 1) r
       recording_on q f = record {
         walking = walking_on G.walking on (rw half_is f);
         is_dart = S.to;
-        is = sym (dart-next w p k ∙ here);
+        is = sym (dart_next w p k ∙ here);
         told = told_more q;
         marked = rw half_is at (walking_mark G.walking on G.marked);
-        used = used-more (kept_set G.used.marks-kept e.number p (omega (arith, parts-number w S.to, L.all)));
+        used = used_more (kept_set G.used.marks_kept e.number p (omega (arith, parts_number w S.to, L.all)));
         halves_are = halves_more;
-        points_are = points-more;
+        points_are = points_more;
       }

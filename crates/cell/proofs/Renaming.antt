@@ -12,15 +12,15 @@ use lib.ListN.{get_or}
 use borrow.Author.Tests.{lt-ltb, le-ltb, eq-eqb, ne_eqb}
 use Rattle.counting.specs.Pick.{pick}
 use Rattle.counting.specs.Lists.{one, total, after}
-use Rattle.counting.proofs.Range.{total_ext, over_ext, after-lt}
-use Rattle.counting.proofs.Lists.{map-over}
+use Rattle.counting.proofs.Range.{total_ext, over_ext, after_lt}
+use Rattle.counting.proofs.Lists.{map_over}
 use Rattle.slots.specs.Slots.{slot_edge}
 use Rattle.slots.specs.claims.Claims.{EdgeSlot}
 use Rattle.slots.proofs.Slots.{slot-edge}
 use Rattle.walk.specs.Step as walk
 use Rattle.walk.proofs.Found.{it_ext, size_ext}
 use Rattle.manifold.specs.Shape.{shape_of, triangles_of}
-use Rattle.manifold.proofs.Shapes.{fits, triangles_ext, map-triangles}
+use Rattle.manifold.proofs.Shapes.{fits, triangles_ext, map_triangles}
 use Rattle.cell.specs.declared.Cell.{Cell}
 use Rattle.cell.specs.declared.Corner.TheVariants.{Crossing, Middle}
 use Rattle.cell.specs.declared.Side.TheVariants.{Segment, Inner}
@@ -33,9 +33,9 @@ use Rattle.cell.specs.Renaming.{Renaming, renamed_corner, renamed_side, renamed}
 use Rattle.cell.specs.claims.Renaming.{RenamedCell, CellsRenamed}
 use Rattle.cell.proofs.Lay.{lay}
 use Rattle.cell.proofs.Step.{step_is}
-use Rattle.cell.proofs.Mates.{mate-joined, mate-unjoined, joined-edge, joined-index, mate-cases, slot_has}
-use Rattle.cell.proofs.Loops.{dart-live, tally-darts}
-use Rattle.cell.proofs.Taken.{dart-leads}
+use Rattle.cell.proofs.Mates.{mate_joined, mate_unjoined, joined_edge, joined_index, mate_cases, slot_has}
+use Rattle.cell.proofs.Loops.{dart_live, tally_darts}
+use Rattle.cell.proofs.Taken.{dart_leads}
 
 -- numbers in the same order, by their tests
 orders : (x y u z : ℕ) → (x < y → u < z) → (y < x → z < u) → (x ≡ y → u ≡ z) → (ltb x y ≡ ltb u z) × (eqb x y ≡ eqb u z)
@@ -49,8 +49,8 @@ orders x y u z f g h =
     ]
 
 -- a map that keeps the order of two numbers keeps their lower one
-min-kept : (f : ℕ → ℕ) (g h : ℕ) → (g ≤ h → f g ≤ f h) → (h ≤ g → f h ≤ f g) → f (min g h) ≡ min (f g) (f h)
-min-kept f g h p q =
+min_kept : (f : ℕ → ℕ) (g h : ℕ) → (g ≤ h → f g ≤ f h) → (h ≤ g → f h ≤ f g) → f (min g h) ≡ min (f g) (f h)
+min_kept f g h p q =
     elim (dec_lt g h) [
       | yes l ↦ (let e : min g h ≡ g = omega arith in ap f e ∙ omega (arith, p (omega arith)))
       | no l ↦ (let e : min g h ≡ h = omega arith in ap f e ∙ omega (arith, q (omega arith)))
@@ -74,9 +74,9 @@ module _ (r : Renaming) (a b : Cell) (R : RenamedCell r a b) where
   N = crossings v
 
   -- of two edges with crossings the same is laid first
-  ahead-same : (j k : ℕ) → j < 6 → k < 6 → 0 < n j → 0 < n k → ahead v k j ≡ ahead w k j
+  ahead_same : (j k : ℕ) → j < 6 → k < 6 → 0 < n j → 0 < n k → ahead v k j ≡ ahead w k j
   unfolding ahead
-  ahead-same j k lj lk pj pk =
+  ahead_same j k lj lk pj pk =
       let q = orders (start_of a j) (start_of a k) (start_of b j) (start_of b k)
       (λ l. omega (arith, R.order j k 0 0 lj lk pj pk (omega arith), R.starts j 0 lj pj, R.starts k 0 lk pk))
       (λ l. omega (arith, R.order k j 0 0 lk lj pk pj (omega arith), R.starts j 0 lj pj, R.starts k 0 lk pk))
@@ -87,7 +87,7 @@ module _ (r : Renaming) (a b : Cell) (R : RenamedCell r a b) where
   unfolding base
   base_same k l h =
       total_ext (λ j. pick (ahead v k j) (n j) 0) (λ j. pick (ahead w k j) (n j) 0) 6 0
-      (λ j _ lj. ⊎_elim (λ (e : n j ≡ 0). rw e (none (ahead v k j) ∙ sym (none (ahead w k j)))) (λ (q : 0 < n j). ap (λ x. pick x (n j) 0) (ahead-same j k (omega arith) l q h))
+      (λ j _ lj. ⊎_elim (λ (e : n j ≡ 0). rw e (none (ahead v k j) ∙ sym (none (ahead w k j)))) (λ (q : 0 < n j). ap (λ x. pick x (n j) 0) (ahead_same j k (omega arith) l q h))
       (eq-zero-or-pos (n j)))
     where
       none : (x : Bool) → ◌≡◌ {A = ℕ} (pick x 0 0) 0
@@ -97,40 +97,40 @@ module _ (r : Renaming) (a b : Cell) (R : RenamedCell r a b) where
   -- so the crossings are numbered alike
   module _ (x : ℕ) (l : x < N) where
     at : x ≡ number w (edge v x) (index v x)
-    at = sym ((lay v).back x l) ∙ ap (λ k. k + index v x) (base_same (edge v x) ((lay v).edge-lt x l) (omega (arith, (lay v).index-lt x l)))
+    at = sym ((lay v).back x l) ∙ ap (λ k. k + index v x) (base_same (edge v x) ((lay v).edge_lt x l) (omega (arith, (lay v).index_lt x l)))
 
     edge_same : edge v x ≡ edge w x
-    edge_same = sym (ap (edge w) at ∙ (lay w).number-edge (edge v x) (index v x) ((lay v).edge-lt x l) ((lay v).index-lt x l))
+    edge_same = sym (ap (edge w) at ∙ (lay w).number_edge (edge v x) (index v x) ((lay v).edge_lt x l) ((lay v).index_lt x l))
 
     index_same : index v x ≡ index w x
-    index_same = sym (ap (index w) at ∙ (lay w).number-index (edge v x) (index v x) ((lay v).edge-lt x l) ((lay v).index-lt x l))
+    index_same = sym (ap (index w) at ∙ (lay w).number_index (edge v x) (index v x) ((lay v).edge_lt x l) ((lay v).index_lt x l))
 
-    answer-same : (f : ℕ) → answer_at w f x ≡ answer_at v f x
+    answer_same : (f : ℕ) → answer_at w f x ≡ answer_at v f x
     unfolding answer_at
-    answer-same f = rw (edge_same, index_same)
+    answer_same f = rw (edge_same, index_same)
 
-    join-same : (f : ℕ) → join_at w f x ≡ join_at v f x
+    join_same : (f : ℕ) → join_at w f x ≡ join_at v f x
     unfolding join_at
-    join-same f = rw (edge_same, index_same)
+    join_same f = rw (edge_same, index_same)
 
-    mate-same : (f : ℕ) → EdgeSlot (edge v x) f → mate v f x ≡ mate w f x
-    mate-same f S =
+    mate_same : (f : ℕ) → EdgeSlot (edge v x) f → mate v f x ≡ mate w f x
+    mate_same f S =
         ⊎_elim
-        (λ q. let k = (slot-edge f q.0 S.lt (joined-edge v f x q.2)).lt in
-        mate-joined v f x q.2 ∙ ap (λ k. k + q.1) (base_same (slot_edge f q.0) k (omega (arith, joined-index v f x q.2)))
-        ∙ sym (mate-joined w f x (join-same f ∙ q.2)))
-        (λ q. mate-unjoined v f x q ∙ sym (mate-unjoined w f x (join-same f ∙ q))) (mate-cases v f x l S)
+        (λ q. let k = (slot-edge f q.0 S.lt (joined_edge v f x q.2)).lt in
+        mate_joined v f x q.2 ∙ ap (λ k. k + q.1) (base_same (slot_edge f q.0) k (omega (arith, joined_index v f x q.2)))
+        ∙ sym (mate_joined w f x (join_same f ∙ q.2)))
+        (λ q. mate_unjoined v f x q ∙ sym (mate_unjoined w f x (join_same f ∙ q))) (mate_cases v f x l S)
 
-    number-renamed : r.crossing (number_of a x) ≡ number_of b' x
+    number_renamed : r.crossing (number_of a x) ≡ number_of b' x
     unfolding number_of in_grid
-    number-renamed = R.starts (edge v x) (index v x) ((lay v).edge-lt x l) ((lay v).index-lt x l) ∙ ap₂ (λ k i. start_of b k + i) edge_same index_same
+    number_renamed = R.starts (edge v x) (index v x) ((lay v).edge_lt x l) ((lay v).index_lt x l) ∙ ap₂ (λ k i. start_of b k + i) edge_same index_same
 
-  order-kept : (x y : ℕ) → x < N → y < N → number_of a x ≤ number_of a y → r.crossing (number_of a x) ≤ r.crossing (number_of a y)
+  order_kept : (x y : ℕ) → x < N → y < N → number_of a x ≤ number_of a y → r.crossing (number_of a x) ≤ r.crossing (number_of a y)
   unfolding number_of in_grid
-  order-kept x y lx ly h =
+  order_kept x y lx ly h =
       ⊎_elim (λ (e : number_of a x ≡ number_of a y). omega (arith, ap r.crossing e))
       (λ (q : number_of a x < number_of a y).
-      omega (arith, R.order (edge v x) (edge v y) (index v x) (index v y) ((lay v).edge-lt x lx) ((lay v).edge-lt y ly) ((lay v).index-lt x lx) ((lay v).index-lt y ly) q))
+      omega (arith, R.order (edge v x) (edge v y) (index v x) (index v y) ((lay v).edge_lt x lx) ((lay v).edge_lt y ly) ((lay v).index_lt x lx) ((lay v).index_lt y ly) q))
       (eq-or-lt_of_le h)
 
   -- the walks are the same
@@ -140,7 +140,7 @@ module _ (r : Renaming) (a b : Cell) (R : RenamedCell r a b) where
     slot_same = rw (edge_same (d / 2) (omega arith))
 
     onward : mate v (slot v d) (d / 2) ≡ mate w (slot w d) (d / 2)
-    onward = mate-same (d / 2) (omega arith) (slot v d) (slot_has v d l) ∙ ap (λ f. mate w f (d / 2)) slot_same
+    onward = mate_same (d / 2) (omega arith) (slot v d) (slot_has v d l) ∙ ap (λ f. mate w f (d / 2)) slot_same
 
     step_same : step v d ≡ step w d
     unfolding walk.land
@@ -157,8 +157,8 @@ module _ (r : Renaming) (a b : Cell) (R : RenamedCell r a b) where
         let y = mate v (slot v d) x in
         let lx : x < N = omega arith in
         ap₂ Segment (R.names (slot v d) (slot_has v d l).lt ∙ ap (λ f. get_or b.names f 0) slot_same)
-        (min-kept r.crossing (number_of a x) (number_of a y) (order-kept x y lx ly) (order-kept y x ly lx)
-        ∙ ap₂ min (number-renamed x lx) (number-renamed y ly ∙ ap (number_of b') onward))
+        (min_kept r.crossing (number_of a x) (number_of a y) (order_kept x y lx ly) (order_kept y x ly lx)
+        ∙ ap₂ min (number_renamed x lx) (number_renamed y ly ∙ ap (number_of b') onward))
 
   module _ (p : ℕ) (l : p < N) where
     abbrev m : ℕ
@@ -168,54 +168,54 @@ module _ (r : Renaming) (a b : Cell) (R : RenamedCell r a b) where
     unfolding loop_size
     size_same = size_ext N (step v) (step w) step_same p l
 
-    dart-same : (k : ℕ) → k < m → dart v p k ≡ dart w p k
+    dart_same : (k : ℕ) → k < m → dart v p k ≡ dart w p k
     unfolding dart
-    dart-same k h = it_ext N (step v) (step w) step_same k (2 * p) (λ i q. dart-live v p l i (omega arith))
+    dart_same k h = it_ext N (step v) (step w) step_same k (2 * p) (λ i q. dart_live v p l i (omega arith))
 
-    next-live : (k : ℕ) → k < m → dart v p (after m k) < 2 * N
-    next-live k h = dart-live v p l (after m k) (after-lt m k h)
+    next_live : (k : ℕ) → k < m → dart v p (after m k) < 2 * N
+    next_live k h = dart_live v p l (after m k) (after_lt m k h)
 
-    folded-same : (k : ℕ) → k < m → folded v (dart v p k) ≡ folded w (dart w p k)
+    folded_same : (k : ℕ) → k < m → folded v (dart v p k) ≡ folded w (dart w p k)
     unfolding folded
-    folded-same k h =
+    folded_same k h =
         let d = dart v p k in
-        let ld = dart-live v p l k h in
-        ap is_along (sym (answer-same (d / 2) (omega arith) (slot v d)) ∙ ap (λ f. answer_at w f (d / 2)) (slot_same d ld))
-        ∙ ap (λ e. is_along (answer_at w (slot w e) (e / 2))) (dart-same k h)
+        let ld = dart_live v p l k h in
+        ap is_along (sym (answer_same (d / 2) (omega arith) (slot v d)) ∙ ap (λ f. answer_at w f (d / 2)) (slot_same d ld))
+        ∙ ap (λ e. is_along (answer_at w (slot w e) (e / 2))) (dart_same k h)
 
-    normal-same : normal v p ≡ normal w p
+    normal_same : normal v p ≡ normal w p
     unfolding normal
-    normal-same =
+    normal_same =
         ap (λ i. eqb i 0)
-        (tally-darts v p l (folded v)
-        ∙ total_ext (λ k. one (folded v (dart v p k))) (λ k. one (folded w (dart w p k))) m 0 (λ k _ q. ap one (folded-same k (omega arith)))
-        ∙ ap (λ i. total (λ k. one (folded w (dart w p k))) i 0) size_same ∙ sym (tally-darts w p l (folded w)))
+        (tally_darts v p l (folded v)
+        ∙ total_ext (λ k. one (folded v (dart v p k))) (λ k. one (folded w (dart w p k))) m 0 (λ k _ q. ap one (folded_same k (omega arith)))
+        ∙ ap (λ i. total (λ k. one (folded w (dart w p k))) i 0) size_same ∙ sym (tally_darts w p l (folded w)))
 
-    point-renamed : (k : ℕ) → k < m → renamed_corner r (point a p k) ≡ point b' p k
+    point_renamed : (k : ℕ) → k < m → renamed_corner r (point a p k) ≡ point b' p k
     unfolding point
-    point-renamed k h =
-        ap Crossing (number-renamed (dart v p k / 2) (omega (arith, dart-live v p l k h)) ∙ ap (λ d. number_of b' (d / 2)) (dart-same k h))
+    point_renamed k h =
+        ap Crossing (number_renamed (dart v p k / 2) (omega (arith, dart_live v p l k h)) ∙ ap (λ d. number_of b' (d / 2)) (dart_same k h))
 
-    segment-renamed : (k : ℕ) → k < m → renamed_side r (segment a p k) ≡ segment b' p k
+    segment_renamed : (k : ℕ) → k < m → renamed_side r (segment a p k) ≡ segment b' p k
     unfolding segment
-    segment-renamed k h =
-        along (dart v p k) (dart-live v p l k h) (omega (arith, dart-leads a p l k h, next-live k h)) ∙ ap (segment_of b') (dart-same k h)
+    segment_renamed k h =
+        along (dart v p k) (dart_live v p l k h) (omega (arith, dart_leads a p l k h, next_live k h)) ∙ ap (segment_of b') (dart_same k h)
 
-    loop-renamed : map (renamed r) (loop_triangles a p) ≡ loop_triangles b' p
+    loop_renamed : map (renamed r) (loop_triangles a p) ≡ loop_triangles b' p
     unfolding loop_triangles triangle
-    loop-renamed =
+    loop_renamed =
         let i = r.cell a.index in
         let g = r.crossing (number_of a p) in
-        map-triangles (triangle a.index (number_of a p)) (point a p) Middle (segment a p) Inner m
+        map_triangles (triangle a.index (number_of a p)) (point a p) Middle (segment a p) Inner m
         (renamed r) (renamed_corner r) (renamed_side r) (triangle i g) (λ x y z r s t. refl) (shape_of m (normal v p))
         ∙ triangles_ext (triangle i g) (λ k. renamed_corner r (point a p k)) Middle (λ k. renamed_side r (segment a p k)) Inner m
-        (triangle b.index (number_of b' p)) (point b' p) (segment b' p) (λ _. ap₂ triangle R.index (number-renamed p l)) point-renamed segment-renamed
+        (triangle b.index (number_of b' p)) (point b' p) (segment b' p) (λ _. ap₂ triangle R.index (number_renamed p l)) point_renamed segment_renamed
         (shape_of m (normal v p)) (fits m (normal v p))
-        ∙ ap₂ (λ m q. triangles_of (triangle b.index (number_of b' p)) (point b' p) Middle (segment b' p) Inner m (shape_of m q)) size_same normal-same
+        ∙ ap₂ (λ m q. triangles_of (triangle b.index (number_of b' p)) (point b' p) Middle (segment b' p) Inner m (shape_of m q)) size_same normal_same
 
-pub cells-renamed : CellsRenamed
+pub cells_renamed : CellsRenamed
 unfolding cell_triangles
-cells-renamed r a b R =
-    map-over (renamed r) (loop_triangles a) (crossings (edges_of a)) 0
-    ∙ over_ext (λ p. map (renamed r) (loop_triangles a p)) (loop_triangles (b' r a b R)) (crossings (edges_of a)) 0 (λ p _ h. loop-renamed r a b R p (omega arith))
+cells_renamed r a b R =
+    map_over (renamed r) (loop_triangles a) (crossings (edges_of a)) 0
+    ∙ over_ext (λ p. map (renamed r) (loop_triangles a p)) (loop_triangles (b' r a b R)) (crossings (edges_of a)) 0 (λ p _ h. loop_renamed r a b R p (omega arith))
     ∙ ap (λ l. cell_triangles (record { counts = l; starts = b.starts; names = b.names; nodes = b.nodes; index = b.index })) R.counts

@@ -15,17 +15,17 @@ use borrow.Author.Tests.{eqb-true, eq-eqb, ne_eqb, le-ltb}
 use Rattle.counting.specs.Pick.{pick}
 use Rattle.counting.specs.Lists.{total, pre}
 use Rattle.counting.specs.Search.{every}
-use Rattle.counting.proofs.Range.{total-next}
-use Rattle.counting.proofs.Search.{every-is}
+use Rattle.counting.proofs.Range.{total_next}
+use Rattle.counting.proofs.Search.{every_is}
 use Rattle.counting.proofs.Stores.{get_d_sets_in, get_d_sets_out}
-use Rattle.counting.proofs.Pack.{pre-next, pre-most}
+use Rattle.counting.proofs.Pack.{pre_next, pre_most}
 use Rattle.slots.specs.Limits.{most_count}
 use Rattle.slots.specs.Slots.{slot_edge, first_slot, lower, upper}
 use Rattle.face.specs.Face.{other}
 use Rattle.face.specs.work.Corners.{corners}
 use Rattle.face.specs.claims.Ends.{low, high}
 use Rattle.face.proofs.Ends.{edge-of}
-use Rattle.face.proofs.Gaps.{corner-node}
+use Rattle.face.proofs.Gaps.{corner_node}
 use Rattle.cell.specs.declared.Cell.{Cell}
 use Rattle.cell.specs.declared.Run.{Run}
 use Rattle.cell.specs.Cell.{Edges, ahead, base, number}
@@ -34,8 +34,8 @@ use Rattle.cell.specs.work.Half.{half_edges, half_of, twin, around}
 use Rattle.cell.specs.claims.Half.{rank_of, edge_of}
 use Rattle.cell.specs.work.Route.{columns, low_column, high_column, count_column, first_column, start_column, round_low_column, round_high_column, twin_column, rank_column, half_corner, front, fronts, links, IsRun, SlotRuns, Routed}
 use Rattle.cell.specs.work.Limits.{most_in_cell, start_limit}
-use Rattle.cell.proofs.Lay.{base-all, laid_same}
-use Rattle.cell.proofs.Half.{edge-lt, half-slot, half_place, half-edge, first-half}
+use Rattle.cell.proofs.Lay.{base_all, laid_same}
+use Rattle.cell.proofs.Half.{edge_lt, half-slot, half_place, half-edge, first_half}
 
 length_front : (w : Edges) (h : ℕ) → length (front w h) ≡ 5
 unfolding front
@@ -51,22 +51,22 @@ front_at w s j l k e =
       half_place s j l,
       half-edge s j l,
       e,
-      corner-node (w.count (slot_edge s 0)) (w.count (slot_edge s 1)) (w.count (slot_edge s 2)) (low (edge-of j l)),
-      corner-node (w.count (slot_edge s 0)) (w.count (slot_edge s 1)) (w.count (slot_edge s 2)) (high (edge-of j l)),
+      corner_node (w.count (slot_edge s 0)) (w.count (slot_edge s 1)) (w.count (slot_edge s 2)) (low (edge-of j l)),
+      corner_node (w.count (slot_edge s 0)) (w.count (slot_edge s 1)) (w.count (slot_edge s 2)) (high (edge-of j l)),
     ) refl
 
 -- the half-edges of a slot are written one after the other
-pub slot-fronts : {c : Cell} {s : ℕ} {x y z : Run} → SlotRuns c s x y z → (l m n o : List ℕ) {a b d a' b' d' : ℕ} → a ≡ a' → b ≡ b' → d ≡ d'
+pub slot_fronts : {c : Cell} {s : ℕ} {x y z : Run} → SlotRuns c s x y z → (l m n o : List ℕ) {a b d a' b' d' : ℕ} → a ≡ a' → b ≡ b' → d ≡ d'
     → a' ∷ b' ∷ d' ∷ [] ≡ corners x.count y.count z.count
     → m ≡ sets l (9 * (3 * s)) (a ∷ b ∷ x.count ∷ x.first ∷ x.start ∷ [])
     → n ≡ sets m (9 * (3 * s + 1)) (a ∷ d ∷ y.count ∷ y.first ∷ y.start ∷ [])
     → o ≡ sets n (9 * (3 * s + 2)) (b ∷ d ∷ z.count ∷ z.first ∷ z.start ∷ [])
     → o ≡ fronts (edges_of c) s l
 unfolding fronts lower upper
-slot-fronts {c} {s} {x} {y} {z} R l m n o {a} {b} {d} ea eb ed k em en eo =
+slot_fronts {c} {s} {x} {y} {z} R l m n o {a} {b} {d} ea eb ed k em en eo =
     let w = edges_of c in
     let K : a ∷ b ∷ d ∷ [] ≡ corners (w.count (slot_edge s 0)) (w.count (slot_edge s 1)) (w.count (slot_edge s 2)) =
-    rw (ea, eb, ed, k, R.of-ab.count-is, R.of-ac.count-is, R.of-bc.count-is) refl in
+    rw (ea, eb, ed, k, R.of_ab.count_is, R.of_ac.count_is, R.of_bc.count_is) refl in
     let e : 3 * s + 0 ≡ 3 * s = omega arith in
     let A : front w (3 * s) ≡ a ∷ b ∷ x.count ∷ x.first ∷ x.start ∷ [] = rw e at (front_at w s 0 (omega arith) (a ∷ b ∷ d ∷ []) K) ∙ cc in
     let B : front w (3 * s + 1) ≡ a ∷ d ∷ y.count ∷ y.first ∷ y.start ∷ [] = front_at w s 1 (omega arith) (a ∷ b ∷ d ∷ []) K ∙ cc in
@@ -74,13 +74,13 @@ slot-fronts {c} {s} {x} {y} {z} R l m n o {a} {b} {d} ea eb ed k em en eo =
     rw (A, B, D) (eo ∙ ap (λ t. sets t (9 * (3 * s + 2)) (b ∷ d ∷ z.count ∷ z.first ∷ z.start ∷ [])) (en ∙ ap (λ t. sets t (9 * (3 * s + 1)) (a ∷ d ∷ y.count ∷ y.first ∷ y.start ∷ [])) em))
 
 -- which of two edges is laid first
-pub ahead-same : (w : Edges) (k j : ℕ) → w.start j ≡ w.start k → ltb j k ≡ ahead w k j
+pub ahead_same : (w : Edges) (k j : ℕ) → w.start j ≡ w.start k → ltb j k ≡ ahead w k j
 unfolding ahead
-ahead-same w k j e = rw (e, le-ltb (w.start k) (w.start k) (omega arith), eq-eqb (w.start k) (w.start k) refl)
+ahead_same w k j e = rw (e, le-ltb (w.start k) (w.start k) (omega arith), eq-eqb (w.start k) (w.start k) refl)
 
-pub ahead-other : (w : Edges) (k j : ℕ) → w.start j ≢ w.start k → ltb (w.start j) (w.start k) ≡ ahead w k j
+pub ahead_other : (w : Edges) (k j : ℕ) → w.start j ≢ w.start k → ltb (w.start j) (w.start k) ≡ ahead w k j
 unfolding ahead
-ahead-other w k j n = rw (ne_eqb (w.start j) (w.start k) n) (sym (or_none (ltb (w.start j) (w.start k))))
+ahead_other w k j n = rw (ne_eqb (w.start j) (w.start k) n) (sym (or_none (ltb (w.start j) (w.start k))))
   where
     or_none : (b : Bool) → (b || false) ≡ b
     or_none true = refl
@@ -96,47 +96,47 @@ pub record SumBefore (w : Edges) (k j n : ℕ) : Type 0 where
   pub few : n ≤ most_count * j
 
 module _ {w : Edges} where
-  pub sum-none : Sum w 0 0
+  pub sum_none : Sum w 0 0
   unfolding pre total
-  sum-none = record { is = refl; few = omega arith }
+  sum_none = record { is = refl; few = omega arith }
 
   pub sum_more : {j n : ℕ} → Sum w j n → (m : ℕ) → (m ≡ w.count j) × (m ≤ most_count) → Sum w (j + 1) (n + m)
-  sum_more {j} {n} S m e = record { is = rw add-one (omega (arith, S.is, e.0, pre-next w.count 0 j)); few = omega (arith, S.few, e.1) }
+  sum_more {j} {n} S m e = record { is = rw add-one (omega (arith, S.is, e.0, pre_next w.count 0 j)); few = omega (arith, S.few, e.1) }
 
   pub sum_first : (m : ℕ) → (m ≡ w.count 0) × (m ≤ most_count) → Sum w 1 m
-  sum_first m e = let z : 0 + m ≡ m = omega arith in rw z at (sum_more sum-none m e)
+  sum_first m e = let z : 0 + m ≡ m = omega arith in rw z at (sum_more sum_none m e)
 
-  pub before-none : (k : ℕ) → SumBefore w k 0 0
+  pub before_none : (k : ℕ) → SumBefore w k 0 0
   unfolding total
-  before-none k = record { is = refl; few = omega arith }
+  before_none k = record { is = refl; few = omega arith }
 
   module _ {k j n : ℕ} (S : SumBefore w k j n) where
     pub before_more : ahead w k j ≡ true → (m : ℕ) → (m ≡ w.count j) × (m ≤ most_count) → SumBefore w k (j + 1) (n + m)
     before_more a m e = record {
-      is = omega (arith, S.is, e.0, total-next (λ i. pick (ahead w k i) (w.count i) 0) j, ap (λ b. pick b (w.count j) 0) a);
+      is = omega (arith, S.is, e.0, total_next (λ i. pick (ahead w k i) (w.count i) 0) j, ap (λ b. pick b (w.count j) 0) a);
       few = omega (arith, S.few, e.1);
     }
 
     pub before_skip : ahead w k j ≡ false → SumBefore w k (j + 1) n
     before_skip a = record {
-      is = omega (arith, S.is, total-next (λ i. pick (ahead w k i) (w.count i) 0) j, ap (λ b. pick b (w.count j) 0) a);
+      is = omega (arith, S.is, total_next (λ i. pick (ahead w k i) (w.count i) 0) j, ap (λ b. pick b (w.count j) 0) a);
       few = omega (arith, S.few);
     }
 
-    pub before-all : 6 ≤ j → j ≤ 6 → n ≡ base w k
+    pub before_all : 6 ≤ j → j ≤ 6 → n ≡ base w k
     unfolding base
-    before-all a b = S.is ∙ ap (λ m. total (λ i. pick (ahead w k i) (w.count i) 0) m 0) (omega arith)
+    before_all a b = S.is ∙ ap (λ m. total (λ i. pick (ahead w k i) (w.count i) 0) m 0) (omega arith)
 
 -- the start of an edge is of 16 bits
 start_small : {c : Cell} {e : ℕ} {x : Run} → IsRun c e x → start_of c e < start_limit
 start_small R = rw R.start_is at R.near
 
 -- the count of an edge is at most the limit, and the listed one where that is
-pub count-few : (c : Cell) (e : ℕ) → count_of c e ≤ most_count
-count-few c e = omega arith
+pub count_few : (c : Cell) (e : ℕ) → count_of c e ≤ most_count
+count_few c e = omega arith
 
-pub count-listed : (c : Cell) (e : ℕ) → get_or c.counts e 0 ≤ most_count → count_of c e ≡ get_or c.counts e 0
-count-listed c e h = omega arith
+pub count_listed : (c : Cell) (e : ℕ) → get_or c.counts e 0 ≤ most_count → count_of c e ≡ get_or c.counts e 0
+count_listed c e h = omega arith
 
 -- the first n half-edges have their numbers in t, and all have their links
 pub record Written (c : Cell) (n : ℕ) (t : List ℕ) : Type 0 where
@@ -162,17 +162,17 @@ written_one {c} {n} {t} W l S = record {
     five : length v ≡ 5
     five = length_front (edges_of c) n
 
-pub written-slot : {c : Cell} {t : List ℕ} {s : ℕ} {x y z : Run} → Written c (3 * s) t → s < 4 → SlotRuns c s x y z → (u : List ℕ) → u ≡ fronts (edges_of c) s t
+pub written_slot : {c : Cell} {t : List ℕ} {s : ℕ} {x y z : Run} → Written c (3 * s) t → s < 4 → SlotRuns c s x y z → (u : List ℕ) → u ≡ fronts (edges_of c) s t
     → Written c (3 * (s + 1)) u
 unfolding fronts
-written-slot {c} {t} {s} W l R u e =
+written_slot {c} {t} {s} W l R u e =
     let p : 3 * s + 1 + 1 ≡ 3 * s + 2 = omega arith in
     let q : 3 * s + 2 + 1 ≡ 3 * (s + 1) = omega arith in
     let z : 3 * s + 0 ≡ 3 * s = omega arith in
     let k = half-edge s 0 (omega arith) in
-    let a = written_one W (omega arith) (rw (rw z at k) (start_small R.of-ab)) in
-    let b = written_one a (omega arith) (rw (half-edge s 1 (omega arith)) (start_small R.of-ac)) in
-    let d = written_one (rw p at b) (omega arith) (rw (half-edge s 2 (omega arith)) (start_small R.of-bc)) in
+    let a = written_one W (omega arith) (rw (rw z at k) (start_small R.of_ab)) in
+    let b = written_one a (omega arith) (rw (half-edge s 1 (omega arith)) (start_small R.of_ac)) in
+    let d = written_one (rw p at b) (omega arith) (rw (half-edge s 2 (omega arith)) (start_small R.of_bc)) in
     rw e (rw q at d)
 
 -- all four slots: each edge has a half-edge
@@ -180,8 +180,8 @@ pub written_all : {c : Cell} {t : List ℕ} {s : ℕ} → Written c (3 * s) t �
 written_all {c} {t} {s} W l = record {
   counted = λ h i a b. W.counted h i (omega arith) b;
   linked = W.linked;
-  few = pre-most (count_of c) most_count (count-few c) 6;
-  near = λ e a. let F = first-half a refl in rw F.0 at (W.near (half_of (first_slot e) e) (omega (arith, F.2)));
+  few = pre_most (count_of c) most_count (count_few c) 6;
+  near = λ e a. let F = first_half a refl in rw F.0 at (W.near (half_of (first_slot e) e) (omega (arith, F.2)));
 }
 
 -- the links that are written down
@@ -197,8 +197,8 @@ unfolding link_table
 written_none c = record {
   long = refl;
   linked = λ h i a b. eqb-true (get_or link_table (9 * h + (5 + i)) 0) (get_or (links h) i 0)
-      (every-is (λ i. eqb (get_or link_table (9 * h + (5 + i)) 0) (get_or (links h) i 0)) 4
-      (every-is (λ h. every (λ i. eqb (get_or link_table (9 * h + (5 + i)) 0) (get_or (links h) i 0)) 4) half_edges links_pass h a) i b);
+      (every_is (λ i. eqb (get_or link_table (9 * h + (5 + i)) 0) (get_or (links h) i 0)) 4
+      (every_is (λ h. every (λ i. eqb (get_or link_table (9 * h + (5 + i)) 0) (get_or (links h) i 0)) 4) half_edges links_pass h a) i b);
   counted = λ h i a b. absurd (omega arith);
   near = λ h a. absurd (omega arith);
 }
@@ -209,28 +209,28 @@ module _ {c : Cell} {t : List ℕ} (R : Routed c t) where
   w = edges_of c
 
   module _ (h : ℕ) (l : h < half_edges) where
-    pub low-at : get_or t (columns * h + low_column) 0 ≡ half_corner w (lower (rank_of h)) h
+    pub low_at : get_or t (columns * h + low_column) 0 ≡ half_corner w (lower (rank_of h)) h
     unfolding front
-    low-at = R.counted h low_column l (omega arith)
+    low_at = R.counted h low_column l (omega arith)
 
-    pub high-at : get_or t (columns * h + high_column) 0 ≡ half_corner w (upper (rank_of h)) h
+    pub high_at : get_or t (columns * h + high_column) 0 ≡ half_corner w (upper (rank_of h)) h
     unfolding front
-    high-at = R.counted h 1 l (omega arith)
+    high_at = R.counted h 1 l (omega arith)
 
     pub count-at : get_or t (columns * h + count_column) 0 ≡ w.count (edge_of h)
     unfolding front
     count-at = R.counted h 2 l (omega arith)
 
-    pub first-at : get_or t (columns * h + first_column) 0 ≡ base w (edge_of h)
+    pub first_at : get_or t (columns * h + first_column) 0 ≡ base w (edge_of h)
     unfolding front
-    first-at = R.counted h 3 l (omega arith)
+    first_at = R.counted h 3 l (omega arith)
 
-    pub start-at : get_or t (columns * h + start_column) 0 ≡ start_of c (edge_of h)
+    pub start_at : get_or t (columns * h + start_column) 0 ≡ start_of c (edge_of h)
     unfolding front
-    start-at = R.counted h 4 l (omega arith)
+    start_at = R.counted h 4 l (omega arith)
 
-    pub start-near : start_of c (edge_of h) < start_limit
-    start-near = R.near (edge_of h) (edge-lt h l)
+    pub start_near : start_of c (edge_of h) < start_limit
+    start_near = R.near (edge_of h) (edge_lt h l)
 
     pub low_next_at : get_or t (columns * h + round_low_column) 0 ≡ around (lower (rank_of h)) h
     unfolding links
@@ -240,9 +240,9 @@ module _ {c : Cell} {t : List ℕ} (R : Routed c t) where
     unfolding links
     high_next_at = R.linked h 1 l (omega arith)
 
-    pub twin-at : get_or t (columns * h + twin_column) 0 ≡ twin h
+    pub twin_at : get_or t (columns * h + twin_column) 0 ≡ twin h
     unfolding links
-    twin-at = R.linked h 2 l (omega arith)
+    twin_at = R.linked h 2 l (omega arith)
 
     pub place-at : get_or t (columns * h + rank_column) 0 ≡ rank_of h
     unfolding links
@@ -250,10 +250,10 @@ module _ {c : Cell} {t : List ℕ} (R : Routed c t) where
 
     -- all of an edge's crossings are among those of the cell
     pub fits_all : get_or t (columns * h + first_column) 0 + get_or t (columns * h + count_column) 0 ≤ most_in_cell
-    fits_all = omega (arith, first-at, count-at, base-all w (edge_of h) (edge-lt h l), R.few)
+    fits_all = omega (arith, first_at, count-at, base_all w (edge_of h) (edge_lt h l), R.few)
 
     pub fits : (u : ℕ) → u < w.count (edge_of h) → number w (edge_of h) u < most_in_cell
-    fits u k = omega (arith, base-all w (edge_of h) (edge-lt h l), R.few)
+    fits u k = omega (arith, base_all w (edge_of h) (edge_lt h l), R.few)
 
 -- what holds of the entries of a list below k, and of v at k, holds below k + 1 after v is stored at k
 pub stored : (f : ℕ → ℕ) (l : List ℕ) (k v : ℕ) → k < length l → ((i : ℕ) → i < k → get_or l i 0 ≡ f i) → v ≡ f k
@@ -270,18 +270,18 @@ pub record Rises (w : Edges) (k n : ℕ) (f : List ℕ) : Type 0 where
   pub long : length f ≡ 6
 
 module _ {w : Edges} where
-  pub rises-one : (m : ℕ) → (m ≡ w.count 0) × (m ≤ most_count) → Rises w 1 m (0 ∷ 0 ∷ 0 ∷ 0 ∷ 0 ∷ 0 ∷ [])
+  pub rises_one : (m : ℕ) → (m ≡ w.count 0) × (m ≤ most_count) → Rises w 1 m (0 ∷ 0 ∷ 0 ∷ 0 ∷ 0 ∷ 0 ∷ [])
   unfolding pre total
-  rises-one m e = record {
+  rises_one m e = record {
     sum = sum_first m e;
     up = λ i j a b. absurd (omega arith);
     at = λ i a. let z : i ≡ 0 = omega arith in rw z;
     long = refl;
   }
 
-  pub rises-more : {k n : ℕ} {f : List ℕ} → Rises w k n f → 1 ≤ k → k < 6 → w.start (k - 1) ≤ w.start k → (m : ℕ) → (m ≡ w.count k) × (m ≤ most_count)
+  pub rises_more : {k n : ℕ} {f : List ℕ} → Rises w k n f → 1 ≤ k → k < 6 → w.start (k - 1) ≤ w.start k → (m : ℕ) → (m ≡ w.count k) × (m ≤ most_count)
       → Rises w (k + 1) (n + m) (set f k n)
-  rises-more {k} {n} {f} R p l h m e = record {
+  rises_more {k} {n} {f} R p l h m e = record {
     sum = sum_more R.sum m e;
     up = λ i j a b. ⊎_elim (λ (q : j ≡ k). rw q (below i (omega arith))) (λ (g : j < k). R.up i j a g) (eq-or-lt_of_le (omega arith));
     at = stored (pre w.count) f k n (omega (arith, R.long)) R.at R.sum.is;
@@ -292,5 +292,5 @@ module _ {w : Edges} where
       below i li =
           ⊎_elim (λ (q : i ≡ k - 1). rw q h) (λ (g : i < k - 1). omega (arith, R.up i (k - 1) g (omega arith), h)) (eq-or-lt_of_le (omega arith))
 
-  pub rises-all : {k n : ℕ} {f : List ℕ} → Rises w k n f → 6 ≤ k → (i : ℕ) → i < 6 → get_or f i 0 ≡ base w i
-  rises-all R l i li = R.at i (omega arith) ∙ sym (laid_same w (λ a b h lb. R.up a b h (omega arith)) i li)
+  pub rises_all : {k n : ℕ} {f : List ℕ} → Rises w k n f → 6 ≤ k → (i : ℕ) → i < 6 → get_or f i 0 ≡ base w i
+  rises_all R l i li = R.at i (omega arith) ∙ sym (laid_same w (λ a b h lb. R.up a b h (omega arith)) i li)

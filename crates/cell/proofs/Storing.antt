@@ -7,17 +7,17 @@ use lib.ListN.{length, get_or, length-append}
 use lib.Seq.{sets}
 use Rattle.counting.specs.Lists.{gather, over, values}
 use Rattle.counting.specs.work.Stored.{Stored}
-use Rattle.counting.proofs.Fronts.{over-within}
-use Rattle.counting.proofs.Lists.{length_singles, gather-over, length-gather}
+use Rattle.counting.proofs.Fronts.{over_within}
+use Rattle.counting.proofs.Lists.{length_singles, gather_over, length_gather}
 use Rattle.counting.proofs.Stored.{stored_none, stored_then, stored_more}
 use Rattle.cell.specs.declared.Side.{Side}
 use Rattle.cell.specs.declared.Side.TheVariants.{Segment, Inner}
 use Rattle.cell.specs.declared.Triangle.{Triangle}
 use Rattle.cell.specs.Words.{word_count, side_words, corner_words, words, all_words}
 
-pub side-two : (s : Side) → length (side_words s) ≡ 2
-side-two (Segment f g) = refl
-side-two (Inner k) = refl
+pub side_two : (s : Side) → length (side_words s) ≡ 2
+side_two (Segment f g) = refl
+side_two (Inner k) = refl
 
 pub side_stored : (s : Side) {x y : ℕ} (at : ℕ) (l l₁ : List ℕ) → l₁ ≡ sets l at (x ∷ y ∷ []) → x ≡ get_or (side_words s) 0 0 → y ≡ get_or (side_words s) 1 0
     → l₁ ≡ sets l at (side_words s)
@@ -37,17 +37,17 @@ module _ (t : Triangle) (at : ℕ) (l : List ℕ) where
   put_all l₁ l₂ l₃ l₄ l₅ a b c d e =
       let p : Stored l at (t.cell ∷ t.p0 ∷ []) l₁ (at + 2) = record { area = a; after = refl } in
       let q : Stored l₁ (at + 2) (corner_words t) l₂ (at + 5) = record { area = b; after = omega arith } in
-      let r : Stored l₂ (at + 5) (side_words t.side0) l₃ (at + 7) = record { area = c; after = omega (arith, side-two t.side0) } in
-      let s : Stored l₃ (at + 7) (side_words t.side1) l₄ (at + 9) = record { area = d; after = omega (arith, side-two t.side1) } in
+      let r : Stored l₂ (at + 5) (side_words t.side0) l₃ (at + 7) = record { area = c; after = omega (arith, side_two t.side0) } in
+      let s : Stored l₃ (at + 7) (side_words t.side1) l₄ (at + 9) = record { area = d; after = omega (arith, side_two t.side1) } in
       (stored_then p (stored_then q (stored_then r (stored_then s (record { area = e; after = refl }))))).area
 
-pub length-words : (t : Triangle) → length (words t) ≡ word_count
+pub length_words : (t : Triangle) → length (words t) ≡ word_count
 unfolding words corner_words
-length-words t =
-    simp length-append (omega (arith, side-two t.side0, side-two t.side1, side-two t.side2))
+length_words t =
+    simp length-append (omega (arith, side_two t.side0, side_two t.side1, side_two t.side2))
 
-pub length-all : (l : List Triangle) → length (all_words l) ≡ word_count * length l
-length-all l = length-gather words length-words l
+pub length_all : (l : List Triangle) → length (all_words l) ≡ word_count * length l
+length_all l = length_gather words length_words l
 
 -- the words of list k
 abbrev pub words_of : (ℕ → List Triangle) → ℕ → List ℕ
@@ -56,17 +56,17 @@ words_of f k = all_words (f k)
 -- the words of the first k lists of f are stored in `was` from `at` on, which makes it `is`, and the next goes to i
 module _ (f : ℕ → List Triangle) {was : List ℕ} {at : ℕ} (k : ℕ) {is : List ℕ} {i : ℕ} (S : Stored was at (over (words_of f) k 0) is i) where
   long : (n : ℕ) → length (over (words_of f) n 0) ≡ word_count * length (over f n 0)
-  long n = ap length (sym (gather-over words f n 0)) ∙ length-all (over f n 0)
+  long n = ap length (sym (gather_over words f n 0)) ∙ length_all (over f n 0)
 
   pub written_all : (n : ℕ) → k ≡ n → (i ≡ at + word_count * length (over f n 0)) × (is ≡ sets was at (all_words (over f n 0)))
-  written_all n e = rw (← e) (omega (arith, S.after, long k), S.area ∙ ap (sets was at) (sym (gather-over words f k 0)))
+  written_all n e = rw (← e) (omega (arith, S.after, long k), S.area ∙ ap (sets was at) (sym (gather_over words f k 0)))
 
-  pub written-room : (n : ℕ) → k < n → i + word_count * length (f k) ≤ at + word_count * length (over f n 0)
-  written-room n l = omega (arith, S.after, over-within (words_of f) n k l, long n, length-all (f k))
+  pub written_room : (n : ℕ) → k < n → i + word_count * length (f k) ≤ at + word_count * length (over f n 0)
+  written_room n l = omega (arith, S.after, over_within (words_of f) n k l, long n, length_all (f k))
 
-  pub written-more : {is' : List ℕ} {j m : ℕ} → m ≡ length (f k) → j ≡ i + word_count * m → {l : List Triangle} → l ≡ f k → is' ≡ sets is i (all_words l)
+  pub written_more : {is' : List ℕ} {j m : ℕ} → m ≡ length (f k) → j ≡ i + word_count * m → {l : List Triangle} → l ≡ f k → is' ≡ sets is i (all_words l)
       → Stored was at (over (words_of f) (k + 1) 0) is' j
-  written-more e p g q = stored_more (words_of f) k S (record { area = q ∙ ap (λ l. sets is i (all_words l)) g; after = omega (arith, p, e, length-all (f k)) })
+  written_more e p g q = stored_more (words_of f) k S (record { area = q ∙ ap (λ l. sets is i (all_words l)) g; after = omega (arith, p, e, length_all (f k)) })
 
 -- the first k triangles of t are stored in `was` from `at` on, which makes it `is`, and the next goes to i
 pub record Run (t : ℕ → Triangle) (k : ℕ) (was : List ℕ) (at : ℕ) (is : List ℕ) (i : ℕ) : Type 0 where
@@ -77,14 +77,14 @@ unfolding over
 run_none t was at = record { stored = stored_none was at }
 
 module _ {t : ℕ → Triangle} {k : ℕ} {was : List ℕ} {at : ℕ} {is : List ℕ} {i : ℕ} (R : Run t k was at is i) where
-  pub run-place : i ≡ at + word_count * k
-  run-place = omega (arith, R.stored.after, ap length (sym (gather-over words (λ k. t k ∷ []) k 0)), length-all (values t k), length_singles t k 0)
+  pub run_place : i ≡ at + word_count * k
+  run_place = omega (arith, R.stored.after, ap length (sym (gather_over words (λ k. t k ∷ []) k 0)), length_all (values t k), length_singles t k 0)
 
   pub run_more : {is' : List ℕ} {v : Triangle} → v ≡ t k → is' ≡ sets is i (words v) → Run t (k + 1) was at is' (i + word_count)
   unfolding gather
   run_more e q =
-      let S : Stored is i (all_words (t k ∷ [])) _ (i + word_count) = record { area = q ∙ rw e (ap (sets is i) (sym (append-nil (words (t k))))); after = omega (arith, length-all (t k ∷ [])) } in
+      let S : Stored is i (all_words (t k ∷ [])) _ (i + word_count) = record { area = q ∙ rw e (ap (sets is i) (sym (append-nil (words (t k))))); after = omega (arith, length_all (t k ∷ [])) } in
       record { stored = stored_more (λ k. all_words (t k ∷ [])) k R.stored S }
 
-  pub run-all : (n : ℕ) → k ≡ n → is ≡ sets was at (all_words (values t n))
-  run-all n e = rw (← e) (R.stored.area ∙ ap (sets was at) (sym (gather-over words (λ k. t k ∷ []) k 0)))
+  pub run_all : (n : ℕ) → k ≡ n → is ≡ sets was at (all_words (values t n))
+  run_all n e = rw (← e) (R.stored.area ∙ ap (sets was at) (sym (gather_over words (λ k. t k ∷ []) k 0)))

@@ -9,15 +9,15 @@ use lib.ListN.{length, get_or}
 use borrow.Author.Tests.{eqb-true}
 use Rattle.counting.specs.Lists.{total, after, it}
 use Rattle.counting.proofs.Bools.{and_left}
-use Rattle.counting.proofs.Range.{after-lt, length_over, total_ext, total_mono}
+use Rattle.counting.proofs.Range.{after_lt, length_over, total_ext, total_mono}
 use Rattle.manifold.specs.Shape.{Shape, shape_of, many_of, triangles_of}
-use Rattle.manifold.proofs.Shapes.{shape_two, fits, many_le, length-triangles, triangles_ext}
+use Rattle.manifold.proofs.Shapes.{shape_two, fits, many_le, length_triangles, triangles_ext}
 use Rattle.walk.specs.Step as steps
-use Rattle.walk.proofs.Step.{live, land-half}
+use Rattle.walk.proofs.Step.{live, land_half}
 use Rattle.cell.specs.declared.Cell.{Cell}
 use Rattle.cell.specs.Cell.{Edges, crossings, first_slot_at, second_slot_at, mate, slot, step}
 use Rattle.cell.proofs.Mates.{ports}
-use Rattle.cell.proofs.Loops.{sizes, dart-live, dart-after}
+use Rattle.cell.proofs.Loops.{sizes, dart_live, dart_after}
 use Rattle.cell.specs.Loop.{loop_size, dart, normal}
 use Rattle.cell.specs.declared.Corner.TheVariants.{Crossing, Middle}
 use Rattle.cell.specs.declared.Side.TheVariants.{Inner}
@@ -26,8 +26,8 @@ use Rattle.cell.specs.Of.{edges_of}
 use Rattle.cell.specs.work.Traced.{point_at, segment_at, traced_triangles}
 
 -- n is 4 where the code says that a loop is in two triangles
-pub two-four : (n : ℕ) (two b : Bool) → two ≡ (eqb n 4 && b) → two ≡ true → n ≡ 4
-two-four n two b e t = eqb-true n 4 (and_left (eqb n 4) b (sym e ∙ t))
+pub two_four : (n : ℕ) (two b : Bool) → two ≡ (eqb n 4 && b) → two ≡ true → n ≡ 4
+two_four n two b e t = eqb-true n 4 (and_left (eqb n 4) b (sym e ∙ t))
 
 module _ (c : Cell) (p : ℕ) where
   abbrev n : ℕ
@@ -36,16 +36,16 @@ module _ (c : Cell) (p : ℕ) where
   abbrev sh : Shape
   sh = shape_of n (normal (edges_of c) p)
 
-  pub length-loop : length (loop_triangles c p) ≡ many_of sh n
+  pub length_loop : length (loop_triangles c p) ≡ many_of sh n
   unfolding loop_triangles
-  length-loop = length-triangles (triangle c.index (number_of c p)) (point c p) Middle (segment c p) Inner n sh
+  length_loop = length_triangles (triangle c.index (number_of c p)) (point c p) Middle (segment c p) Inner n sh
 
-  pub loop-few : length (loop_triangles c p) ≤ n
-  loop-few = omega (arith, length-loop, many_le sh n (fits n (normal (edges_of c) p)))
+  pub loop_few : length (loop_triangles c p) ≤ n
+  loop_few = omega (arith, length_loop, many_le sh n (fits n (normal (edges_of c) p)))
 
-  first-point : number_of c (dart (edges_of c) p 0 / 2) ≡ number_of c p
+  first_point : number_of c (dart (edges_of c) p 0 / 2) ≡ number_of c p
   unfolding dart it
-  first-point = let e : 2 * p / 2 ≡ p = omega arith in ap (number_of c) e
+  first_point = let e : 2 * p / 2 ≡ p = omega arith in ap (number_of c) e
 
   -- the slots and crossing numbers of the loop's darts are recorded, and each dart leads to the next point
   module _ (halves points : List ℕ) (m : ℕ) (size : m ≡ loop_size (edges_of c) p)
@@ -58,13 +58,13 @@ module _ (c : Cell) (p : ℕ) where
 
     traced_segment : (k : ℕ) → k < m → segment_at c.names halves points m k ≡ segment c p k
     unfolding segment_at segment segment_of
-    traced_segment k l = rw (slots k l, numbers k l, numbers (after m k) (after-lt m k l), leads k l)
+    traced_segment k l = rw (slots k l, numbers k l, numbers (after m k) (after_lt m k l), leads k l)
 
     pub traced_loop : (two : Bool) → two ≡ (eqb m 4 && normal (edges_of c) p) → traced_triangles c halves points m two ≡ loop_triangles c p
     unfolding traced_triangles loop_triangles
     traced_loop two e =
         triangles_ext (triangle c.index (get_or points 0 0)) (point_at points) Middle (segment_at c.names halves points m) Inner m
-        (triangle c.index (number_of c p)) (point c p) (segment c p) (λ l. ap (triangle c.index) (numbers 0 l ∙ first-point)) traced_point traced_segment
+        (triangle c.index (number_of c p)) (point c p) (segment c p) (λ l. ap (triangle c.index) (numbers 0 l ∙ first_point)) traced_point traced_segment
         (shape_of m two) (fits m two)
         ∙ ap (λ q. triangles_of (triangle c.index (number_of c p)) (point c p) Middle (segment c p) Inner m q) (ap (shape_of m) e ∙ shape_two m (normal (edges_of c) p))
         ∙ ap (λ k. triangles_of (triangle c.index (number_of c p)) (point c p) Middle (segment c p) Inner k (shape_of k (normal (edges_of c) p))) size
@@ -74,23 +74,23 @@ module _ (c : Cell) (p : ℕ) (l : p < crossings (edges_of c)) where
   abbrev w : Edges
   w = edges_of c
 
-  pub dart-leads : (k : ℕ) → k < loop_size w p → mate w (slot w (dart w p k)) (dart w p k / 2) ≡ dart w p (after (loop_size w p) k) / 2
+  pub dart_leads : (k : ℕ) → k < loop_size w p → mate w (slot w (dart w p k)) (dart w p k / 2) ≡ dart w p (after (loop_size w p) k) / 2
   unfolding slot step steps.step
-  dart-leads k h =
+  dart_leads k h =
       let d = dart w p k in
-      let e = dart-after w p l k h in
-      let m = live (crossings w) (first_slot_at w) (second_slot_at w) (mate w) (ports w) d (subst (λ x. x < 2 * crossings w) e (dart-live w p l (after (loop_size w p) k) (after-lt (loop_size w p) k h))) in
-      sym (ap (λ x. x / 2) e ∙ land-half (crossings w) (first_slot_at w) (second_slot_at w) (mate w) (slot w d) (mate w (slot w d) (d / 2)) m)
+      let e = dart_after w p l k h in
+      let m = live (crossings w) (first_slot_at w) (second_slot_at w) (mate w) (ports w) d (subst (λ x. x < 2 * crossings w) e (dart_live w p l (after (loop_size w p) k) (after_lt (loop_size w p) k h))) in
+      sym (ap (λ x. x / 2) e ∙ land_half (crossings w) (first_slot_at w) (second_slot_at w) (mate w) (slot w d) (mate w (slot w d) (d / 2)) m)
 
 -- loop by loop
-pub length-cell : (c : Cell) → length (cell_triangles c) ≡ total (λ p. length (loop_triangles c p)) (crossings (edges_of c)) 0
+pub length_cell : (c : Cell) → length (cell_triangles c) ≡ total (λ p. length (loop_triangles c p)) (crossings (edges_of c)) 0
 unfolding cell_triangles
-length-cell c = length_over (loop_triangles c) (crossings (edges_of c)) 0
+length_cell c = length_over (loop_triangles c) (crossings (edges_of c)) 0
 
 pub cell-count : (c : Cell) → length (cell_triangles c) ≡ triangle_count (edges_of c)
 unfolding triangle_count many_from
 cell-count c =
-    length-cell c ∙ total_ext (λ p. length (loop_triangles c p)) (many_from (edges_of c)) (crossings (edges_of c)) 0 (λ p a b. length-loop c p)
+    length_cell c ∙ total_ext (λ p. length (loop_triangles c p)) (many_from (edges_of c)) (crossings (edges_of c)) 0 (λ p a b. length_loop c p)
 
 -- the loops that are asked for: all, or those of one length
 pub with_all : (c : Cell) → triangles_with c 0 ≡ cell_triangles c
@@ -102,29 +102,29 @@ module _ (c : Cell) (only p : ℕ) where
   unfolding asked_triangles
   asked_is e = rw e
 
-  pub asked-not : (eqb only 0 || eqb (loop_size (edges_of c) p) only) ≡ false → asked_triangles c only p ≡ []
+  pub asked_not : (eqb only 0 || eqb (loop_size (edges_of c) p) only) ≡ false → asked_triangles c only p ≡ []
   unfolding asked_triangles
-  asked-not e = rw e
+  asked_not e = rw e
 
-  pub asked-few : length (asked_triangles c only p) ≤ loop_size (edges_of c) p
-  asked-few = go (eqb only 0 || eqb (loop_size (edges_of c) p) only) refl
+  pub asked_few : length (asked_triangles c only p) ≤ loop_size (edges_of c) p
+  asked_few = go (eqb only 0 || eqb (loop_size (edges_of c) p) only) refl
     where
       go : (b : Bool) → (eqb only 0 || eqb (loop_size (edges_of c) p) only) ≡ b → length (asked_triangles c only p) ≤ loop_size (edges_of c) p
-      go true e = rw (asked_is e) (loop-few c p)
-      go false e = rw (asked-not e) (omega arith)
+      go true e = rw (asked_is e) (loop_few c p)
+      go false e = rw (asked_not e) (omega arith)
 
-pub length-with : (c : Cell) (only : ℕ) → length (triangles_with c only) ≡ total (λ p. length (asked_triangles c only p)) (crossings (edges_of c)) 0
+pub length_with : (c : Cell) (only : ℕ) → length (triangles_with c only) ≡ total (λ p. length (asked_triangles c only p)) (crossings (edges_of c)) 0
 unfolding triangles_with
-length-with c only = length_over (asked_triangles c only) (crossings (edges_of c)) 0
+length_with c only = length_over (asked_triangles c only) (crossings (edges_of c)) 0
 
-pub with-few : (c : Cell) (only : ℕ) → length (triangles_with c only) ≤ crossings (edges_of c)
-with-few c only =
+pub with_few : (c : Cell) (only : ℕ) → length (triangles_with c only) ≤ crossings (edges_of c)
+with_few c only =
     omega (
       arith,
-      length-with c only,
-      total_mono (λ p. length (asked_triangles c only p)) (loop_size (edges_of c)) (crossings (edges_of c)) 0 (λ p a b. asked-few c only p),
+      length_with c only,
+      total_mono (λ p. length (asked_triangles c only p)) (loop_size (edges_of c)) (crossings (edges_of c)) 0 (λ p a b. asked_few c only p),
       sizes (edges_of c),
     )
 
-pub cell-few : (c : Cell) → length (cell_triangles c) ≤ crossings (edges_of c)
-cell-few c = rw (← with_all c) (with-few c 0)
+pub cell_few : (c : Cell) → length (cell_triangles c) ≤ crossings (edges_of c)
+cell_few c = rw (← with_all c) (with_few c 0)

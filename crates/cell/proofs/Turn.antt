@@ -8,12 +8,12 @@ use lib.Dec.{ltb}
 use borrow.Author.Tests.{ltb-true, ltb-false, lt-ltb}
 use Rattle.counting.specs.Pick.{pick}
 use Rattle.slots.specs.Slots.{lo, hi, slot_edge, edge_rank, first_slot, second_slot, lower, upper}
-use Rattle.slots.proofs.Slots.{EdgeSlot, two-slots, first-slot, second-slot}
-use Rattle.walk.proofs.Step.{by-parity}
+use Rattle.slots.proofs.Slots.{EdgeSlot, two_slots, first-slot, second-slot}
+use Rattle.walk.proofs.Step.{by_parity}
 use Rattle.face.specs.Face.{joined, count_on, kth, corner_count_at}
 use Rattle.face.specs.claims.Ends.{End, low, high}
 use Rattle.face.proofs.Ends.{edge-of}
-use Rattle.face.proofs.Gaps.{kth-lower, kth-upper}
+use Rattle.face.proofs.Gaps.{kth_lower, kth_upper}
 use Rattle.face.proofs.Corner.{corner_le, corner_swap}
 use Rattle.face.proofs.Claims.{face_laws}
 use Rattle.cell.specs.Cell.{Edges, crossings, edge, index, slot, step}
@@ -22,10 +22,10 @@ use Rattle.cell.specs.work.Dart.{Parts}
 use Rattle.cell.proofs.Lay.{lay}
 use Rattle.cell.proofs.Half.{half-slot, half_place, half-edge}
 use Rattle.cell.proofs.Reach.{slot-count}
-use Rattle.cell.proofs.Step.{join_on, number-first, number-second, number-half, slot-first, slot-second, step-joined, parts-number, parts-edge, parts-index, parts-slot}
+use Rattle.cell.proofs.Step.{join_on, number_first, number_second, number_half, slot_first, slot_second, step_joined, parts_number, parts_edge, parts_index, parts_slot}
 use Rattle.cell.specs.claims.Nodes.{Arranged, kth_from, crossing_at, dart_at}
 use Rattle.cell.specs.Nodes.{joining, count_between, corner_from}
-use Rattle.cell.proofs.Nodes.{pos, acbd, bcad, both_ways, place-lt, edge-is, end_is, other-is, opposite-is, twin-is, joining-ends}
+use Rattle.cell.proofs.Nodes.{pos, acbd, bcad, both_ways, place_lt, edge_is, end_is, other_is, opposite_is, twin_is, joining_ends}
 
 -- counts and corner counts either way round
 module _ (w : ℕ → ℕ) where
@@ -37,17 +37,17 @@ module _ (w : ℕ → ℕ) where
   corner_flip {a} {b} {c} A = rw (← flip_count (bcad A)) (corner_swap (count_between w a b) (count_between w a c) (count_between w b c))
 
 module _ (w : Edges) where
-  kth-lt : (a b k : ℕ) → k < count_between w.count a b → kth_from w.count a b k < count_between w.count a b
+  kth_lt : (a b k : ℕ) → k < count_between w.count a b → kth_from w.count a b k < count_between w.count a b
   unfolding kth_from
-  kth-lt a b k l = go (ltb a b)
+  kth_lt a b k l = go (ltb a b)
     where
       go : (t : Bool) → pick t k (count_between w.count a b - 1 - k) < count_between w.count a b
       go true = l
       go false = omega arith
 
-  pub kth-once : (a b k l : ℕ) → k < count_between w.count a b → l < count_between w.count a b → kth_from w.count a b k ≡ kth_from w.count a b l → k ≡ l
+  pub kth_once : (a b k l : ℕ) → k < count_between w.count a b → l < count_between w.count a b → kth_from w.count a b k ≡ kth_from w.count a b l → k ≡ l
   unfolding kth_from
-  kth-once a b k l hk hl = go (ltb a b)
+  kth_once a b k l hk hl = go (ltb a b)
     where
       go : (t : Bool) → pick t k (count_between w.count a b - 1 - k) ≡ pick t l (count_between w.count a b - 1 - l) → k ≡ l
       go true e = e
@@ -83,42 +83,42 @@ module _ (w : Edges) where
     unfolding dart_at
     dart_flip k l = rw (crossing_flip k l, both_ways A) refl
 
-    pub count-is : count_on e0 e1 e2 (edge_rank d (joining a b)) ≡ count_between w.count a b
-    count-is = slot-count w d (edge_rank d (joining a b)) (place-lt A) ∙ ap w.count (edge-is A)
+    pub count_is : count_on e0 e1 e2 (edge_rank d (joining a b)) ≡ count_between w.count a b
+    count_is = slot-count w d (edge_rank d (joining a b)) (place_lt A) ∙ ap w.count (edge_is A)
 
-    kth-is : (k : ℕ) → kth e0 e1 e2 (pos d a) (edge_rank d (joining a b)) k ≡ kth_from w.count a b k
+    kth_is : (k : ℕ) → kth e0 e1 e2 (pos d a) (edge_rank d (joining a b)) k ≡ kth_from w.count a b k
     unfolding kth_from
-    kth-is k = rw (end_is A) (go (ltb a b))
+    kth_is k = rw (end_is A) (go (ltb a b))
       where
         go : (t : Bool) → kth e0 e1 e2 (pick t (lower (edge_rank d (joining a b))) (upper (edge_rank d (joining a b)))) (edge_rank d (joining a b)) k ≡ pick t k (count_between w.count a b - 1 - k)
-        go true = kth-lower e0 e1 e2 (edge_rank d (joining a b)) k
-        go false = kth-upper e0 e1 e2 k (edge-of (edge_rank d (joining a b)) (place-lt A)) ∙ ap (λ n. n - 1 - k) count-is
+        go true = kth_lower e0 e1 e2 (edge_rank d (joining a b)) k
+        go false = kth_upper e0 e1 e2 k (edge-of (edge_rank d (joining a b)) (place_lt A)) ∙ ap (λ n. n - 1 - k) count_is
 
     pub ends : End (pos d a) (edge_rank d (joining a b))
     ends = rw (end_is A) (go (ltb a b))
       where
         go : (t : Bool) → End (pick t (lower (edge_rank d (joining a b))) (upper (edge_rank d (joining a b)))) (edge_rank d (joining a b))
-        go true = low (edge-of (edge_rank d (joining a b)) (place-lt A))
-        go false = high (edge-of (edge_rank d (joining a b)) (place-lt A))
+        go true = low (edge-of (edge_rank d (joining a b)) (place_lt A))
+        go false = high (edge-of (edge_rank d (joining a b)) (place_lt A))
 
   module _ {a b c d : ℕ} (A : Arranged a b c d) where
     parts : (k : ℕ) → k < count_between w.count a b → Parts w (3 * d + edge_rank d (joining a b)) (kth_from w.count a b k) (crossing_at w a b k)
     unfolding crossing_at
     parts k l =
-        let e : edge_of (3 * d + edge_rank d (joining a b)) ≡ joining a b = half-edge d (edge_rank d (joining a b)) (place-lt A) ∙ edge-is A in
-        record { half_lt = omega (arith, place-lt A, A.d-lt); index-lt = rw e (kth-lt a b k l); number_is = rw e refl }
+        let e : edge_of (3 * d + edge_rank d (joining a b)) ≡ joining a b = half-edge d (edge_rank d (joining a b)) (place_lt A) ∙ edge_is A in
+        record { half_lt = omega (arith, place_lt A, A.d_lt); index_lt = rw e (kth_lt a b k l); number_is = rw e refl }
 
-    corner-is : corner_count_at (e0 A) (e1 A) (e2 A) (pos d a) (edge_rank d (joining a b)) ≡ corner_from w.count a b c
+    corner_is : corner_count_at (e0 A) (e1 A) (e2 A) (pos d a) (edge_rank d (joining a b)) ≡ corner_from w.count a b c
     unfolding corner_count_at corner_from
-    corner-is = rw (other-is A, opposite-is A, count-is A, count-is (acbd A), count-is (bcad A))
+    corner_is = rw (other_is A, opposite_is A, count_is A, count_is (acbd A), count_is (bcad A))
 
     -- the k-th crossings from a are joined
     joins : (k : ℕ) → k < corner_from w.count a b c
         → join_on w (3 * d + edge_rank d (joining a b)) (kth_from w.count a b k) ≡ joined (edge_rank d (joining a c)) (kth_from w.count a c k)
     unfolding join_on
     joins k l =
-        rw (half-slot d (edge_rank d (joining a b)) (place-lt A), half_place d (edge_rank d (joining a b)) (place-lt A))
-        (rw (kth-is A k, other-is A, kth-is (acbd A) k) at ((face_laws (e0 A) (e1 A) (e2 A)).corner (pos d a) (edge_rank d (joining a b)) k (ends A) (rw corner-is l)))
+        rw (half-slot d (edge_rank d (joining a b)) (place_lt A), half_place d (edge_rank d (joining a b)) (place_lt A))
+        (rw (kth_is A k, other_is A, kth_is (acbd A) k) at ((face_laws (e0 A) (e1 A) (e2 A)).corner (pos d a) (edge_rank d (joining a b)) k (ends A) (rw corner_is l)))
 
     -- the step round a corner
     pub turn : (k : ℕ) → k < corner_from w.count a b c → step w (dart_at w a b d k) ≡ dart_at w a c b k
@@ -127,66 +127,66 @@ module _ (w : Edges) where
         let C = acbd A in
         let kb : k < count_between w.count a b = omega (arith, corner_le (count_between w.count a b) (count_between w.count a c) (count_between w.count b c)) in
         let kc : k < count_between w.count a c = omega (arith, corner_le (count_between w.count a b) (count_between w.count a c) (count_between w.count b c)) in
-        let s = half-slot d (edge_rank d (joining a b)) (place-lt A) in
-        let e = step-joined w (parts k kb) (edge_rank d (joining a c)) (kth_from w.count a c k) (place-lt C) (rw (s, edge-is C) (kth-lt a c k kc)) (joins k l) in
-        rw (s, twin-is A, edge-is C) at e
+        let s = half-slot d (edge_rank d (joining a b)) (place_lt A) in
+        let e = step_joined w (parts k kb) (edge_rank d (joining a c)) (kth_from w.count a c k) (place_lt C) (rw (s, edge_is C) (kth_lt a c k kc)) (joins k l) in
+        rw (s, twin_is A, edge_is C) at e
 
   -- what a dart is read from
   module _ {a b c d : ℕ} (A : Arranged a b c d) (k : ℕ) (l : k < count_between w.count a b) where
-    crossing-lt : crossing_at w a b k < crossings w
-    crossing-lt = parts-number w (parts A k l)
+    crossing_lt : crossing_at w a b k < crossings w
+    crossing_lt = parts_number w (parts A k l)
 
-    dart-half : dart_at w a b d k / 2 ≡ crossing_at w a b k
+    dart_half : dart_at w a b d k / 2 ≡ crossing_at w a b k
     unfolding dart_at
-    dart-half = number-half (3 * d + edge_rank d (joining a b)) (crossing_at w a b k)
+    dart_half = number_half (3 * d + edge_rank d (joining a b)) (crossing_at w a b k)
 
-    pub dart-lt : dart_at w a b d k < 2 * crossings w
-    dart-lt = omega (arith, crossing-lt, dart-half)
+    pub dart_lt : dart_at w a b d k < 2 * crossings w
+    dart_lt = omega (arith, crossing_lt, dart_half)
 
-    pub dart-edge : edge w (dart_at w a b d k / 2) ≡ joining a b
+    pub dart_edge : edge w (dart_at w a b d k / 2) ≡ joining a b
     unfolding dart_at
-    dart-edge = parts-edge w (parts A k l) ∙ half-edge d (edge_rank d (joining a b)) (place-lt A) ∙ edge-is A
+    dart_edge = parts_edge w (parts A k l) ∙ half-edge d (edge_rank d (joining a b)) (place_lt A) ∙ edge_is A
 
-    pub dart-index : index w (dart_at w a b d k / 2) ≡ kth_from w.count a b k
+    pub dart_index : index w (dart_at w a b d k / 2) ≡ kth_from w.count a b k
     unfolding dart_at
-    dart-index = parts-index w (parts A k l)
+    dart_index = parts_index w (parts A k l)
 
     pub crossing-edge : edge w (crossing_at w a b k) ≡ joining a b
-    crossing-edge = rw dart-half at dart-edge
+    crossing-edge = rw dart_half at dart_edge
 
     pub crossing-index : index w (crossing_at w a b k) ≡ kth_from w.count a b k
-    crossing-index = rw dart-half at dart-index
+    crossing-index = rw dart_half at dart_index
 
-    pub dart-slot : slot w (dart_at w a b d k) ≡ d
+    pub dart_slot : slot w (dart_at w a b d k) ≡ d
     unfolding dart_at
-    dart-slot = parts-slot w (parts A k l) ∙ half-slot d (edge_rank d (joining a b)) (place-lt A)
+    dart_slot = parts_slot w (parts A k l) ∙ half-slot d (edge_rank d (joining a b)) (place_lt A)
 
   -- a dart from its crossing, edge and slot; crossings and darts by positions
   number_is : (d : ℕ) → d < 2 * crossings w → dart_number (3 * slot w d + edge_rank (slot w d) (edge w (d / 2))) (d / 2) ≡ d
-  number_is = by-parity (crossings w) (λ d. dart_number (3 * slot w d + edge_rank (slot w d) (edge w (d / 2))) (d / 2) ≡ d)
+  number_is = by_parity (crossings w) (λ d. dart_number (3 * slot w d + edge_rank (slot w d) (edge w (d / 2))) (d / 2) ≡ d)
       (λ x l. (let h : 2 * x / 2 ≡ x = omega arith in
-      let S = first-slot (edge w x) ((lay w).edge-lt x l) in
-      rw (h, slot-first w x) (number-first (by (first_slot (edge w x)) (edge w x)) x (rw (by-edge S, by-slot S) refl))))
+      let S = first-slot (edge w x) ((lay w).edge_lt x l) in
+      rw (h, slot_first w x) (number_first (by (first_slot (edge w x)) (edge w x)) x (rw (by-edge S, by_slot S) refl))))
       (λ x l. (let h : (2 * x + 1) / 2 ≡ x = omega arith in
-      let S = second-slot (edge w x) ((lay w).edge-lt x l) in
-      rw (h, slot-second w x) (number-second (by (second_slot (edge w x)) (edge w x)) x
-      (λ e. omega (arith, (two-slots (edge w x) ((lay w).edge-lt x l)).apart, rw (by-edge S, by-slot S) at e)))))
+      let S = second-slot (edge w x) ((lay w).edge_lt x l) in
+      rw (h, slot_second w x) (number_second (by (second_slot (edge w x)) (edge w x)) x
+      (λ e. omega (arith, (two_slots (edge w x) ((lay w).edge_lt x l)).apart, rw (by-edge S, by_slot S) at e)))))
     where
       by : ℕ → ℕ → ℕ
       by s k = 3 * s + edge_rank s k
 
       by-edge : {s k : ℕ} → EdgeSlot k s → edge_of (by s k) ≡ k
-      by-edge {s} {k} S = half-edge s (edge_rank s k) S.place-lt ∙ S.edge-is
+      by-edge {s} {k} S = half-edge s (edge_rank s k) S.place_lt ∙ S.edge_is
 
-      by-slot : {s k : ℕ} → EdgeSlot k s → half_slot (by s k) ≡ s
-      by-slot {s} {k} S = half-slot s (edge_rank s k) S.place-lt
+      by_slot : {s k : ℕ} → EdgeSlot k s → half_slot (by s k) ≡ s
+      by_slot {s} {k} S = half-slot s (edge_rank s k) S.place_lt
 
   pub crossing_is : (x : ℕ) → x < crossings w → crossing_at w (lo (edge w x)) (hi (edge w x)) (index w x) ≡ x
   unfolding crossing_at kth_from
   crossing_is x l =
-      let kl : edge w x < 6 = (lay w).edge-lt x l in
-      rw (joining-ends (edge w x) kl, lt-ltb (lo (edge w x)) (hi (edge w x)) (two-slots (edge w x) kl).rising) ((lay w).back x l)
+      let kl : edge w x < 6 = (lay w).edge_lt x l in
+      rw (joining_ends (edge w x) kl, lt-ltb (lo (edge w x)) (hi (edge w x)) (two_slots (edge w x) kl).rising) ((lay w).back x l)
 
-  pub dart-is : (d : ℕ) → d < 2 * crossings w → d ≡ dart_at w (lo (edge w (d / 2))) (hi (edge w (d / 2))) (slot w d) (index w (d / 2))
+  pub dart_is : (d : ℕ) → d < 2 * crossings w → d ≡ dart_at w (lo (edge w (d / 2))) (hi (edge w (d / 2))) (slot w d) (index w (d / 2))
   unfolding dart_at
-  dart-is d l = rw (crossing_is (d / 2) (omega arith), joining-ends (edge w (d / 2)) ((lay w).edge-lt (d / 2) (omega arith))) (sym (number_is d l))
+  dart_is d l = rw (crossing_is (d / 2) (omega arith), joining_ends (edge w (d / 2)) ((lay w).edge_lt (d / 2) (omega arith))) (sym (number_is d l))

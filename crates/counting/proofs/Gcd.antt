@@ -11,56 +11,56 @@ use borrow.Author.Tests.{eqb-true, eq-eqb}
 use Rattle.counting.specs.Search.{last}
 use Rattle.counting.specs.Gcd.{divides, gcd}
 use Rattle.counting.proofs.Bools.{clash, and_true, and_left, and_right, not_clash}
-use Rattle.counting.proofs.Search.{Least, least, last-at, last-is, last-above, last_ext}
+use Rattle.counting.proofs.Search.{Least, least, last_at, last_is, last_above, last_ext}
 
-pub divides-is : (k n : ℕ) → divides k n ≡ true → k ∣ n
+pub divides_is : (k n : ℕ) → divides k n ≡ true → k ∣ n
 unfolding divides
-divides-is k n e = dvd_of_mod-eq-zero k (eqb-true (n % k) 0 e)
+divides_is k n e = dvd_of_mod-eq-zero k (eqb-true (n % k) 0 e)
 
-pub is-divides : (k n : ℕ) → k ∣ n → divides k n ≡ true
+pub is_divides : (k n : ℕ) → k ∣ n → divides k n ≡ true
 unfolding divides
-is-divides k n d = eq-eqb (n % k) 0 (mod-eq-zero_of_dvd k d)
+is_divides k n d = eq-eqb (n % k) 0 (mod-eq-zero_of_dvd k d)
 
 module _ (a b : ℕ) where
   abbrev both : ℕ → Bool
   both k = divides k a && divides k b
 
   both_is : (k : ℕ) → k ∣ a → k ∣ b → both k ≡ true
-  both_is k p q = and_true (divides k a) (divides k b) (is-divides k a p) (is-divides k b q)
+  both_is k p q = and_true (divides k a) (divides k b) (is_divides k a p) (is_divides k b q)
 
   -- what divides both and is no less than any that does
-  pub gcd-is : (h : ℕ) → h ∣ a → h ∣ b → h ≤ a + b → ((e : ℕ) → e ∣ a → e ∣ b → e ≤ h) → gcd a b ≡ h
+  pub gcd_is : (h : ℕ) → h ∣ a → h ∣ b → h ≤ a + b → ((e : ℕ) → e ∣ a → e ∣ b → e ≤ h) → gcd a b ≡ h
   unfolding gcd
-  gcd-is h p q l most =
+  gcd_is h p q l most =
       omega (
         arith,
-        last-at both (suc (a + b)) h (omega arith) (both_is h p q)
+        last_at both (suc (a + b)) h (omega arith) (both_is h p q)
             (λ i g u. not_clash (both i)
-            (λ e. omega (arith, most i (divides-is i a (and_left (divides i a) (divides i b) e)) (divides-is i b (and_right (divides i a) (divides i b) e))))),
+            (λ e. omega (arith, most i (divides_is i a (and_left (divides i a) (divides i b) e)) (divides_is i b (and_right (divides i a) (divides i b) e))))),
       )
 
   module _ (some : 0 < a + b) where
-    gcd-most : (e : ℕ) → e ∣ a → e ∣ b → e ≤ gcd a b
+    gcd_most : (e : ℕ) → e ∣ a → e ∣ b → e ≤ gcd a b
     unfolding gcd
-    gcd-most e p q =
+    gcd_most e p q =
         elim (dec_lt (last both (suc (a + b)) - 1) e) [
-          | yes l ↦ clash (both_is e p q) (last-above both (suc (a + b)) e (omega arith) (omega (arith, le_of_dvd some (dvd-add e p q))))
+          | yes l ↦ clash (both_is e p q) (last_above both (suc (a + b)) e (omega arith) (omega (arith, le_of_dvd some (dvd-add e p q))))
           | no l ↦ omega arith
         ]
 
-    pub gcd-pos : 0 < gcd a b
-    gcd-pos = gcd-most 1 (one-dvd a) (one-dvd b)
+    pub gcd_pos : 0 < gcd a b
+    gcd_pos = gcd_most 1 (one-dvd a) (one-dvd b)
 
-    pub gcd-both : (gcd a b ∣ a) × (gcd a b ∣ b)
+    pub gcd_both : (gcd a b ∣ a) × (gcd a b ∣ b)
     unfolding gcd
-    gcd-both =
-        let e = last-is both (suc (a + b)) (omega (arith, gcd-pos)) in
+    gcd_both =
+        let e = last_is both (suc (a + b)) (omega (arith, gcd_pos)) in
         let g = last both (suc (a + b)) - 1 in
-        (divides-is g a (and_left (divides g a) (divides g b) e), divides-is g b (and_right (divides g a) (divides g b) e))
+        (divides_is g a (and_left (divides g a) (divides g b) e), divides_is g b (and_right (divides g a) (divides g b) e))
 
 -- a number that has a divisor above 1 with another is above 1
-pub gcd-above : (a b : ℕ) → 0 < b → 1 < gcd a b → 1 < b
-gcd-above a b h g = omega (arith, le_of_dvd h (gcd-both a b (omega arith)).1)
+pub gcd_above : (a b : ℕ) → 0 < b → 1 < gcd a b → 1 < b
+gcd_above a b h g = omega (arith, le_of_dvd h (gcd_both a b (omega arith)).1)
 
 -- the gcd either way round, with 0, and less one of the two
 pub gcd_swap : (a b : ℕ) → gcd a b ≡ gcd b a
@@ -75,16 +75,16 @@ gcd_swap a b =
     swap false true = refl
     swap false false = refl
 
-pub gcd-zero : (a : ℕ) → gcd a 0 ≡ a
+pub gcd_zero : (a : ℕ) → gcd a 0 ≡ a
 unfolding gcd divides last
-gcd-zero zero = refl
-gcd-zero (suc n) = gcd-is (suc n) 0 (suc n) (dvd_refl (suc n)) (dvd-zero (suc n)) (omega arith) (λ e p q. le_of_dvd (omega arith) p)
+gcd_zero zero = refl
+gcd_zero (suc n) = gcd_is (suc n) 0 (suc n) (dvd_refl (suc n)) (dvd-zero (suc n)) (omega arith) (λ e p q. le_of_dvd (omega arith) p)
 
-pub gcd-less : (a b : ℕ) → b ≤ a → 0 < a → gcd (a - b) b ≡ gcd a b
-gcd-less a b h l =
-    let (p, q) = gcd-both a b (omega arith) in
-    gcd-is (a - b) b (gcd a b) (dvd-sub (gcd a b) p q) q (omega (arith, le_of_dvd l p))
-    (λ e u v. gcd-most a b (omega arith) e (subst (λ n. e ∣ n) (omega arith) (dvd-add e u v)) v)
+pub gcd_less : (a b : ℕ) → b ≤ a → 0 < a → gcd (a - b) b ≡ gcd a b
+gcd_less a b h l =
+    let (p, q) = gcd_both a b (omega arith) in
+    gcd_is (a - b) b (gcd a b) (dvd-sub (gcd a b) p q) q (omega (arith, le_of_dvd l p))
+    (λ e u v. gcd_most a b (omega arith) e (subst (λ n. e ∣ n) (omega arith) (dvd-add e u v)) v)
 
 -- o is the order of x modulo M
 pub record Order (x M o : ℕ) : Type 0 where
@@ -96,14 +96,14 @@ pub order : (x M : ℕ) → 0 < M → (o : ℕ) × Order x M o
 order x M l = go (least (λ i. divides M (x * suc i)) M)
   where
     go : Least (λ i. divides M (x * suc i)) M → (o : ℕ) × Order x M o
-    go (inl (k, lk, e, low)) = (suc k, record { pos = omega arith; back = divides-is M (x * suc k) e; first = first k low })
+    go (inl (k, lk, e, low)) = (suc k, record { pos = omega arith; back = divides_is M (x * suc k) e; first = first k low })
       where
         first : (k : ℕ) → ((i : ℕ) → i < k → divides M (x * suc i) ≡ false) → (j : ℕ) → 0 < j → j < suc k → M ∣ x * j → ⊥
         first k low zero z h d = omega arith
-        first k low (suc j) z h d = clash (is-divides M (x * suc j) d) (low j (omega arith))
+        first k low (suc j) z h d = clash (is_divides M (x * suc j) d) (low j (omega arith))
     go (inr f) =
         let e : x * suc (M - 1) ≡ M * x = ap (λ n. x * n) (omega arith) ∙ mul_comm x M in
-        clash (is-divides M (x * suc (M - 1)) (subst (λ n. M ∣ n) (sym e) (dvd-mul_right M x))) (f (M - 1) (omega arith))
+        clash (is_divides M (x * suc (M - 1)) (subst (λ n. M ∣ n) (sym e) (dvd-mul_right M x))) (f (M - 1) (omega arith))
 
 module _ (x y o : ℕ) (O : Order x (x + y) o) (l : 0 < x + y) where
   abbrev M : ℕ
@@ -168,9 +168,9 @@ module _ (x y o : ℕ) (O : Order x (x + y) o) (l : 0 < x + y) where
           some zero a = omega (arith, a, mul-zero e)
           some (suc j) a = omega arith
 
-  pub order-gcd : o * gcd x y ≡ x + y
-  order-gcd =
-      ap (λ n. o * n) (gcd-is x y h (subst (λ n. h ∣ n) (sym in_x) (dvd-mul_right h m)) (subst (λ n. h ∣ n) (sym in_y) (dvd-mul_right h (o - m))) small most) ∙ sym exact
+  pub order_gcd : o * gcd x y ≡ x + y
+  order_gcd =
+      ap (λ n. o * n) (gcd_is x y h (subst (λ n. h ∣ n) (sym in_x) (dvd-mul_right h m)) (subst (λ n. h ∣ n) (sym in_y) (dvd-mul_right h (o - m))) small most) ∙ sym exact
     where
       small : h ≤ x + y
       small = let a : 1 * h ≤ o * h = mul-le-mul_right h O.pos in omega (arith, exact)

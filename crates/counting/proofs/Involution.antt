@@ -11,7 +11,7 @@ use Rattle.counting.specs.Lists.{one}
 use Rattle.counting.specs.Search.{count}
 use Rattle.counting.specs.claims.Lists.{rise}
 use Rattle.counting.proofs.Bools.{clash}
-use Rattle.counting.proofs.Search.{count-sum}
+use Rattle.counting.proofs.Search.{count_sum}
 
 -- the test without the number a
 unfoldable pub less : (ℕ → Bool) → ℕ → ℕ → Bool
@@ -21,9 +21,9 @@ less_other : (f : ℕ → Bool) (a i : ℕ) → (i ≡ a → ⊥) → less f a i
 unfolding less
 less_other f a i h = simp (ne_eqb i a h)
 
-less-same : (f : ℕ → Bool) (a : ℕ) → less f a a ≡ false
+less_same : (f : ℕ → Bool) (a : ℕ) → less f a a ≡ false
 unfolding less
-less-same f a = simp (eq-eqb a a refl)
+less_same f a = simp (eq-eqb a a refl)
 
 count_less_out : (f : ℕ → Bool) (a n : ℕ) → n ≤ a → count (less f a) n ≡ count f n
 unfolding count
@@ -35,7 +35,7 @@ unfolding count
 count_less f a zero h q = absurd (omega arith)
 count_less f a (suc n) h q =
     elim (ℕ_discrete n a) [
-      | yes e ↦ rw e (rw (count_less_out f a a (omega arith), less-same f a, q) (omega arith))
+      | yes e ↦ rw e (rw (count_less_out f a a (omega arith), less_same f a, q) (omega arith))
       | no e ↦ rw (less_other f a n e) (omega (arith, count_less f a n (omega arith) q))
     ]
 
@@ -102,13 +102,13 @@ module _ (j : ℕ → Bool) (p : ℕ → ℕ) (n : ℕ)
     apart = λ i k a b e f. same i k a b (ways r j p i e).0 (ways r j p k f).0;
   }
 
-  up-down : count (rise j p) n ≤ count (fall j p) n
+  up_down : count (rise j p) n ≤ count (fall j p) n
   unfolding rise fall way
-  up-down = turned ltb
+  up_down = turned ltb
 
-  down-up : count (fall j p) n ≤ count (rise j p) n
+  down_up : count (fall j p) n ≤ count (rise j p) n
   unfolding rise fall way
-  down-up = turned (λ a b. ltb b a)
+  down_up = turned (λ a b. ltb b a)
 
   split : (i : ℕ) → i < n → one (j i) ≡ one (rise j p i) + one (fall j p i)
   unfolding rise fall way
@@ -123,4 +123,4 @@ module _ (j : ℕ → Bool) (p : ℕ → ℕ) (n : ℕ)
       go false q = simp q
 
   pub paired : count j n ≡ 2 * count (rise j p) n
-  paired = omega (arith, count-sum j (rise j p) (fall j p) n split, up-down, down-up)
+  paired = omega (arith, count_sum j (rise j p) (fall j p) n split, up_down, down_up)

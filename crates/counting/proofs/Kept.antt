@@ -10,7 +10,7 @@ use lib.ListN.{length, get_or}
 use Rattle.counting.specs.Pick.{pick}
 use Rattle.counting.specs.Lists.{one, total, over, kept, tally}
 use Rattle.counting.proofs.Bools.{clash}
-use Rattle.counting.proofs.Lists.{tally-over}
+use Rattle.counting.proofs.Lists.{tally_over}
 use Rattle.counting.proofs.Range.{total_ext, total_shift}
 
 module _ (t : ℕ → Bool) where
@@ -24,10 +24,10 @@ module _ (t : ℕ → Bool) where
   later K = record { low = omega (arith, K.low); high = omega (arith, K.high); passes = K.passes }
 
   -- each of them is one, in rising order, and every one is there
-  pub kept-is : (n p i : ℕ) → i < length (kept t n p) → Passing n p (get_or (kept t n p) i 0)
+  pub kept_is : (n p i : ℕ) → i < length (kept t n p) → Passing n p (get_or (kept t n p) i 0)
   unfolding over kept
-  kept-is zero p i h = absurd (not-suc-le-zero h)
-  kept-is (suc n) p i h = go (kept-is n (suc p)) (t p) refl i h
+  kept_is zero p i h = absurd (not-suc-le-zero h)
+  kept_is (suc n) p i h = go (kept_is n (suc p)) (t p) refl i h
     where
       go : ((i : ℕ) → i < length (kept t n (suc p)) → Passing n (suc p) (get_or (kept t n (suc p)) i 0)) → (b : Bool) → t p ≡ b → (i : ℕ)
           → i < length (pick b (p ∷ []) [] ++ kept t n (suc p)) → Passing (suc n) p (get_or (pick b (p ∷ []) [] ++ kept t n (suc p)) i 0)
@@ -35,23 +35,23 @@ module _ (t : ℕ → Bool) where
       go ih true e zero l = record { low = omega arith; high = omega arith; passes = e }
       go ih true e (suc i) l = later (ih i (omega arith))
 
-  pub kept-rise : (n p i j : ℕ) → i < j → j < length (kept t n p) → get_or (kept t n p) i 0 < get_or (kept t n p) j 0
+  pub kept_rise : (n p i j : ℕ) → i < j → j < length (kept t n p) → get_or (kept t n p) i 0 < get_or (kept t n p) j 0
   unfolding over kept
-  kept-rise zero p i j h l = absurd (not-suc-le-zero l)
-  kept-rise (suc n) p i j h l = go (kept-rise n (suc p)) (t p) i j h l
+  kept_rise zero p i j h l = absurd (not-suc-le-zero l)
+  kept_rise (suc n) p i j h l = go (kept_rise n (suc p)) (t p) i j h l
     where
       go : ((i j : ℕ) → i < j → j < length (kept t n (suc p)) → get_or (kept t n (suc p)) i 0 < get_or (kept t n (suc p)) j 0) → (b : Bool) (i j : ℕ) → i < j
           → j < length (pick b (p ∷ []) [] ++ kept t n (suc p)) → get_or (pick b (p ∷ []) [] ++ kept t n (suc p)) i 0 < get_or (pick b (p ∷ []) [] ++ kept t n (suc p)) j 0
       go ih false i j h l = ih i j h l
       go ih true i zero h l = absurd (not-suc-le-zero h)
-      go ih true zero (suc j) h l = (kept-is n (suc p) j (omega arith)).low
+      go ih true zero (suc j) h l = (kept_is n (suc p) j (omega arith)).low
       go ih true (suc i) (suc j) h l = ih i j (omega arith) (omega arith)
 
-  pub kept-all : (n p q : ℕ) → p ≤ q → q < p + n → t q ≡ true → (i : ℕ) × (i < length (kept t n p)) × (get_or (kept t n p) i 0 ≡ q)
+  pub kept_all : (n p q : ℕ) → p ≤ q → q < p + n → t q ≡ true → (i : ℕ) × (i < length (kept t n p)) × (get_or (kept t n p) i 0 ≡ q)
   unfolding over kept
-  kept-all zero p q a b e = absurd (omega arith)
-  kept-all (suc n) p q a b e =
-      ⊎_elim (λ (s : p ≡ q). here (t p) s (ap t s ∙ e)) (λ (l : p < q). go (t p) (kept-all n (suc p) q l (omega arith) e)) (eq-or-lt_of_le a)
+  kept_all zero p q a b e = absurd (omega arith)
+  kept_all (suc n) p q a b e =
+      ⊎_elim (λ (s : p ≡ q). here (t p) s (ap t s ∙ e)) (λ (l : p < q). go (t p) (kept_all n (suc p) q l (omega arith) e)) (eq-or-lt_of_le a)
     where
       here : (b : Bool) → p ≡ q → b ≡ true → (i : ℕ) × (i < length (pick b (p ∷ []) [] ++ kept t n (suc p))) × (get_or (pick b (p ∷ []) [] ++ kept t n (suc p)) i 0 ≡ q)
       here false s f = clash f refl
@@ -67,10 +67,10 @@ module _ (t : ℕ → Bool) where
     abbrev passing : ℕ → ℕ
     passing q = pick (t q) (g q) 0
 
-    pub kept-total : (n p j : ℕ) → j < length (kept t n p) → total (λ i. g (get_or (kept t n p) i 0)) j 0 ≡ total passing (get_or (kept t n p) j 0 - p) p
+    pub kept_total : (n p j : ℕ) → j < length (kept t n p) → total (λ i. g (get_or (kept t n p) i 0)) j 0 ≡ total passing (get_or (kept t n p) j 0 - p) p
     unfolding over kept total
-    kept-total zero p j h = absurd (not-suc-le-zero h)
-    kept-total (suc n) p j h = go (kept-total n (suc p)) (t p) refl j h
+    kept_total zero p j h = absurd (not-suc-le-zero h)
+    kept_total (suc n) p j h = go (kept_total n (suc p)) (t p) refl j h
       where
         -- one number more in front
         front : (k : ℕ) → suc p ≤ k → total passing (k - p) p ≡ passing p + total passing (k - suc p) (suc p)
@@ -81,18 +81,18 @@ module _ (t : ℕ → Bool) where
             → total (λ i. g (get_or (pick b (p ∷ []) [] ++ kept t n (suc p)) i 0)) j 0 ≡ total passing (get_or (pick b (p ∷ []) [] ++ kept t n (suc p)) j 0 - p) p
         go ih false e j l =
             let z : passing p ≡ 0 = ap (λ b. pick b (g p) 0) e in
-            omega (arith, ih j l, front (get_or (kept t n (suc p)) j 0) (kept-is n (suc p) j l).low)
+            omega (arith, ih j l, front (get_or (kept t n (suc p)) j 0) (kept_is n (suc p) j l).low)
         go ih true e zero l = let z : p - p ≡ 0 = omega arith in ap (λ m. total passing m p) (sym z)
         go ih true e (suc j) l =
             let z : passing p ≡ g p = ap (λ b. pick b (g p) 0) e in
             let k : j < length (kept t n (suc p)) = omega arith in
-            omega (arith, ih j k, front (get_or (kept t n (suc p)) j 0) (kept-is n (suc p) j k).low, total_shift (λ i. g (get_or (p ∷ kept t n (suc p)) i 0)) j 0)
+            omega (arith, ih j k, front (get_or (kept t n (suc p)) j 0) (kept_is n (suc p) j k).low, total_shift (λ i. g (get_or (p ∷ kept t n (suc p)) i 0)) j 0)
 
 -- how many of them pass another test
-pub tally-kept : (s t : ℕ → Bool) (n p : ℕ) → tally t (kept s n p) ≡ total (λ q. pick (s q) (one (t q)) 0) n p
+pub tally_kept : (s t : ℕ → Bool) (n p : ℕ) → tally t (kept s n p) ≡ total (λ q. pick (s q) (one (t q)) 0) n p
 unfolding kept tally
-tally-kept s t n p =
-    tally-over t (λ q. pick (s q) (q ∷ []) []) n p
+tally_kept s t n p =
+    tally_over t (λ q. pick (s q) (q ∷ []) []) n p
     ∙ total_ext (λ q. tally t (pick (s q) (q ∷ []) [])) (λ q. pick (s q) (one (t q)) 0) n p (λ q _ _. go q (s q))
   where
     go : (q : ℕ) (b : Bool) → tally t (pick b (q ∷ []) []) ≡ pick b (one (t q)) 0

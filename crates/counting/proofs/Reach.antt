@@ -8,7 +8,7 @@ use native.Mathlib.Nat.{eq-or-lt_of_le}
 use Rattle.counting.specs.Search.{some, count}
 use Rattle.counting.specs.Reach.{reach}
 use Rattle.counting.proofs.Bools.{and_true, and_left, and_right, or_left, or_right, or_cases}
-use Rattle.counting.proofs.Search.{some_ext, some_is, some-found, count-into, count_same, count-full}
+use Rattle.counting.proofs.Search.{some_ext, some_is, some_found, count_into, count_same, count_full}
 
 module _ (start : ℕ → Bool) (link : ℕ → ℕ → Bool) (C : ℕ) where
   R : ℕ → ℕ → Bool
@@ -35,33 +35,33 @@ module _ (start : ℕ → Bool) (link : ℕ → ℕ → Bool) (C : ℕ) where
       (λ (h : n ≤ count (R n) C). ⊎_elim
       (λ (q : count (R n) C ≡ count (R (suc n)) C). inr (stays n (count_same (R n) (R (suc n)) (more n) C q)))
       (λ (g : count (R n) C < count (R (suc n)) C). inl (omega arith))
-      (eq-or-lt_of_le (count-into (R n) (R (suc n)) (more n) C)))
+      (eq-or-lt_of_le (count_into (R n) (R (suc n)) (more n) C)))
       (λ (s : Stable n). inr (stays n s))
       (grows n)
 
   -- what C steps reach is all that can be reached
-  pub reach-closed : (d c : ℕ) → d < C → c < C → reach start link C C d ≡ true → link d c ≡ true → reach start link C C c ≡ true
+  pub reach_closed : (d c : ℕ) → d < C → c < C → reach start link C C d ≡ true → link d c ≡ true → reach start link C C c ≡ true
   unfolding R reach Stable
-  reach-closed d c l h r e = ⊎_elim
-      (λ (f : C ≤ count (R C) C). count-full (R C) C f c h)
+  reach_closed d c l h r e = ⊎_elim
+      (λ (f : C ≤ count (R C) C). count_full (R C) C f c h)
       (λ (s : Stable C). s c h ∙ or_right (reach start link C C c) (some (λ x. reach start link C C x && link x c) C)
-      (some-found (λ x. reach start link C C x && link x c) C d l (and_true (reach start link C C d) (link d c) r e)))
+      (some_found (λ x. reach start link C C x && link x c) C d l (and_true (reach start link C C d) (link d c) r e)))
       (grows C)
 
 module _ (start : ℕ → Bool) (link : ℕ → ℕ → Bool) (C : ℕ) where
-  pub reach-start : (n c : ℕ) → start c ≡ true → reach start link C n c ≡ true
+  pub reach_start : (n c : ℕ) → start c ≡ true → reach start link C n c ≡ true
   unfolding reach
-  reach-start zero c e = e
-  reach-start (suc n) c e = or_left (reach start link C n c) (some (λ d. reach start link C n d && link d c) C) (reach-start n c e)
+  reach_start zero c e = e
+  reach_start (suc n) c e = or_left (reach start link C n c) (some (λ d. reach start link C n d && link d c) C) (reach_start n c e)
 
 -- what is closed and has the start has all that is reached
 module _ (start : ℕ → Bool) (link : ℕ → ℕ → Bool) (C : ℕ) (P : ℕ → Type 0) (s : (c : ℕ) → start c ≡ true → P c)
     (l : (d c : ℕ) → d < C → c < C → P d → link d c ≡ true → P c) where
-  pub reach-holds : (n c : ℕ) → c < C → reach start link C n c ≡ true → P c
+  pub reach_holds : (n c : ℕ) → c < C → reach start link C n c ≡ true → P c
   unfolding reach
-  reach-holds zero c h e = s c e
-  reach-holds (suc n) c h e = ⊎_elim (λ (q : reach start link C n c ≡ true). reach-holds n c h q) (λ (q : some (λ d. reach start link C n d && link d c) C ≡ true).
+  reach_holds zero c h e = s c e
+  reach_holds (suc n) c h e = ⊎_elim (λ (q : reach start link C n c ≡ true). reach_holds n c h q) (λ (q : some (λ d. reach start link C n d && link d c) C ≡ true).
       (let w = some_is (λ d. reach start link C n d && link d c) C q in
-      l w.0 c w.1 h (reach-holds n w.0 w.1 (and_left (reach start link C n w.0) (link w.0 c) w.2))
+      l w.0 c w.1 h (reach_holds n w.0 w.1 (and_left (reach start link C n w.0) (link w.0 c) w.2))
       (and_right (reach start link C n w.0) (link w.0 c) w.2)))
       (or_cases (reach start link C n c) (some (λ d. reach start link C n d && link d c) C) e)

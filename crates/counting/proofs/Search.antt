@@ -13,7 +13,7 @@ use Rattle.counting.specs.Lists.{one, total, seek}
 use Rattle.counting.specs.Search.{first, last, some, every, count}
 use Rattle.counting.proofs.Below.{trichotomy}
 use Rattle.counting.proofs.Bools.{not_clash, clash, and_true, and_left, and_right, holds_or, one_le}
-use Rattle.counting.proofs.Range.{total_ext, total_le, total_mono, total_snoc, total_swap, total_times, total-at}
+use Rattle.counting.proofs.Range.{total_ext, total_le, total_mono, total_snoc, total_swap, total_times, total_at}
 
 -- below n, or at the last of suc n numbers
 pub below-or : (i n : ℕ) → i < suc n → (i ≡ n) ⊎ (i < n)
@@ -37,13 +37,13 @@ module _ (t : ℕ → Bool) where
     unfolding seek
     seek_miss h e = rw (one_more h, e, add-one)
 
-    pub seek-end : n ≤ k → seek t (n - k) k ≡ k
+    pub seek_end : n ≤ k → seek t (n - k) k ≡ k
     unfolding seek
-    seek-end h = let e : n - k ≡ 0 = omega arith in rw e
+    seek_end h = let e : n - k ≡ 0 = omega arith in rw e
 
-  pub seek-start : (n : ℕ) → first t n ≡ seek t (n - 0) 0
+  pub seek_start : (n : ℕ) → first t n ≡ seek t (n - 0) 0
   unfolding first
-  seek-start n = let e : n - 0 ≡ n = omega arith in rw e
+  seek_start n = let e : n - 0 ≡ n = omega arith in rw e
 
   -- none below k passes, of n numbers: the search goes on at k
   pub record Seeking (n k : ℕ) : Type 0 where
@@ -51,7 +51,7 @@ module _ (t : ℕ → Bool) where
     pub is : first t n ≡ seek t (n - k) k
 
   pub seeking_none : (n : ℕ) → Seeking n 0
-  seeking_none n = record { within = omega arith; is = seek-start n }
+  seeking_none n = record { within = omega arith; is = seek_start n }
 
   module _ {n k : ℕ} (S : Seeking n k) where
     pub seeking_hit : k < n → t k ≡ true → k ≡ first t n
@@ -61,7 +61,7 @@ module _ (t : ℕ → Bool) where
     seeking_more h e = record { within = omega arith; is = S.is ∙ seek_miss n k h e }
 
     pub seeking_all : n ≤ k → n ≡ first t n
-    seeking_all h = let e : k ≡ n = omega (arith, S.within) in sym (S.is ∙ seek-end n k h ∙ e)
+    seeking_all h = let e : k ≡ n = omega (arith, S.within) in sym (S.is ∙ seek_end n k h ∙ e)
 
   -- what a search from k over n numbers finds
   pub record Sought (n k r : ℕ) : Type 0 where
@@ -89,40 +89,40 @@ module _ (t : ℕ → Bool) where
   unfolding first
   first_le n = omega (arith, (sought n 0).high)
 
-  pub first-is : (n : ℕ) → first t n < n → t (first t n) ≡ true
+  pub first_is : (n : ℕ) → first t n < n → t (first t n) ≡ true
   unfolding first
-  first-is n h = (sought n 0).is (omega arith)
+  first_is n h = (sought n 0).is (omega arith)
 
   pub first_below : (n i : ℕ) → i < first t n → t i ≡ false
   unfolding first
   first_below n i h = (sought n 0).none i (omega arith) h
 
   -- where the search finds none, none passes
-  pub first-none : (n : ℕ) → n ≤ first t n → (i : ℕ) → i < n → t i ≡ false
-  first-none n h i l = first_below n i (omega arith)
+  pub first_none : (n : ℕ) → n ≤ first t n → (i : ℕ) → i < n → t i ≡ false
+  first_none n h i l = first_below n i (omega arith)
 
   pub none_first : (n : ℕ) → ((i : ℕ) → i < n → t i ≡ false) → first t n ≡ n
   none_first n h =
-      ⊎_elim (λ (e : first t n ≡ n). e) (λ (l : first t n < n). clash (first-is n l) (h (first t n) l)) (eq-or-lt_of_le (first_le n))
+      ⊎_elim (λ (e : first t n ≡ n). e) (λ (l : first t n < n). clash (first_is n l) (h (first t n) l)) (eq-or-lt_of_le (first_le n))
 
-  pub first-at : (n i : ℕ) → i < n → t i ≡ true → ((j : ℕ) → j < i → t j ≡ false) → first t n ≡ i
-  first-at n i l e h =
-      trichotomy (first t n) i (λ a. clash (first-is n (omega arith)) (h (first t n) a)) (λ a. clash e (first_below n i a)) (λ q. q)
+  pub first_at : (n i : ℕ) → i < n → t i ≡ true → ((j : ℕ) → j < i → t j ≡ false) → first t n ≡ i
+  first_at n i l e h =
+      trichotomy (first t n) i (λ a. clash (first_is n (omega arith)) (h (first t n) a)) (λ a. clash e (first_below n i a)) (λ q. q)
 
   pub least : (n : ℕ) → Least t n
   least n =
       ⊎_elim (λ (e : first t n ≡ n). inr (λ i h. first_below n i (omega arith)))
-      (λ (l : first t n < n). inl (first t n, l, first-is n l, λ i h. first_below n i h)) (eq-or-lt_of_le (first_le n))
+      (λ (l : first t n < n). inl (first t n, l, first_is n l, λ i h. first_below n i h)) (eq-or-lt_of_le (first_le n))
 
 module _ (t : ℕ → Bool) where
   -- some number below n passes
-  pub some-zero : some t 0 ≡ false
+  pub some_zero : some t 0 ≡ false
   unfolding some
-  some-zero = refl
+  some_zero = refl
 
-  pub some-hit : (n : ℕ) → t n ≡ true → some t (n + 1) ≡ true
+  pub some_hit : (n : ℕ) → t n ≡ true → some t (n + 1) ≡ true
   unfolding some
-  some-hit n e = rw (add-one, e)
+  some_hit n e = rw (add-one, e)
 
   pub some_miss : (n : ℕ) → t n ≡ false → some t (n + 1) ≡ some t n
   unfolding some
@@ -133,16 +133,16 @@ module _ (t : ℕ → Bool) where
     up : n - 1 + 1 ≡ n
     up = omega arith
 
-    pub down-hit : t (n - 1) ≡ true → some t n ≡ true
-    down-hit e = rw up at (some-hit (n - 1) e)
+    pub down_hit : t (n - 1) ≡ true → some t n ≡ true
+    down_hit e = rw up at (some_hit (n - 1) e)
 
     pub down_miss : t (n - 1) ≡ false → some t n ≡ some t (n - 1)
     down_miss e = rw up at (some_miss (n - 1) e)
 
-  pub some-none : (n : ℕ) → some t n ≡ false → (i : ℕ) → i < n → t i ≡ false
+  pub some_none : (n : ℕ) → some t n ≡ false → (i : ℕ) → i < n → t i ≡ false
   unfolding some
-  some-none zero e i h = absurd (not-suc-le-zero h)
-  some-none (suc n) e i h = go (some-none n) (t n) refl e
+  some_none zero e i h = absurd (not-suc-le-zero h)
+  some_none (suc n) e i h = go (some_none n) (t n) refl e
     where
       go : (some t n ≡ false → (i : ℕ) → i < n → t i ≡ false) → (b : Bool) → t n ≡ b → pick b true (some t n) ≡ false → t i ≡ false
       go ih true q f = clash refl f
@@ -157,35 +157,35 @@ module _ (t : ℕ → Bool) where
       go ih true q f = (n, omega arith, q)
       go ih false q f = let w = ih f in (w.0, omega (arith, w.1), w.2)
 
-  pub some-found : (n i : ℕ) → i < n → t i ≡ true → some t n ≡ true
-  some-found n i l e = ⊎_elim (λ q. q) (λ (q : some t n ≡ false). clash e (some-none n q i l)) (holds_or (some t n))
+  pub some_found : (n i : ℕ) → i < n → t i ≡ true → some t n ≡ true
+  some_found n i l e = ⊎_elim (λ q. q) (λ (q : some t n ≡ false). clash e (some_none n q i l)) (holds_or (some t n))
 
-  pub none-some : (n : ℕ) → ((i : ℕ) → i < n → t i ≡ false) → some t n ≡ false
-  none-some n h = ⊎_elim (λ (q : some t n ≡ true). (let w = some_is n q in clash w.2 (h w.0 w.1))) (λ q. q) (holds_or (some t n))
+  pub none_some : (n : ℕ) → ((i : ℕ) → i < n → t i ≡ false) → some t n ≡ false
+  none_some n h = ⊎_elim (λ (q : some t n ≡ true). (let w = some_is n q in clash w.2 (h w.0 w.1))) (λ q. q) (holds_or (some t n))
 
   -- every number below n passes
-  pub every-is : (n : ℕ) → every t n ≡ true → (i : ℕ) → i < n → t i ≡ true
+  pub every_is : (n : ℕ) → every t n ≡ true → (i : ℕ) → i < n → t i ≡ true
   unfolding every
-  every-is zero e i h = absurd (not-suc-le-zero h)
-  every-is (suc n) e i h =
-      ⊎_elim (λ (q : i ≡ n). rw q (and_right (every t n) (t n) e)) (λ (l : i < n). every-is n (and_left (every t n) (t n) e) i l) (below-or i n h)
+  every_is zero e i h = absurd (not-suc-le-zero h)
+  every_is (suc n) e i h =
+      ⊎_elim (λ (q : i ≡ n). rw q (and_right (every t n) (t n) e)) (λ (l : i < n). every_is n (and_left (every t n) (t n) e) i l) (below-or i n h)
 
-  pub is-every : (n : ℕ) → ((i : ℕ) → i < n → t i ≡ true) → every t n ≡ true
+  pub is_every : (n : ℕ) → ((i : ℕ) → i < n → t i ≡ true) → every t n ≡ true
   unfolding every
-  is-every zero h = refl
-  is-every (suc n) h = and_true (every t n) (t n) (is-every n (λ i l. h i (omega arith))) (h n (omega arith))
+  is_every zero h = refl
+  is_every (suc n) h = and_true (every t n) (t n) (is_every n (λ i l. h i (omega arith))) (h n (omega arith))
 
-  pub every-not : (n i : ℕ) → i < n → t i ≡ false → every t n ≡ false
-  every-not n i h e = not_clash (every t n) (λ q. clash (every-is n q i h) e)
+  pub every_not : (n i : ℕ) → i < n → t i ≡ false → every t n ≡ false
+  every_not n i h e = not_clash (every t n) (λ q. clash (every_is n q i h) e)
 
   -- the last number below n that passes
   pub last_none : last t 0 ≡ 0
   unfolding last
   last_none = refl
 
-  pub last-hit : (n : ℕ) → t n ≡ true → last t (n + 1) ≡ n + 1
+  pub last_hit : (n : ℕ) → t n ≡ true → last t (n + 1) ≡ n + 1
   unfolding last
-  last-hit n e = rw (add-one, e)
+  last_hit n e = rw (add-one, e)
 
   pub last_miss : (n : ℕ) → t n ≡ false → last t (n + 1) ≡ last t n
   unfolding last
@@ -201,38 +201,38 @@ module _ (t : ℕ → Bool) where
       go false h = omega arith
 
   -- what is found passes, and nothing above it does
-  pub last-is : (n : ℕ) → 0 < last t n → t (last t n - 1) ≡ true
+  pub last_is : (n : ℕ) → 0 < last t n → t (last t n - 1) ≡ true
   unfolding last
-  last-is zero h = absurd (not-suc-le-zero h)
-  last-is (suc n) h = go (last-is n) (t n) refl h
+  last_is zero h = absurd (not-suc-le-zero h)
+  last_is (suc n) h = go (last_is n) (t n) refl h
     where
       go : (0 < last t n → t (last t n - 1) ≡ true) → (b : Bool) → t n ≡ b → 0 < pick b (suc n) (last t n) → t (pick b (suc n) (last t n) - 1) ≡ true
       go ih true e h = let f : suc n - 1 ≡ n = omega arith in rw f e
       go ih false e h = ih h
 
-  pub last-above : (n i : ℕ) → last t n ≤ i → i < n → t i ≡ false
+  pub last_above : (n i : ℕ) → last t n ≤ i → i < n → t i ≡ false
   unfolding last
-  last-above zero i l h = absurd (not-suc-le-zero h)
-  last-above (suc n) i l h = go (last-above n i) (t n) refl l h
+  last_above zero i l h = absurd (not-suc-le-zero h)
+  last_above (suc n) i l h = go (last_above n i) (t n) refl l h
     where
       go : (last t n ≤ i → i < n → t i ≡ false) → (b : Bool) → t n ≡ b → pick b (suc n) (last t n) ≤ i → i < suc n → t i ≡ false
       go ih true e l h = absurd (omega arith)
       go ih false e l h = ⊎_elim (λ (q : i ≡ n). rw q e) (λ (g : i < n). ih l g) (below-or i n h)
 
-  pub last-at : (n m : ℕ) → m < n → t m ≡ true → ((i : ℕ) → m < i → i < n → t i ≡ false) → last t n ≡ m + 1
+  pub last_at : (n m : ℕ) → m < n → t m ≡ true → ((i : ℕ) → m < i → i < n → t i ≡ false) → last t n ≡ m + 1
   unfolding last
-  last-at zero m l e h = absurd (not-suc-le-zero l)
-  last-at (suc n) m l e h =
+  last_at zero m l e h = absurd (not-suc-le-zero l)
+  last_at (suc n) m l e h =
       ⊎_elim
       (λ (q : m ≡ n). rw (← q, e) (sym (add-one m)))
-      (λ (g : m < n). rw (h n g (omega arith)) (last-at n m g e (λ i a b. h i a (omega arith))))
+      (λ (g : m < n). rw (h n g (omega arith)) (last_at n m g e (λ i a b. h i a (omega arith))))
       (below-or m n l)
 
   -- some number passes exactly if a last one is found
-  pub some-last : (n : ℕ) → some t n ≡ ltb 0 (last t n)
+  pub some_last : (n : ℕ) → some t n ≡ ltb 0 (last t n)
   unfolding some last
-  some-last zero = refl
-  some-last (suc n) = go (some-last n) (t n)
+  some_last zero = refl
+  some_last (suc n) = go (some_last n) (t n)
     where
       go : some t n ≡ ltb 0 (last t n) → (b : Bool) → pick b true (some t n) ≡ ltb 0 (pick b (suc n) (last t n))
       go ih true = sym (lt-ltb 0 (suc n) (omega arith))
@@ -240,17 +240,17 @@ module _ (t : ℕ → Bool) where
 
   -- through a wider test
   module _ (u : ℕ → Bool) (wide : (x : ℕ) → u x ≡ false → t x ≡ false) where
-    pub last-through : (n : ℕ) → last t n ≡ last t (last u n)
+    pub last_through : (n : ℕ) → last t n ≡ last t (last u n)
     unfolding last
-    last-through zero = refl
-    last-through (suc n) = go (last-through n) (u n) refl
+    last_through zero = refl
+    last_through (suc n) = go (last_through n) (u n) refl
       where
         go : last t n ≡ last t (last u n) → (b : Bool) → u n ≡ b → last t (suc n) ≡ last t (pick b (suc n) (last u n))
         go ih true e = refl
         go ih false e = rw (wide n e) ih
 
-pub some-through : (t u : ℕ → Bool) → ((x : ℕ) → u x ≡ false → t x ≡ false) → (n : ℕ) → some t n ≡ some t (last u n)
-some-through t u wide n = some-last t n ∙ ap (λ (x : ℕ). ltb 0 x) (last-through t u wide n) ∙ sym (some-last t (last u n))
+pub some_through : (t u : ℕ → Bool) → ((x : ℕ) → u x ≡ false → t x ≡ false) → (n : ℕ) → some t n ≡ some t (last u n)
+some_through t u wide n = some_last t n ∙ ap (λ (x : ℕ). ltb 0 x) (last_through t u wide n) ∙ sym (some_last t (last u n))
 
 -- the last of m + k numbers: among the k after the first m, or else among these
 pub last_plus : (t : ℕ → Bool) (m k : ℕ) → last t (m + k) ≡ pick (ltb 0 (last (λ i. t (m + i)) k)) (m + last (λ i. t (m + i)) k) (last t m)
@@ -322,46 +322,46 @@ some_blocks t b (suc n) = let e : b * suc n ≡ b * n + b = mul-suc b n in rw (e
 
 module _ (t : ℕ → Bool) where
   -- how many numbers below n pass, as a sum
-  pub count-total : (n : ℕ) → count t n ≡ total (λ i. one (t i)) n 0
+  pub count_total : (n : ℕ) → count t n ≡ total (λ i. one (t i)) n 0
   unfolding count total
-  count-total zero = refl
-  count-total (suc n) =
+  count_total zero = refl
+  count_total (suc n) =
       let e : 0 + n ≡ n = omega arith in
-      ap (λ k. k + one (t n)) (count-total n) ∙ sym (total_snoc (λ i. one (t i)) n 0 ∙ ap (λ k. total (λ i. one (t i)) n 0 + one (t k)) e)
+      ap (λ k. k + one (t n)) (count_total n) ∙ sym (total_snoc (λ i. one (t i)) n 0 ∙ ap (λ k. total (λ i. one (t i)) n 0 + one (t k)) e)
 
   pub count_le : (n : ℕ) → count t n ≤ n
-  count_le n = rw (count-total n) (total_le (λ i. one (t i)) n 0 (λ i. one_le (t i)))
+  count_le n = rw (count_total n) (total_le (λ i. one (t i)) n 0 (λ i. one_le (t i)))
 
   pub count_none : (n : ℕ) → ((i : ℕ) → i < n → t i ≡ false) → count t n ≡ 0
   unfolding count
   count_none zero h = refl
   count_none (suc n) h = rw (h n (omega arith), count_none n (λ i l. h i (omega arith)))
 
-  pub count-all : (n : ℕ) → ((i : ℕ) → i < n → t i ≡ true) → count t n ≡ n
+  pub count_all : (n : ℕ) → ((i : ℕ) → i < n → t i ≡ true) → count t n ≡ n
   unfolding count
-  count-all zero h = refl
-  count-all (suc n) h = rw (h n (omega arith), count-all n (λ i l. h i (omega arith))) (omega arith)
+  count_all zero h = refl
+  count_all (suc n) h = rw (h n (omega arith), count_all n (λ i l. h i (omega arith))) (omega arith)
 
-  pub count-full : (n : ℕ) → n ≤ count t n → (i : ℕ) → i < n → t i ≡ true
+  pub count_full : (n : ℕ) → n ≤ count t n → (i : ℕ) → i < n → t i ≡ true
   unfolding count
-  count-full zero h i l = absurd (not-suc-le-zero l)
-  count-full (suc n) h i l = go (count-full n) (count_le n) (t n) refl h
+  count_full zero h i l = absurd (not-suc-le-zero l)
+  count_full (suc n) h i l = go (count_full n) (count_le n) (t n) refl h
     where
       go : (n ≤ count t n → (i : ℕ) → i < n → t i ≡ true) → count t n ≤ n → (b : Bool) → t n ≡ b → suc n ≤ count t n + one b → t i ≡ true
       go ih m true e g = ⊎_elim (λ (q : i ≡ n). rw q e) (λ (k : i < n). ih (omega arith) i k) (below-or i n l)
       go ih m false e g = absurd (omega arith)
 
-  pub count-pos : (n i : ℕ) → i < n → t i ≡ true → 1 ≤ count t n
+  pub count_pos : (n i : ℕ) → i < n → t i ≡ true → 1 ≤ count t n
   unfolding count
-  count-pos zero i l e = absurd (not-suc-le-zero l)
-  count-pos (suc n) i l e =
-      ⊎_elim (λ (q : i ≡ n). rw (ap t (sym q) ∙ e) (omega arith)) (λ (k : i < n). omega (arith, count-pos n i k e)) (below-or i n l)
+  count_pos zero i l e = absurd (not-suc-le-zero l)
+  count_pos (suc n) i l e =
+      ⊎_elim (λ (q : i ≡ n). rw (ap t (sym q) ∙ e) (omega arith)) (λ (k : i < n). omega (arith, count_pos n i k e)) (below-or i n l)
 
   pub count_two_of : (n i j : ℕ) → i < j → j < n → t i ≡ true → t j ≡ true → 2 ≤ count t n
   unfolding count
   count_two_of zero i j l m e f = absurd (not-suc-le-zero m)
   count_two_of (suc n) i j l m e f =
-      ⊎_elim (λ (q : j ≡ n). rw (ap t (sym q) ∙ f) (omega (arith, count-pos n i (omega arith) e)))
+      ⊎_elim (λ (q : j ≡ n). rw (ap t (sym q) ∙ f) (omega (arith, count_pos n i (omega arith) e)))
       (λ (k : j < n). omega (arith, count_two_of n i j l k e f)) (below-or j n m)
 
   pub count_plus : (m k : ℕ) → count t (m + k) ≡ count (λ i. t (m + i)) k + count t m
@@ -370,10 +370,10 @@ module _ (t : ℕ → Bool) where
   count_plus m (suc k) = let e : m + suc k ≡ suc (m + k) = omega arith in rw e (omega (arith, count_plus m k))
 
   -- up to the last that passes
-  pub count-last : (n : ℕ) → count t n ≡ pick (ltb 0 (last t n)) (suc (count t (last t n - 1))) 0
+  pub count_last : (n : ℕ) → count t n ≡ pick (ltb 0 (last t n)) (suc (count t (last t n - 1))) 0
   unfolding count last
-  count-last zero = refl
-  count-last (suc n) = go (count-last n) (t n)
+  count_last zero = refl
+  count_last (suc n) = go (count_last n) (t n)
     where
       go : count t n ≡ pick (ltb 0 (last t n)) (suc (count t (last t n - 1))) 0
           → (b : Bool) → count t n + one b ≡ pick (ltb 0 (pick b (suc n) (last t n))) (suc (count t (pick b (suc n) (last t n) - 1))) 0
@@ -396,32 +396,32 @@ module _ (t : ℕ → Bool) where
       go true e ih = omega (arith, count_none n (before e))
       go false e ih = omega arith
 
-  pub count-one : (n : ℕ) → AtMostOne n → count t n ≡ one (some t n)
-  count-one n h = ⊎_elim there (λ (e : some t n ≡ false). rw e (count_none n (λ i l. some-none t n e i l))) (holds_or (some t n))
+  pub count_one : (n : ℕ) → AtMostOne n → count t n ≡ one (some t n)
+  count_one n h = ⊎_elim there (λ (e : some t n ≡ false). rw e (count_none n (λ i l. some_none t n e i l))) (holds_or (some t n))
     where
       there : some t n ≡ true → count t n ≡ one (some t n)
-      there e = let w = some_is t n e in rw e (omega (arith, count_most n h, count-pos n w.0 w.1 w.2))
+      there e = let w = some_is t n e in rw e (omega (arith, count_most n h, count_pos n w.0 w.1 w.2))
 
 -- two or more: there is a last but one
-pub count-two : (t : ℕ → Bool) (n : ℕ) → 0 < last t n → ltb 1 (count t n) ≡ ltb 0 (last t (last t n - 1))
-count-two t n h = rw (count-last t n, lt-ltb 0 (last t n) h, count-last t (last t n - 1)) (go (last t (last t n - 1)))
+pub count_two : (t : ℕ → Bool) (n : ℕ) → 0 < last t n → ltb 1 (count t n) ≡ ltb 0 (last t (last t n - 1))
+count_two t n h = rw (count_last t n, lt-ltb 0 (last t n) h, count_last t (last t n - 1)) (go (last t (last t n - 1)))
   where
     go : (m : ℕ) → ltb 1 (suc (pick (ltb 0 m) (suc (count t (m - 1))) 0)) ≡ ltb 0 m
     go zero = refl
     go (suc m) = rw (lt-ltb 0 (suc m) (omega arith)) (lt-ltb 1 (suc (suc (count t (suc m - 1)))) (omega arith))
 
-pub count-zero : (t : ℕ → Bool) (n : ℕ) → last t n ≡ 0 → ltb 1 (count t n) ≡ false
-count-zero t n h = rw (count-last t n, h)
+pub count_zero : (t : ℕ → Bool) (n : ℕ) → last t n ≡ 0 → ltb 1 (count t n) ≡ false
+count_zero t n h = rw (count_last t n, h)
 
-pub two-counted : (t : ℕ → Bool) (n : ℕ) → ltb 1 (count t n) ≡ true → (i : ℕ) × (j : ℕ) × (i < j) × (j < n) × (t i ≡ true) × (t j ≡ true)
-two-counted t n h = go (last t n) refl
+pub two_counted : (t : ℕ → Bool) (n : ℕ) → ltb 1 (count t n) ≡ true → (i : ℕ) × (j : ℕ) × (i < j) × (j < n) × (t i ≡ true) × (t j ≡ true)
+two_counted t n h = go (last t n) refl
   where
     go : (m : ℕ) → last t n ≡ m → (i : ℕ) × (j : ℕ) × (i < j) × (j < n) × (t i ≡ true) × (t j ≡ true)
-    go zero e = absurd (clash h (count-zero t n e))
+    go zero e = absurd (clash h (count_zero t n e))
     go (suc m) e =
         let p : 0 < last t n = omega arith in
-        let q = ltb-true 0 (last t (last t n - 1)) (sym (count-two t n p) ∙ h) in
-        (last t (last t n - 1) - 1, last t n - 1, omega (arith, last_le t (last t n - 1)), omega (arith, last_le t n), last-is t (last t n - 1) q, last-is t n p)
+        let q = ltb-true 0 (last t (last t n - 1)) (sym (count_two t n p) ∙ h) in
+        (last t (last t n - 1) - 1, last t n - 1, omega (arith, last_le t (last t n - 1)), omega (arith, last_le t n), last_is t (last t n - 1) q, last_is t n p)
 
 -- in blocks of b numbers, of which at most one passes
 pub count_blocks : (t : ℕ → Bool) (b n : ℕ) → ((d : ℕ) → d < n → AtMostOne (λ i. t (b * d + i)) b)
@@ -430,26 +430,26 @@ unfolding count
 count_blocks t b zero h = let e : b * 0 ≡ 0 = simp mul-zero in rw e
 count_blocks t b (suc n) h =
     let e : b * suc n ≡ b * n + b = mul-suc b n in
-    rw e (omega (arith, count_plus t (b * n) b, count-one (λ i. t (b * n + i)) b (h n (omega arith)), count_blocks t b n (λ d l. h d (omega arith))))
+    rw e (omega (arith, count_plus t (b * n) b, count_one (λ i. t (b * n + i)) b (h n (omega arith)), count_blocks t b n (λ d l. h d (omega arith))))
 
 -- a test that is the sum of two
-pub count-sum : (f g h : ℕ → Bool) (n : ℕ) → ((i : ℕ) → i < n → one (f i) ≡ one (g i) + one (h i)) → count f n ≡ count g n + count h n
+pub count_sum : (f g h : ℕ → Bool) (n : ℕ) → ((i : ℕ) → i < n → one (f i) ≡ one (g i) + one (h i)) → count f n ≡ count g n + count h n
 unfolding count
-count-sum f g h zero e = refl
-count-sum f g h (suc n) e = omega (arith, count-sum f g h n (λ i a. e i (omega arith)), e n (omega arith))
+count_sum f g h zero e = refl
+count_sum f g h (suc n) e = omega (arith, count_sum f g h n (λ i a. e i (omega arith)), e n (omega arith))
 
 -- what the numbers below n add, which goes by f: how many there are of each value below N, times what each adds
-pub count-sorted : (f h : ℕ → ℕ) (N n : ℕ) → total (λ v. count (λ c. eqb (f c) v) n * h v) N 0 ≡ total (λ c. pick (ltb (f c) N) (h (f c)) 0) n 0
-count-sorted f h N n =
+pub count_sorted : (f h : ℕ → ℕ) (N n : ℕ) → total (λ v. count (λ c. eqb (f c) v) n * h v) N 0 ≡ total (λ c. pick (ltb (f c) N) (h (f c)) 0) n 0
+count_sorted f h N n =
     total_ext (λ v. count (λ c. eqb (f c) v) n * h v) (λ v. total (λ c. h v * one (eqb (f c) v)) n 0) N 0
-    (λ v _ _. mul_comm (count (λ c. eqb (f c) v) n) (h v) ∙ ap (λ m. h v * m) (count-total (λ c. eqb (f c) v) n) ∙ sym (total_times (h v) (λ c. one (eqb (f c) v)) n 0))
+    (λ v _ _. mul_comm (count (λ c. eqb (f c) v) n) (h v) ∙ ap (λ m. h v * m) (count_total (λ c. eqb (f c) v) n) ∙ sym (total_times (h v) (λ c. one (eqb (f c) v)) n 0))
     ∙ total_swap (λ v c. h v * one (eqb (f c) v)) N n 0 0
-    ∙ total_ext (λ c. total (λ v. h v * one (eqb (f c) v)) N 0) (λ c. pick (ltb (f c) N) (h (f c)) 0) n 0 (λ c _ _. total-at h N (f c))
+    ∙ total_ext (λ c. total (λ v. h v * one (eqb (f c) v)) N 0) (λ c. pick (ltb (f c) N) (h (f c)) 0) n 0 (λ c _ _. total_at h N (f c))
 
 -- a test that implies another
 module _ (t u : ℕ → Bool) (into : (i : ℕ) → t i ≡ true → u i ≡ true) where
-  pub count-into : (n : ℕ) → count t n ≤ count u n
-  count-into n = rw (count-total t n, count-total u n) (total_mono (λ i. one (t i)) (λ i. one (u i)) n 0 (λ i a b. go (t i) (u i) (into i)))
+  pub count_into : (n : ℕ) → count t n ≤ count u n
+  count_into n = rw (count_total t n, count_total u n) (total_mono (λ i. one (t i)) (λ i. one (u i)) n 0 (λ i a b. go (t i) (u i) (into i)))
     where
       go : (x y : Bool) → (x ≡ true → y ≡ true) → one x ≤ one y
       go true y h = rw (h refl) (omega arith)
@@ -458,7 +458,7 @@ module _ (t u : ℕ → Bool) (into : (i : ℕ) → t i ≡ true → u i ≡ tru
   pub count_same : (n : ℕ) → count t n ≡ count u n → (i : ℕ) → i < n → t i ≡ u i
   unfolding count
   count_same zero q i l = absurd (not-suc-le-zero l)
-  count_same (suc n) q i l = go (count_same n) (count-into n) (t n) (u n) refl refl q
+  count_same (suc n) q i l = go (count_same n) (count_into n) (t n) (u n) refl refl q
     where
       at_last : (count t n ≡ count u n → (i : ℕ) → i < n → t i ≡ u i) → count t n ≡ count u n → t n ≡ u n → t i ≡ u i
       at_last ih a e = ⊎_elim (λ (g : i ≡ n). rw g e) (λ (k : i < n). ih a i k) (below-or i n l)
@@ -475,13 +475,13 @@ pub first_blocks : (t : ℕ → Bool) (b n : ℕ) → 0 < b → first t (b * n) 
 first_blocks t b n pos =
     ⊎_elim
     (λ (e : first t (b * n) ≡ b * n).
-    rw e (mul-div_cancel_left n pos ∙ sym (none_first block n (λ d l. none-some (λ i. t (b * d + i)) b (λ i h. first-none t (b * n) (omega arith) (b * d + i) (inside d n i l h))))))
+    rw e (mul-div_cancel_left n pos ∙ sym (none_first block n (λ d l. none_some (λ i. t (b * d + i)) b (λ i h. first_none t (b * n) (omega arith) (b * d + i) (inside d n i l h))))))
     (λ (l : first t (b * n) < b * n).
     let q = first t (b * n) / b in
     let whole : b * q + first t (b * n) % b ≡ first t (b * n) = div-add-mod (first t (b * n)) b in
     let below : q < n = (div-lt_iff_lt-mul pos).1 (omega (arith, mul_comm b n)) in
-    sym (first-at block n q below (some-found (λ i. t (b * q + i)) b (first t (b * n) % b) (mod-lt (first t (b * n)) pos) (rw whole (first-is t (b * n) l)))
-    (λ d k. none-some (λ i. t (b * d + i)) b (λ i h. first_below t (b * n) (b * d + i) (omega (arith, inside d q i k h))))))
+    sym (first_at block n q below (some_found (λ i. t (b * q + i)) b (first t (b * n) % b) (mod-lt (first t (b * n)) pos) (rw whole (first_is t (b * n) l)))
+    (λ d k. none_some (λ i. t (b * d + i)) b (λ i h. first_below t (b * n) (b * d + i) (omega (arith, inside d q i k h))))))
     (eq-or-lt_of_le (first_le t (b * n)))
   where
     block : ℕ → Bool
@@ -493,4 +493,4 @@ first_blocks t b n pos =
 -- where some number passes, the search finds one
 pub some_first : (t : ℕ → Bool) (n : ℕ) → some t n ≡ true → first t n < n
 some_first t n e =
-    ⊎_elim (λ (q : first t n ≡ n). (let w = some_is t n e in clash w.2 (first-none t n (omega arith) w.0 w.1))) (λ q. q) (eq-or-lt_of_le (first_le t n))
+    ⊎_elim (λ (q : first t n ≡ n). (let w = some_is t n e in clash w.2 (first_none t n (omega arith) w.0 w.1))) (λ q. q) (eq-or-lt_of_le (first_le t n))

@@ -18,10 +18,10 @@ use Rattle.counting.specs.Lists.{over, total, values}
 use Rattle.counting.specs.work.Stored.{Stored, Summed}
 use Rattle.counting.specs.Stored.{filled, stored_in}
 use Rattle.counting.specs.claims.Lists.{next_in}
-use Rattle.counting.proofs.Range.{total-next}
-use Rattle.counting.proofs.Lists.{length_singles, values_ext, values-at}
-use Rattle.counting.proofs.Fronts.{sets-append, sets-front, over-more, over-split, over_shift, over-within}
-use Rattle.counting.proofs.Stores.{get_d_sets_in, get_d_sets_out, sets-again}
+use Rattle.counting.proofs.Range.{total_next}
+use Rattle.counting.proofs.Lists.{length_singles, values_ext, values_at}
+use Rattle.counting.proofs.Fronts.{sets_append, sets_front, over_more, over_split, over_shift, over_within}
+use Rattle.counting.proofs.Stores.{get_d_sets_in, get_d_sets_out, sets_again}
 
 module _ {A : Type 0} where
   pub stored_none : (was : List A) (at : ℕ) → Stored was at [] was at
@@ -41,21 +41,21 @@ module _ {A : Type 0} where
     -- some values and then others
     pub stored_then : {us is : List A} {n : ℕ} → Stored mid m us is n → Stored was at (vs ++ us) is n
     stored_then {us} {is} {n} T = record {
-      area = T.area ∙ ap (λ (x : List A). sets x m us) S.area ∙ ap (λ k. sets (sets was at vs) k us) S.after ∙ sym (sets-append was at vs us);
+      area = T.area ∙ ap (λ (x : List A). sets x m us) S.area ∙ ap (λ k. sets (sets was at vs) k us) S.after ∙ sym (sets_append was at vs us);
       after = omega (arith, S.after, T.after, length-append vs us);
     }
 
   -- from the front on
   pub stored_front : {was vs is : List A} {n : ℕ} → Stored was 0 vs is n → length vs ≤ length was → is ≡ vs ++ drop (length vs) was
-  stored_front {was} {vs} S h = S.area ∙ sets-front vs was h
+  stored_front {was} {vs} S h = S.area ∙ sets_front vs was h
 
   -- one list more of a range
   pub stored_more : (f : ℕ → List A) (k : ℕ) {was mid is : List A} {at m n : ℕ} → Stored was at (over f k 0) mid m → Stored mid m (f k) is n → Stored was at (over f (k + 1) 0) is n
-  stored_more f k S T = stored_as (stored_then S T) (sym (over-more f k)) refl
+  stored_more f k S T = stored_as (stored_then S T) (sym (over_more f k)) refl
 
   -- the next one of n has room
   pub stored_fits : (f : ℕ → List A) (n k : ℕ) {was is : List A} {at m : ℕ} → Stored was at (over f k 0) is m → k < n → at + length (over f n 0) ≤ length was → m + length (f k) ≤ length is
-  stored_fits f n k S h r = omega (arith, S.after, stored_long S, over-within f n k h)
+  stored_fits f n k S h r = omega (arith, S.after, stored_long S, over_within f n k h)
 
   -- one entry more of a list
   pub stored_entry : (l : List A) (i : ℕ) (d : A) {was mid : List A} {at m : ℕ} → Stored was at (take i l) mid m → i < length l
@@ -96,15 +96,15 @@ module _ {A : Type 0} where
   part_stored l vs at h =
       elim (dec_lt (length l) (at + length vs)) [
         | yes k ↦ ap (λ (r : List A). take at l ++ r) (sym (stored_not (drop at l) 0 vs (omega (arith, length-drop at l))).0) ∙ take-append-drop at l ∙ (stored_not l at vs k).0
-        | no k ↦ ap (λ (r : List A). take at l ++ r) ((stored_room (drop at l) 0 vs (omega (arith, length-drop at l))).area ∙ sets-front vs (drop at l) (omega (arith, length-drop at l)) ∙ ap (λ (r : List A). vs ++ r) (drop-drop (length vs) at l))
+        | no k ↦ ap (λ (r : List A). take at l ++ r) ((stored_room (drop at l) 0 vs (omega (arith, length-drop at l))).area ∙ sets_front vs (drop at l) (omega (arith, length-drop at l)) ∙ ap (λ (r : List A). vs ++ r) (drop-drop (length vs) at l))
             ∙ sym (append_assoc (take at l) vs (drop (at + length vs) l))
             ∙ sym (sets-eq vs l at (omega arith))
             ∙ sym (stored_room l at vs (omega arith)).area
       ]
 
   -- and the part is put back
-  pub part-back : (l vs : List A) {ys : List A} (at : ℕ) → at ≤ length l → ys ≡ stored_in (take (length l - at) (drop at l)) 0 vs → put_mid at (length l - at) l ys ≡ stored_in l at vs
-  part-back l vs {ys} at h e =
+  pub part_back : (l vs : List A) {ys : List A} (at : ℕ) → at ≤ length l → ys ≡ stored_in (take (length l - at) (drop at l)) 0 vs → put_mid at (length l - at) l ys ≡ stored_in l at vs
+  part_back l vs {ys} at h e =
       ap (λ (p : List A). take at l ++ (ys ++ p)) (Post-is at (length l) l h ∙ drop-length l)
       ∙ ap (λ (y : List A). take at l ++ y) (append-nil ys ∙ e ∙ ap (λ (p : List A). stored_in p 0 vs) (take_all (length l - at) (drop at l) (omega (arith, length-drop at l))))
       ∙ part_stored l vs at h
@@ -114,8 +114,8 @@ module _ {A : Type 0} where
   sets_more f a k l m i x e p q =
       ap₂ (λ (m : List A) x. set m i x) e q
       ∙ ap (λ i. set (sets l a (values f k)) i (f k)) (p ∙ ap (λ n. a + n) (sym (length_singles f k 0)))
-      ∙ sym (sets-append l a (values f k) (f k ∷ []))
-      ∙ ap (sets l a) (sym (over-more (λ i. f i ∷ []) k))
+      ∙ sym (sets_append l a (values f k) (f k ∷ []))
+      ∙ ap (sets l a) (sym (over_more (λ i. f i ∷ []) k))
 
   -- a list filled from the front
   module _ (f : ℕ → A) where
@@ -128,20 +128,20 @@ module _ {A : Type 0} where
     filled_more n l m x e q = sets_more f 0 n l m n x e (sym (zero-add n)) q
 
     -- w values more
-    pub filled-block : (n w : ℕ) (l m : List A) → m ≡ filled f n l → sets m n (values (λ k. f (n + k)) w) ≡ filled f (n + w) l
+    pub filled_block : (n w : ℕ) (l m : List A) → m ≡ filled f n l → sets m n (values (λ k. f (n + k)) w) ≡ filled f (n + w) l
     unfolding filled
-    filled-block n w l m e =
+    filled_block n w l m e =
         let g : ℕ → List A = λ i. f i ∷ [] in
         let z : n + 0 ≡ 0 + n = omega arith in
         let k : n ≡ 0 + length (values f n) = omega (arith, length_singles f n 0) in
         ap₂ (λ (m v : List A). sets m n v) e (over_shift g n w 0 ∙ ap (over g w) z)
         ∙ ap (λ i. sets (sets l 0 (values f n)) i (over g w (0 + n))) k
-        ∙ sym (sets-append l 0 (values f n) (over g w (0 + n)))
-        ∙ ap (sets l 0) (sym (over-split g n w 0))
+        ∙ sym (sets_append l 0 (values f n) (over g w (0 + n)))
+        ∙ ap (sets l 0) (sym (over_split g n w 0))
 
-    pub length-filled : (n : ℕ) (l : List A) → length (filled f n l) ≡ length l
+    pub length_filled : (n : ℕ) (l : List A) → length (filled f n l) ≡ length l
     unfolding filled
-    length-filled n l = length-sets l 0 (values f n)
+    length_filled n l = length-sets l 0 (values f n)
 
     -- the entries
     pub filled_at : (n : ℕ) (l : List A) (d : A) → n ≤ length l → (i : ℕ) → i < n → get_or (filled f n l) i d ≡ f i
@@ -149,31 +149,31 @@ module _ {A : Type 0} where
     filled_at n l d r i h =
         let e = length_singles f n 0 in
         ap (λ k. get_or (sets l 0 (values f n)) k d) (sym (zero-add i))
-        ∙ get_d_sets_in (values f n) l 0 i d (omega arith) (omega arith) ∙ values-at f n i d h
+        ∙ get_d_sets_in (values f n) l 0 i d (omega arith) (omega arith) ∙ values_at f n i d h
 
-    pub filled-beyond : (n : ℕ) (l : List A) (d : A) (i : ℕ) → n ≤ i → get_or (filled f n l) i d ≡ get_or l i d
+    pub filled_beyond : (n : ℕ) (l : List A) (d : A) (i : ℕ) → n ≤ i → get_or (filled f n l) i d ≡ get_or l i d
     unfolding filled
-    filled-beyond n l d i h = get_d_sets_out (values f n) l 0 i d (inr (omega (arith, length_singles f n 0)))
+    filled_beyond n l d i h = get_d_sets_out (values f n) l 0 i d (inr (omega (arith, length_singles f n 0)))
 
     -- its front
-    pub filled-front : (n : ℕ) (l : List A) → n ≤ length l → filled f n l ≡ values f n ++ drop n l
+    pub filled_front : (n : ℕ) (l : List A) → n ≤ length l → filled f n l ≡ values f n ++ drop n l
     unfolding filled
-    filled-front n l h =
+    filled_front n l h =
         let e = length_singles f n 0 in
-        sets-front (values f n) l (omega arith) ∙ ap (λ k. values f n ++ drop k l) e
+        sets_front (values f n) l (omega arith) ∙ ap (λ k. values f n ++ drop k l) e
 
     -- the whole of a list
-    pub filled-whole : (n : ℕ) (l : List A) → length l ≡ n → filled f n l ≡ values f n
+    pub filled_whole : (n : ℕ) (l : List A) → length l ≡ n → filled f n l ≡ values f n
     unfolding filled
-    filled-whole n l e =
+    filled_whole n l e =
         let s = length_singles f n 0 in
-        sets-front (values f n) l (omega arith)
+        sets_front (values f n) l (omega arith)
         ∙ ap (λ (r : List A). values f n ++ r) (ap (λ i. drop i l) (s ∙ sym e) ∙ drop-length l)
         ∙ append-nil (values f n)
 
-  pub filled-again : (f g : ℕ → A) (n : ℕ) (l : List A) → n ≤ length l → filled f n (filled g n l) ≡ filled f n l
+  pub filled_again : (f g : ℕ → A) (n : ℕ) (l : List A) → n ≤ length l → filled f n (filled g n l) ≡ filled f n l
   unfolding filled
-  filled-again f g n l h = sets-again (values f n) (values g n) l 0 (length_singles f n 0 ∙ sym (length_singles g n 0)) (omega (arith, length_singles g n 0))
+  filled_again f g n l h = sets_again (values f n) (values g n) l 0 (length_singles f n 0 ∙ sym (length_singles g n 0)) (omega (arith, length_singles g n 0))
 
   pub filled_ext : (f g : ℕ → A) (n : ℕ) (l : List A) → ((i : ℕ) → i < n → f i ≡ g i) → filled f n l ≡ filled g n l
   unfolding filled
@@ -188,7 +188,7 @@ module _ (g : ℕ → ℕ) (most : ℕ) where
   summed_more {n} {t} S x e h =
       let q : most * (n + 1) ≡ most * n + most = ap (λ k. most * k) (add-one n) ∙ mul-suc most n in
       record {
-        is = omega (arith, S.is, e, total-next g n);
+        is = omega (arith, S.is, e, total_next g n);
         few = omega (arith, S.few, q);
       }
 

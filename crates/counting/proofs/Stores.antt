@@ -27,17 +27,17 @@ module _ {A : Type 0} where
       ap (λ n. get_or (sets (set l i v) (suc i) vs) n d) e ∙ get_d_sets_in vs (set l i v) (suc i) k d (omega arith) (omega (arith, length-set l i v))
 
   -- before the run, and after it
-  pub take-sets : (vs l : List A) (i n : ℕ) → n ≤ i → take n (sets l i vs) ≡ take n l
-  take-sets [] l i n h = refl
-  take-sets (a ∷ vs) l i n h = take-sets vs (set l i a) (suc i) n (omega arith) ∙ take-set-le n l i a h
+  pub take_sets : (vs l : List A) (i n : ℕ) → n ≤ i → take n (sets l i vs) ≡ take n l
+  take_sets [] l i n h = refl
+  take_sets (a ∷ vs) l i n h = take_sets vs (set l i a) (suc i) n (omega arith) ∙ take-set-le n l i a h
 
-  pub drop-sets : (vs l : List A) (i n : ℕ) → i + length vs ≤ n → drop n (sets l i vs) ≡ drop n l
-  drop-sets [] l i n h = refl
-  drop-sets (a ∷ vs) l i n h = drop-sets vs (set l i a) (suc i) n (omega arith) ∙ drop-set-lt n l i a (omega arith)
+  pub drop_sets : (vs l : List A) (i n : ℕ) → i + length vs ≤ n → drop n (sets l i vs) ≡ drop n l
+  drop_sets [] l i n h = refl
+  drop_sets (a ∷ vs) l i n h = drop_sets vs (set l i a) (suc i) n (omega arith) ∙ drop-set-lt n l i a (omega arith)
 
   -- values stored over as many others
-  pub sets-again : (vs ws l : List A) (i : ℕ) → length vs ≡ length ws → i + length ws ≤ length l → sets (sets l i ws) i vs ≡ sets l i vs
-  sets-again vs ws l i e h =
+  pub sets_again : (vs ws l : List A) (i : ℕ) → length vs ≡ length ws → i + length ws ≤ length l → sets (sets l i ws) i vs ≡ sets l i vs
+  sets_again vs ws l i e h =
       sets-eq vs (sets l i ws) i (omega (arith, length-sets l i ws))
-      ∙ ap₂ (λ (x y : List A). x ++ vs ++ y) (take-sets ws l i i (omega arith)) (drop-sets ws l i (i + length vs) (omega arith))
+      ∙ ap₂ (λ (x y : List A). x ++ vs ++ y) (take_sets ws l i i (omega arith)) (drop_sets ws l i (i + length vs) (omega arith))
       ∙ sym (sets-eq vs l i (omega arith))

@@ -9,20 +9,20 @@ use lib.Seq.{ext_get_or}
 use Rattle.counting.specs.Search.{last}
 use Rattle.counting.specs.Stored.{filled}
 use Rattle.counting.proofs.Search.{last_le}
-use Rattle.counting.proofs.Stored.{filled_at, filled-beyond, length-filled}
+use Rattle.counting.proofs.Stored.{filled_at, filled_beyond, length_filled}
 use Rattle.counting.specs.work.Tables.{Table, same_key}
 
 -- a filled front
-pub filled-table : (f : ℕ → ℕ) (n : ℕ) (l m : List ℕ) → m ≡ filled f n l → n ≤ length l → Table f n m
-filled-table f n l m e r = record {
-  room = omega (arith, ap length e, length-filled f n l);
+pub filled_table : (f : ℕ → ℕ) (n : ℕ) (l m : List ℕ) → m ≡ filled f n l → n ≤ length l → Table f n m
+filled_table f n l m e r = record {
+  room = omega (arith, ap length e, length_filled f n l);
   at = λ i h. ap (λ (m : List ℕ). get_or m i 0) e ∙ filled_at f n l 0 r i h;
 }
 
 pub table_filled : (f : ℕ → ℕ) (n : ℕ) (l : List ℕ) → Table f n l → l ≡ filled f n l
 table_filled f n l t =
-    ext_get_or 0 l (filled f n l) (sym (length-filled f n l))
-    (λ i h. elim (dec_lt i n) [ yes b ↦ t.at i b ∙ sym (filled_at f n l 0 t.room i b) | no b ↦ sym (filled-beyond f n l 0 i (omega arith)) ])
+    ext_get_or 0 l (filled f n l) (sym (length_filled f n l))
+    (λ i h. elim (dec_lt i n) [ yes b ↦ t.at i b ∙ sym (filled_at f n l 0 t.room i b) | no b ↦ sym (filled_beyond f n l 0 i (omega arith)) ])
 
 -- a new list
 pub zeros : (n : ℕ) (i : ℕ) → get_or (replicate {A = ℕ} n 0) i 0 ≡ 0

@@ -6,7 +6,7 @@ use native.Mathlib.Omega.{arith}
 use native.Mathlib.Nat.{add-zero}
 use native.Mathlib.Decide.{dec_lt}
 use lib.Ieee.{Float}
-use Rattle.counting.proofs.Range.{total-zero}
+use Rattle.counting.proofs.Range.{total_zero}
 use Rattle.cell.specs.declared.Cell.{Cell}
 use Rattle.cell.specs.Level.{by_edge}
 use Rattle.cell.specs.claims.Middles.{fan_count, points_then, next_point}
@@ -21,8 +21,8 @@ module _ (counts sides : List ℕ) (c end : ℕ) where
   pub over_none : c ≤ end → PassedOver counts sides c end c
   over_none h = record { from = omega arith; upto = h; none = λ k a b. absurd (omega arith) }
 
-  pub over-one : {k : ℕ} → PassedOver counts sides c end k → k < end → Plain (by_edge (taken_counts counts sides k)) → PassedOver counts sides c end (k + 1)
-  over-one {k} P h Q = record {
+  pub over_one : {k : ℕ} → PassedOver counts sides c end k → k < end → Plain (by_edge (taken_counts counts sides k)) → PassedOver counts sides c end (k + 1)
+  over_one {k} P h Q = record {
     from = omega (arith, P.from);
     upto = omega arith;
     none = λ j a b. elim (dec_lt j k) [ yes l ↦ P.none j a l | no l ↦ (let e : j ≡ k = omega arith in rw e Q) ];
@@ -39,7 +39,7 @@ module _ (cells counts names sides starts : List ℕ) where
   -- where all are passed over, there is no fan
   pub fans_over : {n : ℕ} → n ≡ drawn_cells cells → {p : ℕ} → PassedOver counts sides 0 n p → p ≡ n → 0 ≡ table_fans cells counts names sides starts
   unfolding table_fans
-  fans_over {n} e {p} P q = sym (total-zero (λ k. fan_count (at k)) (drawn_cells cells) 0 (λ k a b. no-fans P k a (omega arith)))
+  fans_over {n} e {p} P q = sym (total_zero (λ k. fan_count (at k)) (drawn_cells cells) 0 (λ k a b. no-fans P k a (omega arith)))
 
   module _ (nodes : List Float) where
     abbrev written : ℕ → List Float → ℕ → ℕ → List Float × ℕ

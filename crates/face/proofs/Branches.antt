@@ -12,7 +12,7 @@ use Rattle.face.specs.claims.Claims.{unjoined}
 use Rattle.slots.specs.Slots.{lower, upper}
 use Rattle.face.specs.claims.Ends.{Edge}
 use Rattle.face.specs.work.Ends.{Corners}
-use Rattle.face.proofs.Gaps.{corner-fits, corner-room, gap_excess, gap-level}
+use Rattle.face.proofs.Gaps.{corner_fits, corner_room, gap_excess, gap_level}
 
 -- the residual rule
 module _ (e r s t : ℕ) where
@@ -20,42 +20,42 @@ module _ (e r s t : ℕ) where
   unfolding residual
   residual_skip h = simp (lt-ltb s (r % 2) h)
 
-  pub residual-up : r % 2 ≤ s → (s - r % 2) % 2 ≡ 0 → residual e r s t ≡ joined_by e (t + 1) along
+  pub residual_up : r % 2 ≤ s → (s - r % 2) % 2 ≡ 0 → residual e r s t ≡ joined_by e (t + 1) along
   unfolding residual
-  residual-up h k = simp (le-ltb s (r % 2) h, eq-eqb ((s - r % 2) % 2) 0 k)
+  residual_up h k = simp (le-ltb s (r % 2) h, eq-eqb ((s - r % 2) % 2) 0 k)
 
-  pub residual-down : r % 2 ≤ s → ((s - r % 2) % 2 ≡ 0 → ⊥) → residual e r s t ≡ joined_by e (t - 1) along
+  pub residual_down : r % 2 ≤ s → ((s - r % 2) % 2 ≡ 0 → ⊥) → residual e r s t ≡ joined_by e (t - 1) along
   unfolding residual
-  residual-down h k = simp (le-ltb s (r % 2) h, ne_eqb ((s - r % 2) % 2) 0 k)
+  residual_down h k = simp (le-ltb s (r % 2) h, ne_eqb ((s - r % 2) % 2) 0 k)
 
 -- no such crossing
-pub answer-off : (ab ac bc e t : ℕ) → count_on ab ac bc e ≤ t → face_answer ab ac bc e t ≡ no_crossing
+pub answer_off : (ab ac bc e t : ℕ) → count_on ab ac bc e ≤ t → face_answer ab ac bc e t ≡ no_crossing
 unfolding face_answer
-answer-off ab ac bc e t h = simp (le-leb (count_on ab ac bc e) t h)
+answer_off ab ac bc e t h = simp (le-leb (count_on ab ac bc e) t h)
 
 -- the counts of an edge by their definitions
 pub corners-of : (ab ac bc : ℕ) {e : ℕ} → Edge e → Corners ab ac bc e (count_on ab ac bc e) (corner_count_at ab ac bc (lower e) e) (corner_count_at ab ac bc (upper e) e)
-corners-of ab ac bc d = record { edge = d; own = refl; at-lower = refl; at-upper = refl }
+corners-of ab ac bc d = record { edge = d; own = refl; at_lower = refl; at_upper = refl }
 
 -- the crossing t of an edge of x crossings, with the corner counts p and q at its lower and its upper end
 module _ {ab ac bc e x p q : ℕ} (c : Corners ab ac bc e x p q) (t : ℕ) where
   -- below the lower corner count
-  pub answer-low : t < p → face_answer ab ac bc e t ≡ partner ab ac bc (lower e) e t
+  pub answer_low : t < p → face_answer ab ac bc e t ≡ partner ab ac bc (lower e) e t
   unfolding face_answer
-  answer-low h =
-      let f = corner-fits ab ac bc (lower e) e in
-      simp (lt-leb (count_on ab ac bc e) t (omega (arith, c.at-lower)), lt-ltb t (corner_count_at ab ac bc (lower e) e) (omega (arith, c.at-lower)))
+  answer_low h =
+      let f = corner_fits ab ac bc (lower e) e in
+      simp (lt-leb (count_on ab ac bc e) t (omega (arith, c.at_lower)), lt-ltb t (corner_count_at ab ac bc (lower e) e) (omega (arith, c.at_lower)))
 
   -- within the upper corner count
-  pub answer-high : t < x → x ≤ t + q → face_answer ab ac bc e t ≡ partner ab ac bc (upper e) e (x - 1 - t)
+  pub answer_high : t < x → x ≤ t + q → face_answer ab ac bc e t ≡ partner ab ac bc (upper e) e (x - 1 - t)
   unfolding face_answer
-  answer-high h k =
-      let r = corner-room ab ac bc c.edge in
+  answer_high h k =
+      let r = corner_room ab ac bc c.edge in
       simp (
         c.own,
         lt-leb (count_on ab ac bc e) t (omega (arith, c.own)),
-        le-ltb t (corner_count_at ab ac bc (lower e) e) (omega (arith, c.own, c.at-upper)),
-        lt-ltb (count_on ab ac bc e - 1 - t) (corner_count_at ab ac bc (upper e) e) (omega (arith, c.own, c.at-upper)),
+        le-ltb t (corner_count_at ab ac bc (lower e) e) (omega (arith, c.own, c.at_upper)),
+        lt-ltb (count_on ab ac bc e - 1 - t) (corner_count_at ab ac bc (upper e) e) (omega (arith, c.own, c.at_upper)),
       )
 
   module _ (low : p ≤ t) (high : t + q < x) where
@@ -64,22 +64,22 @@ module _ {ab ac bc e x p q : ℕ} (c : Corners ab ac bc e x p q) (t : ℕ) where
     past =
         simp (
           lt-leb (count_on ab ac bc e) t (omega (arith, c.own)),
-          le-ltb t (corner_count_at ab ac bc (lower e) e) (omega (arith, c.at-lower)),
-          le-ltb (count_on ab ac bc e - 1 - t) (corner_count_at ab ac bc (upper e) e) (omega (arith, c.own, c.at-upper)),
+          le-ltb t (corner_count_at ab ac bc (lower e) e) (omega (arith, c.at_lower)),
+          le-ltb (count_on ab ac bc e - 1 - t) (corner_count_at ab ac bc (upper e) e) (omega (arith, c.own, c.at_upper)),
         )
 
     -- between the two: the residual rule on an edge above the other two, else what rule 2 leaves, which is the one crossing there
-    pub answer-residual : others ab ac bc e < x → face_answer ab ac bc e t ≡ residual e (x - p - q) (t - p) t
-    answer-residual h =
+    pub answer_residual : others ab ac bc e < x → face_answer ab ac bc e t ≡ residual e (x - p - q) (t - p) t
+    answer_residual h =
         let k : others ab ac bc e < count_on ab ac bc e = omega (arith, c.own) in
-        past ∙ rw (lt-ltb (others ab ac bc e) (count_on ab ac bc e) k, c.own, c.at-lower, c.at-upper)
+        past ∙ rw (lt-ltb (others ab ac bc e) (count_on ab ac bc e) k, c.own, c.at_lower, c.at_upper)
         (ap (λ r. residual e r (t - corner_count_at ab ac bc (lower e) e) t) (sym (gap_excess ab ac bc c.edge k)))
 
     pub left_one : x ≤ others ab ac bc e → (x - p - q ≡ 1) × ((ab + ac + bc) % 2 ≡ 1)
     left_one h =
-        elim (gap-level ab ac bc c.edge (omega (arith, c.own))) [
-          | inl z ↦ absurd (omega (arith, c.own, c.at-lower, c.at-upper))
-          | inr z ↦ (omega (arith, c.own, c.at-lower, c.at-upper), z.0)
+        elim (gap_level ab ac bc c.edge (omega (arith, c.own))) [
+          | inl z ↦ absurd (omega (arith, c.own, c.at_lower, c.at_upper))
+          | inr z ↦ (omega (arith, c.own, c.at_lower, c.at_upper), z.0)
         ]
 
     long : 1 < x - p - q → others ab ac bc e < x
@@ -90,40 +90,40 @@ module _ {ab ac bc e x p q : ℕ} (c : Corners ab ac bc e x p q) (t : ℕ) where
         ]
 
     -- its three cases, by the number of crossings from t to the upper corner: up if it is even, else down, but the first is skipped
-    pub answer-up : (x - q - t) % 2 ≡ 0 → face_answer ab ac bc e t ≡ joined_by e (t + 1) along
-    answer-up h = answer-residual (long (omega arith)) ∙ residual-up e (x - p - q) (t - p) t (omega arith) (omega arith)
+    pub answer_up : (x - q - t) % 2 ≡ 0 → face_answer ab ac bc e t ≡ joined_by e (t + 1) along
+    answer_up h = answer_residual (long (omega arith)) ∙ residual_up e (x - p - q) (t - p) t (omega arith) (omega arith)
 
-    pub answer-down : (x - q - t) % 2 ≡ 1 → p < t → face_answer ab ac bc e t ≡ joined_by e (t - 1) along
-    answer-down h k = answer-residual (long (omega arith)) ∙ residual-down e (x - p - q) (t - p) t (omega arith) (λ z. omega arith)
+    pub answer_down : (x - q - t) % 2 ≡ 1 → p < t → face_answer ab ac bc e t ≡ joined_by e (t - 1) along
+    answer_down h k = answer_residual (long (omega arith)) ∙ residual_down e (x - p - q) (t - p) t (omega arith) (λ z. omega arith)
 
     pub answer_skip : others ab ac bc e < x → (x - q - t) % 2 ≡ 1 → t ≡ p → face_answer ab ac bc e t ≡ unjoined_by skipped
-    answer_skip l h k = answer-residual l ∙ residual_skip e (x - p - q) (t - p) t (omega arith)
+    answer_skip l h k = answer_residual l ∙ residual_skip e (x - p - q) (t - p) t (omega arith)
 
-    pub answer-left : x ≤ others ab ac bc e → face_answer ab ac bc e t ≡ unjoined_by left
-    answer-left h = past ∙ rw (le-ltb (others ab ac bc e) (count_on ab ac bc e) (omega (arith, c.own)))
+    pub answer_left : x ≤ others ab ac bc e → face_answer ab ac bc e t ≡ unjoined_by left
+    answer_left h = past ∙ rw (le-ltb (others ab ac bc e) (count_on ab ac bc e) (omega (arith, c.own)))
 
 -- what a crossing is joined to
-pub face-off : (ab ac bc e t : ℕ) → count_on ab ac bc e ≤ t → face_join ab ac bc e t ≡ no_crossing
+pub face_off : (ab ac bc e t : ℕ) → count_on ab ac bc e ≤ t → face_join ab ac bc e t ≡ no_crossing
 unfolding face_join
-face-off ab ac bc e t h = ap bare (answer-off ab ac bc e t h)
+face_off ab ac bc e t h = ap bare (answer_off ab ac bc e t h)
 
 module _ {ab ac bc e x p q : ℕ} (c : Corners ab ac bc e x p q) (t : ℕ) where
-  pub face-low : t < p → face_join ab ac bc e t ≡ joined (other (lower e) e) (kth ab ac bc (lower e) (other (lower e) e) t)
+  pub face_low : t < p → face_join ab ac bc e t ≡ joined (other (lower e) e) (kth ab ac bc (lower e) (other (lower e) e) t)
   unfolding face_join partner
-  face-low h = ap bare (answer-low c t h)
+  face_low h = ap bare (answer_low c t h)
 
-  pub face-high : t < x → x ≤ t + q → face_join ab ac bc e t ≡ joined (other (upper e) e) (kth ab ac bc (upper e) (other (upper e) e) (x - 1 - t))
+  pub face_high : t < x → x ≤ t + q → face_join ab ac bc e t ≡ joined (other (upper e) e) (kth ab ac bc (upper e) (other (upper e) e) (x - 1 - t))
   unfolding face_join partner
-  face-high h k = ap bare (answer-high c t h k)
+  face_high h k = ap bare (answer_high c t h k)
 
   module _ (low : p ≤ t) (high : t + q < x) where
-    pub face-up : (x - q - t) % 2 ≡ 0 → face_join ab ac bc e t ≡ joined e (t + 1)
+    pub face_up : (x - q - t) % 2 ≡ 0 → face_join ab ac bc e t ≡ joined e (t + 1)
     unfolding face_join
-    face-up h = ap bare (answer-up c t low high h)
+    face_up h = ap bare (answer_up c t low high h)
 
-    pub face-down : (x - q - t) % 2 ≡ 1 → p < t → face_join ab ac bc e t ≡ joined e (t - 1)
+    pub face_down : (x - q - t) % 2 ≡ 1 → p < t → face_join ab ac bc e t ≡ joined e (t - 1)
     unfolding face_join
-    face-down h k = ap bare (answer-down c t low high h k)
+    face_down h k = ap bare (answer_down c t low high h k)
 
     -- skipped or left
     pub face_skip : (x - q - t) % 2 ≡ 1 → t ≡ p → face_join ab ac bc e t ≡ unjoined
@@ -131,5 +131,5 @@ module _ {ab ac bc e x p q : ℕ} (c : Corners ab ac bc e x p q) (t : ℕ) where
     face_skip h k =
         elim (dec_lt (others ab ac bc e) x) [
           | yes l ↦ ap bare (answer_skip c t low high l h k)
-          | no l ↦ ap bare (answer-left c t low high (omega arith))
+          | no l ↦ ap bare (answer_left c t low high (omega arith))
         ]

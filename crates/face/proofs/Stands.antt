@@ -9,28 +9,28 @@ use Rattle.face.specs.declared.Stand.TheVariants.{Low, High, Up, Down, Alone}
 use Rattle.face.specs.work.Stand.{stand_number, stand_on}
 
 module _ (p end t : ℕ) where
-  pub stand-low : t < p → stand_on p end t ≡ 0
+  pub stand_low : t < p → stand_on p end t ≡ 0
   unfolding stand_on
-  stand-low h = simp (lt-ltb t p h)
+  stand_low h = simp (lt-ltb t p h)
 
   module _ (a : p ≤ t) where
-    pub stand-high : end ≤ t → stand_on p end t ≡ 1
+    pub stand_high : end ≤ t → stand_on p end t ≡ 1
     unfolding stand_on
-    stand-high h = simp (le-ltb t p a, le-leb end t h)
+    stand_high h = simp (le-ltb t p a, le-leb end t h)
 
     module _ (b : t < end) where
-      pub stand-up : (end - t) % 2 ≡ 0 → stand_on p end t ≡ 2
+      pub stand_up : (end - t) % 2 ≡ 0 → stand_on p end t ≡ 2
       unfolding stand_on
-      stand-up h = simp (le-ltb t p a, lt-leb end t b, eq-eqb ((end - t) % 2) 0 h)
+      stand_up h = simp (le-ltb t p a, lt-leb end t b, eq-eqb ((end - t) % 2) 0 h)
 
       module _ (z : (end - t) % 2 ≡ 0 → ⊥) where
-        pub stand-alone : t ≡ p → stand_on p end t ≡ 4
+        pub stand_alone : t ≡ p → stand_on p end t ≡ 4
         unfolding stand_on
-        stand-alone h = simp (le-ltb t p a, lt-leb end t b, ne_eqb ((end - t) % 2) 0 z, eq-eqb t p h)
+        stand_alone h = simp (le-ltb t p a, lt-leb end t b, ne_eqb ((end - t) % 2) 0 z, eq-eqb t p h)
 
-        pub stand-down : (t ≡ p → ⊥) → stand_on p end t ≡ 3
+        pub stand_down : (t ≡ p → ⊥) → stand_on p end t ≡ 3
         unfolding stand_on
-        stand-down h = simp (le-ltb t p a, lt-leb end t b, ne_eqb ((end - t) % 2) 0 z, ne_eqb t p h)
+        stand_down h = simp (le-ltb t p a, lt-leb end t b, ne_eqb ((end - t) % 2) 0 z, ne_eqb t p h)
 
   -- between the corners
   pub record Within : Type 0 where
@@ -57,20 +57,20 @@ module _ (p end t : ℕ) where
   between a b =
       let W : Within = record { low = a; high = b } in
       elim (ℕ_discrete ((end - t) % 2) 0) [
-        | yes z ↦ rw (stand-up a b z) (up W z)
+        | yes z ↦ rw (stand_up a b z) (up W z)
         | no z ↦ elim (ℕ_discrete t p) [
-          | yes e ↦ rw (stand-alone a b z e) (alone W (omega arith) e)
-          | no e ↦ rw (stand-down a b z e) (down W (omega arith) (omega arith))
+          | yes e ↦ rw (stand_alone a b z e) (alone W (omega arith) e)
+          | no e ↦ rw (stand_down a b z e) (down W (omega arith) (omega arith))
         ]
       ]
 
   told : Told (stand_on p end t)
   told =
       elim (dec_lt t p) [
-        | yes h ↦ rw (stand-low h) (low h)
+        | yes h ↦ rw (stand_low h) (low h)
         | no h ↦ elim (dec_lt t end) [
           | yes k ↦ between (omega arith) k
-          | no k ↦ rw (stand-high (omega arith) (omega arith)) (high (omega arith) (omega arith))
+          | no k ↦ rw (stand_high (omega arith) (omega arith)) (high (omega arith) (omega arith))
         ]
       ]
 

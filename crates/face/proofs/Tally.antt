@@ -12,20 +12,20 @@ use Rattle.counting.specs.Lists.{one, total, pre}
 use Rattle.counting.specs.Search.{count as passing}
 use Rattle.counting.specs.Pack.{row, col}
 use Rattle.counting.proofs.Bools.{clash, not_clash}
-use Rattle.counting.proofs.Search.{count_ext, count_none, count-all, count-sum}
-use Rattle.counting.proofs.Pack.{col-lt, unpack, row_pack, col_pack, pack_lt}
+use Rattle.counting.proofs.Search.{count_ext, count_none, count_all, count_sum}
+use Rattle.counting.proofs.Pack.{col_lt, unpack, row_pack, col_pack, pack_lt}
 use Rattle.counting.proofs.Involution.{paired}
-use Rattle.counting.proofs.Rows.{count-rows, count-only}
+use Rattle.counting.proofs.Rows.{count_rows, count_only}
 use Rattle.face.specs.Face.{joined, other, count_on, others, corner_count_at, face_join}
 use Rattle.face.specs.claims.Claims.{unjoined}
 use Rattle.slots.specs.Slots.{lower, upper}
-use Rattle.face.specs.claims.Ends.{Edge, on-ab, on-ac, on-bc}
+use Rattle.face.specs.claims.Ends.{Edge, on_ab, on_ac, on_bc}
 use Rattle.face.specs.Rim.{Segment}
 use Rattle.face.specs.claims.Tally.{face_edges, join_of, is_joined, is_unjoined, partner_of, segments, unjoined_count}
-use Rattle.face.proofs.Ends.{edge-of, edge-lt, edge-with}
-use Rattle.face.proofs.Gaps.{gap, gap_excess, gap-short, gap-odd}
-use Rattle.face.proofs.Links.{alone-unjoined}
-use Rattle.face.proofs.Laws.{symmetric, partner-there, partner_differs, joined_or, unjoined-alone, even-gap}
+use Rattle.face.proofs.Ends.{edge-of, edge_lt, edge_with}
+use Rattle.face.proofs.Gaps.{gap, gap_excess, gap_short, gap_odd}
+use Rattle.face.proofs.Links.{alone_unjoined}
+use Rattle.face.proofs.Laws.{symmetric, partner_there, partner_differs, joined_or, unjoined_alone, even_gap}
 
 module _ (ab ac bc : ℕ) where
   abbrev n : ℕ → ℕ
@@ -43,11 +43,11 @@ module _ (ab ac bc : ℕ) where
   all = omega arith
 
   inside : {e : ℕ} (t : ℕ) → Edge e → t < n e → number e t < size
-  inside {e} t d h = rw (← all) (pack_lt n face_edges e t (edge-lt d) h)
+  inside {e} t d h = rw (← all) (pack_lt n face_edges e t (edge_lt d) h)
 
   answer-at : {e : ℕ} (t : ℕ) → Edge e → t < n e → join_of ab ac bc (number e t) ≡ face_join ab ac bc e t
   unfolding join_of
-  answer-at {e} t d h = rw (row_pack n face_edges e t (edge-lt d) h, col_pack n face_edges e t (edge-lt d) h)
+  answer-at {e} t d h = rw (row_pack n face_edges e t (edge_lt d) h, col_pack n face_edges e t (edge_lt d) h)
 
   record Spot (x : ℕ) : Type 0 where
     e : ℕ
@@ -63,7 +63,7 @@ module _ (ab ac bc : ℕ) where
       record {
         e = row n face_edges x;
         t = col n face_edges x;
-        there = col-lt n face_edges x l;
+        there = col_lt n face_edges x l;
         index = sym (unpack n face_edges x l);
         ours = refl;
       }
@@ -82,8 +82,8 @@ module _ (ab ac bc : ℕ) where
 
   ends-of : {x : ℕ} (s : Spot x) (e' t' : ℕ) → Segment ab ac bc s.e s.t e' t' → Ends x
   ends-of s e' t' j =
-      let h : t' < n e' = partner-there ab ac bc s.e s.t e' t' j in
-      let d : Edge e' = edge-with ab ac bc e' t' h in
+      let h : t' < n e' = partner_there ab ac bc s.e s.t e' t' j in
+      let d : Edge e' = edge_with ab ac bc e' t' h in
       record {
         e = s.e;
         t = s.t;
@@ -142,7 +142,7 @@ module _ (ab ac bc : ℕ) where
   pub sum_law : ab + ac + bc ≡ 2 * segments ab ac bc + unjoined_count ab ac bc
   unfolding unjoined_count
   sum_law =
-      omega (arith, pairs, count-all (λ x. true) size (λ i h. refl), count-sum (λ x. true) (is_joined ab ac bc) (is_unjoined ab ac bc) size either)
+      omega (arith, pairs, count_all (λ x. true) size (λ i h. refl), count_sum (λ x. true) (is_joined ab ac bc) (is_unjoined ab ac bc) size either)
 
   -- on each edge: one if its corners leave an odd number of crossings, else none
   left : ℕ → ℕ → Bool
@@ -156,60 +156,60 @@ module _ (ab ac bc : ℕ) where
         | inr u ↦ u
       ]
 
-  left-count : {e : ℕ} → Edge e → passing (left e) (n e) ≡ gap ab ac bc e % 2
+  left_count : {e : ℕ} → Edge e → passing (left e) (n e) ≡ gap ab ac bc e % 2
   unfolding left
-  left-count {e} d =
+  left_count {e} d =
       elim (ℕ_discrete (gap ab ac bc e % 2) 1) [
         | yes g ↦
-            rw g (count-only (left e) (n e) (corner_count_at ab ac bc (lower e) e) (omega arith)
-            (ap (λ (l : List ℕ). eqb (get_or l 0 0) 1) (alone-unjoined ab ac bc d g))
-            (λ i h q. (unjoined-alone ab ac bc e i (left_is e i h q)).first))
+            rw g (count_only (left e) (n e) (corner_count_at ab ac bc (lower e) e) (omega arith)
+            (ap (λ (l : List ℕ). eqb (get_or l 0 0) 1) (alone_unjoined ab ac bc d g))
+            (λ i h q. (unjoined_alone ab ac bc e i (left_is e i h q)).first))
         | no g ↦
-            count_none (left e) (n e) (λ i h. not_clash (left e i) (λ q. g (unjoined-alone ab ac bc e i (left_is e i h q)).odd)) ∙ omega arith
+            count_none (left e) (n e) (λ i h. not_clash (left e i) (λ q. g (unjoined_alone ab ac bc e i (left_is e i h q)).odd)) ∙ omega arith
       ]
 
   on-edge : (e : ℕ) → e < face_edges → passing (λ i. is_unjoined ab ac bc (number e i)) (n e) ≡ gap ab ac bc e % 2
   unfolding left
   on-edge e h =
       count_ext (λ i. is_unjoined ab ac bc (number e i)) (left e) (n e) (λ i l. ap (λ (l : List ℕ). eqb (get_or l 0 0) 1) (answer-at i (edge-of e h) l))
-      ∙ left-count (edge-of e h)
+      ∙ left_count (edge-of e h)
 
   pub by-edge : unjoined_count ab ac bc ≡ gap ab ac bc 0 % 2 + gap ab ac bc 1 % 2 + gap ab ac bc 2 % 2
   unfolding unjoined_count total
   by-edge =
-      ap (passing (is_unjoined ab ac bc)) (sym all) ∙ count-rows n (is_unjoined ab ac bc) face_edges
+      ap (passing (is_unjoined ab ac bc)) (sym all) ∙ count_rows n (is_unjoined ab ac bc) face_edges
       ∙ omega (arith, on-edge 0 (omega arith), on-edge 1 (omega arith), on-edge 2 (omega arith))
 
-  pub unjoined-even : (ab + ac + bc) % 2 ≡ 0 → unjoined_count ab ac bc ≡ 0
-  unjoined-even z = omega (arith, by-edge, even-gap ab ac bc z on-ab, even-gap ab ac bc z on-ac, even-gap ab ac bc z on-bc)
+  pub unjoined_even : (ab + ac + bc) % 2 ≡ 0 → unjoined_count ab ac bc ≡ 0
+  unjoined_even z = omega (arith, by-edge, even_gap ab ac bc z on_ab, even_gap ab ac bc z on_ac, even_gap ab ac bc z on_bc)
 
-  pub unjoined-odd : (ab + ac + bc) % 2 ≡ 1 → ((e : ℕ) → n e ≤ others ab ac bc e) → unjoined_count ab ac bc ≡ 3
+  pub unjoined_odd : (ab + ac + bc) % 2 ≡ 1 → ((e : ℕ) → n e ≤ others ab ac bc e) → unjoined_count ab ac bc ≡ 3
   unfolding others count_on lower upper other
-  unjoined-odd z h =
+  unjoined_odd z h =
       let a = h 0 in
       let b = h 1 in
       let c = h 2 in
       omega (
         arith,
         by-edge,
-        gap-odd ab ac bc on-ab (omega arith) (omega arith) (omega arith) z,
-        gap-odd ab ac bc on-ac (omega arith) (omega arith) (omega arith) z,
-        gap-odd ab ac bc on-bc (omega arith) (omega arith) (omega arith) z,
+        gap_odd ab ac bc on_ab (omega arith) (omega arith) (omega arith) z,
+        gap_odd ab ac bc on_ac (omega arith) (omega arith) (omega arith) z,
+        gap_odd ab ac bc on_bc (omega arith) (omega arith) (omega arith) z,
       )
 
   -- an edge above the other two: nothing is left on those
   no_gap : {e : ℕ} → Edge e → (n e + n (other (upper e) e) < n (other (lower e) e)) ⊎ (n e + n (other (lower e) e) < n (other (upper e) e)) →
       gap ab ac bc e % 2 ≡ 0
-  no_gap d h = omega (arith, gap-short ab ac bc d h)
+  no_gap d h = omega (arith, gap_short ab ac bc d h)
 
   add : {a b c x y z s : ℕ} → a ≡ x → b ≡ y → c ≡ z → x + y + z ≡ s → a + b + c ≡ s
   add p q r h = omega arith
 
-  long-only : {e : ℕ} → Edge e → others ab ac bc e < n e → unjoined_count ab ac bc ≡ (n e - others ab ac bc e) % 2
+  long_only : {e : ℕ} → Edge e → others ab ac bc e < n e → unjoined_count ab ac bc ≡ (n e - others ab ac bc e) % 2
   unfolding others count_on lower upper other
-  long-only on-ab h = by-edge ∙ add (ap (λ g. g % 2) (gap_excess ab ac bc on-ab h)) (no_gap on-ac (inl (omega arith))) (no_gap on-bc (inl (omega arith))) (omega arith)
-  long-only on-ac h = by-edge ∙ add (no_gap on-ab (inl (omega arith))) (ap (λ g. g % 2) (gap_excess ab ac bc on-ac h)) (no_gap on-bc (inr (omega arith))) (omega arith)
-  long-only on-bc h = by-edge ∙ add (no_gap on-ab (inr (omega arith))) (no_gap on-ac (inr (omega arith))) (ap (λ g. g % 2) (gap_excess ab ac bc on-bc h)) (omega arith)
+  long_only on_ab h = by-edge ∙ add (ap (λ g. g % 2) (gap_excess ab ac bc on_ab h)) (no_gap on_ac (inl (omega arith))) (no_gap on_bc (inl (omega arith))) (omega arith)
+  long_only on_ac h = by-edge ∙ add (no_gap on_ab (inl (omega arith))) (ap (λ g. g % 2) (gap_excess ab ac bc on_ac h)) (no_gap on_bc (inr (omega arith))) (omega arith)
+  long_only on_bc h = by-edge ∙ add (no_gap on_ab (inr (omega arith))) (no_gap on_ac (inr (omega arith))) (ap (λ g. g % 2) (gap_excess ab ac bc on_bc h)) (omega arith)
 
-  pub unjoined-long : (e : ℕ) → others ab ac bc e < n e → unjoined_count ab ac bc ≡ (n e - others ab ac bc e) % 2
-  unjoined-long e h = long-only (edge-with ab ac bc e (others ab ac bc e) h) h
+  pub unjoined_long : (e : ℕ) → others ab ac bc e < n e → unjoined_count ab ac bc ≡ (n e - others ab ac bc e) % 2
+  unjoined_long e h = long_only (edge_with ab ac bc e (others ab ac bc e) h) h

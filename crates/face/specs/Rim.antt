@@ -10,13 +10,13 @@ pub record InTurn (first second : ℕ → Type 0) : Type 0 where
   pub q : ℕ
   pub r : ℕ
   pub s : ℕ
-  pub of-first : first p
-  pub of-second : second q
-  pub of_first-again : first r
-  pub of_second-again : second s
-  pub p-q : p < q
-  pub q-r : q < r
-  pub r-s : r < s
+  pub of_first : first p
+  pub of_second : second q
+  pub of_first_again : first r
+  pub of_second_again : second s
+  pub p_q : p < q
+  pub q_r : q < r
+  pub r_s : r < s
 
 module _ (ab ac bc : ℕ) where
   -- the place of the crossing t of the edge e on a walk once round the rim a, b, c, a: up ab, up bc, down ac

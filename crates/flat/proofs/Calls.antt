@@ -10,11 +10,11 @@ use lib.ListN.{get_or, length}
 use lib.Seq.{ext_get_or, sets}
 use borrow.Author.Tests.{le-leb, lt-leb}
 use Rattle.answer.specs.Answer.{refusal, refused, result_of}
-use Rattle.answer.proofs.Answer.{mixed, no-nil, pick_some, refusals, refused-not}
+use Rattle.answer.proofs.Answer.{mixed, no_nil, pick_some, refusals, refused_not}
 use Rattle.counting.specs.Lists.{values}
 use Rattle.counting.specs.Stored.{filled}
-use Rattle.counting.proofs.Tables.{filled-table}
-use Rattle.counting.proofs.Lists.{length_singles, values-at}
+use Rattle.counting.proofs.Tables.{filled_table}
+use Rattle.counting.proofs.Lists.{length_singles, values_at}
 use Rattle.counting.proofs.Stored.{stored_not, stored_room}
 use Rattle.counting.proofs.Stores.{get_d_sets_in}
 use Rattle.grid.specs.Check.{check_numbers}
@@ -35,49 +35,49 @@ use Rattle.flat.specs.Numbers.{traced_numbers}
 use Rattle.flat.specs.declared.Traced.{Traced}
 use Rattle.flat.specs.declared.Traced.TheVariants as traced
 use Rattle.flat.specs.work.Work.{StepTable, SidesKnown, TracedIn, step_in, dart_step}
-use Rattle.flat.proofs.Accepts.{acceptance_yields, accepted-answer, never-empty}
-use Rattle.flat.proofs.Ports.{grid-darts, segments_hold, step_moves}
-use Rattle.flat.proofs.Room.{words-room}
-use Rattle.flat.proofs.Stepped.{along-step, linked}
+use Rattle.flat.proofs.Accepts.{acceptance_yields, accepted_answer, never_empty}
+use Rattle.flat.proofs.Ports.{grid_darts, segments_hold, step_moves}
+use Rattle.flat.proofs.Room.{words_room}
+use Rattle.flat.proofs.Stepped.{along_step, linked}
 
 module _ (G : FlatGrid) where
   module _ (r : Checked) (row place : ℕ) (e : r ≡ Refused row place) (q : check_numbers r ≡ flat_answer G) where
-    is-refusal : check_numbers (Refused row place) ≡ flat_answer G
-    is-refusal = ap check_numbers (sym e) ∙ q
+    is_refusal : check_numbers (Refused row place) ≡ flat_answer G
+    is_refusal = ap check_numbers (sym e) ∙ q
 
     keeps : accepts G ≡ false
-    keeps = refused-not (flat_answer G) (never-empty G) row place is-refusal
+    keeps = refused_not (flat_answer G) (never_empty G) row place is_refusal
 
-    pub refused-done : (area : List ℕ) → Done G area area (refused row place)
+    pub refused_done : (area : List ℕ) → Done G area area (refused row place)
     unfolding chains_answer chains_area
-    refused-done area = record { answered = rw keeps is-refusal; area = rw keeps; segments = segments_hold }
+    refused_done area = record { answered = rw keeps is_refusal; area = rw keeps; segments = segments_hold }
 
   module _ (r : Checked) (n : ℕ) (e : r ≡ Crossings n) (q : check_numbers r ≡ flat_answer G) where
     is-result : flat_answer G ≡ result_of (n ∷ [])
     is-result = sym q ∙ ap check_numbers e
 
-    pub told-accepted : Accepted G
-    told-accepted = acceptance_yields G (n ∷ []) is-result
+    pub told_accepted : Accepted G
+    told_accepted = acceptance_yields G (n ∷ []) is-result
 
-    pub told-number : n ≡ crossings G.counts
-    told-number = ap (λ (l : List ℕ). get_or l 1 0) (sym is-result ∙ accepted-answer G told-accepted)
+    pub told_number : n ≡ crossings G.counts
+    told_number = ap (λ (l : List ℕ). get_or l 1 0) (sym is-result ∙ accepted_answer G told_accepted)
 
-    told-accepts : accepts G ≡ true
-    told-accepts = rw is-result
+    told_accepts : accepts G ≡ true
+    told_accepts = rw is-result
 
-    pub told-sides : (sides : List ℕ) → WhereAccepted r (SidesKnown G sides) → SidesKnown G sides
-    told-sides sides w = subst (λ r. WhereAccepted r (SidesKnown G sides)) e w
+    pub told_sides : (sides : List ℕ) → WhereAccepted r (SidesKnown G sides) → SidesKnown G sides
+    told_sides sides w = subst (λ r. WhereAccepted r (SidesKnown G sides)) e w
 
     pub traced_done : {before after answer : List ℕ} → TracedIn G before after answer → Done G before after answer
     unfolding chains_answer chains_area
-    traced_done t = record { answered = rw told-accepts t.answered; area = rw told-accepts t.area; segments = segments_hold }
+    traced_done t = record { answered = rw told_accepts t.answered; area = rw told_accepts t.area; segments = segments_hold }
 
 -- words that stand at the front of a list, copied
 pub copied : (ws was words area : List ℕ) {after : List ℕ} {m : ℕ} → words ≡ sets was 0 ws → length ws ≤ length was → m ≡ length ws
     → after ≡ filled (λ i. get_or words i 0) m area → after ≡ sets area 0 ws
 unfolding filled
 copied ws was words area {m = m} e l k q =
-    q ∙ ap (sets area 0) (ext_get_or 0 (values (λ i. get_or words i 0) m) ws (long ∙ k) (λ i h. values-at (λ i. get_or words i 0) m i 0 (omega (arith, long)) ∙ at i (omega (arith, long))))
+    q ∙ ap (sets area 0) (ext_get_or 0 (values (λ i. get_or words i 0) m) ws (long ∙ k) (λ i h. values_at (λ i. get_or words i 0) m i 0 (omega (arith, long)) ∙ at i (omega (arith, long))))
   where
     long : length (values (λ i. get_or words i 0) m) ≡ m
     long = length_singles (λ i. get_or words i 0) m 0
@@ -89,9 +89,9 @@ copied ws was words area {m = m} e l k q =
 
 -- the room
 module _ (G : FlatGrid) (before : List ℕ) (w : ℕ) (e : w ≡ length (chains_words G)) where
-  pub room-short : length before < w → TracedIn G before before (refusal 24 w)
+  pub room_short : length before < w → TracedIn G before before (refusal 24 w)
   unfolding words_answer
-  room-short h = record {
+  room_short h = record {
     answered = rw (e, lt-leb (length (chains_words G)) (length before) (omega arith));
     area = (stored_not before 0 (chains_words G) (omega arith)).0;
   }
@@ -107,47 +107,47 @@ module _ (G : FlatGrid) (before : List ℕ) (w : ℕ) (e : w ≡ length (chains_
 module _ (G : FlatGrid) (A : Accepted G) (sides : List ℕ) (S : SidesKnown G sides) (was next : List ℕ) (n : ℕ) (k : n ≡ crossings G.counts)
     (room : 2 * n ≤ length was) (q : next ≡ filled (dart_step G.counts sides (3 * triangles_in G.triangles)) (2 * n) was) where
   table : Table (dart_step G.counts sides (3 * triangles_in G.triangles)) (2 * crossings G.counts) next
-  table = subst (λ n. Table (dart_step G.counts sides (3 * triangles_in G.triangles)) (2 * n) next) k (filled-table _ (2 * n) was next q room)
+  table = subst (λ n. Table (dart_step G.counts sides (3 * triangles_in G.triangles)) (2 * n) next) k (filled_table _ (2 * n) was next q room)
 
-  pub is-linked : StepTable n next
-  is-linked = rw k (linked G A sides S next table)
+  pub is_linked : StepTable n next
+  is_linked = rw k (linked G A sides S next table)
 
   pub words_are : all_chain_words n (step_in n next) ≡ chains_words G
   unfolding chains_words
-  words_are = rw (k, along-step G A sides S next table)
+  words_are = rw (k, along_step G A sides S next table)
 
-  pub words-few : length (all_chain_words n (step_in n next)) ≤ 2 * n
-  words-few = rw (k, along-step G A sides S next table) (words-room (crossings G.counts) (step G) (grid-darts G A) (step_moves G A))
+  pub words_few : length (all_chain_words n (step_in n next)) ≤ 2 * n
+  words_few = rw (k, along_step G A sides S next table) (words_room (crossings G.counts) (step G) (grid_darts G A) (step_moves G A))
 
   -- made in a list of their own, and then refused or copied
   module _ (list made : List ℕ) (m : ℕ) (fits : 2 * n ≤ length list) (e : made ≡ sets list 0 (all_chain_words n (step_in n next)))
       (w : m ≡ length (all_chain_words n (step_in n next))) where
-    made-count : m ≡ length (chains_words G)
-    made-count = w ∙ ap length words_are
+    made_count : m ≡ length (chains_words G)
+    made_count = w ∙ ap length words_are
 
-    pub made-few : m ≤ 2 * n
-    made-few = omega (arith, words-few)
+    pub made_few : m ≤ 2 * n
+    made_few = omega (arith, words_few)
 
-    pub made-short : (area : List ℕ) → length area < m → TracedIn G area area (refusal 24 m)
-    made-short area h = room-short G area m made-count h
+    pub made_short : (area : List ℕ) → length area < m → TracedIn G area area (refusal 24 m)
+    made_short area h = room_short G area m made_count h
 
-    pub made-fits : (area : List ℕ) {after : List ℕ} → m ≤ length area → after ≡ filled (λ i. get_or made i 0) m area → TracedIn G area after (result_of (m ∷ []))
-    made-fits area h r = room_fits G area m made-count h (copied (chains_words G) list made area (e ∙ ap (sets list 0) words_are) (omega (arith, made-few, made-count)) made-count r)
+    pub made_fits : (area : List ℕ) {after : List ℕ} → m ≤ length area → after ≡ filled (λ i. get_or made i 0) m area → TracedIn G area after (result_of (m ∷ []))
+    made_fits area h r = room_fits G area m made_count h (copied (chains_words G) list made area (e ∙ ap (sets list 0) words_are) (omega (arith, made_few, made_count)) made_count r)
 
 -- there is always an answer, and it is read from one value alone
 module _ (G : FlatGrid) (room : ℕ) where
-  pub chains-some : [] ≡ chains_answer G room → ⊥
+  pub chains_some : [] ≡ chains_answer G room → ⊥
   unfolding chains_answer words_answer
-  chains-some =
+  chains_some =
       pick_some (accepts G) (words_answer (length (chains_words G)) room) (flat_answer G)
-      (pick_some (leb (length (chains_words G)) room) (result_of (length (chains_words G) ∷ [])) (refusal 24 (length (chains_words G))) no-nil no-nil)
-      (never-empty G)
+      (pick_some (leb (length (chains_words G)) room) (result_of (length (chains_words G) ∷ [])) (refusal 24 (length (chains_words G))) no_nil no_nil)
+      (never_empty G)
 
-pub chains-told : ChainsTold
-chains-told G room = go
+pub chains_told : ChainsTold
+chains_told G room = go
   where
     go : (r s : Traced) → traced_numbers r ≡ chains_answer G room → traced_numbers s ≡ chains_answer G room → r ≡ s
     go (traced.Words n) (traced.Words m) a b = let x : n ≡ m = cc in rw x
-    go (traced.Words n) (traced.Refused k p) a b = absurd (mixed (chains_answer G room) (chains-some G room) k p (n ∷ []) a b)
-    go (traced.Refused k p) (traced.Words n) a b = absurd (mixed (chains_answer G room) (chains-some G room) k p (n ∷ []) b a)
-    go (traced.Refused k p) (traced.Refused l q) a b = let (x, y) = refusals (chains_answer G room) (chains-some G room) k p l q a b in rw (x, y)
+    go (traced.Words n) (traced.Refused k p) a b = absurd (mixed (chains_answer G room) (chains_some G room) k p (n ∷ []) a b)
+    go (traced.Refused k p) (traced.Words n) a b = absurd (mixed (chains_answer G room) (chains_some G room) k p (n ∷ []) b a)
+    go (traced.Refused k p) (traced.Refused l q) a b = let (x, y) = refusals (chains_answer G room) (chains_some G room) k p l q a b in rw (x, y)

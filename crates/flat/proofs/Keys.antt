@@ -15,36 +15,36 @@ use Rattle.counting.specs.Lists.{over, values}
 use Rattle.counting.specs.Stored.{filled}
 use Rattle.counting.specs.Search.{count, every, first, last, some}
 use Rattle.counting.proofs.Bools.{or_right}
-use Rattle.counting.proofs.Search.{AtMostOne, count_blocks, count_ext, count_none, count_plus, count-two, count-zero, first_blocks, first_ext, first-none, last-is, last_le, some_ext, some-found, some-last}
+use Rattle.counting.proofs.Search.{AtMostOne, count_blocks, count_ext, count_none, count_plus, count_two, count_zero, first_blocks, first_ext, first_none, last_is, last_le, some_ext, some_found, some_last}
 use Rattle.counting.proofs.Stored.{sets_more}
 use Rattle.slots.specs.Slots.{lower, upper}
-use Rattle.face.specs.claims.Ends.{Edge, on-ab, on-ac, on-bc}
+use Rattle.face.specs.claims.Ends.{Edge, on_ab, on_ac, on_bc}
 use Rattle.face.proofs.Ends.{edge-of}
 use Rattle.slots.specs.Limits.{highest_node}
 use Rattle.slots.specs.work.Limits.{most_edges}
 use Rattle.grid.specs.work.Shared.{earlier_at, key_room, join}
 use Rattle.counting.specs.work.Tables.{Table, same_key}
 use Rattle.grid.specs.work.Work.{third_at}
-use Rattle.counting.proofs.Tables.{filled-table}
-use Rattle.grid.proofs.Packed.{join-eqb}
+use Rattle.counting.proofs.Tables.{filled_table}
+use Rattle.grid.proofs.Packed.{join_eqb}
 use Rattle.flat.specs.FlatGrid.{most_flat_triangles, node, same_edge, shares, triangles_in}
 use Rattle.flat.specs.Accepted.{SameEdge}
 use Rattle.flat.specs.Rows.{bad_length, bad_triangle, crowded, repeats, same_triangle}
 use Rattle.flat.specs.work.Work.{RisingTriangles, side_key, triangle_key, twice}
-use Rattle.flat.proofs.Accepts.{nodes-rise, same_true, triangle-fine}
+use Rattle.flat.proofs.Accepts.{nodes_rise, same_true, triangle_fine}
 
 -- row 1
-pub length-odd : (triangles : List ℕ) → (length triangles % 3 ≡ 0 → ⊥) → bad_length triangles ≡ true
+pub length_odd : (triangles : List ℕ) → (length triangles % 3 ≡ 0 → ⊥) → bad_length triangles ≡ true
 unfolding bad_length
-length-odd triangles h = rw (ne_eqb (length triangles % 3) 0 h)
+length_odd triangles h = rw (ne_eqb (length triangles % 3) 0 h)
 
 pub length_none : (triangles : List ℕ) → length triangles ≡ 0 → bad_length triangles ≡ true
 unfolding bad_length
 length_none triangles h = rw (eq-eqb (length triangles) 0 h) (or_right (not (eqb (length triangles % 3) 0)) true refl)
 
-pub length-many : (triangles : List ℕ) → length triangles % 3 ≡ 0 → (length triangles ≡ 0 → ⊥) → bad_length triangles ≡ ltb most_flat_triangles (triangles_in triangles)
+pub length_many : (triangles : List ℕ) → length triangles % 3 ≡ 0 → (length triangles ≡ 0 → ⊥) → bad_length triangles ≡ ltb most_flat_triangles (triangles_in triangles)
 unfolding bad_length
-length-many triangles h l = rw (eq-eqb (length triangles % 3) 0 h, ne_eqb (length triangles) 0 l)
+length_many triangles h l = rw (eq-eqb (length triangles % 3) 0 h, ne_eqb (length triangles) 0 l)
 
 -- row 3
 module _ (triangles : List ℕ) (f : ℕ) where
@@ -52,11 +52,11 @@ module _ (triangles : List ℕ) (f : ℕ) where
   unfolding bad_triangle
   triangle_drops i l h =
       or_right (some (λ i. ltb highest_node (node triangles f i)) 3) (some (λ i. leb (node triangles f (i + 1)) (node triangles f i)) 2)
-      (some-found (λ i. leb (node triangles f (i + 1)) (node triangles f i)) 2 i l (le-leb (node triangles f (i + 1)) (node triangles f i) h))
+      (some_found (λ i. leb (node triangles f (i + 1)) (node triangles f i)) 2 i l (le-leb (node triangles f (i + 1)) (node triangles f i) h))
 
-  pub triangle-rises : node triangles f 0 < node triangles f 1 → node triangles f 1 < node triangles f 2 → bad_triangle triangles f ≡ ltb highest_node (node triangles f 2)
+  pub triangle_rises : node triangles f 0 < node triangles f 1 → node triangles f 1 < node triangles f 2 → bad_triangle triangles f ≡ ltb highest_node (node triangles f 2)
   unfolding bad_triangle some
-  triangle-rises h k =
+  triangle_rises h k =
       rw (lt-leb (node triangles f 1) (node triangles f 0) h, lt-leb (node triangles f 2) (node triangles f 1) k) (go (ltb highest_node (node triangles f 2)) refl)
     where
       go : (b : Bool) → ltb highest_node (node triangles f 2) ≡ b
@@ -66,16 +66,16 @@ module _ (triangles : List ℕ) (f : ℕ) where
           let l = ltb-false highest_node (node triangles f 2) e in
           rw (le-ltb highest_node (node triangles f 1) (omega arith), le-ltb highest_node (node triangles f 0) (omega arith))
 
-pub rising-triangles : (triangles : List ℕ) → ((i : ℕ) → get_or triangles i 0 < 65536) → triangles_in triangles ≤ most_flat_triangles
+pub rising_triangles : (triangles : List ℕ) → ((i : ℕ) → get_or triangles i 0 < 65536) → triangles_in triangles ≤ most_flat_triangles
     → triangles_in triangles ≤ first (bad_triangle triangles) (triangles_in triangles) → RisingTriangles triangles
-rising-triangles triangles small few none = record { small = small; few = few; nodes = λ f i h l. (fine f h).0 i l; rising = λ f i h l. (fine f h).1 i l }
+rising_triangles triangles small few none = record { small = small; few = few; nodes = λ f i h l. (fine f h).0 i l; rising = λ f i h l. (fine f h).1 i l }
   where
     fine : (f : ℕ) → f < triangles_in triangles → ((i : ℕ) → i < 3 → node triangles f i ≤ highest_node) × ((i : ℕ) → i < 2 → node triangles f i < node triangles f (i + 1))
-    fine f h = triangle-fine triangles f (first-none (bad_triangle triangles) (triangles_in triangles) none f h)
+    fine f h = triangle_fine triangles f (first_none (bad_triangle triangles) (triangles_in triangles) none f h)
 
 -- entries of the table of earlier places
-entry-is : (x : ℕ) → ltb 0 x ≡ not (eqb x 0)
-entry-is x = elim (ℕ_discrete x 0) [
+entry_is : (x : ℕ) → ltb 0 x ≡ not (eqb x 0)
+entry_is x = elim (ℕ_discrete x 0) [
   | yes q ↦ rw (eq-eqb x 0 q, le-ltb 0 x (omega arith))
   | no q ↦ rw (ne_eqb x 0 q, lt-ltb 0 x (omega arith))
 ]
@@ -86,25 +86,25 @@ same-key keys key x e = eqb-true (get_or keys x 0) key e
 
 -- row 4
 module _ (triangles : List ℕ) (small : (i : ℕ) → get_or triangles i 0 < 65536) where
-  triangle-eqb : (g f : ℕ) → same_triangle triangles g f ≡ eqb (triangle_key triangles g) (triangle_key triangles f)
+  triangle_eqb : (g f : ℕ) → same_triangle triangles g f ≡ eqb (triangle_key triangles g) (triangle_key triangles f)
   unfolding same_triangle every triangle_key
-  triangle-eqb g f =
+  triangle_eqb g f =
       rw (
-        join-eqb (join (node triangles g 0) (node triangles g 1)) (node triangles g 2) (join (node triangles f 0) (node triangles f 1)) (node triangles f 2)
+        join_eqb (join (node triangles g 0) (node triangles g 1)) (node triangles g 2) (join (node triangles f 0) (node triangles f 1)) (node triangles f 2)
             (small (3 * g + 2)) (small (3 * f + 2)),
-        join-eqb (node triangles g 0) (node triangles g 1) (node triangles f 0) (node triangles f 1) (small (3 * g + 1)) (small (3 * f + 1)),
+        join_eqb (node triangles g 0) (node triangles g 1) (node triangles f 0) (node triangles f 1) (small (3 * g + 1)) (small (3 * f + 1)),
       )
 
-  repeats-at : (n : ℕ) (keys : List ℕ) → Table (triangle_key triangles) n keys → (f : ℕ) → f < n → repeats triangles f ≡ ltb 0 (earlier_at keys f)
+  repeats_at : (n : ℕ) (keys : List ℕ) → Table (triangle_key triangles) n keys → (f : ℕ) → f < n → repeats triangles f ≡ ltb 0 (earlier_at keys f)
   unfolding repeats earlier_at same_key
-  repeats-at n keys w f h =
-      some_ext (λ g. same_triangle triangles g f) (λ g. eqb (get_or keys g 0) (get_or keys f 0)) f (λ g l. triangle-eqb g f ∙ rw (w.at g (omega arith), w.at f h))
-      ∙ some-last (λ g. eqb (get_or keys g 0) (get_or keys f 0)) f
+  repeats_at n keys w f h =
+      some_ext (λ g. same_triangle triangles g f) (λ g. eqb (get_or keys g 0) (get_or keys f 0)) f (λ g l. triangle_eqb g f ∙ rw (w.at g (omega arith), w.at f h))
+      ∙ some_last (λ g. eqb (get_or keys g 0) (get_or keys f 0)) f
 
-  pub repeats-first : (n : ℕ) (keys prev : List ℕ) → Table (triangle_key triangles) n keys → Table (earlier_at keys) n prev
+  pub repeats_first : (n : ℕ) (keys prev : List ℕ) → Table (triangle_key triangles) n keys → Table (earlier_at keys) n prev
       → first (λ j. not (eqb (get_or prev j 0) 0)) n ≡ first (repeats triangles) n
-  repeats-first n keys prev w v =
-      first_ext (λ j. not (eqb (get_or prev j 0) 0)) (repeats triangles) n (λ f h. ap (λ x. not (eqb x 0)) (v.at f h) ∙ sym (entry-is (earlier_at keys f)) ∙ sym (repeats-at n keys w f h))
+  repeats_first n keys prev w v =
+      first_ext (λ j. not (eqb (get_or prev j 0) 0)) (repeats triangles) n (λ f h. ap (λ x. not (eqb x 0)) (v.at f h) ∙ sym (entry_is (earlier_at keys f)) ∙ sym (repeats_at n keys w f h))
 
 -- row 5
 module _ (keys prev : List ℕ) (n : ℕ) (v : Table (earlier_at keys) n prev) where
@@ -115,57 +115,57 @@ module _ (keys prev : List ℕ) (n : ℕ) (v : Table (earlier_at keys) n prev) w
   third-at : (j : ℕ) → j < n → twice prev j ≡ third_at keys j
   unfolding twice third_at earlier_at
   third-at j h = elim (ℕ_discrete (get_or prev j 0) 0) [
-    | yes q ↦ rw (eq-eqb (get_or prev j 0) 0 q) (sym (count-zero (same_key keys (get_or keys j 0)) j (sym (v.at j h) ∙ q)))
+    | yes q ↦ rw (eq-eqb (get_or prev j 0) 0 q) (sym (count_zero (same_key keys (get_or keys j 0)) j (sym (v.at j h) ∙ q)))
     | no q ↦
         let e : get_or prev j 0 ≡ last (same_key keys (get_or keys j 0)) j = v.at j h in
         let l : 0 < last (same_key keys (get_or keys j 0)) j = omega arith in
         let k : get_or keys (last (same_key keys (get_or keys j 0)) j - 1) 0 ≡ get_or keys j 0 = key-at l in
         let m : last (same_key keys (get_or keys j 0)) j - 1 < n = omega (arith, last_le (same_key keys (get_or keys j 0)) j) in
         rw (ne_eqb (get_or prev j 0) 0 q, e, v.at (last (same_key keys (get_or keys j 0)) j - 1) m, k)
-        (sym (entry-is (last (same_key keys (get_or keys j 0)) (last (same_key keys (get_or keys j 0)) j - 1))) ∙ sym (count-two (same_key keys (get_or keys j 0)) j l))
+        (sym (entry_is (last (same_key keys (get_or keys j 0)) (last (same_key keys (get_or keys j 0)) j - 1))) ∙ sym (count_two (same_key keys (get_or keys j 0)) j l))
   ]
     where
       key-at : 0 < last (same_key keys (get_or keys j 0)) j → get_or keys (last (same_key keys (get_or keys j 0)) j - 1) 0 ≡ get_or keys j 0
-      key-at l = same-key keys (get_or keys j 0) (last (same_key keys (get_or keys j 0)) j - 1) (last-is (same_key keys (get_or keys j 0)) j l)
+      key-at l = same-key keys (get_or keys j 0) (last (same_key keys (get_or keys j 0)) j - 1) (last_is (same_key keys (get_or keys j 0)) j l)
 
-  pub twice-first : first (twice prev) n ≡ first (third_at keys) n
-  twice-first = first_ext (twice prev) (third_at keys) n third-at
+  pub twice_first : first (twice prev) n ≡ first (third_at keys) n
+  twice_first = first_ext (twice prev) (third_at keys) n third-at
 
 module _ (triangles : List ℕ) (good : RisingTriangles triangles) where
   rises : (f i j : ℕ) → f < triangles_in triangles → i < j → j < 3 → node triangles f i < node triangles f j
-  rises f i j h = nodes-rise triangles f (λ i l. good.rising f i h l) i j
+  rises f i j h = nodes_rise triangles f (λ i l. good.rising f i h l) i j
 
   -- equal keys are one edge
-  edge-eqb : (g j f k : ℕ) → j < 3 → k < 3 → same_edge triangles g j f k ≡ eqb (side_key triangles (3 * g + j)) (side_key triangles (3 * f + k))
+  edge_eqb : (g j f k : ℕ) → j < 3 → k < 3 → same_edge triangles g j f k ≡ eqb (side_key triangles (3 * g + j)) (side_key triangles (3 * f + k))
   unfolding same_edge side_key
-  edge-eqb g j f k lj lk =
+  edge_eqb g j f k lj lk =
       let a : (3 * g + j) / 3 ≡ g = omega arith in
       let b : (3 * g + j) % 3 ≡ j = omega arith in
       let c : (3 * f + k) / 3 ≡ f = omega arith in
       let d : (3 * f + k) % 3 ≡ k = omega arith in
-      rw (a, b, c, d) (sym (join-eqb (node triangles g (lower j)) (node triangles g (upper j)) (node triangles f (lower k)) (node triangles f (upper k))
+      rw (a, b, c, d) (sym (join_eqb (node triangles g (lower j)) (node triangles g (upper j)) (node triangles f (lower k)) (node triangles f (upper k))
       (good.small (3 * g + upper j)) (good.small (3 * f + upper k))))
 
   -- two edges of a triangle have different ends
-  one-edge : (f j k : ℕ) → f < triangles_in triangles → Edge j → Edge k → SameEdge triangles f j f k → j ≡ k
+  one_edge : (f j k : ℕ) → f < triangles_in triangles → Edge j → Edge k → SameEdge triangles f j f k → j ≡ k
   unfolding lower upper
-  one-edge f j k h on-ab on-ab q = refl
-  one-edge f j k h on-ab on-ac q = absurd (omega (arith, q.high_same, rises f 1 2 h (omega arith) (omega arith)))
-  one-edge f j k h on-ab on-bc q = absurd (omega (arith, q.low_same, rises f 0 1 h (omega arith) (omega arith)))
-  one-edge f j k h on-ac on-ab q = absurd (omega (arith, q.high_same, rises f 1 2 h (omega arith) (omega arith)))
-  one-edge f j k h on-ac on-ac q = refl
-  one-edge f j k h on-ac on-bc q = absurd (omega (arith, q.low_same, rises f 0 1 h (omega arith) (omega arith)))
-  one-edge f j k h on-bc on-ab q = absurd (omega (arith, q.low_same, rises f 0 1 h (omega arith) (omega arith)))
-  one-edge f j k h on-bc on-ac q = absurd (omega (arith, q.low_same, rises f 0 1 h (omega arith) (omega arith)))
-  one-edge f j k h on-bc on-bc q = refl
+  one_edge f j k h on_ab on_ab q = refl
+  one_edge f j k h on_ab on_ac q = absurd (omega (arith, q.high_same, rises f 1 2 h (omega arith) (omega arith)))
+  one_edge f j k h on_ab on_bc q = absurd (omega (arith, q.low_same, rises f 0 1 h (omega arith) (omega arith)))
+  one_edge f j k h on_ac on_ab q = absurd (omega (arith, q.high_same, rises f 1 2 h (omega arith) (omega arith)))
+  one_edge f j k h on_ac on_ac q = refl
+  one_edge f j k h on_ac on_bc q = absurd (omega (arith, q.low_same, rises f 0 1 h (omega arith) (omega arith)))
+  one_edge f j k h on_bc on_ab q = absurd (omega (arith, q.low_same, rises f 0 1 h (omega arith) (omega arith)))
+  one_edge f j k h on_bc on_ac q = absurd (omega (arith, q.low_same, rises f 0 1 h (omega arith) (omega arith)))
+  one_edge f j k h on_bc on_bc q = refl
 
   module _ (keys : List ℕ) (w : Table (side_key triangles) (3 * triangles_in triangles) keys) where
     keys_edge : (g j f k : ℕ) → g < triangles_in triangles → j < 3 → f < triangles_in triangles → k < 3
         → same_edge triangles g j f k ≡ eqb (get_or keys (3 * g + j) 0) (get_or keys (3 * f + k) 0)
-    keys_edge g j f k hg hj hf hk = edge-eqb g j f k hj hk ∙ rw (w.at (3 * g + j) (omega arith), w.at (3 * f + k) (omega arith))
+    keys_edge g j f k hg hj hf hk = edge_eqb g j f k hj hk ∙ rw (w.at (3 * g + j) (omega arith), w.at (3 * f + k) (omega arith))
 
     apart : (f j k : ℕ) → f < triangles_in triangles → j < 3 → k < 3 → get_or keys (3 * f + j) 0 ≡ get_or keys (3 * f + k) 0 → j ≡ k
-    apart f j k h lj lk e = one-edge f j k h (edge-of j lj) (edge-of k lk) (same_true triangles f j f k (keys_edge f j f k h lj h lk ∙ eq-eqb _ _ e))
+    apart f j k h lj lk e = one_edge f j k h (edge-of j lj) (edge-of k lk) (same_true triangles f j f k (keys_edge f j f k h lj h lk ∙ eq-eqb _ _ e))
 
     module _ (f : ℕ) (h : f < triangles_in triangles) where
       abbrev T : ℕ → ℕ → Bool
@@ -190,18 +190,18 @@ module _ (triangles : List ℕ) (good : RisingTriangles triangles) where
       unfolding crowded
       third_keys = some_ext (λ k. ltb 1 (count (shares triangles f k) f)) (λ k. third_at keys (3 * f + k)) 3 slot
 
-    pub third-first : first (third_at keys) (3 * triangles_in triangles) / 3 ≡ first (crowded triangles) (triangles_in triangles)
-    third-first =
+    pub third_first : first (third_at keys) (3 * triangles_in triangles) / 3 ≡ first (crowded triangles) (triangles_in triangles)
+    third_first =
         first_blocks (third_at keys) 3 (triangles_in triangles) (omega arith)
         ∙ sym (first_ext (crowded triangles) (λ f. some (λ k. third_at keys (3 * f + k)) 3) (triangles_in triangles) third_keys)
 
 -- as the code meets them
-pub earlier-table : {g : ℕ → ℕ} {n : ℕ} {keys : List ℕ} → Table g n keys → (m : ℕ) {prev : List ℕ}
+pub earlier_table : {g : ℕ → ℕ} {n : ℕ} {keys : List ℕ} → Table g n keys → (m : ℕ) {prev : List ℕ}
     → prev ≡ filled (earlier_at keys) (key_room (length keys) (length (replicate {A = ℕ} m 0))) (replicate m 0) → n ≤ m → n ≤ most_edges → Table (earlier_at keys) n prev
 unfolding key_room
-earlier-table {n = n} {keys} k m {prev} e a b =
+earlier_table {n = n} {keys} k m {prev} e a b =
     let r : length (replicate {A = ℕ} m 0) ≡ m = length-replicate {A = ℕ} m 0 in
-    let t = filled-table (earlier_at keys) (min (min (length keys) (length (replicate {A = ℕ} m 0))) most_edges) (replicate m 0) prev e (omega arith) in
+    let t = filled_table (earlier_at keys) (min (min (length keys) (length (replicate {A = ℕ} m 0))) most_edges) (replicate m 0) prev e (omega arith) in
     record { room = omega (arith, t.room, k.room); at = λ i h. t.at i (omega (arith, k.room)) }
 
 pub side-at : (triangles : List ℕ) (f k : ℕ) → k < 3 → side_key triangles (3 * f + k) ≡ node triangles f (lower k) * 65536 + node triangles f (upper k)
@@ -211,22 +211,22 @@ side-at triangles f k l =
     let b : (3 * f + k) % 3 ≡ k = omega arith in
     rw (a, b)
 
-pub sides-put : (triangles keys : List ℕ) (f a b c : ℕ) → a ≡ node triangles f 0 → b ≡ node triangles f 1 → c ≡ node triangles f 2
+pub sides_put : (triangles keys : List ℕ) (f a b c : ℕ) → a ≡ node triangles f 0 → b ≡ node triangles f 1 → c ≡ node triangles f 2
     → set (set (set keys (3 * f) (a * 65536 + b)) (3 * f + 1) (a * 65536 + c)) (3 * f + 2) (b * 65536 + c) ≡ sets keys (3 * f) (values (λ k. side_key triangles (3 * f + k)) 3)
 unfolding over lower upper
-sides-put triangles keys f a b c p q r =
+sides_put triangles keys f a b c p q r =
     let g : ℕ → ℕ = λ k. side_key triangles (3 * f + k) in
     let e1 = sets_more g (3 * f) 0 keys keys (3 * f) (a * 65536 + b) refl (omega arith) (rw (p, q) (sym (side-at triangles f 0 (omega arith)))) in
     let e2 = sets_more g (3 * f) 1 keys _ (3 * f + 1) (a * 65536 + c) e1 refl (rw (p, r) (sym (side-at triangles f 1 (omega arith)))) in
     sets_more g (3 * f) 2 keys _ (3 * f + 2) (b * 65536 + c) e2 refl (rw (q, r) (sym (side-at triangles f 2 (omega arith))))
 
-pub twice-none : (prev : List ℕ) (j : ℕ) {p : ℕ} → p ≡ get_or prev j 0 → p ≡ 0 → twice prev j ≡ false
+pub twice_none : (prev : List ℕ) (j : ℕ) {p : ℕ} → p ≡ get_or prev j 0 → p ≡ 0 → twice prev j ≡ false
 unfolding twice
-twice-none prev j q z = rw (eq-eqb (get_or prev j 0) 0 (sym q ∙ z))
+twice_none prev j q z = rw (eq-eqb (get_or prev j 0) 0 (sym q ∙ z))
 
-pub twice-hit : (prev : List ℕ) (j : ℕ) {p : ℕ} → p ≡ get_or prev j 0 → p ≢ 0 → get_or prev (p - 1) 0 ≢ 0 → twice prev j ≡ true
+pub twice_hit : (prev : List ℕ) (j : ℕ) {p : ℕ} → p ≡ get_or prev j 0 → p ≢ 0 → get_or prev (p - 1) 0 ≢ 0 → twice prev j ≡ true
 unfolding twice
-twice-hit prev j q z h = rw (← q, ne_eqb _ 0 z, ne_eqb _ 0 h)
+twice_hit prev j q z h = rw (← q, ne_eqb _ 0 z, ne_eqb _ 0 h)
 
 pub twice_miss : (prev : List ℕ) (j : ℕ) {p : ℕ} → p ≡ get_or prev j 0 → get_or prev (p - 1) 0 ≡ 0 → twice prev j ≡ false
 unfolding twice

@@ -12,7 +12,7 @@ use lib.Seq.{get_or-set_other, get_or-set_same}
 use borrow.Author.Tests.{eq-eqb, le-ltb, lt-ltb, ne_eqb}
 use Rattle.counting.specs.Pick.{pick}
 use Rattle.counting.specs.Search.{first, last}
-use Rattle.counting.proofs.Search.{first-at, first_below, first-is, last-hit, last_le, last_miss, last_none, none_first}
+use Rattle.counting.proofs.Search.{first_at, first_below, first_is, last_hit, last_le, last_miss, last_none, none_first}
 use Rattle.counting.specs.work.Tables.{Table, same_key}
 use Rattle.grid.specs.work.Work.{found_at}
 use Rattle.flat.specs.work.Work.{first_port, port_at, second_port}
@@ -31,18 +31,18 @@ module _ (t : ℕ → Bool) (n : ℕ) where
     | no h ↦ omega (arith, found_none (omega arith))
   ]
 
-  pub found-there : 0 < found_at n (first t n) → first t n < n
-  found-there p = elim (dec_lt (first t n) n) [
+  pub found_there : 0 < found_at n (first t n) → first t n < n
+  found_there p = elim (dec_lt (first t n) n) [
     | yes h ↦ h
     | no h ↦ absurd (omega (arith, found_none (omega arith)))
   ]
 
 -- one more number
 module _ (t : ℕ → Bool) (n : ℕ) where
-  more-again : 0 < found_at n (first t n) → found_at (n + 1) (first t (n + 1)) ≡ found_at n (first t n)
-  more-again p =
-      let h = found-there t n p in
-      let e = first-at t (n + 1) (first t n) (omega arith) (first-is t n h) (λ j l. first_below t n j l) in
+  more_again : 0 < found_at n (first t n) → found_at (n + 1) (first t (n + 1)) ≡ found_at n (first t n)
+  more_again p =
+      let h = found_there t n p in
+      let e = first_at t (n + 1) (first t n) (omega arith) (first_is t n h) (λ j l. first_below t n j l) in
       found_some t (n + 1) (omega arith) ∙ ap suc e ∙ sym (found_some t n h)
 
   none_yet : found_at n (first t n) ≡ 0 → (i : ℕ) → i < n → t i ≡ false
@@ -51,9 +51,9 @@ module _ (t : ℕ → Bool) (n : ℕ) where
     | no l ↦ omega arith
   ])
 
-  more-hit : found_at n (first t n) ≡ 0 → t n ≡ true → found_at (n + 1) (first t (n + 1)) ≡ n + 1
-  more-hit z h =
-      let e = first-at t (n + 1) n (omega arith) h (none_yet z) in
+  more_hit : found_at n (first t n) ≡ 0 → t n ≡ true → found_at (n + 1) (first t (n + 1)) ≡ n + 1
+  more_hit z h =
+      let e = first_at t (n + 1) n (omega arith) h (none_yet z) in
       found_some t (n + 1) (omega arith) ∙ omega arith
 
   more_miss : t n ≡ false → found_at (n + 1) (first t (n + 1)) ≡ found_at n (first t n)
@@ -65,12 +65,12 @@ module _ (t : ℕ → Bool) (n : ℕ) where
         | no m ↦ let q : i ≡ n = omega arith in rw q h
       ]),
     )) ∙ sym z
-    | no z ↦ more-again (omega arith)
+    | no z ↦ more_again (omega arith)
   ]
 
-  last-zero : found_at n (first t n) ≡ 0 → last t n ≡ 0
+  last_zero : found_at n (first t n) ≡ 0 → last t n ≡ 0
   unfolding last
-  last-zero z = go n (omega arith)
+  last_zero z = go n (omega arith)
     where
       go : (m : ℕ) → m ≤ n → last t m ≡ 0
       go zero h = last_none t
@@ -81,9 +81,9 @@ module _ (sides : List ℕ) (j e : ℕ) where
   t : ℕ → Bool
   t = same_key sides e
 
-  pub first-again : 0 < first_port sides j e → first_port sides (j + 1) e ≡ first_port sides j e
+  pub first_again : 0 < first_port sides j e → first_port sides (j + 1) e ≡ first_port sides j e
   unfolding first_port t
-  first-again = more-again t j
+  first_again = more_again t j
 
   pub first_le_at : first_port sides j e ≤ j
   unfolding first_port t
@@ -94,18 +94,18 @@ module _ (sides : List ℕ) (j e : ℕ) where
     unfolding same_key
     hit = eq-eqb (get_or sides j 0) e h
 
-    pub first-hit : first_port sides j e ≡ 0 → first_port sides (j + 1) e ≡ j + 1
+    pub first_hit : first_port sides j e ≡ 0 → first_port sides (j + 1) e ≡ j + 1
     unfolding first_port t
-    first-hit z = more-hit t j z hit
+    first_hit z = more_hit t j z hit
 
-    pub second-blank : first_port sides j e ≡ 0 → second_port sides (j + 1) e ≡ second_port sides j e
+    pub second_blank : first_port sides j e ≡ 0 → second_port sides (j + 1) e ≡ second_port sides j e
     unfolding second_port first_port t
-    second-blank z =
-        rw (last-hit t j hit, more-hit t j z hit, last-zero t j z, z, eq-eqb (j + 1) (j + 1) (omega arith))
+    second_blank z =
+        rw (last_hit t j hit, more_hit t j z hit, last_zero t j z, z, eq-eqb (j + 1) (j + 1) (omega arith))
 
-    pub second-hit : 0 < first_port sides j e → second_port sides (j + 1) e ≡ j + 1
+    pub second_hit : 0 < first_port sides j e → second_port sides (j + 1) e ≡ j + 1
     unfolding second_port t
-    second-hit z = rw (last-hit t j hit, first-again z, ne_eqb (j + 1) (first_port sides j e) (λ q. omega (arith, first_le_at)))
+    second_hit z = rw (last_hit t j hit, first_again z, ne_eqb (j + 1) (first_port sides j e) (λ q. omega (arith, first_le_at)))
 
   module _ (h : get_or sides j 0 ≢ e) where
     miss : same_key sides e j ≡ false
@@ -131,14 +131,14 @@ port_le sides n i = elim (ℕ_discrete (i % 2) 0) [
     go true = omega arith
     go false = last_le (same_key sides (i / 2)) n
 
-pub port-first : (sides : List ℕ) (n e : ℕ) → port_at sides n (2 * e) ≡ first_port sides n e
+pub port_first : (sides : List ℕ) (n e : ℕ) → port_at sides n (2 * e) ≡ first_port sides n e
 unfolding port_at
-port-first sides n e =
+port_first sides n e =
     let a : (2 * e) % 2 ≡ 0 = omega arith in let b : (2 * e) / 2 ≡ e = omega arith in rw (a, b)
 
-pub port-second : (sides : List ℕ) (n e : ℕ) → port_at sides n (2 * e + 1) ≡ second_port sides n e
+pub port_second : (sides : List ℕ) (n e : ℕ) → port_at sides n (2 * e + 1) ≡ second_port sides n e
 unfolding port_at
-port-second sides n e =
+port_second sides n e =
     let a : (2 * e + 1) % 2 ≡ 1 = omega arith in let b : (2 * e + 1) / 2 ≡ e = omega arith in rw (a, b)
 
 -- the loop of `put_ports` has passed j places
@@ -146,9 +146,9 @@ pub record Ported (sides : List ℕ) (j : ℕ) (was ports : List ℕ) : Type 0 w
   pub same : length ports ≡ length was
   pub at : (i : ℕ) → i < length was → get_or ports i 0 ≡ port_at sides j i
 
-pub ported-none : (sides ports : List ℕ) → ((i : ℕ) → get_or ports i 0 ≡ 0) → Ported sides 0 ports ports
+pub ported_none : (sides ports : List ℕ) → ((i : ℕ) → get_or ports i 0 ≡ 0) → Ported sides 0 ports ports
 unfolding port_at second_port first_port first last
-ported-none sides ports z = record { same = omega arith; at = λ i h. z i ∙ go (eqb (i % 2) 0) }
+ported_none sides ports z = record { same = omega arith; at = λ i h. z i ∙ go (eqb (i % 2) 0) }
   where
     go : (b : Bool) → 0 ≡ pick {A = ℕ} b 0 0
     go true = omega arith
@@ -156,7 +156,7 @@ ported-none sides ports z = record { same = omega arith; at = λ i h. z i ∙ go
 
 module _ {sides : List ℕ} {j : ℕ} {was ports : List ℕ} (P : Ported sides j was ports) (e : ℕ) (q : get_or sides j 0 ≡ e) (l : 2 * e + 1 < length was) where
   entry : get_or ports (2 * e) 0 ≡ first_port sides j e
-  entry = P.at (2 * e) (omega arith) ∙ port-first sides j e
+  entry = P.at (2 * e) (omega arith) ∙ port_first sides j e
 
   -- the ports of an edge, by those of each side
   by_side : (ports : List ℕ) → length ports ≡ length was → get_or ports (2 * e) 0 ≡ first_port sides (j + 1) e → get_or ports (2 * e + 1) 0 ≡ second_port sides (j + 1) e
@@ -166,8 +166,8 @@ module _ {sides : List ℕ} {j : ℕ} {was ports : List ℕ} (P : Ported sides j
     same = s;
     at = λ i h. elim (ℕ_discrete (i / 2) e) [
       | yes r ↦ elim (ℕ_discrete (i % 2) 0) [
-        | yes z ↦ let y : i ≡ 2 * e = omega arith in rw y (a ∙ sym (port-first sides (j + 1) e))
-        | no z ↦ let y : i ≡ 2 * e + 1 = omega arith in rw y (b ∙ sym (port-second sides (j + 1) e))
+        | yes z ↦ let y : i ≡ 2 * e = omega arith in rw y (a ∙ sym (port_first sides (j + 1) e))
+        | no z ↦ let y : i ≡ 2 * e + 1 = omega arith in rw y (b ∙ sym (port_second sides (j + 1) e))
       ]
       | no r ↦
           c i h r
@@ -175,20 +175,20 @@ module _ {sides : List ℕ} {j : ℕ} {was ports : List ℕ} (P : Ported sides j
     ];
   }
 
-  pub ported-first : get_or ports (2 * e) 0 ≡ 0 → Ported sides (j + 1) was (set ports (2 * e) (j + 1))
-  ported-first z =
+  pub ported_first : get_or ports (2 * e) 0 ≡ 0 → Ported sides (j + 1) was (set ports (2 * e) (j + 1))
+  ported_first z =
       by_side (set ports (2 * e) (j + 1)) (length-set ports (2 * e) (j + 1) ∙ P.same)
-      (get_or-set_same ports (2 * e) (j + 1) 0 (omega (arith, P.same)) ∙ sym (first-hit sides j e q (sym entry ∙ z)))
-      (get_or-set_other ports (2 * e) (2 * e + 1) (j + 1) 0 (λ y. omega arith) ∙ P.at (2 * e + 1) (omega arith) ∙ port-second sides j e
-      ∙ sym (second-blank sides j e q (sym entry ∙ z)))
+      (get_or-set_same ports (2 * e) (j + 1) 0 (omega (arith, P.same)) ∙ sym (first_hit sides j e q (sym entry ∙ z)))
+      (get_or-set_other ports (2 * e) (2 * e + 1) (j + 1) 0 (λ y. omega arith) ∙ P.at (2 * e + 1) (omega arith) ∙ port_second sides j e
+      ∙ sym (second_blank sides j e q (sym entry ∙ z)))
       (λ i h r. get_or-set_other ports (2 * e) i (j + 1) 0 (λ y. r (omega arith)) ∙ P.at i h)
 
-  pub ported-second : get_or ports (2 * e) 0 ≢ 0 → Ported sides (j + 1) was (set ports (2 * e + 1) (j + 1))
-  ported-second z =
+  pub ported_second : get_or ports (2 * e) 0 ≢ 0 → Ported sides (j + 1) was (set ports (2 * e + 1) (j + 1))
+  ported_second z =
       by_side (set ports (2 * e + 1) (j + 1)) (length-set ports (2 * e + 1) (j + 1) ∙ P.same)
-      (get_or-set_other ports (2 * e + 1) (2 * e) (j + 1) 0 (λ y. omega arith) ∙ entry ∙ sym (first-again sides j e (omega (arith, entry))))
-      (get_or-set_same ports (2 * e + 1) (j + 1) 0 (omega (arith, P.same)) ∙ sym (second-hit sides j e q (omega (arith, entry))))
+      (get_or-set_other ports (2 * e + 1) (2 * e) (j + 1) 0 (λ y. omega arith) ∙ entry ∙ sym (first_again sides j e (omega (arith, entry))))
+      (get_or-set_same ports (2 * e + 1) (j + 1) 0 (omega (arith, P.same)) ∙ sym (second_hit sides j e q (omega (arith, entry))))
       (λ i h r. get_or-set_other ports (2 * e + 1) i (j + 1) 0 (λ y. r (omega arith)) ∙ P.at i h)
 
-pub ported-table : {sides : List ℕ} {j n : ℕ} {was ports : List ℕ} → Ported sides j was ports → j ≡ n → Table (port_at sides n) (length was) ports
-ported-table {sides} P q = record { room = omega (arith, P.same); at = λ i h. P.at i h ∙ ap (λ (n : ℕ). port_at sides n i) q }
+pub ported_table : {sides : List ℕ} {j n : ℕ} {was ports : List ℕ} → Ported sides j was ports → j ≡ n → Table (port_at sides n) (length was) ports
+ported_table {sides} P q = record { room = omega (arith, P.same); at = λ i h. P.at i h ∙ ap (λ (n : ℕ). port_at sides n i) q }

@@ -8,27 +8,27 @@ use borrow.Author.Tests.{lt-ltb, le-ltb}
 use Rattle.counting.specs.Lists.{it}
 use Rattle.walk.specs.Darts.{half, rev, Live, Loop, On}
 use Rattle.walk.specs.claims.Claims.{Darts}
-use Rattle.walk.proofs.Iterate.{it-suc, it_add}
+use Rattle.walk.proofs.Iterate.{it_suc, it_add}
 use Rattle.walk.proofs.Curve as curve
-use Rattle.walk.proofs.Step.{rev-rev}
+use Rattle.walk.proofs.Step.{rev_rev}
 use Rattle.flat.specs.Chain.{taken, steps, last_dart}
 use Rattle.flat.specs.ChainClaims.{Path}
 
 module _ (N : ℕ) (s : ℕ → ℕ) where
-  taken-on : (n d : ℕ) → s d < 2 * N → taken N s (suc n) d ≡ suc (taken N s n (s d))
+  taken_on : (n d : ℕ) → s d < 2 * N → taken N s (suc n) d ≡ suc (taken N s n (s d))
   unfolding taken
-  taken-on n d h = rw (lt-ltb (s d) (2 * N) h, taken)
+  taken_on n d h = rw (lt-ltb (s d) (2 * N) h, taken)
 
-  taken-off : (n d : ℕ) → 2 * N ≤ s d → taken N s (suc n) d ≡ 0
+  taken_off : (n d : ℕ) → 2 * N ≤ s d → taken N s (suc n) d ≡ 0
   unfolding taken
-  taken-off n d h = rw (le-ltb (s d) (2 * N) h, taken)
+  taken_off n d h = rw (le-ltb (s d) (2 * N) h, taken)
 
   pub taken_live : (n d i : ℕ) → i < taken N s n d → it s (suc i) d < 2 * N
   unfolding it taken
   taken_live zero d i h = absurd (omega arith)
   taken_live (suc n) d i h = elim (dec_lt (s d) (2 * N)) [
-    | yes l ↦ go (taken_live n (s d)) i (rw (taken-on n d l) at h) l
-    | no l ↦ absurd (omega (arith, taken-off n d (omega arith)))
+    | yes l ↦ go (taken_live n (s d)) i (rw (taken_on n d l) at h) l
+    | no l ↦ absurd (omega (arith, taken_off n d (omega arith)))
   ]
     where
       go : ((i : ℕ) → i < taken N s n (s d) → it s (suc i) (s d) < 2 * N) → (i : ℕ) → i < suc (taken N s n (s d)) → s d < 2 * N → it s i (s d) < 2 * N
@@ -36,64 +36,64 @@ module _ (N : ℕ) (s : ℕ → ℕ) where
       go more (suc i) h l = more i (omega arith)
 
   -- where it ends
-  pub taken-stop : (n d : ℕ) → taken N s n d < n → 2 * N ≤ it s (suc (taken N s n d)) d
+  pub taken_stop : (n d : ℕ) → taken N s n d < n → 2 * N ≤ it s (suc (taken N s n d)) d
   unfolding it
-  taken-stop zero d h = absurd (omega arith)
-  taken-stop (suc n) d h = elim (dec_lt (s d) (2 * N)) [
-    | yes l ↦ rw (taken-on n d l) (taken-stop n (s d) (omega (arith, taken-on n d l)))
-    | no l ↦ rw (taken-off n d (omega arith)) (omega arith)
+  taken_stop zero d h = absurd (omega arith)
+  taken_stop (suc n) d h = elim (dec_lt (s d) (2 * N)) [
+    | yes l ↦ rw (taken_on n d l) (taken_stop n (s d) (omega (arith, taken_on n d l)))
+    | no l ↦ rw (taken_off n d (omega arith)) (omega arith)
   ]
 
   pub taken_is : (n k d : ℕ) → k < n → ((i : ℕ) → i < k → it s (suc i) d < 2 * N) → 2 * N ≤ it s (suc k) d → taken N s n d ≡ k
   unfolding it
   taken_is zero k d h live stop = absurd (omega arith)
-  taken_is (suc n) zero d h live stop = taken-off n d stop
-  taken_is (suc n) (suc k) d h live stop = taken-on n d (live 0 (omega arith)) ∙ ap suc (taken_is n k (s d) (omega arith) (λ i l. live (suc i) (omega arith)) stop)
+  taken_is (suc n) zero d h live stop = taken_off n d stop
+  taken_is (suc n) (suc k) d h live stop = taken_on n d (live 0 (omega arith)) ∙ ap suc (taken_is n k (s d) (omega arith) (λ i l. live (suc i) (omega arith)) stop)
 
-  pub taken-all : (n d : ℕ) → ((i : ℕ) → i < n → it s (suc i) d < 2 * N) → taken N s n d ≡ n
+  pub taken_all : (n d : ℕ) → ((i : ℕ) → i < n → it s (suc i) d < 2 * N) → taken N s n d ≡ n
   unfolding it taken
-  taken-all zero d live = refl
-  taken-all (suc n) d live = taken-on n d (live 0 (omega arith)) ∙ ap suc (taken-all n (s d) (λ i l. live (suc i) (omega arith)))
+  taken_all zero d live = refl
+  taken_all (suc n) d live = taken_on n d (live 0 (omega arith)) ∙ ap suc (taken_all n (s d) (λ i l. live (suc i) (omega arith)))
 
   pub taken_le : (n d : ℕ) → taken N s n d ≤ n
   unfolding taken
   taken_le zero d = omega arith
   taken_le (suc n) d = elim (dec_lt (s d) (2 * N)) [
-    | yes l ↦ omega (arith, taken-on n d l, taken_le n (s d))
-    | no l ↦ omega (arith, taken-off n d (omega arith))
+    | yes l ↦ omega (arith, taken_on n d l, taken_le n (s d))
+    | no l ↦ omega (arith, taken_off n d (omega arith))
   ]
 
 module _ (N : ℕ) (s : ℕ → ℕ) (D : Darts (2 * N) N s rev half) where
   -- CURVES WITHOUT AN END
 
-  loop-live : {p k : ℕ} → Loop (2 * N) s p k → (i : ℕ) → it s i p < 2 * N
+  loop_live : {p k : ℕ} → Loop (2 * N) s p k → (i : ℕ) → it s i p < 2 * N
   unfolding it
-  loop-live L i = (curve.loop-later (2 * N) N s rev half D L i).live 0 (omega arith)
+  loop_live L i = (curve.loop_later (2 * N) N s rev half D L i).live 0 (omega arith)
 
-  pub loop-steps : {p k : ℕ} → Loop (2 * N) s p k → steps N s p ≡ N
+  pub loop_steps : {p k : ℕ} → Loop (2 * N) s p k → steps N s p ≡ N
   unfolding steps
-  loop-steps {p} L = taken-all N s N p (λ i h. loop-live L (suc i))
+  loop_steps {p} L = taken_all N s N p (λ i h. loop_live L (suc i))
 
-  steps-live : (d : ℕ) → d < 2 * N → (i : ℕ) → i ≤ steps N s d → it s i d < 2 * N
+  steps_live : (d : ℕ) → d < 2 * N → (i : ℕ) → i ≤ steps N s d → it s i d < 2 * N
   unfolding steps it
-  steps-live d h zero l = h
-  steps-live d h (suc i) l = taken_live N s N d i (omega arith)
+  steps_live d h zero l = h
+  steps_live d h (suc i) l = taken_live N s N d i (omega arith)
 
   pub steps_le : (d : ℕ) → steps N s d ≤ N
   unfolding steps
   steps_le d = taken_le N s N d
 
-  steps-stop : (d : ℕ) → steps N s d < N → 2 * N ≤ s (it s (steps N s d) d)
+  steps_stop : (d : ℕ) → steps N s d < N → 2 * N ≤ s (it s (steps N s d) d)
   unfolding steps
-  steps-stop d a = rw (← it-suc s (taken N s N d) d) (taken-stop N s N d a)
+  steps_stop d a = rw (← it_suc s (taken N s N d) d) (taken_stop N s N d a)
 
-  pub steps-loop : (d : ℕ) → d < 2 * N → steps N s d ≡ N → (k : ℕ) × Loop (2 * N) s d k
-  steps-loop d h q = let (k, l, L) = curve.closes (2 * N) N s rev half D d (λ i m. steps-live d h i (omega arith)) in (k, L)
+  pub steps_loop : (d : ℕ) → d < 2 * N → steps N s d ≡ N → (k : ℕ) × Loop (2 * N) s d k
+  steps_loop d h q = let (k, l, L) = curve.closes (2 * N) N s rev half D d (λ i m. steps_live d h i (omega arith)) in (k, L)
 
   -- and from each dart of a crossing of it
-  pub on-steps : {p k : ℕ} → Loop (2 * N) s p k → (e : ℕ) → e < 2 * N → On s half p k (half e) → steps N s e ≡ N
+  pub on_steps : {p k : ℕ} → Loop (2 * N) s p k → (e : ℕ) → e < 2 * N → On s half p k (half e) → steps N s e ≡ N
   unfolding steps curve.Next
-  on-steps L e h o = taken-all N s N e (λ i l. (curve.on_walk (2 * N) N s rev half D L (suc i) e h o).0)
+  on_steps L e h o = taken_all N s N e (λ i l. (curve.on_walk (2 * N) N s rev half D L (suc i) e h o).0)
 
   -- CURVES BETWEEN TWO ENDS
 
@@ -101,7 +101,7 @@ module _ (N : ℕ) (s : ℕ → ℕ) (D : Darts (2 * N) N s rev half) where
   unfolding it
   walk_back zero d l = refl
   walk_back (suc i) d l =
-      let e : it s (suc i) d ≡ s (it s i d) = it-suc s i d in
+      let e : it s (suc i) d ≡ s (it s i d) = it_suc s i d in
       let b : s (rev (it s (suc i) d)) ≡ rev (it s i d) =
       ap (λ x. s (rev x)) e ∙ D.back (it s i d) (l i (omega arith)) (subst (λ x. x < 2 * N) e (l (suc i) (omega arith))) in
       ap (it s i) b ∙ walk_back i d (λ j h. l j (omega arith))
@@ -122,7 +122,7 @@ module _ (N : ℕ) (s : ℕ → ℕ) (D : Darts (2 * N) N s rev half) where
       live = λ i h.
           let e : l - (l - i) ≡ i = omega arith in
           subst (λ n. it s n (rev (it s l d)) < 2 * N) e (rw (path_rev (l - i) (omega arith)) (D.rv_lt (it s (l - i) d) (P.live (l - i) (omega arith))));
-      first = rw (rev-rev (it s l d)) P.last;
+      first = rw (rev_rev (it s l d)) P.last;
       last = let e : l - 0 ≡ l = omega arith in let q = rw e at (path_rev 0 (omega arith)) in rw q P.first;
     }
 
@@ -134,14 +134,14 @@ module _ (N : ℕ) (s : ℕ → ℕ) (D : Darts (2 * N) N s rev half) where
     ]
       where
         go : (k : ℕ) × (k ≤ N) × Loop (2 * N) s d k → ⊥
-        go (k, m, L) = omega (arith, P.last, it-suc s l d, loop-live L (suc l))
+        go (k, m, L) = omega (arith, P.last, it_suc s l d, loop_live L (suc l))
 
     -- the steps on from each of its darts, and where they lead
     pub path-steps : (i : ℕ) → i ≤ l → steps N s (it s i d) ≡ l - i
     unfolding steps
     path-steps i h =
         taken_is N s N (l - i) (it s i d) (omega (arith, path_short)) (λ j m. subst (λ x. x < 2 * N) (it_add s i (suc j) d) (P.live (i + suc j) (omega arith)))
-        (let e : i + suc (l - i) ≡ suc l = omega arith in subst (λ x. 2 * N ≤ x) (sym (it-suc s l d) ∙ ap (λ (n : ℕ). it s n d) (sym e) ∙ it_add s i (suc (l - i)) d) P.last)
+        (let e : i + suc (l - i) ≡ suc l = omega arith in subst (λ x. 2 * N ≤ x) (sym (it_suc s l d) ∙ ap (λ (n : ℕ). it s n d) (sym e) ∙ it_add s i (suc (l - i)) d) P.last)
 
     pub path_last : (i : ℕ) → i ≤ l → last_dart N s (it s i d) ≡ it s l d
     unfolding last_dart
@@ -187,8 +187,8 @@ module _ (N : ℕ) (s : ℕ → ℕ) (D : Darts (2 * N) N s rev half) where
         at = steps N s (rev e);
         path = record {
           live = live;
-          first = rw (rev-rev (it s (steps N s (rev e)) (rev e))) (steps-stop (rev e) b);
-          last = rw (it_add s (steps N s (rev e)) (steps N s e) start, here) (steps-stop e a);
+          first = rw (rev_rev (it s (steps N s (rev e)) (rev e))) (steps_stop (rev e) b);
+          last = rw (it_add s (steps N s (rev e)) (steps N s e) start, here) (steps_stop e a);
         };
         within = omega arith;
         is = here;
@@ -205,20 +205,20 @@ module _ (N : ℕ) (s : ℕ → ℕ) (D : Darts (2 * N) N s rev half) where
         | yes m ↦ m
         | no m ↦
             let q : steps N s (rev e) ≡ N = omega (arith, steps_le (rev e)) in
-            let (k, L) = steps-loop (rev e) lr q in
-            absurd (omega (arith, on-steps L e h (on-first L (D.cr_rv e h))))
+            let (k, L) = steps_loop (rev e) lr q in
+            absurd (omega (arith, on_steps L e h (on-first L (D.cr_rv e h))))
       ]
 
       here : it s (steps N s (rev e)) start ≡ e
-      here = walk_back (steps N s (rev e)) (rev e) (steps-live (rev e) lr) ∙ rev-rev e
+      here = walk_back (steps N s (rev e)) (rev e) (steps_live (rev e) lr) ∙ rev_rev e
 
       live : (i : ℕ) → i ≤ steps N s (rev e) + steps N s e → it s i start < 2 * N
       live i m = elim (dec_lt i (steps N s (rev e))) [
         | yes n ↦
             let q : steps N s (rev e) - (steps N s (rev e) - i) ≡ i = omega arith in
-            let r = path_back (rev e) (steps N s (rev e)) (steps-live (rev e) lr) (steps N s (rev e) - i) (omega arith) in
-            subst (λ n. it s n start < 2 * N) q (rw r (D.rv_lt (it s (steps N s (rev e) - i) (rev e)) (steps-live (rev e) lr (steps N s (rev e) - i) (omega arith))))
+            let r = path_back (rev e) (steps N s (rev e)) (steps_live (rev e) lr) (steps N s (rev e) - i) (omega arith) in
+            subst (λ n. it s n start < 2 * N) q (rw r (D.rv_lt (it s (steps N s (rev e) - i) (rev e)) (steps_live (rev e) lr (steps N s (rev e) - i) (omega arith))))
         | no n ↦
             let q : steps N s (rev e) + (i - steps N s (rev e)) ≡ i = omega arith in
-            subst (λ n. it s n start < 2 * N) q (rw (it_add s (steps N s (rev e)) (i - steps N s (rev e)) start, here) (steps-live e h (i - steps N s (rev e)) (omega arith)))
+            subst (λ n. it s n start < 2 * N) q (rw (it_add s (steps N s (rev e)) (i - steps N s (rev e)) start, here) (steps_live e h (i - steps N s (rev e)) (omega arith)))
       ]

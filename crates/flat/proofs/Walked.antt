@@ -19,22 +19,22 @@ use Rattle.counting.proofs.Pigeon.{pigeonhole}
 use Rattle.counting.proofs.Stored.{sets_more, stored_fits, stored_more, stored_none}
 use Rattle.walk.specs.Darts.{half, rev, Loop, On}
 use Rattle.walk.specs.claims.Claims.{Darts}
-use Rattle.walk.proofs.Iterate.{it-suc}
+use Rattle.walk.proofs.Iterate.{it_suc}
 use Rattle.walk.proofs.Curve as curve
 use Rattle.flat.specs.Chain.{steps, closes, last_dart, path_steps, path_start, is_path, chain_size, chain_start, chain_words, all_chain_words}
 use Rattle.flat.specs.work.Work.{Finds, Fresh, InChain, StepTable, MarkedOn, Ran, DartsFrom, Swept, step_in, size_by, start_by, words_by, words_of}
-use Rattle.flat.proofs.Taken.{loop-steps, on-steps, taken_is}
-use Rattle.flat.proofs.Curves.{closed-loop, closed-start, found, held, open_none, open_size, open_start}
-use Rattle.flat.proofs.Once.{one-chain}
+use Rattle.flat.proofs.Taken.{loop_steps, on_steps, taken_is}
+use Rattle.flat.proofs.Curves.{closed_loop, closed_start, found, held, open_none, open_size, open_start}
+use Rattle.flat.proofs.Once.{one_chain}
 
 -- an entry of the table
-pub along-at : (N : ℕ) (next : List ℕ) (d : ℕ) → d < 2 * N → step_in N next d ≡ get_or next d 0
+pub along_at : (N : ℕ) (next : List ℕ) (d : ℕ) → d < 2 * N → step_in N next d ≡ get_or next d 0
 unfolding step_in
-along-at N next d h = rw (lt-ltb d (2 * N) h)
+along_at N next d h = rw (lt-ltb d (2 * N) h)
 
-pub along-off : (N : ℕ) (next : List ℕ) (d : ℕ) → 2 * N ≤ d → step_in N next d ≡ 2 * N
+pub along_off : (N : ℕ) (next : List ℕ) (d : ℕ) → 2 * N ≤ d → step_in N next d ≡ 2 * N
 unfolding step_in
-along-off N next d h = rw (le-ltb d (2 * N) h)
+along_off N next d h = rw (le-ltb d (2 * N) h)
 
 module _ (N : ℕ) (s : ℕ → ℕ) where
   -- A WALK UNDER WAY: k steps lead from d to e, and never back to d
@@ -56,7 +56,7 @@ module _ (N : ℕ) (s : ℕ → ℕ) where
     running_lt = rw (← R.is) (R.live k (omega arith))
 
     on : it s (k + 1) d ≡ s e
-    on = let z : k + 1 ≡ suc k = omega arith in rw z (it-suc s k d ∙ ap s R.is)
+    on = let z : k + 1 ≡ suc k = omega arith in rw z (it_suc s k d ∙ ap s R.is)
 
     upto : (P : ℕ → Type 0) → ((i : ℕ) → i ≤ k → P i) → P (k + 1) → (i : ℕ) → i ≤ k + 1 → P i
     upto P a b i h = elim (dec_lt i (k + 1)) [
@@ -86,8 +86,8 @@ module _ (N : ℕ) (s : ℕ → ℕ) where
     pub is : e ≡ it s i d
     pub marked : MarkedOn N s d i was marks
 
-  pub marked-zero : {d m : ℕ} (marks : List ℕ) → m ≡ 0 → MarkedOn N s d m marks marks
-  marked-zero marks z = record { same = refl; hit = λ x l o. absurd (omega (arith, o.at_lt)); kept = λ x q. q; only = λ x l. inl refl }
+  pub marked_zero : {d m : ℕ} (marks : List ℕ) → m ≡ 0 → MarkedOn N s d m marks marks
+  marked_zero marks z = record { same = refl; hit = λ x l o. absurd (omega (arith, o.at_lt)); kept = λ x q. q; only = λ x l. inl refl }
 
   pub marking_none : (d m : ℕ) (marks : List ℕ) → N ≤ length marks → Marking d m marks d 0 marks
   unfolding it
@@ -95,7 +95,7 @@ module _ (N : ℕ) (s : ℕ → ℕ) where
     within = omega arith;
     room = h;
     is = refl;
-    marked = marked-zero marks refl;
+    marked = marked_zero marks refl;
   }
 
   module _ {d m : ℕ} {was : List ℕ} {e i : ℕ} {marks : List ℕ} (R : DartsFrom N s d m) (M : Marking d m was e i marks) (l : i < m) where
@@ -118,7 +118,7 @@ module _ (N : ℕ) (s : ℕ → ℕ) where
     marking_more = record {
       within = omega arith;
       room = M.room;
-      is = rw (← next) (ap s M.is ∙ sym (it-suc s i d));
+      is = rw (← next) (ap s M.is ∙ sym (it_suc s i d));
       marked = record {
         same = length-set marks (half e) 1 ∙ M.marked.same;
         hit = λ x lx o. elim (dec_lt o.at i) [
@@ -159,37 +159,37 @@ module _ (N : ℕ) (s : ℕ → ℕ) where
   pub record Listing (d m at : ℕ) (was : List ℕ) (e i : ℕ) (area : List ℕ) : Type 0 where
     pub within : i ≤ m
     pub is : e ≡ it s i d
-    pub area-is : area ≡ sets was at (values (λ i. half (it s i d)) i)
+    pub area_is : area ≡ sets was at (values (λ i. half (it s i d)) i)
 
   pub listing_none : (d m at : ℕ) (was : List ℕ) → Listing d m at was d 0 was
   unfolding it over
-  listing_none d m at was = record { within = omega arith; is = refl; area-is = refl }
+  listing_none d m at was = record { within = omega arith; is = refl; area_is = refl }
 
   module _ {d m at : ℕ} {was : List ℕ} {e i : ℕ} {area : List ℕ} (M : Listing d m at was e i area) where
-    pub listing-long : length area ≡ length was
-    listing-long = ap length M.area-is ∙ length-sets was at (values (λ i. half (it s i d)) i)
+    pub listing_long : length area ≡ length was
+    listing_long = ap length M.area_is ∙ length-sets was at (values (λ i. half (it s i d)) i)
 
-    pub listing-lt : DartsFrom N s d m → i < m → e < 2 * N
-    listing-lt R l = rw M.is (R i l)
+    pub listing_lt : DartsFrom N s d m → i < m → e < 2 * N
+    listing_lt R l = rw M.is (R i l)
 
-    pub listing-more : i < m → Listing d m at was (s e) (i + 1) (set area (at + i) (half e))
-    listing-more l = record {
+    pub listing_more : i < m → Listing d m at was (s e) (i + 1) (set area (at + i) (half e))
+    listing_more l = record {
       within = omega arith;
-      is = let z : suc i ≡ i + 1 = omega arith in rw (← z) (ap s M.is ∙ sym (it-suc s i d));
-      area-is = sets_more (λ i. half (it s i d)) at i was area (at + i) (half e) M.area-is refl (ap half M.is);
+      is = let z : suc i ≡ i + 1 = omega arith in rw (← z) (ap s M.is ∙ sym (it_suc s i d));
+      area_is = sets_more (λ i. half (it s i d)) at i was area (at + i) (half e) M.area_is refl (ap half M.is);
     }
 
-    pub listing-all : m ≤ i → area ≡ sets was at (values (λ i. half (it s i d)) m)
-    listing-all l = let z : i ≡ m = omega (arith, M.within) in M.area-is ∙ ap (λ (i : ℕ). sets was at (values (λ i. half (it s i d)) i)) z
+    pub listing_all : m ≤ i → area ≡ sets was at (values (λ i. half (it s i d)) m)
+    listing_all l = let z : i ≡ m = omega (arith, M.within) in M.area_is ∙ ap (λ (i : ℕ). sets was at (values (λ i. half (it s i d)) i)) z
 
   pub writing_none : (was marks : List ℕ) → length (over (chain_words N s) N 0) ≤ length was → Swept N s 0 marks → Writing was was 0 0 marks
   unfolding over
   writing_none was marks h w = record { within = omega arith; fits = h; stored = stored_none was 0; swept = w }
 
 -- the number of words
-pub words-length : (N : ℕ) (s : ℕ → ℕ) (closed size start : ℕ) → length (words_by N s closed size start) ≡ words_of size
+pub words_length : (N : ℕ) (s : ℕ → ℕ) (closed size start : ℕ) → length (words_by N s closed size start) ≡ words_of size
 unfolding words_by words_of
-words-length N s closed size start = elim (ℕ_discrete size 0) [
+words_length N s closed size start = elim (ℕ_discrete size 0) [
   | yes z ↦ rw (eq-eqb size 0 z)
   | no z ↦ rw (ne_eqb size 0 z) (omega (arith, length_singles (λ i. half (it s i start)) size 0))
 ]
@@ -207,7 +207,7 @@ module _ (N : ℕ) (s : ℕ → ℕ) (D : Darts (2 * N) N s rev half) where
 
   module _ {d k e : ℕ} (R : Ran N s d k e) where
     after : it s (suc k) d ≡ s e
-    after = it-suc s k d ∙ ap s R.is
+    after = it_suc s k d ∙ ap s R.is
 
     pub ran_short : k < N
     ran_short = walk_short R.live R.away
@@ -242,19 +242,19 @@ module _ (N : ℕ) (s : ℕ → ℕ) (D : Darts (2 * N) N s rev half) where
         (λ a. absurd (omega (arith, (held N s D c lc (omega (arith, o.at_lt))).least (half e) o))) (λ a. a) in
         omega (arith, o.at_lt, ap (chain_size N s) z)
 
-    first-half : half (2 * p) ≡ p
-    first-half = omega arith
+    first_half : half (2 * p) ≡ p
+    first_half = omega arith
 
-    pub closed-finds : {k e : ℕ} → Ran N s (2 * p) k e → s e ≡ 2 * p → Finds N s p 1 (k + 1) (2 * p)
+    pub closed_finds : {k e : ℕ} → Ran N s (2 * p) k e → s e ≡ 2 * p → Finds N s p 1 (k + 1) (2 * p)
     unfolding closes it
-    closed-finds {k} {e} R q =
+    closed_finds {k} {e} R q =
         let L = ran_loop R q in
-        let c : closes N s p ≡ true = eq-eqb (steps N s (2 * p)) N (loop-steps N s D L) in
-        let z = found_here (2 * p) (omega arith) first-half (L.live 1 (omega arith)) in
-        let K = (closed-loop N s D p h z c).0 in
+        let c : closes N s p ≡ true = eq-eqb (steps N s (2 * p)) N (loop_steps N s D L) in
+        let z = found_here (2 * p) (omega arith) first_half (L.live 1 (omega arith)) in
+        let K = (closed_loop N s D p h z c).0 in
         record {
-          size_is = omega (arith, curve.loop-length (2 * N) N s rev half D L K);
-          start_is = λ l. sym (closed-start N s D p c);
+          size_is = omega (arith, curve.loop_length (2 * N) N s rev half D L K);
+          start_is = λ l. sym (closed_start N s D p c);
           closed_is = λ l. sym (ap one c);
         }
 
@@ -262,18 +262,18 @@ module _ (N : ℕ) (s : ℕ → ℕ) (D : Darts (2 * N) N s rev half) where
       first_ends : 2 * N ≤ s e
       first_ends = ⊎_elim (λ q. absurd (stops q)) (λ q. q) R.stops
 
-      second-half : half (2 * p + 1) ≡ half (2 * p)
-      second-half = omega arith
+      second_half : half (2 * p + 1) ≡ half (2 * p)
+      second_half = omega arith
 
       on-first : {d k x : ℕ} → Loop (2 * N) s d k → half d ≡ x → On s half d k x
       unfolding it
       on-first L q = record { at = 0; at_lt = L.pos; is = q }
 
-      second-ends : 2 * N ≤ s f
-      second-ends = ⊎_elim
+      second_ends : 2 * N ≤ s f
+      second_ends = ⊎_elim
           (λ q.
           let L = ran_loop T q in
-          absurd (omega (arith, on-steps N s D L (2 * p) (omega arith) (on-first L second-half), ran_steps R first_ends, ran_short R)))
+          absurd (omega (arith, on_steps N s D L (2 * p) (omega arith) (on-first L second_half), ran_steps R first_ends, ran_short R)))
           (λ q. q) T.stops
 
       open_here : closes N s p ≡ false
@@ -282,11 +282,11 @@ module _ (N : ℕ) (s : ℕ → ℕ) (D : Darts (2 * N) N s rev half) where
 
       path_is : path_steps N s p ≡ k + l
       unfolding path_steps
-      path_is = omega (arith, ran_steps R first_ends, ran_steps T second-ends)
+      path_is = omega (arith, ran_steps R first_ends, ran_steps T second_ends)
 
-      start-same : path_start N s p ≡ start_by e f
+      start_same : path_start N s p ≡ start_by e f
       unfolding path_start start_by
-      start-same = rw (ran_last R first_ends, ran_last T second-ends)
+      start_same = rw (ran_last R first_ends, ran_last T second_ends)
 
       none : k + l ≡ 0 → is_path N s p ≡ false
       unfolding is_path
@@ -295,8 +295,8 @@ module _ (N : ℕ) (s : ℕ → ℕ) (D : Darts (2 * N) N s rev half) where
       walks : 0 < k + l → 0 < chain_size N s p
       unfolding it
       walks z = elim (dec_lt 0 k) [
-        | yes m ↦ found_here (2 * p) (omega arith) first-half (R.live 1 (omega arith))
-        | no m ↦ found_here (2 * p + 1) (omega arith) (second-half ∙ first-half) (T.live 1 (omega arith))
+        | yes m ↦ found_here (2 * p) (omega arith) first_half (R.live 1 (omega arith))
+        | no m ↦ found_here (2 * p + 1) (omega arith) (second_half ∙ first_half) (T.live 1 (omega arith))
       ]
 
       size_same : chain_size N s p ≡ size_by k l
@@ -313,13 +313,13 @@ module _ (N : ℕ) (s : ℕ → ℕ) (D : Darts (2 * N) N s rev half) where
       pub open_finds : Finds N s p 0 (size_by k l) (start_by e f)
       open_finds = record {
         size_is = sym size_same;
-        start_is = λ m. sym (open_start N s D p open_here ∙ start-same);
+        start_is = λ m. sym (open_start N s D p open_here ∙ start_same);
         closed_is = λ m. sym (ap one open_here);
       }
 
   -- no chain has more crossings than there are
-  pub chain-short : (p : ℕ) → p < N → chain_size N s p ≤ N
-  chain-short p h = elim (dec_lt N (chain_size N s p)) [
+  pub chain_short : (p : ℕ) → p < N → chain_size N s p ≤ N
+  chain_short p h = elim (dec_lt N (chain_size N s p)) [
     | yes l ↦
         let H = held N s D p h (omega arith) in
         absurd (pigeonhole N (λ i. half (it s i (chain_start N s p))) (λ i m. D.cr_lt (it s i (chain_start N s p)) (H.darted.live i (omega arith)))
@@ -334,12 +334,12 @@ module _ (N : ℕ) (s : ℕ → ℕ) (D : Darts (2 * N) N s rev half) where
         let e = C.start_is (omega arith) in
         rw e ((held N s D p h (omega (arith, C.size_is))).darted.live i (omega (arith, C.size_is)))
 
-    pub finds-short : size ≤ N
-    finds-short = omega (arith, C.size_is, chain-short p h)
+    pub finds_short : size ≤ N
+    finds_short = omega (arith, C.size_is, chain_short p h)
 
-    pub finds-words : words_by N s closed size start ≡ chain_words N s p
+    pub finds_words : words_by N s closed size start ≡ chain_words N s p
     unfolding words_by chain_words
-    finds-words = elim (ℕ_discrete size 0) [
+    finds_words = elim (ℕ_discrete size 0) [
       | yes z ↦ rw (eq-eqb size 0 z, eq-eqb (chain_size N s p) 0 (sym C.size_is ∙ z))
       | no z ↦
           let l : 0 < size = omega arith in
@@ -376,23 +376,23 @@ module _ (N : ℕ) (s : ℕ → ℕ) (D : Darts (2 * N) N s rev half) where
     swept_fresh z q l o = omega (arith, W.hit q p l h o)
 
     -- one with a mark is no least crossing
-    marked-none : get_or marks p 0 ≢ 0 → chain_size N s p ≡ 0
-    marked-none n = elim (ℕ_discrete (chain_size N s p) 0) [
+    marked_none : get_or marks p 0 ≢ 0 → chain_size N s p ≡ 0
+    marked_none n = elim (ℕ_discrete (chain_size N s p) 0) [
       | yes z ↦ z
       | no z ↦ absurd (⊎_elim n
-          (λ w. omega (arith, w.1, one-chain N s D w.0 p p (omega (arith, w.1)) h w.2 (held N s D p h (omega arith)).has)) (W.only p h))
+          (λ w. omega (arith, w.1, one_chain N s D w.0 p p (omega (arith, w.1)) h w.2 (held N s D p h (omega arith)).has)) (W.only p h))
     ]
 
-    pub marked-words : get_or marks p 0 ≢ 0 → chain_words N s p ≡ []
+    pub marked_words : get_or marks p 0 ≢ 0 → chain_words N s p ≡ []
     unfolding chain_words
-    marked-words n = rw (eq-eqb (chain_size N s p) 0 (marked-none n))
+    marked_words n = rw (eq-eqb (chain_size N s p) 0 (marked_none n))
 
     pub marked_swept : get_or marks p 0 ≢ 0 → Swept N s (p + 1) marks
     marked_swept n = record {
       room = W.room;
       hit = λ q x l lx o. elim (dec_lt q p) [
         | yes m ↦ W.hit q x m lx o
-        | no m ↦ let z : q ≡ p = omega arith in absurd (omega (arith, o.at_lt, ap (chain_size N s) z, marked-none n))
+        | no m ↦ let z : q ≡ p = omega arith in absurd (omega (arith, o.at_lt, ap (chain_size N s) z, marked_none n))
       ];
       only = λ x lx. elim (W.only x lx) [
         | inl z ↦ inl z
@@ -406,19 +406,19 @@ module _ (N : ℕ) (s : ℕ → ℕ) (D : Darts (2 * N) N s rev half) where
     writing_marked n = record {
       within = omega arith;
       fits = C.fits;
-      stored = stored_more (chain_words N s) p C.stored (rw (marked-words h C.swept n) (stored_none area at));
+      stored = stored_more (chain_words N s) p C.stored (rw (marked_words h C.swept n) (stored_none area at));
       swept = marked_swept h C.swept n;
     }
 
     pub writing_room : {closed size start : ℕ} → Finds N s p closed size start → at + length (words_by N s closed size start) ≤ length area
-    writing_room F = rw (finds-words h F) (stored_fits (chain_words N s) N p C.stored h (omega (arith, C.fits)))
+    writing_room F = rw (finds_words h F) (stored_fits (chain_words N s) N p C.stored h (omega (arith, C.fits)))
 
     pub writing_more : {closed size start next : ℕ} {marks' area' : List ℕ} → Finds N s p closed size start → MarkedOn N s start size marks marks'
         → Stored area at (words_by N s closed size start) area' next → Writing N s was area' (p + 1) next marks'
     writing_more F M S = record {
       within = omega arith;
       fits = C.fits;
-      stored = stored_more (chain_words N s) p C.stored (rw (← finds-words h F) S);
+      stored = stored_more (chain_words N s) p C.stored (rw (← finds_words h F) S);
       swept = finds_swept h F C.swept M;
     }
 
@@ -443,7 +443,7 @@ module _ {N : ℕ} {next : List ℕ} (L : StepTable N next) where
 
     module _ (f : ℕ) (q : f ≡ get_or next e 0) where
       entry : step_in N next e ≡ f
-      entry = along-at N next e (running_lt N (step_in N next) R) ∙ sym q
+      entry = along_at N next e (running_lt N (step_in N next) R) ∙ sym q
 
       pub run_home : f ≡ d → Ran N (step_in N next) d k e
       run_home h = running_stop N (step_in N next) R (inl (entry ∙ h))
@@ -458,58 +458,58 @@ module _ {N : ℕ} {next : List ℕ} (L : StepTable N next) where
   ran_read R = omega (arith, ran_lt N (step_in N next) R, L.room)
 
   pub ran_entry : {d k e f : ℕ} → Ran N (step_in N next) d k e → f ≡ get_or next e 0 → step_in N next e ≡ f
-  ran_entry {d} {k} {e} R q = along-at N next e (ran_lt N (step_in N next) R) ∙ sym q
+  ran_entry {d} {k} {e} R q = along_at N next e (ran_lt N (step_in N next) R) ∙ sym q
 
   module _ {d m : ℕ} {was : List ℕ} {e i : ℕ} {marks : List ℕ} (R : DartsFrom N (step_in N next) d m) (M : Marking N (step_in N next) d m was e i marks) (l : i < m) where
-    pub mark-place : e / 2 < length marks
-    mark-place = omega (arith, marking_lt N (step_in N next) R M l, M.room, M.marked.same)
+    pub mark_place : e / 2 < length marks
+    mark_place = omega (arith, marking_lt N (step_in N next) R M l, M.room, M.marked.same)
 
-    pub mark-more : (f : ℕ) → f ≡ get_or next e 0 → Marking N (step_in N next) d m was f (i + 1) (set marks (e / 2) 1)
-    mark-more f q =
-        let z : step_in N next e ≡ f = along-at N next e (marking_lt N (step_in N next) R M l) ∙ sym q in
+    pub mark_more : (f : ℕ) → f ≡ get_or next e 0 → Marking N (step_in N next) d m was f (i + 1) (set marks (e / 2) 1)
+    mark_more f q =
+        let z : step_in N next e ≡ f = along_at N next e (marking_lt N (step_in N next) R M l) ∙ sym q in
         rw z at (marking_more N (step_in N next) R M l)
 
   module _ {d m at : ℕ} {was : List ℕ} {e i : ℕ} {area : List ℕ} (R : DartsFrom N (step_in N next) d m) (M : Listing N (step_in N next) d m at was e i area) (l : i < m) where
     pub list_read : e < length next
-    list_read = omega (arith, listing-lt N (step_in N next) M R l, L.room)
+    list_read = omega (arith, listing_lt N (step_in N next) M R l, L.room)
 
-    pub list-few : e < 131070
-    list-few = omega (arith, listing-lt N (step_in N next) M R l, L.few)
+    pub list_few : e < 131070
+    list_few = omega (arith, listing_lt N (step_in N next) M R l, L.few)
 
-    pub list-more : (f : ℕ) → f ≡ get_or next e 0 → Listing N (step_in N next) d m at was f (i + 1) (set area (at + i) (e / 2))
-    list-more f q =
-        let z : step_in N next e ≡ f = along-at N next e (listing-lt N (step_in N next) M R l) ∙ sym q in
-        rw z at (listing-more N (step_in N next) M l)
+    pub list_more : (f : ℕ) → f ≡ get_or next e 0 → Listing N (step_in N next) d m at was f (i + 1) (set area (at + i) (e / 2))
+    list_more f q =
+        let z : step_in N next e ≡ f = along_at N next e (listing_lt N (step_in N next) M R l) ∙ sym q in
+        rw z at (listing_more N (step_in N next) M l)
 
 -- THE PARTS BY CASES
 pub size_none : (k l : ℕ) → k + l ≡ 0 → 0 ≡ size_by k l
 unfolding size_by
 size_none k l h = rw (eq-eqb (k + l) 0 h)
 
-pub size-some : (k l : ℕ) → k + l ≢ 0 → k + l + 1 ≡ size_by k l
+pub size_some : (k l : ℕ) → k + l ≢ 0 → k + l + 1 ≡ size_by k l
 unfolding size_by
-size-some k l h = rw (ne_eqb (k + l) 0 h)
+size_some k l h = rw (ne_eqb (k + l) 0 h)
 
 pub start_first : (a b : ℕ) → a / 2 < b / 2 → rev a ≡ start_by a b
 unfolding start_by
 start_first a b h = rw (lt-ltb (half a) (half b) h)
 
-pub start-second : (a b : ℕ) → b / 2 ≤ a / 2 → rev b ≡ start_by a b
+pub start_second : (a b : ℕ) → b / 2 ≤ a / 2 → rev b ≡ start_by a b
 unfolding start_by
-start-second a b h = rw (le-ltb (half a) (half b) h)
+start_second a b h = rw (le-ltb (half a) (half b) h)
 
-pub words-some : (m : ℕ) → m ≢ 0 → m + 2 ≡ words_of m
+pub words_some : (m : ℕ) → m ≢ 0 → m + 2 ≡ words_of m
 unfolding words_of
-words-some m h = rw (ne_eqb m 0 h)
+words_some m h = rw (ne_eqb m 0 h)
 
 -- THE WORDS OF ONE CHAIN written
 module _ (N : ℕ) (s : ℕ → ℕ) (closed size start : ℕ) where
-  pub chain-none : (area : List ℕ) (at : ℕ) → size ≡ 0 → Stored area at (words_by N s closed size start) area at
+  pub chain_none : (area : List ℕ) (at : ℕ) → size ≡ 0 → Stored area at (words_by N s closed size start) area at
   unfolding words_by
-  chain-none area at z = rw (eq-eqb size 0 z) (stored_none area at)
+  chain_none area at z = rw (eq-eqb size 0 z) (stored_none area at)
 
-  pub chain-room : (at room : ℕ) → size ≢ 0 → at + length (words_by N s closed size start) ≤ room → at + size + 2 ≤ room
-  chain-room at room n h = omega (arith, words-length N s closed size start, words-some size n)
+  pub chain_room : (at room : ℕ) → size ≢ 0 → at + length (words_by N s closed size start) ≤ room → at + size + 2 ≤ room
+  chain_room at room n h = omega (arith, words_length N s closed size start, words_some size n)
 
   pub chain_stored : (was area : List ℕ) (at : ℕ) → size ≢ 0
       → area ≡ sets (set (set was at closed) (at + 1) size) (at + 2) (values (λ i. half (it s i start)) size)

@@ -9,22 +9,22 @@ use Rattle.counting.specs.claims.Lists.{All}
 use Rattle.answer.specs.Rows.{whole, Clear}
 use Rattle.answer.specs.claims.Faults.{AllClear, row_at}
 use Rattle.answer.specs.work.Faults.{since}
-use Rattle.answer.proofs.Rows.{clear-since}
-use Rattle.counting.proofs.Lists.{all-at}
+use Rattle.answer.proofs.Rows.{clear_since}
+use Rattle.counting.proofs.Lists.{all_at}
 use Rattle.grid.specs.claims.Accepted.{Accepted, Sound}
 use Rattle.grid.specs.claims.Claims.{AcceptanceYields, AcceptedAnswer, NumbersOfSound}
 use Rattle.grid.specs.Grid.{Grid}
 use Rattle.grid.specs.Rows.{rows}
 use Rattle.grid.specs.work.Work.{RisingCells}
-use Rattle.grid.proofs.Claims.{accepts-clear, clear-accepted}
-use Rattle.grid.proofs.Linking.{clear-links, links-clear}
-use Rattle.grid.proofs.Sound.{Faultless, edge-numbers, faultless, sound}
+use Rattle.grid.proofs.Claims.{accepts_clear, clear_accepted}
+use Rattle.grid.proofs.Linking.{clear_links, links_clear}
+use Rattle.grid.proofs.Sound.{Faultless, edge_numbers, faultless, sound}
 
 -- what the check's own functions keep of the cells
 pub ordered : (G : Grid) → Sound G → RisingCells G.cells
 ordered G S = record {
   small = small;
-  few = S.few-cells;
+  few = S.few_cells;
   nodes = S.within;
   rising = λ c i h l. S.increasing c i (i + 1) h (omega arith) (omega arith);
 }
@@ -40,7 +40,7 @@ ordered G S = record {
 
 module _ (G : Grid) (clear : AllClear (rows G)) where
   none : (n : ℕ) → Clear (row_at (since n (rows G)) 0)
-  none n = clear-since (rows G) n clear
+  none n = clear_since (rows G) n clear
 
   clear_faultless : Faultless G
   unfolding since rows
@@ -59,19 +59,19 @@ module _ (G : Grid) (clear : AllClear (rows G)) where
 
   accepted : Accepted G
   unfolding since rows
-  accepted = record { sound = sound G clear_faultless; linked = clear-links G (none 9) }
+  accepted = record { sound = sound G clear_faultless; linked = clear_links G (none 9) }
 
-all-clear : (G : Grid) → Accepted G → AllClear (rows G)
+all_clear : (G : Grid) → Accepted G → AllClear (rows G)
 unfolding rows All
-all-clear G A =
+all_clear G A =
     let F = faultless G A.sound in
-    all-at Clear (whole 0 false) (rows G) (λ p h. F.row_1, (λ p h. F.row_2, (F.row_3, (F.row_4, (F.row_5, (F.row_6, (F.row_18, (F.row_7, (F.row_8, (links-clear G A.linked, (λ p h. F.row_10, tt)))))))))))
+    all_at Clear (whole 0 false) (rows G) (λ p h. F.row_1, (λ p h. F.row_2, (F.row_3, (F.row_4, (F.row_5, (F.row_6, (F.row_18, (F.row_7, (F.row_8, (links_clear G A.linked, (λ p h. F.row_10, tt)))))))))))
 
 pub acceptance_yields : AcceptanceYields
-acceptance_yields G values e = accepted G (clear-accepted G values e)
+acceptance_yields G values e = accepted G (clear_accepted G values e)
 
-pub accepted-answer : AcceptedAnswer
-accepted-answer G A = accepts-clear G (all-clear G A)
+pub accepted_answer : AcceptedAnswer
+accepted_answer G A = accepts_clear G (all_clear G A)
 
 pub numbers_of_sound : NumbersOfSound
-numbers_of_sound G S = edge-numbers G S
+numbers_of_sound G S = edge_numbers G S

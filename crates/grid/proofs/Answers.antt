@@ -13,7 +13,7 @@ use Rattle.answer.specs.Answer.{refusal, result_of}
 use Rattle.answer.specs.Rows.{answer_of, whole}
 use Rattle.answer.specs.claims.Faults.{row_at}
 use Rattle.answer.specs.work.Faults.{since}
-use Rattle.answer.proofs.Rows.{row-passes, row-refuses, rows_end, whole-fault, whole-fine}
+use Rattle.answer.proofs.Rows.{row_passes, row_refuses, rows_end, whole_fault, whole_fine}
 use Rattle.grid.specs.Grid.{Grid, built, cell_count, crossings}
 use Rattle.slots.specs.Limits.{most_cells}
 use Rattle.grid.specs.Rows.{bad_length, bad_lists, grid_answer, rows}
@@ -21,28 +21,28 @@ use Rattle.grid.specs.work.Work.{Neighbours, WhereAccepted, Worked, answer_from,
 use Rattle.counting.specs.work.Tables.{Table}
 use Rattle.grid.specs.declared.Checked.{Checked}
 use Rattle.grid.specs.declared.Checked.TheVariants.{Crossings, Refused}
-use Rattle.grid.proofs.Starts.{built-is, lists_fine}
+use Rattle.grid.proofs.Starts.{built_is, lists_fine}
 
 -- row n, and row m which follows it
 module _ (G : Grid) (n m : ℕ) (follows : since n (rows G) ≡ row_at (since n (rows G)) 0 ∷ since m (rows G))
     (p : ℕ) (e : p ≡ first (row_at (since n (rows G)) 0).fault (row_at (since n (rows G)) 0).places) where
-  pub answer-passes : (row_at (since n (rows G)) 0).places ≤ p → answer_from m G ≡ answer_from n G
+  pub answer_passes : (row_at (since n (rows G)) 0).places ≤ p → answer_from m G ≡ answer_from n G
   unfolding answer_from
-  answer-passes l = row-passes (row_at (since n (rows G)) 0) (since m (rows G)) _ p e l ∙ ap (λ r. answer_of r (result_of (crossings G.counts ∷ []))) (sym follows)
+  answer_passes l = row_passes (row_at (since n (rows G)) 0) (since m (rows G)) _ p e l ∙ ap (λ r. answer_of r (result_of (crossings G.counts ∷ []))) (sym follows)
 
-  pub answer-refuses : p < (row_at (since n (rows G)) 0).places → refusal (row_at (since n (rows G)) 0).number p ≡ answer_from n G
+  pub answer_refuses : p < (row_at (since n (rows G)) 0).places → refusal (row_at (since n (rows G)) 0).number p ≡ answer_from n G
   unfolding answer_from
-  answer-refuses l = row-refuses (row_at (since n (rows G)) 0) (since m (rows G)) _ p e l ∙ ap (λ r. answer_of r (result_of (crossings G.counts ∷ []))) (sym follows)
+  answer_refuses l = row_refuses (row_at (since n (rows G)) 0) (since m (rows G)) _ p e l ∙ ap (λ r. answer_of r (result_of (crossings G.counts ∷ []))) (sym follows)
 
 -- the end
-pub answer-end : (G : Grid) → result_of (crossings G.counts ∷ []) ≡ answer_from 11 G
+pub answer_end : (G : Grid) → result_of (crossings G.counts ∷ []) ≡ answer_from 11 G
 unfolding answer_from since rows
-answer-end G = rows_end _
+answer_end G = rows_end _
 
 -- what row 1 leaves
-pub length-fine : (cells : List ℕ) → bad_length cells ≡ false → (length cells ≡ 4 * cell_count cells) × (0 < cell_count cells) × (cell_count cells ≤ most_cells)
+pub length_fine : (cells : List ℕ) → bad_length cells ≡ false → (length cells ≡ 4 * cell_count cells) × (0 < cell_count cells) × (cell_count cells ≤ most_cells)
 unfolding bad_length
-length-fine cells e =
+length_fine cells e =
     let (a, b) = or_none (not (eqb (length cells % 4) 0)) (eqb (length cells) 0 || ltb most_cells (cell_count cells)) e in
     let (p, q) = or_none (eqb (length cells) 0) (ltb most_cells (cell_count cells)) b in
     let f : length cells % 4 ≡ 0 = eqb-true (length cells % 4) 0 (not-false (eqb (length cells % 4) 0) a) in
@@ -51,21 +51,21 @@ length-fine cells e =
 
 -- rows 1 and 2, with row 2's verdict at hand
 module _ (wrong : Bool) (G : Grid) where
-  pub with-1 : bad_length G.cells ≡ true → refusal 1 0 ≡ answer_with wrong G
+  pub with_1 : bad_length G.cells ≡ true → refusal 1 0 ≡ answer_with wrong G
   unfolding answer_with
-  with-1 h = row-refuses (whole 1 (bad_length G.cells)) _ _ 0 (whole-fault _ h) (omega arith)
+  with_1 h = row_refuses (whole 1 (bad_length G.cells)) _ _ 0 (whole_fault _ h) (omega arith)
 
-  pub with-2 : bad_length G.cells ≡ false → wrong ≡ true → refusal 2 0 ≡ answer_with wrong G
+  pub with_2 : bad_length G.cells ≡ false → wrong ≡ true → refusal 2 0 ≡ answer_with wrong G
   unfolding answer_with
-  with-2 h e =
-      row-refuses (whole 2 wrong) (since 3 (rows G)) _ 0 (whole-fault _ e) (omega arith)
-      ∙ row-passes (whole 1 (bad_length G.cells)) _ _ 1 (whole-fine _ h) (omega arith)
+  with_2 h e =
+      row_refuses (whole 2 wrong) (since 3 (rows G)) _ 0 (whole_fault _ e) (omega arith)
+      ∙ row_passes (whole 1 (bad_length G.cells)) _ _ 1 (whole_fine _ h) (omega arith)
 
-  pub with-3 : bad_length G.cells ≡ false → wrong ≡ false → answer_from 3 G ≡ answer_with wrong G
+  pub with_3 : bad_length G.cells ≡ false → wrong ≡ false → answer_from 3 G ≡ answer_with wrong G
   unfolding answer_with answer_from
-  with-3 h e =
-      row-passes (whole 2 wrong) (since 3 (rows G)) _ 1 (whole-fine _ e) (omega arith)
-      ∙ row-passes (whole 1 (bad_length G.cells)) _ _ 1 (whole-fine _ h) (omega arith)
+  with_3 h e =
+      row_passes (whole 2 wrong) (since 3 (rows G)) _ 1 (whole_fine _ e) (omega arith)
+      ∙ row_passes (whole 1 (bad_length G.cells)) _ _ 1 (whole_fine _ h) (omega arith)
 
 -- the verdict by which the check judges
 judged : (G : Grid) → answer_with (bad_lists G.edges G.counts G.starts) G ≡ grid_answer G
@@ -79,9 +79,9 @@ verdict G wrong e = go wrong e (bad_length G.cells) refl ∙ ap (λ b. answer_wi
     -- rows 1 and 2 refuse alike; else the two grids are one
     go : (b : Bool) → b ≡ bad_lists G.edges G.counts G.starts → (l : Bool) → bad_length G.cells ≡ l
         → answer_with b (built G.cells G.edges G.counts) ≡ answer_with b G
-    go true q true h = sym (with-1 true (built G.cells G.edges G.counts) h) ∙ with-1 true G h
-    go true q false h = sym (with-2 true (built G.cells G.edges G.counts) h refl) ∙ with-2 true G h refl
-    go false q l h = let f = lists_fine G.edges G.counts G.starts (sym q) in ap (answer_with false) (sym (built-is G f.1 f.2))
+    go true q true h = sym (with_1 true (built G.cells G.edges G.counts) h) ∙ with_1 true G h
+    go true q false h = sym (with_2 true (built G.cells G.edges G.counts) h refl) ∙ with_2 true G h refl
+    go false q l h = let f = lists_fine G.edges G.counts G.starts (sym q) in ap (answer_with false) (sym (built_is G f.1 f.2))
 
 -- a fact that holds anyway
 pub where-accepted : {T : Type 0} (r : Checked) → T → WhereAccepted r T
@@ -90,5 +90,5 @@ where-accepted (Refused row place) t = tt
 
 pub worked : (G : Grid) (near sides : List ℕ) (r : Checked) → Neighbours G.cells near
     → WhereAccepted r (Table (listed_at G) (6 * cell_count G.cells) sides) → WhereAccepted r (Worked G near sides)
-worked G near sides (Crossings n) h t = record { near-is = h; sided = t }
+worked G near sides (Crossings n) h t = record { near_is = h; sided = t }
 worked G near sides (Refused row place) h t = tt

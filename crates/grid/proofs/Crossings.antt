@@ -13,45 +13,45 @@ use lib.Seq.{get_or-set_other, get_or-set_same}
 use borrow.Author.Tests.{le-ltb, lt-ltb, ltb-false}
 use Rattle.counting.specs.Lists.{pre, total}
 use Rattle.counting.specs.Pick.{pick}
-use Rattle.counting.proofs.Pack.{pre-changed, pre-kept, pre_le, pre-next}
+use Rattle.counting.proofs.Pack.{pre_changed, pre_kept, pre_le, pre_next}
 use Rattle.grid.specs.Grid.{count_of, crossings, start}
 use Rattle.slots.specs.Limits.{most_crossings}
 use Rattle.grid.specs.Rows.{too_many}
 use Rattle.grid.specs.work.Shared.{capped}
 
 module _ (counts : List ℕ) where
-  pub start-zero : start counts 0 ≡ 0
+  pub start_zero : start counts 0 ≡ 0
   unfolding start pre total
-  start-zero = refl
+  start_zero = refl
 
-  pub start-next : (e : ℕ) → start counts (e + 1) ≡ start counts e + count_of counts e
+  pub start_next : (e : ℕ) → start counts (e + 1) ≡ start counts e + count_of counts e
   unfolding start
-  start-next e = rw add-one (pre-next (count_of counts) 0 e)
+  start_next e = rw add-one (pre_next (count_of counts) 0 e)
 
   pub start_mono : (d e : ℕ) → d ≤ e → start counts d ≤ start counts e
   unfolding start
   start_mono d e h = ⊎_elim (λ (q : d ≡ e). rw q (omega arith)) (λ (l : d < e). omega (arith, pre_le (count_of counts) 0 d e l)) (eq-or-lt_of_le h)
 
-  pub capped-over : most_crossings < crossings counts → most_crossings + 1 ≡ capped counts
+  pub capped_over : most_crossings < crossings counts → most_crossings + 1 ≡ capped counts
   unfolding capped
-  capped-over h = rw (lt-ltb most_crossings (crossings counts) h)
+  capped_over h = rw (lt-ltb most_crossings (crossings counts) h)
 
   pub capped_is : crossings counts ≤ most_crossings → crossings counts ≡ capped counts
   unfolding capped
   capped_is h = rw (le-ltb most_crossings (crossings counts) h)
 
   -- what the cap tells
-  pub over-capped : most_crossings < capped counts → too_many counts ≡ true
+  pub over_capped : most_crossings < capped counts → too_many counts ≡ true
   unfolding capped too_many
-  over-capped h = go (ltb most_crossings (crossings counts)) refl h
+  over_capped h = go (ltb most_crossings (crossings counts)) refl h
     where
       go : (b : Bool) → ltb most_crossings (crossings counts) ≡ b → most_crossings < pick b (most_crossings + 1) (crossings counts) → b ≡ true
       go true e f = refl
       go false e f = absurd (omega (arith, ltb-false most_crossings (crossings counts) e))
 
-  pub fine-capped : capped counts ≤ most_crossings → (too_many counts ≡ false) × (capped counts ≡ crossings counts)
+  pub fine_capped : capped counts ≤ most_crossings → (too_many counts ≡ false) × (capped counts ≡ crossings counts)
   unfolding capped too_many
-  fine-capped h = go (ltb most_crossings (crossings counts)) refl h
+  fine_capped h = go (ltb most_crossings (crossings counts)) refl h
     where
       go : (b : Bool) → ltb most_crossings (crossings counts) ≡ b → pick b (most_crossings + 1) (crossings counts) ≤ most_crossings
           → (b ≡ false) × (pick b (most_crossings + 1) (crossings counts) ≡ crossings counts)
@@ -60,11 +60,11 @@ module _ (counts : List ℕ) where
 
 -- one count is set: the starts up to its edge stay, and those after it change as the count does
 module _ (counts : List ℕ) (e x : ℕ) where
-  pub start-kept : (d : ℕ) → d ≤ e → start (set counts e x) d ≡ start counts d
+  pub start_kept : (d : ℕ) → d ≤ e → start (set counts e x) d ≡ start counts d
   unfolding start
-  start-kept = pre-kept (count_of (set counts e x)) (count_of counts) e (λ d n. get_or-set_other counts e d x 0 n)
+  start_kept = pre_kept (count_of (set counts e x)) (count_of counts) e (λ d n. get_or-set_other counts e d x 0 n)
 
-  pub start-set : e < length counts → (d : ℕ) → e < d → start (set counts e x) d + count_of counts e ≡ start counts d + x
+  pub start_set : e < length counts → (d : ℕ) → e < d → start (set counts e x) d + count_of counts e ≡ start counts d + x
   unfolding start
-  start-set h d l =
-      omega (arith, pre-changed (count_of (set counts e x)) (count_of counts) e (λ d n. get_or-set_other counts e d x 0 n) d l, get_or-set_same counts e x 0 h)
+  start_set h d l =
+      omega (arith, pre_changed (count_of (set counts e x)) (count_of counts) e (λ d n. get_or-set_other counts e d x 0 n) d l, get_or-set_same counts e x 0 h)

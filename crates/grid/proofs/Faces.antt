@@ -15,17 +15,17 @@ use Rattle.grid.specs.Rows.{crowded}
 use Rattle.grid.specs.work.Work.{Across, Mates, Neighbours, RisingCells, Pairing, third_at}
 use Rattle.counting.specs.work.Tables.{same_key}
 use Rattle.grid.specs.work.Walks.{SameFrom, Slots}
-use Rattle.grid.proofs.Packed.{face-eqb, one-slot}
+use Rattle.grid.proofs.Packed.{face_eqb, one_slot}
 
 module _ (cells : List ℕ) (good : RisingCells cells) (keys : List ℕ) (w : Slots (cell_count cells) (SameFrom 0 cells) keys) where
   -- equal keys are one face
   pub keys_face : (d t c s : ℕ) → d < cell_count cells → t < 4 → c < cell_count cells → s < 4
       → same_face cells d t c s ≡ eqb (get_or keys (4 * d + t) 0) (get_or keys (4 * c + s) 0)
-  keys_face = face-eqb cells keys (cell_count cells) w
+  keys_face = face_eqb cells keys (cell_count cells) w
 
   -- two slots of a cell have different keys
   apart : (c t s : ℕ) → c < cell_count cells → t < 4 → s < 4 → get_or keys (4 * c + t) 0 ≡ get_or keys (4 * c + s) 0 → t ≡ s
-  apart c t s h lt ls e = one-slot cells good c t s h lt ls (keys_face c t c s h lt h ls ∙ eq-eqb _ _ e)
+  apart c t s h lt ls e = one_slot cells good c t s h lt ls (keys_face c t c s h lt h ls ∙ eq-eqb _ _ e)
 
   module _ (c : ℕ) (h : c < cell_count cells) where
     abbrev T : ℕ → ℕ → Bool
@@ -51,23 +51,23 @@ module _ (cells : List ℕ) (good : RisingCells cells) (keys : List ℕ) (w : Sl
     third_keys = some_ext (λ s. ltb 1 (count (has_face cells c s) c)) (λ s. third_at keys (4 * c + s)) 4 slot
 
   -- what `row_5` answers
-  pub third-first : first (third_at keys) (4 * cell_count cells) / 4 ≡ first (crowded cells) (cell_count cells)
-  third-first =
+  pub third_first : first (third_at keys) (4 * cell_count cells) / 4 ≡ first (crowded cells) (cell_count cells)
+  third_first =
       first_blocks (third_at keys) 4 (cell_count cells) (omega arith)
       ∙ sym (first_ext (crowded cells) (λ c. some (λ s. third_at keys (4 * c + s)) 4) (cell_count cells) third_keys)
 
-  pub mates-near : (near : List ℕ) → 4 * cell_count cells ≤ length near → Mates keys (4 * cell_count cells) near → Neighbours cells near
-  mates-near near room M = record { room = room; pair = across; all = both }
+  pub mates_near : (near : List ℕ) → 4 * cell_count cells ≤ length near → Mates keys (4 * cell_count cells) near → Neighbours cells near
+  mates_near near room M = record { room = room; pair = across; all = both }
     where
-      split-slot : (j : ℕ) → 4 * (j / 4) + j % 4 ≡ j
-      split-slot j = omega arith
+      split_slot : (j : ℕ) → 4 * (j / 4) + j % 4 ≡ j
+      split_slot j = omega arith
 
       across : (j : ℕ) → j < 4 * cell_count cells → 0 < get_or near j 0 → Across cells near j
       across j l p =
           let g = M.pair j l p in
           let x = get_or near j 0 - 1 in
           let xl : x < 4 * cell_count cells = omega (arith, g.lt, p) in
-          let k : get_or keys (4 * (x / 4) + x % 4) 0 ≡ get_or keys (4 * (j / 4) + j % 4) 0 = rw (split-slot x, split-slot j) g.same in
+          let k : get_or keys (4 * (x / 4) + x % 4) 0 ≡ get_or keys (4 * (j / 4) + j % 4) 0 = rw (split_slot x, split_slot j) g.same in
           record {
             lt = g.lt;
             other = λ q. (
@@ -84,7 +84,7 @@ module _ (cells : List ℕ) (good : RisingCells cells) (keys : List ℕ) (w : Sl
           M.all (4 * c + s) (4 * d + t) (omega arith) (omega arith) (λ q. ne (omega arith)) (eqb-true _ _ (sym (keys_face d t c s hd ht hc hs) ∙ e))
 
   -- what `row_5` leaves
-  pub paired-near : (near : List ℕ) (r : ℕ) → 4 * cell_count cells ≤ length near → Pairing keys (4 * cell_count cells) r near → cell_count cells ≤ r / 4 → Neighbours cells near
-  paired-near near r room p h =
+  pub paired_near : (near : List ℕ) (r : ℕ) → 4 * cell_count cells ≤ length near → Pairing keys (4 * cell_count cells) r near → cell_count cells ≤ r / 4 → Neighbours cells near
+  paired_near near r room p h =
       let e : r ≡ 4 * cell_count cells = omega (arith, p.is, first_le (third_at keys) (4 * cell_count cells)) in
-      mates-near near room (rw e at p.mates)
+      mates_near near room (rw e at p.mates)

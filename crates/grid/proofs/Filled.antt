@@ -12,10 +12,10 @@ use borrow.Author.Tests.{eq-eqb, le-ltb, lt-ltb, ne_eqb}
 use Rattle.counting.specs.Search.{first}
 use Rattle.counting.specs.Stored.{filled}
 use Rattle.counting.proofs.Bools.{not_clash}
-use Rattle.counting.proofs.Search.{first-at}
+use Rattle.counting.proofs.Search.{first_at}
 use Rattle.counting.proofs.Stored.{filled_ext}
 use Rattle.answer.specs.Answer.{result_of}
-use Rattle.answer.proofs.Answer.{refused-not}
+use Rattle.answer.proofs.Answer.{refused_not}
 use Rattle.grid.specs.claims.Accepted.{EdgeNumbers, Sound}
 use Rattle.grid.specs.Check.{check_numbers}
 use Rattle.grid.specs.Grid.{Grid, built, cell_count, edge_number, face_name, is_edge, same_face}
@@ -27,20 +27,20 @@ use Rattle.grid.specs.work.Work.{Copying, Lowering, Neighbours, RisingCells, Whe
 use Rattle.grid.specs.declared.Checked.{Checked}
 use Rattle.grid.specs.declared.Checked.TheVariants.{Crossings, Refused}
 use Rattle.grid.proofs.Accepts.{acceptance_yields, ordered}
-use Rattle.grid.proofs.Sound.{edge-numbers}
-use Rattle.grid.proofs.Claims.{never-empty}
-use Rattle.grid.proofs.Packed.{one-slot, true_same}
-use Rattle.grid.proofs.Starts.{built-is}
+use Rattle.grid.proofs.Sound.{edge_numbers}
+use Rattle.grid.proofs.Claims.{never_empty}
+use Rattle.grid.proofs.Packed.{one_slot, true_same}
+use Rattle.grid.proofs.Starts.{built_is}
 
 -- the lower of two places
-pub lower-none : (j x : ℕ) → x ≡ 0 → j ≡ lower_place j x
-lower-none j x e = rw (eq-eqb x 0 e)
+pub lower_none : (j x : ℕ) → x ≡ 0 → j ≡ lower_place j x
+lower_none j x e = rw (eq-eqb x 0 e)
 
-pub lower-other : (j x : ℕ) → (x ≡ 0 → ⊥) → x - 1 < j → x - 1 ≡ lower_place j x
-lower-other j x n l = rw (ne_eqb x 0 n, lt-ltb (x - 1) j l)
+pub lower_other : (j x : ℕ) → (x ≡ 0 → ⊥) → x - 1 < j → x - 1 ≡ lower_place j x
+lower_other j x n l = rw (ne_eqb x 0 n, lt-ltb (x - 1) j l)
 
-pub lower-own : (j x : ℕ) → (x ≡ 0 → ⊥) → j ≤ x - 1 → j ≡ lower_place j x
-lower-own j x n l = rw (ne_eqb x 0 n, le-ltb (x - 1) j l)
+pub lower_own : (j x : ℕ) → (x ≡ 0 → ⊥) → j ≤ x - 1 → j ≡ lower_place j x
+lower_own j x n l = rw (ne_eqb x 0 n, le-ltb (x - 1) j l)
 
 module _ (cells near : List ℕ) (good : RisingCells cells) (N : Neighbours cells near) (j : ℕ) (h : j < 4 * cell_count cells) where
   whole : 4 * (j / 4) + j % 4 ≡ j
@@ -49,7 +49,7 @@ module _ (cells near : List ℕ) (good : RisingCells cells) (N : Neighbours cell
   -- whatever is the same face is the slot itself or the one across
   only : (m : ℕ) → m < 4 * cell_count cells → same_face cells (m / 4) (m % 4) (j / 4) (j % 4) ≡ true → (m ≡ j) ⊎ ((m / 4 ≢ j / 4) × (get_or near j 0 ≡ m + 1))
   only m l e = elim (ℕ_discrete (m / 4) (j / 4)) [
-    | yes f ↦ let g = one-slot cells good (j / 4) (m % 4) (j % 4) (omega arith) (omega arith) (omega arith) (rw f at e) in inl (omega arith)
+    | yes f ↦ let g = one_slot cells good (j / 4) (m % 4) (j % 4) (omega arith) (omega arith) (omega arith) (rw f at e) in inl (omega arith)
     | no f ↦
         let k : 4 * (m / 4) + m % 4 ≡ m = omega arith in
         inr (f, rw (whole, k) at (N.all (m / 4) (m % 4) (j / 4) (j % 4) (omega arith) (omega arith) (omega arith) (omega arith) f e))
@@ -66,15 +66,15 @@ module _ (cells near : List ℕ) (good : RisingCells cells) (N : Neighbours cell
   unfolding face_name passes
   name_is_lower =
       ⊎_elim
-      (λ (z : get_or near j 0 ≡ 0). sym (lower-none j (get_or near j 0) z) ∙ sym (first-at passes (4 * cell_count cells) j h itself
+      (λ (z : get_or near j 0 ≡ 0). sym (lower_none j (get_or near j 0) z) ∙ sym (first_at passes (4 * cell_count cells) j h itself
       (λ m l. not_clash (passes m) (λ e. below m l (inl z) e))))
       (λ (p : 0 < get_or near j 0).
       let g = N.pair j h p in
       let x = get_or near j 0 - 1 in
       elim (dec_lt x j) [
-        | yes l ↦ sym (lower-other j (get_or near j 0) (λ q. omega arith) l) ∙ sym (first-at passes (4 * cell_count cells) x (omega (arith, g.lt)) g.same
+        | yes l ↦ sym (lower_other j (get_or near j 0) (λ q. omega arith) l) ∙ sym (first_at passes (4 * cell_count cells) x (omega (arith, g.lt)) g.same
             (λ m k. not_clash (passes m) (λ e. below m (omega arith) (inr (omega arith)) e)))
-        | no l ↦ sym (lower-own j (get_or near j 0) (λ q. omega arith) (omega arith)) ∙ sym (first-at passes (4 * cell_count cells) j h itself
+        | no l ↦ sym (lower_own j (get_or near j 0) (λ q. omega arith) (omega arith)) ∙ sym (first_at passes (4 * cell_count cells) j h itself
             (λ m k. not_clash (passes m) (λ e. below m k (inr (omega arith)) e)))
       ])
       (eq-zero-or-pos (get_or near j 0))
@@ -87,16 +87,16 @@ module _ (cells near : List ℕ) (good : RisingCells cells) (N : Neighbours cell
           (only m (omega arith) e)
 
 -- the place of a listed edge
-pub listed-side : (G : Grid) → EdgeNumbers G → (j : ℕ) → j < 6 * cell_count G.cells
+pub listed_side : (G : Grid) → EdgeNumbers G → (j : ℕ) → j < 6 * cell_count G.cells
     → listed_at G j ≡ suc (side_at G j)
 unfolding listed_at edge_number
-listed-side G E j h =
+listed_side G E j h =
     rw (lt-ltb (first (is_edge G (j / 6) (j % 6)) (length G.counts)) (length G.counts) (E.listed (j / 6) (j % 6) (omega arith) (omega arith)))
 
 module _ (G : Grid) where
   -- a refusal's number is not 0
-  pub refused-keeps : (row place : ℕ) → check_numbers (Refused row place) ≡ grid_answer G → accepts G ≡ false
-  refused-keeps row place e = refused-not (grid_answer G) (never-empty G) row place e
+  pub refused_keeps : (row place : ℕ) → check_numbers (Refused row place) ≡ grid_answer G → accepts G ≡ false
+  refused_keeps row place e = refused_not (grid_answer G) (never_empty G) row place e
 
   pub crossings_accept : (n : ℕ) → check_numbers (Crossings n) ≡ grid_answer G → accepts G ≡ true
   crossings_accept n e = rw (← e)
@@ -109,38 +109,38 @@ module _ (G : Grid) where
     is-result : grid_answer G ≡ result_of (n ∷ [])
     is-result = sym h ∙ ap check_numbers e
 
-    pub told-sound : Sound G
-    told-sound = (acceptance_yields G (n ∷ []) is-result).sound
+    pub told_sound : Sound G
+    told_sound = (acceptance_yields G (n ∷ []) is-result).sound
 
-    pub told-accepts : accepts G ≡ true
-    told-accepts = crossings_accept n (sym is-result)
+    pub told_accepts : accepts G ≡ true
+    told_accepts = crossings_accept n (sym is-result)
 
     -- its starts are those of its counts
-    pub told-built : G ≡ built G.cells G.edges G.counts
-    told-built = built-is G told-sound.starts-long told-sound.starts_are
+    pub told_built : G ≡ built G.cells G.edges G.counts
+    told_built = built_is G told_sound.starts_long told_sound.starts_are
 
-    pub sound-built : Sound (built G.cells G.edges G.counts)
-    sound-built = subst Sound told-built told-sound
+    pub sound_built : Sound (built G.cells G.edges G.counts)
+    sound_built = subst Sound told_built told_sound
 
     -- what the check then leaves is what the writers take
     module _ (across listed : List ℕ) (w : WhereAccepted r (Worked (built G.cells G.edges G.counts) across listed)) where
       E : EdgeNumbers G
-      E = edge-numbers G told-sound
+      E = edge_numbers G told_sound
 
       W : Worked G across listed
-      W = subst (λ H. Worked H across listed) (sym told-built) (subst (λ r. WhereAccepted r (Worked (built G.cells G.edges G.counts) across listed)) e w)
+      W = subst (λ H. Worked H across listed) (sym told_built) (subst (λ r. WhereAccepted r (Worked (built G.cells G.edges G.counts) across listed)) e w)
 
       pub copying : (table : List ℕ) → most_slots ≤ length table → Copying (4 * cell_count G.cells) across table
-      copying table room = record { few = omega (arith, told-sound.few-cells); across-room = W.near-is.room; room = omega (arith, told-sound.few-cells) }
+      copying table room = record { few = omega (arith, told_sound.few_cells); across_room = W.near_is.room; room = omega (arith, told_sound.few_cells) }
 
       pub lowering : (table : List ℕ) → most_edges ≤ length table → Lowering (6 * cell_count G.cells) listed table
       lowering table room =
           record {
-            few = omega (arith, told-sound.few-cells);
-            listed-room = W.sided.room;
-            room = omega (arith, told-sound.few-cells);
+            few = omega (arith, told_sound.few_cells);
+            listed_room = W.sided.room;
+            room = omega (arith, told_sound.few_cells);
             entries = λ j h. (
-                let e = W.sided.at j h ∙ listed-side G E j h in
+                let e = W.sided.at j h ∙ listed_side G E j h in
                 omega (arith, e));
           }
 
@@ -150,8 +150,8 @@ module _ (G : Grid) where
           → Laid G names₀ sides₀ names sides
       laid_filled names₀ sides₀ names sides p r =
           record {
-            names_are = rw told-accepts (p ∙ filled_ext (λ j. lower_place j (get_or across j 0)) (name_at G.cells) (4 * cell_count G.cells) names₀
-                (λ j h. name_is_lower G.cells across (ordered G told-sound) W.near-is j h));
-            sides_are = rw told-accepts (r ∙ filled_ext (λ j. get_or listed j 0 - 1) (side_at G) (6 * cell_count G.cells) sides₀
-                (λ j h. omega (arith, W.sided.at j h ∙ listed-side G E j h)));
+            names_are = rw told_accepts (p ∙ filled_ext (λ j. lower_place j (get_or across j 0)) (name_at G.cells) (4 * cell_count G.cells) names₀
+                (λ j h. name_is_lower G.cells across (ordered G told_sound) W.near_is j h));
+            sides_are = rw told_accepts (r ∙ filled_ext (λ j. get_or listed j 0 - 1) (side_at G) (6 * cell_count G.cells) sides₀
+                (λ j h. omega (arith, W.sided.at j h ∙ listed_side G E j h)));
           }

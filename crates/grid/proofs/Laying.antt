@@ -13,21 +13,21 @@ use borrow.Author.Tests.{eq-eqb, eqb-true, lt-ltb, ne_eqb}
 use Rattle.counting.specs.Search.{count, every, last}
 use Rattle.counting.specs.work.Tables.{same_key}
 use Rattle.counting.proofs.Bools.{and_false_right, and_left, and_right, imply}
-use Rattle.counting.proofs.Search.{count_none, count_le, every-is, last-hit, last-is, last_le, last_miss, last_none}
+use Rattle.counting.proofs.Search.{count_none, count_le, every_is, last_hit, last_is, last_le, last_miss, last_none}
 use Rattle.slots.specs.Slots.{hi, lo}
-use Rattle.slots.proofs.Slots.{two-slots}
+use Rattle.slots.proofs.Slots.{two_slots}
 use Rattle.grid.specs.Grid.{cell_count, high, joins, low, node}
 use Rattle.slots.specs.Limits.{highest_node}
 use Rattle.grid.specs.work.Runs.{Blanked, Clearable, EndIn, Fillable, FromNode, InCell, InChain, Layable, Lays, NodeChains, OneLow, RunFilled, SidesPlaceable, SidesPlaced, SidesPuttable, SidesWalkable, SidesWalked, Tabled, Tallied, Talliable, Turnable, place_below}
 use Rattle.grid.specs.work.Walks.{Linked, labelled}
-use Rattle.grid.proofs.Places.{entry-above, entry-is, entry_le}
+use Rattle.grid.proofs.Places.{entry_above, entry_is, entry_le}
 
 pub set_beyond : (l : List ℕ) (i x : ℕ) → length l ≤ i → set l i x ≡ l
 set_beyond l i x h = ext_get_or 0 (set l i x) l (length-set l i x) (λ j k. get_or-set_other l i j x 0 (λ q. omega (arith, length-set l i x)))
 
 -- only entries within the list are not 0
-pub entry-within : (l : List ℕ) (i : ℕ) → 0 < get_or l i 0 → i < length l
-entry-within l i h = elim (dec_lt i (length l)) [ yes k ↦ k | no k ↦ absurd (omega (arith, get_or-eq_default l 0 {n = i} (omega arith))) ]
+pub entry_within : (l : List ℕ) (i : ℕ) → 0 < get_or l i 0 → i < length l
+entry_within l i h = elim (dec_lt i (length l)) [ yes k ↦ k | no k ↦ absurd (omega (arith, get_or-eq_default l 0 {n = i} (omega arith))) ]
 
 -- the last that passes is not among those that do not
 pub last_skip : (t : ℕ → Bool) (a f : ℕ) → a ≤ f → ((d : ℕ) → a ≤ d → d < f → t d ≡ false) → last t f ≡ last t a
@@ -39,45 +39,45 @@ last_skip t a (suc f) h z = elim (dec_lt a (suc f)) [
 ]
 
 -- the positions of an edge's ends
-pub lo-first : (k : ℕ) → k < 3 → lo k ≡ 0
+pub lo_first : (k : ℕ) → k < 3 → lo k ≡ 0
 unfolding every lo
-lo-first k h = eqb-true (lo k) 0 (every-is (λ k. eqb (lo k) 0) 3 refl k h)
+lo_first k h = eqb-true (lo k) 0 (every_is (λ k. eqb (lo k) 0) 3 refl k h)
 
-pub lo-second : (k : ℕ) → 3 ≤ k → k < 5 → lo k ≡ 1
+pub lo_second : (k : ℕ) → 3 ≤ k → k < 5 → lo k ≡ 1
 unfolding every lo
-lo-second k h l = eqb-true (lo k) 1 (imply (ltb 2 k) (eqb (lo k) 1) (lt-ltb 2 k (omega arith)) (every-is (λ k. not (ltb 2 k) || eqb (lo k) 1) 5 refl k l))
+lo_second k h l = eqb-true (lo k) 1 (imply (ltb 2 k) (eqb (lo k) 1) (lt-ltb 2 k (omega arith)) (every_is (λ k. not (ltb 2 k) || eqb (lo k) 1) 5 refl k l))
 
-pub lo-third : (k : ℕ) → 5 ≤ k → k < 6 → lo k ≡ 2
+pub lo_third : (k : ℕ) → 5 ≤ k → k < 6 → lo k ≡ 2
 unfolding lo
-lo-third k h l = let e : k ≡ 5 = omega arith in rw e
+lo_third k h l = let e : k ≡ 5 = omega arith in rw e
 
-pub hi-lt : (k : ℕ) → k < 6 → hi k < 4
-hi-lt k h = (two-slots k h).within
+pub hi_lt : (k : ℕ) → k < 6 → hi k < 4
+hi_lt k h = (two_slots k h).within
 
-pub lo-lt : (k : ℕ) → k < 6 → lo k < 4
-lo-lt k h = elim (dec_lt k 3) [ yes l ↦ omega (arith, lo-first k l) | no l ↦ elim (dec_lt k 5) [ yes m ↦ omega (arith, lo-second k (omega arith) m) | no m ↦ omega (arith, lo-third k (omega arith) h) ] ]
+pub lo_lt : (k : ℕ) → k < 6 → lo k < 4
+lo_lt k h = elim (dec_lt k 3) [ yes l ↦ omega (arith, lo_first k l) | no l ↦ elim (dec_lt k 5) [ yes m ↦ omega (arith, lo_second k (omega arith) m) | no m ↦ omega (arith, lo_third k (omega arith) h) ] ]
 
 -- an edge by its ends
 module _ (edges : List ℕ) (u v e : ℕ) where
-  pub joins-is : low edges e ≡ u → high edges e ≡ v → joins edges u v e ≡ true
+  pub joins_is : low edges e ≡ u → high edges e ≡ v → joins edges u v e ≡ true
   unfolding joins
-  joins-is p q = rw (eq-eqb (low edges e) u p, eq-eqb (high edges e) v q)
+  joins_is p q = rw (eq-eqb (low edges e) u p, eq-eqb (high edges e) v q)
 
-  pub joins-low : low edges e ≢ u → joins edges u v e ≡ false
+  pub joins_low : low edges e ≢ u → joins edges u v e ≡ false
   unfolding joins
-  joins-low p = rw (ne_eqb (low edges e) u p)
+  joins_low p = rw (ne_eqb (low edges e) u p)
 
-  pub joins-high : high edges e ≢ v → joins edges u v e ≡ false
+  pub joins_high : high edges e ≢ v → joins edges u v e ≡ false
   unfolding joins
-  joins-high p = and_false_right (eqb (low edges e) u) (eqb (high edges e) v) (ne_eqb (high edges e) v p)
+  joins_high p = and_false_right (eqb (low edges e) u) (eqb (high edges e) v) (ne_eqb (high edges e) v p)
 
-  pub joined-low : joins edges u v e ≡ true → low edges e ≡ u
+  pub joined_low : joins edges u v e ≡ true → low edges e ≡ u
   unfolding joins
-  joined-low h = eqb-true (low edges e) u (and_left (eqb (low edges e) u) (eqb (high edges e) v) h)
+  joined_low h = eqb-true (low edges e) u (and_left (eqb (low edges e) u) (eqb (high edges e) v) h)
 
-  pub joined-high : joins edges u v e ≡ true → high edges e ≡ v
+  pub joined_high : joins edges u v e ≡ true → high edges e ≡ v
   unfolding joins
-  joined-high h = eqb-true (high edges e) v (and_right (eqb (low edges e) u) (eqb (high edges e) v) h)
+  joined_high h = eqb-true (high edges e) v (and_right (eqb (low edges e) u) (eqb (high edges e) v) h)
 
 -- the loop of `fill_run` has put the edges from a up to e
 pub record Filling (edges : List ℕ) (m cap a : ℕ) (tab₀ : List ℕ) (e : ℕ) (tab : List ℕ) : Type 0 where
@@ -104,11 +104,11 @@ module _ {edges : List ℕ} {m cap a : ℕ} {tab₀ : List ℕ} {e : ℕ} {tab :
       at : (v : ℕ) → v < length tab → get_or (set tab (high edges e) (x + 1)) v 0 ≡ place_below edges cap (low edges a) v (e + 1)
       at v h = elim (ℕ_discrete v (high edges e)) [
         | yes q ↦
-            let l = last-hit (joins edges (low edges a) v) e (joins-is edges (low edges a) v e eu (sym q)) in
+            let l = last_hit (joins edges (low edges a) v) e (joins_is edges (low edges a) v e eu (sym q)) in
             let g : get_or (set tab (high edges e) (x + 1)) v 0 ≡ x + 1 = rw (← q) (get_or-set_same tab v (x + 1) 0 h) in
             g ∙ rw l (omega arith)
         | no q ↦
-            let l = last_miss (joins edges (low edges a) v) e (joins-high edges (low edges a) v e (λ z. q (sym z))) in
+            let l = last_miss (joins edges (low edges a) v) e (joins_high edges (low edges a) v e (λ z. q (sym z))) in
             get_or-set_other tab (high edges e) v (x + 1) 0 q ∙ w.tabled.at v h ∙ rw l
       ]
 
@@ -138,7 +138,7 @@ module _ {edges : List ℕ} {f e : ℕ} {tab : List ℕ} (w : Clearing edges f e
       only : (v : ℕ) → 0 < get_or (set tab (high edges e) 0) v 0 → EndIn edges (e + 1) f v
       only v p = elim (ℕ_discrete v (high edges e)) [
         | yes q ↦
-            let l = entry-within (set tab (high edges e) 0) v p in
+            let l = entry_within (set tab (high edges e) 0) v p in
             let z : get_or (set tab (high edges e) 0) v 0 ≡ 0 = rw (← q) (get_or-set_same tab v 0 0 (omega (arith, length-set tab (high edges e) 0))) in
             absurd (omega arith)
         | no q ↦
@@ -196,14 +196,14 @@ pub record WalkingSides (cells head next : List ℕ) (r a b : ℕ) (tab sides₀
   pub same : length sides ≡ length sides₀
 
 module _ {cells head next : List ℕ} {r a b : ℕ} {tab sides₀ : List ℕ} where
-  pub along-start : (x : ℕ) → x ≡ get_or head r 0 → WalkingSides cells head next r a b tab sides₀ sides₀ x
-  along-start x e = record {
+  pub along_start : (x : ℕ) → x ≡ get_or head r 0 → WalkingSides cells head next r a b tab sides₀ sides₀ x
+  along_start x e = record {
     over = λ f T n L h.
         let q : x ≡ last (labelled f r) n = e ∙ L.heads.at r h in
         record {
           within = entry_le f r n x q;
-          hit = entry-is f r n x q;
-          lays = lays_none _ cells tab sides₀ (λ c k p. entry-above f r n x q c p.from p.to p.label);
+          hit = entry_is f r n x q;
+          lays = lays_none _ cells tab sides₀ (λ c k p. entry_above f r n x q c p.from p.to p.label);
         };
     same = refl;
   }
@@ -220,22 +220,22 @@ module _ {cells head next : List ℕ} {r a b : ℕ} {tab sides₀ : List ℕ} wh
           edges = A.edges;
         }
 
-    pub along-more : {sides' : List ℕ} → Lays (InCell (j - 1) a b) cells tab sides sides' → (x : ℕ) → x ≡ get_or next (j - 1) 0
+    pub along_more : {sides' : List ℕ} → Lays (InCell (j - 1) a b) cells tab sides sides' → (x : ℕ) → x ≡ get_or next (j - 1) 0
         → WalkingSides cells head next r a b tab sides₀ sides' x
-    along-more E x e = record {
+    along_more E x e = record {
       over = λ f T n L h.
           let s = w.over f T n L h in
           let q : x ≡ last (labelled f r) (j - 1) = rw (← s.hit pos) (e ∙ L.nexts.at (j - 1) (omega (arith, s.within))) in
           let xl = entry_le f r (j - 1) x q in
           record {
             within = omega (arith, s.within);
-            hit = entry-is f r (j - 1) x q;
+            hit = entry_is f r (j - 1) x q;
             lays = lays_then s.lays E (InChain f r x n a b)
                 (λ c k p. record { label = p.label; from = omega (arith, p.from); to = p.to; low = p.low; high = p.high })
                 (λ c k l p. record { label = ap f p.cell ∙ s.hit pos; from = omega (arith, p.cell); to = omega (arith, p.cell, s.within); low = p.low; high = p.high })
                 (λ c k l p. elim (dec_lt c j) [
                   | yes y ↦ elim (dec_lt c (j - 1)) [
-                    | yes m ↦ absurd (entry-above f r (j - 1) x q c p.from m p.label)
+                    | yes m ↦ absurd (entry_above f r (j - 1) x q c p.from m p.label)
                     | no m ↦ inr (record { cell = omega arith; low = p.low; high = p.high })
                   ]
                   | no y ↦ inl (record { label = p.label; from = omega arith; to = p.to; low = p.low; high = p.high })
@@ -245,16 +245,16 @@ module _ {cells head next : List ℕ} {r a b : ℕ} {tab sides₀ : List ℕ} wh
       same = E.same ∙ w.same;
     }
 
-    pub along-lt : SidesWalkable cells head next r a b tab sides₀ → j - 1 < length next
-    along-lt A = (let s = w.over A.f A.T A.n A.linked A.within in omega (arith, s.within, A.linked.nexts.room))
+    pub along_lt : SidesWalkable cells head next r a b tab sides₀ → j - 1 < length next
+    along_lt A = (let s = w.over A.f A.T A.n A.linked A.within in omega (arith, s.within, A.linked.nexts.room))
 
-    pub along-less : SidesWalkable cells head next r a b tab sides₀ → get_or next (j - 1) 0 < j
-    along-less A =
+    pub along_less : SidesWalkable cells head next r a b tab sides₀ → get_or next (j - 1) 0 < j
+    along_less A =
         let s = w.over A.f A.T A.n A.linked A.within in
         omega (arith, entry_le A.f (A.f (j - 1)) (j - 1) (get_or next (j - 1) 0) (A.linked.nexts.at (j - 1) (omega (arith, s.within))))
 
-  pub along-end : {sides : List ℕ} {j : ℕ} → WalkingSides cells head next r a b tab sides₀ sides j → j ≤ 0 → SidesWalked cells head next r a b tab sides₀ sides
-  along-end {sides} {j} w z = record { over = λ f T n L h. (let q : j ≡ 0 = omega arith in rw q at (w.over f T n L h).lays); same = w.same }
+  pub along_end : {sides : List ℕ} {j : ℕ} → WalkingSides cells head next r a b tab sides₀ sides j → j ≤ 0 → SidesWalked cells head next r a b tab sides₀ sides
+  along_end {sides} {j} w z = record { over = λ f T n L h. (let q : j ≡ 0 = omega arith in rw q at (w.over f T n L h).lays); same = w.same }
 
 -- the turn of a node
 module _ {cells ranks h0 x0 h1 x1 h2 x2 : List ℕ} {u : ℕ} {tab sides₀ : List ℕ} (A : Turnable cells ranks h0 x0 h1 x1 h2 x2 u tab sides₀) (r : ℕ) (er : r ≡ get_or ranks u 0) where
@@ -293,14 +293,14 @@ module _ {cells ranks h0 x0 h1 x1 h2 x2 : List ℕ} {u : ℕ} {tab sides₀ : Li
   pub turn_lays : {sides₁ sides₂ sides₃ : List ℕ} → SidesWalked cells h0 x0 r 0 3 tab sides₀ sides₁ → SidesWalked cells h1 x1 r 3 5 tab sides₁ sides₂
       → SidesWalked cells h2 x2 r 5 6 tab sides₂ sides₃ → Lays (FromNode cells u) cells tab sides₀ sides₃
   turn_lays {sides₁} {sides₂} {sides₃} W0 W1 W2 = lays_then two (W2.over _ _ _ A.chained.by2 rank_lt) (FromNode cells u)
-      (λ c k x. ⊎_elim (λ (p : In 0 0 3 c k). record { to = p.to; is = rw (lo-first k p.high) (there 0 c (omega arith) p.to p.label) })
-      (λ (p : In 1 3 5 c k). record { to = p.to; is = rw (lo-second k p.low p.high) (there 1 c (omega arith) p.to p.label) }) x)
-      (λ c k l p. record { to = p.to; is = rw (lo-third k p.low l) (there 2 c (omega arith) p.to p.label) })
+      (λ c k x. ⊎_elim (λ (p : In 0 0 3 c k). record { to = p.to; is = rw (lo_first k p.high) (there 0 c (omega arith) p.to p.label) })
+      (λ (p : In 1 3 5 c k). record { to = p.to; is = rw (lo_second k p.low p.high) (there 1 c (omega arith) p.to p.label) }) x)
+      (λ c k l p. record { to = p.to; is = rw (lo_third k p.low l) (there 2 c (omega arith) p.to p.label) })
       (λ c k l p. elim (dec_lt k 3) [
-        | yes x ↦ inl (inl (record { label = here 0 c (omega arith) p.to (rw (lo-first k x) at p.is); from = omega arith; to = p.to; low = omega arith; high = x }))
+        | yes x ↦ inl (inl (record { label = here 0 c (omega arith) p.to (rw (lo_first k x) at p.is); from = omega arith; to = p.to; low = omega arith; high = x }))
         | no x ↦ elim (dec_lt k 5) [
-          | yes y ↦ inl (inr (record { label = here 1 c (omega arith) p.to (rw (lo-second k (omega arith) y) at p.is); from = omega arith; to = p.to; low = omega arith; high = y }))
-          | no y ↦ inr (record { label = here 2 c (omega arith) p.to (rw (lo-third k (omega arith) l) at p.is); from = omega arith; to = p.to; low = omega arith; high = l })
+          | yes y ↦ inl (inr (record { label = here 1 c (omega arith) p.to (rw (lo_second k (omega arith) y) at p.is); from = omega arith; to = p.to; low = omega arith; high = y }))
+          | no y ↦ inr (record { label = here 2 c (omega arith) p.to (rw (lo_third k (omega arith) l) at p.is); from = omega arith; to = p.to; low = omega arith; high = l })
         ]
       ])
       (λ c k x q. ⊎_elim (λ (p : In 0 0 3 c k). omega (arith, p.high, q.low)) (λ (p : In 1 3 5 c k). omega (arith, p.high, q.low)) x)
@@ -337,7 +337,7 @@ module _ {cells edges : List ℕ} {m : ℕ} {ranks h0 x0 h1 x1 h2 x2 tab₀ side
       small = omega (arith, A.few);
       tabled = record {
         at = λ v h.
-            let z = last_skip (joins edges (low edges e) v) 0 e (omega arith) (λ d x y. joins-low edges (low edges e) v d (λ q. omega (arith, w.fresh lt d y))) in
+            let z = last_skip (joins edges (low edges e) v) 0 e (omega arith) (λ d x y. joins_low edges (low edges e) v d (λ q. omega (arith, w.fresh lt d y))) in
             let o = last_none (joins edges (low edges e) v) in
             w.blank v ∙ sym (rw (z, o) (omega arith));
       };
@@ -347,7 +347,7 @@ module _ {cells edges : List ℕ} {m : ℕ} {ranks h0 x0 h1 x1 h2 x2 tab₀ side
     placing_turnable u hu tab' el = record {
       chained = A.chained;
       layable = record { cells-are = omega arith; few = A.few; known = λ c i h l. omega (arith, A.nodes c i h l, A.tab_room, el, w.tab_same); room = omega (arith, A.room, w.same) };
-      node-lt = hu;
+      node_lt = hu;
     }
 
     module _ {cap f : ℕ} {tab' : List ℕ} (ec : cap ≡ 6 * cell_count cells) (R : RunFilled edges m cap e f tab tab') where
@@ -355,15 +355,15 @@ module _ {cells edges : List ℕ} {m : ℕ} {ranks h0 x0 h1 x1 h2 x2 tab₀ side
       placing_clearable = record {
         ends = omega (arith, A.ends, R.within);
         only = λ v p.
-            let q = R.tabled.at v (entry-within tab' v p) in
+            let q = R.tabled.at v (entry_within tab' v p) in
             let s : 0 < last (joins edges (low edges e) v) f = omega arith in
-            let j = last-is (joins edges (low edges e) v) f s in
+            let j = last_is (joins edges (low edges e) v) f s in
             let x = last (joins edges (low edges e) v) f - 1 in
             record {
               e = x;
-              from = elim (dec_lt x e) [ yes l ↦ absurd (omega (arith, w.fresh lt x l, joined-low edges (low edges e) v x j)) | no l ↦ omega arith ];
+              from = elim (dec_lt x e) [ yes l ↦ absurd (omega (arith, w.fresh lt x l, joined_low edges (low edges e) v x j)) | no l ↦ omega arith ];
               to = omega (arith, last_le (joins edges (low edges e) v) f);
-              is = joined-high edges (low edges e) v x j;
+              is = joined_high edges (low edges e) v x j;
             };
       }
 
@@ -385,11 +385,11 @@ module _ {cells edges : List ℕ} {m : ℕ} {ranks h0 x0 h1 x1 h2 x2 tab₀ side
           at c k h l = elim (ℕ_discrete (node cells c (lo k)) u) [
             | yes q ↦
                 let v = node cells c (hi k) in
-                let t = R.tabled.at v (omega (arith, A.nodes c (hi k) h (hi-lt k l), A.tab_room, R.same, w.tab_same)) in
+                let t = R.tabled.at v (omega (arith, A.nodes c (hi k) h (hi_lt k l), A.tab_room, R.same, w.tab_same)) in
                 L.put c k l (record { to = h; is = q }) ∙ t ∙ rw (q, eu, ec)
             | no q ↦
                 let s = last_skip (joins edges (node cells c (lo k)) (node cells c (hi k))) e f (omega (arith, R.more))
-                (λ d x y. joins-low edges (node cells c (lo k)) (node cells c (hi k)) d (λ z. q (sym z ∙ R.run d x y ∙ sym eu))) in
+                (λ d x y. joins_low edges (node cells c (lo k)) (node cells c (hi k)) d (λ z. q (sym z ∙ R.run d x y ∙ sym eu))) in
                 L.keep c k l (λ p. q p.is) ∙ w.placed.at c k h l ∙ rw s
           ]
 
@@ -398,7 +398,7 @@ module _ {cells edges : List ℕ} {m : ℕ} {ranks h0 x0 h1 x1 h2 x2 tab₀ side
     placing_stop above = record {
       at = λ c k h l.
           let s = last_skip (joins edges (node cells c (lo k)) (node cells c (hi k))) e m (omega arith)
-          (λ d x y. joins-low edges (node cells c (lo k)) (node cells c (hi k)) d (λ z. (let b = A.nodes c (lo k) h (lo-lt k l) in elim (ℕ_discrete d e) [ yes q ↦ omega (arith, ap (low edges) q) | no q ↦ omega (arith, A.sorted e d (omega arith) y) ]))) in
+          (λ d x y. joins_low edges (node cells c (lo k)) (node cells c (hi k)) d (λ z. (let b = A.nodes c (lo k) h (lo_lt k l) in elim (ℕ_discrete d e) [ yes q ↦ omega (arith, ap (low edges) q) | no q ↦ omega (arith, A.sorted e d (omega arith) y) ]))) in
           w.placed.at c k h l ∙ rw s;
     }
 
@@ -409,24 +409,24 @@ module _ {cells edges : List ℕ} {m : ℕ} {ranks h0 x0 h1 x1 h2 x2 tab₀ side
 pub record Tallying (sides : List ℕ) (j : ℕ) (top₀ degree₀ top degree : List ℕ) : Type 0 where
   pub tops : (t : ℕ) → t < length top → get_or top t 0 ≡ last (same_key sides t) j
   pub degrees : (t : ℕ) → t < length top → get_or degree t 0 ≡ count (same_key sides t) j
-  pub top-same : length top ≡ length top₀
+  pub top_same : length top ≡ length top₀
   pub degree_same : length degree ≡ length degree₀
 
 module _ {sides : List ℕ} {n : ℕ} {top₀ degree₀ : List ℕ} (A : Talliable sides n top₀ degree₀) where
   pub tallying_start : Tallying sides 0 top₀ degree₀ top₀ degree₀
   tallying_start = record {
-    tops = λ t h. A.top-blank t ∙ sym (last_none (same_key sides t));
+    tops = λ t h. A.top_blank t ∙ sym (last_none (same_key sides t));
     degrees = λ t h. A.degree_blank t ∙ sym (count_none (same_key sides t) 0 (λ i l. absurd (omega arith)));
-    top-same = refl;
+    top_same = refl;
     degree_same = refl;
   }
 
   module _ {j : ℕ} {top degree : List ℕ} (w : Tallying sides j top₀ degree₀ top degree) (lt : j < n) (t : ℕ) (et : t ≡ get_or sides j 0) where
     pub tallying_lt : t < length top
-    tallying_lt = omega (arith, A.below j lt, w.top-same)
+    tallying_lt = omega (arith, A.below j lt, w.top_same)
 
     pub tallying_room : t < length degree
-    tallying_room = omega (arith, tallying_lt, A.long, w.top-same, w.degree_same)
+    tallying_room = omega (arith, tallying_lt, A.long, w.top_same, w.degree_same)
 
     pub tallying_few : get_or degree t 0 ≤ j
     tallying_few = omega (arith, w.degrees t tallying_lt, count_le (same_key sides t) j)
@@ -435,19 +435,19 @@ module _ {sides : List ℕ} {n : ℕ} {top₀ degree₀ : List ℕ} (A : Talliab
     unfolding same_key count
     tallying_more = record {
       tops = λ s h. elim (ℕ_discrete s t) [
-        | yes q ↦ rw (q, get_or-set_same top t (j + 1) 0 tallying_lt) (sym (last-hit (same_key sides t) j (eq-eqb (get_or sides j 0) t (sym et))))
+        | yes q ↦ rw (q, get_or-set_same top t (j + 1) 0 tallying_lt) (sym (last_hit (same_key sides t) j (eq-eqb (get_or sides j 0) t (sym et))))
         | no q ↦ get_or-set_other top t s (j + 1) 0 q ∙ w.tops s (omega (arith, length-set top t (j + 1))) ∙ sym (last_miss (same_key sides s) j (ne_eqb (get_or sides j 0) s (λ z. q (sym (et ∙ z)))))
       ];
       degrees = λ s h. elim (ℕ_discrete s t) [
-        | yes q ↦ rw (q, get_or-set_same degree t (get_or degree t 0 + 1) 0 tallying_room) (ap (λ x. x + 1) (w.degrees t tallying_lt) ∙ sym (count-hit (same_key sides t) j (eq-eqb (get_or sides j 0) t (sym et))))
+        | yes q ↦ rw (q, get_or-set_same degree t (get_or degree t 0 + 1) 0 tallying_room) (ap (λ x. x + 1) (w.degrees t tallying_lt) ∙ sym (count_hit (same_key sides t) j (eq-eqb (get_or sides j 0) t (sym et))))
         | no q ↦ get_or-set_other degree t s (get_or degree t 0 + 1) 0 q ∙ w.degrees s (omega (arith, length-set top t (j + 1))) ∙ sym (count_miss (same_key sides s) j (ne_eqb (get_or sides j 0) s (λ z. q (sym (et ∙ z)))))
       ];
-      top-same = length-set top t (j + 1) ∙ w.top-same;
+      top_same = length-set top t (j + 1) ∙ w.top_same;
       degree_same = length-set degree t (get_or degree t 0 + 1) ∙ w.degree_same;
     }
       where
-        count-hit : (f : ℕ → Bool) (i : ℕ) → f i ≡ true → count f (i + 1) ≡ count f i + 1
-        count-hit f i h = let e : i + 1 ≡ suc i = omega arith in rw (e, h)
+        count_hit : (f : ℕ → Bool) (i : ℕ) → f i ≡ true → count f (i + 1) ≡ count f i + 1
+        count_hit f i h = let e : i + 1 ≡ suc i = omega arith in rw (e, h)
 
         count_miss : (f : ℕ → Bool) (i : ℕ) → f i ≡ false → count f (i + 1) ≡ count f i
         count_miss f i h = let e : i + 1 ≡ suc i = omega arith in rw (e, h) (omega arith)
@@ -456,8 +456,8 @@ module _ {sides : List ℕ} {n : ℕ} {top₀ degree₀ : List ℕ} (A : Talliab
   tallying_end {j} {top} {degree} w a b =
       let q : j ≡ n = omega arith in
       record {
-        top-room = omega (arith, w.top-same);
+        top_room = omega (arith, w.top_same);
         degree_room = omega (arith, w.degree_same, A.long);
-        tops = λ t h. rw q at (w.tops t (omega (arith, w.top-same)));
-        degrees = λ t h. rw q at (w.degrees t (omega (arith, w.top-same)));
+        tops = λ t h. rw q at (w.tops t (omega (arith, w.top_same)));
+        degrees = λ t h. rw q at (w.degrees t (omega (arith, w.top_same)));
       }

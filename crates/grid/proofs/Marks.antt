@@ -15,31 +15,31 @@ use Rattle.counting.specs.Pick.{pick}
 use Rattle.counting.specs.Search.{count, last, some}
 use Rattle.counting.proofs.Bools.{and_left, and_right, bool_same, clash, holds_or}
 use Rattle.counting.proofs.Involution.{count_less, less}
-use Rattle.counting.proofs.Search.{count_blocks, count_ext, count_le, count_none, count_same, last-is, some_and, some_blocks, some_ext, some-found, some_is, some-none}
+use Rattle.counting.proofs.Search.{count_blocks, count_ext, count_le, count_none, count_same, last_is, some_and, some_blocks, some_ext, some_found, some_is, some_none}
 use Rattle.slots.specs.Slots.{contains, position, hi, lo, second_slot}
 use Rattle.slots.specs.claims.Slots.{other_slot, rank_in}
-use Rattle.slots.proofs.Slots.{Third, ends-sum, rank-of, third_of, two-slots}
+use Rattle.slots.proofs.Slots.{Third, ends_sum, rank-of, third_of, two_slots}
 use Rattle.counting.proofs.Tables.{top_le}
 use Rattle.grid.specs.work.Work.{PassesAcross, Reached, Grown, OnSlot, Open, Paired, KeySlot, Splitting, Spread, Spreadable, Spreading, Spreads, marked_cells, missing, rank}
 use Rattle.counting.specs.work.Tables.{same_key}
 use Rattle.grid.proofs.Turns.{count_one_more}
 
 -- how the other slot is found, from the sum of an edge's ends
-pub other-low : (k s : ℕ) → k < 3 → 5 - k - s ≡ other_slot k s
-other-low k s h = let e : lo k + hi k ≡ k + 1 = rw (lt-ltb k 3 h) at (ends-sum k (omega arith)) in omega arith
+pub other_low : (k s : ℕ) → k < 3 → 5 - k - s ≡ other_slot k s
+other_low k s h = let e : lo k + hi k ≡ k + 1 = rw (lt-ltb k 3 h) at (ends_sum k (omega arith)) in omega arith
 
-pub other-high : (k s : ℕ) → 3 ≤ k → k < 6 → 6 - k - s ≡ other_slot k s
-other-high k s h l = let e : lo k + hi k ≡ k = rw (le-ltb k 3 h) at (ends-sum k l) in omega arith
+pub other_high : (k s : ℕ) → 3 ≤ k → k < 6 → 6 - k - s ≡ other_slot k s
+other_high k s h l = let e : lo k + hi k ≡ k = rw (le-ltb k 3 h) at (ends_sum k l) in omega arith
 
 pub other_fits : (k s : ℕ) → k < 6 → s < 4 → contains k s ≡ true → k + s ≤ 6
 other_fits k s hk hs h =
     elim (dec_lt k 3) [
       | yes l ↦ omega arith
-      | no l ↦ omega (arith, other-high k (other_slot k s) (omega arith) hk, (third_of k s hk hs h).back, (third_of k s hk hs h).lt)
+      | no l ↦ omega (arith, other_high k (other_slot k s) (omega arith) hk, (third_of k s hk hs h).back, (third_of k s hk hs h).lt)
     ]
 
-pub grown-none : (keys near : List ℕ) (n key mark : ℕ) (marks : List ℕ) → Grown keys near n key mark marks marks
-grown-none keys near n key mark marks = record { same = refl; keep = λ c e. e; only = λ c. inl refl; within = λ P cl h c e. h c e }
+pub grown_none : (keys near : List ℕ) (n key mark : ℕ) (marks : List ℕ) → Grown keys near n key mark marks marks
+grown_none keys near n key mark marks = record { same = refl; keep = λ c e. e; only = λ c. inl refl; within = λ P cl h c e. h c e }
 
 -- the loop of `spread` is to cross slot j
 pub record Going (keys near : List ℕ) (n key mark b : ℕ) (marks₀ marks : List ℕ) (j r : ℕ) : Type 0 where
@@ -194,7 +194,7 @@ marked_le marks mark n = count_le (λ d. eqb (get_or marks d 0) mark) n
 pub record Walking (near : List ℕ) (n mark start q : ℕ) (marks₀ : List ℕ) (met : ℕ) (marks : List ℕ) (r p : ℕ) : Type 0 where
   pub j : ℕ
   pub slot : j < 4 * n
-  pub p-is : p ≡ get_or near j 0
+  pub p_is : p ≡ get_or near j 0
   pub rank_lt : r < 3
   pub same : length marks ≡ length marks₀
   pub counted : marked_cells marks₀ mark n + met ≡ marked_cells marks mark n
@@ -206,24 +206,24 @@ module _ {near : List ℕ} {n mark start q : ℕ} {marks₀ : List ℕ} (P : Spr
       record {
         j = start;
         slot = P.slot;
-        p-is = e;
+        p_is = e;
         rank_lt = P.rank_lt;
         same = refl;
         counted = omega arith;
         over = λ keys key b w.
-            record { slot = P.slot; side = w.side; rank_is = w.rank_is; here = w.here; opens = w.opens; grown = grown-none keys near n key mark marks₀ };
+            record { slot = P.slot; side = w.side; rank_is = w.rank_is; here = w.here; opens = w.opens; grown = grown_none keys near n key mark marks₀ };
       }
 
   module _ {met : ℕ} {marks : List ℕ} {r p : ℕ} (w : Walking near n mark start q marks₀ met marks r p) where
     pub walking_lt : p ≤ 4 * n
-    walking_lt = omega (arith, w.p-is, P.within w.j w.slot)
+    walking_lt = omega (arith, w.p_is, P.within w.j w.slot)
 
     pub walking_end : p ≤ 0 → Spreads near n mark start q marks₀ met marks
     walking_end h =
         record {
           same = w.same;
           counted = w.counted;
-          over = λ keys key b s. (let g = w.over keys key b s in record { grown = g.grown; opens = going_end s.paired g p w.p-is h });
+          over = λ keys key b s. (let g = w.over keys key b s in record { grown = g.grown; opens = going_end s.paired g p w.p_is h });
         }
 
     module _ (pos : 0 < p) where
@@ -232,7 +232,7 @@ module _ {near : List ℕ} {n mark start q : ℕ} {marks₀ : List ℕ} (P : Spr
           record {
             same = w.same;
             counted = w.counted;
-            over = λ keys key b s. (let g = w.over keys key b s in record { grown = g.grown; opens = going_met s.paired g p w.p-is pos h });
+            over = λ keys key b s. (let g = w.over keys key b s in record { grown = g.grown; opens = going_met s.paired g p w.p_is pos h });
           }
 
       pub walking_more : get_or marks ((p - 1) / 4) 0 ≢ mark → (s t x : ℕ) → s < 4 → s ≡ position ((p - 1) % 4) r → t < 3 → t ≡ rank_in s ((p - 1) % 4)
@@ -241,20 +241,20 @@ module _ {near : List ℕ} {n mark start q : ℕ} {marks₀ : List ℕ} (P : Spr
           record {
             j = 4 * ((p - 1) / 4) + s;
             slot = omega (arith, walking_lt);
-            p-is = ex;
+            p_is = ex;
             rank_lt = ht;
             same = length-set marks ((p - 1) / 4) mark ∙ w.same;
             counted = omega (arith, w.counted, marked_more marks mark n ((p - 1) / 4) (omega (arith, walking_lt)) (omega (arith, walking_lt, w.same, P.room)) new);
-            over = λ keys key b v. going_more v.paired (w.over keys key b v) p w.p-is pos new (omega (arith, w.same, P.room)) s t es et;
+            over = λ keys key b v. going_more v.paired (w.over keys key b v) p w.p_is pos new (omega (arith, w.same, P.room)) s t es et;
           }
 
 -- how many of n cells are not marked
 unfoldable pub unmarked_cells : List ℕ → ℕ → ℕ → ℕ
 unmarked_cells marks mark n = count (λ c. not (eqb (get_or marks c 0) mark)) n
 
-pub unmarked-less : (marks : List ℕ) (mark n c : ℕ) → c < n → c < length marks → (get_or marks c 0 ≡ mark → ⊥) → unmarked_cells (set marks c mark) mark n < unmarked_cells marks mark n
+pub unmarked_less : (marks : List ℕ) (mark n c : ℕ) → c < n → c < length marks → (get_or marks c 0 ≡ mark → ⊥) → unmarked_cells (set marks c mark) mark n < unmarked_cells marks mark n
 unfolding unmarked_cells less
-unmarked-less marks mark n c h room ne =
+unmarked_less marks mark n c h room ne =
     omega (arith, count_less free c n h (rw (ne_eqb (get_or marks c 0) mark ne)), count_ext (λ x. not (eqb (get_or (set marks c mark) x 0) mark)) (less free c) n (λ i l. at i (eqb i c) refl))
   where
     free : ℕ → Bool
@@ -265,48 +265,48 @@ unmarked-less marks mark n c h room ne =
     at i false q = rw (q, get_or-set_other marks c i mark 0 (eqb-false i c q))
 
 -- the lower slot contains its edge
-pub lower-on : (k s : ℕ) → k < 6 → s ≡ second_slot k → OnSlot k s
-lower-on k s l e = let t = two-slots k l in record { edge-lt = l; slot_lt = rw e t.second_lt; holds = rw e t.second-has }
+pub lower_on : (k s : ℕ) → k < 6 → s ≡ second_slot k → OnSlot k s
+lower_on k s l e = let t = two_slots k l in record { edge_lt = l; slot_lt = rw e t.second_lt; holds = rw e t.second_has }
 
 pub top_key : (keys : List ℕ) (key m top : ℕ) → top ≡ last (same_key keys key) m → 0 < top → get_or keys (6 * ((top - 1) / 6) + (top - 1) % 6) 0 ≡ key
 unfolding same_key
 top_key keys key m top e pos =
     let f : 6 * ((top - 1) / 6) + (top - 1) % 6 ≡ top - 1 = omega arith in
-    let t : eqb (get_or keys (top - 1) 0) key ≡ true = rw e (last-is (same_key keys key) m (rw (← e) pos)) in
+    let t : eqb (get_or keys (top - 1) 0) key ≡ true = rw e (last_is (same_key keys key) m (rw (← e) pos)) in
     rw f (eqb-true (get_or keys (top - 1) 0) key t)
 
 pub open_free : {keys near : List ℕ} {n key mark : ℕ} {marks : List ℕ} {a : ℕ} → (b : ℕ) → Open keys near n key mark marks a a → Open keys near n key mark marks a b
 open_free b o = record { at = λ j l s m p q. o.at j l s m p p }
 
-pub grown-at : {keys near : List ℕ} {n key mark : ℕ} {marks₀ marks : List ℕ} → Grown keys near n key mark marks₀ marks → (c x : ℕ) → x / 4 ≡ c → get_or marks₀ c 0 ≡ mark → get_or marks (x / 4) 0 ≡ mark
-grown-at g c x e m = rw e (g.keep c m)
+pub grown_at : {keys near : List ℕ} {n key mark : ℕ} {marks₀ marks : List ℕ} → Grown keys near n key mark marks₀ marks → (c x : ℕ) → x / 4 ≡ c → get_or marks₀ c 0 ≡ mark → get_or marks (x / 4) 0 ≡ mark
+grown_at g c x e m = rw e (g.keep c m)
 
 -- the steps of `split_at`
 module _ {keys near : List ℕ} {n key top degree : ℕ} {marks : List ℕ} (S : Splitting keys near n key top degree marks) where
   pub top_within : top ≤ 6 * n
-  top_within = top_le keys key (6 * n) top S.top-is
+  top_within = top_le keys key (6 * n) top S.top_is
 
   at_top : get_or keys (6 * ((top - 1) / 6) + (top - 1) % 6) 0 ≡ key
-  at_top = top_key keys key (6 * n) top S.top-is S.found
+  at_top = top_key keys key (6 * n) top S.top_is S.found
 
-  cell-lt : (top - 1) / 6 < n
-  cell-lt = omega (arith, top_within, S.found)
+  cell_lt : (top - 1) / 6 < n
+  cell_lt = omega (arith, top_within, S.found)
 
-  edge-lt : (top - 1) % 6 < 6
-  edge-lt = omega arith
+  edge_lt : (top - 1) % 6 < 6
+  edge_lt = omega arith
 
   -- the first cell, marked alone
   marked : get_or (set marks ((top - 1) / 6) key) ((top - 1) / 6) 0 ≡ key
-  marked = get_or-set_same marks ((top - 1) / 6) key 0 (omega (arith, cell-lt, S.room))
+  marked = get_or-set_same marks ((top - 1) / 6) key 0 (omega (arith, cell_lt, S.room))
 
   alone : (d : ℕ) → get_or (set marks ((top - 1) / 6) key) d 0 ≡ key → d ≡ (top - 1) / 6
   alone d m = elim (ℕ_discrete d ((top - 1) / 6)) [ yes e ↦ e | no e ↦ absurd (S.fresh d (sym (get_or-set_other marks ((top - 1) / 6) d key 0 e) ∙ m)) ]
 
-  slot-side : (s : ℕ) → s < 4 → contains ((top - 1) % 6) s ≡ true → KeySlot keys key (4 * ((top - 1) / 6) + s)
-  slot-side s l h =
+  slot_side : (s : ℕ) → s < 4 → contains ((top - 1) % 6) s ≡ true → KeySlot keys key (4 * ((top - 1) / 6) + s)
+  slot_side s l h =
       let a : (4 * ((top - 1) / 6) + s) / 4 ≡ ((top - 1) / 6) = omega arith in
       let b : (4 * ((top - 1) / 6) + s) % 4 ≡ s = omega arith in
-      record { k = (top - 1) % 6; lt = edge-lt; is = rw a at_top; holds = rw b h }
+      record { k = (top - 1) % 6; lt = edge_lt; is = rw a at_top; holds = rw b h }
 
   start_open : (s : ℕ) → OnSlot ((top - 1) % 6) s → Open keys near n key key (set marks ((top - 1) / 6) key) (4 * ((top - 1) / 6) + s) (4 * ((top - 1) / 6) + other_slot ((top - 1) % 6) s)
   start_open s on = record { at = λ j l t m p q. absurd (go j t (alone (j / 4) m) p q) }
@@ -314,12 +314,12 @@ module _ {keys near : List ℕ} {n key top degree : ℕ} {marks : List ℕ} (S :
       go : (j : ℕ) → KeySlot keys key j → j / 4 ≡ ((top - 1) / 6) → j ≢ 4 * ((top - 1) / 6) + s → j ≢ 4 * ((top - 1) / 6) + other_slot ((top - 1) % 6) s → ⊥
       go j t e p q =
           let f : get_or keys (6 * ((top - 1) / 6) + t.k) 0 ≡ key = rw (← e) t.is in
-          let h : contains ((top - 1) % 6) (j % 4) ≡ true = rw (S.paired.one ((top - 1) / 6) ((top - 1) % 6) t.k cell-lt edge-lt t.lt (at_top ∙ sym f)) t.holds in
+          let h : contains ((top - 1) % 6) (j % 4) ≡ true = rw (S.paired.one ((top - 1) / 6) ((top - 1) % 6) t.k cell_lt edge_lt t.lt (at_top ∙ sym f)) t.holds in
           ⊎_elim (λ (u : j % 4 ≡ s). p (omega arith)) (λ (u : j % 4 ≡ other_slot ((top - 1) % 6) s). q (omega arith))
-          ((third_of ((top - 1) % 6) s edge-lt on.slot_lt on.holds).only (j % 4) (omega arith) h)
+          ((third_of ((top - 1) % 6) s edge_lt on.slot_lt on.holds).only (j % 4) (omega arith) h)
 
-  first-mark : (marks₂ : List ℕ) (d : ℕ) → get_or marks₂ d 0 ≡ get_or (set marks ((top - 1) / 6) key) d 0 → (get_or marks₂ d 0 ≡ get_or marks d 0) ⊎ (get_or marks₂ d 0 ≡ key)
-  first-mark marks₂ d e = elim (ℕ_discrete d ((top - 1) / 6)) [ yes f ↦ inr (e ∙ rw f marked) | no f ↦ inl (e ∙ get_or-set_other marks ((top - 1) / 6) d key 0 f) ]
+  first_mark : (marks₂ : List ℕ) (d : ℕ) → get_or marks₂ d 0 ≡ get_or (set marks ((top - 1) / 6) key) d 0 → (get_or marks₂ d 0 ≡ get_or marks d 0) ⊎ (get_or marks₂ d 0 ≡ key)
+  first_mark marks₂ d e = elim (ℕ_discrete d ((top - 1) / 6)) [ yes f ↦ inr (e ∙ rw f marked) | no f ↦ inl (e ∙ get_or-set_other marks ((top - 1) / 6) d key 0 f) ]
 
   -- after the two spreads
   both_spread : (b : ℕ) → 4 * n ≤ b → (marks₁ marks₂ : List ℕ) → Grown keys near n key key (set marks ((top - 1) / 6) key) marks₁ → Grown keys near n key key marks₁ marks₂
@@ -328,7 +328,7 @@ module _ {keys near : List ℕ} {n key top degree : ℕ} {marks : List ℕ} (S :
       record {
         same = g₂.same ∙ g₁.same ∙ length-set marks ((top - 1) / 6) key;
         has = g₂.keep ((top - 1) / 6) (g₁.keep ((top - 1) / 6) marked);
-        only = λ d. ⊎_elim (λ (e : get_or marks₂ d 0 ≡ get_or marks₁ d 0). ⊎_elim (λ (f : get_or marks₁ d 0 ≡ get_or (set marks ((top - 1) / 6) key) d 0). first-mark marks₂ d (e ∙ f))
+        only = λ d. ⊎_elim (λ (e : get_or marks₂ d 0 ≡ get_or marks₁ d 0). ⊎_elim (λ (f : get_or marks₁ d 0 ≡ get_or (set marks ((top - 1) / 6) key) d 0). first_mark marks₂ d (e ∙ f))
             (λ (f : get_or marks₁ d 0 ≡ key). inr (e ∙ f)) (g₁.only d)) (λ (e : get_or marks₂ d 0 ≡ key). inr e) (g₂.only d);
         closed = λ j l s p m. ⊎_elim (λ (z : get_or near j 0 ≡ 0). absurd (omega arith)) (λ z. z) (o.at j l s m (λ q. omega arith) (λ q. omega arith));
         within = λ P cl h d m. g₂.within P cl (g₁.within P cl (λ x y. rw (alone x y) h)) d m;
@@ -341,35 +341,35 @@ module _ {keys near : List ℕ} {n key top degree : ℕ} {marks : List ℕ} (S :
 
   pub may_spread : (t r : ℕ) → t < 4 → r < 3 → (marks₁ : List ℕ) → length marks₁ ≡ length marks → Spreadable near n (4 * ((top - 1) / 6) + t) r marks₁
   may_spread t r l lr marks₁ e =
-      record { near-room = S.paired.room; few = S.paired.few; within = near_within; room = omega (arith, e, S.room); slot = omega (arith, cell-lt); rank_lt = lr }
+      record { near_room = S.paired.room; few = S.paired.few; within = near_within; room = omega (arith, e, S.room); slot = omega (arith, cell_lt); rank_lt = lr }
 
-  pub first-same : {x y a : ℕ} {marks₁ : List ℕ} → Spreads near n key x y (set marks ((top - 1) / 6) key) a marks₁ → length marks₁ ≡ length marks
-  first-same g = g.same ∙ length-set marks ((top - 1) / 6) key
+  pub first_same : {x y a : ℕ} {marks₁ : List ℕ} → Spreads near n key x y (set marks ((top - 1) / 6) key) a marks₁ → length marks₁ ≡ length marks
+  first_same g = g.same ∙ length-set marks ((top - 1) / 6) key
 
-  pub both-same : {x y z w a b : ℕ} {marks₁ marks₂ : List ℕ} → Spreads near n key x y (set marks ((top - 1) / 6) key) a marks₁ → Spreads near n key z w marks₁ b marks₂
+  pub both_same : {x y z w a b : ℕ} {marks₁ marks₂ : List ℕ} → Spreads near n key x y (set marks ((top - 1) / 6) key) a marks₁ → Spreads near n key z w marks₁ b marks₂
       → length marks₂ ≡ length marks
-  both-same g h = h.same ∙ first-same g
+  both_same g h = h.same ∙ first_same g
 
   -- from a slot that contains the edge
   module _ {s : ℕ} (on : OnSlot ((top - 1) % 6) s) where
     third : Third ((top - 1) % 6) s
-    third = third_of ((top - 1) % 6) s edge-lt on.slot_lt on.holds
+    third = third_of ((top - 1) % 6) s edge_lt on.slot_lt on.holds
 
-    pub other-apart : (o : ℕ) → o ≡ other_slot ((top - 1) % 6) s → o ≢ s
-    other-apart o e = rw e third.not_omitted
+    pub other_apart : (o : ℕ) → o ≡ other_slot ((top - 1) % 6) s → o ≢ s
+    other_apart o e = rw e third.not_omitted
 
     pub may_spread_first : (r : ℕ) → r < 3 → Spreadable near n (4 * ((top - 1) / 6) + s) r (set marks ((top - 1) / 6) key)
     may_spread_first r l = may_spread s r on.slot_lt l (set marks ((top - 1) / 6) key) (length-set marks ((top - 1) / 6) key)
 
     pub spread_first : (o r : ℕ) → o ≡ other_slot ((top - 1) % 6) s → r ≡ rank_in s o
         → Spreading keys near n key key (4 * ((top - 1) / 6) + s) r (4 * ((top - 1) / 6) + o) (set marks ((top - 1) / 6) key)
-    unfolding lo slot-side
+    unfolding lo slot_side
     spread_first o r e f =
         let d : (4 * ((top - 1) / 6) + s) / 4 ≡ (top - 1) / 6 = omega (arith, on.slot_lt) in
         let m : (4 * ((top - 1) / 6) + s) % 4 ≡ s = omega (arith, on.slot_lt) in
         record {
           paired = S.paired;
-          side = slot-side s on.slot_lt on.holds;
+          side = slot_side s on.slot_lt on.holds;
           rank_is = rw (m, ← e) f;
           here = rw d marked;
           opens = rw e (start_open s on);
@@ -377,15 +377,15 @@ module _ {keys near : List ℕ} {n key top degree : ℕ} {marks : List ℕ} (S :
 
     pub spread_second : (o r b : ℕ) → o ≡ other_slot ((top - 1) % 6) s → o < 4 → r ≡ rank_in o s → (marks₁ : List ℕ)
         → Spread keys near n key key (4 * ((top - 1) / 6) + o) (set marks ((top - 1) / 6) key) marks₁ → Spreading keys near n key key (4 * ((top - 1) / 6) + o) r b marks₁
-    unfolding lo slot-side
+    unfolding lo slot_side
     spread_second o r b e l f marks₁ g =
         let m : (4 * ((top - 1) / 6) + o) % 4 ≡ o = omega arith in
         let t : other_slot ((top - 1) % 6) o ≡ s = rw e third.back in
         record {
           paired = S.paired;
-          side = slot-side o l (rw e third.other);
+          side = slot_side o l (rw e third.other);
           rank_is = rw (m, t) f;
-          here = grown-at g.grown ((top - 1) / 6) (4 * ((top - 1) / 6) + o) (omega arith) marked;
+          here = grown_at g.grown ((top - 1) / 6) (4 * ((top - 1) / 6) + o) (omega arith) marked;
           opens = open_free b g.opens;
         }
 
@@ -411,42 +411,42 @@ module _ {keys near : List ℕ} {n key top degree : ℕ} {marks : List ℕ} (S :
       (λ d h i j l b p q. (let z = S.paired.one d i j h (omega arith) b (eqb-true _ key p ∙ sym (eqb-true _ key q)) in omega arith))
 
   -- none was marked before the first, then all that a spread met, then all that both met
-  one-marked : marked_cells (set marks ((top - 1) / 6) key) key n ≡ 1
+  one_marked : marked_cells (set marks ((top - 1) / 6) key) key n ≡ 1
   unfolding marked_cells
-  one-marked =
+  one_marked =
       let none : marked_cells marks key n ≡ 0 = count_none (λ d. eqb (get_or marks d 0) key) n (λ i l. ne_eqb (get_or marks i 0) key (S.fresh i)) in
-      omega (arith, marked_more marks key n ((top - 1) / 6) cell-lt (omega (arith, cell-lt, S.room)) (S.fresh ((top - 1) / 6)))
+      omega (arith, marked_more marks key n ((top - 1) / 6) cell_lt (omega (arith, cell_lt, S.room)) (S.fresh ((top - 1) / 6)))
 
-  met-first : {x y a : ℕ} {marks₁ : List ℕ} → Spreads near n key x y (set marks ((top - 1) / 6) key) a marks₁ → 1 + a ≡ marked_cells marks₁ key n
-  met-first g = omega (arith, g.counted, one-marked)
+  met_first : {x y a : ℕ} {marks₁ : List ℕ} → Spreads near n key x y (set marks ((top - 1) / 6) key) a marks₁ → 1 + a ≡ marked_cells marks₁ key n
+  met_first g = omega (arith, g.counted, one_marked)
 
   pub met_all : {x y z w a b : ℕ} {marks₁ marks₂ : List ℕ} → Spreads near n key x y (set marks ((top - 1) / 6) key) a marks₁ → Spreads near n key z w marks₁ b marks₂
       → 1 + a + b ≡ marked_cells marks₂ key n
-  met_all g h = omega (arith, met-first g, h.counted)
+  met_all g h = omega (arith, met_first g, h.counted)
 
   pub met_le : {x y z w a b : ℕ} {marks₁ marks₂ : List ℕ} → Spreads near n key x y (set marks ((top - 1) / 6) key) a marks₁ → Spreads near n key z w marks₁ b marks₂ → 1 + a + b ≤ n
   met_le {marks₂ = marks₂} g h = omega (arith, met_all g h, marked_le marks₂ key n)
 
   pub met_first_le : {x y a : ℕ} {marks₁ : List ℕ} → Spreads near n key x y (set marks ((top - 1) / 6) key) a marks₁ → 1 + a ≤ n
-  met_first_le {marks₁ = marks₁} g = omega (arith, met-first g, marked_le marks₁ key n)
+  met_first_le {marks₁ = marks₁} g = omega (arith, met_first g, marked_le marks₁ key n)
 
   -- marks lead to cells of the edge alone
   abbrev Leads : List ℕ → Type 0
   Leads marks₂ = (P : ℕ → Bool) → PassesAcross keys near n key P → P ((top - 1) / 6) ≡ true → (d : ℕ) → get_or marks₂ d 0 ≡ key → P d ≡ true
 
-  marked-has : (marks₂ : List ℕ) → Leads marks₂ → (c : ℕ) → is-marked marks₂ c ≡ true → has c ≡ true
+  marked_has : (marks₂ : List ℕ) → Leads marks₂ → (c : ℕ) → is-marked marks₂ c ≡ true → has c ≡ true
   unfolding has same_key is-marked
-  marked-has marks₂ R c p = R has across
-      (some-found (λ i. same_key keys key (6 * ((top - 1) / 6) + i)) 6 ((top - 1) % 6) edge-lt (eq-eqb _ key at_top)) c (eqb-true (get_or marks₂ c 0) key p)
+  marked_has marks₂ R c p = R has across
+      (some_found (λ i. same_key keys key (6 * ((top - 1) / 6) + i)) 6 ((top - 1) % 6) edge_lt (eq-eqb _ key at_top)) c (eqb-true (get_or marks₂ c 0) key p)
     where
       across : PassesAcross keys near n key has
-      across j l s p h = (let t = (S.paired.side key j l p s).0 in some-found (λ i. same_key keys key (6 * ((get_or near j 0 - 1) / 4) + i)) 6 t.k t.lt (eq-eqb _ key t.is))
+      across j l s p h = (let t = (S.paired.side key j l p s).0 in some_found (λ i. same_key keys key (6 * ((get_or near j 0 - 1) / 4) + i)) 6 t.k t.lt (eq-eqb _ key t.is))
 
   -- what `split_at` answers
-  pub split-counted : {marks₂ : List ℕ} (met : ℕ) → met ≡ marked_cells marks₂ key n → Reached keys near n key key ((top - 1) / 6) marks marks₂ → (r : Bool) → r ≡ not (eqb met degree)
+  pub split_counted : {marks₂ : List ℕ} (met : ℕ) → met ≡ marked_cells marks₂ key n → Reached keys near n key key ((top - 1) / 6) marks marks₂ → (r : Bool) → r ≡ not (eqb met degree)
       → r ≡ some (missing keys key marks₂ key) (6 * n)
   unfolding missing marked_cells has is-marked
-  split-counted {marks₂} met em R r er =
+  split_counted {marks₂} met em R r er =
       er ∙ ap (λ (x : ℕ). not (eqb x degree)) em ∙ ap (λ (x : ℕ). not (eqb (count (is-marked marks₂) n) x)) degree_cells
       ∙ bool_same (not (eqb (count (is-marked marks₂) n) (count has n))) (some left n) lost whole ∙ blocks
     where
@@ -456,8 +456,8 @@ module _ {keys near : List ℕ} {n key top degree : ℕ} {marks : List ℕ} (S :
       lost : not (eqb (count (is-marked marks₂) n) (count has n)) ≡ true → some left n ≡ true
       lost q = ⊎_elim (λ u. u)
           (λ (u : some left n ≡ false).
-          let all = count_ext (is-marked marks₂) has n (λ c l. bool_same (is-marked marks₂ c) (has c) (marked-has marks₂ R.within c)
-          (λ h. not-false (is-marked marks₂ c) (sym (ap (λ (x : Bool). x && not (is-marked marks₂ c)) h) ∙ some-none left n u c l))) in
+          let all = count_ext (is-marked marks₂) has n (λ c l. bool_same (is-marked marks₂ c) (has c) (marked_has marks₂ R.within c)
+          (λ h. not-false (is-marked marks₂ c) (sym (ap (λ (x : Bool). x && not (is-marked marks₂ c)) h) ∙ some_none left n u c l))) in
           clash (eq-eqb _ _ all) (not-true _ q)) (holds_or (some left n))
 
       whole : some left n ≡ true → not (eqb (count (is-marked marks₂) n) (count has n)) ≡ true
@@ -465,7 +465,7 @@ module _ {keys near : List ℕ} {n key top degree : ℕ} {marks : List ℕ} (S :
           let w = some_is left n q in
           let h = and_left (has w.0) (not (is-marked marks₂ w.0)) w.2 in
           let k = not-true _ (and_right (has w.0) (not (is-marked marks₂ w.0)) w.2) in
-          ap not (ne_eqb _ _ (λ e. clash (count_same (is-marked marks₂) has (marked-has marks₂ R.within) n e w.0 w.1 ∙ h) k))
+          ap not (ne_eqb _ _ (λ e. clash (count_same (is-marked marks₂) has (marked_has marks₂ R.within) n e w.0 w.1 ∙ h) k))
 
       blocks : some left n ≡ some (λ j. same_key keys key j && not (eqb (get_or marks₂ (j / 6) 0) key)) (6 * n)
       blocks =
@@ -476,10 +476,10 @@ module _ {keys near : List ℕ} {n key top degree : ℕ} {marks : List ℕ} (S :
           ∙ sym (some_blocks (λ j. same_key keys key j && not (eqb (get_or marks₂ (j / 6) 0) key)) 6 n)
 
   -- where as many cells are marked as have the edge, none is left
-  all-met : {marks₁ : List ℕ} → Grown keys near n key key (set marks ((top - 1) / 6) key) marks₁ → (met : ℕ) → met ≡ marked_cells marks₁ key n → met ≡ degree
+  all_met : {marks₁ : List ℕ} → Grown keys near n key key (set marks ((top - 1) / 6) key) marks₁ → (met : ℕ) → met ≡ marked_cells marks₁ key n → met ≡ degree
       → Reached keys near n key key ((top - 1) / 6) marks marks₁ × (false ≡ some (missing keys key marks₁ key) (6 * n))
   unfolding marked_cells is-marked has same_key
-  all-met {marks₁} g met em ed = (R, split-counted met em R false (sym (ap not (eq-eqb met degree ed))))
+  all_met {marks₁} g met em ed = (R, split_counted met em R false (sym (ap not (eq-eqb met degree ed))))
     where
       leads : Leads marks₁
       leads P cl h d m = g.within P cl (λ x y. rw (alone x y) h) d m
@@ -492,14 +492,14 @@ module _ {keys near : List ℕ} {n key top degree : ℕ} {marks : List ℕ} (S :
           let t = (S.paired.side key j l p s).0 in
           let d = (get_or near j 0 - 1) / 4 in
           eqb-true (get_or marks₁ d 0) key
-          (count_same (is-marked marks₁) has (marked-has marks₁ leads) n counts d (omega (arith, (S.paired.back j l p).0))
-          ∙ some-found (λ i. same_key keys key (6 * d + i)) 6 t.k t.lt (eq-eqb _ key t.is))
+          (count_same (is-marked marks₁) has (marked_has marks₁ leads) n counts d (omega (arith, (S.paired.back j l p).0))
+          ∙ some_found (λ i. same_key keys key (6 * d + i)) 6 t.k t.lt (eq-eqb _ key t.is))
 
       R : Reached keys near n key key ((top - 1) / 6) marks marks₁
       R = record {
         same = g.same ∙ length-set marks ((top - 1) / 6) key;
         has = g.keep ((top - 1) / 6) marked;
-        only = λ d. ⊎_elim (λ (e : get_or marks₁ d 0 ≡ get_or (set marks ((top - 1) / 6) key) d 0). first-mark marks₁ d e) (λ (e : get_or marks₁ d 0 ≡ key). inr e) (g.only d);
+        only = λ d. ⊎_elim (λ (e : get_or marks₁ d 0 ≡ get_or (set marks ((top - 1) / 6) key) d 0). first_mark marks₁ d e) (λ (e : get_or marks₁ d 0 ≡ key). inr e) (g.only d);
         closed = λ j l s p m. across j l s p;
         within = leads;
       }
@@ -508,8 +508,8 @@ module _ {keys near : List ℕ} {n key top degree : ℕ} {marks : List ℕ} (S :
   pub spread_whole : {s : ℕ} → OnSlot ((top - 1) % 6) s → (o r : ℕ) → o ≡ other_slot ((top - 1) % 6) s → r ≡ rank_in s o → (x : ℕ) (marks₁ : List ℕ)
       → Spreads near n key (4 * ((top - 1) / 6) + s) r (set marks ((top - 1) / 6) key) x marks₁ → 1 + x ≡ degree
       → Reached keys near n key key ((top - 1) / 6) marks marks₁ × (false ≡ some (missing keys key marks₁ key) (6 * n))
-  spread_whole on o r e f x marks₁ g ed = all-met (g.over keys key (4 * ((top - 1) / 6) + o) (spread_first on o r e f)).grown (1 + x) (met-first g) ed
+  spread_whole on o r e f x marks₁ g ed = all_met (g.over keys key (4 * ((top - 1) / 6) + o) (spread_first on o r e f)).grown (1 + x) (met_first g) ed
 
-  pub single-split : degree ≡ 1
+  pub single_split : degree ≡ 1
       → Reached keys near n key key ((top - 1) / 6) marks (set marks ((top - 1) / 6) key) × (false ≡ some (missing keys key (set marks ((top - 1) / 6) key) key) (6 * n))
-  single-split e = all-met (grown-none keys near n key key (set marks ((top - 1) / 6) key)) 1 (sym one-marked) (sym e)
+  single_split e = all_met (grown_none keys near n key key (set marks ((top - 1) / 6) key)) 1 (sym one_marked) (sym e)

@@ -28,9 +28,9 @@ module _ {f : ℕ → ℕ} {long : ℕ} {seen : List ℕ} {j : ℕ} (w : Meets f
   meets_more seen' q = rw q (record { room = length-set seen key (j + 1) ∙ w.room; is = seen_more f w.is key e (omega (arith, w.room)) })
 
 -- as places of a key
-pub last-key : (keys : List ℕ) (j r : ℕ) → r ≡ last (labelled (entry keys) (get_or keys j 0)) j → r ≡ last (same_key keys (get_or keys j 0)) j
+pub last_key : (keys : List ℕ) (j r : ℕ) → r ≡ last (labelled (entry keys) (get_or keys j 0)) j → r ≡ last (same_key keys (get_or keys j 0)) j
 unfolding labelled same_key
-last-key keys j r e = e
+last_key keys j r e = e
 
 -- cells that rows 1 and 3 leave can be numbered
 pub rising_numerable : {cells labels ranks faces same : List ℕ} → RisingCells cells → Fresh (4 * (length cells / 4)) labels → Fresh (highest_node + 1) ranks
@@ -39,7 +39,7 @@ rising_numerable {cells} good l r f s = record {
   few = good.few;
   nodes = λ j h. (let e : 4 * (j / 4) + j % 4 ≡ j = omega arith in let b = good.nodes (j / 4) (j % 4) (omega arith) (omega arith) in rw e at b);
   labels_new = l;
-  ranks-new = r;
-  faces-new = f;
+  ranks_new = r;
+  faces_new = f;
   same_new = s;
 }

@@ -8,7 +8,7 @@ use native.Mathlib.Omega.{arith}
 use lib.ListN.{length}
 use Rattle.answer.specs.Answer.{is_result}
 use Rattle.counting.specs.Stored.{filled}
-use Rattle.counting.proofs.Stored.{length-filled}
+use Rattle.counting.proofs.Stored.{length_filled}
 use Rattle.grid.specs.Check.{check_numbers}
 use Rattle.grid.specs.claims.Claims.{OpensBuilt}
 use Rattle.grid.specs.Grid.{Grid, built, grid_of, start}
@@ -18,15 +18,15 @@ use Rattle.grid.specs.work.Work.{Starting, answer_with}
 use Rattle.grid.specs.declared.Checked.{Checked}
 use Rattle.grid.specs.declared.Checked.TheVariants.{Crossings, Refused}
 use Rattle.grid.proofs.Answers.{verdict}
-use Rattle.grid.proofs.Crossings.{start-zero}
-use Rattle.grid.proofs.Filled.{refused-keeps, told-accepts, told-sound}
-use Rattle.grid.proofs.Starts.{filled_lists, filled-starts}
+use Rattle.grid.proofs.Crossings.{start_zero}
+use Rattle.grid.proofs.Filled.{refused_keeps, told_accepts, told_sound}
+use Rattle.grid.proofs.Starts.{filled_lists, filled_starts}
 
-pub opens-built : OpensBuilt
+pub opens_built : OpensBuilt
 unfolding open_answer open_starts opened
-opens-built cells edges counts starts e =
-    let same = ap (grid_of cells edges counts) (filled-starts counts starts e) in
-    (ap grid_answer same, λ values q. rw (ap is_result (ap grid_answer same ∙ q)) (filled-starts counts starts e))
+opens_built cells edges counts starts e =
+    let same = ap (grid_of cells edges counts) (filled_starts counts starts e) in
+    (ap grid_answer same, λ values q. rw (ap is_result (ap grid_answer same ∙ q)) (filled_starts counts starts e))
 
 module _ (G : Grid) where
   -- so its verdict for row 2 is by the numbers alone
@@ -39,21 +39,21 @@ module _ (G : Grid) where
   module _ (r : Checked) (q : check_numbers r ≡ open_answer G) where
     pub open_refused : (row place : ℕ) → r ≡ Refused row place → G.starts ≡ open_starts G
     unfolding open_answer open_starts
-    open_refused row place e = rw (refused-keeps (opened G) row place (ap check_numbers (sym e) ∙ q))
+    open_refused row place e = rw (refused_keeps (opened G) row place (ap check_numbers (sym e) ∙ q))
 
     module _ (n : ℕ) (e : r ≡ Crossings n) where
       pub open_starting : Starting G.counts 0 0 G.starts
       unfolding open_answer opened
       open_starting =
-          let S = told-sound (opened G) r n e q in
+          let S = told_sound (opened G) r n e q in
           record {
-            room = omega (arith, S.starts-long, length-filled (start G.counts) (length G.counts) G.starts);
-            few = S.few-crossings;
+            room = omega (arith, S.starts_long, length_filled (start G.counts) (length G.counts) G.starts);
+            few = S.few_crossings;
             within = omega arith;
-            own = sym (start-zero G.counts);
+            own = sym (start_zero G.counts);
             before = λ e l. absurd (not-suc-le-zero l);
           }
 
       pub open_done : (starts : List ℕ) → starts ≡ filled (start G.counts) (length G.counts) G.starts → starts ≡ open_starts G
       unfolding open_answer open_starts opened
-      open_done starts f = rw (told-accepts (opened G) r n e q) f
+      open_done starts f = rw (told_accepts (opened G) r n e q) f

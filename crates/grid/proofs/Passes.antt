@@ -12,10 +12,10 @@ use lib.Seq.{get_or-set_other, get_or-set_same}
 use borrow.Author.Tests.{eq-eqb, ne_eqb}
 use Rattle.counting.specs.Search.{count, last}
 use Rattle.counting.specs.work.Tables.{Table}
-use Rattle.counting.proofs.Search.{count_le, last-hit, last_miss, last_none}
+use Rattle.counting.proofs.Search.{count_le, last_hit, last_miss, last_none}
 use Rattle.grid.specs.work.Numbered.{Does, Has, Numberable, Numbered, Ready, Told, has}
 use Rattle.grid.specs.work.Walks.{Along, Course, Coursed, Labelling, Labels, Linkable, Linked, Passable, Passed, Walkable, Walks, label_at, labelled}
-use Rattle.grid.proofs.Turns.{does_as, does_none, does_then, ready-after, ready-one}
+use Rattle.grid.proofs.Turns.{does_as, does_none, does_then, ready_after, ready_one}
 
 -- the loop of `link` has put the first c cells
 pub record Linking (f : ℕ → ℕ) (head next : List ℕ) (c : ℕ) : Type 0 where
@@ -34,7 +34,7 @@ linking_more {f} {head} {next} {c} w h e l m = record {
     | no q ↦ get_or-set_other next c x (get_or head h 0) 0 q ∙ w.nexts x (omega arith)
   ];
   heads = λ r k. elim (ℕ_discrete r h) [
-    | yes q ↦ rw (q, get_or-set_same head h (c + 1) 0 l) (sym (last-hit (labelled f h) c (eq-eqb (f c) h (sym e))))
+    | yes q ↦ rw (q, get_or-set_same head h (c + 1) 0 l) (sym (last_hit (labelled f h) c (eq-eqb (f c) h (sym e))))
     | no q ↦ get_or-set_other head h r (c + 1) 0 q ∙ w.heads r (omega (arith, length-set head h (c + 1))) ∙ sym (last_miss (labelled f r) c (ne_eqb (f c) r (λ z. q (sym (e ∙ z)))))
   ];
 }
@@ -49,8 +49,8 @@ pub record Turned (f g low : ℕ → ℕ) (n a b p q : ℕ) (keys : List ℕ) (r
   pub top : (k : ℕ) → get_or at k 0 ≤ ids
   pub within : (j : ℕ) → get_or out j 0 ≤ ids
   pub only : (j : ℕ) → Has out j → low j < r
-  pub done-a : (j : ℕ) → j / 4 < n → f (j / 4) < r → a ≤ j % 4 → j % 4 < b → Has out j
-  pub done-b : (j : ℕ) → j / 4 < n → g (j / 4) < r → p ≤ j % 4 → j % 4 < q → Has out j
+  pub done_a : (j : ℕ) → j / 4 < n → f (j / 4) < r → a ≤ j % 4 → j % 4 < b → Has out j
+  pub done_b : (j : ℕ) → j / 4 < n → g (j / 4) < r → p ≤ j % 4 → j % 4 < q → Has out j
 
 -- the items of turn r
 pub record Turn (f g : ℕ → ℕ) (r n a b p q j : ℕ) : Type 0 where
@@ -62,11 +62,11 @@ module _ {f g low : ℕ → ℕ} {T n : ℕ} {ha na : List ℕ} {a b : ℕ} {hb 
   turned_none = record {
     told = record { lows = λ i j h. absurd (no_one i h); keys_are = λ i j h. absurd (no_one i h); same = λ i j h. absurd (no_one i h) };
     few = omega arith;
-    top = λ k. omega (arith, C.at-blank k);
+    top = λ k. omega (arith, C.at_blank k);
     within = λ j. omega (arith, C.out_blank j);
     only = λ j h. absurd (no_one j h);
-    done-a = λ j h l. absurd (not-suc-le-zero l);
-    done-b = λ j h l. absurd (not-suc-le-zero l);
+    done_a = λ j h l. absurd (not-suc-le-zero l);
+    done_b = λ j h l. absurd (not-suc-le-zero l);
   }
     where
       no_one : (j : ℕ) → Has out₀ j → ⊥
@@ -74,10 +74,10 @@ module _ {f g low : ℕ → ℕ} {T n : ℕ} {ha na : List ℕ} {a b : ℕ} {hb 
 
   module _ {r ids : ℕ} {at out : List ℕ} (w : Turned f g low n a b p q keys r ids at out) (lt : r < many) where
     turn_low : (j : ℕ) → Turn f g r n a b p q j → low j ≡ r
-    turn_low j t = ⊎_elim (λ (x : Along f r 0 n a b j). C.low-a j x.low x.high ∙ x.label) (λ (x : Along g r 0 n p q j). C.low-b j x.low x.high ∙ x.label) t.is
+    turn_low j t = ⊎_elim (λ (x : Along f r 0 n a b j). C.low_a j x.low x.high ∙ x.label) (λ (x : Along g r 0 n p q j). C.low_b j x.low x.high ∙ x.label) t.is
 
-    turn-lt : (j : ℕ) → Turn f g r n a b p q j → j < 4 * n
-    turn-lt j t = ⊎_elim (λ (x : Along f r 0 n a b j). omega (arith, x.to)) (λ (x : Along g r 0 n p q j). omega (arith, x.to)) t.is
+    turn_lt : (j : ℕ) → Turn f g r n a b p q j → j < 4 * n
+    turn_lt j t = ⊎_elim (λ (x : Along f r 0 n a b j). omega (arith, x.to)) (λ (x : Along g r 0 n p q j). omega (arith, x.to)) t.is
 
     opens : Numbered low keys (4 * n) r ids ids at out
     opens = record {
@@ -91,10 +91,10 @@ module _ {f g low : ℕ → ℕ} {T n : ℕ} {ha na : List ℕ} {a b : ℕ} {hb 
     }
 
     fits : (j : ℕ) → Turn f g r n a b p q j → (low j ≡ r) × (j < 4 * n) × (get_or out j 0 ≡ 0)
-    fits j t = (turn_low j t, turn-lt j t, elim (dec_lt 0 (get_or out j 0)) [ yes h ↦ absurd (omega (arith, w.only j h, turn_low j t)) | no h ↦ omega arith ])
+    fits j t = (turn_low j t, turn_lt j t, elim (dec_lt 0 (get_or out j 0)) [ yes h ↦ absurd (omega (arith, w.only j h, turn_low j t)) | no h ↦ omega arith ])
 
-    turn-ready : length at ≡ length at₀ → length out ≡ length out₀ → Ready (Turn f g r n a b p q) keys ids ids at out
-    turn-ready la lo = record {
+    turn_ready : length at ≡ length at₀ → length out ≡ length out₀ → Ready (Turn f g r n a b p q) keys ids ids at out
+    turn_ready la lo = record {
       low = low;
       N = 4 * n;
       turn = r;
@@ -106,35 +106,35 @@ module _ {f g low : ℕ → ℕ} {T n : ℕ} {ha na : List ℕ} {a b : ℕ} {hb 
       known = λ j l. omega (arith, C.known j l);
     }
 
-    pub turn-a : length at ≡ length at₀ → length out ≡ length out₀ → Walkable ha na r a b keys ids ids at out
-    turn-a la lo = record {
+    pub turn_a : length at ≡ length at₀ → length out ≡ length out₀ → Walkable ha na r a b keys ids ids at out
+    turn_a la lo = record {
       f = f;
       T = T;
       n = n;
-      linked = C.linked-a;
+      linked = C.linked_a;
       within = omega (arith, C.within);
-      ordered = C.ordered-a;
+      ordered = C.ordered_a;
       slots = C.slots;
-      ready = ready-after (turn-ready la lo) (does_none (λ j. ⊥) keys ids ids at out (λ j z. z)) (Along f r 0 n a b) (λ j z. absurd z) (λ j x. record { is = inl x }) (λ j z. absurd z);
+      ready = ready_after (turn_ready la lo) (does_none (λ j. ⊥) keys ids ids at out (λ j z. z)) (Along f r 0 n a b) (λ j z. absurd z) (λ j x. record { is = inl x }) (λ j z. absurd z);
     }
 
     module _ {ids₁ : ℕ} {at₁ out₁ : List ℕ} (A : Walks ha na r a b keys ids ids at out ids₁ at₁ out₁) where
       does_a : Does (Along f r 0 n a b) keys ids ids at out ids₁ at₁ out₁
-      does_a = A.over f T n C.linked-a (omega (arith, C.within))
+      does_a = A.over f T n C.linked_a (omega (arith, C.within))
 
       apart : (j : ℕ) → Along f r 0 n a b j → Along g r 0 n p q j → ⊥
       apart j x y = omega (arith, x.low, y.high, C.apart)
 
-      pub turn-b : length at ≡ length at₀ → length out ≡ length out₀ → Walkable hb nb r p q keys ids ids₁ at₁ out₁
-      turn-b la lo = record {
+      pub turn_b : length at ≡ length at₀ → length out ≡ length out₀ → Walkable hb nb r p q keys ids ids₁ at₁ out₁
+      turn_b la lo = record {
         f = g;
         T = T;
         n = n;
-        linked = C.linked-b;
+        linked = C.linked_b;
         within = omega (arith, C.within);
-        ordered = C.ordered-b;
-        slots = omega (arith, C.apart, C.ordered-a, C.slots);
-        ready = ready-after (turn-ready la lo) does_a (Along g r 0 n p q) (λ j x. record { is = inl x }) (λ j x. record { is = inr x }) apart;
+        ordered = C.ordered_b;
+        slots = omega (arith, C.apart, C.ordered_a, C.slots);
+        ready = ready_after (turn_ready la lo) does_a (Along g r 0 n p q) (λ j x. record { is = inl x }) (λ j x. record { is = inr x }) apart;
       }
 
       pub turned_more : {ids' : ℕ} {at' out' : List ℕ} → Walks hb nb r p q keys ids ids₁ at₁ out₁ ids' at' out' → Turned f g low n a b p q keys (r + 1) ids' at' out'
@@ -144,18 +144,18 @@ module _ {f g low : ℕ → ℕ} {T n : ℕ} {ha na : List ℕ} {a b : ℕ} {hb 
         top = s.top;
         within = bound;
         only = λ j h. ⊎_elim (λ x. omega (arith, w.only j x)) (λ x. omega (arith, turn_low j x)) (D.only j h);
-        done-a = λ j h l x y. elim (dec_lt (f (j / 4)) r) [
-          | yes m ↦ D.keep j (w.done-a j h m x y)
+        done_a = λ j h l x y. elim (dec_lt (f (j / 4)) r) [
+          | yes m ↦ D.keep j (w.done_a j h m x y)
           | no m ↦ D.done j (record { is = inl (record { label = omega arith; from = omega arith; to = h; low = x; high = y }) })
         ];
-        done-b = λ j h l x y. elim (dec_lt (g (j / 4)) r) [
-          | yes m ↦ D.keep j (w.done-b j h m x y)
+        done_b = λ j h l x y. elim (dec_lt (g (j / 4)) r) [
+          | yes m ↦ D.keep j (w.done_b j h m x y)
           | no m ↦ D.done j (record { is = inr (record { label = omega arith; from = omega arith; to = h; low = x; high = y }) })
         ];
       }
         where
           D : Does (Turn f g r n a b p q) keys ids ids at out ids' at' out'
-          D = does_then does_a (B.over g T n C.linked-b (omega (arith, C.within))) (Turn f g r n a b p q) (λ j x. record { is = inl x }) (λ j x. record { is = inr x }) (λ j x. x.is) apart
+          D = does_then does_a (B.over g T n C.linked_b (omega (arith, C.within))) (Turn f g r n a b p q) (λ j x. record { is = inl x }) (λ j x. record { is = inr x }) (λ j x. x.is) apart
 
           s : Numbered low keys (4 * n) r ids ids' at' out'
           s = D.over low (4 * n) r opens fits
@@ -169,8 +169,8 @@ module _ {f g low : ℕ → ℕ} {T n : ℕ} {ha na : List ℕ} {a b : ℕ} {hb 
             | no h ↦ omega arith
           ]
 
-  pub turned-end : {ids : ℕ} {at out : List ℕ} → Turned f g low n a b p q keys many ids at out → Coursed f g low n a b p q keys many ids out
-  turned-end {ids} {at} {out} w = record { told = w.told; few = w.within; bound = omega (arith, w.few, count_le (has out) (4 * n)); done-a = w.done-a; done-b = w.done-b }
+  pub turned_end : {ids : ℕ} {at out : List ℕ} → Turned f g low n a b p q keys many ids at out → Coursed f g low n a b p q keys many ids out
+  turned_end {ids} {at} {out} w = record { told = w.told; few = w.within; bound = omega (arith, w.few, count_le (has out) (4 * n)); done_a = w.done_a; done_b = w.done_b }
 
 -- the loop of `pass`
 pub record Passing (ha na : List ℕ) (a b : ℕ) (hb nb : List ℕ) (p q : ℕ) (keys : List ℕ) (many : ℕ) (at₀ out₀ : List ℕ) (r ids : ℕ) (at out : List ℕ) : Type 0 where
@@ -181,13 +181,13 @@ pub record Passing (ha na : List ℕ) (a b : ℕ) (hb nb : List ℕ) (p q : ℕ)
 
 -- `label`: one turn
 module _ {cells : List ℕ} {n : ℕ} {at₀ out₀ : List ℕ} (L : Labelling cells n at₀ out₀) where
-  label-opens : Numbered (λ j. 0) cells n 0 0 0 at₀ out₀
-  label-opens = record {
+  label_opens : Numbered (λ j. 0) cells n 0 0 0 at₀ out₀
+  label_opens = record {
     told = record { lows = λ i j h. absurd (no_one i h); keys_are = λ i j h. absurd (no_one i h); same = λ i j h. absurd (no_one i h) };
     few = omega arith;
     based = omega arith;
-    top = λ k. omega (arith, L.at-blank k);
-    once = λ k l h. absurd (omega (arith, L.at-blank k));
+    top = λ k. omega (arith, L.at_blank k);
+    once = λ k l h. absurd (omega (arith, L.at_blank k));
     here = λ j h. absurd (no_one j h);
     old = λ j h. absurd (no_one j h);
   }
@@ -195,12 +195,12 @@ module _ {cells : List ℕ} {n : ℕ} {at₀ out₀ : List ℕ} (L : Labelling c
       no_one : (j : ℕ) → Has out₀ j → ⊥
       no_one j h = omega (arith, L.out_blank j)
 
-  pub label-ready : Ready (λ j. j < n) cells 0 0 at₀ out₀
-  label-ready = record {
+  pub label_ready : Ready (λ j. j < n) cells 0 0 at₀ out₀
+  label_ready = record {
     low = λ j. 0;
     N = n;
     turn = 0;
-    state = label-opens;
+    state = label_opens;
     fits = λ j h. (refl, h, L.out_blank j);
     small = L.small;
     keyed = L.keyed;
@@ -209,14 +209,14 @@ module _ {cells : List ℕ} {n : ℕ} {at₀ out₀ : List ℕ} (L : Labelling c
   }
 
   module _ {i ids : ℕ} {at out : List ℕ} (D : Does (λ j. j < i) cells 0 0 at₀ out₀ ids at out) where
-    pub label-one : i < n → Numberable cells i ids at out
-    label-one h = ready-one (ready-after label-ready D (λ j. j ≡ i) (λ j l. omega arith) (λ j l. omega arith) (λ j l m. omega arith)) i refl
+    pub label_one : i < n → Numberable cells i ids at out
+    label_one h = ready_one (ready_after label_ready D (λ j. j ≡ i) (λ j l. omega arith) (λ j l. omega arith) (λ j l m. omega arith)) i refl
 
-    pub label-more : {ids' : ℕ} {at' out' : List ℕ} → Does (λ j. j ≡ i) cells 0 ids at out ids' at' out' → Does (λ j. j < i + 1) cells 0 0 at₀ out₀ ids' at' out'
-    label-more E = does_then D E (λ j. j < i + 1) (λ j l. omega arith) (λ j l. omega arith) (λ j l. elim (dec_lt j i) [ yes h ↦ inl h | no h ↦ inr (omega arith) ]) (λ j l m. omega arith)
+    pub label_more : {ids' : ℕ} {at' out' : List ℕ} → Does (λ j. j ≡ i) cells 0 ids at out ids' at' out' → Does (λ j. j < i + 1) cells 0 0 at₀ out₀ ids' at' out'
+    label_more E = does_then D E (λ j. j < i + 1) (λ j l. omega arith) (λ j l. omega arith) (λ j l. elim (dec_lt j i) [ yes h ↦ inl h | no h ↦ inr (omega arith) ]) (λ j l m. omega arith)
 
-  pub label-end : {ids : ℕ} {at out : List ℕ} → Does (λ j. j < n) cells 0 0 at₀ out₀ ids at out → Labels cells n ids (length at₀) at out
-  label-end {ids} {at} {out} D = record {
+  pub label_end : {ids : ℕ} {at out : List ℕ} → Does (λ j. j < n) cells 0 0 at₀ out₀ ids at out → Labels cells n ids (length at₀) at out
+  label_end {ids} {at} {out} D = record {
     room = omega (arith, L.room, D.out_long);
     bound = omega (arith, s.few, count_le (has out) n);
     few = λ j. elim (dec_lt 0 (get_or out j 0)) [ yes h ↦ omega (arith, (s.here j h refl).1, s.top (get_or cells j 0)) | no h ↦ omega arith ];
@@ -232,28 +232,28 @@ module _ {cells : List ℕ} {n : ℕ} {at₀ out₀ : List ℕ} (L : Labelling c
   }
     where
       s : Numbered (λ j. 0) cells n 0 0 ids at out
-      s = D.over (λ j. 0) n 0 label-opens (λ j h. (refl, h, L.out_blank j))
+      s = D.over (λ j. 0) n 0 label_opens (λ j h. (refl, h, L.out_blank j))
 
 module _ {ha na : List ℕ} {a b : ℕ} {hb nb : List ℕ} {p q : ℕ} {keys : List ℕ} {many : ℕ} {at₀ out₀ : List ℕ} where
-  pub passing-none : Passing ha na a b hb nb p q keys many at₀ out₀ 0 0 at₀ out₀
-  passing-none = record { within = omega arith; over = λ f g low T n C. turned_none C; at_long = refl; out_long = refl }
+  pub passing_none : Passing ha na a b hb nb p q keys many at₀ out₀ 0 0 at₀ out₀
+  passing_none = record { within = omega arith; over = λ f g low T n C. turned_none C; at_long = refl; out_long = refl }
 
   module _ {r ids : ℕ} {at out : List ℕ} (w : Passing ha na a b hb nb p q keys many at₀ out₀ r ids at out) where
-    pub passing-a : Passable ha na a b hb nb p q keys many at₀ out₀ → r < many → Walkable ha na r a b keys ids ids at out
-    passing-a P lt = turn-a P.course (w.over _ _ _ _ _ P.course) lt w.at_long w.out_long
+    pub passing_a : Passable ha na a b hb nb p q keys many at₀ out₀ → r < many → Walkable ha na r a b keys ids ids at out
+    passing_a P lt = turn_a P.course (w.over _ _ _ _ _ P.course) lt w.at_long w.out_long
 
-    pub passing-b : Passable ha na a b hb nb p q keys many at₀ out₀ → r < many → {ids₁ : ℕ} {at₁ out₁ : List ℕ} → Walks ha na r a b keys ids ids at out ids₁ at₁ out₁
+    pub passing_b : Passable ha na a b hb nb p q keys many at₀ out₀ → r < many → {ids₁ : ℕ} {at₁ out₁ : List ℕ} → Walks ha na r a b keys ids ids at out ids₁ at₁ out₁
         → Walkable hb nb r p q keys ids ids₁ at₁ out₁
-    passing-b P lt A = turn-b P.course (w.over _ _ _ _ _ P.course) lt A w.at_long w.out_long
+    passing_b P lt A = turn_b P.course (w.over _ _ _ _ _ P.course) lt A w.at_long w.out_long
 
-    pub passing-more : r < many → {ids₁ : ℕ} {at₁ out₁ : List ℕ} → Walks ha na r a b keys ids ids at out ids₁ at₁ out₁
+    pub passing_more : r < many → {ids₁ : ℕ} {at₁ out₁ : List ℕ} → Walks ha na r a b keys ids ids at out ids₁ at₁ out₁
         → {ids' : ℕ} {at' out' : List ℕ} → Walks hb nb r p q keys ids ids₁ at₁ out₁ ids' at' out' → Passing ha na a b hb nb p q keys many at₀ out₀ (r + 1) ids' at' out'
-    passing-more lt A B = record {
+    passing_more lt A B = record {
       within = omega arith;
       over = λ f g low T n C. turned_more C (w.over f g low T n C) lt A B;
       at_long = B.at_long ∙ A.at_long ∙ w.at_long;
       out_long = B.out_long ∙ A.out_long ∙ w.out_long;
     }
 
-    pub passing-end : many ≤ r → Passed ha na a b hb nb p q keys many at₀ out₀ ids out
-    passing-end h = let e : r ≡ many = omega (arith, w.within) in record { over = λ f g low T n C. turned-end C (rw e at (w.over f g low T n C)); out_long = w.out_long }
+    pub passing_end : many ≤ r → Passed ha na a b hb nb p q keys many at₀ out₀ ids out
+    passing_end h = let e : r ≡ many = omega (arith, w.within) in record { over = λ f g low T n C. turned_end C (rw e at (w.over f g low T n C)); out_long = w.out_long }

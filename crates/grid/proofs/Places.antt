@@ -10,29 +10,29 @@ use lib.ListN.{get_or, length}
 use borrow.Author.Tests.{eq-eqb, eqb-false, eqb-true, le-ltb, lt-ltb, ne_eqb}
 use Rattle.counting.specs.Search.{last}
 use Rattle.counting.specs.work.Tables.{Table}
-use Rattle.counting.proofs.Search.{last-above, last-is, last_le}
+use Rattle.counting.proofs.Search.{last_above, last_is, last_le}
 use Rattle.grid.specs.work.Numbered.{Does, Numberable, Ready}
 use Rattle.grid.specs.work.Walks.{Along, InSlots, Linked, Walkable, Walks, labelled}
-use Rattle.grid.proofs.Turns.{does_as, does_none, does_then, ready-after, ready-one}
+use Rattle.grid.proofs.Turns.{does_as, does_none, does_then, ready_after, ready_one}
 
 pub slot_in : (c a b s : ℕ) → a ≤ s → s < b → b ≤ 4 → InSlots c a b (4 * c + s)
 slot_in c a b s h l m = record { cell = omega arith; low = omega arith; high = omega arith }
 
 -- the loop of `numbers`
 module _ {keys : List ℕ} {base ids₀ : ℕ} {at₀ out₀ : List ℕ} (c a b : ℕ) (four : b ≤ 4) where
-  pub slots-none : Does (InSlots c a a) keys base ids₀ at₀ out₀ ids₀ at₀ out₀
-  slots-none = does_none _ keys base ids₀ at₀ out₀ (λ j p. omega (arith, p.low, p.high))
+  pub slots_none : Does (InSlots c a a) keys base ids₀ at₀ out₀ ids₀ at₀ out₀
+  slots_none = does_none _ keys base ids₀ at₀ out₀ (λ j p. omega (arith, p.low, p.high))
 
   module _ {s ids : ℕ} {at out : List ℕ} (h : a ≤ s) (l : s < b) (D : Does (InSlots c a s) keys base ids₀ at₀ out₀ ids at out) where
-    pub slots-ready : Ready (InSlots c a b) keys base ids₀ at₀ out₀ → Numberable keys (4 * c + s) ids at out
-    slots-ready A = ready-one (ready-after A D (λ j. j ≡ 4 * c + s)
+    pub slots_ready : Ready (InSlots c a b) keys base ids₀ at₀ out₀ → Numberable keys (4 * c + s) ids at out
+    slots_ready A = ready_one (ready_after A D (λ j. j ≡ 4 * c + s)
         (λ j p. record { cell = p.cell; low = p.low; high = omega (arith, p.high) })
         (λ j p. rw p (slot_in c a b s h l four))
         (λ j p q. omega (arith, p.high, q))) (4 * c + s) refl
 
-    pub slots-more : {ids' : ℕ} {at' out' : List ℕ} → Does (λ j. j ≡ 4 * c + s) keys base ids at out ids' at' out'
+    pub slots_more : {ids' : ℕ} {at' out' : List ℕ} → Does (λ j. j ≡ 4 * c + s) keys base ids at out ids' at' out'
         → Does (InSlots c a (s + 1)) keys base ids₀ at₀ out₀ ids' at' out'
-    slots-more E = does_then D E (InSlots c a (s + 1))
+    slots_more E = does_then D E (InSlots c a (s + 1))
         (λ j p. record { cell = p.cell; low = p.low; high = omega (arith, p.high) })
         (λ j p. rw p (slot_in c a (s + 1) s h (omega arith) (omega arith)))
         (λ j p. elim (dec_lt (j % 4) s) [ yes q ↦ inl (record { cell = p.cell; low = p.low; high = q }) | no q ↦ inr (omega (arith, p.cell, p.high)) ])
@@ -54,13 +54,13 @@ module _ (f : ℕ → ℕ) (r m x : ℕ) (e : x ≡ last (labelled f r) m) where
   pub entry_le : x ≤ m
   entry_le = rw e (last_le (labelled f r) m)
 
-  pub entry-is : 0 < x → f (x - 1) ≡ r
+  pub entry_is : 0 < x → f (x - 1) ≡ r
   unfolding labelled
-  entry-is h = eqb-true (f (x - 1)) r (rw e (last-is (labelled f r) m (omega (arith, e))))
+  entry_is h = eqb-true (f (x - 1)) r (rw e (last_is (labelled f r) m (omega (arith, e))))
 
-  pub entry-above : (y : ℕ) → x ≤ y → y < m → f y ≡ r → ⊥
+  pub entry_above : (y : ℕ) → x ≤ y → y < m → f y ≡ r → ⊥
   unfolding labelled
-  entry-above y h l = eqb-false (f y) r (last-above (labelled f r) m y (omega (arith, e)) l)
+  entry_above y h l = eqb-false (f y) r (last_above (labelled f r) m y (omega (arith, e)) l)
 
 module _ {head next : List ℕ} {r a b : ℕ} {keys : List ℕ} {base ids₀ : ℕ} {at₀ out₀ : List ℕ} where
   pub walking_start : (x : ℕ) → x ≡ get_or head r 0 → Walking head next r a b keys base ids₀ at₀ out₀ ids₀ at₀ out₀ x
@@ -69,8 +69,8 @@ module _ {head next : List ℕ} {r a b : ℕ} {keys : List ℕ} {base ids₀ : �
         let q : x ≡ last (labelled f r) n = e ∙ L.heads.at r h in
         record {
           within = entry_le f r n x q;
-          hit = entry-is f r n x q;
-          does = does_none _ keys base ids₀ at₀ out₀ (λ j p. entry-above f r n x q (j / 4) p.from p.to p.label);
+          hit = entry_is f r n x q;
+          does = does_none _ keys base ids₀ at₀ out₀ (λ j p. entry_above f r n x q (j / 4) p.from p.to p.label);
         };
     at_long = refl;
     out_long = refl;
@@ -80,7 +80,7 @@ module _ {head next : List ℕ} {r a b : ℕ} {keys : List ℕ} {base ids₀ : �
     pub walking_ready : Walkable head next r a b keys base ids₀ at₀ out₀ → Ready (InSlots (j - 1) a b) keys base ids at out
     walking_ready A =
         let s = w.over A.f A.T A.n A.linked A.within in
-        ready-after A.ready s.does (InSlots (j - 1) a b)
+        ready_after A.ready s.does (InSlots (j - 1) a b)
         (λ x p. record { label = p.label; from = omega arith; to = p.to; low = p.low; high = p.high })
         (λ x p. record { label = ap A.f p.cell ∙ s.hit pos; from = omega arith; to = omega (arith, p.cell, s.within); low = p.low; high = p.high })
         (λ x p q. omega (arith, p.from, q.cell))
@@ -94,13 +94,13 @@ module _ {head next : List ℕ} {r a b : ℕ} {keys : List ℕ} {base ids₀ : �
           let xl = entry_le f r (j - 1) x q in
           record {
             within = omega (arith, s.within);
-            hit = entry-is f r (j - 1) x q;
+            hit = entry_is f r (j - 1) x q;
             does = does_then s.does E (Along f r x n a b)
                 (λ y p. record { label = p.label; from = omega (arith, p.from); to = p.to; low = p.low; high = p.high })
                 (λ y p. record { label = ap f p.cell ∙ s.hit pos; from = omega (arith, p.cell); to = omega (arith, p.cell, s.within); low = p.low; high = p.high })
                 (λ y p. elim (dec_lt (y / 4) j) [
                   | yes l ↦ elim (dec_lt (y / 4) (j - 1)) [
-                    | yes m ↦ absurd (entry-above f r (j - 1) x q (y / 4) p.from m p.label)
+                    | yes m ↦ absurd (entry_above f r (j - 1) x q (y / 4) p.from m p.label)
                     | no m ↦ inr (record { cell = omega arith; low = p.low; high = p.high })
                   ]
                   | no l ↦ inl (record { label = p.label; from = omega arith; to = p.to; low = p.low; high = p.high })

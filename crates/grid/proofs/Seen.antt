@@ -8,7 +8,7 @@ use lib.ListN.{get_or, length, length-set, set, get_or-eq_default}
 use lib.Seq.{get_or-set_other, get_or-set_same}
 use borrow.Author.Tests.{eq-eqb, ne_eqb}
 use Rattle.counting.specs.Search.{last}
-use Rattle.counting.proofs.Search.{last-hit, last_miss, last_none}
+use Rattle.counting.proofs.Search.{last_hit, last_miss, last_none}
 use Rattle.grid.specs.work.Walks.{labelled}
 use Rattle.grid.specs.work.Seen.{Seen}
 
@@ -19,7 +19,7 @@ pub seen_more : (f : ℕ → ℕ) {j : ℕ} {seen : List ℕ} → Seen f j seen 
 unfolding labelled
 seen_more f {j} {seen} w key e l = record {
   at = λ k h. elim (ℕ_discrete k key) [
-    | yes q ↦ rw (q, get_or-set_same seen key (j + 1) 0 l) (sym (last-hit (labelled f key) j (eq-eqb (f j) key (sym e))))
+    | yes q ↦ rw (q, get_or-set_same seen key (j + 1) 0 l) (sym (last_hit (labelled f key) j (eq-eqb (f j) key (sym e))))
     | no q ↦ get_or-set_other seen key k (j + 1) 0 q ∙ w.at k (omega (arith, length-set seen key (j + 1))) ∙ sym (last_miss (labelled f k) j (ne_eqb (f j) k (λ z. q (sym (e ∙ z)))))
   ];
 }

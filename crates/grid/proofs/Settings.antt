@@ -10,7 +10,7 @@ use lib.ListN.{get_or, length, length-set, set}
 use lib.Seq.{get_or-set_other, get_or-set_same}
 use borrow.Author.Tests.{le-leb, le-ltb, leb-false, lt-leb, lt-ltb, ltb-false}
 use Rattle.answer.specs.Answer.{is_result, refusal, result_of}
-use Rattle.answer.proofs.Answer.{no-nil, pick_some}
+use Rattle.answer.proofs.Answer.{no_nil, pick_some}
 use Rattle.counting.specs.Pick.{pick}
 use Rattle.counting.specs.Stored.{filled}
 use Rattle.counting.proofs.Bools.{clash}
@@ -25,12 +25,12 @@ use Rattle.grid.specs.Setting.{change_answer, set_answer, set_counts, set_starts
 use Rattle.grid.specs.work.Work.{Changeable, Changed, Starting}
 use Rattle.grid.specs.declared.Checked.{Checked}
 use Rattle.grid.specs.declared.Checked.TheVariants.{Crossings, Refused}
-use Rattle.grid.proofs.Accepts.{acceptance_yields, accepted-answer}
-use Rattle.grid.proofs.Claims.{accepted-is, never-empty, told}
-use Rattle.grid.proofs.Crossings.{start-kept, start_mono, start-next, start-set}
-use Rattle.grid.proofs.Filled.{refused-keeps, told-accepts, told-sound}
-use Rattle.grid.proofs.Openings.{opens-built}
-use Rattle.grid.proofs.Starts.{built-is, filled-starts, starts-at, starts-long}
+use Rattle.grid.proofs.Accepts.{acceptance_yields, accepted_answer}
+use Rattle.grid.proofs.Claims.{accepted_is, never_empty, told}
+use Rattle.grid.proofs.Crossings.{start_kept, start_mono, start_next, start_set}
+use Rattle.grid.proofs.Filled.{refused_keeps, told_accepts, told_sound}
+use Rattle.grid.proofs.Openings.{opens_built}
+use Rattle.grid.proofs.Starts.{built_is, filled_starts, starts_at, starts_long}
 
 -- the counts are replaced by others, as many, within the limit and not too many together
 module _ (G : Grid) (A : Accepted G) (counts : List ℕ) (long : length counts ≡ length G.counts)
@@ -41,41 +41,41 @@ module _ (G : Grid) (A : Accepted G) (counts : List ℕ) (long : length counts �
   S : Sound G
   S = A.sound
 
-  old-lt : (e : ℕ) → e < length counts → e < length G.counts
-  old-lt e h = omega (arith, long)
+  old_lt : (e : ℕ) → e < length counts → e < length G.counts
+  old_lt e h = omega (arith, long)
 
   here : (c k e : ℕ) → EdgeIs G c k e → EdgeIs new c k e
-  here c k e i = record { low-is = i.low-is; high_is = i.high_is }
+  here c k e i = record { low_is = i.low_is; high_is = i.high_is }
 
   there : (c k e : ℕ) → EdgeIs new c k e → EdgeIs G c k e
-  there c k e i = record { low-is = i.low-is; high_is = i.high_is }
+  there c k e i = record { low_is = i.low_is; high_is = i.high_is }
 
-  new-sound : Sound new
-  new-sound = record {
+  new_sound : Sound new
+  new_sound = record {
     fours = S.fours;
-    some-cell = S.some-cell;
-    few-cells = S.few-cells;
+    some_cell = S.some_cell;
+    few_cells = S.few_cells;
     pairs = omega (arith, S.pairs, long);
-    starts-long = starts-long counts;
-    starts_are = starts-at counts;
+    starts_long = starts_long counts;
+    starts_are = starts_at counts;
     within = S.within;
     increasing = S.increasing;
     distinct = S.distinct;
     third = S.third;
-    ends = λ e h. S.ends e (old-lt e h);
-    sorted = λ d e l h. S.sorted d e l (old-lt e h);
-    counts-within = within;
+    ends = λ e h. S.ends e (old_lt e h);
+    sorted = λ d e l h. S.sorted d e l (old_lt e h);
+    counts_within = within;
     listed = λ c k h l. let w = S.listed c k h l in (w.0, omega (arith, w.1, long), here c k w.0 w.2);
-    used = λ e h. let w = S.used e (old-lt e h) in (w.0, w.1, w.2, w.3, here w.0 w.1 e w.4);
-    few-crossings = few;
+    used = λ e h. let w = S.used e (old_lt e h) in (w.0, w.1, w.2, w.3, here w.0 w.1 e w.4);
+    few_crossings = few;
   }
 
-  new-linked : Linked new
-  new-linked e h Q step a b k l la lb lk ll i j =
-      A.linked e (old-lt e h) Q (λ a b r s j la lb lr ls lj f i. step a b r s j la lb lr ls lj f (here a _ e i)) a b k l la lb lk ll (there a k e i) (there b l e j)
+  new_linked : Linked new
+  new_linked e h Q step a b k l la lb lk ll i j =
+      A.linked e (old_lt e h) Q (λ a b r s j la lb lr ls lj f i. step a b r s j la lb lr ls lj f (here a _ e i)) a b k l la lb lk ll (there a k e i) (there b l e j)
 
-  pub accepted-again : Accepted new
-  accepted-again = record { sound = new-sound; linked = new-linked }
+  pub accepted_again : Accepted new
+  accepted_again = record { sound = new_sound; linked = new_linked }
 
 -- what a count that is set meets
 pub record Settable (counts : List ℕ) (edge count : ℕ) : Type 0 where
@@ -119,22 +119,22 @@ module _ (counts : List ℕ) (edge count : ℕ) where
       }
 
   -- the limit of the counts
-  pub changed-within : edge < length counts → count ≤ most_count → ((e : ℕ) → e < length counts → count_of counts e ≤ most_count)
+  pub changed_within : edge < length counts → count ≤ most_count → ((e : ℕ) → e < length counts → count_of counts e ≤ most_count)
       → (e : ℕ) → e < length changed → count_of changed e ≤ most_count
-  changed-within h l w e k = elim (ℕ_discrete e edge) [
+  changed_within h l w e k = elim (ℕ_discrete e edge) [
     | yes q ↦ rw q (omega (arith, get_or-set_same counts edge count 0 h))
     | no q ↦ omega (arith, get_or-set_other counts edge e count 0 q, w e (omega (arith, length-set counts edge count)))
   ]
 
   -- the number of crossings
-  pub crossings-set : edge < length counts → crossings changed + count_of counts edge ≡ crossings counts + count
-  crossings-set h = rw (length-set counts edge count) (start-set counts edge count h (length counts) h)
+  pub crossings_set : edge < length counts → crossings changed + count_of counts edge ≡ crossings counts + count
+  crossings_set h = rw (length-set counts edge count) (start_set counts edge count h (length counts) h)
 
-  pub count-below : edge < length counts → count_of counts edge ≤ crossings counts
-  count-below h = omega (arith, start-next counts edge, start_mono counts (edge + 1) (length counts) (omega arith))
+  pub count_below : edge < length counts → count_of counts edge ≤ crossings counts
+  count_below h = omega (arith, start_next counts edge, start_mono counts (edge + 1) (length counts) (omega arith))
 
   pub change_total : (n : ℕ) → edge < length counts → n ≡ crossings counts → n - count_of counts edge + count ≡ crossings changed
-  change_total n h e = omega (arith, crossings-set h, count-below h)
+  change_total n h e = omega (arith, crossings_set h, count_below h)
 
   -- what the writer of the starts is given
   module _ (starts : List ℕ) (n : ℕ) (C : Changeable counts starts n) (s : Settable counts edge count) where
@@ -143,41 +143,41 @@ module _ (counts : List ℕ) (edge count : ℕ) where
       room = omega (arith, length-set counts edge count, C.long);
       few = s.few;
       within = omega (arith, length-set counts edge count, s.listed);
-      own = C.starts_are edge s.listed ∙ sym (start-kept counts edge count edge (omega arith));
-      before = λ e h. C.starts_are e (omega (arith, s.listed)) ∙ sym (start-kept counts edge count e (omega arith));
+      own = C.starts_are edge s.listed ∙ sym (start_kept counts edge count edge (omega arith));
+      before = λ e h. C.starts_are e (omega (arith, s.listed)) ∙ sym (start_kept counts edge count e (omega arith));
     }
 
     pub change_written : filled (start changed) (length changed) starts ≡ starts_of changed
-    change_written = filled-starts changed starts (omega (arith, length-set counts edge count, C.long))
+    change_written = filled_starts changed starts (omega (arith, length-set counts edge count, C.long))
 
 module _ (G : Grid) (edge count : ℕ) where
-  pub set-some : [] ≡ set_answer G edge count → ⊥
+  pub set_some : [] ≡ set_answer G edge count → ⊥
   unfolding set_answer change_answer
-  set-some =
+  set_some =
       pick_some (accepts G) _ (grid_answer G)
-      (pick_some (leb (length G.counts) edge) _ _ no-nil
-      (pick_some (ltb most_count count) _ _ no-nil (pick_some (too_many (set G.counts edge count)) _ _ no-nil no-nil)))
-      (never-empty G)
+      (pick_some (leb (length G.counts) edge) _ _ no_nil
+      (pick_some (ltb most_count count) _ _ no_nil (pick_some (too_many (set G.counts edge count)) _ _ no_nil no_nil)))
+      (never_empty G)
 
-  pub set-accepted : accepts G ≡ true → set_answer G edge count ≡ change_answer G.counts edge count
+  pub set_accepted : accepts G ≡ true → set_answer G edge count ≡ change_answer G.counts edge count
   unfolding set_answer
-  set-accepted a = rw a
+  set_accepted a = rw a
 
   -- what the call leaves
   module _ (r : Checked) (q : check_numbers r ≡ grid_answer G) where
-    pub set-refused : (row place : ℕ) → r ≡ Refused row place
+    pub set_refused : (row place : ℕ) → r ≡ Refused row place
         → (check_numbers (Refused row place) ≡ set_answer G edge count) × (G.counts ≡ set_counts G edge count) × (G.starts ≡ set_starts G edge count)
     unfolding set_answer set_counts set_starts
-    set-refused row place e =
+    set_refused row place e =
         let h : check_numbers (Refused row place) ≡ grid_answer G = ap check_numbers (sym e) ∙ q in
-        let k = refused-keeps G row place h in
+        let k = refused_keeps G row place h in
         (rw k h, rw (k, k), rw (k, k))
 
-    pub set-done : (n : ℕ) → r ≡ Crossings n → (counts starts answer : List ℕ) → Changed G.counts G.starts edge count counts starts answer
+    pub set_done : (n : ℕ) → r ≡ Crossings n → (counts starts answer : List ℕ) → Changed G.counts G.starts edge count counts starts answer
         → (answer ≡ set_answer G edge count) × (counts ≡ set_counts G edge count) × (starts ≡ set_starts G edge count)
     unfolding set_counts set_starts
-    set-done n e counts starts answer C =
-        let a = C.answered ∙ sym (set-accepted (told-accepts G r n e q)) in (
+    set_done n e counts starts answer C =
+        let a = C.answered ∙ sym (set_accepted (told_accepts G r n e q)) in (
           a,
           C.counts_are ∙ ap (λ x. pick (is_result x) (set G.counts edge count) G.counts) a,
           C.starts_are ∙ ap (λ x. pick (is_result x) (starts_of (set G.counts edge count)) G.starts) a,
@@ -186,56 +186,56 @@ module _ (G : Grid) (edge count : ℕ) where
 -- what the change starts from
 pub set_changeable : (G : Grid) (r : Checked) → check_numbers r ≡ grid_answer G → (n : ℕ) → r ≡ Crossings n → Changeable G.counts G.starts n
 set_changeable G r q n e =
-    let S = told-sound G r n e q in
-    let h = sym (accepted-is G (told-accepts G r n e q)) ∙ sym q ∙ ap check_numbers e in
+    let S = told_sound G r n e q in
+    let h = sym (accepted_is G (told_accepts G r n e q)) ∙ sym q ∙ ap check_numbers e in
     record {
-      long = S.starts-long;
+      long = S.starts_long;
       starts_are = S.starts_are;
-      few = S.few-crossings;
+      few = S.few_crossings;
       all = sym (ap (λ (l : List ℕ). get_or l 1 0) h);
     }
 
 pub set_told : SetTold
-set_told G edge count = told (set_answer G edge count) (set-some G edge count)
+set_told G edge count = told (set_answer G edge count) (set_some G edge count)
 
 -- what settings keep of an accepted grid
 record Kept (G H : Grid) : Type 1 where
   is : Accepted H
   cells_same : H.cells ≡ G.cells
-  edges-same : H.edges ≡ G.edges
-  many-same : length H.counts ≡ length G.counts
+  edges_same : H.edges ≡ G.edges
+  many_same : length H.counts ≡ length G.counts
 
-accepts-again : (G : Grid) → Accepted G → accepts G ≡ true
-accepts-again G A = ap is_result (accepted-answer G A)
+accepts_again : (G : Grid) → Accepted G → accepts G ≡ true
+accepts_again G A = ap is_result (accepted_answer G A)
 
-set-kept : (G : Grid) → Accepted G → (edge count : ℕ) → Kept G (set_grid G edge count)
+set_kept : (G : Grid) → Accepted G → (edge count : ℕ) → Kept G (set_grid G edge count)
 unfolding set_grid set_counts set_starts
-set-kept G A edge count = go (is_result (set_answer G edge count)) refl
+set_kept G A edge count = go (is_result (set_answer G edge count)) refl
   where
     go : (b : Bool) → is_result (set_answer G edge count) ≡ b
         → Kept G (grid_of G.cells G.edges (pick b (set G.counts edge count) G.counts) (pick b (starts_of (set G.counts edge count)) G.starts))
-    go false q = record { is = A; cells_same = refl; edges-same = refl; many-same = refl }
+    go false q = record { is = A; cells_same = refl; edges_same = refl; many_same = refl }
     go true q =
-        let s = settable G.counts edge count (ap is_result (sym (set-accepted G edge count (accepts-again G A))) ∙ q) in
+        let s = settable G.counts edge count (ap is_result (sym (set_accepted G edge count (accepts_again G A))) ∙ q) in
         let long = length-set G.counts edge count in
         record {
-          is = accepted-again G A (set G.counts edge count) long (changed-within G.counts edge count s.listed s.within A.sound.counts-within) s.few;
+          is = accepted_again G A (set G.counts edge count) long (changed_within G.counts edge count s.listed s.within A.sound.counts_within) s.few;
           cells_same = refl;
-          edges-same = refl;
-          many-same = long;
+          edges_same = refl;
+          many_same = long;
         }
 
 set_all_kept : (l : List Setting) (G : Grid) → Accepted G → Kept G (set_all l G)
 unfolding set_all
-set_all_kept [] G A = record { is = A; cells_same = refl; edges-same = refl; many-same = refl }
+set_all_kept [] G A = record { is = A; cells_same = refl; edges_same = refl; many_same = refl }
 set_all_kept (s ∷ l) G A =
-    let K = set-kept G A s.edge s.count in
+    let K = set_kept G A s.edge s.count in
     let L = set_all_kept l (set_grid G s.edge s.count) K.is in
     record {
       is = L.is;
       cells_same = L.cells_same ∙ K.cells_same;
-      edges-same = L.edges-same ∙ K.edges-same;
-      many-same = L.many-same ∙ K.many-same;
+      edges_same = L.edges_same ∙ K.edges_same;
+      many_same = L.many_same ∙ K.many_same;
     }
 
 pub settings_right : SettingsRight
@@ -244,13 +244,13 @@ settings_right G values q l =
     let K = set_all_kept l G (acceptance_yields G values q) in
     let H = set_all l G in
     let S = K.is.sound in
-    let a = accepted-answer H K.is in
-    let f = built-is H S.starts-long S.starts_are ∙ ap₂ (λ x y. built x y H.counts) K.cells_same K.edges-same in
+    let a = accepted_answer H K.is in
+    let f = built_is H S.starts_long S.starts_are ∙ ap₂ (λ x y. built x y H.counts) K.cells_same K.edges_same in
     record {
-      many-same = K.many-same;
-      starts-long = S.starts-long;
+      many_same = K.many_same;
+      starts_long = S.starts_long;
       starts_are = S.starts_are;
       accepted = a;
       fresh = f;
-      reopened = λ starts e. f ∙ ap (grid_of G.cells G.edges H.counts) (sym ((opens-built G.cells G.edges H.counts starts e).1 _ (ap grid_answer (sym f) ∙ a)));
+      reopened = λ starts e. f ∙ ap (grid_of G.cells G.edges H.counts) (sym ((opens_built G.cells G.edges H.counts starts e).1 _ (ap grid_answer (sym f) ∙ a)));
     }

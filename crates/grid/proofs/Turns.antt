@@ -46,16 +46,16 @@ module _ {low : ℕ → ℕ} {keys : List ℕ} {N turn base ids : ℕ} {at out :
     unfolding O
     at_j j ne = get_or-set_other out i j q 0 ne
 
-    is-i : (j : ℕ) → (j ≡ i) ⊎ (j ≢ i)
-    is-i j = elim (ℕ_discrete j i) [ yes f ↦ inl f | no f ↦ inr f ]
+    is_i : (j : ℕ) → (j ≡ i) ⊎ (j ≢ i)
+    is_i j = elim (ℕ_discrete j i) [ yes f ↦ inl f | no f ↦ inr f ]
 
-    is-K : (k : ℕ) → (k ≡ K) ⊎ (k ≢ K)
-    is-K k = elim (ℕ_discrete k K) [ yes f ↦ inl f | no f ↦ inr f ]
+    is_k : (k : ℕ) → (k ≡ K) ⊎ (k ≢ K)
+    is_k k = elim (ℕ_discrete k K) [ yes f ↦ inl f | no f ↦ inr f ]
 
     -- an item of before whose number is q has i's node and key
     met : (j : ℕ) → Has out j → get_or out j 0 ≡ q → (low j ≡ low i) × (get_or keys j 0 ≡ K)
     met j h e = elim (ℕ_discrete (low j) turn) [
-      | yes t ↦ (t ∙ sym mine, ⊎_elim (λ f. f) (λ (ne : get_or keys j 0 ≢ K). absurd (new _ ne ((w.here j h t).1 ∙ e))) (is-K (get_or keys j 0)))
+      | yes t ↦ (t ∙ sym mine, ⊎_elim (λ f. f) (λ (ne : get_or keys j 0 ≢ K). absurd (new _ ne ((w.here j h t).1 ∙ e))) (is_k (get_or keys j 0)))
       | no t ↦ absurd (omega (arith, w.old j h t))
     ]
 
@@ -73,34 +73,34 @@ module _ {low : ℕ → ℕ} {keys : List ℕ} {N turn base ids : ℕ} {at out :
     unfolding has O
     counted = count_one_more (has out) (has O) i (rw fresh refl) (rw at_i (lt-ltb 0 q (omega arith))) (λ j ne. rw (at_j j ne) refl) N lt
 
-    state-more : Numbered low keys N turn base ids' at' (set out i q)
+    state_more : Numbered low keys N turn base ids' at' (set out i q)
     unfolding O K
-    state-more = record {
+    state_more = record {
       told = record {
         lows = λ a b ha hb e. both (λ a b. low a ≡ low b) (λ a. refl) (λ b h f. sym (met b h (sym f)).0) (λ a h f. (met a h f).0) w.told.lows a b ha hb e;
         keys_are = λ a b ha hb e. both (λ a b. get_or keys a 0 ≡ get_or keys b 0) (λ a. refl) (λ b h f. sym (met b h (sym f)).1) (λ a h f. (met a h f).1) w.told.keys_are a b ha hb e;
         same = λ a b ha hb e f. ⊎_elim
             (λ (x : a ≡ i). ⊎_elim
             (λ (y : b ≡ i). rw (x, y) refl)
-            (λ (y : b ≢ i). rw x (at_i ∙ sym (at_j b y ∙ meet b (before b y hb) (sym (rw x at e)) (sym (rw x at f))))) (is-i b))
+            (λ (y : b ≢ i). rw x (at_i ∙ sym (at_j b y ∙ meet b (before b y hb) (sym (rw x at e)) (sym (rw x at f))))) (is_i b))
             (λ (x : a ≢ i). ⊎_elim
             (λ (y : b ≡ i). rw y (at_j a x ∙ meet a (before a x ha) (rw y at e) (rw y at f) ∙ sym at_i))
-            (λ (y : b ≢ i). at_j a x ∙ w.told.same a b (before a x ha) (before b y hb) e f ∙ sym (at_j b y)) (is-i b)) (is-i a);
+            (λ (y : b ≢ i). at_j a x ∙ w.told.same a b (before a x ha) (before b y hb) e f ∙ sym (at_j b y)) (is_i b)) (is_i a);
       };
       few = omega (arith, w.few, counted);
       based = omega (arith, w.based);
-      top = λ k. ⊎_elim (λ (f : k ≡ K). rw f (omega (arith, own))) (λ (f : k ≢ K). omega (arith, others k f, w.top k)) (is-K k);
+      top = λ k. ⊎_elim (λ (f : k ≡ K). rw f (omega (arith, own))) (λ (f : k ≢ K). omega (arith, others k f, w.top k)) (is_k k);
       once = λ k l h e. ⊎_elim
-          (λ (f : k ≡ K). ⊎_elim (λ (g : l ≡ K). f ∙ sym g) (λ (g : l ≢ K). absurd (new l g (sym (others l g) ∙ sym e ∙ ap (λ (x : ℕ). get_or at' x 0) f ∙ own))) (is-K l))
+          (λ (f : k ≡ K). ⊎_elim (λ (g : l ≡ K). f ∙ sym g) (λ (g : l ≢ K). absurd (new l g (sym (others l g) ∙ sym e ∙ ap (λ (x : ℕ). get_or at' x 0) f ∙ own))) (is_k l))
           (λ (f : k ≢ K). ⊎_elim (λ (g : l ≡ K). absurd (new k f (sym (others k f) ∙ e ∙ ap (λ (x : ℕ). get_or at' x 0) g ∙ own)))
-          (λ (g : l ≢ K). w.once k l (rw (others k f) at h) (sym (others k f) ∙ e ∙ others l g)) (is-K l))
-          (is-K k);
+          (λ (g : l ≢ K). w.once k l (rw (others k f) at h) (sym (others k f) ∙ e ∙ others l g)) (is_k l))
+          (is_k k);
       here = λ j h t. ⊎_elim
           (λ (f : j ≡ i). rw f (omega (arith, at_i), own ∙ sym at_i))
           (λ (f : j ≢ i).
           let g = w.here j (before j f h) t in
-          (omega (arith, g.0, at_j j f), still j (before j f h) t ∙ sym (at_j j f))) (is-i j);
-      old = λ j h t. ⊎_elim (λ (f : j ≡ i). absurd (t (ap low f ∙ mine))) (λ (f : j ≢ i). omega (arith, at_j j f, w.old j (before j f h) t)) (is-i j);
+          (omega (arith, g.0, at_j j f), still j (before j f h) t ∙ sym (at_j j f))) (is_i j);
+      old = λ j h t. ⊎_elim (λ (f : j ≡ i). absurd (t (ap low f ∙ mine))) (λ (f : j ≢ i). omega (arith, at_j j f, w.old j (before j f h) t)) (is_i j);
     }
       where
         both : (R : ℕ → ℕ → Type 0) → ((a : ℕ) → R a a) → ((b : ℕ) → Has out b → q ≡ get_or out b 0 → R i b) → ((a : ℕ) → Has out a → get_or out a 0 ≡ q → R a i)
@@ -108,35 +108,35 @@ module _ {low : ℕ → ℕ} {keys : List ℕ} {N turn base ids : ℕ} {at out :
         both R r x y z a b ha hb e = ⊎_elim
             (λ (f : a ≡ i). ⊎_elim
             (λ (g : b ≡ i). rw (f, g) (r i))
-            (λ (g : b ≢ i). rw f (x b (before b g hb) (sym at_i ∙ ap (λ (x : ℕ). get_or O x 0) (sym f) ∙ e ∙ at_j b g))) (is-i b))
+            (λ (g : b ≢ i). rw f (x b (before b g hb) (sym at_i ∙ ap (λ (x : ℕ). get_or O x 0) (sym f) ∙ e ∙ at_j b g))) (is_i b))
             (λ (f : a ≢ i). ⊎_elim
             (λ (g : b ≡ i). rw g (y a (before a f ha) (sym (at_j a f) ∙ e ∙ ap (λ (x : ℕ). get_or O x 0) g ∙ at_i)))
-            (λ (g : b ≢ i). z a b (before a f ha) (before b g hb) (sym (at_j a f) ∙ e ∙ at_j b g)) (is-i b))
-            (is-i a)
+            (λ (g : b ≢ i). z a b (before a f ha) (before b g hb) (sym (at_j a f) ∙ e ∙ at_j b g)) (is_i b))
+            (is_i a)
 
         still : (j : ℕ) → Has out j → low j ≡ turn → get_or at' (get_or keys j 0) 0 ≡ get_or out j 0
         still j h t = let g = w.here j h t in ⊎_elim
             (λ (f : get_or keys j 0 ≡ K). rw f (own ∙ sym (meet j h (t ∙ sym mine) f)))
-            (λ (f : get_or keys j 0 ≢ K). others _ f ∙ g.1) (is-K (get_or keys j 0))
+            (λ (f : get_or keys j 0 ≢ K). others _ f ∙ g.1) (is_k (get_or keys j 0))
 
   -- `number` meets its key for the first time in this turn
-  state-new : get_or at K 0 ≤ base → Numbered low keys N turn base (ids + 1) (set at (get_or keys i 0) (ids + 1)) (set out i (ids + 1))
+  state_new : get_or at K 0 ≤ base → Numbered low keys N turn base (ids + 1) (set at (get_or keys i 0) (ids + 1)) (set out i (ids + 1))
   unfolding K
-  state-new h = state-more (ids + 1) (ids + 1) (set at K (ids + 1)) (omega (arith, w.based)) (omega arith) (omega arith) (omega arith)
+  state_new h = state_more (ids + 1) (ids + 1) (set at K (ids + 1)) (omega (arith, w.based)) (omega arith) (omega arith) (omega arith)
       (get_or-set_same at K (ids + 1) 0 ready.known) (λ k ne. get_or-set_other at K k (ids + 1) 0 ne)
       (λ k ne e. omega (arith, w.top k, e)) (λ g. absurd (omega arith))
 
   -- or again
-  state-again : base < get_or at K 0 → Numbered low keys N turn base ids at (set out i (get_or at (get_or keys i 0) 0))
+  state_again : base < get_or at K 0 → Numbered low keys N turn base ids at (set out i (get_or at (get_or keys i 0) 0))
   unfolding K
-  state-again h = state-more (get_or at K 0) ids at h (w.top K) (omega arith) (omega arith) refl (λ k ne. refl)
+  state_again h = state_more (get_or at K 0) ids at h (w.top K) (omega arith) (omega arith) refl (λ k ne. refl)
       (λ k ne e. ne (sym (w.once K k h (sym e)))) (λ g. refl)
 
 -- `number`: by the two branches
 module _ (base ids q : ℕ) where
-  pub again-number : base < q → number_of base ids q ≡ q
+  pub again_number : base < q → number_of base ids q ≡ q
   unfolding number_of
-  again-number h = rw (lt-ltb base q h)
+  again_number h = rw (lt-ltb base q h)
 
   pub again_ids : base < q → ids_after base ids q ≡ ids
   unfolding ids_after
@@ -146,23 +146,23 @@ module _ (base ids q : ℕ) where
   unfolding at_after
   again-at at k h = rw (lt-ltb base q h)
 
-  pub new-number : q ≤ base → number_of base ids q ≡ ids + 1
+  pub new_number : q ≤ base → number_of base ids q ≡ ids + 1
   unfolding number_of
-  new-number h = rw (le-ltb base q h)
+  new_number h = rw (le-ltb base q h)
 
   pub new_ids : q ≤ base → ids_after base ids q ≡ ids + 1
   unfolding ids_after
   new_ids h = rw (le-ltb base q h)
 
-  pub new-at : (at : List ℕ) (k : ℕ) → q ≤ base → at_after base ids q at k ≡ set at k (ids + 1)
+  pub new_at : (at : List ℕ) (k : ℕ) → q ≤ base → at_after base ids q at k ≡ set at k (ids + 1)
   unfolding at_after
-  new-at at k h = rw (le-ltb base q h)
+  new_at at k h = rw (le-ltb base q h)
 
-set-only : (out : List ℕ) (i v j : ℕ) → Has (set out i v) j → Has out j ⊎ (j ≡ i)
-set-only out i v j h = elim (ℕ_discrete j i) [ yes f ↦ inr f | no f ↦ inl (rw (get_or-set_other out i j v 0 f) at h) ]
+set_only : (out : List ℕ) (i v j : ℕ) → Has (set out i v) j → Has out j ⊎ (j ≡ i)
+set_only out i v j h = elim (ℕ_discrete j i) [ yes f ↦ inr f | no f ↦ inl (rw (get_or-set_other out i j v 0 f) at h) ]
 
-set-keep : (out : List ℕ) (i v j : ℕ) → i < length out → 0 < v → Has out j → Has (set out i v) j
-set-keep out i v j l p h = elim (ℕ_discrete j i) [ yes f ↦ rw (f, get_or-set_same out i v 0 l) p | no f ↦ rw (get_or-set_other out i j v 0 f) h ]
+set_keep : (out : List ℕ) (i v j : ℕ) → i < length out → 0 < v → Has out j → Has (set out i v) j
+set_keep out i v j l p h = elim (ℕ_discrete j i) [ yes f ↦ rw (f, get_or-set_same out i v 0 l) p | no f ↦ rw (get_or-set_other out i j v 0 f) h ]
 
 -- what one call of `number` does
 pub does_number : (keys : List ℕ) (i base ids : ℕ) (at out : List ℕ) → Numberable keys i ids at out → (ids' : ℕ) (at' out' : List ℕ)
@@ -171,19 +171,19 @@ pub does_number : (keys : List ℕ) (i base ids : ℕ) (at out : List ℕ) → N
 unfolding K
 does_number keys i base ids at out ready ids' at' out' e f g =
     rw (e, f, g) (elim (dec_lt base (mark_of keys at i)) [
-      | yes h ↦ rw (again-number base ids (mark_of keys at i) h, again_ids base ids (mark_of keys at i) h, again-at base ids (mark_of keys at i) at (get_or keys i 0) h) (record {
-        over = λ low N turn w fits. (let x = fits i refl in state-again w i ready x.0 x.1 x.2 h);
+      | yes h ↦ rw (again_number base ids (mark_of keys at i) h, again_ids base ids (mark_of keys at i) h, again-at base ids (mark_of keys at i) at (get_or keys i 0) h) (record {
+        over = λ low N turn w fits. (let x = fits i refl in state_again w i ready x.0 x.1 x.2 h);
         done = λ j q. rw (q, get_or-set_same out i (mark_of keys at i) 0 ready.room) (omega arith);
-        only = set-only out i (mark_of keys at i);
-        keep = λ j. set-keep out i (mark_of keys at i) j ready.room (omega arith);
+        only = set_only out i (mark_of keys at i);
+        keep = λ j. set_keep out i (mark_of keys at i) j ready.room (omega arith);
         at_long = refl;
         out_long = length-set out i (mark_of keys at i);
       })
-      | no h ↦ rw (new-number base ids (mark_of keys at i) (omega arith), new_ids base ids (mark_of keys at i) (omega arith), new-at base ids (mark_of keys at i) at (get_or keys i 0) (omega arith)) (record {
-        over = λ low N turn w fits. (let x = fits i refl in state-new w i ready x.0 x.1 x.2 (omega arith));
+      | no h ↦ rw (new_number base ids (mark_of keys at i) (omega arith), new_ids base ids (mark_of keys at i) (omega arith), new_at base ids (mark_of keys at i) at (get_or keys i 0) (omega arith)) (record {
+        over = λ low N turn w fits. (let x = fits i refl in state_new w i ready x.0 x.1 x.2 (omega arith));
         done = λ j q. rw (q, get_or-set_same out i (ids + 1) 0 ready.room) (omega arith);
-        only = set-only out i (ids + 1);
-        keep = λ j. set-keep out i (ids + 1) j ready.room (omega arith);
+        only = set_only out i (ids + 1);
+        keep = λ j. set_keep out i (ids + 1) j ready.room (omega arith);
         at_long = length-set at (get_or keys i 0) (ids + 1);
         out_long = length-set out i (ids + 1);
       })
@@ -226,10 +226,10 @@ does_as D R p r = record {
 }
 
 -- what was ready for R is ready for Q still, after P
-pub ready-after : {R P : ℕ → Type 0} {keys : List ℕ} {base ids₀ : ℕ} {at₀ out₀ : List ℕ} {ids : ℕ} {at out : List ℕ}
+pub ready_after : {R P : ℕ → Type 0} {keys : List ℕ} {base ids₀ : ℕ} {at₀ out₀ : List ℕ} {ids : ℕ} {at out : List ℕ}
     → Ready R keys base ids₀ at₀ out₀ → Does P keys base ids₀ at₀ out₀ ids at out
     → (Q : ℕ → Type 0) → ((j : ℕ) → P j → R j) → ((j : ℕ) → Q j → R j) → ((j : ℕ) → P j → Q j → ⊥) → Ready Q keys base ids at out
-ready-after A D Q p q apart = record {
+ready_after A D Q p q apart = record {
   low = A.low;
   N = A.N;
   turn = A.turn;
@@ -241,8 +241,8 @@ ready-after A D Q p q apart = record {
   known = λ j l. omega (arith, A.known j l, D.at_long);
 }
 
-pub ready-one : {P : ℕ → Type 0} {keys : List ℕ} {base ids : ℕ} {at out : List ℕ} → Ready P keys base ids at out → (i : ℕ) → P i → Numberable keys i ids at out
-ready-one {out = out} A i p =
+pub ready_one : {P : ℕ → Type 0} {keys : List ℕ} {base ids : ℕ} {at out : List ℕ} → Ready P keys base ids at out → (i : ℕ) → P i → Numberable keys i ids at out
+ready_one {out = out} A i p =
     let z = A.fits i p in
     record { keyed = omega (arith, A.keyed, z.1); room = omega (arith, A.room, z.1); known = A.known i z.1; few = omega (arith, A.state.few, count_le (has out) A.N, A.small) }
 
@@ -250,8 +250,8 @@ ready-one {out = out} A i p =
 module _ (keys at out : List ℕ) (i base ids key : ℕ) (e : key ≡ get_or keys i 0) where
   pub branch_again : base < get_or at key 0 → (ids ≡ ids_after base ids (mark_of keys at i)) × (at ≡ at_after base ids (mark_of keys at i) at (get_or keys i 0))
       × (set out i (get_or at key 0) ≡ set out i (number_of base ids (mark_of keys at i)))
-  branch_again h = rw (← e) (rw (again_ids base ids (get_or at key 0) h, again-at base ids (get_or at key 0) at key h, again-number base ids (get_or at key 0) h) (refl, refl, refl))
+  branch_again h = rw (← e) (rw (again_ids base ids (get_or at key 0) h, again-at base ids (get_or at key 0) at key h, again_number base ids (get_or at key 0) h) (refl, refl, refl))
 
   pub branch_new : get_or at key 0 ≤ base → (ids + 1 ≡ ids_after base ids (mark_of keys at i)) × (set at key (ids + 1) ≡ at_after base ids (mark_of keys at i) at (get_or keys i 0))
       × (set out i (ids + 1) ≡ set out i (number_of base ids (mark_of keys at i)))
-  branch_new h = rw (← e) (rw (new_ids base ids (get_or at key 0) h, new-at base ids (get_or at key 0) at key h, new-number base ids (get_or at key 0) h) (refl, refl, refl))
+  branch_new h = rw (← e) (rw (new_ids base ids (get_or at key 0) h, new_at base ids (get_or at key 0) at key h, new_number base ids (get_or at key 0) h) (refl, refl, refl))

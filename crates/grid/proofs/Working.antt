@@ -10,7 +10,7 @@ use lib.ListN.{get_or, length, length-replicate, replicate}
 use borrow.Author.Tests.{eqb-false}
 use Rattle.counting.specs.Search.{first}
 use Rattle.counting.proofs.Tables.{zeros}
-use Rattle.counting.proofs.Search.{first-none, some-none}
+use Rattle.counting.proofs.Search.{first_none, some_none}
 use Rattle.grid.specs.Grid.{Before, Grid, cell_count, high, low}
 use Rattle.slots.specs.Limits.{highest_node}
 use Rattle.grid.specs.Rows.{bad_edge, unlisted, unused}
@@ -18,63 +18,63 @@ use Rattle.grid.specs.work.Runs.{Blanked, SidesPlaceable, SidesPlaced, Tallied, 
 use Rattle.grid.specs.work.Walks.{ChainTables, Fresh}
 use Rattle.grid.specs.work.Work.{Blank, CellTables, EdgeTables, Edging, Linkable, OneEach, Siding, Usable, Using, blank_in, listed_at}
 use Rattle.counting.specs.work.Tables.{Table}
-use Rattle.grid.proofs.Sides.{listed-table, placed_below, unlisted-blank}
-use Rattle.grid.proofs.Sorted.{same-edge, sorted-edges}
+use Rattle.grid.proofs.Sides.{listed_table, placed_below, unlisted_blank}
+use Rattle.grid.proofs.Sorted.{same-edge, sorted_edges}
 
 -- new tables for N cells have room for n
-pub fresh-zeros : (m N : ℕ) → m ≤ N → Fresh m (replicate N 0)
-fresh-zeros m N h = record { room = omega (arith, length-replicate {A = ℕ} N 0); blank = zeros N }
+pub fresh_zeros : (m N : ℕ) → m ≤ N → Fresh m (replicate N 0)
+fresh_zeros m N h = record { room = omega (arith, length-replicate {A = ℕ} N 0); blank = zeros N }
 
 -- a table that is cleared is new again
-pub fresh-again : {m N : ℕ} {l : List ℕ} → m ≤ N → length l ≡ N → Blanked l → Fresh m l
-fresh-again h e z = record { room = omega arith; blank = z }
+pub fresh_again : {m N : ℕ} {l : List ℕ} → m ≤ N → length l ≡ N → Blanked l → Fresh m l
+fresh_again h e z = record { room = omega arith; blank = z }
 
 module _ (n N : ℕ) (h : n ≤ N) where
-  pub blank-tables : Blank n (replicate (4 * N) 0) (replicate (6 * N) 0)
-  blank-tables = record { near_new = fresh-zeros (4 * n) (4 * N) (omega arith); sides-new = fresh-zeros (6 * n) (6 * N) (omega arith) }
+  pub blank_tables : Blank n (replicate (4 * N) 0) (replicate (6 * N) 0)
+  blank_tables = record { near_new = fresh_zeros (4 * n) (4 * N) (omega arith); sides_new = fresh_zeros (6 * n) (6 * N) (omega arith) }
 
   pub cell-tables : CellTables n (replicate (4 * N) 0) (replicate (highest_node + 1) 0) (replicate (4 * N + 1) 0) (replicate (4 * N) 0) (replicate (4 * N) 0)
   cell-tables = record {
-    labels_new = fresh-zeros (4 * n) (4 * N) (omega arith);
-    ranks-new = fresh-zeros (highest_node + 1) (highest_node + 1) (omega arith);
-    faces-new = fresh-zeros (4 * n) (4 * N) (omega arith);
-    same_new = fresh-zeros (4 * n) (4 * N) (omega arith);
-    at_new = fresh-zeros (4 * n + 1) (4 * N + 1) (omega arith);
+    labels_new = fresh_zeros (4 * n) (4 * N) (omega arith);
+    ranks_new = fresh_zeros (highest_node + 1) (highest_node + 1) (omega arith);
+    faces_new = fresh_zeros (4 * n) (4 * N) (omega arith);
+    same_new = fresh_zeros (4 * n) (4 * N) (omega arith);
+    at_new = fresh_zeros (4 * n + 1) (4 * N + 1) (omega arith);
   }
 
-  room-zeros : n ≤ length (replicate {A = ℕ} N 0)
-  room-zeros = omega (arith, length-replicate {A = ℕ} N 0)
+  room_zeros : n ≤ length (replicate {A = ℕ} N 0)
+  room_zeros = omega (arith, length-replicate {A = ℕ} N 0)
 
   pub chain-tables : ChainTables n (replicate (4 * N + 1) 0) (replicate N 0) (replicate (4 * N + 1) 0) (replicate N 0) (replicate (4 * N + 1) 0) (replicate N 0)
   chain-tables = record {
-    h0_new = fresh-zeros (4 * n + 1) (4 * N + 1) (omega arith);
-    h1_new = fresh-zeros (4 * n + 1) (4 * N + 1) (omega arith);
-    h2_new = fresh-zeros (4 * n + 1) (4 * N + 1) (omega arith);
-    x0_room = room-zeros;
-    x1_room = room-zeros;
-    x2_room = room-zeros;
+    h0_new = fresh_zeros (4 * n + 1) (4 * N + 1) (omega arith);
+    h1_new = fresh_zeros (4 * n + 1) (4 * N + 1) (omega arith);
+    h2_new = fresh_zeros (4 * n + 1) (4 * N + 1) (omega arith);
+    x0_room = room_zeros;
+    x1_room = room_zeros;
+    x2_room = room_zeros;
   }
 
   pub edge-tables : EdgeTables n (replicate (highest_node + 1) 0) (replicate (6 * N + 2) 0) (replicate (6 * N + 2) 0) (replicate N 0)
   edge-tables = record {
-    tab_new = fresh-zeros (highest_node + 1) (highest_node + 1) (omega arith);
-    top-new = fresh-zeros (6 * n + 2) (6 * N + 2) (omega arith);
-    degree_new = fresh-zeros (6 * n + 2) (6 * N + 2) (omega arith);
+    tab_new = fresh_zeros (highest_node + 1) (highest_node + 1) (omega arith);
+    top_new = fresh_zeros (6 * n + 2) (6 * N + 2) (omega arith);
+    degree_new = fresh_zeros (6 * n + 2) (6 * N + 2) (omega arith);
     long = omega arith;
-    marks-new = fresh-zeros n N h;
+    marks_new = fresh_zeros n N h;
   }
 
 -- rows 6 and 7
 pub edging_siding : {G : Grid} {near ranks h0 x0 h1 x1 h2 x2 tab top degree marks sides : List ℕ} → Edging G near ranks h0 x0 h1 x1 h2 x2 tab top degree marks sides
     → length G.counts ≤ first (bad_edge G.edges) (length G.counts) → Siding G near ranks h0 x0 h1 x1 h2 x2 tab top degree marks sides
-edging_siding {G} E h = record { edging = E; fine = first-none (bad_edge G.edges) (length G.counts) h }
+edging_siding {G} E h = record { edging = E; fine = first_none (bad_edge G.edges) (length G.counts) h }
 
 module _ {G : Grid} {near ranks h0 x0 h1 x1 h2 x2 tab top degree marks sides : List ℕ} (S : Siding G near ranks h0 x0 h1 x1 h2 x2 tab top degree marks sides) where
-  rising-edges : (d e : ℕ) → d < e → e < length G.counts → Before (low G.edges d) (high G.edges d) (low G.edges e) (high G.edges e)
-  rising-edges = sorted-edges G.edges (length G.counts) S.fine
+  rising_edges : (d e : ℕ) → d < e → e < length G.counts → Before (low G.edges d) (high G.edges d) (low G.edges e) (high G.edges e)
+  rising_edges = sorted_edges G.edges (length G.counts) S.fine
 
   one_each : OneEach G
-  one_each = same-edge G.edges (length G.counts) rising-edges
+  one_each = same-edge G.edges (length G.counts) rising_edges
 
   pub siding_placeable : SidesPlaceable G.cells G.edges (length G.counts) ranks h0 x0 h1 x1 h2 x2 tab sides
   siding_placeable = record {
@@ -83,24 +83,24 @@ module _ {G : Grid} {near ranks h0 x0 h1 x1 h2 x2 tab top degree marks sides : L
     nodes = S.edging.ordered.nodes;
     ends = omega (arith, S.edging.pairs);
     sorted = λ d e h l. ⊎_elim (λ (p : low G.edges d < low G.edges e). omega arith)
-        (λ (p : (low G.edges d ≡ low G.edges e) × (high G.edges d < high G.edges e)). omega (arith, p.0)) (rising-edges d e h l);
+        (λ (p : (low G.edges d ≡ low G.edges e) × (high G.edges d < high G.edges e)). omega (arith, p.0)) (rising_edges d e h l);
     tab_room = omega (arith, S.edging.tables.tab_new.room);
     tab_blank = S.edging.tables.tab_new.blank;
-    room = S.edging.sides-new.room;
-    blank = S.edging.sides-new.blank;
+    room = S.edging.sides_new.room;
+    blank = S.edging.sides_new.blank;
   }
 
   module _ {sides' : List ℕ} (w : SidesPlaced G.cells G.edges (length G.counts) sides') where
     pub siding_blank : first (unlisted G) (cell_count G.cells) ≡ first (blank_in sides') (cell_count G.cells)
-    siding_blank = unlisted-blank G one_each sides' w
+    siding_blank = unlisted_blank G one_each sides' w
 
     pub siding_talliable : length sides' ≡ length sides → Talliable sides' (6 * cell_count G.cells) top degree
     siding_talliable el = record {
-      keyed = omega (arith, el, S.edging.sides-new.room);
+      keyed = omega (arith, el, S.edging.sides_new.room);
       small = omega (arith, S.edging.ordered.few);
-      below = λ j h. omega (arith, placed_below G one_each sides' w j h, S.edging.tables.top-new.room);
+      below = λ j h. omega (arith, placed_below G one_each sides' w j h, S.edging.tables.top_new.room);
       long = S.edging.tables.long;
-      top-blank = S.edging.tables.top-new.blank;
+      top_blank = S.edging.tables.top_new.blank;
       degree_blank = S.edging.tables.degree_new.blank;
     }
 
@@ -109,32 +109,32 @@ module _ {G : Grid} {near ranks h0 x0 h1 x1 h2 x2 tab top degree marks sides : L
     unfolding blank_in
     siding_using el none T = record {
       ordered = S.edging.ordered;
-      near-is = S.edging.near-is;
-      room = omega (arith, el, S.edging.sides-new.room);
+      near_is = S.edging.near_is;
+      room = omega (arith, el, S.edging.sides_new.room);
       placed = w;
       full = λ j h.
           let q : 6 * (j / 6) + j % 6 ≡ j = omega arith in
-          let b = some-none (λ k. eqb (get_or sides' (6 * (j / 6) + k) 0) 0) 6 (first-none (blank_in sides') (cell_count G.cells) none (j / 6) (omega arith)) (j % 6) (omega arith) in
+          let b = some_none (λ k. eqb (get_or sides' (6 * (j / 6) + k) 0) 0) 6 (first_none (blank_in sides') (cell_count G.cells) none (j / 6) (omega arith)) (j % 6) (omega arith) in
           let z = eqb-false (get_or sides' j 0) 0 (rw q at b) in
           omega arith;
       one = one_each;
       T = length top;
-      within = omega (arith, S.edging.tables.top-new.room);
+      within = omega (arith, S.edging.tables.top_new.room);
       tallied = T;
-      marks-new = S.edging.tables.marks-new;
+      marks_new = S.edging.tables.marks_new;
     }
 
 -- rows 8 and 9
 module _ {G : Grid} {near sides top degree marks : List ℕ} (U : Using G near sides top degree marks) where
   pub using_table : {p : ℕ} → p ≤ 6 * cell_count G.cells → length G.counts ≤ p → Table (listed_at G) (6 * cell_count G.cells) sides
-  using_table h l = listed-table G U.one sides U.placed U.room (omega arith)
+  using_table h l = listed_table G U.one sides U.placed U.room (omega arith)
 
   pub using_usable : Usable G sides top
   using_usable = record {
     few = U.ordered.few;
     placed = U.placed;
     one = U.one;
-    room = omega (arith, U.tallied.top-room, U.within);
+    room = omega (arith, U.tallied.top_room, U.within);
     tops = λ t h. U.tallied.tops t (omega (arith, U.within));
   }
 
@@ -142,7 +142,7 @@ module _ {G : Grid} {near sides top degree marks : List ℕ} (U : Using G near s
       → Linkable G near sides top degree marks
   using_linkable e h l = record {
     ordered = U.ordered;
-    near-is = U.near-is;
+    near_is = U.near_is;
     sided = using_table h l;
     full = U.full;
     one = U.one;
@@ -150,6 +150,6 @@ module _ {G : Grid} {near sides top degree marks : List ℕ} (U : Using G near s
     T = U.T;
     within = omega (arith, U.within);
     tallied = U.tallied;
-    used = first-none (unused G) (length G.counts) (omega arith);
-    marks-new = U.marks-new;
+    used = first_none (unused G) (length G.counts) (omega arith);
+    marks_new = U.marks_new;
   }

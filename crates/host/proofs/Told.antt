@@ -6,7 +6,7 @@ use lib.ListN.{get_or}
 use Rattle.bundle.specs.Bundle.{bundle_answer, contents_numbers}
 use Rattle.bundle.specs.declared.Contents.{Contents}
 use Rattle.bundle.specs.declared.Contents.TheVariants.{Lists, Refused}
-use Rattle.bundle.proofs.Answers.{accepted, accepted-cells, accepted-edges, rejected}
+use Rattle.bundle.proofs.Answers.{accepted, accepted_cells, accepted_edges, rejected}
 use Rattle.host.specs.Host.{refusal_of, bundle_cells, bundle_edges}
 
 -- the three numbers are the bundle's
@@ -18,7 +18,7 @@ module _ (s : List ℕ) (r : Contents) (h : contents_numbers r ≡ bundle_answer
   whole c e q =
       let t = ap contents_numbers q ∙ h in
       let b = accepted s c e t in
-      (ap (λ (x : List ℕ). get_or x 0 0) t, (accepted-cells s c e t ∙ simp b, accepted-edges s c e t ∙ simp b))
+      (ap (λ (x : List ℕ). get_or x 0 0) t, (accepted_cells s c e t ∙ simp b, accepted_edges s c e t ∙ simp b))
 
   pub broken : (n p : ℕ) → Refused n p ≡ r → Is s n 0 0
   broken n p q =

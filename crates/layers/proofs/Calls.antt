@@ -14,11 +14,11 @@ use Rattle.counting.specs.Search.{first, some}
 use Rattle.counting.specs.Lists.{over}
 use Rattle.counting.specs.Stored.{stored_in}
 use Rattle.counting.specs.work.Stored.{Stored}
-use Rattle.counting.proofs.Search.{first-is, first-none, some-found, none-some}
-use Rattle.counting.proofs.Lists.{gather-over}
+use Rattle.counting.proofs.Search.{first_is, first_none, some_found, none_some}
+use Rattle.counting.proofs.Lists.{gather_over}
 use Rattle.counting.proofs.Stored.{stored_as, stored_fits, stored_not, stored_room}
 use Rattle.cell.specs.Words.{word_count, words, all_words}
-use Rattle.cell.proofs.Storing.{length-all}
+use Rattle.cell.proofs.Storing.{length_all}
 use Rattle.grid.specs.Grid.{Grid, cell_count}
 use Rattle.slots.specs.Limits.{most_slots}
 use Rattle.slots.specs.work.Limits.{most_edges}
@@ -27,16 +27,16 @@ use Rattle.grid.specs.declared.Checked.TheVariants.{Crossings, Refused}
 use Rattle.grid.specs.Check.{check_numbers}
 use Rattle.grid.specs.Rows.{grid_answer, accepts}
 use Rattle.grid.specs.work.Tables.{Laid}
-use Rattle.grid.proofs.Filled.{refused-keeps, told-accepts, told-sound}
+use Rattle.grid.proofs.Filled.{refused_keeps, told_accepts, told_sound}
 use Rattle.cell.specs.Renaming.{renamed}
 use Rattle.cell.specs.claims.Table.{drawn_cells}
-use Rattle.booking.proofs.Totals.{all-few}
+use Rattle.booking.proofs.Totals.{all_few}
 use Rattle.split.specs.work.Table.{most_drawn, table_drawn, table_splits}
 use Rattle.split.specs.work.Gains.{AreSums}
-use Rattle.split.proofs.Tables.{drawn-long}
+use Rattle.split.proofs.Tables.{drawn_long}
 use Rattle.mesh.specs.Mesh.{mesh_splits}
 use Rattle.mesh.specs.Room.{room_answer}
-use Rattle.mesh.proofs.Rooms.{answer-short, answer-fits}
+use Rattle.mesh.proofs.Rooms.{answer_short, answer_fits}
 use Rattle.mesh.proofs.Tables as mesh
 use Rattle.mesh.proofs.Demand.{demand3}
 use Rattle.layers.specs.Runs.{keep_inner, run_grid, into_whole, run_triangles, run_renamed}
@@ -45,31 +45,31 @@ use Rattle.layers.specs.Answer.{cuts_accepted, cuts_answer, run_answer, run_area
 use Rattle.layers.specs.Done.{RunDone, JoinedDone}
 use Rattle.layers.specs.work.Work.{RunOfCuts, Tables, lacking_in, RunOf, RunDrawn, JoinableRun, Joinable}
 use Rattle.layers.proofs.Laying.{tabled}
-use Rattle.layers.proofs.Joined.{cuts_cut, few_cuts, joined-triangles, joined-splits, joined_is_mesh}
+use Rattle.layers.proofs.Joined.{cuts_cut, few_cuts, joined_triangles, joined-splits, joined_is_mesh}
 
 -- THE CHECK OF THE WHOLE
 
 module _ (G : Grid) where
   module _ (r : Checked) (row place : ℕ) (e : r ≡ Refused row place) (q : check_numbers r ≡ grid_answer G) where
-    is-refusal : check_numbers (Refused row place) ≡ grid_answer G
-    is-refusal = ap check_numbers (sym e) ∙ q
+    is_refusal : check_numbers (Refused row place) ≡ grid_answer G
+    is_refusal = ap check_numbers (sym e) ∙ q
 
     keeps : accepts G ≡ false
-    keeps = refused-keeps G row place is-refusal
+    keeps = refused_keeps G row place is_refusal
 
-    pub refused-run : (cuts : List ℕ) (run : ℕ) (area : List ℕ) → RunDone G cuts run area area (refused row place)
+    pub refused_run : (cuts : List ℕ) (run : ℕ) (area : List ℕ) → RunDone G cuts run area area (refused row place)
     unfolding run_answer run_area cuts_answer cuts_accepted
-    refused-run cuts run area = record { answered = rw keeps is-refusal; area = rw keeps }
+    refused_run cuts run area = record { answered = rw keeps is_refusal; area = rw keeps }
 
-    pub refused-joined : (cuts area : List ℕ) → JoinedDone G cuts area area (refused row place)
+    pub refused_joined : (cuts area : List ℕ) → JoinedDone G cuts area area (refused row place)
     unfolding joined_answer joined_area cuts_answer cuts_accepted
-    refused-joined cuts area = record { answered = rw keeps is-refusal; area = rw keeps; undivided = joined_is_mesh; demand = demand3 }
+    refused_joined cuts area = record { answered = rw keeps is_refusal; area = rw keeps; undivided = joined_is_mesh; demand = demand3 }
 
   pub tables : (r : Checked) (n : ℕ) → r ≡ Crossings n → check_numbers r ≡ grid_answer G → (names₀ sides₀ names sides : List ℕ) → length names₀ ≡ most_slots → length sides₀ ≡ most_edges
       → Laid G names₀ sides₀ names sides → Tables G names sides
   tables r n e q names₀ sides₀ names sides ln ls o =
-      let t = mesh.tabled G names₀ sides₀ names sides (told-sound G r n e q) (told-accepts G r n e q) ln ls o in
-      record { accepted = told-accepts G r n e q; sound = t.sound; name = t.name; edge = t.edge }
+      let t = mesh.tabled G names₀ sides₀ names sides (told_sound G r n e q) (told_accepts G r n e q) ln ls o in
+      record { accepted = told_accepts G r n e q; sound = t.sound; name = t.name; edge = t.edge }
 
 -- ROOM
 
@@ -94,15 +94,15 @@ pub lacks : (room len : ℕ) → room < word_count * len → len ≡ lacking_in 
 unfolding lacking_in
 lacks room len h = rw (lt-ltb room (word_count * len) h)
 
-pub lacks-none : (room len : ℕ) → word_count * len ≤ room → 0 ≡ lacking_in room len
+pub lacks_none : (room len : ℕ) → word_count * len ≤ room → 0 ≡ lacking_in room len
 unfolding lacking_in
-lacks-none room len h = rw (le-ltb room (word_count * len) h)
+lacks_none room len h = rw (le-ltb room (word_count * len) h)
 
 -- no more triangles are drawn than the sums say
-pub few-drawn : (cells counts names sides starts : List ℕ) {crossings splits more : ℕ} → AreSums counts sides (drawn_cells cells) crossings splits more
+pub few_drawn : (cells counts names sides starts : List ℕ) {crossings splits more : ℕ} → AreSums counts sides (drawn_cells cells) crossings splits more
     → (length (table_drawn cells counts names sides starts) ≤ crossings + more) × (crossings + more ≤ most_drawn)
-few-drawn cells counts names sides starts S =
-    (omega (arith, S.crossings_are, S.more-is, drawn-long cells counts names sides starts, all-few cells counts names sides starts), omega (arith, S.few-crossings, S.few-more))
+few_drawn cells counts names sides starts S =
+    (omega (arith, S.crossings_are, S.more_is, drawn_long cells counts names sides starts, all_few cells counts names sides starts), omega (arith, S.few_crossings, S.few_more))
 
 -- THE CUTS
 
@@ -115,7 +115,7 @@ module _ {G : Grid} {names sides : List ℕ} (T : Tables G names sides) (cuts : 
     bad = omega arith
 
     bad_some : some (bad_cut n cuts) (length cuts) ≡ true
-    bad_some = some-found (bad_cut n cuts) (length cuts) (first (bad_cut n cuts) (length cuts)) bad (first-is (bad_cut n cuts) (length cuts) bad)
+    bad_some = some_found (bad_cut n cuts) (length cuts) (first (bad_cut n cuts) (length cuts)) bad (first_is (bad_cut n cuts) (length cuts) bad)
 
     refuses : (rest : List ℕ) → refusal 25 b ≡ cuts_answer G cuts rest
     unfolding cuts_answer or_refuse
@@ -131,7 +131,7 @@ module _ {G : Grid} {names sides : List ℕ} (T : Tables G names sides) (cuts : 
 
   module _ (h : length cuts ≤ b) where
     pub clear : Clear (cut_row G cuts)
-    clear = first-none (bad_cut n cuts) (length cuts) (omega arith)
+    clear = first_none (bad_cut n cuts) (length cuts) (omega arith)
 
     passes : (rest : List ℕ) → cuts_answer G cuts rest ≡ rest
     unfolding cuts_answer or_refuse
@@ -139,7 +139,7 @@ module _ {G : Grid} {names sides : List ℕ} (T : Tables G names sides) (cuts : 
 
     cuts_pass : cuts_accepted G cuts ≡ true
     unfolding cuts_accepted
-    cuts_pass = rw (T.accepted, none-some (bad_cut n cuts) (length cuts) clear)
+    cuts_pass = rw (T.accepted, none_some (bad_cut n cuts) (length cuts) clear)
 
     -- ONE RUN
 
@@ -150,24 +150,24 @@ module _ {G : Grid} {names sides : List ℕ} (T : Tables G names sides) (cuts : 
     pub cut_there : (run : ℕ) → run ≤ length cuts → RunOfCuts n cuts run
     cut_there run k = record {
       there = k;
-      rises = omega (arith, (cuts_cut G cuts T.sound.some-cell clear).some-cell run (omega arith));
-      few = omega (arith, few_cuts n cuts T.sound.some-cell clear, T.sound.few-cells);
+      rises = omega (arith, (cuts_cut G cuts T.sound.some_cell clear).some_cell run (omega arith));
+      few = omega (arith, few_cuts n cuts T.sound.some_cell clear, T.sound.few_cells);
     }
 
     module _ (run : ℕ) (k : run ≤ length cuts) (from size : ℕ) (e : from ≡ run_start cuts run) (f : size ≡ run_size n cuts run) where
       pub run_of : RunOf G names sides from size
       run_of =
-          let L = cuts_cut G cuts T.sound.some-cell clear in
-          record { tables = T; run = record { some-cell = omega (arith, L.some-cell run (omega arith)); within = omega (arith, L.some-cell run (omega arith), L.within run (omega arith)) } }
+          let L = cuts_cut G cuts T.sound.some_cell clear in
+          record { tables = T; run = record { some_cell = omega (arith, L.some_cell run (omega arith)); within = omega (arith, L.some_cell run (omega arith), L.within run (omega arith)) } }
 
       module _ {before after : List ℕ} {t s : ℕ} (D : RunDrawn G from size before after t s) where
         same : run_triangles G from size ≡ run_mesh G cuts run
         unfolding run_mesh
         same = ap₂ (run_triangles G) e f
 
-        same-splits : s ≡ run_splits G cuts run
+        same_splits : s ≡ run_splits G cuts run
         unfolding run_splits
-        same-splits = D.splits_are ∙ ap₂ (λ x y. mesh_splits (run_grid G x y)) e f
+        same_splits = D.splits_are ∙ ap₂ (λ x y. mesh_splits (run_grid G x y)) e f
 
         many : t ≡ length (run_mesh G cuts run)
         many = D.triangles_are ∙ ap length same
@@ -182,13 +182,13 @@ module _ {G : Grid} {names sides : List ℕ} (T : Tables G names sides) (cuts : 
 
         pub run_short : length before < word_count * t → RunDone G cuts run before after (refusal 12 t)
         run_short l = record {
-          answered = answers (refusal 12 t) (ap (refusal 12) many ∙ answer-short (run_mesh G cuts run) (run_splits G cuts run) (length before) (omega (arith, many)));
+          answered = answers (refusal 12 t) (ap (refusal 12) many ∙ answer_short (run_mesh G cuts run) (run_splits G cuts run) (length before) (omega (arith, many)));
           area = run-area;
         }
 
         pub run_fits : word_count * t ≤ length before → RunDone G cuts run before after (result_of (t ∷ s ∷ []))
         run_fits l = record {
-          answered = answers (result_of (t ∷ s ∷ [])) (ap₂ (λ t s. result_of (t ∷ s ∷ [])) many same-splits ∙ answer-fits (run_mesh G cuts run) (run_splits G cuts run) (length before) (omega (arith, many)));
+          answered = answers (result_of (t ∷ s ∷ [])) (ap₂ (λ t s. result_of (t ∷ s ∷ [])) many same_splits ∙ answer_fits (run_mesh G cuts run) (run_splits G cuts run) (length before) (omega (arith, many)));
           area = run-area;
         }
 
@@ -197,35 +197,35 @@ module _ {G : Grid} {names sides : List ℕ} (T : Tables G names sides) (cuts : 
     abbrev drawn : ℕ
     drawn = length (table_drawn G.cells G.counts names sides G.starts)
 
-    all-many : drawn ≡ length (joined_mesh G cuts)
-    all-many = ap length (mesh.triangles_are (tabled T) ∙ sym (joined-triangles G cuts T.sound clear))
+    all_many : drawn ≡ length (joined_mesh G cuts)
+    all_many = ap length (mesh.triangles_are (tabled T) ∙ sym (joined_triangles G cuts T.sound clear))
 
     joins : (before after answer : List ℕ) → answer ≡ room_answer (joined_mesh G cuts) (joined_splits G cuts) (length before) → after ≡ stored_in before 0 (all_words (joined_mesh G cuts)) → JoinedDone G cuts before after answer
     unfolding joined_answer joined_area
     joins before after answer q a = record { answered = q ∙ sym (passes _); area = rw cuts_pass a; undivided = joined_is_mesh; demand = demand3 }
 
     module _ (before : List ℕ) {lack : ℕ} (known : lack ≡ lacking_in (length before) (length (table_drawn G.cells G.counts names sides G.starts))) where
-      pub joined-short : (lack ≡ 0 → ⊥) → JoinedDone G cuts before before (refusal 12 lack)
-      joined-short h =
+      pub joined_short : (lack ≡ 0 → ⊥) → JoinedDone G cuts before before (refusal 12 lack)
+      joined_short h =
           let (e, l) = lacking_some (length before) drawn known h in
-          joins before before (refusal 12 lack) (ap (refusal 12) (e ∙ all-many) ∙ answer-short (joined_mesh G cuts) (joined_splits G cuts) (length before) (omega (arith, l, all-many)))
-          (stored_not before 0 (all_words (joined_mesh G cuts)) (omega (arith, l, all-many, length-all (joined_mesh G cuts)))).0
+          joins before before (refusal 12 lack) (ap (refusal 12) (e ∙ all_many) ∙ answer_short (joined_mesh G cuts) (joined_splits G cuts) (length before) (omega (arith, l, all_many)))
+          (stored_not before 0 (all_words (joined_mesh G cuts)) (omega (arith, l, all_many, length_all (joined_mesh G cuts)))).0
 
       module _ (z : lack ≡ 0) where
         fits : word_count * length (joined_mesh G cuts) ≤ length before
-        fits = omega (arith, lacking_none (length before) drawn known z, all-many)
+        fits = omega (arith, lacking_none (length before) drawn known z, all_many)
 
         pub joinable : Joinable G names sides cuts (length before)
         joinable = record { tables = T; clear = clear; fits = fits }
 
-        pub joined-fits : {s : ℕ} → s ≡ table_splits G.cells G.counts names sides G.starts → {after : List ℕ} {end : ℕ} → Stored before 0 (all_words (joined_mesh G cuts)) after end
+        pub joined_fits : {s : ℕ} → s ≡ table_splits G.cells G.counts names sides G.starts → {after : List ℕ} {end : ℕ} → Stored before 0 (all_words (joined_mesh G cuts)) after end
             → JoinedDone G cuts before after (result_of (end / word_count ∷ s ∷ []))
-        joined-fits {s} se {after} {end} S =
-            let t : end / word_count ≡ length (joined_mesh G cuts) = omega (arith, S.after, length-all (joined_mesh G cuts)) in
+        joined_fits {s} se {after} {end} S =
+            let t : end / word_count ≡ length (joined_mesh G cuts) = omega (arith, S.after, length_all (joined_mesh G cuts)) in
             let splits = se ∙ mesh.splits_are (tabled T) ∙ sym (joined-splits G cuts T.sound clear) in
             joins before after (result_of (end / word_count ∷ s ∷ []))
-            (ap₂ (λ t s. result_of (t ∷ s ∷ [])) t splits ∙ answer-fits (joined_mesh G cuts) (joined_splits G cuts) (length before) fits)
-            (S.area ∙ sym (stored_room before 0 (all_words (joined_mesh G cuts)) (omega (arith, fits, length-all (joined_mesh G cuts)))).area)
+            (ap₂ (λ t s. result_of (t ∷ s ∷ [])) t splits ∙ answer_fits (joined_mesh G cuts) (joined_splits G cuts) (length before) fits)
+            (S.area ∙ sym (stored_room before 0 (all_words (joined_mesh G cuts)) (omega (arith, fits, length_all (joined_mesh G cuts)))).area)
 
 -- RUN AFTER RUN
 
@@ -236,39 +236,39 @@ module _ {G : Grid} {names sides cuts : List ℕ} {room : ℕ} (J : Joinable G n
 
   all-words : all_words (joined_mesh G cuts) ≡ over run_words (run_count cuts) 0
   unfolding joined_mesh
-  all-words = gather-over words (λ r. run_renamed G (run_start cuts r) (run_size (cell_count G.cells) cuts r)) (run_count cuts) 0
+  all-words = gather_over words (λ r. run_renamed G (run_start cuts r) (run_size (cell_count G.cells) cuts r)) (run_count cuts) 0
 
   pub few_runs : length cuts < 2048
-  few_runs = omega (arith, few_cuts (cell_count G.cells) cuts J.tables.sound.some-cell J.clear, J.tables.sound.few-cells)
+  few_runs = omega (arith, few_cuts (cell_count G.cells) cuts J.tables.sound.some_cell J.clear, J.tables.sound.few_cells)
 
   pub next_cut : (r : ℕ) → r ≤ length cuts → RunOfCuts (cell_count G.cells) cuts r
-  next_cut r k = record { there = k; rises = omega (arith, (cuts_cut G cuts J.tables.sound.some-cell J.clear).some-cell r (omega arith)); few = few_runs }
+  next_cut r k = record { there = k; rises = omega (arith, (cuts_cut G cuts J.tables.sound.some_cell J.clear).some_cell r (omega arith)); few = few_runs }
 
   module _ (r : ℕ) (k : r ≤ length cuts) (from size : ℕ) (e : from ≡ run_start cuts r) (f : size ≡ run_size (cell_count G.cells) cuts r) where
-    next-run : RunOf G names sides from size
-    next-run =
-        let L = cuts_cut G cuts J.tables.sound.some-cell J.clear in
+    next_run : RunOf G names sides from size
+    next_run =
+        let L = cuts_cut G cuts J.tables.sound.some_cell J.clear in
         record {
           tables = J.tables;
-          run = record { some-cell = omega (arith, L.some-cell r (omega arith)); within = omega (arith, L.some-cell r (omega arith), L.within r (omega arith)) };
+          run = record { some_cell = omega (arith, L.some_cell r (omega arith)); within = omega (arith, L.some_cell r (omega arith), L.within r (omega arith)) };
         }
 
-    pub next-words : all_words (run_renamed G from size) ≡ run_words r
-    next-words = ap₂ (λ x y. all_words (run_renamed G x y)) e f
+    pub next_words : all_words (run_renamed G from size) ≡ run_words r
+    next_words = ap₂ (λ x y. all_words (run_renamed G x y)) e f
 
     long : length (run_words r) ≡ word_count * length (run_triangles G from size)
     unfolding run_renamed
     long =
-        ap length (sym next-words) ∙ length-all (run_renamed G from size)
+        ap length (sym next_words) ∙ length_all (run_renamed G from size)
         ∙ ap (λ n. word_count * n) (length-map (run_triangles G from size) (renamed (keep_inner (into_whole G from size))))
 
     module _ {was area : List ℕ} {i m : ℕ} (S : Stored was 0 (over run_words r 0) area i) (lw : length was ≡ room) (u : List ℕ) (below : (e : ℕ) → get_or u e 0 < m) where
       pub next_joinable : JoinableRun G names sides from size m i (length area) u
       next_joinable = record {
-        run_of = next-run;
-        fits = omega (arith, long, stored_fits run_words (run_count cuts) r S (omega arith) (omega (arith, J.fits, ap length all-words, length-all (joined_mesh G cuts))));
+        run_of = next_run;
+        fits = omega (arith, long, stored_fits run_words (run_count cuts) r S (omega arith) (omega (arith, J.fits, ap length all-words, length_all (joined_mesh G cuts))));
         below = below;
       }
 
-  pub all-joined : {was area : List ℕ} {i r : ℕ} → Stored was 0 (over run_words r 0) area i → r ≡ run_count cuts → Stored was 0 (all_words (joined_mesh G cuts)) area i
-  all-joined S e = stored_as S (ap (λ n. over run_words n 0) e ∙ sym all-words) refl
+  pub all_joined : {was area : List ℕ} {i r : ℕ} → Stored was 0 (over run_words r 0) area i → r ≡ run_count cuts → Stored was 0 (all_words (joined_mesh G cuts)) area i
+  all_joined S e = stored_as S (ap (λ n. over run_words n 0) e ∙ sym all-words) refl

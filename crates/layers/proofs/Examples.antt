@@ -50,7 +50,7 @@ unfolding seek first last some every count rise total over kept tally gather pre
     bad_cut run_mesh run_splits joined_mesh joined_splits cuts_accepted cuts_answer run_answer run_area joined_answer joined_area computed examples
 examples_hold = refl
 
-pub split-run : SplitRun
+pub split_run : SplitRun
 unfolding seek first last some every count rise total over kept tally gather pre row col reach divides gcd stored_in
     slots.lo slots.hi slots.position slots.lower slots.upper slots.edge_between slots.slot_edge slots.edge_rank slots.contains slots.first_slot slots.second_slot
     face.other face.opposite face.half_above face.corner_count face.residual face.count_on face.others face.kth face.corner_count_at face.partner face.face_answer face.face_join is_level
@@ -65,4 +65,4 @@ unfolding seek first last some every count rise total over kept tally gather pre
     bad_length bad_numbers bad_start bad_lists bad_cell same_cell repeats crowded is_after bad_edge bad_count unlisted unused linked reached split too_many rows rows.or_refuse rows.answer_of grid_answer
     grid_cell mesh_triangles mesh_splits room_answer in_run run_numbers run_edges run_counts run_triangles
     bad_cut run_mesh run_splits cuts_accepted cuts_answer run_answer run_area of lone_cell one_split
-split-run = record { answer = refl; area = refl }
+split_run = record { answer = refl; area = refl }

@@ -17,11 +17,11 @@ use Rattle.counting.specs.Lists.{total, over, gather}
 use Rattle.counting.specs.Stored.{stored_in}
 use Rattle.counting.specs.claims.Lists.{All}
 use Rattle.counting.proofs.Bools.{or_none}
-use Rattle.counting.proofs.Fronts.{over_shift, over-parts}
-use Rattle.counting.proofs.Lists.{all-at, map-over, values-at, values_ext}
+use Rattle.counting.proofs.Fronts.{over_shift, over_parts}
+use Rattle.counting.proofs.Lists.{all_at, map_over, values_at, values_ext}
 use Rattle.counting.proofs.Pack.{pack_lt}
-use Rattle.counting.proofs.Range.{total_ext, over_ext, total-from, total-parts}
-use Rattle.counting.proofs.Search.{below-or, none_first, none-some}
+use Rattle.counting.proofs.Range.{total_ext, over_ext, total_from, total_parts}
+use Rattle.counting.proofs.Search.{below-or, none_first, none_some}
 use Rattle.cell.specs.declared.Cell.{Cell}
 use Rattle.cell.specs.declared.Triangle.{Triangle}
 use Rattle.cell.specs.Of as of
@@ -36,8 +36,8 @@ use Rattle.grid.specs.Grid.{Grid, cell_count, count_of, start, crossings, edge_n
 use Rattle.grid.specs.Rows.{rows, grid_answer, accepts}
 use Rattle.grid.specs.claims.Accepted.{Sound}
 use Rattle.grid.proofs.Accepts.{acceptance_yields}
-use Rattle.grid.proofs.Names.{name-lt}
-use Rattle.grid.proofs.Sound.{edge-numbers, faultless}
+use Rattle.grid.proofs.Names.{name_lt}
+use Rattle.grid.proofs.Sound.{edge_numbers, faultless}
 use Rattle.mesh.specs.Mesh.{grid_cell, mesh_triangles, mesh_splits, mesh_words}
 use Rattle.mesh.specs.Answer.{mesh_answer, mesh_area}
 use Rattle.mesh.specs.Room.{room_answer}
@@ -53,14 +53,14 @@ use Rattle.layers.proofs.Parts.{drawn_renamed}
 use Rattle.layers.proofs.Worded.{words_renamed}
 use Rattle.layers.proofs.Named.{drawn_named}
 use Rattle.layers.proofs.Own.{runs_own}
-use Rattle.layers.proofs.Runs.{crossing-at, crossing-order, run-count, run-sound, number_lt, number_at, face-at}
+use Rattle.layers.proofs.Runs.{crossing-at, crossing_order, run-count, run-sound, number_lt, number_at, face_at}
 
 -- a run passes every row but 9
 pub run_clear : RunClear
 unfolding rows All
 run_clear G from size values e N =
     let F = faultless (run_grid G from size) (run-sound G from size (acceptance_yields G values e).sound N) in
-    all-at (λ (row : Row). row.number ≢ 9 → Clear row) (whole 0 false) (rows (run_grid G from size)) (
+    all_at (λ (row : Row). row.number ≢ 9 → Clear row) (whole 0 false) (rows (run_grid G from size)) (
       λ n p h. F.row_1,
       (
         λ n p h. F.row_2,
@@ -93,19 +93,19 @@ run_clear G from size values e N =
 module _ (G : Grid) (S : Sound G) (c : ℕ) (l : c < cell_count G.cells) where
   pub count_le : (k i : ℕ) → k < 6 → i < of.count_of (grid_cell G c) k → i < count_of G.counts (edge_number G c k)
   unfolding grid_cell
-  count_le k i lk h = omega (arith, values-at (λ k. count_of G.counts (edge_number G c k)) 6 k 0 lk)
+  count_le k i lk h = omega (arith, values_at (λ k. count_of G.counts (edge_number G c k)) 6 k 0 lk)
 
-  number-below : (k i : ℕ) → k < 6 → i < of.count_of (grid_cell G c) k → of.start_of (grid_cell G c) k + i < crossings G.counts
+  number_below : (k i : ℕ) → k < 6 → i < of.count_of (grid_cell G c) k → of.start_of (grid_cell G c) k + i < crossings G.counts
   unfolding start
-  number-below k i lk h =
-      omega (arith, start-of G c k lk, pack_lt (count_of G.counts) (length G.counts) (edge_number G c k) i ((edge-numbers G S).listed c k l lk) (count_le k i lk h))
+  number_below k i lk h =
+      omega (arith, start-of G c k lk, pack_lt (count_of G.counts) (length G.counts) (edge_number G c k) i ((edge_numbers G S).listed c k l lk) (count_le k i lk h))
 
-  outer-names : OuterNames (grid_cell G c)
+  outer_names : OuterNames (grid_cell G c)
   unfolding grid_cell
-  outer-names = record {
-    index = omega (arith, S.few-cells);
-    below = λ k i lk h. omega (arith, number-below k i lk h, S.few-crossings);
-    under = λ s ls. omega (arith, name_of G c s ls, name-lt G.cells c s l ls, S.few-cells);
+  outer_names = record {
+    index = omega (arith, S.few_cells);
+    below = λ k i lk h. omega (arith, number_below k i lk h, S.few_crossings);
+    under = λ s ls. omega (arith, name_of G c s ls, name_lt G.cells c s l ls, S.few_cells);
   }
 
 module _ (G : Grid) (from size : ℕ) (S : Sound G) (N : RunWithin G from size) where
@@ -131,40 +131,40 @@ module _ (G : Grid) (from size : ℕ) (S : Sound G) (N : RunWithin G from size) 
     cell_at = record {
       counts = values_ext (λ k. count_of rn (edge_number RG c k)) (λ k. count_of G.counts (edge_number G (from + c) k)) 6 (λ k lk. (runs_own G from size S N).count c k l lk);
       index = refl;
-      names = λ s ls. ap (face_in_whole G from size) (name_of RG c s ls) ∙ face-at G from size S N c s l ls ∙ sym (name_of G (from + c) s ls);
+      names = λ s ls. ap (face_in_whole G from size) (name_of RG c s ls) ∙ face_at G from size S N c s l ls ∙ sym (name_of G (from + c) s ls);
       starts = λ k i lk h.
           ap (λ n. crossing_in_whole G from size (n + i)) (start-of RG c k lk)
           ∙ crossing-at G from size (edge_number RG c k) i (number_lt G from size S N c k l lk) (count_le RG SR c lc k i lk h)
           ∙ ap (λ e. start G.counts e + i) (number_at G from size S N c k l lk)
           ∙ ap (λ n. n + i) (sym (start-of G (from + c) k lk));
-      order = λ j k s t lj lk hs ht h. crossing-order G from size (of.start_of (grid_cell RG c) j + s) (of.start_of (grid_cell RG c) k + t) h (number-below RG SR c lc k t lk ht);
+      order = λ j k s t lj lk hs ht h. crossing_order G from size (of.start_of (grid_cell RG c) j + s) (of.start_of (grid_cell RG c) k + t) h (number_below RG SR c lc k t lk ht);
     }
 
     drawn-at : map (renamed (keep_inner (into_whole G from size))) (drawn_triangles (grid_cell RG c)) ≡ drawn_triangles (grid_cell G (from + c))
-    drawn-at = drawn_renamed (into_whole G from size) (grid_cell RG c) (grid_cell G (from + c)) cell_at (outer-names RG SR c lc) (outer-names G S (from + c) lw)
+    drawn-at = drawn_renamed (into_whole G from size) (grid_cell RG c) (grid_cell G (from + c)) cell_at (outer_names RG SR c lc) (outer_names G S (from + c) lw)
 
 -- the words of renamed triangles
-gather-words : (r : Renaming) (l : List Triangle) → All Named l → gather (λ t. renamed_words (keep_inner r) (words t)) l ≡ all_words (map (renamed (keep_inner r)) l)
+gather_words : (r : Renaming) (l : List Triangle) → All Named l → gather (λ t. renamed_words (keep_inner r) (words t)) l ≡ all_words (map (renamed (keep_inner r)) l)
 unfolding gather All
-gather-words r [] h = refl
-gather-words r (t ∷ l) h = ap₂ (λ l m. l ++ m) (sym (words_renamed r t h.0)) (gather-words r l h.1)
+gather_words r [] h = refl
+gather_words r (t ∷ l) h = ap₂ (λ l m. l ++ m) (sym (words_renamed r t h.0)) (gather_words r l h.1)
 
 -- so it is word by word, under any names that lead from the run's cells to those of the whole
-pub words-over : (G : Grid) (from size : ℕ) (S : Sound G) (N : RunWithin G from size) (r : Renaming) (c : ℕ) → c < size → RenamedCell r (grid_cell (run_grid G from size) c) (grid_cell G (from + c))
+pub words_over : (G : Grid) (from size : ℕ) (S : Sound G) (N : RunWithin G from size) (r : Renaming) (c : ℕ) → c < size → RenamedCell r (grid_cell (run_grid G from size) c) (grid_cell G (from + c))
     → gather (λ t. renamed_words (keep_inner r) (words t)) (drawn_triangles (grid_cell (run_grid G from size) c)) ≡ all_words (drawn_triangles (grid_cell G (from + c)))
-words-over G from size S N r c l H =
+words_over G from size S N r c l H =
     let a = grid_cell (run_grid G from size) c in
     let SR = run-sound G from size S N in
     let lc : c < cell_count (run_grid G from size).cells = omega (arith, run-count G from size S N) in
-    gather-words r (drawn_triangles a) (drawn_named (run_grid G from size) c SR lc)
-    ∙ ap all_words (drawn_renamed r a (grid_cell G (from + c)) H (outer-names (run_grid G from size) SR c lc) (outer-names G S (from + c) (omega (arith, N.within))))
+    gather_words r (drawn_triangles a) (drawn_named (run_grid G from size) c SR lc)
+    ∙ ap all_words (drawn_renamed r a (grid_cell G (from + c)) H (outer_names (run_grid G from size) SR c lc) (outer_names G S (from + c) (omega (arith, N.within))))
 
 pub runs_renamed : RunsRenamed
 unfolding run_renamed run_triangles mesh_triangles
 runs_renamed G from size S N =
     let r = keep_inner (into_whole G from size) in
     let RG = run_grid G from size in
-    map-over (renamed r) (λ c. drawn_triangles (grid_cell RG c)) (cell_count RG.cells) 0
+    map_over (renamed r) (λ c. drawn_triangles (grid_cell RG c)) (cell_count RG.cells) 0
     ∙ ap (λ n. over (λ c. map (renamed r) (drawn_triangles (grid_cell RG c))) n 0) (run-count G from size S N)
     ∙ over_ext (λ c. map (renamed r) (drawn_triangles (grid_cell RG c))) (λ c. drawn_triangles (grid_cell G (from + c))) size 0 (λ c a h. drawn-at G from size S N c (omega arith))
     ∙ over_shift (λ c. drawn_triangles (grid_cell G c)) from size 0
@@ -181,7 +181,7 @@ run-splits G from size S N =
     let RG = run_grid G from size in
     ap (λ n. total (λ c. splits_of (grid_cell RG c)) n 0) (run-count G from size S N)
     ∙ total_ext (λ c. splits_of (grid_cell RG c)) (λ c. splits_of (grid_cell G (from + c))) size 0 (λ c a h. splits-by (grid_cell RG c) (grid_cell G (from + c)) (cell_at G from size S N c (omega arith)).counts)
-    ∙ total-from (λ c. splits_of (grid_cell G c)) from size 0
+    ∙ total_from (λ c. splits_of (grid_cell G c)) from size 0
     ∙ (let z : from + 0 ≡ from = omega arith in ap (total (λ c. splits_of (grid_cell G c)) size) z)
 
 -- the bounds of the runs
@@ -203,45 +203,45 @@ module _ (n : ℕ) (cuts : List ℕ) (some : 0 < n) (clear : (i : ℕ) → i < l
   unfolding bound
   end_cut i l = get_or-append cuts (n ∷ []) 0 i l
 
-  end-last : bound (run_count cuts) ≡ n
+  end_last : bound (run_count cuts) ≡ n
   unfolding bound
-  end-last = get_or-append_seam cuts n [] 0
+  end_last = get_or-append_seam cuts n [] 0
 
-  start-below : (r : ℕ) → r < run_count cuts → bound r < n
+  start_below : (r : ℕ) → r < run_count cuts → bound r < n
   unfolding bound
-  start-below zero l = some
-  start-below (suc i) l = omega (arith, end_cut i (omega arith), (cut_rises i (omega arith)).1)
+  start_below zero l = some
+  start_below (suc i) l = omega (arith, end_cut i (omega arith), (cut_rises i (omega arith)).1)
 
-  bound-rises : (r : ℕ) → r < run_count cuts → bound r < bound (suc r)
-  bound-rises r l =
+  bound_rises : (r : ℕ) → r < run_count cuts → bound r < bound (suc r)
+  bound_rises r l =
       ⊎_elim
-      (λ (e : r ≡ length cuts). omega (arith, start-below r l, end-last, ap (λ k. bound (suc k)) e))
+      (λ (e : r ≡ length cuts). omega (arith, start_below r l, end_last, ap (λ k. bound (suc k)) e))
       (λ (h : r < length cuts). omega (arith, start_is r l, (cut_rises r h).0, end_cut r h))
       (below-or r (length cuts) l)
 
-  end-within : (r : ℕ) → r < run_count cuts → bound (suc r) ≤ n
-  end-within r l =
+  end_within : (r : ℕ) → r < run_count cuts → bound (suc r) ≤ n
+  end_within r l =
       ⊎_elim
-      (λ (e : r ≡ length cuts). omega (arith, end-last, ap (λ k. bound (suc k)) e))
-      (λ (h : r < length cuts). omega (arith, start-below (suc r) (omega arith)))
+      (λ (e : r ≡ length cuts). omega (arith, end_last, ap (λ k. bound (suc k)) e))
+      (λ (h : r < length cuts). omega (arith, start_below (suc r) (omega arith)))
       (below-or r (length cuts) l)
 
   -- every cut is at least its place, so that there are fewer cuts than cells
-  bound-least : (r : ℕ) → r < suc (run_count cuts) → r ≤ bound r
-  bound-least zero l = omega arith
-  bound-least (suc r) l = omega (arith, bound-least r (omega arith), bound-rises r (omega arith))
+  bound_least : (r : ℕ) → r < suc (run_count cuts) → r ≤ bound r
+  bound_least zero l = omega arith
+  bound_least (suc r) l = omega (arith, bound_least r (omega arith), bound_rises r (omega arith))
 
   pub few_cuts : length cuts < n
-  few_cuts = omega (arith, bound-least (run_count cuts) (omega arith), end-last)
+  few_cuts = omega (arith, bound_least (run_count cuts) (omega arith), end_last)
 
   cut_laws : CutLaws n cuts
   unfolding bound
   cut_laws = record {
     first = refl;
-    some-cell = λ r l. omega (arith, start_is r l, bound-rises r l);
+    some_cell = λ r l. omega (arith, start_is r l, bound_rises r l);
     next = λ r l. let e : r + 1 ≡ suc r = omega arith in sym (ap (run_start cuts) e ∙ start_is (suc r) (omega arith));
-    end = end-last;
-    within = end-within;
+    end = end_last;
+    within = end_within;
   }
 
 pub cuts_cut : CutsCut
@@ -252,23 +252,23 @@ module _ (G : Grid) (cuts : List ℕ) (S : Sound G) (clear : Clear (cut_row G cu
   drawn c = drawn_triangles (grid_cell G c)
 
   abbrev s : ℕ → ℕ
-  s = bound (cell_count G.cells) cuts S.some-cell clear
+  s = bound (cell_count G.cells) cuts S.some_cell clear
 
-  run-r : (r : ℕ) → r < run_count cuts → RunWithin G (s r) (s (suc r) - s r)
-  run-r r h =
-      let up = bound-rises (cell_count G.cells) cuts S.some-cell clear r h in
-      record { some-cell = omega (arith, up); within = omega (arith, up, end-within (cell_count G.cells) cuts S.some-cell clear r h) }
+  run_r : (r : ℕ) → r < run_count cuts → RunWithin G (s r) (s (suc r) - s r)
+  run_r r h =
+      let up = bound_rises (cell_count G.cells) cuts S.some_cell clear r h in
+      record { some_cell = omega (arith, up); within = omega (arith, up, end_within (cell_count G.cells) cuts S.some_cell clear r h) }
 
-  pub joined-triangles : joined_mesh G cuts ≡ mesh_triangles G
+  pub joined_triangles : joined_mesh G cuts ≡ mesh_triangles G
   unfolding joined_mesh mesh_triangles bound
-  joined-triangles =
+  joined_triangles =
       over_ext (λ r. run_renamed G (run_start cuts r) (run_size (cell_count G.cells) cuts r)) (λ r. over drawn (s (suc r) - s r) (s r)) (run_count cuts) 0
       (λ r a l.
       let h : r < run_count cuts = omega arith in
-      ap (λ b. run_renamed G b (s (suc r) - b)) (start_is (cell_count G.cells) cuts S.some-cell clear r h)
-      ∙ runs_renamed G (s r) (s (suc r) - s r) S (run-r r h))
-      ∙ over-parts drawn s (run_count cuts) refl (λ r l. omega (arith, bound-rises (cell_count G.cells) cuts S.some-cell clear r l))
-      ∙ ap (λ n. over drawn n 0) (end-last (cell_count G.cells) cuts S.some-cell clear)
+      ap (λ b. run_renamed G b (s (suc r) - b)) (start_is (cell_count G.cells) cuts S.some_cell clear r h)
+      ∙ runs_renamed G (s r) (s (suc r) - s r) S (run_r r h))
+      ∙ over_parts drawn s (run_count cuts) refl (λ r l. omega (arith, bound_rises (cell_count G.cells) cuts S.some_cell clear r l))
+      ∙ ap (λ n. over drawn n 0) (end_last (cell_count G.cells) cuts S.some_cell clear)
 
   pub joined-splits : joined_splits G cuts ≡ mesh_splits G
   unfolding joined_splits run_splits mesh_splits bound
@@ -276,9 +276,9 @@ module _ (G : Grid) (cuts : List ℕ) (S : Sound G) (clear : Clear (cut_row G cu
       total_ext (run_splits G cuts) (λ r. total (λ c. splits_of (grid_cell G c)) (s (suc r) - s r) (s r)) (run_count cuts) 0
       (λ r a l.
       let h : r < run_count cuts = omega arith in
-      ap (λ b. mesh_splits (run_grid G b (s (suc r) - b))) (start_is (cell_count G.cells) cuts S.some-cell clear r h) ∙ run-splits G (s r) (s (suc r) - s r) S (run-r r h))
-      ∙ total-parts (λ c. splits_of (grid_cell G c)) s (run_count cuts) refl (λ r l. omega (arith, bound-rises (cell_count G.cells) cuts S.some-cell clear r l))
-      ∙ ap (λ n. total (λ c. splits_of (grid_cell G c)) n 0) (end-last (cell_count G.cells) cuts S.some-cell clear)
+      ap (λ b. mesh_splits (run_grid G b (s (suc r) - b))) (start_is (cell_count G.cells) cuts S.some_cell clear r h) ∙ run-splits G (s r) (s (suc r) - s r) S (run_r r h))
+      ∙ total_parts (λ c. splits_of (grid_cell G c)) s (run_count cuts) refl (λ r l. omega (arith, bound_rises (cell_count G.cells) cuts S.some_cell clear r l))
+      ∙ ap (λ n. total (λ c. splits_of (grid_cell G c)) n 0) (end_last (cell_count G.cells) cuts S.some_cell clear)
 
   passes : (rest : List ℕ) → or_refuse (cut_row G cuts) rest ≡ rest
   unfolding or_refuse
@@ -287,12 +287,12 @@ module _ (G : Grid) (cuts : List ℕ) (S : Sound G) (clear : Clear (cut_row G cu
   joined-answer : (room : ℕ) → joined_answer G cuts room ≡ mesh_answer G room
   unfolding joined_answer cuts_answer mesh_answer
   joined-answer room =
-      ap (λ l. pick (accepts G) l (grid_answer G)) (passes (room_answer (joined_mesh G cuts) (joined_splits G cuts) room) ∙ ap₂ (λ m n. room_answer m n room) joined-triangles joined-splits)
+      ap (λ l. pick (accepts G) l (grid_answer G)) (passes (room_answer (joined_mesh G cuts) (joined_splits G cuts) room) ∙ ap₂ (λ m n. room_answer m n room) joined_triangles joined-splits)
 
   joined-area : (before : List ℕ) → joined_area G cuts before ≡ mesh_area G before
   unfolding joined_area cuts_accepted mesh_area mesh_words
   joined-area before =
-      ap₂ (λ b m. pick (accepts G && not b) (stored_in before 0 (all_words m)) before) (none-some (bad_cut (cell_count G.cells) cuts) (length cuts) clear) joined-triangles
+      ap₂ (λ b m. pick (accepts G && not b) (stored_in before 0 (all_words m)) before) (none_some (bad_cut (cell_count G.cells) cuts) (length cuts) clear) joined_triangles
       ∙ ap (λ b. pick b (stored_in before 0 (all_words (mesh_triangles G))) before) (whatever (accepts G))
     where
       whatever : (b : Bool) → (b && not false) ≡ b
@@ -303,7 +303,7 @@ pub joined_is_mesh : JoinedIsMesh
 unfolding mesh_words
 joined_is_mesh G cuts values e clear =
     let S = (acceptance_yields G values e).sound in
-    let t = joined-triangles G cuts S clear in
+    let t = joined_triangles G cuts S clear in
     record { triangles = t; words = ap all_words t; splits = joined-splits G cuts S clear; answer = joined-answer G cuts S clear; area = joined-area G cuts S clear }
 
 -- one run as the mesh call makes it
@@ -315,7 +315,7 @@ runs_meshed G cuts values alone r e clear h a =
     let yes-whole : accepts G ≡ true = ap is_result e in
     let yes-run : accepts R ≡ true = ap is_result a in
     let there : ltb r (run_count cuts) ≡ true = lt-ltb r (run_count cuts) h in
-    let none : some (bad_cut (cell_count G.cells) cuts) (length cuts) ≡ false = none-some (bad_cut (cell_count G.cells) cuts) (length cuts) clear in
+    let none : some (bad_cut (cell_count G.cells) cuts) (length cuts) ≡ false = none_some (bad_cut (cell_count G.cells) cuts) (length cuts) clear in
     record {
       answer = λ room. rw (yes-whole, yes-run) (passes G cuts S clear _ ∙ rw there);
       area = λ before. rw (yes-whole, yes-run, none, there);

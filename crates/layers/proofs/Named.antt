@@ -9,7 +9,7 @@ use lib.ListN.{get_or}
 use Rattle.counting.specs.Pick.{pick}
 use Rattle.counting.specs.Lists.{over, gather}
 use Rattle.counting.specs.claims.Lists.{All}
-use Rattle.counting.proofs.Lists.{all_append, all-over}
+use Rattle.counting.proofs.Lists.{all_append, all_over}
 use Rattle.counting.proofs.Search.{first_le}
 use Rattle.slots.specs.Limits.{most_count}
 use Rattle.slots.specs.Slots.{lo, hi, edge_between, slot_edge}
@@ -25,12 +25,12 @@ use Rattle.cell.specs.Triangles.{triangle, number_of, segment_of, point, segment
 use Rattle.cell.specs.Words.{no_name}
 use Rattle.booking.specs.Booking.{median, left_between, larger, smaller, is_spiral, is_split}
 use Rattle.grid.specs.Grid.{face_name}
-use Rattle.grid.proofs.Names.{name-lt}
+use Rattle.grid.proofs.Names.{name_lt}
 use Rattle.split.specs.Limits.{first_inner_crossing, first_inner_face, word_step}
 use Rattle.split.specs.Labels.{label, labelled}
 use Rattle.split.specs.SubCell.{inner_name, sub_at, sub}
 use Rattle.split.specs.Parts.{Part, whole, corners, splits_within, parts, all_parts, own_corners, part_triangles, part_cell, drawn_parts}
-use Rattle.split.proofs.Parts.{in_order, stop, more, drawn-whole, drawn-all}
+use Rattle.split.proofs.Parts.{in_order, stop, more, drawn_whole, drawn_all}
 use Rattle.split.proofs.Owners.{drawn_gathered}
 use Rattle.mesh.specs.Mesh.{grid_cell}
 use Rattle.layers.specs.claims.Words.{FaceNamed, Named, DrawnNamed}
@@ -46,9 +46,9 @@ module _ (c : Cell) (L : Low c) where
   unfolding FaceNamed segment segment_of
   seg p k = L (slot (edges_of c) (dart (edges_of c) p k))
 
-  loop-named : (p : ℕ) → All Named (loop_triangles c p)
+  loop_named : (p : ℕ) → All Named (loop_triangles c p)
   unfolding loop_triangles All triangle FaceNamed
-  loop-named p = go (shape_of (loop_size (edges_of c) p) (normal (edges_of c) p))
+  loop_named p = go (shape_of (loop_size (edges_of c) p) (normal (edges_of c) p))
     where
       at : (sh : Shape) (k : ℕ) → Named (triangle_of (triangle c.index (number_of c p)) (point c p) Middle (segment c p) Inner (loop_size (edges_of c) p) sh k)
       at single k = record { side0 = seg p 0; side1 = seg p 1; side2 = seg p 2 }
@@ -57,18 +57,18 @@ module _ (c : Cell) (L : Low c) where
       at fan k = record { side0 = seg p k; side1 = tt; side2 = tt }
 
       go : (sh : Shape) → All Named (over (λ k. triangle_of (triangle c.index (number_of c p)) (point c p) Middle (segment c p) Inner (loop_size (edges_of c) p) sh k ∷ []) (many_of sh (loop_size (edges_of c) p)) 0)
-      go sh = all-over Named (λ k. triangle_of (triangle c.index (number_of c p)) (point c p) Middle (segment c p) Inner (loop_size (edges_of c) p) sh k ∷ []) (many_of sh (loop_size (edges_of c) p)) 0 (λ k _ _. (at sh k, tt))
+      go sh = all_over Named (λ k. triangle_of (triangle c.index (number_of c p)) (point c p) Middle (segment c p) Inner (loop_size (edges_of c) p) sh k ∷ []) (many_of sh (loop_size (edges_of c) p)) 0 (λ k _ _. (at sh k, tt))
 
-  cell-named : All Named (cell_triangles c)
+  cell_named : All Named (cell_triangles c)
   unfolding cell_triangles
-  cell-named = all-over Named (loop_triangles c) (crossings (edges_of c)) 0 (λ p _ _. loop-named p)
+  cell_named = all_over Named (loop_triangles c) (crossings (edges_of c)) 0 (λ p _ _. loop_named p)
 
-  corners-named : All Named (own_corners c)
+  corners_named : All Named (own_corners c)
   unfolding own_corners triangles_with asked_triangles All
-  corners-named = all-over Named (λ p. pick (eqb (loop_size (edges_of c) p) 3) (loop_triangles c p) []) (crossings (edges_of c)) 0 (λ p _ _. go p (eqb (loop_size (edges_of c) p) 3))
+  corners_named = all_over Named (λ p. pick (eqb (loop_size (edges_of c) p) 3) (loop_triangles c p) []) (crossings (edges_of c)) 0 (λ p _ _. go p (eqb (loop_size (edges_of c) p) 3))
     where
       go : (p : ℕ) (x : Bool) → All Named (pick x (loop_triangles c p) [])
-      go p true = loop-named p
+      go p true = loop_named p
       go p false = tt
 
 -- the names within a split rise by six
@@ -134,27 +134,27 @@ unfolding larger
 few c =
     omega (arith, in_order (count_of c), median_le (left_between (count_of c) 0 1) (left_between (count_of c) 0 2) (left_between (count_of c) 0 3) most_count (left_le c 0 1) (left_le c 0 2) (left_le c 0 3))
 
-drawn-low : (c : Cell) → Low c → All LowPart (drawn_parts c)
+drawn_low : (c : Cell) → Low c → All LowPart (drawn_parts c)
 unfolding All all_parts
-drawn-low c L = go (is_split (count_of c)) refl
+drawn_low c L = go (is_split (count_of c)) refl
   where
     go : (x : Bool) → is_split (count_of c) ≡ x → All LowPart (drawn_parts c)
-    go true e = subst (All LowPart) (sym (drawn-all c e))
+    go true e = subst (All LowPart) (sym (drawn_all c e))
         (parts_low (larger (count_of c) + smaller (count_of c)) c.index 0 first_inner_crossing first_inner_face c L (omega (arith, few c)))
-    go false e = subst (All LowPart) (sym (drawn-whole c e)) (L, tt)
+    go false e = subst (All LowPart) (sym (drawn_whole c e)) (L, tt)
 
-gather-named : (l : List Part) → All LowPart l → All Named (gather part_triangles l)
+gather_named : (l : List Part) → All LowPart l → All Named (gather part_triangles l)
 unfolding All gather
-gather-named [] h = tt
-gather-named (whole c ∷ l) h = all_append Named (cell_triangles c) (gather part_triangles l) (cell-named c h.0) (gather-named l h.1)
-gather-named (corners c ∷ l) h = all_append Named (own_corners c) (gather part_triangles l) (corners-named c h.0) (gather-named l h.1)
+gather_named [] h = tt
+gather_named (whole c ∷ l) h = all_append Named (cell_triangles c) (gather part_triangles l) (cell_named c h.0) (gather_named l h.1)
+gather_named (corners c ∷ l) h = all_append Named (own_corners c) (gather part_triangles l) (corners_named c h.0) (gather_named l h.1)
 
 pub drawn_named : DrawnNamed
 unfolding grid_cell over
-drawn_named G c S l = subst (All Named) (sym (drawn_gathered (grid_cell G c))) (gather-named (drawn_parts (grid_cell G c)) (drawn-low (grid_cell G c) low))
+drawn_named G c S l = subst (All Named) (sym (drawn_gathered (grid_cell G c))) (gather_named (drawn_parts (grid_cell G c)) (drawn_low (grid_cell G c) low))
   where
     name : (s : ℕ) → s < 4 → face_name G.cells c s < no_name
-    name s h = omega (arith, name-lt G.cells c s l h, S.few-cells)
+    name s h = omega (arith, name_lt G.cells c s l h, S.few_cells)
 
     low : Low (grid_cell G c)
     low zero = name 0 (omega arith)

@@ -12,21 +12,21 @@ use lib.Seq.{sets}
 use borrow.Author.Tests.{eq-eqb, ne_eqb, lt-ltb, le-ltb}
 use Rattle.counting.specs.Lists.{over, values}
 use Rattle.counting.specs.work.Stored.{Stored}
-use Rattle.counting.proofs.Lists.{length_singles, values-at}
+use Rattle.counting.proofs.Lists.{length_singles, values_at}
 use Rattle.counting.proofs.Fronts.{length_blocks}
 use Rattle.counting.proofs.Stored.{stored_more}
 use Rattle.counting.proofs.Stores.{get_d_sets_in, get_d_sets_out}
 use Rattle.cell.specs.Renaming.{Renaming}
 use Rattle.cell.specs.Words.{word_count, no_name}
 use Rattle.layers.specs.work.Work.{side_from, own_at, side_count, most_numbers, Leading, CrossingsNumbered, word_over, word_before, triangle_over, triangles_over}
-use Rattle.layers.proofs.Over.{over-there}
+use Rattle.layers.proofs.Over.{over_there}
 
 -- CROSSINGS
 
 -- one edge more: what its crossings are numbered as is as f says, and so is what was so before
 module _ {f : ℕ → ℕ} {counts starts sides : List ℕ} {from n : ℕ} {own : List ℕ} (L : Leading f counts starts sides from n own) where
-  pub numbered-none : (table : List ℕ) → CrossingsNumbered f counts sides from 0 own table
-  numbered-none table = record { number = λ j i l. absurd (not-suc-le-zero l) }
+  pub numbered_none : (table : List ℕ) → CrossingsNumbered f counts sides from 0 own table
+  numbered_none table = record { number = λ j i l. absurd (not-suc-le-zero l) }
 
   module _ {j : ℕ} {table : List ℕ} (N : CrossingsNumbered f counts sides from j own table) (l : j < n) (long : length table ≡ most_numbers) where
     abbrev first : ℕ
@@ -50,7 +50,7 @@ module _ {f : ℕ → ℕ} {counts starts sides : List ℕ} {from n : ℕ} {own 
         let e : x ≡ at + (x - at) = omega arith in
         ap (λ k. get_or (sets table at numbers) k 0) e
         ∙ get_d_sets_in numbers table at (x - at) 0 (omega (arith, many)) (omega (arith, many, L.below j l))
-        ∙ values-at (λ i. first + i) count (x - at) 0 (omega arith)
+        ∙ values_at (λ i. first + i) count (x - at) 0 (omega arith)
         ∙ sym (L.leads j (x - at) l (omega arith)) ∙ ap f (sym e)
 
     kept : (x : ℕ) → get_or table x 0 ≡ f x → get_or (sets table at numbers) x 0 ≡ f x
@@ -80,38 +80,38 @@ module _ (r : Renaming) (j f w : ℕ) where
   word_cell e = rw (eq-eqb j 0 e)
 
   module _ (a : j ≡ 0 → ⊥) where
-    pub word-crossing : j < 5 → r.crossing w ≡ word_over r j f w
+    pub word_crossing : j < 5 → r.crossing w ≡ word_over r j f w
     unfolding word_over
-    word-crossing h = rw (ne_eqb j 0 a, lt-ltb j 5 h)
+    word_crossing h = rw (ne_eqb j 0 a, lt-ltb j 5 h)
 
     module _ (b : 5 ≤ j) where
-      pub word-face : j % 2 ≡ 1 → r.face w ≡ word_over r j f w
+      pub word_face : j % 2 ≡ 1 → r.face w ≡ word_over r j f w
       unfolding word_over
-      word-face e = rw (ne_eqb j 0 a, le-ltb j 5 b, eq-eqb (j % 2) 1 e)
+      word_face e = rw (ne_eqb j 0 a, le-ltb j 5 b, eq-eqb (j % 2) 1 e)
 
-      pub word-inner : (j % 2 ≡ 1 → ⊥) → f ≡ no_name → w ≡ word_over r j f w
+      pub word_inner : (j % 2 ≡ 1 → ⊥) → f ≡ no_name → w ≡ word_over r j f w
       unfolding word_over
-      word-inner c e = rw (ne_eqb j 0 a, le-ltb j 5 b, ne_eqb (j % 2) 1 c, eq-eqb f no_name e)
+      word_inner c e = rw (ne_eqb j 0 a, le-ltb j 5 b, ne_eqb (j % 2) 1 c, eq-eqb f no_name e)
 
-      pub word-lower : (j % 2 ≡ 1 → ⊥) → (f ≡ no_name → ⊥) → r.crossing w ≡ word_over r j f w
+      pub word_lower : (j % 2 ≡ 1 → ⊥) → (f ≡ no_name → ⊥) → r.crossing w ≡ word_over r j f w
       unfolding word_over
-      word-lower c d = rw (ne_eqb j 0 a, le-ltb j 5 b, ne_eqb (j % 2) 1 c, ne_eqb f no_name d)
+      word_lower c d = rw (ne_eqb j 0 a, le-ltb j 5 b, ne_eqb (j % 2) 1 c, ne_eqb f no_name d)
 
 -- the next word of a triangle
 module _ (r : Renaming) (l : List ℕ) (at : ℕ) where
   abbrev pub put : ℕ → ℕ
   put j = word_over r j (word_before l at j) (get_or l (at + j) 0)
 
-  pub word-there : (m : List ℕ) (j : ℕ) → m ≡ sets l at (values put j) → get_or m (at + j) 0 ≡ get_or l (at + j) 0
-  word-there m j e = ap (λ m. get_or m (at + j) 0) e ∙ get_d_sets_out (values put j) l at (at + j) 0 (inr (omega (arith, length_singles put j 0)))
+  pub word_there : (m : List ℕ) (j : ℕ) → m ≡ sets l at (values put j) → get_or m (at + j) 0 ≡ get_or l (at + j) 0
+  word_there m j e = ap (λ m. get_or m (at + j) 0) e ∙ get_d_sets_out (values put j) l at (at + j) 0 (inr (omega (arith, length_singles put j 0)))
 
-  pub before-next : (j : ℕ) → get_or l (at + j) 0 ≡ word_before l at (j + 1)
-  before-next j = rw add-one
+  pub before_next : (j : ℕ) → get_or l (at + j) 0 ≡ word_before l at (j + 1)
+  before_next j = rw add-one
 
 -- no word yet
-pub sets-none : (f : ℕ → ℕ) (l : List ℕ) (at : ℕ) → l ≡ sets l at (values f 0)
+pub sets_none : (f : ℕ → ℕ) (l : List ℕ) (at : ℕ) → l ≡ sets l at (values f 0)
 unfolding over
-sets-none f l at = refl
+sets_none f l at = refl
 
 -- the next triangle
 module _ (r : Renaming) (l : List ℕ) (at : ℕ) where
@@ -123,20 +123,20 @@ module _ (r : Renaming) (l : List ℕ) (at : ℕ) where
   length_over t = length_blocks one word_count t (λ k h. length_singles (λ j. word_over r j (word_before l (at + word_count * k) j) (get_or l (at + word_count * k + j) 0)) word_count 0)
 
   module _ {m : List ℕ} {i : ℕ} (t : ℕ) (S : Stored l at (triangles_over r l at t) m i) where
-    pub at-is : i ≡ at + word_count * t
-    at-is = omega (arith, S.after, length_over t)
+    pub at_is : i ≡ at + word_count * t
+    at_is = omega (arith, S.after, length_over t)
 
     there : (j : ℕ) → get_or m (i + j) 0 ≡ get_or l (at + word_count * t + j) 0
     there j =
         ap (λ m. get_or m (i + j) 0) S.area
         ∙ get_d_sets_out (triangles_over r l at t) l at (i + j) 0 (inr (omega (arith, S.after)))
-        ∙ ap (λ i. get_or l (i + j) 0) at-is
+        ∙ ap (λ i. get_or l (i + j) 0) at_is
 
-    pub triangle-more : {is : List ℕ} → is ≡ sets m i (triangle_over r m i) → Stored l at (triangles_over r l at (t + 1)) is (i + word_count)
+    pub triangle_more : {is : List ℕ} → is ≡ sets m i (triangle_over r m i) → Stored l at (triangles_over r l at (t + 1)) is (i + word_count)
     unfolding triangles_over
-    triangle-more {is} q =
+    triangle_more {is} q =
         stored_more one t S
         (record {
-          area = q ∙ ap (sets m i) (over-there r m l i (at + word_count * t) (λ j h. there j));
+          area = q ∙ ap (sets m i) (over_there r m l i (at + word_count * t) (λ j h. there j));
           after = omega (arith, length_singles (λ j. word_over r j (word_before l (at + word_count * t) j) (get_or l (at + word_count * t + j) 0)) word_count 0);
         })

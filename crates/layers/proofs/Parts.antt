@@ -8,7 +8,7 @@ use lib.Dec.{eqb}
 use Rattle.counting.specs.Pick.{pick}
 use Rattle.counting.specs.Lists.{over, gather}
 use Rattle.counting.proofs.Bools.{and_left}
-use Rattle.counting.proofs.Lists.{gather-over}
+use Rattle.counting.proofs.Lists.{gather_over}
 use Rattle.counting.proofs.Range.{over_ext}
 use Rattle.manifold.specs.Shape.{fan, shape_by, triangle_of, triangles_of}
 use Rattle.cell.specs.declared.Cell.{Cell}
@@ -23,25 +23,25 @@ use Rattle.cell.specs.Loop.{loop_size, normal}
 use Rattle.cell.specs.Triangles.{triangle, number_of, segment_of, point, segment, loop_triangles, cell_triangles, asked_triangles, triangles_with}
 use Rattle.cell.specs.Renaming.{Renaming, renamed_side, renamed}
 use Rattle.cell.specs.claims.Renaming.{RenamedCell}
-use Rattle.cell.proofs.Renaming.{cells-renamed}
+use Rattle.cell.proofs.Renaming.{cells_renamed}
 use Rattle.booking.specs.Booking.{larger, smaller, is_spiral, is_split}
 use Rattle.split.specs.Limits.{first_inner_crossing, first_inner_face, word_step}
 use Rattle.split.specs.SubCell.{sub}
 use Rattle.split.specs.Parts.{Part, whole, corners, splits_within, parts, all_parts, own_corners, part_triangles, drawn_parts}
-use Rattle.split.proofs.Labels.{spiral-is}
+use Rattle.split.proofs.Labels.{spiral_is}
 use Rattle.split.proofs.SubNumbers.{sub_cells}
-use Rattle.split.proofs.Parts.{stop, more, drawn-whole, drawn-all}
+use Rattle.split.proofs.Parts.{stop, more, drawn_whole, drawn_all}
 use Rattle.split.proofs.Owners.{drawn_gathered}
 use Rattle.layers.specs.Runs.{keep_inner}
 use Rattle.layers.specs.claims.Renaming.{OuterNames, RenamedPart, RenamedParts, PartsRenamed, DrawnRenamed}
-use Rattle.layers.proofs.Renaming.{Below, outer-cell, sub-below, sub-renamed}
+use Rattle.layers.proofs.Renaming.{Below, outer_cell, sub_below, sub_renamed}
 
-renamed-append : (r : Renaming) (l m l' m' : List Part) → RenamedParts r l m → RenamedParts r l' m' → RenamedParts r (l ++ l') (m ++ m')
+renamed_append : (r : Renaming) (l m l' m' : List Part) → RenamedParts r l m → RenamedParts r l' m' → RenamedParts r (l ++ l') (m ++ m')
 unfolding RenamedParts
-renamed-append r [] [] l' m' h k = k
-renamed-append r (a ∷ l) (b ∷ m) l' m' h k = (h.0, renamed-append r l m l' m' h.1 k)
-renamed-append r [] (b ∷ m) l' m' h k = absurd h
-renamed-append r (a ∷ l) [] l' m' h k = absurd h
+renamed_append r [] [] l' m' h k = k
+renamed_append r (a ∷ l) (b ∷ m) l' m' h k = (h.0, renamed_append r l m l' m' h.1 k)
+renamed_append r [] (b ∷ m) l' m' h k = absurd h
+renamed_append r (a ∷ l) [] l' m' h k = absurd h
 
 pub last : (cell n b f : ℕ) (c : Cell) → parts 0 cell n b f c ≡ whole c ∷ []
 unfolding parts
@@ -84,9 +84,9 @@ module _ (r : Renaming) where
         here,
         (
           S 1 3 (omega arith),
-          renamed-append (keep_inner r) (parts fuel cell (n + 2) top (f + 6) (sub c b f (cell + word_step * (n + 2)) 2))
+          renamed_append (keep_inner r) (parts fuel cell (n + 2) top (f + 6) (sub c b f (cell + word_step * (n + 2)) 2))
               (parts fuel (r.cell cell) (n + 2) top (f + 6) (sub (with c.counts) b f (r.cell cell + word_step * (n + 2)) 2)) (ends cell c) (ends (r.cell cell) (with c.counts))
-              (i (sub_cells c K some apart b f (cell + word_step * (n + 2))).omits-k.level (S 2 2 (omega arith)) under-c under-d)
+              (i (sub_cells c K some apart b f (cell + word_step * (n + 2))).omits_k.level (S 2 2 (omega arith)) under_c under_d)
               (after 3 1 (omega arith), (after 4 0 (omega arith), tt)),
         ),
       )
@@ -95,27 +95,27 @@ module _ (r : Renaming) where
           ends cell c = whole (sub c b f (cell + word_step * (n + 3 + 4 * splits_within (count_of c))) 1) ∷ whole (sub c b f (cell + word_step * (n + 4 + 4 * splits_within (count_of c))) 0) ∷ []
 
           some : 0 < smaller (count_of c)
-          some = (spiral-is (count_of c) e).0
+          some = (spiral_is (count_of c) e).0
 
           apart : smaller (count_of c) < larger (count_of c)
-          apart = (spiral-is (count_of c) e).1
+          apart = (spiral_is (count_of c) e).1
 
           S : (x m : ℕ) → m < 4 → RenamedCell (keep_inner r) (sub c b f (cell + word_step * (n + x)) m) (sub (with c.counts) b f (r.cell cell + word_step * (n + x)) m)
-          S x m l = sub-renamed r c d.starts d.names d.nodes d.index K some apart b f m l here u under hb hf cell (n + x) hc
+          S x m l = sub_renamed r c d.starts d.names d.nodes d.index K some apart b f m l here u under hb hf cell (n + x) hc
 
           after : (x m : ℕ) → m < 4 → RenamedCell (keep_inner r) (sub c b f (cell + word_step * (n + x + 4 * splits_within (count_of c))) m)
               (sub (with c.counts) b f (r.cell cell + word_step * (n + x + 4 * splits_within (count_of c))) m)
-          after x m l = sub-renamed r c d.starts d.names d.nodes d.index K some apart b f m l here u under hb hf cell (n + x + 4 * splits_within (count_of c)) hc
+          after x m l = sub_renamed r c d.starts d.names d.nodes d.index K some apart b f m l here u under hb hf cell (n + x + 4 * splits_within (count_of c)) hc
 
-          under-c : Below top (sub c b f (cell + word_step * (n + 2)) 2)
-          under-c = sub-below r c d.starts d.names d.nodes d.index K some apart b f 2 (omega arith) (cell + word_step * (n + 2)) u
+          under_c : Below top (sub c b f (cell + word_step * (n + 2)) 2)
+          under_c = sub_below r c d.starts d.names d.nodes d.index K some apart b f 2 (omega arith) (cell + word_step * (n + 2)) u
 
-          under-d : Below top (sub (with c.counts) b f (r.cell cell + word_step * (n + 2)) 2)
-          under-d = sub-below r (with c.counts) d.starts d.names d.nodes d.index K some apart b f 2 (omega arith) (r.cell cell + word_step * (n + 2)) under
+          under_d : Below top (sub (with c.counts) b f (r.cell cell + word_step * (n + 2)) 2)
+          under_d = sub_below r (with c.counts) d.starts d.names d.nodes d.index K some apart b f 2 (omega arith) (r.cell cell + word_step * (n + 2)) under
 
   module _ (a b : Cell) (H : RenamedCell r a b) (A : OuterNames a) (B : OuterNames b) where
     outer : RenamedCell (keep_inner r) a b
-    outer = outer-cell r a b H A
+    outer = outer_cell r a b H A
 
     all_renamed : is_split (count_of a) ≡ true → RenamedParts (keep_inner r) (all_parts a) (all_parts b)
     unfolding all_parts is_split
@@ -135,8 +135,8 @@ parts_renamed r a b H A B = go (is_split (count_of a)) refl
     same = ap (λ l. is_split (count_of (record { counts = l; starts = []; names = []; nodes = []; index = 0 }))) H.counts
 
     go : (x : Bool) → is_split (count_of a) ≡ x → RenamedParts (keep_inner r) (drawn_parts a) (drawn_parts b)
-    go true e = rw (drawn-all a e, drawn-all b (sym same ∙ e)) (all_renamed r a b H A B e)
-    go false e = rw (drawn-whole a e, drawn-whole b (sym same ∙ e)) (outer r a b H A B, tt)
+    go true e = rw (drawn_all a e, drawn_all b (sym same ∙ e)) (all_renamed r a b H A B e)
+    go false e = rw (drawn_whole a e, drawn_whole b (sym same ∙ e)) (outer r a b H A B, tt)
 
 -- The own corner triangles of a cell are its triangles without an inner side.
 is_segment : Side → Bool
@@ -155,15 +155,15 @@ empty f zero p h = refl
 empty f (suc n) p h = ap₂ (λ l m. l ++ m) (h p) (empty f n (suc p) h)
 
 module _ (c : Cell) where
-  loop-plain : (p : ℕ) → gather plain (loop_triangles c p) ≡ pick (eqb (loop_size (edges_of c) p) 3) (loop_triangles c p) []
+  loop_plain : (p : ℕ) → gather plain (loop_triangles c p) ≡ pick (eqb (loop_size (edges_of c) p) 3) (loop_triangles c p) []
   unfolding loop_triangles gather over plain is_plain is_segment triangle segment segment_of
-  loop-plain p = go (eqb (loop_size (edges_of c) p) 3) (eqb (loop_size (edges_of c) p) 4) (normal (edges_of c) p)
+  loop_plain p = go (eqb (loop_size (edges_of c) p) 3) (eqb (loop_size (edges_of c) p) 4) (normal (edges_of c) p)
     where
       of : Bool → Bool → Bool → List Triangle
       of x y q = triangles_of (triangle c.index (number_of c p)) (point c p) Middle (segment c p) Inner (loop_size (edges_of c) p) (shape_by x y q)
 
       fanned : (n : ℕ) → (f : ℕ → Triangle) → ((k : ℕ) → is_plain (f k) ≡ false) → gather plain (over (λ k. f k ∷ []) n 0) ≡ []
-      fanned n f h = gather-over plain (λ k. f k ∷ []) n 0 ∙ empty (λ k. gather plain (f k ∷ [])) n 0 (λ k. ap (λ x. pick x (f k ∷ []) [] ++ []) (h k))
+      fanned n f h = gather_over plain (λ k. f k ∷ []) n 0 ∙ empty (λ k. gather plain (f k ∷ [])) n 0 (λ k. ap (λ x. pick x (f k ∷ []) [] ++ []) (h k))
 
       go : (x y q : Bool) → gather plain (of x y q) ≡ pick x (of x y q) []
       go true y q = refl
@@ -171,36 +171,36 @@ module _ (c : Cell) where
       go false true false = fanned (loop_size (edges_of c) p) (triangle_of (triangle c.index (number_of c p)) (point c p) Middle (segment c p) Inner (loop_size (edges_of c) p) fan) (λ k. refl)
       go false false q = fanned (loop_size (edges_of c) p) (triangle_of (triangle c.index (number_of c p)) (point c p) Middle (segment c p) Inner (loop_size (edges_of c) p) fan) (λ k. refl)
 
-  own-plain : own_corners c ≡ gather plain (cell_triangles c)
+  own_plain : own_corners c ≡ gather plain (cell_triangles c)
   unfolding own_corners triangles_with asked_triangles cell_triangles
-  own-plain =
-      sym (gather-over plain (loop_triangles c) (crossings (edges_of c)) 0
-      ∙ over_ext (λ p. gather plain (loop_triangles c p)) (λ p. pick (eqb (loop_size (edges_of c) p) 3) (loop_triangles c p) []) (crossings (edges_of c)) 0 (λ p _ _. loop-plain p))
+  own_plain =
+      sym (gather_over plain (loop_triangles c) (crossings (edges_of c)) 0
+      ∙ over_ext (λ p. gather plain (loop_triangles c p)) (λ p. pick (eqb (loop_size (edges_of c) p) 3) (loop_triangles c p) []) (crossings (edges_of c)) 0 (λ p _ _. loop_plain p))
 
 module _ (r : Renaming) where
-  same-side : (s : Side) → is_segment (renamed_side r s) ≡ is_segment s
+  same_side : (s : Side) → is_segment (renamed_side r s) ≡ is_segment s
   unfolding is_segment
-  same-side (Segment f g) = refl
-  same-side (Inner k) = refl
+  same_side (Segment f g) = refl
+  same_side (Inner k) = refl
 
-  plain-renamed : (t : Triangle) → map (renamed r) (plain t) ≡ plain (renamed r t)
+  plain_renamed : (t : Triangle) → map (renamed r) (plain t) ≡ plain (renamed r t)
   unfolding plain is_plain
-  plain-renamed t = go (is_plain t) ∙ ap (λ x. pick x (renamed r t ∷ []) []) (sym (ap₂ (λ x y. x && y) (same-side t.side0) (ap₂ (λ x y. x && y) (same-side t.side1) (same-side t.side2))))
+  plain_renamed t = go (is_plain t) ∙ ap (λ x. pick x (renamed r t ∷ []) []) (sym (ap₂ (λ x y. x && y) (same_side t.side0) (ap₂ (λ x y. x && y) (same_side t.side1) (same_side t.side2))))
     where
       go : (x : Bool) → map (renamed r) (pick x (t ∷ []) []) ≡ pick x (renamed r t ∷ []) []
       go true = refl
       go false = refl
 
-  map-plain : (l : List Triangle) → map (renamed r) (gather plain l) ≡ gather plain (map (renamed r) l)
+  map_plain : (l : List Triangle) → map (renamed r) (gather plain l) ≡ gather plain (map (renamed r) l)
   unfolding gather
-  map-plain [] = refl
-  map-plain (t ∷ l) = map-append (renamed r) (plain t) (gather plain l) ∙ ap₂ (λ l m. l ++ m) (plain-renamed t) (map-plain l)
+  map_plain [] = refl
+  map_plain (t ∷ l) = map-append (renamed r) (plain t) (gather plain l) ∙ ap₂ (λ l m. l ++ m) (plain_renamed t) (map_plain l)
 
   -- the triangles of a renamed part, and of renamed parts
   part-triangles : (x y : Part) → RenamedPart r x y → map (renamed r) (part_triangles x) ≡ part_triangles y
   unfolding RenamedPart
-  part-triangles (whole a) (whole b) H = cells-renamed r a b H
-  part-triangles (corners a) (corners b) H = ap (map (renamed r)) (own-plain a) ∙ map-plain (cell_triangles a) ∙ ap (gather plain) (cells-renamed r a b H) ∙ sym (own-plain b)
+  part-triangles (whole a) (whole b) H = cells_renamed r a b H
+  part-triangles (corners a) (corners b) H = ap (map (renamed r)) (own_plain a) ∙ map_plain (cell_triangles a) ∙ ap (gather plain) (cells_renamed r a b H) ∙ sym (own_plain b)
   part-triangles (whole a) (corners b) H = absurd H
   part-triangles (corners a) (whole b) H = absurd H
 

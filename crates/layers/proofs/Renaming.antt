@@ -9,10 +9,10 @@ use lib.ListN.{get_or}
 use borrow.Author.Tests.{lt-ltb, le-ltb}
 use Rattle.counting.specs.Pick.{pick}
 use Rattle.counting.specs.Lists.{total, pre}
-use Rattle.counting.proofs.Below.{below-three, below-four, below-six}
+use Rattle.counting.proofs.Below.{below_three, below_four, below_six}
 use Rattle.counting.proofs.Pack.{pack_lt}
 use Rattle.slots.specs.Slots.{lo, position, slot_edge}
-use Rattle.slots.proofs.Slots.{slot-edge, corner-lt}
+use Rattle.slots.proofs.Slots.{slot-edge, corner_lt}
 use Rattle.cell.specs.declared.Cell.{Cell}
 use Rattle.cell.specs.Of.{count_of, start_of}
 use Rattle.cell.specs.Level.{is_level_cell}
@@ -22,29 +22,29 @@ use Rattle.booking.specs.Booking.{least_corner, larger, smaller}
 use Rattle.split.specs.Limits.{first_inner_crossing, first_inner_face, word_step}
 use Rattle.split.specs.Labels.{labelled, label, spoke}
 use Rattle.split.specs.SubCell.{rest_start, arm_start, inner_name, sub_at, sub}
-use Rattle.split.proofs.Labels.{labelled-lt, at-label}
+use Rattle.split.proofs.Labels.{labelled_lt, at-label}
 use Rattle.split.proofs.Rest.{rest_sum}
-use Rattle.split.proofs.SubCells.{sub-omits}
+use Rattle.split.proofs.SubCells.{sub_omits}
 use Rattle.layers.specs.Runs.{keep_inner}
 use Rattle.layers.specs.claims.Renaming.{OuterNames}
 
 -- what stays and what goes over
 module _ (r : Renaming) where
-  pub inner-crossing : (g : ℕ) → first_inner_crossing ≤ g → (keep_inner r).crossing g ≡ g
+  pub inner_crossing : (g : ℕ) → first_inner_crossing ≤ g → (keep_inner r).crossing g ≡ g
   unfolding keep_inner
-  inner-crossing g h = ap (λ x. pick x (r.crossing g) g) (le-ltb g first_inner_crossing h)
+  inner_crossing g h = ap (λ x. pick x (r.crossing g) g) (le-ltb g first_inner_crossing h)
 
-  pub outer-crossing : (g : ℕ) → g < first_inner_crossing → (keep_inner r).crossing g ≡ r.crossing g
+  pub outer_crossing : (g : ℕ) → g < first_inner_crossing → (keep_inner r).crossing g ≡ r.crossing g
   unfolding keep_inner
-  outer-crossing g h = ap (λ x. pick x (r.crossing g) g) (lt-ltb g first_inner_crossing h)
+  outer_crossing g h = ap (λ x. pick x (r.crossing g) g) (lt-ltb g first_inner_crossing h)
 
-  pub inner-face : (f : ℕ) → first_inner_face ≤ f → (keep_inner r).face f ≡ f
+  pub inner_face : (f : ℕ) → first_inner_face ≤ f → (keep_inner r).face f ≡ f
   unfolding keep_inner
-  inner-face f h = ap (λ x. pick x (r.face f) f) (le-ltb f first_inner_face h)
+  inner_face f h = ap (λ x. pick x (r.face f) f) (le-ltb f first_inner_face h)
 
-  pub outer-face : (f : ℕ) → f < first_inner_face → (keep_inner r).face f ≡ r.face f
+  pub outer_face : (f : ℕ) → f < first_inner_face → (keep_inner r).face f ≡ r.face f
   unfolding keep_inner
-  outer-face f h = ap (λ x. pick x (r.face f) f) (lt-ltb f first_inner_face h)
+  outer_face f h = ap (λ x. pick x (r.face f) f) (lt-ltb f first_inner_face h)
 
   pub word_0 : (cell n : ℕ) → cell < word_step → (keep_inner r).cell (cell + word_step * n) ≡ r.cell cell + word_step * n
   unfolding keep_inner
@@ -54,14 +54,14 @@ module _ (r : Renaming) where
       ap₂ (λ x y. r.cell x + word_step * y) a b
 
   -- a cell of a grid goes over as by r
-  pub outer-cell : (a b : Cell) → RenamedCell r a b → OuterNames a → RenamedCell (keep_inner r) a b
-  outer-cell a b H A = record {
+  pub outer_cell : (a b : Cell) → RenamedCell r a b → OuterNames a → RenamedCell (keep_inner r) a b
+  outer_cell a b H A = record {
     counts = H.counts;
     index = let z : a.index + word_step * 0 ≡ a.index = omega arith in ap (keep_inner r).cell (sym z) ∙ word_0 a.index 0 A.index ∙ omega (arith, H.index);
-    names = λ s l. outer-face (get_or a.names s 0) (A.under s l) ∙ H.names s l;
-    starts = λ k i lk h. outer-crossing (start_of a k + i) (A.below k i lk h) ∙ H.starts k i lk h;
+    names = λ s l. outer_face (get_or a.names s 0) (A.under s l) ∙ H.names s l;
+    starts = λ k i lk h. outer_crossing (start_of a k + i) (A.below k i lk h) ∙ H.starts k i lk h;
     order = λ j k s t lj lk hs ht h.
-        omega (arith, outer-crossing (start_of a j + s) (A.below j s lj hs), outer-crossing (start_of a k + t) (A.below k t lk ht), H.order j k s t lj lk hs ht h);
+        omega (arith, outer_crossing (start_of a j + s) (A.below j s lj hs), outer_crossing (start_of a k + t) (A.below k t lk ht), H.order j k s t lj lk hs ht h);
   }
 
 -- all crossing numbers of a cell are below b
@@ -107,22 +107,22 @@ module _ (r : Renaming) (c : Cell) (starts names nodes : List ℕ) (at : ℕ) wh
 
       arm : (q : ℕ) → q < 3 → (start_of S q ≡ arm_start c b (position p q)) × (start_of S' q ≡ arm_start c b (position p q))
       unfolding sub_at arm_start
-      arm = below-three (λ q. (start_of S q ≡ arm_start c b (position p q)) × (start_of S' q ≡ arm_start c b (position p q))) (refl, refl) (refl, refl) (refl, refl)
+      arm = below_three (λ q. (start_of S q ≡ arm_start c b (position p q)) × (start_of S' q ≡ arm_start c b (position p q))) (refl, refl) (refl, refl) (refl, refl)
 
       new : (q : ℕ) → q < 3 → New q
       unfolding arm_start
       new q l =
           let (x, y) = arm q l in
-          let n = (at-label w K some apart (position p q) (corner-lt p q l)).0 in
+          let n = (at-label w K some apart (position p q) (corner_lt p q l)).0 in
           record {
             from = omega (arith, x);
             same = x ∙ sym y;
-            below = λ i h. omega (arith, x, spokes, pack_lt (spoke w) 4 (label w (position p q)) i n (omega (arith, (sub-omits c K some apart b f word p lp).new q l)));
+            below = λ i h. omega (arith, x, spokes, pack_lt (spoke w) 4 (label w (position p q)) i n (omega (arith, (sub_omits c K some apart b f word p lp).new q l)));
           }
 
       rest : (j : ℕ) → j < 3 → (start_of S (3 + j) ≡ rest_start c (slot_edge p j)) × (start_of S' (3 + j) ≡ rest_start d (slot_edge p j))
       unfolding sub_at
-      rest = below-three (λ j. (start_of S (3 + j) ≡ rest_start c (slot_edge p j)) × (start_of S' (3 + j) ≡ rest_start d (slot_edge p j))) (refl, refl) (refl, refl) (refl, refl)
+      rest = below_three (λ j. (start_of S (3 + j) ≡ rest_start c (slot_edge p j)) × (start_of S' (3 + j) ≡ rest_start d (slot_edge p j))) (refl, refl) (refl, refl) (refl, refl)
 
       old : (j : ℕ) → j < 3 → Old (3 + j)
       unfolding rest_start
@@ -136,11 +136,11 @@ module _ (r : Renaming) (c : Cell) (starts names nodes : List ℕ) (at : ℕ) wh
             gone = least_corner w (lo e);
             start = x;
             start' = y;
-            within = λ i h. omega (arith, (sub-omits c K some apart b f word p lp).old j l, rest_sum (count_of c) K e le);
+            within = λ i h. omega (arith, (sub_omits c K some apart b f word p lp).old j l, rest_sum (count_of c) K e le);
           }
 
       kind : (k : ℕ) → k < 6 → New k ⊎ Old k
-      kind = below-six (λ k. New k ⊎ Old k) (inl (new 0 (omega arith))) (inl (new 1 (omega arith))) (inl (new 2 (omega arith)))
+      kind = below_six (λ k. New k ⊎ Old k) (inl (new 0 (omega arith))) (inl (new 1 (omega arith))) (inl (new 2 (omega arith)))
           (inr (old 0 (omega arith))) (inr (old 1 (omega arith))) (inr (old 2 (omega arith)))
 
       below_at : Below b c → Below top S
@@ -149,7 +149,7 @@ module _ (r : Renaming) (c : Cell) (starts names nodes : List ℕ) (at : ℕ) wh
 
       module _ (H : RenamedCell (keep_inner r) c d) (u : Below b c) (v : Below b d) (hb : first_inner_crossing ≤ b) (hf : first_inner_face ≤ f) where
         stays : (k i : ℕ) → New k → (keep_inner r).crossing (start_of S k + i) ≡ start_of S k + i
-        stays k i q = inner-crossing r (start_of S k + i) (omega (arith, q.from))
+        stays k i q = inner_crossing r (start_of S k + i) (omega (arith, q.from))
 
         goes : (k i : ℕ) (q : Old k) → i < count_of S k → (keep_inner r).crossing (start_of S k + i) ≡ start_of d q.e + (q.gone + i)
         goes k i q h =
@@ -169,26 +169,26 @@ module _ (r : Renaming) (c : Cell) (starts names nodes : List ℕ) (at : ℕ) wh
 
         sides : (e : ℕ) → (keep_inner r).face (inner_name c f e) ≡ inner_name d f e
         unfolding inner_name
-        sides e = inner-face r (inner_name c f e) (omega arith)
+        sides e = inner_face r (inner_name c f e) (omega arith)
 
-        renamed-at : (keep_inner r).cell word ≡ word' → RenamedCell (keep_inner r) S S'
+        renamed_at : (keep_inner r).cell word ≡ word' → RenamedCell (keep_inner r) S S'
         unfolding sub_at
-        renamed-at i = record {
+        renamed_at i = record {
           counts = refl;
           index = i;
-          names = below-four (λ s. (keep_inner r).face (get_or S.names s 0) ≡ get_or S'.names s 0) (H.names p lp) (sides (slot_edge p 2)) (sides (slot_edge p 1)) (sides (slot_edge p 0));
+          names = below_four (λ s. (keep_inner r).face (get_or S.names s 0) ≡ get_or S'.names s 0) (H.names p lp) (sides (slot_edge p 2)) (sides (slot_edge p 1)) (sides (slot_edge p 0));
           starts = λ k i lk h. ⊎_elim (λ (q : New k). stays k i q ∙ ap (λ x. x + i) q.same) (λ (q : Old k). goes k i q h ∙ omega (arith, q.start')) (kind k lk);
           order = λ j k s t lj lk. order j k s t (kind j lj) (kind k lk);
         }
 
     -- the same of the sub-cells by their labels
     module _ (m : ℕ) (l : m < 4) where
-      pub sub-below : (word : ℕ) → Below b c → Below top (sub c b f word m)
+      pub sub_below : (word : ℕ) → Below b c → Below top (sub c b f word m)
       unfolding sub
-      sub-below word u = below_at word 0 (labelled w m) (labelled-lt w K some apart m l) u
+      sub_below word u = below_at word 0 (labelled w m) (labelled_lt w K some apart m l) u
 
-      pub sub-renamed : RenamedCell (keep_inner r) c d → Below b c → Below b d → first_inner_crossing ≤ b → first_inner_face ≤ f → (cell n : ℕ) → cell < word_step
+      pub sub_renamed : RenamedCell (keep_inner r) c d → Below b c → Below b d → first_inner_crossing ≤ b → first_inner_face ≤ f → (cell n : ℕ) → cell < word_step
           → RenamedCell (keep_inner r) (sub c b f (cell + word_step * n) m) (sub d b f (r.cell cell + word_step * n) m)
       unfolding sub
-      sub-renamed H u v hb hf cell n h =
-          renamed-at (cell + word_step * n) (r.cell cell + word_step * n) (labelled w m) (labelled-lt w K some apart m l) H u v hb hf (word_0 r cell n h)
+      sub_renamed H u v hb hf cell n h =
+          renamed_at (cell + word_step * n) (r.cell cell + word_step * n) (labelled w m) (labelled_lt w K some apart m l) H u v hb hf (word_0 r cell n h)

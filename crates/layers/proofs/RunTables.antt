@@ -22,8 +22,8 @@ module _ (G : Grid) (from size : ℕ) (names sides starts : List ℕ) (S : Sound
   abbrev RG : Grid
   RG = run_grid G from size
 
-  count-is : (k : ℕ) → k < 6 → get_or G.counts (side sides c k) 0 ≡ count_of (run_counts G from size) (edge_number RG c k)
-  count-is k lk = ap (count_of G.counts) (T.side c k l lk) ∙ sym ((runs_own G from size S N).count c k l lk)
+  count_is : (k : ℕ) → k < 6 → get_or G.counts (side sides c k) 0 ≡ count_of (run_counts G from size) (edge_number RG c k)
+  count_is k lk = ap (count_of G.counts) (T.side c k l lk) ∙ sym ((runs_own G from size S N).count c k l lk)
 
   start_is : (k : ℕ) → k < 6 → get_or starts (side sides c k) 0 % short_limit ≡ start (run_counts G from size) (edge_number RG c k)
   unfolding start
@@ -34,21 +34,21 @@ module _ (G : Grid) (from size : ℕ) (names sides starts : List ℕ) (S : Sound
         arith,
         q,
         pre_le (count_of (run_counts G from size)) 0 (edge_number RG c k) (length (run_counts G from size)) (number_lt G from size S N c k l lk),
-        (run-sound G from size S N).few-crossings,
+        (run-sound G from size S N).few_crossings,
       )
 
-  name-is : (s : ℕ) → s < 4 → get_or names (4 * c + s) 0 ≡ face_name (run_cells G from size) c s
-  name-is s ls = T.name c s l ls ∙ sym ((runs_own G from size S N).name c s l ls)
+  name_is : (s : ℕ) → s < 4 → get_or names (4 * c + s) 0 ≡ face_name (run_cells G from size) c s
+  name_is s ls = T.name c s l ls ∙ sym ((runs_own G from size S N).name c s l ls)
 
-  cell-is : table_cell (run_cells G from size) G.counts names sides starts c ≡ grid_cell RG c
+  cell_is : table_cell (run_cells G from size) G.counts names sides starts c ≡ grid_cell RG c
   unfolding table_cell grid_cell
-  cell-is =
-      let m : c % most_cells ≡ c = omega (arith, S.few-cells, N.within) in
+  cell_is =
+      let m : c % most_cells ≡ c = omega (arith, S.few_cells, N.within) in
       let a : table_counts G.counts sides c ≡ values (λ k. count_of (run_counts G from size) (edge_number RG c k)) 6 =
-      values_ext (λ k. get_or G.counts (side sides c k) 0) (λ k. count_of (run_counts G from size) (edge_number RG c k)) 6 count-is in
+      values_ext (λ k. get_or G.counts (side sides c k) 0) (λ k. count_of (run_counts G from size) (edge_number RG c k)) 6 count_is in
       let b : table_starts starts sides c ≡ values (λ k. start (run_counts G from size) (edge_number RG c k)) 6 =
       values_ext (λ k. get_or starts (side sides c k) 0 % short_limit) (λ k. start (run_counts G from size) (edge_number RG c k)) 6 start_is in
-      let d : of_four names c ≡ values (face_name (run_cells G from size) c) 4 = values_ext (λ s. get_or names (4 * c + s) 0) (face_name (run_cells G from size) c) 4 name-is in
+      let d : of_four names c ≡ values (face_name (run_cells G from size) c) 4 = values_ext (λ s. get_or names (4 * c + s) 0) (face_name (run_cells G from size) c) 4 name_is in
       rw m (ap₂ (λ x y. record { counts = x; starts = y; names = of_four names c; nodes = of_four (run_cells G from size) c; index = c }) a b
       ∙ ap (λ z. record {
         counts = values (λ k. count_of (run_counts G from size) (edge_number RG c k)) 6;
@@ -59,4 +59,4 @@ module _ (G : Grid) (from size : ℕ) (names sides starts : List ℕ) (S : Sound
       }) d)
 
 pub runs_tabled : RunsTabled
-runs_tabled G from size names sides starts S N T c l = cell-is G from size names sides starts S N T c l
+runs_tabled G from size names sides starts S N T c l = cell_is G from size names sides starts S N T c l

@@ -17,14 +17,14 @@ use Rattle.counting.specs.Search.{some}
 use Rattle.counting.specs.Lists.{pre, total, over, values}
 use Rattle.counting.proofs.Bools.{or_left, or_right, or_false, clash, not_clash}
 use Rattle.counting.specs.Stored.{filled}
-use Rattle.counting.proofs.Pack.{pre-next}
-use Rattle.counting.proofs.Range.{total_ext, total-zero, total-split}
-use Rattle.counting.proofs.Lists.{length_singles, values-at}
+use Rattle.counting.proofs.Pack.{pre_next}
+use Rattle.counting.proofs.Range.{total_ext, total_zero, total_split}
+use Rattle.counting.proofs.Lists.{length_singles, values_at}
 use Rattle.counting.proofs.Stored.{filled_at, sets_more}
 use Rattle.counting.proofs.Stores.{get_d_sets_in, get_d_sets_out}
 use Rattle.slots.specs.Limits.{most_cells, most_slots}
 use Rattle.slots.specs.work.Limits.{most_edges}
-use Rattle.counting.proofs.Search.{some-zero, some-hit, some_miss}
+use Rattle.counting.proofs.Search.{some_zero, some_hit, some_miss}
 use Rattle.layers.specs.Cuts.{cut_at, run_start, run_end, bad_cut}
 use Rattle.layers.specs.work.Work.{name_from, side_from, used_by, block_size, block_of, most_marks, EdgesMarked, marked_start, StartsSumming, StartsSummed, Layable, Copied, Started}
 
@@ -45,18 +45,18 @@ module _ (n : ℕ) (cuts : List ℕ) (i : ℕ) where
       or_false (not (ltb (run_start cuts i) (cut_at cuts i))) (not (ltb (cut_at cuts i) n))
       (ap not (lt-ltb (run_start cuts i) (cut_at cuts i) h)) (ap not (lt-ltb (cut_at cuts i) n k))
 
-pub start-next : (cuts : List ℕ) (i : ℕ) → cut_at cuts i ≡ run_start cuts (i + 1)
-start-next cuts i = rw add-one
+pub start_next : (cuts : List ℕ) (i : ℕ) → cut_at cuts i ≡ run_start cuts (i + 1)
+start_next cuts i = rw add-one
 
-pub start-later : (cuts : List ℕ) (r : ℕ) → (r ≡ 0 → ⊥) → cut_at cuts (r - 1) ≡ run_start cuts r
-start-later cuts zero h = absurd (h refl)
-start-later cuts (suc r) h = let e : suc r - 1 ≡ r = omega arith in ap (cut_at cuts) e
+pub start_later : (cuts : List ℕ) (r : ℕ) → (r ≡ 0 → ⊥) → cut_at cuts (r - 1) ≡ run_start cuts r
+start_later cuts zero h = absurd (h refl)
+start_later cuts (suc r) h = let e : suc r - 1 ≡ r = omega arith in ap (cut_at cuts) e
 
 pub end_cut : (n : ℕ) (cuts : List ℕ) (r : ℕ) → r < length cuts → cut_at cuts r ≡ run_end n cuts r
 end_cut n cuts r h = sym (get_or-append cuts (n ∷ []) 0 r h)
 
-pub end-last : (n : ℕ) (cuts : List ℕ) (r : ℕ) → r ≡ length cuts → n ≡ run_end n cuts r
-end-last n cuts r e = sym (ap (run_end n cuts) e ∙ get_or-append_seam cuts n [] 0)
+pub end_last : (n : ℕ) (cuts : List ℕ) (r : ℕ) → r ≡ length cuts → n ≡ run_end n cuts r
+end_last n cuts r e = sym (ap (run_end n cuts) e ∙ get_or-append_seam cuts n [] 0)
 
 -- TABLES
 
@@ -66,8 +66,8 @@ base_in base x j h = rw (le-leb base x h)
 pub base_out : (base x j : ℕ) → x < base → j ≡ pick (leb base x) (x - base) j
 base_out base x j h = rw (lt-leb base x h)
 
-pub base-small : (base x j m : ℕ) → x < m → j < m → pick (leb base x) (x - base) j < m
-base-small base x j m h k = go (leb base x)
+pub base_small : (base x j m : ℕ) → x < m → j < m → pick (leb base x) (x - base) j < m
+base_small base x j m h k = go (leb base x)
   where
     go : (b : Bool) → pick b (x - base) j < m
     go true = omega arith
@@ -79,17 +79,17 @@ counted_in m n k e = rw (eq-eqb m n e)
 pub counted_out : (m n k : ℕ) → (m ≡ n → ⊥) → 0 ≡ pick (eqb m n) k 0
 counted_out m n k h = rw (ne_eqb m n h)
 
-pub marked-none : (from m : ℕ) (sides used : List ℕ) → ((e : ℕ) → get_or used e 0 < m) → EdgesMarked from 0 m sides used used
+pub marked_none : (from m : ℕ) (sides used : List ℕ) → ((e : ℕ) → get_or used e 0 < m) → EdgesMarked from 0 m sides used used
 unfolding used_by
-marked-none from m sides used z = record {
+marked_none from m sides used z = record {
   same = refl;
-  mark = λ e l. block-unmarked e ∙ sym (some-zero (λ j. eqb (side_from sides from j) e));
-  block = λ e l q. clash q (block-unmarked e);
+  mark = λ e l. block_unmarked e ∙ sym (some_zero (λ j. eqb (side_from sides from j) e));
+  block = λ e l q. clash q (block_unmarked e);
   most = λ e. omega (arith, z e);
 }
   where
-    block-unmarked : (e : ℕ) → eqb (get_or used e 0) m ≡ false
-    block-unmarked e = ne_eqb (get_or used e 0) m (λ q. omega (arith, z e))
+    block_unmarked : (e : ℕ) → eqb (get_or used e 0) m ≡ false
+    block_unmarked e = ne_eqb (get_or used e 0) m (λ q. omega (arith, z e))
 
 -- one edge more, with its block
 module _ {from j m : ℕ} {sides before used : List ℕ} (M : EdgesMarked from j m sides before used) (e : ℕ) (q : e ≡ side_from sides from j) (l : e < most_edges) (long : length used ≡ most_marks) where
@@ -100,49 +100,49 @@ module _ {from j m : ℕ} {sides before used : List ℕ} (M : EdgesMarked from j
   more = set (set used e m) (block_of e) m
 
   -- marks of edges
-  edge-mark : (x : ℕ) → x < most_edges → get_or more x 0 ≡ get_or one x 0
-  edge-mark x h = get_or-set_other one (block_of e) x m 0 (λ w. omega arith)
+  edge_mark : (x : ℕ) → x < most_edges → get_or more x 0 ≡ get_or one x 0
+  edge_mark x h = get_or-set_other one (block_of e) x m 0 (λ w. omega arith)
 
-  mark-at : (x : ℕ) → x < most_edges → Dec (x ≡ e) → eqb (get_or more x 0) m ≡ some (λ i. eqb (side_from sides from i) x) (j + 1)
+  mark_at : (x : ℕ) → x < most_edges → Dec (x ≡ e) → eqb (get_or more x 0) m ≡ some (λ i. eqb (side_from sides from i) x) (j + 1)
   unfolding used_by
-  mark-at x h (yes u) =
-      eq-eqb (get_or more x 0) m (edge-mark x h ∙ ap (λ y. get_or one y 0) u ∙ get_or-set_same used e m 0 (omega (arith, long)))
-      ∙ sym (some-hit (λ i. eqb (side_from sides from i) x) j (eq-eqb (side_from sides from j) x (sym q ∙ sym u)))
-  mark-at x h (no u) =
-      ap (λ y. eqb y m) (edge-mark x h ∙ get_or-set_other used e x m 0 u) ∙ M.mark x h
+  mark_at x h (yes u) =
+      eq-eqb (get_or more x 0) m (edge_mark x h ∙ ap (λ y. get_or one y 0) u ∙ get_or-set_same used e m 0 (omega (arith, long)))
+      ∙ sym (some_hit (λ i. eqb (side_from sides from i) x) j (eq-eqb (side_from sides from j) x (sym q ∙ sym u)))
+  mark_at x h (no u) =
+      ap (λ y. eqb y m) (edge_mark x h ∙ get_or-set_other used e x m 0 u) ∙ M.mark x h
       ∙ sym (some_miss (λ i. eqb (side_from sides from i) x) j (ne_eqb (side_from sides from j) x (λ w. u (sym w ∙ sym q))))
 
   block_at : (x : ℕ) → x < most_edges → Dec (x / block_size ≡ e / block_size) → eqb (get_or more x 0) m ≡ true → get_or more (block_of x) 0 ≡ m
   block_at x h (yes u) p = ap (λ b. get_or more (most_edges + b) 0) u ∙ get_or-set_same one (block_of e) m 0 (omega (arith, long, length-set used e m))
   block_at x h (no u) p =
       get_or-set_other one (block_of e) (block_of x) m 0 (λ w. u (omega arith)) ∙ get_or-set_other used e (block_of x) m 0 (λ w. omega arith)
-      ∙ M.block x h (ap (λ y. eqb y m) (sym (edge-mark x h ∙ get_or-set_other used e x m 0 (λ w. u (ap (λ y. y / block_size) w)))) ∙ p)
+      ∙ M.block x h (ap (λ y. eqb y m) (sym (edge_mark x h ∙ get_or-set_other used e x m 0 (λ w. u (ap (λ y. y / block_size) w)))) ∙ p)
 
-  one-most : (x : ℕ) → Dec (x ≡ e) → get_or one x 0 ≤ m
-  one-most x (yes u) = omega (arith, ap (λ y. get_or one y 0) u ∙ get_or-set_same used e m 0 (omega (arith, long)))
-  one-most x (no u) = omega (arith, get_or-set_other used e x m 0 u, M.most x)
+  one_most : (x : ℕ) → Dec (x ≡ e) → get_or one x 0 ≤ m
+  one_most x (yes u) = omega (arith, ap (λ y. get_or one y 0) u ∙ get_or-set_same used e m 0 (omega (arith, long)))
+  one_most x (no u) = omega (arith, get_or-set_other used e x m 0 u, M.most x)
 
-  more-most : (x : ℕ) → Dec (x ≡ block_of e) → get_or more x 0 ≤ m
-  more-most x (yes u) = omega (arith, ap (λ y. get_or more y 0) u ∙ get_or-set_same one (block_of e) m 0 (omega (arith, long, length-set used e m)))
-  more-most x (no u) = omega (arith, get_or-set_other one (block_of e) x m 0 u, one-most x (ℕ_discrete x e))
+  more_most : (x : ℕ) → Dec (x ≡ block_of e) → get_or more x 0 ≤ m
+  more_most x (yes u) = omega (arith, ap (λ y. get_or more y 0) u ∙ get_or-set_same one (block_of e) m 0 (omega (arith, long, length-set used e m)))
+  more_most x (no u) = omega (arith, get_or-set_other one (block_of e) x m 0 u, one_most x (ℕ_discrete x e))
 
   pub marked_more : EdgesMarked from (j + 1) m sides before (set (set used e m) (block_of e) m)
   unfolding used_by
   marked_more = record {
     same = length-set one (block_of e) m ∙ length-set used e m ∙ M.same;
-    mark = λ x h. mark-at x h (ℕ_discrete x e);
+    mark = λ x h. mark_at x h (ℕ_discrete x e);
     block = λ x h. block_at x h (ℕ_discrete (x / block_size) (e / block_size));
-    most = λ x. more-most x (ℕ_discrete x (block_of e));
+    most = λ x. more_most x (ℕ_discrete x (block_of e));
   }
 
 module _ (counts used : List ℕ) (m : ℕ) where
-  pub sum-none : 0 ≡ marked_start counts used m 0
+  pub sum_none : 0 ≡ marked_start counts used m 0
   unfolding marked_start pre total
-  sum-none = refl
+  sum_none = refl
 
   pub sum_more : (e : ℕ) → marked_start counts used m e + pick (eqb (get_or used e 0) m) (get_or counts e 0) 0 ≡ marked_start counts used m (e + 1)
   unfolding marked_start
-  sum_more e = rw add-one (sym (pre-next (λ d. pick (eqb (get_or used d 0) m) (get_or counts d 0) 0) 0 e))
+  sum_more e = rw add-one (sym (pre_next (λ d. pick (eqb (get_or used d 0) m) (get_or counts d 0) 0) 0 e))
 
   -- a block without a marked edge
   pub sum_skip : (a z : ℕ) → a ≤ z → ((e : ℕ) → a ≤ e → e < z → eqb (get_or used e 0) m ≡ false) → marked_start counts used m a ≡ marked_start counts used m z
@@ -150,8 +150,8 @@ module _ (counts used : List ℕ) (m : ℕ) where
   sum_skip a z h none =
       let f : ℕ → ℕ = λ d. pick (eqb (get_or used d 0) m) (get_or counts d 0) 0 in
       let e : z ≡ a + (z - a) = omega arith in
-      let t : total f (z - a) a ≡ 0 = total-zero f (z - a) a (λ d k l. ap (λ b. pick b (get_or counts d 0) 0) (none d k (omega arith))) in
-      let s = total-split f a (z - a) 0 in
+      let t : total f (z - a) a ≡ 0 = total_zero f (z - a) a (λ d k l. ap (λ b. pick b (get_or counts d 0) 0) (none d k (omega arith))) in
+      let s = total_split f a (z - a) 0 in
       let u : total f z 0 ≡ total f (a + (z - a)) 0 = ap (λ n. total f n 0) e in
       let v : total f (z - a) (0 + a) ≡ total f (z - a) a = ap (total f (z - a)) (zero-add a) in
       omega (arith, s, t, u, v)
@@ -172,9 +172,9 @@ module _ (counts used : List ℕ) (m : ℕ) where
       sets_more (start_from at) at (e - at) l starts e s w i (q ∙ ap (marked_start counts used m) i) ∙ ap (λ k. sets l at (values (start_from at) k)) j
 
   -- no edge of a block is marked whose mark is another
-  pub block-unmarked : (starts : List ℕ) → StartsSumming counts used m starts → (e end : ℕ) → e < most_edges → e % block_size ≡ 0 → end ≤ e + block_size → end ≤ most_edges
+  pub block_unmarked : (starts : List ℕ) → StartsSumming counts used m starts → (e end : ℕ) → e < most_edges → e % block_size ≡ 0 → end ≤ e + block_size → end ≤ most_edges
       → (get_or used (block_of e) 0 ≡ m → ⊥) → (d : ℕ) → e ≤ d → d < end → eqb (get_or used d 0) m ≡ false
-  block-unmarked starts S e end l z h k other d a b =
+  block_unmarked starts S e end l z h k other d a b =
       let q : d / block_size ≡ e / block_size = omega arith in
       not_clash (eqb (get_or used d 0) m) (λ p. other (ap (λ x. get_or used (most_edges + x) 0) (sym q) ∙ S.block d (omega arith) p))
 
@@ -203,26 +203,26 @@ module _ (counts used : List ℕ) (m : ℕ) where
             | yes g ↦ ap (λ r. get_or r e 0) w ∙ get_d_sets_out vs starts at e 0 (inl g) ∙ S.first e g q
             | no g ↦ (let i : e ≡ at + (e - at) = omega arith in
                 ap (λ r. get_or r e 0) w ∙ ap (λ k. get_or (sets starts at vs) k 0) i ∙ get_d_sets_in vs starts at (e - at) 0 (omega arith) (omega arith)
-                ∙ values-at (λ i. marked_start counts used m (at + i)) (end - at) (e - at) 0 (omega arith) ∙ ap (marked_start counts used m) (sym i))
+                ∙ values_at (λ i. marked_start counts used m (at + i)) (end - at) (e - at) 0 (omega arith) ∙ ap (marked_start counts used m) (sym i))
           ];
         }
 
 -- the tables of a run
-pub copied-run : (names sides ownNames ownSides : List ℕ) (from size : ℕ) → from + size ≤ most_cells → length ownNames ≡ most_slots → length ownSides ≡ most_edges → {names' sides' : List ℕ}
+pub copied_run : (names sides ownNames ownSides : List ℕ) (from size : ℕ) → from + size ≤ most_cells → length ownNames ≡ most_slots → length ownSides ≡ most_edges → {names' sides' : List ℕ}
     → names' ≡ filled (name_from names from) (4 * size) ownNames → sides' ≡ filled (side_from sides from) (6 * size) ownSides → Copied names sides from size names' sides'
-copied-run names sides ownNames ownSides from size few ln ls {names'} {sides'} n s = record {
+copied_run names sides ownNames ownSides from size few ln ls {names'} {sides'} n s = record {
   name = λ j h. ap (λ l. get_or l j 0) n ∙ filled_at (name_from names from) (4 * size) ownNames 0 (omega arith) j h;
   side = λ j h. ap (λ l. get_or l j 0) s ∙ filled_at (side_from sides from) (6 * size) ownSides 0 (omega arith) j h;
 }
 
-pub started-run : (counts sides ownStarts before : List ℕ) (from size m : ℕ) → Layable counts sides before from size m → length ownStarts ≡ most_edges → {starts' used : List ℕ}
+pub started_run : (counts sides ownStarts before : List ℕ) (from size m : ℕ) → Layable counts sides before from size m → length ownStarts ≡ most_edges → {starts' used : List ℕ}
     → EdgesMarked from (6 * size) m sides before used → StartsSummed counts used m (length counts) ownStarts starts' → Started counts sides from size m starts' used
 unfolding marked_start pre
-started-run counts sides ownStarts before from size m P lt {starts'} {used} M t = record {
+started_run counts sides ownStarts before from size m P lt {starts'} {used} M t = record {
   first = λ e h q.
-      t.first e h (M.mark e (omega (arith, P.few-edges)) ∙ q)
+      t.first e h (M.mark e (omega (arith, P.few_edges)) ∙ q)
       ∙ total_ext (λ d. pick (eqb (get_or used d 0) m) (get_or counts d 0) 0) (λ d. pick (used_by sides from (6 * size) d) (get_or counts d 0) 0) e 0
-      (λ d a b. ap (λ u. pick u (get_or counts d 0) 0) (M.mark d (omega (arith, P.few-edges))));
+      (λ d a b. ap (λ u. pick u (get_or counts d 0) 0) (M.mark d (omega (arith, P.few_edges))));
   long = t.same ∙ lt;
   most = M.most;
 }

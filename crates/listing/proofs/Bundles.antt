@@ -12,8 +12,8 @@ use Rattle.counting.proofs.Stored.{stored_long, stored_front}
 use Rattle.bundle.specs.work.Record.{cell_size, edge_size}
 use Rattle.bundle.specs.Record.{broken_row}
 use Rattle.bundle.specs.Bundle.{cell_nodes, edge_ends, bundle_answer, is_bundle, is_taken, read_answer, nodes_of, ends_of, counts_of, written_over, leaves}
-use Rattle.bundle.proofs.Fills.{length-nodes, length-ends, length-counts, bundle-size}
-use Rattle.bundle.proofs.Answers.{bundle-answer, accepted, accepted-cells, accepted-edges, refused, rejected, read_taken, read-lists, left-front}
+use Rattle.bundle.proofs.Fills.{length_nodes, length_ends, length_counts, bundle-size}
+use Rattle.bundle.proofs.Answers.{bundle-answer, accepted, accepted_cells, accepted_edges, refused, rejected, read_taken, read_lists, left_front}
 use Rattle.grid.specs.Grid.{built}
 use Rattle.listing.specs.Text.{refused_line}
 use Rattle.listing.specs.Listing.{most_bytes, grid_listing, bundle_listing, listing, Listed}
@@ -41,17 +41,17 @@ module _ (s : List ℕ) where
         go : (b : Bool) → is_bundle s ≡ b → answered ≡ bundle_answer s
         go true e =
             let z = bundle-size s e in
-            (read-lists s (cell_nodes * cells_in_bundle) (edge_ends * edges_in_bundle) edges_in_bundle e (omega arith) (omega arith) (omega arith)).0 ∙ sym (bundle-answer s e)
+            (read_lists s (cell_nodes * cells_in_bundle) (edge_ends * edges_in_bundle) edges_in_bundle e (omega arith) (omega arith) (omega arith)).0 ∙ sym (bundle-answer s e)
         go false e = simp e
 
-    listing-is : listing s ≡ bundle_listing s
+    listing_is : listing s ≡ bundle_listing s
     unfolding listing
-    listing-is = simp (le-ltb most_bytes (length s) small)
+    listing_is = simp (le-ltb most_bytes (length s) small)
 
     -- what the reader refuses
     pub read_refused : (n p : ℕ) → refusal n p ≡ answered → refused_line n p ≡ listing s
     unfolding bundle_listing
-    read_refused n p h = or_refusal n p (bundle_answer s) _ (broken n p (h ∙ read_is)) (h ∙ read_is) ∙ sym listing-is
+    read_refused n p h = or_refusal n p (bundle_answer s) _ (broken n p (h ∙ read_is)) (h ∙ read_is) ∙ sym listing_is
 
     -- what it reads
     module _ (c e : ℕ) (h : result_of (c ∷ e ∷ []) ≡ answered) where
@@ -61,25 +61,25 @@ module _ (s : List ℕ) where
       pub few_read : (cell_size * c ≤ most_bytes) × (edge_size * e ≤ most_bytes)
       few_read =
           let z = bundle-size s (accepted s c e own) in
-          (omega (arith, accepted-cells s c e own), omega (arith, accepted-edges s c e own))
+          (omega (arith, accepted_cells s c e own), omega (arith, accepted_edges s c e own))
 
       -- the front of a list that was filled
       front : (new old : List ℕ) {left : List ℕ} {n : ℕ} → length new ≡ n → left ≡ leaves taken new old → take n left ≡ new
-      front new old {left} {n} l q = ap (take n) q ∙ left-front (read_taken s _ _ _ c e (sym h)) new old n l
+      front new old {left} {n} l q = ap (take n) q ∙ left_front (read_taken s _ _ _ c e (sym h)) new old n l
 
       pub read_listed : (ns es cs : List ℕ) {nodes ends counts : List ℕ}
           → nodes ≡ leaves taken (nodes_of s) ns → ends ≡ leaves taken (ends_of s) es → counts ≡ leaves taken (counts_of s) cs
           → grid_listing (built (take (cell_nodes * c) nodes) (take (edge_ends * e) ends) (take e counts)) ≡ listing s
       unfolding bundle_listing
       read_listed ns es cs p q r =
-          let x = accepted-cells s c e own in
-          let y = accepted-edges s c e own in
+          let x = accepted_cells s c e own in
+          let y = accepted_edges s c e own in
           rw (
-            front (nodes_of s) ns (length-nodes s ∙ ap (λ k. cell_nodes * k) (sym x)) p,
-            front (ends_of s) es (length-ends s ∙ ap (λ k. edge_ends * k) (sym y)) q,
-            front (counts_of s) cs (length-counts s ∙ sym y) r,
+            front (nodes_of s) ns (length_nodes s ∙ ap (λ k. cell_nodes * k) (sym x)) p,
+            front (ends_of s) es (length_ends s ∙ ap (λ k. edge_ends * k) (sym y)) q,
+            front (counts_of s) cs (length_counts s ∙ sym y) r,
           )
-          (or_result (c ∷ e ∷ []) (bundle_answer s) _ own ∙ sym listing-is)
+          (or_result (c ∷ e ∷ []) (bundle_answer s) _ own ∙ sym listing_is)
 
   -- more bytes than are read
   pub too_long : most_bytes < length s → refused_line broken_row most_bytes ≡ listing s

@@ -10,13 +10,13 @@ use borrow.Author.Tests.{lt-ltb, le-ltb}
 use Rattle.listing.specs.Text.{digit, digits, decimal}
 use Rattle.listing.specs.work.Text.{longest}
 
-digits-one : (k n : ℕ) → n < 10 → digits (suc k) n ≡ digit n ∷ []
+digits_one : (k n : ℕ) → n < 10 → digits (suc k) n ≡ digit n ∷ []
 unfolding digits
-digits-one k n h = rw (lt-ltb n 10 h, digits)
+digits_one k n h = rw (lt-ltb n 10 h, digits)
 
-digits-none : (n : ℕ) → digits zero n ≡ []
+digits_none : (n : ℕ) → digits zero n ≡ []
 unfolding digits
-digits-none n = refl
+digits_none n = refl
 
 -- the last digit of a number of several
 digits_last : (k n : ℕ) → 10 ≤ n → digits (suc k) n ≡ digits k (n / 10) ++ (digit (n % 10) ∷ [])
@@ -29,41 +29,41 @@ enough zero j n h l = absurd (not-suc-le-zero h)
 enough (suc k) zero n h l = absurd (not-suc-le-zero l)
 enough (suc k) (suc j) n h l =
     elim (dec_lt n 10) [
-      | yes t ↦ digits-one k n t ∙ sym (digits-one j n t)
+      | yes t ↦ digits_one k n t ∙ sym (digits_one j n t)
       | no t ↦
           digits_last k n (omega arith)
           ∙ ap (λ (x : List ℕ). x ++ (digit (n % 10) ∷ [])) (enough k j (n / 10) (omega arith) (omega arith))
           ∙ sym (digits_last j n (omega arith))
     ]
 
-pub decimal-one : (n : ℕ) → n < 10 → decimal n ≡ digit n ∷ []
+pub decimal_one : (n : ℕ) → n < 10 → decimal n ≡ digit n ∷ []
 unfolding decimal
-decimal-one n h = digits-one n n h
+decimal_one n h = digits_one n n h
 
-pub decimal-last : (n : ℕ) → 10 ≤ n → decimal n ≡ decimal (n / 10) ++ (digit (n % 10) ∷ [])
+pub decimal_last : (n : ℕ) → 10 ≤ n → decimal n ≡ decimal (n / 10) ++ (digit (n % 10) ∷ [])
 unfolding decimal
-decimal-last n h =
+decimal_last n h =
     digits_last n n h ∙ ap (λ (x : List ℕ). x ++ (digit (n % 10) ∷ [])) (enough n (suc (n / 10)) (n / 10) (omega arith) (omega arith))
 
 -- a number below a power of ten has at most that many digits
-digits-few : (k j n : ℕ) → n < 10 ^ suc j → length (digits k n) ≤ suc j
-digits-few zero j n h = omega (arith, ap length (digits-none n))
-digits-few (suc k) zero n h = rw (digits-one k n (omega (arith, h))) (omega arith)
-digits-few (suc k) (suc j) n h =
+digits_few : (k j n : ℕ) → n < 10 ^ suc j → length (digits k n) ≤ suc j
+digits_few zero j n h = omega (arith, ap length (digits_none n))
+digits_few (suc k) zero n h = rw (digits_one k n (omega (arith, h))) (omega arith)
+digits_few (suc k) (suc j) n h =
     elim (dec_lt n 10) [
-      | yes t ↦ rw (digits-one k n t) (omega arith)
+      | yes t ↦ rw (digits_one k n t) (omega arith)
       | no t ↦
           let q : n / 10 < 10 ^ suc j = omega arith in
           let l : 10 ≤ n = omega arith in
-          rw (digits_last k n l) (omega (arith, length-append (digits k (n / 10)) (digit (n % 10) ∷ []), digits-few k j (n / 10) q))
+          rw (digits_last k n l) (omega (arith, length-append (digits k (n / 10)) (digit (n % 10) ∷ []), digits_few k j (n / 10) q))
     ]
 
-pub decimal-few : (j n : ℕ) → n < 10 ^ suc j → length (decimal n) ≤ suc j
+pub decimal_few : (j n : ℕ) → n < 10 ^ suc j → length (decimal n) ≤ suc j
 unfolding decimal
-decimal-few j n h = digits-few (suc n) j n h
+decimal_few j n h = digits_few (suc n) j n h
 
 pub decimal_64 : (n : ℕ) → n < 2 ^ 64 → length (decimal n) ≤ longest
-decimal_64 n h = decimal-few 19 n (omega arith)
+decimal_64 n h = decimal_few 19 n (omega arith)
 
 pub decimal_32 : (n : ℕ) → n < 2 ^ 32 → length (decimal n) ≤ 10
-decimal_32 n h = decimal-few 9 n (omega arith)
+decimal_32 n h = decimal_few 9 n (omega arith)

@@ -9,24 +9,24 @@ use lib.ListN.{length, get_or, drop, get_or-append}
 use lib.Seq.{sets}
 use borrow.Author.Tests.{leb-true, ne_eqb}
 use Rattle.answer.specs.Answer.{result_of, refusal, refused}
-use Rattle.answer.proofs.Answer.{refused-not, refused-numbers}
+use Rattle.answer.proofs.Answer.{refused_not, refused_numbers}
 use Rattle.counting.specs.Pick.{pick}
 use Rattle.counting.specs.Lists.{over}
 use Rattle.counting.proofs.Range.{over_ext}
-use Rattle.counting.proofs.Fronts.{sets-front}
+use Rattle.counting.proofs.Fronts.{sets_front}
 use Rattle.grid.specs.Grid.{Grid, grid_of, built, cell_count, crossings}
 use Rattle.grid.specs.Rows.{grid_answer, accepts}
 use Rattle.grid.specs.Opening.{open_answer, open_starts}
-use Rattle.grid.proofs.Openings.{opens-built}
-use Rattle.grid.proofs.Claims.{accepted-is, never-empty}
+use Rattle.grid.proofs.Openings.{opens_built}
+use Rattle.grid.proofs.Claims.{accepted_is, never_empty}
 use Rattle.cell.specs.declared.Triangle.{Triangle}
 use Rattle.cell.specs.Words.{word_count}
-use Rattle.cell.proofs.Storing.{length-all}
+use Rattle.cell.proofs.Storing.{length_all}
 use Rattle.cell.proofs.Fits as writes
 use Rattle.mesh.specs.Room.{room_answer}
 use Rattle.mesh.specs.Mesh.{mesh_triangles, mesh_splits, mesh_words}
 use Rattle.mesh.specs.Answer.{mesh_answer, mesh_area}
-use Rattle.mesh.proofs.Claims.{mesh-some}
+use Rattle.mesh.proofs.Claims.{mesh_some}
 use Rattle.listing.specs.Text.{refused_line, head, word_text, word_at, line}
 use Rattle.listing.specs.Listing.{area_triangles, or_refused, mesh_listing, grid_listing}
 
@@ -42,12 +42,12 @@ or_refusal n p answer rest z h = rw (← h) (simp (ne_eqb n 0 z))
 -- a refusal as the enums are read: with the number 0 it has no reading
 pub or_numbers : (n p : ℕ) (answer rest : List ℕ) → ([] ≡ answer → ⊥) → refused n p ≡ answer → refused_line n p ≡ or_refused answer rest
 unfolding or_refused
-or_numbers n p answer rest some h = rw (refused-not answer some n p h, ← refused-numbers answer some n p h)
+or_numbers n p answer rest some h = rw (refused_not answer some n p h, ← refused_numbers answer some n p h)
 
 -- the words of triangles, stored at the front of an area, give the same lines
 module _ (words area : List ℕ) (n : ℕ) (fits : word_count * n ≤ length words) (room : length words ≤ length area) where
   same_word : (i : ℕ) → i < length words → get_or (sets area 0 words) i 0 ≡ get_or words i 0
-  same_word i h = ap (λ (l : List ℕ). get_or l i 0) (sets-front words area room) ∙ get_or-append words (drop (length words) area) 0 i h
+  same_word i h = ap (λ (l : List ℕ). get_or l i 0) (sets_front words area room) ∙ get_or-append words (drop (length words) area) 0 i h
 
   same_line : (t : ℕ) → t < n → line (sets area 0 words) t ≡ line words t
   unfolding line word_at
@@ -71,23 +71,23 @@ module _ (mesh : List Triangle) (splits t s : ℕ) (area : List ℕ) (h : result
 
 module _ (G : Grid) where
   -- what the mesh call refuses
-  pub mesh-refused : (n p : ℕ) → refused n p ≡ mesh_answer G (word_count * area_triangles) → refused_line n p ≡ grid_listing G
+  pub mesh_refused : (n p : ℕ) → refused n p ≡ mesh_answer G (word_count * area_triangles) → refused_line n p ≡ grid_listing G
   unfolding grid_listing
-  mesh-refused n p h = or_numbers n p _ (mesh_listing G) (mesh-some G (word_count * area_triangles)) h
+  mesh_refused n p h = or_numbers n p _ (mesh_listing G) (mesh_some G (word_count * area_triangles)) h
 
   -- what the check refuses, the mesh call refuses
-  pub check-refused : (n p : ℕ) → refused n p ≡ grid_answer G → refused_line n p ≡ grid_listing G
+  pub check_refused : (n p : ℕ) → refused n p ≡ grid_answer G → refused_line n p ≡ grid_listing G
   unfolding grid_listing mesh_answer
-  check-refused n p h =
-      or_numbers n p _ (mesh_listing G) (mesh-some G (word_count * area_triangles)) (h ∙ rw (refused-not (grid_answer G) (never-empty G) n p h))
+  check_refused n p h =
+      or_numbers n p _ (mesh_listing G) (mesh_some G (word_count * area_triangles)) (h ∙ rw (refused_not (grid_answer G) (never_empty G) n p h))
 
   -- an accepted grid
   module _ (x : ℕ) (h : result_of (x ∷ []) ≡ grid_answer G) where
     accepted : accepts G ≡ true
     accepted = rw (← h)
 
-    all-crossings : x ≡ crossings G.counts
-    all-crossings = let e = accepted-is G accepted in cc
+    all_crossings : x ≡ crossings G.counts
+    all_crossings = let e = accepted_is G accepted in cc
 
     module _ (t s : ℕ) (before after : List ℕ) (room : length before ≡ word_count * area_triangles)
         (answer : result_of (t ∷ s ∷ []) ≡ mesh_answer G (length before)) (area : after ≡ mesh_area G before) where
@@ -96,11 +96,11 @@ module _ (G : Grid) where
       answered = answer ∙ simp accepted
 
       -- the triangles are all those of the mesh, and no more than the area holds
-      all-triangles : t ≡ length (mesh_triangles G)
-      all-triangles = (has-room (mesh_triangles G) (mesh_splits G) t s before answered).0
+      all_triangles : t ≡ length (mesh_triangles G)
+      all_triangles = (has-room (mesh_triangles G) (mesh_splits G) t s before answered).0
 
-      pub few-triangles : t ≤ area_triangles
-      few-triangles = omega (arith, (has-room (mesh_triangles G) (mesh_splits G) t s before answered).1, all-triangles, room)
+      pub few_triangles : t ≤ area_triangles
+      few_triangles = omega (arith, (has-room (mesh_triangles G) (mesh_splits G) t s before answered).1, all_triangles, room)
 
       stored : after ≡ sets before 0 (mesh_words G)
       unfolding mesh_area mesh_words
@@ -108,7 +108,7 @@ module _ (G : Grid) where
 
       long : length (mesh_words G) ≡ word_count * t
       unfolding mesh_words
-      long = length-all (mesh_triangles G) ∙ ap (λ k. word_count * k) (sym all-triangles)
+      long = length_all (mesh_triangles G) ∙ ap (λ k. word_count * k) (sym all_triangles)
 
       -- the text that is put is the listing
       pub listed : head (cell_count G.cells) (length G.counts) x t ++ over (line after) t 0 ≡ grid_listing G
@@ -116,21 +116,21 @@ module _ (G : Grid) where
       listed =
           ap (λ (l : List ℕ). head (cell_count G.cells) (length G.counts) x t ++ over (line l) t 0) stored
           ∙ ap (λ (l : List ℕ). head (cell_count G.cells) (length G.counts) x t ++ l)
-          (same_lines (mesh_words G) before t (omega (arith, long)) (omega (arith, long, few-triangles, room)))
-          ∙ ap₂ (λ y k. head (cell_count G.cells) (length G.counts) y k ++ over (line (mesh_words G)) k 0) all-crossings all-triangles
+          (same_lines (mesh_words G) before t (omega (arith, long)) (omega (arith, long, few_triangles, room)))
+          ∙ ap₂ (λ y k. head (cell_count G.cells) (length G.counts) y k ++ over (line (mesh_words G)) k 0) all_crossings all_triangles
           ∙ or_result (t ∷ s ∷ []) _ (mesh_listing G) (answer ∙ ap (mesh_answer G) room)
 
 -- a grid that is opened with as many starts as it has counts is the one that is built afresh
 module _ (nodes ends counts starts : List ℕ) (long : length starts ≡ length counts) where
-  pub opened-answer : open_answer (grid_of nodes ends counts starts) ≡ grid_answer (built nodes ends counts)
-  opened-answer = (opens-built nodes ends counts starts long).0
+  pub opened_answer : open_answer (grid_of nodes ends counts starts) ≡ grid_answer (built nodes ends counts)
+  opened_answer = (opens_built nodes ends counts starts long).0
 
   module _ (x : ℕ) (after : List ℕ) (h : result_of (x ∷ []) ≡ open_answer (grid_of nodes ends counts starts)) (e : after ≡ open_starts (grid_of nodes ends counts starts)) where
-    opened-grid : grid_of nodes ends counts after ≡ built nodes ends counts
-    opened-grid = ap (grid_of nodes ends counts) (e ∙ (opens-built nodes ends counts starts long).1 (x ∷ []) (sym (h ∙ opened-answer)))
+    opened_grid : grid_of nodes ends counts after ≡ built nodes ends counts
+    opened_grid = ap (grid_of nodes ends counts) (e ∙ (opens_built nodes ends counts starts long).1 (x ∷ []) (sym (h ∙ opened_answer)))
 
-    pub opened-accepted : result_of (x ∷ []) ≡ grid_answer (grid_of nodes ends counts after)
-    opened-accepted = h ∙ opened-answer ∙ ap grid_answer (sym opened-grid)
+    pub opened_accepted : result_of (x ∷ []) ≡ grid_answer (grid_of nodes ends counts after)
+    opened_accepted = h ∙ opened_answer ∙ ap grid_answer (sym opened_grid)
 
-    pub opened-listing : grid_listing (grid_of nodes ends counts after) ≡ grid_listing (built nodes ends counts)
-    opened-listing = ap grid_listing opened-grid
+    pub opened_listing : grid_listing (grid_of nodes ends counts after) ≡ grid_listing (built nodes ends counts)
+    opened_listing = ap grid_listing opened_grid

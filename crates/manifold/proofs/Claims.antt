@@ -5,7 +5,7 @@ use mathlib.Core.Logic.{◌⊎◌, inl, inr, ◌≢◌, ⊎_elim}
 use native.Mathlib.Omega.{arith}
 use Rattle.counting.specs.Lists.{one, total, tally}
 use Rattle.counting.specs.work.Stored.{weigh}
-use Rattle.counting.proofs.Range.{total-zero, total-one}
+use Rattle.counting.proofs.Range.{total_zero, total_one}
 use Rattle.manifold.specs.Triangle.{Side, same}
 use Rattle.manifold.specs.claims.Plain.{side_of, has_side, nth}
 use Rattle.manifold.specs.claims.Polygon.{Polygon, shape, segment, inner_side, inners, triangles}
@@ -14,15 +14,15 @@ use Rattle.manifold.specs.claims.Piece.{segment_of}
 use Rattle.manifold.specs.claims.Complex.{Complex, Lawful, mesh}
 use Rattle.manifold.specs.claims.Claims.{PolygonLaws, Manifold}
 use Rattle.manifold.proofs.Triangle.{hits, eq_same, ne_same}
-use Rattle.manifold.proofs.Sound.{member, tally-exact}
+use Rattle.manifold.proofs.Sound.{member, tally_exact}
 use Rattle.manifold.proofs.Shapes.{many_le}
-use Rattle.manifold.proofs.Polygon.{fits, triangles-length, polygon-sides, Seen, seen, polygon-sound}
-use Rattle.manifold.proofs.Chain.{at-point, fan_ring}
-use Rattle.manifold.proofs.Sides.{at_most_two, segment-one, segment-none, segment-both}
-use Rattle.manifold.proofs.Mesh.{mesh-sound, side-kind, closed}
-use Rattle.manifold.proofs.Few.{piece-few}
-use Rattle.manifold.proofs.Crossing.{crossing-ring}
-use Rattle.manifold.proofs.Middle.{middle-ring}
+use Rattle.manifold.proofs.Polygon.{fits, triangles_length, polygon_sides, Seen, seen, polygon_sound}
+use Rattle.manifold.proofs.Chain.{at_point, fan_ring}
+use Rattle.manifold.proofs.Sides.{at_most_two, segment_one, segment_none, segment_both}
+use Rattle.manifold.proofs.Mesh.{mesh_sound, side_kind, closed}
+use Rattle.manifold.proofs.Few.{piece_few}
+use Rattle.manifold.proofs.Crossing.{crossing_ring}
+use Rattle.manifold.proofs.Middle.{middle_ring}
 
 pub polygon_laws : (G : Polygon) → 2 ≤ G.n → Simple G → PolygonLaws G
 polygon_laws G two D = record {
@@ -31,21 +31,21 @@ polygon_laws G two D = record {
       count (segment G k)
       ∙ omega (
         arith,
-        total-one (λ i. one (same (segment G k) (segment G i))) G.n 0 k (omega arith) (omega arith) (ap one (eq_same (segment G k) (segment G k) refl))
+        total_one (λ i. one (same (segment G k) (segment G i))) G.n 0 k (omega arith) (omega arith) (ap one (eq_same (segment G k) (segment G k) refl))
             (λ i u v w. ap one (ne_same (segment G k) (segment G i) (λ e. w (D.segments i k (omega arith) l (sym e))))),
-        total-zero (λ i. 0) (inners G (shape G)) 0 (λ i u v. refl),
+        total_zero (λ i. 0) (inners G (shape G)) 0 (λ i u v. refl),
       );
   two = λ k l.
       count (inner_side G k)
       ∙ omega (
         arith,
-        total-zero (λ i. 0) G.n 0 (λ i u v. refl),
-        total-one (λ i. one (same (inner_side G k) (inner_side G i))) (inners G (shape G)) 0 k (omega arith) (omega arith) (ap one (eq_same (inner_side G k) (inner_side G k) refl))
+        total_zero (λ i. 0) G.n 0 (λ i u v. refl),
+        total_one (λ i. one (same (inner_side G k) (inner_side G i))) (inners G (shape G)) 0 k (omega arith) (omega arith) (ap one (eq_same (inner_side G k) (inner_side G k) refl))
             (λ i u v w. ap one (ne_same (inner_side G k) (inner_side G i) (λ e. w (cc)))),
       );
-  point = at-point G ne D;
+  point = at_point G ne D;
   ring = λ is. fan_ring G ne D is two;
-  few = omega (arith, triangles-length G, many_le (shape G) G.n (fits G));
+  few = omega (arith, triangles_length G, many_le (shape G) G.n (fits G));
 }
   where
     ne : G.n ≢ 1
@@ -58,20 +58,20 @@ polygon_laws G two D = record {
 
     count : (σ : Side) → tally (has_side σ) (triangles G)
         ≡ total (λ k. one (same σ (segment G k))) G.n 0 + 2 * total (λ k. one (same σ (inner_side G k))) (inners G (shape G)) 0
-    count σ = tally-exact (polygon-sound G ne D) σ ∙ polygon-sides G σ
+    count σ = tally_exact (polygon_sound G ne D) σ ∙ polygon_sides G σ
 
 pub manifold : (K : Complex) → Lawful K → Manifold K
 manifold K W = record {
-  few = piece-few K W;
+  few = piece_few K W;
   most = at_most_two K W;
-  sides = λ t i lt li. ⊎_elim (λ u. inl u) (λ u. let (a, p, k, e, n) = u in inr (a, p, k, e, exact (side_of (nth (mesh K) t) i) n)) (side-kind K W (nth (mesh K) t) i (member (mesh K) t lt) li);
-  alone = λ c d lc cl only. exact (segment_of (K.at c) d) (segment-one K W c d lc only cl);
-  unclosed = λ c d lc on no_loop only. exact (segment_of (K.at c) d) (segment-none K W c d lc only on no_loop);
-  shared = λ c d b e lc lb ne cl cl' q. exact (segment_of (K.at c) d) (segment-both K W c d b e lc lb ne cl cl' q);
-  two = λ S t i lt li. tally-exact (mesh-sound K W) (side_of (nth (mesh K) t) i) ∙ (closed K W S).twice (nth (mesh K) t) i (member (mesh K) t lt) li;
-  ring = λ S g c h link. crossing-ring K W g S link c h;
-  round = λ S c p lc lp some is. middle-ring K W c p lc lp some is S;
+  sides = λ t i lt li. ⊎_elim (λ u. inl u) (λ u. let (a, p, k, e, n) = u in inr (a, p, k, e, exact (side_of (nth (mesh K) t) i) n)) (side_kind K W (nth (mesh K) t) i (member (mesh K) t lt) li);
+  alone = λ c d lc cl only. exact (segment_of (K.at c) d) (segment_one K W c d lc only cl);
+  unclosed = λ c d lc on no_loop only. exact (segment_of (K.at c) d) (segment_none K W c d lc only on no_loop);
+  shared = λ c d b e lc lb ne cl cl' q. exact (segment_of (K.at c) d) (segment_both K W c d b e lc lb ne cl cl' q);
+  two = λ S t i lt li. tally_exact (mesh_sound K W) (side_of (nth (mesh K) t) i) ∙ (closed K W S).twice (nth (mesh K) t) i (member (mesh K) t lt) li;
+  ring = λ S g c h link. crossing_ring K W g S link c h;
+  round = λ S c p lc lp some is. middle_ring K W c p lc lp some is S;
 }
   where
     exact : {n : ℕ} (σ : Side) → weigh (hits σ) (mesh K) ≡ n → tally (has_side σ) (mesh K) ≡ n
-    exact σ e = tally-exact (mesh-sound K W) σ ∙ e
+    exact σ e = tally_exact (mesh_sound K W) σ ∙ e

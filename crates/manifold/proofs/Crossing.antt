@@ -6,7 +6,7 @@ use mathlib.Core.Logic.{⊎_elim}
 use mathlib.Core.Bool.{Bool}
 use native.Mathlib.Omega.{arith}
 use Rattle.counting.specs.Lists.{after}
-use Rattle.counting.proofs.Range.{after-lt, before-after}
+use Rattle.counting.proofs.Range.{after_lt, before_after}
 use Rattle.walk.specs.Darts.{half}
 use Rattle.manifold.specs.Triangle.{cross, Side}
 use Rattle.manifold.specs.claims.Plain.{Tri, corner_of, nth, Chain, OneRing}
@@ -16,16 +16,16 @@ use Rattle.manifold.specs.claims.Complex.{Complex, Joins, Lawful, Shut, Has, Sha
 use Rattle.manifold.specs.claims.Claims.{AtPoint}
 use Rattle.manifold.proofs.Sound.{member}
 use Rattle.manifold.proofs.Together.{port, Here, Spreads, Together, entered, left}
-use Rattle.manifold.proofs.Ring.{one-ring}
-use Rattle.manifold.proofs.Polygon.{of-cross}
-use Rattle.manifold.proofs.Chain.{at-point}
-use Rattle.manifold.proofs.Piece.{Covers, whole-closes, covers, covers_segment, joins}
-use Rattle.manifold.proofs.Mesh.{Of, of, in_mesh_here, along, size-two, simple, on, point-once, goes_to, closed}
+use Rattle.manifold.proofs.Ring.{one_ring}
+use Rattle.manifold.proofs.Polygon.{of_cross}
+use Rattle.manifold.proofs.Chain.{at_point}
+use Rattle.manifold.proofs.Piece.{Covers, whole_closes, covers, covers_segment, joins}
+use Rattle.manifold.proofs.Mesh.{Of, of, in_mesh_here, along, size_two, simple, on, point_once, goes_to, closed}
 
 -- corner i of v, a triangle of piece c, is at g, and has the side σ
 pub record Flag (K : Complex) (g c : ℕ) (σ : Side) : Type 0 where
   pub p : ℕ
-  pub p-lt : p < (K.at c).N
+  pub p_lt : p < (K.at c).N
   pub v : Tri
   pub i : ℕ
   pub here : Here (triangles (loop_of K c p)) (cross g) v i
@@ -34,14 +34,14 @@ pub record Flag (K : Complex) (g c : ℕ) (σ : Side) : Type 0 where
 
 module _ (K : Complex) (W : Lawful K) where
   -- step 2 for the loops of the complex
-  chain-at : (c p k : ℕ) → c < K.pieces → p < (K.at c).N → k < (loop_of K c p).n → AtPoint (loop_of K c p) k
-  chain-at c p k lc lp lk = at-point (loop_of K c p) (size-two K W c p lc lp) (simple K W c p lc lp) k lk
+  chain_at : (c p k : ℕ) → c < K.pieces → p < (K.at c).N → k < (loop_of K c p).n → AtPoint (loop_of K c p) k
+  chain_at c p k lc lp lk = at_point (loop_of K c p) (size_two K W c p lc lp) (simple K W c p lc lp) k lk
 
   module _ (g : ℕ) where
     -- a point of the loop is at g where one of its triangles has a corner there
     at_g : (c p : ℕ) (v : Tri) (i : ℕ) → Here (triangles (loop_of K c p)) (cross g) v i
         → (m : ℕ) × (m < (loop_of K c p).n) × ((loop_of K c p).point m ≡ g)
-    at_g c p v i h = of-cross (loop_of K c p) v i g h.member h.lt h.is
+    at_g c p v i h = of_cross (loop_of K c p) v i g h.member h.lt h.is
 
     has : (v : Tri) (a : Of K v) (i : ℕ) → i < 3 → corner_of v i ≡ cross g → Has K g a.c
     has v a i l e =
@@ -49,7 +49,7 @@ module _ (K : Complex) (W : Lawful K) where
         record {
           lt = a.c_lt;
           d = dart (K.at a.c) a.p m;
-          on = joins (K.at a.c) (W.piece a.c a.c_lt) (on K W a.c a.p m a.p-lt lm);
+          on = joins (K.at a.c) (W.piece a.c a.c_lt) (on K W a.c a.p m a.p_lt lm);
           is = q;
         }
 
@@ -64,14 +64,14 @@ module _ (K : Complex) (W : Lawful K) where
       spread c p lc lp v i h q p' lp' v' i' h' =
           let (m, lm, em) = at_g c p v i h in
           let (m', lm', em') = at_g c p' v' i' h' in
-          let one : p ≡ p' = (point-once K W c p m p' m' lc (on K W c p m lp lm) (on K W c p' m' lp' lm') (em ∙ sym em')).0 in
-          along K c p lc lp (subst (Chain (triangles (loop_of K c p))) (ap cross em) (chain-at c p m lc lp lm).chain) Q pass v i v' i' h
+          let one : p ≡ p' = (point_once K W c p m p' m' lc (on K W c p m lp lm) (on K W c p' m' lp' lm') (em ∙ sym em')).0 in
+          along K c p lc lp (subst (Chain (triangles (loop_of K c p))) (ap cross em) (chain_at c p m lc lp lm).chain) Q pass v i v' i' h
           (subst (λ r. Here (triangles (loop_of K c r)) (cross g) v' i') (sym one) h') q
 
     module _ (S : Shut K) where
       -- a triangle at each end of a chain: it has the segment of a dart there
       flag : (c d : ℕ) → c < K.pieces → Joins (K.at c) d → (K.at c).number (half d) ≡ g → Flag K g c (segment_of (K.at c) d)
-      flag c d lc ld e = go (covers (K.at c) (W.piece c lc) d (whole-closes (K.at c) (W.piece c lc) (S.full c lc) d ld))
+      flag c d lc ld e = go (covers (K.at c) (W.piece c lc) d (whole_closes (K.at c) (W.piece c lc) (S.full c lc) d ld))
         where
           go : Covers (K.at c) d → Flag K g c (segment_of (K.at c) d)
           go w = ⊎_elim same_way other_way w.ends
@@ -86,7 +86,7 @@ module _ (K : Complex) (W : Lawful K) where
                   → port b (nth (triangles G) (C.visit a)) (C.passes a la).at ≡ segment_of (K.at c) d → Flag K g c (segment_of (K.at c) d)
               make k a C la here b by = record {
                 p = w.p;
-                p-lt = w.on.start;
+                p_lt = w.on.start;
                 v = nth (triangles G) (C.visit a);
                 i = (C.passes a la).at;
                 here = record { member = member (triangles G) (C.visit a) (C.within a la); lt = (C.passes a la).at_lt; is = (C.passes a la).is ∙ here };
@@ -97,7 +97,7 @@ module _ (K : Complex) (W : Lawful K) where
               -- the dart leaves point i: the last triangle there
               same_way : (half (dart (K.at c) w.p w.i) ≡ half d) × (mate_of (K.at c) (dart (K.at c) w.p w.i) ≡ mate_of (K.at c) d) → Flag K g c (segment_of (K.at c) d)
               same_way u =
-                  let A = chain-at c w.p w.i lc w.on.start w.on.lt in
+                  let A = chain_at c w.p w.i lc w.on.start w.on.lt in
                   let C = A.chain in
                   let a = C.n - 1 in
                   let la : a < C.n = omega (arith, A.some) in
@@ -109,22 +109,22 @@ module _ (K : Complex) (W : Lawful K) where
               other_way : (half (dart (K.at c) w.p w.i) ≡ mate_of (K.at c) d) × (mate_of (K.at c) (dart (K.at c) w.p w.i) ≡ half d) → Flag K g c (segment_of (K.at c) d)
               other_way u =
                   let k = after G.n w.i in
-                  let A = chain-at c w.p k lc w.on.start (after-lt G.n w.i w.on.lt) in
+                  let A = chain_at c w.p k lc w.on.start (after_lt G.n w.i w.on.lt) in
                   let C = A.chain in
                   let la : 0 < C.n = A.some in
                   let (b, eb) = entered (C.passes 0 la) in
                   make k 0 C la (goes_to K W c w.p w.i lc w.on ∙ ap (λ x. cross ((K.at c).number x)) u.1 ∙ ap cross e) b
-                  (eb ∙ A.start ∙ ap (segment G) (before-after G.n w.i w.on.lt) ∙ name)
+                  (eb ∙ A.start ∙ ap (segment G) (before_after G.n w.i w.on.lt) ∙ name)
 
       -- over a shared segment
-      cross-over : (Q : Tri → ℕ → Type 0) (pass : Spreads (mesh K) (cross g) Q) (a b : ℕ) → a < K.pieces → b < K.pieces → Shares (K.at a) (K.at b) g → Held Q pass a → Held Q pass b
+      cross_over : (Q : Tri → ℕ → Type 0) (pass : Spreads (mesh K) (cross g) Q) (a b : ℕ) → a < K.pieces → b < K.pieces → Shares (K.at a) (K.at b) g → Held Q pass a → Held Q pass b
       unfolding Held
-      cross-over Q pass a b la lb h f =
-          let u = flag a h.d la h.d-on h.at-d in
-          let w = flag b h.e lb h.e-on h.at-e in
-          spread Q pass b w.p lb w.p-lt w.v w.i w.here
-          (pass u.v u.i w.v w.i (in_mesh_here K a u.p la u.p-lt u.v u.i u.here) (in_mesh_here K b w.p lb w.p-lt w.v w.i w.here)
-          (u.b, w.b, u.by ∙ h.same ∙ sym w.by) (f u.p u.p-lt u.v u.i u.here))
+      cross_over Q pass a b la lb h f =
+          let u = flag a h.d la h.d_on h.at_d in
+          let w = flag b h.e lb h.e_on h.at_e in
+          spread Q pass b w.p lb w.p_lt w.v w.i w.here
+          (pass u.v u.i w.v w.i (in_mesh_here K a u.p la u.p_lt u.v u.i u.here) (in_mesh_here K b w.p lb w.p_lt w.v w.i w.here)
+          (u.b, w.b, u.by ∙ h.same ∙ sym w.by) (f u.p u.p_lt u.v u.i u.here))
 
       together : LinkedAt K g → Together (mesh K) (cross g)
       unfolding Held
@@ -132,11 +132,11 @@ module _ (K : Complex) (W : Lawful K) where
         where
           go : Of K v → Of K w → Q w j
           go a b =
-              let start : Held Q pass a.c = spread Q pass a.c a.p a.c_lt a.p-lt v i (record { member = a.in-loop; lt = hv.lt; is = hv.is }) q in
-              link (Held Q pass) (cross-over Q pass) a.c b.c (has v a i hv.lt hv.is) (has w b j hw.lt hw.is) start
-              b.p b.p-lt w j (record { member = b.in-loop; lt = hw.lt; is = hw.is })
+              let start : Held Q pass a.c = spread Q pass a.c a.p a.c_lt a.p_lt v i (record { member = a.in-loop; lt = hv.lt; is = hv.is }) q in
+              link (Held Q pass) (cross_over Q pass) a.c b.c (has v a i hv.lt hv.is) (has w b j hw.lt hw.is) start
+              b.p b.p_lt w j (record { member = b.in-loop; lt = hw.lt; is = hw.is })
 
-      pub crossing-ring : LinkedAt K g → (c : ℕ) → Has K g c → OneRing (mesh K) (cross g)
-      crossing-ring link c h =
+      pub crossing_ring : LinkedAt K g → (c : ℕ) → Has K g c → OneRing (mesh K) (cross g)
+      crossing_ring link c h =
           let f = flag c h.d h.lt h.on h.is in
-          one-ring (mesh K) (closed K W S) (cross g) (together link) f.v f.i (in_mesh_here K c f.p h.lt f.p-lt f.v f.i f.here)
+          one_ring (mesh K) (closed K W S) (cross g) (together link) f.v f.i (in_mesh_here K c f.p h.lt f.p_lt f.v f.i f.here)

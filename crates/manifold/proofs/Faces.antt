@@ -7,7 +7,7 @@ use Rattle.manifold.specs.Triangle.{seg}
 use Rattle.manifold.specs.claims.Piece.{Local, slot_of, mate_of, segment_of}
 use Rattle.manifold.specs.claims.Complex.{Complex, Lawful, Joins, SameEnds, Shut, LinkedAt}
 use Rattle.manifold.specs.work.Faces.{Match, Faced, FacesShut, FacesLinked}
-use Rattle.manifold.proofs.Piece.{segment-cases}
+use Rattle.manifold.proofs.Piece.{segment_cases}
 
 match_segment : (A B : Local) (s d : ℕ) → mate_of A d < A.N → A.name (slot_of A d) ≡ B.name s → (m : Match A B s d) → segment_of B m.e ≡ segment_of A d
 match_segment A B s d t q m = ap₂ seg (ap B.name m.slot ∙ sym q) (ap₂ min m.point (m.mate t).1)
@@ -23,7 +23,7 @@ module _ (K : Complex) (W : Faced K) where
       let m = W.agree a b (slot_of B e) d la lb ((W.piece b lb).slot e he.lt) hd.lt f in
       let x = m.e in
       let (tx, gx) = m.mate hd.joined in
-      let (g, o) = segment-cases B (W.piece b lb) x e (record { lt = m.lt; joined = tx }) he (match_segment (K.at a) B (slot_of B e) d hd.joined f m ∙ q) in
+      let (g, o) = segment_cases B (W.piece b lb) x e (record { lt = m.lt; joined = tx }) he (match_segment (K.at a) B (slot_of B e) d hd.joined f m ∙ q) in
       ⊎_elim
       (λ (h : half x ≡ half e). inl (sym m.point ∙ ap B.number h, sym gx ∙ ap B.number (ap₂ B.mate g h)))
       (λ (h : half x ≡ mate_of B e).
@@ -31,8 +31,8 @@ module _ (K : Complex) (W : Faced K) where
       inr (sym m.point ∙ ap B.number h, sym gx ∙ ap B.number y))
       o
 
-  pub faces-lawful : Lawful K
-  faces-lawful = record {
+  pub faces_lawful : Lawful K
+  faces_lawful = record {
     piece = W.piece;
     tags = W.tags;
     few = λ a b c d e f la lb lc hd he hf p q. W.few a b c (slot_of (K.at a) d) (slot_of (K.at b) e) (slot_of (K.at c) f) la lb lc
@@ -52,13 +52,13 @@ module _ (K : Complex) (W : Faced K) where
 
     pub faces-linked : (g : ℕ) → FacesLinked K g → LinkedAt K g
     faces-linked g link Q pass = link Q (λ a b h q.
-        let m = W.agree a b h.s h.d h.a_lt h.b_lt h.s-lt h.d-lt h.face in
+        let m = W.agree a b h.s h.d h.a_lt h.b_lt h.s_lt h.d_lt h.face in
         pass a b h.a_lt h.b_lt (record {
           d = h.d;
           e = m.e;
-          d-on = record { lt = h.d-lt; joined = F.full a h.d h.a_lt h.d-lt };
-          e-on = record { lt = m.lt; joined = (m.mate (F.full a h.d h.a_lt h.d-lt)).0 };
-          at-d = h.at-d;
-          at-e = m.point ∙ h.at-d;
-          same = sym (match_segment (K.at a) (K.at b) h.s h.d (F.full a h.d h.a_lt h.d-lt) h.face m);
+          d_on = record { lt = h.d_lt; joined = F.full a h.d h.a_lt h.d_lt };
+          e_on = record { lt = m.lt; joined = (m.mate (F.full a h.d h.a_lt h.d_lt)).0 };
+          at_d = h.at_d;
+          at_e = m.point ∙ h.at_d;
+          same = sym (match_segment (K.at a) (K.at b) h.s h.d (F.full a h.d h.a_lt h.d_lt) h.face m);
         }) q)

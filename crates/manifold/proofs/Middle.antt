@@ -8,15 +8,15 @@ use Rattle.manifold.specs.Shape.{fan}
 use Rattle.manifold.specs.claims.Complex.{Complex, Lawful, Shut, loop_of, mesh}
 use Rattle.manifold.proofs.Sound.{Member, member}
 use Rattle.manifold.proofs.Together.{Here, Together}
-use Rattle.manifold.proofs.Ring.{one-ring}
-use Rattle.manifold.proofs.Polygon.{of-middle}
+use Rattle.manifold.proofs.Ring.{one_ring}
+use Rattle.manifold.proofs.Polygon.{of_middle}
 use Rattle.manifold.proofs.Chain.{fan_ring}
-use Rattle.manifold.proofs.Mesh.{Of, of, in_mesh_here, along, size-two, simple, same-loop, closed}
+use Rattle.manifold.proofs.Mesh.{Of, of, in_mesh_here, along, size_two, simple, same_loop, closed}
 
 module _ (K : Complex) (W : Lawful K) (c p : ℕ) (lc : c < K.pieces) (lp : p < (K.at c).N) (some : 0 < (loop_of K c p).n) (is : shape (loop_of K c p) ≡ fan) where
   ring : OneRing (triangles (loop_of K c p)) (centre (loop_of K c p))
   ring =
-      let ne = size-two K W c p lc lp in
+      let ne = size_two K W c p lc lp in
       fan_ring (loop_of K c p) ne (simple K W c p lc lp) is (omega (arith, some, ne))
 
   -- the ring's first triangle
@@ -31,15 +31,15 @@ module _ (K : Complex) (W : Lawful K) (c p : ℕ) (lc : c < K.pieces) (lp : p < 
     where
       go : Of K v → Member (triangles (loop_of K c p)) v
       go a =
-          let (f, e) = of-middle (loop_of K a.c a.p) v i (K.tag c) ((K.at c).number p) a.in-loop h.lt h.is in
-          let t : Of K (nth (triangles (loop_of K c p)) (ring.chain.visit 0)) = record { c = c; p = p; c_lt = lc; p-lt = lp; in-loop = first.member } in
-          same-loop K W (nth (triangles (loop_of K c p)) (ring.chain.visit 0)) v t a (W.tags c a.c lc a.c_lt (cc)) (cc)
+          let (f, e) = of_middle (loop_of K a.c a.p) v i (K.tag c) ((K.at c).number p) a.in-loop h.lt h.is in
+          let t : Of K (nth (triangles (loop_of K c p)) (ring.chain.visit 0)) = record { c = c; p = p; c_lt = lc; p_lt = lp; in-loop = first.member } in
+          same_loop K W (nth (triangles (loop_of K c p)) (ring.chain.visit 0)) v t a (W.tags c a.c lc a.c_lt (cc)) (cc)
 
   together : Together (mesh K) (centre (loop_of K c p))
   together Q pass v i w j hv hw q = along K c p lc lp ring.chain Q pass v i w j (in_fan v i hv) (in_fan w j hw) q
 
-  pub middle-ring : Shut K → OneRing (mesh K) (centre (loop_of K c p))
-  middle-ring S =
-      one-ring (mesh K) (closed K W S) (centre (loop_of K c p)) together (nth (triangles (loop_of K c p)) (ring.chain.visit 0))
+  pub middle_ring : Shut K → OneRing (mesh K) (centre (loop_of K c p))
+  middle_ring S =
+      one_ring (mesh K) (closed K W S) (centre (loop_of K c p)) together (nth (triangles (loop_of K c p)) (ring.chain.visit 0))
       (ring.chain.passes 0 (omega (arith, ring.more))).at
       (in_mesh_here K c p lc lp (nth (triangles (loop_of K c p)) (ring.chain.visit 0)) (ring.chain.passes 0 (omega (arith, ring.more))).at first)

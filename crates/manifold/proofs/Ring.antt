@@ -9,21 +9,21 @@ use lib.ListN.{length}
 use borrow.Author.Tests.{eqb-true, eqb-false}
 use Rattle.counting.specs.Lists.{one, total, it}
 use Rattle.counting.specs.work.Stored.{weigh}
-use Rattle.counting.proofs.Range.{total_ext, total-three}
+use Rattle.counting.proofs.Range.{total_ext, total_three}
 use Rattle.counting.proofs.Lists.{weigh_get_d}
 use Rattle.walk.specs.Darts.{half, rev, Loop}
-use Rattle.walk.proofs.Iterate.{it-suc}
-use Rattle.walk.proofs.Curve.{loop-distinct}
-use Rattle.walk.proofs.Step.{rev-first, rev-second, by-parity}
+use Rattle.walk.proofs.Iterate.{it_suc}
+use Rattle.walk.proofs.Curve.{loop_distinct}
+use Rattle.walk.proofs.Step.{rev_first, rev_second, by_parity}
 use Rattle.manifold.specs.Triangle.{Corner, Side, prev, same}
 use Rattle.manifold.specs.work.Triangle.{next}
 use Rattle.manifold.specs.claims.Plain.{Tri, corner_of, side_of, no_tri, nth, OneRing}
 use Rattle.manifold.specs.work.Plain.{Passes}
-use Rattle.manifold.proofs.Triangle.{hits, hits-is}
-use Rattle.manifold.proofs.Sound.{Member, member, Sound, corner-once, forward, backward}
+use Rattle.manifold.proofs.Triangle.{hits, hits_is}
+use Rattle.manifold.proofs.Sound.{Member, member, Sound, corner_once, forward, backward}
 use Rattle.manifold.proofs.Together.{port, Here, Spreads, Together}
-use Rattle.manifold.proofs.Glue.{Glued, exit, exit-even, exit-odd, CornersLinked, turn, corner-darts, turn-side, point-on, ring_of}
-use Rattle.manifold.proofs.Twin.{twin, twin-is, twin-only, twin-twice}
+use Rattle.manifold.proofs.Glue.{Glued, exit, exit_even, exit_odd, CornersLinked, turn, corner_darts, turn_side, point_on, ring_of}
+use Rattle.manifold.proofs.Twin.{twin, twin_is, twin_only, twin_twice}
 
 -- each side of a triangle occurs twice
 pub record Closed (mesh : List Tri) : Type 0 where
@@ -55,7 +55,7 @@ module _ (mesh : List Tri) where
   count σ =
       weigh_get_d (hits σ) no_tri mesh
       ∙ total_ext (λ t. hits σ (nth mesh t)) (λ t. f (3 * t) + f (3 * t + 1) + f (3 * t + 2)) (length mesh) 0 (λ t a b. at t)
-      ∙ sym (total-three f (length mesh) 0)
+      ∙ sym (total_three f (length mesh) 0)
     where
       f : ℕ → ℕ
       f r = one (same σ (side_at mesh r))
@@ -63,7 +63,7 @@ module _ (mesh : List Tri) where
       at : (t : ℕ) → hits σ (nth mesh t) ≡ f (3 * t) + f (3 * t + 1) + f (3 * t + 2)
       at t =
           let a : (3 * t) / 3 ≡ t = omega arith in let b : (3 * t) % 3 ≡ 0 = omega arith in
-          hits-is σ (nth mesh t) ∙ rw (a, b, side-at t 1 (omega arith), side-at t 2 (omega arith))
+          hits_is σ (nth mesh t) ∙ rw (a, b, side-at t 1 (omega arith), side-at t 2 (omega arith))
 
   module _ (S : Closed mesh) where
     two : (q : ℕ) → q < 3 * length mesh → total (λ r. one (same (side_at mesh q) (side_at mesh r))) (3 * length mesh) 0 ≡ 2
@@ -72,26 +72,26 @@ module _ (mesh : List Tri) where
     tw : ℕ → ℕ
     tw = twin (3 * length mesh) (side_at mesh)
 
-    corner-nxt : (q : ℕ) → corner_at mesh (nxt q) ≡ corner_of (nth mesh (q / 3)) (next (q % 3))
-    corner-nxt q = corner-at (q / 3) (next (q % 3)) (omega arith)
+    corner_nxt : (q : ℕ) → corner_at mesh (nxt q) ≡ corner_of (nth mesh (q / 3)) (next (q % 3))
+    corner_nxt q = corner-at (q / 3) (next (q % 3)) (omega arith)
 
     glued : Glued (3 * length mesh) nxt prv (side_at mesh) (corner_at mesh) tw
     unfolding tw
     glued = record {
-      nxt-lt = λ q l. omega arith;
-      prv-lt = λ q l. omega arith;
-      nxt-prv = λ q l. omega arith;
-      prv-nxt = λ q l. omega arith;
-      differ = λ q l e. S.sound.corners (nth mesh (q / 3)) (q % 3) (member mesh (q / 3) (omega arith)) (omega arith) (e ∙ corner-nxt q);
-      tw_lt = λ q l. (twin-is (3 * length mesh) (side_at mesh) two q l).0;
-      tw_ne = λ q l. (twin-is (3 * length mesh) (side_at mesh) two q l).1;
-      tw_tw = λ q l. twin-twice (3 * length mesh) (side_at mesh) two q l;
-      sd_tw = λ q l. (twin-is (3 * length mesh) (side_at mesh) two q l).2;
-      only = λ q r l m e. twin-only (3 * length mesh) (side_at mesh) two q r l m e;
+      nxt_lt = λ q l. omega arith;
+      prv_lt = λ q l. omega arith;
+      nxt_prv = λ q l. omega arith;
+      prv_nxt = λ q l. omega arith;
+      differ = λ q l e. S.sound.corners (nth mesh (q / 3)) (q % 3) (member mesh (q / 3) (omega arith)) (omega arith) (e ∙ corner_nxt q);
+      tw_lt = λ q l. (twin_is (3 * length mesh) (side_at mesh) two q l).0;
+      tw_ne = λ q l. (twin_is (3 * length mesh) (side_at mesh) two q l).1;
+      tw_tw = λ q l. twin_twice (3 * length mesh) (side_at mesh) two q l;
+      sd_tw = λ q l. (twin_is (3 * length mesh) (side_at mesh) two q l).2;
+      only = λ q r l m e. twin_only (3 * length mesh) (side_at mesh) two q r l m e;
       ends = λ q l.
-          let h = twin-is (3 * length mesh) (side_at mesh) two q l in
+          let h = twin_is (3 * length mesh) (side_at mesh) two q l in
           let r = twin (3 * length mesh) (side_at mesh) q in
-          rw (corner-nxt r, corner-nxt q) (S.sound.ends (nth mesh (r / 3)) (r % 3) (nth mesh (q / 3)) (q % 3)
+          rw (corner_nxt r, corner_nxt q) (S.sound.ends (nth mesh (r / 3)) (r % 3) (nth mesh (q / 3)) (q % 3)
           (member mesh (r / 3) (omega (arith, h.0))) (member mesh (q / 3) (omega arith)) (omega arith) (omega arith) h.2);
     }
 
@@ -100,17 +100,17 @@ module _ (mesh : List Tri) where
     dart_of true t i = 2 * (3 * t + i)
     dart_of false t i = 2 * (3 * t + i) + 1
 
-    dart-half : (a : Bool) (t i : ℕ) → dart_of a t i / 2 ≡ 3 * t + i
+    dart_half : (a : Bool) (t i : ℕ) → dart_of a t i / 2 ≡ 3 * t + i
     unfolding dart_of
-    dart-half true t i = omega arith
-    dart-half false t i = omega arith
+    dart_half true t i = omega arith
+    dart_half false t i = omega arith
 
     port-at : (a : Bool) (t i : ℕ) → i < 3 → side_at mesh (exit prv (dart_of a t i)) ≡ port a (nth mesh t) i
     unfolding dart_of
-    port-at true t i l = rw (exit-even prv (3 * t + i)) (side-at t i l)
+    port-at true t i l = rw (exit_even prv (3 * t + i)) (side-at t i l)
     port-at false t i l =
         let e : prv (3 * t + i) ≡ 3 * t + prev i = omega arith in
-        ap (side_at mesh) (exit-odd prv (3 * t + i) ∙ e) ∙ side-at t (prev i) (omega arith)
+        ap (side_at mesh) (exit_odd prv (3 * t + i) ∙ e) ∙ side-at t (prev i) (omega arith)
 
     joined : (g : Corner) → Together mesh g → CornersLinked (3 * length mesh) prv (side_at mesh) (corner_at mesh) g
     joined g T Q close q r lq lr cq cr h =
@@ -134,8 +134,8 @@ module _ (mesh : List Tri) where
             (at_g s i v hv.lt hv.member.is hv.is) (at_g t j w hw.lt q hw.is) (
               dart_of a s i,
               dart_of b t j,
-              dart-half a s i,
-              dart-half b t j,
+              dart_half a s i,
+              dart_half b t j,
               port-at a s i hv.lt ∙ ap (λ x. port a x i) hv.member.is ∙ e ∙ ap (λ x. port b x j) (sym q) ∙ sym (port-at b t j hw.lt),
             )
             (f s hv.member.lt hv.member.is)
@@ -145,25 +145,25 @@ module _ (mesh : List Tri) where
             close q (3 * t + q % 3) lq (omega arith) cq (at_g t (q % 3) (nth mesh (q / 3)) (omega arith) e cq) (
               dart_of true (q / 3) (q % 3),
               dart_of true t (q % 3),
-              dart-half true (q / 3) (q % 3) ∙ omega arith,
-              dart-half true t (q % 3),
+              dart_half true (q / 3) (q % 3) ∙ omega arith,
+              dart_half true t (q % 3),
               port-at true (q / 3) (q % 3) (omega arith) ∙ ap (λ x. side_of x (q % 3)) (sym e) ∙ sym (port-at true t (q % 3) (omega arith)),
             ) h
 
     -- a dart enters its triangle by the side of the corner's other dart
     passed : (d : ℕ) → d < 2 * (3 * length mesh)
         → Passes (nth mesh (d / 2 / 3)) (corner_at mesh (d / 2)) (side_at mesh (exit prv (rev d))) (side_at mesh (exit prv d))
-    passed = by-parity (3 * length mesh) (λ d. Passes (nth mesh (d / 2 / 3)) (corner_at mesh (d / 2)) (side_at mesh (exit prv (rev d))) (side_at mesh (exit prv d)))
+    passed = by_parity (3 * length mesh) (λ d. Passes (nth mesh (d / 2 / 3)) (corner_at mesh (d / 2)) (side_at mesh (exit prv (rev d))) (side_at mesh (exit prv d)))
         (λ q l. let e : 2 * q / 2 ≡ q = omega arith in
-        rw (e, rev-first, exit-even, exit-odd, side-at (q / 3) (prev (q % 3)) (omega arith))
+        rw (e, rev_first, exit_even, exit_odd, side-at (q / 3) (prev (q % 3)) (omega arith))
         (forward S.sound (nth mesh (q / 3)) (q % 3) (member mesh (q / 3) (omega arith)) (omega arith) refl))
         (λ q l. let e : (2 * q + 1) / 2 ≡ q = omega arith in
-        rw (e, rev-second, exit-even, exit-odd, side-at (q / 3) (prev (q % 3)) (omega arith))
+        rw (e, rev_second, exit_even, exit_odd, side-at (q / 3) (prev (q % 3)) (omega arith))
         (backward S.sound (nth mesh (q / 3)) (q % 3) (member mesh (q / 3) (omega arith)) (omega arith) refl))
 
-    pub one-ring : (g : Corner) → Together mesh g → (v : Tri) (j : ℕ) → Here mesh g v j → OneRing mesh g
+    pub one_ring : (g : Corner) → Together mesh g → (v : Tri) (j : ℕ) → Here mesh g v j → OneRing mesh g
     unfolding it
-    one-ring g T v j here =
+    one_ring g T v j here =
         let (k, L, all) = ring_of M nxt prv (side_at mesh) (corner_at mesh) tw glued g (joined g T) d₀ (omega (arith, here.member.lt, here.lt)) start in
         record {
           chain = record {
@@ -173,7 +173,7 @@ module _ (mesh : List Tri) where
             within = λ i l. omega (arith, live i);
             passes = λ i l. passes i;
             every = λ t' j' lt' lj' c. let o = all (3 * t' + j') (omega arith) (corner-at t' j' lj' ∙ c) in (o.at, o.at_lt, omega (arith, o.is));
-            once = λ a b la lb w. loop-distinct (2 * M) M s rev half (corner-darts M nxt prv (side_at mesh) (corner_at mesh) tw glued) L a b la lb (same_place a b w);
+            once = λ a b la lb w. loop_distinct (2 * M) M s rev half (corner_darts M nxt prv (side_at mesh) (corner_at mesh) tw glued) L a b la lb (same_place a b w);
           };
           more = more L (eqb k 1) refl;
           home = ap (λ d. side_at mesh (exit prv (rev d))) L.home;
@@ -196,7 +196,7 @@ module _ (mesh : List Tri) where
             ap (corner_at mesh) h ∙ corner-at here.member.at j here.lt ∙ ap (λ w. corner_of w j) here.member.is ∙ here.is
 
         on : (i : ℕ) → (it s i d₀ < 2 * M) × (corner_at mesh (it s i d₀ / 2) ≡ corner_at mesh (d₀ / 2))
-        on i = point-on M nxt prv (side_at mesh) (corner_at mesh) tw glued i d₀ (omega (arith, here.member.lt, here.lt))
+        on i = point_on M nxt prv (side_at mesh) (corner_at mesh) tw glued i d₀ (omega (arith, here.member.lt, here.lt))
 
         live : (i : ℕ) → it s i d₀ < 2 * M
         live i = (on i).0
@@ -211,7 +211,7 @@ module _ (mesh : List Tri) where
         over i = side_at mesh (exit prv (rev (it s i d₀)))
 
         leave : (i : ℕ) → over (suc i) ≡ side_at mesh (exit prv (it s i d₀))
-        leave i = ap (λ d. side_at mesh (exit prv (rev d))) (it-suc s i d₀) ∙ turn-side M nxt prv (side_at mesh) (corner_at mesh) tw glued (it s i d₀) (live i)
+        leave i = ap (λ d. side_at mesh (exit prv (rev d))) (it_suc s i d₀) ∙ turn_side M nxt prv (side_at mesh) (corner_at mesh) tw glued (it s i d₀) (live i)
 
         passes : (i : ℕ) → Passes (nth mesh (who i)) g (over i) (over (suc i))
         passes i = rw (leave i) (subst (λ x. Passes (nth mesh (who i)) x (over i) (side_at mesh (exit prv (it s i d₀)))) (point i) (passed (it s i d₀) (live i)))
@@ -222,7 +222,7 @@ module _ (mesh : List Tri) where
             let y = it s b d₀ / 2 in
             let c : corner_of (nth mesh (x / 3)) (x % 3) ≡ corner_of (nth mesh (x / 3)) (y % 3) =
             point a ∙ sym (point b) ∙ ap (λ u. corner_of (nth mesh u) (y % 3)) (sym w) in
-            omega (arith, w, corner-once S.sound (nth mesh (x / 3)) (x % 3) (y % 3) (member mesh (x / 3) (omega (arith, live a))) (omega arith) (omega arith) c)
+            omega (arith, w, corner_once S.sound (nth mesh (x / 3)) (x % 3) (y % 3) (member mesh (x / 3) (omega (arith, live a))) (omega arith) (omega arith) c)
 
         more : {k : ℕ} → Loop (2 * M) s d₀ k → (b : Bool) → eqb k 1 ≡ b → 1 < k
         more {k} L false q = omega (arith, L.pos, eqb-false k 1 q)

@@ -11,8 +11,8 @@ use lib.ListN.{length, get_or}
 use borrow.Author.Tests.{eq-eqb, ne_eqb, eqb-true}
 use Rattle.counting.specs.Lists.{after}
 use Rattle.counting.proofs.Bools.{clash}
-use Rattle.counting.proofs.Range.{after-lt, over_ext}
-use Rattle.counting.proofs.Lists.{length_singles, get_d_singles, map-over}
+use Rattle.counting.proofs.Range.{after_lt, over_ext}
+use Rattle.counting.proofs.Lists.{length_singles, get_d_singles, map_over}
 use Rattle.manifold.specs.Shape.{Shape, single, double, fan, shape_by, shape_of, many_of, middle_by, has_middle, triangle_of, triangles_of}
 
 -- what a shape says of the number of points of a loop
@@ -22,11 +22,11 @@ Fits double n = n ≡ 4
 Fits fan n = Unit {0}
 
 module _ (n : ℕ) (normal : Bool) where
-  pub shape-three : n ≡ 3 → shape_of n normal ≡ single
-  shape-three e = rw (eq-eqb n 3 e)
+  pub shape_three : n ≡ 3 → shape_of n normal ≡ single
+  shape_three e = rw (eq-eqb n 3 e)
 
-  pub shape-four : n ≡ 4 → normal ≡ true → shape_of n normal ≡ double
-  shape-four e h = rw (ne_eqb n 3 (λ q. omega arith), eq-eqb n 4 e, h)
+  pub shape_four : n ≡ 4 → normal ≡ true → shape_of n normal ≡ double
+  shape_four e h = rw (ne_eqb n 3 (λ q. omega arith), eq-eqb n 4 e, h)
 
   pub shape_else : n ≢ 3 → (n ≡ 4 → normal ≡ false) → shape_of n normal ≡ fan
   shape_else h f = rw (ne_eqb n 3 h) (go (eqb n 4) normal refl refl)
@@ -77,8 +77,8 @@ many_le double n e = omega arith
 many_le fan n e = omega arith
 
 module _ {C S T : Type 0} (make : C → C → C → S → S → S → T) (point : ℕ → C) (centre : C) (segment inner : ℕ → S) (n : ℕ) where
-  pub length-triangles : (sh : Shape) → length (triangles_of make point centre segment inner n sh) ≡ many_of sh n
-  length-triangles sh = length_singles (triangle_of make point centre segment inner n sh) (many_of sh n) 0
+  pub length_triangles : (sh : Shape) → length (triangles_of make point centre segment inner n sh) ≡ many_of sh n
+  length_triangles sh = length_singles (triangle_of make point centre segment inner n sh) (many_of sh n) 0
 
   pub get_d_triangles : (d : T) (sh : Shape) (k : ℕ) → k < many_of sh n
       → get_or (triangles_of make point centre segment inner n sh) k d ≡ triangle_of make point centre segment inner n sh k
@@ -98,15 +98,15 @@ module _ {C S T : Type 0} (make : C → C → C → S → S → S → T) (point 
       go single e k l = rw (m (omega arith), p 0 (omega arith), p 1 (omega arith), p 2 (omega arith), s 0 (omega arith), s 1 (omega arith), s 2 (omega arith))
       go double e zero l = rw (m (omega arith), p 0 (omega arith), p 1 (omega arith), p 2 (omega arith), s 0 (omega arith), s 1 (omega arith))
       go double e (suc k) l = rw (m (omega arith), p 0 (omega arith), p 2 (omega arith), p 3 (omega arith), s 2 (omega arith), s 3 (omega arith))
-      go fan e k l = let h : k < n = omega arith in rw (m (omega arith), p k h, p (after n k) (after-lt n k h), s k h)
+      go fan e k l = let h : k < n = omega arith in rw (m (omega arith), p k h, p (after n k) (after_lt n k h), s k h)
 
   -- a map of them, by maps of corners and sides
-  pub map-triangles : {D R U : Type 0} (f : T → U) (corner : C → D) (side : S → R) (make' : D → D → D → R → R → R → U)
+  pub map_triangles : {D R U : Type 0} (f : T → U) (corner : C → D) (side : S → R) (make' : D → D → D → R → R → R → U)
       → ((a b c : C) (r s t : S) → f (make a b c r s t) ≡ make' (corner a) (corner b) (corner c) (side r) (side s) (side t)) → (sh : Shape)
       → map f (triangles_of make point centre segment inner n sh)
       ≡ triangles_of make' (λ k. corner (point k)) (corner centre) (λ k. side (segment k)) (λ k. side (inner k)) n sh
-  map-triangles {U = U} f corner side make' e sh =
-      map-over f (λ k. triangle_of make point centre segment inner n sh k ∷ []) (many_of sh n) 0
+  map_triangles {U = U} f corner side make' e sh =
+      map_over f (λ k. triangle_of make point centre segment inner n sh k ∷ []) (many_of sh n) 0
       ∙ over_ext (λ k. f (triangle_of make point centre segment inner n sh k) ∷ []) (λ k. image sh k ∷ []) (many_of sh n) 0 (λ k a b. ap (λ u. u ∷ []) (go sh k))
     where
       image : Shape → ℕ → U

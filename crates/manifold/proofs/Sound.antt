@@ -10,12 +10,12 @@ use lib.ListN.{length}
 use borrow.Author.Tests.{eqb-true, eqb-false}
 use Rattle.counting.specs.Lists.{one, tally}
 use Rattle.counting.specs.work.Stored.{weigh}
-use Rattle.counting.proofs.Lists.{Stands, tally-weigh, weigh_ext}
+use Rattle.counting.proofs.Lists.{Stands, tally_weigh, weigh_ext}
 use Rattle.manifold.specs.Triangle.{Corner, Side, prev}
 use Rattle.manifold.specs.work.Triangle.{next}
 use Rattle.manifold.specs.claims.Plain.{Tri, corner_of, side_of, has_side, no_tri, nth}
 use Rattle.manifold.specs.work.Plain.{Passes}
-use Rattle.manifold.proofs.Triangle.{hits, hits-one}
+use Rattle.manifold.proofs.Triangle.{hits, hits_one}
 
 -- v is a triangle of the list
 abbrev pub Member : List Tri → Tri → Type 0
@@ -53,8 +53,8 @@ pub record Sound (l : List Tri) : Type 0 where
 
 module _ {l : List Tri} (S : Sound l) where
   -- a triangle has three corners and three sides
-  pub corner-once : (v : Tri) (a b : ℕ) → Member l v → a < 3 → b < 3 → corner_of v a ≡ corner_of v b → a ≡ b
-  corner-once v a b m la lb e = go (eqb a b) (eqb b (next a)) refl refl
+  pub corner_once : (v : Tri) (a b : ℕ) → Member l v → a < 3 → b < 3 → corner_of v a ≡ corner_of v b → a ≡ b
+  corner_once v a b m la lb e = go (eqb a b) (eqb b (next a)) refl refl
     where
       go : (x y : Bool) → eqb a b ≡ x → eqb b (next a) ≡ y → a ≡ b
       go true y p q = eqb-true a b p
@@ -63,8 +63,8 @@ module _ {l : List Tri} (S : Sound l) where
           let f : a ≡ next b = omega (arith, eqb-false a b p, eqb-false b (next a) q) in
           absurd (S.corners v b m lb (sym e ∙ ap (corner_of v) f))
 
-  pub sides-differ : (v : Tri) (i : ℕ) → Member l v → i < 3 → side_of v i ≢ side_of v (next i)
-  sides-differ v i m h e =
+  pub sides_differ : (v : Tri) (i : ℕ) → Member l v → i < 3 → side_of v i ≢ side_of v (next i)
+  sides_differ v i m h e =
       let r : i ≡ next (next (next i)) = omega arith in
       ⊎_elim (λ (p : (corner_of v i ≡ corner_of v (next i)) × (corner_of v (next i) ≡ corner_of v (next (next i)))). S.corners v i m h p.0)
       (λ (p : (corner_of v i ≡ corner_of v (next (next i))) × (corner_of v (next i) ≡ corner_of v (next i))).
@@ -72,22 +72,22 @@ module _ {l : List Tri} (S : Sound l) where
       (S.ends v i v (next i) m m h (omega arith) e)
 
   -- so how often a side occurs is how many triangles have it
-  pub tally-exact : (σ : Side) → tally (has_side σ) l ≡ weigh (hits σ) l
-  tally-exact σ =
-      sym (tally-weigh (has_side σ) l)
-      ∙ weigh_ext no_tri (λ v. one (has_side σ v)) (hits σ) l (λ t h. hits-one σ (nth l t) (λ i k. sides-differ (nth l t) i (member l t h) k))
+  pub tally_exact : (σ : Side) → tally (has_side σ) l ≡ weigh (hits σ) l
+  tally_exact σ =
+      sym (tally_weigh (has_side σ) l)
+      ∙ weigh_ext no_tri (λ v. one (has_side σ v)) (hits σ) l (λ t h. hits_one σ (nth l t) (λ i k. sides_differ (nth l t) i (member l t h) k))
 
   -- a triangle passed at its corner j, by the sides before and after it, or the other way
   module _ (v : Tri) (j : ℕ) (m : Member l v) (lj : j < 3) {g : Corner} (here : corner_of v j ≡ g) where
     two : side_of v (prev j) ≢ side_of v j
-    two e = let r : next (prev j) ≡ j = omega arith in sides-differ v (prev j) m (omega arith) (e ∙ ap (side_of v) (sym r))
+    two e = let r : next (prev j) ≡ j = omega arith in sides_differ v (prev j) m (omega arith) (e ∙ ap (side_of v) (sym r))
 
     pub forward : Passes v g (side_of v (prev j)) (side_of v j)
     forward = record {
       at = j;
       at_lt = lj;
       is = here;
-      only = λ i h e. corner-once v i j m h lj (e ∙ sym here);
+      only = λ i h e. corner_once v i j m h lj (e ∙ sym here);
       ways = inr (refl, refl);
       apart = two;
     }

@@ -9,8 +9,8 @@ use borrow.Author.Tests.{eqb-true, eqb-false, ltb-true, ltb-false, not-true}
 use Rattle.counting.specs.Lists.{one, total}
 use Rattle.counting.specs.Search.{first}
 use Rattle.counting.proofs.Bools.{and_left, and_right, clash}
-use Rattle.counting.proofs.Range.{total-one, no_third}
-use Rattle.counting.proofs.Search.{first-is, first-none}
+use Rattle.counting.proofs.Range.{total_one, no_third}
+use Rattle.counting.proofs.Search.{first_is, first_none}
 use Rattle.manifold.specs.Triangle.{Side, same}
 use Rattle.manifold.proofs.Triangle.{same_true, eq_same}
 
@@ -23,9 +23,9 @@ module _ (N : ℕ) (sd : ℕ → Side) where
   twin q = first (other q) N
 
   module _ (two : (q : ℕ) → q < N → total (λ r. one (same (sd q) (sd r))) N 0 ≡ 2) where
-    pub twin-is : (q : ℕ) → q < N → (twin q < N) × (twin q ≢ q) × (sd (twin q) ≡ sd q)
+    pub twin_is : (q : ℕ) → q < N → (twin q < N) × (twin q ≢ q) × (sd (twin q) ≡ sd q)
     unfolding twin
-    twin-is q l = go (ltb (first (other q) N) N) refl
+    twin_is q l = go (ltb (first (other q) N) N) refl
       where
         no : (r : ℕ) (x y : Bool) → same (sd q) (sd r) ≡ x → eqb r q ≡ y → (x && not y) ≡ false → r ≢ q → one x ≡ 0
         no r true true a b e w = absurd (w (eqb-true r q b))
@@ -36,7 +36,7 @@ module _ (N : ℕ) (sd : ℕ → Side) where
         go true b =
             let r = first (other q) N in
             let h : r < N = ltb-true r N b in
-            let e : other q r ≡ true = first-is (other q) N h in (
+            let e : other q r ≡ true = first_is (other q) N h in (
               h,
               eqb-false r q (not-true (eqb r q) (and_right (same (sd q) (sd r)) (not (eqb r q)) e)),
               sym (same_true (sd q) (sd r) (and_left (same (sd q) (sd r)) (not (eqb r q)) e)),
@@ -45,12 +45,12 @@ module _ (N : ℕ) (sd : ℕ → Side) where
             absurd (omega (
               arith,
               two q l,
-              total-one (λ r. one (same (sd q) (sd r))) N 0 q (omega arith) (omega arith) (ap one (eq_same (sd q) (sd q) refl))
-                  (λ r u v w. no r (same (sd q) (sd r)) (eqb r q) refl refl (first-none (other q) N (ltb-false (first (other q) N) N b) r (omega arith)) w),
+              total_one (λ r. one (same (sd q) (sd r))) N 0 q (omega arith) (omega arith) (ap one (eq_same (sd q) (sd q) refl))
+                  (λ r u v w. no r (same (sd q) (sd r)) (eqb r q) refl refl (first_none (other q) N (ltb-false (first (other q) N) N b) r (omega arith)) w),
             ))
 
-    pub twin-only : (q r : ℕ) → q < N → r < N → sd r ≡ sd q → (r ≡ q) ⊎ (r ≡ twin q)
-    twin-only q r l m e = go (eqb r q) (eqb r (twin q)) refl refl
+    pub twin_only : (q r : ℕ) → q < N → r < N → sd r ≡ sd q → (r ≡ q) ⊎ (r ≡ twin q)
+    twin_only q r l m e = go (eqb r q) (eqb r (twin q)) refl refl
       where
         hit : (r : ℕ) → sd r ≡ sd q → 0 < one (same (sd q) (sd r))
         hit r e = rw (eq_same (sd q) (sd r) (sym e)) (omega arith)
@@ -59,12 +59,12 @@ module _ (N : ℕ) (sd : ℕ → Side) where
         go true y a b = inl (eqb-true r q a)
         go false true a b = inr (eqb-true r (twin q) b)
         go false false a b =
-            let (tl, tn, ts) = twin-is q l in
+            let (tl, tn, ts) = twin_is q l in
             absurd (no_third (λ r. one (same (sd q) (sd r))) N r q (twin q) (omega (arith, two q l)) m l tl
             (eqb-false r q a) (eqb-false r (twin q) b) (λ w. tn (sym w)) (hit r e) (hit q refl) (hit (twin q) ts))
 
-    pub twin-twice : (q : ℕ) → q < N → twin (twin q) ≡ q
-    twin-twice q l =
-        let (tl, tn, ts) = twin-is q l in
-        let (ul, un, us) = twin-is (twin q) tl in
-        ⊎_elim (λ w. w) (λ w. absurd (un w)) (twin-only q (twin (twin q)) l ul (us ∙ ts))
+    pub twin_twice : (q : ℕ) → q < N → twin (twin q) ≡ q
+    twin_twice q l =
+        let (tl, tn, ts) = twin_is q l in
+        let (ul, un, us) = twin_is (twin q) tl in
+        ⊎_elim (λ w. w) (λ w. absurd (un w)) (twin_only q (twin (twin q)) l ul (us ∙ ts))

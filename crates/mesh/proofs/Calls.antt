@@ -15,45 +15,45 @@ use Rattle.grid.specs.declared.Checked.TheVariants.{Crossings, Refused}
 use Rattle.grid.specs.Check.{check_numbers}
 use Rattle.grid.specs.Rows.{grid_answer, accepts}
 use Rattle.grid.specs.work.Tables.{Laid}
-use Rattle.grid.proofs.Filled.{refused-keeps, told-accepts, told-sound}
+use Rattle.grid.proofs.Filled.{refused_keeps, told_accepts, told_sound}
 use Rattle.mesh.specs.Mesh.{mesh_words}
 use Rattle.mesh.specs.work.Drawn.{table_loop, Drawn}
 use Rattle.mesh.specs.Room.{room_answer}
 use Rattle.mesh.specs.Answer.{mesh_answer, mesh_area, loops_answer}
 use Rattle.mesh.specs.Done.{Done}
 use Rattle.mesh.proofs.Demand.{demand3}
-use Rattle.mesh.proofs.Tables.{Tabled, tabled, triangles_are, splits_are, loop-is}
+use Rattle.mesh.proofs.Tables.{Tabled, tabled, triangles_are, splits_are, loop_is}
 
 module _ (G : Grid) where
   module _ (r : Checked) (row place : ℕ) (e : r ≡ Refused row place) (q : check_numbers r ≡ grid_answer G) where
-    is-refusal : check_numbers (Refused row place) ≡ grid_answer G
-    is-refusal = ap check_numbers (sym e) ∙ q
+    is_refusal : check_numbers (Refused row place) ≡ grid_answer G
+    is_refusal = ap check_numbers (sym e) ∙ q
 
     keeps : accepts G ≡ false
-    keeps = refused-keeps G row place is-refusal
+    keeps = refused_keeps G row place is_refusal
 
-    pub refused-done : (area : List ℕ) → Done G area area (refused row place)
+    pub refused_done : (area : List ℕ) → Done G area area (refused row place)
     unfolding mesh_answer mesh_area
-    refused-done area = record { answered = rw keeps is-refusal; area = rw keeps; demand = demand3 }
+    refused_done area = record { answered = rw keeps is_refusal; area = rw keeps; demand = demand3 }
 
-    pub refused-loops : (c k : ℕ) → refused row place ≡ loops_answer G c k
+    pub refused_loops : (c k : ℕ) → refused row place ≡ loops_answer G c k
     unfolding loops_answer
-    refused-loops c k = rw keeps is-refusal
+    refused_loops c k = rw keeps is_refusal
 
   module _ (r : Checked) (n : ℕ) (e : r ≡ Crossings n) (q : check_numbers r ≡ grid_answer G) where
     module _ (names₀ sides₀ names sides : List ℕ) (ln : length names₀ ≡ most_slots) (ls : length sides₀ ≡ most_edges)
         (o : Laid G names₀ sides₀ names sides) where
       tables : Tabled G names sides
-      tables = tabled G names₀ sides₀ names sides (told-sound G r n e q) (told-accepts G r n e q) ln ls o
+      tables = tabled G names₀ sides₀ names sides (told_sound G r n e q) (told_accepts G r n e q) ln ls o
 
-      pub drawn-done : (before after answer : List ℕ) → Drawn G.cells G.counts names sides G.starts before after answer → Done G before after answer
+      pub drawn_done : (before after answer : List ℕ) → Drawn G.cells G.counts names sides G.starts before after answer → Done G before after answer
       unfolding mesh_answer mesh_area mesh_words
-      drawn-done before after answer d = record {
-        answered = rw (told-accepts G r n e q) (d.answered ∙ ap₂ (λ m n. room_answer m n (length before)) (triangles_are tables) (splits_are tables));
-        area = rw (told-accepts G r n e q) (d.area ∙ ap (λ m. stored_in before 0 (all_words m)) (triangles_are tables));
+      drawn_done before after answer d = record {
+        answered = rw (told_accepts G r n e q) (d.answered ∙ ap₂ (λ m n. room_answer m n (length before)) (triangles_are tables) (splits_are tables));
+        area = rw (told_accepts G r n e q) (d.area ∙ ap (λ m. stored_in before 0 (all_words m)) (triangles_are tables));
         demand = demand3;
       }
 
-      pub told-loops : (c k : ℕ) → table_loop G.cells G.counts names sides G.starts c k ≡ loops_answer G c k
+      pub told_loops : (c k : ℕ) → table_loop G.cells G.counts names sides G.starts c k ≡ loops_answer G c k
       unfolding loops_answer
-      told-loops c k = rw (told-accepts G r n e q) (loop-is tables c k)
+      told_loops c k = rw (told_accepts G r n e q) (loop_is tables c k)

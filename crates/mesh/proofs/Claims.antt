@@ -5,7 +5,7 @@ use mathlib.Core.List.{List, [], ◌∷◌}
 use lib.Dec.{ltb, leb}
 use lib.ListN.{length, drop}
 use Rattle.answer.specs.Answer.{result_of, refusal, refused}
-use Rattle.answer.proofs.Answer.{mixed, no-nil, pick_some, refusals}
+use Rattle.answer.proofs.Answer.{mixed, no_nil, pick_some, refusals}
 use Rattle.counting.specs.Lists.{one}
 use Rattle.face.proofs.Rim.{alternating}
 use Rattle.cell.specs.declared.Cell.{Cell}
@@ -20,7 +20,7 @@ use Rattle.cell.specs.Words.{word_count}
 use Rattle.grid.specs.Grid.{Grid, cell_count}
 use Rattle.grid.specs.Rows.{accepts, grid_answer}
 use Rattle.grid.proofs.Accepts.{acceptance_yields}
-use Rattle.grid.proofs.Claims.{never-empty}
+use Rattle.grid.proofs.Claims.{never_empty}
 use Rattle.split.proofs.Claims.{splits_few, drawn_ordered}
 use Rattle.mesh.specs.declared.Meshed.{Meshed}
 use Rattle.mesh.specs.declared.Meshed.TheVariants.{Triangles, Refused}
@@ -36,54 +36,54 @@ use Rattle.mesh.proofs.Complex.{separate, fit}
 
 -- there is always an answer
 module _ (G : Grid) where
-  pub mesh-some : (room : ℕ) → [] ≡ mesh_answer G room → ⊥
+  pub mesh_some : (room : ℕ) → [] ≡ mesh_answer G room → ⊥
   unfolding mesh_answer room_answer
-  mesh-some room =
+  mesh_some room =
       pick_some (accepts G) (room_answer mesh (mesh_splits G) room) (grid_answer G)
-      (pick_some (leb (word_count * length mesh) room) (result_of (length mesh ∷ mesh_splits G ∷ [])) (refusal 12 (length mesh)) no-nil no-nil)
-      (never-empty G)
+      (pick_some (leb (word_count * length mesh) room) (result_of (length mesh ∷ mesh_splits G ∷ [])) (refusal 12 (length mesh)) no_nil no_nil)
+      (never_empty G)
     where
       mesh : List Triangle
       mesh = mesh_triangles G
 
-  loop-some : (c : Cell) (k : ℕ) → [] ≡ cell_loop c k → ⊥
+  loop_some : (c : Cell) (k : ℕ) → [] ≡ cell_loop c k → ⊥
   unfolding loop_answer loop_told
-  loop-some c k = go (drop k (leasts (edges_of c)))
+  loop_some c k = go (drop k (leasts (edges_of c)))
     where
       go : (l : List ℕ) → [] ≡ loop_told (edges_of c) c.nodes l → ⊥
-      go [] q = no-nil q
-      go (p ∷ l) q = no-nil q
+      go [] q = no_nil q
+      go (p ∷ l) q = no_nil q
 
-  pub loops-some : (c k : ℕ) → [] ≡ loops_answer G c k → ⊥
+  pub loops_some : (c k : ℕ) → [] ≡ loops_answer G c k → ⊥
   unfolding loops_answer asked_loop
-  loops-some c k =
+  loops_some c k =
       pick_some (accepts G) (asked_loop (grid_cell G) (cell_count G.cells) c k) (grid_answer G)
-      (pick_some (ltb c (cell_count G.cells)) (cell_loop (grid_cell G c) k) (refusal 11 c) (loop-some (grid_cell G c) k) no-nil)
-      (never-empty G)
+      (pick_some (ltb c (cell_count G.cells)) (cell_loop (grid_cell G c) k) (refusal 11 c) (loop_some (grid_cell G c) k) no_nil)
+      (never_empty G)
 
 -- two values with one reading that is an answer
 module _ (answer : List ℕ) (some : [] ≡ answer → ⊥) where
-  pub mesh-tells : (r s : Meshed) → mesh_numbers r ≡ answer → mesh_numbers s ≡ answer → r ≡ s
-  mesh-tells (Triangles n s) (Triangles m t) a b = let x : n ≡ m = cc in let y : s ≡ t = cc in rw (x, y)
-  mesh-tells (Triangles n s) (Refused k p) a b = absurd (mixed answer some k p (n ∷ s ∷ []) a b)
-  mesh-tells (Refused k p) (Triangles n s) a b = absurd (mixed answer some k p (n ∷ s ∷ []) b a)
-  mesh-tells (Refused k p) (Refused l q) a b = let (x, y) = refusals answer some k p l q a b in rw (x, y)
+  pub mesh_tells : (r s : Meshed) → mesh_numbers r ≡ answer → mesh_numbers s ≡ answer → r ≡ s
+  mesh_tells (Triangles n s) (Triangles m t) a b = let x : n ≡ m = cc in let y : s ≡ t = cc in rw (x, y)
+  mesh_tells (Triangles n s) (Refused k p) a b = absurd (mixed answer some k p (n ∷ s ∷ []) a b)
+  mesh_tells (Refused k p) (Triangles n s) a b = absurd (mixed answer some k p (n ∷ s ∷ []) b a)
+  mesh_tells (Refused k p) (Refused l q) a b = let (x, y) = refusals answer some k p l q a b in rw (x, y)
 
-  told-refused : (l : Loop) (k p : ℕ) → loop_numbers l ≡ answer → refused k p ≡ answer → ⊥
-  told-refused (Found p n b t) k q a c = mixed answer some k q (p ∷ n ∷ one b ∷ type_numbers t) a c
-  told-refused Nothing k q a c = mixed answer some k q [] a c
+  told_refused : (l : Loop) (k p : ℕ) → loop_numbers l ≡ answer → refused k p ≡ answer → ⊥
+  told_refused (Found p n b t) k q a c = mixed answer some k q (p ∷ n ∷ one b ∷ type_numbers t) a c
+  told_refused Nothing k q a c = mixed answer some k q [] a c
 
-  loops-tell : (r s : Looped) → loops_numbers r ≡ answer → loops_numbers s ≡ answer → r ≡ s
-  loops-tell (looped.Told l) (looped.Told m) a b = ap looped.Told (one_to_one.loops l m (a ∙ sym b))
-  loops-tell (looped.Told l) (looped.Refused k p) a b = absurd (told-refused l k p a b)
-  loops-tell (looped.Refused k p) (looped.Told l) a b = absurd (told-refused l k p b a)
-  loops-tell (looped.Refused k p) (looped.Refused l q) a b = let (x, y) = refusals answer some k p l q a b in rw (x, y)
+  loops_tell : (r s : Looped) → loops_numbers r ≡ answer → loops_numbers s ≡ answer → r ≡ s
+  loops_tell (looped.Told l) (looped.Told m) a b = ap looped.Told (one_to_one.loops l m (a ∙ sym b))
+  loops_tell (looped.Told l) (looped.Refused k p) a b = absurd (told_refused l k p a b)
+  loops_tell (looped.Refused k p) (looped.Told l) a b = absurd (told_refused l k p b a)
+  loops_tell (looped.Refused k p) (looped.Refused l q) a b = let (x, y) = refusals answer some k p l q a b in rw (x, y)
 
-pub mesh-told : MeshTold
-mesh-told G room = mesh-tells (mesh_answer G room) (mesh-some G room)
+pub mesh_told : MeshTold
+mesh_told G room = mesh_tells (mesh_answer G room) (mesh_some G room)
 
-pub loops-told : LoopsTold
-loops-told G c k = loops-tell (loops_answer G c k) (loops-some G c k)
+pub loops_told : LoopsTold
+loops_told G c k = loops_tell (loops_answer G c k) (loops_some G c k)
 
 pub can_alternate : CanAlternate
 can_alternate = alternating

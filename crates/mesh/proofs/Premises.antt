@@ -13,7 +13,7 @@ use Rattle.counting.specs.Pack.{row, col}
 use Rattle.counting.specs.Reach.{reach}
 use Rattle.counting.specs.Gcd.{divides, gcd}
 use Rattle.counting.proofs.Bools.{clash, and_left, and_right, or_cases}
-use Rattle.counting.proofs.Search.{every-is}
+use Rattle.counting.proofs.Search.{every_is}
 use Rattle.answer.specs.Answer.{result_of}
 use Rattle.slots.specs.Slots.{lo, hi, position, lower, upper, edge_between, slot_edge, edge_rank, contains, first_slot, second_slot}
 use Rattle.face.specs.Face as face
@@ -53,12 +53,12 @@ module _ (G : Grid) where
   pub tested : premise_test ≡ true → RingPremises G
   unfolding premise_test zero_test even_test
   tested e = record {
-    outer-zero = λ f l o. ⊎_elim (λ (n : not (outer G f) ≡ true). clash o (not-true (outer G f) n)) (λ z. eqb-true (count_of G.counts f) 0 z)
+    outer_zero = λ f l o. ⊎_elim (λ (n : not (outer G f) ≡ true). clash o (not-true (outer G f) n)) (λ z. eqb-true (count_of G.counts f) 0 z)
         (or_cases (not (outer G f)) (eqb (count_of G.counts f) 0)
-        (every-is zero_test (length G.counts) (and_left (every zero_test (length G.counts)) (every (λ c. every (even_test c) 4) (cell_count G.cells)) e) f l));
+        (every_is zero_test (length G.counts) (and_left (every zero_test (length G.counts)) (every (λ c. every (even_test c) 4) (cell_count G.cells)) e) f l));
     even = λ c s lc ls. eqb-true ((face_count G c s 0 + face_count G c s 1 + face_count G c s 2) % 2) 0
-        (every-is (even_test c) 4
-        (every-is (λ c. every (even_test c) 4) (cell_count G.cells) (and_right (every zero_test (length G.counts)) (every (λ c. every (even_test c) 4) (cell_count G.cells)) e) c lc) s ls);
+        (every_is (even_test c) 4
+        (every_is (λ c. every (even_test c) 4) (cell_count G.cells) (and_right (every zero_test (length G.counts)) (every (λ c. every (even_test c) 4) (cell_count G.cells)) e) c lc) s ls);
   }
 
 -- three cells round an edge, and five where each face is in two: every outer edge has count zero, and each face an even sum

@@ -10,10 +10,10 @@ use Rattle.cell.specs.Words.{word_count}
 use Rattle.mesh.specs.Room.{room_answer}
 
 module _ (mesh : List Triangle) (splits room : ℕ) where
-  pub answer-short : room < word_count * length mesh → refusal 12 (length mesh) ≡ room_answer mesh splits room
+  pub answer_short : room < word_count * length mesh → refusal 12 (length mesh) ≡ room_answer mesh splits room
   unfolding room_answer
-  answer-short h = simp (lt-leb (word_count * length mesh) room h)
+  answer_short h = simp (lt-leb (word_count * length mesh) room h)
 
-  pub answer-fits : word_count * length mesh ≤ room → result_of (length mesh ∷ splits ∷ []) ≡ room_answer mesh splits room
+  pub answer_fits : word_count * length mesh ≤ room → result_of (length mesh ∷ splits ∷ []) ≡ room_answer mesh splits room
   unfolding room_answer
-  answer-fits h = simp (le-leb (word_count * length mesh) room h)
+  answer_fits h = simp (le-leb (word_count * length mesh) room h)

@@ -41,7 +41,7 @@ module _ (G : Grid) where
 
   -- the premises of the rings: every outer edge has count zero, and the three counts of every face have an even sum
   pub record RingPremises : Type 0 where
-    pub outer-zero : (e : ℕ) → e < length G.counts → outer G e ≡ true → count_of G.counts e ≡ 0
+    pub outer_zero : (e : ℕ) → e < length G.counts → outer G e ≡ true → count_of G.counts e ≡ 0
     pub even : (c s : ℕ) → c < cell_count G.cells → s < 4 → (face_count c s 0 + face_count c s 1 + face_count c s 2) % 2 ≡ 0
 
   -- one ring (01) of the mesh's triangles at a point
@@ -58,17 +58,17 @@ module _ (G : Grid) where
 
   -- cell c is split, and g is the number of one of its inner crossings
   pub record InnerCrossing (c g : ℕ) : Type 0 where
-    pub cell-lt : c < cell_count G.cells
+    pub cell_lt : c < cell_count G.cells
     pub is-split : is_split (cell.count_of (grid_cell G c)) ≡ true
     pub from : first_inner_crossing ≤ g
     pub below : g < first_inner_crossing + inner_crossings (larger (cell.count_of (grid_cell G c))) (smaller (cell.count_of (grid_cell G c)))
 
   -- part x of cell c is the cell or sub-cell b, whole, and the loop of b from its crossing p is drawn as a fan
   pub record Fan (c x : ℕ) (b : Cell) (p : ℕ) : Type 0 where
-    pub cell-lt : c < cell_count G.cells
-    pub part-lt : x < length (parts_of c)
-    pub part-is : get_or (parts_of c) x no_part ≡ whole b
-    pub start-lt : p < edges.crossings (edges_of b)
+    pub cell_lt : c < cell_count G.cells
+    pub part_lt : x < length (parts_of c)
+    pub part_is : get_or (parts_of c) x no_part ≡ whole b
+    pub start_lt : p < edges.crossings (edges_of b)
     pub some : 0 < loop_size (edges_of b) p
     pub is : shape_of (loop_size (edges_of b) p) (normal (edges_of b) p) ≡ fan
 
@@ -81,12 +81,12 @@ module _ (G : Grid) where
     -- (b) no side is in more than two triangles
     pub at_most_two : (σ : Side) → tally (has_mesh_side σ) (mesh_triangles G) ≤ 2
     -- (c) under the premises each side of each triangle is in exactly two triangles
-    pub exactly-two : RingPremises → (t i : ℕ) → t < length (mesh_triangles G) → i < 3
+    pub exactly_two : RingPremises → (t i : ℕ) → t < length (mesh_triangles G) → i < 3
         → tally (has_mesh_side (mesh_side (get_or (mesh_triangles G) t none) i)) (mesh_triangles G) ≡ 2
     -- and there is one ring at each crossing of the grid
     pub ring_at_crossing : RingPremises → (g : ℕ) → g < total → OneRing (cross g)
     -- and at each inner crossing of each split cell
-    pub ring-inside : RingPremises → (c g : ℕ) → InnerCrossing c g → OneRing (owned_corner c (cross g))
+    pub ring_inside : RingPremises → (c g : ℕ) → InnerCrossing c g → OneRing (owned_corner c (cross g))
     -- and at the middle of every fan
     pub ring_at_middle : RingPremises → (c x : ℕ) (b : Cell) (p : ℕ) → Fan c x b p → OneRing (owned_corner c (middle b.index (number_of b p)))
 

@@ -18,7 +18,7 @@ use Rattle.nearest.specs.Distance.{square, squared_distance, point_count, distan
 use Rattle.nearest.specs.Answer.{has_bits}
 use Rattle.nearest.specs.claims.Fault.{listed, asked, Faultless}
 use Rattle.nearest.specs.claims.Claims.{greatest_distance}
-use Rattle.nearest.proofs.Sizes.{Most, within-bounded, sub-most, square-most, add_most, most-between}
+use Rattle.nearest.proofs.Sizes.{Most, within_bounded, sub_most, square_most, add_most, most_between}
 use Rattle.nearest.proofs.Order.{Counted}
 
 -- every number of a point is within the limit
@@ -29,25 +29,25 @@ AllWithin p = (t : ℕ) → t < coordinates → within (get_or (numbers p) t nan
 abbrev farthest_apart : ℕ
 farthest_apart = farthest + farthest
 
-square-size : (p q : Float) → within p ≡ true → within q ≡ true → Most false (farthest_apart * farthest_apart) (square p q)
+square_size : (p q : Float) → within p ≡ true → within q ≡ true → Most false (farthest_apart * farthest_apart) (square p q)
 unfolding square
-square-size p q P Q = square-most farthest_apart (lit≤ tt) (sub binary64 p q) (sub-most farthest farthest (lit≤ tt) p q (within-bounded p P) (within-bounded q Q))
+square_size p q P Q = square_most farthest_apart (lit≤ tt) (sub binary64 p q) (sub_most farthest farthest (lit≤ tt) p q (within_bounded p P) (within_bounded q Q))
 
 pub distance_size : (p q : Place) → AllWithin p → AllWithin q → Most false greatest_distance (squared_distance p q)
 unfolding squared_distance
 distance_size p q P Q =
     let s = farthest_apart * farthest_apart in
-    let x = square-size p.x q.x (P 0 (omega arith)) (Q 0 (omega arith)) in
-    let y = square-size p.y q.y (P 1 (omega arith)) (Q 1 (omega arith)) in
-    let z = square-size p.z q.z (P 2 (omega arith)) (Q 2 (omega arith)) in
+    let x = square_size p.x q.x (P 0 (omega arith)) (Q 0 (omega arith)) in
+    let y = square_size p.y q.y (P 1 (omega arith)) (Q 1 (omega arith)) in
+    let z = square_size p.z q.z (P 2 (omega arith)) (Q 2 (omega arith)) in
     add_most (s + s) s (lit≤ tt) (add binary64 (square p.x q.x) (square p.y q.y)) (square p.z q.z)
     (add_most s s (lit≤ tt) (square p.x q.x) (square p.y q.y) x y) z
 
 -- what follows from a size
-size-counted : (N : ℕ) (x : Float) → Most false N x → Counted x
-size-counted N nan M = M
-size-counted N (inf s) M = M
-size-counted N (fin s m e) M = M.0
+size_counted : (N : ℕ) (x : Float) → Most false N x → Counted x
+size_counted N nan M = M
+size_counted N (inf s) M = M
+size_counted N (fin s m e) M = M.0
 
 size_number : (N : ℕ) (x : Float) → Most false N x → not (is_nan x) ≡ true
 unfolding is_nan
@@ -61,25 +61,25 @@ distance_fits p q = is_true _ (add-fits binary64 (add binary64 (square p.x q.x) 
 
 -- the points of a list without a fault
 module _ (points : List Float) (query : Place) (F : Faultless points query) where
-  within-listed : (i : ℕ) → i < length points → within (get_or points i nan) ≡ true
-  within-listed i l = ⊎_elim (λ e. e) (λ e. absurd (F i (listed l e))) (holds_or (within (get_or points i nan)))
+  within_listed : (i : ℕ) → i < length points → within (get_or points i nan) ≡ true
+  within_listed i l = ⊎_elim (λ e. e) (λ e. absurd (F i (listed l e))) (holds_or (within (get_or points i nan)))
 
-  pub list-within : (k : ℕ) → k < point_count points → AllWithin (place_at points k)
-  list-within k l t h = ap within (number_loaded points k t h) ∙ within-listed (coordinates * k + t) (omega arith)
+  pub list_within : (k : ℕ) → k < point_count points → AllWithin (place_at points k)
+  list_within k l t h = ap within (number_loaded points k t h) ∙ within_listed (coordinates * k + t) (omega arith)
 
-  pub query-within : AllWithin query
-  query-within t h = ⊎_elim (λ e. e) (λ e. absurd (F (length points + t) (asked t h refl e))) (holds_or (within (get_or (numbers query) t nan)))
+  pub query_within : AllWithin query
+  query_within t h = ⊎_elim (λ e. e) (λ e. absurd (F (length points + t) (asked t h refl e))) (holds_or (within (get_or (numbers query) t nan)))
 
   module _ (k : ℕ) (l : k < point_count points) where
     size : Most false greatest_distance (distance_of points query k)
     unfolding distance_of
-    size = distance_size (place_at points k) query (list-within k l) query-within
+    size = distance_size (place_at points k) query (list_within k l) query_within
 
     pub counted : Counted (distance_of points query k)
-    counted = size-counted greatest_distance (distance_of points query k) size
+    counted = size_counted greatest_distance (distance_of points query k) size
 
     pub distance_between : (le (float_of 0) (distance_of points query k) ≡ true) × (le (distance_of points query k) (float_of greatest_distance) ≡ true)
-    distance_between = most-between greatest_distance (lit≤ tt) (distance_of points query k) size
+    distance_between = most_between greatest_distance (lit≤ tt) (distance_of points query k) size
 
     pub has-bits : has_bits (distance_of points query k) ≡ true
     unfolding distance_of

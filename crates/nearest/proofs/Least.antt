@@ -25,9 +25,9 @@ pub record LeastSoFar (d : ℕ → Float) (i b : ℕ) (x : Float) : Type 0 where
   pub float : x ≡ d b
 
 module _ (d : ℕ → Float) where
-  reached-one : {x : Float} → x ≡ d 0 → LeastSoFar d 1 0 x
+  reached_one : {x : Float} → x ≡ d 0 → LeastSoFar d 1 0 x
   unfolding least_to
-  reached-one e = record { some = omega arith; number = refl; float = e }
+  reached_one e = record { some = omega arith; number = refl; float = e }
 
   -- one number more
   next : (i : ℕ) → 0 < i → least_to d (i + 1 - 1) ≡ pick (lt (d i) (d (least_to d (i - 1)))) i (least_to d (i - 1))
@@ -39,18 +39,18 @@ module _ (d : ℕ → Float) where
       rw (a, b)
 
   -- whose float is smaller, or not
-  next-less : {i b : ℕ} {x y : Float} → LeastSoFar d i b x → y ≡ d i → lt (d i) x ≡ true → LeastSoFar d (i + 1) i y
-  next-less {i} R e h = record { some = omega arith; number = sym (next i R.some ∙ rw (← R.number, ← R.float, h)); float = e }
+  next_less : {i b : ℕ} {x y : Float} → LeastSoFar d i b x → y ≡ d i → lt (d i) x ≡ true → LeastSoFar d (i + 1) i y
+  next_less {i} R e h = record { some = omega arith; number = sym (next i R.some ∙ rw (← R.number, ← R.float, h)); float = e }
 
-  next-not : {i b : ℕ} {x : Float} → LeastSoFar d i b x → lt (d i) x ≡ false → LeastSoFar d (i + 1) b x
-  next-not {i} R h = record { some = omega arith; number = sym (next i R.some ∙ rw (← R.number, ← R.float, h)); float = R.float }
+  next_not : {i b : ℕ} {x : Float} → LeastSoFar d i b x → lt (d i) x ≡ false → LeastSoFar d (i + 1) b x
+  next_not {i} R h = record { some = omega arith; number = sym (next i R.some ∙ rw (← R.number, ← R.float, h)); float = R.float }
 
   -- numbers none of which has a smaller one
-  run-not : (j : ℕ) {i b : ℕ} {x : Float} → LeastSoFar d i b x → ((k : ℕ) → i ≤ k → k < i + j → lt (d k) x ≡ false) → LeastSoFar d (i + j) b x
-  run-not zero {i} {b} {x} R h = let e : i ≡ i + 0 = omega arith in subst (λ k. LeastSoFar d k b x) e R
-  run-not (suc j) {i} {b} {x} R h =
+  run_not : (j : ℕ) {i b : ℕ} {x : Float} → LeastSoFar d i b x → ((k : ℕ) → i ≤ k → k < i + j → lt (d k) x ≡ false) → LeastSoFar d (i + j) b x
+  run_not zero {i} {b} {x} R h = let e : i ≡ i + 0 = omega arith in subst (λ k. LeastSoFar d k b x) e R
+  run_not (suc j) {i} {b} {x} R h =
       let e : i + 1 + j ≡ i + suc j = omega arith in
-      subst (λ k. LeastSoFar d k b x) e (run-not j (next-not R (h i (omega arith) (omega arith))) (λ k l m. h k (omega arith) (omega arith)))
+      subst (λ k. LeastSoFar d k b x) e (run_not j (next_not R (h i (omega arith) (omega arith))) (λ k l m. h k (omega arith) (omega arith)))
 
   -- of n numbers the first k are gone through, and the next one, if there is one, has a smaller float
   pub record Searched (n k b : ℕ) (x : Float) : Type 0 where
@@ -59,23 +59,23 @@ module _ (d : ℕ → Float) where
     pub nearer : k < n → lt (d k) x ≡ true
 
   -- as far as a search for a smaller one leads
-  run-to : (n i : ℕ) {k b : ℕ} {x : Float} → LeastSoFar d i b x → i - 1 ≤ n - 1 → k ≡ seek (λ q. lt (d q) x) (n - i) i → Searched n k b x
-  run-to n i {k} {b} {x} R h e =
+  run_to : (n i : ℕ) {k b : ℕ} {x : Float} → LeastSoFar d i b x → i - 1 ≤ n - 1 → k ≡ seek (λ q. lt (d q) x) (n - i) i → Searched n k b x
+  run_to n i {k} {b} {x} R h e =
       let S = sought (λ q. lt (d q) x) (n - i) i in
       let r = seek (λ q. lt (d q) x) (n - i) i in
       let l : i + (r - i) ≡ r = omega (arith, S.low) in
       subst (λ q. Searched n q b x) (sym e)
       (record {
-        reached = subst (λ q. LeastSoFar d q b x) l (run-not (r - i) R (λ q a c. S.none q a (omega (arith, S.low))));
+        reached = subst (λ q. LeastSoFar d q b x) l (run_not (r - i) R (λ q a c. S.none q a (omega (arith, S.low))));
         inside = omega (arith, S.high, R.some);
         nearer = λ m. S.is (omega (arith, S.low));
       })
 
-  pub run-one : {n k : ℕ} {x : Float} → x ≡ d 0 → k ≡ seek (λ q. lt (d q) x) (n - 1) 1 → Searched n k 0 x
-  run-one {n} e s = run-to n 1 (reached-one e) (omega arith) s
+  pub run_one : {n k : ℕ} {x : Float} → x ≡ d 0 → k ≡ seek (λ q. lt (d q) x) (n - 1) 1 → Searched n k 0 x
+  run_one {n} e s = run_to n 1 (reached_one e) (omega arith) s
 
   pub run_more : {n k j b : ℕ} {x y : Float} → Searched n k b x → k < n → y ≡ d k → j ≡ seek (λ q. lt (d q) y) (n - (k + 1)) (k + 1) → Searched n j k y
-  run_more {n} {k} R h e s = run-to n (k + 1) (next-less R.reached e (R.nearer h)) (omega arith) s
+  run_more {n} {k} R h e s = run_to n (k + 1) (next_less R.reached e (R.nearer h)) (omega arith) s
 
   pub run-end : {n k b : ℕ} {x : Float} → Searched n k b x → n ≤ k → b ≡ least_to d (n - 1)
   run-end {n} {k} R h = let e : k - 1 ≡ n - 1 = omega (arith, R.inside) in R.reached.number ∙ ap (least_to d) e
@@ -100,17 +100,17 @@ module _ (d : ℕ → Float) (n b : ℕ) (C : (k : ℕ) → k ≤ n → Counted 
   here = C b L.at
 
   -- so none of them has a smaller one
-  pub none-smaller : (k : ℕ) → k ≤ n → lt (d k) (d b) ≡ false
-  none-smaller k h =
+  pub none_smaller : (k : ℕ) → k ≤ n → lt (d k) (d b) ≡ false
+  none_smaller k h =
       trichotomy k b (λ l. not_greater (d b) (d k) here (C k h) (L.before k l)) (λ l. L.after k l h)
       (λ e. subst (λ i. lt (d i) (d b) ≡ false) (sym e) (not_self (d b) here))
 
   -- and of those with an equal one it is the lowest
-  pub lowest-equal : (k : ℕ) → k ≤ n → eq (d k) (d b) ≡ true → b ≤ k
-  lowest-equal k h e = elim (dec_lt k b) [ yes l ↦ absurd (not_equal (d b) (d k) here (C k h) (L.before k l) e) | no l ↦ omega arith ]
+  pub lowest_equal : (k : ℕ) → k ≤ n → eq (d k) (d b) ≡ true → b ≤ k
+  lowest_equal k h e = elim (dec_lt k b) [ yes l ↦ absurd (not_equal (d b) (d k) here (C k h) (L.before k l) e) | no l ↦ omega arith ]
 
-  pub not-above : (k : ℕ) → k ≤ n → le (d b) (d k) ≡ true
-  not-above k h = at_most (d b) (d k) here (C k h) (none-smaller k h)
+  pub not_above : (k : ℕ) → k ≤ n → le (d b) (d k) ≡ true
+  not_above k h = at_most (d b) (d k) here (C k h) (none_smaller k h)
 
 -- one number more
 next-at : (d : ℕ → Float) (n b : ℕ) → ((k : ℕ) → k ≤ suc n → Counted (d k)) → LeastAt d n b → (t : Bool) → lt (d (suc n)) (d b) ≡ t → LeastAt d (suc n) (pick t (suc n) b)
@@ -118,7 +118,7 @@ next-at d n b C L true e = record {
   at = omega arith;
   before = λ k h.
       smaller (d (suc n)) (d k) (d b) (C (suc n) (omega arith)) (C k (omega arith)) (C b (omega (arith, L.at))) e
-      (none-smaller d n b (λ i l. C i (omega arith)) L k (omega arith));
+      (none_smaller d n b (λ i l. C i (omega arith)) L k (omega arith));
   after = λ k h l. absurd (omega arith);
 }
 next-at d n b C L false e = record {

@@ -16,7 +16,7 @@ use lib.Ieee.Back.{round_whole}
 use borrow.Author.Tests.{eqb-true}
 use Rattle.counting.proofs.Bools.{and_left}
 use Rattle.place.specs.Place.{float_of, farthest, within}
-use Rattle.place.proofs.Within.{Limited, at_most, within-limited}
+use Rattle.place.proofs.Within.{Limited, at_most, within_limited}
 
 abbrev pub Most : Bool → ℕ → Float → Type 0
 Most s N nan = ⊥
@@ -94,14 +94,14 @@ under (fin false m e) (fin false n d) N S h l =
 
 -- a rounded fraction that is at most N, a whole number that the format has, is at most N
 module _ (N : ℕ) (held : N ≤ 2 ^ prec binary64) (a b : ℕ) (B : 0 < b) (h : a ≤ N * b) where
-  round-least : Most false N (round binary64 false a b)
-  round-least =
+  round_least : Most false N (round binary64 false a b)
+  round_least =
       under (round binary64 false a b) (round binary64 false N 1) N (round_unsigned binary64 a b) (round_whole binary64 false N held)
       (round_mono binary64 a b N 1 B (omega arith) (subst (λ k. k ≤ N * b) (sym (mul-one a)) h))
 
-  round-most : (s : Bool) → Most s N (round binary64 s a b)
-  round-most false = round-least
-  round-most true = rw round_neg (neg_most false N (round binary64 false a b) round-least)
+  round_most : (s : Bool) → Most s N (round binary64 s a b)
+  round_most false = round_least
+  round_most true = rw round_neg (neg_most false N (round binary64 false a b) round_least)
 
 -- ---- the operations
 -- of a sign that is not asked for
@@ -109,14 +109,14 @@ pub record Bounded (N : ℕ) (x : Float) : Type 0 where
   pub sign : Bool
   pub most : Most sign N x
 
-sum-most : (N : ℕ) → N ≤ 2 ^ prec binary64 → (s : Bool) (a : ℕ) (t : Bool) (b c : ℕ) → 0 < c → a + b ≤ N * c → Bounded N (sum binary64 s a t b c)
+sum_most : (N : ℕ) → N ≤ 2 ^ prec binary64 → (s : Bool) (a : ℕ) (t : Bool) (b c : ℕ) → 0 < c → a + b ≤ N * c → Bounded N (sum binary64 s a t b c)
 unfolding sum
-sum-most N held s a t b c C h = go (beq s t) (ltb a b)
+sum_most N held s a t b c C h = go (beq s t) (ltb a b)
   where
     go : (p q : Bool) → Bounded N (cond p (round binary64 s (a + b) c) (cond q (round binary64 t (b - a) c) (round binary64 (s && ltb b a) (a - b) c)))
-    go true q = record { sign = s; most = round-most N held (a + b) c C h s }
-    go false true = record { sign = t; most = round-most N held (b - a) c C (omega arith) t }
-    go false false = record { sign = s && ltb b a; most = round-most N held (a - b) c C (omega arith) (s && ltb b a) }
+    go true q = record { sign = s; most = round_most N held (a + b) c C h s }
+    go false true = record { sign = t; most = round_most N held (b - a) c C (omega arith) t }
+    go false false = record { sign = s && ltb b a; most = round_most N held (a - b) c C (omega arith) (s && ltb b a) }
 
 -- two fractions, of sizes up to N and M, over one denominator
 common : (a b c d N M : ℕ) → a ≤ N * c → b ≤ M * d → a * d + b * c ≤ (N + M) * (c * d)
@@ -124,24 +124,24 @@ common a b c d N M h k =
     le_trans (add-le-add (mul-le-mul_right d h) (mul-le-mul_right c k))
     (le_of_eq (ap (λ z. z + M * d * c) (mul_assoc N c d) ∙ ap (λ z. N * (c * d) + z) (mul_assoc M d c ∙ ap (λ z. M * z) (mul_comm d c)) ∙ sym (add-mul N M (c * d))))
 
-pub sub-most : (N M : ℕ) → N + M ≤ 2 ^ prec binary64 → (x y : Float) → Bounded N x → Bounded M y → Bounded (N + M) (sub binary64 x y)
+pub sub_most : (N M : ℕ) → N + M ≤ 2 ^ prec binary64 → (x y : Float) → Bounded N x → Bounded M y → Bounded (N + M) (sub binary64 x y)
 unfolding sub add neg
-sub-most N M held nan y X Y = absurd X.most
-sub-most N M held (inf s) y X Y = absurd X.most
-sub-most N M held (fin s m e) nan X Y = absurd Y.most
-sub-most N M held (fin s m e) (inf t) X Y = absurd Y.most
-sub-most N M held (fin s m e) (fin t n d) X Y =
-    sum-most (N + M) held s (m * up e * down d) (not t) (n * up d * down e) (down e * down d) (mul-pos (down_pos e) (down_pos d))
+sub_most N M held nan y X Y = absurd X.most
+sub_most N M held (inf s) y X Y = absurd X.most
+sub_most N M held (fin s m e) nan X Y = absurd Y.most
+sub_most N M held (fin s m e) (inf t) X Y = absurd Y.most
+sub_most N M held (fin s m e) (fin t n d) X Y =
+    sum_most (N + M) held s (m * up e * down d) (not t) (n * up d * down e) (down e * down d) (mul-pos (down_pos e) (down_pos d))
     (common (m * up e) (n * up d) (down e) (down d) N M X.most.1 Y.most.1)
 
 -- a square is not negative
-pub square-most : (N : ℕ) → N * N ≤ 2 ^ prec binary64 → (x : Float) → Bounded N x → Most false (N * N) (mul binary64 x x)
+pub square_most : (N : ℕ) → N * N ≤ 2 ^ prec binary64 → (x : Float) → Bounded N x → Most false (N * N) (mul binary64 x x)
 unfolding mul
-square-most N held nan X = absurd X.most
-square-most N held (inf s) X = absurd X.most
-square-most N held (fin s m e) X =
+square_most N held nan X = absurd X.most
+square_most N held (inf s) X = absurd X.most
+square_most N held (fin s m e) X =
     let h = le_trans (mul-le-mul X.most.1 X.most.1) (le_of_eq (mul-mul-mul_comm N (down e) N (down e))) in
-    rw (alike s) (round-most (N * N) held (m * up e * (m * up e)) (down e * down e) (mul-pos (down_pos e) (down_pos e)) h false)
+    rw (alike s) (round_most (N * N) held (m * up e * (m * up e)) (down e * down e) (mul-pos (down_pos e) (down_pos e)) h false)
   where
     alike : (s : Bool) → unlike s s ≡ false
     alike true = refl
@@ -156,12 +156,12 @@ add_most N M held (fin s m e) (inf t) X Y = absurd Y
 add_most N M held (fin true m e) (fin t n d) X Y = absurd (true≢false X.0)
 add_most N M held (fin false m e) (fin true n d) X Y = absurd (true≢false Y.0)
 add_most N M held (fin false m e) (fin false n d) X Y =
-    round-most (N + M) held (m * up e * down d + n * up d * down e) (down e * down d) (mul-pos (down_pos e) (down_pos d))
+    round_most (N + M) held (m * up e * down d + n * up d * down e) (down e * down d) (mul-pos (down_pos e) (down_pos d))
     (common (m * up e) (n * up d) (down e) (down d) N M X.1 Y.1) false
 
 -- ---- the limits
-pub within-bounded : (x : Float) → within x ≡ true → Bounded farthest x
-within-bounded x h = go x (within-limited x h)
+pub within_bounded : (x : Float) → within x ≡ true → Bounded farthest x
+within_bounded x h = go x (within_limited x h)
   where
     go : (x : Float) → Limited x → Bounded farthest x
     go nan l = absurd l
@@ -169,11 +169,11 @@ within-bounded x h = go x (within-limited x h)
     go (fin s m e) l = record { sign = s; most = (refl, l) }
 
 -- what is not negative and at most N lies from 0 to N
-pub most-between : (N : ℕ) → N ≤ 2 ^ prec binary64 → (x : Float) → Most false N x → (le (float_of 0) x ≡ true) × (le x (float_of N) ≡ true)
+pub most_between : (N : ℕ) → N ≤ 2 ^ prec binary64 → (x : Float) → Most false N x → (le (float_of 0) x ≡ true) × (le x (float_of N) ≡ true)
 unfolding of_int
-most-between N held nan M = absurd M
-most-between N held (inf s) M = absurd M
-most-between N held (fin s m e) M =
+most_between N held nan M = absurd M
+most_between N held (inf s) M = absurd M
+most_between N held (fin s m e) M =
     let x = fin s m e in
     let own : HasValue x false (m * up e) (down e) = (M.0, refl) in
     let whole : (n : ℕ) → n ≤ 2 ^ prec binary64 → HasValue (round binary64 false n 1) false n 1 = round_whole binary64 false in (

@@ -14,17 +14,17 @@ Limited (fin s m e) = m * up e ≤ farthest * down e
 pub at_most : (a b : ℕ) (q : Bool) → (q ≡ true → a ≡ b) → (ltb a b || q) ≡ true → a ≤ b
 at_most a b q f h = ⊎_elim (λ e. le_of_lt (ltb-true a b e)) (λ e. le_of_eq (f e)) (or_cases (ltb a b) q h)
 
-pub within-limited : (x : Float) → within x ≡ true → Limited x
+pub within_limited : (x : Float) → within x ≡ true → Limited x
 unfolding within of_int le lt eq
-within-limited nan h = clash h refl
-within-limited (inf true) h = clash h refl
-within-limited (inf false) h = clash h refl
-within-limited (fin true m e) h =
+within_limited nan h = clash h refl
+within_limited (inf true) h = clash h refl
+within_limited (inf false) h = clash h refl
+within_limited (fin true m e) h =
     let n = m * up e * 1 in
     let b = farthest * down e in
     le_trans (le_of_eq (sym (mul-one (m * up e))))
     (at_most n b (eqb b n && true) (λ q. sym (eqb-true b n (and_left (eqb b n) true q))) (and_left (ltb n b || (eqb b n && true)) (le (fin true m e) (float_of farthest)) h))
-within-limited (fin false m e) h =
+within_limited (fin false m e) h =
     let n = m * up e * 1 in
     let b = farthest * down e in
     le_trans (le_of_eq (sym (mul-one (m * up e))))

@@ -11,7 +11,7 @@ use Rattle.counting.specs.Lists.{gather, over, values}
 use Rattle.counting.specs.work.Stored.{Stored}
 use Rattle.counting.specs.Stored.{stored_in}
 use Rattle.counting.proofs.Range.{over_snoc, over_ext}
-use Rattle.counting.proofs.Fronts.{over-split}
+use Rattle.counting.proofs.Fronts.{over_split}
 use Rattle.counting.proofs.Pack.{row_pack}
 use Rattle.counting.proofs.Stored.{stored_none, stored_as}
 use Rattle.place.specs.declared.Place.{Place}
@@ -64,4 +64,4 @@ module _ (edges counts : List ℕ) (nodes fractions : List Float) where
   all_more e g n {u} {v} S h s m a b T =
       let f : ℕ → List Place = λ x. place_of x ∷ [] in
       let w : on_edge u v fractions n g ≡ over f n g = rw (a, b, m, s) (on-edge e h) in
-      stored_as (points-then (over f g 0) (on_edge u v fractions n g) S T) (ap all_numbers (ap (λ (x : List Place). over f g 0 ++ x) (w ∙ ap (over f n) (sym (zero-add g))) ∙ sym (over-split f g n 0))) refl
+      stored_as (points-then (over f g 0) (on_edge u v fractions n g) S T) (ap all_numbers (ap (λ (x : List Place). over f g 0 ++ x) (w ∙ ap (over f n) (sym (zero-add g))) ∙ sym (over_split f g n 0))) refl

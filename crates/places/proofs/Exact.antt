@@ -11,7 +11,7 @@ use lib.Ieee.Fits.{down_pos}
 use borrow.Author.Tests.{ltb-true}
 use Rattle.counting.proofs.Bools.{and_right, clash}
 use Rattle.place.specs.Place.{float_of, farthest, within, interpolated}
-use Rattle.place.proofs.Within.{within-limited}
+use Rattle.place.proofs.Within.{within_limited}
 use Rattle.places.specs.Numbers.{proper_fraction}
 use Rattle.places.specs.Exact.{Exactly, fraction_parts}
 use Rattle.places.proofs.Values.{Val, size_of, add_val, sub_val, mul_val, scale_val}
@@ -20,10 +20,10 @@ bounded : (x : Float) (z : ℤ) (c N : ℕ) → Exactly c x z → nat_abs z ≤ 
 bounded x z c N X l = record { sign = X.sign; size = X.size; has = X.has; is = X.is; small = subst (λ (k : ℕ). k ≤ N) (ap nat_abs (sym X.is) ∙ size_of X.sign X.size) l }
 
 -- 1,024 times the placed number is 1024 u + k (v - u)
-pub interpolated-exact : (U W S : Float) (u v k : ℤ) → Exactly 1 U u → Exactly 1 W v → Exactly fraction_parts S k
+pub interpolated_exact : (U W S : Float) (u v k : ℤ) → Exactly 1 U u → Exactly 1 W v → Exactly fraction_parts S k
     → nat_abs u ≤ farthest → nat_abs v ≤ farthest → nat_abs k ≤ fraction_parts
     → Exactly fraction_parts (interpolated U W S) (pos fraction_parts *ℤ u +ℤ k *ℤ (v -ℤ u))
-interpolated-exact U W S u v k hU hV hS lu lv lk =
+interpolated_exact U W S u v k hU hV hS lu lv lk =
     let f = binary64 in
     let VU = bounded U u 1 farthest hU lu in
     let D = sub_val f W U v u 0 farthest farthest (lit≤ tt) (lit< tt) (bounded W v 1 farthest hV lv) VU in
@@ -35,11 +35,11 @@ size_is : {x : Float} {z : ℤ} {c : ℕ} (X : Exactly c x z) → nat_abs z ≡ 
 size_is X = ap nat_abs (sym X.is) ∙ size_of X.sign X.size
 
 -- the limits of rows 16 and 17 are limits on such numbers
-pub within-whole : (x : Float) (z : ℤ) → Exactly 1 x z → within x ≡ true → nat_abs z ≤ farthest
-within-whole nan z X h = absurd X.has
-within-whole (inf s) z X h = absurd X.has
-within-whole (fin s m e) z X h =
-    let l : X.size * down e ≤ farthest * down e = omega (arith, within-limited (fin s m e) h, X.has.1) in
+pub within_whole : (x : Float) (z : ℤ) → Exactly 1 x z → within x ≡ true → nat_abs z ≤ farthest
+within_whole nan z X h = absurd X.has
+within_whole (inf s) z X h = absurd X.has
+within_whole (fin s m e) z X h =
+    let l : X.size * down e ≤ farthest * down e = omega (arith, within_limited (fin s m e) h, X.has.1) in
     subst (λ k. k ≤ farthest) (sym (size_is X)) (le_of_mul-le-mul_right l (down_pos e))
 
 pub proper_part : (x : Float) (z : ℤ) → Exactly fraction_parts x z → proper_fraction x ≡ true → nat_abs z ≤ fraction_parts

@@ -68,7 +68,7 @@ unfolding seek first last some every count total over kept tally pre gather
     nested.octagons nested.other_loops nested.is_nested nested.axis_edge nested.remaining nested.through nested.nest_number nests.examples
 nests_hold = refl
 
-pub splits-placed : SplitsPlaced
+pub splits_placed : SplitsPlaced
 unfolding add sub mul div neg lt le eq of_int of_bits
     seek first last some every count total over kept tally pre gather divides gcd
     lo hi position lower upper edge_between slot_edge edge_rank contains first_slot second_slot
@@ -82,4 +82,4 @@ unfolding add sub mul div neg lt le eq of_int of_bits
     nested.octagons nested.other_loops nested.is_nested nested.axis_edge nested.remaining nested.through nested.nest_number nested.nested_middle sum_to middle
     standing.new_place standing.sub_places standing.arm_place standing.arm_places standing.split_places standing.standing standing.fans_in standing.all_standing
     standing.inner_places standing.drawn_middles splits.examples
-splits-placed = refl
+splits_placed = refl

@@ -9,7 +9,7 @@ use lib.ListN.{length, get_or}
 use lib.Ieee.{Float, nan, lt}
 use borrow.Author.Tests.{lt-ltb}
 use Rattle.counting.specs.Search.{first}
-use Rattle.counting.proofs.Search.{first_le, first-is, first_below, first-at, none_first}
+use Rattle.counting.proofs.Search.{first_le, first_is, first_below, first_at, none_first}
 use Rattle.counting.proofs.Pack.{col_pack, pre_le, pack_lt}
 use Rattle.grid.specs.Grid.{count_of, start, crossings}
 use Rattle.places.specs.Numbers.{proper_fraction}
@@ -35,9 +35,9 @@ module _ (counts : List ℕ) where
   unfolding start
   start_fits e h = pre_le (count_of counts) (length counts) e (length counts) h
 
-  pub crossing-lt : (e i : ℕ) → e < length counts → i < count_of counts e → start counts e + i < crossings counts
+  pub crossing_lt : (e i : ℕ) → e < length counts → i < count_of counts e → start counts e + i < crossings counts
   unfolding start
-  crossing-lt e i h l = pack_lt (count_of counts) (length counts) e i h l
+  crossing_lt e i h l = pack_lt (count_of counts) (length counts) e i h l
 
   module _ (fractions : List Float) where
     -- no crossing before g is at fault
@@ -45,20 +45,20 @@ module _ (counts : List ℕ) where
     Fine g = (x : ℕ) → x < g → bad_fraction counts fractions x ≡ false
 
     module _ (e : ℕ) (h : e < length counts) where
-      fault-at : (i : ℕ) → i < count_of counts e → bad_fraction counts fractions (start counts e + i) ≡ bad_fraction_at fractions (start counts e + i) i
+      fault_at : (i : ℕ) → i < count_of counts e → bad_fraction counts fractions (start counts e + i) ≡ bad_fraction_at fractions (start counts e + i) i
       unfolding bad_fraction index_of_crossing start
-      fault-at i l = ap (bad_fraction_at fractions (start counts e + i)) (col_pack (count_of counts) (length counts) e i h l)
+      fault_at i l = ap (bad_fraction_at fractions (start counts e + i)) (col_pack (count_of counts) (length counts) e i h l)
 
       module _ (g n r : ℕ) (q : g ≡ start counts e) (m : n ≡ count_of counts e) (s : r ≡ first (λ i. bad_fraction_at fractions (g + i) i) n) (fine : Fine g) where
         at_edge : (i : ℕ) → i < n → bad_fraction counts fractions (g + i) ≡ bad_fraction_at fractions (g + i) i
-        at_edge i l = rw (q) (fault-at i (omega arith))
+        at_edge i l = rw (q) (fault_at i (omega arith))
 
         fault : ℕ → Bool
         fault i = bad_fraction_at fractions (g + i) i
 
-        before-r : Fine (g + r)
+        before_r : Fine (g + r)
         unfolding Fine fault
-        before-r x l = elim (dec_lt x g) [
+        before_r x l = elim (dec_lt x g) [
           | yes y ↦ fine x y
           | no y ↦
               let z : x ≡ g + (x - g) = omega arith in
@@ -66,19 +66,19 @@ module _ (counts : List ℕ) where
               ap (bad_fraction counts fractions) z ∙ at_edge (x - g) (omega (arith, first_le fault n)) ∙ first_below fault n (x - g) b
         ]
 
-        pub fault-found : r < n → g + r ≡ first (bad_fraction counts fractions) (crossings counts)
+        pub fault_found : r < n → g + r ≡ first (bad_fraction counts fractions) (crossings counts)
         unfolding Fine fault
-        fault-found l =
-            sym (first-at (bad_fraction counts fractions) (crossings counts) (g + r) (omega (arith, crossing-lt e r h (omega arith)))
-            (at_edge r l ∙ ap fault s ∙ first-is fault n (omega arith)) before-r)
+        fault_found l =
+            sym (first_at (bad_fraction counts fractions) (crossings counts) (g + r) (omega (arith, crossing_lt e r h (omega arith)))
+            (at_edge r l ∙ ap fault s ∙ first_is fault n (omega arith)) before_r)
 
-        pub fine-on : n ≤ r → Fine (g + n)
+        pub fine_on : n ≤ r → Fine (g + n)
         unfolding Fine fault
-        fine-on l = let z : r ≡ n = omega (arith, s, first_le fault n) in λ x y. before-r x (omega arith)
+        fine_on l = let z : r ≡ n = omega (arith, s, first_le fault n) in λ x y. before_r x (omega arith)
 
-    pub fine-none : Fine 0
+    pub fine_none : Fine 0
     unfolding Fine
-    fine-none x l = absurd (omega arith)
+    fine_none x l = absurd (omega arith)
 
     pub fine_end : (g : ℕ) → g ≡ crossings counts → Fine g → g ≡ first (bad_fraction counts fractions) (crossings counts)
     unfolding Fine

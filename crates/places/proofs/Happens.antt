@@ -7,7 +7,7 @@ use native.Mathlib.Omega.{arith}
 use lib.ListN.{length}
 use lib.IntN.{ℤ, pos, negsuc}
 use lib.Ieee.{Float, nan, fin}
-use Rattle.counting.proofs.Below.{below-three}
+use Rattle.counting.proofs.Below.{below_three}
 use Rattle.answer.specs.Answer.{result_of}
 use lib.Ieee.{add, sub, mul, div, neg, lt, le, eq, of_int, of_bits}
 use Rattle.counting.specs.Lists.{seek, total, over, kept, tally, gather, pre, it}
@@ -84,15 +84,15 @@ unfolding add sub mul div neg lt le eq of_int of_bits
     the_cells the_edges the_counts the_nodes the_fractions the_area
 answered = refl
 
-one-crossing : crossings the_counts ≡ 1
+one_crossing : crossings the_counts ≡ 1
 unfolding start pre total the_counts
-one-crossing = refl
+one_crossing = refl
 
 module _ where
   at_first : (t : ℕ) → t < 3 → (u : ℤ) × (v : ℤ) × (k : ℤ) × WholeAt the_edges the_counts the_nodes the_fractions 0 t u v k
   unfolding seek first total pre row points.edge_of_crossing the_edges the_counts the_nodes the_fractions
   at_first =
-      below-three (λ t. (u : ℤ) × (v : ℤ) × (k : ℤ) × WholeAt the_edges the_counts the_nodes the_fractions 0 t u v k) (
+      below_three (λ t. (u : ℤ) × (v : ℤ) × (k : ℤ) × WholeAt the_edges the_counts the_nodes the_fractions 0 t u v k) (
         pos 3,
         pos 1000000,
         pos 512,
@@ -128,6 +128,6 @@ happens = record {
   fractions = the_fractions;
   area = the_area;
   placed = (1 ∷ [], answered);
-  some = omega (arith, one-crossing);
-  whole = λ g t h k. (let z : g ≡ 0 = omega (arith, one-crossing) in rw z (at_first t k));
+  some = omega (arith, one_crossing);
+  whole = λ g t h k. (let z : g ≡ 0 = omega (arith, one_crossing) in rw z (at_first t k));
 }

@@ -8,7 +8,7 @@ use lib.ListN.{length}
 use lib.Ieee.{Float}
 use borrow.Author.Tests.{lt-ltb, le-ltb, eq-eqb, ne_eqb}
 use Rattle.answer.specs.Answer.{result_of, refusal}
-use Rattle.answer.proofs.Rows.{row-passes, row-refuses, rows_end, whole-fault, whole-fine}
+use Rattle.answer.proofs.Rows.{row_passes, row_refuses, rows_end, whole_fault, whole_fine}
 use Rattle.counting.specs.Search.{first, last}
 use Rattle.slots.specs.Limits.{highest_node}
 use Rattle.grid.specs.Grid.{crossings}
@@ -16,7 +16,7 @@ use Rattle.place.specs.Place.{coordinates}
 use Rattle.places.specs.Rows.{highest, node_end, bad_place_lists, bad_number, bad_fraction}
 use Rattle.places.specs.Answer.{place_rows, rows_answer}
 use Rattle.places.specs.work.Work.{NodesMarked, is_marked, bad_marked, Reaching, Judgeable}
-use Rattle.places.proofs.Nodes.{highest-small}
+use Rattle.places.proofs.Nodes.{highest_small}
 use Rattle.places.proofs.Marks.{end_is, row_16_is}
 
 module _ (cells counts : List ℕ) (nodes fractions : List Float) (needed room : ℕ) where
@@ -48,65 +48,65 @@ module _ (cells counts : List ℕ) (nodes fractions : List Float) (needed room :
 
   row_15 : Bad true → refusal 15 0 ≡ answer
   unfolding rows_answer place_rows
-  row_15 h = row-refuses _ _ _ 0 (whole-fault _ h) (omega arith)
+  row_15 h = row_refuses _ _ _ 0 (whole_fault _ h) (omega arith)
 
   module _ (g : Bad false) (i : ℕ) (e : i ≡ first (bad_number cells nodes) (coordinates * node_end cells)) where
     row_16 : i < coordinates * node_end cells → refusal 16 i ≡ answer
     unfolding rows_answer place_rows
-    row_16 h = row-refuses _ _ _ i e h ∙ row-passes _ _ _ 1 (whole-fine _ g) (omega arith)
+    row_16 h = row_refuses _ _ _ i e h ∙ row_passes _ _ _ 1 (whole_fine _ g) (omega arith)
 
     module _ (a : coordinates * node_end cells ≤ i) (x : ℕ) (f : x ≡ first (bad_fraction counts fractions) (crossings counts)) where
       row_17 : x < crossings counts → refusal 17 x ≡ answer
       unfolding rows_answer place_rows
-      row_17 h = row-refuses _ _ _ x f h ∙ row-passes _ _ _ i e a ∙ row-passes _ _ _ 1 (whole-fine _ g) (omega arith)
+      row_17 h = row_refuses _ _ _ x f h ∙ row_passes _ _ _ i e a ∙ row_passes _ _ _ 1 (whole_fine _ g) (omega arith)
 
       no_row : crossings counts ≤ x → result_of (needed ∷ []) ≡ answer
       unfolding rows_answer place_rows
-      no_row h = rows_end _ ∙ row-passes _ _ _ x f h ∙ row-passes _ _ _ i e a ∙ row-passes _ _ _ 1 (whole-fine _ g) (omega arith)
+      no_row h = rows_end _ ∙ row_passes _ _ _ x f h ∙ row_passes _ _ _ i e a ∙ row_passes _ _ _ 1 (whole_fine _ g) (omega arith)
 
 -- the highest node, by the table
 module _ (cells counts : List ℕ) (n : ℕ) (J : Judgeable cells counts n) (used : List ℕ) (M : NodesMarked cells used) (end : ℕ) (e : end ≡ last (is_marked used) (length used)) where
-  highest-fits : highest cells ≤ highest_node
-  highest-fits = highest-small cells highest_node J.nodes
+  highest_fits : highest cells ≤ highest_node
+  highest_fits = highest_small cells highest_node J.nodes
 
   end_known : end ≡ node_end cells
-  end_known = e ∙ end_is cells used M J.fours J.some highest-fits
+  end_known = e ∙ end_is cells used M J.fours J.some highest_fits
 
-  pub end-small : end ≤ suc highest_node
-  end-small = omega (arith, end_known, highest-fits)
+  pub end_small : end ≤ suc highest_node
+  end_small = omega (arith, end_known, highest_fits)
 
   pub table_reaches : (nodes : List Float) → coordinates * end ≤ length nodes → Reaching used nodes end
-  table_reaches nodes h = record { table = omega (arith, end-small, M.long); list = h }
+  table_reaches nodes h = record { table = omega (arith, end_small, M.long); list = h }
 
   -- the code's cases
   module _ (nodes fractions : List Float) (needed room : ℕ) where
-    pub short-nodes : length nodes < coordinates * end → refusal 15 0 ≡ rows_answer cells counts nodes fractions needed room
-    short-nodes h = row_15 cells counts nodes fractions needed room (nodes_bad cells counts nodes fractions needed room end n end_known J.all h)
+    pub short_nodes : length nodes < coordinates * end → refusal 15 0 ≡ rows_answer cells counts nodes fractions needed room
+    short_nodes h = row_15 cells counts nodes fractions needed room (nodes_bad cells counts nodes fractions needed room end n end_known J.all h)
 
     module _ (a : coordinates * end ≤ length nodes) where
-      pub other-fractions : (length fractions ≡ n → ⊥) → refusal 15 0 ≡ rows_answer cells counts nodes fractions needed room
-      other-fractions h = row_15 cells counts nodes fractions needed room (fractions_bad cells counts nodes fractions needed room end n end_known J.all a h)
+      pub other_fractions : (length fractions ≡ n → ⊥) → refusal 15 0 ≡ rows_answer cells counts nodes fractions needed room
+      other_fractions h = row_15 cells counts nodes fractions needed room (fractions_bad cells counts nodes fractions needed room end n end_known J.all a h)
 
       module _ (b : length fractions ≡ n) where
-        pub short-area : room < coordinates * needed → refusal 15 0 ≡ rows_answer cells counts nodes fractions needed room
-        short-area h = row_15 cells counts nodes fractions needed room (area_bad cells counts nodes fractions needed room end n end_known J.all a b h)
+        pub short_area : room < coordinates * needed → refusal 15 0 ≡ rows_answer cells counts nodes fractions needed room
+        short_area h = row_15 cells counts nodes fractions needed room (area_bad cells counts nodes fractions needed room end n end_known J.all a b h)
 
         module _ (d : coordinates * needed ≤ room) (i : ℕ) (f : i ≡ first (bad_marked used nodes) (coordinates * end)) where
           good : bad_place_lists cells counts nodes fractions needed room ≡ false
           good = lists_good cells counts nodes fractions needed room end n end_known J.all a b d
 
-          number-known : i ≡ first (bad_number cells nodes) (coordinates * node_end cells)
-          number-known = f ∙ row_16_is cells used M nodes end end-small ∙ ap (λ k. first (bad_number cells nodes) (coordinates * k)) end_known
+          number_known : i ≡ first (bad_number cells nodes) (coordinates * node_end cells)
+          number_known = f ∙ row_16_is cells used M nodes end end_small ∙ ap (λ k. first (bad_number cells nodes) (coordinates * k)) end_known
 
           pub bad_number_found : i < coordinates * end → refusal 16 i ≡ rows_answer cells counts nodes fractions needed room
-          bad_number_found h = row_16 cells counts nodes fractions needed room good i number-known (omega (arith, end_known))
+          bad_number_found h = row_16 cells counts nodes fractions needed room good i number_known (omega (arith, end_known))
 
           module _ (l : coordinates * end ≤ i) (x : ℕ) (q : x ≡ first (bad_fraction counts fractions) (crossings counts)) where
             within_all : coordinates * node_end cells ≤ i
             within_all = omega (arith, end_known)
 
             pub bad_fraction_found : x < n → refusal 17 x ≡ rows_answer cells counts nodes fractions needed room
-            bad_fraction_found h = row_17 cells counts nodes fractions needed room good i number-known within_all x q (omega (arith, J.all))
+            bad_fraction_found h = row_17 cells counts nodes fractions needed room good i number_known within_all x q (omega (arith, J.all))
 
             pub none_found : n ≤ x → result_of (needed ∷ []) ≡ rows_answer cells counts nodes fractions needed room
-            none_found h = no_row cells counts nodes fractions needed room good i number-known within_all x q (omega (arith, J.all))
+            none_found h = no_row cells counts nodes fractions needed room good i number_known within_all x q (omega (arith, J.all))

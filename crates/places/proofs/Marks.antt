@@ -12,22 +12,22 @@ use Rattle.counting.specs.Pick.{pick}
 use Rattle.counting.specs.Lists.{one}
 use Rattle.counting.proofs.Bools.{not_clash}
 use Rattle.counting.specs.Search.{first, last}
-use Rattle.counting.proofs.Search.{first_ext, last-at, last-hit, last_miss}
+use Rattle.counting.proofs.Search.{first_ext, last_at, last_hit, last_miss}
 use Rattle.slots.specs.Limits.{highest_node}
 use Rattle.grid.specs.Grid.{cell_count, has_node}
 use Rattle.place.specs.Place.{within, coordinates}
 use Rattle.places.specs.Rows.{highest, node_end, bad_number}
 use Rattle.grid.proofs.Nodes.{Noted, noted_all}
-use Rattle.places.proofs.Nodes.{highest-has, has-highest}
+use Rattle.places.proofs.Nodes.{highest_has, has_highest}
 use Rattle.places.specs.work.Work.{NodesMarked, is_marked, bad_marked}
 
 module _ (cells used : List ℕ) where
   pub marked : length cells ≡ 4 * cell_count cells → (j : ℕ) → j ≡ length cells → Noted cells (λ v. 1) 0 j used → NodesMarked cells used
-  marked f j e m = record { long = m.long; at = λ v h. noted_all cells (λ v. 1) 0 used f j e m v h ∙ pick-one (has_node cells v) }
+  marked f j e m = record { long = m.long; at = λ v h. noted_all cells (λ v. 1) 0 used f j e m v h ∙ pick_one (has_node cells v) }
     where
-      pick-one : (b : Bool) → pick b 1 0 ≡ one b
-      pick-one true = refl
-      pick-one false = refl
+      pick_one : (b : Bool) → pick b 1 0 ≡ one b
+      pick_one true = refl
+      pick_one false = refl
 
   module _ (m : NodesMarked cells used) where
     is-marked : (v : ℕ) → v ≤ highest_node → is_marked used v ≡ has_node cells v
@@ -41,12 +41,12 @@ module _ (cells used : List ℕ) where
     pub end_is : length cells ≡ 4 * cell_count cells → 0 < cell_count cells → highest cells ≤ highest_node → last (is_marked used) (length used) ≡ node_end cells
     end_is f s h =
         ap (last (is_marked used)) m.long
-        ∙ last-at (is_marked used) (suc highest_node) (highest cells) (omega arith)
-        (is-marked (highest cells) h ∙ highest-has cells f s)
-        (λ i a b. is-marked i (omega arith) ∙ not_clash (has_node cells i) (λ e. not-lt i a (has-highest cells i e)))
+        ∙ last_at (is_marked used) (suc highest_node) (highest cells) (omega arith)
+        (is-marked (highest cells) h ∙ highest_has cells f s)
+        (λ i a b. is-marked i (omega arith) ∙ not_clash (has_node cells i) (λ e. not_lt i a (has_highest cells i e)))
       where
-        not-lt : (i : ℕ) → highest cells < i → i ≤ highest cells → ⊥
-        not-lt i a b = omega arith
+        not_lt : (i : ℕ) → highest cells < i → i ≤ highest cells → ⊥
+        not_lt i a b = omega arith
 
     -- row 16 finds the same by the table
     pub row_16_is : (nodes : List Float) (n : ℕ) → n ≤ suc highest_node → first (bad_marked used nodes) (coordinates * n) ≡ first (bad_number cells nodes) (coordinates * n)
@@ -57,21 +57,21 @@ module _ (cells used : List ℕ) where
 
 -- a number of the list, by the table
 module _ (used : List ℕ) (nodes : List Float) (i : ℕ) where
-  pub number-marked : get_or used (i / coordinates) 0 ≡ 1 → not (within (get_or nodes i nan)) ≡ bad_marked used nodes i
+  pub number_marked : get_or used (i / coordinates) 0 ≡ 1 → not (within (get_or nodes i nan)) ≡ bad_marked used nodes i
   unfolding bad_marked is_marked
-  number-marked h = rw (eq-eqb _ _ h)
+  number_marked h = rw (eq-eqb _ _ h)
 
-  pub number-free : (get_or used (i / coordinates) 0 ≡ 1 → ⊥) → false ≡ bad_marked used nodes i
+  pub number_free : (get_or used (i / coordinates) 0 ≡ 1 → ⊥) → false ≡ bad_marked used nodes i
   unfolding bad_marked is_marked
-  number-free h = rw (ne_eqb _ _ h)
+  number_free h = rw (ne_eqb _ _ h)
 
 -- the search for the highest mark, downwards
 module _ (used : List ℕ) (n : ℕ) (h : 0 < n) where
-  pub end-here : get_or used (n - 1) 0 ≡ 1 → last (is_marked used) n ≡ n
+  pub end_here : get_or used (n - 1) 0 ≡ 1 → last (is_marked used) n ≡ n
   unfolding is_marked
-  end-here e =
+  end_here e =
       let z : n ≡ n - 1 + 1 = omega arith in
-      ap (last (is_marked used)) z ∙ last-hit (is_marked used) (n - 1) (eq-eqb _ _ e) ∙ sym z
+      ap (last (is_marked used)) z ∙ last_hit (is_marked used) (n - 1) (eq-eqb _ _ e) ∙ sym z
 
   pub end_below : (get_or used (n - 1) 0 ≡ 1 → ⊥) → last (is_marked used) n ≡ last (is_marked used) (n - 1)
   unfolding is_marked

@@ -9,10 +9,10 @@ use native.Mathlib.Omega.{arith}
 use lib.Dec.{eqb}
 use lib.ListN.{length, get_or}
 use borrow.Author.Tests.{eq-eqb}
-use Rattle.counting.proofs.Search.{some-found}
+use Rattle.counting.proofs.Search.{some_found}
 use Rattle.grid.specs.Grid.{Grid, cell_count, has_node, low, high}
 use Rattle.grid.specs.claims.Accepted.{Sound}
-use Rattle.grid.proofs.Nodes.{node_at, in_cells, low-has, high-has}
+use Rattle.grid.proofs.Nodes.{node_at, in_cells, low_has, high_has}
 use Rattle.places.specs.Rows.{highest, node_end}
 
 -- no number of the list is above the highest, and the highest is one of them
@@ -27,31 +27,31 @@ record Stands (cells : List ℕ) : Type 0 where
   lt : at < length cells
   is : get_or cells at 0 ≡ highest cells
 
-highest-stands : (v : ℕ) (l : List ℕ) → Stands (v ∷ l)
+highest_stands : (v : ℕ) (l : List ℕ) → Stands (v ∷ l)
 unfolding highest
-highest-stands v [] = record { at = 0; lt = omega arith; is = omega arith }
-highest-stands v (w ∷ l) =
-    let s = highest-stands w l in
+highest_stands v [] = record { at = 0; lt = omega arith; is = omega arith }
+highest_stands v (w ∷ l) =
+    let s = highest_stands w l in
     elim (dec_lt (highest (w ∷ l)) v) [
       | yes h ↦ record { at = 0; lt = omega arith; is = omega arith }
       | no h ↦ record { at = suc s.at; lt = omega (arith, s.lt); is = omega (arith, s.is) }
     ]
 
-pub highest-has : (cells : List ℕ) → length cells ≡ 4 * cell_count cells → 0 < cell_count cells → has_node cells (highest cells) ≡ true
-highest-has [] f h = absurd (omega (arith, h, f))
-highest-has (v ∷ l) f h =
-    let s = highest-stands v l in
-    in_cells (v ∷ l) (highest (v ∷ l)) f ∙ some-found (λ j. eqb (get_or (v ∷ l) j 0) (highest (v ∷ l))) (length (v ∷ l)) s.at s.lt (eq-eqb _ _ s.is)
+pub highest_has : (cells : List ℕ) → length cells ≡ 4 * cell_count cells → 0 < cell_count cells → has_node cells (highest cells) ≡ true
+highest_has [] f h = absurd (omega (arith, h, f))
+highest_has (v ∷ l) f h =
+    let s = highest_stands v l in
+    in_cells (v ∷ l) (highest (v ∷ l)) f ∙ some_found (λ j. eqb (get_or (v ∷ l) j 0) (highest (v ∷ l))) (length (v ∷ l)) s.at s.lt (eq-eqb _ _ s.is)
 
-pub has-highest : (cells : List ℕ) (v : ℕ) → has_node cells v ≡ true → v ≤ highest cells
-has-highest cells v e =
+pub has_highest : (cells : List ℕ) (v : ℕ) → has_node cells v ≡ true → v ≤ highest cells
+has_highest cells v e =
     let n = node_at cells v e in
-    omega (arith, n.is, at_most_highest cells (4 * n.cell + n.place) (omega (arith, n.cell-lt, n.place-lt)))
+    omega (arith, n.is, at_most_highest cells (4 * n.cell + n.place) (omega (arith, n.cell_lt, n.place_lt)))
 
-pub highest-small : (cells : List ℕ) (n : ℕ) → ((j : ℕ) → j < length cells → get_or cells j 0 ≤ n) → highest cells ≤ n
+pub highest_small : (cells : List ℕ) (n : ℕ) → ((j : ℕ) → j < length cells → get_or cells j 0 ≤ n) → highest cells ≤ n
 unfolding highest
-highest-small [] n h = omega arith
-highest-small (v ∷ l) n h = let s = highest-stands v l in omega (arith, s.is, h s.at s.lt)
+highest_small [] n h = omega arith
+highest_small (v ∷ l) n h = let s = highest_stands v l in omega (arith, s.is, h s.at s.lt)
 
 module _ (G : Grid) (S : Sound G) where
   -- the ends of a listed edge are nodes of some cell
@@ -60,11 +60,11 @@ module _ (G : Grid) (S : Sound G) where
     pub below : v < node_end G.cells
 
   end_of : (v : ℕ) → has_node G.cells v ≡ true → End v
-  end_of v m = record { has = m; below = omega (arith, has-highest G.cells v m) }
+  end_of v m = record { has = m; below = omega (arith, has_highest G.cells v m) }
 
   module _ (e : ℕ) (h : e < length G.counts) where
     pub low_end : End (low G.edges e)
-    low_end = end_of (low G.edges e) (low-has G S e h)
+    low_end = end_of (low G.edges e) (low_has G S e h)
 
     pub high_end : End (high G.edges e)
-    high_end = end_of (high G.edges e) (high-has G S e h)
+    high_end = end_of (high G.edges e) (high_has G S e h)

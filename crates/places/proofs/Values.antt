@@ -87,11 +87,11 @@ module _ (f : Format) (s t : Bool) (A a B b C c : ℕ) (Cp : 0 < C) (cp : 0 < c)
   both : (A + B) * c ≡ (a + b) * C
   both = add-mul A B c ∙ ap (λ (k : ℕ). k + B * c) ea ∙ ap (λ (k : ℕ). a * C + k) eb ∙ sym (add-mul a b C)
 
-  lt-to : A < B → a < b
-  lt-to h = lt_of_mul-lt-mul_right C (subst (λ (k : ℕ). k < b * C) ea (subst (λ (k : ℕ). A * c < k) eb (mul-lt-mul_of_pos_right h cp)))
+  lt_to : A < B → a < b
+  lt_to h = lt_of_mul-lt-mul_right C (subst (λ (k : ℕ). k < b * C) ea (subst (λ (k : ℕ). A * c < k) eb (mul-lt-mul_of_pos_right h cp)))
 
-  lt-from : a < b → A < B
-  lt-from h = lt_of_mul-lt-mul_right c (subst (λ (k : ℕ). k < B * c) (sym ea) (subst (λ (k : ℕ). a * C < k) (sym eb) (mul-lt-mul_of_pos_right h Cp)))
+  lt_from : a < b → A < B
+  lt_from h = lt_of_mul-lt-mul_right c (subst (λ (k : ℕ). k < B * c) (sym ea) (subst (λ (k : ℕ). a * C < k) (sym eb) (mul-lt-mul_of_pos_right h Cp)))
 
   gt_to : B < A → b < a
   gt_to h = lt_of_mul-lt-mul_right C (subst (λ (k : ℕ). k < a * C) eb (subst (λ (k : ℕ). B * c < k) ea (mul-lt-mul_of_pos_right h cp)))
@@ -108,7 +108,7 @@ module _ (f : Format) (s t : Bool) (A a B b C c : ℕ) (Cp : 0 < C) (cp : 0 < c)
   sum_same : sum f s A t B C ≡ sum f s a t b c
   unfolding sum
   sum_same =
-      let l1 : ltb A B ≡ ltb a b = tests A B a b lt-to lt-from in
+      let l1 : ltb A B ≡ ltb a b = tests A B a b lt_to lt_from in
       let l2 : ltb B A ≡ ltb b a = tests B A b a gt_to gt_from in
       rw (l1, l2, round_same f s (A + B) C (a + b) c Cp cp both, round_same f t (B - A) C (b - a) c Cp cp less_by, round_same f (s && ltb b a) (A - B) C (a - b) c Cp cp more-by)
 
@@ -139,8 +139,8 @@ sum_val f true a false b p P N = go (ltb a b) (ltb b a) refl refl
 recast : {x y : Float} {z w : ℤ} {c n N : ℕ} → y ≡ x → z ≡ w → n ≤ N → Val x z c n → Val y w c N
 recast {x} {y} {z} {w} {c} {n} {N} e h l v = rw e (record { sign = v.sign; size = v.size; has = v.has; is = v.is ∙ h; small = le_trans v.small l })
 
-of-sign : (s r : Bool) (n : ℕ) (z : ℤ) → s ≡ r → signed r n ≡ z → signed s n ≡ z
-of-sign s r n z e h = ap (λ (q : Bool). signed q n) e ∙ h
+of_sign : (s r : Bool) (n : ℕ) (z : ℤ) → s ≡ r → signed r n ≡ z → signed s n ≡ z
+of_sign s r n z e h = ap (λ (q : Bool). signed q n) e ∙ h
 
 crossed : (x u v a c : ℕ) → x * c ≡ a * u → x * v * c ≡ a * (u * v)
 crossed x u v a c h = mul_right_comm x v c ∙ ap (λ (k : ℕ). k * v) h ∙ mul_assoc a u v
@@ -159,7 +159,7 @@ add_val f (fin s m e) (fin t n d) z w p N M P B X Y =
     let l = add-le-add X.small Y.small in
     recast
     (sum_same f s t (m * up e * down d) a (n * up d * down e) b (down e * down d) (2 ^ p) (mul-pos (down_pos e) (down_pos d)) (pow_pos p) ea eb)
-    (ap (λ (k : ℤ). k +ℤ signed t b) (of-sign s X.sign a z X.has.0 X.is) ∙ ap (λ (k : ℤ). z +ℤ k) (of-sign t Y.sign b w Y.has.0 Y.is))
+    (ap (λ (k : ℤ). k +ℤ signed t b) (of_sign s X.sign a z X.has.0 X.is) ∙ ap (λ (k : ℤ). z +ℤ k) (of_sign t Y.sign b w Y.has.0 Y.is))
     l
     (sum_val f s a t b p P (lt_of_le_of_lt l B))
 
@@ -191,7 +191,7 @@ mul_val f (fin s m e) (fin t n d) z w p q N M P B X Y =
     ∙ mul-mul-mul_comm a (down e) b (down d) in
     recast
     (round_same f (unlike s t) (m * up e * (n * up d)) (down e * down d) (a * b) (2 ^ (p + q)) (mul-pos (down_pos e) (down_pos d)) (pow_pos (p + q)) E)
-    (mul_signed s a t b ∙ ap (λ (k : ℤ). k *ℤ signed t b) (of-sign s X.sign a z X.has.0 X.is) ∙ ap (λ (k : ℤ). z *ℤ k) (of-sign t Y.sign b w Y.has.0 Y.is))
+    (mul_signed s a t b ∙ ap (λ (k : ℤ). k *ℤ signed t b) (of_sign s X.sign a z X.has.0 X.is) ∙ ap (λ (k : ℤ). z *ℤ k) (of_sign t Y.sign b w Y.has.0 Y.is))
     l
     (record { sign = unlike s t; size = a * b; has = round_val f (unlike s t) (a * b) (p + q) P (lt_of_le_of_lt l B); is = refl; small = le_refl (a * b) })
 

@@ -8,7 +8,7 @@ use native.Mathlib.Omega.{arith}
 use lib.ListN.{length, length-append}
 use lib.Seq.{sets, length-sets}
 use lib.Ieee.{Float}
-use Rattle.answer.proofs.Answer.{refused-not}
+use Rattle.answer.proofs.Answer.{refused_not}
 use Rattle.counting.specs.Lists.{total, values}
 use Rattle.counting.specs.work.Stored.{Stored}
 use Rattle.counting.proofs.Lists.{length_singles, get_d_singles}
@@ -26,9 +26,9 @@ use Rattle.cell.specs.work.Table.{table_fans}
 use Rattle.cell.proofs.Fans.{below_more}
 use Rattle.split.specs.work.Spots.{cells_stored, inner_in, added_in, inner_at_cell, middles_at_cell}
 use Rattle.places.specs.work.Work.{Placeable, table_inner, table_middles, table_points, rest_written, PlacesReady, PointsIn}
-use Rattle.place.proofs.Numbers.{length-numbers, front-place, points-then, place_kept}
-use Rattle.places.proofs.Middles.{length-inner, length-table, table_ext, inner-written, middles-written}
-use Rattle.places.proofs.Answers.{Fine, rows-fine, rows-some}
+use Rattle.place.proofs.Numbers.{length_numbers, front_place, points-then, place_kept}
+use Rattle.places.proofs.Middles.{length_inner, length_table, table_ext, inner_written, middles-written}
+use Rattle.places.proofs.Answers.{Fine, rows_fine, rows_some}
 
 module _ (cells edges counts names sides starts : List ℕ) (nodes fractions : List Float) where
   abbrev place : ℕ → Place
@@ -53,23 +53,23 @@ module _ (cells edges counts names sides starts : List ℕ) (nodes fractions : L
   abbrev pub added_sum : ℕ
   added_sum = total (added_in counts sides) (drawn_cells cells) 0
 
-  pub points-long : length all ≡ crossings counts + (inner_sum + (table_fans cells counts names sides starts + added_sum))
+  pub points_long : length all ≡ crossings counts + (inner_sum + (table_fans cells counts names sides starts + added_sum))
   unfolding table_points
-  points-long =
+  points_long =
       omega (
         arith,
         length-append crossing_places (inner ++ mids),
         length-append inner mids,
         length_singles place (crossings counts) 0,
-        length-inner cells counts names sides starts nodes,
-        length-table cells counts names sides starts nodes place,
+        length_inner cells counts names sides starts nodes,
+        length_table cells counts names sides starts nodes place,
       )
 
   module _ (n : ℕ) (R : PlacesReady cells counts names sides starts edges n) (before : List Float) (r : Placed) (m : ℕ)
       (long : m ≡ n + (inner_sum + (table_fans cells counts names sides starts + added_sum)))
       (h : places_numbers r ≡ rows_answer cells counts nodes fractions m (length before)) where
     many : m ≡ length all
-    many = omega (arith, long, points-long, R.judged.all)
+    many = omega (arith, long, points_long, R.judged.all)
 
     answered : places_numbers r ≡ rows_answer cells counts nodes fractions (length all) (length before)
     answered = h ∙ ap (λ k. rows_answer cells counts nodes fractions k (length before)) many
@@ -77,20 +77,20 @@ module _ (cells edges counts names sides starts : List ℕ) (nodes fractions : L
     pub refused_in : (row p : ℕ) → r ≡ Refused row p → PointsIn cells counts names sides starts edges nodes fractions before before (places_numbers r)
     refused_in row p e = record {
       answered = answered;
-      area = rw (refused-not (places_numbers r) (λ q. rows-some cells counts nodes fractions (length all) (length before) (q ∙ answered)) row p (ap places_numbers (sym e)));
+      area = rw (refused_not (places_numbers r) (λ q. rows_some cells counts nodes fractions (length all) (length before) (q ∙ answered)) row p (ap places_numbers (sym e)));
     }
 
     module _ (k : ℕ) (e : r ≡ Points k) where
       fine : Fine cells counts nodes fractions (length all) (length before)
-      fine = rows-fine cells counts nodes fractions (length all) (length before) (k ∷ []) (sym answered ∙ ap places_numbers e)
+      fine = rows_fine cells counts nodes fractions (length all) (length before) (k ∷ []) (sym answered ∙ ap places_numbers e)
 
       room : coordinates * (crossings counts + (inner_sum + (table_fans cells counts names sides starts + added_sum))) ≤ length before
-      room = omega (arith, fine.area-long, points-long)
+      room = omega (arith, fine.area_long, points_long)
 
       pub placeable : Placeable edges counts fractions before
       placeable = record {
         pairs = R.pairs;
-        given = fine.fractions-long;
+        given = fine.fractions_long;
         room = omega (arith, room);
       }
 
@@ -107,7 +107,7 @@ module _ (cells edges counts names sides starts : List ℕ) (nodes fractions : L
             let s = length_singles place (crossings counts) 0 in
             let i : g < crossings counts = omega (arith, R.judged.all) in
             ap (λ (x : List Float). place_at x g) f
-            ∙ front-place crossing_places before g (place g) (omega (arith, s, room)) (omega (arith, s))
+            ∙ front_place crossing_places before g (place g) (omega (arith, s, room)) (omega (arith, s))
             ∙ get_d_singles place (place g) (crossings counts) 0 g i
             ∙ ap place (zero-add g)
 
@@ -119,11 +119,11 @@ module _ (cells edges counts names sides starts : List ℕ) (nodes fractions : L
           kept : (g : ℕ) → g < n → place_at on g ≡ place g
           kept g l = place_kept S g l ∙ loaded g l
 
-          mids-same : table_middles cells counts names sides starts nodes (place_at on) ≡ mids
-          mids-same = table_ext cells counts names sides starts nodes n below (place_at on) place kept
+          mids_same : table_middles cells counts names sides starts nodes (place_at on) ≡ mids
+          mids_same = table_ext cells counts names sides starts nodes n below (place_at on) place kept
 
-          mids-room : coordinates * (j + length (table_middles cells counts names sides starts nodes (place_at on))) ≤ length on
-          mids-room =
+          mids_room : coordinates * (j + length (table_middles cells counts names sides starts nodes (place_at on))) ≤ length on
+          mids_room =
               omega (
                 arith,
                 room,
@@ -131,9 +131,9 @@ module _ (cells edges counts names sides starts : List ℕ) (nodes fractions : L
                 same,
                 stored_long S,
                 S.after,
-                length-numbers inner,
-                length-inner cells counts names sides starts nodes,
-                length-table cells counts names sides starts nodes (place_at on),
+                length_numbers inner,
+                length_inner cells counts names sides starts nodes,
+                length_table cells counts names sides starts nodes (place_at on),
               )
 
           points-stored : {after : List Float} {next : ℕ} → (after, next) ≡ cells_stored (middles_at_cell cells counts names sides starts nodes) on j (drawn_cells cells)
@@ -141,18 +141,18 @@ module _ (cells edges counts names sides starts : List ℕ) (nodes fractions : L
           unfolding table_points
           points-stored {after} q =
               let s = length_singles place (crossings counts) 0 in
-              let T = middles-written cells counts names sides starts nodes on j (λ c l. below_more (table_cell cells counts names sides starts c) (below c l) n_le) mids-room q in
+              let T = middles-written cells counts names sides starts nodes on j (λ c l. below_more (table_cell cells counts names sides starts c) (below c l) n_le) mids_room q in
               let w : after ≡ sets before 0 (all_numbers all) =
-              (points-then crossing_places (inner ++ mids) (record { area = f; after = omega (arith, s, length-numbers crossing_places, R.judged.all) })
-              (points-then inner mids S (stored_as T (ap all_numbers mids-same) refl))).area in
+              (points-then crossing_places (inner ++ mids) (record { area = f; after = omega (arith, s, length_numbers crossing_places, R.judged.all) })
+              (points-then inner mids S (stored_as T (ap all_numbers mids_same) refl))).area in
               record { answered = answered; area = w ∙ rw (ap places_numbers e) }
 
         inner_room : coordinates * (n + length inner) ≤ length mid
-        inner_room = omega (arith, room, R.judged.all, same, length-inner cells counts names sides starts nodes)
+        inner_room = omega (arith, room, R.judged.all, same, length_inner cells counts names sides starts nodes)
 
         pub points_in : (after : List Float) {next : ℕ} → (after, next) ≡ rest_written cells counts names sides starts nodes mid n
             → PointsIn cells counts names sides starts edges nodes fractions before after (places_numbers r)
         unfolding rest_written
         points_in after q =
             let w = cells_stored (inner_at_cell cells counts names sides starts nodes) mid n (drawn_cells cells) in
-            points-stored w.0 w.1 (inner-written cells counts names sides starts nodes mid n inner_room refl) q
+            points-stored w.0 w.1 (inner_written cells counts names sides starts nodes mid n inner_room refl) q

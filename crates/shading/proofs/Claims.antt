@@ -12,20 +12,20 @@ use borrow.Author.Tests.{ltb-true}
 use Rattle.answer.specs.Answer.{result_of, refusal, is_result, refused}
 use Rattle.answer.specs.Rows.{answer_of}
 use Rattle.answer.specs.claims.Faults.{row_at}
-use Rattle.answer.proofs.Answer.{pick_some, refused-not, mixed, refusals}
-use Rattle.answer.proofs.Rows.{answer-some}
+use Rattle.answer.proofs.Answer.{pick_some, refused_not, mixed, refusals}
+use Rattle.answer.proofs.Rows.{answer_some}
 use Rattle.counting.specs.Pick.{pick}
 use Rattle.counting.specs.Search.{every}
 use Rattle.counting.proofs.Bools.{holds_or, clash}
-use Rattle.counting.proofs.Search.{every-is}
+use Rattle.counting.proofs.Search.{every_is}
 use Rattle.grid.specs.declared.Checked.TheVariants as checked
 use Rattle.grid.specs.Grid.{Grid, crossings}
 use Rattle.grid.specs.Rows.{rows, grid_answer, accepts}
 use Rattle.grid.specs.Check.{check_numbers}
 use Rattle.grid.specs.claims.Accepted.{Accepted, Sound}
-use Rattle.grid.proofs.Claims.{never-empty, accepted-is, fault-refused}
-use Rattle.grid.proofs.Accepts.{acceptance_yields, accepted-answer}
-use Rattle.grid.proofs.Filled.{refused-keeps}
+use Rattle.grid.proofs.Claims.{never_empty, accepted_is, fault_refused}
+use Rattle.grid.proofs.Accepts.{acceptance_yields, accepted_answer}
+use Rattle.grid.proofs.Filled.{refused_keeps}
 use Rattle.shading.specs.declared.Shaded.{Shaded}
 use Rattle.shading.specs.declared.Shaded.TheVariants.{Written, Refused}
 use Rattle.shading.specs.Marks.{most_nodes, unshaded, side_bytes}
@@ -33,72 +33,72 @@ use Rattle.shading.specs.claims.Shading.{IsShading, NoShading, IsShadingArea}
 use Rattle.shading.specs.Answer.{shading_numbers, shading_rows, shading_answer}
 use Rattle.shading.specs.Done.{Done}
 use Rattle.shading.specs.claims.Claims.{Says, CallSays, ShadingTold}
-use Rattle.shading.proofs.Shadings.{shading-agrees, labels_shade, lacking, sides_shade, sides_are, only-sides}
-use Rattle.shading.proofs.Calls.{answers_19, answers_20, answers_result, kept-answer, rows-answer, area-by}
+use Rattle.shading.proofs.Shadings.{shading_agrees, labels_shade, lacking, sides_shade, sides_are, only_sides}
+use Rattle.shading.proofs.Calls.{answers_19, answers_20, answers_result, kept_answer, rows-answer, area_by}
 
 module _ (G : Grid) (room : ℕ) where
   -- there is always an answer
-  pub shading-some : [] ≡ shading_answer G room → ⊥
+  pub shading_some : [] ≡ shading_answer G room → ⊥
   unfolding shading_answer
-  shading-some = pick_some (accepts G) (answer_of (shading_rows G room) (result_of [])) (grid_answer G) (answer-some (shading_rows G room) []) (never-empty G)
+  shading_some = pick_some (accepts G) (answer_of (shading_rows G room) (result_of [])) (grid_answer G) (answer_some (shading_rows G room) []) (never_empty G)
 
   abbrev answer : List ℕ
   answer = shading_answer G room
 
   tells : (r s : Shaded) → shading_numbers r ≡ answer → shading_numbers s ≡ answer → r ≡ s
   tells Written Written a b = refl
-  tells Written (Refused k p) a b = absurd (mixed answer shading-some k p [] a b)
-  tells (Refused k p) Written a b = absurd (mixed answer shading-some k p [] b a)
-  tells (Refused k p) (Refused l q) a b = let (x, y) = refusals answer shading-some k p l q a b in rw (x, y)
+  tells Written (Refused k p) a b = absurd (mixed answer shading_some k p [] a b)
+  tells (Refused k p) Written a b = absurd (mixed answer shading_some k p [] b a)
+  tells (Refused k p) (Refused l q) a b = let (x, y) = refusals answer shading_some k p l q a b in rw (x, y)
 
-pub shading-told : ShadingTold
-shading-told G room = tells G room
+pub shading_told : ShadingTold
+shading_told G room = tells G room
 
 -- no row of the grid has the number 20
-low-numbers : (G : Grid) → every (λ i. ltb (row_at (rows G) i).number 20) (length (rows G)) ≡ true
+low_numbers : (G : Grid) → every (λ i. ltb (row_at (rows G) i).number 20) (length (rows G)) ≡ true
 unfolding rows every
-low-numbers G = refl
+low_numbers G = refl
 
 never_20 : (G : Grid) (p : ℕ) → grid_answer G ≡ refusal 20 p → ⊥
 never_20 G p e =
-    let R = fault-refused G 20 p (λ z. omega arith) e in
-    omega (arith, R.number_is, ltb-true (row_at (rows G) R.at).number 20 (every-is (λ i. ltb (row_at (rows G) i).number 20) (length (rows G)) (low-numbers G) R.at R.row_lt))
+    let R = fault_refused G 20 p (λ z. omega arith) e in
+    omega (arith, R.number_is, ltb-true (row_at (rows G) R.at).number 20 (every_is (λ i. ltb (row_at (rows G) i).number 20) (length (rows G)) (low_numbers G) R.at R.row_lt))
 
 -- what decides the answer
 data Outcome (G : Grid) (before : List ℕ) : Type 0 where
-  by-grid : accepts G ≡ false → Outcome G before
+  by_grid : accepts G ≡ false → Outcome G before
   by_length : length before ≢ most_nodes → shading_numbers (Refused 19 0) ≡ shading_answer G (length before) → Outcome G before
-  by-none : length before ≡ most_nodes → NoShading G → shading_numbers (Refused 20 0) ≡ shading_answer G (length before) → Outcome G before
-  by-shading : Sound G → length before ≡ most_nodes → unshaded G ≡ false → shading_numbers Written ≡ shading_answer G (length before) → Outcome G before
+  by_none : length before ≡ most_nodes → NoShading G → shading_numbers (Refused 20 0) ≡ shading_answer G (length before) → Outcome G before
+  by_shading : Sound G → length before ≡ most_nodes → unshaded G ≡ false → shading_numbers Written ≡ shading_answer G (length before) → Outcome G before
 
 outcome : (G : Grid) (before : List ℕ) → Outcome G before
-outcome G before = ⊎_elim accepted by-grid (holds_or (accepts G))
+outcome G before = ⊎_elim accepted by_grid (holds_or (accepts G))
   where
     by_rows : Sound G → accepts G ≡ true → Outcome G before
     by_rows S k = elim (ℕ_discrete (length before) most_nodes) [
-      | yes e ↦ ⊎_elim (λ u. by-none e (lacking G S u) (answers_20 G (length before) e u ∙ rows-answer G before k))
-          (λ u. by-shading S e u (answers_result G (length before) e u ∙ rows-answer G before k)) (holds_or (unshaded G))
+      | yes e ↦ ⊎_elim (λ u. by_none e (lacking G S u) (answers_20 G (length before) e u ∙ rows-answer G before k))
+          (λ u. by_shading S e u (answers_result G (length before) e u ∙ rows-answer G before k)) (holds_or (unshaded G))
       | no n ↦ by_length n (answers_19 G (length before) n ∙ rows-answer G before k)
     ]
 
     accepted : accepts G ≡ true → Outcome G before
-    accepted k = by_rows (acceptance_yields G (crossings G.counts ∷ []) (accepted-is G k)).sound k
+    accepted k = by_rows (acceptance_yields G (crossings G.counts ∷ []) (accepted_is G k)).sound k
 
-written-refused : (row place : ℕ) → ◌≡◌ {A = Shaded} Written (Refused row place) → ⊥
-written-refused row place e = let z : ◌≡◌ {A = ℕ} 0 1 = cc in omega arith
+written_refused : (row place : ℕ) → ◌≡◌ {A = Shaded} Written (Refused row place) → ⊥
+written_refused row place e = let z : ◌≡◌ {A = ℕ} 0 1 = cc in omega arith
 
 other_row : (k l p q : ℕ) → k ≢ l → Refused k p ≡ Refused l q → ⊥
 other_row k l p q n e = let z : k ≡ l = cc in n z
 
 module _ (G : Grid) (before after : List ℕ) (r : Shaded) (D : Done G before after (shading_numbers r)) where
   is : (s : Shaded) → shading_numbers s ≡ shading_answer G (length before) → r ≡ s
-  is s e = shading-told G (length before) r s D.answered e
+  is s e = shading_told G (length before) r s D.answered e
 
   unsound : (row place : ℕ) → check_numbers (checked.Refused row place) ≡ grid_answer G → r ≡ Refused row place
-  unsound row place e = is (Refused row place) (e ∙ kept-answer G before (refused-keeps G row place e))
+  unsound row place e = is (Refused row place) (e ∙ kept_answer G before (refused_keeps G row place e))
 
   accepting : Accepted G → accepts G ≡ true
-  accepting A = rw (accepted-answer G A)
+  accepting A = rw (accepted_answer G A)
 
   other-length : Accepted G → length before ≢ most_nodes → r ≡ Refused 19 0
   other-length A n = is (Refused 19 0) (answers_19 G (length before) n ∙ rows-answer G before (accepting A))
@@ -110,7 +110,7 @@ module _ (G : Grid) (before after : List ℕ) (r : Shaded) (D : Done G before af
 
   has : Accepted G → length before ≡ most_nodes → (side : ℕ → ℕ) → IsShading G side → r ≡ Written
   has A h side I =
-      is Written (answers_result G (length before) h (labels_shade G A.sound side (shading-agrees G A.sound side I)) ∙ rows-answer G before (accepting A))
+      is Written (answers_result G (length before) h (labels_shade G A.sound side (shading_agrees G A.sound side I)) ∙ rows-answer G before (accepting A))
 
   none : (place : ℕ) → r ≡ Refused 20 place → NoShading G
   none place e = go (outcome G before)
@@ -119,10 +119,10 @@ module _ (G : Grid) (before after : List ℕ) (r : Shaded) (D : Done G before af
       told = ap shading_numbers (sym e) ∙ D.answered
 
       go : Outcome G before → NoShading G
-      go (by-grid k) = absurd (never_20 G place (kept-answer G before k ∙ sym told))
+      go (by_grid k) = absurd (never_20 G place (kept_answer G before k ∙ sym told))
       go (by_length n a) = absurd (other_row 20 19 place 0 (λ z. omega arith) (sym e ∙ is (Refused 19 0) a))
-      go (by-none h N a) = N
-      go (by-shading S h u a) = absurd (written-refused 20 place (sym (is Written a) ∙ e))
+      go (by_none h N a) = N
+      go (by_shading S h u a) = absurd (written_refused 20 place (sym (is Written a) ∙ e))
 
   -- what is known where the area is written
   record Shades : Type 0 where
@@ -137,16 +137,16 @@ module _ (G : Grid) (before after : List ℕ) (r : Shaded) (D : Done G before af
       told = ap shading_numbers (sym e) ∙ D.answered
 
       go : Outcome G before → Shades
-      go (by-grid k) = clash (sym (ap is_result (told ∙ sym (kept-answer G before k)))) k
-      go (by_length n a) = absurd (written-refused 19 0 (sym e ∙ is (Refused 19 0) a))
-      go (by-none h N a) = absurd (written-refused 20 0 (sym e ∙ is (Refused 20 0) a))
-      go (by-shading S h u a) = record { sound = S; shaded = u; area = D.area ∙ sym (area-by G before (result_of []) told) }
+      go (by_grid k) = clash (sym (ap is_result (told ∙ sym (kept_answer G before k)))) k
+      go (by_length n a) = absurd (written_refused 19 0 (sym e ∙ is (Refused 19 0) a))
+      go (by_none h N a) = absurd (written_refused 20 0 (sym e ∙ is (Refused 20 0) a))
+      go (by_shading S h u a) = record { sound = S; shaded = u; area = D.area ∙ sym (area_by G before (result_of []) told) }
 
   kept : (row place : ℕ) → r ≡ Refused row place → after ≡ before
   kept row place e =
       let told : refused row place ≡ shading_answer G (length before) = ap shading_numbers (sym e) ∙ D.answered in
-      let f = refused-not (shading_answer G (length before)) (shading-some G (length before)) row place told in
-      D.area ∙ sym (area-by G before (shading_answer G (length before)) refl) ∙ ap (λ b. pick b (side_bytes G) before) f
+      let f = refused_not (shading_answer G (length before)) (shading_some G (length before)) row place told in
+      D.area ∙ sym (area_by G before (shading_answer G (length before)) refl) ∙ ap (λ b. pick b (side_bytes G) before) f
 
   pub says : Says G before after r
   says = record {
@@ -156,7 +156,7 @@ module _ (G : Grid) (before after : List ℕ) (r : Shaded) (D : Done G before af
     none = none;
     shaded = has;
     written = λ e. (let s = shades e in subst (IsShadingArea G) (sym s.area) (sides_are G s.sound s.shaded));
-    only = λ e area I. (let s = shades e in only-sides G s.sound area I ∙ sym s.area);
+    only = λ e area I. (let s = shades e in only_sides G s.sound area I ∙ sym s.area);
     kept = kept;
   }
 

@@ -7,7 +7,7 @@ use native.Mathlib.Omega.{arith}
 use lib.ListN.{get_or}
 use Rattle.shading.specs.Marks.{most_nodes}
 use Rattle.shading.specs.work.Work.{across, HasLink, Forest, Fits}
-use Rattle.shading.proofs.Across.{across-even}
+use Rattle.shading.proofs.Across.{across_even}
 
 -- n links upwards from x
 climb : List ℕ → ℕ → ℕ → ℕ
@@ -21,7 +21,7 @@ module _ (links : List ℕ) (F : Forest links) where
   climb_root zero x e = refl
   climb_root (suc n) x e =
       let h : get_or links x 0 / 2 ≡ x = omega arith in
-      across-even (get_or links x 0) (climb links n (get_or links x 0 / 2)) (omega arith) ∙ ap (climb links n) h ∙ climb_root n x e
+      across_even (get_or links x 0) (climb links n (get_or links x 0 / 2)) (omega arith) ∙ ap (climb links n) h ∙ climb_root n x e
 
   -- x links are enough
   climb_more : (n x : ℕ) → x ≤ n → HasLink links x → climb links (suc n) x ≡ climb links n x
@@ -38,22 +38,22 @@ module _ (links : List ℕ) (F : Forest links) where
   unfolding climb
   climb_low zero x L = omega arith
   climb_low (suc n) x L =
-      omega (arith, climb_low n (get_or links x 0 / 2) (F.has x L), F.low_parent x L, half-across (get_or links x 0) (climb links n (get_or links x 0 / 2)))
+      omega (arith, climb_low n (get_or links x 0 / 2) (F.has x L), F.low_parent x L, half_across (get_or links x 0) (climb links n (get_or links x 0 / 2)))
     where
-      half-across : (s h : ℕ) → across s h / 2 ≡ h / 2
-      half-across s h = omega arith
+      half_across : (s h : ℕ) → across s h / 2 ≡ h / 2
+      half_across s h = omega arith
 
   pub top : ℕ → ℕ
   top = climb links most_nodes
 
-  pub top-fits : Fits links top
+  pub top_fits : Fits links top
   unfolding climb top
-  top-fits x L = sym (climb_more most_nodes x (omega (arith, L.0)) L)
+  top_fits x L = sym (climb_more most_nodes x (omega (arith, L.0)) L)
 
-  pub top-root : (x : ℕ) → get_or links x 0 ≡ 2 * x → top x ≡ 2 * x
+  pub top_root : (x : ℕ) → get_or links x 0 ≡ 2 * x → top x ≡ 2 * x
   unfolding top
-  top-root = climb_root most_nodes
+  top_root = climb_root most_nodes
 
-  pub top-low : (x : ℕ) → HasLink links x → top x / 2 ≤ x
+  pub top_low : (x : ℕ) → HasLink links x → top x / 2 ≤ x
   unfolding top
-  top-low = climb_low most_nodes
+  top_low = climb_low most_nodes

@@ -10,7 +10,7 @@ use Rattle.answer.specs.Rows.{or_refuse, answer_of}
 use Rattle.counting.specs.Lists.{seek, total, over, pre}
 use Rattle.counting.specs.Search.{first, last, some, every, count}
 use Rattle.counting.specs.Reach.{reach}
-use Rattle.counting.proofs.Search.{every-is}
+use Rattle.counting.proofs.Search.{every_is}
 use Rattle.slots.specs.Slots.{lo, hi, position, lower, upper, edge_between, slot_edge, contains}
 use Rattle.grid.specs.Grid.{Grid, cell_count, count_of, edge_number, face_node, same_face, has_face, joins, is_edge, has_edge, start, starts_of}
 use Rattle.grid.specs.Rows.{bad_length, bad_numbers, bad_start, bad_lists, bad_cell, same_cell, repeats, crowded, is_after, bad_edge, bad_count, unlisted, unused, linked, reached, split, too_many, rows, grid_answer}
@@ -36,9 +36,9 @@ even_at c s =
     ((count_of ring_counts (edge_number R c (slot_edge s 0)) + count_of ring_counts (edge_number R c (slot_edge s 1)) + count_of ring_counts (edge_number R c (slot_edge s 2)))
     % 2) 0
 
-all-even : every (λ c. every (even_at c) 4) (cell_count R.cells) ≡ true
+all_even : every (λ c. every (even_at c) 4) (cell_count R.cells) ≡ true
 unfolding even_at every seek first lo hi position lower upper edge_between slot_edge joins is_edge edge_number
-all-even = refl
+all_even = refl
 
 lacks : unshaded R ≡ true
 unfolding every over moved united marks_after final_marks agrees unshaded
@@ -50,11 +50,11 @@ unfolding seek first last some every count total over pre reach lo hi position c
     moved united marks_after final_marks agrees unshaded shading_rows shading_answer
 refused = refl
 
-pub ring-lacks : RingLacks
+pub ring_lacks : RingLacks
 unfolding even_at
-ring-lacks = record {
+ring_lacks = record {
   accepted = accepted;
-  even = λ c s h k. eqb-true _ 0 (every-is (even_at c) 4 (every-is (λ c. every (even_at c) 4) (cell_count R.cells) all-even c h) s k);
+  even = λ c s h k. eqb-true _ 0 (every_is (even_at c) 4 (every_is (λ c. every (even_at c) 4) (cell_count R.cells) all_even c h) s k);
   refused = refused;
   lacks = lacking R (acceptance_yields R (6 ∷ []) accepted).sound lacks;
 }

@@ -8,12 +8,12 @@ use lib.Ieee.{Float}
 use Rattle.counting.specs.Lists.{gather, over, values}
 use Rattle.counting.specs.work.Stored.{Stored}
 use Rattle.counting.specs.Stored.{stored_in}
-use Rattle.counting.proofs.Lists.{gather-over, length_singles}
-use Rattle.counting.proofs.Fronts.{over-more}
+use Rattle.counting.proofs.Lists.{gather_over, length_singles}
+use Rattle.counting.proofs.Fronts.{over_more}
 use Rattle.counting.proofs.Stored.{stored_none, stored_as, stored_long, stored_more, stored_fits}
 use Rattle.place.specs.declared.Place.{Place}
 use Rattle.place.specs.Place.{part_of, between, coordinates, numbers, all_numbers}
-use Rattle.place.proofs.Numbers.{length-numbers, points-then, point_stored}
+use Rattle.place.proofs.Numbers.{length_numbers, points-then, point_stored}
 use Rattle.cell.specs.declared.Cell.{Cell}
 use Rattle.cell.specs.Of.{count_of}
 use Rattle.booking.specs.Booking.{larger, smaller}
@@ -24,25 +24,25 @@ use Rattle.split.specs.SubCell.{sub}
 use Rattle.split.specs.Standing.{corner_in, new_place, sub_places, arm_place, arm_places, split_places}
 use Rattle.split.specs.work.Working.{spoke_by, SpiralNumbers, SplitsLeft}
 use Rattle.split.specs.work.Spots.{standing_inner}
-use Rattle.split.proofs.Stands.{inner-stop, inner-more}
-use Rattle.split.proofs.Nested.{left-none, left-some}
+use Rattle.split.proofs.Stands.{inner_stop, inner_more}
+use Rattle.split.proofs.Nested.{left_none, left_some}
 
 -- four places, each known by another name
-pub four-places : {a b d e p q r s : Place} → a ≡ p → b ≡ q → d ≡ r → e ≡ s → (a ∷ b ∷ d ∷ e ∷ []) ≡ (p ∷ q ∷ r ∷ s ∷ [])
-four-places x y z t = cc
+pub four_places : {a b d e p q r s : Place} → a ≡ p → b ≡ q → d ≡ r → e ≡ s → (a ∷ b ∷ d ∷ e ∷ []) ≡ (p ∷ q ∷ r ∷ s ∷ [])
+four_places x y z t = cc
 
 -- and their numbers
-pub numbers-four : (at : List Place) → length at ≡ 4
+pub numbers_four : (at : List Place) → length at ≡ 4
     → (corner_in at 0).x ∷ (corner_in at 0).y ∷ (corner_in at 0).z ∷ (corner_in at 1).x ∷ (corner_in at 1).y ∷ (corner_in at 1).z
     ∷ (corner_in at 2).x ∷ (corner_in at 2).y ∷ (corner_in at 2).z ∷ (corner_in at 3).x ∷ (corner_in at 3).y ∷ (corner_in at 3).z ∷ []
     ≡ all_numbers at
 unfolding gather
-numbers-four [] e = absurd (omega arith)
-numbers-four (a ∷ []) e = absurd (omega arith)
-numbers-four (a ∷ b ∷ []) e = absurd (omega arith)
-numbers-four (a ∷ b ∷ c ∷ []) e = absurd (omega arith)
-numbers-four (a ∷ b ∷ c ∷ d ∷ []) e = refl
-numbers-four (a ∷ b ∷ c ∷ d ∷ f ∷ l) e = absurd (omega arith)
+numbers_four [] e = absurd (omega arith)
+numbers_four (a ∷ []) e = absurd (omega arith)
+numbers_four (a ∷ b ∷ []) e = absurd (omega arith)
+numbers_four (a ∷ b ∷ c ∷ []) e = absurd (omega arith)
+numbers_four (a ∷ b ∷ c ∷ d ∷ []) e = refl
+numbers_four (a ∷ b ∷ c ∷ d ∷ f ∷ l) e = absurd (omega arith)
 
 -- points one after the other
 module _ (g : ℕ → Place) (i : ℕ) where
@@ -50,13 +50,13 @@ module _ (g : ℕ → Place) (i : ℕ) where
   unfolding over gather
   points_none l = stored_as (stored_none l (coordinates * i)) refl (omega arith)
 
-  pub points-more : {was mid : List Float} (h : ℕ) → Stored was (coordinates * i) (all_numbers (values g h)) mid (coordinates * (i + h))
+  pub points_more : {was mid : List Float} (h : ℕ) → Stored was (coordinates * i) (all_numbers (values g h)) mid (coordinates * (i + h))
       → coordinates * (i + h) + coordinates ≤ length mid → {p : Place} {out : List Float} → p ≡ g h → out ≡ stored_in mid (coordinates * (i + h)) (numbers p)
       → Stored was (coordinates * i) (all_numbers (values g (h + 1))) out (coordinates * (i + (h + 1)))
-  points-more h S room {p} e q =
+  points_more h S room {p} e q =
       let f : ℕ → List Place = λ x. g x ∷ [] in
       stored_as (points-then (over f h 0) (p ∷ []) S (point_stored (i + h) p room q))
-      (ap all_numbers (ap (λ (x : Place). over f h 0 ++ (x ∷ [])) e ∙ sym (over-more f h))) (omega arith)
+      (ap all_numbers (ap (λ (x : Place). over f h 0 ++ (x ∷ [])) e ∙ sym (over_more f h))) (omega arith)
 
 -- the four new edges one after the other
 module _ (w : ℕ → ℕ) (at : List Place) where
@@ -65,7 +65,7 @@ module _ (w : ℕ → ℕ) (at : List Place) where
 
   all_arms : all_numbers (split_places w at) ≡ over arm 4 0
   unfolding split_places
-  all_arms = gather-over numbers (arm_places w at) 4 0
+  all_arms = gather_over numbers (arm_places w at) 4 0
 
   abbrev pub Arms : (was : List Float) (i m : ℕ) (is : List Float) (k : ℕ) → Type 0
   Arms was i m is k = Stored was (coordinates * i) (over arm m 0) is (coordinates * k)
@@ -80,8 +80,8 @@ module _ (w : ℕ → ℕ) (at : List Place) where
     arms_room h r e =
         omega (
           arith,
-          stored_fits arm 4 m S h (omega (arith, r, length-numbers (split_places w at), ap length all_arms)),
-          length-numbers (arm_places w at m),
+          stored_fits arm 4 m S h (omega (arith, r, length_numbers (split_places w at), ap length all_arms)),
+          length_numbers (arm_places w at m),
           length_singles (arm_place w at m) (spoke w m) 0,
           e,
         )
@@ -97,13 +97,13 @@ module _ (w : ℕ → ℕ) (at : List Place) where
 -- the counts of the new edges from the numbers of a cell
 pub spokes_told : {c : Cell} {s : Spiral} → SpiralNumbers c s → (m : ℕ) → spoke_by s.larger s.smaller m ≡ spoke (count_of c) m
 unfolding spoke_by spoke
-spokes_told N m = rw (N.larger-is, N.smaller-is) refl
+spokes_told N m = rw (N.larger_is, N.smaller_is) refl
 
 -- no split is left
 module _ {c : Cell} {cell n b f left : ℕ} (L : SplitsLeft c cell n b f left) (at : List Place) where
-  pub none-inner : left ≡ 0 → (area : List Float) (i : ℕ) → Stored area (coordinates * i) (all_numbers (standing_inner cell n b f at c)) area (coordinates * i)
+  pub none_inner : left ≡ 0 → (area : List Float) (i : ℕ) → Stored area (coordinates * i) (all_numbers (standing_inner cell n b f at c)) area (coordinates * i)
   unfolding gather
-  none-inner z area i = stored_as (stored_none area (coordinates * i)) (ap all_numbers (sym (inner-stop cell n b f at c (left-none L z)))) refl
+  none_inner z area i = stored_as (stored_none area (coordinates * i)) (ap all_numbers (sym (inner_stop cell n b f at c (left_none L z)))) refl
 
   -- or one is; v is the nested sub-cell, at' where its nodes are, and b' the next number of inner crossings
   module _ (h : 0 < left) {v : Cell} {word b' : ℕ} {at' : List Place} (e : v ≡ sub c b f word 2) (g : word ≡ cell + word_step * (n + 2))
@@ -111,19 +111,19 @@ module _ {c : Cell} {cell n b f left : ℕ} (L : SplitsLeft c cell n b f left) (
     abbrev rest : List Place
     rest = standing_inner cell (n + 2) b' (f + 6) at' v
 
-    all-inner : standing_inner cell n b f at c ≡ split_places (count_of c) at ++ rest
-    all-inner = rw (p, k, e, g) (inner-more cell n b f at c L.sound.level (left-some L h))
+    all_inner : standing_inner cell n b f at c ≡ split_places (count_of c) at ++ rest
+    all_inner = rw (p, k, e, g) (inner_more cell n b f at c L.sound.level (left_some L h))
 
     sizes : length (standing_inner cell n b f at c) ≡ length (split_places (count_of c) at) + length rest
-    sizes = ap length all-inner ∙ length-append (split_places (count_of c) at) rest
+    sizes = ap length all_inner ∙ length-append (split_places (count_of c) at) rest
 
     module _ (was : List Float) (i : ℕ) (room : coordinates * (i + length (standing_inner cell n b f at c)) ≤ length was) {mid : List Float} (j : ℕ)
         (S : Stored was (coordinates * i) (all_numbers (split_places (count_of c) at)) mid (coordinates * j)) where
       pub inner_room : coordinates * (j + length rest) ≤ length mid
-      inner_room = omega (arith, room, sizes, S.after, stored_long S, length-numbers (split_places (count_of c) at))
+      inner_room = omega (arith, room, sizes, S.after, stored_long S, length_numbers (split_places (count_of c) at))
 
-      pub inner-all : {is : List Float} {r : ℕ} → Stored mid (coordinates * j) (all_numbers rest) is r → Stored was (coordinates * i) (all_numbers (standing_inner cell n b f at c)) is r
-      inner-all T = stored_as (points-then (split_places (count_of c) at) rest S T) (ap all_numbers (sym all-inner)) refl
+      pub inner_all : {is : List Float} {r : ℕ} → Stored mid (coordinates * j) (all_numbers rest) is r → Stored was (coordinates * i) (all_numbers (standing_inner cell n b f at c)) is r
+      inner_all T = stored_as (points-then (split_places (count_of c) at) rest S T) (ap all_numbers (sym all_inner)) refl
 
-  pub split-room : 0 < left → (i : ℕ) {size : ℕ} → coordinates * (i + length (standing_inner cell n b f at c)) ≤ size → coordinates * (i + length (split_places (count_of c) at)) ≤ size
-  split-room h i r = omega (arith, r, sizes h refl refl refl refl)
+  pub split_room : 0 < left → (i : ℕ) {size : ℕ} → coordinates * (i + length (standing_inner cell n b f at c)) ≤ size → coordinates * (i + length (split_places (count_of c) at)) ≤ size
+  split_room h i r = omega (arith, r, sizes h refl refl refl refl)

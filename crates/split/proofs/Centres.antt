@@ -10,14 +10,14 @@ use borrow.Author.Tests.{lt-ltb}
 use Rattle.counting.specs.Gcd.{gcd}
 use Rattle.counting.specs.Pick.{pick}
 use Rattle.counting.specs.work.Stored.{Stored}
-use Rattle.counting.proofs.Below.{below-three, below-four}
-use Rattle.counting.proofs.Gcd.{gcd-above}
+use Rattle.counting.proofs.Below.{below_three, below_four}
+use Rattle.counting.proofs.Gcd.{gcd_above}
 use Rattle.counting.proofs.Range.{over_ext}
 use Rattle.counting.proofs.Stored.{stored_as, stored_long}
 use Rattle.slots.specs.Slots.{lo, hi}
 use Rattle.place.specs.declared.Place.{Place}
 use Rattle.place.specs.Place.{coordinates, place_at, all_numbers}
-use Rattle.place.proofs.Numbers.{numbers-at, length-numbers, points-then}
+use Rattle.place.proofs.Numbers.{numbers_at, length_numbers, points-then}
 use Rattle.cell.specs.declared.Cell.{Cell}
 use Rattle.cell.specs.Cell.{crossings}
 use Rattle.cell.specs.Of.{count_of, edges_of}
@@ -26,38 +26,38 @@ use Rattle.cell.specs.claims.Nests.{nest_edge, nest_rank, nest_low, on_axis, nes
 use Rattle.cell.specs.Middles.{is_fan, corner_place}
 use Rattle.cell.specs.claims.Middles.{fan_count, fan_middle, loop_middle, cell_middles, points_then, next_point}
 use Rattle.cell.specs.work.Centres.{MiddlesRoom}
-use Rattle.cell.proofs.Using.{limited-same}
+use Rattle.cell.proofs.Using.{limited_same}
 use Rattle.cell.proofs.Fans.{nest_placeable, middles_stored}
 use Rattle.booking.specs.Booking.{larger, smaller, is_spiral}
-use Rattle.booking.proofs.Figures.{gcd-next}
+use Rattle.booking.proofs.Figures.{gcd_next}
 use Rattle.split.specs.Limits.{word_step}
 use Rattle.split.specs.SubCell.{sub}
 use Rattle.split.specs.Parts.{splits_within}
 use Rattle.split.specs.Standing.{nowhere, corner_in, sub_places, fans_in}
 use Rattle.split.specs.work.Working.{SplitsLeft}
 use Rattle.split.specs.work.Spots.{standing_fans, Nesting, positioned, Spun}
-use Rattle.split.proofs.Labels.{spiral-is}
+use Rattle.split.proofs.Labels.{spiral_is}
 use Rattle.split.proofs.SubNumbers.{sub_cells}
-use Rattle.split.proofs.Parts.{not-spiral}
-use Rattle.split.proofs.Nested.{left-none, left-some, sub-sound}
-use Rattle.split.proofs.Putting.{inner-left}
+use Rattle.split.proofs.Parts.{not_spiral}
+use Rattle.split.proofs.Nested.{left_none, left_some, sub_sound}
+use Rattle.split.proofs.Putting.{inner_left}
 use Rattle.split.proofs.Stands.{fans_stop, fans_more}
-use Rattle.split.proofs.Fanned.{length_fans, fans_flat, nest-numbered}
+use Rattle.split.proofs.Fanned.{length_fans, fans_flat, nest_numbered}
 
 -- a place in the list of the numbers of places
 place_in : (l : List Place) (g : ℕ) (p : Place) → g < length l → place_at (all_numbers l) g ≡ get_or l g p
 place_in l g p h =
     let e : coordinates * g ≡ coordinates * g + 0 = omega arith in
-    let a = ap (λ n. get_or (all_numbers l) n nan) e ∙ numbers-at l g 0 p h (omega arith) in
-    let b = numbers-at l g 1 p h (omega arith) in
-    let c = numbers-at l g 2 p h (omega arith) in
+    let a = ap (λ n. get_or (all_numbers l) n nan) e ∙ numbers_at l g 0 p h (omega arith) in
+    let b = numbers_at l g 1 p h (omega arith) in
+    let c = numbers_at l g 2 p h (omega arith) in
     rw (a, b, c)
 
 -- the middle of a nest's loop goes by the places of the four nodes
 axis_ext : (u v : ℕ → Place) → ((k : ℕ) → k < 4 → u k ≡ v k) → (e : ℕ) → e < 3 → (i m : ℕ) → on_axis u e i m ≡ on_axis v e i m
 unfolding on_axis lo hi
 axis_ext u v same e h i m =
-    below-three (λ e. on_axis u e i m ≡ on_axis v e i m)
+    below_three (λ e. on_axis u e i m ≡ on_axis v e i m)
     (rw (same 0 (omega arith), same 1 (omega arith), same 2 (omega arith), same 3 (omega arith)) refl)
     (rw (same 0 (omega arith), same 1 (omega arith), same 2 (omega arith), same 3 (omega arith)) refl)
     (rw (same 0 (omega arith), same 1 (omega arith), same 2 (omega arith), same 3 (omega arith)) refl)
@@ -65,9 +65,9 @@ axis_ext u v same e h i m =
 
 module _ (c : Cell) (at : List Place) (four-long : length at ≡ 4) where
   -- the nodes numbered by position, their places by number
-  corner-same : (k : ℕ) → k < 4 → corner_place (all_numbers at) (positioned c) k ≡ corner_in at k
+  corner_same : (k : ℕ) → k < 4 → corner_place (all_numbers at) (positioned c) k ≡ corner_in at k
   unfolding positioned
-  corner-same k h = ap (place_at (all_numbers at)) (below-four (λ k. get_or (0 ∷ 1 ∷ 2 ∷ 3 ∷ []) k 0 ≡ k) refl refl refl refl k h) ∙ place_in at k nowhere (omega arith)
+  corner_same k h = ap (place_at (all_numbers at)) (below_four (λ k. get_or (0 ∷ 1 ∷ 2 ∷ 3 ∷ []) k 0 ≡ k) refl refl refl refl k h) ∙ place_in at k nowhere (omega arith)
 
   rank_same : (p : ℕ) → nest_rank (positioned c) p ≡ nest_rank c p
   unfolding positioned nest_rank nest_low
@@ -86,17 +86,17 @@ module _ (c : Cell) (at : List Place) (four-long : length at ≡ 4) where
   fans_same = refl
 
   module _ (nest : nest_edge (count_of c) < 3) (place : ℕ → Place) where
-    middle-same : (p : ℕ) → fan_middle (all_numbers at) place (positioned c) p ≡ nest_middle (corner_in at) c p
+    middle_same : (p : ℕ) → fan_middle (all_numbers at) place (positioned c) p ≡ nest_middle (corner_in at) c p
     unfolding fan_middle nest_middle
-    middle-same p =
+    middle_same p =
         rw (counts_same, lt-ltb (nest_edge (count_of c)) 3 nest, rank_same p)
-        (axis_ext (corner_place (all_numbers at) (positioned c)) (corner_in at) corner-same (nest_edge (count_of c)) nest (nest_rank c p) _)
+        (axis_ext (corner_place (all_numbers at) (positioned c)) (corner_in at) corner_same (nest_edge (count_of c)) nest (nest_rank c p) _)
 
-    pub middles-same : cell_middles (all_numbers at) place (positioned c) ≡ fans_in nest_middle at c
+    pub middles_same : cell_middles (all_numbers at) place (positioned c) ≡ fans_in nest_middle at c
     unfolding cell_middles fans_in loop_middle positioned
-    middles-same =
+    middles_same =
         (over_ext (loop_middle (all_numbers at) place (positioned c)) (λ p. pick (is_fan c p) (nest_middle (corner_in at) c p ∷ []) []) (crossings (edges_of c)) 0
-        (λ p _ _. ap₂ (λ (b : Bool) (m : Place). pick b (m ∷ []) []) (fan_same p) (middle-same p)))
+        (λ p _ _. ap₂ (λ (b : Bool) (m : Place). pick b (m ∷ []) []) (fan_same p) (middle_same p)))
 
 -- what is written of a nest
 pub fans_stored : {c : Cell} → Nesting c → (at : List Place) → length at ≡ 4 → (was : List Float) (i : ℕ) → coordinates * (i + length (fans_in nest_middle at c)) ≤ length was
@@ -105,7 +105,7 @@ pub fans_stored : {c : Cell} → Nesting c → (at : List Place) → length at �
 unfolding positioned
 fans_stored {c} N at four-long was i room {v} e {l} {is} {r} f p q =
     let u = positioned c in
-    let s : limited v ≡ u = ap limited e ∙ limited-same u N.near N.starts-six in
+    let s : limited v ≡ u = ap limited e ∙ limited_same u N.near N.starts_six in
     let M : MiddlesRoom u was i = record {
       below = nest_placeable u i N.nest;
       room = omega (arith, room, length_fans nest_middle at c, fans_same c at four-long);
@@ -113,7 +113,7 @@ fans_stored {c} N at four-long was i room {v} e {l} {is} {r} f p q =
     let S = middles_stored (all_numbers at) u was i M in
     let p' : r ≡ next_point (all_numbers at) u was i = p ∙ ap₂ (λ (l : List Float) (w : Cell). next_point l w was i) f s in
     let q' : is ≡ points_then (all_numbers at) u was i = q ∙ ap₂ (λ (l : List Float) (w : Cell). points_then l w was i) f s in
-    let T = stored_as S (ap all_numbers (middles-same c at four-long N.nest (place_at was))) refl in
+    let T = stored_as S (ap all_numbers (middles_same c at four-long N.nest (place_at was))) refl in
     record { area = q' ∙ T.area; after = ap (λ n. coordinates * n) p' ∙ T.after }
 
 module _ {c : Cell} {cell n b f left : ℕ} (W : Spun c cell n b f left) (at : List Place) where
@@ -123,43 +123,43 @@ module _ {c : Cell} {cell n b f left : ℕ} (W : Spun c cell n b f left) (at : L
   -- no split is left: the cell is a nest
   pub none_nesting : left ≡ 0 → Nesting c
   none_nesting z =
-      let e = not-spiral (count_of c) (left-none L z) L.some in
+      let e = not_spiral (count_of c) (left_none L z) L.some in
       record {
         near = L.sound.near;
-        starts-six = L.sound.starts-six;
-        nest = nest-numbered c (record { level = L.sound.level; corners = refl; first = e; second = refl }) (gcd-above (larger (count_of c)) (smaller (count_of c)) L.some W.divisor);
+        starts_six = L.sound.starts_six;
+        nest = nest_numbered c (record { level = L.sound.level; corners = refl; first = e; second = refl }) (gcd_above (larger (count_of c)) (smaller (count_of c)) L.some W.divisor);
       }
 
   pub none_fans : left ≡ 0 → standing_fans cell n b f at c ≡ fans_in nest_middle at c
   unfolding standing_fans
-  none_fans z = fans_stop cell n b f at c nest_middle (left-none L z)
+  none_fans z = fans_stop cell n b f at c nest_middle (left_none L z)
 
   pub none_fans_room : left ≡ 0 → (i : ℕ) {size : ℕ} → coordinates * (i + length (standing_fans cell n b f at c)) ≤ size → coordinates * (i + length (fans_in nest_middle at c)) ≤ size
   none_fans_room z i h = omega (arith, h, ap length (none_fans z))
 
   module _ (h : 0 < left) where
     S : is_spiral (count_of c) ≡ true
-    S = left-some L h
+    S = left_some L h
 
     some : 0 < smaller (count_of c)
-    some = (spiral-is (count_of c) S).0
+    some = (spiral_is (count_of c) S).0
 
     apart : smaller (count_of c) < larger (count_of c)
-    apart = (spiral-is (count_of c) S).1
+    apart = (spiral_is (count_of c) S).1
 
     -- the sub-cell that omits l is a nest
     module _ {u : Cell} {word : ℕ} (e : u ≡ sub c b f word 3) (g : word ≡ cell + word_step * (n + 1)) {at3 : List Place} (p : at3 ≡ sub_places (count_of c) at 3) where
-      is-l : u ≡ sub c b f (cell + word_step * (n + 1)) 3
-      is-l = e ∙ ap (λ w. sub c b f w 3) g
+      is_l : u ≡ sub c b f (cell + word_step * (n + 1)) 3
+      is_l = e ∙ ap (λ w. sub c b f w 3) g
 
       pub l_nesting : b + 2 * (larger (count_of c) + smaller (count_of c)) < 67108864 → Nesting u
       l_nesting few =
           let N = (sub_cells c L.sound.level some apart b f (cell + word_step * (n + 1))).omits-l in
-          let T = sub-sound c L.sound.level S b f L.below few (cell + word_step * (n + 1)) 3 (omega arith) N.level in
-          rw is-l (record {
+          let T = sub_sound c L.sound.level S b f L.below few (cell + word_step * (n + 1)) 3 (omega arith) N.level in
+          rw is_l (record {
             near = T.near;
-            starts-six = T.starts-six;
-            nest = nest-numbered (sub c b f (cell + word_step * (n + 1)) 3) N (gcd-above (larger (count_of c)) (smaller (count_of c)) some W.divisor);
+            starts_six = T.starts_six;
+            nest = nest_numbered (sub c b f (cell + word_step * (n + 1)) 3) N (gcd_above (larger (count_of c)) (smaller (count_of c)) some W.divisor);
           })
 
       -- and so on in the nested one
@@ -170,11 +170,11 @@ module _ {c : Cell} {cell n b f left : ℕ} (W : Spun c cell n b f left) (at : L
 
         pub next_spun : Spun v cell (n + 2) b' (f + 6) (left - 1)
         next_spun =
-            let N = (sub_cells c L.sound.level some apart b f (cell + word_step * (n + 2))).omits-k in
+            let N = (sub_cells c L.sound.level some apart b f (cell + word_step * (n + 2))).omits_k in
             let i : v ≡ sub c b f (cell + word_step * (n + 2)) 2 = e' ∙ ap (λ w. sub c b f w 2) g' in
             let d : gcd (larger (count_of v)) (smaller (count_of v)) ≡ gcd (larger (count_of c)) (smaller (count_of c)) =
-            ap (λ w. gcd (larger (count_of w)) (smaller (count_of w))) i ∙ ap₂ gcd N.first N.second ∙ gcd-next (larger (count_of c)) (smaller (count_of c)) some apart in
-            record { working = inner-left L h e' g' k; divisor = omega (arith, d, W.divisor) }
+            ap (λ w. gcd (larger (count_of w)) (smaller (count_of w))) i ∙ ap₂ gcd N.first N.second ∙ gcd_next (larger (count_of c)) (smaller (count_of c)) some apart in
+            record { working = inner_left L h e' g' k; divisor = omega (arith, d, W.divisor) }
 
         all_fans : standing_fans cell n b f at c ≡ fans_in nest_middle at3 u ++ rest
         unfolding standing_fans
@@ -183,7 +183,7 @@ module _ {c : Cell} {cell n b f left : ℕ} (W : Spun c cell n b f left) (at : L
             let s0 = sub c b f (cell + word_step * (n + 4 + 4 * splits_within (count_of c))) 0 in
             let j = fans_flat nest_middle (sub_places (count_of c) at 1) s1 (sub_cells c L.sound.level some apart b f (cell + word_step * (n + 3 + 4 * splits_within (count_of c)))).omits-j in
             let i = fans_flat nest_middle (sub_places (count_of c) at 0) s0 (sub_cells c L.sound.level some apart b f (cell + word_step * (n + 4 + 4 * splits_within (count_of c)))).omits-i in
-            rw (p, is-l, p', k, e', g')
+            rw (p, is_l, p', k, e', g')
             (fans_more cell n b f at c nest_middle L.sound.level S
             ∙ rw (j, i) (ap (λ (l : List Place). fans_in nest_middle (sub_places (count_of c) at 3) (sub c b f (cell + word_step * (n + 1)) 3) ++ l) (append-nil _)))
 
@@ -191,12 +191,12 @@ module _ {c : Cell} {cell n b f left : ℕ} (W : Spun c cell n b f left) (at : L
         sizes = ap length all_fans ∙ length-append (fans_in nest_middle at3 u) rest
 
         module _ (was : List Float) (i : ℕ) (room : coordinates * (i + length (standing_fans cell n b f at c)) ≤ length was) where
-          pub first-room : coordinates * (i + length (fans_in nest_middle at3 u)) ≤ length was
-          first-room = omega (arith, room, sizes)
+          pub first_room : coordinates * (i + length (fans_in nest_middle at3 u)) ≤ length was
+          first_room = omega (arith, room, sizes)
 
           module _ {mid : List Float} (j : ℕ) (T : Stored was (coordinates * i) (all_numbers (fans_in nest_middle at3 u)) mid (coordinates * j)) where
             pub fans_room : coordinates * (j + length rest) ≤ length mid
-            fans_room = omega (arith, room, sizes, T.after, stored_long T, length-numbers (fans_in nest_middle at3 u))
+            fans_room = omega (arith, room, sizes, T.after, stored_long T, length_numbers (fans_in nest_middle at3 u))
 
             pub fans_all : {is : List Float} {r : ℕ} → Stored mid (coordinates * j) (all_numbers rest) is r → Stored was (coordinates * i) (all_numbers (standing_fans cell n b f at c)) is r
             fans_all Q = stored_as (points-then (fans_in nest_middle at3 u) rest T Q) (ap all_numbers (sym all_fans)) refl

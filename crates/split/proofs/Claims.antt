@@ -5,7 +5,7 @@ pub use Rattle.split.proofs.Parts.{parts_counted, parts_numbered}
 pub use Rattle.split.proofs.Stands.{standing_parts}
 pub use Rattle.split.proofs.Lengths.{drawn_counted, drawn_booked, splits_few}
 pub use Rattle.split.proofs.Counted.{booked_by_parts, drawn_by_parts}
-pub use Rattle.split.proofs.Answers.{answerByParts, bookingRight}
+pub use Rattle.split.proofs.Answers.{answer_by_parts, booking_right}
 pub use Rattle.split.proofs.Gained.{drawn_gained, splits_told}
 pub use Rattle.split.proofs.Whole.{parts_refine}
 pub use Rattle.split.proofs.Inner.{inner_numbered}
@@ -20,7 +20,7 @@ pub use Rattle.split.proofs.Ordered.{drawn_ordered}
 pub use Rattle.split.proofs.Happens.{split_happens, curves_mix}
 pub use Rattle.split.proofs.Examples.{examples_hold}
 use Rattle.split.specs.claims.Claims.{LabelsFirst}
-use Rattle.split.proofs.Labels.{spiral-is, first_labelling}
+use Rattle.split.proofs.Labels.{spiral_is, first_labelling}
 
 pub labels_first : LabelsFirst
-labels_first w K S = let (some, more) = spiral-is w S in first_labelling w K some more
+labels_first w K S = let (some, more) = spiral_is w S in first_labelling w K some more

@@ -6,19 +6,19 @@ use native.Mathlib.Omega.{arith}
 use native.Mathlib.Decide.{ℕ_discrete}
 use Rattle.counting.specs.Lists.{pre}
 use Rattle.counting.specs.Pack.{row, col}
-use Rattle.counting.proofs.Pack.{row_lt, col-lt, unpack, row_pack, col_pack, pack_lt}
+use Rattle.counting.proofs.Pack.{row_lt, col_lt, unpack, row_pack, col_pack, pack_lt}
 use Rattle.walk.specs.Darts.{half}
 use Rattle.manifold.specs.Triangle.{Side}
 use Rattle.manifold.specs.claims.Piece.{Local, Piece, slot_of, mate_of, segment_of}
 use Rattle.manifold.specs.claims.Complex.{Joins, SameEnds, Whole, Shares}
-use Rattle.manifold.proofs.Piece.{segment-cases}
+use Rattle.manifold.proofs.Piece.{segment_cases}
 use Rattle.split.specs.claims.Family.{Family, HasSegment, Meets, Outer, Covered, Refines, Refined}
 use Rattle.split.specs.work.Family.{PiecesSound, fine}
-use Rattle.split.proofs.Family.{turn-ends, via_ends, face_of, fine-sound, fine-linked, kind}
+use Rattle.split.proofs.Family.{turn_ends, via_ends, face_of, fine_sound, fine_linked, kind}
 
 -- darts of one segment in one piece have the same ends
-own-ends : (A : Local) → Piece A → (d e : ℕ) → Joins A d → Joins A e → segment_of A d ≡ segment_of A e → SameEnds A d A e
-own-ends A P d e jd je q = go (segment-cases A P d e jd je q)
+own_ends : (A : Local) → Piece A → (d e : ℕ) → Joins A d → Joins A e → segment_of A d ≡ segment_of A e → SameEnds A d A e
+own_ends A P d e jd je q = go (segment_cases A P d e jd je q)
   where
     go : (slot_of A d ≡ slot_of A e) × ((half d ≡ half e) ⊎ (half d ≡ mate_of A e)) → SameEnds A d A e
     go (f, inl h) = inl (ap A.number h, ap A.number (ap₂ A.mate f h))
@@ -39,20 +39,20 @@ module _ (A : Local) (m : ℕ) (B B' : ℕ → Local) (Face Point : ℕ → Type
   ext_cover : (d : ℕ) → Joins A d → Covered A m B' d
   ext_cover d on =
       let u = R.cover d on in
-      let (e, j, q, p) = subst (AlongIt d) (same u.j u.j-lt) (u.e, u.on, u.is, u.point) in
-      record { j = u.j; j-lt = u.j-lt; e = e; on = j; is = q; point = p }
+      let (e, j, q, p) = subst (AlongIt d) (same u.j u.j_lt) (u.e, u.on, u.is, u.point) in
+      record { j = u.j; j_lt = u.j_lt; e = e; on = j; is = q; point = p }
 
   ext_paired : (j e : ℕ) → j < m → Joins (B' j) e → Face ((B' j).name (slot_of (B' j) e)) → (k : ℕ) × (k < m) × (k ≢ j) × HasSegment (B' k) (segment_of (B' j) e)
   ext_paired j e l =
       subst (λ X. Joins X e → Face (X.name (slot_of X e)) → (k : ℕ) × (k < m) × (k ≢ j) × HasSegment (B' k) (segment_of X e)) (same j l)
-      (λ on f. let (k, lk, ne, r) = R.inner-paired j e l on f in (k, lk, ne, subst (λ X. HasSegment X (segment_of (B j) e)) (same k lk) r))
+      (λ on f. let (k, lk, ne, r) = R.inner_paired j e l on f in (k, lk, ne, subst (λ X. HasSegment X (segment_of (B j) e)) (same k lk) r))
 
   ext_ends : (j k d e : ℕ) → j < m → k < m → Joins (B' j) d → Joins (B' k) e → Face ((B' j).name (slot_of (B' j) d)) → segment_of (B' j) d ≡ segment_of (B' k) e
       → SameEnds (B' j) d (B' k) e
   ext_ends j k d e lj lk =
       subst (λ X. Joins X d → Joins (B' k) e → Face (X.name (slot_of X d)) → segment_of X d ≡ segment_of (B' k) e → SameEnds X d (B' k) e) (same j lj)
       (subst (λ Y. Joins (B j) d → Joins Y e → Face ((B j).name (slot_of (B j) d)) → segment_of (B j) d ≡ segment_of Y e → SameEnds (B j) d Y e) (same k lk)
-      (R.inner-ends j k d e lj lk))
+      (R.inner_ends j k d e lj lk))
 
   pub refines_ext : Refines A m B' Face Point
   refines_ext = record {
@@ -61,11 +61,11 @@ module _ (A : Local) (m : ℕ) (B B' : ℕ → Local) (Face Point : ℕ → Type
     cover = ext_cover;
     once = λ j k d lj lk ne on r s. R.once j k d lj lk ne on (back_runs j lj (segment_of A d) r) (back_runs k lk (segment_of A d) s);
     kind = λ j e l. subst (λ X. Joins X e → Outer A X e ⊎ Face (X.name (slot_of X e))) (same j l) (R.kind j e l);
-    inner-few = λ j k l e lj lk ll.
+    inner_few = λ j k l e lj lk ll.
         subst (λ X. Joins X e → Face (X.name (slot_of X e)) → HasSegment (B' k) (segment_of X e) → HasSegment (B' l) (segment_of X e) → j ≢ k → j ≢ l → k ≢ l → ⊥) (same j lj)
-        (λ on f r s. R.inner-few j k l e lj lk ll on f (back_runs k lk (segment_of (B j) e) r) (back_runs l ll (segment_of (B j) e) s));
-    inner-ends = ext_ends;
-    inner-paired = ext_paired;
+        (λ on f r s. R.inner_few j k l e lj lk ll on f (back_runs k lk (segment_of (B j) e) r) (back_runs l ll (segment_of (B j) e) s));
+    inner_ends = ext_ends;
+    inner_paired = ext_paired;
     points = λ j g l v. R.points j g l (back_meets j g l v);
     linked = λ g Q pass a b la lb u v.
         R.linked g Q (λ x y lx ly s. pass x y lx ly (subst (λ X. Shares X (B' y) g) (same x lx) (subst (λ Y. Shares (B x) Y g) (same y ly) s))) a b la lb
@@ -75,9 +75,9 @@ module _ (A : Local) (m : ℕ) (B B' : ℕ → Local) (Face Point : ℕ → Type
 -- inner faces and crossings by their names and numbers alone: those from f and from b on, where the piece's own names are below f
 module _ (A : Local) (m : ℕ) (B : ℕ → Local) (Face Point : ℕ → Type 0) (P : Piece A) (R : Refines A m B Face Point) (b f : ℕ)
     (face_ge : (x : ℕ) → Face x → f ≤ x) (point_ge : (g : ℕ) → Point g → b ≤ g) (under : (s : ℕ) → s < A.slots → A.name s < f) where
-  is-face : (j e : ℕ) → j < m → Joins (B j) e → f ≤ (B j).name (slot_of (B j) e) → Face ((B j).name (slot_of (B j) e))
+  is_face : (j e : ℕ) → j < m → Joins (B j) e → f ≤ (B j).name (slot_of (B j) e) → Face ((B j).name (slot_of (B j) e))
   unfolding face_of
-  is-face j e l on h =
+  is_face j e l on h =
       ⊎_elim
       (λ (o : Outer A (B j) e). absurd (let q = ap face_of o.is in omega (arith, h, q, under (slot_of A o.d) (P.slot o.d o.on.lt))))
       (λ (x : Face ((B j).name (slot_of (B j) e))). x)
@@ -90,9 +90,9 @@ module _ (A : Local) (m : ℕ) (B : ℕ → Local) (Face Point : ℕ → Type 0)
     cover = R.cover;
     once = R.once;
     kind = λ j e l on. ⊎_elim (λ o. inl o) (λ x. inr (face_ge ((B j).name (slot_of (B j) e)) x)) (R.kind j e l on);
-    inner-few = λ j k l e lj lk ll on h. R.inner-few j k l e lj lk ll on (is-face j e lj on h);
-    inner-ends = λ j k d e lj lk jd je h. R.inner-ends j k d e lj lk jd je (is-face j d lj jd h);
-    inner-paired = λ j e l on h. R.inner-paired j e l on (is-face j e l on h);
+    inner_few = λ j k l e lj lk ll on h. R.inner_few j k l e lj lk ll on (is_face j e lj on h);
+    inner_ends = λ j k d e lj lk jd je h. R.inner_ends j k d e lj lk jd je (is_face j d lj jd h);
+    inner_paired = λ j e l on h. R.inner_paired j e l on (is_face j e l on h);
     points = λ j g l v. ⊎_elim (λ u. inl u) (λ p. inr (point_ge g p)) (R.points j g l v);
     linked = R.linked;
   }
@@ -102,12 +102,12 @@ pub self : (A : Local) → Piece A → Refines A 1 (λ j. A) (λ f. ⊥) (λ g. 
 self A P = record {
   piece = λ j l. P;
   whole = λ h j l. h;
-  cover = λ d j. record { j = 0; j-lt = omega arith; e = d; on = j; is = refl; point = refl };
+  cover = λ d j. record { j = 0; j_lt = omega arith; e = d; on = j; is = refl; point = refl };
   once = λ j k d lj lk ne on r s. ne (omega arith);
   kind = λ j e l on. inl (record { d = e; on = on; is = refl; ends = inl (refl, refl) });
-  inner-few = λ j k l e lj lk ll on f. absurd f;
-  inner-ends = λ j k d e lj lk jd je f. absurd f;
-  inner-paired = λ j e l on f. absurd f;
+  inner_few = λ j k l e lj lk ll on f. absurd f;
+  inner_ends = λ j k d e lj lk jd je f. absurd f;
+  inner_paired = λ j e l on f. absurd f;
   points = λ j g l m. inl m;
   linked = λ g Q pass a b la lb m n q. subst Q (omega arith) q;
 }
@@ -117,14 +117,14 @@ module _ (A : Local) (m : ℕ) (B : ℕ → Local) (Face Point : ℕ → Type 0)
   abbrev level : Family
   level = record { size = m; at = B }
 
-  outer-not : (B' : Local) (e : ℕ) → Outer A B' e → Face (B'.name (slot_of B' e)) → ⊥
+  outer_not : (B' : Local) (e : ℕ) → Outer A B' e → Face (B'.name (slot_of B' e)) → ⊥
   unfolding face_of
-  outer-not B' e o f = apart (slot_of A o.d) (P.slot o.d o.on.lt) (subst (λ s. Face (face_of s)) o.is f)
+  outer_not B' e o f = apart (slot_of A o.d) (P.slot o.d o.on.lt) (subst (λ s. Face (face_of s)) o.is f)
 
   -- the parts of a piece are sound
-  pub parts-sound : PiecesSound level
+  pub parts_sound : PiecesSound level
   unfolding face_of
-  parts-sound = record {
+  parts_sound = record {
     piece = R.piece;
     few = λ σ a b c la lb lc u v w. few σ a b c la lb lc u v w (R.kind a u.d la u.on);
     ends = λ a b d e la lb jd je q. ends a b d e la lb jd je q (R.kind a d la jd) (R.kind b e lb je);
@@ -136,16 +136,16 @@ module _ (A : Local) (m : ℕ) (B : ℕ → Local) (Face Point : ℕ → Type 0)
       few : (σ : Side) (a b c : ℕ) → a < m → b < m → c < m → (u : HasSegment (B a) σ) → HasSegment (B b) σ → HasSegment (B c) σ
           → Outer A (B a) u.d ⊎ Face ((B a).name (slot_of (B a) u.d)) → a ≢ b → a ≢ c → b ≢ c → ⊥
       few σ a b c la lb lc u v w (inl o) x y z = R.once a b o.d la lb x o.on (to u (sym u.is ∙ o.is)) (to v (sym u.is ∙ o.is))
-      few σ a b c la lb lc u v w (inr f) x y z = R.inner-few a b c u.d la lb lc u.on f (to v (sym u.is)) (to w (sym u.is)) x y z
+      few σ a b c la lb lc u v w (inr f) x y z = R.inner_few a b c u.d la lb lc u.on f (to v (sym u.is)) (to w (sym u.is)) x y z
 
       ends : (a b d e : ℕ) → a < m → b < m → Joins (B a) d → Joins (B b) e → segment_of (B a) d ≡ segment_of (B b) e
           → Outer A (B a) d ⊎ Face ((B a).name (slot_of (B a) d)) → Outer A (B b) e ⊎ Face ((B b).name (slot_of (B b) e)) → SameEnds (B a) d (B b) e
       ends a b d e la lb jd je q (inl o) (inl p) =
           via_ends (B a) d A p.d (B b) e
-          (via_ends (B a) d A o.d A p.d o.ends (own-ends A P o.d p.d o.on p.on (sym o.is ∙ q ∙ p.is)))
-          (turn-ends (B b) e A p.d p.ends)
-      ends a b d e la lb jd je q (inl o) (inr f) = absurd (outer-not (B a) d o (subst (λ s. Face (face_of s)) (sym q) f))
-      ends a b d e la lb jd je q (inr f) p = R.inner-ends a b d e la lb jd je f q
+          (via_ends (B a) d A o.d A p.d o.ends (own_ends A P o.d p.d o.on p.on (sym o.is ∙ q ∙ p.is)))
+          (turn_ends (B b) e A p.d p.ends)
+      ends a b d e la lb jd je q (inl o) (inr f) = absurd (outer_not (B a) d o (subst (λ s. Face (face_of s)) (sym q) f))
+      ends a b d e la lb jd je q (inr f) p = R.inner_ends a b d e la lb jd je f q
 
   -- each part in parts again
   module _ (k : ℕ → ℕ) (C : ℕ → ℕ → Local) (G H : ℕ → ℕ → Type 0) (Q : Refined level k C G H)
@@ -160,11 +160,11 @@ module _ (A : Local) (m : ℕ) (B : ℕ → Local) (Face Point : ℕ → Type 0)
     AnyPoint g = Point g ⊎ ((j : ℕ) × (j < m) × H j g)
 
     sound : PiecesSound (fine level k C)
-    sound = fine-sound level k C G H Q parts-sound
+    sound = fine_sound level k C G H Q parts_sound
 
     -- a segment of a part of a part: the part's, or on a new face
     abbrev up : (j l : ℕ) → j < m → l < k j → (σ : Side) → HasSegment (C j l) σ → HasSegment (B j) σ ⊎ G j (face_of σ)
-    up = kind level k C G H Q parts-sound
+    up = kind level k C G H Q parts_sound
 
     -- a dart of B' along the segment of the dart d of A
     pub record Made (d x : ℕ) (B' : Local) : Type 0 where
@@ -176,11 +176,11 @@ module _ (A : Local) (m : ℕ) (B : ℕ → Local) (Face Point : ℕ → Type 0)
     cover : (d : ℕ) → Joins A d → Covered A (pre k m) (λ x. C (row k m x) (col k m x)) d
     cover d on =
         let u = R.cover d on in
-        let v = (S u.j u.j-lt).cover u.e u.on in
-        let l = v.j-lt in
-        let q : C (row k m (pre k u.j + v.j)) (col k m (pre k u.j + v.j)) ≡ C u.j v.j = ap₂ C (row_pack k m u.j v.j u.j-lt l) (col_pack k m u.j v.j u.j-lt l) in
+        let v = (S u.j u.j_lt).cover u.e u.on in
+        let l = v.j_lt in
+        let q : C (row k m (pre k u.j + v.j)) (col k m (pre k u.j + v.j)) ≡ C u.j v.j = ap₂ C (row_pack k m u.j v.j u.j_lt l) (col_pack k m u.j v.j u.j_lt l) in
         subst (λ B'. Made d (pre k u.j + v.j) B' → Covered A (pre k m) (λ x. C (row k m x) (col k m x)) d) q
-        (λ z. record { j = pre k u.j + v.j; j-lt = pack_lt k m u.j v.j u.j-lt l; e = z.e; on = z.on; is = z.is; point = z.point })
+        (λ z. record { j = pre k u.j + v.j; j_lt = pack_lt k m u.j v.j u.j_lt l; e = z.e; on = z.on; is = z.is; point = z.point })
         (record { e = v.e; on = v.on; is = v.is ∙ u.is; point = v.point ∙ u.point })
 
     abbrev D : ℕ → Local
@@ -191,7 +191,7 @@ module _ (A : Local) (m : ℕ) (B : ℕ → Local) (Face Point : ℕ → Type 0)
       rl = row_lt k m x l
 
       abbrev il : col k m x < k (row k m x)
-      il = col-lt k m x l
+      il = col_lt k m x l
 
     one_place : (x y : ℕ) → x < pre k m → y < pre k m → row k m x ≡ row k m y → col k m x ≡ col k m y → x ≡ y
     one_place x y lx ly p q = sym (unpack k m x lx) ∙ ap₂ (λ a b. pre k a + b) p q ∙ unpack k m y ly
@@ -232,9 +232,9 @@ module _ (A : Local) (m : ℕ) (B : ℕ → Local) (Face Point : ℕ → Type 0)
     found : (j l : ℕ) → j < m → l < k j → (x : ℕ) × (x < pre k m) × (row k m x ≡ j) × (col k m x ≡ l)
     found j l lj ll = (pre k j + l, pack_lt k m j l lj ll, row_pack k m j l lj ll, col_pack k m j l lj ll)
 
-    inner-paired : (x e : ℕ) → x < pre k m → Joins (D x) e → AnyFace ((D x).name (slot_of (D x) e)) → (y : ℕ) × (y < pre k m) × (y ≢ x) × HasSegment (D y) (segment_of (D x) e)
+    inner_paired : (x e : ℕ) → x < pre k m → Joins (D x) e → AnyFace ((D x).name (slot_of (D x) e)) → (y : ℕ) × (y < pre k m) × (y ≢ x) × HasSegment (D y) (segment_of (D x) e)
     unfolding face_of
-    inner-paired x e l on f = go f ((S (row k m x) (rl l)).kind (col k m x) e (il l) on)
+    inner_paired x e l on f = go f ((S (row k m x) (rl l)).kind (col k m x) e (il l) on)
       where
         σ : Side
         σ = segment_of (D x) e
@@ -247,14 +247,14 @@ module _ (A : Local) (m : ℕ) (B : ℕ → Local) (Face Point : ℕ → Type 0)
         go : AnyFace ((D x).name (slot_of (D x) e)) → Outer (B (row k m x)) (D x) e ⊎ G (row k m x) ((D x).name (slot_of (D x) e))
             → (y : ℕ) × (y < pre k m) × (y ≢ x) × HasSegment (D y) (segment_of (D x) e)
         go h (inr g) =
-            let (a, la, ne, v) = (S (row k m x) (rl l)).inner-paired (col k m x) e (il l) on g in
+            let (a, la, ne, v) = (S (row k m x) (rl l)).inner_paired (col k m x) e (il l) on g in
             put (row k m x) a (rl l) la (λ p q. ne (sym q)) v
         go (inr (j, lj, g)) (inl o) =
             absurd (Q.inner j (row k m x) (slot_of (B (row k m x)) o.d) lj (rl l) ((R.piece (row k m x) (rl l)).slot o.d o.on.lt) (subst (λ s. G j (face_of s)) o.is g))
         go (inl h) (inl o) =
-            let (j, lj, ne, v) = R.inner-paired (row k m x) o.d (rl l) o.on (subst (λ s. Face (face_of s)) o.is h) in
+            let (j, lj, ne, v) = R.inner_paired (row k m x) o.d (rl l) o.on (subst (λ s. Face (face_of s)) o.is h) in
             let u = (S j lj).cover v.d v.on in
-            put j u.j lj u.j-lt (λ p q. ne (sym p)) (record { d = u.e; on = u.on; is = u.is ∙ v.is ∙ sym o.is })
+            put j u.j lj u.j_lt (λ p q. ne (sym p)) (record { d = u.e; on = u.on; is = u.is ∙ v.is ∙ sym o.is })
 
     points : (x g : ℕ) → x < pre k m → Meets (D x) g → Meets A g ⊎ AnyPoint g
     points x g l v = first ((S (row k m x) (rl l)).points (col k m x) g (il l) v)
@@ -272,9 +272,9 @@ module _ (A : Local) (m : ℕ) (B : ℕ → Local) (Face Point : ℕ → Type 0)
       cover = cover;
       once = once;
       kind = kind-at;
-      inner-few = λ x y z e lx ly lz on f u v. sound.few (segment_of (D x) e) x y z lx ly lz (record { d = e; on = on; is = refl }) u v;
-      inner-ends = λ x y d e lx ly jd je f q. sound.ends x y d e lx ly jd je q;
-      inner-paired = inner-paired;
+      inner_few = λ x y z e lx ly lz on f u v. sound.few (segment_of (D x) e) x y z lx ly lz (record { d = e; on = on; is = refl }) u v;
+      inner_ends = λ x y d e lx ly jd je f q. sound.ends x y d e lx ly jd je q;
+      inner_paired = inner_paired;
       points = points;
-      linked = λ g. fine-linked level k C G H Q parts-sound g (R.linked g);
+      linked = λ g. fine_linked level k C G H Q parts_sound g (R.linked g);
     }

@@ -11,13 +11,13 @@ use borrow.Author.Tests.{eqb-true, eqb-false, eq-eqb, le-ltb}
 use Rattle.counting.specs.Pick.{pick}
 use Rattle.counting.specs.Lists.{over, it}
 use Rattle.counting.proofs.Range.{over_ext}
-use Rattle.counting.proofs.Lists.{map-over}
+use Rattle.counting.proofs.Lists.{map_over}
 use Rattle.walk.specs.Darts.{Loop, half, rev}
 use Rattle.walk.specs.Step as walk
 use Rattle.walk.specs.Walk.{Status, home, off, on, status, turn, size}
-use Rattle.walk.proofs.Iterate.{it-suc}
-use Rattle.walk.proofs.Curve.{loop-length, loop-next}
-use Rattle.walk.proofs.Found.{turn-home, turn-off, turn_on}
+use Rattle.walk.proofs.Iterate.{it_suc}
+use Rattle.walk.proofs.Curve.{loop_length, loop_next}
+use Rattle.walk.proofs.Found.{turn_home, turn_off, turn_on}
 use Rattle.walk.proofs.Rest.{rest-start, rest_end}
 use Rattle.manifold.specs.Triangle.{Corner, cross, Side, seg}
 use Rattle.manifold.specs.claims.Plain.{tri}
@@ -32,11 +32,11 @@ use Rattle.cell.specs.Triangles.{number_of, loop_triangles, asked_triangles, tri
 use Rattle.cell.specs.Level.{is_level_cell}
 use Rattle.cell.specs.claims.Polygons.{local_of, polygon_of, named}
 use Rattle.cell.proofs.Mates.{darts}
-use Rattle.cell.proofs.Polygons.{loop-named}
+use Rattle.cell.proofs.Polygons.{loop_named}
 use Rattle.booking.specs.claims.Booking.{other_length}
 use Rattle.booking.proofs.Numbers.{not_three}
 use Rattle.booking.proofs.Closed as closed
-use Rattle.booking.proofs.Corners.{is_in, loop-of, same-corner, size_is}
+use Rattle.booking.proofs.Corners.{is_in, loop-of, same_corner, size_is}
 use Rattle.split.specs.Parts.{own_corners}
 use Rattle.split.specs.claims.Five.{goes, own_piece}
 use Rattle.split.specs.claims.Claims.{loop_in}
@@ -55,14 +55,14 @@ module _ (c : Cell) (K : is_level_cell (count_of c) ≡ true) where
   t = onward (own_piece c)
 
   -- a crossing goes exactly if it is in a corner triangle
-  pub goes-is : (x : ℕ) → goes c x ≡ is_in E x
+  pub goes_is : (x : ℕ) → goes c x ≡ is_in E x
   unfolding goes
-  goes-is x = refl
+  goes_is x = refl
 
   -- the part's step: as in the cell where the crossing goes, and none where it stays
-  step-goes : (d : ℕ) → goes c (d / 2) ≡ true → t d ≡ s d
+  step_goes : (d : ℕ) → goes c (d / 2) ≡ true → t d ≡ s d
   unfolding step walk.step walk.land walk.face
-  step-goes d h = rw h
+  step_goes d h = rw h
 
   step_stays : (d : ℕ) → goes c (d / 2) ≡ false → t d ≡ 2 * N
   unfolding walk.step walk.land walk.face
@@ -71,13 +71,13 @@ module _ (c : Cell) (K : is_level_cell (count_of c) ≡ true) where
   -- from a crossing that goes a step leads to one that goes
   goes_on : (d : ℕ) → d < 2 * N → goes c (d / 2) ≡ true → goes c (s d / 2) ≡ true
   goes_on d l h =
-      let f : is_in E (d / 2) ≡ true = sym (goes-is (d / 2)) ∙ h in
+      let f : is_in E (d / 2) ≡ true = sym (goes_is (d / 2)) ∙ h in
       let L : Loop (2 * N) s d 3 = rw f at (loop-of E K d l) in
       go (is_in E (s d / 2)) refl
-      (loop-length (2 * N) N s rev half (darts E) (loop-next (2 * N) N s rev half (darts E) L) (loop-of E K (s d) (closed.goes E K d l)))
+      (loop_length (2 * N) N s rev half (darts E) (loop_next (2 * N) N s rev half (darts E) L) (loop-of E K (s d) (closed.goes E K d l)))
     where
       go : (b : Bool) → is_in E (s d / 2) ≡ b → 3 ≡ pick (is_in E (s d / 2)) 3 (other_length (count_of c)) → goes c (s d / 2) ≡ true
-      go true e q = goes-is (s d / 2) ∙ e
+      go true e q = goes_is (s d / 2) ∙ e
       go false e q = absurd (not_three (count_of c) (sym (q ∙ ap (λ b. pick b 3 (other_length (count_of c))) e)))
 
   pub record Gone (k d : ℕ) : Type 0 where
@@ -90,24 +90,24 @@ module _ (c : Cell) (K : is_level_cell (count_of c) ≡ true) where
   gone zero d l h = record { same = refl; goes_too = h; live = l }
   gone (suc k) d l h =
       let G = gone k d l h in
-      let e = it-suc s k d in
+      let e = it_suc s k d in
       record {
-        same = it-suc t k d ∙ ap t G.same ∙ step-goes (it s k d) G.goes_too ∙ sym e;
+        same = it_suc t k d ∙ ap t G.same ∙ step_goes (it s k d) G.goes_too ∙ sym e;
         goes_too = subst (λ x. goes c (x / 2) ≡ true) (sym e) (goes_on (it s k d) G.live G.goes_too);
         live = subst (λ x. x < 2 * N) (sym e) (closed.goes E K (it s k d) G.live);
       }
 
-  turn-same : (p n k d : ℕ) → d < 2 * N → goes c (d / 2) ≡ true → turn t (status (2 * N) p) n k d ≡ turn s (status (2 * N) p) n k d
+  turn_same : (p n k d : ℕ) → d < 2 * N → goes c (d / 2) ≡ true → turn t (status (2 * N) p) n k d ≡ turn s (status (2 * N) p) n k d
   unfolding turn
-  turn-same p zero k d l h = refl
-  turn-same p (suc n) k d l h = go (turn-same p n (suc k) (s d) (closed.goes E K d l) (goes_on d l h)) (status (2 * N) p d) refl
+  turn_same p zero k d l h = refl
+  turn_same p (suc n) k d l h = go (turn_same p n (suc k) (s d) (closed.goes E K d l) (goes_on d l h)) (status (2 * N) p d) refl
     where
       go : turn t (status (2 * N) p) n (suc k) (s d) ≡ turn s (status (2 * N) p) n (suc k) (s d)
           → (x : Status) → status (2 * N) p d ≡ x → turn t (status (2 * N) p) (suc n) k d ≡ turn s (status (2 * N) p) (suc n) k d
-      go ih home e = turn-home t (status (2 * N) p) n k d e ∙ sym (turn-home s (status (2 * N) p) n k d e)
-      go ih off e = turn-off t (status (2 * N) p) n k d e ∙ sym (turn-off s (status (2 * N) p) n k d e)
+      go ih home e = turn_home t (status (2 * N) p) n k d e ∙ sym (turn_home s (status (2 * N) p) n k d e)
+      go ih off e = turn_off t (status (2 * N) p) n k d e ∙ sym (turn_off s (status (2 * N) p) n k d e)
       go ih on e =
-          turn_on t (status (2 * N) p) n k d e ∙ ap (turn t (status (2 * N) p) n (suc k)) (step-goes d h) ∙ ih
+          turn_on t (status (2 * N) p) n k d e ∙ ap (turn t (status (2 * N) p) n (suc k)) (step_goes d h) ∙ ih
           ∙ sym (turn_on s (status (2 * N) p) n k d e)
 
   module _ (p : ℕ) (l : p < N) where
@@ -118,46 +118,46 @@ module _ (c : Cell) (K : is_level_cell (count_of c) ≡ true) where
     first_goes h = subst (λ x. goes c x ≡ true) (sym at_p) h
 
     -- the loop from p: of length 3 where p goes and is its least crossing, else none
-    size-goes : goes c p ≡ true → size_of (own_piece c) p ≡ loop_size E p
+    size_goes : goes c p ≡ true → size_of (own_piece c) p ≡ loop_size E p
     unfolding size loop_size
-    size-goes h =
+    size_goes h =
         let g = first_goes h in
-        ap (turn t (status (2 * N) p) N 1) (step-goes (2 * p) g)
-        ∙ turn-same p N 1 (s (2 * p)) (closed.goes E K (2 * p) (omega arith)) (goes_on (2 * p) (omega arith) g)
+        ap (turn t (status (2 * N) p) N 1) (step_goes (2 * p) g)
+        ∙ turn_same p N 1 (s (2 * p)) (closed.goes E K (2 * p) (omega arith)) (goes_on (2 * p) (omega arith) g)
 
-    size-stays : goes c p ≡ false → size_of (own_piece c) p ≡ 0
-    size-stays h =
+    size_stays : goes c p ≡ false → size_of (own_piece c) p ≡ 0
+    size_stays h =
         rest-start N t p (t (2 * p)) refl ∙ rest_end N t p 1 (t (2 * p)) (omega arith) (omega (arith, step_stays (2 * p) (subst (λ x. goes c x ≡ false) (sym at_p) h)))
 
-    three-goes : loop_size E p ≡ 3 → goes c p ≡ true
+    three_goes : loop_size E p ≡ 3 → goes c p ≡ true
     unfolding it
-    three-goes e = goes-is p ∙ sym (ap (is_in E) at_p) ∙ same-corner E K p l (omega arith) 0 (omega arith) ∙ eq-eqb (loop_size E p) 3 e
+    three_goes e = goes_is p ∙ sym (ap (is_in E) at_p) ∙ same_corner E K p l (omega arith) 0 (omega arith) ∙ eq-eqb (loop_size E p) 3 e
 
-    pub size-three : loop_size E p ≡ 3 → size_of (own_piece c) p ≡ 3
-    size-three e = size-goes (three-goes e) ∙ e
+    pub size_three : loop_size E p ≡ 3 → size_of (own_piece c) p ≡ 3
+    size_three e = size_goes (three_goes e) ∙ e
 
     pub size_none : loop_size E p ≢ 3 → size_of (own_piece c) p ≡ 0
     size_none ne = go (goes c p) refl
       where
         go : (b : Bool) → goes c p ≡ b → size_of (own_piece c) p ≡ 0
-        go false e = size-stays e
+        go false e = size_stays e
         go true e =
-            size-goes e
+            size_goes e
             ∙ ⊎_elim (λ (z : loop_size E p ≡ 0). z)
-            (λ (z : 0 < loop_size E p). absurd (ne (size_is E K p l z ∙ ap (λ b. pick b 3 (other_length (count_of c))) (sym (goes-is p) ∙ e))))
+            (λ (z : 0 < loop_size E p). absurd (ne (size_is E K p l z ∙ ap (λ b. pick b 3 (other_length (count_of c))) (sym (goes_is p) ∙ e))))
             (eq-zero-or-pos (loop_size E p))
 
 -- the triangles of a loop of three, and of none
-three-triangle : (G : Polygon) → G.n ≡ 3 → triangles G ≡ tri (corner G 0) (corner G 1) (corner G 2) (segment G 0) (segment G 1) (segment G 2) ∷ []
+three_triangle : (G : Polygon) → G.n ≡ 3 → triangles G ≡ tri (corner G 0) (corner G 1) (corner G 2) (segment G 0) (segment G 1) (segment G 2) ∷ []
 unfolding triangles shape over
-three-triangle G e = rw e
+three_triangle G e = rw e
 
-none-triangle : (G : Polygon) → G.n ≡ 0 → triangles G ≡ []
+none_triangle : (G : Polygon) → G.n ≡ 0 → triangles G ≡ []
 unfolding triangles shape over
-none-triangle G e = rw e
+none_triangle G e = rw e
 
-tri-same : (x y z x' y' z' : Corner) (r q o r' q' o' : Side) → x ≡ x' → y ≡ y' → z ≡ z' → r ≡ r' → q ≡ q' → o ≡ o' → tri x y z r q o ∷ [] ≡ tri x' y' z' r' q' o' ∷ []
-tri-same x y z x' y' z' r q o r' q' o' a b c d e f = cc
+tri_same : (x y z x' y' z' : Corner) (r q o r' q' o' : Side) → x ≡ x' → y ≡ y' → z ≡ z' → r ≡ r' → q ≡ q' → o ≡ o' → tri x y z r q o ∷ [] ≡ tri x' y' z' r' q' o' ∷ []
+tri_same x y z x' y' z' r q o r' q' o' a b c d e f = cc
 
 module _ (c : Cell) (K : is_level_cell (count_of c) ≡ true) where
   abbrev drawn_loop : ℕ → Polygon
@@ -165,42 +165,42 @@ module _ (c : Cell) (K : is_level_cell (count_of c) ≡ true) where
 
   -- a loop of length 3 is drawn as in the cell
   module _ (p : ℕ) (l : p < crossings (edges_of c)) (e : loop_size (edges_of c) p ≡ 3) where
-    at-dart : (k : ℕ) → Gone c K k (2 * p)
-    at-dart k = gone c K k (2 * p) (omega arith) (first_goes c K p l (three-goes c K p l e))
+    at_dart : (k : ℕ) → Gone c K k (2 * p)
+    at_dart k = gone c K k (2 * p) (omega arith) (first_goes c K p l (three_goes c K p l e))
 
-    dart-same : (k : ℕ) → pieces.dart (own_piece c) p k ≡ pieces.dart (local_of c) p k
+    dart_same : (k : ℕ) → pieces.dart (own_piece c) p k ≡ pieces.dart (local_of c) p k
     unfolding step
-    dart-same k = (at-dart k).same
+    dart_same k = (at_dart k).same
 
-    point-same : (k : ℕ) → corner (drawn_loop p) k ≡ corner (polygon_of c p) k
-    point-same k = ap (λ d. cross (number_of c (d / 2))) (dart-same k)
+    point_same : (k : ℕ) → corner (drawn_loop p) k ≡ corner (polygon_of c p) k
+    point_same k = ap (λ d. cross (number_of c (d / 2))) (dart_same k)
 
-    mate-same : (k : ℕ) → mate_of (own_piece c) (pieces.dart (local_of c) p k) ≡ mate_of (local_of c) (pieces.dart (local_of c) p k)
+    mate_same : (k : ℕ) → mate_of (own_piece c) (pieces.dart (local_of c) p k) ≡ mate_of (local_of c) (pieces.dart (local_of c) p k)
     unfolding step walk.face
-    mate-same k = let h = (at-dart k).goes_too in rw h
+    mate_same k = let h = (at_dart k).goes_too in rw h
 
     side_same : (k : ℕ) → segment (drawn_loop p) k ≡ segment (polygon_of c p) k
     unfolding walk.face
     side_same k =
-        ap (λ d. seg ((own_piece c).name (slot_of (own_piece c) d)) (lower_of (own_piece c) d)) (dart-same k)
-        ∙ ap (λ x. seg ((local_of c).name (slot_of (local_of c) (pieces.dart (local_of c) p k))) (min (number_of c (pieces.dart (local_of c) p k / 2)) (number_of c x))) (mate-same k)
+        ap (λ d. seg ((own_piece c).name (slot_of (own_piece c) d)) (lower_of (own_piece c) d)) (dart_same k)
+        ∙ ap (λ x. seg ((local_of c).name (slot_of (local_of c) (pieces.dart (local_of c) p k))) (min (number_of c (pieces.dart (local_of c) p k / 2)) (number_of c x))) (mate_same k)
 
-    loop-same : triangles (polygon_of c p) ≡ triangles (drawn_loop p)
+    loop_same : triangles (polygon_of c p) ≡ triangles (drawn_loop p)
     unfolding loop_size step
-    loop-same =
-        three-triangle (polygon_of c p) e
-        ∙ tri-same _ _ _ _ _ _ _ _ _ _ _ _ (sym (point-same 0)) (sym (point-same 1)) (sym (point-same 2)) (sym (side_same 0)) (sym (side_same 1)) (sym (side_same 2))
-        ∙ sym (three-triangle (drawn_loop p) (size-three c K p l e))
+    loop_same =
+        three_triangle (polygon_of c p) e
+        ∙ tri_same _ _ _ _ _ _ _ _ _ _ _ _ (sym (point_same 0)) (sym (point_same 1)) (sym (point_same 2)) (sym (side_same 0)) (sym (side_same 1)) (sym (side_same 2))
+        ∙ sym (three_triangle (drawn_loop p) (size_three c K p l e))
 
-  loop-drawn : (p : ℕ) → p < crossings (edges_of c) → map named (pick (eqb (loop_size (edges_of c) p) 3) (loop_triangles c p) []) ≡ triangles (drawn_loop p)
-  loop-drawn p l = go (eqb (loop_size (edges_of c) p) 3) refl
+  loop_drawn : (p : ℕ) → p < crossings (edges_of c) → map named (pick (eqb (loop_size (edges_of c) p) 3) (loop_triangles c p) []) ≡ triangles (drawn_loop p)
+  loop_drawn p l = go (eqb (loop_size (edges_of c) p) 3) refl
     where
       go : (b : Bool) → eqb (loop_size (edges_of c) p) 3 ≡ b → map named (pick b (loop_triangles c p) []) ≡ triangles (drawn_loop p)
-      go true e = loop-named c p ∙ loop-same p l (eqb-true (loop_size (edges_of c) p) 3 e)
-      go false e = sym (none-triangle (drawn_loop p) (size_none c K p l (eqb-false (loop_size (edges_of c) p) 3 e)))
+      go true e = loop_named c p ∙ loop_same p l (eqb-true (loop_size (edges_of c) p) 3 e)
+      go false e = sym (none_triangle (drawn_loop p) (size_none c K p l (eqb-false (loop_size (edges_of c) p) 3 e)))
 
-  pub own-named : map named (own_corners c) ≡ over (λ p. triangles (drawn_loop p)) (crossings (edges_of c)) 0
+  pub own_named : map named (own_corners c) ≡ over (λ p. triangles (drawn_loop p)) (crossings (edges_of c)) 0
   unfolding own_corners triangles_with asked_triangles
-  own-named =
-      map-over named (λ p. pick (eqb (loop_size (edges_of c) p) 3) (loop_triangles c p) []) (crossings (edges_of c)) 0
-      ∙ over_ext (λ p. map named (pick (eqb (loop_size (edges_of c) p) 3) (loop_triangles c p) [])) (λ p. triangles (drawn_loop p)) (crossings (edges_of c)) 0 (λ p a h. loop-drawn p (omega arith))
+  own_named =
+      map_over named (λ p. pick (eqb (loop_size (edges_of c) p) 3) (loop_triangles c p) []) (crossings (edges_of c)) 0
+      ∙ over_ext (λ p. map named (pick (eqb (loop_size (edges_of c) p) 3) (loop_triangles c p) [])) (λ p. triangles (drawn_loop p)) (crossings (edges_of c)) 0 (λ p a h. loop_drawn p (omega arith))

@@ -11,11 +11,11 @@ use borrow.Author.Tests.{leb-true, leb-false}
 use Rattle.counting.specs.Lists.{tally, it}
 use Rattle.counting.proofs.Search.{Least, least}
 use Rattle.walk.specs.Darts.{half, rev}
-use Rattle.walk.proofs.Curve.{Next, closes, on-it, on_walk}
+use Rattle.walk.proofs.Curve.{Next, closes, on_it, on_walk}
 use Rattle.manifold.specs.claims.Plain.{Tri, has_side}
 use Rattle.manifold.specs.claims.Piece.{Local, Piece, segment_of, onward}
 use Rattle.manifold.specs.claims.Complex.{Complex, Joins, Closes, Lawful, mesh}
-use Rattle.manifold.proofs.Piece.{cell-darts, closes-joins, whole-closes}
+use Rattle.manifold.proofs.Piece.{cell_darts, closes_joins, whole_closes}
 use Rattle.manifold.proofs.Claims.{manifold}
 use Rattle.cell.specs.declared.Cell.{Cell}
 use Rattle.cell.specs.Of.{count_of}
@@ -26,21 +26,21 @@ use Rattle.split.specs.Parts.{whole, no_part}
 use Rattle.split.specs.claims.Claims.{part_local, parts_complex, WalkEnds, CurveSides}
 use Rattle.split.specs.claims.Owned.{Fit, CurvesCounted}
 use Rattle.split.proofs.Shows.{closed}
-use Rattle.split.proofs.Compose.{parts-sound}
+use Rattle.split.proofs.Compose.{parts_sound}
 use Rattle.split.proofs.Whole.{leaf}
-use Rattle.split.proofs.Meshed.{lawful-of}
+use Rattle.split.proofs.Meshed.{lawful_of}
 use Rattle.split.proofs.Sides.{sides_counted}
-use Rattle.split.proofs.Parts.{drawn-whole}
+use Rattle.split.proofs.Parts.{drawn_whole}
 use Rattle.split.proofs.Grid.{piece_of, ready_of}
-use Rattle.split.proofs.GridMesh.{drawn-mesh}
+use Rattle.split.proofs.GridMesh.{drawn_mesh}
 
 -- A walk along a curve that closes does not end; and a walk that has not ended after as many steps as there are crossings comes back
 module _ (A : Local) (P : Piece A) (d : ℕ) where
-  pub closes-live : (n : ℕ) → Closes A d → it (onward A) n d < 2 * A.N
+  pub closes_live : (n : ℕ) → Closes A d → it (onward A) n d < 2 * A.N
   unfolding Next it
-  closes-live n (k, L) =
-      (on_walk (2 * A.N) A.N (onward A) rev half (cell-darts A P) L n d (L.live 0 (omega arith))
-      (on-it (2 * A.N) A.N (onward A) rev half (cell-darts A P) L 0 (omega arith))).0
+  closes_live n (k, L) =
+      (on_walk (2 * A.N) A.N (onward A) rev half (cell_darts A P) L n d (L.live 0 (omega arith))
+      (on_it (2 * A.N) A.N (onward A) rev half (cell_darts A P) L 0 (omega arith))).0
 
   walk_tells : Closes A d ⊎ WalkEnds A d
   walk_tells = go (least (λ i. leb (2 * A.N) (it (onward A) i d)) (suc A.N))
@@ -48,12 +48,12 @@ module _ (A : Local) (P : Piece A) (d : ℕ) where
       go : Least (λ i. leb (2 * A.N) (it (onward A) i d)) (suc A.N) → Closes A d ⊎ WalkEnds A d
       go (inl w) = inr (w.0, omega (arith, w.1), leb-true (2 * A.N) (it (onward A) w.0 d) w.2)
       go (inr none) =
-          let (k, le, L) = closes (2 * A.N) A.N (onward A) rev half (cell-darts A P) d
+          let (k, le, L) = closes (2 * A.N) A.N (onward A) rev half (cell_darts A P) d
           (λ i h. leb-false (2 * A.N) (it (onward A) i d) (none i (omega arith))) in
           inl (k, L)
 
-  not-closed : WalkEnds A d → Closes A d → ⊥
-  not-closed w u = omega (arith, w.2, closes-live w.0 u)
+  not_closed : WalkEnds A d → Closes A d → ⊥
+  not_closed w u = omega (arith, w.2, closes_live w.0 u)
 
 module _ (c : Cell) (T : Fit c) where
   -- a cell that is not split is a complex of one piece
@@ -62,8 +62,8 @@ module _ (c : Cell) (T : Fit c) where
 
   lawful : Lawful (parts_complex (whole c ∷ []))
   lawful =
-      lawful-of (whole c ∷ [])
-      (parts-sound (local_of c) 1 (λ x. part_local (get_or (whole c ∷ []) x no_part)) (λ x. first_inner_face ≤ x) (λ g. first_inner_crossing ≤ g) (piece_of c T)
+      lawful_of (whole c ∷ [])
+      (parts_sound (local_of c) 1 (λ x. part_local (get_or (whole c ∷ []) x no_part)) (λ x. first_inner_face ≤ x) (λ g. first_inner_crossing ≤ g) (piece_of c T)
       (leaf c first_inner_crossing first_inner_face (piece_of c T) T.under) (λ s ls u. omega (arith, T.under s ls, u)))
       (λ a b la lb q. omega arith)
 
@@ -85,17 +85,17 @@ module _ (c : Cell) (T : Fit c) where
       told d on = walk_tells (local_of c) (piece_of c T) d
 
       ends : (d : ℕ) → WalkEnds (local_of c) d → Closes (local_of c) d → ⊥
-      ends d = not-closed (local_of c) (piece_of c T) d
+      ends d = not_closed (local_of c) (piece_of c T) d
 
       go : (s : Bool) → is_split (count_of c) ≡ s → CurveSides c
       go false e =
-          let S = subst Sides (sym (drawn-mesh c ∙ ap (λ l. mesh (parts_complex l)) (drawn-whole c e))) alone in
+          let S = subst Sides (sym (drawn_mesh c ∙ ap (λ l. mesh (parts_complex l)) (drawn_whole c e))) alone in
           record { closed = S.0; unclosed = S.1; decided = told; ended = ends }
       go true e =
           let R = ready_of c T e in
           record {
-            closed = λ d cl. (sides_counted c e R).outer d (closes-joins (local_of c) (piece_of c T) d cl);
-            unclosed = λ d on no_loop. absurd (no_loop (whole-closes (local_of c) (piece_of c T) (closed c R.firm) d on));
+            closed = λ d cl. (sides_counted c e R).outer d (closes_joins (local_of c) (piece_of c T) d cl);
+            unclosed = λ d on no_loop. absurd (no_loop (whole_closes (local_of c) (piece_of c T) (closed c R.firm) d on));
             decided = told;
             ended = ends;
           }

@@ -24,7 +24,7 @@ use Rattle.split.specs.claims.Counted.{sub_counts, loops_count, own_count, parts
 use Rattle.split.specs.Parts.{parts, all_parts, own_corners, drawn_parts, drawn_triangles, splits_of}
 use Rattle.split.specs.examples.Examples.{lone_cell, of, computed, unsplit, unsplit_computed, counted, figures, examples, ExamplesHold, one_split, one_split_turned, two_splits, two_splits_turned, three_splits}
 
-one-is : computed one_split ≡ one_split
+one_is : computed one_split ≡ one_split
 unfolding seek first last every total over tally gather pre divides gcd
     slots.lo slots.hi slots.position slots.lower slots.upper slots.edge_between slots.slot_edge slots.edge_rank slots.contains slots.first_slot slots.second_slot
     face.other face.opposite face.half_above face.corner_count face.residual face.count_on face.others face.kth face.corner_count_at face.partner face.face_answer face.face_join is_level
@@ -35,7 +35,7 @@ unfolding seek first last every total over tally gather pre divides gcd
     figure_in figure are_spiral are_split is_spiral is_split remains_to labelled label spoke
     rest_start arm_start inner_name sub_at sub parts all_parts own_corners triangles_with asked_triangles drawn_parts drawn_triangles splits_of
     lone_cell of computed one_split
-one-is = refl
+one_is = refl
 
 one_turned_is : computed one_split_turned ≡ one_split_turned
 unfolding seek first last every total over tally gather pre divides gcd
@@ -76,7 +76,7 @@ unfolding seek first last every total over tally gather pre divides gcd
     lone_cell of computed two_splits_turned
 two_turned_is = refl
 
-three-is : computed three_splits ≡ three_splits
+three_is : computed three_splits ≡ three_splits
 unfolding seek first last every total over tally gather pre divides gcd
     slots.lo slots.hi slots.position slots.lower slots.upper slots.edge_between slots.slot_edge slots.edge_rank slots.contains slots.first_slot slots.second_slot
     face.other face.opposite face.half_above face.corner_count face.residual face.count_on face.others face.kth face.corner_count_at face.partner face.face_answer face.face_join is_level
@@ -87,9 +87,9 @@ unfolding seek first last every total over tally gather pre divides gcd
     figure_in figure are_spiral are_split is_spiral is_split remains_to labelled label spoke
     rest_start arm_start inner_name sub_at sub parts all_parts own_corners triangles_with asked_triangles drawn_parts drawn_triangles splits_of
     lone_cell of computed three_splits
-three-is = refl
+three_is = refl
 
-not-split : unsplit_computed ≡ unsplit
+not_split : unsplit_computed ≡ unsplit
 unfolding seek first last every total over tally gather pre divides gcd
     slots.lo slots.hi slots.position slots.lower slots.upper slots.edge_between slots.slot_edge slots.edge_rank slots.contains slots.first_slot slots.second_slot
     face.other face.opposite face.half_above face.corner_count face.residual face.count_on face.others face.kth face.corner_count_at face.partner face.face_answer face.face_join is_level
@@ -100,9 +100,9 @@ unfolding seek first last every total over tally gather pre divides gcd
     figure_in figure are_spiral are_split is_spiral is_split remains_to labelled label spoke
     rest_start arm_start inner_name sub_at sub parts all_parts own_corners triangles_with asked_triangles drawn_parts drawn_triangles splits_of
     lone_cell unsplit unsplit_computed
-not-split = refl
+not_split = refl
 
-by-counts : counted ≡ 52 ∷ 56 ∷ 8 ∷ []
+by_counts : counted ≡ 52 ∷ 56 ∷ 8 ∷ []
 unfolding seek first last every total over kept tally pre divides gcd
     slots.lo slots.hi slots.position slots.lower slots.upper slots.edge_between slots.slot_edge slots.edge_rank slots.contains slots.first_slot slots.second_slot
     face.other face.opposite face.half_above face.corner_count face.residual face.count_on face.others face.kth face.corner_count_at face.partner face.face_answer face.face_join is_level
@@ -110,17 +110,17 @@ unfolding seek first last every total over kept tally pre divides gcd
     ahead base holds edge index answer_at join_at joined_to mate slot step loop_size dart loop_darts folded normal leasts many_from triangle_count
     joining corner_from is_level_cell median corner_on least_corner left_between larger smaller are_spiral are_split is_spiral is_split remains_to labelled label spoke
     sub_counts loops_count own_count parts_count drawn_count counted
-by-counts = refl
+by_counts = refl
 
-by-numbers : figures ≡ 2045 ∷ 8384500 ∷ 16793556 ∷ 3 ∷ 60 ∷ 196 ∷ []
+by_numbers : figures ≡ 2045 ∷ 8384500 ∷ 16793556 ∷ 3 ∷ 60 ∷ 196 ∷ []
 unfolding figure_in figure figures
-by-numbers = refl
+by_numbers = refl
 
 pub examples_hold : ExamplesHold
 unfolding examples
 examples_hold = record {
-  split = ap₂ ◌∷◌ one-is (ap₂ ◌∷◌ one_turned_is (ap₂ ◌∷◌ two_is (ap₂ ◌∷◌ two_turned_is (ap₂ ◌∷◌ three-is refl))));
-  not-split = not-split;
-  by-counts = by-counts;
-  by-numbers = by-numbers;
+  split = ap₂ ◌∷◌ one_is (ap₂ ◌∷◌ one_turned_is (ap₂ ◌∷◌ two_is (ap₂ ◌∷◌ two_turned_is (ap₂ ◌∷◌ three_is refl))));
+  not_split = not_split;
+  by_counts = by_counts;
+  by_numbers = by_numbers;
 }

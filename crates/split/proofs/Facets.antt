@@ -5,9 +5,9 @@ use mathlib.Core.Logic.{◌⊎◌, inl, inr}
 use native.Mathlib.Omega.{arith}
 use native.Mathlib.Decide.{dec_lt}
 use Rattle.face.specs.Face.{count_on, face_join}
-use Rattle.face.specs.claims.Ends.{Edge, on-ab, on-ac, on-bc}
+use Rattle.face.specs.claims.Ends.{Edge, on_ab, on_ac, on_bc}
 use Rattle.face.proofs.Claims.{face_laws}
-use Rattle.face.proofs.Ends.{edge-with}
+use Rattle.face.proofs.Ends.{edge_with}
 use Rattle.face.proofs.Answers.{joined_same}
 use Rattle.face.proofs.Level.{level_laws}
 use Rattle.manifold.specs.Triangle.{Side, seg, inner}
@@ -25,22 +25,22 @@ pub same_name : (A : Local) (d : ℕ) (B : Local) (e : ℕ) → segment_of A d �
 unfolding face_of
 same_name A d B e q = ap face_of q
 
-pub same-lower : (A : Local) (d : ℕ) (B : Local) (e : ℕ) → segment_of A d ≡ segment_of B e → lower_of A d ≡ lower_of B e
+pub same_lower : (A : Local) (d : ℕ) (B : Local) (e : ℕ) → segment_of A d ≡ segment_of B e → lower_of A d ≡ lower_of B e
 unfolding low_of
-same-lower A d B e q = ap low_of q
+same_lower A d B e q = ap low_of q
 
 module _ (Φ : Facet) where
-  count-size : {j : ℕ} → Edge j → (j < 3) × (count_on (Φ.size 0) (Φ.size 1) (Φ.size 2) j ≡ Φ.size j)
+  count_size : {j : ℕ} → Edge j → (j < 3) × (count_on (Φ.size 0) (Φ.size 1) (Φ.size 2) j ≡ Φ.size j)
   unfolding count_on
-  count-size on-ab = (omega arith, refl)
-  count-size on-ac = (omega arith, refl)
-  count-size on-bc = (omega arith, refl)
+  count_size on_ab = (omega arith, refl)
+  count_size on_ac = (omega arith, refl)
+  count_size on_bc = (omega arith, refl)
 
   -- the ends of a segment are crossings of the face
-  pub seg-on : (j t j' t' : ℕ) → Segment Φ j t j' t' → OnFace Φ j t
-  seg-on j t j' t' s =
+  pub seg_on : (j t j' t' : ℕ) → Segment Φ j t j' t' → OnFace Φ j t
+  seg_on j t j' t' s =
       let h = ((face_laws (Φ.size 0) (Φ.size 1) (Φ.size 2)).there j t j' t' s).0 in
-      let (l, c) = count-size (edge-with (Φ.size 0) (Φ.size 1) (Φ.size 2) j t h) in
+      let (l, c) = count_size (edge_with (Φ.size 0) (Φ.size 1) (Φ.size 2) j t h) in
       record { edge = l; index = omega (arith, h, c) }
 
   pub turned : (j t j' t' : ℕ) → Segment Φ j t j' t' → Segment Φ j' t' j t
@@ -50,7 +50,7 @@ module _ (Φ : Facet) where
     -- a crossing has one partner
     partner : (j t j' t' u v u' v' : ℕ) → Segment Φ j t j' t' → Segment Φ u v u' v' → num Φ j t ≡ num Φ u v → num Φ j' t' ≡ num Φ u' v'
     partner j t j' t' u v u' v' s z e =
-        let (p, q) = P.once j t u v (seg-on j t j' t' s) (seg-on u v u' v' z) e in
+        let (p, q) = P.once j t u v (seg_on j t j' t' s) (seg_on u v u' v' z) e in
         let (x, y) = joined_same (sym s ∙ ap₂ (face_join (Φ.size 0) (Φ.size 1) (Φ.size 2)) p q ∙ z) in
         ap₂ (num Φ) x y
 
@@ -75,13 +75,13 @@ module _ (Φ : Facet) where
 
     -- every crossing has a segment
     pub some : (j t : ℕ) → OnFace Φ j t → (j' : ℕ) × (t' : ℕ) × Segment Φ j t j' t'
-    some j t o = (level_laws P.level).joined j t (omega (arith, o.index, count-is j o.edge))
+    some j t o = (level_laws P.level).joined j t (omega (arith, o.index, count_is j o.edge))
       where
-        count-is : (j : ℕ) → j < 3 → count_on (Φ.size 0) (Φ.size 1) (Φ.size 2) j ≡ Φ.size j
-        count-is zero h = (count-size on-ab).1
-        count-is (suc zero) h = (count-size on-ac).1
-        count-is (suc (suc zero)) h = (count-size on-bc).1
-        count-is (suc (suc (suc j))) h = absurd (omega arith)
+        count_is : (j : ℕ) → j < 3 → count_on (Φ.size 0) (Φ.size 1) (Φ.size 2) j ≡ Φ.size j
+        count_is zero h = (count_size on_ab).1
+        count_is (suc zero) h = (count_size on_ac).1
+        count_is (suc (suc zero)) h = (count_size on_bc).1
+        count_is (suc (suc (suc j))) h = absurd (omega arith)
 
     -- two darts along segments of one face, with one lower number
     pub meet : (A : Local) (d : ℕ) (B : Local) (e : ℕ) (j t j' t' u v u' v' : ℕ) → DartAlong Φ A d j t j' t' → DartAlong Φ B e u v u' v' → lower_of A d ≡ lower_of B e → SameEnds A d B e
@@ -104,24 +104,24 @@ shows_same Φ Ψ A s T sizes starts named S = record {
   named = S.named ∙ named;
   to = λ d on e. let (j, t, j', t', x, a) = S.to d on e in (j, t, j', t', subst T (same j t j' t' a.segment) x, along d j t j' t' a);
   from = λ j t j' t' x z.
-      let q = segment-back j t j' t' z in
+      let q = segment_back j t j' t' z in
       let (d, e, a) = S.from j t j' t' (subst T (sym (same j t j' t' q)) x) q in
       (d, e, along d j t j' t' a);
 }
   where
-    segment-on : (j t j' t' : ℕ) → Segment Φ j t j' t' → Segment Ψ j t j' t'
-    segment-on j t j' t' z = rw (sym (sizes 0 (omega arith)), sym (sizes 1 (omega arith)), sym (sizes 2 (omega arith))) z
+    segment_on : (j t j' t' : ℕ) → Segment Φ j t j' t' → Segment Ψ j t j' t'
+    segment_on j t j' t' z = rw (sym (sizes 0 (omega arith)), sym (sizes 1 (omega arith)), sym (sizes 2 (omega arith))) z
 
-    segment-back : (j t j' t' : ℕ) → Segment Ψ j t j' t' → Segment Φ j t j' t'
-    segment-back j t j' t' z = rw (sizes 0 (omega arith), sizes 1 (omega arith), sizes 2 (omega arith)) z
+    segment_back : (j t j' t' : ℕ) → Segment Ψ j t j' t' → Segment Φ j t j' t'
+    segment_back j t j' t' z = rw (sizes 0 (omega arith), sizes 1 (omega arith), sizes 2 (omega arith)) z
 
     same : (j t j' t' : ℕ) → Segment Φ j t j' t' → num Φ j t ≡ num Ψ j t
-    same j t j' t' z = ap (λ n. n + t) (starts j (seg-on Φ j t j' t' z).edge)
+    same j t j' t' z = ap (λ n. n + t) (starts j (seg_on Φ j t j' t' z).edge)
 
     along : (d j t j' t' : ℕ) → DartAlong Φ A d j t j' t' → DartAlong Ψ A d j t j' t'
     along d j t j' t' a = record {
       on = a.on;
-      segment = segment-on j t j' t' a.segment;
+      segment = segment_on j t j' t' a.segment;
       from_is = a.from_is ∙ same j t j' t' a.segment;
       to_is = a.to_is ∙ same j' t' j t (turned Φ j t j' t' a.segment);
     }

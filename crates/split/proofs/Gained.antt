@@ -12,12 +12,12 @@ use Rattle.cell.specs.Triangles.{cell_triangles}
 use Rattle.booking.specs.Figures.{are_split, splits, beside_split}
 use Rattle.booking.specs.Booking.{larger, smaller, beside, beside_drawn, is_split, booked_split}
 use Rattle.booking.specs.claims.Booking.{booked, splits_by, more_by, splits_in, more_in}
-use Rattle.booking.proofs.Figures.{figure-step}
+use Rattle.booking.proofs.Figures.{figure_step}
 use Rattle.booking.proofs.Claims.{triangles_booked}
-use Rattle.booking.proofs.Drawn.{beside-more}
+use Rattle.booking.proofs.Drawn.{beside_more}
 use Rattle.split.specs.Parts.{drawn_triangles, splits_of}
 use Rattle.split.specs.claims.Claims.{DrawnGained, SplitsTold}
-use Rattle.split.proofs.Lengths.{split-is, split_by, drawn-not, drawn_booked}
+use Rattle.split.proofs.Lengths.{split_is, split_by, drawn_not, drawn_booked}
 
 both : (a b : Bool) (n : ℕ) → pick a (pick b n 0) 0 ≡ pick (a && b) n 0
 both true b n = refl
@@ -28,9 +28,9 @@ unfolding splits_in splits_by splits_of is_split
 splits_told c = both (is_level_cell (count_of c)) (are_split (larger (count_of c)) (smaller (count_of c))) (splits (larger (count_of c)) (smaller (count_of c)))
 
 -- beside the corner triangles, by the two numbers
-by-numbers : (x y : ℕ) → (are_split x y ≡ true → beside x y ≤ beside_split x y) → beside_drawn x y ≡ beside x y + more_by x y
+by_numbers : (x y : ℕ) → (are_split x y ≡ true → beside x y ≤ beside_split x y) → beside_drawn x y ≡ beside x y + more_by x y
 unfolding beside_drawn more_by
-by-numbers x y h = go (are_split x y) refl
+by_numbers x y h = go (are_split x y) refl
   where
     go : (s : Bool) → are_split x y ≡ s → pick s (beside_split x y) (beside x y) ≡ beside x y + pick s (beside_split x y - beside x y) 0
     go true e = omega (arith, h e)
@@ -42,16 +42,16 @@ module _ (c : Cell) where
 
   enough : is_level_cell w ≡ true → are_split (larger w) (smaller w) ≡ true → beside (larger w) (smaller w) ≤ beside_split (larger w) (smaller w)
   enough K e =
-      let S = split-is w (split_by w K ∙ e) in
-      omega (arith, beside-more (larger w) (smaller w) S.some, figure-step (λ n. 8 * n) (λ x y. 4 * x + 10 * y) (larger w) (smaller w) S.some S.more)
+      let S = split_is w (split_by w K ∙ e) in
+      omega (arith, beside_more (larger w) (smaller w) S.some, figure_step (λ n. 8 * n) (λ x y. 4 * x + 10 * y) (larger w) (smaller w) S.some S.more)
 
   level : is_level_cell w ≡ true → length (drawn_triangles c) ≡ length (cell_triangles c) + more_in w
   unfolding booked_split booked more_in
-  level K = rw K (drawn_booked c K ∙ omega (arith, by-numbers (larger w) (smaller w) (enough K), triangles_booked c K))
+  level K = rw K (drawn_booked c K ∙ omega (arith, by_numbers (larger w) (smaller w) (enough K), triangles_booked c K))
 
   other : is_level_cell w ≡ false → length (drawn_triangles c) ≡ length (cell_triangles c) + more_in w
   unfolding is_split more_in
-  other e = ap length (drawn-not c (rw e refl)) ∙ rw e (omega arith)
+  other e = ap length (drawn_not c (rw e refl)) ∙ rw e (omega arith)
 
 pub drawn_gained : DrawnGained
 drawn_gained c = go (is_level_cell (count_of c)) refl

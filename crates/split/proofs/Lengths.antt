@@ -20,7 +20,7 @@ use Rattle.cell.specs.Of.{count_of, edges_of}
 use Rattle.cell.specs.Loop.{loop_size, normal}
 use Rattle.cell.specs.Triangles.{loop_triangles, cell_triangles, asked_triangles, triangles_with}
 use Rattle.cell.specs.Level.{is_level_cell}
-use Rattle.cell.proofs.Taken.{length-loop}
+use Rattle.cell.proofs.Taken.{length_loop}
 use Rattle.booking.specs.Booking.{corner_triangles, larger, smaller, beside, beside_drawn, is_spiral, is_split, booked_split}
 use Rattle.booking.specs.claims.Booking.{booked}
 use Rattle.booking.proofs.Count.{threes_are}
@@ -30,11 +30,11 @@ use Rattle.booking.specs.Figures.{are_spiral, are_split, next_larger, next_small
 use Rattle.split.specs.SubCell.{sub}
 use Rattle.split.specs.Parts.{Part, whole, corners, splits_within, parts, all_parts, own_corners, part_triangles, drawn_triangles, splits_of}
 use Rattle.split.specs.claims.Claims.{NumbersAre, DrawnCounted, DrawnBooked, most_splits, SplitsFew}
-use Rattle.booking.proofs.Figures.{figure-stop, figure-step, figure_laws}
-use Rattle.booking.proofs.Drawn.{beside-more}
-use Rattle.split.proofs.Labels.{spiral-is}
+use Rattle.booking.proofs.Figures.{figure_stop, figure_step, figure_laws}
+use Rattle.booking.proofs.Drawn.{beside_more}
+use Rattle.split.proofs.Labels.{spiral_is}
 use Rattle.split.proofs.SubNumbers.{sub_cells}
-use Rattle.split.proofs.Parts.{in_order, not-spiral, stop, more, drawn-whole, drawn-all}
+use Rattle.split.proofs.Parts.{in_order, not_spiral, stop, more, drawn_whole, drawn_all}
 
 -- the own corner triangles are as many as the booking says
 pub own-count : (c : Cell) → is_level_cell (count_of c) ≡ true → length (own_corners c) ≡ corner_triangles (count_of c)
@@ -47,20 +47,20 @@ own-count c K =
   where
     at : (p : ℕ) (s : Bool) → eqb (loop_size (edges_of c) p) 3 ≡ s → length (pick s (loop_triangles c p) []) ≡ one s
     at p false e = refl
-    at p true e = length-loop c p ∙ ap (λ n. many_of (shape_of n (normal (edges_of c) p)) n) (eqb-true (loop_size (edges_of c) p) 3 e)
+    at p true e = length_loop c p ∙ ap (λ n. many_of (shape_of n (normal (edges_of c) p)) n) (eqb-true (loop_size (edges_of c) p) 3 e)
 
 -- beside the corner triangles of a part that is not split
-beside-flat : (x : ℕ) → beside x 0 ≡ 2 * x
+beside_flat : (x : ℕ) → beside x 0 ≡ 2 * x
 unfolding beside
-beside-flat x = refl
+beside_flat x = refl
 
 -- at the end, where both numbers are equal, the figure has the fans
-pub end-sum : (w : ℕ → ℕ) → 0 < smaller w → larger w ≡ smaller w → booked w ≡ corner_triangles w + beside_split (larger w) (smaller w)
+pub end_sum : (w : ℕ → ℕ) → 0 < smaller w → larger w ≡ smaller w → booked w ≡ corner_triangles w + beside_split (larger w) (smaller w)
 unfolding booked
-end-sum w p q =
+end_sum w p q =
     ap (λ m. corner_triangles w + m)
-    (ap (λ x. beside x (smaller w)) q ∙ beside-more (smaller w) (smaller w) p
-    ∙ omega (arith, figure-stop (λ n. 8 * n) (λ x y. 4 * x + 10 * y) (smaller w)) ∙ ap (λ x. beside_split x (smaller w)) (sym q))
+    (ap (λ x. beside x (smaller w)) q ∙ beside_more (smaller w) (smaller w) p
+    ∙ omega (arith, figure_stop (λ n. 8 * n) (λ x y. 4 * x + 10 * y) (smaller w)) ∙ ap (λ x. beside_split x (smaller w)) (sym q))
 
 -- in a split, the own corner triangles a, and b to e of the sub-cells that omit l, k, j, i: the figure's step
 sum : (t x y a b c d e r : ℕ) → y < x → a ≡ t → b ≡ x - y + 4 * (y + y) → c ≡ y + r → d ≡ x + 2 * y → e ≡ 2 * y + 2 * (x - y)
@@ -71,29 +71,29 @@ module _ (w : ℕ → ℕ) (some : 0 < smaller w) (more : smaller w < larger w) 
     (L : NumbersAre l (larger w - smaller w) (smaller w) (smaller w))
     (Q : NumbersAre k (smaller w) (next_larger (larger w) (smaller w)) (next_smaller (larger w) (smaller w)))
     (J : NumbersAre j (larger w) (smaller w) 0) (I : NumbersAre i (2 * smaller w) (larger w - smaller w) 0) where
-  by-numbers : {v : ℕ → ℕ} {t x y : ℕ} → NumbersAre v t x y → booked v ≡ t + beside x y
+  by_numbers : {v : ℕ → ℕ} {t x y : ℕ} → NumbersAre v t x y → booked v ≡ t + beside x y
   unfolding booked
-  by-numbers N = ap₂ ◌+◌ N.corners (ap₂ beside N.first N.second)
+  by_numbers N = ap₂ ◌+◌ N.corners (ap₂ beside N.first N.second)
 
-  pub five-sum : {a b c d e : ℕ} → a ≡ corner_triangles w → b ≡ booked l → c ≡ corner_triangles k + beside_split (larger k) (smaller k) → d ≡ booked j → e ≡ booked i
+  pub five_sum : {a b c d e : ℕ} → a ≡ corner_triangles w → b ≡ booked l → c ≡ corner_triangles k + beside_split (larger k) (smaller k) → d ≡ booked j → e ≡ booked i
       → a + (b + (c + (d + e))) ≡ corner_triangles w + beside_split (larger w) (smaller w)
-  five-sum {a} {b} {c} {d} {e} p q u v z =
+  five_sum {a} {b} {c} {d} {e} p q u v z =
       sum (corner_triangles w) (larger w) (smaller w) a b c d e (beside_split (next_larger (larger w) (smaller w)) (next_smaller (larger w) (smaller w))) more
       p
-      (q ∙ by-numbers L ∙ ap (λ m. larger w - smaller w + m) (beside-more (smaller w) (smaller w) some))
+      (q ∙ by_numbers L ∙ ap (λ m. larger w - smaller w + m) (beside_more (smaller w) (smaller w) some))
       (u ∙ ap₂ ◌+◌ Q.corners (ap₂ beside_split Q.first Q.second))
-      (v ∙ by-numbers J ∙ ap (λ m. larger w + m) (beside-flat (smaller w)))
-      (z ∙ by-numbers I ∙ ap (λ m. 2 * smaller w + m) (beside-flat (larger w - smaller w)))
-      ∙ ap (λ m. corner_triangles w + m) (sym (figure-step (λ n. 8 * n) (λ x y. 4 * x + 10 * y) (larger w) (smaller w) some more))
+      (v ∙ by_numbers J ∙ ap (λ m. larger w + m) (beside_flat (smaller w)))
+      (z ∙ by_numbers I ∙ ap (λ m. 2 * smaller w + m) (beside_flat (larger w - smaller w)))
+      ∙ ap (λ m. corner_triangles w + m) (sym (figure_step (λ n. 8 * n) (λ x y. 4 * x + 10 * y) (larger w) (smaller w) some more))
 
 -- of all parts
 abbrev drawn : List Part → ℕ
 drawn l = length (gather part_triangles l)
 
-drawn-five : (c s3 s1 s0 : Cell) (l : List Part)
+drawn_five : (c s3 s1 s0 : Cell) (l : List Part)
     → drawn (corners c ∷ whole s3 ∷ (l ++ (whole s1 ∷ whole s0 ∷ []))) ≡ length (own_corners c) + (length (cell_triangles s3) + (drawn l + (length (cell_triangles s1) + length (cell_triangles s0))))
 unfolding gather
-drawn-five c s3 s1 s0 l =
+drawn_five c s3 s1 s0 l =
     length-append (own_corners c) _
     ∙ ap (λ n. length (own_corners c) + n)
     (length-append (cell_triangles s3) _
@@ -103,16 +103,16 @@ drawn-five c s3 s1 s0 l =
     two : length (cell_triangles s1 ++ (cell_triangles s0 ++ [])) ≡ length (cell_triangles s1) + length (cell_triangles s0)
     two = length-append (cell_triangles s1) _ ∙ ap (λ n. length (cell_triangles s1) + n) (length-append (cell_triangles s0) [] ∙ omega arith)
 
-drawn-one : (c : Cell) → drawn (whole c ∷ []) ≡ length (cell_triangles c)
+drawn_one : (c : Cell) → drawn (whole c ∷ []) ≡ length (cell_triangles c)
 unfolding gather
-drawn-one c = length-append (cell_triangles c) [] ∙ omega arith
+drawn_one c = length-append (cell_triangles c) [] ∙ omega arith
 
-pub parts-drawn : (fuel cell n b f : ℕ) (c : Cell) → is_level_cell (count_of c) ≡ true → 0 < smaller (count_of c) → larger (count_of c) + smaller (count_of c) ≤ fuel
+pub parts_drawn : (fuel cell n b f : ℕ) (c : Cell) → is_level_cell (count_of c) ≡ true → 0 < smaller (count_of c) → larger (count_of c) + smaller (count_of c) ≤ fuel
     → drawn (parts fuel cell n b f c) ≡ corner_triangles (count_of c) + beside_split (larger (count_of c)) (smaller (count_of c))
-parts-drawn zero cell n b f c K p h = absurd (omega arith)
-parts-drawn (suc fuel) cell n b f c K p h =
+parts_drawn zero cell n b f c K p h = absurd (omega arith)
+parts_drawn (suc fuel) cell n b f c K p h =
     go (is_spiral (count_of c)) refl
-    (λ L x y. parts-drawn fuel cell (n + 2) (b + 2 * (larger (count_of c) + smaller (count_of c))) (f + 6) (sub c b f (cell + word_step * (n + 2)) 2) L x y)
+    (λ L x y. parts_drawn fuel cell (n + 2) (b + 2 * (larger (count_of c) + smaller (count_of c))) (f + 6) (sub c b f (cell + word_step * (n + 2)) 2) L x y)
   where
     inner : List Part
     inner = parts fuel cell (n + 2) (b + 2 * (larger (count_of c) + smaller (count_of c))) (f + 6) (sub c b f (cell + word_step * (n + 2)) 2)
@@ -123,16 +123,16 @@ parts-drawn (suc fuel) cell n b f c K p h =
     go : (s : Bool) → is_spiral (count_of c) ≡ s
         → (is_level_cell v ≡ true → 0 < smaller v → larger v + smaller v ≤ fuel → drawn inner ≡ corner_triangles v + beside_split (larger v) (smaller v))
         → drawn (parts (suc fuel) cell n b f c) ≡ corner_triangles (count_of c) + beside_split (larger (count_of c)) (smaller (count_of c))
-    go false e i = ap drawn (stop fuel cell n b f c e) ∙ drawn-one c ∙ triangles_booked c K ∙ end-sum (count_of c) p (not-spiral (count_of c) e p)
+    go false e i = ap drawn (stop fuel cell n b f c e) ∙ drawn_one c ∙ triangles_booked c K ∙ end_sum (count_of c) p (not_spiral (count_of c) e p)
     go true e i =
-        let (some, apart) = spiral-is (count_of c) e in
+        let (some, apart) = spiral_is (count_of c) e in
         let L = (sub_cells c K some apart b f (cell + word_step * (n + 1))).omits-l in
-        let N = (sub_cells c K some apart b f (cell + word_step * (n + 2))).omits-k in
+        let N = (sub_cells c K some apart b f (cell + word_step * (n + 2))).omits_k in
         let J = (sub_cells c K some apart b f (cell + word_step * (n + 3 + 4 * splits_within (count_of c)))).omits-j in
         let I = (sub_cells c K some apart b f (cell + word_step * (n + 4 + 4 * splits_within (count_of c)))).omits-i in
         ap drawn (more fuel cell n b f c e)
-        ∙ drawn-five c (sub c b f (cell + word_step * (n + 1)) 3) (sub c b f (cell + word_step * (n + 3 + 4 * splits_within (count_of c))) 1) (sub c b f (cell + word_step * (n + 4 + 4 * splits_within (count_of c))) 0) inner
-        ∙ five-sum (count_of c) some apart L N J I (own-count c K)
+        ∙ drawn_five c (sub c b f (cell + word_step * (n + 1)) 3) (sub c b f (cell + word_step * (n + 3 + 4 * splits_within (count_of c))) 1) (sub c b f (cell + word_step * (n + 4 + 4 * splits_within (count_of c))) 0) inner
+        ∙ five_sum (count_of c) some apart L N J I (own-count c K)
         (triangles_booked (sub c b f (cell + word_step * (n + 1)) 3) L.level)
         (i N.level (omega (arith, N.second)) (omega (arith, N.first, N.second)))
         (triangles_booked (sub c b f (cell + word_step * (n + 3 + 4 * splits_within (count_of c))) 1) J.level)
@@ -144,30 +144,30 @@ pub record IsSplit (w : ℕ → ℕ) : Type 0 where
   pub some : 0 < smaller w
   pub more : smaller w < larger w
 
-pub split-is : (w : ℕ → ℕ) → is_split w ≡ true → IsSplit w
+pub split_is : (w : ℕ → ℕ) → is_split w ≡ true → IsSplit w
 unfolding is_split are_split is_spiral
-split-is w e =
+split_is w e =
     let r = and_right (is_level_cell w) (are_split (larger w) (smaller w)) e in
-    let (a, b) = spiral-is w (and_left (are_spiral (larger w) (smaller w)) (ltb 1 (gcd (larger w) (smaller w))) r) in
+    let (a, b) = spiral_is w (and_left (are_spiral (larger w) (smaller w)) (ltb 1 (gcd (larger w) (smaller w))) r) in
     record { level = and_left (is_level_cell w) (are_split (larger w) (smaller w)) e; some = a; more = b }
 
-pub whole-alone : (c : Cell) → gather part_triangles (whole c ∷ []) ≡ cell_triangles c
+pub whole_alone : (c : Cell) → gather part_triangles (whole c ∷ []) ≡ cell_triangles c
 unfolding gather
-whole-alone c = append-nil (cell_triangles c)
+whole_alone c = append-nil (cell_triangles c)
 
-pub drawn-not : (c : Cell) → is_split (count_of c) ≡ false → drawn_triangles c ≡ cell_triangles c
+pub drawn_not : (c : Cell) → is_split (count_of c) ≡ false → drawn_triangles c ≡ cell_triangles c
 unfolding drawn_triangles
-drawn-not c e = ap (gather part_triangles) (drawn-whole c e) ∙ whole-alone c
+drawn_not c e = ap (gather part_triangles) (drawn_whole c e) ∙ whole_alone c
 
-pub drawn-is : (c : Cell) → is_split (count_of c) ≡ true → drawn_triangles c ≡ gather part_triangles (all_parts c)
+pub drawn_is : (c : Cell) → is_split (count_of c) ≡ true → drawn_triangles c ≡ gather part_triangles (all_parts c)
 unfolding drawn_triangles
-drawn-is c e = ap (gather part_triangles) (drawn-all c e)
+drawn_is c e = ap (gather part_triangles) (drawn_all c e)
 
 pub drawn_counted : DrawnCounted
 unfolding all_parts
 drawn_counted c e =
-    let S = split-is (count_of c) e in
-    ap length (drawn-is c e) ∙ (parts-drawn (larger (count_of c) + smaller (count_of c)) c.index 0 first_inner_crossing first_inner_face c S.level S.some (omega arith))
+    let S = split_is (count_of c) e in
+    ap length (drawn_is c e) ∙ (parts_drawn (larger (count_of c) + smaller (count_of c)) c.index 0 first_inner_crossing first_inner_face c S.level S.some (omega arith))
 
 pub split_by : (w : ℕ → ℕ) → is_level_cell w ≡ true → is_split w ≡ are_split (larger w) (smaller w)
 unfolding is_split
@@ -179,16 +179,16 @@ module _ (w : ℕ → ℕ) (K : is_level_cell w ≡ true) where
   unfolding booked_split beside_drawn
   booked-split e = rw (sym (split_by w K) ∙ e)
 
-  pub booked-whole : is_split w ≡ false → booked_split w ≡ booked w
+  pub booked_whole : is_split w ≡ false → booked_split w ≡ booked w
   unfolding booked booked_split beside_drawn
-  booked-whole e = rw (sym (split_by w K) ∙ e)
+  booked_whole e = rw (sym (split_by w K) ∙ e)
 
 pub drawn_booked : DrawnBooked
 drawn_booked c K = go (is_split (count_of c)) refl
   where
     go : (s : Bool) → is_split (count_of c) ≡ s → length (drawn_triangles c) ≡ booked_split (count_of c)
     go true e = drawn_counted c e ∙ sym (booked-split (count_of c) K e)
-    go false e = ap length (drawn-not c e) ∙ triangles_booked c K ∙ sym (booked-whole (count_of c) K e)
+    go false e = ap length (drawn_not c e) ∙ triangles_booked c K ∙ sym (booked_whole (count_of c) K e)
 
 few-splits : (c : Cell) → splits_of c ≤ most_splits (count_of c)
 unfolding splits_of
@@ -199,7 +199,7 @@ few-splits c = go (is_split (count_of c)) refl
         ≤ pick (is_split (count_of c)) (larger (count_of c) / gcd (larger (count_of c)) (smaller (count_of c)) - 1) 0
     go false e = rw e (omega arith)
     go true e =
-        let S = split-is (count_of c) e in
+        let S = split_is (count_of c) e in
         rw e (omega (arith, (figure_laws (larger (count_of c)) (smaller (count_of c)) S.some (in_order (count_of c))).few))
 
 pub splits_few : SplitsFew

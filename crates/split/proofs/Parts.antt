@@ -18,8 +18,8 @@ use Rattle.booking.specs.Figures.{are_spiral, splits}
 use Rattle.split.specs.SubCell.{sub_at, sub}
 use Rattle.split.specs.Parts.{Part, whole, corners, splits_within, parts, all_parts, no_part, part_cell, drawn_parts}
 use Rattle.split.specs.claims.Claims.{PartsCounted, PartsNumbered}
-use Rattle.booking.proofs.Figures.{figure-stop, figure-step}
-use Rattle.split.proofs.Labels.{spiral-is}
+use Rattle.booking.proofs.Figures.{figure_stop, figure_step}
+use Rattle.split.proofs.Labels.{spiral_is}
 use Rattle.split.proofs.SubNumbers.{sub_cells}
 
 -- d1 is not below d2
@@ -27,9 +27,9 @@ pub in_order : (w : ℕ → ℕ) → smaller w ≤ larger w
 in_order w = omega (arith, own w)
 
 -- no spiral with d2 above 0: the numbers are equal
-pub not-spiral : (w : ℕ → ℕ) → is_spiral w ≡ false → 0 < smaller w → larger w ≡ smaller w
+pub not_spiral : (w : ℕ → ℕ) → is_spiral w ≡ false → 0 < smaller w → larger w ≡ smaller w
 unfolding is_spiral are_spiral
-not-spiral w e h =
+not_spiral w e h =
     let l = lt-ltb 0 (smaller w) h in
     let m = ltb-false (smaller w) (larger w) (rw l at e) in
     omega (arith, in_order w)
@@ -51,13 +51,13 @@ module _ (fuel cell n b f : ℕ) (c : Cell) where
   more e = rw (e, parts)
 
 -- the parts that are drawn of a cell that is not split, and of one that is
-pub drawn-whole : (c : Cell) → is_split (count_of c) ≡ false → drawn_parts c ≡ whole c ∷ []
+pub drawn_whole : (c : Cell) → is_split (count_of c) ≡ false → drawn_parts c ≡ whole c ∷ []
 unfolding drawn_parts
-drawn-whole c e = rw (e, drawn_parts)
+drawn_whole c e = rw (e, drawn_parts)
 
-pub drawn-all : (c : Cell) → is_split (count_of c) ≡ true → drawn_parts c ≡ all_parts c
+pub drawn_all : (c : Cell) → is_split (count_of c) ≡ true → drawn_parts c ≡ all_parts c
 unfolding drawn_parts
-drawn-all c e = rw (e, drawn_parts)
+drawn_all c e = rw (e, drawn_parts)
 
 pub parts_counted : PartsCounted
 parts_counted zero cell n b f c K p h = absurd (omega arith)
@@ -77,15 +77,15 @@ parts_counted (suc fuel) cell n b f c K p h =
     go : (s : Bool) → is_spiral (count_of c) ≡ s → (is_level_cell v ≡ true → 0 < smaller v → larger v + smaller v ≤ fuel → inner ≡ 1 + 4 * splits (larger v) (smaller v))
         → length (parts (suc fuel) cell n b f c) ≡ 1 + 4 * splits (larger (count_of c)) (smaller (count_of c))
     go false e i =
-        let q = not-spiral (count_of c) e p in
-        rw (stop fuel cell n b f c e, q) (omega (arith, figure-stop (λ n. 0) (λ x y. 1) (smaller (count_of c))))
+        let q = not_spiral (count_of c) e p in
+        rw (stop fuel cell n b f c e, q) (omega (arith, figure_stop (λ n. 0) (λ x y. 1) (smaller (count_of c))))
     go true e i =
-        let (some, apart) = spiral-is (count_of c) e in
-        let N = (sub_cells c K some apart b f (cell + word_step * (n + 2))).omits-k in
+        let (some, apart) = spiral_is (count_of c) e in
+        let N = (sub_cells c K some apart b f (cell + word_step * (n + 2))).omits_k in
         rw (more fuel cell n b f c e, length-append)
         (last inner (splits_within (count_of c)) (splits (larger (count_of c)) (smaller (count_of c)))
         (i N.level (omega (arith, N.second)) (omega (arith, N.first, N.second)) ∙ ap₂ (λ x y. 1 + 4 * splits x y) N.first N.second)
-        (figure-step (λ n. 0) (λ x y. 1) (larger (count_of c)) (smaller (count_of c)) some apart))
+        (figure_step (λ n. 0) (λ x y. 1) (larger (count_of c)) (smaller (count_of c)) some apart))
 
 -- what holds of each part by its place
 module _ (P : ℕ → Part → Type 0) (p0 p1 q0 q1 : Part) (l : List Part) (first : P 0 p0) (second : P 1 p1)
@@ -141,8 +141,8 @@ module _ (cell : ℕ) where
       Goal : List Part → Type 0
       Goal l = (x : ℕ) → x < length l → Told n x (get_or l x no_part)
 
-      word-is : (word m : ℕ) → (sub c b f word m).index ≡ word
-      word-is word m = refl
+      word_is : (word m : ℕ) → (sub c b f word m).index ≡ word
+      word_is word m = refl
 
       go : (s : Bool) → is_spiral (count_of c) ≡ s
           → (is_level_cell (count_of N) ≡ true → larger (count_of N) + smaller (count_of N) ≤ fuel → N.index ≡ cell + word_step * (n + 2)
@@ -150,9 +150,9 @@ module _ (cell : ℕ) where
           → Goal (parts (suc fuel) cell n b f c)
       go false e j = subst Goal (sym (stop fuel cell n b f c e)) (alone n c K i)
       go true e j =
-          let (some, apart) = spiral-is (count_of c) e in
-          let M = (sub_cells c K some apart b f (cell + word_step * (n + 2))).omits-k in
-          let J = j M.level (omega (arith, M.first, M.second)) (word-is (cell + word_step * (n + 2)) 2) in
+          let (some, apart) = spiral_is (count_of c) e in
+          let M = (sub_cells c K some apart b f (cell + word_step * (n + 2))).omits_k in
+          let J = j M.level (omega (arith, M.first, M.second)) (word_is (cell + word_step * (n + 2)) 2) in
           let m : length inner ≡ 1 + 4 * splits_within (count_of c) =
           parts_counted fuel cell (n + 2) (b + 2 * (larger (count_of c) + smaller (count_of c))) (f + 6) (sub c b f (cell + word_step * (n + 2)) 2) M.level
           (omega (arith, M.second)) (omega (arith, M.first, M.second)) ∙ ap₂ (λ x y. 1 + 4 * splits x y) M.first M.second in
@@ -160,10 +160,10 @@ module _ (cell : ℕ) where
           (each (Told n) (corners c) (whole (sub c b f (cell + word_step * (n + 1)) 3))
           (whole (sub c b f (cell + word_step * (n + 3 + 4 * splits_within (count_of c))) 1)) (whole (sub c b f (cell + word_step * (n + 4 + 4 * splits_within (count_of c))) 0)) inner
           (i ∙ omega arith, K)
-          (word-is (cell + word_step * (n + 1)) 3, (sub_cells c K some apart b f (cell + word_step * (n + 1))).omits-l.level)
+          (word_is (cell + word_step * (n + 1)) 3, (sub_cells c K some apart b f (cell + word_step * (n + 1))).omits-l.level)
           (λ y l. let (a, d) = J y l in (a ∙ omega arith, d))
-          (word-is (cell + word_step * (n + 3 + 4 * splits_within (count_of c))) 1 ∙ omega (arith, m), (sub_cells c K some apart b f (cell + word_step * (n + 3 + 4 * splits_within (count_of c)))).omits-j.level)
-          (word-is (cell + word_step * (n + 4 + 4 * splits_within (count_of c))) 0 ∙ omega (arith, m), (sub_cells c K some apart b f (cell + word_step * (n + 4 + 4 * splits_within (count_of c)))).omits-i.level))
+          (word_is (cell + word_step * (n + 3 + 4 * splits_within (count_of c))) 1 ∙ omega (arith, m), (sub_cells c K some apart b f (cell + word_step * (n + 3 + 4 * splits_within (count_of c)))).omits-j.level)
+          (word_is (cell + word_step * (n + 4 + 4 * splits_within (count_of c))) 0 ∙ omega (arith, m), (sub_cells c K some apart b f (cell + word_step * (n + 4 + 4 * splits_within (count_of c)))).omits-i.level))
 
 pub parts_numbered : PartsNumbered
 unfolding Told

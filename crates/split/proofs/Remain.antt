@@ -14,7 +14,7 @@ use Rattle.booking.specs.Booking.{least_corner}
 use Rattle.split.specs.work.Shown.{Facet, num, Segment, OnFace}
 use Rattle.split.specs.claims.Five.{name_of, Firm}
 use Rattle.split.specs.work.Five.{facet, Went, Stays}
-use Rattle.split.proofs.Facets.{seg-on, turned}
+use Rattle.split.proofs.Facets.{seg_on, turned}
 use Rattle.split.proofs.Rest.{count-at, off}
 use Rattle.split.proofs.Shows.{once}
 
@@ -33,10 +33,10 @@ module _ (c : Cell) (H : Firm c) where
   goes_at s v = least_corner (count_of c) (position s v)
 
   pub at_low : (s j : ℕ) → s < 4 → j < 3 → goes_at s (lower j) ≡ own (lo (slot_edge s j))
-  at_low s j ls lj = ap own (sym (slot-edge s j ls lj).lo-is)
+  at_low s j ls lj = ap own (sym (slot-edge s j ls lj).lo_is)
 
   pub at_high : (s j : ℕ) → s < 4 → j < 3 → goes_at s (upper j) ≡ own (hi (slot_edge s j))
-  at_high s j ls lj = ap own (sym (slot-edge s j ls lj).hi-is)
+  at_high s j ls lj = ap own (sym (slot-edge s j ls lj).hi_is)
 
   -- what remains of the face in slot s
   abbrev pub left : ℕ → Facet
@@ -47,22 +47,22 @@ module _ (c : Cell) (H : Firm c) where
   }
 
   -- a crossing of an outer face
-  edge-lt : (s j t : ℕ) → s < 4 → OnFace (Φ s) j t → slot_edge s j < 6
-  edge-lt s j t ls o = (slot-edge s j ls o.edge).lt
+  edge_lt : (s j t : ℕ) → s < 4 → OnFace (Φ s) j t → slot_edge s j < 6
+  edge_lt s j t ls o = (slot-edge s j ls o.edge).lt
 
-  pub stays-is : (s j t : ℕ) → s < 4 → OnFace (Φ s) j t → Stays c (num (Φ s) j t) → (own (lo (slot_edge s j)) ≤ t) × (t + own (hi (slot_edge s j)) < w (slot_edge s j))
-  stays-is s j t ls o g =
-      let (x, y) = once c H g.k g.t (slot_edge s j) t g.k_lt (omega (arith, g.high)) (edge-lt s j t ls o) o.index (sym g.is) in
+  pub stays_is : (s j t : ℕ) → s < 4 → OnFace (Φ s) j t → Stays c (num (Φ s) j t) → (own (lo (slot_edge s j)) ≤ t) × (t + own (hi (slot_edge s j)) < w (slot_edge s j))
+  stays_is s j t ls o g =
+      let (x, y) = once c H g.k g.t (slot_edge s j) t g.k_lt (omega (arith, g.high)) (edge_lt s j t ls o) o.index (sym g.is) in
       let a = ap (λ k. own (lo k)) x in
       let b = ap (λ k. own (hi k)) x in
       let n = ap w x in
       (omega (arith, g.low, a, y), omega (arith, g.high, b, n, y))
 
   pub went_at : (s j t : ℕ) → s < 4 → OnFace (Φ s) j t → (t < own (lo (slot_edge s j))) ⊎ (w (slot_edge s j) ≤ t + own (hi (slot_edge s j))) → Went c (num (Φ s) j t)
-  went_at s j t ls o g = record { k = slot_edge s j; t = t; k_lt = edge-lt s j t ls o; t-lt = o.index; gone = g; is = refl }
+  went_at s j t ls o g = record { k = slot_edge s j; t = t; k_lt = edge_lt s j t ls o; t_lt = o.index; gone = g; is = refl }
 
   pub stays_at : (s j t : ℕ) → s < 4 → OnFace (Φ s) j t → own (lo (slot_edge s j)) ≤ t → t + own (hi (slot_edge s j)) < w (slot_edge s j) → Stays c (num (Φ s) j t)
-  stays_at s j t ls o a b = record { k = slot_edge s j; t = t; k_lt = edge-lt s j t ls o; low = a; high = b; is = refl }
+  stays_at s j t ls o a b = record { k = slot_edge s j; t = t; k_lt = edge_lt s j t ls o; low = a; high = b; is = refl }
 
   -- in the words of the shift law
   abbrev pub Rem : ℕ → ℕ → ℕ → Type 0
@@ -70,7 +70,7 @@ module _ (c : Cell) (H : Firm c) where
 
   pub stays_rem : (s j t : ℕ) → s < 4 → OnFace (Φ s) j t → Stays c (num (Φ s) j t) → Rem s j t
   stays_rem s j t ls o g =
-      let (a, b) = stays-is s j t ls o g in
+      let (a, b) = stays_is s j t ls o g in
       record { low = omega (arith, at_low s j ls o.edge); high = omega (arith, b, at_high s j ls o.edge, count-at (count_of c) H.level s j o.edge) }
 
   rem_stays : (s j t : ℕ) → s < 4 → OnFace (Φ s) j t → Rem s j t → Stays c (num (Φ s) j t)
@@ -89,7 +89,7 @@ module _ (c : Cell) (H : Firm c) where
 
   pub never : (g : ℕ) → Went c g → Stays c g → ⊥
   never g a b =
-      let (x, y) = once c H a.k a.t b.k b.t a.k_lt a.t-lt b.k_lt (omega (arith, b.high)) (sym a.is ∙ b.is) in
+      let (x, y) = once c H a.k a.t b.k b.t a.k_lt a.t_lt b.k_lt (omega (arith, b.high)) (sym a.is ∙ b.is) in
       let p = ap (λ k. own (lo k)) x in
       let q = ap (λ k. own (hi k)) x in
       let r = ap w x in
@@ -101,9 +101,9 @@ module _ (c : Cell) (H : Firm c) where
 
   pub stays_on : (s j t j' t' : ℕ) → s < 4 → Segment (Φ s) j t j' t' → Stays c (num (Φ s) j t) → Stays c (num (Φ s) j' t')
   stays_on s j t j' t' ls z g =
-      rem_stays s j' t' ls (seg-on (Φ s) j' t' j t (turned (Φ s) j t j' t' z)) (back_at s j t j' t' ls z (stays_rem s j t ls (seg-on (Φ s) j t j' t' z) g)).0
+      rem_stays s j' t' ls (seg_on (Φ s) j' t' j t (turned (Φ s) j t j' t' z)) (back_at s j t j' t' ls z (stays_rem s j t ls (seg_on (Φ s) j t j' t' z) g)).0
 
   pub went_on : (s j t j' t' : ℕ) → s < 4 → Segment (Φ s) j t j' t' → Went c (num (Φ s) j t) → Went c (num (Φ s) j' t')
   went_on s j t j' t' ls z g =
       ⊎_elim (λ x. x) (λ (x : Stays c (num (Φ s) j' t')). absurd (never (num (Φ s) j t) g (stays_on s j' t' j t ls (turned (Φ s) j t j' t' z) x)))
-      (either s j' t' ls (seg-on (Φ s) j' t' j t (turned (Φ s) j t j' t' z)))
+      (either s j' t' ls (seg_on (Φ s) j' t' j t (turned (Φ s) j t j' t' z)))

@@ -17,9 +17,9 @@ use Rattle.split.specs.Parts.{Part, whole, corners, splits_within, parts}
 use Rattle.split.specs.Standing.{sub_places, Standing, stand, standing, split_places, inner_of, fans_in, fans_of}
 use Rattle.split.specs.claims.Claims.{StandingParts}
 use Rattle.split.specs.work.Spots.{standing_inner}
-use Rattle.split.proofs.Labels.{spiral-is}
+use Rattle.split.proofs.Labels.{spiral_is}
 use Rattle.split.proofs.SubNumbers.{sub_cells}
-use Rattle.split.proofs.Parts.{not-spiral, stop}
+use Rattle.split.proofs.Parts.{not_spiral, stop}
 use Rattle.split.proofs.Parts as listed
 
 -- what is listed before and after the nested sub-cell
@@ -64,12 +64,12 @@ module _ (cell : ℕ) where
   enough zero k n b f at c K h i = go (is_spiral (count_of c)) refl
     where
       go : (s : Bool) → is_spiral (count_of c) ≡ s → standing zero cell n b f at c ≡ standing k cell n b f at c
-      go true e = absurd (omega (arith, spiral-is (count_of c) e))
+      go true e = absurd (omega (arith, spiral_is (count_of c) e))
       go false e = none zero n b f at c e ∙ sym (none k n b f at c e)
   enough (suc m) zero n b f at c K h i = go (is_spiral (count_of c)) refl
     where
       go : (s : Bool) → is_spiral (count_of c) ≡ s → standing (suc m) cell n b f at c ≡ standing zero cell n b f at c
-      go true e = absurd (omega (arith, spiral-is (count_of c) e))
+      go true e = absurd (omega (arith, spiral_is (count_of c) e))
       go false e = none (suc m) n b f at c e ∙ sym (none zero n b f at c e)
   enough (suc m) (suc k) n b f at c K h i =
       go (is_spiral (count_of c)) refl
@@ -85,8 +85,8 @@ module _ (cell : ℕ) where
           → standing (suc m) cell n b f at c ≡ standing (suc k) cell n b f at c
       go false e j = none (suc m) n b f at c e ∙ sym (none (suc k) n b f at c e)
       go true e j =
-          let (some, apart) = spiral-is (count_of c) e in
-          let N = (sub_cells c K some apart b f (cell + word_step * (n + 2))).omits-k in
+          let (some, apart) = spiral_is (count_of c) e in
+          let N = (sub_cells c K some apart b f (cell + word_step * (n + 2))).omits_k in
           more m n b f at c e
           ∙ ap (five cell n b f at c) (j N.level (omega (arith, N.first, N.second)) (omega (arith, N.first, N.second)))
           ∙ sym (more k n b f at c e)
@@ -96,14 +96,14 @@ module _ (cell : ℕ) where
   stands n b f at c = standing (larger (count_of c) + smaller (count_of c)) cell n b f at c
 
   module _ (n b f : ℕ) (at : List Place) (c : Cell) where
-    pub stands-stop : is_spiral (count_of c) ≡ false → stands n b f at c ≡ stand at (whole c) ∷ []
-    stands-stop e = none (larger (count_of c) + smaller (count_of c)) n b f at c e
+    pub stands_stop : is_spiral (count_of c) ≡ false → stands n b f at c ≡ stand at (whole c) ∷ []
+    stands_stop e = none (larger (count_of c) + smaller (count_of c)) n b f at c e
 
-    pub stands-more : is_level_cell (count_of c) ≡ true → is_spiral (count_of c) ≡ true
+    pub stands_more : is_level_cell (count_of c) ≡ true → is_spiral (count_of c) ≡ true
         → stands n b f at c ≡ five cell n b f at c (stands (n + 2) (onward cell n b f at c) (f + 6) (sub_places (count_of c) at 2) (inmost cell n b f at c))
-    stands-more K S =
-        let (some, apart) = spiral-is (count_of c) S in
-        let N = (sub_cells c K some apart b f (cell + word_step * (n + 2))).omits-k in
+    stands_more K S =
+        let (some, apart) = spiral_is (count_of c) S in
+        let N = (sub_cells c K some apart b f (cell + word_step * (n + 2))).omits_k in
         let fuel = larger (count_of c) + smaller (count_of c) - 1 in
         let e : larger (count_of c) + smaller (count_of c) ≡ suc fuel = omega arith in
         let v = inmost cell n b f at c in
@@ -132,17 +132,17 @@ module _ (cell : ℕ) where
           go : (s : Bool) → is_spiral (count_of c) ≡ s
               → (is_level_cell v ≡ true → 0 < smaller v → larger v + smaller v ≤ fuel → P (n + 2) (onward cell n b f at c) (f + 6) (sub_places (count_of c) at 2) (inmost cell n b f at c))
               → P n b f at c
-          go false e i = end n b f at c K h (not-spiral (count_of c) e h) e
+          go false e i = end n b f at c K h (not_spiral (count_of c) e h) e
           go true e i =
-              let (some, apart) = spiral-is (count_of c) e in
-              let N = (sub_cells c K some apart b f (cell + word_step * (n + 2))).omits-k in
+              let (some, apart) = spiral_is (count_of c) e in
+              let N = (sub_cells c K some apart b f (cell + word_step * (n + 2))).omits_k in
               step n b f at c K e (i N.level (omega (arith, N.second)) (omega (arith, N.first, N.second)))
 
 -- what is gathered of the five
-gather-five : (g : Standing → List Place) (p q r s : Standing) (l : List Standing)
+gather_five : (g : Standing → List Place) (p q r s : Standing) (l : List Standing)
     → gather g (p ∷ q ∷ (l ++ (r ∷ s ∷ []))) ≡ g p ++ (g q ++ (gather g l ++ (g r ++ g s)))
 unfolding gather
-gather-five g p q r s l = ap (λ m. g p ++ (g q ++ m)) (gather_append g l (r ∷ s ∷ []) ∙ ap (λ m. gather g l ++ (g r ++ m)) (append-nil (g s)))
+gather_five g p q r s l = ap (λ m. g p ++ (g q ++ m)) (gather_append g l (r ∷ s ∷ []) ∙ ap (λ m. gather g l ++ (g r ++ m)) (append-nil (g s)))
 
 module _ (cell n b f : ℕ) (at : List Place) (c : Cell) where
   abbrev v : Cell
@@ -154,23 +154,23 @@ module _ (cell n b f : ℕ) (at : List Place) (c : Cell) where
   abbrev b' : ℕ
   b' = onward cell n b f at c
 
-  pub inner-stop : is_spiral (count_of c) ≡ false → standing_inner cell n b f at c ≡ []
+  pub inner_stop : is_spiral (count_of c) ≡ false → standing_inner cell n b f at c ≡ []
   unfolding standing_inner gather
-  inner-stop e = ap (gather inner_of) (stands-stop cell n b f at c e)
+  inner_stop e = ap (gather inner_of) (stands_stop cell n b f at c e)
 
-  pub inner-more : is_level_cell (count_of c) ≡ true → is_spiral (count_of c) ≡ true
+  pub inner_more : is_level_cell (count_of c) ≡ true → is_spiral (count_of c) ≡ true
       → standing_inner cell n b f at c ≡ split_places (count_of c) at ++ standing_inner cell (n + 2) b' (f + 6) at' v
   unfolding standing_inner
-  inner-more K S =
-      ap (gather inner_of) (stands-more cell n b f at c K S)
-      ∙ gather-five inner_of (first_of cell n b f at c) (omits_l cell n b f at c) (omits_j cell n b f at c) (omits_i cell n b f at c) (stands cell (n + 2) b' (f + 6) at' v)
+  inner_more K S =
+      ap (gather inner_of) (stands_more cell n b f at c K S)
+      ∙ gather_five inner_of (first_of cell n b f at c) (omits_l cell n b f at c) (omits_j cell n b f at c) (omits_i cell n b f at c) (stands cell (n + 2) b' (f + 6) at' v)
       ∙ ap (λ (l : List Place). split_places (count_of c) at ++ l) (append-nil (gather inner_of (stands cell (n + 2) b' (f + 6) at' v)))
 
   -- the fans of a cell, of which each has its middle by `mid`; in a split those of the sub-cells
   module _ (mid : (ℕ → Place) → Cell → ℕ → Place) where
     pub fans_stop : is_spiral (count_of c) ≡ false → gather (fans_of mid) (stands cell n b f at c) ≡ fans_in mid at c
     unfolding gather
-    fans_stop e = ap (gather (fans_of mid)) (stands-stop cell n b f at c e) ∙ append-nil (fans_in mid at c)
+    fans_stop e = ap (gather (fans_of mid)) (stands_stop cell n b f at c e) ∙ append-nil (fans_in mid at c)
 
     pub fans_more : is_level_cell (count_of c) ≡ true → is_spiral (count_of c) ≡ true
         → gather (fans_of mid) (stands cell n b f at c)
@@ -179,8 +179,8 @@ module _ (cell n b f : ℕ) (at : List Place) (c : Cell) where
         ++ (fans_in mid (omits_j cell n b f at c).at (sub c b f (cell + word_step * (n + 3 + 4 * splits_within (count_of c))) 1)
         ++ fans_in mid (omits_i cell n b f at c).at (sub c b f (cell + word_step * (n + 4 + 4 * splits_within (count_of c))) 0)))
     fans_more K S =
-        ap (gather (fans_of mid)) (stands-more cell n b f at c K S)
-        ∙ gather-five (fans_of mid) (first_of cell n b f at c) (omits_l cell n b f at c) (omits_j cell n b f at c) (omits_i cell n b f at c) (stands cell (n + 2) b' (f + 6) at' v)
+        ap (gather (fans_of mid)) (stands_more cell n b f at c K S)
+        ∙ gather_five (fans_of mid) (first_of cell n b f at c) (omits_l cell n b f at c) (omits_j cell n b f at c) (omits_i cell n b f at c) (stands cell (n + 2) b' (f + 6) at' v)
 
 -- the parts are those of the mesh
 pub standing_parts : StandingParts

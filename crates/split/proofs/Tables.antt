@@ -9,9 +9,9 @@ use lib.ListN.{length, get_or, length-append}
 use Rattle.counting.specs.Pick.{pick}
 use Rattle.counting.specs.Lists.{total, over}
 use Rattle.counting.specs.work.Stored.{Stored}
-use Rattle.counting.proofs.Fronts.{over-split}
-use Rattle.counting.proofs.Lists.{length_singles, values-at, gather-over}
-use Rattle.counting.proofs.Range.{total_ext, total_add, total-has, length_over, over_ext, over_snoc}
+use Rattle.counting.proofs.Fronts.{over_split}
+use Rattle.counting.proofs.Lists.{length_singles, values_at, gather_over}
+use Rattle.counting.proofs.Range.{total_ext, total_add, total_has, length_over, over_ext, over_snoc}
 use Rattle.counting.proofs.Stored.{stored_none, stored_long, stored_as, stored_then}
 use Rattle.slots.specs.Limits.{most_cells}
 use Rattle.cell.specs.declared.Cell.{Cell}
@@ -22,27 +22,27 @@ use Rattle.cell.specs.declared.Triangle.{Triangle}
 use Rattle.cell.specs.Words.{word_count, words, all_words}
 use Rattle.cell.specs.Triangles.{cell_triangles, triangles_with}
 use Rattle.cell.proofs.Taken.{with_all}
-use Rattle.cell.proofs.Using.{table-near}
+use Rattle.cell.proofs.Using.{table_near}
 use Rattle.cell.proofs.Values.{taken_is}
-use Rattle.cell.proofs.Storing.{length-all, words_of, written_all, written-room}
+use Rattle.cell.proofs.Storing.{length_all, words_of, written_all, written_room}
 use Rattle.booking.specs.Figures.{splits}
 use Rattle.booking.specs.Booking.{larger, smaller, is_split}
 use Rattle.booking.specs.claims.Booking.{splits_in, more_in}
 use Rattle.booking.specs.declared.Gain.{Gain}
 use Rattle.booking.specs.work.Sums.{GainIn}
-use Rattle.booking.proofs.Figures.{figure-step}
+use Rattle.booking.proofs.Figures.{figure_step}
 use Rattle.split.specs.Parts.{drawn_triangles, splits_of}
 use Rattle.split.specs.work.Table.{table_drawn, table_splits}
 use Rattle.split.specs.work.Gains.{splits_at, more_at, loop_words, IsStretch}
 use Rattle.split.specs.work.Working.{StartsNear, Drawable}
-use Rattle.split.proofs.Lengths.{split-is, drawn-not}
+use Rattle.split.proofs.Lengths.{split_is, drawn_not}
 use Rattle.split.proofs.Gained.{drawn_gained, splits_told}
 use Rattle.split.proofs.Few.{gain_at}
 
 -- the lists from p up to e are those up to k and those from k on
 module _ {A : Type 0} (f : ℕ → List A) (p k : ℕ) (l : p ≤ k) where
-  over-next : over f (k + 1 - p) p ≡ over f (k - p) p ++ f k
-  over-next =
+  over_next : over f (k + 1 - p) p ≡ over f (k - p) p ++ f k
+  over_next =
       let s : k + 1 - p ≡ suc (k - p) = omega arith in
       let q : p + (k - p) ≡ k = omega arith in
       ap (λ n. over f n p) s ∙ over_snoc f (k - p) p ∙ ap (λ n. over f (k - p) p ++ f n) q
@@ -52,18 +52,18 @@ module _ {A : Type 0} (f : ℕ → List A) (p k : ℕ) (l : p ≤ k) where
     over_cut =
         let s : e - p ≡ (k - p) + (e - k) = omega arith in
         let q : p + (k - p) ≡ k = omega arith in
-        ap (λ n. over f n p) s ∙ over-split f (k - p) (e - k) p ∙ ap (λ n. over f (k - p) p ++ over f (e - k) n) q
+        ap (λ n. over f n p) s ∙ over_split f (k - p) (e - k) p ∙ ap (λ n. over f (k - p) p ++ over f (e - k) n) q
 
     cut_long : length (over f (e - p) p) ≡ length (over f (k - p) p) + length (over f (e - k) k)
     cut_long = ap length over_cut ∙ length-append (over f (k - p) p) (over f (e - k) k)
 
 -- the same from 0 on
 module _ {A : Type 0} (f : ℕ → List A) (k e : ℕ) (m : k ≤ e) where
-  over-up : over f e 0 ≡ over f k 0 ++ over f (e - k) k
-  over-up = let a : e - 0 ≡ e = omega arith in let b : k - 0 ≡ k = omega arith in rw (a, b) at (over_cut f 0 k (omega arith) e m)
+  over_up : over f e 0 ≡ over f k 0 ++ over f (e - k) k
+  over_up = let a : e - 0 ≡ e = omega arith in let b : k - 0 ≡ k = omega arith in rw (a, b) at (over_cut f 0 k (omega arith) e m)
 
-  up-long : length (over f e 0) ≡ length (over f k 0) + length (over f (e - k) k)
-  up-long = ap length over-up ∙ length-append (over f k 0) (over f (e - k) k)
+  up_long : length (over f e 0) ≡ length (over f k 0) + length (over f (e - k) k)
+  up_long = ap length over_up ∙ length-append (over f k 0) (over f (e - k) k)
 
 -- the words of the loops' triangles of the cells from c on, cell after cell: those up to k are stored
 module _ (cells counts names sides starts : List ℕ) (c : ℕ) where
@@ -76,23 +76,23 @@ module _ (cells counts names sides starts : List ℕ) (c : ℕ) where
 
   module _ {was : List ℕ} {at k : ℕ} {is : List ℕ} {i : ℕ} (l : c ≤ k) (S : Stored was at (loop_words cells counts names sides starts c (k - c)) is i)
       {v : Cell} (q : v ≡ table_cell cells counts names sides starts k) where
-    loops-with : all_words (triangles_with v 0) ≡ loops_at k
-    loops-with = ap (λ v. all_words (triangles_with v 0)) q ∙ ap all_words (with_all (table_cell cells counts names sides starts k))
+    loops_with : all_words (triangles_with v 0) ≡ loops_at k
+    loops_with = ap (λ v. all_words (triangles_with v 0)) q ∙ ap all_words (with_all (table_cell cells counts names sides starts k))
 
-    pub each-room : {e : ℕ} → k < e → at + length (loop_words cells counts names sides starts c (e - c)) ≤ length was → i + length (all_words (triangles_with v 0)) ≤ length is
-    each-room {e} h room =
+    pub each_room : {e : ℕ} → k < e → at + length (loop_words cells counts names sides starts c (e - c)) ≤ length was → i + length (all_words (triangles_with v 0)) ≤ length is
+    each_room {e} h room =
         omega (
           arith,
           room,
           S.after,
           stored_long S,
-          ap length loops-with,
+          ap length loops_with,
           cut_long loops_at c (k + 1) (omega arith) e (omega arith),
-          ap length (over-next loops_at c k l) ∙ length-append (over loops_at (k - c) c) (loops_at k),
+          ap length (over_next loops_at c k l) ∙ length-append (over loops_at (k - c) c) (loops_at k),
         )
 
     pub each_more : {is' : List ℕ} {j : ℕ} → Stored is i (all_words (triangles_with v 0)) is' j → Stored was at (loop_words cells counts names sides starts c (k + 1 - c)) is' j
-    each_more T = stored_as (stored_then S (stored_as T loops-with refl)) (sym (over-next loops_at c k l)) refl
+    each_more T = stored_as (stored_then S (stored_as T loops_with refl)) (sym (over_next loops_at c k l)) refl
 
 -- one cell more without splits
 pub none_more : (counts sides : List ℕ) {c e : ℕ} → ((k : ℕ) → c ≤ k → k < e → splits_at counts sides k ≡ 0) → splits_at counts sides e ≡ 0
@@ -110,8 +110,8 @@ unsplit c z = go (is_split (count_of c)) refl z
     go : (s : Bool) → is_split (count_of c) ≡ s → pick s (splits (larger (count_of c)) (smaller (count_of c))) 0 ≡ 0 → is_split (count_of c) ≡ false
     go false e z = e
     go true e z =
-        let S = split-is (count_of c) e in
-        absurd (omega (arith, z, figure-step (λ n. 0) (λ x y. 1) (larger (count_of c)) (smaller (count_of c)) S.some S.more))
+        let S = split_is (count_of c) e in
+        absurd (omega (arith, z, figure_step (λ n. 0) (λ x y. 1) (larger (count_of c)) (smaller (count_of c)) S.some S.more))
 
 module _ (cells counts names sides starts : List ℕ) where
   abbrev at : ℕ → Cell
@@ -125,59 +125,59 @@ module _ (cells counts names sides starts : List ℕ) where
   unfolding more_at
   more-at c = drawn_gained (at c) ∙ ap (λ w. length (cell_triangles (at c)) + more_in w) (sym (taken_is cells counts names sides starts c))
 
-  pub unsplit-at : (c : ℕ) → splits_at counts sides c ≡ 0 → is_split (count_of (at c)) ≡ false
-  unsplit-at c z = unsplit (at c) (sym (splits-at c) ∙ z)
+  pub unsplit_at : (c : ℕ) → splits_at counts sides c ≡ 0 → is_split (count_of (at c)) ≡ false
+  unsplit_at c z = unsplit (at c) (sym (splits-at c) ∙ z)
 
-  drawn-unsplit : (c : ℕ) → splits_at counts sides c ≡ 0 → cell_triangles (at c) ≡ drawn_triangles (at c)
-  drawn-unsplit c z = sym (drawn-not (at c) (unsplit-at c z))
+  drawn_unsplit : (c : ℕ) → splits_at counts sides c ≡ 0 → cell_triangles (at c) ≡ drawn_triangles (at c)
+  drawn_unsplit c z = sym (drawn_not (at c) (unsplit_at c z))
 
   -- all cells
-  pub splits-all : total (splits_at counts sides) (drawn_cells cells) 0 ≡ table_splits cells counts names sides starts
+  pub splits_all : total (splits_at counts sides) (drawn_cells cells) 0 ≡ table_splits cells counts names sides starts
   unfolding table_splits
-  splits-all = total_ext (splits_at counts sides) (λ c. splits_of (at c)) (drawn_cells cells) 0 (λ c _ _. splits-at c)
+  splits_all = total_ext (splits_at counts sides) (λ c. splits_of (at c)) (drawn_cells cells) 0 (λ c _ _. splits-at c)
 
-  pub drawn-long : length (table_drawn cells counts names sides starts) ≡ length (table_triangles cells counts names sides starts) + total (more_at counts sides) (drawn_cells cells) 0
+  pub drawn_long : length (table_drawn cells counts names sides starts) ≡ length (table_triangles cells counts names sides starts) + total (more_at counts sides) (drawn_cells cells) 0
   unfolding table_drawn table_triangles
-  drawn-long =
+  drawn_long =
       length_over (λ c. drawn_triangles (at c)) (drawn_cells cells) 0
       ∙ total_ext (λ c. length (drawn_triangles (at c))) (λ c. length (cell_triangles (at c)) + more_at counts sides c) (drawn_cells cells) 0 (λ c _ _. more-at c)
       ∙ total_add (λ c. length (cell_triangles (at c))) (more_at counts sides) (drawn_cells cells) 0
       ∙ ap (λ n. n + total (more_at counts sides) (drawn_cells cells) 0) (sym (length_over (λ c. cell_triangles (at c)) (drawn_cells cells) 0))
 
-  pub drawn-none : total (splits_at counts sides) (drawn_cells cells) 0 ≡ 0 → table_triangles cells counts names sides starts ≡ table_drawn cells counts names sides starts
+  pub drawn_none : total (splits_at counts sides) (drawn_cells cells) 0 ≡ 0 → table_triangles cells counts names sides starts ≡ table_drawn cells counts names sides starts
   unfolding table_drawn table_triangles
-  drawn-none z =
+  drawn_none z =
       over_ext (λ c. cell_triangles (at c)) (λ c. drawn_triangles (at c)) (drawn_cells cells) 0
-      (λ c a b. drawn-unsplit c (omega (arith, total-has (splits_at counts sides) (drawn_cells cells) 0 c a b, z)))
+      (λ c a b. drawn_unsplit c (omega (arith, total_has (splits_at counts sides) (drawn_cells cells) 0 c a b, z)))
 
   -- cell c can be written
   module _ (c : ℕ) where
-    counts-six : length (at c).counts ≡ 6
+    counts_six : length (at c).counts ≡ 6
     unfolding table_cell
-    counts-six = length_singles (λ k. get_or counts (side sides (c % most_cells) k) 0) 6 0
+    counts_six = length_singles (λ k. get_or counts (side sides (c % most_cells) k) 0) 6 0
 
-    starts-six : length (at c).starts ≡ 6
+    starts_six : length (at c).starts ≡ 6
     unfolding table_cell
-    starts-six = length_singles (λ k. get_or starts (side sides (c % most_cells) k) 0 % short_limit) 6 0
+    starts_six = length_singles (λ k. get_or starts (side sides (c % most_cells) k) 0 % short_limit) 6 0
 
-    starts-low : (e : ℕ) → e < 6 → start_of (at c) e < short_limit
+    starts_low : (e : ℕ) → e < 6 → start_of (at c) e < short_limit
     unfolding table_cell
-    starts-low e l = rw (values-at (λ k. get_or starts (side sides (c % most_cells) k) 0 % short_limit) 6 e 0 l) (omega arith)
+    starts_low e l = rw (values_at (λ k. get_or starts (side sides (c % most_cells) k) 0 % short_limit) 6 e 0 l) (omega arith)
 
-    index-low : (at c).index < most_cells
+    index_low : (at c).index < most_cells
     unfolding table_cell
-    index-low = omega arith
+    index_low = omega arith
 
     pub table-starts : {v : Cell} → v ≡ at c → StartsNear v
-    table-starts e = rw e (record { near = table-near cells counts names sides starts c; starts-six = starts-six })
+    table-starts e = rw e (record { near = table_near cells counts names sides starts c; starts_six = starts_six })
 
     pub splits_drawable : {v : Cell} {splits : ℕ} → v ≡ at c → splits ≡ splits_at counts sides c → Drawable v splits
     splits_drawable e f =
         rw e (record {
-          counts-six = counts-six;
-          starts-six = starts-six;
-          below = λ k l. omega (arith, starts-low k l);
-          index-lt = index-low;
+          counts_six = counts_six;
+          starts_six = starts_six;
+          below = λ k l. omega (arith, starts_low k l);
+          index_lt = index_low;
           splits_are = f ∙ splits-at c;
         })
 
@@ -190,14 +190,14 @@ module _ (cells counts names sides starts : List ℕ) where
 
   module _ {was : List ℕ} {k : ℕ} {is : List ℕ} {i : ℕ} (S : Stored was 0 (over (words_of drawn_at) k 0) is i)
       (room : word_count * length (table_drawn cells counts names sides starts) ≤ length was) where
-    pub next-room : k < drawn_cells cells → i + length (all_words (drawn_at k)) ≤ length is
+    pub next_room : k < drawn_cells cells → i + length (all_words (drawn_at k)) ≤ length is
     unfolding table_drawn
-    next-room l = omega (arith, room, written-room drawn_at k S (drawn_cells cells) l, length-all (drawn_at k), stored_long S)
+    next_room l = omega (arith, room, written_room drawn_at k S (drawn_cells cells) l, length_all (drawn_at k), stored_long S)
 
     -- a stretch of cells that are not split, up to e
     module _ {n e splits : ℕ} (R : IsStretch counts sides k n e splits) (l : n ≤ drawn_cells cells) where
       stretch_is : loop_words cells counts names sides starts k (e - k) ≡ over (words_of drawn_at) (e - k) k
-      stretch_is = over_ext (loops_at cells counts names sides starts k) (words_of drawn_at) (e - k) k (λ c a b. ap all_words (drawn-unsplit c (R.none c a (omega (arith, R.from)))))
+      stretch_is = over_ext (loops_at cells counts names sides starts k) (words_of drawn_at) (e - k) k (λ c a b. ap all_words (drawn_unsplit c (R.none c a (omega (arith, R.from)))))
 
       pub stretch_room : i + length (loop_words cells counts names sides starts k (e - k)) ≤ length is
       unfolding table_drawn
@@ -208,17 +208,17 @@ module _ (cells counts names sides starts : List ℕ) where
             S.after,
             stored_long S,
             ap length stretch_is,
-            up-long (words_of drawn_at) k e R.from,
-            up-long (words_of drawn_at) e (drawn_cells cells) (omega (arith, R.within)),
-            ap length (gather-over words drawn_at (drawn_cells cells) 0),
-            length-all (over drawn_at (drawn_cells cells) 0),
+            up_long (words_of drawn_at) k e R.from,
+            up_long (words_of drawn_at) e (drawn_cells cells) (omega (arith, R.within)),
+            ap length (gather_over words drawn_at (drawn_cells cells) 0),
+            length_all (over drawn_at (drawn_cells cells) 0),
           )
 
       pub stretch_written : {out : List ℕ} {r : ℕ} → Stored is i (loop_words cells counts names sides starts k (e - k)) out r → Stored was 0 (over (words_of drawn_at) e 0) out r
-      stretch_written T = stored_as (stored_then S (stored_as T stretch_is refl)) (sym (over-up (words_of drawn_at) k e R.from)) refl
+      stretch_written T = stored_as (stored_then S (stored_as T stretch_is refl)) (sym (over_up (words_of drawn_at) k e R.from)) refl
 
-    pub all-written : k ≡ drawn_cells cells → Stored was 0 (all_words (table_drawn cells counts names sides starts)) is i
+    pub all_written : k ≡ drawn_cells cells → Stored was 0 (all_words (table_drawn cells counts names sides starts)) is i
     unfolding table_drawn
-    all-written e =
+    all_written e =
         let w = written_all drawn_at k S (drawn_cells cells) e in
-        record { area = w.1; after = omega (arith, w.0, length-all (over drawn_at (drawn_cells cells) 0)) }
+        record { area = w.1; after = omega (arith, w.0, length_all (over drawn_at (drawn_cells cells) 0)) }

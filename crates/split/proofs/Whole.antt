@@ -34,9 +34,9 @@ use Rattle.split.specs.claims.Five.{name_of, FirmBelow, own_piece}
 use Rattle.split.specs.claims.Claims.{part_local, RefinedBy, PartsRefine}
 use Rattle.split.proofs.Shows.{piece}
 use Rattle.split.proofs.Compose.{refines_ext, refines_above, self, compose}
-use Rattle.split.proofs.Labels.{spiral-is, labelled-lt, label_at, at-label}
+use Rattle.split.proofs.Labels.{spiral_is, labelled_lt, label_at, at-label}
 use Rattle.split.proofs.SubNumbers.{sub_cells}
-use Rattle.split.proofs.Sub.{sub-ready}
+use Rattle.split.proofs.Sub.{sub_ready}
 use Rattle.split.proofs.Five.{five_refines}
 use Rattle.split.proofs.Parts.{stop, more as recurse}
 
@@ -49,9 +49,9 @@ reface A m B Face Point Face' Point' to back at R = record {
   cover = R.cover;
   once = R.once;
   kind = λ j e l on. ⊎_elim (λ o. inl o) (λ f. inr (to ((B j).name (slot_of (B j) e)) f)) (R.kind j e l on);
-  inner-few = λ j k l e lj lk ll on f. R.inner-few j k l e lj lk ll on (back ((B j).name (slot_of (B j) e)) f);
-  inner-ends = λ j k d e lj lk jd je f. R.inner-ends j k d e lj lk jd je (back ((B j).name (slot_of (B j) d)) f);
-  inner-paired = λ j e l on f. R.inner-paired j e l on (back ((B j).name (slot_of (B j) e)) f);
+  inner_few = λ j k l e lj lk ll on f. R.inner_few j k l e lj lk ll on (back ((B j).name (slot_of (B j) e)) f);
+  inner_ends = λ j k d e lj lk jd je f. R.inner_ends j k d e lj lk jd je (back ((B j).name (slot_of (B j) d)) f);
+  inner_paired = λ j e l on f. R.inner_paired j e l on (back ((B j).name (slot_of (B j) e)) f);
   points = λ j g l v. ⊎_elim (λ a. inl a) (λ p. inr (at g p)) (R.points j g l v);
   linked = R.linked;
 }
@@ -67,15 +67,15 @@ leaf c b f P under =
     here (suc x) h = absurd (omega arith)
 
 -- the numbers of a ready cell are below b
-number-below : (c : Cell) (b f x : ℕ) → FirmBelow c b f → x < crossings (edges_of c) → number_of c x < b
+number_below : (c : Cell) (b f x : ℕ) → FirmBelow c b f → x < crossings (edges_of c) → number_of c x < b
 unfolding number_of in_grid
-number-below c b f x R l = R.below (edge (edges_of c) x) (index (edges_of c) x) ((lay (edges_of c)).edge-lt x l) ((lay (edges_of c)).index-lt x l)
+number_below c b f x R l = R.below (edge (edges_of c) x) (index (edges_of c) x) ((lay (edges_of c)).edge_lt x l) ((lay (edges_of c)).index_lt x l)
 
 pub meets_below : (c : Cell) (b f g : ℕ) → FirmBelow c b f → Meets (local_of c) g → g < b
-meets_below c b f g R v = let l = v.on.lt in subst (λ n. n < b) v.is (number-below c b f (half v.d) R (omega arith))
+meets_below c b f g R v = let l = v.on.lt in subst (λ n. n < b) v.is (number_below c b f (half v.d) R (omega arith))
 
 pub own_below : (c : Cell) (b f g : ℕ) → FirmBelow c b f → Meets (own_piece c) g → g < b
-own_below c b f g R v = let l = v.on.lt in subst (λ n. n < b) v.is (number-below c b f (half v.d) R (omega arith))
+own_below c b f g R v = let l = v.on.lt in subst (λ n. n < b) v.is (number_below c b f (half v.d) R (omega arith))
 
 -- one split, with the parts l of the sub-cell that omits k; wd m is word 0 of the sub-cell that omits the label m
 module _ (c : Cell) (b f : ℕ) (R : FirmBelow c b f) (some : 0 < smaller (count_of c)) (more : smaller (count_of c) < larger (count_of c)) (wd : ℕ → ℕ) (l : List Part)
@@ -98,7 +98,7 @@ module _ (c : Cell) (b f : ℕ) (R : FirmBelow c b f) (some : 0 < smaller (count
 
   ordered : Order order
   ordered = record {
-    lt = λ q h. labelled-lt (count_of c) K some more (3 - q) (omega arith);
+    lt = λ q h. labelled_lt (count_of c) K some more (3 - q) (omega arith);
     once = λ q r lq lr e.
         let z : 3 - q ≡ 3 - r = sym (label_at (count_of c) K some more (3 - q) (omega arith)) ∙ ap (label (count_of c)) e ∙ label_at (count_of c) K some more (3 - r) (omega arith) in
         omega arith;
@@ -118,22 +118,22 @@ module _ (c : Cell) (b f : ℕ) (R : FirmBelow c b f) (some : 0 < smaller (count
   sub_piece m = sub c b f (wd m) m
 
   -- a sub-cell by its label
-  part-is : (m : ℕ) → m < 4 → at_position (labelled (count_of c) m) ≡ part_local (whole (sub_piece m))
+  part_is : (m : ℕ) → m < 4 → at_position (labelled (count_of c) m) ≡ part_local (whole (sub_piece m))
   unfolding sub
-  part-is m lm = ap (λ v. local_of (sub_at c b f v (labelled (count_of c) m))) (ap wd (label_at (count_of c) K some more m lm))
+  part_is m lm = ap (λ v. local_of (sub_at c b f v (labelled (count_of c) m))) (ap wd (label_at (count_of c) K some more m lm))
 
   ready : (m : ℕ) → m < 4 → FirmBelow (sub_piece m) b' (f + 6)
-  ready m lm = sub-ready c b f R some more (wd m) m lm
+  ready m lm = sub_ready c b f R some more (wd m) m lm
 
   refined : Refines A 5 B (InnerFace (inside c b f)) (InnerPoint (arm_start c b) (arm_count c))
   refined = five_refines c b f R some more word order ordered
 
   -- names and numbers of the five parts are below those of the nested splits
-  sub-name : (m s : ℕ) → m < 4 → s < 4 → (at_position (labelled (count_of c) m)).name s < f + 6
-  sub-name m s lm ls = subst (λ D. D.name s < f + 6) (sym (part-is m lm)) ((ready m lm).under s ls)
+  sub_name : (m s : ℕ) → m < 4 → s < 4 → (at_position (labelled (count_of c) m)).name s < f + 6
+  sub_name m s lm ls = subst (λ D. D.name s < f + 6) (sym (part_is m lm)) ((ready m lm).under s ls)
 
   sub_meets : (m g : ℕ) → m < 4 → Meets (at_position (labelled (count_of c) m)) g → g < b'
-  sub_meets m g lm v = meets_below (sub_piece m) b' (f + 6) g (ready m lm) (subst (λ D. Meets D g) (part-is m lm) v)
+  sub_meets m g lm v = meets_below (sub_piece m) b' (f + 6) g (ready m lm) (subst (λ D. Meets D g) (part_is m lm) v)
 
   abbrev k : ℕ → ℕ
   k j = get_or (1 ∷ 1 ∷ length l ∷ 1 ∷ 1 ∷ []) j 0
@@ -156,7 +156,7 @@ module _ (c : Cell) (b f : ℕ) (R : FirmBelow c b f) (some : 0 < smaller (count
   nested_in : Refines (B 2) (length l) (λ i. part_local (get_or l i no_part)) (G 2) (H 2)
   nested_in =
       reface (B 2) (length l) (λ i. part_local (get_or l i no_part)) (λ x. f + 6 ≤ x) (λ g. b' ≤ g) (G 2) (H 2) (λ x h. (refl, h)) (λ x h. h.1) (λ g h. (refl, h))
-      (subst (λ D. Refines D (length l) (λ i. part_local (get_or l i no_part)) (λ x. f + 6 ≤ x) (λ g. b' ≤ g)) (sym (part-is 2 (omega arith))) N)
+      (subst (λ D. Refines D (length l) (λ i. part_local (get_or l i no_part)) (λ x. f + 6 ≤ x) (λ g. b' ≤ g)) (sym (part_is 2 (omega arith))) N)
 
   in_parts : (j : ℕ) → j < 5 → Refines (B j) (k j) (C j) (G j) (H j)
   unfolding C
@@ -169,7 +169,7 @@ module _ (c : Cell) (b f : ℕ) (R : FirmBelow c b f) (some : 0 < smaller (count
 
   name_below : (j s : ℕ) → j < 5 → s < (B j).slots → (B j).name s < f + 6
   name_below zero s lj ls = omega (arith, R.under s ls)
-  name_below (suc q) s lj ls = sub-name (3 - q) s (omega arith) ls
+  name_below (suc q) s lj ls = sub_name (3 - q) s (omega arith) ls
 
   meet_below : (j g : ℕ) → j < 5 → Meets (B j) g → g < b'
   meet_below zero g lj v = omega (arith, own_below c b f g R v)
@@ -184,15 +184,15 @@ module _ (c : Cell) (b f : ℕ) (R : FirmBelow c b f) (some : 0 < smaller (count
     apart = λ p q g lp lq u v. omega (arith, u.1, meet_below q g lq v);
   }
 
-  inner-above : (s : ℕ) → s < 4 → InnerFace (inside c b f) (name_of c s) → ⊥
+  inner_above : (s : ℕ) → s < 4 → InnerFace (inside c b f) (name_of c s) → ⊥
   unfolding inner_name
-  inner-above s ls u = omega (arith, R.under s ls, u.is)
+  inner_above s ls u = omega (arith, R.under s ls, u.is)
 
   all-parts : Refines A (pre k 5) (λ x. C (row k 5 x) (col k 5 x))
       (λ x. InnerFace (inside c b f) x ⊎ ((j : ℕ) × (j < 5) × G j x)) (λ g. InnerPoint (arm_start c b) (arm_count c) g ⊎ ((j : ℕ) × (j < 5) × H j g))
   all-parts =
       compose A 5 B (InnerFace (inside c b f)) (InnerPoint (arm_start c b) (arm_count c))
-      (piece c R.firm) refined (λ s ls u. inner-above s ls u)
+      (piece c R.firm) refined (λ s ls u. inner_above s ls u)
       k C G H laid_out (λ j s lj ls u. omega (arith, u.1, R.under s ls))
 
   -- the parts in order
@@ -203,8 +203,8 @@ module _ (c : Cell) (b f : ℕ) (R : FirmBelow c b f) (some : 0 < smaller (count
   unfolding pre total
   sizes = (omega arith, omega arith, omega arith, omega arith, omega arith, omega arith)
 
-  long-is : pre k 5 ≡ length listed
-  long-is = rw length-append (omega (arith, sizes.5))
+  long_is : pre k 5 ≡ length listed
+  long_is = rw length-append (omega (arith, sizes.5))
 
   abbrev at_all : ℕ → Local
   at_all x = C (row k 5 x) (col k 5 x)
@@ -217,20 +217,20 @@ module _ (c : Cell) (b f : ℕ) (R : FirmBelow c b f) (some : 0 < smaller (count
       let e : length l + 0 ≡ y = omega arith in
       subst (λ y. get_or (l ++ (whole (sub_piece 1) ∷ whole (sub_piece 0) ∷ [])) y no_part ≡ whole (sub_piece 1)) e (get_or-append-add l (whole (sub_piece 1) ∷ whole (sub_piece 0) ∷ []) 0 no_part)
 
-  last-list : (y : ℕ) → y ≡ length l + 1 → get_or (l ++ (whole (sub_piece 1) ∷ whole (sub_piece 0) ∷ [])) y no_part ≡ whole (sub_piece 0)
-  last-list y q =
+  last_list : (y : ℕ) → y ≡ length l + 1 → get_or (l ++ (whole (sub_piece 1) ∷ whole (sub_piece 0) ∷ [])) y no_part ≡ whole (sub_piece 0)
+  last_list y q =
       subst (λ y. get_or (l ++ (whole (sub_piece 1) ∷ whole (sub_piece 0) ∷ [])) y no_part ≡ whole (sub_piece 0)) (sym q) (get_or-append-add l (whole (sub_piece 1) ∷ whole (sub_piece 0) ∷ []) 1 no_part)
 
-  each-is : (x : ℕ) → x < 4 + length l → at_all x ≡ part_local (get_or listed x no_part)
+  each_is : (x : ℕ) → x < 4 + length l → at_all x ≡ part_local (get_or listed x no_part)
   unfolding C
-  each-is zero h = at_place 0 0 0 (omega arith) (omega arith) (omega (arith, sizes.0))
-  each-is (suc zero) h = at_place 1 0 1 (omega arith) (omega arith) (omega (arith, sizes.1)) ∙ part-is 3 (omega arith)
-  each-is (suc (suc y)) h =
+  each_is zero h = at_place 0 0 0 (omega arith) (omega arith) (omega (arith, sizes.0))
+  each_is (suc zero) h = at_place 1 0 1 (omega arith) (omega arith) (omega (arith, sizes.1)) ∙ part_is 3 (omega arith)
+  each_is (suc (suc y)) h =
       elim (dec_lt y (length l)) [
         | yes z ↦ at_place 2 y (suc (suc y)) (omega arith) z (omega (arith, sizes.2)) ∙ ap part_local (sym (get_or-append l (whole (sub_piece 1) ∷ whole (sub_piece 0) ∷ []) no_part y z))
         | no z ↦ elim (ℕ_discrete y (length l)) [
-          | yes e ↦ at_place 3 0 (suc (suc y)) (omega arith) (omega arith) (omega (arith, sizes.3)) ∙ part-is 1 (omega arith) ∙ ap part_local (sym (after_list y e))
-          | no e ↦ at_place 4 0 (suc (suc y)) (omega arith) (omega arith) (omega (arith, sizes.4)) ∙ part-is 0 (omega arith) ∙ ap part_local (sym (last-list y (omega arith)))
+          | yes e ↦ at_place 3 0 (suc (suc y)) (omega arith) (omega arith) (omega (arith, sizes.3)) ∙ part_is 1 (omega arith) ∙ ap part_local (sym (after_list y e))
+          | no e ↦ at_place 4 0 (suc (suc y)) (omega arith) (omega arith) (omega (arith, sizes.4)) ∙ part_is 0 (omega arith) ∙ ap part_local (sym (last_list y (omega arith)))
         ]
       ]
 
@@ -253,8 +253,8 @@ module _ (c : Cell) (b f : ℕ) (R : FirmBelow c b f) (some : 0 < smaller (count
   step : RefinedBy c b f listed
   step =
       refines_above A (length listed) (λ x. part_local (get_or listed x no_part)) AnyFace AnyPoint (piece c R.firm)
-      (refines_ext A (length listed) at_all (λ x. part_local (get_or listed x no_part)) AnyFace AnyPoint (λ x h. each-is x (omega (arith, h, long-is, sizes.5)))
-      (subst (λ n. Refines A n at_all AnyFace AnyPoint) long-is all-parts))
+      (refines_ext A (length listed) at_all (λ x. part_local (get_or listed x no_part)) AnyFace AnyPoint (λ x h. each_is x (omega (arith, h, long_is, sizes.5)))
+      (subst (λ n. Refines A n at_all AnyFace AnyPoint) long_is all-parts))
       b f face_ge point_ge R.under
 
 pub parts_refine : PartsRefine
@@ -281,8 +281,8 @@ parts_refine (suc fuel) cell n b f c R h =
         → RefinedBy c b f (parts (suc fuel) cell n b f c)
     go false e i = subst (RefinedBy c b f) (sym (stop fuel cell n b f c e)) (leaf c b f (piece c R.firm) R.under)
     go true e i =
-        let (some, more) = spiral-is (count_of c) e in
-        let M = (sub_cells c R.firm.level some more b f (cell + word_step * (n + 2))).omits-k in
+        let (some, more) = spiral_is (count_of c) e in
+        let M = (sub_cells c R.firm.level some more b f (cell + word_step * (n + 2))).omits_k in
         subst (RefinedBy c b f) (sym (recurse fuel cell n b f c e))
         (step c b f R some more word (parts fuel cell (n + 2) b' (f + 6) (sub c b f (cell + word_step * (n + 2)) 2))
-        (i (sub-ready c b f R some more (cell + word_step * (n + 2)) 2 (omega arith)) (omega (arith, M.first, M.second))))
+        (i (sub_ready c b f R some more (cell + word_step * (n + 2)) 2 (omega arith)) (omega (arith, M.first, M.second))))

@@ -17,14 +17,14 @@ use Rattle.split.specs.Limits.{word_step}
 use Rattle.split.specs.SubCell.{sub}
 use Rattle.split.specs.Parts.{Part, whole, corners, splits_within, parts, own_corners, part_triangles}
 use Rattle.split.specs.work.Working.{parts_words, start_words, end_words}
-use Rattle.split.proofs.Labels.{spiral-is}
+use Rattle.split.proofs.Labels.{spiral_is}
 use Rattle.split.proofs.SubNumbers.{sub_cells}
 use Rattle.split.proofs.Parts.{stop, more}
 
 -- the own corner triangles are those of the loops of length 3
-pub own-with : (c : Cell) → triangles_with c 3 ≡ own_corners c
+pub own_with : (c : Cell) → triangles_with c 3 ≡ own_corners c
 unfolding own_corners
-own-with c = refl
+own_with c = refl
 
 -- more than enough is enough
 module _ (cell : ℕ) where
@@ -38,12 +38,12 @@ module _ (cell : ℕ) where
   enough zero k n b f c K h i = go (is_spiral (count_of c)) refl
     where
       go : (s : Bool) → is_spiral (count_of c) ≡ s → parts zero cell n b f c ≡ parts k cell n b f c
-      go true e = absurd (omega (arith, spiral-is (count_of c) e))
+      go true e = absurd (omega (arith, spiral_is (count_of c) e))
       go false e = none zero n b f c e ∙ sym (none k n b f c e)
   enough (suc m) zero n b f c K h i = go (is_spiral (count_of c)) refl
     where
       go : (s : Bool) → is_spiral (count_of c) ≡ s → parts (suc m) cell n b f c ≡ parts zero cell n b f c
-      go true e = absurd (omega (arith, spiral-is (count_of c) e))
+      go true e = absurd (omega (arith, spiral_is (count_of c) e))
       go false e = none (suc m) n b f c e ∙ sym (none zero n b f c e)
   enough (suc m) (suc k) n b f c K h i =
       go (is_spiral (count_of c)) refl
@@ -59,8 +59,8 @@ module _ (cell : ℕ) where
           → parts (suc m) cell n b f c ≡ parts (suc k) cell n b f c
       go false e j = none (suc m) n b f c e ∙ sym (none (suc k) n b f c e)
       go true e j =
-          let (some, apart) = spiral-is (count_of c) e in
-          let N = (sub_cells c K some apart b f (cell + word_step * (n + 2))).omits-k in
+          let (some, apart) = spiral_is (count_of c) e in
+          let N = (sub_cells c K some apart b f (cell + word_step * (n + 2))).omits_k in
           let same = j N.level (omega (arith, N.first, N.second)) (omega (arith, N.first, N.second)) in
           more m cell n b f c e
           ∙ ap (λ l. corners c ∷ whole (sub c b f (cell + word_step * (n + 1)) 3)
@@ -68,18 +68,18 @@ module _ (cell : ℕ) where
           ∙ sym (more k cell n b f c e)
 
 -- the words of all parts, where there is no split
-pub words-stop : (fuel cell n b f : ℕ) (c : Cell) → is_spiral (count_of c) ≡ false → parts_words fuel cell n b f c ≡ all_words (triangles_with c 0)
+pub words_stop : (fuel cell n b f : ℕ) (c : Cell) → is_spiral (count_of c) ≡ false → parts_words fuel cell n b f c ≡ all_words (triangles_with c 0)
 unfolding gather
-words-stop fuel cell n b f c e = ap (λ l. all_words (gather part_triangles l)) (none cell fuel n b f c e) ∙ ap all_words (append-nil (cell_triangles c) ∙ sym (with_all c))
+words_stop fuel cell n b f c e = ap (λ l. all_words (gather part_triangles l)) (none cell fuel n b f c e) ∙ ap all_words (append-nil (cell_triangles c) ∙ sym (with_all c))
 
 -- of five parts
-five-words : (c s3 s1 s0 : Cell) (l : List Part)
+five_words : (c s3 s1 s0 : Cell) (l : List Part)
     → all_words (gather part_triangles (corners c ∷ whole s3 ∷ (l ++ (whole s1 ∷ whole s0 ∷ []))))
     ≡ (all_words (triangles_with c 3) ++ all_words (triangles_with s3 0))
     ++ (all_words (gather part_triangles l) ++ (all_words (triangles_with s1 0) ++ all_words (triangles_with s0 0)))
 unfolding gather
-five-words c s3 s1 s0 l =
-    rw (own-with c, with_all s3, with_all s1, with_all s0)
+five_words c s3 s1 s0 l =
+    rw (own_with c, with_all s3, with_all s1, with_all s0)
     (gather_append words (own_corners c) _
     ∙ ap (λ m. all_words (own_corners c) ++ m)
     (gather_append words (cell_triangles s3) _
@@ -101,13 +101,13 @@ module _ (cell n b f : ℕ) (c : Cell) (K : is_level_cell (count_of c) ≡ true)
   pub words_more : parts_words (larger (count_of c) + smaller (count_of c)) cell n b f c
       ≡ start_words c cell n b f ++ (parts_words (larger (count_of inner) + smaller (count_of inner)) cell (n + 2) b' (f + 6) inner ++ end_words c cell (n + 3 + 4 * splits_within (count_of c)) b f)
   words_more =
-      let (some, apart) = spiral-is (count_of c) S in
-      let N = (sub_cells c K some apart b f (cell + word_step * (n + 2))).omits-k in
+      let (some, apart) = spiral_is (count_of c) S in
+      let N = (sub_cells c K some apart b f (cell + word_step * (n + 2))).omits_k in
       let fuel = larger (count_of c) + smaller (count_of c) - 1 in
       let e : larger (count_of c) + smaller (count_of c) ≡ suc fuel = omega arith in
       let next : n + 3 + 4 * splits_within (count_of c) + 1 ≡ n + 4 + 4 * splits_within (count_of c) = omega arith in
       ap (λ m. parts_words m cell n b f c) e
       ∙ ap (λ l. all_words (gather part_triangles l)) (more fuel cell n b f c S)
-      ∙ five-words c (sub c b f (cell + word_step * (n + 1)) 3) (sub c b f (cell + word_step * (n + 3 + 4 * splits_within (count_of c))) 1) (sub c b f (cell + word_step * (n + 4 + 4 * splits_within (count_of c))) 0)
+      ∙ five_words c (sub c b f (cell + word_step * (n + 1)) 3) (sub c b f (cell + word_step * (n + 3 + 4 * splits_within (count_of c))) 1) (sub c b f (cell + word_step * (n + 4 + 4 * splits_within (count_of c))) 0)
       (parts fuel cell (n + 2) b' (f + 6) inner)
       ∙ rw (next, enough cell fuel (larger (count_of inner) + smaller (count_of inner)) (n + 2) b' (f + 6) inner N.level (omega (arith, N.first, N.second)) (omega arith)) refl

@@ -14,30 +14,30 @@ use Rattle.counting.specs.Pick.{pick}
 use Rattle.counting.specs.Search.{first, last, some}
 use Rattle.counting.specs.Lists.{seek}
 use Rattle.counting.specs.Stored.{filled}
-use Rattle.counting.proofs.Search.{last_none, last-hit, last_miss, last_le, seek-end, seek_hit, seek_miss, seek-start, some-last}
-use Rattle.counting.proofs.Stored.{filled_at, filled-beyond, length-filled}
+use Rattle.counting.proofs.Search.{last_none, last_hit, last_miss, last_le, seek_end, seek_hit, seek_miss, seek_start, some_last}
+use Rattle.counting.proofs.Stored.{filled_at, filled_beyond, length_filled}
 use Rattle.trees.specs.work.Trees.{has_key, top_for, Tops}
 use Rattle.trees.specs.work.Keys.{most_places, key_in, earlier_in, pair_in, pair_has, pair_lacks, below_or, paired_at}
 use Rattle.trees.specs.work.Planted.{top_at, KeyTops, Stepping, met, pair_from, PairsMarked, Topped, source_at, spread_at}
-use Rattle.trees.proofs.Trees.{top_le, top_key, top_self, tops-none, tops-more}
+use Rattle.trees.proofs.Trees.{top_le, top_key, top_self, tops_none, tops_more}
 
 -- the loop of `grow`
 module _ (keys : List ℕ) (n : ℕ) (was : List ℕ) where
   pub key_tops_none : n ≤ length was → KeyTops keys n n was was
-  key_tops_none r = record { tops_are = tops-none (key_in keys) n was r; same = refl; rest = λ i h. refl }
+  key_tops_none r = record { tops_are = tops_none (key_in keys) n was r; same = refl; rest = λ i h. refl }
 
   pub key_tops_more : (tops : List ℕ) (i p : ℕ) → i < n → p ≡ top_at keys n i → KeyTops keys n (i + 1) was tops → KeyTops keys n i was (set tops i p)
   key_tops_more tops i p hi e w =
       record {
-        tops_are = tops-more (key_in keys) n tops i p hi e w.tops_are;
+        tops_are = tops_more (key_in keys) n tops i p hi e w.tops_are;
         same = length-set tops i p ∙ w.same;
         rest = λ k h. get_or-set_other tops i k p 0 (λ q. omega arith) ∙ w.rest k h;
       }
 
 -- equal tops are those of equal keys
 module _ (keys : List ℕ) (n : ℕ) where
-  pub same-top : (i j : ℕ) → i < n → top_at keys n i ≡ top_at keys n j → key_in keys i ≡ key_in keys j
-  same-top i j h e =
+  pub same_top : (i j : ℕ) → i < n → top_at keys n i ≡ top_at keys n j → key_in keys i ≡ key_in keys j
+  same_top i j h e =
       sym (top_key (key_in keys) n (key_in keys i) (omega (arith, top_self (key_in keys) n i h)))
       ∙ ap (λ t. key_in keys (t - 1)) e
       ∙ top_key (key_in keys) n (key_in keys j) (omega (arith, e, top_self (key_in keys) n i h))
@@ -67,8 +67,8 @@ module _ (keys : List ℕ) (n : ℕ) (was : List ℕ) where
     at_top : t ≡ top_at keys n j
     at_top = e ∙ w.ahead j (omega arith) h
 
-    pub step-top : t ≤ n
-    step-top = omega (arith, at_top, top_le (key_in keys) n (key_in keys j))
+    pub step_top : t ≤ n
+    step_top = omega (arith, at_top, top_le (key_in keys) n (key_in keys j))
 
     pub stepped_more : Stepped keys n was (set prev j (get_or seen t 0)) (set seen t (j + 1)) (j + 1)
     unfolding earlier_in has_key
@@ -84,8 +84,8 @@ module _ (keys : List ℕ) (n : ℕ) (was : List ℕ) where
           rest = λ i l. get_or-set_other prev j i (get_or seen t 0) 0 (λ x. omega arith) ∙ w.rest i l;
           seen_is = λ i k. elim (ℕ_discrete t (top_at keys n i)) [
             | yes q ↦
-                let s = same-top keys n i j k (sym q ∙ at_top) in
-                rw (← q, get_or-set_same seen t (j + 1) 0 (omega (arith, w.room, step-top))) (sym (last-hit (has_key (key_in keys) (key_in keys i)) j (eq-eqb (key_in keys j) (key_in keys i) (sym s))))
+                let s = same_top keys n i j k (sym q ∙ at_top) in
+                rw (← q, get_or-set_same seen t (j + 1) 0 (omega (arith, w.room, step_top))) (sym (last_hit (has_key (key_in keys) (key_in keys i)) j (eq-eqb (key_in keys j) (key_in keys i) (sym s))))
             | no q ↦
                 get_or-set_other seen t (top_at keys n i) (j + 1) 0 (λ x. q (sym x)) ∙ w.seen_is i k
                 ∙ sym (last_miss (has_key (key_in keys) (key_in keys i)) j (ne_eqb (key_in keys j) (key_in keys i) (λ x. q (at_top ∙ ap (top_for (key_in keys) n) x))))
@@ -94,37 +94,37 @@ module _ (keys : List ℕ) (n : ℕ) (was : List ℕ) where
 
   pub stepped_all : (prev seen : List ℕ) → n ≤ length was → Stepped keys n was prev seen n → prev ≡ filled (earlier_in keys) n was
   stepped_all prev seen room w =
-      ext_get_or 0 prev (filled (earlier_in keys) n was) (w.same ∙ sym (length-filled (earlier_in keys) n was))
+      ext_get_or 0 prev (filled (earlier_in keys) n was) (w.same ∙ sym (length_filled (earlier_in keys) n was))
       (λ i h. elim (dec_lt i n) [
         | yes l ↦ w.done i l ∙ sym (filled_at (earlier_in keys) n was 0 room i l)
-        | no l ↦ w.rest i (omega arith) ∙ sym (filled-beyond (earlier_in keys) n was 0 i (omega arith))
+        | no l ↦ w.rest i (omega arith) ∙ sym (filled_beyond (earlier_in keys) n was 0 i (omega arith))
       ])
 
 -- filled over a list that is the same beyond
-pub filled-over : (f : ℕ → ℕ) (n : ℕ) (l m : List ℕ) → length m ≡ length l → n ≤ length l → ((i : ℕ) → n ≤ i → get_or m i 0 ≡ get_or l i 0) → filled f n m ≡ filled f n l
-filled-over f n l m e room rest =
-    ext_get_or 0 (filled f n m) (filled f n l) (length-filled f n m ∙ e ∙ sym (length-filled f n l))
+pub filled_over : (f : ℕ → ℕ) (n : ℕ) (l m : List ℕ) → length m ≡ length l → n ≤ length l → ((i : ℕ) → n ≤ i → get_or m i 0 ≡ get_or l i 0) → filled f n m ≡ filled f n l
+filled_over f n l m e room rest =
+    ext_get_or 0 (filled f n m) (filled f n l) (length_filled f n m ∙ e ∙ sym (length_filled f n l))
     (λ i h. elim (dec_lt i n) [
       | yes k ↦ filled_at f n m 0 (omega arith) i k ∙ sym (filled_at f n l 0 room i k)
-      | no k ↦ filled-beyond f n m 0 i (omega arith) ∙ rest i (omega arith) ∙ sym (filled-beyond f n l 0 i (omega arith))
+      | no k ↦ filled_beyond f n m 0 i (omega arith) ∙ rest i (omega arith) ∙ sym (filled_beyond f n l 0 i (omega arith))
     ])
 
 -- the loop of `mark` has come to pair e
 module _ (pairs : List ℕ) (m : ℕ) (keys : List ℕ) (n : ℕ) (was : List ℕ) where
-  pub marked-none : (tops : List ℕ) → Tops (key_in keys) n 0 tops → PairsMarked pairs m keys n m was tops was
-  marked-none tops t =
+  pub marked_none : (tops : List ℕ) → Tops (key_in keys) n 0 tops → PairsMarked pairs m keys n m was tops was
+  marked_none tops t =
       record {
         room = t.room;
         same = refl;
         own = λ j h e. t.at j (omega arith) h ∙ sym e ∙ sym (rw (none j));
-        own-place = λ j h e. sym (rw (none j));
+        own_place = λ j h e. sym (rw (none j));
         other = λ j h e. t.at j (omega arith) h;
         other_place = λ j h e. refl;
         rest = λ j h. refl;
       }
     where
       none : (j : ℕ) → ltb (pair_from pairs m keys m j) m ≡ false
-      none j = rw (seek-end (pair_has pairs (key_in keys j)) m m (omega arith)) (le-ltb m m (omega arith))
+      none j = rw (seek_end (pair_has pairs (key_in keys j)) m m (omega arith)) (le-ltb m m (omega arith))
 
   module _ (e : ℕ) (h : e < m) (tops places : List ℕ) (w : PairsMarked pairs m keys n (e + 1) was tops places) where
     -- a place with another key
@@ -132,9 +132,9 @@ module _ (pairs : List ℕ) (m : ℕ) (keys : List ℕ) (n : ℕ) (was : List �
     unfolding pair_has
     from_miss j ne = sym (seek_miss (pair_has pairs (key_in keys j)) m e h (ne_eqb (pair_in pairs e) (key_in keys j) (λ q. ne (sym q))))
 
-    from-hit : (j : ℕ) → key_in keys j ≡ pair_in pairs e → pair_from pairs m keys e j ≡ e
+    from_hit : (j : ℕ) → key_in keys j ≡ pair_in pairs e → pair_from pairs m keys e j ≡ e
     unfolding pair_has
-    from-hit j q = seek_hit (pair_has pairs (key_in keys j)) m e h (eq-eqb (pair_in pairs e) (key_in keys j) (sym q))
+    from_hit j q = seek_hit (pair_has pairs (key_in keys j)) m e h (eq-eqb (pair_in pairs e) (key_in keys j) (sym q))
 
     -- no place has the pair's key
     pub marked_skip : top_for (key_in keys) n (pair_in pairs e) ≡ 0 → PairsMarked pairs m keys n e was tops places
@@ -143,7 +143,7 @@ module _ (pairs : List ℕ) (m : ℕ) (keys : List ℕ) (n : ℕ) (was : List �
           room = w.room;
           same = w.same;
           own = λ j l q. w.own j l q ∙ rw (from_miss j (ne j l));
-          own-place = λ j l q. w.own-place j l q ∙ rw (from_miss j (ne j l));
+          own_place = λ j l q. w.own_place j l q ∙ rw (from_miss j (ne j l));
           other = w.other;
           other_place = w.other_place;
           rest = w.rest;
@@ -157,8 +157,8 @@ module _ (pairs : List ℕ) (m : ℕ) (keys : List ℕ) (n : ℕ) (was : List �
       pub mark_in : p ≤ n
       mark_in = omega (arith, is, top_le (key_in keys) n (pair_in pairs e))
 
-      key-is : key_in keys (p - 1) ≡ pair_in pairs e
-      key-is = rw is (top_key (key_in keys) n (pair_in pairs e) (omega (arith, is, pos)))
+      key_is : key_in keys (p - 1) ≡ pair_in pairs e
+      key_is = rw is (top_key (key_in keys) n (pair_in pairs e) (omega (arith, is, pos)))
 
       -- a place with the key has p for its top
       top_of : (j : ℕ) → key_in keys j ≡ pair_in pairs e → top_at keys n j ≡ p
@@ -170,12 +170,12 @@ module _ (pairs : List ℕ) (m : ℕ) (keys : List ℕ) (n : ℕ) (was : List �
             room = omega (arith, w.room, length-set tops (p - 1) (p + met));
             same = length-set places (p - 1) (e + 1) ∙ w.same;
             own = λ j l q. elim (ℕ_discrete (p - 1) j) [
-              | yes x ↦ rw (← x, get_or-set_same tops (p - 1) (p + met) 0 (omega (arith, w.room, mark_in)), from-hit (p - 1) key-is, lt-ltb e m h) (omega arith)
+              | yes x ↦ rw (← x, get_or-set_same tops (p - 1) (p + met) 0 (omega (arith, w.room, mark_in)), from_hit (p - 1) key_is, lt-ltb e m h) (omega arith)
               | no x ↦ get_or-set_other tops (p - 1) j (p + met) 0 (λ y. x (sym y)) ∙ w.own j l q ∙ rw (from_miss j (ne j q x))
             ];
-            own-place = λ j l q. elim (ℕ_discrete (p - 1) j) [
-              | yes x ↦ rw (← x, get_or-set_same places (p - 1) (e + 1) 0 (omega (arith, w.same, room, mark_in)), from-hit (p - 1) key-is, lt-ltb e m h) (add-one e)
-              | no x ↦ get_or-set_other places (p - 1) j (e + 1) 0 (λ y. x (sym y)) ∙ w.own-place j l q ∙ rw (from_miss j (ne j q x))
+            own_place = λ j l q. elim (ℕ_discrete (p - 1) j) [
+              | yes x ↦ rw (← x, get_or-set_same places (p - 1) (e + 1) 0 (omega (arith, w.same, room, mark_in)), from_hit (p - 1) key_is, lt-ltb e m h) (add-one e)
+              | no x ↦ get_or-set_other places (p - 1) j (e + 1) 0 (λ y. x (sym y)) ∙ w.own_place j l q ∙ rw (from_miss j (ne j q x))
             ];
             other = λ j l q. get_or-set_other tops (p - 1) j (p + met) 0 (λ y. apart j q (sym y)) ∙ w.other j l q;
             other_place = λ j l q. get_or-set_other places (p - 1) j (e + 1) 0 (λ y. apart j q (sym y)) ∙ w.other_place j l q;
@@ -186,7 +186,7 @@ module _ (pairs : List ℕ) (m : ℕ) (keys : List ℕ) (n : ℕ) (was : List �
           ne j q x y = x (omega (arith, q, top_of j y))
 
           apart : (j : ℕ) → j + 1 < top_at keys n j → p - 1 ≡ j → ⊥
-          apart j q x = omega (arith, q, top_of j (rw (← x) key-is))
+          apart j q x = omega (arith, q, top_of j (rw (← x) key_is))
 
   -- all pairs have
   module _ (tops places : List ℕ) (few : n ≤ most_places) (room : n ≤ length was) (w : PairsMarked pairs m keys n 0 was tops places) where
@@ -217,34 +217,34 @@ module _ (pairs : List ℕ) (m : ℕ) (keys : List ℕ) (n : ℕ) (was : List �
           go true q = omega (arith, q, top_in)
           go false q = omega (arith, q, top_in)
 
-      key-top : key_in keys (top - 1) ≡ key_in keys j
-      key-top = top_key (key_in keys) n (key_in keys j) (omega (arith, top_up))
+      key_top : key_in keys (top - 1) ≡ key_in keys j
+      key_top = top_key (key_in keys) n (key_in keys j) (omega (arith, top_up))
 
-      own-top : top - 1 + 1 ≡ top_at keys n (top - 1)
-      own-top = rw key-top (omega (arith, top_up))
+      own_top : top - 1 + 1 ≡ top_at keys n (top - 1)
+      own_top = rw key_top (omega (arith, top_up))
 
-      found-top : found (top - 1) ≡ found j
-      found-top = rw key-top
+      found_top : found (top - 1) ≡ found j
+      found_top = rw key_top
 
-      marks-top : get_or tops (top - 1) 0 ≡ pick (ltb (found j) m) (top - 1 + 1 + met) (top - 1 + 1)
-      marks-top = w.own (top - 1) (omega (arith, top_up, top_in)) own-top ∙ rw found-top
+      marks_top : get_or tops (top - 1) 0 ≡ pick (ltb (found j) m) (top - 1 + 1 + met) (top - 1 + 1)
+      marks_top = w.own (top - 1) (omega (arith, top_up, top_in)) own_top ∙ rw found_top
 
-      place-top : get_or places (top - 1) 0 ≡ below_or m (found j) (get_or was (top - 1) 0)
-      place-top = w.own-place (top - 1) (omega (arith, top_up, top_in)) own-top ∙ rw found-top
+      place_top : get_or places (top - 1) 0 ≡ below_or m (found j) (get_or was (top - 1) 0)
+      place_top = w.own_place (top - 1) (omega (arith, top_up, top_in)) own_top ∙ rw found_top
 
       own_is : ltb (found j) m ≡ false → get_or places j 0 ≡ get_or was j 0
       own_is e = elim (ℕ_discrete (j + 1) top) [
-        | yes q ↦ w.own-place j h q ∙ rw e
+        | yes q ↦ w.own_place j h q ∙ rw e
         | no q ↦ w.other_place j h (omega (arith, top_up))
       ]
 
       pub spread_is : spread_at tops places j ≡ paired_at pairs m keys was j
       unfolding spread_at source_at paired_at
-      spread_is = rw (entry, seek-start (pair_has pairs (key_in keys j)) m) (go (ltb (found j) m) refl)
+      spread_is = rw (entry, seek_start (pair_has pairs (key_in keys j)) m) (go (ltb (found j) m) refl)
         where
           go : (c : Bool) → ltb (found j) m ≡ c → get_or places (pick (ltb (get_or tops (top - 1) 0) met) j (top - 1)) 0 ≡ below_or m (found j) (get_or was j 0)
-          go true e = rw (marks-top, e) (rw (le-ltb (top - 1 + 1 + met) met (omega arith), place-top) (rw e))
-          go false e = rw (marks-top, e) (rw (lt-ltb (top - 1 + 1) met (omega (arith, top_in, top_up))) (own_is e))
+          go true e = rw (marks_top, e) (rw (le-ltb (top - 1 + 1 + met) met (omega arith), place_top) (rw e))
+          go false e = rw (marks_top, e) (rw (lt-ltb (top - 1 + 1) met (omega (arith, top_in, top_up))) (own_is e))
 
     pub topped : Topped n tops
     topped =
@@ -257,10 +257,10 @@ module _ (pairs : List ℕ) (m : ℕ) (keys : List ℕ) (n : ℕ) (was : List �
     pub spread_all : filled (spread_at tops places) n places ≡ filled (paired_at pairs m keys was) n was
     spread_all =
         ext_get_or 0 (filled (spread_at tops places) n places) (filled (paired_at pairs m keys was) n was)
-        (length-filled (spread_at tops places) n places ∙ w.same ∙ sym (length-filled (paired_at pairs m keys was) n was))
+        (length_filled (spread_at tops places) n places ∙ w.same ∙ sym (length_filled (paired_at pairs m keys was) n was))
         (λ i h. elim (dec_lt i n) [
           | yes l ↦ filled_at (spread_at tops places) n places 0 (omega (arith, w.same)) i l ∙ spread_is i l ∙ sym (filled_at (paired_at pairs m keys was) n was 0 room i l)
-          | no l ↦ filled-beyond (spread_at tops places) n places 0 i (omega arith) ∙ w.rest i (omega arith) ∙ sym (filled-beyond (paired_at pairs m keys was) n was 0 i (omega arith))
+          | no l ↦ filled_beyond (spread_at tops places) n places 0 i (omega arith) ∙ w.rest i (omega arith) ∙ sym (filled_beyond (paired_at pairs m keys was) n was 0 i (omega arith))
         ])
 
 -- what `source` answers
@@ -285,8 +285,8 @@ module _ (n : ℕ) (tops : List ℕ) (w : Topped n tops) (j : ℕ) (h : j < n) w
 module _ (pairs keys : List ℕ) (n e : ℕ) where
   pub lacks : top_for (key_in keys) n (pair_in pairs e) ≡ 0 → pair_lacks pairs keys n e ≡ true
   unfolding pair_lacks
-  lacks z = rw (some-last (has_key (key_in keys) (pair_in pairs e)) n, z)
+  lacks z = rw (some_last (has_key (key_in keys) (pair_in pairs e)) n, z)
 
-  pub lacks-not : 0 < top_for (key_in keys) n (pair_in pairs e) → pair_lacks pairs keys n e ≡ false
+  pub lacks_not : 0 < top_for (key_in keys) n (pair_in pairs e) → pair_lacks pairs keys n e ≡ false
   unfolding pair_lacks
-  lacks-not h = rw (some-last (has_key (key_in keys) (pair_in pairs e)) n, lt-ltb 0 (top_for (key_in keys) n (pair_in pairs e)) h)
+  lacks_not h = rw (some_last (has_key (key_in keys) (pair_in pairs e)) n, lt-ltb 0 (top_for (key_in keys) n (pair_in pairs e)) h)

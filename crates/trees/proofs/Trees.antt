@@ -12,7 +12,7 @@ use borrow.Author.Tests.{eqb-true, eq-eqb, lt-ltb, le-ltb}
 use Rattle.counting.specs.Pick.{pick}
 use Rattle.counting.proofs.Bools.{clash}
 use Rattle.counting.proofs.Below.{trichotomy}
-use Rattle.counting.proofs.Search.{last-is, last_le, last-above}
+use Rattle.counting.proofs.Search.{last_is, last_le, last_above}
 use Rattle.trees.specs.work.Trees.{trees, root_of, branch_of, has_key, top_for, Comes, Leads, Tree, Tops, Keeps, Sought}
 
 -- the branches of a place stand side by side
@@ -32,10 +32,10 @@ branch-of b i k r s hr hs e =
 -- ways
 module _ (b : ℕ) (links : List ℕ) where
   -- more links keep them
-  comes-keeps : (more : List ℕ) → Keeps links more → (d at rest t : ℕ) → 0 < t → Comes b links d at rest t → Comes b more d at rest t
+  comes_keeps : (more : List ℕ) → Keeps links more → (d at rest t : ℕ) → 0 < t → Comes b links d at rest t → Comes b more d at rest t
   unfolding Comes
-  comes-keeps more k zero at rest t pos c = k at (omega (arith, c, pos)) ∙ c
-  comes-keeps more k (suc d) at rest t pos c = rw (k at c.0) (c.0, comes-keeps more k d (branch_of b (get_or links at 0) rest) (rest / b) t pos c.1)
+  comes_keeps more k zero at rest t pos c = k at (omega (arith, c, pos)) ∙ c
+  comes_keeps more k (suc d) at rest t pos c = rw (k at c.0) (c.0, comes_keeps more k d (branch_of b (get_or links at 0) rest) (rest / b) t pos c.1)
 
   -- none goes through an empty link
   no_way : (d at rest t : ℕ) → get_or links at 0 ≡ 0 → 0 < t → Comes b links d at rest t → ⊥
@@ -50,13 +50,13 @@ module _ (key : ℕ → ℕ) (n : ℕ) where
 
   pub top_key : (x : ℕ) → 0 < top_for key n x → key (top_for key n x - 1) ≡ x
   unfolding has_key
-  top_key x h = eqb-true _ _ (last-is (has_key key x) n h)
+  top_key x h = eqb-true _ _ (last_is (has_key key x) n h)
 
   pub top_self : (i : ℕ) → i < n → i < top_for key n (key i)
   unfolding has_key
   top_self i h = elim (dec_lt i (top_for key n (key i))) [
     | yes l ↦ l
-    | no l ↦ clash (eq-eqb (key i) (key i) refl) (last-above (has_key key (key i)) n i (omega arith) h)
+    | no l ↦ clash (eq-eqb (key i) (key i) refl) (last_above (has_key key (key i)) n i (omega arith) h)
   ]
 
 -- the loop of `seek` has come to a link that holds j, with `rest` of the key left
@@ -203,15 +203,15 @@ module _ (b : ℕ) (key : ℕ → ℕ) (n i : ℕ) (links : List ℕ) (hi : i < 
             | no q ↦ rw (other (trees + b * k + r) q) (w.down k r h)
           ];
           leads = λ k l h. elim (dec_lt i k) [
-            | yes a ↦ let c = w.leads k (omega arith) h in (c.0, comes-keeps b links new keeps c.0 (root_of (key k)) (key k) (top_for key n (key k)) (omega (arith, top_self key n k h)) c.1)
+            | yes a ↦ let c = w.leads k (omega arith) h in (c.0, comes_keeps b links new keeps c.0 (root_of (key k)) (key k) (top_for key n (key k)) (omega (arith, top_self key n k h)) c.1)
             | no a ↦ let e : k ≡ i = omega arith in rw e (rw (there ∙ plant_own) at (f.way new keeps))
           ];
         }
 
 -- the loop of `grow`
 module _ (key : ℕ → ℕ) (n : ℕ) where
-  pub grown-none : (b : ℕ) (links : List ℕ) → trees + b * n ≤ length links → ((y : ℕ) → get_or links y 0 ≡ 0) → Tree b key n n links
-  grown-none b links r z =
+  pub grown_none : (b : ℕ) (links : List ℕ) → trees + b * n ≤ length links → ((y : ℕ) → get_or links y 0 ≡ 0) → Tree b key n n links
+  grown_none b links r z =
       record {
         room = r;
         after = λ y h. absurd (omega (arith, z y, h));
@@ -220,11 +220,11 @@ module _ (key : ℕ → ℕ) (n : ℕ) where
         leads = λ i l h. absurd (omega arith);
       }
 
-  pub tops-none : (tops : List ℕ) → n ≤ length tops → Tops key n n tops
-  tops-none tops r = record { room = r; at = λ i l h. absurd (omega arith) }
+  pub tops_none : (tops : List ℕ) → n ≤ length tops → Tops key n n tops
+  tops_none tops r = record { room = r; at = λ i l h. absurd (omega arith) }
 
-  pub tops-more : (tops : List ℕ) (i p : ℕ) → i < n → p ≡ top_for key n (key i) → Tops key n (i + 1) tops → Tops key n i (set tops i p)
-  tops-more tops i p hi e w =
+  pub tops_more : (tops : List ℕ) (i p : ℕ) → i < n → p ≡ top_for key n (key i) → Tops key n (i + 1) tops → Tops key n i (set tops i p)
+  tops_more tops i p hi e w =
       record {
         room = omega (arith, w.room, length-set tops i p);
         at = λ k l h. elim (ℕ_discrete i k) [

@@ -14,7 +14,7 @@ use Rattle.counting.proofs.Search.{Least, least}
 use Rattle.counting.specs.Lists.{it}
 use Rattle.walk.specs.claims.Claims.{Darts, Lowest}
 use Rattle.walk.specs.Darts.{Live, Loop, On}
-use Rattle.walk.proofs.Iterate.{it-suc, it-sub}
+use Rattle.walk.proofs.Iterate.{it_suc, it_sub}
 
 -- what holds of each i + 1 with i < n holds from 1 to n
 from_one : (P : ℕ → Type 0) (n : ℕ) → ((i : ℕ) → i < n → P (suc i)) → (i : ℕ) → 0 < i → i ≤ n → P i
@@ -22,9 +22,9 @@ from_one P n h zero z l = absurd (not-suc-le-zero z)
 from_one P n h (suc i) z l = h i l
 
 -- where f is least on 0 to n
-min-at : (f : ℕ → ℕ) (n : ℕ) → (i : ℕ) × (i ≤ n) × ((j : ℕ) → j ≤ n → f i ≤ f j)
-min-at f zero = (0, omega arith, λ j h. subst (λ x. f 0 ≤ f x) (omega arith) (le_refl (f 0)))
-min-at f (suc n) = go (min-at f n) (leb (f (suc n)) (f (min-at f n).0)) refl
+min_at : (f : ℕ → ℕ) (n : ℕ) → (i : ℕ) × (i ≤ n) × ((j : ℕ) → j ≤ n → f i ≤ f j)
+min_at f zero = (0, omega arith, λ j h. subst (λ x. f 0 ≤ f x) (omega arith) (le_refl (f 0)))
+min_at f (suc n) = go (min_at f n) (leb (f (suc n)) (f (min_at f n).0)) refl
   where
     go : (w : (i : ℕ) × (i ≤ n) × ((j : ℕ) → j ≤ n → f i ≤ f j)) (b : Bool) → leb (f (suc n)) (f w.0) ≡ b
         → (i : ℕ) × (i ≤ suc n) × ((j : ℕ) → j ≤ suc n → f i ≤ f j)
@@ -54,22 +54,22 @@ module _ (M N : ℕ) (s rv cr : ℕ → ℕ) (D : Darts M N s rv cr) where
   repeat_start p (suc i) m live e =
       repeat_start p i m (λ j h. live j (omega arith))
       (inj (it s i p) (it s (i + m) p) (live i (omega arith)) (live (i + m) (omega arith))
-      (subst (λ x. x < M) (it-suc s i p) (live (suc i) (omega arith)))
-      (sym (it-suc s i p) ∙ e ∙ ap (λ n. it s n p) (suc-add i m) ∙ it-suc s (i + m) p))
+      (subst (λ x. x < M) (it_suc s i p) (live (suc i) (omega arith)))
+      (sym (it_suc s i p) ∙ e ∙ ap (λ n. it s n p) (suc-add i m) ∙ it_suc s (i + m) p))
 
   -- a curve does not come back along itself: the other dart of a crossing that it passed is not on it
   pub no_return : (p i m : ℕ) → Live M s p (i + m) → it s (i + m) p ≢ rv (it s i p)
   no_return p i zero live e = D.rv_ne (it s i p) (live i (omega arith)) (sym e ∙ ap (λ n. it s n p) (omega arith))
   no_return p i (suc zero) live e =
-      D.s-ne (it s i p) (live i (omega arith)) (sym (it-suc s i p) ∙ ap (λ n. it s n p) (omega arith) ∙ e)
+      D.s_ne (it s i p) (live i (omega arith)) (sym (it_suc s i p) ∙ ap (λ n. it s n p) (omega arith) ∙ e)
   no_return p i (suc (suc m)) live e =
       let d = it s i p in
       let y = it s (suc i + m) p in
-      let next : it s (i + suc (suc m)) p ≡ s y = ap (λ n. it s n p) (omega arith) ∙ it-suc s (suc i + m) p in
+      let next : it s (i + suc (suc m)) p ≡ s y = ap (λ n. it s n p) (omega arith) ∙ it_suc s (suc i + m) p in
       let ly : s y < M = subst (λ x. x < M) next (live (i + suc (suc m)) (omega arith)) in
       let li : it s (suc i) p < M = live (suc i) (omega arith) in
       let b : s (rv (it s (suc i) p)) ≡ rv d =
-      subst (λ x. s (rv x) ≡ rv d) (sym (it-suc s i p)) (D.back d (live i (omega arith)) (subst (λ x. x < M) (it-suc s i p) li)) in
+      subst (λ x. s (rv x) ≡ rv d) (sym (it_suc s i p)) (D.back d (live i (omega arith)) (subst (λ x. x < M) (it_suc s i p) li)) in
       no_return p (suc i) m (λ j h. live j (omega arith))
       (inj y (rv (it s (suc i) p)) (live (suc i + m) (omega arith)) (D.rv_lt (it s (suc i) p) li) ly (sym next ∙ e ∙ sym b))
 
@@ -83,8 +83,8 @@ module _ (M N : ℕ) (s rv cr : ℕ → ℕ) (D : Darts M N s rv cr) where
       (λ (q : it s j p ≡ rv (it s i p)). no_return p i (j - i) live' (ap (λ n. it s n p) whole ∙ q))
       (D.same (it s j p) (it s i p) (live j h) (live i (omega arith)) (sym e))
 
-  pub loop-distinct : {p k : ℕ} → Loop M s p k → (i j : ℕ) → i < k → j < k → cr (it s i p) ≡ cr (it s j p) → i ≡ j
-  loop-distinct {p} {k} L i j a b e = go (ltb i j) (ltb j i) refl refl
+  pub loop_distinct : {p k : ℕ} → Loop M s p k → (i j : ℕ) → i < k → j < k → cr (it s i p) ≡ cr (it s j p) → i ≡ j
+  loop_distinct {p} {k} L i j a b e = go (ltb i j) (ltb j i) refl refl
     where
       apart : (i j : ℕ) → i < j → j < k → cr (it s i p) ≢ cr (it s j p)
       apart i j l h = distinct p j (λ n g. L.live n (omega arith)) (λ n z g. L.first n z (omega arith)) i j l (omega arith)
@@ -95,26 +95,26 @@ module _ (M N : ℕ) (s rv cr : ℕ → ℕ) (D : Darts M N s rv cr) where
       go false false u v = omega (arith, ltb-false i j u, ltb-false j i v)
 
   -- a loop has one length, from each of its darts
-  pub loop-length : {p k l : ℕ} → Loop M s p k → Loop M s p l → k ≡ l
-  loop-length {p} {k} {l} K L = trichotomy k l (λ h. absurd (L.first k K.pos h K.home)) (λ h. absurd (K.first l L.pos h L.home)) (λ e. e)
+  pub loop_length : {p k l : ℕ} → Loop M s p k → Loop M s p l → k ≡ l
+  loop_length {p} {k} {l} K L = trichotomy k l (λ h. absurd (L.first k K.pos h K.home)) (λ h. absurd (K.first l L.pos h L.home)) (λ e. e)
 
-  pub loop-next : {p k : ℕ} → Loop M s p k → Loop M s (s p) k
+  pub loop_next : {p k : ℕ} → Loop M s p k → Loop M s (s p) k
   unfolding it
-  loop-next {p} {k} K = record {
+  loop_next {p} {k} K = record {
     pos = K.pos;
     live = λ i h. ⊎_elim (λ (e : i ≡ k). rw (e, home) (K.live 1 K.pos)) (λ (g : i < k). K.live (suc i) g) (eq-or-lt_of_le h);
     home = home;
     first = λ i z h e. K.first i z h
-        (inj (it s i p) p (K.live i (omega arith)) (K.live 0 (omega arith)) (subst (λ x. x < M) (it-suc s i p) (K.live (suc i) h)) (sym (it-suc s i p) ∙ e));
+        (inj (it s i p) p (K.live i (omega arith)) (K.live 0 (omega arith)) (subst (λ x. x < M) (it_suc s i p) (K.live (suc i) h)) (sym (it_suc s i p) ∙ e));
   }
     where
       home : it s k (s p) ≡ s p
-      home = it-suc s k p ∙ ap s K.home
+      home = it_suc s k p ∙ ap s K.home
 
-  pub loop-later : {p k : ℕ} → Loop M s p k → (i : ℕ) → Loop M s (it s i p) k
+  pub loop_later : {p k : ℕ} → Loop M s p k → (i : ℕ) → Loop M s (it s i p) k
   unfolding it
-  loop-later {p = p} {k = k} K zero = K
-  loop-later {p = p} {k = k} K (suc i) = loop-later {p = s p} (loop-next K) i
+  loop_later {p = p} {k = k} K zero = K
+  loop_later {p = p} {k = k} K (suc i) = loop_later {p = s p} (loop_next K) i
 
   -- a curve that does not end within N steps comes back within N
   pub closes : (p : ℕ) → Live M s p N → (k : ℕ) × (k ≤ N) × Loop M s p k
@@ -134,9 +134,9 @@ module _ (M N : ℕ) (s rv cr : ℕ → ℕ) (D : Darts M N s rv cr) where
       go (inr none) = absurd (pigeonhole N (λ i. cr (it s i p)) (λ i h. D.cr_lt (it s i p) (live i h)) (distinct p N live (from_one (λ n. it s n p ≢ p) N (λ j g. eqb-false (it s (suc j) p) p (none j g)))))
 
   -- the crossings of a loop are joined to one another only
-  pub on-it : {p k : ℕ} → Loop M s p k → (j : ℕ) → j ≤ k → On s cr p k (cr (it s j p))
+  pub on_it : {p k : ℕ} → Loop M s p k → (j : ℕ) → j ≤ k → On s cr p k (cr (it s j p))
   unfolding it
-  on-it {p} {k} L j h =
+  on_it {p} {k} L j h =
       ⊎_elim (λ (q : j ≡ k). record { at = 0; at_lt = L.pos; is = ap cr (sym (ap (λ n. it s n p) q ∙ L.home)) })
       (λ (l : j < k). record { at = j; at_lt = l; is = refl }) (eq-or-lt_of_le h)
 
@@ -144,74 +144,74 @@ module _ (M N : ℕ) (s rv cr : ℕ → ℕ) (D : Darts M N s rv cr) where
   unfoldable pub Next : ℕ → ℕ → ℕ → Type 0
   Next p k y = (y < M) × On s cr p k (cr y)
 
-  on-back : {p k : ℕ} → Loop M s p k → (j e : ℕ) → j < k → e ≡ rv (it s (suc j) p) → Next p k (s e)
+  on_back : {p k : ℕ} → Loop M s p k → (j e : ℕ) → j < k → e ≡ rv (it s (suc j) p) → Next p k (s e)
   unfolding Next
-  on-back {p} {k} L j e l q =
+  on_back {p} {k} L j e l q =
       let lj : it s j p < M = L.live j (omega arith) in
       let b : s e ≡ rv (it s j p) =
-      ap s (q ∙ ap rv (it-suc s j p)) ∙ D.back (it s j p) lj (subst (λ x. x < M) (it-suc s j p) (L.live (suc j) l)) in
+      ap s (q ∙ ap rv (it_suc s j p)) ∙ D.back (it s j p) lj (subst (λ x. x < M) (it_suc s j p) (L.live (suc j) l)) in
       rw b (D.rv_lt (it s j p) lj, record { at = j; at_lt = l; is = sym (D.cr_rv (it s j p) lj) })
 
   on_rv : (p i k e : ℕ) → Loop M s p k → i < k → e ≡ rv (it s i p) → Next p k (s e)
   unfolding it
   on_rv p zero zero e L l q = absurd (not-suc-le-zero l)
-  on_rv p zero (suc k) e L l q = on-back L k e (omega arith) (q ∙ ap rv (sym L.home))
-  on_rv p (suc i) k e L l q = on-back L i e (omega arith) q
+  on_rv p zero (suc k) e L l q = on_back L k e (omega arith) (q ∙ ap rv (sym L.home))
+  on_rv p (suc i) k e L l q = on_back L i e (omega arith) q
 
-  on-next : {p k : ℕ} → Loop M s p k → (e : ℕ) → e < M → On s cr p k (cr e) → Next p k (s e)
+  on_next : {p k : ℕ} → Loop M s p k → (e : ℕ) → e < M → On s cr p k (cr e) → Next p k (s e)
   unfolding Next
-  on-next {p} {k} L e le o =
+  on_next {p} {k} L e le o =
       ⊎_elim
-      (λ (q : e ≡ it s o.at p). subst (λ x. (x < M) × On s cr p k (cr x)) (it-suc s o.at p ∙ ap s (sym q))
-      (L.live (suc o.at) o.at_lt, on-it L (suc o.at) o.at_lt))
+      (λ (q : e ≡ it s o.at p). subst (λ x. (x < M) × On s cr p k (cr x)) (it_suc s o.at p ∙ ap s (sym q))
+      (L.live (suc o.at) o.at_lt, on_it L (suc o.at) o.at_lt))
       (λ (q : e ≡ rv (it s o.at p)). on_rv p o.at k e L o.at_lt q)
       (D.same e (it s o.at p) le (L.live o.at (omega (arith, o.at_lt))) (sym o.is))
 
   pub on_step : {p k : ℕ} → Loop M s p k → (e : ℕ) → e < M → On s cr p k (cr e) → On s cr p k (cr (s e))
   unfolding Next
-  on_step L e le o = (on-next L e le o).1
+  on_step L e le o = (on_next L e le o).1
 
   -- so a walk that is once on it stays on it, and does not end
   pub on_walk : {p k : ℕ} → Loop M s p k → (n e : ℕ) → e < M → On s cr p k (cr e) → Next p k (it s n e)
   unfolding it Next
   on_walk L zero e le o = (le, o)
-  on_walk L (suc n) e le o = let (l, u) = on-next L e le o in on_walk L n (s e) l u
+  on_walk L (suc n) e le o = let (l, u) = on_next L e le o in on_walk L n (s e) l u
 
   -- a loop that shares a crossing with another has all of its crossings, its start's too
-  pub on-start : {p k q l : ℕ} → Loop M s p k → Loop M s q l → (j : ℕ) → j ≤ l → On s cr p k (cr (it s j q)) → On s cr p k (cr q)
+  pub on_start : {p k q l : ℕ} → Loop M s p k → Loop M s q l → (j : ℕ) → j ≤ l → On s cr p k (cr (it s j q)) → On s cr p k (cr q)
   unfolding Next
-  on-start {p} {k} {q} {l} L K j h o =
-      subst (λ x. On s cr p k (cr x)) (it-sub s j l q h ∙ K.home)
+  on_start {p} {k} {q} {l} L K j h o =
+      subst (λ x. On s cr p k (cr x)) (it_sub s j l q h ∙ K.home)
       (on_walk L (l - j) (it s j q) (K.live j h) o).1
 
   -- two loops from their least crossings that share a crossing start at the same one
-  pub one-loop : {p k q l : ℕ} → Loop M s p k → Loop M s q l → Lowest s cr p k → Lowest s cr q l → (x : ℕ) → On s cr p k x → On s cr q l x → cr p ≡ cr q
-  one-loop {p} {k} {q} {l} L K lp lq x o u =
-      let a : cr p ≤ cr q = lp (cr q) (on-start L K u.at (omega (arith, u.at_lt)) (rw u.is o)) in
-      let b : cr q ≤ cr p = lq (cr p) (on-start K L o.at (omega (arith, o.at_lt)) (rw o.is u)) in
+  pub one_loop : {p k q l : ℕ} → Loop M s p k → Loop M s q l → Lowest s cr p k → Lowest s cr q l → (x : ℕ) → On s cr p k x → On s cr q l x → cr p ≡ cr q
+  one_loop {p} {k} {q} {l} L K lp lq x o u =
+      let a : cr p ≤ cr q = lp (cr q) (on_start L K u.at (omega (arith, u.at_lt)) (rw u.is o)) in
+      let b : cr q ≤ cr p = lq (cr p) (on_start K L o.at (omega (arith, o.at_lt)) (rw o.is u)) in
       omega arith
 
   -- a loop from its least crossing, at either side, has the crossings of any loop that it is on
-  from-least : {e k q : ℕ} → Loop M s e k → q < M → (i : ℕ) → i ≤ k → ((j : ℕ) → j ≤ k → cr (it s i e) ≤ cr (it s j e)) → cr q ≡ cr (it s i e)
+  from_least : {e k q : ℕ} → Loop M s e k → q < M → (i : ℕ) → i ≤ k → ((j : ℕ) → j ≤ k → cr (it s i e) ≤ cr (it s j e)) → cr q ≡ cr (it s i e)
       → (l : ℕ) × (l ≤ N) × Loop M s q l × Lowest s cr q l × On s cr q l (cr e)
   unfolding Next it
-  from-least {e} {k} {q} K lq i ik low c =
-      let o : On s cr e k (cr q) = rw c (on-it K i ik) in
+  from_least {e} {k} {q} K lq i ik low c =
+      let o : On s cr e k (cr q) = rw c (on_it K i ik) in
       let (l, lN, L) = closes q (λ n h. (on_walk K n q lq o).0) in (
         l,
         lN,
         L,
         (λ x u. let v = (on_walk K u.at q lq o).1 in rw (c, ← u.is, ← v.is) (low v.at (omega (arith, v.at_lt)))),
-        on-start L K i ik (rw (← c) (on-it L 0 (omega arith))),
+        on_start L K i ik (rw (← c) (on_it L 0 (omega arith))),
       )
 
   module _ (dt : ℕ → ℕ) (dt-lt : (x : ℕ) → x < N → dt x < M) (cr-dt : (x : ℕ) → x < N → cr (dt x) ≡ x) where
     -- each crossing of a loop is on a loop from that loop's least crossing
     pub covered : {e k : ℕ} → Loop M s e k → (p : ℕ) × (p < N) × (l : ℕ) × (l ≤ N) × Loop M s (dt p) l × Lowest s cr (dt p) l × On s cr (dt p) l (cr e)
     covered {e} {k} K =
-        let (i, ik, low) = min-at (λ j. cr (it s j e)) k in
+        let (i, ik, low) = min_at (λ j. cr (it s j e)) k in
         let lp : cr (it s i e) < N = D.cr_lt (it s i e) (K.live i ik) in
-        let w = from-least K (dt-lt (cr (it s i e)) lp) i ik low (cr-dt (cr (it s i e)) lp) in
+        let w = from_least K (dt-lt (cr (it s i e)) lp) i ik low (cr-dt (cr (it s i e)) lp) in
         (cr (it s i e), lp, w.0, w.1, w.2, w.3, w.4)
 
   -- where no curve ends, each dart is on a loop
@@ -224,9 +224,9 @@ module _ (M N : ℕ) (s rv cr : ℕ → ℕ) (D : Darts M N s rv cr) where
       go (suc i) p l = go i (s p) (total p l)
 
   -- a loop has no more crossings than there are
-  pub loop-short : {p k : ℕ} → Loop M s p k → k ≤ N
-  loop-short {p} {k} L = elim (dec_lt N k) [
+  pub loop_short : {p k : ℕ} → Loop M s p k → k ≤ N
+  loop_short {p} {k} L = elim (dec_lt N k) [
     | yes l ↦ absurd (pigeonhole N (λ i. cr (it s i p)) (λ i h. D.cr_lt (it s i p) (L.live i (omega arith)))
-        (λ i j a h q. omega (arith, loop-distinct L i j (omega arith) (omega arith) q)))
+        (λ i j a h q. omega (arith, loop_distinct L i j (omega arith) (omega arith) q)))
     | no l ↦ omega arith
   ]

@@ -11,17 +11,17 @@ use Rattle.counting.specs.Lists.{it}
 use Rattle.walk.specs.Darts.{half, Loop}
 use Rattle.walk.specs.claims.Claims.{Darts, Lowest}
 use Rattle.walk.specs.Walk.{Status, home, off, on, status, judge, turn, size}
-use Rattle.walk.proofs.Iterate.{it-suc}
+use Rattle.walk.proofs.Iterate.{it_suc}
 use Rattle.walk.proofs.Curve.{no_return, distinct}
 
 module _ (s : ℕ → ℕ) (at : ℕ → Status) where
-  pub turn-home : (n k d : ℕ) → at d ≡ home → turn s at (suc n) k d ≡ k
+  pub turn_home : (n k d : ℕ) → at d ≡ home → turn s at (suc n) k d ≡ k
   unfolding turn
-  turn-home n k d e = rw (e, turn)
+  turn_home n k d e = rw (e, turn)
 
-  pub turn-off : (n k d : ℕ) → at d ≡ off → turn s at (suc n) k d ≡ 0
+  pub turn_off : (n k d : ℕ) → at d ≡ off → turn s at (suc n) k d ≡ 0
   unfolding turn
-  turn-off n k d e = rw (e, turn)
+  turn_off n k d e = rw (e, turn)
 
   pub turn_on : (n k d : ℕ) → at d ≡ on → turn s at (suc n) k d ≡ turn s at n (suc k) (s d)
   unfolding turn
@@ -41,8 +41,8 @@ module _ (s : ℕ → ℕ) (at : ℕ → Status) where
     where
       go : (turn s at n (suc k) (s d) ≡ suc r → (j : ℕ) × (suc r ≡ suc k + j) × Came n (s d) j)
           → (x : Status) → at d ≡ x → (j : ℕ) × (suc r ≡ k + j) × Came (suc n) d j
-      go ih home q = (0, omega (arith, e, turn-home s at n k d q), record { within = omega arith; last = q; way = λ i h. absurd (not-suc-le-zero h) })
-      go ih off q = absurd (omega (arith, e, turn-off s at n k d q))
+      go ih home q = (0, omega (arith, e, turn_home s at n k d q), record { within = omega arith; last = q; way = λ i h. absurd (not-suc-le-zero h) })
+      go ih off q = absurd (omega (arith, e, turn_off s at n k d q))
       go ih on q =
           let (j, f, w) = ih (sym (turn_on s at n k d q) ∙ e) in
           (suc j, omega arith, record { within = omega (arith, w.within); last = w.last; way = way q w.way })
@@ -54,7 +54,7 @@ module _ (s : ℕ → ℕ) (at : ℕ → Status) where
   pub comes : (n k d j : ℕ) → Came n d j → turn s at n k d ≡ k + j
   unfolding it
   comes zero k d j c = absurd (not-suc-le-zero c.within)
-  comes (suc n) k d zero c = turn-home s at n k d c.last ∙ omega arith
+  comes (suc n) k d zero c = turn_home s at n k d c.last ∙ omega arith
   comes (suc n) k d (suc j) c =
       turn_on s at n k d (c.way 0 (omega arith))
       ∙ comes n (suc k) (s d) j (record { within = omega (arith, c.within); last = c.last; way = λ i h. c.way (suc i) (omega arith) })
@@ -76,13 +76,13 @@ says M p d x e = subst (Says M p d) e (go (ltb d M) (ltb (d / 2) p) (eqb (d / 2)
     go true false true u v w = (ltb-true d M u, eqb-true (d / 2) p w)
     go true false false u v w = (ltb-true d M u, omega (arith, ltb-false (d / 2) p v, eqb-false (d / 2) p w))
 
-pub home-place : (M p d : ℕ) → d < M → d / 2 ≡ p → status M p d ≡ home
+pub home_place : (M p d : ℕ) → d < M → d / 2 ≡ p → status M p d ≡ home
 unfolding status
-home-place M p d l q = rw (lt-ltb d M l, le-ltb (d / 2) p (omega arith), eq-eqb (d / 2) p q)
+home_place M p d l q = rw (lt-ltb d M l, le-ltb (d / 2) p (omega arith), eq-eqb (d / 2) p q)
 
-pub on-place : (M p d : ℕ) → d < M → p < d / 2 → status M p d ≡ on
+pub on_place : (M p d : ℕ) → d < M → p < d / 2 → status M p d ≡ on
 unfolding status
-on-place M p d l q = rw (lt-ltb d M l, le-ltb (d / 2) p (omega arith), ne_eqb (d / 2) p (λ e. omega arith))
+on_place M p d l q = rw (lt-ltb d M l, le-ltb (d / 2) p (omega arith), ne_eqb (d / 2) p (λ e. omega arith))
 
 module _ (N : ℕ) (s rv : ℕ → ℕ) (D : Darts (2 * N) N s rv half) where
   -- a curve that is above p's crossing until it is back there is a loop, with p the least
@@ -115,13 +115,13 @@ module _ (N : ℕ) (s rv : ℕ → ℕ) (D : Darts (2 * N) N s rv half) where
   unfolding size it
   found p r l e = go (came s (status (2 * N) p) N 1 (s (2 * p)) r e)
     where
-      at-end : (j : ℕ) → suc r ≡ 1 + j → status (2 * N) p (it s j (s (2 * p))) ≡ home → status (2 * N) p (it s r (s (2 * p))) ≡ home
-      at-end j f h = let same : j ≡ r = omega arith in subst (λ x. status (2 * N) p (it s x (s (2 * p))) ≡ home) same h
+      at_end : (j : ℕ) → suc r ≡ 1 + j → status (2 * N) p (it s j (s (2 * p))) ≡ home → status (2 * N) p (it s r (s (2 * p))) ≡ home
+      at_end j f h = let same : j ≡ r = omega arith in subst (λ x. status (2 * N) p (it s x (s (2 * p))) ≡ home) same h
 
       go : (j : ℕ) × (suc r ≡ 1 + j) × Came s (status (2 * N) p) N (s (2 * p)) j
           → Loop (2 * N) s (2 * p) (suc r) × Lowest s half (2 * p) (suc r)
       go w =
-          let end = says (2 * N) p (it s r (s (2 * p))) home (at-end w.0 w.1 w.2.last) in
+          let end = says (2 * N) p (it s r (s (2 * p))) home (at_end w.0 w.1 w.2.last) in
           loop-of p r l end.0 end.1 (λ i h. says (2 * N) p (it s i (s (2 * p))) on (w.2.way i (omega (arith, w.1))))
 
   -- and the walk finds each such loop
@@ -131,8 +131,8 @@ module _ (N : ℕ) (s rv : ℕ → ℕ) (D : Darts (2 * N) N s rv half) where
   finds p (suc r) h l L low =
       comes s (status (2 * N) p) N 1 (s (2 * p)) r (record {
         within = h;
-        last = rw L.home (home-place (2 * N) p (2 * p) (omega arith) (omega arith));
-        way = λ i g. on-place (2 * N) p (it s i (s (2 * p))) (L.live (suc i) (omega arith)) (above i g);
+        last = rw L.home (home_place (2 * N) p (2 * p) (omega arith) (omega arith));
+        way = λ i g. on_place (2 * N) p (it s i (s (2 * p))) (L.live (suc i) (omega arith)) (above i g);
       })
       ∙ omega arith
     where
@@ -145,10 +145,10 @@ module _ (N : ℕ) (s rv : ℕ → ℕ) (D : Darts (2 * N) N s rv half) where
           )
 
 -- the darts of a loop that the walk finds are live
-pub size-live : (N : ℕ) (s : ℕ → ℕ) (p i : ℕ) → p < N → i < size N s p → it s i (2 * p) < 2 * N
+pub size_live : (N : ℕ) (s : ℕ → ℕ) (p i : ℕ) → p < N → i < size N s p → it s i (2 * p) < 2 * N
 unfolding size it
-size-live N s p zero l h = omega arith
-size-live N s p (suc i) l h = go (size N s p) refl h
+size_live N s p zero l h = omega arith
+size_live N s p (suc i) l h = go (size N s p) refl h
   where
     go : (k : ℕ) → size N s p ≡ k → suc i < k → it s i (s (2 * p)) < 2 * N
     go zero e g = absurd (not-suc-le-zero g)
@@ -162,7 +162,7 @@ module _ (N : ℕ) (s t : ℕ → ℕ) (same : (d : ℕ) → d < 2 * N → s d �
   unfolding it
   it_ext zero d h = refl
   it_ext (suc k) d h =
-      it-suc s k d ∙ same (it s k d) (h k (omega arith)) ∙ ap t (it_ext k d (λ i l. h i (omega arith))) ∙ sym (it-suc t k d)
+      it_suc s k d ∙ same (it s k d) (h k (omega arith)) ∙ ap t (it_ext k d (λ i l. h i (omega arith))) ∙ sym (it_suc t k d)
 
   turn_ext : (p n k d : ℕ) → turn s (status (2 * N) p) n k d ≡ turn t (status (2 * N) p) n k d
   unfolding turn
@@ -171,8 +171,8 @@ module _ (N : ℕ) (s t : ℕ → ℕ) (same : (d : ℕ) → d < 2 * N → s d �
     where
       go : turn s (status (2 * N) p) n (suc k) (s d) ≡ turn t (status (2 * N) p) n (suc k) (s d)
           → (x : Status) → status (2 * N) p d ≡ x → turn s (status (2 * N) p) (suc n) k d ≡ turn t (status (2 * N) p) (suc n) k d
-      go ih home e = turn-home s (status (2 * N) p) n k d e ∙ sym (turn-home t (status (2 * N) p) n k d e)
-      go ih off e = turn-off s (status (2 * N) p) n k d e ∙ sym (turn-off t (status (2 * N) p) n k d e)
+      go ih home e = turn_home s (status (2 * N) p) n k d e ∙ sym (turn_home t (status (2 * N) p) n k d e)
+      go ih off e = turn_off s (status (2 * N) p) n k d e ∙ sym (turn_off t (status (2 * N) p) n k d e)
       go ih on e =
           turn_on s (status (2 * N) p) n k d e ∙ ih ∙ ap (turn t (status (2 * N) p) n (suc k)) (same d (says (2 * N) p d on e).0)
           ∙ sym (turn_on t (status (2 * N) p) n k d e)

@@ -13,12 +13,12 @@ use Rattle.walk.specs.Darts.{half, Loop, On, Live}
 use Rattle.walk.specs.claims.Claims.{Darts, Lowest}
 use Rattle.walk.specs.Walk.{size}
 pub use Rattle.walk.specs.work.Marks.{Passed, Marks}
-use Rattle.walk.proofs.Iterate.{it-suc}
-use Rattle.walk.proofs.Curve.{Next, on_walk, on-it}
+use Rattle.walk.proofs.Iterate.{it_suc}
+use Rattle.walk.proofs.Curve.{Next, on_walk, on_it}
 use Rattle.walk.proofs.Found.{found}
 
-pub marks-more : {N : ℕ} {s : ℕ → ℕ} {m : List ℕ} → Marks N s m → (q i x : ℕ) → Passed N s q i x → Marks N s (set m x q)
-marks-more {N} {s} {m} M q i x P = record {
+pub marks_more : {N : ℕ} {s : ℕ → ℕ} {m : List ℕ} → Marks N s m → (q i x : ℕ) → Passed N s q i x → Marks N s (set m x q)
+marks_more {N} {s} {m} M q i x P = record {
   long = omega (arith, length-set m x q, M.long);
   by = λ y a b. go y a b (eqb y x) refl;
 }
@@ -33,15 +33,15 @@ module _ (N : ℕ) (s rv : ℕ → ℕ) (D : Darts (2 * N) N s rv half) where
   unfolding it
   walk_back zero d l = refl
   walk_back (suc i) d l =
-      let e : it s (suc i) d ≡ s (it s i d) = it-suc s i d in
+      let e : it s (suc i) d ≡ s (it s i d) = it_suc s i d in
       let b : s (rv (it s (suc i) d)) ≡ rv (it s i d) =
       ap (λ x. s (rv x)) e ∙ D.back (it s i d) (l i (omega arith)) (subst (λ x. x < 2 * N) e (l (suc i) (omega arith))) in
       ap (it s i) b ∙ walk_back i d (λ j h. l j (omega arith))
 
   -- a curve that comes to a loop starts on it, so not below the loop's least crossing
-  passed-low : {p k q i x : ℕ} → Loop (2 * N) s (2 * p) k → Lowest s half (2 * p) k → Passed N s q i x → On s half (2 * p) k x → p ≤ q
+  passed_low : {p k q i x : ℕ} → Loop (2 * N) s (2 * p) k → Lowest s half (2 * p) k → Passed N s q i x → On s half (2 * p) k x → p ≤ q
   unfolding Next
-  passed-low {p} {k} {q} {i} {x} L low P o =
+  passed_low {p} {k} {q} {i} {x} L low P o =
       let y = it s i (2 * q) in
       let ly : y < 2 * N = P.live i (omega arith) in
       let c : half (rv y) ≡ x = D.cr_rv y ly ∙ P.is in
@@ -58,5 +58,5 @@ module _ (N : ℕ) (s rv : ℕ → ℕ) (D : Darts (2 * N) N s rv half) where
       go zero f = refl
       go (suc r) f =
           let (L, low) = found N s rv D p r l f in
-          let o : On s half (2 * p) (suc r) (half (it s k (2 * p))) = (on_walk (2 * N) N s rv half D L k (2 * p) (omega arith) (on-it (2 * N) N s rv half D L 0 (omega arith))).1 in
-          absurd (omega (arith, passed-low L low P (rw e at o)))
+          let o : On s half (2 * p) (suc r) (half (it s k (2 * p))) = (on_walk (2 * N) N s rv half D L k (2 * p) (omega arith) (on_it (2 * N) N s rv half D L 0 (omega arith))).1 in
+          absurd (omega (arith, passed_low L low P (rw e at o)))

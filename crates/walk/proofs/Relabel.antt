@@ -10,16 +10,16 @@ use lib.Dec.{ltb}
 use borrow.Author.Tests.{lt-ltb, ltb-true, ltb-false}
 use Rattle.counting.specs.Pick.{pick}
 use Rattle.counting.specs.Lists.{total, tally, it}
-use Rattle.counting.proofs.Range.{total_ext, total-zero, total-same, total-single, total_swap, total_times}
-use Rattle.counting.proofs.Lists.{weigh-numbers, tally-over}
+use Rattle.counting.proofs.Range.{total_ext, total_zero, total_same, total_single, total_swap, total_times}
+use Rattle.counting.proofs.Lists.{weigh_numbers, tally_over}
 use Rattle.counting.proofs.Onto.{total_onto}
 use Rattle.walk.specs.Darts.{half, rev, Live, Loop, On, of_crossing}
 use Rattle.walk.specs.claims.Claims.{Darts, flat}
 use Rattle.walk.specs.Walk.{size, loop_at}
-use Rattle.walk.proofs.Iterate.{it-suc, weigh-orbit, all-orbit}
-use Rattle.walk.proofs.Curve.{Next, on_walk, on-start}
-use Rattle.walk.proofs.Found.{size-live}
-use Rattle.walk.proofs.Once.{In, listed, same_start, tally_in, counted_in, closed_in, closed-once}
+use Rattle.walk.proofs.Iterate.{it_suc, weigh_orbit, all_orbit}
+use Rattle.walk.proofs.Curve.{Next, on_walk, on_start}
+use Rattle.walk.proofs.Found.{size_live}
+use Rattle.walk.proofs.Once.{In, listed, same_start, tally_in, counted_in, closed_in, closed_once}
 
 -- a dart under new numbers of the crossings
 unfoldable pub lift : (ℕ → ℕ) → ℕ → ℕ
@@ -31,46 +31,46 @@ pub record Relabels (N : ℕ) (s t f g : ℕ → ℕ) : Type 0 where
   pub back : (x : ℕ) → x < N → g (f x) ≡ x
   pub steps : (d : ℕ) → d < 2 * N → s d < 2 * N → t (lift f d) ≡ lift f (s d)
 
-lift-half : (f : ℕ → ℕ) (d : ℕ) → half (lift f d) ≡ f (half d)
+lift_half : (f : ℕ → ℕ) (d : ℕ) → half (lift f d) ≡ f (half d)
 unfolding lift
-lift-half f d = omega arith
+lift_half f d = omega arith
 
 module _ (N : ℕ) (s t f g : ℕ → ℕ) (R : Relabels N s t f g) where
-  lift-lt : (d : ℕ) → d < 2 * N → lift f d < 2 * N
+  lift_lt : (d : ℕ) → d < 2 * N → lift f d < 2 * N
   unfolding lift
-  lift-lt d l = omega (arith, R.below (d / 2) (omega arith))
+  lift_lt d l = omega (arith, R.below (d / 2) (omega arith))
 
-  lift-back : (d : ℕ) → d < 2 * N → lift g (lift f d) ≡ d
+  lift_back : (d : ℕ) → d < 2 * N → lift g (lift f d) ≡ d
   unfolding lift
-  lift-back d l =
+  lift_back d l =
       let e : (2 * f (d / 2) + d % 2) / 2 ≡ f (d / 2) = omega arith in
       let b = R.back (d / 2) (omega arith) in
       rw (e, b) (omega arith)
 
-  it-lift : (k d : ℕ) → Live (2 * N) s d k → it t k (lift f d) ≡ lift f (it s k d)
+  it_lift : (k d : ℕ) → Live (2 * N) s d k → it t k (lift f d) ≡ lift f (it s k d)
   unfolding it
-  it-lift zero d live = refl
-  it-lift (suc k) d live =
-      it-suc t k (lift f d) ∙ ap t (it-lift k d (λ i h. live i (omega arith)))
-      ∙ R.steps (it s k d) (live k (omega arith)) (subst (λ x. x < 2 * N) (it-suc s k d) (live (suc k) (omega arith)))
-      ∙ ap (lift f) (sym (it-suc s k d))
+  it_lift zero d live = refl
+  it_lift (suc k) d live =
+      it_suc t k (lift f d) ∙ ap t (it_lift k d (λ i h. live i (omega arith)))
+      ∙ R.steps (it s k d) (live k (omega arith)) (subst (λ x. x < 2 * N) (it_suc s k d) (live (suc k) (omega arith)))
+      ∙ ap (lift f) (sym (it_suc s k d))
 
-  loop-lift : {d k : ℕ} → Loop (2 * N) s d k → Loop (2 * N) t (lift f d) k
+  loop_lift : {d k : ℕ} → Loop (2 * N) s d k → Loop (2 * N) t (lift f d) k
   unfolding it
-  loop-lift {d} {k} L =
-      let to : (i : ℕ) → i ≤ k → it t i (lift f d) ≡ lift f (it s i d) = λ i h. it-lift i d (λ j q. L.live j (omega arith)) in
+  loop_lift {d} {k} L =
+      let to : (i : ℕ) → i ≤ k → it t i (lift f d) ≡ lift f (it s i d) = λ i h. it_lift i d (λ j q. L.live j (omega arith)) in
       record {
         pos = L.pos;
-        live = λ i h. rw (to i h) (lift-lt (it s i d) (L.live i h));
+        live = λ i h. rw (to i h) (lift_lt (it s i d) (L.live i h));
         home = to k (omega arith) ∙ ap (lift f) L.home;
-        first = λ i z h e. L.first i z h (sym (lift-back (it s i d) (L.live i (omega arith))) ∙ ap (lift g) (sym (to i (omega arith)) ∙ e) ∙ lift-back d (L.live 0 (omega arith)));
+        first = λ i z h e. L.first i z h (sym (lift_back (it s i d) (L.live i (omega arith))) ∙ ap (lift g) (sym (to i (omega arith)) ∙ e) ∙ lift_back d (L.live 0 (omega arith)));
       }
 
-  on-lift : {d k x : ℕ} → Loop (2 * N) s d k → On s half d k x → On t half (lift f d) k (f x)
-  on-lift {d} L o = record {
+  on_lift : {d k x : ℕ} → Loop (2 * N) s d k → On s half d k x → On t half (lift f d) k (f x)
+  on_lift {d} L o = record {
     at = o.at;
     at_lt = o.at_lt;
-    is = ap half (it-lift o.at d (λ j q. L.live j (omega (arith, o.at_lt)))) ∙ lift-half f (it s o.at d) ∙ ap f o.is;
+    is = ap half (it_lift o.at d (λ j q. L.live j (omega (arith, o.at_lt)))) ∙ lift_half f (it s o.at d) ∙ ap f o.is;
   }
 
 -- the loop from p in the one and the loop from q in the other, which has p's new number on it, are the same
@@ -87,19 +87,19 @@ module _ (N : ℕ) (s t f g : ℕ → ℕ) (Ds : Darts (2 * N) N s rev half) (Dt
   unfolding it
   shared h o =
       let K = Lt (omega (arith, o.at_lt)) in
-      let u = on-lift N t s g f Q K o in
-      let e : half (lift g (2 * q)) ≡ g q = lift-half g (2 * q) ∙ ap g (omega arith) in
+      let u = on_lift N t s g f Q K o in
+      let e : half (lift g (2 * q)) ≡ g q = lift_half g (2 * q) ∙ ap g (omega arith) in
       let z : On s half (2 * p) (size N s p) (half (it s u.at (lift g (2 * q)))) = record { at = 0; at_lt = h; is = sym (u.is ∙ R.back p lp ∙ omega arith) } in
-      rw e at (on-start (2 * N) N s rev half Ds (Ls h) (loop-lift N t s g f Q K) u.at (omega (arith, u.at_lt)) z)
+      rw e at (on_start (2 * N) N s rev half Ds (Ls h) (loop_lift N t s g f Q K) u.at (omega (arith, u.at_lt)) z)
 
   -- and what is on the one is on the other
   forth : In N t rev Dt q (f p) → (x : ℕ) → In N s rev Ds p x → In N t rev Dt q (f x)
   unfolding Next
   forth o x u =
       let L = Ls (omega (arith, u.at_lt)) in
-      let v = on-lift N s t f g R L u in
-      let e : f p ≡ half (lift f (2 * p)) = sym (lift-half f (2 * p) ∙ ap f (omega arith)) in
-      let w = (on_walk (2 * N) N t rev half Dt (Lt (omega (arith, o.at_lt))) v.at (lift f (2 * p)) (lift-lt N s t f g R (2 * p) (omega arith)) (rw (← e) o)).1 in
+      let v = on_lift N s t f g R L u in
+      let e : f p ≡ half (lift f (2 * p)) = sym (lift_half f (2 * p) ∙ ap f (omega arith)) in
+      let w = (on_walk (2 * N) N t rev half Dt (Lt (omega (arith, o.at_lt))) v.at (lift f (2 * p)) (lift_lt N s t f g R (2 * p) (omega arith)) (rw (← e) o)).1 in
       rw v.is at w
 
 module _ (N : ℕ) (s t f g : ℕ → ℕ) (Ds : Darts (2 * N) N s rev half) (Dt : Darts (2 * N) N t rev half) (R : Relabels N s t f g) (Q : Relabels N t s g f) where
@@ -114,8 +114,8 @@ module _ (N : ℕ) (s t f g : ℕ → ℕ) (Ds : Darts (2 * N) N s rev half) (Dt
     back : (y : ℕ) → InT q y → InS p (g y)
     back = forth N t s g f Dt Ds Q R q p lq lp (shared N s t f g Ds Dt R Q p q lp lq h o)
 
-    tally-same : (x : ℕ) → x < N → tally (of_crossing x) (loop_at N s p) ≡ tally (of_crossing (f x)) (loop_at N t q)
-    tally-same x l =
+    tally_same : (x : ℕ) → x < N → tally (of_crossing x) (loop_at N s p) ≡ tally (of_crossing (f x)) (loop_at N t q)
+    tally_same x l =
         ⊎_elim
         (λ (e : tally (of_crossing x) (loop_at N s p) ≡ 0). ⊎_elim
         (λ (z : tally (of_crossing (f x)) (loop_at N t q) ≡ 0). e ∙ sym z)
@@ -133,16 +133,16 @@ module _ (N : ℕ) (s t f g : ℕ → ℕ) (Ds : Darts (2 * N) N s rev half) (Dt
     pub sum_same : (k : ℕ → ℕ) → total (λ i. k (f (half (it s i (2 * p))))) (size N s p) 0 ≡ total (λ i. k (half (it t i (2 * q)))) (size N t q) 0
     unfolding loop_at
     sum_same k =
-        sym (weigh-orbit (λ d. k (f (half d))) s (size N s p) (2 * p))
-        ∙ sym (weigh-numbers half N (λ x. k (f x)) (loop_at N s p) (all-orbit (λ d. half d < N) s (size N s p) (2 * p) (λ i l. omega (arith, size-live N s p i lp l))))
-        ∙ total_ext (λ x. k (f x) * tally (of_crossing x) (loop_at N s p)) (λ x. k (f x) * tally (of_crossing (f x)) (loop_at N t q)) N 0 (λ x _ l. ap (λ m. k (f x) * m) (tally-same x (omega arith)))
+        sym (weigh_orbit (λ d. k (f (half d))) s (size N s p) (2 * p))
+        ∙ sym (weigh_numbers half N (λ x. k (f x)) (loop_at N s p) (all_orbit (λ d. half d < N) s (size N s p) (2 * p) (λ i l. omega (arith, size_live N s p i lp l))))
+        ∙ total_ext (λ x. k (f x) * tally (of_crossing x) (loop_at N s p)) (λ x. k (f x) * tally (of_crossing (f x)) (loop_at N t q)) N 0 (λ x _ l. ap (λ m. k (f x) * m) (tally_same x (omega arith)))
         ∙ total_onto N f R.below apart (λ x. k x * tally (of_crossing x) (loop_at N t q))
-        ∙ weigh-numbers half N k (loop_at N t q) (all-orbit (λ d. half d < N) t (size N t q) (2 * q) (λ i l. omega (arith, size-live N t q i lq l)))
-        ∙ weigh-orbit (λ d. k (half d)) t (size N t q) (2 * q)
+        ∙ weigh_numbers half N k (loop_at N t q) (all_orbit (λ d. half d < N) t (size N t q) (2 * q) (λ i l. omega (arith, size_live N t q i lq l)))
+        ∙ weigh_orbit (λ d. k (half d)) t (size N t q) (2 * q)
 
     pub size_same : size N s p ≡ size N t q
     size_same =
-        omega (arith, total-same (λ i. 1) 1 (size N s p) 0 (λ i _ _. refl), total-same (λ i. 1) 1 (size N t q) 0 (λ i _ _. refl), sum_same (λ x. 1))
+        omega (arith, total_same (λ i. 1) 1 (size N s p) 0 (λ i _ _. refl), total_same (λ i. 1) 1 (size N t q) 0 (λ i _ _. refl), sum_same (λ x. 1))
 
   -- what is summed over the loops
   module _ (G H : ℕ → ℕ) (same : (p q : ℕ) → p < N → q < N → 0 < size N s p → InT q (f p) → G p ≡ H q) where
@@ -160,13 +160,13 @@ module _ (N : ℕ) (s t f g : ℕ → ℕ) (Ds : Darts (2 * N) N s rev half) (Dt
       where
         once : 0 < size N s p → total (on p) N 0 ≡ 1
         once h =
-            let K = loop-lift N s t f g R (listed N s rev Ds p lp h).0 in
-            let e : half (lift f (2 * p)) ≡ f p = lift-half f (2 * p) ∙ ap f (omega arith) in
-            sym (tally-over (of_crossing (f p)) (loop_at N t) N 0) ∙ subst (λ x. tally (of_crossing x) (flat N t) ≡ 1) e (closed-once N t rev Dt (lift f (2 * p)) (size N s p) K 0)
+            let K = loop_lift N s t f g R (listed N s rev Ds p lp h).0 in
+            let e : half (lift f (2 * p)) ≡ f p = lift_half f (2 * p) ∙ ap f (omega arith) in
+            sym (tally_over (of_crossing (f p)) (loop_at N t) N 0) ∙ subst (λ x. tally (of_crossing x) (flat N t) ≡ 1) e (closed_once N t rev Dt (lift f (2 * p)) (size N s p) K 0)
 
         go : (b : Bool) → ltb 0 (size N s p) ≡ b → pick b (G p) 0 ≡ total (λ q. pick b (G p * on p q) 0) N 0
         go true e = sym (total_times (G p) (on p) N 0 ∙ ap (λ m. G p * m) (once (ltb-true 0 (size N s p) e)) ∙ mul-one (G p))
-        go false e = sym (total-zero (λ q. 0) N 0 (λ q _ _. refl))
+        go false e = sym (total_zero (λ q. 0) N 0 (λ q _ _. refl))
 
     -- nothing is on what is no loop
     part_none : (p q : ℕ) → (0 < size N s p → InT q (f p) → ⊥) → part p q ≡ 0
@@ -183,23 +183,23 @@ module _ (N : ℕ) (s t f g : ℕ → ℕ) (Ds : Darts (2 * N) N s rev half) (Dt
     module _ (q : ℕ) (lq : q < N) where
       found : 0 < size N t q → total (λ p. part p q) N 0 ≡ H q
       found h =
-          let (p, lp, v) = closed_in N s rev Ds (lift g (2 * q)) (size N t q) (loop-lift N t s g f Q (listed N t rev Dt q lq h).0) in
-          let u : InS p (g q) = subst (λ x. InS p x) (lift-half g (2 * q) ∙ ap g (omega arith)) v in
+          let (p, lp, v) = closed_in N s rev Ds (lift g (2 * q)) (size N t q) (loop_lift N t s g f Q (listed N t rev Dt q lq h).0) in
+          let u : InS p (g q) = subst (λ x. InS p x) (lift_half g (2 * q) ∙ ap g (omega arith)) v in
           let hp : 0 < size N s p = omega (arith, u.at_lt) in
           let o : InT q (f p) = shared N t s g f Dt Ds Q R q p lq lp h u in
-          total-single (λ p. part p q) N 0 p (omega arith) (omega arith)
+          total_single (λ p. part p q) N 0 p (omega arith) (omega arith)
           (λ r _ lr n. part_none r q (λ hr x. n (same_start N s rev Ds r p (g q) (omega arith) lp (shared N s t f g Ds Dt R Q r q (omega arith) lq hr x) u)))
           ∙ rw (lt-ltb 0 (size N s p) hp) (ap (λ m. G p * m) (tally_in N t rev Dt q (f p) lq o) ∙ mul-one (G p) ∙ same p q lp lq hp o)
 
-      by-second : total (λ p. part p q) N 0 ≡ pick (ltb 0 (size N t q)) (H q) 0
-      by-second = go (ltb 0 (size N t q)) refl
+      by_second : total (λ p. part p q) N 0 ≡ pick (ltb 0 (size N t q)) (H q) 0
+      by_second = go (ltb 0 (size N t q)) refl
         where
           go : (b : Bool) → ltb 0 (size N t q) ≡ b → total (λ p. part p q) N 0 ≡ pick b (H q) 0
           go true e = found (ltb-true 0 (size N t q) e)
-          go false e = total-zero (λ p. part p q) N 0 (λ p _ _. part_none p q (λ h o. omega (arith, ltb-false 0 (size N t q) e, o.at_lt)))
+          go false e = total_zero (λ p. part p q) N 0 (λ p _ _. part_none p q (λ h o. omega (arith, ltb-false 0 (size N t q) e, o.at_lt)))
 
-    pub loops-same : total (λ p. pick (ltb 0 (size N s p)) (G p) 0) N 0 ≡ total (λ q. pick (ltb 0 (size N t q)) (H q) 0) N 0
-    loops-same =
+    pub loops_same : total (λ p. pick (ltb 0 (size N s p)) (G p) 0) N 0 ≡ total (λ q. pick (ltb 0 (size N t q)) (H q) 0) N 0
+    loops_same =
         total_ext (λ p. pick (ltb 0 (size N s p)) (G p) 0) (λ p. total (part p) N 0) N 0 (λ p _ l. by_first p (omega arith))
         ∙ total_swap part N N 0 0
-        ∙ total_ext (λ q. total (λ p. part p q) N 0) (λ q. pick (ltb 0 (size N t q)) (H q) 0) N 0 (λ q _ l. by-second q (omega arith))
+        ∙ total_ext (λ q. total (λ p. part p q) N 0) (λ q. pick (ltb 0 (size N t q)) (H q) 0) N 0 (λ q _ l. by_second q (omega arith))

@@ -11,17 +11,17 @@ use Rattle.walk.specs.claims.Claims.{Darts}
 use Rattle.walk.specs.Step.{face, land, step}
 use Rattle.walk.specs.claims.Step.{Ports}
 
-pub rev-first : (c : ℕ) → rev (2 * c) ≡ 2 * c + 1
+pub rev_first : (c : ℕ) → rev (2 * c) ≡ 2 * c + 1
 unfolding rev
-rev-first c = omega arith
+rev_first c = omega arith
 
-pub rev-second : (c : ℕ) → rev (2 * c + 1) ≡ 2 * c
+pub rev_second : (c : ℕ) → rev (2 * c + 1) ≡ 2 * c
 unfolding rev
-rev-second c = omega arith
+rev_second c = omega arith
 
 -- what holds of each crossing's two darts holds of every dart
-pub by-parity : (N : ℕ) (P : ℕ → Type 0) → ((c : ℕ) → c < N → P (2 * c)) → ((c : ℕ) → c < N → P (2 * c + 1)) → (d : ℕ) → d < 2 * N → P d
-by-parity N P even odd d l = go (eqb (d % 2) 0) refl
+pub by_parity : (N : ℕ) (P : ℕ → Type 0) → ((c : ℕ) → c < N → P (2 * c)) → ((c : ℕ) → c < N → P (2 * c + 1)) → (d : ℕ) → d < 2 * N → P d
+by_parity N P even odd d l = go (eqb (d % 2) 0) refl
   where
     go : (b : Bool) → eqb (d % 2) 0 ≡ b → P d
     go true e = let h : 2 * (d / 2) ≡ d = omega (arith, eqb-true (d % 2) 0 e) in subst P h (even (d / 2) (omega arith))
@@ -35,30 +35,30 @@ same_half d e h = go (eqb d e) refl
     go true q = inl (eqb-true d e q)
     go false q = inr (omega (arith, eqb-false d e q))
 
-pub rev-rev : (d : ℕ) → rev (rev d) ≡ d
+pub rev_rev : (d : ℕ) → rev (rev d) ≡ d
 unfolding rev
-rev-rev d = omega arith
+rev_rev d = omega arith
 
-pub rev-lt : (N d : ℕ) → d < 2 * N → rev d < 2 * N
+pub rev_lt : (N d : ℕ) → d < 2 * N → rev d < 2 * N
 unfolding rev
-rev-lt N d l = omega arith
+rev_lt N d l = omega arith
 
-pub half-rev : (d : ℕ) → half (rev d) ≡ half d
+pub half_rev : (d : ℕ) → half (rev d) ≡ half d
 unfolding rev
-half-rev d = omega arith
+half_rev d = omega arith
 
 -- a step on them, of N crossings, that is undone by turning round and never comes back to its crossing
-pub rev-darts : (N : ℕ) (s : ℕ → ℕ) → ((d : ℕ) → d < 2 * N → s d < 2 * N → s (rev (s d)) ≡ rev d) → ((d : ℕ) → d < 2 * N → s d ≢ rev d)
+pub rev_darts : (N : ℕ) (s : ℕ → ℕ) → ((d : ℕ) → d < 2 * N → s d < 2 * N → s (rev (s d)) ≡ rev d) → ((d : ℕ) → d < 2 * N → s d ≢ rev d)
     → Darts (2 * N) N s rev half
 unfolding rev
-rev-darts N s back ne = record {
-  rv_lt = λ d l. rev-lt N d l;
-  rv_rv = λ d l. rev-rev d;
+rev_darts N s back ne = record {
+  rv_lt = λ d l. rev_lt N d l;
+  rv_rv = λ d l. rev_rev d;
   rv_ne = λ d l e. omega (arith, e);
   back = back;
-  s-ne = ne;
+  s_ne = ne;
   cr_lt = λ d l. omega arith;
-  cr_rv = λ d l. half-rev d;
+  cr_rv = λ d l. half_rev d;
   same = λ d e a b h. same_half d e h;
 }
 
@@ -73,47 +73,47 @@ module _ (N : ℕ) (fa fb : ℕ → ℕ) (mate : ℕ → ℕ → ℕ) where
   st = step N fa fb mate
 
   -- come to by its first face, a crossing is left by its second, and the other way
-  pub land-first : (f c : ℕ) → c < N → fa c ≡ f → ld f c ≡ 2 * c + 1
+  pub land_first : (f c : ℕ) → c < N → fa c ≡ f → ld f c ≡ 2 * c + 1
   unfolding land
-  land-first f c l e = rw (lt-ltb c N l, eq-eqb (fa c) f e)
+  land_first f c l e = rw (lt-ltb c N l, eq-eqb (fa c) f e)
 
-  pub land-second : (f c : ℕ) → c < N → fa c ≢ f → ld f c ≡ 2 * c
+  pub land_second : (f c : ℕ) → c < N → fa c ≢ f → ld f c ≡ 2 * c
   unfolding land
-  land-second f c l e = rw (lt-ltb c N l, ne_eqb (fa c) f e)
+  land_second f c l e = rw (lt-ltb c N l, ne_eqb (fa c) f e)
 
-  land-end : (f c : ℕ) → N ≤ c → ld f c ≡ 2 * N
+  land_end : (f c : ℕ) → N ≤ c → ld f c ≡ 2 * N
   unfolding land
-  land-end f c l = rw (le-ltb c N l)
+  land_end f c l = rw (le-ltb c N l)
 
-  pub face-first : (c : ℕ) → fc (2 * c) ≡ fa c
+  pub face_first : (c : ℕ) → fc (2 * c) ≡ fa c
   unfolding face
-  face-first c = let e : 2 * c / 2 ≡ c = omega arith in rw (eq-eqb (2 * c % 2) 0 (omega arith), e)
+  face_first c = let e : 2 * c / 2 ≡ c = omega arith in rw (eq-eqb (2 * c % 2) 0 (omega arith), e)
 
-  pub face-second : (c : ℕ) → fc (2 * c + 1) ≡ fb c
+  pub face_second : (c : ℕ) → fc (2 * c + 1) ≡ fb c
   unfolding face
-  face-second c = let e : (2 * c + 1) / 2 ≡ c = omega arith in rw (ne_eqb ((2 * c + 1) % 2) 0 (λ z. omega arith), e)
+  face_second c = let e : (2 * c + 1) / 2 ≡ c = omega arith in rw (ne_eqb ((2 * c + 1) % 2) 0 (λ z. omega arith), e)
 
-  pub land-half : (f c : ℕ) → c < N → ld f c / 2 ≡ c
-  land-half f c l = go (eqb (fa c) f) refl
+  pub land_half : (f c : ℕ) → c < N → ld f c / 2 ≡ c
+  land_half f c l = go (eqb (fa c) f) refl
     where
       go : (b : Bool) → eqb (fa c) f ≡ b → ld f c / 2 ≡ c
-      go true e = rw (land-first f c l (eqb-true (fa c) f e)) (omega arith)
-      go false e = rw (land-second f c l (eqb-false (fa c) f e)) (omega arith)
+      go true e = rw (land_first f c l (eqb-true (fa c) f e)) (omega arith)
+      go false e = rw (land_second f c l (eqb-false (fa c) f e)) (omega arith)
 
   -- the other dart of the one that goes on leaves by the face come by
-  pub land-face : (f c : ℕ) → c < N → (fa c ≡ f) ⊎ (fb c ≡ f) → fc (rev (ld f c)) ≡ f
-  land-face f c l o = go (eqb (fa c) f) refl
+  pub land_face : (f c : ℕ) → c < N → (fa c ≡ f) ⊎ (fb c ≡ f) → fc (rev (ld f c)) ≡ f
+  land_face f c l o = go (eqb (fa c) f) refl
     where
       go : (b : Bool) → eqb (fa c) f ≡ b → fc (rev (ld f c)) ≡ f
-      go true e = rw (land-first f c l (eqb-true (fa c) f e), rev-second, face-first) (eqb-true (fa c) f e)
-      go false e = rw (land-second f c l (eqb-false (fa c) f e), rev-first, face-second) (⊎_elim (λ q. absurd (eqb-false (fa c) f e q)) (λ q. q) o)
+      go true e = rw (land_first f c l (eqb-true (fa c) f e), rev_second, face_first) (eqb-true (fa c) f e)
+      go false e = rw (land_second f c l (eqb-false (fa c) f e), rev_first, face_second) (⊎_elim (λ q. absurd (eqb-false (fa c) f e q)) (λ q. q) o)
 
   module _ (C : Ports N fa fb mate) where
     -- a crossing come to by the face that a dart leaves by is left by its other dart
-    land-back : (d : ℕ) → d < 2 * N → ld (fc d) (d / 2) ≡ rev d
-    land-back = by-parity N (λ d. ld (fc d) (d / 2) ≡ rev d)
-        (λ c l. let h : 2 * c / 2 ≡ c = omega arith in rw (h, face-first, rev-first) (land-first (fa c) c l refl))
-        (λ c l. let h : (2 * c + 1) / 2 ≡ c = omega arith in rw (h, face-second, rev-second) (land-second (fb c) c l (C.apart c l)))
+    land_back : (d : ℕ) → d < 2 * N → ld (fc d) (d / 2) ≡ rev d
+    land_back = by_parity N (λ d. ld (fc d) (d / 2) ≡ rev d)
+        (λ c l. let h : 2 * c / 2 ≡ c = omega arith in rw (h, face_first, rev_first) (land_first (fa c) c l refl))
+        (λ c l. let h : (2 * c + 1) / 2 ≡ c = omega arith in rw (h, face_second, rev_second) (land_second (fb c) c l (C.apart c l)))
 
     -- where a step goes on, it goes on at the mate
     pub live : (d : ℕ) → st d < 2 * N → mate (fc d) (d / 2) < N
@@ -122,21 +122,21 @@ module _ (N : ℕ) (fa fb : ℕ → ℕ) (mate : ℕ → ℕ → ℕ) where
       where
         go : (b : Bool) → ltb (mate (fc d) (d / 2)) N ≡ b → mate (fc d) (d / 2) < N
         go true e = ltb-true (mate (fc d) (d / 2)) N e
-        go false e = absurd (omega (arith, land-end (fc d) (mate (fc d) (d / 2)) (ltb-false (mate (fc d) (d / 2)) N e), h))
+        go false e = absurd (omega (arith, land_end (fc d) (mate (fc d) (d / 2)) (ltb-false (mate (fc d) (d / 2)) N e), h))
 
     back : (d : ℕ) → d < 2 * N → st d < 2 * N → st (rev (st d)) ≡ rev d
     unfolding step
     back d l h =
         let m = live d h in
-        let f : fc (rev (st d)) ≡ fc d = land-face (fc d) (mate (fc d) (d / 2)) m (C.lies d l m) in
-        let c : rev (st d) / 2 ≡ mate (fc d) (d / 2) = half-rev (st d) ∙ land-half (fc d) (mate (fc d) (d / 2)) m in
-        rw (f, c, C.both d l m) (land-back d l)
+        let f : fc (rev (st d)) ≡ fc d = land_face (fc d) (mate (fc d) (d / 2)) m (C.lies d l m) in
+        let c : rev (st d) / 2 ≡ mate (fc d) (d / 2) = half_rev (st d) ∙ land_half (fc d) (mate (fc d) (d / 2)) m in
+        rw (f, c, C.both d l m) (land_back d l)
 
-    step-ne : (d : ℕ) → d < 2 * N → st d ≢ rev d
+    step_ne : (d : ℕ) → d < 2 * N → st d ≢ rev d
     unfolding step rev
-    step-ne d l e =
+    step_ne d l e =
         let h : st d < 2 * N = omega (arith, e) in
-        C.other d l (sym (land-half (fc d) (mate (fc d) (d / 2)) (live d h)) ∙ ap half e ∙ half-rev d)
+        C.other d l (sym (land_half (fc d) (mate (fc d) (d / 2)) (live d h)) ∙ ap half e ∙ half_rev d)
 
     pub darts : Darts (2 * N) N st rev half
-    darts = rev-darts N st back step-ne
+    darts = rev_darts N st back step_ne

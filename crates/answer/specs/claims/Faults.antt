@@ -15,7 +15,7 @@ pub record Refusal (rows : List Row) (number p : ℕ) : Type 0 where
   pub at : ℕ
   pub row_lt : at < length rows
   pub number_is : (row_at rows at).number ≡ number
-  pub place-lt : p < (row_at rows at).places
+  pub place_lt : p < (row_at rows at).places
   pub fault : (row_at rows at).fault p ≡ true
   pub lowest : (q : ℕ) → q < p → (row_at rows at).fault q ≡ false
   pub earlier : (i : ℕ) → i < at → Clear (row_at rows i)

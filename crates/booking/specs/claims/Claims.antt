@@ -45,7 +45,7 @@ module _ (w : Edges) where
   pub record Other (p : ℕ) : Type 0 where
     pub start : p < crossings w
     pub some : 0 < loop_size w p
-    pub no-three : loop_size w p ≢ 3
+    pub no_three : loop_size w p ≢ 3
 
   -- The loops of a cell that is booked.
   pub record LoopLaws : Type 0 where
@@ -56,7 +56,7 @@ module _ (w : Edges) where
     pub three_in : (x p : ℕ) → OnLoop x p → loop_size w p ≡ 3 → InCorner x
     -- t loops have length 3, all are normal
     pub threes : tally (λ p. eqb (loop_size w p) 3) (leasts w) ≡ corner_triangles w.count
-    pub all-normal : (p : ℕ) → p < crossings w → normal w p ≡ true
+    pub all_normal : (p : ℕ) → p < crossings w → normal w p ≡ true
     -- gcd d1 d2 others, each of length 4 * (d1 + d2) / gcd d1 d2
     pub others : tally (λ p. not (eqb (loop_size w p) 3)) (leasts w) ≡ gcd (larger w.count) (smaller w.count)
     pub other-length : (p : ℕ) → Other p → loop_size w p ≡ 4 * (larger w.count + smaller w.count) / gcd (larger w.count) (smaller w.count)
@@ -71,7 +71,7 @@ module _ (w : Edges) where
 pub record CountLaws (w : ℕ → ℕ) (a b c d : ℕ) : Type 0 where
   -- the corner count is half of what the counts at a have above the pair ad, bc; the least is half of what they have above the largest pair
   pub corner : 2 * corner_from w a b c + pair_sum w a d b c ≡ count_between w a b + count_between w a c + count_between w a d
-  pub least-is : 2 * least_corner w a + largest_pair w ≡ count_between w a b + count_between w a c + count_between w a d
+  pub least_is : 2 * least_corner w a + largest_pair w ≡ count_between w a b + count_between w a c + count_between w a d
   -- the corner triangles at both ends of an edge fit, and opposite edges keep the same
   pub fit : least_corner w a + least_corner w b ≤ count_between w a b
   pub opposite : left_between w a b ≡ left_between w c d

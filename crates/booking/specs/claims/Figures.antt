@@ -22,6 +22,6 @@ pub record FigureLaws (x y : ℕ) : Type 0 where
   -- there are at most x / gcd x y − 1 splits (02, W12)
   pub few : splits x y + 1 ≤ x / gcd x y
   -- sizes
-  pub splits-fit : splits x y < x
-  pub inner-fit : inner_crossings x y ≤ 2 * (x * x)
-  pub triangles-fit : beside_split x y ≤ 8 * (x * x)
+  pub splits_fit : splits x y < x
+  pub inner_fit : inner_crossings x y ≤ 2 * (x * x)
+  pub triangles_fit : beside_split x y ≤ 8 * (x * x)

@@ -37,11 +37,11 @@ FewFans WalkIt = Unit {0}
 -- r are the splits and what they add
 pub record GainBy (x y : ℕ) (r : Gain) : Type 0 where
   pub splits_are : r.splits ≡ splits_by x y
-  pub more-is : r.more ≡ more_by x y
+  pub more_is : r.more ≡ more_by x y
 
 pub record GainIn (w : ℕ → ℕ) (r : Gain) : Type 0 where
   pub splits_are : r.splits ≡ splits_in w
-  pub more-is : r.more ≡ more_in w
+  pub more_is : r.more ≡ more_in w
 
 -- r has these sums, with what is added at the end, where both numbers are x
 pub record EndsAt (splits inner triangles x : ℕ) (r : SplitSums) : Type 0 where
@@ -57,11 +57,11 @@ pub record UnderWay (p q n x y splits inner triangles : ℕ) : Type 0 where
   pub inner_so : figure (λ n. 0) (λ x y. 2 * (x + y)) p q ≡ inner + figure_in (λ n. 0) (λ x y. 2 * (x + y)) n x y
   pub triangles_so : figure (λ n. 8 * n) (λ x y. 4 * x + 10 * y) p q ≡ triangles + figure_in (λ n. 8 * n) (λ x y. 4 * x + 10 * y) n x y
   pub end_so : figure (λ n. n) (λ x y. 0) p q ≡ figure_in (λ n. n) (λ x y. 0) n x y
-  pub x-few : x ≤ most_number
-  pub y-few : y ≤ most_number
+  pub x_few : x ≤ most_number
+  pub y_few : y ≤ most_number
   pub steps : splits + n ≡ p + q
-  pub inner-few : inner ≤ most_added * splits
-  pub triangles-few : triangles ≤ most_added * splits
+  pub inner_few : inner ≤ most_added * splits
+  pub triangles_few : triangles ≤ most_added * splits
 
 -- t, d1, d2 and the triangles, from the largest of the three sums, the one between and the least: t is what the others have above the largest, d1 and d2
 -- are half of what it has above each

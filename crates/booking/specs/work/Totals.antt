@@ -48,5 +48,5 @@ module _ (counts sides : List ℕ) where
   pub record AreTotals (n triangles crossings : ℕ) : Type 0 where
     pub triangles_are : triangles ≡ total known_at n 0
     pub crossings_are : crossings ≡ total crossings_at n 0
-    pub few-triangles : triangles ≤ most_triangles
-    pub few-crossings : crossings ≤ most_triangles
+    pub few_triangles : triangles ≤ most_triangles
+    pub few_crossings : crossings ≤ most_triangles

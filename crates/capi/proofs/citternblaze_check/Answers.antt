@@ -1,12 +1,12 @@
 use borrow.Author.Rules.{rules}
 use Rattle.grid.specs.Check.{check_numbers}
-use Rattle.capi.proofs.Answers.{told-reads, answers-are, answers-told}
-use Rattle.grid.proofs.Claims.{never-empty}
-use Rattle.answer.proofs.Answer.{refused-numbers}
+use Rattle.capi.proofs.Answers.{told_reads, answers_are, answers_told}
+use Rattle.grid.proofs.Claims.{never_empty}
+use Rattle.answer.proofs.Answer.{refused_numbers}
 use Rattle.capi.proofs.citternblaze_check.Goals as goal
 
 pub returns-in-Crossings : goal.returns-in-Crossings
-returns-in-Crossings c = answers-told check_numbers c.in-Crossings.is c.check.ensures c.put.ensures
+returns-in-Crossings c = answers_told check_numbers c.in-Crossings.is c.check.ensures c.put.ensures
 
 pub returns-in-Refused : goal.returns-in-Refused
-returns-in-Refused c = answers-are (refused-numbers _ (never-empty _) _ _ (told-reads check_numbers c.in-Refused.is c.check.ensures)) c.put-in-Refused.ensures
+returns-in-Refused c = answers_are (refused_numbers _ (never_empty _) _ _ (told_reads check_numbers c.in-Refused.is c.check.ensures)) c.put-in-Refused.ensures

@@ -1,14 +1,14 @@
 use borrow.Author.Rules.{rules}
 use Rattle.grid.specs.Check.{check_numbers}
-use Rattle.capi.proofs.Answers.{told-reads, answers-are, answers-told}
-use Rattle.flat.proofs.Accepts.{never-empty}
-use Rattle.answer.proofs.Answer.{refused-numbers}
+use Rattle.capi.proofs.Answers.{told_reads, answers_are, answers_told}
+use Rattle.flat.proofs.Accepts.{never_empty}
+use Rattle.answer.proofs.Answer.{refused_numbers}
 use Rattle.capi.proofs.citternblaze_flat_check.Goals as goal
 
 pub returns-in-Crossings : goal.returns-in-Crossings
 returns-in-Crossings c = let c-check = c.check in
-    answers-told check_numbers c.in-Crossings.is c-check.ensures c.put.ensures
+    answers_told check_numbers c.in-Crossings.is c-check.ensures c.put.ensures
 
 pub returns-in-Refused : goal.returns-in-Refused
 returns-in-Refused c = let c-check = c.check in
-    answers-are (refused-numbers _ (never-empty _) _ _ (told-reads check_numbers c.in-Refused.is c-check.ensures)) c.put-in-Refused.ensures
+    answers_are (refused_numbers _ (never_empty _) _ _ (told_reads check_numbers c.in-Refused.is c-check.ensures)) c.put-in-Refused.ensures

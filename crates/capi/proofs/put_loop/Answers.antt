@@ -1,11 +1,11 @@
 use borrow.Author.Rules.{rules}
 use mathlib.Core.Path.{refl}
 use Rattle.cell.specs.Answer.{loop_numbers}
-use Rattle.capi.proofs.Answers.{answers-told}
+use Rattle.capi.proofs.Answers.{answers_told}
 use Rattle.capi.proofs.put_loop.Goals as goal
 
 pub returns-in-Found : goal.returns-in-Found
-returns-in-Found c = answers-told loop_numbers c.in-Found.is refl c.put_found.ensures
+returns-in-Found c = answers_told loop_numbers c.in-Found.is refl c.put_found.ensures
 
 pub returns-in-Nothing : goal.returns-in-Nothing
-returns-in-Nothing c = answers-told loop_numbers c.in-Nothing.is refl c.put.ensures
+returns-in-Nothing c = answers_told loop_numbers c.in-Nothing.is refl c.put.ensures

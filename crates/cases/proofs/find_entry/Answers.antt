@@ -7,7 +7,7 @@ use borrow.Author.Tests.{not-true, not-false}
 use Rattle.cell.specs.Level.{by_edge}
 use Rattle.cell.specs.Common.{is_common}
 use Rattle.cases.specs.claims.Cases.{entries, from_digits}
-use Rattle.cases.proofs.Digits.{digits-none, digits_more, digits_lt, found_in, found_out}
+use Rattle.cases.proofs.Digits.{digits_none, digits_more, digits_lt, found_in, found_out}
 use Rattle.cases.proofs.find_entry.Goals as goal
 
 bound : (l : List ℕ) (n k : ℕ) → (k ≤ 6) × (is_common (by_edge l) ≡ true) × (n ≡ from_digits (by_edge l) k) → n < entries
@@ -20,7 +20,7 @@ pub returns-then-not-is_common : goal.returns-then-not-is_common
 returns-then-not-is_common c = (found_out (by_edge c.args.counts) (sym c.is_common.ensures ∙ not-true _ c.if-not-is_common.true-raw), omega arith)
 
 pub loop-k-init : goal.loop-k-init
-loop-k-init c = (omega arith, sym c.is_common.ensures ∙ not-false _ c.if-not-is_common.false-raw, digits-none (by_edge c.args.counts))
+loop-k-init c = (omega arith, sym c.is_common.ensures ∙ not-false _ c.if-not-is_common.false-raw, digits_none (by_edge c.args.counts))
 
 pub overflow_mul-n : goal.overflow_mul-n
 overflow_mul-n c = omega (arith, bound c.args.counts c.loop-k.n c.loop-k.k c.loop-k.invariant)

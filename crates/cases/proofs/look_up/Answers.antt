@@ -11,7 +11,7 @@ use Rattle.cases.specs.Answer.{lone_edges, case_answer}
 use Rattle.cases.specs.claims.Table.{table}
 use Rattle.cases.specs.claims.Tally.{find_entry}
 use Rattle.cases.proofs.Digits.{answered, unanswered}
-use Rattle.cases.proofs.Claims.{every-entry}
+use Rattle.cases.proofs.Claims.{every_entry}
 use Rattle.cases.proofs.look_up.Goals as goal
 
 outside : (w : ℕ → ℕ) (n : ℕ) → n ≡ find_entry w → entries ≤ n → result_of [] ≡ case_answer w
@@ -22,7 +22,7 @@ inside : (w : ℕ → ℕ) (n l t : ℕ) → n ≡ find_entry w → n < entries 
 unfolding case_answer
 inside w n l t e h f g =
     let (C, q) = answered w n e h in
-    let E = every-entry (lone_edges w) C in
+    let E = every_entry (lone_edges w) C in
     rw C (ap₂ (λ i j. result_of (i ∷ j ∷ [])) (f ∙ ap (λ i. get_or table (2 * i) 0) q ∙ E.loops) (g ∙ ap (λ i. get_or table (2 * i + 1) 0) q ∙ E.triangles))
 
 pub returns-then-n-ge-ENTRIES : goal.returns-then-n-ge-ENTRIES

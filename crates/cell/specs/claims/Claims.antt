@@ -45,12 +45,12 @@ module _ (w : Edges) where
 
 -- numbers and pairs of edge and index are one to one, in the order in which the edges are laid
 pub record Lay (w : Edges) : Type 0 where
-  pub edge-lt : (x : ℕ) → x < crossings w → edge w x < 6
-  pub index-lt : (x : ℕ) → x < crossings w → index w x < w.count (edge w x)
+  pub edge_lt : (x : ℕ) → x < crossings w → edge w x < 6
+  pub index_lt : (x : ℕ) → x < crossings w → index w x < w.count (edge w x)
   pub back : (x : ℕ) → x < crossings w → number w (edge w x) (index w x) ≡ x
   pub number_lt : (k t : ℕ) → k < 6 → t < w.count k → number w k t < crossings w
-  pub number-edge : (k t : ℕ) → k < 6 → t < w.count k → edge w (number w k t) ≡ k
-  pub number-index : (k t : ℕ) → k < 6 → t < w.count k → index w (number w k t) ≡ t
+  pub number_edge : (k t : ℕ) → k < 6 → t < w.count k → edge w (number w k t) ≡ k
+  pub number_index : (k t : ℕ) → k < 6 → t < w.count k → index w (number w k t) ≡ t
   pub later : (x y : ℕ) → x < y → y < crossings w → (ahead w (edge w y) (edge w x) ≡ true) ⊎ ((edge w x ≡ edge w y) × (index w x < index w y))
 
 pub record CellLaws (w : Edges) (v : List ℕ) : Type 0 where
@@ -71,10 +71,10 @@ pub record CellLaws (w : Edges) (v : List ℕ) : Type 0 where
   pub most : (s x : ℕ) → Lies w s x → Joined w s x → tally (runs_along w s x) (flat (crossings w) (step w)) ≤ 1
   pub exactly : AllJoined w → (s x : ℕ) → Lies w s x → tally (runs_along w s x) (flat (crossings w) (step w)) ≡ 1
   -- a loop is normal exactly where no segment of it has both ends on one edge
-  pub normal-ends : (p : ℕ) → p < crossings w → normal w p ≡ eqb (tally (λ d. eqb (edge w (d / 2)) (edge w (step w d / 2))) (loop_darts w p)) 0
+  pub normal_ends : (p : ℕ) → p < crossings w → normal w p ≡ eqb (tally (λ d. eqb (edge w (d / 2)) (edge w (step w d / 2))) (loop_darts w p)) 0
   -- a loop of three segments is normal, and a corner
-  pub three-normal : (p : ℕ) → p < crossings w → loop_size w p ≡ 3 → normal w p ≡ true
-  pub three-corner : (p : ℕ) → p < crossings w → loop_size w p ≡ 3 → (get_or (type_of w v p) 0 0 ≡ 1) ⊎ (get_or (type_of w v p) 0 0 ≡ 3)
+  pub three_normal : (p : ℕ) → p < crossings w → loop_size w p ≡ 3 → normal w p ≡ true
+  pub three_corner : (p : ℕ) → p < crossings w → loop_size w p ≡ 3 → (get_or (type_of w v p) 0 0 ≡ 1) ⊎ (get_or (type_of w v p) 0 0 ≡ 3)
   -- the loops are listed by least crossing, each that there is and no other
   pub rising : (i j : ℕ) → i < j → j < length (leasts w) → get_or (leasts w) i 0 < get_or (leasts w) j 0
   pub listed : (i : ℕ) → i < length (leasts w)

@@ -11,7 +11,7 @@ pub record Arranged (a b c d : ℕ) : Type 0 where
   pub a_lt : a < 4
   pub b_lt : b < 4
   pub c_lt : c < 4
-  pub d-lt : d < 4
+  pub d_lt : d < 4
   pub ab : a ≢ b
   pub ac : a ≢ c
   pub ad : a ≢ d

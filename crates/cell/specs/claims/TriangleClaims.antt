@@ -15,7 +15,7 @@ use Rattle.cell.specs.claims.Polygons.{polygon_of, named, Apart}
 pub record TriangleLaws (c : Cell) : Type 0 where
   -- a loop gives 1, 2 or n triangles, and at most n
   pub many : (p : ℕ) → length (loop_triangles c p) ≡ many_of (shape_of (loop_size (edges_of c) p) (normal (edges_of c) p)) (loop_size (edges_of c) p)
-  pub loop-few : (p : ℕ) → length (loop_triangles c p) ≤ loop_size (edges_of c) p
+  pub loop_few : (p : ℕ) → length (loop_triangles c p) ≤ loop_size (edges_of c) p
   -- a cell gives those of its loops together, so many by its edges alone, and at most as many as it has crossings
   pub sum : length (cell_triangles c) ≡ total (λ p. length (loop_triangles c p)) (crossings (edges_of c)) 0
   pub counted : length (cell_triangles c) ≡ triangle_count (edges_of c)

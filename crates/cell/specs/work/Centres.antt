@@ -21,14 +21,14 @@ highest_on halves points e = greatest_of (λ k. pick (eqb (edge_of (get_or halve
 -- the cell, whose counts are listed, has a nest on edge e
 pub record NestOn (c : Cell) (six : List ℕ) (e : ℕ) : Type 0 where
   pub six_are : six ≡ values (count_of c) 6
-  pub edge-is : e ≡ nest_edge (count_of c)
-  pub edge-lt : e < 3
+  pub edge_is : e ≡ nest_edge (count_of c)
+  pub edge_lt : e < 3
 
 -- q is the nest of the cell: its edge, or 3 for none; how many loops it has, few enough to be counted, and the number of the crossing m of that edge
 pub record IsNest (c : Cell) (q : Nest) : Type 0 where
-  pub edge-is : q.edge ≡ nest_edge (count_of c)
-  pub count-is : q.edge < 3 → q.count ≡ nest_count (count_of c)
-  pub low-is : q.edge < 3 → q.low ≡ nest_low c
+  pub edge_is : q.edge ≡ nest_edge (count_of c)
+  pub count_is : q.edge < 3 → q.count ≡ nest_count (count_of c)
+  pub low_is : q.edge < 3 → q.low ≡ nest_low c
   pub few : q.count ≤ most_sum
 
 -- the middle of a recorded loop of the cell c, by the places of nodes and those of an area's points

@@ -15,7 +15,7 @@ use Rattle.cell.specs.work.Route.{half_corner, Routed}
 
 pub record Parts (w : Edges) (h t x : ℕ) : Type 0 where
   pub half_lt : h < half_edges
-  pub index-lt : t < w.count (edge_of h)
+  pub index_lt : t < w.count (edge_of h)
   pub number_is : x ≡ number w (edge_of h) t
 
 abbrev pub IsDart : Edges → Dart → Type 0
@@ -24,7 +24,7 @@ IsDart w d = Parts w d.half d.index d.number
 -- a place to go on from: index u of the edge of half-edge g; and the dart there
 pub record Spot (w : Edges) (g u : ℕ) : Type 0 where
   pub half_lt : g < half_edges
-  pub index-lt : u < w.count (edge_of g)
+  pub index_lt : u < w.count (edge_of g)
 
 pub record IsDartAt (w : Edges) (g u : ℕ) (r : Dart) : Type 0 where
   pub half_is : r.half ≡ g

@@ -81,16 +81,16 @@ Firsts c f = (k : ℕ) → k < 6 → get_or f k 0 ≡ base (edges_of c) k
 
 -- x is the run of edge e
 pub record IsRun (c : Cell) (e : ℕ) (x : Run) : Type 0 where
-  pub count-is : x.count ≡ count_of c e
-  pub first-is : x.first ≡ base (edges_of c) e
+  pub count_is : x.count ≡ count_of c e
+  pub first_is : x.first ≡ base (edges_of c) e
   pub start_is : x.start ≡ start_of c e
   pub near : x.start < start_limit
 
 -- the runs of the three edges of slot s
 pub record SlotRuns (c : Cell) (s : ℕ) (ab ac bc : Run) : Type 0 where
-  pub of-ab : IsRun c (slot_edge s 0) ab
-  pub of-ac : IsRun c (slot_edge s 1) ac
-  pub of-bc : IsRun c (slot_edge s 2) bc
+  pub of_ab : IsRun c (slot_edge s 0) ab
+  pub of_ac : IsRun c (slot_edge s 1) ac
+  pub of_bc : IsRun c (slot_edge s 2) bc
 
 -- t has the routes of the cell: five numbers and four to each half-edge
 pub record Routed (c : Cell) (t : List ℕ) : Type 0 where

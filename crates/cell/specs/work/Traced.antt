@@ -17,7 +17,7 @@ use Rattle.cell.specs.Triangles.{triangle}
 pub record RecordedLoop (halves points : List ℕ) (n : ℕ) : Type 0 where
   pub few : n < short_limit
   pub halves_long : length halves ≡ n
-  pub points-long : length points ≡ n
+  pub points_long : length points ≡ n
   pub halves_are : (k : ℕ) → k < n → get_or halves k 0 < half_edges
 
 abbrev pub point_at : List ℕ → ℕ → Corner

@@ -38,9 +38,9 @@ pub record Kept (n : ℕ) (before after : List ℕ) : Type 0 where
 
 -- the arrays of the walks have n places or more
 pub record Long (n : ℕ) (marks halves points : List ℕ) : Type 0 where
-  pub marks-long : n ≤ length marks
+  pub marks_long : n ≤ length marks
   pub halves_long : n ≤ length halves
-  pub points-long : n ≤ length points
+  pub points_long : n ≤ length points
 
 -- no count is above the lesser limit
 abbrev pub Few : List ℕ → Type 0
@@ -52,13 +52,13 @@ Spacious counts sides marks halves points = (c : ℕ) → Long (table_crossings 
 
 -- these arrays before and after: all keep their lengths
 pub record Sized (marks halves points marks' halves' points' : List ℕ) : Type 0 where
-  pub marks-same : length marks' ≡ length marks
+  pub marks_same : length marks' ≡ length marks
   pub halves_same : length halves' ≡ length halves
-  pub points-same : length points' ≡ length points
+  pub points_same : length points' ≡ length points
 
 -- and none has changed from place n on
 pub record Used (n : ℕ) (marks halves points marks' halves' points' : List ℕ) : Type 0 where
-  pub marks-kept : Kept n marks marks'
+  pub marks_kept : Kept n marks marks'
   pub halves_kept : Kept n halves halves'
   pub points_kept : Kept n points points'
 
@@ -76,12 +76,12 @@ pub record Lent (c : Cell) (routes : List ℕ) (n p : ℕ) (marks halves points 
   pub inside : p < n
   pub marked : Marked c marks
   pub halves_long : n ≤ length halves
-  pub points-long : n ≤ length points
+  pub points_long : n ≤ length points
 
 -- what it leaves: the loop from p, of m darts, recorded in the first m places; where there is none, m is 0. It tells whether the loop is normal
 pub record Walked (c : Cell) (n p : ℕ) (marks halves points : List ℕ) (m : ℕ) (b : Bool) (marks' halves' points' : List ℕ) : Type 0 where
   pub marked : Marked c marks'
-  pub marks-kept : Kept n marks marks'
+  pub marks_kept : Kept n marks marks'
   pub halves_kept : Kept n halves halves'
   pub points_kept : Kept n points points'
   pub size : m ≡ loop_size (edges_of c) p

@@ -1,12 +1,12 @@
-use Rattle.direct.proofs.Numbers.{joined-first, joined_then, joined-last}
+use Rattle.direct.proofs.Numbers.{joined_first, joined_then, joined_last}
 use borrow.Author.Rules.{rules}
 use Rattle.direct.proofs.joining_of.Goals as goal
 
 pub returns-then-x-eq0 : goal.returns-then-x-eq0
-returns-then-x-eq0 c = joined-first c.requires.0 c.requires.1 c.requires.2 c.least32-x.ensures c.greatest32-y.ensures c.if-x-eq0.true
+returns-then-x-eq0 c = joined_first c.requires.0 c.requires.1 c.requires.2 c.least32-x.ensures c.greatest32-y.ensures c.if-x-eq0.true
 
 pub returns-then-x-eq1 : goal.returns-then-x-eq1
 returns-then-x-eq1 c = joined_then c.requires.0 c.requires.1 c.requires.2 c.least32-x.ensures c.greatest32-y.ensures (λ e. c.if-x-eq0.false e) c.if-x-eq1.true
 
 pub returns-else-x-eq1 : goal.returns-else-x-eq1
-returns-else-x-eq1 c = joined-last c.requires.0 c.requires.1 c.requires.2 c.least32-x.ensures c.greatest32-y.ensures (λ e. c.if-x-eq0.false e) (λ e. c.if-x-eq1.false e)
+returns-else-x-eq1 c = joined_last c.requires.0 c.requires.1 c.requires.2 c.least32-x.ensures c.greatest32-y.ensures (λ e. c.if-x-eq0.false e) (λ e. c.if-x-eq1.false e)

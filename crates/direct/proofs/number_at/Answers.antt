@@ -1,4 +1,4 @@
-use Rattle.direct.proofs.Numbers.{up_fits, up_is, down-room, down_fits, down_is}
+use Rattle.direct.proofs.Numbers.{up_fits, up_is, down_room, down_fits, down_is}
 use native.Mathlib.Omega.{arith}
 use borrow.Author.Rules.{rules}
 use Rattle.direct.proofs.number_at.Goals as goal
@@ -10,10 +10,10 @@ pub returns-then-a-b : goal.returns-then-a-b
 returns-then-a-b c = up_is c.requires.listed c.requires.crosses c.joining_of-e.ensures c.if-a-b.true
 
 pub overflow_sub-result : goal.overflow_sub-result
-overflow_sub-result c = omega (arith, down-room c.requires.listed c.requires.crosses c.joining_of-e.ensures c.word16.ensures.0)
+overflow_sub-result c = omega (arith, down_room c.requires.listed c.requires.crosses c.joining_of-e.ensures c.word16.ensures.0)
 
 pub overflow_sub-result-2 : goal.overflow_sub-result-2
-overflow_sub-result-2 c = omega (arith, down-room c.requires.listed c.requires.crosses c.joining_of-e.ensures c.word16.ensures.0)
+overflow_sub-result-2 c = omega (arith, down_room c.requires.listed c.requires.crosses c.joining_of-e.ensures c.word16.ensures.0)
 
 pub overflow_add-result-2 : goal.overflow_add-result-2
 overflow_add-result-2 c = omega (arith, down_fits c.requires.listed c.requires.crosses c.joining_of-e.ensures c.word16.ensures.0)

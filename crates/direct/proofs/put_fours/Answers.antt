@@ -1,5 +1,5 @@
 use borrow.Author.Rules.{rules}
-use Rattle.direct.proofs.Putting.{Under, under_none, under-place, under-long, under_more, under_all, fours}
+use Rattle.direct.proofs.Putting.{Under, under_none, under_place, under_long, under_more, under_all, fours}
 use Prim.Native.Nat.{◌+◌, ◌*◌, ◌-◌, ◌≤◌}
 use mathlib.Core.Path.{◌≡◌, refl, ap, ap₂, ◌∙◌}
 use native.Mathlib.Omega.{arith}
@@ -21,10 +21,10 @@ pub number_in-g3-requires : goal.number_in-g3-requires
 number_in-g3-requires c = c.requires.long.3 _ (omega (arith, c.loop-i-test))
 
 pub put_four-requires : goal.put_four-requires
-put_four-requires c = record { s0_bound = c.requires.s0_bound; word_count_in_bounds = omega (arith, under-place c.loop-i.invariant.1 2 (λ i. refl), under-long c.loop-i.invariant.1, c.requires.n_in_bounds, c.loop-i-test) }
+put_four-requires c = record { s0_bound = c.requires.s0_bound; word_count_in_bounds = omega (arith, under_place c.loop-i.invariant.1 2 (λ i. refl), under_long c.loop-i.invariant.1, c.requires.n_in_bounds, c.loop-i-test) }
 
 pub overflow_add-j : goal.overflow_add-j
-overflow_add-j c = omega (arith, c.well_formed, under-place c.loop-i.invariant.1 2 (λ i. refl), c.requires.n_in_bounds, c.loop-i-test)
+overflow_add-j c = omega (arith, c.well_formed, under_place c.loop-i.invariant.1 2 (λ i. refl), c.requires.n_in_bounds, c.loop-i-test)
 
 pub overflow_add-i : goal.overflow_add-i
 overflow_add-i c = omega (arith, c.loop-i-test)
@@ -33,7 +33,7 @@ pub loop-i-preserved : goal.loop-i-preserved
 loop-i-preserved c = (omega (arith, c.loop-i-test), under_more c.loop-i.invariant.1 (rw (c.number_in-g0.ensures, c.number_in-g1.ensures, c.number_in-g2.ensures, c.number_in-g3.ensures) refl) c.put_four.ensures (omega arith))
 
 pub shape_of-area : goal.shape_of-area
-shape_of-area c = under-long c.loop-i.invariant.1
+shape_of-area c = under_long c.loop-i.invariant.1
 
 pub returns : goal.returns
 returns c = under_all c.loop-i.invariant.1 _ (omega arith)

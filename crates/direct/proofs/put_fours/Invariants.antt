@@ -1,5 +1,5 @@
 use borrow.Author.Rules.{rules}
-use Rattle.direct.proofs.Putting.{Under, under_none, under-place, under-long, under_more, under_all, fours}
+use Rattle.direct.proofs.Putting.{Under, under_none, under_place, under_long, under_more, under_all, fours}
 use Prim.Native.Nat.{◌+◌, ◌*◌, ◌-◌, ◌≤◌}
 use mathlib.Core.Path.{◌≡◌, refl, ap, ap₂, ◌∙◌}
 use native.Mathlib.Omega.{arith}

@@ -1,4 +1,4 @@
-use Rattle.direct.proofs.Rows.{round_crosses, round-long, round_are, round-words}
+use Rattle.direct.proofs.Rows.{round_crosses, round_long, round_are, round_words}
 use Rattle.cell.proofs.Nodes.{acdb, adbc}
 use Rattle.cell.specs.Words.{all_words}
 use Rattle.counting.proofs.Stored.{stored_as}
@@ -20,7 +20,7 @@ pub row_of-r-requires : goal.row_of-r-requires
 row_of-r-requires c = record { listed = c.requires.listed.0; crosses = round_crosses c.requires.listed.0 c.requires.listed.1 (adbc c.requires.listed.1.all) _ c.start_of-k.ensures.1 }
 
 pub put_threes-requires : goal.put_threes-requires
-put_threes-requires c = record { long = round-long c.requires.listed.0 c.requires.listed.1 _ c.start_of-k.ensures.0 c.row_of-p.ensures c.row_of-q.ensures c.row_of-r.ensures; s0_bound = (c.requires.listed.1.all.d-lt, c.requires.listed.1.all.b_lt, c.requires.listed.1.all.c_lt); n_in_bounds = omega (arith, round-words c.requires.listed.0 c.requires.listed.1 c.args.up, c.requires.d_in_bounds) }
+put_threes-requires c = record { long = round_long c.requires.listed.0 c.requires.listed.1 _ c.start_of-k.ensures.0 c.row_of-p.ensures c.row_of-q.ensures c.row_of-r.ensures; s0_bound = (c.requires.listed.1.all.d_lt, c.requires.listed.1.all.b_lt, c.requires.listed.1.all.c_lt); n_in_bounds = omega (arith, round_words c.requires.listed.0 c.requires.listed.1 c.args.up, c.requires.d_in_bounds) }
 
 pub returns : goal.returns
 returns c = stored_as c.put_threes.ensures (ap all_words (round_are c.requires.listed.0 c.requires.listed.1 _ c.start_of-k.ensures.0 c.row_of-p.ensures c.row_of-q.ensures c.row_of-r.ensures)) refl

@@ -1,4 +1,4 @@
-use Rattle.direct.proofs.Putting.{Under, under_none, under-place, under-long, under_more, under_all, threes, one-words}
+use Rattle.direct.proofs.Putting.{Under, under_none, under_place, under_long, under_more, under_all, threes, one_words}
 use Rattle.direct.specs.claims.Direct.{whole}
 use mathlib.Core.List.{[], ◌∷◌}
 use Prim.Native.Nat.{◌+◌, ◌*◌, ◌-◌, ◌≤◌}

@@ -4,7 +4,7 @@ use borrow.Author.Rules.{rules}
 use Rattle.direct.proofs.row_of.Goals as goal
 
 pub returns-then-a-b : goal.returns-then-a-b
-returns-then-a-b c = record { first-is = c.number_at-first.ensures; falls-is = rw (lt-ltb c.args.a c.args.b c.if-a-b.true) }
+returns-then-a-b c = record { first_is = c.number_at-first.ensures; falls_is = rw (lt-ltb c.args.a c.args.b c.if-a-b.true) }
 
 pub returns : goal.returns
-returns c = record { first-is = c.number_at-first.ensures; falls-is = rw (le-ltb c.args.a c.args.b (omega (arith, c.if-a-b.false))) }
+returns c = record { first_is = c.number_at-first.ensures; falls_is = rw (le-ltb c.args.a c.args.b (omega (arith, c.if-a-b.false))) }

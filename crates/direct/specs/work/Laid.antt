@@ -57,8 +57,8 @@ pub record AtStart (c : Cell) (p : ℕ) : Type 0 where
 
 -- a cell with six counts and six starts, as every one by value has
 pub record SixEach (c : Cell) : Type 0 where
-  pub counts-six : length c.counts ≡ 6
-  pub starts-six : length c.starts ≡ 6
+  pub counts_six : length c.counts ≡ 6
+  pub starts_six : length c.starts ≡ 6
 
 -- the cell with these counts, starts, names, nodes and index
 abbrev pub cell_of : (counts starts names nodes : List ℕ) (index : ℕ) → Cell

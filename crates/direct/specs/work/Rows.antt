@@ -31,7 +31,7 @@ Long r n = (i : ℕ) → i < n → Has r i
 -- the cell has six starts within their limit, and its counts are listed, none above theirs
 pub record Listed (c : Cell) (six : List ℕ) : Type 0 where
   pub near : Near c
-  pub starts-six : length c.starts ≡ 6
+  pub starts_six : length c.starts ≡ 6
   pub six_are : six ≡ values (count_of c) 6
 
 -- the crossing k from a on the edge ab
@@ -43,8 +43,8 @@ pub record Crosses (c : Cell) (a b k : ℕ) : Type 0 where
 
 -- r is the row of the crossings from a on the edge ab, from the k-th on: the next ones, or those before
 pub record RowOf (c : Cell) (a b k : ℕ) (up : Bool) (r : Row) : Type 0 where
-  pub first-is : r.first ≡ number_at c a b k
-  pub falls-is : r.falls ≡ pick (ltb a b) (not up) up
+  pub first_is : r.first ≡ number_at c a b k
+  pub falls_is : r.falls ≡ pick (ltb a b) (not up) up
 
 -- n loops go round the node a, which has the nodes b, x, d beside it
 pub record Round (c : Cell) (n a b x d : ℕ) : Type 0 where
@@ -53,13 +53,13 @@ pub record Round (c : Cell) (n a b x d : ℕ) : Type 0 where
   pub many : n ≡ least_corner (count_of c) a
 
 -- n loops part a and m, with so many corner triangles, from u and v
-pub record Parting (c : Cell) (n at_a at-m a m u v : ℕ) : Type 0 where
+pub record Parting (c : Cell) (n at_a at_m a m u v : ℕ) : Type 0 where
   pub all : Arranged a m u v
   pub level : is_level_cell (count_of c) ≡ true
   pub none : left_between (count_of c) a m ≡ 0
   pub many : n ≡ left_between (count_of c) a u
-  pub own-a : at_a ≡ least_corner (count_of c) a
-  pub own-m : at-m ≡ least_corner (count_of c) m
+  pub own_a : at_a ≡ least_corner (count_of c) a
+  pub own_m : at_m ≡ least_corner (count_of c) m
 
 -- the corner triangles at the four positions are listed
 abbrev pub AreOwn : (ℕ → ℕ) → List ℕ → Type 0
@@ -80,8 +80,8 @@ pub record PlainNumbers (w : ℕ → ℕ) (own : List ℕ) (n : ℕ) : Type 0 wh
 -- a cell with six counts, and six starts within their limit
 pub record Placed (c : Cell) : Type 0 where
   pub near : Near c
-  pub counts-six : length c.counts ≡ 6
-  pub starts-six : length c.starts ≡ 6
+  pub counts_six : length c.counts ≡ 6
+  pub starts_six : length c.starts ≡ 6
 
 -- the first numbers s k of the edges k rise
 unfoldable pub is_rising : (ℕ → ℕ) → Bool

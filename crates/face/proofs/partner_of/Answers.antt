@@ -1,11 +1,11 @@
 use borrow.Author.Rules.{rules}
 use mathlib.Core.Path.{refl}
 use Rattle.face.specs.Face.{partner}
-use Rattle.face.proofs.Calls.{partner-fits}
+use Rattle.face.proofs.Calls.{partner_fits}
 use Rattle.face.proofs.partner_of.Goals as goal
 
 pub kth_of-requires : goal.kth_of-requires
-kth_of-requires c = rw c.other_edge-e.ensures (partner-fits c.requires)
+kth_of-requires c = rw c.other_edge-e.ensures (partner_fits c.requires)
 
 pub returns : goal.returns
 unfolding partner

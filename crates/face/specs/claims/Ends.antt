@@ -4,9 +4,9 @@ use Rattle.slots.specs.Slots.{lower, upper}
 
 -- e is an edge
 pub data Edge : ℕ → Type 0 where
-  on-ab : Edge 0
-  on-ac : Edge 1
-  on-bc : Edge 2
+  on_ab : Edge 0
+  on_ac : Edge 1
+  on_bc : Edge 2
 
 -- the node w is an end of the edge e
 pub data End : ℕ → ℕ → Type 0 where

@@ -14,8 +14,8 @@ pub record AtCorner (ab ac bc w e k : ℕ) : Type 0 where
 pub record Corners (ab ac bc e x p q : ℕ) : Type 0 where
   pub edge : Edge e
   pub own : x ≡ count_on ab ac bc e
-  pub at-lower : p ≡ corner_count_at ab ac bc (lower e) e
-  pub at-upper : q ≡ corner_count_at ab ac bc (upper e) e
+  pub at_lower : p ≡ corner_count_at ab ac bc (lower e) e
+  pub at_upper : q ≡ corner_count_at ab ac bc (upper e) e
 
 -- a crossing t of such an edge
 pub record OnEdge (ab ac bc e x p q t : ℕ) : Type 0 where

@@ -1,6 +1,6 @@
 use mathlib.Core.Path.{refl}
 use Rattle.flat.specs.FlatGrid.{flat_of}
-use Rattle.flat.proofs.Calls.{refused-done, told-accepted, told-number, told-sides, traced_done}
+use Rattle.flat.proofs.Calls.{refused_done, told_accepted, told_number, told_sides, traced_done}
 use borrow.Author.Rules.{rules}
 use Rattle.flat.proofs.chains.Goals as goal
 
@@ -10,12 +10,12 @@ all_rows-requires c = refl
 pub trace-requires : goal.trace-requires
 trace-requires c = let c-all-rows = c.all_rows in
     let c-args = c.args in
-    record { accepted = told-accepted (flat_of c-args.triangles.now c-args.edges.now c-args.counts.now) c-all-rows.result _ c.in-Crossings.is c-all-rows.ensures.r_value; sides_known = told-sides (flat_of c-args.triangles.now c-args.edges.now c-args.counts.now) c-all-rows.result _ c.in-Crossings.is c-all-rows.ensures.r_value _ c-all-rows.ensures.fact; n_value = told-number (flat_of c-args.triangles.now c-args.edges.now c-args.counts.now) c-all-rows.result _ c.in-Crossings.is c-all-rows.ensures.r_value }
+    record { accepted = told_accepted (flat_of c-args.triangles.now c-args.edges.now c-args.counts.now) c-all-rows.result _ c.in-Crossings.is c-all-rows.ensures.r_value; sides_known = told_sides (flat_of c-args.triangles.now c-args.edges.now c-args.counts.now) c-all-rows.result _ c.in-Crossings.is c-all-rows.ensures.r_value _ c-all-rows.ensures.fact; n_value = told_number (flat_of c-args.triangles.now c-args.edges.now c-args.counts.now) c-all-rows.result _ c.in-Crossings.is c-all-rows.ensures.r_value }
 
 pub returns-in-Refused : goal.returns-in-Refused
 returns-in-Refused c = let c-all-rows = c.all_rows in
     let c-args = c.args in
-    refused-done (flat_of c-args.triangles.now c-args.edges.now c-args.counts.now) c-all-rows.result _ _ c.in-Refused.is c-all-rows.ensures.r_value _
+    refused_done (flat_of c-args.triangles.now c-args.edges.now c-args.counts.now) c-all-rows.result _ _ c.in-Refused.is c-all-rows.ensures.r_value _
 
 pub returns-in-Crossings : goal.returns-in-Crossings
 returns-in-Crossings c = let c-all-rows = c.all_rows in

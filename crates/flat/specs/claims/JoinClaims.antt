@@ -25,10 +25,10 @@ pub record FlatLaws (ab ac bc : ℕ) : Type 0 where
   pub back : (e t e' t' : ℕ) → FlatSegment ab ac bc e t e' t' → FlatSegment ab ac bc e' t' e t
   -- no crossing: an edge over 2, or an index not below the count of its edge, and these only
   pub off : (e t : ℕ) → (2 < e) ⊎ (count_on ab ac bc e ≤ t) → flat_join ab ac bc e t ≡ no_crossing
-  pub only-off : (e t : ℕ) → flat_join ab ac bc e t ≡ no_crossing → (2 < e) ⊎ (count_on ab ac bc e ≤ t)
+  pub only_off : (e t : ℕ) → flat_join ab ac bc e t ≡ no_crossing → (2 < e) ⊎ (count_on ab ac bc e ≤ t)
   -- a crossing of the triangle is joined or unjoined, and not both
   pub cases : (e t : ℕ) → t < count_on ab ac bc e → ((e' : ℕ) × (t' : ℕ) × FlatSegment ab ac bc e t e' t') ⊎ (flat_join ab ac bc e t ≡ unjoined)
-  pub not-both : (e t e' t' : ℕ) → FlatSegment ab ac bc e t e' t' → flat_join ab ac bc e t ≡ unjoined → ⊥
+  pub not_both : (e t e' t' : ℕ) → FlatSegment ab ac bc e t e' t' → flat_join ab ac bc e t ≡ unjoined → ⊥
   -- no more than one crossing is left unjoined; none for an even sum, and one for an odd
   pub single : (e t e' t' : ℕ) → flat_join ab ac bc e t ≡ unjoined → flat_join ab ac bc e' t' ≡ unjoined → (e ≡ e') × (t ≡ t')
   pub even : (ab + ac + bc) % 2 ≡ 0 → (e t : ℕ) → flat_join ab ac bc e t ≡ unjoined → ⊥

@@ -196,8 +196,8 @@ module _ (counts sides : List ℕ) (n : ℕ) where
     pub thirds : n % 3 ≡ 0
     pub room : n ≤ length sides
     pub listed : (j : ℕ) → j < n → get_or sides j 0 < length counts
-    pub few-edges : length counts ≤ most_sides
-    pub few-crossings : crossings counts ≤ most_crossings
+    pub few_edges : length counts ≤ most_sides
+    pub few_crossings : crossings counts ≤ most_crossings
 
   -- and the tables of ports and of first crossings
   pub record Tabled (ports starts : List ℕ) : Type 0 where

@@ -6,7 +6,7 @@ use lib.ListN.{set}
 use borrow.Author.Rules.{rules}
 use Rattle.answer.specs.Answer.{result_of}
 use Rattle.grid.specs.Grid.{crossings}
-use Rattle.grid.proofs.Settings.{Settable, change_10, change_18, change_21, change_made, change_starting, change_total, change_written, count-below}
+use Rattle.grid.proofs.Settings.{Settable, change_10, change_18, change_21, change_made, change_starting, change_total, change_written, count_below}
 use Rattle.grid.proofs.change.Goals as goal
 
 pub returns-then-counts-edge : goal.returns-then-counts-edge
@@ -17,7 +17,7 @@ returns-then-count-gt-MOST_COUNT c = record { answered = change_18 _ _ _ c.if-co
 
 pub overflow_sub-m : goal.overflow_sub-m
 overflow_sub-m c = let a = c.args in
-    omega (arith, count-below a.counts.now a.edge a.count c.if-counts-edge.false, c.requires.all, c.size.ensures.value)
+    omega (arith, count_below a.counts.now a.edge a.count c.if-counts-edge.false, c.requires.all, c.size.ensures.value)
 
 pub returns-then-m-gt-MOST_CROSSINGS : goal.returns-then-m-gt-MOST_CROSSINGS
 returns-then-m-gt-MOST_CROSSINGS c = let a = c.args in

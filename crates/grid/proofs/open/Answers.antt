@@ -1,12 +1,12 @@
 use mathlib.Core.Path.{◌∙◌, sym}
 use Rattle.grid.specs.Grid.{grid_of}
 use Rattle.grid.proofs.Openings.{open_done, open_refused, open_starting, open_verdict}
-use Rattle.grid.proofs.Starts.{numbers-fine}
+use Rattle.grid.proofs.Starts.{numbers_fine}
 use borrow.Author.Rules.{rules}
 use Rattle.grid.proofs.open.Goals as goal
 
 pub judge-r-requires : goal.judge-r-requires
-judge-r-requires c = λ e. (numbers-fine _ _ _ (sym c.bad_numbers-wrong.ensures ∙ e)).0
+judge-r-requires c = λ e. (numbers_fine _ _ _ (sym c.bad_numbers-wrong.ensures ∙ e)).0
 
 pub returns-in-Refused : goal.returns-in-Refused
 returns-in-Refused c = let a = c.args in

@@ -1,6 +1,6 @@
 use borrow.Author.Rules.{rules}
 use Rattle.grid.specs.Grid.{grid_of}
-use Rattle.grid.proofs.Settings.{set_changeable, set-done, set-refused}
+use Rattle.grid.proofs.Settings.{set_changeable, set_done, set_refused}
 use Rattle.grid.proofs.set_count.Goals as goal
 
 pub change-requires : goal.change-requires
@@ -9,10 +9,10 @@ change-requires c = let a = c.args in
 
 pub returns-in-Refused : goal.returns-in-Refused
 returns-in-Refused c = let a = c.args in
-    let w = set-refused (grid_of a.cells.now a.edges.now a.counts.now a.starts.now) a.edge a.count c.check.result c.check.ensures _ _ c.in-Refused.is in
+    let w = set_refused (grid_of a.cells.now a.edges.now a.counts.now a.starts.now) a.edge a.count c.check.result c.check.ensures _ _ c.in-Refused.is in
     record { result_value = w.0; counts_after = w.1; starts_after = w.2 }
 
 pub returns-in-Crossings : goal.returns-in-Crossings
 returns-in-Crossings c = let a = c.args in
-    let w = set-done (grid_of a.cells.now a.edges.now a.counts.now a.starts.now) a.edge a.count c.check.result c.check.ensures _ c.in-Crossings.is _ _ _ c.change.ensures in
+    let w = set_done (grid_of a.cells.now a.edges.now a.counts.now a.starts.now) a.edge a.count c.check.result c.check.ensures _ c.in-Crossings.is _ _ _ c.change.ensures in
     record { result_value = w.0; counts_after = w.1; starts_after = w.2 }

@@ -2,7 +2,7 @@ use mathlib.Core.Path.{◌∙◌, refl, sym}
 use native.Mathlib.Omega.{arith}
 use Rattle.answer.specs.work.Faults.{since}
 use Rattle.grid.specs.Rows.{rows}
-use Rattle.grid.proofs.Answers.{answer-passes, answer-refuses}
+use Rattle.grid.proofs.Answers.{answer_passes, answer_refuses}
 use Rattle.grid.proofs.Working.{siding_blank, siding_placeable, siding_talliable, siding_using}
 use borrow.Author.Rules.{rules}
 use Rattle.grid.proofs.side_rows.Goals as goal
@@ -27,7 +27,7 @@ shape_of-sides-then-p7-cells c = c.place_sides.auto.sides
 
 pub returns-then-p7-cells : goal.returns-then-p7-cells
 unfolding since rows
-returns-then-p7-cells c = record { result_value = answer-refuses _ 7 8 refl _ (c.row_7-p7.ensures.value ∙ sym (siding_blank c.requires c.place_sides.ensures)) c.if-p7-cells.true; where_accepted = tt }
+returns-then-p7-cells c = record { result_value = answer_refuses _ 7 8 refl _ (c.row_7-p7.ensures.value ∙ sym (siding_blank c.requires c.place_sides.ensures)) c.if-p7-cells.true; where_accepted = tt }
 
 pub used_rows-requires : goal.used_rows-requires
 used_rows-requires c = siding_using c.requires c.place_sides.ensures c.place_sides.auto.sides (rw c.row_7-p7.ensures.value at c.if-p7-cells.false) (c.row_7-p7.ensures.tallied c.if-p7-cells.false)
@@ -49,4 +49,4 @@ shape_of-sides c = c.place_sides.auto.sides
 
 pub returns : goal.returns
 unfolding since rows
-returns c = let U = c.used_rows.ensures in record { result_value = U.result_value ∙ answer-passes _ 7 8 refl _ (c.row_7-p7.ensures.value ∙ sym (siding_blank c.requires c.place_sides.ensures)) c.if-p7-cells.false; where_accepted = U.where_accepted }
+returns c = let U = c.used_rows.ensures in record { result_value = U.result_value ∙ answer_passes _ 7 8 refl _ (c.row_7-p7.ensures.value ∙ sym (siding_blank c.requires c.place_sides.ensures)) c.if-p7-cells.false; where_accepted = U.where_accepted }

@@ -6,18 +6,18 @@ use Rattle.answer.specs.work.Faults.{since}
 use Rattle.counting.specs.Search.{first}
 use Rattle.grid.specs.Grid.{cell_count}
 use Rattle.grid.specs.Rows.{crowded, rows}
-use Rattle.grid.proofs.Answers.{answer-passes, answer-refuses, worked}
+use Rattle.grid.proofs.Answers.{answer_passes, answer_refuses, worked}
 use Rattle.grid.proofs.Meets.{rising_numerable}
 use borrow.Author.Rules.{rules}
 use Rattle.grid.proofs.table_rows.Goals as goal
 
 pub number_faces-many-requires : goal.number_faces-many-requires
-number_faces-many-requires c = let p = c.requires in record { numerable = rising_numerable p.numbering.ordered p.cell_tables.labels_new p.cell_tables.ranks-new p.cell_tables.faces-new p.cell_tables.same_new; chain_tables = p.chain_tables; fresh = p.cell_tables.at_new }
+number_faces-many-requires c = let p = c.requires in record { numerable = rising_numerable p.numbering.ordered p.cell_tables.labels_new p.cell_tables.ranks_new p.cell_tables.faces_new p.cell_tables.same_new; chain_tables = p.chain_tables; fresh = p.cell_tables.at_new }
 
 pub early_rows-p-requires : goal.early_rows-p-requires
 early_rows-p-requires c = let p = c.requires in
     let F = c.number_faces-many in
-    record { rising_cells = p.numbering.ordered; low_chains = F.ensures.low_chains; comparable = record { few = p.numbering.ordered.few; told = F.ensures.slots; at_room = omega (arith, p.cell_tables.at_new.room, F.auto.at); same-room = omega (arith, p.cell_tables.same_new.room, F.auto.same) }; fresh = p.numbering.blank.near_new }
+    record { rising_cells = p.numbering.ordered; low_chains = F.ensures.low_chains; comparable = record { few = p.numbering.ordered.few; told = F.ensures.slots; at_room = omega (arith, p.cell_tables.at_new.room, F.auto.at); same_room = omega (arith, p.cell_tables.same_new.room, F.auto.same) }; fresh = p.numbering.blank.near_new }
 
 pub shape_of-near-then-p-n : goal.shape_of-near-then-p-n
 shape_of-near-then-p-n c = c.early_rows-p.auto.near
@@ -57,7 +57,7 @@ shape_of-same-then-p-n c = c.early_rows-p.auto.same ∙ c.number_faces-many.auto
 
 pub returns-then-p-n : goal.returns-then-p-n
 unfolding since rows
-returns-then-p-n c = record { result_value = answer-refuses _ 4 5 refl _ (c.early_rows-p.ensures.row4 c.if-p-n.true) c.if-p-n.true; where_accepted = tt }
+returns-then-p-n c = record { result_value = answer_refuses _ 4 5 refl _ (c.early_rows-p.ensures.row4 c.if-p-n.true) c.if-p-n.true; where_accepted = tt }
 
 pub overflow_mul-n : goal.overflow_mul-n
 overflow_mul-n c = omega (arith, c.requires.numbering.ordered.few)
@@ -103,11 +103,11 @@ unfolding since rows
 returns-then-p-n-2 c = let cells = c.args.cells.now in
     let w = c.early_rows-p.ensures.row5 c.if-p-n.false in
     let e : c.early_rows-p.result - cell_count cells ≡ first (crowded cells) (cell_count cells) = omega (arith, w.1) in
-    record { result_value = answer-refuses _ 5 6 refl _ e (omega (arith, c.if-p-n-2.true, c.if-p-n.false)) ∙ answer-passes _ 4 5 refl _ w.0 (le_refl _); where_accepted = tt }
+    record { result_value = answer_refuses _ 5 6 refl _ e (omega (arith, c.if-p-n-2.true, c.if-p-n.false)) ∙ answer_passes _ 4 5 refl _ w.0 (le_refl _); where_accepted = tt }
 
 pub edge_rows-requires : goal.edge_rows-requires
 edge_rows-requires c = let p = c.requires in
-    record { ordered = p.numbering.ordered; pairs = p.numbering.pairs; near-is = c.early_rows-p.ensures.near-is c.if-p-n-2.false; chained = c.number_faces-many.ensures.node_chains; tables = p.edge_tables; sides-new = p.numbering.blank.sides-new }
+    record { ordered = p.numbering.ordered; pairs = p.numbering.pairs; near_is = c.early_rows-p.ensures.near_is c.if-p-n-2.false; chained = c.number_faces-many.ensures.node_chains; tables = p.edge_tables; sides_new = p.numbering.blank.sides_new }
 
 pub shape_of-near : goal.shape_of-near
 shape_of-near c = c.early_rows-p.auto.near
@@ -166,4 +166,4 @@ returns c = let cells = c.args.cells.now in
     let E = c.edge_rows in
     let w = c.early_rows-p.ensures.row5 c.if-p-n.false in
     let l : cell_count cells ≤ first (crowded cells) (cell_count cells) = omega (arith, w.1, c.if-p-n-2.false) in
-    record { result_value = E.ensures.result_value ∙ answer-passes _ 5 6 refl _ refl l ∙ answer-passes _ 4 5 refl _ w.0 (le_refl _); where_accepted = worked _ _ _ E.result (c.early_rows-p.ensures.near-is c.if-p-n-2.false) E.ensures.where_accepted }
+    record { result_value = E.ensures.result_value ∙ answer_passes _ 5 6 refl _ refl l ∙ answer_passes _ 4 5 refl _ w.0 (le_refl _); where_accepted = worked _ _ _ E.result (c.early_rows-p.ensures.near_is c.if-p-n-2.false) E.ensures.where_accepted }

@@ -5,23 +5,23 @@ use lib.ListN.{length}
 use borrow.Author.Rules.{rules}
 use Rattle.grid.specs.Grid.{crossings, start}
 use Rattle.slots.specs.Limits.{most_crossings}
-use Rattle.grid.proofs.Crossings.{capped_is, capped-over, start_mono, start-next, start-zero}
+use Rattle.grid.proofs.Crossings.{capped_is, capped_over, start_mono, start_next, start_zero}
 use Rattle.grid.proofs.total.Goals as goal
 
 pub loop-e-init : goal.loop-e-init
-loop-e-init c = (omega arith, omega arith, sym (start-zero _))
+loop-e-init c = (omega arith, omega arith, sym (start_zero _))
 
 pub returns-then-s-gt-MOST_CROSSINGS : goal.returns-then-s-gt-MOST_CROSSINGS
 returns-then-s-gt-MOST_CROSSINGS c = let c-loop = c.loop-e in
     let l = c.args.counts.now in
     let i = c-loop.e in
-    capped-over l (omega (arith, start-next l i, start_mono l (i + 1) (length l) (omega arith), c.size-s.ensures.value, c.if-s-gt-MOST_CROSSINGS.true, c-loop.invariant.2))
+    capped_over l (omega (arith, start_next l i, start_mono l (i + 1) (length l) (omega arith), c.size-s.ensures.value, c.if-s-gt-MOST_CROSSINGS.true, c-loop.invariant.2))
 
 pub loop-e-preserved : goal.loop-e-preserved
 loop-e-preserved c = let c-loop = c.loop-e in
     let l = c.args.counts.now in
     let i = c-loop.e in
-    (omega arith, omega (arith, c.if-s-gt-MOST_CROSSINGS.false), omega (arith, start-next l i, c.size-s.ensures.value, c-loop.invariant.2))
+    (omega arith, omega (arith, c.if-s-gt-MOST_CROSSINGS.false), omega (arith, start_next l i, c.size-s.ensures.value, c-loop.invariant.2))
 
 pub returns : goal.returns
 returns c = let l = c.args.counts.now in

@@ -5,7 +5,7 @@ use lib.ListN.{length}
 use borrow.Author.Rules.{rules}
 use Rattle.grid.specs.Grid.{crossings, start}
 use Rattle.slots.specs.Limits.{most_crossings}
-use Rattle.grid.proofs.Crossings.{capped_is, capped-over, start_mono, start-next, start-zero}
+use Rattle.grid.proofs.Crossings.{capped_is, capped_over, start_mono, start_next, start_zero}
 use Rattle.grid.proofs.total.Given as goal
 
 abbrev pub invariant-loop-e : goal.invariant-loop-e

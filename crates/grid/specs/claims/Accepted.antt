@@ -11,7 +11,7 @@ module _ (cells : List ℕ) where
 
 -- edge e of the list is edge k of cell c: it has the same ends
 pub record EdgeIs (G : Grid) (c k e : ℕ) : Type 0 where
-  pub low-is : low G.edges e ≡ node G.cells c (lo k)
+  pub low_is : low G.edges e ≡ node G.cells c (lo k)
   pub high_is : high G.edges e ≡ node G.cells c (hi k)
 
 module _ (G : Grid) where
@@ -19,11 +19,11 @@ module _ (G : Grid) where
   pub record Sound : Type 0 where
     -- 1: four numbers to a cell, and 1 to 2,048 cells
     pub fours : length G.cells ≡ 4 * cell_count G.cells
-    pub some-cell : 0 < cell_count G.cells
-    pub few-cells : cell_count G.cells ≤ most_cells
+    pub some_cell : 0 < cell_count G.cells
+    pub few_cells : cell_count G.cells ≤ most_cells
     -- 2: two ends to a count, and one start, the sum of the counts before
     pub pairs : length G.edges ≡ 2 * length G.counts
-    pub starts-long : length G.starts ≡ length G.counts
+    pub starts_long : length G.starts ≡ length G.counts
     pub starts_are : (e : ℕ) → e < length G.counts → get_or G.starts e 0 ≡ start G.counts e
     -- 3: nodes within the limit, and strictly increasing; 4: no cell twice; 5: a face in at most two cells
     pub within : (c i : ℕ) → c < cell_count G.cells → i < 4 → node G.cells c i ≤ highest_node
@@ -35,12 +35,12 @@ module _ (G : Grid) where
     pub ends : (e : ℕ) → e < length G.counts → low G.edges e < high G.edges e
     pub sorted : (d e : ℕ) → d < e → e < length G.counts → Before (low G.edges d) (high G.edges d) (low G.edges e) (high G.edges e)
     -- 18: each count within the limit
-    pub counts-within : (e : ℕ) → e < length G.counts → count_of G.counts e ≤ most_count
+    pub counts_within : (e : ℕ) → e < length G.counts → count_of G.counts e ≤ most_count
     -- 7: each edge of each cell is listed; 8: and no other
     pub listed : (c k : ℕ) → c < cell_count G.cells → k < 6 → (e : ℕ) × (e < length G.counts) × EdgeIs G c k e
     pub used : (e : ℕ) → e < length G.counts → (c : ℕ) × (k : ℕ) × (c < cell_count G.cells) × (k < 6) × EdgeIs G c k e
     -- 10: the crossings are few enough
-    pub few-crossings : crossings G.counts ≤ most_crossings
+    pub few_crossings : crossings G.counts ≤ most_crossings
 
   -- without a fault of row 9: the cells of an edge are all linked through faces that contain it. What passes over each such face holds of all of
   -- them or of none.
@@ -59,7 +59,7 @@ module _ (G : Grid) where
     pub listed : (c k : ℕ) → c < cell_count G.cells → k < 6 → edge_number G c k < length G.counts
     pub is : (c k : ℕ) → c < cell_count G.cells → k < 6 → EdgeIs G c k (edge_number G c k)
     pub only : (c k e : ℕ) → c < cell_count G.cells → k < 6 → e < length G.counts → EdgeIs G c k e → edge_number G c k ≡ e
-    pub one-edge : (d e : ℕ) → d < length G.counts → e < length G.counts → low G.edges d ≡ low G.edges e → high G.edges d ≡ high G.edges e → d ≡ e
+    pub one_edge : (d e : ℕ) → d < length G.counts → e < length G.counts → low G.edges d ≡ low G.edges e → high G.edges d ≡ high G.edges e → d ≡ e
     pub used : (e : ℕ) → e < length G.counts → (c : ℕ) × (k : ℕ) × (c < cell_count G.cells) × (k < 6) × (edge_number G c k ≡ e)
     pub few : length G.counts ≤ 6 * cell_count G.cells
     -- in a cell an earlier edge has the lower number

@@ -57,10 +57,10 @@ NumbersOfSound = (G : Grid) → Sound G → EdgeNumbers G
 -- crossing numbers, from edge and index and back: one to one and in order
 pub record Numbered (counts : List ℕ) (edge_of index_of : ℕ → ℕ) : Type 0 where
   pub number_lt : (e i : ℕ) → e < length counts → i < count_of counts e → crossing counts e i < crossings counts
-  pub edge-lt : (x : ℕ) → x < crossings counts → edge_of x < length counts
-  pub index-lt : (x : ℕ) → x < crossings counts → index_of x < count_of counts (edge_of x)
+  pub edge_lt : (x : ℕ) → x < crossings counts → edge_of x < length counts
+  pub index_lt : (x : ℕ) → x < crossings counts → index_of x < count_of counts (edge_of x)
   pub number_is : (x : ℕ) → x < crossings counts → crossing counts (edge_of x) (index_of x) ≡ x
-  pub edge-is : (e i : ℕ) → e < length counts → i < count_of counts e → edge_of (crossing counts e i) ≡ e
+  pub edge_is : (e i : ℕ) → e < length counts → i < count_of counts e → edge_of (crossing counts e i) ≡ e
   pub index_is : (e i : ℕ) → e < length counts → i < count_of counts e → index_of (crossing counts e i) ≡ i
   pub later_edge : (d e i j : ℕ) → d < e → e < length counts → i < count_of counts d → crossing counts d i < crossing counts e j
 
@@ -77,8 +77,8 @@ OpensBuilt = (cells edges counts starts : List ℕ) → length starts ≡ length
 -- H is what settings have made of the accepted grid G
 pub record SetRight (G H : Grid) : Type 0 where
   -- a start for each count, the sum of the earlier ones
-  pub many-same : length H.counts ≡ length G.counts
-  pub starts-long : length H.starts ≡ length H.counts
+  pub many_same : length H.counts ≡ length G.counts
+  pub starts_long : length H.starts ≡ length H.counts
   pub starts_are : (e : ℕ) → e < length H.counts → get_or H.starts e 0 ≡ start H.counts e
   pub accepted : grid_answer H ≡ result_of (crossings H.counts ∷ [])
   -- H is the grid that is built afresh with its counts, and the one that the opening call leaves, whatever starts it is lent

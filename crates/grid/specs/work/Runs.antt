@@ -110,7 +110,7 @@ pub record NodeChains (cells ranks h0 x0 h1 x1 h2 x2 : List ℕ) : Type 0 where
   pub by0 : Linked (g 0) T (cell_count cells) h0 x0
   pub by1 : Linked (g 1) T (cell_count cells) h1 x1
   pub by2 : Linked (g 2) T (cell_count cells) h2 x2
-  pub ranks-room : highest_node < length ranks
+  pub ranks_room : highest_node < length ranks
   pub rank_lt : (u : ℕ) → get_or ranks u 0 < T
   pub same : (i c : ℕ) → i < 4 → c < cell_count cells → g i c ≡ get_or ranks (node cells c i) 0
   pub told : (i c u : ℕ) → i < 4 → c < cell_count cells → g i c ≡ get_or ranks u 0 → node cells c i ≡ u
@@ -119,7 +119,7 @@ pub record NodeChains (cells ranks h0 x0 h1 x1 h2 x2 : List ℕ) : Type 0 where
 pub record Turnable (cells ranks h0 x0 h1 x1 h2 x2 : List ℕ) (u : ℕ) (tab sides : List ℕ) : Type 0 where
   pub chained : NodeChains cells ranks h0 x0 h1 x1 h2 x2
   pub layable : Layable cells (cell_count cells) tab sides
-  pub node-lt : u ≤ highest_node
+  pub node_lt : u ≤ highest_node
 
 -- edge k of cell c has the lower end u
 pub record FromNode (cells : List ℕ) (u c k : ℕ) : Type 0 where
@@ -144,7 +144,7 @@ pub record SidesPlaceable (cells edges : List ℕ) (m : ℕ) (ranks h0 x0 h1 x1 
 
 -- for each number below T: top has one more than the last of the first n places with it, and degree how many have it
 pub record Tallied (sides : List ℕ) (T n : ℕ) (top degree : List ℕ) : Type 0 where
-  pub top-room : T ≤ length top
+  pub top_room : T ≤ length top
   pub degree_room : T ≤ length degree
   pub tops : (t : ℕ) → t < T → get_or top t 0 ≡ last (same_key sides t) n
   pub degrees : (t : ℕ) → t < T → get_or degree t 0 ≡ count (same_key sides t) n
@@ -155,5 +155,5 @@ pub record Talliable (sides : List ℕ) (n : ℕ) (top degree : List ℕ) : Type
   pub small : n < 65535
   pub below : (j : ℕ) → j < n → get_or sides j 0 < length top
   pub long : length top ≤ length degree
-  pub top-blank : Blanked top
+  pub top_blank : Blanked top
   pub degree_blank : Blanked degree

@@ -60,20 +60,20 @@ pub record Walks (head next : List ℕ) (r a b : ℕ) (keys : List ℕ) (base id
 -- THE PASS over all labels below `many`: at each its turn, along chain a with the slots from a up to b, and then chain b with those from p up to q.
 -- f and g are the labels by which the cells are chained, low the lowest node of an item
 pub record Course (f g low : ℕ → ℕ) (T n : ℕ) (ha na : List ℕ) (a b : ℕ) (hb nb : List ℕ) (p q : ℕ) (keys : List ℕ) (many : ℕ) (at out : List ℕ) : Type 0 where
-  pub linked-a : Linked f T n ha na
-  pub linked-b : Linked g T n hb nb
+  pub linked_a : Linked f T n ha na
+  pub linked_b : Linked g T n hb nb
   pub within : many ≤ T
-  pub ordered-a : a ≤ b
-  pub ordered-b : p ≤ q
+  pub ordered_a : a ≤ b
+  pub ordered_b : p ≤ q
   pub apart : q ≤ a
   pub slots : b ≤ 4
-  pub low-a : (j : ℕ) → a ≤ j % 4 → j % 4 < b → low j ≡ f (j / 4)
-  pub low-b : (j : ℕ) → p ≤ j % 4 → j % 4 < q → low j ≡ g (j / 4)
+  pub low_a : (j : ℕ) → a ≤ j % 4 → j % 4 < b → low j ≡ f (j / 4)
+  pub low_b : (j : ℕ) → p ≤ j % 4 → j % 4 < q → low j ≡ g (j / 4)
   pub small : 4 * n < 65535
   pub keyed : 4 * n ≤ length keys
   pub room : 4 * n ≤ length out
   pub known : (j : ℕ) → j < 4 * n → get_or keys j 0 < length at
-  pub at-blank : (k : ℕ) → get_or at k 0 ≡ 0
+  pub at_blank : (k : ℕ) → get_or at k 0 ≡ 0
   pub out_blank : (j : ℕ) → get_or out j 0 ≡ 0
 
 pub record Passable (ha na : List ℕ) (a b : ℕ) (hb nb : List ℕ) (p q : ℕ) (keys : List ℕ) (many : ℕ) (at out : List ℕ) : Type 0 where
@@ -89,8 +89,8 @@ pub record Coursed (f g low : ℕ → ℕ) (n a b p q : ℕ) (keys : List ℕ) (
   pub told : Told low keys out
   pub few : (j : ℕ) → get_or out j 0 ≤ ids
   pub bound : ids ≤ 4 * n
-  pub done-a : (j : ℕ) → j / 4 < n → f (j / 4) < many → a ≤ j % 4 → j % 4 < b → Has out j
-  pub done-b : (j : ℕ) → j / 4 < n → g (j / 4) < many → p ≤ j % 4 → j % 4 < q → Has out j
+  pub done_a : (j : ℕ) → j / 4 < n → f (j / 4) < many → a ≤ j % 4 → j % 4 < b → Has out j
+  pub done_b : (j : ℕ) → j / 4 < n → g (j / 4) < many → p ≤ j % 4 → j % 4 < q → Has out j
 
 pub record Passed (ha na : List ℕ) (a b : ℕ) (hb nb : List ℕ) (p q : ℕ) (keys : List ℕ) (many : ℕ) (at₀ out₀ : List ℕ) (ids : ℕ) (out : List ℕ) : Type 0 where
   pub over : (f g low : ℕ → ℕ) (T n : ℕ) → Course f g low T n ha na a b hb nb p q keys many at₀ out₀ → Coursed f g low n a b p q keys many ids out
@@ -115,7 +115,7 @@ pub record Labelling (cells : List ℕ) (n : ℕ) (at out : List ℕ) : Type 0 w
   pub known : (j : ℕ) → j < n → get_or cells j 0 < length at
   pub room : n ≤ length out
   pub small : n < 65535
-  pub at-blank : (k : ℕ) → get_or at k 0 ≡ 0
+  pub at_blank : (k : ℕ) → get_or at k 0 ≡ 0
   pub out_blank : (j : ℕ) → get_or out j 0 ≡ 0
 
 -- what `label` leaves: the labels of the nodes, and in at the label of each node, or 0; long is the length of at
@@ -197,10 +197,10 @@ pub record Slotted (labels : List ℕ) (n many : ℕ) (faces same : List ℕ) : 
   pub keyed : 4 * n ≤ length labels
   pub below : (j : ℕ) → get_or labels j 0 < many
   pub many_le : many ≤ 4 * n + 1
-  pub faces-room : 4 * n ≤ length faces
-  pub same-room : 4 * n ≤ length same
-  pub faces-blank : (j : ℕ) → get_or faces j 0 ≡ 0
-  pub same-blank : (j : ℕ) → get_or same j 0 ≡ 0
+  pub faces_room : 4 * n ≤ length faces
+  pub same_room : 4 * n ≤ length same
+  pub faces_blank : (j : ℕ) → get_or faces j 0 ≡ 0
+  pub same_blank : (j : ℕ) → get_or same j 0 ≡ 0
 
 -- the cells chained by their lowest nodes: each has a label below `many`, the same exactly where the nodes are
 pub record LowChains (cells : List ℕ) (many : ℕ) (h0 x0 : List ℕ) : Type 0 where
@@ -214,13 +214,13 @@ pub record Comparable (cells faces at same : List ℕ) : Type 0 where
   pub few : length cells / 4 ≤ most_cells
   pub told : Slots (length cells / 4) (SameFrom 0 cells) faces
   pub at_room : 4 * (length cells / 4) + 1 ≤ length at
-  pub same-room : 4 * (length cells / 4) ≤ length same
+  pub same_room : 4 * (length cells / 4) ≤ length same
 
 -- what `number_faces` starts from: cells with nodes up to 4,095
 pub record Numerable (cells labels ranks faces same : List ℕ) : Type 0 where
   pub few : length cells / 4 ≤ most_cells
   pub nodes : (j : ℕ) → j < 4 * (length cells / 4) → get_or cells j 0 ≤ highest_node
   pub labels_new : Fresh (4 * (length cells / 4)) labels
-  pub ranks-new : Fresh (highest_node + 1) ranks
-  pub faces-new : Fresh (4 * (length cells / 4)) faces
+  pub ranks_new : Fresh (highest_node + 1) ranks
+  pub faces_new : Fresh (4 * (length cells / 4)) faces
   pub same_new : Fresh (4 * (length cells / 4)) same

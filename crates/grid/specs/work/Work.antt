@@ -81,7 +81,7 @@ again_at cells near c =
 pub record Early (cells : List ℕ) (r : ℕ) (near : List ℕ) : Type 0 where
   pub row4 : r < cell_count cells → r ≡ first (repeats cells) (cell_count cells)
   pub row5 : cell_count cells ≤ r → (cell_count cells ≡ first (repeats cells) (cell_count cells)) × (r ≡ cell_count cells + first (crowded cells) (cell_count cells))
-  pub near-is : 2 * cell_count cells ≤ r → Neighbours cells near
+  pub near_is : 2 * cell_count cells ≤ r → Neighbours cells near
 
 -- EDGES: the edges of the cells by their ends, and their places in the list
 
@@ -124,7 +124,7 @@ pub record KeySlot (keys : List ℕ) (key j : ℕ) : Type 0 where
 
 -- what `other_side` starts from: slot s contains edge k
 pub record OnSlot (k s : ℕ) : Type 0 where
-  pub edge-lt : k < 6
+  pub edge_lt : k < 6
   pub slot_lt : s < 4
   pub holds : contains k s ≡ true
 
@@ -157,7 +157,7 @@ pub record Grown (keys near : List ℕ) (n key mark : ℕ) (marks₀ marks : Lis
 
 -- what `spread` starts from, and what it leaves of any edge that start and rank tell
 pub record Spreadable (near : List ℕ) (n start rank : ℕ) (marks : List ℕ) : Type 0 where
-  pub near-room : 4 * n ≤ length near
+  pub near_room : 4 * n ≤ length near
   pub few : n ≤ most_cells
   pub within : (j : ℕ) → j < 4 * n → get_or near j 0 ≤ 4 * n
   pub room : n ≤ length marks
@@ -202,7 +202,7 @@ pub record Reached (keys near : List ℕ) (n key mark c : ℕ) (marks₀ marks :
 pub record Splitting (keys near : List ℕ) (n key top degree : ℕ) (marks : List ℕ) : Type 0 where
   pub paired : Paired keys near n
   pub room : n ≤ length marks
-  pub top-is : top ≡ last (same_key keys key) (6 * n)
+  pub top_is : top ≡ last (same_key keys key) (6 * n)
   pub degree_is : degree ≡ count (same_key keys key) (6 * n)
   pub found : 0 < top
   pub fresh : (d : ℕ) → get_or marks d 0 ≢ key
@@ -210,7 +210,7 @@ pub record Splitting (keys near : List ℕ) (n key top degree : ℕ) (marks : Li
 -- what row 9 starts from: each edge of a cell is listed, and each edge has a cell
 pub record Linkable (G : Grid) (near sides top degree marks : List ℕ) : Type 0 where
   pub ordered : RisingCells G.cells
-  pub near-is : Neighbours G.cells near
+  pub near_is : Neighbours G.cells near
   pub sided : Table (listed_at G) (6 * cell_count G.cells) sides
   pub full : (j : ℕ) → j < 6 * cell_count G.cells → 0 < get_or sides j 0
   pub one : OneEach G
@@ -219,17 +219,17 @@ pub record Linkable (G : Grid) (near sides top degree marks : List ℕ) : Type 0
   pub within : length G.counts < T
   pub tallied : Tallied sides T (6 * cell_count G.cells) top degree
   pub used : (e : ℕ) → e < length G.counts → unused G e ≡ false
-  pub marks-new : Fresh (cell_count G.cells) marks
+  pub marks_new : Fresh (cell_count G.cells) marks
 
 -- THE WHOLE
 
 -- what the check of n cells starts from, and what it leaves in its two tables where it accepts
 pub record Blank (n : ℕ) (near sides : List ℕ) : Type 0 where
   pub near_new : Fresh (4 * n) near
-  pub sides-new : Fresh (6 * n) sides
+  pub sides_new : Fresh (6 * n) sides
 
 pub record Worked (G : Grid) (near sides : List ℕ) : Type 0 where
-  pub near-is : Neighbours G.cells near
+  pub near_is : Neighbours G.cells near
   pub sided : Table (listed_at G) (6 * cell_count G.cells) sides
 
 abbrev pub WhereAccepted : Checked → Type 0 → Type 0
@@ -259,16 +259,16 @@ pub record Numbering (G : Grid) (near sides : List ℕ) : Type 0 where
 -- the tables of n cells' edges, which are new
 pub record EdgeTables (n : ℕ) (tab top degree marks : List ℕ) : Type 0 where
   pub tab_new : Fresh (highest_node + 1) tab
-  pub top-new : Fresh (6 * n + 2) top
+  pub top_new : Fresh (6 * n + 2) top
   pub degree_new : Fresh (6 * n + 2) degree
   pub long : length top ≤ length degree
-  pub marks-new : Fresh n marks
+  pub marks_new : Fresh n marks
 
 -- the tables of n cells' numbers, which are new
 pub record CellTables (n : ℕ) (labels ranks at faces same : List ℕ) : Type 0 where
   pub labels_new : Fresh (4 * n) labels
-  pub ranks-new : Fresh (highest_node + 1) ranks
-  pub faces-new : Fresh (4 * n) faces
+  pub ranks_new : Fresh (highest_node + 1) ranks
+  pub faces_new : Fresh (4 * n) faces
   pub same_new : Fresh (4 * n) same
   pub at_new : Fresh (4 * n + 1) at
 
@@ -276,10 +276,10 @@ pub record CellTables (n : ℕ) (labels ranks at faces same : List ℕ) : Type 0
 pub record Edging (G : Grid) (near ranks h0 x0 h1 x1 h2 x2 tab top degree marks sides : List ℕ) : Type 0 where
   pub ordered : RisingCells G.cells
   pub pairs : length G.edges ≡ 2 * length G.counts
-  pub near-is : Neighbours G.cells near
+  pub near_is : Neighbours G.cells near
   pub chained : NodeChains G.cells ranks h0 x0 h1 x1 h2 x2
   pub tables : EdgeTables (cell_count G.cells) tab top degree marks
-  pub sides-new : Fresh (6 * cell_count G.cells) sides
+  pub sides_new : Fresh (6 * cell_count G.cells) sides
 
 -- what row 7 and those after it start from: besides, the edges are sorted
 pub record Siding (G : Grid) (near ranks h0 x0 h1 x1 h2 x2 tab top degree marks sides : List ℕ) : Type 0 where
@@ -289,7 +289,7 @@ pub record Siding (G : Grid) (near ranks h0 x0 h1 x1 h2 x2 tab top degree marks 
 -- what row 8 and those after it start from: the cells' edges have their places, and these are counted
 pub record Using (G : Grid) (near sides top degree marks : List ℕ) : Type 0 where
   pub ordered : RisingCells G.cells
-  pub near-is : Neighbours G.cells near
+  pub near_is : Neighbours G.cells near
   pub room : 6 * cell_count G.cells ≤ length sides
   pub placed : SidesPlaced G.cells G.edges (length G.counts) sides
   pub full : (j : ℕ) → j < 6 * cell_count G.cells → 0 < get_or sides j 0
@@ -297,7 +297,7 @@ pub record Using (G : Grid) (near sides top degree marks : List ℕ) : Type 0 wh
   pub T : ℕ
   pub within : 6 * cell_count G.cells < T
   pub tallied : Tallied sides T (6 * cell_count G.cells) top degree
-  pub marks-new : Fresh (cell_count G.cells) marks
+  pub marks_new : Fresh (cell_count G.cells) marks
 
 -- TABLES: what the writers of the lent tables start from
 
@@ -307,12 +307,12 @@ lower_place j x = pick (eqb x 0) j (pick (ltb (x - 1) j) (x - 1) j)
 
 pub record Copying (n : ℕ) (across table : List ℕ) : Type 0 where
   pub few : n ≤ most_slots
-  pub across-room : n ≤ length across
+  pub across_room : n ≤ length across
   pub room : n ≤ length table
 
 pub record Lowering (n : ℕ) (listed table : List ℕ) : Type 0 where
   pub few : n ≤ most_edges
-  pub listed-room : n ≤ length listed
+  pub listed_room : n ≤ length listed
   pub room : n ≤ length table
   pub entries : (j : ℕ) → j < n → 1 ≤ get_or listed j 0
 

@@ -1,6 +1,6 @@
 use native.Mathlib.Omega.{arith}
-use Rattle.split.proofs.Tables.{splits-all}
-use Rattle.layers.proofs.Calls.{few-drawn, bad_joined, joined-short, joinable, joined-fits}
+use Rattle.split.proofs.Tables.{splits_all}
+use Rattle.layers.proofs.Calls.{few_drawn, bad_joined, joined_short, joinable, joined_fits}
 use borrow.Author.Rules.{rules}
 use Rattle.layers.proofs.cut_joined.Goals as goal
 
@@ -11,17 +11,17 @@ returns-then-bad-cuts c =
     bad_joined T A.cuts.now _ c.first_bad-bad.ensures c.if-bad-cuts.true A.area.now
 
 pub overflow_add-most : goal.overflow_add-most
-overflow_add-most c = let S = c.sums_of-s.ensures in omega (arith, S.few-crossings, S.few-more)
+overflow_add-most c = let S = c.sums_of-s.ensures in omega (arith, S.few_crossings, S.few_more)
 
 pub lacking-n-requires : goal.lacking-n-requires
 lacking-n-requires c = let A = c.args in
-    few-drawn A.cells.now A.counts.now A.names.now A.sides.now A.starts.now c.sums_of-s.ensures
+    few_drawn A.cells.now A.counts.now A.names.now A.sides.now A.starts.now c.sums_of-s.ensures
 
 pub returns-then-n-ne0 : goal.returns-then-n-ne0
 returns-then-n-ne0 c =
     λ edges T.
     let A = c.args in
-    joined-short T A.cuts.now _ c.first_bad-bad.ensures c.if-bad-cuts.false A.area.now c.lacking-n.ensures c.if-n-ne0.true
+    joined_short T A.cuts.now _ c.first_bad-bad.ensures c.if-bad-cuts.false A.area.now c.lacking-n.ensures c.if-n-ne0.true
 
 pub join_runs-end-requires : goal.join_runs-end-requires
 join_runs-end-requires c = let A = c.args in
@@ -36,6 +36,6 @@ returns c =
     λ edges T.
     let A = c.args in
     let S = c.sums_of-s.ensures in
-    joined-fits T A.cuts.now _ c.first_bad-bad.ensures c.if-bad-cuts.false A.area.now c.lacking-n.ensures (omega arith)
-    (omega (arith, S.splits_are, splits-all A.cells.now A.counts.now A.names.now A.sides.now A.starts.now))
+    joined_fits T A.cuts.now _ c.first_bad-bad.ensures c.if-bad-cuts.false A.area.now c.lacking-n.ensures (omega arith)
+    (omega (arith, S.splits_are, splits_all A.cells.now A.counts.now A.names.now A.sides.now A.starts.now))
     (c.join_runs-end.ensures edges (joinable T A.cuts.now _ c.first_bad-bad.ensures c.if-bad-cuts.false A.area.now c.lacking-n.ensures (omega arith)))

@@ -2,12 +2,12 @@ use native.Mathlib.Omega.{arith}
 use mathlib.Core.Path.{refl}
 use Rattle.layers.specs.Runs.{crossing_in_whole}
 use Rattle.layers.proofs.Laying.{layable, leading}
-use Rattle.layers.proofs.Joining.{many, put-room, run-joined}
+use Rattle.layers.proofs.Joining.{many, put_room, run_joined}
 use borrow.Author.Rules.{rules}
 use Rattle.layers.proofs.join_run.Goals as goal
 
 pub copy_run-requires : goal.copy_run-requires
-copy_run-requires c = let J = c.requires.1 in omega (arith, J.run_of.run.within, J.run_of.tables.sound.few-cells, J.run_of.tables.sound.fours)
+copy_run-requires c = let J = c.requires.1 in omega (arith, J.run_of.run.within, J.run_of.tables.sound.few_cells, J.run_of.tables.sound.fours)
 
 pub start_run-requires : goal.start_run-requires
 start_run-requires c = let A = c.args in
@@ -15,25 +15,25 @@ start_run-requires c = let A = c.args in
     layable J.run_of.tables A.run.from A.run.size J.run_of.run _ _ J.below
 
 pub overflow_mul-first : goal.overflow_mul-first
-overflow_mul-first c = let J = c.requires.1 in omega (arith, J.run_of.run.within, J.run_of.tables.sound.few-cells, J.run_of.tables.sound.fours)
+overflow_mul-first c = let J = c.requires.1 in omega (arith, J.run_of.run.within, J.run_of.tables.sound.few_cells, J.run_of.tables.sound.fours)
 
 pub overflow_mul-end : goal.overflow_mul-end
-overflow_mul-end c = let J = c.requires.1 in omega (arith, J.run_of.run.within, J.run_of.tables.sound.few-cells, J.run_of.tables.sound.fours)
+overflow_mul-end c = let J = c.requires.1 in omega (arith, J.run_of.run.within, J.run_of.tables.sound.few_cells, J.run_of.tables.sound.fours)
 
 pub overflow_add-end : goal.overflow_add-end
-overflow_add-end c = let J = c.requires.1 in omega (arith, J.run_of.run.within, J.run_of.tables.sound.few-cells, J.run_of.tables.sound.fours)
+overflow_add-end c = let J = c.requires.1 in omega (arith, J.run_of.run.within, J.run_of.tables.sound.few_cells, J.run_of.tables.sound.fours)
 
 pub offset_bounds-cells-first : goal.offset_bounds-cells-first
-offset_bounds-cells-first c = let J = c.requires.1 in omega (arith, J.run_of.run.within, J.run_of.tables.sound.few-cells, J.run_of.tables.sound.fours)
+offset_bounds-cells-first c = let J = c.requires.1 in omega (arith, J.run_of.run.within, J.run_of.tables.sound.few_cells, J.run_of.tables.sound.fours)
 
 pub slice_bounds-draw_at-count : goal.slice_bounds-draw_at-count
-slice_bounds-draw_at-count c = let J = c.requires.1 in omega (arith, J.run_of.run.within, J.run_of.tables.sound.few-cells, J.run_of.tables.sound.fours)
+slice_bounds-draw_at-count c = let J = c.requires.1 in omega (arith, J.run_of.run.within, J.run_of.tables.sound.few_cells, J.run_of.tables.sound.fours)
 
 pub slice_bounds-draw_at-start : goal.slice_bounds-draw_at-start
-slice_bounds-draw_at-start c = let J = c.requires.1 in omega (arith, J.run_of.run.within, J.run_of.tables.sound.few-cells, J.run_of.tables.sound.fours)
+slice_bounds-draw_at-start c = let J = c.requires.1 in omega (arith, J.run_of.run.within, J.run_of.tables.sound.few_cells, J.run_of.tables.sound.fours)
 
 pub slice_bounds-draw_at-end : goal.slice_bounds-draw_at-end
-slice_bounds-draw_at-end c = let J = c.requires.1 in omega (arith, J.run_of.run.within, J.run_of.tables.sound.few-cells, J.run_of.tables.sound.fours)
+slice_bounds-draw_at-end c = let J = c.requires.1 in omega (arith, J.run_of.run.within, J.run_of.tables.sound.few_cells, J.run_of.tables.sound.fours)
 
 pub draw_at-d-requires : goal.draw_at-d-requires
 draw_at-d-requires c = omega (arith, c.requires.1.fits)
@@ -46,7 +46,7 @@ number_sides-requires c = let A = c.args in
 pub put_over-requires : goal.put_over-requires
 put_over-requires c = let J = c.requires.1 in
     let D = c.draw_at-d.ensures in
-    (put-room J (record { copied = c.copy_run.ensures; started = c.start_run.ensures }) c.args.area.now refl D.triangles_value.0 D.area_after, omega (arith, J.run_of.run.within, J.run_of.tables.sound.few-cells))
+    (put_room J (record { copied = c.copy_run.ensures; started = c.start_run.ensures }) c.args.area.now refl D.triangles_value.0 D.area_after, omega (arith, J.run_of.run.within, J.run_of.tables.sound.few_cells))
 
 pub overflow_mul-result : goal.overflow_mul-result
 overflow_mul-result c = let J = c.requires.1 in
@@ -63,6 +63,6 @@ returns c = let D = c.draw_at-d.ensures in record {
   by_index = c.start_run.ensures.most;
   by_index_2 = λ edges J.
       let A = c.args in
-      run-joined J (record { copied = c.copy_run.ensures; started = c.start_run.ensures }) A.area.now refl D.triangles_value.0 D.area_after
+      run_joined J (record { copied = c.copy_run.ensures; started = c.start_run.ensures }) A.area.now refl D.triangles_value.0 D.area_after
       (c.number_sides.ensures _ (leading J.run_of.tables A.run.from A.run.size J.run_of.run (record { copied = c.copy_run.ensures; started = c.start_run.ensures }))) c.put_over.ensures;
 }

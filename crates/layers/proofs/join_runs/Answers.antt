@@ -8,14 +8,14 @@ use Rattle.counting.specs.work.Stored.{Stored}
 use Rattle.counting.proofs.Stored.{stored_none, stored_long, stored_as, stored_more}
 use Rattle.grid.specs.Grid.{grid_of}
 use Rattle.layers.specs.work.Work.{Joinable}
-use Rattle.layers.proofs.Laying.{zero-below}
-use Rattle.layers.proofs.Calls.{run_words, few_runs, next_cut, next-words, next_joinable, all-joined}
+use Rattle.layers.proofs.Laying.{zero_below}
+use Rattle.layers.proofs.Calls.{run_words, few_runs, next_cut, next_words, next_joinable, all_joined}
 use borrow.Author.Rules.{rules}
 use Rattle.layers.proofs.join_runs.Goals as goal
 
 pub loop-r-init : goal.loop-r-init
 unfolding over
-loop-r-init c = (omega arith, λ e. omega (arith, zero-below 12480 e), refl, λ edges J. stored_none _ 0)
+loop-r-init c = (omega arith, λ e. omega (arith, zero_below 12480 e), refl, λ edges J. stored_none _ 0)
 
 pub span_of-requires : goal.span_of-requires
 span_of-requires c = next_cut c.requires.1 c.loop-r.r (omega arith)
@@ -37,11 +37,11 @@ loop-r-preserved c = let L = c.loop-r in
       stored_long (E.by_index_2 P.0 (next_joinable P.1 L.r (omega arith) _ _ c.span_of.ensures.0 c.span_of.ensures.1 (L.invariant.3 P.0 P.1) refl L.used (λ e. omega (arith, L.invariant.1 e, c.span_of.ensures.2)))) ∙ L.invariant.2,
       λ edges J. stored_more (run_words J) L.r (L.invariant.3 edges J)
           (stored_as (E.by_index_2 edges (next_joinable J L.r (omega arith) _ _ c.span_of.ensures.0 c.span_of.ensures.1 (L.invariant.3 edges J) refl L.used (λ e. omega (arith, L.invariant.1 e, c.span_of.ensures.2))))
-          (next-words J L.r (omega arith) _ _ c.span_of.ensures.0 c.span_of.ensures.1) refl),
+          (next_words J L.r (omega arith) _ _ c.span_of.ensures.0 c.span_of.ensures.1) refl),
     )
 
 pub shape_of-area : goal.shape_of-area
 shape_of-area c = c.loop-r.invariant.2
 
 pub returns : goal.returns
-returns c = λ edges J. all-joined J (c.loop-r.invariant.3 edges J) (omega arith)
+returns c = λ edges J. all_joined J (c.loop-r.invariant.3 edges J) (omega arith)

@@ -30,7 +30,7 @@ module _ (G : Grid) (from size : ℕ) where
 
 -- the run's cells are some of the grid's, and there is one
 pub record RunWithin (G : Grid) (from size : ℕ) : Type 0 where
-  pub some-cell : 0 < size
+  pub some_cell : 0 < size
   pub within : from + size ≤ cell_count G.cells
 
 -- a run of a grid without a fault of the rows 1 to 8, 18 and 10 has none either: of an accepted grid's run only row 9 can be faulty
@@ -44,18 +44,18 @@ RunClear = (G : Grid) (from size : ℕ) (values : List ℕ) → grid_answer G �
 -- the run's names put into those of the whole
 pub record NamesLaws (G : Grid) (from size : ℕ) : Type 0 where
   -- its edges in the same order, each with its count; edge k of a cell is that of the cell in the whole
-  pub edges-rise : (d e : ℕ) → d < e → e < length (run_counts G from size) → in_whole G from size d < in_whole G from size e
-  pub edge-within : (e : ℕ) → e < length (run_counts G from size) → in_whole G from size e < length G.counts
+  pub edges_rise : (d e : ℕ) → d < e → e < length (run_counts G from size) → in_whole G from size d < in_whole G from size e
+  pub edge_within : (e : ℕ) → e < length (run_counts G from size) → in_whole G from size e < length G.counts
   pub count : (e : ℕ) → e < length (run_counts G from size) → count_of (run_counts G from size) e ≡ count_of G.counts (in_whole G from size e)
   pub edge : (c k : ℕ) → c < size → k < 6 → in_whole G from size (edge_number (run_grid G from size) c k) ≡ edge_number G (from + c) k
   -- its crossings in order, so that no two go over to one, each to the same index on the same edge
   pub crossing : (e i : ℕ) → e < length (run_counts G from size) → i < count_of (run_counts G from size) e
       → crossing_in_whole G from size (start (run_counts G from size) e + i) ≡ start G.counts (in_whole G from size e) + i
-  pub crossings-rise : (x y : ℕ) → x < y → y < crossings (run_counts G from size) → crossing_in_whole G from size x < crossing_in_whole G from size y
-  pub crossing-within : (x : ℕ) → x < crossings (run_counts G from size) → crossing_in_whole G from size x < crossings G.counts
+  pub crossings_rise : (x y : ℕ) → x < y → y < crossings (run_counts G from size) → crossing_in_whole G from size x < crossing_in_whole G from size y
+  pub crossing_within : (x : ℕ) → x < crossings (run_counts G from size) → crossing_in_whole G from size x < crossings G.counts
   -- its faces, no two to one
   pub face : (c s : ℕ) → c < size → s < 4 → face_in_whole G from size (face_name (run_cells G from size) c s) ≡ face_name G.cells (from + c) s
-  pub faces-once : (c s d t : ℕ) → c < size → d < size → s < 4 → t < 4
+  pub faces_once : (c s d t : ℕ) → c < size → d < size → s < 4 → t < 4
       → face_in_whole G from size (face_name (run_cells G from size) c s) ≡ face_in_whole G from size (face_name (run_cells G from size) d t)
       → face_name (run_cells G from size) c s ≡ face_name (run_cells G from size) d t
 
@@ -78,7 +78,7 @@ RunsRenamed = (G : Grid) (from size : ℕ) → Sound G → RunWithin G from size
 -- cuts that are not refused cut the cells into runs of one cell or more: the first from cell 0, each up to the next, the last to the end
 pub record CutLaws (n : ℕ) (cuts : List ℕ) : Type 0 where
   pub first : run_start cuts 0 ≡ 0
-  pub some-cell : (r : ℕ) → r < run_count cuts → run_start cuts r < run_end n cuts r
+  pub some_cell : (r : ℕ) → r < run_count cuts → run_start cuts r < run_end n cuts r
   pub next : (r : ℕ) → r < length cuts → run_end n cuts r ≡ run_start cuts (r + 1)
   pub end : run_end n cuts (length cuts) ≡ n
   pub within : (r : ℕ) → r < run_count cuts → run_end n cuts r ≤ n

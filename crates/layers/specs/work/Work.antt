@@ -101,7 +101,7 @@ pub record StartsSummed (counts used : List ℕ) (m end : ℕ) (before starts : 
 -- what the tables of a run are made from: the run's part of the whole's, and arrays of the lengths of those
 pub record Layable (counts sides used : List ℕ) (from size m : ℕ) : Type 0 where
   pub few : from + size ≤ most_cells
-  pub few-edges : length counts ≤ most_edges
+  pub few_edges : length counts ≤ most_edges
   pub edge : (j : ℕ) → j < 6 * size → side_from sides from j < most_edges
   pub below : (e : ℕ) → get_or used e 0 < m
 
@@ -138,8 +138,8 @@ side_count counts sides from j = get_or counts (side_from sides from j) 0
 pub record Leading (f : ℕ → ℕ) (counts starts sides : List ℕ) (from n : ℕ) (own : List ℕ) : Type 0 where
   pub few : 6 * from + n ≤ most_edges
   pub edge : (j : ℕ) → j < n → side_from sides from j < length counts
-  pub few-counts : length counts ≤ most_edges
-  pub starts-long : length starts ≡ length counts
+  pub few_counts : length counts ≤ most_edges
+  pub starts_long : length starts ≡ length counts
   pub leads : (j i : ℕ) → j < n → i < side_count counts sides from j → f (own_at sides from own j + i) ≡ get_or starts (side_from sides from j) 0 + i
   pub below : (j : ℕ) → j < n → own_at sides from own j + side_count counts sides from j ≤ most_numbers
   pub small : (j : ℕ) → j < n → get_or starts (side_from sides from j) 0 + side_count counts sides from j ≤ most_numbers

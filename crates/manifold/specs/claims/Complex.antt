@@ -79,10 +79,10 @@ pub record Has (K : Complex) (g c : ℕ) : Type 0 where
 pub record Shares (A B : Local) (g : ℕ) : Type 0 where
   pub d : ℕ
   pub e : ℕ
-  pub d-on : Joins A d
-  pub e-on : Joins B e
-  pub at-d : A.number (half d) ≡ g
-  pub at-e : B.number (half e) ≡ g
+  pub d_on : Joins A d
+  pub e_on : Joins B e
+  pub at_d : A.number (half d) ≡ g
+  pub at_e : B.number (half e) ≡ g
   pub same : segment_of A d ≡ segment_of B e
 
 -- the pieces with g are all linked through segments that end there: what holds of one of them and passes over these segments holds of all

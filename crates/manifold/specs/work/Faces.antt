@@ -32,10 +32,10 @@ pub record SharesFace (K : Complex) (g a b : ℕ) : Type 0 where
   pub a_lt : a < K.pieces
   pub b_lt : b < K.pieces
   pub d : ℕ
-  pub d-lt : d < 2 * (K.at a).N
-  pub at-d : (K.at a).number (half d) ≡ g
+  pub d_lt : d < 2 * (K.at a).N
+  pub at_d : (K.at a).number (half d) ≡ g
   pub s : ℕ
-  pub s-lt : s < (K.at b).slots
+  pub s_lt : s < (K.at b).slots
   pub face : (K.at a).name (slot_of (K.at a) d) ≡ (K.at b).name s
 
 -- the pieces with g are all linked through faces on which it lies

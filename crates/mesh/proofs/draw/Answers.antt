@@ -2,7 +2,7 @@ use native.Mathlib.Omega.{arith}
 use lib.ListN.{length}
 use borrow.Author.Rules.{rules}
 use Rattle.split.specs.work.Table.{table_drawn, table_splits}
-use Rattle.mesh.proofs.Rooms.{answer-short, answer-fits}
+use Rattle.mesh.proofs.Rooms.{answer_short, answer_fits}
 use Rattle.mesh.proofs.draw.Goals as goal
 
 pub returns-then-area-d : goal.returns-then-area-d
@@ -10,11 +10,11 @@ returns-then-area-d c = let d = c.draw-d.ensures in
     let A = c.args in
     let m = table_drawn A.cells.now A.counts.now A.names.now A.sides.now A.starts.now in
     let s = table_splits A.cells.now A.counts.now A.names.now A.sides.now A.starts.now in
-    record { answered = rw d.triangles_value.0 (answer-short m s (length A.area.now) (omega (arith, d.triangles_value.0))); area = d.area_after }
+    record { answered = rw d.triangles_value.0 (answer_short m s (length A.area.now) (omega (arith, d.triangles_value.0))); area = d.area_after }
 
 pub returns : goal.returns
 returns c = let d = c.draw-d.ensures in
     let A = c.args in
     let m = table_drawn A.cells.now A.counts.now A.names.now A.sides.now A.starts.now in
     let s = table_splits A.cells.now A.counts.now A.names.now A.sides.now A.starts.now in
-    record { answered = rw (d.triangles_value.0, d.triangles_value.1) (answer-fits m s (length A.area.now) (omega (arith, d.triangles_value.0))); area = d.area_after }
+    record { answered = rw (d.triangles_value.0, d.triangles_value.1) (answer_fits m s (length A.area.now) (omega (arith, d.triangles_value.0))); area = d.area_after }

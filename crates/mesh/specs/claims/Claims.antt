@@ -113,9 +113,9 @@ OneSide s t (inner w p k) (inner v q l) = (w ≡ v) × (p ≡ q) × (k ≡ l)
 -- the names in the mesh tell them apart in this way
 pub record NamesTold : Type 0 where
   pub corner : (s t : Triangle) (i j : ℕ) → mesh_corner s i ≡ mesh_corner t j → OneCorner s t (corner_name_at s i) (corner_name_at t j)
-  pub same-corner : (s t : Triangle) (i j : ℕ) → OneCorner s t (corner_name_at s i) (corner_name_at t j) → mesh_corner s i ≡ mesh_corner t j
+  pub same_corner : (s t : Triangle) (i j : ℕ) → OneCorner s t (corner_name_at s i) (corner_name_at t j) → mesh_corner s i ≡ mesh_corner t j
   pub side : (s t : Triangle) (i j : ℕ) → mesh_side s i ≡ mesh_side t j → OneSide s t (side_name_at s i) (side_name_at t j)
-  pub same-side : (s t : Triangle) (i j : ℕ) → OneSide s t (side_name_at s i) (side_name_at t j) → mesh_side s i ≡ mesh_side t j
+  pub same_side : (s t : Triangle) (i j : ℕ) → OneSide s t (side_name_at s i) (side_name_at t j) → mesh_side s i ≡ mesh_side t j
 
 -- the grid of these lists is accepted and meets both premises of the rings; it has so many crossings, triangles and splits
 pub record Ringed (cells edges counts : List ℕ) (crossings triangles splits : ℕ) : Type 0 where

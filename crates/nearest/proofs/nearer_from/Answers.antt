@@ -4,7 +4,7 @@ use mathlib.Core.Bool.{true, false}
 use native.Mathlib.Omega.{arith}
 use borrow.Author.Rules.{rules}
 use Rattle.counting.specs.Lists.{seek}
-use Rattle.counting.proofs.Search.{seek_hit, seek_miss, seek-end}
+use Rattle.counting.proofs.Search.{seek_hit, seek_miss, seek_end}
 use Rattle.nearest.specs.work.Distance.{nearer_than}
 use Rattle.nearest.proofs.Least.{nearer_is}
 use Rattle.nearest.proofs.nearer_from.Goals as goal
@@ -29,4 +29,4 @@ loop-k-preserved c = let a = c.args in
     c.loop-k.invariant ∙ seek_miss _ _ _ (omega arith) far
 
 pub returns : goal.returns
-returns c = sym (c.loop-k.invariant ∙ seek-end _ _ _ (omega arith))
+returns c = sym (c.loop-k.invariant ∙ seek_end _ _ _ (omega arith))

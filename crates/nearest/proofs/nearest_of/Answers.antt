@@ -5,7 +5,7 @@ use Rattle.counting.proofs.Search.{sought}
 use Rattle.nearest.specs.Distance.{point_count, distance_of}
 use Rattle.nearest.specs.work.Distance.{nearer_than}
 use Rattle.nearest.specs.Answer.{nearest_number}
-use Rattle.nearest.proofs.Least.{Searched, run-one, run_more, run-end, distance_is}
+use Rattle.nearest.proofs.Least.{Searched, run_one, run_more, run-end, distance_is}
 use Rattle.nearest.proofs.nearest_of.Goals as goal
 
 pub load-requires : goal.load-requires
@@ -18,7 +18,7 @@ pub nearer_from-k-requires : goal.nearer_from-k-requires
 nearer_from-k-requires c = tt
 
 pub loop-k-init : goal.loop-k-init
-loop-k-init c = run-one _ (distance_is _ _ _ c.load.ensures c.squared_distance-least.ensures) c.nearer_from-k.ensures
+loop-k-init c = run_one _ (distance_is _ _ _ c.load.ensures c.squared_distance-least.ensures) c.nearer_from-k.ensures
 
 pub load-requires-in-loop-k : goal.load-requires-in-loop-k
 load-requires-in-loop-k c = tt

@@ -11,16 +11,16 @@ pub count_fans-own-requires : goal.count_fans-own-requires
 count_fans-own-requires c = tt
 
 pub overflow_add-fans : goal.overflow_add-fans
-overflow_add-fans c = omega (arith, c.requires.few, c.count_fans-own.ensures.1, c.extra_of-more.ensures.few-inner, c.extra_of-more.ensures.few_fans)
+overflow_add-fans c = omega (arith, c.requires.few, c.count_fans-own.ensures.1, c.extra_of-more.ensures.few_inner, c.extra_of-more.ensures.few_fans)
 
 pub overflow_add-all : goal.overflow_add-all
-overflow_add-all c = omega (arith, c.requires.few, c.count_fans-own.ensures.1, c.extra_of-more.ensures.few-inner, c.extra_of-more.ensures.few_fans)
+overflow_add-all c = omega (arith, c.requires.few, c.count_fans-own.ensures.1, c.extra_of-more.ensures.few_inner, c.extra_of-more.ensures.few_fans)
 
 pub overflow_add-all-2 : goal.overflow_add-all-2
-overflow_add-all-2 c = omega (arith, c.requires.few, c.count_fans-own.ensures.1, c.extra_of-more.ensures.few-inner, c.extra_of-more.ensures.few_fans)
+overflow_add-all-2 c = omega (arith, c.requires.few, c.count_fans-own.ensures.1, c.extra_of-more.ensures.few_inner, c.extra_of-more.ensures.few_fans)
 
 pub judge-r-requires : goal.judge-r-requires
-judge-r-requires c = record { judgeable = c.requires.judged; points_le_most_points = omega (arith, c.requires.few, c.count_fans-own.ensures.1, c.extra_of-more.ensures.few-inner, c.extra_of-more.ensures.few_fans) }
+judge-r-requires c = record { judgeable = c.requires.judged; points_le_most_points = omega (arith, c.requires.few, c.count_fans-own.ensures.1, c.extra_of-more.ensures.few_inner, c.extra_of-more.ensures.few_fans) }
 
 pub returns-in-Refused : goal.returns-in-Refused
 returns-in-Refused c = let a = c.args in

@@ -8,13 +8,13 @@ use Rattle.cell.specs.claims.Table.{drawn_cells}
 use Rattle.cell.specs.work.Table.{middles_written}
 use Rattle.split.specs.work.Spots.{cells_stored, middles_at_cell}
 use Rattle.places.specs.work.Work.{rest_written}
-use Rattle.places.proofs.Middles.{rest-same, rest-none}
+use Rattle.places.proofs.Middles.{rest_same, rest_none}
 use Rattle.places.proofs.place_rest.Goals as goal
 
 pub returns-then-fans-eq0 : goal.returns-then-fans-eq0
 returns-then-fans-eq0 c = let A = c.args in
     let P = c.requires in
-    sym (rest-none A.cells.now A.counts.now A.names.now A.sides.now A.starts.now (sym P.0 ∙ c.if-inner-eq0.true) A.nodes.now A.area.now A.at (sym P.1 ∙ c.if-fans-eq0.true))
+    sym (rest_none A.cells.now A.counts.now A.names.now A.sides.now A.starts.now (sym P.0 ∙ c.if-inner-eq0.true) A.nodes.now A.area.now A.at (sym P.1 ∙ c.if-fans-eq0.true))
 
 pub drawn-n-requires : goal.drawn-n-requires
 drawn-n-requires c = tt
@@ -26,7 +26,7 @@ pub returns-then-inner-eq0 : goal.returns-then-inner-eq0
 returns-then-inner-eq0 c = let A = c.args in
     c.write_middles.ensures
     ∙ ap (middles_written A.cells.now A.counts.now A.names.now A.sides.now A.starts.now A.nodes.now 0 A.area.now A.at) (omega (arith, c.drawn-n.ensures))
-    ∙ rest-same A.cells.now A.counts.now A.names.now A.sides.now A.starts.now (sym c.requires.0 ∙ c.if-inner-eq0.true) A.nodes.now A.area.now A.at
+    ∙ rest_same A.cells.now A.counts.now A.names.now A.sides.now A.starts.now (sym c.requires.0 ∙ c.if-inner-eq0.true) A.nodes.now A.area.now A.at
 
 pub write_inner-i-requires : goal.write_inner-i-requires
 write_inner-i-requires c = tt

@@ -1,10 +1,10 @@
 use native.Mathlib.Omega.{arith}
 use borrow.Author.Rules.{rules}
-use Rattle.shading.proofs.Bytes.{byte-free, root_read, child_read}
+use Rattle.shading.proofs.Bytes.{byte_free, root_read, child_read}
 use Rattle.shading.proofs.byte_of.Goals as goal
 
 pub returns-then-links-x : goal.returns-then-links-x
-returns-then-links-x c = let a = c.args in byte-free a.links.now a.area.now a.x c.if-links-x.true
+returns-then-links-x c = let a = c.args in byte_free a.links.now a.area.now a.x c.if-links-x.true
 
 pub returns-then-p-x : goal.returns-then-p-x
 returns-then-p-x c = let a = c.args in

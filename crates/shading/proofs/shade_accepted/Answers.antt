@@ -2,7 +2,7 @@ use mathlib.Core.Path.{refl}
 use borrow.Author.Tests.{not-true, not-false}
 use borrow.Author.Rules.{rules}
 use Rattle.grid.specs.Grid.{built}
-use Rattle.grid.proofs.Nodes.{numbers-small}
+use Rattle.grid.proofs.Nodes.{numbers_small}
 use Rattle.shading.proofs.Calls.{all_unitable, in_19, in_20, in_forest, in_sides}
 use Rattle.shading.proofs.shade_accepted.Goals as goal
 
@@ -11,7 +11,7 @@ returns-then-area-ne-MOST_NODES c = let a = c.args in
     in_19 (built a.cells.now a.edges.now a.counts.now) a.area.now c.if-area-ne-MOST_NODES.true
 
 pub make_roots-requires : goal.make_roots-requires
-make_roots-requires c = record { fours = c.requires.fours; nodes = numbers-small (built c.args.cells.now c.args.edges.now c.args.counts.now) c.requires; blank = refl }
+make_roots-requires c = record { fours = c.requires.fours; nodes = numbers_small (built c.args.cells.now c.args.edges.now c.args.counts.now) c.requires; blank = refl }
 
 pub unite_all-requires : goal.unite_all-requires
 unite_all-requires c = all_unitable (built c.args.cells.now c.args.edges.now c.args.counts.now) c.requires _ c.make_roots.ensures

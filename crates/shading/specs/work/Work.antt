@@ -75,8 +75,8 @@ pub record Found (links : List ℕ) (x : ℕ) (links' : List ℕ) (r : ℕ) : Ty
 -- what `unite` starts from
 pub record Unitable (links : List ℕ) (u v : ℕ) : Type 0 where
   pub forest : Forest links
-  pub low-linked : HasLink links u
-  pub high-linked : HasLink links v
+  pub low_linked : HasLink links u
+  pub high_linked : HasLink links v
 
 -- the labels that fit are those that did and that agree with one more edge
 pub record Tied (links : List ℕ) (u v count : ℕ) (links' : List ℕ) : Type 0 where
@@ -95,8 +95,8 @@ pub record AllUnitable (edges counts links : List ℕ) : Type 0 where
   pub pairs : length edges ≡ 2 * length counts
   pub forest : Forest links
   pub fits : (h : ℕ → ℕ) → Fits links h
-  pub low-linked : (e : ℕ) → e < length counts → HasLink links (low edges e)
-  pub high-linked : (e : ℕ) → e < length counts → HasLink links (high edges e)
+  pub low_linked : (e : ℕ) → e < length counts → HasLink links (low edges e)
+  pub high_linked : (e : ℕ) → e < length counts → HasLink links (high edges e)
 
 -- the labels that fit are those that agree with the first n edges
 pub record TiedAll (edges counts links : List ℕ) (n : ℕ) (links' : List ℕ) : Type 0 where

@@ -1,7 +1,7 @@
 use native.Mathlib.Omega.{arith}
 use mathlib.Core.Path.{refl}
 use Rattle.slots.specs.Slots.{lo}
-use Rattle.slots.proofs.Slots.{low_first, low_then, low-none}
+use Rattle.slots.proofs.Slots.{low_first, low_then, low_none}
 use Rattle.slots.proofs.low_end.Goals as goal
 
 pub returns-then-k-lt3 : goal.returns-then-k-lt3
@@ -15,4 +15,4 @@ unfolding lo
 returns-then-k-eq5 c = (rw c.if-k-eq5.true refl, omega arith)
 
 pub returns-else-k-eq5 : goal.returns-else-k-eq5
-returns-else-k-eq5 c = (low-none _ (omega (arith, c.if-k-eq5.false)), omega arith)
+returns-else-k-eq5 c = (low_none _ (omega (arith, c.if-k-eq5.false)), omega arith)

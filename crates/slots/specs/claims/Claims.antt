@@ -8,24 +8,24 @@ pub record SlotEdge (s j : ℕ) : Type 0 where
   pub lt : slot_edge s j < 6
   pub place_is : edge_rank s (slot_edge s j) ≡ j
   pub on : (first_slot (slot_edge s j) ≡ s) ⊎ (second_slot (slot_edge s j) ≡ s)
-  pub lo-is : lo (slot_edge s j) ≡ position s (lower j)
-  pub hi-is : hi (slot_edge s j) ≡ position s (upper j)
+  pub lo_is : lo (slot_edge s j) ≡ position s (lower j)
+  pub hi_is : hi (slot_edge s j) ≡ position s (upper j)
   pub within : contains (slot_edge s j) s ≡ true
 
 -- edge k is an edge of slot s
 pub record EdgeSlot (k s : ℕ) : Type 0 where
   pub lt : s < 4
-  pub place-lt : edge_rank s k < 3
-  pub edge-is : slot_edge s (edge_rank s k) ≡ k
+  pub place_lt : edge_rank s k < 3
+  pub edge_is : slot_edge s (edge_rank s k) ≡ k
 
 -- edge k: its ends rise; two slots contain it, and the third node of the first is the lower
 pub record TwoSlots (k : ℕ) : Type 0 where
-  pub first-lt : first_slot k < 4
+  pub first_lt : first_slot k < 4
   pub second_lt : second_slot k < 4
-  pub first-has : contains k (first_slot k) ≡ true
-  pub second-has : contains k (second_slot k) ≡ true
+  pub first_has : contains k (first_slot k) ≡ true
+  pub second_has : contains k (second_slot k) ≡ true
   pub apart : second_slot k < first_slot k
-  pub lower-third : third_position k (first_slot k) < third_position k (second_slot k)
+  pub lower_third : third_position k (first_slot k) < third_position k (second_slot k)
   pub rising : lo k < hi k
   pub within : hi k < 4
 
@@ -33,8 +33,8 @@ pub record TwoSlots (k : ℕ) : Type 0 where
 pub record Third (k s : ℕ) : Type 0 where
   pub lt : third_position k s < 4
   pub not_omitted : third_position k s ≢ s
-  pub not-lo : third_position k s ≢ lo k
-  pub not-hi : third_position k s ≢ hi k
+  pub not_lo : third_position k s ≢ lo k
+  pub not_hi : third_position k s ≢ hi k
   pub other : contains k (other_slot k s) ≡ true
   pub back : other_slot k (other_slot k s) ≡ s
   pub only : (t : ℕ) → t < 4 → contains k t ≡ true → (t ≡ s) ⊎ (t ≡ other_slot k s)

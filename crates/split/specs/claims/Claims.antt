@@ -63,7 +63,7 @@ pub record NumbersAre (w : ℕ → ℕ) (t x y : ℕ) : Type 0 where
 -- again
 pub record SubCells (w : ℕ → ℕ) (v : ℕ → ℕ → ℕ) : Type 0 where
   pub omits-l : NumbersAre (v 3) (larger w - smaller w) (smaller w) (smaller w)
-  pub omits-k : NumbersAre (v 2) (smaller w) (next_larger (larger w) (smaller w)) (next_smaller (larger w) (smaller w))
+  pub omits_k : NumbersAre (v 2) (smaller w) (next_larger (larger w) (smaller w)) (next_smaller (larger w) (smaller w))
   pub omits-j : NumbersAre (v 1) (larger w) (smaller w) 0
   pub omits-i : NumbersAre (v 0) (2 * smaller w) (larger w - smaller w) 0
   pub others : (m : ℕ) → m < 4 → m ≢ 2 → is_spiral (v m) ≡ false

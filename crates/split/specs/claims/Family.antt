@@ -36,7 +36,7 @@ pub record Outer (A B : Local) (e : ℕ) : Type 0 where
 -- a part with the segment of the dart d of A, at the same crossing
 pub record Covered (A : Local) (m : ℕ) (B : ℕ → Local) (d : ℕ) : Type 0 where
   pub j : ℕ
-  pub j-lt : j < m
+  pub j_lt : j < m
   pub e : ℕ
   pub on : Joins (B j) e
   pub is : segment_of (B j) e ≡ segment_of A d
@@ -51,11 +51,11 @@ pub record Refines (A : Local) (m : ℕ) (B : ℕ → Local) (Face Point : ℕ �
   pub once : (j k d : ℕ) → j < m → k < m → j ≢ k → Joins A d → HasSegment (B j) (segment_of A d) → HasSegment (B k) (segment_of A d) → ⊥
   -- every other segment is on an inner face, and in exactly two parts
   pub kind : (j e : ℕ) → j < m → Joins (B j) e → Outer A (B j) e ⊎ Face ((B j).name (slot_of (B j) e))
-  pub inner-few : (j k l e : ℕ) → j < m → k < m → l < m → Joins (B j) e → Face ((B j).name (slot_of (B j) e)) → HasSegment (B k) (segment_of (B j) e) → HasSegment (B l) (segment_of (B j) e)
+  pub inner_few : (j k l e : ℕ) → j < m → k < m → l < m → Joins (B j) e → Face ((B j).name (slot_of (B j) e)) → HasSegment (B k) (segment_of (B j) e) → HasSegment (B l) (segment_of (B j) e)
       → j ≢ k → j ≢ l → k ≢ l → ⊥
-  pub inner-ends : (j k d e : ℕ) → j < m → k < m → Joins (B j) d → Joins (B k) e → Face ((B j).name (slot_of (B j) d)) → segment_of (B j) d ≡ segment_of (B k) e
+  pub inner_ends : (j k d e : ℕ) → j < m → k < m → Joins (B j) d → Joins (B k) e → Face ((B j).name (slot_of (B j) d)) → segment_of (B j) d ≡ segment_of (B k) e
       → SameEnds (B j) d (B k) e
-  pub inner-paired : (j e : ℕ) → j < m → Joins (B j) e → Face ((B j).name (slot_of (B j) e)) → (k : ℕ) × (k < m) × (k ≢ j) × HasSegment (B k) (segment_of (B j) e)
+  pub inner_paired : (j e : ℕ) → j < m → Joins (B j) e → Face ((B j).name (slot_of (B j) e)) → (k : ℕ) × (k < m) × (k ≢ j) × HasSegment (B k) (segment_of (B j) e)
   -- a crossing of a part is one of A's or an inner one; the parts at a crossing are linked
   pub points : (j g : ℕ) → j < m → Meets (B j) g → Meets A g ⊎ Point g
   pub linked : (g : ℕ) → PiecesLinked (record { size = m; at = B }) g

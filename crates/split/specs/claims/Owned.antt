@@ -91,13 +91,13 @@ pub record GridLaws (size : ℕ) (cells : ℕ → Cell) : Type 1 where
   pub lawful : Lawful (cell_complex size cells) → Lawful (grid_complex size cells)
   pub shut : Lawful (cell_complex size cells) → Shut (cell_complex size cells) → Shut (grid_complex size cells)
   pub linked : Lawful (cell_complex size cells) → (g : ℕ) → LinkedAt (cell_complex size cells) g → LinkedAt (grid_complex size cells) g
-  pub inner-linked : Lawful (cell_complex size cells) → (g : ℕ) → first_inner_crossing ≤ g → LinkedAt (grid_complex size cells) g
-  pub inner-has : (k g : ℕ) → k < size → is_split (count_of (cells k)) ≡ true → first_inner_crossing ≤ g
+  pub inner_linked : Lawful (cell_complex size cells) → (g : ℕ) → first_inner_crossing ≤ g → LinkedAt (grid_complex size cells) g
+  pub inner_has : (k g : ℕ) → k < size → is_split (count_of (cells k)) ≡ true → first_inner_crossing ≤ g
       → g < first_inner_crossing + inner_crossings (larger (count_of (cells k))) (smaller (count_of (cells k))) → (x : ℕ) × Has (grid_complex size cells) (owned first_inner_crossing k g) x
   -- a crossing of a cell that is joined there is one of the complex
-  pub outer-has : (g k : ℕ) → Has (cell_complex size cells) g k → (x : ℕ) × Has (grid_complex size cells) g x
+  pub outer_has : (g k : ℕ) → Has (cell_complex size cells) g k → (x : ℕ) × Has (grid_complex size cells) g x
   -- a segment of an inner face is in exactly two triangles, whether the complex is shut or not
-  pub inner-two : Lawful (cell_complex size cells) → (x d : ℕ) → x < (grid_complex size cells).pieces → Joins ((grid_complex size cells).at x) d
+  pub inner_two : Lawful (cell_complex size cells) → (x d : ℕ) → x < (grid_complex size cells).pieces → Joins ((grid_complex size cells).at x) d
       → first_inner_face ≤ ((grid_complex size cells).at x).name (slot_of ((grid_complex size cells).at x) d)
       → tally (has_side (segment_of ((grid_complex size cells).at x) d)) (mesh (grid_complex size cells)) ≡ 2
 

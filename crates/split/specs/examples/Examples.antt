@@ -597,6 +597,6 @@ counted = map (λ l. drawn_count (by_edge l)) ((4 ∷ 2 ∷ 6 ∷ 6 ∷ 2 ∷ 4 
 -- every example is as the definitions say
 pub record ExamplesHold : Type 0 where
   pub split : map computed examples ≡ examples
-  pub not-split : unsplit_computed ≡ unsplit
-  pub by-counts : counted ≡ 52 ∷ 56 ∷ 8 ∷ []
-  pub by-numbers : figures ≡ 2045 ∷ 8384500 ∷ 16793556 ∷ 3 ∷ 60 ∷ 196 ∷ []
+  pub not_split : unsplit_computed ≡ unsplit
+  pub by_counts : counted ≡ 52 ∷ 56 ∷ 8 ∷ []
+  pub by_numbers : figures ≡ 2045 ∷ 8384500 ∷ 16793556 ∷ 3 ∷ 60 ∷ 196 ∷ []

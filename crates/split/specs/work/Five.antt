@@ -27,7 +27,7 @@ module _ (c : Cell) where
     pub k : ℕ
     pub t : ℕ
     pub k_lt : k < 6
-    pub t-lt : t < count_of c k
+    pub t_lt : t < count_of c k
     pub gone : (t < least_corner (count_of c) (lo k)) ⊎ (count_of c k ≤ t + least_corner (count_of c) (hi k))
     pub is : g ≡ start_of c k + t
 

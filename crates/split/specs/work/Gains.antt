@@ -34,7 +34,7 @@ module _ (counts sides : List ℕ) where
   pub record AreSums (n crossings splits more : ℕ) : Type 0 where
     pub crossings_are : crossings ≡ total (table_crossings counts sides) n 0
     pub splits_are : splits ≡ total splits_at n 0
-    pub more-is : more ≡ total more_at n 0
-    pub few-crossings : crossings ≤ most_triangles
+    pub more_is : more ≡ total more_at n 0
+    pub few_crossings : crossings ≤ most_triangles
     pub few-splits : splits ≤ most_count * most_cells
-    pub few-more : more ≤ most_more * most_cells
+    pub few_more : more ≤ most_more * most_cells

@@ -57,35 +57,35 @@ pub record Split (A own : Local) (sub : ℕ → Local) (Φ Ψ : ℕ → Facet) (
   pub own-piece : Piece own
   pub sub-piece : (M : ℕ) → M < 4 → Piece (sub M)
   pub slots : A.slots ≡ 4
-  pub own-slots : own.slots ≡ 4
-  pub sub-slots : (M : ℕ) → M < 4 → (sub M).slots ≡ 4
-  pub own-whole : Whole own
-  pub sub-whole : (M : ℕ) → M < 4 → Whole (sub M)
+  pub own_slots : own.slots ≡ 4
+  pub sub_slots : (M : ℕ) → M < 4 → (sub M).slots ≡ 4
+  pub own_whole : Whole own
+  pub sub_whole : (M : ℕ) → M < 4 → Whole (sub M)
   -- what each slot shows
   pub shows : (s : ℕ) → s < 4 → Shows (Φ s) A s Any
-  pub own-shows : (s : ℕ) → s < 4 → Shows (Φ s) own s Went
-  pub rest-shows : (M : ℕ) → M < 4 → Shows (Φ M) (sub M) 0 Stays
-  pub inner-shows : (M j : ℕ) → M < 4 → j < 3 → Shows (Ψ (slot_edge M j)) (sub M) (3 - j) Any
+  pub own_shows : (s : ℕ) → s < 4 → Shows (Φ s) own s Went
+  pub rest_shows : (M : ℕ) → M < 4 → Shows (Φ M) (sub M) 0 Stays
+  pub inner_shows : (M j : ℕ) → M < 4 → j < 3 → Shows (Ψ (slot_edge M j)) (sub M) (3 - j) Any
   -- a crossing of an outer face went or stays, and so does its partner
   pub either : (s j t : ℕ) → s < 4 → OnFace (Φ s) j t → Went (num (Φ s) j t) ⊎ Stays (num (Φ s) j t)
   pub never : (g : ℕ) → Went g → Stays g → ⊥
   pub went_on : (s j t j' t' : ℕ) → s < 4 → Segment (Φ s) j t j' t' → Went (num (Φ s) j t) → Went (num (Φ s) j' t')
   pub stays_on : (s j t j' t' : ℕ) → s < 4 → Segment (Φ s) j t j' t' → Stays (num (Φ s) j t) → Stays (num (Φ s) j' t')
   -- names
-  pub outer-names : (s r : ℕ) → s < 4 → r < 4 → (Φ s).name ≡ (Φ r).name → s ≡ r
-  pub inner-names : (e f : ℕ) → e < 6 → f < 6 → (Ψ e).name ≡ (Ψ f).name → e ≡ f
-  pub apart-names : (s e : ℕ) → s < 4 → e < 6 → (Φ s).name ≢ (Ψ e).name
+  pub outer_names : (s r : ℕ) → s < 4 → r < 4 → (Φ s).name ≡ (Φ r).name → s ≡ r
+  pub inner_names : (e f : ℕ) → e < 6 → f < 6 → (Ψ e).name ≡ (Ψ f).name → e ≡ f
+  pub apart_names : (s e : ℕ) → s < 4 → e < 6 → (Φ s).name ≢ (Ψ e).name
   -- the new edges
-  pub arm-lo : (e : ℕ) → e < 6 → ((Ψ e).start 0 ≡ arm (lo e)) × ((Ψ e).size 0 ≡ long (lo e))
-  pub arm-hi : (e : ℕ) → e < 6 → ((Ψ e).start 1 ≡ arm (hi e)) × ((Ψ e).size 1 ≡ long (hi e))
+  pub arm_lo : (e : ℕ) → e < 6 → ((Ψ e).start 0 ≡ arm (lo e)) × ((Ψ e).size 0 ≡ long (lo e))
+  pub arm_hi : (e : ℕ) → e < 6 → ((Ψ e).start 1 ≡ arm (hi e)) × ((Ψ e).size 1 ≡ long (hi e))
   -- edge j of the outer face M is edge e = slot_edge M j: its crossings that stay are those of the inner face over e
   pub down : (M j v : ℕ) → M < 4 → j < 3 → v < (Ψ (slot_edge M j)).size 2
       → (t : ℕ) × OnFace (Φ M) j t × Stays (num (Φ M) j t) × (num (Φ M) j t ≡ num (Ψ (slot_edge M j)) 2 v)
   pub up : (M j t : ℕ) → M < 4 → OnFace (Φ M) j t → Stays (num (Φ M) j t) → (v : ℕ) × (v < (Ψ (slot_edge M j)).size 2) × (num (Φ M) j t ≡ num (Ψ (slot_edge M j)) 2 v)
   -- numbers tell edges apart
-  pub edge-once : (e f v w : ℕ) → e < 6 → f < 6 → v < (Ψ e).size 2 → w < (Ψ f).size 2 → num (Ψ e) 2 v ≡ num (Ψ f) 2 w → (e ≡ f) × (v ≡ w)
-  pub arm-once : (a b v w : ℕ) → a < 4 → b < 4 → v < long a → w < long b → arm a + v ≡ arm b + w → (a ≡ b) × (v ≡ w)
-  pub arm-edge : (a e v w : ℕ) → a < 4 → e < 6 → v < long a → w < (Ψ e).size 2 → arm a + v ≢ num (Ψ e) 2 w
+  pub edge_once : (e f v w : ℕ) → e < 6 → f < 6 → v < (Ψ e).size 2 → w < (Ψ f).size 2 → num (Ψ e) 2 v ≡ num (Ψ f) 2 w → (e ≡ f) × (v ≡ w)
+  pub arm_once : (a b v w : ℕ) → a < 4 → b < 4 → v < long a → w < long b → arm a + v ≡ arm b + w → (a ≡ b) × (v ≡ w)
+  pub arm_edge : (a e v w : ℕ) → a < 4 → e < 6 → v < long a → w < (Ψ e).size 2 → arm a + v ≢ num (Ψ e) 2 w
   -- no number of an arm is one of an outer face: `Went` and `Stays` are of outer numbers
   pub arm_stays : (a v : ℕ) → a < 4 → v < long a → Stays (arm a + v) → ⊥
   pub arm_went : (a v : ℕ) → a < 4 → v < long a → Went (arm a + v) → ⊥
@@ -100,7 +100,7 @@ pub record InnerPoint (arm long : ℕ → ℕ) (g : ℕ) : Type 0 where
   pub a : ℕ
   pub v : ℕ
   pub lt : a < 4
-  pub v-lt : v < long a
+  pub v_lt : v < long a
   pub is : g ≡ arm a + v
 
 -- the five parts: `own`, then the sub-cells that omit the positions om 0 to om 3

@@ -31,7 +31,7 @@ module _ (cell n b f : ℕ) (at : List Place) (c : Cell) where
 -- a nest, with six starts within their limit
 pub record Nesting (c : Cell) : Type 0 where
   pub near : Near c
-  pub starts-six : length c.starts ≡ 6
+  pub starts_six : length c.starts ≡ 6
   pub nest : nest_edge (count_of c) < 3
 
 -- the nodes numbered by position
@@ -64,9 +64,9 @@ pub record AreSpots (c : Cell) (inner more loops : ℕ) : Type 0 where
   pub inner_are : inner ≡ inner_by (count_of c)
   pub more_are : more ≡ fans_by (count_of c)
   pub loops_are : loops ≡ pick (is_split (count_of c)) (gcd (larger (count_of c)) (smaller (count_of c))) 0
-  pub few-inner : inner ≤ most_inner
-  pub few-more : more ≤ most_inner
-  pub few-loops : loops ≤ most_count
+  pub few_inner : inner ≤ most_inner
+  pub few_more : more ≤ most_inner
+  pub few_loops : loops ≤ most_count
 
 -- points stored in an area from point `at` on, where they have room there; and the next point
 abbrev pub points_stored : (area : List Float) (at : ℕ) (ps : List Place) → List Float × ℕ
@@ -88,7 +88,7 @@ module _ (counts sides : List ℕ) where
   pub record AreExtra (n inner fans : ℕ) : Type 0 where
     pub inner_are : inner ≡ total inner_in n 0
     pub fans_are : fans ≡ total added_in n 0
-    pub few-inner : inner ≤ most_inner * most_cells
+    pub few_inner : inner ≤ most_inner * most_cells
     pub few_fans : fans ≤ most_inner * most_cells
 
 -- the points of the cells of the tables, as they are written: inner crossings, and middles by counts

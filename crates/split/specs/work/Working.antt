@@ -21,13 +21,13 @@ use Rattle.split.specs.Parts.{parts, part_triangles, splits_of}
 -- a cell with six starts within their limit
 pub record StartsNear (c : Cell) : Type 0 where
   pub near : Near c
-  pub starts-six : length c.starts ≡ 6
+  pub starts_six : length c.starts ≡ 6
 
 -- a cell in which only rule 1 is met, with six counts, and six starts within their limit
 pub record LevelSix (c : Cell) : Type 0 where
   pub near : Near c
-  pub counts-six : length c.counts ≡ 6
-  pub starts-six : length c.starts ≡ 6
+  pub counts_six : length c.counts ≡ 6
+  pub starts_six : length c.starts ≡ 6
   pub level : is_level_cell (count_of c) ≡ true
 
 -- the own corner triangles at the four positions are listed
@@ -44,11 +44,11 @@ spoke_by x y n = get_or ((2 * y) ∷ x ∷ y ∷ (x - y) ∷ []) n 0
 
 -- s are the numbers of the cell
 pub record SpiralNumbers (c : Cell) (s : Spiral) : Type 0 where
-  pub larger-is : s.larger ≡ larger (count_of c)
-  pub smaller-is : s.smaller ≡ smaller (count_of c)
+  pub larger_is : s.larger ≡ larger (count_of c)
+  pub smaller_is : s.smaller ≡ smaller (count_of c)
   pub own_are : AreOwn (count_of c) s.own
   pub labels_are : (p : ℕ) → 0 < p → p < 4 → get_or s.label p 0 ≡ label_by (larger (count_of c)) (smaller (count_of c)) (left_between (count_of c) 0 p)
-  pub label-first : get_or s.label 0 0 ≡ 0
+  pub label_first : get_or s.label 0 0 ≡ 0
 
 -- and it is split
 pub record Spiraling (c : Cell) (s : Spiral) : Type 0 where
@@ -60,10 +60,10 @@ pub record Spiraling (c : Cell) (s : Spiral) : Type 0 where
 pub record Working (c : Cell) (s : Spiral) (cell n b f : ℕ) : Type 0 where
   pub is : Spiraling c s
   pub below : (e : ℕ) → e < 6 → start_of c e + count_of c e < start_limit
-  pub cell-lt : cell < word_step
-  pub n-few : n + 4 ≤ short_limit
-  pub b-few : b + 2 * (larger (count_of c) + smaller (count_of c)) < start_limit
-  pub f-few : f + 6 ≤ short_limit
+  pub cell_lt : cell < word_step
+  pub n_few : n + 4 ≤ short_limit
+  pub b_few : b + 2 * (larger (count_of c) + smaller (count_of c)) < start_limit
+  pub f_few : f + 6 ≤ short_limit
 
 -- what is asked of all splits that are left, so many
 pub record SplitsLeft (c : Cell) (cell n b f left : ℕ) : Type 0 where
@@ -71,17 +71,17 @@ pub record SplitsLeft (c : Cell) (cell n b f left : ℕ) : Type 0 where
   pub below : (e : ℕ) → e < 6 → start_of c e + count_of c e < start_limit
   pub some : 0 < smaller (count_of c)
   pub left_is : left ≡ splits (larger (count_of c)) (smaller (count_of c))
-  pub cell-lt : cell < word_step
-  pub n-few : n + 4 * left + 4 ≤ short_limit
-  pub b-few : b + inner_crossings (larger (count_of c)) (smaller (count_of c)) < start_limit
-  pub f-few : f + 6 * left ≤ short_limit
+  pub cell_lt : cell < word_step
+  pub n_few : n + 4 * left + 4 ≤ short_limit
+  pub b_few : b + inner_crossings (larger (count_of c)) (smaller (count_of c)) < start_limit
+  pub f_few : f + 6 * left ≤ short_limit
 
 -- a cell of a grid whose splits are known
 pub record Drawable (c : Cell) (splits : ℕ) : Type 0 where
-  pub counts-six : length c.counts ≡ 6
-  pub starts-six : length c.starts ≡ 6
+  pub counts_six : length c.counts ≡ 6
+  pub starts_six : length c.starts ≡ 6
   pub below : (e : ℕ) → e < 6 → start_of c e + count_of c e < start_limit
-  pub index-lt : c.index < word_step
+  pub index_lt : c.index < word_step
   pub splits_are : splits ≡ splits_of c
 
 -- the words of all parts

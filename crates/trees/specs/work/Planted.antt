@@ -66,7 +66,7 @@ pub record PairsMarked (pairs : List ℕ) (m : ℕ) (keys : List ℕ) (n e : ℕ
   pub room : n ≤ length tops
   pub same : length places ≡ length was
   pub own : (j : ℕ) → j < n → j + 1 ≡ top_at keys n j → get_or tops j 0 ≡ pick (ltb (pair_from pairs m keys e j) m) (j + 1 + met) (j + 1)
-  pub own-place : (j : ℕ) → j < n → j + 1 ≡ top_at keys n j → get_or places j 0 ≡ below_or m (pair_from pairs m keys e j) (get_or was j 0)
+  pub own_place : (j : ℕ) → j < n → j + 1 ≡ top_at keys n j → get_or places j 0 ≡ below_or m (pair_from pairs m keys e j) (get_or was j 0)
   pub other : (j : ℕ) → j < n → j + 1 < top_at keys n j → get_or tops j 0 ≡ top_at keys n j
   pub other_place : (j : ℕ) → j < n → j + 1 < top_at keys n j → get_or places j 0 ≡ get_or was j 0
   pub rest : (j : ℕ) → n ≤ j → get_or places j 0 ≡ get_or was j 0

@@ -17,7 +17,7 @@ pub record Darts (M N : ℕ) (s rv cr : ℕ → ℕ) : Type 0 where
   pub rv_rv : (d : ℕ) → d < M → rv (rv d) ≡ d
   pub rv_ne : (d : ℕ) → d < M → rv d ≢ d
   pub back : (d : ℕ) → d < M → s d < M → s (rv (s d)) ≡ rv d
-  pub s-ne : (d : ℕ) → d < M → s d ≢ rv d
+  pub s_ne : (d : ℕ) → d < M → s d ≢ rv d
   pub cr_lt : (d : ℕ) → d < M → cr d < N
   pub cr_rv : (d : ℕ) → d < M → cr (rv d) ≡ cr d
   pub same : (d e : ℕ) → d < M → e < M → cr d ≡ cr e → (d ≡ e) ⊎ (d ≡ rv e)
@@ -35,7 +35,7 @@ pub record WalkLaws (N : ℕ) (s : ℕ → ℕ) : Type 0 where
   pub found : (p : ℕ) → p < N → 0 < size N s p → Loop (2 * N) s (2 * p) (size N s p) × Lowest s half (2 * p) (size N s p)
   pub finds : (p k : ℕ) → p < N → Loop (2 * N) s (2 * p) k → Lowest s half (2 * p) k → size N s p ≡ k
   -- a loop has one length, from each of its darts
-  pub one-length : (d k l i : ℕ) → Loop (2 * N) s d k → Loop (2 * N) s (it s i d) l → k ≡ l
+  pub one_length : (d k l i : ℕ) → Loop (2 * N) s d k → Loop (2 * N) s (it s i d) l → k ≡ l
   -- each crossing is on at most one listed loop, once
   pub most : (x : ℕ) → tally (of_crossing x) (flat N s) ≤ 1
   -- each crossing of a closed curve is on exactly one, whatever other curves do; each crossing, where no curve ends

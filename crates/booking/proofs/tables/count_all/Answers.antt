@@ -1,6 +1,6 @@
 use native.Mathlib.Omega.{arith}
 use borrow.Author.Rules.{rules}
-use Rattle.booking.proofs.Totals.{all-counted, all_most}
+use Rattle.booking.proofs.Totals.{all_counted, all_most}
 use Rattle.booking.proofs.tables.count_all.Goals as goal
 
 pub totals_of-totals-requires : goal.totals_of-totals-requires
@@ -13,6 +13,6 @@ pub returns : goal.returns
 returns c = let A = c.args in
     let T = c.totals_of-totals.ensures in
     let n = c.count_others.ensures.0 in
-    let sum = all-counted A.cells.now A.counts.now A.names.now A.sides.now A.starts.now in
+    let sum = all_counted A.cells.now A.counts.now A.names.now A.sides.now A.starts.now in
     let most = all_most A.cells.now A.counts.now A.names.now A.sides.now A.starts.now in
     (omega (arith, T, n, sum), omega (arith, T, n, sum, most))

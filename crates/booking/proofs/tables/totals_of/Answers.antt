@@ -15,70 +15,70 @@ use Rattle.cell.specs.work.Limits.{most_in_cell}
 use Rattle.cell.specs.Level.{by_edge, is_level_cell}
 use Rattle.cell.specs.Common.{is_common}
 use Rattle.cell.specs.claims.Table.{taken_counts, drawn_cells}
-use Rattle.cell.proofs.Values.{taken-crossings}
+use Rattle.cell.proofs.Values.{taken_crossings}
 use Rattle.cases.specs.claims.Cases.{entries}
 use Rattle.cases.specs.claims.Tally.{find_entry, triangles_at, find_entry_at}
 use Rattle.cases.specs.work.Tally.{triangles_for, Tallied}
 use Rattle.cases.proofs.Digits.{answered, unanswered}
-use Rattle.cases.proofs.Tally.{tallied-none, tallied-more, tallied_past, tallied-few, tallied-sum}
+use Rattle.cases.proofs.Tally.{tallied_none, tallied_more, tallied_past, tallied_few, tallied_sum}
 use Rattle.booking.specs.declared.Fans.{Fans}
 use Rattle.booking.specs.claims.Booking.{booked}
 use Rattle.booking.specs.work.Fans.{fans_numbers, fans_answer}
 use Rattle.booking.specs.work.Totals.{booked_triangles, walked_crossings, common_at, booked_at, known_at, crossings_at}
-use Rattle.booking.proofs.Totals.{triangles-told, crossings-told, booked-most, crossings-most, none-booked, none-walked, all-booked, all-walked, placed, known-few}
+use Rattle.booking.proofs.Totals.{triangles_told, crossings_told, booked_most, crossings_most, none_booked, none_walked, all_booked, all_walked, placed, known_few}
 use Rattle.booking.proofs.tables.totals_of.Invariants.{Had}
 use Rattle.booking.proofs.tables.totals_of.Goals as goal
 
 -- a cell
 module _ (counts sides : List ℕ) (c : ℕ) {six : List ℕ} (e : six ≡ taken_counts counts sides c) where
-  is-place : (k : ℕ) → k ≡ find_entry (by_edge six) → k ≡ find_entry_at counts sides c
+  is_place : (k : ℕ) → k ≡ find_entry (by_edge six) → k ≡ find_entry_at counts sides c
   unfolding find_entry_at
-  is-place k f = f ∙ ap (λ l. find_entry (by_edge l)) e
+  is_place k f = f ∙ ap (λ l. find_entry (by_edge l)) e
 
   is-common : (k : ℕ) → k ≡ find_entry (by_edge six) → k < entries → is_common (by_edge (taken_counts counts sides c)) ≡ true
   unfolding find_entry_at
-  is-common k f h = (answered (by_edge (taken_counts counts sides c)) k (is-place k f) h).0
+  is-common k f h = (answered (by_edge (taken_counts counts sides c)) k (is_place k f) h).0
 
-  is-outside : (k : ℕ) → k ≡ find_entry (by_edge six) → entries ≤ k → is_common (by_edge (taken_counts counts sides c)) ≡ false
+  is_outside : (k : ℕ) → k ≡ find_entry (by_edge six) → entries ≤ k → is_common (by_edge (taken_counts counts sides c)) ≡ false
   unfolding find_entry_at
-  is-outside k f h = unanswered (by_edge (taken_counts counts sides c)) k (is-place k f) h
+  is_outside k f h = unanswered (by_edge (taken_counts counts sides c)) k (is_place k f) h
 
   module _ (j : Fans) (told : fans_numbers j ≡ fans_answer (by_edge six)) (out : is_common (by_edge (taken_counts counts sides c)) ≡ false) where
-    is-booked : {x : ℕ} → x ≡ booked_triangles j → x ≡ booked_at counts sides c
-    is-booked f = f ∙ triangles-told (by_edge six) j told ∙ ap (λ l. pick (is_level_cell (by_edge l)) (booked (by_edge l)) 0) e ∙ all-booked counts sides c out
+    is_booked : {x : ℕ} → x ≡ booked_triangles j → x ≡ booked_at counts sides c
+    is_booked f = f ∙ triangles_told (by_edge six) j told ∙ ap (λ l. pick (is_level_cell (by_edge l)) (booked (by_edge l)) 0) e ∙ all_booked counts sides c out
 
-    is-walked : {x : ℕ} → x ≡ walked_crossings j (by_edge six) → x ≡ crossings_at counts sides c
-    is-walked f =
-        f ∙ crossings-told (by_edge six) j told ∙ ap (λ l. pick (is_level_cell (by_edge l)) 0 (pre (by_edge l) 6)) e
-        ∙ ap (pick (is_level_cell (by_edge (taken_counts counts sides c))) 0) (taken-crossings counts sides c) ∙ all-walked counts sides c out
+    is_walked : {x : ℕ} → x ≡ walked_crossings j (by_edge six) → x ≡ crossings_at counts sides c
+    is_walked f =
+        f ∙ crossings_told (by_edge six) j told ∙ ap (λ l. pick (is_level_cell (by_edge l)) 0 (pre (by_edge l) 6)) e
+        ∙ ap (pick (is_level_cell (by_edge (taken_counts counts sides c))) 0) (taken_crossings counts sides c) ∙ all_walked counts sides c out
 
 -- one cell more: one that has an entry, and one that has none
 module _ (counts sides : List ℕ) {c : ℕ} {tally : List ℕ} {x y : ℕ} (H : Had counts sides c tally x y) {six : List ℕ} (e : six ≡ taken_counts counts sides c)
     (k : ℕ) (f : k ≡ find_entry (by_edge six)) where
-  one-common : k < entries → Had counts sides (c + 1) (set tally k (get_or tally k 0 + 1)) x y
-  one-common h =
+  one_common : k < entries → Had counts sides (c + 1) (set tally k (get_or tally k 0 + 1)) x y
+  one_common h =
       let C = is-common counts sides c e k f h in
       record {
-        tallied = tallied-more (find_entry_at counts sides) H.tallied k (is-place counts sides c e k f) h;
-        summed = rw (add-zero x) at (summed_more _ _ H.summed 0 (none-booked counts sides c C) (omega arith));
-        crossed = rw (add-zero y) at (summed_more _ _ H.crossed 0 (none-walked counts sides c C) (omega arith));
+        tallied = tallied_more (find_entry_at counts sides) H.tallied k (is_place counts sides c e k f) h;
+        summed = rw (add-zero x) at (summed_more _ _ H.summed 0 (none_booked counts sides c C) (omega arith));
+        crossed = rw (add-zero y) at (summed_more _ _ H.crossed 0 (none_walked counts sides c C) (omega arith));
       }
 
   one_outside : entries ≤ k → (i j : ℕ) → i ≡ booked_at counts sides c → j ≡ crossings_at counts sides c → Had counts sides (c + 1) tally (x + i) (y + j)
   one_outside h i j p q = record {
-    tallied = tallied_past (find_entry_at counts sides) H.tallied (omega (arith, is-place counts sides c e k f));
-    summed = summed_more _ _ H.summed i p (omega (arith, p, booked-most counts sides c));
-    crossed = summed_more _ _ H.crossed j q (omega (arith, q, crossings-most counts sides c));
+    tallied = tallied_past (find_entry_at counts sides) H.tallied (omega (arith, is_place counts sides c e k f));
+    summed = summed_more _ _ H.summed i p (omega (arith, p, booked_most counts sides c));
+    crossed = summed_more _ _ H.crossed j q (omega (arith, q, crossings_most counts sides c));
   }
 
 -- all of them
-sum-known : (counts sides : List ℕ) (n : ℕ) {tally : List ℕ} {x y : ℕ} → Had counts sides n tally x y → x + total (triangles_for tally) entries 0 ≡ total (known_at counts sides) n 0
+sum_known : (counts sides : List ℕ) (n : ℕ) {tally : List ℕ} {x y : ℕ} → Had counts sides n tally x y → x + total (triangles_for tally) entries 0 ≡ total (known_at counts sides) n 0
 unfolding known_at
-sum-known counts sides n H =
+sum_known counts sides n H =
     omega (
       arith,
       H.summed.is,
-      tallied-sum (find_entry_at counts sides) H.tallied,
+      tallied_sum (find_entry_at counts sides) H.tallied,
       total_ext (λ c. pick (ltb (find_entry_at counts sides c) entries) (triangles_at (find_entry_at counts sides c)) 0) (common_at counts sides) n 0 (λ c _ _. placed counts sides c),
       total_add (common_at counts sides) (booked_at counts sides) n 0,
     )
@@ -87,7 +87,7 @@ pub drawn-n-requires : goal.drawn-n-requires
 drawn-n-requires c = tt
 
 pub loop-c-init : goal.loop-c-init
-loop-c-init c = (omega arith, record { tallied = tallied-none _; summed = summed_none _ _; crossed = summed_none _ _ })
+loop-c-init c = (omega arith, record { tallied = tallied_none _; summed = summed_none _ _; crossed = summed_none _ _ })
 
 pub counts_at-six-requires : goal.counts_at-six-requires
 counts_at-six-requires c = tt
@@ -96,10 +96,10 @@ pub find_entry-e-requires : goal.find_entry-e-requires
 find_entry-e-requires c = tt
 
 pub overflow_add-tally : goal.overflow_add-tally
-overflow_add-tally c = omega (arith, tallied-few (find_entry_at _ _) c.loop-c.invariant.1.tallied c.find_entry-e.result (omega arith), c.drawn-n.ensures)
+overflow_add-tally c = omega (arith, tallied_few (find_entry_at _ _) c.loop-c.invariant.1.tallied c.find_entry-e.result (omega arith), c.drawn-n.ensures)
 
 pub loop-c-preserved-then-e-lt-ENTRIES : goal.loop-c-preserved-then-e-lt-ENTRIES
-loop-c-preserved-then-e-lt-ENTRIES c = (omega arith, one-common _ _ c.loop-c.invariant.1 c.counts_at-six.ensures _ c.find_entry-e.ensures.0 (omega arith))
+loop-c-preserved-then-e-lt-ENTRIES c = (omega arith, one_common _ _ c.loop-c.invariant.1 c.counts_at-six.ensures _ c.find_entry-e.ensures.0 (omega arith))
 
 pub fans_of-b-requires : goal.fans_of-b-requires
 fans_of-b-requires c = tt
@@ -111,13 +111,13 @@ pub overflow_add-booked : goal.overflow_add-booked
 overflow_add-booked c = let A = c.args in
     let L = c.loop-c in
     let e = c.counts_at-six.ensures in
-    let o = is-outside A.counts.now A.sides.now L.c e c.find_entry-e.result c.find_entry-e.ensures.0 (omega arith) in
+    let o = is_outside A.counts.now A.sides.now L.c e c.find_entry-e.result c.find_entry-e.ensures.0 (omega arith) in
     omega (
       arith,
       L.invariant.1.summed.few,
       c.drawn-n.ensures,
-      is-booked A.counts.now A.sides.now L.c e c.fans_of-b.result c.fans_of-b.ensures.0 o c.booked_in-booked.ensures,
-      booked-most A.counts.now A.sides.now L.c,
+      is_booked A.counts.now A.sides.now L.c e c.fans_of-b.result c.fans_of-b.ensures.0 o c.booked_in-booked.ensures,
+      booked_most A.counts.now A.sides.now L.c,
     )
 
 pub unbooked_in-crossings-requires : goal.unbooked_in-crossings-requires
@@ -127,13 +127,13 @@ pub overflow_add-crossings : goal.overflow_add-crossings
 overflow_add-crossings c = let A = c.args in
     let L = c.loop-c in
     let e = c.counts_at-six.ensures in
-    let o = is-outside A.counts.now A.sides.now L.c e c.find_entry-e.result c.find_entry-e.ensures.0 (omega arith) in
+    let o = is_outside A.counts.now A.sides.now L.c e c.find_entry-e.result c.find_entry-e.ensures.0 (omega arith) in
     omega (
       arith,
       L.invariant.1.crossed.few,
       c.drawn-n.ensures,
-      is-walked A.counts.now A.sides.now L.c e c.fans_of-b.result c.fans_of-b.ensures.0 o c.unbooked_in-crossings.ensures,
-      crossings-most A.counts.now A.sides.now L.c,
+      is_walked A.counts.now A.sides.now L.c e c.fans_of-b.result c.fans_of-b.ensures.0 o c.unbooked_in-crossings.ensures,
+      crossings_most A.counts.now A.sides.now L.c,
     )
 
 pub loop-c-preserved : goal.loop-c-preserved
@@ -141,12 +141,12 @@ loop-c-preserved c = let A = c.args in
     let L = c.loop-c in
     let e = c.counts_at-six.ensures in
     let P = c.find_entry-e in
-    let o = is-outside A.counts.now A.sides.now L.c e P.result P.ensures.0 (omega arith) in
+    let o = is_outside A.counts.now A.sides.now L.c e P.result P.ensures.0 (omega arith) in
     let j = c.fans_of-b in (
       omega arith,
       one_outside _ _ L.invariant.1 e P.result P.ensures.0 (omega arith) _ _
-          (is-booked A.counts.now A.sides.now L.c e j.result j.ensures.0 o c.booked_in-booked.ensures)
-          (is-walked A.counts.now A.sides.now L.c e j.result j.ensures.0 o c.unbooked_in-crossings.ensures),
+          (is_booked A.counts.now A.sides.now L.c e j.result j.ensures.0 o c.booked_in-booked.ensures)
+          (is_walked A.counts.now A.sides.now L.c e j.result j.ensures.0 o c.unbooked_in-crossings.ensures),
     )
 
 pub triangles_in-requires : goal.triangles_in-requires
@@ -161,10 +161,10 @@ returns c = let A = c.args in
     let H = L.invariant.1 in
     let d = c.drawn-n.ensures in
     let n : L.c ≡ drawn_cells A.cells.now = omega (arith, d) in
-    let t = ap (λ t. L.booked + t) c.triangles_in.ensures.0 ∙ sum-known _ _ L.c H ∙ ap (λ m. total (known_at A.counts.now A.sides.now) m 0) n in
+    let t = ap (λ t. L.booked + t) c.triangles_in.ensures.0 ∙ sum_known _ _ L.c H ∙ ap (λ m. total (known_at A.counts.now A.sides.now) m 0) n in
     record {
       triangles_are = t;
       crossings_are = summed_all _ _ H.crossed n;
-      few-triangles = omega (arith, t, known-few A.counts.now A.sides.now (drawn_cells A.cells.now) (omega arith));
-      few-crossings = omega (arith, H.crossed.few, d);
+      few_triangles = omega (arith, t, known_few A.counts.now A.sides.now (drawn_cells A.cells.now) (omega arith));
+      few_crossings = omega (arith, H.crossed.few, d);
     }

@@ -15,17 +15,17 @@ use Rattle.cell.specs.work.Limits.{most_in_cell}
 use Rattle.cell.specs.Level.{by_edge, is_level_cell}
 use Rattle.cell.specs.Common.{is_common}
 use Rattle.cell.specs.claims.Table.{taken_counts, drawn_cells}
-use Rattle.cell.proofs.Values.{taken-crossings}
+use Rattle.cell.proofs.Values.{taken_crossings}
 use Rattle.cases.specs.claims.Cases.{entries}
 use Rattle.cases.specs.claims.Tally.{find_entry, triangles_at, find_entry_at}
 use Rattle.cases.specs.work.Tally.{triangles_for, Tallied}
 use Rattle.cases.proofs.Digits.{answered, unanswered}
-use Rattle.cases.proofs.Tally.{tallied-none, tallied-more, tallied_past, tallied-few, tallied-sum}
+use Rattle.cases.proofs.Tally.{tallied_none, tallied_more, tallied_past, tallied_few, tallied_sum}
 use Rattle.booking.specs.declared.Fans.{Fans}
 use Rattle.booking.specs.claims.Booking.{booked}
 use Rattle.booking.specs.work.Fans.{fans_numbers, fans_answer}
 use Rattle.booking.specs.work.Totals.{booked_triangles, walked_crossings, common_at, booked_at, known_at, crossings_at}
-use Rattle.booking.proofs.Totals.{triangles-told, crossings-told, booked-most, crossings-most, none-booked, none-walked, all-booked, all-walked, placed, known-few}
+use Rattle.booking.proofs.Totals.{triangles_told, crossings_told, booked_most, crossings_most, none_booked, none_walked, all_booked, all_walked, placed, known_few}
 use Rattle.booking.proofs.tables.totals_of.Given as goal
 
 -- what is had of the first c cells

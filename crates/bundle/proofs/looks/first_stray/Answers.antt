@@ -4,7 +4,7 @@ use mathlib.Core.Bool.{Bool, false}
 use native.Mathlib.Decide.{dec_lt}
 use native.Mathlib.Omega.{arith}
 use Rattle.counting.specs.Search.{first}
-use Rattle.counting.proofs.Search.{first-is, first_below, first-at, none_first}
+use Rattle.counting.proofs.Search.{first_is, first_below, first_at, none_first}
 use Rattle.bundle.specs.Bundle.{first_stray}
 use Rattle.bundle.proofs.looks.first_stray.Goals as goal
 
@@ -18,7 +18,7 @@ module _ (t : ℕ → Bool) (m n : ℕ) (none : (i : ℕ) → i < m → t i ≡ 
       ]
 
   hit : (all : ℕ) → m + n ≤ all → j < n → m + j ≡ first t all
-  hit all b h = sym (first-at t all (m + j) (omega arith) (ap (λ x. t (m + x)) e ∙ first-is (λ i. t (m + i)) n (omega (arith, e, h))) below)
+  hit all b h = sym (first_at t all (m + j) (omega arith) (ap (λ x. t (m + x)) e ∙ first_is (λ i. t (m + i)) n (omega (arith, e, h))) below)
 
   miss : n ≤ j → (i : ℕ) → i < m + n → t i ≡ false
   miss h i l = below i (omega arith)

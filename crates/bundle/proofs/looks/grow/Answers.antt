@@ -3,7 +3,7 @@ use mathlib.Core.Path.{◌≡◌, refl}
 use native.Mathlib.Omega.{arith}
 use lib.ListN.{length-set}
 use Rattle.bundle.specs.work.Looked.{look_key, block_key}
-use Rattle.trees.proofs.Trees.{grown-none, tops-none, tops-more, top_le}
+use Rattle.trees.proofs.Trees.{grown_none, tops_none, tops_more, top_le}
 use Rattle.bundle.proofs.looks.grow.Goals as goal
 
 -- the place before i is the next
@@ -11,7 +11,7 @@ up : (i : ℕ) → 0 < i → i ≡ i - 1 + 1
 up i h = omega arith
 
 pub loop-i-init : goal.loop-i-init
-loop-i-init c = (omega arith, refl, refl, grown-none _ _ _ _ c.requires.room c.requires.blank, tops-none _ _ _ c.requires.tops_room)
+loop-i-init c = (omega arith, refl, refl, grown_none _ _ _ _ c.requires.room c.requires.blank, tops_none _ _ _ c.requires.tops_room)
 
 pub plant-p-requires : goal.plant-p-requires
 plant-p-requires c = let p = c.requires in
@@ -32,7 +32,7 @@ loop-i-preserved c = let l = c.loop-i.invariant in (
   omega (arith, c.links-1.given, l.1),
   simp length-set l.2,
   c.plant-p.ensures.tree,
-  tops-more _ _ _ _ _ (omega (arith, l.0, c.loop-i-test.true)) c.plant-p.ensures.value (rw (up _ c.loop-i-test.true) at l.4),
+  tops_more _ _ _ _ _ (omega (arith, l.0, c.loop-i-test.true)) c.plant-p.ensures.value (rw (up _ c.loop-i-test.true) at l.4),
 )
 
 pub shape_of-links : goal.shape_of-links

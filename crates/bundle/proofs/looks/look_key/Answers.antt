@@ -4,13 +4,13 @@ use native.Mathlib.Omega.{arith}
 use lib.ListN.{length}
 use Rattle.bundle.specs.work.Record.{look_size}
 use Rattle.bundle.specs.work.Looked.{key_at}
-use Rattle.bundle.proofs.Looked.{look-place, look-within}
+use Rattle.bundle.proofs.Looked.{look_place, look_within}
 use Rattle.bundle.proofs.looks.look_key.Goals as goal
 use Rattle.bundle.proofs.looks.look_key.Goals.{After-shared_slice_known-1}
 
 -- the look is within the bytes
 there : (c : After-shared_slice_known-1) → c.args.base + look_size * c.args.k + look_size ≤ length c.args.bytes.now
-there c = let p = c.requires in omega (arith, look-within c.args.bytes.now c.args.k p.within, p.begin)
+there c = let p = c.requires in omega (arith, look_within c.args.bytes.now c.args.k p.within, p.begin)
 
 pub overflow_mul-k : goal.overflow_mul-k
 overflow_mul-k c = omega (arith, there (goal.at.overflow_mul-k c).After-shared_slice_known-1)
@@ -24,5 +24,5 @@ key_at-requires c = omega (arith, there (goal.at.key_at-requires c).After-shared
 pub returns : goal.returns
 returns c = let p = c.requires in
     let a = c.args in
-    let e : a.base + look_size * a.k ≡ _ = ap (λ b. b + look_size * a.k) p.begin ∙ sym (look-place _ a.k (omega (arith, p.within))) in
+    let e : a.base + look_size * a.k ≡ _ = ap (λ b. b + look_size * a.k) p.begin ∙ sym (look_place _ a.k (omega (arith, p.within))) in
     c.key_at.ensures ∙ ap (key_at a.bytes.now) e

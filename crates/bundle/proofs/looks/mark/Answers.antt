@@ -5,7 +5,7 @@ use Rattle.trees.specs.work.Trees.{top_for}
 use Rattle.bundle.specs.work.Looked.{block_key}
 use Rattle.bundle.proofs.Runs.{walked}
 use Rattle.trees.proofs.Trees.{top_le}
-use Rattle.bundle.proofs.Looked.{marking_none, marking_more, edge-all, edge-whole, edge-ends, edge-next, edge-key}
+use Rattle.bundle.proofs.Looked.{marking_none, marking_more, edge_all, edge_whole, edge-ends, edge_next, edge-key}
 use Rattle.bundle.proofs.looks.mark.Goals as goal
 
 pub loop-k-init : goal.loop-k-init
@@ -21,7 +21,7 @@ pub bounds-met-p : goal.bounds-met-p
 bounds-met-p c = omega (arith, c.requires.room, c.loop-k.invariant.1.long, c.latest-p.ensures, top_le (block_key c.args.bytes.now c.args.m) c.args.n c.key_at-key.result)
 
 pub next_at-at-requires : goal.next_at-at-requires
-next_at-at-requires c = edge-whole _ _ _ _ _ c.requires.listed c.loop-k.invariant.0 c.loop-k-test.true
+next_at-at-requires c = edge_whole _ _ _ _ _ c.requires.listed c.loop-k.invariant.0 c.loop-k-test.true
 
 pub loop-k-preserved : goal.loop-k-preserved
 loop-k-preserved c = let p = c.requires in
@@ -29,7 +29,7 @@ loop-k-preserved c = let p = c.requires in
     let l = c.loop-k in
     let h = c.loop-k-test.true in
     let e = c.key_at-key.ensures ∙ edge-key _ _ _ _ _ p.listed l.invariant.0 h in (
-      edge-next _ _ _ _ _ p.listed l.invariant.0 h _ c.next_at-at.ensures,
+      edge_next _ _ _ _ _ p.listed l.invariant.0 h _ c.next_at-at.ensures,
       marking_more _ _ _ _ _ _ _ p.room (c.latest-p.ensures ∙ ap (top_for (block_key a.bytes.now a.m) a.n) e) l.invariant.1,
     )
 
@@ -39,5 +39,5 @@ shape_of-met c = c.loop-k.invariant.1.long
 pub returns : goal.returns
 returns c = let p = c.requires in
     let w = c.loop-k.invariant in
-    let e = edge-all _ _ _ _ _ p.listed w.0 (omega arith) in
+    let e = edge_all _ _ _ _ _ p.listed w.0 (omega arith) in
     record { room = omega (arith, p.room, w.1.long); at = rw e at w.1.marks }

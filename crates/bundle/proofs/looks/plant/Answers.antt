@@ -2,12 +2,12 @@ use Prim.Native.Nat.{◌+◌, ◌<◌}
 use mathlib.Core.Path.{◌≡◌, ◌∙◌}
 use native.Mathlib.Omega.{arith}
 use lib.ListN.{get_or}
-use Rattle.bundle.proofs.Looked.{look-few}
+use Rattle.bundle.proofs.Looked.{look_few}
 use Rattle.trees.proofs.Trees.{plant_top, plant_hit, plant_own, plant_new}
 use Rattle.bundle.proofs.looks.plant.Goals as goal
 
 pub overflow_add-m : goal.overflow_add-m
-overflow_add-m c = omega (arith, look-few c.args.bytes.now (c.args.m + c.args.i) (omega (arith, c.requires.part.within, c.requires.one)))
+overflow_add-m c = omega (arith, look_few c.args.bytes.now (c.args.m + c.args.i) (omega (arith, c.requires.part.within, c.requires.one)))
 
 pub look_key-key-requires : goal.look_key-key-requires
 look_key-key-requires c = record { begin = c.requires.part.begin; within = omega (arith, c.requires.part.within, c.requires.one) }

@@ -5,7 +5,7 @@ use native.Mathlib.Omega.{arith}
 use lib.ListN.{length}
 use Rattle.trees.specs.work.Trees.{trees}
 use Rattle.bundle.specs.work.Looked.{look_branches}
-use Rattle.bundle.proofs.Looked.{look-few}
+use Rattle.bundle.proofs.Looked.{look_few}
 use Rattle.trees.proofs.Trees.{descending_start, descending_end, descending_le, descending_hit, descending_less, descending_room, descending_more}
 use Rattle.bundle.proofs.looks.seek.Goals as goal
 use Rattle.bundle.proofs.looks.seek.Goals.{Else-look_key-key}
@@ -23,7 +23,7 @@ loop-j-init c = descending_start _ (omega arith) _ _ _ _ c.requires.tree _ _ c.w
 pub overflow_add-m : goal.overflow_add-m
 overflow_add-m c = let p = c.requires in
     let l = descending_le _ (omega arith) _ _ _ _ p.tree _ _ _ _ c.loop-j.invariant c.loop-j-test.true in
-    omega (arith, l, look-few c.args.bytes.now (c.args.m + (c.loop-j.j - 1)) (omega (arith, p.part.within, l, c.loop-j-test.true)))
+    omega (arith, l, look_few c.args.bytes.now (c.args.m + (c.loop-j.j - 1)) (omega (arith, p.part.within, l, c.loop-j-test.true)))
 
 pub look_key-requires : goal.look_key-requires
 look_key-requires c = let p = c.requires in

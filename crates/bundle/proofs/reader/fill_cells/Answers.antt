@@ -6,8 +6,8 @@ use Rattle.counting.specs.Lists.{over}
 use Rattle.counting.proofs.Stored.{stored_none, stored_long}
 use Rattle.bundle.specs.Record.{cell_kind, word_size, head_bytes, body}
 use Rattle.bundle.specs.Bundle.{cell_nodes, record_start, run, cells, edges_from, nodes_of, leading_words}
-use Rattle.bundle.proofs.Runs.{walked, here, walked-fits, walked_on}
-use Rattle.bundle.proofs.Fills.{cell-body, nodes_by, turn, filled-all}
+use Rattle.bundle.proofs.Runs.{walked, here, walked_fits, walked_on}
+use Rattle.bundle.proofs.Fills.{cell-body, nodes_by, turn, filled_all}
 use Rattle.bundle.proofs.reader.fill_cells.Goals as goal
 use Rattle.bundle.proofs.reader.fill_cells.Goals.{After-loop-k, In-loop-k}
 
@@ -23,7 +23,7 @@ size : (c : Turn) → length (body c.args.bytes.now c.loop-k.at) ≡ word_size *
 size c = cell-body _ _ (here _ 0 cell_kind _ _ c.loop-k.invariant.0 (below c))
 
 fits : (c : Turn) → c.loop-k.at + (head_bytes + length (body c.args.bytes.now c.loop-k.at)) ≤ length c.args.bytes.now
-fits c = walked-fits _ 0 cell_kind _ _ c.loop-k.invariant.0 (below c)
+fits c = walked_fits _ 0 cell_kind _ _ c.loop-k.invariant.0 (below c)
 
 space : (c : Turn) → cell_nodes * c.loop-k.k + cell_nodes ≤ length c.loop-k.nodes
 space c = omega (arith, c.requires.room, c.loop-k-test.true, stored_long c.loop-k.invariant.1)
@@ -69,4 +69,4 @@ returns c = let l = c.loop-k in
     let p = c.requires in
     let s = a.bytes.now in
     let e : l.k ≡ cells s = all_done (goal.at.returns c).After-loop-k in
-    record { value = l.invariant.0.reached ∙ ap (record_start s 0) e; nodes_after = filled-all (nodes_by s 0) l.k (cells s) l.invariant.1 e (omega (arith, e, p.all, p.room)) }
+    record { value = l.invariant.0.reached ∙ ap (record_start s 0) e; nodes_after = filled_all (nodes_by s 0) l.k (cells s) l.invariant.1 e (omega (arith, e, p.all, p.room)) }

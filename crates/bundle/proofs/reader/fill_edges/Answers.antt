@@ -7,8 +7,8 @@ use Rattle.counting.specs.Lists.{over}
 use Rattle.counting.proofs.Stored.{stored_none, stored_long}
 use Rattle.bundle.specs.Record.{head_bytes, count_place, word, body}
 use Rattle.bundle.specs.Bundle.{edge_ends, edge_section, record_start, run, edges, looks_from, ends_of, written_over, leading_words}
-use Rattle.bundle.proofs.Runs.{walked, here, walked-fits, walked_on}
-use Rattle.bundle.proofs.Fills.{edge_ge, ends_by, turn, count_turn, own-filled, filled-all}
+use Rattle.bundle.proofs.Runs.{walked, here, walked_fits, walked_on}
+use Rattle.bundle.proofs.Fills.{edge_ge, ends_by, turn, count_turn, own_filled, filled_all}
 use Rattle.bundle.proofs.reader.fill_edges.Goals as goal
 use Rattle.bundle.proofs.reader.fill_edges.Goals.{After-loop-k, In-loop-k}
 
@@ -27,7 +27,7 @@ size : (c : Turn) → count_place < length (body c.args.bytes.now c.loop-k.at)
 size c = edge_ge _ _ (here _ _ edge_section _ _ c.loop-k.invariant.0 (below c))
 
 fits : (c : Turn) → c.loop-k.at + (head_bytes + length (body c.args.bytes.now c.loop-k.at)) ≤ length c.args.bytes.now
-fits c = walked-fits _ _ edge_section _ _ c.loop-k.invariant.0 (below c)
+fits c = walked_fits _ _ edge_section _ _ c.loop-k.invariant.0 (below c)
 
 space : (c : Turn) → (edge_ends * c.loop-k.k + edge_ends ≤ length c.loop-k.ends) × (c.loop-k.k < length c.loop-k.counts)
 space c =
@@ -94,4 +94,4 @@ returns c = let l = c.loop-k in
     let p = c.requires in
     let s = a.bytes.now in
     let e : l.k ≡ edges s = all_done (goal.at.returns c).After-loop-k in
-    record { value = l.invariant.0.reached ∙ ap (record_start s a.from) e ∙ ap (λ n. record_start s n (edges s)) p.begin; ends_after = filled-all (ends_by s a.from) l.k (edges s) l.invariant.1 e (omega (arith, e, p.all, p.ends_room)) ∙ ap (λ n. written_over (over (ends_by s n) (edges s) 0) a.ends.now) p.begin; counts_after = own-filled s a.from l.k p.begin e l.invariant.2 }
+    record { value = l.invariant.0.reached ∙ ap (record_start s a.from) e ∙ ap (λ n. record_start s n (edges s)) p.begin; ends_after = filled_all (ends_by s a.from) l.k (edges s) l.invariant.1 e (omega (arith, e, p.all, p.ends_room)) ∙ ap (λ n. written_over (over (ends_by s n) (edges s) 0) a.ends.now) p.begin; counts_after = own_filled s a.from l.k p.begin e l.invariant.2 }

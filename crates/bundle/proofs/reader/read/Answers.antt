@@ -6,11 +6,11 @@ use native.Mathlib.Omega.{arith}
 use lib.ListN.{length, drop}
 use Rattle.answer.specs.Answer.{result_of}
 use Rattle.counting.specs.Stored.{filled}
-use Rattle.counting.proofs.Stored.{filled-again, filled-front}
-use Rattle.counting.proofs.Tables.{filled-table}
+use Rattle.counting.proofs.Stored.{filled_again, filled_front}
+use Rattle.counting.proofs.Tables.{filled_table}
 use Rattle.bundle.specs.Bundle.{cell_nodes, edge_ends, look_section, run, cells, edges, looks, count_after, surviving, counts_of, is_bundle, bundle_answer, written_over}
-use Rattle.bundle.proofs.Answers.{accepted, accepted-cells, accepted-edges, rejected, room, no_room, leaves-broken, leaves-short, leaves-lists}
-use Rattle.bundle.proofs.Fills.{length-counts}
+use Rattle.bundle.proofs.Answers.{accepted, accepted_cells, accepted_edges, rejected, room, no_room, leaves_broken, leaves_short, leaves_lists}
+use Rattle.bundle.proofs.Fills.{length_counts}
 use Rattle.bundle.proofs.reader.read.Goals as goal
 use Rattle.bundle.proofs.reader.read.Goals.{In-Lists}
 
@@ -37,10 +37,10 @@ good : (c : Good) → is_bundle (bytes c) ≡ true
 good c = accepted (bytes c) _ _ (told c)
 
 cells-are : (c : Good) → c.in-Lists.cells ≡ cells (bytes c)
-cells-are c = accepted-cells (bytes c) _ _ (told c)
+cells-are c = accepted_cells (bytes c) _ _ (told c)
 
 edges-are : (c : Good) → c.in-Lists.edges ≡ edges (bytes c)
-edges-are c = accepted-edges (bytes c) _ _ (told c)
+edges-are c = accepted_edges (bytes c) _ _ (told c)
 
 -- the counts that are left
 survive : (s old : List ℕ) {mid new : List ℕ} → edges s ≤ length old → mid ≡ filled (count_after s 0) (edges s) old → new ≡ filled (count_after s (looks s)) (edges s) mid
@@ -49,23 +49,23 @@ unfolding counts_of surviving
 survive s old {mid} {new} r p q =
     q
     ∙ ap (filled (count_after s (looks s)) (edges s)) p
-    ∙ filled-again (count_after s (looks s)) (count_after s 0) (edges s) old r
-    ∙ filled-front (count_after s (looks s)) (edges s) old r
-    ∙ ap (λ n. counts_of s ++ drop n old) (sym (length-counts s))
+    ∙ filled_again (count_after s (looks s)) (count_after s 0) (edges s) old r
+    ∙ filled_front (count_after s (looks s)) (edges s) old r
+    ∙ ap (λ n. counts_of s ++ drop n old) (sym (length_counts s))
 
 pub returns-then-nodes-cells : goal.returns-then-nodes-cells
 returns-then-nodes-cells c = let g = (goal.at.returns-then-nodes-cells c).In-Lists in
-    let l = leaves-short (bytes g) (nodes g) (ends g) (counts g) (good g) (no_room (bytes g) _ _ _ (λ x y z. omega (arith, c.if-nodes-cells.true, cells-are g, edges-are g))) in
+    let l = leaves_short (bytes g) (nodes g) (ends g) (counts g) (good g) (no_room (bytes g) _ _ _ (λ x y z. omega (arith, c.if-nodes-cells.true, cells-are g, edges-are g))) in
     record { answer = l.0; nodes = l.1.0; ends = l.1.1.0; counts = l.1.1.1 }
 
 pub returns-then-ends-edges : goal.returns-then-ends-edges
 returns-then-ends-edges c = let g = (goal.at.returns-then-ends-edges c).In-Lists in
-    let l = leaves-short (bytes g) (nodes g) (ends g) (counts g) (good g) (no_room (bytes g) _ _ _ (λ x y z. omega (arith, c.if-ends-edges.true, cells-are g, edges-are g))) in
+    let l = leaves_short (bytes g) (nodes g) (ends g) (counts g) (good g) (no_room (bytes g) _ _ _ (λ x y z. omega (arith, c.if-ends-edges.true, cells-are g, edges-are g))) in
     record { answer = l.0; nodes = l.1.0; ends = l.1.1.0; counts = l.1.1.1 }
 
 pub returns-then-counts-edges : goal.returns-then-counts-edges
 returns-then-counts-edges c = let g = (goal.at.returns-then-counts-edges c).In-Lists in
-    let l = leaves-short (bytes g) (nodes g) (ends g) (counts g) (good g) (no_room (bytes g) _ _ _ (λ x y z. omega (arith, c.if-counts-edges.true, cells-are g, edges-are g))) in
+    let l = leaves_short (bytes g) (nodes g) (ends g) (counts g) (good g) (no_room (bytes g) _ _ _ (λ x y z. omega (arith, c.if-counts-edges.true, cells-are g, edges-are g))) in
     record { answer = l.0; nodes = l.1.0; ends = l.1.1.0; counts = l.1.1.1 }
 
 pub fill_cells-from-requires : goal.fill_cells-from-requires
@@ -91,13 +91,13 @@ replace-requires c = let g = (goal.at.replace-requires c).In-Lists in
         begin = b;
         all = c.run_from-looks.ensures.0 ∙ ap (run (bytes g) look_section) b;
       };
-      counted = filled-table _ _ _ _ c.fill_edges-base.ensures.counts_after (omega (arith, edges-are g, c.if-counts-edges.false));
+      counted = filled_table _ _ _ _ c.fill_edges-base.ensures.counts_after (omega (arith, edges-are g, c.if-counts-edges.false));
     }
 
 pub returns-in-Refused : goal.returns-in-Refused
 returns-in-Refused c = let a = c.args in
     let t = c.in-Refused.ensures in
-    let l = leaves-broken a.bytes.now a.nodes.now a.ends.now a.counts.now (rejected a.bytes.now _ _ t) in
+    let l = leaves_broken a.bytes.now a.nodes.now a.ends.now a.counts.now (rejected a.bytes.now _ _ t) in
     record { answer = t ∙ l.0; nodes = l.1.0; ends = l.1.1.0; counts = l.1.1.1 }
 
 pub returns-else-counts-edges : goal.returns-else-counts-edges
@@ -105,6 +105,6 @@ returns-else-counts-edges c = let g = (goal.at.returns-else-counts-edges c).In-L
     let n : cell_nodes * cells (bytes g) ≤ length (nodes g) = omega (arith, cells-are g, c.if-nodes-cells.false) in
     let m : edge_ends * edges (bytes g) ≤ length (ends g) = omega (arith, edges-are g, c.if-ends-edges.false) in
     let k : edges (bytes g) ≤ length (counts g) = omega (arith, edges-are g, c.if-counts-edges.false) in
-    let l = leaves-lists (bytes g) (nodes g) (ends g) (counts g) (good g) (room (bytes g) _ _ _ n m k) in
+    let l = leaves_lists (bytes g) (nodes g) (ends g) (counts g) (good g) (room (bytes g) _ _ _ n m k) in
     let e = c.fill_edges-base.ensures in
     record { answer = told g ∙ l.0; nodes = c.fill_cells-from.ensures.nodes_after ∙ l.1.0; ends = e.ends_after ∙ l.1.1.0; counts = survive (bytes g) (counts g) k e.counts_after c.replace.ensures ∙ l.1.1.1 }

@@ -3,7 +3,7 @@ use mathlib.Core.Path.{sym, ap, ◌∙◌}
 use native.Mathlib.Omega.{arith}
 use Rattle.bundle.specs.Bundle.{section_of}
 use Rattle.bundle.proofs.OneRecord.{Found, found, not_found, stands, next_ge}
-use Rattle.bundle.proofs.Runs.{Going, going, on, arrived, is-of, none_of, other-of}
+use Rattle.bundle.proofs.Runs.{Going, going, on, arrived, is-of, none_of, other_of}
 use Rattle.bundle.proofs.reader.run_from.Goals as goal
 use Rattle.bundle.proofs.reader.run_from.Goals.{Else-section_of-section}
 
@@ -18,7 +18,7 @@ returns-in-Refused c = let l = c.loop-number in
 pub returns-then-section_of-section : goal.returns-then-section_of-section
 returns-then-section_of-section c = let l = c.loop-number in
     let t = found c.args.bytes.now l.at _ _ c.in-Whole.ensures in
-    (arrived _ _ _ _ _ l.invariant (other-of _ _ _ (λ h. c.if-section_of-section.true (c.section_of.ensures ∙ ap section_of t.kind_is ∙ h))), l.invariant.reached)
+    (arrived _ _ _ _ _ l.invariant (other_of _ _ _ (λ h. c.if-section_of-section.true (c.section_of.ensures ∙ ap section_of t.kind_is ∙ h))), l.invariant.reached)
 
 -- a whole record of the section was read
 told : (c : Else-section_of-section) → Found c.args.bytes.now c.loop-number.at c.in-Whole.kind c.in-Whole.next

@@ -9,9 +9,9 @@ use Rattle.bundle.specs.Record.{broken_row, next_record}
 use Rattle.bundle.specs.work.Record.{look_size}
 use Rattle.bundle.specs.Bundle.{end_section, section_of, is_of, cells, looks, look_at, stop, first_stray, stray_row}
 use Rattle.bundle.proofs.OneRecord.{Found, found, not_found}
-use Rattle.bundle.proofs.Runs.{is-of, none_of, other-of}
-use Rattle.bundle.proofs.Answers.{answer-open, answer-after, answer-stray, answer-lists}
-use Rattle.bundle.proofs.Looked.{look-place, look-within}
+use Rattle.bundle.proofs.Runs.{is-of, none_of, other_of}
+use Rattle.bundle.proofs.Answers.{answer_open, answer_after, answer_stray, answer_lists}
+use Rattle.bundle.proofs.Looked.{look_place, look_within}
 use Rattle.bundle.proofs.reader.scan.Goals as goal
 use Rattle.bundle.proofs.reader.scan.Goals.{Else-section_of-ne-END_SECTION, Then-k-l}
 
@@ -35,23 +35,23 @@ stray c =
     let w = c.layout_of-l.ensures in
     let e = c.first_stray-k.ensures in
     let l : first_stray s < looks s = omega (arith, e, w.looks_are, c.if-k-l.true) in
-    (omega (arith, look-place s (first_stray s) (omega arith), w.looks_begin, e), l)
+    (omega (arith, look_place s (first_stray s) (omega arith), w.looks_begin, e), l)
 
 within : (c : Then-k-l) → c.layout_of-l.result.edges.stop + look_size * c.first_stray-k.result + look_size ≤ length c.args.bytes.now
 within c =
     let s = c.args.bytes.now in
-    omega (arith, (stray c).0, look-place s (first_stray s) (omega (arith, (stray c).1)), look-within s (first_stray s) (stray c).1)
+    omega (arith, (stray c).0, look_place s (first_stray s) (omega (arith, (stray c).1)), look_within s (first_stray s) (stray c).1)
 
 pub returns-then-section_of-ne-END_SECTION : goal.returns-then-section_of-ne-END_SECTION
 returns-then-section_of-ne-END_SECTION c = let s = c.args.bytes.now in
     let e = c.layout_of-l.ensures.stops in
     let t = found s _ _ _ c.in-Whole.ensures in
-    ap (refusal broken_row) e ∙ sym (answer-open s (rw e at (other-of s end_section _ (λ h. c.if-section_of-ne-END_SECTION.true (c.section_of.ensures ∙ ap section_of t.kind_is ∙ h)))))
+    ap (refusal broken_row) e ∙ sym (answer_open s (rw e at (other_of s end_section _ (λ h. c.if-section_of-ne-END_SECTION.true (c.section_of.ensures ∙ ap section_of t.kind_is ∙ h)))))
 
 pub returns-then-next-bytes : goal.returns-then-next-bytes
 returns-then-next-bytes c = let r = (goal.at.returns-then-next-bytes c).Else-section_of-ne-END_SECTION in
     let n = next-is r in
-    ap (refusal broken_row) n ∙ sym (answer-after c.args.bytes.now (ended r) (λ h. omega (arith, c.if-next-bytes.true, n, h)))
+    ap (refusal broken_row) n ∙ sym (answer_after c.args.bytes.now (ended r) (λ h. omega (arith, c.if-next-bytes.true, n, h)))
 
 pub first_stray-k-requires : goal.first_stray-k-requires
 first_stray-k-requires c = let w = c.layout_of-l.ensures in
@@ -66,13 +66,13 @@ overflow_add-result c = omega (arith, within (goal.at.overflow_add-result c).The
 pub returns-then-k-l : goal.returns-then-k-l
 returns-then-k-l c = let r = (goal.at.returns-then-k-l c).Else-section_of-ne-END_SECTION in
     let k = stray (goal.at.returns-then-k-l c).Then-k-l in
-    ap (refusal stray_row) k.0 ∙ sym (answer-stray c.args.bytes.now (ended r) (sym (next-is r) ∙ c.if-next-bytes.false) k.1)
+    ap (refusal stray_row) k.0 ∙ sym (answer_stray c.args.bytes.now (ended r) (sym (next-is r) ∙ c.if-next-bytes.false) k.1)
 
 pub returns-in-Refused : goal.returns-in-Refused
 returns-in-Refused c = let s = c.args.bytes.now in
     let e = c.layout_of-l.ensures.stops in
     let n = not_found s _ _ _ c.in-Refused.ensures in
-    ap (refusal broken_row) e ∙ sym (answer-open s (rw e at (none_of s end_section _ n)))
+    ap (refusal broken_row) e ∙ sym (answer_open s (rw e at (none_of s end_section _ n)))
 
 pub returns-else-k-l : goal.returns-else-k-l
 returns-else-k-l c = let s = c.args.bytes.now in
@@ -80,4 +80,4 @@ returns-else-k-l c = let s = c.args.bytes.now in
     let w = c.layout_of-l.ensures in
     ap (λ (x : ℕ). result_of (x ∷ c.layout_of-l.result.edges.count ∷ [])) w.cells_are
     ∙ ap (λ (x : ℕ). result_of (cells s ∷ x ∷ [])) w.edges_are
-    ∙ sym (answer-lists s (ended r) (sym (next-is r) ∙ c.if-next-bytes.false) (omega (arith, c.first_stray-k.ensures, w.looks_are, c.if-k-l.false)))
+    ∙ sym (answer_lists s (ended r) (sym (next-is r) ∙ c.if-next-bytes.false) (omega (arith, c.first_stray-k.ensures, w.looks_are, c.if-k-l.false)))

@@ -6,7 +6,7 @@ use native.Mathlib.Omega.{arith}
 use lib.ListN.{length, take, drop}
 use Rattle.bundle.specs.Record.{head_bytes, record_numbers}
 use Rattle.bundle.specs.declared.Record.TheVariants.{Whole, Refused}
-use Rattle.bundle.proofs.OneRecord.{Found, found, not_found, stands, next_ge, body-whole, body-none}
+use Rattle.bundle.proofs.OneRecord.{Found, found, not_found, stands, next_ge, body_whole, body_none}
 use Rattle.bundle.proofs.records.body_at.Goals as goal
 use Rattle.bundle.proofs.records.body_at.Goals.{In-Whole}
 
@@ -50,11 +50,11 @@ slice_bounds-result-end c = omega (arith, within (goal.at.slice_bounds-result-en
 pub returns-in-Whole : goal.returns-in-Whole
 returns-in-Whole c = let b = (goal.at.returns-in-Whole c).In-Whole in
     let t = told b in
-    let e = body-whole (bytes b) (start b) t.whole in
+    let e = body_whole (bytes b) (start b) t.whole in
     record { contents = ap (λ (n : ℕ). take (n - (start b + head_bytes)) (drop (start b + head_bytes) (bytes b))) t.next_is ∙ e.0; place = (refl, ap (λ (n : ℕ). n + c.args.bytes.ref_ptr.1) e.1) }
 
 pub returns-in-Refused : goal.returns-in-Refused
 returns-in-Refused c = let a = c.args in
     let t : Refused c.in-Refused.number c.in-Refused.place ≡ c.record_at.result = cc in
-    let e = body-none a.bytes.now a.start (not_found a.bytes.now a.start _ _ (ap record_numbers t ∙ c.record_at.ensures)) in
+    let e = body_none a.bytes.now a.start (not_found a.bytes.now a.start _ _ (ap record_numbers t ∙ c.record_at.ensures)) in
     record { contents = e.0; place = (refl, sym (zero-add a.bytes.ref_ptr.1) ∙ ap (λ (n : ℕ). n + a.bytes.ref_ptr.1) e.1) }

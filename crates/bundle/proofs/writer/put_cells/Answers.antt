@@ -3,11 +3,11 @@ use mathlib.Core.Path.{◌≡◌}
 use native.Mathlib.Omega.{arith}
 use lib.ListN.{length}
 use Rattle.counting.specs.Lists.{over}
-use Rattle.counting.proofs.Fronts.{over-within}
+use Rattle.counting.proofs.Fronts.{over_within}
 use Rattle.counting.proofs.Stored.{stored_none, stored_more, stored_long}
 use Rattle.bundle.specs.Bundle.{cell_nodes}
 use Rattle.bundle.specs.Written.{cell_bytes}
-use Rattle.bundle.proofs.Writes.{length-cell}
+use Rattle.bundle.proofs.Writes.{length_cell}
 use Rattle.bundle.proofs.writer.put_cells.Goals as goal
 
 pub loop-k-init : goal.loop-k-init
@@ -18,7 +18,7 @@ pub put_cell-at-requires : goal.put_cell-at-requires
 put_cell-at-requires c = let l = c.loop-k in
     let nodes = c.args.nodes.now in
     let p = l.invariant.1 in
-    record { all = omega arith; room = omega (arith, over-within (cell_bytes nodes) (length nodes / cell_nodes) l.k (omega arith), length-cell nodes l.k, p.after, stored_long p, c.requires.room) }
+    record { all = omega arith; room = omega (arith, over_within (cell_bytes nodes) (length nodes / cell_nodes) l.k (omega arith), length_cell nodes l.k, p.after, stored_long p, c.requires.room) }
 
 pub loop-k-preserved : goal.loop-k-preserved
 loop-k-preserved c = let l = c.loop-k in

@@ -2,7 +2,7 @@ use mathlib.Core.Path.{◌≡◌}
 use native.Mathlib.Omega.{arith}
 use lib.ListN.{length}
 use Rattle.counting.specs.Lists.{over}
-use Rattle.counting.proofs.Fronts.{over-within}
+use Rattle.counting.proofs.Fronts.{over_within}
 use Rattle.counting.proofs.Stored.{stored_none, stored_more, stored_long}
 use Rattle.bundle.specs.Written.{edge_bytes}
 use Rattle.bundle.proofs.writer.put_edges.Goals as goal
@@ -16,7 +16,7 @@ put_edge-at-requires c = let l = c.loop-k in
     let ends = c.args.ends.now in
     let counts = c.args.counts.now in
     let p = l.invariant.1 in
-    record { pair = omega (arith, c.requires.pairs); all = omega arith; room = omega (arith, over-within (edge_bytes ends counts) (length counts) l.k (omega arith), p.after, stored_long p, c.requires.room) }
+    record { pair = omega (arith, c.requires.pairs); all = omega arith; room = omega (arith, over_within (edge_bytes ends counts) (length counts) l.k (omega arith), p.after, stored_long p, c.requires.room) }
 
 pub loop-k-preserved : goal.loop-k-preserved
 loop-k-preserved c = let l = c.loop-k in

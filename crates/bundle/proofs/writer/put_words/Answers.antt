@@ -5,7 +5,7 @@ use lib.ListN.{get_or}
 use Rattle.counting.specs.Lists.{over}
 use Rattle.counting.proofs.Stored.{stored_none, stored_more, stored_long}
 use Rattle.bundle.specs.Written.{word_bytes}
-use Rattle.bundle.proofs.Writes.{length-list}
+use Rattle.bundle.proofs.Writes.{length_list}
 use Rattle.bundle.proofs.writer.put_words.Goals as goal
 
 pub loop-i-init : goal.loop-i-init
@@ -24,7 +24,7 @@ bounds-list-from c = omega (arith, c.requires.all)
 pub put_word-next-requires : goal.put_word-next-requires
 put_word-next-requires c = let p = c.loop-i.invariant.1 in
     let a = c.args in
-    omega (arith, c.requires.room, stored_long p, p.after, length-list a.list.now a.from c.loop-i.i)
+    omega (arith, c.requires.room, stored_long p, p.after, length_list a.list.now a.from c.loop-i.i)
 
 pub loop-i-preserved : goal.loop-i-preserved
 loop-i-preserved c = let l = c.loop-i in

@@ -4,12 +4,12 @@ use native.Mathlib.Omega.{arith}
 use Rattle.cell.specs.work.Fits.{next_after, area_after}
 use Rattle.cell.specs.claims.Table.{table_cell}
 use Rattle.cell.specs.work.Walked.{Sized}
-use Rattle.cell.proofs.Fits.{next-all, area-all, Put, put-none, put-more}
+use Rattle.cell.proofs.Fits.{next_all, area_all, Put, put_none, put_more}
 use Rattle.cell.proofs.Using.{used_sized, sized_none, sized_on, sized_room}
 use Rattle.cell.proofs.drawing.put_in_all.Goals as goal
 
 pub loop-k-init : goal.loop-k-init
-loop-k-init c = ((omega arith, omega arith), sized_none _ _ _, put-none _ _ _ _)
+loop-k-init c = ((omega arith, omega arith), sized_none _ _ _, put_none _ _ _ _)
 
 pub counted_at-x-requires : goal.counted_at-x-requires
 counted_at-x-requires c = tt
@@ -26,16 +26,16 @@ overflow_add-k c = omega (arith, c.ranges)
 pub loop-k-preserved : goal.loop-k-preserved
 loop-k-preserved c = let I = c.loop-k.invariant in
     let w = c.put_in-i.ensures in
-    ((omega (arith, I.0), omega (arith, I.0)), sized_on I.1 (used_sized w.used), put-more _ _ _ _ I.0.0 I.2 c.counted_at-x.ensures.0 (w.value.0 ∙ next-all _ _ _) (w.value.1 ∙ area-all _ _ _))
+    ((omega (arith, I.0), omega (arith, I.0)), sized_on I.1 (used_sized w.used), put_more _ _ _ _ I.0.0 I.2 c.counted_at-x.ensures.0 (w.value.0 ∙ next_all _ _ _) (w.value.1 ∙ area_all _ _ _))
 
 pub shape_of-marks : goal.shape_of-marks
-shape_of-marks c = c.loop-k.invariant.1.marks-same
+shape_of-marks c = c.loop-k.invariant.1.marks_same
 
 pub shape_of-halves : goal.shape_of-halves
 shape_of-halves c = c.loop-k.invariant.1.halves_same
 
 pub shape_of-points : goal.shape_of-points
-shape_of-points c = c.loop-k.invariant.1.points-same
+shape_of-points c = c.loop-k.invariant.1.points_same
 
 pub shape_of-area : goal.shape_of-area
 shape_of-area c = c.loop-k.invariant.2.long

@@ -73,13 +73,13 @@ loop-c-preserved c = let A = c.args in
     )
 
 pub shape_of-marks : goal.shape_of-marks
-shape_of-marks c = c.loop-c.invariant.1.marks-same
+shape_of-marks c = c.loop-c.invariant.1.marks_same
 
 pub shape_of-halves : goal.shape_of-halves
 shape_of-halves c = c.loop-c.invariant.1.halves_same
 
 pub shape_of-points : goal.shape_of-points
-shape_of-points c = c.loop-c.invariant.1.points-same
+shape_of-points c = c.loop-c.invariant.1.points_same
 
 pub returns : goal.returns
 returns c = let I = c.loop-c.invariant in

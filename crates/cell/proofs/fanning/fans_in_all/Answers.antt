@@ -35,13 +35,13 @@ loop-c-preserved c = let L = c.loop-c in
     (omega arith, sized_on L.invariant.1 (used_sized N.used), summed_more _ _ L.invariant.2 _ (N.value.0 ∙ ap fan_count c.counted_at-x.ensures.0) N.value.1)
 
 pub shape_of-marks : goal.shape_of-marks
-shape_of-marks c = c.loop-c.invariant.1.marks-same
+shape_of-marks c = c.loop-c.invariant.1.marks_same
 
 pub shape_of-halves : goal.shape_of-halves
 shape_of-halves c = c.loop-c.invariant.1.halves_same
 
 pub shape_of-points : goal.shape_of-points
-shape_of-points c = c.loop-c.invariant.1.points-same
+shape_of-points c = c.loop-c.invariant.1.points_same
 
 pub returns : goal.returns
 unfolding table_fans

@@ -1,8 +1,8 @@
 use borrow.Author.Rules.{rules}
-use Rattle.cell.proofs.Using.{table-few}
+use Rattle.cell.proofs.Using.{table_few}
 use Rattle.cell.proofs.fanning.few_middles.Goals as goal
 
 pub middles_in_all-requires : goal.middles_in_all-requires
 middles_in_all-requires c k = let A = c.args in
-    let h = table-few A.counts.now A.sides.now k c.requires in
-    record { marks-long = h; halves_long = h; points-long = h }
+    let h = table_few A.counts.now A.sides.now k c.requires in
+    record { marks_long = h; halves_long = h; points_long = h }

@@ -3,7 +3,7 @@ use mathlib.Core.Path.{◌≡◌, ap, ◌∙◌}
 use native.Mathlib.Omega.{arith}
 use Rattle.cell.specs.work.Table.{middles_written}
 use Rattle.cell.specs.work.Walked.{Sized}
-use Rattle.cell.proofs.Fans.{written_none, written-more, written-long}
+use Rattle.cell.proofs.Fans.{written_none, written_more, written_long}
 use Rattle.cell.proofs.Using.{used_sized, sized_none, sized_on, sized_room}
 use Rattle.cell.proofs.fanning.middles_in_all.Goals as goal
 
@@ -27,20 +27,20 @@ pub loop-k-preserved : goal.loop-k-preserved
 loop-k-preserved c = let A = c.args in
     let L = c.loop-k in
     let w = c.middles_in-i.ensures in
-    ((omega (arith, L.invariant.0), omega (arith, L.invariant.0)), sized_on L.invariant.1 (used_sized w.used), written-more A.cells.now A.counts.now A.names.now A.sides.now A.starts.now A.nodes.now A.c A.area.now A.at L.k L.invariant.2 L.invariant.0.0 c.counted_at-x.ensures.0 w.value)
+    ((omega (arith, L.invariant.0), omega (arith, L.invariant.0)), sized_on L.invariant.1 (used_sized w.used), written_more A.cells.now A.counts.now A.names.now A.sides.now A.starts.now A.nodes.now A.c A.area.now A.at L.k L.invariant.2 L.invariant.0.0 c.counted_at-x.ensures.0 w.value)
 
 pub shape_of-marks : goal.shape_of-marks
-shape_of-marks c = c.loop-k.invariant.1.marks-same
+shape_of-marks c = c.loop-k.invariant.1.marks_same
 
 pub shape_of-halves : goal.shape_of-halves
 shape_of-halves c = c.loop-k.invariant.1.halves_same
 
 pub shape_of-points : goal.shape_of-points
-shape_of-points c = c.loop-k.invariant.1.points-same
+shape_of-points c = c.loop-k.invariant.1.points_same
 
 pub shape_of-area : goal.shape_of-area
 shape_of-area c = let A = c.args in
-    written-long A.cells.now A.counts.now A.names.now A.sides.now A.starts.now A.nodes.now A.c A.area.now A.at c.loop-k.k c.loop-k.invariant.2
+    written_long A.cells.now A.counts.now A.names.now A.sides.now A.starts.now A.nodes.now A.c A.area.now A.at c.loop-k.k c.loop-k.invariant.2
 
 pub returns : goal.returns
 returns c = let A = c.args in record { result_after = c.loop-k.invariant.2 ∙ ap (middles_written A.cells.now A.counts.now A.names.now A.sides.now A.starts.now A.nodes.now A.c A.area.now A.at) (omega (arith, c.loop-k.invariant.0)); sized = c.loop-k.invariant.1 }

@@ -1,6 +1,6 @@
 use borrow.Author.Rules.{rules}
 use native.Mathlib.Omega.{arith}
-use Rattle.cell.proofs.Using.{table-most}
+use Rattle.cell.proofs.Using.{table_most}
 use Rattle.cell.proofs.fanning.write_middles.Goals as goal
 
 pub few_middles-requires : goal.few_middles-requires
@@ -8,5 +8,5 @@ few_middles-requires c i = omega (arith, c.greatest.ensures i, c.if-greatest-le-
 
 pub middles_in_all-requires : goal.middles_in_all-requires
 middles_in_all-requires c k = let A = c.args in
-    let h = table-most A.counts.now A.sides.now k in
-    record { marks-long = h; halves_long = h; points-long = h }
+    let h = table_most A.counts.now A.sides.now k in
+    record { marks_long = h; halves_long = h; points_long = h }

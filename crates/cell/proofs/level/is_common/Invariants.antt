@@ -6,7 +6,7 @@ use native.Mathlib.Omega.{arith}
 use native.Mathlib.Decide.{dec_lt}
 use lib.Dec.{ltb}
 use borrow.Author.Tests.{lt-ltb, le-ltb}
-use Rattle.counting.proofs.Search.{is-every, every-not}
+use Rattle.counting.proofs.Search.{is_every, every_not}
 use Rattle.cell.specs.Level.{by_edge}
 use Rattle.cell.specs.Common.{digit_limit, is_common}
 use Rattle.cell.proofs.level.is_common.Given as goal

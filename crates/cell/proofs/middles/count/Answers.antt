@@ -12,7 +12,7 @@ pub routes_of-routes-requires : goal.routes_of-routes-requires
 routes_of-routes-requires c = c.requires.near
 
 pub clear-requires : goal.clear-requires
-clear-requires c = c.requires.long.marks-long
+clear-requires c = c.requires.long.marks_long
 
 pub loop-p-init : goal.loop-p-init
 unfolding count
@@ -34,13 +34,13 @@ pub loop-p-preserved : goal.loop-p-preserved
 loop-p-preserved c = (going_more c.loop-p.invariant.0 (omega arith) c.walk-w.ensures, fans_more (going_looped c.loop-p.invariant.0 (omega arith) c.walk-w.ensures) c.loop-p.invariant.1 c.fan_of-t.ensures)
 
 pub shape_of-marks : goal.shape_of-marks
-shape_of-marks c = (going_used c.loop-p.invariant.0 c.requires.long.marks-long c.clear.ensures).marks-kept.long
+shape_of-marks c = (going_used c.loop-p.invariant.0 c.requires.long.marks_long c.clear.ensures).marks_kept.long
 
 pub shape_of-halves : goal.shape_of-halves
-shape_of-halves c = (going_used c.loop-p.invariant.0 c.requires.long.marks-long c.clear.ensures).halves_kept.long
+shape_of-halves c = (going_used c.loop-p.invariant.0 c.requires.long.marks_long c.clear.ensures).halves_kept.long
 
 pub shape_of-points : goal.shape_of-points
-shape_of-points c = (going_used c.loop-p.invariant.0 c.requires.long.marks-long c.clear.ensures).points_kept.long
+shape_of-points c = (going_used c.loop-p.invariant.0 c.requires.long.marks_long c.clear.ensures).points_kept.long
 
 pub returns : goal.returns
-returns c = let G = c.loop-p.invariant.0 in record { value = fans_all _ c.loop-p.invariant.1 (omega (arith, G.up, G.all)) (omega (arith, G.all, G.few)); used = going_used G c.requires.long.marks-long c.clear.ensures }
+returns c = let G = c.loop-p.invariant.0 in record { value = fans_all _ c.loop-p.invariant.1 (omega (arith, G.up, G.all)) (omega (arith, G.all, G.few)); used = going_used G c.requires.long.marks_long c.clear.ensures }

@@ -7,4 +7,4 @@ pub returns-then-is_below : goal.returns-then-is_below
 returns-then-is_below c = let A = c.args in sym (below_placeable A.c A.at (sym c.is_below.ensures ∙ c.if-is_below.true))
 
 pub returns : goal.returns
-returns c = let A = c.args in placeable_is A.c A.at c.nest_in.ensures.edge-is (sym c.is_below.ensures ∙ c.if-is_below.false)
+returns c = let A = c.args in placeable_is A.c A.at c.nest_in.ensures.edge_is (sym c.is_below.ensures ∙ c.if-is_below.false)

@@ -5,7 +5,7 @@ use Rattle.counting.specs.work.Stored.{Stored}
 use Rattle.counting.proofs.Stored.{stored_none, stored_long}
 use Rattle.place.specs.Place.{coordinates}
 use Rattle.cell.proofs.Going.{Going, going_start, going_lent, going_more, going_looped, going_part, going_used}
-use Rattle.cell.proofs.Fans.{middle_of, middle-room, middle-next, middles-all}
+use Rattle.cell.proofs.Fans.{middle_of, middle_room, middle_next, middles_all}
 use Rattle.cell.proofs.middles.write_all.Goals as goal
 
 pub routes_of-routes-requires : goal.routes_of-routes-requires
@@ -15,7 +15,7 @@ pub nest_in-q-requires : goal.nest_in-q-requires
 nest_in-q-requires c = c.requires.room.all
 
 pub clear-requires : goal.clear-requires
-clear-requires c = c.requires.room.long.marks-long
+clear-requires c = c.requires.room.long.marks_long
 
 pub loop-p-init : goal.loop-p-init
 unfolding over
@@ -33,7 +33,7 @@ slice_bounds-put_middle-end-in-loop-p c = (going_part c.loop-p.invariant.0 (omeg
 pub put_middle-i-requires : goal.put_middle-i-requires
 put_middle-i-requires c = let A = c.args in
     let L = c.loop-p in
-    (c.nest_in-q.ensures.few, middle-room A.nodes.now A.c A.area.now A.at c.requires.middles_room L.i L.invariant.1 (going_looped L.invariant.0 (omega arith) c.walk-w.ensures))
+    (c.nest_in-q.ensures.few, middle_room A.nodes.now A.c A.area.now A.at c.requires.middles_room L.i L.invariant.1 (going_looped L.invariant.0 (omega arith) c.walk-w.ensures))
 
 pub overflow_add-p : goal.overflow_add-p
 overflow_add-p c = omega (arith, c.loop-p.invariant.0.few)
@@ -42,17 +42,17 @@ pub loop-p-preserved : goal.loop-p-preserved
 loop-p-preserved c = let A = c.args in
     let L = c.loop-p in (
       going_more L.invariant.0 (omega arith) c.walk-w.ensures,
-      middle-next A.nodes.now A.c A.area.now A.at c.requires.middles_room L.i L.invariant.1 (going_looped L.invariant.0 (omega arith) c.walk-w.ensures) c.nest_in-q.ensures c.put_middle-i.ensures,
+      middle_next A.nodes.now A.c A.area.now A.at c.requires.middles_room L.i L.invariant.1 (going_looped L.invariant.0 (omega arith) c.walk-w.ensures) c.nest_in-q.ensures c.put_middle-i.ensures,
     )
 
 pub shape_of-marks : goal.shape_of-marks
-shape_of-marks c = (going_used c.loop-p.invariant.0 c.requires.room.long.marks-long c.clear.ensures).marks-kept.long
+shape_of-marks c = (going_used c.loop-p.invariant.0 c.requires.room.long.marks_long c.clear.ensures).marks_kept.long
 
 pub shape_of-halves : goal.shape_of-halves
-shape_of-halves c = (going_used c.loop-p.invariant.0 c.requires.room.long.marks-long c.clear.ensures).halves_kept.long
+shape_of-halves c = (going_used c.loop-p.invariant.0 c.requires.room.long.marks_long c.clear.ensures).halves_kept.long
 
 pub shape_of-points : goal.shape_of-points
-shape_of-points c = (going_used c.loop-p.invariant.0 c.requires.room.long.marks-long c.clear.ensures).points_kept.long
+shape_of-points c = (going_used c.loop-p.invariant.0 c.requires.room.long.marks_long c.clear.ensures).points_kept.long
 
 pub shape_of-area : goal.shape_of-area
 shape_of-area c = stored_long c.loop-p.invariant.1
@@ -60,4 +60,4 @@ shape_of-area c = stored_long c.loop-p.invariant.1
 pub returns : goal.returns
 returns c = let G = c.loop-p.invariant.0 in
     let A = c.args in
-    record { stored = middles-all A.nodes.now A.c A.area.now A.at c.requires.middles_room c.loop-p.invariant.1 (omega (arith, G.up, G.all)); used = going_used G c.requires.room.long.marks-long c.clear.ensures }
+    record { stored = middles_all A.nodes.now A.c A.area.now A.at c.requires.middles_room c.loop-p.invariant.1 (omega (arith, G.up, G.all)); used = going_used G c.requires.room.long.marks_long c.clear.ensures }

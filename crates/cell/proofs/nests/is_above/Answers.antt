@@ -1,9 +1,9 @@
 use borrow.Author.Rules.{rules}
-use Rattle.cell.proofs.Nesting.{above_same, above-not}
+use Rattle.cell.proofs.Nesting.{above_same, above_not}
 use Rattle.cell.proofs.nests.is_above.Goals as goal
 
 pub returns-then-y-z : goal.returns-then-y-z
 returns-then-y-z c = above_same _ _ _ c.if-y-z.true
 
 pub returns-else-y-z : goal.returns-else-y-z
-returns-else-y-z c = above-not _ _ _ c.if-y-z.false
+returns-else-y-z c = above_not _ _ _ c.if-y-z.false

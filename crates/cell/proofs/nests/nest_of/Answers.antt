@@ -13,8 +13,8 @@ returns-then-e-eq3 c = none_is c.args.c c.no_nest.ensures (none_by_sums c.args.c
 pub nest_on-requires : goal.nest_on-requires
 nest_on-requires c = record {
   six_are = c.taken_of-six.ensures;
-  edge-is = edge_by c.args.c c.taken_of-six.ensures c.pair_of.ensures.0 c.pair_of-2.ensures.0 c.pair_of-3.ensures.0 c.above_of-e.ensures.0 (sym c.is_level.ensures ∙ c.if-is_level.true);
-  edge-lt = omega (arith, c.above_of-e.ensures.1, c.if-e-eq3.false);
+  edge_is = edge_by c.args.c c.taken_of-six.ensures c.pair_of.ensures.0 c.pair_of-2.ensures.0 c.pair_of-3.ensures.0 c.above_of-e.ensures.0 (sym c.is_level.ensures ∙ c.if-is_level.true);
+  edge_lt = omega (arith, c.above_of-e.ensures.1, c.if-e-eq3.false);
 }
 
 pub returns-then-is_level : goal.returns-then-is_level

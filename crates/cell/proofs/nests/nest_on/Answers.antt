@@ -1,17 +1,17 @@
 use borrow.Author.Rules.{rules}
 use native.Mathlib.Omega.{arith}
 use mathlib.Core.Path.{◌∙◌}
-use Rattle.cell.proofs.Nesting.{on-count, on-low}
+use Rattle.cell.proofs.Nesting.{on_count, on_low}
 use Rattle.cell.proofs.nests.nest_on.Goals as goal
 
 pub count_on-m-requires : goal.count_on-m-requires
-count_on-m-requires c = c.requires.edge-lt
+count_on-m-requires c = c.requires.edge_lt
 
 pub corner_on-own-requires : goal.corner_on-own-requires
-corner_on-own-requires c = c.requires.edge-lt
+corner_on-own-requires c = c.requires.edge_lt
 
 pub start_of-requires : goal.start_of-requires
-start_of-requires c = omega (arith, c.requires.edge-lt)
+start_of-requires c = omega (arith, c.requires.edge_lt)
 
 pub overflow_add-result : goal.overflow_add-result
 overflow_add-result c = omega (arith, c.wide32-start.ensures.1, c.corner_on-own.ensures.1, c.count_on-m.ensures.1)
@@ -21,8 +21,8 @@ overflow_add-result-2 c = omega (arith, c.wide32-start.ensures.1, c.corner_on-ow
 
 pub returns : goal.returns
 returns c = record {
-  edge-is = c.requires.edge-is;
-  count-is = λ l. on-count c.requires c.count_on-m.ensures.0;
-  low-is = λ l. on-low c.requires (c.wide32-start.ensures.0 ∙ c.start_of.ensures) c.corner_on-own.ensures.0 c.count_on-m.ensures.0;
+  edge_is = c.requires.edge_is;
+  count_is = λ l. on_count c.requires c.count_on-m.ensures.0;
+  low_is = λ l. on_low c.requires (c.wide32-start.ensures.0 ∙ c.start_of.ensures) c.corner_on-own.ensures.0 c.count_on-m.ensures.0;
   few = c.count_on-m.ensures.1;
 }

@@ -1,6 +1,6 @@
 use borrow.Author.Rules.{rules}
 use native.Mathlib.Omega.{arith}
-use Rattle.cell.proofs.Nesting.{nested-by}
+use Rattle.cell.proofs.Nesting.{nested_by}
 use Rattle.cell.proofs.nests.nested_middle.Goals as goal
 
 pub half_along-a-requires : goal.half_along-a-requires
@@ -11,4 +11,4 @@ overflow_cast-i c = omega (arith, c.minus-i.ensures, c.highest_on.ensures.1)
 
 pub returns : goal.returns
 returns c = let a = c.args in
-    nested-by a.c a.q a.nodes.now a.halves.now a.points.now c.interpolate.ensures c.half_along-a.ensures c.half_along-b.ensures c.part_of.ensures c.minus-i.ensures c.highest_on.ensures.0
+    nested_by a.c a.q a.nodes.now a.halves.now a.points.now c.interpolate.ensures c.half_along-a.ensures c.half_along-b.ensures c.part_of.ensures c.minus-i.ensures c.highest_on.ensures.0

@@ -6,7 +6,7 @@ use Rattle.counting.specs.work.Stored.{Stored}
 use Rattle.counting.proofs.Stored.{stored_none, stored_long}
 use Rattle.place.specs.Place.{coordinates}
 use Rattle.cell.proofs.Going.{Going, going_start, going_lent, going_more, going_looped, going_part, going_used}
-use Rattle.cell.proofs.Fans.{middle_of, fan_recorded, put-none, put_one, middle-room, middle-next, middles-all}
+use Rattle.cell.proofs.Fans.{middle_of, fan_recorded, put_none, put_one, middle_room, middle_next, middles_all}
 use Rattle.cell.proofs.part_middles.write_each.Goals as goal
 
 pub routes_of-routes-requires : goal.routes_of-routes-requires
@@ -16,7 +16,7 @@ pub nest_in-q-requires : goal.nest_in-q-requires
 nest_in-q-requires c = c.requires.room.all
 
 pub clear-requires : goal.clear-requires
-clear-requires c = c.requires.room.long.marks-long
+clear-requires c = c.requires.room.long.marks_long
 
 pub loop-p-init : goal.loop-p-init
 unfolding over
@@ -35,8 +35,8 @@ loop-p-preserved-then-fan_of-eq0 c = let A = c.args in
     let K = going_looped L.invariant.0 (omega arith) c.walk-w.ensures in
     let f = c.fan_of in (
       going_more L.invariant.0 (omega arith) c.walk-w.ensures,
-      middle-next A.nodes.now A.c A.area.now A.at c.requires.middles_room L.i L.invariant.1 K c.nest_in-q.ensures
-          (put-none A.c c.nest_in-q.result A.nodes.now _ _ _ L.area L.i f.result (fan_recorded K f.ensures) c.if-fan_of-eq0.true),
+      middle_next A.nodes.now A.c A.area.now A.at c.requires.middles_room L.i L.invariant.1 K c.nest_in-q.ensures
+          (put_none A.c c.nest_in-q.result A.nodes.now _ _ _ L.area L.i f.result (fan_recorded K f.ensures) c.if-fan_of-eq0.true),
     )
 
 pub slice_bounds-middle_in-end : goal.slice_bounds-middle_in-end
@@ -52,7 +52,7 @@ pub overflow_add-i : goal.overflow_add-i
 overflow_add-i c = let A = c.args in
     let L = c.loop-p in
     let K = going_looped L.invariant.0 (omega (arith, c.loop-p-test)) c.walk-w.ensures in
-    omega (arith, middle-room A.nodes.now A.c A.area.now A.at c.requires.middles_room L.i L.invariant.1 K, stored_long L.invariant.1, c.well_formed)
+    omega (arith, middle_room A.nodes.now A.c A.area.now A.at c.requires.middles_room L.i L.invariant.1 K, stored_long L.invariant.1, c.well_formed)
 
 pub overflow_add-p-in-loop-p : goal.overflow_add-p-in-loop-p
 overflow_add-p-in-loop-p c = omega (arith, c.loop-p.invariant.0.few)
@@ -64,19 +64,19 @@ loop-p-preserved c = let A = c.args in
     let K = going_looped L.invariant.0 (omega (arith, c.loop-p-test)) c.walk-w.ensures in
     let f = c.fan_of in (
       going_more L.invariant.0 (omega (arith, c.loop-p-test)) c.walk-w.ensures,
-      middle-next A.nodes.now A.c A.area.now A.at R L.i L.invariant.1 K c.nest_in-q.ensures
+      middle_next A.nodes.now A.c A.area.now A.at R L.i L.invariant.1 K c.nest_in-q.ensures
           (put_one A.c c.nest_in-q.result A.nodes.now _ _ _ L.area L.i f.result (fan_recorded K f.ensures) c.if-fan_of-eq0.false
-          (middle-room A.nodes.now A.c A.area.now A.at R L.i L.invariant.1 K) c.middle_in-v.ensures c.store.ensures),
+          (middle_room A.nodes.now A.c A.area.now A.at R L.i L.invariant.1 K) c.middle_in-v.ensures c.store.ensures),
     )
 
 pub shape_of-marks : goal.shape_of-marks
-shape_of-marks c = (going_used c.loop-p.invariant.0 c.requires.room.long.marks-long c.clear.ensures).marks-kept.long
+shape_of-marks c = (going_used c.loop-p.invariant.0 c.requires.room.long.marks_long c.clear.ensures).marks_kept.long
 
 pub shape_of-halves : goal.shape_of-halves
-shape_of-halves c = (going_used c.loop-p.invariant.0 c.requires.room.long.marks-long c.clear.ensures).halves_kept.long
+shape_of-halves c = (going_used c.loop-p.invariant.0 c.requires.room.long.marks_long c.clear.ensures).halves_kept.long
 
 pub shape_of-points : goal.shape_of-points
-shape_of-points c = (going_used c.loop-p.invariant.0 c.requires.room.long.marks-long c.clear.ensures).points_kept.long
+shape_of-points c = (going_used c.loop-p.invariant.0 c.requires.room.long.marks_long c.clear.ensures).points_kept.long
 
 pub shape_of-area : goal.shape_of-area
 shape_of-area c = stored_long c.loop-p.invariant.1
@@ -84,4 +84,4 @@ shape_of-area c = stored_long c.loop-p.invariant.1
 pub returns : goal.returns
 returns c = let G = c.loop-p.invariant.0 in
     let A = c.args in
-    record { stored = middles-all A.nodes.now A.c A.area.now A.at c.requires.middles_room c.loop-p.invariant.1 (omega (arith, G.up, G.all)); used = going_used G c.requires.room.long.marks-long c.clear.ensures }
+    record { stored = middles_all A.nodes.now A.c A.area.now A.at c.requires.middles_room c.loop-p.invariant.1 (omega (arith, G.up, G.all)); used = going_used G c.requires.room.long.marks_long c.clear.ensures }

@@ -3,7 +3,7 @@ use native.Mathlib.Omega.{arith}
 use Rattle.counting.proofs.Stored.{stored_long}
 use Rattle.manifold.specs.Shape.{fan}
 use Rattle.cell.specs.work.Traced.{traced_triangle}
-use Rattle.cell.proofs.Storing.{Run, run_none, run-place, run_more, run-all}
+use Rattle.cell.proofs.Storing.{Run, run_none, run_place, run_more, run_all}
 use Rattle.cell.proofs.parts.write_fan.Goals as goal
 
 pub loop-k-init : goal.loop-k-init
@@ -14,10 +14,10 @@ spoke_of-t-requires c = record { recorded_loop = c.requires.recorded_loop; k_lt_
 
 pub put-requires : goal.put-requires
 put-requires c = let R = c.loop-k.invariant.1 in
-    omega (arith, run-place R, stored_long R.stored, c.requires.n_in_bounds)
+    omega (arith, run_place R, stored_long R.stored, c.requires.n_in_bounds)
 
 pub overflow_add-i : goal.overflow_add-i
-overflow_add-i c = omega (arith, run-place c.loop-k.invariant.1, c.requires.n_in_bounds)
+overflow_add-i c = omega (arith, run_place c.loop-k.invariant.1, c.requires.n_in_bounds)
 
 pub overflow_add-k : goal.overflow_add-k
 overflow_add-k c = omega (arith, c.requires.recorded_loop.few)
@@ -29,4 +29,4 @@ pub shape_of-area : goal.shape_of-area
 shape_of-area c = stored_long c.loop-k.invariant.1.stored
 
 pub returns : goal.returns
-returns c = (omega (arith, run-place c.loop-k.invariant.1), run-all c.loop-k.invariant.1 _ (omega arith))
+returns c = (omega (arith, run_place c.loop-k.invariant.1), run_all c.loop-k.invariant.1 _ (omega arith))

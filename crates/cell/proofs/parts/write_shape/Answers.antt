@@ -2,7 +2,7 @@ use mathlib.Core.Path.{ap}
 use native.Mathlib.Omega.{arith}
 use borrow.Author.Rules.{rules}
 use Rattle.manifold.specs.Shape.{many_of}
-use Rattle.manifold.proofs.Shapes.{shape-three, shape-four, shape_else}
+use Rattle.manifold.proofs.Shapes.{shape_three, shape_four, shape_else}
 use Rattle.cell.proofs.LoopTriangles.{traced_as}
 use Rattle.cell.proofs.Shaped.{stored_single, stored_double, stored_fan}
 use Rattle.cell.proofs.parts.write_shape.Goals as goal
@@ -11,7 +11,7 @@ pub whole_of-t-requires : goal.whole_of-t-requires
 whole_of-t-requires c = traced_as c.if-n-eq3.true c.requires.recorded_loop
 
 pub put-requires : goal.put-requires
-put-requires c = omega (arith, ap (λ s. many_of s c.args.n) (shape-three c.args.n c.args.two c.if-n-eq3.true), c.requires.n_in_bounds)
+put-requires c = omega (arith, ap (λ s. many_of s c.args.n) (shape_three c.args.n c.args.two c.if-n-eq3.true), c.requires.n_in_bounds)
 
 pub returns-then-n-eq3 : goal.returns-then-n-eq3
 returns-then-n-eq3 c = let A = c.args in
@@ -22,22 +22,22 @@ half0_of-t-requires c = traced_as (c.requires.n_value c.if-two.true) c.requires.
 
 pub put-requires-then-two : goal.put-requires-then-two
 put-requires-then-two c = let t = c.if-two.true in
-    omega (arith, ap (λ s. many_of s c.args.n) (shape-four c.args.n c.args.two (c.requires.n_value t) t), c.requires.n_in_bounds)
+    omega (arith, ap (λ s. many_of s c.args.n) (shape_four c.args.n c.args.two (c.requires.n_value t) t), c.requires.n_in_bounds)
 
 pub half1_of-u-requires : goal.half1_of-u-requires
 half1_of-u-requires c = traced_as (c.requires.n_value c.if-two.true) c.requires.recorded_loop
 
 pub overflow_add-at : goal.overflow_add-at
 overflow_add-at c = let t = c.if-two.true in
-    omega (arith, ap (λ s. many_of s c.args.n) (shape-four c.args.n c.args.two (c.requires.n_value t) t), c.requires.n_in_bounds)
+    omega (arith, ap (λ s. many_of s c.args.n) (shape_four c.args.n c.args.two (c.requires.n_value t) t), c.requires.n_in_bounds)
 
 pub put-requires-then-two-2 : goal.put-requires-then-two-2
 put-requires-then-two-2 c = let t = c.if-two.true in
-    omega (arith, ap (λ s. many_of s c.args.n) (shape-four c.args.n c.args.two (c.requires.n_value t) t), c.requires.n_in_bounds)
+    omega (arith, ap (λ s. many_of s c.args.n) (shape_four c.args.n c.args.two (c.requires.n_value t) t), c.requires.n_in_bounds)
 
 pub overflow_add-result-then-two : goal.overflow_add-result-then-two
 overflow_add-result-then-two c = let t = c.if-two.true in
-    omega (arith, ap (λ s. many_of s c.args.n) (shape-four c.args.n c.args.two (c.requires.n_value t) t), c.requires.n_in_bounds)
+    omega (arith, ap (λ s. many_of s c.args.n) (shape_four c.args.n c.args.two (c.requires.n_value t) t), c.requires.n_in_bounds)
 
 pub returns-then-two : goal.returns-then-two
 returns-then-two c = let A = c.args in

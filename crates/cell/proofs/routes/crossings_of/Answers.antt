@@ -3,11 +3,11 @@ use native.Mathlib.Omega.{arith}
 use mathlib.Core.Path.{◌≡◌, ◌∙◌, ap}
 use Rattle.counting.specs.Lists.{pre}
 use Rattle.cell.specs.Of.{count_of, edges_of}
-use Rattle.cell.proofs.Route.{Sum, sum-none, sum_more}
+use Rattle.cell.proofs.Route.{Sum, sum_none, sum_more}
 use Rattle.cell.proofs.routes.crossings_of.Goals as goal
 
 pub loop-k-init : goal.loop-k-init
-loop-k-init c = (omega arith, sum-none)
+loop-k-init c = (omega arith, sum_none)
 
 pub overflow_add-n : goal.overflow_add-n
 overflow_add-n c = omega (arith, c.loop-k.invariant.1.few, c.count_at-n.ensures.1)

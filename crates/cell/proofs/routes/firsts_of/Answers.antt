@@ -1,11 +1,11 @@
 use Prim.Native.Nat.{◌-◌, ◌≤◌}
 use native.Mathlib.Omega.{arith}
 use Rattle.cell.specs.Of.{edges_of}
-use Rattle.cell.proofs.Route.{Rises, rises-one, rises-more, rises-all}
+use Rattle.cell.proofs.Route.{Rises, rises_one, rises_more, rises_all}
 use Rattle.cell.proofs.routes.firsts_of.Goals as goal
 
 pub loop-k-init : goal.loop-k-init
-loop-k-init c = (omega arith, omega arith, rises-one _ c.count_at-n.ensures)
+loop-k-init c = (omega arith, omega arith, rises_one _ c.count_at-n.ensures)
 
 pub laid_of-requires : goal.laid_of-requires
 laid_of-requires c = tt
@@ -20,7 +20,7 @@ pub overflow_add-n : goal.overflow_add-n
 overflow_add-n c = omega (arith, c.loop-k.invariant.2.sum.few, c.count_at-n-in-loop-k.ensures.1)
 
 pub loop-k-preserved : goal.loop-k-preserved
-loop-k-preserved c = (omega arith, omega arith, rises-more c.loop-k.invariant.2 (omega arith) (omega arith) (omega (arith, c.if-start_of.false, c.start_of-in-loop-k.ensures, c.start_of.ensures)) _ c.count_at-n-in-loop-k.ensures)
+loop-k-preserved c = (omega arith, omega arith, rises_more c.loop-k.invariant.2 (omega arith) (omega arith) (omega (arith, c.if-start_of.false, c.start_of-in-loop-k.ensures, c.start_of.ensures)) _ c.count_at-n-in-loop-k.ensures)
 
 pub returns : goal.returns
-returns c = rises-all c.loop-k.invariant.2 (omega arith)
+returns c = rises_all c.loop-k.invariant.2 (omega arith)

@@ -1,11 +1,11 @@
 use mathlib.Core.Path.{sym, ◌∙◌}
-use Rattle.cell.proofs.Route.{ahead-same, ahead-other}
+use Rattle.cell.proofs.Route.{ahead_same, ahead_other}
 use Rattle.cell.specs.Of.{edges_of}
 use borrow.Author.Rules.{rules}
 use Rattle.cell.proofs.routes.is_ahead.Goals as goal
 
 pub returns-then-a-b : goal.returns-then-a-b
-returns-then-a-b c = ahead-same (edges_of c.args.c) _ _ (sym c.start_of-a.ensures ∙ c.if-a-b.true ∙ c.start_of-b.ensures)
+returns-then-a-b c = ahead_same (edges_of c.args.c) _ _ (sym c.start_of-a.ensures ∙ c.if-a-b.true ∙ c.start_of-b.ensures)
 
 pub returns : goal.returns
-returns c = rw (c.start_of-a.ensures, c.start_of-b.ensures) (ahead-other (edges_of c.args.c) _ _ (rw (c.start_of-a.ensures, c.start_of-b.ensures) at c.if-a-b.false))
+returns c = rw (c.start_of-a.ensures, c.start_of-b.ensures) (ahead_other (edges_of c.args.c) _ _ (rw (c.start_of-a.ensures, c.start_of-b.ensures) at c.if-a-b.false))

@@ -2,11 +2,11 @@ use Prim.Native.Nat.{◌-◌, ◌≤◌}
 use native.Mathlib.Omega.{arith}
 use mathlib.Core.Path.{sym, ◌∙◌}
 use Rattle.cell.specs.Of.{edges_of}
-use Rattle.cell.proofs.Route.{SumBefore, before-none, before_more, before_skip, before-all}
+use Rattle.cell.proofs.Route.{SumBefore, before_none, before_more, before_skip, before_all}
 use Rattle.cell.proofs.routes.laid_before.Goals as goal
 
 pub loop-j-init : goal.loop-j-init
-loop-j-init c = (omega arith, before-none _)
+loop-j-init c = (omega arith, before_none _)
 
 pub is_ahead-requires : goal.is_ahead-requires
 is_ahead-requires c = record { k_bound = c.requires; j_bound = omega arith }
@@ -21,4 +21,4 @@ pub loop-j-preserved : goal.loop-j-preserved
 loop-j-preserved c = (omega arith, before_skip c.loop-j.invariant.1 (sym c.is_ahead.ensures ∙ c.if-is_ahead.false))
 
 pub returns : goal.returns
-returns c = before-all c.loop-j.invariant.1 (omega arith) (omega arith)
+returns c = before_all c.loop-j.invariant.1 (omega arith) (omega arith)

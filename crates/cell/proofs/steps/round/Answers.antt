@@ -1,20 +1,20 @@
 use native.Mathlib.Omega.{arith}
 use mathlib.Core.Path.{refl}
-use Rattle.cell.proofs.Ready.{spot, leads, turn-count, over-to, on-to}
+use Rattle.cell.proofs.Ready.{spot, leads, turn_count, over_to, on_to}
 use borrow.Author.Rules.{rules}
 use Rattle.cell.proofs.steps.round.Goals as goal
 
 pub overflow_sub-n : goal.overflow_sub-n
-overflow_sub-n c = omega (arith, c.route-n.ensures, turn-count c.requires.routed c.requires.turns, c.requires.turns.room)
+overflow_sub-n c = omega (arith, c.route-n.ensures, turn_count c.requires.routed c.requires.turns, c.requires.turns.room)
 
 pub overflow_sub-n-then-over : goal.overflow_sub-n-then-over
-overflow_sub-n-then-over c = omega (arith, c.route-n.ensures, turn-count c.requires.routed c.requires.turns, c.requires.turns.room)
+overflow_sub-n-then-over c = omega (arith, c.route-n.ensures, turn_count c.requires.routed c.requires.turns, c.requires.turns.room)
 
 pub onto-requires : goal.onto-requires
-onto-requires c = record { routed = c.requires.routed; spot = spot refl (over-to c.requires.routed c.requires.turns c.if-over.true _ c.route-n.ensures) }
+onto-requires c = record { routed = c.requires.routed; spot = spot refl (over_to c.requires.routed c.requires.turns c.if-over.true _ c.route-n.ensures) }
 
 pub returns-then-over : goal.returns-then-over
-returns-then-over c = leads refl (over-to c.requires.routed c.requires.turns c.if-over.true _ c.route-n.ensures) c.requires.turns.told c.onto.ensures
+returns-then-over c = leads refl (over_to c.requires.routed c.requires.turns c.if-over.true _ c.route-n.ensures) c.requires.turns.told c.onto.ensures
 
 pub returns : goal.returns
-returns c = leads refl (on-to c.requires.routed c.requires.turns c.if-over.false) c.requires.turns.told c.onto-2.ensures
+returns c = leads refl (on_to c.requires.routed c.requires.turns c.if-over.false) c.requires.turns.told c.onto-2.ensures

@@ -7,8 +7,8 @@ use Rattle.cell.specs.claims.Half.{edge_of}
 use Rattle.cell.proofs.tables.edge_of.Goals as goal
 
 -- the edge of both of its half-edges
-of-both : {h a b e : ℕ} → edge_of a ≡ e → edge_of b ≡ e → e < 6 → (h ≡ a) ⊎ (h ≡ b) → (e ≡ edge_of h) × (e < 6)
-of-both p q l is = (sym (⊎_elim (λ r. ap edge_of r ∙ p) (λ r. ap edge_of r ∙ q) is), l)
+of_both : {h a b e : ℕ} → edge_of a ≡ e → edge_of b ≡ e → e < 6 → (h ≡ a) ⊎ (h ≡ b) → (e ≡ edge_of h) × (e < 6)
+of_both p q l is = (sym (⊎_elim (λ r. ap edge_of r ∙ p) (λ r. ap edge_of r ∙ q) is), l)
 
 neither : {h a b : ℕ} → ((h ≡ a) ⊎ (h ≡ b) → ⊥) → (h ≢ a) × (h ≢ b)
 neither n = (λ q. n (inl q), λ q. n (inr q))
@@ -29,26 +29,26 @@ left h l a b c d e =
 
 pub returns-in-6 : goal.returns-in-6
 unfolding edge_of
-returns-in-6 c = of-both refl refl (omega arith) c.in-6.is
+returns-in-6 c = of_both refl refl (omega arith) c.in-6.is
 
 pub returns-in-3 : goal.returns-in-3
 unfolding edge_of
-returns-in-3 c = of-both refl refl (omega arith) c.in-3.is
+returns-in-3 c = of_both refl refl (omega arith) c.in-3.is
 
 pub returns-in-4 : goal.returns-in-4
 unfolding edge_of
-returns-in-4 c = of-both refl refl (omega arith) c.in-4.is
+returns-in-4 c = of_both refl refl (omega arith) c.in-4.is
 
 pub returns-in-0 : goal.returns-in-0
 unfolding edge_of
-returns-in-0 c = of-both refl refl (omega arith) c.in-0.is
+returns-in-0 c = of_both refl refl (omega arith) c.in-0.is
 
 pub returns-in-1 : goal.returns-in-1
 unfolding edge_of
-returns-in-1 c = of-both refl refl (omega arith) c.in-1.is
+returns-in-1 c = of_both refl refl (omega arith) c.in-1.is
 
 pub returns-in_default : goal.returns-in_default
 unfolding edge_of
 returns-in_default c = let r = c.in_default.in_default-own.rest in
-    of-both refl refl (omega arith)
+    of_both refl refl (omega arith)
     (left _ c.requires (neither r.0.0.0.0.1) (neither r.0.0.0.1) (neither r.0.0.1) (neither r.0.1) (neither r.1))

@@ -10,7 +10,7 @@ use Rattle.cell.specs.Of.{edges_of}
 use Rattle.cell.specs.Triangles.{asked_triangles, triangles_with}
 use Rattle.cell.proofs.Going.{Going, going_start, going_in, going_lent, going_more, going_looped, going_part, going_used}
 use Rattle.cell.proofs.Holding.{looped_traced, looped_four, looped_loop, looped_many, in-loop}
-use Rattle.cell.proofs.Storing.{words_of, written_all, written-room, written-more}
+use Rattle.cell.proofs.Storing.{words_of, written_all, written_room, written_more}
 use Rattle.cell.proofs.triangles.write.Given as goal
 
 abbrev pub invariant-loop-p : goal.invariant-loop-p

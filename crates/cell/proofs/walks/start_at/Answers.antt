@@ -5,7 +5,7 @@ use mathlib.Core.Bool.{false}
 use borrow.Author.Count.{below_more}
 use Rattle.cell.specs.Cell.{holds}
 use Rattle.cell.specs.Of.{edges_of}
-use Rattle.cell.proofs.Start.{on-edge, on-last}
+use Rattle.cell.proofs.Start.{on-edge, on_last}
 use Rattle.cell.proofs.walks.start_at.Goals as goal
 
 pub loop-e-init : goal.loop-e-init
@@ -24,7 +24,7 @@ pub loop-e-preserved : goal.loop-e-preserved
 loop-e-preserved c = (omega arith, below_more _ _ c.loop-e.invariant.1 (sym c.is_on.ensures ∙ c.if-is_on.false))
 
 pub first_dart-requires-2 : goal.first_dart-requires-2
-first_dart-requires-2 c = let e : c.loop-e.e ≡ 5 = omega arith in record { routed = c.requires.routed; inside = c.requires.p_bound; is = e ∙ on-last _ _ c.requires.p_bound (rw e at c.loop-e.invariant.1) }
+first_dart-requires-2 c = let e : c.loop-e.e ≡ 5 = omega arith in record { routed = c.requires.routed; inside = c.requires.p_bound; is = e ∙ on_last _ _ c.requires.p_bound (rw e at c.loop-e.invariant.1) }
 
 pub returns : goal.returns
 returns c = c.first_dart-2.ensures

@@ -5,7 +5,7 @@ use mathlib.Core.Bool.{false}
 use borrow.Author.Count.{below_more}
 use Rattle.cell.specs.Cell.{holds}
 use Rattle.cell.specs.Of.{edges_of}
-use Rattle.cell.proofs.Start.{on-edge, on-last}
+use Rattle.cell.proofs.Start.{on-edge, on_last}
 use Rattle.cell.proofs.walks.start_at.Given as goal
 
 abbrev pub invariant-loop-e : goal.invariant-loop-e

@@ -1,7 +1,7 @@
 use native.Mathlib.Omega.{arith}
 use Rattle.counting.proofs.Stored.{stored_long}
 use Rattle.cell.specs.work.Traced.{traced_triangle, traced_triangles}
-use Rattle.cell.proofs.Storing.{Run, run_none, run-place, run_more, run-all}
+use Rattle.cell.proofs.Storing.{Run, run_none, run_place, run_more, run_all}
 use Rattle.manifold.specs.Shape.{shape_of, many_of}
 use mathlib.Core.Path.{◌≡◌}
 use Prim.Native.Nat.{◌-◌, ◌≤◌}
@@ -17,10 +17,10 @@ pub triangle_of-t-requires : goal.triangle_of-t-requires
 triangle_of-t-requires c = record { recorded_loop = c.requires.recorded_loop; n_value = c.requires.n_value; k_bound = omega arith }
 
 pub put-requires : goal.put-requires
-put-requires c = omega (arith, run-place c.loop-k.invariant.2, stored_long c.loop-k.invariant.2.stored, c.loop-k.invariant.0, c.requires.n_in_bounds)
+put-requires c = omega (arith, run_place c.loop-k.invariant.2, stored_long c.loop-k.invariant.2.stored, c.loop-k.invariant.0, c.requires.n_in_bounds)
 
 pub overflow_add-i : goal.overflow_add-i
-overflow_add-i c = omega (arith, run-place c.loop-k.invariant.2, c.loop-k.invariant.0, c.requires.n_in_bounds)
+overflow_add-i c = omega (arith, run_place c.loop-k.invariant.2, c.loop-k.invariant.0, c.requires.n_in_bounds)
 
 pub overflow_add-k : goal.overflow_add-k
 overflow_add-k c = omega (arith, c.many-m.type_inv)
@@ -33,4 +33,4 @@ shape_of-area c = stored_long c.loop-k.invariant.2.stored
 
 pub returns : goal.returns
 unfolding traced_triangles traced_triangle
-returns c = (omega (arith, run-place c.loop-k.invariant.2), run-all c.loop-k.invariant.2 _ (omega arith))
+returns c = (omega (arith, run_place c.loop-k.invariant.2), run_all c.loop-k.invariant.2 _ (omega arith))

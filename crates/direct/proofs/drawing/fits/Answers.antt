@@ -3,7 +3,7 @@ use mathlib.Core.Path.{sym}
 use native.Mathlib.Omega.{arith}
 use borrow.Author.Tests.{lt-leb}
 use Rattle.cell.specs.Words.{word_count}
-use Rattle.cell.proofs.Fits.{room-left}
+use Rattle.cell.proofs.Fits.{room_left}
 use borrow.Author.Rules.{rules}
 use Rattle.direct.proofs.drawing.fits.Goals as goal
 
@@ -11,4 +11,4 @@ pub returns-then-room-at : goal.returns-then-room-at
 returns-then-room-at c = sym (lt-leb (c.args.at + word_count * c.args.n) c.args.room (omega (arith, c.if-room-at.true)))
 
 pub returns : goal.returns
-returns c = room-left (word_count * c.args.n) c.args.at c.args.room (omega (arith, c.if-room-at.false))
+returns c = room_left (word_count * c.args.n) c.args.at c.args.room (omega (arith, c.if-room-at.false))

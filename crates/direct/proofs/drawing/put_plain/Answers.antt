@@ -4,14 +4,14 @@ use native.Mathlib.Omega.{arith}
 use borrow.Author.Tests.{not-true, not-false}
 use Rattle.cell.specs.Level.{by_edge}
 use Rattle.cell.specs.claims.Table.{table_cell}
-use Rattle.cell.proofs.Fits.{Put, put-none, put-more}
+use Rattle.cell.proofs.Fits.{Put, put_none, put_more}
 use Rattle.direct.specs.work.Rows.{is_rising}
-use Rattle.direct.proofs.Cells.{no-crossings, nothing_put, table-ready, table-booked, put_came}
-use Rattle.direct.proofs.Families.{rising-is}
+use Rattle.direct.proofs.Cells.{no_crossings, nothing_put, table_ready, table_booked, put_came}
+use Rattle.direct.proofs.Families.{rising_is}
 use Rattle.direct.proofs.drawing.put_plain.Goals as goal
 
 pub loop-k-init : goal.loop-k-init
-loop-k-init c = ((omega arith, omega arith), put-none _ _ _ _)
+loop-k-init c = ((omega arith, omega arith), put_none _ _ _ _)
 
 pub counts_at-six-requires : goal.counts_at-six-requires
 counts_at-six-requires c = tt
@@ -26,9 +26,9 @@ pub loop-k-preserved-then-crossings_in-eq0 : goal.loop-k-preserved-then-crossing
 loop-k-preserved-then-crossings_in-eq0 c = let A = c.args in
     let L = c.loop-k in
     let t = table_cell A.cells.now A.counts.now A.names.now A.sides.now A.starts.now in
-    let z = no-crossings A.cells.now A.counts.now A.names.now A.sides.now A.starts.now L.k c.counts_at-six.ensures c.crossings_in.ensures.0 c.if-crossings_in-eq0.true in
+    let z = no_crossings A.cells.now A.counts.now A.names.now A.sides.now A.starts.now L.k c.counts_at-six.ensures c.crossings_in.ensures.0 c.if-crossings_in-eq0.true in
     let N = nothing_put (t L.k) z L.area L.i in
-    ((omega (arith, L.invariant.0), omega (arith, L.invariant.0)), put-more t A.c A.area.now A.at L.invariant.0.0 L.invariant.1 refl N.0 N.1)
+    ((omega (arith, L.invariant.0), omega (arith, L.invariant.0)), put_more t A.c A.area.now A.at L.invariant.0.0 L.invariant.1 refl N.0 N.1)
 
 pub kind_of-d-requires : goal.kind_of-d-requires
 kind_of-d-requires c = tt
@@ -58,7 +58,7 @@ put_fitting-i-requires c = let A = c.args in
     let N = c.kind_of-d.ensures (not-false _ c.if-not-d.false) in
     let v = c.cell_at-v.ensures in
     let r = sym c.is_rising.ensures ∙ not-false _ c.if-not-is_rising.false-raw in
-    (table-ready A.cells.now A.counts.now A.names.now A.sides.now A.starts.now L.k e N v, rising-is c.cell_at-v.result r, table-booked A.cells.now A.counts.now A.names.now A.sides.now A.starts.now L.k e N v)
+    (table_ready A.cells.now A.counts.now A.names.now A.sides.now A.starts.now L.k e N v, rising_is c.cell_at-v.result r, table_booked A.cells.now A.counts.now A.names.now A.sides.now A.starts.now L.k e N v)
 
 pub overflow_add-k-in-loop-k : goal.overflow_add-k-in-loop-k
 overflow_add-k-in-loop-k c = omega (arith, c.ranges)
@@ -66,7 +66,7 @@ overflow_add-k-in-loop-k c = omega (arith, c.ranges)
 pub loop-k-preserved : goal.loop-k-preserved
 loop-k-preserved c = let I = c.loop-k.invariant in
     let w = c.put_fitting-i.ensures in
-    ((omega (arith, I.0), omega (arith, I.0)), put-more _ _ _ _ I.0.0 I.1 c.cell_at-v.ensures w.0 w.1)
+    ((omega (arith, I.0), omega (arith, I.0)), put_more _ _ _ _ I.0.0 I.1 c.cell_at-v.ensures w.0 w.1)
 
 pub shape_of-area : goal.shape_of-area
 shape_of-area c = c.loop-k.invariant.1.long

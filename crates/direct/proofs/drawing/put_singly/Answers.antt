@@ -7,12 +7,12 @@ use Rattle.cell.specs.work.Fits.{next_after, area_after}
 use Rattle.cell.specs.claims.Table.{table_cell}
 use Rattle.cell.specs.Triangles.{triangles_with}
 use Rattle.cell.specs.Words.{all_words}
-use Rattle.cell.proofs.Fits.{next-all, area-all, Put, put-none, put-more}
+use Rattle.cell.proofs.Fits.{next_all, area_all, Put, put_none, put_more}
 use Rattle.direct.proofs.Cells.{limited_as}
 use Rattle.direct.proofs.drawing.put_singly.Goals as goal
 
 pub loop-k-init : goal.loop-k-init
-loop-k-init c = ((omega arith, omega arith), put-none _ _ _ _)
+loop-k-init c = ((omega arith, omega arith), put_none _ _ _ _)
 
 pub cell_at-v-requires : goal.cell_at-v-requires
 cell_at-v-requires c = tt
@@ -30,9 +30,9 @@ loop-k-preserved c = let A = c.args in
     let w = c.write_loops-i.ensures in
     let e = limited_as A.cells.now A.counts.now A.names.now A.sides.now A.starts.now L.k v in (
       (omega (arith, L.invariant.0), omega (arith, L.invariant.0)),
-      put-more _ _ _ _ L.invariant.0.0 L.invariant.1 v
-          (w.0 ∙ ap (λ u. next_in L.area L.i (all_words (triangles_with u 0))) e ∙ next-all _ _ _)
-          (w.1 ∙ ap (λ u. stored_in L.area L.i (all_words (triangles_with u 0))) e ∙ area-all _ _ _),
+      put_more _ _ _ _ L.invariant.0.0 L.invariant.1 v
+          (w.0 ∙ ap (λ u. next_in L.area L.i (all_words (triangles_with u 0))) e ∙ next_all _ _ _)
+          (w.1 ∙ ap (λ u. stored_in L.area L.i (all_words (triangles_with u 0))) e ∙ area_all _ _ _),
     )
 
 pub shape_of-area : goal.shape_of-area

@@ -7,7 +7,7 @@ use Rattle.cell.specs.work.Fits.{next_after, area_after}
 use Rattle.cell.specs.claims.Table.{table_cell}
 use Rattle.cell.specs.Triangles.{triangles_with}
 use Rattle.cell.specs.Words.{all_words}
-use Rattle.cell.proofs.Fits.{next-all, area-all, Put, put-none, put-more}
+use Rattle.cell.proofs.Fits.{next_all, area_all, Put, put_none, put_more}
 use Rattle.direct.proofs.Cells.{limited_as}
 use Rattle.direct.proofs.drawing.put_singly.Given as goal
 

@@ -3,13 +3,13 @@ use mathlib.Core.Path.{◌≡◌, ap, ◌∙◌}
 use native.Mathlib.Omega.{arith}
 use Rattle.cell.specs.work.Fits.{next_after, area_after}
 use Rattle.cell.specs.claims.Table.{table_cell}
-use Rattle.cell.proofs.Fits.{Put, put-none}
+use Rattle.cell.proofs.Fits.{Put, put_none}
 use Rattle.direct.specs.work.Cells.{longest_block}
-use Rattle.direct.proofs.Cells.{came_on, put-block}
+use Rattle.direct.proofs.Cells.{came_on, put_block}
 use Rattle.direct.proofs.drawing.write_cells.Goals as goal
 
 pub loop-k-init : goal.loop-k-init
-loop-k-init c = ((omega arith, omega arith), omega arith, put-none _ _ _ _)
+loop-k-init c = ((omega arith, omega arith), omega arith, put_none _ _ _ _)
 
 pub put_plain-p-requires : goal.put_plain-p-requires
 put_plain-p-requires c = tt
@@ -51,7 +51,7 @@ loop-k-preserved c = let A = c.args in
     let w = c.put_block-i.ensures in
     let t = table_cell A.cells.now A.counts.now A.names.now A.sides.now A.starts.now in
     let P = came_on t A.c A.area.now A.at L.invariant.0.0 L.invariant.2 C in
-    ((omega (arith, L.invariant.0, C.from, E), omega (arith, E)), c.next_block-b.ensures.1, put-block t A.c A.area.now A.at (omega (arith, L.invariant.0, C.from)) (omega (arith, E)) P w.0 w.1)
+    ((omega (arith, L.invariant.0, C.from, E), omega (arith, E)), c.next_block-b.ensures.1, put_block t A.c A.area.now A.at (omega (arith, L.invariant.0, C.from)) (omega (arith, E)) P w.0 w.1)
 
 pub shape_of-area : goal.shape_of-area
 shape_of-area c = c.loop-k.invariant.2.long

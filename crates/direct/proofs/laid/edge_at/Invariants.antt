@@ -1,7 +1,7 @@
 use Prim.Native.Nat.{ℕ, ◌-◌, ◌≤◌, ◌<◌}
 use mathlib.Core.Logic.{inl, inr}
 use native.Mathlib.Omega.{arith}
-use Rattle.direct.proofs.Laying.{OtherEdge, other-more, edge-found, edge-last}
+use Rattle.direct.proofs.Laying.{OtherEdge, other_more, edge_found, edge_last}
 use borrow.Author.Rules.{rules}
 use Rattle.direct.proofs.laid.edge_at.Given as goal
 

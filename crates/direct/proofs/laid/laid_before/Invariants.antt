@@ -2,7 +2,7 @@ use Prim.Native.Nat.{◌-◌, ◌≤◌}
 use native.Mathlib.Omega.{arith}
 use mathlib.Core.Path.{sym, ◌∙◌}
 use Rattle.cell.specs.Of.{edges_of}
-use Rattle.cell.proofs.Route.{SumBefore, before-none, before_more, before_skip, before-all}
+use Rattle.cell.proofs.Route.{SumBefore, before_none, before_more, before_skip, before_all}
 use Rattle.direct.proofs.Laying.{counted}
 use borrow.Author.Rules.{rules}
 use Rattle.direct.proofs.laid.laid_before.Given as goal

@@ -1,12 +1,12 @@
 use mathlib.Core.Path.{sym, ◌∙◌}
 use Rattle.cell.specs.Cell.{ahead}
 use Rattle.cell.specs.Of.{edges_of}
-use Rattle.direct.proofs.Laying.{two-first, two-second}
+use Rattle.direct.proofs.Laying.{two_first, two_second}
 use borrow.Author.Rules.{rules}
 use Rattle.direct.proofs.laid.passes.Goals as goal
 
 pub returns-then-is_before : goal.returns-then-is_before
-returns-then-is_before c = two-first (ahead (edges_of c.args.c)) _ _ _ (sym c.is_before.ensures ∙ c.if-is_before.true)
+returns-then-is_before c = two_first (ahead (edges_of c.args.c)) _ _ _ (sym c.is_before.ensures ∙ c.if-is_before.true)
 
 pub returns : goal.returns
-returns c = c.is_before-2.ensures ∙ two-second (ahead (edges_of c.args.c)) _ _ _ (sym c.is_before.ensures ∙ c.if-is_before.false)
+returns c = c.is_before-2.ensures ∙ two_second (ahead (edges_of c.args.c)) _ _ _ (sym c.is_before.ensures ∙ c.if-is_before.false)

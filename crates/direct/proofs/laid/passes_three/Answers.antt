@@ -1,12 +1,12 @@
 use mathlib.Core.Path.{sym, ◌∙◌}
 use Rattle.cell.specs.Cell.{ahead}
 use Rattle.cell.specs.Of.{edges_of}
-use Rattle.direct.proofs.Laying.{three-first, three-rest}
+use Rattle.direct.proofs.Laying.{three_first, three_rest}
 use borrow.Author.Rules.{rules}
 use Rattle.direct.proofs.laid.passes_three.Goals as goal
 
 pub returns-then-is_before : goal.returns-then-is_before
-returns-then-is_before c = three-first (ahead (edges_of c.args.c)) _ _ _ _ (sym c.is_before.ensures ∙ c.if-is_before.true)
+returns-then-is_before c = three_first (ahead (edges_of c.args.c)) _ _ _ _ (sym c.is_before.ensures ∙ c.if-is_before.true)
 
 pub returns : goal.returns
-returns c = c.passes.ensures ∙ three-rest (ahead (edges_of c.args.c)) _ _ _ _ (sym c.is_before.ensures ∙ c.if-is_before.false)
+returns c = c.passes.ensures ∙ three_rest (ahead (edges_of c.args.c)) _ _ _ _ (sym c.is_before.ensures ∙ c.if-is_before.false)

@@ -1,10 +1,10 @@
 use mathlib.Core.Path.{sym, ◌∙◌}
-use Rattle.direct.proofs.Laying.{part-laid, part_room, part_stored, part-few}
+use Rattle.direct.proofs.Laying.{part_laid, part_room, part_stored, part_few}
 use borrow.Author.Rules.{rules}
 use Rattle.direct.proofs.laid.put_asked.Goals as goal
 
 pub fits-requires : goal.fits-requires
-fits-requires c = part-few c.args.c c.taken_of-six.ensures c.requires.counts-six c.crossings_in.ensures.0
+fits-requires c = part_few c.args.c c.taken_of-six.ensures c.requires.counts_six c.crossings_in.ensures.0
 
 pub put_laid-requires : goal.put_laid-requires
 put_laid-requires c = let A = c.args in
@@ -13,7 +13,7 @@ put_laid-requires c = let A = c.args in
     let K = c.asked_kind-d.ensures c.if-d.true in
     let N = c.is_near.ensures c.if-is_near.true in
     let h = sym c.fits.ensures ∙ c.if-fits.true in
-    record { laid = part-laid A.c e S.starts-six S.counts-six N K; quads_in_bounds = part_room A.c e S.starts-six S.counts-six N K A.area.now A.at c.crossings_in.ensures.0 h }
+    record { laid = part_laid A.c e S.starts_six S.counts_six N K; quads_in_bounds = part_room A.c e S.starts_six S.counts_six N K A.area.now A.at c.crossings_in.ensures.0 h }
 
 pub returns-then-fits : goal.returns-then-fits
 returns-then-fits c = let A = c.args in
@@ -22,4 +22,4 @@ returns-then-fits c = let A = c.args in
     let K = c.asked_kind-d.ensures c.if-d.true in
     let N = c.is_near.ensures c.if-is_near.true in
     let h = sym c.fits.ensures ∙ c.if-fits.true in
-    part_stored A.c e S.starts-six S.counts-six N K A.area.now A.at c.crossings_in.ensures.0 h c.put_laid.ensures
+    part_stored A.c e S.starts_six S.counts_six N K A.area.now A.at c.crossings_in.ensures.0 h c.put_laid.ensures

@@ -2,8 +2,8 @@ use Prim.Native.Nat.{◌-◌}
 use mathlib.Core.Path.{◌∙◌}
 use native.Mathlib.Omega.{arith}
 use Rattle.counting.proofs.Stored.{stored_long}
-use Rattle.direct.proofs.Numbers.{count-is}
-use Rattle.direct.proofs.Laying.{Reached, reached-none, reached-more, reached-all, at-start, edge-room, some-on, crossings_are}
+use Rattle.direct.proofs.Numbers.{count_is}
+use Rattle.direct.proofs.Laying.{Reached, reached_none, reached_more, reached_all, at_start, edge_room, some_on, crossings_are}
 use borrow.Author.Rules.{rules}
 use Rattle.direct.proofs.laid.put_laid.Goals as goal
 
@@ -11,14 +11,14 @@ pub firsts_of-firsts-requires : goal.firsts_of-firsts-requires
 firsts_of-firsts-requires c = c.requires.laid.listed
 
 pub loop-p-init : goal.loop-p-init
-loop-p-init c = reached-none _ _ _ _
+loop-p-init c = reached_none _ _ _ _
 
 pub edge_at-k-requires : goal.edge_at-k-requires
 edge_at-k-requires c = let L = c.requires.laid.listed in
-    (L, c.firsts_of-firsts.ensures, at-start _ _ _ _ c.loop-p.invariant (omega (arith, c.loop-p-test, crossings_are L c.crossings_in-n.ensures.0)))
+    (L, c.firsts_of-firsts.ensures, at_start _ _ _ _ c.loop-p.invariant (omega (arith, c.loop-p-test, crossings_are L c.crossings_in-n.ensures.0)))
 
 pub put_edge-i-requires : goal.put_edge-i-requires
-put_edge-i-requires c = let P = c.requires in record { laid = (P.laid, c.edge_at-k.ensures.1); k_in_bounds = edge-room _ _ _ _ c.loop-p.invariant (omega (arith, c.loop-p-test, crossings_are P.laid.listed c.crossings_in-n.ensures.0)) c.edge_at-k.ensures.0 P.laid.laying.level P.laid.laying.none P.quads_in_bounds }
+put_edge-i-requires c = let P = c.requires in record { laid = (P.laid, c.edge_at-k.ensures.1); k_in_bounds = edge_room _ _ _ _ c.loop-p.invariant (omega (arith, c.loop-p-test, crossings_are P.laid.listed c.crossings_in-n.ensures.0)) c.edge_at-k.ensures.0 P.laid.laying.level P.laid.laying.none P.quads_in_bounds }
 
 pub offset_bounds-six-k : goal.offset_bounds-six-k
 offset_bounds-six-k c = omega (arith, c.edge_at-k.ensures.1)
@@ -32,16 +32,16 @@ overflow_add-p c = omega (arith, c.wide16-p.ensures.1, c.loop-p-test, c.crossing
 pub loop-p-smaller : goal.loop-p-smaller
 loop-p-smaller c = let P = c.requires in
     let E = c.edge_at-k.ensures in
-    omega (arith, c.loop-p-test, c.wide16-p.ensures.0, count-is P.laid.listed _ E.1, some-on _ _ _ _ c.loop-p.invariant (omega (arith, c.loop-p-test, crossings_are P.laid.listed c.crossings_in-n.ensures.0)) E.0)
+    omega (arith, c.loop-p-test, c.wide16-p.ensures.0, count_is P.laid.listed _ E.1, some_on _ _ _ _ c.loop-p.invariant (omega (arith, c.loop-p-test, crossings_are P.laid.listed c.crossings_in-n.ensures.0)) E.0)
 
 pub loop-p-preserved : goal.loop-p-preserved
 loop-p-preserved c = let P = c.requires in
     let E = c.edge_at-k.ensures in
-    reached-more _ _ _ _ c.loop-p.invariant (omega (arith, c.loop-p-test, crossings_are P.laid.listed c.crossings_in-n.ensures.0)) E.0 P.laid.laying.level P.laid.laying.none
-    (c.wide16-p.ensures.0 ∙ count-is P.laid.listed _ E.1) c.put_edge-i.ensures
+    reached_more _ _ _ _ c.loop-p.invariant (omega (arith, c.loop-p-test, crossings_are P.laid.listed c.crossings_in-n.ensures.0)) E.0 P.laid.laying.level P.laid.laying.none
+    (c.wide16-p.ensures.0 ∙ count_is P.laid.listed _ E.1) c.put_edge-i.ensures
 
 pub shape_of-area : goal.shape_of-area
 shape_of-area c = stored_long c.loop-p.invariant.stored
 
 pub returns : goal.returns
-returns c = reached-all _ _ _ _ c.loop-p.invariant (omega (arith, c.loop-p-test, crossings_are c.requires.laid.listed c.crossings_in-n.ensures.0))
+returns c = reached_all _ _ _ _ c.loop-p.invariant (omega (arith, c.loop-p-test, crossings_are c.requires.laid.listed c.crossings_in-n.ensures.0))

@@ -8,17 +8,17 @@ use Rattle.cell.specs.Of.{count_of}
 use Rattle.booking.specs.Booking.{left_between}
 use Rattle.direct.specs.work.Laid.{quads_on}
 use Rattle.direct.proofs.Rows.{none_stored}
-use Rattle.direct.proofs.Laying.{left_at, across_parting, round_parting, quads-across, quads-round, quads-none, quads-not}
+use Rattle.direct.proofs.Laying.{left_at, across_parting, round_parting, quads_across, quads_round, quads_none, quads_not}
 use borrow.Author.Rules.{rules}
 use Rattle.direct.proofs.laid.put_middle.Goals as goal
 
 pub returns-then-not-quads : goal.returns-then-not-quads
-returns-then-not-quads c = let A = c.args in none_stored (quads-not {quads = A.quads} (not-true _ c.if-not-quads.true-raw) (quads_on A.c A.k A.a A.b A.x A.d)) _ _
+returns-then-not-quads c = let A = c.args in none_stored (quads_not {quads = A.quads} (not-true _ c.if-not-quads.true-raw) (quads_on A.c A.k A.a A.b A.x A.d)) _ _
 
 pub returns-then-n-eq0 : goal.returns-then-n-eq0
 returns-then-n-eq0 c = let P = c.requires in
     let B = P.laid.1 in
-    none_stored (quads-none P.laid.0 B (left_at P.laid.0 B B.b_lt P.laid.2 P.laid.3 c.left_of-n.ensures) _ (not-false _ c.if-not-quads.false-raw) c.if-n-eq0.true) _ _
+    none_stored (quads_none P.laid.0 B (left_at P.laid.0 B B.b_lt P.laid.2 P.laid.3 c.left_of-n.ensures) _ (not-false _ c.if-not-quads.false-raw) c.if-n-eq0.true) _ _
 
 pub put_started-requires : goal.put_started-requires
 put_started-requires c = let P = c.requires in
@@ -27,7 +27,7 @@ put_started-requires c = let P = c.requires in
     let t = not-false _ c.if-not-quads.false-raw in
     let n = left_at R B B.b_lt P.laid.2 P.laid.3 c.left_of-n.ensures in
     let z = sym (left_at R B B.c_lt c.joining_of.ensures.0 c.joining_of.ensures.1 c.left_of.ensures) ∙ c.if-left_of-eq0.true in
-    record { listed = (R.listed, across_parting R B n z, omega (arith, c.if-n-eq0.false), P.laid.3); v_in_bounds = rw (quads-across R B _ t z) at P.d_in_bounds }
+    record { listed = (R.listed, across_parting R B n z, omega (arith, c.if-n-eq0.false), P.laid.3); v_in_bounds = rw (quads_across R B _ t z) at P.d_in_bounds }
 
 pub returns-then-left_of-eq0 : goal.returns-then-left_of-eq0
 returns-then-left_of-eq0 c = let P = c.requires in
@@ -36,7 +36,7 @@ returns-then-left_of-eq0 c = let P = c.requires in
     let t = not-false _ c.if-not-quads.false-raw in
     let n = left_at R B B.b_lt P.laid.2 P.laid.3 c.left_of-n.ensures in
     let z = sym (left_at R B B.c_lt c.joining_of.ensures.0 c.joining_of.ensures.1 c.left_of.ensures) ∙ c.if-left_of-eq0.true in
-    stored_as c.put_started.ensures (ap all_words (sym (quads-across R B _ t z))) refl
+    stored_as c.put_started.ensures (ap all_words (sym (quads_across R B _ t z))) refl
 
 pub put_started-requires-2 : goal.put_started-requires-2
 put_started-requires-2 c = let P = c.requires in
@@ -45,7 +45,7 @@ put_started-requires-2 c = let P = c.requires in
     let t = not-false _ c.if-not-quads.false-raw in
     let n = left_at R B B.b_lt P.laid.2 P.laid.3 c.left_of-n.ensures in
     let z : left_between (count_of c.args.c) c.args.a c.args.x ≢ 0 = λ q. c.if-left_of-eq0.false (left_at R B B.c_lt c.joining_of.ensures.0 c.joining_of.ensures.1 c.left_of.ensures ∙ q) in
-    record { listed = (R.listed, round_parting R B n t (omega (arith, c.if-n-eq0.false)) z, omega (arith, c.if-n-eq0.false), P.laid.3); v_in_bounds = rw (quads-round R B _ t z) at P.d_in_bounds }
+    record { listed = (R.listed, round_parting R B n t (omega (arith, c.if-n-eq0.false)) z, omega (arith, c.if-n-eq0.false), P.laid.3); v_in_bounds = rw (quads_round R B _ t z) at P.d_in_bounds }
 
 pub returns : goal.returns
 returns c = let P = c.requires in
@@ -54,4 +54,4 @@ returns c = let P = c.requires in
     let t = not-false _ c.if-not-quads.false-raw in
     let n = left_at R B B.b_lt P.laid.2 P.laid.3 c.left_of-n.ensures in
     let z : left_between (count_of c.args.c) c.args.a c.args.x ≢ 0 = λ q. c.if-left_of-eq0.false (left_at R B B.c_lt c.joining_of.ensures.0 c.joining_of.ensures.1 c.left_of.ensures ∙ q) in
-    stored_as c.put_started-2.ensures (ap all_words (sym (quads-round R B _ t z))) refl
+    stored_as c.put_started-2.ensures (ap all_words (sym (quads_round R B _ t z))) refl

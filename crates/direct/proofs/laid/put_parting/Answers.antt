@@ -4,7 +4,7 @@ use Rattle.cell.specs.Words.{all_words}
 use Rattle.counting.specs.Pick.{pick}
 use Rattle.counting.proofs.Stored.{stored_as}
 use Rattle.direct.specs.claims.Direct.{acrosses, rounds}
-use Rattle.direct.proofs.Rows.{crosses_au, crosses_av, crosses_mu, crosses_mv, across-long, across_are, rounds-long, rounds_are}
+use Rattle.direct.proofs.Rows.{crosses_au, crosses_av, crosses_mu, crosses_mv, across_long, across_are, rounds_long, rounds_are}
 use Rattle.direct.proofs.Laying.{parting_words}
 use borrow.Author.Rules.{rules}
 use Rattle.direct.proofs.laid.put_parting.Goals as goal
@@ -24,7 +24,7 @@ row_of-w-requires c = record { listed = c.requires.listed.0; crosses = crosses_m
 pub put_fours-requires : goal.put_fours-requires
 put_fours-requires c = let P = c.requires in
     let l = P.listed.1.all in
-    record { long = across-long P.listed.0 P.listed.1 c.row_of-p.ensures c.row_of-q.ensures c.row_of-r.ensures c.row_of-w.ensures; s0_bound = (l.d-lt, l.a_lt, l.c_lt, l.b_lt); n_in_bounds = omega (arith, parting_words P.listed.0 P.listed.1 c.args.over, P.v_in_bounds) }
+    record { long = across_long P.listed.0 P.listed.1 c.row_of-p.ensures c.row_of-q.ensures c.row_of-r.ensures c.row_of-w.ensures; s0_bound = (l.d_lt, l.a_lt, l.c_lt, l.b_lt); n_in_bounds = omega (arith, parting_words P.listed.0 P.listed.1 c.args.over, P.v_in_bounds) }
 
 pub returns-then-over : goal.returns-then-over
 returns-then-over c = let A = c.args in
@@ -36,7 +36,7 @@ returns-then-over c = let A = c.args in
 pub put_fours-requires-2 : goal.put_fours-requires-2
 put_fours-requires-2 c = let P = c.requires in
     let l = P.listed.1.all in
-    record { long = rounds-long P.listed.0 P.listed.1 c.row_of-p.ensures c.row_of-q.ensures c.row_of-r.ensures c.row_of-w.ensures; s0_bound = (l.b_lt, l.c_lt, l.a_lt, l.d-lt); n_in_bounds = omega (arith, parting_words P.listed.0 P.listed.1 c.args.over, P.v_in_bounds) }
+    record { long = rounds_long P.listed.0 P.listed.1 c.row_of-p.ensures c.row_of-q.ensures c.row_of-r.ensures c.row_of-w.ensures; s0_bound = (l.b_lt, l.c_lt, l.a_lt, l.d_lt); n_in_bounds = omega (arith, parting_words P.listed.0 P.listed.1 c.args.over, P.v_in_bounds) }
 
 pub returns : goal.returns
 returns c = let A = c.args in

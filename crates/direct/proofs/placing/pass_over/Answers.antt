@@ -5,7 +5,7 @@ use native.Mathlib.Omega.{arith}
 use Rattle.cell.specs.Level.{by_edge}
 use Rattle.direct.specs.claims.Direct.{Plain}
 use Rattle.direct.specs.work.Cells.{PassedOver}
-use Rattle.direct.proofs.Over.{over_none, over-one}
+use Rattle.direct.proofs.Over.{over_none, over_one}
 use Rattle.direct.proofs.placing.pass_over.Goals as goal
 
 pub loop-k-init : goal.loop-k-init
@@ -23,7 +23,7 @@ overflow_add-k c = omega (arith, c.ranges)
 pub loop-k-preserved : goal.loop-k-preserved
 loop-k-preserved c = let A = c.args in
     let P = subst (λ (l : List ℕ). Plain (by_edge l)) c.counts_at.ensures (c.is_plain.ensures c.if-is_plain.true) in
-    over-one A.counts.now A.sides.now A.c A.end c.loop-k.invariant (omega arith) P
+    over_one A.counts.now A.sides.now A.c A.end c.loop-k.invariant (omega arith) P
 
 pub returns-in-loop-k : goal.returns-in-loop-k
 returns-in-loop-k c = c.loop-k.invariant

@@ -5,7 +5,7 @@ use native.Mathlib.Omega.{arith}
 use Rattle.cell.specs.Level.{by_edge}
 use Rattle.direct.specs.claims.Direct.{Plain}
 use Rattle.direct.specs.work.Cells.{PassedOver}
-use Rattle.direct.proofs.Over.{over_none, over-one}
+use Rattle.direct.proofs.Over.{over_none, over_one}
 use Rattle.direct.proofs.placing.pass_over.Given as goal
 
 abbrev pub invariant-loop-k : goal.invariant-loop-k

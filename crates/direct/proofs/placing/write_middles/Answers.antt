@@ -2,7 +2,7 @@ use Prim.Native.Nat.{◌-◌, ◌≤◌}
 use mathlib.Core.Path.{◌≡◌, ap, ◌∙◌}
 use native.Mathlib.Omega.{arith}
 use Rattle.cell.specs.work.Table.{middles_written}
-use Rattle.cell.proofs.Fans.{written_none, written-long}
+use Rattle.cell.proofs.Fans.{written_none, written_long}
 use Rattle.direct.specs.work.Cells.{longest_block}
 use Rattle.direct.proofs.Over.{written_on, written-over}
 use Rattle.direct.proofs.placing.write_middles.Goals as goal
@@ -14,7 +14,7 @@ loop-k-init c = let A = c.args in
 pub shape_of-area-then-end-p : goal.shape_of-area-then-end-p
 shape_of-area-then-end-p c = let A = c.args in
     let L = c.loop-k in
-    written-long A.cells.now A.counts.now A.names.now A.sides.now A.starts.now A.nodes.now A.c A.area.now A.at L.k L.invariant.2
+    written_long A.cells.now A.counts.now A.names.now A.sides.now A.starts.now A.nodes.now A.c A.area.now A.at L.k L.invariant.2
 
 pub returns-then-end-p : goal.returns-then-end-p
 returns-then-end-p c = let A = c.args in
@@ -49,7 +49,7 @@ loop-k-preserved c = let A = c.args in
 pub shape_of-area : goal.shape_of-area
 shape_of-area c = let A = c.args in
     let L = c.loop-k in
-    written-long A.cells.now A.counts.now A.names.now A.sides.now A.starts.now A.nodes.now A.c A.area.now A.at L.k L.invariant.2
+    written_long A.cells.now A.counts.now A.names.now A.sides.now A.starts.now A.nodes.now A.c A.area.now A.at L.k L.invariant.2
 
 pub returns : goal.returns
 returns c = let A = c.args in

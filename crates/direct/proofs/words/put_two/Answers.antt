@@ -1,4 +1,4 @@
-use Rattle.counting.proofs.Fronts.{sets-two}
+use Rattle.counting.proofs.Fronts.{sets_two}
 use lib.ListN.{length-set}
 use native.Mathlib.Omega.{arith}
 use borrow.Author.Rules.{rules}
@@ -8,4 +8,4 @@ pub bounds-area-at-2 : goal.bounds-area-at-2
 bounds-area-at-2 c = simp length-set (omega arith)
 
 pub returns : goal.returns
-returns c = sets-two c.args.area.now c.args.at c.args.x c.args.y
+returns c = sets_two c.args.area.now c.args.at c.args.x c.args.y

@@ -2,7 +2,7 @@ use native.Mathlib.Omega.{arith}
 use mathlib.Core.Path.{◌∙◌}
 use Rattle.face.proofs.Ends.{high_end, low_end}
 use Rattle.flat.proofs.Tables.{place_in, place_read}
-use Rattle.flat.proofs.Guided.{corners-with, guide_made, place-edge}
+use Rattle.flat.proofs.Guided.{corners_with, guide_made, place_edge}
 use borrow.Author.Rules.{rules}
 use Rattle.flat.proofs.guides.guide_at.Goals as goal
 
@@ -29,7 +29,7 @@ pub lane_at-low-requires : goal.lane_at-low-requires
 lane_at-low-requires c = let c-count-at2 = c.count_at-ac in
     let c-count-at = c.count_at-ab in
     let c-pre = c.requires in
-    record { tabled = c-pre.tabled; b_bound = place_in c-pre.tabled _ 2 c-pre.j_lt_n (omega arith); c_value = corners-with c-pre.tabled _ c-count-at.ensures c-count-at2.ensures c.count_at-bc.ensures c.flat_corners-c.ensures; end = low_end c.lower_end.ensures.0 (place-edge c-pre.tabled _ c-pre.j_lt_n) }
+    record { tabled = c-pre.tabled; b_bound = place_in c-pre.tabled _ 2 c-pre.j_lt_n (omega arith); c_value = corners_with c-pre.tabled _ c-count-at.ensures c-count-at2.ensures c.count_at-bc.ensures c.flat_corners-c.ensures; end = low_end c.lower_end.ensures.0 (place_edge c-pre.tabled _ c-pre.j_lt_n) }
 
 pub lane_at-high-requires : goal.lane_at-high-requires
 lane_at-high-requires c = let c-flat-corners = c.flat_corners-c in
@@ -37,7 +37,7 @@ lane_at-high-requires c = let c-flat-corners = c.flat_corners-c in
     let c-count-at2 = c.count_at-ac in
     let c-count-at = c.count_at-ab in
     let c-pre = c.requires in
-    record { tabled = c-pre.tabled; b_bound = place_in c-pre.tabled _ 2 c-pre.j_lt_n (omega arith); c_value = corners-with c-pre.tabled _ c-count-at.ensures c-count-at2.ensures c-count-at3.ensures c-flat-corners.ensures; end = high_end c.upper_end.ensures.0 (place-edge c-pre.tabled _ c-pre.j_lt_n) }
+    record { tabled = c-pre.tabled; b_bound = place_in c-pre.tabled _ 2 c-pre.j_lt_n (omega arith); c_value = corners_with c-pre.tabled _ c-count-at.ensures c-count-at2.ensures c-count-at3.ensures c-flat-corners.ensures; end = high_end c.upper_end.ensures.0 (place_edge c-pre.tabled _ c-pre.j_lt_n) }
 
 pub count_at-requires : goal.count_at-requires
 count_at-requires c = let c-pre = c.requires in record { j_in_bounds = (place_read c-pre.tabled _ c-pre.j_lt_n).0; j_in_bounds_2 = (place_read c-pre.tabled _ c-pre.j_lt_n).1 }

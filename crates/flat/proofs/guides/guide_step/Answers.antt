@@ -2,12 +2,12 @@ use native.Mathlib.Omega.{arith}
 use mathlib.Core.Path.{◌∙◌}
 use Rattle.face.specs.declared.Stand.TheVariants.{Low, High, Up, Down, Alone}
 use Rattle.face.proofs.Stands.{stands}
-use Rattle.flat.proofs.Guided.{step-alone, step_down, step-high, step-low, step-off, step-up}
+use Rattle.flat.proofs.Guided.{step_alone, step_down, step_high, step_low, step_off, step_up}
 use borrow.Author.Rules.{rules}
 use Rattle.flat.proofs.guides.guide_step.Goals as goal
 
 pub returns-then-g-t : goal.returns-then-g-t
-returns-then-g-t c = record { value = step-off _ _ _ c.if-g-t.true; upper_bound = c.requires.darts_bound }
+returns-then-g-t c = record { value = step_off _ _ _ c.if-g-t.true; upper_bound = c.requires.darts_bound }
 
 pub overflow_sub-g : goal.overflow_sub-g
 overflow_sub-g c = omega (arith, c.requires.guide_fits.upper)
@@ -27,18 +27,18 @@ overflow_sub-result c = omega (arith, (stands _ _ _ Down c.stand_of.ensures c.in
 pub returns-in-Low : goal.returns-in-Low
 returns-in-Low c = let c-if1 = c.if-g-t in
     let h = stands _ _ _ Low c.stand_of.ensures c.in-Low.is in
-    record { value = c.lane_step.ensures.value ∙ step-low _ _ _ (omega (arith, c-if1.false)) h; upper_bound = c.lane_step.ensures.upper_bound }
+    record { value = c.lane_step.ensures.value ∙ step_low _ _ _ (omega (arith, c-if1.false)) h; upper_bound = c.lane_step.ensures.upper_bound }
 
 pub returns-in-High : goal.returns-in-High
 returns-in-High c = let c-if1 = c.if-g-t in
     let (h, k) = stands _ _ _ High c.stand_of.ensures c.in-High.is in
-    record { value = c.lane_step-in-High.ensures.value ∙ step-high _ _ _ (omega (arith, c-if1.false)) h k; upper_bound = c.lane_step-in-High.ensures.upper_bound }
+    record { value = c.lane_step-in-High.ensures.value ∙ step_high _ _ _ (omega (arith, c-if1.false)) h k; upper_bound = c.lane_step-in-High.ensures.upper_bound }
 
 pub returns-in-Up : goal.returns-in-Up
 returns-in-Up c = let c-if1 = c.if-g-t in
     let c-pre = c.requires in
     let (W, z) = stands _ _ _ Up c.stand_of.ensures c.in-Up.is in
-    record { value = step-up _ _ _ (omega (arith, c-if1.false)) W.low W.high z; upper_bound = omega (arith, c-pre.guide_fits.near, c-pre.guide_fits.few, c-if1.false) }
+    record { value = step_up _ _ _ (omega (arith, c-if1.false)) W.low W.high z; upper_bound = omega (arith, c-pre.guide_fits.near, c-pre.guide_fits.few, c-if1.false) }
 
 pub returns-in-Down : goal.returns-in-Down
 returns-in-Down c = let c-if1 = c.if-g-t in
@@ -50,4 +50,4 @@ pub returns-in-Alone : goal.returns-in-Alone
 returns-in-Alone c = let c-if1 = c.if-g-t in
     let c-pre = c.requires in
     let (W, z, h) = stands _ _ _ Alone c.stand_of.ensures c.in-Alone.is in
-    record { value = step-alone _ _ _ (omega (arith, c-if1.false)) W.low W.high z h; upper_bound = c-pre.darts_bound }
+    record { value = step_alone _ _ _ (omega (arith, c-if1.false)) W.low W.high z h; upper_bound = c-pre.darts_bound }

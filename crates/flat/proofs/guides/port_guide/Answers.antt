@@ -1,11 +1,11 @@
 use native.Mathlib.Omega.{arith}
 use mathlib.Core.Path.{refl}
-use Rattle.flat.proofs.Guided.{port-none, port-some}
+use Rattle.flat.proofs.Guided.{port_none, port_some}
 use borrow.Author.Rules.{rules}
 use Rattle.flat.proofs.guides.port_guide.Goals as goal
 
 pub returns-then-q-eq0 : goal.returns-then-q-eq0
-returns-then-q-eq0 c = port-none _ _ _ _ _ c.if-q-eq0.true refl (record { low = record { few = omega arith; near = omega arith; ends = λ z. omega arith }; high = record { few = omega arith; near = omega arith; ends = λ z. omega arith }; few = omega arith; upper = omega arith; near = omega arith })
+returns-then-q-eq0 c = port_none _ _ _ _ _ c.if-q-eq0.true refl (record { low = record { few = omega arith; near = omega arith; ends = λ z. omega arith }; high = record { few = omega arith; near = omega arith; ends = λ z. omega arith }; few = omega arith; upper = omega arith; near = omega arith })
 
 pub returns : goal.returns
-returns c = port-some _ _ _ _ _ c.if-q-eq0.false c.guide_at.ensures
+returns c = port_some _ _ _ _ _ c.if-q-eq0.false c.guide_at.ensures

@@ -2,7 +2,7 @@ use mathlib.Core.Path.{◌∙◌, ap}
 use native.Mathlib.Omega.{arith}
 use Rattle.face.specs.Face.{count_on, face_answer}
 use Rattle.flat.specs.work.Work.{stretched}
-use Rattle.flat.proofs.Squeeze.{some_at, else_join, at_join, gap-join, index-low}
+use Rattle.flat.proofs.Squeeze.{some_at, else_join, at_join, gap_join, index_low}
 use borrow.Author.Rules.{rules}
 use Rattle.flat.proofs.join.join_left.Goals as goal
 
@@ -19,7 +19,7 @@ unfolding count_on
 less_at-z-requires c = some_at _ _ _ _ c.requires 2
 
 pub stretch-requires : goal.stretch-requires
-stretch-requires c = rw c.face_join.ensures (index-low _ _ _ _ _ (omega arith) (omega arith) (omega arith))
+stretch-requires c = rw c.face_join.ensures (index_low _ _ _ _ _ (omega arith) (omega arith) (omega arith))
 
 pub returns-then-edge-m : goal.returns-then-edge-m
 returns-then-edge-m c = let c-lower-corner = c.lower_corner-g in
@@ -34,10 +34,10 @@ returns-then-index-g c = let c-less-at3 = c.less_at-z in
     let c-less-at2 = c.less_at-y in
     let c-less-at = c.less_at-x in
     let c-pre = c.requires in
-    gap-join _ _ _ _ (c-pre) _ _ _ _ c-less-at.ensures c-less-at2.ensures c-less-at3.ensures c.lower_corner-g.ensures _ _ c.if-edge-m.false c.if-index-g.true
+    gap_join _ _ _ _ (c-pre) _ _ _ _ c-less-at.ensures c-less-at2.ensures c-less-at3.ensures c.lower_corner-g.ensures _ _ c.if-edge-m.false c.if-index-g.true
 
 pub stretch-requires-2 : goal.stretch-requires-2
-stretch-requires-2 c = rw c.face_join-2.ensures (index-low _ _ _ _ _ (omega arith) (omega arith) (omega arith))
+stretch-requires-2 c = rw c.face_join-2.ensures (index_low _ _ _ _ _ (omega arith) (omega arith) (omega arith))
 
 pub returns : goal.returns
 returns c = let c-if2 = c.if-index-g in

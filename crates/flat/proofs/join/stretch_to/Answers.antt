@@ -1,5 +1,5 @@
 use native.Mathlib.Omega.{arith}
-use Rattle.flat.proofs.Squeeze.{to_else, to-before, to-after}
+use Rattle.flat.proofs.Squeeze.{to_else, to_before, to_after}
 use borrow.Author.Rules.{rules}
 use Rattle.flat.proofs.join.stretch_to.Goals as goal
 
@@ -7,7 +7,7 @@ pub returns-then-e-m : goal.returns-then-e-m
 returns-then-e-m c = let A = c.args in rw (to_else A.m A.g A.e A.u (λ q. omega arith))
 
 pub returns-then-u-g : goal.returns-then-u-g
-returns-then-u-g c = let A = c.args in rw (to-before A.m A.g A.e A.u (omega arith))
+returns-then-u-g c = let A = c.args in rw (to_before A.m A.g A.e A.u (omega arith))
 
 pub returns : goal.returns
-returns c = let A = c.args in rw (to-after A.m A.g A.e A.u (omega arith) (omega arith))
+returns c = let A = c.args in rw (to_after A.m A.g A.e A.u (omega arith) (omega arith))

@@ -7,13 +7,13 @@ use lib.ListN.{get_or, length}
 use borrow.Author.Tests.{eq-eqb, ne_eqb}
 use Rattle.counting.specs.Stored.{filled}
 use Rattle.counting.proofs.Search.{Seeking, seeking_all, seeking_hit, seeking_more, seeking_none}
-use Rattle.counting.proofs.Stored.{filled-beyond, filled_more, filled_none, length-filled}
+use Rattle.counting.proofs.Stored.{filled_beyond, filled_more, filled_none, length_filled}
 use borrow.Author.Rules.{rules}
 use Rattle.flat.proofs.rows.lower_entries.Goals as goal
 
 -- the entry at j is still as it was
 entry : (was : List ℕ) (j : ℕ) {sides : List ℕ} → sides ≡ filled (λ j. get_or was j 0 - 1) j was → get_or sides j 0 ≡ get_or was j 0
-entry was j e = ap (λ (l : List ℕ). get_or l j 0) e ∙ filled-beyond (λ j. get_or was j 0 - 1) j was 0 j (omega arith)
+entry was j e = ap (λ (l : List ℕ). get_or l j 0) e ∙ filled_beyond (λ j. get_or was j 0 - 1) j was 0 j (omega arith)
 
 pub loop-j-init : goal.loop-j-init
 loop-j-init c = (seeking_none _ _, filled_none _ _)
@@ -22,10 +22,10 @@ pub offset_bounds-sides-j : goal.offset_bounds-sides-j
 offset_bounds-sides-j c = omega (arith, c.requires)
 
 pub bounds-sides-j : goal.bounds-sides-j
-bounds-sides-j c = omega (arith, c.requires, simp length-filled at (ap length c.loop-j.invariant.1))
+bounds-sides-j c = omega (arith, c.requires, simp length_filled at (ap length c.loop-j.invariant.1))
 
 pub shape_of-sides-then-p-eq0 : goal.shape_of-sides-then-p-eq0
-shape_of-sides-then-p-eq0 c = simp length-filled at (ap length c.loop-j.invariant.1)
+shape_of-sides-then-p-eq0 c = simp length_filled at (ap length c.loop-j.invariant.1)
 
 pub returns-then-p-eq0 : goal.returns-then-p-eq0
 returns-then-p-eq0 c = let L = c.loop-j in record { r_value = seeking_hit _ L.invariant.0 (omega arith) (eq-eqb _ 0 (sym (entry c.args.sides.now L.j L.invariant.1) ∙ c.if-p-eq0.true)); sides_after = L.invariant.1 }
@@ -36,7 +36,7 @@ offset_bounds-sides-j-in-loop-j c = omega (arith, c.requires)
 pub bounds-sides-j-in-loop-j : goal.bounds-sides-j-in-loop-j
 bounds-sides-j-in-loop-j c = let c-loop = c.loop-j in
     let c-pre = c.requires in
-    omega (arith, c-pre, simp length-filled at (ap length c-loop.invariant.1))
+    omega (arith, c-pre, simp length_filled at (ap length c-loop.invariant.1))
 
 pub loop-j-preserved : goal.loop-j-preserved
 loop-j-preserved c = let L = c.loop-j in
@@ -44,7 +44,7 @@ loop-j-preserved c = let L = c.loop-j in
     (seeking_more _ L.invariant.0 (omega arith) (ne_eqb _ 0 (λ q. c.if-p-eq0.false (e ∙ q))), filled_more _ _ _ _ _ L.invariant.1 (ap (λ (x : ℕ). x - 1) e))
 
 pub shape_of-sides : goal.shape_of-sides
-shape_of-sides c = simp length-filled at (ap length c.loop-j.invariant.1)
+shape_of-sides c = simp length_filled at (ap length c.loop-j.invariant.1)
 
 pub returns : goal.returns
 returns c = let L = c.loop-j in

@@ -7,7 +7,7 @@ use lib.ListN.{get_or, length}
 use borrow.Author.Tests.{eq-eqb, ne_eqb}
 use Rattle.counting.specs.Stored.{filled}
 use Rattle.counting.proofs.Search.{Seeking, seeking_all, seeking_hit, seeking_more, seeking_none}
-use Rattle.counting.proofs.Stored.{filled-beyond, filled_more, filled_none, length-filled}
+use Rattle.counting.proofs.Stored.{filled_beyond, filled_more, filled_none, length_filled}
 use borrow.Author.Rules.{rules}
 use Rattle.flat.proofs.rows.lower_entries.Given as goal
 

@@ -2,41 +2,41 @@ use mathlib.Core.Path.{◌∙◌, refl}
 use native.Mathlib.Omega.{arith}
 use Rattle.answer.specs.work.Faults.{since}
 use Rattle.flat.specs.Rows.{rows}
-use Rattle.flat.proofs.Answers.{answer-passes, answer-refuses}
-use Rattle.flat.proofs.Keys.{rising-triangles}
+use Rattle.flat.proofs.Answers.{answer_passes, answer_refuses}
+use Rattle.flat.proofs.Keys.{rising_triangles}
 use borrow.Author.Rules.{rules}
 use Rattle.flat.proofs.rows.triangle_rows.Goals as goal
 
 pub returns-then-p3-n : goal.returns-then-p3-n
 unfolding since rows
-returns-then-p3-n c = record { r_value = answer-refuses _ 3 4 refl _ c.row_3-p3.ensures c.if-p3-n.true; fact = tt }
+returns-then-p3-n c = record { r_value = answer_refuses _ 3 4 refl _ c.row_3-p3.ensures c.if-p3-n.true; fact = tt }
 
 pub row_4-p4-requires : goal.row_4-p4-requires
 row_4-p4-requires c = c.requires.few
 
 pub returns-then-p4-n : goal.returns-then-p4-n
 unfolding since rows
-returns-then-p4-n c = let c-row-3 = c.row_3-p3 in record { r_value = answer-refuses _ 4 5 refl _ c.row_4-p4.ensures c.if-p4-n.true ∙ answer-passes _ 3 4 refl _ c-row-3.ensures c.if-p3-n.false; fact = tt }
+returns-then-p4-n c = let c-row-3 = c.row_3-p3 in record { r_value = answer_refuses _ 4 5 refl _ c.row_4-p4.ensures c.if-p4-n.true ∙ answer_passes _ 3 4 refl _ c-row-3.ensures c.if-p3-n.false; fact = tt }
 
 pub row_5-p5-requires : goal.row_5-p5-requires
 row_5-p5-requires c = let c-row-3 = c.row_3-p3 in
     let c-shared-slice-known = c.shared_slice_known-1 in
     let c-pre = c.requires in
-    rising-triangles _ (λ i. omega (arith, c-shared-slice-known.given i)) c-pre.few (rw c-row-3.ensures at c.if-p3-n.false)
+    rising_triangles _ (λ i. omega (arith, c-shared-slice-known.given i)) c-pre.few (rw c-row-3.ensures at c.if-p3-n.false)
 
 pub returns-then-p5-n : goal.returns-then-p5-n
 unfolding since rows
 returns-then-p5-n c = let c-row-4 = c.row_4-p4 in
     let c-if1 = c.if-p3-n in
     let c-row-3 = c.row_3-p3 in
-    record { r_value = answer-refuses _ 5 6 refl _ c.row_5-p5.ensures c.if-p5-n.true ∙ answer-passes _ 4 5 refl _ c-row-4.ensures c.if-p4-n.false ∙ answer-passes _ 3 4 refl _ c-row-3.ensures c-if1.false; fact = tt }
+    record { r_value = answer_refuses _ 5 6 refl _ c.row_5-p5.ensures c.if-p5-n.true ∙ answer_passes _ 4 5 refl _ c-row-4.ensures c.if-p4-n.false ∙ answer_passes _ 3 4 refl _ c-row-3.ensures c-if1.false; fact = tt }
 
 pub edge_rows-requires : goal.edge_rows-requires
 edge_rows-requires c = let c-if1 = c.if-p3-n in
     let c-row-3 = c.row_3-p3 in
     let c-shared-slice-known = c.shared_slice_known-1 in
     let c-pre = c.requires in
-    record { rising = rising-triangles _ (λ i. omega (arith, c-shared-slice-known.given i)) c-pre.few (rw c-row-3.ensures at c-if1.false); pairs = c-pre.pairs; blank = c-pre.blank }
+    record { rising = rising_triangles _ (λ i. omega (arith, c-shared-slice-known.given i)) c-pre.few (rw c-row-3.ensures at c-if1.false); pairs = c-pre.pairs; blank = c-pre.blank }
 
 pub returns : goal.returns
 unfolding since rows
@@ -47,4 +47,4 @@ returns c = let c-edge-rows = c.edge_rows in
     let c-row-4 = c.row_4-p4 in
     let c-if1 = c.if-p3-n in
     let c-row-3 = c.row_3-p3 in
-    record { r_value = c-edge-rows.ensures.r_value ∙ answer-passes _ 5 6 refl _ c-row-5.ensures c-if3.false ∙ answer-passes _ 4 5 refl _ c-row-4.ensures c-if2.false ∙ answer-passes _ 3 4 refl _ c-row-3.ensures c-if1.false; fact = c-edge-rows.ensures.fact }
+    record { r_value = c-edge-rows.ensures.r_value ∙ answer_passes _ 5 6 refl _ c-row-5.ensures c-if3.false ∙ answer_passes _ 4 5 refl _ c-row-4.ensures c-if2.false ∙ answer_passes _ 3 4 refl _ c-row-3.ensures c-if1.false; fact = c-edge-rows.ensures.fact }

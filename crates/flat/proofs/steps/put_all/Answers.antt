@@ -3,7 +3,7 @@ use mathlib.Core.Path.{◌∙◌, ◌≡◌, ap}
 use native.Mathlib.Omega.{arith}
 use lib.ListN.{length}
 use Rattle.counting.specs.Stored.{filled}
-use Rattle.counting.proofs.Stored.{length-filled}
+use Rattle.counting.proofs.Stored.{length_filled}
 use Rattle.grid.specs.Grid.{start}
 use Rattle.flat.specs.work.Work.{dart_step}
 use Rattle.flat.proofs.Tables.{all_more, all_none, all_skip}
@@ -20,7 +20,7 @@ pub put_edge-requires : goal.put_edge-requires
 put_edge-requires c = let P = c.requires in
     let A = c.args in
     let L = c.loop-e in
-    record { tabled = P.tabled; darts_value = P.darts_value; e_in_bounds = omega arith; darts_in_bounds = omega (arith, P.darts_in_bounds, ap length L.invariant.1, length-filled (dart_step A.counts.now A.sides.now A.n) (2 * start A.counts.now L.e) A.next.now) }
+    record { tabled = P.tabled; darts_value = P.darts_value; e_in_bounds = omega arith; darts_in_bounds = omega (arith, P.darts_in_bounds, ap length L.invariant.1, length_filled (dart_step A.counts.now A.sides.now A.n) (2 * start A.counts.now L.e) A.next.now) }
 
 pub loop-e-preserved : goal.loop-e-preserved
 loop-e-preserved c = let c-loop = c.loop-e in
@@ -29,7 +29,7 @@ loop-e-preserved c = let c-loop = c.loop-e in
 pub shape_of-next : goal.shape_of-next
 shape_of-next c = let A = c.args in
     let L = c.loop-e in
-    ap length L.invariant.1 ∙ length-filled (dart_step A.counts.now A.sides.now A.n) (2 * start A.counts.now L.e) A.next.now
+    ap length L.invariant.1 ∙ length_filled (dart_step A.counts.now A.sides.now A.n) (2 * start A.counts.now L.e) A.next.now
 
 pub returns : goal.returns
 returns c = let A = c.args in

@@ -3,7 +3,7 @@ use mathlib.Core.Path.{◌∙◌, ◌≡◌, ap}
 use native.Mathlib.Omega.{arith}
 use lib.ListN.{length}
 use Rattle.counting.specs.Stored.{filled}
-use Rattle.counting.proofs.Stored.{length-filled}
+use Rattle.counting.proofs.Stored.{length_filled}
 use Rattle.grid.specs.Grid.{start}
 use Rattle.flat.specs.work.Work.{dart_step}
 use Rattle.flat.proofs.Tables.{all_more, all_none, all_skip}

@@ -6,7 +6,7 @@ use lib.Seq.{length-sets, sets}
 use Rattle.counting.specs.Lists.{values}
 use Rattle.grid.specs.Grid.{count_of, start}
 use Rattle.flat.specs.work.Work.{dart_step}
-use Rattle.flat.proofs.Tables.{edge-darts, edge_more, edge_none, edge-within, first-at, first-within, second_at, second-within, start-at}
+use Rattle.flat.proofs.Tables.{edge_darts, edge_more, edge_none, edge_within, first_at, first_within, second_at, second_within, start_at}
 use Rattle.flat.proofs.Guided.{port_led}
 use borrow.Author.Rules.{rules}
 use Rattle.flat.proofs.steps.put_edge.Given as goal

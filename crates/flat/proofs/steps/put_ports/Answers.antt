@@ -1,12 +1,12 @@
 use Prim.Native.Nat.{◌-◌, ◌≤◌}
 use mathlib.Core.Path.{refl}
 use native.Mathlib.Omega.{arith}
-use Rattle.flat.proofs.Places.{Ported, ported-first, ported-none, ported-second, ported-table}
+use Rattle.flat.proofs.Places.{Ported, ported_first, ported_none, ported_second, ported_table}
 use borrow.Author.Rules.{rules}
 use Rattle.flat.proofs.steps.put_ports.Goals as goal
 
 pub loop-j-init : goal.loop-j-init
-loop-j-init c = (omega arith, ported-none _ _ c.requires.blank)
+loop-j-init c = (omega arith, ported_none _ _ c.requires.blank)
 
 pub bounds-sides-j : goal.bounds-sides-j
 bounds-sides-j c = omega (arith, c.requires.room)
@@ -38,7 +38,7 @@ bounds-ports-i-then-ports-i-eq0 c = let c-loop = c.loop-j in
 pub loop-j-preserved-then-ports-i-eq0 : goal.loop-j-preserved-then-ports-i-eq0
 loop-j-preserved-then-ports-i-eq0 c = let c-loop = c.loop-j in
     let c-pre = c.requires in
-    (omega arith, ported-first c-loop.invariant.1 _ refl (c-pre.within c-loop.j (omega arith)) c.if-ports-i-eq0.true)
+    (omega arith, ported_first c-loop.invariant.1 _ refl (c-pre.within c-loop.j (omega arith)) c.if-ports-i-eq0.true)
 
 pub overflow_cast-ports-in-loop-j : goal.overflow_cast-ports-in-loop-j
 overflow_cast-ports-in-loop-j c = omega (arith, c.requires.few)
@@ -59,10 +59,10 @@ bounds-ports-i-in-loop-j c = let c-loop = c.loop-j in
 pub loop-j-preserved : goal.loop-j-preserved
 loop-j-preserved c = let c-loop = c.loop-j in
     let c-pre = c.requires in
-    (omega arith, ported-second c-loop.invariant.1 _ refl (c-pre.within c-loop.j (omega arith)) c.if-ports-i-eq0.false)
+    (omega arith, ported_second c-loop.invariant.1 _ refl (c-pre.within c-loop.j (omega arith)) c.if-ports-i-eq0.false)
 
 pub shape_of-ports : goal.shape_of-ports
 shape_of-ports c = c.loop-j.invariant.1.same
 
 pub returns : goal.returns
-returns c = ported-table c.loop-j.invariant.1 (omega arith)
+returns c = ported_table c.loop-j.invariant.1 (omega arith)

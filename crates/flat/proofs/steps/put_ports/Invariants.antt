@@ -1,7 +1,7 @@
 use Prim.Native.Nat.{◌-◌, ◌≤◌}
 use mathlib.Core.Path.{refl}
 use native.Mathlib.Omega.{arith}
-use Rattle.flat.proofs.Places.{Ported, ported-first, ported-none, ported-second, ported-table}
+use Rattle.flat.proofs.Places.{Ported, ported_first, ported_none, ported_second, ported_table}
 use borrow.Author.Rules.{rules}
 use Rattle.flat.proofs.steps.put_ports.Given as goal
 

@@ -3,9 +3,9 @@ use mathlib.Core.Path.{◌∙◌, ◌≡◌, ap, sym}
 use native.Mathlib.Omega.{arith}
 use lib.ListN.{length}
 use Rattle.counting.specs.Stored.{filled}
-use Rattle.counting.proofs.Stored.{filled_more, filled_none, length-filled}
+use Rattle.counting.proofs.Stored.{filled_more, filled_none, length_filled}
 use Rattle.grid.specs.Grid.{start}
-use Rattle.grid.proofs.Crossings.{start_mono, start-next, start-zero}
+use Rattle.grid.proofs.Crossings.{start_mono, start_next, start_zero}
 use borrow.Author.Rules.{rules}
 use Rattle.flat.proofs.steps.put_starts.Given as goal
 

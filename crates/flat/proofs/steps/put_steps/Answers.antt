@@ -2,7 +2,7 @@ use Prim.Native.Nat.{ℕ, ◌*◌}
 use mathlib.Core.Path.{◌∙◌, ap, refl}
 use native.Mathlib.Omega.{arith}
 use lib.ListN.{length, length-replicate, replicate}
-use Rattle.counting.proofs.Stored.{length-filled}
+use Rattle.counting.proofs.Stored.{length_filled}
 use Rattle.flat.specs.work.Work.{most_sides, dart_step}
 use Rattle.flat.proofs.Tables.{porting, tabled}
 use borrow.Author.Rules.{rules}
@@ -12,7 +12,7 @@ pub put_ports-requires : goal.put_ports-requires
 put_ports-requires c = porting c.requires.sides _ refl (length-replicate {A = ℕ} (2 * most_sides) 0)
 
 pub put_starts-requires : goal.put_starts-requires
-put_starts-requires c = let c-pre = c.requires in record { counts_in_bounds = omega (arith, c-pre.sides.few-edges, length-replicate {A = ℕ} most_sides 0); counts_bound = c-pre.sides.few-crossings }
+put_starts-requires c = let c-pre = c.requires in record { counts_in_bounds = omega (arith, c-pre.sides.few_edges, length-replicate {A = ℕ} most_sides 0); counts_bound = c-pre.sides.few_crossings }
 
 pub put_all-requires : goal.put_all-requires
 put_all-requires c = let c-put-starts = c.put_starts in
@@ -22,7 +22,7 @@ put_all-requires c = let c-put-starts = c.put_starts in
 
 pub shape_of-next : goal.shape_of-next
 shape_of-next c = let c-args = c.args in
-    ap length c.put_all.ensures ∙ length-filled (dart_step c-args.counts.now c-args.sides.now c-args.n) c-args.darts c-args.next.now
+    ap length c.put_all.ensures ∙ length_filled (dart_step c-args.counts.now c-args.sides.now c-args.n) c-args.darts c-args.next.now
 
 pub returns : goal.returns
 returns c = c.put_all.ensures

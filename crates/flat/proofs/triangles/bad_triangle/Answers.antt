@@ -1,6 +1,6 @@
 use mathlib.Core.Path.{sym}
 use native.Mathlib.Omega.{arith}
-use Rattle.flat.proofs.Keys.{triangle_drops, triangle-rises}
+use Rattle.flat.proofs.Keys.{triangle_drops, triangle_rises}
 use borrow.Author.Rules.{rules}
 use Rattle.flat.proofs.triangles.bad_triangle.Goals as goal
 
@@ -16,4 +16,4 @@ pub returns : goal.returns
 returns c = let a = c.node_at-a.ensures.value in
     let b = c.node_at-b.ensures.value in
     let d = c.node_at-c.ensures.value in
-    rw d (sym (triangle-rises _ _ (omega (arith, a, b, c.if-b-a.false)) (omega (arith, b, d, c.if-c-b.false))))
+    rw d (sym (triangle_rises _ _ (omega (arith, a, b, c.if-b-a.false)) (omega (arith, b, d, c.if-c-b.false))))

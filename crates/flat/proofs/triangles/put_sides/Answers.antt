@@ -1,6 +1,6 @@
 use native.Mathlib.Omega.{arith}
 use lib.ListN.{length-set}
-use Rattle.flat.proofs.Keys.{sides-put}
+use Rattle.flat.proofs.Keys.{sides_put}
 use borrow.Author.Rules.{rules}
 use Rattle.flat.proofs.triangles.put_sides.Goals as goal
 
@@ -11,4 +11,4 @@ pub bounds-keys-f-3 : goal.bounds-keys-f-3
 bounds-keys-f-3 c = simp length-set (omega arith)
 
 pub returns : goal.returns
-returns c = sides-put _ _ _ _ _ _ c.node_at-a.ensures.value c.node_at-b.ensures.value c.node_at-c.ensures.value
+returns c = sides_put _ _ _ _ _ _ c.node_at-a.ensures.value c.node_at-b.ensures.value c.node_at-c.ensures.value

@@ -3,19 +3,19 @@ use mathlib.Core.Path.{◌∙◌, ap}
 use native.Mathlib.Omega.{arith}
 use lib.ListN.{length}
 use Rattle.flat.specs.work.Work.{most_sides}
-use Rattle.counting.proofs.Tables.{filled-table}
-use Rattle.flat.proofs.Keys.{earlier-table, entry_le, third-first, twice-first}
+use Rattle.counting.proofs.Tables.{filled_table}
+use Rattle.flat.proofs.Keys.{earlier_table, entry_le, third_first, twice_first}
 use borrow.Author.Rules.{rules}
 use Rattle.flat.proofs.triangles.row_5.Goals as goal
 
 pub first_third-requires : goal.first_third-requires
 first_third-requires c = let n = 3 * (length c.args.triangles.now / 3) in
-    let k = filled-table _ n _ _ c.side_keys.ensures (omega (arith, c.requires.few)) in
-    let v = earlier-table k most_sides c.earlier_places.ensures (omega (arith, c.requires.few)) (omega (arith, c.requires.few)) in
+    let k = filled_table _ n _ _ c.side_keys.ensures (omega (arith, c.requires.few)) in
+    let v = earlier_table k most_sides c.earlier_places.ensures (omega (arith, c.requires.few)) (omega (arith, c.requires.few)) in
     record { n_in_bounds = v.room; by_index = entry_le _ _ n v }
 
 pub returns : goal.returns
 returns c = let n = 3 * (length c.args.triangles.now / 3) in
-    let k = filled-table _ n _ _ c.side_keys.ensures (omega (arith, c.requires.few)) in
-    let v = earlier-table k most_sides c.earlier_places.ensures (omega (arith, c.requires.few)) (omega (arith, c.requires.few)) in
-    ap (λ x. x / 3) (c.first_third.ensures ∙ twice-first _ _ n v) ∙ third-first _ c.requires _ k
+    let k = filled_table _ n _ _ c.side_keys.ensures (omega (arith, c.requires.few)) in
+    let v = earlier_table k most_sides c.earlier_places.ensures (omega (arith, c.requires.few)) (omega (arith, c.requires.few)) in
+    ap (λ x. x / 3) (c.first_third.ensures ∙ twice_first _ _ n v) ∙ third_first _ c.requires _ k

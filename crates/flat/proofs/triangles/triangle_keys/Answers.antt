@@ -3,7 +3,7 @@ use mathlib.Core.Path.{◌≡◌, ap}
 use native.Mathlib.Omega.{arith}
 use lib.ListN.{length}
 use Rattle.counting.specs.Stored.{filled}
-use Rattle.counting.proofs.Stored.{filled_more, filled_none, length-filled}
+use Rattle.counting.proofs.Stored.{filled_more, filled_none, length_filled}
 use Rattle.flat.specs.work.Work.{triangle_key}
 use borrow.Author.Rules.{rules}
 use Rattle.flat.proofs.triangles.triangle_keys.Goals as goal
@@ -13,13 +13,13 @@ loop-f-init c = (omega arith, filled_none _ _)
 
 pub bounds-keys-f : goal.bounds-keys-f
 bounds-keys-f c = let w = c.loop-f.invariant in
-    omega (arith, ap length w.1, simp length-filled at (ap length w.1))
+    omega (arith, ap length w.1, simp length_filled at (ap length w.1))
 
 pub loop-f-preserved : goal.loop-f-preserved
 loop-f-preserved c = (omega arith, filled_more _ _ _ _ _ c.loop-f.invariant.1 c.triangle_key.ensures)
 
 pub shape_of-keys : goal.shape_of-keys
-shape_of-keys c = simp length-filled at (ap length c.loop-f.invariant.1)
+shape_of-keys c = simp length_filled at (ap length c.loop-f.invariant.1)
 
 pub returns : goal.returns
 returns c = let e : c.loop-f.f ≡ length c.args.triangles.now / 3 = omega arith in

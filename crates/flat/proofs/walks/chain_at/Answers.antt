@@ -1,6 +1,6 @@
 use mathlib.Core.Path.{◌∙◌, sym}
 use native.Mathlib.Omega.{arith}
-use Rattle.flat.proofs.Walked.{closed-finds, open_finds, ran_entry, ran_lt, ran_read, ran_short}
+use Rattle.flat.proofs.Walked.{closed_finds, open_finds, ran_entry, ran_lt, ran_read, ran_short}
 use borrow.Author.Rules.{rules}
 use Rattle.flat.proofs.walks.chain_at.Goals as goal
 
@@ -30,7 +30,7 @@ overflow_mul-result c = omega (arith, c.requires.step_table.few, c.requires.p_lt
 pub returns-then-wide32-p : goal.returns-then-wide32-p
 returns-then-wide32-p c = let c-run = c.run-w in
     let c-pre = c.requires in
-    closed-finds _ _ c-pre.step_table.turns _ c-pre.p_lt_n c-pre.fresh c-run.ensures (ran_entry c-pre.step_table c-run.ensures c.wide32.ensures.0 ∙ c.if-wide32-p.true)
+    closed_finds _ _ c-pre.step_table.turns _ c-pre.p_lt_n c-pre.fresh c-run.ensures (ran_entry c-pre.step_table c-run.ensures c.wide32.ensures.0 ∙ c.if-wide32-p.true)
 
 pub overflow_mul-p-3 : goal.overflow_mul-p-3
 overflow_mul-p-3 c = omega (arith, c.requires.step_table.few, c.requires.p_lt_n)

@@ -1,5 +1,5 @@
 use mathlib.Core.Path.{◌∙◌}
-use Rattle.flat.proofs.Walked.{start_first, start-second}
+use Rattle.flat.proofs.Walked.{start_first, start_second}
 use borrow.Author.Rules.{rules}
 use Rattle.flat.proofs.walks.lower_end.Goals as goal
 
@@ -7,4 +7,4 @@ pub returns-then-a-b : goal.returns-then-a-b
 returns-then-a-b c = c.turned.ensures ∙ start_first _ _ c.if-a-b.true
 
 pub returns : goal.returns
-returns c = c.turned-2.ensures ∙ start-second _ _ c.if-a-b.false
+returns c = c.turned-2.ensures ∙ start_second _ _ c.if-a-b.false

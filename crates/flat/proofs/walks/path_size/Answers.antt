@@ -1,4 +1,4 @@
-use Rattle.flat.proofs.Walked.{size_none, size-some}
+use Rattle.flat.proofs.Walked.{size_none, size_some}
 use borrow.Author.Rules.{rules}
 use Rattle.flat.proofs.walks.path_size.Goals as goal
 
@@ -6,4 +6,4 @@ pub returns-then-k-l-eq0 : goal.returns-then-k-l-eq0
 returns-then-k-l-eq0 c = size_none _ _ c.if-k-l-eq0.true
 
 pub returns : goal.returns
-returns c = size-some _ _ c.if-k-l-eq0.false
+returns c = size_some _ _ c.if-k-l-eq0.false

@@ -3,7 +3,7 @@ use mathlib.Core.Path.{◌≡◌, ◌∙◌, ap}
 use native.Mathlib.Omega.{arith}
 use lib.ListN.{get_or, length}
 use Rattle.counting.specs.Stored.{filled}
-use Rattle.counting.proofs.Stored.{filled_more, filled_none, length-filled}
+use Rattle.counting.proofs.Stored.{filled_more, filled_none, length_filled}
 use borrow.Author.Rules.{rules}
 use Rattle.flat.proofs.words.copy_words.Goals as goal
 
@@ -17,13 +17,13 @@ pub offset_bounds-area-i : goal.offset_bounds-area-i
 offset_bounds-area-i c = omega (arith, c.requires.m_in_bounds_2)
 
 pub bounds-area-i : goal.bounds-area-i
-bounds-area-i c = omega (arith, c.requires.m_in_bounds_2, simp length-filled at (ap length c.loop-i.invariant.1))
+bounds-area-i c = omega (arith, c.requires.m_in_bounds_2, simp length_filled at (ap length c.loop-i.invariant.1))
 
 pub loop-i-preserved : goal.loop-i-preserved
 loop-i-preserved c = (omega arith, filled_more _ _ _ _ _ c.loop-i.invariant.1 c.word16.ensures.0)
 
 pub shape_of-area : goal.shape_of-area
-shape_of-area c = simp length-filled at (ap length c.loop-i.invariant.1)
+shape_of-area c = simp length_filled at (ap length c.loop-i.invariant.1)
 
 pub returns : goal.returns
 returns c = let z : c.loop-i.i ≡ c.args.m = omega (arith, c.loop-i.invariant.0) in

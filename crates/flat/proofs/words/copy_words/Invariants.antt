@@ -3,7 +3,7 @@ use mathlib.Core.Path.{◌≡◌, ◌∙◌, ap}
 use native.Mathlib.Omega.{arith}
 use lib.ListN.{get_or, length}
 use Rattle.counting.specs.Stored.{filled}
-use Rattle.counting.proofs.Stored.{filled_more, filled_none, length-filled}
+use Rattle.counting.proofs.Stored.{filled_more, filled_none, length_filled}
 use borrow.Author.Rules.{rules}
 use Rattle.flat.proofs.words.copy_words.Given as goal
 

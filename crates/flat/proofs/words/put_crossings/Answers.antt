@@ -1,7 +1,7 @@
 use Prim.Native.Nat.{◌-◌}
 use native.Mathlib.Omega.{arith}
 use Rattle.flat.specs.work.Work.{step_in}
-use Rattle.flat.proofs.Walked.{Listing, Marking, list-few, list-more, list_read, listing-all, listing-long, listing_none, mark-more, mark-place, marking_all, marking_none}
+use Rattle.flat.proofs.Walked.{Listing, Marking, list_few, list_more, list_read, listing_all, listing_long, listing_none, mark_more, mark_place, marking_all, marking_none}
 use borrow.Author.Rules.{rules}
 use Rattle.flat.proofs.words.put_crossings.Goals as goal
 
@@ -10,21 +10,21 @@ loop-i-init c = (listing_none _ _ _ _ _ _, marking_none _ _ _ _ _ c.requires.n_i
 
 pub overflow_cast-area : goal.overflow_cast-area
 overflow_cast-area c = let c-pre = c.requires in
-    omega (arith, list-few c-pre.step_table c-pre.darts_from c.loop-i.invariant.0 (omega arith))
+    omega (arith, list_few c-pre.step_table c-pre.darts_from c.loop-i.invariant.0 (omega arith))
 
 pub overflow_add-area : goal.overflow_add-area
 overflow_add-area c = omega (arith, c.requires.m_in_bounds)
 
 pub bounds-area-at : goal.bounds-area-at
-bounds-area-at c = omega (arith, c.requires.m_in_bounds, listing-long _ _ c.loop-i.invariant.0)
+bounds-area-at c = omega (arith, c.requires.m_in_bounds, listing_long _ _ c.loop-i.invariant.0)
 
 pub bounds-marks-e : goal.bounds-marks-e
 bounds-marks-e c = let c-pre = c.requires in
-    mark-place c-pre.step_table c-pre.darts_from c.loop-i.invariant.1 (omega arith)
+    mark_place c-pre.step_table c-pre.darts_from c.loop-i.invariant.1 (omega arith)
 
 pub offset_bounds-next-e : goal.offset_bounds-next-e
 offset_bounds-next-e c = let c-pre = c.requires in
-    omega (arith, list-few c-pre.step_table c-pre.darts_from c.loop-i.invariant.0 (omega arith))
+    omega (arith, list_few c-pre.step_table c-pre.darts_from c.loop-i.invariant.0 (omega arith))
 
 pub bounds-next-e : goal.bounds-next-e
 bounds-next-e c = let c-pre = c.requires in
@@ -33,13 +33,13 @@ bounds-next-e c = let c-pre = c.requires in
 pub loop-i-preserved : goal.loop-i-preserved
 loop-i-preserved c = let c-loop = c.loop-i in
     let c-pre = c.requires in
-    (list-more c-pre.step_table c-pre.darts_from c-loop.invariant.0 (omega arith) _ c.wide32-e.ensures.0, mark-more c-pre.step_table c-pre.darts_from c-loop.invariant.1 (omega arith) _ c.wide32-e.ensures.0)
+    (list_more c-pre.step_table c-pre.darts_from c-loop.invariant.0 (omega arith) _ c.wide32-e.ensures.0, mark_more c-pre.step_table c-pre.darts_from c-loop.invariant.1 (omega arith) _ c.wide32-e.ensures.0)
 
 pub shape_of-area : goal.shape_of-area
-shape_of-area c = listing-long _ _ c.loop-i.invariant.0
+shape_of-area c = listing_long _ _ c.loop-i.invariant.0
 
 pub shape_of-marks : goal.shape_of-marks
 shape_of-marks c = c.loop-i.invariant.1.marked.same
 
 pub returns : goal.returns
-returns c = record { area_after = listing-all _ _ c.loop-i.invariant.0 (omega arith); marked_on = marking_all _ _ c.loop-i.invariant.1 (omega arith) }
+returns c = record { area_after = listing_all _ _ c.loop-i.invariant.0 (omega arith); marked_on = marking_all _ _ c.loop-i.invariant.1 (omega arith) }

@@ -1,7 +1,7 @@
 use Prim.Native.Nat.{◌-◌}
 use native.Mathlib.Omega.{arith}
 use Rattle.flat.specs.work.Work.{step_in}
-use Rattle.flat.proofs.Walked.{Listing, Marking, list-few, list-more, list_read, listing-all, listing-long, listing_none, mark-more, mark-place, marking_all, marking_none}
+use Rattle.flat.proofs.Walked.{Listing, Marking, list_few, list_more, list_read, listing_all, listing_long, listing_none, mark_more, mark_place, marking_all, marking_none}
 use borrow.Author.Rules.{rules}
 use Rattle.flat.proofs.words.put_crossings.Given as goal
 

@@ -6,7 +6,7 @@ use Rattle.counting.proofs.Tables.{zeros}
 use Rattle.counting.proofs.Stored.{stored_long}
 use Rattle.flat.specs.Chain.{all_chain_words}
 use Rattle.flat.specs.work.Work.{step_in}
-use Rattle.flat.proofs.Walked.{Writing, finds_runs, finds-short, swept_fresh, swept_none, writing_all, writing_at, writing_marked, writing_more, writing_none, writing_room}
+use Rattle.flat.proofs.Walked.{Writing, finds_runs, finds_short, swept_fresh, swept_none, writing_all, writing_at, writing_marked, writing_more, writing_none, writing_room}
 use borrow.Author.Rules.{rules}
 use Rattle.flat.proofs.words.put_words.Goals as goal
 
@@ -36,7 +36,7 @@ pub put_chain-at-requires : goal.put_chain-at-requires
 put_chain-at-requires c = let c-chain-at = c.chain_at-c in
     let c-loop = c.loop-p in
     let c-pre = c.requires in
-    record { step_table = c-pre.step_table; darts_from = finds_runs _ _ c-pre.step_table.turns (omega arith) c-chain-at.ensures; size_le_n = finds-short _ _ c-pre.step_table.turns (omega arith) c-chain-at.ensures; start_in_bounds = writing_room _ _ c-pre.step_table.turns c-loop.invariant.1 (omega arith) c-chain-at.ensures; n_in_bounds = c-loop.invariant.1.swept.room }
+    record { step_table = c-pre.step_table; darts_from = finds_runs _ _ c-pre.step_table.turns (omega arith) c-chain-at.ensures; size_le_n = finds_short _ _ c-pre.step_table.turns (omega arith) c-chain-at.ensures; start_in_bounds = writing_room _ _ c-pre.step_table.turns c-loop.invariant.1 (omega arith) c-chain-at.ensures; n_in_bounds = c-loop.invariant.1.swept.room }
 
 pub overflow_add-p-in-loop-p : goal.overflow_add-p-in-loop-p
 overflow_add-p-in-loop-p c = omega (arith, c.requires.step_table.few)

@@ -7,7 +7,7 @@ use Rattle.counting.proofs.Search.{Seeking, seeking_all, seeking_hit, seeking_mo
 use Rattle.grid.proofs.Meets.{Meets, meets_last, meets_more, meets_none}
 use Rattle.grid.specs.Rows.{repeats}
 use Rattle.grid.specs.work.Walks.{cell_number}
-use Rattle.grid.proofs.Packed.{repeats-last}
+use Rattle.grid.proofs.Packed.{repeats_last}
 use borrow.Author.Rules.{rules}
 use Rattle.grid.proofs.cells.first_same.Goals as goal
 
@@ -28,7 +28,7 @@ returns-then-earlier-gt0 c = let L = c.loop-c in
     let k = c.wide.ensures in
     let kl : c.wide.result < length c.args.seen.now = omega (arith, k, p.cells.few (4 * L.c), p.fresh.room) in
     let r = meets_last w.1 _ k kl _ e.ensures.value in
-    let t = repeats-last _ _ _ p.cells L.c (omega arith) in
+    let t = repeats_last _ _ _ p.cells L.c (omega arith) in
     seeking_hit _ w.0 (omega arith) (t ∙ rw (← r) (lt-ltb _ _ c.if-earlier-gt0.true))
 
 pub loop-c-preserved : goal.loop-c-preserved
@@ -39,7 +39,7 @@ loop-c-preserved c = let L = c.loop-c in
     let k = c.wide.ensures in
     let kl : c.wide.result < length c.args.seen.now = omega (arith, k, p.cells.few (4 * L.c), p.fresh.room) in
     let r = meets_last w.1 _ k kl _ e.ensures.value in
-    let t = repeats-last _ _ _ p.cells L.c (omega arith) in
+    let t = repeats_last _ _ _ p.cells L.c (omega arith) in
     (seeking_more _ w.0 (omega arith) (t ∙ rw (← r) (le-ltb _ _ c.if-earlier-gt0.false)), meets_more w.1 _ k kl _ e.ensures.seen_after)
 
 pub returns : goal.returns

@@ -7,7 +7,7 @@ use Rattle.counting.proofs.Search.{Seeking, seeking_all, seeking_hit, seeking_mo
 use Rattle.grid.proofs.Meets.{Meets, meets_last, meets_more, meets_none}
 use Rattle.grid.specs.Rows.{repeats}
 use Rattle.grid.specs.work.Walks.{cell_number}
-use Rattle.grid.proofs.Packed.{repeats-last}
+use Rattle.grid.proofs.Packed.{repeats_last}
 use borrow.Author.Rules.{rules}
 use Rattle.grid.proofs.cells.first_same.Given as goal
 

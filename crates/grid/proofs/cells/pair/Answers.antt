@@ -6,10 +6,10 @@ use borrow.Author.Rules.{rules}
 use borrow.Author.Tests.{le-ltb, lt-ltb}
 use Rattle.counting.proofs.Search.{Seeking, seeking_all, seeking_hit, seeking_more, seeking_none}
 use Rattle.counting.proofs.Tables.{top_le, zeros}
-use Rattle.grid.proofs.Meets.{Meets, last-key, meets_last, meets_more, meets_none}
+use Rattle.grid.proofs.Meets.{Meets, last_key, meets_last, meets_more, meets_none}
 use Rattle.grid.specs.work.Work.{Mates, third_at}
 use Rattle.grid.specs.work.Walks.{entry}
-use Rattle.grid.proofs.Mates.{mates_alone, mates_two, third-none, third-not, third-there}
+use Rattle.grid.proofs.Mates.{mates_alone, mates_two, third_none, third_not, third_there}
 use Rattle.grid.proofs.cells.pair.Goals as goal
 
 pub loop-j-init : goal.loop-j-init
@@ -31,8 +31,8 @@ loop-j-preserved-then-p-eq0 c = let L = c.loop-j in
     let e = c.earlier-p in
     let k = c.wide.ensures in
     let kl = p.known L.j (omega arith) in
-    let r = last-key c.args.keys.now L.j _ (meets_last w.3 _ k (omega (arith, k, kl)) _ e.ensures.value) in
-    (seeking_more _ w.0 (omega arith) (third-none w.2 _ r c.if-p-eq0.true), w.1, mates_alone w.2 _ r c.if-p-eq0.true, meets_more w.3 _ k (omega (arith, k, kl)) _ e.ensures.seen_after)
+    let r = last_key c.args.keys.now L.j _ (meets_last w.3 _ k (omega (arith, k, kl)) _ e.ensures.value) in
+    (seeking_more _ w.0 (omega arith) (third_none w.2 _ r c.if-p-eq0.true), w.1, mates_alone w.2 _ r c.if-p-eq0.true, meets_more w.3 _ k (omega (arith, k, kl)) _ e.ensures.seen_after)
 
 pub offset_bounds-near-p : goal.offset_bounds-near-p
 offset_bounds-near-p c = let L = c.loop-j in
@@ -41,7 +41,7 @@ offset_bounds-near-p c = let L = c.loop-j in
     let e = c.earlier-p in
     let k = c.wide.ensures in
     let kl = p.known L.j (omega arith) in
-    let r = last-key c.args.keys.now L.j _ (meets_last w.3 _ k (omega (arith, k, kl)) _ e.ensures.value) in
+    let r = last_key c.args.keys.now L.j _ (meets_last w.3 _ k (omega (arith, k, kl)) _ e.ensures.value) in
     let b = top_le _ _ _ _ r in
     omega (arith, p.small)
 
@@ -52,7 +52,7 @@ bounds-near-p c = let L = c.loop-j in
     let e = c.earlier-p in
     let k = c.wide.ensures in
     let kl = p.known L.j (omega arith) in
-    let r = last-key c.args.keys.now L.j _ (meets_last w.3 _ k (omega (arith, k, kl)) _ e.ensures.value) in
+    let r = last_key c.args.keys.now L.j _ (meets_last w.3 _ k (omega (arith, k, kl)) _ e.ensures.value) in
     let b = top_le _ _ _ _ r in
     omega (arith, w.1, p.room)
 
@@ -63,7 +63,7 @@ shape_of-seen-then-near-p-ne0 c = let L = c.loop-j in
     let e = c.earlier-p in
     let k = c.wide.ensures in
     let kl = p.known L.j (omega arith) in
-    let r = last-key c.args.keys.now L.j _ (meets_last w.3 _ k (omega (arith, k, kl)) _ e.ensures.value) in
+    let r = last_key c.args.keys.now L.j _ (meets_last w.3 _ k (omega (arith, k, kl)) _ e.ensures.value) in
     let b = top_le _ _ _ _ r in
     (meets_more w.3 _ k (omega (arith, k, kl)) _ e.ensures.seen_after).room
 
@@ -77,8 +77,8 @@ returns-then-near-p-ne0 c = let L = c.loop-j in
     let e = c.earlier-p in
     let k = c.wide.ensures in
     let kl = p.known L.j (omega arith) in
-    let r = last-key c.args.keys.now L.j _ (meets_last w.3 _ k (omega (arith, k, kl)) _ e.ensures.value) in
-    let t = third-there w.2 _ r (omega (arith, c.if-p-eq0.false)) (omega (arith, c.if-near-p-ne0.true)) in
+    let r = last_key c.args.keys.now L.j _ (meets_last w.3 _ k (omega (arith, k, kl)) _ e.ensures.value) in
+    let t = third_there w.2 _ r (omega (arith, c.if-p-eq0.false)) (omega (arith, c.if-near-p-ne0.true)) in
     record { is = seeking_hit _ w.0 (omega arith) t; mates = w.2 }
 
 pub overflow_cast-near : goal.overflow_cast-near
@@ -88,7 +88,7 @@ overflow_cast-near c = let L = c.loop-j in
     let e = c.earlier-p in
     let k = c.wide.ensures in
     let kl = p.known L.j (omega arith) in
-    let r = last-key c.args.keys.now L.j _ (meets_last w.3 _ k (omega (arith, k, kl)) _ e.ensures.value) in
+    let r = last_key c.args.keys.now L.j _ (meets_last w.3 _ k (omega (arith, k, kl)) _ e.ensures.value) in
     let b = top_le _ _ _ _ r in
     omega (arith, p.small)
 
@@ -108,7 +108,7 @@ offset_bounds-near-p-in-loop-j c = let L = c.loop-j in
     let e = c.earlier-p in
     let k = c.wide.ensures in
     let kl = p.known L.j (omega arith) in
-    let r = last-key c.args.keys.now L.j _ (meets_last w.3 _ k (omega (arith, k, kl)) _ e.ensures.value) in
+    let r = last_key c.args.keys.now L.j _ (meets_last w.3 _ k (omega (arith, k, kl)) _ e.ensures.value) in
     let b = top_le _ _ _ _ r in
     omega (arith, p.small)
 
@@ -119,7 +119,7 @@ bounds-near-p-in-loop-j c = let L = c.loop-j in
     let e = c.earlier-p in
     let k = c.wide.ensures in
     let kl = p.known L.j (omega arith) in
-    let r = last-key c.args.keys.now L.j _ (meets_last w.3 _ k (omega (arith, k, kl)) _ e.ensures.value) in
+    let r = last_key c.args.keys.now L.j _ (meets_last w.3 _ k (omega (arith, k, kl)) _ e.ensures.value) in
     let b = top_le _ _ _ _ r in
     simp length-set (omega (arith, w.1, p.room))
 
@@ -130,11 +130,11 @@ loop-j-preserved c = let L = c.loop-j in
     let e = c.earlier-p in
     let k = c.wide.ensures in
     let kl = p.known L.j (omega arith) in
-    let r = last-key c.args.keys.now L.j _ (meets_last w.3 _ k (omega (arith, k, kl)) _ e.ensures.value) in
+    let r = last_key c.args.keys.now L.j _ (meets_last w.3 _ k (omega (arith, k, kl)) _ e.ensures.value) in
     let q : 0 < e.result = omega (arith, c.if-p-eq0.false) in
     let z = c.if-near-p-ne0.false in
     let h : L.j < length L.near = omega (arith, w.1, p.room) in
-    (seeking_more _ w.0 (omega arith) (third-not w.2 _ r q z h), simp length-set w.1, mates_two w.2 _ r q z h, meets_more w.3 _ k (omega (arith, k, kl)) _ e.ensures.seen_after)
+    (seeking_more _ w.0 (omega arith) (third_not w.2 _ r q z h), simp length-set w.1, mates_two w.2 _ r q z h, meets_more w.3 _ k (omega (arith, k, kl)) _ e.ensures.seen_after)
 
 pub shape_of-seen : goal.shape_of-seen
 shape_of-seen c = c.loop-j.invariant.3.room

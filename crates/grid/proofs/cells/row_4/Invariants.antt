@@ -3,7 +3,7 @@ use mathlib.Core.Path.{◌∙◌, sym}
 use native.Mathlib.Omega.{arith}
 use Rattle.counting.proofs.Search.{Seeking, seeking_all, seeking_hit, seeking_more, seeking_none}
 use Rattle.grid.specs.Rows.{repeats}
-use Rattle.grid.proofs.Again.{repeats-again}
+use Rattle.grid.proofs.Again.{repeats_again}
 use borrow.Author.Rules.{rules}
 use Rattle.grid.proofs.cells.row_4.Given as goal
 

@@ -1,6 +1,6 @@
 use native.Mathlib.Omega.{arith}
-use Rattle.grid.proofs.Faces.{paired-near, third-first}
-use Rattle.grid.proofs.Mates.{mates-none}
+use Rattle.grid.proofs.Faces.{paired_near, third_first}
+use Rattle.grid.proofs.Mates.{mates_none}
 use borrow.Author.Rules.{rules}
 use Rattle.grid.proofs.cells.row_5.Goals as goal
 
@@ -12,10 +12,10 @@ pair-requires c = let p = c.requires in
       unseen = p.fresh.blank;
       room = p.fresh_2.room;
       small = omega (arith, p.rising_cells.few);
-      blank = mates-none _ _ p.fresh_2.blank;
+      blank = mates_none _ _ p.fresh_2.blank;
     }
 
 pub returns : goal.returns
 returns c = let p = c.requires in
     let q = c.pair.ensures in
-    record { value = rw q.is (third-first _ p.rising_cells _ p.slots); neighbours = λ h. paired-near _ p.rising_cells _ p.slots _ _ (omega (arith, c.pair.auto.near, p.fresh_2.room)) q h }
+    record { value = rw q.is (third_first _ p.rising_cells _ p.slots); neighbours = λ h. paired_near _ p.rising_cells _ p.slots _ _ (omega (arith, c.pair.auto.near, p.fresh_2.room)) q h }

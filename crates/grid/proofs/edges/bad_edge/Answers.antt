@@ -3,7 +3,7 @@ use native.Mathlib.Omega.{arith}
 use borrow.Author.Rules.{rules}
 use borrow.Author.Tests.{le-ltb, lt-ltb}
 use Rattle.grid.specs.Rows.{bad_edge}
-use Rattle.grid.proofs.Sides.{after-key, leb-not}
+use Rattle.grid.proofs.Sides.{after_key, leb_not}
 use Rattle.grid.proofs.edges.bad_edge.Goals as goal
 
 pub returns-then-v-u : goal.returns-then-v-u
@@ -28,8 +28,8 @@ returns c = let c-args = c.args in
       ← c-end-at2.ensures.value,
       lt-ltb _ _ c.if-v-u.false,
       lt-ltb 0 c-args.e (omega (arith, c.if-e-eq0.false)),
-      after-key c-args.edges.now (λ i. omega (arith, c-shared-slice-known.given i)) (c-args.e - 1) c-args.e,
+      after_key c-args.edges.now (λ i. omega (arith, c-shared-slice-known.given i)) (c-args.e - 1) c-args.e,
       ← c.edge_key.ensures,
       ← c.edge_key-2.ensures,
     )
-    (leb-not c.edge_key.result c.edge_key-2.result)
+    (leb_not c.edge_key.result c.edge_key-2.result)

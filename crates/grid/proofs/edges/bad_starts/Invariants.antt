@@ -5,11 +5,11 @@ use native.Mathlib.Omega.{arith}
 use lib.ListN.{length}
 use borrow.Author.Rules.{rules}
 use Rattle.counting.specs.Search.{some}
-use Rattle.counting.proofs.Search.{some-found, some_miss, some-zero}
+use Rattle.counting.proofs.Search.{some_found, some_miss, some_zero}
 use Rattle.grid.specs.Grid.{start}
 use Rattle.grid.specs.Rows.{bad_start}
-use Rattle.grid.proofs.Crossings.{start-next, start-zero}
-use Rattle.grid.proofs.Starts.{bad-start, fine-start}
+use Rattle.grid.proofs.Crossings.{start_next, start_zero}
+use Rattle.grid.proofs.Starts.{bad-start, fine_start}
 use Rattle.grid.proofs.edges.bad_starts.Given as goal
 
 -- the sum is the start of the next edge, and no start so far is bad

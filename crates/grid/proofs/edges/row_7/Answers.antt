@@ -7,7 +7,7 @@ use borrow.Author.Tests.{eq-eqb, ne_eqb}
 use Rattle.counting.proofs.Search.{Seeking, seeking_all, seeking_hit, seeking_more, seeking_none}
 use Rattle.grid.specs.Grid.{cell_count}
 use Rattle.grid.proofs.Laying.{Tallying, tallying_end, tallying_few, tallying_lt, tallying_more, tallying_room, tallying_start}
-use Rattle.grid.proofs.Sides.{blank-first}
+use Rattle.grid.proofs.Sides.{blank_first}
 use borrow.Author.Rules.{rules}
 use Rattle.grid.proofs.edges.row_7.Goals as goal
 
@@ -21,13 +21,13 @@ pub bounds-sides-j : goal.bounds-sides-j
 bounds-sides-j c = omega (arith, c.requires.keyed)
 
 pub shape_of-top-then-t-eq0 : goal.shape_of-top-then-t-eq0
-shape_of-top-then-t-eq0 c = c.loop-j.invariant.1.top-same
+shape_of-top-then-t-eq0 c = c.loop-j.invariant.1.top_same
 
 pub shape_of-degree-then-t-eq0 : goal.shape_of-degree-then-t-eq0
 shape_of-degree-then-t-eq0 c = c.loop-j.invariant.1.degree_same
 
 pub returns-then-t-eq0 : goal.returns-then-t-eq0
-returns-then-t-eq0 c = let a = c.args in record { value = ap (λ (x : ℕ). x / 6) (seeking_hit _ c.loop-j.invariant.0 (omega arith) (eq-eqb _ _ (sym c.wide-t.ensures ∙ c.if-t-eq0.true))) ∙ blank-first a.sides.now (cell_count a.cells.now); tallied = λ l. absurd (omega arith) }
+returns-then-t-eq0 c = let a = c.args in record { value = ap (λ (x : ℕ). x / 6) (seeking_hit _ c.loop-j.invariant.0 (omega arith) (eq-eqb _ _ (sym c.wide-t.ensures ∙ c.if-t-eq0.true))) ∙ blank_first a.sides.now (cell_count a.cells.now); tallied = λ l. absurd (omega arith) }
 
 pub offset_bounds-degree-t : goal.offset_bounds-degree-t
 offset_bounds-degree-t c = omega (arith, tallying_room c.requires c.loop-j.invariant.1 (omega arith) _ c.wide-t.ensures)
@@ -57,4 +57,4 @@ pub loop-j-preserved : goal.loop-j-preserved
 loop-j-preserved c = (seeking_more _ c.loop-j.invariant.0 (omega arith) (ne_eqb _ _ (λ e. c.if-t-eq0.false (c.wide-t.ensures ∙ e))), tallying_more c.requires c.loop-j.invariant.1 (omega arith) _ c.wide-t.ensures)
 
 pub returns : goal.returns
-returns c = let a = c.args in record { value = ap (λ (x : ℕ). x / 6) (seeking_all _ c.loop-j.invariant.0 (omega arith)) ∙ blank-first a.sides.now (cell_count a.cells.now); tallied = λ l. tallying_end c.requires c.loop-j.invariant.1 c.loop-j.invariant.0.within (omega arith) }
+returns c = let a = c.args in record { value = ap (λ (x : ℕ). x / 6) (seeking_all _ c.loop-j.invariant.0 (omega arith)) ∙ blank_first a.sides.now (cell_count a.cells.now); tallied = λ l. tallying_end c.requires c.loop-j.invariant.1 c.loop-j.invariant.0.within (omega arith) }

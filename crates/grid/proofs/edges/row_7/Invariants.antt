@@ -7,7 +7,7 @@ use borrow.Author.Tests.{eq-eqb, ne_eqb}
 use Rattle.counting.proofs.Search.{Seeking, seeking_all, seeking_hit, seeking_more, seeking_none}
 use Rattle.grid.specs.Grid.{cell_count}
 use Rattle.grid.proofs.Laying.{Tallying, tallying_end, tallying_few, tallying_lt, tallying_more, tallying_room, tallying_start}
-use Rattle.grid.proofs.Sides.{blank-first}
+use Rattle.grid.proofs.Sides.{blank_first}
 use borrow.Author.Rules.{rules}
 use Rattle.grid.proofs.edges.row_7.Given as goal
 

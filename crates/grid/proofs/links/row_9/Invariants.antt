@@ -5,7 +5,7 @@ use lib.ListN.{length}
 use Rattle.counting.proofs.Search.{Seeking, seeking_all, seeking_hit, seeking_more, seeking_none}
 use Rattle.grid.specs.Grid.{built}
 use Rattle.grid.specs.Rows.{split}
-use Rattle.grid.proofs.Ring.{Under, may_split, split-single, split-told, under_more}
+use Rattle.grid.proofs.Ring.{Under, may_split, split_single, split_told, under_more}
 use borrow.Author.Rules.{rules}
 use Rattle.grid.proofs.links.row_9.Given as goal
 

@@ -1,6 +1,6 @@
 use mathlib.Core.Path.{◌∙◌, refl, sym}
 use native.Mathlib.Omega.{arith}
-use Rattle.grid.proofs.Marks.{both-same, first-same, lower-on, may_spread, may_spread_first, met_all, met_first_le, met_le, other-apart, split-counted, spread_both, spread_whole, top_within}
+use Rattle.grid.proofs.Marks.{both_same, first_same, lower_on, may_spread, may_spread_first, met_all, met_first_le, met_le, other_apart, split_counted, spread_both, spread_whole, top_within}
 use borrow.Author.Rules.{rules}
 use Rattle.grid.proofs.links.split_at.Goals as goal
 
@@ -14,31 +14,31 @@ pub bounds-marks-c : goal.bounds-marks-c
 bounds-marks-c c = omega (arith, top_within c.requires, c.requires.found, c.requires.room)
 
 pub other_side-t-requires : goal.other_side-t-requires
-other_side-t-requires c = lower-on _ _ (omega arith) c.lower_slot-s.ensures
+other_side-t-requires c = lower_on _ _ (omega arith) c.lower_slot-s.ensures
 
 pub overflow_mul-c : goal.overflow_mul-c
 overflow_mul-c c = omega (arith, top_within c.requires, c.requires.paired.few)
 
 pub overflow_add-c : goal.overflow_add-c
-overflow_add-c c = let on = lower-on _ _ (omega arith) c.lower_slot-s.ensures in
+overflow_add-c c = let on = lower_on _ _ (omega arith) c.lower_slot-s.ensures in
     omega (arith, top_within c.requires, c.requires.paired.few, on.slot_lt)
 
 pub rank_of-requires : goal.rank_of-requires
-rank_of-requires c = let on = lower-on _ _ (omega arith) c.lower_slot-s.ensures in
+rank_of-requires c = let on = lower_on _ _ (omega arith) c.lower_slot-s.ensures in
     let o = c.other_side-t.ensures in
-    record { i_bound = o.upper_bound; s_bound = on.slot_lt; i_nonzero = other-apart c.requires on _ o.value }
+    record { i_bound = o.upper_bound; s_bound = on.slot_lt; i_nonzero = other_apart c.requires on _ o.value }
 
 pub spread-a-requires : goal.spread-a-requires
-spread-a-requires c = may_spread_first c.requires (lower-on _ _ (omega arith) c.lower_slot-s.ensures) _ c.rank_of.ensures.upper_bound
+spread-a-requires c = may_spread_first c.requires (lower_on _ _ (omega arith) c.lower_slot-s.ensures) _ c.rank_of.ensures.upper_bound
 
 pub overflow_add-a : goal.overflow_add-a
 overflow_add-a c = omega (arith, met_first_le c.requires c.spread-a.ensures, c.requires.paired.few)
 
 pub shape_of-marks-then-a-degree : goal.shape_of-marks-then-a-degree
-shape_of-marks-then-a-degree c = first-same c.requires c.spread-a.ensures
+shape_of-marks-then-a-degree c = first_same c.requires c.spread-a.ensures
 
 pub returns-then-a-degree : goal.returns-then-a-degree
-returns-then-a-degree c = record { reached = (spread_whole c.requires (lower-on _ _ (omega arith) c.lower_slot-s.ensures) _ _ c.other_side-t.ensures.value c.rank_of.ensures.value _ _ c.spread-a.ensures c.if-a-degree.true).0; value = (spread_whole c.requires (lower-on _ _ (omega arith) c.lower_slot-s.ensures) _ _ c.other_side-t.ensures.value c.rank_of.ensures.value _ _ c.spread-a.ensures c.if-a-degree.true).1 }
+returns-then-a-degree c = record { reached = (spread_whole c.requires (lower_on _ _ (omega arith) c.lower_slot-s.ensures) _ _ c.other_side-t.ensures.value c.rank_of.ensures.value _ _ c.spread-a.ensures c.if-a-degree.true).0; value = (spread_whole c.requires (lower_on _ _ (omega arith) c.lower_slot-s.ensures) _ _ c.other_side-t.ensures.value c.rank_of.ensures.value _ _ c.spread-a.ensures c.if-a-degree.true).1 }
 
 pub overflow_mul-c-2 : goal.overflow_mul-c-2
 overflow_mul-c-2 c = omega (arith, top_within c.requires, c.requires.paired.few)
@@ -47,12 +47,12 @@ pub overflow_add-c-2 : goal.overflow_add-c-2
 overflow_add-c-2 c = omega (arith, top_within c.requires, c.requires.paired.few, c.other_side-t.ensures.upper_bound)
 
 pub rank_of-requires-2 : goal.rank_of-requires-2
-rank_of-requires-2 c = let on = lower-on _ _ (omega arith) c.lower_slot-s.ensures in
+rank_of-requires-2 c = let on = lower_on _ _ (omega arith) c.lower_slot-s.ensures in
     let o = c.other_side-t.ensures in
-    record { i_bound = on.slot_lt; s_bound = o.upper_bound; i_nonzero = λ e. other-apart c.requires on _ o.value (sym e) }
+    record { i_bound = on.slot_lt; s_bound = o.upper_bound; i_nonzero = λ e. other_apart c.requires on _ o.value (sym e) }
 
 pub spread-b-requires : goal.spread-b-requires
-spread-b-requires c = may_spread c.requires _ _ c.other_side-t.ensures.upper_bound c.rank_of-2.ensures.upper_bound _ (first-same c.requires c.spread-a.ensures)
+spread-b-requires c = may_spread c.requires _ _ c.other_side-t.ensures.upper_bound c.rank_of-2.ensures.upper_bound _ (first_same c.requires c.spread-a.ensures)
 
 pub overflow_add-result : goal.overflow_add-result
 overflow_add-result c = omega (arith, met_le c.requires c.spread-a.ensures c.spread-b.ensures, c.requires.paired.few)
@@ -61,9 +61,9 @@ pub overflow_add-result-2 : goal.overflow_add-result-2
 overflow_add-result-2 c = omega (arith, met_le c.requires c.spread-a.ensures c.spread-b.ensures, c.requires.paired.few)
 
 pub shape_of-marks : goal.shape_of-marks
-shape_of-marks c = both-same c.requires c.spread-a.ensures c.spread-b.ensures
+shape_of-marks c = both_same c.requires c.spread-a.ensures c.spread-b.ensures
 
 pub returns : goal.returns
 returns c = let o = c.other_side-t.ensures in
-    let R = spread_both c.requires (lower-on _ _ (omega arith) c.lower_slot-s.ensures) _ _ _ o.value o.upper_bound c.rank_of.ensures.value c.rank_of-2.ensures.value _ _ _ _ c.spread-a.ensures c.spread-b.ensures in
-    record { reached = R; value = split-counted c.requires _ (met_all c.requires c.spread-a.ensures c.spread-b.ensures) R _ refl }
+    let R = spread_both c.requires (lower_on _ _ (omega arith) c.lower_slot-s.ensures) _ _ _ o.value o.upper_bound c.rank_of.ensures.value c.rank_of-2.ensures.value _ _ _ _ c.spread-a.ensures c.spread-b.ensures in
+    record { reached = R; value = split_counted c.requires _ (met_all c.requires c.spread-a.ensures c.spread-b.ensures) R _ refl }

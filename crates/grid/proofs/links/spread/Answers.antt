@@ -1,20 +1,20 @@
 use Prim.Native.Nat.{ℕ, ◌<◌, min}
 use mathlib.Core.Path.{◌≡◌, sym, ap, ◌∙◌}
 use native.Mathlib.Omega.{arith}
-use Rattle.grid.proofs.Marks.{Walking, marked_le, unmarked_cells, unmarked-less, walking_end, walking_lt, walking_met, walking_more, walking_start}
+use Rattle.grid.proofs.Marks.{Walking, marked_le, unmarked_cells, unmarked_less, walking_end, walking_lt, walking_met, walking_more, walking_start}
 use borrow.Author.Rules.{rules}
 use Rattle.slots.specs.Slots.{position}
 use Rattle.slots.proofs.Slots.{omitted}
 use Rattle.grid.proofs.links.spread.Goals as goal
 
-at-rank : (s : ℕ) {r i : ℕ} → i < 3 → r ≡ position s (min i 2) → r ≡ position s i
-at-rank s l e = e ∙ ap (position s) (omega arith)
+at_rank : (s : ℕ) {r i : ℕ} → i < 3 → r ≡ position s (min i 2) → r ≡ position s i
+at_rank s l e = e ∙ ap (position s) (omega arith)
 
 pub offset_bounds-near-start : goal.offset_bounds-near-start
-offset_bounds-near-start c = omega (arith, c.requires.slot, c.requires.near-room)
+offset_bounds-near-start c = omega (arith, c.requires.slot, c.requires.near_room)
 
 pub bounds-near-start : goal.bounds-near-start
-bounds-near-start c = omega (arith, c.requires.slot, c.requires.near-room)
+bounds-near-start c = omega (arith, c.requires.slot, c.requires.near_room)
 
 pub loop-p-init : goal.loop-p-init
 loop-p-init c = walking_start c.requires _ c.wide-p.ensures
@@ -53,18 +53,18 @@ pub offset_bounds-near-c : goal.offset_bounds-near-c
 offset_bounds-near-c c = omega (arith, walking_lt c.requires c.loop-p.invariant, c.requires.few, c.position-s.ensures.1)
 
 pub bounds-near-c : goal.bounds-near-c
-bounds-near-c c = omega (arith, walking_lt c.requires c.loop-p.invariant, c.requires.near-room, c.position-s.ensures.1)
+bounds-near-c c = omega (arith, walking_lt c.requires c.loop-p.invariant, c.requires.near_room, c.position-s.ensures.1)
 
 pub loop-p-smaller : goal.loop-p-smaller
 loop-p-smaller c = let P = c.requires in
     let w = c.loop-p.invariant in
     let g = walking_lt P w in
-    unmarked-less _ _ _ _ (omega arith) (omega (arith, g, w.same, P.room)) c.if-marks-c.false
+    unmarked_less _ _ _ _ (omega arith) (omega (arith, g, w.same, P.room)) c.if-marks-c.false
 
 pub loop-p-preserved : goal.loop-p-preserved
 loop-p-preserved c = let s = c.position-s.ensures in
     let t = c.rank_of-r.ensures in
-    walking_more c.requires c.loop-p.invariant (omega arith) c.if-marks-c.false _ _ _ s.1 (at-rank _ c.loop-p.invariant.rank_lt s.0) t.upper_bound t.value c.wide-p-in-loop-p.ensures
+    walking_more c.requires c.loop-p.invariant (omega arith) c.if-marks-c.false _ _ _ s.1 (at_rank _ c.loop-p.invariant.rank_lt s.0) t.upper_bound t.value c.wide-p-in-loop-p.ensures
 
 pub shape_of-marks : goal.shape_of-marks
 shape_of-marks c = c.loop-p.invariant.same

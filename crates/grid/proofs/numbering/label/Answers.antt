@@ -5,19 +5,19 @@ use lib.ListN.{length, length-set}
 use borrow.Author.Rules.{rules}
 use Rattle.grid.specs.work.Numbered.{Does}
 use Rattle.grid.proofs.Turns.{does_none, does_number}
-use Rattle.grid.proofs.Passes.{label-end, label-more, label-one}
+use Rattle.grid.proofs.Passes.{label_end, label_more, label_one}
 use Rattle.grid.proofs.numbering.label.Goals as goal
 
 pub loop-j-init : goal.loop-j-init
 loop-j-init c = (omega arith, does_none _ _ _ _ _ _ (λ j h. omega arith))
 
 pub number-m-requires : goal.number-m-requires
-number-m-requires c = label-one c.requires c.loop-j.invariant.1 (omega arith)
+number-m-requires c = label_one c.requires c.loop-j.invariant.1 (omega arith)
 
 pub loop-j-preserved : goal.loop-j-preserved
 loop-j-preserved c = let w = c.loop-j.invariant in
     let e = c.number-m.ensures in
-    (omega arith, label-more c.requires w.1 (does_number _ _ _ _ _ _ (label-one c.requires w.1 (omega arith)) _ _ _ e.value e.at_after e.out_after))
+    (omega arith, label_more c.requires w.1 (does_number _ _ _ _ _ _ (label_one c.requires w.1 (omega arith)) _ _ _ e.value e.at_after e.out_after))
 
 pub shape_of-at : goal.shape_of-at
 shape_of-at c = c.loop-j.invariant.1.at_long
@@ -28,4 +28,4 @@ shape_of-out c = c.loop-j.invariant.1.out_long
 pub returns : goal.returns
 returns c = let w = c.loop-j.invariant in
     let e : c.loop-j.j ≡ c.args.n = omega (arith, w.0) in
-    label-end c.requires (rw e at w.1)
+    label_end c.requires (rw e at w.1)

@@ -1,6 +1,6 @@
 use mathlib.Core.Path.{◌∙◌}
 use native.Mathlib.Omega.{arith}
-use Rattle.grid.proofs.Tellings.{cells_passable, cells-tell}
+use Rattle.grid.proofs.Tellings.{cells_passable, cells_tell}
 use borrow.Author.Rules.{rules}
 use Rattle.grid.proofs.numbering.number_cells.Goals as goal
 
@@ -14,4 +14,4 @@ pub shape_of-same : goal.shape_of-same
 shape_of-same c = c.pass.ensures.out_long ∙ c.clear.auto.table
 
 pub returns : goal.returns
-returns c = cells-tell c.requires.low_chains c.requires.comparable c.clear-2.auto.table c.clear-2.ensures c.clear.auto.table c.clear.ensures _ _ c.pass.ensures
+returns c = cells_tell c.requires.low_chains c.requires.comparable c.clear-2.auto.table c.clear-2.ensures c.clear.auto.table c.clear.ensures _ _ c.pass.ensures

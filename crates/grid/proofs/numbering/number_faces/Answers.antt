@@ -1,5 +1,5 @@
 use native.Mathlib.Omega.{arith}
-use Rattle.grid.proofs.Tellings.{cells_labelling, cells_slotted, faces-told, label-chains, low-chains, node-chains, slots_linkable}
+use Rattle.grid.proofs.Tellings.{cells_labelling, cells_slotted, faces_told, label-chains, low-chains, node-chains, slots_linkable}
 use borrow.Author.Rules.{rules}
 use Rattle.grid.proofs.numbering.number_faces.Goals as goal
 
@@ -60,4 +60,4 @@ returns c = let L = c.label-m.ensures in
     let S = cells_slotted c.requires.numerable L in
     let e = c.chains.ensures in
     let C = label-chains S c.requires.chain_tables e.linked e.linked_2 e.linked_3 in
-    record { slots = faces-told _ _ _ _ _ _ L c.number_slots.ensures; node_chains = node-chains c.requires.numerable L C; low_chains = low-chains c.requires.numerable L C }
+    record { slots = faces_told _ _ _ _ _ _ L c.number_slots.ensures; node_chains = node-chains c.requires.numerable L C; low_chains = low-chains c.requires.numerable L C }

@@ -1,12 +1,12 @@
 use mathlib.Core.Path.{refl}
 use native.Mathlib.Omega.{arith}
-use Rattle.counting.proofs.Tables.{filled-table}
-use Rattle.grid.proofs.Tellings.{pairs_passable, pairs-told}
+use Rattle.counting.proofs.Tables.{filled_table}
+use Rattle.grid.proofs.Tellings.{pairs_passable, pairs_told}
 use borrow.Author.Rules.{rules}
 use Rattle.grid.proofs.numbering.number_pairs.Goals as goal
 
 pub pass-requires : goal.pass-requires
-pass-requires c = pairs_passable c.requires _ (filled-table _ _ _ _ c.thirds.ensures c.requires.keys_room)
+pass-requires c = pairs_passable c.requires _ (filled_table _ _ _ _ c.thirds.ensures c.requires.keys_room)
 
 pub returns : goal.returns
-returns c = pairs-told c.requires _ _ _ (filled-table _ _ _ _ c.thirds.ensures c.requires.keys_room) c.pass.ensures
+returns c = pairs_told c.requires _ _ _ (filled_table _ _ _ _ c.thirds.ensures c.requires.keys_room) c.pass.ensures

@@ -5,12 +5,12 @@ use borrow.Author.Rules.{rules}
 use Rattle.grid.specs.work.Numbered.{Does}
 use Rattle.grid.specs.work.Walks.{InSlots}
 use Rattle.grid.proofs.Turns.{does_number}
-use Rattle.grid.proofs.Places.{slot_in, slots-more, slots-none, slots-ready}
+use Rattle.grid.proofs.Places.{slot_in, slots_more, slots_none, slots_ready}
 use Rattle.grid.proofs.numbering.numbers.Goals as goal
 
 pub loop-s-init : goal.loop-s-init
 loop-s-init c = let p = c.requires in
-    (omega arith, omega (arith, p.from_le_to), slots-none _ _ _ p.to_bound)
+    (omega arith, omega (arith, p.from_le_to), slots_none _ _ _ p.to_bound)
 
 pub overflow_mul-c : goal.overflow_mul-c
 overflow_mul-c c = let p = c.requires in
@@ -27,14 +27,14 @@ overflow_add-c c = let p = c.requires in
 pub number-m-requires : goal.number-m-requires
 number-m-requires c = let p = c.requires in
     let w = c.loop-s.invariant in
-    slots-ready _ _ _ p.to_bound w.0 (omega arith) w.2 p.ready
+    slots_ready _ _ _ p.to_bound w.0 (omega arith) w.2 p.ready
 
 pub loop-s-preserved : goal.loop-s-preserved
 loop-s-preserved c = let p = c.requires in
     let w = c.loop-s.invariant in
     let e = c.number-m.ensures in
-    let r = slots-ready _ _ _ p.to_bound w.0 (omega arith) w.2 p.ready in
-    (omega arith, omega arith, slots-more _ _ _ p.to_bound w.0 (omega arith) w.2 (does_number _ _ _ _ _ _ r _ _ _ e.value e.at_after e.out_after))
+    let r = slots_ready _ _ _ p.to_bound w.0 (omega arith) w.2 p.ready in
+    (omega arith, omega arith, slots_more _ _ _ p.to_bound w.0 (omega arith) w.2 (does_number _ _ _ _ _ _ r _ _ _ e.value e.at_after e.out_after))
 
 pub shape_of-at : goal.shape_of-at
 shape_of-at c = c.loop-s.invariant.2.at_long

@@ -5,7 +5,7 @@ use borrow.Author.Rules.{rules}
 use Rattle.grid.specs.work.Numbered.{Does}
 use Rattle.grid.specs.work.Walks.{InSlots}
 use Rattle.grid.proofs.Turns.{does_number}
-use Rattle.grid.proofs.Places.{slot_in, slots-more, slots-none, slots-ready}
+use Rattle.grid.proofs.Places.{slot_in, slots_more, slots_none, slots_ready}
 use Rattle.grid.proofs.numbering.numbers.Given as goal
 
 abbrev pub invariant-loop-s : goal.invariant-loop-s

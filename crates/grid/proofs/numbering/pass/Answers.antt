@@ -3,20 +3,20 @@ use mathlib.Core.Path.{◌≡◌, refl, ◌∙◌}
 use native.Mathlib.Omega.{arith}
 use lib.ListN.{length, length-set}
 use borrow.Author.Rules.{rules}
-use Rattle.grid.proofs.Passes.{Passing, passing-a, passing-b, passing-end, passing-more, passing-none}
+use Rattle.grid.proofs.Passes.{Passing, passing_a, passing_b, passing_end, passing_more, passing_none}
 use Rattle.grid.proofs.numbering.pass.Goals as goal
 
 pub loop-r-init : goal.loop-r-init
-loop-r-init c = passing-none
+loop-r-init c = passing_none
 
 pub walk-d-requires : goal.walk-d-requires
-walk-d-requires c = passing-a c.loop-r.invariant c.requires (omega arith)
+walk-d-requires c = passing_a c.loop-r.invariant c.requires (omega arith)
 
 pub walk-ids-requires : goal.walk-ids-requires
-walk-ids-requires c = passing-b c.loop-r.invariant c.requires (omega arith) c.walk-d.ensures
+walk-ids-requires c = passing_b c.loop-r.invariant c.requires (omega arith) c.walk-d.ensures
 
 pub loop-r-preserved : goal.loop-r-preserved
-loop-r-preserved c = passing-more c.loop-r.invariant (omega arith) c.walk-d.ensures c.walk-ids.ensures
+loop-r-preserved c = passing_more c.loop-r.invariant (omega arith) c.walk-d.ensures c.walk-ids.ensures
 
 pub shape_of-at : goal.shape_of-at
 shape_of-at c = c.loop-r.invariant.at_long
@@ -25,4 +25,4 @@ pub shape_of-out : goal.shape_of-out
 shape_of-out c = c.loop-r.invariant.out_long
 
 pub returns : goal.returns
-returns c = passing-end c.loop-r.invariant (omega arith)
+returns c = passing_end c.loop-r.invariant (omega arith)

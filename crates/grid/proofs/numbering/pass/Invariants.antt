@@ -3,7 +3,7 @@ use mathlib.Core.Path.{◌≡◌, refl, ◌∙◌}
 use native.Mathlib.Omega.{arith}
 use lib.ListN.{length, length-set}
 use borrow.Author.Rules.{rules}
-use Rattle.grid.proofs.Passes.{Passing, passing-a, passing-b, passing-end, passing-more, passing-none}
+use Rattle.grid.proofs.Passes.{Passing, passing_a, passing_b, passing_end, passing_more, passing_none}
 use Rattle.grid.proofs.numbering.pass.Given as goal
 
 abbrev pub invariant-loop-r : goal.invariant-loop-r

@@ -3,9 +3,9 @@ use mathlib.Core.Path.{◌≡◌, ap}
 use native.Mathlib.Omega.{arith}
 use lib.ListN.{length, length-set}
 use Rattle.counting.specs.Stored.{filled}
-use Rattle.counting.proofs.Stored.{filled_none, length-filled}
+use Rattle.counting.proofs.Stored.{filled_none, length_filled}
 use Rattle.grid.specs.work.Walks.{corner}
-use Rattle.grid.proofs.Tellings.{thirds-more}
+use Rattle.grid.proofs.Tellings.{thirds_more}
 use borrow.Author.Rules.{rules}
 use Rattle.grid.proofs.numbering.thirds.Goals as goal
 
@@ -31,7 +31,7 @@ pub offset_bounds-out-c : goal.offset_bounds-out-c
 offset_bounds-out-c c = omega (arith, c.requires.n_in_bounds)
 
 pub bounds-out-c : goal.bounds-out-c
-bounds-out-c c = omega (arith, simp length-filled at (ap length c.loop-c.invariant.1), c.requires.n_in_bounds_2)
+bounds-out-c c = omega (arith, simp length_filled at (ap length c.loop-c.invariant.1), c.requires.n_in_bounds_2)
 
 pub overflow_mul-out-in-loop-c : goal.overflow_mul-out-in-loop-c
 overflow_mul-out-in-loop-c c = omega (arith, c.requires.n_in_bounds)
@@ -43,7 +43,7 @@ pub offset_bounds-out-c-in-loop-c : goal.offset_bounds-out-c-in-loop-c
 offset_bounds-out-c-in-loop-c c = omega (arith, c.requires.n_in_bounds)
 
 pub bounds-out-c-in-loop-c : goal.bounds-out-c-in-loop-c
-bounds-out-c-in-loop-c c = simp length-set (omega (arith, simp length-filled at (ap length c.loop-c.invariant.1), c.requires.n_in_bounds_2))
+bounds-out-c-in-loop-c c = simp length-set (omega (arith, simp length_filled at (ap length c.loop-c.invariant.1), c.requires.n_in_bounds_2))
 
 pub overflow_mul-out-in-loop-c-2 : goal.overflow_mul-out-in-loop-c-2
 overflow_mul-out-in-loop-c-2 c = omega (arith, c.requires.n_in_bounds)
@@ -55,7 +55,7 @@ pub offset_bounds-out-c-in-loop-c-2 : goal.offset_bounds-out-c-in-loop-c-2
 offset_bounds-out-c-in-loop-c-2 c = omega (arith, c.requires.n_in_bounds)
 
 pub bounds-out-c-in-loop-c-2 : goal.bounds-out-c-in-loop-c-2
-bounds-out-c-in-loop-c-2 c = simp length-set (omega (arith, simp length-filled at (ap length c.loop-c.invariant.1), c.requires.n_in_bounds_2))
+bounds-out-c-in-loop-c-2 c = simp length-set (omega (arith, simp length_filled at (ap length c.loop-c.invariant.1), c.requires.n_in_bounds_2))
 
 pub overflow_mul-out-in-loop-c-3 : goal.overflow_mul-out-in-loop-c-3
 overflow_mul-out-in-loop-c-3 c = omega (arith, c.requires.n_in_bounds)
@@ -79,16 +79,16 @@ pub offset_bounds-out-c-in-loop-c-3 : goal.offset_bounds-out-c-in-loop-c-3
 offset_bounds-out-c-in-loop-c-3 c = omega (arith, c.requires.n_in_bounds)
 
 pub bounds-out-c-in-loop-c-3 : goal.bounds-out-c-in-loop-c-3
-bounds-out-c-in-loop-c-3 c = simp length-set (omega (arith, simp length-filled at (ap length c.loop-c.invariant.1), c.requires.n_in_bounds_2))
+bounds-out-c-in-loop-c-3 c = simp length-set (omega (arith, simp length_filled at (ap length c.loop-c.invariant.1), c.requires.n_in_bounds_2))
 
 pub overflow_add-c : goal.overflow_add-c
 overflow_add-c c = omega (arith, c.requires.n_in_bounds)
 
 pub loop-c-preserved : goal.loop-c-preserved
-loop-c-preserved c = (omega arith, thirds-more c.args.labels.now c.args.out.now c.loop-c.out c.loop-c.c c.loop-c.invariant.1)
+loop-c-preserved c = (omega arith, thirds_more c.args.labels.now c.args.out.now c.loop-c.out c.loop-c.c c.loop-c.invariant.1)
 
 pub shape_of-out : goal.shape_of-out
-shape_of-out c = simp length-filled at (ap length c.loop-c.invariant.1)
+shape_of-out c = simp length_filled at (ap length c.loop-c.invariant.1)
 
 pub returns : goal.returns
 returns c = let w = c.loop-c.invariant in

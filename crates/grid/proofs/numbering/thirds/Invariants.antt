@@ -3,9 +3,9 @@ use mathlib.Core.Path.{◌≡◌, ap}
 use native.Mathlib.Omega.{arith}
 use lib.ListN.{length, length-set}
 use Rattle.counting.specs.Stored.{filled}
-use Rattle.counting.proofs.Stored.{filled_none, length-filled}
+use Rattle.counting.proofs.Stored.{filled_none, length_filled}
 use Rattle.grid.specs.work.Walks.{corner}
-use Rattle.grid.proofs.Tellings.{thirds-more}
+use Rattle.grid.proofs.Tellings.{thirds_more}
 use borrow.Author.Rules.{rules}
 use Rattle.grid.proofs.numbering.thirds.Given as goal
 

@@ -5,10 +5,10 @@ use borrow.Author.Rules.{rules}
 use Rattle.grid.proofs.runs.turn_sides.Goals as goal
 
 pub offset_bounds-ranks-u : goal.offset_bounds-ranks-u
-offset_bounds-ranks-u c = omega (arith, c.requires.node-lt, c.requires.chained.ranks-room)
+offset_bounds-ranks-u c = omega (arith, c.requires.node_lt, c.requires.chained.ranks_room)
 
 pub bounds-ranks-u : goal.bounds-ranks-u
-bounds-ranks-u c = omega (arith, c.requires.node-lt, c.requires.chained.ranks-room)
+bounds-ranks-u c = omega (arith, c.requires.node_lt, c.requires.chained.ranks_room)
 
 pub walk_sides-requires : goal.walk_sides-requires
 walk_sides-requires c = turn_walkable c.requires _ c.wide-r.ensures 0 0 3 _ _ c.requires.chained.by0 (omega arith) (omega arith) _ refl

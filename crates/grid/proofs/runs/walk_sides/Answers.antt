@@ -1,5 +1,5 @@
 use native.Mathlib.Omega.{arith}
-use Rattle.grid.proofs.Laying.{WalkingSides, along-end, along-less, along-lt, along-more, along_puttable, along-start}
+use Rattle.grid.proofs.Laying.{WalkingSides, along_end, along_less, along_lt, along_more, along_puttable, along_start}
 use borrow.Author.Rules.{rules}
 use Rattle.grid.proofs.runs.walk_sides.Goals as goal
 
@@ -10,25 +10,25 @@ pub bounds-head-r : goal.bounds-head-r
 bounds-head-r c = omega (arith, c.requires.within, c.requires.linked.heads.room)
 
 pub loop-j-init : goal.loop-j-init
-loop-j-init c = along-start _ c.wide-j.ensures
+loop-j-init c = along_start _ c.wide-j.ensures
 
 pub put_sides-requires : goal.put_sides-requires
 put_sides-requires c = along_puttable c.loop-j.invariant (omega arith) c.requires
 
 pub offset_bounds-next-c : goal.offset_bounds-next-c
-offset_bounds-next-c c = omega (arith, along-lt c.loop-j.invariant (omega arith) c.requires)
+offset_bounds-next-c c = omega (arith, along_lt c.loop-j.invariant (omega arith) c.requires)
 
 pub bounds-next-c : goal.bounds-next-c
-bounds-next-c c = along-lt c.loop-j.invariant (omega arith) c.requires
+bounds-next-c c = along_lt c.loop-j.invariant (omega arith) c.requires
 
 pub loop-j-smaller : goal.loop-j-smaller
-loop-j-smaller c = omega (arith, c.wide-j-in-loop-j.ensures, along-less c.loop-j.invariant (omega arith) c.requires)
+loop-j-smaller c = omega (arith, c.wide-j-in-loop-j.ensures, along_less c.loop-j.invariant (omega arith) c.requires)
 
 pub loop-j-preserved : goal.loop-j-preserved
-loop-j-preserved c = along-more c.loop-j.invariant (omega arith) c.put_sides.ensures _ c.wide-j-in-loop-j.ensures
+loop-j-preserved c = along_more c.loop-j.invariant (omega arith) c.put_sides.ensures _ c.wide-j-in-loop-j.ensures
 
 pub shape_of-sides : goal.shape_of-sides
 shape_of-sides c = c.loop-j.invariant.same
 
 pub returns : goal.returns
-returns c = along-end c.loop-j.invariant (omega arith)
+returns c = along_end c.loop-j.invariant (omega arith)

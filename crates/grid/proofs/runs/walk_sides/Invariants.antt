@@ -1,5 +1,5 @@
 use native.Mathlib.Omega.{arith}
-use Rattle.grid.proofs.Laying.{WalkingSides, along-end, along-less, along-lt, along-more, along_puttable, along-start}
+use Rattle.grid.proofs.Laying.{WalkingSides, along_end, along_less, along_lt, along_more, along_puttable, along_start}
 use borrow.Author.Rules.{rules}
 use Rattle.grid.proofs.runs.walk_sides.Given as goal
 

@@ -4,7 +4,7 @@ use native.Mathlib.Omega.{arith}
 use lib.ListN.{get_or, length}
 use borrow.Author.Rules.{rules}
 use Rattle.counting.specs.Stored.{filled}
-use Rattle.counting.proofs.Stored.{filled_more, filled_none, length-filled}
+use Rattle.counting.proofs.Stored.{filled_more, filled_none, length_filled}
 use Rattle.grid.specs.work.Work.{lower_place}
 use Rattle.grid.proofs.tables.write_names.Given as goal
 

@@ -5,9 +5,9 @@ use lib.ListN.{length}
 use borrow.Author.Rules.{rules}
 use Rattle.counting.specs.Stored.{filled}
 use Rattle.counting.proofs.Tables.{table_filled}
-use Rattle.counting.proofs.Stored.{filled_more, length-filled}
+use Rattle.counting.proofs.Stored.{filled_more, length_filled}
 use Rattle.grid.specs.Grid.{start}
-use Rattle.grid.proofs.Crossings.{start_mono, start-next}
+use Rattle.grid.proofs.Crossings.{start_mono, start_next}
 use Rattle.grid.proofs.tables.write_starts.Goals as goal
 
 pub loop-e-init : goal.loop-e-init
@@ -17,7 +17,7 @@ loop-e-init c = let p = c.requires in
 pub bounds-starts-e : goal.bounds-starts-e
 bounds-starts-e c = let c-pre = c.requires in
     let c-args = c.args in
-    omega (arith, c-pre.room, ap length c.loop-e.invariant.2, length-filled (start c-args.counts.now) c.loop-e.e c-args.starts.now)
+    omega (arith, c-pre.room, ap length c.loop-e.invariant.2, length_filled (start c-args.counts.now) c.loop-e.e c-args.starts.now)
 
 pub overflow_add-sum : goal.overflow_add-sum
 overflow_add-sum c = let c-pre = c.requires in
@@ -28,11 +28,11 @@ overflow_add-sum c = let c-pre = c.requires in
 pub loop-e-preserved : goal.loop-e-preserved
 loop-e-preserved c = let c-args = c.args in
     let c-loop = c.loop-e in
-    (omega arith, omega (arith, start-next c-args.counts.now c-loop.e, c.size-sum.ensures.value, c-loop.invariant.1), filled_more (start c-args.counts.now) _ _ _ _ c-loop.invariant.2 c-loop.invariant.1)
+    (omega arith, omega (arith, start_next c-args.counts.now c-loop.e, c.size-sum.ensures.value, c-loop.invariant.1), filled_more (start c-args.counts.now) _ _ _ _ c-loop.invariant.2 c-loop.invariant.1)
 
 pub shape_of-starts : goal.shape_of-starts
 shape_of-starts c = let c-args = c.args in
-    ap length c.loop-e.invariant.2 ∙ length-filled (start c-args.counts.now) c.loop-e.e c-args.starts.now
+    ap length c.loop-e.invariant.2 ∙ length_filled (start c-args.counts.now) c.loop-e.e c-args.starts.now
 
 pub returns : goal.returns
 returns c = let c-args = c.args in

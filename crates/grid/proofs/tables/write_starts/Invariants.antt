@@ -5,9 +5,9 @@ use lib.ListN.{length}
 use borrow.Author.Rules.{rules}
 use Rattle.counting.specs.Stored.{filled}
 use Rattle.counting.proofs.Tables.{table_filled}
-use Rattle.counting.proofs.Stored.{filled_more, length-filled}
+use Rattle.counting.proofs.Stored.{filled_more, length_filled}
 use Rattle.grid.specs.Grid.{start}
-use Rattle.grid.proofs.Crossings.{start_mono, start-next}
+use Rattle.grid.proofs.Crossings.{start_mono, start_next}
 use Rattle.grid.proofs.tables.write_starts.Given as goal
 
 abbrev pub invariant-loop-e : goal.invariant-loop-e

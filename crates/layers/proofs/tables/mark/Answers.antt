@@ -4,11 +4,11 @@ use native.Mathlib.Omega.{arith}
 use lib.ListN.{length-set}
 use borrow.Author.Rules.{rules}
 use Rattle.layers.specs.work.Work.{EdgesMarked}
-use Rattle.layers.proofs.Steps.{marked-none, marked_more}
+use Rattle.layers.proofs.Steps.{marked_none, marked_more}
 use Rattle.layers.proofs.tables.mark.Goals as goal
 
 pub loop-j-init : goal.loop-j-init
-loop-j-init c = (omega arith, marked-none _ _ _ _ c.requires.below)
+loop-j-init c = (omega arith, marked_none _ _ _ _ c.requires.below)
 
 pub overflow_mul-from : goal.overflow_mul-from
 overflow_mul-from c = omega (arith, c.requires.few)

@@ -5,10 +5,10 @@ use mathlib.Core.Path.{◌∙◌, ◌≡◌, ap}
 use native.Mathlib.Omega.{arith}
 use lib.ListN.{length}
 use Rattle.counting.specs.Stored.{filled}
-use Rattle.counting.proofs.Stored.{filled_more, filled_none, length-filled}
+use Rattle.counting.proofs.Stored.{filled_more, filled_none, length_filled}
 use Rattle.layers.specs.work.Work.{name_from}
 use borrow.Author.Rules.{rules}
-use Rattle.layers.proofs.Steps.{base-small}
+use Rattle.layers.proofs.Steps.{base_small}
 use Rattle.layers.proofs.tables.write_names.Goals as goal
 
 pub loop-j-init : goal.loop-j-init
@@ -31,17 +31,17 @@ overflow_mul-from-in-loop-j c = omega (arith, c.requires.few)
 
 pub overflow_cast-own : goal.overflow_cast-own
 overflow_cast-own c = let x = c.wide16-x.ensures.0 in
-    let s = base-small (4 * c.args.from) c.wide16-x.result c.loop-j.j 65536 (omega (arith, x, c.shared_slice_known-in-loop-j-1.given (4 * c.args.from + c.loop-j.j))) (omega (arith, c.requires.few)) in
+    let s = base_small (4 * c.args.from) c.wide16-x.result c.loop-j.j 65536 (omega (arith, x, c.shared_slice_known-in-loop-j-1.given (4 * c.args.from + c.loop-j.j))) (omega (arith, c.requires.few)) in
     omega (arith, s, c.from_base.ensures)
 
 pub bounds-own-j : goal.bounds-own-j
-bounds-own-j c = omega (arith, c.requires.room, ap length c.loop-j.invariant.1, length-filled (name_from c.args.names.now c.args.from) c.loop-j.j c.args.own.now)
+bounds-own-j c = omega (arith, c.requires.room, ap length c.loop-j.invariant.1, length_filled (name_from c.args.names.now c.args.from) c.loop-j.j c.args.own.now)
 
 pub loop-j-preserved : goal.loop-j-preserved
 loop-j-preserved c = (omega arith, filled_more (name_from c.args.names.now c.args.from) _ _ _ _ c.loop-j.invariant.1 (c.from_base.ensures ∙ ap (λ x. pick (leb (4 * c.args.from) x) (x - 4 * c.args.from) c.loop-j.j) c.wide16-x.ensures.0))
 
 pub shape_of-own : goal.shape_of-own
-shape_of-own c = ap length c.loop-j.invariant.1 ∙ length-filled (name_from c.args.names.now c.args.from) c.loop-j.j c.args.own.now
+shape_of-own c = ap length c.loop-j.invariant.1 ∙ length_filled (name_from c.args.names.now c.args.from) c.loop-j.j c.args.own.now
 
 pub returns : goal.returns
 returns c = let e : c.loop-j.j ≡ c.args.n = omega arith in

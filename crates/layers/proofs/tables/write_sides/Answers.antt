@@ -3,7 +3,7 @@ use mathlib.Core.Path.{◌∙◌, ◌≡◌, ap, refl}
 use native.Mathlib.Omega.{arith}
 use lib.ListN.{length}
 use Rattle.counting.specs.Stored.{filled}
-use Rattle.counting.proofs.Stored.{filled_more, filled_none, length-filled}
+use Rattle.counting.proofs.Stored.{filled_more, filled_none, length_filled}
 use Rattle.layers.specs.work.Work.{side_from}
 use borrow.Author.Rules.{rules}
 use Rattle.layers.proofs.tables.write_sides.Goals as goal
@@ -24,13 +24,13 @@ pub bounds-sides-from : goal.bounds-sides-from
 bounds-sides-from c = omega (arith, c.requires.fits)
 
 pub bounds-own-j : goal.bounds-own-j
-bounds-own-j c = omega (arith, c.requires.room, ap length c.loop-j.invariant.1, length-filled (side_from c.args.sides.now c.args.from) c.loop-j.j c.args.own.now)
+bounds-own-j c = omega (arith, c.requires.room, ap length c.loop-j.invariant.1, length_filled (side_from c.args.sides.now c.args.from) c.loop-j.j c.args.own.now)
 
 pub loop-j-preserved : goal.loop-j-preserved
 loop-j-preserved c = (omega arith, filled_more (side_from c.args.sides.now c.args.from) _ _ _ _ c.loop-j.invariant.1 (refl))
 
 pub shape_of-own : goal.shape_of-own
-shape_of-own c = ap length c.loop-j.invariant.1 ∙ length-filled (side_from c.args.sides.now c.args.from) c.loop-j.j c.args.own.now
+shape_of-own c = ap length c.loop-j.invariant.1 ∙ length_filled (side_from c.args.sides.now c.args.from) c.loop-j.j c.args.own.now
 
 pub returns : goal.returns
 returns c = let e : c.loop-j.j ≡ c.args.n = omega arith in

@@ -3,7 +3,7 @@ use mathlib.Core.Path.{◌∙◌, ◌≡◌, ap, refl}
 use native.Mathlib.Omega.{arith}
 use lib.ListN.{length}
 use Rattle.counting.specs.Stored.{filled}
-use Rattle.counting.proofs.Stored.{filled_more, filled_none, length-filled}
+use Rattle.counting.proofs.Stored.{filled_more, filled_none, length_filled}
 use Rattle.layers.specs.work.Work.{side_from}
 use borrow.Author.Rules.{rules}
 use Rattle.layers.proofs.tables.write_sides.Given as goal

@@ -4,11 +4,11 @@ use native.Mathlib.Omega.{arith}
 use lib.ListN.{length}
 use borrow.Author.Rules.{rules}
 use Rattle.layers.specs.work.Work.{marked_start, StartsSummed}
-use Rattle.layers.proofs.Steps.{sum-none, sum_skip, starts_none, starts_skip, starts_more, block-unmarked}
+use Rattle.layers.proofs.Steps.{sum_none, sum_skip, starts_none, starts_skip, starts_more, block_unmarked}
 use Rattle.layers.proofs.tables.write_starts.Goals as goal
 
 pub loop-e-init : goal.loop-e-init
-loop-e-init c = (omega arith, refl, λ h. refl, sum-none _ _ _, omega arith, starts_none _ _ _ _)
+loop-e-init c = (omega arith, refl, λ h. refl, sum_none _ _ _, omega arith, starts_none _ _ _ _)
 
 pub overflow_add-e : goal.overflow_add-e
 overflow_add-e c = omega (arith, c.requires.few, c.loop-e.invariant.1)
@@ -29,7 +29,7 @@ pub loop-e-preserved-then-used-e : goal.loop-e-preserved-then-used-e
 loop-e-preserved-then-used-e c = let A = c.args in
     let L = c.loop-e in
     let m = c.least-end.ensures in
-    let none = block-unmarked A.counts.now A.used.now A.m A.starts.now c.requires L.e c.least-end.result (omega (arith, c.requires.few, L.invariant.1)) (L.invariant.2 (omega arith)) (omega (arith, m)) (omega (arith, m, L.invariant.1, c.requires.few)) c.if-used-e.true in (
+    let none = block_unmarked A.counts.now A.used.now A.m A.starts.now c.requires L.e c.least-end.result (omega (arith, c.requires.few, L.invariant.1)) (L.invariant.2 (omega arith)) (omega (arith, m)) (omega (arith, m, L.invariant.1, c.requires.few)) c.if-used-e.true in (
       omega (arith, m),
       L.invariant.1,
       λ h. omega (arith, m, L.invariant.2 (omega arith)),

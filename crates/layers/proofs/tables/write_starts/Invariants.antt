@@ -4,7 +4,7 @@ use native.Mathlib.Omega.{arith}
 use lib.ListN.{length}
 use borrow.Author.Rules.{rules}
 use Rattle.layers.specs.work.Work.{marked_start, StartsSummed}
-use Rattle.layers.proofs.Steps.{sum-none, sum_skip, starts_none, starts_skip, starts_more, block-unmarked}
+use Rattle.layers.proofs.Steps.{sum_none, sum_skip, starts_none, starts_skip, starts_more, block_unmarked}
 use Rattle.layers.proofs.tables.write_starts.Given as goal
 
 abbrev pub invariant-loop-e : goal.invariant-loop-e

@@ -5,12 +5,12 @@ use lib.ListN.{length}
 use lib.Seq.{sets, length-sets}
 use Rattle.counting.specs.Lists.{values}
 use Rattle.counting.proofs.Stored.{sets_more}
-use Rattle.layers.proofs.Namings.{sets-none}
+use Rattle.layers.proofs.Namings.{sets_none}
 use borrow.Author.Rules.{rules}
 use Rattle.layers.proofs.words.number_edge.Goals as goal
 
 pub loop-i-init : goal.loop-i-init
-loop-i-init c = (omega arith, sets-none _ _ _)
+loop-i-init c = (omega arith, sets_none _ _ _)
 
 pub overflow_add-over : goal.overflow_add-over
 overflow_add-over c = omega (arith, c.requires.0, c.requires.1)

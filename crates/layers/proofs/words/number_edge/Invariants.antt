@@ -5,7 +5,7 @@ use lib.ListN.{length}
 use lib.Seq.{sets, length-sets}
 use Rattle.counting.specs.Lists.{values}
 use Rattle.counting.proofs.Stored.{sets_more}
-use Rattle.layers.proofs.Namings.{sets-none}
+use Rattle.layers.proofs.Namings.{sets_none}
 use borrow.Author.Rules.{rules}
 use Rattle.layers.proofs.words.number_edge.Given as goal
 

@@ -5,7 +5,7 @@ use lib.ListN.{length, get_or}
 use lib.Seq.{sets, length-sets}
 use Rattle.counting.specs.Lists.{values}
 use Rattle.layers.specs.work.Work.{side_from, own_at, side_count, most_numbers, Leading, CrossingsNumbered}
-use Rattle.layers.proofs.Namings.{numbered-none, numbered_more}
+use Rattle.layers.proofs.Namings.{numbered_none, numbered_more}
 use borrow.Author.Rules.{rules}
 use Rattle.layers.proofs.words.number_sides.Goals as goal
 
@@ -13,7 +13,7 @@ pub overflow_mul-n : goal.overflow_mul-n
 overflow_mul-n c = omega (arith, c.requires.by_index.1.few)
 
 pub loop-j-init : goal.loop-j-init
-loop-j-init c = (omega arith, refl, c.requires.over_len, λ f L. numbered-none L _)
+loop-j-init c = (omega arith, refl, c.requires.over_len, λ f L. numbered_none L _)
 
 pub overflow_mul-run : goal.overflow_mul-run
 overflow_mul-run c = omega (arith, c.requires.by_index.1.few)
@@ -28,22 +28,22 @@ pub bounds-sides-run : goal.bounds-sides-run
 bounds-sides-run c = omega (arith, c.requires.by_index.1.few, c.loop-j.invariant.1)
 
 pub offset_bounds-own_starts-e : goal.offset_bounds-own_starts-e
-offset_bounds-own_starts-e c = let L = c.requires.by_index.1 in omega (arith, L.few-counts, c.wide16-e.ensures.0, L.edge c.loop-j.j (omega (arith, c.loop-j.invariant.1)))
+offset_bounds-own_starts-e c = let L = c.requires.by_index.1 in omega (arith, L.few_counts, c.wide16-e.ensures.0, L.edge c.loop-j.j (omega (arith, c.loop-j.invariant.1)))
 
 pub bounds-own_starts-e : goal.bounds-own_starts-e
-bounds-own_starts-e c = let L = c.requires.by_index.1 in omega (arith, L.few-counts, c.wide16-e.ensures.0, L.edge c.loop-j.j (omega (arith, c.loop-j.invariant.1)))
+bounds-own_starts-e c = let L = c.requires.by_index.1 in omega (arith, L.few_counts, c.wide16-e.ensures.0, L.edge c.loop-j.j (omega (arith, c.loop-j.invariant.1)))
 
 pub offset_bounds-starts-e : goal.offset_bounds-starts-e
-offset_bounds-starts-e c = let L = c.requires.by_index.1 in omega (arith, L.few-counts, L.starts-long, c.wide16-e.ensures.0, L.edge c.loop-j.j (omega (arith, c.loop-j.invariant.1)))
+offset_bounds-starts-e c = let L = c.requires.by_index.1 in omega (arith, L.few_counts, L.starts_long, c.wide16-e.ensures.0, L.edge c.loop-j.j (omega (arith, c.loop-j.invariant.1)))
 
 pub bounds-starts-e : goal.bounds-starts-e
-bounds-starts-e c = let L = c.requires.by_index.1 in omega (arith, L.few-counts, L.starts-long, c.wide16-e.ensures.0, L.edge c.loop-j.j (omega (arith, c.loop-j.invariant.1)))
+bounds-starts-e c = let L = c.requires.by_index.1 in omega (arith, L.few_counts, L.starts_long, c.wide16-e.ensures.0, L.edge c.loop-j.j (omega (arith, c.loop-j.invariant.1)))
 
 pub offset_bounds-counts-e : goal.offset_bounds-counts-e
-offset_bounds-counts-e c = let L = c.requires.by_index.1 in omega (arith, L.few-counts, c.wide16-e.ensures.0, L.edge c.loop-j.j (omega (arith, c.loop-j.invariant.1)))
+offset_bounds-counts-e c = let L = c.requires.by_index.1 in omega (arith, L.few_counts, c.wide16-e.ensures.0, L.edge c.loop-j.j (omega (arith, c.loop-j.invariant.1)))
 
 pub bounds-counts-e : goal.bounds-counts-e
-bounds-counts-e c = let L = c.requires.by_index.1 in omega (arith, L.few-counts, c.wide16-e.ensures.0, L.edge c.loop-j.j (omega (arith, c.loop-j.invariant.1)))
+bounds-counts-e c = let L = c.requires.by_index.1 in omega (arith, L.few_counts, c.wide16-e.ensures.0, L.edge c.loop-j.j (omega (arith, c.loop-j.invariant.1)))
 
 pub number_edge-requires : goal.number_edge-requires
 number_edge-requires c = let A = c.args in

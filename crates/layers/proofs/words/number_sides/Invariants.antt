@@ -5,7 +5,7 @@ use lib.ListN.{length, get_or}
 use lib.Seq.{sets, length-sets}
 use Rattle.counting.specs.Lists.{values}
 use Rattle.layers.specs.work.Work.{side_from, own_at, side_count, most_numbers, Leading, CrossingsNumbered}
-use Rattle.layers.proofs.Namings.{numbered-none, numbered_more}
+use Rattle.layers.proofs.Namings.{numbered_none, numbered_more}
 use borrow.Author.Rules.{rules}
 use Rattle.layers.proofs.words.number_sides.Given as goal
 

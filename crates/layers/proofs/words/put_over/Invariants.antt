@@ -6,7 +6,7 @@ use Rattle.counting.specs.Lists.{over}
 use Rattle.counting.specs.work.Stored.{Stored}
 use Rattle.counting.proofs.Stored.{stored_none, stored_long}
 use Rattle.layers.specs.work.Work.{triangles_over, table_over}
-use Rattle.layers.proofs.Namings.{at-is, triangle-more}
+use Rattle.layers.proofs.Namings.{at_is, triangle_more}
 use borrow.Author.Rules.{rules}
 use Rattle.layers.proofs.words.put_over.Given as goal
 

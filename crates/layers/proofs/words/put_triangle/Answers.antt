@@ -7,12 +7,12 @@ use Rattle.counting.specs.Lists.{values}
 use Rattle.counting.proofs.Stored.{sets_more}
 use Rattle.cell.specs.Words.{word_count}
 use Rattle.layers.specs.work.Work.{table_over, word_before, word_over}
-use Rattle.layers.proofs.Namings.{put, word-there, before-next, sets-none}
+use Rattle.layers.proofs.Namings.{put, word_there, before_next, sets_none}
 use borrow.Author.Rules.{rules}
 use Rattle.layers.proofs.words.put_triangle.Goals as goal
 
 pub loop-j-init : goal.loop-j-init
-loop-j-init c = (omega arith, refl, sets-none _ _ _)
+loop-j-init c = (omega arith, refl, sets_none _ _ _)
 
 pub overflow_add-w : goal.overflow_add-w
 overflow_add-w c = omega (arith, c.requires.word_count_in_bounds)
@@ -35,9 +35,9 @@ bounds-area-at-in-loop-j c = let A = c.args in let L = c.loop-j in omega (arith,
 pub loop-j-preserved : goal.loop-j-preserved
 loop-j-preserved c = let A = c.args in
     let L = c.loop-j in
-    let there = word-there (table_over A.names.now A.over.now A.from) A.area.now A.at L.area L.j L.invariant.2 in (
+    let there = word_there (table_over A.names.now A.over.now A.from) A.area.now A.at L.area L.j L.invariant.2 in (
       omega arith,
-      there ∙ before-next (table_over A.names.now A.over.now A.from) A.area.now A.at L.j,
+      there ∙ before_next (table_over A.names.now A.over.now A.from) A.area.now A.at L.j,
       sets_more (put (table_over A.names.now A.over.now A.from) A.area.now A.at) A.at L.j A.area.now L.area (A.at + L.j) c.word_over.result L.invariant.2 refl
           (c.word_over.ensures ∙ ap₂ (word_over (table_over A.names.now A.over.now A.from) L.j) L.invariant.1 there),
     )

@@ -7,7 +7,7 @@ use Rattle.counting.specs.Lists.{values}
 use Rattle.counting.proofs.Stored.{sets_more}
 use Rattle.cell.specs.Words.{word_count}
 use Rattle.layers.specs.work.Work.{table_over, word_before, word_over}
-use Rattle.layers.proofs.Namings.{put, word-there, before-next, sets-none}
+use Rattle.layers.proofs.Namings.{put, word_there, before_next, sets_none}
 use borrow.Author.Rules.{rules}
 use Rattle.layers.proofs.words.put_triangle.Given as goal
 

@@ -1,7 +1,7 @@
 use mathlib.Core.Path.{◌∙◌}
 use native.Mathlib.Omega.{arith}
 use Rattle.layers.specs.Runs.{keep_inner}
-use Rattle.layers.proofs.Namings.{word_cell, word-crossing, word-face, word-inner, word-lower}
+use Rattle.layers.proofs.Namings.{word_cell, word_crossing, word_face, word_inner, word_lower}
 use borrow.Author.Rules.{rules}
 use Rattle.layers.proofs.words.word_over.Goals as goal
 
@@ -11,15 +11,15 @@ returns-then-j-eq0 c = c.cell_over.ensures ∙ word_cell _ _ _ _ c.if-j-eq0.true
 
 pub returns-then-j-lt5 : goal.returns-then-j-lt5
 unfolding keep_inner
-returns-then-j-lt5 c = c.crossing_over.ensures ∙ word-crossing _ _ _ _ c.if-j-eq0.false c.if-j-lt5.true
+returns-then-j-lt5 c = c.crossing_over.ensures ∙ word_crossing _ _ _ _ c.if-j-eq0.false c.if-j-lt5.true
 
 pub returns-then-j-eq1 : goal.returns-then-j-eq1
 unfolding keep_inner
-returns-then-j-eq1 c = c.face_over.ensures ∙ word-face _ _ _ _ c.if-j-eq0.false (omega arith) c.if-j-eq1.true
+returns-then-j-eq1 c = c.face_over.ensures ∙ word_face _ _ _ _ c.if-j-eq0.false (omega arith) c.if-j-eq1.true
 
 pub returns-then-f-eq-NO_NAME : goal.returns-then-f-eq-NO_NAME
-returns-then-f-eq-NO_NAME c = word-inner _ _ _ _ c.if-j-eq0.false (omega arith) c.if-j-eq1.false c.if-f-eq-NO_NAME.true
+returns-then-f-eq-NO_NAME c = word_inner _ _ _ _ c.if-j-eq0.false (omega arith) c.if-j-eq1.false c.if-f-eq-NO_NAME.true
 
 pub returns : goal.returns
 unfolding keep_inner
-returns c = c.crossing_over-2.ensures ∙ word-lower _ _ _ _ c.if-j-eq0.false (omega arith) c.if-j-eq1.false c.if-f-eq-NO_NAME.false
+returns c = c.crossing_over-2.ensures ∙ word_lower _ _ _ _ c.if-j-eq0.false (omega arith) c.if-j-eq1.false c.if-f-eq-NO_NAME.false

@@ -8,14 +8,14 @@ use Rattle.counting.specs.work.Stored.{Stored}
 use Rattle.counting.proofs.Stored.{stored_long}
 use Rattle.place.specs.Place.{coordinates, place_at, all_numbers}
 use Rattle.grid.specs.Grid.{start}
-use Rattle.grid.proofs.Crossings.{start-next, start-zero}
+use Rattle.grid.proofs.Crossings.{start_next, start_zero}
 use Rattle.places.specs.Points.{crossing_place}
 use Rattle.places.proofs.Fractions.{start_fits}
 use Rattle.places.proofs.Crossings.{all_none, all_more}
 use Rattle.places.proofs.points.place_crossings.Goals as goal
 
 pub loop-e-init : goal.loop-e-init
-loop-e-init c = (omega arith, sym (start-zero _), all_none c.args.edges.now c.args.counts.now c.args.nodes.now c.args.fractions.now c.args.area.now)
+loop-e-init c = (omega arith, sym (start_zero _), all_none c.args.edges.now c.args.counts.now c.args.nodes.now c.args.fractions.now c.args.area.now)
 
 pub overflow_mul-e : goal.overflow_mul-e
 overflow_mul-e c = omega (arith, c.requires.pairs)
@@ -60,7 +60,7 @@ pub overflow_add-g : goal.overflow_add-g
 overflow_add-g c = let a = c.args in let l = c.loop-e in omega (arith, l.invariant.1, c.wide16-n.ensures.0, c.requires.given, c.well_formed.1.1.1.0.0, start_fits a.counts.now l.e (omega arith))
 
 pub loop-e-preserved : goal.loop-e-preserved
-loop-e-preserved c = let l = c.loop-e in (omega arith, omega (arith, l.invariant.1, c.wide16-n.ensures.0, start-next c.args.counts.now l.e), all_more c.args.edges.now c.args.counts.now c.args.nodes.now c.args.fractions.now l.e l.g c.wide16-n.result l.invariant.2 (omega arith) l.invariant.1 c.wide16-n.ensures.0 (c.load-u.ensures ∙ ap (place_at c.args.nodes.now) c.wide16.ensures.0) (c.load-v.ensures ∙ ap (place_at c.args.nodes.now) c.wide16-in-loop-e.ensures.0) c.place_edge.ensures)
+loop-e-preserved c = let l = c.loop-e in (omega arith, omega (arith, l.invariant.1, c.wide16-n.ensures.0, start_next c.args.counts.now l.e), all_more c.args.edges.now c.args.counts.now c.args.nodes.now c.args.fractions.now l.e l.g c.wide16-n.result l.invariant.2 (omega arith) l.invariant.1 c.wide16-n.ensures.0 (c.load-u.ensures ∙ ap (place_at c.args.nodes.now) c.wide16.ensures.0) (c.load-v.ensures ∙ ap (place_at c.args.nodes.now) c.wide16-in-loop-e.ensures.0) c.place_edge.ensures)
 
 pub shape_of-area : goal.shape_of-area
 shape_of-area c = stored_long c.loop-e.invariant.2

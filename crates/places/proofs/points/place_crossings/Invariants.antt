@@ -8,7 +8,7 @@ use Rattle.counting.specs.work.Stored.{Stored}
 use Rattle.counting.proofs.Stored.{stored_long}
 use Rattle.place.specs.Place.{coordinates, place_at, all_numbers}
 use Rattle.grid.specs.Grid.{start}
-use Rattle.grid.proofs.Crossings.{start-next, start-zero}
+use Rattle.grid.proofs.Crossings.{start_next, start_zero}
 use Rattle.places.specs.Points.{crossing_place}
 use Rattle.places.proofs.Fractions.{start_fits}
 use Rattle.places.proofs.Crossings.{all_none, all_more}

@@ -1,5 +1,5 @@
 use native.Mathlib.Omega.{arith}
-use Rattle.places.proofs.Judged.{end-small, table_reaches, short-nodes, other-fractions, short-area, bad_number_found, bad_fraction_found, none_found}
+use Rattle.places.proofs.Judged.{end_small, table_reaches, short_nodes, other_fractions, short_area, bad_number_found, bad_fraction_found, none_found}
 use borrow.Author.Rules.{rules}
 use Rattle.places.proofs.rows.judge.Goals as goal
 
@@ -8,28 +8,28 @@ overflow_mul-end c = let a = c.args in
     let m = c.mark.ensures in
     let e = c.marked_end-end.ensures in
     let J = c.requires.judgeable in
-    omega (arith, end-small a.cells.now a.counts.now a.n J _ m c.marked_end-end.result e)
+    omega (arith, end_small a.cells.now a.counts.now a.n J _ m c.marked_end-end.result e)
 
 pub returns-then-nodes-end : goal.returns-then-nodes-end
 returns-then-nodes-end c = let a = c.args in
     let m = c.mark.ensures in
     let e = c.marked_end-end.ensures in
     let J = c.requires.judgeable in
-    short-nodes a.cells.now a.counts.now a.n J _ m c.marked_end-end.result e a.nodes.now a.fractions.now a.points a.room c.if-nodes-end.true
+    short_nodes a.cells.now a.counts.now a.n J _ m c.marked_end-end.result e a.nodes.now a.fractions.now a.points a.room c.if-nodes-end.true
 
 pub returns-then-fractions-n : goal.returns-then-fractions-n
 returns-then-fractions-n c = let a = c.args in
     let m = c.mark.ensures in
     let e = c.marked_end-end.ensures in
     let J = c.requires.judgeable in
-    other-fractions a.cells.now a.counts.now a.n J _ m c.marked_end-end.result e a.nodes.now a.fractions.now a.points a.room c.if-nodes-end.false c.if-fractions-n.true
+    other_fractions a.cells.now a.counts.now a.n J _ m c.marked_end-end.result e a.nodes.now a.fractions.now a.points a.room c.if-nodes-end.false c.if-fractions-n.true
 
 pub returns-then-room-points : goal.returns-then-room-points
 returns-then-room-points c = let a = c.args in
     let m = c.mark.ensures in
     let e = c.marked_end-end.ensures in
     let J = c.requires.judgeable in
-    short-area a.cells.now a.counts.now a.n J _ m c.marked_end-end.result e a.nodes.now a.fractions.now a.points a.room c.if-nodes-end.false c.if-fractions-n.false c.if-room-points.true
+    short_area a.cells.now a.counts.now a.n J _ m c.marked_end-end.result e a.nodes.now a.fractions.now a.points a.room c.if-nodes-end.false c.if-fractions-n.false c.if-room-points.true
 
 pub row_16-i-requires : goal.row_16-i-requires
 row_16-i-requires c = let a = c.args in

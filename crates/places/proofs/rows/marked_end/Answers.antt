@@ -5,7 +5,7 @@ use lib.ListN.{length}
 use Rattle.counting.specs.Search.{last}
 use Rattle.counting.proofs.Search.{last_none}
 use Rattle.places.specs.work.Work.{is_marked}
-use Rattle.places.proofs.Marks.{end-here, end_below}
+use Rattle.places.proofs.Marks.{end_here, end_below}
 use borrow.Author.Rules.{rules}
 use Rattle.places.proofs.rows.marked_end.Goals as goal
 
@@ -13,7 +13,7 @@ pub loop-n-init : goal.loop-n-init
 loop-n-init c = (omega arith, refl)
 
 pub returns-then-used-n-eq1 : goal.returns-then-used-n-eq1
-returns-then-used-n-eq1 c = let l = c.loop-n in sym (l.invariant.1 ∙ end-here c.args.used.now l.n (omega arith) c.if-used-n-eq1.true)
+returns-then-used-n-eq1 c = let l = c.loop-n in sym (l.invariant.1 ∙ end_here c.args.used.now l.n (omega arith) c.if-used-n-eq1.true)
 
 pub loop-n-preserved : goal.loop-n-preserved
 loop-n-preserved c = let l = c.loop-n in (omega arith, l.invariant.1 ∙ end_below c.args.used.now l.n (omega arith) c.if-used-n-eq1.false)

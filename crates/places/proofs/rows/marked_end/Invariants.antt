@@ -5,7 +5,7 @@ use lib.ListN.{length}
 use Rattle.counting.specs.Search.{last}
 use Rattle.counting.proofs.Search.{last_none}
 use Rattle.places.specs.work.Work.{is_marked}
-use Rattle.places.proofs.Marks.{end-here, end_below}
+use Rattle.places.proofs.Marks.{end_here, end_below}
 use borrow.Author.Rules.{rules}
 use Rattle.places.proofs.rows.marked_end.Given as goal
 

@@ -1,5 +1,5 @@
 use native.Mathlib.Omega.{arith}
-use Rattle.shading.proofs.Forests.{parent_within, new-fits, halved_as}
+use Rattle.shading.proofs.Forests.{parent_within, new_fits, halved_as}
 use borrow.Author.Rules.{rules}
 use Rattle.shading.proofs.links.halve.Goals as goal
 
@@ -13,7 +13,7 @@ bounds-links-p c = let P = c.requires in
 pub overflow_cast-links : goal.overflow_cast-links
 overflow_cast-links c = let a = c.args in
     let P = c.requires in
-    record { fits = new-fits a.links.now a.y P c.wide16-l.result c.wide16-l.ensures.0 c.wide16-m.result c.wide16-m.ensures.0 }
+    record { fits = new_fits a.links.now a.y P c.wide16-l.result c.wide16-l.ensures.0 c.wide16-m.result c.wide16-m.ensures.0 }
 
 pub returns : goal.returns
 returns c = let a = c.args in

@@ -2,19 +2,19 @@ use mathlib.Core.Path.{sym, ◌∙◌}
 use native.Mathlib.Omega.{arith}
 use lib.ListN.{length-set}
 use borrow.Author.Rules.{rules}
-use Rattle.shading.proofs.Ties.{united-one, united-lower, united_higher}
+use Rattle.shading.proofs.Ties.{united_one, united_lower, united_higher}
 use Rattle.shading.proofs.links.unite.Goals as goal
 
 pub find-b-requires : goal.find-b-requires
 find-b-requires c = let A = c.find-a.ensures in
     let P = c.requires.unitable in
-    record { forest = A.halved.forest; linked = A.halved.nodes.kept _ P.high-linked }
+    record { forest = A.halved.forest; linked = A.halved.nodes.kept _ P.high_linked }
 
 pub returns-then-p-q : goal.returns-then-p-q
 returns-then-p-q c = let a = c.args in
     let A = c.find-a in
     let B = c.find-b in
-    united-one a.links.now _ _ a.u a.v a.count A.result B.result A.ensures B.ensures c.if-p-q.true
+    united_one a.links.now _ _ a.u a.v a.count A.result B.result A.ensures B.ensures c.if-p-q.true
 
 pub shape_of-links-then-p-q-2 : goal.shape_of-links-then-p-q-2
 shape_of-links-then-p-q-2 c = let B = c.find-b.ensures in
@@ -24,7 +24,7 @@ pub returns-then-p-q-2 : goal.returns-then-p-q-2
 returns-then-p-q-2 c = let a = c.args in
     let A = c.find-a in
     let B = c.find-b in
-    united-lower a.links.now _ _ a.u a.v a.count A.result B.result A.ensures B.ensures c.if-p-q-2.true
+    united_lower a.links.now _ _ a.u a.v a.count A.result B.result A.ensures B.ensures c.if-p-q-2.true
 
 pub shape_of-links : goal.shape_of-links
 shape_of-links c = let B = c.find-b.ensures in

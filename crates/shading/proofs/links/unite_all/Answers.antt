@@ -6,11 +6,11 @@ use borrow.Author.Tests.{not-true, not-false}
 use borrow.Author.Rules.{rules}
 use Rattle.counting.proofs.Bools.{clash}
 use Rattle.shading.specs.work.Work.{HasLink, TiedAll}
-use Rattle.shading.proofs.Ties.{tied-none, tied-more, tied-not}
+use Rattle.shading.proofs.Ties.{tied_none, tied_more, tied_not}
 use Rattle.shading.proofs.links.unite_all.Goals as goal
 
 pub loop-e-init : goal.loop-e-init
-loop-e-init c = (omega arith, tied-none _ _ _ c.requires)
+loop-e-init c = (omega arith, tied_none _ _ _ c.requires)
 
 pub bounds-edges-e : goal.bounds-edges-e
 bounds-edges-e c = omega (arith, c.requires.pairs)
@@ -25,8 +25,8 @@ unite-requires c = let l = c.loop-e in
     record {
       unitable = record {
         forest = l.invariant.1.forest;
-        low-linked = subst (HasLink l.links) (sym c.wide16-u.ensures.0) (N.kept _ (P.low-linked l.e (omega arith)));
-        high-linked = subst (HasLink l.links) (sym c.wide16-v.ensures.0) (N.kept _ (P.high-linked l.e (omega arith)));
+        low_linked = subst (HasLink l.links) (sym c.wide16-u.ensures.0) (N.kept _ (P.low_linked l.e (omega arith)));
+        high_linked = subst (HasLink l.links) (sym c.wide16-v.ensures.0) (N.kept _ (P.high_linked l.e (omega arith)));
       };
       count_bound = omega (arith, c.wide16.ensures.1);
     }
@@ -36,7 +36,7 @@ returns-then-not-unite c = let l = c.loop-e in
     let a = c.args in
     record {
       tied = λ e. clash e refl;
-      none = λ e. tied-not a.edges.now a.counts.now a.links.now l.e l.links l.invariant.1 (omega arith) _ _ _
+      none = λ e. tied_not a.edges.now a.counts.now a.links.now l.e l.links l.invariant.1 (omega arith) _ _ _
           c.wide16-u.ensures.0 c.wide16-v.ensures.0 c.wide16.ensures.0 _ _ c.unite.ensures (not-true _ c.if-not-unite.true-raw);
     }
 
@@ -44,7 +44,7 @@ pub loop-e-preserved : goal.loop-e-preserved
 loop-e-preserved c = let l = c.loop-e in
     let a = c.args in (
       omega arith,
-      tied-more a.edges.now a.counts.now a.links.now l.e l.links l.invariant.1 (omega arith) _ _ _
+      tied_more a.edges.now a.counts.now a.links.now l.e l.links l.invariant.1 (omega arith) _ _ _
           c.wide16-u.ensures.0 c.wide16-v.ensures.0 c.wide16.ensures.0 _ _ c.unite.ensures (not-false _ c.if-not-unite.false-raw),
     )
 

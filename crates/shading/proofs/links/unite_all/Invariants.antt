@@ -6,7 +6,7 @@ use borrow.Author.Tests.{not-true, not-false}
 use borrow.Author.Rules.{rules}
 use Rattle.counting.proofs.Bools.{clash}
 use Rattle.shading.specs.work.Work.{HasLink, TiedAll}
-use Rattle.shading.proofs.Ties.{tied-none, tied-more, tied-not}
+use Rattle.shading.proofs.Ties.{tied_none, tied_more, tied_not}
 use Rattle.shading.proofs.links.unite_all.Given as goal
 
 abbrev pub invariant-loop-e : goal.invariant-loop-e

@@ -1,7 +1,7 @@
 use native.Mathlib.Omega.{arith}
 use borrow.Author.Rules.{rules}
 use Rattle.booking.proofs.Totals.{all_most}
-use Rattle.split.proofs.Tables.{splits-all, drawn-long}
+use Rattle.split.proofs.Tables.{splits_all, drawn_long}
 use Rattle.split.proofs.drawing.draw.Goals as goal
 
 pub sums_of-s-requires : goal.sums_of-s-requires
@@ -17,7 +17,7 @@ pub returns : goal.returns
 returns c = let A = c.args in
     let G = c.sums_of-s.ensures in
     let d = c.draw_all-triangles.ensures in
-    let s = splits-all A.cells.now A.counts.now A.names.now A.sides.now A.starts.now in
-    let n = drawn-long A.cells.now A.counts.now A.names.now A.sides.now A.starts.now in
+    let s = splits_all A.cells.now A.counts.now A.names.now A.sides.now A.starts.now in
+    let n = drawn_long A.cells.now A.counts.now A.names.now A.sides.now A.starts.now in
     let most = all_most A.cells.now A.counts.now A.names.now A.sides.now A.starts.now in
-    record { triangles_value = (d.0, omega (arith, G.splits_are, s), omega (arith, d.0, n, most, G.more-is, G.few-more)); area_after = d.1 }
+    record { triangles_value = (d.0, omega (arith, G.splits_are, s), omega (arith, d.0, n, most, G.more_is, G.few_more)); area_after = d.1 }

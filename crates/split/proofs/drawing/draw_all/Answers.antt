@@ -2,9 +2,9 @@ use mathlib.Core.Logic.{⊎_elim}
 use native.Mathlib.Omega.{arith}
 use borrow.Author.Rules.{rules}
 use Rattle.cell.proofs.Fits.{no_room}
-use Rattle.booking.proofs.Totals.{all-few}
+use Rattle.booking.proofs.Totals.{all_few}
 use Rattle.split.specs.work.Table.{table_drawn}
-use Rattle.split.proofs.Tables.{drawn-long}
+use Rattle.split.proofs.Tables.{drawn_long}
 use Rattle.split.proofs.drawing.draw_all.Goals as goal
 use Rattle.split.proofs.drawing.draw_all.Goals.{then-area-s+else-area-t, else-area-s}
 
@@ -15,14 +15,14 @@ pub returns-then-area-t : goal.returns-then-area-t
 returns-then-area-t c = let A = c.args in
     let G = c.requires in
     let n = c.count_all.ensures in
-    let d = drawn-long A.cells.now A.counts.now A.names.now A.sides.now A.starts.now in
+    let d = drawn_long A.cells.now A.counts.now A.names.now A.sides.now A.starts.now in
     (omega (arith, n, G, d), (no_room (table_drawn A.cells.now A.counts.now A.names.now A.sides.now A.starts.now) A.area.now 0 (omega (arith, n, G, d, c.if-area-t.true))).1)
 
 pub write_all-requires : goal.write_all-requires
 write_all-requires c = let A = c.args in
     let G = c.requires in
-    let d = drawn-long A.cells.now A.counts.now A.names.now A.sides.now A.starts.now in
-    let few = all-few A.cells.now A.counts.now A.names.now A.sides.now A.starts.now in
+    let d = drawn_long A.cells.now A.counts.now A.names.now A.sides.now A.starts.now in
+    let few = all_few A.cells.now A.counts.now A.names.now A.sides.now A.starts.now in
     record { splits_value = G.splits_are; starts_in_bounds = elim c.if-area-s.branch [ then-area-s+else-area-t w ↦ omega (arith, w.count_all.ensures, w.if-area-t.false, G, d) | else-area-s w ↦ omega (arith, few, G, d, w.if-area-s.false) ] }
 
 pub returns : goal.returns

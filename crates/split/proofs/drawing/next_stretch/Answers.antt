@@ -1,5 +1,5 @@
 use native.Mathlib.Omega.{arith}
-use Rattle.counting.proofs.Range.{total-has}
+use Rattle.counting.proofs.Range.{total_has}
 use Rattle.split.specs.work.Gains.{splits_at}
 use Rattle.split.proofs.drawing.next_stretch.Goals as goal
 
@@ -9,7 +9,7 @@ returns-then-splits-eq0 c = let A = c.args in
     record {
       from = P.0;
       within = omega arith;
-      none = λ k a b. omega (arith, P.1, c.if-splits-eq0.true, total-has (splits_at A.counts.now A.sides.now) A.n 0 k (omega arith) (omega arith));
+      none = λ k a b. omega (arith, P.1, c.if-splits-eq0.true, total_has (splits_at A.counts.now A.sides.now) A.n 0 k (omega arith) (omega arith));
       last = λ _. omega arith;
       after = λ h. absurd (omega arith);
     }

@@ -6,7 +6,7 @@ use Rattle.counting.specs.work.Stored.{Stored}
 use Rattle.counting.proofs.Stored.{stored_none, stored_long, stored_more}
 use Rattle.cell.proofs.Storing.{words_of}
 use Rattle.split.specs.work.Gains.{splits_at}
-use Rattle.split.proofs.Tables.{drawn_at, next-room, stretch_room, stretch_written, all-written}
+use Rattle.split.proofs.Tables.{drawn_at, next_room, stretch_room, stretch_written, all_written}
 use Rattle.split.proofs.drawing.put_cells.Goals as goal
 
 pub drawn-n-requires : goal.drawn-n-requires
@@ -33,7 +33,7 @@ returns-then-s-eq0 c = let A = c.args in
     let P = c.requires in
     let R = c.next_stretch-s.ensures in
     let S = stretch_written A.cells.now A.counts.now A.names.now A.sides.now A.starts.now c.loop-c.invariant.1 P.starts_in_bounds R (omega (arith, c.drawn-n.ensures)) c.put_stretch-i.ensures in
-    all-written A.cells.now A.counts.now A.names.now A.sides.now A.starts.now S P.starts_in_bounds (R.last c.if-s-eq0.true ∙ c.drawn-n.ensures)
+    all_written A.cells.now A.counts.now A.names.now A.sides.now A.starts.now S P.starts_in_bounds (R.last c.if-s-eq0.true ∙ c.drawn-n.ensures)
 
 pub put_at-i-requires : goal.put_at-i-requires
 put_at-i-requires c = let A = c.args in
@@ -41,7 +41,7 @@ put_at-i-requires c = let A = c.args in
     let R = c.next_stretch-s.ensures in
     let h = R.after (omega (arith, c.if-s-eq0.false)) in
     let S = stretch_written A.cells.now A.counts.now A.names.now A.sides.now A.starts.now c.loop-c.invariant.1 P.starts_in_bounds R (omega (arith, c.drawn-n.ensures)) c.put_stretch-i.ensures in
-    record { splits_value = h.1; c_in_bounds = next-room A.cells.now A.counts.now A.names.now A.sides.now A.starts.now S P.starts_in_bounds (omega (arith, h.0, c.drawn-n.ensures)) }
+    record { splits_value = h.1; c_in_bounds = next_room A.cells.now A.counts.now A.names.now A.sides.now A.starts.now S P.starts_in_bounds (omega (arith, h.0, c.drawn-n.ensures)) }
 
 pub overflow_add-c : goal.overflow_add-c
 overflow_add-c c = omega (arith, c.next_stretch-s.ensures.within, c.drawn-n.ensures)
@@ -61,4 +61,4 @@ shape_of-area c = stored_long c.loop-c.invariant.1
 
 pub returns : goal.returns
 returns c = let A = c.args in
-    all-written A.cells.now A.counts.now A.names.now A.sides.now A.starts.now c.loop-c.invariant.1 c.requires.starts_in_bounds (omega (arith, c.drawn-n.ensures))
+    all_written A.cells.now A.counts.now A.names.now A.sides.now A.starts.now c.loop-c.invariant.1 c.requires.starts_in_bounds (omega (arith, c.drawn-n.ensures))

@@ -6,7 +6,7 @@ use Rattle.counting.specs.work.Stored.{Stored}
 use Rattle.counting.proofs.Stored.{stored_none, stored_long, stored_more}
 use Rattle.cell.proofs.Storing.{words_of}
 use Rattle.split.specs.work.Gains.{splits_at}
-use Rattle.split.proofs.Tables.{drawn_at, next-room, stretch_room, stretch_written, all-written}
+use Rattle.split.proofs.Tables.{drawn_at, next_room, stretch_room, stretch_written, all_written}
 use Rattle.split.proofs.drawing.put_cells.Given as goal
 
 abbrev pub invariant-loop-c : goal.invariant-loop-c

@@ -6,10 +6,10 @@ use Rattle.counting.proofs.Stored.{summed_none, summed_more, summed_all}
 use Rattle.slots.specs.Limits.{most_count}
 use Rattle.cell.specs.work.Limits.{most_in_cell}
 use Rattle.cell.specs.work.Table.{table_crossings}
-use Rattle.cell.proofs.Using.{table-most}
+use Rattle.cell.proofs.Using.{table_most}
 use Rattle.split.specs.work.Table.{most_more}
 use Rattle.split.specs.work.Gains.{splits_at, more_at}
-use Rattle.split.proofs.Few.{at-few, at_more, gain_at, crossings-at}
+use Rattle.split.proofs.Few.{at_few, at_more, gain_at, crossings-at}
 use Rattle.split.proofs.drawing.sums_of.Goals as goal
 
 pub loop-c-init : goal.loop-c-init
@@ -19,13 +19,13 @@ pub overflow_add-crossings : goal.overflow_add-crossings
 overflow_add-crossings c = let A = c.args in
     let L = c.loop-c in
     let x = crossings-at A.counts.now A.sides.now L.c c.counts_at-six.ensures c.crossings_in-crossings.ensures.0 in
-    omega (arith, x, table-most A.counts.now A.sides.now L.c, L.invariant.1.few, c.drawn-n.ensures)
+    omega (arith, x, table_most A.counts.now A.sides.now L.c, L.invariant.1.few, c.drawn-n.ensures)
 
 pub overflow_add-splits : goal.overflow_add-splits
 overflow_add-splits c = let A = c.args in
     let L = c.loop-c in
     let g = gain_at A.counts.now A.sides.now L.c c.counts_at-six.ensures c.gain_of-g.ensures in
-    omega (arith, g, at-few A.counts.now A.sides.now L.c, L.invariant.2.few, c.drawn-n.ensures)
+    omega (arith, g, at_few A.counts.now A.sides.now L.c, L.invariant.2.few, c.drawn-n.ensures)
 
 pub overflow_add-more : goal.overflow_add-more
 overflow_add-more c = let A = c.args in
@@ -43,8 +43,8 @@ loop-c-preserved c = let A = c.args in
     let g = gain_at A.counts.now A.sides.now L.c e c.gain_of-g.ensures in
     let x = crossings-at A.counts.now A.sides.now L.c e c.crossings_in-crossings.ensures.0 in (
       omega arith,
-      summed_more _ _ L.invariant.1 _ x (omega (arith, x, table-most A.counts.now A.sides.now L.c)),
-      summed_more _ _ L.invariant.2 _ g.0 (omega (arith, g, at-few A.counts.now A.sides.now L.c)),
+      summed_more _ _ L.invariant.1 _ x (omega (arith, x, table_most A.counts.now A.sides.now L.c)),
+      summed_more _ _ L.invariant.2 _ g.0 (omega (arith, g, at_few A.counts.now A.sides.now L.c)),
       summed_more _ _ L.invariant.3 _ g.1 (omega (arith, g, at_more A.counts.now A.sides.now L.c)),
     )
 
@@ -54,8 +54,8 @@ returns c = let I = c.loop-c.invariant in
     record {
       crossings_are = summed_all _ _ I.1 (omega (arith, d));
       splits_are = summed_all _ _ I.2 (omega (arith, d));
-      more-is = summed_all _ _ I.3 (omega (arith, d));
-      few-crossings = omega (arith, I.1.few, d);
+      more_is = summed_all _ _ I.3 (omega (arith, d));
+      few_crossings = omega (arith, I.1.few, d);
       few-splits = omega (arith, I.2.few, d);
-      few-more = omega (arith, I.3.few, d);
+      few_more = omega (arith, I.3.few, d);
     }

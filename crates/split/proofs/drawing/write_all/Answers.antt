@@ -1,7 +1,7 @@
 use mathlib.Core.Path.{◌∙◌}
 use native.Mathlib.Omega.{arith}
 use borrow.Author.Rules.{rules}
-use Rattle.cell.proofs.Storing.{length-all}
+use Rattle.cell.proofs.Storing.{length_all}
 use Rattle.cell.proofs.Fits.{has-room}
 use Rattle.split.specs.work.Table.{table_drawn}
 use Rattle.split.proofs.drawing.write_all.Goals as goal
@@ -10,4 +10,4 @@ pub returns : goal.returns
 returns c = let A = c.args in
     let m = table_drawn A.cells.now A.counts.now A.names.now A.sides.now A.starts.now in
     let w = c.put_cells.ensures in
-    (omega (arith, w.after, length-all m), w.area ∙ (has-room m A.area.now 0 (omega (arith, c.requires.starts_in_bounds))).1)
+    (omega (arith, w.after, length_all m), w.area ∙ (has-room m A.area.now 0 (omega (arith, c.requires.starts_in_bounds))).1)

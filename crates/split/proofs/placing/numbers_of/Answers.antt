@@ -1,7 +1,7 @@
 use native.Mathlib.Omega.{arith}
 use borrow.Author.Rules.{rules}
-use Rattle.split.proofs.Arms.{numbers-four}
+use Rattle.split.proofs.Arms.{numbers_four}
 use Rattle.split.proofs.placing.numbers_of.Goals as goal
 
 pub returns : goal.returns
-returns c = numbers-four c.args.at (omega arith)
+returns c = numbers_four c.args.at (omega arith)

@@ -6,7 +6,7 @@ use Rattle.counting.specs.work.Stored.{Stored}
 use Rattle.counting.specs.Stored.{stored_in}
 use Rattle.counting.proofs.Stored.{stored_as, stored_long}
 use Rattle.place.specs.Place.{part_of, between, coordinates, numbers, all_numbers}
-use Rattle.split.proofs.Arms.{points_none, points-more}
+use Rattle.split.proofs.Arms.{points_none, points_more}
 use Rattle.split.proofs.placing.put_arm.Goals as goal
 
 pub loop-h-init : goal.loop-h-init
@@ -33,7 +33,7 @@ loop-h-preserved c = let A = c.args in
     let k = c.wide32.ensures.0 in
     let p = c.interpolate-p.result in (
       omega arith,
-      points-more (λ h. between A.a A.v (part_of h A.n)) A.i L.h L.invariant.1 (omega (arith, c.requires, stored_long L.invariant.1))
+      points_more (λ h. between A.a A.v (part_of h A.n)) A.i L.h L.invariant.1 (omega (arith, c.requires, stored_long L.invariant.1))
           (c.interpolate-p.ensures ∙ ap (between A.a A.v) c.part_of.ensures)
           (c.store.ensures ∙ ap (λ k. stored_in L.area (coordinates * (A.i + k)) (numbers p)) k),
     )

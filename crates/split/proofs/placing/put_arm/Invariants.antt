@@ -6,7 +6,7 @@ use Rattle.counting.specs.work.Stored.{Stored}
 use Rattle.counting.specs.Stored.{stored_in}
 use Rattle.counting.proofs.Stored.{stored_as, stored_long}
 use Rattle.place.specs.Place.{part_of, between, coordinates, numbers, all_numbers}
-use Rattle.split.proofs.Arms.{points_none, points-more}
+use Rattle.split.proofs.Arms.{points_none, points_more}
 use Rattle.split.proofs.placing.put_arm.Given as goal
 
 abbrev pub invariant-loop-h : goal.invariant-loop-h

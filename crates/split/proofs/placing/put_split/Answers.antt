@@ -3,7 +3,7 @@ use mathlib.Core.Path.{◌∙◌}
 use native.Mathlib.Omega.{arith}
 use Rattle.counting.proofs.Stored.{stored_long}
 use Rattle.cell.specs.Of.{count_of}
-use Rattle.split.proofs.Coded.{sum-few}
+use Rattle.split.proofs.Coded.{sum_few}
 use Rattle.split.proofs.Arms.{Arms, arms_none, arms_room, arms_more, arms_all, spokes_told}
 use Rattle.split.proofs.placing.put_split.Goals as goal
 
@@ -17,7 +17,7 @@ pub labelled_at-v-requires : goal.labelled_at-v-requires
 labelled_at-v-requires c = record { spiraling = c.requires.spiraling; m_bound = omega arith }
 
 pub spoke_count-requires : goal.spoke_count-requires
-spoke_count-requires c = (omega arith, omega (arith, sum-few c.requires.spiraling))
+spoke_count-requires c = (omega arith, omega (arith, sum_few c.requires.spiraling))
 
 pub put_arm-k-requires : goal.put_arm-k-requires
 put_arm-k-requires c = let A = c.args in

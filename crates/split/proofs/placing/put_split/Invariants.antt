@@ -3,7 +3,7 @@ use mathlib.Core.Path.{◌∙◌}
 use native.Mathlib.Omega.{arith}
 use Rattle.counting.proofs.Stored.{stored_long}
 use Rattle.cell.specs.Of.{count_of}
-use Rattle.split.proofs.Coded.{sum-few}
+use Rattle.split.proofs.Coded.{sum_few}
 use Rattle.split.proofs.Arms.{Arms, arms_none, arms_room, arms_more, arms_all, spokes_told}
 use Rattle.split.proofs.placing.put_split.Given as goal
 

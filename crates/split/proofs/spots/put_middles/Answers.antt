@@ -15,7 +15,7 @@ pub spots_of-p-requires : goal.spots_of-p-requires
 spots_of-p-requires c = record { drawable = c.requires; splits_nonzero = omega (arith, c.if-splits-eq0.false) }
 
 pub overflow_add-p : goal.overflow_add-p
-overflow_add-p c = omega (arith, c.spots_of-p.ensures.few-more, c.spots_of-p.ensures.few-loops)
+overflow_add-p c = omega (arith, c.spots_of-p.ensures.few_more, c.spots_of-p.ensures.few_loops)
 
 pub centres_in-requires : goal.centres_in-requires
 centres_in-requires c = let A = c.args in

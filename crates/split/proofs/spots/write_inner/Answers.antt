@@ -5,11 +5,11 @@ use borrow.Author.Rules.{rules}
 use Rattle.split.specs.Standing.{inner_places}
 use Rattle.split.specs.work.Spots.{points_stored, cells_stored, inner_at_cell}
 use Rattle.split.proofs.Tables.{table_drawable}
-use Rattle.split.proofs.Spotted.{cells-none, cells-more, cells-long, cells-all}
+use Rattle.split.proofs.Spotted.{cells_none, cells_more, cells_long, cells_all}
 use Rattle.split.proofs.spots.write_inner.Goals as goal
 
 pub loop-c-init : goal.loop-c-init
-loop-c-init c = let A = c.args in (omega arith, cells-none (inner_at_cell A.cells.now A.counts.now A.names.now A.sides.now A.starts.now A.nodes.now) A.area.now A.at)
+loop-c-init c = let A = c.args in (omega arith, cells_none (inner_at_cell A.cells.now A.counts.now A.names.now A.sides.now A.starts.now A.nodes.now) A.area.now A.at)
 
 pub put_inner-i-requires : goal.put_inner-i-requires
 put_inner-i-requires c = let A = c.args in
@@ -23,16 +23,16 @@ loop-c-preserved c = let A = c.args in
     let L = c.loop-c in
     let nodes = A.nodes.now in (
       omega arith,
-      cells-more (inner_at_cell A.cells.now A.counts.now A.names.now A.sides.now A.starts.now nodes) A.area.now A.at L.c L.invariant.1
+      cells_more (inner_at_cell A.cells.now A.counts.now A.names.now A.sides.now A.starts.now nodes) A.area.now A.at L.c L.invariant.1
           (c.put_inner-i.ensures ∙ ap (λ v. points_stored L.area L.i (inner_places nodes v)) c.cell_at-v.ensures),
     )
 
 pub shape_of-area : goal.shape_of-area
 shape_of-area c = let A = c.args in
     let L = c.loop-c in
-    cells-long (inner_at_cell A.cells.now A.counts.now A.names.now A.sides.now A.starts.now A.nodes.now) A.area.now A.at L.c L.invariant.1
+    cells_long (inner_at_cell A.cells.now A.counts.now A.names.now A.sides.now A.starts.now A.nodes.now) A.area.now A.at L.c L.invariant.1
 
 pub returns : goal.returns
 returns c = let A = c.args in
     let L = c.loop-c in
-    cells-all (inner_at_cell A.cells.now A.counts.now A.names.now A.sides.now A.starts.now A.nodes.now) A.area.now A.at L.c L.invariant.1 (omega (arith, c.drawn-n.ensures))
+    cells_all (inner_at_cell A.cells.now A.counts.now A.names.now A.sides.now A.starts.now A.nodes.now) A.area.now A.at L.c L.invariant.1 (omega (arith, c.drawn-n.ensures))

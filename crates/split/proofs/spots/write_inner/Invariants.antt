@@ -5,7 +5,7 @@ use borrow.Author.Rules.{rules}
 use Rattle.split.specs.Standing.{inner_places}
 use Rattle.split.specs.work.Spots.{points_stored, cells_stored, inner_at_cell}
 use Rattle.split.proofs.Tables.{table_drawable}
-use Rattle.split.proofs.Spotted.{cells-none, cells-more, cells-long, cells-all}
+use Rattle.split.proofs.Spotted.{cells_none, cells_more, cells_long, cells_all}
 use Rattle.split.proofs.spots.write_inner.Given as goal
 
 abbrev pub invariant-loop-c : goal.invariant-loop-c

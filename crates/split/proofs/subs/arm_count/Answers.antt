@@ -1,14 +1,14 @@
 use native.Mathlib.Omega.{arith}
 use mathlib.Core.Path.{◌∙◌}
-use Rattle.split.proofs.Coded.{told-lt, sum-few, arm-told, arm-fits}
+use Rattle.split.proofs.Coded.{told_lt, sum_few, arm_told, arm_fits}
 use borrow.Author.Rules.{rules}
 use Rattle.split.proofs.subs.arm_count.Goals as goal
 
 pub spoke_count-requires : goal.spoke_count-requires
-spoke_count-requires c = (told-lt c.requires.spiraling _ c.requires.p_bound, omega (arith, sum-few c.requires.spiraling))
+spoke_count-requires c = (told_lt c.requires.spiraling _ c.requires.p_bound, omega (arith, sum_few c.requires.spiraling))
 
 pub overflow_cast-result : goal.overflow_cast-result
-overflow_cast-result c = omega (arith, c.spoke_count.ensures ∙ arm-told c.requires.spiraling _ c.requires.p_bound, arm-fits c.requires.spiraling _ c.requires.p_bound)
+overflow_cast-result c = omega (arith, c.spoke_count.ensures ∙ arm_told c.requires.spiraling _ c.requires.p_bound, arm_fits c.requires.spiraling _ c.requires.p_bound)
 
 pub returns : goal.returns
-returns c = c.spoke_count.ensures ∙ arm-told c.requires.spiraling _ c.requires.p_bound
+returns c = c.spoke_count.ensures ∙ arm_told c.requires.spiraling _ c.requires.p_bound

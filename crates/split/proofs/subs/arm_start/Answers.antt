@@ -1,12 +1,12 @@
 use native.Mathlib.Omega.{arith}
 use Prim.Native.Nat.{◌+◌}
 use mathlib.Core.Path.{ap, ◌∙◌}
-use Rattle.split.proofs.Coded.{told-lt, sum-few, start-told}
+use Rattle.split.proofs.Coded.{told_lt, sum_few, start_told}
 use borrow.Author.Rules.{rules}
 use Rattle.split.proofs.subs.arm_start.Goals as goal
 
 pub spokes_before-requires : goal.spokes_before-requires
-spokes_before-requires c = (told-lt c.requires.spiraling _ c.requires.p_bound.0, omega (arith, sum-few c.requires.spiraling))
+spokes_before-requires c = (told_lt c.requires.spiraling _ c.requires.p_bound.0, omega (arith, sum_few c.requires.spiraling))
 
 pub returns : goal.returns
-returns c = ap (λ n. c.args.b + n) c.spokes_before.ensures.0 ∙ start-told c.requires.spiraling _ _ c.requires.p_bound.0
+returns c = ap (λ n. c.args.b + n) c.spokes_before.ensures.0 ∙ start_told c.requires.spiraling _ _ c.requires.p_bound.0

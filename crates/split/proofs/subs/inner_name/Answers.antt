@@ -3,7 +3,7 @@ use Prim.Native.Nat.{◌+◌}
 use mathlib.Core.Path.{sym, ap, ap₂, ◌∙◌}
 use lib.ListN.{get_or}
 use Rattle.cell.specs.Nodes.{joining}
-use Rattle.split.proofs.Coded.{ends-lt, labels_apart, name-told}
+use Rattle.split.proofs.Coded.{ends_lt, labels_apart, name_told}
 use borrow.Author.Rules.{rules}
 use Rattle.split.proofs.subs.inner_name.Goals as goal
 
@@ -12,7 +12,7 @@ joining_of-requires c = let a = c.args in
     let p = c.requires in
     let x = ap (λ k. get_or a.s.label k 0) c.low_end.ensures.0 in
     let y = ap (λ k. get_or a.s.label k 0) c.high_end.ensures.0 in
-    let l = ends-lt p.spiraling a.e p.e_bound.0 in
+    let l = ends_lt p.spiraling a.e p.e_bound.0 in
     (omega (arith, x, l), omega (arith, y, l), λ e. labels_apart p.spiraling a.e p.e_bound.0 (sym x ∙ e ∙ y))
 
 pub returns : goal.returns
@@ -20,4 +20,4 @@ returns c = let a = c.args in
     let p = c.requires in
     let x = ap (λ k. get_or a.s.label k 0) c.low_end.ensures.0 in
     let y = ap (λ k. get_or a.s.label k 0) c.high_end.ensures.0 in
-    ap (λ n. a.f + n) (c.joining_of.ensures.0 ∙ ap₂ joining x y) ∙ name-told p.spiraling a.f a.e p.e_bound.0
+    ap (λ n. a.f + n) (c.joining_of.ensures.0 ∙ ap₂ joining x y) ∙ name_told p.spiraling a.f a.e p.e_bound.0

@@ -2,14 +2,14 @@ use native.Mathlib.Omega.{arith}
 use Prim.Native.Nat.{◌+◌}
 use mathlib.Core.Path.{ap, ◌∙◌}
 use lib.ListN.{get_or}
-use Rattle.split.proofs.Coded.{from_told, from-fits}
+use Rattle.split.proofs.Coded.{from_told, from_fits}
 use borrow.Author.Rules.{rules}
 use Rattle.split.proofs.subs.rest_start.Goals as goal
 
 pub overflow_add-result : goal.overflow_add-result
 overflow_add-result c = let a = c.args in
     let p = c.requires in
-    omega (arith, ap (λ k. get_or a.s.own k 0) c.low_end.ensures.0, from-fits p.spiraling a.e p.e_bound)
+    omega (arith, ap (λ k. get_or a.s.own k 0) c.low_end.ensures.0, from_fits p.spiraling a.e p.e_bound)
 
 pub returns : goal.returns
 returns c = let a = c.args in

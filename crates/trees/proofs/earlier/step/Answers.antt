@@ -3,7 +3,7 @@ use mathlib.Core.Path.{◌≡◌, sym, ap, ◌∙◌}
 use native.Mathlib.Omega.{arith}
 use lib.ListN.{length, length-set}
 use borrow.Author.Rules.{rules}
-use Rattle.trees.proofs.Planted.{Stepped, stepped_none, step-top, stepped_more, stepped_all}
+use Rattle.trees.proofs.Planted.{Stepped, stepped_none, step_top, stepped_more, stepped_all}
 use Rattle.trees.proofs.earlier.step.Goals as goal
 
 pub loop-j-init : goal.loop-j-init
@@ -13,7 +13,7 @@ pub bounds-prev-j : goal.bounds-prev-j
 bounds-prev-j c = omega (arith, c.requires.tops_are.room, c.loop-j.invariant.2.same)
 
 pub bounds-seen-t : goal.bounds-seen-t
-bounds-seen-t c = omega (arith, c.loop-j.invariant.2.room, step-top _ _ _ _ _ _ (omega arith) c.loop-j.invariant.2 c.requires.tops_are.room _ c.wide16-t.ensures.0)
+bounds-seen-t c = omega (arith, c.loop-j.invariant.2.room, step_top _ _ _ _ _ _ (omega arith) c.loop-j.invariant.2 c.requires.tops_are.room _ c.wide16-t.ensures.0)
 
 pub bounds-prev-j-in-loop-j : goal.bounds-prev-j-in-loop-j
 bounds-prev-j-in-loop-j c = omega (arith, c.requires.tops_are.room, c.loop-j.invariant.2.same)
@@ -22,7 +22,7 @@ pub overflow_cast-seen : goal.overflow_cast-seen
 overflow_cast-seen c = omega (arith, c.requires.few)
 
 pub bounds-seen-t-in-loop-j : goal.bounds-seen-t-in-loop-j
-bounds-seen-t-in-loop-j c = omega (arith, c.loop-j.invariant.2.room, step-top _ _ _ _ _ _ (omega arith) c.loop-j.invariant.2 c.requires.tops_are.room _ c.wide16-t.ensures.0)
+bounds-seen-t-in-loop-j c = omega (arith, c.loop-j.invariant.2.room, step_top _ _ _ _ _ _ (omega arith) c.loop-j.invariant.2 c.requires.tops_are.room _ c.wide16-t.ensures.0)
 
 pub loop-j-preserved : goal.loop-j-preserved
 loop-j-preserved c = (omega arith, simp length-set c.loop-j.invariant.1, stepped_more _ _ _ _ _ _ (omega arith) c.loop-j.invariant.2 c.requires.tops_are.room _ c.wide16-t.ensures.0)

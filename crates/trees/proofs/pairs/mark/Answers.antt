@@ -4,12 +4,12 @@ use native.Mathlib.Omega.{arith}
 use lib.ListN.{length, length-set}
 use borrow.Author.Rules.{rules}
 use Rattle.counting.specs.Lists.{seek}
-use Rattle.counting.proofs.Search.{seek-end, seek_hit, seek_miss, seek-start}
+use Rattle.counting.proofs.Search.{seek_end, seek_hit, seek_miss, seek_start}
 use Rattle.trees.specs.work.Trees.{top_for}
 use Rattle.trees.specs.work.Keys.{key_in, pair_in, pair_lacks}
 use Rattle.trees.specs.work.Planted.{PairsMarked}
 use Rattle.trees.proofs.Trees.{top_le}
-use Rattle.trees.proofs.Planted.{marked-none, marked_skip, marked_more, lacks, lacks-not}
+use Rattle.trees.proofs.Planted.{marked_none, marked_skip, marked_more, lacks, lacks_not}
 use Rattle.trees.proofs.pairs.mark.Goals as goal
 use Rattle.trees.proofs.pairs.mark.Goals.{Else-p-eq0}
 
@@ -22,7 +22,7 @@ few : (c : Else-p-eq0) → c.latest-p.result ≤ c.args.n
 few c = omega (arith, c.latest-p.ensures, top_le (key_in c.args.keys.now) c.args.n c.pair_at-key.result)
 
 pub loop-e-init : goal.loop-e-init
-loop-e-init c = (omega arith, refl, marked-none _ _ _ _ _ _ c.requires.tops_are, sym (seek-end _ _ _ (omega arith)))
+loop-e-init c = (omega arith, refl, marked_none _ _ _ _ _ _ c.requires.tops_are, sym (seek_end _ _ _ (omega arith)))
 
 pub pair_at-key-requires : goal.pair_at-key-requires
 pair_at-key-requires c = omega (arith, c.loop-e.invariant.0)
@@ -73,7 +73,7 @@ loop-e-preserved c = let l = c.loop-e in
       omega (arith, l.invariant.0),
       simp length-set l.invariant.1,
       marked_more _ _ _ _ _ _ (omega (arith, l.invariant.0)) _ _ w c.requires.room _ z pos,
-      (rw (up _ h) at l.invariant.3) ∙ sym (seek_miss _ _ _ (omega (arith, l.invariant.0)) (lacks-not _ _ _ _ (omega (arith, z, pos)))),
+      (rw (up _ h) at l.invariant.3) ∙ sym (seek_miss _ _ _ (omega (arith, l.invariant.0)) (lacks_not _ _ _ _ (omega (arith, z, pos)))),
     )
 
 pub shape_of-tops : goal.shape_of-tops
@@ -85,4 +85,4 @@ shape_of-places c = c.loop-e.invariant.2.same
 pub returns : goal.returns
 returns c = let w = c.loop-e.invariant in
     let z : c.loop-e.e ≡ 0 = omega arith in
-    record { value = w.3 ∙ rw z (sym (seek-start _ _)); pairs_marked = rw z at w.2 }
+    record { value = w.3 ∙ rw z (sym (seek_start _ _)); pairs_marked = rw z at w.2 }

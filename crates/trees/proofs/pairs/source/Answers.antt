@@ -8,13 +8,13 @@ use borrow.Author.Tests.{lt-ltb, le-ltb}
 use Rattle.trees.specs.work.Planted.{met, source_at}
 use Rattle.trees.proofs.pairs.source.Goals as goal
 
-by-own : (tops : List ℕ) (j x y : ℕ) → x ≡ get_or tops j 0 → y ≡ get_or tops (x % met - 1) 0 → y < met → j ≡ source_at tops j
+by_own : (tops : List ℕ) (j x y : ℕ) → x ≡ get_or tops j 0 → y ≡ get_or tops (x % met - 1) 0 → y < met → j ≡ source_at tops j
 unfolding source_at
-by-own tops j x y e f h = rw (← e, ← f, lt-ltb y met h)
+by_own tops j x y e f h = rw (← e, ← f, lt-ltb y met h)
 
-by-top : (tops : List ℕ) (j x y : ℕ) → x ≡ get_or tops j 0 → y ≡ get_or tops (x % met - 1) 0 → met ≤ y → x % met - 1 ≡ source_at tops j
+by_top : (tops : List ℕ) (j x y : ℕ) → x ≡ get_or tops j 0 → y ≡ get_or tops (x % met - 1) 0 → met ≤ y → x % met - 1 ≡ source_at tops j
 unfolding source_at
-by-top tops j x y e f h = rw (← e, ← f, le-ltb y met h)
+by_top tops j x y e f h = rw (← e, ← f, le-ltb y met h)
 
 pub overflow_sub-t : goal.overflow_sub-t
 overflow_sub-t c = omega (arith, c.wide16.ensures.0, c.requires.topped.up c.args.j c.requires.j_lt_n)
@@ -28,7 +28,7 @@ bounds-tops-t c = let j = c.args.j in
     omega (arith, c.wide16.ensures.0, p.topped.room, p.topped.up j p.j_lt_n, p.topped.within j p.j_lt_n)
 
 pub returns-then-wide16-lt-MET : goal.returns-then-wide16-lt-MET
-returns-then-wide16-lt-MET c = by-own _ _ _ _ c.wide16.ensures.0 c.wide16-2.ensures.0 c.if-wide16-lt-MET.true
+returns-then-wide16-lt-MET c = by_own _ _ _ _ c.wide16.ensures.0 c.wide16-2.ensures.0 c.if-wide16-lt-MET.true
 
 pub returns : goal.returns
-returns c = by-top _ _ _ _ c.wide16.ensures.0 c.wide16-2.ensures.0 (omega (arith, c.if-wide16-lt-MET.false))
+returns c = by_top _ _ _ _ c.wide16.ensures.0 c.wide16-2.ensures.0 (omega (arith, c.if-wide16-lt-MET.false))

@@ -5,7 +5,7 @@ use native.Mathlib.Omega.{arith}
 use lib.ListN.{length, get_or}
 use borrow.Author.Rules.{rules}
 use Rattle.counting.specs.Stored.{filled}
-use Rattle.counting.proofs.Stored.{filled_none, filled_more, filled-beyond, length-filled}
+use Rattle.counting.proofs.Stored.{filled_none, filled_more, filled_beyond, length_filled}
 use Rattle.trees.specs.work.Planted.{source_at, spread_at}
 use Rattle.trees.proofs.Planted.{source_up, source_in}
 use Rattle.trees.proofs.pairs.spread.Goals as goal
@@ -20,10 +20,10 @@ pub offset_bounds-places-t : goal.offset_bounds-places-t
 offset_bounds-places-t c = omega (arith, c.source-t.ensures, source_in _ _ c.requires.topped c.loop-j.j (omega arith), c.requires.n_in_bounds)
 
 pub bounds-places-t : goal.bounds-places-t
-bounds-places-t c = omega (arith, c.source-t.ensures, source_in _ _ c.requires.topped c.loop-j.j (omega arith), c.requires.n_in_bounds, simp length-filled at (ap length c.loop-j.invariant.1))
+bounds-places-t c = omega (arith, c.source-t.ensures, source_in _ _ c.requires.topped c.loop-j.j (omega arith), c.requires.n_in_bounds, simp length_filled at (ap length c.loop-j.invariant.1))
 
 pub bounds-places-j : goal.bounds-places-j
-bounds-places-j c = omega (arith, c.requires.n_in_bounds, simp length-filled at (ap length c.loop-j.invariant.1))
+bounds-places-j c = omega (arith, c.requires.n_in_bounds, simp length_filled at (ap length c.loop-j.invariant.1))
 
 pub loop-j-preserved : goal.loop-j-preserved
 unfolding spread_at
@@ -33,11 +33,11 @@ loop-j-preserved c = let a = c.args in
     let e : get_or l.places c.source-t.result 0 ≡ get_or a.places.now s 0 =
     ap (λ i. get_or l.places i 0) c.source-t.ensures
     ∙ ap (λ (x : List ℕ). get_or x s 0) l.invariant.1
-    ∙ filled-beyond (spread_at a.tops.now a.places.now) l.j a.places.now 0 s (source_up _ _ c.requires.topped l.j (omega arith)) in
+    ∙ filled_beyond (spread_at a.tops.now a.places.now) l.j a.places.now 0 s (source_up _ _ c.requires.topped l.j (omega arith)) in
     (omega arith, filled_more (spread_at a.tops.now a.places.now) _ _ _ _ l.invariant.1 e)
 
 pub shape_of-places : goal.shape_of-places
-shape_of-places c = simp length-filled at (ap length c.loop-j.invariant.1)
+shape_of-places c = simp length_filled at (ap length c.loop-j.invariant.1)
 
 pub returns : goal.returns
 returns c = let e : c.loop-j.j ≡ c.args.n = omega arith in

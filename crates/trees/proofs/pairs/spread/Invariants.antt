@@ -5,7 +5,7 @@ use native.Mathlib.Omega.{arith}
 use lib.ListN.{length, get_or}
 use borrow.Author.Rules.{rules}
 use Rattle.counting.specs.Stored.{filled}
-use Rattle.counting.proofs.Stored.{filled_none, filled_more, filled-beyond, length-filled}
+use Rattle.counting.proofs.Stored.{filled_none, filled_more, filled_beyond, length_filled}
 use Rattle.trees.specs.work.Planted.{source_at, spread_at}
 use Rattle.trees.proofs.Planted.{source_up, source_in}
 use Rattle.trees.proofs.pairs.spread.Given as goal

@@ -6,7 +6,7 @@ use borrow.Author.Rules.{rules}
 use Rattle.trees.specs.work.Trees.{Tree}
 use Rattle.trees.specs.work.Keys.{key_in}
 use Rattle.trees.specs.work.Planted.{key_branches, KeyTops}
-use Rattle.trees.proofs.Trees.{grown-none, top_le}
+use Rattle.trees.proofs.Trees.{grown_none, top_le}
 use Rattle.trees.proofs.Planted.{key_tops_none, key_tops_more}
 use Rattle.trees.proofs.planting.grow.Goals as goal
 
@@ -15,7 +15,7 @@ up : (i : ℕ) → 0 < i → i ≡ i - 1 + 1
 up i h = omega arith
 
 pub loop-i-init : goal.loop-i-init
-loop-i-init c = let p = c.requires in (omega arith, refl, grown-none _ _ _ _ p.room p.blank, key_tops_none _ _ _ p.tops_room)
+loop-i-init c = let p = c.requires in (omega arith, refl, grown_none _ _ _ _ p.room p.blank, key_tops_none _ _ _ p.tops_room)
 
 pub plant-p-requires : goal.plant-p-requires
 plant-p-requires c = let p = c.requires in
