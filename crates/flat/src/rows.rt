@@ -54,7 +54,7 @@ fn lower_entries(sides: &mut [usize], n: usize) -> usize
 fn side_rows(triangles: &[u16], edges: &[u16], counts: &[u16], sides: &mut [usize]) -> Checked
     requires { PastRow3 (flat_of triangles.now edges.now counts.now) sides.old }
     ensures r_value { check_numbers result ≡ answer_from 7 (flat_of triangles.now edges.now counts.now) }
-    ensures fact { WhereAccepted result_of (SidesKnown (flat_of triangles.now edges.now counts.now) sides.new) }
+    ensures fact { WhereAccepted result (SidesKnown (flat_of triangles.now edges.now counts.now) sides.new) }
 {
     let f = triangles.len() / 3;
     let mut keys = [0usize; MOST_SIDES];
@@ -74,7 +74,7 @@ fn side_rows(triangles: &[u16], edges: &[u16], counts: &[u16], sides: &mut [usiz
 fn edge_rows(triangles: &[u16], edges: &[u16], counts: &[u16], sides: &mut [usize]) -> Checked
     requires { PastRow3 (flat_of triangles.now edges.now counts.now) sides.old }
     ensures r_value { check_numbers result ≡ answer_from 6 (flat_of triangles.now edges.now counts.now) }
-    ensures fact { WhereAccepted result_of (SidesKnown (flat_of triangles.now edges.now counts.now) sides.new) }
+    ensures fact { WhereAccepted result (SidesKnown (flat_of triangles.now edges.now counts.now) sides.new) }
 {
     let p6 = grid::edge_order(edges);
     if p6 < counts.len() {
@@ -91,7 +91,7 @@ fn edge_rows(triangles: &[u16], edges: &[u16], counts: &[u16], sides: &mut [usiz
 fn triangle_rows(triangles: &[u16], edges: &[u16], counts: &[u16], sides: &mut [usize]) -> Checked
     requires { PastRow2 (flat_of triangles.now edges.now counts.now) sides.old }
     ensures r_value { check_numbers result ≡ answer_from 3 (flat_of triangles.now edges.now counts.now) }
-    ensures fact { WhereAccepted result_of (SidesKnown (flat_of triangles.now edges.now counts.now) sides.new) }
+    ensures fact { WhereAccepted result (SidesKnown (flat_of triangles.now edges.now counts.now) sides.new) }
 {
     let n = triangles.len() / 3;
     let p3 = triangles::row_3(triangles);
@@ -118,7 +118,7 @@ pub(crate) fn all_rows(
 ) -> Checked
     requires { sides.old ≡ replicate most_sides 0 }
     ensures r_value { check_numbers result ≡ flat_answer (flat_of triangles.now edges.now counts.now) }
-    ensures fact { WhereAccepted result_of (SidesKnown (flat_of triangles.now edges.now counts.now) sides.new) }
+    ensures fact { WhereAccepted result (SidesKnown (flat_of triangles.now edges.now counts.now) sides.new) }
 {
     if triangles::row_1(triangles) {
         return Checked::Refused(1, 0);

@@ -8,7 +8,7 @@ use std::io::{Read, Write};
 
 // Reads until the area is full or the input ends, and answers how many bytes it has put at the area's front.
 fn read_full<R: Read>(input: &mut R, area: &mut [u8]) -> io::Result<usize>
-    ensures { IfOk result_of (λ n. n ≤ length area.new) }
+    ensures { IfOk result (λ n. n ≤ length area.new) }
 {
     let mut done = 0;
     while done < area.len() {
