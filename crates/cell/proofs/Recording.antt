@@ -19,7 +19,7 @@ use Rattle.walk.specs.Walk as walk
 use Rattle.walk.proofs.Iterate.{orbit_snoc, length_orbit}
 use Rattle.cell.specs.declared.Cell.{Cell}
 use Rattle.cell.specs.declared.Dart.{Dart}
-use Rattle.cell.specs.Cell.{Edges, crossings, index, step}
+use Rattle.cell.specs.Cell.{Edges, crossings, step}
 use Rattle.cell.specs.Loop.{loop_size, dart, loop_darts, folded, normal, in_grid}
 use Rattle.cell.specs.Of.{edges_of}
 use Rattle.cell.specs.claims.Half.{edge_of, dart_number}

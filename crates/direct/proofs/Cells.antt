@@ -7,8 +7,7 @@ use native.Mathlib.Omega.{arith}
 use native.Mathlib.Nat.{add-zero}
 use lib.Dec.{leb}
 use lib.ListN.{length, get_or}
-use borrow.Author.Tests.{leb-true, eq-eqb}
-use Rattle.counting.specs.Pick.{pick}
+use borrow.Author.Tests.{leb-true}
 use Rattle.counting.specs.Lists.{gather, total, values, pre}
 use Rattle.counting.specs.work.Stored.{Stored}
 use Rattle.counting.specs.Stored.{stored_in}
@@ -24,24 +23,23 @@ use Rattle.cell.specs.declared.Triangle.{Triangle}
 use Rattle.cell.specs.Of.{count_of, edges_of}
 use Rattle.cell.specs.work.Route.{limited}
 use Rattle.cell.specs.Cell.{crossings}
-use Rattle.cell.specs.claims.Claims.{Rising}
 use Rattle.cell.specs.work.Limits.{most_in_cell}
 use Rattle.cell.specs.Nodes.{joining}
 use Rattle.cell.specs.Level.{by_edge, is_level_cell}
-use Rattle.cell.specs.Triangles.{cell_triangles, triangles_with}
+use Rattle.cell.specs.Triangles.{cell_triangles}
 use Rattle.cell.specs.Words.{word_count, all_words}
 use Rattle.cell.specs.work.Fits.{next_at, area_then, next_after, area_after}
 use Rattle.cell.specs.claims.Table.{side, table_cell, taken_counts}
-use Rattle.cell.proofs.Fits.{Put, put_none, put_more, next_all, area_all}
+use Rattle.cell.proofs.Fits.{Put, put_more}
 use Rattle.cell.proofs.Storing.{length_all}
 use Rattle.cell.proofs.Taken.{cell_few}
 use Rattle.cell.proofs.Using.{table_near, limited_same}
-use Rattle.cell.proofs.Values.{taken_is, taken_crossings}
+use Rattle.cell.proofs.Values.{taken_is}
 use Rattle.booking.specs.Booking.{median, beside, corner_triangles, least_corner, left_between, larger, smaller}
 use Rattle.booking.specs.claims.Booking.{booked}
 use Rattle.booking.proofs.Claims.{triangles_booked}
 use Rattle.direct.specs.claims.Direct.{Plain}
-use Rattle.direct.specs.work.Rows.{AreOwn, Listed, PlainNumbers, Ready}
+use Rattle.direct.specs.work.Rows.{AreOwn, PlainNumbers, Ready}
 use Rattle.direct.specs.work.Cells.{Came}
 use Rattle.direct.proofs.Families.{smaller_is}
 

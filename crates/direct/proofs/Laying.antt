@@ -1,12 +1,11 @@
 -- A level cell edge by edge, in whatever order its edges are laid.
 use Prim.Native.Nat.{ℕ, ◌+◌, ◌-◌, ◌*◌, ◌≤◌, ◌<◌}
 use mathlib.Core.Path.{◌≡◌, refl, sym, ap, ◌∙◌, subst}
-use mathlib.Core.Logic.{◌⊎◌, inl, inr, ◌≢◌, ⊎_elim}
+use mathlib.Core.Logic.{◌⊎◌, ◌≢◌, ⊎_elim}
 use mathlib.Core.Bool.{Bool, true, false}
 use mathlib.Core.List.{List, [], ◌∷◌, ◌++◌}
 use native.Mathlib.Omega.{arith}
-use native.Mathlib.Nat.{add-zero}
-use native.Mathlib.Decide.{dec_lt, ℕ_discrete}
+use native.Mathlib.Decide.{dec_lt}
 use lib.Dec.{eqb, leb}
 use lib.ListN.{length, get_or}
 use borrow.Author.Tests.{eq-eqb, ne_eqb, leb-true}
@@ -44,8 +43,8 @@ use Rattle.cell.proofs.Taken.{with_few}
 use Rattle.cell.proofs.Using.{limited_same}
 use Rattle.cell.proofs.Values.{six_taken}
 use Rattle.booking.specs.Booking.{least_corner, left_between, smaller}
-use Rattle.direct.specs.claims.Direct.{Plain, passed, outwards, inwards, acrosses, rounds}
-use Rattle.direct.specs.work.Rows.{AreOwn, Listed, Parting, PlainNumbers, Round}
+use Rattle.direct.specs.claims.Direct.{passed, outwards, inwards, acrosses, rounds}
+use Rattle.direct.specs.work.Rows.{Listed, Parting, PlainNumbers, Round}
 use Rattle.direct.specs.work.Laid.{ring_on, parting_on, quads_on, laid_on, length_asked, Laying, Laid, AtStart}
 use Rattle.direct.proofs.Numbers.{count_is}
 use Rattle.direct.proofs.Rows.{across_words, rounds_words}

@@ -16,7 +16,7 @@ use Rattle.face.specs.work.Corners.{corners}
 use Rattle.face.specs.claims.Claims.{unjoined}
 use Rattle.slots.specs.Slots.{lower, upper}
 use Rattle.face.specs.claims.Ends.{Edge, on_ab, on_ac, on_bc, End, low, high}
-use Rattle.face.proofs.Ends.{edge_lt, edge-of, end_other, near, on}
+use Rattle.face.proofs.Ends.{edge_lt, edge-of, end_other, on}
 use Rattle.face.proofs.Gaps.{corner_fits, corner_read}
 use Rattle.grid.specs.Grid.{crossings}
 use Rattle.flat.specs.Join.{lessened, flat_corner_at, flat_join}

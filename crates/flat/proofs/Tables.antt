@@ -1,5 +1,5 @@
 -- The tables of ports and first crossings, and the table of the step made from them.
-use Prim.Native.Nat.{ℕ, suc, ◌+◌, ◌*◌, ◌-◌, ◌/◌, ◌%◌, ◌≤◌, ◌<◌}
+use Prim.Native.Nat.{ℕ, suc, ◌+◌, ◌*◌, ◌/◌, ◌%◌, ◌≤◌, ◌<◌}
 use mathlib.Core.Path.{◌≡◌, refl, sym, ap, ◌∙◌}
 use mathlib.Core.Logic.{◌≢◌}
 use mathlib.Core.List.{List}
@@ -7,7 +7,7 @@ use native.Mathlib.Omega.{arith}
 use lib.ListN.{get_or, length, replicate, set}
 use lib.Seq.{sets}
 use borrow.Author.Tests.{eq-eqb, ne_eqb}
-use Rattle.counting.specs.Lists.{pre, one, over, values}
+use Rattle.counting.specs.Lists.{pre, over, values}
 use Rattle.counting.specs.Stored.{filled}
 use Rattle.counting.proofs.Tables.{filled_table, zeros}
 use Rattle.counting.proofs.Pack.{col_pack, pre_le, pre_next, row_pack}

@@ -1,6 +1,6 @@
 -- Row 4 where row 5 has found nothing: a cell that equals an earlier one is across its slot 0.
 use Prim.Native.Nat.{ℕ, ◌%◌, ◌*◌, ◌+◌, ◌-◌, ◌/◌, ◌<◌, ◌≤◌}
-use mathlib.Core.Path.{◌∙◌, ◌≡◌, ap, refl, sym}
+use mathlib.Core.Path.{◌∙◌, ◌≡◌, refl}
 use mathlib.Core.Logic.{◌≢◌}
 use mathlib.Core.Bool.{Bool, ◌&&◌, false, true}
 use mathlib.Core.List.{List}
@@ -9,8 +9,8 @@ use native.Mathlib.Omega.{arith}
 use lib.Dec.{eqb, ltb}
 use lib.ListN.{get_or}
 use borrow.Author.Tests.{eq-eqb, eqb-true, le-ltb, lt-ltb, ltb-true, ne_eqb}
-use Rattle.counting.specs.Search.{every, some}
-use Rattle.counting.proofs.Bools.{and_left, and_right, and_true, bool_same}
+use Rattle.counting.specs.Search.{every}
+use Rattle.counting.proofs.Bools.{and_left, and_right, bool_same}
 use Rattle.counting.proofs.Search.{every_is, is_every, some_found, some_is}
 use Rattle.slots.specs.Slots.{position}
 use Rattle.grid.specs.Grid.{cell_count, node, same_face}

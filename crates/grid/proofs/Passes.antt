@@ -1,8 +1,7 @@
 -- Chains of cells, the pass over all labels, and the labels themselves.
-use Prim.Native.Nat.{ℕ, ◌+◌, ◌*◌, ◌-◌, ◌/◌, ◌%◌, ◌<◌, ◌≤◌}
-use mathlib.Core.Path.{◌∙◌, ◌≡◌, ap, refl, sym}
-use mathlib.Core.Logic.{◌≢◌, ◌⊎◌, inl, inr, ⊎_elim}
-use mathlib.Core.Bool.{Bool, false, true}
+use Prim.Native.Nat.{ℕ, ◌+◌, ◌*◌, ◌/◌, ◌%◌, ◌<◌, ◌≤◌}
+use mathlib.Core.Path.{◌∙◌, ◌≡◌, refl, sym}
+use mathlib.Core.Logic.{◌⊎◌, inl, inr, ⊎_elim}
 use mathlib.Core.List.{List}
 use native.Mathlib.Decide.{dec_lt, ℕ_discrete}
 use native.Mathlib.Nat.{not-suc-le-zero}
@@ -11,11 +10,10 @@ use lib.ListN.{get_or, length, length-set, set}
 use lib.Seq.{get_or-set_other, get_or-set_same}
 use borrow.Author.Tests.{eq-eqb, ne_eqb}
 use Rattle.counting.specs.Search.{count, last}
-use Rattle.counting.specs.work.Tables.{Table}
 use Rattle.counting.proofs.Search.{count_le, last_hit, last_miss, last_none}
 use Rattle.grid.specs.work.Numbered.{Does, Has, Numberable, Numbered, Ready, Told, has}
-use Rattle.grid.specs.work.Walks.{Along, Course, Coursed, Labelling, Labels, Linkable, Linked, Passable, Passed, Walkable, Walks, label_at, labelled}
-use Rattle.grid.proofs.Turns.{does_as, does_none, does_then, ready_after, ready_one}
+use Rattle.grid.specs.work.Walks.{Along, Course, Coursed, Labelling, Labels, Linked, Passable, Passed, Walkable, Walks, labelled}
+use Rattle.grid.proofs.Turns.{does_none, does_then, ready_after, ready_one}
 
 -- the loop of `link` has put the first c cells
 pub record Linking (f : ℕ → ℕ) (head next : List ℕ) (c : ℕ) : Type 0 where

@@ -1,15 +1,13 @@
 -- Places of a cell, and of the cells along a chain.
 use Prim.Native.Nat.{ℕ, ◌+◌, ◌*◌, ◌-◌, ◌/◌, ◌%◌, ◌<◌, ◌≤◌}
-use mathlib.Core.Path.{◌∙◌, ◌≡◌, ap, refl, sym}
-use mathlib.Core.Logic.{◌≢◌, ◌⊎◌, inl, inr, ⊎_elim}
-use mathlib.Core.Bool.{Bool, false, true}
+use mathlib.Core.Path.{◌∙◌, ◌≡◌, ap, refl}
+use mathlib.Core.Logic.{inl, inr}
 use mathlib.Core.List.{List}
-use native.Mathlib.Decide.{dec_lt, ℕ_discrete}
+use native.Mathlib.Decide.{dec_lt}
 use native.Mathlib.Omega.{arith}
 use lib.ListN.{get_or, length}
-use borrow.Author.Tests.{eq-eqb, eqb-false, eqb-true, le-ltb, lt-ltb, ne_eqb}
+use borrow.Author.Tests.{eqb-false, eqb-true}
 use Rattle.counting.specs.Search.{last}
-use Rattle.counting.specs.work.Tables.{Table}
 use Rattle.counting.proofs.Search.{last_above, last_is, last_le}
 use Rattle.grid.specs.work.Numbered.{Does, Numberable, Ready}
 use Rattle.grid.specs.work.Walks.{Along, InSlots, Linked, Walkable, Walks, labelled}

@@ -13,7 +13,6 @@ use Rattle.counting.specs.Lists.{one}
 use Rattle.counting.specs.Search.{first, last, some}
 use Rattle.counting.proofs.Below.{trichotomy}
 use Rattle.counting.proofs.Bools.{and_left, and_right, and_true, bool_same, clash, holds_or}
-use Rattle.counting.proofs.Range.{mark}
 use Rattle.counting.proofs.Reach.{reach_closed, reach_holds, reach_start}
 use Rattle.counting.proofs.Search.{first_is, last_ext, last_is, some_and, some_blocks, some_ext, some_first, some_found, some_is, some_last, some_none}
 use Rattle.slots.specs.Slots.{contains, hi, lo, lower, edge_rank, slot_edge, upper}

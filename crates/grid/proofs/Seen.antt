@@ -7,7 +7,6 @@ use native.Mathlib.Omega.{arith}
 use lib.ListN.{get_or, length, length-set, set, get_or-eq_default}
 use lib.Seq.{get_or-set_other, get_or-set_same}
 use borrow.Author.Tests.{eq-eqb, ne_eqb}
-use Rattle.counting.specs.Search.{last}
 use Rattle.counting.proofs.Search.{last_hit, last_miss, last_none}
 use Rattle.grid.specs.work.Walks.{labelled}
 use Rattle.grid.specs.work.Seen.{Seen}

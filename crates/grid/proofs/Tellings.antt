@@ -1,11 +1,8 @@
 -- The law used three times: pairs, faces and cells.
-use Prim.Native.Nat.{ℕ, suc, ◌+◌, ◌*◌, ◌-◌, ◌/◌, ◌%◌, ◌<◌, ◌≤◌}
-use mathlib.Core.Path.{◌∙◌, ◌≡◌, ap, refl, sym}
-use mathlib.Core.Logic.{◌≢◌, ◌⊎◌, inl, inr, ⊎_elim}
-use mathlib.Core.Bool.{Bool, false, true}
+use Prim.Native.Nat.{ℕ, ◌+◌, ◌*◌, ◌-◌, ◌/◌, ◌%◌, ◌<◌, ◌≤◌}
+use mathlib.Core.Path.{◌∙◌, ◌≡◌, refl, sym}
 use mathlib.Core.List.{List}
 use native.Mathlib.Decide.{dec_lt, ℕ_discrete}
-use native.Mathlib.Nat.{not-suc-le-zero}
 use native.Mathlib.Numerals.{add-one}
 use native.Mathlib.Omega.{arith}
 use lib.ListN.{get_or, length, set}
@@ -15,7 +12,7 @@ use Rattle.counting.specs.Stored.{filled}
 use Rattle.counting.proofs.Stored.{filled_more}
 use Rattle.slots.specs.Limits.{most_cells}
 use Rattle.slots.specs.Slots.{position}
-use Rattle.grid.specs.work.Numbered.{Has, Told}
+use Rattle.grid.specs.work.Numbered.{Has}
 use Rattle.grid.specs.work.Walks.{Cells, ChainTables, Comparable, Course, Coursed, Fresh, LabelChains, LowChains, Linkable, Linked, Labelling, Labels, Numerable, Pairable, Passable, Passed, SameEntry, SameFrom, SameNodes, Slots, Slotted, Tells, corner, entry, label_at}
 use Rattle.grid.specs.work.Runs.{NodeChains}
 

@@ -1,20 +1,17 @@
 -- Laws of a turn.
-use Prim.Native.Nat.{ℕ, zero, suc, ◌+◌, ◌-◌, ◌<◌, ◌≤◌}
+use Prim.Native.Nat.{ℕ, zero, suc, ◌+◌, ◌<◌, ◌≤◌}
 use mathlib.Core.Path.{◌∙◌, ◌≡◌, ap, refl, sym}
 use mathlib.Core.Logic.{◌≢◌, ◌⊎◌, inl, inr, ⊎_elim}
 use mathlib.Core.Bool.{Bool, false, true}
 use mathlib.Core.List.{List}
 use native.Mathlib.Decide.{dec_lt, ℕ_discrete}
 use native.Mathlib.Omega.{arith}
-use lib.Dec.{ltb}
 use lib.ListN.{get_or, length, length-set, set}
 use lib.Seq.{get_or-set_other, get_or-set_same}
 use borrow.Author.Tests.{le-ltb, lt-ltb}
-use Rattle.counting.specs.Lists.{one}
-use Rattle.counting.specs.Pick.{pick}
 use Rattle.counting.specs.Search.{count}
 use Rattle.counting.proofs.Search.{below-or, count_ext, count_le}
-use Rattle.grid.specs.work.Numbered.{Does, Has, Numberable, Numbered, Ready, Told, at_after, has, ids_after, mark_of, number_of}
+use Rattle.grid.specs.work.Numbered.{Does, Has, Numberable, Numbered, Ready, at_after, has, ids_after, mark_of, number_of}
 
 -- two tests that differ at i only, which the second passes
 pub count_one_more : (t u : ℕ → Bool) (i : ℕ) → t i ≡ false → u i ≡ true → ((j : ℕ) → j ≢ i → t j ≡ u j) → (N : ℕ) → i < N → count u N ≡ count t N + 1

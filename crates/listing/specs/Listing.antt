@@ -1,5 +1,5 @@
 -- The listing of a bundle (01): what meshlist prints for the bytes that it reads.
-use Rattle.std.specs.Prelude.{ℕ, ◌+◌, ◌*◌, ◌≤◌, ◌≡◌, List, ◌++◌, ltb, length, get_or}
+use Rattle.std.specs.Prelude.{ℕ, ◌*◌, ◌≤◌, ◌≡◌, List, ◌++◌, ltb, length, get_or}
 use Rattle.answer.specs.Answer.{is_result}
 use Rattle.counting.specs.Pick.{pick}
 use Rattle.counting.specs.Lists.{over}

@@ -11,7 +11,7 @@ use lib.Ieee.{Float, nan, inf, fin, Format, binary64, up, down, unlike, mul}
 use borrow.Author.Tests.{eqb-true, eqb-false, eq-eqb, ne_eqb, ltb-true, lt-ltb}
 use Rattle.counting.specs.Pick.{pick}
 use Rattle.counting.specs.Lists.{one, tally, total}
-use Rattle.counting.specs.Search.{first, some}
+use Rattle.counting.specs.Search.{first}
 use Rattle.counting.specs.Gcd.{gcd}
 use Rattle.counting.proofs.Bools.{clash, bool_same, and_true, and_left, and_right}
 use Rattle.counting.proofs.Gcd.{gcd_both}

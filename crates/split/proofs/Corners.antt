@@ -27,7 +27,7 @@ use Rattle.manifold.specs.claims.Piece.{slot_of, mate_of, lower_of, onward, size
 use Rattle.cell.specs.declared.Cell.{Cell}
 use Rattle.cell.specs.Cell.{Edges, crossings, step}
 use Rattle.cell.specs.Of.{count_of, edges_of}
-use Rattle.cell.specs.Loop.{loop_size, dart, normal}
+use Rattle.cell.specs.Loop.{loop_size, normal}
 use Rattle.cell.specs.Triangles.{number_of, loop_triangles, asked_triangles, triangles_with}
 use Rattle.cell.specs.Level.{is_level_cell}
 use Rattle.cell.specs.claims.Polygons.{local_of, polygon_of, named}

@@ -11,7 +11,6 @@ use lib.Dec.{eqb, ltb}
 use lib.ListN.{get_or}
 use borrow.Author.Tests.{eqb-true, eq-eqb, ne_eqb, ltb-true, lt-ltb, le-ltb}
 use Rattle.counting.specs.Lists.{seek}
-use Rattle.counting.specs.Search.{first}
 use Rattle.counting.proofs.Below.{trichotomy, below_four, below_six}
 use Rattle.counting.proofs.Bools.{clash, and_left, and_right}
 use Rattle.counting.proofs.Search.{Sought, sought, first_at}

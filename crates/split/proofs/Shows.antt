@@ -6,12 +6,12 @@ use native.Mathlib.Omega.{arith}
 use Rattle.slots.specs.Slots.{slot_edge, edge_rank, first_slot, second_slot}
 use Rattle.slots.specs.claims.Claims.{EdgeSlot}
 use Rattle.slots.proofs.Slots.{slot-edge}
-use Rattle.face.specs.Face.{joined, face_join}
+use Rattle.face.specs.Face.{face_join}
 use Rattle.walk.proofs.Step.{face_first, face_second}
 use Rattle.manifold.specs.claims.Piece.{Local, Piece, slot_of, mate_of}
 use Rattle.manifold.specs.claims.Complex.{Joins, Whole}
 use Rattle.cell.specs.declared.Cell.{Cell}
-use Rattle.cell.specs.Cell.{Edges, crossings, edge, index, number, join_at, mate, slot}
+use Rattle.cell.specs.Cell.{Edges, crossings, edge, index, number, join_at, slot}
 use Rattle.cell.specs.Of.{count_of, start_of, edges_of}
 use Rattle.cell.specs.Loop.{in_grid}
 use Rattle.cell.specs.Triangles.{number_of}

@@ -1,20 +1,19 @@
 -- Laws of a list's keys in trees: the place before each, and pairs that have a key. Assumes nothing.
-use Prim.Native.Nat.{ℕ, suc, ◌+◌, ◌-◌, ◌*◌, ◌/◌, ◌%◌, ◌≤◌, ◌<◌}
+use Prim.Native.Nat.{ℕ, ◌+◌, ◌-◌, ◌%◌, ◌≤◌, ◌<◌}
 use mathlib.Core.Path.{◌≡◌, refl, sym, ap, ◌∙◌}
 use mathlib.Core.Bool.{Bool, true, false}
 use mathlib.Core.List.{List}
 use native.Mathlib.Numerals.{add-one}
 use native.Mathlib.Decide.{dec_lt, ℕ_discrete}
 use native.Mathlib.Omega.{arith}
-use lib.Dec.{eqb, ltb}
+use lib.Dec.{ltb}
 use lib.ListN.{length, get_or, set, length-set}
 use lib.Seq.{ext_get_or, get_or-set_same, get_or-set_other}
 use borrow.Author.Tests.{eq-eqb, ne_eqb, lt-ltb, le-ltb}
 use Rattle.counting.specs.Pick.{pick}
-use Rattle.counting.specs.Search.{first, last, some}
-use Rattle.counting.specs.Lists.{seek}
+use Rattle.counting.specs.Search.{last}
 use Rattle.counting.specs.Stored.{filled}
-use Rattle.counting.proofs.Search.{last_none, last_hit, last_miss, last_le, seek_end, seek_hit, seek_miss, seek_start, some_last}
+use Rattle.counting.proofs.Search.{last_none, last_hit, last_miss, seek_end, seek_hit, seek_miss, seek_start, some_last}
 use Rattle.counting.proofs.Stored.{filled_at, filled_beyond, length_filled}
 use Rattle.trees.specs.work.Trees.{has_key, top_for, Tops}
 use Rattle.trees.specs.work.Keys.{most_places, key_in, earlier_in, pair_in, pair_has, pair_lacks, below_or, paired_at}

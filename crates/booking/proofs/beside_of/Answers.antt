@@ -1,4 +1,3 @@
-use borrow.Author.Rules.{rules}
 use borrow.Author.Tests.{eq-eqb, ne_eqb}
 use Rattle.booking.specs.Booking.{beside}
 use Rattle.booking.proofs.beside_of.Goals as goal

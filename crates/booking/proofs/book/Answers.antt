@@ -1,4 +1,3 @@
-use borrow.Author.Rules.{rules}
 use Rattle.booking.proofs.Answers.{few_from, walk_from, booked_from}
 use Rattle.booking.proofs.book.Goals as goal
 

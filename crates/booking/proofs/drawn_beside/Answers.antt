@@ -1,7 +1,6 @@
 use Prim.Native.Nat.{◌<◌}
 use mathlib.Core.Path.{◌∙◌}
 use native.Mathlib.Omega.{arith}
-use borrow.Author.Rules.{rules}
 use Rattle.booking.proofs.Figures.{figure_laws}
 use Rattle.booking.proofs.Drawn.{drawn_flat, drawn_split, drawn_fans}
 use Rattle.booking.proofs.drawn_beside.Goals as goal

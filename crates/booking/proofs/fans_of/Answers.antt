@@ -1,5 +1,4 @@
 use mathlib.Core.Path.{sym, ◌∙◌}
-use borrow.Author.Rules.{rules}
 use borrow.Author.Tests.{not-true, not-false}
 use Rattle.booking.proofs.Sums.{walk-it, book_sums, book_it}
 use Rattle.booking.proofs.fans_of.Goals as goal

@@ -1,4 +1,3 @@
-use borrow.Author.Rules.{rules}
 use Rattle.booking.proofs.Sums.{remains_median, in_order}
 use Rattle.booking.proofs.from_sums.Goals as goal
 

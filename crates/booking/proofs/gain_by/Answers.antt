@@ -1,7 +1,6 @@
 use Prim.Native.Nat.{◌<◌}
 use mathlib.Core.Path.{sym, ◌∙◌}
 use native.Mathlib.Omega.{arith}
-use borrow.Author.Rules.{rules}
 use Rattle.counting.proofs.Gcd.{gcd_pos}
 use Rattle.booking.proofs.Figures.{figure_laws}
 use Rattle.booking.proofs.Drawn.{short_not, equal_not, prime_not, gain_none, more_than, gain_some}

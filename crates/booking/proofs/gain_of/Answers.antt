@@ -1,5 +1,4 @@
 use native.Mathlib.Omega.{arith}
-use borrow.Author.Rules.{rules}
 use Rattle.booking.proofs.Answers.{few_from, gain_low, gain_walk, gain_counted}
 use Rattle.booking.proofs.gain_of.Goals as goal
 

@@ -1,6 +1,5 @@
 use Prim.Native.Nat.{◌-◌, ◌/◌}
 use native.Mathlib.Omega.{arith}
-use borrow.Author.Rules.{rules}
 use Rattle.booking.specs.work.Sums.{of_three}
 use Rattle.booking.proofs.Totals.{beside_few}
 use Rattle.booking.proofs.of_three.Goals as goal

@@ -1,5 +1,5 @@
 -- The laws of splitting again and again, by the two numbers alone.
-use Rattle.std.specs.Prelude.{ℕ, ◌+◌, ◌-◌, ◌*◌, ◌/◌, ◌≤◌, ◌<◌, ◌≡◌}
+use Rattle.std.specs.Prelude.{ℕ, ◌+◌, ◌*◌, ◌/◌, ◌≤◌, ◌<◌, ◌≡◌}
 use Rattle.counting.specs.Gcd.{gcd}
 use Rattle.booking.specs.Figures.{next_larger, next_smaller, figure, splits, inner_crossings, beside_split}
 

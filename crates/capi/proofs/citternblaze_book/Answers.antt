@@ -1,4 +1,3 @@
-use borrow.Author.Rules.{rules}
 use Rattle.booking.specs.Answer.{booking_numbers}
 use Rattle.capi.proofs.Answers.{answers_told}
 use Rattle.capi.proofs.citternblaze_book.Goals as goal

@@ -1,4 +1,3 @@
-use borrow.Author.Rules.{rules}
 use Rattle.cases.specs.Answer.{case_numbers}
 use Rattle.capi.proofs.Answers.{answers_told}
 use Rattle.capi.proofs.citternblaze_case.Goals as goal

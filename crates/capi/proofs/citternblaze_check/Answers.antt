@@ -1,4 +1,3 @@
-use borrow.Author.Rules.{rules}
 use Rattle.grid.specs.Check.{check_numbers}
 use Rattle.capi.proofs.Answers.{told_reads, answers_are, answers_told}
 use Rattle.grid.proofs.Claims.{never_empty}

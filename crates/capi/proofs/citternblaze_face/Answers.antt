@@ -1,4 +1,3 @@
-use borrow.Author.Rules.{rules}
 use Rattle.face.specs.Join.{join_numbers}
 use Rattle.capi.proofs.Answers.{answers_told}
 use Rattle.capi.proofs.citternblaze_face.Goals as goal

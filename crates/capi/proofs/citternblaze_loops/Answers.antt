@@ -1,4 +1,3 @@
-use borrow.Author.Rules.{rules}
 use Rattle.mesh.specs.Numbers.{loops_numbers}
 use Rattle.capi.proofs.Answers.{told_reads, answers_are, answers_told}
 use Rattle.mesh.proofs.Claims.{loops_some}

@@ -1,4 +1,3 @@
-use borrow.Author.Rules.{rules}
 use Rattle.nearest.specs.Answer.{nearest_numbers, measured_numbers}
 use Rattle.nearest.proofs.Claims.{nearest_some, point_reads}
 use Rattle.answer.proofs.Answer.{refused_numbers}

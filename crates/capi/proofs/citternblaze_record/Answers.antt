@@ -1,4 +1,3 @@
-use borrow.Author.Rules.{rules}
 use Rattle.bundle.specs.Record.{record_numbers}
 use Rattle.capi.proofs.Answers.{answers_told}
 use Rattle.capi.proofs.citternblaze_record.Goals as goal

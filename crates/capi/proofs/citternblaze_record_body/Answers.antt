@@ -1,9 +1,6 @@
-use borrow.Author.Rules.{rules}
-use Prim.Native.Nat.{◌+◌, ◌≤◌}
 use native.Mathlib.Omega.{arith}
 use mathlib.Core.Path.{sym}
-use lib.ListN.{length}
-use Rattle.bundle.specs.Record.{head_bytes, record_numbers}
+use Rattle.bundle.specs.Record.{record_numbers}
 use Rattle.bundle.proofs.Within.{record_within}
 use Rattle.capi.proofs.Answers.{told_reads, answers_are}
 use Rattle.capi.proofs.Body.{body_found, body_refused}

@@ -1,8 +1,4 @@
 use borrow.Author.Rules.{rules}
-use Prim.Native.Nat.{◌-◌, ◌≤◌}
-use mathlib.Core.Path.{◌≡◌}
-use lib.ListN.{length, take}
-use Rattle.counting.specs.work.Stored.{Stored}
 use Rattle.counting.proofs.Stored.{stored_none, stored_entry, stored_all}
 use Rattle.capi.proofs.Putting.{answers_short, answers_put}
 use Rattle.capi.proofs.put.Goals as goal

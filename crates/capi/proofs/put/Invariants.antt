@@ -1,10 +1,7 @@
-use borrow.Author.Rules.{rules}
 use Prim.Native.Nat.{◌-◌, ◌≤◌}
 use mathlib.Core.Path.{◌≡◌}
 use lib.ListN.{length, take}
 use Rattle.counting.specs.work.Stored.{Stored}
-use Rattle.counting.proofs.Stored.{stored_none, stored_entry, stored_all}
-use Rattle.capi.proofs.Putting.{answers_short, answers_put}
 use Rattle.capi.proofs.put.Given as goal
 
 abbrev pub invariant-loop-i : goal.invariant-loop-i

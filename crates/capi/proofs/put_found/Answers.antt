@@ -1,4 +1,3 @@
-use borrow.Author.Rules.{rules}
 use Rattle.capi.proofs.Answers.{answers_are, type_told, loop-told}
 use Rattle.capi.proofs.put_found.Goals as goal
 

@@ -1,4 +1,3 @@
-use borrow.Author.Rules.{rules}
 use mathlib.Core.Path.{refl}
 use Rattle.face.specs.Face.{joined_by}
 use Rattle.face.specs.Join.{how_numbers}

@@ -1,4 +1,3 @@
-use borrow.Author.Rules.{rules}
 use mathlib.Core.Path.{refl}
 use Rattle.cell.specs.Answer.{loop_numbers}
 use Rattle.capi.proofs.Answers.{answers_told}

@@ -3,7 +3,6 @@ use mathlib.Core.Path.{◌≡◌, refl, ap, ap₂, ◌∙◌}
 use mathlib.Core.List.{[], ◌∷◌}
 use native.Mathlib.Omega.{arith}
 use lib.ListN.{get_or}
-use borrow.Author.Rules.{rules}
 use Rattle.answer.specs.Answer.{result_of}
 use Rattle.cell.specs.Level.{by_edge}
 use Rattle.cases.specs.claims.Cases.{entries}

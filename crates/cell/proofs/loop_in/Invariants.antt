@@ -1,9 +1,7 @@
-use native.Mathlib.Omega.{arith}
 use Prim.Native.Nat.{◌-◌}
-use mathlib.Core.Path.{◌∙◌}
 use Rattle.cell.specs.Of.{edges_of}
-use Rattle.cell.proofs.Going.{Going, looped_halves, looped_points, going_start, going_in, going_lent, going_more, going_looped, going_part, going_used}
-use Rattle.cell.proofs.Cells.{least_at, Seeking, seeking_none, loop_off, loop_skip, loop_pass, loop_here}
+use Rattle.cell.proofs.Going.{Going}
+use Rattle.cell.proofs.Cells.{least_at, Seeking}
 use Rattle.cell.proofs.loop_in.Given as goal
 
 abbrev pub invariant-loop-p : goal.invariant-loop-p

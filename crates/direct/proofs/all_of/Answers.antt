@@ -1,6 +1,5 @@
 use native.Mathlib.Omega.{arith}
 use Rattle.counting.specs.Lists.{total}
-use borrow.Author.Rules.{rules}
 use Rattle.direct.proofs.all_of.Goals as goal
 
 pub returns : goal.returns

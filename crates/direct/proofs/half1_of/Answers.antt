@@ -1,6 +1,5 @@
 use Rattle.direct.specs.claims.Direct.{half1}
 use Rattle.cell.specs.Triangles.{triangle}
-use borrow.Author.Rules.{rules}
 use Rattle.direct.proofs.half1_of.Goals as goal
 
 pub returns : goal.returns

@@ -1,7 +1,5 @@
-use Rattle.direct.proofs.Families.{all_up, one_down, up_more}
 use Rattle.cell.specs.Level.{by_edge}
 use Prim.Native.Nat.{ℕ, suc, ◌-◌, ◌≤◌, ◌<◌}
-use native.Mathlib.Omega.{arith}
 use Rattle.direct.proofs.is_rising.Given as goal
 
 abbrev pub invariant-loop-k : goal.invariant-loop-k

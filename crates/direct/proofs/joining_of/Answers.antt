@@ -1,5 +1,4 @@
 use Rattle.direct.proofs.Numbers.{joined_first, joined_then, joined_last}
-use borrow.Author.Rules.{rules}
 use Rattle.direct.proofs.joining_of.Goals as goal
 
 pub returns-then-x-eq0 : goal.returns-then-x-eq0

@@ -1,6 +1,5 @@
 use mathlib.Core.Path.{sym, ◌∙◌}
 use Rattle.counting.proofs.Bools.{clash}
-use borrow.Author.Rules.{rules}
 use Rattle.direct.proofs.kind_of.Goals as goal
 
 pub level_kind-requires : goal.level_kind-requires

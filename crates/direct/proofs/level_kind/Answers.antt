@@ -1,6 +1,5 @@
 use Rattle.counting.proofs.Bools.{clash}
 use Rattle.direct.proofs.Cells.{plain_numbers}
-use borrow.Author.Rules.{rules}
 use Rattle.direct.proofs.level_kind.Goals as goal
 
 pub returns-then-least32-ne0 : goal.returns-then-least32-ne0

@@ -1,6 +1,5 @@
 use mathlib.Core.Path.{refl, ◌∙◌}
 use Rattle.booking.specs.Booking.{median}
-use borrow.Author.Rules.{rules}
 use Rattle.direct.proofs.median_of.Goals as goal
 
 pub returns : goal.returns

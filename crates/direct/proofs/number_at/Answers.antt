@@ -1,6 +1,5 @@
 use Rattle.direct.proofs.Numbers.{up_fits, up_is, down_room, down_fits, down_is}
 use native.Mathlib.Omega.{arith}
-use borrow.Author.Rules.{rules}
 use Rattle.direct.proofs.number_at.Goals as goal
 
 pub overflow_add-result : goal.overflow_add-result

@@ -1,7 +1,6 @@
 use Rattle.direct.proofs.Families.{own_listed}
 use mathlib.Core.Path.{ap, ◌∙◌}
 use Prim.Native.Nat.{max}
-use borrow.Author.Rules.{rules}
 use Rattle.direct.proofs.own_of.Goals as goal
 
 pub returns : goal.returns

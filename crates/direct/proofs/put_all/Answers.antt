@@ -4,7 +4,6 @@ use Rattle.cell.specs.Words.{all_words}
 use Rattle.counting.proofs.Stored.{stored_as}
 use mathlib.Core.List.{◌++◌}
 use mathlib.Core.Path.{refl, sym, ap}
-use borrow.Author.Rules.{rules}
 use Rattle.direct.proofs.put_all.Goals as goal
 
 pub put_first-i-requires : goal.put_first-i-requires

@@ -1,7 +1,6 @@
 use Rattle.direct.proofs.Families.{room_first, room_next, both_stored, round0, round1}
 use Rattle.direct.specs.claims.Direct.{outwards, inwards, quads_on_first, on_first}
 use mathlib.Core.List.{◌++◌}
-use borrow.Author.Rules.{rules}
 use Rattle.direct.proofs.put_first.Goals as goal
 
 pub put_outwards-i-requires : goal.put_outwards-i-requires

@@ -1,6 +1,5 @@
 use Rattle.direct.proofs.Putting.{two_stored}
 use native.Mathlib.Omega.{arith}
-use borrow.Author.Rules.{rules}
 use Rattle.direct.proofs.put_four.Goals as goal
 
 pub overflow_add-at : goal.overflow_add-at

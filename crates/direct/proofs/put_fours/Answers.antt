@@ -1,7 +1,5 @@
-use borrow.Author.Rules.{rules}
-use Rattle.direct.proofs.Putting.{Under, under_none, under_place, under_long, under_more, under_all, fours}
-use Prim.Native.Nat.{◌+◌, ◌*◌, ◌-◌, ◌≤◌}
-use mathlib.Core.Path.{◌≡◌, refl, ap, ap₂, ◌∙◌}
+use Rattle.direct.proofs.Putting.{under_none, under_place, under_long, under_more, under_all}
+use mathlib.Core.Path.{refl}
 use native.Mathlib.Omega.{arith}
 use Rattle.direct.proofs.put_fours.Goals as goal
 

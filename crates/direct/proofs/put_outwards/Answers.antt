@@ -5,7 +5,6 @@ use Rattle.counting.proofs.Stored.{stored_as}
 use mathlib.Core.Path.{refl, ap}
 use mathlib.Core.Bool.{true}
 use native.Mathlib.Omega.{arith}
-use borrow.Author.Rules.{rules}
 use Rattle.direct.proofs.put_outwards.Goals as goal
 
 pub returns-then-n-eq0 : goal.returns-then-n-eq0

@@ -4,7 +4,6 @@ use Rattle.cell.specs.Words.{all_words}
 use Rattle.counting.proofs.Stored.{stored_as}
 use mathlib.Core.Path.{refl, sym, ap, ◌∙◌}
 use native.Mathlib.Omega.{arith}
-use borrow.Author.Rules.{rules}
 use Rattle.direct.proofs.put_quads.Goals as goal
 
 pub returns-then-n-eq0 : goal.returns-then-n-eq0

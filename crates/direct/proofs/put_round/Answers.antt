@@ -1,6 +1,5 @@
 use native.Mathlib.Omega.{arith}
 use Rattle.direct.proofs.Rows.{round_none, none_stored}
-use borrow.Author.Rules.{rules}
 use Rattle.direct.proofs.put_round.Goals as goal
 
 pub returns-then-n-eq0 : goal.returns-then-n-eq0

@@ -3,7 +3,6 @@ use Rattle.cell.specs.Words.{all_words}
 use Rattle.counting.proofs.Stored.{stored_as}
 use mathlib.Core.Path.{refl, ap}
 use native.Mathlib.Omega.{arith}
-use borrow.Author.Rules.{rules}
 use Rattle.direct.proofs.put_rounds.Goals as goal
 
 pub returns-then-n-eq0 : goal.returns-then-n-eq0

@@ -3,7 +3,6 @@ use Rattle.direct.specs.claims.Direct.{acrosses, inwards}
 use Rattle.cell.specs.Words.{all_words}
 use Rattle.counting.proofs.Stored.{stored_as}
 use mathlib.Core.Path.{refl, sym, ap, ◌∙◌}
-use borrow.Author.Rules.{rules}
 use Rattle.direct.proofs.put_second.Goals as goal
 
 pub put_across-i-requires : goal.put_across-i-requires

@@ -4,7 +4,6 @@ use Rattle.cell.specs.Words.{all_words}
 use Rattle.counting.proofs.Stored.{stored_as}
 use mathlib.Core.Path.{refl, ap}
 use native.Mathlib.Omega.{arith}
-use borrow.Author.Rules.{rules}
 use Rattle.direct.proofs.put_some.Goals as goal
 
 pub start_of-k-requires : goal.start_of-k-requires

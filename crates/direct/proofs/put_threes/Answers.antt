@@ -1,8 +1,5 @@
-use Rattle.direct.proofs.Putting.{Under, under_none, under_place, under_long, under_more, under_all, threes, one_words}
-use Rattle.direct.specs.claims.Direct.{whole}
-use mathlib.Core.List.{[], ◌∷◌}
-use Prim.Native.Nat.{◌+◌, ◌*◌, ◌-◌, ◌≤◌}
-use mathlib.Core.Path.{◌≡◌, refl, ap, ap₂, ◌∙◌}
+use Rattle.direct.proofs.Putting.{under_none, under_place, under_long, under_more, under_all, one_words}
+use mathlib.Core.Path.{refl, ◌∙◌}
 use native.Mathlib.Omega.{arith}
 use Rattle.direct.proofs.put_threes.Goals as goal
 

@@ -1,9 +1,5 @@
-use Rattle.direct.proofs.Putting.{Under, under_none, under_place, under_long, under_more, under_all, threes, one_words}
-use Rattle.direct.specs.claims.Direct.{whole}
-use mathlib.Core.List.{[], ◌∷◌}
-use Prim.Native.Nat.{◌+◌, ◌*◌, ◌-◌, ◌≤◌}
-use mathlib.Core.Path.{◌≡◌, refl, ap, ap₂, ◌∙◌}
-use native.Mathlib.Omega.{arith}
+use Rattle.direct.proofs.Putting.{Under, threes}
+use Prim.Native.Nat.{◌-◌, ◌≤◌}
 use Rattle.direct.proofs.put_threes.Given as goal
 
 abbrev pub invariant-loop-i : goal.invariant-loop-i

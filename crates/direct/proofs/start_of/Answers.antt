@@ -1,5 +1,4 @@
 use native.Mathlib.Omega.{arith}
-use borrow.Author.Rules.{rules}
 use Rattle.direct.proofs.start_of.Goals as goal
 
 pub returns-then-up : goal.returns-then-up

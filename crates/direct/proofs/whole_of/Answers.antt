@@ -1,6 +1,5 @@
 use Rattle.direct.specs.claims.Direct.{whole}
 use Rattle.cell.specs.Triangles.{triangle}
-use borrow.Author.Rules.{rules}
 use Rattle.direct.proofs.whole_of.Goals as goal
 
 pub returns : goal.returns

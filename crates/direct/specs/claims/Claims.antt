@@ -1,5 +1,5 @@
 -- What is proved of the triangles that are found without a walk.
-use Rattle.std.specs.Prelude.{ℕ, ◌<◌, ◌≡◌, true, List, [], Float}
+use Rattle.std.specs.Prelude.{ℕ, ◌<◌, ◌≡◌, true, List, Float}
 use Rattle.counting.specs.Lists.{over, pre}
 use Rattle.cell.specs.declared.Cell.{Cell}
 use Rattle.cell.specs.Cell.{Edges, ahead, base}

@@ -1,4 +1,3 @@
-use borrow.Author.Rules.{rules}
 use mathlib.Core.Path.{refl}
 use Rattle.face.specs.Face.{partner}
 use Rattle.face.proofs.Calls.{partner_fits}

@@ -1,4 +1,3 @@
-use borrow.Author.Rules.{rules}
 use mathlib.Core.Path.{sym}
 use native.Mathlib.Omega.{arith}
 use Rattle.face.proofs.Stands.{stand_low, stand_high, stand_up, stand_alone, stand_down}

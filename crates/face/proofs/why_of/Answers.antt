@@ -1,4 +1,3 @@
-use borrow.Author.Rules.{rules}
 use mathlib.Core.Path.{sym}
 use Rattle.face.proofs.Calls.{why_skipped, why_left}
 use Rattle.face.proofs.why_of.Goals as goal

@@ -1,7 +1,6 @@
 use mathlib.Core.Path.{refl}
 use Rattle.flat.specs.FlatGrid.{flat_of}
 use Rattle.flat.proofs.Calls.{refused_done, told_accepted, told_number, told_sides, traced_done}
-use borrow.Author.Rules.{rules}
 use Rattle.flat.proofs.chains.Goals as goal
 
 pub all_rows-requires : goal.all_rows-requires

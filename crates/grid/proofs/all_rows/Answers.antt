@@ -1,6 +1,5 @@
 use mathlib.Core.Path.{◌∙◌, sym}
 use Rattle.grid.proofs.Answers.{length_fine, with_1, with_2, with_3}
-use borrow.Author.Rules.{rules}
 use Rattle.grid.proofs.all_rows.Goals as goal
 
 pub returns-then-row_1 : goal.returns-then-row_1

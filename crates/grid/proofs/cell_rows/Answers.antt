@@ -4,7 +4,6 @@ use Rattle.answer.specs.work.Faults.{since}
 use Rattle.grid.specs.Rows.{rows}
 use Rattle.grid.proofs.Answers.{answer_passes, answer_refuses}
 use Rattle.grid.proofs.Packed.{ordered_cells}
-use borrow.Author.Rules.{rules}
 use Rattle.grid.proofs.cell_rows.Goals as goal
 
 pub returns-then-p3-n : goal.returns-then-p3-n

@@ -3,7 +3,6 @@ use mathlib.Core.Path.{◌∙◌, ◌≡◌, ap, refl}
 use mathlib.Core.List.{[], ◌∷◌}
 use native.Mathlib.Omega.{arith}
 use lib.ListN.{set}
-use borrow.Author.Rules.{rules}
 use Rattle.answer.specs.Answer.{result_of}
 use Rattle.grid.specs.Grid.{crossings}
 use Rattle.grid.proofs.Settings.{Settable, change_10, change_18, change_21, change_made, change_starting, change_total, change_written, count_below}

@@ -2,7 +2,6 @@ use mathlib.Core.Path.{◌∙◌, sym}
 use Rattle.grid.specs.Grid.{grid_of}
 use Rattle.grid.proofs.Answers.{verdict}
 use Rattle.grid.proofs.Starts.{lists_fine}
-use borrow.Author.Rules.{rules}
 use Rattle.grid.proofs.check.Goals as goal
 
 pub judge-requires : goal.judge-requires

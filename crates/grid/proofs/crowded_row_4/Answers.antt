@@ -1,7 +1,5 @@
 use mathlib.Core.Path.{◌∙◌}
-use native.Mathlib.Omega.{arith}
 use Rattle.grid.proofs.Working.{fresh_again}
-use borrow.Author.Rules.{rules}
 use Rattle.grid.proofs.crowded_row_4.Goals as goal
 
 pub number_cells-requires : goal.number_cells-requires

@@ -1,12 +1,10 @@
-use Prim.Native.Nat.{ℕ, ◌+◌, ◌/◌}
+use Prim.Native.Nat.{ℕ, ◌+◌}
 use mathlib.Core.Path.{◌∙◌, ap}
 use native.Mathlib.Omega.{arith}
-use lib.ListN.{length}
 use Rattle.counting.proofs.Search.{first_le}
 use Rattle.grid.specs.Grid.{cell_count}
 use Rattle.grid.specs.Rows.{crowded, repeats}
 use Rattle.grid.proofs.Working.{fresh_again}
-use borrow.Author.Rules.{rules}
 use Rattle.grid.proofs.early_rows.Goals as goal
 
 pub row_5-p5-requires : goal.row_5-p5-requires

@@ -1,10 +1,8 @@
 use mathlib.Core.Path.{◌∙◌, refl}
-use native.Mathlib.Omega.{arith}
 use Rattle.answer.specs.work.Faults.{since}
 use Rattle.grid.specs.Rows.{rows}
 use Rattle.grid.proofs.Answers.{answer_passes, answer_refuses}
 use Rattle.grid.proofs.Working.{edging_siding}
-use borrow.Author.Rules.{rules}
 use Rattle.grid.proofs.edge_rows.Goals as goal
 
 pub row_6-p6-requires : goal.row_6-p6-requires

@@ -1,5 +1,4 @@
 use Rattle.grid.proofs.Working.{cell-tables, chain-tables, edge-tables}
-use borrow.Author.Rules.{rules}
 use Rattle.grid.proofs.few_rows.Goals as goal
 
 pub table_rows-requires : goal.table_rows-requires

@@ -1,5 +1,4 @@
 use Rattle.grid.proofs.Working.{blank_tables}
-use borrow.Author.Rules.{rules}
 use Rattle.grid.proofs.judge.Goals as goal
 
 pub all_rows-requires : goal.all_rows-requires

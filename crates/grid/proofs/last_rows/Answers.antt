@@ -5,7 +5,6 @@ use Rattle.answer.proofs.Rows.{whole_fault, whole_fine}
 use Rattle.grid.specs.Rows.{rows}
 use Rattle.grid.proofs.Answers.{answer_end, answer_passes, answer_refuses}
 use Rattle.grid.proofs.Crossings.{fine_capped, over_capped}
-use borrow.Author.Rules.{rules}
 use Rattle.grid.proofs.last_rows.Goals as goal
 
 pub row_9-p9-requires : goal.row_9-p9-requires

@@ -1,6 +1,5 @@
 use mathlib.Core.Path.{◌∙◌, ap, sym}
 use native.Mathlib.Omega.{arith}
-use borrow.Author.Rules.{rules}
 use Rattle.grid.specs.Check.{check_numbers}
 use Rattle.grid.specs.Grid.{grid_of}
 use Rattle.grid.proofs.Answers.{verdict}

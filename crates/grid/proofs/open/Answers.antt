@@ -2,7 +2,6 @@ use mathlib.Core.Path.{◌∙◌, sym}
 use Rattle.grid.specs.Grid.{grid_of}
 use Rattle.grid.proofs.Openings.{open_done, open_refused, open_starting, open_verdict}
 use Rattle.grid.proofs.Starts.{numbers_fine}
-use borrow.Author.Rules.{rules}
 use Rattle.grid.proofs.open.Goals as goal
 
 pub judge-r-requires : goal.judge-r-requires

@@ -1,4 +1,3 @@
-use borrow.Author.Rules.{rules}
 use Rattle.grid.specs.Grid.{grid_of}
 use Rattle.grid.proofs.Settings.{set_changeable, set_done, set_refused}
 use Rattle.grid.proofs.set_count.Goals as goal

@@ -1,10 +1,8 @@
 use mathlib.Core.Path.{◌∙◌, refl, sym}
-use native.Mathlib.Omega.{arith}
 use Rattle.answer.specs.work.Faults.{since}
 use Rattle.grid.specs.Rows.{rows}
 use Rattle.grid.proofs.Answers.{answer_passes, answer_refuses}
 use Rattle.grid.proofs.Working.{siding_blank, siding_placeable, siding_talliable, siding_using}
-use borrow.Author.Rules.{rules}
 use Rattle.grid.proofs.side_rows.Goals as goal
 
 pub place_sides-requires : goal.place_sides-requires

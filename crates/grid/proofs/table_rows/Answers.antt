@@ -8,7 +8,6 @@ use Rattle.grid.specs.Grid.{cell_count}
 use Rattle.grid.specs.Rows.{crowded, rows}
 use Rattle.grid.proofs.Answers.{answer_passes, answer_refuses, worked}
 use Rattle.grid.proofs.Meets.{rising_numerable}
-use borrow.Author.Rules.{rules}
 use Rattle.grid.proofs.table_rows.Goals as goal
 
 pub number_faces-many-requires : goal.number_faces-many-requires

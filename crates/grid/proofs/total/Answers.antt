@@ -1,10 +1,8 @@
-use Prim.Native.Nat.{◌+◌, ◌-◌, ◌≤◌}
+use Prim.Native.Nat.{◌+◌}
 use mathlib.Core.Path.{◌∙◌, ◌≡◌, ap, sym}
 use native.Mathlib.Omega.{arith}
 use lib.ListN.{length}
-use borrow.Author.Rules.{rules}
 use Rattle.grid.specs.Grid.{crossings, start}
-use Rattle.slots.specs.Limits.{most_crossings}
 use Rattle.grid.proofs.Crossings.{capped_is, capped_over, start_mono, start_next, start_zero}
 use Rattle.grid.proofs.total.Goals as goal
 

@@ -1,10 +1,8 @@
 use mathlib.Core.Path.{◌∙◌, refl}
-use native.Mathlib.Omega.{arith}
 use Rattle.answer.specs.work.Faults.{since}
 use Rattle.grid.specs.Rows.{rows}
 use Rattle.grid.proofs.Answers.{answer_passes, answer_refuses, where-accepted}
 use Rattle.grid.proofs.Working.{using_linkable, using_table, using_usable}
-use borrow.Author.Rules.{rules}
 use Rattle.grid.proofs.used_rows.Goals as goal
 
 pub row_8-p8-requires : goal.row_8-p8-requires

@@ -1,5 +1,5 @@
 -- Where numbers were met before: a table by the number, in place of a chain.
-use Rattle.std.specs.Prelude.{ℕ, ◌<◌, ◌≤◌, ◌≡◌, List, length, get_or}
+use Rattle.std.specs.Prelude.{ℕ, ◌<◌, ◌≡◌, List, length, get_or}
 use Rattle.counting.specs.Search.{last}
 use Rattle.grid.specs.work.Walks.{labelled}
 

@@ -1,7 +1,6 @@
 use native.Mathlib.Omega.{arith}
 use Rattle.split.proofs.Tables.{splits_all}
 use Rattle.layers.proofs.Calls.{few_drawn, bad_joined, joined_short, joinable, joined_fits}
-use borrow.Author.Rules.{rules}
 use Rattle.layers.proofs.cut_joined.Goals as goal
 
 pub returns-then-bad-cuts : goal.returns-then-bad-cuts

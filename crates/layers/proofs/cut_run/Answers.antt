@@ -1,6 +1,5 @@
 use native.Mathlib.Omega.{arith}
 use Rattle.layers.proofs.Calls.{bad_run, no_run, cut_there, run_of, run_short, run_fits}
-use borrow.Author.Rules.{rules}
 use Rattle.layers.proofs.cut_run.Goals as goal
 
 pub returns-then-bad-cuts : goal.returns-then-bad-cuts

@@ -1,4 +1,3 @@
-use borrow.Author.Rules.{rules}
 use Rattle.counting.proofs.Stored.{part_back}
 use Rattle.layers.proofs.draw_at.Goals as goal
 

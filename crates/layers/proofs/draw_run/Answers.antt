@@ -1,7 +1,6 @@
 use mathlib.Core.Path.{sym}
 use native.Mathlib.Omega.{arith}
 use Rattle.layers.proofs.Laying.{layable, zero_below, run_drawn}
-use borrow.Author.Rules.{rules}
 use Rattle.layers.proofs.draw_run.Goals as goal
 
 pub copy_run-requires : goal.copy_run-requires

@@ -3,7 +3,6 @@ use mathlib.Core.Path.{refl}
 use Rattle.layers.specs.Runs.{crossing_in_whole}
 use Rattle.layers.proofs.Laying.{layable, leading}
 use Rattle.layers.proofs.Joining.{many, put_room, run_joined}
-use borrow.Author.Rules.{rules}
 use Rattle.layers.proofs.join_run.Goals as goal
 
 pub copy_run-requires : goal.copy_run-requires

@@ -1,16 +1,12 @@
 use Prim.Native.Nat.{ℕ, suc, ◌-◌, ◌≤◌}
-use mathlib.Core.Path.{◌≡◌, refl, ◌∙◌}
+use mathlib.Core.Path.{◌≡◌}
 use mathlib.Core.List.{List}
-use native.Mathlib.Omega.{arith}
 use lib.ListN.{length, get_or}
 use Rattle.counting.specs.Lists.{over}
 use Rattle.counting.specs.work.Stored.{Stored}
-use Rattle.counting.proofs.Stored.{stored_none, stored_long, stored_as, stored_more}
 use Rattle.grid.specs.Grid.{grid_of}
 use Rattle.layers.specs.work.Work.{Joinable}
-use Rattle.layers.proofs.Laying.{zero_below}
-use Rattle.layers.proofs.Calls.{run_words, few_runs, next_cut, next_words, next_joinable, all_joined}
-use borrow.Author.Rules.{rules}
+use Rattle.layers.proofs.Calls.{run_words}
 use Rattle.layers.proofs.join_runs.Given as goal
 
 abbrev pub invariant-loop-r : goal.invariant-loop-r

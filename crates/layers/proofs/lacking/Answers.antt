@@ -2,7 +2,6 @@ use mathlib.Core.Path.{◌∙◌, ap}
 use native.Mathlib.Omega.{arith}
 use Rattle.layers.specs.work.Work.{lacking_in}
 use Rattle.layers.proofs.Calls.{lacks, lacks_none}
-use borrow.Author.Rules.{rules}
 use Rattle.layers.proofs.lacking.Goals as goal
 
 pub overflow_mul-most : goal.overflow_mul-most

@@ -1,5 +1,4 @@
 use mathlib.Core.Path.{refl}
-use borrow.Author.Rules.{rules}
 use Rattle.grid.specs.Grid.{grid_of}
 use Rattle.layers.proofs.Calls.{refused_joined, tables}
 use Rattle.layers.proofs.mesh_joined.Goals as goal

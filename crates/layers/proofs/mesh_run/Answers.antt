@@ -1,5 +1,4 @@
 use mathlib.Core.Path.{refl}
-use borrow.Author.Rules.{rules}
 use Rattle.grid.specs.Grid.{grid_of}
 use Rattle.layers.proofs.Calls.{refused_run, tables}
 use Rattle.layers.proofs.mesh_run.Goals as goal

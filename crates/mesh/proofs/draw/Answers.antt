@@ -1,6 +1,5 @@
 use native.Mathlib.Omega.{arith}
 use lib.ListN.{length}
-use borrow.Author.Rules.{rules}
 use Rattle.split.specs.work.Table.{table_drawn, table_splits}
 use Rattle.mesh.proofs.Rooms.{answer_short, answer_fits}
 use Rattle.mesh.proofs.draw.Goals as goal

@@ -2,7 +2,6 @@ use mathlib.Core.Path.{◌∙◌}
 use native.Mathlib.Omega.{arith}
 use Rattle.mesh.specs.work.Drawn.{table_loop}
 use Rattle.mesh.proofs.Askings.{asked_there, asked_beyond, loop_limited}
-use borrow.Author.Rules.{rules}
 use Rattle.mesh.proofs.loop_of.Goals as goal
 
 pub cell_at-cell-requires : goal.cell_at-cell-requires

@@ -1,7 +1,6 @@
 use mathlib.Core.Path.{refl, ◌∙◌}
 use Rattle.grid.specs.Grid.{grid_of}
 use Rattle.mesh.proofs.Calls.{refused_loops, told_loops}
-use borrow.Author.Rules.{rules}
 use Rattle.mesh.proofs.loops.Goals as goal
 
 pub loop_of-requires : goal.loop_of-requires

@@ -1,7 +1,6 @@
 use mathlib.Core.Path.{refl}
 use Rattle.grid.specs.Grid.{grid_of}
 use Rattle.mesh.proofs.Calls.{refused_done, drawn_done}
-use borrow.Author.Rules.{rules}
 use Rattle.mesh.proofs.mesh.Goals as goal
 
 pub returns-in-Refused : goal.returns-in-Refused

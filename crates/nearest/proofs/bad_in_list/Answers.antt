@@ -1,10 +1,7 @@
-use Prim.Native.Nat.{◌-◌}
 use mathlib.Core.Bool.{not}
 use mathlib.Core.Path.{sym, ap, ◌∙◌}
 use native.Mathlib.Omega.{arith}
-use borrow.Author.Rules.{rules}
-use Rattle.counting.proofs.Search.{Seeking, seeking_none, seeking_hit, seeking_more, seeking_all}
-use Rattle.nearest.specs.Answer.{beyond}
+use Rattle.counting.proofs.Search.{seeking_none, seeking_hit, seeking_more, seeking_all}
 use Rattle.nearest.proofs.bad_in_list.Goals as goal
 
 pub loop-i-init : goal.loop-i-init

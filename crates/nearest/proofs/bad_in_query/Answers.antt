@@ -1,6 +1,5 @@
 use mathlib.Core.Path.{sym, ap, ◌∙◌}
 use mathlib.Core.Bool.{not}
-use borrow.Author.Rules.{rules}
 use Rattle.counting.specs.Search.{first}
 use Rattle.counting.specs.Lists.{seek}
 use Rattle.nearest.proofs.bad_in_query.Goals as goal

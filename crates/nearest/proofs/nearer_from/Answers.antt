@@ -1,11 +1,7 @@
-use Prim.Native.Nat.{◌-◌}
-use mathlib.Core.Path.{◌≡◌, refl, sym, ◌∙◌}
+use mathlib.Core.Path.{refl, sym, ◌∙◌}
 use mathlib.Core.Bool.{true, false}
 use native.Mathlib.Omega.{arith}
-use borrow.Author.Rules.{rules}
-use Rattle.counting.specs.Lists.{seek}
 use Rattle.counting.proofs.Search.{seek_hit, seek_miss, seek_end}
-use Rattle.nearest.specs.work.Distance.{nearer_than}
 use Rattle.nearest.proofs.Least.{nearer_is}
 use Rattle.nearest.proofs.nearer_from.Goals as goal
 

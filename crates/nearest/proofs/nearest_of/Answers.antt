@@ -1,11 +1,10 @@
 use Prim.Native.Nat.{◌+◌, ◌-◌}
 use native.Mathlib.Omega.{arith}
-use borrow.Author.Rules.{rules}
 use Rattle.counting.proofs.Search.{sought}
-use Rattle.nearest.specs.Distance.{point_count, distance_of}
+use Rattle.nearest.specs.Distance.{point_count}
 use Rattle.nearest.specs.work.Distance.{nearer_than}
 use Rattle.nearest.specs.Answer.{nearest_number}
-use Rattle.nearest.proofs.Least.{Searched, run_one, run_more, run-end, distance_is}
+use Rattle.nearest.proofs.Least.{run_one, run_more, run-end, distance_is}
 use Rattle.nearest.proofs.nearest_of.Goals as goal
 
 pub load-requires : goal.load-requires

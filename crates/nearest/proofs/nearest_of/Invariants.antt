@@ -1,11 +1,6 @@
-use Prim.Native.Nat.{◌+◌, ◌-◌}
-use native.Mathlib.Omega.{arith}
-use borrow.Author.Rules.{rules}
-use Rattle.counting.proofs.Search.{sought}
-use Rattle.nearest.specs.Distance.{point_count, distance_of}
-use Rattle.nearest.specs.work.Distance.{nearer_than}
-use Rattle.nearest.specs.Answer.{nearest_number}
-use Rattle.nearest.proofs.Least.{Searched, run_one, run_more, run-end, distance_is}
+use Prim.Native.Nat.{◌-◌}
+use Rattle.nearest.specs.Distance.{distance_of}
+use Rattle.nearest.proofs.Least.{Searched}
 use Rattle.nearest.proofs.nearest_of.Given as goal
 
 abbrev pub invariant-loop-k : goal.invariant-loop-k

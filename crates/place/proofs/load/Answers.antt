@@ -1,4 +1,4 @@
-use Rattle.std.proofs.Common.{◌≡◌, ◌+◌, ◌*◌, get_or, ap, ◌∙◌, arith, rules}
+use Rattle.std.proofs.Common.{◌≡◌, ◌+◌, ◌*◌, get_or, ap, ◌∙◌, arith}
 use lib.Ieee.{nan}
 use Rattle.place.specs.Place.{coordinates}
 use Rattle.place.proofs.load.Goals as goal

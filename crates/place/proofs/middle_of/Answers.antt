@@ -1,4 +1,4 @@
-use Rattle.std.proofs.Common.{◌≡◌, ℕ, ◌-◌, ◌<◌, ◌≤◌, length, get_or, sym, refl, ap, ◌∙◌, ap₂, arith, rules}
+use Rattle.std.proofs.Common.{◌≡◌, ℕ, ◌-◌, length, get_or, sym, refl, ap, ◌∙◌, ap₂, arith}
 use lib.ListN.{get_or-eq_default}
 use lib.Ieee.{of_bits, of_int}
 use Rattle.place.specs.declared.Place.{Place}

@@ -1,9 +1,5 @@
-use Rattle.std.proofs.Common.{◌≡◌, ℕ, ◌-◌, ◌<◌, ◌≤◌, length, get_or, sym, refl, ap, ◌∙◌, ap₂, arith, rules}
-use lib.ListN.{get_or-eq_default}
-use lib.Ieee.{of_bits, of_int}
-use Rattle.place.specs.declared.Place.{Place}
-use Rattle.place.specs.Place.{float_of, divided, place_at, sum_to, middle}
-use Rattle.place.proofs.Sums.{sum_one, sum_more}
+use Rattle.std.proofs.Common.{◌≡◌, ◌-◌, ◌<◌, ◌≤◌, length, get_or}
+use Rattle.place.specs.Place.{place_at, sum_to}
 use Rattle.place.proofs.middle_of.Given as goal
 
 abbrev pub invariant-loop-i : goal.invariant-loop-i

@@ -1,4 +1,4 @@
-use Rattle.std.proofs.Common.{sym, arith, rules}
+use Rattle.std.proofs.Common.{sym, arith}
 use lib.ListN.{get_or-eq_default}
 use lib.Ieee.{nan, div, of_bits}
 use Rattle.place.proofs.number.Goals as goal

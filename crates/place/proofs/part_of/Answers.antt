@@ -1,4 +1,4 @@
-use Rattle.std.proofs.Common.{◌+◌, ap, ◌∙◌, ap₂, rules}
+use Rattle.std.proofs.Common.{◌+◌, ap, ◌∙◌, ap₂}
 use lib.Ieee.{binary64, div}
 use Rattle.place.specs.Place.{float_of}
 use Rattle.place.proofs.part_of.Goals as goal

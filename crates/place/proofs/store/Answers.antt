@@ -1,4 +1,4 @@
-use Rattle.std.proofs.Common.{◌*◌, sym, ◌∙◌, arith, length-set, rules}
+use Rattle.std.proofs.Common.{◌*◌, sym, ◌∙◌, arith, length-set}
 use Rattle.counting.proofs.Stored.{stored_room, stored_not}
 use Rattle.place.specs.Place.{coordinates, numbers}
 use Rattle.place.proofs.Numbers.{sets_three}

@@ -1,6 +1,5 @@
 use Prim.Native.Nat.{◌+◌}
 use native.Mathlib.Omega.{arith}
-use borrow.Author.Rules.{rules}
 use Rattle.places.proofs.Whole.{refused_in, placeable, points_in}
 use Rattle.places.proofs.place_all.Goals as goal
 

@@ -3,7 +3,6 @@ use mathlib.Core.Path.{sym, ap, ◌∙◌}
 use mathlib.Core.List.{List}
 use native.Mathlib.Omega.{arith}
 use lib.Ieee.{Float}
-use borrow.Author.Rules.{rules}
 use Rattle.cell.specs.claims.Table.{drawn_cells}
 use Rattle.cell.specs.work.Table.{middles_written}
 use Rattle.split.specs.work.Spots.{cells_stored, middles_at_cell}

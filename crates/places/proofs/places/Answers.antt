@@ -1,7 +1,6 @@
 use mathlib.Core.Path.{refl}
 use Rattle.grid.specs.Grid.{grid_of}
 use Rattle.places.proofs.Calls.{refused_done, laid_ready, placed_done}
-use borrow.Author.Rules.{rules}
 use Rattle.places.proofs.places.Goals as goal
 
 pub place_all-requires : goal.place_all-requires

@@ -1,5 +1,4 @@
 use native.Mathlib.Omega.{arith}
-use borrow.Author.Rules.{rules}
 use Rattle.shading.proofs.Bytes.{byte_free, root_read, child_read}
 use Rattle.shading.proofs.byte_of.Goals as goal
 

@@ -1,4 +1,3 @@
-use borrow.Author.Rules.{rules}
 use Rattle.grid.specs.Grid.{grid_of}
 use Rattle.grid.proofs.Filled.{sound_built}
 use Rattle.shading.proofs.Calls.{refused_done, shaded_done}

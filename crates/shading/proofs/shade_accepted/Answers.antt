@@ -1,6 +1,5 @@
 use mathlib.Core.Path.{refl}
 use borrow.Author.Tests.{not-true, not-false}
-use borrow.Author.Rules.{rules}
 use Rattle.grid.specs.Grid.{built}
 use Rattle.grid.proofs.Nodes.{numbers_small}
 use Rattle.shading.proofs.Calls.{all_unitable, in_19, in_20, in_forest, in_sides}

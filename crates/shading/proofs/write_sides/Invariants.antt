@@ -1,9 +1,6 @@
 use Prim.Native.Nat.{◌-◌, ◌≤◌}
-use mathlib.Core.Path.{refl, sym, ◌∙◌}
-use native.Mathlib.Omega.{arith}
-use borrow.Author.Rules.{rules}
 use Rattle.shading.specs.Marks.{most_nodes}
-use Rattle.shading.proofs.Bytes.{Writing, writing_none, still_writable, writing_more, writing_all}
+use Rattle.shading.proofs.Bytes.{Writing}
 use Rattle.shading.proofs.write_sides.Given as goal
 
 abbrev pub invariant-loop-x : goal.invariant-loop-x

@@ -1,6 +1,5 @@
 use native.Mathlib.Omega.{arith}
 use mathlib.Core.Path.{refl}
-use borrow.Author.Rules.{rules}
 use Rattle.slots.specs.Slots.{hi}
 use Rattle.slots.proofs.Slots.{high_first, high_last, high_none}
 use Rattle.slots.proofs.high_end.Goals as goal

@@ -1,4 +1,3 @@
-use borrow.Author.Rules.{rules}
 use Rattle.split.proofs.Putting.{put_stored}
 use Rattle.split.proofs.put.Goals as goal
 

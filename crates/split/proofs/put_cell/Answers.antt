@@ -1,7 +1,6 @@
 use Prim.Native.Nat.{◌<◌}
 use mathlib.Core.Path.{refl, sym}
 use native.Mathlib.Omega.{arith}
-use borrow.Author.Rules.{rules}
 use Rattle.counting.proofs.Stored.{stored_as}
 use Rattle.split.proofs.OneCell.{drawn_placed, words_whole, whole_room, drawn-parts, drawn_left, parts_room}
 use Rattle.split.proofs.put_cell.Goals as goal

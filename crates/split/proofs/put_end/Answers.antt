@@ -1,5 +1,4 @@
 use native.Mathlib.Omega.{arith}
-use borrow.Author.Rules.{rules}
 use Rattle.split.proofs.Putting.{end_sound, end_first, last_sound, end_second, end_stored}
 use Rattle.split.proofs.put_end.Goals as goal
 

@@ -1,5 +1,4 @@
 use native.Mathlib.Omega.{arith}
-use borrow.Author.Rules.{rules}
 use Rattle.split.proofs.Putting.{sound_placed, start_first, start_sound, start_second, start_stored}
 use Rattle.split.proofs.put_start.Goals as goal
 

@@ -1,5 +1,5 @@
 -- The parts of all cells of a grid as one complex, which refines that of the cells (02, W12): its laws, and that their premises can be met.
-use Rattle.std.specs.Prelude.{ℕ, ◌+◌, ◌-◌, ◌%◌, ◌≤◌, ◌<◌, ◌≡◌, true, map, length, get_or}
+use Rattle.std.specs.Prelude.{ℕ, ◌+◌, ◌%◌, ◌≤◌, ◌<◌, ◌≡◌, true, map, length, get_or}
 use Rattle.counting.specs.Lists.{over, tally, pre}
 use Rattle.counting.specs.claims.Lists.{All}
 use Rattle.counting.specs.Pack.{row, col}

@@ -14,7 +14,6 @@ use Rattle.booking.specs.Figures.{splits, inner_crossings}
 use Rattle.booking.specs.Booking.{least_corner, left_between, larger, smaller, is_spiral}
 use Rattle.split.specs.declared.Spiral.{Spiral}
 use Rattle.split.specs.Limits.{word_step}
-use Rattle.split.specs.Labels.{label}
 use Rattle.split.specs.SubCell.{sub}
 use Rattle.split.specs.Parts.{parts, part_triangles, splits_of}
 

@@ -2,7 +2,6 @@ use Prim.Native.Nat.{ℕ, ◌/◌, min}
 use mathlib.Core.Path.{◌≡◌, ap, ◌∙◌}
 use native.Mathlib.Omega.{arith}
 use lib.ListN.{length}
-use borrow.Author.Rules.{rules}
 use Rattle.counting.specs.Search.{first}
 use Rattle.counting.specs.Stored.{filled}
 use Rattle.trees.specs.work.Keys.{place_room, pair_lacks, paired_at}

@@ -1,6 +1,5 @@
 use Prim.Native.Nat.{◌+◌, ◌*◌}
 use native.Mathlib.Omega.{arith}
-use borrow.Author.Rules.{rules}
 use Rattle.counting.proofs.Tables.{zeros}
 use Rattle.trees.specs.work.Trees.{trees}
 use Rattle.trees.specs.work.Keys.{few_places}

@@ -1,5 +1,5 @@
 -- What holds of the loops of N crossings, for every step that is undone by turning round.
-use Rattle.std.specs.Prelude.{ℕ, ◌-◌, ◌≤◌, ◌<◌, ◌*◌, List, ◌≡◌, ◌⊎◌, ◌≢◌}
+use Rattle.std.specs.Prelude.{ℕ, ◌≤◌, ◌<◌, ◌*◌, List, ◌≡◌, ◌⊎◌, ◌≢◌}
 use Rattle.counting.specs.Lists.{over, tally, it}
 use Rattle.walk.specs.Walk.{loop_at, size}
 use Rattle.walk.specs.Darts.{On, half, Live, Loop, of_crossing}

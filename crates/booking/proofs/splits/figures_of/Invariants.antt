@@ -1,8 +1,5 @@
 use Prim.Native.Nat.{◌≤◌}
-use mathlib.Core.Logic.{inl, inr}
-use native.Mathlib.Omega.{arith}
 use Rattle.booking.specs.work.Sums.{UnderWay}
-use Rattle.booking.proofs.UnderWay.{none_yet, more_added, all_added}
 use Rattle.booking.proofs.splits.figures_of.Given as goal
 
 abbrev pub invariant-loop-left : goal.invariant-loop-left

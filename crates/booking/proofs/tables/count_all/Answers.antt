@@ -1,5 +1,4 @@
 use native.Mathlib.Omega.{arith}
-use borrow.Author.Rules.{rules}
 use Rattle.booking.proofs.Totals.{all_counted, all_most}
 use Rattle.booking.proofs.tables.count_all.Goals as goal
 

@@ -1,5 +1,4 @@
 use native.Mathlib.Omega.{arith}
-use borrow.Author.Rules.{rules}
 use Rattle.booking.proofs.Totals.{others_few}
 use Rattle.booking.proofs.tables.count_others.Goals as goal
 

@@ -1,5 +1,4 @@
 use native.Mathlib.Omega.{arith}
-use borrow.Author.Rules.{rules}
 use Rattle.counting.specs.Lists.{total, pre}
 use Rattle.booking.proofs.tables.crossings_in.Goals as goal
 

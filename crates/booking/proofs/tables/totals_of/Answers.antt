@@ -1,4 +1,4 @@
-use Prim.Native.Nat.{ℕ, ◌+◌, ◌-◌, ◌≤◌, ◌<◌}
+use Prim.Native.Nat.{ℕ, ◌+◌, ◌≤◌, ◌<◌}
 use mathlib.Core.Path.{◌≡◌, ap, ◌∙◌}
 use mathlib.Core.Bool.{true, false}
 use mathlib.Core.List.{List}
@@ -8,17 +8,15 @@ use lib.Dec.{ltb}
 use lib.ListN.{get_or, set}
 use Rattle.counting.specs.Pick.{pick}
 use Rattle.counting.specs.Lists.{pre, total}
-use Rattle.counting.specs.work.Stored.{Summed}
 use Rattle.counting.proofs.Range.{total_ext, total_add}
 use Rattle.counting.proofs.Stored.{summed_none, summed_more, summed_all}
-use Rattle.cell.specs.work.Limits.{most_in_cell}
 use Rattle.cell.specs.Level.{by_edge, is_level_cell}
 use Rattle.cell.specs.Common.{is_common}
 use Rattle.cell.specs.claims.Table.{taken_counts, drawn_cells}
 use Rattle.cell.proofs.Values.{taken_crossings}
 use Rattle.cases.specs.claims.Cases.{entries}
 use Rattle.cases.specs.claims.Tally.{find_entry, triangles_at, find_entry_at}
-use Rattle.cases.specs.work.Tally.{triangles_for, Tallied}
+use Rattle.cases.specs.work.Tally.{triangles_for}
 use Rattle.cases.proofs.Digits.{answered, unanswered}
 use Rattle.cases.proofs.Tally.{tallied_none, tallied_more, tallied_past, tallied_few, tallied_sum}
 use Rattle.booking.specs.declared.Fans.{Fans}

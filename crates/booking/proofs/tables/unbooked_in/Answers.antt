@@ -1,5 +1,4 @@
 use mathlib.Core.Path.{sym, ap, ◌∙◌}
-use borrow.Author.Rules.{rules}
 use Rattle.cell.specs.Level.{by_edge}
 use Rattle.booking.specs.work.Totals.{walked_crossings}
 use Rattle.booking.proofs.tables.unbooked_in.Goals as goal

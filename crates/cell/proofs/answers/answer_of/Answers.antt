@@ -1,6 +1,5 @@
 use mathlib.Core.Path.{refl}
 use Rattle.cell.specs.work.Round.{round_answer}
-use borrow.Author.Rules.{rules}
 use Rattle.cell.proofs.answers.answer_of.Goals as goal
 
 pub returns : goal.returns

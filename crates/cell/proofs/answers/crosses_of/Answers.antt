@@ -1,11 +1,9 @@
 use native.Mathlib.Omega.{arith}
-use Prim.Native.Nat.{◌≤◌, ◌-◌}
 use lib.Dec.{eqb}
 use lib.ListN.{length}
 use Rattle.counting.specs.Lists.{one, total}
 use mathlib.Core.Path.{◌≡◌, ap, ◌∙◌}
 use Rattle.cell.specs.work.Round.{crosses_in}
-use Rattle.counting.specs.work.Stored.{Summed}
 use Rattle.counting.proofs.Stored.{summed_none, summed_more}
 use Rattle.cell.proofs.Loops.{cross_at}
 use Rattle.cell.proofs.answers.crosses_of.Goals as goal

@@ -2,7 +2,6 @@ use native.Mathlib.Omega.{arith}
 use mathlib.Core.Path.{ap, ◌∙◌}
 use Rattle.cell.specs.claims.Half.{edge_of}
 use Rattle.cell.proofs.Half.{edge_past}
-use borrow.Author.Rules.{rules}
 use Rattle.cell.proofs.answers.edge_at.Goals as goal
 
 pub returns-then-h-lt12 : goal.returns-then-h-lt12

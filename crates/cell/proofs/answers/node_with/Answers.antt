@@ -1,6 +1,5 @@
 use borrow.Author.Tests.{eq-eqb, ne_eqb}
 use Rattle.cell.specs.Loop.{node_with}
-use borrow.Author.Rules.{rules}
 use Rattle.cell.proofs.answers.node_with.Goals as goal
 
 pub returns-then-x-q : goal.returns-then-x-q

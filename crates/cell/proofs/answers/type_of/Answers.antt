@@ -3,7 +3,6 @@ use Prim.Native.Nat.{ℕ}
 use mathlib.Core.Path.{ap}
 use mathlib.Core.List.{[], ◌∷◌}
 use Rattle.cell.specs.Loop.{type_by}
-use borrow.Author.Rules.{rules}
 use Rattle.cell.proofs.answers.type_of.Goals as goal
 
 pub returns-then-sum-eq0 : goal.returns-then-sum-eq0

@@ -1,10 +1,8 @@
-use Prim.Native.Nat.{◌-◌, ◌≤◌}
 use mathlib.Core.Path.{ap, ◌∙◌}
 use native.Mathlib.Omega.{arith}
 use Rattle.cell.specs.work.Fits.{next_after, area_after}
 use Rattle.cell.specs.claims.Table.{table_cell}
-use Rattle.cell.specs.work.Walked.{Sized}
-use Rattle.cell.proofs.Fits.{next_all, area_all, Put, put_none, put_more}
+use Rattle.cell.proofs.Fits.{next_all, area_all, put_none, put_more}
 use Rattle.cell.proofs.Using.{used_sized, sized_none, sized_on, sized_room}
 use Rattle.cell.proofs.drawing.put_in_all.Goals as goal
 

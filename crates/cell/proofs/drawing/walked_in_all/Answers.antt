@@ -1,4 +1,4 @@
-use Prim.Native.Nat.{ℕ, ◌+◌, ◌-◌, ◌≤◌}
+use Prim.Native.Nat.{ℕ, ◌+◌, ◌≤◌}
 use mathlib.Core.Path.{◌≡◌, sym, ap, ◌∙◌}
 use mathlib.Core.Bool.{true, false}
 use mathlib.Core.List.{List}
@@ -12,7 +12,6 @@ use Rattle.cell.specs.Triangles.{cell_triangles}
 use Rattle.cell.specs.Level.{by_edge}
 use Rattle.cell.specs.work.Table.{is_known, walked_at}
 use Rattle.cell.specs.claims.Table.{table_cell, taken_counts}
-use Rattle.cell.specs.work.Walked.{Sized}
 use Rattle.cell.proofs.Taken.{with_all}
 use Rattle.cell.proofs.Using.{used_sized, sized_none, sized_on, sized_room}
 use Rattle.cell.proofs.drawing.walked_in_all.Goals as goal

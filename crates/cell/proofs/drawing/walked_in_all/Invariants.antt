@@ -1,20 +1,8 @@
-use Prim.Native.Nat.{ℕ, ◌+◌, ◌-◌, ◌≤◌}
-use mathlib.Core.Path.{◌≡◌, sym, ap, ◌∙◌}
-use mathlib.Core.Bool.{true, false}
-use mathlib.Core.List.{List}
-use native.Mathlib.Nat.{add-zero}
-use native.Mathlib.Omega.{arith}
-use lib.ListN.{length}
+use Prim.Native.Nat.{◌-◌, ◌≤◌}
 use Rattle.counting.specs.work.Stored.{Summed}
-use Rattle.counting.proofs.Stored.{summed_none, summed_more, summed_all}
 use Rattle.cell.specs.work.Limits.{most_in_cell}
-use Rattle.cell.specs.Triangles.{cell_triangles}
-use Rattle.cell.specs.Level.{by_edge}
-use Rattle.cell.specs.work.Table.{is_known, walked_at}
-use Rattle.cell.specs.claims.Table.{table_cell, taken_counts}
+use Rattle.cell.specs.work.Table.{walked_at}
 use Rattle.cell.specs.work.Walked.{Sized}
-use Rattle.cell.proofs.Taken.{with_all}
-use Rattle.cell.proofs.Using.{used_sized, sized_none, sized_on, sized_room}
 use Rattle.cell.proofs.drawing.walked_in_all.Given as goal
 
 abbrev pub invariant-loop-c : goal.invariant-loop-c

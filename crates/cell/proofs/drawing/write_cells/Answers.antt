@@ -1,4 +1,3 @@
-use borrow.Author.Rules.{rules}
 use native.Mathlib.Omega.{arith}
 use Rattle.cell.proofs.Using.{table_most}
 use Rattle.cell.proofs.drawing.write_cells.Goals as goal

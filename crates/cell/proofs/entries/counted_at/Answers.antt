@@ -1,4 +1,3 @@
-use borrow.Author.Rules.{rules}
 use Rattle.cell.specs.claims.Table.{table_cell}
 use Rattle.cell.proofs.entries.counted_at.Goals as goal
 

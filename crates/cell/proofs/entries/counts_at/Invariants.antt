@@ -1,10 +1,8 @@
 use Prim.Native.Nat.{◌-◌, ◌%◌, min}
-use mathlib.Core.Path.{refl, ap, ◌∙◌}
-use native.Mathlib.Omega.{arith}
 use lib.ListN.{get_or}
 use Rattle.slots.specs.Limits.{most_count, most_cells}
 use Rattle.cell.specs.claims.Table.{side}
-use Rattle.cell.proofs.Values.{Valued, valued_none, valued_more, valued_all}
+use Rattle.cell.proofs.Values.{Valued}
 use Rattle.cell.proofs.entries.counts_at.Given as goal
 
 abbrev pub invariant-loop-k : goal.invariant-loop-k

@@ -1,9 +1,7 @@
-use Prim.Native.Nat.{◌-◌}
 use mathlib.Core.Path.{refl, ap, ◌∙◌}
 use native.Mathlib.Omega.{arith}
 use lib.ListN.{get_or}
-use Rattle.cell.specs.claims.Table.{side}
-use Rattle.cell.proofs.Values.{Valued, valued_none, valued_more, valued_all}
+use Rattle.cell.proofs.Values.{valued_none, valued_more, valued_all}
 use Rattle.cell.proofs.entries.counts_of.Goals as goal
 
 pub loop-k-init : goal.loop-k-init

@@ -1,6 +1,5 @@
 use native.Mathlib.Omega.{arith}
 use Rattle.cell.proofs.Values.{past_end}
-use borrow.Author.Rules.{rules}
 use Rattle.cell.proofs.entries.entry.Goals as goal
 
 pub returns : goal.returns

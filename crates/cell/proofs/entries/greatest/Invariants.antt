@@ -1,12 +1,5 @@
-use native.Mathlib.Omega.{arith}
-use Prim.Native.Nat.{ℕ, ◌+◌, ◌-◌, ◌<◌, ◌≤◌}
-use mathlib.Core.Path.{◌≡◌}
-use mathlib.Core.Logic.{⊎_elim}
-use mathlib.Core.List.{List}
-use native.Mathlib.Decide.{dec_lt}
+use Prim.Native.Nat.{ℕ, ◌-◌, ◌<◌, ◌≤◌}
 use lib.ListN.{length, get_or}
-use Rattle.counting.proofs.Search.{below-or}
-use Rattle.cell.proofs.Values.{past_end}
 use Rattle.cell.proofs.entries.greatest.Given as goal
 
 abbrev pub invariant-loop-i : goal.invariant-loop-i

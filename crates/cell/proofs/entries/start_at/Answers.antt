@@ -2,7 +2,6 @@ use Prim.Native.Nat.{◌%◌}
 use mathlib.Core.Path.{ap}
 use native.Mathlib.Omega.{arith}
 use Rattle.cell.proofs.Values.{past_end}
-use borrow.Author.Rules.{rules}
 use Rattle.cell.proofs.entries.start_at.Goals as goal
 
 pub returns : goal.returns

@@ -1,9 +1,9 @@
-use Prim.Native.Nat.{◌-◌, ◌%◌}
+use Prim.Native.Nat.{◌%◌}
 use mathlib.Core.Path.{refl, ap, ◌∙◌}
 use native.Mathlib.Omega.{arith}
 use lib.ListN.{get_or}
-use Rattle.cell.specs.claims.Table.{short_limit, side}
-use Rattle.cell.proofs.Values.{Valued, valued_none, valued_more, valued_all}
+use Rattle.cell.specs.claims.Table.{short_limit}
+use Rattle.cell.proofs.Values.{valued_none, valued_more, valued_all}
 use Rattle.cell.proofs.entries.starts_of.Goals as goal
 
 pub loop-k-init : goal.loop-k-init

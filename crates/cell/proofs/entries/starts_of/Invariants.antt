@@ -1,9 +1,7 @@
 use Prim.Native.Nat.{◌-◌, ◌%◌}
-use mathlib.Core.Path.{refl, ap, ◌∙◌}
-use native.Mathlib.Omega.{arith}
 use lib.ListN.{get_or}
 use Rattle.cell.specs.claims.Table.{short_limit, side}
-use Rattle.cell.proofs.Values.{Valued, valued_none, valued_more, valued_all}
+use Rattle.cell.proofs.Values.{Valued}
 use Rattle.cell.proofs.entries.starts_of.Given as goal
 
 abbrev pub invariant-loop-k : goal.invariant-loop-k

@@ -1,4 +1,3 @@
-use borrow.Author.Rules.{rules}
 use native.Mathlib.Omega.{arith}
 use Rattle.cell.proofs.Using.{table_few, table_most}
 use Rattle.cell.proofs.fanning.count_fans.Goals as goal

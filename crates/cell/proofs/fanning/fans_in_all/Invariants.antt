@@ -1,14 +1,9 @@
 use Prim.Native.Nat.{◌-◌, ◌≤◌}
-use mathlib.Core.Path.{ap, ◌∙◌}
-use native.Mathlib.Omega.{arith}
 use Rattle.counting.specs.work.Stored.{Summed}
-use Rattle.counting.proofs.Stored.{summed_none, summed_more, summed_all}
 use Rattle.cell.specs.work.Limits.{most_in_cell}
 use Rattle.cell.specs.claims.Middles.{fan_count}
 use Rattle.cell.specs.claims.Table.{table_cell}
-use Rattle.cell.specs.work.Table.{table_fans}
 use Rattle.cell.specs.work.Walked.{Sized}
-use Rattle.cell.proofs.Using.{used_sized, sized_none, sized_on, sized_room}
 use Rattle.cell.proofs.fanning.fans_in_all.Given as goal
 
 abbrev pub invariant-loop-c : goal.invariant-loop-c

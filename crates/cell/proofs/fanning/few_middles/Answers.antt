@@ -1,4 +1,3 @@
-use borrow.Author.Rules.{rules}
 use Rattle.cell.proofs.Using.{table_few}
 use Rattle.cell.proofs.fanning.few_middles.Goals as goal
 

@@ -1,8 +1,6 @@
-use Prim.Native.Nat.{◌-◌, ◌≤◌}
-use mathlib.Core.Path.{◌≡◌, ap, ◌∙◌}
+use mathlib.Core.Path.{ap, ◌∙◌}
 use native.Mathlib.Omega.{arith}
 use Rattle.cell.specs.work.Table.{middles_written}
-use Rattle.cell.specs.work.Walked.{Sized}
 use Rattle.cell.proofs.Fans.{written_none, written_more, written_long}
 use Rattle.cell.proofs.Using.{used_sized, sized_none, sized_on, sized_room}
 use Rattle.cell.proofs.fanning.middles_in_all.Goals as goal

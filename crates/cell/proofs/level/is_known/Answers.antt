@@ -1,7 +1,6 @@
 use Prim.Native.Nat.{ℕ}
 use mathlib.Core.Path.{◌≡◌, refl, sym, ap₂, ◌∙◌}
 use mathlib.Core.Bool.{Bool, true, false, ◌||◌}
-use borrow.Author.Rules.{rules}
 use Rattle.cell.specs.Level.{by_edge, is_level_cell}
 use Rattle.cell.specs.Common.{is_common}
 use Rattle.cell.specs.work.Table.{is_known}

@@ -1,5 +1,4 @@
 use native.Mathlib.Omega.{arith}
-use borrow.Author.Rules.{rules}
 use Rattle.cell.specs.Level.{by_edge}
 use Rattle.cell.proofs.Levels.{not_even, by_sums}
 use Rattle.cell.proofs.level.is_level.Goals as goal

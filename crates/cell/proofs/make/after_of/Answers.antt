@@ -2,7 +2,6 @@ use Rattle.counting.proofs.Range.{after_last, after_on}
 use mathlib.Core.Path.{sym, ◌∙◌}
 use native.Mathlib.Numerals.{add-one}
 use native.Mathlib.Omega.{arith}
-use borrow.Author.Rules.{rules}
 use Rattle.cell.proofs.make.after_of.Goals as goal
 
 pub returns-then-k-n : goal.returns-then-k-n

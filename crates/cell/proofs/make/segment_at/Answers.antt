@@ -4,7 +4,6 @@ use mathlib.Core.Path.{ap, ap₂, ◌∙◌}
 use lib.ListN.{get_or}
 use Rattle.cell.specs.declared.Side.TheVariants.{Segment}
 use Rattle.cell.specs.work.Traced.{segment_at}
-use borrow.Author.Rules.{rules}
 use Rattle.cell.proofs.make.segment_at.Goals as goal
 
 pub bounds-names-s : goal.bounds-names-s

@@ -1,6 +1,5 @@
 use Rattle.cell.specs.Triangles.{triangle}
 use Rattle.cell.specs.work.Traced.{traced_triangle}
-use borrow.Author.Rules.{rules}
 use Rattle.cell.proofs.make.spoke_of.Goals as goal
 
 pub returns : goal.returns

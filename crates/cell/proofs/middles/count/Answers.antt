@@ -1,10 +1,10 @@
 use native.Mathlib.Omega.{arith}
-use Prim.Native.Nat.{◌+◌, ◌-◌}
-use mathlib.Core.Path.{◌≡◌, refl}
+use Prim.Native.Nat.{◌+◌}
+use mathlib.Core.Path.{refl}
 use Rattle.counting.specs.Search.{count}
 use Rattle.counting.proofs.Search.{count_le}
 use Rattle.cell.specs.Middles.{is_fan}
-use Rattle.cell.proofs.Going.{Going, going_start, going_lent, going_more, going_looped, going_used}
+use Rattle.cell.proofs.Going.{going_start, going_lent, going_more, going_looped, going_used}
 use Rattle.cell.proofs.Fans.{fans_more, fans_all}
 use Rattle.cell.proofs.middles.count.Goals as goal
 

@@ -1,11 +1,8 @@
-use native.Mathlib.Omega.{arith}
-use Prim.Native.Nat.{◌+◌, ◌-◌}
-use mathlib.Core.Path.{◌≡◌, refl}
+use Prim.Native.Nat.{◌-◌}
+use mathlib.Core.Path.{◌≡◌}
 use Rattle.counting.specs.Search.{count}
-use Rattle.counting.proofs.Search.{count_le}
 use Rattle.cell.specs.Middles.{is_fan}
-use Rattle.cell.proofs.Going.{Going, going_start, going_lent, going_more, going_looped, going_used}
-use Rattle.cell.proofs.Fans.{fans_more, fans_all}
+use Rattle.cell.proofs.Going.{Going}
 use Rattle.cell.proofs.middles.count.Given as goal
 
 abbrev pub invariant-loop-p : goal.invariant-loop-p

@@ -1,7 +1,6 @@
 use native.Mathlib.Omega.{arith}
-use Prim.Native.Nat.{◌-◌, ◌≤◌}
-use mathlib.Core.Logic.{⊎_elim, inl, inr}
-use Rattle.cell.proofs.Fans.{Highest, highest_none, highest_more, highest_all}
+use mathlib.Core.Logic.{inl, inr}
+use Rattle.cell.proofs.Fans.{highest_none, highest_more, highest_all}
 use Rattle.cell.proofs.middles.is_below.Goals as goal
 use Rattle.cell.proofs.middles.is_below.Goals.{then-last-end, else-last-end}
 

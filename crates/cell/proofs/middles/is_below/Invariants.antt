@@ -1,7 +1,5 @@
-use native.Mathlib.Omega.{arith}
 use Prim.Native.Nat.{◌-◌, ◌≤◌}
-use mathlib.Core.Logic.{⊎_elim, inl, inr}
-use Rattle.cell.proofs.Fans.{Highest, highest_none, highest_more, highest_all}
+use Rattle.cell.proofs.Fans.{Highest}
 use Rattle.cell.proofs.middles.is_below.Given as goal
 
 abbrev pub invariant-loop-e : goal.invariant-loop-e

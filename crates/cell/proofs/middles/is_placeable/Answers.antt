@@ -1,5 +1,4 @@
 use mathlib.Core.Path.{sym, ◌∙◌}
-use borrow.Author.Rules.{rules}
 use Rattle.cell.proofs.Fans.{below_placeable, placeable_is}
 use Rattle.cell.proofs.middles.is_placeable.Goals as goal
 

@@ -1,4 +1,3 @@
-use borrow.Author.Rules.{rules}
 use native.Mathlib.Omega.{arith}
 use Rattle.cell.proofs.Nesting.{place_nested, place_mean}
 use Rattle.cell.proofs.middles.middle_in.Goals as goal

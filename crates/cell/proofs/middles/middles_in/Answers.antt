@@ -1,4 +1,3 @@
-use borrow.Author.Rules.{rules}
 use mathlib.Core.Path.{sym, ◌∙◌}
 use Rattle.cell.proofs.Using.{used_none, used_then, used_sized, sized_given}
 use Rattle.cell.proofs.Fans.{fits_room, middles_done, middles_not, no-middles}

@@ -1,4 +1,3 @@
-use borrow.Author.Rules.{rules}
 use Rattle.cell.proofs.Fans.{put_none, put_one}
 use Rattle.cell.proofs.middles.put_middle.Goals as goal
 

@@ -1,4 +1,3 @@
-use borrow.Author.Rules.{rules}
 use mathlib.Core.Path.{ap, ◌∙◌}
 use Rattle.place.specs.Place.{place_at}
 use Rattle.cell.proofs.nests.corner_place.Goals as goal

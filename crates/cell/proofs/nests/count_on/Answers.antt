@@ -1,4 +1,3 @@
-use borrow.Author.Rules.{rules}
 use native.Mathlib.Omega.{arith}
 use Rattle.cell.specs.Level.{by_edge}
 use Rattle.cell.proofs.Nesting.{count_first, count_later}

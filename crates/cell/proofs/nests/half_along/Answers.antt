@@ -1,4 +1,3 @@
-use borrow.Author.Rules.{rules}
 use mathlib.Core.Path.{ap, ap₂, ◌∙◌}
 use lib.Ieee.{of_bits, of_int}
 use Rattle.place.specs.declared.Place.{Place}

@@ -1,11 +1,8 @@
-use borrow.Author.Rules.{rules}
-use Prim.Native.Nat.{◌-◌, ◌≤◌, ◌<◌, max}
-use mathlib.Core.Path.{◌≡◌, ap, ap₂, ◌∙◌}
+use Prim.Native.Nat.{max}
+use mathlib.Core.Path.{ap, ap₂, ◌∙◌}
 use native.Mathlib.Omega.{arith}
 use lib.Dec.{eqb}
-use lib.ListN.{length, get_or}
 use Rattle.counting.specs.Pick.{pick}
-use Rattle.cell.specs.claims.Half.{edge_of}
 use Rattle.cell.specs.claims.Nests.{greatest_of}
 use Rattle.cell.specs.work.Centres.{highest_on}
 use Rattle.cell.proofs.Nesting.{greatest_none, greatest_more, risen_few}

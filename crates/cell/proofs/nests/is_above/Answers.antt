@@ -1,4 +1,3 @@
-use borrow.Author.Rules.{rules}
 use Rattle.cell.proofs.Nesting.{above_same, above_not}
 use Rattle.cell.proofs.nests.is_above.Goals as goal
 

@@ -1,4 +1,3 @@
-use borrow.Author.Rules.{rules}
 use native.Mathlib.Omega.{arith}
 use Rattle.cell.specs.Of.{count_of}
 use Rattle.cell.proofs.Nesting.{none_is, none_by_few}

@@ -1,4 +1,3 @@
-use borrow.Author.Rules.{rules}
 use native.Mathlib.Omega.{arith}
 use Rattle.cell.proofs.Nesting.{nested_by}
 use Rattle.cell.proofs.nests.nested_middle.Goals as goal

@@ -1,4 +1,3 @@
-use borrow.Author.Rules.{rules}
 use native.Mathlib.Omega.{arith}
 use Rattle.cell.proofs.Values.{past_end}
 use Rattle.cell.proofs.nests.point_at.Goals as goal

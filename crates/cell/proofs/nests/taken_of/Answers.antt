@@ -1,8 +1,6 @@
-use Prim.Native.Nat.{◌-◌}
 use mathlib.Core.Path.{refl}
 use native.Mathlib.Omega.{arith}
-use Rattle.cell.specs.Of.{count_of}
-use Rattle.cell.proofs.Values.{Valued, valued_none, valued_more, valued_all}
+use Rattle.cell.proofs.Values.{valued_none, valued_more, valued_all}
 use Rattle.cell.proofs.nests.taken_of.Goals as goal
 
 pub loop-k-init : goal.loop-k-init

@@ -1,8 +1,6 @@
 use Prim.Native.Nat.{◌-◌}
-use mathlib.Core.Path.{refl}
-use native.Mathlib.Omega.{arith}
 use Rattle.cell.specs.Of.{count_of}
-use Rattle.cell.proofs.Values.{Valued, valued_none, valued_more, valued_all}
+use Rattle.cell.proofs.Values.{Valued}
 use Rattle.cell.proofs.nests.taken_of.Given as goal
 
 abbrev pub invariant-loop-k : goal.invariant-loop-k

@@ -1,12 +1,9 @@
-use borrow.Author.Rules.{rules}
-use native.Mathlib.Omega.{arith}
 use Prim.Native.Nat.{◌-◌, ◌*◌}
 use Rattle.counting.specs.Lists.{over}
 use Rattle.counting.specs.work.Stored.{Stored}
-use Rattle.counting.proofs.Stored.{stored_none, stored_long}
 use Rattle.place.specs.Place.{coordinates}
-use Rattle.cell.proofs.Going.{Going, going_start, going_lent, going_more, going_looped, going_part, going_used}
-use Rattle.cell.proofs.Fans.{middle_of, fan_recorded, put_none, put_one, middle_room, middle_next, middles_all}
+use Rattle.cell.proofs.Going.{Going}
+use Rattle.cell.proofs.Fans.{middle_of}
 use Rattle.cell.proofs.part_middles.write_each.Given as goal
 
 abbrev pub invariant-loop-p : goal.invariant-loop-p

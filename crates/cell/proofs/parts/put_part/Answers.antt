@@ -1,5 +1,4 @@
 use mathlib.Core.Path.{sym, ◌∙◌}
-use borrow.Author.Rules.{rules}
 use borrow.Author.Tests.{leb-true, leb-false}
 use Rattle.cell.proofs.Fits.{no_room, has-room}
 use Rattle.cell.proofs.Using.{used_sized, used_then, sized_given}

@@ -1,9 +1,6 @@
-use Prim.Native.Nat.{◌-◌, ◌≤◌}
 use native.Mathlib.Omega.{arith}
 use Rattle.counting.proofs.Stored.{stored_long}
-use Rattle.manifold.specs.Shape.{fan}
-use Rattle.cell.specs.work.Traced.{traced_triangle}
-use Rattle.cell.proofs.Storing.{Run, run_none, run_place, run_more, run_all}
+use Rattle.cell.proofs.Storing.{run_none, run_place, run_more, run_all}
 use Rattle.cell.proofs.parts.write_fan.Goals as goal
 
 pub loop-k-init : goal.loop-k-init

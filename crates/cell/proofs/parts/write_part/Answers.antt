@@ -1,16 +1,14 @@
 use native.Mathlib.Omega.{arith}
-use Prim.Native.Nat.{◌-◌}
 use mathlib.Core.Path.{sym, ap, ◌∙◌}
 use lib.ListN.{length}
 use Rattle.counting.specs.Lists.{over}
-use Rattle.counting.specs.work.Stored.{Stored}
 use Rattle.counting.proofs.Stored.{stored_none, stored_long}
 use Rattle.cell.specs.Cell.{crossings}
 use Rattle.cell.specs.Of.{edges_of}
 use Rattle.cell.specs.Triangles.{asked_triangles, triangles_with}
-use Rattle.cell.proofs.Going.{Going, going_start, going_in, going_lent, going_more, going_looped, going_part, going_used}
+use Rattle.cell.proofs.Going.{going_start, going_in, going_lent, going_more, going_looped, going_part, going_used}
 use Rattle.cell.proofs.Holding.{looped_traced, looped_four, looped_loop, looped_many, in-loop, left_out}
-use Rattle.cell.proofs.Storing.{words_of, written_all, written_room, written_more}
+use Rattle.cell.proofs.Storing.{written_all, written_room, written_more}
 use Rattle.cell.proofs.parts.write_part.Goals as goal
 
 pub routes_of-routes-requires : goal.routes_of-routes-requires

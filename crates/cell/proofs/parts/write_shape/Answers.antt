@@ -1,6 +1,5 @@
 use mathlib.Core.Path.{ap}
 use native.Mathlib.Omega.{arith}
-use borrow.Author.Rules.{rules}
 use Rattle.manifold.specs.Shape.{many_of}
 use Rattle.manifold.proofs.Shapes.{shape_three, shape_four, shape_else}
 use Rattle.cell.proofs.LoopTriangles.{traced_as}

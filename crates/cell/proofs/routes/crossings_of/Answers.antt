@@ -1,9 +1,8 @@
-use Prim.Native.Nat.{◌-◌, ◌≤◌}
 use native.Mathlib.Omega.{arith}
 use mathlib.Core.Path.{◌≡◌, ◌∙◌, ap}
 use Rattle.counting.specs.Lists.{pre}
-use Rattle.cell.specs.Of.{count_of, edges_of}
-use Rattle.cell.proofs.Route.{Sum, sum_none, sum_more}
+use Rattle.cell.specs.Of.{count_of}
+use Rattle.cell.proofs.Route.{sum_none, sum_more}
 use Rattle.cell.proofs.routes.crossings_of.Goals as goal
 
 pub loop-k-init : goal.loop-k-init

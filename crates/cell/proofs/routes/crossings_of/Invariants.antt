@@ -1,9 +1,6 @@
 use Prim.Native.Nat.{◌-◌, ◌≤◌}
-use native.Mathlib.Omega.{arith}
-use mathlib.Core.Path.{◌≡◌, ◌∙◌, ap}
-use Rattle.counting.specs.Lists.{pre}
-use Rattle.cell.specs.Of.{count_of, edges_of}
-use Rattle.cell.proofs.Route.{Sum, sum_none, sum_more}
+use Rattle.cell.specs.Of.{edges_of}
+use Rattle.cell.proofs.Route.{Sum}
 use Rattle.cell.proofs.routes.crossings_of.Given as goal
 
 abbrev pub invariant-loop-k : goal.invariant-loop-k

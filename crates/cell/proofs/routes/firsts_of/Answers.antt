@@ -1,7 +1,5 @@
-use Prim.Native.Nat.{◌-◌, ◌≤◌}
 use native.Mathlib.Omega.{arith}
-use Rattle.cell.specs.Of.{edges_of}
-use Rattle.cell.proofs.Route.{Rises, rises_one, rises_more, rises_all}
+use Rattle.cell.proofs.Route.{rises_one, rises_more, rises_all}
 use Rattle.cell.proofs.routes.firsts_of.Goals as goal
 
 pub loop-k-init : goal.loop-k-init

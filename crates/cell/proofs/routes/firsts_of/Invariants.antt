@@ -1,7 +1,6 @@
 use Prim.Native.Nat.{◌-◌, ◌≤◌}
-use native.Mathlib.Omega.{arith}
 use Rattle.cell.specs.Of.{edges_of}
-use Rattle.cell.proofs.Route.{Rises, rises_one, rises_more, rises_all}
+use Rattle.cell.proofs.Route.{Rises}
 use Rattle.cell.proofs.routes.firsts_of.Given as goal
 
 abbrev pub invariant-loop-k : goal.invariant-loop-k

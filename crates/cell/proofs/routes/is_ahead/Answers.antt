@@ -1,7 +1,6 @@
 use mathlib.Core.Path.{sym, ◌∙◌}
 use Rattle.cell.proofs.Route.{ahead_same, ahead_other}
 use Rattle.cell.specs.Of.{edges_of}
-use borrow.Author.Rules.{rules}
 use Rattle.cell.proofs.routes.is_ahead.Goals as goal
 
 pub returns-then-a-b : goal.returns-then-a-b

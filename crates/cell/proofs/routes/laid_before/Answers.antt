@@ -1,8 +1,6 @@
-use Prim.Native.Nat.{◌-◌, ◌≤◌}
 use native.Mathlib.Omega.{arith}
 use mathlib.Core.Path.{sym, ◌∙◌}
-use Rattle.cell.specs.Of.{edges_of}
-use Rattle.cell.proofs.Route.{SumBefore, before_none, before_more, before_skip, before_all}
+use Rattle.cell.proofs.Route.{before_none, before_more, before_skip, before_all}
 use Rattle.cell.proofs.routes.laid_before.Goals as goal
 
 pub loop-j-init : goal.loop-j-init

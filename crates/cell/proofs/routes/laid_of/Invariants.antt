@@ -1,10 +1,8 @@
 use Prim.Native.Nat.{ℕ, ◌-◌, ◌≤◌, ◌<◌}
-use native.Mathlib.Omega.{arith}
-use mathlib.Core.Path.{◌≡◌, refl}
-use lib.ListN.{length, get_or, length-set}
+use mathlib.Core.Path.{◌≡◌}
+use lib.ListN.{length, get_or}
 use Rattle.cell.specs.Cell.{base}
 use Rattle.cell.specs.Of.{edges_of}
-use Rattle.cell.proofs.Route.{stored}
 use Rattle.cell.proofs.routes.laid_of.Given as goal
 
 abbrev pub invariant-loop-k : goal.invariant-loop-k

@@ -1,4 +1,3 @@
-use borrow.Author.Rules.{rules}
 use Rattle.cell.proofs.Route.{slot_fronts}
 use Rattle.cell.proofs.routes.put_slot.Goals as goal
 

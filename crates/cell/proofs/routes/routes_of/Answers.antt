@@ -1,7 +1,6 @@
 use native.Mathlib.Omega.{arith}
 use Rattle.slots.specs.Slots.{slot_edge}
 use Rattle.cell.proofs.Route.{link_table, written_none, written_slot, written_all}
-use borrow.Author.Rules.{rules}
 use Rattle.cell.proofs.routes.routes_of.Goals as goal
 
 pub put_slot-requires : goal.put_slot-requires

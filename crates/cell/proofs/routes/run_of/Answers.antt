@@ -1,7 +1,6 @@
 use native.Mathlib.Omega.{arith}
 use Prim.Native.Nat.{◌<◌}
 use mathlib.Core.Path.{sym, ◌∙◌, subst}
-use borrow.Author.Rules.{rules}
 use Rattle.cell.specs.work.Limits.{start_limit}
 use Rattle.cell.proofs.routes.run_of.Goals as goal
 

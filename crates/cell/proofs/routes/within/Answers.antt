@@ -2,9 +2,8 @@ use Prim.Native.Nat.{◌-◌, min}
 use mathlib.Core.Path.{refl, ap, ◌∙◌}
 use native.Mathlib.Omega.{arith}
 use Rattle.cell.specs.work.Limits.{start_limit}
-use Rattle.cell.specs.Of.{start_of}
 use Rattle.cell.specs.work.Route.{limited}
-use Rattle.cell.proofs.Values.{Valued, valued_none, valued_more, valued_all}
+use Rattle.cell.proofs.Values.{valued_none, valued_more, valued_all}
 use Rattle.cell.proofs.routes.within.Goals as goal
 
 pub loop-k-init : goal.loop-k-init

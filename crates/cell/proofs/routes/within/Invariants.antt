@@ -1,10 +1,7 @@
 use Prim.Native.Nat.{◌-◌, min}
-use mathlib.Core.Path.{refl, ap, ◌∙◌}
-use native.Mathlib.Omega.{arith}
 use Rattle.cell.specs.work.Limits.{start_limit}
 use Rattle.cell.specs.Of.{start_of}
-use Rattle.cell.specs.work.Route.{limited}
-use Rattle.cell.proofs.Values.{Valued, valued_none, valued_more, valued_all}
+use Rattle.cell.proofs.Values.{Valued}
 use Rattle.cell.proofs.routes.within.Given as goal
 
 abbrev pub invariant-loop-k : goal.invariant-loop-k

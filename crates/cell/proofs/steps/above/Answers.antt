@@ -1,4 +1,3 @@
-use borrow.Author.Rules.{rules}
 use Rattle.cell.proofs.Ready.{to_high}
 use Rattle.cell.proofs.steps.above.Goals as goal
 

@@ -1,4 +1,3 @@
-use borrow.Author.Rules.{rules}
 use Rattle.cell.proofs.Ready.{to_low}
 use Rattle.cell.proofs.steps.below.Goals as goal
 

@@ -1,4 +1,3 @@
-use borrow.Author.Rules.{rules}
 use mathlib.Core.Path.{◌∙◌}
 use Rattle.cell.proofs.Ready.{twin_is, beside_spot, beside_leads}
 use Rattle.cell.proofs.steps.beside.Goals as goal

@@ -1,5 +1,4 @@
 use native.Mathlib.Omega.{arith}
-use borrow.Author.Rules.{rules}
 use Rattle.face.specs.declared.Stand.TheVariants.{Low, High, Up, Down, Alone}
 use Rattle.face.proofs.Stands.{stands}
 use Rattle.cell.proofs.Ready.{count_is, index_small, upper_fits, stands_low, stands_high, stands_up, stands_down, stands_alone}

@@ -1,7 +1,6 @@
 use native.Mathlib.Omega.{arith}
 use mathlib.Core.Path.{refl, ◌∙◌}
 use Rattle.cell.proofs.Route.{first_at, fits}
-use borrow.Author.Rules.{rules}
 use Rattle.cell.proofs.steps.onto.Goals as goal
 
 pub overflow_add-result : goal.overflow_add-result

@@ -1,7 +1,6 @@
 use native.Mathlib.Omega.{arith}
 use mathlib.Core.Path.{refl}
 use Rattle.cell.proofs.Ready.{spot, leads, turn_count, over_to, on_to}
-use borrow.Author.Rules.{rules}
 use Rattle.cell.proofs.steps.round.Goals as goal
 
 pub overflow_sub-n : goal.overflow_sub-n

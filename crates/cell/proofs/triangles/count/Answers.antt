@@ -1,13 +1,10 @@
 use native.Mathlib.Omega.{arith}
-use Prim.Native.Nat.{◌-◌}
 use mathlib.Core.Path.{◌∙◌}
-use Rattle.counting.specs.work.Stored.{Summed}
 use Rattle.counting.proofs.Stored.{summed_none}
-use Rattle.cell.specs.work.Limits.{most_in_cell}
-use Rattle.cell.proofs.Going.{Going, going_start, going_lent, going_more, going_looped, going_used}
+use Rattle.cell.proofs.Going.{going_start, going_lent, going_more, going_looped, going_used}
 use Rattle.cell.proofs.Taken.{two_four}
 use Rattle.cell.proofs.Holding.{looped_many, is_out, is-in}
-use Rattle.cell.proofs.Cells.{many_at, counted_more, counted_less, counted_all}
+use Rattle.cell.proofs.Cells.{counted_more, counted_less, counted_all}
 use Rattle.cell.proofs.triangles.count.Goals as goal
 
 pub routes_of-routes-requires : goal.routes_of-routes-requires

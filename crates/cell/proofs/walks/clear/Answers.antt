@@ -1,7 +1,6 @@
 use native.Mathlib.Omega.{arith}
-use Prim.Native.Nat.{◌-◌}
 use Rattle.cell.specs.work.Scratch.{unmarked}
-use Rattle.cell.proofs.Using.{Filling, filling_none, filling_long, filling_more, filling_all}
+use Rattle.cell.proofs.Using.{filling_none, filling_long, filling_more, filling_all}
 use Rattle.cell.proofs.walks.clear.Goals as goal
 
 pub loop-i-init : goal.loop-i-init

@@ -1,7 +1,6 @@
 use native.Mathlib.Omega.{arith}
 use mathlib.Core.Path.{refl}
 use Rattle.cell.proofs.Start.{located_lt, located_first, starts}
-use borrow.Author.Rules.{rules}
 use Rattle.cell.proofs.walks.first_dart.Goals as goal
 
 pub first_of-h-requires : goal.first_of-h-requires

@@ -1,7 +1,6 @@
 use native.Mathlib.Omega.{arith}
 use Rattle.cell.proofs.Route.{fits_all}
 use Rattle.cell.proofs.Start.{not_on, may_on}
-use borrow.Author.Rules.{rules}
 use Rattle.cell.proofs.walks.is_on.Goals as goal
 
 pub overflow_add-first : goal.overflow_add-first

@@ -1,4 +1,3 @@
-use borrow.Author.Rules.{rules}
 use mathlib.Core.Path.{sym}
 use Rattle.cell.proofs.Recording.{met_low, met_mark}
 use Rattle.cell.proofs.walks.met.Goals as goal

@@ -1,10 +1,6 @@
-use Prim.Native.Nat.{ℕ, ◌-◌, ◌≤◌, ◌<◌}
 use native.Mathlib.Omega.{arith}
 use mathlib.Core.Path.{◌≡◌, sym, ◌∙◌}
-use mathlib.Core.Bool.{false}
 use borrow.Author.Count.{below_more}
-use Rattle.cell.specs.Cell.{holds}
-use Rattle.cell.specs.Of.{edges_of}
 use Rattle.cell.proofs.Start.{on-edge, on_last}
 use Rattle.cell.proofs.walks.start_at.Goals as goal
 

@@ -1,11 +1,8 @@
 use Prim.Native.Nat.{ℕ, ◌-◌, ◌≤◌, ◌<◌}
-use native.Mathlib.Omega.{arith}
-use mathlib.Core.Path.{◌≡◌, sym, ◌∙◌}
+use mathlib.Core.Path.{◌≡◌}
 use mathlib.Core.Bool.{false}
-use borrow.Author.Count.{below_more}
 use Rattle.cell.specs.Cell.{holds}
 use Rattle.cell.specs.Of.{edges_of}
-use Rattle.cell.proofs.Start.{on-edge, on_last}
 use Rattle.cell.proofs.walks.start_at.Given as goal
 
 abbrev pub invariant-loop-e : goal.invariant-loop-e

@@ -1,10 +1,8 @@
 use native.Mathlib.Omega.{arith}
-use borrow.Author.Rules.{rules}
-use Prim.Native.Nat.{◌-◌}
 use mathlib.Core.Path.{sym, ◌∙◌}
 use lib.ListN.{length-set}
 use Rattle.cell.proofs.Ready.{onward_on, onward_end}
-use Rattle.cell.proofs.Recording.{Recording, lent_met, recording_start, recording_point, recording_ready, recording_long, recording_end, recording_lt, recording_home, recording_met, recording_on, met_above}
+use Rattle.cell.proofs.Recording.{lent_met, recording_start, recording_point, recording_ready, recording_long, recording_end, recording_lt, recording_home, recording_met, recording_on, met_above}
 use Rattle.cell.proofs.walks.walk.Goals as goal
 
 pub met-requires : goal.met-requires

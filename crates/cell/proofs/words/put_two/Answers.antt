@@ -1,7 +1,6 @@
 use Rattle.counting.proofs.Fronts.{sets_two}
 use lib.ListN.{length-set}
 use native.Mathlib.Omega.{arith}
-use borrow.Author.Rules.{rules}
 use Rattle.cell.proofs.words.put_two.Goals as goal
 
 pub bounds-area-at-2 : goal.bounds-area-at-2

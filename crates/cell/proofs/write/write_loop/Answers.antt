@@ -1,10 +1,7 @@
 use native.Mathlib.Omega.{arith}
 use Rattle.counting.proofs.Stored.{stored_long}
 use Rattle.cell.specs.work.Traced.{traced_triangle, traced_triangles}
-use Rattle.cell.proofs.Storing.{Run, run_none, run_place, run_more, run_all}
-use Rattle.manifold.specs.Shape.{shape_of, many_of}
-use mathlib.Core.Path.{◌≡◌}
-use Prim.Native.Nat.{◌-◌, ◌≤◌}
+use Rattle.cell.proofs.Storing.{run_none, run_place, run_more, run_all}
 use Rattle.cell.proofs.write.write_loop.Goals as goal
 
 pub many-m-requires : goal.many-m-requires

@@ -4,7 +4,6 @@ use native.Mathlib.Omega.{arith}
 use borrow.Author.Tests.{lt-leb}
 use Rattle.cell.specs.Words.{word_count}
 use Rattle.cell.proofs.Fits.{room_left}
-use borrow.Author.Rules.{rules}
 use Rattle.direct.proofs.drawing.fits.Goals as goal
 
 pub returns-then-room-at : goal.returns-then-room-at

@@ -1,11 +1,8 @@
-use Prim.Native.Nat.{◌-◌, ◌≤◌}
-use mathlib.Core.Path.{refl, sym, ap, ◌∙◌}
+use mathlib.Core.Path.{refl, sym, ◌∙◌}
 use native.Mathlib.Omega.{arith}
-use borrow.Author.Tests.{not-true, not-false}
-use Rattle.cell.specs.Level.{by_edge}
+use borrow.Author.Tests.{not-false}
 use Rattle.cell.specs.claims.Table.{table_cell}
-use Rattle.cell.proofs.Fits.{Put, put_none, put_more}
-use Rattle.direct.specs.work.Rows.{is_rising}
+use Rattle.cell.proofs.Fits.{put_none, put_more}
 use Rattle.direct.proofs.Cells.{no_crossings, nothing_put, table_ready, table_booked, put_came}
 use Rattle.direct.proofs.Families.{rising_is}
 use Rattle.direct.proofs.drawing.put_plain.Goals as goal

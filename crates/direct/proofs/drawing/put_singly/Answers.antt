@@ -1,4 +1,3 @@
-use Prim.Native.Nat.{◌-◌, ◌≤◌}
 use mathlib.Core.Path.{ap, ◌∙◌}
 use native.Mathlib.Omega.{arith}
 use Rattle.counting.specs.Stored.{stored_in}
@@ -7,7 +6,7 @@ use Rattle.cell.specs.work.Fits.{next_after, area_after}
 use Rattle.cell.specs.claims.Table.{table_cell}
 use Rattle.cell.specs.Triangles.{triangles_with}
 use Rattle.cell.specs.Words.{all_words}
-use Rattle.cell.proofs.Fits.{next_all, area_all, Put, put_none, put_more}
+use Rattle.cell.proofs.Fits.{next_all, area_all, put_none, put_more}
 use Rattle.direct.proofs.Cells.{limited_as}
 use Rattle.direct.proofs.drawing.put_singly.Goals as goal
 

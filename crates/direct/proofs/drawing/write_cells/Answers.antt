@@ -1,10 +1,9 @@
-use Prim.Native.Nat.{◌-◌, ◌≤◌}
+use Prim.Native.Nat.{◌-◌}
 use mathlib.Core.Path.{◌≡◌, ap, ◌∙◌}
 use native.Mathlib.Omega.{arith}
 use Rattle.cell.specs.work.Fits.{next_after, area_after}
 use Rattle.cell.specs.claims.Table.{table_cell}
-use Rattle.cell.proofs.Fits.{Put, put_none}
-use Rattle.direct.specs.work.Cells.{longest_block}
+use Rattle.cell.proofs.Fits.{put_none}
 use Rattle.direct.proofs.Cells.{came_on, put_block}
 use Rattle.direct.proofs.drawing.write_cells.Goals as goal
 

@@ -1,11 +1,7 @@
 use Prim.Native.Nat.{◌-◌, ◌≤◌}
-use mathlib.Core.Path.{◌≡◌, ap, ◌∙◌}
-use native.Mathlib.Omega.{arith}
-use Rattle.cell.specs.work.Fits.{next_after, area_after}
 use Rattle.cell.specs.claims.Table.{table_cell}
-use Rattle.cell.proofs.Fits.{Put, put_none}
+use Rattle.cell.proofs.Fits.{Put}
 use Rattle.direct.specs.work.Cells.{longest_block}
-use Rattle.direct.proofs.Cells.{came_on, put_block}
 use Rattle.direct.proofs.drawing.write_cells.Given as goal
 
 abbrev pub invariant-loop-k : goal.invariant-loop-k

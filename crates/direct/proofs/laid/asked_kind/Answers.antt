@@ -1,6 +1,5 @@
 use Rattle.counting.proofs.Bools.{clash}
 use Rattle.direct.proofs.Laying.{asked_all, asked_three}
-use borrow.Author.Rules.{rules}
 use Rattle.direct.proofs.laid.asked_kind.Goals as goal
 
 pub returns-then-only-eq0 : goal.returns-then-only-eq0

@@ -1,7 +1,6 @@
 use mathlib.Core.Path.{sym, ◌∙◌}
 use Rattle.counting.proofs.Bools.{clash}
 use Rattle.direct.proofs.Laying.{false_true}
-use borrow.Author.Rules.{rules}
 use Rattle.direct.proofs.laid.corners_kind.Goals as goal
 
 pub own_of-own-requires : goal.own_of-own-requires

@@ -1,8 +1,6 @@
-use Prim.Native.Nat.{ℕ, ◌-◌, ◌≤◌, ◌<◌}
 use mathlib.Core.Logic.{inl, inr}
 use native.Mathlib.Omega.{arith}
-use Rattle.direct.proofs.Laying.{OtherEdge, other_more, edge_found, edge_last}
-use borrow.Author.Rules.{rules}
+use Rattle.direct.proofs.Laying.{other_more, edge_found, edge_last}
 use Rattle.direct.proofs.laid.edge_at.Goals as goal
 
 pub loop-k-init : goal.loop-k-init

@@ -1,8 +1,5 @@
 use Prim.Native.Nat.{ℕ, ◌-◌, ◌≤◌, ◌<◌}
-use mathlib.Core.Logic.{inl, inr}
-use native.Mathlib.Omega.{arith}
-use Rattle.direct.proofs.Laying.{OtherEdge, other_more, edge_found, edge_last}
-use borrow.Author.Rules.{rules}
+use Rattle.direct.proofs.Laying.{OtherEdge}
 use Rattle.direct.proofs.laid.edge_at.Given as goal
 
 abbrev pub invariant-loop-k : goal.invariant-loop-k

@@ -1,6 +1,5 @@
 use Rattle.cell.specs.Of.{edges_of}
 use Rattle.cell.proofs.Route.{ahead_same, ahead_other}
-use borrow.Author.Rules.{rules}
 use Rattle.direct.proofs.laid.is_before.Goals as goal
 
 pub returns-then-a-b : goal.returns-then-a-b

@@ -1,9 +1,6 @@
 use Prim.Native.Nat.{ℕ, ◌-◌, ◌≤◌, ◌<◌}
-use native.Mathlib.Omega.{arith}
 use Rattle.cell.specs.work.Limits.{start_limit}
 use Rattle.cell.specs.Of.{start_of}
-use Rattle.direct.proofs.Laying.{near_more, false_true}
-use borrow.Author.Rules.{rules}
 use Rattle.direct.proofs.laid.is_near.Given as goal
 
 abbrev pub invariant-loop-k : goal.invariant-loop-k

@@ -1,10 +1,6 @@
 use Prim.Native.Nat.{◌-◌, ◌≤◌}
-use native.Mathlib.Omega.{arith}
-use mathlib.Core.Path.{sym, ◌∙◌}
 use Rattle.cell.specs.Of.{edges_of}
-use Rattle.cell.proofs.Route.{SumBefore, before_none, before_more, before_skip, before_all}
-use Rattle.direct.proofs.Laying.{counted}
-use borrow.Author.Rules.{rules}
+use Rattle.cell.proofs.Route.{SumBefore}
 use Rattle.direct.proofs.laid.laid_before.Given as goal
 
 abbrev pub invariant-loop-j : goal.invariant-loop-j

@@ -2,7 +2,6 @@ use mathlib.Core.Path.{sym, ◌∙◌}
 use Rattle.cell.specs.Cell.{ahead}
 use Rattle.cell.specs.Of.{edges_of}
 use Rattle.direct.proofs.Laying.{two_first, two_second}
-use borrow.Author.Rules.{rules}
 use Rattle.direct.proofs.laid.passes.Goals as goal
 
 pub returns-then-is_before : goal.returns-then-is_before

@@ -2,7 +2,6 @@ use mathlib.Core.Path.{sym, ◌∙◌}
 use Rattle.cell.specs.Cell.{ahead}
 use Rattle.cell.specs.Of.{edges_of}
 use Rattle.direct.proofs.Laying.{three_first, three_rest}
-use borrow.Author.Rules.{rules}
 use Rattle.direct.proofs.laid.passes_three.Goals as goal
 
 pub returns-then-is_before : goal.returns-then-is_before

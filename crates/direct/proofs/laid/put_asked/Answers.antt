@@ -1,6 +1,5 @@
 use mathlib.Core.Path.{sym, ◌∙◌}
 use Rattle.direct.proofs.Laying.{part_laid, part_room, part_stored, part_few}
-use borrow.Author.Rules.{rules}
 use Rattle.direct.proofs.laid.put_asked.Goals as goal
 
 pub fits-requires : goal.fits-requires

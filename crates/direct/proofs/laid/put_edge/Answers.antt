@@ -1,6 +1,5 @@
 use native.Mathlib.Omega.{arith}
 use Rattle.direct.proofs.Laying.{positions, at_ends, own_edge, low_ring, high_ring, low_room, middle_room, high_room, on_stored}
-use borrow.Author.Rules.{rules}
 use Rattle.direct.proofs.laid.put_edge.Goals as goal
 
 pub overflow_sub-d-3 : goal.overflow_sub-d-3

@@ -9,7 +9,6 @@ use Rattle.booking.specs.Booking.{left_between}
 use Rattle.direct.specs.work.Laid.{quads_on}
 use Rattle.direct.proofs.Rows.{none_stored}
 use Rattle.direct.proofs.Laying.{left_at, across_parting, round_parting, quads_across, quads_round, quads_none, quads_not}
-use borrow.Author.Rules.{rules}
 use Rattle.direct.proofs.laid.put_middle.Goals as goal
 
 pub returns-then-not-quads : goal.returns-then-not-quads

@@ -6,7 +6,6 @@ use Rattle.counting.proofs.Stored.{stored_as}
 use Rattle.direct.specs.claims.Direct.{acrosses, rounds}
 use Rattle.direct.proofs.Rows.{crosses_au, crosses_av, crosses_mu, crosses_mv, across_long, across_are, rounds_long, rounds_are}
 use Rattle.direct.proofs.Laying.{parting_words}
-use borrow.Author.Rules.{rules}
 use Rattle.direct.proofs.laid.put_parting.Goals as goal
 
 pub row_of-p-requires : goal.row_of-p-requires

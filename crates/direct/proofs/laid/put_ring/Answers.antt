@@ -3,7 +3,6 @@ use Rattle.cell.specs.Words.{all_words}
 use Rattle.counting.proofs.Stored.{stored_as}
 use Rattle.direct.proofs.Rows.{round_none, none_stored}
 use Rattle.direct.proofs.Laying.{ring_none, ring_passed, ring_kept}
-use borrow.Author.Rules.{rules}
 use Rattle.direct.proofs.laid.put_ring.Goals as goal
 
 pub returns-then-n-eq0 : goal.returns-then-n-eq0

@@ -3,7 +3,6 @@ use Rattle.cell.specs.Words.{all_words}
 use Rattle.counting.proofs.Stored.{stored_as}
 use Rattle.direct.proofs.Rows.{none_stored}
 use Rattle.direct.proofs.Laying.{parting_passed, parting_kept}
-use borrow.Author.Rules.{rules}
 use Rattle.direct.proofs.laid.put_started.Goals as goal
 
 pub returns-then-passes_three : goal.returns-then-passes_three

@@ -1,6 +1,5 @@
 use native.Mathlib.Omega.{arith}
 use Rattle.direct.proofs.Laying.{third_first, third_low, third_high}
-use borrow.Author.Rules.{rules}
 use Rattle.direct.proofs.laid.third_of.Goals as goal
 
 pub returns-then-k-eq0 : goal.returns-then-k-eq0

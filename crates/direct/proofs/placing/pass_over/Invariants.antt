@@ -1,11 +1,5 @@
-use Prim.Native.Nat.{ℕ, ◌-◌}
-use mathlib.Core.Path.{subst}
-use mathlib.Core.List.{List}
-use native.Mathlib.Omega.{arith}
-use Rattle.cell.specs.Level.{by_edge}
-use Rattle.direct.specs.claims.Direct.{Plain}
+use Prim.Native.Nat.{◌-◌}
 use Rattle.direct.specs.work.Cells.{PassedOver}
-use Rattle.direct.proofs.Over.{over_none, over_one}
 use Rattle.direct.proofs.placing.pass_over.Given as goal
 
 abbrev pub invariant-loop-k : goal.invariant-loop-k

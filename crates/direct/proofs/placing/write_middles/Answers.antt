@@ -1,9 +1,7 @@
-use Prim.Native.Nat.{◌-◌, ◌≤◌}
-use mathlib.Core.Path.{◌≡◌, ap, ◌∙◌}
+use mathlib.Core.Path.{ap, ◌∙◌}
 use native.Mathlib.Omega.{arith}
 use Rattle.cell.specs.work.Table.{middles_written}
 use Rattle.cell.proofs.Fans.{written_none, written_long}
-use Rattle.direct.specs.work.Cells.{longest_block}
 use Rattle.direct.proofs.Over.{written_on, written-over}
 use Rattle.direct.proofs.placing.write_middles.Goals as goal
 

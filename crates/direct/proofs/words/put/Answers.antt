@@ -1,5 +1,4 @@
 use Rattle.cell.proofs.Storing.{put_all}
-use borrow.Author.Rules.{rules}
 use Rattle.direct.proofs.words.put.Goals as goal
 
 pub returns : goal.returns

@@ -2,7 +2,6 @@ use Rattle.cell.specs.Words.{corner_words}
 use native.Mathlib.Omega.{arith}
 use mathlib.Core.Path.{◌≡◌}
 use Prim.Native.Nat.{suc, ◌+◌}
-use borrow.Author.Rules.{rules}
 use Rattle.direct.proofs.words.put_corners.Goals as goal
 
 pub returns : goal.returns

@@ -1,5 +1,4 @@
 use Rattle.cell.proofs.Storing.{side_stored}
-use borrow.Author.Rules.{rules}
 use Rattle.direct.proofs.words.put_side.Goals as goal
 
 pub returns : goal.returns

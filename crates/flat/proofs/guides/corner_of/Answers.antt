@@ -3,7 +3,6 @@ use mathlib.Core.Path.{◌≡◌, ◌∙◌, sym, ap}
 use Prim.Native.Nat.{ℕ}
 use lib.ListN.{get_or}
 use Rattle.face.specs.work.Corners.{corner_list}
-use borrow.Author.Rules.{rules}
 use Rattle.flat.proofs.guides.corner_of.Goals as goal
 
 pub returns : goal.returns

@@ -3,7 +3,6 @@ use mathlib.Core.Path.{◌∙◌}
 use Rattle.face.proofs.Ends.{high_end, low_end}
 use Rattle.flat.proofs.Tables.{place_in, place_read}
 use Rattle.flat.proofs.Guided.{corners_with, guide_made, place_edge}
-use borrow.Author.Rules.{rules}
 use Rattle.flat.proofs.guides.guide_at.Goals as goal
 
 pub overflow_mul-b : goal.overflow_mul-b

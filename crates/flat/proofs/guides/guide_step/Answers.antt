@@ -3,7 +3,6 @@ use mathlib.Core.Path.{◌∙◌}
 use Rattle.face.specs.declared.Stand.TheVariants.{Low, High, Up, Down, Alone}
 use Rattle.face.proofs.Stands.{stands}
 use Rattle.flat.proofs.Guided.{step_alone, step_down, step_high, step_low, step_off, step_up}
-use borrow.Author.Rules.{rules}
 use Rattle.flat.proofs.guides.guide_step.Goals as goal
 
 pub returns-then-g-t : goal.returns-then-g-t

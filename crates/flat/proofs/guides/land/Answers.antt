@@ -1,6 +1,5 @@
 use native.Mathlib.Omega.{arith}
 use Rattle.flat.proofs.Tables.{land_edge, land_number, land_other, land_own}
-use borrow.Author.Rules.{rules}
 use Rattle.flat.proofs.guides.land.Goals as goal
 
 pub offset_bounds-sides-j : goal.offset_bounds-sides-j

@@ -5,7 +5,6 @@ use Rattle.face.proofs.Ends.{near}
 use Rattle.flat.specs.work.Work.{count_at_place, land_at}
 use Rattle.flat.proofs.Tables.{place_read}
 use Rattle.flat.proofs.Guided.{made_down, made_up, other_lt}
-use borrow.Author.Rules.{rules}
 use Rattle.flat.proofs.guides.lane_at.Goals as goal
 
 pub overflow_add-w : goal.overflow_add-w

@@ -1,6 +1,5 @@
 use native.Mathlib.Omega.{arith}
 use Rattle.flat.proofs.Guided.{lane_down, lane_up}
-use borrow.Author.Rules.{rules}
 use Rattle.flat.proofs.guides.lane_step.Goals as goal
 
 pub overflow_sub-result : goal.overflow_sub-result

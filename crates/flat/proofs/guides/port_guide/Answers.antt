@@ -1,7 +1,6 @@
 use native.Mathlib.Omega.{arith}
 use mathlib.Core.Path.{refl}
 use Rattle.flat.proofs.Guided.{port_none, port_some}
-use borrow.Author.Rules.{rules}
 use Rattle.flat.proofs.guides.port_guide.Goals as goal
 
 pub returns-then-q-eq0 : goal.returns-then-q-eq0

@@ -1,7 +1,6 @@
 use native.Mathlib.Omega.{arith}
 use Rattle.face.specs.Face.{count_on}
 use Rattle.flat.proofs.Squeeze.{some_less, corners_less}
-use borrow.Author.Rules.{rules}
 use Rattle.flat.proofs.join.flat_corners.Goals as goal
 
 pub less_at-x-requires : goal.less_at-x-requires

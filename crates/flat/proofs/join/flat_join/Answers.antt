@@ -1,7 +1,6 @@
 use mathlib.Core.Path.{◌∙◌, sym}
 use Rattle.flat.proofs.Triangle.{told_before}
 use Rattle.flat.proofs.Squeeze.{three_rule, lessened_few}
-use borrow.Author.Rules.{rules}
 use Rattle.flat.proofs.join.flat_join.Goals as goal
 
 pub returns-then-m-eq3 : goal.returns-then-m-eq3

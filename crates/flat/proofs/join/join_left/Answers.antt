@@ -3,7 +3,6 @@ use native.Mathlib.Omega.{arith}
 use Rattle.face.specs.Face.{count_on, face_answer}
 use Rattle.flat.specs.work.Work.{stretched}
 use Rattle.flat.proofs.Squeeze.{some_at, else_join, at_join, gap_join, index_low}
-use borrow.Author.Rules.{rules}
 use Rattle.flat.proofs.join.join_left.Goals as goal
 
 pub less_at-x-requires : goal.less_at-x-requires

@@ -1,7 +1,6 @@
 use mathlib.Core.Path.{◌∙◌, sym}
 use native.Mathlib.Omega.{arith}
 use Rattle.flat.proofs.Squeeze.{lessened_three, lessened_largest}
-use borrow.Author.Rules.{rules}
 use Rattle.flat.proofs.join.lessened_edge.Goals as goal
 
 pub returns-then-x-y-eq0 : goal.returns-then-x-y-eq0

@@ -1,6 +1,5 @@
 use native.Mathlib.Omega.{arith}
 use Rattle.flat.proofs.Squeeze.{lower_bc, lower_a}
-use borrow.Author.Rules.{rules}
 use Rattle.flat.proofs.join.lower_corner.Goals as goal
 
 pub returns-then-m-eq2 : goal.returns-then-m-eq2

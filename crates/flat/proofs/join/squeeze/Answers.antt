@@ -1,7 +1,6 @@
 use mathlib.Core.Path.{sym}
 use native.Mathlib.Omega.{arith}
 use Rattle.flat.proofs.Squeeze.{squeezed_after, squeezed_before}
-use borrow.Author.Rules.{rules}
 use Rattle.flat.proofs.join.squeeze.Goals as goal
 
 pub returns-then-g-t : goal.returns-then-g-t

@@ -1,5 +1,4 @@
 use Rattle.flat.proofs.Squeeze.{stretch_low, stretch_joined, stretch_unjoined, stretch_none}
-use borrow.Author.Rules.{rules}
 use Rattle.flat.proofs.join.stretch.Goals as goal
 
 pub stretch_to-requires : goal.stretch_to-requires

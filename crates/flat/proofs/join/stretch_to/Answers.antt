@@ -1,6 +1,5 @@
 use native.Mathlib.Omega.{arith}
 use Rattle.flat.proofs.Squeeze.{to_else, to_before, to_after}
-use borrow.Author.Rules.{rules}
 use Rattle.flat.proofs.join.stretch_to.Goals as goal
 
 pub returns-then-e-m : goal.returns-then-e-m

@@ -5,7 +5,6 @@ use Rattle.answer.specs.work.Faults.{since}
 use Rattle.flat.specs.Rows.{rows}
 use Rattle.flat.proofs.Accepts.{length_fine}
 use Rattle.flat.proofs.Answers.{answer_passes, answer_refuses, answer_start}
-use borrow.Author.Rules.{rules}
 use Rattle.flat.proofs.rows.all_rows.Goals as goal
 
 pub returns-then-row_1 : goal.returns-then-row_1

@@ -2,7 +2,6 @@ use mathlib.Core.Path.{◌∙◌, refl}
 use Rattle.answer.specs.work.Faults.{since}
 use Rattle.flat.specs.Rows.{rows}
 use Rattle.flat.proofs.Answers.{answer_passes, answer_refuses, order_is}
-use borrow.Author.Rules.{rules}
 use Rattle.flat.proofs.rows.edge_rows.Goals as goal
 
 pub returns-then-p6-counts : goal.returns-then-p6-counts

@@ -2,7 +2,6 @@ use mathlib.Core.Path.{◌∙◌}
 use native.Mathlib.Omega.{arith}
 use Rattle.answer.proofs.Rows.{row_passes, row_refuses, rows_end, whole_fault, whole_fine}
 use Rattle.grid.proofs.Crossings.{fine_capped, over_capped}
-use borrow.Author.Rules.{rules}
 use Rattle.flat.proofs.rows.last_row.Goals as goal
 
 pub returns-then-s-gt-MOST_CROSSINGS : goal.returns-then-s-gt-MOST_CROSSINGS

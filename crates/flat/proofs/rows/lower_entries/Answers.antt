@@ -2,13 +2,11 @@ use Prim.Native.Nat.{ℕ, ◌-◌}
 use mathlib.Core.Path.{◌∙◌, ◌≡◌, ap, sym}
 use mathlib.Core.List.{List}
 use native.Mathlib.Omega.{arith}
-use lib.Dec.{eqb}
 use lib.ListN.{get_or, length}
 use borrow.Author.Tests.{eq-eqb, ne_eqb}
 use Rattle.counting.specs.Stored.{filled}
-use Rattle.counting.proofs.Search.{Seeking, seeking_all, seeking_hit, seeking_more, seeking_none}
+use Rattle.counting.proofs.Search.{seeking_all, seeking_hit, seeking_more, seeking_none}
 use Rattle.counting.proofs.Stored.{filled_beyond, filled_more, filled_none, length_filled}
-use borrow.Author.Rules.{rules}
 use Rattle.flat.proofs.rows.lower_entries.Goals as goal
 
 -- the entry at j is still as it was

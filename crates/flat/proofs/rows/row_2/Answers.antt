@@ -1,5 +1,4 @@
 use mathlib.Core.Path.{refl}
-use borrow.Author.Rules.{rules}
 use Rattle.flat.specs.Rows.{bad_pairs}
 use Rattle.flat.proofs.rows.row_2.Goals as goal
 

@@ -10,7 +10,6 @@ use Rattle.flat.specs.work.Work.{most_sides}
 use Rattle.flat.specs.Rows.{rows}
 use Rattle.flat.proofs.Answers.{answer_last, answer_passes, answer_refuses}
 use Rattle.flat.proofs.Listed.{placed_table, row_8_is, sided, unlisted_first}
-use borrow.Author.Rules.{rules}
 use Rattle.flat.proofs.rows.side_rows.Goals as goal
 
 pub side_keys-requires : goal.side_keys-requires

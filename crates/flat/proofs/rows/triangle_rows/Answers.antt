@@ -4,7 +4,6 @@ use Rattle.answer.specs.work.Faults.{since}
 use Rattle.flat.specs.Rows.{rows}
 use Rattle.flat.proofs.Answers.{answer_passes, answer_refuses}
 use Rattle.flat.proofs.Keys.{rising_triangles}
-use borrow.Author.Rules.{rules}
 use Rattle.flat.proofs.rows.triangle_rows.Goals as goal
 
 pub returns-then-p3-n : goal.returns-then-p3-n

@@ -1,4 +1,4 @@
-use Prim.Native.Nat.{ℕ, ◌-◌, ◌*◌, ◌≤◌}
+use Prim.Native.Nat.{ℕ, ◌*◌}
 use mathlib.Core.Path.{◌∙◌, ◌≡◌, ap}
 use native.Mathlib.Omega.{arith}
 use lib.ListN.{length}
@@ -7,7 +7,6 @@ use Rattle.counting.proofs.Stored.{length_filled}
 use Rattle.grid.specs.Grid.{start}
 use Rattle.flat.specs.work.Work.{dart_step}
 use Rattle.flat.proofs.Tables.{all_more, all_none, all_skip}
-use borrow.Author.Rules.{rules}
 use Rattle.flat.proofs.steps.put_all.Goals as goal
 
 pub loop-e-init : goal.loop-e-init

@@ -1,13 +1,9 @@
-use Prim.Native.Nat.{ℕ, ◌-◌, ◌*◌, ◌≤◌}
-use mathlib.Core.Path.{◌∙◌, ◌≡◌, ap}
-use native.Mathlib.Omega.{arith}
+use Prim.Native.Nat.{◌-◌, ◌*◌, ◌≤◌}
+use mathlib.Core.Path.{◌≡◌}
 use lib.ListN.{length}
 use Rattle.counting.specs.Stored.{filled}
-use Rattle.counting.proofs.Stored.{length_filled}
 use Rattle.grid.specs.Grid.{start}
 use Rattle.flat.specs.work.Work.{dart_step}
-use Rattle.flat.proofs.Tables.{all_more, all_none, all_skip}
-use borrow.Author.Rules.{rules}
 use Rattle.flat.proofs.steps.put_all.Given as goal
 
 abbrev pub invariant-loop-e : goal.invariant-loop-e

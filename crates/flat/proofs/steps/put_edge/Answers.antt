@@ -1,4 +1,4 @@
-use Prim.Native.Nat.{ℕ, ◌+◌, ◌-◌, ◌*◌, ◌≤◌}
+use Prim.Native.Nat.{ℕ, ◌+◌, ◌*◌}
 use mathlib.Core.Path.{◌∙◌, ◌≡◌, ap}
 use native.Mathlib.Omega.{arith}
 use lib.ListN.{length, length-set}
@@ -8,7 +8,6 @@ use Rattle.grid.specs.Grid.{count_of, start}
 use Rattle.flat.specs.work.Work.{dart_step}
 use Rattle.flat.proofs.Tables.{edge_darts, edge_more, edge_none, edge_within, first_at, first_within, second_at, second_within, start_at}
 use Rattle.flat.proofs.Guided.{port_led}
-use borrow.Author.Rules.{rules}
 use Rattle.flat.proofs.steps.put_edge.Goals as goal
 
 pub offset_bounds-starts-e : goal.offset_bounds-starts-e

@@ -1,14 +1,9 @@
-use Prim.Native.Nat.{ℕ, ◌+◌, ◌-◌, ◌*◌, ◌≤◌}
-use mathlib.Core.Path.{◌∙◌, ◌≡◌, ap}
-use native.Mathlib.Omega.{arith}
-use lib.ListN.{length, length-set}
-use lib.Seq.{length-sets, sets}
+use Prim.Native.Nat.{◌+◌, ◌-◌, ◌*◌, ◌≤◌}
+use mathlib.Core.Path.{◌≡◌}
+use lib.Seq.{sets}
 use Rattle.counting.specs.Lists.{values}
-use Rattle.grid.specs.Grid.{count_of, start}
+use Rattle.grid.specs.Grid.{start}
 use Rattle.flat.specs.work.Work.{dart_step}
-use Rattle.flat.proofs.Tables.{edge_darts, edge_more, edge_none, edge_within, first_at, first_within, second_at, second_within, start_at}
-use Rattle.flat.proofs.Guided.{port_led}
-use borrow.Author.Rules.{rules}
 use Rattle.flat.proofs.steps.put_edge.Given as goal
 
 abbrev pub invariant-loop-t : goal.invariant-loop-t

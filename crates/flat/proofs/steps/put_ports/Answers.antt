@@ -1,8 +1,6 @@
-use Prim.Native.Nat.{◌-◌, ◌≤◌}
 use mathlib.Core.Path.{refl}
 use native.Mathlib.Omega.{arith}
-use Rattle.flat.proofs.Places.{Ported, ported_first, ported_none, ported_second, ported_table}
-use borrow.Author.Rules.{rules}
+use Rattle.flat.proofs.Places.{ported_first, ported_none, ported_second, ported_table}
 use Rattle.flat.proofs.steps.put_ports.Goals as goal
 
 pub loop-j-init : goal.loop-j-init

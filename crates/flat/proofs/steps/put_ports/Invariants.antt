@@ -1,8 +1,5 @@
 use Prim.Native.Nat.{◌-◌, ◌≤◌}
-use mathlib.Core.Path.{refl}
-use native.Mathlib.Omega.{arith}
-use Rattle.flat.proofs.Places.{Ported, ported_first, ported_none, ported_second, ported_table}
-use borrow.Author.Rules.{rules}
+use Rattle.flat.proofs.Places.{Ported}
 use Rattle.flat.proofs.steps.put_ports.Given as goal
 
 abbrev pub invariant-loop-j : goal.invariant-loop-j

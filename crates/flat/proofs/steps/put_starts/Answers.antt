@@ -1,4 +1,4 @@
-use Prim.Native.Nat.{ℕ, ◌+◌, ◌-◌, ◌≤◌}
+use Prim.Native.Nat.{ℕ, ◌+◌}
 use mathlib.Core.Path.{◌∙◌, ◌≡◌, ap, sym}
 use native.Mathlib.Omega.{arith}
 use lib.ListN.{length}
@@ -6,7 +6,6 @@ use Rattle.counting.specs.Stored.{filled}
 use Rattle.counting.proofs.Stored.{filled_more, filled_none, length_filled}
 use Rattle.grid.specs.Grid.{start}
 use Rattle.grid.proofs.Crossings.{start_mono, start_next, start_zero}
-use borrow.Author.Rules.{rules}
 use Rattle.flat.proofs.steps.put_starts.Goals as goal
 
 pub loop-e-init : goal.loop-e-init

@@ -5,7 +5,6 @@ use lib.ListN.{length, length-replicate, replicate}
 use Rattle.counting.proofs.Stored.{length_filled}
 use Rattle.flat.specs.work.Work.{most_sides, dart_step}
 use Rattle.flat.proofs.Tables.{porting, tabled}
-use borrow.Author.Rules.{rules}
 use Rattle.flat.proofs.steps.put_steps.Goals as goal
 
 pub put_ports-requires : goal.put_ports-requires

@@ -1,7 +1,6 @@
 use mathlib.Core.Path.{sym}
 use native.Mathlib.Omega.{arith}
 use Rattle.flat.proofs.Keys.{triangle_drops, triangle_rises}
-use borrow.Author.Rules.{rules}
 use Rattle.flat.proofs.triangles.bad_triangle.Goals as goal
 
 pub returns-then-b-a : goal.returns-then-b-a

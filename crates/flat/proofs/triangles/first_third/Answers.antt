@@ -1,9 +1,6 @@
-use Prim.Native.Nat.{◌-◌}
 use native.Mathlib.Omega.{arith}
-use Rattle.counting.proofs.Search.{Seeking, seeking_all, seeking_hit, seeking_more, seeking_none}
-use Rattle.flat.specs.work.Work.{twice}
+use Rattle.counting.proofs.Search.{seeking_all, seeking_hit, seeking_more, seeking_none}
 use Rattle.flat.proofs.Keys.{twice_hit, twice_miss, twice_none}
-use borrow.Author.Rules.{rules}
 use Rattle.flat.proofs.triangles.first_third.Goals as goal
 
 pub loop-j-init : goal.loop-j-init

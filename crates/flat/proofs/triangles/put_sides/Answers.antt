@@ -1,7 +1,6 @@
 use native.Mathlib.Omega.{arith}
 use lib.ListN.{length-set}
 use Rattle.flat.proofs.Keys.{sides_put}
-use borrow.Author.Rules.{rules}
 use Rattle.flat.proofs.triangles.put_sides.Goals as goal
 
 pub bounds-keys-f-2 : goal.bounds-keys-f-2

@@ -1,9 +1,6 @@
-use Prim.Native.Nat.{◌-◌}
 use mathlib.Core.Path.{◌∙◌, sym}
 use native.Mathlib.Omega.{arith}
-use Rattle.counting.proofs.Search.{Seeking, seeking_all, seeking_hit, seeking_more, seeking_none}
-use Rattle.flat.specs.Rows.{bad_triangle}
-use borrow.Author.Rules.{rules}
+use Rattle.counting.proofs.Search.{seeking_all, seeking_hit, seeking_more, seeking_none}
 use Rattle.flat.proofs.triangles.row_3.Goals as goal
 
 pub loop-f-init : goal.loop-f-init

@@ -1,9 +1,6 @@
 use Prim.Native.Nat.{◌-◌}
-use mathlib.Core.Path.{◌∙◌, sym}
-use native.Mathlib.Omega.{arith}
-use Rattle.counting.proofs.Search.{Seeking, seeking_all, seeking_hit, seeking_more, seeking_none}
+use Rattle.counting.proofs.Search.{Seeking}
 use Rattle.flat.specs.Rows.{bad_triangle}
-use borrow.Author.Rules.{rules}
 use Rattle.flat.proofs.triangles.row_3.Given as goal
 
 abbrev pub invariant-loop-f : goal.invariant-loop-f

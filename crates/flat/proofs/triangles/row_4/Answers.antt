@@ -5,7 +5,6 @@ use lib.ListN.{length}
 use Rattle.flat.specs.FlatGrid.{most_flat_triangles}
 use Rattle.counting.proofs.Tables.{filled_table}
 use Rattle.flat.proofs.Keys.{earlier_table, repeats_first}
-use borrow.Author.Rules.{rules}
 use Rattle.flat.proofs.triangles.row_4.Goals as goal
 
 pub returns : goal.returns

@@ -5,7 +5,6 @@ use lib.ListN.{length}
 use Rattle.flat.specs.work.Work.{most_sides}
 use Rattle.counting.proofs.Tables.{filled_table}
 use Rattle.flat.proofs.Keys.{earlier_table, entry_le, third_first, twice_first}
-use borrow.Author.Rules.{rules}
 use Rattle.flat.proofs.triangles.row_5.Goals as goal
 
 pub first_third-requires : goal.first_third-requires

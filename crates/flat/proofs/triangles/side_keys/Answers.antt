@@ -1,11 +1,8 @@
-use Prim.Native.Nat.{◌*◌, ◌+◌, ◌-◌, ◌/◌, ◌≤◌}
+use Prim.Native.Nat.{◌*◌, ◌+◌, ◌/◌}
 use mathlib.Core.Path.{◌∙◌, ◌≡◌, ap}
 use native.Mathlib.Omega.{arith}
 use lib.ListN.{length}
-use Rattle.counting.specs.Stored.{filled}
 use Rattle.counting.proofs.Stored.{filled_block, filled_none, length_filled}
-use Rattle.flat.specs.work.Work.{side_key}
-use borrow.Author.Rules.{rules}
 use Rattle.flat.proofs.triangles.side_keys.Goals as goal
 
 pub loop-f-init : goal.loop-f-init

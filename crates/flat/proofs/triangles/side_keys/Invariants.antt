@@ -1,11 +1,7 @@
-use Prim.Native.Nat.{◌*◌, ◌+◌, ◌-◌, ◌/◌, ◌≤◌}
-use mathlib.Core.Path.{◌∙◌, ◌≡◌, ap}
-use native.Mathlib.Omega.{arith}
-use lib.ListN.{length}
+use Prim.Native.Nat.{◌*◌, ◌-◌, ◌≤◌}
+use mathlib.Core.Path.{◌≡◌}
 use Rattle.counting.specs.Stored.{filled}
-use Rattle.counting.proofs.Stored.{filled_block, filled_none, length_filled}
 use Rattle.flat.specs.work.Work.{side_key}
-use borrow.Author.Rules.{rules}
 use Rattle.flat.proofs.triangles.side_keys.Given as goal
 
 abbrev pub invariant-loop-f : goal.invariant-loop-f

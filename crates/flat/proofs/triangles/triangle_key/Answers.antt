@@ -1,5 +1,4 @@
 use Rattle.flat.specs.work.Work.{triangle_key}
-use borrow.Author.Rules.{rules}
 use Rattle.flat.proofs.triangles.triangle_key.Goals as goal
 
 pub returns : goal.returns

@@ -1,7 +1,6 @@
 use mathlib.Core.Path.{◌∙◌, sym}
 use native.Mathlib.Omega.{arith}
 use Rattle.flat.proofs.Walked.{closed_finds, open_finds, ran_entry, ran_lt, ran_read, ran_short}
-use borrow.Author.Rules.{rules}
 use Rattle.flat.proofs.walks.chain_at.Goals as goal
 
 pub overflow_mul-p : goal.overflow_mul-p

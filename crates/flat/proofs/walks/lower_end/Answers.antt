@@ -1,6 +1,5 @@
 use mathlib.Core.Path.{◌∙◌}
 use Rattle.flat.proofs.Walked.{start_first, start_second}
-use borrow.Author.Rules.{rules}
 use Rattle.flat.proofs.walks.lower_end.Goals as goal
 
 pub returns-then-a-b : goal.returns-then-a-b

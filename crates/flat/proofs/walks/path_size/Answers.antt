@@ -1,5 +1,4 @@
 use Rattle.flat.proofs.Walked.{size_none, size_some}
-use borrow.Author.Rules.{rules}
 use Rattle.flat.proofs.walks.path_size.Goals as goal
 
 pub returns-then-k-l-eq0 : goal.returns-then-k-l-eq0

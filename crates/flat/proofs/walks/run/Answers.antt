@@ -1,8 +1,5 @@
-use Prim.Native.Nat.{◌-◌}
 use native.Mathlib.Omega.{arith}
-use Rattle.flat.specs.work.Work.{step_in}
-use Rattle.flat.proofs.Walked.{Running, run-end, run_home, run_more, run_read, run_short, running_lt, running_none}
-use borrow.Author.Rules.{rules}
+use Rattle.flat.proofs.Walked.{run-end, run_home, run_more, run_read, run_short, running_lt, running_none}
 use Rattle.flat.proofs.walks.run.Goals as goal
 
 pub loop-n-init : goal.loop-n-init

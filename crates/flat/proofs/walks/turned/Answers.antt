@@ -1,6 +1,5 @@
 use native.Mathlib.Omega.{arith}
 use Rattle.walk.specs.Darts.{rev}
-use borrow.Author.Rules.{rules}
 use Rattle.flat.proofs.walks.turned.Goals as goal
 
 pub returns-then-d-eq0 : goal.returns-then-d-eq0

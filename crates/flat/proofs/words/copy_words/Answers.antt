@@ -1,10 +1,7 @@
-use Prim.Native.Nat.{◌-◌, ◌≤◌}
 use mathlib.Core.Path.{◌≡◌, ◌∙◌, ap}
 use native.Mathlib.Omega.{arith}
-use lib.ListN.{get_or, length}
-use Rattle.counting.specs.Stored.{filled}
+use lib.ListN.{length}
 use Rattle.counting.proofs.Stored.{filled_more, filled_none, length_filled}
-use borrow.Author.Rules.{rules}
 use Rattle.flat.proofs.words.copy_words.Goals as goal
 
 pub loop-i-init : goal.loop-i-init

@@ -1,10 +1,7 @@
 use Prim.Native.Nat.{◌-◌, ◌≤◌}
-use mathlib.Core.Path.{◌≡◌, ◌∙◌, ap}
-use native.Mathlib.Omega.{arith}
-use lib.ListN.{get_or, length}
+use mathlib.Core.Path.{◌≡◌}
+use lib.ListN.{get_or}
 use Rattle.counting.specs.Stored.{filled}
-use Rattle.counting.proofs.Stored.{filled_more, filled_none, length_filled}
-use borrow.Author.Rules.{rules}
 use Rattle.flat.proofs.words.copy_words.Given as goal
 
 abbrev pub invariant-loop-i : goal.invariant-loop-i

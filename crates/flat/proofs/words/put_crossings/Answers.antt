@@ -1,8 +1,5 @@
-use Prim.Native.Nat.{◌-◌}
 use native.Mathlib.Omega.{arith}
-use Rattle.flat.specs.work.Work.{step_in}
-use Rattle.flat.proofs.Walked.{Listing, Marking, list_few, list_more, list_read, listing_all, listing_long, listing_none, mark_more, mark_place, marking_all, marking_none}
-use borrow.Author.Rules.{rules}
+use Rattle.flat.proofs.Walked.{list_few, list_more, list_read, listing_all, listing_long, listing_none, mark_more, mark_place, marking_all, marking_none}
 use Rattle.flat.proofs.words.put_crossings.Goals as goal
 
 pub loop-i-init : goal.loop-i-init

@@ -1,13 +1,11 @@
-use Prim.Native.Nat.{ℕ, ◌-◌}
-use mathlib.Core.Path.{◌∙◌, ◌≡◌, sym}
+use Prim.Native.Nat.{ℕ}
+use mathlib.Core.Path.{◌∙◌, sym}
 use native.Mathlib.Omega.{arith}
-use lib.ListN.{length, length-replicate}
+use lib.ListN.{length-replicate}
 use Rattle.counting.proofs.Tables.{zeros}
 use Rattle.counting.proofs.Stored.{stored_long}
 use Rattle.flat.specs.Chain.{all_chain_words}
-use Rattle.flat.specs.work.Work.{step_in}
-use Rattle.flat.proofs.Walked.{Writing, finds_runs, finds_short, swept_fresh, swept_none, writing_all, writing_at, writing_marked, writing_more, writing_none, writing_room}
-use borrow.Author.Rules.{rules}
+use Rattle.flat.proofs.Walked.{finds_runs, finds_short, swept_fresh, swept_none, writing_all, writing_at, writing_marked, writing_more, writing_none, writing_room}
 use Rattle.flat.proofs.words.put_words.Goals as goal
 
 pub loop-p-init : goal.loop-p-init

@@ -1,6 +1,5 @@
 use native.Mathlib.Omega.{arith}
 use Rattle.grid.proofs.Again.{again_across, again_later, again_other}
-use borrow.Author.Rules.{rules}
 use Rattle.grid.proofs.cells.again.Goals as goal
 
 pub overflow_mul-c : goal.overflow_mul-c

@@ -1,7 +1,6 @@
 use Prim.Native.Nat.{ℕ, ◌+◌, ◌<◌}
 use mathlib.Core.Path.{sym}
 use native.Mathlib.Omega.{arith}
-use borrow.Author.Rules.{rules}
 use Rattle.grid.specs.Grid.{node}
 use Rattle.counting.proofs.Below.{below_three}
 use Rattle.grid.proofs.Packed.{cell_drops, cell_rises}

@@ -1,14 +1,11 @@
-use Prim.Native.Nat.{◌-◌, ◌+◌, ◌*◌, ◌<◌, ◌≤◌}
-use mathlib.Core.Path.{◌∙◌, ◌≡◌}
+use Prim.Native.Nat.{◌*◌, ◌<◌}
+use mathlib.Core.Path.{◌∙◌}
 use native.Mathlib.Omega.{arith}
 use lib.ListN.{length}
 use borrow.Author.Tests.{le-ltb, lt-ltb}
-use Rattle.counting.proofs.Search.{Seeking, seeking_all, seeking_hit, seeking_more, seeking_none}
-use Rattle.grid.proofs.Meets.{Meets, meets_last, meets_more, meets_none}
-use Rattle.grid.specs.Rows.{repeats}
-use Rattle.grid.specs.work.Walks.{cell_number}
+use Rattle.counting.proofs.Search.{seeking_all, seeking_hit, seeking_more, seeking_none}
+use Rattle.grid.proofs.Meets.{meets_last, meets_more, meets_none}
 use Rattle.grid.proofs.Packed.{repeats_last}
-use borrow.Author.Rules.{rules}
 use Rattle.grid.proofs.cells.first_same.Goals as goal
 
 pub loop-c-init : goal.loop-c-init

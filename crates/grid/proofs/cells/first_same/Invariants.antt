@@ -1,14 +1,9 @@
-use Prim.Native.Nat.{◌-◌, ◌+◌, ◌*◌, ◌<◌, ◌≤◌}
-use mathlib.Core.Path.{◌∙◌, ◌≡◌}
-use native.Mathlib.Omega.{arith}
+use Prim.Native.Nat.{◌-◌}
 use lib.ListN.{length}
-use borrow.Author.Tests.{le-ltb, lt-ltb}
-use Rattle.counting.proofs.Search.{Seeking, seeking_all, seeking_hit, seeking_more, seeking_none}
-use Rattle.grid.proofs.Meets.{Meets, meets_last, meets_more, meets_none}
+use Rattle.counting.proofs.Search.{Seeking}
+use Rattle.grid.proofs.Meets.{Meets}
 use Rattle.grid.specs.Rows.{repeats}
 use Rattle.grid.specs.work.Walks.{cell_number}
-use Rattle.grid.proofs.Packed.{repeats_last}
-use borrow.Author.Rules.{rules}
 use Rattle.grid.proofs.cells.first_same.Given as goal
 
 abbrev pub invariant-loop-c : goal.invariant-loop-c

@@ -1,6 +1,5 @@
 use Prim.Native.Nat.{◌*◌, ◌+◌}
 use native.Mathlib.Omega.{arith}
-use borrow.Author.Rules.{rules}
 use Rattle.grid.proofs.cells.node_at.Goals as goal
 
 pub returns : goal.returns

@@ -1,15 +1,10 @@
-use Prim.Native.Nat.{◌-◌, ◌+◌, ◌*◌, ◌<◌, ◌≤◌}
-use mathlib.Core.Path.{◌∙◌, ◌≡◌, ap, refl}
-use native.Mathlib.Omega.{arith}
-use lib.ListN.{get_or, length, length-set}
-use borrow.Author.Rules.{rules}
-use borrow.Author.Tests.{le-ltb, lt-ltb}
-use Rattle.counting.proofs.Search.{Seeking, seeking_all, seeking_hit, seeking_more, seeking_none}
-use Rattle.counting.proofs.Tables.{top_le, zeros}
-use Rattle.grid.proofs.Meets.{Meets, last_key, meets_last, meets_more, meets_none}
+use Prim.Native.Nat.{◌-◌}
+use mathlib.Core.Path.{◌≡◌}
+use lib.ListN.{length}
+use Rattle.counting.proofs.Search.{Seeking}
+use Rattle.grid.proofs.Meets.{Meets}
 use Rattle.grid.specs.work.Work.{Mates, third_at}
 use Rattle.grid.specs.work.Walks.{entry}
-use Rattle.grid.proofs.Mates.{mates_alone, mates_two, third_none, third_not, third_there}
 use Rattle.grid.proofs.cells.pair.Given as goal
 
 abbrev pub invariant-loop-j : goal.invariant-loop-j

@@ -1,8 +1,5 @@
 use Prim.Native.Nat.{◌-◌}
-use mathlib.Core.Path.{◌∙◌, sym}
-use native.Mathlib.Omega.{arith}
-use borrow.Author.Rules.{rules}
-use Rattle.counting.proofs.Search.{Seeking, seeking_all, seeking_hit, seeking_more, seeking_none}
+use Rattle.counting.proofs.Search.{Seeking}
 use Rattle.grid.specs.Rows.{bad_cell}
 use Rattle.grid.proofs.cells.row_3.Given as goal
 

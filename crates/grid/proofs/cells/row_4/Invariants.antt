@@ -1,10 +1,6 @@
 use Prim.Native.Nat.{◌-◌}
-use mathlib.Core.Path.{◌∙◌, sym}
-use native.Mathlib.Omega.{arith}
-use Rattle.counting.proofs.Search.{Seeking, seeking_all, seeking_hit, seeking_more, seeking_none}
+use Rattle.counting.proofs.Search.{Seeking}
 use Rattle.grid.specs.Rows.{repeats}
-use Rattle.grid.proofs.Again.{repeats_again}
-use borrow.Author.Rules.{rules}
 use Rattle.grid.proofs.cells.row_4.Given as goal
 
 abbrev pub invariant-loop-c : goal.invariant-loop-c

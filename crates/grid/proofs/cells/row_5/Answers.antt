@@ -1,7 +1,6 @@
 use native.Mathlib.Omega.{arith}
 use Rattle.grid.proofs.Faces.{paired_near, third_first}
 use Rattle.grid.proofs.Mates.{mates_none}
-use borrow.Author.Rules.{rules}
 use Rattle.grid.proofs.cells.row_5.Goals as goal
 
 pub pair-requires : goal.pair-requires

@@ -1,4 +1,3 @@
-use borrow.Author.Rules.{rules}
 use Rattle.grid.proofs.Starts.{ends_bad, ends_fine}
 use Rattle.grid.proofs.edges.bad_numbers.Goals as goal
 

@@ -1,12 +1,8 @@
-use Prim.Native.Nat.{◌-◌, ◌≤◌}
 use mathlib.Core.Path.{◌∙◌, ◌≡◌, ap, sym}
-use mathlib.Core.Bool.{false}
 use native.Mathlib.Omega.{arith}
 use lib.ListN.{length}
-use borrow.Author.Rules.{rules}
 use Rattle.counting.specs.Search.{some}
 use Rattle.counting.proofs.Search.{some_found, some_miss, some_zero}
-use Rattle.grid.specs.Grid.{start}
 use Rattle.grid.specs.Rows.{bad_start}
 use Rattle.grid.proofs.Crossings.{start_next, start_zero}
 use Rattle.grid.proofs.Starts.{bad-start, fine_start}

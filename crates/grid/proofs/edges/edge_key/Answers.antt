@@ -1,4 +1,3 @@
-use borrow.Author.Rules.{rules}
 use Rattle.grid.specs.work.Shared.{edge_key}
 use Rattle.grid.proofs.edges.edge_key.Goals as goal
 

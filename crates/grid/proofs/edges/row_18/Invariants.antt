@@ -1,8 +1,5 @@
 use Prim.Native.Nat.{◌-◌}
-use native.Mathlib.Omega.{arith}
-use borrow.Author.Rules.{rules}
-use borrow.Author.Tests.{le-ltb, lt-ltb}
-use Rattle.counting.proofs.Search.{Seeking, seeking_all, seeking_hit, seeking_more, seeking_none}
+use Rattle.counting.proofs.Search.{Seeking}
 use Rattle.grid.specs.Rows.{bad_count}
 use Rattle.grid.proofs.edges.row_18.Given as goal
 

@@ -1,5 +1,4 @@
 use mathlib.Core.Path.{◌∙◌, sym}
-use borrow.Author.Rules.{rules}
 use Rattle.grid.proofs.Starts.{numbers_bad, numbers_fine, starts_left}
 use Rattle.grid.proofs.edges.row_2.Goals as goal
 

@@ -2,7 +2,6 @@ use Prim.Native.Nat.{◌/◌}
 use mathlib.Core.Path.{◌∙◌, ◌≡◌, ap}
 use native.Mathlib.Omega.{arith}
 use lib.ListN.{length}
-use borrow.Author.Rules.{rules}
 use Rattle.counting.specs.Search.{first}
 use Rattle.grid.specs.Rows.{bad_edge}
 use Rattle.grid.proofs.edges.row_6.Goals as goal

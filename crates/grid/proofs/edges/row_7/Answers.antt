@@ -1,14 +1,11 @@
-use Prim.Native.Nat.{ℕ, ◌-◌, ◌/◌}
+use Prim.Native.Nat.{ℕ, ◌/◌}
 use mathlib.Core.Path.{◌∙◌, ap, sym}
 use native.Mathlib.Omega.{arith}
-use lib.Dec.{eqb}
-use lib.ListN.{get_or}
 use borrow.Author.Tests.{eq-eqb, ne_eqb}
-use Rattle.counting.proofs.Search.{Seeking, seeking_all, seeking_hit, seeking_more, seeking_none}
+use Rattle.counting.proofs.Search.{seeking_all, seeking_hit, seeking_more, seeking_none}
 use Rattle.grid.specs.Grid.{cell_count}
-use Rattle.grid.proofs.Laying.{Tallying, tallying_end, tallying_few, tallying_lt, tallying_more, tallying_room, tallying_start}
+use Rattle.grid.proofs.Laying.{tallying_end, tallying_few, tallying_lt, tallying_more, tallying_room, tallying_start}
 use Rattle.grid.proofs.Sides.{blank_first}
-use borrow.Author.Rules.{rules}
 use Rattle.grid.proofs.edges.row_7.Goals as goal
 
 pub loop-j-init : goal.loop-j-init

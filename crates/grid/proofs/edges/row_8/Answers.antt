@@ -1,11 +1,7 @@
-use Prim.Native.Nat.{◌*◌, ◌+◌, ◌-◌}
 use native.Mathlib.Omega.{arith}
-use lib.Dec.{eqb}
-use lib.ListN.{get_or}
 use borrow.Author.Tests.{eq-eqb, ne_eqb}
-use Rattle.counting.proofs.Search.{Seeking, seeking_all, seeking_hit, seeking_more, seeking_none}
+use Rattle.counting.proofs.Search.{seeking_all, seeking_hit, seeking_more, seeking_none}
 use Rattle.grid.proofs.Sides.{row_8_told}
-use borrow.Author.Rules.{rules}
 use Rattle.grid.proofs.edges.row_8.Goals as goal
 
 pub overflow_mul-cells : goal.overflow_mul-cells

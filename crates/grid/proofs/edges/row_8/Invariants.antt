@@ -1,11 +1,7 @@
-use Prim.Native.Nat.{◌*◌, ◌+◌, ◌-◌}
-use native.Mathlib.Omega.{arith}
+use Prim.Native.Nat.{◌+◌, ◌-◌}
 use lib.Dec.{eqb}
 use lib.ListN.{get_or}
-use borrow.Author.Tests.{eq-eqb, ne_eqb}
-use Rattle.counting.proofs.Search.{Seeking, seeking_all, seeking_hit, seeking_more, seeking_none}
-use Rattle.grid.proofs.Sides.{row_8_told}
-use borrow.Author.Rules.{rules}
+use Rattle.counting.proofs.Search.{Seeking}
 use Rattle.grid.proofs.edges.row_8.Given as goal
 
 abbrev pub invariant-loop-e : goal.invariant-loop-e

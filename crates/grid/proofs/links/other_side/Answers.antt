@@ -1,5 +1,4 @@
 use native.Mathlib.Omega.{arith}
-use borrow.Author.Rules.{rules}
 use Rattle.slots.proofs.Slots.{third_of}
 use Rattle.grid.proofs.Marks.{other_fits, other_high, other_low}
 use Rattle.grid.proofs.links.other_side.Goals as goal

@@ -1,5 +1,4 @@
 use native.Mathlib.Omega.{arith}
-use borrow.Author.Rules.{rules}
 use Rattle.slots.proofs.Slots.{rank_high, rank_low}
 use Rattle.grid.proofs.links.rank_of.Goals as goal
 

@@ -1,12 +1,7 @@
-use Prim.Native.Nat.{◌-◌}
-use mathlib.Core.Path.{◌∙◌, ◌≡◌, refl}
+use mathlib.Core.Path.{◌∙◌, refl}
 use native.Mathlib.Omega.{arith}
-use lib.ListN.{length}
-use Rattle.counting.proofs.Search.{Seeking, seeking_all, seeking_hit, seeking_more, seeking_none}
-use Rattle.grid.specs.Grid.{built}
-use Rattle.grid.specs.Rows.{split}
-use Rattle.grid.proofs.Ring.{Under, may_split, split_single, split_told, under_more}
-use borrow.Author.Rules.{rules}
+use Rattle.counting.proofs.Search.{seeking_all, seeking_hit, seeking_more, seeking_none}
+use Rattle.grid.proofs.Ring.{may_split, split_single, split_told, under_more}
 use Rattle.grid.proofs.links.row_9.Goals as goal
 
 pub loop-e-init : goal.loop-e-init

@@ -1,12 +1,10 @@
 use Prim.Native.Nat.{◌-◌}
-use mathlib.Core.Path.{◌∙◌, ◌≡◌, refl}
-use native.Mathlib.Omega.{arith}
+use mathlib.Core.Path.{◌≡◌}
 use lib.ListN.{length}
-use Rattle.counting.proofs.Search.{Seeking, seeking_all, seeking_hit, seeking_more, seeking_none}
+use Rattle.counting.proofs.Search.{Seeking}
 use Rattle.grid.specs.Grid.{built}
 use Rattle.grid.specs.Rows.{split}
-use Rattle.grid.proofs.Ring.{Under, may_split, split_single, split_told, under_more}
-use borrow.Author.Rules.{rules}
+use Rattle.grid.proofs.Ring.{Under}
 use Rattle.grid.proofs.links.row_9.Given as goal
 
 abbrev pub invariant-loop-e : goal.invariant-loop-e

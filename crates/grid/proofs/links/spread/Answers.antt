@@ -1,8 +1,7 @@
 use Prim.Native.Nat.{ℕ, ◌<◌, min}
 use mathlib.Core.Path.{◌≡◌, sym, ap, ◌∙◌}
 use native.Mathlib.Omega.{arith}
-use Rattle.grid.proofs.Marks.{Walking, marked_le, unmarked_cells, unmarked_less, walking_end, walking_lt, walking_met, walking_more, walking_start}
-use borrow.Author.Rules.{rules}
+use Rattle.grid.proofs.Marks.{marked_le, unmarked_less, walking_end, walking_lt, walking_met, walking_more, walking_start}
 use Rattle.slots.specs.Slots.{position}
 use Rattle.slots.proofs.Slots.{omitted}
 use Rattle.grid.proofs.links.spread.Goals as goal

@@ -1,4 +1,3 @@
-use borrow.Author.Rules.{rules}
 use Rattle.grid.proofs.numbering.chains.Goals as goal
 
 pub returns : goal.returns

@@ -1,8 +1,5 @@
-use Prim.Native.Nat.{◌-◌}
 use native.Mathlib.Omega.{arith}
-use lib.ListN.{length}
-use Rattle.grid.proofs.Seen.{Wiped, wiped_all, wiped_more, wiped_none}
-use borrow.Author.Rules.{rules}
+use Rattle.grid.proofs.Seen.{wiped_all, wiped_more, wiped_none}
 use Rattle.grid.proofs.numbering.clear.Goals as goal
 
 pub loop-j-init : goal.loop-j-init

@@ -1,8 +1,6 @@
 use Prim.Native.Nat.{◌-◌}
-use native.Mathlib.Omega.{arith}
 use lib.ListN.{length}
-use Rattle.grid.proofs.Seen.{Wiped, wiped_all, wiped_more, wiped_none}
-use borrow.Author.Rules.{rules}
+use Rattle.grid.proofs.Seen.{Wiped}
 use Rattle.grid.proofs.numbering.clear.Given as goal
 
 abbrev pub invariant-loop-j : goal.invariant-loop-j

@@ -1,11 +1,5 @@
 use Prim.Native.Nat.{◌-◌, ◌≤◌, ◌<◌}
-use mathlib.Core.Path.{◌≡◌, refl, ◌∙◌}
-use native.Mathlib.Omega.{arith}
-use lib.ListN.{length, length-set}
-use borrow.Author.Rules.{rules}
 use Rattle.grid.specs.work.Numbered.{Does}
-use Rattle.grid.proofs.Turns.{does_none, does_number}
-use Rattle.grid.proofs.Passes.{label_end, label_more, label_one}
 use Rattle.grid.proofs.numbering.label.Given as goal
 
 abbrev pub invariant-loop-j : goal.invariant-loop-j

@@ -1,10 +1,7 @@
-use Prim.Native.Nat.{◌-◌, ◌≤◌, ◌<◌}
-use mathlib.Core.Path.{◌≡◌, refl, ◌∙◌}
+use mathlib.Core.Path.{◌≡◌, refl}
 use native.Mathlib.Omega.{arith}
-use lib.ListN.{length, length-set}
-use borrow.Author.Rules.{rules}
-use Rattle.grid.specs.work.Walks.{label_at}
-use Rattle.grid.proofs.Passes.{Linking, linking_end, linking_more, linking_none}
+use lib.ListN.{length-set}
+use Rattle.grid.proofs.Passes.{linking_end, linking_more, linking_none}
 use Rattle.grid.proofs.numbering.link.Goals as goal
 
 pub loop-c-init : goal.loop-c-init

@@ -1,10 +1,8 @@
-use Prim.Native.Nat.{◌-◌, ◌≤◌, ◌<◌}
-use mathlib.Core.Path.{◌≡◌, refl, ◌∙◌}
-use native.Mathlib.Omega.{arith}
-use lib.ListN.{length, length-set}
-use borrow.Author.Rules.{rules}
+use Prim.Native.Nat.{◌-◌, ◌≤◌}
+use mathlib.Core.Path.{◌≡◌}
+use lib.ListN.{length}
 use Rattle.grid.specs.work.Walks.{label_at}
-use Rattle.grid.proofs.Passes.{Linking, linking_end, linking_more, linking_none}
+use Rattle.grid.proofs.Passes.{Linking}
 use Rattle.grid.proofs.numbering.link.Given as goal
 
 abbrev pub invariant-loop-c : goal.invariant-loop-c

@@ -1,5 +1,4 @@
 use native.Mathlib.Omega.{arith}
-use borrow.Author.Rules.{rules}
 use Rattle.grid.proofs.Turns.{branch_again, branch_new}
 use Rattle.grid.proofs.numbering.number.Goals as goal
 

@@ -1,7 +1,5 @@
 use mathlib.Core.Path.{◌∙◌}
-use native.Mathlib.Omega.{arith}
 use Rattle.grid.proofs.Tellings.{cells_passable, cells_tell}
-use borrow.Author.Rules.{rules}
 use Rattle.grid.proofs.numbering.number_cells.Goals as goal
 
 pub pass-requires : goal.pass-requires

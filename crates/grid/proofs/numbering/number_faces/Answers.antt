@@ -1,6 +1,5 @@
 use native.Mathlib.Omega.{arith}
 use Rattle.grid.proofs.Tellings.{cells_labelling, cells_slotted, faces_told, label-chains, low-chains, node-chains, slots_linkable}
-use borrow.Author.Rules.{rules}
 use Rattle.grid.proofs.numbering.number_faces.Goals as goal
 
 pub label-m-requires : goal.label-m-requires

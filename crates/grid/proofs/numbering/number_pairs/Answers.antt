@@ -1,8 +1,5 @@
-use mathlib.Core.Path.{refl}
-use native.Mathlib.Omega.{arith}
 use Rattle.counting.proofs.Tables.{filled_table}
 use Rattle.grid.proofs.Tellings.{pairs_passable, pairs_told}
-use borrow.Author.Rules.{rules}
 use Rattle.grid.proofs.numbering.number_pairs.Goals as goal
 
 pub pass-requires : goal.pass-requires

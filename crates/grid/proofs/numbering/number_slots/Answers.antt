@@ -1,8 +1,6 @@
 use mathlib.Core.Path.{◌∙◌}
-use native.Mathlib.Omega.{arith}
 use Rattle.grid.proofs.Tellings.{faces_passable, faces_tell, slots_pairable, slotted_faces}
 use Rattle.grid.proofs.Working.{fresh_again}
-use borrow.Author.Rules.{rules}
 use Rattle.grid.proofs.numbering.number_slots.Goals as goal
 
 pub number_pairs-requires : goal.number_pairs-requires

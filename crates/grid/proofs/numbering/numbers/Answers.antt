@@ -1,9 +1,5 @@
-use Prim.Native.Nat.{◌-◌, ◌≤◌}
 use mathlib.Core.Path.{◌≡◌}
 use native.Mathlib.Omega.{arith}
-use borrow.Author.Rules.{rules}
-use Rattle.grid.specs.work.Numbered.{Does}
-use Rattle.grid.specs.work.Walks.{InSlots}
 use Rattle.grid.proofs.Turns.{does_number}
 use Rattle.grid.proofs.Places.{slot_in, slots_more, slots_none, slots_ready}
 use Rattle.grid.proofs.numbering.numbers.Goals as goal

@@ -1,9 +1,5 @@
-use Prim.Native.Nat.{◌-◌, ◌≤◌, ◌<◌}
-use mathlib.Core.Path.{◌≡◌, refl, ◌∙◌}
 use native.Mathlib.Omega.{arith}
-use lib.ListN.{length, length-set}
-use borrow.Author.Rules.{rules}
-use Rattle.grid.proofs.Passes.{Passing, passing_a, passing_b, passing_end, passing_more, passing_none}
+use Rattle.grid.proofs.Passes.{passing_a, passing_b, passing_end, passing_more, passing_none}
 use Rattle.grid.proofs.numbering.pass.Goals as goal
 
 pub loop-r-init : goal.loop-r-init

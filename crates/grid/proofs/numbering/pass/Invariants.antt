@@ -1,9 +1,5 @@
-use Prim.Native.Nat.{◌-◌, ◌≤◌, ◌<◌}
-use mathlib.Core.Path.{◌≡◌, refl, ◌∙◌}
-use native.Mathlib.Omega.{arith}
-use lib.ListN.{length, length-set}
-use borrow.Author.Rules.{rules}
-use Rattle.grid.proofs.Passes.{Passing, passing_a, passing_b, passing_end, passing_more, passing_none}
+use Prim.Native.Nat.{◌-◌}
+use Rattle.grid.proofs.Passes.{Passing}
 use Rattle.grid.proofs.numbering.pass.Given as goal
 
 abbrev pub invariant-loop-r : goal.invariant-loop-r

@@ -1,12 +1,8 @@
-use Prim.Native.Nat.{◌-◌, ◌≤◌, ◌*◌}
 use mathlib.Core.Path.{◌≡◌, ap}
 use native.Mathlib.Omega.{arith}
 use lib.ListN.{length, length-set}
-use Rattle.counting.specs.Stored.{filled}
 use Rattle.counting.proofs.Stored.{filled_none, length_filled}
-use Rattle.grid.specs.work.Walks.{corner}
 use Rattle.grid.proofs.Tellings.{thirds_more}
-use borrow.Author.Rules.{rules}
 use Rattle.grid.proofs.numbering.thirds.Goals as goal
 
 pub loop-c-init : goal.loop-c-init

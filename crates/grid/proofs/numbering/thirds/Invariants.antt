@@ -1,12 +1,7 @@
 use Prim.Native.Nat.{◌-◌, ◌≤◌, ◌*◌}
-use mathlib.Core.Path.{◌≡◌, ap}
-use native.Mathlib.Omega.{arith}
-use lib.ListN.{length, length-set}
+use mathlib.Core.Path.{◌≡◌}
 use Rattle.counting.specs.Stored.{filled}
-use Rattle.counting.proofs.Stored.{filled_none, length_filled}
 use Rattle.grid.specs.work.Walks.{corner}
-use Rattle.grid.proofs.Tellings.{thirds_more}
-use borrow.Author.Rules.{rules}
 use Rattle.grid.proofs.numbering.thirds.Given as goal
 
 abbrev pub invariant-loop-c : goal.invariant-loop-c

@@ -1,6 +1,5 @@
 use native.Mathlib.Omega.{arith}
-use Rattle.grid.proofs.Places.{Walking, walking_empty, walking_end, walking_less, walking_lt, walking_more, walking_ready, walking_start}
-use borrow.Author.Rules.{rules}
+use Rattle.grid.proofs.Places.{walking_empty, walking_end, walking_less, walking_lt, walking_more, walking_ready, walking_start}
 use Rattle.grid.proofs.numbering.walk.Goals as goal
 
 pub returns-then-to-from : goal.returns-then-to-from

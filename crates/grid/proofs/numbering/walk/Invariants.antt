@@ -1,6 +1,4 @@
-use native.Mathlib.Omega.{arith}
-use Rattle.grid.proofs.Places.{Walking, walking_empty, walking_end, walking_less, walking_lt, walking_more, walking_ready, walking_start}
-use borrow.Author.Rules.{rules}
+use Rattle.grid.proofs.Places.{Walking}
 use Rattle.grid.proofs.numbering.walk.Given as goal
 
 abbrev pub invariant-loop-j : goal.invariant-loop-j

@@ -1,9 +1,7 @@
-use Prim.Native.Nat.{◌-◌}
-use mathlib.Core.Path.{◌∙◌, ◌≡◌, ap, refl}
+use mathlib.Core.Path.{◌∙◌, ap, refl}
 use native.Mathlib.Omega.{arith}
 use lib.ListN.{length, length-set}
-use Rattle.grid.proofs.Laying.{Clearing, clearing_end, clearing_more}
-use borrow.Author.Rules.{rules}
+use Rattle.grid.proofs.Laying.{clearing_end, clearing_more}
 use Rattle.grid.proofs.runs.clear_run.Goals as goal
 
 pub loop-e-init : goal.loop-e-init

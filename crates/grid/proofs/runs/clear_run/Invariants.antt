@@ -1,9 +1,7 @@
 use Prim.Native.Nat.{◌-◌}
-use mathlib.Core.Path.{◌∙◌, ◌≡◌, ap, refl}
-use native.Mathlib.Omega.{arith}
-use lib.ListN.{length, length-set}
-use Rattle.grid.proofs.Laying.{Clearing, clearing_end, clearing_more}
-use borrow.Author.Rules.{rules}
+use mathlib.Core.Path.{◌≡◌}
+use lib.ListN.{length}
+use Rattle.grid.proofs.Laying.{Clearing}
 use Rattle.grid.proofs.runs.clear_run.Given as goal
 
 abbrev pub invariant-loop-e : goal.invariant-loop-e

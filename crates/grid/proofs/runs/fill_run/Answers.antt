@@ -1,7 +1,5 @@
-use Prim.Native.Nat.{◌-◌}
 use native.Mathlib.Omega.{arith}
-use Rattle.grid.proofs.Laying.{Filling, filling_end, filling_more, filling_start, filling_stop}
-use borrow.Author.Rules.{rules}
+use Rattle.grid.proofs.Laying.{filling_end, filling_more, filling_start, filling_stop}
 use Rattle.grid.proofs.runs.fill_run.Goals as goal
 
 pub overflow_mul-u : goal.overflow_mul-u

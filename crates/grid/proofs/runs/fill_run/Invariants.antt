@@ -1,7 +1,5 @@
 use Prim.Native.Nat.{◌-◌}
-use native.Mathlib.Omega.{arith}
-use Rattle.grid.proofs.Laying.{Filling, filling_end, filling_more, filling_start, filling_stop}
-use borrow.Author.Rules.{rules}
+use Rattle.grid.proofs.Laying.{Filling}
 use Rattle.grid.proofs.runs.fill_run.Given as goal
 
 abbrev pub invariant-loop-e : goal.invariant-loop-e

@@ -1,8 +1,6 @@
-use Prim.Native.Nat.{◌-◌}
 use mathlib.Core.Path.{◌∙◌, refl}
 use native.Mathlib.Omega.{arith}
-use Rattle.grid.proofs.Laying.{PlacingSides, placing_clearable, placing_end, placing_fillable, placing_more, placing_start, placing_stop, placing_turnable}
-use borrow.Author.Rules.{rules}
+use Rattle.grid.proofs.Laying.{placing_clearable, placing_end, placing_fillable, placing_more, placing_start, placing_stop, placing_turnable}
 use Rattle.grid.proofs.runs.place_sides.Goals as goal
 
 pub overflow_mul-cap : goal.overflow_mul-cap

@@ -1,8 +1,5 @@
 use Prim.Native.Nat.{◌-◌}
-use mathlib.Core.Path.{◌∙◌, refl}
-use native.Mathlib.Omega.{arith}
-use Rattle.grid.proofs.Laying.{PlacingSides, placing_clearable, placing_end, placing_fillable, placing_more, placing_start, placing_stop, placing_turnable}
-use borrow.Author.Rules.{rules}
+use Rattle.grid.proofs.Laying.{PlacingSides}
 use Rattle.grid.proofs.runs.place_sides.Given as goal
 
 abbrev pub invariant-loop-e : goal.invariant-loop-e

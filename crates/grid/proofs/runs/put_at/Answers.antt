@@ -1,6 +1,5 @@
 use mathlib.Core.Path.{sym}
 use Rattle.grid.proofs.Laying.{set_beyond}
-use borrow.Author.Rules.{rules}
 use Rattle.grid.proofs.runs.put_at.Goals as goal
 
 pub returns-then-tab-v : goal.returns-then-tab-v

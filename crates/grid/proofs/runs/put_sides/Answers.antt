@@ -1,10 +1,6 @@
-use Prim.Native.Nat.{◌-◌, ◌≤◌}
-use mathlib.Core.Path.{◌∙◌, ◌≡◌, ap, refl}
+use mathlib.Core.Path.{refl}
 use native.Mathlib.Omega.{arith}
-use lib.ListN.{length}
-use Rattle.grid.specs.work.Runs.{InCell, Lays}
 use Rattle.grid.proofs.Laying.{lays_none, lays_one, putting_end, putting_more}
-use borrow.Author.Rules.{rules}
 use Rattle.grid.proofs.runs.put_sides.Goals as goal
 
 pub loop-k-init : goal.loop-k-init

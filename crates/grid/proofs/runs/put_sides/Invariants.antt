@@ -1,10 +1,5 @@
 use Prim.Native.Nat.{◌-◌, ◌≤◌}
-use mathlib.Core.Path.{◌∙◌, ◌≡◌, ap, refl}
-use native.Mathlib.Omega.{arith}
-use lib.ListN.{length}
 use Rattle.grid.specs.work.Runs.{InCell, Lays}
-use Rattle.grid.proofs.Laying.{lays_none, lays_one, putting_end, putting_more}
-use borrow.Author.Rules.{rules}
 use Rattle.grid.proofs.runs.put_sides.Given as goal
 
 abbrev pub invariant-loop-k : goal.invariant-loop-k

@@ -1,7 +1,6 @@
 use native.Mathlib.Omega.{arith}
 use mathlib.Core.Path.{◌∙◌, refl}
 use Rattle.grid.proofs.Laying.{turn_lays, turn_walkable}
-use borrow.Author.Rules.{rules}
 use Rattle.grid.proofs.runs.turn_sides.Goals as goal
 
 pub offset_bounds-ranks-u : goal.offset_bounds-ranks-u

@@ -1,6 +1,5 @@
 use native.Mathlib.Omega.{arith}
-use Rattle.grid.proofs.Laying.{WalkingSides, along_end, along_less, along_lt, along_more, along_puttable, along_start}
-use borrow.Author.Rules.{rules}
+use Rattle.grid.proofs.Laying.{along_end, along_less, along_lt, along_more, along_puttable, along_start}
 use Rattle.grid.proofs.runs.walk_sides.Goals as goal
 
 pub offset_bounds-head-r : goal.offset_bounds-head-r

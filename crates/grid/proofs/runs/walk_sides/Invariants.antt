@@ -1,6 +1,4 @@
-use native.Mathlib.Omega.{arith}
-use Rattle.grid.proofs.Laying.{WalkingSides, along_end, along_less, along_lt, along_more, along_puttable, along_start}
-use borrow.Author.Rules.{rules}
+use Rattle.grid.proofs.Laying.{WalkingSides}
 use Rattle.grid.proofs.runs.walk_sides.Given as goal
 
 abbrev pub invariant-loop-j : goal.invariant-loop-j

@@ -1,4 +1,3 @@
-use borrow.Author.Rules.{rules}
 use Rattle.counting.specs.work.Tables.{same_key}
 use Rattle.trees.specs.work.Trees.{has_key}
 use Rattle.trees.specs.work.Keys.{pair_has, pair_lacks, paired_at, place_room}

@@ -1,5 +1,4 @@
 use native.Mathlib.Omega.{arith}
-use borrow.Author.Rules.{rules}
 use Rattle.grid.proofs.Filled.{lower_none, lower_other, lower_own}
 use Rattle.grid.proofs.tables.lower.Goals as goal
 

@@ -1,13 +1,8 @@
-use Prim.Native.Nat.{ℕ, ◌-◌, ◌≤◌}
-use mathlib.Core.Path.{◌∙◌, ◌≡◌, ap}
-use native.Mathlib.Omega.{arith}
+use Prim.Native.Nat.{◌-◌, ◌≤◌}
+use mathlib.Core.Path.{◌≡◌}
 use lib.ListN.{length}
-use borrow.Author.Rules.{rules}
 use Rattle.counting.specs.Stored.{filled}
-use Rattle.counting.proofs.Tables.{table_filled}
-use Rattle.counting.proofs.Stored.{filled_more, length_filled}
 use Rattle.grid.specs.Grid.{start}
-use Rattle.grid.proofs.Crossings.{start_mono, start_next}
 use Rattle.grid.proofs.tables.write_starts.Given as goal
 
 abbrev pub invariant-loop-e : goal.invariant-loop-e

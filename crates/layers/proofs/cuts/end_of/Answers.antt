@@ -1,7 +1,6 @@
 use mathlib.Core.Path.{◌∙◌}
 use native.Mathlib.Omega.{arith}
 use Rattle.layers.proofs.Steps.{end_cut, end_last}
-use borrow.Author.Rules.{rules}
 use Rattle.layers.proofs.cuts.end_of.Goals as goal
 
 pub returns-then-r-cuts : goal.returns-then-r-cuts

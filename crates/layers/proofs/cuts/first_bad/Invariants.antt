@@ -1,13 +1,9 @@
 use Prim.Native.Nat.{◌-◌, ◌≤◌}
-use mathlib.Core.Path.{◌∙◌, ◌≡◌, refl, sym}
-use native.Mathlib.Omega.{arith}
+use mathlib.Core.Path.{◌≡◌}
 use lib.ListN.{length}
 use Rattle.counting.specs.Search.{first}
 use Rattle.counting.specs.Lists.{seek}
-use Rattle.counting.proofs.Search.{seek_start, seek_hit, seek_miss, seek_end}
 use Rattle.layers.specs.Cuts.{run_start, bad_cut}
-use Rattle.layers.proofs.Steps.{bad_low, bad_high, not_bad, start_next}
-use borrow.Author.Rules.{rules}
 use Rattle.layers.proofs.cuts.first_bad.Given as goal
 
 abbrev pub invariant-loop-i : goal.invariant-loop-i

@@ -1,6 +1,5 @@
 use mathlib.Core.Path.{◌∙◌}
 use Rattle.layers.proofs.Steps.{start_later}
-use borrow.Author.Rules.{rules}
 use Rattle.layers.proofs.cuts.start_of.Goals as goal
 
 pub returns : goal.returns

@@ -1,12 +1,8 @@
-use Prim.Native.Nat.{ℕ, ◌+◌, ◌*◌, ◌-◌, ◌≤◌}
-use mathlib.Core.Path.{◌≡◌, ap, ap₂, ◌∙◌}
-use native.Mathlib.Omega.{arith}
-use lib.ListN.{length}
-use lib.Seq.{sets, length-sets}
-use borrow.Author.Rules.{rules}
+use Prim.Native.Nat.{◌+◌, ◌*◌, ◌-◌, ◌≤◌}
+use mathlib.Core.Path.{◌≡◌}
+use lib.Seq.{sets}
 use Rattle.counting.specs.Lists.{values}
 use Rattle.layers.specs.work.Work.{marked_start}
-use Rattle.layers.proofs.Steps.{sum_more, block_none, block_more}
 use Rattle.layers.proofs.tables.add_block.Given as goal
 
 abbrev pub invariant-loop-e : goal.invariant-loop-e

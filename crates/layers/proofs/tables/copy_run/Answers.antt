@@ -1,6 +1,5 @@
 use native.Mathlib.Omega.{arith}
 use Rattle.layers.proofs.Steps.{copied_run}
-use borrow.Author.Rules.{rules}
 use Rattle.layers.proofs.tables.copy_run.Goals as goal
 
 pub returns : goal.returns

@@ -1,10 +1,5 @@
 use Prim.Native.Nat.{◌-◌, ◌≤◌}
-use mathlib.Core.Path.{◌≡◌, ◌∙◌, subst}
-use native.Mathlib.Omega.{arith}
-use lib.ListN.{length-set}
-use borrow.Author.Rules.{rules}
 use Rattle.layers.specs.work.Work.{EdgesMarked}
-use Rattle.layers.proofs.Steps.{marked_none, marked_more}
 use Rattle.layers.proofs.tables.mark.Given as goal
 
 abbrev pub invariant-loop-j : goal.invariant-loop-j

@@ -1,6 +1,5 @@
 use native.Mathlib.Omega.{arith}
 use Rattle.layers.proofs.Steps.{started_run}
-use borrow.Author.Rules.{rules}
 use Rattle.layers.proofs.tables.start_run.Goals as goal
 
 pub mark-requires : goal.mark-requires

@@ -1,4 +1,4 @@
-use Prim.Native.Nat.{ℕ, ◌+◌, ◌*◌, ◌-◌, ◌≤◌}
+use Prim.Native.Nat.{ℕ, ◌+◌, ◌*◌, ◌-◌}
 use lib.Dec.{leb}
 use Rattle.counting.specs.Pick.{pick}
 use mathlib.Core.Path.{◌∙◌, ◌≡◌, ap}
@@ -7,7 +7,6 @@ use lib.ListN.{length}
 use Rattle.counting.specs.Stored.{filled}
 use Rattle.counting.proofs.Stored.{filled_more, filled_none, length_filled}
 use Rattle.layers.specs.work.Work.{name_from}
-use borrow.Author.Rules.{rules}
 use Rattle.layers.proofs.Steps.{base_small}
 use Rattle.layers.proofs.tables.write_names.Goals as goal
 

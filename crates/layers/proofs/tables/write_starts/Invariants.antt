@@ -1,10 +1,7 @@
 use Prim.Native.Nat.{◌*◌, ◌-◌, ◌%◌, ◌≤◌, ◌<◌}
-use mathlib.Core.Path.{◌≡◌, refl, ◌∙◌, subst}
-use native.Mathlib.Omega.{arith}
+use mathlib.Core.Path.{◌≡◌}
 use lib.ListN.{length}
-use borrow.Author.Rules.{rules}
 use Rattle.layers.specs.work.Work.{marked_start, StartsSummed}
-use Rattle.layers.proofs.Steps.{sum_none, sum_skip, starts_none, starts_skip, starts_more, block_unmarked}
 use Rattle.layers.proofs.tables.write_starts.Given as goal
 
 abbrev pub invariant-loop-e : goal.invariant-loop-e

@@ -1,5 +1,4 @@
 use native.Mathlib.Omega.{arith}
-use borrow.Author.Rules.{rules}
 use Rattle.layers.proofs.words.cell_over.Goals as goal
 
 pub returns : goal.returns

@@ -2,7 +2,6 @@ use mathlib.Core.Path.{◌∙◌}
 use native.Mathlib.Omega.{arith}
 use borrow.Author.Tests.{lt-ltb, le-ltb}
 use Rattle.split.specs.Limits.{first_inner_crossing}
-use borrow.Author.Rules.{rules}
 use Rattle.layers.proofs.words.crossing_over.Goals as goal
 
 pub returns-then-g-ge-FIRST_CROSSING : goal.returns-then-g-ge-FIRST_CROSSING

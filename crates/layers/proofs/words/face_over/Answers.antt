@@ -5,7 +5,6 @@ use lib.ListN.{get_or}
 use borrow.Author.Tests.{lt-ltb, le-ltb}
 use Rattle.slots.specs.Limits.{most_slots}
 use Rattle.split.specs.Limits.{first_inner_face}
-use borrow.Author.Rules.{rules}
 use Rattle.layers.proofs.words.face_over.Goals as goal
 
 pub returns-then-f-ge-FIRST_FACE : goal.returns-then-f-ge-FIRST_FACE

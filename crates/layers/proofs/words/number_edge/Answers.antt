@@ -1,4 +1,4 @@
-use Prim.Native.Nat.{ℕ, ◌+◌, ◌-◌, ◌≤◌}
+use Prim.Native.Nat.{ℕ, ◌+◌}
 use mathlib.Core.Path.{◌≡◌, refl, ap, ◌∙◌}
 use native.Mathlib.Omega.{arith}
 use lib.ListN.{length}
@@ -6,7 +6,6 @@ use lib.Seq.{sets, length-sets}
 use Rattle.counting.specs.Lists.{values}
 use Rattle.counting.proofs.Stored.{sets_more}
 use Rattle.layers.proofs.Namings.{sets_none}
-use borrow.Author.Rules.{rules}
 use Rattle.layers.proofs.words.number_edge.Goals as goal
 
 pub loop-i-init : goal.loop-i-init

@@ -1,12 +1,11 @@
-use Prim.Native.Nat.{ℕ, ◌+◌, ◌*◌, ◌-◌, ◌≤◌, ◌<◌}
+use Prim.Native.Nat.{◌+◌, ◌*◌, ◌<◌}
 use mathlib.Core.Path.{◌≡◌, refl, sym, ap, ap₂, ◌∙◌}
 use native.Mathlib.Omega.{arith}
 use lib.ListN.{length, get_or}
 use lib.Seq.{sets, length-sets}
 use Rattle.counting.specs.Lists.{values}
-use Rattle.layers.specs.work.Work.{side_from, own_at, side_count, most_numbers, Leading, CrossingsNumbered}
+use Rattle.layers.specs.work.Work.{side_from, own_at, side_count}
 use Rattle.layers.proofs.Namings.{numbered_none, numbered_more}
-use borrow.Author.Rules.{rules}
 use Rattle.layers.proofs.words.number_sides.Goals as goal
 
 pub overflow_mul-n : goal.overflow_mul-n

@@ -1,12 +1,7 @@
-use Prim.Native.Nat.{ℕ, ◌+◌, ◌*◌, ◌-◌, ◌≤◌, ◌<◌}
-use mathlib.Core.Path.{◌≡◌, refl, sym, ap, ap₂, ◌∙◌}
-use native.Mathlib.Omega.{arith}
-use lib.ListN.{length, get_or}
-use lib.Seq.{sets, length-sets}
-use Rattle.counting.specs.Lists.{values}
-use Rattle.layers.specs.work.Work.{side_from, own_at, side_count, most_numbers, Leading, CrossingsNumbered}
-use Rattle.layers.proofs.Namings.{numbered_none, numbered_more}
-use borrow.Author.Rules.{rules}
+use Prim.Native.Nat.{ℕ, ◌*◌, ◌-◌, ◌≤◌}
+use mathlib.Core.Path.{◌≡◌}
+use lib.ListN.{length}
+use Rattle.layers.specs.work.Work.{most_numbers, Leading, CrossingsNumbered}
 use Rattle.layers.proofs.words.number_sides.Given as goal
 
 abbrev pub invariant-loop-j : goal.invariant-loop-j

@@ -1,13 +1,6 @@
-use Prim.Native.Nat.{ℕ, ◌-◌, ◌≤◌}
-use mathlib.Core.Path.{◌≡◌, ap, ◌∙◌}
-use native.Mathlib.Omega.{arith}
-use lib.Seq.{sets}
-use Rattle.counting.specs.Lists.{over}
+use Prim.Native.Nat.{◌-◌, ◌≤◌}
 use Rattle.counting.specs.work.Stored.{Stored}
-use Rattle.counting.proofs.Stored.{stored_none, stored_long}
 use Rattle.layers.specs.work.Work.{triangles_over, table_over}
-use Rattle.layers.proofs.Namings.{at_is, triangle_more}
-use borrow.Author.Rules.{rules}
 use Rattle.layers.proofs.words.put_over.Given as goal
 
 abbrev pub invariant-loop-t : goal.invariant-loop-t

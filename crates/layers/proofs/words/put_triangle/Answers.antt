@@ -1,4 +1,4 @@
-use Prim.Native.Nat.{ℕ, ◌+◌, ◌-◌, ◌≤◌}
+use Prim.Native.Nat.{ℕ, ◌+◌}
 use mathlib.Core.Path.{◌≡◌, refl, ap, ap₂, ◌∙◌}
 use native.Mathlib.Omega.{arith}
 use lib.ListN.{length}
@@ -6,9 +6,8 @@ use lib.Seq.{sets, length-sets}
 use Rattle.counting.specs.Lists.{values}
 use Rattle.counting.proofs.Stored.{sets_more}
 use Rattle.cell.specs.Words.{word_count}
-use Rattle.layers.specs.work.Work.{table_over, word_before, word_over}
+use Rattle.layers.specs.work.Work.{table_over, word_over}
 use Rattle.layers.proofs.Namings.{put, word_there, before_next, sets_none}
-use borrow.Author.Rules.{rules}
 use Rattle.layers.proofs.words.put_triangle.Goals as goal
 
 pub loop-j-init : goal.loop-j-init

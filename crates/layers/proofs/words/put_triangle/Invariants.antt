@@ -1,14 +1,10 @@
-use Prim.Native.Nat.{ℕ, ◌+◌, ◌-◌, ◌≤◌}
-use mathlib.Core.Path.{◌≡◌, refl, ap, ap₂, ◌∙◌}
-use native.Mathlib.Omega.{arith}
-use lib.ListN.{length}
-use lib.Seq.{sets, length-sets}
+use Prim.Native.Nat.{◌-◌, ◌≤◌}
+use mathlib.Core.Path.{◌≡◌}
+use lib.Seq.{sets}
 use Rattle.counting.specs.Lists.{values}
-use Rattle.counting.proofs.Stored.{sets_more}
 use Rattle.cell.specs.Words.{word_count}
-use Rattle.layers.specs.work.Work.{table_over, word_before, word_over}
-use Rattle.layers.proofs.Namings.{put, word_there, before_next, sets_none}
-use borrow.Author.Rules.{rules}
+use Rattle.layers.specs.work.Work.{table_over, word_before}
+use Rattle.layers.proofs.Namings.{put}
 use Rattle.layers.proofs.words.put_triangle.Given as goal
 
 abbrev pub invariant-loop-j : goal.invariant-loop-j

@@ -2,7 +2,6 @@ use mathlib.Core.Path.{◌∙◌}
 use native.Mathlib.Omega.{arith}
 use Rattle.layers.specs.Runs.{keep_inner}
 use Rattle.layers.proofs.Namings.{word_cell, word_crossing, word_face, word_inner, word_lower}
-use borrow.Author.Rules.{rules}
 use Rattle.layers.proofs.words.word_over.Goals as goal
 
 pub returns-then-j-eq0 : goal.returns-then-j-eq0

@@ -1,12 +1,8 @@
 use borrow.Author.Rules.{rules}
 use native.Mathlib.Omega.{arith}
-use Prim.Native.Nat.{◌+◌, ◌-◌, ◌*◌, ◌≤◌}
-use mathlib.Core.Path.{◌≡◌, refl, ap}
-use lib.ListN.{length}
+use mathlib.Core.Path.{refl, ap}
 use Rattle.counting.specs.Lists.{over}
-use Rattle.counting.specs.work.Stored.{Stored}
 use Rattle.counting.proofs.Stored.{stored_none, stored_as, stored_more}
-use Rattle.listing.specs.work.Text.{line_room}
 use Rattle.listing.specs.Text.{line}
 use Rattle.listing.proofs.lines.put_lines.Goals as goal
 

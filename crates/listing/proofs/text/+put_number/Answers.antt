@@ -1,7 +1,5 @@
 use Rattle.listing.proofs.Numbers.{length_one, length_last, number_one, number_last}
-use Prim.Native.Nat.{ℕ, ◌<◌}
 use native.Mathlib.Omega.{arith}
-use borrow.Author.Rules.{rules}
 use Rattle.listing.proofs.text.+put_number.Goals as goal
 
 pub bounds-out-at : goal.bounds-out-at

@@ -1,4 +1,3 @@
-use Prim.Native.Nat.{ℕ, ◌<◌}
 use Rattle.listing.proofs.text.+put_number.Given as goal
 
 abbrev pub decreases-put_number : goal.decreases-put_number

@@ -1,4 +1,3 @@
-use borrow.Author.Rules.{rules}
 use native.Mathlib.Omega.{arith}
 use Rattle.listing.proofs.Digits.{decimal_64}
 use Rattle.counting.proofs.Stored.{stored_then}

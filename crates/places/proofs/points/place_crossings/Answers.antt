@@ -1,12 +1,10 @@
 use native.Mathlib.Omega.{arith}
-use Prim.Native.Nat.{◌-◌, ◌*◌, ◌≤◌}
 use mathlib.Core.Path.{◌≡◌, sym, ap, ◌∙◌}
 use lib.ListN.{length}
 use lib.Seq.{sets}
 use Rattle.counting.specs.Lists.{values}
-use Rattle.counting.specs.work.Stored.{Stored}
 use Rattle.counting.proofs.Stored.{stored_long}
-use Rattle.place.specs.Place.{coordinates, place_at, all_numbers}
+use Rattle.place.specs.Place.{place_at, all_numbers}
 use Rattle.grid.specs.Grid.{start}
 use Rattle.grid.proofs.Crossings.{start_next, start_zero}
 use Rattle.places.specs.Points.{crossing_place}

@@ -1,11 +1,7 @@
-use native.Mathlib.Omega.{arith}
 use Prim.Native.Nat.{◌+◌, ◌-◌, ◌*◌, ◌≤◌}
-use mathlib.Core.Path.{◌≡◌}
 use Rattle.counting.specs.work.Stored.{Stored}
-use Rattle.counting.proofs.Stored.{stored_long}
 use Rattle.place.specs.Place.{coordinates, all_numbers}
 use Rattle.places.specs.work.Work.{on_edge}
-use Rattle.places.proofs.Crossings.{edge_none, edge_more}
 use Rattle.places.proofs.points.place_edge.Given as goal
 
 abbrev pub invariant-loop-i : goal.invariant-loop-i

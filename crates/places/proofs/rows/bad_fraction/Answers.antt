@@ -1,7 +1,6 @@
 use mathlib.Core.Path.{◌∙◌, sym}
 use borrow.Author.Tests.{not-true, not-false}
 use Rattle.places.proofs.Fractions.{improper, leading, following}
-use borrow.Author.Rules.{rules}
 use Rattle.places.proofs.rows.bad_fraction.Goals as goal
 
 pub returns-then-not-is_proper : goal.returns-then-not-is_proper

@@ -1,7 +1,6 @@
 use mathlib.Core.Path.{◌∙◌, ap}
 use mathlib.Core.Bool.{not}
 use Rattle.places.proofs.Marks.{number_marked, number_free}
-use borrow.Author.Rules.{rules}
 use Rattle.places.proofs.rows.bad_number.Goals as goal
 
 pub returns-then-used-v-eq1 : goal.returns-then-used-v-eq1

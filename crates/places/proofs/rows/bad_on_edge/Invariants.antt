@@ -1,11 +1,8 @@
 use Prim.Native.Nat.{◌+◌, ◌-◌, ◌≤◌}
-use mathlib.Core.Path.{◌∙◌, ◌≡◌, sym}
-use native.Mathlib.Omega.{arith}
+use mathlib.Core.Path.{◌≡◌}
 use Rattle.counting.specs.Search.{first}
 use Rattle.counting.specs.Lists.{seek}
-use Rattle.counting.proofs.Search.{seek_end, seek_hit, seek_miss, seek_start}
 use Rattle.places.specs.Rows.{bad_fraction_at}
-use borrow.Author.Rules.{rules}
 use Rattle.places.proofs.rows.bad_on_edge.Given as goal
 
 abbrev pub invariant-loop-i : goal.invariant-loop-i

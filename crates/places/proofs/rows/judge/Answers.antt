@@ -1,6 +1,5 @@
 use native.Mathlib.Omega.{arith}
 use Rattle.places.proofs.Judged.{end_small, table_reaches, short_nodes, other_fractions, short_area, bad_number_found, bad_fraction_found, none_found}
-use borrow.Author.Rules.{rules}
 use Rattle.places.proofs.rows.judge.Goals as goal
 
 pub overflow_mul-end : goal.overflow_mul-end

@@ -1,10 +1,8 @@
-use Prim.Native.Nat.{◌-◌, ◌≤◌}
 use mathlib.Core.Path.{◌∙◌, ◌≡◌, refl, sym, ap}
 use native.Mathlib.Omega.{arith}
 use lib.ListN.{length}
-use Rattle.grid.proofs.Nodes.{Noted, noted_none, noted_more}
+use Rattle.grid.proofs.Nodes.{noted_none, noted_more}
 use Rattle.places.proofs.Marks.{marked}
-use borrow.Author.Rules.{rules}
 use Rattle.places.proofs.rows.mark.Goals as goal
 
 pub loop-j-init : goal.loop-j-init

@@ -1,10 +1,6 @@
 use Prim.Native.Nat.{◌-◌, ◌≤◌}
-use mathlib.Core.Path.{◌∙◌, ◌≡◌, refl, sym, ap}
-use native.Mathlib.Omega.{arith}
 use lib.ListN.{length}
-use Rattle.grid.proofs.Nodes.{Noted, noted_none, noted_more}
-use Rattle.places.proofs.Marks.{marked}
-use borrow.Author.Rules.{rules}
+use Rattle.grid.proofs.Nodes.{Noted}
 use Rattle.places.proofs.rows.mark.Given as goal
 
 abbrev pub invariant-loop-j : goal.invariant-loop-j

@@ -1,12 +1,9 @@
-use Prim.Native.Nat.{◌≤◌}
 use mathlib.Core.Path.{◌∙◌, ◌≡◌, refl, sym, ap}
 use native.Mathlib.Omega.{arith}
-use lib.ListN.{length}
 use Rattle.counting.specs.Search.{last}
 use Rattle.counting.proofs.Search.{last_none}
 use Rattle.places.specs.work.Work.{is_marked}
 use Rattle.places.proofs.Marks.{end_here, end_below}
-use borrow.Author.Rules.{rules}
 use Rattle.places.proofs.rows.marked_end.Goals as goal
 
 pub loop-n-init : goal.loop-n-init

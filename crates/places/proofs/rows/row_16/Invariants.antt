@@ -1,12 +1,8 @@
-use Prim.Native.Nat.{◌-◌, ◌*◌, ◌≤◌}
-use mathlib.Core.Path.{◌∙◌, ◌≡◌, sym}
-use native.Mathlib.Omega.{arith}
+use Prim.Native.Nat.{◌-◌, ◌≤◌}
+use mathlib.Core.Path.{◌≡◌}
 use Rattle.counting.specs.Search.{first}
 use Rattle.counting.specs.Lists.{seek}
-use Rattle.counting.proofs.Search.{seek_end, seek_hit, seek_miss, seek_start}
-use Rattle.place.specs.Place.{coordinates}
 use Rattle.places.specs.work.Work.{bad_marked}
-use borrow.Author.Rules.{rules}
 use Rattle.places.proofs.rows.row_16.Given as goal
 
 abbrev pub invariant-loop-i : goal.invariant-loop-i

@@ -1,11 +1,9 @@
-use Prim.Native.Nat.{◌-◌, ◌≤◌}
 use mathlib.Core.Path.{◌∙◌, ◌≡◌, ap, sym}
 use native.Mathlib.Omega.{arith}
 use lib.ListN.{length}
 use Rattle.grid.specs.Grid.{start}
 use Rattle.grid.proofs.Crossings.{start_next, start_zero}
-use Rattle.places.proofs.Fractions.{Fine, start_fits, fault_found, fine_on, fine_none, fine_end}
-use borrow.Author.Rules.{rules}
+use Rattle.places.proofs.Fractions.{start_fits, fault_found, fine_on, fine_none, fine_end}
 use Rattle.places.proofs.rows.row_17.Goals as goal
 
 pub loop-e-init : goal.loop-e-init

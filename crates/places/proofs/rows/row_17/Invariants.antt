@@ -1,11 +1,8 @@
 use Prim.Native.Nat.{◌-◌, ◌≤◌}
-use mathlib.Core.Path.{◌∙◌, ◌≡◌, ap, sym}
-use native.Mathlib.Omega.{arith}
+use mathlib.Core.Path.{◌≡◌}
 use lib.ListN.{length}
 use Rattle.grid.specs.Grid.{start}
-use Rattle.grid.proofs.Crossings.{start_next, start_zero}
-use Rattle.places.proofs.Fractions.{Fine, start_fits, fault_found, fine_on, fine_none, fine_end}
-use borrow.Author.Rules.{rules}
+use Rattle.places.proofs.Fractions.{Fine}
 use Rattle.places.proofs.rows.row_17.Given as goal
 
 abbrev pub invariant-loop-e : goal.invariant-loop-e

@@ -1,9 +1,7 @@
 use Prim.Native.Nat.{◌/◌}
-use mathlib.Core.Path.{◌≡◌, sym, ap, ◌∙◌}
+use mathlib.Core.Path.{sym, ap, ◌∙◌}
 use native.Mathlib.Omega.{arith}
-use lib.ListN.{get_or}
-use borrow.Author.Rules.{rules}
-use Rattle.shading.proofs.Forests.{Finding, finding_none, finding_more, finding_end}
+use Rattle.shading.proofs.Forests.{finding_none, finding_more, finding_end}
 use Rattle.shading.proofs.links.find.Goals as goal
 
 pub bounds-links-x : goal.bounds-links-x

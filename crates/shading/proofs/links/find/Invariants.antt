@@ -1,9 +1,7 @@
 use Prim.Native.Nat.{◌/◌}
-use mathlib.Core.Path.{◌≡◌, sym, ap, ◌∙◌}
-use native.Mathlib.Omega.{arith}
+use mathlib.Core.Path.{◌≡◌}
 use lib.ListN.{get_or}
-use borrow.Author.Rules.{rules}
-use Rattle.shading.proofs.Forests.{Finding, finding_none, finding_more, finding_end}
+use Rattle.shading.proofs.Forests.{Finding}
 use Rattle.shading.proofs.links.find.Given as goal
 
 abbrev pub invariant-loop-p : goal.invariant-loop-p

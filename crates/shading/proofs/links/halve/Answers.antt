@@ -1,6 +1,5 @@
 use native.Mathlib.Omega.{arith}
 use Rattle.shading.proofs.Forests.{parent_within, new_fits, halved_as}
-use borrow.Author.Rules.{rules}
 use Rattle.shading.proofs.links.halve.Goals as goal
 
 pub bounds-links-y : goal.bounds-links-y

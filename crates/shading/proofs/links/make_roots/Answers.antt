@@ -1,9 +1,8 @@
-use Prim.Native.Nat.{◌*◌, ◌-◌, ◌≤◌}
+use Prim.Native.Nat.{◌*◌}
 use mathlib.Core.Path.{◌≡◌, sym, ap, ◌∙◌}
 use native.Mathlib.Omega.{arith}
 use lib.ListN.{length}
-use borrow.Author.Rules.{rules}
-use Rattle.grid.proofs.Nodes.{Noted, noted_none, noted_more, noted_all}
+use Rattle.grid.proofs.Nodes.{noted_none, noted_more, noted_all}
 use Rattle.shading.specs.work.Work.{no_link}
 use Rattle.shading.proofs.links.make_roots.Goals as goal
 

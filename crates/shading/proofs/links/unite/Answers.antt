@@ -1,7 +1,6 @@
 use mathlib.Core.Path.{sym, ◌∙◌}
 use native.Mathlib.Omega.{arith}
 use lib.ListN.{length-set}
-use borrow.Author.Rules.{rules}
 use Rattle.shading.proofs.Ties.{united_one, united_lower, united_higher}
 use Rattle.shading.proofs.links.unite.Goals as goal
 

@@ -1,9 +1,7 @@
-use Prim.Native.Nat.{◌-◌, ◌≤◌}
 use mathlib.Core.Path.{◌≡◌, refl, sym, ◌∙◌, subst}
 use native.Mathlib.Omega.{arith}
 use lib.ListN.{length}
 use borrow.Author.Tests.{not-true, not-false}
-use borrow.Author.Rules.{rules}
 use Rattle.counting.proofs.Bools.{clash}
 use Rattle.shading.specs.work.Work.{HasLink, TiedAll}
 use Rattle.shading.proofs.Ties.{tied_none, tied_more, tied_not}

@@ -1,12 +1,6 @@
 use Prim.Native.Nat.{◌-◌, ◌≤◌}
-use mathlib.Core.Path.{◌≡◌, refl, sym, ◌∙◌, subst}
-use native.Mathlib.Omega.{arith}
 use lib.ListN.{length}
-use borrow.Author.Tests.{not-true, not-false}
-use borrow.Author.Rules.{rules}
-use Rattle.counting.proofs.Bools.{clash}
-use Rattle.shading.specs.work.Work.{HasLink, TiedAll}
-use Rattle.shading.proofs.Ties.{tied_none, tied_more, tied_not}
+use Rattle.shading.specs.work.Work.{TiedAll}
 use Rattle.shading.proofs.links.unite_all.Given as goal
 
 abbrev pub invariant-loop-e : goal.invariant-loop-e

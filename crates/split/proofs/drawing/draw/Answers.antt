@@ -1,5 +1,4 @@
 use native.Mathlib.Omega.{arith}
-use borrow.Author.Rules.{rules}
 use Rattle.booking.proofs.Totals.{all_most}
 use Rattle.split.proofs.Tables.{splits_all, drawn_long}
 use Rattle.split.proofs.drawing.draw.Goals as goal

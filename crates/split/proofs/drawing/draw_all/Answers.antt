@@ -1,6 +1,4 @@
-use mathlib.Core.Logic.{⊎_elim}
 use native.Mathlib.Omega.{arith}
-use borrow.Author.Rules.{rules}
 use Rattle.cell.proofs.Fits.{no_room}
 use Rattle.booking.proofs.Totals.{all_few}
 use Rattle.split.specs.work.Table.{table_drawn}

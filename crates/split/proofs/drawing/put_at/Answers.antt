@@ -1,5 +1,4 @@
 use mathlib.Core.Path.{refl, ap}
-use borrow.Author.Rules.{rules}
 use Rattle.counting.proofs.Stored.{stored_as}
 use Rattle.cell.specs.Words.{all_words}
 use Rattle.split.specs.Parts.{drawn_triangles}

@@ -1,8 +1,6 @@
-use Prim.Native.Nat.{◌-◌, ◌≤◌}
 use mathlib.Core.Path.{sym, ap, ◌∙◌}
 use native.Mathlib.Omega.{arith}
 use Rattle.counting.specs.Lists.{total, over}
-use Rattle.counting.specs.work.Stored.{Stored}
 use Rattle.counting.proofs.Stored.{stored_none, stored_long, stored_more}
 use Rattle.cell.proofs.Storing.{words_of}
 use Rattle.split.specs.work.Gains.{splits_at}

@@ -1,12 +1,8 @@
 use Prim.Native.Nat.{◌-◌, ◌≤◌}
-use mathlib.Core.Path.{sym, ap, ◌∙◌}
-use native.Mathlib.Omega.{arith}
-use Rattle.counting.specs.Lists.{total, over}
+use Rattle.counting.specs.Lists.{over}
 use Rattle.counting.specs.work.Stored.{Stored}
-use Rattle.counting.proofs.Stored.{stored_none, stored_long, stored_more}
 use Rattle.cell.proofs.Storing.{words_of}
-use Rattle.split.specs.work.Gains.{splits_at}
-use Rattle.split.proofs.Tables.{drawn_at, next_room, stretch_room, stretch_written, all_written}
+use Rattle.split.proofs.Tables.{drawn_at}
 use Rattle.split.proofs.drawing.put_cells.Given as goal
 
 abbrev pub invariant-loop-c : goal.invariant-loop-c

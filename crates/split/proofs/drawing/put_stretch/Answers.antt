@@ -1,5 +1,4 @@
 use Prim.Native.Nat.{◌-◌}
-use borrow.Author.Rules.{rules}
 use Rattle.cell.specs.claims.Table.{table_cell}
 use Rattle.cell.proofs.Fits.{all_put}
 use Rattle.split.proofs.drawing.put_stretch.Goals as goal

@@ -1,7 +1,4 @@
-use Prim.Native.Nat.{ℕ, ◌-◌, ◌≤◌, ◌<◌}
-use mathlib.Core.Path.{◌≡◌}
 use native.Mathlib.Omega.{arith}
-use Rattle.split.specs.work.Gains.{splits_at}
 use Rattle.split.proofs.Few.{gain_at}
 use Rattle.split.proofs.Tables.{none_more}
 use Rattle.split.proofs.drawing.stretch_from.Goals as goal

@@ -1,15 +1,10 @@
 use Prim.Native.Nat.{◌-◌, ◌≤◌}
-use native.Mathlib.Omega.{arith}
-use borrow.Author.Rules.{rules}
 use Rattle.counting.specs.work.Stored.{Summed}
-use Rattle.counting.proofs.Stored.{summed_none, summed_more, summed_all}
 use Rattle.slots.specs.Limits.{most_count}
 use Rattle.cell.specs.work.Limits.{most_in_cell}
 use Rattle.cell.specs.work.Table.{table_crossings}
-use Rattle.cell.proofs.Using.{table_most}
 use Rattle.split.specs.work.Table.{most_more}
 use Rattle.split.specs.work.Gains.{splits_at, more_at}
-use Rattle.split.proofs.Few.{at_few, at_more, gain_at, crossings-at}
 use Rattle.split.proofs.drawing.sums_of.Given as goal
 
 abbrev pub invariant-loop-c : goal.invariant-loop-c

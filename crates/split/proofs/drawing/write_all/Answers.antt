@@ -1,6 +1,5 @@
 use mathlib.Core.Path.{◌∙◌}
 use native.Mathlib.Omega.{arith}
-use borrow.Author.Rules.{rules}
 use Rattle.cell.proofs.Storing.{length_all}
 use Rattle.cell.proofs.Fits.{has-room}
 use Rattle.split.specs.work.Table.{table_drawn}

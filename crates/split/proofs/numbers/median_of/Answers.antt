@@ -1,5 +1,4 @@
 use Rattle.booking.specs.Booking.{median}
-use borrow.Author.Rules.{rules}
 use Rattle.split.proofs.numbers.median_of.Goals as goal
 
 pub returns : goal.returns

@@ -1,7 +1,6 @@
 use Prim.Native.Nat.{max}
 use mathlib.Core.Path.{ap, ◌∙◌}
 use Rattle.split.proofs.Spirals.{own_listed}
-use borrow.Author.Rules.{rules}
 use Rattle.split.proofs.numbers.own_of.Goals as goal
 
 pub returns : goal.returns

@@ -1,5 +1,4 @@
 use Rattle.split.proofs.Coded.{level_listed, numbers_are}
-use borrow.Author.Rules.{rules}
 use Rattle.split.proofs.numbers.spiral_of.Goals as goal
 
 pub own_of-own-requires : goal.own_of-own-requires

@@ -1,5 +1,4 @@
-use Prim.Native.Nat.{ℕ, ◌+◌, ◌*◌, ◌<◌}
-use Rattle.place.specs.Place.{all_numbers}
+use Prim.Native.Nat.{◌+◌}
 use Rattle.cell.specs.Of.{count_of}
 use Rattle.booking.specs.Booking.{larger, smaller}
 use Rattle.split.proofs.placing.+centres_in.Given as goal

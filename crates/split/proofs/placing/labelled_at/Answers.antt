@@ -1,5 +1,4 @@
 use mathlib.Core.Path.{ap}
-use borrow.Author.Rules.{rules}
 use Rattle.split.specs.Standing.{corner_in}
 use Rattle.split.proofs.placing.labelled_at.Goals as goal
 

@@ -1,5 +1,4 @@
 use mathlib.Core.Path.{ap, ap₂, ◌∙◌}
-use borrow.Author.Rules.{rules}
 use lib.Ieee.{of_bits, of_int}
 use Rattle.place.specs.declared.Place.{Place}
 use Rattle.place.specs.Place.{float_of, added, divided, sum_to, middle}

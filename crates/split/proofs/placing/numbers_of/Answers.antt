@@ -1,5 +1,4 @@
 use native.Mathlib.Omega.{arith}
-use borrow.Author.Rules.{rules}
 use Rattle.split.proofs.Arms.{numbers_four}
 use Rattle.split.proofs.placing.numbers_of.Goals as goal
 

@@ -1,5 +1,4 @@
 use native.Mathlib.Omega.{arith}
-use borrow.Author.Rules.{rules}
 use Rattle.split.proofs.Centres.{fans_stored}
 use Rattle.split.proofs.placing.put_fans.Goals as goal
 

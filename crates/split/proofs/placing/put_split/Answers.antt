@@ -1,10 +1,9 @@
-use Prim.Native.Nat.{◌-◌, ◌≤◌}
 use mathlib.Core.Path.{◌∙◌}
 use native.Mathlib.Omega.{arith}
 use Rattle.counting.proofs.Stored.{stored_long}
 use Rattle.cell.specs.Of.{count_of}
 use Rattle.split.proofs.Coded.{sum_few}
-use Rattle.split.proofs.Arms.{Arms, arms_none, arms_room, arms_more, arms_all, spokes_told}
+use Rattle.split.proofs.Arms.{arms_none, arms_room, arms_more, arms_all, spokes_told}
 use Rattle.split.proofs.placing.put_split.Goals as goal
 
 pub new_place-a-requires : goal.new_place-a-requires

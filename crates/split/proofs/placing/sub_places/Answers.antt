@@ -1,5 +1,4 @@
 use mathlib.Core.Path.{ap, ◌∙◌}
-use borrow.Author.Rules.{rules}
 use Rattle.slots.specs.Slots.{position}
 use Rattle.split.specs.Standing.{corner_in, sub_places}
 use Rattle.split.proofs.Arms.{four_places}

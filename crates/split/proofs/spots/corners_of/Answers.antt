@@ -1,4 +1,3 @@
-use borrow.Author.Rules.{rules}
 use Rattle.counting.specs.Lists.{over}
 use Rattle.split.proofs.Arms.{four_places}
 use Rattle.split.proofs.spots.corners_of.Goals as goal

@@ -1,10 +1,6 @@
-use Prim.Native.Nat.{◌-◌, ◌≤◌}
 use mathlib.Core.Path.{refl}
 use native.Mathlib.Omega.{arith}
-use borrow.Author.Rules.{rules}
-use Rattle.counting.specs.work.Stored.{Summed}
 use Rattle.counting.proofs.Stored.{summed_none, summed_more, summed_all}
-use Rattle.split.specs.work.Spots.{most_inner, inner_in, added_in}
 use Rattle.split.proofs.Spotted.{spots_at}
 use Rattle.split.proofs.spots.extra_of.Goals as goal
 

@@ -1,5 +1,4 @@
 use mathlib.Core.Path.{ap, ◌∙◌}
-use borrow.Author.Rules.{rules}
 use Rattle.cell.specs.claims.Nests.{nest_middle}
 use Rattle.cell.specs.claims.Middles.{middles_at}
 use Rattle.split.specs.Standing.{drawn_middles}

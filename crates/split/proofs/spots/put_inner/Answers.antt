@@ -1,7 +1,6 @@
 use Prim.Native.Nat.{◌<◌}
 use mathlib.Core.Path.{sym, ◌∙◌}
 use native.Mathlib.Omega.{arith}
-use borrow.Author.Rules.{rules}
 use Rattle.split.proofs.OneCell.{drawn_left}
 use Rattle.split.proofs.Spotted.{inner_none, inner_room, inner_done, inner_short}
 use Rattle.split.proofs.spots.put_inner.Goals as goal

@@ -1,7 +1,6 @@
 use Prim.Native.Nat.{◌<◌}
 use mathlib.Core.Path.{refl, sym, ◌∙◌}
 use native.Mathlib.Omega.{arith}
-use borrow.Author.Rules.{rules}
 use Rattle.cell.specs.claims.Middles.{middles_at}
 use Rattle.split.proofs.Spotted.{drawn_spun, fans_fit, fans_done, fans_short, fans_whole}
 use Rattle.split.proofs.spots.put_middles.Goals as goal

@@ -1,6 +1,5 @@
 use mathlib.Core.Path.{refl}
 use native.Mathlib.Omega.{arith}
-use borrow.Author.Rules.{rules}
 use Rattle.split.proofs.Tables.{table_drawable}
 use Rattle.split.proofs.Spotted.{spots_none}
 use Rattle.split.proofs.spots.spots_at.Goals as goal

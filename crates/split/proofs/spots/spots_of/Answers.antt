@@ -1,6 +1,5 @@
 use mathlib.Core.Path.{refl}
 use native.Mathlib.Omega.{arith}
-use borrow.Author.Rules.{rules}
 use Rattle.split.proofs.Spotted.{drawn_sound, numbers_most, figures_fit, figures_few, spots_are}
 use Rattle.split.proofs.spots.spots_of.Goals as goal
 

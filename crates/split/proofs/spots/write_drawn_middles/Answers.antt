@@ -1,7 +1,6 @@
-use Prim.Native.Nat.{◌-◌, ◌≤◌}
-use mathlib.Core.Path.{◌≡◌, ◌∙◌}
+use mathlib.Core.Path.{◌∙◌}
 use native.Mathlib.Omega.{arith}
-use Rattle.split.specs.work.Spots.{cells_stored, middles_at_cell}
+use Rattle.split.specs.work.Spots.{middles_at_cell}
 use Rattle.split.proofs.Spotted.{cells_none, cells_more, cells_long, cells_all, stretch_middles}
 use Rattle.split.proofs.spots.write_drawn_middles.Goals as goal
 

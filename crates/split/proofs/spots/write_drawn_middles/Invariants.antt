@@ -1,8 +1,6 @@
 use Prim.Native.Nat.{◌-◌, ◌≤◌}
-use mathlib.Core.Path.{◌≡◌, ◌∙◌}
-use native.Mathlib.Omega.{arith}
+use mathlib.Core.Path.{◌≡◌}
 use Rattle.split.specs.work.Spots.{cells_stored, middles_at_cell}
-use Rattle.split.proofs.Spotted.{cells_none, cells_more, cells_long, cells_all, stretch_middles}
 use Rattle.split.proofs.spots.write_drawn_middles.Given as goal
 
 abbrev pub invariant-loop-c : goal.invariant-loop-c

@@ -1,7 +1,6 @@
 use native.Mathlib.Omega.{arith}
 use mathlib.Core.Path.{◌∙◌}
 use Rattle.split.proofs.Coded.{told_lt, sum_few, arm_told, arm_fits}
-use borrow.Author.Rules.{rules}
 use Rattle.split.proofs.subs.arm_count.Goals as goal
 
 pub spoke_count-requires : goal.spoke_count-requires

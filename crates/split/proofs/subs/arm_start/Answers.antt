@@ -2,7 +2,6 @@ use native.Mathlib.Omega.{arith}
 use Prim.Native.Nat.{◌+◌}
 use mathlib.Core.Path.{ap, ◌∙◌}
 use Rattle.split.proofs.Coded.{told_lt, sum_few, start_told}
-use borrow.Author.Rules.{rules}
 use Rattle.split.proofs.subs.arm_start.Goals as goal
 
 pub spokes_before-requires : goal.spokes_before-requires

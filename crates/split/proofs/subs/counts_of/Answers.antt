@@ -1,6 +1,5 @@
 use mathlib.Core.Path.{refl, ap, ◌∙◌}
 use Rattle.split.specs.work.Five.{arm_count, rest_count}
-use borrow.Author.Rules.{rules}
 use Rattle.split.proofs.subs.counts_of.Goals as goal
 
 pub returns : goal.returns

@@ -4,7 +4,6 @@ use mathlib.Core.Path.{sym, ap, ap₂, ◌∙◌}
 use lib.ListN.{get_or}
 use Rattle.cell.specs.Nodes.{joining}
 use Rattle.split.proofs.Coded.{ends_lt, labels_apart, name_told}
-use borrow.Author.Rules.{rules}
 use Rattle.split.proofs.subs.inner_name.Goals as goal
 
 pub joining_of-requires : goal.joining_of-requires

@@ -1,5 +1,4 @@
 use Rattle.split.proofs.Ends.{joined_first, joined_then, joined_last}
-use borrow.Author.Rules.{rules}
 use Rattle.split.proofs.subs.joining_of.Goals as goal
 
 pub returns-then-x-eq0 : goal.returns-then-x-eq0

@@ -1,6 +1,5 @@
 use mathlib.Core.Path.{refl, ap, ◌∙◌}
 use Rattle.split.specs.SubCell.{inner_name}
-use borrow.Author.Rules.{rules}
 use Rattle.split.proofs.subs.names_of.Goals as goal
 
 pub returns : goal.returns

@@ -1,6 +1,5 @@
 use native.Mathlib.Omega.{arith}
 use Rattle.split.proofs.Coded.{place-at, place_left}
-use borrow.Author.Rules.{rules}
 use Rattle.split.proofs.subs.place_of.Goals as goal
 
 pub returns-then-s-m : goal.returns-then-s-m

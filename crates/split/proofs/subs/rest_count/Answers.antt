@@ -4,7 +4,6 @@ use lib.ListN.{get_or}
 use Rattle.counting.proofs.Lists.{values_at}
 use Rattle.cell.specs.Of.{count_of}
 use Rattle.split.proofs.Coded.{rest_told}
-use borrow.Author.Rules.{rules}
 use Rattle.split.proofs.subs.rest_count.Goals as goal
 
 pub returns : goal.returns

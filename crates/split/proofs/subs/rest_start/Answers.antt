@@ -3,7 +3,6 @@ use Prim.Native.Nat.{◌+◌}
 use mathlib.Core.Path.{ap, ◌∙◌}
 use lib.ListN.{get_or}
 use Rattle.split.proofs.Coded.{from_told, from_fits}
-use borrow.Author.Rules.{rules}
 use Rattle.split.proofs.subs.rest_start.Goals as goal
 
 pub overflow_add-result : goal.overflow_add-result

@@ -2,7 +2,6 @@ use native.Mathlib.Omega.{arith}
 use mathlib.Core.Path.{ap₂, ◌∙◌}
 use Rattle.cell.specs.Nodes.{joining}
 use Rattle.split.proofs.Ends.{at_rank, slot_joins, slot_differs}
-use borrow.Author.Rules.{rules}
 use Rattle.split.proofs.subs.slot_edge.Goals as goal
 
 pub joining_of-requires : goal.joining_of-requires

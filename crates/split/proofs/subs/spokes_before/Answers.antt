@@ -1,7 +1,6 @@
 use native.Mathlib.Omega.{arith}
 use mathlib.Core.Path.{◌∙◌}
 use Rattle.split.proofs.Ends.{before_at, befores_are}
-use borrow.Author.Rules.{rules}
 use Rattle.split.proofs.subs.spokes_before.Goals as goal
 
 pub returns-then-l-eq0 : goal.returns-then-l-eq0

@@ -1,6 +1,5 @@
 use mathlib.Core.Path.{refl, ap, ◌∙◌}
 use Rattle.split.specs.SubCell.{arm_start, rest_start}
-use borrow.Author.Rules.{rules}
 use Rattle.split.proofs.subs.starts_of.Goals as goal
 
 pub returns : goal.returns

@@ -1,6 +1,5 @@
 use mathlib.Core.Path.{refl}
 use Rattle.split.specs.SubCell.{sub, sub_at}
-use borrow.Author.Rules.{rules}
 use Rattle.split.proofs.subs.sub_of.Goals as goal
 
 pub returns : goal.returns

@@ -1,9 +1,6 @@
-use Prim.Native.Nat.{ℕ, ◌-◌, ◌≤◌}
 use mathlib.Core.Path.{◌≡◌, ap, refl}
 use native.Mathlib.Omega.{arith}
 use lib.ListN.{length}
-use borrow.Author.Rules.{rules}
-use Rattle.counting.specs.Stored.{filled}
 use Rattle.counting.proofs.Stored.{filled_none, filled_more, length_filled}
 use Rattle.trees.proofs.earlier.clear.Goals as goal
 

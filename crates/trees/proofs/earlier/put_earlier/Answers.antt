@@ -3,7 +3,6 @@ use mathlib.Core.Path.{ap, ◌∙◌}
 use mathlib.Core.List.{List}
 use native.Mathlib.Omega.{arith}
 use lib.ListN.{get_or, length}
-use borrow.Author.Rules.{rules}
 use Rattle.counting.proofs.Stored.{filled_at, length_filled}
 use Rattle.trees.specs.work.Keys.{earlier_in}
 use Rattle.trees.proofs.Planted.{filled_over}

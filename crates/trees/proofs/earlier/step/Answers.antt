@@ -1,9 +1,8 @@
-use Prim.Native.Nat.{◌-◌, ◌≤◌}
-use mathlib.Core.Path.{◌≡◌, sym, ap, ◌∙◌}
+use mathlib.Core.Path.{◌≡◌}
 use native.Mathlib.Omega.{arith}
-use lib.ListN.{length, length-set}
+use lib.ListN.{length-set}
 use borrow.Author.Rules.{rules}
-use Rattle.trees.proofs.Planted.{Stepped, stepped_none, step_top, stepped_more, stepped_all}
+use Rattle.trees.proofs.Planted.{stepped_none, step_top, stepped_more, stepped_all}
 use Rattle.trees.proofs.earlier.step.Goals as goal
 
 pub loop-j-init : goal.loop-j-init

@@ -1,9 +1,7 @@
 use Prim.Native.Nat.{◌-◌, ◌≤◌}
-use mathlib.Core.Path.{◌≡◌, sym, ap, ◌∙◌}
-use native.Mathlib.Omega.{arith}
-use lib.ListN.{length, length-set}
-use borrow.Author.Rules.{rules}
-use Rattle.trees.proofs.Planted.{Stepped, stepped_none, step_top, stepped_more, stepped_all}
+use mathlib.Core.Path.{◌≡◌}
+use lib.ListN.{length}
+use Rattle.trees.proofs.Planted.{Stepped}
 use Rattle.trees.proofs.earlier.step.Given as goal
 
 abbrev pub invariant-loop-j : goal.invariant-loop-j

@@ -1,15 +1,9 @@
-use Prim.Native.Nat.{ℕ, ◌+◌, ◌-◌, ◌/◌, ◌≤◌, ◌<◌}
-use mathlib.Core.Path.{◌≡◌, refl, sym, ap, ◌∙◌}
-use native.Mathlib.Omega.{arith}
-use lib.ListN.{length, length-set}
-use borrow.Author.Rules.{rules}
+use Prim.Native.Nat.{◌-◌, ◌≤◌}
+use mathlib.Core.Path.{◌≡◌}
+use lib.ListN.{length}
 use Rattle.counting.specs.Lists.{seek}
-use Rattle.counting.proofs.Search.{seek_end, seek_hit, seek_miss, seek_start}
-use Rattle.trees.specs.work.Trees.{top_for}
-use Rattle.trees.specs.work.Keys.{key_in, pair_in, pair_lacks}
+use Rattle.trees.specs.work.Keys.{pair_lacks}
 use Rattle.trees.specs.work.Planted.{PairsMarked}
-use Rattle.trees.proofs.Trees.{top_le}
-use Rattle.trees.proofs.Planted.{marked_none, marked_skip, marked_more, lacks, lacks_not}
 use Rattle.trees.proofs.pairs.mark.Given as goal
 
 abbrev pub invariant-loop-e : goal.invariant-loop-e

@@ -1,6 +1,5 @@
 use mathlib.Core.Path.{◌∙◌}
 use native.Mathlib.Omega.{arith}
-use borrow.Author.Rules.{rules}
 use Rattle.trees.proofs.Planted.{topped, spread_all}
 use Rattle.trees.proofs.pairs.put_pairs.Goals as goal
 

@@ -1,13 +1,9 @@
-use Prim.Native.Nat.{ℕ, ◌+◌, ◌-◌, ◌≤◌, ◌<◌}
-use mathlib.Core.Path.{◌≡◌, refl}
-use native.Mathlib.Omega.{arith}
+use Prim.Native.Nat.{◌≤◌}
+use mathlib.Core.Path.{◌≡◌}
 use lib.ListN.{length}
-use borrow.Author.Rules.{rules}
 use Rattle.trees.specs.work.Trees.{Tree}
 use Rattle.trees.specs.work.Keys.{key_in}
 use Rattle.trees.specs.work.Planted.{key_branches, KeyTops}
-use Rattle.trees.proofs.Trees.{grown_none, top_le}
-use Rattle.trees.proofs.Planted.{key_tops_none, key_tops_more}
 use Rattle.trees.proofs.planting.grow.Given as goal
 
 abbrev pub invariant-loop-i : goal.invariant-loop-i

@@ -1,5 +1,4 @@
 use mathlib.Core.Path.{◌∙◌}
-use borrow.Author.Rules.{rules}
 use Rattle.trees.specs.work.Planted.{key_branches}
 use Rattle.trees.proofs.Trees.{sought_all}
 use Rattle.trees.proofs.planting.latest.Goals as goal

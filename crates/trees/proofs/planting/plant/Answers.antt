@@ -1,8 +1,7 @@
-use Prim.Native.Nat.{◌+◌, ◌<◌}
+use Prim.Native.Nat.{◌<◌}
 use mathlib.Core.Path.{◌≡◌, ◌∙◌}
 use native.Mathlib.Omega.{arith}
 use lib.ListN.{get_or}
-use borrow.Author.Rules.{rules}
 use Rattle.trees.proofs.Trees.{plant_top, plant_hit, plant_own, plant_new}
 use Rattle.trees.proofs.planting.plant.Goals as goal
 
