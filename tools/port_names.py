@@ -21,7 +21,8 @@ DECLARED = re.compile(
     r"(?m)^ *(abbrev |unfoldable )?(?:pub )?(?:pub )?(record |data )?"
     r'([^\s(){}.;,@"«»]+)((?: *[({][^\n]*?[)}])*) *: '
 )
-TAKEN = {"result": "result_of"}
+# The kit's script took ownAt of `layers` for a word of its own.
+TAKEN = {"result": "result_of", "fieldOwn": "own_at"}
 PROOFS = ("Proof.antt", "Invariants.antt", "Answers.antt")
 # what a proof knows: behind these a name is one of a step or a goal
 KNOWN = ("c", "w", "l", "goal", "tie")
@@ -89,7 +90,8 @@ def main(argv):
             continue
         if name in imported or not SPELLED.match(name):
             continue
-        out = "_".join(snake(it) for it in name.split("-"))
+        # the library's getD is get_or
+        out = "_".join(snake(it) for it in re.sub(r"^getD(?=-)", "get_or", name).split("-"))
         if out == name:
             continue
         held[name] = out

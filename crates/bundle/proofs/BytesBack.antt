@@ -13,7 +13,7 @@ use Rattle.counting.specs.Lists.{over}
 use Rattle.counting.specs.claims.Lists.{All}
 use Rattle.counting.proofs.Lists.{all_at}
 use Rattle.counting.proofs.Range.{over_ext}
-use Rattle.counting.proofs.Fronts.{over_more, get_d_blocks, first_parts}
+use Rattle.counting.proofs.Fronts.{over_more, get_or_blocks, first_parts}
 use Rattle.bundle.specs.Record.{byte_values, word_size, length_bytes, head_bytes, count_place, word, kind_at, is_wide, next_record, is_record, body_start, body_size, body}
 use Rattle.bundle.specs.Bundle.{cell_nodes, edge_ends, cell_section, edge_section, end_section, is_of, record_start, cells, edges_from, edges, looks_from, looks, stop, surviving, is_bundle, leading_words, nodes_of, ends_of, counts_of, written_over}
 use Rattle.bundle.specs.Written.{word_bytes, head_of, record_bytes, list_bytes, kind_for, count_bytes, end_record, cell_bytes, edge_bytes, bundle_bytes}
@@ -67,9 +67,9 @@ module _ (b : ℕ → List ℕ) (w n k : ℕ) (l : k < n) where
   entry : (i : ℕ) → i < w → get_or (over (λ j. leading_words w (b j)) n 0) (w * k + i) 0 ≡ word (b k) (word_size * i)
   entry i h =
       let e : i ≡ 1 * i + 0 = omega arith in
-      get_d_blocks (λ j. leading_words w (b j)) w n (λ j _. length_words w (b j)) k i 0 l h
+      get_or_blocks (λ j. leading_words w (b j)) w n (λ j _. length_words w (b j)) k i 0 l h
       ∙ ap (λ m. get_or (leading_words w (b k)) m 0) e
-      ∙ get_d_blocks (λ j. word (b k) (word_size * j) ∷ []) 1 w (λ _ _. refl) i 0 0 h (omega arith)
+      ∙ get_or_blocks (λ j. word (b k) (word_size * j) ∷ []) 1 w (λ _ _. refl) i 0 0 h (omega arith)
 
   list_back : ((j : ℕ) → get_or (b k) j 0 < byte_values) → word_size * w ≤ length (b k) → list_bytes (over (λ j. leading_words w (b j)) n 0) (w * k) w ≡ take (word_size * w) (b k)
   list_back bytes h = over_ext _ _ w 0 (λ i _ q. ap word_bytes (entry i (omega (arith, q)))) ∙ words_back (b k) bytes w h
@@ -137,7 +137,7 @@ module _ (s : List ℕ) (bytes : (k : ℕ) → get_or s k 0 < byte_values) where
       let u : list_bytes (ends_of s) (edge_ends * k) edge_ends ≡ take (word_size * edge_ends) (body s a) =
       list_back (λ j. body s (record_start s from j)) edge_ends (edges s) k h (body_bytes a) (omega (arith, n)) in
       let v : get_or (counts_of s) k 0 ≡ word (body s a) count_place =
-      ap (λ i. get_or (counts_of s) i 0) one ∙ get_d_blocks (λ j. surviving s j ∷ []) 1 (edges s) (λ _ _. refl) k 0 0 h (omega arith) ∙ count_kept s none k in
+      ap (λ i. get_or (counts_of s) i 0) one ∙ get_or_blocks (λ j. surviving s j ∷ []) 1 (edges s) (λ _ _. refl) k 0 0 h (omega arith) ∙ count_kept s none k in
       let e : list_bytes (ends_of s) (edge_ends * k) edge_ends ++ count_bytes (get_or (counts_of s) k 0) ≡ body s a =
       cc (u, v, (edge_back a o).1) ∙ take-append-drop count_place (body s a) in
       record_back s bytes a (of_record s edge_section a o) ∙ cc (e, v, (edge_back a o).0)

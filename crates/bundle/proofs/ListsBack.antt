@@ -16,7 +16,7 @@ use Rattle.counting.specs.Pick.{pick}
 use Rattle.counting.specs.Lists.{over}
 use Rattle.counting.proofs.Bools.{and_left, and_right, and_true}
 use Rattle.counting.proofs.Range.{over_ext}
-use Rattle.counting.proofs.Fronts.{get_d_blocks, over_more, over_at, in_parts, singles}
+use Rattle.counting.proofs.Fronts.{get_or_blocks, over_more, over_at, in_parts, singles}
 use Rattle.bundle.specs.Record.{byte_values, broken_row, cell_kind, end_kind, word_size, length_bytes, head_bytes, count_place, word, length_of, kind_at, count_at, is_wide, may_have, next_record, is_record, body}
 use Rattle.bundle.specs.Bundle.{cell_nodes, edge_ends, cell_section, edge_section, look_section, end_section, section_of, section_at, is_of, record_start, run, cells, edges_from, edges, looks_from, looks, stop, surviving, is_bundle, leading_words, count_in, nodes_of, ends_of, counts_of, short_row, written_over}
 use Rattle.bundle.specs.Written.{word_bytes, record_bytes, list_bytes, kind_for, count_bytes, end_record, cell_bytes, edge_bytes, bundle_bytes, is_formed, fits_area, is_written, most_named, write_answer}
@@ -137,7 +137,7 @@ words_of l t from n h = over_ext _ _ n 0 (λ i _ q. ap (λ x. x ∷ []) (entry i
     half : (i j : ℕ) → i < n → j < word_size → get_or (list_bytes l from n ++ t) (word_size * i + j) 0 ≡ get_or (f i) j 0
     half i j a b =
         get_or-append (list_bytes l from n) t 0 (word_size * i + j) (omega (arith, length_list l from n))
-        ∙ get_d_blocks f word_size n (λ _ _. refl) i j 0 a b
+        ∙ get_or_blocks f word_size n (λ _ _. refl) i j 0 a b
 
     entry : (i : ℕ) → i < n → word (list_bytes l from n ++ t) (word_size * i) ≡ get_or l (from + i) 0
     entry i a =

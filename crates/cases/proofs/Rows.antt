@@ -7,7 +7,7 @@ use native.Mathlib.Omega.{arith}
 use lib.ListN.{get_or, length, replicate, get_or-replicate}
 use Rattle.counting.specs.Lists.{over, values}
 use Rattle.counting.proofs.Lists.{values_at}
-use Rattle.counting.proofs.Fronts.{get_d_blocks}
+use Rattle.counting.proofs.Fronts.{get_or_blocks}
 use Rattle.cases.specs.claims.Cases.{entries}
 use Rattle.cases.specs.claims.Table.{row_count, table_rows, table}
 
@@ -22,7 +22,7 @@ number_at : (n i : ℕ) → n < entries → i < 2 → get_or (get_or table_rows 
 unfolding table
 number_at n i l h =
     let e : 18 * (n / 9) + (2 * (n % 9) + i) ≡ 2 * n + i = omega arith in
-    sym (ap (λ m. get_or table m 0) (sym e) ∙ get_d_blocks (λ k. get_or table_rows k []) 18 row_count long (n / 9) (2 * (n % 9) + i) 0 (omega arith) (omega arith))
+    sym (ap (λ m. get_or table m 0) (sym e) ∙ get_or_blocks (λ k. get_or table_rows k []) 18 row_count long (n / 9) (2 * (n % 9) + i) 0 (omega arith) (omega arith))
 
 -- its loops, and its triangles
 pub loops-at : (n : ℕ) → n < entries → get_or (get_or table_rows (n / 9) []) (2 * (n % 9)) 0 ≡ get_or table (2 * n) 0

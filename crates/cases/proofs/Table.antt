@@ -7,7 +7,7 @@ use native.Mathlib.Nat.{add-zero}
 use native.Mathlib.Omega.{arith}
 use lib.ListN.{get_or, length}
 use Rattle.counting.specs.Lists.{values}
-use Rattle.counting.proofs.Fronts.{get_d_blocks}
+use Rattle.counting.proofs.Fronts.{get_or_blocks}
 use Rattle.cell.specs.Level.{by_edge}
 use Rattle.cell.specs.Common.{is_common}
 use Rattle.cell.specs.Triangles.{loop_count, triangle_count}
@@ -25,7 +25,7 @@ unfolding quick.entry_at quick.both_for
 two n = ap length (both_are (lone_edges (by_edge (values (quick.digit n) 6))))
 
 entry-at : (n i : ℕ) → n < entries → i < 2 → get_or table (2 * n + i) 0 ≡ get_or (quick.entry_at n) i 0
-entry-at n i l h = rw (← test) (get_d_blocks quick.entry_at 2 entries (λ k _. two k) n i 0 l h)
+entry-at n i l h = rw (← test) (get_or_blocks quick.entry_at 2 entries (λ k _. two k) n i 0 l h)
 
 module _ (w : ℕ → ℕ) (C : is_common w ≡ true) where
   abbrev same : ℕ → ℕ

@@ -8,7 +8,7 @@ use native.Mathlib.Omega.{arith}
 use lib.ListN.{length, get_or, drop}
 use lib.Seq.{drop-cons}
 use Rattle.manifold.specs.Shape.{single, double, fan, shape_of, many_of}
-use Rattle.manifold.proofs.Shapes.{shape_else, length_triangles, get_d_triangles}
+use Rattle.manifold.proofs.Shapes.{shape_else, length_triangles, get_or_triangles}
 use Rattle.cell.specs.declared.Cell.{Cell}
 use Rattle.cell.specs.declared.Corner.TheVariants.{Middle}
 use Rattle.cell.specs.declared.Side.TheVariants.{Inner}
@@ -37,7 +37,7 @@ module _ (c : Cell) (halves points : List ℕ) (n : ℕ) (two : Bool) where
     traced_entry l e =
         drop-cons (traced_triangles c halves points n two) k this (omega (arith, length_traced))
         ∙ ap (λ t. t ∷ drop (suc k) (traced_triangles c halves points n two))
-        (get_d_triangles (triangle c.index (get_or points 0 0)) (point_at points) Middle (segment_at c.names halves points n) Inner n this (shape_of n two) k l ∙ sym e)
+        (get_or_triangles (triangle c.index (get_or points 0 0)) (point_at points) Middle (segment_at c.names halves points n) Inner n this (shape_of n two) k l ∙ sym e)
 
     pub this_single : n ≡ 3 → traced_triangle c halves points 3 single 0 ≡ this
     unfolding traced_triangle

@@ -13,7 +13,7 @@ use lib.ListN.{get_or, set, take, length, length-map}
 use lib.Seq.{take-suc-set}
 use borrow.Author.Tests.{ltb-true, lt-ltb, le-ltb, ne_eqb}
 use Rattle.counting.specs.Lists.{one, tally, it}
-use Rattle.counting.proofs.Lists.{get_d_map, tally_append}
+use Rattle.counting.proofs.Lists.{get_or_map, tally_append}
 use Rattle.walk.specs.Walk.{orbit}
 use Rattle.walk.specs.Walk as walk
 use Rattle.walk.proofs.Iterate.{orbit_snoc, length_orbit}
@@ -48,11 +48,11 @@ module _ {w : Edges} {h t x : ℕ} (P : Parts w h t x) where
   pub parts_lt : dart_number h x < 2 * crossings w
   parts_lt = let l = parts_number w P in omega (arith, number_half h x)
 
-get_d_orbit : (s : ℕ → ℕ) (n k d : ℕ) → k < n → get_or (orbit s n d) k 0 ≡ it s k d
+get_or_orbit : (s : ℕ → ℕ) (n k d : ℕ) → k < n → get_or (orbit s n d) k 0 ≡ it s k d
 unfolding orbit it
-get_d_orbit s zero k d h = absurd (not-suc-le-zero h)
-get_d_orbit s (suc n) zero d h = refl
-get_d_orbit s (suc n) (suc k) d h = get_d_orbit s n k (s d) (omega arith)
+get_or_orbit s zero k d h = absurd (not-suc-le-zero h)
+get_or_orbit s (suc n) zero d h = refl
+get_or_orbit s (suc n) (suc k) d h = get_or_orbit s n k (s d) (omega arith)
 
 -- What is recorded of the darts from crossing p, k of them: the f of each. Where they are a loop, it is what is recorded of the loop.
 module _ (w : Edges) (f : ℕ → ℕ) (p : ℕ) where
@@ -73,7 +73,7 @@ module _ (w : Edges) (f : ℕ → ℕ) (p : ℕ) where
 
   pub run_at : (n k : ℕ) → k < n → get_or (run n) k 0 ≡ f (dart w p k)
   unfolding run dart
-  run_at n k h = get_d_map f 0 0 (orbit (step w) n (2 * p)) k (rw (length_orbit (step w) n (2 * p)) h) ∙ ap f (get_d_orbit (step w) n k (2 * p) h)
+  run_at n k h = get_or_map f 0 0 (orbit (step w) n (2 * p)) k (rw (length_orbit (step w) n (2 * p)) h) ∙ ap f (get_or_orbit (step w) n k (2 * p) h)
 
   pub run_long : (n : ℕ) → length (run n) ≡ n
   unfolding run

@@ -17,7 +17,7 @@ use Rattle.counting.specs.Lists.{total, pre}
 use Rattle.counting.specs.Search.{every}
 use Rattle.counting.proofs.Range.{total_next}
 use Rattle.counting.proofs.Search.{every_is}
-use Rattle.counting.proofs.Stores.{get_d_sets_in, get_d_sets_out}
+use Rattle.counting.proofs.Stores.{get_or_sets_in, get_or_sets_out}
 use Rattle.counting.proofs.Pack.{pre_next, pre_most}
 use Rattle.slots.specs.Limits.{most_count}
 use Rattle.slots.specs.Slots.{slot_edge, first_slot, lower, upper}
@@ -148,11 +148,11 @@ pub record Written (c : Cell) (n : ℕ) (t : List ℕ) : Type 0 where
 written_one : {c : Cell} {n : ℕ} {t : List ℕ} → Written c n t → n < half_edges → start_of c (edge_of n) < start_limit → Written c (n + 1) (sets t (9 * n) (front (edges_of c) n))
 written_one {c} {n} {t} W l S = record {
   long = length-sets t (9 * n) v ∙ W.long;
-  linked = λ h i a b. get_d_sets_out v t (9 * n) (9 * h + (5 + i)) 0
+  linked = λ h i a b. get_or_sets_out v t (9 * n) (9 * h + (5 + i)) 0
       (elim (dec_lt h n) [ yes g ↦ inl (omega arith) | no g ↦ inr (omega (arith, five)) ]) ∙ W.linked h i a b;
   counted = λ h i a b. ⊎_elim
-      (λ (q : h ≡ n). rw q (get_d_sets_in v t (9 * n) i 0 (omega (arith, five)) (omega (arith, five, W.long))))
-      (λ (g : h < n). get_d_sets_out v t (9 * n) (9 * h + i) 0 (inl (omega arith)) ∙ W.counted h i g b) (eq-or-lt_of_le (omega arith));
+      (λ (q : h ≡ n). rw q (get_or_sets_in v t (9 * n) i 0 (omega (arith, five)) (omega (arith, five, W.long))))
+      (λ (g : h < n). get_or_sets_out v t (9 * n) (9 * h + i) 0 (inl (omega arith)) ∙ W.counted h i g b) (eq-or-lt_of_le (omega arith));
   near = λ h a. ⊎_elim (λ (q : h ≡ n). rw q S) (λ (g : h < n). W.near h g) (eq-or-lt_of_le (omega arith));
 }
   where

@@ -41,9 +41,9 @@ module _ {A : Type 0} (f : ℕ → List A) where
         over_snoc' n = ap length (over_snoc f n 0 ∙ ap (λ k. over f n 0 ++ f k) (zero-add n)) ∙ length-append (over f n 0) (f n)
 
     -- entry i of list k
-    pub get_d_blocks : (n : ℕ) → ((k : ℕ) → k < n → length (f k) ≡ w) → (k i : ℕ) (d : A) → k < n → i < w → get_or (over f n 0) (w * k + i) d ≡ get_or (f k) i d
-    get_d_blocks zero h k i d l b = absurd (omega (arith, l))
-    get_d_blocks (suc n) h k i d l b = go (below-or k n l) (λ q. get_d_blocks n (λ j m. h j (omega arith)) k i d q b)
+    pub get_or_blocks : (n : ℕ) → ((k : ℕ) → k < n → length (f k) ≡ w) → (k i : ℕ) (d : A) → k < n → i < w → get_or (over f n 0) (w * k + i) d ≡ get_or (f k) i d
+    get_or_blocks zero h k i d l b = absurd (omega (arith, l))
+    get_or_blocks (suc n) h k i d l b = go (below-or k n l) (λ q. get_or_blocks n (λ j m. h j (omega arith)) k i d q b)
       where
         e : over f (suc n) 0 ≡ over f n 0 ++ f n
         e = over_snoc f n 0 ∙ ap (λ j. over f n 0 ++ f j) (zero-add n)

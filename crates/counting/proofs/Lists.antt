@@ -103,14 +103,14 @@ module _ {A : Type 0} (f : ℕ → A) where
   length_singles zero p = refl
   length_singles (suc n) p = ap suc (length_singles n (suc p))
 
-  pub get_d_singles : (d : A) (n p k : ℕ) → k < n → get_or (over (λ q. f q ∷ []) n p) k d ≡ f (p + k)
+  pub get_or_singles : (d : A) (n p k : ℕ) → k < n → get_or (over (λ q. f q ∷ []) n p) k d ≡ f (p + k)
   unfolding over
-  get_d_singles d zero p k l = absurd (not-suc-le-zero l)
-  get_d_singles d (suc n) p zero l = let e : p ≡ p + 0 = omega arith in ap f e
-  get_d_singles d (suc n) p (suc k) l = let e : suc p + k ≡ p + suc k = omega arith in get_d_singles d n (suc p) k (omega arith) ∙ ap f e
+  get_or_singles d zero p k l = absurd (not-suc-le-zero l)
+  get_or_singles d (suc n) p zero l = let e : p ≡ p + 0 = omega arith in ap f e
+  get_or_singles d (suc n) p (suc k) l = let e : suc p + k ≡ p + suc k = omega arith in get_or_singles d n (suc p) k (omega arith) ∙ ap f e
 
   pub values_at : (n k : ℕ) (d : A) → k < n → get_or (values f n) k d ≡ f k
-  values_at n k d l = get_d_singles d n 0 k l ∙ ap f (zero-add k)
+  values_at n k d l = get_or_singles d n 0 k l ∙ ap f (zero-add k)
 
 pub values_ext : {A : Type 0} (f g : ℕ → A) (n : ℕ) → ((i : ℕ) → i < n → f i ≡ g i) → values f n ≡ values g n
 values_ext {A} f g n h = over_ext (λ i. f i ∷ []) (λ i. g i ∷ []) n 0 (λ i a b. ap (λ (x : A). x ∷ []) (h i (omega arith)))
@@ -160,10 +160,10 @@ map_over h f (suc n) p = map-append h (f p) (over f n (suc p)) ∙ ap (λ l. map
 
 -- a list mapped entry by entry
 module _ {A B : Type 0} (f : A → B) where
-  pub get_d_map : (a : A) (b : B) (l : List A) (t : ℕ) → t < length l → get_or (map f l) t b ≡ f (get_or l t a)
-  get_d_map a b [] t h = absurd (not-suc-le-zero h)
-  get_d_map a b (x ∷ l) zero h = refl
-  get_d_map a b (x ∷ l) (suc t) h = get_d_map a b l t (omega arith)
+  pub get_or_map : (a : A) (b : B) (l : List A) (t : ℕ) → t < length l → get_or (map f l) t b ≡ f (get_or l t a)
+  get_or_map a b [] t h = absurd (not-suc-le-zero h)
+  get_or_map a b (x ∷ l) zero h = refl
+  get_or_map a b (x ∷ l) (suc t) h = get_or_map a b l t (omega arith)
 
   pub tally_map : (p : B → Bool) (l : List A) → tally p (map f l) ≡ tally (λ x. p (f x)) l
   unfolding tally

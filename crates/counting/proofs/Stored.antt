@@ -21,7 +21,7 @@ use Rattle.counting.specs.claims.Lists.{next_in}
 use Rattle.counting.proofs.Range.{total_next}
 use Rattle.counting.proofs.Lists.{length_singles, values_ext, values_at}
 use Rattle.counting.proofs.Fronts.{sets_append, sets_front, over_more, over_split, over_shift, over_within}
-use Rattle.counting.proofs.Stores.{get_d_sets_in, get_d_sets_out, sets_again}
+use Rattle.counting.proofs.Stores.{get_or_sets_in, get_or_sets_out, sets_again}
 
 module _ {A : Type 0} where
   pub stored_none : (was : List A) (at : ℕ) → Stored was at [] was at
@@ -149,11 +149,11 @@ module _ {A : Type 0} where
     filled_at n l d r i h =
         let e = length_singles f n 0 in
         ap (λ k. get_or (sets l 0 (values f n)) k d) (sym (zero-add i))
-        ∙ get_d_sets_in (values f n) l 0 i d (omega arith) (omega arith) ∙ values_at f n i d h
+        ∙ get_or_sets_in (values f n) l 0 i d (omega arith) (omega arith) ∙ values_at f n i d h
 
     pub filled_beyond : (n : ℕ) (l : List A) (d : A) (i : ℕ) → n ≤ i → get_or (filled f n l) i d ≡ get_or l i d
     unfolding filled
-    filled_beyond n l d i h = get_d_sets_out (values f n) l 0 i d (inr (omega (arith, length_singles f n 0)))
+    filled_beyond n l d i h = get_or_sets_out (values f n) l 0 i d (inr (omega (arith, length_singles f n 0)))
 
     -- its front
     pub filled_front : (n : ℕ) (l : List A) → n ≤ length l → filled f n l ≡ values f n ++ drop n l

@@ -10,21 +10,21 @@ use lib.Seq.{sets, length-sets, sets-eq, get_or-set_same, get_or-set_other, take
 
 module _ {A : Type 0} where
   -- outside the run
-  pub get_d_sets_out : (vs l : List A) (i k : ℕ) (d : A) → (k < i) ⊎ (i + length vs ≤ k) → get_or (sets l i vs) k d ≡ get_or l k d
-  get_d_sets_out [] l i k d h = refl
-  get_d_sets_out (v ∷ vs) l i k d h =
-      get_d_sets_out vs (set l i v) (suc i) k d (⊎_elim (λ (b : k < i). inl (omega arith)) (λ (b : i + suc (length vs) ≤ k). inr (omega arith)) h)
+  pub get_or_sets_out : (vs l : List A) (i k : ℕ) (d : A) → (k < i) ⊎ (i + length vs ≤ k) → get_or (sets l i vs) k d ≡ get_or l k d
+  get_or_sets_out [] l i k d h = refl
+  get_or_sets_out (v ∷ vs) l i k d h =
+      get_or_sets_out vs (set l i v) (suc i) k d (⊎_elim (λ (b : k < i). inl (omega arith)) (λ (b : i + suc (length vs) ≤ k). inr (omega arith)) h)
       ∙ get_or-set_other l i k v d (⊎_elim (λ (b : k < i) e. omega arith) (λ (b : i + suc (length vs) ≤ k) e. omega arith) h)
 
   -- in the run
-  pub get_d_sets_in : (vs l : List A) (i k : ℕ) (d : A) → k < length vs → i + length vs ≤ length l → get_or (sets l i vs) (i + k) d ≡ get_or vs k d
-  get_d_sets_in [] l i k d h b = absurd (not-suc-le-zero h)
-  get_d_sets_in (v ∷ vs) l i zero d h b =
+  pub get_or_sets_in : (vs l : List A) (i k : ℕ) (d : A) → k < length vs → i + length vs ≤ length l → get_or (sets l i vs) (i + k) d ≡ get_or vs k d
+  get_or_sets_in [] l i k d h b = absurd (not-suc-le-zero h)
+  get_or_sets_in (v ∷ vs) l i zero d h b =
       ap (λ n. get_or (sets (set l i v) (suc i) vs) n d) (add-zero i)
-      ∙ get_d_sets_out vs (set l i v) (suc i) i d (inl (omega arith)) ∙ get_or-set_same l i v d (omega arith)
-  get_d_sets_in (v ∷ vs) l i (suc k) d h b =
+      ∙ get_or_sets_out vs (set l i v) (suc i) i d (inl (omega arith)) ∙ get_or-set_same l i v d (omega arith)
+  get_or_sets_in (v ∷ vs) l i (suc k) d h b =
       let e : i + suc k ≡ suc i + k = omega arith in
-      ap (λ n. get_or (sets (set l i v) (suc i) vs) n d) e ∙ get_d_sets_in vs (set l i v) (suc i) k d (omega arith) (omega (arith, length-set l i v))
+      ap (λ n. get_or (sets (set l i v) (suc i) vs) n d) e ∙ get_or_sets_in vs (set l i v) (suc i) k d (omega arith) (omega (arith, length-set l i v))
 
   -- before the run, and after it
   pub take_sets : (vs l : List A) (i n : ℕ) → n ≤ i → take n (sets l i vs) ≡ take n l

@@ -16,7 +16,7 @@ use Rattle.counting.specs.Stored.{filled}
 use Rattle.counting.proofs.Tables.{filled_table}
 use Rattle.counting.proofs.Lists.{length_singles, values_at}
 use Rattle.counting.proofs.Stored.{stored_not, stored_room}
-use Rattle.counting.proofs.Stores.{get_d_sets_in}
+use Rattle.counting.proofs.Stores.{get_or_sets_in}
 use Rattle.grid.specs.Check.{check_numbers}
 use Rattle.grid.specs.Grid.{crossings}
 use Rattle.counting.specs.work.Tables.{Table}
@@ -85,7 +85,7 @@ copied ws was words area {m = m} e l k q =
     at : (i : ℕ) → i < m → get_or words i 0 ≡ get_or ws i 0
     at i h =
         ap (λ (w : List ℕ). get_or w i 0) e ∙ ap (λ (k : ℕ). get_or (sets was 0 ws) k 0) (sym (zero-add i))
-        ∙ get_d_sets_in ws was 0 i 0 (omega arith) (omega arith)
+        ∙ get_or_sets_in ws was 0 i 0 (omega arith) (omega arith)
 
 -- the room
 module _ (G : FlatGrid) (before : List ℕ) (w : ℕ) (e : w ≡ length (chains_words G)) where

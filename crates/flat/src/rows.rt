@@ -35,7 +35,7 @@ fn last_row(counts: &[u16]) -> Checked
 // The lowest of the first n places with the entry 0; n where there is none. Takes 1 off the entries before it.
 fn lower_entries(sides: &mut [usize], n: usize) -> usize
     requires { n ≤ length sides.old }
-    ensures r_value { result ≡ first (λ j. eqb (get_or sides.old j 0) 0) n }
+    ensures result_value { result ≡ first (λ j. eqb (get_or sides.old j 0) 0) n }
     ensures sides_after { sides.new ≡ filled (λ j. get_or sides.old j 0 - 1) result sides.old }
 {
     let mut j = 0;
@@ -53,8 +53,8 @@ fn lower_entries(sides: &mut [usize], n: usize) -> usize
 // Rows 7 and 8, and the one after them. Keeps 48 KB on the stack, and `edge_places` 52.
 fn side_rows(triangles: &[u16], edges: &[u16], counts: &[u16], sides: &mut [usize]) -> Checked
     requires { PastRow3 (flat_of triangles.now edges.now counts.now) sides.old }
-    ensures r_value { check_numbers result ≡ answer_from 7 (flat_of triangles.now edges.now counts.now) }
-    ensures fact { WhereAccepted result (SidesKnown (flat_of triangles.now edges.now counts.now) sides.new) }
+    ensures result_value { check_numbers result ≡ answer_from 7 (flat_of triangles.now edges.now counts.now) }
+    ensures where_accepted { WhereAccepted result (SidesKnown (flat_of triangles.now edges.now counts.now) sides.new) }
 {
     let f = triangles.len() / 3;
     let mut keys = [0usize; MOST_SIDES];
@@ -73,8 +73,8 @@ fn side_rows(triangles: &[u16], edges: &[u16], counts: &[u16], sides: &mut [usiz
 // Rows 6 and 18, and those after them.
 fn edge_rows(triangles: &[u16], edges: &[u16], counts: &[u16], sides: &mut [usize]) -> Checked
     requires { PastRow3 (flat_of triangles.now edges.now counts.now) sides.old }
-    ensures r_value { check_numbers result ≡ answer_from 6 (flat_of triangles.now edges.now counts.now) }
-    ensures fact { WhereAccepted result (SidesKnown (flat_of triangles.now edges.now counts.now) sides.new) }
+    ensures result_value { check_numbers result ≡ answer_from 6 (flat_of triangles.now edges.now counts.now) }
+    ensures where_accepted { WhereAccepted result (SidesKnown (flat_of triangles.now edges.now counts.now) sides.new) }
 {
     let p6 = grid::edge_order(edges);
     if p6 < counts.len() {
@@ -90,8 +90,8 @@ fn edge_rows(triangles: &[u16], edges: &[u16], counts: &[u16], sides: &mut [usiz
 // Rows 3, 4 and 5, and those after them.
 fn triangle_rows(triangles: &[u16], edges: &[u16], counts: &[u16], sides: &mut [usize]) -> Checked
     requires { PastRow2 (flat_of triangles.now edges.now counts.now) sides.old }
-    ensures r_value { check_numbers result ≡ answer_from 3 (flat_of triangles.now edges.now counts.now) }
-    ensures fact { WhereAccepted result (SidesKnown (flat_of triangles.now edges.now counts.now) sides.new) }
+    ensures result_value { check_numbers result ≡ answer_from 3 (flat_of triangles.now edges.now counts.now) }
+    ensures where_accepted { WhereAccepted result (SidesKnown (flat_of triangles.now edges.now counts.now) sides.new) }
 {
     let n = triangles.len() / 3;
     let p3 = triangles::row_3(triangles);
@@ -117,8 +117,8 @@ pub(crate) fn all_rows(
     sides: &mut [usize],
 ) -> Checked
     requires { sides.old ≡ replicate most_sides 0 }
-    ensures r_value { check_numbers result ≡ flat_answer (flat_of triangles.now edges.now counts.now) }
-    ensures fact { WhereAccepted result (SidesKnown (flat_of triangles.now edges.now counts.now) sides.new) }
+    ensures result_value { check_numbers result ≡ flat_answer (flat_of triangles.now edges.now counts.now) }
+    ensures where_accepted { WhereAccepted result (SidesKnown (flat_of triangles.now edges.now counts.now) sides.new) }
 {
     if triangles::row_1(triangles) {
         return Checked::Refused(1, 0);

@@ -8,7 +8,7 @@ use lib.Seq.{sets, length-sets}
 use Rattle.counting.specs.Stored.{stored_in}
 use Rattle.counting.specs.work.Stored.{Stored}
 use Rattle.counting.proofs.Stored.{stored_room}
-use Rattle.counting.proofs.Stores.{get_d_sets_in, sets_again}
+use Rattle.counting.proofs.Stores.{get_or_sets_in, sets_again}
 use Rattle.cell.specs.Renaming.{Renaming, renamed}
 use Rattle.cell.specs.Words.{word_count, all_words}
 use Rattle.cell.proofs.Storing.{length_all}
@@ -54,7 +54,7 @@ module _ {G : Grid} {names sides : List ℕ} {from size m at room : ℕ} {u : Li
       words_over =
           ap (triangles_over into mid at) many
           ∙ list_over into mid (run_triangles G from size) at
-          (λ j h. ap (λ l. get_or l (at + j) 0) mid_is ∙ get_d_sets_in (all_words (run_triangles G from size)) area at j 0 (omega (arith, long)) room_for)
+          (λ j h. ap (λ l. get_or l (at + j) 0) mid_is ∙ get_or_sets_in (all_words (run_triangles G from size)) area at j 0 (omega (arith, long)) room_for)
           ∙ run_over G from size J.run_of.tables.sound J.run_of.run (table_names names table from) (λ c l. table_renamed J.run_of.tables from size J.run_of.run L table O c l)
 
       pub run_joined : {after : List ℕ} → after ≡ sets mid at (triangles_over (table_over names table from) mid at t) → Stored area at (all_words (run_renamed G from size)) after (at + word_count * t)

@@ -15,7 +15,7 @@ use Rattle.counting.specs.work.Stored.{Stored}
 use Rattle.counting.proofs.Lists.{length_singles, values_at}
 use Rattle.counting.proofs.Fronts.{length_blocks}
 use Rattle.counting.proofs.Stored.{stored_more}
-use Rattle.counting.proofs.Stores.{get_d_sets_in, get_d_sets_out}
+use Rattle.counting.proofs.Stores.{get_or_sets_in, get_or_sets_out}
 use Rattle.cell.specs.Renaming.{Renaming}
 use Rattle.cell.specs.Words.{word_count, no_name}
 use Rattle.layers.specs.work.Work.{side_from, own_at, side_count, most_numbers, Leading, CrossingsNumbered, word_over, word_before, triangle_over, triangles_over}
@@ -49,17 +49,17 @@ module _ {f : ℕ → ℕ} {counts starts sides : List ℕ} {from n : ℕ} {own 
     here x a h =
         let e : x ≡ at + (x - at) = omega arith in
         ap (λ k. get_or (sets table at numbers) k 0) e
-        ∙ get_d_sets_in numbers table at (x - at) 0 (omega (arith, many)) (omega (arith, many, L.below j l))
+        ∙ get_or_sets_in numbers table at (x - at) 0 (omega (arith, many)) (omega (arith, many, L.below j l))
         ∙ values_at (λ i. first + i) count (x - at) 0 (omega arith)
         ∙ sym (L.leads j (x - at) l (omega arith)) ∙ ap f (sym e)
 
     kept : (x : ℕ) → get_or table x 0 ≡ f x → get_or (sets table at numbers) x 0 ≡ f x
     kept x q =
         elim (dec_lt x at) [
-          | yes a ↦ get_d_sets_out numbers table at x 0 (inl a) ∙ q
+          | yes a ↦ get_or_sets_out numbers table at x 0 (inl a) ∙ q
           | no a ↦ elim (dec_lt x (at + count)) [
             | yes h ↦ here x (omega arith) h
-            | no h ↦ get_d_sets_out numbers table at x 0 (inr (omega (arith, many))) ∙ q
+            | no h ↦ get_or_sets_out numbers table at x 0 (inr (omega (arith, many))) ∙ q
           ]
         ]
 
@@ -103,7 +103,7 @@ module _ (r : Renaming) (l : List ℕ) (at : ℕ) where
   put j = word_over r j (word_before l at j) (get_or l (at + j) 0)
 
   pub word_there : (m : List ℕ) (j : ℕ) → m ≡ sets l at (values put j) → get_or m (at + j) 0 ≡ get_or l (at + j) 0
-  word_there m j e = ap (λ m. get_or m (at + j) 0) e ∙ get_d_sets_out (values put j) l at (at + j) 0 (inr (omega (arith, length_singles put j 0)))
+  word_there m j e = ap (λ m. get_or m (at + j) 0) e ∙ get_or_sets_out (values put j) l at (at + j) 0 (inr (omega (arith, length_singles put j 0)))
 
   pub before_next : (j : ℕ) → get_or l (at + j) 0 ≡ word_before l at (j + 1)
   before_next j = rw add-one
@@ -129,7 +129,7 @@ module _ (r : Renaming) (l : List ℕ) (at : ℕ) where
     there : (j : ℕ) → get_or m (i + j) 0 ≡ get_or l (at + word_count * t + j) 0
     there j =
         ap (λ m. get_or m (i + j) 0) S.area
-        ∙ get_d_sets_out (triangles_over r l at t) l at (i + j) 0 (inr (omega (arith, S.after)))
+        ∙ get_or_sets_out (triangles_over r l at t) l at (i + j) 0 (inr (omega (arith, S.after)))
         ∙ ap (λ i. get_or l (i + j) 0) at_is
 
     pub triangle_more : {is : List ℕ} → is ≡ sets m i (triangle_over r m i) → Stored l at (triangles_over r l at (t + 1)) is (i + word_count)

@@ -9,7 +9,7 @@ use lib.Seq.{get_or-take, get_or-drop}
 use Rattle.counting.specs.Pack.{row, col}
 use Rattle.counting.proofs.Below.{trichotomy}
 use Rattle.counting.proofs.Lists.{length_singles, values_at}
-use Rattle.counting.proofs.Fronts.{get_d_blocks, length_blocks}
+use Rattle.counting.proofs.Fronts.{get_or_blocks, length_blocks}
 use Rattle.counting.proofs.Kept.{kept_is, kept_rise, kept_all}
 use Rattle.counting.proofs.Pack.{row_lt, col_lt, row_pack, col_pack, pack_lt, pre_le, unpack}
 use Rattle.counting.proofs.Search.{some_found, some_is}
@@ -76,13 +76,13 @@ module _ (G : Grid) (from size : ℕ) where
 
   high_at : (e : ℕ) → e < length rn → high re e ≡ high G.edges (at e)
   unfolding run_edges
-  high_at e l = get_d_blocks (λ e. low G.edges (at e) ∷ high G.edges (at e) ∷ []) 2 many (λ k l. refl) e 1 0 (omega (arith, many_counts)) (omega arith)
+  high_at e l = get_or_blocks (λ e. low G.edges (at e) ∷ high G.edges (at e) ∷ []) 2 many (λ k l. refl) e 1 0 (omega (arith, many_counts)) (omega arith)
 
   low_at : (e : ℕ) → e < length rn → low re e ≡ low G.edges (at e)
   unfolding run_edges
   low_at e l =
       let q : 2 * e ≡ 2 * e + 0 = omega arith in
-      ap (λ k. get_or re k 0) q ∙ get_d_blocks (λ e. low G.edges (at e) ∷ high G.edges (at e) ∷ []) 2 many (λ k l. refl) e 0 0 (omega (arith, many_counts)) (omega arith)
+      ap (λ k. get_or re k 0) q ∙ get_or_blocks (λ e. low G.edges (at e) ∷ high G.edges (at e) ∷ []) 2 many (λ k l. refl) e 0 0 (omega (arith, many_counts)) (omega arith)
 
   -- crossings: one with index i on edge e goes over to that with index i on the same edge of the whole
   pub crossing-at : (e i : ℕ) → e < length rn → i < count_of rn e → crossing_in_whole G from size (start rn e + i) ≡ start G.counts (at e) + i

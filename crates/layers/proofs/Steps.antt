@@ -21,7 +21,7 @@ use Rattle.counting.proofs.Pack.{pre_next}
 use Rattle.counting.proofs.Range.{total_ext, total_zero, total_split}
 use Rattle.counting.proofs.Lists.{length_singles, values_at}
 use Rattle.counting.proofs.Stored.{filled_at, sets_more}
-use Rattle.counting.proofs.Stores.{get_d_sets_in, get_d_sets_out}
+use Rattle.counting.proofs.Stores.{get_or_sets_in, get_or_sets_out}
 use Rattle.slots.specs.Limits.{most_cells, most_slots}
 use Rattle.slots.specs.work.Limits.{most_edges}
 use Rattle.counting.proofs.Search.{some_zero, some_hit, some_miss}
@@ -200,9 +200,9 @@ module _ (counts used : List ℕ) (m : ℕ) where
         record {
           same = ap length w ∙ length-sets starts at vs ∙ S.same;
           first = λ e l q. elim (dec_lt e at) [
-            | yes g ↦ ap (λ r. get_or r e 0) w ∙ get_d_sets_out vs starts at e 0 (inl g) ∙ S.first e g q
+            | yes g ↦ ap (λ r. get_or r e 0) w ∙ get_or_sets_out vs starts at e 0 (inl g) ∙ S.first e g q
             | no g ↦ (let i : e ≡ at + (e - at) = omega arith in
-                ap (λ r. get_or r e 0) w ∙ ap (λ k. get_or (sets starts at vs) k 0) i ∙ get_d_sets_in vs starts at (e - at) 0 (omega arith) (omega arith)
+                ap (λ r. get_or r e 0) w ∙ ap (λ k. get_or (sets starts at vs) k 0) i ∙ get_or_sets_in vs starts at (e - at) 0 (omega arith) (omega arith)
                 ∙ values_at (λ i. marked_start counts used m (at + i)) (end - at) (e - at) 0 (omega arith) ∙ ap (marked_start counts used m) (sym i))
           ];
         }

@@ -4,7 +4,7 @@ use mathlib.Core.Path.{◌≡◌, ap, ◌∙◌, subst}
 use mathlib.Core.List.{List, map}
 use native.Mathlib.Omega.{arith}
 use lib.ListN.{length, get_or, length-map}
-use Rattle.counting.proofs.Lists.{get_d_map}
+use Rattle.counting.proofs.Lists.{get_or_map}
 use Rattle.manifold.specs.Triangle.{Corner, Side}
 use Rattle.manifold.specs.claims.Plain.{Tri, no_tri, corner_of, side_of, nth, Chain, OneRing}
 use Rattle.manifold.specs.work.Plain.{Passes}
@@ -22,7 +22,7 @@ module _ {T : Type 0} (none : T) (f : T → Tri) where
 
   module _ (l : List T) where
     at : (t : ℕ) → t < length l → nth (map f l) t ≡ f (get_or l t none)
-    at t h = get_d_map f none no_tri l t h
+    at t h = get_or_map f none no_tri l t h
 
     chain_named : (g : Corner) → Chain (map f l) g → ChainIn none corner side l g
     chain_named g c = record {

@@ -17,7 +17,7 @@ use Rattle.manifold.specs.claims.Polygon.{Polygon, shape, corner, centre, segmen
 use Rattle.manifold.specs.Shape.{Shape, single, double, fan}
 use Rattle.manifold.specs.work.Polygon.{triangle_at, many, Simple}
 pub use Rattle.manifold.proofs.Shapes.{Fits}
-use Rattle.manifold.proofs.Shapes.{fits as shape-fits, length_triangles, get_d_triangles}
+use Rattle.manifold.proofs.Shapes.{fits as shape-fits, length_triangles, get_or_triangles}
 use Rattle.manifold.proofs.Triangle.{hits, cross_middle, seg_inner}
 use Rattle.manifold.proofs.Sound.{Member, Ends, via, Sound}
 
@@ -33,7 +33,7 @@ module _ (G : Polygon) where
 
   pub triangles_nth : (k : ℕ) → k < many G (shape G) → nth (triangles G) k ≡ triangle_at G (shape G) k
   unfolding triangles
-  triangles_nth k l = get_d_triangles tri (corner G) (centre G) (segment G) (inner_side G) G.n no_tri (shape G) k l
+  triangles_nth k l = get_or_triangles tri (corner G) (centre G) (segment G) (inner_side G) G.n no_tri (shape G) k l
 
   pub triangles_member : (k : ℕ) → k < many G (shape G) → Member (triangles G) (triangle_at G (shape G) k)
   triangles_member k l = record { at = k; lt = omega (arith, triangles_length); is = triangles_nth k l }

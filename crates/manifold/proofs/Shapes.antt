@@ -12,7 +12,7 @@ use borrow.Author.Tests.{eq-eqb, ne_eqb, eqb-true}
 use Rattle.counting.specs.Lists.{after}
 use Rattle.counting.proofs.Bools.{clash}
 use Rattle.counting.proofs.Range.{after_lt, over_ext}
-use Rattle.counting.proofs.Lists.{length_singles, get_d_singles, map_over}
+use Rattle.counting.proofs.Lists.{length_singles, get_or_singles, map_over}
 use Rattle.manifold.specs.Shape.{Shape, single, double, fan, shape_by, shape_of, many_of, middle_by, has_middle, triangle_of, triangles_of}
 
 -- what a shape says of the number of points of a loop
@@ -80,10 +80,10 @@ module _ {C S T : Type 0} (make : C → C → C → S → S → S → T) (point 
   pub length_triangles : (sh : Shape) → length (triangles_of make point centre segment inner n sh) ≡ many_of sh n
   length_triangles sh = length_singles (triangle_of make point centre segment inner n sh) (many_of sh n) 0
 
-  pub get_d_triangles : (d : T) (sh : Shape) (k : ℕ) → k < many_of sh n
+  pub get_or_triangles : (d : T) (sh : Shape) (k : ℕ) → k < many_of sh n
       → get_or (triangles_of make point centre segment inner n sh) k d ≡ triangle_of make point centre segment inner n sh k
-  get_d_triangles d sh k l =
-      get_d_singles (triangle_of make point centre segment inner n sh) d (many_of sh n) 0 k l ∙ ap (triangle_of make point centre segment inner n sh) (zero-add k)
+  get_or_triangles d sh k l =
+      get_or_singles (triangle_of make point centre segment inner n sh) d (many_of sh n) 0 k l ∙ ap (triangle_of make point centre segment inner n sh) (zero-add k)
 
   -- they are determined by the points and segments below n, and by what a triangle is where there are points
   pub triangles_ext : (make' : C → C → C → S → S → S → T) (point' : ℕ → C) (segment' : ℕ → S) → (0 < n → make ≡ make')

@@ -10,7 +10,7 @@ use lib.ListN.{length, get_or, length-map}
 use Rattle.counting.specs.Lists.{tally, pre}
 use Rattle.counting.specs.claims.Lists.{All}
 use Rattle.counting.specs.Pack.{row, col}
-use Rattle.counting.proofs.Lists.{get_d_map, tally_map, map_over}
+use Rattle.counting.proofs.Lists.{get_or_map, tally_map, map_over}
 use Rattle.counting.proofs.Range.{over_ext}
 use Rattle.counting.proofs.Pack.{row_lt, col_lt, unpack, pack_lt, row_pack, col_pack}
 use Rattle.face.proofs.Claims.{face_laws}
@@ -178,7 +178,7 @@ module _ (G : Grid) where
       side-at : names.side_of (nth (complex.mesh (grid_complex (cell_count G.cells) (grid_cell G))) t) i ≡ mesh_side (get_or (mesh_triangles G) t none) i
       side-at =
           ap (λ l. names.side_of (nth l t) i) (sym mesh_named)
-          ∙ ap (λ v. names.side_of v i) (get_d_map name_in none no_tri (mesh_triangles G) t lt) ∙ side_in (get_or (mesh_triangles G) t none) i
+          ∙ ap (λ v. names.side_of v i) (get_or_map name_in none no_tri (mesh_triangles G) t lt) ∙ side_in (get_or (mesh_triangles G) t none) i
 
       counted : tally (names.has_side (names.side_of (nth (complex.mesh K) t) i)) (complex.mesh K) ≡ 2
           → tally (has_mesh_side (mesh_side (get_or (mesh_triangles G) t none) i)) (mesh_triangles G) ≡ 2

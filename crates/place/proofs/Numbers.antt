@@ -10,7 +10,7 @@ use Rattle.counting.proofs.Below.{below_three}
 use Rattle.counting.proofs.Fronts.{sets_two, sets_front}
 use Rattle.counting.proofs.Lists.{gather_append, length_gather}
 use Rattle.counting.proofs.Stored.{stored_as, stored_then, stored_room}
-use Rattle.counting.proofs.Stores.{get_d_sets_out}
+use Rattle.counting.proofs.Stores.{get_or_sets_out}
 use Rattle.place.specs.declared.Place.{Place}
 use Rattle.place.specs.Place.{interpolated, between, coordinates, place_at, numbers, all_numbers}
 
@@ -63,7 +63,7 @@ point_stored {was} k p h e = record { area = e ∙ (stored_room was (coordinates
 pub place_kept : {was is vs : List Float} {m n : ℕ} → Stored was (coordinates * m) vs is n → (g : ℕ) → g < m → place_at is g ≡ place_at was g
 place_kept {was} {is} {vs} {m} S g h =
     let at : (k : ℕ) → k < coordinates * m → get_or is k nan ≡ get_or was k nan =
-    λ k l. ap (λ (x : List Float). get_or x k nan) S.area ∙ get_d_sets_out vs was (coordinates * m) k nan (inl l) in
+    λ k l. ap (λ (x : List Float). get_or x k nan) S.area ∙ get_or_sets_out vs was (coordinates * m) k nan (inl l) in
     rw (at (coordinates * g) (omega arith), at (coordinates * g + 1) (omega arith), at (coordinates * g + 2) (omega arith))
 
 -- a number of a place that is loaded, and of one between two

@@ -12,7 +12,7 @@ use Rattle.answer.specs.Answer.{result_of, is_result, refused}
 use Rattle.counting.specs.Pick.{pick}
 use Rattle.counting.specs.Lists.{over, values}
 use Rattle.counting.proofs.Range.{over_ext}
-use Rattle.counting.proofs.Lists.{get_d_singles}
+use Rattle.counting.proofs.Lists.{get_or_singles}
 use Rattle.cell.proofs.Fans.{below_all}
 use Rattle.grid.specs.declared.Checked.{Checked}
 use Rattle.grid.specs.declared.Checked.TheVariants.{Crossings, Refused}
@@ -53,8 +53,8 @@ module _ {G : Grid} {names sides : List ℕ} (T : Tabled G names sides) where
       below_all (grid_cell G c) (crossings G.counts) (λ k h.
       omega (
         arith,
-        get_d_singles (λ i. start G.counts (e i)) 0 6 0 k h ∙ ap (λ i. start G.counts (e i)) (zero-add k),
-        get_d_singles (λ i. count_of G.counts (e i)) 0 6 0 k h ∙ ap (λ i. count_of G.counts (e i)) (zero-add k),
+        get_or_singles (λ i. start G.counts (e i)) 0 6 0 k h ∙ ap (λ i. start G.counts (e i)) (zero-add k),
+        get_or_singles (λ i. count_of G.counts (e i)) 0 6 0 k h ∙ ap (λ i. count_of G.counts (e i)) (zero-add k),
         start_fits G.counts (e k) ((edge_numbers G T.sound).listed c k l h),
       ))
 

@@ -11,7 +11,7 @@ use borrow.Author.Tests.{not-false}
 use Rattle.answer.specs.Answer.{result_of}
 use Rattle.counting.specs.Lists.{values}
 use Rattle.counting.proofs.Bools.{or_none}
-use Rattle.counting.proofs.Lists.{length_singles, get_d_singles}
+use Rattle.counting.proofs.Lists.{length_singles, get_or_singles}
 use Rattle.counting.proofs.Pack.{row_lt}
 use native.Mathlib.Nat.{zero-add}
 use Rattle.grid.specs.Grid.{Grid, low, high, start, count_of, crossings, has_node}
@@ -40,7 +40,7 @@ module _ (G : Grid) (nodes fractions : List Float) where
     unfolding points
     point-at p =
         get_or-append (values at (crossings G.counts)) (inner_points G nodes fractions ++ middles G nodes fractions) p g (omega (arith, front_long))
-        ∙ get_d_singles at p (crossings G.counts) 0 g h
+        ∙ get_or_singles at p (crossings G.counts) 0 g h
         ∙ ap at (zero-add g)
 
     pub point_lt : g < needed G nodes fractions

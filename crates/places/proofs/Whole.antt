@@ -11,7 +11,7 @@ use lib.Ieee.{Float}
 use Rattle.answer.proofs.Answer.{refused_not}
 use Rattle.counting.specs.Lists.{total, values}
 use Rattle.counting.specs.work.Stored.{Stored}
-use Rattle.counting.proofs.Lists.{length_singles, get_d_singles}
+use Rattle.counting.proofs.Lists.{length_singles, get_or_singles}
 use Rattle.counting.proofs.Stored.{stored_as, stored_long}
 use Rattle.grid.specs.Grid.{crossings}
 use Rattle.place.specs.declared.Place.{Place}
@@ -108,7 +108,7 @@ module _ (cells edges counts names sides starts : List ℕ) (nodes fractions : L
             let i : g < crossings counts = omega (arith, R.judged.all) in
             ap (λ (x : List Float). place_at x g) f
             ∙ front_place crossing_places before g (place g) (omega (arith, s, room)) (omega (arith, s))
-            ∙ get_d_singles place (place g) (crossings counts) 0 g i
+            ∙ get_or_singles place (place g) (crossings counts) 0 g i
             ∙ ap place (zero-add g)
 
         -- and then the inner crossings and the middles

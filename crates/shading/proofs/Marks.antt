@@ -12,7 +12,7 @@ use lib.ListN.{length, get_or, length-map}
 use borrow.Author.Tests.{eqb-true, eqb-false}
 use Rattle.counting.specs.Pick.{pick}
 use Rattle.counting.specs.Lists.{values}
-use Rattle.counting.proofs.Lists.{length_singles, values_at, get_d_map}
+use Rattle.counting.proofs.Lists.{length_singles, values_at, get_or_map}
 use Rattle.counting.proofs.Search.{below-or}
 use Rattle.grid.specs.Grid.{Grid, low, high, count_of}
 use Rattle.shading.specs.Marks.{most_nodes, moved, united, marks_after}
@@ -67,7 +67,7 @@ module _ (a b count : ℕ) (l : List ℕ) where
 
       go : (t : Bool) → eqb (a / 2) (b / 2) ≡ t → Next a b count m (get_or (pick t l (map (moved a b count) l)) x 0)
       go true e = one_part (eqb-true (a / 2) (b / 2) e) refl
-      go false e = rw (get_d_map (moved a b count) 0 0 l x h) (two (eqb-false (a / 2) (b / 2) e) (eqb (m / 2) (max (a / 2) (b / 2))) refl)
+      go false e = rw (get_or_map (moved a b count) 0 0 l x h) (two (eqb-false (a / 2) (b / 2) e) (eqb (m / 2) (max (a / 2) (b / 2))) refl)
 
 -- the marks after n edges
 pub record Marked (G : Grid) (n : ℕ) (l : List ℕ) : Type 0 where

@@ -9,11 +9,11 @@ use Rattle.flat.proofs.rows.all_rows.Goals as goal
 
 pub returns-then-row_1 : goal.returns-then-row_1
 unfolding since rows
-returns-then-row_1 c = record { r_value = answer_refuses _ 1 2 refl 0 (whole_fault _ (sym c.row_1.ensures ∙ c.if-row_1.true)) (omega arith) ∙ answer_start _; fact = tt }
+returns-then-row_1 c = record { result_value = answer_refuses _ 1 2 refl 0 (whole_fault _ (sym c.row_1.ensures ∙ c.if-row_1.true)) (omega arith) ∙ answer_start _; where_accepted = tt }
 
 pub returns-then-row_2 : goal.returns-then-row_2
 unfolding since rows
-returns-then-row_2 c = let c-row-1 = c.row_1 in record { r_value = answer_refuses _ 2 3 refl 0 (whole_fault _ (sym c.row_2.ensures ∙ c.if-row_2.true)) (omega arith) ∙ answer_passes _ 1 2 refl 1 (whole_fine _ (sym c-row-1.ensures ∙ c.if-row_1.false)) (omega arith) ∙ answer_start _; fact = tt }
+returns-then-row_2 c = let c-row-1 = c.row_1 in record { result_value = answer_refuses _ 2 3 refl 0 (whole_fault _ (sym c.row_2.ensures ∙ c.if-row_2.true)) (omega arith) ∙ answer_passes _ 1 2 refl 1 (whole_fine _ (sym c-row-1.ensures ∙ c.if-row_1.false)) (omega arith) ∙ answer_start _; where_accepted = tt }
 
 pub triangle_rows-requires : goal.triangle_rows-requires
 triangle_rows-requires c = let c-if1 = c.if-row_1 in
@@ -28,4 +28,4 @@ returns c = let c-triangle-rows = c.triangle_rows in
     let c-row-2 = c.row_2 in
     let c-if1 = c.if-row_1 in
     let c-row-1 = c.row_1 in
-    record { r_value = c-triangle-rows.ensures.r_value ∙ answer_passes _ 2 3 refl 1 (whole_fine _ (sym c-row-2.ensures ∙ c-if2.false)) (omega arith) ∙ answer_passes _ 1 2 refl 1 (whole_fine _ (sym c-row-1.ensures ∙ c-if1.false)) (omega arith) ∙ answer_start _; fact = c-triangle-rows.ensures.fact }
+    record { result_value = c-triangle-rows.ensures.result_value ∙ answer_passes _ 2 3 refl 1 (whole_fine _ (sym c-row-2.ensures ∙ c-if2.false)) (omega arith) ∙ answer_passes _ 1 2 refl 1 (whole_fine _ (sym c-row-1.ensures ∙ c-if1.false)) (omega arith) ∙ answer_start _; where_accepted = c-triangle-rows.ensures.where_accepted }

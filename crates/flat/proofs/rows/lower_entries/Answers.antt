@@ -26,7 +26,7 @@ pub shape_of-sides-then-p-eq0 : goal.shape_of-sides-then-p-eq0
 shape_of-sides-then-p-eq0 c = simp length_filled at (ap length c.loop-j.invariant.1)
 
 pub returns-then-p-eq0 : goal.returns-then-p-eq0
-returns-then-p-eq0 c = let L = c.loop-j in record { r_value = seeking_hit _ L.invariant.0 (omega arith) (eq-eqb _ 0 (sym (entry c.args.sides.now L.j L.invariant.1) ∙ c.if-p-eq0.true)); sides_after = L.invariant.1 }
+returns-then-p-eq0 c = let L = c.loop-j in record { result_value = seeking_hit _ L.invariant.0 (omega arith) (eq-eqb _ 0 (sym (entry c.args.sides.now L.j L.invariant.1) ∙ c.if-p-eq0.true)); sides_after = L.invariant.1 }
 
 pub offset_bounds-sides-j-in-loop-j : goal.offset_bounds-sides-j-in-loop-j
 offset_bounds-sides-j-in-loop-j c = omega (arith, c.requires)
@@ -48,4 +48,4 @@ pub returns : goal.returns
 returns c = let L = c.loop-j in
     let A = c.args in
     let e : L.j ≡ A.n = omega (arith, L.invariant.0.within) in
-    record { r_value = seeking_all _ L.invariant.0 (omega arith); sides_after = L.invariant.1 ∙ ap (λ (k : ℕ). filled (λ j. get_or A.sides.now j 0 - 1) k A.sides.now) e }
+    record { result_value = seeking_all _ L.invariant.0 (omega arith); sides_after = L.invariant.1 ∙ ap (λ (k : ℕ). filled (λ j. get_or A.sides.now j 0 - 1) k A.sides.now) e }

@@ -41,8 +41,8 @@ returns-then-p7-f c = let P = c.requires in
     let E = c.edge_places-p8.ensures in
     let L = c.lower_entries-p7.ensures in
     let v = placed_table _ P small _ w long E.places_after in
-    let r = ap (λ (x : ℕ). x / 3) L.r_value ∙ unlisted_first _ P.rising small _ w _ v in
-    record { r_value = answer_refuses _ 7 8 refl _ r c.if-p7-f.true; fact = tt }
+    let r = ap (λ (x : ℕ). x / 3) L.result_value ∙ unlisted_first _ P.rising small _ w _ v in
+    record { result_value = answer_refuses _ 7 8 refl _ r c.if-p7-f.true; where_accepted = tt }
 
 pub shape_of-sides-then-p8-counts : goal.shape_of-sides-then-p8-counts
 shape_of-sides-then-p8-counts c = let c-lower-entries = c.lower_entries-p7 in
@@ -59,8 +59,8 @@ returns-then-p8-counts c = let P = c.requires in
     let E = c.edge_places-p8.ensures in
     let L = c.lower_entries-p7.ensures in
     let v = placed_table _ P small _ w long E.places_after in
-    let r = ap (λ (x : ℕ). x / 3) L.r_value ∙ unlisted_first _ P.rising small _ w _ v in
-    record { r_value = answer_refuses _ 8 10 refl _ (row_8_is _ P small _ w long E.value) c.if-p8-counts.true ∙ answer_passes _ 7 8 refl _ r c.if-p7-f.false; fact = tt }
+    let r = ap (λ (x : ℕ). x / 3) L.result_value ∙ unlisted_first _ P.rising small _ w _ v in
+    record { result_value = answer_refuses _ 8 10 refl _ (row_8_is _ P small _ w long E.value) c.if-p8-counts.true ∙ answer_passes _ 7 8 refl _ r c.if-p7-f.false; where_accepted = tt }
 
 pub shape_of-sides : goal.shape_of-sides
 shape_of-sides c = let c-lower-entries = c.lower_entries-p7 in
@@ -77,10 +77,10 @@ returns c = let P = c.requires in
     let E = c.edge_places-p8.ensures in
     let L = c.lower_entries-p7.ensures in
     let v = placed_table _ P small _ w long E.places_after in
-    let r = ap (λ (x : ℕ). x / 3) L.r_value ∙ unlisted_first _ P.rising small _ w _ v in
+    let r = ap (λ (x : ℕ). x / 3) L.result_value ∙ unlisted_first _ P.rising small _ w _ v in
     record {
-      r_value = c.last_row.ensures ∙ answer_last _
+      result_value = c.last_row.ensures ∙ answer_last _
           ∙ answer_passes _ 8 10 refl _ (row_8_is _ P small _ w long E.value) c.if-p8-counts.false
           ∙ answer_passes _ 7 8 refl _ r c.if-p7-f.false;
-      fact = where-accepted c.last_row.result (sided _ P.rising small _ w _ v _ L.r_value c.if-p7-f.false L.sides_after);
+      where_accepted = where-accepted c.last_row.result (sided _ P.rising small _ w _ v _ L.result_value c.if-p7-f.false L.sides_after);
     }
