@@ -21,8 +21,8 @@ DECLARED = re.compile(
     r"(?m)^ *(abbrev |unfoldable )?(?:pub )?(?:pub )?(record |data )?"
     r'([^\s(){}.;,@"«»]+)((?: *[({][^\n]*?[)}])*) *: '
 )
-# The kit's script took ownAt of `layers` for a word of its own.
-TAKEN = {"result": "result_of", "fieldOwn": "own_at"}
+# The kit's script took ownAt of `layers` for a word of the library, and getD in the names of lemmas for none.
+TAKEN = {"result": "result_of", "field_own": "own_at"}
 PROOFS = ("Proof.antt", "Invariants.antt", "Answers.antt")
 # what a proof knows: behind these a name is one of a step or a goal
 KNOWN = ("c", "w", "l", "goal", "tie")
@@ -91,7 +91,7 @@ def main(argv):
         if name in imported or not SPELLED.match(name):
             continue
         # the library's getD is get_or
-        out = "_".join(snake(it) for it in re.sub(r"^getD(?=-)", "get_or", name).split("-"))
+        out = "_".join(snake(it) for it in re.sub(r"^(getD(?=-)|get_d(?=_))", "get_or", name).split("-"))
         if out == name:
             continue
         held[name] = out
