@@ -4,10 +4,11 @@
 usage: tools/port_names.py [--table FILE]      at the top; once, with everything of port.py in place. FILE gets the table of names, old, tab, new
 
 A word in camel case or with dashes becomes snake case: mostCells, third-is -> most_cells, third_is. A dash stays where the word without it is
-another name already: slot-edge is a lemma, slot_edge the definition that it is about. What Rattle makes of the source keeps its dashes: names of goals and steps. A second run changes nothing. Types, modules, functions of src/, exported names, strings and files keep their names.
+another name already: slot-edge is a lemma, slot_edge the definition that it is about. What Rattle makes of the source keeps its dashes: names of
+goals and steps. Types, modules, functions of src/, exported names, strings and files keep their names. A second run changes nothing.
 
 `result` means what a function returns, and nothing else: the definition of that name is result_of. The clauses that kept a λ for its sake are plain.
-Definitions that a contract names and whose new name a parameter of Rust has already get another, by the table TAKEN.
+A line with 'look:' tells of a name that fell together with another, or that a parameter has too.
 """
 
 import glob
@@ -147,7 +148,7 @@ def main(argv):
     for p in antt:
         out = []
         for line in texts[p].split("\n"):
-            code, dashes, comment = line, "", ""
+            code, comment = line, ""
             at = re.search(r"(?:^|\s)--\s", line + " ")
             if at:
                 code, comment = line[: at.start()], line[at.start() :]
@@ -158,7 +159,7 @@ def main(argv):
             changed += 1
     rust_words = {o: n for o, n in new_of.items() if o != "result"}
     for p, text in sources.items():
-        lines, inside, depth = [], False, 0
+        lines, inside = [], False
         for line in text.split("\n"):
             bare = line.strip()
             if bare.startswith("//"):

@@ -1,21 +1,20 @@
 use mathlib.Core.Path.{sym, ◌∙◌}
-use borrow.Author.Tests.{not-true, not-false}
 use Rattle.booking.proofs.Sums.{walk-it, book_sums, book_it}
 use Rattle.booking.proofs.fans_of.Goals as goal
 
 pub returns-then-not-is_level : goal.returns-then-not-is_level
-returns-then-not-is_level c = (walk-it c.args.counts (sym c.is_level.ensures ∙ not-true _ c.if-not-is_level.true-raw), tt)
+returns-then-not-is_level c = (walk-it c.args.counts (sym c.is_level.ensures ∙ c.if-not-is_level.true), tt)
 
 pub from_sums-requires : goal.from_sums-requires
 from_sums-requires c = let x = c.sum_of-x.ensures in
     let y = c.sum_of-y.ensures in
     let z = c.sum_of-z.ensures in
-    book_sums c.args.counts (sym c.is_level.ensures ∙ not-false _ c.if-not-is_level.false-raw) _ _ _ x.0 y.0 z.0 x.1 y.1 z.1
+    book_sums c.args.counts (sym c.is_level.ensures ∙ c.if-not-is_level.false) _ _ _ x.0 y.0 z.0 x.1 y.1 z.1
 
 pub returns : goal.returns
 returns c = (
   c.from_sums.ensures.0
-      ∙ book_it c.args.counts (sym c.is_level.ensures ∙ not-false _ c.if-not-is_level.false-raw) _ _ _
+      ∙ book_it c.args.counts (sym c.is_level.ensures ∙ c.if-not-is_level.false) _ _ _
       c.sum_of-x.ensures.0 c.sum_of-y.ensures.0 c.sum_of-z.ensures.0,
   c.from_sums.ensures.1,
 )

@@ -3,7 +3,6 @@ use mathlib.Core.Path.{◌≡◌, sym, ◌∙◌}
 use mathlib.Core.Bool.{true}
 use mathlib.Core.List.{List}
 use native.Mathlib.Omega.{arith}
-use borrow.Author.Tests.{not-true, not-false}
 use Rattle.cell.specs.Level.{by_edge}
 use Rattle.cell.specs.Common.{is_common}
 use Rattle.cases.specs.claims.Cases.{entries, from_digits}
@@ -17,10 +16,10 @@ pub is_common-requires : goal.is_common-requires
 is_common-requires c = tt
 
 pub returns-then-not-is_common : goal.returns-then-not-is_common
-returns-then-not-is_common c = (found_out (by_edge c.args.counts) (sym c.is_common.ensures ∙ not-true _ c.if-not-is_common.true-raw), omega arith)
+returns-then-not-is_common c = (found_out (by_edge c.args.counts) (sym c.is_common.ensures ∙ c.if-not-is_common.true), omega arith)
 
 pub loop-k-init : goal.loop-k-init
-loop-k-init c = (omega arith, sym c.is_common.ensures ∙ not-false _ c.if-not-is_common.false-raw, digits_none (by_edge c.args.counts))
+loop-k-init c = (omega arith, sym c.is_common.ensures ∙ c.if-not-is_common.false, digits_none (by_edge c.args.counts))
 
 pub overflow_mul-n : goal.overflow_mul-n
 overflow_mul-n c = omega (arith, bound c.args.counts c.loop-k.n c.loop-k.k c.loop-k.invariant)

@@ -11,7 +11,7 @@ unfolding since rows
 returns-then-p3-n c = record { result_value = answer_refuses _ 3 4 refl _ c.row_3-p3.ensures c.if-p3-n.true; where_accepted = tt }
 
 pub few_rows-requires : goal.few_rows-requires
-few_rows-requires c = let p = c.requires in record { cells_bound = c.if-n-le-FEW_CELLS.true; numbering = record { ordered = ordered_cells _ (λ i. omega (arith, c.shared_slice_known-1.given i)) p.few (rw c.row_3-p3.ensures at c.if-p3-n.false); pairs = p.pairs; blank = p.blank } }
+few_rows-requires c = let p = c.requires in record { cells_bound = c.if-n-le-FEW_CELLS.true; numbering = record { ordered = ordered_cells _ (λ i. omega (arith, c.type_inv.cells i)) p.few (rw c.row_3-p3.ensures at c.if-p3-n.false); pairs = p.pairs; blank = p.blank } }
 
 pub shape_of-near-then-n-le-FEW_CELLS : goal.shape_of-near-then-n-le-FEW_CELLS
 shape_of-near-then-n-le-FEW_CELLS c = c.few_rows.auto.near
@@ -25,7 +25,7 @@ returns-then-n-le-FEW_CELLS c = record { result_value = c.few_rows.ensures.resul
 
 pub many_rows-requires : goal.many_rows-requires
 many_rows-requires c = let p = c.requires in
-    record { ordered = ordered_cells _ (λ i. omega (arith, c.shared_slice_known-1.given i)) p.few (rw c.row_3-p3.ensures at c.if-p3-n.false); pairs = p.pairs; blank = p.blank }
+    record { ordered = ordered_cells _ (λ i. omega (arith, c.type_inv.cells i)) p.few (rw c.row_3-p3.ensures at c.if-p3-n.false); pairs = p.pairs; blank = p.blank }
 
 pub shape_of-near : goal.shape_of-near
 shape_of-near c = c.many_rows.auto.near

@@ -11,10 +11,10 @@ pub is_within-requires : goal.is_within-requires
 is_within-requires c = tt
 
 pub returns-then-not-is_within : goal.returns-then-not-is_within
-returns-then-not-is_within c = seeking_hit _ c.loop-i.invariant (omega arith) (sym (ap not c.is_within.ensures) ∙ c.if-not-is_within.true-raw)
+returns-then-not-is_within c = seeking_hit _ c.loop-i.invariant (omega arith) (ap not (sym c.is_within.ensures ∙ c.if-not-is_within.true))
 
 pub loop-i-preserved : goal.loop-i-preserved
-loop-i-preserved c = seeking_more _ c.loop-i.invariant (omega arith) (sym (ap not c.is_within.ensures) ∙ c.if-not-is_within.false-raw)
+loop-i-preserved c = seeking_more _ c.loop-i.invariant (omega arith) (ap not (sym c.is_within.ensures ∙ c.if-not-is_within.false))
 
 pub returns : goal.returns
 returns c = seeking_all _ c.loop-i.invariant (omega arith)

@@ -6,16 +6,16 @@ use Rattle.nearest.proofs.bad_in_query.Goals as goal
 
 pub returns-then-not-is_within : goal.returns-then-not-is_within
 unfolding first seek
-returns-then-not-is_within c = rw (sym (ap not c.is_within.ensures) ∙ c.if-not-is_within.true-raw)
+returns-then-not-is_within c = rw (ap not (sym c.is_within.ensures ∙ c.if-not-is_within.true))
 
 pub returns-then-not-is_within-2 : goal.returns-then-not-is_within-2
 unfolding first seek
-returns-then-not-is_within-2 c = rw (sym (ap not c.is_within.ensures) ∙ c.if-not-is_within.false-raw, sym (ap not c.is_within-2.ensures) ∙ c.if-not-is_within-2.true-raw)
+returns-then-not-is_within-2 c = rw (ap not (sym c.is_within.ensures ∙ c.if-not-is_within.false), ap not (sym c.is_within-2.ensures ∙ c.if-not-is_within-2.true))
 
 pub returns-then-not-is_within-3 : goal.returns-then-not-is_within-3
 unfolding first seek
-returns-then-not-is_within-3 c = rw (sym (ap not c.is_within.ensures) ∙ c.if-not-is_within.false-raw, sym (ap not c.is_within-2.ensures) ∙ c.if-not-is_within-2.false-raw, sym (ap not c.is_within-3.ensures) ∙ c.if-not-is_within-3.true-raw)
+returns-then-not-is_within-3 c = rw (ap not (sym c.is_within.ensures ∙ c.if-not-is_within.false), ap not (sym c.is_within-2.ensures ∙ c.if-not-is_within-2.false), ap not (sym c.is_within-3.ensures ∙ c.if-not-is_within-3.true))
 
 pub returns : goal.returns
 unfolding first seek
-returns c = rw (sym (ap not c.is_within.ensures) ∙ c.if-not-is_within.false-raw, sym (ap not c.is_within-2.ensures) ∙ c.if-not-is_within-2.false-raw, sym (ap not c.is_within-3.ensures) ∙ c.if-not-is_within-3.false-raw)
+returns c = rw (ap not (sym c.is_within.ensures ∙ c.if-not-is_within.false), ap not (sym c.is_within-2.ensures ∙ c.if-not-is_within-2.false), ap not (sym c.is_within-3.ensures ∙ c.if-not-is_within-3.false))

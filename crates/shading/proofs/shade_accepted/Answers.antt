@@ -1,5 +1,4 @@
 use mathlib.Core.Path.{refl}
-use borrow.Author.Tests.{not-true, not-false}
 use Rattle.grid.specs.Grid.{built}
 use Rattle.grid.proofs.Nodes.{numbers_small}
 use Rattle.shading.proofs.Calls.{all_unitable, in_19, in_20, in_forest, in_sides}
@@ -16,13 +15,13 @@ pub unite_all-requires : goal.unite_all-requires
 unite_all-requires c = all_unitable (built c.args.cells.now c.args.edges.now c.args.counts.now) c.requires _ c.make_roots.ensures
 
 pub returns-then-not-unite_all : goal.returns-then-not-unite_all
-returns-then-not-unite_all c = in_20 (built c.args.cells.now c.args.edges.now c.args.counts.now) c.args.area.now c.requires c.if-area-ne-MOST_NODES.false _ c.make_roots.ensures _ _ c.unite_all.ensures (not-true _ c.if-not-unite_all.true-raw)
+returns-then-not-unite_all c = in_20 (built c.args.cells.now c.args.edges.now c.args.counts.now) c.args.area.now c.requires c.if-area-ne-MOST_NODES.false _ c.make_roots.ensures _ _ c.unite_all.ensures c.if-not-unite_all.true
 
 pub write_sides-requires : goal.write_sides-requires
 write_sides-requires c = record {
-  forest = in_forest (built c.args.cells.now c.args.edges.now c.args.counts.now) c.args.area.now c.requires c.if-area-ne-MOST_NODES.false _ c.make_roots.ensures _ _ c.unite_all.ensures (not-false _ c.if-not-unite_all.false-raw);
+  forest = in_forest (built c.args.cells.now c.args.edges.now c.args.counts.now) c.args.area.now c.requires c.if-area-ne-MOST_NODES.false _ c.make_roots.ensures _ _ c.unite_all.ensures c.if-not-unite_all.false;
   room = c.if-area-ne-MOST_NODES.false;
 }
 
 pub returns : goal.returns
-returns c = in_sides (built c.args.cells.now c.args.edges.now c.args.counts.now) c.args.area.now c.requires c.if-area-ne-MOST_NODES.false _ c.make_roots.ensures _ _ c.unite_all.ensures (not-false _ c.if-not-unite_all.false-raw) _ c.write_sides.ensures
+returns c = in_sides (built c.args.cells.now c.args.edges.now c.args.counts.now) c.args.area.now c.requires c.if-area-ne-MOST_NODES.false _ c.make_roots.ensures _ _ c.unite_all.ensures c.if-not-unite_all.false _ c.write_sides.ensures

@@ -8,7 +8,6 @@ loop-x-init c = (omega arith, writing_none _ _ c.requires)
 
 pub byte_of-requires : goal.byte_of-requires
 byte_of-requires c = let l = c.loop-x in
-    let s = c.before.before.before.before.before in
     record { writable = still_writable c.args.links.now c.args.area.now l.x l.area c.requires l.invariant.1; x_lt_most_nodes = omega arith }
 
 pub bounds-area-x : goal.bounds-area-x
@@ -16,7 +15,6 @@ bounds-area-x c = omega (arith, c.loop-x.invariant.1.long)
 
 pub loop-x-preserved : goal.loop-x-preserved
 loop-x-preserved c = let l = c.loop-x in
-    let s = c.before.before.before.before.before.before in
     (omega arith, writing_more c.args.links.now c.args.area.now l.x l.area c.requires l.invariant.1 c.byte_of.result c.byte_of.ensures (omega arith) _ refl)
 
 pub shape_of-area : goal.shape_of-area

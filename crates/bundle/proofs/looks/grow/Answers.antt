@@ -29,7 +29,7 @@ bounds-tops-i c = omega (arith, c.loop-i.invariant.0, c.loop-i.invariant.2, c.re
 pub loop-i-preserved : goal.loop-i-preserved
 loop-i-preserved c = let l = c.loop-i.invariant in (
   omega arith,
-  omega (arith, c.links-1.given, l.1),
+  omega (arith, c.plant-p.auto.links, l.1),
   simp length-set l.2,
   c.plant-p.ensures.tree,
   tops_more _ _ _ _ _ (omega (arith, l.0, c.loop-i-test.true)) c.plant-p.ensures.value (rw (up _ c.loop-i-test.true) at l.4),

@@ -1,25 +1,25 @@
-use Prim.Native.Nat.{◌+◌, ◌*◌, ◌≤◌}
+use Prim.Native.Nat.{ℕ, ◌+◌, ◌*◌, ◌≤◌}
+use mathlib.Core.List.{List}
 use mathlib.Core.Path.{◌≡◌, ap, sym, ◌∙◌}
 use native.Mathlib.Omega.{arith}
 use lib.ListN.{length}
 use Rattle.bundle.specs.work.Record.{look_size}
-use Rattle.bundle.specs.work.Looked.{key_at}
+use Rattle.bundle.specs.work.Looked.{key_at, LookIn}
 use Rattle.bundle.proofs.Looked.{look_place, look_within}
 use Rattle.bundle.proofs.looks.look_key.Goals as goal
-use Rattle.bundle.proofs.looks.look_key.Goals.{After-shared_slice_known-1}
 
 -- the look is within the bytes
-there : (c : After-shared_slice_known-1) → c.args.base + look_size * c.args.k + look_size ≤ length c.args.bytes.now
-there c = let p = c.requires in omega (arith, look_within c.args.bytes.now c.args.k p.within, p.begin)
+there : {s : List ℕ} {base k : ℕ} → LookIn s base k → base + look_size * k + look_size ≤ length s
+there {s} {base} {k} p = omega (arith, look_within s k p.within, p.begin)
 
 pub overflow_mul-k : goal.overflow_mul-k
-overflow_mul-k c = omega (arith, there (goal.at.overflow_mul-k c).After-shared_slice_known-1)
+overflow_mul-k c = omega (arith, there c.requires)
 
 pub overflow_add-base : goal.overflow_add-base
-overflow_add-base c = omega (arith, there (goal.at.overflow_add-base c).After-shared_slice_known-1)
+overflow_add-base c = omega (arith, there c.requires)
 
 pub key_at-requires : goal.key_at-requires
-key_at-requires c = omega (arith, there (goal.at.key_at-requires c).After-shared_slice_known-1)
+key_at-requires c = omega (arith, there c.requires)
 
 pub returns : goal.returns
 returns c = let p = c.requires in

@@ -51,7 +51,7 @@ loop-k-preserved c = let p = c.requires in
     let h = c.loop-k-test.true in
     let n = edge-number _ _ _ _ _ p.listed l.invariant.0 h in
     let s = a.bytes.now in
-    let small : (i : ℕ) → get_or s i 0 < 256 = λ i. omega (arith, c.shared_slice_known-1.given i) in
+    let small : (i : ℕ) → get_or s i 0 < 256 = λ i. omega (arith, c.type_inv.bytes i) in
     let key = c.key_at-key.ensures ∙ edge-key _ _ _ _ _ p.listed l.invariant.0 h in
     let top : c.latest-p.result ≡ top_of s a.m a.n l.k = c.latest-p.ensures ∙ ap (top_for (block_key s a.m) a.n) key in
     let own : get_or l.counts l.k 0 ≡ count_after s a.m l.k = ap (λ (x : List ℕ). get_or x l.k 0) l.invariant.1 ∙ filled_beyond _ l.k _ 0 l.k (le_refl l.k) ∙ p.counted.at l.k n in

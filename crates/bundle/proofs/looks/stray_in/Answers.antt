@@ -25,5 +25,5 @@ unmet-requires c = let t = c.grow.ensures.tops in
 
 pub returns : goal.returns
 returns c = let p = c.requires in
-    let small : (i : ℕ) → get_or c.args.bytes.now i 0 < 256 = λ i. omega (arith, c.shared_slice_known-1.given i) in
+    let small : (i : ℕ) → get_or c.args.bytes.now i 0 < 256 = λ i. omega (arith, c.type_inv.bytes i) in
     c.unmet.ensures ∙ first_ext _ _ _ (λ j h. unmarked_stray _ small _ _ p.part.within _ _ c.grow.ensures.tops c.mark.ensures j h)

@@ -6,7 +6,7 @@ use Rattle.bundle.specs.Record.{count_place}
 use Rattle.bundle.proofs.reader.count_in.Goals as goal
 
 pub overflow_cast-result : goal.overflow_cast-result
-overflow_cast-result c = omega (arith, c.shared_slice_known-then-body-1.given count_place)
+overflow_cast-result c = omega (arith, c.type_inv.body count_place)
 
 -- the high byte is not there
 pub returns-then-body : goal.returns-then-body

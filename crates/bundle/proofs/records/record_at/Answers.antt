@@ -1,6 +1,5 @@
 use mathlib.Core.Path.{◌≡◌, sym}
 use native.Mathlib.Omega.{arith}
-use borrow.Author.Tests.{not-true, not-false}
 use Rattle.bundle.proofs.OneRecord.{answer_outside, case_short, case_unknown, case_wrong, case_cut, wide_inside, case_small, case_whole}
 use Rattle.bundle.proofs.records.record_at.Goals as goal
 
@@ -25,8 +24,8 @@ may_have-requires c = let e : c.word_at-length.result ≡ c.length_of-right.resu
     wide_inside a.bytes.now a.start c.if-bytes-start.false _ _ _ c.word_at-length.ensures c.word_at-kind.ensures c.length_of-right.ensures e c.if-bytes-start-2.false
 
 pub returns-then-not-may_have : goal.returns-then-not-may_have
-returns-then-not-may_have c = case_small _ _ c.if-bytes-start.false _ _ _ c.word_at-length.ensures c.word_at-kind.ensures c.length_of-right.ensures _ c.may_have.ensures (not-true _ c.if-not-may_have.true-raw)
+returns-then-not-may_have c = case_small _ _ c.if-bytes-start.false _ _ _ c.word_at-length.ensures c.word_at-kind.ensures c.length_of-right.ensures _ c.may_have.ensures c.if-not-may_have.true
 
 pub returns : goal.returns
 returns c = let e : c.word_at-length.result ≡ c.length_of-right.result = omega (arith, c.if-length-right.false) in
-    case_whole _ _ c.if-bytes-start.false _ _ _ c.word_at-length.ensures c.word_at-kind.ensures c.length_of-right.ensures _ c.may_have.ensures c.if-bytes-start-lt-HEAD_BYTES.false c.if-right-eq0.false e c.if-bytes-start-2.false (not-false _ c.if-not-may_have.false-raw)
+    case_whole _ _ c.if-bytes-start.false _ _ _ c.word_at-length.ensures c.word_at-kind.ensures c.length_of-right.ensures _ c.may_have.ensures c.if-bytes-start-lt-HEAD_BYTES.false c.if-right-eq0.false e c.if-bytes-start-2.false c.if-not-may_have.false

@@ -3,13 +3,13 @@ use native.Mathlib.Omega.{arith}
 use Rattle.bundle.proofs.records.word_at.Goals as goal
 
 pub overflow_cast-result : goal.overflow_cast-result
-overflow_cast-result c = omega (arith, c.shared_slice_known-1.given c.args.at)
+overflow_cast-result c = omega (arith, c.type_inv.bytes c.args.at)
 
 pub overflow_cast-result-2 : goal.overflow_cast-result-2
-overflow_cast-result-2 c = omega (arith, c.shared_slice_known-2-1.given (c.args.at + 1))
+overflow_cast-result-2 c = omega (arith, c.type_inv.bytes (c.args.at + 1))
 
 pub overflow_mul-result : goal.overflow_mul-result
-overflow_mul-result c = omega (arith, c.shared_slice_known-2-1.given (c.args.at + 1))
+overflow_mul-result c = omega (arith, c.type_inv.bytes (c.args.at + 1))
 
 pub overflow_add-result-2 : goal.overflow_add-result-2
-overflow_add-result-2 c = omega (arith, c.shared_slice_known-2-1.given (c.args.at + 1), c.shared_slice_known-2-1.given c.args.at)
+overflow_add-result-2 c = omega (arith, c.type_inv.bytes (c.args.at + 1), c.type_inv.bytes c.args.at)

@@ -1,31 +1,22 @@
-use Prim.Native.Nat.{◌+◌, ◌*◌, ◌≤◌}
+use Prim.Native.Nat.{◌*◌}
 use native.Mathlib.Omega.{arith}
-use lib.ListN.{length, get_or}
 use Rattle.counting.proofs.Stored.{stored_then, stored_long}
-use Rattle.bundle.specs.Record.{head_bytes, count_place}
 use Rattle.bundle.specs.Bundle.{edge_ends}
-use Rattle.bundle.specs.Written.{count_bytes, edge_bytes}
+use Rattle.bundle.specs.Written.{edge_bytes}
 use Rattle.bundle.proofs.Writes.{length_list, edge_parts}
 use Rattle.bundle.proofs.writer.put_edge.Goals as goal
-use Rattle.bundle.proofs.writer.put_edge.Goals.{After-shared_slice_known-3-1}
-
--- the head, the ends and the count have room
-room : (c : After-shared_slice_known-3-1) → c.args.at + (head_bytes + count_place) + length (count_bytes (get_or c.args.counts.now c.args.k 0)) ≤ length c.args.area.now
-room c =
-    let s = c.before.before.before.before in
-    omega (arith, s.requires.room, edge_parts s.args.ends.now s.args.counts.now s.args.k)
 
 pub put_head-body-requires : goal.put_head-body-requires
-put_head-body-requires c = omega (arith, room (goal.at.put_head-body-requires c).After-shared_slice_known-3-1)
+put_head-body-requires c = omega (arith, c.requires.room, edge_parts c.args.ends.now c.args.counts.now c.args.k)
 
 pub put_words-next-requires : goal.put_words-next-requires
 put_words-next-requires c = let h = c.put_head-body.ensures in
-    record { all = omega (arith, c.requires.pair); room = omega (arith, room (goal.at.put_words-next-requires c).After-shared_slice_known-3-1, h.after, stored_long h) }
+    record { all = omega (arith, c.requires.pair); room = omega (arith, c.requires.room, edge_parts c.args.ends.now c.args.counts.now c.args.k, h.after, stored_long h) }
 
 pub put_count-requires : goal.put_count-requires
 put_count-requires c = let h = c.put_head-body.ensures in
     let w = c.put_words-next.ensures in
-    omega (arith, room (goal.at.put_count-requires c).After-shared_slice_known-3-1, h.after, stored_long h, w.after, stored_long w, length_list c.args.ends.now (edge_ends * c.args.k) edge_ends)
+    omega (arith, c.requires.room, edge_parts c.args.ends.now c.args.counts.now c.args.k, h.after, stored_long h, w.after, stored_long w, length_list c.args.ends.now (edge_ends * c.args.k) edge_ends)
 
 pub returns : goal.returns
 unfolding edge_bytes

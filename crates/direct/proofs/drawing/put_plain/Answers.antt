@@ -54,7 +54,7 @@ put_fitting-i-requires c = let A = c.args in
     let e = c.counts_at-six.ensures in
     let N = c.kind_of-d.ensures (not-false _ c.if-not-d.false) in
     let v = c.cell_at-v.ensures in
-    let r = sym c.is_rising.ensures ∙ not-false _ c.if-not-is_rising.false-raw in
+    let r = sym c.is_rising.ensures ∙ c.if-not-is_rising.false in
     (table_ready A.cells.now A.counts.now A.names.now A.sides.now A.starts.now L.k e N v, rising_is c.cell_at-v.result r, table_booked A.cells.now A.counts.now A.names.now A.sides.now A.starts.now L.k e N v)
 
 pub overflow_add-k-in-loop-k : goal.overflow_add-k-in-loop-k

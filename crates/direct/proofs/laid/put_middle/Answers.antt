@@ -2,7 +2,6 @@ use native.Mathlib.Omega.{arith}
 use mathlib.Core.Path.{refl, sym, ap, ◌∙◌}
 use Rattle.cell.specs.Words.{all_words}
 use Rattle.counting.proofs.Stored.{stored_as}
-use borrow.Author.Tests.{not-true, not-false}
 use mathlib.Core.Logic.{◌≢◌}
 use Rattle.cell.specs.Of.{count_of}
 use Rattle.booking.specs.Booking.{left_between}
@@ -12,18 +11,18 @@ use Rattle.direct.proofs.Laying.{left_at, across_parting, round_parting, quads_a
 use Rattle.direct.proofs.laid.put_middle.Goals as goal
 
 pub returns-then-not-quads : goal.returns-then-not-quads
-returns-then-not-quads c = let A = c.args in none_stored (quads_not {quads = A.quads} (not-true _ c.if-not-quads.true-raw) (quads_on A.c A.k A.a A.b A.x A.d)) _ _
+returns-then-not-quads c = let A = c.args in none_stored (quads_not {quads = A.quads} c.if-not-quads.true (quads_on A.c A.k A.a A.b A.x A.d)) _ _
 
 pub returns-then-n-eq0 : goal.returns-then-n-eq0
 returns-then-n-eq0 c = let P = c.requires in
     let B = P.laid.1 in
-    none_stored (quads_none P.laid.0 B (left_at P.laid.0 B B.b_lt P.laid.2 P.laid.3 c.left_of-n.ensures) _ (not-false _ c.if-not-quads.false-raw) c.if-n-eq0.true) _ _
+    none_stored (quads_none P.laid.0 B (left_at P.laid.0 B B.b_lt P.laid.2 P.laid.3 c.left_of-n.ensures) _ c.if-not-quads.false c.if-n-eq0.true) _ _
 
 pub put_started-requires : goal.put_started-requires
 put_started-requires c = let P = c.requires in
     let R = P.laid.0 in
     let B = P.laid.1 in
-    let t = not-false _ c.if-not-quads.false-raw in
+    let t = c.if-not-quads.false in
     let n = left_at R B B.b_lt P.laid.2 P.laid.3 c.left_of-n.ensures in
     let z = sym (left_at R B B.c_lt c.joining_of.ensures.0 c.joining_of.ensures.1 c.left_of.ensures) ∙ c.if-left_of-eq0.true in
     record { listed = (R.listed, across_parting R B n z, omega (arith, c.if-n-eq0.false), P.laid.3); v_in_bounds = rw (quads_across R B _ t z) at P.d_in_bounds }
@@ -32,7 +31,7 @@ pub returns-then-left_of-eq0 : goal.returns-then-left_of-eq0
 returns-then-left_of-eq0 c = let P = c.requires in
     let R = P.laid.0 in
     let B = P.laid.1 in
-    let t = not-false _ c.if-not-quads.false-raw in
+    let t = c.if-not-quads.false in
     let n = left_at R B B.b_lt P.laid.2 P.laid.3 c.left_of-n.ensures in
     let z = sym (left_at R B B.c_lt c.joining_of.ensures.0 c.joining_of.ensures.1 c.left_of.ensures) ∙ c.if-left_of-eq0.true in
     stored_as c.put_started.ensures (ap all_words (sym (quads_across R B _ t z))) refl
@@ -41,7 +40,7 @@ pub put_started-requires-2 : goal.put_started-requires-2
 put_started-requires-2 c = let P = c.requires in
     let R = P.laid.0 in
     let B = P.laid.1 in
-    let t = not-false _ c.if-not-quads.false-raw in
+    let t = c.if-not-quads.false in
     let n = left_at R B B.b_lt P.laid.2 P.laid.3 c.left_of-n.ensures in
     let z : left_between (count_of c.args.c) c.args.a c.args.x ≢ 0 = λ q. c.if-left_of-eq0.false (left_at R B B.c_lt c.joining_of.ensures.0 c.joining_of.ensures.1 c.left_of.ensures ∙ q) in
     record { listed = (R.listed, round_parting R B n t (omega (arith, c.if-n-eq0.false)) z, omega (arith, c.if-n-eq0.false), P.laid.3); v_in_bounds = rw (quads_round R B _ t z) at P.d_in_bounds }
@@ -50,7 +49,7 @@ pub returns : goal.returns
 returns c = let P = c.requires in
     let R = P.laid.0 in
     let B = P.laid.1 in
-    let t = not-false _ c.if-not-quads.false-raw in
+    let t = c.if-not-quads.false in
     let n = left_at R B B.b_lt P.laid.2 P.laid.3 c.left_of-n.ensures in
     let z : left_between (count_of c.args.c) c.args.a c.args.x ≢ 0 = λ q. c.if-left_of-eq0.false (left_at R B B.c_lt c.joining_of.ensures.0 c.joining_of.ensures.1 c.left_of.ensures ∙ q) in
     stored_as c.put_started-2.ensures (ap all_words (sym (quads_round R B _ t z))) refl

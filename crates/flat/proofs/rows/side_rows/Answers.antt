@@ -37,7 +37,7 @@ returns-then-p7-f c = let P = c.requires in
     let K = c.side_keys.ensures in
     let w = filled_table _ _ _ _ K (omega (arith, P.rising.few)) in
     let long = simp length_filled at (ap length K) ∙ length-replicate {A = ℕ} most_sides 0 in
-    let small : (i : ℕ) → get_or c.args.edges.now i 0 < 65536 = λ i. omega (arith, c.shared_slice_known-2-1.given i) in
+    let small : (i : ℕ) → get_or c.args.edges.now i 0 < 65536 = λ i. omega (arith, c.type_inv.edges i) in
     let E = c.edge_places-p8.ensures in
     let L = c.lower_entries-p7.ensures in
     let v = placed_table _ P small _ w long E.places_after in
@@ -55,7 +55,7 @@ returns-then-p8-counts c = let P = c.requires in
     let K = c.side_keys.ensures in
     let w = filled_table _ _ _ _ K (omega (arith, P.rising.few)) in
     let long = simp length_filled at (ap length K) ∙ length-replicate {A = ℕ} most_sides 0 in
-    let small : (i : ℕ) → get_or c.args.edges.now i 0 < 65536 = λ i. omega (arith, c.shared_slice_known-2-1.given i) in
+    let small : (i : ℕ) → get_or c.args.edges.now i 0 < 65536 = λ i. omega (arith, c.type_inv.edges i) in
     let E = c.edge_places-p8.ensures in
     let L = c.lower_entries-p7.ensures in
     let v = placed_table _ P small _ w long E.places_after in
@@ -73,7 +73,7 @@ returns c = let P = c.requires in
     let K = c.side_keys.ensures in
     let w = filled_table _ _ _ _ K (omega (arith, P.rising.few)) in
     let long = simp length_filled at (ap length K) ∙ length-replicate {A = ℕ} most_sides 0 in
-    let small : (i : ℕ) → get_or c.args.edges.now i 0 < 65536 = λ i. omega (arith, c.shared_slice_known-2-1.given i) in
+    let small : (i : ℕ) → get_or c.args.edges.now i 0 < 65536 = λ i. omega (arith, c.type_inv.edges i) in
     let E = c.edge_places-p8.ensures in
     let L = c.lower_entries-p7.ensures in
     let v = placed_table _ P small _ w long E.places_after in

@@ -19,9 +19,8 @@ returns-then-p4-n c = let c-row-3 = c.row_3-p3 in record { result_value = answer
 
 pub row_5-p5-requires : goal.row_5-p5-requires
 row_5-p5-requires c = let c-row-3 = c.row_3-p3 in
-    let c-shared-slice-known = c.shared_slice_known-1 in
     let c-pre = c.requires in
-    rising_triangles _ (λ i. omega (arith, c-shared-slice-known.given i)) c-pre.few (rw c-row-3.ensures at c.if-p3-n.false)
+    rising_triangles _ (λ i. omega (arith, c.type_inv.triangles i)) c-pre.few (rw c-row-3.ensures at c.if-p3-n.false)
 
 pub returns-then-p5-n : goal.returns-then-p5-n
 unfolding since rows
@@ -33,9 +32,8 @@ returns-then-p5-n c = let c-row-4 = c.row_4-p4 in
 pub edge_rows-requires : goal.edge_rows-requires
 edge_rows-requires c = let c-if1 = c.if-p3-n in
     let c-row-3 = c.row_3-p3 in
-    let c-shared-slice-known = c.shared_slice_known-1 in
     let c-pre = c.requires in
-    record { rising = rising_triangles _ (λ i. omega (arith, c-shared-slice-known.given i)) c-pre.few (rw c-row-3.ensures at c-if1.false); pairs = c-pre.pairs; blank = c-pre.blank }
+    record { rising = rising_triangles _ (λ i. omega (arith, c.type_inv.triangles i)) c-pre.few (rw c-row-3.ensures at c-if1.false); pairs = c-pre.pairs; blank = c-pre.blank }
 
 pub returns : goal.returns
 unfolding since rows

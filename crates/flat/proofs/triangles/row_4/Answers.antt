@@ -11,4 +11,4 @@ pub returns : goal.returns
 returns c = let n = length c.args.triangles.now / 3 in
     let k = filled_table _ n _ _ c.triangle_keys.ensures (omega arith) in
     let v = earlier_table k most_flat_triangles c.earlier_places.ensures (omega arith) (omega arith) in
-    c.first_entry.ensures ∙ repeats_first _ (λ i. omega (arith, c.shared_slice_known-1.given i)) n _ _ k v
+    c.first_entry.ensures ∙ repeats_first _ (λ i. omega (arith, c.type_inv.triangles i)) n _ _ k v

@@ -19,7 +19,6 @@ returns-then-e-eq0 c = let c-args = c.args in
 pub returns : goal.returns
 unfolding bad_edge
 returns c = let c-args = c.args in
-    let c-shared-slice-known = c.shared_slice_known-1 in
     let c-end-at = c.end_at-u in
     let c-end-at2 = c.end_at-v in
     rw (
@@ -27,7 +26,7 @@ returns c = let c-args = c.args in
       ← c-end-at2.ensures.value,
       lt-ltb _ _ c.if-v-u.false,
       lt-ltb 0 c-args.e (omega (arith, c.if-e-eq0.false)),
-      after_key c-args.edges.now (λ i. omega (arith, c-shared-slice-known.given i)) (c-args.e - 1) c-args.e,
+      after_key c-args.edges.now (λ i. omega (arith, c.type_inv.edges i)) (c-args.e - 1) c-args.e,
       ← c.edge_key.ensures,
       ← c.edge_key-2.ensures,
     )

@@ -16,7 +16,7 @@ returns-then-wide_start-s c = let l = c.loop-e in
     sym (some_found _ _ l.e (omega arith) (bad-start _ _ _ (λ q. c.if-wide_start-s.true (c.wide_start.ensures.value ∙ q ∙ sym l.invariant.1))))
 
 pub overflow_add-s : goal.overflow_add-s
-overflow_add-s c = omega (arith, c.wide_start.ensures.upper_bound, c.if-wide_start-s.false, c.wide-s.ensures, c.shared_slice_known-in-loop-e-2-1.given c.loop-e.e)
+overflow_add-s c = omega (arith, c.wide_start.ensures.upper_bound, c.if-wide_start-s.false, c.wide-s.ensures, c.type_inv.counts c.loop-e.e)
 
 pub loop-e-preserved : goal.loop-e-preserved
 loop-e-preserved c = let l = c.loop-e in

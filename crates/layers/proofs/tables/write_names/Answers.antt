@@ -30,7 +30,7 @@ overflow_mul-from-in-loop-j c = omega (arith, c.requires.few)
 
 pub overflow_cast-own : goal.overflow_cast-own
 overflow_cast-own c = let x = c.wide16-x.ensures.0 in
-    let s = base_small (4 * c.args.from) c.wide16-x.result c.loop-j.j 65536 (omega (arith, x, c.shared_slice_known-in-loop-j-1.given (4 * c.args.from + c.loop-j.j))) (omega (arith, c.requires.few)) in
+    let s = base_small (4 * c.args.from) c.wide16-x.result c.loop-j.j 65536 (omega (arith, x, c.type_inv.names (4 * c.args.from + c.loop-j.j))) (omega (arith, c.requires.few)) in
     omega (arith, s, c.from_base.ensures)
 
 pub bounds-own-j : goal.bounds-own-j

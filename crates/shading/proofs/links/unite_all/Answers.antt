@@ -1,7 +1,6 @@
 use mathlib.Core.Path.{◌≡◌, refl, sym, ◌∙◌, subst}
 use native.Mathlib.Omega.{arith}
 use lib.ListN.{length}
-use borrow.Author.Tests.{not-true, not-false}
 use Rattle.counting.proofs.Bools.{clash}
 use Rattle.shading.specs.work.Work.{HasLink, TiedAll}
 use Rattle.shading.proofs.Ties.{tied_none, tied_more, tied_not}
@@ -35,7 +34,7 @@ returns-then-not-unite c = let l = c.loop-e in
     record {
       tied = λ e. clash e refl;
       none = λ e. tied_not a.edges.now a.counts.now a.links.now l.e l.links l.invariant.1 (omega arith) _ _ _
-          c.wide16-u.ensures.0 c.wide16-v.ensures.0 c.wide16.ensures.0 _ _ c.unite.ensures (not-true _ c.if-not-unite.true-raw);
+          c.wide16-u.ensures.0 c.wide16-v.ensures.0 c.wide16.ensures.0 _ _ c.unite.ensures c.if-not-unite.true;
     }
 
 pub loop-e-preserved : goal.loop-e-preserved
@@ -43,7 +42,7 @@ loop-e-preserved c = let l = c.loop-e in
     let a = c.args in (
       omega arith,
       tied_more a.edges.now a.counts.now a.links.now l.e l.links l.invariant.1 (omega arith) _ _ _
-          c.wide16-u.ensures.0 c.wide16-v.ensures.0 c.wide16.ensures.0 _ _ c.unite.ensures (not-false _ c.if-not-unite.false-raw),
+          c.wide16-u.ensures.0 c.wide16-v.ensures.0 c.wide16.ensures.0 _ _ c.unite.ensures c.if-not-unite.false,
     )
 
 pub shape_of-links : goal.shape_of-links

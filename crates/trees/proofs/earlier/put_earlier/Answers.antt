@@ -14,8 +14,8 @@ step-requires c = let p = c.requires in
     record {
       few = p.few;
       tops_are = c.grow.ensures.key_tops.tops_are;
-      room = omega (arith, p.room, c.links-1.given, simp length_filled at (ap length e));
-      blank = λ i h. ap (λ (l : List ℕ). get_or l i 0) e ∙ filled_at (λ (_ : ℕ). 0) (c.args.n + 1) _ 0 (omega (arith, p.room, c.links-1.given)) i (omega arith);
+      room = omega (arith, p.room, c.grow.auto.links, simp length_filled at (ap length e));
+      blank = λ i h. ap (λ (l : List ℕ). get_or l i 0) e ∙ filled_at (λ (_ : ℕ). 0) (c.args.n + 1) _ 0 (omega (arith, p.room, c.grow.auto.links)) i (omega arith);
     }
 
 pub returns : goal.returns

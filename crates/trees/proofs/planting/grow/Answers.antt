@@ -29,7 +29,7 @@ pub loop-i-preserved : goal.loop-i-preserved
 loop-i-preserved c = let l = c.loop-i.invariant in
     let h = c.loop-i-test.true in (
       omega arith,
-      omega (arith, c.links-1.given, l.1),
+      omega (arith, c.plant-p.auto.links, l.1),
       c.plant-p.ensures.tree,
       key_tops_more _ _ _ _ _ _ (omega (arith, l.0, h)) c.plant-p.ensures.value (rw (up _ h) at l.3),
     )
