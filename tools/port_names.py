@@ -16,6 +16,8 @@ import os
 import re
 import sys
 
+from port_proofs import read, write
+
 WORD = re.compile(r'[^\s(){}.;,@"«»]+')
 CHAIN = re.compile(WORD.pattern + r"(?:\." + WORD.pattern + r")*")
 DECLARED = re.compile(
@@ -28,16 +30,6 @@ PROOFS = ("Proof.antt", "Invariants.antt", "Answers.antt")
 # what a proof knows: behind these a name is one of a step or a goal
 KNOWN = ("c", "w", "l", "goal", "tie")
 SPELLED = re.compile(r"^[a-z0-9][A-Za-z0-9'_-]*$")
-
-
-def read(path):
-    with open(path, encoding="utf-8") as f:
-        return f.read()
-
-
-def write(path, text):
-    with open(path, "w", encoding="utf-8") as f:
-        f.write(text)
 
 
 def below(pattern):

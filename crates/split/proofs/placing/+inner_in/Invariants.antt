@@ -3,5 +3,6 @@ use Rattle.cell.specs.Of.{count_of}
 use Rattle.booking.specs.Booking.{larger, smaller}
 use Rattle.split.proofs.placing.+inner_in.Given as goal
 
+-- the sum of the two numbers falls from split to split (01)
 abbrev pub decreases-inner_in : goal.decreases-inner_in
 decreases-inner_in l = larger (count_of l.c) + smaller (count_of l.c)
