@@ -1,4 +1,5 @@
 -- The rows in turn: a row with a fault refuses, and one without passes on.
+use Rattle.std.specs.Prelude.{Some, None}
 use Prim.Native.Nat.{ℕ, zero, suc, ◌<◌, ◌≤◌}
 use mathlib.Core.Path.{◌≡◌, refl, sym, ◌∙◌}
 use mathlib.Core.Logic.{◌⊎◌, inl, inr, ⊎_elim}
@@ -10,10 +11,10 @@ use lib.Dec.{eqb}
 use lib.ListN.{length}
 use borrow.Author.Tests.{eqb-true, eqb-false, le-ltb, lt-ltb, not-true}
 use Rattle.counting.specs.Pick.{pick}
-use Rattle.counting.specs.Search.{first, some}
+use Rattle.counting.specs.Search.{first, some, found}
 use Rattle.counting.specs.Lists.{seek}
 use Rattle.counting.proofs.Bools.{and_left, and_right}
-use Rattle.counting.proofs.Search.{first_at, first_below, first_is, none_first, some_first, some_none}
+use Rattle.counting.proofs.Search.{first_at, first_below, first_is, none_first, some_first, some_none, found_first, found_none}
 use Rattle.answer.specs.Answer.{refusal, result_of, is_result}
 use Rattle.answer.specs.Rows.{Row, or_refuse, answer_of, Clear}
 use Rattle.answer.specs.work.Faults.{since, numbered}
@@ -28,6 +29,14 @@ module _ (row : Row) (more : List Row) (rest : List ℕ) (p : ℕ) (e : p ≡ fi
   pub row_refuses : p < row.places → refusal row.number p ≡ answer_of (row ∷ more) rest
   unfolding answer_of or_refuse
   row_refuses l = sym (rw (← e, lt-ltb p row.places l))
+
+-- a row whose lowest fault is sought
+module _ (row : Row) (more : List Row) (rest : List ℕ) where
+  pub row_found : (p : ℕ) → Some p ≡ found row.fault row.places → refusal row.number p ≡ answer_of (row ∷ more) rest
+  row_found p e = let w = found_first row.fault row.places p e in row_refuses row more rest p w.0 w.1
+
+  pub row_clear : None ≡ found row.fault row.places → answer_of more rest ≡ answer_of (row ∷ more) rest
+  row_clear e = let q = found_none row.fault row.places e in row_passes row more rest (first row.fault row.places) refl (omega arith)
 
 -- after the last row
 pub rows_end : (rest : List ℕ) → rest ≡ answer_of [] rest

@@ -1,4 +1,5 @@
 -- Laws of searches and of counts.
+use Rattle.std.specs.Prelude.{Some, None}
 use Prim.Native.Nat.{ℕ, zero, suc, ◌+◌, ◌*◌, ◌-◌, ◌/◌, ◌%◌, ◌≤◌, ◌<◌}
 use mathlib.Core.Path.{◌≡◌, refl, sym, ap, ◌∙◌}
 use mathlib.Core.Logic.{◌⊎◌, inl, inr, ⊎_elim}
@@ -7,10 +8,10 @@ use native.Mathlib.Omega.{arith}
 use native.Mathlib.Numerals.{add-one}
 use native.Mathlib.Nat.{add-zero, mul-zero, mul-suc, mul_comm, mul-le-mul_left, mod-lt, div-add-mod, mul-div_cancel_left, div-lt_iff_lt-mul, not-suc-le-zero, eq-or-lt_of_le, le_of_suc-le-suc}
 use lib.Dec.{eqb, ltb}
-use borrow.Author.Tests.{lt-ltb, ltb-true}
+use borrow.Author.Tests.{lt-ltb, le-ltb, ltb-true, ltb-false}
 use Rattle.counting.specs.Pick.{pick}
 use Rattle.counting.specs.Lists.{one, total, seek}
-use Rattle.counting.specs.Search.{first, last, some, every, count}
+use Rattle.counting.specs.Search.{first, last, some, every, count, found}
 use Rattle.counting.proofs.Below.{trichotomy}
 use Rattle.counting.proofs.Bools.{not_clash, clash, and_true, and_left, and_right, holds_or, one_le}
 use Rattle.counting.proofs.Range.{total_ext, total_le, total_mono, total_snoc, total_swap, total_times, total_at}
@@ -494,3 +495,38 @@ first_blocks t b n pos =
 pub some_first : (t : ℕ → Bool) (n : ℕ) → some t n ≡ true → first t n < n
 some_first t n e =
     ⊎_elim (λ (q : first t n ≡ n). (let w = some_is t n e in clash w.2 (first_none t n (omega arith) w.0 w.1))) (λ q. q) (eq-or-lt_of_le (first_le t n))
+
+-- a search that tells whether it finds
+module _ (t : ℕ → Bool) (n : ℕ) where
+  pub first_found : first t n < n → Some (first t n) ≡ found t n
+  unfolding found
+  first_found h = sym (rw (lt-ltb _ _ h))
+
+  pub none_found : n ≤ first t n → None ≡ found t n
+  unfolding found
+  none_found h = sym (rw (le-ltb _ _ h))
+
+  -- what is found is the first, and where nothing is found none passes
+  pub found_first : (i : ℕ) → Some i ≡ found t n → (i ≡ first t n) × (i < n)
+  unfolding found
+  found_first i e = go (ltb (first t n) n) refl e
+    where
+      go : (b : Bool) → ltb (first t n) n ≡ b → Some i ≡ pick b (Some (first t n)) None → (i ≡ first t n) × (i < n)
+      go true q f = let z : i ≡ first t n = cc in (z, omega (arith, ltb-true _ _ q))
+      go false q f = absurd cc
+
+  pub found_none : None ≡ found t n → first t n ≡ n
+  unfolding found
+  found_none e = go (ltb (first t n) n) refl e
+    where
+      go : (b : Bool) → ltb (first t n) n ≡ b → None ≡ pick b (Some (first t n)) None → first t n ≡ n
+      go true q f = absurd cc
+      go false q f = omega (arith, first_le t n, ltb-false _ _ q)
+
+  -- in the turns of a loop that seeks upward: the first that passes is found, and after the last turn none is
+  module _ (k : ℕ) where
+    pub found_hit : k < n → t k ≡ true → ((i : ℕ) → i < k → t i ≡ false) → Some k ≡ found t n
+    found_hit l e h = let q = first_at t n k l e h in ap Some (sym q) ∙ first_found (omega arith)
+
+  pub found_end : ((i : ℕ) → i < n → t i ≡ false) → None ≡ found t n
+  found_end h = none_found (omega (arith, none_first t n h))
