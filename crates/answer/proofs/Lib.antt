@@ -1,3 +1,4 @@
 pub mod Answer
 pub mod Numbers
 pub mod Rows
+pub mod Told
